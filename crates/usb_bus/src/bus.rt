@@ -1,0 +1,43 @@
+ghost use Rattle.std.specs.Prelude.{◌≡◌, ◌≤◌};
+ghost use Rattle.usb_port.specs.PortState.{status_of};
+ghost use Rattle.usb_bus.specs.World.{World, Attempted, IsAttempt, IsRootPort, SetsRoot, ClearsRoot, IsSetFeature, IsClearFeature, port_at, roots_of};
+
+use crate::{Attempt, BusFault, Outcome};
+
+/// A bus with the host's root ports.
+///
+/// Whoever drives a real controller implements this, and has the whole host half.
+pub trait Bus {
+    /// The world that the bus stands for.
+    ghost world: { Self → World };
+
+    /// Applies the events that are due, and then makes one attempt.
+    ///
+    /// After an `Err` every later attempt tells the same fault again.
+    fn attempt(&mut self, attempt: &Attempt) -> Result<Outcome, BusFault>
+        requires { IsAttempt attempt.now }
+        ensures counts { Attempted attempt.now (world self.old) result (world self.new) };
+
+    /// The number of root ports, 1 to 7.
+    fn root_ports(&self) -> u8
+        ensures count { result ≡ roots_of (world self.now) }
+        ensures least { 1 ≤ result }
+        ensures most { result ≤ 7 };
+
+    /// The status of a root port: wPortStatus and wPortChange (11.24.2.7).
+    fn root_status(&self, port: u8) -> [u8; 4]
+        requires { IsRootPort (world self.now) port }
+        ensures { result ≡ status_of (port_at (world self.now) port) };
+
+    /// Sets a feature of a root port (11.24.2.13).
+    fn root_set(&mut self, port: u8, feature: u16)
+        requires port { IsRootPort (world self.old) port }
+        requires named { IsSetFeature feature }
+        ensures { SetsRoot port feature (world self.old) (world self.new) };
+
+    /// Clears a feature of a root port (11.24.2.2).
+    fn root_clear(&mut self, port: u8, feature: u16)
+        requires port { IsRootPort (world self.old) port }
+        requires named { IsClearFeature feature }
+        ensures { ClearsRoot port feature (world self.old) (world self.new) };
+}

@@ -1,0 +1,2 @@
+//! A simulated device: what a plugged function does with each packet.
+#![tactic(auto)]

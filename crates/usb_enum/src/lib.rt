@@ -1,0 +1,2 @@
+//! The enumerator: what stands at a port becomes a finding.
+#![tactic(auto)]

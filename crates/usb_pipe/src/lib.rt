@@ -1,0 +1,2 @@
+//! Pipes: control transfers over transactions.
+#![tactic(auto)]

@@ -1,0 +1,2 @@
+//! The plan of a run, read from a TOML text.
+#![tactic(auto)]
