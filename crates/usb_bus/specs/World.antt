@@ -57,10 +57,14 @@ pub record IsAttempt (a : Attempt) : Type 0 where
   pub pre_low : a.pre ≡ true → a.low ≡ true
   pub payload_sent : is_some a.payload ≡ sends a.kind
 
+-- 1 where C_PORT_CONNECTION is set
+unfoldable pub change_of : PortState → ℕ
+change_of p = if p.connection_changed then 1 else 0
+
 -- how many root ports have C_PORT_CONNECTION set
 unfoldable pub changes : List PortState → ℕ
 changes [] = 0
-changes (p ∷ ps) = (if p.connection_changed then 1 else 0) + changes ps
+changes (p ∷ ps) = change_of p + changes ps
 
 -- at most n attempts were made, within the limit; each event that was taken set at most one change bit
 pub record Spends (n : ℕ) (old new : World) : Type 0 where
