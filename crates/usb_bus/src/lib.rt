@@ -3,7 +3,10 @@
 
 mod bus;
 mod event;
+mod exchange;
 mod plan;
+mod root;
+mod trace;
 mod types;
 mod watched;
 
