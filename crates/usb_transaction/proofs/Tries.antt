@@ -1,6 +1,6 @@
 -- What several attempts leave.
-use Rattle.std.proofs.Common.{◌≡◌, ◌∙◌, refl, sym, subst, ap, arith, true, false}
-use Rattle.std.specs.Prelude.{ℕ, ◌+◌, ◌*◌, ◌<◌, ◌≤◌, List, length, Option, None, Result, Ok, Err}
+use Rattle.std.proofs.Common.{◌≡◌, refl, subst, arith, true}
+use Rattle.std.specs.Prelude.{ℕ, ◌+◌, ◌*◌, ◌<◌, ◌≤◌, length, None, Result, Ok}
 use Rattle.arrayvec.specs.ArrayVec.{ArrayVec}
 use Rattle.usb_packet.specs.declared.Toggle.{Toggle}
 use Rattle.usb_packet.specs.declared.Toggle.TheVariants.{Zero, One}
@@ -8,9 +8,9 @@ use Rattle.usb_bus.specs.declared.types.Attempt.{Attempt}
 use Rattle.usb_bus.specs.declared.types.BusFault.{BusFault}
 use Rattle.usb_bus.specs.declared.types.Outcome.{Outcome}
 use Rattle.usb_bus.specs.declared.types.Outcome.TheVariants.{Payload, Ack, Nak, Stall, Nothing}
-use Rattle.usb_bus.specs.World.{World, Spends, Attempted, Failed, FitsMaximum}
+use Rattle.usb_bus.specs.World.{World, Spends, Attempted, FitsMaximum}
 use Rattle.usb_bus.proofs.Counts.{spends_none, spends_then, spends_wider}
-use Rattle.usb_transaction.specs.declared.heard.Heard.TheVariants.{Moved, Wait, Refused, Lost}
+use Rattle.usb_transaction.specs.declared.heard.Heard.TheVariants.{Moved}
 use Rattle.usb_transaction.specs.Heard.{heard_as, sent_as, acks}
 use Rattle.usb_transaction.specs.Trans.{EndsWith, Worked}
 

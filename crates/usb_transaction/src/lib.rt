@@ -22,6 +22,3 @@ pub use target::Target;
 pub use usb_bus::{Bus, BusFault};
 pub use usb_packet::Toggle;
 pub use write::data_out;
-
-#[cfg(test)]
-mod tests;

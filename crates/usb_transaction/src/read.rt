@@ -20,7 +20,12 @@ use usb_packet::Toggle;
 ///
 /// `Stalled` at STALL, `Busy` at the 256th NAK or repeat, `NoAnswer` after three errors running,
 /// `Bus` where the bus makes no more steps.
-pub fn data_in<B: Bus>(bus: &mut B, target: Target, ep: u8, toggle: &mut Toggle) -> Result<Done, TransFault>
+pub fn data_in<B: Bus>(
+    bus: &mut B,
+    target: Target,
+    ep: u8,
+    toggle: &mut Toggle,
+) -> Result<Done, TransFault>
     requires target { IsTarget target }
     requires endpoint { ep < 16 }
     ensures count { Spends 768 (B.world bus.old) (B.world bus.new) }
