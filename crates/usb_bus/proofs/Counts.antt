@@ -12,6 +12,8 @@ spends_none w = record {
   later = omega arith;
   most = omega arith;
   within = λ h. h;
+  events = refl;
+  onward = omega arith;
   served = omega arith;
 }
 
@@ -22,6 +24,8 @@ spends_then m n a b c p q = record {
   later = omega (arith, p.later, q.later);
   most = omega (arith, p.most, q.most);
   within = λ h. q.within (p.within h);
+  events = q.events ∙ p.events;
+  onward = omega (arith, p.onward, q.onward);
   served = omega (arith, p.served, q.served);
 }
 
@@ -32,6 +36,8 @@ spends_wider m n a b p le = record {
   later = p.later;
   most = omega (arith, p.most, le);
   within = p.within;
+  events = p.events;
+  onward = p.onward;
   served = p.served;
 }
 
@@ -51,6 +57,8 @@ writes_spend port p w is le = record {
   later = omega arith;
   most = omega arith;
   within = λ h. h;
+  events = refl;
+  onward = omega arith;
   served = omega (arith, le, changes-set w.ports (port - 1) p (omega (arith, is.0, is.1)));
 }
 

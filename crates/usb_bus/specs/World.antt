@@ -11,6 +11,7 @@ use Rattle.usb_bus.specs.declared.types.BusFault.TheVariants.{LimitReached}
 
 pub record World : Type 0 where
   pub ports : List PortState  -- the root ports, port 1 first
+  pub taken : ℕ  -- events applied
   pub left : ℕ  -- events to come
   pub attempts : ℕ
   pub limit : ℕ
@@ -73,6 +74,8 @@ pub record Spends (n : ℕ) (old new : World) : Type 0 where
   pub later : old.attempts ≤ new.attempts
   pub most : new.attempts ≤ old.attempts + n
   pub within : old.attempts ≤ old.limit → new.attempts ≤ new.limit
+  pub events : new.taken + new.left ≡ old.taken + old.left
+  pub onward : old.taken ≤ new.taken
   pub served : changes new.ports + new.left ≤ changes old.ports + old.left
 
 -- one attempt: made, or refused with a fault that stays
