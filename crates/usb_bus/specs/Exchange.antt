@@ -1,17 +1,15 @@
 -- The packets of an attempt, and what the host makes of the answers.
-use Rattle.std.specs.Prelude.{ℕ, List, length, nat_le, if◌then◌else◌, Option, Some, None}
-use Rattle.arrayvec.specs.declared.array_vec.ArrayVec.{ArrayVec}
+use Rattle.std.specs.Prelude.{ℕ, length, nat_le, if◌then◌else◌, Option, Some, None}
 use Rattle.usb_packet.specs.declared.Packet.{Packet}
-use Rattle.usb_packet.specs.declared.Packet.TheVariants.{Token, Ack, Sof, Nak, Stall, Pre} 
+use Rattle.usb_packet.specs.declared.Packet.TheVariants.{Token, Ack, Sof, Nak, Stall, Pre}
 use Rattle.usb_packet.specs.declared.Packet.TheVariants as packet
-use Rattle.usb_packet.specs.declared.Toggle.{Toggle}
 use Rattle.usb_bus.specs.declared.types.Attempt.{Attempt}
 use Rattle.usb_bus.specs.declared.types.Outcome.{Outcome}
 use Rattle.usb_bus.specs.declared.types.Outcome.TheVariants as outcome
 use Rattle.usb_bus.specs.declared.exchange.Answers.{Answers}
 use Rattle.usb_bus.specs.declared.exchange.Answers.TheVariants as answers
 use Rattle.usb_bus.specs.declared.exchange.Heard.{Heard}
-use Rattle.usb_bus.specs.declared.exchange.Heard.TheVariants.{Nothing, One, Collision}
+use Rattle.usb_bus.specs.declared.exchange.Heard.TheVariants.{One}
 
 -- two answers collide
 unfoldable pub joined : Answers → Answers → Answers

@@ -62,7 +62,10 @@ pub(crate) struct Exchange {
 
 /// Makes an attempt: the token, then the data, one of them; then what the host says to the answer.
 #[tactic(auto, unfolding(crate::specs::Exchange::token_of, crate::specs::Exchange::sent_of, crate::specs::Exchange::reply_of))]
-pub(crate) fn make_exchange(roots: &mut [RootPort], attempt: &Attempt) -> Result<Exchange, AllocError>
+pub(crate) fn make_exchange(
+    roots: &mut [RootPort],
+    attempt: &Attempt,
+) -> Result<Exchange, AllocError>
     requires { IsAttempt attempt.now }
     ensures { ports_of roots.new ≡ ports_of roots.old }
 {

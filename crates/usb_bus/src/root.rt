@@ -1,7 +1,7 @@
 //! A root port, and the device on it.
 ghost use Rattle.std.specs.Prelude.{◌≡◌, ◌-◌, ◌<◌, length, slice_set, slice_index_or, unwrap_or, Some, None};
 ghost use Rattle.usb_port.specs.PortState.{PortState, off, plugged, set_row, clear_row, status_of};
-ghost use Rattle.usb_bus.specs.Roots.{is_powered_and_attached, reaches};
+ghost use Rattle.usb_bus.specs.Roots.{reaches};
 
 use crate::exchange::Answers;
 use std::alloc::AllocError;
@@ -35,8 +35,8 @@ impl RootPort {
     pub(crate) fn set_feature(&mut self, feature: u16)
         ensures { self.new.port ≡ unwrap_or (set_row feature self.old.port) self.old.port }
     {
-        let _unknown = self.port.set_feature(feature).is_err();
-        if feature == 4 {
+        let _ = self.port.set_feature(feature);
+        if feature == 4 && self.port.is_powered() {
             self.reset_device();
         }
     }
@@ -44,17 +44,15 @@ impl RootPort {
     fn reset_device(&mut self)
         ensures { self.new.port ≡ self.old.port }
     {
-        if is_powered_and_attached(&self.port) {
-            if let Some(device) = &mut self.device {
-                device.reset();
-            }
+        if let Some(device) = &mut self.device {
+            device.reset();
         }
     }
 
     pub(crate) fn clear_feature(&mut self, feature: u16)
         ensures { self.new.port ≡ unwrap_or (clear_row feature self.old.port) self.old.port }
     {
-        let _unknown = self.port.clear_feature(feature).is_err();
+        let _ = self.port.clear_feature(feature);
     }
 
     /// Hands a packet to the device, where it is reached.
@@ -79,17 +77,9 @@ impl RootPort {
     }
 }
 
-fn is_powered_and_attached(port: &Port) -> bool
-    ensures { result ≡ is_powered_and_attached port.now }
-{
-    let [status, _, _, _] = port.status();
-    status % 2 == 1
-}
-
 /// Whether packets of the speed reach the device: its port is powered, connected and enabled.
 fn is_reached(port: &Port, low: bool) -> bool
     ensures { result ≡ reaches port.now low }
 {
-    let [status, speed, _, _] = port.status();
-    status % 4 == 3 && (speed / 2 % 2 == 1) == low
+    port.is_powered() && port.is_attached() && port.is_enabled() && port.is_low_speed() == low
 }

@@ -1,12 +1,10 @@
 //! The lines of the trace.
-ghost use Rattle.std.specs.Prelude.{◌≡◌, ◌+◌, ◌*◌, ◌<◌, ◌≤◌, ◌++◌, length, decimal, encode_utf8, All};
-ghost use Rattle.usb_port.specs.Path.{IsPortNumber, path_text};
+ghost use Rattle.std.specs.Prelude.{◌≡◌, ◌+◌, ◌<◌, ◌≤◌, ◌++◌, length, decimal, encode_utf8};
 ghost use Rattle.usb_bus.specs.Trace.{attempt_line, pre_text, host_text, next_text, heard_text};
 
 use crate::exchange::{Exchange, Heard};
 use arrayvec::ArrayString;
 use usb_packet::{Packet, packet_text};
-use usb_port::PortPath;
 
 /// Room for the longest line of an attempt.
 type Line = ArrayString<600>;
@@ -95,29 +93,4 @@ fn digit(n: u64) -> char
     ensures one { length (encode_utf8 result) ≡ 1 }
 {
     char::from(b'0' + n as u8)
-}
-
-/// The numbers of a path, joined by dots.
-pub(crate) fn path_text(path: &PortPath) -> ArrayString<14>
-    ensures { result.bytes ≡ path_text path.now }
-{
-    let mut line = ArrayString::new();
-    push_path(&mut line, path.numbers());
-    line
-}
-
-fn push_path(line: &mut ArrayString<14>, numbers: &[u8])
-    requires room { length line.old.bytes + 2 * length numbers.now ≤ 14 }
-    requires digits { All IsPortNumber numbers.now }
-    ensures { line.new.bytes ≡ line.old.bytes ++ path_text numbers.now }
-{
-    match numbers {
-        [] => {}
-        [number] => line.push(digit(u64::from(*number))),
-        [number, rest @ ..] => {
-            line.push(digit(u64::from(*number)));
-            line.push('.');
-            push_path(line, rest);
-        }
-    }
 }
