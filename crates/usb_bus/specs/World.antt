@@ -11,6 +11,7 @@ use Rattle.usb_bus.specs.declared.types.BusFault.TheVariants.{LimitReached}
 
 pub record World : Type 0 where
   pub ports : List PortState  -- the root ports, port 1 first
+  pub taken : ℕ  -- events applied
   pub left : ℕ  -- events to come
   pub attempts : ℕ
   pub limit : ℕ
@@ -57,10 +58,14 @@ pub record IsAttempt (a : Attempt) : Type 0 where
   pub pre_low : a.pre ≡ true → a.low ≡ true
   pub payload_sent : is_some a.payload ≡ sends a.kind
 
+-- 1 where C_PORT_CONNECTION is set
+unfoldable pub change_of : PortState → ℕ
+change_of p = if p.connection_changed then 1 else 0
+
 -- how many root ports have C_PORT_CONNECTION set
 unfoldable pub changes : List PortState → ℕ
 changes [] = 0
-changes (p ∷ ps) = (if p.connection_changed then 1 else 0) + changes ps
+changes (p ∷ ps) = change_of p + changes ps
 
 -- at most n attempts were made, within the limit; each event that was taken set at most one change bit
 pub record Spends (n : ℕ) (old new : World) : Type 0 where
@@ -69,6 +74,8 @@ pub record Spends (n : ℕ) (old new : World) : Type 0 where
   pub later : old.attempts ≤ new.attempts
   pub most : new.attempts ≤ old.attempts + n
   pub within : old.attempts ≤ old.limit → new.attempts ≤ new.limit
+  pub events : new.taken + new.left ≡ old.taken + old.left
+  pub onward : old.taken ≤ new.taken
   pub served : changes new.ports + new.left ≤ changes old.ports + old.left
 
 -- one attempt: made, or refused with a fault that stays

@@ -1,2 +1,15 @@
-//! The setup data of a control transfer, and a maker for each request that the host sends.
+//! The setup data of a control transfer (9.3), a maker for each request that the host sends, and
+//! the standard's codes for requests, descriptors and features.
 #![tactic(auto)]
+
+pub mod descriptor_type;
+pub mod feature;
+mod makers;
+pub mod request_code;
+pub mod request_type;
+mod setup;
+
+pub use setup::{Setup, setup_laws};
+
+#[cfg(test)]
+mod tests;
