@@ -1,10 +1,15 @@
 //! A simulated device: what a plan says of it, and what it does with each packet.
 #![tactic(auto)]
 
+mod answer;
+mod device;
 mod devices;
 mod lists;
+mod request;
 mod spec;
+mod transfer;
 
+pub use device::Device;
 pub use devices::Devices;
 pub use lists::{Bytes, ConfigTexts, Name, StringTexts, Texts};
 pub use spec::{DeviceSpec, Stalls};
