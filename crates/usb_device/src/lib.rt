@@ -4,6 +4,7 @@
 mod answer;
 mod device;
 mod devices;
+mod laws;
 mod lists;
 mod request;
 mod spec;
@@ -11,6 +12,7 @@ mod transfer;
 
 pub use device::Device;
 pub use devices::Devices;
+pub use laws::{attempt_laws, frame_laws, stranger_laws};
 pub use lists::{Bytes, ConfigTexts, Name, StringTexts, Texts};
 pub use spec::{DeviceSpec, Stalls};
 
