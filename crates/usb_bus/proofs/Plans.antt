@@ -20,7 +20,7 @@ events_come roots devices earlier (e ∷ events) h =
     let parts = and_parts (event_fits roots devices earlier e) (events_fit roots devices (earlier ++ e ∷ []) events) h in
     let fits = and_parts (nat_le e.after 1000000000) (action_fits roots devices earlier e.action) parts.0 in
     and_from (can_come roots devices e) (list_all (can_come roots devices) events)
-      (action_done roots devices earlier e.action fits.1) (events_come roots devices (earlier ++ e ∷ []) events parts.1)
+    (action_done roots devices earlier e.action fits.1) (events_come roots devices (earlier ++ e ∷ []) events parts.1)
 
 -- the same of the copies that a bus keeps
 pub copies_come : (p : PlanData) (roots devices : ℕ) (events : List Event) → IsPlan p → roots ≡ p.roots → devices ≡ length p.devices → events ≡ p.events

@@ -12,7 +12,7 @@ world_of s = record {
   left = length s.events - s.taken;
   attempts = s.attempts;
   limit = s.limit;
-  fault = s.fault
+  fault = s.fault;
 }
 
 abbrev pub writer_of : {W : Type 0} → SimBus W → Watched W

@@ -5,7 +5,6 @@ ghost use Rattle.usb_bus.specs.Steps.{PutLine};
 ghost use Rattle.usb_bus.specs.Trace.{attempt_line};
 ghost use Rattle.usb_bus.specs.Watch.{inner_of, has_failed, AppendsFront};
 
-
 use super::SimBus;
 use crate::exchange::Exchange;
 use crate::trace::attempt_line;
