@@ -15,6 +15,11 @@ pub enum Place {
 }
 
 impl fmt::Display for Place {
+    ghost use Rattle.std.specs.Prelude.{Some};
+    ghost use Rattle.usb_plan.specs.Place.{place_text};
+
+    ghost output = { λ place. Some (place_text place) };
+
     fn fmt<W: fmt::Write>(&self, f: &mut fmt::Formatter<W>) -> fmt::Result {
         match self {
             Place::Top => write!(f, "top"),

@@ -16,8 +16,7 @@ mod value;
 pub use attempts::bound;
 pub use fault::{Place, PlanFault};
 pub use plan::read_plan;
-pub use usb_bus::{Action, Event, Events, Plan};
-pub use usb_device::{Bytes, ConfigTexts, DeviceSpec, Devices, Name};
+pub use usb_bus::Plan;
 
 #[cfg(test)]
 mod tests;
