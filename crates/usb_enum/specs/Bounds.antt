@@ -20,6 +20,9 @@ configuration_bound = read_bound 9 + read_bound 65535
 abbrev pub strings_bound : ℕ
 strings_bound = 4 * read_bound 255
 
--- three passes, 255 configurations, the choice of one, and the strings
+-- 255 configurations, the choice of one, and the strings
+abbrev pub configured_bound : ℕ
+configured_bound = 255 * configuration_bound + none_bound + strings_bound
+
 abbrev pub enumeration_bound : ℕ
-enumeration_bound = 3 * pass_bound + 255 * configuration_bound + none_bound + strings_bound
+enumeration_bound = 3 * pass_bound + configured_bound

@@ -1,5 +1,5 @@
 -- What a failed transfer means.
-use Rattle.std.specs.Prelude.{Result, Ok, Err, ⊤}
+use Rattle.std.specs.Prelude.{Option, Some, None, unwrap_or, Result, Ok, Err, ⊤}
 use Rattle.usb_bus.specs.World.{World, Failed}
 use Rattle.usb_pipe.specs.declared.fault.PipeFault.{PipeFault}
 use Rattle.usb_pipe.specs.declared.fault.PipeFault.TheVariants as pipe
@@ -10,18 +10,18 @@ use Rattle.usb_enum.specs.declared.fault.EnumFault.TheVariants as fault
 use Rattle.usb_enum.specs.declared.stop.Stop.{Stop}
 use Rattle.usb_enum.specs.declared.stop.Stop.TheVariants.{Refused, Fault}
 
--- silence and 256 waits refuse the device, a STALL with its own cause
-abbrev pub stop_of : Cause → PipeFault → Stop
-stop_of stalled pipe.Stalled = Refused stalled
-stop_of stalled pipe.Busy = Refused cause.Busy
-stop_of stalled pipe.NoAnswer = Refused cause.Silent
-stop_of stalled pipe.Broken = Refused cause.Silent
-stop_of stalled (pipe.Bus f) = Fault (fault.Bus f)
-stop_of stalled pipe.Memory = Fault fault.Memory
+-- silence and 256 waits refuse the device; a STALL means what the request says
+abbrev pub stop_of : PipeFault → Option Stop
+stop_of pipe.Stalled = None
+stop_of pipe.Busy = Some (Refused cause.Busy)
+stop_of pipe.NoAnswer = Some (Refused cause.Silent)
+stop_of pipe.Broken = Some (Refused cause.Silent)
+stop_of (pipe.Bus f) = Some (Fault (fault.Bus f))
+stop_of pipe.Memory = Some (Fault fault.Memory)
 
 abbrev pub answered_or : {X : Type 0} → Cause → Result X PipeFault → Result X Stop
 answered_or stalled (Ok answer) = Ok answer
-answered_or stalled (Err f) = Err (stop_of stalled f)
+answered_or stalled (Err f) = Err (unwrap_or (stop_of f) (Refused stalled))
 
 -- a hub whose port request fails is lost
 abbrev pub stop_at_port : PipeFault → Stop

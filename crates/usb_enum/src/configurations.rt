@@ -4,10 +4,10 @@ ghost use Rattle.usb_bus.specs.World.{Spends};
 ghost use Rattle.usb_transaction.specs.Trans.{IsTarget};
 ghost use Rattle.usb_enum.specs.Bounds.{read_bound, configuration_bound};
 ghost use Rattle.usb_enum.specs.Stop.{Told};
-ghost use Rattle.usb_enum.specs.Text.{choice_of, needs_of};
+ghost use Rattle.usb_enum.specs.Text.{ValuesDiffer, choice_of, needs_of};
 
 use crate::stop::{Stop, answered_or};
-use crate::{Cause, ConfigText, ConfigTexts, EnumFault, Request};
+use crate::{Cause, ConfigText, ConfigTexts, Request};
 use std::alloc::{AllocError, Global};
 use usb_bus::Bus;
 use usb_descriptor::config_head;
@@ -23,6 +23,7 @@ fn total_length<B: Bus>(alloc: Global, bus: &mut B, target: Target, index: u8) -
     ensures spends { Spends (read_bound 9) (B.world bus.old) (B.world bus.new) }
     ensures told { IfErr result (λ stop. Told stop (B.world bus.new)) }
     ensures least { IfOk result (λ total. 9 ≤ total) }
+    ensures most { IfOk result (λ total. total ≤ 65535) }
 {
     let stalled = Cause::Stalled(Request::Config);
     let head = answered_or(stalled, get_config(alloc, bus, target, index, 9))?;
@@ -33,8 +34,12 @@ fn total_length<B: Bus>(alloc: Global, bus: &mut B, target: Target, index: u8) -
 }
 
 /// The configuration text of an index.
-#[tactic(auto, using(crate::proofs::Counts::text_spends))]
-fn read_text<B: Bus>(alloc: Global, bus: &mut B, target: Target, index: u8) -> Result<ConfigText, Stop>
+fn read_text<B: Bus>(
+    alloc: Global,
+    bus: &mut B,
+    target: Target,
+    index: u8,
+) -> Result<ConfigText, Stop>
     requires target { IsTarget target }
     requires max { 8 ≤ target.max }
     ensures spends { Spends configuration_bound (B.world bus.old) (B.world bus.new) }
@@ -49,20 +54,8 @@ fn read_text<B: Bus>(alloc: Global, bus: &mut B, target: Target, index: u8) -> R
     }
 }
 
-/// Adds the configuration of an index, whose value no earlier one has.
-fn add_text(texts: &mut ConfigTexts, text: ConfigText, index: u8) -> Result<(), Stop>
-    ensures { Adds texts.old text index result texts.new }
-{
-    if texts.has_value(text.value()) {
-        return Err(Stop::Refused(Cause::BadConfiguration(index)));
-    }
-    match texts.push(text) {
-        Ok(()) => Ok(()),
-        Err(AllocError) => Err(Stop::Fault(EnumFault::Memory)),
-    }
-}
-
-/// The configurations of a device that has so many.
+/// The configurations of a device that has so many. No two of them have the same value.
+#[tactic(auto, using(crate::proofs::Counts::spends_on, crate::proofs::Values::one_more))]
 pub(crate) fn read_configurations<B: Bus>(
     alloc: Global,
     bus: &mut B,
@@ -74,25 +67,28 @@ pub(crate) fn read_configurations<B: Bus>(
     ensures spends { Spends (255 * configuration_bound) (B.world bus.old) (B.world bus.new) }
     ensures told { IfErr result (λ stop. Told stop (B.world bus.new)) }
     ensures all { IfOk result (λ texts. length texts ≡ count) }
-    ensures differ { IfOk result ValuesDiffer }
+    ensures differ { IfOk result (λ texts. ValuesDiffer texts) }
 {
     let mut texts = ConfigTexts::new(alloc);
     for index in 0..count {
         let text = read_text(alloc, bus, target, index)?;
-        add_text(&mut texts, text, index)?;
+        if texts.has_value(text.value()) {
+            return Err(Stop::Refused(Cause::BadConfiguration(index)));
+        }
+        texts.push(text)?;
     }
     Ok(texts)
 }
 
 /// The index of the first configuration that needs no more than the supply, in mA.
-pub(crate) fn choose_configuration(alloc: Global, texts: &ConfigTexts, supply: u16) -> Result<usize, Stop>
-    ensures { IsChoice texts.now supply result }
+pub(crate) fn choose_configuration(
+    alloc: Global,
+    texts: &ConfigTexts,
+    supply: u16,
+) -> Result<Option<usize>, AllocError>
+    ensures chosen { IfOk result (λ chosen. chosen ≡ choice_of supply texts.now) }
+    ensures inside { IfOk result (λ chosen. IfSome chosen (λ i. i < length texts.now)) }
 {
-    match texts.needs(alloc) {
-        Ok(needs) => match choose(needs.as_slice(), supply) {
-            Some(chosen) => Ok(chosen),
-            None => Err(Stop::Refused(Cause::NoPower)),
-        },
-        Err(AllocError) => Err(Stop::Fault(EnumFault::Memory)),
-    }
+    let needs = texts.needs(alloc)?;
+    Ok(choose(needs.as_slice(), supply))
 }

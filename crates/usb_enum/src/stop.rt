@@ -1,8 +1,11 @@
 //! What ends an enumeration early.
 ghost use Rattle.std.specs.Prelude.{◌≡◌};
 ghost use Rattle.usb_enum.specs.Stop.{stop_of, answered_or, stop_at_port, at_port};
+ghost use Rattle.usb_enum.specs.declared.stop.Stop.TheVariants.{Fault as StopFault};
+ghost use Rattle.usb_enum.specs.declared.fault.EnumFault.TheVariants.{Memory as NoMemory};
 
 use crate::{Cause, EnumFault};
+use std::alloc::AllocError;
 use usb_pipe::PipeFault;
 
 /// What ends an enumeration early.
@@ -14,16 +17,25 @@ pub(crate) enum Stop {
     Fault(EnumFault),
 }
 
-/// What a failed transfer to the device means, where `stalled` is the cause at a STALL.
-pub(crate) fn stop_of(fault: PipeFault, stalled: Cause) -> Stop
-    ensures { result ≡ stop_of stalled fault }
+impl From<AllocError> for Stop {
+    ghost from_gives = { λ _ stop. stop ≡ StopFault NoMemory };
+
+    fn from(_: AllocError) -> Stop {
+        Stop::Fault(EnumFault::Memory)
+    }
+}
+
+/// What a failed transfer to the device means; `None` at a STALL, which means what the request
+/// says.
+pub(crate) fn stop_of(fault: PipeFault) -> Option<Stop>
+    ensures { result ≡ stop_of fault }
 {
     match fault {
-        PipeFault::Stalled => Stop::Refused(stalled),
-        PipeFault::Busy => Stop::Refused(Cause::Busy),
-        PipeFault::NoAnswer | PipeFault::Broken => Stop::Refused(Cause::Silent),
-        PipeFault::Bus(fault) => Stop::Fault(EnumFault::Bus(fault)),
-        PipeFault::Memory => Stop::Fault(EnumFault::Memory),
+        PipeFault::Stalled => None,
+        PipeFault::Busy => Some(Stop::Refused(Cause::Busy)),
+        PipeFault::NoAnswer | PipeFault::Broken => Some(Stop::Refused(Cause::Silent)),
+        PipeFault::Bus(fault) => Some(Stop::Fault(EnumFault::Bus(fault))),
+        PipeFault::Memory => Some(Stop::Fault(EnumFault::Memory)),
     }
 }
 
@@ -33,7 +45,7 @@ pub(crate) fn answered_or<X>(stalled: Cause, outcome: Result<X, PipeFault>) -> R
 {
     match outcome {
         Ok(answer) => Ok(answer),
-        Err(fault) => Err(stop_of(fault, stalled)),
+        Err(fault) => Err(stop_of(fault).unwrap_or(Stop::Refused(stalled))),
     }
 }
 

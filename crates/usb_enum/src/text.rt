@@ -1,5 +1,5 @@
 //! Texts of configurations and strings, as lists.
-ghost use Rattle.std.specs.Prelude.{◌≡◌, ◌<◌, ◌*◌, ◌++◌, [], ◌∷◌, List, ℕ, length, OnOk, OnErr, IfOk, IfSome, IsSome, Ok, slice_index_or, map};
+ghost use Rattle.std.specs.Prelude.{◌≡◌, ◌<◌, ◌*◌, ◌++◌, [], ◌∷◌, List, ℕ, length, OnOk, OnErr, IfOk, vec_len, IfSome, IsSome, Ok, slice_index_or, map};
 ghost use Rattle.usb_descriptor.specs.Config.{HasConfig, config_of, configuration_value, max_power_of};
 ghost use Rattle.usb_enum.specs.Text.{config_text_of, has_value, need_of, needs_of};
 
@@ -113,7 +113,8 @@ impl ConfigTexts {
     /// What each of them needs, in mA.
     #[tactic(auto, unfolding(crate::specs::Text::needs_of))]
     pub fn needs(&self, alloc: Global) -> Result<Vec<u16>, AllocError>
-        ensures { IfOk result (λ needs. needs.items ≡ needs_of self.now) }
+        ensures value { IfOk result (λ needs. needs.items ≡ needs_of self.now) }
+        ensures each { IfOk result (λ needs. vec_len needs ≡ length self.now) }
     {
         self.texts.iter().map(|text| text.need()).collect(alloc)
     }
