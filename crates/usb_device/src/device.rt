@@ -5,12 +5,13 @@ ghost use Rattle.usb_device.specs.Transfer.{max_packet, packet_at};
 
 use crate::answer::{Answer, spelled};
 use crate::lists::Bytes;
-use crate::request::{Reaction, Registers, Source, react};
+use crate::request::{AT_RESET, Reaction, Registers, Source, react};
 use crate::spec::DeviceSpec;
 use crate::transfer::{Memory, Progress, packet_at, toggle_at};
 use arrayvec::ArrayVec;
 use std::alloc::{AllocError, Global};
 use std::marker::Model;
+use std::mem;
 use usb_packet::{Packet, Toggle, TokenKind, decode};
 use usb_request::Setup;
 
@@ -60,10 +61,7 @@ impl Device {
     {
         Ok(Device {
             spec: spec.try_clone(alloc)?,
-            registers: Registers {
-                address: 0,
-                configuration: 0,
-            },
+            registers: AT_RESET,
             memory: Memory::Nothing,
             naks: 0,
             progress: Progress::Idle,
@@ -89,11 +87,8 @@ impl Device {
     pub fn reset(&mut self)
         ensures { self.new ≡ reset_state self.old }
     {
-        self.registers = Registers {
-            address: 0,
-            configuration: 0,
-        };
-        self.memory = Memory::Nothing;
+        self.attempt_over();
+        self.registers = AT_RESET;
         self.naks = 0;
         self.progress = Progress::Idle;
     }
@@ -125,7 +120,7 @@ impl Device {
         ensures { self.new ≡ unread self.old }
     {
         if !self.spec.is_silent() {
-            self.memory = Memory::Nothing;
+            self.attempt_over();
         }
     }
 
@@ -136,8 +131,7 @@ impl Device {
         if self.spec.is_silent() {
             return None;
         }
-        let memory = self.memory;
-        self.memory = Memory::Nothing;
+        let memory = mem::replace(&mut self.memory, Memory::Nothing);
         match packet {
             Packet::Token { kind, addr, ep } => {
                 if *addr == self.registers.address && *ep == 0 {

@@ -16,6 +16,12 @@ pub struct Registers {
     pub configuration: u8,
 }
 
+/// The registers of a device that was just plugged or reset.
+pub const AT_RESET: Registers = Registers {
+    address: 0,
+    configuration: 0,
+};
+
 /// Where the bytes of an answer are.
 #[derive(Clone, Copy, Debug)]
 pub enum Source {
@@ -61,8 +67,8 @@ fn get_descriptor(spec: &DeviceSpec, value: u16) -> Reaction
     }
 }
 
-fn get_status(spec: &DeviceSpec, setup: &Setup) -> Reaction
-    ensures { meaning_of spec.now result ≡ get_status spec.now setup.now }
+fn get_status(setup: &Setup) -> Reaction
+    ensures { (s : Spec) → meaning_of s result ≡ get_status s setup.now }
 {
     if setup.value == 0 && setup.index == 0 {
         Reaction::Answer(Source::Status)
@@ -120,7 +126,7 @@ pub fn react(spec: &DeviceSpec, registers: Registers, setup: &Setup) -> Reaction
             setup.value,
         ),
         (request_type::DEVICE_IN, request_code::GET_STATUS) => {
-            unless(stalls.status, get_status(spec, setup))
+            unless(stalls.status, get_status(setup))
         }
         (request_type::DEVICE_IN, request_code::GET_CONFIGURATION) => {
             Reaction::Answer(Source::Configuration(registers.configuration))

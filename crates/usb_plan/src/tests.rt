@@ -75,189 +75,199 @@ fn nothing_plugged_needs_two_attempts(rt: HostRuntime) -> Result<(), Fail> {
     Ok(())
 }
 
+/// Whole texts, and what each is told to be.
+const TOP_FAULTS: [(&str, &str); 15] = [
+    ("limit =\n", "plan: syntax"),
+    ("limit = 9223372036854775808\nroots = 1\n", "plan: syntax"),
+    ("roots = 1\n", "plan: top: missing key"),
+    ("limit = 1\ndamage = []\n", "plan: top: missing key"),
+    ("limit = -1\nroots = 1\n", "plan: top: bad value"),
+    ("limit = 100000000000000\nroots = 7\n", "plan"),
+    (
+        "limit = 100000000000001\nroots = 7\n",
+        "plan: top: bad value",
+    ),
+    ("limit = 1\nroots = 0\n", "plan: top: bad value"),
+    ("limit = 1\nroots = 8\n", "plan: top: bad value"),
+    ("limit = 1\nroots = \"1\"\n", "plan: top: bad value"),
+    (
+        "limit = 1\nroots = 1\ndamage = []\n",
+        "plan: top: bad value",
+    ),
+    ("limit = 1\nroots = 1\ndevice = 1\n", "plan: top: bad value"),
+    (
+        "limit = 1\nroots = 1\ndevice = [{}, 1]\n",
+        "plan: top: bad value",
+    ),
+    (
+        "limit = 1\nroots = 1\nevent = [\"plug\"]\n",
+        "plan: top: bad value",
+    ),
+    (
+        "limit = 1\nroots = 1\nevent = [{}]\ndevice = [{}]\n",
+        "plan: device 1: missing key",
+    ),
+];
+
 #[test]
 fn faults_at_the_top(rt: HostRuntime) -> Result<(), Fail> {
-    let table = [
-        ("limit =\n", "plan: syntax"),
-        ("limit = 9223372036854775808\nroots = 1\n", "plan: syntax"),
-        ("roots = 1\n", "plan: top: missing key"),
-        ("limit = 1\ndamage = []\n", "plan: top: missing key"),
-        ("limit = -1\nroots = 1\n", "plan: top: bad value"),
-        ("limit = 100000000000000\nroots = 7\n", "plan"),
-        (
-            "limit = 100000000000001\nroots = 7\n",
-            "plan: top: bad value",
-        ),
-        ("limit = 1\nroots = 0\n", "plan: top: bad value"),
-        ("limit = 1\nroots = 8\n", "plan: top: bad value"),
-        ("limit = 1\nroots = \"1\"\n", "plan: top: bad value"),
-        (
-            "limit = 1\nroots = 1\ndamage = []\n",
-            "plan: top: bad value",
-        ),
-        ("limit = 1\nroots = 1\ndevice = 1\n", "plan: top: bad value"),
-        (
-            "limit = 1\nroots = 1\ndevice = [{}, 1]\n",
-            "plan: top: bad value",
-        ),
-        (
-            "limit = 1\nroots = 1\nevent = [\"plug\"]\n",
-            "plan: top: bad value",
-        ),
-        (
-            "limit = 1\nroots = 1\nevent = [{}]\ndevice = [{}]\n",
-            "plan: device 1: missing key",
-        ),
-    ];
-    for (text, words) in table.iter() {
+    for (text, words) in TOP_FAULTS.iter() {
         assert_eq!(rt; told(&rt, text)?.as_str(), *words);
     }
     Ok(())
 }
 
+/// Values of a second device, a line after them, and what the text is told to be.
+const DEVICE_FAULTS: [([&str; 4], &str, &str); 15] = [
+    (["\"other\"", "\"full\"", "\"\"", "[]"], "", "plan"),
+    (
+        ["\"other\"", "\"full\"", "\"0102030409\"", "[]"],
+        "",
+        "plan: device 2: bad value",
+    ),
+    (
+        ["\"other\"", "\"full\"", "\"01020304\"", "[\"AB\", \"cd\"]"],
+        "",
+        "plan",
+    ),
+    (
+        ["\"fn\"", "\"full\"", "\"\"", "[]"],
+        "",
+        "plan: device 2: bad value",
+    ),
+    (
+        ["\"\"", "\"full\"", "\"\"", "[]"],
+        "",
+        "plan: device 2: bad value",
+    ),
+    (
+        ["1", "\"full\"", "\"\"", "[]"],
+        "",
+        "plan: device 2: bad value",
+    ),
+    (
+        ["\"other\"", "\"low\"", "\"\"", "[]"],
+        "",
+        "plan: device 2: bad value",
+    ),
+    (
+        ["\"other\"", "\"full\"", "\"1\"", "[]"],
+        "",
+        "plan: device 2: bad hex",
+    ),
+    (
+        ["\"other\"", "\"full\"", "\"0x\"", "[]"],
+        "",
+        "plan: device 2: bad hex",
+    ),
+    (
+        ["\"other\"", "\"full\"", "\"\"", "[\"\", \"F\"]"],
+        "",
+        "plan: device 2: bad hex",
+    ),
+    (
+        ["\"other\"", "\"full\"", "\"1\"", "[1]"],
+        "",
+        "plan: device 2: bad value",
+    ),
+    (
+        [
+            "\"other\"",
+            "\"full\"",
+            "\"\"",
+            "[\"\", \"\", \"\", \"\", \"\", \"\", \"\", \"\", \"\"]",
+        ],
+        "",
+        "plan: device 2: bad value",
+    ),
+    (
+        ["\"other\"", "\"full\"", "\"1\"", "[]"],
+        "ports = 1",
+        "plan: device 2: bad value",
+    ),
+    (
+        ["\"other\"", "\"full\"", "\"1\"", "[]"],
+        "[[device]]",
+        "plan: device 2: bad hex",
+    ),
+    (
+        ["\"other\"", "\"full\"", "\"\"", "[]"],
+        "[[device]]\nname = 1",
+        "plan: device 3: missing key",
+    ),
+];
+
 #[test]
 fn faults_of_devices(rt: HostRuntime) -> Result<(), Fail> {
-    let nine = "[\"\", \"\", \"\", \"\", \"\", \"\", \"\", \"\", \"\"]";
-    let table = [
-        (["\"other\"", "\"full\"", "\"\"", "[]"], "", "plan"),
-        (
-            ["\"other\"", "\"full\"", "\"0102030409\"", "[]"],
-            "",
-            "plan: device 2: bad value",
-        ),
-        (
-            ["\"other\"", "\"full\"", "\"01020304\"", "[\"AB\", \"cd\"]"],
-            "",
-            "plan",
-        ),
-        (
-            ["\"fn\"", "\"full\"", "\"\"", "[]"],
-            "",
-            "plan: device 2: bad value",
-        ),
-        (
-            ["\"\"", "\"full\"", "\"\"", "[]"],
-            "",
-            "plan: device 2: bad value",
-        ),
-        (
-            ["1", "\"full\"", "\"\"", "[]"],
-            "",
-            "plan: device 2: bad value",
-        ),
-        (
-            ["\"other\"", "\"low\"", "\"\"", "[]"],
-            "",
-            "plan: device 2: bad value",
-        ),
-        (
-            ["\"other\"", "\"full\"", "\"1\"", "[]"],
-            "",
-            "plan: device 2: bad hex",
-        ),
-        (
-            ["\"other\"", "\"full\"", "\"0x\"", "[]"],
-            "",
-            "plan: device 2: bad hex",
-        ),
-        (
-            ["\"other\"", "\"full\"", "\"\"", "[\"\", \"F\"]"],
-            "",
-            "plan: device 2: bad hex",
-        ),
-        (
-            ["\"other\"", "\"full\"", "\"1\"", "[1]"],
-            "",
-            "plan: device 2: bad value",
-        ),
-        (
-            ["\"other\"", "\"full\"", "\"\"", nine],
-            "",
-            "plan: device 2: bad value",
-        ),
-        (
-            ["\"other\"", "\"full\"", "\"1\"", "[]"],
-            "ports = 1",
-            "plan: device 2: bad value",
-        ),
-        (
-            ["\"other\"", "\"full\"", "\"1\"", "[]"],
-            "[[device]]",
-            "plan: device 2: bad hex",
-        ),
-        (
-            ["\"other\"", "\"full\"", "\"\"", "[]"],
-            "[[device]]\nname = 1",
-            "plan: device 3: missing key",
-        ),
-    ];
-    for (values, line, words) in table.iter() {
+    for (values, line, words) in DEVICE_FAULTS.iter() {
         assert_eq!(rt; told_device(&rt, *values, line)?.as_str(), *words);
     }
     Ok(())
 }
 
+/// Lines of an event, and what the text is told to be.
+const EVENT_FAULTS: [(&str, &str); 17] = [
+    ("do = \"plug\"\npath = \"1\"\ndevice = \"fn\"", "plan"),
+    (
+        "do = \"plug\"\npath = \"1\"\ndevice = \"fn\"\nafter = 1000000000",
+        "plan",
+    ),
+    (
+        "do = \"plug\"\npath = \"1\"\ndevice = \"fn\"\nafter = 1000000001",
+        "plan: event 1: bad value",
+    ),
+    (
+        "do = \"plug\"\npath = \"1\"\ndevice = \"fn\"\n[[event]]\ndo = \"plug\"\npath = \"1\"\ndevice = \"fn\"",
+        "plan: event 2: port taken",
+    ),
+    (
+        "do = \"plug\"\npath = \"1\"\ndevice = \"fn\"\n[[event]]\ndo = \"plug\"\npath = \"1\"\ndevice = \"x\"",
+        "plan: event 2: unknown device",
+    ),
+    (
+        "do = \"plug\"\npath = \"8\"\ndevice = \"fn\"",
+        "plan: event 1: bad path",
+    ),
+    (
+        "do = \"plug\"\npath = \"2\"\ndevice = \"fn\"",
+        "plan: event 1: bad path",
+    ),
+    (
+        "do = \"plug\"\npath = \"1.1\"\ndevice = \"fn\"",
+        "plan: event 1: bad path",
+    ),
+    (
+        "do = \"plug\"\npath = \"\"\ndevice = \"fn\"",
+        "plan: event 1: bad path",
+    ),
+    (
+        "do = \"plug\"\npath = 1\ndevice = \"fn\"",
+        "plan: event 1: bad value",
+    ),
+    (
+        "do = \"plug\"\npath = \"1\"\ndevice = \"x\"",
+        "plan: event 1: unknown device",
+    ),
+    (
+        "do = \"plug\"\npath = \"8\"\ndevice = \"x\"",
+        "plan: event 1: unknown device",
+    ),
+    (
+        "do = \"plug\"\npath = \"8\"\nbytes = \"\"",
+        "plan: event 1: missing key",
+    ),
+    (
+        "do = \"plug\"\npath = \"8\"\ndevice = \"fn\"\nbytes = \"\"",
+        "plan: event 1: bad value",
+    ),
+    ("do = \"unplug\"", "plan: event 1: bad value"),
+    ("do = 1\npath = \"8\"", "plan: event 1: bad value"),
+    ("path = \"8\"\ndevice = 1", "plan: event 1: missing key"),
+];
+
 #[test]
 fn faults_of_events(rt: HostRuntime) -> Result<(), Fail> {
-    let table = [
-        ("do = \"plug\"\npath = \"1\"\ndevice = \"fn\"", "plan"),
-        (
-            "do = \"plug\"\npath = \"1\"\ndevice = \"fn\"\nafter = 1000000000",
-            "plan",
-        ),
-        (
-            "do = \"plug\"\npath = \"1\"\ndevice = \"fn\"\nafter = 1000000001",
-            "plan: event 1: bad value",
-        ),
-        (
-            "do = \"plug\"\npath = \"1\"\ndevice = \"fn\"\n[[event]]\ndo = \"plug\"\npath = \"1\"\ndevice = \"fn\"",
-            "plan: event 2: port taken",
-        ),
-        (
-            "do = \"plug\"\npath = \"1\"\ndevice = \"fn\"\n[[event]]\ndo = \"plug\"\npath = \"1\"\ndevice = \"x\"",
-            "plan: event 2: unknown device",
-        ),
-        (
-            "do = \"plug\"\npath = \"8\"\ndevice = \"fn\"",
-            "plan: event 1: bad path",
-        ),
-        (
-            "do = \"plug\"\npath = \"2\"\ndevice = \"fn\"",
-            "plan: event 1: bad path",
-        ),
-        (
-            "do = \"plug\"\npath = \"1.1\"\ndevice = \"fn\"",
-            "plan: event 1: bad path",
-        ),
-        (
-            "do = \"plug\"\npath = \"\"\ndevice = \"fn\"",
-            "plan: event 1: bad path",
-        ),
-        (
-            "do = \"plug\"\npath = 1\ndevice = \"fn\"",
-            "plan: event 1: bad value",
-        ),
-        (
-            "do = \"plug\"\npath = \"1\"\ndevice = \"x\"",
-            "plan: event 1: unknown device",
-        ),
-        (
-            "do = \"plug\"\npath = \"8\"\ndevice = \"x\"",
-            "plan: event 1: unknown device",
-        ),
-        (
-            "do = \"plug\"\npath = \"8\"\nbytes = \"\"",
-            "plan: event 1: missing key",
-        ),
-        (
-            "do = \"plug\"\npath = \"8\"\ndevice = \"fn\"\nbytes = \"\"",
-            "plan: event 1: bad value",
-        ),
-        ("do = \"unplug\"", "plan: event 1: bad value"),
-        ("do = 1\npath = \"8\"", "plan: event 1: bad value"),
-        ("path = \"8\"\ndevice = 1", "plan: event 1: missing key"),
-    ];
-    for (lines, words) in table.iter() {
+    for (lines, words) in EVENT_FAULTS.iter() {
         assert_eq!(rt; told_event(&rt, lines)?.as_str(), *words);
     }
     Ok(())
