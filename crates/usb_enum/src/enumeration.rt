@@ -66,11 +66,7 @@ pub fn enumerate<B: Bus>(
 
 /// A device that no address is free for is refused once it should be given one.
 #[tactic(auto, using(crate::proofs::Counts::spends_on, usb_hub::proofs::Ports::port_stays))]
-fn without_address<B: Bus>(
-    alloc: Global,
-    bus: &mut B,
-    port: HubPort,
-) -> Result<Finding, EnumFault>
+fn without_address<B: Bus>(alloc: Global, bus: &mut B, port: HubPort) -> Result<Finding, EnumFault>
     requires port { IsPort (B.world bus.old) port }
     ensures spends { Spends enumeration_bound (B.world bus.old) (B.world bus.new) }
     ensures told { IfErr result (λ fault. FaultTold fault (B.world bus.new)) }

@@ -101,8 +101,22 @@ pub(crate) fn unaddressed<B: Bus>(alloc: Global, bus: &mut B, port: HubPort) -> 
     let low = reset(alloc, bus, port)?;
     let pre = low && needs_pre(port);
     let addr = 0;
-    let max = first_maximum(alloc, bus, Target { addr, max: 8, low, pre })?;
-    Ok(Target { addr, max, low, pre })
+    let max = first_maximum(
+        alloc,
+        bus,
+        Target {
+            addr,
+            max: 8,
+            low,
+            pre,
+        },
+    )?;
+    Ok(Target {
+        addr,
+        max,
+        low,
+        pre,
+    })
 }
 
 /// One pass, from the port's reset to the device descriptor; `None` where the device gave no
@@ -124,7 +138,10 @@ fn pass<B: Bus>(
     let target = unaddressed(alloc, bus, port)?;
     let stalled = Cause::Stalled(Request::Address);
     answered_or(stalled, set_address(bus, target, address))?;
-    let target = Target { addr: address, ..target };
+    let target = Target {
+        addr: address,
+        ..target
+    };
     match descriptor(alloc, bus, target)? {
         Some(bytes) => Ok(Some(Addressed { target, bytes })),
         None => Ok(None),
