@@ -1,5 +1,5 @@
 -- What several attempts leave.
-use Rattle.std.proofs.Common.{◌≡◌, refl, subst, arith, true}
+use Rattle.std.proofs.Common.{◌≡◌, subst, arith}
 use Rattle.std.specs.Prelude.{ℕ, ◌+◌, ◌*◌, ◌<◌, ◌≤◌, length, None, Result, Ok}
 use Rattle.arrayvec.specs.ArrayVec.{ArrayVec}
 use Rattle.usb_packet.specs.declared.Toggle.{Toggle}
@@ -11,8 +11,8 @@ use Rattle.usb_bus.specs.declared.types.Outcome.TheVariants.{Payload, Ack, Nak, 
 use Rattle.usb_bus.specs.World.{World, Spends, Attempted, FitsMaximum}
 use Rattle.usb_bus.proofs.Counts.{spends_none, spends_then, spends_wider}
 use Rattle.usb_transaction.specs.declared.heard.Heard.TheVariants.{Moved}
-use Rattle.usb_transaction.specs.Heard.{heard_as, sent_as, acks}
-use Rattle.usb_transaction.specs.Trans.{EndsWith, Worked}
+use Rattle.usb_transaction.specs.Heard.{heard_as}
+use Rattle.usb_transaction.specs.Trans.{Worked}
 
 -- between two worlds lie at most three attempts for each wait and one for each error running,
 -- and at least one for each
@@ -59,9 +59,6 @@ worked n errors waits le t next = record {
 pub worked_tried : (errors waits : ℕ) {old now : World} → 0 < waits + errors → Tried errors waits old now → Worked (waits + errors) old now
 worked_tried errors waits lt t = record { sound = t.sound (t.still lt); least = t.least; still = t.still lt }
 
-ends_with : {a : Attempt} {errors waits : ℕ} (o p : Outcome) {old mid new : World} → o ≡ p → Tried errors waits old mid → Attempted a mid (Ok o) new → EndsWith a p old new
-ends_with {a} o p {old} {mid} {new} is t next = record { before = mid; later = omega (arith, t.least); attempted = subst (λ x. Attempted a mid (Ok x) new) is next }
-
 heard_moved : (t : Toggle) (o : Outcome) (bytes : ArrayVec ℕ) → Moved bytes ≡ heard_as t o → o ≡ Payload t bytes
 heard_moved Zero (Payload Zero b) bytes e = cc
 heard_moved Zero (Payload One b) bytes e = cc
@@ -71,30 +68,6 @@ heard_moved t Ack bytes e = cc
 heard_moved t Nak bytes e = cc
 heard_moved t Stall bytes e = cc
 heard_moved t Nothing bytes e = cc
-
-sent_moved : (o : Outcome) (bytes : ArrayVec ℕ) → Moved bytes ≡ sent_as o → o ≡ Ack
-sent_moved (Payload t b) bytes e = cc
-sent_moved Ack bytes e = refl
-sent_moved Nak bytes e = cc
-sent_moved Stall bytes e = cc
-sent_moved Nothing bytes e = cc
-
-is_acked : (o : Outcome) → acks o ≡ true → o ≡ Ack
-is_acked (Payload t b) e = cc
-is_acked Ack e = refl
-is_acked Nak e = cc
-is_acked Stall e = cc
-is_acked Nothing e = cc
-
-pub ends_acked : {a : Attempt} {errors waits : ℕ} (o : Outcome) {old mid new : World} → acks o ≡ true → Tried errors waits old mid → Attempted a mid (Ok o) new → EndsWith a Ack old new
-ends_acked o e t next = ends_with o Ack (is_acked o e) t next
-
-pub ends_sent : {a : Attempt} {errors waits : ℕ} (o : Outcome) (bytes : ArrayVec ℕ) {old mid new : World} → Moved bytes ≡ sent_as o → Tried errors waits old mid → Attempted a mid (Ok o) new → EndsWith a Ack old new
-ends_sent o bytes e t next = ends_with o Ack (sent_moved o bytes e) t next
-
-pub ends_read : {a : Attempt} {errors waits : ℕ} (toggle : Toggle) (o : Outcome) (bytes : ArrayVec ℕ) {old mid new : World} → Moved bytes ≡ heard_as toggle o → Tried errors waits old mid → Attempted a mid (Ok o) new
-    → EndsWith a (Payload toggle bytes) old new
-ends_read toggle o bytes e t next = ends_with o (Payload toggle bytes) (heard_moved toggle o bytes e) t next
 
 pub read_fits : {a : Attempt} (toggle : Toggle) (o : Outcome) (bytes : ArrayVec ℕ) {mid new : World} → Moved bytes ≡ heard_as toggle o → Attempted a mid (Ok o) new → length bytes.items ≤ a.max
 read_fits {a} toggle o bytes e next = subst (λ x. FitsMaximum a.max x) (heard_moved toggle o bytes e) next.fits
