@@ -40,7 +40,7 @@ pub fn read_hub(bytes: &[u8]) -> Result<HubView<'_>, DescriptorFault>
     if bytes[1] != 0x29 {
         return Err(DescriptorFault::WrongType);
     }
-    if bytes[0] < 9 || bytes[2] < 1 || bytes[2] > 7 {
+    if bytes[0] < 9 || !(1..=7).contains(&bytes[2]) {
         return Err(DescriptorFault::Length);
     }
     Ok(HubView { bytes })

@@ -214,6 +214,7 @@ fn strings(rt: HostRuntime) -> Result<(), Fail> {
     let languages = read_string(&[0x04, 0x03, 0x09, 0x04])?;
     assert_eq!(rt; languages.first_language(), Some(0x409));
     let text = read_string(&[0x08, 0x03, 0x41, 0x00, 0x22, 0x00, 0x0a, 0x00, 0xff])?;
+    assert_eq!(rt; [text.length(), text.descriptor_type()], [8, 3]);
     let units: Vec<u16> = text.units().collect(rt.alloc())?;
     assert_eq!(rt; units.as_slice(), [0x41, 0x22, 0x0a].as_slice());
     assert_eq!(rt; read_string(&[0x02, 0x03])?.first_language(), None);
