@@ -1,5 +1,5 @@
 -- Where a control transfer stands, and the packets of an answer (8.5.3).
-use Rattle.std.specs.Prelude.{ℕ, ◌+◌, ◌*◌, ◌/◌, ◌%◌, ◌==◌, nat_lt, if◌then◌else◌, ◌&&◌, ◌||◌, not, List, length, take, drop, slice_index, Option, None, Some}
+use Rattle.std.specs.Prelude.{ℕ, zero, suc, ◌+◌, ◌*◌, ◌/◌, ◌%◌, ◌==◌, nat_lt, if◌then◌else◌, ◌&&◌, ◌||◌, not, List, [], ◌++◌, length, take, drop, slice_index, Option, None, Some, unwrap_or}
 use Rattle.usb_packet.specs.declared.Toggle.{Toggle}
 use Rattle.usb_packet.specs.declared.Toggle.TheVariants.{Zero, One}
 use Rattle.usb_device.specs.Spec.{Spec}
@@ -8,6 +8,7 @@ use Rattle.usb_device.specs.Request.{Outcome, stalled, answers, address_at_end}
 pub data Stage : Type 0 where
   -- no transfer, or one without a data stage that is over
   idle : Stage
+  -- the request is refused
   refused : Stage
   -- a control read: the whole answer, how many bytes the host wants, and how many packets it acknowledged
   reading : List ℕ → ℕ → ℕ → Stage
@@ -28,7 +29,7 @@ max_packet s =
     let m = slice_index s.descriptor 7 in
     if not s.low && (m == 16 || m == 32 || m == 64) then m else 8
 
--- how many packets carry so many bytes, of which fewer than wanted end with a packet that is not full
+-- how many packets carry len bytes (5.5.3): full ones and what is left; where len is less than wanted, the last is not full, so perhaps empty
 abbrev pub packet_count : ℕ → ℕ → ℕ → ℕ
 packet_count max wanted len = len / max + (if len % max == 0 && not (nat_lt len wanted) then 0 else 1)
 
@@ -37,6 +38,11 @@ abbrev pub packet_at : ℕ → ℕ → List ℕ → ℕ → Option (List ℕ)
 packet_at max wanted answer k =
     let bytes = take wanted answer in
     if nat_lt k (packet_count max wanted (length bytes)) then Some (take max (drop (k * max) bytes)) else None
+
+-- the first k packets of an answer, end to end
+abbrev pub joined : ℕ → ℕ → List ℕ → ℕ → List ℕ
+joined max wanted answer zero = []
+joined max wanted answer (suc k) = joined max wanted answer k ++ unwrap_or (packet_at max wanted answer k) []
 
 -- the data stage begins with DATA1 (8.6.1)
 abbrev pub toggle_at : ℕ → Toggle

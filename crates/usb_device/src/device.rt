@@ -15,7 +15,7 @@ use std::mem;
 use usb_packet::{Packet, Toggle, TokenKind, decode};
 use usb_request::Setup;
 
-/// A plugged device: it takes packets, and answers them.
+/// A plugged device: it takes one packet after the other, and answers some of them (8.5). It has endpoint 0.
 #[derive(Debug, Drop)]
 pub struct Device {
     spec: DeviceSpec,
@@ -68,7 +68,7 @@ impl Device {
         })
     }
 
-    /// Its address, 0 to 127; 0 until SET_ADDRESS has ended (9.4.6).
+    /// Its address: 0 until SET_ADDRESS has ended (9.4.6).
     pub fn address(&self) -> u8
         ensures { result ≡ self.now.registers.address }
     {
@@ -100,7 +100,7 @@ impl Device {
         self.memory = Memory::Nothing;
     }
 
-    /// One packet in, its answer out. Bytes that spell no packet are answered by nothing.
+    /// One packet in, its answer out (8.5.3), if there is one. Bytes that spell no packet have no answer.
     /// It wants no memory, and never fails.
     pub fn receive(&mut self, bytes: &[u8]) -> Result<Option<ArrayVec<u8, 67>>, AllocError>
         ensures never_fails { IsOk result }

@@ -12,7 +12,9 @@ use usb_request::{Setup, descriptor_type, request_code, request_type};
 /// What the host can set in a device.
 #[derive(Clone, Copy, Debug)]
 pub struct Registers {
+    /// 0 until SET_ADDRESS has ended.
     pub address: u8,
+    /// The value of a configuration, or 0 where none is set.
     pub configuration: u8,
 }
 
@@ -25,19 +27,28 @@ pub const AT_RESET: Registers = Registers {
 /// Where the bytes of an answer are.
 #[derive(Clone, Copy, Debug)]
 pub enum Source {
+    /// The device descriptor.
     Descriptor,
+    /// The text of a configuration, by its index.
     Config(usize),
+    /// A string, by its index.
     Text(usize),
+    /// The two bytes of GET_STATUS.
     Status,
+    /// The one byte of GET_CONFIGURATION.
     Configuration(u8),
 }
 
 /// What a device does about a request.
 #[derive(Clone, Copy, Debug)]
 pub enum Reaction {
+    /// It answers by STALL.
     Refuse,
+    /// It gives bytes.
     Answer(Source),
+    /// It takes an address when the status stage ends.
     TakeAddress(u8),
+    /// It takes a configuration at once.
     TakeConfiguration(u8),
 }
 
@@ -93,7 +104,7 @@ fn has_value(text: &[u8], value: u16) -> bool
     text.len() > 5 && u16::from(text[5]) == value
 }
 
-fn is_of_some(configs: &[Bytes<65535>], value: u16) -> bool
+fn any_has_value(configs: &[Bytes<65535>], value: u16) -> bool
     ensures { result ≡ list_any (has_value value) configs.now }
 {
     configs.iter().any(|text| has_value(text.as_slice(), value))
@@ -102,7 +113,7 @@ fn is_of_some(configs: &[Bytes<65535>], value: u16) -> bool
 fn is_value(configs: &[Bytes<65535>], value: u16) -> bool
     ensures { result ≡ is_value configs.now value }
 {
-    value < 256 && (value == 0 || is_of_some(configs, value))
+    value < 256 && (value == 0 || any_has_value(configs, value))
 }
 
 fn set_configuration(spec: &DeviceSpec, registers: Registers, setup: &Setup) -> Reaction
