@@ -84,7 +84,9 @@ impl<W: Write> SimBus<W> {
         ensures trace { result ≡ Err TraceFailed → has_failed (writer_of self.new) ≡ true }
     {
         let event = &self.events.as_slice()[self.taken];
-        let Action::Plug(path, index) = &event.action;
+        let Action::Plug(path, index) = &event.action else {
+            unreachable!();
+        };
         let spec = &self.devices.as_slice()[*index];
         plug(self.alloc, &mut self.roots, path, spec)?;
         self.taken += 1;
