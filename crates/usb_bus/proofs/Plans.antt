@@ -1,5 +1,5 @@
 -- What the rules of a plan give a bus that serves it.
-use Rattle.std.proofs.Common.{◌≡◌, ℕ, List, [], ◌∷◌, true, false, ◌&&◌, not, ◌==◌, nat_le, nat_lt, length, slice_index, Option, None, Some, Ok, refl, sym, subst, position, Bool, cond, ◌+◌, ◌≤◌, arith, absurd, Result}
+use Rattle.std.proofs.Common.{◌≡◌, ℕ, List, [], ◌∷◌, true, false, ◌&&◌, not, ◌==◌, nat_le, nat_lt, length, slice_index, Option, None, Some, Ok, refl, sym, subst, position, Bool, cond, ◌+◌, ◌≤◌, arith, Result}
 use Rattle.std.proofs.lemmas.Bool.{and_parts, and_from, ltb-false}
 use Rattle.std.specs.List.{list_all, position_or_len}
 use Rattle.usb_device.specs.Spec.{Spec}
