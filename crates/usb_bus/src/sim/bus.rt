@@ -1,7 +1,7 @@
 //! The simulated bus as the host sees it.
 ghost use Rattle.std.specs.Prelude.{◌≡◌, ◌≢◌, ◌+◌, ◌-◌, ◌<◌, ◌≤◌, length, slice_set, slice_index_or, unwrap_or, true, None, OnOk, IfErr};
 ghost use Rattle.usb_port.specs.PortState.{off, set_row, clear_row, status_of};
-ghost use Rattle.usb_bus.specs.World.{Spends, AnswerFits, IsAttempt};
+ghost use Rattle.usb_bus.specs.World.{Attempted, Spends, AnswerFits, IsAttempt};
 ghost use Rattle.usb_bus.specs.Roots.{ports_of};
 ghost use Rattle.usb_bus.specs.Watch.{has_failed};
 ghost use Rattle.usb_bus.specs.declared.types.BusFault.TheVariants.{LimitReached, TraceFailed};
@@ -14,11 +14,15 @@ use crate::{Attempt, Bus, BusFault, Outcome};
 use std::io::Write;
 
 impl<W: Write> Bus for SimBus<W> {
-    ghost use Rattle.usb_bus.specs.Sim.{world_of};
+    ghost use Rattle.usb_bus.specs.Sim.{world_of, writer_of};
 
     ghost world = { world_of };
 
-    fn attempt(&mut self, attempt: &Attempt) -> Result<Outcome, BusFault> {
+    fn attempt(&mut self, attempt: &Attempt) -> Result<Outcome, BusFault>
+        requires { IsAttempt attempt.now }
+        ensures counts { Attempted attempt.now (world_of self.old) result (world_of self.new) }
+        ensures trace { result ≡ Err TraceFailed → (world_of self.old).fault ≡ None → has_failed (writer_of self.new) ≡ true }
+    {
         if let Some(fault) = self.fault {
             return Err(fault);
         }

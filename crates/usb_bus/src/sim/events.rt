@@ -1,10 +1,10 @@
 //! The events of a plan as they come.
-ghost use Rattle.std.specs.Prelude.{◌≡◌, ◌≢◌, ◌+◌, ◌-◌, ◌<◌, ◌≤◌, List, ℕ, [], ◌∷◌, ◌++◌, length, true, slice_index, OnOk, OnErr, IfErr, IsTrue};
+ghost use Rattle.std.specs.Prelude.{◌≡◌, ◌≢◌, ◌+◌, ◌-◌, ◌<◌, ◌≤◌, List, ℕ, [], ◌∷◌, ◌++◌, length, true, false, slice_index, OnOk, OnErr, IfErr, IsTrue};
 ghost use Rattle.std.specs.Io.KnownBytes.{Appends};
 ghost use Rattle.usb_bus.specs.World.{Spends, changes};
 ghost use Rattle.usb_bus.specs.Steps.{TookEvent};
 ghost use Rattle.usb_bus.specs.PlanData.{is_root_path};
-ghost use Rattle.usb_bus.specs.Roots.{ports_of, root_of, with_plug};
+ghost use Rattle.usb_bus.specs.Roots.{ports_of, root_of, plugged_at};
 ghost use Rattle.usb_bus.specs.Trace.{plug_line};
 ghost use Rattle.usb_bus.specs.Watch.{inner_of, has_failed, AppendsFront};
 ghost use Rattle.usb_bus.specs.declared.types.BusFault.TheVariants.{LimitReached, TraceFailed};
@@ -27,7 +27,7 @@ pub enum Due {
 }
 
 impl<W: Write> SimBus<W> {
-    ghost use Rattle.usb_bus.specs.Sim.{world_of, writer_of};
+    ghost use Rattle.usb_bus.specs.Sim.{world_of, writer_of, is_due};
 
     /// Lets the next event come at once, however many attempts it would wait for, and tells what it asks; None
     /// where no event is left.
@@ -56,6 +56,7 @@ impl<W: Write> SimBus<W> {
     pub(super) fn take_due_events(&mut self) -> Result<(), BusFault>
         ensures spends { Spends 0 (world_of self.old) (world_of self.new) }
         ensures fault { (world_of self.new).fault ≡ (world_of self.old).fault }
+        ensures settled { OnOk result (is_due self.new ≡ false) }
         ensures other { IfErr result (λ f. f ≢ LimitReached) }
         ensures trace { result ≡ Err TraceFailed → has_failed (writer_of self.new) ≡ true }
     {
@@ -67,7 +68,8 @@ impl<W: Write> SimBus<W> {
 
     /// Whether the next event waits no longer: so many attempts were made since the former event.
     fn is_due(&self) -> bool
-        ensures { IsTrue result → 0 < (world_of self.now).left }
+        ensures value { result ≡ is_due self.now }
+        ensures left { IsTrue result → 0 < (world_of self.now).left }
     {
         match self.events.as_slice().get(self.taken) {
             None => false,
@@ -95,6 +97,7 @@ impl<W: Write> SimBus<W> {
 }
 
 /// Makes the device, and plugs it at its root port.
+#[tactic(auto, unfolding(crate::specs::Roots::plugged_at, crate::specs::Roots::with_device))]
 fn plug(
     alloc: Global,
     roots: &mut [RootPort],
@@ -102,7 +105,7 @@ fn plug(
     spec: &DeviceSpec,
 ) -> Result<(), AllocError>
     requires { is_root_path (length roots.old) path.now ≡ true }
-    ensures ok { OnOk result (ports_of roots.new ≡ with_plug path.now spec.now.low (ports_of roots.old)) }
+    ensures ok { OnOk result (roots.new ≡ plugged_at path.now spec.now roots.old) }
     ensures err { OnErr result (ports_of roots.new ≡ ports_of roots.old) }
     ensures number { length (ports_of roots.new) ≡ length (ports_of roots.old) }
     ensures grown { changes (ports_of roots.new) ≤ changes (ports_of roots.old) + 1 }
