@@ -1,4 +1,1 @@
-pub mod Openings
-pub mod Powers
-pub mod Quiets
-pub mod Removals
+
