@@ -1,4 +1,5 @@
 //! Devices as they are described.
+ghost use Rattle.std.specs.Prelude.{◌≡◌, None, IfOk};
 
 use crate::{
     Bytes, ConfigTexts, DeviceSpec, Devices, HubSpec, Name, Stalls, StringTexts, has_hub_class,
@@ -7,7 +8,9 @@ use std::alloc::{AllocError, Global};
 use std::test::Fail;
 
 /// A full-speed function with one configuration.
-fn function(alloc: Global) -> Result<DeviceSpec, AllocError> {
+fn function(alloc: Global) -> Result<DeviceSpec, AllocError>
+    ensures { IfOk result (λ s. s.hub ≡ None) }
+{
     let descriptor = [18, 1, 0, 2, 0, 0, 0, 64, 52, 18, 120, 86, 0, 1, 0, 0, 0, 1].to_vec(alloc)?;
     let config = [9, 2, 18, 0, 1, 1, 0, 128, 50, 9, 4, 0, 0, 0, 255, 0, 0, 0].to_vec(alloc)?;
     let mut configs = ConfigTexts::new(alloc);
@@ -79,8 +82,9 @@ fn a_hub_is_described(rt: HostRuntime) -> Result<(), Fail> {
     assert!(rt; HubSpec::agrees(2, hub.descriptor()));
     assert!(rt; !HubSpec::agrees(3, hub.descriptor()));
     assert!(rt; HubSpec::agrees(3, &[9, 0x29, 2]));
-    let other = HubSpec::new(7, Bytes::new([0].to_vec(alloc)?));
-    assert_eq!(rt; other.ports(), 7);
+    let odd = Bytes::new([0].to_vec(alloc)?);
+    assert!(rt; HubSpec::agrees(7, odd.as_slice()));
+    assert_eq!(rt; HubSpec::new(7, odd).ports(), 7);
     Ok(())
 }
 
