@@ -1,5 +1,3 @@
-ghost use Rattle.std.specs.Prelude.{◌≤◌};
-
 use super::*;
 use std::alloc::Global;
 use std::process::Abort;
@@ -34,12 +32,12 @@ fn bus_with<const N: usize>(
     alloc: Global,
     device: [u8; 18],
     texts: [[u8; 18]; N],
-) -> Result<SimBus<Vec<u8>>, Fail>
-    requires { N ≤ 8 }
-{
+) -> Result<SimBus<Vec<u8>>, Fail> {
     let mut configs = SpecTexts::new(alloc);
     for text in texts {
-        configs.push(Bytes::new(Vec::from_array(alloc, text)?))?;
+        if configs.as_slice().len() < 8 {
+            configs.push(Bytes::new(Vec::from_array(alloc, text)?))?;
+        }
     }
     let name = Name::new(String::from_str(alloc, "fn")?);
     let spec = DeviceSpec::function(name, Bytes::new(Vec::from_array(alloc, device)?), configs);
@@ -64,9 +62,7 @@ fn refusal<const N: usize>(
     device: [u8; 18],
     texts: [[u8; 18]; N],
     supply: u16,
-) -> Result<Option<Cause>, Fail>
-    requires { N ≤ 8 }
-{
+) -> Result<Option<Cause>, Fail> {
     let mut bus = bus_with(alloc, device, texts)?;
     let mut pool = AddressPool::new();
     assert!(rt; bus.root_ports() >= 1);
@@ -100,7 +96,10 @@ fn the_first_configuration_that_fits_is_chosen(rt: HostRuntime) -> Result<(), Fa
     assert_eq!(rt; device.bytes, TWO);
     assert_eq!(rt; device.chosen, 1);
     assert_eq!(rt; device.configs.as_slice().len(), 2);
-    assert_eq!(rt; device.configs.as_slice()[1].as_slice(), texts[1].as_slice());
+    assert_eq!(rt;
+        device.configs.as_slice()[1].as_slice(),
+        texts[1].as_slice()
+    );
     assert!(rt; device.strings.product.is_none());
     assert_eq!(rt; bus.attempts(), 24);
     assert_eq!(rt; pool.take().map(|address| address.number()), Some(2));
@@ -119,7 +118,10 @@ fn a_refused_device_takes_no_address(rt: HostRuntime) -> Result<(), Fail> {
     assert_eq!(rt; cut, Some(Cause::Stalled(Request::Config)));
     let mut none = DEVICE;
     none[17] = 0;
-    assert_eq!(rt; refusal(&rt, alloc, none, [good], 500)?, Some(Cause::BadDevice));
+    assert_eq!(rt;
+        refusal(&rt, alloc, none, [good], 500)?,
+        Some(Cause::BadDevice)
+    );
     Ok(())
 }
 
