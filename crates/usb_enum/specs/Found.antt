@@ -1,5 +1,5 @@
 -- What an enumeration finds, and what it leaves.
-use Rattle.std.specs.Prelude.{◌≡◌, ◌⊎◌, ℕ, false, Some, Result, Ok, Err, length}
+use Rattle.std.specs.Prelude.{◌≡◌, ◌⊎◌, ℕ, true, false, Some, Result, Ok, Err, length}
 use Rattle.usb_bus.specs.World.{World, port_at}
 use Rattle.usb_hub.specs.declared.port.HubPort.{HubPort}
 use Rattle.usb_hub.specs.declared.port.HubPort.TheVariants.{Root}
@@ -13,11 +13,13 @@ use Rattle.usb_enum.specs.declared.fault.EnumFault.{EnumFault}
 use Rattle.usb_enum.specs.declared.finding.Accepted.{Accepted}
 use Rattle.usb_enum.specs.declared.finding.Finding.{Finding}
 use Rattle.usb_enum.specs.declared.finding.Finding.TheVariants.{Device, Refused}
+use Rattle.usb_enum.specs.Device.{is_device}
 use Rattle.usb_enum.specs.Stop.{FitsTier}
 use Rattle.usb_enum.specs.Text.{ValuesDiffer, choice_of}
 
--- every configuration was read, and the first that the supply allows is chosen
+-- the device descriptor is good, every configuration was read, and the first that the supply allows is chosen
 pub record IsWhole (supply : ℕ) (device : Accepted) : Type 0 where
+  pub head : is_device device.low device.bytes ≡ true
   pub all : length device.configs ≡ configuration_count device.bytes
   pub differ : ValuesDiffer device.configs
   pub chosen : choice_of supply device.configs ≡ Some device.chosen
