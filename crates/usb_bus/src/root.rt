@@ -28,7 +28,7 @@ impl RootPort {
     }
 
     pub(crate) fn plug(&mut self, low: bool, device: Device)
-        ensures { self.new.port ≡ plugged low self.old.port }
+        ensures { self.new ≡ record { port = plugged low self.old.port; device = Some device } }
     {
         self.port.plug(low);
         self.device = Some(device);
