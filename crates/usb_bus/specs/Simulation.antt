@@ -7,7 +7,7 @@ use Rattle.usb_bus.specs.declared.event.Action.TheVariants.{Plug}
 use Rattle.usb_bus.specs.declared.root.RootPort.{RootPort}
 use Rattle.usb_bus.specs.declared.types.Attempt.{Attempt}
 use Rattle.usb_bus.specs.declared.types.Outcome.{Outcome}
-use Rattle.usb_bus.specs.Roots.{plugged_at}
+use Rattle.usb_bus.specs.Roots.{plugged_at, at_root, with_feature, without_feature}
 use Rattle.usb_bus.specs.Exchange.{exchanged, outcome_of}
 use Rattle.usb_bus.specs.Trace.{plug_line, attempt_line}
 
@@ -68,3 +68,10 @@ outcome_in a s = outcome_of (exchanged a (ready s).roots).0.heard a.max
 
 unfoldable pub attempted_lines : Attempt → Simulation → List ℕ
 attempted_lines a s = due_lines s.left s ++ (attempt_line ((ready s).attempts + 1) a.pre (exchanged a (ready s).roots).0 ++ 10 ∷ [])
+
+-- a feature of a root port is set, or cleared
+unfoldable pub set_at : ℕ → ℕ → Simulation → Simulation
+set_at port feature s = record s { roots = at_root (port - 1) (with_feature feature) s.roots }
+
+unfoldable pub cleared_at : ℕ → ℕ → Simulation → Simulation
+cleared_at port feature s = record s { roots = at_root (port - 1) (without_feature feature) s.roots }
