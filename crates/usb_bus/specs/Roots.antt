@@ -1,12 +1,16 @@
 -- The root ports of a simulated bus.
 use Rattle.std.specs.Prelude.{ℕ, ◌-◌, List, slice_index, slice_get, slice_set, map, option_map, unwrap_or, ◌==◌, Option, Some, None, Bool, ◌&&◌, not, if◌then◌else◌}
-use Rattle.usb_port.specs.PortState.{PortState, plugged, set_row, clear_row, is_attached, is_low}
+use Rattle.usb_port.specs.PortState.{PortState, off, plugged, set_row, clear_row, is_attached, is_low}
 use Rattle.usb_device.specs.Spec.{Spec}
 use Rattle.usb_device.specs.Rows.{State, fresh, reset_state}
 use Rattle.usb_bus.specs.declared.root.RootPort.{RootPort}
 
 abbrev pub ports_of : List RootPort → List PortState
 ports_of roots = map (λ r. r.port) roots
+
+-- a root port without power, and nothing on it
+abbrev pub vacant : RootPort
+vacant = record { port = off; device = None }
 
 abbrev pub is_same : Bool → Bool → Bool
 is_same a b = if a then b else not b

@@ -1,10 +1,10 @@
 //! A root port, and the device on it.
 ghost use Rattle.std.specs.Prelude.{◌≡◌, ◌-◌, ◌<◌, length, slice_set, slice_index_or, unwrap_or, option_map, Some, None, IfOk};
-ghost use Rattle.usb_port.specs.PortState.{PortState, off, plugged, set_row, clear_row, status_of};
+ghost use Rattle.usb_port.specs.PortState.{PortState, plugged, set_row, clear_row, status_of};
 ghost use Rattle.usb_packet.specs.Spelling.{Spells};
 ghost use Rattle.usb_packet.specs.declared.Packet.{Packet};
 ghost use Rattle.usb_device.specs.Rows.{reset_state};
-ghost use Rattle.usb_bus.specs.Roots.{reaches, with_feature, without_feature};
+ghost use Rattle.usb_bus.specs.Roots.{vacant, reaches, with_feature, without_feature};
 ghost use Rattle.usb_bus.specs.Exchange.{device_received, place_received, root_received, over};
 
 use crate::exchange::Heard;
@@ -19,8 +19,9 @@ pub(crate) struct RootPort {
 }
 
 impl RootPort {
+    /// A port without power, and nothing on it.
     pub(crate) fn new() -> Self
-        ensures { result.port ≡ off }
+        ensures { result ≡ vacant }
     {
         RootPort {
             port: Port::new(),
