@@ -1,5 +1,5 @@
 //! The simulated bus as the host sees it.
-ghost use Rattle.std.specs.Prelude.{◌≡◌, ◌≢◌, ◌+◌, ◌-◌, ◌<◌, ◌≤◌, length, slice_set, slice_index_or, unwrap_or, true, None, OnOk, IfOk, IfErr};
+ghost use Rattle.std.specs.Prelude.{◌≡◌, ◌≢◌, ◌+◌, ◌-◌, ◌<◌, ◌≤◌, length, slice_set, slice_index_or, unwrap_or, true, None, IsSome, OnOk, IfOk, IfErr};
 ghost use Rattle.usb_port.specs.PortState.{off, set_row, clear_row, status_of};
 ghost use Rattle.usb_bus.specs.World.{Attempted, Spends, AnswerFits, IsAttempt, IsRootPort, IsSetFeature, IsClearFeature, SetsRoot, ClearsRoot};
 ghost use Rattle.std.specs.Io.KnownBytes.{Appends};
@@ -27,6 +27,8 @@ impl<W: Write> Bus for SimBus<W> {
         ensures outcome { IfOk result (λ outcome. outcome ≡ outcome_in attempt.now (simulation_of self.old)) }
         ensures lines { OnOk result (Appends (W.contents (inner_of (writer_of self.old))) (W.contents (inner_of (writer_of self.new))) (attempted_lines attempt.now (simulation_of self.old))) }
         ensures trace { result ≡ Err TraceFailed → (world_of self.old).fault ≡ None → has_failed (writer_of self.new) ≡ true }
+        ensures refused { result ≡ Err LimitReached → (simulation_of self.new ≡ simulation_of self.old) × (writer_of self.new ≡ writer_of self.old) }
+        ensures again { IsSome (world_of self.old).fault → self.new ≡ self.old }
     {
         if let Some(fault) = self.fault {
             return Err(fault);
