@@ -1,7 +1,7 @@
 -- How the entries and the taken addresses change together.
-use Rattle.std.proofs.Common.{◌≡◌, ◌≢◌, ◌∙◌, refl, sym, subst, ap, arith, inl, inr, true, false, Bool, ℕ, ◌+◌, ◌<◌, cond, List, [], ◌∷◌, ◌||◌, Option, Some, None}
+use Rattle.std.proofs.Common.{◌≡◌, ◌≢◌, ◌∙◌, refl, sym, subst, ap, arith, inl, inr, true, false, Bool, ℕ, ◌+◌, cond, List, [], ◌∷◌, ◌||◌, Option, Some}
 use Rattle.std.specs.Prelude.{nat_eq}
-use Rattle.std.specs.List.{sum_by, list_any}
+use Rattle.std.specs.List.{sum_by}
 use Rattle.std.specs.Map.{lookup, remove_entry}
 use Rattle.std.specs.BTreeMap.{insert_entry, is_at}
 use Rattle.std.specs.Ordering.{nat_cmp, is_eq, ordering_reverse, match_ordering}
@@ -11,7 +11,7 @@ use Rattle.std.specs.declared.cmp.Ordering.TheVariants.{Less, Equal, Greater}
 use Rattle.std.specs.FinSet.{empty, contains, contains-empty}
 use Rattle.std.proofs.lemmas.Bool.{eq-eqb, ne_eqb, cases_order}
 use Rattle.std.proofs.lemmas.List.Sums.{sum_by-cons}
-use Rattle.usb_port.specs.Order.{path_cmp, is_below}
+use Rattle.usb_port.specs.Order.{path_cmp}
 use Rattle.usb_resources.specs.Pool.{Addresses}
 use Rattle.usb_enum.specs.declared.finding.Finding.{Finding}
 use Rattle.usb_enum.specs.declared.finding.Finding.TheVariants.{Device, Refused}
@@ -113,7 +113,7 @@ pub accounts_freed : (path : List ℕ) (f : Finding) (es rest : Entries) (old ne
 unfolding count one
 accounts_freed path f es rest old new h t gone = record {
   each = λ a. freed f old new a (count a rest) gone
-    (sym (subst (λ l. count a es ≡ one (has_address a f) + count a l) (sym t.rest) (count-remove a (is_at (path_cmp t.first)) f es t.found)) ∙ h.each a);
+      (sym (subst (λ l. count a es ≡ one (has_address a f) + count a l) (sym t.rest) (count-remove a (is_at (path_cmp t.first)) f es t.found)) ∙ h.each a);
 }
 
 -- an entry comes, with the address that was taken for it

@@ -1,5 +1,5 @@
 //! The host's rounds.
-ghost use Rattle.std.specs.Prelude.{◌≡◌, ◌≢◌, ◌≤◌, ◌<◌, ◌+◌, ◌*◌, ◌↔◌, ℕ, [], true, false, length, map, IsTrue, IsErrOf, OnOk, OnErr, IfOk, IfErr, IsErr, Ok, Err};
+ghost use Rattle.std.specs.Prelude.{◌≡◌, ◌≢◌, ◌≤◌, ◌<◌, ◌+◌, ◌*◌, ◌↔◌, ℕ, [], ◌∷◌, true, false, length, map, IsTrue, IsErrOf, OnOk, OnErr, IfOk, IfErr, IsErr, Ok, Err};
 ghost use Rattle.std.specs.Borrow.{Lends, sem};
 ghost use Rattle.std.specs.FinSet as set;
 ghost use Rattle.usb_bus.specs.World.{World, Spends, IsRootPort, IsClearFeature, changes, port_at};
@@ -7,9 +7,10 @@ ghost use Rattle.usb_hub.specs.Status.{Shows};
 ghost use Rattle.usb_enum.specs.Bounds.{enumeration_bound};
 ghost use Rattle.std.specs.BTreeMap.{insert_entry};
 ghost use Rattle.usb_port.specs.Order.{path_cmp};
+ghost use Rattle.usb_port.specs.Path.{IsPortNumber};
 ghost use Rattle.usb_enum.specs.declared.finding.Finding.{Finding};
-ghost use Rattle.usb_host.specs.Accounts.{ClaimsIfFound, address_of};
-ghost use Rattle.usb_host.specs.Entries.{has_at};
+ghost use Rattle.usb_host.specs.Accounts.{Accounts, ClaimsIfFound, address_of};
+ghost use Rattle.usb_host.specs.Entries.{has_at, without, Rises, Replaced};
 ghost use Rattle.usb_host.specs.Hosting.{Hosting, opening, work, Frees};
 ghost use Rattle.usb_host.specs.Told.{HostTold};
 
@@ -121,6 +122,8 @@ impl<B: Bus> Host<B> {
     pub fn tree(&self) -> Result<Tree, HostFault>
         ensures entries { IfOk result (λ tree. tree ≡ self.now.entries) }
         ensures memory { IfErr result (λ fault. fault ≡ HostFault.Memory) }
+        ensures rising { Rises self.now.entries }
+        ensures accounts { Accounts self.now.entries self.now.addresses }
     {
         Ok(Tree::new(self.table.entries(self.alloc)?))
     }
@@ -201,7 +204,8 @@ impl<B: Bus> Host<B> {
 
     /// Handles a root port.
     fn handle(&mut self, port: u8) -> Result<(), HostFault>
-        requires { IsRootPort self.old.world port }
+        requires port { IsRootPort self.old.world port }
+        requires number { IsPortNumber port }
         ensures going { self.new.stopped ≡ self.old.stopped }
         ensures started { result ≢ Err HostFault.Stopped }
         ensures spends { Spends enumeration_bound self.old.world self.new.world }
@@ -233,20 +237,19 @@ impl<B: Bus> Host<B> {
 
     /// Forgets what was found at a root port, and finds what is there now.
     fn renew(&mut self, port: u8) -> Result<(), HostFault>
-        requires { IsRootPort self.old.world port }
+        requires port { IsRootPort self.old.world port }
+        requires number { IsPortNumber port }
         ensures going { self.new.stopped ≡ self.old.stopped }
         ensures started { result ≢ Err HostFault.Stopped }
         ensures spends { Spends enumeration_bound self.old.world self.new.world }
         ensures told { IfErr result (λ fault. HostTold fault self.new.world) }
+        ensures entries { Replaced (port ∷ []) (without (port ∷ []) self.old.entries) self.new.entries }
     {
         let status = self.status(port);
         if status.is_enabled() {
             self.clear(port, PORT_ENABLE);
         }
-        let Some(path) = PortPath::root(port) else {
-            // a bus has at most seven root ports
-            return Ok(());
-        };
+        let path = root_path(port);
         self.forget(&path);
         if status.is_connected() {
             self.discover(port, path)?;
@@ -255,10 +258,11 @@ impl<B: Bus> Host<B> {
     }
 
     /// Takes out the entries at a path and below it, and releases their addresses.
-    #[tactic(auto, using(crate::proofs::Removals::takes_one, crate::proofs::Balances::accounts_freed))]
+    #[tactic(auto, using(crate::proofs::Removals::takes_one, crate::proofs::Balances::accounts_freed, crate::proofs::Removals::taken_apart, crate::proofs::Removals::none_apart))]
     fn forget(&mut self, path: &PortPath)
         ensures others { self.new ≡ record self.old { entries = self.new.entries; addresses = self.new.addresses } }
         ensures gone { has_at path.now self.new.entries ≡ false }
+        ensures rest { self.new.entries ≡ without path.now self.old.entries }
     {
         'entries: while let Some(finding) = self.table.take_at(path) {
             release(&mut self.pool, address_of(&finding));
@@ -274,6 +278,7 @@ impl<B: Bus> Host<B> {
         ensures started { result ≢ Err HostFault.Stopped }
         ensures spends { Spends enumeration_bound self.old.world self.new.world }
         ensures told { IfErr result (λ fault. HostTold fault self.new.world) }
+        ensures entries { Replaced path self.old.entries self.new.entries }
     {
         let finding = find(self.alloc, &mut self.bus, &mut self.pool, port)?;
         Ok(enter(&mut self.table, &mut self.pool, path, finding)?)
@@ -300,6 +305,17 @@ fn find<B: Bus>(
         Err(EnumFault::Memory) => Err(HostFault::Memory),
         // a root port is a register, and never fails
         Err(EnumFault::ParentLost) => unreachable!(),
+    }
+}
+
+/// The path of a root port.
+fn root_path(number: u8) -> PortPath
+    requires { IsPortNumber number }
+    ensures { result ≡ number ∷ [] }
+{
+    match PortPath::root(number) {
+        Some(path) => path,
+        None => unreachable!(),
     }
 }
 
