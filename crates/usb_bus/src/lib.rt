@@ -2,7 +2,16 @@
 #![tactic(auto)]
 
 mod bus;
+mod event;
+mod plan;
 mod types;
+mod watched;
 
 pub use bus::Bus;
+pub use event::{Action, Event, Events};
+pub use plan::Plan;
 pub use types::{Attempt, BusFault, Outcome};
+pub use watched::{Watched, WriteFailed, put_piece};
+
+#[cfg(test)]
+mod tests;

@@ -1,0 +1,30 @@
+-- Lemmas on what a writer took of a piece.
+use Rattle.std.proofs.Common.{◌≡◌, ℕ, List, ◌++◌, sym, ap, ◌∙◌, append_assoc, take, drop, take-append-drop, ◌-◌, length, arith, Bool, true, false, ◌||◌, ◌&&◌, not, ◌==◌, Option}
+use Rattle.std.proofs.lemmas.Bool.Decides.{nat_tests}
+use Rattle.std.proofs.lemmas.List.{take_rest}
+use Rattle.std.specs.Io.KnownBytes.{Appends, Keeps}
+use Rattle.std.proofs.KnownBytes.{Appends-trans, Appends-kept}
+use Rattle.usb_bus.specs.Watch.{AppendsFront}
+
+pub front_of : (a b : Option (List ℕ)) (gone rest piece : List ℕ) → piece ≡ gone ++ rest → Appends a b gone → AppendsFront a b piece
+front_of a b gone rest piece e h = record { gone = gone; rest = rest; split = e; appended = h }
+
+-- a failed write changes no known byte
+pub front_kept : (a b c : Option (List ℕ)) (gone rest piece : List ℕ) → piece ≡ gone ++ rest → Appends a b gone → Keeps b c → AppendsFront a c piece
+front_kept a b c gone rest piece e h k = front_of a c gone rest piece e (Appends-kept a b c gone h k)
+
+-- a front of the second part after all of the first
+pub front_after : (a b c : Option (List ℕ)) (xs ys more all : List ℕ) → all ≡ xs ++ (ys ++ more) → Appends a b xs → AppendsFront b c ys → AppendsFront a c all
+front_after a b c xs ys more all e h f =
+    front_of a c (xs ++ f.gone) (f.rest ++ more) all
+    (e ∙ ap (λ l. xs ++ (l ++ more)) f.split ∙ ap (λ l. xs ++ l) (append_assoc f.gone f.rest more) ∙ sym (append_assoc xs f.gone (f.rest ++ more)))
+    (Appends-trans a b c xs f.gone h f.appended)
+
+pub moves_front : (all done rest : List ℕ) (n : ℕ) → all ≡ done ++ rest → all ≡ (done ++ take n rest) ++ take (length rest - n) (drop n rest)
+moves_front all done rest n e =
+    e ∙ ap (λ l. done ++ l) (sym (take-append-drop n rest)) ∙ sym (append_assoc done (take n rest) (drop n rest)) ∙ ap (λ l. (done ++ take n rest) ++ l) (sym (take_rest rest n))
+
+-- a mark that a write which took something leaves
+pub unmarked_by : (old new : Bool) (n k : ℕ) → new ≡ (old || ((n == 0) && not (k == 0))) → (n ≡ 0 → ⊥) → new ≡ old
+unmarked_by true new n k e h = e
+unmarked_by false new n k e h = e ∙ grind (arith, nat_tests)

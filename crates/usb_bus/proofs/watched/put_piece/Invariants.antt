@@ -1,0 +1,14 @@
+use Rattle.std.proofs.Common.{◌≡◌, ℕ, List, ◌++◌, length}
+use Rattle.std.specs.Io.KnownBytes.{Appends}
+use Rattle.usb_bus.specs.Watch.{inner_of, has_failed}
+use Rattle.usb_bus.proofs.watched.put_piece.Given as goal
+
+-- what is gone from the piece has been appended
+abbrev pub invariant-parts : goal.invariant-parts
+invariant-parts g l = record {
+  gone : (done : List ℕ) × (l.fn.piece ≡ done ++ l.rest) × Appends (g.W.Write.contents (inner_of l.fn.writer)) (g.W.Write.contents (inner_of l.writer)) done;
+  unmarked : has_failed l.writer ≡ has_failed l.fn.writer;
+}
+
+abbrev pub decreases-parts : goal.decreases-parts
+decreases-parts g l = length l.rest

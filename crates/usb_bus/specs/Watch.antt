@@ -1,0 +1,26 @@
+-- What a failed write is, and what of a piece has gone out.
+use Rattle.std.specs.Prelude.{◌≡◌, ℕ, Bool, true, ◌&&◌, not, ◌==◌, List, ◌++◌, length, Result, Ok, Err, Option}
+use Rattle.std.specs.Io.KnownBytes.{Appends}
+use Rattle.usb_bus.specs.declared.watched.Watched.{Watched}
+
+-- the reader or writer that is watched
+abbrev pub inner_of : {T : Type 0} → Watched T → T
+inner_of w = w.inner
+
+abbrev pub has_failed : {T : Type 0} → Watched T → Bool
+has_failed w = w.failed
+
+abbrev pub calls_of : {T : Type 0} → Watched T → ℕ
+calls_of w = w.calls
+
+-- a write answered an error, or took nothing of a piece that is not empty
+abbrev pub write_fails : {E : Type 0} → Result ℕ E → List ℕ → Bool
+write_fails (Ok n) piece = (n == 0) && not (length piece == 0)
+write_fails (Err e) piece = true
+
+-- known bytes grow by a front of the piece
+pub record AppendsFront (old new : Option (List ℕ)) (piece : List ℕ) : Type 0 where
+  pub gone : List ℕ
+  pub rest : List ℕ
+  pub split : piece ≡ gone ++ rest
+  pub appended : Appends old new gone

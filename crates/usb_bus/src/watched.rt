@@ -1,0 +1,134 @@
+//! A reader or writer with a mark that tells whether it has failed.
+ghost use Rattle.std.specs.Prelude.{◌≡◌, ◌+◌, ◌≤◌, ◌||◌, false, true, is_err, OnOk, OnErr};
+ghost use Rattle.std.specs.Io.{ReadsAtMost, WritesAtMost};
+ghost use Rattle.std.specs.Io.KnownBytes.{Keeps, Appends, ReadConsumes, WriteAppends};
+ghost use Rattle.usb_bus.specs.Watch.{inner_of, has_failed, calls_of, write_fails, AppendsFront};
+
+use std::io;
+use std::io::{Read, Write};
+use thiserror::Error;
+
+/// A reader or writer, whether it has failed, and how often it was called.
+///
+/// The mark is set where a read or write answers an error, or a write takes nothing of a piece
+/// that is not empty. It is never taken back.
+#[derive(Drop)]
+pub struct Watched<T> {
+    inner: T,
+    failed: bool,
+    calls: u64,
+}
+
+impl<T> Watched<T> {
+    /// Watches a reader or writer that has not failed yet.
+    pub fn new(inner: T) -> Self
+        ensures inner { inner_of result ≡ inner }
+        ensures fresh { has_failed result ≡ false }
+        ensures uncalled { calls_of result ≡ 0 }
+    {
+        Watched {
+            inner,
+            failed: false,
+            calls: 0,
+        }
+    }
+
+    /// Whether a read or write has failed.
+    pub fn failed(&self) -> bool
+        ensures { result ≡ has_failed self.now }
+    {
+        self.failed
+    }
+
+    /// How many reads and writes there were, up to the greatest `u64`.
+    pub fn calls(&self) -> u64
+        ensures { result ≡ calls_of self.now }
+    {
+        self.calls
+    }
+
+    /// Gives the reader or writer back.
+    pub fn into_inner(self) -> T
+        ensures { result ≡ inner_of self }
+    {
+        let Watched {
+            inner,
+            failed: _,
+            calls: _,
+        } = self;
+        inner
+    }
+}
+
+impl<T: Read> Read for Watched<T> {
+    ghost remaining = { λ w. T.remaining (inner_of w) };
+
+    fn read(&mut self, buf: &mut [u8]) -> io::Result<usize>
+        ensures bound { ReadsAtMost result buf.new }
+        ensures bytes { ReadConsumes (T.remaining (inner_of self.old)) (T.remaining (inner_of self.new)) result buf.new }
+        ensures mark { has_failed self.new ≡ (has_failed self.old || is_err result) }
+        ensures calls { calls_of self.new ≤ calls_of self.old + 1 }
+    {
+        self.calls = self.calls.saturating_add(1);
+        let result = self.inner.read(buf);
+        if result.is_err() {
+            self.failed = true;
+        }
+        result
+    }
+}
+
+impl<T: Write> Write for Watched<T> {
+    ghost contents = { λ w. T.contents (inner_of w) };
+
+    fn write(&mut self, buf: &[u8]) -> io::Result<usize>
+        ensures bound { WritesAtMost result buf.now }
+        ensures bytes { WriteAppends (T.contents (inner_of self.old)) (T.contents (inner_of self.new)) result buf.now }
+        ensures mark { has_failed self.new ≡ (has_failed self.old || write_fails result buf.now) }
+        ensures calls { calls_of self.new ≤ calls_of self.old + 1 }
+    {
+        self.calls = self.calls.saturating_add(1);
+        let result = self.inner.write(buf);
+        let failed = match &result {
+            Ok(n) => *n == 0 && !buf.is_empty(),
+            Err(_) => true,
+        };
+        if failed {
+            self.failed = true;
+        }
+        result
+    }
+
+    fn flush(&mut self) -> io::Result<()>
+        ensures bytes { Keeps (T.contents (inner_of self.old)) (T.contents (inner_of self.new)) }
+        ensures mark { has_failed self.new ≡ has_failed self.old }
+    {
+        self.inner.flush()
+    }
+}
+
+/// A write answered an error, or took nothing of a piece that is not empty.
+#[derive(Clone, Copy, Debug, PartialEq, Eq, Error)]
+#[error("write failed")]
+pub struct WriteFailed;
+
+/// Writes a piece, part by part, until all of it is taken.
+///
+/// After an error the writer is marked, and what went out is a front of the piece.
+#[tactic(auto, using(crate::proofs::Fronts::front_kept))]
+pub fn put_piece<W: Write>(writer: &mut Watched<W>, piece: &[u8]) -> Result<(), WriteFailed>
+    ensures front { AppendsFront (W.contents (inner_of writer.old)) (W.contents (inner_of writer.new)) piece.now }
+    ensures ok { OnOk result (Appends (W.contents (inner_of writer.old)) (W.contents (inner_of writer.new)) piece.now) }
+    ensures unmarked { OnOk result (has_failed writer.new ≡ has_failed writer.old) }
+    ensures marked { OnErr result (has_failed writer.new ≡ true) }
+{
+    let mut rest = piece;
+    'parts: while !rest.is_empty() {
+        match writer.write(rest) {
+            Ok(0) => return Err(WriteFailed),
+            Ok(n) => rest = &rest[n..],
+            Err(_) => return Err(WriteFailed),
+        }
+    }
+    Ok(())
+}

@@ -1,0 +1,179 @@
+//! Names, bytes and texts of a device, with their bounds in their types.
+
+use std::alloc::{AllocError, Global};
+use std::marker::Model;
+
+/// At most `MAX` bytes.
+#[derive(Debug, Drop)]
+pub struct Bytes<const MAX: usize> {
+    bytes: Vec<u8>,
+}
+
+impl<const MAX: usize> Model for Bytes<MAX> {
+    ghost use Rattle.std.specs.Prelude.{List, ℕ, ◌≤◌, length};
+
+    ghost Value = { List ℕ };
+
+    ghost view = { λ b. b.bytes.items };
+
+    ghost invariant = { λ b. length b.bytes.items ≤ MAX };
+}
+
+impl<const MAX: usize> Bytes<MAX> {
+    ghost use Rattle.std.specs.Prelude.{◌≡◌, ◌≤◌, length, IfOk};
+
+    /// The bytes themselves.
+    pub fn new(bytes: Vec<u8>) -> Self
+        requires { length bytes.items ≤ MAX }
+        ensures { result ≡ bytes.items }
+    {
+        Bytes { bytes }
+    }
+
+    /// The bytes in their order.
+    pub fn as_slice(&self) -> &[u8]
+        ensures value { result.now ≡ self.now }
+        ensures bound { length self.now ≤ MAX }
+    {
+        self.bytes.as_slice()
+    }
+
+    /// The same bytes in memory of their own. An error: memory is refused.
+    pub fn try_clone(&self, alloc: Global) -> Result<Self, AllocError>
+        ensures { IfOk result (λ b. b ≡ self.now) }
+    {
+        Ok(Bytes {
+            bytes: self.bytes.as_slice().to_vec(alloc)?,
+        })
+    }
+}
+
+/// A text that is not empty.
+#[derive(Debug, Drop)]
+pub struct Name {
+    text: String,
+}
+
+impl Model for Name {
+    ghost use Rattle.std.specs.Prelude.{List, ℕ, ◌<◌, length, string_bytes};
+
+    ghost Value = { List ℕ };
+
+    ghost view = { λ n. string_bytes n.text };
+
+    ghost invariant = { λ n. 0 < length (string_bytes n.text) };
+}
+
+impl Name {
+    ghost use Rattle.std.specs.Prelude.{◌≡◌, ◌<◌, length, string_bytes, IfOk};
+
+    /// The text itself.
+    pub fn new(text: String) -> Self
+        requires { 0 < length (string_bytes text) }
+        ensures { result ≡ string_bytes text }
+    {
+        Name { text }
+    }
+
+    /// The text.
+    pub fn as_str(&self) -> &str
+        ensures value { result.now ≡ self.now }
+        ensures not_empty { 0 < length self.now }
+    {
+        self.text.as_str()
+    }
+
+    /// The same text in memory of its own. An error: memory is refused.
+    pub fn try_clone(&self, alloc: Global) -> Result<Self, AllocError>
+        ensures { IfOk result (λ n. n ≡ self.now) }
+    {
+        Ok(Name {
+            text: String::from_str(alloc, self.text.as_str())?,
+        })
+    }
+}
+
+/// At most `COUNT` texts of at most `MAX` bytes each.
+#[derive(Debug, Drop)]
+pub struct Texts<const COUNT: usize, const MAX: usize> {
+    texts: Vec<Bytes<MAX>>,
+}
+
+impl<const COUNT: usize, const MAX: usize> Model for Texts<COUNT, MAX> {
+    ghost use Rattle.std.specs.Prelude.{List, ℕ, ◌≤◌, length};
+
+    ghost Value = { List (List ℕ) };
+
+    ghost view = { λ t. t.texts.items };
+
+    ghost invariant = { λ t. length t.texts.items ≤ COUNT };
+}
+
+impl<const COUNT: usize, const MAX: usize> Texts<COUNT, MAX> {
+    ghost use Rattle.std.specs.Prelude.{◌≡◌, ◌<◌, ◌≤◌, [], ◌∷◌, ◌++◌, length, IfOk, OnOk, OnErr};
+
+    /// No texts.
+    pub fn new(alloc: Global) -> Self
+        ensures { result ≡ [] }
+    {
+        Texts {
+            texts: Vec::new(alloc),
+        }
+    }
+
+    /// One text more, at the end. An error: memory is refused, and nothing changes.
+    pub fn push(&mut self, text: Bytes<MAX>) -> Result<(), AllocError>
+        requires { length self.old < COUNT }
+        ensures ok { OnOk result (self.new ≡ self.old ++ text.entry ∷ []) }
+        ensures err { OnErr result (self.new ≡ self.old) }
+    {
+        Ok(self.texts.push(text)?)
+    }
+
+    /// The texts in their order.
+    pub fn as_slice(&self) -> &[Bytes<MAX>]
+        ensures value { result.now ≡ self.now }
+        ensures bound { length self.now ≤ COUNT }
+    {
+        self.texts.as_slice()
+    }
+
+    /// No texts, by the allocator of other ones.
+    pub(crate) fn none_beside<const OTHERS: usize, const LONGEST: usize>(
+        other: &Texts<OTHERS, LONGEST>,
+    ) -> Self
+        ensures { result ≡ [] }
+    {
+        Texts::new(*other.texts.allocator())
+    }
+
+    /// The same texts in memory of their own. An error: memory is refused.
+    pub fn try_clone(&self, alloc: Global) -> Result<Self, AllocError>
+        ensures { IfOk result (λ t. t ≡ self.now) }
+    {
+        Ok(Texts {
+            texts: copied(alloc, self.texts.as_slice())?,
+        })
+    }
+}
+
+ghost use Rattle.std.specs.Prelude.{◌≡◌, IfOk};
+
+fn copied<const MAX: usize>(
+    alloc: Global,
+    texts: &[Bytes<MAX>],
+) -> Result<Vec<Bytes<MAX>>, AllocError>
+    ensures { IfOk result (λ v. v.items ≡ texts.now) }
+{
+    let mut all = Vec::new(alloc);
+    'texts: for text in texts {
+        all.push(text.try_clone(alloc)?)?;
+    }
+    Ok(all)
+}
+
+/// The texts of the configurations of a device (9.6.3), by their index.
+pub type ConfigTexts = Texts<8, 65535>;
+
+/// The strings of a device (9.6.7), by their index.
+pub type StringTexts = Texts<256, 255>;

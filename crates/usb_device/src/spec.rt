@@ -1,0 +1,252 @@
+//! What a plan says of a device.
+ghost use Rattle.std.specs.Prelude.{◌≡◌, ◌≤◌, length, IfOk};
+ghost use Rattle.usb_device.specs.Spec.{no_stalls, function};
+
+use crate::lists::{Bytes, ConfigTexts, Name, StringTexts};
+use std::alloc::{AllocError, Global};
+use std::marker::Model;
+
+/// The requests that a device refuses by STALL, whatever else it could answer.
+#[derive(Clone, Copy, Debug)]
+pub struct Stalls {
+    /// GET_DESCRIPTOR of the device descriptor.
+    pub device: bool,
+    /// SET_ADDRESS.
+    pub address: bool,
+    /// GET_DESCRIPTOR of a configuration.
+    pub config: bool,
+    /// SET_CONFIGURATION.
+    pub set_config: bool,
+    /// GET_STATUS of the device.
+    pub status: bool,
+    /// GET_DESCRIPTOR of the hub descriptor.
+    pub hub: bool,
+    /// GET_DESCRIPTOR of a string.
+    pub string: bool,
+}
+
+impl Stalls {
+    /// No request is refused.
+    pub fn none() -> Self
+        ensures { result ≡ no_stalls }
+    {
+        Stalls {
+            device: false,
+            address: false,
+            config: false,
+            set_config: false,
+            status: false,
+            hub: false,
+            string: false,
+        }
+    }
+}
+
+/// A device as a plan describes it.
+#[derive(Debug, Drop)]
+pub struct DeviceSpec {
+    name: Name,
+    low: bool,
+    descriptor: Bytes<255>,
+    configs: ConfigTexts,
+    strings: StringTexts,
+    self_powered: bool,
+    busy: bool,
+    silent: bool,
+    naks: u8,
+    stalls: Stalls,
+}
+
+impl Model for DeviceSpec {
+    ghost use Rattle.std.specs.Prelude.{◌≤◌};
+    ghost use Rattle.usb_device.specs.Spec.{Spec};
+
+    ghost Value = { Spec };
+
+    ghost view = { λ s. record {
+      name = s.name;
+      low = s.low;
+      descriptor = s.descriptor;
+      configs = s.configs;
+      strings = s.strings;
+      self_powered = s.self_powered;
+      busy = s.busy;
+      silent = s.silent;
+      naks = s.naks;
+      stalls = s.stalls;
+    } };
+
+    ghost invariant = { λ s. s.naks ≤ 200 };
+}
+
+impl DeviceSpec {
+    /// A full-speed function without strings that does nothing special: no request is refused, no NAK is given,
+    /// and it has its power from the bus. Its device descriptor (9.6.1) and the texts of its configurations
+    /// (9.6.3) are any bytes.
+    pub fn function(name: Name, descriptor: Bytes<255>, configs: ConfigTexts) -> Self
+        ensures { result ≡ function name descriptor configs }
+    {
+        let strings = StringTexts::none_beside(&configs);
+        DeviceSpec {
+            name,
+            low: false,
+            descriptor,
+            configs,
+            strings,
+            self_powered: false,
+            busy: false,
+            silent: false,
+            naks: 0,
+            stalls: Stalls::none(),
+        }
+    }
+
+    /// The same device at low speed, or at full speed.
+    pub fn with_low_speed(mut self, low: bool) -> Self
+        ensures { result ≡ record self { low = low } }
+    {
+        self.low = low;
+        self
+    }
+
+    /// The same device with these string descriptors.
+    pub fn with_strings(mut self, strings: StringTexts) -> Self
+        ensures { result ≡ record self { strings = strings } }
+    {
+        self.strings = strings;
+        self
+    }
+
+    /// The same device, which has its own power or not.
+    pub fn with_self_powered(mut self, self_powered: bool) -> Self
+        ensures { result ≡ record self { self_powered = self_powered } }
+    {
+        self.self_powered = self_powered;
+        self
+    }
+
+    /// The same device, which answers each data and status stage by NAK, or does not.
+    pub fn with_busy(mut self, busy: bool) -> Self
+        ensures { result ≡ record self { busy = busy } }
+    {
+        self.busy = busy;
+        self
+    }
+
+    /// The same device, which never answers, or does.
+    pub fn with_silent(mut self, silent: bool) -> Self
+        ensures { result ≡ record self { silent = silent } }
+    {
+        self.silent = silent;
+        self
+    }
+
+    /// The same device, which begins each control transfer with so many NAKs, at most 200.
+    pub fn with_naks(mut self, naks: u8) -> Self
+        requires { naks ≤ 200 }
+        ensures { result ≡ record self { naks = naks } }
+    {
+        self.naks = naks;
+        self
+    }
+
+    /// The same device, which refuses these requests.
+    pub fn with_stalls(mut self, stalls: Stalls) -> Self
+        ensures { result ≡ record self { stalls = stalls } }
+    {
+        self.stalls = stalls;
+        self
+    }
+
+    /// The same description in memory of its own. An error: memory is refused.
+    pub fn try_clone(&self, alloc: Global) -> Result<Self, AllocError>
+        ensures { IfOk result (λ s. s ≡ self.now) }
+    {
+        Ok(DeviceSpec {
+            name: self.name.try_clone(alloc)?,
+            low: self.low,
+            descriptor: self.descriptor.try_clone(alloc)?,
+            configs: self.configs.try_clone(alloc)?,
+            strings: self.strings.try_clone(alloc)?,
+            self_powered: self.self_powered,
+            busy: self.busy,
+            silent: self.silent,
+            naks: self.naks,
+            stalls: self.stalls,
+        })
+    }
+
+    /// What the plan calls it.
+    pub fn name(&self) -> &str
+        ensures { result.now ≡ self.now.name }
+    {
+        self.name.as_str()
+    }
+
+    /// Whether it is a low-speed device; else it is a full-speed one.
+    pub fn is_low(&self) -> bool
+        ensures { result ≡ self.now.low }
+    {
+        self.low
+    }
+
+    /// Its device descriptor (9.6.1), which can be any bytes.
+    pub fn descriptor(&self) -> &[u8]
+        ensures value { result.now ≡ self.now.descriptor }
+        ensures bound { length self.now.descriptor ≤ 255 }
+    {
+        self.descriptor.as_slice()
+    }
+
+    /// The texts of its configurations (9.6.3), by their index, which can be any bytes.
+    pub fn configs(&self) -> &[Bytes<65535>]
+        ensures value { result.now ≡ self.now.configs }
+        ensures bound { length self.now.configs ≤ 8 }
+    {
+        self.configs.as_slice()
+    }
+
+    /// Its string descriptors (9.6.7), by their index, which can be any bytes.
+    pub fn strings(&self) -> &[Bytes<255>]
+        ensures value { result.now ≡ self.now.strings }
+        ensures bound { length self.now.strings ≤ 256 }
+    {
+        self.strings.as_slice()
+    }
+
+    /// Whether it has its own power, as GET_STATUS tells (9.4.5).
+    pub fn is_self_powered(&self) -> bool
+        ensures { result ≡ self.now.self_powered }
+    {
+        self.self_powered
+    }
+
+    /// Whether it answers each data and status stage by NAK.
+    pub fn is_busy(&self) -> bool
+        ensures { result ≡ self.now.busy }
+    {
+        self.busy
+    }
+
+    /// Whether it never answers.
+    pub fn is_silent(&self) -> bool
+        ensures { result ≡ self.now.silent }
+    {
+        self.silent
+    }
+
+    /// How many NAKs it gives in each control transfer before it goes on, at most 200.
+    pub fn naks(&self) -> u8
+        ensures value { result ≡ self.now.naks }
+        ensures bound { result ≤ 200 }
+    {
+        self.naks
+    }
+
+    /// The requests that it refuses.
+    pub fn stalls(&self) -> Stalls
+        ensures { result ≡ self.now.stalls }
+    {
+        self.stalls
+    }
+}
