@@ -1,0 +1,41 @@
+-- What an outcome means to a host that waits for it.
+use Rattle.std.specs.Prelude.{Bool, true, false, if◌then◌else◌, []}
+use Rattle.usb_packet.specs.declared.Toggle.{Toggle}
+use Rattle.usb_packet.specs.declared.Toggle.TheVariants.{Zero, One}
+use Rattle.usb_bus.specs.declared.types.Outcome.{Outcome}
+use Rattle.usb_bus.specs.declared.types.Outcome.TheVariants.{Payload, Ack, Nak, Stall, Nothing}
+use Rattle.usb_transaction.specs.declared.heard.Heard.{Heard}
+use Rattle.usb_transaction.specs.declared.heard.Heard.TheVariants.{Moved, Wait, Refused, Lost}
+
+abbrev pub flip : Toggle → Toggle
+flip Zero = One
+flip One = Zero
+
+abbrev pub same_toggle : Toggle → Toggle → Bool
+same_toggle Zero Zero = true
+same_toggle Zero One = false
+same_toggle One Zero = false
+same_toggle One One = true
+
+-- to a host that awaits a packet of a toggle
+abbrev pub heard_as : Toggle → Outcome → Heard
+heard_as awaited (Payload given bytes) = if same_toggle awaited given then Moved bytes else Wait
+heard_as awaited Ack = Lost
+heard_as awaited Nak = Wait
+heard_as awaited Stall = Refused
+heard_as awaited Nothing = Lost
+
+-- to a host that has sent a packet
+abbrev pub sent_as : Outcome → Heard
+sent_as (Payload given bytes) = Lost
+sent_as Ack = Moved (record { items = [] })
+sent_as Nak = Wait
+sent_as Stall = Refused
+sent_as Nothing = Lost
+
+abbrev pub acks : Outcome → Bool
+acks (Payload given bytes) = false
+acks Ack = true
+acks Nak = false
+acks Stall = false
+acks Nothing = false

@@ -1,0 +1,59 @@
+-- What a transaction tells.
+use Rattle.std.specs.Prelude.{◌≡◌, ℕ, ◌+◌, ◌<◌, ◌≤◌, List, Some, None, true, Result, Ok, Err}
+use Rattle.arrayvec.specs.ArrayVec.{ArrayVec}
+use Rattle.usb_packet.specs.declared.Toggle.{Toggle}
+use Rattle.usb_packet.specs.declared.Toggle.TheVariants.{Zero}
+use Rattle.usb_packet.specs.declared.TokenKind.TheVariants.{OutTok, InTok, SetupTok}
+use Rattle.usb_bus.specs.declared.types.Attempt.{Attempt}
+use Rattle.usb_bus.specs.declared.types.Outcome.{Outcome}
+use Rattle.usb_bus.specs.World.{World, Attempted, Failed}
+use Rattle.usb_transaction.specs.declared.target.Target.{Target}
+use Rattle.usb_transaction.specs.declared.fault.TransFault.{TransFault}
+use Rattle.usb_transaction.specs.declared.fault.TransFault.TheVariants.{Stalled, Busy, NoAnswer, Bus}
+
+pub record IsTarget (t : Target) : Type 0 where
+  pub addr_fits : t.addr < 128
+  pub max_least : 1 ≤ t.max
+  pub max_most : t.max ≤ 64
+  pub pre_low : t.pre ≡ true → t.low ≡ true
+
+abbrev pub packet_of : List ℕ → ArrayVec ℕ
+packet_of bytes = record { items = bytes }
+
+-- SETUP with DATA0
+abbrev pub setup_attempt : Target → List ℕ → Attempt
+setup_attempt t bytes = record { kind = SetupTok; addr = t.addr; ep = 0; low = t.low; pre = t.pre; max = 8; payload = Some (Zero, packet_of bytes) }
+
+abbrev pub in_attempt : Target → ℕ → Attempt
+in_attempt t ep = record { kind = InTok; addr = t.addr; ep = ep; low = t.low; pre = t.pre; max = t.max; payload = None }
+
+abbrev pub out_attempt : Target → ℕ → Toggle → List ℕ → Attempt
+out_attempt t ep toggle bytes = record { kind = OutTok; addr = t.addr; ep = ep; low = t.low; pre = t.pre; max = t.max; payload = Some (toggle, packet_of bytes) }
+
+-- the call's last attempt was this one, and answered so
+pub record EndsWith (a : Attempt) (outcome : Outcome) (old new : World) : Type 0 where
+  pub before : World
+  pub later : old.attempts ≤ before.attempts
+  pub attempted : Attempted a before (Ok outcome) new
+
+-- at least n attempts were made, and the bus is still at work
+pub record Worked (n : ℕ) (old new : World) : Type 0 where
+  pub sound : old.fault ≡ None
+  pub least : old.attempts + n ≤ new.attempts
+  pub still : new.fault ≡ None
+
+-- how few attempts can have come before each answer
+abbrev pub Ends : World → Result (List ℕ) TransFault → World → Type 0
+Ends old (Ok done) new = Worked 1 old new
+Ends old (Err Stalled) new = Worked 1 old new
+Ends old (Err Busy) new = Worked 256 old new
+Ends old (Err NoAnswer) new = Worked 3 old new
+Ends old (Err (Bus fault)) new = Failed fault new
+
+-- SETUP is never stalled, and never waits
+abbrev pub SetupEnds : World → Result (List ℕ) TransFault → World → Type 0
+SetupEnds old (Ok done) new = Worked 1 old new
+SetupEnds old (Err Stalled) new = ⊥
+SetupEnds old (Err Busy) new = ⊥
+SetupEnds old (Err NoAnswer) new = Worked 3 old new
+SetupEnds old (Err (Bus fault)) new = Failed fault new

@@ -1,0 +1,67 @@
+//! IN.
+ghost use Rattle.std.specs.Prelude.{◌≡◌, ◌≤◌, ◌<◌, length, IfOk, OnOk, OnErr};
+ghost use Rattle.usb_bus.specs.World.{Spends};
+ghost use Rattle.usb_bus.specs.declared.types.Outcome.TheVariants.{Payload};
+ghost use Rattle.usb_transaction.specs.Heard.{flip};
+ghost use Rattle.usb_transaction.specs.Trans.{IsTarget, Ends, EndsWith, in_attempt, packet_of};
+
+use crate::attempt::attempt_of_in;
+use crate::heard::{Heard, flipped, judged};
+use crate::{Done, Target, TransFault};
+use usb_bus::Bus;
+use usb_packet::Toggle;
+
+/// Asks an endpoint, 0 to 15, for one data packet (8.5), until one of the awaited toggle comes.
+///
+/// A packet of the other toggle is a repeat: it is discarded. The toggle changes exactly where the
+/// call is done.
+///
+/// # Errors
+///
+/// `Stalled` at STALL, `Busy` at the 256th NAK or repeat, `NoAnswer` after three errors running,
+/// `Bus` where the bus makes no more steps.
+pub fn data_in<B: Bus>(
+    bus: &mut B,
+    target: Target,
+    ep: u8,
+    toggle: &mut Toggle,
+) -> Result<Done, TransFault>
+    requires target { IsTarget target }
+    requires endpoint { ep < 16 }
+    ensures count { Spends 768 (B.world bus.old) (B.world bus.new) }
+    ensures ends { Ends (B.world bus.old) result (B.world bus.new) }
+    // The data are those of the last attempt, and have the awaited toggle.
+    ensures last { IfOk result (λ done. EndsWith (in_attempt target ep) (Payload toggle.old (packet_of done)) (B.world bus.old) (B.world bus.new)) }
+    ensures short { IfOk result (λ done. length done ≤ target.max) }
+    ensures toggle_ok { OnOk result (toggle.new ≡ flip toggle.old) }
+    ensures toggle_err { OnErr result (toggle.new ≡ toggle.old) }
+{
+    let attempt = attempt_of_in(target, ep);
+    let mut errors = 0u8;
+    let mut waits = 0u16;
+    'tries: loop {
+        match bus.attempt(&attempt) {
+            Ok(outcome) => match judged(*toggle, outcome) {
+                Heard::Moved(bytes) => {
+                    *toggle = flipped(*toggle);
+                    return Ok(Done::data(bytes));
+                }
+                Heard::Wait => {
+                    waits += 1;
+                    errors = 0;
+                    if waits == 256 {
+                        return Err(TransFault::Busy);
+                    }
+                }
+                Heard::Refused => return Err(TransFault::Stalled),
+                Heard::Lost => {
+                    errors += 1;
+                    if errors == 3 {
+                        return Err(TransFault::NoAnswer);
+                    }
+                }
+            },
+            Err(fault) => return Err(TransFault::Bus(fault)),
+        }
+    }
+}

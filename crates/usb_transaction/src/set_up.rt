@@ -1,0 +1,38 @@
+//! SETUP.
+ghost use Rattle.std.specs.Prelude.{◌≡◌, [], IfOk};
+ghost use Rattle.usb_bus.specs.World.{Spends};
+ghost use Rattle.usb_bus.specs.declared.types.Outcome.TheVariants.{Ack};
+ghost use Rattle.usb_transaction.specs.Trans.{IsTarget, SetupEnds, EndsWith, setup_attempt};
+
+use crate::attempt::attempt_of_setup;
+use crate::heard::is_ack;
+use crate::{Done, Target, TransFault};
+use usb_bus::Bus;
+
+/// Sends setup data (8.5.3), in at most three attempts.
+///
+/// # Errors
+///
+/// `NoAnswer` after three attempts none of which was answered by ACK: to SETUP every other answer
+/// is an error. `Bus` where the bus makes no more steps. It never answers `Stalled` or `Busy`.
+pub fn setup<B: Bus>(bus: &mut B, target: Target, bytes: [u8; 8]) -> Result<Done, TransFault>
+    requires { IsTarget target }
+    ensures count { Spends 3 (B.world bus.old) (B.world bus.new) }
+    ensures ends { SetupEnds (B.world bus.old) result (B.world bus.new) }
+    // It is done where the last attempt was answered by ACK.
+    ensures last { IfOk result (λ done. EndsWith (setup_attempt target bytes) Ack (B.world bus.old) (B.world bus.new)) }
+    ensures nothing { IfOk result (λ done. done ≡ []) }
+{
+    let attempt = attempt_of_setup(target, bytes);
+    for _error in 0..3u8 {
+        match bus.attempt(&attempt) {
+            Ok(outcome) => {
+                if is_ack(&outcome) {
+                    return Ok(Done::nothing());
+                }
+            }
+            Err(fault) => return Err(TransFault::Bus(fault)),
+        }
+    }
+    Err(TransFault::NoAnswer)
+}

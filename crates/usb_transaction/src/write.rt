@@ -1,0 +1,69 @@
+//! OUT.
+ghost use Rattle.std.specs.Prelude.{◌≡◌, ◌≤◌, ◌<◌, [], length, IfOk, OnOk, OnErr};
+ghost use Rattle.usb_bus.specs.World.{Spends};
+ghost use Rattle.usb_bus.specs.declared.types.Outcome.TheVariants.{Ack};
+ghost use Rattle.usb_transaction.specs.Heard.{flip};
+ghost use Rattle.usb_transaction.specs.Trans.{IsTarget, Ends, EndsWith, out_attempt};
+
+use crate::attempt::attempt_of_out;
+use crate::heard::{Heard, flipped, judged_sent};
+use crate::{Done, Target, TransFault};
+use usb_bus::Bus;
+use usb_packet::Toggle;
+
+/// Sends one data packet of at most the target's maximum to an endpoint, 0 to 15 (8.5), again
+/// with the same toggle until it is acknowledged.
+///
+/// The toggle changes exactly where the call is done.
+///
+/// # Errors
+///
+/// `Stalled` at STALL, `Busy` at the 256th NAK, `NoAnswer` after three errors running, `Bus` where
+/// the bus makes no more steps. After each but the first the data may have been taken.
+pub fn data_out<B: Bus>(
+    bus: &mut B,
+    target: Target,
+    ep: u8,
+    toggle: &mut Toggle,
+    bytes: &[u8],
+) -> Result<Done, TransFault>
+    requires target { IsTarget target }
+    requires endpoint { ep < 16 }
+    requires short { length bytes.now ≤ target.max }
+    ensures count { Spends 768 (B.world bus.old) (B.world bus.new) }
+    ensures ends { Ends (B.world bus.old) result (B.world bus.new) }
+    // It is done where the last attempt was answered by ACK.
+    ensures last { IfOk result (λ done. EndsWith (out_attempt target ep toggle.old bytes.now) Ack (B.world bus.old) (B.world bus.new)) }
+    ensures nothing { IfOk result (λ done. done ≡ []) }
+    ensures toggle_ok { OnOk result (toggle.new ≡ flip toggle.old) }
+    ensures toggle_err { OnErr result (toggle.new ≡ toggle.old) }
+{
+    let attempt = attempt_of_out(target, ep, *toggle, bytes);
+    let mut errors = 0u8;
+    let mut waits = 0u16;
+    'tries: loop {
+        match bus.attempt(&attempt) {
+            Ok(outcome) => match judged_sent(&outcome) {
+                Heard::Moved(_) => {
+                    *toggle = flipped(*toggle);
+                    return Ok(Done::nothing());
+                }
+                Heard::Wait => {
+                    waits += 1;
+                    errors = 0;
+                    if waits == 256 {
+                        return Err(TransFault::Busy);
+                    }
+                }
+                Heard::Refused => return Err(TransFault::Stalled),
+                Heard::Lost => {
+                    errors += 1;
+                    if errors == 3 {
+                        return Err(TransFault::NoAnswer);
+                    }
+                }
+            },
+            Err(fault) => return Err(TransFault::Bus(fault)),
+        }
+    }
+}
