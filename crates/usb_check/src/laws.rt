@@ -7,7 +7,8 @@ ghost use Rattle.usb_check.specs.Polynomial.{IsCheck, DetectsOneBit, generator5,
 ///
 /// The call does nothing; what it ensures is for proofs to cite.
 pub fn check_laws()
-    ensures one_field { (generator bits check other : List Bool) → IsCheck generator bits check → IsCheck generator bits other → check ≡ other }
+    ensures one_field { (generator bits check other : List Bool)
+        → IsCheck generator bits check → IsCheck generator bits other → check ≡ other }
     ensures five_bits { DetectsOneBit generator5 }
     ensures sixteen_bits { DetectsOneBit generator16 }
 {}

@@ -1,11 +1,18 @@
 //! A simulated device: what a plan says of it, and what it does with each packet.
 #![tactic(auto)]
 
+mod answer;
+mod device;
 mod devices;
+mod laws;
 mod lists;
+mod request;
 mod spec;
+mod transfer;
 
+pub use device::Device;
 pub use devices::Devices;
+pub use laws::{attempt_laws, frame_laws, stranger_laws};
 pub use lists::{Bytes, ConfigTexts, Name, StringTexts, Texts};
 pub use spec::{DeviceSpec, Stalls};
 

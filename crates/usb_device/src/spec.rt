@@ -249,4 +249,20 @@ impl DeviceSpec {
     {
         self.stalls
     }
+
+    ghost use Rattle.usb_device.specs.Transfer.{max_packet};
+
+    /// The most data bytes of a packet on endpoint 0 (5.5.3).
+    pub(crate) fn max_packet(&self) -> u8
+        ensures value { result ≡ max_packet self.now }
+        ensures low { 8 ≤ result }
+        ensures high { result ≤ 64 }
+    {
+        match self.descriptor().get(7) {
+            Some(16) if !self.low => 16,
+            Some(32) if !self.low => 32,
+            Some(64) if !self.low => 64,
+            _ => 8,
+        }
+    }
 }

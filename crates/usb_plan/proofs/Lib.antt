@@ -1,1 +1,5 @@
-
+mod Entries
+mod Steps
+mod Parts
+mod Growth
+mod Totals

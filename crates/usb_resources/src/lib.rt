@@ -1,4 +1,4 @@
-//! Free addresses, the power of a port, and the choice of a configuration.
+//! The addresses of devices, the power of a port, and the choice of a configuration by it.
 #![tactic(auto)]
 
 mod pool;
@@ -6,3 +6,6 @@ mod power;
 
 pub use pool::{Address, AddressPool};
 pub use power::{choose, supply};
+
+#[cfg(test)]
+mod tests;

@@ -1,4 +1,4 @@
-use Rattle.std.proofs.Common.{[], ◌∷◌, List, ℕ, ap, ap₂, ◌∙◌, slice_index}
+use Rattle.std.proofs.Common.{[], ◌∷◌, ℕ, ap, ap₂, ◌∙◌, slice_index}
 use Rattle.std.proofs.lemmas.Nat.{and_mask}
 use Rattle.hex.specs.Hex.{upper_digits, encode_with}
 use Rattle.usb_packet.proofs.text.hex_digits.Goals as goal

@@ -1,0 +1,106 @@
+//! Hub descriptors (section 11.23.2.1).
+ghost use Rattle.std.specs.Prelude.{◌≡◌, ◌≤◌, IfOk, slice_index};
+ghost use Rattle.usb_descriptor.specs.Words.{word_at};
+ghost use Rattle.usb_descriptor.specs.Hub.{hub_of, port_count};
+
+use crate::fault::DescriptorFault;
+use crate::word::word_at;
+use std::marker::Model;
+
+/// A hub descriptor, as a view of its bytes (section 11.23.2.1).
+#[derive(Debug, Drop)]
+pub struct HubView<'a> {
+    bytes: &'a [u8],
+}
+
+impl<'a> Model for HubView<'a> {
+    ghost use Rattle.std.specs.Prelude.{List, ℕ, ◌≤◌, length};
+    ghost use Rattle.usb_descriptor.specs.Hub.{port_count};
+
+    ghost Value = { List ℕ };
+
+    ghost view = { λ v. v.bytes.now };
+
+    ghost invariant = { λ v. (9 ≤ length v.bytes.now) × (1 ≤ port_count v.bytes.now) × (port_count v.bytes.now ≤ 7) };
+}
+
+/// The descriptor, with which the bytes begin, of a hub of one to seven ports (section 11.23.2.1).
+///
+/// The first fault is told: `Short` under 9 bytes, `WrongType` where bDescriptorType is not 29
+/// hex, `Length` where bDescLength is under 9 or bNbrPorts is not 1 to 7.
+#[tactic(auto, unfolding(crate::specs::Hub::hub_of))]
+pub fn read_hub(bytes: &[u8]) -> Result<HubView<'_>, DescriptorFault>
+    ensures answer { result ≡ hub_of bytes.now }
+    ensures ports { IfOk result (λ hub. (1 ≤ port_count hub) × (port_count hub ≤ 7)) }
+{
+    if bytes.len() < 9 {
+        return Err(DescriptorFault::Short);
+    }
+    if bytes[1] != 0x29 {
+        return Err(DescriptorFault::WrongType);
+    }
+    if bytes[0] < 9 || bytes[2] < 1 || bytes[2] > 7 {
+        return Err(DescriptorFault::Length);
+    }
+    Ok(HubView { bytes })
+}
+
+impl HubView<'_> {
+    /// bDescLength.
+    pub fn length(&self) -> u8
+        ensures { result ≡ slice_index self.now 0 }
+    {
+        self.bytes[0]
+    }
+
+    /// bDescriptorType.
+    pub fn descriptor_type(&self) -> u8
+        ensures { result ≡ slice_index self.now 1 }
+    {
+        self.bytes[1]
+    }
+
+    /// bNbrPorts, 1 to 7.
+    pub fn ports(&self) -> u8
+        ensures value { result ≡ port_count self.now }
+        ensures least { 1 ≤ result }
+        ensures most { result ≤ 7 }
+    {
+        self.bytes[2]
+    }
+
+    /// wHubCharacteristics.
+    pub fn characteristics(&self) -> u16
+        ensures { result ≡ word_at self.now 3 }
+    {
+        word_at(self.bytes, 3)
+    }
+
+    /// bPwrOn2PwrGood, the time until a powered port's power is good, in units of 2 ms.
+    pub fn power_on_time(&self) -> u8
+        ensures { result ≡ slice_index self.now 5 }
+    {
+        self.bytes[5]
+    }
+
+    /// bHubContrCurrent, what the hub itself needs at most, in mA.
+    pub fn controller_current(&self) -> u8
+        ensures { result ≡ slice_index self.now 6 }
+    {
+        self.bytes[6]
+    }
+
+    /// DeviceRemovable: a bit for each port, from bit 1 on, that is set where the device stays.
+    pub fn removable(&self) -> u8
+        ensures { result ≡ slice_index self.now 7 }
+    {
+        self.bytes[7]
+    }
+
+    /// PortPwrCtrlMask.
+    pub fn power_mask(&self) -> u8
+        ensures { result ≡ slice_index self.now 8 }
+    {
+        self.bytes[8]
+    }
+}

@@ -1,0 +1,35 @@
+-- What the code keeps of an answer, and what it stands for.
+use Rattle.std.specs.Prelude.{ℕ, List, [], ◌∷◌, slice_get, unwrap_or}
+use Rattle.usb_device.specs.Spec.{Spec}
+use Rattle.usb_device.specs.Request.{Outcome, stalled, answers, takes_address, takes_configuration, status_bytes}
+use Rattle.usb_device.specs.Transfer.{Stage, idle, refused, reading, read, ending}
+use Rattle.usb_device.specs.declared.request.Source.{Source}
+use Rattle.usb_device.specs.declared.request.Source.TheVariants.{Descriptor, Config, Text, Status, Configuration}
+use Rattle.usb_device.specs.declared.request.Reaction.{Reaction}
+use Rattle.usb_device.specs.declared.request.Reaction.TheVariants.{Refuse, Answer, TakeAddress, TakeConfiguration}
+use Rattle.usb_device.specs.declared.transfer.Progress.{Progress}
+use Rattle.usb_device.specs.declared.transfer.Progress.TheVariants.{Idle, Refused, Reading, Read, Ending}
+
+-- a text by its index
+abbrev pub text_at : List (List ℕ) → ℕ → List ℕ
+text_at texts i = unwrap_or (slice_get texts i) []
+
+abbrev pub bytes_of : Spec → Source → List ℕ
+bytes_of s Descriptor = s.descriptor
+bytes_of s (Config i) = text_at s.configs i
+bytes_of s (Text i) = text_at s.strings i
+bytes_of s Status = status_bytes s
+bytes_of s (Configuration c) = c ∷ []
+
+abbrev pub meaning_of : Spec → Reaction → Outcome
+meaning_of s Refuse = stalled
+meaning_of s (Answer source) = answers (bytes_of s source)
+meaning_of s (TakeAddress a) = takes_address a
+meaning_of s (TakeConfiguration c) = takes_configuration c
+
+abbrev pub stage_of : Spec → Progress → Stage
+stage_of s Idle = idle
+stage_of s Refused = refused
+stage_of s (Reading source wanted given) = reading (bytes_of s source) wanted given
+stage_of s Read = read
+stage_of s (Ending address) = ending address

@@ -1,0 +1,77 @@
+-- What each request asks of a device: bytes, a change of its registers, or a refusal (9.4).
+use Rattle.std.specs.Prelude.{ℕ, ◌/◌, ◌%◌, ◌==◌, nat_lt, nat_le, if◌then◌else◌, ◌&&◌, ◌||◌, not, Bool, List, [], ◌∷◌, length, slice_index, slice_get, Option, None, Some}
+use Rattle.std.specs.List.{list_any}
+use Rattle.usb_request.specs.declared.setup.Setup.{Setup}
+use Rattle.usb_device.specs.declared.request.Registers.{Registers}
+use Rattle.usb_device.specs.Spec.{Spec}
+
+pub data Outcome : Type 0 where
+  -- the request is refused by STALL
+  stalled : Outcome
+  -- the answer is these bytes, of which the host gets as many as it wants
+  answers : List ℕ → Outcome
+  -- the address is taken when the status stage ends (9.4.6)
+  takes_address : ℕ → Outcome
+  -- the configuration is taken at once (9.4.7)
+  takes_configuration : ℕ → Outcome
+
+-- the request has this type and this code
+abbrev pub Is : Setup → ℕ → ℕ → Bool
+Is r type code = r.request_type == type && r.request == code
+
+abbrev pub unless : Bool → Outcome → Outcome
+unless refused outcome = if refused then stalled else outcome
+
+-- the text of an index, where there is one
+abbrev pub text_asked : List (List ℕ) → ℕ → Outcome
+text_asked texts i = elim (slice_get texts i) [ None ↦ stalled | Some text ↦ answers text ]
+
+-- 9.4.3: the high byte of wValue is the type of the descriptor, the low byte its index
+abbrev pub get_descriptor : Spec → ℕ → Outcome
+get_descriptor s value =
+    if value == 0x0100 then unless s.stalls.device (answers s.descriptor)
+    else if value / 256 == 2 then unless s.stalls.config (text_asked s.configs (value % 256))
+    else if value / 256 == 3 then unless s.stalls.string (text_asked s.strings (value % 256))
+    else stalled
+
+-- 9.4.5: two bytes, and bit 0 of the first says that the device has its own power
+abbrev pub status_bytes : Spec → List ℕ
+status_bytes s = (if s.self_powered then 1 else 0) ∷ 0 ∷ []
+
+abbrev pub get_status : Spec → Setup → Outcome
+get_status s r = if r.value == 0 && r.index == 0 then answers (status_bytes s) else stalled
+
+-- 9.4.6
+abbrev pub set_address : Setup → Outcome
+set_address r = if nat_le r.value 127 && r.length == 0 then takes_address r.value else stalled
+
+-- byte 5 of the text of a configuration is its value (9.6.3)
+abbrev pub has_value : ℕ → List ℕ → Bool
+has_value value text = nat_lt 5 (length text) && slice_index text 5 == value
+
+-- a number of one byte that is 0 or the value of a configuration
+abbrev pub is_value : List (List ℕ) → ℕ → Bool
+is_value configs value = nat_lt value 256 && (value == 0 || list_any (has_value value) configs)
+
+-- 9.4.7: a device without an address cannot be configured
+abbrev pub set_configuration : Spec → Registers → Setup → Outcome
+set_configuration s g r = if not (g.address == 0) && is_value s.configs r.value && r.length == 0 then takes_configuration r.value else stalled
+
+abbrev pub outcome : Spec → Registers → Setup → Outcome
+outcome s g r =
+    if Is r 0x80 6 then get_descriptor s r.value
+    else if Is r 0x80 0 then unless s.stalls.status (get_status s r)
+    else if Is r 0x80 8 then answers (g.configuration ∷ [])
+    else if Is r 0x00 5 then unless s.stalls.address (set_address r)
+    else if Is r 0x00 9 then unless s.stalls.set_config (set_configuration s g r)
+    else stalled
+
+-- the registers once the setup data is accepted
+abbrev pub registers_at_setup : Registers → Outcome → Registers
+registers_at_setup g (takes_configuration c) = record g { configuration = c }
+registers_at_setup g o = g
+
+-- the address that is taken at the end of the status stage
+abbrev pub address_at_end : Outcome → Option ℕ
+address_at_end (takes_address a) = Some a
+address_at_end o = None

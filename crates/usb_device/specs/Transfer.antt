@@ -1,0 +1,43 @@
+-- Where a control transfer stands, and the packets of an answer (8.5.3).
+use Rattle.std.specs.Prelude.{ℕ, ◌+◌, ◌*◌, ◌/◌, ◌%◌, ◌==◌, nat_lt, if◌then◌else◌, ◌&&◌, ◌||◌, not, List, length, take, drop, slice_index, Option, None, Some}
+use Rattle.usb_packet.specs.declared.Toggle.{Toggle}
+use Rattle.usb_packet.specs.declared.Toggle.TheVariants.{Zero, One}
+use Rattle.usb_device.specs.Spec.{Spec}
+use Rattle.usb_device.specs.Request.{Outcome, stalled, answers, address_at_end}
+
+pub data Stage : Type 0 where
+  -- no transfer, or one without a data stage that is over
+  idle : Stage
+  refused : Stage
+  -- a control read: the whole answer, how many bytes the host wants, and how many packets it acknowledged
+  reading : List ℕ → ℕ → ℕ → Stage
+  -- a control read that is over
+  read : Stage
+  -- the status stage of a transfer without a data stage, and the address that is taken at its end
+  ending : Option ℕ → Stage
+
+-- the stage that a request begins; where the host wants no byte, there is no data stage
+abbrev pub first_stage : ℕ → Outcome → Stage
+first_stage wanted stalled = refused
+first_stage wanted (answers bytes) = if wanted == 0 then ending None else reading bytes wanted 0
+first_stage wanted o = ending (address_at_end o)
+
+-- the most data bytes of a packet on endpoint 0 (5.5.3): what the device descriptor says, where the speed allows it
+abbrev pub max_packet : Spec → ℕ
+max_packet s =
+    let m = slice_index s.descriptor 7 in
+    if not s.low && (m == 16 || m == 32 || m == 64) then m else 8
+
+-- how many packets carry so many bytes, of which fewer than wanted end with a packet that is not full
+abbrev pub packet_count : ℕ → ℕ → ℕ → ℕ
+packet_count max wanted len = len / max + (if len % max == 0 && not (nat_lt len wanted) then 0 else 1)
+
+-- the bytes of packet k of an answer, counted from 0
+abbrev pub packet_at : ℕ → ℕ → List ℕ → ℕ → Option (List ℕ)
+packet_at max wanted answer k =
+    let bytes = take wanted answer in
+    if nat_lt k (packet_count max wanted (length bytes)) then Some (take max (drop (k * max) bytes)) else None
+
+-- the data stage begins with DATA1 (8.6.1)
+abbrev pub toggle_at : ℕ → Toggle
+toggle_at k = if k % 2 == 0 then One else Zero

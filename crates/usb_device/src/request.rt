@@ -1,0 +1,137 @@
+//! What a device makes of each request (9.4).
+ghost use Rattle.std.specs.Prelude.{◌≡◌};
+ghost use Rattle.std.specs.List.{list_any};
+ghost use Rattle.usb_device.specs.Spec.{Spec};
+ghost use Rattle.usb_device.specs.Request.{outcome, unless, text_asked, get_descriptor, get_status, set_address, has_value, is_value, set_configuration};
+ghost use Rattle.usb_device.specs.Code.{bytes_of, text_at, meaning_of};
+
+use crate::lists::Bytes;
+use crate::spec::DeviceSpec;
+use usb_request::{Setup, descriptor_type, request_code, request_type};
+
+/// What the host can set in a device.
+#[derive(Clone, Copy, Debug)]
+pub struct Registers {
+    pub address: u8,
+    pub configuration: u8,
+}
+
+/// Where the bytes of an answer are.
+#[derive(Clone, Copy, Debug)]
+pub enum Source {
+    Descriptor,
+    Config(usize),
+    Text(usize),
+    Status,
+    Configuration(u8),
+}
+
+/// What a device does about a request.
+#[derive(Clone, Copy, Debug)]
+pub enum Reaction {
+    Refuse,
+    Answer(Source),
+    TakeAddress(u8),
+    TakeConfiguration(u8),
+}
+
+fn unless(refused: bool, reaction: Reaction) -> Reaction
+    ensures { (s : Spec) → meaning_of s result ≡ unless refused (meaning_of s reaction) }
+{
+    if refused { Reaction::Refuse } else { reaction }
+}
+
+fn get_descriptor(spec: &DeviceSpec, value: u16) -> Reaction
+    ensures { meaning_of spec.now result ≡ get_descriptor spec.now value }
+{
+    let stalls = spec.stalls();
+    let [index, kind] = value.to_le_bytes();
+    let index = usize::from(index);
+    match kind {
+        descriptor_type::DEVICE if index == 0 => {
+            unless(stalls.device, Reaction::Answer(Source::Descriptor))
+        }
+        descriptor_type::CONFIGURATION if index < spec.configs().len() => {
+            unless(stalls.config, Reaction::Answer(Source::Config(index)))
+        }
+        descriptor_type::STRING if index < spec.strings().len() => {
+            unless(stalls.string, Reaction::Answer(Source::Text(index)))
+        }
+        _ => Reaction::Refuse,
+    }
+}
+
+fn get_status(spec: &DeviceSpec, setup: &Setup) -> Reaction
+    ensures { meaning_of spec.now result ≡ get_status spec.now setup.now }
+{
+    if setup.value == 0 && setup.index == 0 {
+        Reaction::Answer(Source::Status)
+    } else {
+        Reaction::Refuse
+    }
+}
+
+fn set_address(setup: &Setup) -> Reaction
+    ensures { (s : Spec) → meaning_of s result ≡ set_address setup.now }
+{
+    if setup.value <= 127 && setup.length == 0 {
+        Reaction::TakeAddress(setup.value as u8)
+    } else {
+        Reaction::Refuse
+    }
+}
+
+fn has_value(text: &[u8], value: u16) -> bool
+    ensures { result ≡ has_value value text.now }
+{
+    text.len() > 5 && u16::from(text[5]) == value
+}
+
+fn is_of_some(configs: &[Bytes<65535>], value: u16) -> bool
+    ensures { result ≡ list_any (has_value value) configs.now }
+{
+    configs.iter().any(|text| has_value(text.as_slice(), value))
+}
+
+fn is_value(configs: &[Bytes<65535>], value: u16) -> bool
+    ensures { result ≡ is_value configs.now value }
+{
+    value < 256 && (value == 0 || is_of_some(configs, value))
+}
+
+fn set_configuration(spec: &DeviceSpec, registers: Registers, setup: &Setup) -> Reaction
+    ensures { meaning_of spec.now result ≡ set_configuration spec.now registers setup.now }
+{
+    if registers.address != 0 && is_value(spec.configs(), setup.value) && setup.length == 0 {
+        Reaction::TakeConfiguration(setup.value as u8)
+    } else {
+        Reaction::Refuse
+    }
+}
+
+/// What a device with these registers does about a request.
+pub fn react(spec: &DeviceSpec, registers: Registers, setup: &Setup) -> Reaction
+    ensures { meaning_of spec.now result ≡ outcome spec.now registers setup.now }
+{
+    let stalls = spec.stalls();
+    match (setup.request_type, setup.request) {
+        (request_type::DEVICE_IN, request_code::GET_DESCRIPTOR) => get_descriptor(
+            spec,
+            setup.value,
+        ),
+        (request_type::DEVICE_IN, request_code::GET_STATUS) => {
+            unless(stalls.status, get_status(spec, setup))
+        }
+        (request_type::DEVICE_IN, request_code::GET_CONFIGURATION) => {
+            Reaction::Answer(Source::Configuration(registers.configuration))
+        }
+        (request_type::DEVICE_OUT, request_code::SET_ADDRESS) => {
+            unless(stalls.address, set_address(setup))
+        }
+        (request_type::DEVICE_OUT, request_code::SET_CONFIGURATION) => unless(
+            stalls.set_config,
+            set_configuration(spec, registers, setup),
+        ),
+        _ => Reaction::Refuse,
+    }
+}

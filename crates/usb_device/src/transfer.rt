@@ -1,0 +1,75 @@
+//! Where a control transfer stands, and the packets of an answer (8.5.3).
+ghost use Rattle.std.specs.Prelude.{◌≡◌, ◌≤◌, ◌<◌, option_map};
+ghost use Rattle.usb_device.specs.Transfer.{packet_count, packet_at, toggle_at};
+
+use crate::request::Source;
+use arrayvec::ArrayVec;
+use usb_packet::Toggle;
+
+/// What the packet before left.
+#[derive(Clone, Copy, Debug)]
+pub enum Memory {
+    Nothing,
+    SetupSeen,
+    OutSeen,
+    AckAwaited,
+}
+
+/// Where a control transfer stands.
+#[derive(Clone, Copy, Debug)]
+pub enum Progress {
+    Idle,
+    Refused,
+    Reading {
+        source: Source,
+        wanted: u16,
+        given: u32,
+    },
+    Read,
+    Ending(Option<u8>),
+}
+
+/// How many packets carry `len` bytes of an answer to a request for `wanted`.
+fn packet_count(max: usize, wanted: usize, len: usize) -> usize
+    requires low { 8 ≤ max }
+    requires high { len < 65536 }
+    ensures { result ≡ packet_count max wanted len }
+{
+    if len % max == 0 && !(len < wanted) {
+        len / max
+    } else {
+        len / max + 1
+    }
+}
+
+/// The bytes of packet `k` of an answer, counted from 0.
+pub fn packet_at(max: usize, wanted: u16, answer: &[u8], k: u32) -> Option<ArrayVec<u8, 64>>
+    requires low { 8 ≤ max }
+    requires high { max ≤ 64 }
+    ensures { option_map (λ v. v.items) result ≡ packet_at max wanted answer.now k }
+{
+    let wanted = usize::from(wanted);
+    let end = answer.len().min(wanted);
+    let k = k as usize;
+    if k < packet_count(max, wanted, end) {
+        let start = k * max;
+        let stop = end.min(start + max);
+        let bytes = &answer[..end];
+        let mut packet = ArrayVec::new();
+        let _ = packet.try_extend_from_slice(&bytes[start..stop]);
+        Some(packet)
+    } else {
+        None
+    }
+}
+
+/// The toggle of packet `k` of an answer.
+pub fn toggle_at(k: u32) -> Toggle
+    ensures { result ≡ toggle_at k }
+{
+    if k % 2 == 0 {
+        Toggle::One
+    } else {
+        Toggle::Zero
+    }
+}

@@ -1,0 +1,123 @@
+-- What root calls leave, for whoever calls them as a hub's port.
+use borrow.Enum.Total.{values_d}
+use Rattle.std.proofs.Common.{◌≡◌, refl, sym, subst, arith, true, false, length-set}
+use Rattle.std.specs.Prelude.{ℕ, ◌+◌, ◌*◌, ◌-◌, ◌≤◌, Bool, List, Ok, bit_and, nat_eq, not, ◌&&◌, if◌then◌else◌}
+use Rattle.usb_port.specs.PortState.{PortState, is_attached, is_low, bit, status_of}
+use Rattle.usb_bus.specs.World.{World, Spends, IsRootPort, SetsRoot, ClearsRoot, change_of, changes, port_at, with_port}
+use Rattle.usb_bus.proofs.Counts.{spends_none, resets_spend, clears_spend, clears_change, changes-set}
+use Rattle.usb_hub.specs.contracts.port.HubPort as hub_port
+use Rattle.usb_hub.specs.declared.port.HubPort.{HubPort}
+use Rattle.usb_hub.specs.declared.port.HubPort.TheVariants.{Root}
+use Rattle.usb_hub.specs.Status.{Shows}
+use Rattle.usb_hub.specs.Port.{IsPort, port_bound, Quiet, RootSet, RootCleared, PortRead, PortSet, PortCleared}
+
+low_of_two : (a b : Bool) → not (nat_eq (bit_and (bit a + 2 * bit b) 1) 0) ≡ a
+low_of_two true true = refl
+low_of_two true false = refl
+low_of_two false true = refl
+low_of_two false false = refl
+
+high_of_two : (a b : Bool) → not (nat_eq (bit_and (bit a + 2 * bit b) 2) 0) ≡ b
+high_of_two true true = refl
+high_of_two true false = refl
+high_of_two false true = refl
+high_of_two false false = refl
+
+record ThreeBits (a b c : Bool) : Type 0 where
+  first : not (nat_eq (bit_and (bit a + 2 * bit b + 16 * bit c) 1) 0) ≡ a
+  second : not (nat_eq (bit_and (bit a + 2 * bit b + 16 * bit c) 2) 0) ≡ b
+  third : not (nat_eq (bit_and (bit a + 2 * bit b + 16 * bit c) 16) 0) ≡ c
+
+three_bits : (a b c : Bool) → ThreeBits a b c
+three_bits true true true = record { first = refl; second = refl; third = refl }
+three_bits true true false = record { first = refl; second = refl; third = refl }
+three_bits true false true = record { first = refl; second = refl; third = refl }
+three_bits true false false = record { first = refl; second = refl; third = refl }
+three_bits false true true = record { first = refl; second = refl; third = refl }
+three_bits false true false = record { first = refl; second = refl; third = refl }
+three_bits false false true = record { first = refl; second = refl; third = refl }
+three_bits false false false = record { first = refl; second = refl; third = refl }
+
+-- a port's status shows its bits
+pub shows : (p : PortState) → Shows p (status_of p)
+shows p =
+    let changed = three_bits p.connection_changed p.enable_changed p.reset_changed in
+    record {
+      connected = low_of_two (p.power && is_attached p.attached) p.enable;
+      enabled = high_of_two (p.power && is_attached p.attached) p.enable;
+      low = high_of_two p.power (p.power && is_low p.attached);
+      connection = changed.first;
+      enable = changed.second;
+      reset = changed.third;
+    }
+
+quiet : (number : ℕ) (p : PortState) (w : World) → Quiet w (with_port number p w)
+quiet number p w = record {
+  attempts = refl;
+  limit = refl;
+  taken = refl;
+  left = refl;
+  fault = refl;
+  roots = length-set w.ports (number - 1) p;
+}
+
+one_most : (b : Bool) → (if b then 1 else 0) ≤ 1
+one_most true = omega arith
+one_most false = omega arith
+
+change_of_most : (p : PortState) → change_of p ≤ 1
+unfolding change_of
+change_of_most p = one_most p.connection_changed
+
+changes-write : (number : ℕ) (p : PortState) (w : World) → IsRootPort w number → changes (with_port number p w).ports ≤ changes w.ports + 1
+changes-write number p w is = omega (arith, changes-set w.ports (number - 1) p (omega (arith, is.0, is.1)), change_of_most p)
+
+pub root_set : {A : Type 0} (number feature : ℕ) (old new : World) (a : A) → IsRootPort old number → SetsRoot number feature old new → RootSet number feature old (Ok a) new
+root_set number feature old new a is row = record {
+  done = refl;
+  row = row;
+  quiet = subst (λ w. Quiet old w) (sym row.row) (quiet number _ old);
+  resets = λ e. resets_spend number old new is (subst (λ f. SetsRoot number f old new) e row);
+  powers = subst (λ w. changes w.ports ≤ changes old.ports + 1) (sym row.row) (changes-write number _ old is);
+}
+
+pub root_cleared : {A : Type 0} (number feature : ℕ) (old new : World) (a : A) → IsRootPort old number → ClearsRoot number feature old new → RootCleared number feature old (Ok a) new
+root_cleared number feature old new a is row = record {
+  done = refl;
+  row = row;
+  quiet = subst (λ w. Quiet old w) (sym row.row) (quiet number _ old);
+  count = clears_spend number feature old new is row;
+  served = λ e set. clears_change number old new is set (subst (λ f. ClearsRoot number f old new) e row);
+}
+
+-- a port's number, as `match` reads it
+pub is_root : (port : HubPort) → port ≡ Root (values_d hub_port.enum 0 (0, tt) port).0
+is_root (Root number) = refl
+
+pub port_read : (port : HubPort) (number : ℕ) (w : World) (bytes : List ℕ) → port ≡ Root number → bytes ≡ status_of (port_at w number) → PortRead port w (Ok bytes) w
+port_read (Root n) number w bytes is e =
+    let same : n ≡ number = cc is in
+    rw same (record { status = rw e refl; shows = shows (port_at w number); same = refl })
+
+pub port_set : {A : Type 0} (port : HubPort) (number feature : ℕ) (old new : World) (a : A) → port ≡ Root number → IsPort old port → SetsRoot number feature old new → PortSet port feature old (Ok a) new
+port_set (Root n) number feature old new a is here row =
+    let same : number ≡ n = cc is in
+    root_set n feature old new a here (rw same at row)
+
+pub port_cleared : {A : Type 0} (port : HubPort) (number feature : ℕ) (old new : World) (a : A) → port ≡ Root number → IsPort old port → ClearsRoot number feature old new → PortCleared port feature old (Ok a) new
+port_cleared (Root n) number feature old new a is here row =
+    let same : number ≡ n = cc is in
+    root_cleared n feature old new a here (rw same at row)
+
+pub read_count : (port : HubPort) (w : World) → Spends (port_bound port) w w
+read_count (Root n) w = spends_none w
+
+pub set_count : {A : Type 0} (port : HubPort) (feature : ℕ) (old new : World) (a : A) → PortSet port feature old (Ok a) new → feature ≡ 4 → Spends (port_bound port) old new
+set_count (Root n) feature old new a set e = set.resets e
+
+pub cleared_count : {A : Type 0} (port : HubPort) (feature : ℕ) (old new : World) (a : A) → PortCleared port feature old (Ok a) new → Spends (port_bound port) old new
+cleared_count (Root n) feature old new a cleared = cleared.count
+
+-- a port stays one while the bus has as many root ports
+pub port_stays : (n : ℕ) (port : HubPort) (old new : World) → Spends n old new → IsPort old port → IsPort new port
+port_stays n (Root number) old new s is = (is.0, omega (arith, is.1, s.roots))

@@ -1,0 +1,73 @@
+//! The ports of hubs, the root's among them.
+ghost use Rattle.std.specs.Prelude.{◌≡◌, IfErr};
+ghost use Rattle.usb_bus.specs.World.{Spends, IsSetFeature, IsClearFeature};
+ghost use Rattle.usb_pipe.specs.Control.{Faults};
+ghost use Rattle.usb_hub.specs.Port.{IsPort, PortRead, PortSet, PortCleared, port_bound};
+
+use crate::{PipeFault, PortStatus};
+use std::alloc::Global;
+use usb_pipe::Bus;
+
+/// A port that devices are attached to.
+#[derive(Clone, Copy, Debug, PartialEq, Eq)]
+pub enum HubPort {
+    /// A port of the root, by its number from 1. It is a register of the bus, and never fails.
+    Root(u8),
+}
+
+/// The status of a port (11.24.2.7). `alloc` is for the answer of a hub: a root port needs none.
+///
+/// # Errors
+///
+/// None at a root port.
+pub fn port_status<B: Bus>(
+    alloc: Global,
+    bus: &mut B,
+    port: HubPort,
+) -> Result<PortStatus, PipeFault>
+    requires { IsPort (B.world bus.old) port }
+    ensures count { Spends (port_bound port) (B.world bus.old) (B.world bus.new) }
+    ensures fault { IfErr result (λ fault. Faults 1 (B.world bus.old) fault (B.world bus.new)) }
+    ensures status { PortRead port (B.world bus.old) result (B.world bus.new) }
+{
+    match port {
+        HubPort::Root(number) => Ok(PortStatus::new(bus.root_status(number))),
+    }
+}
+
+/// Sets a feature of a port (11.24.2.13): PORT_RESET or PORT_POWER.
+///
+/// # Errors
+///
+/// None at a root port.
+pub fn set_port<B: Bus>(bus: &mut B, port: HubPort, feature: u16) -> Result<(), PipeFault>
+    requires port { IsPort (B.world bus.old) port }
+    requires named { IsSetFeature feature }
+    // PORT_POWER of a root port may set its C_PORT_CONNECTION.
+    ensures count { feature ≡ 4 → Spends (port_bound port) (B.world bus.old) (B.world bus.new) }
+    ensures fault { IfErr result (λ fault. Faults 1 (B.world bus.old) fault (B.world bus.new)) }
+    ensures effect { PortSet port feature (B.world bus.old) result (B.world bus.new) }
+{
+    match port {
+        HubPort::Root(number) => bus.root_set(number, feature),
+    }
+    Ok(())
+}
+
+/// Clears a feature of a port (11.24.2.2): PORT_ENABLE, PORT_POWER or a change bit.
+///
+/// # Errors
+///
+/// None at a root port.
+pub fn clear_port<B: Bus>(bus: &mut B, port: HubPort, feature: u16) -> Result<(), PipeFault>
+    requires port { IsPort (B.world bus.old) port }
+    requires named { IsClearFeature feature }
+    ensures count { Spends (port_bound port) (B.world bus.old) (B.world bus.new) }
+    ensures fault { IfErr result (λ fault. Faults 1 (B.world bus.old) fault (B.world bus.new)) }
+    ensures effect { PortCleared port feature (B.world bus.old) result (B.world bus.new) }
+{
+    match port {
+        HubPort::Root(number) => bus.root_clear(number, feature),
+    }
+    Ok(())
+}

@@ -1,0 +1,119 @@
+//! The standard's requests to a device (9.4).
+ghost use Rattle.std.specs.Prelude.{◌≡◌, ◌≢◌, ◌≤◌, vec_len, Err, IfOk, OnOk, MatchResult};
+ghost use Rattle.usb_bus.specs.World.{Spends};
+ghost use Rattle.usb_request.specs.Requests.{get_device_descriptor, get_configuration_descriptor, get_string_descriptor, set_address as address_request, set_configuration as configuration_request};
+ghost use Rattle.usb_transaction.specs.Trans.{IsTarget, Worked};
+ghost use Rattle.usb_pipe.specs.Control.{Faults, ControlRead, ControlDone, control_bound};
+
+use std::alloc::Global;
+use usb_pipe::{Bus, PipeFault, Setup, Target, control_in, control_none};
+
+/// The first `length` bytes, or all, of the device descriptor (9.4.3); `length` is not 0.
+///
+/// # Errors
+///
+/// Those of `control_in`.
+pub fn get_device<B: Bus>(
+    alloc: Global,
+    bus: &mut B,
+    target: Target,
+    length: u16,
+) -> Result<Vec<u8>, PipeFault>
+    requires target { IsTarget target }
+    requires some { 1 ≤ length }
+    ensures count { Spends (control_bound target.max length) (B.world bus.old) (B.world bus.new) }
+    ensures ends { MatchResult result (λ _. Worked 3 (B.world bus.old) (B.world bus.new)) (λ fault. Faults 1 (B.world bus.old) fault (B.world bus.new)) }
+    ensures done { OnOk result (ControlRead target (get_device_descriptor length) (B.world bus.old) (B.world bus.new)) }
+    ensures most { IfOk result (λ bytes. vec_len bytes ≤ length) }
+{
+    control_in(alloc, bus, target, Setup::get_device_descriptor(length))
+}
+
+/// The first `length` bytes, or all, of a configuration's text, by its index from 0 (9.4.3);
+/// `length` is not 0.
+///
+/// # Errors
+///
+/// Those of `control_in`.
+pub fn get_config<B: Bus>(
+    alloc: Global,
+    bus: &mut B,
+    target: Target,
+    index: u8,
+    length: u16,
+) -> Result<Vec<u8>, PipeFault>
+    requires target { IsTarget target }
+    requires some { 1 ≤ length }
+    ensures count { Spends (control_bound target.max length) (B.world bus.old) (B.world bus.new) }
+    ensures ends { MatchResult result (λ _. Worked 3 (B.world bus.old) (B.world bus.new)) (λ fault. Faults 1 (B.world bus.old) fault (B.world bus.new)) }
+    ensures done { OnOk result (ControlRead target (get_configuration_descriptor index length) (B.world bus.old) (B.world bus.new)) }
+    ensures most { IfOk result (λ bytes. vec_len bytes ≤ length) }
+{
+    control_in(
+        alloc,
+        bus,
+        target,
+        Setup::get_configuration_descriptor(index, length),
+    )
+}
+
+/// A string descriptor, at most 255 bytes, by its index and its language (9.4.3). String 0 holds
+/// the languages.
+///
+/// # Errors
+///
+/// Those of `control_in`.
+pub fn get_string<B: Bus>(
+    alloc: Global,
+    bus: &mut B,
+    target: Target,
+    index: u8,
+    language: u16,
+) -> Result<Vec<u8>, PipeFault>
+    requires target { IsTarget target }
+    ensures count { Spends (control_bound target.max 255) (B.world bus.old) (B.world bus.new) }
+    ensures ends { MatchResult result (λ _. Worked 3 (B.world bus.old) (B.world bus.new)) (λ fault. Faults 1 (B.world bus.old) fault (B.world bus.new)) }
+    ensures done { OnOk result (ControlRead target (get_string_descriptor index language) (B.world bus.old) (B.world bus.new)) }
+    ensures most { IfOk result (λ bytes. vec_len bytes ≤ 255) }
+{
+    control_in(
+        alloc,
+        bus,
+        target,
+        Setup::get_string_descriptor(index, language),
+    )
+}
+
+/// Gives the device at `target` an address, 1 to 127 (9.4.6). It has it from the end of the status
+/// stage on.
+///
+/// # Errors
+///
+/// Those of `control_none`; after `Busy` and `NoAnswer` the device may have the address.
+pub fn set_address<B: Bus>(bus: &mut B, target: Target, address: u8) -> Result<(), PipeFault>
+    requires target { IsTarget target }
+    requires least { 1 ≤ address }
+    requires most { address ≤ 127 }
+    ensures count { Spends 1600 (B.world bus.old) (B.world bus.new) }
+    ensures ends { MatchResult result (λ _. Worked 2 (B.world bus.old) (B.world bus.new)) (λ fault. Faults 1 (B.world bus.old) fault (B.world bus.new)) }
+    ensures room { result ≢ Err PipeFault.Memory }
+    ensures done { OnOk result (ControlDone target (address_request address) (B.world bus.old) (B.world bus.new)) }
+{
+    control_none(bus, target, Setup::set_address(address))
+}
+
+/// Configures the device with the configuration whose bConfigurationValue this is; 0 unconfigures
+/// it (9.4.7).
+///
+/// # Errors
+///
+/// Those of `control_none`; after `Busy` and `NoAnswer` the device may be configured.
+pub fn set_configuration<B: Bus>(bus: &mut B, target: Target, value: u8) -> Result<(), PipeFault>
+    requires target { IsTarget target }
+    ensures count { Spends 1600 (B.world bus.old) (B.world bus.new) }
+    ensures ends { MatchResult result (λ _. Worked 2 (B.world bus.old) (B.world bus.new)) (λ fault. Faults 1 (B.world bus.old) fault (B.world bus.new)) }
+    ensures room { result ≢ Err PipeFault.Memory }
+    ensures done { OnOk result (ControlDone target (configuration_request value) (B.world bus.old) (B.world bus.new)) }
+{
+    control_none(bus, target, Setup::set_configuration(value))
+}

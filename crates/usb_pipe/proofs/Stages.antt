@@ -1,0 +1,47 @@
+-- How the stages of a transfer join.
+use Rattle.std.proofs.Common.{◌≡◌, refl, arith, true, false, Bool}
+use Rattle.std.specs.Prelude.{ℕ, ◌+◌, ◌*◌, ◌-◌, ◌≤◌, ◌<◌, List, ◌++◌, take, length, None, nat_lt, nat_le, ◌||◌}
+use Rattle.std.proofs.lemmas.List.{length-take, length-append}
+use Rattle.std.proofs.lemmas.Bool.{ltb-false, leb-false}
+use Rattle.usb_bus.specs.declared.types.Attempt.{Attempt}
+use Rattle.usb_bus.specs.declared.types.Outcome.{Outcome}
+use Rattle.usb_bus.specs.World.{World, Spends}
+use Rattle.usb_bus.proofs.Counts.{spends_then, spends_wider}
+use Rattle.usb_transaction.specs.Trans.{Worked, EndsWith}
+use Rattle.usb_pipe.specs.Control.{byte_bound, is_last}
+use Rattle.usb_pipe.proofs.Bounds.{full_packet}
+
+pub ends_later : {a : Attempt} {o : Outcome} {old mid new : World} → old.attempts ≤ mid.attempts → EndsWith a o mid new → EndsWith a o old new
+ends_later le e = record { before = e.before; later = omega (arith, le, e.later); attempted = e.attempted }
+
+-- so far a data stage has brought this many bytes
+pub record Staged (max got : ℕ) (old now : World) : Type 0 where
+  pub spends : Spends (byte_bound max * got) old now
+  pub sound : now.fault ≡ None → old.fault ≡ None
+
+-- one full packet more
+pub staged_more : (max m n : ℕ) (old mid new : World) → 1 ≤ max → m + max ≤ n → Staged max m old mid → Spends 768 mid new → Worked 1 mid new → Staged max n old new
+staged_more max m n old mid new some le s next w = record {
+  spends = spends_wider (byte_bound max * m + 768) (byte_bound max * n) old new (spends_then (byte_bound max * m) 768 old mid new s.spends next) (full_packet max m n some le);
+  sound = λ _. s.sound w.sound;
+}
+
+-- a full packet that leaves more wanted is kept whole
+pub kept_full : (wanted max : ℕ) (got packet : List ℕ) → max ≤ length packet → length (got ++ take (wanted - length got) packet) < wanted → length got + max ≤ length (got ++ take (wanted - length got) packet)
+kept_full wanted max got packet full fits =
+    let l = length-append got (take (wanted - length got) packet) in
+    let t = length-take (wanted - length got) packet in
+    omega (arith, l, t)
+
+pub record GoesOn (size max got wanted : ℕ) : Type 0 where
+  pub full : max ≤ size
+  pub more : got < wanted
+
+goes_on_by : (size max got wanted : ℕ) (a b : Bool) → nat_lt size max ≡ a → nat_le wanted got ≡ b → a || b ≡ false → GoesOn size max got wanted
+goes_on_by size max got wanted false false full more e = record { full = ltb-false size max full; more = leb-false wanted got more }
+goes_on_by size max got wanted true b full more e = cc
+goes_on_by size max got wanted false true full more e = cc
+
+-- a packet that does not end a data stage
+pub goes_on : (size max got wanted : ℕ) → is_last size max got wanted ≡ false → GoesOn size max got wanted
+goes_on size max got wanted e = goes_on_by size max got wanted (nat_lt size max) (nat_le wanted got) refl refl e

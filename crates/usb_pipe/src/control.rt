@@ -1,0 +1,69 @@
+//! Control transfers (8.5.3).
+ghost use Rattle.std.specs.Prelude.{◌≡◌, ◌≤◌, Err, ◌≢◌, length, IfOk, OnOk, MatchResult};
+ghost use Rattle.usb_bus.specs.World.{Spends};
+ghost use Rattle.usb_request.specs.Layout.{IsToHost, IsToDevice};
+ghost use Rattle.usb_transaction.specs.Trans.{IsTarget, Worked};
+ghost use Rattle.usb_pipe.specs.Control.{Faults, ControlRead, ControlDone, control_bound};
+
+use crate::PipeFault;
+use crate::stage::data_stage;
+use std::alloc::Global;
+use usb_packet::Toggle;
+use usb_request::Setup;
+use usb_transaction::{Bus, Target, data_in, data_out, setup as send_setup};
+
+/// Reads from endpoint 0: a SETUP, a data stage, and an OUT of no bytes with DATA1.
+///
+/// The request is one whose data go to the host, with a length from 1. The answer holds the bytes
+/// that came, at most that length: the data stage ends there or at a packet shorter than the
+/// target's maximum, and what came past the length is dropped.
+///
+/// # Errors
+///
+/// `Stalled`, `Busy` and `NoAnswer` where a transaction ended so, `Memory` where the answer's
+/// bytes find no room, `Bus` where the bus makes no more steps. It never answers `Broken`.
+#[tactic(auto, unfolding(crate::specs::Control::control_bound))]
+pub fn control_in<B: Bus>(
+    alloc: Global,
+    bus: &mut B,
+    target: Target,
+    setup: Setup,
+) -> Result<Vec<u8>, PipeFault>
+    requires target { IsTarget target }
+    requires reads { IsToHost setup }
+    requires some { 1 ≤ setup.length }
+    ensures count { Spends (control_bound target.max setup.length) (B.world bus.old) (B.world bus.new) }
+    ensures ends { MatchResult result (λ _. Worked 3 (B.world bus.old) (B.world bus.new)) (λ fault. Faults 1 (B.world bus.old) fault (B.world bus.new)) }
+    ensures done { OnOk result (ControlRead target setup (B.world bus.old) (B.world bus.new)) }
+    ensures most { IfOk result (λ bytes. length bytes.items ≤ setup.length) }
+{
+    send_setup(bus, target, setup.to_bytes())?;
+    let bytes = data_stage(alloc, bus, target, setup.length)?;
+    let mut toggle = Toggle::One;
+    data_out(bus, target, 0, &mut toggle, &[])?;
+    Ok(bytes)
+}
+
+/// Asks endpoint 0 for something that has no data: a SETUP, and an IN that is answered by DATA1.
+///
+/// The request is one whose data would go to the device, and its length is 0.
+///
+/// # Errors
+///
+/// `Stalled`, `Busy` and `NoAnswer` where a transaction ended so, `Bus` where the bus makes no more
+/// steps. It never answers `Broken` or `Memory`. After `Busy` and `NoAnswer` the device may have
+/// done what was asked.
+pub fn control_none<B: Bus>(bus: &mut B, target: Target, setup: Setup) -> Result<(), PipeFault>
+    requires target { IsTarget target }
+    requires writes { IsToDevice setup }
+    requires none { setup.length ≡ 0 }
+    ensures count { Spends 1600 (B.world bus.old) (B.world bus.new) }
+    ensures ends { MatchResult result (λ _. Worked 2 (B.world bus.old) (B.world bus.new)) (λ fault. Faults 1 (B.world bus.old) fault (B.world bus.new)) }
+    ensures room { result ≢ Err PipeFault.Memory }
+    ensures done { OnOk result (ControlDone target setup (B.world bus.old) (B.world bus.new)) }
+{
+    send_setup(bus, target, setup.to_bytes())?;
+    let mut toggle = Toggle::One;
+    data_in(bus, target, 0, &mut toggle)?;
+    Ok(())
+}

@@ -1,0 +1,42 @@
+-- How many attempts are enough for a plan.
+use Rattle.std.specs.Prelude.{ℕ, ◌+◌, ◌*◌, List, [], ◌∷◌, length, take, Option, Some, None, Result, Ok, Err, slice_get, max}
+use Rattle.std.specs.List.{sum_by}
+use Rattle.usb_descriptor.specs.declared.fault.DescriptorFault.{DescriptorFault}
+use Rattle.usb_descriptor.specs.Config.{config_head_of}
+use Rattle.usb_bus.specs.declared.event.Action.{Action}
+use Rattle.usb_bus.specs.declared.event.Action.TheVariants.{Plug}
+use Rattle.usb_bus.specs.declared.event.Event.{Event}
+use Rattle.usb_device.specs.Spec.{Spec}
+use Rattle.usb_bus.specs.PlanData.{PlanData}
+
+abbrev pub total_in : Result ℕ DescriptorFault → ℕ
+total_in (Ok total) = total
+total_in (Err e) = 0
+
+-- wTotalLength of a text whose first 9 bytes are a configuration's head, else 0
+unfoldable pub total_of : List ℕ → ℕ
+total_of text = total_in (config_head_of (take 9 text))
+
+-- the sum over a device's texts
+unfoldable pub all_totals : Spec → ℕ
+all_totals device = sum_by total_of device.configs
+
+abbrev pub total_at : Option Spec → ℕ
+total_at (Some device) = all_totals device
+total_at None = 0
+
+abbrev pub total_after : List Spec → Action → ℕ
+total_after devices (Plug path device) = total_at (slice_get devices device)
+
+-- the sum over the texts of the device that an event plugs
+unfoldable pub plugged_total : List Spec → Event → ℕ
+plugged_total devices event = total_after devices event.action
+
+-- the greatest of these, 0 with no event
+unfoldable pub greatest_total : List Spec → List Event → ℕ
+greatest_total devices [] = 0
+greatest_total devices (e ∷ events) = max (plugged_total devices e) (greatest_total devices events)
+
+-- V * (30000 + 10 * W) enumerations' worth of attempts, 200 for each, and 50000 for each pair of events
+unfoldable pub bound_of : PlanData → ℕ
+bound_of p = 200 * length p.events * (30000 + 10 * greatest_total p.devices p.events) + 50000 * length p.events * length p.events + 2

@@ -1,0 +1,16 @@
+-- The keys of a table.
+use Rattle.std.specs.Prelude.{ℕ, List, Bool, true, ◌&&◌, Result, Ok, Err, if◌then◌else◌}
+use Rattle.std.specs.List.{list_any}
+use Rattle.std.specs.Str.{bytes_eq}
+use Rattle.toml.specs.Data.{Members, no_members, member}
+use Rattle.usb_plan.specs.declared.kind.Kind.{Kind}
+use Rattle.usb_plan.specs.declared.kind.Kind.TheVariants.{BadValue}
+
+-- each key is one of the names
+unfoldable pub only_named : List (List ℕ) → Members → Bool
+only_named names no_members = true
+only_named names (member k d ms) = list_any (bytes_eq k) names && only_named names ms
+
+-- no key but these
+unfoldable pub keys_at : List (List ℕ) → Members → Result (Unit {0}) Kind
+keys_at names ms = if only_named names ms then Ok tt else Err BadValue

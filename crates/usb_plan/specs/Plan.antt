@@ -1,0 +1,83 @@
+-- The plan that a text spells, or its first fault.
+use Rattle.std.specs.Prelude.{◌≤◌, ℕ, codes, List, [], ◌∷◌, Bool, Option, Some, None, Result, Ok, Err, if◌then◌else◌, is_some}
+use Rattle.std.specs.List.{list_all}
+use Rattle.toml.specs.Data.{Data, Items, Members, get_member, as_array, as_table}
+use Rattle.toml.specs.Parse.{parse_document}
+use Rattle.usb_plan.specs.declared.kind.Kind.{Kind}
+use Rattle.usb_plan.specs.declared.kind.Kind.TheVariants.{BadValue}
+use Rattle.usb_plan.specs.declared.fault.Place.TheVariants.{Top}
+use Rattle.usb_plan.specs.declared.fault.PlanFault.{PlanFault}
+use Rattle.usb_plan.specs.declared.fault.PlanFault.TheVariants as fault
+use Rattle.usb_plan.specs.Kind.{both, placed, ◌>>=◌}
+use Rattle.usb_plan.specs.Keys.{keys_at}
+use Rattle.usb_plan.specs.Value.{number_at, data_list}
+use Rattle.usb_plan.specs.Device.{devices_from}
+use Rattle.usb_plan.specs.Event.{events_from}
+use Rattle.usb_bus.specs.PlanData.{PlanData}
+
+-- the key `limit`
+unfoldable pub limit_at : Option Data → Result ℕ Kind
+limit_at d = number_at 0 100000000000000 d
+
+-- the key `roots`
+unfoldable pub roots_at : Option Data → Result ℕ Kind
+roots_at d = number_at 1 7 d
+
+abbrev pub is_table : Data → Bool
+is_table d = is_some (as_table d)
+
+unfoldable pub entries_in : Option Items → Result (Unit {0}) Kind
+entries_in None = Err BadValue
+entries_in (Some items) = if list_all is_table (data_list items) then Ok tt else Err BadValue
+
+-- the key `device` or `event`: an array of tables, which may be absent
+unfoldable pub entries_at : Option Data → Result (Unit {0}) Kind
+entries_at None = Ok tt
+entries_at (Some d) = entries_in (as_array d)
+
+abbrev pub values_in : Option Items → List Data
+values_in None = []
+values_in (Some items) = data_list items
+
+-- the values of an array, none where it is absent
+unfoldable pub values_at : Option Data → List Data
+values_at None = []
+values_at (Some d) = values_in (as_array d)
+
+abbrev pub top_keys : List (List ℕ)
+top_keys = codes "limit" ∷ codes "roots" ∷ codes "device" ∷ codes "event" ∷ []
+
+abbrev pub TopParts : Type 0
+TopParts = ℕ × (ℕ × (Unit {0} × (Unit {0} × Unit {0})))
+
+unfoldable pub top_of : Members → Result TopParts Kind
+top_of ms =
+    both (limit_at (get_member (codes "limit") ms))
+    (both (roots_at (get_member (codes "roots") ms))
+    (both (entries_at (get_member (codes "device") ms))
+    (both (entries_at (get_member (codes "event") ms)) (keys_at top_keys ms))))
+
+-- the numbers at the top
+pub record TopFits (l r : ℕ) : Type 0 where
+  pub limit : l ≤ 100000000000000
+  pub some_root : 1 ≤ r
+  pub few_roots : r ≤ 7
+
+-- devices come before events
+unfoldable pub plan_with : ℕ → ℕ → List Data → List Data → Result PlanData PlanFault
+plan_with limit roots devices events = do
+  specs ← devices_from 1 [] devices
+  done ← events_from roots specs 1 [] events
+  Ok (record { limit = limit; roots = roots; devices = specs; events = done })
+
+-- the plan that a table describes: top, devices, events
+unfoldable pub plan_of : Members → Result PlanData PlanFault
+plan_of ms = placed Top (top_of ms) >>= λ top. plan_with top.0 top.1.0 (values_at (get_member (codes "device") ms)) (values_at (get_member (codes "event") ms))
+
+unfoldable pub read : Option Members → Result PlanData PlanFault
+read None = Err fault.Syntax
+read (Some ms) = plan_of ms
+
+-- the plan that a text spells
+unfoldable pub spelled_plan : List ℕ → Result PlanData PlanFault
+spelled_plan text = read (parse_document text)

@@ -1,0 +1,54 @@
+//! Why a text is no plan.
+
+use std::fmt;
+use thiserror::Error;
+
+/// The entry of a plan's text where a fault stands.
+#[derive(Clone, Copy, Debug, PartialEq, Eq)]
+pub enum Place {
+    /// The keys at the top.
+    Top,
+    /// A `device` entry, counted from 1.
+    Device(usize),
+    /// An `event` entry, counted from 1.
+    Event(usize),
+}
+
+impl fmt::Display for Place {
+    fn fmt<W: fmt::Write>(&self, f: &mut fmt::Formatter<W>) -> fmt::Result {
+        match self {
+            Place::Top => write!(f, "top"),
+            Place::Device(number) => write!(f, "device {number}"),
+            Place::Event(number) => write!(f, "event {number}"),
+        }
+    }
+}
+
+/// Why a text is no plan. Of the faults in one entry the first in this order is told.
+#[derive(Clone, Copy, Debug, PartialEq, Eq, Error)]
+pub enum PlanFault {
+    /// The text is no TOML document, or has a number of more than 64 bits.
+    #[error("plan: syntax")]
+    Syntax,
+    /// The entry lacks a key that it needs.
+    #[error("plan: {0}: missing key")]
+    MissingKey(Place),
+    /// A key has no meaning there, a value is of a wrong kind or out of range, or an entry is one too many.
+    #[error("plan: {0}: bad value")]
+    BadValue(Place),
+    /// A text is not hexadecimal digits, two for each byte.
+    #[error("plan: {0}: bad hex")]
+    BadHex(Place),
+    /// An event names a device that no `device` entry has.
+    #[error("plan: {0}: unknown device")]
+    UnknownDevice(Place),
+    /// A text is no path of ports, or no such port is there.
+    #[error("plan: {0}: bad path")]
+    BadPath(Place),
+    /// Something is plugged at the path already.
+    #[error("plan: {0}: port taken")]
+    PortTaken(Place),
+    /// Memory was refused.
+    #[error("out of memory")]
+    Memory,
+}

@@ -1,0 +1,42 @@
+//! The keys of a table.
+
+ghost use Rattle.std.specs.Prelude.{◌≡◌, map, string_bytes};
+ghost use Rattle.std.specs.List.{list_any, list_all};
+ghost use Rattle.std.specs.Str.{bytes_eq};
+ghost use Rattle.std.specs.BTreeMap.{keys};
+ghost use Rattle.toml.specs.View.{table_view};
+ghost use Rattle.usb_plan.specs.Keys.{only_named, keys_at};
+
+use crate::kind::Kind;
+use toml::Table;
+
+fn is_one_of(key: &str, names: &[&str]) -> bool
+    ensures { result ≡ list_any (λ n. bytes_eq key.now n.now) names.now }
+{
+    names.iter().any(|name| key == *name)
+}
+
+fn all_named(table: &Table, names: &[&str]) -> bool
+    ensures { result ≡ list_all (λ k. list_any (λ n. bytes_eq (string_bytes k) n.now) names.now) (keys table.now) }
+{
+    table.keys().all(|key| is_one_of(key.as_str(), names))
+}
+
+/// Whether each key of the table is one of the names.
+fn only_named(table: &Table, names: &[&str]) -> bool
+    ensures { result ≡ only_named (map (λ n. n.now) names.now) (table_view table.now) }
+{
+    all_named(table, names)
+}
+
+/// Refuses a table with any other key.
+#[tactic(auto, unfolding(crate::specs::Keys::keys_at))]
+pub(crate) fn keys_at(table: &Table, names: &[&str]) -> Result<(), Kind>
+    ensures { result ≡ keys_at (map (λ n. n.now) names.now) (table_view table.now) }
+{
+    if only_named(table, names) {
+        Ok(())
+    } else {
+        Err(Kind::BadValue)
+    }
+}

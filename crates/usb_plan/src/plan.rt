@@ -1,0 +1,171 @@
+//! The reader of a whole plan.
+
+ghost use Rattle.std.specs.Prelude.{◌≡◌, ◌≢◌, ◌≤◌, codes, Ok, Err, IfOk, IfErr, option_map, map, length};
+ghost use Rattle.std.specs.List.{list_all};
+ghost use Rattle.toml.specs.Data.{get_member};
+ghost use Rattle.toml.specs.View.{view, table_view, array_view};
+ghost use Rattle.usb_plan.specs.declared.fault.PlanFault.TheVariants.{Memory};
+ghost use Rattle.usb_plan.specs.Plan.{limit_at, roots_at, is_table, entries_in, entries_at, values_at, top_of, plan_with, plan_of, spelled_plan, TopFits};
+
+use crate::device::devices_of;
+use crate::event::events_of;
+use crate::fault::{Place, PlanFault};
+use crate::keys::keys_at;
+use crate::kind::{Kind, both, placed};
+use crate::value::{number_at, value_at};
+use std::alloc::{AllocError, Global};
+use toml::value::Array;
+use toml::{Table, Value};
+use usb_bus::Plan;
+
+/// The key `limit`.
+#[tactic(auto, unfolding(crate::specs::Plan::limit_at))]
+fn limit_at(value: Option<&Value>) -> Result<u64, Kind>
+    ensures { result ≡ limit_at (option_map (λ v. view v.now) value.entry) }
+{
+    number_at(0, 100_000_000_000_000, value)
+}
+
+/// The key `roots`: how many root ports there are.
+#[tactic(auto, unfolding(crate::specs::Plan::roots_at))]
+fn roots_at(value: Option<&Value>) -> Result<u8, Kind>
+    ensures { result ≡ roots_at (option_map (λ v. view v.now) value.entry) }
+{
+    match number_at(1, 7, value) {
+        Ok(roots) => Ok(roots as u8),
+        Err(kind) => Err(kind),
+    }
+}
+
+fn is_table(value: &Value) -> bool
+    ensures { result ≡ is_table (view value.now) }
+{
+    value.as_table().is_some()
+}
+
+fn are_tables(values: &[Value]) -> bool
+    ensures { result ≡ list_all (λ v. is_table (view v)) values.now }
+{
+    values.iter().all(|value| is_table(value))
+}
+
+#[tactic(auto, using(crate::proofs::Steps::are_tables_view), unfolding(crate::specs::Plan::entries_in))]
+fn entries_in(values: Option<&Array>) -> Result<(), Kind>
+    ensures { result ≡ entries_in (option_map (λ v. array_view v.now) values.entry) }
+{
+    match values {
+        None => Err(Kind::BadValue),
+        Some(values) => {
+            if are_tables(values.as_slice()) {
+                Ok(())
+            } else {
+                Err(Kind::BadValue)
+            }
+        }
+    }
+}
+
+/// The key `device` or `event`: an array of tables, which may be absent.
+#[tactic(auto, unfolding(crate::specs::Plan::entries_at))]
+fn entries_at(value: Option<&Value>) -> Result<(), Kind>
+    ensures { result ≡ entries_at (option_map (λ v. view v.now) value.entry) }
+{
+    match value {
+        None => Ok(()),
+        Some(value) => entries_in(value.as_array()),
+    }
+}
+
+/// The values of an array, none where it is absent.
+#[tactic(auto, using(crate::proofs::Steps::data_list_view), unfolding(crate::specs::Plan::values_at))]
+fn values_at<'a>(value: Option<&'a Value>) -> &'a [Value]
+    ensures { map view result.now ≡ values_at (option_map (λ v. view v.now) value.entry) }
+{
+    match value {
+        None => &[],
+        Some(value) => match value.as_array() {
+            None => &[],
+            Some(values) => values.as_slice(),
+        },
+    }
+}
+
+type Top = (u64, (u8, ((), ((), ()))));
+
+/// The numbers at the top. The arrays are read after them.
+#[tactic(auto, unfolding(crate::specs::Plan::top_of))]
+fn top_of(table: &Table) -> Result<Top, Kind>
+    ensures { result ≡ top_of (table_view table.now) }
+{
+    let limit = limit_at(value_at(table, "limit"));
+    let roots = roots_at(value_at(table, "roots"));
+    let devices = entries_at(value_at(table, "device"));
+    let events = entries_at(value_at(table, "event"));
+    let keys = keys_at(table, &["limit", "roots", "device", "event"]);
+    both(limit, both(roots, both(devices, both(events, keys))))
+}
+
+/// The plan with these numbers, of the devices and events that the values describe.
+#[tactic(auto, unfolding(crate::specs::Plan::plan_with))]
+fn plan_with(
+    alloc: Global,
+    limit: u64,
+    roots: u8,
+    devices: &[Value],
+    events: &[Value],
+) -> Result<Result<Plan, PlanFault>, AllocError>
+    requires { TopFits limit roots }
+    ensures { IfOk result (λ r. r ≡ plan_with limit roots (map view devices.now) (map view events.now)) }
+{
+    let devices = match devices_of(alloc, devices)? {
+        Err(fault) => return Ok(Err(fault)),
+        Ok(devices) => devices,
+    };
+    match events_of(alloc, roots, devices.as_slice(), events)? {
+        Err(fault) => Ok(Err(fault)),
+        Ok(events) => Ok(Ok(Plan::new(limit, roots, devices, events))),
+    }
+}
+
+/// The plan that a table describes, or its first fault.
+#[tactic(auto, unfolding(crate::specs::Plan::plan_of))]
+fn plan_of(alloc: Global, table: &Table) -> Result<Result<Plan, PlanFault>, AllocError>
+    ensures { IfOk result (λ r. r ≡ plan_of (table_view table.now)) }
+{
+    match placed(Place::Top, top_of(table)) {
+        Err(fault) => Ok(Err(fault)),
+        Ok((limit, (roots, _))) => plan_with(
+            alloc,
+            limit,
+            roots,
+            values_at(value_at(table, "device")),
+            values_at(value_at(table, "event")),
+        ),
+    }
+}
+
+/// Reads the plan that a TOML text spells.
+///
+/// The fault is the first of the text: Syntax, or that of the first entry with one, in the order top, devices, events,
+/// and in one entry the first in the order of `PlanFault`. Of an event whose `do` is absent or unknown nothing else is
+/// looked at. `Memory` says that memory was refused, and nothing of the text.
+#[tactic(auto, unfolding(crate::specs::Plan::read, crate::specs::Plan::spelled_plan))]
+pub fn read_plan(alloc: Global, text: &str) -> Result<Plan, PlanFault>
+    ensures plan { IfOk result (λ p. spelled_plan text.now ≡ Ok p) }
+    ensures fault { IfErr result (λ e. e ≢ Memory → spelled_plan text.now ≡ Err e) }
+{
+    let table = match toml::table_from_str(alloc, text) {
+        Ok(table) => table,
+        Err(error) => {
+            return Err(if error.span().is_none() {
+                PlanFault::Memory
+            } else {
+                PlanFault::Syntax
+            });
+        }
+    };
+    match plan_of(alloc, &table) {
+        Err(_) => Err(PlanFault::Memory),
+        Ok(plan) => plan,
+    }
+}
