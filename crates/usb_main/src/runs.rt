@@ -3,6 +3,7 @@ ghost use Rattle.std.specs.Prelude.{◌≡◌, ◌≤◌, OnOk, OnErr, IfOk, IfE
 ghost use Rattle.usb_main.specs.declared.runs.RunFault.TheVariants.{Memory};
 
 use std::alloc::{AllocError, Global};
+use std::io;
 use std::io::Write;
 use thiserror::Error;
 use usb_bus::{BusFault, Due, Plan, SimBus, Watched};
@@ -59,22 +60,48 @@ pub fn settle<W: Write>(host: &mut Host<SimBus<W>>) -> Result<(), RunFault> {
     }
 }
 
-/// A plan's run, item by item.
+/// What a whole run made.
 #[derive(Drop)]
-pub struct Run<W> {
+pub struct Report {
+    pub items: Vec<Item>,
+    pub attempts: u64,
+    pub address_losses: u64,
+}
+
+/// Runs a plan to its end, with its trace thrown away.
+pub fn run(alloc: Global, plan: &Plan) -> Result<Report, RunFault> {
+    let Ok(mut runner) = Runner::new(alloc, plan, Watched::new(io::sink())) else {
+        return Err(RunFault::Memory);
+    };
+    let mut items = Vec::new(alloc);
+    'items: while let Some(item) = runner.next_item()? {
+        if items.push(item).is_err() {
+            return Err(RunFault::Memory);
+        }
+    }
+    Ok(Report {
+        items,
+        attempts: runner.attempts(),
+        address_losses: runner.address_losses(),
+    })
+}
+
+/// A plan's run, made item by item.
+#[derive(Drop)]
+pub struct Runner<W> {
     host: Host<SimBus<W>>,
     over: bool,
 }
 
-impl<W: Write> Run<W> {
+impl<W: Write> Runner<W> {
     /// The run before its first attempt. An error: memory is refused, and the writer is handed back.
     pub fn new(
         alloc: Global,
         plan: &Plan,
         writer: Watched<W>,
-    ) -> Result<Run<W>, (AllocError, Watched<W>)> {
+    ) -> Result<Runner<W>, (AllocError, Watched<W>)> {
         let bus = SimBus::new(alloc, plan, writer)?;
-        Ok(Run {
+        Ok(Runner {
             host: Host::new(alloc, bus),
             over: false,
         })
@@ -105,14 +132,24 @@ impl<W: Write> Run<W> {
         }
     }
 
-    /// One line of report into the trace, without its newline.
+    /// Writes one line of report into the trace, given without its newline.
     pub fn put_line(&mut self, line: &[u8]) -> Result<(), BusFault> {
         self.host.bus_mut().put_line(line)
     }
 
+    /// How many attempts were made.
+    pub fn attempts(&self) -> u64 {
+        self.host.bus().attempts()
+    }
+
+    /// How often a device lost the host's ACK of SET_ADDRESS.
+    pub fn address_losses(&self) -> u64 {
+        self.host.bus().address_losses()
+    }
+
     /// Gives the writer back.
     pub fn into_writer(self) -> Watched<W> {
-        let Run { host, over: _ } = self;
+        let Runner { host, over: _ } = self;
         host.into_bus().into_writer()
     }
 }

@@ -4,7 +4,8 @@ ghost use Rattle.usb_bus.specs.Watch.{inner_of, has_failed, calls_of};
 ghost use Rattle.usb_main.specs.declared.runs.RunFault.TheVariants as fault;
 
 use crate::input::{InputFault, read_text};
-use crate::listing::{Lines, bound_line, item_lines};
+use crate::lines::Lines;
+use crate::listing::{bound_line, listing_lines};
 use crate::runs::{Item, RunFault, Runner};
 use std::alloc::{AllocError, Global};
 use std::io;
@@ -44,4 +45,158 @@ pub enum ServeFault {
     /// Memory was refused.
     #[error("out of memory")]
     Memory,
+}
+
+impl From<AllocError> for ServeFault {
+    fn from(_e: AllocError) -> ServeFault {
+        ServeFault::Memory
+    }
+}
+
+impl From<InputFault> for ServeFault {
+    fn from(fault: InputFault) -> ServeFault {
+        match fault {
+            InputFault::Read => ServeFault::Read,
+            InputFault::TooLong => ServeFault::TooLong,
+            InputFault::Memory => ServeFault::Memory,
+        }
+    }
+}
+
+impl From<RunFault> for ServeFault {
+    fn from(fault: RunFault) -> ServeFault {
+        ServeFault::Run(fault)
+    }
+}
+
+impl From<WriteFailed> for ServeFault {
+    fn from(_e: WriteFailed) -> ServeFault {
+        ServeFault::Write
+    }
+}
+
+/// Reads a plan, runs it, and writes what the mode asks for. Hands the writer back.
+///
+/// # Errors
+/// Read where the reader failed, TooLong for a text over the limit, Plan for a text that is no plan, Run where the
+/// run ended early, Write where the writer failed in a line of report, Memory where memory was refused.
+pub fn serve<R: Read, W: Write>(
+    alloc: Global,
+    mode: Mode,
+    reader: &mut Watched<R>,
+    writer: Watched<W>,
+) -> (Result<(), ServeFault>, Watched<W>) {
+    let plan = match plan_of(alloc, reader) {
+        Ok(plan) => plan,
+        Err(fault) => return (Err(fault), writer),
+    };
+    match mode {
+        Mode::Tree => serve_tree(alloc, &plan, writer),
+        Mode::Run => serve_run(alloc, &plan, writer),
+    }
+}
+
+/// The plan that a reader's text spells.
+fn plan_of<R: Read>(alloc: Global, reader: &mut Watched<R>) -> Result<Plan, ServeFault> {
+    let text = read_text(alloc, reader)?;
+    let Ok(text) = str::from_utf8(text.as_slice()) else {
+        return Err(ServeFault::Plan(PlanFault::Syntax));
+    };
+    match read_plan(alloc, text) {
+        Ok(plan) => Ok(plan),
+        Err(fault) => Err(ServeFault::Plan(fault)),
+    }
+}
+
+fn serve_tree<W: Write>(
+    alloc: Global,
+    plan: &Plan,
+    writer: Watched<W>,
+) -> (Result<(), ServeFault>, Watched<W>) {
+    let mut writer = writer;
+    let result = write_tree(alloc, plan, &mut writer);
+    (result, writer)
+}
+
+/// Writes the lines of each item when it is made, and the bound behind the last.
+fn write_tree<W: Write>(
+    alloc: Global,
+    plan: &Plan,
+    writer: &mut Watched<W>,
+) -> Result<(), ServeFault> {
+    let Ok(mut runner) = Runner::new(alloc, plan, Watched::new(io::sink())) else {
+        return Err(ServeFault::Run(RunFault::Memory));
+    };
+    let mut number = 0;
+    'items: while let Some(item) = runner.next_item()? {
+        number = next_number(number);
+        write_lines(writer, item_lines(alloc, number, &item)?.as_slice())?;
+    }
+    let line = bound_line(alloc, bound(plan))?;
+    write_line(writer, line.as_slice())
+}
+
+fn next_number(number: u64) -> u64 {
+    number.saturating_add(1)
+}
+
+fn item_lines(alloc: Global, number: u64, item: &Item) -> Result<Lines, AllocError> {
+    match item {
+        Item::Listing(tree, _) => listing_lines(alloc, number, tree),
+    }
+}
+
+fn write_lines<W: Write>(writer: &mut Watched<W>, lines: &[Vec<u8>]) -> Result<(), ServeFault> {
+    'lines: for line in lines {
+        write_line(writer, line.as_slice())?;
+    }
+    Ok(())
+}
+
+fn write_line<W: Write>(writer: &mut Watched<W>, line: &[u8]) -> Result<(), ServeFault> {
+    put_piece(writer, line)?;
+    put_piece(writer, b"\n")?;
+    Ok(())
+}
+
+fn serve_run<W: Write>(
+    alloc: Global,
+    plan: &Plan,
+    writer: Watched<W>,
+) -> (Result<(), ServeFault>, Watched<W>) {
+    match Runner::new(alloc, plan, writer) {
+        Ok(mut runner) => {
+            let result = trace_run(alloc, &mut runner);
+            (result, runner.into_writer())
+        }
+        Err((_, writer)) => (Err(ServeFault::Run(RunFault::Memory)), writer),
+    }
+}
+
+/// Runs to the end, with the lines of each item put into the trace when it is made.
+fn trace_run<W: Write>(alloc: Global, runner: &mut Runner<W>) -> Result<(), ServeFault> {
+    let mut number = 0;
+    'items: while let Some(item) = runner.next_item()? {
+        number = next_number(number);
+        put_lines(runner, item_lines(alloc, number, &item)?.as_slice())?;
+    }
+    Ok(())
+}
+
+fn put_lines<W: Write>(runner: &mut Runner<W>, lines: &[Vec<u8>]) -> Result<(), ServeFault> {
+    'lines: for line in lines {
+        if let Err(fault) = runner.put_line(line.as_slice()) {
+            return Err(report_fault(fault));
+        }
+    }
+    Ok(())
+}
+
+/// What the fault of a line of report is to the one who is served.
+fn report_fault(fault: BusFault) -> ServeFault {
+    match fault {
+        BusFault::LimitReached => ServeFault::Run(RunFault::LimitReached),
+        BusFault::Memory => ServeFault::Run(RunFault::Memory),
+        BusFault::TraceFailed => ServeFault::Write,
+    }
 }

@@ -2,7 +2,7 @@
 ghost use Rattle.std.specs.Prelude.{◌≡◌, ◌++◌, flat_map, decimal, codes, OnOk, IfOk};
 ghost use Rattle.usb_packet.specs.Text.{hex_text};
 ghost use Rattle.usb_port.specs.Path.{path_text};
-ghost use Rattle.usb_main.specs.Report.{speed_word, unit_text, is_plain_unit};
+ghost use Rattle.usb_main.specs.Report.{speed_word, unit_text, escaped_text, is_plain_unit};
 
 use std::alloc::{AllocError, Global};
 use usb_packet::hex_digits;
@@ -21,7 +21,7 @@ pub fn push_hex(alloc: Global, out: &mut Vec<u8>, bytes: &[u8]) -> Result<(), Al
     ensures { OnOk result (out.new.items ≡ out.old.items ++ hex_text bytes.now) }
 {
     if bytes.is_empty() {
-        return out.push(b'-');
+        return Ok(out.push(b'-')?);
     }
     let digits = hex::encode_upper(alloc, bytes)?;
     out.extend_from_slice(digits.as_bytes())
@@ -35,6 +35,7 @@ pub fn push_path(out: &mut Vec<u8>, path: &PortPath) -> Result<(), AllocError>
 }
 
 /// The word for a device's speed.
+#[tactic(auto, unfolding(crate::specs::Report::speed_word))]
 pub fn speed_word(low: bool) -> &'static str
     ensures { result.now ≡ speed_word low }
 {
@@ -62,9 +63,15 @@ fn push_unit(out: &mut Vec<u8>, unit: u16) -> Result<(), AllocError>
     ensures { OnOk result (out.new.items ≡ out.old.items ++ unit_text unit) }
 {
     if is_plain(unit) {
-        return out.push(unit as u8);
+        return Ok(out.push(unit as u8)?);
     }
+    push_escaped(out, (unit / 256) as u8, (unit % 256) as u8)
+}
+
+fn push_escaped(out: &mut Vec<u8>, high: u8, low: u8) -> Result<(), AllocError>
+    ensures { OnOk result (out.new.items ≡ out.old.items ++ escaped_text high low) }
+{
     out.extend_from_slice(b"\\u")?;
-    out.extend_from_slice(&hex_digits((unit / 256) as u8))?;
-    out.extend_from_slice(&hex_digits((unit % 256) as u8))
+    out.extend_from_slice(&hex_digits(high))?;
+    out.extend_from_slice(&hex_digits(low))
 }
