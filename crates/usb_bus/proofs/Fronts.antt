@@ -28,3 +28,13 @@ moves_front all done rest n e =
 pub unmarked_by : (old new : Bool) (n k : ℕ) → new ≡ (old || ((n == 0) && not (k == 0))) → (n ≡ 0 → ⊥) → new ≡ old
 unmarked_by true new n k e h = e
 unmarked_by false new n k e h = e ∙ grind (arith, nat_tests)
+
+-- a front of the first of two parts
+pub first_front : (a b : Option (List ℕ)) (xs ys : List ℕ) → AppendsFront a b xs → AppendsFront a b (xs ++ ys)
+first_front a b xs ys f =
+    front_of a b f.gone (f.rest ++ ys) (xs ++ ys) (ap (λ l. l ++ ys) f.split ∙ append_assoc f.gone f.rest ys) f.appended
+
+-- all of the first part, then a front of the second
+pub front_after_first : (a b c : Option (List ℕ)) (xs ys : List ℕ) → Appends a b xs → AppendsFront b c ys → AppendsFront a c (xs ++ ys)
+front_after_first a b c xs ys h f =
+    front_of a c (xs ++ f.gone) f.rest (xs ++ ys) (ap (λ l. xs ++ l) f.split ∙ sym (append_assoc xs f.gone f.rest)) (Appends-trans a b c xs f.gone h f.appended)

@@ -44,3 +44,10 @@ pub record IsPlan (p : PlanData) : Type 0 where
   pub some_root : 1 ≤ p.roots
   pub few_roots : p.roots ≤ 7
   pub events : events_fit p.roots (length p.devices) [] p.events ≡ true
+
+-- the action plugs one of so many devices at one of so many root ports
+abbrev pub can_be_done : ℕ → ℕ → Action → Bool
+can_be_done roots devices (Plug path device) = is_root_path roots path && nat_lt device devices
+
+abbrev pub can_come : ℕ → ℕ → Event → Bool
+can_come roots devices e = can_be_done roots devices e.action

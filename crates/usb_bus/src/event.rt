@@ -1,4 +1,5 @@
 //! The events of a plan.
+ghost use Rattle.std.specs.Prelude.{◌≡◌, IfOk};
 
 use std::alloc::{AllocError, Global};
 use std::marker::Model;
@@ -36,7 +37,7 @@ impl Model for Events {
 }
 
 impl Events {
-    ghost use Rattle.std.specs.Prelude.{◌≡◌, ◌<◌, ◌≤◌, [], ◌∷◌, ◌++◌, length, OnOk, OnErr};
+    ghost use Rattle.std.specs.Prelude.{◌≡◌, ◌<◌, ◌≤◌, [], ◌∷◌, ◌++◌, length, IfOk, OnOk, OnErr};
 
     /// No events.
     pub fn new(alloc: Global) -> Self
@@ -55,6 +56,16 @@ impl Events {
         self.events.as_slice()
     }
 
+    /// The same events in memory of their own. An error: memory is refused.
+    pub(crate) fn copied(alloc: Global, events: &[Event]) -> Result<Self, AllocError>
+        requires { length events.now ≤ 10000 }
+        ensures { IfOk result (λ e. e ≡ events.now) }
+    {
+        Ok(Events {
+            events: copies(alloc, events)?,
+        })
+    }
+
     /// Adds an event at the end. An error: memory is refused, and nothing changes.
     pub fn push(&mut self, event: Event) -> Result<(), AllocError>
         requires room { length self.old < 10000 }
@@ -62,5 +73,25 @@ impl Events {
         ensures err { OnErr result (self.new ≡ self.old) }
     {
         Ok(self.events.push(event)?)
+    }
+}
+
+fn copies(alloc: Global, events: &[Event]) -> Result<Vec<Event>, AllocError>
+    ensures { IfOk result (λ v. v.items ≡ events.now) }
+{
+    let mut all = Vec::new(alloc);
+    'events: for event in events {
+        all.push(copy_of(event))?;
+    }
+    Ok(all)
+}
+
+fn copy_of(event: &Event) -> Event
+    ensures { result ≡ event.now }
+{
+    let Action::Plug(path, device) = &event.action;
+    Event {
+        after: event.after,
+        action: Action::Plug(path.duplicate(), *device),
     }
 }

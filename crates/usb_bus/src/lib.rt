@@ -3,13 +3,18 @@
 
 mod bus;
 mod event;
+mod exchange;
 mod plan;
+mod root;
+mod sim;
+mod trace;
 mod types;
 mod watched;
 
 pub use bus::Bus;
 pub use event::{Action, Event, Events};
 pub use plan::Plan;
+pub use sim::{Due, SimBus};
 pub use types::{Attempt, BusFault, Outcome};
 pub use watched::{Watched, WriteFailed, put_piece};
 

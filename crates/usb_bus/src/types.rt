@@ -1,5 +1,10 @@
 //! What goes over the bus.
+ghost use Rattle.std.specs.Prelude.{◌≡◌};
+ghost use Rattle.usb_bus.specs.declared.types.BusFault.TheVariants.{Memory as memory, TraceFailed as trace_failed};
+
+use crate::WriteFailed;
 use arrayvec::ArrayVec;
+use std::alloc::AllocError;
 use thiserror::Error;
 use usb_packet::{Toggle, TokenKind};
 
@@ -41,4 +46,20 @@ pub enum BusFault {
     /// The trace's writer failed.
     #[error("trace failed")]
     TraceFailed,
+}
+
+impl From<AllocError> for BusFault {
+    ghost from_gives = { λ _ fault. fault ≡ memory };
+
+    fn from(_error: AllocError) -> BusFault {
+        BusFault::Memory
+    }
+}
+
+impl From<WriteFailed> for BusFault {
+    ghost from_gives = { λ _ fault. fault ≡ trace_failed };
+
+    fn from(_error: WriteFailed) -> BusFault {
+        BusFault::TraceFailed
+    }
 }

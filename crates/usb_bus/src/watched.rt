@@ -1,5 +1,5 @@
 //! A reader or writer with a mark that tells whether it has failed.
-ghost use Rattle.std.specs.Prelude.{◌≡◌, ◌+◌, ◌≤◌, ◌||◌, false, true, is_err, OnOk, OnErr};
+ghost use Rattle.std.specs.Prelude.{◌≡◌, ◌+◌, ◌≤◌, ◌||◌, false, true, flat_map, is_err, OnOk, OnErr};
 ghost use Rattle.std.specs.Io.{ReadsAtMost, WritesAtMost};
 ghost use Rattle.std.specs.Io.KnownBytes.{Keeps, Appends, ReadConsumes, WriteAppends};
 ghost use Rattle.usb_bus.specs.Watch.{inner_of, has_failed, calls_of, write_fails, AppendsFront};
@@ -131,4 +131,24 @@ pub fn put_piece<W: Write>(writer: &mut Watched<W>, piece: &[u8]) -> Result<(), 
         }
     }
     Ok(())
+}
+
+/// Writes pieces in their order.
+///
+/// After an error the writer is marked, and what went out is a front of all of them.
+#[tactic(auto, using(crate::proofs::Fronts::first_front, crate::proofs::Fronts::front_after_first))]
+pub(crate) fn put_pieces<W: Write>(
+    writer: &mut Watched<W>,
+    pieces: &[&[u8]],
+) -> Result<(), WriteFailed>
+    ensures front { AppendsFront (W.contents (inner_of writer.old)) (W.contents (inner_of writer.new)) (flat_map (λ p. p.now) pieces.now) }
+    ensures ok { OnOk result (Appends (W.contents (inner_of writer.old)) (W.contents (inner_of writer.new)) (flat_map (λ p. p.now) pieces.now)) }
+    ensures unmarked { OnOk result (has_failed writer.new ≡ has_failed writer.old) }
+    ensures marked { OnErr result (has_failed writer.new ≡ true) }
+{
+    let Some((piece, rest)) = pieces.split_first() else {
+        return Ok(());
+    };
+    put_piece(writer, piece)?;
+    put_pieces(writer, rest)
 }

@@ -1,5 +1,5 @@
 -- String descriptors (9.6.7).
-use Rattle.std.specs.Prelude.{ℕ, List, length, take, drop, ◌||◌, ◌==◌, ◌%◌, not, Option, None, Result, Ok, Err, nat_lt, if◌then◌else◌, slice_index, slice_get}
+use Rattle.std.specs.Prelude.{ℕ, List, length, take, drop, ◌||◌, ◌==◌, ◌%◌, not, Result, Ok, Err, nat_lt, if◌then◌else◌, slice_index}
 use Rattle.usb_descriptor.specs.declared.fault.DescriptorFault.{DescriptorFault}
 use Rattle.usb_descriptor.specs.declared.fault.DescriptorFault.TheVariants.{Short, WrongType, Length}
 use Rattle.usb_descriptor.specs.Words.{words_of}
@@ -15,11 +15,3 @@ string_of bytes =
     else if not (slice_index bytes 1 == 3) then Err WrongType
     else if slice_index bytes 0 % 2 == 1 || nat_lt (slice_index bytes 0) 2 || nat_lt (length bytes) (slice_index bytes 0) then Err Length
     else Ok (units_of bytes)
-
-abbrev pub first_unit : Result (List ℕ) DescriptorFault → Option ℕ
-first_unit (Ok units) = slice_get units 0
-first_unit (Err fault) = None
-
--- the first language code, where the bytes are string 0 with one at least
-unfoldable pub first_language_of : List ℕ → Option ℕ
-first_language_of bytes = first_unit (string_of bytes)

@@ -31,6 +31,7 @@ impl<'a> Model for HubView<'a> {
 #[tactic(auto, unfolding(crate::specs::Hub::hub_of))]
 pub fn read_hub(bytes: &[u8]) -> Result<HubView<'_>, DescriptorFault>
     ensures answer { result ≡ hub_of bytes.now }
+    ensures view { IfOk result (λ hub. hub ≡ bytes.now) }
     ensures ports { IfOk result (λ hub. (1 ≤ port_count hub) × (port_count hub ≤ 7)) }
 {
     if bytes.len() < 9 {
@@ -39,7 +40,7 @@ pub fn read_hub(bytes: &[u8]) -> Result<HubView<'_>, DescriptorFault>
     if bytes[1] != 0x29 {
         return Err(DescriptorFault::WrongType);
     }
-    if bytes[0] < 9 || bytes[2] < 1 || bytes[2] > 7 {
+    if bytes[0] < 9 || !(1..=7).contains(&bytes[2]) {
         return Err(DescriptorFault::Length);
     }
     Ok(HubView { bytes })

@@ -76,54 +76,97 @@ fn a_configuration(rt: HostRuntime) -> Result<(), Fail> {
         ],
         [0, 0x80, 0x32]
     );
-    let mut place = 9;
-    let mut ins = 0u8;
+    Ok(())
+}
+
+#[test]
+fn items_of_a_configuration(rt: HostRuntime) -> Result<(), Fail> {
+    let config = read_config(&BULK)?;
+    let mut rest = &BULK[9..];
     for item in config.items() {
-        let piece = item.as_slice();
-        assert!(rt; place <= 32 && piece.len() <= 32 - place);
-        assert_eq!(rt; piece, &BULK[place..place + piece.len()]);
-        place += piece.len();
-        match item {
-            Item::Interface(interface) => {
-                assert_eq!(rt;
-                    [
-                        interface.length(),
-                        interface.descriptor_type(),
-                        interface.number(),
-                        interface.alternate_setting(),
-                        interface.endpoints()
-                    ],
-                    [9, 4, 0, 0, 2]
-                );
-                assert_eq!(rt;
-                    [
-                        interface.class(),
-                        interface.subclass(),
-                        interface.protocol(),
-                        interface.string_index()
-                    ],
-                    [0xff, 0, 0, 0]
-                );
-            }
-            Item::Endpoint(endpoint) => {
-                assert_eq!(rt;
-                    [
-                        endpoint.length(),
-                        endpoint.descriptor_type(),
-                        endpoint.number(),
-                        endpoint.attributes(),
-                        endpoint.interval()
-                    ],
-                    [7, 5, 2, 2, 0]
-                );
-                assert_eq!(rt; endpoint.transfer_type(), TransferType::Bulk);
-                assert_eq!(rt; endpoint.max_packet(), 64);
-                assert_eq!(rt; endpoint.is_in(), endpoint.address() == 0x82);
-            }
-            Item::Other(_) => assert!(rt; false),
-        }
+        let bytes = item.as_slice();
+        assert!(rt; bytes.len() <= rest.len());
+        let (front, back) = rest.split_at(bytes.len());
+        assert_eq!(rt; bytes, front);
+        rest = back;
     }
-    assert_eq!(rt; place, 32);
+    assert!(rt; rest.is_empty());
+    Ok(())
+}
+
+#[test]
+fn an_interface(rt: HostRuntime) -> Result<(), Fail> {
+    let config = read_config(&BULK)?;
+    let Some(Item::Interface(interface)) = config.items().next() else {
+        assert!(rt; false);
+        return Ok(());
+    };
+    assert_eq!(rt; interface.as_slice(), &BULK[9..18]);
+    assert_eq!(rt;
+        [
+            interface.length(),
+            interface.descriptor_type(),
+            interface.number()
+        ],
+        [9, 4, 0]
+    );
+    assert_eq!(rt;
+        [interface.alternate_setting(), interface.endpoints()],
+        [0, 2]
+    );
+    assert_eq!(rt;
+        [
+            interface.class(),
+            interface.subclass(),
+            interface.protocol()
+        ],
+        [0xff, 0, 0]
+    );
+    assert_eq!(rt; interface.string_index(), 0);
+    Ok(())
+}
+
+#[test]
+fn an_endpoint(rt: HostRuntime) -> Result<(), Fail> {
+    let config = read_config(&BULK)?;
+    let mut items = config.items();
+    let _interface = items.next();
+    let Some(Item::Endpoint(endpoint)) = items.next() else {
+        assert!(rt; false);
+        return Ok(());
+    };
+    assert_eq!(rt; endpoint.as_slice(), &BULK[18..25]);
+    assert_eq!(rt;
+        [
+            endpoint.length(),
+            endpoint.descriptor_type(),
+            endpoint.number()
+        ],
+        [7, 5, 2]
+    );
+    assert_eq!(rt;
+        [
+            endpoint.address(),
+            endpoint.attributes(),
+            endpoint.interval()
+        ],
+        [2, 2, 0]
+    );
+    assert_eq!(rt; endpoint.transfer_type(), TransferType::Bulk);
+    assert_eq!(rt; endpoint.max_packet(), 64);
+    assert!(rt; !endpoint.is_in());
+    Ok(())
+}
+
+#[test]
+fn an_item_of_another_type(rt: HostRuntime) -> Result<(), Fail> {
+    let config = read_config(&[9, 2, 12, 0, 0, 1, 0, 0, 0, 3, 0x24, 7])?;
+    let Some(Item::Other(other)) = config.items().next() else {
+        assert!(rt; false);
+        return Ok(());
+    };
+    assert_eq!(rt; [other.length(), other.descriptor_type()], [3, 0x24]);
+    assert_eq!(rt; other.as_slice(), [3, 0x24, 7].as_slice());
     Ok(())
 }
 
@@ -171,6 +214,7 @@ fn strings(rt: HostRuntime) -> Result<(), Fail> {
     let languages = read_string(&[0x04, 0x03, 0x09, 0x04])?;
     assert_eq!(rt; languages.first_language(), Some(0x409));
     let text = read_string(&[0x08, 0x03, 0x41, 0x00, 0x22, 0x00, 0x0a, 0x00, 0xff])?;
+    assert_eq!(rt; [text.length(), text.descriptor_type()], [8, 3]);
     let units: Vec<u16> = text.units().collect(rt.alloc())?;
     assert_eq!(rt; units.as_slice(), [0x41, 0x22, 0x0a].as_slice());
     assert_eq!(rt; read_string(&[0x02, 0x03])?.first_language(), None);

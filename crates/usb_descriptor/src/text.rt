@@ -12,14 +12,14 @@ pub struct StringView<'a> {
 }
 
 impl<'a> Model for StringView<'a> {
-    ghost use Rattle.std.specs.Prelude.{List, ℕ, ◌≡◌, ◌≤◌, drop, length, slice_index};
+    ghost use Rattle.std.specs.Prelude.{List, ℕ, ◌≡◌, ◌≤◌, ◌%◌, drop, length, slice_index};
     ghost use Rattle.usb_descriptor.specs.Words.{words_of};
 
     ghost Value = { List ℕ };
 
     ghost view = { λ v. words_of (drop 2 v.bytes.now) };
 
-    ghost invariant = { λ v. 2 ≤ length v.bytes.now };
+    ghost invariant = { λ v. (2 ≤ length v.bytes.now) × (slice_index v.bytes.now 0 ≡ length v.bytes.now) × (slice_index v.bytes.now 1 ≡ 3) × (length v.bytes.now % 2 ≡ 0) };
 }
 
 /// The string descriptor that the bytes begin with (section 9.6.7). What stands after its bLength
@@ -47,6 +47,21 @@ pub fn read_string(bytes: &[u8]) -> Result<StringView<'_>, DescriptorFault>
 }
 
 impl<'a> StringView<'a> {
+    /// bLength, two bytes and two for each unit.
+    #[tactic(auto, using(crate::proofs::Pairs::words_of_drop))]
+    pub fn length(&self) -> u8
+        ensures { result ≡ 2 + 2 * length self.now }
+    {
+        self.bytes[0]
+    }
+
+    /// bDescriptorType, which is 3.
+    pub fn descriptor_type(&self) -> u8
+        ensures { result ≡ 3 }
+    {
+        self.bytes[1]
+    }
+
     /// The units of the string, in order; for string 0 its language codes.
     pub fn units(&self) -> Units<'a>
         ensures { result ≡ self.now }

@@ -1,5 +1,5 @@
 -- What a whole attempt on endpoint 0 does to the device that it speaks to: each packet of it comes whole, broken or not at all (8.5).
-use Rattle.std.specs.Prelude.{ℕ, ◌==◌, nat_le, if◌then◌else◌, ◌&&◌, Bool, true, false, List, [], length, Option, None, Some}
+use Rattle.std.specs.Prelude.{ℕ, nat_le, if◌then◌else◌, ◌&&◌, Bool, true, false, List, [], length, Option, None, Some}
 use Rattle.usb_packet.specs.declared.TokenKind.TheVariants.{OutTok, InTok, SetupTok}
 use Rattle.usb_packet.specs.declared.Toggle.{Toggle}
 use Rattle.usb_packet.specs.declared.Toggle.TheVariants.{Zero, One}
@@ -10,7 +10,7 @@ use Rattle.usb_request.specs.Layout.{setup_of}
 use Rattle.usb_device.specs.declared.answer.Answer.{Answer}
 use Rattle.usb_device.specs.declared.answer.Answer.TheVariants.{Ack, Nak, Stall, Data}
 use Rattle.usb_device.specs.Transfer.{Stage, idle, refused, reading, read, ending, max_packet, packet_at, toggle_at}
-use Rattle.usb_device.specs.Rows.{State, Reply, received, unread, forgotten, accepted, payload, unless_busy, is_busy, nak_row, out_row, ack_row}
+use Rattle.usb_device.specs.Rows.{State, Reply, received, unread, forgotten, accepted, payload, unless_busy, is_busy, nak_row, out_row, ack_row, is_addressed}
 
 -- how a packet comes: as it was sent, as bytes that spell none, or not at all
 pub data Way : Type 0 where
@@ -87,7 +87,7 @@ abbrev pub in_law : State → ℕ → Way → Way → Way → Reply
 in_law d max t1 t2 t3 =
     if is_whole t1 then (if is_busy d then (heard t2 (Some Nak), (nak_row d).1) else in_stage_law d d.stage max t2 t3) else (None, d)
 
--- a token for endpoint 0 of the device
+-- the packet is a token for endpoint 0 of the device
 abbrev pub is_own : State → Packet → Bool
-is_own d (Token kind a e) = a == d.registers.address && e == 0
+is_own d (Token kind a e) = is_addressed d a e
 is_own d p = false

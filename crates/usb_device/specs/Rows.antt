@@ -33,6 +33,7 @@ Reply = Option Answer × State
 abbrev pub payload : Toggle → List ℕ → Answer
 payload t bytes = Data t (record { items = bytes })
 
+-- nothing is remembered of the packet before
 abbrev pub forgotten : State → State
 forgotten d = record d { memory = Nothing }
 
@@ -44,6 +45,7 @@ begun d wanted o = record d { registers = registers_at_setup d.registers o; naks
 abbrev pub accepted : State → Setup → State
 accepted d r = begun d r.length (outcome d.spec d.registers r)
 
+-- the device has a NAK to give
 abbrev pub is_busy : State → Bool
 is_busy d = d.spec.busy || nat_lt 0 d.naks
 
@@ -54,6 +56,7 @@ nak_row d = (Some Nak, record d { naks = d.naks - 1 })
 abbrev pub unless_busy : State → Reply → Reply
 unless_busy d row = if is_busy d then nak_row d else row
 
+-- data, of which an ACK is awaited
 abbrev pub gives : State → Toggle → List ℕ → Reply
 gives d t bytes = (Some (payload t bytes), record d { memory = AckAwaited })
 
@@ -99,9 +102,13 @@ payload_row d SetupSeen Zero bytes = if length bytes == 8 then (Some Ack, accept
 payload_row d OutSeen t bytes = unless_busy d (out_row d d.stage t bytes)
 payload_row d m t bytes = (None, d)
 
+-- a token is for endpoint 0 of this device
+abbrev pub is_addressed : State → ℕ → ℕ → Bool
+is_addressed d a e = a == d.registers.address && e == 0
+
 -- any packet, by what the packet before left
 abbrev pub answered : State → Memory → Packet → Reply
-answered d m (Token kind a e) = if a == d.registers.address && e == 0 then token_row d kind else (None, d)
+answered d m (Token kind a e) = if is_addressed d a e then token_row d kind else (None, d)
 answered d m (Payload t bytes) = payload_row d m t bytes.items
 answered d AckAwaited packet.Ack = (None, ack_row d d.stage)
 answered d m p = (None, d)

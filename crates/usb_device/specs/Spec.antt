@@ -12,8 +12,9 @@ pub record Spec : Type 0 where
   pub configs : List (List ℕ)
   pub strings : List (List ℕ)
   pub self_powered : Bool
-  -- always answers by NAK, and never answers
+  -- each data and status stage is answered by NAK
   pub busy : Bool
+  -- nothing is ever answered
   pub silent : Bool
   -- how many NAKs each control transfer begins with
   pub naks : ℕ

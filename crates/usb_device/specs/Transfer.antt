@@ -8,6 +8,7 @@ use Rattle.usb_device.specs.Request.{Outcome, stalled, answers, address_at_end}
 pub data Stage : Type 0 where
   -- no transfer, or one without a data stage that is over
   idle : Stage
+  -- the request is refused
   refused : Stage
   -- a control read: the whole answer, how many bytes the host wants, and how many packets it acknowledged
   reading : List ℕ → ℕ → ℕ → Stage
@@ -28,7 +29,7 @@ max_packet s =
     let m = slice_index s.descriptor 7 in
     if not s.low && (m == 16 || m == 32 || m == 64) then m else 8
 
--- how many packets carry so many bytes, of which fewer than wanted end with a packet that is not full
+-- how many packets carry len bytes (5.5.3): full ones and what is left; where len is less than wanted, the last is not full, so perhaps empty
 abbrev pub packet_count : ℕ → ℕ → ℕ → ℕ
 packet_count max wanted len = len / max + (if len % max == 0 && not (nat_lt len wanted) then 0 else 1)
 

@@ -5,6 +5,7 @@ ghost use Rattle.usb_device.specs.Received.{Answers, packet_of};
 use arrayvec::ArrayVec;
 use usb_packet::{Packet, Toggle, encode};
 
+/// The packets that a device sends.
 #[derive(Drop)]
 pub enum Answer {
     Ack,

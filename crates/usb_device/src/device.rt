@@ -5,16 +5,17 @@ ghost use Rattle.usb_device.specs.Transfer.{max_packet, packet_at};
 
 use crate::answer::{Answer, spelled};
 use crate::lists::Bytes;
-use crate::request::{Reaction, Registers, Source, react};
+use crate::request::{AT_RESET, Reaction, Registers, Source, react};
 use crate::spec::DeviceSpec;
 use crate::transfer::{Memory, Progress, packet_at, toggle_at};
 use arrayvec::ArrayVec;
 use std::alloc::{AllocError, Global};
 use std::marker::Model;
+use std::mem;
 use usb_packet::{Packet, Toggle, TokenKind, decode};
 use usb_request::Setup;
 
-/// A plugged device: it takes packets, and answers them.
+/// A plugged device: it takes one packet after the other, and answers some of them (8.5). It has endpoint 0.
 #[derive(Debug, Drop)]
 pub struct Device {
     spec: DeviceSpec,
@@ -60,10 +61,7 @@ impl Device {
     {
         Ok(Device {
             spec: spec.try_clone(alloc)?,
-            registers: Registers {
-                address: 0,
-                configuration: 0,
-            },
+            registers: AT_RESET,
             memory: Memory::Nothing,
             naks: 0,
             progress: Progress::Idle,
@@ -89,11 +87,8 @@ impl Device {
     pub fn reset(&mut self)
         ensures { self.new ≡ reset_state self.old }
     {
-        self.registers = Registers {
-            address: 0,
-            configuration: 0,
-        };
-        self.memory = Memory::Nothing;
+        self.attempt_over();
+        self.registers = AT_RESET;
         self.naks = 0;
         self.progress = Progress::Idle;
     }
@@ -105,7 +100,7 @@ impl Device {
         self.memory = Memory::Nothing;
     }
 
-    /// One packet in, its answer out. Bytes that spell no packet are answered by nothing.
+    /// One packet in, its answer out (8.5.3), if there is one. Bytes that spell no packet have no answer.
     /// It wants no memory, and never fails.
     pub fn receive(&mut self, bytes: &[u8]) -> Result<Option<ArrayVec<u8, 67>>, AllocError>
         ensures never_fails { IsOk result }
@@ -125,7 +120,7 @@ impl Device {
         ensures { self.new ≡ unread self.old }
     {
         if !self.spec.is_silent() {
-            self.memory = Memory::Nothing;
+            self.attempt_over();
         }
     }
 
@@ -136,8 +131,7 @@ impl Device {
         if self.spec.is_silent() {
             return None;
         }
-        let memory = self.memory;
-        self.memory = Memory::Nothing;
+        let memory = mem::replace(&mut self.memory, Memory::Nothing);
         match packet {
             Packet::Token { kind, addr, ep } => {
                 if *addr == self.registers.address && *ep == 0 {

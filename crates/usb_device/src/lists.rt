@@ -1,4 +1,5 @@
 //! Names, bytes and texts of a device, with their bounds in their types.
+ghost use Rattle.std.specs.Prelude.{◌≡◌, IfOk};
 
 use std::alloc::{AllocError, Global};
 use std::marker::Model;
@@ -20,7 +21,7 @@ impl<const MAX: usize> Model for Bytes<MAX> {
 }
 
 impl<const MAX: usize> Bytes<MAX> {
-    ghost use Rattle.std.specs.Prelude.{◌≡◌, ◌≤◌, length, IfOk};
+    ghost use Rattle.std.specs.Prelude.{◌≤◌, length};
 
     /// The bytes themselves.
     pub fn new(bytes: Vec<u8>) -> Self
@@ -65,7 +66,7 @@ impl Model for Name {
 }
 
 impl Name {
-    ghost use Rattle.std.specs.Prelude.{◌≡◌, ◌<◌, length, string_bytes, IfOk};
+    ghost use Rattle.std.specs.Prelude.{◌<◌, length, string_bytes};
 
     /// The text itself.
     pub fn new(text: String) -> Self
@@ -93,6 +94,19 @@ impl Name {
     }
 }
 
+fn copied<const MAX: usize>(
+    alloc: Global,
+    texts: &[Bytes<MAX>],
+) -> Result<Vec<Bytes<MAX>>, AllocError>
+    ensures { IfOk result (λ v. v.items ≡ texts.now) }
+{
+    let mut all = Vec::new(alloc);
+    'texts: for text in texts {
+        all.push(text.try_clone(alloc)?)?;
+    }
+    Ok(all)
+}
+
 /// At most `COUNT` texts of at most `MAX` bytes each.
 #[derive(Debug, Drop)]
 pub struct Texts<const COUNT: usize, const MAX: usize> {
@@ -110,7 +124,7 @@ impl<const COUNT: usize, const MAX: usize> Model for Texts<COUNT, MAX> {
 }
 
 impl<const COUNT: usize, const MAX: usize> Texts<COUNT, MAX> {
-    ghost use Rattle.std.specs.Prelude.{◌≡◌, ◌<◌, ◌≤◌, [], ◌∷◌, ◌++◌, length, IfOk, OnOk, OnErr};
+    ghost use Rattle.std.specs.Prelude.{◌<◌, ◌≤◌, [], ◌∷◌, ◌++◌, length, OnOk, OnErr};
 
     /// No texts.
     pub fn new(alloc: Global) -> Self
@@ -157,23 +171,8 @@ impl<const COUNT: usize, const MAX: usize> Texts<COUNT, MAX> {
     }
 }
 
-ghost use Rattle.std.specs.Prelude.{◌≡◌, IfOk};
-
-fn copied<const MAX: usize>(
-    alloc: Global,
-    texts: &[Bytes<MAX>],
-) -> Result<Vec<Bytes<MAX>>, AllocError>
-    ensures { IfOk result (λ v. v.items ≡ texts.now) }
-{
-    let mut all = Vec::new(alloc);
-    'texts: for text in texts {
-        all.push(text.try_clone(alloc)?)?;
-    }
-    Ok(all)
-}
-
-/// The texts of the configurations of a device (9.6.3), by their index.
+/// The texts of the configurations of a device (9.6.3), by their index: at most 8 of at most 65,535 bytes.
 pub type ConfigTexts = Texts<8, 65535>;
 
-/// The strings of a device (9.6.7), by their index.
+/// The string descriptors of a device (9.6.7), by their index: at most 256 of at most 255 bytes.
 pub type StringTexts = Texts<256, 255>;

@@ -12,26 +12,43 @@ use usb_request::{Setup, descriptor_type, request_code, request_type};
 /// What the host can set in a device.
 #[derive(Clone, Copy, Debug)]
 pub struct Registers {
+    /// 0 to 127; 0 until SET_ADDRESS has ended.
     pub address: u8,
+    /// The value of a configuration, or 0 where none is set.
     pub configuration: u8,
 }
+
+/// The registers of a device that was just plugged or reset.
+pub const AT_RESET: Registers = Registers {
+    address: 0,
+    configuration: 0,
+};
 
 /// Where the bytes of an answer are.
 #[derive(Clone, Copy, Debug)]
 pub enum Source {
+    /// The device descriptor.
     Descriptor,
+    /// The text of a configuration, by its index.
     Config(usize),
+    /// A string, by its index.
     Text(usize),
+    /// The two bytes of GET_STATUS.
     Status,
+    /// The one byte of GET_CONFIGURATION.
     Configuration(u8),
 }
 
 /// What a device does about a request.
 #[derive(Clone, Copy, Debug)]
 pub enum Reaction {
+    /// It answers by STALL.
     Refuse,
+    /// It gives bytes.
     Answer(Source),
+    /// It takes an address when the status stage ends.
     TakeAddress(u8),
+    /// It takes a configuration at once.
     TakeConfiguration(u8),
 }
 
@@ -61,8 +78,8 @@ fn get_descriptor(spec: &DeviceSpec, value: u16) -> Reaction
     }
 }
 
-fn get_status(spec: &DeviceSpec, setup: &Setup) -> Reaction
-    ensures { meaning_of spec.now result ≡ get_status spec.now setup.now }
+fn get_status(setup: &Setup) -> Reaction
+    ensures { (s : Spec) → meaning_of s result ≡ get_status s setup.now }
 {
     if setup.value == 0 && setup.index == 0 {
         Reaction::Answer(Source::Status)
@@ -87,7 +104,7 @@ fn has_value(text: &[u8], value: u16) -> bool
     text.len() > 5 && u16::from(text[5]) == value
 }
 
-fn is_of_some(configs: &[Bytes<65535>], value: u16) -> bool
+fn any_has_value(configs: &[Bytes<65535>], value: u16) -> bool
     ensures { result ≡ list_any (has_value value) configs.now }
 {
     configs.iter().any(|text| has_value(text.as_slice(), value))
@@ -96,7 +113,7 @@ fn is_of_some(configs: &[Bytes<65535>], value: u16) -> bool
 fn is_value(configs: &[Bytes<65535>], value: u16) -> bool
     ensures { result ≡ is_value configs.now value }
 {
-    value < 256 && (value == 0 || is_of_some(configs, value))
+    value < 256 && (value == 0 || any_has_value(configs, value))
 }
 
 fn set_configuration(spec: &DeviceSpec, registers: Registers, setup: &Setup) -> Reaction
@@ -120,7 +137,7 @@ pub fn react(spec: &DeviceSpec, registers: Registers, setup: &Setup) -> Reaction
             setup.value,
         ),
         (request_type::DEVICE_IN, request_code::GET_STATUS) => {
-            unless(stalls.status, get_status(spec, setup))
+            unless(stalls.status, get_status(setup))
         }
         (request_type::DEVICE_IN, request_code::GET_CONFIGURATION) => {
             Reaction::Answer(Source::Configuration(registers.configuration))

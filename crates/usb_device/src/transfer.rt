@@ -10,22 +10,30 @@ use usb_packet::Toggle;
 #[derive(Clone, Copy, Debug)]
 pub enum Memory {
     Nothing,
+    /// A SETUP token, whose data come next.
     SetupSeen,
+    /// An OUT token, whose data come next.
     OutSeen,
+    /// Data of the device, whose ACK comes next.
     AckAwaited,
 }
 
 /// Where a control transfer stands.
 #[derive(Clone, Copy, Debug)]
 pub enum Progress {
+    /// There is none, or one without a data stage is over.
     Idle,
+    /// The request is refused.
     Refused,
+    /// A control read: the host wants so many bytes, and acknowledged so many packets.
     Reading {
         source: Source,
         wanted: u16,
         given: u32,
     },
+    /// A control read is over.
     Read,
+    /// The status stage of a transfer without a data stage, and the address that is taken at its end.
     Ending(Option<u8>),
 }
 

@@ -1,1 +1,4 @@
-
+pub mod Bounds
+pub mod Found
+pub mod Stop
+pub mod Text

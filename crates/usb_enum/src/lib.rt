@@ -1,2 +1,20 @@
-//! The enumerator: what stands at a port becomes a finding.
+//! The enumerator: a device that stands at a port is given an address, read and configured, or
+//! it is refused with a cause (9.1.2, 9.4 and 9.6).
 #![tactic(auto)]
+
+mod cause;
+mod configurations;
+mod enumeration;
+mod fault;
+mod finding;
+mod passes;
+mod stop;
+mod strings;
+mod text;
+
+pub use cause::{Cause, Request};
+pub use enumeration::enumerate;
+pub use fault::EnumFault;
+pub use finding::{Accepted, Finding};
+pub use strings::Strings;
+pub use text::{ConfigText, ConfigTexts, StringUnits};

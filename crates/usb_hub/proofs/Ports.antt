@@ -40,6 +40,7 @@ three_bits false false false = record { first = refl; second = refl; third = ref
 
 -- a port's status shows its bits
 pub shows : (p : PortState) → Shows p (status_of p)
+unfolding status_of
 shows p =
     let changed = three_bits p.connection_changed p.enable_changed p.reset_changed in
     record {

@@ -1,9 +1,8 @@
 //! The standard's requests to a device (9.4).
-ghost use Rattle.std.specs.Prelude.{◌≡◌, ◌≢◌, ◌≤◌, vec_len, Err, IfOk, OnOk, MatchResult};
+ghost use Rattle.std.specs.Prelude.{◌≡◌, ◌≢◌, ◌≤◌, vec_len, Err, IfOk, MatchResult};
 ghost use Rattle.usb_bus.specs.World.{Spends};
-ghost use Rattle.usb_request.specs.Requests.{get_device_descriptor, get_configuration_descriptor, get_string_descriptor, set_address as address_request, set_configuration as configuration_request};
 ghost use Rattle.usb_transaction.specs.Trans.{IsTarget, Worked};
-ghost use Rattle.usb_pipe.specs.Control.{Faults, ControlRead, ControlDone, control_bound};
+ghost use Rattle.usb_pipe.specs.Control.{Faults, control_bound};
 
 use std::alloc::Global;
 use usb_pipe::{Bus, PipeFault, Setup, Target, control_in, control_none};
@@ -23,7 +22,6 @@ pub fn get_device<B: Bus>(
     requires some { 1 ≤ length }
     ensures count { Spends (control_bound target.max length) (B.world bus.old) (B.world bus.new) }
     ensures ends { MatchResult result (λ _. Worked 3 (B.world bus.old) (B.world bus.new)) (λ fault. Faults 1 (B.world bus.old) fault (B.world bus.new)) }
-    ensures done { OnOk result (ControlRead target (get_device_descriptor length) (B.world bus.old) (B.world bus.new)) }
     ensures most { IfOk result (λ bytes. vec_len bytes ≤ length) }
 {
     control_in(alloc, bus, target, Setup::get_device_descriptor(length))
@@ -46,7 +44,6 @@ pub fn get_config<B: Bus>(
     requires some { 1 ≤ length }
     ensures count { Spends (control_bound target.max length) (B.world bus.old) (B.world bus.new) }
     ensures ends { MatchResult result (λ _. Worked 3 (B.world bus.old) (B.world bus.new)) (λ fault. Faults 1 (B.world bus.old) fault (B.world bus.new)) }
-    ensures done { OnOk result (ControlRead target (get_configuration_descriptor index length) (B.world bus.old) (B.world bus.new)) }
     ensures most { IfOk result (λ bytes. vec_len bytes ≤ length) }
 {
     control_in(
@@ -73,7 +70,6 @@ pub fn get_string<B: Bus>(
     requires target { IsTarget target }
     ensures count { Spends (control_bound target.max 255) (B.world bus.old) (B.world bus.new) }
     ensures ends { MatchResult result (λ _. Worked 3 (B.world bus.old) (B.world bus.new)) (λ fault. Faults 1 (B.world bus.old) fault (B.world bus.new)) }
-    ensures done { OnOk result (ControlRead target (get_string_descriptor index language) (B.world bus.old) (B.world bus.new)) }
     ensures most { IfOk result (λ bytes. vec_len bytes ≤ 255) }
 {
     control_in(
@@ -97,7 +93,6 @@ pub fn set_address<B: Bus>(bus: &mut B, target: Target, address: u8) -> Result<(
     ensures count { Spends 1600 (B.world bus.old) (B.world bus.new) }
     ensures ends { MatchResult result (λ _. Worked 2 (B.world bus.old) (B.world bus.new)) (λ fault. Faults 1 (B.world bus.old) fault (B.world bus.new)) }
     ensures room { result ≢ Err PipeFault.Memory }
-    ensures done { OnOk result (ControlDone target (address_request address) (B.world bus.old) (B.world bus.new)) }
 {
     control_none(bus, target, Setup::set_address(address))
 }
@@ -113,7 +108,6 @@ pub fn set_configuration<B: Bus>(bus: &mut B, target: Target, value: u8) -> Resu
     ensures count { Spends 1600 (B.world bus.old) (B.world bus.new) }
     ensures ends { MatchResult result (λ _. Worked 2 (B.world bus.old) (B.world bus.new)) (λ fault. Faults 1 (B.world bus.old) fault (B.world bus.new)) }
     ensures room { result ≢ Err PipeFault.Memory }
-    ensures done { OnOk result (ControlDone target (configuration_request value) (B.world bus.old) (B.world bus.new)) }
 {
     control_none(bus, target, Setup::set_configuration(value))
 }

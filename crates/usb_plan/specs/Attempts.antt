@@ -37,6 +37,9 @@ unfoldable pub greatest_total : List Spec → List Event → ℕ
 greatest_total devices [] = 0
 greatest_total devices (e ∷ events) = max (plugged_total devices e) (greatest_total devices events)
 
--- V * (30000 + 10 * W) enumerations' worth of attempts, 200 for each, and 50000 for each pair of events
+-- enough attempts for v events, where no plugged device has more than w bytes of configurations
+abbrev pub enough_for : ℕ → ℕ → ℕ
+enough_for v w = 200 * v * (30000 + 10 * w) + 50000 * v * v + 2
+
 unfoldable pub bound_of : PlanData → ℕ
-bound_of p = 200 * length p.events * (30000 + 10 * greatest_total p.devices p.events) + 50000 * length p.events * length p.events + 2
+bound_of p = enough_for (length p.events) (greatest_total p.devices p.events)

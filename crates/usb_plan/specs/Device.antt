@@ -87,4 +87,6 @@ device_in earlier (Some ms) = device_of earlier ms
 -- the devices so far and those of the values; the first is number n
 unfoldable pub devices_from : ℕ → List Spec → List Data → Result (List Spec) PlanFault
 devices_from n done [] = Ok done
-devices_from n done (d ∷ ds) = placed (place.Device n) (device_in done (as_table d)) >>= λ s. devices_from (n + 1) (done ++ s ∷ []) ds
+devices_from n done (d ∷ ds) =
+    placed (place.Device n) (device_in done (as_table d))
+    >>= λ s. devices_from (n + 1) (done ++ s ∷ []) ds

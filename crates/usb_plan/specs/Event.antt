@@ -60,7 +60,8 @@ is_plug (Some text) = bytes_eq text (codes "plug")
 -- nothing else of an event is looked at where its `do` is absent or unknown
 unfoldable pub event_by : Option Data → ℕ → List Spec → List Event → Members → Result Event Kind
 event_by None roots devices earlier ms = Err MissingKey
-event_by (Some d) roots devices earlier ms = if is_plug (as_str d) then plug_of roots devices earlier ms else Err BadValue
+event_by (Some d) roots devices earlier ms =
+    if is_plug (as_str d) then plug_of roots devices earlier ms else Err BadValue
 
 unfoldable pub event_in : ℕ → List Spec → List Event → Option Members → Result Event Kind
 event_in roots devices earlier None = Err BadValue
@@ -69,4 +70,6 @@ event_in roots devices earlier (Some ms) = event_by (get_member (codes "do") ms)
 -- the events so far and those of the values; the first is number n
 unfoldable pub events_from : ℕ → List Spec → ℕ → List Event → List Data → Result (List Event) PlanFault
 events_from roots devices n done [] = Ok done
-events_from roots devices n done (d ∷ ds) = placed (place.Event n) (event_in roots devices done (as_table d)) >>= λ e. events_from roots devices (n + 1) (done ++ e ∷ []) ds
+events_from roots devices n done (d ∷ ds) =
+    placed (place.Event n) (event_in roots devices done (as_table d))
+    >>= λ e. events_from roots devices (n + 1) (done ++ e ∷ []) ds

@@ -1,3 +1,4 @@
+pub mod Place
 pub mod Kind
 pub mod Value
 pub mod Keys

@@ -72,7 +72,9 @@ plan_with limit roots devices events = do
 
 -- the plan that a table describes: top, devices, events
 unfoldable pub plan_of : Members → Result PlanData PlanFault
-plan_of ms = placed Top (top_of ms) >>= λ top. plan_with top.0 top.1.0 (values_at (get_member (codes "device") ms)) (values_at (get_member (codes "event") ms))
+plan_of ms =
+    placed Top (top_of ms)
+    >>= λ top. plan_with top.0 top.1.0 (values_at (get_member (codes "device") ms)) (values_at (get_member (codes "event") ms))
 
 unfoldable pub read : Option Members → Result PlanData PlanFault
 read None = Err fault.Syntax

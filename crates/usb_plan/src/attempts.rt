@@ -66,10 +66,11 @@ fn greatest_total(devices: &[DeviceSpec], events: &[Event]) -> u64
     greatest
 }
 
-/// A number of attempts that is enough for every run of the plan in which few packets are damaged.
+/// How many attempts to allow for a run of the plan, on the safe side.
 ///
-/// With V events, and W the greatest number of bytes that the configurations of one plugged device have together
-/// (wTotalLength, 9.6.3), it is 200 * V * (30,000 + 10 * W) + 50,000 * V * V + 2. It takes no memory.
+/// With V events, and W the greatest number of bytes that the configurations of one plugged device
+/// have together (wTotalLength, 9.6.3, of those texts that begin with a configuration descriptor),
+/// it is 200 * V * (30,000 + 10 * W) + 50,000 * V * V + 2. It takes no memory.
 #[tactic(auto, unfolding(crate::specs::Attempts::bound_of))]
 pub fn bound(plan: &Plan) -> u64
     ensures { result ≡ bound_of plan.now }

@@ -220,7 +220,8 @@ fn device_in(
     earlier: &Devices,
     table: Option<&Table>,
 ) -> Result<Result<DeviceSpec, Kind>, AllocError>
-    ensures { IfOk result (λ r. r ≡ device_in earlier.now (option_map (λ t. table_view t.now) table.entry)) }
+    ensures { IfOk result
+        (λ r. r ≡ device_in earlier.now (option_map (λ t. table_view t.now) table.entry)) }
 {
     match table {
         None => Ok(Err(Kind::BadValue)),

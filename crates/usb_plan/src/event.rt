@@ -117,7 +117,8 @@ fn is_plug(text: Option<&str>) -> bool
     }
 }
 
-/// The event of a table with this value of `do`. Nothing else is looked at where it is absent or unknown.
+/// The event of a table with this value of `do`. Where it is absent or unknown nothing else of the
+/// event is looked at.
 #[tactic(auto, unfolding(crate::specs::Event::event_by))]
 fn event_by(
     action: Option<&Value>,
@@ -126,7 +127,8 @@ fn event_by(
     earlier: &[Event],
     table: &Table,
 ) -> Result<Event, Kind>
-    ensures { result ≡ event_by (option_map (λ v. view v.now) action.entry) roots devices.now earlier.now (table_view table.now) }
+    ensures { result ≡ event_by (option_map (λ v. view v.now) action.entry)
+        roots devices.now earlier.now (table_view table.now) }
 {
     match action {
         None => Err(Kind::MissingKey),
@@ -147,7 +149,8 @@ fn event_in(
     earlier: &[Event],
     table: Option<&Table>,
 ) -> Result<Event, Kind>
-    ensures { result ≡ event_in roots devices.now earlier.now (option_map (λ t. table_view t.now) table.entry) }
+    ensures { result ≡ event_in roots devices.now earlier.now
+        (option_map (λ t. table_view t.now) table.entry) }
 {
     match table {
         None => Err(Kind::BadValue),
@@ -163,7 +166,8 @@ pub(crate) fn events_of(
     values: &[Value],
 ) -> Result<Result<Events, PlanFault>, AllocError>
     ensures value { IfOk result (λ r. r ≡ events_from roots devices.now 1 [] (map view values.now)) }
-    ensures fit { IfOk result (λ r. IfOk r (λ events. events_fit roots (length devices.now) [] events ≡ true)) }
+    ensures fit { IfOk result
+        (λ r. IfOk r (λ events. events_fit roots (length devices.now) [] events ≡ true)) }
 {
     let mut done = Events::new(alloc);
     for (i, value) in values.iter().enumerate() {

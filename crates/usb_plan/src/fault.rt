@@ -15,6 +15,11 @@ pub enum Place {
 }
 
 impl fmt::Display for Place {
+    ghost use Rattle.std.specs.Prelude.{Some};
+    ghost use Rattle.usb_plan.specs.Place.{place_text};
+
+    ghost output = { λ place. Some (place_text place) };
+
     fn fmt<W: fmt::Write>(&self, f: &mut fmt::Formatter<W>) -> fmt::Result {
         match self {
             Place::Top => write!(f, "top"),
@@ -33,7 +38,8 @@ pub enum PlanFault {
     /// The entry lacks a key that it needs.
     #[error("plan: {0}: missing key")]
     MissingKey(Place),
-    /// A key has no meaning there, a value is of a wrong kind or out of range, or an entry is one too many.
+    /// A key has no meaning there, a value is of a wrong kind or out of range, a device has the name
+    /// of an earlier one, or an entry is one too many.
     #[error("plan: {0}: bad value")]
     BadValue(Place),
     /// A text is not hexadecimal digits, two for each byte.

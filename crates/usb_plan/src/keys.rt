@@ -17,7 +17,8 @@ fn is_one_of(key: &str, names: &[&str]) -> bool
 }
 
 fn all_named(table: &Table, names: &[&str]) -> bool
-    ensures { result ≡ list_all (λ k. list_any (λ n. bytes_eq (string_bytes k) n.now) names.now) (keys table.now) }
+    ensures { result ≡ list_all (λ k. list_any (λ n. bytes_eq (string_bytes k) n.now) names.now)
+        (keys table.now) }
 {
     table.keys().all(|key| is_one_of(key.as_str(), names))
 }

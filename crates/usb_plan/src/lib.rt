@@ -1,6 +1,7 @@
-//! The plan of a run, read from a TOML text, and how many attempts are enough for it.
+//! The plan of a run, read from a TOML text, and how many attempts to allow for it.
 //!
-//! `read_plan` gives the plan that the text spells, or the text's first fault; `bound` is a number of attempts.
+//! `read_plan` gives the plan that the text spells, or the text's first fault. A key, a kind of event
+//! or a value of the plan format that is not served yet is told as a bad value.
 #![tactic(auto)]
 
 mod attempts;
@@ -16,8 +17,7 @@ mod value;
 pub use attempts::bound;
 pub use fault::{Place, PlanFault};
 pub use plan::read_plan;
-pub use usb_bus::{Action, Event, Events, Plan};
-pub use usb_device::{Bytes, ConfigTexts, DeviceSpec, Devices, Name};
+pub use usb_bus::Plan;
 
 #[cfg(test)]
 mod tests;

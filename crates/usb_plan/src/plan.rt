@@ -115,7 +115,8 @@ fn plan_with(
     events: &[Value],
 ) -> Result<Result<Plan, PlanFault>, AllocError>
     requires { TopFits limit roots }
-    ensures { IfOk result (λ r. r ≡ plan_with limit roots (map view devices.now) (map view events.now)) }
+    ensures { IfOk result
+        (λ r. r ≡ plan_with limit roots (map view devices.now) (map view events.now)) }
 {
     let devices = match devices_of(alloc, devices)? {
         Err(fault) => return Ok(Err(fault)),
@@ -146,9 +147,10 @@ fn plan_of(alloc: Global, table: &Table) -> Result<Result<Plan, PlanFault>, Allo
 
 /// Reads the plan that a TOML text spells.
 ///
-/// The fault is the first of the text: Syntax, or that of the first entry with one, in the order top, devices, events,
-/// and in one entry the first in the order of `PlanFault`. Of an event whose `do` is absent or unknown nothing else is
-/// looked at. `Memory` says that memory was refused, and nothing of the text.
+/// The fault is the first of the text: `Syntax`, or that of the first entry with one, in the order
+/// top, devices, events, and in one entry the first in the order of `PlanFault`. Of an event whose
+/// `do` is absent or unknown nothing else is looked at. `Memory` says that memory was refused, and
+/// nothing of the text.
 #[tactic(auto, unfolding(crate::specs::Plan::read, crate::specs::Plan::spelled_plan))]
 pub fn read_plan(alloc: Global, text: &str) -> Result<Plan, PlanFault>
     ensures plan { IfOk result (λ p. spelled_plan text.now ≡ Ok p) }

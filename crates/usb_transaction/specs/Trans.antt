@@ -5,8 +5,7 @@ use Rattle.usb_packet.specs.declared.Toggle.{Toggle}
 use Rattle.usb_packet.specs.declared.Toggle.TheVariants.{Zero}
 use Rattle.usb_packet.specs.declared.TokenKind.TheVariants.{OutTok, InTok, SetupTok}
 use Rattle.usb_bus.specs.declared.types.Attempt.{Attempt}
-use Rattle.usb_bus.specs.declared.types.Outcome.{Outcome}
-use Rattle.usb_bus.specs.World.{World, Attempted, Failed}
+use Rattle.usb_bus.specs.World.{World, Failed}
 use Rattle.usb_transaction.specs.declared.target.Target.{Target}
 use Rattle.usb_transaction.specs.declared.fault.TransFault.{TransFault}
 use Rattle.usb_transaction.specs.declared.fault.TransFault.TheVariants.{Stalled, Busy, NoAnswer, Bus}
@@ -29,12 +28,6 @@ in_attempt t ep = record { kind = InTok; addr = t.addr; ep = ep; low = t.low; pr
 
 abbrev pub out_attempt : Target → ℕ → Toggle → List ℕ → Attempt
 out_attempt t ep toggle bytes = record { kind = OutTok; addr = t.addr; ep = ep; low = t.low; pre = t.pre; max = t.max; payload = Some (toggle, packet_of bytes) }
-
--- the call's last attempt was this one, and answered so
-pub record EndsWith (a : Attempt) (outcome : Outcome) (old new : World) : Type 0 where
-  pub before : World
-  pub later : old.attempts ≤ before.attempts
-  pub attempted : Attempted a before (Ok outcome) new
 
 -- at least n attempts were made, and the bus is still at work
 pub record Worked (n : ℕ) (old new : World) : Type 0 where

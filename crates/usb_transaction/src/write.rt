@@ -1,12 +1,12 @@
 //! OUT.
 ghost use Rattle.std.specs.Prelude.{◌≡◌, ◌≤◌, ◌<◌, [], length, IfOk, OnOk, OnErr};
 ghost use Rattle.usb_bus.specs.World.{Spends};
-ghost use Rattle.usb_bus.specs.declared.types.Outcome.TheVariants.{Ack};
 ghost use Rattle.usb_transaction.specs.Heard.{flip};
-ghost use Rattle.usb_transaction.specs.Trans.{IsTarget, Ends, EndsWith, out_attempt};
+ghost use Rattle.usb_transaction.specs.Trans.{IsTarget, Ends};
 
 use crate::attempt::attempt_of_out;
 use crate::heard::{Heard, flipped, judged_sent};
+use crate::tries::Tries;
 use crate::{Done, Target, TransFault};
 use usb_bus::Bus;
 use usb_packet::Toggle;
@@ -32,15 +32,12 @@ pub fn data_out<B: Bus>(
     requires short { length bytes.now ≤ target.max }
     ensures count { Spends 768 (B.world bus.old) (B.world bus.new) }
     ensures ends { Ends (B.world bus.old) result (B.world bus.new) }
-    // It is done where the last attempt was answered by ACK.
-    ensures last { IfOk result (λ done. EndsWith (out_attempt target ep toggle.old bytes.now) Ack (B.world bus.old) (B.world bus.new)) }
     ensures nothing { IfOk result (λ done. done ≡ []) }
     ensures toggle_ok { OnOk result (toggle.new ≡ flip toggle.old) }
     ensures toggle_err { OnErr result (toggle.new ≡ toggle.old) }
 {
     let attempt = attempt_of_out(target, ep, *toggle, bytes);
-    let mut errors = 0u8;
-    let mut waits = 0u16;
+    let mut tries = Tries::new();
     'tries: loop {
         match bus.attempt(&attempt) {
             Ok(outcome) => match judged_sent(&outcome) {
@@ -48,20 +45,9 @@ pub fn data_out<B: Bus>(
                     *toggle = flipped(*toggle);
                     return Ok(Done::nothing());
                 }
-                Heard::Wait => {
-                    waits += 1;
-                    errors = 0;
-                    if waits == 256 {
-                        return Err(TransFault::Busy);
-                    }
-                }
+                Heard::Wait => tries.wait()?,
                 Heard::Refused => return Err(TransFault::Stalled),
-                Heard::Lost => {
-                    errors += 1;
-                    if errors == 3 {
-                        return Err(TransFault::NoAnswer);
-                    }
-                }
+                Heard::Lost => tries.error()?,
             },
             Err(fault) => return Err(TransFault::Bus(fault)),
         }

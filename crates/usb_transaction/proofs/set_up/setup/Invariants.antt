@@ -1,4 +1,4 @@
-use Rattle.usb_transaction.proofs.Tries.{Tried}
+use Rattle.usb_transaction.proofs.Counting.{Tried}
 use Rattle.usb_transaction.proofs.set_up.setup.Given as goal
 
 abbrev pub invariant-loop-error : goal.invariant-loop-error

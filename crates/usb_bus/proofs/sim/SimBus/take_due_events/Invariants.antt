@@ -1,0 +1,13 @@
+use Rattle.std.proofs.Common.{◌≡◌}
+use Rattle.usb_bus.specs.World.{Spends}
+use Rattle.usb_bus.specs.Sim.{world_of}
+use Rattle.usb_bus.proofs.sim.SimBus.take_due_events.Given as goal
+
+abbrev pub invariant-due : goal.invariant-due
+invariant-due g l = record {
+  spends : Spends 0 (world_of l.fn.self) (world_of l.self);
+  fault : (world_of l.self).fault ≡ (world_of l.fn.self).fault;
+}
+
+abbrev pub decreases-due : goal.decreases-due
+decreases-due g l = (world_of l.self).left

@@ -1,0 +1,176 @@
+//! A simulated bus: the devices that a plan's events plug at its root ports, and the trace of its attempts.
+ghost use Rattle.std.specs.Prelude.{◌≡◌, ◌≤◌, length, vec_len, replicate, map, IfOk, IfErr, Some, true};
+ghost use Rattle.std.specs.List.{list_all};
+ghost use Rattle.usb_bus.specs.PlanData.{can_come};
+ghost use Rattle.usb_bus.specs.Roots.{ports_of};
+ghost use Rattle.usb_bus.specs.Steps.{opening, fault_of};
+ghost use Rattle.usb_bus.specs.declared.types.BusFault.TheVariants.{LimitReached};
+ghost use Rattle.usb_port.specs.PortState.{off};
+
+mod bus;
+mod events;
+mod lines;
+
+use crate::event::Events;
+use crate::root::RootPort;
+use crate::{BusFault, Plan, Watched};
+pub use events::Due;
+use std::alloc::{AllocError, Global};
+use std::io::Write;
+use usb_device::DeviceSpec;
+use usb_port::PortPath;
+
+/// A bus that a plan describes. Each attempt and each plug is a line of the trace, which goes to a writer at once.
+///
+/// After a fault every later attempt, event and line of report tells the same fault again and changes nothing.
+#[derive(Drop)]
+pub struct SimBus<W> {
+    alloc: Global,
+    roots: Vec<RootPort>,
+    devices: Vec<DeviceSpec>,
+    events: Events,
+    taken: usize,
+    attempts: u64,
+    /// The attempts made when the last event came.
+    attempts_then: u64,
+    limit: u64,
+    fault: Option<BusFault>,
+    writer: Watched<W>,
+    ghost some_root: { 1 ≤ length roots.items },
+    ghost few_roots: { length roots.items ≤ 7 },
+    ghost planned: { list_all (can_come (length roots.items) (length devices.items)) events ≡ true },
+    ghost taken_within: { taken ≤ length events },
+    ghost counted: { attempts_then ≤ attempts },
+    ghost within: { attempts ≤ limit },
+    ghost at_limit: { fault ≡ Some LimitReached → attempts ≡ limit },
+}
+
+/// What a simulated bus keeps of a plan.
+#[derive(Drop)]
+struct Stage {
+    roots: Vec<RootPort>,
+    devices: Vec<DeviceSpec>,
+    events: Events,
+}
+
+impl<W: Write> SimBus<W> {
+    ghost use Rattle.usb_bus.specs.Sim.{world_of, writer_of};
+
+    /// The bus of a plan, before anything came: all ports are off.
+    ///
+    /// An error: memory is refused; the writer is handed back.
+    pub fn new(
+        alloc: Global,
+        plan: &Plan,
+        writer: Watched<W>,
+    ) -> Result<SimBus<W>, (AllocError, Watched<W>)>
+        ensures world { IfOk result (λ bus. world_of bus ≡ opening plan.now) }
+        ensures writer { IfOk result (λ bus. writer_of bus ≡ writer) }
+        ensures back { IfErr result (λ e. e.1 ≡ writer) }
+    {
+        match staged(alloc, plan) {
+            Err(error) => Err((error, writer)),
+            Ok(stage) => Ok(SimBus {
+                alloc,
+                roots: stage.roots,
+                devices: stage.devices,
+                events: stage.events,
+                taken: 0,
+                attempts: 0,
+                attempts_then: 0,
+                limit: plan.limit(),
+                fault: None,
+                writer,
+            }),
+        }
+    }
+
+    /// Hands the writer back.
+    pub fn into_writer(self) -> Watched<W>
+        ensures { result ≡ writer_of self }
+    {
+        let SimBus { writer, .. } = self;
+        writer
+    }
+
+    /// How many events came.
+    pub fn events_taken(&self) -> u64
+        ensures { result ≡ (world_of self.now).taken }
+    {
+        self.taken as u64
+    }
+
+    /// How many events are to come.
+    pub fn events_left(&self) -> u64
+        ensures { result ≡ (world_of self.now).left }
+    {
+        (self.events.as_slice().len() - self.taken) as u64
+    }
+
+    /// How many attempts were made.
+    pub fn attempts(&self) -> u64
+        ensures { result ≡ (world_of self.now).attempts }
+    {
+        self.attempts
+    }
+
+    /// How often the device lost the host's ACK of the status stage of SET_ADDRESS: never, since no packet is damaged.
+    pub fn address_losses(&self) -> u64
+        ensures { result ≡ 0 }
+    {
+        0
+    }
+
+    /// The address and the configuration of the device at the path; None where none is there.
+    pub fn registers(&self, path: &PortPath) -> Option<(u8, u8)> {
+        let [port] = path.numbers() else {
+            return None;
+        };
+        let root = self.roots.as_slice().get(usize::from(*port) - 1)?;
+        let device = root.device.as_ref()?;
+        Some((device.address(), device.configuration()))
+    }
+}
+
+fn staged(alloc: Global, plan: &Plan) -> Result<Stage, AllocError>
+    ensures ports { IfOk result (λ s. ports_of s.roots.items ≡ replicate plan.now.roots off) }
+    ensures devices { IfOk result (λ s. s.devices.items ≡ plan.now.devices) }
+    ensures events { IfOk result (λ s. s.events ≡ plan.now.events) }
+{
+    Ok(Stage {
+        roots: roots_off(alloc, plan.roots())?,
+        devices: copies(alloc, plan.devices())?,
+        events: Events::copied(alloc, plan.events())?,
+    })
+}
+
+#[tactic(auto, using(crate::proofs::RootPorts::ports_off))]
+fn roots_off(alloc: Global, count: u8) -> Result<Vec<RootPort>, AllocError>
+    ensures { IfOk result (λ v. ports_of v.items ≡ replicate count off) }
+{
+    let mut roots = Vec::new(alloc);
+    'roots: for _ in 0..count {
+        roots.push(RootPort::new())?;
+    }
+    Ok(roots)
+}
+
+fn copies(alloc: Global, specs: &[DeviceSpec]) -> Result<Vec<DeviceSpec>, AllocError>
+    ensures { IfOk result (λ v. v.items ≡ specs.now) }
+{
+    let mut all = Vec::new(alloc);
+    'specs: for spec in specs {
+        all.push(spec.try_clone(alloc)?)?;
+    }
+    Ok(all)
+}
+
+/// The fault that a call ends with.
+fn fault_of<T>(ended: &Result<T, BusFault>) -> Option<BusFault>
+    ensures { result ≡ fault_of ended.now }
+{
+    match ended {
+        Ok(_) => None,
+        Err(fault) => Some(*fault),
+    }
+}

@@ -1,0 +1,96 @@
+//! The simulated bus as the host sees it.
+ghost use Rattle.std.specs.Prelude.{◌≡◌, ◌≢◌, ◌+◌, ◌-◌, ◌<◌, ◌≤◌, length, slice_set, slice_index_or, unwrap_or, true, None, OnOk, IfErr};
+ghost use Rattle.usb_port.specs.PortState.{off, set_row, clear_row, status_of};
+ghost use Rattle.usb_bus.specs.World.{Spends, AnswerFits, IsAttempt};
+ghost use Rattle.usb_bus.specs.Roots.{ports_of};
+ghost use Rattle.usb_bus.specs.Watch.{has_failed};
+ghost use Rattle.usb_bus.specs.declared.types.BusFault.TheVariants.{LimitReached, TraceFailed};
+
+use super::lines::put_attempt;
+use super::{SimBus, fault_of};
+use crate::exchange::{make_exchange, outcome_of};
+use crate::root::RootPort;
+use crate::{Attempt, Bus, BusFault, Outcome};
+use std::io::Write;
+
+impl<W: Write> Bus for SimBus<W> {
+    ghost use Rattle.usb_bus.specs.Sim.{world_of};
+
+    ghost world = { world_of };
+
+    fn attempt(&mut self, attempt: &Attempt) -> Result<Outcome, BusFault> {
+        if let Some(fault) = self.fault {
+            return Err(fault);
+        }
+        if self.attempts == self.limit {
+            self.fault = Some(BusFault::LimitReached);
+            return Err(BusFault::LimitReached);
+        }
+        let result = self.make_attempt(attempt);
+        self.fault = fault_of(&result);
+        result
+    }
+
+    fn root_ports(&self) -> u8 {
+        self.roots.len() as u8
+    }
+
+    #[tactic(auto, unfolding(crate::specs::World::port_at))]
+    fn root_status(&self, port: u8) -> [u8; 4] {
+        status_at(&self.roots, usize::from(port) - 1)
+    }
+
+    #[tactic(auto, unfolding(crate::specs::World::port_at))]
+    fn root_set(&mut self, port: u8, feature: u16) {
+        set_at(&mut self.roots, usize::from(port) - 1, feature);
+    }
+
+    #[tactic(auto, unfolding(crate::specs::World::port_at))]
+    fn root_clear(&mut self, port: u8, feature: u16) {
+        clear_at(&mut self.roots, usize::from(port) - 1, feature);
+    }
+}
+
+impl<W: Write> SimBus<W> {
+    ghost use Rattle.usb_bus.specs.Sim.{world_of, writer_of};
+
+    /// The events that are due, and then an attempt and its line.
+    fn make_attempt(&mut self, attempt: &Attempt) -> Result<Outcome, BusFault>
+        requires attempt { IsAttempt attempt.now }
+        requires sound { (world_of self.old).fault ≡ None }
+        requires within { (world_of self.old).attempts < (world_of self.old).limit }
+        ensures spends { Spends 1 (world_of self.old) (world_of self.new) }
+        ensures one { OnOk result ((world_of self.new).attempts ≡ (world_of self.old).attempts + 1) }
+        ensures fits { AnswerFits attempt.now.max result }
+        ensures fault { (world_of self.new).fault ≡ None }
+        ensures other { IfErr result (λ f. f ≢ LimitReached) }
+        ensures trace { result ≡ Err TraceFailed → has_failed (writer_of self.new) ≡ true }
+    {
+        self.take_due_events()?;
+        let exchange = make_exchange(&mut self.roots, attempt)?;
+        self.attempts += 1;
+        put_attempt(&mut self.writer, self.attempts, attempt.pre, &exchange)?;
+        Ok(outcome_of(exchange.heard, attempt.max))
+    }
+}
+
+fn status_at(roots: &[RootPort], i: usize) -> [u8; 4]
+    requires { i < length roots.now }
+    ensures { result ≡ status_of (slice_index_or (ports_of roots.now) i off) }
+{
+    roots[i].port.status()
+}
+
+fn set_at(roots: &mut [RootPort], i: usize, feature: u16)
+    requires { i < length roots.old }
+    ensures { let p = slice_index_or (ports_of roots.old) i off in ports_of roots.new ≡ slice_set (ports_of roots.old) i (unwrap_or (set_row feature p) p) }
+{
+    roots[i].set_feature(feature);
+}
+
+fn clear_at(roots: &mut [RootPort], i: usize, feature: u16)
+    requires { i < length roots.old }
+    ensures { let p = slice_index_or (ports_of roots.old) i off in ports_of roots.new ≡ slice_set (ports_of roots.old) i (unwrap_or (clear_row feature p) p) }
+{
+    roots[i].clear_feature(feature);
+}

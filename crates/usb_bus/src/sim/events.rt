@@ -1,0 +1,142 @@
+//! The events of a plan as they come.
+ghost use Rattle.std.specs.Prelude.{◌≡◌, ◌≢◌, ◌+◌, ◌-◌, ◌<◌, ◌≤◌, List, ℕ, [], ◌∷◌, ◌++◌, length, true, slice_index, OnOk, OnErr, IfErr, IsTrue};
+ghost use Rattle.std.specs.Io.KnownBytes.{Appends};
+ghost use Rattle.usb_bus.specs.World.{Spends, changes};
+ghost use Rattle.usb_bus.specs.Steps.{TookEvent};
+ghost use Rattle.usb_bus.specs.PlanData.{is_root_path};
+ghost use Rattle.usb_bus.specs.Roots.{ports_of, root_of, with_plug};
+ghost use Rattle.usb_bus.specs.Trace.{plug_line};
+ghost use Rattle.usb_bus.specs.Watch.{inner_of, has_failed, AppendsFront};
+ghost use Rattle.usb_bus.specs.declared.types.BusFault.TheVariants.{LimitReached, TraceFailed};
+
+use super::{SimBus, fault_of};
+use crate::event::Action;
+use crate::root::RootPort;
+use crate::watched::put_pieces;
+use crate::{BusFault, Watched, WriteFailed};
+use std::alloc::{AllocError, Global};
+use std::io::Write;
+use usb_device::{Device, DeviceSpec};
+use usb_port::PortPath;
+
+/// What an event asks of the host.
+#[derive(Clone, Copy, Debug, PartialEq, Eq)]
+pub enum Due {
+    /// Nothing: a device was plugged.
+    Changed,
+}
+
+impl<W: Write> SimBus<W> {
+    ghost use Rattle.usb_bus.specs.Sim.{world_of, writer_of};
+
+    /// Lets the next event come at once, however many attempts it would wait for, and tells what it asks; None
+    /// where no event is left.
+    ///
+    /// Errors: the fault that was told before; `Memory` where the device could not be made, and the event did not
+    /// come; `TraceFailed` where the writer failed in this call, and the event came.
+    pub fn apply_next_event(&mut self) -> Result<Option<Due>, BusFault>
+        ensures event { TookEvent (world_of self.old) result (world_of self.new) }
+        ensures trace { result ≡ Err TraceFailed → (world_of self.old).fault ≡ None → has_failed (writer_of self.new) ≡ true }
+    {
+        if let Some(fault) = self.fault {
+            return Err(fault);
+        }
+        if self.events_left() == 0 {
+            return Ok(None);
+        }
+        let result = self.take_event();
+        self.fault = fault_of(&result);
+        match result {
+            Ok(()) => Ok(Some(Due::Changed)),
+            Err(fault) => Err(fault),
+        }
+    }
+
+    /// Lets the events come that are due.
+    pub(super) fn take_due_events(&mut self) -> Result<(), BusFault>
+        ensures spends { Spends 0 (world_of self.old) (world_of self.new) }
+        ensures fault { (world_of self.new).fault ≡ (world_of self.old).fault }
+        ensures other { IfErr result (λ f. f ≢ LimitReached) }
+        ensures trace { result ≡ Err TraceFailed → has_failed (writer_of self.new) ≡ true }
+    {
+        'due: while self.is_due() {
+            self.take_event()?;
+        }
+        Ok(())
+    }
+
+    /// Whether the next event waits no longer: so many attempts were made since the former event.
+    fn is_due(&self) -> bool
+        ensures { IsTrue result → 0 < (world_of self.now).left }
+    {
+        match self.events.as_slice().get(self.taken) {
+            None => false,
+            Some(event) => self.attempts - self.attempts_then >= event.after,
+        }
+    }
+
+    fn take_event(&mut self) -> Result<(), BusFault>
+        requires { 0 < (world_of self.old).left }
+        ensures spends { Spends 0 (world_of self.old) (world_of self.new) }
+        ensures fault { (world_of self.new).fault ≡ (world_of self.old).fault }
+        ensures one { OnOk result ((world_of self.new).taken ≡ (world_of self.old).taken + 1) }
+        ensures other { IfErr result (λ f. f ≢ LimitReached) }
+        ensures trace { result ≡ Err TraceFailed → has_failed (writer_of self.new) ≡ true }
+    {
+        let event = &self.events.as_slice()[self.taken];
+        let Action::Plug(path, index) = &event.action;
+        let spec = &self.devices.as_slice()[*index];
+        plug(self.alloc, &mut self.roots, path, spec)?;
+        self.taken += 1;
+        self.attempts_then = self.attempts;
+        put_plug(&mut self.writer, path, spec.name())?;
+        Ok(())
+    }
+}
+
+/// Makes the device, and plugs it at its root port.
+fn plug(
+    alloc: Global,
+    roots: &mut [RootPort],
+    path: &PortPath,
+    spec: &DeviceSpec,
+) -> Result<(), AllocError>
+    requires { is_root_path (length roots.old) path.now ≡ true }
+    ensures ok { OnOk result (ports_of roots.new ≡ with_plug path.now spec.now.low (ports_of roots.old)) }
+    ensures err { OnErr result (ports_of roots.new ≡ ports_of roots.old) }
+    ensures number { length (ports_of roots.new) ≡ length (ports_of roots.old) }
+    ensures grown { changes (ports_of roots.new) ≤ changes (ports_of roots.old) + 1 }
+{
+    let device = Device::new(alloc, spec)?;
+    roots[root_of(path)].plug(spec.is_low(), device);
+    Ok(())
+}
+
+fn root_of(path: &PortPath) -> usize
+    ensures value { result ≡ root_of path.now }
+    ensures first { result + 1 ≡ slice_index path.now 0 }
+{
+    usize::from(path.numbers()[0]) - 1
+}
+
+/// The line of a plug.
+fn put_plug<W: Write>(
+    writer: &mut Watched<W>,
+    path: &PortPath,
+    name: &str,
+) -> Result<(), WriteFailed>
+    ensures front { AppendsFront (W.contents (inner_of writer.old)) (W.contents (inner_of writer.new)) (plug_line path.now name.now ++ 10 ∷ []) }
+    ensures ok { OnOk result (Appends (W.contents (inner_of writer.old)) (W.contents (inner_of writer.new)) (plug_line path.now name.now ++ 10 ∷ [])) }
+    ensures marked { OnErr result (has_failed writer.new ≡ true) }
+{
+    put_pieces(
+        writer,
+        &[
+            b"plug ",
+            path.text().as_str().as_bytes(),
+            b" ",
+            name.as_bytes(),
+            b"\n",
+        ],
+    )
+}

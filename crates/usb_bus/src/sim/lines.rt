@@ -1,0 +1,52 @@
+//! The lines that go to the writer.
+ghost use Rattle.std.specs.Prelude.{◌≡◌, [], ◌∷◌, ◌++◌, true, OnOk, OnErr};
+ghost use Rattle.std.specs.Io.KnownBytes.{Appends};
+ghost use Rattle.usb_bus.specs.Steps.{PutLine};
+ghost use Rattle.usb_bus.specs.Trace.{attempt_line};
+ghost use Rattle.usb_bus.specs.Watch.{inner_of, has_failed, AppendsFront};
+
+use super::SimBus;
+use crate::exchange::Exchange;
+use crate::trace::attempt_line;
+use crate::watched::put_pieces;
+use crate::{BusFault, Watched, WriteFailed};
+use std::io::Write;
+
+impl<W: Write> SimBus<W> {
+    ghost use Rattle.usb_bus.specs.Sim.{world_of, writer_of};
+
+    /// Writes a line of report, given without its newline. It takes no memory.
+    ///
+    /// Errors: the fault that was told before, and then nothing is written; `TraceFailed` where the writer failed
+    /// in this call, and then a front of the line was written.
+    pub fn put_line(&mut self, line: &[u8]) -> Result<(), BusFault>
+        ensures step { PutLine (world_of self.old) result (world_of self.new) }
+        ensures front { AppendsFront (W.contents (inner_of (writer_of self.old))) (W.contents (inner_of (writer_of self.new))) (line.now ++ 10 ∷ []) }
+        ensures ok { OnOk result (Appends (W.contents (inner_of (writer_of self.old))) (W.contents (inner_of (writer_of self.new))) (line.now ++ 10 ∷ [])) }
+        ensures trace { (world_of self.old).fault ≡ None → OnErr result (has_failed (writer_of self.new) ≡ true) }
+    {
+        if let Some(fault) = self.fault {
+            return Err(fault);
+        }
+        if put_pieces(&mut self.writer, &[line, b"\n"]).is_err() {
+            self.fault = Some(BusFault::TraceFailed);
+            return Err(BusFault::TraceFailed);
+        }
+        Ok(())
+    }
+}
+
+/// The line of an attempt.
+pub(super) fn put_attempt<W: Write>(
+    writer: &mut Watched<W>,
+    number: u64,
+    pre: bool,
+    exchange: &Exchange,
+) -> Result<(), WriteFailed>
+    ensures front { AppendsFront (W.contents (inner_of writer.old)) (W.contents (inner_of writer.new)) (attempt_line number pre exchange.now ++ 10 ∷ []) }
+    ensures ok { OnOk result (Appends (W.contents (inner_of writer.old)) (W.contents (inner_of writer.new)) (attempt_line number pre exchange.now ++ 10 ∷ [])) }
+    ensures marked { OnErr result (has_failed writer.new ≡ true) }
+{
+    let line = attempt_line(number, pre, exchange);
+    put_pieces(writer, &[line.as_str().as_bytes(), b"\n"])
+}

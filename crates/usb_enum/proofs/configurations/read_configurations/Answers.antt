@@ -1,0 +1,17 @@
+use Rattle.std.proofs.Common.{◌≡◌, ◌∙◌, ℕ, false, arith, subst, sym}
+use Rattle.std.proofs.lemmas.Grind.{common_steps}
+use Rattle.usb_enum.specs.Text.{has_value}
+use Rattle.usb_enum.proofs.Counts.{spends_on}
+use Rattle.usb_enum.proofs.Values.{one_more}
+use Rattle.usb_enum.proofs.configurations.read_configurations.Goals as goal
+
+pub loop-index-preserved : goal.loop-index-preserved
+loop-index-preserved g c =
+    let texts = c.loop-index.texts in
+    let text = c.in_ok-text.text in
+    let P : ℕ → Type 0 = λ value. has_value value texts ≡ false in
+    record {
+      spent = spends_on _ _ _ _ _ _ c.loop-index.invariant.spent c.read_text.ensures.spends (omega arith);
+      read = rw c.in_ok-push.ensures.ok (grind (arith, common_steps, c.loop-index.invariant.read));
+      differ = rw c.in_ok-push.ensures.ok (one_more texts text c.loop-index.invariant.differ (subst P c.value.ensures (sym c.has_value.ensures ∙ c.if-has_value.false)));
+    }

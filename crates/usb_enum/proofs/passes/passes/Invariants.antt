@@ -1,0 +1,8 @@
+use Rattle.std.proofs.Common.{◌≡◌, ◌*◌}
+use Rattle.usb_bus.specs.World.{Spends}
+use Rattle.usb_hub.specs.Port.{IsPort}
+use Rattle.usb_enum.specs.Bounds.{pass_bound}
+use Rattle.usb_enum.proofs.passes.passes.Given as goal
+
+abbrev pub invariant-loop-pass : goal.invariant-loop-pass
+invariant-loop-pass g l = Spends (l._pass * pass_bound) (g.B.Bus.world l.initial.bus) (g.B.Bus.world l.bus)

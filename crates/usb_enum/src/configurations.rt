@@ -1,0 +1,94 @@
+//! The configurations of a device: each is read, and one is chosen.
+ghost use Rattle.std.specs.Prelude.{◌≡◌, ◌≤◌, ◌<◌, ◌*◌, ℕ, List, length, position, nat_le, Some, IfOk, IfErr, IfSome};
+ghost use Rattle.usb_bus.specs.World.{Spends};
+ghost use Rattle.usb_transaction.specs.Trans.{IsTarget};
+ghost use Rattle.usb_enum.specs.Bounds.{read_bound, configuration_bound};
+ghost use Rattle.usb_enum.specs.Stop.{Told};
+ghost use Rattle.usb_enum.specs.Text.{ValuesDiffer, choice_of, needs_of};
+
+use crate::stop::{Stop, answered_or};
+use crate::{Cause, ConfigText, ConfigTexts, Request};
+use std::alloc::{AllocError, Global};
+use usb_bus::Bus;
+use usb_descriptor::config_head;
+use usb_hub::get_config;
+use usb_resources::choose;
+use usb_transaction::Target;
+
+/// wTotalLength of the configuration of an index, from its first nine bytes.
+#[tactic(auto, using(crate::proofs::Counts::read_spends))]
+fn total_length<B: Bus>(alloc: Global, bus: &mut B, target: Target, index: u8) -> Result<u16, Stop>
+    requires target { IsTarget target }
+    requires max { 8 ≤ target.max }
+    ensures spends { Spends (read_bound 9) (B.world bus.old) (B.world bus.new) }
+    ensures told { IfErr result (λ stop. Told stop (B.world bus.new)) }
+    ensures least { IfOk result (λ total. 9 ≤ total) }
+    ensures most { IfOk result (λ total. total ≤ 65535) }
+{
+    let stalled = Cause::Stalled(Request::Config);
+    let head = answered_or(stalled, get_config(alloc, bus, target, index, 9))?;
+    match config_head(head.as_slice()) {
+        Ok(total) => Ok(total),
+        Err(_) => Err(Stop::Refused(Cause::BadConfiguration(index))),
+    }
+}
+
+/// The configuration text of an index.
+fn read_text<B: Bus>(
+    alloc: Global,
+    bus: &mut B,
+    target: Target,
+    index: u8,
+) -> Result<ConfigText, Stop>
+    requires target { IsTarget target }
+    requires max { 8 ≤ target.max }
+    ensures spends { Spends configuration_bound (B.world bus.old) (B.world bus.new) }
+    ensures told { IfErr result (λ stop. Told stop (B.world bus.new)) }
+{
+    let total = total_length(alloc, bus, target, index)?;
+    let stalled = Cause::Stalled(Request::Config);
+    let bytes = answered_or(stalled, get_config(alloc, bus, target, index, total))?;
+    match ConfigText::new(bytes) {
+        Some(text) => Ok(text),
+        None => Err(Stop::Refused(Cause::BadConfiguration(index))),
+    }
+}
+
+/// The configurations of a device that has so many. No two of them have the same value.
+#[tactic(auto, using(crate::proofs::Counts::spends_on, crate::proofs::Values::one_more))]
+pub(crate) fn read_configurations<B: Bus>(
+    alloc: Global,
+    bus: &mut B,
+    target: Target,
+    count: u8,
+) -> Result<ConfigTexts, Stop>
+    requires target { IsTarget target }
+    requires max { 8 ≤ target.max }
+    ensures spends { Spends (255 * configuration_bound) (B.world bus.old) (B.world bus.new) }
+    ensures told { IfErr result (λ stop. Told stop (B.world bus.new)) }
+    ensures all { IfOk result (λ texts. length texts ≡ count) }
+    ensures differ { IfOk result (λ texts. ValuesDiffer texts) }
+{
+    let mut texts = ConfigTexts::new(alloc);
+    for index in 0..count {
+        let text = read_text(alloc, bus, target, index)?;
+        if texts.has_value(text.value()) {
+            return Err(Stop::Refused(Cause::BadConfiguration(index)));
+        }
+        texts.push(text)?;
+    }
+    Ok(texts)
+}
+
+/// The index of the first configuration that needs no more than the supply, in mA.
+pub(crate) fn choose_configuration(
+    alloc: Global,
+    texts: &ConfigTexts,
+    supply: u16,
+) -> Result<Option<usize>, AllocError>
+    ensures chosen { IfOk result (λ chosen. chosen ≡ choice_of supply texts.now) }
+    ensures inside { IfOk result (λ chosen. IfSome chosen (λ i. i < length texts.now)) }
+{
+    let needs = texts.needs(alloc)?;
+    Ok(choose(needs.as_slice(), supply))
+}

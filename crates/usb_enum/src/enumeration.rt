@@ -1,0 +1,169 @@
+//! The whole enumeration.
+ghost use Rattle.std.specs.Prelude.{◌≡◌, ◌≢◌, ◌≤◌, ◌<◌, IfOk, IfErr, Err, Some};
+ghost use Rattle.usb_bus.specs.World.{Spends};
+ghost use Rattle.usb_transaction.specs.Trans.{IsTarget};
+ghost use Rattle.usb_hub.specs.Port.{IsPort};
+ghost use Rattle.usb_resources.specs.Pool.{Takes};
+ghost use Rattle.usb_enum.specs.Bounds.{enumeration_bound, configured_bound};
+ghost use Rattle.usb_enum.specs.Stop.{Told, FaultTold};
+ghost use Rattle.usb_enum.specs.Found.{IsFound, IsRefusal, IsWhole, TakesFor};
+
+use crate::configurations::{choose_configuration, read_configurations};
+use crate::passes::{Addressed, passes, unaddressed};
+use crate::stop::{Stop, answered_or, at_port};
+use crate::strings::{StringIndexes, read_strings};
+use crate::{Accepted, Cause, ConfigTexts, EnumFault, Finding, Request};
+use std::alloc::Global;
+use usb_bus::Bus;
+use usb_hub::{HubPort, clear_port, set_configuration};
+use usb_request::feature::PORT_ENABLE;
+use usb_resources::{Address, AddressPool};
+use usb_transaction::Target;
+
+/// bDeviceClass of a hub (11.23.1).
+const HUB_CLASS: u8 = 9;
+
+/// The last tier in which a device may stand (4.1.1).
+const LAST_TIER: u8 = 7;
+
+/// Enumerates the device at a port (9.1.2): the port is reset, and the device is given the least
+/// free address, read and configured.
+///
+/// `tier` is the device's tier, 2 at the root, and `supply` what the port gives, in mA. A device
+/// that is refused has its port disabled and leaves the pool as it was.
+///
+/// # Errors
+///
+/// `ParentLost` where a request to the port failed, which none to a root port does. `Bus` where
+/// the bus makes no more steps. `Memory` where memory was refused. The pool is then as it was.
+#[tactic(auto, using(crate::proofs::Counts::spends_on, usb_hub::proofs::Ports::port_stays))]
+pub fn enumerate<B: Bus>(
+    alloc: Global,
+    bus: &mut B,
+    pool: &mut AddressPool,
+    port: HubPort,
+    tier: u8,
+    supply: u16,
+) -> Result<Finding, EnumFault>
+    requires port { IsPort (B.world bus.old) port }
+    ensures spends { Spends enumeration_bound (B.world bus.old) (B.world bus.new) }
+    ensures told { IfErr result (λ fault. FaultTold fault (B.world bus.new)) }
+    ensures pool { TakesFor result pool.old pool.new }
+    ensures whole { IfOk result (λ finding. IsFound port supply finding (B.world bus.new)) }
+{
+    let Some(address) = pool.take() else {
+        return without_address(alloc, bus, port);
+    };
+    match examine(alloc, bus, port, address, tier, supply) {
+        Ok(device) => Ok(Finding::Device(device)),
+        Err(stop) => {
+            let finding = give_up(bus, port, stop);
+            pool.release(address);
+            finding
+        }
+    }
+}
+
+/// A device that no address is free for is refused once it should be given one.
+#[tactic(auto, using(crate::proofs::Counts::spends_on, usb_hub::proofs::Ports::port_stays))]
+fn without_address<B: Bus>(alloc: Global, bus: &mut B, port: HubPort) -> Result<Finding, EnumFault>
+    requires port { IsPort (B.world bus.old) port }
+    ensures spends { Spends enumeration_bound (B.world bus.old) (B.world bus.new) }
+    ensures told { IfErr result (λ fault. FaultTold fault (B.world bus.new)) }
+    ensures refused { IfOk result (λ finding. IsRefusal port finding (B.world bus.new)) }
+{
+    match unaddressed(alloc, bus, port) {
+        Ok(_) => give_up(bus, port, Stop::Refused(Cause::NoAddress)),
+        Err(stop) => give_up(bus, port, stop),
+    }
+}
+
+/// Disables the port of a device that is refused.
+#[tactic(auto, using(crate::proofs::Ports::disabled))]
+fn give_up<B: Bus>(bus: &mut B, port: HubPort, stop: Stop) -> Result<Finding, EnumFault>
+    requires port { IsPort (B.world bus.old) port }
+    requires told { Told stop (B.world bus.old) }
+    ensures spends { Spends 0 (B.world bus.old) (B.world bus.new) }
+    ensures told { IfErr result (λ fault. FaultTold fault (B.world bus.new)) }
+    ensures refused { IfOk result (λ finding. IsRefusal port finding (B.world bus.new)) }
+{
+    match stop {
+        Stop::Refused(cause) => match at_port(clear_port(bus, port, PORT_ENABLE)) {
+            Ok(()) => Ok(Finding::Refused(cause)),
+            Err(Stop::Fault(fault)) => Err(fault),
+            Err(Stop::Refused(cause)) => Ok(Finding::Refused(cause)),
+        },
+        Stop::Fault(fault) => Err(fault),
+    }
+}
+
+/// Gives the device its address, and reads and configures it.
+#[tactic(auto, using(crate::proofs::Counts::spends_on))]
+fn examine<B: Bus>(
+    alloc: Global,
+    bus: &mut B,
+    port: HubPort,
+    address: Address,
+    tier: u8,
+    supply: u16,
+) -> Result<Accepted, Stop>
+    requires port { IsPort (B.world bus.old) port }
+    ensures spends { Spends enumeration_bound (B.world bus.old) (B.world bus.new) }
+    ensures told { IfErr result (λ stop. Told stop (B.world bus.new)) }
+    ensures address { IfOk result (λ device. device.address ≡ address) }
+    ensures whole { IfOk result (λ device. IsWhole supply device) }
+{
+    let device = passes(alloc, bus, port, address.number())?;
+    configure(alloc, bus, address, device, tier, supply)
+}
+
+/// Reads and configures a device that has its address.
+#[tactic(auto, using(crate::proofs::Counts::spends_on))]
+fn configure<B: Bus>(
+    alloc: Global,
+    bus: &mut B,
+    address: Address,
+    device: Addressed,
+    tier: u8,
+    supply: u16,
+) -> Result<Accepted, Stop>
+    ensures spends { Spends configured_bound (B.world bus.old) (B.world bus.new) }
+    ensures told { IfErr result (λ stop. Told stop (B.world bus.new)) }
+    ensures address { IfOk result (λ accepted. accepted.address ≡ address) }
+    ensures whole { IfOk result (λ accepted. IsWhole supply accepted) }
+{
+    let Addressed { target, bytes } = device;
+    let is_hub = bytes[4] == HUB_CLASS;
+    if is_hub && tier == LAST_TIER {
+        return Err(Stop::Refused(Cause::TooDeep));
+    }
+    let configs = read_configurations(alloc, bus, target, bytes[17])?;
+    let Some(chosen) = choose_configuration(alloc, &configs, supply)? else {
+        return Err(Stop::Refused(Cause::NoPower));
+    };
+    let value = configs.as_slice()[chosen].value();
+    let stalled = Cause::Stalled(Request::SetConfig);
+    answered_or(stalled, set_configuration(bus, target, value))?;
+    // hubs are not served yet
+    if is_hub {
+        return Err(Stop::Refused(Cause::BadHub));
+    }
+    let strings = read_strings(alloc, bus, target, string_indexes(&bytes))?;
+    Ok(Accepted {
+        address,
+        low: target.low,
+        bytes,
+        configs,
+        chosen,
+        strings,
+    })
+}
+
+/// The indexes of the strings that a device descriptor names.
+fn string_indexes(bytes: &[u8; 18]) -> StringIndexes {
+    StringIndexes {
+        manufacturer: bytes[14],
+        product: bytes[15],
+        serial_number: bytes[16],
+    }
+}

@@ -1,0 +1,173 @@
+//! The steps up to a device that has its address and has given its device descriptor.
+ghost use Rattle.std.specs.Prelude.{◌≡◌, ◌≤◌, ◌<◌, ◌*◌, IfOk, IfErr, IfSome};
+ghost use Rattle.usb_bus.specs.World.{Spends};
+ghost use Rattle.usb_hub.specs.Port.{IsPort};
+ghost use Rattle.usb_transaction.specs.Trans.{IsTarget};
+ghost use Rattle.usb_enum.specs.Bounds.{pass_bound, read_bound, none_bound};
+ghost use Rattle.usb_enum.specs.Stop.{Told};
+
+use crate::stop::{Stop, answered_or, at_port};
+use crate::{Cause, Request};
+use std::alloc::Global;
+use usb_bus::Bus;
+use usb_descriptor::{device_head, read_device};
+use usb_hub::{HubPort, clear_port, get_device, port_status, set_address, set_port};
+use usb_pipe::PipeFault;
+use usb_request::feature::{C_PORT_RESET, PORT_RESET};
+use usb_transaction::Target;
+
+/// A device that has its address, and its device descriptor.
+#[derive(Drop)]
+pub(crate) struct Addressed {
+    pub target: Target,
+    pub bytes: [u8; 18],
+    ghost target_fits: { IsTarget target },
+    ghost target_max: { 8 ≤ target.max },
+}
+
+/// Resets the port (11.5.1.5), and tells whether a low-speed device is there.
+fn reset<B: Bus>(alloc: Global, bus: &mut B, port: HubPort) -> Result<bool, Stop>
+    requires port { IsPort (B.world bus.old) port }
+    ensures spends { Spends 0 (B.world bus.old) (B.world bus.new) }
+    ensures told { IfErr result (λ stop. Told stop (B.world bus.new)) }
+{
+    at_port(set_port(bus, port, PORT_RESET))?;
+    let status = at_port(port_status(alloc, bus, port))?;
+    if !status.is_enabled() {
+        return Err(Stop::Refused(Cause::Lost));
+    }
+    if status.reset_changed() {
+        at_port(clear_port(bus, port, C_PORT_RESET))?;
+    }
+    Ok(status.is_low_speed())
+}
+
+/// Whether PRE goes before packets to a low-speed device at the port (8.6.5).
+fn needs_pre(port: HubPort) -> bool {
+    match port {
+        HubPort::Root(_) => false,
+    }
+}
+
+/// The maximum packet of endpoint 0, from the first eight bytes of the device descriptor.
+#[tactic(auto, using(crate::proofs::Counts::read_spends), unfolding(usb_descriptor::specs::Device::device_head_of))]
+fn first_maximum<B: Bus>(alloc: Global, bus: &mut B, unaddressed: Target) -> Result<u8, Stop>
+    requires target { IsTarget unaddressed }
+    requires max { unaddressed.max ≡ 8 }
+    ensures spends { Spends (read_bound 8) (B.world bus.old) (B.world bus.new) }
+    ensures told { IfErr result (λ stop. Told stop (B.world bus.new)) }
+    ensures least { IfOk result (λ max. 8 ≤ max) }
+    ensures most { IfOk result (λ max. max ≤ 64) }
+{
+    let stalled = Cause::Stalled(Request::Device);
+    let bytes = answered_or(stalled, get_device(alloc, bus, unaddressed, 8))?;
+    match device_head(bytes.as_slice(), unaddressed.low) {
+        Ok(max) => Ok(max),
+        Err(_) => Err(Stop::Refused(Cause::BadDevice)),
+    }
+}
+
+/// The device descriptor, or `None` where the device gave no answer.
+#[tactic(auto, using(crate::proofs::Counts::read_spends))]
+fn descriptor<B: Bus>(alloc: Global, bus: &mut B, target: Target) -> Result<Option<[u8; 18]>, Stop>
+    requires target { IsTarget target }
+    requires max { 8 ≤ target.max }
+    ensures spends { Spends (read_bound 18) (B.world bus.old) (B.world bus.new) }
+    ensures told { IfErr result (λ stop. Told stop (B.world bus.new)) }
+{
+    let outcome = get_device(alloc, bus, target, 18);
+    if outcome == Err(PipeFault::NoAnswer) {
+        return Ok(None);
+    }
+    let bytes = answered_or(Cause::Stalled(Request::Device), outcome)?;
+    if read_device(bytes.as_slice(), target.low).is_err() {
+        return Err(Stop::Refused(Cause::BadDevice));
+    }
+    match bytes.as_slice().first_chunk::<18>() {
+        Some(chunk) => Ok(Some(*chunk)),
+        None => Err(Stop::Refused(Cause::BadDevice)),
+    }
+}
+
+/// The device at address 0, once its port is reset and its maximum packet is known.
+#[tactic(auto, using(crate::proofs::Counts::spends_on))]
+pub(crate) fn unaddressed<B: Bus>(alloc: Global, bus: &mut B, port: HubPort) -> Result<Target, Stop>
+    requires port { IsPort (B.world bus.old) port }
+    ensures spends { Spends (read_bound 8) (B.world bus.old) (B.world bus.new) }
+    ensures told { IfErr result (λ stop. Told stop (B.world bus.new)) }
+    ensures target { IfOk result (λ target. IsTarget target) }
+    ensures max { IfOk result (λ target. 8 ≤ target.max) }
+{
+    let low = reset(alloc, bus, port)?;
+    let pre = low && needs_pre(port);
+    let addr = 0;
+    let max = first_maximum(
+        alloc,
+        bus,
+        Target {
+            addr,
+            max: 8,
+            low,
+            pre,
+        },
+    )?;
+    Ok(Target {
+        addr,
+        max,
+        low,
+        pre,
+    })
+}
+
+/// One pass, from the port's reset to the device descriptor; `None` where the device gave no
+/// answer once it should have its address.
+#[tactic(auto, using(crate::proofs::Counts::spends_on))]
+fn pass<B: Bus>(
+    alloc: Global,
+    bus: &mut B,
+    port: HubPort,
+    address: u8,
+) -> Result<Option<Addressed>, Stop>
+    requires port { IsPort (B.world bus.old) port }
+    requires least { 1 ≤ address }
+    requires most { address < 128 }
+    ensures spends { Spends pass_bound (B.world bus.old) (B.world bus.new) }
+    ensures told { IfErr result (λ stop. Told stop (B.world bus.new)) }
+    ensures address { IfOk result (λ found. IfSome found (λ device. device.target.addr ≡ address)) }
+{
+    let target = unaddressed(alloc, bus, port)?;
+    let stalled = Cause::Stalled(Request::Address);
+    answered_or(stalled, set_address(bus, target, address))?;
+    let target = Target {
+        addr: address,
+        ..target
+    };
+    match descriptor(alloc, bus, target)? {
+        Some(bytes) => Ok(Some(Addressed { target, bytes })),
+        None => Ok(None),
+    }
+}
+
+/// At most three passes: a device that missed the end of SET_ADDRESS is reset, and given the same
+/// address again.
+#[tactic(auto, using(crate::proofs::Counts::spends_on))]
+pub(crate) fn passes<B: Bus>(
+    alloc: Global,
+    bus: &mut B,
+    port: HubPort,
+    address: u8,
+) -> Result<Addressed, Stop>
+    requires port { IsPort (B.world bus.old) port }
+    requires least { 1 ≤ address }
+    requires most { address < 128 }
+    ensures spends { Spends (3 * pass_bound) (B.world bus.old) (B.world bus.new) }
+    ensures told { IfErr result (λ stop. Told stop (B.world bus.new)) }
+    ensures address { IfOk result (λ device. device.target.addr ≡ address) }
+{
+    for _pass in 0..3u8 {
+        if let Some(device) = pass(alloc, bus, port, address)? {
+            return Ok(device);
+        }
+    }
+    Err(Stop::Refused(Cause::Silent))
+}

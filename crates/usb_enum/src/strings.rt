@@ -1,0 +1,148 @@
+//! The strings of a device (9.6.7).
+ghost use Rattle.std.specs.Prelude.{◌≡◌, ◌≤◌, IfOk, IfErr};
+ghost use Rattle.usb_bus.specs.World.{Spends};
+ghost use Rattle.usb_transaction.specs.Trans.{IsTarget};
+ghost use Rattle.usb_enum.specs.Bounds.{read_bound, strings_bound};
+ghost use Rattle.usb_enum.specs.Stop.{Told};
+ghost use Rattle.usb_enum.specs.Text.{first_language_of, units_of};
+
+use crate::StringUnits;
+use crate::stop::{Stop, stop_of};
+use std::alloc::{AllocError, Global};
+use usb_bus::Bus;
+use usb_descriptor::read_string;
+use usb_hub::get_string;
+use usb_transaction::Target;
+
+/// The strings that a device descriptor names, each in the device's first language. A string that
+/// the descriptor names by 0, that the device does not give or that is malformed is `None`.
+#[derive(Debug, Drop)]
+pub struct Strings {
+    pub manufacturer: Option<StringUnits>,
+    pub product: Option<StringUnits>,
+    pub serial_number: Option<StringUnits>,
+}
+
+/// The indexes of a device's strings, 0 for none.
+#[derive(Clone, Copy, Debug, PartialEq, Eq)]
+pub(crate) struct StringIndexes {
+    pub manufacturer: u8,
+    pub product: u8,
+    pub serial_number: u8,
+}
+
+/// The first language of string 0, where that is a string descriptor with one.
+fn first_language(bytes: &[u8]) -> Option<u16>
+    ensures { result ≡ first_language_of bytes.now }
+{
+    match read_string(bytes) {
+        Ok(languages) => languages.first_language(),
+        Err(_) => None,
+    }
+}
+
+/// The units of a string descriptor, or `None` where the bytes are none.
+fn units_of(alloc: Global, bytes: &[u8]) -> Result<Option<StringUnits>, AllocError>
+    ensures { IfOk result (λ units. units ≡ units_of bytes.now) }
+{
+    match read_string(bytes) {
+        Ok(string) => Ok(Some(StringUnits::new(string.units().collect(alloc)?))),
+        Err(_) => Ok(None),
+    }
+}
+
+/// The bytes of a string descriptor, or `None` where the device answered by STALL.
+#[tactic(auto, using(crate::proofs::Counts::read_spends))]
+fn string_bytes<B: Bus>(
+    alloc: Global,
+    bus: &mut B,
+    target: Target,
+    index: u8,
+    language: u16,
+) -> Result<Option<Vec<u8>>, Stop>
+    requires target { IsTarget target }
+    requires max { 8 ≤ target.max }
+    ensures spends { Spends (read_bound 255) (B.world bus.old) (B.world bus.new) }
+    ensures told { IfErr result (λ stop. Told stop (B.world bus.new)) }
+{
+    match get_string(alloc, bus, target, index, language) {
+        Ok(bytes) => Ok(Some(bytes)),
+        Err(fault) => match stop_of(fault) {
+            Some(stop) => Err(stop),
+            None => Ok(None),
+        },
+    }
+}
+
+/// The string of an index; index 0 names none.
+#[tactic(auto, using(crate::proofs::Counts::spends_on, usb_bus::proofs::Counts::spends_none))]
+fn read_one<B: Bus>(
+    alloc: Global,
+    bus: &mut B,
+    target: Target,
+    index: u8,
+    language: u16,
+) -> Result<Option<StringUnits>, Stop>
+    requires target { IsTarget target }
+    requires max { 8 ≤ target.max }
+    ensures spends { Spends (read_bound 255) (B.world bus.old) (B.world bus.new) }
+    ensures told { IfErr result (λ stop. Told stop (B.world bus.new)) }
+{
+    if index == 0 {
+        return Ok(None);
+    }
+    match string_bytes(alloc, bus, target, index, language)? {
+        Some(bytes) => Ok(units_of(alloc, bytes.as_slice())?),
+        None => Ok(None),
+    }
+}
+
+/// The device's first language, if it gives one.
+fn language<B: Bus>(alloc: Global, bus: &mut B, target: Target) -> Result<Option<u16>, Stop>
+    requires target { IsTarget target }
+    requires max { 8 ≤ target.max }
+    ensures spends { Spends (read_bound 255) (B.world bus.old) (B.world bus.new) }
+    ensures told { IfErr result (λ stop. Told stop (B.world bus.new)) }
+{
+    match string_bytes(alloc, bus, target, 0, 0)? {
+        Some(bytes) => Ok(first_language(bytes.as_slice())),
+        None => Ok(None),
+    }
+}
+
+/// The device's strings, each in its first language.
+#[tactic(auto, using(crate::proofs::Counts::spends_on, usb_bus::proofs::Counts::spends_none))]
+pub(crate) fn read_strings<B: Bus>(
+    alloc: Global,
+    bus: &mut B,
+    target: Target,
+    indexes: StringIndexes,
+) -> Result<Strings, Stop>
+    requires target { IsTarget target }
+    requires max { 8 ≤ target.max }
+    ensures spends { Spends strings_bound (B.world bus.old) (B.world bus.new) }
+    ensures told { IfErr result (λ stop. Told stop (B.world bus.new)) }
+{
+    if indexes.manufacturer == 0 && indexes.product == 0 && indexes.serial_number == 0 {
+        return Ok(no_strings());
+    }
+    let Some(language) = language(alloc, bus, target)? else {
+        return Ok(no_strings());
+    };
+    let manufacturer = read_one(alloc, bus, target, indexes.manufacturer, language)?;
+    let product = read_one(alloc, bus, target, indexes.product, language)?;
+    let serial_number = read_one(alloc, bus, target, indexes.serial_number, language)?;
+    Ok(Strings {
+        manufacturer,
+        product,
+        serial_number,
+    })
+}
+
+fn no_strings() -> Strings {
+    Strings {
+        manufacturer: None,
+        product: None,
+        serial_number: None,
+    }
+}

@@ -1,0 +1,156 @@
+//! Texts of configurations and strings, as lists.
+ghost use Rattle.std.specs.Prelude.{◌≡◌, ◌<◌, ◌*◌, ◌++◌, [], ◌∷◌, List, ℕ, length, OnOk, OnErr, IfOk, vec_len, IfSome, IsSome, Ok, slice_index_or, map};
+ghost use Rattle.usb_descriptor.specs.Config.{HasConfig, config_of, configuration_value, max_power_of};
+ghost use Rattle.usb_enum.specs.Text.{config_text_of, has_value, need_of, needs_of};
+
+use std::alloc::{AllocError, Global};
+use std::marker::Model;
+use usb_descriptor::read_config;
+
+/// A configuration text: nine bytes of the configuration descriptor, then whole items (9.6.3).
+#[derive(Debug, Drop)]
+pub struct ConfigText {
+    bytes: Vec<u8>,
+}
+
+impl Model for ConfigText {
+    ghost use Rattle.std.specs.Prelude.{List, ℕ};
+    ghost use Rattle.usb_descriptor.specs.Config.{HasConfig};
+
+    ghost Value = { List ℕ };
+
+    ghost view = { λ t. t.bytes.items };
+
+    ghost invariant = { λ t. HasConfig t.bytes.items };
+}
+
+impl ConfigText {
+    /// The text, or `None` where the bytes are no configuration text.
+    pub fn new(bytes: Vec<u8>) -> Option<ConfigText>
+        ensures { result ≡ config_text_of bytes.items }
+    {
+        if read_config(bytes.as_slice()).is_err() {
+            return None;
+        }
+        Some(ConfigText { bytes })
+    }
+
+    pub fn as_slice(&self) -> &[u8]
+        ensures value { result.now ≡ self.now }
+        ensures text { HasConfig self.now }
+    {
+        self.bytes.as_slice()
+    }
+
+    /// bConfigurationValue.
+    #[tactic(auto, using(usb_descriptor::proofs::Texts::header_of))]
+    pub fn value(&self) -> u8
+        ensures { result ≡ configuration_value self.now }
+    {
+        self.bytes[5]
+    }
+
+    /// What the configuration needs, in mA.
+    #[tactic(auto, using(usb_descriptor::proofs::Texts::header_of))]
+    pub fn need(&self) -> u16
+        ensures { result ≡ need_of self.now }
+    {
+        2 * u16::from(self.bytes[8])
+    }
+
+    pub fn try_clone(&self, alloc: Global) -> Result<ConfigText, AllocError>
+        ensures { OnOk result (result ≡ Ok self.now) }
+    {
+        let bytes = Vec::from_slice(alloc, self.bytes.as_slice())?;
+        Ok(ConfigText { bytes })
+    }
+}
+
+/// The configuration texts of a device, by their index.
+#[derive(Debug, Drop)]
+pub struct ConfigTexts {
+    texts: Vec<ConfigText>,
+}
+
+impl Model for ConfigTexts {
+    ghost use Rattle.std.specs.Prelude.{List, ℕ};
+
+    ghost Value = { List (List ℕ) };
+
+    ghost view = { λ c. c.texts.items };
+}
+
+impl ConfigTexts {
+    /// No texts.
+    pub fn new(alloc: Global) -> Self
+        ensures { result ≡ [] }
+    {
+        ConfigTexts {
+            texts: Vec::new(alloc),
+        }
+    }
+
+    pub fn push(&mut self, text: ConfigText) -> Result<(), AllocError>
+        ensures ok { OnOk result (self.new ≡ self.old ++ text ∷ []) }
+        ensures err { OnErr result (self.new ≡ self.old) }
+    {
+        Ok(self.texts.push(text)?)
+    }
+
+    pub fn as_slice(&self) -> &[ConfigText]
+        ensures { result.now ≡ self.now }
+    {
+        self.texts.as_slice()
+    }
+
+    /// Whether one of them has this bConfigurationValue.
+    pub fn has_value(&self, value: u8) -> bool
+        ensures { result ≡ has_value value self.now }
+    {
+        self.texts.iter().any(|text| text.value() == value)
+    }
+
+    /// What each of them needs, in mA.
+    #[tactic(auto, unfolding(crate::specs::Text::needs_of))]
+    pub fn needs(&self, alloc: Global) -> Result<Vec<u16>, AllocError>
+        ensures value { IfOk result (λ needs. needs.items ≡ needs_of self.now) }
+        ensures each { IfOk result (λ needs. vec_len needs ≡ length self.now) }
+    {
+        self.texts.iter().map(|text| text.need()).collect(alloc)
+    }
+}
+
+/// The 16-bit units of a string (9.6.7).
+#[derive(Debug, Drop)]
+pub struct StringUnits {
+    units: Vec<u16>,
+}
+
+impl Model for StringUnits {
+    ghost use Rattle.std.specs.Prelude.{List, ℕ};
+
+    ghost Value = { List ℕ };
+
+    ghost view = { λ s. s.units.items };
+}
+
+impl StringUnits {
+    pub fn new(units: Vec<u16>) -> Self
+        ensures { result ≡ units.items }
+    {
+        StringUnits { units }
+    }
+
+    pub fn as_slice(&self) -> &[u16]
+        ensures { result.now ≡ self.now }
+    {
+        self.units.as_slice()
+    }
+
+    pub fn try_clone(&self, alloc: Global) -> Result<StringUnits, AllocError>
+        ensures { OnOk result (result ≡ Ok self.now) }
+    {
+        let units = Vec::from_slice(alloc, self.units.as_slice())?;
+        Ok(StringUnits { units })
+    }
+}

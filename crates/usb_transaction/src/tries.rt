@@ -1,0 +1,51 @@
+//! How long a transaction goes on.
+ghost use Rattle.std.specs.Prelude.{◌≡◌, ◌+◌, ◌<◌, MatchResult};
+ghost use Rattle.usb_transaction.specs.declared.fault.TransFault.TheVariants.{Busy, NoAnswer};
+
+use crate::TransFault;
+
+/// The errors running, and the NAKs and discarded repeats together, of one transaction.
+#[derive(Drop)]
+pub(crate) struct Tries {
+    errors: u8,
+    waits: u16,
+}
+
+impl Tries {
+    pub(crate) fn new() -> Self
+        ensures { result ≡ record { errors = 0; waits = 0 } }
+    {
+        Tries {
+            errors: 0,
+            waits: 0,
+        }
+    }
+
+    /// Counts an error. The third one running ends the transaction.
+    pub(crate) fn error(&mut self) -> Result<(), TransFault>
+        requires { self.old.errors < 3 }
+        ensures count { self.new ≡ record self.old { errors = self.old.errors + 1 } }
+        ensures end { MatchResult result (λ _. self.new.errors < 3) (λ fault. (fault ≡ NoAnswer) × (self.new.errors ≡ 3)) }
+    {
+        self.errors += 1;
+        if self.errors == 3 {
+            return Err(TransFault::NoAnswer);
+        }
+        Ok(())
+    }
+
+    /// Counts a NAK or a discarded repeat, after which no errors are running. The 256th one ends
+    /// the transaction.
+    pub(crate) fn wait(&mut self) -> Result<(), TransFault>
+        requires { self.old.waits < 256 }
+        ensures count { self.new ≡ record self.old { errors = 0; waits = self.old.waits + 1 } }
+        ensures end { MatchResult result (λ _. self.new.waits < 256) (λ fault. (fault ≡ Busy) × (self.new.waits ≡ 256)) }
+    {
+        self.errors = 0;
+        self.waits += 1;
+        if self.waits == 256 {
+            return Err(TransFault::Busy);
+        }
+        Ok(())
+    }
+}
