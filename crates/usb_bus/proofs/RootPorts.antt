@@ -9,7 +9,7 @@ use Rattle.usb_port.specs.PortState.{PortState, off, plugged}
 use Rattle.usb_bus.specs.declared.root.RootPort.{RootPort}
 use Rattle.usb_bus.specs.World.{World, Spends, changes, change_of}
 use Rattle.usb_bus.specs.PlanData.{is_root_path}
-use Rattle.usb_bus.specs.Roots.{ports_of, root_of, with_plug}
+use Rattle.usb_bus.specs.Roots.{ports_of, root_of}
 use Rattle.usb_bus.proofs.Counts.{changes-set}
 
 -- one root port is written
@@ -18,6 +18,10 @@ pub ports_written : (f : PortState → PortState) (roots : List RootPort) (i : �
 ports_written f roots i e r lt h =
     map-set (λ (x : RootPort). x.port) roots i r
     ∙ ap (λ (p : PortState). set (ports_of roots) i p) (h ∙ ap f (sym (get_or-map (λ (x : RootPort). x.port) roots i e off lt)))
+
+-- a device of that speed is plugged at the root port
+abbrev pub with_plug : List ℕ → Bool → List PortState → List PortState
+with_plug path low ps = set ps (root_of path) (plugged low (get_or ps (root_of path) off))
 
 pub ports_plugged : (roots : List RootPort) (i : ℕ) (path : List ℕ) (e r : RootPort) (b low : Bool) → i < length roots → i ≡ root_of path → b ≡ low
     → r.port ≡ plugged b (get_or roots i e).port → ports_of (set roots i r) ≡ with_plug path low (ports_of roots)

@@ -1,6 +1,8 @@
 -- The root ports of a simulated bus.
-use Rattle.std.specs.Prelude.{ℕ, ◌-◌, List, slice_index, slice_index_or, slice_set, map, Bool, ◌&&◌, not, if◌then◌else◌}
-use Rattle.usb_port.specs.PortState.{PortState, off, plugged, is_attached, is_low}
+use Rattle.std.specs.Prelude.{ℕ, ◌-◌, List, slice_index, slice_get, slice_set, map, Option, Some, None, Bool, ◌&&◌, not, if◌then◌else◌}
+use Rattle.usb_port.specs.PortState.{PortState, plugged, is_attached, is_low}
+use Rattle.usb_device.specs.Spec.{Spec}
+use Rattle.usb_device.specs.Rows.{State, fresh}
 use Rattle.usb_bus.specs.declared.root.RootPort.{RootPort}
 
 abbrev pub ports_of : List RootPort → List PortState
@@ -17,6 +19,18 @@ reaches p low = p.power && is_attached p.attached && p.enable && is_same (is_low
 abbrev pub root_of : List ℕ → ℕ
 root_of path = slice_index path 0 - 1
 
--- a device of that speed is plugged at the root port
-abbrev pub with_plug : List ℕ → Bool → List PortState → List PortState
-with_plug path low ps = slice_set ps (root_of path) (plugged low (slice_index_or ps (root_of path) off))
+-- a device is plugged at the port
+unfoldable pub with_device : Spec → RootPort → RootPort
+with_device spec r = record { port = plugged spec.low r.port; device = Some (fresh spec) }
+
+-- a device is plugged at the root port of a path
+unfoldable pub plugged_at : List ℕ → Spec → List RootPort → List RootPort
+plugged_at path spec roots = elim (slice_get roots (root_of path)) [ None ↦ roots | Some r ↦ slice_set roots (root_of path) (with_device spec r) ]
+
+-- the device at a root port
+abbrev pub place_at : List RootPort → ℕ → Option State
+place_at roots i = elim (slice_get roots i) [ None ↦ None | Some r ↦ r.device ]
+
+-- a device's address and configuration
+abbrev pub registers_of : State → ℕ × ℕ
+registers_of d = (d.registers.address, d.registers.configuration)

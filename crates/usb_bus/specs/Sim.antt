@@ -1,9 +1,11 @@
 -- The world that a simulated bus stands for, and its writer.
-use Rattle.std.specs.Prelude.{◌-◌, length}
+use Rattle.std.specs.Prelude.{ℕ, ◌-◌, List, length, drop, ◌==◌, if◌then◌else◌, Option, None}
+use Rattle.usb_device.specs.Rows.{State}
 use Rattle.usb_bus.specs.declared.watched.Watched.{Watched}
 use Rattle.usb_bus.specs.declared.sim.SimBus.{SimBus}
 use Rattle.usb_bus.specs.World.{World}
-use Rattle.usb_bus.specs.Roots.{ports_of}
+use Rattle.usb_bus.specs.Simulation.{Simulation}
+use Rattle.usb_bus.specs.Roots.{ports_of, root_of, place_at}
 
 abbrev pub world_of : {W : Type 0} → SimBus W → World
 world_of s = record {
@@ -17,3 +19,16 @@ world_of s = record {
 
 abbrev pub writer_of : {W : Type 0} → SimBus W → Watched W
 writer_of s = s.writer
+
+abbrev pub simulation_of : {W : Type 0} → SimBus W → Simulation
+simulation_of s = record {
+  roots = s.roots.items;
+  devices = s.devices.items;
+  left = drop s.taken s.events;
+  attempts = s.attempts;
+  attempts_then = s.attempts_then;
+}
+
+-- the device at a path
+abbrev pub device_at : {W : Type 0} → SimBus W → List ℕ → Option State
+device_at s path = if length path == 1 then place_at s.roots.items (root_of path) else None

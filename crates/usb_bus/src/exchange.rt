@@ -1,9 +1,11 @@
 //! One attempt: the host's packets go to the devices, and their answers come together.
-ghost use Rattle.std.specs.Prelude.{◌≡◌, ◌≤◌, length, IfSome, Some, None, option_map};
-ghost use Rattle.usb_packet.specs.Spelling.{HasFields};
+ghost use Rattle.std.specs.Prelude.{◌≡◌, ◌≤◌, length, IfOk, IfSome, Some, None};
+ghost use Rattle.usb_packet.specs.Spelling.{HasFields, Spells};
+ghost use Rattle.usb_packet.specs.declared.Packet.{Packet as APacket};
 ghost use Rattle.usb_bus.specs.World.{IsAttempt, FitsMaximum};
 ghost use Rattle.usb_bus.specs.Roots.{ports_of};
-ghost use Rattle.usb_bus.specs.Exchange.{joined, token_of, sent_of, reply_of, outcome_of};
+ghost use Rattle.usb_bus.specs.Exchange.{joined, token_of, sent_of, reply_of, outcome_of, delivered, delivered_some, ended, exchanged};
+ghost use Rattle.usb_bus.specs.declared.exchange.Heard.TheVariants.{Nothing, One};
 
 use crate::root::RootPort;
 use crate::{Attempt, Outcome};
@@ -11,42 +13,40 @@ use arrayvec::ArrayVec;
 use std::alloc::AllocError;
 use usb_packet::{Packet, decode, encode};
 
-/// What the devices answered to a packet, all together.
-#[derive(Drop)]
-pub(crate) enum Answers {
-    Nothing,
-    One(ArrayVec<u8, 67>),
-    /// Two answers at once: nobody can read them.
-    Collision,
-}
-
-impl Answers {
-    /// What one device answered.
-    pub(crate) fn of(answer: Option<ArrayVec<u8, 67>>) -> Self {
-        match answer {
-            None => Answers::Nothing,
-            Some(bytes) => Answers::One(bytes),
-        }
-    }
-
-    #[tactic(auto, unfolding(crate::specs::Exchange::joined))]
-    fn joined(self, other: Answers) -> Self
-        ensures { result ≡ joined self other }
-    {
-        match (self, other) {
-            (Answers::Nothing, other) => other,
-            (answers, Answers::Nothing) => answers,
-            (_, _) => Answers::Collision,
-        }
-    }
-}
-
 /// What the host hears of the answers.
 #[derive(Drop)]
 pub(crate) enum Heard {
     Nothing,
     One(Packet),
+    /// Two answers at once: nobody can read them.
     Collision,
+}
+
+impl Heard {
+    /// The answer of one device, which is heard where it spells a packet.
+    pub(crate) fn of(answer: Option<ArrayVec<u8, 67>>) -> Self
+        ensures none { answer ≡ None → result ≡ Nothing }
+        ensures some { IfSome answer (λ bytes. (p : APacket) → Spells bytes.items p → result ≡ One p) }
+    {
+        match answer {
+            None => Heard::Nothing,
+            Some(bytes) => match decode(bytes.as_slice()) {
+                Ok(packet) => Heard::One(packet),
+                Err(_) => Heard::Nothing,
+            },
+        }
+    }
+
+    #[tactic(auto, unfolding(crate::specs::Exchange::joined))]
+    fn joined(self, other: Heard) -> Self
+        ensures { result ≡ joined self other }
+    {
+        match (self, other) {
+            (Heard::Nothing, other) => other,
+            (heard, Heard::Nothing) => heard,
+            (_, _) => Heard::Collision,
+        }
+    }
 }
 
 /// The packets of an attempt as they went over the bus.
@@ -61,19 +61,20 @@ pub(crate) struct Exchange {
 }
 
 /// Makes an attempt: the token, then the data, one of them; then what the host says to the answer.
-#[tactic(auto, unfolding(crate::specs::Exchange::token_of, crate::specs::Exchange::sent_of, crate::specs::Exchange::reply_of))]
+#[tactic(auto, unfolding(crate::specs::Exchange::token_of, crate::specs::Exchange::sent_of, crate::specs::Exchange::reply_of, crate::specs::Exchange::exchanged))]
 pub(crate) fn make_exchange(
     roots: &mut [RootPort],
     attempt: &Attempt,
 ) -> Result<Exchange, AllocError>
     requires { IsAttempt attempt.now }
-    ensures { ports_of roots.new ≡ ports_of roots.old }
+    ensures ports { ports_of roots.new ≡ ports_of roots.old }
+    ensures exact { IfOk result (λ made. (made, roots.new) ≡ exchanged attempt.now roots.old) }
 {
     let token = token_of(attempt);
     let to_token = deliver(roots, attempt.low, encode(&token).as_slice())?;
     let sent = sent_of(attempt);
     let to_sent = deliver_some(roots, attempt.low, &sent)?;
-    let heard = hear(to_token.joined(to_sent));
+    let heard = to_token.joined(to_sent);
     let reply = reply_of(&heard, attempt.max);
     let _unanswered = deliver_some(roots, attempt.low, &reply)?;
     end_attempt(roots);
@@ -86,11 +87,13 @@ pub(crate) fn make_exchange(
 }
 
 /// Hands a packet to every device that it reaches, and gathers the answers.
-fn deliver(roots: &mut [RootPort], low: bool, bytes: &[u8]) -> Result<Answers, AllocError>
-    ensures { ports_of roots.new ≡ ports_of roots.old }
+#[tactic(auto, unfolding(crate::specs::Exchange::delivered))]
+fn deliver(roots: &mut [RootPort], low: bool, bytes: &[u8]) -> Result<Heard, AllocError>
+    ensures ports { ports_of roots.new ≡ ports_of roots.old }
+    ensures exact { (p : APacket) → Spells bytes.now p → IfOk result (λ heard. (heard, roots.new) ≡ delivered low p roots.old) }
 {
     match roots.split_first_mut() {
-        None => Ok(Answers::Nothing),
+        None => Ok(Heard::Nothing),
         Some((root, rest)) => {
             let here = root.receive(low, bytes)?;
             let further = deliver(rest, low, bytes)?;
@@ -99,23 +102,27 @@ fn deliver(roots: &mut [RootPort], low: bool, bytes: &[u8]) -> Result<Answers, A
     }
 }
 
+#[tactic(auto, unfolding(crate::specs::Exchange::delivered_some))]
 fn deliver_some(
     roots: &mut [RootPort],
     low: bool,
     packet: &Option<Packet>,
-) -> Result<Answers, AllocError>
+) -> Result<Heard, AllocError>
     requires { IfSome packet.now HasFields }
-    ensures { ports_of roots.new ≡ ports_of roots.old }
+    ensures ports { ports_of roots.new ≡ ports_of roots.old }
+    ensures exact { IfOk result (λ heard. (heard, roots.new) ≡ delivered_some low packet.now roots.old) }
 {
     match packet {
-        None => Ok(Answers::Nothing),
+        None => Ok(Heard::Nothing),
         Some(packet) => deliver(roots, low, encode(packet).as_slice()),
     }
 }
 
 /// Tells every device that the attempt is over.
+#[tactic(auto, unfolding(crate::specs::Exchange::ended))]
 fn end_attempt(roots: &mut [RootPort])
-    ensures { ports_of roots.new ≡ ports_of roots.old }
+    ensures ports { ports_of roots.new ≡ ports_of roots.old }
+    ensures exact { roots.new ≡ ended roots.old }
 {
     match roots.split_first_mut() {
         None => {}
@@ -156,18 +163,6 @@ fn copied(bytes: &ArrayVec<u8, 64>) -> ArrayVec<u8, 64>
     let mut copy = ArrayVec::new();
     copy.try_extend_from_slice(bytes.as_slice()).unwrap();
     copy
-}
-
-/// The host reads one answer alone, where it spells a packet.
-fn hear(answers: Answers) -> Heard {
-    match answers {
-        Answers::Nothing => Heard::Nothing,
-        Answers::Collision => Heard::Collision,
-        Answers::One(bytes) => match decode(bytes.as_slice()) {
-            Ok(packet) => Heard::One(packet),
-            Err(_) => Heard::Nothing,
-        },
-    }
 }
 
 /// The host's ACK, where it heard data of at most `max` bytes.

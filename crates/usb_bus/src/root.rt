@@ -1,9 +1,12 @@
 //! A root port, and the device on it.
-ghost use Rattle.std.specs.Prelude.{◌≡◌, ◌-◌, ◌<◌, length, slice_set, slice_index_or, unwrap_or, Some, None};
+ghost use Rattle.std.specs.Prelude.{◌≡◌, ◌-◌, ◌<◌, length, slice_set, slice_index_or, unwrap_or, Some, None, IfOk};
 ghost use Rattle.usb_port.specs.PortState.{PortState, off, plugged, set_row, clear_row, status_of};
+ghost use Rattle.usb_packet.specs.Spelling.{Spells};
+ghost use Rattle.usb_packet.specs.declared.Packet.{Packet};
 ghost use Rattle.usb_bus.specs.Roots.{reaches};
+ghost use Rattle.usb_bus.specs.Exchange.{device_received, place_received, root_received, over};
 
-use crate::exchange::Answers;
+use crate::exchange::Heard;
 use std::alloc::AllocError;
 use usb_device::Device;
 use usb_port::Port;
@@ -25,7 +28,7 @@ impl RootPort {
     }
 
     pub(crate) fn plug(&mut self, low: bool, device: Device)
-        ensures { self.new.port ≡ plugged low self.old.port }
+        ensures { self.new ≡ record { port = plugged low self.old.port; device = Some device } }
     {
         self.port.plug(low);
         self.device = Some(device);
@@ -55,21 +58,20 @@ impl RootPort {
         let _ = self.port.clear_feature(feature);
     }
 
-    /// Hands a packet to the device, where it is reached.
-    pub(crate) fn receive(&mut self, low: bool, bytes: &[u8]) -> Result<Answers, AllocError>
-        ensures { self.new.port ≡ self.old.port }
+    /// Hands a packet to the device, where it is reached, and tells what it answers.
+    #[tactic(auto, unfolding(crate::specs::Exchange::root_received))]
+    pub(crate) fn receive(&mut self, low: bool, bytes: &[u8]) -> Result<Heard, AllocError>
+        ensures port { self.new.port ≡ self.old.port }
+        ensures exact { (p : Packet) → Spells bytes.now p → IfOk result (λ heard. (heard, self.new) ≡ root_received low p self.old) }
     {
         if !is_reached(&self.port, low) {
-            return Ok(Answers::Nothing);
+            return Ok(Heard::Nothing);
         }
-        match &mut self.device {
-            None => Ok(Answers::Nothing),
-            Some(device) => Ok(Answers::of(device.receive(bytes)?)),
-        }
+        receive_at(&mut self.device, bytes)
     }
 
     pub(crate) fn attempt_over(&mut self)
-        ensures { self.new.port ≡ self.old.port }
+        ensures { self.new ≡ over self.old }
     {
         if let Some(device) = &mut self.device {
             device.attempt_over();
@@ -82,4 +84,22 @@ fn is_reached(port: &Port, low: bool) -> bool
     ensures { result ≡ reaches port.now low }
 {
     port.is_powered() && port.is_attached() && port.is_enabled() && port.is_low_speed() == low
+}
+
+#[tactic(auto, unfolding(crate::specs::Exchange::place_received))]
+fn receive_at(place: &mut Option<Device>, bytes: &[u8]) -> Result<Heard, AllocError>
+    ensures { (p : Packet) → Spells bytes.now p → IfOk result (λ heard. (heard, place.new) ≡ place_received p place.old) }
+{
+    match place {
+        None => Ok(Heard::Nothing),
+        Some(device) => receive_by(device, bytes),
+    }
+}
+
+#[tactic(auto, unfolding(crate::specs::Exchange::device_received))]
+fn receive_by(device: &mut Device, bytes: &[u8]) -> Result<Heard, AllocError>
+    ensures { (p : Packet) → Spells bytes.now p → IfOk result (λ heard. (heard, device.new) ≡ device_received p device.old) }
+{
+    let answer = device.receive(bytes)?;
+    Ok(Heard::of(answer))
 }

@@ -1,8 +1,8 @@
 //! A simulated bus: the devices that a plan's events plug at its root ports, and the trace of its attempts.
-ghost use Rattle.std.specs.Prelude.{◌≡◌, ◌≤◌, length, vec_len, replicate, map, IfOk, IfErr, Some, true};
+ghost use Rattle.std.specs.Prelude.{◌≡◌, ◌≤◌, length, vec_len, replicate, map, IfOk, IfErr, Some, option_map, true};
 ghost use Rattle.std.specs.List.{list_all};
 ghost use Rattle.usb_bus.specs.PlanData.{can_come};
-ghost use Rattle.usb_bus.specs.Roots.{ports_of};
+ghost use Rattle.usb_bus.specs.Roots.{ports_of, place_at, registers_of};
 ghost use Rattle.usb_bus.specs.Steps.{opening, fault_of};
 ghost use Rattle.usb_bus.specs.declared.types.BusFault.TheVariants.{LimitReached};
 ghost use Rattle.usb_port.specs.PortState.{off};
@@ -17,7 +17,7 @@ use crate::{BusFault, Plan, Watched};
 pub use events::Due;
 use std::alloc::{AllocError, Global};
 use std::io::Write;
-use usb_device::DeviceSpec;
+use usb_device::{Device, DeviceSpec};
 use usb_port::PortPath;
 
 /// A bus that a plan describes. Each attempt and each plug is a line of the trace, which goes to a writer at once.
@@ -54,7 +54,7 @@ struct Stage {
 }
 
 impl<W: Write> SimBus<W> {
-    ghost use Rattle.usb_bus.specs.Sim.{world_of, writer_of};
+    ghost use Rattle.usb_bus.specs.Sim.{world_of, writer_of, device_at};
 
     /// The bus of a plan, before anything came: all ports are off.
     ///
@@ -122,13 +122,32 @@ impl<W: Write> SimBus<W> {
     }
 
     /// The address and the configuration of the device at the path; None where none is there.
-    pub fn registers(&self, path: &PortPath) -> Option<(u8, u8)> {
-        let [port] = path.numbers() else {
+    pub fn registers(&self, path: &PortPath) -> Option<(u8, u8)>
+        ensures { result ≡ option_map registers_of (device_at self.now path.now) }
+    {
+        let numbers = path.numbers();
+        if numbers.len() != 1 {
             return None;
-        };
-        let root = self.roots.as_slice().get(usize::from(*port) - 1)?;
-        let device = root.device.as_ref()?;
-        Some((device.address(), device.configuration()))
+        }
+        registers_at(&self.roots, usize::from(numbers[0]) - 1)
+    }
+}
+
+fn registers_at(roots: &[RootPort], i: usize) -> Option<(u8, u8)>
+    ensures { result ≡ option_map registers_of (place_at roots.now i) }
+{
+    match roots.get(i) {
+        None => None,
+        Some(root) => registers_of(&root.device),
+    }
+}
+
+fn registers_of(place: &Option<Device>) -> Option<(u8, u8)>
+    ensures { result ≡ option_map registers_of place.now }
+{
+    match place {
+        None => None,
+        Some(device) => Some((device.address(), device.configuration())),
     }
 }
 

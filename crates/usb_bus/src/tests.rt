@@ -1,1 +1,2 @@
+mod sim;
 mod watched;

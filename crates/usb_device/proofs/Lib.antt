@@ -1,3 +1,4 @@
 pub mod Names
 pub mod Attempts
 pub mod Kept
+pub mod Packets

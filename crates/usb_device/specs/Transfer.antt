@@ -1,5 +1,5 @@
 -- Where a control transfer stands, and the packets of an answer (8.5.3).
-use Rattle.std.specs.Prelude.{ℕ, ◌+◌, ◌*◌, ◌/◌, ◌%◌, ◌==◌, nat_lt, if◌then◌else◌, ◌&&◌, ◌||◌, not, List, length, take, drop, slice_index, Option, None, Some}
+use Rattle.std.specs.Prelude.{ℕ, zero, suc, ◌+◌, ◌*◌, ◌/◌, ◌%◌, ◌==◌, nat_lt, if◌then◌else◌, ◌&&◌, ◌||◌, not, List, [], ◌++◌, length, take, drop, slice_index, Option, None, Some, unwrap_or}
 use Rattle.usb_packet.specs.declared.Toggle.{Toggle}
 use Rattle.usb_packet.specs.declared.Toggle.TheVariants.{Zero, One}
 use Rattle.usb_device.specs.Spec.{Spec}
@@ -38,6 +38,11 @@ abbrev pub packet_at : ℕ → ℕ → List ℕ → ℕ → Option (List ℕ)
 packet_at max wanted answer k =
     let bytes = take wanted answer in
     if nat_lt k (packet_count max wanted (length bytes)) then Some (take max (drop (k * max) bytes)) else None
+
+-- the first k packets of an answer, end to end
+abbrev pub joined : ℕ → ℕ → List ℕ → ℕ → List ℕ
+joined max wanted answer zero = []
+joined max wanted answer (suc k) = joined max wanted answer k ++ unwrap_or (packet_at max wanted answer k) []
 
 -- the data stage begins with DATA1 (8.6.1)
 abbrev pub toggle_at : ℕ → Toggle

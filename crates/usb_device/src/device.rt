@@ -68,7 +68,7 @@ impl Device {
         })
     }
 
-    /// Its address, 0 to 127; 0 until SET_ADDRESS has ended (9.4.6).
+    /// Its address: 0 until SET_ADDRESS has ended (9.4.6).
     pub fn address(&self) -> u8
         ensures { result ≡ self.now.registers.address }
     {

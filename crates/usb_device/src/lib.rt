@@ -12,7 +12,7 @@ mod transfer;
 
 pub use device::Device;
 pub use devices::Devices;
-pub use laws::{attempt_laws, frame_laws, stranger_laws};
+pub use laws::{answer_laws, attempt_laws, frame_laws, stranger_laws};
 pub use lists::{Bytes, ConfigTexts, Name, StringTexts, Texts};
 pub use spec::{DeviceSpec, Stalls};
 

@@ -12,7 +12,7 @@ use usb_request::{Setup, descriptor_type, request_code, request_type};
 /// What the host can set in a device.
 #[derive(Clone, Copy, Debug)]
 pub struct Registers {
-    /// 0 to 127; 0 until SET_ADDRESS has ended.
+    /// 0 until SET_ADDRESS has ended.
     pub address: u8,
     /// The value of a configuration, or 0 where none is set.
     pub configuration: u8,

@@ -1,7 +1,8 @@
 //! What was found at a port.
-ghost use Rattle.std.specs.Prelude.{◌<◌, length};
+ghost use Rattle.std.specs.Prelude.{◌≡◌, ◌<◌, length, IfOk};
 
 use crate::{Cause, ConfigTexts, Strings};
+use std::alloc::{AllocError, Global};
 use usb_resources::Address;
 
 /// What was found at a port.
@@ -26,4 +27,32 @@ pub struct Accepted {
     pub chosen: usize,
     pub strings: Strings,
     ghost chosen_in: { chosen < length configs },
+}
+
+impl Finding {
+    /// A second finding of the same value.
+    pub fn try_clone(&self, alloc: Global) -> Result<Finding, AllocError>
+        ensures { IfOk result (λ finding. finding ≡ self.now) }
+    {
+        match self {
+            Finding::Device(device) => Ok(Finding::Device(device.try_clone(alloc)?)),
+            Finding::Refused(cause) => Ok(Finding::Refused(*cause)),
+        }
+    }
+}
+
+impl Accepted {
+    /// A second device of the same value.
+    pub fn try_clone(&self, alloc: Global) -> Result<Accepted, AllocError>
+        ensures { IfOk result (λ device. device ≡ self.now) }
+    {
+        Ok(Accepted {
+            address: self.address,
+            low: self.low,
+            bytes: self.bytes,
+            configs: self.configs.try_clone(alloc)?,
+            chosen: self.chosen,
+            strings: self.strings.try_clone(alloc)?,
+        })
+    }
 }

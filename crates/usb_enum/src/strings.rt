@@ -23,6 +23,28 @@ pub struct Strings {
     pub serial_number: Option<StringUnits>,
 }
 
+impl Strings {
+    /// Second strings of the same units.
+    pub fn try_clone(&self, alloc: Global) -> Result<Strings, AllocError>
+        ensures { IfOk result (λ strings. strings ≡ self.now) }
+    {
+        Ok(Strings {
+            manufacturer: cloned(alloc, &self.manufacturer)?,
+            product: cloned(alloc, &self.product)?,
+            serial_number: cloned(alloc, &self.serial_number)?,
+        })
+    }
+}
+
+fn cloned(alloc: Global, string: &Option<StringUnits>) -> Result<Option<StringUnits>, AllocError>
+    ensures { IfOk result (λ copy. copy ≡ string.now) }
+{
+    match string {
+        Some(units) => Ok(Some(units.try_clone(alloc)?)),
+        None => Ok(None),
+    }
+}
+
 /// The indexes of a device's strings, 0 for none.
 #[derive(Clone, Copy, Debug, PartialEq, Eq)]
 pub(crate) struct StringIndexes {

@@ -59,7 +59,7 @@ impl ConfigText {
     }
 
     pub fn try_clone(&self, alloc: Global) -> Result<ConfigText, AllocError>
-        ensures { OnOk result (result ≡ Ok self.now) }
+        ensures { IfOk result (λ text. text ≡ self.now) }
     {
         let bytes = Vec::from_slice(alloc, self.bytes.as_slice())?;
         Ok(ConfigText { bytes })
@@ -101,6 +101,17 @@ impl ConfigTexts {
         ensures { result.now ≡ self.now }
     {
         self.texts.as_slice()
+    }
+
+    /// Second texts of the same bytes.
+    pub fn try_clone(&self, alloc: Global) -> Result<ConfigTexts, AllocError>
+        ensures { IfOk result (λ texts. texts ≡ self.now) }
+    {
+        let mut texts = Vec::new(alloc);
+        for text in &self.texts {
+            texts.push(text.try_clone(alloc)?)?;
+        }
+        Ok(ConfigTexts { texts })
     }
 
     /// Whether one of them has this bConfigurationValue.
@@ -148,7 +159,7 @@ impl StringUnits {
     }
 
     pub fn try_clone(&self, alloc: Global) -> Result<StringUnits, AllocError>
-        ensures { OnOk result (result ≡ Ok self.now) }
+        ensures { IfOk result (λ units. units ≡ self.now) }
     {
         let units = Vec::from_slice(alloc, self.units.as_slice())?;
         Ok(StringUnits { units })

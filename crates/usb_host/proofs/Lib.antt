@@ -1,1 +1,4 @@
-
+pub mod Openings
+pub mod Powers
+pub mod Quiets
+pub mod Removals

@@ -1,1 +1,3 @@
-
+pub mod Entries
+pub mod Hosting
+pub mod Told

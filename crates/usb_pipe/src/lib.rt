@@ -12,3 +12,6 @@ pub use control::{control_in, control_none};
 pub use fault::PipeFault;
 pub use usb_request::Setup;
 pub use usb_transaction::{Bus, BusFault, Target};
+
+#[cfg(test)]
+mod tests;

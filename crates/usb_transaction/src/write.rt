@@ -19,7 +19,7 @@ use usb_packet::Toggle;
 /// # Errors
 ///
 /// `Stalled` at STALL, `Busy` at the 256th NAK, `NoAnswer` after three errors running, `Bus` where
-/// the bus makes no more steps. After each but the first the data may have been taken.
+/// the bus makes no more steps. The data may have been taken all the same, where an ACK was lost.
 pub fn data_out<B: Bus>(
     bus: &mut B,
     target: Target,

@@ -1,9 +1,11 @@
 //! The simulated bus as the host sees it.
-ghost use Rattle.std.specs.Prelude.{◌≡◌, ◌≢◌, ◌+◌, ◌-◌, ◌<◌, ◌≤◌, length, slice_set, slice_index_or, unwrap_or, true, None, OnOk, IfErr};
+ghost use Rattle.std.specs.Prelude.{◌≡◌, ◌≢◌, ◌+◌, ◌-◌, ◌<◌, ◌≤◌, length, slice_set, slice_index_or, unwrap_or, true, None, OnOk, IfOk, IfErr};
 ghost use Rattle.usb_port.specs.PortState.{off, set_row, clear_row, status_of};
-ghost use Rattle.usb_bus.specs.World.{Spends, AnswerFits, IsAttempt};
+ghost use Rattle.usb_bus.specs.World.{Attempted, Spends, AnswerFits, IsAttempt};
+ghost use Rattle.std.specs.Io.KnownBytes.{Appends};
 ghost use Rattle.usb_bus.specs.Roots.{ports_of};
-ghost use Rattle.usb_bus.specs.Watch.{has_failed};
+ghost use Rattle.usb_bus.specs.Simulation.{attempted, outcome_in, attempted_lines};
+ghost use Rattle.usb_bus.specs.Watch.{inner_of, has_failed};
 ghost use Rattle.usb_bus.specs.declared.types.BusFault.TheVariants.{LimitReached, TraceFailed};
 
 use super::lines::put_attempt;
@@ -14,11 +16,18 @@ use crate::{Attempt, Bus, BusFault, Outcome};
 use std::io::Write;
 
 impl<W: Write> Bus for SimBus<W> {
-    ghost use Rattle.usb_bus.specs.Sim.{world_of};
+    ghost use Rattle.usb_bus.specs.Sim.{world_of, writer_of, simulation_of};
 
     ghost world = { world_of };
 
-    fn attempt(&mut self, attempt: &Attempt) -> Result<Outcome, BusFault> {
+    fn attempt(&mut self, attempt: &Attempt) -> Result<Outcome, BusFault>
+        requires { IsAttempt attempt.now }
+        ensures counts { Attempted attempt.now (world_of self.old) result (world_of self.new) }
+        ensures exact { OnOk result (simulation_of self.new ≡ attempted attempt.now (simulation_of self.old)) }
+        ensures outcome { IfOk result (λ outcome. outcome ≡ outcome_in attempt.now (simulation_of self.old)) }
+        ensures lines { OnOk result (Appends (W.contents (inner_of (writer_of self.old))) (W.contents (inner_of (writer_of self.new))) (attempted_lines attempt.now (simulation_of self.old))) }
+        ensures trace { result ≡ Err TraceFailed → (world_of self.old).fault ≡ None → has_failed (writer_of self.new) ≡ true }
+    {
         if let Some(fault) = self.fault {
             return Err(fault);
         }
@@ -52,9 +61,10 @@ impl<W: Write> Bus for SimBus<W> {
 }
 
 impl<W: Write> SimBus<W> {
-    ghost use Rattle.usb_bus.specs.Sim.{world_of, writer_of};
+    ghost use Rattle.usb_bus.specs.Sim.{world_of, writer_of, simulation_of};
 
     /// The events that are due, and then an attempt and its line.
+    #[tactic(auto, unfolding(crate::specs::Simulation::ready, crate::specs::Simulation::attempted, crate::specs::Simulation::outcome_in, crate::specs::Simulation::attempted_lines))]
     fn make_attempt(&mut self, attempt: &Attempt) -> Result<Outcome, BusFault>
         requires attempt { IsAttempt attempt.now }
         requires sound { (world_of self.old).fault ≡ None }
@@ -62,6 +72,9 @@ impl<W: Write> SimBus<W> {
         ensures spends { Spends 1 (world_of self.old) (world_of self.new) }
         ensures one { OnOk result ((world_of self.new).attempts ≡ (world_of self.old).attempts + 1) }
         ensures fits { AnswerFits attempt.now.max result }
+        ensures exact { OnOk result (simulation_of self.new ≡ attempted attempt.now (simulation_of self.old)) }
+        ensures outcome { IfOk result (λ outcome. outcome ≡ outcome_in attempt.now (simulation_of self.old)) }
+        ensures lines { OnOk result (Appends (W.contents (inner_of (writer_of self.old))) (W.contents (inner_of (writer_of self.new))) (attempted_lines attempt.now (simulation_of self.old))) }
         ensures fault { (world_of self.new).fault ≡ None }
         ensures other { IfErr result (λ f. f ≢ LimitReached) }
         ensures trace { result ≡ Err TraceFailed → has_failed (writer_of self.new) ≡ true }

@@ -3,14 +3,15 @@ ghost use Rattle.std.specs.Prelude.{◌≡◌, ◌≢◌, ◌+◌, ◌-◌, ◌<
 ghost use Rattle.std.specs.Io.KnownBytes.{Appends};
 ghost use Rattle.usb_bus.specs.World.{Spends, changes};
 ghost use Rattle.usb_bus.specs.Steps.{TookEvent};
-ghost use Rattle.usb_bus.specs.PlanData.{is_root_path};
-ghost use Rattle.usb_bus.specs.Roots.{ports_of, root_of, with_plug};
+ghost use Rattle.usb_bus.specs.PlanData.{is_root_path, can_be_done};
+ghost use Rattle.usb_bus.specs.Roots.{ports_of, root_of, plugged_at};
+ghost use Rattle.usb_bus.specs.Simulation.{done, action_line, next_event, next_line, has_due, due_from, due_lines};
 ghost use Rattle.usb_bus.specs.Trace.{plug_line};
 ghost use Rattle.usb_bus.specs.Watch.{inner_of, has_failed, AppendsFront};
 ghost use Rattle.usb_bus.specs.declared.types.BusFault.TheVariants.{LimitReached, TraceFailed};
 
 use super::{SimBus, fault_of};
-use crate::event::Action;
+use crate::event::{Action, Event};
 use crate::root::RootPort;
 use crate::watched::put_pieces;
 use crate::{BusFault, Watched, WriteFailed};
@@ -27,7 +28,7 @@ pub enum Due {
 }
 
 impl<W: Write> SimBus<W> {
-    ghost use Rattle.usb_bus.specs.Sim.{world_of, writer_of};
+    ghost use Rattle.usb_bus.specs.Sim.{world_of, writer_of, simulation_of};
 
     /// Lets the next event come at once, however many attempts it would wait for, and tells what it asks; None
     /// where no event is left.
@@ -36,6 +37,8 @@ impl<W: Write> SimBus<W> {
     /// come; `TraceFailed` where the writer failed in this call, and the event came.
     pub fn apply_next_event(&mut self) -> Result<Option<Due>, BusFault>
         ensures event { TookEvent (world_of self.old) result (world_of self.new) }
+        ensures exact { OnOk result (simulation_of self.new ≡ next_event (simulation_of self.old)) }
+        ensures line { OnOk result (Appends (W.contents (inner_of (writer_of self.old))) (W.contents (inner_of (writer_of self.new))) (next_line (simulation_of self.old))) }
         ensures trace { result ≡ Err TraceFailed → (world_of self.old).fault ≡ None → has_failed (writer_of self.new) ≡ true }
     {
         if let Some(fault) = self.fault {
@@ -56,6 +59,8 @@ impl<W: Write> SimBus<W> {
     pub(super) fn take_due_events(&mut self) -> Result<(), BusFault>
         ensures spends { Spends 0 (world_of self.old) (world_of self.new) }
         ensures fault { (world_of self.new).fault ≡ (world_of self.old).fault }
+        ensures exact { OnOk result (simulation_of self.new ≡ due_from (simulation_of self.old).left (simulation_of self.old)) }
+        ensures lines { OnOk result (Appends (W.contents (inner_of (writer_of self.old))) (W.contents (inner_of (writer_of self.new))) (due_lines (simulation_of self.old).left (simulation_of self.old))) }
         ensures other { IfErr result (λ f. f ≢ LimitReached) }
         ensures trace { result ≡ Err TraceFailed → has_failed (writer_of self.new) ≡ true }
     {
@@ -66,13 +71,23 @@ impl<W: Write> SimBus<W> {
     }
 
     /// Whether the next event waits no longer: so many attempts were made since the former event.
+    #[tactic(auto, unfolding(crate::specs::Simulation::has_due))]
     fn is_due(&self) -> bool
-        ensures { IsTrue result → 0 < (world_of self.now).left }
+        ensures value { result ≡ has_due (simulation_of self.now) }
+        ensures left { IsTrue result → 0 < (world_of self.now).left }
     {
-        match self.events.as_slice().get(self.taken) {
+        match self.events_to_come().split_first() {
             None => false,
-            Some(event) => self.attempts - self.attempts_then >= event.after,
+            Some((event, _)) => self.attempts - self.attempts_then >= event.after,
         }
+    }
+
+    #[tactic(auto, using(std::proofs::lemmas::List::take_rest))]
+    fn events_to_come(&self) -> &[Event]
+        ensures list { result.now ≡ (simulation_of self.now).left }
+        ensures number { length result.now ≡ (world_of self.now).left }
+    {
+        &self.events.as_slice()[self.taken..]
     }
 
     fn take_event(&mut self) -> Result<(), BusFault>
@@ -80,21 +95,57 @@ impl<W: Write> SimBus<W> {
         ensures spends { Spends 0 (world_of self.old) (world_of self.new) }
         ensures fault { (world_of self.new).fault ≡ (world_of self.old).fault }
         ensures one { OnOk result ((world_of self.new).taken ≡ (world_of self.old).taken + 1) }
+        ensures exact { OnOk result (simulation_of self.new ≡ next_event (simulation_of self.old)) }
+        ensures line { OnOk result (Appends (W.contents (inner_of (writer_of self.old))) (W.contents (inner_of (writer_of self.new))) (next_line (simulation_of self.old))) }
         ensures other { IfErr result (λ f. f ≢ LimitReached) }
         ensures trace { result ≡ Err TraceFailed → has_failed (writer_of self.new) ≡ true }
     {
         let event = &self.events.as_slice()[self.taken];
-        let Action::Plug(path, index) = &event.action;
-        let spec = &self.devices.as_slice()[*index];
-        plug(self.alloc, &mut self.roots, path, spec)?;
+        carry_out(self.alloc, &mut self.roots, &self.devices, &event.action)?;
         self.taken += 1;
         self.attempts_then = self.attempts;
-        put_plug(&mut self.writer, path, spec.name())?;
+        put_action(&mut self.writer, &self.devices, &event.action)?;
         Ok(())
     }
 }
 
+#[tactic(auto, unfolding(crate::specs::Simulation::done))]
+fn carry_out(
+    alloc: Global,
+    roots: &mut [RootPort],
+    devices: &[DeviceSpec],
+    action: &Action,
+) -> Result<(), AllocError>
+    requires { can_be_done (length roots.old) (length devices.now) action.now ≡ true }
+    ensures ok { OnOk result (roots.new ≡ done action.now devices.now roots.old) }
+    ensures err { OnErr result (ports_of roots.new ≡ ports_of roots.old) }
+    ensures number { length (ports_of roots.new) ≡ length (ports_of roots.old) }
+    ensures grown { changes (ports_of roots.new) ≤ changes (ports_of roots.old) + 1 }
+{
+    match action {
+        Action::Plug(path, device) => plug(alloc, roots, path, &devices[*device]),
+    }
+}
+
+/// The line of an event.
+#[tactic(auto, unfolding(crate::specs::Simulation::action_line))]
+fn put_action<W: Write>(
+    writer: &mut Watched<W>,
+    devices: &[DeviceSpec],
+    action: &Action,
+) -> Result<(), WriteFailed>
+    requires { (roots : ℕ) × (can_be_done roots (length devices.now) action.now ≡ true) }
+    ensures front { AppendsFront (W.contents (inner_of writer.old)) (W.contents (inner_of writer.new)) (action_line action.now devices.now) }
+    ensures ok { OnOk result (Appends (W.contents (inner_of writer.old)) (W.contents (inner_of writer.new)) (action_line action.now devices.now)) }
+    ensures marked { OnErr result (has_failed writer.new ≡ true) }
+{
+    match action {
+        Action::Plug(path, device) => put_plug(writer, path, devices[*device].name()),
+    }
+}
+
 /// Makes the device, and plugs it at its root port.
+#[tactic(auto, unfolding(crate::specs::Roots::plugged_at, crate::specs::Roots::with_device))]
 fn plug(
     alloc: Global,
     roots: &mut [RootPort],
@@ -102,7 +153,7 @@ fn plug(
     spec: &DeviceSpec,
 ) -> Result<(), AllocError>
     requires { is_root_path (length roots.old) path.now ≡ true }
-    ensures ok { OnOk result (ports_of roots.new ≡ with_plug path.now spec.now.low (ports_of roots.old)) }
+    ensures ok { OnOk result (roots.new ≡ plugged_at path.now spec.now roots.old) }
     ensures err { OnErr result (ports_of roots.new ≡ ports_of roots.old) }
     ensures number { length (ports_of roots.new) ≡ length (ports_of roots.old) }
     ensures grown { changes (ports_of roots.new) ≤ changes (ports_of roots.old) + 1 }

@@ -1,16 +1,24 @@
-use Rattle.std.proofs.Common.{refl, arith}
-use Rattle.usb_bus.specs.Sim.{world_of}
-use Rattle.usb_bus.proofs.RootPorts.{event_spends, lent_back}
+use Rattle.std.proofs.Common.{refl, arith, ◌∙◌, ap₂, List}
+use Rattle.std.proofs.lemmas.List.{with_items_is}
+use Rattle.usb_device.specs.Spec.{Spec}
+use Rattle.usb_bus.specs.declared.root.RootPort.{RootPort}
+use Rattle.usb_bus.specs.Simulation.{done}
+use Rattle.usb_bus.specs.Sim.{simulation_of}
+use Rattle.usb_bus.proofs.Simulations.{events_split, came, line_next}
 use Rattle.usb_bus.proofs.sim.SimBus.take_event.Goals as goal
 
-pub returns-in_err-put_plug-clause-spends : goal.returns-in_err-put_plug-clause-spends
-returns-in_err-put_plug-clause-spends g c =
-    let back = lent_back c.args.self.now.roots c.deref_mut.result.now c.plug.new.roots c.deref_mut.ensures.value (omega arith)
-    (record { grown = c.plug.ensures.grown; number = c.plug.ensures.number }) in
-    event_spends (world_of c.args.self.now) _ back.grown back.number refl (omega arith) refl refl
+pub returns-clause-exact : goal.returns-clause-exact
+returns-clause-exact g c =
+    let s = c.args.self.now in
+    let e = c.index-as_slice-self.result in
+    let split = events_split s.events c.as_slice.result.now s.taken e c.as_slice.ensures.value (omega arith) c.index-as_slice-self.is in
+    let roots = with_items_is s.roots c.carry_out.new.roots (omega arith) ∙ c.in_ok-carry_out.ensures.ok
+    ∙ ap₂ (λ (d : List Spec) (r : List RootPort). done e.action d r) c.deref.ensures.value c.deref_mut.ensures.value in
+    came (simulation_of s) _ e _ split roots refl refl refl refl
 
-pub returns-clause-spends : goal.returns-clause-spends
-returns-clause-spends g c =
-    let back = lent_back c.args.self.now.roots c.deref_mut.result.now c.plug.new.roots c.deref_mut.ensures.value (omega arith)
-    (record { grown = c.plug.ensures.grown; number = c.plug.ensures.number }) in
-    event_spends (world_of c.args.self.now) _ back.grown back.number refl (omega arith) refl refl
+pub returns-clause-line : goal.returns-clause-line
+returns-clause-line g c =
+    let s = c.args.self.now in
+    let e = c.index-as_slice-self.result in
+    let split = events_split s.events c.as_slice.result.now s.taken e c.as_slice.ensures.value (omega arith) c.index-as_slice-self.is in
+    rw (← line_next (simulation_of s) e _ split) (rw c.deref-2.ensures.value at c.in_ok-put_action.ensures.ok)

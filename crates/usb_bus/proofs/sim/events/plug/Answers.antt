@@ -1,15 +1,9 @@
-use Rattle.std.proofs.Common.{◌<◌, length, subst, ℕ, sym}
+use Rattle.std.proofs.Common.{◌<◌, length, subst, ap, ℕ, sym}
 use Rattle.std.proofs.lemmas.List.{length-map}
 use Rattle.usb_bus.specs.declared.root.RootPort.{RootPort}
 use Rattle.usb_bus.specs.Roots.{ports_of}
 use Rattle.usb_bus.proofs.RootPorts.{ports_plugged, plug_changes, root_within}
 use Rattle.usb_bus.proofs.sim.events.plug.Goals as goal
-
-pub returns-clause-ok : goal.returns-clause-ok
-returns-clause-ok c =
-    ports_plugged c.args.roots.now c.root_of.result c.args.path.now c.index-roots-root_of.result c.plug.new.self c.is_low.result c.args.spec.now.low
-    (root_within c.args.path.now (length c.args.roots.now) c.root_of.result c.requires c.root_of.ensures.first)
-    c.root_of.ensures.value c.is_low.ensures c.plug.ensures
 
 pub returns-clause-grown : goal.returns-clause-grown
 returns-clause-grown c =
@@ -20,4 +14,4 @@ returns-clause-grown c =
     plug_changes (ports_of c.args.roots.now) _ c.args.path.now c.args.spec.now.low
     (subst Q c.root_of.ensures.value (subst P (sym (length-map c.args.roots.now (λ (r : RootPort). r.port))) within))
     (ports_plugged c.args.roots.now i c.args.path.now c.index-roots-root_of.result c.plug.new.self c.is_low.result c.args.spec.now.low
-    within c.root_of.ensures.value c.is_low.ensures c.plug.ensures)
+    within c.root_of.ensures.value c.is_low.ensures (ap (λ (x : RootPort). x.port) c.plug.ensures))

@@ -1,0 +1,126 @@
+-- How events come in a simulation.
+use Rattle.std.proofs.Common.{◌≡◌, ℕ, ◌+◌, ◌<◌, List, [], ◌∷◌, ◌++◌, length, drop, get_or, Bool, true, false, if◌then◌else◌, Option, refl, sym, ap, ap₂, ◌∙◌, subst, add-one, drop-cons, append_assoc, append-nil}
+use Rattle.std.specs.Io.KnownBytes.{Appends}
+use Rattle.usb_device.specs.Spec.{Spec}
+use Rattle.usb_bus.specs.declared.event.Event.{Event}
+use Rattle.usb_bus.specs.declared.root.RootPort.{RootPort}
+use Rattle.std.proofs.KnownBytes.{Appends-trans, Appends-nil}
+use Rattle.usb_bus.specs.declared.types.Attempt.{Attempt}
+use Rattle.usb_bus.specs.declared.exchange.Exchange.{Exchange}
+use Rattle.usb_bus.specs.Exchange.{exchanged}
+use Rattle.usb_bus.specs.Trace.{attempt_line}
+use Rattle.usb_bus.specs.Simulation.{Simulation, ready, attempted_lines, has_due, done, action_line, took, next_event, next_line, comes, due_from, due_lines}
+
+-- the events to come are the next one and those after it
+pub events_split : (events list : List Event) (i : ℕ) (e : Event) → list ≡ events → i < length events → e ≡ get_or list i e → drop i events ≡ e ∷ drop (i + 1) events
+events_split events list i e same lt is =
+    drop-cons events i e lt
+    ∙ ap₂ (λ (x : Event) (n : ℕ). x ∷ drop n events) (sym (is ∙ ap (λ (l : List Event). get_or l i e) same)) (sym (add-one i))
+
+-- the next event came
+pub came : (s t : Simulation) (e : Event) (events : List Event) → s.left ≡ e ∷ events → t.roots ≡ done e.action s.devices s.roots → t.devices ≡ s.devices → t.left ≡ events
+    → t.attempts ≡ s.attempts → t.attempts_then ≡ s.attempts → t ≡ next_event s
+unfolding next_event took
+came s t e events split roots devices left attempts since =
+    let made : List RootPort → List Spec → List Event → ℕ → ℕ → Simulation
+    = λ r d l n m. record { roots = r; devices = d; left = l; attempts = n; attempts_then = m } in
+    let after = done e.action s.devices s.roots in
+    rw split
+    (ap (λ (r : List RootPort). made r t.devices t.left t.attempts t.attempts_then) roots
+    ∙ ap (λ (d : List Spec). made after d t.left t.attempts t.attempts_then) devices
+    ∙ ap (λ (l : List Event). made after s.devices l t.attempts t.attempts_then) left
+    ∙ ap₂ (λ (n m : ℕ). made after s.devices events n m) attempts since)
+
+pub line_next : (s : Simulation) (e : Event) (events : List Event) → s.left ≡ e ∷ events → action_line e.action s.devices ≡ next_line s
+unfolding next_line
+line_next s e events split = rw split refl
+
+-- what is due comes first, and then what is due of the rest
+pub record DueStep (s : Simulation) : Type 0 where
+  pub after : due_from s.left s ≡ due_from (next_event s).left (next_event s)
+  pub lines : due_lines s.left s ≡ next_line s ++ due_lines (next_event s).left (next_event s)
+
+if_true : {X : Type 0} (b : Bool) (x y : X) → b ≡ true → (if b then x else y) ≡ x
+if_true true x y h = refl
+if_true false x y h = cc
+
+if_false : {X : Type 0} (b : Bool) (x y : X) → b ≡ false → (if b then x else y) ≡ y
+if_false false x y h = refl
+if_false true x y h = cc
+
+step_at : (s : Simulation) (left : List Event) → s.left ≡ left → (elim left [ [] ↦ false | e ∷ events ↦ comes e s.attempts s.attempts_then ]) ≡ true → DueStep s
+unfolding next_event next_line due_from due_lines took
+step_at s [] e h = cc
+step_at s (x ∷ events) e h = rw e (record { after = if_true (comes x s.attempts s.attempts_then) _ _ h; lines = if_true (comes x s.attempts s.attempts_then) _ _ h })
+
+pub due_step : (s : Simulation) → has_due s ≡ true → DueStep s
+unfolding has_due
+due_step s h = step_at s s.left refl h
+
+-- nothing is due
+pub record DueEnd (s : Simulation) : Type 0 where
+  pub after : due_from s.left s ≡ s
+  pub lines : due_lines s.left s ≡ []
+
+end_at : (s : Simulation) (left : List Event) → s.left ≡ left → (elim left [ [] ↦ false | e ∷ events ↦ comes e s.attempts s.attempts_then ]) ≡ false → DueEnd s
+unfolding due_from due_lines
+end_at s [] e h = record { after = rw e refl; lines = rw e refl }
+end_at s (x ∷ events) e h = record {
+  after = rw e (if_false (comes x s.attempts s.attempts_then) _ _ h);
+  lines = rw e (if_false (comes x s.attempts s.attempts_then) _ _ h);
+}
+
+pub due_end : (s : Simulation) → has_due s ≡ false → DueEnd s
+unfolding has_due
+due_end s h = end_at s s.left refl h
+
+-- what has come so far of what was due at first
+pub record DueSoFar (first now : Simulation) (had has : Option (List ℕ)) : Type 0 where
+  pub after : due_from first.left first ≡ due_from now.left now
+  pub gone : List ℕ
+  pub lines : due_lines first.left first ≡ gone ++ due_lines now.left now
+  pub written : Appends had has gone
+
+pub due_begins : (s : Simulation) (had : Option (List ℕ)) → DueSoFar s s had had
+due_begins s had = record { after = refl; gone = []; lines = refl; written = Appends-nil had }
+
+pub due_goes_on : (first s t : Simulation) (had has now : Option (List ℕ)) → DueSoFar first s had has → has_due s ≡ true → t ≡ next_event s → Appends has now (next_line s) → DueSoFar first t had now
+due_goes_on first s t had has now d h e line =
+    let step = due_step s h in
+    let P : Simulation → Type 0 = λ x. DueSoFar first x had now in
+    subst P (sym e) (record {
+      after = d.after ∙ step.after;
+      gone = d.gone ++ next_line s;
+      lines = d.lines ∙ ap (λ l. d.gone ++ l) step.lines ∙ sym (append_assoc d.gone (next_line s) _);
+      written = Appends-trans had has now d.gone (next_line s) d.written line;
+    })
+
+pub record DueDone (first now : Simulation) (had has : Option (List ℕ)) : Type 0 where
+  pub after : now ≡ due_from first.left first
+  pub written : Appends had has (due_lines first.left first)
+
+pub due_ends : (first s : Simulation) (had has : Option (List ℕ)) → DueSoFar first s had has → has_due s ≡ false → DueDone first s had has
+due_ends first s had has d h =
+    let rest = due_end s h in
+    record {
+      after = sym (d.after ∙ rest.after);
+      written = subst (λ l. Appends had has l) (sym (d.lines ∙ ap (λ l. d.gone ++ l) rest.lines ∙ append-nil d.gone)) d.written;
+    }
+
+-- no event is left
+pub next_none : (s : Simulation) → s.left ≡ [] → s ≡ next_event s
+unfolding next_event
+next_none s e = rw e refl
+
+pub line_none : (s : Simulation) (had : Option (List ℕ)) → s.left ≡ [] → Appends had had (next_line s)
+unfolding next_line
+line_none s had e = rw e (Appends-nil had)
+
+-- the lines of the events that are due, and then the attempt's
+pub lines_of_attempt : (a : Attempt) (s mid : Simulation) (n : ℕ) (x : Exchange) (had has now : Option (List ℕ)) → mid ≡ due_from s.left s → n ≡ mid.attempts + 1
+    → x ≡ (exchanged a mid.roots).0 → Appends had has (due_lines s.left s) → Appends has now (attempt_line n a.pre x ++ 10 ∷ []) → Appends had now (attempted_lines a s)
+unfolding attempted_lines ready
+lines_of_attempt a s mid n x had has now em en ex due line =
+    let same = ap₂ (λ (m : ℕ) (y : Exchange). attempt_line m a.pre y ++ 10 ∷ [])
+    (en ∙ ap (λ (w : Simulation). w.attempts + 1) em) (ex ∙ ap (λ (w : Simulation). (exchanged a w.roots).0) em) in
+    Appends-trans had has now _ _ due (subst (λ (l : List ℕ). Appends has now l) same line)

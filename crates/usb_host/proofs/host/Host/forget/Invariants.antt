@@ -1,0 +1,8 @@
+use Rattle.std.proofs.Common.{◌≡◌, length}
+use Rattle.usb_host.proofs.host.Host.forget.Given as goal
+
+abbrev pub invariant-entries : goal.invariant-entries
+invariant-entries g l = l.self-inside ≡ record l.initial.self-inside { table = l.self-inside.table; pool = l.self-inside.pool }
+
+abbrev pub decreases-entries : goal.decreases-entries
+decreases-entries g l = length l.self-inside.table

@@ -1,0 +1,12 @@
+use Rattle.std.proofs.Common.{◌≡◌, ap, arith}
+use Rattle.std.specs.Prelude.{ℕ, length}
+use Rattle.usb_host.specs.Hosting.{Hosting}
+use Rattle.usb_host.specs.declared.host.Round.TheVariants.{Quiet}
+use Rattle.usb_host.proofs.Quiets.{none_changed}
+use Rattle.usb_host.proofs.host.Host.handle_roots.Goals as goal
+
+pub returns-clause-quiet : goal.returns-clause-quiet
+returns-clause-quiet g c = λ is.
+    let quiet : c.ports.round ≡ Quiet = cc is in
+    let roots = ap (λ (h : Hosting). length h.world.ports) c.self.view_is in
+    (c.ports.invariant.same quiet, none_changed c.args.self.now.world c.ports.port (omega (arith, c.ports-test.false, c.root_ports-roots.ensures.count, roots)) (c.ports.invariant.unchanged quiet))

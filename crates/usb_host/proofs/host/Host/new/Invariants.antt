@@ -1,0 +1,6 @@
+use Rattle.std.proofs.Common.{◌≡◌, ◌-◌}
+use Rattle.usb_host.proofs.Powers.{powered_world}
+use Rattle.usb_host.proofs.host.Host.new.Given as goal
+
+abbrev pub invariant-ports : goal.invariant-ports
+invariant-ports g l = g.B.Bus.world l.bus ≡ powered_world (l.port - 1) (g.B.Bus.world l.initial.bus)

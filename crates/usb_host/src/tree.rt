@@ -1,0 +1,40 @@
+//! A copy of what is known of the ports.
+use std::marker::Model;
+use usb_enum::Finding;
+use usb_port::PortPath;
+
+/// What was found at each port, by rising path.
+#[derive(Drop)]
+pub struct Tree {
+    entries: Vec<(PortPath, Finding)>,
+}
+
+impl Model for Tree {
+    ghost use Rattle.usb_host.specs.Entries.{Entries, Rises};
+
+    ghost Value = { Entries };
+
+    ghost view = { λ t. t.entries.items };
+
+    ghost invariant = { λ t. Rises t.entries.items };
+}
+
+impl Tree {
+    ghost use Rattle.std.specs.Prelude.{◌≡◌};
+    ghost use Rattle.usb_host.specs.Entries.{Rises};
+
+    pub(crate) fn new(entries: Vec<(PortPath, Finding)>) -> Self
+        requires { Rises entries.items }
+        ensures { result ≡ entries.items }
+    {
+        Tree { entries }
+    }
+
+    /// The entries, each a path and what was found there.
+    pub fn entries(&self) -> &[(PortPath, Finding)]
+        ensures value { result.now ≡ self.now }
+        ensures rising { Rises self.now }
+    {
+        self.entries.as_slice()
+    }
+}
