@@ -20,3 +20,6 @@ goes_within a b g le = subst (λ n. b.attempts ≤ n) g.spends.limit (g.spends.w
 -- as many events are to come, or fewer
 pub goes_left : (a b : World) → Goes a b → b.left ≤ a.left
 goes_left a b g = omega (arith, g.spends.events, g.spends.onward)
+
+pub goes_from : (n : ℕ) (a b : World) → Spends n a b → Goes a b
+goes_from n a b s = record { count = n; spends = s }

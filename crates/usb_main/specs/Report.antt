@@ -10,7 +10,7 @@ use Rattle.usb_enum.specs.declared.cause.Request.TheVariants as request
 use Rattle.usb_enum.specs.declared.finding.Accepted.{Accepted}
 use Rattle.usb_enum.specs.declared.finding.Finding.{Finding}
 use Rattle.usb_enum.specs.declared.finding.Finding.TheVariants.{Device, Refused}
-use Rattle.usb_host.specs.declared.tree.Entry.{Entry}
+use Rattle.usb_host.specs.Entries.{Entries}
 
 unfoldable pub speed_word : Bool → List ℕ
 speed_word low = if low then codes "low" else codes "full"
@@ -89,14 +89,14 @@ abbrev pub finding_lines : List ℕ → Finding → List (List ℕ)
 finding_lines path (Device device) = device_lines path device
 finding_lines path (Refused cause) = refused_line path cause ∷ []
 
-abbrev pub entry_lines : Entry → List (List ℕ)
-entry_lines entry = finding_lines entry.path entry.finding
+abbrev pub entry_lines : List ℕ × Finding → List (List ℕ)
+entry_lines entry = finding_lines entry.0 entry.1
 
 unfoldable pub listing_line : ℕ → List ℕ
 listing_line number = codes "listing " ++ decimal number
 
 -- listing N, the lines of each entry, end
-unfoldable pub listing_lines : ℕ → List Entry → List (List ℕ)
+unfoldable pub listing_lines : ℕ → Entries → List (List ℕ)
 listing_lines number entries = listing_line number ∷ [] ++ flat_map entry_lines entries ++ codes "end" ∷ []
 
 unfoldable pub bound_line : ℕ → List ℕ

@@ -1,9 +1,9 @@
 -- What runs leave of a bus's world.
 use Rattle.std.specs.Prelude.{◌≡◌, ℕ, ◌+◌, ◌≤◌, Bool, true, false, if◌then◌else◌}
-use Rattle.usb_bus.specs.World.{World, Spends, IsRootPort}
+use Rattle.usb_bus.specs.PlanData.{PlanData}
+use Rattle.usb_bus.specs.World.{World, Spends}
 use Rattle.usb_bus.specs.declared.types.BusFault.{BusFault}
 use Rattle.usb_bus.specs.declared.types.BusFault.TheVariants as bus
-use Rattle.usb_host.specs.Host.{is_pending}
 use Rattle.usb_main.specs.declared.runs.RunFault.{RunFault}
 use Rattle.usb_main.specs.declared.runs.RunFault.TheVariants.{LimitReached, Memory, TraceFailed}
 
@@ -12,9 +12,10 @@ pub record Goes (old new : World) : Type 0 where
   pub count : ℕ
   pub spends : Spends count old new
 
--- no root port has C_PORT_CONNECTION set
-abbrev pub NonePending : World → Type 0
-NonePending w = (number : ℕ) → IsRootPort w number → is_pending number w ≡ false
+-- no attempt was made yet
+pub record IsBegun (plan : PlanData) (w : World) : Type 0 where
+  pub attempts : w.attempts ≡ 0
+  pub limit : w.limit ≡ plan.limit
 
 -- what a fault of the bus is to a run
 abbrev pub run_fault : BusFault → RunFault

@@ -6,7 +6,7 @@ use crate::lines::Lines;
 use crate::text::{push_decimal, push_hex, push_path, push_units, speed_word};
 use std::alloc::{AllocError, Global};
 use usb_enum::{Accepted, Cause, ConfigText, Finding, Request, StringUnits};
-use usb_host::{Entry, Tree};
+use usb_host::Tree;
 use usb_port::PortPath;
 
 /// `listing N`.
@@ -207,11 +207,15 @@ fn push_finding(
     }
 }
 
-fn push_entries(alloc: Global, lines: &mut Lines, entries: &[Entry]) -> Result<(), AllocError>
+fn push_entries(
+    alloc: Global,
+    lines: &mut Lines,
+    entries: &[(PortPath, Finding)],
+) -> Result<(), AllocError>
     ensures { OnOk result (lines.new ≡ lines.old ++ flat_map entry_lines entries.now) }
 {
     'entries: for entry in entries {
-        push_finding(alloc, lines, &entry.path, &entry.finding)?;
+        push_finding(alloc, lines, &entry.0, &entry.1)?;
     }
     Ok(())
 }
