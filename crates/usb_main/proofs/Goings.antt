@@ -1,8 +1,8 @@
 -- How the parts of a run join.
 use Rattle.std.proofs.Common.{◌≡◌, ◌∙◌, refl, sym, subst, arith, ℕ, ◌+◌, ◌≤◌, ◌<◌}
-use Rattle.usb_bus.specs.World.{World, Spends, IsRootPort, changes}
+use Rattle.usb_bus.specs.World.{World, Spends}
 use Rattle.usb_bus.proofs.Counts.{spends_none, spends_then}
-use Rattle.usb_main.specs.Run.{Goes, NonePending}
+use Rattle.usb_main.specs.Run.{Goes}
 
 pub goes_none : (w : World) → Goes w w
 goes_none w = record { count = 0; spends = spends_none w }
@@ -23,3 +23,7 @@ goes_left a b g = omega (arith, g.spends.events, g.spends.onward)
 
 pub goes_from : (n : ℕ) (a b : World) → Spends n a b → Goes a b
 goes_from n a b s = record { count = n; spends = s }
+
+-- an event that comes on the bus of a host that has gone on
+pub goes_event : (a b c m d : World) → Goes a b → Goes b c → m ≡ c → Spends 0 m d → Goes a d
+goes_event a b c m d g h e s = goes_by 0 a c d (goes_then a b c g h) (subst (λ w. Spends 0 w d) e s)

@@ -15,7 +15,7 @@ config_lines-take path index chosen (t ∷ ts) (suc i) other lt =
     let same : index + 1 + i ≡ index + suc i = omega arith in
     let rest = config_lines-take path (index + 1) chosen ts i other (omega (arith, lt)) in
     ap (λ lines. config_line path index t (index == chosen) ∷ lines)
-      (rest ∙ ap (λ n. config_lines path (index + 1) chosen (take i ts) ++ config_line path n (get_or ts i other) (n == chosen) ∷ []) same)
+    (rest ∙ ap (λ n. config_lines path (index + 1) chosen (take i ts) ++ config_line path n (get_or ts i other) (n == chosen) ∷ []) same)
 
 -- the same from index 0 on
 pub config_lines_at : (path : List ℕ) (chosen : ℕ) (texts : List (List ℕ)) (i : ℕ) (other : List ℕ) → i < length texts

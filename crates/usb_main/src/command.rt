@@ -4,10 +4,9 @@ use crate::line::{LineFault, packet_line};
 use crate::runs::RunFault;
 use crate::serving::{Mode, ServeFault, serve};
 use crate::words::{WordFault, Words, read_words};
-use std::fs;
 use std::io::Read;
 use std::rt::{Env, Files};
-use std::{env, io, str};
+use std::{env, fs, io, str};
 use usb_bus::Watched;
 use usb_plan::PlanFault;
 
@@ -24,7 +23,9 @@ const LIMIT: u8 = 3;
 pub const FAILED: u8 = 4;
 
 /// Does what the program's words ask for, and answers the exit status.
-pub fn serve_words<R: Env + Files + Input + Print + Eprint + AllocGlobal>(rt: &R) -> io::Result<u8> {
+pub fn serve_words<R: Env + Files + Input + Print + Eprint + AllocGlobal>(
+    rt: &R,
+) -> io::Result<u8> {
     let alloc = rt.alloc();
     let args = match env::args(rt) {
         Ok(args) => args,

@@ -136,7 +136,13 @@ fn push_device(
 {
     lines.push(address_line(alloc, path, device)?)?;
     push_configs(alloc, lines, path, device.configs.as_slice(), device.chosen)?;
-    push_string(alloc, lines, path, "manufacturer", &device.strings.manufacturer)?;
+    push_string(
+        alloc,
+        lines,
+        path,
+        "manufacturer",
+        &device.strings.manufacturer,
+    )?;
     push_string(alloc, lines, path, "product", &device.strings.product)?;
     push_string(alloc, lines, path, "serial", &device.strings.serial_number)
 }

@@ -57,7 +57,8 @@ const FIRST_READ: &str = "plug 1 fn\n1 SETUP 0.0 / DATA0 8006000100000800 / ACK\
 
 const FIRST_STATUS: &str = " / ACK\n3 OUT 0.0 / DATA1 - / ACK\n";
 
-const ADDRESS: &str = "4 SETUP 0.0 / DATA0 0005010000000000 / ACK\n5 IN 0.0 / DATA1 - / ACK\n6 SETUP 1.0 / DATA0 8006000100001200 / ACK\n7 IN 1.0 / DATA1 ";
+const ADDRESS: &str =
+    "4 SETUP 0.0 / DATA0 0005010000000000 / ACK\n5 IN 0.0 / DATA1 - / ACK\n6 SETUP 1.0 / DATA0 8006000100001200 / ACK\n7 IN 1.0 / DATA1 ";
 
 const SECOND_STATUS: &str = " / ACK\n8 OUT 1.0 / DATA1 - / ACK\n";
 
@@ -68,7 +69,10 @@ fn cut_descriptors_are_refused(rt: HostRuntime) -> Result<(), Fail> {
         let cut = &DESCRIPTOR[..2 * bytes];
         let plan = plan_of(alloc, cut, CONFIGURATION)?;
         let (text, fault) = served(alloc, Mode::Run, plan.as_str())?;
-        let mut want = format!(in alloc; "{FIRST_READ}{}{FIRST_STATUS}", printed(&cut[..cut.len().min(16)]))?;
+        let mut want = format!(in alloc;
+            "{FIRST_READ}{}{FIRST_STATUS}",
+            printed(&cut[..cut.len().min(16)])
+        )?;
         if bytes >= 8 {
             want.push_str(format!(in alloc; "{ADDRESS}{cut}{SECOND_STATUS}")?.as_str())?;
         }
@@ -86,7 +90,10 @@ fn cut_configurations_are_refused(rt: HostRuntime) -> Result<(), Fail> {
         let cut = &CONFIGURATION[..2 * bytes];
         let plan = plan_of(alloc, DESCRIPTOR, cut)?;
         let (text, fault) = served(alloc, Mode::Run, plan.as_str())?;
-        let mut want = format!(in alloc; "{FIRST_READ}{}{FIRST_STATUS}{ADDRESS}{DESCRIPTOR}{SECOND_STATUS}", &DESCRIPTOR[..16])?;
+        let mut want = format!(in alloc;
+            "{FIRST_READ}{}{FIRST_STATUS}{ADDRESS}{DESCRIPTOR}{SECOND_STATUS}",
+            &DESCRIPTOR[..16]
+        )?;
         want.push_str("9 SETUP 1.0 / DATA0 8006000200000900 / ACK\n10 IN 1.0 / DATA1 ")?;
         want.push_str(printed(&cut[..cut.len().min(18)]))?;
         want.push_str(" / ACK\n11 OUT 1.0 / DATA1 - / ACK\n")?;

@@ -21,5 +21,5 @@ texts-preserved c =
     let line = c.in_ok-config_line.field-0.items in
     let chosen = c.args.chosen in
     rw (add-one)
-      (pushed c.texts.lines c.push.new.self c.args.lines.now (config_lines path 0 chosen (take i texts)) (config_lines path 0 chosen (take (suc i) texts)) line
-        c.in_ok-push.ensures c.texts.invariant (step ∙ ap (λ l. config_lines path 0 chosen (take i texts) ++ l ∷ []) (sym (c.in_ok-config_line.ensures ∙ ap (λ t. config_line path i t (i == chosen)) (c.as_slice.ensures.value ∙ c.index-texts-index.is)))))
+    (pushed c.texts.lines c.push.new.self c.args.lines.now (config_lines path 0 chosen (take i texts)) (config_lines path 0 chosen (take (suc i) texts)) line
+    c.in_ok-push.ensures c.texts.invariant (step ∙ ap (λ l. config_lines path 0 chosen (take i texts) ++ l ∷ []) (sym (c.in_ok-config_line.ensures ∙ ap (λ t. config_line path i t (i == chosen)) (c.as_slice.ensures.value ∙ c.index-texts-index.is)))))
