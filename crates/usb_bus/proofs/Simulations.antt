@@ -3,6 +3,10 @@ use Rattle.std.proofs.Common.{◌≡◌, ℕ, ◌+◌, ◌<◌, List, [], ◌∷
 use Rattle.std.specs.Io.KnownBytes.{Appends}
 use Rattle.usb_device.specs.Spec.{Spec}
 use Rattle.usb_bus.specs.declared.event.Event.{Event}
+use Rattle.std.proofs.lemmas.List.{with_items_is}
+use Rattle.std.specs.declared.vec.Vec.{Vec}
+use Rattle.std.specs.Vec.{with_items}
+use Rattle.usb_bus.specs.declared.event.Action.{Action}
 use Rattle.usb_bus.specs.declared.root.RootPort.{RootPort}
 use Rattle.std.proofs.KnownBytes.{Appends-trans, Appends-nil}
 use Rattle.usb_bus.specs.declared.types.Attempt.{Attempt}
@@ -16,6 +20,12 @@ pub events_split : (events list : List Event) (i : ℕ) (e : Event) → list ≡
 events_split events list i e same lt is =
     drop-cons events i e lt
     ∙ ap₂ (λ (x : Event) (n : ℕ). x ∷ drop n events) (sym (is ∙ ap (λ (l : List Event). get_or l i e) same)) (sym (add-one i))
+
+-- the action was done to ports that were lent as a slice
+pub done_lent : {Z : Type 0} (v : Vec RootPort Z) (lent ws : List RootPort) (devices specs : List Spec) (a : Action) → length ws ≡ v.len → ws ≡ done a devices lent
+    → devices ≡ specs → lent ≡ v.items → (with_items v ws).items ≡ done a specs v.items
+done_lent v lent ws devices specs a n h ed el =
+    with_items_is v ws n ∙ h ∙ ap₂ (λ (d : List Spec) (r : List RootPort). done a d r) ed el
 
 -- the next event came
 pub came : (s t : Simulation) (e : Event) (events : List Event) → s.left ≡ e ∷ events → t.roots ≡ done e.action s.devices s.roots → t.devices ≡ s.devices → t.left ≡ events

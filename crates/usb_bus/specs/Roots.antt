@@ -1,12 +1,16 @@
 -- The root ports of a simulated bus.
-use Rattle.std.specs.Prelude.{ℕ, ◌-◌, List, slice_index, slice_get, slice_set, map, Option, Some, None, Bool, ◌&&◌, not, if◌then◌else◌}
-use Rattle.usb_port.specs.PortState.{PortState, plugged, is_attached, is_low}
+use Rattle.std.specs.Prelude.{ℕ, ◌-◌, List, slice_index, slice_get, slice_set, map, option_map, unwrap_or, ◌==◌, Option, Some, None, Bool, ◌&&◌, not, if◌then◌else◌}
+use Rattle.usb_port.specs.PortState.{PortState, off, plugged, set_row, clear_row, is_attached, is_low}
 use Rattle.usb_device.specs.Spec.{Spec}
-use Rattle.usb_device.specs.Rows.{State, fresh}
+use Rattle.usb_device.specs.Rows.{State, fresh, reset_state}
 use Rattle.usb_bus.specs.declared.root.RootPort.{RootPort}
 
 abbrev pub ports_of : List RootPort → List PortState
 ports_of roots = map (λ r. r.port) roots
+
+-- a root port without power, and nothing on it
+abbrev pub vacant : RootPort
+vacant = record { port = off; device = None }
 
 abbrev pub is_same : Bool → Bool → Bool
 is_same a b = if a then b else not b
@@ -23,9 +27,13 @@ root_of path = slice_index path 0 - 1
 unfoldable pub with_device : Spec → RootPort → RootPort
 with_device spec r = record { port = plugged spec.low r.port; device = Some (fresh spec) }
 
+-- one root port is written
+abbrev pub at_root : ℕ → (RootPort → RootPort) → List RootPort → List RootPort
+at_root i f roots = elim (slice_get roots i) [ None ↦ roots | Some r ↦ slice_set roots i (f r) ]
+
 -- a device is plugged at the root port of a path
 unfoldable pub plugged_at : List ℕ → Spec → List RootPort → List RootPort
-plugged_at path spec roots = elim (slice_get roots (root_of path)) [ None ↦ roots | Some r ↦ slice_set roots (root_of path) (with_device spec r) ]
+plugged_at path spec roots = at_root (root_of path) (with_device spec) roots
 
 -- the device at a root port
 abbrev pub place_at : List RootPort → ℕ → Option State
@@ -34,3 +42,13 @@ place_at roots i = elim (slice_get roots i) [ None ↦ None | Some r ↦ r.devic
 -- a device's address and configuration
 abbrev pub registers_of : State → ℕ × ℕ
 registers_of d = (d.registers.address, d.registers.configuration)
+
+-- a feature of the port is set; PORT_RESET of a powered port resets its device
+unfoldable pub with_feature : ℕ → RootPort → RootPort
+with_feature feature r = record {
+  port = unwrap_or (set_row feature r.port) r.port;
+  device = if feature == 4 && r.port.power then option_map reset_state r.device else r.device;
+}
+
+unfoldable pub without_feature : ℕ → RootPort → RootPort
+without_feature feature r = record r { port = unwrap_or (clear_row feature r.port) r.port }

@@ -1,5 +1,5 @@
 -- A simulated bus, step by step.
-use Rattle.std.specs.Prelude.{ℕ, ◌+◌, ◌-◌, nat_le, Bool, false, if◌then◌else◌, List, [], ◌∷◌, ◌++◌, slice_get, Some, None}
+use Rattle.std.specs.Prelude.{ℕ, ◌+◌, ◌-◌, nat_le, Bool, false, if◌then◌else◌, List, [], ◌∷◌, ◌++◌, replicate, slice_get, Some, None}
 use Rattle.usb_device.specs.Spec.{Spec}
 use Rattle.usb_bus.specs.declared.event.Event.{Event}
 use Rattle.usb_bus.specs.declared.event.Action.{Action}
@@ -7,7 +7,8 @@ use Rattle.usb_bus.specs.declared.event.Action.TheVariants.{Plug}
 use Rattle.usb_bus.specs.declared.root.RootPort.{RootPort}
 use Rattle.usb_bus.specs.declared.types.Attempt.{Attempt}
 use Rattle.usb_bus.specs.declared.types.Outcome.{Outcome}
-use Rattle.usb_bus.specs.Roots.{plugged_at}
+use Rattle.usb_bus.specs.PlanData.{PlanData}
+use Rattle.usb_bus.specs.Roots.{vacant, plugged_at, at_root, with_feature, without_feature}
 use Rattle.usb_bus.specs.Exchange.{exchanged, outcome_of}
 use Rattle.usb_bus.specs.Trace.{plug_line, attempt_line}
 
@@ -17,6 +18,10 @@ pub record Simulation : Type 0 where
   pub left : List Event  -- the events to come
   pub attempts : ℕ
   pub attempts_then : ℕ  -- the attempts made when the last event came
+
+-- a plan's simulation before anything came
+abbrev pub beginning : PlanData → Simulation
+beginning p = record { roots = replicate p.roots vacant; devices = p.devices; left = p.events; attempts = 0; attempts_then = 0 }
 
 -- what an action does to the root ports
 unfoldable pub done : Action → List Spec → List RootPort → List RootPort
@@ -68,3 +73,10 @@ outcome_in a s = outcome_of (exchanged a (ready s).roots).0.heard a.max
 
 unfoldable pub attempted_lines : Attempt → Simulation → List ℕ
 attempted_lines a s = due_lines s.left s ++ (attempt_line ((ready s).attempts + 1) a.pre (exchanged a (ready s).roots).0 ++ 10 ∷ [])
+
+-- a feature of a root port is set, or cleared
+unfoldable pub set_at : ℕ → ℕ → Simulation → Simulation
+set_at port feature s = record s { roots = at_root (port - 1) (with_feature feature) s.roots }
+
+unfoldable pub cleared_at : ℕ → ℕ → Simulation → Simulation
+cleared_at port feature s = record s { roots = at_root (port - 1) (without_feature feature) s.roots }

@@ -1,9 +1,10 @@
 //! A root port, and the device on it.
-ghost use Rattle.std.specs.Prelude.{◌≡◌, ◌-◌, ◌<◌, length, slice_set, slice_index_or, unwrap_or, Some, None, IfOk};
-ghost use Rattle.usb_port.specs.PortState.{PortState, off, plugged, set_row, clear_row, status_of};
+ghost use Rattle.std.specs.Prelude.{◌≡◌, ◌-◌, ◌<◌, length, slice_set, slice_index_or, unwrap_or, option_map, Some, None, IfOk};
+ghost use Rattle.usb_port.specs.PortState.{PortState, plugged, set_row, clear_row, status_of};
 ghost use Rattle.usb_packet.specs.Spelling.{Spells};
 ghost use Rattle.usb_packet.specs.declared.Packet.{Packet};
-ghost use Rattle.usb_bus.specs.Roots.{reaches};
+ghost use Rattle.usb_device.specs.Rows.{reset_state};
+ghost use Rattle.usb_bus.specs.Roots.{vacant, reaches, with_feature, without_feature};
 ghost use Rattle.usb_bus.specs.Exchange.{device_received, place_received, root_received, over};
 
 use crate::exchange::Heard;
@@ -18,8 +19,9 @@ pub(crate) struct RootPort {
 }
 
 impl RootPort {
+    /// A port without power, and nothing on it.
     pub(crate) fn new() -> Self
-        ensures { result.port ≡ off }
+        ensures { result ≡ vacant }
     {
         RootPort {
             port: Port::new(),
@@ -34,26 +36,23 @@ impl RootPort {
         self.device = Some(device);
     }
 
-    /// PORT_RESET resets the device too.
+    /// PORT_RESET of a powered port resets the device too.
+    #[tactic(auto, unfolding(crate::specs::Roots::with_feature))]
     pub(crate) fn set_feature(&mut self, feature: u16)
-        ensures { self.new.port ≡ unwrap_or (set_row feature self.old.port) self.old.port }
+        ensures port { self.new.port ≡ unwrap_or (set_row feature self.old.port) self.old.port }
+        ensures exact { self.new ≡ with_feature feature self.old }
     {
+        let resets = feature == 4 && self.port.is_powered();
         let _ = self.port.set_feature(feature);
-        if feature == 4 && self.port.is_powered() {
-            self.reset_device();
+        if resets {
+            reset(&mut self.device);
         }
     }
 
-    fn reset_device(&mut self)
-        ensures { self.new.port ≡ self.old.port }
-    {
-        if let Some(device) = &mut self.device {
-            device.reset();
-        }
-    }
-
+    #[tactic(auto, unfolding(crate::specs::Roots::without_feature))]
     pub(crate) fn clear_feature(&mut self, feature: u16)
-        ensures { self.new.port ≡ unwrap_or (clear_row feature self.old.port) self.old.port }
+        ensures port { self.new.port ≡ unwrap_or (clear_row feature self.old.port) self.old.port }
+        ensures exact { self.new ≡ without_feature feature self.old }
     {
         let _ = self.port.clear_feature(feature);
     }
@@ -102,4 +101,12 @@ fn receive_by(device: &mut Device, bytes: &[u8]) -> Result<Heard, AllocError>
 {
     let answer = device.receive(bytes)?;
     Ok(Heard::of(answer))
+}
+
+fn reset(place: &mut Option<Device>)
+    ensures { place.new ≡ option_map reset_state place.old }
+{
+    if let Some(device) = place {
+        device.reset();
+    }
 }

@@ -2,7 +2,8 @@
 ghost use Rattle.std.specs.Prelude.{◌≡◌, ◌≤◌, length, vec_len, replicate, map, IfOk, IfErr, Some, option_map, true};
 ghost use Rattle.std.specs.List.{list_all};
 ghost use Rattle.usb_bus.specs.PlanData.{can_come};
-ghost use Rattle.usb_bus.specs.Roots.{ports_of, place_at, registers_of};
+ghost use Rattle.usb_bus.specs.Roots.{ports_of, vacant, place_at, registers_of};
+ghost use Rattle.usb_bus.specs.Simulation.{beginning};
 ghost use Rattle.usb_bus.specs.Steps.{opening, fault_of};
 ghost use Rattle.usb_bus.specs.declared.types.BusFault.TheVariants.{LimitReached};
 ghost use Rattle.usb_port.specs.PortState.{off};
@@ -54,7 +55,7 @@ struct Stage {
 }
 
 impl<W: Write> SimBus<W> {
-    ghost use Rattle.usb_bus.specs.Sim.{world_of, writer_of, device_at};
+    ghost use Rattle.usb_bus.specs.Sim.{world_of, writer_of, simulation_of, device_at};
 
     /// The bus of a plan, before anything came: all ports are off.
     ///
@@ -65,6 +66,7 @@ impl<W: Write> SimBus<W> {
         writer: Watched<W>,
     ) -> Result<SimBus<W>, (AllocError, Watched<W>)>
         ensures world { IfOk result (λ bus. world_of bus ≡ opening plan.now) }
+        ensures simulation { IfOk result (λ bus. simulation_of bus ≡ beginning plan.now) }
         ensures writer { IfOk result (λ bus. writer_of bus ≡ writer) }
         ensures back { IfErr result (λ e. e.1 ≡ writer) }
     {
@@ -153,6 +155,7 @@ fn registers_of(place: &Option<Device>) -> Option<(u8, u8)>
 
 fn staged(alloc: Global, plan: &Plan) -> Result<Stage, AllocError>
     ensures ports { IfOk result (λ s. ports_of s.roots.items ≡ replicate plan.now.roots off) }
+    ensures roots { IfOk result (λ s. s.roots.items ≡ replicate plan.now.roots vacant) }
     ensures devices { IfOk result (λ s. s.devices.items ≡ plan.now.devices) }
     ensures events { IfOk result (λ s. s.events ≡ plan.now.events) }
 {
@@ -165,7 +168,8 @@ fn staged(alloc: Global, plan: &Plan) -> Result<Stage, AllocError>
 
 #[tactic(auto, using(crate::proofs::RootPorts::ports_off))]
 fn roots_off(alloc: Global, count: u8) -> Result<Vec<RootPort>, AllocError>
-    ensures { IfOk result (λ v. ports_of v.items ≡ replicate count off) }
+    ensures ports { IfOk result (λ v. ports_of v.items ≡ replicate count off) }
+    ensures exact { IfOk result (λ v. v.items ≡ replicate count vacant) }
 {
     let mut roots = Vec::new(alloc);
     'roots: for _ in 0..count {

@@ -1,10 +1,10 @@
 //! The simulated bus as the host sees it.
-ghost use Rattle.std.specs.Prelude.{◌≡◌, ◌≢◌, ◌+◌, ◌-◌, ◌<◌, ◌≤◌, length, slice_set, slice_index_or, unwrap_or, true, None, OnOk, IfOk, IfErr};
+ghost use Rattle.std.specs.Prelude.{◌≡◌, ◌≢◌, ◌+◌, ◌-◌, ◌<◌, ◌≤◌, length, slice_set, slice_index_or, unwrap_or, true, None, IsSome, OnOk, IfOk, IfErr};
 ghost use Rattle.usb_port.specs.PortState.{off, set_row, clear_row, status_of};
-ghost use Rattle.usb_bus.specs.World.{Attempted, Spends, AnswerFits, IsAttempt};
+ghost use Rattle.usb_bus.specs.World.{Attempted, Spends, AnswerFits, IsAttempt, IsRootPort, IsSetFeature, IsClearFeature, SetsRoot, ClearsRoot};
 ghost use Rattle.std.specs.Io.KnownBytes.{Appends};
-ghost use Rattle.usb_bus.specs.Roots.{ports_of};
-ghost use Rattle.usb_bus.specs.Simulation.{attempted, outcome_in, attempted_lines};
+ghost use Rattle.usb_bus.specs.Roots.{ports_of, at_root, with_feature, without_feature};
+ghost use Rattle.usb_bus.specs.Simulation.{set_at, cleared_at, attempted, outcome_in, attempted_lines};
 ghost use Rattle.usb_bus.specs.Watch.{inner_of, has_failed};
 ghost use Rattle.usb_bus.specs.declared.types.BusFault.TheVariants.{LimitReached, TraceFailed};
 
@@ -27,6 +27,8 @@ impl<W: Write> Bus for SimBus<W> {
         ensures outcome { IfOk result (λ outcome. outcome ≡ outcome_in attempt.now (simulation_of self.old)) }
         ensures lines { OnOk result (Appends (W.contents (inner_of (writer_of self.old))) (W.contents (inner_of (writer_of self.new))) (attempted_lines attempt.now (simulation_of self.old))) }
         ensures trace { result ≡ Err TraceFailed → (world_of self.old).fault ≡ None → has_failed (writer_of self.new) ≡ true }
+        ensures refused { result ≡ Err LimitReached → (simulation_of self.new ≡ simulation_of self.old) × (writer_of self.new ≡ writer_of self.old) }
+        ensures again { IsSome (world_of self.old).fault → self.new ≡ self.old }
     {
         if let Some(fault) = self.fault {
             return Err(fault);
@@ -49,13 +51,23 @@ impl<W: Write> Bus for SimBus<W> {
         status_at(&self.roots, usize::from(port) - 1)
     }
 
-    #[tactic(auto, unfolding(crate::specs::World::port_at))]
-    fn root_set(&mut self, port: u8, feature: u16) {
+    #[tactic(auto, unfolding(crate::specs::World::port_at, crate::specs::Simulation::set_at))]
+    fn root_set(&mut self, port: u8, feature: u16)
+        requires port { IsRootPort (world_of self.old) port }
+        requires named { IsSetFeature feature }
+        ensures row { SetsRoot port feature (world_of self.old) (world_of self.new) }
+        ensures exact { simulation_of self.new ≡ set_at port feature (simulation_of self.old) }
+    {
         set_at(&mut self.roots, usize::from(port) - 1, feature);
     }
 
-    #[tactic(auto, unfolding(crate::specs::World::port_at))]
-    fn root_clear(&mut self, port: u8, feature: u16) {
+    #[tactic(auto, unfolding(crate::specs::World::port_at, crate::specs::Simulation::cleared_at))]
+    fn root_clear(&mut self, port: u8, feature: u16)
+        requires port { IsRootPort (world_of self.old) port }
+        requires named { IsClearFeature feature }
+        ensures row { ClearsRoot port feature (world_of self.old) (world_of self.new) }
+        ensures exact { simulation_of self.new ≡ cleared_at port feature (simulation_of self.old) }
+    {
         clear_at(&mut self.roots, usize::from(port) - 1, feature);
     }
 }
@@ -96,14 +108,16 @@ fn status_at(roots: &[RootPort], i: usize) -> [u8; 4]
 
 fn set_at(roots: &mut [RootPort], i: usize, feature: u16)
     requires { i < length roots.old }
-    ensures { let p = slice_index_or (ports_of roots.old) i off in ports_of roots.new ≡ slice_set (ports_of roots.old) i (unwrap_or (set_row feature p) p) }
+    ensures ports { let p = slice_index_or (ports_of roots.old) i off in ports_of roots.new ≡ slice_set (ports_of roots.old) i (unwrap_or (set_row feature p) p) }
+    ensures exact { roots.new ≡ at_root i (with_feature feature) roots.old }
 {
     roots[i].set_feature(feature);
 }
 
 fn clear_at(roots: &mut [RootPort], i: usize, feature: u16)
     requires { i < length roots.old }
-    ensures { let p = slice_index_or (ports_of roots.old) i off in ports_of roots.new ≡ slice_set (ports_of roots.old) i (unwrap_or (clear_row feature p) p) }
+    ensures ports { let p = slice_index_or (ports_of roots.old) i off in ports_of roots.new ≡ slice_set (ports_of roots.old) i (unwrap_or (clear_row feature p) p) }
+    ensures exact { roots.new ≡ at_root i (without_feature feature) roots.old }
 {
     roots[i].clear_feature(feature);
 }

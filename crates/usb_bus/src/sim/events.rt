@@ -1,5 +1,5 @@
 //! The events of a plan as they come.
-ghost use Rattle.std.specs.Prelude.{◌≡◌, ◌≢◌, ◌+◌, ◌-◌, ◌<◌, ◌≤◌, List, ℕ, [], ◌∷◌, ◌++◌, length, true, slice_index, OnOk, OnErr, IfErr, IsTrue};
+ghost use Rattle.std.specs.Prelude.{◌≡◌, ◌≢◌, ◌+◌, ◌-◌, ◌<◌, ◌≤◌, List, ℕ, [], ◌∷◌, ◌++◌, length, true, slice_index, OnOk, OnErr, IfErr, IsTrue, IsSome};
 ghost use Rattle.std.specs.Io.KnownBytes.{Appends};
 ghost use Rattle.usb_bus.specs.World.{Spends, changes};
 ghost use Rattle.usb_bus.specs.Steps.{TookEvent};
@@ -8,7 +8,7 @@ ghost use Rattle.usb_bus.specs.Roots.{ports_of, root_of, plugged_at};
 ghost use Rattle.usb_bus.specs.Simulation.{done, action_line, next_event, next_line, has_due, due_from, due_lines};
 ghost use Rattle.usb_bus.specs.Trace.{plug_line};
 ghost use Rattle.usb_bus.specs.Watch.{inner_of, has_failed, AppendsFront};
-ghost use Rattle.usb_bus.specs.declared.types.BusFault.TheVariants.{LimitReached, TraceFailed};
+ghost use Rattle.usb_bus.specs.declared.types.BusFault.TheVariants.{LimitReached, Memory, TraceFailed};
 
 use super::{SimBus, fault_of};
 use crate::event::{Action, Event};
@@ -40,6 +40,9 @@ impl<W: Write> SimBus<W> {
         ensures exact { OnOk result (simulation_of self.new ≡ next_event (simulation_of self.old)) }
         ensures line { OnOk result (Appends (W.contents (inner_of (writer_of self.old))) (W.contents (inner_of (writer_of self.new))) (next_line (simulation_of self.old))) }
         ensures trace { result ≡ Err TraceFailed → (world_of self.old).fault ≡ None → has_failed (writer_of self.new) ≡ true }
+        ensures kept { result ≡ Err Memory → (simulation_of self.new ≡ simulation_of self.old) × (writer_of self.new ≡ writer_of self.old) }
+        ensures cut { result ≡ Err TraceFailed → (world_of self.old).fault ≡ None → simulation_of self.new ≡ next_event (simulation_of self.old) }
+        ensures again { IsSome (world_of self.old).fault → self.new ≡ self.old }
     {
         if let Some(fault) = self.fault {
             return Err(fault);
@@ -97,6 +100,8 @@ impl<W: Write> SimBus<W> {
         ensures one { OnOk result ((world_of self.new).taken ≡ (world_of self.old).taken + 1) }
         ensures exact { OnOk result (simulation_of self.new ≡ next_event (simulation_of self.old)) }
         ensures line { OnOk result (Appends (W.contents (inner_of (writer_of self.old))) (W.contents (inner_of (writer_of self.new))) (next_line (simulation_of self.old))) }
+        ensures kept { result ≡ Err Memory → (simulation_of self.new ≡ simulation_of self.old) × (writer_of self.new ≡ writer_of self.old) }
+        ensures cut { result ≡ Err TraceFailed → simulation_of self.new ≡ next_event (simulation_of self.old) }
         ensures other { IfErr result (λ f. f ≢ LimitReached) }
         ensures trace { result ≡ Err TraceFailed → has_failed (writer_of self.new) ≡ true }
     {
@@ -118,7 +123,7 @@ fn carry_out(
 ) -> Result<(), AllocError>
     requires { can_be_done (length roots.old) (length devices.now) action.now ≡ true }
     ensures ok { OnOk result (roots.new ≡ done action.now devices.now roots.old) }
-    ensures err { OnErr result (ports_of roots.new ≡ ports_of roots.old) }
+    ensures err { OnErr result (roots.new ≡ roots.old) }
     ensures number { length (ports_of roots.new) ≡ length (ports_of roots.old) }
     ensures grown { changes (ports_of roots.new) ≤ changes (ports_of roots.old) + 1 }
 {
@@ -154,7 +159,7 @@ fn plug(
 ) -> Result<(), AllocError>
     requires { is_root_path (length roots.old) path.now ≡ true }
     ensures ok { OnOk result (roots.new ≡ plugged_at path.now spec.now roots.old) }
-    ensures err { OnErr result (ports_of roots.new ≡ ports_of roots.old) }
+    ensures err { OnErr result (roots.new ≡ roots.old) }
     ensures number { length (ports_of roots.new) ≡ length (ports_of roots.old) }
     ensures grown { changes (ports_of roots.new) ≤ changes (ports_of roots.old) + 1 }
 {

@@ -1,5 +1,5 @@
 //! The lines that go to the writer.
-ghost use Rattle.std.specs.Prelude.{◌≡◌, [], ◌∷◌, ◌++◌, true, OnOk, OnErr};
+ghost use Rattle.std.specs.Prelude.{◌≡◌, [], ◌∷◌, ◌++◌, true, IsSome, OnOk, OnErr};
 ghost use Rattle.std.specs.Io.KnownBytes.{Appends};
 ghost use Rattle.usb_bus.specs.Steps.{PutLine};
 ghost use Rattle.usb_bus.specs.Trace.{attempt_line};
@@ -24,6 +24,7 @@ impl<W: Write> SimBus<W> {
         ensures step { PutLine (world_of self.old) result (world_of self.new) }
         ensures front { AppendsFront (W.contents (inner_of (writer_of self.old))) (W.contents (inner_of (writer_of self.new))) (line.now ++ 10 ∷ []) }
         ensures ok { OnOk result (Appends (W.contents (inner_of (writer_of self.old))) (W.contents (inner_of (writer_of self.new))) (line.now ++ 10 ∷ [])) }
+        ensures again { IsSome (world_of self.old).fault → self.new ≡ self.old }
         ensures trace { (world_of self.old).fault ≡ None → OnErr result (has_failed (writer_of self.new) ≡ true) }
     {
         if let Some(fault) = self.fault {

@@ -1,10 +1,6 @@
-use Rattle.std.proofs.Common.{refl, arith, ◌∙◌, ap₂, List}
-use Rattle.std.proofs.lemmas.List.{with_items_is}
-use Rattle.usb_device.specs.Spec.{Spec}
-use Rattle.usb_bus.specs.declared.root.RootPort.{RootPort}
-use Rattle.usb_bus.specs.Simulation.{done}
+use Rattle.std.proofs.Common.{refl, arith}
 use Rattle.usb_bus.specs.Sim.{simulation_of}
-use Rattle.usb_bus.proofs.Simulations.{events_split, came, line_next}
+use Rattle.usb_bus.proofs.Simulations.{done_lent, events_split, came, line_next}
 use Rattle.usb_bus.proofs.sim.SimBus.take_event.Goals as goal
 
 pub returns-clause-exact : goal.returns-clause-exact
@@ -12,8 +8,17 @@ returns-clause-exact g c =
     let s = c.args.self.now in
     let e = c.index-as_slice-self.result in
     let split = events_split s.events c.as_slice.result.now s.taken e c.as_slice.ensures.value (omega arith) c.index-as_slice-self.is in
-    let roots = with_items_is s.roots c.carry_out.new.roots (omega arith) ∙ c.in_ok-carry_out.ensures.ok
-    ∙ ap₂ (λ (d : List Spec) (r : List RootPort). done e.action d r) c.deref.ensures.value c.deref_mut.ensures.value in
+    let roots = done_lent s.roots c.deref_mut.result.now c.carry_out.new.roots c.deref.result.now s.devices.items e.action (omega arith)
+        c.in_ok-carry_out.ensures.ok c.deref.ensures.value c.deref_mut.ensures.value in
+    came (simulation_of s) _ e _ split roots refl refl refl refl
+
+pub returns-in_err-put_action-clause-cut : goal.returns-in_err-put_action-clause-cut
+returns-in_err-put_action-clause-cut g c = λ _.
+    let s = c.args.self.now in
+    let e = c.index-as_slice-self.result in
+    let split = events_split s.events c.as_slice.result.now s.taken e c.as_slice.ensures.value (omega arith) c.index-as_slice-self.is in
+    let roots = done_lent s.roots c.deref_mut.result.now c.carry_out.new.roots c.deref.result.now s.devices.items e.action (omega arith)
+        c.in_ok-carry_out.ensures.ok c.deref.ensures.value c.deref_mut.ensures.value in
     came (simulation_of s) _ e _ split roots refl refl refl refl
 
 pub returns-clause-line : goal.returns-clause-line
