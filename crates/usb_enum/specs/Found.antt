@@ -1,19 +1,25 @@
 -- What an enumeration finds, and what it leaves.
-use Rattle.std.specs.Prelude.{◌≡◌, ℕ, false, Some, Result, Ok, Err, length}
+use Rattle.std.specs.Prelude.{◌≡◌, ◌⊎◌, ℕ, true, false, Some, Result, Ok, Err, length}
 use Rattle.usb_bus.specs.World.{World, port_at}
 use Rattle.usb_hub.specs.declared.port.HubPort.{HubPort}
 use Rattle.usb_hub.specs.declared.port.HubPort.TheVariants.{Root}
-use Rattle.usb_resources.specs.Pool.{Addresses, Takes}
+use Rattle.usb_resources.specs.Pool.{Addresses, Takes, IsFull}
 use Rattle.usb_descriptor.specs.Device.{configuration_count}
 use Rattle.usb_enum.specs.declared.cause.Cause.{Cause}
+use Rattle.usb_enum.specs.declared.cause.Cause.TheVariants.{NoAddress}
+use Rattle.usb_enum.specs.declared.stop.Stop.{Stop}
+use Rattle.usb_enum.specs.declared.stop.Stop.TheVariants as stop
 use Rattle.usb_enum.specs.declared.fault.EnumFault.{EnumFault}
 use Rattle.usb_enum.specs.declared.finding.Accepted.{Accepted}
 use Rattle.usb_enum.specs.declared.finding.Finding.{Finding}
 use Rattle.usb_enum.specs.declared.finding.Finding.TheVariants.{Device, Refused}
+use Rattle.usb_enum.specs.Device.{is_device}
+use Rattle.usb_enum.specs.Stop.{FitsTier}
 use Rattle.usb_enum.specs.Text.{ValuesDiffer, choice_of}
 
--- every configuration was read, and the first that the supply allows is chosen
+-- the device descriptor is good, every configuration was read, and the first that the supply allows is chosen
 pub record IsWhole (supply : ℕ) (device : Accepted) : Type 0 where
+  pub head : is_device device.low device.bytes ≡ true
   pub all : length device.configs ≡ configuration_count device.bytes
   pub differ : ValuesDiffer device.configs
   pub chosen : choice_of supply device.configs ≡ Some device.chosen
@@ -22,13 +28,18 @@ pub record IsWhole (supply : ℕ) (device : Accepted) : Type 0 where
 abbrev pub IsDisabled : HubPort → World → Type 0
 IsDisabled (Root number) w = (port_at w number).enable ≡ false
 
-abbrev pub IsRefusal : HubPort → Finding → World → Type 0
-IsRefusal port (Device device) w = ⊥
-IsRefusal port (Refused cause) w = IsDisabled port w
+-- what is left after an enumeration that was given up
+abbrev pub GivesUp : HubPort → Stop → Result Finding EnumFault → World → Type 0
+GivesUp port (stop.Refused cause) result w = (result ≡ Ok (Refused cause)) × IsDisabled port w
+GivesUp port (stop.Fault fault) result w = result ≡ Err fault
 
-abbrev pub IsFound : HubPort → ℕ → Finding → World → Type 0
-IsFound port supply (Device device) w = IsWhole supply device
-IsFound port supply (Refused cause) w = IsDisabled port w
+-- why a device is refused: for want of an address only where each is taken
+abbrev pub IsCause : Addresses → ℕ → Cause → Type 0
+IsCause addresses tier cause = (cause ≡ NoAddress × IsFull addresses) ⊎ FitsTier tier cause
+
+abbrev pub IsFound : HubPort → Addresses → ℕ → ℕ → Finding → World → Type 0
+IsFound port addresses tier supply (Device device) w = IsWhole supply device
+IsFound port addresses tier supply (Refused cause) w = IsDisabled port w × IsCause addresses tier cause
 
 -- an accepted device takes the least free address, and nothing else takes any
 abbrev pub TakesFor : Result Finding EnumFault → Addresses → Addresses → Type 0

@@ -1,4 +1,5 @@
 pub mod Bounds
+pub mod Device
 pub mod Found
 pub mod Stop
 pub mod Text

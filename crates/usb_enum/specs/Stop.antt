@@ -1,5 +1,5 @@
 -- What a failed transfer means.
-use Rattle.std.specs.Prelude.{Option, Some, None, unwrap_or, Result, Ok, Err, ⊤}
+use Rattle.std.specs.Prelude.{◌≡◌, ◌≢◌, ◌⊎◌, ℕ, Option, Some, None, unwrap_or, Result, Ok, Err, ⊤}
 use Rattle.usb_bus.specs.World.{World, Failed}
 use Rattle.usb_pipe.specs.declared.fault.PipeFault.{PipeFault}
 use Rattle.usb_pipe.specs.declared.fault.PipeFault.TheVariants as pipe
@@ -24,17 +24,17 @@ answered_or stalled (Ok answer) = Ok answer
 answered_or stalled (Err f) = Err (unwrap_or (stop_of f) (Refused stalled))
 
 -- a hub whose port request fails is lost
-abbrev pub stop_at_port : PipeFault → Stop
-stop_at_port pipe.Stalled = Fault fault.ParentLost
-stop_at_port pipe.Busy = Fault fault.ParentLost
-stop_at_port pipe.NoAnswer = Fault fault.ParentLost
-stop_at_port pipe.Broken = Fault fault.ParentLost
-stop_at_port (pipe.Bus f) = Fault (fault.Bus f)
-stop_at_port pipe.Memory = Fault fault.Memory
+abbrev pub fault_at_port : PipeFault → EnumFault
+fault_at_port pipe.Stalled = fault.ParentLost
+fault_at_port pipe.Busy = fault.ParentLost
+fault_at_port pipe.NoAnswer = fault.ParentLost
+fault_at_port pipe.Broken = fault.ParentLost
+fault_at_port (pipe.Bus f) = fault.Bus f
+fault_at_port pipe.Memory = fault.Memory
 
-abbrev pub at_port : {X : Type 0} → Result X PipeFault → Result X Stop
+abbrev pub at_port : {X : Type 0} → Result X PipeFault → Result X EnumFault
 at_port (Ok answer) = Ok answer
-at_port (Err f) = Err (stop_at_port f)
+at_port (Err f) = Err (fault_at_port f)
 
 -- the bus tells its fault; a root port is a register, so that no parent is lost
 abbrev pub FaultTold : EnumFault → World → Type 0
@@ -42,6 +42,41 @@ FaultTold fault.ParentLost w = ⊥
 FaultTold (fault.Bus f) w = Failed f w
 FaultTold fault.Memory w = ⊤
 
+-- a hub is too deep in the last tier, and is not served in those above; there was an address
+abbrev pub FitsTier : ℕ → Cause → Type 0
+FitsTier tier cause.Silent = ⊤
+FitsTier tier cause.Busy = ⊤
+FitsTier tier (cause.Stalled request) = ⊤
+FitsTier tier cause.BadDevice = ⊤
+FitsTier tier cause.TooDeep = tier ≡ 7
+FitsTier tier (cause.BadConfiguration index) = ⊤
+FitsTier tier cause.NoPower = ⊤
+FitsTier tier cause.BadHub = tier ≢ 7
+FitsTier tier cause.Lost = ⊤
+FitsTier tier cause.NoAddress = ⊥
+
+-- a cause that does not hang on the tier or on the addresses
+abbrev pub IsPlain : Cause → Type 0
+IsPlain cause.Silent = ⊤
+IsPlain cause.Busy = ⊤
+IsPlain (cause.Stalled request) = ⊤
+IsPlain cause.BadDevice = ⊤
+IsPlain cause.TooDeep = ⊥
+IsPlain (cause.BadConfiguration index) = ⊤
+IsPlain cause.NoPower = ⊤
+IsPlain cause.BadHub = ⊥
+IsPlain cause.Lost = ⊤
+IsPlain cause.NoAddress = ⊥
+
 abbrev pub Told : Stop → World → Type 0
-Told (Refused cause) w = ⊤
+Told (Refused cause) w = IsPlain cause
 Told (Fault f) w = FaultTold f w
+
+abbrev pub ToldIn : ℕ → Stop → World → Type 0
+ToldIn tier (Refused cause) w = FitsTier tier cause
+ToldIn tier (Fault f) w = FaultTold f w
+
+-- where no address was free
+abbrev pub ToldWithout : Stop → World → Type 0
+ToldWithout (Refused why) w = (why ≡ cause.NoAddress) ⊎ IsPlain why
+ToldWithout (Fault f) w = FaultTold f w

@@ -4,9 +4,9 @@ ghost use Rattle.usb_bus.specs.World.{Spends};
 ghost use Rattle.usb_transaction.specs.Trans.{IsTarget};
 ghost use Rattle.usb_hub.specs.Port.{IsPort};
 ghost use Rattle.usb_resources.specs.Pool.{Takes};
-ghost use Rattle.usb_enum.specs.Bounds.{enumeration_bound, configured_bound};
-ghost use Rattle.usb_enum.specs.Stop.{Told, FaultTold};
-ghost use Rattle.usb_enum.specs.Found.{IsFound, IsRefusal, IsWhole, TakesFor};
+ghost use Rattle.usb_enum.specs.Bounds.{read_bound, enumeration_bound, configured_bound};
+ghost use Rattle.usb_enum.specs.Stop.{FaultTold, ToldIn, ToldWithout};
+ghost use Rattle.usb_enum.specs.Found.{GivesUp, IsFound, IsWhole, TakesFor};
 
 use crate::configurations::{choose_configuration, read_configurations};
 use crate::passes::{Addressed, passes, unaddressed};
@@ -49,10 +49,11 @@ pub fn enumerate<B: Bus>(
     ensures spends { Spends enumeration_bound (B.world bus.old) (B.world bus.new) }
     ensures told { IfErr result (λ fault. FaultTold fault (B.world bus.new)) }
     ensures pool { TakesFor result pool.old pool.new }
-    ensures whole { IfOk result (λ finding. IsFound port supply finding (B.world bus.new)) }
+    ensures found { IfOk result (λ finding. IsFound port pool.old tier supply finding (B.world bus.new)) }
 {
     let Some(address) = pool.take() else {
-        return without_address(alloc, bus, port);
+        let stop = without_address(alloc, bus, port);
+        return give_up(bus, port, stop);
     };
     match examine(alloc, bus, port, address, tier, supply) {
         Ok(device) => Ok(Finding::Device(device)),
@@ -64,35 +65,31 @@ pub fn enumerate<B: Bus>(
     }
 }
 
-/// A device that no address is free for is refused once it should be given one.
-#[tactic(auto, using(crate::proofs::Counts::spends_on, usb_hub::proofs::Ports::port_stays))]
-fn without_address<B: Bus>(alloc: Global, bus: &mut B, port: HubPort) -> Result<Finding, EnumFault>
-    requires port { IsPort (B.world bus.old) port }
-    ensures spends { Spends enumeration_bound (B.world bus.old) (B.world bus.new) }
-    ensures told { IfErr result (λ fault. FaultTold fault (B.world bus.new)) }
-    ensures refused { IfOk result (λ finding. IsRefusal port finding (B.world bus.new)) }
+/// Goes on as far as a device is given its address, where none is free.
+fn without_address<B: Bus>(alloc: Global, bus: &mut B, port: HubPort) -> Stop
+    requires { IsPort (B.world bus.old) port }
+    ensures spends { Spends (read_bound 8) (B.world bus.old) (B.world bus.new) }
+    ensures told { ToldWithout result (B.world bus.new) }
 {
     match unaddressed(alloc, bus, port) {
-        Ok(_) => give_up(bus, port, Stop::Refused(Cause::NoAddress)),
-        Err(stop) => give_up(bus, port, stop),
+        Ok(_) => Stop::Refused(Cause::NoAddress),
+        Err(stop) => stop,
     }
 }
 
 /// Disables the port of a device that is refused.
 #[tactic(auto, using(crate::proofs::Ports::disabled))]
 fn give_up<B: Bus>(bus: &mut B, port: HubPort, stop: Stop) -> Result<Finding, EnumFault>
-    requires port { IsPort (B.world bus.old) port }
-    requires told { Told stop (B.world bus.old) }
+    requires { IsPort (B.world bus.old) port }
     ensures spends { Spends 0 (B.world bus.old) (B.world bus.new) }
-    ensures told { IfErr result (λ fault. FaultTold fault (B.world bus.new)) }
-    ensures refused { IfOk result (λ finding. IsRefusal port finding (B.world bus.new)) }
+    ensures kept { IfErr result (λ _. B.world bus.new ≡ B.world bus.old) }
+    ensures left { GivesUp port stop result (B.world bus.new) }
 {
     match stop {
-        Stop::Refused(cause) => match at_port(clear_port(bus, port, PORT_ENABLE)) {
-            Ok(()) => Ok(Finding::Refused(cause)),
-            Err(Stop::Fault(fault)) => Err(fault),
-            Err(Stop::Refused(cause)) => Ok(Finding::Refused(cause)),
-        },
+        Stop::Refused(cause) => {
+            at_port(clear_port(bus, port, PORT_ENABLE))?;
+            Ok(Finding::Refused(cause))
+        }
         Stop::Fault(fault) => Err(fault),
     }
 }
@@ -109,7 +106,7 @@ fn examine<B: Bus>(
 ) -> Result<Accepted, Stop>
     requires port { IsPort (B.world bus.old) port }
     ensures spends { Spends enumeration_bound (B.world bus.old) (B.world bus.new) }
-    ensures told { IfErr result (λ stop. Told stop (B.world bus.new)) }
+    ensures told { IfErr result (λ stop. ToldIn tier stop (B.world bus.new)) }
     ensures address { IfOk result (λ device. device.address ≡ address) }
     ensures whole { IfOk result (λ device. IsWhole supply device) }
 {
@@ -128,7 +125,7 @@ fn configure<B: Bus>(
     supply: u16,
 ) -> Result<Accepted, Stop>
     ensures spends { Spends configured_bound (B.world bus.old) (B.world bus.new) }
-    ensures told { IfErr result (λ stop. Told stop (B.world bus.new)) }
+    ensures told { IfErr result (λ stop. ToldIn tier stop (B.world bus.new)) }
     ensures address { IfOk result (λ accepted. accepted.address ≡ address) }
     ensures whole { IfOk result (λ accepted. IsWhole supply accepted) }
 {

@@ -1,10 +1,11 @@
 //! The steps up to a device that has its address and has given its device descriptor.
-ghost use Rattle.std.specs.Prelude.{◌≡◌, ◌≤◌, ◌<◌, ◌*◌, IfOk, IfErr, IfSome};
+ghost use Rattle.std.specs.Prelude.{◌≡◌, ◌≤◌, ◌<◌, ◌*◌, IfOk, IfErr, IfSome, true};
 ghost use Rattle.usb_bus.specs.World.{Spends};
 ghost use Rattle.usb_hub.specs.Port.{IsPort};
 ghost use Rattle.usb_transaction.specs.Trans.{IsTarget};
 ghost use Rattle.usb_enum.specs.Bounds.{pass_bound, read_bound, none_bound};
 ghost use Rattle.usb_enum.specs.Stop.{Told};
+ghost use Rattle.usb_enum.specs.Device.{device_bytes, is_device};
 
 use crate::stop::{Stop, answered_or, at_port};
 use crate::{Cause, Request};
@@ -23,6 +24,7 @@ pub(crate) struct Addressed {
     pub bytes: [u8; 18],
     ghost target_fits: { IsTarget target },
     ghost target_max: { 8 ≤ target.max },
+    ghost device: { is_device target.low bytes ≡ true },
 }
 
 /// Resets the port (11.5.1.5), and tells whether a low-speed device is there.
@@ -74,18 +76,27 @@ fn descriptor<B: Bus>(alloc: Global, bus: &mut B, target: Target) -> Result<Opti
     requires max { 8 ≤ target.max }
     ensures spends { Spends (read_bound 18) (B.world bus.old) (B.world bus.new) }
     ensures told { IfErr result (λ stop. Told stop (B.world bus.new)) }
+    ensures device { IfOk result (λ found. IfSome found (λ bytes. is_device target.low bytes ≡ true)) }
 {
     let outcome = get_device(alloc, bus, target, 18);
     if outcome == Err(PipeFault::NoAnswer) {
         return Ok(None);
     }
     let bytes = answered_or(Cause::Stalled(Request::Device), outcome)?;
-    if read_device(bytes.as_slice(), target.low).is_err() {
-        return Err(Stop::Refused(Cause::BadDevice));
-    }
     match bytes.as_slice().first_chunk::<18>() {
-        Some(chunk) => Ok(Some(*chunk)),
+        Some(bytes) => device_bytes(bytes, target.low),
         None => Err(Stop::Refused(Cause::BadDevice)),
+    }
+}
+
+/// The bytes, where they are the descriptor of a device at this speed.
+fn device_bytes(bytes: &[u8; 18], low: bool) -> Result<Option<[u8; 18]>, Stop>
+    ensures { result ≡ device_bytes low bytes.now }
+{
+    if read_device(bytes.as_slice(), low).is_ok() {
+        Ok(Some(*bytes))
+    } else {
+        Err(Stop::Refused(Cause::BadDevice))
     }
 }
 

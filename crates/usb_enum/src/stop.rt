@@ -1,6 +1,6 @@
 //! What ends an enumeration early.
 ghost use Rattle.std.specs.Prelude.{◌≡◌};
-ghost use Rattle.usb_enum.specs.Stop.{stop_of, answered_or, stop_at_port, at_port};
+ghost use Rattle.usb_enum.specs.Stop.{stop_of, answered_or, fault_at_port, at_port};
 ghost use Rattle.usb_enum.specs.declared.stop.Stop.TheVariants.{Fault as StopFault};
 ghost use Rattle.usb_enum.specs.declared.fault.EnumFault.TheVariants.{Memory as NoMemory};
 
@@ -22,6 +22,14 @@ impl From<AllocError> for Stop {
 
     fn from(_: AllocError) -> Stop {
         Stop::Fault(EnumFault::Memory)
+    }
+}
+
+impl From<EnumFault> for Stop {
+    ghost from_gives = { λ fault stop. stop ≡ StopFault fault };
+
+    fn from(fault: EnumFault) -> Stop {
+        Stop::Fault(fault)
     }
 }
 
@@ -50,24 +58,24 @@ pub(crate) fn answered_or<X>(stalled: Cause, outcome: Result<X, PipeFault>) -> R
 }
 
 /// What a failed request to a port means.
-fn stop_at_port(fault: PipeFault) -> Stop
-    ensures { result ≡ stop_at_port fault }
+fn fault_at_port(fault: PipeFault) -> EnumFault
+    ensures { result ≡ fault_at_port fault }
 {
     match fault {
-        PipeFault::Bus(fault) => Stop::Fault(EnumFault::Bus(fault)),
-        PipeFault::Memory => Stop::Fault(EnumFault::Memory),
+        PipeFault::Bus(fault) => EnumFault::Bus(fault),
+        PipeFault::Memory => EnumFault::Memory,
         PipeFault::Stalled | PipeFault::Busy | PipeFault::NoAnswer | PipeFault::Broken => {
-            Stop::Fault(EnumFault::ParentLost)
+            EnumFault::ParentLost
         }
     }
 }
 
 /// What a request to a port gave.
-pub(crate) fn at_port<X>(outcome: Result<X, PipeFault>) -> Result<X, Stop>
+pub(crate) fn at_port<X>(outcome: Result<X, PipeFault>) -> Result<X, EnumFault>
     ensures { result ≡ at_port outcome }
 {
     match outcome {
         Ok(answer) => Ok(answer),
-        Err(fault) => Err(stop_at_port(fault)),
+        Err(fault) => Err(fault_at_port(fault)),
     }
 }

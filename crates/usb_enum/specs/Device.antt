@@ -1,0 +1,13 @@
+-- Device descriptors, as they are read of a device.
+use Rattle.std.specs.Prelude.{ℕ, List, Bool, Option, Some, Result, Ok, Err, is_ok, if◌then◌else◌}
+use Rattle.usb_descriptor.specs.Device.{device_of}
+use Rattle.usb_enum.specs.declared.cause.Cause.TheVariants.{BadDevice}
+use Rattle.usb_enum.specs.declared.stop.Stop.{Stop}
+use Rattle.usb_enum.specs.declared.stop.Stop.TheVariants.{Refused}
+
+-- the bytes begin with the descriptor of a device at this speed
+abbrev pub is_device : Bool → List ℕ → Bool
+is_device low bytes = is_ok (device_of low bytes)
+
+abbrev pub device_bytes : Bool → List ℕ → Result (Option (List ℕ)) Stop
+device_bytes low bytes = if is_device low bytes then Ok (Some bytes) else Err (Refused BadDevice)
