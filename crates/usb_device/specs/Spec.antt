@@ -1,8 +1,14 @@
 -- A device as a plan describes it.
-use Rattle.std.specs.Prelude.{◌≡◌, ◌≤◌, ℕ, List, [], ◌∷◌, length, Bool, true, false, ◌&&◌, not}
+use Rattle.std.specs.Prelude.{◌≡◌, ◌≤◌, ℕ, List, [], ◌∷◌, length, take, slice_index, nat_lt, ◌==◌, Bool, true, false, ◌&&◌, not, Option, None, Some, Ok, Err}
 use Rattle.std.specs.List.{list_any}
 use Rattle.std.specs.Str.{bytes_eq}
+use Rattle.usb_descriptor.specs.Hub.{hub_of, port_count}
 use Rattle.usb_device.specs.declared.spec.Stalls.{Stalls}
+
+-- a hub: its ports, and its hub descriptor (11.23.2.1)
+pub record Hub : Type 0 where
+  pub ports : ℕ
+  pub descriptor : List ℕ
 
 pub record Spec : Type 0 where
   pub name : List ℕ
@@ -19,6 +25,28 @@ pub record Spec : Type 0 where
   -- how many NAKs each control transfer begins with
   pub naks : ℕ
   pub stalls : Stalls
+  pub hub : Option Hub
+  -- what bulk IN gives
+  pub source : List ℕ
+  -- bulk OUT halts once, when so many packets were taken since the plug
+  pub halt_after : Option ℕ
+
+-- bDeviceClass is a hub's (11.23.1)
+abbrev pub has_hub_class : List ℕ → Bool
+has_hub_class descriptor = nat_lt 4 (length descriptor) && slice_index descriptor 4 == 9
+
+-- a hub is of full speed and has the class of hubs
+abbrev pub hub_fits : Bool → List ℕ → Option Hub → Bool
+hub_fits low descriptor None = true
+hub_fits low descriptor (Some hub) = not low && has_hub_class descriptor
+
+-- where the first 9 bytes are the descriptor of a hub, it has so many ports
+abbrev pub agrees : ℕ → List ℕ → Bool
+agrees ports bytes = elim (hub_of (take 9 bytes)) [ Ok hub ↦ port_count hub == ports | Err fault ↦ true ]
+
+-- a hub whose ports are switched one by one
+abbrev pub usual_hub : ℕ → Hub
+usual_hub ports = record { ports = ports; descriptor = 9 ∷ 0x29 ∷ ports ∷ 1 ∷ 0 ∷ 0 ∷ 0 ∷ 0 ∷ 0xff ∷ [] }
 
 abbrev pub no_stalls : Stalls
 no_stalls = record { device = false; address = false; config = false; set_config = false; status = false; hub = false; string = false }
@@ -36,6 +64,9 @@ function name descriptor configs = record {
   silent = false;
   naks = 0;
   stalls = no_stalls;
+  hub = None;
+  source = [];
+  halt_after = None;
 }
 
 -- a device has the name

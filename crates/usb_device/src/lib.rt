@@ -4,6 +4,7 @@
 mod answer;
 mod device;
 mod devices;
+mod hub_spec;
 mod laws;
 mod lists;
 mod request;
@@ -12,6 +13,7 @@ mod transfer;
 
 pub use device::Device;
 pub use devices::Devices;
+pub use hub_spec::{HubSpec, has_hub_class};
 pub use laws::{answer_laws, attempt_laws, frame_laws, stranger_laws};
 pub use lists::{Bytes, ConfigTexts, Name, StringTexts, Texts};
 pub use spec::{DeviceSpec, Stalls};

@@ -161,6 +161,13 @@ impl<const COUNT: usize, const MAX: usize> Texts<COUNT, MAX> {
         Texts::new(*other.texts.allocator())
     }
 
+    /// No bytes, by the allocator of the texts.
+    pub(crate) fn no_bytes_beside<const LONGEST: usize>(&self) -> Bytes<LONGEST>
+        ensures { result ≡ [] }
+    {
+        Bytes::new(Vec::new(*self.texts.allocator()))
+    }
+
     /// The same texts in memory of their own. An error: memory is refused.
     pub fn try_clone(&self, alloc: Global) -> Result<Self, AllocError>
         ensures { IfOk result (λ t. t ≡ self.now) }

@@ -1,7 +1,8 @@
 //! What a plan says of a device.
-ghost use Rattle.std.specs.Prelude.{◌≡◌, ◌≤◌, length, IfOk};
-ghost use Rattle.usb_device.specs.Spec.{no_stalls, function};
+ghost use Rattle.std.specs.Prelude.{◌≡◌, ◌≤◌, Some, true, length, option_copied, IfOk};
+ghost use Rattle.usb_device.specs.Spec.{no_stalls, function, hub_fits};
 
+use crate::hub_spec::HubSpec;
 use crate::lists::{Bytes, ConfigTexts, Name, StringTexts};
 use std::alloc::{AllocError, Global};
 use std::marker::Model;
@@ -55,11 +56,15 @@ pub struct DeviceSpec {
     silent: bool,
     naks: u8,
     stalls: Stalls,
+    hub: Option<HubSpec>,
+    source: Bytes<65535>,
+    halt_after: Option<u16>,
 }
 
 impl Model for DeviceSpec {
-    ghost use Rattle.std.specs.Prelude.{◌≤◌};
-    ghost use Rattle.usb_device.specs.Spec.{Spec};
+    ghost use Rattle.std.specs.Prelude.{◌≡◌, ◌≤◌, true};
+    ghost use Rattle.std.specs.Option.{IfSome};
+    ghost use Rattle.usb_device.specs.Spec.{Spec, hub_fits};
 
     ghost Value = { Spec };
 
@@ -74,19 +79,23 @@ impl Model for DeviceSpec {
       silent = s.silent;
       naks = s.naks;
       stalls = s.stalls;
+      hub = s.hub;
+      source = s.source;
+      halt_after = s.halt_after;
     } };
 
-    ghost invariant = { λ s. s.naks ≤ 200 };
+    ghost invariant = { λ s. (s.naks ≤ 200) × (hub_fits s.low s.descriptor s.hub ≡ true) × IfSome s.halt_after (λ k. 1 ≤ k) };
 }
 
 impl DeviceSpec {
     /// A full-speed function without strings that does nothing special: no request is refused, no NAK is given,
-    /// and it has its power from the bus. Its device descriptor (9.6.1) and the texts of its configurations
+    /// its bulk IN has nothing to give, its bulk OUT never halts, and it has its power from the bus. Its device descriptor (9.6.1) and the texts of its configurations
     /// (9.6.3) are any bytes.
     pub fn function(name: Name, descriptor: Bytes<255>, configs: ConfigTexts) -> Self
         ensures { result ≡ function name descriptor configs }
     {
         let strings = StringTexts::none_beside(&configs);
+        let source = configs.no_bytes_beside();
         DeviceSpec {
             name,
             low: false,
@@ -98,11 +107,15 @@ impl DeviceSpec {
             silent: false,
             naks: 0,
             stalls: Stalls::none(),
+            hub: None,
+            source,
+            halt_after: None,
         }
     }
 
-    /// The same device at low speed, or at full speed.
+    /// The same device at low speed, or at full speed, as a hub is.
     pub fn with_low_speed(mut self, low: bool) -> Self
+        requires { hub_fits low self.descriptor self.hub ≡ true }
         ensures { result ≡ record self { low = low } }
     {
         self.low = low;
@@ -158,6 +171,32 @@ impl DeviceSpec {
         self
     }
 
+    /// The same device as a hub with ports, whose speed is full and whose class is that of hubs.
+    pub fn with_hub(mut self, hub: HubSpec) -> Self
+        requires { hub_fits self.low self.descriptor (Some hub) ≡ true }
+        ensures { result ≡ record self { hub = Some hub } }
+    {
+        self.hub = Some(hub);
+        self
+    }
+
+    /// The same device, whose bulk IN endpoint gives these bytes.
+    pub fn with_source(mut self, source: Bytes<65535>) -> Self
+        ensures { result ≡ record self { source = source } }
+    {
+        self.source = source;
+        self
+    }
+
+    /// The same device, whose bulk OUT endpoint halts once, when it has taken so many packets since the plug.
+    pub fn with_halt_after(mut self, packets: u16) -> Self
+        requires { 1 ≤ packets }
+        ensures { result ≡ record self { halt_after = Some packets } }
+    {
+        self.halt_after = Some(packets);
+        self
+    }
+
     /// The same description in memory of its own. An error: memory is refused.
     pub fn try_clone(&self, alloc: Global) -> Result<Self, AllocError>
         ensures { IfOk result (λ s. s ≡ self.now) }
@@ -173,6 +212,12 @@ impl DeviceSpec {
             silent: self.silent,
             naks: self.naks,
             stalls: self.stalls,
+            hub: match &self.hub {
+                Some(hub) => Some(hub.try_clone(alloc)?),
+                None => None,
+            },
+            source: self.source.try_clone(alloc)?,
+            halt_after: self.halt_after,
         })
     }
 
@@ -250,6 +295,31 @@ impl DeviceSpec {
         self.stalls
     }
 
+    /// Its ports and its hub descriptor, if it is a hub.
+    pub fn hub(&self) -> Option<&HubSpec>
+        ensures value { option_copied result ≡ self.now.hub }
+        ensures fits { hub_fits self.now.low self.now.descriptor self.now.hub ≡ true }
+    {
+        self.hub.as_ref()
+    }
+
+    /// The bytes that its bulk IN endpoint gives.
+    pub fn source(&self) -> &[u8]
+        ensures value { result.now ≡ self.now.source }
+        ensures bound { length self.now.source ≤ 65535 }
+    {
+        self.source.as_slice()
+    }
+
+    /// After how many packets since the plug its bulk OUT endpoint halts once, if it ever does.
+    pub fn halt_after(&self) -> Option<u16>
+        ensures value { result ≡ self.now.halt_after }
+        ensures least { IfSome result (λ k. 1 ≤ k) }
+    {
+        self.halt_after
+    }
+
+    ghost use Rattle.std.specs.Option.{IfSome};
     ghost use Rattle.usb_device.specs.Transfer.{max_packet};
 
     /// The most data bytes of a packet on endpoint 0 (5.5.3).

@@ -1,0 +1,97 @@
+//! What a plan says of a hub beside what it says of every device.
+ghost use Rattle.std.specs.Prelude.{◌≡◌, ◌≤◌, true, IfOk, length};
+ghost use Rattle.usb_device.specs.Spec.{Hub, has_hub_class, agrees, usual_hub};
+
+use crate::lists::Bytes;
+use std::alloc::{AllocError, Global};
+use std::marker::Model;
+use usb_descriptor::read_hub;
+
+/// Whether a device descriptor has the class of hubs: its byte 4, bDeviceClass, is 9 (11.23.1).
+pub fn has_hub_class(descriptor: &[u8]) -> bool
+    ensures { result ≡ has_hub_class descriptor.now }
+{
+    descriptor.get(4) == Some(&9)
+}
+
+/// The ports of a hub, 1 to 7, and its hub descriptor (11.23.2.1), which can be any bytes; but where its first 9 bytes
+/// are the descriptor of a hub, that hub has so many ports.
+#[derive(Debug, Drop)]
+pub struct HubSpec {
+    ports: u8,
+    descriptor: Bytes<255>,
+}
+
+impl Model for HubSpec {
+    ghost use Rattle.std.specs.Prelude.{◌≡◌, ◌≤◌, true};
+    ghost use Rattle.usb_device.specs.Spec.{Hub, agrees};
+
+    ghost Value = { Hub };
+
+    ghost view = { λ h. record { ports = h.ports; descriptor = h.descriptor } };
+
+    ghost invariant = { λ h. (1 ≤ h.ports) × (h.ports ≤ 7) × (agrees h.ports h.descriptor ≡ true) };
+}
+
+impl HubSpec {
+    /// Whether a hub with so many ports can have this hub descriptor: its first 9 bytes are no descriptor of a hub, or of
+    /// one with so many ports.
+    pub fn agrees(ports: u8, descriptor: &[u8]) -> bool
+        ensures { result ≡ agrees ports descriptor.now }
+    {
+        let front = &descriptor[..descriptor.len().min(9)];
+        match read_hub(front) {
+            Ok(hub) => hub.ports() == ports,
+            Err(_) => true,
+        }
+    }
+
+    /// A hub with 1 to 7 ports and this hub descriptor.
+    pub fn new(ports: u8, descriptor: Bytes<255>) -> Self
+        requires least { 1 ≤ ports }
+        requires most { ports ≤ 7 }
+        requires agree { agrees ports descriptor ≡ true }
+        ensures { result ≡ record { ports = ports; descriptor = descriptor } }
+    {
+        HubSpec { ports, descriptor }
+    }
+
+    /// A hub with 1 to 7 ports that are switched one by one, and the hub descriptor that says so. An error: memory is
+    /// refused.
+    #[tactic(auto, using(crate::proofs::Hubs::usual))]
+    pub fn usual(alloc: Global, ports: u8) -> Result<Self, AllocError>
+        requires least { 1 ≤ ports }
+        requires most { ports ≤ 7 }
+        ensures { IfOk result (λ h. h ≡ usual_hub ports) }
+    {
+        let descriptor = [9, 0x29, ports, 1, 0, 0, 0, 0, 0xff].to_vec(alloc)?;
+        Ok(HubSpec::new(ports, Bytes::new(descriptor)))
+    }
+
+    /// How many ports it has, 1 to 7.
+    pub fn ports(&self) -> u8
+        ensures value { result ≡ self.now.ports }
+        ensures least { 1 ≤ result }
+        ensures most { result ≤ 7 }
+    {
+        self.ports
+    }
+
+    /// Its hub descriptor (11.23.2.1).
+    pub fn descriptor(&self) -> &[u8]
+        ensures value { result.now ≡ self.now.descriptor }
+        ensures bound { length self.now.descriptor ≤ 255 }
+    {
+        self.descriptor.as_slice()
+    }
+
+    /// The same description in memory of its own. An error: memory is refused.
+    pub fn try_clone(&self, alloc: Global) -> Result<Self, AllocError>
+        ensures { IfOk result (λ h. h ≡ self.now) }
+    {
+        Ok(HubSpec {
+            ports: self.ports,
+            descriptor: self.descriptor.try_clone(alloc)?,
+        })
+    }
+}
