@@ -1,9 +1,7 @@
 //! The whole enumeration.
-ghost use Rattle.std.specs.Prelude.{◌≡◌, ◌≢◌, ◌≤◌, ◌<◌, IfOk, IfErr, Err, Some};
+ghost use Rattle.std.specs.Prelude.{◌≡◌, IfOk, IfErr};
 ghost use Rattle.usb_bus.specs.World.{Spends};
-ghost use Rattle.usb_transaction.specs.Trans.{IsTarget};
 ghost use Rattle.usb_hub.specs.Port.{IsPort};
-ghost use Rattle.usb_resources.specs.Pool.{Takes};
 ghost use Rattle.usb_enum.specs.Bounds.{read_bound, enumeration_bound, configured_bound};
 ghost use Rattle.usb_enum.specs.Stop.{FaultTold, ToldIn, ToldWithout};
 ghost use Rattle.usb_enum.specs.Found.{GivesUp, IsFound, IsWhole, TakesFor};
@@ -13,13 +11,12 @@ use crate::configurations::{choose_configuration, read_configurations};
 use crate::passes::{passes, unaddressed};
 use crate::stop::{Stop, answered_or, at_port};
 use crate::strings::read_strings;
-use crate::{Accepted, Cause, ConfigTexts, EnumFault, Finding, Request};
+use crate::{Accepted, Cause, EnumFault, Finding, Request};
 use std::alloc::Global;
 use usb_bus::Bus;
 use usb_hub::{HubPort, clear_port, set_configuration};
 use usb_request::feature::PORT_ENABLE;
 use usb_resources::{Address, AddressPool};
-use usb_transaction::Target;
 
 /// The last tier in which a device may stand (4.1.1).
 const LAST_TIER: u8 = 7;

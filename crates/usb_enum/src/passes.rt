@@ -3,7 +3,7 @@ ghost use Rattle.std.specs.Prelude.{◌≡◌, ◌≤◌, ◌<◌, ◌*◌, IfOk
 ghost use Rattle.usb_bus.specs.World.{Spends};
 ghost use Rattle.usb_hub.specs.Port.{IsPort};
 ghost use Rattle.usb_transaction.specs.Trans.{IsTarget};
-ghost use Rattle.usb_enum.specs.Bounds.{pass_bound, read_bound, none_bound};
+ghost use Rattle.usb_enum.specs.Bounds.{pass_bound, read_bound};
 ghost use Rattle.usb_enum.specs.Stop.{Told};
 ghost use Rattle.usb_enum.specs.Device.{device_bytes, is_device, needs_pre};
 
