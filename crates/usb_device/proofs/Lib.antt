@@ -1,5 +1,4 @@
 pub mod Names
 pub mod Hubs
-pub mod Attempts
-pub mod Kept
+pub mod Endpoints
 pub mod Packets

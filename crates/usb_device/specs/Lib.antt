@@ -1,8 +1,7 @@
 pub mod Spec
+pub mod Bulk
 pub mod Request
 pub mod Transfer
 pub mod Rows
 pub mod Code
 pub mod Received
-pub mod Attempt
-pub mod Kept
