@@ -5,3 +5,5 @@ pub mod Transfer
 pub mod Rows
 pub mod Code
 pub mod Received
+pub mod Attempt
+pub mod Kept

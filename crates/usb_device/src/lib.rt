@@ -15,7 +15,7 @@ mod transfer;
 pub use device::Device;
 pub use devices::Devices;
 pub use hub_spec::{HubSpec, has_hub_class};
-pub use laws::answer_laws;
+pub use laws::{answer_laws, attempt_laws, frame_laws, stranger_laws};
 pub use lists::{Bytes, ConfigTexts, Name, StringTexts, Texts};
 pub use spec::{DeviceSpec, Stalls};
 
