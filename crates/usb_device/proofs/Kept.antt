@@ -89,7 +89,7 @@ keeps-source : (p : Packet) (d : State) (max : ℕ) → Keeps p d (source_row d 
 keeps-source p d max =
     let given = gives d by.Bulk d.bulk_in.toggle (take max (rest_of d)) in
     keeps-if p d d.bulk_in.halted (Some Stall, d) (if length (rest_of d) == 0 then (Some Nak, d) else given) (same p d)
-      (keeps-if p d (length (rest_of d) == 0) (Some Nak, d) given (same p d) (record { spec = refl; address = λ h. refl; configuration = λ h. refl; sink = λ h. (refl, refl); place = λ h. refl }))
+    (keeps-if p d (length (rest_of d) == 0) (Some Nak, d) given (same p d) (record { spec = refl; address = λ h. refl; configuration = λ h. refl; sink = λ h. (refl, refl); place = λ h. refl }))
 
 keeps-in-bulk : (p : Packet) (d : State) (e : ℕ) (end : Option (ℕ × ℕ)) → Keeps p d (in_bulk_row d e end).1
 keeps-in-bulk p d e None = same p d
@@ -105,7 +105,7 @@ keeps-payload Zero b d SetupSeen =
 keeps-payload t b d (OutSeen e) =
     let p = Payload t b in
     keeps-if p d (e == 0) (unless_busy d (out_row d d.stage t b.items)) (out_bulk_row d e (bulk_of d false) t b.items)
-      (keeps-busy p d (out_row d d.stage t b.items) (keeps-out p d d.stage t b.items)) (keeps-out-bulk t b d e (bulk_of d false) b.items)
+    (keeps-busy p d (out_row d d.stage t b.items) (keeps-out p d d.stage t b.items)) (keeps-out-bulk t b d e (bulk_of d false) b.items)
 
 keeps-token : (p : Packet) (d : State) (kind : TokenKind) (e : ℕ) → Keeps p d (token_row d kind e).1
 keeps-token p d SetupTok e = keeps-either p d (e == 0) (record d { memory = SetupSeen }) d (record { spec = refl; address = λ h. refl; configuration = λ h. refl; sink = λ h. (refl, refl); place = λ h. refl }) (same p d)

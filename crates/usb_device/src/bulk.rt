@@ -75,13 +75,7 @@ pub fn counted_down(until_halt: Option<u16>) -> Option<u16>
 {
     match until_halt {
         None => None,
-        Some(n) => {
-            if n <= 1 {
-                None
-            } else {
-                Some(n - 1)
-            }
-        }
+        Some(n) => { if n <= 1 { None } else { Some(n - 1) } }
     }
 }
 

@@ -353,12 +353,7 @@ impl Device {
     }
 
     /// Data from the device, of which an ACK is awaited.
-    fn give_data(
-        &mut self,
-        giver: Giver,
-        toggle: Toggle,
-        bytes: ArrayVec<u8, 64>,
-    ) -> Option<Answer>
+    fn give_data(&mut self, giver: Giver, toggle: Toggle, bytes: ArrayVec<u8, 64>) -> Option<Answer>
         ensures { (result, self.new) ≡ gives self.old giver toggle bytes.items }
     {
         self.memory = Memory::AckAwaited(giver);

@@ -197,14 +197,10 @@ pub fn react(spec: &DeviceSpec, registers: Registers, setup: &Setup) -> Reaction
             set_configuration(spec, registers, setup),
         ),
         (request_type::ENDPOINT_OUT, request_code::CLEAR_FEATURE) => unhalt(endpoint_of(
-            spec,
-            registers,
-            setup,
+            spec, registers, setup,
         )),
         (request_type::ENDPOINT_OUT, request_code::SET_FEATURE) => halt(endpoint_of(
-            spec,
-            registers,
-            setup,
+            spec, registers, setup,
         )),
         (request_type::HUB_IN, request_code::GET_DESCRIPTOR) => {
             unless(stalls.hub, get_hub_descriptor(spec, setup))
