@@ -3,7 +3,7 @@ use Rattle.std.specs.Prelude.{ℕ, ◌+◌, ◌-◌, nat_le, Bool, false, if◌t
 use Rattle.usb_device.specs.Spec.{Spec}
 use Rattle.usb_bus.specs.declared.event.Event.{Event}
 use Rattle.usb_bus.specs.declared.event.Action.{Action}
-use Rattle.usb_bus.specs.declared.event.Action.TheVariants.{Plug}
+use Rattle.usb_bus.specs.declared.event.Action.TheVariants.{Plug, Unplug, Show, Send, Receive, Clear}
 use Rattle.usb_bus.specs.declared.root.RootPort.{RootPort}
 use Rattle.usb_bus.specs.declared.types.Attempt.{Attempt}
 use Rattle.usb_bus.specs.declared.types.Outcome.{Outcome}
@@ -23,13 +23,23 @@ pub record Simulation : Type 0 where
 abbrev pub beginning : PlanData → Simulation
 beginning p = record { roots = replicate p.roots vacant; devices = p.devices; left = p.events; attempts = 0; attempts_then = 0 }
 
--- what an action does to the root ports
+-- what an action does to the root ports; plugs alone are served
 unfoldable pub done : Action → List Spec → List RootPort → List RootPort
 done (Plug path device) devices roots = elim (slice_get devices device) [ None ↦ roots | Some spec ↦ plugged_at path spec roots ]
+done (Unplug path) devices roots = roots
+done Show devices roots = roots
+done (Send path bytes) devices roots = roots
+done (Receive path packets) devices roots = roots
+done (Clear path) devices roots = roots
 
 -- its line
 unfoldable pub action_line : Action → List Spec → List ℕ
 action_line (Plug path device) devices = elim (slice_get devices device) [ None ↦ [] | Some spec ↦ plug_line path spec.name ++ 10 ∷ [] ]
+action_line (Unplug path) devices = []
+action_line Show devices = []
+action_line (Send path bytes) devices = []
+action_line (Receive path packets) devices = []
+action_line (Clear path) devices = []
 
 -- the event comes, and these are the events after it
 unfoldable pub took : Event → List Event → Simulation → Simulation

@@ -5,11 +5,60 @@ use std::alloc::{AllocError, Global};
 use std::marker::Model;
 use usb_port::PortPath;
 
+/// Bytes that an event sends.
+#[derive(Debug, Drop)]
+pub struct SentBytes {
+    bytes: Vec<u8>,
+}
+
+impl Model for SentBytes {
+    ghost use Rattle.std.specs.Prelude.{List, ℕ};
+
+    ghost Value = { List ℕ };
+
+    ghost view = { λ b. b.bytes.items };
+}
+
+impl SentBytes {
+    /// The bytes themselves.
+    pub fn new(bytes: Vec<u8>) -> Self
+        ensures { result ≡ bytes.items }
+    {
+        SentBytes { bytes }
+    }
+
+    /// The bytes in their order.
+    pub fn as_slice(&self) -> &[u8]
+        ensures { result.now ≡ self.now }
+    {
+        self.bytes.as_slice()
+    }
+
+    /// The same bytes in memory of their own. An error: memory is refused.
+    pub fn try_clone(&self, alloc: Global) -> Result<Self, AllocError>
+        ensures { IfOk result (λ b. b ≡ self.now) }
+    {
+        Ok(SentBytes {
+            bytes: self.bytes.as_slice().to_vec(alloc)?,
+        })
+    }
+}
+
 /// What an event does.
 #[derive(Debug, Drop)]
 pub enum Action {
     /// Plugs a device, by its index among the plan's devices, at a port.
     Plug(PortPath, usize),
+    /// Unplugs the device at a port, and with it all that is plugged below it.
+    Unplug(PortPath),
+    /// Has the host list what it found.
+    Show,
+    /// Sends bytes to the bulk endpoint of the device at a port (5.8).
+    Send(PortPath, SentBytes),
+    /// Receives at most so many packets, 0 to 1,000, from the bulk endpoint of the device at a port (5.8).
+    Receive(PortPath, u16),
+    /// Clears the halts of the bulk endpoints of the device at a port (9.4.1).
+    Clear(PortPath),
 }
 
 /// What happens, and how many attempts after the former event, or after the start.
@@ -81,17 +130,29 @@ fn copies(alloc: Global, events: &[Event]) -> Result<Vec<Event>, AllocError>
 {
     let mut all = Vec::new(alloc);
     'events: for event in events {
-        all.push(copy_of(event))?;
+        all.push(copy_of(alloc, event)?)?;
     }
     Ok(all)
 }
 
-fn copy_of(event: &Event) -> Event
-    ensures { result ≡ event.now }
+fn copy_of(alloc: Global, event: &Event) -> Result<Event, AllocError>
+    ensures { IfOk result (λ e. e ≡ event.now) }
 {
-    let Action::Plug(path, device) = &event.action;
-    Event {
+    Ok(Event {
         after: event.after,
-        action: Action::Plug(path.duplicate(), *device),
-    }
+        action: action_copy(alloc, &event.action)?,
+    })
+}
+
+fn action_copy(alloc: Global, action: &Action) -> Result<Action, AllocError>
+    ensures { IfOk result (λ a. a ≡ action.now) }
+{
+    Ok(match action {
+        Action::Plug(path, device) => Action::Plug(path.duplicate(), *device),
+        Action::Unplug(path) => Action::Unplug(path.duplicate()),
+        Action::Show => Action::Show,
+        Action::Send(path, bytes) => Action::Send(path.duplicate(), bytes.try_clone(alloc)?),
+        Action::Receive(path, packets) => Action::Receive(path.duplicate(), *packets),
+        Action::Clear(path) => Action::Clear(path.duplicate()),
+    })
 }

@@ -2,8 +2,10 @@
 #![tactic(auto)]
 
 mod bus;
+mod damage;
 mod event;
 mod exchange;
+mod not_served;
 mod plan;
 mod root;
 mod sim;
@@ -12,7 +14,9 @@ mod types;
 mod watched;
 
 pub use bus::Bus;
-pub use event::{Action, Event, Events};
+pub use damage::{Damage, Damages, Harm};
+pub use event::{Action, Event, Events, SentBytes};
+pub use not_served::{NotServed, served};
 pub use plan::Plan;
 pub use sim::{Due, SimBus};
 pub use types::{Attempt, BusFault, Outcome};

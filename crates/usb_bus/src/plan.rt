@@ -1,5 +1,6 @@
-//! A plan: which devices there are, and when each is plugged.
+//! A plan: which devices there are, what happens to them, and which packets are damaged.
 
+use crate::damage::{Damage, Damages};
 use crate::event::{Event, Events};
 use std::marker::Model;
 use usb_device::{DeviceSpec, Devices};
@@ -7,14 +8,16 @@ use usb_device::{DeviceSpec, Devices};
 /// A plan for a bus.
 ///
 /// At most 100,000,000,000,000 attempts are made; there are 1 to 7 root ports. Each event comes at most
-/// 1,000,000,000 attempts after the former one, and plugs one of the plan's devices at a root port that no
-/// earlier event took.
+/// 1,000,000,000 attempts after the former one. A plug names one of the plan's devices and a free port: a root
+/// port, or a port of a device that is plugged then. Something is plugged where an event unplugs. Each damage
+/// is to a later attempt than the former one.
 #[derive(Debug, Drop)]
 pub struct Plan {
     limit: u64,
     roots: u8,
     devices: Devices,
     events: Events,
+    damages: Damages,
 }
 
 impl Model for Plan {
@@ -22,9 +25,9 @@ impl Model for Plan {
 
     ghost Value = { PlanData };
 
-    ghost view = { λ p. record { limit = p.limit; roots = p.roots; devices = p.devices; events = p.events } };
+    ghost view = { λ p. record { limit = p.limit; roots = p.roots; devices = p.devices; events = p.events; damages = p.damages } };
 
-    ghost invariant = { λ p. IsPlan (record { limit = p.limit; roots = p.roots; devices = p.devices; events = p.events }) };
+    ghost invariant = { λ p. IsPlan (record { limit = p.limit; roots = p.roots; devices = p.devices; events = p.events; damages = p.damages }) };
 }
 
 impl Plan {
@@ -32,15 +35,16 @@ impl Plan {
     ghost use Rattle.usb_bus.specs.PlanData.{PlanData, IsPlan};
 
     /// The plan of these parts.
-    pub fn new(limit: u64, roots: u8, devices: Devices, events: Events) -> Self
-        requires { IsPlan (record { limit = limit; roots = roots; devices = devices; events = events }) }
-        ensures { result ≡ record { limit = limit; roots = roots; devices = devices; events = events } }
+    pub fn new(limit: u64, roots: u8, devices: Devices, events: Events, damages: Damages) -> Self
+        requires { IsPlan (record { limit = limit; roots = roots; devices = devices; events = events; damages = damages }) }
+        ensures { result ≡ record { limit = limit; roots = roots; devices = devices; events = events; damages = damages } }
     {
         Plan {
             limit,
             roots,
             devices,
             events,
+            damages,
         }
     }
 
@@ -75,5 +79,14 @@ impl Plan {
         ensures plan { IsPlan self.now }
     {
         self.events.as_slice()
+    }
+
+    /// The damages in their order, at most 10,000.
+    pub fn damages(&self) -> &[Damage]
+        ensures value { result.now ≡ self.now.damages }
+        ensures bound { length self.now.damages ≤ 10000 }
+        ensures plan { IsPlan self.now }
+    {
+        self.damages.as_slice()
     }
 }

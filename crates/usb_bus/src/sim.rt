@@ -1,8 +1,9 @@
 //! A simulated bus: the devices that a plan's events plug at its root ports, and the trace of its attempts.
-ghost use Rattle.std.specs.Prelude.{◌≡◌, ◌≤◌, length, vec_len, replicate, map, IfOk, IfErr, Some, option_map, true};
+ghost use Rattle.std.specs.Prelude.{◌≡◌, ◌≤◌, length, vec_len, replicate, map, IfOk, IfErr, Ok, Some, option_map, true};
 ghost use Rattle.std.specs.List.{list_all};
 ghost use Rattle.usb_bus.specs.PlanData.{can_come};
 ghost use Rattle.usb_bus.specs.Roots.{ports_of, vacant, place_at, registers_of};
+ghost use Rattle.usb_bus.specs.Served.{served_of};
 ghost use Rattle.usb_bus.specs.Simulation.{beginning};
 ghost use Rattle.usb_bus.specs.Steps.{opening, fault_of};
 ghost use Rattle.usb_bus.specs.declared.types.BusFault.TheVariants.{LimitReached};
@@ -59,12 +60,13 @@ impl<W: Write> SimBus<W> {
 
     /// The bus of a plan, before anything came: all ports are off.
     ///
-    /// An error: memory is refused; the writer is handed back.
+    /// The plan is one that `served` accepts. An error: memory is refused; the writer is handed back.
     pub fn new(
         alloc: Global,
         plan: &Plan,
         writer: Watched<W>,
     ) -> Result<SimBus<W>, (AllocError, Watched<W>)>
+        requires { served_of plan.now ≡ Ok tt }
         ensures world { IfOk result (λ bus. world_of bus ≡ opening plan.now) }
         ensures simulation { IfOk result (λ bus. simulation_of bus ≡ beginning plan.now) }
         ensures writer { IfOk result (λ bus. writer_of bus ≡ writer) }

@@ -2,7 +2,7 @@ use super::*;
 use std::alloc::Global;
 use std::process::Abort;
 use std::test::Fail;
-use usb_bus::{Action, Bus, Event, Events, Plan, SimBus, Watched};
+use usb_bus::{Action, Bus, Damages, Event, Events, Plan, SimBus, Watched, served};
 use usb_device::{Bytes, ConfigTexts as SpecTexts, DeviceSpec, Devices, Name};
 use usb_hub::{HubPort, port_status, set_port};
 use usb_port::PortPath;
@@ -48,7 +48,8 @@ fn bus_with<const N: usize>(
         after: 0,
         action: Action::Plug(PortPath::root(1).ok_or("no root port")?, 0),
     })?;
-    let plan = Plan::new(100, 1, devices, events);
+    let plan = Plan::new(100, 1, devices, events, Damages::new(alloc));
+    served(&plan)?;
     match SimBus::new(alloc, &plan, Watched::new(Vec::new(alloc))) {
         Ok(bus) => Ok(bus),
         Err((fault, _)) => Err(fault)?,

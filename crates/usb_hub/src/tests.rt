@@ -4,7 +4,7 @@ ghost use Rattle.usb_transaction.specs.Trans.{IsTarget};
 use super::*;
 use std::alloc::Global;
 use std::test::Fail;
-use usb_bus::{Action, Event, Events, Plan, SimBus, Watched};
+use usb_bus::{Action, Damages, Event, Events, Plan, SimBus, Watched, served};
 use usb_device::{Bytes, ConfigTexts, DeviceSpec, Devices, Name};
 use usb_port::PortPath;
 use usb_request::feature::{C_PORT_CONNECTION, C_PORT_RESET, PORT_POWER, PORT_RESET};
@@ -31,7 +31,8 @@ fn bus_with_function(alloc: Global) -> Result<SimBus<Vec<u8>>, Fail> {
         after: 0,
         action: Action::Plug(PortPath::root(1).ok_or("no root port")?, 0),
     })?;
-    let plan = Plan::new(100, 1, devices, events);
+    let plan = Plan::new(100, 1, devices, events, Damages::new(alloc));
+    served(&plan)?;
     match SimBus::new(alloc, &plan, Watched::new(Vec::new(alloc))) {
         Ok(bus) => Ok(bus),
         Err((fault, _)) => Err(fault)?,

@@ -1,25 +1,39 @@
 -- What follows where the parts of an entry are good.
-use Rattle.std.proofs.Common.{◌≡◌, ℕ, ℤ, pos, negsuc, ◌<◌, ◌≤◌, List, [], length, Bool, true, false, ◌&&◌, ◌||◌, cond, Option, Some, None, Result, Ok, Err, refl, ap, arith, codes, nat_le, nat_lt, ◌==◌, position, inl, inr, ◌⊎◌}
+use Rattle.std.proofs.Common.{◌≡◌, ◌+◌, ℕ, ℤ, pos, negsuc, ◌<◌, ◌≤◌, List, [], length, Bool, true, false, ◌&&◌, ◌||◌, cond, Option, Some, None, Result, Ok, Err, refl, ap, arith, codes, nat_le, nat_lt, ◌==◌, position, inl, inr, ◌⊎◌}
 use Rattle.std.proofs.lemmas.Bool.{and_parts, or_parts, leb-true, ltb-true, lt-ltb, le-leb}
 use Rattle.std.proofs.lemmas.List.Quantifiers.{position-Some}
 use Rattle.std.specs.Str.{bytes_eq}
 use Rattle.toml.specs.Data.{Data, Members, get_member, as_str, as_integer}
 use Rattle.usb_port.specs.Path.{path_of}
 use Rattle.usb_plan.specs.declared.kind.Kind.{Kind}
-use Rattle.usb_plan.specs.declared.kind.Kind.TheVariants.{BadValue, BadPath, PortTaken}
+use Rattle.usb_plan.specs.declared.kind.Kind.TheVariants.{BadValue, BadPath, PortTaken, PortEmpty}
 use Rattle.usb_plan.specs.declared.fault.Place.{Place}
 use Rattle.usb_bus.specs.declared.event.Event.{Event}
-use Rattle.usb_bus.specs.declared.event.Action.TheVariants.{Plug}
+use Rattle.usb_bus.specs.declared.event.Action.{Action}
+use Rattle.usb_bus.specs.declared.event.Action.TheVariants.{Plug, Unplug, Show, Send, Receive, Clear}
+use Rattle.usb_bus.specs.declared.damage.Damage.{Damage}
+use Rattle.usb_bus.specs.declared.damage.Harm.{Harm}
+use Rattle.usb_bus.specs.declared.damage.Harm.TheVariants.{Lose, LosePre, Flip}
+use Rattle.usb_bus.specs.Plugged.{Plugged, plugged, is_rooted, has_port}
+use Rattle.usb_plan.specs.declared.verb.Verb.{Verb}
+use Rattle.usb_plan.specs.declared.verb.Verb.TheVariants as verb
+use Rattle.usb_plan.specs.declared.damage.Way.{Way}
+use Rattle.usb_plan.specs.declared.damage.Way.TheVariants as way
 use Rattle.usb_plan.specs.Kind.{both, placed}
 use Rattle.usb_plan.specs.Keys.{keys_at}
 use Rattle.usb_plan.specs.Value.{number_in, number_at, number_or}
 use Rattle.usb_device.specs.Spec.{Spec, function, is_named}
-use Rattle.usb_bus.specs.PlanData.{is_taken, is_root_path, event_fits}
+use Rattle.usb_bus.specs.PlanData.{is_taken, action_fits, event_fits, harm_fits, damage_fits}
 use Rattle.usb_plan.specs.Device as device
 use Rattle.usb_plan.specs.Device.{name_in, name_at, speed_at, descriptor_at, configs_at, device_keys, made, device_of, device_in}
-use Rattle.usb_plan.specs.Path.{free_path, path_in, path_at}
+use Rattle.usb_plan.specs.Path.{rooted, path_in, path_at, free, taken}
+use Rattle.usb_plan.specs.Verb.{verb_at}
+use Rattle.usb_plan.specs.Action as action
+use Rattle.usb_plan.specs.Action.{known, device_named, device_at, bytes_at, packets_at, plug_of, unplug_of, send_of, receive_of, clear_of, action_of, keys_of}
 use Rattle.usb_plan.specs.Event as event
-use Rattle.usb_plan.specs.Event.{known, device_named, device_at, after_at, room, plugged, plug_of, plug_keys, is_plug, event_by, event_in}
+use Rattle.usb_plan.specs.Event.{after_at, room, whole, event_of, event_by, event_in}
+use Rattle.usb_plan.specs.Damage as damage
+use Rattle.usb_plan.specs.Damage.{attempt_at, packet_at, way_at, no_bit, flip, flipped, harm_of, harm_by, damage_keys, damage_of, damage_in, last_from}
 use Rattle.usb_plan.specs.Plan.{limit_at, roots_at, top_of, TopFits, TopParts}
 
 pub both_ok : {A B : Type 0} (a : Result A Kind) (b : Result B Kind) (x : A × B) → both a b ≡ Ok x → (a ≡ Ok x.0) × (b ≡ Ok x.1)
@@ -94,28 +108,44 @@ unfolding device_in
 device_in_ok earlier None s h = cc
 device_in_ok earlier (Some ms) s h = device_of_ok earlier ms s h
 
-record FreePath (roots : ℕ) (earlier : List Event) (p : List ℕ) : Type 0 where
-  root : is_root_path roots p ≡ true
-  free : is_taken earlier p ≡ false
+rooted_ok : (roots : ℕ) (o : Option (List ℕ)) (p : List ℕ) → rooted roots o ≡ Ok p → is_rooted roots p ≡ true
+unfolding rooted
+rooted_ok roots None p h = cc
+rooted_ok roots (Some path) p h =
+    let test = ok_if (is_rooted roots path) (Ok path) BadPath p h in
+    let same : path ≡ p = cc test.1 in
+    rw (← same) test.0
 
-free_path_ok : (roots : ℕ) (earlier : List Event) (o : Option (List ℕ)) (p : List ℕ) → free_path roots earlier o ≡ Ok p → FreePath roots earlier p
-unfolding free_path
-free_path_ok roots earlier None p h = cc
-free_path_ok roots earlier (Some path) p h =
-    let test = ok_if (is_root_path roots path) _ BadPath p h in
-    let free = ok_unless (is_taken earlier path) (Ok path) PortTaken p test.1 in
-    let same : path ≡ p = cc free.1 in
-    rw (← same) (record { root = test.0; free = free.0 })
-
-path_in_ok : (roots : ℕ) (earlier : List Event) (o : Option (List ℕ)) (p : List ℕ) → path_in roots earlier o ≡ Ok p → FreePath roots earlier p
+path_in_ok : (roots : ℕ) (o : Option (List ℕ)) (p : List ℕ) → path_in roots o ≡ Ok p → is_rooted roots p ≡ true
 unfolding path_in
-path_in_ok roots earlier None p h = cc
-path_in_ok roots earlier (Some text) p h = free_path_ok roots earlier (path_of text) p h
+path_in_ok roots None p h = cc
+path_in_ok roots (Some text) p h = rooted_ok roots (path_of text) p h
 
-path_at_ok : (roots : ℕ) (earlier : List Event) (o : Option Data) (p : List ℕ) → path_at roots earlier o ≡ Ok p → FreePath roots earlier p
+path_at_ok : (roots : ℕ) (o : Option Data) (p : List ℕ) → path_at roots o ≡ Ok p → is_rooted roots p ≡ true
 unfolding path_at
-path_at_ok roots earlier None p h = cc
-path_at_ok roots earlier (Some d) p h = path_in_ok roots earlier (as_str d) p h
+path_at_ok roots None p h = cc
+path_at_ok roots (Some d) p h = path_in_ok roots (as_str d) p h
+
+record FreePath (roots : ℕ) (devices : List Spec) (tree : Plugged) (p : List ℕ) : Type 0 where
+  port : has_port roots devices tree p ≡ true
+  free : is_taken tree p ≡ false
+
+free_ok : (roots : ℕ) (devices : List Spec) (tree : Plugged) (r : Result (List ℕ) Kind) (p : List ℕ) → free roots devices tree r ≡ Ok p → FreePath roots devices tree p
+unfolding free
+free_ok roots devices tree (Err k) p h = cc
+free_ok roots devices tree (Ok path) p h =
+    let test = ok_if (has_port roots devices tree path) _ BadPath p h in
+    let empty = ok_unless (is_taken tree path) (Ok path) PortTaken p test.1 in
+    let same : path ≡ p = cc empty.1 in
+    rw (← same) (record { port = test.0; free = empty.0 })
+
+taken_ok : (tree : Plugged) (r : Result (List ℕ) Kind) (p : List ℕ) → taken tree r ≡ Ok p → (r ≡ Ok p) × (is_taken tree p ≡ true)
+unfolding taken
+taken_ok tree (Err k) p h = cc
+taken_ok tree (Ok path) p h =
+    let test = ok_if (is_taken tree path) (Ok path) PortEmpty p h in
+    let same : path ≡ p = cc test.1 in
+    rw (← same) (refl, test.0)
 
 known_ok : (o : Option ℕ) (i : ℕ) → known o ≡ Ok i → o ≡ Some i
 unfolding known
@@ -134,9 +164,9 @@ unfolding device_at
 device_at_ok specs None i h = cc
 device_at_ok specs (Some d) i h = device_named_ok specs (as_str d) i h
 
-room_ok : (earlier : List Event) (u : Unit {0}) → room earlier ≡ Ok u → length earlier < 10000
+room_ok : (count : ℕ) (u : Unit {0}) → room count ≡ Ok u → count < 10000
 unfolding room
-room_ok earlier u h = ltb-true (length earlier) 10000 (ok_if (nat_lt (length earlier) 10000) (Ok tt) BadValue u h).0
+room_ok count u h = ltb-true count 10000 (ok_if (nat_lt count 10000) (Ok tt) BadValue u h).0
 
 number_in_ok : (low high : ℕ) (o : Option ℤ) (n : ℕ) → number_in low high o ≡ Ok n → (low ≤ n) × (n ≤ high)
 unfolding number_in
@@ -162,42 +192,194 @@ after_at_ok : (o : Option Data) (n : ℕ) → after_at o ≡ Ok n → n ≤ 1000
 unfolding after_at
 after_at_ok o n h = number_or_ok 0 0 1000000000 o n (omega arith) h
 
-plugged_ok : (r : Result event.Parts Kind) (e : Event) → plugged r ≡ Ok e → (x : event.Parts) × (r ≡ Ok x) × (record { after = x.1.1.0; action = Plug x.0 x.1.0 } ≡ e)
-unfolding plugged
-plugged_ok (Ok x) e h = (x, refl, cc)
-plugged_ok (Err k) e h = cc
+packets_at_ok : (o : Option Data) (n : ℕ) → packets_at o ≡ Ok n → n ≤ 1000
+unfolding packets_at
+packets_at_ok o n h = (number_at_ok 0 1000 o n h).1
 
--- the event may stand after the earlier ones, and there is room for it
-pub record Follows (roots devices : ℕ) (earlier : List Event) (e : Event) : Type 0 where
-  pub room : length earlier < 10000
-  pub fits : event_fits roots devices earlier e ≡ true
+-- the action may come where so much is plugged
+abbrev pub Fits : ℕ → List Spec → Plugged → Action → Type 0
+Fits roots devices tree a = action_fits roots devices tree a ≡ true
 
-plug_of_ok : (roots : ℕ) (specs : List Spec) (earlier : List Event) (ms : Members) (e : Event) → plug_of roots specs earlier ms ≡ Ok e → Follows roots (length specs) earlier e
-unfolding plug_of
-plug_of_ok roots specs earlier ms e h =
-    let plug = plugged_ok _ e h in
-    let x = plug.0 in
-    let first = both_ok (path_at roots earlier (get_member (codes "path") ms)) _ x plug.1 in
-    let second = both_ok (device_at specs (get_member (codes "device") ms)) _ x.1 first.1 in
-    let third = both_ok (after_at (get_member (codes "after") ms)) _ x.1.1 second.1 in
-    let last = both_ok (keys_at plug_keys ms) (room earlier) x.1.1.1 third.1 in
-    let path = path_at_ok roots earlier (get_member (codes "path") ms) x.0 first.0 in
-    let device = lt-ltb x.1.0 (length specs) (device_at_ok specs (get_member (codes "device") ms) x.1.0 second.0) in
-    let after = le-leb x.1.1.0 1000000000 (after_at_ok (get_member (codes "after") ms) x.1.1.0 third.0) in
+plug_made : (r : Result (List ℕ × ℕ) Kind) (a : Action) → action.plug r ≡ Ok a → (x : List ℕ × ℕ) × (r ≡ Ok x) × (Plug x.0 x.1 ≡ a)
+unfolding action.plug
+plug_made (Ok x) a h = (x, refl, cc)
+plug_made (Err k) a h = cc
+
+unplug_made : (r : Result (List ℕ) Kind) (a : Action) → action.unplug r ≡ Ok a → (p : List ℕ) × (r ≡ Ok p) × (Unplug p ≡ a)
+unfolding action.unplug
+unplug_made (Ok p) a h = (p, refl, cc)
+unplug_made (Err k) a h = cc
+
+send_made : (r : Result (List ℕ × List ℕ) Kind) (a : Action) → action.send r ≡ Ok a → (x : List ℕ × List ℕ) × (r ≡ Ok x) × (Send x.0 x.1 ≡ a)
+unfolding action.send
+send_made (Ok x) a h = (x, refl, cc)
+send_made (Err k) a h = cc
+
+receive_made : (r : Result (List ℕ × ℕ) Kind) (a : Action) → action.receive r ≡ Ok a → (x : List ℕ × ℕ) × (r ≡ Ok x) × (Receive x.0 x.1 ≡ a)
+unfolding action.receive
+receive_made (Ok x) a h = (x, refl, cc)
+receive_made (Err k) a h = cc
+
+clear_made : (r : Result (List ℕ) Kind) (a : Action) → action.clear r ≡ Ok a → (p : List ℕ) × (r ≡ Ok p) × (Clear p ≡ a)
+unfolding action.clear
+clear_made (Ok p) a h = (p, refl, cc)
+clear_made (Err k) a h = cc
+
+plug_of_ok : (roots : ℕ) (specs : List Spec) (tree : Plugged) (ms : Members) (a : Action) → plug_of roots specs tree ms ≡ Ok a → Fits roots specs tree a
+unfolding plug_of action_fits
+plug_of_ok roots specs tree ms a h =
+    let made = plug_made _ a h in
+    let x = made.0 in
+    let parts = both_ok (free roots specs tree (path_at roots (get_member (codes "path") ms))) (device_at specs (get_member (codes "device") ms)) x made.1 in
+    let path = free_ok roots specs tree (path_at roots (get_member (codes "path") ms)) x.0 parts.0 in
+    let device = lt-ltb x.1 (length specs) (device_at_ok specs (get_member (codes "device") ms) x.1 parts.1) in
+    rw (← made.2) (rw (path.port, path.free, device))
+
+unplug_of_ok : (roots : ℕ) (specs : List Spec) (tree : Plugged) (ms : Members) (a : Action) → unplug_of roots tree ms ≡ Ok a → Fits roots specs tree a
+unfolding unplug_of action_fits
+unplug_of_ok roots specs tree ms a h =
+    let made = unplug_made _ a h in
+    let p = made.0 in
+    let held = taken_ok tree (path_at roots (get_member (codes "path") ms)) p made.1 in
+    rw (← made.2) (rw (path_at_ok roots (get_member (codes "path") ms) p held.0, held.1))
+
+send_of_ok : (roots : ℕ) (specs : List Spec) (tree : Plugged) (ms : Members) (a : Action) → send_of roots ms ≡ Ok a → Fits roots specs tree a
+unfolding send_of action_fits
+send_of_ok roots specs tree ms a h =
+    let made = send_made _ a h in
+    let x = made.0 in
+    let parts = both_ok (path_at roots (get_member (codes "path") ms)) (bytes_at (get_member (codes "bytes") ms)) x made.1 in
+    rw (← made.2) (path_at_ok roots (get_member (codes "path") ms) x.0 parts.0)
+
+receive_of_ok : (roots : ℕ) (specs : List Spec) (tree : Plugged) (ms : Members) (a : Action) → receive_of roots ms ≡ Ok a → Fits roots specs tree a
+unfolding receive_of action_fits
+receive_of_ok roots specs tree ms a h =
+    let made = receive_made _ a h in
+    let x = made.0 in
+    let parts = both_ok (path_at roots (get_member (codes "path") ms)) (packets_at (get_member (codes "packets") ms)) x made.1 in
+    let few = le-leb x.1 1000 (packets_at_ok (get_member (codes "packets") ms) x.1 parts.1) in
+    rw (← made.2) (rw (path_at_ok roots (get_member (codes "path") ms) x.0 parts.0, few))
+
+clear_of_ok : (roots : ℕ) (specs : List Spec) (tree : Plugged) (ms : Members) (a : Action) → clear_of roots ms ≡ Ok a → Fits roots specs tree a
+unfolding clear_of action_fits
+clear_of_ok roots specs tree ms a h =
+    let made = clear_made _ a h in
+    rw (← made.2) (path_at_ok roots (get_member (codes "path") ms) made.0 made.1)
+
+action_of_ok : (v : Verb) (roots : ℕ) (specs : List Spec) (tree : Plugged) (ms : Members) (a : Action) → action_of v roots specs tree ms ≡ Ok a → Fits roots specs tree a
+unfolding action_of action_fits
+action_of_ok verb.Plug roots specs tree ms a h = plug_of_ok roots specs tree ms a h
+action_of_ok verb.Unplug roots specs tree ms a h = unplug_of_ok roots specs tree ms a h
+action_of_ok verb.Show roots specs tree ms a h = let same : Show ≡ a = cc in rw (← same) refl
+action_of_ok verb.Send roots specs tree ms a h = send_of_ok roots specs tree ms a h
+action_of_ok verb.Receive roots specs tree ms a h = receive_of_ok roots specs tree ms a h
+action_of_ok verb.Clear roots specs tree ms a h = clear_of_ok roots specs tree ms a h
+
+whole_ok : (r : Result event.Parts Kind) (e : Event) → whole r ≡ Ok e → (x : event.Parts) × (r ≡ Ok x) × (record { after = x.1.0; action = x.0 } ≡ e)
+unfolding whole
+whole_ok (Ok x) e h = (x, refl, cc)
+whole_ok (Err k) e h = cc
+
+-- the event may come where so much is plugged, and there is room for it
+pub record Follows (roots : ℕ) (devices : List Spec) (tree : Plugged) (count : ℕ) (e : Event) : Type 0 where
+  pub room : count < 10000
+  pub fits : event_fits roots devices tree e ≡ true
+
+event_of_ok : (v : Verb) (roots : ℕ) (specs : List Spec) (tree : Plugged) (count : ℕ) (ms : Members) (e : Event) → event_of v roots specs tree count ms ≡ Ok e → Follows roots specs tree count e
+unfolding event_of event_fits
+event_of_ok v roots specs tree count ms e h =
+    let made = whole_ok _ e h in
+    let x = made.0 in
+    let first = both_ok (action_of v roots specs tree ms) _ x made.1 in
+    let second = both_ok (after_at (get_member (codes "after") ms)) _ x.1 first.1 in
+    let last = both_ok (keys_of v ms) (room count) x.1.1 second.1 in
+    let after = le-leb x.1.0 1000000000 (after_at_ok (get_member (codes "after") ms) x.1.0 second.0) in
     record {
-      room = room_ok earlier x.1.1.1.1 last.1;
-      fits = rw (← plug.2) (rw (after, path.root, path.free, device));
+      room = room_ok count x.1.1.1 last.1;
+      fits = rw (← made.2) (rw (after, action_of_ok v roots specs tree ms x.0 first.0));
     }
 
-event_by_ok : (o : Option Data) (roots : ℕ) (specs : List Spec) (earlier : List Event) (ms : Members) (e : Event) → event_by o roots specs earlier ms ≡ Ok e → Follows roots (length specs) earlier e
+event_by_ok : (r : Result Verb Kind) (roots : ℕ) (specs : List Spec) (tree : Plugged) (count : ℕ) (ms : Members) (e : Event) → event_by r roots specs tree count ms ≡ Ok e → Follows roots specs tree count e
 unfolding event_by
-event_by_ok None roots specs earlier ms e h = cc
-event_by_ok (Some d) roots specs earlier ms e h = plug_of_ok roots specs earlier ms e (ok_if (is_plug (as_str d)) _ BadValue e h).1
+event_by_ok (Err k) roots specs tree count ms e h = cc
+event_by_ok (Ok v) roots specs tree count ms e h = event_of_ok v roots specs tree count ms e h
 
-pub event_in_ok : (roots : ℕ) (specs : List Spec) (earlier : List Event) (o : Option Members) (e : Event) → event_in roots specs earlier o ≡ Ok e → Follows roots (length specs) earlier e
+pub event_in_ok : (roots : ℕ) (specs : List Spec) (tree : Plugged) (count : ℕ) (o : Option Members) (e : Event) → event_in roots specs tree count o ≡ Ok e → Follows roots specs tree count e
 unfolding event_in
-event_in_ok roots specs earlier None e h = cc
-event_in_ok roots specs earlier (Some ms) e h = event_by_ok (get_member (codes "do") ms) roots specs earlier ms e h
+event_in_ok roots specs tree count None e h = cc
+event_in_ok roots specs tree count (Some ms) e h = event_by_ok (verb_at (get_member (codes "do") ms)) roots specs tree count ms e h
+
+attempt_at_ok : (last : ℕ) (o : Option Data) (n : ℕ) → attempt_at last o ≡ Ok n → (last < n) × (n ≤ 9223372036854775807)
+unfolding attempt_at
+attempt_at_ok last o n h = let range = number_at_ok (last + 1) 9223372036854775807 o n h in (omega (arith, range.0), range.1)
+
+packet_at_ok : (o : Option Data) (n : ℕ) → packet_at o ≡ Ok n → (1 ≤ n) × (n ≤ 3)
+unfolding packet_at
+packet_at_ok o n h = number_at_ok 1 3 o n h
+
+no_bit_ok : (harm : Harm) (o : Option Data) (x : Harm) → harm_fits harm ≡ true → no_bit harm o ≡ Ok x → harm_fits x ≡ true
+unfolding no_bit
+no_bit_ok harm None x fits h = let same : harm ≡ x = cc h in rw (← same) fits
+no_bit_ok harm (Some d) x fits h = cc h
+
+flip_ok : (r : Result ℕ Kind) (x : Harm) → flip r ≡ Ok x → (n : ℕ) × (r ≡ Ok n) × (Flip n ≡ x)
+flip_ok (Ok n) x h = (n, refl, cc)
+flip_ok (Err k) x h = cc
+
+flipped_ok : (o : Option Data) (x : Harm) → flipped o ≡ Ok x → harm_fits x ≡ true
+unfolding flipped
+flipped_ok o x h =
+    let made = flip_ok (number_at 0 535 o) x h in
+    rw (← made.2) (le-leb made.0 535 (number_at_ok 0 535 o made.0 made.1).1)
+
+harm_of_ok : (w : Way) (o : Option Data) (x : Harm) → harm_of w o ≡ Ok x → harm_fits x ≡ true
+unfolding harm_of
+harm_of_ok way.Lose o x h = no_bit_ok Lose o x refl h
+harm_of_ok way.LosePre o x h = no_bit_ok LosePre o x refl h
+harm_of_ok way.Flip o x h = flipped_ok o x h
+
+harm_by_ok : (r : Result Way Kind) (o : Option Data) (x : Harm) → harm_by r o ≡ Ok x → harm_fits x ≡ true
+unfolding harm_by
+harm_by_ok (Err k) o x h = cc
+harm_by_ok (Ok w) o x h = harm_of_ok w o x h
+
+damage_room_ok : (count : ℕ) (u : Unit {0}) → damage.room count ≡ Ok u → count < 10000
+unfolding damage.room
+damage_room_ok count u h = ltb-true count 10000 (ok_if (nat_lt count 10000) (Ok tt) BadValue u h).0
+
+damage_whole_ok : (r : Result damage.Parts Kind) (d : Damage) → damage.whole r ≡ Ok d → (x : damage.Parts) × (r ≡ Ok x) × (record { attempt = x.0; packet = x.1.0; harm = x.1.1.0 } ≡ d)
+unfolding damage.whole
+damage_whole_ok (Ok x) d h = (x, refl, cc)
+damage_whole_ok (Err k) d h = cc
+
+-- the damage may stand after that attempt, and there is room for it
+pub record Comes (last count : ℕ) (d : Damage) : Type 0 where
+  pub room : count < 10000
+  pub fits : damage_fits last d ≡ true
+  pub most : d.attempt ≤ 9223372036854775807
+
+damage_of_ok : (last count : ℕ) (ms : Members) (d : Damage) → damage_of last count ms ≡ Ok d → Comes last count d
+unfolding damage_of damage_fits
+damage_of_ok last count ms d h =
+    let made = damage_whole_ok _ d h in
+    let x = made.0 in
+    let first = both_ok (attempt_at last (get_member (codes "attempt") ms)) _ x made.1 in
+    let second = both_ok (packet_at (get_member (codes "packet") ms)) _ x.1 first.1 in
+    let third = both_ok (harm_by (way_at (get_member (codes "how") ms)) (get_member (codes "bit") ms)) _ x.1.1 second.1 in
+    let end = both_ok (keys_at damage_keys ms) (damage.room count) x.1.1.1 third.1 in
+    let attempt = attempt_at_ok last (get_member (codes "attempt") ms) x.0 first.0 in
+    let packet = packet_at_ok (get_member (codes "packet") ms) x.1.0 second.0 in
+    let harm = harm_by_ok (way_at (get_member (codes "how") ms)) (get_member (codes "bit") ms) x.1.1.0 third.0 in
+    record {
+      room = damage_room_ok count x.1.1.1.1 end.1;
+      fits = rw (← made.2) (rw (lt-ltb last x.0 attempt.0, le-leb 1 x.1.0 packet.0, le-leb x.1.0 3 packet.1, harm));
+      most = rw (← made.2) attempt.1;
+    }
+
+pub damage_in_ok : (last count : ℕ) (o : Option Members) (d : Damage) → damage_in last count o ≡ Ok d → Comes last count d
+unfolding damage_in
+damage_in_ok last count None d h = cc
+damage_in_ok last count (Some ms) d h = damage_of_ok last count ms d h
 
 limit_at_ok : (o : Option Data) (n : ℕ) → limit_at o ≡ Ok n → n ≤ 100000000000000
 unfolding limit_at

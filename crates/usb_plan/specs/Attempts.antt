@@ -1,10 +1,10 @@
 -- How many attempts are enough for a plan.
-use Rattle.std.specs.Prelude.{ℕ, ◌+◌, ◌*◌, List, [], ◌∷◌, length, take, Option, Some, None, Result, Ok, Err, slice_get, max}
+use Rattle.std.specs.Prelude.{ℕ, ◌+◌, ◌*◌, List, [], ◌∷◌, length, take, Option, Some, None, Result, Ok, Err, slice_get, max, min, ◌^◌, ◌-◌}
 use Rattle.std.specs.List.{sum_by}
 use Rattle.usb_descriptor.specs.declared.fault.DescriptorFault.{DescriptorFault}
 use Rattle.usb_descriptor.specs.Config.{config_head_of}
 use Rattle.usb_bus.specs.declared.event.Action.{Action}
-use Rattle.usb_bus.specs.declared.event.Action.TheVariants.{Plug}
+use Rattle.usb_bus.specs.declared.event.Action.TheVariants.{Plug, Unplug, Show, Send, Receive, Clear}
 use Rattle.usb_bus.specs.declared.event.Event.{Event}
 use Rattle.usb_device.specs.Spec.{Spec}
 use Rattle.usb_bus.specs.PlanData.{PlanData}
@@ -27,6 +27,11 @@ total_at None = 0
 
 abbrev pub total_after : List Spec → Action → ℕ
 total_after devices (Plug path device) = total_at (slice_get devices device)
+total_after devices (Unplug path) = 0
+total_after devices Show = 0
+total_after devices (Send path bytes) = 0
+total_after devices (Receive path packets) = 0
+total_after devices (Clear path) = 0
 
 -- the sum over the texts of the device that an event plugs
 unfoldable pub plugged_total : List Spec → Event → ℕ
@@ -37,9 +42,22 @@ unfoldable pub greatest_total : List Spec → List Event → ℕ
 greatest_total devices [] = 0
 greatest_total devices (e ∷ events) = max (plugged_total devices e) (greatest_total devices events)
 
--- enough attempts for v events, where no plugged device has more than w bytes of configurations
-abbrev pub enough_for : ℕ → ℕ → ℕ
-enough_for v w = 200 * v * (30000 + 10 * w) + 50000 * v * v + 2
+abbrev pub moved_in : Action → ℕ
+moved_in (Plug path device) = 0
+moved_in (Unplug path) = 0
+moved_in Show = 0
+moved_in (Send path bytes) = length bytes
+moved_in (Receive path packets) = packets
+moved_in (Clear path) = 0
 
+-- the bytes that an event sends, or the packets that it receives
+unfoldable pub moved : Event → ℕ
+moved e = moved_in e.action
+
+-- enough attempts for v events, where no plugged device has more than w bytes of configurations, and m bytes and packets are moved
+abbrev pub enough_for : ℕ → ℕ → ℕ → ℕ
+enough_for v w m = 200 * v * (30000 + 10 * w) + 50000 * v * v + 1000 * m + 2
+
+-- the greatest number of 64 bits where it is more
 unfoldable pub bound_of : PlanData → ℕ
-bound_of p = enough_for (length p.events) (greatest_total p.devices p.events)
+bound_of p = min (enough_for (length p.events) (greatest_total p.devices p.events) (sum_by moved p.events)) (2 ^ 64 - 1)

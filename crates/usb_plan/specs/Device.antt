@@ -29,15 +29,10 @@ unfoldable pub speed_at : Option Data → Result (Unit {0}) Kind
 speed_at None = Err MissingKey
 speed_at (Some d) = if is_full (as_str d) then Ok tt else Err BadValue
 
--- byte 4 is the class, and 9 is a hub's
-unfoldable pub no_hub : Result (List ℕ) Kind → Result (List ℕ) Kind
-no_hub (Err k) = Err k
-no_hub (Ok bytes) = if nat_lt 4 (length bytes) && slice_index bytes 4 == 9 then Err BadValue else Ok bytes
-
--- the key `descriptor`: at most 255 bytes, not a hub's
+-- the key `descriptor`: at most 255 bytes
 unfoldable pub descriptor_at : Option Data → Result (List ℕ) Kind
 descriptor_at None = Err MissingKey
-descriptor_at (Some d) = no_hub (hex_in 255 (as_str d))
+descriptor_at (Some d) = hex_in 255 (as_str d)
 
 unfoldable pub pushed : Result (List (List ℕ) × List ℕ) Kind → Result (List (List ℕ)) Kind
 pushed (Ok x) = Ok (x.0 ++ x.1 ∷ [])

@@ -4,7 +4,7 @@ use Rattle.usb_plan.specs.declared.fault.Place.{Place}
 use Rattle.usb_plan.specs.declared.fault.PlanFault.{PlanFault}
 use Rattle.usb_plan.specs.declared.fault.PlanFault.TheVariants as fault
 use Rattle.usb_plan.specs.declared.kind.Kind.{Kind}
-use Rattle.usb_plan.specs.declared.kind.Kind.TheVariants.{MissingKey, BadValue, BadHex, UnknownDevice, BadPath, PortTaken}
+use Rattle.usb_plan.specs.declared.kind.Kind.TheVariants.{MissingKey, BadValue, BadHex, UnknownDevice, BadPath, PortTaken, PortEmpty}
 
 -- the number of a fault
 abbrev pub rank : Kind → ℕ
@@ -14,6 +14,7 @@ rank BadHex = 4
 rank UnknownDevice = 5
 rank BadPath = 6
 rank PortTaken = 7
+rank PortEmpty = 8
 
 unfoldable pub least : Kind → Kind → Kind
 least a b = if nat_le (rank a) (rank b) then a else b
@@ -32,6 +33,7 @@ at place BadHex = fault.BadHex place
 at place UnknownDevice = fault.UnknownDevice place
 at place BadPath = fault.BadPath place
 at place PortTaken = fault.PortTaken place
+at place PortEmpty = fault.PortEmpty place
 
 -- an entry, or its fault with the place
 unfoldable pub placed : {A : Type 0} → Place → Result A Kind → Result A PlanFault

@@ -4,6 +4,9 @@ pub mod Value
 pub mod Keys
 pub mod Device
 pub mod Path
+pub mod Verb
+pub mod Action
 pub mod Event
+pub mod Damage
 pub mod Plan
 pub mod Attempts

@@ -1,22 +1,33 @@
--- The key `path` of an event that plugs something.
+-- The key `path` of an event.
 use Rattle.std.specs.Prelude.{ℕ, List, Option, Some, None, Result, Ok, Err, if◌then◌else◌}
 use Rattle.toml.specs.Data.{Data, as_str}
 use Rattle.usb_port.specs.Path.{path_of}
 use Rattle.usb_plan.specs.declared.kind.Kind.{Kind}
-use Rattle.usb_plan.specs.declared.kind.Kind.TheVariants.{MissingKey, BadValue, BadPath, PortTaken}
-use Rattle.usb_bus.specs.declared.event.Event.{Event}
-use Rattle.usb_bus.specs.PlanData.{is_taken, is_root_path}
+use Rattle.usb_plan.specs.declared.kind.Kind.TheVariants.{MissingKey, BadValue, BadPath, PortTaken, PortEmpty}
+use Rattle.usb_device.specs.Spec.{Spec}
+use Rattle.usb_bus.specs.Plugged.{Plugged, is_rooted, has_port}
+use Rattle.usb_bus.specs.PlanData.{is_taken}
 
--- a root port where nothing is plugged; no device has ports, so no longer path leads anywhere
-unfoldable pub free_path : ℕ → List Event → Option (List ℕ) → Result (List ℕ) Kind
-free_path roots earlier None = Err BadPath
-free_path roots earlier (Some path) =
-    if is_root_path roots path then (if is_taken earlier path then Err PortTaken else Ok path) else Err BadPath
+unfoldable pub rooted : ℕ → Option (List ℕ) → Result (List ℕ) Kind
+rooted roots None = Err BadPath
+rooted roots (Some path) = if is_rooted roots path then Ok path else Err BadPath
 
-unfoldable pub path_in : ℕ → List Event → Option (List ℕ) → Result (List ℕ) Kind
-path_in roots earlier None = Err BadValue
-path_in roots earlier (Some text) = free_path roots earlier (path_of text)
+unfoldable pub path_in : ℕ → Option (List ℕ) → Result (List ℕ) Kind
+path_in roots None = Err BadValue
+path_in roots (Some text) = rooted roots (path_of text)
 
-unfoldable pub path_at : ℕ → List Event → Option Data → Result (List ℕ) Kind
-path_at roots earlier None = Err MissingKey
-path_at roots earlier (Some d) = path_in roots earlier (as_str d)
+-- a path whose first number is a root port's
+unfoldable pub path_at : ℕ → Option Data → Result (List ℕ) Kind
+path_at roots None = Err MissingKey
+path_at roots (Some d) = path_in roots (as_str d)
+
+-- a path where there is a port, and nothing is plugged
+unfoldable pub free : ℕ → List Spec → Plugged → Result (List ℕ) Kind → Result (List ℕ) Kind
+free roots devices tree (Err k) = Err k
+free roots devices tree (Ok path) =
+    if has_port roots devices tree path then (if is_taken tree path then Err PortTaken else Ok path) else Err BadPath
+
+-- a path where something is plugged
+unfoldable pub taken : Plugged → Result (List ℕ) Kind → Result (List ℕ) Kind
+taken tree (Err k) = Err k
+taken tree (Ok path) = if is_taken tree path then Ok path else Err PortEmpty

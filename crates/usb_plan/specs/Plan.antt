@@ -13,6 +13,7 @@ use Rattle.usb_plan.specs.Keys.{keys_at}
 use Rattle.usb_plan.specs.Value.{number_at, data_list}
 use Rattle.usb_plan.specs.Device.{devices_from}
 use Rattle.usb_plan.specs.Event.{events_from}
+use Rattle.usb_plan.specs.Damage.{damages_from}
 use Rattle.usb_bus.specs.PlanData.{PlanData}
 
 -- the key `limit`
@@ -30,7 +31,7 @@ unfoldable pub entries_in : Option Items → Result (Unit {0}) Kind
 entries_in None = Err BadValue
 entries_in (Some items) = if list_all is_table (data_list items) then Ok tt else Err BadValue
 
--- the key `device` or `event`: an array of tables, which may be absent
+-- the key `device`, `event` or `damage`: an array of tables, which may be absent
 unfoldable pub entries_at : Option Data → Result (Unit {0}) Kind
 entries_at None = Ok tt
 entries_at (Some d) = entries_in (as_array d)
@@ -45,17 +46,18 @@ values_at None = []
 values_at (Some d) = values_in (as_array d)
 
 abbrev pub top_keys : List (List ℕ)
-top_keys = codes "limit" ∷ codes "roots" ∷ codes "device" ∷ codes "event" ∷ []
+top_keys = codes "limit" ∷ codes "roots" ∷ codes "device" ∷ codes "event" ∷ codes "damage" ∷ []
 
 abbrev pub TopParts : Type 0
-TopParts = ℕ × (ℕ × (Unit {0} × (Unit {0} × Unit {0})))
+TopParts = ℕ × (ℕ × (Unit {0} × (Unit {0} × (Unit {0} × Unit {0}))))
 
 unfoldable pub top_of : Members → Result TopParts Kind
 top_of ms =
     both (limit_at (get_member (codes "limit") ms))
     (both (roots_at (get_member (codes "roots") ms))
     (both (entries_at (get_member (codes "device") ms))
-    (both (entries_at (get_member (codes "event") ms)) (keys_at top_keys ms))))
+    (both (entries_at (get_member (codes "event") ms))
+    (both (entries_at (get_member (codes "damage") ms)) (keys_at top_keys ms)))))
 
 -- the numbers at the top
 pub record TopFits (l r : ℕ) : Type 0 where
@@ -63,18 +65,19 @@ pub record TopFits (l r : ℕ) : Type 0 where
   pub some_root : 1 ≤ r
   pub few_roots : r ≤ 7
 
--- devices come before events
-unfoldable pub plan_with : ℕ → ℕ → List Data → List Data → Result PlanData PlanFault
-plan_with limit roots devices events = do
+-- devices come first, then events, then damages
+unfoldable pub plan_with : ℕ → ℕ → List Data → List Data → List Data → Result PlanData PlanFault
+plan_with limit roots devices events damages = do
   specs ← devices_from 1 [] devices
   done ← events_from roots specs 1 [] events
-  Ok (record { limit = limit; roots = roots; devices = specs; events = done })
+  harms ← damages_from 1 [] damages
+  Ok (record { limit = limit; roots = roots; devices = specs; events = done; damages = harms })
 
--- the plan that a table describes: top, devices, events
+-- the plan that a table describes: top, devices, events, damages
 unfoldable pub plan_of : Members → Result PlanData PlanFault
 plan_of ms =
     placed Top (top_of ms)
-    >>= λ top. plan_with top.0 top.1.0 (values_at (get_member (codes "device") ms)) (values_at (get_member (codes "event") ms))
+    >>= λ top. plan_with top.0 top.1.0 (values_at (get_member (codes "device") ms)) (values_at (get_member (codes "event") ms)) (values_at (get_member (codes "damage") ms))
 
 unfoldable pub read : Option Members → Result PlanData PlanFault
 read None = Err fault.Syntax

@@ -36,3 +36,12 @@ bounded most (Err e) = Err BadHex
 unfoldable pub hex_in : ℕ → Option (List ℕ) → Result (List ℕ) Kind
 hex_in most None = Err BadValue
 hex_in most (Some text) = bounded most (decode_of text)
+
+unfoldable pub any_of : Result (List ℕ) FromHexError → Result (List ℕ) Kind
+any_of (Ok bytes) = Ok bytes
+any_of (Err e) = Err BadHex
+
+-- the bytes of a hex text, however many
+unfoldable pub sent_in : Option (List ℕ) → Result (List ℕ) Kind
+sent_in None = Err BadValue
+sent_in (Some text) = any_of (decode_of text)

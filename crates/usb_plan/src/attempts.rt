@@ -1,7 +1,8 @@
 //! How many attempts are enough for a plan.
 
-ghost use Rattle.std.specs.Prelude.{◌≡◌, ◌≤◌, ◌<◌, length, map, sum, take};
-ghost use Rattle.usb_plan.specs.Attempts.{total_of, all_totals, plugged_total, greatest_total, bound_of};
+ghost use Rattle.std.specs.Prelude.{◌≡◌, ◌≤◌, ◌<◌, ◌-◌, ◌^◌, length, map, sum, take, min};
+ghost use Rattle.std.specs.List.{sum_by};
+ghost use Rattle.usb_plan.specs.Attempts.{total_of, all_totals, plugged_total, greatest_total, moved, bound_of};
 
 use usb_bus::{Action, Event, Plan};
 use usb_descriptor::config_head;
@@ -51,6 +52,7 @@ fn plugged_total(devices: &[DeviceSpec], event: &Event) -> u64
             Some(device) => all_totals(device),
             None => 0,
         },
+        _ => 0,
     }
 }
 
@@ -66,17 +68,43 @@ fn greatest_total(devices: &[DeviceSpec], events: &[Event]) -> u64
     greatest
 }
 
+/// The bytes that the event sends, or the packets that it receives.
+#[tactic(auto, unfolding(crate::specs::Attempts::moved))]
+fn moved(event: &Event) -> u64
+    ensures { result ≡ moved event.now }
+{
+    match &event.action {
+        Action::Send(_, bytes) => bytes.as_slice().len() as u64,
+        Action::Receive(_, packets) => u64::from(*packets),
+        _ => 0,
+    }
+}
+
+/// The sum of these, at most the greatest number of the type.
+fn all_moved(events: &[Event]) -> u64
+    ensures { result ≡ min (sum_by moved events.now) (2 ^ 64 - 1) }
+{
+    let mut sum: u64 = 0;
+    'events: for event in events {
+        sum = sum.saturating_add(moved(event));
+    }
+    sum
+}
+
 /// How many attempts to allow for a run of the plan, on the safe side.
 ///
-/// With V events, and W the greatest number of bytes that the configurations of one plugged device
-/// have together (wTotalLength, 9.6.3, of those texts that begin with a configuration descriptor),
-/// it is 200 * V * (30,000 + 10 * W) + 50,000 * V * V + 2. It takes no memory.
-#[tactic(auto, unfolding(crate::specs::Attempts::bound_of))]
+/// With V events, W the greatest number of bytes that the configurations of one plugged device have
+/// together (wTotalLength, 9.6.3, of those texts that begin with a configuration descriptor), S the
+/// bytes that all events send, and Q the packets that all receive, it is
+/// 200 * V * (30,000 + 10 * W) + 50,000 * V * V + 1,000 * (S + Q) + 2, and the greatest `u64` where
+/// that is more. It takes no memory.
+#[tactic(auto, using(crate::proofs::Totals::saturated), unfolding(crate::specs::Attempts::bound_of))]
 pub fn bound(plan: &Plan) -> u64
     ensures { result ≡ bound_of plan.now }
 {
     let events = plan.events();
     let count = events.len() as u64;
     let greatest = greatest_total(plan.devices(), events);
-    200 * count * (30_000 + 10 * greatest) + 50_000 * count * count + 2
+    let found = 200 * count * (30_000 + 10 * greatest) + 50_000 * count * count + 2;
+    found.saturating_add(all_moved(events).saturating_mul(1000))
 }

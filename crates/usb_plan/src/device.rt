@@ -4,7 +4,7 @@ ghost use Rattle.std.specs.Prelude.{◌≡◌, ◌<◌, ◌≤◌, codes, ◌∷
 ghost use Rattle.std.specs.Result.{ForOk};
 ghost use Rattle.toml.specs.Data.{get_member, as_str, as_array};
 ghost use Rattle.toml.specs.View.{view, table_view, array_view};
-ghost use Rattle.usb_plan.specs.Device.{name_in, name_at, is_full, speed_at, no_hub, descriptor_at, pushed, texts_from, configs_in, configs_at, room, made, device_of, device_in, devices_from};
+ghost use Rattle.usb_plan.specs.Device.{name_in, name_at, is_full, speed_at, descriptor_at, pushed, texts_from, configs_in, configs_at, room, made, device_of, device_in, devices_from};
 
 use crate::fault::{Place, PlanFault};
 use crate::keys::keys_at;
@@ -77,24 +77,6 @@ fn speed_at(value: Option<&Value>) -> Result<(), Kind>
     }
 }
 
-/// Refuses the device descriptor of a hub: bDeviceClass 9 (11.23.1).
-#[tactic(auto, unfolding(crate::specs::Device::no_hub))]
-fn no_hub(bytes: Result<Bytes<255>, Kind>) -> Result<Bytes<255>, Kind>
-    ensures { result ≡ no_hub bytes }
-{
-    match bytes {
-        Err(kind) => Err(kind),
-        Ok(bytes) => {
-            let slice = bytes.as_slice();
-            if slice.len() > 4 && slice[4] == 9 {
-                Err(Kind::BadValue)
-            } else {
-                Ok(bytes)
-            }
-        }
-    }
-}
-
 /// The key `descriptor`.
 #[tactic(auto, unfolding(crate::specs::Device::descriptor_at))]
 fn descriptor_at(
@@ -105,7 +87,7 @@ fn descriptor_at(
 {
     match value {
         None => Ok(Err(Kind::MissingKey)),
-        Some(value) => Ok(no_hub(hex_in::<255>(alloc, value)?)),
+        Some(value) => hex_in::<255>(alloc, value),
     }
 }
 

@@ -12,6 +12,8 @@ pub enum Place {
     Device(usize),
     /// An `event` entry, counted from 1.
     Event(usize),
+    /// A `damage` entry, counted from 1.
+    Damage(usize),
 }
 
 impl fmt::Display for Place {
@@ -25,6 +27,7 @@ impl fmt::Display for Place {
             Place::Top => write!(f, "top"),
             Place::Device(number) => write!(f, "device {number}"),
             Place::Event(number) => write!(f, "event {number}"),
+            Place::Damage(number) => write!(f, "damage {number}"),
         }
     }
 }
@@ -48,12 +51,16 @@ pub enum PlanFault {
     /// An event names a device that no `device` entry has.
     #[error("plan: {0}: unknown device")]
     UnknownDevice(Place),
-    /// A text is no path of ports, or no such port is there.
+    /// A text is no path of ports, its first number is no root port's, or no such port is there where
+    /// something is to be plugged.
     #[error("plan: {0}: bad path")]
     BadPath(Place),
     /// Something is plugged at the path already.
     #[error("plan: {0}: port taken")]
     PortTaken(Place),
+    /// Nothing is plugged at the path, where something is to be unplugged.
+    #[error("plan: {0}: port empty")]
+    PortEmpty(Place),
     /// Memory was refused.
     #[error("out of memory")]
     Memory,

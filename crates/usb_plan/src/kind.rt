@@ -14,6 +14,7 @@ pub(crate) enum Kind {
     UnknownDevice,
     BadPath,
     PortTaken,
+    PortEmpty,
 }
 
 impl Kind {
@@ -30,6 +31,7 @@ impl Kind {
             Kind::UnknownDevice => 5,
             Kind::BadPath => 6,
             Kind::PortTaken => 7,
+            Kind::PortEmpty => 8,
         }
     }
 
@@ -57,6 +59,7 @@ impl Kind {
             Kind::UnknownDevice => PlanFault::UnknownDevice(place),
             Kind::BadPath => PlanFault::BadPath(place),
             Kind::PortTaken => PlanFault::PortTaken(place),
+            Kind::PortEmpty => PlanFault::PortEmpty(place),
         }
     }
 }

@@ -1,10 +1,12 @@
 //! The plan of a run, read from a TOML text, and how many attempts to allow for it.
 //!
-//! `read_plan` gives the plan that the text spells, or the text's first fault. A key, a kind of event
-//! or a value of the plan format that is not served yet is told as a bad value.
+//! `read_plan` gives the plan that the text spells, or the text's first fault. A key of a device that is
+//! not served yet is told as a bad value.
 #![tactic(auto)]
 
+mod action;
 mod attempts;
+mod damage;
 mod device;
 mod event;
 mod fault;
@@ -12,7 +14,9 @@ mod keys;
 mod kind;
 mod path;
 mod plan;
+mod tree;
 mod value;
+mod verb;
 
 pub use attempts::bound;
 pub use fault::{Place, PlanFault};

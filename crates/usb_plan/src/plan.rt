@@ -7,6 +7,7 @@ ghost use Rattle.toml.specs.View.{view, table_view, array_view};
 ghost use Rattle.usb_plan.specs.declared.fault.PlanFault.TheVariants.{Memory};
 ghost use Rattle.usb_plan.specs.Plan.{limit_at, roots_at, is_table, entries_in, entries_at, values_at, top_of, plan_with, plan_of, spelled_plan, TopFits};
 
+use crate::damage::damages_of;
 use crate::device::devices_of;
 use crate::event::events_of;
 use crate::fault::{Place, PlanFault};
@@ -65,7 +66,7 @@ fn entries_in(values: Option<&Array>) -> Result<(), Kind>
     }
 }
 
-/// The key `device` or `event`: an array of tables, which may be absent.
+/// The key `device`, `event` or `damage`: an array of tables, which may be absent.
 #[tactic(auto, unfolding(crate::specs::Plan::entries_at))]
 fn entries_at(value: Option<&Value>) -> Result<(), Kind>
     ensures { result ≡ entries_at (option_map (λ v. view v.now) value.entry) }
@@ -90,7 +91,7 @@ fn values_at<'a>(value: Option<&'a Value>) -> &'a [Value]
     }
 }
 
-type Top = (u64, (u8, ((), ((), ()))));
+type Top = (u64, (u8, ((), ((), ((), ())))));
 
 /// The numbers at the top. The arrays are read after them.
 #[tactic(auto, unfolding(crate::specs::Plan::top_of))]
@@ -101,11 +102,13 @@ fn top_of(table: &Table) -> Result<Top, Kind>
     let roots = roots_at(value_at(table, "roots"));
     let devices = entries_at(value_at(table, "device"));
     let events = entries_at(value_at(table, "event"));
-    let keys = keys_at(table, &["limit", "roots", "device", "event"]);
-    both(limit, both(roots, both(devices, both(events, keys))))
+    let damages = entries_at(value_at(table, "damage"));
+    let keys = keys_at(table, &["limit", "roots", "device", "event", "damage"]);
+    let arrays = both(devices, both(events, both(damages, keys)));
+    both(limit, both(roots, arrays))
 }
 
-/// The plan with these numbers, of the devices and events that the values describe.
+/// The plan with these numbers, of the devices, events and damages that the values describe.
 #[tactic(auto, unfolding(crate::specs::Plan::plan_with))]
 fn plan_with(
     alloc: Global,
@@ -113,18 +116,23 @@ fn plan_with(
     roots: u8,
     devices: &[Value],
     events: &[Value],
+    damages: &[Value],
 ) -> Result<Result<Plan, PlanFault>, AllocError>
     requires { TopFits limit roots }
     ensures { IfOk result
-        (λ r. r ≡ plan_with limit roots (map view devices.now) (map view events.now)) }
+        (λ r. r ≡ plan_with limit roots (map view devices.now) (map view events.now) (map view damages.now)) }
 {
     let devices = match devices_of(alloc, devices)? {
         Err(fault) => return Ok(Err(fault)),
         Ok(devices) => devices,
     };
-    match events_of(alloc, roots, devices.as_slice(), events)? {
+    let events = match events_of(alloc, roots, devices.as_slice(), events)? {
+        Err(fault) => return Ok(Err(fault)),
+        Ok(events) => events,
+    };
+    match damages_of(alloc, damages)? {
         Err(fault) => Ok(Err(fault)),
-        Ok(events) => Ok(Ok(Plan::new(limit, roots, devices, events))),
+        Ok(damages) => Ok(Ok(Plan::new(limit, roots, devices, events, damages))),
     }
 }
 
@@ -141,6 +149,7 @@ fn plan_of(alloc: Global, table: &Table) -> Result<Result<Plan, PlanFault>, Allo
             roots,
             values_at(value_at(table, "device")),
             values_at(value_at(table, "event")),
+            values_at(value_at(table, "damage")),
         ),
     }
 }
@@ -148,7 +157,7 @@ fn plan_of(alloc: Global, table: &Table) -> Result<Result<Plan, PlanFault>, Allo
 /// Reads the plan that a TOML text spells.
 ///
 /// The fault is the first of the text: `Syntax`, or that of the first entry with one, in the order
-/// top, devices, events, and in one entry the first in the order of `PlanFault`. Of an event whose
+/// top, devices, events, damages, and in one entry the first in the order of `PlanFault`. Of an event whose
 /// `do` is absent or unknown nothing else is looked at. `Memory` says that memory was refused, and
 /// nothing of the text.
 #[tactic(auto, unfolding(crate::specs::Plan::read, crate::specs::Plan::spelled_plan))]

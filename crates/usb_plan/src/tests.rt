@@ -1,6 +1,6 @@
 use super::*;
 use std::test::*;
-use usb_bus::Action;
+use usb_bus::{Action, Harm, NotServed, served};
 
 /// One root port, and a full-speed function with one configuration of 18 bytes.
 const FUNCTION: &str =
@@ -60,6 +60,7 @@ fn one_function_is_read(rt: HostRuntime) -> Result<(), Fail> {
             assert_eq!(rt; path.numbers().len(), 1);
             assert_eq!(rt; *device, 0);
         }
+        _ => return Err(Fail::from("a plug is read")),
     }
     assert_eq!(rt; bound(&plan), 6086002);
     Ok(())
@@ -80,7 +81,7 @@ const TOP_FAULTS: [(&str, &str); 15] = [
     ("limit =\n", "plan: syntax"),
     ("limit = 9223372036854775808\nroots = 1\n", "plan: syntax"),
     ("roots = 1\n", "plan: top: missing key"),
-    ("limit = 1\ndamage = []\n", "plan: top: missing key"),
+    ("limit = 1\ndamages = []\n", "plan: top: missing key"),
     ("limit = -1\nroots = 1\n", "plan: top: bad value"),
     ("limit = 100000000000000\nroots = 7\n", "plan"),
     (
@@ -91,7 +92,7 @@ const TOP_FAULTS: [(&str, &str); 15] = [
     ("limit = 1\nroots = 8\n", "plan: top: bad value"),
     ("limit = 1\nroots = \"1\"\n", "plan: top: bad value"),
     (
-        "limit = 1\nroots = 1\ndamage = []\n",
+        "limit = 1\nroots = 1\ndamages = []\n",
         "plan: top: bad value",
     ),
     ("limit = 1\nroots = 1\ndevice = 1\n", "plan: top: bad value"),
@@ -123,7 +124,7 @@ const DEVICE_FAULTS: [([&str; 4], &str, &str); 15] = [
     (
         ["\"other\"", "\"full\"", "\"0102030409\"", "[]"],
         "",
-        "plan: device 2: bad value",
+        "plan",
     ),
     (
         ["\"other\"", "\"full\"", "\"01020304\"", "[\"AB\", \"cd\"]"],
@@ -206,7 +207,7 @@ fn faults_of_devices(rt: HostRuntime) -> Result<(), Fail> {
 }
 
 /// Lines of an event, and what the text is told to be.
-const EVENT_FAULTS: [(&str, &str); 17] = [
+const EVENT_FAULTS: [(&str, &str); 18] = [
     ("do = \"plug\"\npath = \"1\"\ndevice = \"fn\"", "plan"),
     (
         "do = \"plug\"\npath = \"1\"\ndevice = \"fn\"\nafter = 1000000000",
@@ -260,10 +261,177 @@ const EVENT_FAULTS: [(&str, &str); 17] = [
         "do = \"plug\"\npath = \"8\"\ndevice = \"fn\"\nbytes = \"\"",
         "plan: event 1: bad value",
     ),
-    ("do = \"unplug\"", "plan: event 1: bad value"),
+    ("do = \"unplug\"", "plan: event 1: missing key"),
+    ("do = \"plugs\"", "plan: event 1: bad value"),
     ("do = 1\npath = \"8\"", "plan: event 1: bad value"),
     ("path = \"8\"\ndevice = 1", "plan: event 1: missing key"),
 ];
+
+/// Lines of the events after a plug of the function at port 1, and what the text is told to be.
+const LATER_FAULTS: [(&str, &str); 18] = [
+    ("do = \"unplug\"\npath = \"1\"", "plan"),
+    (
+        "do = \"unplug\"\npath = \"1.1\"",
+        "plan: event 2: port empty",
+    ),
+    ("do = \"unplug\"\npath = \"2\"", "plan: event 2: bad path"),
+    (
+        "do = \"unplug\"\npath = \"1\"\n[[event]]\ndo = \"unplug\"\npath = \"1\"",
+        "plan: event 3: port empty",
+    ),
+    (
+        "do = \"unplug\"\npath = \"1\"\n[[event]]\ndo = \"plug\"\npath = \"1\"\ndevice = \"fn\"",
+        "plan",
+    ),
+    (
+        "do = \"unplug\"\npath = \"1\"\ndevice = \"fn\"",
+        "plan: event 2: bad value",
+    ),
+    (
+        "do = \"plug\"\npath = \"1.1\"\ndevice = \"fn\"",
+        "plan: event 2: bad path",
+    ),
+    ("do = \"show\"\nafter = 3", "plan"),
+    ("do = \"show\"\npath = \"1\"", "plan: event 2: bad value"),
+    ("do = \"send\"\npath = \"1.7\"\nbytes = \"00fF\"", "plan"),
+    (
+        "do = \"send\"\npath = \"1\"\nbytes = \"0\"",
+        "plan: event 2: bad hex",
+    ),
+    (
+        "do = \"send\"\npath = \"2\"\nbytes = \"0\"",
+        "plan: event 2: bad hex",
+    ),
+    (
+        "do = \"send\"\npath = \"2\"\nbytes = 0",
+        "plan: event 2: bad value",
+    ),
+    ("do = \"receive\"\npath = \"1\"\npackets = 1000", "plan"),
+    (
+        "do = \"receive\"\npath = \"1\"\npackets = 1001",
+        "plan: event 2: bad value",
+    ),
+    (
+        "do = \"receive\"\npath = \"1\"",
+        "plan: event 2: missing key",
+    ),
+    ("do = \"clear\"\npath = \"1\"", "plan"),
+    ("do = \"clear\"\npath = \"8\"", "plan: event 2: bad path"),
+];
+
+#[test]
+fn faults_of_later_events(rt: HostRuntime) -> Result<(), Fail> {
+    for (lines, words) in LATER_FAULTS.iter() {
+        let lines = format!(in rt.alloc();
+            "do = \"plug\"\npath = \"1\"\ndevice = \"fn\"\n[[event]]\n{lines}"
+        )?;
+        assert_eq!(rt; told_event(&rt, lines.as_str())?.as_str(), *words);
+    }
+    Ok(())
+}
+
+/// Lines of a damage, and what the text is told to be.
+const DAMAGE_FAULTS: [(&str, &str); 19] = [
+    ("attempt = 1\npacket = 1\nhow = \"lose\"", "plan"),
+    (
+        "attempt = 9223372036854775807\npacket = 3\nhow = \"pre\"",
+        "plan",
+    ),
+    ("attempt = 1\npacket = 3\nhow = \"flip\"\nbit = 535", "plan"),
+    (
+        "attempt = 0\npacket = 1\nhow = \"lose\"",
+        "plan: damage 1: bad value",
+    ),
+    (
+        "attempt = 1\npacket = 0\nhow = \"lose\"",
+        "plan: damage 1: bad value",
+    ),
+    (
+        "attempt = 1\npacket = 4\nhow = \"lose\"",
+        "plan: damage 1: bad value",
+    ),
+    (
+        "attempt = 1\npacket = 1\nhow = \"cut\"",
+        "plan: damage 1: bad value",
+    ),
+    (
+        "attempt = 1\npacket = 1\nhow = 1",
+        "plan: damage 1: bad value",
+    ),
+    ("attempt = 1\npacket = 1", "plan: damage 1: missing key"),
+    ("attempt = 1\nhow = \"lose\"", "plan: damage 1: missing key"),
+    ("packet = 1\nhow = \"lose\"", "plan: damage 1: missing key"),
+    (
+        "attempt = 1\npacket = 1\nhow = \"flip\"",
+        "plan: damage 1: missing key",
+    ),
+    (
+        "attempt = 1\npacket = 1\nhow = \"flip\"\nbit = 536",
+        "plan: damage 1: bad value",
+    ),
+    (
+        "attempt = 1\npacket = 1\nhow = \"lose\"\nbit = 0",
+        "plan: damage 1: bad value",
+    ),
+    (
+        "attempt = 1\npacket = 1\nhow = \"pre\"\nbit = 0",
+        "plan: damage 1: bad value",
+    ),
+    (
+        "attempt = 1\npacket = 1\nhow = \"lose\"\nafter = 0",
+        "plan: damage 1: bad value",
+    ),
+    (
+        "attempt = 5\npacket = 1\nhow = \"lose\"\n[[damage]]\nattempt = 5\npacket = 1\nhow = \"lose\"",
+        "plan: damage 2: bad value",
+    ),
+    (
+        "attempt = 5\npacket = 1\nhow = \"lose\"\n[[damage]]\nattempt = 6\npacket = 1\nhow = \"lose\"",
+        "plan",
+    ),
+    (
+        "attempt = 0\n[[event]]\ndo = \"unplug\"\npath = \"1\"",
+        "plan: event 1: port empty",
+    ),
+];
+
+#[test]
+fn faults_of_damages(rt: HostRuntime) -> Result<(), Fail> {
+    for (lines, words) in DAMAGE_FAULTS.iter() {
+        let lines = format!(in rt.alloc(); "[[damage]]\n{lines}\n")?;
+        assert_eq!(rt; told_after(&rt, lines.as_str())?.as_str(), *words);
+    }
+    Ok(())
+}
+
+#[test]
+fn transfers_and_damages_are_read(rt: HostRuntime) -> Result<(), Fail> {
+    let mut text = String::from_str(rt.alloc(), "limit = 1\nroots = 1\n")?;
+    text.push_str("[[event]]\ndo = \"send\"\npath = \"1.2\"\nbytes = \"0aFF\"\n")?;
+    text.push_str("[[event]]\ndo = \"receive\"\npath = \"1\"\npackets = 7\n")?;
+    text.push_str("[[damage]]\nattempt = 3\npacket = 2\nhow = \"flip\"\nbit = 9\n")?;
+    let plan = read_plan(rt.alloc(), text.as_str())
+        .ok()
+        .ok_or("the text is a plan")?;
+    let events = plan.events();
+    assert_eq!(rt; events.len(), 2);
+    match &events[0].action {
+        Action::Send(path, bytes) => {
+            assert_eq!(rt; path.text().as_str(), "1.2");
+            assert_eq!(rt; bytes.as_slice(), [10u8, 255].as_slice());
+        }
+        _ => return Err(Fail::from("bytes are sent")),
+    }
+    let damages = plan.damages();
+    assert_eq!(rt; damages.len(), 1);
+    let damage = damages[0];
+    assert_eq!(rt; damage.attempt, 3);
+    assert_eq!(rt; damage.packet, 2);
+    assert_eq!(rt; damage.harm, Harm::Flip(9));
+    assert_eq!(rt; bound(&plan), 12209002);
+    assert_eq!(rt; served(&plan), Err(NotServed::Event(1)));
+    Ok(())
+}
 
 #[test]
 fn faults_of_events(rt: HostRuntime) -> Result<(), Fail> {

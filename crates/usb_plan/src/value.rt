@@ -3,11 +3,12 @@
 ghost use Rattle.std.specs.Prelude.{◌≡◌, ◌≤◌, IfOk, option_map};
 ghost use Rattle.toml.specs.Data.{get_member, as_integer, as_str};
 ghost use Rattle.toml.specs.View.{view, table_view};
-ghost use Rattle.usb_plan.specs.Value.{number_in, number_at, number_or, hex_in};
+ghost use Rattle.usb_plan.specs.Value.{number_in, number_at, number_or, hex_in, sent_in};
 
 use crate::kind::Kind;
 use std::alloc::{AllocError, Global};
 use toml::{Table, Value};
+use usb_bus::SentBytes;
 use usb_device::Bytes;
 
 /// The value at a key.
@@ -82,6 +83,22 @@ pub(crate) fn hex_in<const MAX: usize>(
                 Ok(Err(Kind::BadValue))
             }
         }
+        Err(hex::FromHexError::OutOfMemory) => Err(AllocError),
+        Err(_) => Ok(Err(Kind::BadHex)),
+    }
+}
+
+/// The bytes of a hex text, however many.
+#[tactic(auto, unfolding(crate::specs::Value::sent_in, crate::specs::Value::any_of))]
+pub(crate) fn sent_in(alloc: Global, value: &Value) -> Result<Result<SentBytes, Kind>, AllocError>
+    ensures { IfOk result (λ r. r ≡ sent_in (as_str (view value.now))) }
+{
+    let text = match value.as_str() {
+        None => return Ok(Err(Kind::BadValue)),
+        Some(text) => text,
+    };
+    match hex::decode(alloc, text) {
+        Ok(bytes) => Ok(Ok(SentBytes::new(bytes))),
         Err(hex::FromHexError::OutOfMemory) => Err(AllocError),
         Err(_) => Ok(Err(Kind::BadHex)),
     }

@@ -129,6 +129,7 @@ fn carry_out(
 {
     match action {
         Action::Plug(path, device) => plug(alloc, roots, path, &devices[*device]),
+        _ => unreachable!(),
     }
 }
 
@@ -146,6 +147,7 @@ fn put_action<W: Write>(
 {
     match action {
         Action::Plug(path, device) => put_plug(writer, path, devices[*device].name()),
+        _ => unreachable!(),
     }
 }
 

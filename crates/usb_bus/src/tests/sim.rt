@@ -4,7 +4,10 @@ ghost use Rattle.usb_bus.specs.World.{IsAttempt, sends};
 ghost use Rattle.usb_bus.specs.declared.event.Action.TheVariants.{Plug};
 
 use super::watched::Frail;
-use crate::{Action, Attempt, Bus, BusFault, Due, Event, Events, Outcome, Plan, SimBus, Watched};
+use crate::{
+    Action, Attempt, Bus, BusFault, Damages, Due, Event, Events, Outcome, Plan, SimBus, Watched,
+    served,
+};
 use arrayvec::ArrayVec;
 use std::alloc::{AllocError, Global};
 use std::io::Write;
@@ -33,6 +36,7 @@ fn function(alloc: Global) -> Result<DeviceSpec, AllocError> {
 }
 
 /// The function is plugged at port 1, the only one, after so many attempts.
+#[tactic(auto, unfolding(crate::specs::PlanData::events_fit, crate::specs::PlanData::event_fits, crate::specs::PlanData::action_fits, crate::specs::Plugged::has_port, crate::specs::Plugged::is_rooted, crate::specs::Plugged::parent_has, crate::specs::Plugged::plugged_after, crate::specs::Plugged::device_at, usb_port::specs::Order::parent_of))]
 fn plan_of_one(alloc: Global, limit: u64, after: u64) -> Result<Plan, AllocError>
     requires limit { limit ≤ 16 }
     requires after { after ≤ 9 }
@@ -41,7 +45,7 @@ fn plan_of_one(alloc: Global, limit: u64, after: u64) -> Result<Plan, AllocError
     devices.push(function(alloc)?)?;
     let mut events = Events::new(alloc);
     events.push(plug(1, after))?;
-    Ok(Plan::new(limit, 1, devices, events))
+    Ok(Plan::new(limit, 1, devices, events, Damages::new(alloc)))
 }
 
 /// The function is plugged at port 1 after so many attempts, and at port 2 one attempt later.
@@ -53,7 +57,7 @@ fn plan_of_two(alloc: Global, after: u64) -> Result<Plan, AllocError>
     let mut events = Events::new(alloc);
     events.push(plug(1, after))?;
     events.push(plug(2, 1))?;
-    Ok(Plan::new(16, 2, devices, events))
+    Ok(Plan::new(16, 2, devices, events, Damages::new(alloc)))
 }
 
 fn plug(port: u8, after: u64) -> Event
@@ -197,6 +201,7 @@ fn enumerate<W: Write>(bus: &mut SimBus<W>) -> Result<(), BusFault> {
 fn a_function_is_enumerated(rt: HostRuntime) -> Result<(), Fail> {
     let alloc = rt.alloc();
     let plan = plan_of_one(alloc, 16, 0)?;
+    assert_eq!(rt; served(&plan), Ok(()));
     let Ok(mut bus) = SimBus::new(alloc, &plan, Watched::new(Vec::new(alloc))) else {
         return Ok(());
     };
@@ -223,6 +228,7 @@ fn each_write_fails_in_turn(rt: HostRuntime) -> Result<(), Fail> {
             at_once: 1,
             writes_left: writes,
         });
+        assert_eq!(rt; served(&plan), Ok(()));
         let Ok(mut bus) = SimBus::new(alloc, &plan, writer) else {
             return Ok(());
         };
@@ -251,6 +257,7 @@ fn each_write_fails_in_turn(rt: HostRuntime) -> Result<(), Fail> {
 fn the_limit_stays(rt: HostRuntime) -> Result<(), Fail> {
     let alloc = rt.alloc();
     let plan = plan_of_one(alloc, 1, 1)?;
+    assert_eq!(rt; served(&plan), Ok(()));
     let Ok(mut bus) = SimBus::new(alloc, &plan, Watched::new(Vec::new(alloc))) else {
         return Ok(());
     };
@@ -276,6 +283,7 @@ fn the_limit_stays(rt: HostRuntime) -> Result<(), Fail> {
 fn events_come_when_they_are_due(rt: HostRuntime) -> Result<(), Fail> {
     let alloc = rt.alloc();
     let plan = plan_of_two(alloc, 2)?;
+    assert_eq!(rt; served(&plan), Ok(()));
     let Ok(mut bus) = SimBus::new(alloc, &plan, Watched::new(Vec::new(alloc))) else {
         return Ok(());
     };
@@ -301,6 +309,7 @@ plug 2 fn
 fn answers_meet_on_the_bus(rt: HostRuntime) -> Result<(), Fail> {
     let alloc = rt.alloc();
     let plan = plan_of_two(alloc, 0)?;
+    assert_eq!(rt; served(&plan), Ok(()));
     let Ok(mut bus) = SimBus::new(alloc, &plan, Watched::new(Vec::new(alloc))) else {
         return Ok(());
     };

@@ -1,0 +1,48 @@
+-- What of a plan a simulated bus serves.
+use Rattle.std.specs.Prelude.{ℕ, ◌+◌, List, [], ◌∷◌, length, Bool, false, ◌&&◌, ◌==◌, not, Option, None, Some, Result, Ok, Err, position, slice_get, if◌then◌else◌}
+use Rattle.usb_device.specs.Spec.{Spec}
+use Rattle.usb_bus.specs.declared.event.Event.{Event}
+use Rattle.usb_bus.specs.declared.event.Action.{Action}
+use Rattle.usb_bus.specs.declared.event.Action.TheVariants.{Plug, Unplug, Show, Send, Receive, Clear}
+use Rattle.usb_bus.specs.declared.not_served.NotServed.{NotServed}
+use Rattle.usb_bus.specs.declared.not_served.NotServed.TheVariants as not_served
+use Rattle.usb_bus.specs.PlanData.{PlanData}
+
+abbrev pub is_nine : Option ℕ → Bool
+is_nine None = false
+is_nine (Some class) = class == 9
+
+-- byte 4 is the class, and 9 is a hub's
+unfoldable pub is_hub : Spec → Bool
+is_hub device = is_nine (slice_get device.descriptor 4)
+
+abbrev pub is_function : Option Spec → Bool
+is_function None = false
+is_function (Some device) = not (is_hub device)
+
+unfoldable pub is_function_at : List Spec → ℕ → Bool
+is_function_at devices index = is_function (slice_get devices index)
+
+-- a plug of a function at a root port
+unfoldable pub is_served : List Spec → Action → Bool
+is_served devices (Plug path device) = length path == 1 && is_function_at devices device
+is_served devices (Unplug path) = false
+is_served devices Show = false
+is_served devices (Send path bytes) = false
+is_served devices (Receive path packets) = false
+is_served devices (Clear path) = false
+
+-- the place of the first event that is not served
+abbrev pub first_not_served : List Spec → List Event → Option ℕ
+first_not_served devices events = position (λ e. not (is_served devices e.action)) events
+
+abbrev pub damages_served : Bool → Result (Unit {0}) NotServed
+damages_served none = if none then Ok tt else Err (not_served.Damage 1)
+
+abbrev pub events_served : Option ℕ → Result (Unit {0}) NotServed → Result (Unit {0}) NotServed
+events_served None rest = rest
+events_served (Some i) rest = Err (not_served.Event (i + 1))
+
+-- the first entry that is not served: an event, or else a damage
+unfoldable pub served_of : PlanData → Result (Unit {0}) NotServed
+served_of p = events_served (first_not_served p.devices p.events) (damages_served (length p.damages == 0))

@@ -1,0 +1,34 @@
+-- What runs leave of a bus's world.
+use Rattle.std.specs.Prelude.{◌≡◌, ℕ, ◌+◌, ◌≤◌, Bool, true, false, if◌then◌else◌}
+use Rattle.usb_bus.specs.PlanData.{PlanData}
+use Rattle.usb_bus.specs.World.{World, Spends}
+use Rattle.usb_bus.specs.declared.types.BusFault.{BusFault}
+use Rattle.usb_bus.specs.declared.types.BusFault.TheVariants as bus
+use Rattle.usb_main.specs.declared.runs.RunFault.{RunFault}
+use Rattle.usb_main.specs.declared.runs.RunFault.TheVariants.{LimitReached, Memory, TraceFailed}
+
+-- some attempts and events later, within the limit
+pub record Goes (old new : World) : Type 0 where
+  pub count : ℕ
+  pub spends : Spends count old new
+
+-- no attempt was made yet
+pub record IsBegun (plan : PlanData) (w : World) : Type 0 where
+  pub attempts : w.attempts ≡ 0
+  pub limit : w.limit ≡ plan.limit
+
+-- what a fault of the bus is to a run
+abbrev pub run_fault : BusFault → RunFault
+run_fault bus.LimitReached = LimitReached
+run_fault bus.Memory = Memory
+run_fault bus.TraceFailed = TraceFailed
+
+-- a fault of a run is told only where its cause stands
+abbrev pub IsCaused : RunFault → World → Type 0
+IsCaused LimitReached w = w.attempts ≡ w.limit
+IsCaused Memory w = Unit {0}
+IsCaused TraceFailed w = Unit {0}
+
+-- how many items are to come at most
+abbrev pub items_left : Bool → World → ℕ
+items_left over w = w.left + (if over then 0 else 1)

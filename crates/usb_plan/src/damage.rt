@@ -1,0 +1,197 @@
+//! The `damage` entries of the document.
+
+ghost use Rattle.std.specs.Prelude.{◌≡◌, ◌≤◌, ◌<◌, IfOk, option_map, map, Ok, [], true, length};
+ghost use Rattle.toml.specs.View.{view, table_view};
+ghost use Rattle.usb_bus.specs.PlanData.{damages_fit};
+ghost use Rattle.usb_plan.specs.Damage.{attempt_at, packet_at, way_named, way_in, way_at, no_bit, flipped, harm_of, harm_by, room, whole, damage_of, damage_in, damages_from};
+
+use crate::fault::{Place, PlanFault};
+use crate::keys::keys_at;
+use crate::kind::{Kind, both, placed};
+use crate::value::{number_at, value_at};
+use std::alloc::{AllocError, Global};
+use toml::{Table, Value};
+use usb_bus::{Damage, Damages, Harm};
+
+/// The key `attempt`: after the last one.
+#[tactic(auto, unfolding(crate::specs::Damage::attempt_at))]
+fn attempt_at(last: u64, value: Option<&Value>) -> Result<u64, Kind>
+    requires { last ≤ 9223372036854775807 }
+    ensures { result ≡ attempt_at last (option_map (λ v. view v.now) value.entry) }
+{
+    number_at(last + 1, 9_223_372_036_854_775_807, value)
+}
+
+/// The key `packet`.
+#[tactic(auto, unfolding(crate::specs::Damage::packet_at))]
+fn packet_at(value: Option<&Value>) -> Result<u8, Kind>
+    ensures { result ≡ packet_at (option_map (λ v. view v.now) value.entry) }
+{
+    match number_at(1, 3, value) {
+        Ok(packet) => Ok(packet as u8),
+        Err(kind) => Err(kind),
+    }
+}
+
+/// How a packet is damaged.
+#[derive(Clone, Copy)]
+enum Way {
+    Lose,
+    LosePre,
+    Flip,
+}
+
+#[tactic(auto, unfolding(crate::specs::Damage::way_named))]
+fn way_named(text: &str) -> Result<Way, Kind>
+    ensures { result ≡ way_named text.now }
+{
+    if text == "lose" {
+        Ok(Way::Lose)
+    } else if text == "pre" {
+        Ok(Way::LosePre)
+    } else if text == "flip" {
+        Ok(Way::Flip)
+    } else {
+        Err(Kind::BadValue)
+    }
+}
+
+#[tactic(auto, unfolding(crate::specs::Damage::way_in))]
+fn way_in(text: Option<&str>) -> Result<Way, Kind>
+    ensures { result ≡ way_in (option_map (λ t. t.now) text.entry) }
+{
+    match text {
+        None => Err(Kind::BadValue),
+        Some(text) => way_named(text),
+    }
+}
+
+/// The key `how`.
+#[tactic(auto, unfolding(crate::specs::Damage::way_at))]
+fn way_at(value: Option<&Value>) -> Result<Way, Kind>
+    ensures { result ≡ way_at (option_map (λ v. view v.now) value.entry) }
+{
+    match value {
+        None => Err(Kind::MissingKey),
+        Some(value) => way_in(value.as_str()),
+    }
+}
+
+/// The key `bit` goes with a flipped bit alone.
+#[tactic(auto, unfolding(crate::specs::Damage::no_bit))]
+fn no_bit(harm: Harm, bit: Option<&Value>) -> Result<Harm, Kind>
+    ensures { result ≡ no_bit harm (option_map (λ v. view v.now) bit.entry) }
+{
+    match bit {
+        None => Ok(harm),
+        Some(_) => Err(Kind::BadValue),
+    }
+}
+
+/// The key `bit`.
+#[tactic(auto, unfolding(crate::specs::Damage::flipped))]
+fn flipped(bit: Option<&Value>) -> Result<Harm, Kind>
+    ensures { result ≡ flipped (option_map (λ v. view v.now) bit.entry) }
+{
+    match number_at(0, 535, bit) {
+        Ok(bit) => Ok(Harm::Flip(bit as u16)),
+        Err(kind) => Err(kind),
+    }
+}
+
+#[tactic(auto, unfolding(crate::specs::Damage::harm_of))]
+fn harm_of(way: Way, bit: Option<&Value>) -> Result<Harm, Kind>
+    ensures { result ≡ harm_of way (option_map (λ v. view v.now) bit.entry) }
+{
+    match way {
+        Way::Lose => no_bit(Harm::Lose, bit),
+        Way::LosePre => no_bit(Harm::LosePre, bit),
+        Way::Flip => flipped(bit),
+    }
+}
+
+/// The keys `how` and `bit`.
+#[tactic(auto, unfolding(crate::specs::Damage::harm_by))]
+fn harm_by(way: Result<Way, Kind>, bit: Option<&Value>) -> Result<Harm, Kind>
+    ensures { result ≡ harm_by way (option_map (λ v. view v.now) bit.entry) }
+{
+    match way {
+        Err(kind) => Err(kind),
+        Ok(way) => harm_of(way, bit),
+    }
+}
+
+/// Refuses an entry after the most that a plan may have.
+#[tactic(auto, unfolding(crate::specs::Damage::room))]
+fn room(count: usize) -> Result<(), Kind>
+    ensures { result ≡ room count }
+{
+    if count < 10_000 {
+        Ok(())
+    } else {
+        Err(Kind::BadValue)
+    }
+}
+
+type Parts = (u64, (u8, (Harm, ((), ()))));
+
+#[tactic(auto, unfolding(crate::specs::Damage::whole))]
+fn whole(parts: Result<Parts, Kind>) -> Result<Damage, Kind>
+    ensures { result ≡ whole parts }
+{
+    match parts {
+        Ok((attempt, (packet, (harm, _)))) => Ok(Damage {
+            attempt,
+            packet,
+            harm,
+        }),
+        Err(kind) => Err(kind),
+    }
+}
+
+/// The damage that a table describes, after so many others.
+#[tactic(auto, unfolding(crate::specs::Damage::damage_of))]
+fn damage_of(last: u64, count: usize, table: &Table) -> Result<Damage, Kind>
+    requires { last ≤ 9223372036854775807 }
+    ensures { result ≡ damage_of last count (table_view table.now) }
+{
+    let attempt = attempt_at(last, value_at(table, "attempt"));
+    let packet = packet_at(value_at(table, "packet"));
+    let harm = harm_by(way_at(value_at(table, "how")), value_at(table, "bit"));
+    let keys = keys_at(table, &["attempt", "packet", "how", "bit"]);
+    whole(both(attempt, both(packet, both(harm, both(keys, room(count))))))
+}
+
+#[tactic(auto, unfolding(crate::specs::Damage::damage_in))]
+fn damage_in(last: u64, count: usize, table: Option<&Table>) -> Result<Damage, Kind>
+    requires { last ≤ 9223372036854775807 }
+    ensures { result ≡ damage_in last count (option_map (λ t. table_view t.now) table.entry) }
+{
+    match table {
+        None => Err(Kind::BadValue),
+        Some(table) => damage_of(last, count, table),
+    }
+}
+
+/// The damages that the values describe, or the first fault.
+pub(crate) fn damages_of(
+    alloc: Global,
+    values: &[Value],
+) -> Result<Result<Damages, PlanFault>, AllocError>
+    ensures value { IfOk result (λ r. r ≡ damages_from 1 [] (map view values.now)) }
+    ensures fit { IfOk result (λ r. IfOk r (λ damages. damages_fit 0 damages ≡ true)) }
+{
+    let mut done = Damages::new(alloc);
+    let mut last: u64 = 0;
+    for (i, value) in values.iter().enumerate() {
+        let damage = damage_in(last, done.as_slice().len(), value.as_table());
+        match placed(Place::Damage(i + 1), damage) {
+            Err(fault) => return Ok(Err(fault)),
+            Ok(damage) => {
+                last = damage.attempt;
+                done.push(damage)?;
+            }
+        }
+    }
+    Ok(Ok(done))
+}

@@ -1,0 +1,131 @@
+//! What is plugged where, while the events of a plan are read.
+ghost use Rattle.std.specs.Prelude.{◌≡◌, nat_eq, option_map};
+ghost use Rattle.std.specs.List.{starts_with};
+ghost use Rattle.usb_bus.specs.Plugged.{is_rooted, device_of, port_count};
+
+use std::alloc::{AllocError, Global};
+use std::collections::BTreeMap;
+use std::marker::Model;
+use usb_bus::Action;
+use usb_device::DeviceSpec;
+use usb_port::PortPath;
+
+/// The devices that are plugged, by their index among the plan's devices, at their paths.
+#[derive(Drop)]
+pub(crate) struct Tree {
+    places: BTreeMap<PortPath, usize>,
+}
+
+impl Model for Tree {
+    ghost use Rattle.usb_bus.specs.Plugged.{Plugged};
+
+    ghost Value = { Plugged };
+
+    ghost view = { λ t. t.places.entries };
+}
+
+impl Tree {
+    ghost use Rattle.std.specs.Prelude.{◌≡◌, [], OnOk, is_some};
+    ghost use Rattle.usb_bus.specs.Plugged.{device_at, unplugged, plugged_after, has_port, parent_has};
+    ghost use Rattle.usb_bus.specs.PlanData.{is_taken};
+
+    /// Nothing is plugged.
+    pub(crate) fn new(alloc: Global) -> Self
+        ensures { result ≡ [] }
+    {
+        Tree {
+            places: BTreeMap::new(alloc),
+        }
+    }
+
+    /// The device plugged at the path.
+    #[tactic(auto, unfolding(usb_bus::specs::Plugged::device_at))]
+    fn device_at(&self, path: &PortPath) -> Option<usize>
+        ensures { result ≡ device_at self.now path.now }
+    {
+        self.places.get(path).copied()
+    }
+
+    /// Whether something is plugged at the path.
+    pub(crate) fn is_taken(&self, path: &PortPath) -> bool
+        ensures { result ≡ is_taken self.now path.now }
+    {
+        self.device_at(path).is_some()
+    }
+
+    #[tactic(auto, unfolding(usb_bus::specs::Plugged::parent_has))]
+    fn parent_has(&self, devices: &[DeviceSpec], parent: Option<PortPath>, port: u8) -> bool
+        ensures { result ≡ parent_has devices.now self.now parent port }
+    {
+        match parent {
+            None => true,
+            Some(parent) => port <= port_count(device_of(devices, self.device_at(&parent))),
+        }
+    }
+
+    /// Whether the path is a root port, or a port of a plugged device.
+    #[tactic(auto, unfolding(usb_bus::specs::Plugged::has_port))]
+    pub(crate) fn has_port(&self, roots: u8, devices: &[DeviceSpec], path: &PortPath) -> bool
+        ensures { result ≡ has_port roots devices.now self.now path.now }
+    {
+        is_rooted(roots, path) && self.parent_has(devices, path.parent(), path.port())
+    }
+
+    /// Unplugs the device at the path and all below it.
+    #[tactic(auto, unfolding(usb_bus::specs::Plugged::unplugged))]
+    fn unplug(&mut self, path: &PortPath)
+        ensures { self.new ≡ unplugged path.now self.old }
+    {
+        self.places.retain(|place, _| !goes_through(place, path));
+    }
+
+    /// Has the action change what is plugged. An error: memory is refused.
+    #[tactic(auto, unfolding(usb_bus::specs::Plugged::plugged_after))]
+    pub(crate) fn apply(&mut self, action: &Action) -> Result<(), AllocError>
+        ensures { OnOk result (self.new ≡ plugged_after action.now self.old) }
+    {
+        match action {
+            Action::Plug(path, device) => {
+                self.places.insert(path.duplicate(), *device)?;
+            }
+            Action::Unplug(path) => self.unplug(path),
+            _ => {}
+        }
+        Ok(())
+    }
+}
+
+/// Whether the first number of the path is a root port's.
+#[tactic(auto, unfolding(usb_bus::specs::Plugged::is_rooted))]
+pub(crate) fn is_rooted(roots: u8, path: &PortPath) -> bool
+    ensures { result ≡ is_rooted roots path.now }
+{
+    path.numbers()[0] <= roots
+}
+
+/// Whether the place is at the path or below it.
+fn goes_through(place: &PortPath, path: &PortPath) -> bool
+    ensures { result ≡ starts_with nat_eq place.now path.now }
+{
+    place.numbers().starts_with(path.numbers())
+}
+
+fn device_of(devices: &[DeviceSpec], index: Option<usize>) -> Option<&DeviceSpec>
+    ensures { option_map (λ d. d.now) result ≡ device_of devices.now index }
+{
+    match index {
+        None => None,
+        Some(index) => devices.get(index),
+    }
+}
+
+/// How many ports the device has.
+#[tactic(auto, unfolding(usb_bus::specs::Plugged::port_count))]
+fn port_count(device: Option<&DeviceSpec>) -> u8
+    ensures { result ≡ port_count (option_map (λ d. d.now) device.entry) }
+{
+    match device {
+        None => 0,
+        Some(_) => 0,
+    }
+}
