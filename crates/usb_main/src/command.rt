@@ -23,7 +23,7 @@ const LIMIT: u8 = 3;
 pub const FAILED: u8 = 4;
 
 /// Does what the program's words ask for, and answers the exit status.
-pub fn serve_words<R: Env + Files + Input + Print + Eprint + AllocGlobal>(
+pub(crate) fn serve_words<R: Env + Files + Input + Print + Eprint + AllocGlobal>(
     rt: &R,
 ) -> io::Result<u8> {
     let alloc = rt.alloc();
