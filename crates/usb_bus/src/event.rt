@@ -64,6 +64,7 @@ pub enum Action {
 /// What happens, and how many attempts after the former event, or after the start.
 #[derive(Debug, Drop)]
 pub struct Event {
+    /// In attempts.
     pub after: u64,
     pub action: Action,
 }

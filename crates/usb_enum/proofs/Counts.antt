@@ -1,5 +1,5 @@
 -- How the counts of an enumeration's parts join.
-use Rattle.std.proofs.Common.{◌≡◌, refl, subst, arith}
+use Rattle.std.proofs.Common.{subst, arith}
 use Rattle.std.specs.Prelude.{ℕ, ◌+◌, ◌*◌, ◌≤◌}
 use Rattle.usb_bus.specs.World.{World, Spends}
 use Rattle.usb_bus.proofs.Counts.{spends_then, spends_wider}

@@ -1,6 +1,6 @@
 -- What clearing PORT_ENABLE leaves.
-use Rattle.std.proofs.Common.{◌≡◌, refl, sym, subst, arith, ◌∙◌, ap}
-use Rattle.std.specs.Prelude.{ℕ, ◌-◌, ◌<◌, Result, false, slice_index_or, slice_set}
+use Rattle.std.proofs.Common.{◌≡◌, refl, sym, subst, arith}
+use Rattle.std.specs.Prelude.{ℕ, ◌-◌, Result, false}
 use Rattle.std.proofs.Common.{get_or-set_same}
 use Rattle.usb_port.specs.PortState.{PortState, off}
 use Rattle.usb_bus.specs.World.{World, IsRootPort, port_at, with_port}

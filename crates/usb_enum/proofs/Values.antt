@@ -1,5 +1,5 @@
 -- Texts whose values differ, one by one.
-use Rattle.std.proofs.Common.{◌≡◌, ◌≢◌, refl, sym, subst, arith}
+use Rattle.std.proofs.Common.{◌≡◌, refl, arith}
 use Rattle.std.specs.Prelude.{ℕ, List, [], ◌∷◌, ◌++◌, Bool, true, false, ◌||◌, ◌==◌}
 use Rattle.usb_descriptor.specs.Config.{configuration_value}
 use Rattle.usb_enum.specs.Text.{has_value, ValuesDiffer}

@@ -1,10 +1,10 @@
 //! The configurations of a device: each is read, and one is chosen.
-ghost use Rattle.std.specs.Prelude.{◌≡◌, ◌≤◌, ◌<◌, ◌*◌, ℕ, List, length, position, nat_le, Some, IfOk, IfErr, IfSome};
+ghost use Rattle.std.specs.Prelude.{◌≡◌, ◌≤◌, ◌<◌, ◌*◌, length, Some, IfOk, IfErr, IfSome};
 ghost use Rattle.usb_bus.specs.World.{Spends};
 ghost use Rattle.usb_transaction.specs.Trans.{IsTarget};
 ghost use Rattle.usb_enum.specs.Bounds.{read_bound, configuration_bound};
 ghost use Rattle.usb_enum.specs.Stop.{Told};
-ghost use Rattle.usb_enum.specs.Text.{ValuesDiffer, choice_of, needs_of};
+ghost use Rattle.usb_enum.specs.Text.{ValuesDiffer, choice_of};
 
 use crate::stop::{Stop, answered_or};
 use crate::{Cause, ConfigText, ConfigTexts, Request};

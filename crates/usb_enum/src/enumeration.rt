@@ -1,27 +1,22 @@
 //! The whole enumeration.
-ghost use Rattle.std.specs.Prelude.{◌≡◌, ◌≢◌, ◌≤◌, ◌<◌, IfOk, IfErr, Err, Some};
+ghost use Rattle.std.specs.Prelude.{◌≡◌, IfOk, IfErr};
 ghost use Rattle.usb_bus.specs.World.{Spends};
-ghost use Rattle.usb_transaction.specs.Trans.{IsTarget};
 ghost use Rattle.usb_hub.specs.Port.{IsPort};
-ghost use Rattle.usb_resources.specs.Pool.{Takes};
 ghost use Rattle.usb_enum.specs.Bounds.{read_bound, enumeration_bound, configured_bound};
 ghost use Rattle.usb_enum.specs.Stop.{FaultTold, ToldIn, ToldWithout};
 ghost use Rattle.usb_enum.specs.Found.{GivesUp, IsFound, IsWhole, TakesFor};
 
+use crate::addressed::Addressed;
 use crate::configurations::{choose_configuration, read_configurations};
-use crate::passes::{Addressed, passes, unaddressed};
+use crate::passes::{passes, unaddressed};
 use crate::stop::{Stop, answered_or, at_port};
-use crate::strings::{StringIndexes, read_strings};
-use crate::{Accepted, Cause, ConfigTexts, EnumFault, Finding, Request};
+use crate::strings::read_strings;
+use crate::{Accepted, Cause, EnumFault, Finding, Request};
 use std::alloc::Global;
 use usb_bus::Bus;
 use usb_hub::{HubPort, clear_port, set_configuration};
 use usb_request::feature::PORT_ENABLE;
 use usb_resources::{Address, AddressPool};
-use usb_transaction::Target;
-
-/// bDeviceClass of a hub (11.23.1).
-const HUB_CLASS: u8 = 9;
 
 /// The last tier in which a device may stand (4.1.1).
 const LAST_TIER: u8 = 7;
@@ -129,12 +124,11 @@ fn configure<B: Bus>(
     ensures address { IfOk result (λ accepted. accepted.address ≡ address) }
     ensures whole { IfOk result (λ accepted. IsWhole supply accepted) }
 {
-    let Addressed { target, bytes } = device;
-    let is_hub = bytes[4] == HUB_CLASS;
-    if is_hub && tier == LAST_TIER {
+    let target = device.target;
+    if device.is_hub() && tier == LAST_TIER {
         return Err(Stop::Refused(Cause::TooDeep));
     }
-    let configs = read_configurations(alloc, bus, target, bytes[17])?;
+    let configs = read_configurations(alloc, bus, target, device.configurations())?;
     let Some(chosen) = choose_configuration(alloc, &configs, supply)? else {
         return Err(Stop::Refused(Cause::NoPower));
     };
@@ -142,25 +136,16 @@ fn configure<B: Bus>(
     let stalled = Cause::Stalled(Request::SetConfig);
     answered_or(stalled, set_configuration(bus, target, value))?;
     // hubs are not served yet
-    if is_hub {
+    if device.is_hub() {
         return Err(Stop::Refused(Cause::BadHub));
     }
-    let strings = read_strings(alloc, bus, target, string_indexes(&bytes))?;
+    let strings = read_strings(alloc, bus, target, device.string_indexes())?;
     Ok(Accepted {
         address,
         low: target.low,
-        bytes,
+        bytes: device.bytes,
         configs,
         chosen,
         strings,
     })
-}
-
-/// The indexes of the strings that a device descriptor names.
-fn string_indexes(bytes: &[u8; 18]) -> StringIndexes {
-    StringIndexes {
-        manufacturer: bytes[14],
-        product: bytes[15],
-        serial_number: bytes[16],
-    }
 }

@@ -15,15 +15,15 @@ pub enum Finding {
 }
 
 /// A device that is configured.
-///
-/// `low` says that it is a low-speed device, `bytes` is its device descriptor, and `chosen` the
-/// index in `configs` of the configuration that it was set to.
 #[derive(Drop)]
 pub struct Accepted {
     pub address: Address,
+    /// Whether it is a low-speed device.
     pub low: bool,
+    /// Its device descriptor (9.6.1).
     pub bytes: [u8; 18],
     pub configs: ConfigTexts,
+    /// The index in `configs` of the configuration that it was set to.
     pub chosen: usize,
     pub strings: Strings,
     ghost chosen_in: { chosen < length configs },

@@ -2,6 +2,7 @@
 //! it is refused with a cause (9.1.2, 9.4 and 9.6).
 #![tactic(auto)]
 
+mod addressed;
 mod cause;
 mod configurations;
 mod enumeration;

@@ -1,12 +1,13 @@
 //! The steps up to a device that has its address and has given its device descriptor.
-ghost use Rattle.std.specs.Prelude.{◌≡◌, ◌≤◌, ◌<◌, ◌*◌, IfOk, IfErr, IfSome, true};
+ghost use Rattle.std.specs.Prelude.{◌≡◌, ◌≤◌, ◌<◌, ◌*◌, IfOk, IfErr, IfSome, true, ◌&&◌};
 ghost use Rattle.usb_bus.specs.World.{Spends};
 ghost use Rattle.usb_hub.specs.Port.{IsPort};
 ghost use Rattle.usb_transaction.specs.Trans.{IsTarget};
-ghost use Rattle.usb_enum.specs.Bounds.{pass_bound, read_bound, none_bound};
+ghost use Rattle.usb_enum.specs.Bounds.{pass_bound, read_bound};
 ghost use Rattle.usb_enum.specs.Stop.{Told};
-ghost use Rattle.usb_enum.specs.Device.{device_bytes, is_device};
+ghost use Rattle.usb_enum.specs.Device.{device_bytes, is_device, needs_pre};
 
+use crate::addressed::Addressed;
 use crate::stop::{Stop, answered_or, at_port};
 use crate::{Cause, Request};
 use std::alloc::Global;
@@ -16,16 +17,6 @@ use usb_hub::{HubPort, clear_port, get_device, port_status, set_address, set_por
 use usb_pipe::PipeFault;
 use usb_request::feature::{C_PORT_RESET, PORT_RESET};
 use usb_transaction::Target;
-
-/// A device that has its address, and its device descriptor.
-#[derive(Drop)]
-pub(crate) struct Addressed {
-    pub target: Target,
-    pub bytes: [u8; 18],
-    ghost target_fits: { IsTarget target },
-    ghost target_max: { 8 ≤ target.max },
-    ghost device: { is_device target.low bytes ≡ true },
-}
 
 /// Resets the port (11.5.1.5), and tells whether a low-speed device is there.
 fn reset<B: Bus>(alloc: Global, bus: &mut B, port: HubPort) -> Result<bool, Stop>
@@ -45,7 +36,9 @@ fn reset<B: Bus>(alloc: Global, bus: &mut B, port: HubPort) -> Result<bool, Stop
 }
 
 /// Whether PRE goes before packets to a low-speed device at the port (8.6.5).
-fn needs_pre(port: HubPort) -> bool {
+fn needs_pre(port: HubPort) -> bool
+    ensures { result ≡ needs_pre port }
+{
     match port {
         HubPort::Root(_) => false,
     }
@@ -108,6 +101,7 @@ pub(crate) fn unaddressed<B: Bus>(alloc: Global, bus: &mut B, port: HubPort) -> 
     ensures told { IfErr result (λ stop. Told stop (B.world bus.new)) }
     ensures target { IfOk result (λ target. IsTarget target) }
     ensures max { IfOk result (λ target. 8 ≤ target.max) }
+    ensures pre { IfOk result (λ target. target.pre ≡ (target.low && needs_pre port)) }
 {
     let low = reset(alloc, bus, port)?;
     let pre = low && needs_pre(port);

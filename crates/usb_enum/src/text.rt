@@ -1,6 +1,6 @@
 //! Texts of configurations and strings, as lists.
-ghost use Rattle.std.specs.Prelude.{◌≡◌, ◌<◌, ◌*◌, ◌++◌, [], ◌∷◌, List, ℕ, length, OnOk, OnErr, IfOk, vec_len, IfSome, IsSome, Ok, slice_index_or, map};
-ghost use Rattle.usb_descriptor.specs.Config.{HasConfig, config_of, configuration_value, max_power_of};
+ghost use Rattle.std.specs.Prelude.{◌≡◌, ◌<◌, ◌++◌, [], ◌∷◌, length, OnOk, OnErr, IfOk, vec_len};
+ghost use Rattle.usb_descriptor.specs.Config.{HasConfig, configuration_value};
 ghost use Rattle.usb_enum.specs.Text.{config_text_of, has_value, need_of, needs_of};
 
 use std::alloc::{AllocError, Global};
@@ -26,7 +26,7 @@ impl Model for ConfigText {
 
 impl ConfigText {
     /// The text, or `None` where the bytes are no configuration text.
-    pub fn new(bytes: Vec<u8>) -> Option<ConfigText>
+    pub(crate) fn new(bytes: Vec<u8>) -> Option<ConfigText>
         ensures { result ≡ config_text_of bytes.items }
     {
         if read_config(bytes.as_slice()).is_err() {
@@ -35,6 +35,7 @@ impl ConfigText {
         Some(ConfigText { bytes })
     }
 
+    /// The bytes of the text.
     pub fn as_slice(&self) -> &[u8]
         ensures value { result.now ≡ self.now }
         ensures text { HasConfig self.now }
@@ -42,7 +43,7 @@ impl ConfigText {
         self.bytes.as_slice()
     }
 
-    /// bConfigurationValue.
+    /// bConfigurationValue, by which SET_CONFIGURATION names the configuration.
     #[tactic(auto, using(usb_descriptor::proofs::Texts::header_of))]
     pub fn value(&self) -> u8
         ensures { result ≡ configuration_value self.now }
@@ -50,7 +51,7 @@ impl ConfigText {
         self.bytes[5]
     }
 
-    /// What the configuration needs, in mA.
+    /// What the configuration needs, in mA: twice bMaxPower.
     #[tactic(auto, using(usb_descriptor::proofs::Texts::header_of))]
     pub fn need(&self) -> u16
         ensures { result ≡ need_of self.now }
@@ -58,6 +59,7 @@ impl ConfigText {
         2 * u16::from(self.bytes[8])
     }
 
+    /// A second text of the same bytes.
     pub fn try_clone(&self, alloc: Global) -> Result<ConfigText, AllocError>
         ensures { IfOk result (λ text. text ≡ self.now) }
     {
@@ -82,7 +84,7 @@ impl Model for ConfigTexts {
 
 impl ConfigTexts {
     /// No texts.
-    pub fn new(alloc: Global) -> Self
+    pub(crate) fn new(alloc: Global) -> Self
         ensures { result ≡ [] }
     {
         ConfigTexts {
@@ -90,13 +92,15 @@ impl ConfigTexts {
         }
     }
 
-    pub fn push(&mut self, text: ConfigText) -> Result<(), AllocError>
+    /// Adds the text of the next index.
+    pub(crate) fn push(&mut self, text: ConfigText) -> Result<(), AllocError>
         ensures ok { OnOk result (self.new ≡ self.old ++ text ∷ []) }
         ensures err { OnErr result (self.new ≡ self.old) }
     {
         Ok(self.texts.push(text)?)
     }
 
+    /// The texts, by their index.
     pub fn as_slice(&self) -> &[ConfigText]
         ensures { result.now ≡ self.now }
     {
@@ -115,7 +119,7 @@ impl ConfigTexts {
     }
 
     /// Whether one of them has this bConfigurationValue.
-    pub fn has_value(&self, value: u8) -> bool
+    pub(crate) fn has_value(&self, value: u8) -> bool
         ensures { result ≡ has_value value self.now }
     {
         self.texts.iter().any(|text| text.value() == value)
@@ -123,7 +127,7 @@ impl ConfigTexts {
 
     /// What each of them needs, in mA.
     #[tactic(auto, unfolding(crate::specs::Text::needs_of))]
-    pub fn needs(&self, alloc: Global) -> Result<Vec<u16>, AllocError>
+    pub(crate) fn needs(&self, alloc: Global) -> Result<Vec<u16>, AllocError>
         ensures value { IfOk result (λ needs. needs.items ≡ needs_of self.now) }
         ensures each { IfOk result (λ needs. vec_len needs ≡ length self.now) }
     {
@@ -146,18 +150,20 @@ impl Model for StringUnits {
 }
 
 impl StringUnits {
-    pub fn new(units: Vec<u16>) -> Self
+    pub(crate) fn new(units: Vec<u16>) -> Self
         ensures { result ≡ units.items }
     {
         StringUnits { units }
     }
 
+    /// The units, in order.
     pub fn as_slice(&self) -> &[u16]
         ensures { result.now ≡ self.now }
     {
         self.units.as_slice()
     }
 
+    /// A second string of the same units.
     pub fn try_clone(&self, alloc: Global) -> Result<StringUnits, AllocError>
         ensures { IfOk result (λ units. units ≡ self.now) }
     {

@@ -1,4 +1,3 @@
-use Rattle.std.proofs.Common.{arith}
 use Rattle.usb_enum.proofs.Counts.{text_spends}
 use Rattle.usb_enum.proofs.configurations.read_text.Goals as goal
 

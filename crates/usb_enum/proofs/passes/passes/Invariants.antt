@@ -1,6 +1,5 @@
-use Rattle.std.proofs.Common.{◌≡◌, ◌*◌}
+use Rattle.std.proofs.Common.{◌*◌}
 use Rattle.usb_bus.specs.World.{Spends}
-use Rattle.usb_hub.specs.Port.{IsPort}
 use Rattle.usb_enum.specs.Bounds.{pass_bound}
 use Rattle.usb_enum.proofs.passes.passes.Given as goal
 

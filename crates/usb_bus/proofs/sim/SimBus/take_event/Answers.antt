@@ -9,7 +9,7 @@ returns-clause-exact g c =
     let e = c.index-as_slice-self.result in
     let split = events_split s.events c.as_slice.result.now s.taken e c.as_slice.ensures.value (omega arith) c.index-as_slice-self.is in
     let roots = done_lent s.roots c.deref_mut.result.now c.carry_out.new.roots c.deref.result.now s.devices.items e.action (omega arith)
-        c.in_ok-carry_out.ensures.ok c.deref.ensures.value c.deref_mut.ensures.value in
+    c.in_ok-carry_out.ensures.ok c.deref.ensures.value c.deref_mut.ensures.value in
     came (simulation_of s) _ e _ split roots refl refl refl refl
 
 pub returns-in_err-put_action-clause-cut : goal.returns-in_err-put_action-clause-cut
@@ -18,7 +18,7 @@ returns-in_err-put_action-clause-cut g c = λ _.
     let e = c.index-as_slice-self.result in
     let split = events_split s.events c.as_slice.result.now s.taken e c.as_slice.ensures.value (omega arith) c.index-as_slice-self.is in
     let roots = done_lent s.roots c.deref_mut.result.now c.carry_out.new.roots c.deref.result.now s.devices.items e.action (omega arith)
-        c.in_ok-carry_out.ensures.ok c.deref.ensures.value c.deref_mut.ensures.value in
+    c.in_ok-carry_out.ensures.ok c.deref.ensures.value c.deref_mut.ensures.value in
     came (simulation_of s) _ e _ split roots refl refl refl refl
 
 pub returns-clause-line : goal.returns-clause-line

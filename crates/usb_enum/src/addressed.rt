@@ -1,0 +1,47 @@
+//! A device that has its address.
+ghost use Rattle.std.specs.Prelude.{◌≡◌, ◌≤◌, ◌==◌, true};
+ghost use Rattle.usb_transaction.specs.Trans.{IsTarget};
+ghost use Rattle.usb_descriptor.specs.Device.{device_class, configuration_count};
+ghost use Rattle.usb_enum.specs.Device.{is_device, string_indexes};
+
+use crate::strings::StringIndexes;
+use usb_transaction::Target;
+
+/// bDeviceClass of a hub (11.23.1).
+const HUB_CLASS: u8 = 9;
+
+/// A device that has its address, and its device descriptor.
+#[derive(Drop)]
+pub(crate) struct Addressed {
+    pub target: Target,
+    pub bytes: [u8; 18],
+    ghost target_fits: { IsTarget target },
+    ghost target_max: { 8 ≤ target.max },
+    ghost device: { is_device target.low bytes ≡ true },
+}
+
+impl Addressed {
+    pub fn is_hub(&self) -> bool
+        ensures { result ≡ (device_class self.now.bytes == 9) }
+    {
+        self.bytes[4] == HUB_CLASS
+    }
+
+    /// How many configurations the device has.
+    pub fn configurations(&self) -> u8
+        ensures { result ≡ configuration_count self.now.bytes }
+    {
+        self.bytes[17]
+    }
+
+    /// The indexes of the device's strings.
+    pub fn string_indexes(&self) -> StringIndexes
+        ensures { result ≡ string_indexes self.now.bytes }
+    {
+        StringIndexes {
+            manufacturer: self.bytes[14],
+            product: self.bytes[15],
+            serial_number: self.bytes[16],
+        }
+    }
+}
