@@ -139,7 +139,7 @@ fn serve_reader<R: Print + Eprint + AllocGlobal, I: Read + Drop>(
 fn serve_status(fault: ServeFault) -> u8 {
     match fault {
         ServeFault::Plan(PlanFault::Memory) => FAILED,
-        ServeFault::TooLong | ServeFault::Plan(_) => REFUSED,
+        ServeFault::TooLong | ServeFault::Plan(_) | ServeFault::NotServed(_) => REFUSED,
         ServeFault::Run(RunFault::LimitReached) => LIMIT,
         ServeFault::Read | ServeFault::Run(_) | ServeFault::Write | ServeFault::Memory => FAILED,
     }
