@@ -1,3 +1,4 @@
+pub mod Balances
 pub mod Openings
 pub mod Powers
 pub mod Quiets

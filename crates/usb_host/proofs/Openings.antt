@@ -6,7 +6,6 @@ use Rattle.usb_bus.specs.World.{World}
 use Rattle.usb_resources.specs.Pool.{Addresses}
 use Rattle.usb_host.specs.Entries.{Entries}
 use Rattle.usb_host.specs.Hosting.{Hosting, opening}
-use Rattle.usb_host.proofs.Powers.{powered_all, powered_world}
 
 abbrev going : World → Entries → Addresses → Hosting
 going w entries addresses = record { world = w; entries = entries; addresses = addresses; stopped = false }

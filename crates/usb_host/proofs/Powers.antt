@@ -1,7 +1,7 @@
 -- The root ports get power one by one.
-use Rattle.std.proofs.Common.{◌≡◌, ◌∙◌, refl, ap, arith, subst, sym, suc, zero}
-use Rattle.std.specs.Prelude.{ℕ, ◌+◌, ◌-◌, ◌<◌, ◌≤◌, List, [], ◌∷◌, length, map, slice_set, slice_index_or}
-use Rattle.usb_port.specs.PortState.{PortState, off, powered_on, set_row}
+use Rattle.std.proofs.Common.{◌≡◌, ◌∙◌, refl, ap, arith, suc, zero}
+use Rattle.std.specs.Prelude.{ℕ, ◌-◌, ◌<◌, ◌≤◌, List, [], ◌∷◌, length, map, slice_set, slice_index_or}
+use Rattle.usb_port.specs.PortState.{PortState, off, powered_on}
 use Rattle.usb_bus.specs.World.{World, SetsRoot, port_at, with_port}
 
 -- the first so many ports have power

@@ -1,5 +1,5 @@
 -- Ports none of which has its change bit set.
-use Rattle.std.proofs.Common.{◌≡◌, ◌∙◌, refl, ap, arith, subst, sym, suc, zero, false}
+use Rattle.std.proofs.Common.{◌≡◌, refl, arith, subst, suc, zero, false}
 use Rattle.std.specs.Prelude.{ℕ, ◌+◌, ◌-◌, ◌<◌, ◌≤◌, List, [], ◌∷◌, length, slice_index_or}
 use Rattle.usb_port.specs.PortState.{PortState, off}
 use Rattle.usb_bus.specs.World.{World, port_at, change_of, changes}

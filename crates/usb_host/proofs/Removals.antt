@@ -1,11 +1,13 @@
 -- Entries that are taken out.
-use Rattle.std.proofs.Common.{◌≡◌, refl, arith, subst, sym}
-use Rattle.std.specs.Prelude.{ℕ, ◌+◌, ◌<◌, List, [], ◌∷◌, length, Bool, true, false, cond, Option, Some, None}
+use Rattle.std.proofs.Common.{◌≡◌, ◌∙◌, refl, ap, arith, subst, sym}
+use Rattle.std.specs.Prelude.{ℕ, ◌+◌, List, [], ◌∷◌, length, Bool, true, false, cond, not, ◌||◌, Some}
+use Rattle.std.specs.List.{filter}
+use Rattle.std.specs.Cmp.Lexicographic.{same_text, texts_ties}
 use Rattle.std.specs.Map.{lookup, remove_entry}
 use Rattle.std.specs.BTreeMap.{is_at}
 use Rattle.usb_port.specs.Order.{path_cmp}
 use Rattle.usb_enum.specs.declared.finding.Finding.{Finding}
-use Rattle.usb_host.specs.Entries.{Entries, TakesOut}
+use Rattle.usb_host.specs.Entries.{Entries, TakesOut, has_at, is_at_or_below, without}
 
 length_without : (test : List ℕ → Bool) (es : Entries) (v : Finding) → lookup test es ≡ Some v → length (remove_entry test es) + 1 ≡ length es
 length_without test [] v h = absurd cc
@@ -17,3 +19,35 @@ length_without test (e ∷ es) v h =
 
 pub takes_one : (path : List ℕ) (finding : Finding) (old new : Entries) → TakesOut path finding old new → length new + 1 ≡ length old
 takes_one path finding old new t = subst (λ es. length es + 1 ≡ length old) (sym t.rest) (length_without (is_at (path_cmp t.first)) old finding t.found)
+
+-- a taken entry stood at the path or below it, so that what stands elsewhere is as before
+kept_step : (keep : List ℕ → Bool) (e : List ℕ × Finding) (es rest : Entries) (b : Bool) → (b ≡ true → keep e.0 ≡ false) → filter (λ d. keep d.0) rest ≡ filter (λ d. keep d.0) es
+    → filter (λ d. keep d.0) (cond b es (e ∷ rest)) ≡ filter (λ d. keep d.0) (e ∷ es)
+kept_step keep e es rest true goes more = rw (goes refl) refl
+kept_step keep e es rest false goes more = ap (λ l. cond (keep e.0) (e ∷ l) l) more
+
+kept_apart : (keep test : List ℕ → Bool) → ((q : List ℕ) → test q ≡ true → keep q ≡ false) → (es : Entries) → filter (λ d. keep d.0) (remove_entry test es) ≡ filter (λ d. keep d.0) es
+kept_apart keep test goes [] = refl
+kept_apart keep test goes (e ∷ es) = kept_step keep e es (remove_entry test es) (test e.0) (goes e.0) (kept_apart keep test goes es)
+
+same_path : (first q : List ℕ) → is_at (path_cmp first) q ≡ true → first ≡ q
+same_path first q tie = same_text first q (sym (texts_ties first q ∙ tie))
+
+pub taken_apart : (path : List ℕ) (finding : Finding) (old new : Entries) → TakesOut path finding old new → without path new ≡ without path old
+taken_apart path finding old new t =
+    ap (without path) t.rest
+    ∙ kept_apart (λ q. not (is_at_or_below q path)) (is_at (path_cmp t.first))
+    (λ q tie. subst (λ r. not (is_at_or_below r path) ≡ false) (same_path t.first q tie) (rw t.at refl)) old
+
+rest_false : (b c : Bool) → (b || c) ≡ false → c ≡ false
+rest_false true c h = cc
+rest_false false c h = h
+
+first_false : (b c : Bool) → (b || c) ≡ false → b ≡ false
+first_false true c h = cc
+first_false false c h = refl
+
+pub none_apart : (path : List ℕ) (es : Entries) → has_at path es ≡ false → without path es ≡ es
+none_apart path [] h = refl
+none_apart path (e ∷ es) h =
+    rw (first_false (is_at_or_below e.0 path) (has_at path es) h) (ap (λ l. e ∷ l) (none_apart path es (rest_false (is_at_or_below e.0 path) (has_at path es) h)))

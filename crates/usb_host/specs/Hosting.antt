@@ -1,5 +1,5 @@
 -- A host, as its callers see it.
-use Rattle.std.specs.Prelude.{◌≡◌, ℕ, ◌+◌, Bool, false, List, [], map}
+use Rattle.std.specs.Prelude.{◌≡◌, ℕ, ◌+◌, Bool, false, [], map}
 use Rattle.std.specs.FinSet as set
 use Rattle.usb_port.specs.PortState.{powered_on}
 use Rattle.usb_bus.specs.World.{World, changes}

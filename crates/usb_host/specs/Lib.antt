@@ -1,3 +1,4 @@
+pub mod Accounts
 pub mod Entries
 pub mod Hosting
 pub mod Told

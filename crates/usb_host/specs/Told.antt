@@ -1,8 +1,6 @@
 -- What a fault of the host says of the bus.
 use Rattle.std.specs.Prelude.{⊤}
 use Rattle.usb_bus.specs.World.{World, Failed}
-use Rattle.usb_enum.specs.declared.fault.EnumFault.{EnumFault}
-use Rattle.usb_enum.specs.declared.fault.EnumFault.TheVariants as found
 use Rattle.usb_host.specs.declared.fault.HostFault.{HostFault}
 use Rattle.usb_host.specs.declared.fault.HostFault.TheVariants.{Stopped, Bus, Memory}
 

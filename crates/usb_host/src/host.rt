@@ -1,16 +1,21 @@
 //! The host's rounds.
-ghost use Rattle.std.specs.Prelude.{◌≡◌, ◌≢◌, ◌≤◌, ◌<◌, ◌+◌, ◌*◌, ◌↔◌, ℕ, [], true, false, length, map, IsTrue, IsErrOf, OnOk, OnErr, IfOk, IfErr, IsErr, Ok, Err};
+ghost use Rattle.std.specs.Prelude.{◌≡◌, ◌≢◌, ◌≤◌, ◌<◌, ◌+◌, ◌*◌, ◌↔◌, ℕ, [], ◌∷◌, true, false, length, map, IsTrue, IsErrOf, OnOk, OnErr, IfOk, IfErr, IsErr, Ok, Err};
 ghost use Rattle.std.specs.Borrow.{Lends, sem};
 ghost use Rattle.std.specs.FinSet as set;
 ghost use Rattle.usb_bus.specs.World.{World, Spends, IsRootPort, IsClearFeature, changes, port_at};
 ghost use Rattle.usb_hub.specs.Status.{Shows};
 ghost use Rattle.usb_enum.specs.Bounds.{enumeration_bound};
-ghost use Rattle.usb_host.specs.Entries.{has_at};
+ghost use Rattle.std.specs.BTreeMap.{insert_entry};
+ghost use Rattle.usb_port.specs.Order.{path_cmp};
+ghost use Rattle.usb_port.specs.Path.{IsPortNumber};
+ghost use Rattle.usb_enum.specs.declared.finding.Finding.{Finding};
+ghost use Rattle.usb_host.specs.Accounts.{Accounts, ClaimsIfFound, address_of};
+ghost use Rattle.usb_host.specs.Entries.{has_at, without, Rises, Replaced};
 ghost use Rattle.usb_host.specs.Hosting.{Hosting, opening, work, Frees};
 ghost use Rattle.usb_host.specs.Told.{HostTold};
 
 use crate::{DeviceTable, HostFault, Tree};
-use std::alloc::Global;
+use std::alloc::{AllocError, Global};
 use std::marker::Model;
 use usb_bus::Bus;
 use usb_enum::{EnumFault, Finding, enumerate};
@@ -19,7 +24,7 @@ use usb_port::PortPath;
 use usb_request::feature::{
     C_PORT_CONNECTION, C_PORT_ENABLE, C_PORT_RESET, PORT_ENABLE, PORT_POWER,
 };
-use usb_resources::{AddressPool, supply};
+use usb_resources::{Address, AddressPool, supply};
 
 /// The tier of a device at a root port; the root hub is tier 1 (4.1.1).
 const ROOT_TIER: u8 = 2;
@@ -47,6 +52,7 @@ impl<B: Bus> Model for Host<B> {
     ghost use Rattle.std.specs.Coded.{codes, coded_ℕ};
     ghost use Rattle.std.specs.FinSet as set;
     ghost use Rattle.std.specs.Ordering.{nat_cmp};
+    ghost use Rattle.usb_host.specs.Accounts.{Accounts};
     ghost use Rattle.usb_host.specs.Hosting.{Hosting};
 
     ghost coded = { Prim.hlevel (codes, set.code {R = nat_cmp} coded_ℕ) };
@@ -54,6 +60,8 @@ impl<B: Bus> Model for Host<B> {
     ghost Value = { Hosting };
 
     ghost view = { λ h. record { world = B.world h.bus; entries = h.table; addresses = h.pool; stopped = h.stopped } };
+
+    ghost invariant = { λ h. Accounts h.table h.pool };
 }
 
 impl<B: Bus> Host<B> {
@@ -114,6 +122,8 @@ impl<B: Bus> Host<B> {
     pub fn tree(&self) -> Result<Tree, HostFault>
         ensures entries { IfOk result (λ tree. tree ≡ self.now.entries) }
         ensures memory { IfErr result (λ fault. fault ≡ HostFault.Memory) }
+        ensures rising { Rises self.now.entries }
+        ensures accounts { Accounts self.now.entries self.now.addresses }
     {
         Ok(Tree::new(self.table.entries(self.alloc)?))
     }
@@ -194,7 +204,8 @@ impl<B: Bus> Host<B> {
 
     /// Handles a root port.
     fn handle(&mut self, port: u8) -> Result<(), HostFault>
-        requires { IsRootPort self.old.world port }
+        requires port { IsRootPort self.old.world port }
+        requires number { IsPortNumber port }
         ensures going { self.new.stopped ≡ self.old.stopped }
         ensures started { result ≢ Err HostFault.Stopped }
         ensures spends { Spends enumeration_bound self.old.world self.new.world }
@@ -226,71 +237,121 @@ impl<B: Bus> Host<B> {
 
     /// Forgets what was found at a root port, and finds what is there now.
     fn renew(&mut self, port: u8) -> Result<(), HostFault>
-        requires { IsRootPort self.old.world port }
+        requires port { IsRootPort self.old.world port }
+        requires number { IsPortNumber port }
         ensures going { self.new.stopped ≡ self.old.stopped }
         ensures started { result ≢ Err HostFault.Stopped }
         ensures spends { Spends enumeration_bound self.old.world self.new.world }
         ensures told { IfErr result (λ fault. HostTold fault self.new.world) }
+        ensures entries { Replaced (port ∷ []) (without (port ∷ []) self.old.entries) self.new.entries }
     {
         let status = self.status(port);
         if status.is_enabled() {
             self.clear(port, PORT_ENABLE);
         }
-        let Some(path) = PortPath::root(port) else {
-            // a bus has at most seven root ports
-            return Ok(());
-        };
+        let path = root_path(port);
         self.forget(&path);
         if status.is_connected() {
-            let finding = self.find(port)?;
-            self.table.insert(path, finding)?;
+            self.discover(port, path)?;
         }
         Ok(())
     }
 
     /// Takes out the entries at a path and below it, and releases their addresses.
-    #[tactic(auto, using(crate::proofs::Removals::takes_one))]
+    #[tactic(auto, using(crate::proofs::Removals::takes_one, crate::proofs::Balances::accounts_freed, crate::proofs::Removals::taken_apart, crate::proofs::Removals::none_apart))]
     fn forget(&mut self, path: &PortPath)
         ensures others { self.new ≡ record self.old { entries = self.new.entries; addresses = self.new.addresses } }
         ensures gone { has_at path.now self.new.entries ≡ false }
+        ensures rest { self.new.entries ≡ without path.now self.old.entries }
     {
         'entries: while let Some(finding) = self.table.take_at(path) {
-            release(&mut self.pool, &finding);
+            release(&mut self.pool, address_of(&finding));
         }
     }
 
-    /// Enumerates the device at a root port.
-    fn find(&mut self, port: u8) -> Result<Finding, HostFault>
-        requires { IsRootPort self.old.world port }
-        ensures others { self.new ≡ record self.old { world = self.new.world; addresses = self.new.addresses } }
+    /// Enters what is found at a root port, of which nothing is known.
+    #[tactic(auto, using(crate::proofs::Balances::accounts_entered, crate::proofs::Balances::accounts_back))]
+    fn discover(&mut self, port: u8, path: PortPath) -> Result<(), HostFault>
+        requires port { IsRootPort self.old.world port }
+        requires away { has_at path self.old.entries ≡ false }
+        ensures going { self.new.stopped ≡ self.old.stopped }
         ensures started { result ≢ Err HostFault.Stopped }
         ensures spends { Spends enumeration_bound self.old.world self.new.world }
         ensures told { IfErr result (λ fault. HostTold fault self.new.world) }
+        ensures entries { Replaced path self.old.entries self.new.entries }
     {
-        let port = HubPort::Root(port);
-        let supply = supply(true, false);
-        match enumerate(
-            self.alloc,
-            &mut self.bus,
-            &mut self.pool,
-            port,
-            ROOT_TIER,
-            supply,
-        ) {
-            Ok(finding) => Ok(finding),
-            Err(EnumFault::Bus(fault)) => Err(HostFault::Bus(fault)),
-            Err(EnumFault::Memory) => Err(HostFault::Memory),
-            // a root port is a register, and never fails
-            Err(EnumFault::ParentLost) => unreachable!(),
-        }
+        let finding = find(self.alloc, &mut self.bus, &mut self.pool, port)?;
+        Ok(enter(&mut self.table, &mut self.pool, path, finding)?)
     }
 }
 
-/// Releases the address of a device that was found.
-fn release(pool: &mut AddressPool, finding: &Finding)
-    ensures { Frees finding.now pool.old pool.new }
+/// Enumerates the device at a root port.
+fn find<B: Bus>(
+    alloc: Global,
+    bus: &mut B,
+    pool: &mut AddressPool,
+    port: u8,
+) -> Result<Finding, HostFault>
+    requires { IsRootPort (B.world bus.old) port }
+    ensures pool { ClaimsIfFound result pool.old pool.new }
+    ensures started { result ≢ Err HostFault.Stopped }
+    ensures spends { Spends enumeration_bound (B.world bus.old) (B.world bus.new) }
+    ensures told { IfErr result (λ fault. HostTold fault (B.world bus.new)) }
 {
-    if let Finding::Device(device) = finding {
-        pool.release(device.address);
+    let supply = supply(true, false);
+    match enumerate(alloc, bus, pool, HubPort::Root(port), ROOT_TIER, supply) {
+        Ok(finding) => Ok(finding),
+        Err(EnumFault::Bus(fault)) => Err(HostFault::Bus(fault)),
+        Err(EnumFault::Memory) => Err(HostFault::Memory),
+        // a root port is a register, and never fails
+        Err(EnumFault::ParentLost) => unreachable!(),
+    }
+}
+
+/// The path of a root port.
+fn root_path(number: u8) -> PortPath
+    requires { IsPortNumber number }
+    ensures { result ≡ number ∷ [] }
+{
+    match PortPath::root(number) {
+        Some(path) => path,
+        None => unreachable!(),
+    }
+}
+
+/// Enters a finding. Where memory is refused, its address is released.
+fn enter(
+    table: &mut DeviceTable,
+    pool: &mut AddressPool,
+    path: PortPath,
+    finding: Finding,
+) -> Result<(), AllocError>
+    ensures ok { OnOk result ((table.new ≡ insert_entry path_cmp table.old path finding) × (pool.new ≡ pool.old)) }
+    ensures err { OnErr result ((table.new ≡ table.old) × Frees finding pool.old pool.new) }
+{
+    let address = address_of(&finding);
+    let entered = table.insert(path, finding);
+    if entered.is_err() {
+        release(pool, address);
+    }
+    entered
+}
+
+/// The address of a device that was found.
+fn address_of(finding: &Finding) -> Option<Address>
+    ensures { result ≡ address_of finding.now }
+{
+    match finding {
+        Finding::Device(device) => Some(device.address),
+        Finding::Refused(_) => None,
+    }
+}
+
+/// Releases an address, where there is one.
+fn release(pool: &mut AddressPool, address: Option<Address>)
+    ensures { (finding : Finding) → address_of finding ≡ address → Frees finding pool.old pool.new }
+{
+    if let Some(address) = address {
+        pool.release(address);
     }
 }

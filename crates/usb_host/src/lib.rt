@@ -10,3 +10,6 @@ pub use fault::HostFault;
 pub use host::{Host, Round};
 pub use table::DeviceTable;
 pub use tree::Tree;
+
+#[cfg(test)]
+mod tests;

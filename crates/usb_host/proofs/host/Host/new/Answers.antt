@@ -1,7 +1,8 @@
-use Rattle.std.proofs.Common.{◌≡◌, ◌∙◌, ◌-◌, ◌+◌, ℕ, sym, ap, arith}
+use Rattle.std.proofs.Common.{◌≡◌, ◌∙◌, ◌-◌, ◌+◌, ℕ, ap, arith}
 use Rattle.std.specs.Prelude.{◌≤◌, length}
 use Rattle.usb_bus.specs.World.{World}
 use Rattle.usb_host.proofs.Powers.{powered_none, powered_length, powers_one, powered_all, powered_world}
+use Rattle.usb_host.proofs.Balances.{accounts_none}
 use Rattle.usb_host.proofs.Openings.{opened}
 use Rattle.usb_host.proofs.host.Host.new.Goals as goal
 
@@ -26,3 +27,6 @@ returns g c =
     let w0 : World = g.B.Bus.world c.args.bus in
     let all : c.ports.port - 1 ≡ length w0.ports = omega (arith, c.ports-test.false, c.ports.auto.port-end, c.root_ports-roots.ensures.count, c.root_ports-roots.ensures.least) in
     opened w0 _ _ _ (powered_all w0 _ (c.ports.port - 1) all c.ports.invariant) c.new-2.ensures c.new.ensures.empty
+
+pub invariant_of-result : goal.invariant_of-result
+invariant_of-result g c = rw (c.new-2.ensures, c.new.ensures.empty) accounts_none

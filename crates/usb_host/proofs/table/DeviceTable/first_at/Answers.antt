@@ -1,8 +1,7 @@
 -- The map's look-up finds the entry that the iterator gave.
-use Rattle.std.proofs.Common.{◌≡◌, ◌∙◌, ap, subst, sym, true, Some}
-use Rattle.std.specs.Prelude.{ℕ, List, is_some}
+use Rattle.std.proofs.Common.{◌≡◌, ◌∙◌, ap, Some}
+use Rattle.std.specs.Prelude.{is_some}
 use Rattle.std.specs.BTreeMap as tree
-use Rattle.std.specs.Map.{lookup}
 use Rattle.std.specs.Map.Iter.{deref_pair}
 use Rattle.std.proofs.lemmas.Map.Views.{All-turn}
 use Rattle.usb_port.specs.Order.{path_cmp}

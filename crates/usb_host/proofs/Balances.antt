@@ -1,0 +1,131 @@
+-- How the entries and the taken addresses change together.
+use Rattle.std.proofs.Common.{◌≡◌, ◌≢◌, ◌∙◌, refl, sym, subst, ap, arith, inl, inr, true, false, Bool, ℕ, ◌+◌, cond, List, [], ◌∷◌, ◌||◌, Option, Some}
+use Rattle.std.specs.Prelude.{nat_eq}
+use Rattle.std.specs.List.{sum_by}
+use Rattle.std.specs.Map.{lookup, remove_entry}
+use Rattle.std.specs.BTreeMap.{insert_entry, is_at}
+use Rattle.std.specs.Ordering.{nat_cmp, is_eq, ordering_reverse, match_ordering}
+use Rattle.std.specs.Cmp.Lexicographic.{pointwise, texts_ties, nat_list_cmp_total}
+use Rattle.std.specs.declared.cmp.Ordering.{Ordering}
+use Rattle.std.specs.declared.cmp.Ordering.TheVariants.{Less, Equal, Greater}
+use Rattle.std.specs.FinSet.{empty, contains, contains-empty}
+use Rattle.std.proofs.lemmas.Bool.{eq-eqb, ne_eqb, cases_order}
+use Rattle.std.proofs.lemmas.List.Sums.{sum_by-cons}
+use Rattle.usb_port.specs.Order.{path_cmp}
+use Rattle.usb_resources.specs.Pool.{Addresses}
+use Rattle.usb_enum.specs.declared.finding.Finding.{Finding}
+use Rattle.usb_enum.specs.declared.finding.Finding.TheVariants.{Device, Refused}
+use Rattle.usb_host.specs.Accounts.{Accounts, Claims, has_address}
+use Rattle.usb_host.specs.Entries.{Entries, TakesOut, has_at, is_at_or_below}
+use Rattle.usb_host.specs.Hosting.{Frees}
+
+one : Bool → ℕ
+one b = cond b 1 0
+
+count : ℕ → Entries → ℕ
+count a es = sum_by (λ e. cond (has_address a e.1) 1 0) es
+
+count-cons : (a : ℕ) (e : List ℕ × Finding) (es : Entries) → count a (e ∷ es) ≡ one (has_address a e.1) + count a es
+unfolding count one
+count-cons a e es = sum_by-cons (λ d. cond (has_address a d.1) 1 0) e es
+
+neither : (a b : Bool) → (a || b) ≡ false → (a ≡ false) × (b ≡ false)
+neither true b h = cc
+neither false b h = (refl, h)
+
+tied_back : (o : Ordering) → ordering_reverse o ≡ Equal → is_eq o ≡ true
+tied_back Less h = cc
+tied_back Equal h = refl
+tied_back Greater h = cc
+
+-- a path that stands nowhere is no entry's
+not_tied : (path first : List ℕ) → is_at_or_below first path ≡ false → path_cmp path first ≡ Equal → ⊥
+not_tied path first h e =
+    let tie : is_eq (path_cmp first path) ≡ true = tied_back (path_cmp first path) (sym (nat_list_cmp_total.antisymm path first) ∙ e) in
+    let no : pointwise nat_eq first path ≡ false = (neither _ _ h).0 in
+    let yes : pointwise nat_eq first path ≡ true = texts_ties first path ∙ tie in
+    cc
+
+insert_step : (a : ℕ) (path : List ℕ) (f : Finding) (e : List ℕ × Finding) (es : Entries) (o : Ordering) → path_cmp path e.0 ≡ o → is_at_or_below e.0 path ≡ false
+    → count a (insert_entry path_cmp es path f) ≡ one (has_address a f) + count a es
+    → count a (match_ordering o ((path, f) ∷ e ∷ es) ((e.0, f) ∷ es) (e ∷ insert_entry path_cmp es path f)) ≡ one (has_address a f) + count a (e ∷ es)
+insert_step a path f e es Less is away more = count-cons a (path, f) (e ∷ es)
+insert_step a path f e es Equal is away more = absurd (not_tied path e.0 away is)
+insert_step a path f e es Greater is away more = omega (arith, more, count-cons a e es, count-cons a e (insert_entry path_cmp es path f))
+
+count-insert : (a : ℕ) (path : List ℕ) (f : Finding) (es : Entries) → has_at path es ≡ false → count a (insert_entry path_cmp es path f) ≡ one (has_address a f) + count a es
+count-insert a path f [] h = count-cons a (path, f) []
+count-insert a path f (e ∷ es) h =
+    let parts = neither (is_at_or_below e.0 path) (has_at path es) h in
+    insert_step a path f e es (path_cmp path e.0) refl parts.0 (count-insert a path f es parts.1)
+
+remove_step : (a : ℕ) (f : Finding) (e : List ℕ × Finding) (es rest : Entries) (b : Bool) (found : Option Finding) → cond b (Some e.1) found ≡ Some f
+    → (found ≡ Some f → count a es ≡ one (has_address a f) + count a rest)
+    → count a (e ∷ es) ≡ one (has_address a f) + count a (cond b es (e ∷ rest))
+remove_step a f e es rest true found is more =
+    let same : e.1 ≡ f = cc is in
+    subst (λ g. count a (e ∷ es) ≡ one (has_address a g) + count a es) same (count-cons a e es)
+remove_step a f e es rest false found is more = omega (arith, more is, count-cons a e es, count-cons a e rest)
+
+count-remove : (a : ℕ) (test : List ℕ → Bool) (f : Finding) (es : Entries) → lookup test es ≡ Some f → count a es ≡ one (has_address a f) + count a (remove_entry test es)
+count-remove a test f [] h = absurd cc
+count-remove a test f (e ∷ es) h = remove_step a f e es (remove_entry test es) (test e.0) (lookup test es) h (count-remove a test f es)
+
+eq_yes : (a b : ℕ) → a ≡ b → nat_eq b a ≡ true
+eq_yes a b e = eq-eqb b a (sym e)
+
+eq_no : (a b : ℕ) → a ≢ b → nat_eq b a ≡ false
+eq_no a b ne = ne_eqb b a (λ e. ne (sym e))
+
+freed : (f : Finding) (old new : Addresses) (a r : ℕ) → Frees f old new → one (has_address a f) + r ≡ one (contains old a) → r ≡ one (contains new a)
+unfolding has_address one
+freed (Refused cause) old new a r same h = rw same (omega (arith, h))
+freed (Device device) old new a r gone h =
+    elim (cases_order a device.address) [
+      | inl same ↦
+          let free : contains new a ≡ false = ap (contains new) same ∙ gone.free.1 in
+          rw free (none_left (contains old a) (rw (eq_yes a device.address same) at h))
+      | inr other ↦
+          let ne : a ≢ device.address = λ e. elim other [ inl less ↦ omega (arith, less, e) | inr more ↦ omega (arith, more, e) ] in
+          rw (gone.others a ne) (let k = rw (eq_no a device.address ne) at h in omega (arith, k))
+    ]
+  where
+    none_left : (b : Bool) → 1 + r ≡ cond b 1 0 → r ≡ 0
+    none_left true e = omega (arith, e)
+    none_left false e = omega (arith, e)
+
+claimed : (f : Finding) (old new : Addresses) (a : ℕ) → Claims f old new → one (contains new a) ≡ one (has_address a f) + one (contains old a)
+unfolding has_address one
+claimed (Refused cause) old new a h = let e : one (contains new a) ≡ one (contains old a) = ap (λ pool. one (contains pool a)) h in omega (arith, e)
+claimed (Device device) old new a h =
+    elim (cases_order a device.address) [
+      | inl same ↦ rw (eq_yes a device.address same, same, h.taken, h.free.1) (omega arith)
+      | inr other ↦
+          let ne : a ≢ device.address = λ e. elim other [ inl less ↦ omega (arith, less, e) | inr more ↦ omega (arith, more, e) ] in
+          rw (eq_no a device.address ne, h.others a ne) (omega arith)
+    ]
+
+pub accounts_none : Accounts [] empty
+accounts_none = record { each = λ a. rw (contains-empty nat_cmp a) refl }
+
+-- an entry goes, and its address is free
+pub accounts_freed : (path : List ℕ) (f : Finding) (es rest : Entries) (old new : Addresses) → Accounts es old → TakesOut path f es rest → Frees f old new → Accounts rest new
+unfolding count one
+accounts_freed path f es rest old new h t gone = record {
+  each = λ a. freed f old new a (count a rest) gone
+      (sym (subst (λ l. count a es ≡ one (has_address a f) + count a l) (sym t.rest) (count-remove a (is_at (path_cmp t.first)) f es t.found)) ∙ h.each a);
+}
+
+-- an entry comes, with the address that was taken for it
+pub accounts_entered : (path : List ℕ) (f : Finding) (es : Entries) (old new : Addresses) → Accounts es old → has_at path es ≡ false → Claims f old new → Accounts (insert_entry path_cmp es path f) new
+unfolding count one
+accounts_entered path f es old new h away c = record {
+  each = λ a. count-insert a path f es away ∙ ap (λ n. one (has_address a f) + n) (h.each a) ∙ sym (claimed f old new a c);
+}
+
+-- an entry could not be made, and its address is free again
+pub accounts_back : (f : Finding) (es : Entries) (old mid new : Addresses) → Accounts es old → Claims f old mid → Frees f mid new → Accounts es new
+unfolding count one
+accounts_back f es old mid new h c gone = record {
+  each = λ a. freed f mid new a (count a es) gone (ap (λ n. one (has_address a f) + n) (h.each a) ∙ sym (claimed f old mid a c));
+}
