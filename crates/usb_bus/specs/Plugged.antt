@@ -5,7 +5,7 @@ use Rattle.std.specs.Ordering.{is_eq}
 use Rattle.std.specs.Map.{lookup}
 use Rattle.std.specs.BTreeMap.{insert_entry}
 use Rattle.usb_port.specs.Order.{path_cmp, parent_of, port_of}
-use Rattle.usb_device.specs.Spec.{Spec}
+use Rattle.usb_device.specs.Spec.{Spec, Hub}
 use Rattle.usb_bus.specs.declared.event.Event.{Event}
 use Rattle.usb_bus.specs.declared.event.Action.{Action}
 use Rattle.usb_bus.specs.declared.event.Action.TheVariants.{Plug, Unplug, Show, Send, Receive, Clear}
@@ -35,10 +35,14 @@ unfoldable pub plugged : Plugged → List Event → Plugged
 plugged tree [] = tree
 plugged tree (e ∷ events) = plugged (plugged_after e.action tree) events
 
+abbrev pub hub_ports : Option Hub → ℕ
+hub_ports None = 0
+hub_ports (Some hub) = hub.ports
+
 -- how many ports a device has
 unfoldable pub port_count : Option Spec → ℕ
 port_count None = 0
-port_count (Some device) = 0
+port_count (Some device) = hub_ports device.hub
 
 abbrev pub device_of : List Spec → Option ℕ → Option Spec
 device_of devices None = None

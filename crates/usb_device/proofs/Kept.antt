@@ -1,5 +1,5 @@
 -- What each row leaves as it is.
-use Rattle.std.proofs.Common.{◌≡◌, ℕ, ◌+◌, ◌==◌, if◌then◌else◌, ◌&&◌, Bool, true, false, List, [], ◌∷◌, length, None, Some, is_some, refl}
+use Rattle.std.proofs.Common.{◌≡◌, ℕ, ◌+◌, ◌==◌, if◌then◌else◌, ◌&&◌, Bool, true, false, List, [], ◌∷◌, length, None, Some, is_some, take, nat_lt, Option, refl}
 use Rattle.usb_packet.specs.declared.TokenKind.{TokenKind}
 use Rattle.usb_packet.specs.declared.TokenKind.TheVariants.{OutTok, InTok, SetupTok}
 use Rattle.usb_packet.specs.declared.Toggle.{Toggle}
@@ -8,16 +8,21 @@ use Rattle.usb_packet.specs.declared.Packet.{Packet}
 use Rattle.usb_packet.specs.declared.Packet.TheVariants.{Token, Payload}
 use Rattle.usb_packet.specs.declared.Packet.TheVariants as packet
 use Rattle.usb_request.specs.Layout.{setup_of}
-use Rattle.usb_device.specs.declared.answer.Answer.TheVariants.{Ack}
+use Rattle.usb_device.specs.declared.answer.Answer.TheVariants.{Ack, Nak, Stall}
+use Rattle.arrayvec.specs.ArrayVec.{ArrayVec}
 use Rattle.usb_device.specs.declared.transfer.Memory.{Memory}
+use Rattle.usb_device.specs.declared.transfer.Giver.{Giver}
+use Rattle.usb_device.specs.declared.transfer.Giver.TheVariants as by
+use Rattle.usb_device.specs.declared.bulk.Which.TheVariants.{BulkOut, BulkIn}
+use Rattle.usb_device.specs.Bulk.{is_same}
 use Rattle.usb_device.specs.declared.transfer.Memory.TheVariants.{Nothing, SetupSeen, OutSeen, AckAwaited}
-use Rattle.usb_device.specs.Request.{Outcome, stalled, answers, takes_address, takes_configuration, outcome}
+use Rattle.usb_device.specs.Request.{Outcome, stalled, answers, takes_address, takes_configuration, halts, unhalts, outcome}
 use Rattle.usb_device.specs.Transfer.{Stage, idle, refused, reading, read, ending, max_packet, packet_at, toggle_at}
-use Rattle.usb_device.specs.Rows.{State, Reply, received, answered, forgotten, begun, accepted, is_busy, nak_row, unless_busy, gives, in_row, status_row, out_row, ack_row, token_row, payload_row}
+use Rattle.usb_device.specs.Rows.{State, Reply, received, answered, forgotten, begun, accepted, is_busy, nak_row, unless_busy, gives, in_row, status_row, out_row, ack_row, token_row, payload_row, source_row, in_bulk_row, sink_row, sunk, out_bulk_row, data_row, bulk_ack_row, acknowledged, after_memory, bulk_of, rest_of}
 use Rattle.usb_device.specs.Kept.{Keeps, is_data}
 
 same : (p : Packet) (d : State) → Keeps p d d
-same p d = record { spec = refl; address = λ h. refl; configuration = λ h. refl }
+same p d = record { spec = refl; address = λ h. refl; configuration = λ h. refl; sink = λ h. (refl, refl); place = λ h. refl }
 
 keeps-if : (p : Packet) (d : State) (b : Bool) (x y : Reply) → Keeps p d x.1 → Keeps p d y.1 → Keeps p d (if b then x else y).1
 keeps-if p d true x y h k = h
@@ -27,16 +32,16 @@ keeps-in : (p : Packet) (d : State) (s : Stage) → Keeps p d (in_row d s).1
 keeps-in p d idle = same p d
 keeps-in p d refused = same p d
 keeps-in p d read = same p d
-keeps-in p d (ending a) = record { spec = refl; address = λ h. refl; configuration = λ h. refl }
+keeps-in p d (ending a) = record { spec = refl; address = λ h. refl; configuration = λ h. refl; sink = λ h. (refl, refl); place = λ h. refl }
 keeps-in p d (reading answer wanted k) =
-    elim (packet_at (max_packet d.spec) wanted answer k) as (λ o. Keeps p d (elim o as (λ _. Reply) [ None ↦ (None, d) | Some bytes ↦ gives d (toggle_at k) bytes ]).1) [
+    elim (packet_at (max_packet d.spec) wanted answer k) as (λ o. Keeps p d (elim o as (λ _. Reply) [ None ↦ (None, d) | Some bytes ↦ gives d by.Control (toggle_at k) bytes ]).1) [
       | None ↦ same p d
-      | Some bytes ↦ record { spec = refl; address = λ h. refl; configuration = λ h. refl }
+      | Some bytes ↦ record { spec = refl; address = λ h. refl; configuration = λ h. refl; sink = λ h. (refl, refl); place = λ h. refl }
     ]
 
 keeps-status : (p : Packet) (d : State) (t : Toggle) (b : List ℕ) → Keeps p d (status_row d t b).1
 keeps-status p d Zero b = same p d
-keeps-status p d One [] = record { spec = refl; address = λ h. refl; configuration = λ h. refl }
+keeps-status p d One [] = record { spec = refl; address = λ h. refl; configuration = λ h. refl; sink = λ h. (refl, refl); place = λ h. refl }
 keeps-status p d One (b ∷ bs) = same p d
 
 keeps-out : (p : Packet) (d : State) (s : Stage) (t : Toggle) (b : List ℕ) → Keeps p d (out_row d s t b).1
@@ -47,13 +52,17 @@ keeps-out p d read t b = keeps-status p d t b
 keeps-out p d (ending a) t b = same p d
 
 keeps-busy : (p : Packet) (d : State) (row : Reply) → Keeps p d row.1 → Keeps p d (unless_busy d row).1
-keeps-busy p d row h = keeps-if p d (is_busy d) (nak_row d) row (record { spec = refl; address = λ h. refl; configuration = λ h. refl }) h
+keeps-busy p d row h = keeps-if p d (is_busy d) (nak_row d) row (record { spec = refl; address = λ h. refl; configuration = λ h. refl; sink = λ h. (refl, refl); place = λ h. refl }) h
 
 keeps-begun : (p : Packet) (d : State) (n : ℕ) (o : Outcome) → is_data p ≡ true → Keeps p d (begun d n o)
-keeps-begun (Payload t b) d n stalled h = record { spec = refl; address = λ h. refl; configuration = λ h. refl }
-keeps-begun (Payload t b) d n (answers bytes) h = record { spec = refl; address = λ h. refl; configuration = λ h. refl }
-keeps-begun (Payload t b) d n (takes_address a) h = record { spec = refl; address = λ h. refl; configuration = λ h. refl }
-keeps-begun (Payload t b) d n (takes_configuration c) h = record { spec = refl; address = λ h. refl; configuration = λ h. cc }
+keeps-begun (Payload t b) d n stalled h = record { spec = refl; address = λ h. refl; configuration = λ h. refl; sink = λ h. (refl, refl); place = λ h. refl }
+keeps-begun (Payload t b) d n (answers bytes) h = record { spec = refl; address = λ h. refl; configuration = λ h. refl; sink = λ h. (refl, refl); place = λ h. refl }
+keeps-begun (Payload t b) d n (takes_address a) h = record { spec = refl; address = λ h. refl; configuration = λ h. refl; sink = λ h. (refl, refl); place = λ h. refl }
+keeps-begun (Payload t b) d n (takes_configuration c) h = record { spec = refl; address = λ h. refl; configuration = λ h. cc; sink = λ h. (refl, refl); place = λ h. refl }
+keeps-begun (Payload t b) d n (halts BulkOut) h = record { spec = refl; address = λ h. refl; configuration = λ h. refl; sink = λ h. (refl, refl); place = λ h. refl }
+keeps-begun (Payload t b) d n (halts BulkIn) h = record { spec = refl; address = λ h. refl; configuration = λ h. refl; sink = λ h. (refl, refl); place = λ h. refl }
+keeps-begun (Payload t b) d n (unhalts BulkOut) h = record { spec = refl; address = λ h. refl; configuration = λ h. refl; sink = λ h. (refl, refl); place = λ h. refl }
+keeps-begun (Payload t b) d n (unhalts BulkIn) h = record { spec = refl; address = λ h. refl; configuration = λ h. refl; sink = λ h. (refl, refl); place = λ h. refl }
 keeps-begun (Token kind a e) d n o h = cc
 keeps-begun packet.Ack d n o h = cc
 keeps-begun (packet.Sof f) d n o h = cc
@@ -61,40 +70,74 @@ keeps-begun packet.Nak d n o h = cc
 keeps-begun packet.Stall d n o h = cc
 keeps-begun packet.Pre d n o h = cc
 
-keeps-payload : (p : Packet) (d : State) (m : Memory) (t : Toggle) (b : List ℕ) → is_data p ≡ true → Keeps p d (payload_row d m t b).1
-keeps-payload p d Nothing t b h = same p d
-keeps-payload p d AckAwaited t b h = same p d
-keeps-payload p d SetupSeen One b h = same p d
-keeps-payload p d SetupSeen Zero b h =
-    keeps-if p d (length b == 8) (Some Ack, accepted d (setup_of b)) (None, d) (keeps-begun p d (setup_of b).length (outcome d.spec d.registers (setup_of b)) h) (same p d)
-keeps-payload p d OutSeen t b h = keeps-busy p d (out_row d d.stage t b) (keeps-out p d d.stage t b)
-
-keeps-token : (p : Packet) (d : State) (kind : TokenKind) → Keeps p d (token_row d kind).1
-keeps-token p d SetupTok = record { spec = refl; address = λ h. refl; configuration = λ h. refl }
-keeps-token p d OutTok = record { spec = refl; address = λ h. refl; configuration = λ h. refl }
-keeps-token p d InTok = keeps-busy p d (in_row d d.stage) (keeps-in p d d.stage)
-
 keeps-either : (p : Packet) (d : State) (b : Bool) (x y : State) → Keeps p d x → Keeps p d y → Keeps p d (if b then x else y)
 keeps-either p d true x y h k = h
 keeps-either p d false x y h k = k
+
+keeps-sink : (t : Toggle) (b : ArrayVec ℕ) (d : State) (max : ℕ) (bytes : List ℕ) → Keeps (Payload t b) d (sink_row d max t bytes).1
+keeps-sink t b d max bytes =
+    let p = Payload t b in
+    let joins = keeps-if p d (is_same t d.bulk_out.toggle) (Some Ack, sunk d bytes) (Some Ack, d) (record { spec = refl; address = λ h. refl; configuration = λ h. refl; sink = λ h. cc; place = λ h. refl }) (same p d) in
+    let fits = keeps-if p d (nat_lt max (length bytes)) (None, d) (if is_same t d.bulk_out.toggle then (Some Ack, sunk d bytes) else (Some Ack, d)) (same p d) joins in
+    keeps-if p d d.bulk_out.halted (Some Stall, d) (if nat_lt max (length bytes) then (None, d) else if is_same t d.bulk_out.toggle then (Some Ack, sunk d bytes) else (Some Ack, d)) (same p d) fits
+
+keeps-out-bulk : (t : Toggle) (b : ArrayVec ℕ) (d : State) (e : ℕ) (end : Option (ℕ × ℕ)) (bytes : List ℕ) → Keeps (Payload t b) d (out_bulk_row d e end t bytes).1
+keeps-out-bulk t b d e None bytes = same (Payload t b) d
+keeps-out-bulk t b d e (Some end) bytes = keeps-if (Payload t b) d (end.0 == e) (sink_row d end.1 t bytes) (None, d) (keeps-sink t b d end.1 bytes) (same (Payload t b) d)
+
+keeps-source : (p : Packet) (d : State) (max : ℕ) → Keeps p d (source_row d max).1
+keeps-source p d max =
+    let given = gives d by.Bulk d.bulk_in.toggle (take max (rest_of d)) in
+    keeps-if p d d.bulk_in.halted (Some Stall, d) (if length (rest_of d) == 0 then (Some Nak, d) else given) (same p d)
+    (keeps-if p d (length (rest_of d) == 0) (Some Nak, d) given (same p d) (record { spec = refl; address = λ h. refl; configuration = λ h. refl; sink = λ h. (refl, refl); place = λ h. refl }))
+
+keeps-in-bulk : (p : Packet) (d : State) (e : ℕ) (end : Option (ℕ × ℕ)) → Keeps p d (in_bulk_row d e end).1
+keeps-in-bulk p d e None = same p d
+keeps-in-bulk p d e (Some end) = keeps-if p d (end.0 == e) (source_row d end.1) (None, d) (keeps-source p d end.1) (same p d)
+
+keeps-payload : (t : Toggle) (b : ArrayVec ℕ) (d : State) (m : Memory) → Keeps (Payload t b) d (payload_row d m t b.items).1
+keeps-payload t b d Nothing = same (Payload t b) d
+keeps-payload t b d (AckAwaited giver) = same (Payload t b) d
+keeps-payload One b d SetupSeen = same (Payload One b) d
+keeps-payload Zero b d SetupSeen =
+    let p = Payload Zero b in
+    keeps-if p d (length b.items == 8) (Some Ack, accepted d (setup_of b.items)) (None, d) (keeps-begun p d (setup_of b.items).length (outcome d.spec d.registers (setup_of b.items)) refl) (same p d)
+keeps-payload t b d (OutSeen e) =
+    let p = Payload t b in
+    keeps-if p d (e == 0) (unless_busy d (out_row d d.stage t b.items)) (out_bulk_row d e (bulk_of d false) t b.items)
+    (keeps-busy p d (out_row d d.stage t b.items) (keeps-out p d d.stage t b.items)) (keeps-out-bulk t b d e (bulk_of d false) b.items)
+
+keeps-token : (p : Packet) (d : State) (kind : TokenKind) (e : ℕ) → Keeps p d (token_row d kind e).1
+keeps-token p d SetupTok e = keeps-either p d (e == 0) (record d { memory = SetupSeen }) d (record { spec = refl; address = λ h. refl; configuration = λ h. refl; sink = λ h. (refl, refl); place = λ h. refl }) (same p d)
+keeps-token p d OutTok e = record { spec = refl; address = λ h. refl; configuration = λ h. refl; sink = λ h. (refl, refl); place = λ h. refl }
+keeps-token p d InTok e =
+    keeps-if p d (e == 0) (unless_busy d (in_row d d.stage)) (in_bulk_row d e (bulk_of d true)) (keeps-busy p d (in_row d d.stage) (keeps-in p d d.stage)) (keeps-in-bulk p d e (bulk_of d true))
 
 keeps-ack : (d : State) (s : Stage) → Keeps packet.Ack d (ack_row d s)
 keeps-ack d idle = same packet.Ack d
 keeps-ack d refused = same packet.Ack d
 keeps-ack d read = same packet.Ack d
-keeps-ack d (ending None) = record { spec = refl; address = λ h. refl; configuration = λ h. refl }
-keeps-ack d (ending (Some a)) = record { spec = refl; address = λ h. cc; configuration = λ h. refl }
+keeps-ack d (ending None) = record { spec = refl; address = λ h. refl; configuration = λ h. refl; sink = λ h. (refl, refl); place = λ h. refl }
+keeps-ack d (ending (Some a)) = record { spec = refl; address = λ h. cc; configuration = λ h. refl; sink = λ h. (refl, refl); place = λ h. refl }
 keeps-ack d (reading answer wanted k) =
-    keeps-either packet.Ack d (is_some (packet_at (max_packet d.spec) wanted answer k)) (record d { stage = reading answer wanted (k + 1) }) d (record { spec = refl; address = λ h. refl; configuration = λ h. refl }) (same packet.Ack d)
+    keeps-either packet.Ack d (is_some (packet_at (max_packet d.spec) wanted answer k)) (record d { stage = reading answer wanted (k + 1) }) d (record { spec = refl; address = λ h. refl; configuration = λ h. refl; sink = λ h. (refl, refl); place = λ h. refl }) (same packet.Ack d)
+
+keeps-bulk-ack : (d : State) (end : Option (ℕ × ℕ)) → Keeps packet.Ack d (bulk_ack_row d end)
+keeps-bulk-ack d None = same packet.Ack d
+keeps-bulk-ack d (Some end) = record { spec = refl; address = λ h. refl; configuration = λ h. refl; sink = λ h. (refl, refl); place = λ h. cc }
+
+keeps-after : (d : State) (m : Memory) → Keeps packet.Ack d (after_memory d m)
+keeps-after d Nothing = same packet.Ack d
+keeps-after d SetupSeen = same packet.Ack d
+keeps-after d (OutSeen e) = same packet.Ack d
+keeps-after d (AckAwaited by.Control) = keeps-ack d d.stage
+keeps-after d (AckAwaited by.Bulk) = keeps-bulk-ack d (bulk_of d true)
 
 keeps-answered : (d : State) (m : Memory) (p : Packet) → Keeps p d (answered d m p).1
 keeps-answered d m (Token kind a e) =
-    keeps-if (Token kind a e) d (a == d.registers.address && e == 0) (token_row d kind) (None, d) (keeps-token (Token kind a e) d kind) (same (Token kind a e) d)
-keeps-answered d m (Payload t b) = keeps-payload (Payload t b) d m t b.items refl
-keeps-answered d Nothing packet.Ack = same packet.Ack d
-keeps-answered d SetupSeen packet.Ack = same packet.Ack d
-keeps-answered d OutSeen packet.Ack = same packet.Ack d
-keeps-answered d AckAwaited packet.Ack = keeps-ack d d.stage
+    keeps-if (Token kind a e) d (a == d.registers.address) (token_row d kind e) (None, d) (keeps-token (Token kind a e) d kind e) (same (Token kind a e) d)
+keeps-answered d m (Payload t b) = keeps-payload t b d m
+keeps-answered d m packet.Ack = keeps-after d m
 keeps-answered d m (packet.Sof n) = same (packet.Sof n) d
 keeps-answered d m packet.Nak = same packet.Nak d
 keeps-answered d m packet.Stall = same packet.Stall d
@@ -104,6 +147,6 @@ pub keeps-received : (d : State) (p : Packet) → Keeps p d (received d p).1
 unfolding received
 keeps-received d p =
     let k = keeps-answered (forgotten d) d.memory p in
-    keeps-if p d d.spec.silent (None, d) (answered (forgotten d) d.memory p) (same p d) (record { spec = k.spec; address = k.address; configuration = k.configuration })
+    keeps-if p d d.spec.silent (None, d) (answered (forgotten d) d.memory p) (same p d) (record { spec = k.spec; address = k.address; configuration = k.configuration; sink = k.sink; place = k.place })
 
 pub ruleset keepings = keeps-received

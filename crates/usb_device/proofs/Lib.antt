@@ -1,5 +1,6 @@
 pub mod Names
 pub mod Hubs
+pub mod Endpoints
 pub mod Attempts
 pub mod Kept
 pub mod Packets

@@ -1,5 +1,5 @@
--- What a whole attempt on endpoint 0 does to the device that it speaks to: each packet of it comes whole, broken or not at all (8.5).
-use Rattle.std.specs.Prelude.{ℕ, nat_le, if◌then◌else◌, ◌&&◌, Bool, true, false, List, [], length, Option, None, Some}
+-- What a whole attempt does to the device that it speaks to: each packet of it comes whole, broken or not at all (8.5).
+use Rattle.std.specs.Prelude.{ℕ, nat_le, ◌==◌, take, if◌then◌else◌, ◌&&◌, Bool, true, false, List, [], length, Option, None, Some}
 use Rattle.usb_packet.specs.declared.TokenKind.TheVariants.{OutTok, InTok, SetupTok}
 use Rattle.usb_packet.specs.declared.Toggle.{Toggle}
 use Rattle.usb_packet.specs.declared.Toggle.TheVariants.{Zero, One}
@@ -10,7 +10,9 @@ use Rattle.usb_request.specs.Layout.{setup_of}
 use Rattle.usb_device.specs.declared.answer.Answer.{Answer}
 use Rattle.usb_device.specs.declared.answer.Answer.TheVariants.{Ack, Nak, Stall, Data}
 use Rattle.usb_device.specs.Transfer.{Stage, idle, refused, reading, read, ending, max_packet, packet_at, toggle_at}
-use Rattle.usb_device.specs.Rows.{State, Reply, received, unread, forgotten, accepted, payload, unless_busy, is_busy, nak_row, out_row, ack_row, is_addressed}
+use Rattle.usb_device.specs.declared.transfer.Giver.{Giver}
+use Rattle.usb_device.specs.declared.transfer.Giver.TheVariants as by
+use Rattle.usb_device.specs.Rows.{State, Reply, received, unread, forgotten, accepted, payload, is_busy, nak_row, data_row, acknowledged, bulk_of, rest_of}
 
 -- how a packet comes: as it was sent, as bytes that spell none, or not at all
 pub data Way : Type 0 where
@@ -54,40 +56,57 @@ acked max answer_way ack_way reply =
 abbrev pub setup_attempt : State → ℕ → List ℕ → Way → Way → Way → Reply
 setup_attempt d a bytes = sends d (Token SetupTok a 0) (Payload Zero (record { items = bytes }))
 
-abbrev pub out_attempt : State → ℕ → Toggle → List ℕ → Way → Way → Way → Reply
-out_attempt d a t bytes = sends d (Token OutTok a 0) (Payload t (record { items = bytes }))
+abbrev pub out_attempt : State → ℕ → ℕ → Toggle → List ℕ → Way → Way → Way → Reply
+out_attempt d a e t bytes = sends d (Token OutTok a e) (Payload t (record { items = bytes }))
 
-abbrev pub in_attempt : State → ℕ → ℕ → Way → Way → Way → Reply
-in_attempt d a max token_way answer_way ack_way = acked max answer_way ack_way (through token_way d (Token InTok a 0))
+abbrev pub in_attempt : State → ℕ → ℕ → ℕ → Way → Way → Way → Reply
+in_attempt d a e max token_way answer_way ack_way = acked max answer_way ack_way (through token_way d (Token InTok a e))
 
 -- SETUP: the setup data is accepted where token and data come whole, whether the host hears of it or not
 abbrev pub setup_law : State → List ℕ → Way → Way → Way → Reply
 setup_law d bytes t1 t2 t3 = if is_whole t1 && is_whole t2 then (heard t3 (Some Ack), accepted d (setup_of bytes)) else (None, d)
 
 -- OUT: its row where token and data come whole, whether the host hears of it or not
-abbrev pub out_law : State → Toggle → List ℕ → Way → Way → Way → Reply
-out_law d t bytes t1 t2 t3 =
-    if is_whole t1 && is_whole t2 then (let row = unless_busy d (out_row d d.stage t bytes) in (heard t3 row.0, row.1)) else (None, d)
+abbrev pub out_law : State → ℕ → Toggle → List ℕ → Way → Way → Way → Reply
+out_law d e t bytes t1 t2 t3 =
+    if is_whole t1 && is_whole t2 then (heard t3 (data_row d e t bytes).0, forgotten (data_row d e t bytes).1) else (None, d)
 
--- data that is given: the transfer goes on where the host got it whole, it was not too long, and the ACK came whole
-abbrev pub gave : State → ℕ → Toggle → List ℕ → Way → Way → Reply
-gave d max t bytes t2 t3 = (heard t2 (Some (payload t bytes)), if is_whole t2 && nat_le (length bytes) max && is_whole t3 then ack_row d d.stage else d)
+-- data that is given: what gave it goes on where the host got it whole, it was not too long, and the ACK came whole
+abbrev pub gave : State → Giver → ℕ → Toggle → List ℕ → Way → Way → Reply
+gave d giver max t bytes t2 t3 =
+    (heard t2 (Some (payload t bytes)), if is_whole t2 && nat_le (length bytes) max && is_whole t3 then forgotten (acknowledged d giver) else d)
 
 -- IN of a device that is not busy, by where its transfer stands
 abbrev pub in_stage_law : State → Stage → ℕ → Way → Way → Reply
 in_stage_law d idle max t2 t3 = (None, d)
 in_stage_law d refused max t2 t3 = (heard t2 (Some Stall), d)
 in_stage_law d (reading answer wanted k) max t2 t3 =
-    elim (packet_at (max_packet d.spec) wanted answer k) [ None ↦ (None, d) | Some bytes ↦ gave d max (toggle_at k) bytes t2 t3 ]
+    elim (packet_at (max_packet d.spec) wanted answer k) [ None ↦ (None, d) | Some bytes ↦ gave d by.Control max (toggle_at k) bytes t2 t3 ]
 in_stage_law d read max t2 t3 = (None, d)
-in_stage_law d (ending a) max t2 t3 = gave d max One [] t2 t3
+in_stage_law d (ending a) max t2 t3 = gave d by.Control max One [] t2 t3
 
--- IN: nothing where the token does not come whole, a NAK where the device is busy
-abbrev pub in_law : State → ℕ → Way → Way → Way → Reply
-in_law d max t1 t2 t3 =
-    if is_whole t1 then (if is_busy d then (heard t2 (Some Nak), (nak_row d).1) else in_stage_law d d.stage max t2 t3) else (None, d)
+-- IN of the bulk IN endpoint, whose packets have at most this many bytes
+abbrev pub source_law : State → ℕ → ℕ → Way → Way → Reply
+source_law d most max t2 t3 =
+    if d.bulk_in.halted then (heard t2 (Some Stall), d)
+    else if length (rest_of d) == 0 then (heard t2 (Some Nak), d)
+    else gave d by.Bulk max d.bulk_in.toggle (take most (rest_of d)) t2 t3
 
--- the packet is a token for endpoint 0 of the device
+-- IN of an endpoint that is not endpoint 0
+abbrev pub in_bulk_law : State → ℕ → Option (ℕ × ℕ) → ℕ → Way → Way → Reply
+in_bulk_law d e None max t2 t3 = (None, d)
+in_bulk_law d e (Some end) max t2 t3 = if end.0 == e then source_law d end.1 max t2 t3 else (None, d)
+
+-- IN of endpoint 0: a NAK where the device is busy
+abbrev pub in_control_law : State → ℕ → Way → Way → Reply
+in_control_law d max t2 t3 = if is_busy d then (heard t2 (Some Nak), (nak_row d).1) else in_stage_law d d.stage max t2 t3
+
+-- IN: nothing where the token does not come whole
+abbrev pub in_law : State → ℕ → ℕ → Way → Way → Way → Reply
+in_law d e max t1 t2 t3 =
+    if is_whole t1 then (if e == 0 then in_control_law d max t2 t3 else in_bulk_law d e (bulk_of d true) max t2 t3) else (None, d)
+
+-- the packet is a token for the device
 abbrev pub is_own : State → Packet → Bool
-is_own d (Token kind a e) = is_addressed d a e
+is_own d (Token kind a e) = a == d.registers.address
 is_own d p = false

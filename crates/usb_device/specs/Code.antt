@@ -1,12 +1,12 @@
 -- What the code keeps of an answer, and what it stands for.
-use Rattle.std.specs.Prelude.{ℕ, List, [], ◌∷◌, slice_get, unwrap_or}
-use Rattle.usb_device.specs.Spec.{Spec}
-use Rattle.usb_device.specs.Request.{Outcome, stalled, answers, takes_address, takes_configuration, status_bytes}
+use Rattle.std.specs.Prelude.{ℕ, List, [], ◌∷◌, slice_get, unwrap_or, Option, None, Some}
+use Rattle.usb_device.specs.Spec.{Spec, Hub as HubText}
+use Rattle.usb_device.specs.Request.{Outcome, stalled, answers, takes_address, takes_configuration, halts, unhalts, status_bytes}
 use Rattle.usb_device.specs.Transfer.{Stage, idle, refused, reading, read, ending}
 use Rattle.usb_device.specs.declared.request.Source.{Source}
-use Rattle.usb_device.specs.declared.request.Source.TheVariants.{Descriptor, Config, Text, Status, Configuration}
+use Rattle.usb_device.specs.declared.request.Source.TheVariants.{Descriptor, Config, Text, Hub, Status, Configuration}
 use Rattle.usb_device.specs.declared.request.Reaction.{Reaction}
-use Rattle.usb_device.specs.declared.request.Reaction.TheVariants.{Refuse, Answer, TakeAddress, TakeConfiguration}
+use Rattle.usb_device.specs.declared.request.Reaction.TheVariants.{Refuse, Answer, TakeAddress, TakeConfiguration, Halt, Unhalt}
 use Rattle.usb_device.specs.declared.transfer.Progress.{Progress}
 use Rattle.usb_device.specs.declared.transfer.Progress.TheVariants.{Idle, Refused, Reading, Read, Ending}
 
@@ -14,10 +14,15 @@ use Rattle.usb_device.specs.declared.transfer.Progress.TheVariants.{Idle, Refuse
 abbrev pub text_at : List (List ℕ) → ℕ → List ℕ
 text_at texts i = unwrap_or (slice_get texts i) []
 
+abbrev pub hub_text : Option HubText → List ℕ
+hub_text None = []
+hub_text (Some hub) = hub.descriptor
+
 abbrev pub bytes_of : Spec → Source → List ℕ
 bytes_of s Descriptor = s.descriptor
 bytes_of s (Config i) = text_at s.configs i
 bytes_of s (Text i) = text_at s.strings i
+bytes_of s Hub = hub_text s.hub
 bytes_of s Status = status_bytes s
 bytes_of s (Configuration c) = c ∷ []
 
@@ -26,6 +31,8 @@ meaning_of s Refuse = stalled
 meaning_of s (Answer source) = answers (bytes_of s source)
 meaning_of s (TakeAddress a) = takes_address a
 meaning_of s (TakeConfiguration c) = takes_configuration c
+meaning_of s (Halt which) = halts which
+meaning_of s (Unhalt which) = unhalts which
 
 abbrev pub stage_of : Spec → Progress → Stage
 stage_of s Idle = idle

@@ -3,7 +3,9 @@ use Rattle.std.specs.Prelude.{ℕ, ◌/◌, ◌%◌, ◌==◌, nat_lt, nat_le, i
 use Rattle.std.specs.List.{list_any}
 use Rattle.usb_request.specs.declared.setup.Setup.{Setup}
 use Rattle.usb_device.specs.declared.request.Registers.{Registers}
-use Rattle.usb_device.specs.Spec.{Spec}
+use Rattle.usb_device.specs.Spec.{Spec, Hub}
+use Rattle.usb_device.specs.declared.bulk.Which.{Which}
+use Rattle.usb_device.specs.Bulk.{has_value, served}
 
 pub data Outcome : Type 0 where
   -- the request is refused by STALL
@@ -14,6 +16,9 @@ pub data Outcome : Type 0 where
   takes_address : ℕ → Outcome
   -- the configuration is taken at once (9.4.7)
   takes_configuration : ℕ → Outcome
+  -- the endpoint halts, or halts no more (9.4.9, 9.4.1)
+  halts : Which → Outcome
+  unhalts : Which → Outcome
 
 -- the request has this type and this code
 abbrev pub Is : Setup → ℕ → ℕ → Bool
@@ -45,10 +50,6 @@ get_status s r = if r.value == 0 && r.index == 0 then answers (status_bytes s) e
 abbrev pub set_address : Setup → Outcome
 set_address r = if nat_le r.value 127 && r.length == 0 then takes_address r.value else stalled
 
--- byte 5 of the text of a configuration is its value (9.6.3)
-abbrev pub has_value : ℕ → List ℕ → Bool
-has_value value text = nat_lt 5 (length text) && slice_index text 5 == value
-
 -- a number of one byte that is 0 or the value of a configuration
 abbrev pub is_value : List (List ℕ) → ℕ → Bool
 is_value configs value = nat_lt value 256 && (value == 0 || list_any (has_value value) configs)
@@ -57,6 +58,19 @@ is_value configs value = nat_lt value 256 && (value == 0 || list_any (has_value 
 abbrev pub set_configuration : Spec → Registers → Setup → Outcome
 set_configuration s g r = if not (g.address == 0) && is_value s.configs r.value && r.length == 0 then takes_configuration r.value else stalled
 
+-- 9.4.1, 9.4.9: ENDPOINT_HALT of an endpoint that is served
+abbrev pub endpoint_of : Spec → Registers → Setup → Option Which
+endpoint_of s g r = if r.value == 0 && r.length == 0 then served s g r.index else None
+
+abbrev pub on_endpoint : (Which → Outcome) → Option Which → Outcome
+on_endpoint f None = stalled
+on_endpoint f (Some which) = f which
+
+-- 11.24.2.5
+abbrev pub get_hub_descriptor : Option Hub → Setup → Outcome
+get_hub_descriptor None r = stalled
+get_hub_descriptor (Some hub) r = if r.value == 0x2900 then answers hub.descriptor else stalled
+
 abbrev pub outcome : Spec → Registers → Setup → Outcome
 outcome s g r =
     if Is r 0x80 6 then get_descriptor s r.value
@@ -64,6 +78,9 @@ outcome s g r =
     else if Is r 0x80 8 then answers (g.configuration ∷ [])
     else if Is r 0x00 5 then unless s.stalls.address (set_address r)
     else if Is r 0x00 9 then unless s.stalls.set_config (set_configuration s g r)
+    else if Is r 0x02 1 then on_endpoint unhalts (endpoint_of s g r)
+    else if Is r 0x02 3 then on_endpoint halts (endpoint_of s g r)
+    else if Is r 0xA0 6 then unless s.stalls.hub (get_hub_descriptor s.hub r)
     else stalled
 
 -- the registers once the setup data is accepted

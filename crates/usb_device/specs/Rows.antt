@@ -1,5 +1,5 @@
 -- What a device answers to each packet, and what it is then (8.5).
-use Rattle.std.specs.Prelude.{ℕ, ◌+◌, ◌-◌, ◌==◌, nat_lt, if◌then◌else◌, ◌&&◌, ◌||◌, Bool, List, [], ◌∷◌, length, Option, None, Some, is_some}
+use Rattle.std.specs.Prelude.{ℕ, true, false, ◌+◌, ◌-◌, ◌==◌, nat_lt, not, ◌++◌, take, drop, if◌then◌else◌, ◌&&◌, ◌||◌, Bool, List, [], ◌∷◌, length, Option, None, Some, is_some}
 use Rattle.usb_packet.specs.declared.TokenKind.{TokenKind}
 use Rattle.usb_packet.specs.declared.TokenKind.TheVariants.{OutTok, InTok, SetupTok}
 use Rattle.usb_packet.specs.declared.Toggle.{Toggle}
@@ -14,8 +14,14 @@ use Rattle.usb_device.specs.declared.answer.Answer.TheVariants.{Ack, Nak, Stall,
 use Rattle.usb_device.specs.declared.request.Registers.{Registers}
 use Rattle.usb_device.specs.declared.transfer.Memory.{Memory}
 use Rattle.usb_device.specs.declared.transfer.Memory.TheVariants.{Nothing, SetupSeen, OutSeen, AckAwaited}
+use Rattle.usb_device.specs.declared.transfer.Giver.{Giver}
+use Rattle.usb_device.specs.declared.transfer.Giver.TheVariants as by
+use Rattle.usb_device.specs.declared.bulk.Pipe.{Pipe}
+use Rattle.usb_device.specs.declared.bulk.Which.{Which}
+use Rattle.usb_device.specs.declared.bulk.Which.TheVariants.{BulkOut, BulkIn}
 use Rattle.usb_device.specs.Spec.{Spec}
-use Rattle.usb_device.specs.Request.{Outcome, outcome, registers_at_setup}
+use Rattle.usb_device.specs.Bulk.{rested, other, is_same, turned, halted, count_down, is_last, bulk_at, advanced}
+use Rattle.usb_device.specs.Request.{Outcome, stalled, answers, takes_address, takes_configuration, halts, unhalts, outcome, registers_at_setup}
 use Rattle.usb_device.specs.Transfer.{Stage, idle, refused, reading, read, ending, first_stage, max_packet, packet_at, toggle_at}
 
 pub record State : Type 0 where
@@ -26,6 +32,14 @@ pub record State : Type 0 where
   -- how many NAKs are still to be given in this transfer
   pub naks : ℕ
   pub stage : Stage
+  pub bulk_out : Pipe
+  pub bulk_in : Pipe
+  -- what bulk OUT has taken since the plug
+  pub sink : List ℕ
+  -- how many packets bulk OUT is still to take until it halts
+  pub until_halt : Option ℕ
+  -- how many bytes of the source the host has acknowledged
+  pub place : ℕ
 
 abbrev pub Reply : Type 0
 Reply = Option Answer × State
@@ -37,9 +51,26 @@ payload t bytes = Data t (record { items = bytes })
 abbrev pub forgotten : State → State
 forgotten d = record d { memory = Nothing }
 
+abbrev pub pipe_of : State → Which → Pipe
+pipe_of d BulkOut = d.bulk_out
+pipe_of d BulkIn = d.bulk_in
+
+abbrev pub with_pipe : State → Which → Pipe → State
+with_pipe d BulkOut pipe = record d { bulk_out = pipe }
+with_pipe d BulkIn pipe = record d { bulk_in = pipe }
+
+-- what a request makes of the endpoints (9.1.1.5, 9.4.5)
+abbrev pub with_endpoints : State → Outcome → State
+with_endpoints d stalled = d
+with_endpoints d (answers bytes) = d
+with_endpoints d (takes_address a) = d
+with_endpoints d (takes_configuration c) = record d { bulk_out = rested; bulk_in = rested }
+with_endpoints d (halts which) = with_pipe d which (halted (pipe_of d which))
+with_endpoints d (unhalts which) = with_pipe d which rested
+
 -- a request begins a transfer, and ends the one before
 abbrev pub begun : State → ℕ → Outcome → State
-begun d wanted o = record d { registers = registers_at_setup d.registers o; naks = d.spec.naks; stage = first_stage wanted o }
+begun d wanted o = record (with_endpoints d o) { registers = registers_at_setup d.registers o; naks = d.spec.naks; stage = first_stage wanted o }
 
 -- the setup data is accepted
 abbrev pub accepted : State → Setup → State
@@ -57,16 +88,16 @@ abbrev pub unless_busy : State → Reply → Reply
 unless_busy d row = if is_busy d then nak_row d else row
 
 -- data, of which an ACK is awaited
-abbrev pub gives : State → Toggle → List ℕ → Reply
-gives d t bytes = (Some (payload t bytes), record d { memory = AckAwaited })
+abbrev pub gives : State → Giver → Toggle → List ℕ → Reply
+gives d giver t bytes = (Some (payload t bytes), record d { memory = AckAwaited giver })
 
 -- IN 0: the next packet of a control read, or the status stage of a request without data
 abbrev pub in_row : State → Stage → Reply
 in_row d idle = (None, d)
 in_row d refused = (Some Stall, d)
-in_row d (reading answer wanted k) = elim (packet_at (max_packet d.spec) wanted answer k) [ None ↦ (None, d) | Some bytes ↦ gives d (toggle_at k) bytes ]
+in_row d (reading answer wanted k) = elim (packet_at (max_packet d.spec) wanted answer k) [ None ↦ (None, d) | Some bytes ↦ gives d by.Control (toggle_at k) bytes ]
 in_row d read = (None, d)
-in_row d (ending a) = gives d One []
+in_row d (ending a) = gives d by.Control One []
 
 -- the status stage of a control read, also where the last ACK was not seen
 abbrev pub status_row : State → Toggle → List ℕ → Reply
@@ -82,7 +113,7 @@ out_row d (reading answer wanted k) t bytes = status_row d t bytes
 out_row d read t bytes = status_row d t bytes
 out_row d (ending a) t bytes = (None, d)
 
--- the host's ACK of what was given
+-- the host's ACK of what was given on endpoint 0
 abbrev pub ack_row : State → Stage → State
 ack_row d (reading answer wanted k) =
     if is_some (packet_at (max_packet d.spec) wanted answer k) then record d { stage = reading answer wanted (k + 1) } else d
@@ -90,28 +121,110 @@ ack_row d (ending None) = record d { stage = idle }
 ack_row d (ending (Some a)) = record d { registers = record d.registers { address = a }; stage = idle }
 ack_row d stage = d
 
--- a token for endpoint 0 of this device
-abbrev pub token_row : State → TokenKind → Reply
-token_row d SetupTok = (None, record d { memory = SetupSeen })
-token_row d OutTok = (None, record d { memory = OutSeen })
-token_row d InTok = unless_busy d (in_row d d.stage)
+-- the bulk endpoint of a direction
+abbrev pub bulk_of : State → Bool → Option (ℕ × ℕ)
+bulk_of d is_in = bulk_at d.spec d.registers is_in
+
+-- what is left of the source
+abbrev pub rest_of : State → List ℕ
+rest_of d = drop d.place d.spec.source
+
+-- bulk IN: the next bytes of the source
+abbrev pub source_row : State → ℕ → Reply
+source_row d max =
+    if d.bulk_in.halted then (Some Stall, d)
+    else if length (rest_of d) == 0 then (Some Nak, d)
+    else gives d by.Bulk d.bulk_in.toggle (take max (rest_of d))
+
+-- the host's ACK of what bulk IN gave
+abbrev pub bulk_ack_row : State → Option (ℕ × ℕ) → State
+bulk_ack_row d None = d
+bulk_ack_row d (Some end) = record d { place = advanced d.place end.1 (length d.spec.source); bulk_in = turned d.bulk_in }
+
+-- the host's ACK of what was given
+abbrev pub acknowledged : State → Giver → State
+acknowledged d by.Control = ack_row d d.stage
+acknowledged d by.Bulk = bulk_ack_row d (bulk_of d true)
+
+-- a packet joins the sink
+abbrev pub sunk : State → List ℕ → State
+sunk d bytes = record d {
+  sink = d.sink ++ bytes;
+  bulk_out = record { toggle = other d.bulk_out.toggle; halted = is_last d.until_halt };
+  until_halt = count_down d.until_halt;
+}
+
+-- bulk OUT
+abbrev pub sink_row : State → ℕ → Toggle → List ℕ → Reply
+sink_row d max t bytes =
+    if d.bulk_out.halted then (Some Stall, d)
+    else if nat_lt max (length bytes) then (None, d)
+    else if is_same t d.bulk_out.toggle then (Some Ack, sunk d bytes)
+    else (Some Ack, d)
+
+-- the packet makes the sink grow
+abbrev pub sinks : State → ℕ → Toggle → List ℕ → Bool
+sinks d max t bytes = not d.bulk_out.halted && not (nat_lt max (length bytes)) && is_same t d.bulk_out.toggle
+
+-- IN of an endpoint that is not endpoint 0
+abbrev pub in_bulk_row : State → ℕ → Option (ℕ × ℕ) → Reply
+in_bulk_row d e None = (None, d)
+in_bulk_row d e (Some end) = if end.0 == e then source_row d end.1 else (None, d)
+
+-- OUT of an endpoint that is not endpoint 0
+abbrev pub out_bulk_row : State → ℕ → Option (ℕ × ℕ) → Toggle → List ℕ → Reply
+out_bulk_row d e None t bytes = (None, d)
+out_bulk_row d e (Some end) t bytes = if end.0 == e then sink_row d end.1 t bytes else (None, d)
+
+abbrev pub bulk_sinks : State → ℕ → Option (ℕ × ℕ) → Toggle → List ℕ → Bool
+bulk_sinks d e None t bytes = false
+bulk_sinks d e (Some end) t bytes = end.0 == e && sinks d end.1 t bytes
+
+-- a token for this device
+abbrev pub token_row : State → TokenKind → ℕ → Reply
+token_row d SetupTok e = (None, if e == 0 then record d { memory = SetupSeen } else d)
+token_row d OutTok e = (None, record d { memory = OutSeen e })
+token_row d InTok e = if e == 0 then unless_busy d (in_row d d.stage) else in_bulk_row d e (bulk_of d true)
+
+-- data after an OUT token
+abbrev pub data_row : State → ℕ → Toggle → List ℕ → Reply
+data_row d e t bytes = if e == 0 then unless_busy d (out_row d d.stage t bytes) else out_bulk_row d e (bulk_of d false) t bytes
 
 -- data, by what the packet before left
 abbrev pub payload_row : State → Memory → Toggle → List ℕ → Reply
 payload_row d SetupSeen Zero bytes = if length bytes == 8 then (Some Ack, accepted d (setup_of bytes)) else (None, d)
-payload_row d OutSeen t bytes = unless_busy d (out_row d d.stage t bytes)
+payload_row d (OutSeen e) t bytes = data_row d e t bytes
 payload_row d m t bytes = (None, d)
 
--- a token is for endpoint 0 of this device
-abbrev pub is_addressed : State → ℕ → ℕ → Bool
-is_addressed d a e = a == d.registers.address && e == 0
+-- data make the sink grow
+abbrev pub payload_sinks : State → Memory → Toggle → List ℕ → Bool
+payload_sinks d (OutSeen e) t bytes = not (e == 0) && bulk_sinks d e (bulk_of d false) t bytes
+payload_sinks d m t bytes = false
+
+-- an OUT token for another endpoint than 0 came before
+abbrev pub is_other_out : Memory → Bool
+is_other_out (OutSeen e) = not (e == 0)
+is_other_out m = false
+
+-- the host's ACK, by what the packet before left
+abbrev pub after_memory : State → Memory → State
+after_memory d (AckAwaited giver) = acknowledged d giver
+after_memory d m = d
 
 -- any packet, by what the packet before left
 abbrev pub answered : State → Memory → Packet → Reply
-answered d m (Token kind a e) = if is_addressed d a e then token_row d kind else (None, d)
+answered d m (Token kind a e) = if a == d.registers.address then token_row d kind e else (None, d)
 answered d m (Payload t bytes) = payload_row d m t bytes.items
-answered d AckAwaited packet.Ack = (None, ack_row d d.stage)
+answered d m packet.Ack = (None, after_memory d m)
 answered d m p = (None, d)
+
+abbrev pub packet_sinks : State → Packet → Bool
+packet_sinks d (Payload t bytes) = payload_sinks d d.memory t bytes.items
+packet_sinks d p = false
+
+-- the packet makes the sink grow, which wants memory
+abbrev pub sink_grows : State → Packet → Bool
+sink_grows d p = not d.spec.silent && packet_sinks d p
 
 -- what a device answers to a packet, and what it is then
 unfoldable pub received : State → Packet → Reply
@@ -123,8 +236,8 @@ unread d = if d.spec.silent then d else forgotten d
 
 -- a device that was just plugged
 unfoldable pub fresh : Spec → State
-fresh s = record { spec = s; registers = record { address = 0; configuration = 0 }; memory = Nothing; naks = 0; stage = idle }
+fresh s = record { spec = s; registers = record { address = 0; configuration = 0 }; memory = Nothing; naks = 0; stage = idle; bulk_out = rested; bulk_in = rested; sink = []; until_halt = s.halt_after; place = 0 }
 
--- a bus reset makes a device as new (9.1.1.3)
+-- a bus reset (9.1.1.3); what bulk OUT has taken, what is left of the source and the count until the halt stay
 unfoldable pub reset_state : State → State
-reset_state d = fresh d.spec
+reset_state d = record d { registers = record { address = 0; configuration = 0 }; memory = Nothing; naks = 0; stage = idle }

@@ -9,18 +9,18 @@ ghost use Rattle.usb_device.specs.Rows.{State, received, unread, forgotten};
 ghost use Rattle.usb_device.specs.Kept.{Keeps};
 ghost use Rattle.usb_device.specs.Attempt.{Way, setup_attempt, setup_law, out_attempt, out_law, in_attempt, in_law, is_own};
 
-/// A whole attempt on endpoint 0 with a device that remembers nothing, each packet of it coming or not.
+/// A whole attempt with a device that remembers nothing, each packet of it coming or not.
 #[tactic(auto, using(crate::proofs::Attempts::attempts))]
 pub fn attempt_laws()
     ensures setup { (d : State) (bytes : List ℕ) → d.spec.silent ≡ false → length bytes ≡ 8 → (t1 t2 t3 : Way) → setup_attempt (forgotten d) d.registers.address bytes t1 t2 t3 ≡ setup_law (forgotten d) bytes t1 t2 t3 }
-    ensures out { (d : State) (t : Toggle) (bytes : List ℕ) → d.spec.silent ≡ false → (t1 t2 t3 : Way) → out_attempt (forgotten d) d.registers.address t bytes t1 t2 t3 ≡ out_law (forgotten d) t bytes t1 t2 t3 }
-    ensures into { (d : State) (max : ℕ) → d.spec.silent ≡ false → (t1 t2 t3 : Way) → in_attempt (forgotten d) d.registers.address max t1 t2 t3 ≡ in_law (forgotten d) max t1 t2 t3 }
+    ensures out { (d : State) (e : ℕ) (t : Toggle) (bytes : List ℕ) → d.spec.silent ≡ false → (t1 t2 t3 : Way) → out_attempt (forgotten d) d.registers.address e t bytes t1 t2 t3 ≡ out_law (forgotten d) e t bytes t1 t2 t3 }
+    ensures into { (d : State) (e max : ℕ) → d.spec.silent ≡ false → (t1 t2 t3 : Way) → in_attempt (forgotten d) d.registers.address e max t1 t2 t3 ≡ in_law (forgotten d) e max t1 t2 t3 }
 {}
 
 /// Packets that are not for a device: at most what it remembers changes.
 #[tactic(auto, using(crate::proofs::Attempts::strangers))]
 pub fn stranger_laws()
-    // A token for another address or endpoint.
+    // A token for another address.
     ensures token { (d : State) (kind : TokenKind) (a e : ℕ) → is_own d (Token kind a e) ≡ false → received d (Token kind a e) ≡ (None, unread d) }
     // Whatever is no token for it, where it remembers nothing.
     ensures rested { (d : State) (p : Packet) → is_own d p ≡ false → received (forgotten d) p ≡ (None, forgotten d) }

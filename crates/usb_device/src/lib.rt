@@ -2,6 +2,7 @@
 #![tactic(auto)]
 
 mod answer;
+mod bulk;
 mod device;
 mod devices;
 mod hub_spec;

@@ -2,9 +2,11 @@
 ghost use Rattle.std.specs.Prelude.{◌≡◌};
 ghost use Rattle.std.specs.List.{list_any};
 ghost use Rattle.usb_device.specs.Spec.{Spec};
-ghost use Rattle.usb_device.specs.Request.{outcome, unless, text_asked, get_descriptor, get_status, set_address, has_value, is_value, set_configuration};
+ghost use Rattle.usb_device.specs.Request.{outcome, unless, text_asked, get_descriptor, get_status, set_address, is_value, set_configuration, endpoint_of, on_endpoint, halts, unhalts, get_hub_descriptor};
+ghost use Rattle.usb_device.specs.Bulk.{has_value};
 ghost use Rattle.usb_device.specs.Code.{bytes_of, text_at, meaning_of};
 
+use crate::bulk::{Which, served};
 use crate::lists::Bytes;
 use crate::spec::DeviceSpec;
 use usb_request::{Setup, descriptor_type, request_code, request_type};
@@ -33,6 +35,8 @@ pub enum Source {
     Config(usize),
     /// A string, by its index.
     Text(usize),
+    /// The hub descriptor.
+    Hub,
     /// The two bytes of GET_STATUS.
     Status,
     /// The one byte of GET_CONFIGURATION.
@@ -50,6 +54,10 @@ pub enum Reaction {
     TakeAddress(u8),
     /// It takes a configuration at once.
     TakeConfiguration(u8),
+    /// An endpoint halts.
+    Halt(Which),
+    /// An endpoint halts no more.
+    Unhalt(Which),
 }
 
 fn unless(refused: bool, reaction: Reaction) -> Reaction
@@ -98,7 +106,7 @@ fn set_address(setup: &Setup) -> Reaction
     }
 }
 
-fn has_value(text: &[u8], value: u16) -> bool
+pub fn has_value(text: &[u8], value: u16) -> bool
     ensures { result ≡ has_value value text.now }
 {
     text.len() > 5 && u16::from(text[5]) == value
@@ -121,6 +129,45 @@ fn set_configuration(spec: &DeviceSpec, registers: Registers, setup: &Setup) -> 
 {
     if registers.address != 0 && is_value(spec.configs(), setup.value) && setup.length == 0 {
         Reaction::TakeConfiguration(setup.value as u8)
+    } else {
+        Reaction::Refuse
+    }
+}
+
+/// The endpoint that a CLEAR_FEATURE or SET_FEATURE of ENDPOINT_HALT names, where it is served.
+fn endpoint_of(spec: &DeviceSpec, registers: Registers, setup: &Setup) -> Option<Which>
+    ensures { result ≡ endpoint_of spec.now registers setup.now }
+{
+    if setup.value == 0 && setup.length == 0 {
+        served(spec, registers, setup.index)
+    } else {
+        None
+    }
+}
+
+fn halt(endpoint: Option<Which>) -> Reaction
+    ensures { (s : Spec) → meaning_of s result ≡ on_endpoint halts endpoint }
+{
+    match endpoint {
+        Some(which) => Reaction::Halt(which),
+        None => Reaction::Refuse,
+    }
+}
+
+fn unhalt(endpoint: Option<Which>) -> Reaction
+    ensures { (s : Spec) → meaning_of s result ≡ on_endpoint unhalts endpoint }
+{
+    match endpoint {
+        Some(which) => Reaction::Unhalt(which),
+        None => Reaction::Refuse,
+    }
+}
+
+fn get_hub_descriptor(spec: &DeviceSpec, setup: &Setup) -> Reaction
+    ensures { meaning_of spec.now result ≡ get_hub_descriptor spec.now.hub setup.now }
+{
+    if spec.hub().is_some() && setup.value == 0x2900 {
+        Reaction::Answer(Source::Hub)
     } else {
         Reaction::Refuse
     }
@@ -149,6 +196,15 @@ pub fn react(spec: &DeviceSpec, registers: Registers, setup: &Setup) -> Reaction
             stalls.set_config,
             set_configuration(spec, registers, setup),
         ),
+        (request_type::ENDPOINT_OUT, request_code::CLEAR_FEATURE) => unhalt(endpoint_of(
+            spec, registers, setup,
+        )),
+        (request_type::ENDPOINT_OUT, request_code::SET_FEATURE) => halt(endpoint_of(
+            spec, registers, setup,
+        )),
+        (request_type::HUB_IN, request_code::GET_DESCRIPTOR) => {
+            unless(stalls.hub, get_hub_descriptor(spec, setup))
+        }
         _ => Reaction::Refuse,
     }
 }

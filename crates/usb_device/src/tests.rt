@@ -1,2 +1,3 @@
 mod attempts;
+mod bulk;
 mod described;

@@ -6,16 +6,25 @@ use crate::request::Source;
 use arrayvec::ArrayVec;
 use usb_packet::Toggle;
 
+/// What gave the data of which an ACK is awaited.
+#[derive(Clone, Copy, Debug)]
+pub enum Giver {
+    /// Endpoint 0.
+    Control,
+    /// The bulk IN endpoint.
+    Bulk,
+}
+
 /// What the packet before left.
 #[derive(Clone, Copy, Debug)]
 pub enum Memory {
     Nothing,
     /// A SETUP token, whose data come next.
     SetupSeen,
-    /// An OUT token, whose data come next.
-    OutSeen,
+    /// An OUT token for an endpoint, whose data come next.
+    OutSeen(u8),
     /// Data of the device, whose ACK comes next.
-    AckAwaited,
+    AckAwaited(Giver),
 }
 
 /// Where a control transfer stands.

@@ -1,5 +1,5 @@
 -- What follows where the parts of an entry are good.
-use Rattle.std.proofs.Common.{◌≡◌, ◌+◌, ℕ, ℤ, pos, negsuc, ◌<◌, ◌≤◌, List, [], length, Bool, true, false, ◌&&◌, ◌||◌, cond, Option, Some, None, Result, Ok, Err, refl, ap, arith, codes, nat_le, nat_lt, ◌==◌, position, inl, inr, ◌⊎◌}
+use Rattle.std.proofs.Common.{◌≡◌, ◌+◌, ℕ, ℤ, pos, negsuc, ◌<◌, ◌≤◌, List, [], length, Bool, true, false, ◌&&◌, ◌||◌, cond, Option, Some, None, Result, Ok, Err, refl, ap, sym, ◌∙◌, not, IfOk, IfSome, arith, codes, nat_le, nat_lt, ◌==◌, position, inl, inr, ◌⊎◌}
 use Rattle.std.proofs.lemmas.Bool.{and_parts, or_parts, leb-true, ltb-true, lt-ltb, le-leb}
 use Rattle.std.proofs.lemmas.List.Quantifiers.{position-Some}
 use Rattle.std.specs.Str.{bytes_eq}
@@ -22,10 +22,13 @@ use Rattle.usb_plan.specs.declared.damage.Way.TheVariants as way
 use Rattle.usb_plan.specs.Kind.{both, placed}
 use Rattle.usb_plan.specs.Keys.{keys_at}
 use Rattle.usb_plan.specs.Value.{number_in, number_at, number_or}
-use Rattle.usb_device.specs.Spec.{Spec, function, is_named}
+use Rattle.usb_device.specs.Spec.{Spec, Hub, hub_fits, has_hub_class, function, is_named}
+use Rattle.usb_plan.specs.Hub.{class_at, hub_at, no_hub, is_low, is_other}
+use Rattle.usb_plan.specs.Quirks.{Quirks, quirks_of, flag_at, naks_at}
+use Rattle.usb_plan.specs.Bulk.{Bulk, bulk_of, source_at, halt_at, halt_in, some_in}
 use Rattle.usb_bus.specs.PlanData.{is_taken, action_fits, event_fits, harm_fits, damage_fits}
 use Rattle.usb_plan.specs.Device as device
-use Rattle.usb_plan.specs.Device.{name_in, name_at, speed_at, descriptor_at, configs_at, device_keys, made, device_of, device_in}
+use Rattle.usb_plan.specs.Device.{name_in, name_at, speed_at, descriptor_at, configs_at, strings_at, device_keys, with_quirks, with_halt, with_hub, named_device, PartsFit, device_from, made, parts_of, device_of, device_in}
 use Rattle.usb_plan.specs.Path.{rooted, path_in, path_at, free, taken}
 use Rattle.usb_plan.specs.Verb.{verb_at}
 use Rattle.usb_plan.specs.Action as action
@@ -78,9 +81,44 @@ device_room_ok : (earlier : List Spec) (u : Unit {0}) → device.room earlier �
 unfolding device.room
 device_room_ok earlier u h = ltb-true (length earlier) 127 (ok_if (nat_lt (length earlier) 127) (Ok tt) BadValue u h).0
 
+number_in_ok : (low high : ℕ) (o : Option ℤ) (n : ℕ) → number_in low high o ≡ Ok n → (low ≤ n) × (n ≤ high)
+unfolding number_in
+number_in_ok low high None n h = cc
+number_in_ok low high (Some (negsuc m)) n h = cc
+number_in_ok low high (Some (pos m)) n h =
+    let test = ok_if (nat_le low m && nat_le m high) (Ok m) BadValue n h in
+    let parts = and_parts (nat_le low m) (nat_le m high) test.0 in
+    let same : m ≡ n = cc test.1 in
+    rw (← same) (leb-true low m parts.0, leb-true m high parts.1)
+
+pub number_at_ok : (low high : ℕ) (o : Option Data) (n : ℕ) → number_at low high o ≡ Ok n → (low ≤ n) × (n ≤ high)
+unfolding number_at
+number_at_ok low high None n h = cc
+number_at_ok low high (Some d) n h = number_in_ok low high (as_integer d) n h
+
+pub number_or_ok : (absent low high : ℕ) (o : Option Data) (n : ℕ) → absent ≤ high → number_or absent low high o ≡ Ok n → n ≤ high
+unfolding number_or
+number_or_ok absent low high None n le h = let same : absent ≡ n = cc in rw (← same) le
+number_or_ok absent low high (Some d) n le h = (number_in_ok low high (as_integer d) n h).1
+
+hub_name : (hub : Option Hub) (s : Spec) → (with_hub hub s).name ≡ s.name
+unfolding with_hub
+hub_name None s = refl
+hub_name (Some hub) s = refl
+
+halt_name : (halt : Option ℕ) (s : Spec) → (with_halt halt s).name ≡ s.name
+unfolding with_halt
+halt_name None s = refl
+halt_name (Some packets) s = refl
+
+from_name : (x : device.Parts) → (device_from x).name ≡ x.0
+unfolding device_from with_quirks
+from_name x =
+    halt_name x.1.1.1.1.1.1.1.1.0.1 _ ∙ hub_name x.1.1.1.1.1.1.0 (named_device x.0 x.1.0 x.1.1.0 x.1.1.1.0)
+
 made_ok : (r : Result device.Parts Kind) (s : Spec) → made r ≡ Ok s → (x : device.Parts) × (r ≡ Ok x) × (x.0 ≡ s.name)
 unfolding made
-made_ok (Ok x) s h = (x, refl, let e : function x.0 x.1.1.0 x.1.1.1.0 ≡ s = cc in ap (λ t. t.name) e)
+made_ok (Ok x) s h = (x, refl, let e : device_from x ≡ s = cc in sym (from_name x) ∙ ap (λ t. t.name) e)
 made_ok (Err k) s h = cc
 
 -- the device may stand after the earlier ones
@@ -88,20 +126,89 @@ pub record Joins (earlier : List Spec) (s : Spec) : Type 0 where
   pub room : length earlier < 127
   pub new : is_named earlier s.name ≡ false
 
+naks_at_ok : (o : Option Data) (n : ℕ) → naks_at o ≡ Ok n → n ≤ 200
+unfolding naks_at
+naks_at_ok o n h = number_or_ok 0 0 200 o n (omega arith) h
+
+quirks_of_ok : (ms : Members) (q : Quirks) → quirks_of ms ≡ Ok q → q.1.1.1.0 ≤ 200
+unfolding quirks_of
+quirks_of_ok ms q h =
+    let first = both_ok (flag_at (get_member (codes "self_powered") ms)) _ q h in
+    let second = both_ok (flag_at (get_member (codes "busy") ms)) _ q.1 first.1 in
+    let third = both_ok (flag_at (get_member (codes "silent") ms)) _ q.1.1 second.1 in
+    let fourth = both_ok (naks_at (get_member (codes "naks") ms)) _ q.1.1.1 third.1 in
+    naks_at_ok (get_member (codes "naks") ms) q.1.1.1.0 fourth.0
+
+some_in_ok : (r : Result ℕ Kind) (h : Option ℕ) → some_in r ≡ Ok h → IfOk r (λ n. 1 ≤ n) → IfSome h (λ n. 1 ≤ n)
+some_in_ok (Ok n) h e one = let same : Some n ≡ h = cc in rw (← same) one
+some_in_ok (Err k) h e one = cc
+
+number_in_least : (low high : ℕ) (r : Result ℕ Kind) (o : Option ℤ) → r ≡ number_in low high o → IfOk r (λ n. low ≤ n)
+number_in_least low high (Ok n) o h = (number_in_ok low high o n (sym h)).0
+number_in_least low high (Err k) o h = tt
+
+halt_at_ok : (o : Option Data) (h : Option ℕ) → halt_at o ≡ Ok h → IfSome h (λ n. 1 ≤ n)
+unfolding halt_at halt_in
+halt_at_ok None h e = let same : None ≡ h = cc in rw (← same) tt
+halt_at_ok (Some d) h e = some_in_ok (number_in 1 65535 (as_integer d)) h e (number_in_least 1 65535 _ (as_integer d) refl)
+
+bulk_of_ok : (ms : Members) (b : Bulk) → bulk_of ms ≡ Ok b → IfSome b.1 (λ n. 1 ≤ n)
+unfolding bulk_of
+bulk_of_ok ms b h =
+    let parts = both_ok (source_at (get_member (codes "source") ms)) _ b h in
+    halt_at_ok (get_member (codes "halt_after") ms) b.1 parts.1
+
+class_at_ok : (ports descriptor : Option Data) (low : Bool) (bytes : List ℕ) (u : Unit {0}) (hub : Option Hub) → class_at ports (Ok low) (Ok bytes) ≡ Ok u → hub_at ports descriptor ≡ Ok hub → hub_fits low bytes hub ≡ true
+unfolding class_at hub_at no_hub is_low is_other
+class_at_ok None None low bytes u hub c h = let same : None ≡ hub = cc h in rw (← same) refl
+class_at_ok None (Some d) low bytes u hub c h = cc h
+class_at_ok (Some p) descriptor low bytes u None c h = refl
+class_at_ok (Some p) descriptor low bytes u (Some hub) c h =
+    let test = ok_unless (low || not (has_hub_class bytes)) (Ok tt) BadValue u c in
+    fits low (has_hub_class bytes) test.0
+  where
+    fits : (a b : Bool) → (a || not b) ≡ false → (not a && b) ≡ true
+    fits false true e = refl
+    fits false false e = cc
+    fits true b e = cc
+
+-- what the parts of a device keep
+pub record AreParts (earlier : List Spec) (x : device.Parts) : Type 0 where
+  pub room : length earlier < 127
+  pub new : is_named earlier x.0 ≡ false
+  pub fit : PartsFit x
+
+pub parts_of_ok : (earlier : List Spec) (ms : Members) (x : device.Parts) → parts_of earlier ms ≡ Ok x → AreParts earlier x
+unfolding parts_of
+parts_of_ok earlier ms x h =
+    let ports = get_member (codes "ports") ms in
+    let first = both_ok (name_at earlier (get_member (codes "name") ms)) _ x h in
+    let second = both_ok (speed_at (get_member (codes "speed") ms)) _ x.1 first.1 in
+    let third = both_ok (descriptor_at (get_member (codes "descriptor") ms)) _ x.1.1 second.1 in
+    let fourth = both_ok (configs_at (get_member (codes "configs") ms)) _ x.1.1.1 third.1 in
+    let fifth = both_ok (strings_at (get_member (codes "strings") ms)) _ x.1.1.1.1 fourth.1 in
+    let sixth = both_ok (class_at ports (speed_at (get_member (codes "speed") ms)) (descriptor_at (get_member (codes "descriptor") ms))) _ x.1.1.1.1.1 fifth.1 in
+    let seventh = both_ok (hub_at ports (get_member (codes "hub_descriptor") ms)) _ x.1.1.1.1.1.1 sixth.1 in
+    let eighth = both_ok (quirks_of ms) _ x.1.1.1.1.1.1.1 seventh.1 in
+    let ninth = both_ok (bulk_of ms) _ x.1.1.1.1.1.1.1.1 eighth.1 in
+    let last = both_ok (keys_at device_keys ms) (device.room earlier) x.1.1.1.1.1.1.1.1.1 ninth.1 in
+    let class : class_at ports (Ok x.1.0) (Ok x.1.1.0) ≡ Ok x.1.1.1.1.1.0 = rw (← second.0, ← third.0) sixth.0 in
+    record {
+      room = device_room_ok earlier x.1.1.1.1.1.1.1.1.1.1 last.1;
+      new = name_at_ok earlier (get_member (codes "name") ms) x.0 first.0;
+      fit = record {
+        hub = class_at_ok ports (get_member (codes "hub_descriptor") ms) x.1.0 x.1.1.0 x.1.1.1.1.1.0 x.1.1.1.1.1.1.0 class seventh.0;
+        naks = quirks_of_ok ms x.1.1.1.1.1.1.1.0 eighth.0;
+        halt = bulk_of_ok ms x.1.1.1.1.1.1.1.1.0 ninth.0;
+      };
+    }
+
 device_of_ok : (earlier : List Spec) (ms : Members) (s : Spec) → device_of earlier ms ≡ Ok s → Joins earlier s
 unfolding device_of
 device_of_ok earlier ms s h =
     let parts = made_ok _ s h in
-    let x = parts.0 in
-    let first = both_ok (name_at earlier (get_member (codes "name") ms)) _ x parts.1 in
-    let second = both_ok (speed_at (get_member (codes "speed") ms)) _ x.1 first.1 in
-    let third = both_ok (descriptor_at (get_member (codes "descriptor") ms)) _ x.1.1 second.1 in
-    let fourth = both_ok (configs_at (get_member (codes "configs") ms)) _ x.1.1.1 third.1 in
-    let last = both_ok (keys_at device_keys ms) (device.room earlier) x.1.1.1.1 fourth.1 in
-    record {
-      room = device_room_ok earlier x.1.1.1.1.1 last.1;
-      new = rw (← parts.2) (name_at_ok earlier (get_member (codes "name") ms) x.0 first.0);
-    }
+    let are = parts_of_ok earlier ms parts.0 parts.1 in
+    record { room = are.room; new = rw (← parts.2) are.new }
 
 pub device_in_ok : (earlier : List Spec) (o : Option Members) (s : Spec) → device_in earlier o ≡ Ok s → Joins earlier s
 unfolding device_in
@@ -167,26 +274,6 @@ device_at_ok specs (Some d) i h = device_named_ok specs (as_str d) i h
 room_ok : (count : ℕ) (u : Unit {0}) → room count ≡ Ok u → count < 10000
 unfolding room
 room_ok count u h = ltb-true count 10000 (ok_if (nat_lt count 10000) (Ok tt) BadValue u h).0
-
-number_in_ok : (low high : ℕ) (o : Option ℤ) (n : ℕ) → number_in low high o ≡ Ok n → (low ≤ n) × (n ≤ high)
-unfolding number_in
-number_in_ok low high None n h = cc
-number_in_ok low high (Some (negsuc m)) n h = cc
-number_in_ok low high (Some (pos m)) n h =
-    let test = ok_if (nat_le low m && nat_le m high) (Ok m) BadValue n h in
-    let parts = and_parts (nat_le low m) (nat_le m high) test.0 in
-    let same : m ≡ n = cc test.1 in
-    rw (← same) (leb-true low m parts.0, leb-true m high parts.1)
-
-pub number_at_ok : (low high : ℕ) (o : Option Data) (n : ℕ) → number_at low high o ≡ Ok n → (low ≤ n) × (n ≤ high)
-unfolding number_at
-number_at_ok low high None n h = cc
-number_at_ok low high (Some d) n h = number_in_ok low high (as_integer d) n h
-
-number_or_ok : (absent low high : ℕ) (o : Option Data) (n : ℕ) → absent ≤ high → number_or absent low high o ≡ Ok n → n ≤ high
-unfolding number_or
-number_or_ok absent low high None n le h = let same : absent ≡ n = cc in rw (← same) le
-number_or_ok absent low high (Some d) n le h = (number_in_ok low high (as_integer d) n h).1
 
 after_at_ok : (o : Option Data) (n : ℕ) → after_at o ≡ Ok n → n ≤ 1000000000
 unfolding after_at

@@ -1,9 +1,9 @@
 -- Loops over values.
-use Rattle.std.proofs.Common.{◌≡◌, ℕ, ◌+◌, ◌<◌, ◌≤◌, List, [], ◌∷◌, length, get_or, drop, map, Result, Ok, Err, IfOk, refl, sym, ap, ◌∙◌, arith, Some}
+use Rattle.std.proofs.Common.{◌≡◌, ℕ, ◌+◌, ◌<◌, ◌≤◌, List, [], ◌∷◌, length, get_or, drop, map, Result, Ok, Err, IfOk, refl, sym, ap, ◌∙◌, arith, Some, ◌||◌}
 use Rattle.std.proofs.lemmas.List.{drop_more, drop_all, length_push, length-map}
 use Rattle.std.proofs.lemmas.Bool.{le-leb, lt-leb}
 use Rattle.std.proofs.lemmas.List.Folds.{list_all-map}
-use Rattle.std.specs.List.{list_all}
+use Rattle.std.specs.List.{list_all, list_any}
 use Rattle.usb_plan.specs.Plan.{is_table}
 use Rattle.usb_plan.specs.declared.kind.Kind.TheVariants.{BadValue}
 use Rattle.toml.specs.Data.{as_str}
@@ -12,7 +12,8 @@ use Rattle.usb_plan.specs.Kind.{both}
 use Rattle.usb_plan.specs.Value.{hex_in, data_list}
 use Rattle.toml.specs.declared.value.Value.{Value}
 use Rattle.toml.specs.View.{view, items_view}
-use Rattle.usb_plan.specs.Device.{texts_from, pushed, configs_in}
+use Rattle.usb_plan.specs.Texts.{texts_from, pushed, texts_in}
+use Rattle.usb_plan.specs.Quirks.{names, is_stall}
 
 -- at most n texts
 abbrev pub AtMost : ℕ → Result (List (List ℕ)) Kind → Type 0
@@ -25,12 +26,12 @@ AtMost-pushed n (Ok xs) (Err k) h = tt
 AtMost-pushed n (Err k) (Ok x) h = tt
 AtMost-pushed n (Err k) (Err l) h = tt
 
-pub AtMost-both : (n : ℕ) (texts : Result (List (List ℕ)) Kind) (text : Result (List ℕ) Kind) → AtMost n texts → n < 8 → IfOk (both texts text) (λ x. length x.0 < 8)
+pub AtMost-both : (n count : ℕ) (texts : Result (List (List ℕ)) Kind) (text : Result (List ℕ) Kind) → AtMost n texts → n < count → IfOk (both texts text) (λ x. length x.0 < count)
 unfolding both
-AtMost-both n (Ok xs) (Ok x) h lt = omega arith
-AtMost-both n (Ok xs) (Err k) h lt = tt
-AtMost-both n (Err k) (Ok x) h lt = tt
-AtMost-both n (Err k) (Err l) h lt = tt
+AtMost-both n count (Ok xs) (Ok x) h lt = omega arith
+AtMost-both n count (Ok xs) (Err k) h lt = tt
+AtMost-both n count (Err k) (Ok x) h lt = tt
+AtMost-both n count (Err k) (Err l) h lt = tt
 
 -- the data of the values from a place on
 pub view_drop : (vs : List Value) (i : ℕ) (v : Value) → i < length vs → v ≡ get_or vs i v → map view (drop i vs) ≡ view v ∷ map view (drop (i + 1) vs)
@@ -43,19 +44,26 @@ data_list_view (v ∷ vs) = ap (λ ds. view v ∷ ds) (data_list_view vs)
 pub are_tables_view : (vs : List Value) → list_all is_table (data_list (items_view vs)) ≡ list_all (λ v. is_table (view v)) vs
 are_tables_view vs = ap (list_all is_table) (data_list_view vs) ∙ list_all-map is_table view vs
 
-pub texts_from-step : (texts : Result (List (List ℕ)) Kind) (vs : List Value) (i : ℕ) (v : Value) (text : Result (List ℕ) Kind) (total : Result (List (List ℕ)) Kind) → i < length vs → v ≡ get_or vs i v → text ≡ hex_in 65535 (as_str (view v))
-    → texts_from texts (map view (drop i vs)) ≡ total → texts_from (pushed (both texts text)) (map view (drop (i + 1) vs)) ≡ total
+pub texts_from-step : (most : ℕ) (texts : Result (List (List ℕ)) Kind) (vs : List Value) (i : ℕ) (v : Value) (text : Result (List ℕ) Kind) (total : Result (List (List ℕ)) Kind) → i < length vs → v ≡ get_or vs i v → text ≡ hex_in most (as_str (view v))
+    → texts_from most texts (map view (drop i vs)) ≡ total → texts_from most (pushed (both texts text)) (map view (drop (i + 1) vs)) ≡ total
 unfolding texts_from
-texts_from-step texts vs i v text total lt is e so_far = rw e (sym (ap (texts_from texts) (view_drop vs i v lt is)) ∙ so_far)
+texts_from-step most texts vs i v text total lt is e so_far = rw e (sym (ap (texts_from most texts) (view_drop vs i v lt is)) ∙ so_far)
 
-pub texts_from-end : (texts : Result (List (List ℕ)) Kind) (vs : List Value) (i : ℕ) → length vs ≤ i → texts_from texts (map view (drop i vs)) ≡ texts
+pub texts_from-end : (most : ℕ) (texts : Result (List (List ℕ)) Kind) (vs : List Value) (i : ℕ) → length vs ≤ i → texts_from most texts (map view (drop i vs)) ≡ texts
 unfolding texts_from
-texts_from-end texts vs i le = rw (drop_all i vs le)
+texts_from-end most texts vs i le = rw (drop_all i vs le)
 
-pub configs_few : (vs : List Value) → length vs ≤ 8 → configs_in (Some (items_view vs)) ≡ texts_from (Ok []) (map view vs)
-unfolding configs_in
-configs_few vs le = rw data_list_view (let few : length (map view vs) ≤ 8 = rw length-map le in rw (le-leb (length (map view vs)) 8 few))
+pub texts_few : (count most : ℕ) (vs : List Value) → length vs ≤ count → texts_in count most (Some (items_view vs)) ≡ texts_from most (Ok []) (map view vs)
+unfolding texts_in
+texts_few count most vs le = rw data_list_view (let few : length (map view vs) ≤ count = rw length-map le in rw (le-leb (length (map view vs)) count few))
 
-pub configs_many : (vs : List Value) → 8 < length vs → configs_in (Some (items_view vs)) ≡ Err BadValue
-unfolding configs_in
-configs_many vs gt = rw data_list_view (let many : 8 < length (map view vs) = rw length-map gt in rw (lt-leb (length (map view vs)) 8 many))
+pub texts_many : (count most : ℕ) (vs : List Value) → count < length vs → texts_in count most (Some (items_view vs)) ≡ Err BadValue
+unfolding texts_in
+texts_many count most vs gt = rw data_list_view (let many : count < length (map view vs) = rw length-map gt in rw (lt-leb (length (map view vs)) count many))
+
+pub some_names_view : (word : List ℕ) (vs : List Value) → list_any (names word) (map view vs) ≡ list_any (λ v. names word (view v)) vs
+some_names_view word [] = refl
+some_names_view word (v ∷ vs) = ap (λ b. names word (view v) || b) (some_names_view word vs)
+
+pub are_stalls_view : (vs : List Value) → list_all is_stall (data_list (items_view vs)) ≡ list_all (λ v. is_stall (view v)) vs
+are_stalls_view vs = ap (list_all is_stall) (data_list_view vs) ∙ list_all-map is_stall view vs

@@ -2,6 +2,10 @@ pub mod Place
 pub mod Kind
 pub mod Value
 pub mod Keys
+pub mod Texts
+pub mod Hub
+pub mod Quirks
+pub mod Bulk
 pub mod Device
 pub mod Path
 pub mod Verb

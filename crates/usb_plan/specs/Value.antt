@@ -1,5 +1,6 @@
 -- What single values stand for.
-use Rattle.std.specs.Prelude.{ℕ, ℤ, pos, negsuc, List, [], ◌∷◌, length, ◌&&◌, Option, Some, None, Result, Ok, Err, nat_le, if◌then◌else◌}
+use Rattle.std.specs.Prelude.{ℕ, ℤ, pos, negsuc, List, [], ◌∷◌, length, Bool, false, ◌&&◌, Option, Some, None, Result, Ok, Err, nat_le, if◌then◌else◌}
+use Rattle.std.specs.Str.{bytes_eq}
 use Rattle.hex.specs.Hex.{decode_of}
 use Rattle.hex.specs.declared.error.FromHexError.{FromHexError}
 use Rattle.toml.specs.Data.{Data, Items, no_items, item, as_integer}
@@ -10,6 +11,11 @@ use Rattle.usb_plan.specs.declared.kind.Kind.TheVariants.{MissingKey, BadValue, 
 abbrev pub data_list : Items → List Data
 data_list no_items = []
 data_list (item d ds) = d ∷ data_list ds
+
+-- the text is the word
+unfoldable pub is_word : List ℕ → Option (List ℕ) → Bool
+is_word word None = false
+is_word word (Some text) = bytes_eq text word
 
 -- a number from low to high
 unfoldable pub number_in : ℕ → ℕ → Option ℤ → Result ℕ Kind

@@ -1,19 +1,23 @@
 //! The `device` entries of the document.
 
-ghost use Rattle.std.specs.Prelude.{◌≡◌, ◌<◌, ◌≤◌, codes, ◌∷◌, [], Ok, IfOk, OnOk, option_map, map, length};
+ghost use Rattle.std.specs.Prelude.{◌≡◌, ◌<◌, ◌≤◌, codes, ◌∷◌, [], Ok, IfOk, IfSome, OnOk, option_map, map, length, true};
 ghost use Rattle.std.specs.Result.{ForOk};
 ghost use Rattle.toml.specs.Data.{get_member, as_str, as_array};
 ghost use Rattle.toml.specs.View.{view, table_view, array_view};
-ghost use Rattle.usb_plan.specs.Device.{name_in, name_at, is_full, speed_at, descriptor_at, pushed, texts_from, configs_in, configs_at, room, made, device_of, device_in, devices_from};
+ghost use Rattle.usb_device.specs.Spec.{hub_fits};
+ghost use Rattle.usb_plan.specs.Device.{name_in, name_at, speed_in, speed_at, descriptor_at, configs_at, strings_at, room, with_quirks, with_halt, with_hub, PartsFit, device_from, made, parts_of, device_of, device_in, devices_from};
 
+use crate::bulk::{Bulk, bulk_of};
 use crate::fault::{Place, PlanFault};
+use crate::hub::{class_at, hub_at};
 use crate::keys::keys_at;
 use crate::kind::{Kind, both, placed};
-use crate::value::{hex_in, value_at};
+use crate::quirks::{Quirks, quirks_of};
+use crate::texts::texts_in;
+use crate::value::{hex_in, is_word, value_at};
 use std::alloc::{AllocError, Global};
-use toml::value::Array;
 use toml::{Table, Value};
-use usb_device::{Bytes, ConfigTexts, DeviceSpec, Devices, Name};
+use usb_device::{Bytes, ConfigTexts, DeviceSpec, Devices, HubSpec, Name, StringTexts};
 
 /// A name that is not empty and that no earlier device has.
 #[tactic(auto, unfolding(crate::specs::Device::name_in))]
@@ -50,30 +54,27 @@ fn name_at(
     }
 }
 
-#[tactic(auto, unfolding(crate::specs::Device::is_full))]
-fn is_full(text: Option<&str>) -> bool
-    ensures { result ≡ is_full (option_map (λ t. t.now) text.entry) }
+#[tactic(auto, unfolding(crate::specs::Device::speed_in))]
+fn speed_in(text: Option<&str>) -> Result<bool, Kind>
+    ensures { result ≡ speed_in (option_map (λ t. t.now) text.entry) }
 {
-    match text {
-        None => false,
-        Some(text) => text == "full",
+    if is_word(text, "full") {
+        Ok(false)
+    } else if is_word(text, "low") {
+        Ok(true)
+    } else {
+        Err(Kind::BadValue)
     }
 }
 
-/// The key `speed`: full speed alone is served.
+/// The key `speed`: whether it is low speed.
 #[tactic(auto, unfolding(crate::specs::Device::speed_at))]
-fn speed_at(value: Option<&Value>) -> Result<(), Kind>
+fn speed_at(value: Option<&Value>) -> Result<bool, Kind>
     ensures { result ≡ speed_at (option_map (λ v. view v.now) value.entry) }
 {
     match value {
         None => Err(Kind::MissingKey),
-        Some(value) => {
-            if is_full(value.as_str()) {
-                Ok(())
-            } else {
-                Err(Kind::BadValue)
-            }
-        }
+        Some(value) => speed_in(value.as_str()),
     }
 }
 
@@ -91,56 +92,6 @@ fn descriptor_at(
     }
 }
 
-/// The texts with one more at their end.
-#[tactic(auto, unfolding(crate::specs::Device::pushed))]
-fn pushed(
-    pair: Result<(ConfigTexts, Bytes<65535>), Kind>,
-) -> Result<Result<ConfigTexts, Kind>, AllocError>
-    requires { ForOk pair (λ x. length x.0 < 8) }
-    ensures { IfOk result (λ r. r ≡ pushed pair) }
-{
-    match pair {
-        Err(kind) => Ok(Err(kind)),
-        Ok((mut texts, text)) => {
-            texts.push(text)?;
-            Ok(Ok(texts))
-        }
-    }
-}
-
-/// The texts of at most 8 values, or the fault of them that is told first.
-fn texts_of(alloc: Global, values: &[Value]) -> Result<Result<ConfigTexts, Kind>, AllocError>
-    requires { length values.now ≤ 8 }
-    ensures { IfOk result (λ r. r ≡ texts_from (Ok []) (map view values.now)) }
-{
-    let mut texts = Ok(ConfigTexts::new(alloc));
-    for value in values {
-        let text = hex_in::<65535>(alloc, value)?;
-        texts = pushed(both(texts, text))?;
-    }
-    Ok(texts)
-}
-
-#[tactic(auto, using(crate::proofs::Steps::data_list_view), unfolding(crate::specs::Device::configs_in))]
-fn configs_in(
-    alloc: Global,
-    values: Option<&Array>,
-) -> Result<Result<ConfigTexts, Kind>, AllocError>
-    ensures { IfOk result (λ r. r ≡ configs_in (option_map (λ v. array_view v.now) values.entry)) }
-{
-    match values {
-        None => Ok(Err(Kind::BadValue)),
-        Some(values) => {
-            let values = values.as_slice();
-            if values.len() <= 8 {
-                texts_of(alloc, values)
-            } else {
-                Ok(Err(Kind::BadValue))
-            }
-        }
-    }
-}
-
 /// The key `configs`.
 #[tactic(auto, unfolding(crate::specs::Device::configs_at))]
 fn configs_at(alloc: Global, value: Option<&Value>) -> Result<Result<ConfigTexts, Kind>, AllocError>
@@ -148,7 +99,18 @@ fn configs_at(alloc: Global, value: Option<&Value>) -> Result<Result<ConfigTexts
 {
     match value {
         None => Ok(Err(Kind::MissingKey)),
-        Some(value) => configs_in(alloc, value.as_array()),
+        Some(value) => texts_in::<8, 65535>(alloc, value.as_array()),
+    }
+}
+
+/// The key `strings`, which may be absent.
+#[tactic(auto, unfolding(crate::specs::Device::strings_at))]
+fn strings_at(alloc: Global, value: Option<&Value>) -> Result<Result<StringTexts, Kind>, AllocError>
+    ensures { IfOk result (λ r. r ≡ strings_at (option_map (λ v. view v.now) value.entry)) }
+{
+    match value {
+        None => Ok(Ok(StringTexts::new(alloc))),
+        Some(value) => texts_in::<256, 255>(alloc, value.as_array()),
     }
 }
 
@@ -164,18 +126,126 @@ fn room(earlier: &Devices) -> Result<(), Kind>
     }
 }
 
-type Parts = (Name, ((), (Bytes<255>, (ConfigTexts, ((), ())))));
+#[tactic(auto, unfolding(crate::specs::Device::with_quirks))]
+fn with_quirks(device: DeviceSpec, quirks: Quirks) -> DeviceSpec
+    requires { quirks.1.1.1.0 ≤ 200 }
+    ensures { result ≡ with_quirks quirks device }
+{
+    let (self_powered, (busy, (silent, (naks, stalls)))) = quirks;
+    device
+        .with_self_powered(self_powered)
+        .with_busy(busy)
+        .with_silent(silent)
+        .with_naks(naks)
+        .with_stalls(stalls)
+}
+
+#[tactic(auto, unfolding(crate::specs::Device::with_halt))]
+fn with_halt(device: DeviceSpec, halt_after: Option<u16>) -> DeviceSpec
+    requires { IfSome halt_after (λ n. 1 ≤ n) }
+    ensures { result ≡ with_halt halt_after device }
+{
+    match halt_after {
+        None => device,
+        Some(packets) => device.with_halt_after(packets),
+    }
+}
+
+#[tactic(auto, unfolding(crate::specs::Device::with_hub))]
+fn with_hub(device: DeviceSpec, hub: Option<HubSpec>) -> DeviceSpec
+    requires { hub_fits device.low device.descriptor hub ≡ true }
+    ensures { result ≡ with_hub hub device }
+{
+    match hub {
+        None => device,
+        Some(hub) => device.with_hub(hub),
+    }
+}
+
+type Parts = (
+    Name,
+    (
+        bool,
+        (
+            Bytes<255>,
+            (
+                ConfigTexts,
+                (
+                    StringTexts,
+                    ((), (Option<HubSpec>, (Quirks, (Bulk, ((), ()))))),
+                ),
+            ),
+        ),
+    ),
+);
+
+#[tactic(auto, unfolding(crate::specs::Device::device_from))]
+fn device_from(parts: Parts) -> DeviceSpec
+    requires { PartsFit parts }
+    ensures { result ≡ device_from parts }
+{
+    let (name, (low, (descriptor, (configs, (strings, (_, (hub, (quirks, (bulk, _))))))))) = parts;
+    let (source, halt_after) = bulk;
+    let device = DeviceSpec::function(name, descriptor, configs).with_low_speed(low);
+    let device = with_hub(device, hub)
+        .with_strings(strings)
+        .with_source(source);
+    with_halt(with_quirks(device, quirks), halt_after)
+}
 
 #[tactic(auto, unfolding(crate::specs::Device::made))]
 fn made(parts: Result<Parts, Kind>) -> Result<DeviceSpec, Kind>
+    requires { ForOk parts PartsFit }
     ensures { result ≡ made parts }
 {
     match parts {
-        Ok((name, (_, (descriptor, (configs, _))))) => {
-            Ok(DeviceSpec::function(name, descriptor, configs))
-        }
+        Ok(parts) => Ok(device_from(parts)),
         Err(kind) => Err(kind),
     }
+}
+
+const KEYS: [&str; 14] = [
+    "name",
+    "speed",
+    "descriptor",
+    "configs",
+    "strings",
+    "ports",
+    "hub_descriptor",
+    "self_powered",
+    "busy",
+    "silent",
+    "naks",
+    "stalls",
+    "source",
+    "halt_after",
+];
+
+/// The parts of the device that a table describes, beside the earlier ones.
+#[tactic(auto, unfolding(crate::specs::Device::parts_of))]
+fn parts_of(
+    alloc: Global,
+    earlier: &Devices,
+    table: &Table,
+) -> Result<Result<Parts, Kind>, AllocError>
+    ensures { IfOk result (λ r. r ≡ parts_of earlier.now (table_view table.now)) }
+{
+    let name = name_at(alloc, earlier, value_at(table, "name"))?;
+    let low = speed_at(value_at(table, "speed"));
+    let descriptor = descriptor_at(alloc, value_at(table, "descriptor"))?;
+    let configs = configs_at(alloc, value_at(table, "configs"))?;
+    let strings = strings_at(alloc, value_at(table, "strings"))?;
+    let ports = value_at(table, "ports");
+    let class = class_at(ports, &low, &descriptor);
+    let hub = hub_at(alloc, ports, value_at(table, "hub_descriptor"))?;
+    let quirks = quirks_of(table);
+    let bulk = bulk_of(alloc, table)?;
+    let rest = both(
+        quirks,
+        both(bulk, both(keys_at(table, &KEYS), room(earlier))),
+    );
+    let texts = both(configs, both(strings, both(class, both(hub, rest))));
+    Ok(both(name, both(low, both(descriptor, texts))))
 }
 
 /// The device that a table describes, beside the earlier ones.
@@ -187,13 +257,7 @@ fn device_of(
 ) -> Result<Result<DeviceSpec, Kind>, AllocError>
     ensures { IfOk result (λ r. r ≡ device_of earlier.now (table_view table.now)) }
 {
-    let name = name_at(alloc, earlier, value_at(table, "name"))?;
-    let speed = speed_at(value_at(table, "speed"));
-    let descriptor = descriptor_at(alloc, value_at(table, "descriptor"))?;
-    let configs = configs_at(alloc, value_at(table, "configs"))?;
-    let keys = keys_at(table, &["name", "speed", "descriptor", "configs"]);
-    let rest = both(keys, room(earlier));
-    Ok(made(both(name, both(speed, both(descriptor, both(configs, rest))))))
+    Ok(made(parts_of(alloc, earlier, table)?))
 }
 
 #[tactic(auto, unfolding(crate::specs::Device::device_in))]

@@ -1,19 +1,22 @@
 //! The plan of a run, read from a TOML text, and how many attempts to allow for it.
 //!
-//! `read_plan` gives the plan that the text spells, or the text's first fault. A key of a device that is
-//! not served yet is told as a bad value.
+//! `read_plan` gives the plan that the text spells, or the text's first fault.
 #![tactic(auto)]
 
 mod action;
 mod attempts;
+mod bulk;
 mod damage;
 mod device;
 mod event;
 mod fault;
+mod hub;
 mod keys;
 mod kind;
 mod path;
 mod plan;
+mod quirks;
+mod texts;
 mod tree;
 mod value;
 mod verb;

@@ -147,7 +147,7 @@ const DEVICE_FAULTS: [([&str; 4], &str, &str); 15] = [
         "plan: device 2: bad value",
     ),
     (
-        ["\"other\"", "\"low\"", "\"\"", "[]"],
+        ["\"other\"", "\"high\"", "\"\"", "[]"],
         "",
         "plan: device 2: bad value",
     ),
@@ -183,7 +183,7 @@ const DEVICE_FAULTS: [([&str; 4], &str, &str); 15] = [
     ),
     (
         ["\"other\"", "\"full\"", "\"1\"", "[]"],
-        "ports = 1",
+        "port = 1",
         "plan: device 2: bad value",
     ),
     (
@@ -202,6 +202,130 @@ const DEVICE_FAULTS: [([&str; 4], &str, &str); 15] = [
 fn faults_of_devices(rt: HostRuntime) -> Result<(), Fail> {
     for (values, line, words) in DEVICE_FAULTS.iter() {
         assert_eq!(rt; told_device(&rt, *values, line)?.as_str(), *words);
+    }
+    Ok(())
+}
+
+/// Lines of a device of class 9 at full speed, and what the text is told to be.
+const KEY_FAULTS: [(&str, &str); 44] = [
+    ("strings = [\"04030904\", \"ff\"]", "plan"),
+    ("strings = \"04\"", "plan: device 2: bad value"),
+    ("strings = [\"0\"]", "plan: device 2: bad hex"),
+    ("strings = [\"0\", 1]", "plan: device 2: bad value"),
+    ("ports = 1", "plan"),
+    ("ports = 7", "plan"),
+    ("ports = 0", "plan: device 2: bad value"),
+    ("ports = 8", "plan: device 2: bad value"),
+    ("ports = \"1\"", "plan: device 2: bad value"),
+    ("ports = 2\nhub_descriptor = \"0929020100000000FF\"", "plan"),
+    (
+        "ports = 2\nhub_descriptor = \"0929030100000000FF\"",
+        "plan: device 2: bad value",
+    ),
+    ("ports = 2\nhub_descriptor = \"09290301000000\"", "plan"),
+    (
+        "ports = 2\nhub_descriptor = \"0\"",
+        "plan: device 2: bad hex",
+    ),
+    (
+        "ports = 8\nhub_descriptor = \"0\"",
+        "plan: device 2: bad value",
+    ),
+    ("ports = 2\nhub_descriptor = 0", "plan: device 2: bad value"),
+    ("hub_descriptor = \"0\"", "plan: device 2: bad value"),
+    (
+        "hub_descriptor = \"0929020100000000FF\"",
+        "plan: device 2: bad value",
+    ),
+    ("self_powered = true", "plan"),
+    ("self_powered = 1", "plan: device 2: bad value"),
+    ("busy = true", "plan"),
+    ("busy = \"yes\"", "plan: device 2: bad value"),
+    ("silent = false", "plan"),
+    ("silent = []", "plan: device 2: bad value"),
+    ("naks = 0", "plan"),
+    ("naks = 200", "plan"),
+    ("naks = 201", "plan: device 2: bad value"),
+    ("naks = true", "plan: device 2: bad value"),
+    (
+        "stalls = [\"device\", \"address\", \"config\", \"set_config\", \"status\", \"hub\", \"string\"]",
+        "plan",
+    ),
+    ("stalls = [\"hub\", \"hub\"]", "plan"),
+    ("stalls = []", "plan"),
+    ("stalls = [\"hubs\"]", "plan: device 2: bad value"),
+    ("stalls = [1]", "plan: device 2: bad value"),
+    ("stalls = \"hub\"", "plan: device 2: bad value"),
+    ("source = \"\"", "plan"),
+    ("source = \"0a\"", "plan"),
+    ("source = \"0\"", "plan: device 2: bad hex"),
+    ("source = 0", "plan: device 2: bad value"),
+    ("halt_after = 1", "plan"),
+    ("halt_after = 65535", "plan"),
+    ("halt_after = 65536", "plan: device 2: bad value"),
+    ("halt_after = 0", "plan: device 2: bad value"),
+    ("halt_after = true", "plan: device 2: bad value"),
+    ("source = \"0\"\nnaks = 201", "plan: device 2: bad value"),
+    ("sources = \"\"", "plan: device 2: bad value"),
+];
+
+#[test]
+fn faults_of_the_keys_of_a_device(rt: HostRuntime) -> Result<(), Fail> {
+    for (line, words) in KEY_FAULTS.iter() {
+        let values = ["\"other\"", "\"full\"", "\"0102030409\"", "[]"];
+        assert_eq!(rt; told_device(&rt, values, line)?.as_str(), *words);
+    }
+    Ok(())
+}
+
+/// Speeds and descriptors of a device with ports, and what the text is told to be.
+const PORT_FAULTS: [(&str, &str, &str); 6] = [
+    ("\"full\"", "\"0000000009\"", "plan"),
+    ("\"low\"", "\"0000000009\"", "plan: device 2: bad value"),
+    ("\"full\"", "\"0000000008\"", "plan: device 2: bad value"),
+    ("\"full\"", "\"00000000\"", "plan: device 2: bad value"),
+    ("\"full\"", "\"0\"", "plan: device 2: bad hex"),
+    ("\"low\"", "\"0\"", "plan: device 2: bad value"),
+];
+
+#[test]
+fn ports_go_with_hubs_of_full_speed(rt: HostRuntime) -> Result<(), Fail> {
+    for (speed, descriptor, words) in PORT_FAULTS.iter() {
+        let values = ["\"other\"", *speed, *descriptor, "[]"];
+        assert_eq!(rt; told_device(&rt, values, "ports = 2")?.as_str(), *words);
+    }
+    Ok(())
+}
+
+/// Events after a hub with two ports was plugged at port 1, and what the text is told to be.
+const HUB_EVENTS: [(&str, &str); 5] = [
+    ("do = \"plug\"\npath = \"1.2\"\ndevice = \"fn\"", "plan"),
+    (
+        "do = \"plug\"\npath = \"1.3\"\ndevice = \"fn\"",
+        "plan: event 2: bad path",
+    ),
+    (
+        "do = \"plug\"\npath = \"1.2.1\"\ndevice = \"fn\"",
+        "plan: event 2: bad path",
+    ),
+    (
+        "do = \"plug\"\npath = \"1.2\"\ndevice = \"fn\"\n[[event]]\ndo = \"unplug\"\npath = \"1\"\n[[event]]\ndo = \"unplug\"\npath = \"1.2\"",
+        "plan: event 4: port empty",
+    ),
+    (
+        "do = \"unplug\"\npath = \"1\"\n[[event]]\ndo = \"plug\"\npath = \"1.2\"\ndevice = \"fn\"",
+        "plan: event 3: bad path",
+    ),
+];
+
+#[test]
+fn a_hub_has_ports_while_it_is_plugged(rt: HostRuntime) -> Result<(), Fail> {
+    for (lines, words) in HUB_EVENTS.iter() {
+        let values = ["\"hub\"", "\"full\"", "\"0000000009\"", "[]"];
+        let lines = format!(in rt.alloc();
+            "ports = 2\n[[event]]\ndo = \"plug\"\npath = \"1\"\ndevice = \"hub\"\n[[event]]\n{lines}"
+        )?;
+        assert_eq!(rt; told_device(&rt, values, lines.as_str())?.as_str(), *words);
     }
     Ok(())
 }

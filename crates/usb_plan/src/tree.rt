@@ -126,6 +126,9 @@ fn port_count(device: Option<&DeviceSpec>) -> u8
 {
     match device {
         None => 0,
-        Some(_) => 0,
+        Some(device) => match device.hub() {
+            None => 0,
+            Some(hub) => hub.ports(),
+        },
     }
 }

@@ -3,7 +3,7 @@
 ghost use Rattle.std.specs.Prelude.{◌≡◌, ◌≤◌, IfOk, option_map};
 ghost use Rattle.toml.specs.Data.{get_member, as_integer, as_str};
 ghost use Rattle.toml.specs.View.{view, table_view};
-ghost use Rattle.usb_plan.specs.Value.{number_in, number_at, number_or, hex_in, sent_in};
+ghost use Rattle.usb_plan.specs.Value.{is_word, number_in, number_at, number_or, hex_in, sent_in};
 
 use crate::kind::Kind;
 use std::alloc::{AllocError, Global};
@@ -18,10 +18,23 @@ pub(crate) fn value_at<'a>(table: &'a Table, key: &str) -> Option<&'a Value>
     table.get(key)
 }
 
+/// Whether the text is the word.
+#[tactic(auto, unfolding(crate::specs::Value::is_word))]
+pub(crate) fn is_word(text: Option<&str>, word: &str) -> bool
+    ensures { result ≡ is_word word.now (option_map (λ t. t.now) text.entry) }
+{
+    match text {
+        None => false,
+        Some(text) => text == word,
+    }
+}
+
 /// A number from `low` to `high`.
 #[tactic(auto, unfolding(crate::specs::Value::number_in))]
-fn number_in(low: u64, high: u64, number: Option<i64>) -> Result<u64, Kind>
-    ensures { result ≡ number_in low high number }
+pub(crate) fn number_in(low: u64, high: u64, number: Option<i64>) -> Result<u64, Kind>
+    ensures value { result ≡ number_in low high number }
+    ensures least { IfOk result (λ n. low ≤ n) }
+    ensures most { IfOk result (λ n. n ≤ high) }
 {
     match number {
         Some(number) if number >= 0 => {

@@ -7,24 +7,26 @@ use std::alloc::{AllocError, Global};
 use std::test::Fail;
 use usb_packet::{Packet, Toggle, TokenKind, decode, encode, packet_text};
 
-/// What the host does; a token is for endpoint 0 of an address.
+/// What the host does; a token is for endpoint 0 of an address, or for the endpoint that it names.
 #[derive(Clone, Copy)]
-enum Host {
+pub(super) enum Host {
     Setup(u8),
     In(u8),
     Out(u8),
+    InAt(u8, u8),
+    OutAt(u8, u8),
     Data0(&'static [u8]),
     Data1(&'static [u8]),
     Ack,
 }
 
-fn token(kind: TokenKind, addr: u8) -> Packet
+fn token(kind: TokenKind, addr: u8, ep: u8) -> Packet
     ensures { HasFields result }
 {
     Packet::Token {
         kind,
         addr: addr % 128,
-        ep: 0,
+        ep: ep % 16,
     }
 }
 
@@ -39,9 +41,11 @@ fn payload(toggle: Toggle, data: &[u8]) -> Packet
 /// The bytes of what the host sends.
 fn sent(host: &Host) -> ArrayVec<u8, 67> {
     match host {
-        Host::Setup(addr) => encode(&token(TokenKind::SetupTok, *addr)),
-        Host::In(addr) => encode(&token(TokenKind::InTok, *addr)),
-        Host::Out(addr) => encode(&token(TokenKind::OutTok, *addr)),
+        Host::Setup(addr) => encode(&token(TokenKind::SetupTok, *addr, 0)),
+        Host::In(addr) => encode(&token(TokenKind::InTok, *addr, 0)),
+        Host::Out(addr) => encode(&token(TokenKind::OutTok, *addr, 0)),
+        Host::InAt(addr, ep) => encode(&token(TokenKind::InTok, *addr, *ep)),
+        Host::OutAt(addr, ep) => encode(&token(TokenKind::OutTok, *addr, *ep)),
         Host::Data0(data) => encode(&payload(Toggle::Zero, *data)),
         Host::Data1(data) => encode(&payload(Toggle::One, *data)),
         Host::Ack => encode(&Packet::Ack),
@@ -59,7 +63,7 @@ fn is_answered(device: &mut Device, host: &Host, text: &str) -> Result<bool, All
     })
 }
 
-fn passes(device: &mut Device, steps: &[(Host, &str)]) -> Result<bool, AllocError> {
+pub(super) fn passes(device: &mut Device, steps: &[(Host, &str)]) -> Result<bool, AllocError> {
     for (host, text) in steps {
         if !is_answered(device, host, *text)? {
             return Ok(false);

@@ -1,0 +1,79 @@
+-- The bulk endpoints of a device: which ones there are, their toggles and their halts (5.8, 8.6).
+use Rattle.std.specs.Prelude.{ℕ, ◌+◌, ◌-◌, ◌*◌, ◌==◌, nat_lt, nat_le, min, if◌then◌else◌, ◌||◌, ◌&&◌, Bool, true, false, List, [], ◌∷◌, length, take, slice_index, Option, None, Some}
+use Rattle.usb_packet.specs.declared.Toggle.{Toggle}
+use Rattle.usb_packet.specs.declared.Toggle.TheVariants.{Zero, One}
+use Rattle.usb_descriptor.specs.Choice.{bulk_out_of, bulk_in_of}
+use Rattle.usb_device.specs.declared.bulk.Pipe.{Pipe}
+use Rattle.usb_device.specs.declared.bulk.Which.{Which}
+use Rattle.usb_device.specs.declared.bulk.Which.TheVariants.{BulkOut, BulkIn}
+use Rattle.usb_device.specs.declared.request.Registers.{Registers}
+use Rattle.usb_device.specs.Spec.{Spec}
+
+-- an endpoint as a configuration leaves it
+abbrev pub rested : Pipe
+rested = record { toggle = Zero; halted = false }
+
+abbrev pub other : Toggle → Toggle
+other Zero = One
+other One = Zero
+
+abbrev pub is_same : Toggle → Toggle → Bool
+is_same Zero Zero = true
+is_same One One = true
+is_same Zero One = false
+is_same One Zero = false
+
+-- after a packet that moved
+abbrev pub turned : Pipe → Pipe
+turned pipe = record pipe { toggle = other pipe.toggle }
+
+abbrev pub halted : Pipe → Pipe
+halted pipe = record pipe { halted = true }
+
+-- how many packets are still to be taken until the halt, after one more
+abbrev pub count_down : Option ℕ → Option ℕ
+count_down None = None
+count_down (Some n) = if nat_le n 1 then None else Some (n - 1)
+
+-- the halt comes with the next packet
+abbrev pub is_last : Option ℕ → Bool
+is_last None = false
+is_last (Some n) = n == 1
+
+-- byte 5 of the text of a configuration is its value (9.6.3)
+abbrev pub has_value : ℕ → List ℕ → Bool
+has_value value text = nat_lt 5 (length text) && slice_index text 5 == value
+
+-- the first text of the configuration
+abbrev pub text_with : ℕ → List (List ℕ) → List ℕ
+text_with value [] = []
+text_with value (text ∷ texts) = if has_value value text then text else text_with value texts
+
+-- wTotalLength
+abbrev pub total_of : List ℕ → ℕ
+total_of text = if nat_lt (length text) 4 then 0 else slice_index text 2 + 256 * slice_index text 3
+
+abbrev pub bulk_in : Bool → List ℕ → Option (ℕ × ℕ)
+bulk_in true text = bulk_in_of text
+bulk_in false text = bulk_out_of text
+
+-- number and maximum of the bulk endpoint of a direction; a device of low speed or without a configuration has none
+abbrev pub bulk_at : Spec → Registers → Bool → Option (ℕ × ℕ)
+bulk_at s g is_in =
+    if s.low || g.configuration == 0 then None
+    else (let text = text_with g.configuration s.configs in bulk_in is_in (take (min (total_of text) (length text)) text))
+
+abbrev pub is_end : ℕ → ℕ → Option (ℕ × ℕ) → Bool
+is_end index offset None = false
+is_end index offset (Some end) = end.0 + offset == index
+
+-- the endpoint that wIndex names: OUT e is e, IN e is 128 + e (9.3.4)
+abbrev pub served : Spec → Registers → ℕ → Option Which
+served s g index =
+    if is_end index 0 (bulk_at s g false) then Some BulkOut
+    else if is_end index 128 (bulk_at s g true) then Some BulkIn
+    else None
+
+-- the place after another packet of at most max bytes of len
+abbrev pub advanced : ℕ → ℕ → ℕ → ℕ
+advanced place max len = place + min max (len - place)

@@ -1,0 +1,184 @@
+//! The bulk endpoints of a device (5.8): which ones there are, their toggles and their halts.
+ghost use Rattle.std.specs.Prelude.{◌≡◌, ◌≤◌, length};
+ghost use Rattle.std.specs.Option.{IfSome};
+ghost use Rattle.usb_descriptor.specs.Choice.{IsUsable};
+ghost use Rattle.usb_device.specs.Spec.{Spec};
+ghost use Rattle.usb_device.specs.Bulk.{other, is_same, turned, halted, count_down, is_last, text_with, total_of, bulk_in, bulk_at, is_end, served, advanced};
+
+use crate::lists::Bytes;
+use crate::request::{Registers, has_value};
+use crate::spec::DeviceSpec;
+use arrayvec::ArrayVec;
+use usb_descriptor::read_config;
+use usb_packet::Toggle;
+
+/// A bulk endpoint: the toggle of its next packet (8.6), and whether it is halted (9.4.5).
+#[derive(Clone, Copy, Debug)]
+pub struct Pipe {
+    pub toggle: Toggle,
+    pub halted: bool,
+}
+
+/// An endpoint as a configuration leaves it (9.4.7).
+pub const RESTED: Pipe = Pipe {
+    toggle: Toggle::Zero,
+    halted: false,
+};
+
+/// An endpoint that a request can name.
+#[derive(Clone, Copy, Debug)]
+pub enum Which {
+    BulkOut,
+    BulkIn,
+}
+
+fn other(toggle: Toggle) -> Toggle
+    ensures { result ≡ other toggle }
+{
+    match toggle {
+        Toggle::Zero => Toggle::One,
+        Toggle::One => Toggle::Zero,
+    }
+}
+
+pub fn is_same(a: Toggle, b: Toggle) -> bool
+    ensures { result ≡ is_same a b }
+{
+    match (a, b) {
+        (Toggle::Zero, Toggle::Zero) | (Toggle::One, Toggle::One) => true,
+        (Toggle::Zero, Toggle::One) | (Toggle::One, Toggle::Zero) => false,
+    }
+}
+
+/// The endpoint after a packet that moved.
+pub fn turned(pipe: Pipe) -> Pipe
+    ensures { result ≡ turned pipe }
+{
+    Pipe {
+        toggle: other(pipe.toggle),
+        halted: pipe.halted,
+    }
+}
+
+pub fn halted(pipe: Pipe) -> Pipe
+    ensures { result ≡ halted pipe }
+{
+    Pipe {
+        toggle: pipe.toggle,
+        halted: true,
+    }
+}
+
+/// How many packets are still to be taken until the halt, after one more.
+pub fn counted_down(until_halt: Option<u16>) -> Option<u16>
+    ensures { result ≡ count_down until_halt }
+{
+    match until_halt {
+        None => None,
+        Some(n) => { if n <= 1 { None } else { Some(n - 1) } }
+    }
+}
+
+/// Whether the halt comes with the next packet.
+pub fn is_last(until_halt: Option<u16>) -> bool
+    ensures { result ≡ is_last until_halt }
+{
+    match until_halt {
+        None => false,
+        Some(n) => n == 1,
+    }
+}
+
+#[cycle(text_with)]
+fn text_with(value: u16, configs: &[Bytes<65535>]) -> &[u8]
+    ensures { result.now ≡ text_with value configs.now }
+{
+    match configs.split_first() {
+        None => &[],
+        Some((text, rest)) => {
+            if has_value(text.as_slice(), value) {
+                text.as_slice()
+            } else {
+                text_with(value, rest)
+            }
+        }
+    }
+}
+
+/// wTotalLength of a text; 0 where it has no fourth byte.
+fn total_of(text: &[u8]) -> usize
+    ensures { result ≡ total_of text.now }
+{
+    if text.len() < 4 {
+        0
+    } else {
+        usize::from(u16::from_le_bytes([text[2], text[3]]))
+    }
+}
+
+/// The first bulk endpoint of a direction in a text, if it is a configuration.
+#[tactic(auto, using(crate::proofs::Endpoints::endpoints))]
+fn bulk_in(is_in: bool, text: &[u8]) -> Option<(u8, u8)>
+    ensures value { result ≡ bulk_in is_in text.now }
+    ensures usable { IfSome result IsUsable }
+{
+    let config = read_config(text).ok()?;
+    if is_in {
+        config.bulk_in()
+    } else {
+        config.bulk_out()
+    }
+}
+
+/// The bulk endpoint of a direction that is served: its number and its maximum packet.
+pub fn bulk_at(spec: &DeviceSpec, registers: Registers, is_in: bool) -> Option<(u8, u8)>
+    ensures value { result ≡ bulk_at spec.now registers is_in }
+    ensures usable { IfSome result IsUsable }
+{
+    if spec.is_low() || registers.configuration == 0 {
+        return None;
+    }
+    let text = text_with(u16::from(registers.configuration), spec.configs());
+    let total = total_of(text).min(text.len());
+    bulk_in(is_in, &text[..total])
+}
+
+fn is_end(index: u16, offset: u16, end: Option<(u8, u8)>) -> bool
+    requires { offset ≤ 128 }
+    ensures { result ≡ is_end index offset end }
+{
+    match end {
+        None => false,
+        Some((number, _)) => u16::from(number) + offset == index,
+    }
+}
+
+/// The served endpoint that wIndex of a request names (9.3.4).
+pub fn served(spec: &DeviceSpec, registers: Registers, index: u16) -> Option<Which>
+    ensures { result ≡ served spec.now registers index }
+{
+    if is_end(index, 0, bulk_at(spec, registers, false)) {
+        Some(Which::BulkOut)
+    } else if is_end(index, 128, bulk_at(spec, registers, true)) {
+        Some(Which::BulkIn)
+    } else {
+        None
+    }
+}
+
+/// The place after another packet of at most `max` bytes of `len`.
+pub fn advanced(place: usize, max: u8, len: usize) -> usize
+    ensures { result ≡ advanced place max len }
+{
+    place + len.saturating_sub(place).min(usize::from(max))
+}
+
+/// The bytes of a packet.
+pub fn carried(bytes: &[u8]) -> ArrayVec<u8, 64>
+    requires { length bytes.now ≤ 64 }
+    ensures { result.items ≡ bytes.now }
+{
+    let mut packet = ArrayVec::new();
+    let _ = packet.try_extend_from_slice(bytes);
+    packet
+}

@@ -1,0 +1,131 @@
+//! The keys `ports` and `hub_descriptor` of a device.
+
+ghost use Rattle.std.specs.Prelude.{◌≡◌, ◌≤◌, IfOk, option_map};
+ghost use Rattle.toml.specs.View.{view};
+ghost use Rattle.usb_plan.specs.Hub.{no_hub, described, hub_of, hub_in, hub_at, is_low, is_other, class_at};
+
+use crate::kind::Kind;
+use crate::value::{hex_in, number_in};
+use std::alloc::{AllocError, Global};
+use toml::Value;
+use usb_device::{Bytes, HubSpec, has_hub_class};
+
+/// Without `ports` there is no `hub_descriptor`.
+#[tactic(auto, unfolding(crate::specs::Hub::no_hub))]
+fn no_hub(descriptor: Option<&Value>) -> Result<Option<HubSpec>, Kind>
+    ensures { result ≡ no_hub (option_map (λ v. view v.now) descriptor.entry) }
+{
+    match descriptor {
+        None => Ok(None),
+        Some(_) => Err(Kind::BadValue),
+    }
+}
+
+/// The hub with so many ports and this hub descriptor.
+#[tactic(auto, unfolding(crate::specs::Hub::described))]
+fn described(ports: u8, descriptor: Result<Bytes<255>, Kind>) -> Result<Option<HubSpec>, Kind>
+    requires least { 1 ≤ ports }
+    requires most { ports ≤ 7 }
+    ensures { result ≡ described ports descriptor }
+{
+    match descriptor {
+        Err(kind) => Err(kind),
+        Ok(bytes) => {
+            if HubSpec::agrees(ports, bytes.as_slice()) {
+                Ok(Some(HubSpec::new(ports, bytes)))
+            } else {
+                Err(Kind::BadValue)
+            }
+        }
+    }
+}
+
+#[tactic(auto, unfolding(crate::specs::Hub::hub_of))]
+fn hub_of(
+    alloc: Global,
+    ports: u8,
+    descriptor: Option<&Value>,
+) -> Result<Result<Option<HubSpec>, Kind>, AllocError>
+    requires least { 1 ≤ ports }
+    requires most { ports ≤ 7 }
+    ensures { IfOk result
+        (λ r. r ≡ hub_of ports (option_map (λ v. view v.now) descriptor.entry)) }
+{
+    match descriptor {
+        None => Ok(Ok(Some(HubSpec::usual(alloc, ports)?))),
+        Some(value) => Ok(described(ports, hex_in::<255>(alloc, value)?)),
+    }
+}
+
+#[tactic(auto, unfolding(crate::specs::Hub::hub_in))]
+fn hub_in(
+    alloc: Global,
+    ports: Option<i64>,
+    descriptor: Option<&Value>,
+) -> Result<Result<Option<HubSpec>, Kind>, AllocError>
+    ensures { IfOk result
+        (λ r. r ≡ hub_in ports (option_map (λ v. view v.now) descriptor.entry)) }
+{
+    match number_in(1, 7, ports) {
+        Err(kind) => Ok(Err(kind)),
+        Ok(ports) => hub_of(alloc, ports as u8, descriptor),
+    }
+}
+
+/// The keys `ports` and `hub_descriptor`, which may be absent.
+#[tactic(auto, unfolding(crate::specs::Hub::hub_at))]
+pub(crate) fn hub_at(
+    alloc: Global,
+    ports: Option<&Value>,
+    descriptor: Option<&Value>,
+) -> Result<Result<Option<HubSpec>, Kind>, AllocError>
+    ensures { IfOk result (λ r. r ≡ hub_at (option_map (λ v. view v.now) ports.entry)
+        (option_map (λ v. view v.now) descriptor.entry)) }
+{
+    match ports {
+        None => Ok(no_hub(descriptor)),
+        Some(ports) => hub_in(alloc, ports.as_integer(), descriptor),
+    }
+}
+
+#[tactic(auto, unfolding(crate::specs::Hub::is_low))]
+fn is_low(low: &Result<bool, Kind>) -> bool
+    ensures { result ≡ is_low low.now }
+{
+    match low {
+        Ok(low) => *low,
+        Err(_) => false,
+    }
+}
+
+/// Whether the device descriptor is readable, and no hub's.
+#[tactic(auto, unfolding(crate::specs::Hub::is_other))]
+fn is_other(descriptor: &Result<Bytes<255>, Kind>) -> bool
+    ensures { result ≡ is_other descriptor.now }
+{
+    match descriptor {
+        Ok(descriptor) => !has_hub_class(descriptor.as_slice()),
+        Err(_) => false,
+    }
+}
+
+/// The key `ports` goes with full speed and the class of hubs alone.
+#[tactic(auto, unfolding(crate::specs::Hub::class_at))]
+pub(crate) fn class_at(
+    ports: Option<&Value>,
+    low: &Result<bool, Kind>,
+    descriptor: &Result<Bytes<255>, Kind>,
+) -> Result<(), Kind>
+    ensures { result ≡ class_at (option_map (λ v. view v.now) ports.entry) low.now descriptor.now }
+{
+    match ports {
+        None => Ok(()),
+        Some(_) => {
+            if is_low(low) || is_other(descriptor) {
+                Err(Kind::BadValue)
+            } else {
+                Ok(())
+            }
+        }
+    }
+}
