@@ -8,7 +8,7 @@ use Rattle.usb_main.specs.declared.runs.Item.{Item}
 use Rattle.usb_main.specs.declared.runs.Item.TheVariants.{Listing}
 use Rattle.usb_main.specs.declared.runs.RunFault.TheVariants as run
 use Rattle.usb_main.specs.declared.serving.ServeFault.{ServeFault}
-use Rattle.usb_main.specs.declared.serving.ServeFault.TheVariants.{Read, TooLong, Plan, Run, Write, Memory}
+use Rattle.usb_main.specs.declared.serving.ServeFault.TheVariants.{Read, TooLong, Plan, NotServed, Run, Write, Memory}
 use Rattle.usb_main.specs.Report.{listing_lines}
 
 abbrev pub input_fault : InputFault → ServeFault
@@ -27,6 +27,7 @@ abbrev pub IsFaultOfRun : ServeFault → Type 0
 IsFaultOfRun Read = ⊥
 IsFaultOfRun TooLong = ⊥
 IsFaultOfRun (Plan fault) = ⊥
+IsFaultOfRun (NotServed fault) = ⊥
 IsFaultOfRun (Run fault) = Unit {0}
 IsFaultOfRun Write = Unit {0}
 IsFaultOfRun Memory = Unit {0}

@@ -23,7 +23,7 @@ const LIMIT: u8 = 3;
 pub const FAILED: u8 = 4;
 
 /// Does what the program's words ask for, and answers the exit status.
-pub fn serve_words<R: Env + Files + Input + Print + Eprint + AllocGlobal>(
+pub(crate) fn serve_words<R: Env + Files + Input + Print + Eprint + AllocGlobal>(
     rt: &R,
 ) -> io::Result<u8> {
     let alloc = rt.alloc();
@@ -139,7 +139,7 @@ fn serve_reader<R: Print + Eprint + AllocGlobal, I: Read + Drop>(
 fn serve_status(fault: ServeFault) -> u8 {
     match fault {
         ServeFault::Plan(PlanFault::Memory) => FAILED,
-        ServeFault::TooLong | ServeFault::Plan(_) => REFUSED,
+        ServeFault::TooLong | ServeFault::Plan(_) | ServeFault::NotServed(_) => REFUSED,
         ServeFault::Run(RunFault::LimitReached) => LIMIT,
         ServeFault::Read | ServeFault::Run(_) | ServeFault::Write | ServeFault::Memory => FAILED,
     }

@@ -1,5 +1,6 @@
 //! Runs of a plan.
 ghost use Rattle.std.specs.Prelude.{◌≡◌, ◌≢◌, ◌≤◌, ◌<◌, false, true, None, Ok, Err, OnOk, OnErr, IfOk, IfErr, IsSome};
+ghost use Rattle.usb_bus.specs.Served.{served_of};
 ghost use Rattle.usb_bus.specs.World.{Spends, changes};
 ghost use Rattle.usb_bus.specs.Sim.{world_of, writer_of};
 ghost use Rattle.usb_bus.specs.Steps.{opening, PutLine};
@@ -110,12 +111,13 @@ pub struct Report {
     pub address_losses: u64,
 }
 
-/// Runs a plan to its end, with its trace thrown away.
+/// Runs a plan that is served to its end, with its trace thrown away.
 ///
 /// # Errors
 /// LimitReached where the attempts made equal the plan's limit, Memory where memory was refused.
 #[tactic(auto, using(crate::proofs::Goings::goes_then, crate::proofs::Goings::goes_none, crate::proofs::Goings::goes_within))]
 pub fn run(alloc: Global, plan: &Plan) -> Result<Report, RunFault>
+    requires { served_of plan.now ≡ Ok tt }
     ensures attempts { IfOk result (λ report. report.attempts ≤ plan.now.limit) }
     ensures losses { IfOk result (λ report. report.address_losses ≡ 0) }
 {
@@ -148,6 +150,7 @@ impl<W: Write> Runner<W> {
         plan: &Plan,
         writer: Watched<W>,
     ) -> Result<Runner<W>, (AllocError, Watched<W>)>
+        requires { served_of plan.now ≡ Ok tt }
         ensures begun { IfOk result (λ runner. IsBegun plan.now runner.host.world) }
         ensures running { IfOk result (λ runner. runner.host.stopped ≡ false) }
         ensures back { IfErr result (λ e. e.1 ≡ writer) }

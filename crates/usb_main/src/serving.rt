@@ -1,5 +1,6 @@
 //! A plan's text in, the text of its run out.
-ghost use Rattle.std.specs.Prelude.{◌≡◌, ◌≢◌, ◌+◌, ◌<◌, ◌≤◌, Err, true, false, IsErrOf, IfErr, IfOk, IfSome, OnErr, OnOk, length};
+ghost use Rattle.std.specs.Prelude.{◌≡◌, ◌≢◌, ◌+◌, ◌<◌, ◌≤◌, Ok, Err, true, false, IsErrOf, IfErr, IfOk, IfSome, OnErr, OnOk, length};
+ghost use Rattle.usb_bus.specs.Served.{served_of};
 ghost use Rattle.usb_bus.specs.Watch.{inner_of, has_failed, calls_of};
 ghost use Rattle.usb_main.specs.declared.serving.ServeFault.TheVariants as serve;
 ghost use Rattle.usb_main.specs.Serving.{IsOfRun, input_fault, item_lines, report_fault};
@@ -12,7 +13,7 @@ use std::alloc::{AllocError, Global};
 use std::io::{Read, Write};
 use std::{io, str};
 use thiserror::Error;
-use usb_bus::{BusFault, Plan, Watched, WriteFailed, put_piece};
+use usb_bus::{BusFault, NotServed, Plan, Watched, WriteFailed, put_piece, served};
 use usb_plan::{PlanFault, bound, read_plan};
 
 /// What is written of a plan's run.
@@ -36,6 +37,9 @@ pub enum ServeFault {
     /// The text is no plan.
     #[error("{0}")]
     Plan(PlanFault),
+    /// The plan asks for something that is not served yet.
+    #[error("{0}")]
+    NotServed(NotServed),
     /// The run ended early.
     #[error("{0}")]
     Run(RunFault),
@@ -67,6 +71,14 @@ impl From<InputFault> for ServeFault {
     }
 }
 
+impl From<NotServed> for ServeFault {
+    ghost from_gives = { λ fault e. e ≡ serve.NotServed fault };
+
+    fn from(fault: NotServed) -> ServeFault {
+        ServeFault::NotServed(fault)
+    }
+}
+
 impl From<RunFault> for ServeFault {
     ghost from_gives = { λ fault e. e ≡ serve.Run fault };
 
@@ -86,7 +98,8 @@ impl From<WriteFailed> for ServeFault {
 /// Reads a plan, runs it, and writes what the mode asks for. Hands the writer back.
 ///
 /// # Errors
-/// Read where the reader failed, TooLong for a text over the limit, Plan for a text that is no plan, Run where the
+/// Read where the reader failed, TooLong for a text over the limit, Plan for a text that is no plan,
+/// NotServed for a plan that asks for what is not served yet, Run where the
 /// run ended early, Write where the writer failed in a line of report, Memory where memory was refused.
 pub fn serve<R: Read, W: Write>(
     alloc: Global,
@@ -115,15 +128,18 @@ fn plan_of<R: Read>(alloc: Global, reader: &mut Watched<R>) -> Result<Plan, Serv
     ensures read { IsErrOf result ServeFault.Read → has_failed reader.new ≡ true }
     ensures too_long { IsErrOf result ServeFault.TooLong → IfSome (R.remaining (inner_of reader.old)) (λ text. 1048576 < length text) }
     ensures others { result ≢ Err ServeFault.Write }
+    ensures served { IfOk result (λ plan. served_of plan ≡ Ok tt) }
 {
     let text = read_text(alloc, reader)?;
     let Ok(text) = str::from_utf8(text.as_slice()) else {
         return Err(ServeFault::Plan(PlanFault::Syntax));
     };
-    match read_plan(alloc, text) {
-        Ok(plan) => Ok(plan),
-        Err(fault) => Err(ServeFault::Plan(fault)),
-    }
+    let plan = match read_plan(alloc, text) {
+        Ok(plan) => plan,
+        Err(fault) => return Err(ServeFault::Plan(fault)),
+    };
+    served(&plan)?;
+    Ok(plan)
 }
 
 fn serve_tree<W: Write>(
@@ -131,6 +147,7 @@ fn serve_tree<W: Write>(
     plan: &Plan,
     writer: Watched<W>,
 ) -> (Result<(), ServeFault>, Watched<W>)
+    requires { served_of plan.now ≡ Ok tt }
     ensures reader { IsOfRun result.0 }
     ensures write { IsErrOf result.0 ServeFault.Write → has_failed result.1 ≡ true }
 {
@@ -145,6 +162,7 @@ fn write_tree<W: Write>(
     plan: &Plan,
     writer: &mut Watched<W>,
 ) -> Result<(), ServeFault>
+    requires { served_of plan.now ≡ Ok tt }
     ensures reader { IsOfRun result }
     ensures write { IsErrOf result ServeFault.Write → has_failed writer.new ≡ true }
 {
@@ -199,6 +217,7 @@ fn serve_run<W: Write>(
     plan: &Plan,
     writer: Watched<W>,
 ) -> (Result<(), ServeFault>, Watched<W>)
+    requires { served_of plan.now ≡ Ok tt }
     ensures { IsOfRun result.0 }
 {
     match Runner::new(alloc, plan, writer) {
