@@ -1,5 +1,5 @@
 -- What the rules of a plan give a bus that serves it.
-use Rattle.std.proofs.Common.{◌≡◌, ℕ, List, [], ◌∷◌, true, false, ◌&&◌, not, ◌==◌, nat_le, nat_lt, length, slice_index, Option, None, Some, Ok, refl, sym, subst, position, Bool, cond, ◌+◌, ◌≤◌, arith, Result}
+use Rattle.std.proofs.Common.{◌≡◌, ℕ, List, [], ◌∷◌, true, false, ◌&&◌, not, ◌==◌, ◌||◌, nat_le, nat_lt, length, slice_index, Option, None, Some, Ok, refl, sym, subst, position, Bool, cond, ◌+◌, ◌≤◌, arith, Result}
 use Rattle.std.proofs.lemmas.Bool.{and_parts, and_from, ltb-false}
 use Rattle.std.specs.List.{list_all, position_or_len}
 use Rattle.usb_device.specs.Spec.{Spec}
@@ -13,11 +13,11 @@ use Rattle.usb_bus.specs.declared.not_served.NotServed.{NotServed}
 use Rattle.usb_bus.specs.Served.{is_function_at, is_served, first_not_served, events_served, damages_served, served_of}
 
 plug_done : (roots : ℕ) (devices : List Spec) (tree : Plugged) (path : List ℕ) (device : ℕ) → action_fits roots devices tree (Plug path device) ≡ true → is_served devices (Plug path device) ≡ true → can_be_done roots (length devices) (Plug path device) ≡ true
-unfolding action_fits is_served has_port is_rooted
+unfolding is_served
 plug_done roots devices tree path device h s =
     let most = and_parts (has_port roots devices tree path && not (is_taken tree path)) (nat_lt device (length devices)) h in
     let port = and_parts (has_port roots devices tree path) (not (is_taken tree path)) most.0 in
-    let rooted = and_parts (nat_le (slice_index path 0) roots) (parent_has devices tree (parent_of path) (port_of path)) port.0 in
+    let rooted = and_parts (nat_le (slice_index path 0) roots) (length path == 1 || parent_has devices tree (parent_of path) (port_of path)) port.0 in
     let one = and_parts (length path == 1) (is_function_at devices device) s in
     and_from (is_root_path roots path) (nat_lt device (length devices)) (and_from (length path == 1) (nat_le (slice_index path 0) roots) one.0 rooted.0) most.1
 
@@ -32,7 +32,6 @@ action_done roots devices tree (Clear path) h s = cc
 
 -- each event of a plan that is served can come
 events_come : (roots : ℕ) (devices : List Spec) (tree : Plugged) (events : List Event) → events_fit roots devices tree events ≡ true → list_all (λ e. is_served devices e.action) events ≡ true → list_all (can_come roots (length devices)) events ≡ true
-unfolding events_fit event_fits
 events_come roots devices tree [] h s = refl
 events_come roots devices tree (e ∷ events) h s =
     let parts = and_parts (event_fits roots devices tree e) (events_fit roots devices (plugged_after e.action tree) events) h in

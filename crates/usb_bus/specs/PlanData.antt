@@ -18,7 +18,7 @@ abbrev pub is_taken : Plugged → List ℕ → Bool
 is_taken tree path = is_some (device_at tree path)
 
 -- the action may come where so much is plugged
-unfoldable pub action_fits : ℕ → List Spec → Plugged → Action → Bool
+abbrev pub action_fits : ℕ → List Spec → Plugged → Action → Bool
 action_fits roots devices tree (Plug path device) = has_port roots devices tree path && not (is_taken tree path) && nat_lt device (length devices)
 action_fits roots devices tree (Unplug path) = is_rooted roots path && is_taken tree path
 action_fits roots devices tree Show = true
@@ -26,11 +26,11 @@ action_fits roots devices tree (Send path bytes) = is_rooted roots path
 action_fits roots devices tree (Receive path packets) = is_rooted roots path && nat_le packets 1000
 action_fits roots devices tree (Clear path) = is_rooted roots path
 
-unfoldable pub event_fits : ℕ → List Spec → Plugged → Event → Bool
+abbrev pub event_fits : ℕ → List Spec → Plugged → Event → Bool
 event_fits roots devices tree e = nat_le e.after 1000000000 && action_fits roots devices tree e.action
 
 -- each event fits what is plugged before it
-unfoldable pub events_fit : ℕ → List Spec → Plugged → List Event → Bool
+abbrev pub events_fit : ℕ → List Spec → Plugged → List Event → Bool
 events_fit roots devices tree [] = true
 events_fit roots devices tree (e ∷ events) = event_fits roots devices tree e && events_fit roots devices (plugged_after e.action tree) events
 
@@ -40,11 +40,11 @@ harm_fits LosePre = true
 harm_fits (Flip bit) = nat_le bit 535
 
 -- the damage is to an attempt after that one
-unfoldable pub damage_fits : ℕ → Damage → Bool
+abbrev pub damage_fits : ℕ → Damage → Bool
 damage_fits last d = nat_lt last d.attempt && nat_le 1 d.packet && nat_le d.packet 3 && harm_fits d.harm
 
 -- attempts rise strictly
-unfoldable pub damages_fit : ℕ → List Damage → Bool
+abbrev pub damages_fit : ℕ → List Damage → Bool
 damages_fit last [] = true
 damages_fit last (d ∷ damages) = damage_fits last d && damages_fit d.attempt damages
 

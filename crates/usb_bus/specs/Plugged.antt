@@ -1,5 +1,5 @@
 -- What is plugged where, as the events of a plan have it.
-use Rattle.std.specs.Prelude.{ℕ, List, [], ◌∷◌, Bool, true, ◌&&◌, not, filter, Option, None, Some, nat_eq, nat_le, slice_index, slice_get}
+use Rattle.std.specs.Prelude.{ℕ, List, [], ◌∷◌, length, Bool, true, ◌&&◌, ◌||◌, ◌==◌, not, filter, Option, None, Some, nat_eq, nat_le, slice_index, slice_get}
 use Rattle.std.specs.List.{starts_with}
 use Rattle.std.specs.Ordering.{is_eq}
 use Rattle.std.specs.Map.{lookup}
@@ -15,14 +15,14 @@ abbrev pub Plugged : Type 0
 Plugged = List (List ℕ × ℕ)
 
 -- the device plugged at a path
-unfoldable pub device_at : Plugged → List ℕ → Option ℕ
+abbrev pub device_at : Plugged → List ℕ → Option ℕ
 device_at tree path = lookup (λ p. is_eq (path_cmp path p)) tree
 
 -- without the device at a path and all below it
 unfoldable pub unplugged : List ℕ → Plugged → Plugged
 unplugged path tree = filter (λ place. not (starts_with nat_eq place.0 path)) tree
 
-unfoldable pub plugged_after : Action → Plugged → Plugged
+abbrev pub plugged_after : Action → Plugged → Plugged
 plugged_after (Plug path device) tree = insert_entry path_cmp tree path device
 plugged_after (Unplug path) tree = unplugged path tree
 plugged_after Show tree = tree
@@ -49,7 +49,7 @@ device_of devices None = None
 device_of devices (Some index) = slice_get devices index
 
 -- the first number is a root port's
-unfoldable pub is_rooted : ℕ → List ℕ → Bool
+abbrev pub is_rooted : ℕ → List ℕ → Bool
 is_rooted roots path = nat_le (slice_index path 0) roots
 
 -- the device plugged at the parent's path has the port; a root port has no parent
@@ -58,5 +58,5 @@ parent_has devices tree None port = true
 parent_has devices tree (Some parent) port = nat_le port (port_count (device_of devices (device_at tree parent)))
 
 -- a root port, or a port of a plugged device
-unfoldable pub has_port : ℕ → List Spec → Plugged → List ℕ → Bool
-has_port roots devices tree path = is_rooted roots path && parent_has devices tree (parent_of path) (port_of path)
+abbrev pub has_port : ℕ → List Spec → Plugged → List ℕ → Bool
+has_port roots devices tree path = is_rooted roots path && (length path == 1 || parent_has devices tree (parent_of path) (port_of path))

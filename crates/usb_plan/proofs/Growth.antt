@@ -26,7 +26,7 @@ plugged-push tree [] e = refl
 plugged-push tree (x ∷ events) e = plugged-push (plugged_after x.action tree) events e
 
 pub events_fit-push : (roots : ℕ) (devices : List Spec) (tree : Plugged) (events : List Event) (e : Event) → events_fit roots devices tree events ≡ true → event_fits roots devices (plugged tree events) e ≡ true → events_fit roots devices tree (events ++ e ∷ []) ≡ true
-unfolding events_fit plugged
+unfolding plugged
 events_fit-push roots devices tree [] e h new = rw new
 events_fit-push roots devices tree (x ∷ events) e h new =
     let parts = and_parts (event_fits roots devices tree x) (events_fit roots devices (plugged_after x.action tree) events) h in
@@ -39,7 +39,7 @@ last_from-push last [] d = refl
 last_from-push last (x ∷ damages) d = last_from-push x.attempt damages d
 
 pub damages_fit-push : (last : ℕ) (damages : List Damage) (d : Damage) → damages_fit last damages ≡ true → damage_fits (last_from last damages) d ≡ true → damages_fit last (damages ++ d ∷ []) ≡ true
-unfolding damages_fit last_from
+unfolding last_from
 damages_fit-push last [] d h new = rw new
 damages_fit-push last (x ∷ damages) d h new =
     let parts = and_parts (damage_fits last x) (damages_fit x.attempt damages) h in

@@ -313,7 +313,7 @@ clear_made (Ok p) a h = (p, refl, cc)
 clear_made (Err k) a h = cc
 
 plug_of_ok : (roots : ℕ) (specs : List Spec) (tree : Plugged) (ms : Members) (a : Action) → plug_of roots specs tree ms ≡ Ok a → Fits roots specs tree a
-unfolding plug_of action_fits
+unfolding plug_of
 plug_of_ok roots specs tree ms a h =
     let made = plug_made _ a h in
     let x = made.0 in
@@ -323,7 +323,7 @@ plug_of_ok roots specs tree ms a h =
     rw (← made.2) (rw (path.port, path.free, device))
 
 unplug_of_ok : (roots : ℕ) (specs : List Spec) (tree : Plugged) (ms : Members) (a : Action) → unplug_of roots tree ms ≡ Ok a → Fits roots specs tree a
-unfolding unplug_of action_fits
+unfolding unplug_of
 unplug_of_ok roots specs tree ms a h =
     let made = unplug_made _ a h in
     let p = made.0 in
@@ -331,7 +331,7 @@ unplug_of_ok roots specs tree ms a h =
     rw (← made.2) (rw (path_at_ok roots (get_member (codes "path") ms) p held.0, held.1))
 
 send_of_ok : (roots : ℕ) (specs : List Spec) (tree : Plugged) (ms : Members) (a : Action) → send_of roots ms ≡ Ok a → Fits roots specs tree a
-unfolding send_of action_fits
+unfolding send_of
 send_of_ok roots specs tree ms a h =
     let made = send_made _ a h in
     let x = made.0 in
@@ -339,7 +339,7 @@ send_of_ok roots specs tree ms a h =
     rw (← made.2) (path_at_ok roots (get_member (codes "path") ms) x.0 parts.0)
 
 receive_of_ok : (roots : ℕ) (specs : List Spec) (tree : Plugged) (ms : Members) (a : Action) → receive_of roots ms ≡ Ok a → Fits roots specs tree a
-unfolding receive_of action_fits
+unfolding receive_of
 receive_of_ok roots specs tree ms a h =
     let made = receive_made _ a h in
     let x = made.0 in
@@ -348,13 +348,13 @@ receive_of_ok roots specs tree ms a h =
     rw (← made.2) (rw (path_at_ok roots (get_member (codes "path") ms) x.0 parts.0, few))
 
 clear_of_ok : (roots : ℕ) (specs : List Spec) (tree : Plugged) (ms : Members) (a : Action) → clear_of roots ms ≡ Ok a → Fits roots specs tree a
-unfolding clear_of action_fits
+unfolding clear_of
 clear_of_ok roots specs tree ms a h =
     let made = clear_made _ a h in
     rw (← made.2) (path_at_ok roots (get_member (codes "path") ms) made.0 made.1)
 
 action_of_ok : (v : Verb) (roots : ℕ) (specs : List Spec) (tree : Plugged) (ms : Members) (a : Action) → action_of v roots specs tree ms ≡ Ok a → Fits roots specs tree a
-unfolding action_of action_fits
+unfolding action_of
 action_of_ok verb.Plug roots specs tree ms a h = plug_of_ok roots specs tree ms a h
 action_of_ok verb.Unplug roots specs tree ms a h = unplug_of_ok roots specs tree ms a h
 action_of_ok verb.Show roots specs tree ms a h = let same : Show ≡ a = cc in rw (← same) refl
@@ -373,7 +373,7 @@ pub record Follows (roots : ℕ) (devices : List Spec) (tree : Plugged) (count :
   pub fits : event_fits roots devices tree e ≡ true
 
 event_of_ok : (v : Verb) (roots : ℕ) (specs : List Spec) (tree : Plugged) (count : ℕ) (ms : Members) (e : Event) → event_of v roots specs tree count ms ≡ Ok e → Follows roots specs tree count e
-unfolding event_of event_fits
+unfolding event_of
 event_of_ok v roots specs tree count ms e h =
     let made = whole_ok _ e h in
     let x = made.0 in
@@ -446,7 +446,7 @@ pub record Comes (last count : ℕ) (d : Damage) : Type 0 where
   pub most : d.attempt ≤ 9223372036854775807
 
 damage_of_ok : (last count : ℕ) (ms : Members) (d : Damage) → damage_of last count ms ≡ Ok d → Comes last count d
-unfolding damage_of damage_fits
+unfolding damage_of
 damage_of_ok last count ms d h =
     let made = damage_whole_ok _ d h in
     let x = made.0 in

@@ -39,7 +39,6 @@ impl Tree {
     }
 
     /// The device plugged at the path.
-    #[tactic(auto, unfolding(usb_bus::specs::Plugged::device_at))]
     fn device_at(&self, path: &PortPath) -> Option<usize>
         ensures { result ≡ device_at self.now path.now }
     {
@@ -64,11 +63,11 @@ impl Tree {
     }
 
     /// Whether the path is a root port, or a port of a plugged device.
-    #[tactic(auto, unfolding(usb_bus::specs::Plugged::has_port))]
     pub(crate) fn has_port(&self, roots: u8, devices: &[DeviceSpec], path: &PortPath) -> bool
         ensures { result ≡ has_port roots devices.now self.now path.now }
     {
-        is_rooted(roots, path) && self.parent_has(devices, path.parent(), path.port())
+        is_rooted(roots, path)
+            && (path.numbers().len() == 1 || self.parent_has(devices, path.parent(), path.port()))
     }
 
     /// Unplugs the device at the path and all below it.
@@ -80,7 +79,6 @@ impl Tree {
     }
 
     /// Has the action change what is plugged. An error: memory is refused.
-    #[tactic(auto, unfolding(usb_bus::specs::Plugged::plugged_after))]
     pub(crate) fn apply(&mut self, action: &Action) -> Result<(), AllocError>
         ensures { OnOk result (self.new ≡ plugged_after action.now self.old) }
     {
@@ -96,7 +94,6 @@ impl Tree {
 }
 
 /// Whether the first number of the path is a root port's.
-#[tactic(auto, unfolding(usb_bus::specs::Plugged::is_rooted))]
 pub(crate) fn is_rooted(roots: u8, path: &PortPath) -> bool
     ensures { result ≡ is_rooted roots path.now }
 {

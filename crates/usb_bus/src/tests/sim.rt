@@ -36,7 +36,6 @@ fn function(alloc: Global) -> Result<DeviceSpec, AllocError> {
 }
 
 /// The function is plugged at port 1, the only one, after so many attempts.
-#[tactic(auto, unfolding(crate::specs::PlanData::events_fit, crate::specs::PlanData::event_fits, crate::specs::PlanData::action_fits, crate::specs::Plugged::has_port, crate::specs::Plugged::is_rooted, crate::specs::Plugged::parent_has, crate::specs::Plugged::plugged_after, crate::specs::Plugged::device_at, usb_port::specs::Order::parent_of))]
 fn plan_of_one(alloc: Global, limit: u64, after: u64) -> Result<Plan, AllocError>
     requires limit { limit ≤ 16 }
     requires after { after ≤ 9 }

@@ -8,7 +8,7 @@ use Rattle.usb_plan.proofs.Growth.{damages_from-step, damages_from-fault, damage
 use Rattle.usb_plan.proofs.damage.damages_of.Goals as goal
 
 pub loop-i-init : goal.loop-i-init
-unfolding damages_fit last_from
+unfolding last_from
 loop-i-init c = record {
   so_far = rw c.new-done.ensures;
   fit = rw c.new-done.ensures;

@@ -9,7 +9,7 @@ use Rattle.usb_plan.proofs.Growth.{events_from-step, events_from-fault, events_f
 use Rattle.usb_plan.proofs.event.events_of.Goals as goal
 
 pub loop-i-init : goal.loop-i-init
-unfolding events_fit plugged
+unfolding plugged
 loop-i-init c = record {
   so_far = rw c.new-done.ensures;
   fit = rw c.new-done.ensures;
