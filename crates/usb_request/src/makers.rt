@@ -176,18 +176,16 @@ impl Setup {
     }
 
     /// ClearPortFeature (11.24.2.2) of a hub's port.
-    #[tactic(auto, unfolding(crate::specs::Requests::clear_port_feature))]
+    #[tactic(auto, unfolding(crate::specs::Requests::clear_port_feature, crate::specs::Requests::set_port_feature))]
     pub fn clear_port_feature(feature: u16, port: u8) -> Setup
         ensures setup { result ≡ clear_port_feature feature port }
         ensures direction { IsToDevice result }
         ensures data_length { result.length ≡ 0 }
     {
+        let set = Setup::set_port_feature(feature, port);
         Setup {
-            request_type: PORT_OUT,
             request: CLEAR_FEATURE,
-            value: feature,
-            index: u16::from(port),
-            length: 0,
+            ..set
         }
     }
 }

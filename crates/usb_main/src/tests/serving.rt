@@ -1,9 +1,22 @@
 //! What `serve` writes of a plan.
+use super::devices::DEVICES;
 use super::rows::ROWS;
 use crate::serving::{Mode, serve};
 use std::alloc::Global;
 use std::test::Fail;
 use usb_bus::Watched;
+
+#[test]
+fn devices_are_run_and_listed(rt: HostRuntime) -> Result<(), Fail> {
+    for row in &DEVICES {
+        let (text, fault) = served(rt.alloc(), Mode::Run, row.plan)?;
+        assert_eq!(rt; text.as_slice(), row.run.as_bytes(), "{}", row.plan);
+        assert_eq!(rt; fault.as_str(), row.fault, "{}", row.plan);
+        let (text, _fault) = served(rt.alloc(), Mode::Tree, row.plan)?;
+        assert_eq!(rt; text.as_slice(), row.tree.as_bytes(), "{}", row.plan);
+    }
+    Ok(())
+}
 
 const DESCRIPTOR: [u8; 18] = [
     0x12, 0x01, 0x00, 0x02, 0x00, 0x00, 0x00, 0x40, 0x34, 0x12, 0x78, 0x56, 0x00, 0x01, 0x00, 0x00,
