@@ -1,12 +1,13 @@
--- The bulk endpoints of a device: which ones there are, their toggles and their halts (5.8, 8.6).
-use Rattle.std.specs.Prelude.{ℕ, ◌+◌, ◌-◌, ◌*◌, ◌==◌, nat_lt, nat_le, min, if◌then◌else◌, ◌||◌, ◌&&◌, Bool, true, false, List, [], ◌∷◌, length, take, slice_index, Option, None, Some}
+-- The endpoints of a device besides endpoint 0: which ones there are, their toggles and their halts (5.8, 8.6, 11.12).
+use Rattle.std.specs.Prelude.{ℕ, ◌+◌, ◌-◌, ◌*◌, ◌==◌, nat_lt, nat_le, min, if◌then◌else◌, ◌||◌, ◌&&◌, Bool, true, false, List, [], ◌∷◌, length, take, slice_index, slice_get, not, Option, None, Some, is_some}
 use Rattle.usb_packet.specs.declared.Toggle.{Toggle}
 use Rattle.usb_packet.specs.declared.Toggle.TheVariants.{Zero, One}
 use Rattle.usb_descriptor.specs.Choice.{bulk_out_of, bulk_in_of}
 use Rattle.usb_device.specs.declared.bulk.Pipe.{Pipe}
 use Rattle.usb_device.specs.declared.bulk.Which.{Which}
-use Rattle.usb_device.specs.declared.bulk.Which.TheVariants.{BulkOut, BulkIn}
+use Rattle.usb_device.specs.declared.bulk.Which.TheVariants.{BulkOut, BulkIn, Changes}
 use Rattle.usb_device.specs.declared.request.Registers.{Registers}
+use Rattle.usb_port.specs.PortState.{PortState, has_change}
 use Rattle.usb_device.specs.Spec.{Spec}
 
 -- an endpoint as a configuration leaves it
@@ -67,13 +68,27 @@ abbrev pub is_end : ℕ → ℕ → Option (ℕ × ℕ) → Bool
 is_end index offset None = false
 is_end index offset (Some end) = end.0 + offset == index
 
+-- IN 1 of a configured hub tells which of its ports changed (11.12.1)
+abbrev pub tells_changes : Spec → Registers → Bool
+tells_changes s g = is_some s.hub && not (g.configuration == 0)
+
 -- the endpoint that wIndex names: OUT e is e, IN e is 128 + e (9.3.4)
 abbrev pub served : Spec → Registers → ℕ → Option Which
 served s g index =
-    if is_end index 0 (bulk_at s g false) then Some BulkOut
+    if index == 129 && tells_changes s g then Some Changes
+    else if is_end index 0 (bulk_at s g false) then Some BulkOut
     else if is_end index 128 (bulk_at s g true) then Some BulkIn
     else None
 
 -- the place after another packet of at most max bytes of len
 abbrev pub advanced : ℕ → ℕ → ℕ → ℕ
 advanced place max len = place + min max (len - place)
+
+-- the weight of a port, where it has a change bit set
+abbrev pub changed_bit : List PortState → ℕ → ℕ → ℕ
+changed_bit row i weight = elim (slice_get row i) [ None ↦ 0 | Some p ↦ if has_change p then weight else 0 ]
+
+-- bit N is set where port N, counted from 1, has a change bit set (11.12.4)
+unfoldable pub change_bits : List PortState → ℕ
+change_bits row =
+    changed_bit row 0 2 + changed_bit row 1 4 + changed_bit row 2 8 + changed_bit row 3 16 + changed_bit row 4 32 + changed_bit row 5 64 + changed_bit row 6 128

@@ -1,12 +1,12 @@
 -- What the code keeps of an answer, and what it stands for.
 use Rattle.std.specs.Prelude.{ℕ, List, [], ◌∷◌, slice_get, unwrap_or, Option, None, Some}
 use Rattle.usb_device.specs.Spec.{Spec, Hub as HubText}
-use Rattle.usb_device.specs.Request.{Outcome, stalled, answers, takes_address, takes_configuration, halts, unhalts, status_bytes}
+use Rattle.usb_device.specs.Request.{Outcome, stalled, answers, takes_address, takes_configuration, halts, unhalts, tells_port, calls_port, status_bytes}
 use Rattle.usb_device.specs.Transfer.{Stage, idle, refused, reading, read, ending}
 use Rattle.usb_device.specs.declared.request.Source.{Source}
-use Rattle.usb_device.specs.declared.request.Source.TheVariants.{Descriptor, Config, Text, Hub, Status, Configuration}
+use Rattle.usb_device.specs.declared.request.Source.TheVariants.{Descriptor, Config, Text, Hub, Status, Configuration, Port}
 use Rattle.usb_device.specs.declared.request.Reaction.{Reaction}
-use Rattle.usb_device.specs.declared.request.Reaction.TheVariants.{Refuse, Answer, TakeAddress, TakeConfiguration, Halt, Unhalt}
+use Rattle.usb_device.specs.declared.request.Reaction.TheVariants.{Refuse, Answer, TakeAddress, TakeConfiguration, Halt, Unhalt, TellPort, CallPort}
 use Rattle.usb_device.specs.declared.transfer.Progress.{Progress}
 use Rattle.usb_device.specs.declared.transfer.Progress.TheVariants.{Idle, Refused, Reading, Read, Ending}
 
@@ -25,6 +25,7 @@ bytes_of s (Text i) = text_at s.strings i
 bytes_of s Hub = hub_text s.hub
 bytes_of s Status = status_bytes s
 bytes_of s (Configuration c) = c ∷ []
+bytes_of s (Port bytes) = bytes
 
 abbrev pub meaning_of : Spec → Reaction → Outcome
 meaning_of s Refuse = stalled
@@ -33,6 +34,8 @@ meaning_of s (TakeAddress a) = takes_address a
 meaning_of s (TakeConfiguration c) = takes_configuration c
 meaning_of s (Halt which) = halts which
 meaning_of s (Unhalt which) = unhalts which
+meaning_of s (TellPort i) = tells_port i
+meaning_of s (CallPort c i) = calls_port c i
 
 abbrev pub stage_of : Spec → Progress → Stage
 stage_of s Idle = idle

@@ -1,8 +1,14 @@
 pub mod Spec
+pub mod Calls
 pub mod Bulk
 pub mod Request
 pub mod Transfer
 pub mod Rows
+pub mod Effect
+pub mod Tree
+pub mod Stored
+pub mod Places
+pub mod Delivery
 pub mod Code
 pub mod Received
 pub mod Attempt

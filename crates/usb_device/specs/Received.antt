@@ -6,7 +6,9 @@ use Rattle.usb_packet.specs.declared.Packet.{Packet}
 use Rattle.usb_packet.specs.declared.Packet.TheVariants as packet
 use Rattle.usb_device.specs.declared.answer.Answer.{Answer}
 use Rattle.usb_device.specs.declared.answer.Answer.TheVariants.{Ack, Nak, Stall, Data}
-use Rattle.usb_device.specs.Rows.{State, received, unread, sink_grows}
+use Rattle.usb_device.specs.Rows.{received, unread, sink_grows}
+use Rattle.usb_device.specs.Effect.{asks}
+use Rattle.usb_device.specs.Tree.{Plugged, row_of, acted}
 
 abbrev pub packet_of : Answer → Packet
 packet_of Ack = packet.Ack
@@ -21,11 +23,18 @@ Answers (Some bytes) (Some answer) = Spells bytes.items (packet_of answer)
 Answers None (Some answer) = ⊥
 Answers (Some bytes) None = ⊥
 
+-- a packet at a device that has no other above or below it: its answer, what it is then, and what its ports are
+abbrev pub answer_to : Plugged → Packet → Option Answer
+answer_to t p = (received t.own (row_of t.ports) p).0
+
+abbrev pub after_receiving : Plugged → Packet → Plugged
+after_receiving t p = record { own = (received t.own (row_of t.ports) p).1; ports = acted (asks t.own p) t.ports }
+
 -- the packet that the bytes spell is answered; where they spell none, nothing is
-pub record Receives (bytes : List ℕ) (old : State) (answer : Option (ArrayVec ℕ)) (new : State) : Type 0 where
-  pub whole : (p : Packet) → Spells bytes p → Answers answer (received old p).0 × (new ≡ (received old p).1)
-  pub broken : ((p : Packet) → Spells bytes p → ⊥) → (answer ≡ None) × (new ≡ unread old)
+pub record Receives (bytes : List ℕ) (old : Plugged) (answer : Option (ArrayVec ℕ)) (new : Plugged) : Type 0 where
+  pub whole : (p : Packet) → Spells bytes p → Answers answer (answer_to old p) × (new ≡ after_receiving old p)
+  pub broken : ((p : Packet) → Spells bytes p → ⊥) → (answer ≡ None) × (new ≡ record old { own = unread old.own })
 
 -- the bytes spell a packet that makes the sink grow
-abbrev pub GrowsBy : List ℕ → State → Type 0
-GrowsBy bytes old = (p : Packet) × Spells bytes p × (sink_grows old p ≡ true)
+abbrev pub GrowsBy : List ℕ → Plugged → Type 0
+GrowsBy bytes old = (p : Packet) × Spells bytes p × (sink_grows old.own p ≡ true)

@@ -1,11 +1,13 @@
--- What each request asks of a device: bytes, a change of its registers, or a refusal (9.4).
-use Rattle.std.specs.Prelude.{ℕ, ◌/◌, ◌%◌, ◌==◌, nat_lt, nat_le, if◌then◌else◌, ◌&&◌, ◌||◌, not, Bool, List, [], ◌∷◌, length, slice_index, slice_get, Option, None, Some}
+-- What each request asks of a device: bytes, a change of the device or of one of its ports, or a refusal (9.4, 11.24).
+use Rattle.std.specs.Prelude.{ℕ, ◌-◌, ◌/◌, ◌%◌, ◌==◌, nat_lt, nat_le, if◌then◌else◌, ◌&&◌, ◌||◌, not, Bool, List, [], ◌∷◌, length, slice_index, slice_get, Option, None, Some}
 use Rattle.std.specs.List.{list_any}
 use Rattle.usb_request.specs.declared.setup.Setup.{Setup}
+use Rattle.usb_device.specs.declared.calls.PortCall.{PortCall}
 use Rattle.usb_device.specs.declared.request.Registers.{Registers}
 use Rattle.usb_device.specs.Spec.{Spec, Hub}
 use Rattle.usb_device.specs.declared.bulk.Which.{Which}
 use Rattle.usb_device.specs.Bulk.{has_value, served}
+use Rattle.usb_device.specs.Calls.{set_call, clear_call}
 
 pub data Outcome : Type 0 where
   -- the request is refused by STALL
@@ -19,6 +21,10 @@ pub data Outcome : Type 0 where
   -- the endpoint halts, or halts no more (9.4.9, 9.4.1)
   halts : Which → Outcome
   unhalts : Which → Outcome
+  -- the answer is the status of a port, counted from 0 (11.24.2.7)
+  tells_port : ℕ → Outcome
+  -- a port, counted from 0, is set or cleared (11.24.2.13, 11.24.2.2)
+  calls_port : PortCall → ℕ → Outcome
 
 -- the request has this type and this code
 abbrev pub Is : Setup → ℕ → ℕ → Bool
@@ -71,6 +77,28 @@ abbrev pub get_hub_descriptor : Option Hub → Setup → Outcome
 get_hub_descriptor None r = stalled
 get_hub_descriptor (Some hub) r = if r.value == 0x2900 then answers hub.descriptor else stalled
 
+-- the port of a configured hub that wIndex names, counted from 0
+abbrev pub port_named : Option Hub → Registers → ℕ → Option ℕ
+port_named None g index = None
+port_named (Some hub) g index = if not (g.configuration == 0) && nat_le 1 index && nat_le index hub.ports then Some (index - 1) else None
+
+abbrev pub told_port : Option ℕ → Outcome
+told_port None = stalled
+told_port (Some i) = tells_port i
+
+abbrev pub called_at : Option PortCall → Option ℕ → Outcome
+called_at None i = stalled
+called_at (Some c) None = stalled
+called_at (Some c) (Some i) = calls_port c i
+
+-- 11.24.2.7
+abbrev pub get_port_status : Spec → Registers → Setup → Outcome
+get_port_status s g r = told_port (port_named s.hub g r.index)
+
+-- 11.24.2.13, 11.24.2.2: the feature of wValue of the port of wIndex
+abbrev pub port_feature : Option PortCall → Spec → Registers → Setup → Outcome
+port_feature call s g r = if r.length == 0 then called_at call (port_named s.hub g r.index) else stalled
+
 abbrev pub outcome : Spec → Registers → Setup → Outcome
 outcome s g r =
     if Is r 0x80 6 then get_descriptor s r.value
@@ -81,6 +109,9 @@ outcome s g r =
     else if Is r 0x02 1 then on_endpoint unhalts (endpoint_of s g r)
     else if Is r 0x02 3 then on_endpoint halts (endpoint_of s g r)
     else if Is r 0xA0 6 then unless s.stalls.hub (get_hub_descriptor s.hub r)
+    else if Is r 0xA3 0 then get_port_status s g r
+    else if Is r 0x23 3 then port_feature (set_call r.value) s g r
+    else if Is r 0x23 1 then port_feature (clear_call r.value) s g r
     else stalled
 
 -- the registers once the setup data is accepted

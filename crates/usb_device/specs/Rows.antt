@@ -18,10 +18,11 @@ use Rattle.usb_device.specs.declared.transfer.Giver.{Giver}
 use Rattle.usb_device.specs.declared.transfer.Giver.TheVariants as by
 use Rattle.usb_device.specs.declared.bulk.Pipe.{Pipe}
 use Rattle.usb_device.specs.declared.bulk.Which.{Which}
-use Rattle.usb_device.specs.declared.bulk.Which.TheVariants.{BulkOut, BulkIn}
+use Rattle.usb_device.specs.declared.bulk.Which.TheVariants.{BulkOut, BulkIn, Changes}
+use Rattle.usb_port.specs.PortState.{PortState}
 use Rattle.usb_device.specs.Spec.{Spec}
-use Rattle.usb_device.specs.Bulk.{rested, other, is_same, turned, halted, count_down, is_last, bulk_at, advanced}
-use Rattle.usb_device.specs.Request.{Outcome, stalled, answers, takes_address, takes_configuration, halts, unhalts, outcome, registers_at_setup}
+use Rattle.usb_device.specs.Bulk.{rested, other, is_same, turned, halted, count_down, is_last, bulk_at, advanced, tells_changes, change_bits}
+use Rattle.usb_device.specs.Request.{Outcome, stalled, answers, takes_address, takes_configuration, halts, unhalts, tells_port, calls_port, outcome, registers_at_setup}
 use Rattle.usb_device.specs.Transfer.{Stage, idle, refused, reading, read, ending, first_stage, max_packet, packet_at, toggle_at}
 
 pub record State : Type 0 where
@@ -34,6 +35,9 @@ pub record State : Type 0 where
   pub stage : Stage
   pub bulk_out : Pipe
   pub bulk_in : Pipe
+  -- IN 1 of a hub: its pipe, and the byte that was given and not yet acknowledged
+  pub changes : Pipe
+  pub held : Option ℕ
   -- what bulk OUT has taken since the plug
   pub sink : List ℕ
   -- how many packets bulk OUT is still to take until it halts
@@ -54,27 +58,31 @@ forgotten d = record d { memory = Nothing }
 abbrev pub pipe_of : State → Which → Pipe
 pipe_of d BulkOut = d.bulk_out
 pipe_of d BulkIn = d.bulk_in
+pipe_of d Changes = d.changes
 
 abbrev pub with_pipe : State → Which → Pipe → State
 with_pipe d BulkOut pipe = record d { bulk_out = pipe }
 with_pipe d BulkIn pipe = record d { bulk_in = pipe }
+with_pipe d Changes pipe = record d { changes = pipe }
 
 -- what a request makes of the endpoints (9.1.1.5, 9.4.5)
 abbrev pub with_endpoints : State → Outcome → State
 with_endpoints d stalled = d
 with_endpoints d (answers bytes) = d
 with_endpoints d (takes_address a) = d
-with_endpoints d (takes_configuration c) = record d { bulk_out = rested; bulk_in = rested }
+with_endpoints d (takes_configuration c) = record d { bulk_out = rested; bulk_in = rested; changes = rested; held = None }
 with_endpoints d (halts which) = with_pipe d which (halted (pipe_of d which))
 with_endpoints d (unhalts which) = with_pipe d which rested
+with_endpoints d (tells_port i) = d
+with_endpoints d (calls_port c i) = d
 
 -- a request begins a transfer, and ends the one before
-abbrev pub begun : State → ℕ → Outcome → State
-begun d wanted o = record (with_endpoints d o) { registers = registers_at_setup d.registers o; naks = d.spec.naks; stage = first_stage wanted o }
+abbrev pub begun : State → List PortState → ℕ → Outcome → State
+begun d row wanted o = record (with_endpoints d o) { registers = registers_at_setup d.registers o; naks = d.spec.naks; stage = first_stage row wanted o }
 
 -- the setup data is accepted
-abbrev pub accepted : State → Setup → State
-accepted d r = begun d r.length (outcome d.spec d.registers r)
+abbrev pub accepted : State → List PortState → Setup → State
+accepted d row r = begun d row r.length (outcome d.spec d.registers r)
 
 -- the device has a NAK to give
 abbrev pub is_busy : State → Bool
@@ -141,10 +149,24 @@ abbrev pub bulk_ack_row : State → Option (ℕ × ℕ) → State
 bulk_ack_row d None = d
 bulk_ack_row d (Some end) = record d { place = advanced d.place end.1 (length d.spec.source); bulk_in = turned d.bulk_in }
 
+-- IN 1 of a configured hub with no byte that is still to be acknowledged: the ports with a change
+abbrev pub new_changes_row : State → ℕ → Reply
+new_changes_row d bits = if bits == 0 then (Some Nak, d) else gives (record d { held = Some bits }) by.Changes d.changes.toggle (bits ∷ [])
+
+-- IN 1 of a configured hub: the byte that was given before, until the host's ACK of it is seen
+abbrev pub held_row : State → List PortState → Option ℕ → Reply
+held_row d row None = new_changes_row d (change_bits row)
+held_row d row (Some bits) = gives d by.Changes d.changes.toggle (bits ∷ [])
+
+-- IN 1 of a configured hub
+abbrev pub changes_row : State → List PortState → Reply
+changes_row d row = if d.changes.halted then (Some Stall, d) else held_row d row d.held
+
 -- the host's ACK of what was given
 abbrev pub acknowledged : State → Giver → State
 acknowledged d by.Control = ack_row d d.stage
 acknowledged d by.Bulk = bulk_ack_row d (bulk_of d true)
+acknowledged d by.Changes = record d { changes = turned d.changes; held = None }
 
 -- a packet joins the sink
 abbrev pub sunk : State → List ℕ → State
@@ -166,7 +188,7 @@ sink_row d max t bytes =
 abbrev pub sinks : State → ℕ → Toggle → List ℕ → Bool
 sinks d max t bytes = not d.bulk_out.halted && not (nat_lt max (length bytes)) && is_same t d.bulk_out.toggle
 
--- IN of an endpoint that is not endpoint 0
+-- IN of an endpoint that is neither endpoint 0 nor a hub's endpoint 1
 abbrev pub in_bulk_row : State → ℕ → Option (ℕ × ℕ) → Reply
 in_bulk_row d e None = (None, d)
 in_bulk_row d e (Some end) = if end.0 == e then source_row d end.1 else (None, d)
@@ -180,21 +202,25 @@ abbrev pub bulk_sinks : State → ℕ → Option (ℕ × ℕ) → Toggle → Lis
 bulk_sinks d e None t bytes = false
 bulk_sinks d e (Some end) t bytes = end.0 == e && sinks d end.1 t bytes
 
+-- IN of an endpoint that is not endpoint 0
+abbrev pub in_other_row : State → List PortState → ℕ → Reply
+in_other_row d row e = if e == 1 && tells_changes d.spec d.registers then changes_row d row else in_bulk_row d e (bulk_of d true)
+
 -- a token for this device
-abbrev pub token_row : State → TokenKind → ℕ → Reply
-token_row d SetupTok e = (None, if e == 0 then record d { memory = SetupSeen } else d)
-token_row d OutTok e = (None, record d { memory = OutSeen e })
-token_row d InTok e = if e == 0 then unless_busy d (in_row d d.stage) else in_bulk_row d e (bulk_of d true)
+abbrev pub token_row : State → List PortState → TokenKind → ℕ → Reply
+token_row d row SetupTok e = (None, if e == 0 then record d { memory = SetupSeen } else d)
+token_row d row OutTok e = (None, record d { memory = OutSeen e })
+token_row d row InTok e = if e == 0 then unless_busy d (in_row d d.stage) else in_other_row d row e
 
 -- data after an OUT token
 abbrev pub data_row : State → ℕ → Toggle → List ℕ → Reply
 data_row d e t bytes = if e == 0 then unless_busy d (out_row d d.stage t bytes) else out_bulk_row d e (bulk_of d false) t bytes
 
 -- data, by what the packet before left
-abbrev pub payload_row : State → Memory → Toggle → List ℕ → Reply
-payload_row d SetupSeen Zero bytes = if length bytes == 8 then (Some Ack, accepted d (setup_of bytes)) else (None, d)
-payload_row d (OutSeen e) t bytes = data_row d e t bytes
-payload_row d m t bytes = (None, d)
+abbrev pub payload_row : State → List PortState → Memory → Toggle → List ℕ → Reply
+payload_row d row SetupSeen Zero bytes = if length bytes == 8 then (Some Ack, accepted d row (setup_of bytes)) else (None, d)
+payload_row d row (OutSeen e) t bytes = data_row d e t bytes
+payload_row d row m t bytes = (None, d)
 
 -- data make the sink grow
 abbrev pub payload_sinks : State → Memory → Toggle → List ℕ → Bool
@@ -212,11 +238,11 @@ after_memory d (AckAwaited giver) = acknowledged d giver
 after_memory d m = d
 
 -- any packet, by what the packet before left
-abbrev pub answered : State → Memory → Packet → Reply
-answered d m (Token kind a e) = if a == d.registers.address then token_row d kind e else (None, d)
-answered d m (Payload t bytes) = payload_row d m t bytes.items
-answered d m packet.Ack = (None, after_memory d m)
-answered d m p = (None, d)
+abbrev pub answered : State → List PortState → Memory → Packet → Reply
+answered d row m (Token kind a e) = if a == d.registers.address then token_row d row kind e else (None, d)
+answered d row m (Payload t bytes) = payload_row d row m t bytes.items
+answered d row m packet.Ack = (None, after_memory d m)
+answered d row m p = (None, d)
 
 abbrev pub packet_sinks : State → Packet → Bool
 packet_sinks d (Payload t bytes) = payload_sinks d d.memory t bytes.items
@@ -226,9 +252,9 @@ packet_sinks d p = false
 abbrev pub sink_grows : State → Packet → Bool
 sink_grows d p = not d.spec.silent && packet_sinks d p
 
--- what a device answers to a packet, and what it is then
-unfoldable pub received : State → Packet → Reply
-received d p = if d.spec.silent then (None, d) else answered (forgotten d) d.memory p
+-- what a device with these ports answers to a packet, and what it is then
+unfoldable pub received : State → List PortState → Packet → Reply
+received d row p = if d.spec.silent then (None, d) else answered (forgotten d) row d.memory p
 
 -- what a device is after bytes that spell no packet
 unfoldable pub unread : State → State
@@ -236,8 +262,8 @@ unread d = if d.spec.silent then d else forgotten d
 
 -- a device that was just plugged
 unfoldable pub fresh : Spec → State
-fresh s = record { spec = s; registers = record { address = 0; configuration = 0 }; memory = Nothing; naks = 0; stage = idle; bulk_out = rested; bulk_in = rested; sink = []; until_halt = s.halt_after; place = 0 }
+fresh s = record { spec = s; registers = record { address = 0; configuration = 0 }; memory = Nothing; naks = 0; stage = idle; bulk_out = rested; bulk_in = rested; changes = rested; held = None; sink = []; until_halt = s.halt_after; place = 0 }
 
 -- a bus reset (9.1.1.3); what bulk OUT has taken, what is left of the source and the count until the halt stay
 unfoldable pub reset_state : State → State
-reset_state d = record d { registers = record { address = 0; configuration = 0 }; memory = Nothing; naks = 0; stage = idle }
+reset_state d = record d { registers = record { address = 0; configuration = 0 }; memory = Nothing; naks = 0; stage = idle; held = None }

@@ -1,9 +1,10 @@
 -- Where a control transfer stands, and the packets of an answer (8.5.3).
-use Rattle.std.specs.Prelude.{ℕ, zero, suc, ◌+◌, ◌*◌, ◌/◌, ◌%◌, ◌==◌, nat_lt, if◌then◌else◌, ◌&&◌, ◌||◌, not, List, [], ◌++◌, length, take, drop, slice_index, Option, None, Some, unwrap_or}
+use Rattle.std.specs.Prelude.{ℕ, zero, suc, ◌+◌, ◌*◌, ◌/◌, ◌%◌, ◌==◌, nat_lt, if◌then◌else◌, ◌&&◌, ◌||◌, not, List, [], ◌++◌, length, take, drop, slice_index, slice_get, Option, None, Some, unwrap_or}
 use Rattle.usb_packet.specs.declared.Toggle.{Toggle}
 use Rattle.usb_packet.specs.declared.Toggle.TheVariants.{Zero, One}
 use Rattle.usb_device.specs.Spec.{Spec}
-use Rattle.usb_device.specs.Request.{Outcome, stalled, answers, address_at_end}
+use Rattle.usb_port.specs.PortState.{PortState, status_of}
+use Rattle.usb_device.specs.Request.{Outcome, stalled, answers, tells_port, address_at_end}
 
 pub data Stage : Type 0 where
   -- no transfer, or one without a data stage that is over
@@ -17,11 +18,21 @@ pub data Stage : Type 0 where
   -- the status stage of a transfer without a data stage, and the address that is taken at its end
   ending : Option ℕ → Stage
 
--- the stage that a request begins; where the host wants no byte, there is no data stage
-abbrev pub first_stage : ℕ → Outcome → Stage
-first_stage wanted stalled = refused
-first_stage wanted (answers bytes) = if wanted == 0 then ending None else reading bytes wanted 0
-first_stage wanted o = ending (address_at_end o)
+-- a control read begins; where the host wants no byte, there is no data stage
+abbrev pub reads : ℕ → List ℕ → Stage
+reads wanted bytes = if wanted == 0 then ending None else reading bytes wanted 0
+
+-- the status of a port is read
+abbrev pub reads_port : ℕ → Option PortState → Stage
+reads_port wanted None = refused
+reads_port wanted (Some p) = reads wanted (status_of p)
+
+-- the stage that a request begins, by the ports of the device
+abbrev pub first_stage : List PortState → ℕ → Outcome → Stage
+first_stage row wanted stalled = refused
+first_stage row wanted (answers bytes) = reads wanted bytes
+first_stage row wanted (tells_port i) = reads_port wanted (slice_get row i)
+first_stage row wanted o = ending (address_at_end o)
 
 -- the most data bytes of a packet on endpoint 0 (5.5.3): what the device descriptor says, where the speed allows it
 abbrev pub max_packet : Spec → ℕ

@@ -1,9 +1,9 @@
-//! The bulk endpoints of a device (5.8): which ones there are, their toggles and their halts.
+//! The endpoints of a device besides endpoint 0 (5.8, 11.12): which ones there are, their toggles and their halts.
 ghost use Rattle.std.specs.Prelude.{◌≡◌, ◌≤◌, length};
 ghost use Rattle.std.specs.Option.{IfSome};
 ghost use Rattle.usb_descriptor.specs.Choice.{IsUsable};
 ghost use Rattle.usb_device.specs.Spec.{Spec};
-ghost use Rattle.usb_device.specs.Bulk.{other, is_same, turned, halted, count_down, is_last, text_with, total_of, bulk_in, bulk_at, is_end, served, advanced};
+ghost use Rattle.usb_device.specs.Bulk.{other, is_same, turned, halted, count_down, is_last, text_with, total_of, bulk_in, bulk_at, is_end, served, advanced, tells_changes};
 
 use crate::lists::Bytes;
 use crate::request::{Registers, has_value};
@@ -30,6 +30,8 @@ pub const RESTED: Pipe = Pipe {
 pub enum Which {
     BulkOut,
     BulkIn,
+    /// IN 1 of a hub.
+    Changes,
 }
 
 fn other(toggle: Toggle) -> Toggle
@@ -153,11 +155,20 @@ fn is_end(index: u16, offset: u16, end: Option<(u8, u8)>) -> bool
     }
 }
 
+/// Whether IN 1 tells which ports changed (11.12.1): so it does of a configured hub.
+pub fn tells_changes(spec: &DeviceSpec, registers: Registers) -> bool
+    ensures { result ≡ tells_changes spec.now registers }
+{
+    spec.hub().is_some() && registers.configuration != 0
+}
+
 /// The served endpoint that wIndex of a request names (9.3.4).
 pub fn served(spec: &DeviceSpec, registers: Registers, index: u16) -> Option<Which>
     ensures { result ≡ served spec.now registers index }
 {
-    if is_end(index, 0, bulk_at(spec, registers, false)) {
+    if index == 129 && tells_changes(spec, registers) {
+        Some(Which::Changes)
+    } else if is_end(index, 0, bulk_at(spec, registers, false)) {
         Some(Which::BulkOut)
     } else if is_end(index, 128, bulk_at(spec, registers, true)) {
         Some(Which::BulkIn)

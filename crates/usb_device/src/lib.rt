@@ -3,11 +3,16 @@
 
 mod answer;
 mod bulk;
+mod calls;
+mod delivery;
 mod device;
 mod devices;
+mod effect;
 mod hub_spec;
 mod laws;
 mod lists;
+mod own;
+mod ports;
 mod request;
 mod spec;
 mod transfer;

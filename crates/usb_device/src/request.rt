@@ -2,11 +2,12 @@
 ghost use Rattle.std.specs.Prelude.{◌≡◌};
 ghost use Rattle.std.specs.List.{list_any};
 ghost use Rattle.usb_device.specs.Spec.{Spec};
-ghost use Rattle.usb_device.specs.Request.{outcome, unless, text_asked, get_descriptor, get_status, set_address, is_value, set_configuration, endpoint_of, on_endpoint, halts, unhalts, get_hub_descriptor};
+ghost use Rattle.usb_device.specs.Request.{outcome, unless, text_asked, get_descriptor, get_status, set_address, is_value, set_configuration, endpoint_of, on_endpoint, halts, unhalts, get_hub_descriptor, port_named, told_port, called_at, get_port_status, port_feature};
 ghost use Rattle.usb_device.specs.Bulk.{has_value};
 ghost use Rattle.usb_device.specs.Code.{bytes_of, text_at, meaning_of};
 
 use crate::bulk::{Which, served};
+use crate::calls::PortCall;
 use crate::lists::Bytes;
 use crate::spec::DeviceSpec;
 use usb_request::{Setup, descriptor_type, request_code, request_type};
@@ -41,6 +42,8 @@ pub enum Source {
     Status,
     /// The one byte of GET_CONFIGURATION.
     Configuration(u8),
+    /// The status of a port as it was asked for.
+    Port([u8; 4]),
 }
 
 /// What a device does about a request.
@@ -58,6 +61,10 @@ pub enum Reaction {
     Halt(Which),
     /// An endpoint halts no more.
     Unhalt(Which),
+    /// It gives the status of a port, counted from 0.
+    TellPort(usize),
+    /// A port, counted from 0, is set or cleared.
+    CallPort(PortCall, usize),
 }
 
 fn unless(refused: bool, reaction: Reaction) -> Reaction
@@ -173,6 +180,52 @@ fn get_hub_descriptor(spec: &DeviceSpec, setup: &Setup) -> Reaction
     }
 }
 
+/// The port of a configured hub that wIndex names, counted from 0.
+fn port_named(spec: &DeviceSpec, registers: Registers, index: u16) -> Option<usize>
+    ensures { result ≡ port_named spec.now.hub registers index }
+{
+    let ports = u16::from(spec.hub()?.ports());
+    if registers.configuration != 0 && 1 <= index && index <= ports {
+        Some(usize::from(index - 1))
+    } else {
+        None
+    }
+}
+
+fn get_port_status(spec: &DeviceSpec, registers: Registers, setup: &Setup) -> Reaction
+    ensures { (s : Spec) → meaning_of s result ≡ get_port_status spec.now registers setup.now }
+{
+    match port_named(spec, registers, setup.index) {
+        Some(port) => Reaction::TellPort(port),
+        None => Reaction::Refuse,
+    }
+}
+
+fn called_at(call: Option<PortCall>, port: Option<usize>) -> Reaction
+    ensures { (s : Spec) → meaning_of s result ≡ called_at call port }
+{
+    match (call, port) {
+        (Some(call), Some(port)) => Reaction::CallPort(call, port),
+        (None, _) | (Some(_), None) => Reaction::Refuse,
+    }
+}
+
+/// A SetPortFeature or ClearPortFeature, whose feature names this call.
+fn port_feature(
+    call: Option<PortCall>,
+    spec: &DeviceSpec,
+    registers: Registers,
+    setup: &Setup,
+) -> Reaction
+    ensures { (s : Spec) → meaning_of s result ≡ port_feature call spec.now registers setup.now }
+{
+    if setup.length == 0 {
+        called_at(call, port_named(spec, registers, setup.index))
+    } else {
+        Reaction::Refuse
+    }
+}
+
 /// What a device with these registers does about a request.
 pub fn react(spec: &DeviceSpec, registers: Registers, setup: &Setup) -> Reaction
     ensures { meaning_of spec.now result ≡ outcome spec.now registers setup.now }
@@ -205,6 +258,19 @@ pub fn react(spec: &DeviceSpec, registers: Registers, setup: &Setup) -> Reaction
         (request_type::HUB_IN, request_code::GET_DESCRIPTOR) => {
             unless(stalls.hub, get_hub_descriptor(spec, setup))
         }
+        (request_type::PORT_IN, request_code::GET_STATUS) => get_port_status(spec, registers, setup),
+        (request_type::PORT_OUT, request_code::SET_FEATURE) => port_feature(
+            PortCall::of_set(setup.value),
+            spec,
+            registers,
+            setup,
+        ),
+        (request_type::PORT_OUT, request_code::CLEAR_FEATURE) => port_feature(
+            PortCall::of_clear(setup.value),
+            spec,
+            registers,
+            setup,
+        ),
         _ => Reaction::Refuse,
     }
 }

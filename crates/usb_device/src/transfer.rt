@@ -13,6 +13,8 @@ pub enum Giver {
     Control,
     /// The bulk IN endpoint.
     Bulk,
+    /// IN 1 of a hub.
+    Changes,
 }
 
 /// What the packet before left.

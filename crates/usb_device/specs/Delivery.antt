@@ -1,0 +1,103 @@
+-- A packet goes down the tree, through the enabled ports (8.6.5, 11.8.4).
+use Rattle.std.specs.Prelude.{ℕ, ◌&&◌, ◌||◌, ◌==◌, not, if◌then◌else◌, Bool, true, false, List, [], ◌∷◌, ◌++◌, Option, None, Some}
+use Rattle.usb_port.specs.PortState.{PortState}
+use Rattle.usb_device.specs.declared.answer.Answer.{Answer}
+use Rattle.usb_device.specs.declared.delivery.Content.{Content}
+use Rattle.usb_device.specs.declared.delivery.Content.TheVariants.{Whole, Broken}
+use Rattle.usb_device.specs.declared.delivery.Sent.{Sent}
+use Rattle.usb_device.specs.declared.effect.Effect.{Effect}
+use Rattle.usb_device.specs.declared.effect.Effect.TheVariants.{Leaves}
+use Rattle.usb_device.specs.Rows.{State, Reply, received, unread, forgotten}
+use Rattle.usb_device.specs.Effect.{asks}
+use Rattle.usb_device.specs.Transfer.{Stage, ending}
+use Rattle.usb_device.specs.declared.transfer.Memory.{Memory}
+use Rattle.usb_device.specs.declared.transfer.Memory.TheVariants.{AckAwaited}
+use Rattle.usb_device.specs.declared.transfer.Giver.TheVariants as by
+use Rattle.usb_device.specs.declared.delivery.Heard.{Heard}
+use Rattle.usb_device.specs.declared.delivery.Heard.TheVariants.{NoAnswer, One, Collision}
+use Rattle.usb_device.specs.Tree.{Ports, ended, vacant, taken, acted, row_of}
+
+abbrev pub alike : Bool → Bool → Bool
+alike true b = b
+alike false b = not b
+
+-- whether a device hears it, which is `deep` where it stands on a hub's port: at low speed only with PRE there
+abbrev pub hears : Sent → Bool → State → Bool
+hears q deep s = alike q.low s.spec.low && (not q.low || not deep || q.pre)
+
+-- what a device makes of it
+abbrev pub reply_to : Content → State → List PortState → Reply
+reply_to (Whole p) s row = received s row p
+reply_to Broken s row = (None, unread s)
+
+abbrev pub asked_by : Content → State → Effect
+asked_by (Whole p) s = asks s p
+asked_by Broken s = Leaves
+
+unfoldable pub answer_of : Sent → Bool → State → Ports → Reply
+answer_of q deep s a = if hears q deep s then reply_to q.content s (row_of a) else (None, s)
+
+unfoldable pub effect_of : Sent → Bool → State → Effect
+effect_of q deep s = if hears q deep s then asked_by q.content s else Leaves
+
+-- the ports after a packet: those below a device first, by the enables as they stood, and then what the device asks of them
+unfoldable pub after_packet : Sent → Bool → Ports → Ports
+after_packet q deep ended = ended
+after_packet q deep (vacant b k) = vacant b (after_packet q deep k)
+after_packet q deep (taken b s a k) =
+    if b.enable then taken b (answer_of q deep s a).1 (acted (effect_of q deep s) (after_packet q true a)) (after_packet q deep k)
+    else taken b s a (after_packet q deep k)
+
+abbrev pub listed : Option Answer → List Answer → List Answer
+listed None more = more
+listed (Some x) more = x ∷ more
+
+-- the answers to a packet
+unfoldable pub answers : Sent → Bool → Ports → List Answer
+answers q deep ended = []
+answers q deep (vacant b k) = answers q deep k
+answers q deep (taken b s a k) =
+    if b.enable then listed (answer_of q deep s a).0 (answers q true a ++ answers q deep k) else answers q deep k
+
+-- between attempts no device remembers a token or an awaited ACK
+unfoldable pub all_forgotten : Ports → Ports
+all_forgotten ended = ended
+all_forgotten (vacant b k) = vacant b (all_forgotten k)
+all_forgotten (taken b s a k) = taken b (forgotten s) (all_forgotten a) (all_forgotten k)
+
+-- the addresses of the devices that packets reach
+unfoldable pub held : Ports → List ℕ
+held ended = []
+held (vacant b k) = held k
+held (taken b s a k) = if b.enable then s.registers.address ∷ (held a ++ held k) else held k
+
+abbrev pub has : ℕ → List ℕ → Bool
+has a [] = false
+has a (x ∷ xs) = a == x || has a xs
+
+-- one of these stands twice
+unfoldable pub is_twice : List ℕ → Bool
+is_twice [] = false
+is_twice (x ∷ xs) = has x xs || is_twice xs
+
+-- an address is taken when the status stage ends
+abbrev pub is_taking : Stage → Bool
+is_taking (ending (Some a)) = true
+is_taking s = false
+
+-- an ACK of what endpoint 0 gave is awaited
+abbrev pub is_awaiting : Memory → Bool
+is_awaiting (AckAwaited by.Control) = true
+is_awaiting m = false
+
+-- some device awaits the ACK that would end its SET_ADDRESS
+unfoldable pub has_loss : Ports → Bool
+has_loss ended = false
+has_loss (vacant b k) = has_loss k
+has_loss (taken b s a k) = (is_awaiting s.memory && is_taking s.stage) || has_loss a || has_loss k
+
+-- what is heard of the answers: two collide
+abbrev pub heard_of : List Answer → Heard
+heard_of [] = NoAnswer
+heard_of (x ∷ []) = One x
+heard_of (x ∷ y ∷ more) = Collision

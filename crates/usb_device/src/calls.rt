@@ -1,0 +1,55 @@
+//! What the host can ask of a port of a hub (11.24).
+ghost use Rattle.std.specs.Prelude.{◌≡◌};
+ghost use Rattle.usb_device.specs.Calls.{set_call, clear_call};
+
+use usb_request::feature::{
+    C_PORT_CONNECTION, C_PORT_ENABLE, C_PORT_RESET, PORT_ENABLE, PORT_POWER, PORT_RESET,
+};
+
+/// A call of the port table.
+#[derive(Clone, Copy, Debug)]
+pub enum PortCall {
+    /// SetPortFeature of PORT_POWER.
+    SetPower,
+    /// SetPortFeature of PORT_RESET.
+    SetReset,
+    /// ClearPortFeature of PORT_ENABLE.
+    ClearEnable,
+    /// ClearPortFeature of PORT_POWER.
+    ClearPower,
+    /// ClearPortFeature of C_PORT_CONNECTION.
+    ClearConnectionChange,
+    /// ClearPortFeature of C_PORT_ENABLE.
+    ClearEnableChange,
+    /// ClearPortFeature of C_PORT_RESET.
+    ClearResetChange,
+}
+
+impl PortCall {
+    /// SetPortFeature of a feature (11.24.2.13), which is 8 or 4; None for any other.
+    #[tactic(auto, unfolding(crate::specs::Calls::set_call))]
+    pub fn of_set(feature: u16) -> Option<PortCall>
+        ensures { result ≡ set_call feature }
+    {
+        match feature {
+            PORT_POWER => Some(PortCall::SetPower),
+            PORT_RESET => Some(PortCall::SetReset),
+            _ => None,
+        }
+    }
+
+    /// ClearPortFeature of a feature (11.24.2.2), which is 1, 8, 16, 17 or 20; None for any other.
+    #[tactic(auto, unfolding(crate::specs::Calls::clear_call))]
+    pub fn of_clear(feature: u16) -> Option<PortCall>
+        ensures { result ≡ clear_call feature }
+    {
+        match feature {
+            PORT_ENABLE => Some(PortCall::ClearEnable),
+            PORT_POWER => Some(PortCall::ClearPower),
+            C_PORT_CONNECTION => Some(PortCall::ClearConnectionChange),
+            C_PORT_ENABLE => Some(PortCall::ClearEnableChange),
+            C_PORT_RESET => Some(PortCall::ClearResetChange),
+            _ => None,
+        }
+    }
+}

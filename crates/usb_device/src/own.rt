@@ -1,0 +1,689 @@
+//! A device without its ports: its transfers, packet by packet (8.5).
+ghost use Rattle.std.specs.Prelude.{◌≡◌, ◌≤◌, ◌==◌, None, if◌then◌else◌, option_map};
+ghost use Rattle.std.specs.Prelude.{ℕ, List};
+ghost use Rattle.usb_port.specs.PortState.{PortState};
+ghost use Rattle.usb_device.specs.Spec.{Spec};
+ghost use Rattle.usb_device.specs.Code.{bytes_of, hub_text, text_at, meaning_of, stage_of};
+ghost use Rattle.usb_device.specs.Transfer.{max_packet, packet_at, reads, first_stage};
+ghost use Rattle.usb_device.specs.Places.{row_in};
+
+use crate::answer::Answer;
+use crate::bulk::{
+    Pipe, RESTED, Which, advanced, bulk_at, carried, counted_down, halted, is_last, is_same,
+    tells_changes, turned,
+};
+use crate::effect::Effect;
+use crate::lists::Bytes;
+use crate::ports::{Place, change_bits};
+use crate::request::{AT_RESET, Reaction, Registers, Source, react};
+use crate::spec::DeviceSpec;
+use crate::transfer::{Giver, Memory, Progress, packet_at, toggle_at};
+use arrayvec::ArrayVec;
+use std::alloc::{AllocError, Global};
+use std::marker::Model;
+use usb_packet::{Packet, Toggle, TokenKind};
+use usb_request::Setup;
+
+/// A plugged device, without its ports: it takes one packet after the other, and answers some of them (8.5). It has
+/// endpoint 0, a bulk endpoint for each direction where its configuration describes one, and IN 1 where it is a hub.
+#[derive(Drop)]
+pub struct Own {
+    spec: DeviceSpec,
+    registers: Registers,
+    memory: Memory,
+    naks: u8,
+    progress: Progress,
+    bulk_out: Pipe,
+    bulk_in: Pipe,
+    changes: Pipe,
+    held: Option<u8>,
+    sink: Vec<u8>,
+    until_halt: Option<u16>,
+    place: usize,
+}
+
+impl Model for Own {
+    ghost use Rattle.usb_device.specs.Rows.{State};
+    ghost use Rattle.usb_device.specs.Code.{stage_of};
+
+    ghost Value = { State };
+
+    ghost view = { λ d. record {
+      spec = d.spec;
+      registers = d.registers;
+      memory = d.memory;
+      naks = d.naks;
+      stage = stage_of d.spec d.progress;
+      bulk_out = d.bulk_out;
+      bulk_in = d.bulk_in;
+      changes = d.changes;
+      held = d.held;
+      sink = d.sink.items;
+      until_halt = d.until_halt;
+      place = d.place;
+    } };
+}
+
+fn hub_text(spec: &DeviceSpec) -> &[u8]
+    ensures { result.now ≡ hub_text spec.now.hub }
+{
+    match spec.hub() {
+        Some(hub) => hub.descriptor(),
+        None => &[],
+    }
+}
+
+fn text_at<const MAX: usize>(texts: &[Bytes<MAX>], i: usize) -> &[u8]
+    ensures { result.now ≡ text_at texts.now i }
+{
+    match texts.get(i) {
+        Some(text) => text.as_slice(),
+        None => &[],
+    }
+}
+
+fn reading(source: Source, wanted: u16) -> Progress
+    ensures { (s : Spec) → stage_of s result ≡ reads wanted (bytes_of s source) }
+{
+    if wanted == 0 {
+        Progress::Ending(None)
+    } else {
+        Progress::Reading {
+            source,
+            wanted,
+            given: 0,
+        }
+    }
+}
+
+/// Where a transfer stands that a request begins.
+fn first_progress(places: &[Place], wanted: u16, reaction: Reaction) -> Progress
+    ensures { (s : Spec) → stage_of s result ≡ first_stage (row_in places.now) wanted (meaning_of s reaction) }
+{
+    match reaction {
+        Reaction::Refuse => Progress::Refused,
+        Reaction::Answer(source) => reading(source, wanted),
+        Reaction::TellPort(i) => match places.get(i) {
+            Some(place) => reading(Source::Port(place.port.status()), wanted),
+            None => Progress::Refused,
+        },
+        Reaction::TakeAddress(address) => Progress::Ending(Some(address)),
+        Reaction::TakeConfiguration(_)
+        | Reaction::Halt(_)
+        | Reaction::Unhalt(_)
+        | Reaction::CallPort(..) => Progress::Ending(None),
+    }
+}
+
+impl Own {
+    ghost use Rattle.std.specs.Prelude.{IfOk, OnErr, true, false, [], ◌∷◌};
+    ghost use Rattle.usb_device.specs.declared.transfer.Giver.TheVariants as by;
+    ghost use Rattle.usb_device.specs.Effect.{asks, asked_by_data, asked_by_setup};
+    ghost use Rattle.usb_device.specs.Rows.{State, received, unread, forgotten, fresh, reset_state, accepted, begun, is_busy, nak_row, gives, in_row, status_row, out_row, ack_row, token_row, payload_row, answered, unless_busy, pipe_of, with_pipe, bulk_of, rest_of, source_row, bulk_ack_row, acknowledged, sink_row, sinks, in_bulk_row, out_bulk_row, bulk_sinks, data_row, payload_sinks, sink_grows, is_other_out, after_memory, with_endpoints, in_other_row, changes_row, new_changes_row};
+
+    /// A device that was just plugged, with a copy of its description. An error: memory is refused.
+    #[tactic(auto, unfolding(crate::specs::Rows::fresh))]
+    pub fn new(alloc: Global, spec: &DeviceSpec) -> Result<Self, AllocError>
+        ensures { IfOk result (λ d. d ≡ fresh spec.now) }
+    {
+        Ok(Own {
+            spec: spec.try_clone(alloc)?,
+            registers: AT_RESET,
+            memory: Memory::Nothing,
+            naks: 0,
+            progress: Progress::Idle,
+            bulk_out: RESTED,
+            bulk_in: RESTED,
+            changes: RESTED,
+            held: None,
+            sink: Vec::new(alloc),
+            until_halt: spec.halt_after(),
+            place: 0,
+        })
+    }
+
+    /// Its address: 0 until SET_ADDRESS has ended (9.4.6).
+    pub fn address(&self) -> u8
+        ensures { result ≡ self.now.registers.address }
+    {
+        self.registers.address
+    }
+
+    /// The value of its configuration; 0 while it has none (9.4.7).
+    pub fn configuration(&self) -> u8
+        ensures { result ≡ self.now.registers.configuration }
+    {
+        self.registers.configuration
+    }
+
+    /// All bytes that its bulk OUT endpoint has taken since it was plugged.
+    pub fn sink(&self) -> &[u8]
+        ensures { result.now ≡ self.now.sink }
+    {
+        self.sink.as_slice()
+    }
+
+    /// A bus reset (9.1.1.3): the device has no address, no configuration and no transfer. What its bulk OUT endpoint has
+    /// taken stays, and so do its place in its source and the count until it halts.
+    #[tactic(auto, unfolding(crate::specs::Rows::reset_state))]
+    pub fn reset(&mut self)
+        ensures { self.new ≡ reset_state self.old }
+    {
+        self.attempt_over();
+        self.registers = AT_RESET;
+        self.naks = 0;
+        self.progress = Progress::Idle;
+        self.held = None;
+    }
+
+    /// The end of an attempt: a token that waits for data and data that wait for an ACK are forgotten.
+    pub fn attempt_over(&mut self)
+        ensures { self.new ≡ forgotten self.old }
+    {
+        self.memory = Memory::Nothing;
+    }
+
+    #[tactic(auto, unfolding(crate::specs::Rows::unread))]
+    pub fn unread(&mut self)
+        ensures { self.new ≡ unread self.old }
+    {
+        if !self.spec.is_silent() {
+            self.attempt_over();
+        }
+    }
+
+    /// A packet at the device, by what its ports tell. An error: memory is refused for a packet that joins the sink, and
+    /// nothing changes.
+    #[tactic(auto, unfolding(crate::specs::Rows::received))]
+    pub fn received(
+        &mut self,
+        places: &[Place],
+        packet: &Packet,
+    ) -> Result<Option<Answer>, AllocError>
+        ensures answer { IfOk result (λ answer. (answer, self.new) ≡ received self.old (row_in places.now) packet.now) }
+        ensures refused { OnErr result (self.new ≡ self.old) }
+        ensures grows { OnErr result (sink_grows self.old packet.now ≡ true) }
+    {
+        if self.spec.is_silent() {
+            return Ok(None);
+        }
+        match packet {
+            Packet::Payload { toggle, bytes } => self.payload(places, *toggle, bytes.as_slice()),
+            Packet::Token { kind, addr, ep } => {
+                self.attempt_over();
+                Ok(self.token(places, *kind, *addr, *ep))
+            }
+            Packet::Ack => {
+                self.acknowledged();
+                Ok(None)
+            }
+            Packet::Sof(_) | Packet::Nak | Packet::Stall | Packet::Pre => {
+                self.attempt_over();
+                Ok(None)
+            }
+        }
+    }
+
+    /// A token, which is for this device where it has its address.
+    fn token(&mut self, places: &[Place], kind: TokenKind, addr: u8, ep: u8) -> Option<Answer>
+        ensures { (result, self.new) ≡ (if addr == self.old.registers.address then token_row self.old (row_in places.now) kind ep else (None, self.old)) }
+    {
+        if addr != self.registers.address {
+            return None;
+        }
+        match kind {
+            TokenKind::SetupTok => {
+                if ep == 0 {
+                    self.memory = Memory::SetupSeen;
+                }
+                None
+            }
+            TokenKind::OutTok => {
+                self.memory = Memory::OutSeen(ep);
+                None
+            }
+            TokenKind::InTok if ep == 0 => self.give_unless_busy(),
+            TokenKind::InTok => self.give_other(places, ep),
+        }
+    }
+
+    /// Data, by what the packet before left.
+    fn payload(
+        &mut self,
+        places: &[Place],
+        toggle: Toggle,
+        bytes: &[u8],
+    ) -> Result<Option<Answer>, AllocError>
+        ensures answer { IfOk result (λ answer. (answer, self.new) ≡ payload_row (forgotten self.old) (row_in places.now) self.old.memory toggle bytes.now) }
+        ensures refused { OnErr result (self.new ≡ self.old) }
+        ensures grows { OnErr result (payload_sinks self.old self.old.memory toggle bytes.now ≡ true) }
+    {
+        match self.memory {
+            Memory::OutSeen(ep) if ep != 0 => self.take_bulk(ep, toggle, bytes),
+            memory => {
+                self.attempt_over();
+                Ok(self.control_payload(places, memory, toggle, bytes))
+            }
+        }
+    }
+
+    /// Data on endpoint 0.
+    fn control_payload(
+        &mut self,
+        places: &[Place],
+        memory: Memory,
+        toggle: Toggle,
+        bytes: &[u8],
+    ) -> Option<Answer>
+        requires { is_other_out memory ≡ false }
+        ensures { (result, self.new) ≡ payload_row self.old (row_in places.now) memory toggle bytes.now }
+    {
+        match (memory, toggle) {
+            (Memory::SetupSeen, Toggle::Zero) => {
+                let setup = Setup::from_bytes(bytes.try_into().ok()?);
+                self.accept(places, &setup);
+                Some(Answer::Ack)
+            }
+            (Memory::OutSeen(_), toggle) => self.take_unless_busy(toggle, bytes),
+            _ => None,
+        }
+    }
+
+    /// The host's ACK.
+    fn acknowledged(&mut self)
+        ensures { self.new ≡ after_memory (forgotten self.old) self.old.memory }
+    {
+        let memory = self.memory;
+        self.attempt_over();
+        if let Memory::AckAwaited(giver) = memory {
+            self.acknowledge(giver);
+        }
+    }
+
+    fn acknowledge(&mut self, giver: Giver)
+        ensures { self.new ≡ acknowledged self.old giver }
+    {
+        match giver {
+            Giver::Control => self.acknowledge_control(),
+            Giver::Bulk => self.acknowledge_bulk(),
+            Giver::Changes => self.acknowledge_changes(),
+        }
+    }
+
+    fn give_unless_busy(&mut self) -> Option<Answer>
+        ensures { (result, self.new) ≡ unless_busy self.old (in_row self.old self.old.stage) }
+    {
+        if self.is_busy() {
+            self.nak()
+        } else {
+            self.give()
+        }
+    }
+
+    fn take_unless_busy(&mut self, toggle: Toggle, bytes: &[u8]) -> Option<Answer>
+        ensures { (result, self.new) ≡ unless_busy self.old (out_row self.old self.old.stage toggle bytes.now) }
+    {
+        if self.is_busy() {
+            self.nak()
+        } else {
+            self.take(toggle, bytes)
+        }
+    }
+
+    fn is_busy(&self) -> bool
+        ensures { result ≡ is_busy self.now }
+    {
+        self.spec.is_busy() || self.naks > 0
+    }
+
+    fn nak(&mut self) -> Option<Answer>
+        ensures { (result, self.new) ≡ nak_row self.old }
+    {
+        self.naks = self.naks.saturating_sub(1);
+        Some(Answer::Nak)
+    }
+
+    fn accept(&mut self, places: &[Place], setup: &Setup)
+        ensures { self.new ≡ accepted self.old (row_in places.now) setup.now }
+    {
+        let reaction = react(&self.spec, self.registers, setup);
+        self.begin(places, setup.length, reaction);
+    }
+
+    /// A request begins a transfer.
+    fn begin(&mut self, places: &[Place], wanted: u16, reaction: Reaction)
+        ensures { self.new ≡ begun self.old (row_in places.now) wanted (meaning_of self.old.spec reaction) }
+    {
+        self.set_endpoints(reaction);
+        if let Reaction::TakeConfiguration(value) = reaction {
+            self.registers.configuration = value;
+        }
+        self.naks = self.spec.naks();
+        self.progress = first_progress(places, wanted, reaction);
+    }
+
+    /// What a request makes of the endpoints.
+    fn set_endpoints(&mut self, reaction: Reaction)
+        ensures { self.new ≡ with_endpoints self.old (meaning_of self.old.spec reaction) }
+    {
+        match reaction {
+            Reaction::TakeConfiguration(_) => {
+                self.bulk_out = RESTED;
+                self.bulk_in = RESTED;
+                self.changes = RESTED;
+                self.held = None;
+            }
+            Reaction::Halt(which) => self.set_pipe(which, halted(self.pipe(which))),
+            Reaction::Unhalt(which) => self.set_pipe(which, RESTED),
+            Reaction::Refuse
+            | Reaction::Answer(_)
+            | Reaction::TakeAddress(_)
+            | Reaction::TellPort(_)
+            | Reaction::CallPort(..) => {}
+        }
+    }
+
+    /// What the device asks of its ports at a packet.
+    #[tactic(auto, unfolding(crate::specs::Effect::asks))]
+    pub fn asks(&self, packet: &Packet) -> Effect
+        ensures { result ≡ asks self.now packet.now }
+    {
+        if self.spec.is_silent() {
+            return Effect::Leaves;
+        }
+        match packet {
+            Packet::Payload { toggle, bytes } => self.asks_by_data(*toggle, bytes.as_slice()),
+            _ => Effect::Leaves,
+        }
+    }
+
+    fn asks_by_data(&self, toggle: Toggle, bytes: &[u8]) -> Effect
+        ensures { result ≡ asked_by_data self.now self.now.memory toggle bytes.now }
+    {
+        match (self.memory, toggle) {
+            (Memory::SetupSeen, Toggle::Zero) => match bytes.try_into().ok() {
+                Some(bytes) => self.asks_by_setup(&Setup::from_bytes(bytes)),
+                None => Effect::Leaves,
+            },
+            _ => Effect::Leaves,
+        }
+    }
+
+    fn asks_by_setup(&self, setup: &Setup) -> Effect
+        ensures { result ≡ asked_by_setup self.now setup.now }
+    {
+        match react(&self.spec, self.registers, setup) {
+            Reaction::CallPort(call, port) => Effect::Calls(call, port),
+            Reaction::TakeConfiguration(_) => Effect::PortsOff,
+            _ => Effect::Leaves,
+        }
+    }
+
+    /// A packet of the answer that the host reads.
+    fn packet_at(&self, source: Source, wanted: u16, k: u32) -> Option<ArrayVec<u8, 64>>
+        ensures { option_map (λ v. v.items) result ≡ packet_at (max_packet self.now.spec) wanted (bytes_of self.now.spec source) k }
+    {
+        let max = usize::from(self.spec.max_packet());
+        match source {
+            Source::Descriptor => packet_at(max, wanted, self.spec.descriptor(), k),
+            Source::Config(i) => packet_at(max, wanted, text_at(self.spec.configs(), i), k),
+            Source::Text(i) => packet_at(max, wanted, text_at(self.spec.strings(), i), k),
+            Source::Hub => packet_at(max, wanted, hub_text(&self.spec), k),
+            Source::Status => packet_at(
+                max,
+                wanted,
+                &[u8::from(self.spec.is_self_powered()), 0],
+                k,
+            ),
+            Source::Configuration(value) => packet_at(max, wanted, &[value], k),
+            Source::Port(bytes) => packet_at(max, wanted, &bytes, k),
+        }
+    }
+
+    /// Data from the device, of which an ACK is awaited.
+    fn give_data(&mut self, giver: Giver, toggle: Toggle, bytes: ArrayVec<u8, 64>) -> Option<Answer>
+        ensures { (result, self.new) ≡ gives self.old giver toggle bytes.items }
+    {
+        self.memory = Memory::AckAwaited(giver);
+        Some(Answer::Data { toggle, bytes })
+    }
+
+    /// IN 0 of a device that is not busy.
+    fn give(&mut self) -> Option<Answer>
+        ensures { (result, self.new) ≡ in_row self.old self.old.stage }
+    {
+        match self.progress {
+            Progress::Idle | Progress::Read => None,
+            Progress::Refused => Some(Answer::Stall),
+            Progress::Reading {
+                source,
+                wanted,
+                given,
+            } => {
+                let bytes = self.packet_at(source, wanted, given)?;
+                self.give_data(Giver::Control, toggle_at(given), bytes)
+            }
+            Progress::Ending(_) => self.give_data(Giver::Control, Toggle::One, ArrayVec::new()),
+        }
+    }
+
+    /// OUT 0 with good data, of a device that is not busy.
+    fn take(&mut self, toggle: Toggle, bytes: &[u8]) -> Option<Answer>
+        ensures { (result, self.new) ≡ out_row self.old self.old.stage toggle bytes.now }
+    {
+        match self.progress {
+            Progress::Idle | Progress::Ending(_) => None,
+            Progress::Refused => Some(Answer::Stall),
+            Progress::Reading { .. } | Progress::Read => self.take_status(toggle, bytes),
+        }
+    }
+
+    /// The status stage of a control read.
+    fn take_status(&mut self, toggle: Toggle, bytes: &[u8]) -> Option<Answer>
+        ensures { (result, self.new) ≡ status_row self.old toggle bytes.now }
+    {
+        match toggle {
+            Toggle::Zero => Some(Answer::Ack),
+            Toggle::One if bytes.is_empty() => {
+                self.progress = Progress::Read;
+                Some(Answer::Ack)
+            }
+            Toggle::One => Some(Answer::Stall),
+        }
+    }
+
+    /// The host's ACK of what was given on endpoint 0.
+    fn acknowledge_control(&mut self)
+        ensures { self.new ≡ ack_row self.old self.old.stage }
+    {
+        match self.progress {
+            Progress::Idle | Progress::Refused | Progress::Read => {}
+            Progress::Reading {
+                source,
+                wanted,
+                given,
+            } => {
+                if self.packet_at(source, wanted, given).is_some() {
+                    self.progress = Progress::Reading {
+                        source,
+                        wanted,
+                        given: given + 1,
+                    };
+                }
+            }
+            Progress::Ending(address) => {
+                if let Some(address) = address {
+                    self.registers.address = address;
+                }
+                self.progress = Progress::Idle;
+            }
+        }
+    }
+
+    fn pipe(&self, which: Which) -> Pipe
+        ensures { result ≡ pipe_of self.now which }
+    {
+        match which {
+            Which::BulkOut => self.bulk_out,
+            Which::BulkIn => self.bulk_in,
+            Which::Changes => self.changes,
+        }
+    }
+
+    fn set_pipe(&mut self, which: Which, pipe: Pipe)
+        ensures { self.new ≡ with_pipe self.old which pipe }
+    {
+        match which {
+            Which::BulkOut => self.bulk_out = pipe,
+            Which::BulkIn => self.bulk_in = pipe,
+            Which::Changes => self.changes = pipe,
+        }
+    }
+
+    /// What is left of the source.
+    fn rest(&self) -> &[u8]
+        ensures { result.now ≡ rest_of self.now }
+    {
+        let source = self.spec.source();
+        if self.place < source.len() {
+            &source[self.place..]
+        } else {
+            &[]
+        }
+    }
+
+    /// IN of an endpoint that is not endpoint 0.
+    fn give_other(&mut self, places: &[Place], ep: u8) -> Option<Answer>
+        ensures { (result, self.new) ≡ in_other_row self.old (row_in places.now) ep }
+    {
+        if ep == 1 && tells_changes(&self.spec, self.registers) {
+            self.give_changes(places)
+        } else {
+            self.give_bulk(ep)
+        }
+    }
+
+    /// IN 1 of a configured hub.
+    fn give_changes(&mut self, places: &[Place]) -> Option<Answer>
+        ensures { (result, self.new) ≡ changes_row self.old (row_in places.now) }
+    {
+        if self.changes.halted {
+            return Some(Answer::Stall);
+        }
+        match self.held {
+            Some(bits) => self.give_bits(bits),
+            None => self.give_new_changes(change_bits(places)),
+        }
+    }
+
+    fn give_bits(&mut self, bits: u8) -> Option<Answer>
+        ensures { (result, self.new) ≡ gives self.old by.Changes self.old.changes.toggle (bits ∷ []) }
+    {
+        self.give_data(Giver::Changes, self.changes.toggle, carried(&[bits]))
+    }
+
+    fn give_new_changes(&mut self, bits: u8) -> Option<Answer>
+        ensures { (result, self.new) ≡ new_changes_row self.old bits }
+    {
+        if bits == 0 {
+            return Some(Answer::Nak);
+        }
+        self.held = Some(bits);
+        self.give_bits(bits)
+    }
+
+    /// The host's ACK of what IN 1 of a hub gave.
+    fn acknowledge_changes(&mut self)
+        ensures { self.new ≡ acknowledged self.old by.Changes }
+    {
+        self.changes = turned(self.changes);
+        self.held = None;
+    }
+
+    /// IN of an endpoint that is neither endpoint 0 nor a hub's endpoint 1.
+    fn give_bulk(&mut self, ep: u8) -> Option<Answer>
+        ensures { (result, self.new) ≡ in_bulk_row self.old ep (bulk_of self.old true) }
+    {
+        match bulk_at(&self.spec, self.registers, true) {
+            Some((number, max)) if number == ep => self.give_source(max),
+            _ => None,
+        }
+    }
+
+    /// IN of the bulk IN endpoint.
+    fn give_source(&mut self, max: u8) -> Option<Answer>
+        requires { max ≤ 64 }
+        ensures { (result, self.new) ≡ source_row self.old max }
+    {
+        if self.bulk_in.halted {
+            return Some(Answer::Stall);
+        }
+        let rest = self.rest();
+        if rest.is_empty() {
+            return Some(Answer::Nak);
+        }
+        let bytes = carried(&rest[..rest.len().min(usize::from(max))]);
+        self.give_data(Giver::Bulk, self.bulk_in.toggle, bytes)
+    }
+
+    /// The host's ACK of what the bulk IN endpoint gave.
+    fn acknowledge_bulk(&mut self)
+        ensures { self.new ≡ bulk_ack_row self.old (bulk_of self.old true) }
+    {
+        if let Some((_, max)) = bulk_at(&self.spec, self.registers, true) {
+            self.place = advanced(self.place, max, self.spec.source().len());
+            self.bulk_in = turned(self.bulk_in);
+        }
+    }
+
+    /// OUT of an endpoint that is not endpoint 0.
+    fn take_bulk(
+        &mut self,
+        ep: u8,
+        toggle: Toggle,
+        bytes: &[u8],
+    ) -> Result<Option<Answer>, AllocError>
+        ensures answer { IfOk result (λ answer. (answer, self.new) ≡ out_bulk_row (forgotten self.old) ep (bulk_of self.old false) toggle bytes.now) }
+        ensures refused { OnErr result (self.new ≡ self.old) }
+        ensures grows { OnErr result (bulk_sinks self.old ep (bulk_of self.old false) toggle bytes.now ≡ true) }
+    {
+        match bulk_at(&self.spec, self.registers, false) {
+            Some((number, max)) if number == ep => self.take_data(max, toggle, bytes),
+            _ => {
+                self.attempt_over();
+                Ok(None)
+            }
+        }
+    }
+
+    /// OUT of the bulk OUT endpoint. What is remembered is forgotten once the sink has grown.
+    fn take_data(
+        &mut self,
+        max: u8,
+        toggle: Toggle,
+        bytes: &[u8],
+    ) -> Result<Option<Answer>, AllocError>
+        ensures answer { IfOk result (λ answer. (answer, self.new) ≡ sink_row (forgotten self.old) max toggle bytes.now) }
+        ensures refused { OnErr result (self.new ≡ self.old) }
+        ensures grows { OnErr result (sinks self.old max toggle bytes.now ≡ true) }
+    {
+        if self.bulk_out.halted {
+            self.attempt_over();
+            return Ok(Some(Answer::Stall));
+        }
+        if usize::from(max) < bytes.len() {
+            self.attempt_over();
+            return Ok(None);
+        }
+        if is_same(toggle, self.bulk_out.toggle) {
+            self.sink.extend_from_slice(bytes)?;
+            self.bulk_out = Pipe {
+                toggle: turned(self.bulk_out).toggle,
+                halted: is_last(self.until_halt),
+            };
+            self.until_halt = counted_down(self.until_halt);
+        }
+        self.attempt_over();
+        Ok(Some(Answer::Ack))
+    }
+}
