@@ -13,12 +13,13 @@ use Rattle.arrayvec.specs.ArrayVec.{ArrayVec}
 use Rattle.usb_device.specs.declared.transfer.Memory.{Memory}
 use Rattle.usb_device.specs.declared.transfer.Giver.{Giver}
 use Rattle.usb_device.specs.declared.transfer.Giver.TheVariants as by
-use Rattle.usb_device.specs.declared.bulk.Which.TheVariants.{BulkOut, BulkIn}
-use Rattle.usb_device.specs.Bulk.{is_same}
+use Rattle.usb_device.specs.declared.bulk.Which.TheVariants.{BulkOut, BulkIn, Changes}
+use Rattle.usb_port.specs.PortState.{PortState}
+use Rattle.usb_device.specs.Bulk.{is_same, tells_changes, change_bits}
 use Rattle.usb_device.specs.declared.transfer.Memory.TheVariants.{Nothing, SetupSeen, OutSeen, AckAwaited}
-use Rattle.usb_device.specs.Request.{Outcome, stalled, answers, takes_address, takes_configuration, halts, unhalts, outcome}
+use Rattle.usb_device.specs.Request.{Outcome, stalled, answers, takes_address, takes_configuration, halts, unhalts, tells_port, calls_port, outcome}
 use Rattle.usb_device.specs.Transfer.{Stage, idle, refused, reading, read, ending, max_packet, packet_at, toggle_at}
-use Rattle.usb_device.specs.Rows.{State, Reply, received, answered, forgotten, begun, accepted, is_busy, nak_row, unless_busy, gives, in_row, status_row, out_row, ack_row, token_row, payload_row, source_row, in_bulk_row, sink_row, sunk, out_bulk_row, data_row, bulk_ack_row, acknowledged, after_memory, bulk_of, rest_of}
+use Rattle.usb_device.specs.Rows.{State, Reply, received, answered, forgotten, begun, accepted, is_busy, nak_row, unless_busy, gives, in_row, status_row, out_row, ack_row, token_row, payload_row, source_row, changes_row, new_changes_row, held_row, in_other_row, in_bulk_row, sink_row, sunk, out_bulk_row, data_row, bulk_ack_row, acknowledged, after_memory, bulk_of, rest_of}
 use Rattle.usb_device.specs.Kept.{Keeps, is_data}
 
 same : (p : Packet) (d : State) → Keeps p d d
@@ -54,21 +55,25 @@ keeps-out p d (ending a) t b = same p d
 keeps-busy : (p : Packet) (d : State) (row : Reply) → Keeps p d row.1 → Keeps p d (unless_busy d row).1
 keeps-busy p d row h = keeps-if p d (is_busy d) (nak_row d) row (record { spec = refl; address = λ h. refl; configuration = λ h. refl; sink = λ h. (refl, refl); place = λ h. refl }) h
 
-keeps-begun : (p : Packet) (d : State) (n : ℕ) (o : Outcome) → is_data p ≡ true → Keeps p d (begun d n o)
-keeps-begun (Payload t b) d n stalled h = record { spec = refl; address = λ h. refl; configuration = λ h. refl; sink = λ h. (refl, refl); place = λ h. refl }
-keeps-begun (Payload t b) d n (answers bytes) h = record { spec = refl; address = λ h. refl; configuration = λ h. refl; sink = λ h. (refl, refl); place = λ h. refl }
-keeps-begun (Payload t b) d n (takes_address a) h = record { spec = refl; address = λ h. refl; configuration = λ h. refl; sink = λ h. (refl, refl); place = λ h. refl }
-keeps-begun (Payload t b) d n (takes_configuration c) h = record { spec = refl; address = λ h. refl; configuration = λ h. cc; sink = λ h. (refl, refl); place = λ h. refl }
-keeps-begun (Payload t b) d n (halts BulkOut) h = record { spec = refl; address = λ h. refl; configuration = λ h. refl; sink = λ h. (refl, refl); place = λ h. refl }
-keeps-begun (Payload t b) d n (halts BulkIn) h = record { spec = refl; address = λ h. refl; configuration = λ h. refl; sink = λ h. (refl, refl); place = λ h. refl }
-keeps-begun (Payload t b) d n (unhalts BulkOut) h = record { spec = refl; address = λ h. refl; configuration = λ h. refl; sink = λ h. (refl, refl); place = λ h. refl }
-keeps-begun (Payload t b) d n (unhalts BulkIn) h = record { spec = refl; address = λ h. refl; configuration = λ h. refl; sink = λ h. (refl, refl); place = λ h. refl }
-keeps-begun (Token kind a e) d n o h = cc
-keeps-begun packet.Ack d n o h = cc
-keeps-begun (packet.Sof f) d n o h = cc
-keeps-begun packet.Nak d n o h = cc
-keeps-begun packet.Stall d n o h = cc
-keeps-begun packet.Pre d n o h = cc
+keeps-begun : (p : Packet) (d : State) (row : List PortState) (n : ℕ) (o : Outcome) → is_data p ≡ true → Keeps p d (begun d row n o)
+keeps-begun (Payload t b) d row n stalled h = record { spec = refl; address = λ h. refl; configuration = λ h. refl; sink = λ h. (refl, refl); place = λ h. refl }
+keeps-begun (Payload t b) d row n (answers bytes) h = record { spec = refl; address = λ h. refl; configuration = λ h. refl; sink = λ h. (refl, refl); place = λ h. refl }
+keeps-begun (Payload t b) d row n (takes_address a) h = record { spec = refl; address = λ h. refl; configuration = λ h. refl; sink = λ h. (refl, refl); place = λ h. refl }
+keeps-begun (Payload t b) d row n (takes_configuration c) h = record { spec = refl; address = λ h. refl; configuration = λ h. cc; sink = λ h. (refl, refl); place = λ h. refl }
+keeps-begun (Payload t b) d row n (halts BulkOut) h = record { spec = refl; address = λ h. refl; configuration = λ h. refl; sink = λ h. (refl, refl); place = λ h. refl }
+keeps-begun (Payload t b) d row n (halts BulkIn) h = record { spec = refl; address = λ h. refl; configuration = λ h. refl; sink = λ h. (refl, refl); place = λ h. refl }
+keeps-begun (Payload t b) d row n (unhalts BulkOut) h = record { spec = refl; address = λ h. refl; configuration = λ h. refl; sink = λ h. (refl, refl); place = λ h. refl }
+keeps-begun (Payload t b) d row n (unhalts BulkIn) h = record { spec = refl; address = λ h. refl; configuration = λ h. refl; sink = λ h. (refl, refl); place = λ h. refl }
+keeps-begun (Payload t b) d row n (halts Changes) h = record { spec = refl; address = λ h. refl; configuration = λ h. refl; sink = λ h. (refl, refl); place = λ h. refl }
+keeps-begun (Payload t b) d row n (unhalts Changes) h = record { spec = refl; address = λ h. refl; configuration = λ h. refl; sink = λ h. (refl, refl); place = λ h. refl }
+keeps-begun (Payload t b) d row n (tells_port i) h = record { spec = refl; address = λ h. refl; configuration = λ h. refl; sink = λ h. (refl, refl); place = λ h. refl }
+keeps-begun (Payload t b) d row n (calls_port c i) h = record { spec = refl; address = λ h. refl; configuration = λ h. refl; sink = λ h. (refl, refl); place = λ h. refl }
+keeps-begun (Token kind a e) d row n o h = cc
+keeps-begun packet.Ack d row n o h = cc
+keeps-begun (packet.Sof f) d row n o h = cc
+keeps-begun packet.Nak d row n o h = cc
+keeps-begun packet.Stall d row n o h = cc
+keeps-begun packet.Pre d row n o h = cc
 
 keeps-either : (p : Packet) (d : State) (b : Bool) (x y : State) → Keeps p d x → Keeps p d y → Keeps p d (if b then x else y)
 keeps-either p d true x y h k = h
@@ -95,23 +100,38 @@ keeps-in-bulk : (p : Packet) (d : State) (e : ℕ) (end : Option (ℕ × ℕ)) �
 keeps-in-bulk p d e None = same p d
 keeps-in-bulk p d e (Some end) = keeps-if p d (end.0 == e) (source_row d end.1) (None, d) (keeps-source p d end.1) (same p d)
 
-keeps-payload : (t : Toggle) (b : ArrayVec ℕ) (d : State) (m : Memory) → Keeps (Payload t b) d (payload_row d m t b.items).1
-keeps-payload t b d Nothing = same (Payload t b) d
-keeps-payload t b d (AckAwaited giver) = same (Payload t b) d
-keeps-payload One b d SetupSeen = same (Payload One b) d
-keeps-payload Zero b d SetupSeen =
+keeps-new-changes : (p : Packet) (d : State) (bits : ℕ) → Keeps p d (new_changes_row d bits).1
+keeps-new-changes p d bits =
+    keeps-if p d (bits == 0) (Some Nak, d) (gives (record d { held = Some bits }) by.Changes d.changes.toggle (bits ∷ [])) (same p d) (record { spec = refl; address = λ h. refl; configuration = λ h. refl; sink = λ h. (refl, refl); place = λ h. refl })
+
+keeps-held : (p : Packet) (d : State) (row : List PortState) (h : Option ℕ) → Keeps p d (held_row d row h).1
+keeps-held p d row None = keeps-new-changes p d (change_bits row)
+keeps-held p d row (Some bits) = record { spec = refl; address = λ h. refl; configuration = λ h. refl; sink = λ h. (refl, refl); place = λ h. refl }
+
+keeps-changes : (p : Packet) (d : State) (row : List PortState) → Keeps p d (changes_row d row).1
+keeps-changes p d row = keeps-if p d d.changes.halted (Some Stall, d) (held_row d row d.held) (same p d) (keeps-held p d row d.held)
+
+keeps-in-other : (p : Packet) (d : State) (row : List PortState) (e : ℕ) → Keeps p d (in_other_row d row e).1
+keeps-in-other p d row e =
+    keeps-if p d (e == 1 && tells_changes d.spec d.registers) (changes_row d row) (in_bulk_row d e (bulk_of d true)) (keeps-changes p d row) (keeps-in-bulk p d e (bulk_of d true))
+
+keeps-payload : (t : Toggle) (b : ArrayVec ℕ) (d : State) (row : List PortState) (m : Memory) → Keeps (Payload t b) d (payload_row d row m t b.items).1
+keeps-payload t b d row Nothing = same (Payload t b) d
+keeps-payload t b d row (AckAwaited giver) = same (Payload t b) d
+keeps-payload One b d row SetupSeen = same (Payload One b) d
+keeps-payload Zero b d row SetupSeen =
     let p = Payload Zero b in
-    keeps-if p d (length b.items == 8) (Some Ack, accepted d (setup_of b.items)) (None, d) (keeps-begun p d (setup_of b.items).length (outcome d.spec d.registers (setup_of b.items)) refl) (same p d)
-keeps-payload t b d (OutSeen e) =
+    keeps-if p d (length b.items == 8) (Some Ack, accepted d row (setup_of b.items)) (None, d) (keeps-begun p d row (setup_of b.items).length (outcome d.spec d.registers (setup_of b.items)) refl) (same p d)
+keeps-payload t b d row (OutSeen e) =
     let p = Payload t b in
     keeps-if p d (e == 0) (unless_busy d (out_row d d.stage t b.items)) (out_bulk_row d e (bulk_of d false) t b.items)
     (keeps-busy p d (out_row d d.stage t b.items) (keeps-out p d d.stage t b.items)) (keeps-out-bulk t b d e (bulk_of d false) b.items)
 
-keeps-token : (p : Packet) (d : State) (kind : TokenKind) (e : ℕ) → Keeps p d (token_row d kind e).1
-keeps-token p d SetupTok e = keeps-either p d (e == 0) (record d { memory = SetupSeen }) d (record { spec = refl; address = λ h. refl; configuration = λ h. refl; sink = λ h. (refl, refl); place = λ h. refl }) (same p d)
-keeps-token p d OutTok e = record { spec = refl; address = λ h. refl; configuration = λ h. refl; sink = λ h. (refl, refl); place = λ h. refl }
-keeps-token p d InTok e =
-    keeps-if p d (e == 0) (unless_busy d (in_row d d.stage)) (in_bulk_row d e (bulk_of d true)) (keeps-busy p d (in_row d d.stage) (keeps-in p d d.stage)) (keeps-in-bulk p d e (bulk_of d true))
+keeps-token : (p : Packet) (d : State) (row : List PortState) (kind : TokenKind) (e : ℕ) → Keeps p d (token_row d row kind e).1
+keeps-token p d row SetupTok e = keeps-either p d (e == 0) (record d { memory = SetupSeen }) d (record { spec = refl; address = λ h. refl; configuration = λ h. refl; sink = λ h. (refl, refl); place = λ h. refl }) (same p d)
+keeps-token p d row OutTok e = record { spec = refl; address = λ h. refl; configuration = λ h. refl; sink = λ h. (refl, refl); place = λ h. refl }
+keeps-token p d row InTok e =
+    keeps-if p d (e == 0) (unless_busy d (in_row d d.stage)) (in_other_row d row e) (keeps-busy p d (in_row d d.stage) (keeps-in p d d.stage)) (keeps-in-other p d row e)
 
 keeps-ack : (d : State) (s : Stage) → Keeps packet.Ack d (ack_row d s)
 keeps-ack d idle = same packet.Ack d
@@ -132,21 +152,22 @@ keeps-after d SetupSeen = same packet.Ack d
 keeps-after d (OutSeen e) = same packet.Ack d
 keeps-after d (AckAwaited by.Control) = keeps-ack d d.stage
 keeps-after d (AckAwaited by.Bulk) = keeps-bulk-ack d (bulk_of d true)
+keeps-after d (AckAwaited by.Changes) = record { spec = refl; address = λ h. refl; configuration = λ h. refl; sink = λ h. (refl, refl); place = λ h. refl }
 
-keeps-answered : (d : State) (m : Memory) (p : Packet) → Keeps p d (answered d m p).1
-keeps-answered d m (Token kind a e) =
-    keeps-if (Token kind a e) d (a == d.registers.address) (token_row d kind e) (None, d) (keeps-token (Token kind a e) d kind e) (same (Token kind a e) d)
-keeps-answered d m (Payload t b) = keeps-payload t b d m
-keeps-answered d m packet.Ack = keeps-after d m
-keeps-answered d m (packet.Sof n) = same (packet.Sof n) d
-keeps-answered d m packet.Nak = same packet.Nak d
-keeps-answered d m packet.Stall = same packet.Stall d
-keeps-answered d m packet.Pre = same packet.Pre d
+keeps-answered : (d : State) (row : List PortState) (m : Memory) (p : Packet) → Keeps p d (answered d row m p).1
+keeps-answered d row m (Token kind a e) =
+    keeps-if (Token kind a e) d (a == d.registers.address) (token_row d row kind e) (None, d) (keeps-token (Token kind a e) d row kind e) (same (Token kind a e) d)
+keeps-answered d row m (Payload t b) = keeps-payload t b d row m
+keeps-answered d row m packet.Ack = keeps-after d m
+keeps-answered d row m (packet.Sof n) = same (packet.Sof n) d
+keeps-answered d row m packet.Nak = same packet.Nak d
+keeps-answered d row m packet.Stall = same packet.Stall d
+keeps-answered d row m packet.Pre = same packet.Pre d
 
-pub keeps-received : (d : State) (p : Packet) → Keeps p d (received d p).1
+pub keeps-received : (d : State) (row : List PortState) (p : Packet) → Keeps p d (received d row p).1
 unfolding received
-keeps-received d p =
-    let k = keeps-answered (forgotten d) d.memory p in
-    keeps-if p d d.spec.silent (None, d) (answered (forgotten d) d.memory p) (same p d) (record { spec = k.spec; address = k.address; configuration = k.configuration; sink = k.sink; place = k.place })
+keeps-received d row p =
+    let k = keeps-answered (forgotten d) row d.memory p in
+    keeps-if p d d.spec.silent (None, d) (answered (forgotten d) row d.memory p) (same p d) (record { spec = k.spec; address = k.address; configuration = k.configuration; sink = k.sink; place = k.place })
 
 pub ruleset keepings = keeps-received

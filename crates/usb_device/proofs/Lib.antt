@@ -4,3 +4,7 @@ pub mod Endpoints
 pub mod Attempts
 pub mod Kept
 pub mod Packets
+pub mod Placing
+pub mod Delivering
+pub mod Betweens
+pub mod Nodes

@@ -1,5 +1,7 @@
 -- A packet goes down the tree, through the enabled ports (8.6.5, 11.8.4).
-use Rattle.std.specs.Prelude.{ℕ, ◌&&◌, ◌||◌, ◌==◌, not, if◌then◌else◌, Bool, true, false, List, [], ◌∷◌, ◌++◌, Option, None, Some}
+use Rattle.std.specs.Prelude.{◌≡◌, ℕ, ◌&&◌, ◌||◌, ◌==◌, not, if◌then◌else◌, Bool, true, false, List, [], ◌∷◌, ◌++◌, Option, None, Some}
+use Rattle.usb_packet.specs.Spelling.{Spells}
+use Rattle.usb_packet.specs.declared.Packet.{Packet}
 use Rattle.usb_port.specs.PortState.{PortState}
 use Rattle.usb_device.specs.declared.answer.Answer.{Answer}
 use Rattle.usb_device.specs.declared.delivery.Content.{Content}
@@ -15,15 +17,19 @@ use Rattle.usb_device.specs.declared.transfer.Memory.TheVariants.{AckAwaited}
 use Rattle.usb_device.specs.declared.transfer.Giver.TheVariants as by
 use Rattle.usb_device.specs.declared.delivery.Heard.{Heard}
 use Rattle.usb_device.specs.declared.delivery.Heard.TheVariants.{NoAnswer, One, Collision}
-use Rattle.usb_device.specs.Tree.{Ports, ended, vacant, taken, acted, row_of}
+use Rattle.usb_device.specs.Tree.{Ports, ended, vacant, taken, Place, empty, full, Plugged, acted, row_of}
 
-abbrev pub alike : Bool → Bool → Bool
-alike true b = b
-alike false b = not b
+-- what bytes carry
+pub record Carries (bytes : List ℕ) (content : Content) : Type 0 where
+  pub whole : (p : Packet) → Spells bytes p → content ≡ Whole p
+  pub broken : ((p : Packet) → Spells bytes p → ⊥) → content ≡ Broken
 
--- whether a device hears it, which is `deep` where it stands on a hub's port: at low speed only with PRE there
+-- whether a device of a speed hears a packet, which is `deep` where it stands on a hub's port: at low speed only with PRE there
+abbrev pub is_heard : Sent → Bool → Bool → Bool
+is_heard q deep low = if q.low then low && (not deep || q.pre) else not low
+
 abbrev pub hears : Sent → Bool → State → Bool
-hears q deep s = alike q.low s.spec.low && (not q.low || not deep || q.pre)
+hears q deep s = is_heard q deep s.spec.low
 
 -- what a device makes of it
 abbrev pub reply_to : Content → State → List PortState → Reply
@@ -59,6 +65,49 @@ answers q deep (vacant b k) = answers q deep k
 answers q deep (taken b s a k) =
     if b.enable then listed (answer_of q deep s a).0 (answers q true a ++ answers q deep k) else answers q deep k
 
+abbrev pub heard_from : Option Answer → Heard
+heard_from None = NoAnswer
+heard_from (Some x) = One x
+
+-- what is heard of two parts of the tree
+abbrev pub both : Heard → Heard → Heard
+both NoAnswer h = h
+both (One x) NoAnswer = One x
+both (One x) (One y) = Collision
+both (One x) Collision = Collision
+both Collision h = Collision
+
+-- what is heard of the answers: two collide
+abbrev pub heard_of : List Answer → Heard
+heard_of [] = NoAnswer
+heard_of (x ∷ []) = One x
+heard_of (x ∷ y ∷ more) = Collision
+
+-- what is heard, and the ports then
+abbrev pub delivered : Sent → Bool → Ports → Heard × Ports
+delivered q deep k = (heard_of (answers q deep k), after_packet q deep k)
+
+-- a packet at a device itself
+abbrev pub taken_content : Content → Plugged → Option Answer × Plugged
+taken_content c t = ((reply_to c t.own (row_of t.ports)).0, record { own = (reply_to c t.own (row_of t.ports)).1; ports = acted (asked_by c t.own) t.ports })
+
+-- the same, where the device hears it
+abbrev pub taken_sent : Sent → Bool → Plugged → Option Answer × Plugged
+taken_sent q deep t = ((answer_of q deep t.own t.ports).0, record { own = (answer_of q deep t.own t.ports).1; ports = acted (effect_of q deep t.own) t.ports })
+
+-- the same, and the devices below
+abbrev pub delivered_device : Sent → Bool → Plugged → Heard × Plugged
+delivered_device q deep t = (
+  both (heard_from (answer_of q deep t.own t.ports).0) (heard_of (answers q true t.ports)),
+  record { own = (answer_of q deep t.own t.ports).1; ports = acted (effect_of q deep t.own) (after_packet q true t.ports) })
+
+abbrev pub on_port : PortState → Heard × Plugged → Heard × Place
+on_port b x = (x.0, full b x.1.own x.1.ports)
+
+abbrev pub delivered_place : Sent → Bool → Place → Heard × Place
+delivered_place q deep (empty b) = (NoAnswer, empty b)
+delivered_place q deep (full b s a) = if b.enable then on_port b (delivered_device q deep (record { own = s; ports = a })) else (NoAnswer, full b s a)
+
 -- between attempts no device remembers a token or an awaited ACK
 unfoldable pub all_forgotten : Ports → Ports
 all_forgotten ended = ended
@@ -90,14 +139,25 @@ abbrev pub is_awaiting : Memory → Bool
 is_awaiting (AckAwaited by.Control) = true
 is_awaiting m = false
 
+abbrev pub loses : State → Bool
+loses s = is_awaiting s.memory && is_taking s.stage
+
 -- some device awaits the ACK that would end its SET_ADDRESS
 unfoldable pub has_loss : Ports → Bool
 has_loss ended = false
 has_loss (vacant b k) = has_loss k
-has_loss (taken b s a k) = (is_awaiting s.memory && is_taking s.stage) || has_loss a || has_loss k
+has_loss (taken b s a k) = loses s || has_loss a || has_loss k
 
--- what is heard of the answers: two collide
-abbrev pub heard_of : List Answer → Heard
-heard_of [] = NoAnswer
-heard_of (x ∷ []) = One x
-heard_of (x ∷ y ∷ more) = Collision
+-- a device and all below it forget
+abbrev pub forgotten_whole : Plugged → Plugged
+forgotten_whole t = record { own = forgotten t.own; ports = all_forgotten t.ports }
+
+-- the device on a port, or one below it, loses its address
+abbrev pub has_loss_in : Option Plugged → Bool
+has_loss_in None = false
+has_loss_in (Some t) = loses t.own || has_loss t.ports
+
+-- the addresses on a port and below it
+abbrev pub held_in : PortState → Option Plugged → List ℕ
+held_in b None = []
+held_in b (Some t) = if b.enable then t.own.registers.address ∷ held t.ports else []

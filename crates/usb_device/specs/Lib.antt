@@ -9,6 +9,7 @@ pub mod Tree
 pub mod Stored
 pub mod Places
 pub mod Delivery
+pub mod Marks
 pub mod Code
 pub mod Received
 pub mod Attempt

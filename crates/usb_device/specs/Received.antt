@@ -30,6 +30,9 @@ answer_to t p = (received t.own (row_of t.ports) p).0
 abbrev pub after_receiving : Plugged → Packet → Plugged
 after_receiving t p = record { own = (received t.own (row_of t.ports) p).1; ports = acted (asks t.own p) t.ports }
 
+abbrev pub received_by : Plugged → Packet → Option Answer × Plugged
+received_by t p = (answer_to t p, after_receiving t p)
+
 -- the packet that the bytes spell is answered; where they spell none, nothing is
 pub record Receives (bytes : List ℕ) (old : Plugged) (answer : Option (ArrayVec ℕ)) (new : Plugged) : Type 0 where
   pub whole : (p : Packet) → Spells bytes p → Answers answer (answer_to old p) × (new ≡ after_receiving old p)

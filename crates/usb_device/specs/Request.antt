@@ -99,7 +99,8 @@ get_port_status s g r = told_port (port_named s.hub g r.index)
 abbrev pub port_feature : Option PortCall → Spec → Registers → Setup → Outcome
 port_feature call s g r = if r.length == 0 then called_at call (port_named s.hub g r.index) else stalled
 
-abbrev pub outcome : Spec → Registers → Setup → Outcome
+-- what each request asks
+unfoldable pub outcome : Spec → Registers → Setup → Outcome
 outcome s g r =
     if Is r 0x80 6 then get_descriptor s r.value
     else if Is r 0x80 0 then unless s.stalls.status (get_status s r)

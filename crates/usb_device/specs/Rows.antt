@@ -216,9 +216,13 @@ token_row d row InTok e = if e == 0 then unless_busy d (in_row d d.stage) else i
 abbrev pub data_row : State → ℕ → Toggle → List ℕ → Reply
 data_row d e t bytes = if e == 0 then unless_busy d (out_row d d.stage t bytes) else out_bulk_row d e (bulk_of d false) t bytes
 
+-- setup data
+abbrev pub setup_row : State → List PortState → List ℕ → Reply
+setup_row d row bytes = if length bytes == 8 then (Some Ack, accepted d row (setup_of bytes)) else (None, d)
+
 -- data, by what the packet before left
 abbrev pub payload_row : State → List PortState → Memory → Toggle → List ℕ → Reply
-payload_row d row SetupSeen Zero bytes = if length bytes == 8 then (Some Ack, accepted d row (setup_of bytes)) else (None, d)
+payload_row d row SetupSeen Zero bytes = setup_row d row bytes
 payload_row d row (OutSeen e) t bytes = data_row d e t bytes
 payload_row d row m t bytes = (None, d)
 

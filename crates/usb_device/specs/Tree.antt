@@ -1,5 +1,5 @@
 -- The devices that are plugged, as a tree: a row of ports, and below each device a row of ports again (4.1.1).
-use Rattle.std.specs.Prelude.{ℕ, zero, suc, ◌&&◌, Bool, true, false, List, [], ◌∷◌, Option, None, Some}
+use Rattle.std.specs.Prelude.{ℕ, zero, suc, ◌-◌, ◌==◌, ◌&&◌, if◌then◌else◌, Bool, true, false, List, [], ◌∷◌, slice_get, Option, None, Some, is_some}
 use Rattle.usb_port.specs.PortState.{PortState, off, plugged, unplugged, powered_off, is_attached}
 use Rattle.usb_device.specs.Spec.{Spec, Hub}
 use Rattle.usb_device.specs.declared.calls.PortCall.{PortCall}
@@ -35,6 +35,10 @@ all_off ended = ended
 all_off (vacant b k) = vacant (powered_off b) (all_off k)
 all_off (taken b s a k) = taken (powered_off b) s a (all_off k)
 
+-- a device after a bus reset: its own ports are off
+abbrev pub reset_whole : Plugged → Plugged
+reset_whole t = record { own = reset_state t.own; ports = all_off t.ports }
+
 -- a port, and the device on it with that device's ports
 pub data Place : Type 0 where
   empty : PortState → Place
@@ -43,6 +47,10 @@ pub data Place : Type 0 where
 abbrev pub port_of : Place → PortState
 port_of (empty b) = b
 port_of (full b s a) = b
+
+abbrev pub device_of : Place → Option Plugged
+device_of (empty b) = None
+device_of (full b s a) = Some (record { own = s; ports = a })
 
 abbrev pub state_of : Place → Option State
 state_of (empty b) = None
@@ -63,10 +71,19 @@ abbrev pub called : PortCall → Place → Place
 called c (empty b) = empty (called_port c b)
 called c (full b s a) = reset_where (is_reset c && (b.power && is_attached b.attached)) (called_port c b) s a
 
+-- a device as it is plugged
+abbrev pub new_device : Spec → Plugged
+new_device s = record { own = fresh s; ports = first_ports s.hub }
+
 -- a port with another device, or with none: what stood there is unplugged first
+abbrev pub put : Option Plugged → Place → Place
+put None q = empty (unplugged (port_of q))
+put (Some t) q = full (plugged t.own.spec.low (unplugged (port_of q))) t.own t.ports
+
+-- the same with a new device
 abbrev pub replaced : Option Spec → Place → Place
-replaced None q = empty (unplugged (port_of q))
-replaced (Some s) q = full (plugged s.low (unplugged (port_of q))) (fresh s) (first_ports s.hub)
+replaced None q = put None q
+replaced (Some s) q = put (Some (new_device s)) q
 
 -- A port is named by its number on the row it stands in, counted from 0, and the rest of its path: on each device on
 -- the way the number of a port, counted from 1.
@@ -87,6 +104,12 @@ abbrev pub changed : (Place → Place) → Ports → List ℕ → Ports
 changed f k [] = k
 changed f k (zero ∷ p) = k
 changed f k (suc i ∷ p) = changed_at f k i p
+
+-- the place, or one below it where the path goes on
+abbrev pub changed_in : (Place → Place) → Place → List ℕ → Place
+changed_in f q [] = f q
+changed_in f (empty b) (n ∷ p) = empty b
+changed_in f (full b s a) (n ∷ p) = full b s (changed f a (n ∷ p))
 
 -- what a device asks of its ports
 abbrev pub acted : Effect → Ports → Ports
@@ -120,6 +143,27 @@ state_at (taken b s a k) zero (zero ∷ p) = None
 state_at (taken b s a k) zero (suc j ∷ p) = state_at a j p
 state_at (taken b s a k) (suc i) p = state_at k i p
 
+-- the device there, with its ports
+unfoldable pub plugged_at : Ports → ℕ → List ℕ → Option Plugged
+plugged_at ended i p = None
+plugged_at (vacant b k) zero p = None
+plugged_at (vacant b k) (suc i) p = plugged_at k i p
+plugged_at (taken b s a k) zero [] = Some (record { own = s; ports = a })
+plugged_at (taken b s a k) zero (zero ∷ p) = None
+plugged_at (taken b s a k) zero (suc j ∷ p) = plugged_at a j p
+plugged_at (taken b s a k) (suc i) p = plugged_at k i p
+
+abbrev pub device_there : Ports → List ℕ → Option Plugged
+device_there k [] = None
+device_there k (zero ∷ p) = None
+device_there k (suc i ∷ p) = plugged_at k i p
+
+-- the device at a place, or below it where the path goes on
+abbrev pub plugged_in : Place → List ℕ → Option Plugged
+plugged_in (empty b) p = None
+plugged_in (full b s a) [] = Some (record { own = s; ports = a })
+plugged_in (full b s a) (n ∷ p) = device_there a (n ∷ p)
+
 -- the port there
 unfoldable pub port_at : Ports → ℕ → List ℕ → Option PortState
 port_at ended i p = None
@@ -136,6 +180,22 @@ unfoldable pub row_of : Ports → List PortState
 row_of ended = []
 row_of (vacant b k) = b ∷ row_of k
 row_of (taken b s a k) = b ∷ row_of k
+
+-- the device on a port of a device, by its number, counted from 1
+abbrev pub child_of : Plugged → ℕ → Option Plugged
+child_of t n = device_there t.ports (n ∷ [])
+
+-- another device on that port
+abbrev pub with_child : Plugged → ℕ → Plugged → Plugged
+with_child t n c = record t { ports = changed (put (Some c)) t.ports (n ∷ []) }
+
+-- none on that port; where none was there, nothing changes
+abbrev pub without_child : Plugged → ℕ → Plugged
+without_child t n = if is_some (child_of t n) then record t { ports = changed (put None) t.ports (n ∷ []) } else t
+
+-- a port by its number, counted from 1
+abbrev pub numbered : List PortState → ℕ → Option PortState
+numbered row n = if n == 0 then None else slice_get row (n - 1)
 
 -- whether a device stands at a path and each port on its way is enabled: so it is powered, and something is attached
 unfoldable pub reach_at : Ports → ℕ → List ℕ → Bool

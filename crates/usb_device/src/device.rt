@@ -1,18 +1,30 @@
 //! A plugged device with all that is plugged below it.
+ghost use Rattle.std.specs.Prelude.{◌≡◌, ◌≤◌, length, None, IfOk, OnErr, true, is_some, option_map};
+ghost use Rattle.std.specs.Option.{option_copied};
+ghost use Rattle.usb_port.specs.PortState.{status_of};
+ghost use Rattle.usb_device.specs.Rows.{sink_grows};
+ghost use Rattle.usb_device.specs.Tree.{new_device, first_ports, reset_whole, row_of, numbered, acted, child_of, with_child, without_child};
+ghost use Rattle.usb_device.specs.Received.{Receives, GrowsBy, received_by};
+
+use crate::answer::{Answer, spelled};
+use crate::effect::Effect;
 use crate::own::Own;
 use crate::ports::Ports;
+use crate::spec::DeviceSpec;
+use arrayvec::ArrayVec;
+use std::alloc::{AllocError, Global};
 use std::marker::Model;
+use usb_packet::{Packet, decode};
 
-/// A plugged device, with the devices on its ports.
-#[derive(Drop)]
+/// A plugged device, with the devices on its ports: it takes one packet after the other, and answers some of them (8.5).
 #[cycle(tree)]
+#[derive(Drop)]
 pub struct Device {
-    own: Own,
-    ports: Ports,
+    pub(crate) own: Own,
+    pub(crate) ports: Ports,
 }
 
 impl Model for Device {
-    ghost use Rattle.std.specs.Prelude.{ℕ};
     ghost use Rattle.std.proofs.Common.{arith};
     ghost use Rattle.usb_device.specs.Tree.{Plugged};
     ghost use Rattle.usb_device.specs.Stored.{plugged_code, plugged_weight};
@@ -26,4 +38,146 @@ impl Model for Device {
     ghost size = { plugged_weight };
 
     ghost size_decreases = { λ a h. omega arith };
+}
+
+#[tactic(auto, using(crate::proofs::Placing::emptied))]
+fn first_ports(alloc: Global, spec: &DeviceSpec) -> Result<Ports, AllocError>
+    ensures { IfOk result (λ ports. ports ≡ first_ports spec.now.hub) }
+{
+    match spec.hub() {
+        Some(hub) => Ports::new(alloc, hub.ports()),
+        None => Ports::new(alloc, 0),
+    }
+}
+
+impl Device {
+    /// A device that was just plugged, with a copy of its description; its ports are off. An error: memory is refused.
+    pub fn new(alloc: Global, spec: &DeviceSpec) -> Result<Self, AllocError>
+        ensures { IfOk result (λ d. d ≡ new_device spec.now) }
+    {
+        Ok(Device {
+            own: Own::new(alloc, spec)?,
+            ports: first_ports(alloc, spec)?,
+        })
+    }
+
+    /// Its address: 0 until SET_ADDRESS has ended (9.4.6).
+    pub fn address(&self) -> u8
+        ensures { result ≡ self.now.own.registers.address }
+    {
+        self.own.address()
+    }
+
+    /// The value of its configuration; 0 while it has none (9.4.7).
+    pub fn configuration(&self) -> u8
+        ensures { result ≡ self.now.own.registers.configuration }
+    {
+        self.own.configuration()
+    }
+
+    /// All bytes that its bulk OUT endpoint has taken since it was plugged.
+    pub fn sink(&self) -> &[u8]
+        ensures { result.now ≡ self.now.own.sink }
+    {
+        self.own.sink()
+    }
+
+    /// Whether it is a low-speed device; else it is a full-speed one.
+    pub fn is_low(&self) -> bool
+        ensures { result ≡ self.now.own.spec.low }
+    {
+        self.own.is_low()
+    }
+
+    /// A bus reset (9.1.1.3): the device has no address, no configuration and no transfer, and all its ports are off. What
+    /// its bulk OUT endpoint has taken stays, and so do its place in its source and the count until it halts.
+    pub fn reset(&mut self)
+        ensures { self.new ≡ reset_whole self.old }
+    {
+        self.own.reset();
+        self.ports.turn_off();
+    }
+
+    /// One packet in, its answer out (8.5.3), if there is one; the devices below do not get it. Bytes that spell no packet
+    /// have no answer. It wants memory only where a packet joins the sink. An error: memory is refused, and nothing changes.
+    pub fn receive(&mut self, bytes: &[u8]) -> Result<Option<ArrayVec<u8, 67>>, AllocError>
+        ensures answer { IfOk result (λ answer. Receives bytes.now self.old answer self.new) }
+        ensures refused { OnErr result (self.new ≡ self.old) }
+        ensures grows { OnErr result (GrowsBy bytes.now self.old) }
+    {
+        match decode(bytes) {
+            Ok(packet) => Ok(spelled(self.take(&packet)?)),
+            Err(_) => {
+                self.own.unread();
+                Ok(None)
+            }
+        }
+    }
+
+    /// A packet at the device itself.
+    pub(crate) fn take(&mut self, packet: &Packet) -> Result<Option<Answer>, AllocError>
+        ensures answer { IfOk result (λ answer. (answer, self.new) ≡ received_by self.old packet.now) }
+        ensures refused { OnErr result (self.new ≡ self.old) }
+        ensures grows { OnErr result (sink_grows self.old.own packet.now ≡ true) }
+    {
+        let effect = self.own.asks(packet);
+        let answer = self.own.received(&self.ports, packet)?;
+        self.act(effect);
+        Ok(answer)
+    }
+
+    fn act(&mut self, effect: Effect)
+        ensures { self.new ≡ record self.old { ports = acted effect self.old.ports } }
+    {
+        match effect {
+            Effect::Leaves => {}
+            Effect::Calls(call, port) => self.ports.call_at(port, call),
+            Effect::PortsOff => self.ports.turn_off(),
+        }
+    }
+
+    /// The status and the changes of a port (11.24.2.7), by its number, counted from 1; None where there is none.
+    pub fn port_bytes(&self, port: u8) -> Option<[u8; 4]>
+        ensures { option_map (λ bytes. bytes) result ≡ option_map status_of (numbered (row_of self.now.ports) port) }
+    {
+        match self.ports.port(port) {
+            Some(port) => Some(port.status()),
+            None => None,
+        }
+    }
+
+    /// The device on a port, by its number, counted from 1; None where nothing is.
+    pub fn child(&self, port: u8) -> Option<&Device>
+        ensures { option_copied result ≡ child_of self.now port }
+    {
+        self.ports.device_at(&[port])
+    }
+
+    fn has_child(&self, port: u8) -> bool
+        ensures { result ≡ is_some (child_of self.now port) }
+    {
+        self.child(port).is_some()
+    }
+
+    /// A device is plugged at a port, by its number, counted from 1.
+    pub fn plug_child(&mut self, port: u8, child: Device)
+        requires least { 1 ≤ port }
+        requires most { port ≤ length (row_of self.old.ports) }
+        requires empty { child_of self.old port ≡ None }
+        ensures { self.new ≡ with_child self.old port child }
+    {
+        self.ports.plug(&[port], child);
+    }
+
+    /// The device on a port is taken away, and handed back. Where none is there, nothing changes.
+    pub fn unplug_child(&mut self, port: u8) -> Option<Device>
+        ensures before { result ≡ child_of self.old port }
+        ensures after { self.new ≡ without_child self.old port }
+    {
+        if self.has_child(port) {
+            self.ports.unplug(&[port])
+        } else {
+            None
+        }
+    }
 }

@@ -5,6 +5,7 @@ ghost use Rattle.usb_packet.specs.declared.Packet.{Packet};
 ghost use Rattle.usb_packet.specs.declared.Packet.TheVariants.{Token};
 ghost use Rattle.usb_packet.specs.declared.TokenKind.{TokenKind};
 ghost use Rattle.usb_packet.specs.declared.Toggle.{Toggle};
+ghost use Rattle.usb_port.specs.PortState.{PortState};
 ghost use Rattle.usb_device.specs.Rows.{State, received, unread, forgotten};
 ghost use Rattle.usb_device.specs.Kept.{Keeps};
 ghost use Rattle.usb_device.specs.Attempt.{Way, setup_attempt, setup_law, out_attempt, out_law, in_attempt, in_law, is_own};
@@ -12,28 +13,28 @@ ghost use Rattle.usb_device.specs.Attempt.{Way, setup_attempt, setup_law, out_at
 /// A whole attempt with a device that remembers nothing, each packet of it coming or not.
 #[tactic(auto, using(crate::proofs::Attempts::attempts))]
 pub fn attempt_laws()
-    ensures setup { (d : State) (bytes : List ℕ) → d.spec.silent ≡ false → length bytes ≡ 8 → (t1 t2 t3 : Way) → setup_attempt (forgotten d) d.registers.address bytes t1 t2 t3 ≡ setup_law (forgotten d) bytes t1 t2 t3 }
-    ensures out { (d : State) (e : ℕ) (t : Toggle) (bytes : List ℕ) → d.spec.silent ≡ false → (t1 t2 t3 : Way) → out_attempt (forgotten d) d.registers.address e t bytes t1 t2 t3 ≡ out_law (forgotten d) e t bytes t1 t2 t3 }
-    ensures into { (d : State) (e max : ℕ) → d.spec.silent ≡ false → (t1 t2 t3 : Way) → in_attempt (forgotten d) d.registers.address e max t1 t2 t3 ≡ in_law (forgotten d) e max t1 t2 t3 }
+    ensures setup { (d : State) (row : List PortState) (bytes : List ℕ) → d.spec.silent ≡ false → length bytes ≡ 8 → (t1 t2 t3 : Way) → setup_attempt (forgotten d) row d.registers.address bytes t1 t2 t3 ≡ setup_law (forgotten d) row bytes t1 t2 t3 }
+    ensures out { (d : State) (row : List PortState) (e : ℕ) (t : Toggle) (bytes : List ℕ) → d.spec.silent ≡ false → (t1 t2 t3 : Way) → out_attempt (forgotten d) row d.registers.address e t bytes t1 t2 t3 ≡ out_law (forgotten d) e t bytes t1 t2 t3 }
+    ensures into { (d : State) (row : List PortState) (e max : ℕ) → d.spec.silent ≡ false → (t1 t2 t3 : Way) → in_attempt (forgotten d) row d.registers.address e max t1 t2 t3 ≡ in_law (forgotten d) row e max t1 t2 t3 }
 {}
 
 /// Packets that are not for a device: at most what it remembers changes.
 #[tactic(auto, using(crate::proofs::Attempts::strangers))]
 pub fn stranger_laws()
     // A token for another address.
-    ensures token { (d : State) (kind : TokenKind) (a e : ℕ) → is_own d (Token kind a e) ≡ false → received d (Token kind a e) ≡ (None, unread d) }
+    ensures token { (d : State) (row : List PortState) (kind : TokenKind) (a e : ℕ) → is_own d (Token kind a e) ≡ false → received d row (Token kind a e) ≡ (None, unread d) }
     // Whatever is no token for it, where it remembers nothing.
-    ensures rested { (d : State) (p : Packet) → is_own d p ≡ false → received (forgotten d) p ≡ (None, forgotten d) }
+    ensures rested { (d : State) (row : List PortState) (p : Packet) → is_own d p ≡ false → received (forgotten d) row p ≡ (None, forgotten d) }
     ensures rested_unread { (d : State) → unread (forgotten d) ≡ forgotten d }
     // Any packet, where it is silent.
-    ensures silent { (d : State) (p : Packet) → d.spec.silent ≡ true → received d p ≡ (None, d) }
+    ensures silent { (d : State) (row : List PortState) (p : Packet) → d.spec.silent ≡ true → received d row p ≡ (None, d) }
     ensures silent_unread { (d : State) → d.spec.silent ≡ true → unread d ≡ d }
 {}
 
 /// What each packet leaves as it is.
 #[tactic(auto, using(crate::proofs::Kept::keepings))]
 pub fn frame_laws()
-    ensures { (d : State) (p : Packet) → Keeps p d (received d p).1 }
+    ensures { (d : State) (row : List PortState) (p : Packet) → Keeps p d (received d row p).1 }
 {}
 
 /// The packets of an answer, of at most `max` bytes each.

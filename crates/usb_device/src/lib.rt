@@ -2,6 +2,7 @@
 #![tactic(auto)]
 
 mod answer;
+mod between;
 mod bulk;
 mod calls;
 mod delivery;
@@ -17,11 +18,15 @@ mod request;
 mod spec;
 mod transfer;
 
+pub use answer::Answer;
+pub use calls::PortCall;
+pub use delivery::{Content, Heard, Sent};
 pub use device::Device;
 pub use devices::Devices;
 pub use hub_spec::{HubSpec, has_hub_class};
 pub use laws::{answer_laws, attempt_laws, frame_laws, stranger_laws};
 pub use lists::{Bytes, ConfigTexts, Name, StringTexts, Texts};
+pub use ports::Ports;
 pub use spec::{DeviceSpec, Stalls};
 
 #[cfg(test)]

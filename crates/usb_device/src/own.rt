@@ -1,11 +1,9 @@
 //! A device without its ports: its transfers, packet by packet (8.5).
 ghost use Rattle.std.specs.Prelude.{◌≡◌, ◌≤◌, ◌==◌, None, if◌then◌else◌, option_map};
-ghost use Rattle.std.specs.Prelude.{ℕ, List};
-ghost use Rattle.usb_port.specs.PortState.{PortState};
 ghost use Rattle.usb_device.specs.Spec.{Spec};
 ghost use Rattle.usb_device.specs.Code.{bytes_of, hub_text, text_at, meaning_of, stage_of};
 ghost use Rattle.usb_device.specs.Transfer.{max_packet, packet_at, reads, first_stage};
-ghost use Rattle.usb_device.specs.Places.{row_in};
+ghost use Rattle.usb_device.specs.Tree.{row_of};
 
 use crate::answer::Answer;
 use crate::bulk::{
@@ -14,7 +12,7 @@ use crate::bulk::{
 };
 use crate::effect::Effect;
 use crate::lists::Bytes;
-use crate::ports::{Place, change_bits};
+use crate::ports::Ports;
 use crate::request::{AT_RESET, Reaction, Registers, Source, react};
 use crate::spec::DeviceSpec;
 use crate::transfer::{Giver, Memory, Progress, packet_at, toggle_at};
@@ -97,14 +95,14 @@ fn reading(source: Source, wanted: u16) -> Progress
 }
 
 /// Where a transfer stands that a request begins.
-fn first_progress(places: &[Place], wanted: u16, reaction: Reaction) -> Progress
-    ensures { (s : Spec) → stage_of s result ≡ first_stage (row_in places.now) wanted (meaning_of s reaction) }
+fn first_progress(ports: &Ports, wanted: u16, reaction: Reaction) -> Progress
+    ensures { (s : Spec) → stage_of s result ≡ first_stage (row_of ports.now) wanted (meaning_of s reaction) }
 {
     match reaction {
         Reaction::Refuse => Progress::Refused,
         Reaction::Answer(source) => reading(source, wanted),
-        Reaction::TellPort(i) => match places.get(i) {
-            Some(place) => reading(Source::Port(place.port.status()), wanted),
+        Reaction::TellPort(i) => match ports.port_at(i) {
+            Some(port) => reading(Source::Port(port.status()), wanted),
             None => Progress::Refused,
         },
         Reaction::TakeAddress(address) => Progress::Ending(Some(address)),
@@ -118,8 +116,9 @@ fn first_progress(places: &[Place], wanted: u16, reaction: Reaction) -> Progress
 impl Own {
     ghost use Rattle.std.specs.Prelude.{IfOk, OnErr, true, false, [], ◌∷◌};
     ghost use Rattle.usb_device.specs.declared.transfer.Giver.TheVariants as by;
+    ghost use Rattle.usb_device.specs.Delivery.{loses};
     ghost use Rattle.usb_device.specs.Effect.{asks, asked_by_data, asked_by_setup};
-    ghost use Rattle.usb_device.specs.Rows.{State, received, unread, forgotten, fresh, reset_state, accepted, begun, is_busy, nak_row, gives, in_row, status_row, out_row, ack_row, token_row, payload_row, answered, unless_busy, pipe_of, with_pipe, bulk_of, rest_of, source_row, bulk_ack_row, acknowledged, sink_row, sinks, in_bulk_row, out_bulk_row, bulk_sinks, data_row, payload_sinks, sink_grows, is_other_out, after_memory, with_endpoints, in_other_row, changes_row, new_changes_row};
+    ghost use Rattle.usb_device.specs.Rows.{State, received, unread, forgotten, fresh, reset_state, accepted, begun, is_busy, nak_row, gives, in_row, status_row, out_row, ack_row, token_row, setup_row, payload_row, answered, unless_busy, pipe_of, with_pipe, bulk_of, rest_of, source_row, bulk_ack_row, acknowledged, sink_row, sinks, in_bulk_row, out_bulk_row, bulk_sinks, data_row, payload_sinks, sink_grows, is_other_out, after_memory, with_endpoints, in_other_row, changes_row, new_changes_row};
 
     /// A device that was just plugged, with a copy of its description. An error: memory is refused.
     #[tactic(auto, unfolding(crate::specs::Rows::fresh))]
@@ -163,6 +162,23 @@ impl Own {
         self.sink.as_slice()
     }
 
+    /// Whether it is a low-speed device; else it is a full-speed one.
+    pub fn is_low(&self) -> bool
+        ensures { result ≡ self.now.spec.low }
+    {
+        self.spec.is_low()
+    }
+
+    /// Whether it awaits the ACK that would end its SET_ADDRESS.
+    pub fn loses(&self) -> bool
+        ensures { result ≡ loses self.now }
+    {
+        match (self.memory, self.progress) {
+            (Memory::AckAwaited(Giver::Control), Progress::Ending(Some(_))) => true,
+            _ => false,
+        }
+    }
+
     /// A bus reset (9.1.1.3): the device has no address, no configuration and no transfer. What its bulk OUT endpoint has
     /// taken stays, and so do its place in its source and the count until it halts.
     #[tactic(auto, unfolding(crate::specs::Rows::reset_state))]
@@ -197,10 +213,10 @@ impl Own {
     #[tactic(auto, unfolding(crate::specs::Rows::received))]
     pub fn received(
         &mut self,
-        places: &[Place],
+        ports: &Ports,
         packet: &Packet,
     ) -> Result<Option<Answer>, AllocError>
-        ensures answer { IfOk result (λ answer. (answer, self.new) ≡ received self.old (row_in places.now) packet.now) }
+        ensures answer { IfOk result (λ answer. (answer, self.new) ≡ received self.old (row_of ports.now) packet.now) }
         ensures refused { OnErr result (self.new ≡ self.old) }
         ensures grows { OnErr result (sink_grows self.old packet.now ≡ true) }
     {
@@ -208,10 +224,10 @@ impl Own {
             return Ok(None);
         }
         match packet {
-            Packet::Payload { toggle, bytes } => self.payload(places, *toggle, bytes.as_slice()),
+            Packet::Payload { toggle, bytes } => self.payload(ports, *toggle, bytes.as_slice()),
             Packet::Token { kind, addr, ep } => {
                 self.attempt_over();
-                Ok(self.token(places, *kind, *addr, *ep))
+                Ok(self.token(ports, *kind, *addr, *ep))
             }
             Packet::Ack => {
                 self.acknowledged();
@@ -225,8 +241,8 @@ impl Own {
     }
 
     /// A token, which is for this device where it has its address.
-    fn token(&mut self, places: &[Place], kind: TokenKind, addr: u8, ep: u8) -> Option<Answer>
-        ensures { (result, self.new) ≡ (if addr == self.old.registers.address then token_row self.old (row_in places.now) kind ep else (None, self.old)) }
+    fn token(&mut self, ports: &Ports, kind: TokenKind, addr: u8, ep: u8) -> Option<Answer>
+        ensures { (result, self.new) ≡ (if addr == self.old.registers.address then token_row self.old (row_of ports.now) kind ep else (None, self.old)) }
     {
         if addr != self.registers.address {
             return None;
@@ -243,18 +259,18 @@ impl Own {
                 None
             }
             TokenKind::InTok if ep == 0 => self.give_unless_busy(),
-            TokenKind::InTok => self.give_other(places, ep),
+            TokenKind::InTok => self.give_other(ports, ep),
         }
     }
 
     /// Data, by what the packet before left.
     fn payload(
         &mut self,
-        places: &[Place],
+        ports: &Ports,
         toggle: Toggle,
         bytes: &[u8],
     ) -> Result<Option<Answer>, AllocError>
-        ensures answer { IfOk result (λ answer. (answer, self.new) ≡ payload_row (forgotten self.old) (row_in places.now) self.old.memory toggle bytes.now) }
+        ensures answer { IfOk result (λ answer. (answer, self.new) ≡ payload_row (forgotten self.old) (row_of ports.now) self.old.memory toggle bytes.now) }
         ensures refused { OnErr result (self.new ≡ self.old) }
         ensures grows { OnErr result (payload_sinks self.old self.old.memory toggle bytes.now ≡ true) }
     {
@@ -262,7 +278,7 @@ impl Own {
             Memory::OutSeen(ep) if ep != 0 => self.take_bulk(ep, toggle, bytes),
             memory => {
                 self.attempt_over();
-                Ok(self.control_payload(places, memory, toggle, bytes))
+                Ok(self.control_payload(ports, memory, toggle, bytes))
             }
         }
     }
@@ -270,23 +286,28 @@ impl Own {
     /// Data on endpoint 0.
     fn control_payload(
         &mut self,
-        places: &[Place],
+        ports: &Ports,
         memory: Memory,
         toggle: Toggle,
         bytes: &[u8],
     ) -> Option<Answer>
         requires { is_other_out memory ≡ false }
-        ensures { (result, self.new) ≡ payload_row self.old (row_in places.now) memory toggle bytes.now }
+        ensures { (result, self.new) ≡ payload_row self.old (row_of ports.now) memory toggle bytes.now }
     {
         match (memory, toggle) {
-            (Memory::SetupSeen, Toggle::Zero) => {
-                let setup = Setup::from_bytes(bytes.try_into().ok()?);
-                self.accept(places, &setup);
-                Some(Answer::Ack)
-            }
+            (Memory::SetupSeen, Toggle::Zero) => self.take_setup(ports, bytes),
             (Memory::OutSeen(_), toggle) => self.take_unless_busy(toggle, bytes),
             _ => None,
         }
+    }
+
+    /// Setup data.
+    fn take_setup(&mut self, ports: &Ports, bytes: &[u8]) -> Option<Answer>
+        ensures { (result, self.new) ≡ setup_row self.old (row_of ports.now) bytes.now }
+    {
+        let setup = Setup::from_bytes(bytes.try_into().ok()?);
+        self.accept(ports, &setup);
+        Some(Answer::Ack)
     }
 
     /// The host's ACK.
@@ -343,23 +364,23 @@ impl Own {
         Some(Answer::Nak)
     }
 
-    fn accept(&mut self, places: &[Place], setup: &Setup)
-        ensures { self.new ≡ accepted self.old (row_in places.now) setup.now }
+    fn accept(&mut self, ports: &Ports, setup: &Setup)
+        ensures { self.new ≡ accepted self.old (row_of ports.now) setup.now }
     {
         let reaction = react(&self.spec, self.registers, setup);
-        self.begin(places, setup.length, reaction);
+        self.begin(ports, setup.length, reaction);
     }
 
     /// A request begins a transfer.
-    fn begin(&mut self, places: &[Place], wanted: u16, reaction: Reaction)
-        ensures { self.new ≡ begun self.old (row_in places.now) wanted (meaning_of self.old.spec reaction) }
+    fn begin(&mut self, ports: &Ports, wanted: u16, reaction: Reaction)
+        ensures { self.new ≡ begun self.old (row_of ports.now) wanted (meaning_of self.old.spec reaction) }
     {
         self.set_endpoints(reaction);
         if let Reaction::TakeConfiguration(value) = reaction {
             self.registers.configuration = value;
         }
         self.naks = self.spec.naks();
-        self.progress = first_progress(places, wanted, reaction);
+        self.progress = first_progress(ports, wanted, reaction);
     }
 
     /// What a request makes of the endpoints.
@@ -388,11 +409,10 @@ impl Own {
     pub fn asks(&self, packet: &Packet) -> Effect
         ensures { result ≡ asks self.now packet.now }
     {
-        if self.spec.is_silent() {
-            return Effect::Leaves;
-        }
         match packet {
-            Packet::Payload { toggle, bytes } => self.asks_by_data(*toggle, bytes.as_slice()),
+            Packet::Payload { toggle, bytes } if !self.spec.is_silent() => {
+                self.asks_by_data(*toggle, bytes.as_slice())
+            }
             _ => Effect::Leaves,
         }
     }
@@ -553,26 +573,26 @@ impl Own {
     }
 
     /// IN of an endpoint that is not endpoint 0.
-    fn give_other(&mut self, places: &[Place], ep: u8) -> Option<Answer>
-        ensures { (result, self.new) ≡ in_other_row self.old (row_in places.now) ep }
+    fn give_other(&mut self, ports: &Ports, ep: u8) -> Option<Answer>
+        ensures { (result, self.new) ≡ in_other_row self.old (row_of ports.now) ep }
     {
         if ep == 1 && tells_changes(&self.spec, self.registers) {
-            self.give_changes(places)
+            self.give_changes(ports)
         } else {
             self.give_bulk(ep)
         }
     }
 
     /// IN 1 of a configured hub.
-    fn give_changes(&mut self, places: &[Place]) -> Option<Answer>
-        ensures { (result, self.new) ≡ changes_row self.old (row_in places.now) }
+    fn give_changes(&mut self, ports: &Ports) -> Option<Answer>
+        ensures { (result, self.new) ≡ changes_row self.old (row_of ports.now) }
     {
         if self.changes.halted {
             return Some(Answer::Stall);
         }
         match self.held {
             Some(bits) => self.give_bits(bits),
-            None => self.give_new_changes(change_bits(places)),
+            None => self.give_new_changes(ports.change_bits()),
         }
     }
 

@@ -1,28 +1,39 @@
-//! The ports of a hub, or of the root, with the devices on them.
-ghost use Rattle.std.specs.Prelude.{◌≡◌, ◌≤◌, ℕ};
+//! A row of ports, those of a hub or of the root, with the devices on them (4.1.1, 11.24).
+ghost use Rattle.std.specs.Prelude.{◌≡◌, ◌≤◌, ◌==◌, ◌&&◌, [], None, Some, slice_get, IfOk, unwrap_or};
+ghost use Rattle.std.specs.Option.{option_copied};
+ghost use Rattle.usb_port.specs.PortState.{set_row, clear_row, is_attached};
 ghost use Rattle.usb_device.specs.Bulk.{changed_bit, change_bits};
-ghost use Rattle.usb_device.specs.Places.{row_in};
+ghost use Rattle.usb_device.specs.Calls.{called_port, is_reset};
+ghost use Rattle.usb_device.specs.Tree.{new_ports, called, put, changed_at, changed_in, plugged_at, plugged_in, all_off, row_of, device_of};
+ghost use Rattle.usb_device.specs.Places.{ports_in, stood};
 
+use crate::calls::PortCall;
 use crate::device::Device;
+use std::alloc::{AllocError, Global};
 use std::marker::Model;
 use usb_port::Port;
+use usb_request::feature::{
+    C_PORT_CONNECTION, C_PORT_ENABLE, C_PORT_RESET, PORT_ENABLE, PORT_POWER, PORT_RESET,
+};
 
 /// A port, and the device on it.
-#[derive(Drop)]
 #[cycle(tree)]
-pub struct Place {
-    pub port: Port,
-    pub device: Option<Device>,
+#[derive(Drop)]
+pub(crate) struct Place {
+    pub(crate) port: Port,
+    pub(crate) device: Option<Device>,
 }
 
 /// A row of ports, the first one first, with the devices on them.
-#[derive(Drop)]
 #[cycle(tree)]
+#[derive(Drop)]
 pub struct Ports {
-    places: Vec<Place>,
+    pub(crate) places: Vec<Place>,
 }
 
 impl Model for Ports {
+    ghost use Rattle.std.proofs.Common.{arith};
+    ghost use Rattle.std.proofs.Math.Nat.{le_refl};
     ghost use Rattle.usb_device.specs.Tree.{Ports as TreePorts};
     ghost use Rattle.usb_device.specs.Stored.{ports_code, weight};
 
@@ -30,38 +41,325 @@ impl Model for Ports {
 
     ghost coded = { ports_code };
 
-    ghost use Rattle.usb_device.specs.Places.{ports_in};
+    ghost use Rattle.usb_device.specs.Places.{ports_in, falls};
 
     ghost view = { λ p. ports_in p.places.items };
 
     ghost size = { weight };
 
-    ghost use Rattle.std.proofs.Math.Nat.{le_refl};
-    ghost use Rattle.usb_device.specs.Places.{falls};
-
-    ghost size_decreases = { λ a h. falls _ (λ b. le_refl _) (λ b t. le_refl _) a.places.items };
+    ghost size_decreases = { λ a h. falls _ (λ b. le_refl _) (λ b t. omega arith) a.places.items };
 }
 
-fn changed_bit(places: &[Place], i: usize, weight: u8) -> u8
-    ensures value { result ≡ changed_bit (row_in places.now) i weight }
-    ensures bound { result ≤ weight }
+#[tactic(auto, using(crate::proofs::Placing::emptied))]
+fn empty_places(alloc: Global, count: u8) -> Result<Vec<Place>, AllocError>
+    ensures { IfOk result (λ places. ports_in places.items ≡ new_ports count) }
 {
-    match places.get(i) {
-        Some(place) if place.port.has_change() => weight,
-        _ => 0,
+    let mut places = Vec::new(alloc);
+    'places: for _ in 0..count {
+        places.push(Place {
+            port: Port::new(),
+            device: None,
+        })?;
+    }
+    Ok(places)
+}
+
+/// SetPortFeature of a feature; of one that the port table does not name, nothing comes.
+fn set(port: &mut Port, feature: u16)
+    ensures { port.new ≡ unwrap_or (set_row feature port.old) port.old }
+{
+    let _ = port.set_feature(feature);
+}
+
+/// ClearPortFeature of a feature; of one that the port table does not name, nothing comes.
+fn clear(port: &mut Port, feature: u16)
+    ensures { port.new ≡ unwrap_or (clear_row feature port.old) port.old }
+{
+    let _ = port.clear_feature(feature);
+}
+
+#[tactic(auto, unfolding(usb_port::specs::PortState::set_row, usb_port::specs::PortState::clear_row))]
+fn call_port(port: &mut Port, call: PortCall)
+    ensures { port.new ≡ called_port call port.old }
+{
+    match call {
+        PortCall::SetPower => set(port, PORT_POWER),
+        PortCall::SetReset => set(port, PORT_RESET),
+        PortCall::ClearEnable => clear(port, PORT_ENABLE),
+        PortCall::ClearPower => clear(port, PORT_POWER),
+        PortCall::ClearConnectionChange => clear(port, C_PORT_CONNECTION),
+        PortCall::ClearEnableChange => clear(port, C_PORT_ENABLE),
+        PortCall::ClearResetChange => clear(port, C_PORT_RESET),
     }
 }
 
-/// Bit N is set where port N, counted from 1, has a change bit set (11.12.4).
-#[tactic(auto, unfolding(crate::specs::Bulk::change_bits))]
-pub fn change_bits(places: &[Place]) -> u8
-    ensures { result ≡ change_bits (row_in places.now) }
+/// Whether a call resets the device on the port: PORT_RESET of a powered port with something attached.
+fn resets(call: PortCall, port: &Port) -> bool
+    ensures { result ≡ (is_reset call && (port.now.power && is_attached port.now.attached)) }
 {
-    changed_bit(places, 0, 2)
-        + changed_bit(places, 1, 4)
-        + changed_bit(places, 2, 8)
-        + changed_bit(places, 3, 16)
-        + changed_bit(places, 4, 32)
-        + changed_bit(places, 5, 64)
-        + changed_bit(places, 6, 128)
+    match call {
+        PortCall::SetReset => port.is_powered() && port.is_attached(),
+        _ => false,
+    }
+}
+
+impl Place {
+    /// A call at the port.
+    #[tactic(auto, using(crate::proofs::Placing::placing))]
+    fn call(&mut self, call: PortCall)
+        ensures { stood self.new ≡ called call (stood self.old) }
+    {
+        let resets = resets(call, &self.port);
+        call_port(&mut self.port, call);
+        if let Some(device) = &mut self.device {
+            if resets {
+                device.reset();
+            }
+        }
+    }
+
+    /// Another device is plugged, or none stays there; what stood there before is unplugged first, and handed back.
+    fn put(&mut self, device: Option<Device>) -> Option<Device>
+        ensures before { result ≡ device_of (stood self.old) }
+        ensures after { stood self.new ≡ put device (stood self.old) }
+    {
+        self.port.unplug();
+        if let Some(device) = &device {
+            self.port.plug(device.is_low());
+        }
+        let before = self.device.take();
+        self.device = device;
+        before
+    }
+
+    /// The same at the place, or below it where the path goes on.
+    #[cycle(put)]
+    #[tactic(auto, using(crate::proofs::Placing::paths))]
+    fn put_below(&mut self, path: &[u8], device: Option<Device>) -> Option<Device>
+        ensures before { result ≡ plugged_in (stood self.old) path.now }
+        ensures after { stood self.new ≡ changed_in (put device) (stood self.old) path.now }
+    {
+        match path {
+            [] => self.put(device),
+            [_, ..] => match &mut self.device {
+                Some(above) => above.ports.put(path, device),
+                None => None,
+            },
+        }
+    }
+
+    #[cycle(device_at)]
+    #[tactic(auto, using(crate::proofs::Placing::paths))]
+    fn device_below(&self, path: &[u8]) -> Option<&Device>
+        ensures { option_copied result ≡ plugged_in (stood self.now) path.now }
+    {
+        match (&self.device, path) {
+            (None, _) => None,
+            (Some(device), []) => Some(device),
+            (Some(device), [_, ..]) => device.ports.device_at(path),
+        }
+    }
+}
+
+#[cycle(call)]
+#[tactic(auto, using(crate::proofs::Placing::placing))]
+fn call_at(places: &mut [Place], i: usize, call: PortCall)
+    ensures { ports_in places.new ≡ changed_at (called call) (ports_in places.old) i [] }
+{
+    if let Some((place, rest)) = places.split_first_mut() {
+        if i == 0 {
+            place.call(call);
+        } else {
+            call_at(rest, i - 1, call);
+        }
+    }
+}
+
+#[cycle(put)]
+#[tactic(auto, using(crate::proofs::Placing::placing))]
+fn put_at(
+    places: &mut [Place],
+    i: usize,
+    path: &[u8],
+    device: Option<Device>,
+) -> Option<Device>
+    ensures before { result ≡ plugged_at (ports_in places.old) i path.now }
+    ensures after { ports_in places.new ≡ changed_at (put device) (ports_in places.old) i path.now }
+{
+    let (place, rest) = places.split_first_mut()?;
+    if i == 0 {
+        place.put_below(path, device)
+    } else {
+        put_at(rest, i - 1, path, device)
+    }
+}
+
+#[cycle(device_at)]
+#[tactic(auto, using(crate::proofs::Placing::placing))]
+fn device_at<'a>(places: &'a [Place], i: usize, path: &[u8]) -> Option<&'a Device>
+    ensures { option_copied result ≡ plugged_at (ports_in places.now) i path.now }
+{
+    let (place, rest) = places.split_first()?;
+    if i == 0 {
+        place.device_below(path)
+    } else {
+        device_at(rest, i - 1, path)
+    }
+}
+
+#[cycle(turn_off)]
+#[tactic(auto, using(crate::proofs::Placing::placing), unfolding(usb_port::specs::PortState::clear_row))]
+fn turn_off(places: &mut [Place])
+    ensures { ports_in places.new ≡ all_off (ports_in places.old) }
+{
+    if let Some((place, rest)) = places.split_first_mut() {
+        clear(&mut place.port, PORT_POWER);
+        turn_off(rest);
+    }
+}
+
+#[cycle(port_in)]
+#[tactic(auto, using(crate::proofs::Placing::placing))]
+fn port_in(places: &[Place], i: usize) -> Option<&Port>
+    ensures { option_copied result ≡ slice_get (row_of (ports_in places.now)) i }
+{
+    let (place, rest) = places.split_first()?;
+    if i == 0 {
+        Some(&place.port)
+    } else {
+        port_in(rest, i - 1)
+    }
+}
+
+impl Ports {
+    ghost use Rattle.std.specs.Prelude.{◌∷◌, length};
+    ghost use Rattle.usb_device.specs.Tree.{changed, device_there, numbered};
+
+    /// So many ports, with nothing attached and no power. An error: memory is refused.
+    pub fn new(alloc: Global, count: u8) -> Result<Self, AllocError>
+        ensures { IfOk result (λ ports. ports ≡ new_ports count) }
+    {
+        Ok(Ports {
+            places: empty_places(alloc, count)?,
+        })
+    }
+
+    /// How many ports there are.
+    #[tactic(auto, using(crate::proofs::Placing::placing))]
+    pub fn count(&self) -> usize
+        ensures { result ≡ length (row_of self.now) }
+    {
+        self.places.len()
+    }
+
+    /// A port by its number, counted from 1; None where there is none.
+    pub fn port(&self, number: u8) -> Option<&Port>
+        ensures { option_copied result ≡ numbered (row_of self.now) number }
+    {
+        if number == 0 {
+            None
+        } else {
+            self.port_at(usize::from(number - 1))
+        }
+    }
+
+    /// A port, counted from 0.
+    pub(crate) fn port_at(&self, i: usize) -> Option<&Port>
+        ensures { option_copied result ≡ slice_get (row_of self.now) i }
+    {
+        port_in(self.places.as_slice(), i)
+    }
+
+    /// A call at the port of a number, counted from 1. PORT_RESET of a powered port with a device resets the device, whose
+    /// own ports are then off. Where there is no such port, nothing changes.
+    #[tactic(auto, using(crate::proofs::Placing::paths))]
+    pub fn call(&mut self, number: u8, call: PortCall)
+        ensures { self.new ≡ changed (called call) self.old (number ∷ []) }
+    {
+        if number != 0 {
+            self.call_at(usize::from(number - 1), call);
+        }
+    }
+
+    /// A call at a port, counted from 0.
+    pub(crate) fn call_at(&mut self, i: usize, call: PortCall)
+        ensures { self.new ≡ changed_at (called call) self.old i [] }
+    {
+        call_at(self.places.as_mut_slice(), i, call);
+    }
+
+    /// No port has power any more.
+    pub(crate) fn turn_off(&mut self)
+        ensures { self.new ≡ all_off self.old }
+    {
+        turn_off(self.places.as_mut_slice());
+    }
+
+    /// A device is plugged at the port of a path. What stood there is unplugged first, with all that was below it. Where
+    /// there is no such port, nothing changes.
+    pub fn plug(&mut self, path: &[u8], device: Device)
+        ensures { self.new ≡ changed (put (Some device)) self.old path.now }
+    {
+        let _ = self.put(path, Some(device));
+    }
+
+    /// The port of a path is left empty, and what stood there is handed back. Where there is no such port, nothing changes.
+    pub fn unplug(&mut self, path: &[u8]) -> Option<Device>
+        ensures before { result ≡ device_there self.old path.now }
+        ensures after { self.new ≡ changed (put None) self.old path.now }
+    {
+        self.put(path, None)
+    }
+
+    #[cycle(put)]
+    #[tactic(auto, using(crate::proofs::Placing::paths))]
+    fn put(&mut self, path: &[u8], device: Option<Device>) -> Option<Device>
+        ensures before { result ≡ device_there self.old path.now }
+        ensures after { self.new ≡ changed (put device) self.old path.now }
+    {
+        let (number, rest) = path.split_first()?;
+        if *number == 0 {
+            None
+        } else {
+            put_at(self.places.as_mut_slice(), usize::from(*number - 1), rest, device)
+        }
+    }
+
+    /// The device at the port of a path; None where there is none.
+    #[cycle(device_at)]
+    #[tactic(auto, using(crate::proofs::Placing::paths))]
+    pub fn device_at(&self, path: &[u8]) -> Option<&Device>
+        ensures { option_copied result ≡ device_there self.now path.now }
+    {
+        let (number, rest) = path.split_first()?;
+        if *number == 0 {
+            None
+        } else {
+            device_at(self.places.as_slice(), usize::from(*number - 1), rest)
+        }
+    }
+
+    /// Bit N is set where port N, counted from 1, has a change bit set (11.12.4).
+    #[tactic(auto, unfolding(crate::specs::Bulk::change_bits))]
+    pub(crate) fn change_bits(&self) -> u8
+        ensures { result ≡ change_bits (row_of self.now) }
+    {
+        self.changed_bit(0, 2)
+            + self.changed_bit(1, 4)
+            + self.changed_bit(2, 8)
+            + self.changed_bit(3, 16)
+            + self.changed_bit(4, 32)
+            + self.changed_bit(5, 64)
+            + self.changed_bit(6, 128)
+    }
+
+    fn changed_bit(&self, i: usize, weight: u8) -> u8
+        ensures value { result ≡ changed_bit (row_of self.now) i weight }
+        ensures bound { result ≤ weight }
+    {
+        match self.port_at(i) {
+            Some(port) if port.has_change() => weight,
+            _ => 0,
+        }
+    }
 }

@@ -227,6 +227,7 @@ fn port_feature(
 }
 
 /// What a device with these registers does about a request.
+#[tactic(auto, unfolding(crate::specs::Request::outcome))]
 pub fn react(spec: &DeviceSpec, registers: Registers, setup: &Setup) -> Reaction
     ensures { meaning_of spec.now result ≡ outcome spec.now registers setup.now }
 {

@@ -1,0 +1,13 @@
+use Rattle.std.proofs.Common.{ℕ, ◌+◌, ◌*◌, length}
+use Rattle.usb_device.specs.Places.{ports_in}
+use Rattle.usb_device.proofs.Nodes.{nodes, nodes_in}
+use Rattle.usb_device.proofs.+over.Given as goal
+
+abbrev pub decreases-between::forget_all : goal.decreases-between::forget_all
+decreases-between::forget_all l = 3 * nodes (ports_in l.places.now)
+
+abbrev pub decreases-ports::Ports::attempt_over : goal.decreases-ports::Ports::attempt_over
+decreases-ports::Ports::attempt_over l = 3 * nodes l.self.now + 1
+
+abbrev pub decreases-device::Device::attempt_over : goal.decreases-device::Device::attempt_over
+decreases-device::Device::attempt_over l = 3 * nodes l.self.now.ports + 2

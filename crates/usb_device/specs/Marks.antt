@@ -1,0 +1,10 @@
+-- Numbers that are met twice, told by marks: mark n says that n was met before.
+use Rattle.std.specs.Prelude.{ℕ, ◌||◌, Bool, true, false, List, [], ◌∷◌, slice_set, slice_index_or}
+
+abbrev pub meets : List ℕ → List Bool → Bool
+meets [] marks = false
+meets (n ∷ ns) marks = slice_index_or marks n false || meets ns (slice_set marks n true)
+
+abbrev pub marked : List ℕ → List Bool → List Bool
+marked [] marks = marks
+marked (n ∷ ns) marks = marked ns (slice_set marks n true)
