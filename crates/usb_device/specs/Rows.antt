@@ -241,3 +241,22 @@ fresh s = record { spec = s; registers = record { address = 0; configuration = 0
 -- a bus reset (9.1.1.3); what bulk OUT has taken, what is left of the source and the count until the halt stay
 unfoldable pub reset_state : State → State
 reset_state d = record d { registers = record { address = 0; configuration = 0 }; memory = Nothing; naks = 0; stage = idle }
+
+abbrev pub awaits_control : Memory → Bool
+awaits_control (AckAwaited by.Control) = true
+awaits_control (AckAwaited by.Bulk) = false
+awaits_control Nothing = false
+awaits_control SetupSeen = false
+awaits_control (OutSeen e) = false
+
+abbrev pub ends_with_address : Stage → Bool
+ends_with_address (ending (Some a)) = true
+ends_with_address (ending None) = false
+ends_with_address idle = false
+ends_with_address refused = false
+ends_with_address (reading answer wanted k) = false
+ends_with_address read = false
+
+-- it gave the status stage of SET_ADDRESS, and takes the address at the host's ACK (9.4.6)
+unfoldable pub awaits_address : State → Bool
+awaits_address d = awaits_control d.memory && ends_with_address d.stage

@@ -73,7 +73,7 @@ fn text_at<const MAX: usize>(texts: &[Bytes<MAX>], i: usize) -> &[u8]
 
 impl Device {
     ghost use Rattle.std.specs.Prelude.{IfOk, OnErr, true, false};
-    ghost use Rattle.usb_device.specs.Rows.{State, received, unread, forgotten, fresh, reset_state, accepted, begun, is_busy, nak_row, gives, in_row, status_row, out_row, ack_row, token_row, payload_row, answered, unless_busy, pipe_of, with_pipe, bulk_of, rest_of, source_row, bulk_ack_row, acknowledged, sink_row, sinks, in_bulk_row, out_bulk_row, bulk_sinks, data_row, payload_sinks, sink_grows, is_other_out, after_memory};
+    ghost use Rattle.usb_device.specs.Rows.{State, received, unread, forgotten, fresh, reset_state, awaits_address, accepted, begun, is_busy, nak_row, gives, in_row, status_row, out_row, ack_row, token_row, payload_row, answered, unless_busy, pipe_of, with_pipe, bulk_of, rest_of, source_row, bulk_ack_row, acknowledged, sink_row, sinks, in_bulk_row, out_bulk_row, bulk_sinks, data_row, payload_sinks, sink_grows, is_other_out, after_memory};
     ghost use Rattle.usb_device.specs.Received.{Receives, GrowsBy};
 
     /// A device that was just plugged, with a copy of its description. An error: memory is refused.
@@ -133,6 +133,20 @@ impl Device {
         ensures { self.new ≡ forgotten self.old }
     {
         self.memory = Memory::Nothing;
+    }
+
+    /// Whether it gave the status stage of SET_ADDRESS, and takes its address at the host's ACK (9.4.6).
+    #[tactic(auto, unfolding(crate::specs::Rows::awaits_address))]
+    pub fn awaits_address(&self) -> bool
+        ensures { result ≡ awaits_address self.now }
+    {
+        matches!(
+            (self.memory, self.progress),
+            (
+                Memory::AckAwaited(Giver::Control),
+                Progress::Ending(Some(_))
+            )
+        )
     }
 
     /// One packet in, its answer out (8.5.3), if there is one. Bytes that spell no packet have no answer.
