@@ -10,7 +10,7 @@ use Rattle.usb_bus.specs.Plugged.{Plugged, plugged_after, is_rooted, has_port, p
 use Rattle.usb_port.specs.Order.{parent_of, port_of}
 use Rattle.usb_bus.specs.PlanData.{PlanData, IsPlan, is_root_path, is_taken, action_fits, event_fits, events_fit, can_be_done, can_come}
 use Rattle.usb_bus.specs.declared.not_served.NotServed.{NotServed}
-use Rattle.usb_bus.specs.Served.{is_function_at, is_served, first_not_served, events_served, damages_served, served_of}
+use Rattle.usb_bus.specs.Served.{is_function_at, is_served, first_not_served, events_served, served_of}
 
 plug_done : (roots : ℕ) (devices : List Spec) (tree : Plugged) (path : List ℕ) (device : ℕ) → action_fits roots devices tree (Plug path device) ≡ true → is_served devices (Plug path device) ≡ true → can_be_done roots (length devices) (Plug path device) ≡ true
 unfolding is_served
@@ -24,11 +24,11 @@ plug_done roots devices tree path device h s =
 action_done : (roots : ℕ) (devices : List Spec) (tree : Plugged) (a : Action) → action_fits roots devices tree a ≡ true → is_served devices a ≡ true → can_be_done roots (length devices) a ≡ true
 unfolding is_served
 action_done roots devices tree (Plug path device) h s = plug_done roots devices tree path device h s
-action_done roots devices tree (Unplug path) h s = cc
-action_done roots devices tree Show h s = cc
-action_done roots devices tree (Send path bytes) h s = cc
-action_done roots devices tree (Receive path packets) h s = cc
-action_done roots devices tree (Clear path) h s = cc
+action_done roots devices tree (Unplug path) h s = and_from (length path == 1) (nat_le (slice_index path 0) roots) s (and_parts (is_rooted roots path) (is_taken tree path) h).0
+action_done roots devices tree Show h s = refl
+action_done roots devices tree (Send path bytes) h s = refl
+action_done roots devices tree (Receive path packets) h s = refl
+action_done roots devices tree (Clear path) h s = refl
 
 -- each event of a plan that is served can come
 events_come : (roots : ℕ) (devices : List Spec) (tree : Plugged) (events : List Event) → events_fit roots devices tree events ≡ true → list_all (λ e. is_served devices e.action) events ≡ true → list_all (can_come roots (length devices)) events ≡ true
@@ -61,13 +61,13 @@ all_served devices events h =
     let late : List Event → ℕ = position_or_len (λ e. not (is_served devices e.action)) in
     all_pass (λ e. is_served devices e.action) events (ltb-false (late events) (length events) (none_found (nat_lt (late events) (length events)) (late events) h))
 
-none_first : (o : Option ℕ) (rest : Result (Unit {0}) NotServed) → events_served o rest ≡ Ok tt → o ≡ None
-none_first None rest h = refl
-none_first (Some i) rest h = cc
+none_first : (o : Option ℕ) → events_served o ≡ Ok tt → o ≡ None
+none_first None h = refl
+none_first (Some i) h = cc
 
 none_not_served : (p : PlanData) → served_of p ≡ Ok tt → first_not_served p.devices p.events ≡ None
 unfolding served_of
-none_not_served p h = none_first (first_not_served p.devices p.events) (damages_served (length p.damages == 0)) h
+none_not_served p h = none_first (first_not_served p.devices p.events) h
 
 -- the same of the copies that a bus keeps
 pub copies_come : (p : PlanData) (roots devices : ℕ) (events : List Event) → IsPlan p → served_of p ≡ Ok tt → roots ≡ p.roots → devices ≡ length p.devices → events ≡ p.events

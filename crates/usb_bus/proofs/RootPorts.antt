@@ -53,6 +53,15 @@ plug_changes ps qs path low lt e =
     let one = change_of-le p in
     subst (λ (l : List PortState). changes l ≤ changes ps + 1) (sym e) (omega (arith, all, one))
 
+-- whatever is written at one root port sets at most one change bit
+pub one_written : (roots : List RootPort) (i : ℕ) (r : RootPort) → i < length roots → changes (ports_of (set roots i r)) ≤ changes (ports_of roots) + 1
+one_written roots i r lt =
+    let port : RootPort → PortState = λ x. x.port in
+    let n = length-map roots port in
+    let all = changes-set (ports_of roots) i r.port (omega (arith, lt, n)) in
+    let one = change_of-le r.port in
+    subst (λ (l : List PortState). changes l ≤ changes (ports_of roots) + 1) (sym (map-set port roots i r)) (omega (arith, all, one))
+
 -- an event that came
 pub event_spends : (old new : World) → changes new.ports ≤ changes old.ports + 1 → length new.ports ≡ length old.ports → new.taken ≡ old.taken + 1
     → new.left + 1 ≡ old.left → new.attempts ≡ old.attempts → new.limit ≡ old.limit → Spends 0 old new

@@ -1,25 +1,21 @@
--- How events come in a simulation.
-use Rattle.std.proofs.Common.{◌≡◌, ℕ, ◌+◌, ◌<◌, List, [], ◌∷◌, ◌++◌, length, drop, get_or, Bool, true, false, if◌then◌else◌, Option, refl, sym, ap, ap₂, ◌∙◌, subst, add-one, drop-cons, append_assoc, append-nil}
+-- How events come in a simulation, and what an attempt makes of it.
+use Rattle.std.proofs.Common.{◌≡◌, ℕ, ◌+◌, List, [], ◌∷◌, ◌++◌, length, Bool, true, false, ◌||◌, if◌then◌else◌, Option, Some, None, refl, sym, ap, ap₂, ◌∙◌, subst, arith, get_or, append_assoc, append-nil}
 use Rattle.std.specs.Io.KnownBytes.{Appends}
-use Rattle.usb_device.specs.Spec.{Spec}
-use Rattle.usb_bus.specs.declared.event.Event.{Event}
+use Rattle.std.specs.Option.{option_to_list}
 use Rattle.std.proofs.lemmas.List.{with_items_is}
+use Rattle.std.proofs.KnownBytes.{Appends-trans, Appends-nil}
 use Rattle.std.specs.declared.vec.Vec.{Vec}
 use Rattle.std.specs.Vec.{with_items}
+use Rattle.usb_device.specs.Spec.{Spec}
 use Rattle.usb_bus.specs.declared.event.Action.{Action}
-use Rattle.usb_bus.specs.declared.root.RootPort.{RootPort}
-use Rattle.std.proofs.KnownBytes.{Appends-trans, Appends-nil}
-use Rattle.usb_bus.specs.declared.types.Attempt.{Attempt}
+use Rattle.usb_bus.specs.declared.event.Event.{Event}
 use Rattle.usb_bus.specs.declared.exchange.Exchange.{Exchange}
-use Rattle.usb_bus.specs.Exchange.{exchanged}
+use Rattle.usb_bus.specs.declared.root.RootPort.{RootPort}
+use Rattle.usb_bus.specs.declared.types.Attempt.{Attempt}
+use Rattle.usb_bus.specs.Losses.{counted}
+use Rattle.usb_bus.specs.Roots.{is_shared}
+use Rattle.usb_bus.specs.Simulation.{Simulation, ready, made_in, with_attempt, attempted, attempted_lines, outcome_made, outcome_in, has_due, done, action_line, due_of, took, next_event, next_line, next_due, comes, due_from, due_lines}
 use Rattle.usb_bus.specs.Trace.{attempt_line}
-use Rattle.usb_bus.specs.Simulation.{Simulation, ready, attempted_lines, has_due, done, action_line, took, next_event, next_line, comes, due_from, due_lines}
-
--- the events to come are the next one and those after it
-pub events_split : (events list : List Event) (i : ℕ) (e : Event) → list ≡ events → i < length events → e ≡ get_or list i e → drop i events ≡ e ∷ drop (i + 1) events
-events_split events list i e same lt is =
-    drop-cons events i e lt
-    ∙ ap₂ (λ (x : Event) (n : ℕ). x ∷ drop n events) (sym (is ∙ ap (λ (l : List Event). get_or l i e) same)) (sym (add-one i))
 
 -- the action was done to ports that were lent as a slice
 pub done_lent : {Z : Type 0} (v : Vec RootPort Z) (lent ws : List RootPort) (devices specs : List Spec) (a : Action) → length ws ≡ v.len → ws ≡ done a devices lent
@@ -28,22 +24,21 @@ done_lent v lent ws devices specs a n h ed el =
     with_items_is v ws n ∙ h ∙ ap₂ (λ (d : List Spec) (r : List RootPort). done a d r) ed el
 
 -- the next event came
-pub came : (s t : Simulation) (e : Event) (events : List Event) → s.left ≡ e ∷ events → t.roots ≡ done e.action s.devices s.roots → t.devices ≡ s.devices → t.left ≡ events
-    → t.attempts ≡ s.attempts → t.attempts_then ≡ s.attempts → t ≡ next_event s
+pub came : (s : Simulation) (e : Event) (events left : List Event) (roots : List RootPort) → s.left ≡ e ∷ events → left ≡ events → roots ≡ done e.action s.devices s.roots
+    → record s { roots = roots; left = left; taken = s.taken + 1; attempts_then = s.attempts } ≡ next_event s
 unfolding next_event took
-came s t e events split roots devices left attempts since =
-    let made : List RootPort → List Spec → List Event → ℕ → ℕ → Simulation
-    = λ r d l n m. record { roots = r; devices = d; left = l; attempts = n; attempts_then = m } in
-    let after = done e.action s.devices s.roots in
-    rw split
-    (ap (λ (r : List RootPort). made r t.devices t.left t.attempts t.attempts_then) roots
-    ∙ ap (λ (d : List Spec). made after d t.left t.attempts t.attempts_then) devices
-    ∙ ap (λ (l : List Event). made after s.devices l t.attempts t.attempts_then) left
-    ∙ ap₂ (λ (n m : ℕ). made after s.devices events n m) attempts since)
+came s e events left roots split rest h =
+    let made : List RootPort → List Event → Simulation
+    = λ r l. record s { roots = r; left = l; taken = s.taken + 1; attempts_then = s.attempts } in
+    rw split (ap₂ made h rest)
 
 pub line_next : (s : Simulation) (e : Event) (events : List Event) → s.left ≡ e ∷ events → action_line e.action s.devices ≡ next_line s
 unfolding next_line
 line_next s e events split = rw split refl
+
+pub due_next : (s : Simulation) (e : Event) (events : List Event) → s.left ≡ e ∷ events → Some (due_of e.action) ≡ next_due s
+unfolding next_due
+due_next s e events split = rw split refl
 
 -- what is due comes first, and then what is due of the rest
 pub record DueStep (s : Simulation) : Type 0 where
@@ -118,19 +113,47 @@ due_ends first s had has d h =
     }
 
 -- no event is left
-pub next_none : (s : Simulation) → s.left ≡ [] → s ≡ next_event s
-unfolding next_event
-next_none s e = rw e refl
+none_of : (events : List Event) → length events ≡ 0 → events ≡ []
+none_of [] h = refl
+none_of (e ∷ events) h = absurd (omega (arith, h))
 
-pub line_none : (s : Simulation) (had : Option (List ℕ)) → s.left ≡ [] → Appends had had (next_line s)
+pub next_none : (s : Simulation) → length s.left ≡ 0 → s ≡ next_event s
+unfolding next_event
+next_none s h = rw (none_of s.left h) refl
+
+pub due_none : (s : Simulation) → length s.left ≡ 0 → None ≡ next_due s
+unfolding next_due
+due_none s h = rw (none_of s.left h) refl
+
+pub line_none : (s : Simulation) (had : Option (List ℕ)) → length s.left ≡ 0 → Appends had had (next_line s)
 unfolding next_line
-line_none s had e = rw e (Appends-nil had)
+line_none s had h = rw (none_of s.left h) (Appends-nil had)
+
+-- the first event leaves
+pub popped : (left rest : List Event) (o : Option Event) (e : Event) → left ≡ option_to_list o ++ rest → o ≡ Some e → left ≡ e ∷ rest
+popped left rest o e h is = h ∙ ap (λ (x : Option Event). option_to_list x ++ rest) is
+
+pub front_is : (left rest : List Event) (e f : Event) → left ≡ e ∷ rest → f ≡ get_or left 0 f → f ≡ e
+front_is left rest e f split h = h ∙ ap (λ (l : List Event). get_or l 0 f) split
 
 -- the lines of the events that are due, and then the attempt's
 pub lines_of_attempt : (a : Attempt) (s mid : Simulation) (n : ℕ) (x : Exchange) (had has now : Option (List ℕ)) → mid ≡ due_from s.left s → n ≡ mid.attempts + 1
-    → x ≡ (exchanged a mid.roots).0 → Appends had has (due_lines s.left s) → Appends has now (attempt_line n a.pre x ++ 10 ∷ []) → Appends had now (attempted_lines a s)
+    → x ≡ (made_in a mid).0 → Appends had has (due_lines s.left s) → Appends has now (attempt_line n a.pre x ++ 10 ∷ []) → Appends had now (attempted_lines a s)
 unfolding attempted_lines ready
 lines_of_attempt a s mid n x had has now em en ex due line =
     let same = ap₂ (λ (m : ℕ) (y : Exchange). attempt_line m a.pre y ++ 10 ∷ [])
-    (en ∙ ap (λ (w : Simulation). w.attempts + 1) em) (ex ∙ ap (λ (w : Simulation). (exchanged a w.roots).0) em) in
+    (en ∙ ap (λ (w : Simulation). w.attempts + 1) em) (ex ∙ ap (λ (w : Simulation). (made_in a w).0) em) in
     Appends-trans had has now _ _ due (subst (λ (l : List ℕ). Appends has now l) same line)
+
+-- the attempt is made where the due events came
+pub attempt_made : (a : Attempt) (s mid : Simulation) (x : Exchange) (roots : List RootPort) → mid ≡ due_from s.left s → (x, roots) ≡ made_in a mid
+    → record mid { roots = roots; attempts = mid.attempts + 1; losses = counted x.address_lost mid.losses; shared = mid.shared || is_shared mid.roots } ≡ attempted a s
+unfolding attempted ready with_attempt
+attempt_made a s mid x roots em ex =
+    let made : Exchange × List RootPort → Simulation
+    = λ p. record mid { roots = p.1; attempts = mid.attempts + 1; losses = counted p.0.address_lost mid.losses; shared = mid.shared || is_shared mid.roots } in
+    ap made ex ∙ ap (λ (w : Simulation). with_attempt a w) em
+
+pub outcome_made_in : (a : Attempt) (s mid : Simulation) (x : Exchange) → mid ≡ due_from s.left s → x ≡ (made_in a mid).0 → outcome_made a x ≡ outcome_in a s
+unfolding outcome_in ready
+outcome_made_in a s mid x em ex = ap (λ (y : Exchange). outcome_made a y) (ex ∙ ap (λ (w : Simulation). (made_in a w).0) em)

@@ -63,14 +63,14 @@ pub record IsPlan (p : PlanData) : Type 0 where
   pub events : events_fit p.roots p.devices [] p.events ≡ true
   pub damages : damages_fit 0 p.damages ≡ true
 
--- the action plugs one of so many devices at one of so many root ports
+-- the action is at one of so many root ports where it plugs or unplugs, and it plugs one of so many devices
 abbrev pub can_be_done : ℕ → ℕ → Action → Bool
 can_be_done roots devices (Plug path device) = is_root_path roots path && nat_lt device devices
-can_be_done roots devices (Unplug path) = false
-can_be_done roots devices Show = false
-can_be_done roots devices (Send path bytes) = false
-can_be_done roots devices (Receive path packets) = false
-can_be_done roots devices (Clear path) = false
+can_be_done roots devices (Unplug path) = is_root_path roots path
+can_be_done roots devices Show = true
+can_be_done roots devices (Send path bytes) = true
+can_be_done roots devices (Receive path packets) = true
+can_be_done roots devices (Clear path) = true
 
 abbrev pub can_come : ℕ → ℕ → Event → Bool
 can_come roots devices e = can_be_done roots devices e.action

@@ -1,6 +1,6 @@
 -- The root ports of a simulated bus.
-use Rattle.std.specs.Prelude.{ℕ, ◌-◌, List, slice_index, slice_get, slice_set, map, option_map, unwrap_or, ◌==◌, Option, Some, None, Bool, ◌&&◌, not, if◌then◌else◌}
-use Rattle.usb_port.specs.PortState.{PortState, off, plugged, set_row, clear_row, is_attached, is_low}
+use Rattle.std.specs.Prelude.{ℕ, ◌-◌, false, ◌||◌, List, [], ◌∷◌, slice_index, slice_get, slice_set, map, option_map, unwrap_or, ◌==◌, Option, Some, None, Bool, ◌&&◌, not, if◌then◌else◌}
+use Rattle.usb_port.specs.PortState.{PortState, off, plugged, unplugged, set_row, clear_row, is_attached, is_low}
 use Rattle.usb_device.specs.Spec.{Spec}
 use Rattle.usb_device.specs.Rows.{State, fresh, reset_state}
 use Rattle.usb_bus.specs.declared.root.RootPort.{RootPort}
@@ -15,9 +15,13 @@ vacant = record { port = off; device = None }
 abbrev pub is_same : Bool → Bool → Bool
 is_same a b = if a then b else not b
 
--- packets of a speed reach the device behind the port: it is powered, connected and enabled, and the device has that speed
+-- the port is powered, connected and enabled
+abbrev pub is_reachable : PortState → Bool
+is_reachable p = p.power && is_attached p.attached && p.enable
+
+-- packets of a speed reach the device behind the port: it is reachable, and has that speed
 abbrev pub reaches : PortState → Bool → Bool
-reaches p low = p.power && is_attached p.attached && p.enable && is_same (is_low p.attached) low
+reaches p low = is_reachable p && is_same (is_low p.attached) low
 
 -- the place of a root port by its path
 abbrev pub root_of : List ℕ → ℕ
@@ -27,6 +31,10 @@ root_of path = slice_index path 0 - 1
 unfoldable pub with_device : Spec → RootPort → RootPort
 with_device spec r = record { port = plugged spec.low r.port; device = Some (fresh spec) }
 
+-- the device is unplugged
+unfoldable pub without_device : RootPort → RootPort
+without_device r = record { port = unplugged r.port; device = None }
+
 -- one root port is written
 abbrev pub at_root : ℕ → (RootPort → RootPort) → List RootPort → List RootPort
 at_root i f roots = elim (slice_get roots i) [ None ↦ roots | Some r ↦ slice_set roots i (f r) ]
@@ -34,6 +42,10 @@ at_root i f roots = elim (slice_get roots i) [ None ↦ roots | Some r ↦ slice
 -- a device is plugged at the root port of a path
 unfoldable pub plugged_at : List ℕ → Spec → List RootPort → List RootPort
 plugged_at path spec roots = at_root (root_of path) (with_device spec) roots
+
+-- what is plugged at the root port of a path is unplugged
+unfoldable pub unplugged_at : List ℕ → List RootPort → List RootPort
+unplugged_at path roots = at_root (root_of path) without_device roots
 
 -- the device at a root port
 abbrev pub place_at : List RootPort → ℕ → Option State
@@ -52,3 +64,20 @@ with_feature feature r = record {
 
 unfoldable pub without_feature : ℕ → RootPort → RootPort
 without_feature feature r = record r { port = unwrap_or (clear_row feature r.port) r.port }
+
+-- the address of the device at a root port, where it is reachable
+unfoldable pub held_address : RootPort → Option ℕ
+held_address r = elim r.device [ None ↦ None | Some d ↦ if is_reachable r.port then Some d.registers.address else None ]
+
+unfoldable pub holds : RootPort → ℕ → Bool
+holds r address = elim (held_address r) [ None ↦ false | Some held ↦ held == address ]
+
+-- a reachable device holds the address
+unfoldable pub is_held : List RootPort → ℕ → Bool
+is_held [] address = false
+is_held (r ∷ roots) address = holds r address || is_held roots address
+
+-- two reachable devices hold one address
+unfoldable pub is_shared : List RootPort → Bool
+is_shared [] = false
+is_shared (r ∷ roots) = elim (held_address r) [ None ↦ is_shared roots | Some address ↦ is_held roots address || is_shared roots ]

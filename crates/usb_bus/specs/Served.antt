@@ -1,5 +1,5 @@
 -- What of a plan a simulated bus serves.
-use Rattle.std.specs.Prelude.{ℕ, ◌+◌, List, [], ◌∷◌, length, Bool, false, ◌&&◌, ◌==◌, not, Option, None, Some, Result, Ok, Err, position, slice_get, if◌then◌else◌}
+use Rattle.std.specs.Prelude.{ℕ, ◌+◌, List, [], ◌∷◌, length, Bool, true, false, ◌&&◌, ◌==◌, not, Option, None, Some, Result, Ok, Err, position, slice_get}
 use Rattle.usb_device.specs.Spec.{Spec}
 use Rattle.usb_bus.specs.declared.event.Event.{Event}
 use Rattle.usb_bus.specs.declared.event.Action.{Action}
@@ -23,26 +23,23 @@ is_function (Some device) = not (is_hub device)
 unfoldable pub is_function_at : List Spec → ℕ → Bool
 is_function_at devices index = is_function (slice_get devices index)
 
--- a plug of a function at a root port
+-- functions are plugged and unplugged at root ports
 unfoldable pub is_served : List Spec → Action → Bool
 is_served devices (Plug path device) = length path == 1 && is_function_at devices device
-is_served devices (Unplug path) = false
-is_served devices Show = false
-is_served devices (Send path bytes) = false
-is_served devices (Receive path packets) = false
-is_served devices (Clear path) = false
+is_served devices (Unplug path) = length path == 1
+is_served devices Show = true
+is_served devices (Send path bytes) = true
+is_served devices (Receive path packets) = true
+is_served devices (Clear path) = true
 
 -- the place of the first event that is not served
 abbrev pub first_not_served : List Spec → List Event → Option ℕ
 first_not_served devices events = position (λ e. not (is_served devices e.action)) events
 
-abbrev pub damages_served : Bool → Result (Unit {0}) NotServed
-damages_served none = if none then Ok tt else Err (not_served.Damage 1)
+abbrev pub events_served : Option ℕ → Result (Unit {0}) NotServed
+events_served None = Ok tt
+events_served (Some i) = Err (not_served.Event (i + 1))
 
-abbrev pub events_served : Option ℕ → Result (Unit {0}) NotServed → Result (Unit {0}) NotServed
-events_served None rest = rest
-events_served (Some i) rest = Err (not_served.Event (i + 1))
-
--- the first entry that is not served: an event, or else a damage
+-- the first event that is not served
 unfoldable pub served_of : PlanData → Result (Unit {0}) NotServed
-served_of p = events_served (first_not_served p.devices p.events) (damages_served (length p.damages == 0))
+served_of p = events_served (first_not_served p.devices p.events)

@@ -1,5 +1,5 @@
 -- The world that a simulated bus stands for, and its writer.
-use Rattle.std.specs.Prelude.{ℕ, ◌-◌, List, length, drop, ◌==◌, if◌then◌else◌, Option, None}
+use Rattle.std.specs.Prelude.{ℕ, List, length, ◌==◌, if◌then◌else◌, Option, None}
 use Rattle.usb_device.specs.Rows.{State}
 use Rattle.usb_bus.specs.declared.watched.Watched.{Watched}
 use Rattle.usb_bus.specs.declared.sim.SimBus.{SimBus}
@@ -11,7 +11,7 @@ abbrev pub world_of : {W : Type 0} → SimBus W → World
 world_of s = record {
   ports = ports_of s.roots.items;
   taken = s.taken;
-  left = length s.events - s.taken;
+  left = length s.left.items;
   attempts = s.attempts;
   limit = s.limit;
   fault = s.fault;
@@ -24,9 +24,14 @@ abbrev pub simulation_of : {W : Type 0} → SimBus W → Simulation
 simulation_of s = record {
   roots = s.roots.items;
   devices = s.devices.items;
-  left = drop s.taken s.events;
+  left = s.left.items;
+  taken = s.taken;
   attempts = s.attempts;
   attempts_then = s.attempts_then;
+  limit = s.limit;
+  damages = s.damages.items;
+  losses = s.losses;
+  shared = s.shared;
 }
 
 -- the device at a path

@@ -2,7 +2,7 @@
 use Rattle.std.specs.Prelude.{◌≡◌, ◌+◌, length, replicate, Option, Some, None, Result, Ok, Err}
 use Rattle.usb_port.specs.PortState.{off}
 use Rattle.usb_bus.specs.declared.types.BusFault.{BusFault}
-use Rattle.usb_bus.specs.declared.sim.events.Due.{Due}
+use Rattle.usb_bus.specs.declared.event.Due.{Due}
 use Rattle.usb_bus.specs.World.{World, Spends, Failed}
 use Rattle.usb_bus.specs.PlanData.{PlanData}
 

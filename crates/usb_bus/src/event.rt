@@ -1,5 +1,6 @@
 //! The events of a plan.
 ghost use Rattle.std.specs.Prelude.{◌≡◌, IfOk};
+ghost use Rattle.usb_bus.specs.Simulation.{due_of, waits};
 
 use std::alloc::{AllocError, Global};
 use std::marker::Model;
@@ -61,6 +62,54 @@ pub enum Action {
     Clear(PortPath),
 }
 
+/// What an event asks of the host.
+#[derive(Debug, Drop)]
+pub enum Due {
+    /// Nothing: a device was plugged or unplugged.
+    Changed,
+    /// To list what it found.
+    Show,
+    /// To send these bytes to the bulk endpoint of the device at a port (5.8).
+    Send(PortPath, SentBytes),
+    /// To receive at most so many packets, 0 to 1,000, from the bulk endpoint of the device at a port (5.8).
+    Receive(PortPath, u16),
+    /// To clear the halts of the bulk endpoints of the device at a port (9.4.1).
+    Clear(PortPath),
+}
+
+impl From<Action> for Due {
+    ghost from_gives = { λ action due. due ≡ due_of action };
+
+    #[tactic(auto, unfolding(crate::specs::Simulation::due_of))]
+    fn from(action: Action) -> Due {
+        match action {
+            Action::Plug(_, _) => Due::Changed,
+            Action::Unplug(_) => Due::Changed,
+            Action::Show => Due::Show,
+            Action::Send(path, bytes) => Due::Send(path, bytes),
+            Action::Receive(path, packets) => Due::Receive(path, packets),
+            Action::Clear(path) => Due::Clear(path),
+        }
+    }
+}
+
+impl Action {
+    /// Whether it waits until the host has nothing left to do.
+    #[tactic(auto, unfolding(crate::specs::Simulation::waits))]
+    pub(crate) fn waits(&self) -> bool
+        ensures { result ≡ waits self.now }
+    {
+        match self {
+            Action::Plug(_, _) => false,
+            Action::Unplug(_) => false,
+            Action::Show => true,
+            Action::Send(_, _) => true,
+            Action::Receive(_, _) => true,
+            Action::Clear(_) => true,
+        }
+    }
+}
+
 /// What happens, and how many attempts after the former event, or after the start.
 #[derive(Debug, Drop)]
 pub struct Event {
@@ -106,16 +155,6 @@ impl Events {
         self.events.as_slice()
     }
 
-    /// The same events in memory of their own. An error: memory is refused.
-    pub(crate) fn copied(alloc: Global, events: &[Event]) -> Result<Self, AllocError>
-        requires { length events.now ≤ 10000 }
-        ensures { IfOk result (λ e. e ≡ events.now) }
-    {
-        Ok(Events {
-            events: copies(alloc, events)?,
-        })
-    }
-
     /// Adds an event at the end. An error: memory is refused, and nothing changes.
     pub fn push(&mut self, event: Event) -> Result<(), AllocError>
         requires room { length self.old < 10000 }
@@ -126,7 +165,8 @@ impl Events {
     }
 }
 
-fn copies(alloc: Global, events: &[Event]) -> Result<Vec<Event>, AllocError>
+/// The same events in memory of their own. An error: memory is refused.
+pub(crate) fn copies(alloc: Global, events: &[Event]) -> Result<Vec<Event>, AllocError>
     ensures { IfOk result (λ v. v.items ≡ events.now) }
 {
     let mut all = Vec::new(alloc);

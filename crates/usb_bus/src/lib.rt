@@ -1,10 +1,11 @@
-//! The bus: one transaction attempt at a time, over a world that plug events change between attempts.
+//! The bus: one transaction attempt at a time, over a world that events change between attempts, and that damages packets.
 #![tactic(auto)]
 
 mod bus;
 mod damage;
 mod event;
 mod exchange;
+mod losses;
 mod not_served;
 mod plan;
 mod root;
@@ -12,13 +13,14 @@ mod sim;
 mod trace;
 mod types;
 mod watched;
+mod wire;
 
 pub use bus::Bus;
 pub use damage::{Damage, Damages, Harm};
-pub use event::{Action, Event, Events, SentBytes};
+pub use event::{Action, Due, Event, Events, SentBytes};
 pub use not_served::{NotServed, served};
 pub use plan::Plan;
-pub use sim::{Due, SimBus};
+pub use sim::SimBus;
 pub use types::{Attempt, BusFault, Outcome};
 pub use watched::{Watched, WriteFailed, put_piece};
 

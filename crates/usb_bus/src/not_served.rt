@@ -7,15 +7,12 @@ use crate::plan::Plan;
 use thiserror::Error;
 use usb_device::DeviceSpec;
 
-/// The first entry of a plan that is not served yet, counted from 1.
+/// The first event of a plan that is not served yet, counted from 1.
 #[derive(Clone, Copy, Debug, PartialEq, Eq, Error)]
 pub enum NotServed {
     /// An event.
     #[error("plan: event {0}: not served yet")]
     Event(usize),
-    /// A damage.
-    #[error("plan: damage {0}: not served yet")]
-    Damage(usize),
 }
 
 /// Whether bDeviceClass is 9, a hub's (11.23.1).
@@ -36,7 +33,7 @@ fn is_function_at(devices: &[DeviceSpec], index: usize) -> bool
     }
 }
 
-/// Plugs of functions at root ports are served.
+/// Functions are plugged and unplugged at root ports.
 #[tactic(auto, unfolding(crate::specs::Served::is_served))]
 fn is_served(devices: &[DeviceSpec], action: &Action) -> bool
     ensures { result ≡ is_served devices.now action.now }
@@ -45,7 +42,11 @@ fn is_served(devices: &[DeviceSpec], action: &Action) -> bool
         Action::Plug(path, device) => {
             path.numbers().len() == 1 && is_function_at(devices, *device)
         }
-        _ => false,
+        Action::Unplug(path) => path.numbers().len() == 1,
+        Action::Show => true,
+        Action::Send(_, _) => true,
+        Action::Receive(_, _) => true,
+        Action::Clear(_) => true,
     }
 }
 
@@ -57,21 +58,15 @@ fn first_not_served(devices: &[DeviceSpec], events: &[Event]) -> Option<usize>
         .position(|event| !is_served(devices, &event.action))
 }
 
-/// Whether a simulated bus can run the plan. An error: the first entry that it can't, events before damages.
+/// Whether a simulated bus can run the plan. An error: the first event that it can't.
 ///
-/// Plugs of functions at root ports are served, other events and damages are not yet.
+/// Everything is served but hubs, and what is plugged to them.
 #[tactic(auto, unfolding(crate::specs::Served::served_of))]
 pub fn served(plan: &Plan) -> Result<(), NotServed>
     ensures { result ≡ served_of plan.now }
 {
     match first_not_served(plan.devices(), plan.events()) {
         Some(index) => Err(NotServed::Event(index + 1)),
-        None => {
-            if plan.damages().is_empty() {
-                Ok(())
-            } else {
-                Err(NotServed::Damage(1))
-            }
-        }
+        None => Ok(()),
     }
 }

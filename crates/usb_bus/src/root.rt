@@ -1,11 +1,11 @@
 //! A root port, and the device on it.
-ghost use Rattle.std.specs.Prelude.{◌≡◌, ◌-◌, ◌<◌, length, slice_set, slice_index_or, unwrap_or, option_map, Some, None, IfOk};
-ghost use Rattle.usb_port.specs.PortState.{PortState, plugged, set_row, clear_row, status_of};
-ghost use Rattle.usb_packet.specs.Spelling.{Spells};
+ghost use Rattle.std.specs.Prelude.{◌≡◌, ◌-◌, ◌<◌, length, slice_set, slice_index_or, unwrap_or, option_map, Option, Some, None, IfOk};
+ghost use Rattle.usb_port.specs.PortState.{PortState, plugged, unplugged, set_row, clear_row, status_of};
 ghost use Rattle.usb_packet.specs.declared.Packet.{Packet};
+ghost use Rattle.usb_bus.specs.Wire.{Reads};
 ghost use Rattle.usb_device.specs.Rows.{reset_state};
-ghost use Rattle.usb_bus.specs.Roots.{vacant, reaches, with_feature, without_feature};
-ghost use Rattle.usb_bus.specs.Exchange.{device_received, place_received, root_received, over};
+ghost use Rattle.usb_bus.specs.Roots.{vacant, reaches, is_reachable, without_device, held_address, holds, is_held, is_shared, with_feature, without_feature};
+ghost use Rattle.usb_bus.specs.Exchange.{device_received, place_received, root_received, root_awaits, over};
 
 use crate::exchange::Heard;
 use std::alloc::AllocError;
@@ -36,6 +36,14 @@ impl RootPort {
         self.device = Some(device);
     }
 
+    #[tactic(auto, unfolding(crate::specs::Roots::without_device))]
+    pub(crate) fn unplug(&mut self)
+        ensures { self.new ≡ without_device self.old }
+    {
+        self.port.unplug();
+        self.device = None;
+    }
+
     /// PORT_RESET of a powered port resets the device too.
     #[tactic(auto, unfolding(crate::specs::Roots::with_feature))]
     pub(crate) fn set_feature(&mut self, feature: u16)
@@ -61,12 +69,51 @@ impl RootPort {
     #[tactic(auto, unfolding(crate::specs::Exchange::root_received))]
     pub(crate) fn receive(&mut self, low: bool, bytes: &[u8]) -> Result<Heard, AllocError>
         ensures port { self.new.port ≡ self.old.port }
-        ensures exact { (p : Packet) → Spells bytes.now p → IfOk result (λ heard. (heard, self.new) ≡ root_received low p self.old) }
+        ensures exact { (p : Option Packet) → Reads bytes.now p → IfOk result (λ heard. (heard, self.new) ≡ root_received low p self.old) }
     {
         if !is_reached(&self.port, low) {
             return Ok(Heard::Nothing);
         }
         receive_at(&mut self.device, bytes)
+    }
+
+    /// Whether the device awaits the host's ACK at which it takes its address.
+    #[tactic(auto, unfolding(crate::specs::Exchange::root_awaits))]
+    pub(crate) fn awaits_address(&self) -> bool
+        ensures { result ≡ root_awaits self.now }
+    {
+        match &self.device {
+            None => false,
+            Some(device) => device.awaits_address(),
+        }
+    }
+
+    /// The address of the device, where it is reachable.
+    #[tactic(auto, unfolding(crate::specs::Roots::held_address))]
+    fn held_address(&self) -> Option<u8>
+        ensures { result ≡ held_address self.now }
+    {
+        match &self.device {
+            None => None,
+            Some(device) => {
+                if is_reachable(&self.port) {
+                    Some(device.address())
+                } else {
+                    None
+                }
+            }
+        }
+    }
+
+    /// Whether the device is reachable and holds the address.
+    #[tactic(auto, unfolding(crate::specs::Roots::holds))]
+    fn holds(&self, address: u8) -> bool
+        ensures { result ≡ holds self.now address }
+    {
+        match self.held_address() {
+            None => false,
+            Some(held) => held == address,
+        }
     }
 
     pub(crate) fn attempt_over(&mut self)
@@ -78,16 +125,48 @@ impl RootPort {
     }
 }
 
-/// Whether packets of the speed reach the device: its port is powered, connected and enabled.
+/// Whether the port is powered, connected and enabled.
+fn is_reachable(port: &Port) -> bool
+    ensures { result ≡ is_reachable port.now }
+{
+    port.is_powered() && port.is_attached() && port.is_enabled()
+}
+
+/// Whether packets of the speed reach the device.
 fn is_reached(port: &Port, low: bool) -> bool
     ensures { result ≡ reaches port.now low }
 {
-    port.is_powered() && port.is_attached() && port.is_enabled() && port.is_low_speed() == low
+    is_reachable(port) && port.is_low_speed() == low
+}
+
+/// Whether a reachable device holds the address.
+#[tactic(auto, unfolding(crate::specs::Roots::is_held))]
+fn is_held(roots: &[RootPort], address: u8) -> bool
+    ensures { result ≡ is_held roots.now address }
+{
+    match roots.split_first() {
+        None => false,
+        Some((root, rest)) => root.holds(address) || is_held(rest, address),
+    }
+}
+
+/// Whether two reachable devices hold one address.
+#[tactic(auto, unfolding(crate::specs::Roots::is_shared))]
+pub(crate) fn is_shared(roots: &[RootPort]) -> bool
+    ensures { result ≡ is_shared roots.now }
+{
+    match roots.split_first() {
+        None => false,
+        Some((root, rest)) => match root.held_address() {
+            None => is_shared(rest),
+            Some(address) => is_held(rest, address) || is_shared(rest),
+        },
+    }
 }
 
 #[tactic(auto, unfolding(crate::specs::Exchange::place_received))]
 fn receive_at(place: &mut Option<Device>, bytes: &[u8]) -> Result<Heard, AllocError>
-    ensures { (p : Packet) → Spells bytes.now p → IfOk result (λ heard. (heard, place.new) ≡ place_received p place.old) }
+    ensures { (p : Option Packet) → Reads bytes.now p → IfOk result (λ heard. (heard, place.new) ≡ place_received p place.old) }
 {
     match place {
         None => Ok(Heard::Nothing),
@@ -97,7 +176,7 @@ fn receive_at(place: &mut Option<Device>, bytes: &[u8]) -> Result<Heard, AllocEr
 
 #[tactic(auto, unfolding(crate::specs::Exchange::device_received))]
 fn receive_by(device: &mut Device, bytes: &[u8]) -> Result<Heard, AllocError>
-    ensures { (p : Packet) → Spells bytes.now p → IfOk result (λ heard. (heard, device.new) ≡ device_received p device.old) }
+    ensures { (p : Option Packet) → Reads bytes.now p → IfOk result (λ heard. (heard, device.new) ≡ device_received p device.old) }
 {
     let answer = device.receive(bytes)?;
     Ok(Heard::of(answer))

@@ -1,8 +1,9 @@
 //! A simulated bus: the devices that a plan's events plug at its root ports, and the trace of its attempts.
-ghost use Rattle.std.specs.Prelude.{◌≡◌, ◌≤◌, length, vec_len, replicate, map, IfOk, IfErr, Ok, Some, option_map, true};
+ghost use Rattle.std.specs.Prelude.{◌≡◌, ◌+◌, ◌≤◌, length, replicate, map, IfOk, IfErr, Ok, Some, option_map, true};
 ghost use Rattle.std.specs.List.{list_all};
 ghost use Rattle.usb_bus.specs.PlanData.{can_come};
 ghost use Rattle.usb_bus.specs.Roots.{ports_of, vacant, place_at, registers_of};
+ghost use Rattle.usb_bus.specs.Losses.{AreOfDamages};
 ghost use Rattle.usb_bus.specs.Served.{served_of};
 ghost use Rattle.usb_bus.specs.Simulation.{beginning};
 ghost use Rattle.usb_bus.specs.Steps.{opening, fault_of};
@@ -13,16 +14,17 @@ mod bus;
 mod events;
 mod lines;
 
-use crate::event::Events;
+use crate::event::{Event, copies as event_copies};
+use crate::losses::Losses;
 use crate::root::RootPort;
-use crate::{BusFault, Plan, Watched};
-pub use events::Due;
+use crate::{BusFault, Damage, Plan, Watched};
 use std::alloc::{AllocError, Global};
+use std::collections::VecDeque;
 use std::io::Write;
 use usb_device::{Device, DeviceSpec};
 use usb_port::PortPath;
 
-/// A bus that a plan describes. Each attempt and each plug is a line of the trace, which goes to a writer at once.
+/// A bus that a plan describes. Each attempt, plug and unplug is a line of the trace, which goes to a writer at once.
 ///
 /// After a fault every later attempt, event and line of report tells the same fault again and changes nothing.
 #[derive(Drop)]
@@ -30,20 +32,29 @@ pub struct SimBus<W> {
     alloc: Global,
     roots: Vec<RootPort>,
     devices: Vec<DeviceSpec>,
-    events: Events,
-    taken: usize,
+    /// The events to come.
+    left: VecDeque<Event>,
+    /// How many events came.
+    taken: u64,
     attempts: u64,
     /// The attempts made when the last event came.
     attempts_then: u64,
     limit: u64,
+    damages: Vec<Damage>,
+    losses: Losses,
+    /// At some attempt two reachable devices held one address.
+    shared: bool,
     fault: Option<BusFault>,
     writer: Watched<W>,
     ghost some_root: { 1 ≤ length roots.items },
     ghost few_roots: { length roots.items ≤ 7 },
-    ghost planned: { list_all (can_come (length roots.items) (length devices.items)) events ≡ true },
-    ghost taken_within: { taken ≤ length events },
+    ghost planned: { list_all (can_come (length roots.items) (length devices.items)) left.items ≡ true },
+    ghost few_events: { taken + length left.items ≤ 10000 },
     ghost counted: { attempts_then ≤ attempts },
     ghost within: { attempts ≤ limit },
+    ghost few_attempts: { limit ≤ 100000000000000 },
+    ghost few_damages: { length damages.items ≤ 10000 },
+    ghost lost: { AreOfDamages attempts damages.items losses },
     ghost at_limit: { fault ≡ Some LimitReached → attempts ≡ limit },
 }
 
@@ -52,7 +63,8 @@ pub struct SimBus<W> {
 struct Stage {
     roots: Vec<RootPort>,
     devices: Vec<DeviceSpec>,
-    events: Events,
+    left: VecDeque<Event>,
+    damages: Vec<Damage>,
 }
 
 impl<W: Write> SimBus<W> {
@@ -61,6 +73,7 @@ impl<W: Write> SimBus<W> {
     /// The bus of a plan, before anything came: all ports are off.
     ///
     /// The plan is one that `served` accepts. An error: memory is refused; the writer is handed back.
+    #[tactic(auto, using(crate::proofs::Wires::no_losses_yet))]
     pub fn new(
         alloc: Global,
         plan: &Plan,
@@ -78,11 +91,14 @@ impl<W: Write> SimBus<W> {
                 alloc,
                 roots: stage.roots,
                 devices: stage.devices,
-                events: stage.events,
+                left: stage.left,
                 taken: 0,
                 attempts: 0,
                 attempts_then: 0,
                 limit: plan.limit(),
+                damages: stage.damages,
+                losses: Losses::none(),
+                shared: false,
                 fault: None,
                 writer,
             }),
@@ -101,14 +117,14 @@ impl<W: Write> SimBus<W> {
     pub fn events_taken(&self) -> u64
         ensures { result ≡ (world_of self.now).taken }
     {
-        self.taken as u64
+        self.taken
     }
 
     /// How many events are to come.
     pub fn events_left(&self) -> u64
         ensures { result ≡ (world_of self.now).left }
     {
-        (self.events.as_slice().len() - self.taken) as u64
+        self.left.len() as u64
     }
 
     /// How many attempts were made.
@@ -118,40 +134,59 @@ impl<W: Write> SimBus<W> {
         self.attempts
     }
 
-    /// How often the device lost the host's ACK of the status stage of SET_ADDRESS: never, since no packet is damaged.
+    /// How often a device did not see the host's ACK of the status stage of SET_ADDRESS, at which it was to take its
+    /// address (9.4.6).
     pub fn address_losses(&self) -> u64
-        ensures { result ≡ 0 }
+        ensures { result ≡ (simulation_of self.now).losses.all }
     {
-        0
+        u64::from(self.losses.all)
+    }
+
+    /// The greatest number of those losses between two steps that clear a change of connection, or before the first
+    /// or behind the last of these steps.
+    pub fn worst_address_run(&self) -> u32
+        ensures { result ≡ (simulation_of self.now).losses.worst }
+    {
+        self.losses.worst
     }
 
     /// The address and the configuration of the device at the path; None where none is there.
     pub fn registers(&self, path: &PortPath) -> Option<(u8, u8)>
         ensures { result ≡ option_map registers_of (device_at self.now path.now) }
     {
+        match self.device(path) {
+            None => None,
+            Some(device) => Some((device.address(), device.configuration())),
+        }
+    }
+
+    /// All bytes that the bulk OUT endpoint of the device at the path has taken since its plug; None where none is there.
+    pub fn sink(&self, path: &PortPath) -> Option<&[u8]>
+        ensures { option_map (λ s. s.now) result ≡ option_map (λ d. d.sink) (device_at self.now path.now) }
+    {
+        match self.device(path) {
+            None => None,
+            Some(device) => Some(device.sink()),
+        }
+    }
+
+    fn device(&self, path: &PortPath) -> Option<&Device>
+        ensures { option_map (λ d. d.now) result ≡ device_at self.now path.now }
+    {
         let numbers = path.numbers();
         if numbers.len() != 1 {
             return None;
         }
-        registers_at(&self.roots, usize::from(numbers[0]) - 1)
+        device_at(&self.roots, usize::from(numbers[0]) - 1)
     }
 }
 
-fn registers_at(roots: &[RootPort], i: usize) -> Option<(u8, u8)>
-    ensures { result ≡ option_map registers_of (place_at roots.now i) }
+fn device_at(roots: &[RootPort], i: usize) -> Option<&Device>
+    ensures { option_map (λ d. d.now) result ≡ place_at roots.now i }
 {
     match roots.get(i) {
         None => None,
-        Some(root) => registers_of(&root.device),
-    }
-}
-
-fn registers_of(place: &Option<Device>) -> Option<(u8, u8)>
-    ensures { result ≡ option_map registers_of place.now }
-{
-    match place {
-        None => None,
-        Some(device) => Some((device.address(), device.configuration())),
+        Some(root) => root.device.as_ref(),
     }
 }
 
@@ -159,12 +194,16 @@ fn staged(alloc: Global, plan: &Plan) -> Result<Stage, AllocError>
     ensures ports { IfOk result (λ s. ports_of s.roots.items ≡ replicate plan.now.roots off) }
     ensures roots { IfOk result (λ s. s.roots.items ≡ replicate plan.now.roots vacant) }
     ensures devices { IfOk result (λ s. s.devices.items ≡ plan.now.devices) }
-    ensures events { IfOk result (λ s. s.events ≡ plan.now.events) }
+    ensures events { IfOk result (λ s. s.left.items ≡ plan.now.events) }
+    ensures damages { IfOk result (λ s. s.damages.items ≡ plan.now.damages) }
+    ensures few_events { IfOk result (λ s. length s.left.items ≤ 10000) }
+    ensures few_damages { IfOk result (λ s. length s.damages.items ≤ 10000) }
 {
     Ok(Stage {
         roots: roots_off(alloc, plan.roots())?,
         devices: copies(alloc, plan.devices())?,
-        events: Events::copied(alloc, plan.events())?,
+        left: VecDeque::from(event_copies(alloc, plan.events())?),
+        damages: plan.damages().to_vec(alloc)?,
     })
 }
 

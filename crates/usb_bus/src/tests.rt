@@ -1,2 +1,3 @@
+mod damage;
 mod sim;
 mod watched;

@@ -9,12 +9,8 @@ use Rattle.usb_device.specs.declared.delivery.Content.TheVariants.{Whole, Broken
 use Rattle.usb_device.specs.declared.delivery.Sent.{Sent}
 use Rattle.usb_device.specs.declared.effect.Effect.{Effect}
 use Rattle.usb_device.specs.declared.effect.Effect.TheVariants.{Leaves}
-use Rattle.usb_device.specs.Rows.{State, Reply, received, unread, forgotten}
+use Rattle.usb_device.specs.Rows.{State, Reply, received, unread, forgotten, awaits_address}
 use Rattle.usb_device.specs.Effect.{asks}
-use Rattle.usb_device.specs.Transfer.{Stage, ending}
-use Rattle.usb_device.specs.declared.transfer.Memory.{Memory}
-use Rattle.usb_device.specs.declared.transfer.Memory.TheVariants.{AckAwaited}
-use Rattle.usb_device.specs.declared.transfer.Giver.TheVariants as by
 use Rattle.usb_device.specs.declared.delivery.Heard.{Heard}
 use Rattle.usb_device.specs.declared.delivery.Heard.TheVariants.{NoAnswer, One, Collision}
 use Rattle.usb_device.specs.Tree.{Ports, ended, vacant, taken, Place, empty, full, Plugged, acted, row_of}
@@ -129,24 +125,11 @@ unfoldable pub is_twice : List ℕ → Bool
 is_twice [] = false
 is_twice (x ∷ xs) = has x xs || is_twice xs
 
--- an address is taken when the status stage ends
-abbrev pub is_taking : Stage → Bool
-is_taking (ending (Some a)) = true
-is_taking s = false
-
--- an ACK of what endpoint 0 gave is awaited
-abbrev pub is_awaiting : Memory → Bool
-is_awaiting (AckAwaited by.Control) = true
-is_awaiting m = false
-
-abbrev pub loses : State → Bool
-loses s = is_awaiting s.memory && is_taking s.stage
-
 -- some device awaits the ACK that would end its SET_ADDRESS
 unfoldable pub has_loss : Ports → Bool
 has_loss ended = false
 has_loss (vacant b k) = has_loss k
-has_loss (taken b s a k) = loses s || has_loss a || has_loss k
+has_loss (taken b s a k) = awaits_address s || has_loss a || has_loss k
 
 -- a device and all below it forget
 abbrev pub forgotten_whole : Plugged → Plugged
@@ -155,7 +138,7 @@ forgotten_whole t = record { own = forgotten t.own; ports = all_forgotten t.port
 -- the device on a port, or one below it, loses its address
 abbrev pub has_loss_in : Option Plugged → Bool
 has_loss_in None = false
-has_loss_in (Some t) = loses t.own || has_loss t.ports
+has_loss_in (Some t) = awaits_address t.own || has_loss t.ports
 
 -- the addresses on a port and below it
 abbrev pub held_in : PortState → Option Plugged → List ℕ

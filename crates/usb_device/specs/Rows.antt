@@ -271,3 +271,17 @@ fresh s = record { spec = s; registers = record { address = 0; configuration = 0
 -- a bus reset (9.1.1.3); what bulk OUT has taken, what is left of the source and the count until the halt stay
 unfoldable pub reset_state : State → State
 reset_state d = record d { registers = record { address = 0; configuration = 0 }; memory = Nothing; naks = 0; stage = idle; held = None }
+
+-- an ACK of what endpoint 0 gave is awaited
+abbrev pub awaits_control : Memory → Bool
+awaits_control (AckAwaited by.Control) = true
+awaits_control m = false
+
+-- an address is taken when the status stage ends
+abbrev pub ends_with_address : Stage → Bool
+ends_with_address (ending (Some a)) = true
+ends_with_address stage = false
+
+-- it gave the status stage of SET_ADDRESS, and takes the address at the host's ACK (9.4.6)
+unfoldable pub awaits_address : State → Bool
+awaits_address d = awaits_control d.memory && ends_with_address d.stage

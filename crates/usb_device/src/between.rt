@@ -54,7 +54,7 @@ fn loses_at(place: &Place) -> bool
 {
     match &place.device {
         None => false,
-        Some(device) => device.own.loses() || device.ports.has_address_loss(),
+        Some(device) => device.own.awaits_address() || device.ports.has_address_loss(),
     }
 }
 

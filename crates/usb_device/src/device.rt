@@ -2,7 +2,7 @@
 ghost use Rattle.std.specs.Prelude.{◌≡◌, ◌≤◌, length, None, IfOk, OnErr, true, is_some, option_map};
 ghost use Rattle.std.specs.Option.{option_copied};
 ghost use Rattle.usb_port.specs.PortState.{status_of};
-ghost use Rattle.usb_device.specs.Rows.{sink_grows};
+ghost use Rattle.usb_device.specs.Rows.{sink_grows, awaits_address};
 ghost use Rattle.usb_device.specs.Tree.{new_device, first_ports, reset_whole, row_of, numbered, acted, child_of, with_child, without_child};
 ghost use Rattle.usb_device.specs.Received.{Receives, GrowsBy, received_by};
 
@@ -80,6 +80,13 @@ impl Device {
         ensures { result.now ≡ self.now.own.sink }
     {
         self.own.sink()
+    }
+
+    /// Whether it gave the status stage of SET_ADDRESS, and takes its address at the host's ACK (9.4.6).
+    pub fn awaits_address(&self) -> bool
+        ensures { result ≡ awaits_address self.now.own }
+    {
+        self.own.awaits_address()
     }
 
     /// Whether it is a low-speed device; else it is a full-speed one.

@@ -116,9 +116,8 @@ fn first_progress(ports: &Ports, wanted: u16, reaction: Reaction) -> Progress
 impl Own {
     ghost use Rattle.std.specs.Prelude.{IfOk, OnErr, true, false, [], ◌∷◌};
     ghost use Rattle.usb_device.specs.declared.transfer.Giver.TheVariants as by;
-    ghost use Rattle.usb_device.specs.Delivery.{loses};
     ghost use Rattle.usb_device.specs.Effect.{asks, asked_by_data, asked_by_setup};
-    ghost use Rattle.usb_device.specs.Rows.{State, received, unread, forgotten, fresh, reset_state, accepted, begun, is_busy, nak_row, gives, in_row, status_row, out_row, ack_row, token_row, setup_row, payload_row, answered, unless_busy, pipe_of, with_pipe, bulk_of, rest_of, source_row, bulk_ack_row, acknowledged, sink_row, sinks, in_bulk_row, out_bulk_row, bulk_sinks, data_row, payload_sinks, sink_grows, is_other_out, after_memory, with_endpoints, in_other_row, changes_row, new_changes_row};
+    ghost use Rattle.usb_device.specs.Rows.{State, received, unread, forgotten, awaits_address, fresh, reset_state, accepted, begun, is_busy, nak_row, gives, in_row, status_row, out_row, ack_row, token_row, setup_row, payload_row, answered, unless_busy, pipe_of, with_pipe, bulk_of, rest_of, source_row, bulk_ack_row, acknowledged, sink_row, sinks, in_bulk_row, out_bulk_row, bulk_sinks, data_row, payload_sinks, sink_grows, is_other_out, after_memory, with_endpoints, in_other_row, changes_row, new_changes_row};
 
     /// A device that was just plugged, with a copy of its description. An error: memory is refused.
     #[tactic(auto, unfolding(crate::specs::Rows::fresh))]
@@ -169,14 +168,18 @@ impl Own {
         self.spec.is_low()
     }
 
-    /// Whether it awaits the ACK that would end its SET_ADDRESS.
-    pub fn loses(&self) -> bool
-        ensures { result ≡ loses self.now }
+    /// Whether it gave the status stage of SET_ADDRESS, and takes its address at the host's ACK (9.4.6).
+    #[tactic(auto, unfolding(crate::specs::Rows::awaits_address))]
+    pub fn awaits_address(&self) -> bool
+        ensures { result ≡ awaits_address self.now }
     {
-        match (self.memory, self.progress) {
-            (Memory::AckAwaited(Giver::Control), Progress::Ending(Some(_))) => true,
-            _ => false,
-        }
+        matches!(
+            (self.memory, self.progress),
+            (
+                Memory::AckAwaited(Giver::Control),
+                Progress::Ending(Some(_))
+            )
+        )
     }
 
     /// A bus reset (9.1.1.3): the device has no address, no configuration and no transfer. What its bulk OUT endpoint has

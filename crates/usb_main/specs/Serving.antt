@@ -1,5 +1,7 @@
 -- What serving a plan tells and writes.
-use Rattle.std.specs.Prelude.{ℕ, List, Result, Ok, Err}
+use Rattle.std.specs.Prelude.{ℕ, List, Bool, true, false, Result, Ok, Err}
+use Rattle.usb_bus.specs.declared.event.Action.{Action}
+use Rattle.usb_bus.specs.declared.event.Action.TheVariants.{Plug, Unplug, Show, Send, Receive, Clear}
 use Rattle.usb_bus.specs.declared.types.BusFault.{BusFault}
 use Rattle.usb_bus.specs.declared.types.BusFault.TheVariants as bus
 use Rattle.usb_main.specs.declared.input.InputFault.{InputFault}
@@ -8,7 +10,8 @@ use Rattle.usb_main.specs.declared.runs.Item.{Item}
 use Rattle.usb_main.specs.declared.runs.Item.TheVariants.{Listing}
 use Rattle.usb_main.specs.declared.runs.RunFault.TheVariants as run
 use Rattle.usb_main.specs.declared.serving.ServeFault.{ServeFault}
-use Rattle.usb_main.specs.declared.serving.ServeFault.TheVariants.{Read, TooLong, Plan, NotServed, Run, Write, Memory}
+use Rattle.usb_main.specs.declared.serving.ServeFault.TheVariants.{Read, TooLong, NotServed, Run, Write, Memory}
+use Rattle.usb_main.specs.declared.serving.ServeFault.TheVariants as serve
 use Rattle.usb_main.specs.Report.{listing_lines}
 
 abbrev pub input_fault : InputFault → ServeFault
@@ -26,7 +29,7 @@ report_fault bus.TraceFailed = Write
 abbrev pub IsFaultOfRun : ServeFault → Type 0
 IsFaultOfRun Read = ⊥
 IsFaultOfRun TooLong = ⊥
-IsFaultOfRun (Plan fault) = ⊥
+IsFaultOfRun (serve.Plan fault) = ⊥
 IsFaultOfRun (NotServed fault) = ⊥
 IsFaultOfRun (Run fault) = Unit {0}
 IsFaultOfRun Write = Unit {0}
@@ -39,3 +42,12 @@ IsOfRun (Err fault) = IsFaultOfRun fault
 -- the lines of an item; the number is that of a listing
 abbrev pub item_lines : ℕ → Item → List (List ℕ)
 item_lines number (Listing entries taken) = listing_lines number entries
+
+-- the host is to send, to receive or to clear
+abbrev pub is_transfer : Action → Bool
+is_transfer (Plug path device) = false
+is_transfer (Unplug path) = false
+is_transfer Show = false
+is_transfer (Send path bytes) = true
+is_transfer (Receive path packets) = true
+is_transfer (Clear path) = true

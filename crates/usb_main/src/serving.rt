@@ -1,9 +1,9 @@
 //! A plan's text in, the text of its run out.
-ghost use Rattle.std.specs.Prelude.{◌≡◌, ◌≢◌, ◌+◌, ◌<◌, ◌≤◌, Ok, Err, true, false, IsErrOf, IfErr, IfOk, IfSome, OnErr, OnOk, length};
+ghost use Rattle.std.specs.Prelude.{◌≡◌, ◌≢◌, ◌+◌, ◌<◌, ◌≤◌, Ok, Err, true, false, IsErrOf, IfErr, IfOk, IfSome, OnErr, OnOk, length, position};
 ghost use Rattle.usb_bus.specs.Served.{served_of};
 ghost use Rattle.usb_bus.specs.Watch.{inner_of, has_failed, calls_of};
 ghost use Rattle.usb_main.specs.declared.serving.ServeFault.TheVariants as serve;
-ghost use Rattle.usb_main.specs.Serving.{IsOfRun, input_fault, item_lines, report_fault};
+ghost use Rattle.usb_main.specs.Serving.{IsOfRun, is_transfer, input_fault, item_lines, report_fault};
 
 use crate::input::{InputFault, read_text};
 use crate::lines::Lines;
@@ -13,7 +13,9 @@ use std::alloc::{AllocError, Global};
 use std::io::{Read, Write};
 use std::{io, str};
 use thiserror::Error;
-use usb_bus::{BusFault, NotServed, Plan, Watched, WriteFailed, put_piece, served};
+use usb_bus::{
+    Action, BusFault, Event, NotServed, Plan, Watched, WriteFailed, put_piece, served,
+};
 use usb_plan::{PlanFault, bound, read_plan};
 
 /// What is written of a plan's run.
@@ -139,7 +141,32 @@ fn plan_of<R: Read>(alloc: Global, reader: &mut Watched<R>) -> Result<Plan, Serv
         Err(fault) => return Err(ServeFault::Plan(fault)),
     };
     served(&plan)?;
+    if let Some(index) = first_transfer(plan.events()) {
+        return Err(ServeFault::NotServed(NotServed::Event(index + 1)));
+    }
     Ok(plan)
+}
+
+/// The place of the first event that asks for a transfer, which the host does not make yet.
+fn first_transfer(events: &[Event]) -> Option<usize>
+    requires { length events.now ≤ 10000 }
+    ensures value { result ≡ position (λ e. is_transfer e.action) events.now }
+    ensures bound { IfSome result (λ i. i < 10000) }
+{
+    events.iter().position(|event| is_transfer(&event.action))
+}
+
+fn is_transfer(action: &Action) -> bool
+    ensures { result ≡ is_transfer action.now }
+{
+    match action {
+        Action::Plug(_, _) => false,
+        Action::Unplug(_) => false,
+        Action::Show => false,
+        Action::Send(_, _) => true,
+        Action::Receive(_, _) => true,
+        Action::Clear(_) => true,
+    }
 }
 
 fn serve_tree<W: Write>(

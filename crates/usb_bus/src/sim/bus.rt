@@ -11,7 +11,8 @@ ghost use Rattle.usb_bus.specs.declared.types.BusFault.TheVariants.{LimitReached
 use super::lines::put_attempt;
 use super::{SimBus, fault_of};
 use crate::exchange::{make_exchange, outcome_of};
-use crate::root::RootPort;
+use crate::root::{RootPort, is_shared};
+use crate::wire::damage_of;
 use crate::{Attempt, Bus, BusFault, Outcome};
 use std::io::Write;
 
@@ -61,7 +62,7 @@ impl<W: Write> Bus for SimBus<W> {
         set_at(&mut self.roots, usize::from(port) - 1, feature);
     }
 
-    #[tactic(auto, unfolding(crate::specs::World::port_at, crate::specs::Simulation::cleared_at))]
+    #[tactic(auto, using(crate::proofs::Wires::losses_cleared), unfolding(crate::specs::World::port_at, crate::specs::Simulation::cleared_at))]
     fn root_clear(&mut self, port: u8, feature: u16)
         requires port { IsRootPort (world_of self.old) port }
         requires named { IsClearFeature feature }
@@ -69,6 +70,7 @@ impl<W: Write> Bus for SimBus<W> {
         ensures exact { simulation_of self.new ≡ cleared_at port feature (simulation_of self.old) }
     {
         clear_at(&mut self.roots, usize::from(port) - 1, feature);
+        self.losses = self.losses.after_clearing(feature);
     }
 }
 
@@ -76,7 +78,7 @@ impl<W: Write> SimBus<W> {
     ghost use Rattle.usb_bus.specs.Sim.{world_of, writer_of, simulation_of};
 
     /// The events that are due, and then an attempt and its line.
-    #[tactic(auto, unfolding(crate::specs::Simulation::ready, crate::specs::Simulation::attempted, crate::specs::Simulation::outcome_in, crate::specs::Simulation::attempted_lines))]
+    #[tactic(auto, using(crate::proofs::Wires::losses_after), unfolding(crate::specs::Simulation::ready, crate::specs::Simulation::made_in, crate::specs::Simulation::with_attempt, crate::specs::Simulation::attempted, crate::specs::Simulation::outcome_in, crate::specs::Simulation::attempted_lines))]
     fn make_attempt(&mut self, attempt: &Attempt) -> Result<Outcome, BusFault>
         requires attempt { IsAttempt attempt.now }
         requires sound { (world_of self.old).fault ≡ None }
@@ -92,10 +94,17 @@ impl<W: Write> SimBus<W> {
         ensures trace { result ≡ Err TraceFailed → has_failed (writer_of self.new) ≡ true }
     {
         self.take_due_events()?;
-        let exchange = make_exchange(&mut self.roots, attempt)?;
+        self.shared |= is_shared(&self.roots);
+        let damage = damage_of(&self.damages, self.attempts + 1);
+        let exchange = make_exchange(&mut self.roots, attempt, damage)?;
         self.attempts += 1;
+        self.losses = self.losses.counted(exchange.address_lost);
         put_attempt(&mut self.writer, self.attempts, attempt.pre, &exchange)?;
-        Ok(outcome_of(exchange.heard, attempt.max))
+        Ok(outcome_of(
+            exchange.answer,
+            exchange.answer_mark,
+            attempt.max,
+        ))
     }
 }
 

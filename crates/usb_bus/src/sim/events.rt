@@ -1,17 +1,17 @@
 //! The events of a plan as they come.
-ghost use Rattle.std.specs.Prelude.{◌≡◌, ◌≢◌, ◌+◌, ◌-◌, ◌<◌, ◌≤◌, List, ℕ, [], ◌∷◌, ◌++◌, length, true, slice_index, OnOk, OnErr, IfErr, IsTrue, IsSome};
+ghost use Rattle.std.specs.Prelude.{◌≡◌, ◌≢◌, ◌+◌, ◌-◌, ◌<◌, ◌≤◌, List, ℕ, [], ◌∷◌, ◌++◌, length, true, slice_index, Ok, None, IfOk, OnOk, OnErr, IfErr, IsTrue, IsSome};
 ghost use Rattle.std.specs.Io.KnownBytes.{Appends};
 ghost use Rattle.usb_bus.specs.World.{Spends, changes};
 ghost use Rattle.usb_bus.specs.Steps.{TookEvent};
 ghost use Rattle.usb_bus.specs.PlanData.{is_root_path, can_be_done};
-ghost use Rattle.usb_bus.specs.Roots.{ports_of, root_of, plugged_at};
-ghost use Rattle.usb_bus.specs.Simulation.{done, action_line, next_event, next_line, has_due, due_from, due_lines};
-ghost use Rattle.usb_bus.specs.Trace.{plug_line};
+ghost use Rattle.usb_bus.specs.Roots.{ports_of, root_of, plugged_at, unplugged_at};
+ghost use Rattle.usb_bus.specs.Simulation.{done, action_line, next_event, next_line, next_due, has_due, due_from, due_lines};
+ghost use Rattle.usb_bus.specs.Trace.{plug_line, unplug_line};
 ghost use Rattle.usb_bus.specs.Watch.{inner_of, has_failed, AppendsFront};
 ghost use Rattle.usb_bus.specs.declared.types.BusFault.TheVariants.{LimitReached, Memory, TraceFailed};
 
 use super::{SimBus, fault_of};
-use crate::event::{Action, Event};
+use crate::event::{Action, Due};
 use crate::root::RootPort;
 use crate::watched::put_pieces;
 use crate::{BusFault, Watched, WriteFailed};
@@ -19,13 +19,6 @@ use std::alloc::{AllocError, Global};
 use std::io::Write;
 use usb_device::{Device, DeviceSpec};
 use usb_port::PortPath;
-
-/// What an event asks of the host.
-#[derive(Clone, Copy, Debug, PartialEq, Eq)]
-pub enum Due {
-    /// Nothing: a device was plugged.
-    Changed,
-}
 
 impl<W: Write> SimBus<W> {
     ghost use Rattle.usb_bus.specs.Sim.{world_of, writer_of, simulation_of};
@@ -37,6 +30,7 @@ impl<W: Write> SimBus<W> {
     /// come; `TraceFailed` where the writer failed in this call, and the event came.
     pub fn apply_next_event(&mut self) -> Result<Option<Due>, BusFault>
         ensures event { TookEvent (world_of self.old) result (world_of self.new) }
+        ensures asked { IfOk result (λ due. due ≡ next_due (simulation_of self.old)) }
         ensures exact { OnOk result (simulation_of self.new ≡ next_event (simulation_of self.old)) }
         ensures line { OnOk result (Appends (W.contents (inner_of (writer_of self.old))) (W.contents (inner_of (writer_of self.new))) (next_line (simulation_of self.old))) }
         ensures trace { result ≡ Err TraceFailed → (world_of self.old).fault ≡ None → has_failed (writer_of self.new) ≡ true }
@@ -47,15 +41,9 @@ impl<W: Write> SimBus<W> {
         if let Some(fault) = self.fault {
             return Err(fault);
         }
-        if self.events_left() == 0 {
-            return Ok(None);
-        }
         let result = self.take_event();
         self.fault = fault_of(&result);
-        match result {
-            Ok(()) => Ok(Some(Due::Changed)),
-            Err(fault) => Err(fault),
-        }
+        result
     }
 
     /// Lets the events come that are due.
@@ -68,36 +56,35 @@ impl<W: Write> SimBus<W> {
         ensures trace { result ≡ Err TraceFailed → has_failed (writer_of self.new) ≡ true }
     {
         'due: while self.is_due() {
-            self.take_event()?;
+            let _ = self.take_event()?;
         }
         Ok(())
     }
 
-    /// Whether the next event waits no longer: so many attempts were made since the former event.
+    /// Whether the next event comes by itself: it does not wait for the host, and so many attempts were made since
+    /// the former event.
     #[tactic(auto, unfolding(crate::specs::Simulation::has_due))]
     fn is_due(&self) -> bool
         ensures value { result ≡ has_due (simulation_of self.now) }
         ensures left { IsTrue result → 0 < (world_of self.now).left }
     {
-        match self.events_to_come().split_first() {
+        match self.left.front() {
             None => false,
-            Some((event, _)) => self.attempts - self.attempts_then >= event.after,
+            Some(event) => {
+                !event.action.waits() && self.attempts - self.attempts_then >= event.after
+            }
         }
     }
 
-    #[tactic(auto, using(std::proofs::lemmas::List::take_rest))]
-    fn events_to_come(&self) -> &[Event]
-        ensures list { result.now ≡ (simulation_of self.now).left }
-        ensures number { length result.now ≡ (world_of self.now).left }
-    {
-        &self.events.as_slice()[self.taken..]
-    }
-
-    fn take_event(&mut self) -> Result<(), BusFault>
-        requires { 0 < (world_of self.old).left }
+    /// The next event comes, if one is left.
+    #[tactic(auto, using(crate::proofs::Simulations::next_none, crate::proofs::Simulations::due_none, crate::proofs::Simulations::line_none))]
+    fn take_event(&mut self) -> Result<Option<Due>, BusFault>
         ensures spends { Spends 0 (world_of self.old) (world_of self.new) }
         ensures fault { (world_of self.new).fault ≡ (world_of self.old).fault }
-        ensures one { OnOk result ((world_of self.new).taken ≡ (world_of self.old).taken + 1) }
+        ensures none { result ≡ Ok None → ((world_of self.old).left ≡ 0) × (self.new ≡ self.old) }
+        ensures one { IfOk result (λ due. IsSome due → (world_of self.new).taken ≡ (world_of self.old).taken + 1) }
+        ensures fewer { 0 < (world_of self.old).left → OnOk result ((world_of self.new).left < (world_of self.old).left) }
+        ensures asked { IfOk result (λ due. due ≡ next_due (simulation_of self.old)) }
         ensures exact { OnOk result (simulation_of self.new ≡ next_event (simulation_of self.old)) }
         ensures line { OnOk result (Appends (W.contents (inner_of (writer_of self.old))) (W.contents (inner_of (writer_of self.new))) (next_line (simulation_of self.old))) }
         ensures kept { result ≡ Err Memory → (simulation_of self.new ≡ simulation_of self.old) × (writer_of self.new ≡ writer_of self.old) }
@@ -105,12 +92,15 @@ impl<W: Write> SimBus<W> {
         ensures other { IfErr result (λ f. f ≢ LimitReached) }
         ensures trace { result ≡ Err TraceFailed → has_failed (writer_of self.new) ≡ true }
     {
-        let event = &self.events.as_slice()[self.taken];
+        let Some(event) = self.left.front() else {
+            return Ok(None);
+        };
         carry_out(self.alloc, &mut self.roots, &self.devices, &event.action)?;
+        let event = self.left.pop_front().unwrap();
         self.taken += 1;
         self.attempts_then = self.attempts;
         put_action(&mut self.writer, &self.devices, &event.action)?;
-        Ok(())
+        Ok(Some(Due::from(event.action)))
     }
 }
 
@@ -128,9 +118,14 @@ fn carry_out(
     ensures grown { changes (ports_of roots.new) ≤ changes (ports_of roots.old) + 1 }
 {
     match action {
-        Action::Plug(path, device) => plug(alloc, roots, path, &devices[*device]),
-        _ => unreachable!(),
+        Action::Plug(path, device) => plug(alloc, roots, path, &devices[*device])?,
+        Action::Unplug(path) => unplug(roots, path),
+        Action::Show => {}
+        Action::Send(_, _) => {}
+        Action::Receive(_, _) => {}
+        Action::Clear(_) => {}
     }
+    Ok(())
 }
 
 /// The line of an event.
@@ -147,7 +142,11 @@ fn put_action<W: Write>(
 {
     match action {
         Action::Plug(path, device) => put_plug(writer, path, devices[*device].name()),
-        _ => unreachable!(),
+        Action::Unplug(path) => put_unplug(writer, path),
+        Action::Show => Ok(()),
+        Action::Send(_, _) => Ok(()),
+        Action::Receive(_, _) => Ok(()),
+        Action::Clear(_) => Ok(()),
     }
 }
 
@@ -168,6 +167,17 @@ fn plug(
     let device = Device::new(alloc, spec)?;
     roots[root_of(path)].plug(spec.is_low(), device);
     Ok(())
+}
+
+/// Unplugs what is at the root port.
+#[tactic(auto, unfolding(crate::specs::Roots::unplugged_at, crate::specs::Roots::without_device))]
+fn unplug(roots: &mut [RootPort], path: &PortPath)
+    requires { is_root_path (length roots.old) path.now ≡ true }
+    ensures exact { roots.new ≡ unplugged_at path.now roots.old }
+    ensures number { length (ports_of roots.new) ≡ length (ports_of roots.old) }
+    ensures grown { changes (ports_of roots.new) ≤ changes (ports_of roots.old) + 1 }
+{
+    roots[root_of(path)].unplug();
 }
 
 fn root_of(path: &PortPath) -> usize
@@ -196,5 +206,17 @@ fn put_plug<W: Write>(
             name.as_bytes(),
             b"\n",
         ],
+    )
+}
+
+/// The line of an unplug.
+fn put_unplug<W: Write>(writer: &mut Watched<W>, path: &PortPath) -> Result<(), WriteFailed>
+    ensures front { AppendsFront (W.contents (inner_of writer.old)) (W.contents (inner_of writer.new)) (unplug_line path.now ++ 10 ∷ []) }
+    ensures ok { OnOk result (Appends (W.contents (inner_of writer.old)) (W.contents (inner_of writer.new)) (unplug_line path.now ++ 10 ∷ [])) }
+    ensures marked { OnErr result (has_failed writer.new ≡ true) }
+{
+    put_pieces(
+        writer,
+        &[b"unplug ", path.text().as_str().as_bytes(), b"\n"],
     )
 }

@@ -27,7 +27,7 @@ const CONFIG: [u8; 18] = [
 const GET_DEVICE: [u8; 8] = [0x80, 6, 0, 1, 0, 0, 8, 0];
 
 /// A function with one configuration.
-fn function(alloc: Global) -> Result<DeviceSpec, AllocError> {
+pub(super) fn function(alloc: Global) -> Result<DeviceSpec, AllocError> {
     let mut configs = ConfigTexts::new(alloc);
     configs.push(Bytes::new(CONFIG.as_slice().to_vec(alloc)?))?;
     let name = Name::new(String::from_str(alloc, "fn")?);
@@ -59,7 +59,7 @@ fn plan_of_two(alloc: Global, after: u64) -> Result<Plan, AllocError>
     Ok(Plan::new(16, 2, devices, events, Damages::new(alloc)))
 }
 
-fn plug(port: u8, after: u64) -> Event
+pub(super) fn plug(port: u8, after: u64) -> Event
     requires { IsPortNumber port }
     ensures { result ≡ record { after = after; action = Plug (port ∷ []) 0 } }
 {
@@ -69,7 +69,7 @@ fn plug(port: u8, after: u64) -> Event
     }
 }
 
-fn setup(addr: u8, bytes: [u8; 8]) -> Attempt
+pub(super) fn setup(addr: u8, bytes: [u8; 8]) -> Attempt
     requires { addr < 128 }
     ensures { IsAttempt result }
 {
@@ -78,14 +78,14 @@ fn setup(addr: u8, bytes: [u8; 8]) -> Attempt
     attempt(TokenKind::SetupTok, addr, Some((Toggle::Zero, data)))
 }
 
-fn data_in(addr: u8) -> Attempt
+pub(super) fn data_in(addr: u8) -> Attempt
     requires { addr < 128 }
     ensures { IsAttempt result }
 {
     attempt(TokenKind::InTok, addr, None)
 }
 
-fn data_out(addr: u8) -> Attempt
+pub(super) fn data_out(addr: u8) -> Attempt
     requires { addr < 128 }
     ensures { IsAttempt result }
 {
@@ -113,7 +113,7 @@ fn attempt(kind: TokenKind, addr: u8, payload: Option<(Toggle, ArrayVec<u8, 64>)
 }
 
 /// An IN at low speed behind PRE, or at full speed, for at most 7 bytes.
-fn short_in(low: bool) -> Attempt
+pub(super) fn short_in(low: bool) -> Attempt
     ensures { IsAttempt result }
 {
     Attempt {
@@ -128,7 +128,7 @@ fn short_in(low: bool) -> Attempt
 }
 
 /// Gives power to a port and resets its device, and clears the changes.
-fn reset<W: Write>(bus: &mut SimBus<W>, port: u8) {
+pub(super) fn reset<W: Write>(bus: &mut SimBus<W>, port: u8) {
     set(bus, port, 8);
     clear(bus, port, 16);
     set(bus, port, 4);
@@ -208,10 +208,11 @@ fn a_function_is_enumerated(rt: HostRuntime) -> Result<(), Fail> {
     assert_eq!(rt; enumerate(&mut bus), Ok(()));
     assert_eq!(rt; bus.attempts(), 16);
     assert_eq!(rt; bus.events_taken(), 1);
-    assert_eq!(rt; bus.apply_next_event(), Ok(None));
-    assert_eq!(rt; bus.address_losses(), 0);
+    assert!(rt; matches!(bus.apply_next_event(), Ok(None)));
+    assert_eq!(rt; (bus.address_losses(), bus.worst_address_run()), (0, 0));
     let root = PortPath::root(1).unwrap();
     assert_eq!(rt; bus.registers(&root), Some((1, 1)));
+    assert_eq!(rt; bus.sink(&root), Some(&[][..]));
     assert_eq!(rt; status(&bus, 1), [3, 1, 0, 0]);
     assert_eq!(rt; bus.into_writer().into_inner().as_slice(), TRACE);
     Ok(())
@@ -266,7 +267,7 @@ fn the_limit_stays(rt: HostRuntime) -> Result<(), Fail> {
         assert!(rt; matches!(&ended, Err(BusFault::LimitReached)));
     }
     assert_eq!(rt; bus.put_line(b"end"), Err(BusFault::LimitReached));
-    assert_eq!(rt; bus.apply_next_event(), Err(BusFault::LimitReached));
+    assert!(rt; matches!(bus.apply_next_event(), Err(BusFault::LimitReached)));
     assert_eq!(rt; (bus.attempts(), bus.events_taken()), (1, 0));
     set(&mut bus, 1, 8);
     assert_eq!(rt; status(&bus, 1), [0, 1, 0, 0]);
@@ -312,8 +313,8 @@ fn answers_meet_on_the_bus(rt: HostRuntime) -> Result<(), Fail> {
     let Ok(mut bus) = SimBus::new(alloc, &plan, Watched::new(Vec::new(alloc))) else {
         return Ok(());
     };
-    assert_eq!(rt; bus.apply_next_event(), Ok(Some(Due::Changed)));
-    assert_eq!(rt; bus.apply_next_event(), Ok(Some(Due::Changed)));
+    assert!(rt; matches!(bus.apply_next_event(), Ok(Some(Due::Changed))));
+    assert!(rt; matches!(bus.apply_next_event(), Ok(Some(Due::Changed))));
     reset(&mut bus, 1);
     set(&mut bus, 2, 8);
     assert!(rt; matches!(bus.attempt(&setup(0, GET_DEVICE)), Ok(Outcome::Ack)));

@@ -1,29 +1,44 @@
-use Rattle.std.proofs.Common.{refl, arith}
+use Rattle.std.proofs.Common.{refl, arith, ◌∙◌, ap, Some}
+use Rattle.usb_bus.specs.declared.event.Event.{Event}
+use Rattle.usb_bus.specs.Simulation.{done, action_line, due_of}
 use Rattle.usb_bus.specs.Sim.{simulation_of}
-use Rattle.usb_bus.proofs.Simulations.{done_lent, events_split, came, line_next}
+use Rattle.usb_bus.proofs.Simulations.{done_lent, came, line_next, due_next, popped, front_is}
 use Rattle.usb_bus.proofs.sim.SimBus.take_event.Goals as goal
 
 pub returns-clause-exact : goal.returns-clause-exact
 returns-clause-exact g c =
     let s = c.args.self.now in
-    let e = c.index-as_slice-self.result in
-    let split = events_split s.events c.as_slice.result.now s.taken e c.as_slice.ensures.value (omega arith) c.index-as_slice-self.is in
-    let roots = done_lent s.roots c.deref_mut.result.now c.carry_out.new.roots c.deref.result.now s.devices.items e.action (omega arith)
+    let e = c.unwrap-event.result in
+    let f = c.in-Some.event.now in
+    let rest = c.pop_front.new.self.items in
+    let split = popped s.left.items rest c.pop_front.result e c.pop_front.ensures.items c.unwrap-event.ensures in
+    let same = front_is s.left.items rest e f split c.in-Some.ensures.lookup in
+    let roots = done_lent s.roots c.deref_mut.result.now c.carry_out.new.roots c.deref.result.now s.devices.items f.action (omega arith)
     c.in_ok-carry_out.ensures.ok c.deref.ensures.value c.deref_mut.ensures.value in
-    came (simulation_of s) _ e _ split roots refl refl refl refl
+    came (simulation_of s) e rest rest _ split refl (roots ∙ ap (λ (x : Event). done x.action s.devices.items s.roots.items) same)
 
 pub returns-in_err-put_action-clause-cut : goal.returns-in_err-put_action-clause-cut
 returns-in_err-put_action-clause-cut g c = λ _.
     let s = c.args.self.now in
-    let e = c.index-as_slice-self.result in
-    let split = events_split s.events c.as_slice.result.now s.taken e c.as_slice.ensures.value (omega arith) c.index-as_slice-self.is in
-    let roots = done_lent s.roots c.deref_mut.result.now c.carry_out.new.roots c.deref.result.now s.devices.items e.action (omega arith)
+    let e = c.unwrap-event.result in
+    let f = c.in-Some.event.now in
+    let rest = c.pop_front.new.self.items in
+    let split = popped s.left.items rest c.pop_front.result e c.pop_front.ensures.items c.unwrap-event.ensures in
+    let same = front_is s.left.items rest e f split c.in-Some.ensures.lookup in
+    let roots = done_lent s.roots c.deref_mut.result.now c.carry_out.new.roots c.deref.result.now s.devices.items f.action (omega arith)
     c.in_ok-carry_out.ensures.ok c.deref.ensures.value c.deref_mut.ensures.value in
-    came (simulation_of s) _ e _ split roots refl refl refl refl
+    came (simulation_of s) e rest rest _ split refl (roots ∙ ap (λ (x : Event). done x.action s.devices.items s.roots.items) same)
+
+pub returns-clause-asked : goal.returns-clause-asked
+returns-clause-asked g c =
+    let s = c.args.self.now in
+    let e = c.unwrap-event.result in
+    let split = popped s.left.items c.pop_front.new.self.items c.pop_front.result e c.pop_front.ensures.items c.unwrap-event.ensures in
+    ap Some c.from.ensures ∙ due_next (simulation_of s) e _ split
 
 pub returns-clause-line : goal.returns-clause-line
 returns-clause-line g c =
     let s = c.args.self.now in
-    let e = c.index-as_slice-self.result in
-    let split = events_split s.events c.as_slice.result.now s.taken e c.as_slice.ensures.value (omega arith) c.index-as_slice-self.is in
+    let e = c.unwrap-event.result in
+    let split = popped s.left.items c.pop_front.new.self.items c.pop_front.result e c.pop_front.ensures.items c.unwrap-event.ensures in
     rw (← line_next (simulation_of s) e _ split) (rw c.deref-2.ensures.value at c.in_ok-put_action.ensures.ok)
