@@ -4,8 +4,10 @@ use Rattle.usb_packet.specs.declared.Packet.{Packet}
 use Rattle.usb_packet.specs.declared.Packet.TheVariants.{Token, Ack, Sof, Nak, Stall, Pre}
 use Rattle.usb_packet.specs.declared.Packet.TheVariants as packet
 use Rattle.usb_device.specs.declared.answer.Answer.{Answer}
-use Rattle.usb_device.specs.Rows.{State, received, unread, forgotten, awaits_address}
-use Rattle.usb_device.specs.Received.{packet_of}
+use Rattle.usb_device.specs.Rows.{unread, awaits_address}
+use Rattle.usb_device.specs.Tree.{Plugged}
+use Rattle.usb_device.specs.Delivery.{forgotten_whole}
+use Rattle.usb_device.specs.Received.{packet_of, received_by}
 use Rattle.usb_bus.specs.declared.types.Attempt.{Attempt}
 use Rattle.usb_bus.specs.declared.types.Outcome.{Outcome}
 use Rattle.usb_bus.specs.declared.types.Outcome.TheVariants as outcome
@@ -70,11 +72,11 @@ heard_from None = Nothing
 heard_from (Some answer) = One (packet_of answer)
 
 -- a device gets a packet, or bytes that spell none
-unfoldable pub device_received : Option Packet → State → Heard × State
-device_received None d = (Nothing, unread d)
-device_received (Some p) d = (heard_from (received d p).0, (received d p).1)
+unfoldable pub device_received : Option Packet → Plugged → Heard × Plugged
+device_received None d = (Nothing, record d { own = unread d.own })
+device_received (Some p) d = (heard_from (received_by d p).0, (received_by d p).1)
 
-unfoldable pub place_received : Option Packet → Option State → Heard × Option State
+unfoldable pub place_received : Option Packet → Option Plugged → Heard × Option Plugged
 place_received p None = (Nothing, None)
 place_received p (Some d) = ((device_received p d).0, Some (device_received p d).1)
 
@@ -108,7 +110,7 @@ is_unread (Some s) = not (is_read s.mark)
 
 -- the device of a root port awaits the ACK at which it takes its address
 unfoldable pub root_awaits : RootPort → Bool
-root_awaits r = elim r.device [ None ↦ false | Some d ↦ awaits_address d ]
+root_awaits r = elim r.device [ None ↦ false | Some d ↦ awaits_address d.own ]
 
 unfoldable pub is_address_awaited : List RootPort → Bool
 is_address_awaited [] = false
@@ -116,7 +118,7 @@ is_address_awaited (r ∷ roots) = root_awaits r || is_address_awaited roots
 
 -- the attempt is over
 abbrev pub over : RootPort → RootPort
-over r = record r { device = option_map forgotten r.device }
+over r = record r { device = option_map forgotten_whole r.device }
 
 unfoldable pub ended : List RootPort → List RootPort
 ended roots = map over roots

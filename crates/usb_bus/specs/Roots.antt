@@ -2,7 +2,7 @@
 use Rattle.std.specs.Prelude.{ℕ, ◌-◌, false, ◌||◌, List, [], ◌∷◌, slice_index, slice_get, slice_set, map, option_map, unwrap_or, ◌==◌, Option, Some, None, Bool, ◌&&◌, not, if◌then◌else◌}
 use Rattle.usb_port.specs.PortState.{PortState, off, plugged, unplugged, set_row, clear_row, is_attached, is_low}
 use Rattle.usb_device.specs.Spec.{Spec}
-use Rattle.usb_device.specs.Rows.{State, fresh, reset_state}
+use Rattle.usb_device.specs.Tree.{Plugged, new_device, reset_whole}
 use Rattle.usb_bus.specs.declared.root.RootPort.{RootPort}
 
 abbrev pub ports_of : List RootPort → List PortState
@@ -29,7 +29,7 @@ root_of path = slice_index path 0 - 1
 
 -- a device is plugged at the port
 unfoldable pub with_device : Spec → RootPort → RootPort
-with_device spec r = record { port = plugged spec.low r.port; device = Some (fresh spec) }
+with_device spec r = record { port = plugged spec.low r.port; device = Some (new_device spec) }
 
 -- the device is unplugged
 unfoldable pub without_device : RootPort → RootPort
@@ -48,18 +48,18 @@ unfoldable pub unplugged_at : List ℕ → List RootPort → List RootPort
 unplugged_at path roots = at_root (root_of path) without_device roots
 
 -- the device at a root port
-abbrev pub place_at : List RootPort → ℕ → Option State
+abbrev pub place_at : List RootPort → ℕ → Option Plugged
 place_at roots i = elim (slice_get roots i) [ None ↦ None | Some r ↦ r.device ]
 
 -- a device's address and configuration
-abbrev pub registers_of : State → ℕ × ℕ
-registers_of d = (d.registers.address, d.registers.configuration)
+abbrev pub registers_of : Plugged → ℕ × ℕ
+registers_of d = (d.own.registers.address, d.own.registers.configuration)
 
 -- a feature of the port is set; PORT_RESET of a powered port resets its device
 unfoldable pub with_feature : ℕ → RootPort → RootPort
 with_feature feature r = record {
   port = unwrap_or (set_row feature r.port) r.port;
-  device = if feature == 4 && r.port.power then option_map reset_state r.device else r.device;
+  device = if feature == 4 && r.port.power then option_map reset_whole r.device else r.device;
 }
 
 unfoldable pub without_feature : ℕ → RootPort → RootPort
@@ -67,7 +67,7 @@ without_feature feature r = record r { port = unwrap_or (clear_row feature r.por
 
 -- the address of the device at a root port, where it is reachable
 unfoldable pub held_address : RootPort → Option ℕ
-held_address r = elim r.device [ None ↦ None | Some d ↦ if is_reachable r.port then Some d.registers.address else None ]
+held_address r = elim r.device [ None ↦ None | Some d ↦ if is_reachable r.port then Some d.own.registers.address else None ]
 
 unfoldable pub holds : RootPort → ℕ → Bool
 holds r address = elim (held_address r) [ None ↦ false | Some held ↦ held == address ]

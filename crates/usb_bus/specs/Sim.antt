@@ -1,6 +1,6 @@
 -- The world that a simulated bus stands for, and its writer.
 use Rattle.std.specs.Prelude.{ℕ, List, length, ◌==◌, if◌then◌else◌, Option, None}
-use Rattle.usb_device.specs.Rows.{State}
+use Rattle.usb_device.specs.Tree.{Plugged}
 use Rattle.usb_bus.specs.declared.watched.Watched.{Watched}
 use Rattle.usb_bus.specs.declared.sim.SimBus.{SimBus}
 use Rattle.usb_bus.specs.World.{World}
@@ -35,5 +35,5 @@ simulation_of s = record {
 }
 
 -- the device at a path
-abbrev pub device_at : {W : Type 0} → SimBus W → List ℕ → Option State
+abbrev pub device_at : {W : Type 0} → SimBus W → List ℕ → Option Plugged
 device_at s path = if length path == 1 then place_at s.roots.items (root_of path) else None

@@ -3,7 +3,7 @@ ghost use Rattle.std.specs.Prelude.{◌≡◌, ◌-◌, ◌<◌, length, slice_s
 ghost use Rattle.usb_port.specs.PortState.{PortState, plugged, unplugged, set_row, clear_row, status_of};
 ghost use Rattle.usb_packet.specs.declared.Packet.{Packet};
 ghost use Rattle.usb_bus.specs.Wire.{Reads};
-ghost use Rattle.usb_device.specs.Rows.{reset_state};
+ghost use Rattle.usb_device.specs.Tree.{reset_whole};
 ghost use Rattle.usb_bus.specs.Roots.{vacant, reaches, is_reachable, without_device, held_address, holds, is_held, is_shared, with_feature, without_feature};
 ghost use Rattle.usb_bus.specs.Exchange.{device_received, place_received, root_received, root_awaits, over};
 
@@ -183,7 +183,7 @@ fn receive_by(device: &mut Device, bytes: &[u8]) -> Result<Heard, AllocError>
 }
 
 fn reset(place: &mut Option<Device>)
-    ensures { place.new ≡ option_map reset_state place.old }
+    ensures { place.new ≡ option_map reset_whole place.old }
 {
     if let Some(device) = place {
         device.reset();

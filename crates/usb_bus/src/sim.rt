@@ -162,7 +162,7 @@ impl<W: Write> SimBus<W> {
 
     /// All bytes that the bulk OUT endpoint of the device at the path has taken since its plug; None where none is there.
     pub fn sink(&self, path: &PortPath) -> Option<&[u8]>
-        ensures { option_map (λ s. s.now) result ≡ option_map (λ d. d.sink) (device_at self.now path.now) }
+        ensures { option_map (λ s. s.now) result ≡ option_map (λ d. d.own.sink) (device_at self.now path.now) }
     {
         match self.device(path) {
             None => None,

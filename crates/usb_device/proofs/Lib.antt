@@ -8,3 +8,4 @@ pub mod Placing
 pub mod Delivering
 pub mod Betweens
 pub mod Nodes
+pub mod Views

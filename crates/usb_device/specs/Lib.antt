@@ -14,3 +14,4 @@ pub mod Code
 pub mod Received
 pub mod Attempt
 pub mod Kept
+pub mod View

@@ -1,6 +1,7 @@
 -- A tree of devices, seen place by place: what stands at a path is told by the place at its first number.
 use Rattle.std.specs.Prelude.{ℕ, zero, suc, ◌==◌, ◌&&◌, if◌then◌else◌, Bool, true, false, List, [], ◌∷◌, Option, None, Some}
-use Rattle.usb_port.specs.PortState.{PortState, powered_off}
+use Rattle.std.specs.Option.{option_map}
+use Rattle.usb_port.specs.PortState.{PortState, powered_off, unplugged}
 use Rattle.usb_device.specs.declared.effect.Effect.{Effect}
 use Rattle.usb_device.specs.declared.effect.Effect.TheVariants.{Leaves, Calls, PortsOff}
 use Rattle.usb_device.specs.Rows.{State, forgotten}
@@ -16,6 +17,11 @@ abbrev pub port_there : Ports → List ℕ → Option PortState
 port_there k [] = None
 port_there k (zero ∷ p) = None
 port_there k (suc i ∷ p) = port_at k i p
+
+-- what a place shows; nothing where there is none
+abbrev pub seen : {A : Type 0} → A → (Place → List ℕ → A) → Option Place → List ℕ → A
+seen nothing view None p = nothing
+seen nothing view (Some q) p = view q p
 
 -- the state of the device at a place, or of one below it where the path goes on
 abbrev pub state_in : Place → List ℕ → Option State
@@ -38,6 +44,15 @@ reach_in (full b s a) (n ∷ p) = b.enable && reach a (n ∷ p)
 abbrev pub off_place : Place → Place
 off_place (empty b) = empty (powered_off b)
 off_place (full b s a) = full (powered_off b) s a
+
+-- a place whose device is unplugged, where there is one
+abbrev pub left_place : Place → Place
+left_place (empty b) = empty b
+left_place (full b s a) = empty (unplugged b)
+
+-- a change of the place of one number
+abbrev pub at_number : Bool → (Place → Place) → Option Place → Option Place
+at_number this change o = if this then option_map change o else o
 
 -- a place between attempts
 abbrev pub forgotten_place : Place → Place

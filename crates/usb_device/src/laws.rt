@@ -1,5 +1,5 @@
 //! Laws of a device's answers, for those who send it packets.
-ghost use Rattle.std.specs.Prelude.{◌≡◌, ◌<◌, ◌≤◌, ◌+◌, ◌==◌, ◌&&◌, ℕ, nat_lt, List, length, take, true, false, None, Some, is_some};
+ghost use Rattle.std.specs.Prelude.{◌≡◌, ◌<◌, ◌≤◌, ◌+◌, ◌==◌, ◌&&◌, ℕ, suc, nat_lt, Bool, List, [], length, take, true, false, None, Some, is_some, option_map};
 ghost use Rattle.usb_device.specs.Transfer.{packet_at, joined};
 ghost use Rattle.usb_packet.specs.declared.Packet.{Packet};
 ghost use Rattle.usb_packet.specs.declared.Packet.TheVariants.{Token};
@@ -8,6 +8,12 @@ ghost use Rattle.usb_packet.specs.declared.Toggle.{Toggle};
 ghost use Rattle.usb_port.specs.PortState.{PortState};
 ghost use Rattle.usb_device.specs.Rows.{State, received, unread, forgotten};
 ghost use Rattle.usb_device.specs.Kept.{Keeps};
+ghost use Rattle.usb_device.specs.declared.delivery.Sent.{Sent};
+ghost use Rattle.usb_device.specs.Effect.{asks};
+ghost use Rattle.usb_device.specs.Tree.{Ports as TreePorts, Plugged, put, place_at, state_at, port_at, reach_at, reset_whole, with_child, without_child};
+ghost use Rattle.usb_device.specs.Delivery.{after_packet, delivered_place, forgotten_whole};
+ghost use Rattle.usb_device.specs.Received.{after_receiving};
+ghost use Rattle.usb_device.specs.View.{seen, state_in, port_in, reach_in, off_place, left_place, forgotten_place, asked_place, at_number};
 ghost use Rattle.usb_device.specs.Attempt.{Way, setup_attempt, setup_law, out_attempt, out_law, in_attempt, in_law, is_own};
 
 /// A whole attempt with a device that remembers nothing, each packet of it coming or not.
@@ -45,4 +51,27 @@ pub fn answer_laws()
     ensures fits { (max wanted : ℕ) (answer bytes : List ℕ) (k : ℕ) → packet_at max wanted answer k ≡ Some bytes → length bytes ≤ max }
     // After a packet comes another exactly where it is full and the host wants more.
     ensures further { (max wanted : ℕ) (answer bytes : List ℕ) (k : ℕ) → 0 < max → packet_at max wanted answer k ≡ Some bytes → is_some (packet_at max wanted answer (k + 1)) ≡ (length bytes == max && nat_lt (length (joined max wanted answer (k + 1))) wanted) }
+{}
+
+/// What stands at a path of a tree of devices is told by the place at its first number, counted from 0.
+#[tactic(auto, using(crate::proofs::Views::seen_laws))]
+pub fn view_laws()
+    // The state of the device there.
+    ensures state { (k : TreePorts) (i : ℕ) (p : List ℕ) → state_at k i p ≡ seen None state_in (place_at k i []) p }
+    // The port there.
+    ensures port { (k : TreePorts) (i : ℕ) (p : List ℕ) → port_at k i p ≡ seen None port_in (place_at k i []) p }
+    // Whether packets reach the device there.
+    ensures way { (k : TreePorts) (i : ℕ) (p : List ℕ) → reach_at k i p ≡ seen false reach_in (place_at k i []) p }
+{}
+
+/// What each call leaves at each place of a device, counted from 0. The device itself is told by the call's own contract.
+#[tactic(auto, using(crate::proofs::Views::placed))]
+pub fn place_laws()
+    ensures receive { (t : Plugged) (p : Packet) (i : ℕ) → place_at (after_receiving t p).ports i [] ≡ option_map (asked_place (asks t.own p) i) (place_at t.ports i []) }
+    ensures reset { (t : Plugged) (i : ℕ) → place_at (reset_whole t).ports i [] ≡ option_map off_place (place_at t.ports i []) }
+    ensures plug_child { (t c : Plugged) (i j : ℕ) → place_at (with_child t (suc j) c).ports i [] ≡ at_number (i == j) (put (Some c)) (place_at t.ports i []) }
+    ensures unplug_child { (t : Plugged) (i j : ℕ) → place_at (without_child t (suc j)).ports i [] ≡ at_number (i == j) left_place (place_at t.ports i []) }
+    ensures attempt_over { (t : Plugged) (i : ℕ) → place_at (forgotten_whole t).ports i [] ≡ option_map forgotten_place (place_at t.ports i []) }
+    // A packet that goes down the tree.
+    ensures deliver { (q : Sent) (deep : Bool) (k : TreePorts) (i : ℕ) → place_at (after_packet q deep k) i [] ≡ option_map (λ p. (delivered_place q deep p).1) (place_at k i []) }
 {}
