@@ -8,4 +8,5 @@ pub mod Placing
 pub mod Delivering
 pub mod Betweens
 pub mod Nodes
+pub mod Marking
 pub mod Views

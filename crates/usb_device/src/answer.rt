@@ -17,14 +17,17 @@ pub enum Answer {
     },
 }
 
-fn packet(answer: Answer) -> Packet
-    ensures { result ≡ packet_of answer }
-{
-    match answer {
-        Answer::Ack => Packet::Ack,
-        Answer::Nak => Packet::Nak,
-        Answer::Stall => Packet::Stall,
-        Answer::Data { toggle, bytes } => Packet::Payload { toggle, bytes },
+impl Answer {
+    /// The packet itself.
+    pub fn into_packet(self) -> Packet
+        ensures { result ≡ packet_of self }
+    {
+        match self {
+            Answer::Ack => Packet::Ack,
+            Answer::Nak => Packet::Nak,
+            Answer::Stall => Packet::Stall,
+            Answer::Data { toggle, bytes } => Packet::Payload { toggle, bytes },
+        }
     }
 }
 
@@ -32,5 +35,5 @@ fn packet(answer: Answer) -> Packet
 pub fn spelled(answer: Option<Answer>) -> Option<ArrayVec<u8, 67>>
     ensures { Answers result answer }
 {
-    Some(encode(&packet(answer?)))
+    Some(encode(&answer?.into_packet()))
 }

@@ -153,6 +153,13 @@ impl Device {
         }
     }
 
+    /// How many ports it has.
+    pub fn port_count(&self) -> usize
+        ensures { result ≡ length (row_of self.now.ports) }
+    {
+        self.ports.count()
+    }
+
     /// The device on a port, by its number, counted from 1; None where nothing is.
     pub fn child(&self, port: u8) -> Option<&Device>
         ensures { option_copied result ≡ child_of self.now port }

@@ -15,6 +15,7 @@ mod lists;
 mod own;
 mod ports;
 mod request;
+mod shared;
 mod spec;
 mod transfer;
 

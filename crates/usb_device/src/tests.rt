@@ -1,3 +1,4 @@
 mod attempts;
 mod bulk;
 mod described;
+mod hubs;

@@ -39,7 +39,7 @@ fn payload(toggle: Toggle, data: &[u8]) -> Packet
 }
 
 /// The bytes of what the host sends.
-fn sent(host: &Host) -> ArrayVec<u8, 67> {
+pub(super) fn sent(host: &Host) -> ArrayVec<u8, 67> {
     match host {
         Host::Setup(addr) => encode(&token(TokenKind::SetupTok, *addr, 0)),
         Host::In(addr) => encode(&token(TokenKind::InTok, *addr, 0)),

@@ -1,0 +1,67 @@
+//! Whether two devices hold one address.
+ghost use Rattle.std.specs.Prelude.{◌≡◌, ◌<◌, length, All};
+ghost use Rattle.usb_device.specs.Places.{ports_in};
+ghost use Rattle.usb_device.specs.Delivery.{held, held_in, is_twice};
+ghost use Rattle.usb_device.specs.Marks.{meets, marked};
+
+use crate::ports::{Place, Ports};
+
+impl Ports {
+    /// Whether two of the devices that packets reach hold one address.
+    #[tactic(auto, using(crate::proofs::Marking::twice))]
+    pub fn has_shared_address(&self) -> bool
+        ensures { result ≡ is_twice (held self.now) }
+    {
+        let mut seen = [false; 256];
+        self.mark(&mut seen)
+    }
+
+    /// Marks the addresses of the devices that packets reach, and tells whether one was marked before.
+    #[cycle(marking)]
+    fn mark(&self, seen: &mut [bool]) -> bool
+        requires { length seen.old ≡ 256 }
+        ensures met { result ≡ meets (held self.now) seen.old }
+        ensures marks { seen.new ≡ marked (held self.now) seen.old }
+        ensures bytes { All (λ address. address < 256) (held self.now) }
+    {
+        mark_all(self.places.as_slice(), seen)
+    }
+}
+
+#[cycle(marking)]
+#[tactic(auto, using(crate::proofs::Marking::marking))]
+fn mark_all(places: &[Place], seen: &mut [bool]) -> bool
+    requires { length seen.old ≡ 256 }
+    ensures met { result ≡ meets (held (ports_in places.now)) seen.old }
+    ensures marks { seen.new ≡ marked (held (ports_in places.now)) seen.old }
+    ensures bytes { All (λ address. address < 256) (held (ports_in places.now)) }
+{
+    match places.split_first() {
+        None => false,
+        Some((place, rest)) => {
+            let here = mark_at(place, seen);
+            let further = mark_all(rest, seen);
+            here || further
+        }
+    }
+}
+
+#[cycle(marking)]
+#[tactic(auto, using(crate::proofs::Marking::marking))]
+fn mark_at(place: &Place, seen: &mut [bool]) -> bool
+    requires { length seen.old ≡ 256 }
+    ensures met { result ≡ meets (held_in place.now.port place.now.device) seen.old }
+    ensures marks { seen.new ≡ marked (held_in place.now.port place.now.device) seen.old }
+    ensures bytes { All (λ address. address < 256) (held_in place.now.port place.now.device) }
+{
+    match &place.device {
+        Some(device) if place.port.is_enabled() => {
+            let address = usize::from(device.address());
+            let here = seen[address];
+            seen[address] = true;
+            let below = device.ports.mark(seen);
+            here || below
+        }
+        _ => false,
+    }
+}
