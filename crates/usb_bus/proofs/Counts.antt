@@ -68,7 +68,7 @@ unfolding port_at
 writes_change port p w is e = omega (arith, e, changes-set w.ports (port - 1) p (omega (arith, is.0, is.1)))
 
 change_of-reset : (p : PortState) → change_of (unwrap_or (set_row 4 p) p) ≤ change_of p
-unfolding change_of
+unfolding change_of set_row
 change_of-reset p = elim (p.power && is_attached p.attached) as (λ b. change_of (if b then record p { enable = true; reset_changed = true } else p) ≤ change_of p) [ true ↦ omega arith | false ↦ omega arith ]
 
 -- a row of the port table leaves the bit as it was or clears it
@@ -83,7 +83,7 @@ cleared_le : (p : PortState) → 0 ≤ change_of p
 cleared_le p = omega arith
 
 change_of-clear : (feature : ℕ) (p : PortState) → Leaves p (clear_row feature p)
-unfolding Leaves change_of
+unfolding Leaves change_of clear_row
 change_of-clear feature p =
     leaves_if p (feature == 1) _ _ (omega arith)
     (leaves_if p (feature == 8) _ _ (cleared_le p)
@@ -109,7 +109,7 @@ one_change p set = rw set refl
 
 -- clearing a set C_PORT_CONNECTION
 pub clears_change : (port : ℕ) (old new : World) → IsRootPort old port → (port_at old port).connection_changed ≡ true → ClearsRoot port 16 old new → changes new.ports + new.left + 1 ≡ changes old.ports + old.left
-unfolding cleared
+unfolding cleared clear_row
 clears_change port old new is set c =
     subst (λ w. changes w.ports + w.left + 1 ≡ changes old.ports + old.left) (sym c.row)
     (joined (writes_change port (cleared (port_at old port)) old is (one_change (port_at old port) set)))

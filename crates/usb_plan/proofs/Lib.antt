@@ -3,3 +3,4 @@ mod Steps
 mod Parts
 mod Growth
 mod Totals
+mod Places

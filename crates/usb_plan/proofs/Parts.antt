@@ -14,7 +14,7 @@ use Rattle.usb_bus.specs.declared.event.Action.TheVariants.{Plug, Unplug, Show, 
 use Rattle.usb_bus.specs.declared.damage.Damage.{Damage}
 use Rattle.usb_bus.specs.declared.damage.Harm.{Harm}
 use Rattle.usb_bus.specs.declared.damage.Harm.TheVariants.{Lose, LosePre, Flip}
-use Rattle.usb_bus.specs.Plugged.{Plugged, plugged, is_rooted, has_port}
+use Rattle.usb_bus.specs.Plugged.{Plugged, is_rooted, has_port}
 use Rattle.usb_plan.specs.declared.verb.Verb.{Verb}
 use Rattle.usb_plan.specs.declared.verb.Verb.TheVariants as verb
 use Rattle.usb_plan.specs.declared.damage.Way.{Way}

@@ -8,6 +8,7 @@ pub mod Quirks
 pub mod Bulk
 pub mod Device
 pub mod Path
+pub mod Tree
 pub mod Verb
 pub mod Action
 pub mod Event

@@ -28,6 +28,7 @@ impl Tree {
     ghost use Rattle.std.specs.Prelude.{◌≡◌, [], OnOk, is_some};
     ghost use Rattle.usb_bus.specs.Plugged.{device_at, unplugged, plugged_after, has_port, parent_has};
     ghost use Rattle.usb_bus.specs.PlanData.{is_taken};
+    ghost use Rattle.usb_plan.specs.Tree.{first_through};
 
     /// Nothing is plugged.
     pub(crate) fn new(alloc: Global) -> Self
@@ -70,12 +71,26 @@ impl Tree {
             && (path.numbers().len() == 1 || self.parent_has(devices, path.parent(), path.port()))
     }
 
-    /// Unplugs the device at the path and all below it.
-    #[tactic(auto, unfolding(usb_bus::specs::Plugged::unplugged))]
+    /// The first place at the path or below it. They stand together, from the path on.
+    fn first_through(&self, path: &PortPath) -> Option<PortPath>
+        ensures { result ≡ first_through path.now self.now }
+    {
+        let (place, _) = self.places.range(path.duplicate()..).next()?;
+        if goes_through(place, path) {
+            Some(place.duplicate())
+        } else {
+            None
+        }
+    }
+
+    /// Unplugs the device at the path and all below it, in time of what is unplugged.
+    #[tactic(auto, using(crate::proofs::Places::none_unplugged, crate::proofs::Places::one_unplugged, crate::proofs::Places::one_there))]
     fn unplug(&mut self, path: &PortPath)
         ensures { self.new ≡ unplugged path.now self.old }
     {
-        self.places.retain(|place, _| !goes_through(place, path));
+        'places: while let Some(place) = self.first_through(path) {
+            self.places.remove(&place);
+        }
     }
 
     /// Has the action change what is plugged. An error: memory is refused.

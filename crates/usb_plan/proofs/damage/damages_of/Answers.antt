@@ -1,7 +1,6 @@
-use Rattle.std.proofs.Common.{◌≡◌, ◌+◌, ◌∙◌, sym, [], length, arith}
+use Rattle.std.proofs.Common.{◌≡◌, ◌+◌, ◌∙◌, sym, length, arith}
 use Rattle.toml.specs.Data.{as_table}
 use Rattle.toml.specs.View.{view}
-use Rattle.usb_bus.specs.PlanData.{damages_fit}
 use Rattle.usb_plan.specs.Damage.{damage_in, last_from}
 use Rattle.usb_plan.proofs.Parts.{damage_in_ok, placed_ok}
 use Rattle.usb_plan.proofs.Growth.{damages_from-step, damages_from-fault, damages_from-end, damages_fit-push, last_from-push}
