@@ -1,3 +1,8 @@
+mod cuts;
+mod entries;
+mod long;
+mod unplugging;
+
 use super::*;
 use std::test::*;
 use usb_bus::{Action, Harm, served};
