@@ -104,7 +104,7 @@ fn each_packet_is_damaged(rt: HostRuntime) -> Result<(), Fail> {
             bus.attempt(&data_in(0))?,
             bus.attempt(&data_out(0))?,
         ];
-        let read = match outcomes.get(attempt as usize - 1) {
+        let read = match outcomes.get((attempt as usize).saturating_sub(1)) {
             Some(outcome) => !matches!(outcome, Outcome::Nothing),
             None => false,
         };
