@@ -1,7 +1,6 @@
 //! Packets on their way, and what damage does to them.
 ghost use Rattle.std.specs.Prelude.{◌≡◌, ◌*◌, ◌<◌, length, true, IfSome};
-ghost use Rattle.usb_packet.specs.Spelling.{HasFields, Spells, flipped};
-ghost use Rattle.usb_packet.specs.declared.Packet.{Packet as APacket};
+ghost use Rattle.usb_packet.specs.Spelling.{HasFields, flipped};
 ghost use Rattle.usb_bus.specs.Wire.{damage_of, harm_to, bit_count, mark_of, is_read, has_its_bit, marked, marked_some};
 
 use crate::damage::{Damage, Harm};

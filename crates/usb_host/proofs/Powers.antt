@@ -1,7 +1,7 @@
 -- The root ports get power one by one.
 use Rattle.std.proofs.Common.{◌≡◌, ◌∙◌, refl, ap, arith, suc, zero}
 use Rattle.std.specs.Prelude.{ℕ, ◌-◌, ◌<◌, ◌≤◌, List, [], ◌∷◌, length, map, slice_set, slice_index_or}
-use Rattle.usb_port.specs.PortState.{PortState, off, powered_on}
+use Rattle.usb_port.specs.PortState.{PortState, off, powered_on, set_row}
 use Rattle.usb_bus.specs.World.{World, SetsRoot, port_at, with_port}
 
 -- the first so many ports have power
@@ -38,7 +38,7 @@ unfolding powered_upto
 powered_none w = refl
 
 pub powers_one : (w0 w v : World) (port : ℕ) → 1 ≤ port → port ≤ length w0.ports → w ≡ powered_world (port - 1) w0 → SetsRoot port 8 w v → v ≡ powered_world port w0
-unfolding port_at
+unfolding port_at set_row
 powers_one w0 w v port least most e s =
     let k : ℕ = port - 1 in
     let next : suc k ≡ port = omega (arith, least) in

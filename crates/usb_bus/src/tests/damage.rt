@@ -1,9 +1,8 @@
 //! Damaged packets, and the events that wait for the host.
-ghost use Rattle.std.specs.Prelude.{◌≡◌, [], ◌∷◌, true, length, IfOk};
+ghost use Rattle.std.specs.Prelude.{◌≡◌, [], ◌∷◌, true};
 ghost use Rattle.usb_bus.specs.PlanData.{harm_fits, damage_fits};
-ghost use Rattle.usb_bus.specs.Sim.{world_of};
 
-use super::sim::{data_in, data_out, function, plug, reset, setup, short_in};
+use super::sim::{data_in, data_out, function, plug, reset, set, setup, short_in};
 use crate::{
     Action, Bus, Damage, Damages, Due, Event, Events, Harm, Outcome, Plan, SentBytes, SimBus,
     Watched, served,
@@ -105,7 +104,7 @@ fn each_packet_is_damaged(rt: HostRuntime) -> Result<(), Fail> {
             bus.attempt(&data_in(0))?,
             bus.attempt(&data_out(0))?,
         ];
-        let read = match outcomes.get(attempt as usize - 1) {
+        let read = match outcomes.get((attempt as usize).saturating_sub(1)) {
             Some(outcome) => !matches!(outcome, Outcome::Nothing),
             None => false,
         };
@@ -147,25 +146,25 @@ fn lost_addresses_are_counted(rt: HostRuntime) -> Result<(), Fail> {
 fn events_wait_for_the_host(rt: HostRuntime) -> Result<(), Fail> {
     let alloc = rt.alloc();
     let mut bus = waiting(alloc)?;
-    bus.root_set(1, 8);
+    set(&mut bus, 1, 8);
     for _ in 0..2 {
         bus.attempt(&data_in(0))?;
     }
     assert_eq!(rt; bus.events_taken(), 1);
-    assert!(rt; matches!(bus.apply_next_event(), Ok(Some(Due::Show))));
-    let Some(Due::Send(_, bytes)) = bus.apply_next_event()? else {
-        return Err(Fail::new("no bytes to send"));
-    };
-    assert_eq!(rt; bytes.as_slice(), &[1, 2][..]);
-    assert!(rt; matches!(bus.apply_next_event(), Ok(Some(Due::Receive(_, 3)))));
-    let Some(Due::Clear(path)) = bus.apply_next_event()? else {
-        return Err(Fail::new("no halt to clear"));
-    };
-    assert_eq!(rt; path.numbers(), &[1][..]);
+    assert!(rt; matches!(next_due(&mut bus)?, Due::Show));
+    match next_due(&mut bus)? {
+        Due::Send(_, bytes) => assert_eq!(rt; bytes.as_slice(), [1u8, 2].as_slice()),
+        _ => return Err(Fail::new("bytes are sent")),
+    }
+    assert!(rt; matches!(next_due(&mut bus)?, Due::Receive(_, 3)));
+    match next_due(&mut bus)? {
+        Due::Clear(path) => assert_eq!(rt; path.numbers(), [1u8].as_slice()),
+        _ => return Err(Fail::new("halts are cleared")),
+    }
     bus.attempt(&data_in(0))?;
     assert_eq!(rt; bus.events_taken(), 6);
-    assert_eq!(rt; bus.registers(&path), None);
-    assert_eq!(rt; bus.sink(&path), None);
+    assert_eq!(rt; bus.registers(&root()), None);
+    assert!(rt; bus.sink(&root()).is_none());
     let lines = b"plug 1 fn
 1 IN 0.0 / none
 2 IN 0.0 / none
@@ -177,9 +176,7 @@ unplug 1
 }
 
 /// A function is plugged; the host lists, sends, receives and clears; the function is unplugged.
-fn waiting(alloc: Global) -> Result<SimBus<Vec<u8>>, Fail>
-    ensures { IfOk result (λ bus. length (world_of bus).ports ≡ 1) }
-{
+fn waiting(alloc: Global) -> Result<SimBus<Vec<u8>>, Fail> {
     let mut devices = Devices::new(alloc);
     devices.push(function(alloc)?)?;
     let bytes = SentBytes::new([1, 2].as_slice().to_vec(alloc)?);
@@ -195,6 +192,14 @@ fn waiting(alloc: Global) -> Result<SimBus<Vec<u8>>, Fail>
     match SimBus::new(alloc, &plan, Watched::new(Vec::new(alloc))) {
         Ok(bus) => Ok(bus),
         Err((error, _writer)) => Err(Fail::from(error)),
+    }
+}
+
+fn next_due(bus: &mut SimBus<Vec<u8>>) -> Result<Due, Fail>
+{
+    match bus.apply_next_event()? {
+        Some(due) => Ok(due),
+        None => Err(Fail::new("an event is left")),
     }
 }
 

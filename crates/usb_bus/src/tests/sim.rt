@@ -135,7 +135,7 @@ pub(super) fn reset<W: Write>(bus: &mut SimBus<W>, port: u8) {
     clear(bus, port, 20);
 }
 
-fn set<W: Write>(bus: &mut SimBus<W>, port: u8, feature: u16) {
+pub(super) fn set<W: Write>(bus: &mut SimBus<W>, port: u8, feature: u16) {
     if port >= 1 && port <= bus.root_ports() && (feature == 4 || feature == 8) {
         bus.root_set(port, feature);
     }

@@ -116,7 +116,9 @@ fn an_address_is_taken_at_the_ack(rt: HostRuntime) -> Result<(), Fail> {
         (Host::In(0), "DATA1 -"),
     ];
     assert!(rt; passes(&mut device, &steps)?);
+    assert!(rt; device.awaits_address());
     device.attempt_over();
+    assert!(rt; !device.awaits_address());
     assert!(rt; passes(&mut device, &[(Host::Ack, "none")])?);
     assert_eq!(rt; device.address(), 0);
     let steps = [(Host::In(0), "DATA1 -"), (Host::Ack, "none")];

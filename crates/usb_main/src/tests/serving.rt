@@ -1,19 +1,70 @@
 //! What `serve` writes of a plan.
+use super::damage::DAMAGED;
 use super::devices::DEVICES;
-use super::rows::ROWS;
+use super::events::EVENTS;
+use super::losses::LOSSES;
+use super::rows::{ROWS, Row};
+use crate::runs::run;
 use crate::serving::{Mode, serve};
 use std::alloc::Global;
 use std::test::Fail;
 use usb_bus::Watched;
+use usb_plan::read_plan;
+
+/// The first plan of which not just what is wanted is written and told, in either mode.
+fn differing(alloc: Global, rows: &[Row]) -> Result<Option<&'static str>, Fail> {
+    for row in rows {
+        let (text, fault) = served(alloc, Mode::Run, row.plan)?;
+        if text.as_slice() != row.run.as_bytes() || fault.as_str() != row.fault {
+            return Ok(Some(row.plan));
+        }
+        let (text, _fault) = served(alloc, Mode::Tree, row.plan)?;
+        if text.as_slice() != row.tree.as_bytes() {
+            return Ok(Some(row.plan));
+        }
+    }
+    Ok(None)
+}
 
 #[test]
 fn devices_are_run_and_listed(rt: HostRuntime) -> Result<(), Fail> {
-    for row in &DEVICES {
-        let (text, fault) = served(rt.alloc(), Mode::Run, row.plan)?;
-        assert_eq!(rt; text.as_slice(), row.run.as_bytes(), "{}", row.plan);
-        assert_eq!(rt; fault.as_str(), row.fault, "{}", row.plan);
-        let (text, _fault) = served(rt.alloc(), Mode::Tree, row.plan)?;
-        assert_eq!(rt; text.as_slice(), row.tree.as_bytes(), "{}", row.plan);
+    assert_eq!(rt; differing(rt.alloc(), &DEVICES)?, None);
+    Ok(())
+}
+
+#[test]
+fn unplugs_and_listings_are_run(rt: HostRuntime) -> Result<(), Fail> {
+    assert_eq!(rt; differing(rt.alloc(), &EVENTS)?, None);
+    Ok(())
+}
+
+#[test]
+fn damaged_packets_are_sent_again(rt: HostRuntime) -> Result<(), Fail> {
+    assert_eq!(rt; differing(rt.alloc(), &DAMAGED)?, None);
+    Ok(())
+}
+
+#[test]
+fn lost_handshakes_are_mended(rt: HostRuntime) -> Result<(), Fail> {
+    assert_eq!(rt; differing(rt.alloc(), &LOSSES)?, None);
+    Ok(())
+}
+
+/// How many attempts, listings and address losses there are, and how many of these in the worst enumeration.
+#[test]
+fn a_report_counts_the_losses(rt: HostRuntime) -> Result<(), Fail> {
+    let counts = [(24, 1), (32, 2), (24, 3)];
+    for (row, (attempts, losses)) in LOSSES.iter().zip(counts) {
+        let plan = match read_plan(rt.alloc(), row.plan) {
+            Ok(plan) => plan,
+            Err(fault) => return Err(Fail::from(fault)),
+        };
+        usb_bus::served(&plan)?;
+        let report = run(rt.alloc(), &plan)?;
+        assert_eq!(rt; report.items.len(), 1);
+        assert_eq!(rt; report.attempts, attempts);
+        assert_eq!(rt; report.address_losses, losses);
+        assert_eq!(rt; u64::from(report.worst_address_run), losses);
     }
     Ok(())
 }
