@@ -1,1 +1,4 @@
 pub mod Control
+pub mod End
+pub mod Interrupt
+pub mod Bulk

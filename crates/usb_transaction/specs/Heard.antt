@@ -1,11 +1,11 @@
 -- What an outcome means to a host that waits for it.
-use Rattle.std.specs.Prelude.{Bool, true, false, if◌then◌else◌, []}
+use Rattle.std.specs.Prelude.{Bool, true, false, if◌then◌else◌, [], Option, Some, None, Result, Ok, Err}
 use Rattle.usb_packet.specs.declared.Toggle.{Toggle}
 use Rattle.usb_packet.specs.declared.Toggle.TheVariants.{Zero, One}
 use Rattle.usb_bus.specs.declared.types.Outcome.{Outcome}
 use Rattle.usb_bus.specs.declared.types.Outcome.TheVariants.{Payload, Ack, Nak, Stall, Nothing}
 use Rattle.usb_transaction.specs.declared.heard.Heard.{Heard}
-use Rattle.usb_transaction.specs.declared.heard.Heard.TheVariants.{Moved, Wait, Refused, Lost}
+use Rattle.usb_transaction.specs.declared.heard.Heard.TheVariants.{Moved, NotReady, Repeat, Refused, Lost}
 
 abbrev pub flip : Toggle → Toggle
 flip Zero = One
@@ -19,9 +19,9 @@ same_toggle One One = true
 
 -- to a host that awaits a packet of a toggle
 abbrev pub heard_as : Toggle → Outcome → Heard
-heard_as awaited (Payload given bytes) = if same_toggle awaited given then Moved bytes else Wait
+heard_as awaited (Payload given bytes) = if same_toggle awaited given then Moved bytes else Repeat
 heard_as awaited Ack = Lost
-heard_as awaited Nak = Wait
+heard_as awaited Nak = NotReady
 heard_as awaited Stall = Refused
 heard_as awaited Nothing = Lost
 
@@ -29,7 +29,7 @@ heard_as awaited Nothing = Lost
 abbrev pub sent_as : Outcome → Heard
 sent_as (Payload given bytes) = Lost
 sent_as Ack = Moved (record { items = [] })
-sent_as Nak = Wait
+sent_as Nak = NotReady
 sent_as Stall = Refused
 sent_as Nothing = Lost
 
@@ -39,3 +39,9 @@ acks Ack = true
 acks Nak = false
 acks Stall = false
 acks Nothing = false
+
+-- the toggle after a poll: it changes where a packet came
+abbrev pub toggle_after : {A E : Type 0} → Toggle → Result (Option A) E → Toggle
+toggle_after toggle (Ok (Some packet)) = flip toggle
+toggle_after toggle (Ok None) = toggle
+toggle_after toggle (Err fault) = toggle

@@ -36,7 +36,7 @@ pub record Worked (n : ℕ) (old new : World) : Type 0 where
   pub still : new.fault ≡ None
 
 -- how few attempts can have come before each answer
-abbrev pub Ends : World → Result (List ℕ) TransFault → World → Type 0
+abbrev pub Ends : {A : Type 0} → World → Result A TransFault → World → Type 0
 Ends old (Ok done) new = Worked 1 old new
 Ends old (Err Stalled) new = Worked 1 old new
 Ends old (Err Busy) new = Worked 256 old new

@@ -44,4 +44,12 @@ impl Done {
     {
         self.bytes.as_slice()
     }
+
+    /// The data as a packet.
+    pub fn into_packet(self) -> ArrayVec<u8, 64>
+        ensures { result.items ≡ self }
+    {
+        let Done { bytes } = self;
+        bytes
+    }
 }

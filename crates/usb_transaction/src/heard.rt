@@ -11,8 +11,10 @@ use usb_packet::Toggle;
 pub(crate) enum Heard {
     /// The packet that was awaited, or the acknowledgement of the one sent (then no bytes).
     Moved(ArrayVec<u8, 64>),
-    /// A NAK or a repeat: it is asked again, and no error is counted.
-    Wait,
+    /// A NAK: the endpoint has nothing to give, or no room.
+    NotReady,
+    /// A packet that was taken before: it is discarded.
+    Repeat,
     /// STALL.
     Refused,
     /// No good answer: an error.
@@ -28,10 +30,10 @@ pub(crate) fn judged(awaited: Toggle, outcome: Outcome) -> Heard
             if is_same(awaited, given) {
                 Heard::Moved(bytes)
             } else {
-                Heard::Wait
+                Heard::Repeat
             }
         }
-        Outcome::Nak => Heard::Wait,
+        Outcome::Nak => Heard::NotReady,
         Outcome::Stall => Heard::Refused,
         Outcome::Ack => Heard::Lost,
         Outcome::Nothing => Heard::Lost,
@@ -44,7 +46,7 @@ pub(crate) fn judged_sent(outcome: &Outcome) -> Heard
 {
     match outcome {
         Outcome::Ack => Heard::Moved(ArrayVec::new()),
-        Outcome::Nak => Heard::Wait,
+        Outcome::Nak => Heard::NotReady,
         Outcome::Stall => Heard::Refused,
         Outcome::Payload(_, _) => Heard::Lost,
         Outcome::Nothing => Heard::Lost,

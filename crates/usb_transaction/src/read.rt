@@ -43,7 +43,7 @@ pub fn data_in<B: Bus>(
                     *toggle = flipped(*toggle);
                     return Ok(Done::data(bytes));
                 }
-                Heard::Wait => tries.wait()?,
+                Heard::NotReady | Heard::Repeat => tries.wait()?,
                 Heard::Refused => return Err(TransFault::Stalled),
                 Heard::Lost => tries.error()?,
             },

@@ -221,6 +221,41 @@ fn naks_and_repeats_together_are_busy(rt: HostRuntime) -> Result<(), Fail> {
 }
 
 #[test]
+fn a_nak_answers_a_poll(rt: HostRuntime) -> Result<(), Fail> {
+    let answers = [
+        Outcome::Nak,
+        Outcome::Nothing,
+        Outcome::Nothing,
+        data(Toggle::Zero, &[1]),
+        Outcome::Nothing,
+        Outcome::Ack,
+        data(Toggle::One, &[2]),
+        Outcome::Stall,
+        Outcome::Nothing,
+        Outcome::Nothing,
+        data(Toggle::Zero, &[1, 2, 3, 4, 5, 6, 7, 8, 9]),
+    ];
+    let mut bus = Script::new(rt.alloc(), answers)?;
+    let mut toggle = Toggle::One;
+    assert!(rt; poll_in(&mut bus, TARGET, 1, &mut toggle)?.is_none());
+    assert_eq!(rt; toggle, Toggle::One);
+    let done = poll_in(&mut bus, TARGET, 1, &mut toggle)?.ok_or("no packet")?;
+    let packet = done.into_packet();
+    assert_eq!(rt; packet.as_slice(), [2].as_slice());
+    assert_eq!(rt; toggle, Toggle::Zero);
+    assert_eq!(rt;
+        poll_in(&mut bus, TARGET, 1, &mut toggle).err(),
+        Some(TransFault::Stalled)
+    );
+    assert_eq!(rt;
+        poll_in(&mut bus, TARGET, 1, &mut toggle).err(),
+        Some(TransFault::NoAnswer)
+    );
+    assert_eq!(rt; toggle, Toggle::Zero);
+    Ok(())
+}
+
+#[test]
 fn faults_as_printed(rt: HostRuntime) -> Result<(), Fail> {
     let rows = [
         (TransFault::Stalled, "stalled"),

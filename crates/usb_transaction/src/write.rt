@@ -45,7 +45,7 @@ pub fn data_out<B: Bus>(
                     *toggle = flipped(*toggle);
                     return Ok(Done::nothing());
                 }
-                Heard::Wait => tries.wait()?,
+                Heard::NotReady | Heard::Repeat => tries.wait()?,
                 Heard::Refused => return Err(TransFault::Stalled),
                 Heard::Lost => tries.error()?,
             },

@@ -1,0 +1,8 @@
+use Rattle.std.proofs.Common.{◌≡◌, ◌*◌, length}
+use Rattle.usb_pipe.proofs.Moves.{Moved}
+use Rattle.usb_pipe.proofs.packets.receive_packets.Given as goal
+
+abbrev pub invariant-packets : goal.invariant-packets
+invariant-packets g l =
+    (length l.bytes.items ≡ l._taken * l.fn.target.max)
+    × Moved l._taken l.initial.toggle l.toggle (g.B.Bus.world l.initial.bus) (g.B.Bus.world l.bus)

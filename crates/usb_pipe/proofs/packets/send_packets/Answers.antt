@@ -1,0 +1,49 @@
+use Rattle.std.proofs.Common.{◌≡◌, ◌≢◌, ◌∙◌, sym, subst, Bool, nat_eq, ℕ, ◌<◌, ◌+◌, ◌-◌, length, arith, true, false}
+use Rattle.std.proofs.lemmas.Bool.{eqb-true, eqb-false}
+use Rattle.std.specs.Prelude.{min}
+use Rattle.std.specs.Int.{div_ceil}
+use Rattle.usb_pipe.proofs.Moves.{Moved, moved_none, moved_more, moved_worked, packets_one, packets_none, packets_some}
+use Rattle.usb_packet.specs.declared.Toggle.{Toggle}
+use Rattle.usb_bus.specs.World.{World}
+use Rattle.usb_pipe.proofs.packets.send_packets.Goals as goal
+
+pub packets-init : goal.packets-init
+packets-init g c =
+    let none : div_ceil (length c.args.bytes.now) c.args.target.max - div_ceil (length c.args.bytes.now) c.args.target.max ≡ 0 = omega arith in
+    (omega arith, rw none (moved_none _ _))
+
+nonzero : (n : ℕ) (b : Bool) → b ≡ nat_eq n 0 → b ≡ false → 0 < n
+nonzero n b is e = let no : n ≢ 0 = eqb-false n 0 (sym is ∙ e) in omega arith
+
+zero_is : (n : ℕ) (b : Bool) → b ≡ nat_eq n 0 → b ≡ true → n ≡ 0
+zero_is n b is e = eqb-true n 0 (sym is ∙ e)
+
+pub packets-smaller : goal.packets-smaller
+packets-smaller g c =
+    let some : 0 < length c.packets.rest.now = nonzero _ _ c.is_empty.ensures c.packets-test.true in
+    omega (arith, some, c.split_at.ensures.front_len, c.split_at.ensures.back_len, c.min.ensures, c.from.ensures, c.requires.target.max_least)
+
+pub packets-preserved : goal.packets-preserved
+packets-preserved g c =
+    let some : 0 < length c.packets.rest.now = nonzero _ _ c.is_empty.ensures c.packets-test.true in
+    let size : length c.split_at.result.0.now ≡ min (length c.packets.rest.now) c.args.target.max = omega (arith, c.split_at.ensures.front_len, c.min.ensures, c.from.ensures) in
+    let parts : length c.packets.rest.now ≡ length c.split_at.result.0.now + length c.split_at.result.1.now = omega (arith, c.split_at.ensures.front_len, c.split_at.ensures.back_len, c.min.ensures) in
+    let one = packets_one _ _ _ _ c.requires.target.max_least some size parts in (
+      omega (arith, one, c.packets.invariant.0),
+      moved_more _ _ _ _ _ (omega (arith, one, c.packets.invariant.0)) c.packets.invariant.1 c.data_out.ensures.count c.in_ok-data_out.ensures.ends c.in_ok-data_out.ensures.toggle_ok,
+    )
+
+-- all are sent
+all_sent : (total left : ℕ) (first toggle : Toggle) (old now : World) → left ≡ 0 → Moved (total - left) first toggle old now → Moved total first toggle old now
+all_sent total left first toggle old now none t = subst (λ n. Moved n first toggle old now) (omega arith) t
+
+pub returns-clause-count : goal.returns-clause-count
+returns-clause-count g c = (all_sent _ _ _ _ _ _ (packets_none _ c.args.target.max (zero_is _ _ c.is_empty.ensures c.packets-test.false)) c.packets.invariant.1).spends
+
+pub returns-clause-ends : goal.returns-clause-ends
+returns-clause-ends g c =
+    moved_worked _ _ (packets_some _ _ c.requires.target.max_least c.requires.some) (omega arith)
+    (all_sent _ _ _ _ _ _ (packets_none _ c.args.target.max (zero_is _ _ c.is_empty.ensures c.packets-test.false)) c.packets.invariant.1)
+
+pub returns-clause-toggle : goal.returns-clause-toggle
+returns-clause-toggle g c = (all_sent _ _ _ _ _ _ (packets_none _ c.args.target.max (zero_is _ _ c.is_empty.ensures c.packets-test.false)) c.packets.invariant.1).turned

@@ -1,0 +1,112 @@
+-- Bulk pipes.
+use Rattle.std.specs.Prelude.{◌≡◌, ◌≢◌, ℕ, zero, suc, ◌+◌, ◌*◌, ◌/◌, ◌≤◌, min, List, [], length, Bool, true, false, if◌then◌else◌, Result, Ok, Err, OnOk, IfOk, MatchResult}
+use Rattle.std.specs.Global.{Vec}
+use Rattle.std.specs.Int.{div_ceil}
+use Rattle.usb_packet.specs.declared.Toggle.{Toggle}
+use Rattle.usb_packet.specs.declared.Toggle.TheVariants.{Zero}
+use Rattle.usb_bus.specs.World.{World}
+use Rattle.usb_transaction.specs.declared.target.Target.{Target}
+use Rattle.usb_transaction.specs.Heard.{flip}
+use Rattle.usb_transaction.specs.Trans.{Worked}
+use Rattle.usb_pipe.specs.declared.condition.Condition.{Condition}
+use Rattle.usb_pipe.specs.declared.condition.Condition.TheVariants.{Ready, Halted, Broken}
+use Rattle.usb_pipe.specs.declared.fault.PipeFault.{PipeFault}
+use Rattle.usb_pipe.specs.declared.fault.PipeFault.TheVariants.{Stalled, Busy, NoAnswer, Bus, Memory}
+use Rattle.usb_pipe.specs.declared.fault.PipeFault.TheVariants as fault
+use Rattle.usb_pipe.specs.Control.{Faults}
+
+pub record Bulk : Type 0 where
+  pub target : Target  -- with the maximum of endpoint 0
+  pub ep : ℕ
+  pub max : ℕ
+  pub is_in : Bool
+  pub toggle : Toggle  -- of the next packet
+  pub condition : Condition
+
+abbrev pub is_broken : Condition → Bool
+is_broken Ready = false
+is_broken Halted = false
+is_broken Broken = true
+
+-- the address of an endpoint: IN 2 is 82 hex
+abbrev pub halt_address : ℕ → Bool → ℕ
+halt_address ep is_in = if is_in then 128 + ep else ep
+
+-- the condition that a transfer leaves
+abbrev pub after_fault : Condition → PipeFault → Condition
+after_fault before Stalled = Halted
+after_fault before Busy = Broken
+after_fault before NoAnswer = Broken
+after_fault before fault.Broken = before
+after_fault before (Bus why) = before
+after_fault before Memory = Broken
+
+abbrev pub after_transfer : {A : Type 0} → Condition → Result A PipeFault → Condition
+after_transfer before (Ok moved) = Ready
+after_transfer before (Err why) = after_fault before why
+
+-- the condition that a clear leaves where it fails: a stalled one changes nothing
+abbrev pub after_failed_clear : Condition → PipeFault → Condition
+after_failed_clear before Stalled = before
+after_failed_clear before Busy = Broken
+after_failed_clear before NoAnswer = Broken
+after_failed_clear before fault.Broken = before
+after_failed_clear before (Bus why) = before
+after_failed_clear before Memory = Broken
+
+-- the toggle behind n packets
+unfoldable pub flips : ℕ → Toggle → Toggle
+flips zero toggle = toggle
+flips (suc n) toggle = flip (flips n toggle)
+
+-- in how many packets so many bytes came, where at most `wanted` were taken and a short one was the last
+abbrev pub packets_of : ℕ → ℕ → ℕ → ℕ
+packets_of bytes max wanted = min wanted (bytes / max + 1)
+
+-- a call that makes no attempt: the answer is given, and nothing changes
+pub record Idle {A : Type 0} (given : Result A PipeFault) (pipe : Bulk) (old : World) (result : Result A PipeFault) (left : Bulk) (new : World) : Type 0 where
+  pub answer : result ≡ given
+  pub pipe_kept : left ≡ pipe
+  pub world_kept : new ≡ old
+
+-- n packets were sent
+pub record Sent (n : ℕ) (pipe : Bulk) (old : World) (result : Result (Unit {0}) PipeFault) (left : Bulk) (new : World) : Type 0 where
+  pub ends : MatchResult result (λ _. Worked n old new) (λ why. Faults 0 old why new)
+  pub room : result ≢ Err Memory
+  pub pipe_left : left ≡ record pipe { toggle = left.toggle; condition = after_transfer pipe.condition result }
+  pub toggle : OnOk result (left.toggle ≡ flips n pipe.toggle)
+
+-- what sending answers and leaves
+pub record Sends (bytes : List ℕ) (pipe : Bulk) (old : World) (result : Result (Unit {0}) PipeFault) (left : Bulk) (new : World) : Type 0 where
+  pub broken : pipe.condition ≡ Broken → Idle (Err fault.Broken) pipe old result left new
+  pub nothing : pipe.condition ≢ Broken → bytes ≡ [] → Idle (Ok tt) pipe old result left new
+  pub moved : pipe.condition ≢ Broken → bytes ≢ [] → Sent (div_ceil (length bytes) pipe.max) pipe old result left new
+
+-- at most `wanted` packets were received
+pub record Received (wanted : ℕ) (pipe : Bulk) (old : World) (result : Result (Vec ℕ) PipeFault) (left : Bulk) (new : World) : Type 0 where
+  pub ends : MatchResult result (λ bytes. Worked (packets_of (length bytes.items) pipe.max wanted) old new) (λ why. Faults 0 old why new)
+  pub most : IfOk result (λ bytes. length bytes.items ≤ wanted * pipe.max)
+  pub pipe_left : left ≡ record pipe { toggle = left.toggle; condition = after_transfer pipe.condition result }
+  pub toggle : IfOk result (λ bytes. left.toggle ≡ flips (packets_of (length bytes.items) pipe.max wanted) pipe.toggle)
+
+-- what receiving answers and leaves
+pub record Receives (wanted : ℕ) (pipe : Bulk) (old : World) (result : Result (Vec ℕ) PipeFault) (left : Bulk) (new : World) : Type 0 where
+  pub broken : pipe.condition ≡ Broken → (result ≡ Err fault.Broken) × (left ≡ pipe) × (new ≡ old)
+  pub nothing : pipe.condition ≢ Broken → wanted ≡ 0 → IfOk result (λ bytes. bytes.items ≡ []) × (left ≡ pipe) × (new ≡ old)
+  pub moved : pipe.condition ≢ Broken → wanted ≢ 0 → Received wanted pipe old result left new
+
+-- what a clear leaves of a pipe
+abbrev pub cleared : Bulk → Result (Unit {0}) PipeFault → Bulk
+cleared pipe (Ok done) = record pipe { toggle = Zero; condition = Ready }
+cleared pipe (Err why) = record pipe { condition = after_failed_clear pipe.condition why }
+
+-- CLEAR_FEATURE(ENDPOINT_HALT) was sent
+pub record Cleared (pipe : Bulk) (old : World) (result : Result (Unit {0}) PipeFault) (left : Bulk) (new : World) : Type 0 where
+  pub ends : MatchResult result (λ _. Worked 2 old new) (λ why. Faults 1 old why new)
+  pub room : result ≢ Err Memory
+  pub pipe_left : left ≡ cleared pipe result
+
+-- what clearing answers and leaves
+pub record Clears (pipe : Bulk) (old : World) (result : Result (Unit {0}) PipeFault) (left : Bulk) (new : World) : Type 0 where
+  pub ready : pipe.condition ≡ Ready → Idle (Ok tt) pipe old result left new
+  pub sent : pipe.condition ≢ Ready → Cleared pipe old result left new

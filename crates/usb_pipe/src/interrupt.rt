@@ -1,0 +1,71 @@
+//! Interrupt pipes (5.7).
+
+use crate::PipeFault;
+use arrayvec::ArrayVec;
+use std::marker::Model;
+use usb_packet::Toggle;
+use usb_transaction::{Bus, Target, poll_in};
+
+/// A pipe to one interrupt endpoint of a device, which it asks for data.
+///
+/// It is made after the device was configured, before the endpoint gave a packet, and is the only
+/// pipe to it.
+#[derive(Debug, Drop)]
+pub struct InterruptPipe {
+    target: Target,
+    ep: u8,
+    toggle: Toggle,
+}
+
+impl Model for InterruptPipe {
+    ghost use Rattle.usb_pipe.specs.Interrupt.{Interrupt};
+    ghost use Rattle.usb_pipe.specs.End.{IsEnd};
+
+    ghost Value = { Interrupt };
+
+    ghost view = { λ p. record { target = p.target; ep = p.ep; toggle = p.toggle } };
+
+    ghost invariant = { λ p. IsEnd p.target p.ep p.target.max };
+}
+
+impl InterruptPipe {
+    ghost use Rattle.std.specs.Prelude.{◌≡◌, ◌<◌, ◌≤◌};
+    ghost use Rattle.usb_packet.specs.declared.Toggle.TheVariants.{Zero};
+    ghost use Rattle.usb_bus.specs.World.{Spends};
+    ghost use Rattle.usb_transaction.specs.Trans.{IsTarget};
+    ghost use Rattle.usb_pipe.specs.Interrupt.{Interrupt, Polls};
+    ghost use Rattle.usb_pipe.specs.End.{packet_target};
+
+    /// A pipe to an endpoint, 1 to 15, with its maximum packet, 1 to 64 bytes.
+    pub fn new(target: Target, ep: u8, max: u8) -> Self
+        requires target { IsTarget target }
+        requires endpoint { ep < 16 }
+        requires least { 1 ≤ max }
+        requires most { max ≤ 64 }
+        ensures { result ≡ record { target = packet_target target max; ep = ep; toggle = Zero } }
+    {
+        InterruptPipe {
+            target: Target { max, ..target },
+            ep,
+            toggle: Toggle::Zero,
+        }
+    }
+
+    /// Asks once whether there are data: the packet, or None where the endpoint has nothing.
+    ///
+    /// It asks again after an error, and after a repeat, which is discarded.
+    ///
+    /// # Errors
+    ///
+    /// `Stalled` at STALL, `Busy` at the 256th repeat, `NoAnswer` after three errors running, `Bus`
+    /// where the bus makes no more steps. It never answers `Broken` or `Memory`.
+    pub fn poll<B: Bus>(&mut self, bus: &mut B) -> Result<Option<ArrayVec<u8, 64>>, PipeFault>
+        ensures count { Spends 768 (B.world bus.old) (B.world bus.new) }
+        ensures polls { Polls self.old (B.world bus.old) result self.new (B.world bus.new) }
+    {
+        let mut toggle = self.toggle;
+        let polled = poll_in(bus, self.target, self.ep, &mut toggle);
+        self.toggle = toggle;
+        Ok(polled?.map(|done| done.into_packet()))
+    }
+}

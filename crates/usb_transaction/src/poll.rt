@@ -1,0 +1,53 @@
+//! IN, where NAK is an answer.
+ghost use Rattle.std.specs.Prelude.{◌≡◌, ◌≤◌, ◌<◌, length, IfOk, IfSome};
+ghost use Rattle.usb_bus.specs.World.{Spends};
+ghost use Rattle.usb_transaction.specs.Heard.{toggle_after};
+ghost use Rattle.usb_transaction.specs.Trans.{IsTarget, Ends};
+
+use crate::attempt::attempt_of_in;
+use crate::heard::{Heard, flipped, judged};
+use crate::tries::Tries;
+use crate::{Done, Target, TransFault};
+use usb_bus::Bus;
+use usb_packet::Toggle;
+
+/// Asks an endpoint, 0 to 15, whether it has a data packet (5.7, 8.5.4): None at NAK.
+///
+/// It asks again after an error or a packet of the other toggle, which is a repeat and discarded.
+/// The toggle changes exactly where a packet came.
+///
+/// # Errors
+///
+/// `Stalled` at STALL, `Busy` at the 256th repeat, `NoAnswer` after three errors running, `Bus`
+/// where the bus makes no more steps.
+pub fn poll_in<B: Bus>(
+    bus: &mut B,
+    target: Target,
+    ep: u8,
+    toggle: &mut Toggle,
+) -> Result<Option<Done>, TransFault>
+    requires target { IsTarget target }
+    requires endpoint { ep < 16 }
+    ensures count { Spends 768 (B.world bus.old) (B.world bus.new) }
+    ensures ends { Ends (B.world bus.old) result (B.world bus.new) }
+    ensures short { IfOk result (λ got. IfSome got (λ done. length done ≤ target.max)) }
+    ensures toggle { toggle.new ≡ toggle_after toggle.old result }
+{
+    let attempt = attempt_of_in(target, ep);
+    let mut tries = Tries::new();
+    'tries: loop {
+        match bus.attempt(&attempt) {
+            Ok(outcome) => match judged(*toggle, outcome) {
+                Heard::Moved(bytes) => {
+                    *toggle = flipped(*toggle);
+                    return Ok(Some(Done::data(bytes)));
+                }
+                Heard::NotReady => return Ok(None),
+                Heard::Repeat => tries.wait()?,
+                Heard::Refused => return Err(TransFault::Stalled),
+                Heard::Lost => tries.error()?,
+            },
+            Err(fault) => return Err(TransFault::Bus(fault)),
+        }
+    }
+}
