@@ -92,7 +92,7 @@ pub record Received (wanted : ℕ) (pipe : Bulk) (old : World) (result : Result 
 -- what receiving answers and leaves
 pub record Receives (wanted : ℕ) (pipe : Bulk) (old : World) (result : Result (Vec ℕ) PipeFault) (left : Bulk) (new : World) : Type 0 where
   pub broken : pipe.condition ≡ Broken → (result ≡ Err fault.Broken) × (left ≡ pipe) × (new ≡ old)
-  pub nothing : pipe.condition ≢ Broken → wanted ≡ 0 → IfOk result (λ bytes. bytes.items ≡ []) × (left ≡ pipe) × (new ≡ old)
+  pub nothing : pipe.condition ≢ Broken → wanted ≡ 0 → MatchResult result (λ bytes. bytes.items ≡ []) (λ _. ⊥) × (left ≡ pipe) × (new ≡ old)
   pub moved : pipe.condition ≢ Broken → wanted ≢ 0 → Received wanted pipe old result left new
 
 -- what a clear leaves of a pipe
