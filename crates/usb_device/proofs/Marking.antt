@@ -1,12 +1,12 @@
 -- Marks tell which addresses stand twice.
-use Rattle.std.proofs.Common.{◌≡◌, ◌<◌, ℕ, zero, suc, ◌==◌, ◌||◌, if◌then◌else◌, Bool, true, false, List, [], ◌∷◌, ◌++◌, Option, None, Some, length, All, replicate, slice_set, slice_index_or, refl, ap, sym, ◌∙◌, arith}
+use Rattle.std.proofs.Common.{◌≡◌, ◌<◌, ℕ, zero, suc, ◌==◌, ◌||◌, if◌then◌else◌, Bool, true, false, List, [], ◌∷◌, ◌++◌, Option, None, Some, length, replicate, slice_set, slice_index_or, refl, ap, sym, ◌∙◌, arith}
 use Rattle.std.proofs.lemmas.Bool.Decides.{nat_tests}
 use Rattle.usb_port.specs.PortState.{PortState}
 use Rattle.usb_device.specs.declared.ports.Place.{Place as Kept}
 use Rattle.usb_device.specs.Tree.{Ports, Plugged, before}
 use Rattle.usb_device.specs.Places.{standing, ports_in}
 use Rattle.usb_device.specs.Delivery.{held, held_in, has, is_twice}
-use Rattle.usb_device.specs.Marks.{meets, marked}
+use Rattle.usb_device.specs.Marks.{meets, marked, AreBytes}
 
 -- ---- marks along a list
 
@@ -49,9 +49,6 @@ met-before b d k m = ap (λ xs. meets xs m) (held-before b d k) ∙ meets-append
 
 pub marked-before : (b : PortState) (d : Option Plugged) (k : Ports) (m : List Bool) → marked (held (before (standing b d) k)) m ≡ marked (held k) (marked (held_in b d) m)
 marked-before b d k m = ap (λ xs. marked xs m) (held-before b d k) ∙ marked-append (held_in b d) (held k) m
-
-abbrev pub AreBytes : List ℕ → Type 0
-AreBytes = All (λ address. address < 256)
 
 all_append : (xs ys : List ℕ) → AreBytes xs → AreBytes ys → AreBytes (xs ++ ys)
 all_append [] ys h g = g
@@ -138,7 +135,7 @@ share-none : (xs : List ℕ) → share xs [] ≡ false
 share-none [] = refl
 share-none (x ∷ xs) = share-none xs
 
-length-none : (k : ℕ) → length (replicate k false) ≡ k
+pub length-none : (k : ℕ) → length (replicate k false) ≡ k
 length-none zero = refl
 length-none (suc k) = ap suc (length-none k)
 

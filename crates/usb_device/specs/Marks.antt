@@ -1,5 +1,5 @@
 -- Numbers that are met twice, told by marks: mark n says that n was met before.
-use Rattle.std.specs.Prelude.{ℕ, ◌||◌, Bool, true, false, List, [], ◌∷◌, slice_set, slice_index_or}
+use Rattle.std.specs.Prelude.{ℕ, ◌<◌, ◌||◌, Bool, true, false, List, [], ◌∷◌, slice_set, slice_index_or, ⊤}
 
 abbrev pub meets : List ℕ → List Bool → Bool
 meets [] marks = false
@@ -8,3 +8,8 @@ meets (n ∷ ns) marks = slice_index_or marks n false || meets ns (slice_set mar
 abbrev pub marked : List ℕ → List Bool → List Bool
 marked [] marks = marks
 marked (n ∷ ns) marks = marked ns (slice_set marks n true)
+
+-- each number is a byte
+abbrev pub AreBytes : List ℕ → Type 0
+AreBytes [] = ⊤
+AreBytes (n ∷ ns) = (n < 256) × AreBytes ns

@@ -1,8 +1,8 @@
 //! Whether two devices hold one address.
-ghost use Rattle.std.specs.Prelude.{◌≡◌, ◌<◌, length, All};
+ghost use Rattle.std.specs.Prelude.{◌≡◌, length};
 ghost use Rattle.usb_device.specs.Places.{ports_in};
 ghost use Rattle.usb_device.specs.Delivery.{held, held_in, is_twice};
-ghost use Rattle.usb_device.specs.Marks.{meets, marked};
+ghost use Rattle.usb_device.specs.Marks.{meets, marked, AreBytes};
 
 use crate::ports::{Place, Ports};
 
@@ -22,7 +22,7 @@ impl Ports {
         requires { length seen.old ≡ 256 }
         ensures met { result ≡ meets (held self.now) seen.old }
         ensures marks { seen.new ≡ marked (held self.now) seen.old }
-        ensures bytes { All (λ address. address < 256) (held self.now) }
+        ensures bytes { AreBytes (held self.now) }
     {
         mark_all(self.places.as_slice(), seen)
     }
@@ -34,7 +34,7 @@ fn mark_all(places: &[Place], seen: &mut [bool]) -> bool
     requires { length seen.old ≡ 256 }
     ensures met { result ≡ meets (held (ports_in places.now)) seen.old }
     ensures marks { seen.new ≡ marked (held (ports_in places.now)) seen.old }
-    ensures bytes { All (λ address. address < 256) (held (ports_in places.now)) }
+    ensures bytes { AreBytes (held (ports_in places.now)) }
 {
     match places.split_first() {
         None => false,
@@ -52,7 +52,7 @@ fn mark_at(place: &Place, seen: &mut [bool]) -> bool
     requires { length seen.old ≡ 256 }
     ensures met { result ≡ meets (held_in place.now.port place.now.device) seen.old }
     ensures marks { seen.new ≡ marked (held_in place.now.port place.now.device) seen.old }
-    ensures bytes { All (λ address. address < 256) (held_in place.now.port place.now.device) }
+    ensures bytes { AreBytes (held_in place.now.port place.now.device) }
 {
     match &place.device {
         Some(device) if place.port.is_enabled() => {

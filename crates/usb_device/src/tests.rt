@@ -2,3 +2,6 @@ mod attempts;
 mod bulk;
 mod described;
 mod hubs;
+mod kinds;
+mod script;
+mod trees;

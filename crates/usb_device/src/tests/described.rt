@@ -19,70 +19,97 @@ fn function(alloc: Global) -> Result<DeviceSpec, AllocError>
     Ok(DeviceSpec::function(name, Bytes::new(descriptor), configs))
 }
 
-#[test]
-fn a_function_is_described(rt: HostRuntime) -> Result<(), Fail> {
-    let alloc = rt.alloc();
+/// A function that differs from a plain one in all but its bulk data.
+fn odd_function(alloc: Global) -> Result<DeviceSpec, AllocError> {
     let mut strings = StringTexts::new(alloc);
     strings.push(Bytes::new([4, 3, 9, 4].to_vec(alloc)?))?;
     let stalls = Stalls {
         address: true,
         ..Stalls::none()
     };
-    let spec = function(alloc)?
+    Ok(function(alloc)?
         .with_strings(strings)
         .with_low_speed(true)
         .with_self_powered(true)
         .with_busy(true)
         .with_silent(true)
         .with_naks(200)
-        .with_stalls(stalls);
-    let copy = spec.try_clone(alloc)?;
-    assert_eq!(rt; copy.name(), "fn");
-    assert_eq!(rt; copy.descriptor().len(), 18);
-    assert_eq!(rt; copy.configs().len(), 1);
-    assert_eq!(rt; copy.configs()[0].as_slice().len(), 18);
-    assert_eq!(rt; copy.strings().len(), 1);
-    assert!(rt; copy.is_low() && copy.is_self_powered() && copy.is_busy() && copy.is_silent());
-    assert_eq!(rt; copy.naks(), 200);
-    assert!(rt; copy.stalls().address && !copy.stalls().device);
+        .with_stalls(stalls))
+}
+
+fn are_texts_copied(copy: &DeviceSpec) -> bool {
+    let configs = copy.configs();
+    copy.name() == "fn"
+        && copy.descriptor().len() == 18
+        && configs.len() == 1
+        && configs[0].as_slice().len() == 18
+        && copy.strings().len() == 1
+}
+
+fn are_quirks_copied(copy: &DeviceSpec) -> bool {
+    copy.is_low()
+        && copy.is_self_powered()
+        && copy.is_busy()
+        && copy.is_silent()
+        && copy.naks() == 200
+        && copy.stalls().address
+        && !copy.stalls().device
+}
+
+fn is_function_copied(alloc: Global) -> Result<bool, AllocError> {
+    let copy = odd_function(alloc)?.try_clone(alloc)?;
+    Ok(are_texts_copied(&copy) && are_quirks_copied(&copy))
+}
+
+#[test]
+fn a_function_is_described(rt: HostRuntime) -> Result<(), Fail> {
+    assert!(rt; is_function_copied(rt.alloc())?);
     Ok(())
+}
+
+fn are_bulk_data_copied(alloc: Global) -> Result<bool, AllocError> {
+    let source = Bytes::new([0xaa, 0xbb, 0xcc].to_vec(alloc)?);
+    let spec = function(alloc)?.with_source(source).with_halt_after(65535);
+    let copy = spec.try_clone(alloc)?;
+    Ok(copy.source() == [0xaa, 0xbb, 0xcc].as_slice()
+        && copy.halt_after() == Some(65535)
+        && copy.hub().is_none())
 }
 
 #[test]
 fn bulk_data_are_described(rt: HostRuntime) -> Result<(), Fail> {
-    let alloc = rt.alloc();
-    let source = Bytes::new([0xaa, 0xbb, 0xcc].to_vec(alloc)?);
-    let spec = function(alloc)?.with_source(source).with_halt_after(65535);
-    let copy = spec.try_clone(alloc)?;
-    assert_eq!(rt; copy.source().len(), 3);
-    assert_eq!(rt; copy.halt_after(), Some(65535));
-    assert!(rt; copy.hub().is_none());
-    assert_eq!(rt; function(alloc)?.halt_after(), None);
+    assert!(rt; are_bulk_data_copied(rt.alloc())?);
+    assert!(rt; function(rt.alloc())?.halt_after().is_none());
     Ok(())
+}
+
+/// A hub with two ports, copied.
+fn hub_copy(alloc: Global) -> Result<DeviceSpec, AllocError> {
+    let descriptor = [18, 1, 0, 2, 9, 0, 0, 64, 1, 0, 2, 0, 0, 0, 0, 0, 0, 1].to_vec(alloc)?;
+    let name = Name::new(String::from_str(alloc, "hub2")?);
+    let spec = DeviceSpec::function(name, Bytes::new(descriptor), ConfigTexts::new(alloc));
+    spec.with_hub(HubSpec::usual(alloc, 2)?).try_clone(alloc)
+}
+
+fn is_usual(spec: &DeviceSpec) -> bool {
+    match spec.hub() {
+        None => false,
+        Some(hub) => {
+            has_hub_class(spec.descriptor())
+                && hub.ports() == 2
+                && hub.descriptor() == [9, 0x29, 2, 1, 0, 0, 0, 0, 0xff].as_slice()
+                && HubSpec::agrees(2, hub.descriptor())
+                && !HubSpec::agrees(3, hub.descriptor())
+        }
+    }
 }
 
 #[test]
 fn a_hub_is_described(rt: HostRuntime) -> Result<(), Fail> {
-    let alloc = rt.alloc();
-    let descriptor = [18, 1, 0, 2, 9, 0, 0, 64, 1, 0, 2, 0, 0, 0, 0, 0, 0, 1].to_vec(alloc)?;
-    assert!(rt; has_hub_class(descriptor.as_slice()));
-    assert!(rt; !has_hub_class(function(alloc)?.descriptor()));
-    let name = Name::new(String::from_str(alloc, "hub2")?);
-    let spec = DeviceSpec::function(name, Bytes::new(descriptor), ConfigTexts::new(alloc));
-    let spec = spec.with_hub(HubSpec::usual(alloc, 2)?).try_clone(alloc)?;
-    let Some(hub) = spec.hub() else {
-        assert!(rt; false, "a hub");
-        return Ok(());
-    };
-    assert_eq!(rt; hub.ports(), 2);
-    assert_eq!(rt;
-        hub.descriptor(),
-        [9, 0x29, 2, 1, 0, 0, 0, 0, 0xff].as_slice()
-    );
-    assert!(rt; HubSpec::agrees(2, hub.descriptor()));
-    assert!(rt; !HubSpec::agrees(3, hub.descriptor()));
+    assert!(rt; is_usual(&hub_copy(rt.alloc())?));
+    assert!(rt; !has_hub_class(function(rt.alloc())?.descriptor()));
     assert!(rt; HubSpec::agrees(3, &[9, 0x29, 2]));
-    let odd = Bytes::new([0].to_vec(alloc)?);
+    let odd = Bytes::new([0].to_vec(rt.alloc())?);
     assert!(rt; HubSpec::agrees(7, odd.as_slice()));
     assert_eq!(rt; HubSpec::new(7, odd).ports(), 7);
     Ok(())
