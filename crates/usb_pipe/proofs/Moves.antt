@@ -10,7 +10,7 @@ use Rattle.usb_bus.specs.World.{World, Spends}
 use Rattle.usb_bus.proofs.Counts.{spends_none, spends_then, spends_wider}
 use Rattle.usb_transaction.specs.Heard.{flip}
 use Rattle.usb_transaction.specs.Trans.{Worked}
-use Rattle.usb_pipe.specs.Bulk.{flips, packets_of}
+use Rattle.usb_pipe.specs.Bulk.{flips, packets_of, Turned}
 
 -- n packets were moved
 pub record Moved (n : ℕ) (first toggle : Toggle) (old now : World) : Type 0 where
@@ -76,3 +76,7 @@ packets_some n max some more = elim (cases_lt n max) [
 -- packets of the maximum, and then a short one
 pub packets_short : (i size max wanted : ℕ) → size < max → i < wanted → packets_of (i * max + size) max wanted ≡ i + 1
 packets_short i size max wanted short few = rw (div-mul-add i max size short) (omega arith)
+
+-- where the transaction of a further packet left the toggle
+pub moved_turned : (n m : ℕ) {first toggle next : Toggle} {old now : World} → n < m → Moved n first toggle old now → next ≡ toggle → Turned m first next
+moved_turned n m lt t same = record { packets = n; few = lt; turned = same ∙ t.turned }

@@ -1,5 +1,5 @@
 -- Bulk pipes.
-use Rattle.std.specs.Prelude.{◌≡◌, ◌≢◌, ℕ, zero, suc, ◌+◌, ◌*◌, ◌/◌, ◌≤◌, min, List, [], length, Bool, true, false, if◌then◌else◌, Result, Ok, Err, OnOk, IfOk, MatchResult}
+use Rattle.std.specs.Prelude.{◌≡◌, ◌≢◌, ℕ, zero, suc, ◌+◌, ◌*◌, ◌/◌, ◌<◌, ◌≤◌, min, List, [], length, Bool, true, false, if◌then◌else◌, Result, Ok, Err, OnOk, IfOk, MatchResult}
 use Rattle.std.specs.Global.{Vec}
 use Rattle.std.specs.Int.{div_ceil}
 use Rattle.usb_packet.specs.declared.Toggle.{Toggle}
@@ -59,6 +59,12 @@ unfoldable pub flips : ℕ → Toggle → Toggle
 flips zero toggle = toggle
 flips (suc n) toggle = flip (flips n toggle)
 
+-- the toggle is the one behind fewer than n packets
+pub record Turned (n : ℕ) (first toggle : Toggle) : Type 0 where
+  pub packets : ℕ
+  pub few : packets < n
+  pub turned : toggle ≡ flips packets first
+
 -- in how many packets so many bytes came, where at most `wanted` were taken and a short one was the last
 abbrev pub packets_of : ℕ → ℕ → ℕ → ℕ
 packets_of bytes max wanted = min wanted (bytes / max + 1)
@@ -75,6 +81,7 @@ pub record Sent (n : ℕ) (pipe : Bulk) (old : World) (result : Result (Unit {0}
   pub room : result ≢ Err Memory
   pub pipe_left : left ≡ record pipe { toggle = left.toggle; condition = after_transfer pipe.condition result }
   pub toggle : OnOk result (left.toggle ≡ flips n pipe.toggle)
+  pub halted : result ≡ Err Stalled → Turned n pipe.toggle left.toggle
 
 -- what sending answers and leaves
 pub record Sends (bytes : List ℕ) (pipe : Bulk) (old : World) (result : Result (Unit {0}) PipeFault) (left : Bulk) (new : World) : Type 0 where
@@ -88,11 +95,12 @@ pub record Received (wanted : ℕ) (pipe : Bulk) (old : World) (result : Result 
   pub most : IfOk result (λ bytes. length bytes.items ≤ wanted * pipe.max)
   pub pipe_left : left ≡ record pipe { toggle = left.toggle; condition = after_transfer pipe.condition result }
   pub toggle : IfOk result (λ bytes. left.toggle ≡ flips (packets_of (length bytes.items) pipe.max wanted) pipe.toggle)
+  pub halted : result ≡ Err Stalled → Turned wanted pipe.toggle left.toggle
 
 -- what receiving answers and leaves
 pub record Receives (wanted : ℕ) (pipe : Bulk) (old : World) (result : Result (Vec ℕ) PipeFault) (left : Bulk) (new : World) : Type 0 where
   pub broken : pipe.condition ≡ Broken → (result ≡ Err fault.Broken) × (left ≡ pipe) × (new ≡ old)
-  pub nothing : pipe.condition ≢ Broken → wanted ≡ 0 → IfOk result (λ bytes. bytes.items ≡ []) × (left ≡ pipe) × (new ≡ old)
+  pub nothing : pipe.condition ≢ Broken → wanted ≡ 0 → MatchResult result (λ bytes. bytes.items ≡ []) (λ _. ⊥) × (left ≡ pipe) × (new ≡ old)
   pub moved : pipe.condition ≢ Broken → wanted ≢ 0 → Received wanted pipe old result left new
 
 -- what a clear leaves of a pipe

@@ -4,7 +4,7 @@ ghost use Rattle.std.specs.Int.{div_ceil};
 ghost use Rattle.usb_bus.specs.World.{Spends};
 ghost use Rattle.usb_transaction.specs.Trans.{IsTarget, Worked};
 ghost use Rattle.usb_pipe.specs.Control.{Faults};
-ghost use Rattle.usb_pipe.specs.Bulk.{flips, packets_of};
+ghost use Rattle.usb_pipe.specs.Bulk.{flips, packets_of, Turned};
 
 use crate::PipeFault;
 use std::alloc::Global;
@@ -26,6 +26,7 @@ pub(crate) fn send_packets<B: Bus>(
     ensures ends { MatchResult result (λ _. Worked (div_ceil (length bytes.now) target.max) (B.world bus.old) (B.world bus.new)) (λ fault. Faults 0 (B.world bus.old) fault (B.world bus.new)) }
     ensures room { result ≢ Err PipeFault.Memory }
     ensures toggle { OnOk result (toggle.new ≡ flips (div_ceil (length bytes.now) target.max) toggle.old) }
+    ensures halted { result ≡ Err PipeFault.Stalled → Turned (div_ceil (length bytes.now) target.max) toggle.old toggle.new }
 {
     let mut rest = bytes;
     'packets: while !rest.is_empty() {
@@ -52,6 +53,7 @@ pub(crate) fn receive_packets<B: Bus>(
     ensures ends { MatchResult result (λ bytes. Worked (packets_of (length bytes.items) target.max wanted) (B.world bus.old) (B.world bus.new)) (λ fault. Faults 0 (B.world bus.old) fault (B.world bus.new)) }
     ensures most { IfOk result (λ bytes. length bytes.items ≤ wanted * target.max) }
     ensures toggle { IfOk result (λ bytes. toggle.new ≡ flips (packets_of (length bytes.items) target.max wanted) toggle.old) }
+    ensures halted { result ≡ Err PipeFault.Stalled → Turned wanted toggle.old toggle.new }
 {
     let mut bytes = Vec::new(alloc);
     'packets: for _taken in 0..wanted {

@@ -212,7 +212,7 @@ fn faults_of_devices(rt: HostRuntime) -> Result<(), Fail> {
 }
 
 /// Lines of a device of class 9 at full speed, and what the text is told to be.
-const KEY_FAULTS: [(&str, &str); 44] = [
+const KEY_FAULTS: [(&str, &str); 45] = [
     ("strings = [\"04030904\", \"ff\"]", "plan"),
     ("strings = \"04\"", "plan: device 2: bad value"),
     ("strings = [\"0\"]", "plan: device 2: bad hex"),
@@ -248,6 +248,7 @@ const KEY_FAULTS: [(&str, &str); 44] = [
     ("busy = \"yes\"", "plan: device 2: bad value"),
     ("silent = false", "plan"),
     ("silent = []", "plan: device 2: bad value"),
+    ("naks = -1", "plan: device 2: bad value"),
     ("naks = 0", "plan"),
     ("naks = 200", "plan"),
     ("naks = 201", "plan: device 2: bad value"),

@@ -83,7 +83,7 @@ impl Tree {
         }
     }
 
-    /// Unplugs the device at the path and all below it, in time of what is unplugged.
+    /// Unplugs the device at the path and all below it. It takes time for what is unplugged alone, however much is plugged.
     #[tactic(auto, using(crate::proofs::Places::none_unplugged, crate::proofs::Places::one_unplugged, crate::proofs::Places::one_there))]
     fn unplug(&mut self, path: &PortPath)
         ensures { self.new ≡ unplugged path.now self.old }

@@ -1,5 +1,5 @@
 use Rattle.std.proofs.Common.{◌≡◌, ap, ◌*◌, ◌<◌, ◌+◌, length, length-append, arith}
-use Rattle.usb_pipe.proofs.Moves.{moved_none, moved_more, packets_short}
+use Rattle.usb_pipe.proofs.Moves.{moved_none, moved_more, moved_turned, packets_short}
 use Rattle.usb_pipe.proofs.packets.receive_packets.Goals as goal
 
 pub packets-init : goal.packets-init
@@ -27,3 +27,6 @@ returns-then-bytes-from-clause-toggle g c =
     let short : length c.bytes-in-packets.result.now < c.args.target.max = omega (arith, c.if-bytes-from.true, c.from.ensures) in
     let turned = (moved_more c.packets._taken (c.packets._taken + 1) _ _ _ (omega arith) c.packets.invariant.1 c.data_in.ensures.count c.in_ok-packet.ensures.ends c.in_ok-packet.ensures.toggle_ok).turned in
     rw (size, packets_short c.packets._taken (length c.bytes-in-packets.result.now) c.args.target.max c.args.wanted short c.packets-test.true) turned
+
+pub returns-in_err-packet-clause-halted : goal.returns-in_err-packet-clause-halted
+returns-in_err-packet-clause-halted g c = λ _. moved_turned c.packets._taken c.args.wanted c.packets-test.true c.packets.invariant.1 (c.in_err-packet.ensures.toggle_err)

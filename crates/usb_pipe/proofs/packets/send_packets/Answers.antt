@@ -2,7 +2,7 @@ use Rattle.std.proofs.Common.{◌≡◌, ◌≢◌, ◌∙◌, sym, subst, Bool,
 use Rattle.std.proofs.lemmas.Bool.{eqb-true, eqb-false}
 use Rattle.std.specs.Prelude.{min}
 use Rattle.std.specs.Int.{div_ceil}
-use Rattle.usb_pipe.proofs.Moves.{Moved, moved_none, moved_more, moved_worked, packets_one, packets_none, packets_some}
+use Rattle.usb_pipe.proofs.Moves.{Moved, moved_none, moved_more, moved_worked, moved_turned, packets_one, packets_none, packets_some}
 use Rattle.usb_packet.specs.declared.Toggle.{Toggle}
 use Rattle.usb_bus.specs.World.{World}
 use Rattle.usb_pipe.proofs.packets.send_packets.Goals as goal
@@ -47,3 +47,8 @@ returns-clause-ends g c =
 
 pub returns-clause-toggle : goal.returns-clause-toggle
 returns-clause-toggle g c = (all_sent _ _ _ _ _ _ (packets_none _ c.args.target.max (zero_is _ _ c.is_empty.ensures c.packets-test.false)) c.packets.invariant.1).turned
+
+pub returns-in_err-data_out-clause-halted : goal.returns-in_err-data_out-clause-halted
+returns-in_err-data_out-clause-halted g c = λ _.
+    let left = packets_some (length c.packets.rest.now) c.args.target.max c.requires.target.max_least (nonzero _ _ c.is_empty.ensures c.packets-test.true) in
+    moved_turned _ _ (omega (arith, left, c.packets.invariant.0)) c.packets.invariant.1 c.in_err-data_out.ensures.toggle_err
