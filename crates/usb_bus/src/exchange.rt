@@ -183,11 +183,7 @@ fn send(roots: &mut [RootPort], low: bool, packet: &Sent) -> Result<Heard, Alloc
 }
 
 #[tactic(auto, unfolding(crate::specs::Exchange::sent_some))]
-fn send_some(
-    roots: &mut [RootPort],
-    low: bool,
-    packet: &Option<Sent>,
-) -> Result<Heard, AllocError>
+fn send_some(roots: &mut [RootPort], low: bool, packet: &Option<Sent>) -> Result<Heard, AllocError>
     requires fields { IfSome packet.now (λ s. HasFields s.packet) }
     requires bit { IfSome packet.now (λ s. has_its_bit s.mark s.packet ≡ true) }
     ensures ports { ports_of roots.new ≡ ports_of roots.old }

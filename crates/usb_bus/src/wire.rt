@@ -92,13 +92,7 @@ pub(crate) fn mark_of(harm: Option<Harm>, pre: bool, packet: &Packet) -> Mark
     match harm {
         None => Mark::Whole,
         Some(Harm::Lose) => Mark::Lost,
-        Some(Harm::LosePre) => {
-            if pre {
-                Mark::PreLost
-            } else {
-                Mark::Whole
-            }
-        }
+        Some(Harm::LosePre) => { if pre { Mark::PreLost } else { Mark::Whole } }
         Some(Harm::Flip(bit)) => {
             if usize::from(bit) < bit_count(packet) {
                 Mark::Flipped(bit)

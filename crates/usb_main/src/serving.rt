@@ -13,9 +13,7 @@ use std::alloc::{AllocError, Global};
 use std::io::{Read, Write};
 use std::{io, str};
 use thiserror::Error;
-use usb_bus::{
-    Action, BusFault, Event, NotServed, Plan, Watched, WriteFailed, put_piece, served,
-};
+use usb_bus::{Action, BusFault, Event, NotServed, Plan, Watched, WriteFailed, put_piece, served};
 use usb_plan::{PlanFault, bound, read_plan};
 
 /// What is written of a plan's run.

@@ -100,11 +100,7 @@ impl<W: Write> SimBus<W> {
         self.attempts += 1;
         self.losses = self.losses.counted(exchange.address_lost);
         put_attempt(&mut self.writer, self.attempts, attempt.pre, &exchange)?;
-        Ok(outcome_of(
-            exchange.answer,
-            exchange.answer_mark,
-            attempt.max,
-        ))
+        Ok(outcome_of(exchange.answer, exchange.answer_mark, attempt.max))
     }
 }
 

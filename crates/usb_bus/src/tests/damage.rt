@@ -64,33 +64,153 @@ fn damaged(alloc: Global, damage: Damage) -> Result<SimBus<Vec<u8>>, Fail>
 /// The attempt that is damaged, its damaged packet and what happens to it; the attempt's line, and whether the host
 /// reads an answer.
 const DAMAGES: [(u64, u8, Harm, &str, bool); 28] = [
-    (1, 1, Harm::LosePre, "1 SETUP 0.0 / DATA0 8006000100000800 / ACK", true),
-    (1, 1, Harm::Lose, "1 SETUP 0.0 [lost] / DATA0 8006000100000800 / none", false),
-    (1, 1, Harm::Flip(7), "1 SETUP 0.0 [bit 7] / DATA0 8006000100000800 / none", false),
-    (1, 1, Harm::Flip(24), "1 SETUP 0.0 / DATA0 8006000100000800 / ACK", true),
-    (1, 2, Harm::Lose, "1 SETUP 0.0 / DATA0 8006000100000800 [lost] / none", false),
-    (1, 2, Harm::Flip(7), "1 SETUP 0.0 / DATA0 8006000100000800 [bit 7] / none", false),
-    (1, 2, Harm::Flip(88), "1 SETUP 0.0 / DATA0 8006000100000800 / ACK", true),
-    (1, 3, Harm::Lose, "1 SETUP 0.0 / DATA0 8006000100000800 / ACK [lost]", false),
-    (1, 3, Harm::Flip(7), "1 SETUP 0.0 / DATA0 8006000100000800 / ACK [bit 7]", false),
-    (1, 3, Harm::Flip(8), "1 SETUP 0.0 / DATA0 8006000100000800 / ACK", true),
+    (
+        1,
+        1,
+        Harm::LosePre,
+        "1 SETUP 0.0 / DATA0 8006000100000800 / ACK",
+        true,
+    ),
+    (
+        1,
+        1,
+        Harm::Lose,
+        "1 SETUP 0.0 [lost] / DATA0 8006000100000800 / none",
+        false,
+    ),
+    (
+        1,
+        1,
+        Harm::Flip(7),
+        "1 SETUP 0.0 [bit 7] / DATA0 8006000100000800 / none",
+        false,
+    ),
+    (
+        1,
+        1,
+        Harm::Flip(24),
+        "1 SETUP 0.0 / DATA0 8006000100000800 / ACK",
+        true,
+    ),
+    (
+        1,
+        2,
+        Harm::Lose,
+        "1 SETUP 0.0 / DATA0 8006000100000800 [lost] / none",
+        false,
+    ),
+    (
+        1,
+        2,
+        Harm::Flip(7),
+        "1 SETUP 0.0 / DATA0 8006000100000800 [bit 7] / none",
+        false,
+    ),
+    (
+        1,
+        2,
+        Harm::Flip(88),
+        "1 SETUP 0.0 / DATA0 8006000100000800 / ACK",
+        true,
+    ),
+    (
+        1,
+        3,
+        Harm::Lose,
+        "1 SETUP 0.0 / DATA0 8006000100000800 / ACK [lost]",
+        false,
+    ),
+    (
+        1,
+        3,
+        Harm::Flip(7),
+        "1 SETUP 0.0 / DATA0 8006000100000800 / ACK [bit 7]",
+        false,
+    ),
+    (
+        1,
+        3,
+        Harm::Flip(8),
+        "1 SETUP 0.0 / DATA0 8006000100000800 / ACK",
+        true,
+    ),
     (2, 1, Harm::Lose, "2 IN 0.0 [lost] / none", false),
     (2, 1, Harm::Flip(7), "2 IN 0.0 [bit 7] / none", false),
-    (2, 1, Harm::Flip(24), "2 IN 0.0 / DATA1 1201000200000040 / ACK", true),
-    (2, 2, Harm::Lose, "2 IN 0.0 / DATA1 1201000200000040 [lost]", false),
-    (2, 2, Harm::Flip(7), "2 IN 0.0 / DATA1 1201000200000040 [bit 7]", false),
-    (2, 2, Harm::Flip(88), "2 IN 0.0 / DATA1 1201000200000040 / ACK", true),
-    (2, 3, Harm::Lose, "2 IN 0.0 / DATA1 1201000200000040 / ACK [lost]", true),
-    (2, 3, Harm::Flip(7), "2 IN 0.0 / DATA1 1201000200000040 / ACK [bit 7]", true),
-    (2, 3, Harm::Flip(8), "2 IN 0.0 / DATA1 1201000200000040 / ACK", true),
+    (
+        2,
+        1,
+        Harm::Flip(24),
+        "2 IN 0.0 / DATA1 1201000200000040 / ACK",
+        true,
+    ),
+    (
+        2,
+        2,
+        Harm::Lose,
+        "2 IN 0.0 / DATA1 1201000200000040 [lost]",
+        false,
+    ),
+    (
+        2,
+        2,
+        Harm::Flip(7),
+        "2 IN 0.0 / DATA1 1201000200000040 [bit 7]",
+        false,
+    ),
+    (
+        2,
+        2,
+        Harm::Flip(88),
+        "2 IN 0.0 / DATA1 1201000200000040 / ACK",
+        true,
+    ),
+    (
+        2,
+        3,
+        Harm::Lose,
+        "2 IN 0.0 / DATA1 1201000200000040 / ACK [lost]",
+        true,
+    ),
+    (
+        2,
+        3,
+        Harm::Flip(7),
+        "2 IN 0.0 / DATA1 1201000200000040 / ACK [bit 7]",
+        true,
+    ),
+    (
+        2,
+        3,
+        Harm::Flip(8),
+        "2 IN 0.0 / DATA1 1201000200000040 / ACK",
+        true,
+    ),
     (3, 1, Harm::Lose, "3 OUT 0.0 [lost] / DATA1 - / none", false),
-    (3, 1, Harm::Flip(7), "3 OUT 0.0 [bit 7] / DATA1 - / none", false),
+    (
+        3,
+        1,
+        Harm::Flip(7),
+        "3 OUT 0.0 [bit 7] / DATA1 - / none",
+        false,
+    ),
     (3, 1, Harm::Flip(24), "3 OUT 0.0 / DATA1 - / ACK", true),
     (3, 2, Harm::Lose, "3 OUT 0.0 / DATA1 - [lost] / none", false),
-    (3, 2, Harm::Flip(7), "3 OUT 0.0 / DATA1 - [bit 7] / none", false),
+    (
+        3,
+        2,
+        Harm::Flip(7),
+        "3 OUT 0.0 / DATA1 - [bit 7] / none",
+        false,
+    ),
     (3, 2, Harm::Flip(24), "3 OUT 0.0 / DATA1 - / ACK", true),
     (3, 3, Harm::Lose, "3 OUT 0.0 / DATA1 - / ACK [lost]", false),
-    (3, 3, Harm::Flip(7), "3 OUT 0.0 / DATA1 - / ACK [bit 7]", false),
+    (
+        3,
+        3,
+        Harm::Flip(7),
+        "3 OUT 0.0 / DATA1 - / ACK [bit 7]",
+        false,
+    ),
     (3, 3, Harm::Flip(8), "3 OUT 0.0 / DATA1 - / ACK", true),
 ];
 
@@ -135,8 +255,16 @@ fn lost_addresses_are_counted(rt: HostRuntime) -> Result<(), Fail> {
         bus.attempt(&setup(0, SET_ADDRESS))?;
         bus.attempt(&data_in(0))?;
         assert_eq!(rt; bus.address_losses(), losses, "{attempt} {packet}");
-        assert_eq!(rt; u64::from(bus.worst_address_run()), losses, "{attempt} {packet}");
-        assert_eq!(rt; bus.registers(&root), Some((address, 0)), "{attempt} {packet}");
+        assert_eq!(rt;
+            u64::from(bus.worst_address_run()),
+            losses,
+            "{attempt} {packet}"
+        );
+        assert_eq!(rt;
+            bus.registers(&root),
+            Some((address, 0)),
+            "{attempt} {packet}"
+        );
     }
     Ok(())
 }
@@ -195,8 +323,7 @@ fn waiting(alloc: Global) -> Result<SimBus<Vec<u8>>, Fail> {
     }
 }
 
-fn next_due(bus: &mut SimBus<Vec<u8>>) -> Result<Due, Fail>
-{
+fn next_due(bus: &mut SimBus<Vec<u8>>) -> Result<Due, Fail> {
     match bus.apply_next_event()? {
         Some(due) => Ok(due),
         None => Err(Fail::new("an event is left")),

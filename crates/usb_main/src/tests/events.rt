@@ -148,7 +148,4 @@ bound 18558002
     fault: "",
 };
 
-pub const EVENTS: [Row; 2] = [
-    SHOW_THEN_UNPLUG,
-    REPLUG_IN_MID_ENUMERATION,
-];
+pub const EVENTS: [Row; 2] = [SHOW_THEN_UNPLUG, REPLUG_IN_MID_ENUMERATION];
