@@ -70,7 +70,8 @@ first p h k = (both p.0 h, before p.1 k)
 abbrev if_enabled : Sent → Bool → PortState → State → Ports → Ports → Bool → Heard × Ports
 if_enabled q deep b s a k e = (
   heard_of (if e then listed (answer_of q deep s a).0 (answers q true a ++ answers q deep k) else answers q deep k),
-  if e then taken b (answer_of q deep s a).1 (delivered_device q deep (record { own = s; ports = a })).1.ports (after_packet q deep k) else taken b s a (after_packet q deep k))
+  if e then taken b (answer_of q deep s a).1 (delivered_device q deep (record { own = s; ports = a })).1.ports (after_packet q deep k) else taken b s a (after_packet q deep k),
+)
 
 abbrev place_if : Sent → Bool → PortState → State → Ports → Bool → Heard × Place
 place_if q deep b s a e =

@@ -95,7 +95,8 @@ taken_sent q deep t = ((answer_of q deep t.own t.ports).0, record { own = (answe
 abbrev pub delivered_device : Sent → Bool → Plugged → Heard × Plugged
 delivered_device q deep t = (
   both (heard_from (answer_of q deep t.own t.ports).0) (heard_of (answers q true t.ports)),
-  record { own = (answer_of q deep t.own t.ports).1; ports = acted (effect_of q deep t.own) (after_packet q true t.ports) })
+  record { own = (answer_of q deep t.own t.ports).1; ports = acted (effect_of q deep t.own) (after_packet q true t.ports) },
+)
 
 abbrev pub on_port : PortState → Heard × Plugged → Heard × Place
 on_port b x = (x.0, full b x.1.own x.1.ports)

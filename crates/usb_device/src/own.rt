@@ -214,11 +214,7 @@ impl Own {
     /// A packet at the device, by what its ports tell. An error: memory is refused for a packet that joins the sink, and
     /// nothing changes.
     #[tactic(auto, unfolding(crate::specs::Rows::received))]
-    pub fn received(
-        &mut self,
-        ports: &Ports,
-        packet: &Packet,
-    ) -> Result<Option<Answer>, AllocError>
+    pub fn received(&mut self, ports: &Ports, packet: &Packet) -> Result<Option<Answer>, AllocError>
         ensures answer { IfOk result (λ answer. (answer, self.new) ≡ received self.old (row_of ports.now) packet.now) }
         ensures refused { OnErr result (self.new ≡ self.old) }
         ensures grows { OnErr result (sink_grows self.old packet.now ≡ true) }

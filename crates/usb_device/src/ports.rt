@@ -177,12 +177,7 @@ fn call_at(places: &mut [Place], i: usize, call: PortCall)
 
 #[cycle(put)]
 #[tactic(auto, using(crate::proofs::Placing::placing))]
-fn put_at(
-    places: &mut [Place],
-    i: usize,
-    path: &[u8],
-    device: Option<Device>,
-) -> Option<Device>
+fn put_at(places: &mut [Place], i: usize, path: &[u8], device: Option<Device>) -> Option<Device>
     ensures before { result ≡ plugged_at (ports_in places.old) i path.now }
     ensures after { ports_in places.new ≡ changed_at (put device) (ports_in places.old) i path.now }
 {
@@ -321,7 +316,12 @@ impl Ports {
         if *number == 0 {
             None
         } else {
-            put_at(self.places.as_mut_slice(), usize::from(*number - 1), rest, device)
+            put_at(
+                self.places.as_mut_slice(),
+                usize::from(*number - 1),
+                rest,
+                device,
+            )
         }
     }
 

@@ -259,7 +259,9 @@ pub fn react(spec: &DeviceSpec, registers: Registers, setup: &Setup) -> Reaction
         (request_type::HUB_IN, request_code::GET_DESCRIPTOR) => {
             unless(stalls.hub, get_hub_descriptor(spec, setup))
         }
-        (request_type::PORT_IN, request_code::GET_STATUS) => get_port_status(spec, registers, setup),
+        (request_type::PORT_IN, request_code::GET_STATUS) => get_port_status(
+            spec, registers, setup,
+        ),
         (request_type::PORT_OUT, request_code::SET_FEATURE) => port_feature(
             PortCall::of_set(setup.value),
             spec,

@@ -27,14 +27,16 @@ fn odd_function(alloc: Global) -> Result<DeviceSpec, AllocError> {
         address: true,
         ..Stalls::none()
     };
-    Ok(function(alloc)?
-        .with_strings(strings)
-        .with_low_speed(true)
-        .with_self_powered(true)
-        .with_busy(true)
-        .with_silent(true)
-        .with_naks(200)
-        .with_stalls(stalls))
+    Ok(
+        function(alloc)?
+            .with_strings(strings)
+            .with_low_speed(true)
+            .with_self_powered(true)
+            .with_busy(true)
+            .with_silent(true)
+            .with_naks(200)
+            .with_stalls(stalls),
+    )
 }
 
 fn are_texts_copied(copy: &DeviceSpec) -> bool {
@@ -71,9 +73,11 @@ fn are_bulk_data_copied(alloc: Global) -> Result<bool, AllocError> {
     let source = Bytes::new([0xaa, 0xbb, 0xcc].to_vec(alloc)?);
     let spec = function(alloc)?.with_source(source).with_halt_after(65535);
     let copy = spec.try_clone(alloc)?;
-    Ok(copy.source() == [0xaa, 0xbb, 0xcc].as_slice()
-        && copy.halt_after() == Some(65535)
-        && copy.hub().is_none())
+    Ok(
+        copy.source() == [0xaa, 0xbb, 0xcc].as_slice()
+            && copy.halt_after() == Some(65535)
+            && copy.hub().is_none(),
+    )
 }
 
 #[test]

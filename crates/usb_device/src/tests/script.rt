@@ -122,12 +122,7 @@ fn is_so(device: &Device, step: &Step) -> bool {
 }
 
 /// Whether a row is as it says.
-fn holds(
-    alloc: Global,
-    device: &mut Device,
-    step: &Step,
-    text: &str,
-) -> Result<bool, AllocError> {
+fn holds(alloc: Global, device: &mut Device, step: &Step, text: &str) -> Result<bool, AllocError> {
     match step {
         Step::Over => device.attempt_over(),
         Step::Reset => device.reset(),
