@@ -221,12 +221,12 @@ other_address n k j p o i e t d h on = pick (decided (n == address_of t))
     pick (inl y) = no (sym d ∙ same_place (one_path k i e j p n o.single on (ap (option_map address_of) h ∙ ap (λ x. Some x) (sym (equal_same n (address_of t) y))) o.on o.at))
     pick (inr y) = y
 
-abbrev stands : Option Place → Option State
+abbrev pub stands : Option Place → Option State
 stands None = None
 stands (Some (empty b)) = None
 stands (Some (full b s a)) = Some s
 
-state_stands : (k : Ports) (j : ℕ) (p : List ℕ) → stands (place_at k j p) ≡ state_at k j p
+pub state_stands : (k : Ports) (j : ℕ) (p : List ℕ) → stands (place_at k j p) ≡ state_at k j p
 unfolding state_at place_at
 state_stands ended j p = refl
 state_stands (vacant b k) zero [] = refl

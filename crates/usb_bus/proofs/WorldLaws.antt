@@ -235,7 +235,7 @@ goes a d k = record { token = token_goes a d; payload = payload_goes a d; reply 
 
 -- An attempt that is made
 
-made_reach : (a : Attempt) (w : TreeWorld) (p : List ℕ) → made_resets a w p ≡ false → reach (with_attempt a w).roots p ≡ true → reach w.roots p ≡ true
+pub made_reach : (a : Attempt) (w : TreeWorld) (p : List ℕ) → made_resets a w p ≡ false → reach (with_attempt a w).roots p ≡ true → reach w.roots p ≡ true
 unfolding with_attempt
 made_reach a w [] f h = no h
 made_reach a w (zero ∷ p) f h = no h
@@ -327,7 +327,7 @@ event_taken_reach : (f : Option BusFault) (w : TreeWorld) (p : List ℕ) → rea
 event_taken_reach (Some f) w p h = (h, undisturbed_here w w p refl refl)
 event_taken_reach None w p h = first_reach w.left w p refl h
 
-unreset_reach : (s : Step) (w : TreeWorld) (p : List ℕ) → resets s w p ≡ false → reach (after s w).roots p ≡ true → (reach w.roots p ≡ true) × Undisturbed w (after s w) p
+pub unreset_reach : (s : Step) (w : TreeWorld) (p : List ℕ) → resets s w p ≡ false → reach (after s w).roots p ≡ true → (reach w.roots p ≡ true) × Undisturbed w (after s w) p
 unfolding after resets
 unreset_reach (attempt a) w p g h = attempted_reach a w.fault w p g h
 unreset_reach (root_call c n) w p g h = (root_reach c n w.roots p g h, undisturbed_here w (record w { roots = changed (called c) w.roots (n ∷ []); losses = losses_after c w.losses }) p refl refl)

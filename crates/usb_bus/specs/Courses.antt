@@ -1,6 +1,18 @@
 -- What steps do on the way to a path, and which device stands there after them.
 use Rattle.std.specs.Prelude.{◌≡◌, ◌⊎◌, ℕ, zero, suc, ◌==◌, ◌&&◌, not, Bool, true, false, List, [], ◌∷◌, ◌++◌, Option, None, Some, option_map, ⊤}
 use Rattle.usb_device.specs.declared.calls.PortCall.{PortCall}
+use Rattle.arrayvec.specs.ArrayVec.{ArrayVec}
+use Rattle.usb_packet.specs.declared.Toggle.{Toggle}
+use Rattle.usb_packet.specs.declared.TokenKind.{TokenKind}
+use Rattle.usb_packet.specs.declared.TokenKind.TheVariants.{OutTok, InTok, SetupTok}
+use Rattle.usb_packet.specs.declared.Packet.{Packet}
+use Rattle.usb_packet.specs.declared.Packet.TheVariants.{Payload}
+use Rattle.usb_device.specs.declared.delivery.Content.{Content}
+use Rattle.usb_device.specs.declared.delivery.Content.TheVariants.{Whole, Broken}
+use Rattle.usb_device.specs.Calls.{is_reset}
+use Rattle.usb_request.specs.Layout.{setup_of}
+use Rattle.usb_request.specs.declared.setup.Setup.{Setup}
+use Rattle.usb_device.specs.Request.{Is}
 use Rattle.usb_device.specs.Spec.{Spec}
 use Rattle.usb_device.specs.Tree.{Ports, reach, place}
 use Rattle.usb_bus.specs.declared.event.Event.{Event}
@@ -76,6 +88,16 @@ NoReset p s w = resets s w p ≡ false
 abbrev pub Spares : List ℕ → Step → TreeWorld → Type 0
 Spares p s w = spares_step s w p ≡ true
 
+-- a request that is not PORT_RESET of a port
+abbrev pub is_harmless : Setup → Bool
+is_harmless r = not (Is r 0x23 3 && r.value == 4)
+
+-- data that are no such request
+abbrev pub IsHarmlessOut : Content → Type 0
+IsHarmlessOut (Whole (Payload t bytes)) = is_harmless (setup_of bytes.items) ≡ true
+IsHarmlessOut Broken = ⊤
+IsHarmlessOut (Whole p) = ⊥
+
 -- the address of a device, where one stands there
 abbrev pub address_at : Ports → List ℕ → Option ℕ
 address_at k p = option_map address_of (device_of k p)
@@ -87,3 +109,19 @@ Own f w = (p : List ℕ) → reach w.roots p ≡ true → address_at w.roots p �
 -- no two paths have one address
 abbrev pub Injective : (List ℕ → Option ℕ) → Type 0
 Injective f = (p q : List ℕ) (a : ℕ) → f p ≡ Some a → f q ≡ Some a → same_path p q ≡ true
+
+-- steps that reset no device and give none an address: events, reports, root calls but PORT_RESET, and setup data whose
+-- request is not PORT_RESET
+abbrev pub quiet_data : TokenKind → Option (Toggle × ArrayVec ℕ) → Bool
+quiet_data SetupTok None = true
+quiet_data SetupTok (Some x) = is_harmless (setup_of x.1.items)
+quiet_data OutTok o = false
+quiet_data InTok o = false
+
+abbrev pub is_quiet : Step → Bool
+is_quiet (attempt a) = quiet_data a.kind a.payload
+is_quiet (root_call c n) = not (is_reset c)
+is_quiet s = true
+
+abbrev pub Quiet : Step → TreeWorld → Type 0
+Quiet s w = is_quiet s ≡ true

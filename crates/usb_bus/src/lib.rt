@@ -25,8 +25,9 @@ pub use sim::SimBus;
 pub use types::{Attempt, BusFault, Outcome};
 pub use watched::{Watched, WriteFailed, put_piece};
 pub use world_laws::{
-    attempt_at_laws, call_laws, event_laws, events_are_pending, holder_laws, packet_laws,
-    pending_stays, reachable_is_the_same, reset_makes_new, reset_makes_reachable, sane_laws,
+    attempt_at_laws, call_laws, event_laws, events_are_pending, harmless_requests, holder_laws,
+    packet_laws, pending_stays, quiet_courses_keep_addresses, reachable_is_the_same,
+    reset_makes_new, reset_makes_reachable, sane_laws,
 };
 
 #[cfg(test)]

@@ -13,7 +13,7 @@ ghost use Rattle.usb_bus.specs.Touched.{IsNew, call_resets, call_spares, resets_
 ghost use Rattle.usb_bus.specs.Sane.{IsSane, IsSanePlace, open_at};
 ghost use Rattle.usb_bus.specs.Passes.{passed, told, after_attempt, heard_place, heard_state, deep_at, IsAttemptAt, attempt_resets, attempt_spares, IsSettled, NobodyHolds, OneHolds, OneActs};
 ghost use Rattle.usb_bus.specs.TreeWorld.{TreeWorld, Step, Course, after};
-ghost use Rattle.usb_bus.specs.Courses.{Undisturbed, Reached, Keeps, NoReset, Spares, resets, spares_step};
+ghost use Rattle.usb_bus.specs.Courses.{Undisturbed, Reached, NoReset, Spares, Keeps, Quiet, Injective, Own, IsHarmlessOut, resets};
 
 /// A plug or an unplug at a port (7.1.7.3, 11.24.2.7.2).
 pub fn event_laws()
@@ -129,4 +129,16 @@ pub fn pending_stays()
 /// No event comes on a way with power but that it is pending.
 pub fn events_are_pending()
     ensures { (p : List ℕ) (w v : TreeWorld) → Course (Spares p) w v → live w.roots p ≡ true → Keeps w v p }
+{}
+
+/// Setup data whose request is not PORT_RESET reset no device, whoever hears them and whoever holds the address.
+pub fn harmless_requests()
+    ensures { (q : Sent) → IsHarmlessOut q.content → (deep : Bool) (k : Ports) (j : ℕ) (p : List ℕ) → resets_at q deep k j p ≡ false }
+{}
+
+/// Where each reachable device holds the address that a map of distinct addresses gives it, this stays over any course of
+/// events, root calls but PORT_RESET, and setup data of any request but PORT_RESET; and no address is ever held twice,
+/// whatever is lost and whatever is plugged.
+pub fn quiet_courses_keep_addresses()
+    ensures { (f : List ℕ → Option ℕ) → Injective f → (w v : TreeWorld) → Course Quiet w v → Own f w → w.shared ≡ false → Own f v × (v.shared ≡ false) }
 {}
