@@ -14,6 +14,7 @@ mod trace;
 mod types;
 mod watched;
 mod wire;
+mod world_laws;
 
 pub use bus::Bus;
 pub use damage::{Damage, Damages, Harm};
@@ -23,6 +24,11 @@ pub use plan::Plan;
 pub use sim::SimBus;
 pub use types::{Attempt, BusFault, Outcome};
 pub use watched::{Watched, WriteFailed, put_piece};
+pub use world_laws::{
+    attempt_at_laws, call_laws, event_laws, events_are_pending, harmless_requests, holder_laws,
+    packet_laws, pending_stays, quiet_courses_keep_addresses, reachable_is_the_same,
+    reset_makes_new, reset_makes_reachable, sane_laws,
+};
 
 #[cfg(test)]
 mod tests;

@@ -1,3 +1,4 @@
 mod damage;
+mod laws;
 mod sim;
 mod watched;

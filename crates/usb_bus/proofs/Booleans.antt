@@ -1,0 +1,55 @@
+-- Tests that are joined.
+use Rattle.std.proofs.Common.{◌≡◌, ◌&&◌, ◌||◌, not, ◌⊎◌, inl, inr, Bool, true, false, refl, sym}
+use Rattle.std.proofs.lemmas.Bool.{false≢true}
+
+pub no : {A : Type 0} → false ≡ true → A
+no h = elim (false≢true h) [ ]
+
+pub both : (a b : Bool) → (a && b) ≡ true → (a ≡ true) × (b ≡ true)
+both true b h = (refl, h)
+both false b h = no h
+
+pub and_of : (a b : Bool) → a ≡ true → b ≡ true → (a && b) ≡ true
+and_of true b h g = g
+and_of false b h g = h
+
+pub and_false : (a : Bool) → (a && false) ≡ false
+and_false true = refl
+and_false false = refl
+
+pub or_true : (a : Bool) → (a || true) ≡ true
+or_true true = refl
+or_true false = refl
+
+pub or_left : (a b : Bool) → a ≡ true → (a || b) ≡ true
+or_left true b h = refl
+or_left false b h = no h
+
+pub or_right : (a b : Bool) → b ≡ true → (a || b) ≡ true
+or_right true b h = refl
+or_right false b h = h
+
+pub either_of : (a b : Bool) → (a || b) ≡ true → (a ≡ true) ⊎ (b ≡ true)
+either_of true b h = inl refl
+either_of false b h = inr h
+
+pub and_kept : (a b c : Bool) → (b ≡ true → c ≡ true) → (a && b) ≡ true → (a && c) ≡ true
+and_kept true b c f h = f h
+and_kept false b c f h = h
+
+pub or_kept : (a b c : Bool) → (b ≡ true → c ≡ true) → (a || b) ≡ true → (a || c) ≡ true
+or_kept true b c f h = refl
+or_kept false b c f h = f h
+
+pub or_wider : (a c d : Bool) → (a ≡ true → c ≡ true) → (a || d) ≡ true → (c || d) ≡ true
+or_wider true c d f h = or_left c d (f refl)
+or_wider false c d f h = or_right c d h
+
+pub neither : (a b : Bool) → (a || b) ≡ false → (a ≡ false) × (b ≡ false)
+neither true b h = no (sym h)
+neither false b h = (refl, h)
+
+-- a test holds or not
+pub decided : (a : Bool) → (a ≡ true) ⊎ (a ≡ false)
+decided true = inl refl
+decided false = inr refl

@@ -1,0 +1,77 @@
+-- A run by hand: a function is plugged, its port powered and reset; it is read, and takes address 1 after the host's
+-- first ACK of the status stage was lost.
+use Rattle.std.proofs.Common.{◌≡◌, ℕ, Bool, true, false, List, [], ◌∷◌, Option, None, Some, refl}
+use Rattle.usb_packet.specs.declared.TokenKind.TheVariants.{OutTok, InTok, SetupTok}
+use Rattle.usb_packet.specs.declared.Toggle.TheVariants.{Zero, One as Data1}
+use Rattle.usb_device.specs.declared.calls.PortCall.TheVariants.{SetPower, SetReset, ClearConnectionChange}
+use Rattle.usb_device.specs.Spec.{Spec, function, no_stalls, usual_hub}
+use Rattle.usb_device.specs.Tree.{Ports, ended, vacant, taken, new_ports, changed_at, reach_at, state_at, reach, all_off}
+use Rattle.usb_device.specs.Rows.{received, unread, fresh, reset_state, awaits_address}
+use Rattle.usb_device.specs.Request.{outcome}
+use Rattle.usb_device.specs.Effect.{asks}
+use Rattle.usb_device.specs.Calls.{set_call, clear_call}
+use Rattle.usb_device.specs.Delivery.{answer_of, effect_of, after_packet, answers, all_forgotten, held, is_twice, has_loss}
+use Rattle.usb_device.specs.Bulk.{change_bits}
+use Rattle.usb_request.specs.Layout.{setup_of}
+use Rattle.usb_port.specs.PortState.{status_of}
+use Rattle.usb_bus.specs.declared.damage.Damage.{Damage}
+use Rattle.usb_bus.specs.declared.damage.Harm.TheVariants.{Lose}
+use Rattle.usb_bus.specs.declared.event.Action.TheVariants.{Plug}
+use Rattle.usb_bus.specs.declared.types.Attempt.{Attempt}
+use Rattle.usb_bus.specs.declared.types.Outcome.{Outcome}
+use Rattle.usb_bus.specs.declared.types.Outcome.TheVariants as got
+use Rattle.usb_bus.specs.Wire.{damage_of, harm_to, mark_of, bit_count, marked, marked_some, is_read}
+use Rattle.usb_bus.specs.Exchange.{token_of, payload_of, answer_place, answer_mark, reply_of, outcome_of}
+use Rattle.usb_bus.specs.Losses.{no_losses, one_more}
+use Rattle.usb_bus.specs.Live.{pend_at, pend}
+use Rattle.usb_bus.specs.TreeWorld.{TreeWorld, took, due_from, ready, with_attempt, outcome_in, attempt, root_call, event, after}
+use Rattle.usb_bus.specs.Courses.{address_at}
+
+abbrev thing : Spec
+thing = function (0x66 ∷ 0x6e ∷ []) (0x12 ∷ 1 ∷ 0 ∷ 2 ∷ 0 ∷ 0 ∷ 0 ∷ 0x40 ∷ 0x34 ∷ 0x12 ∷ 0x78 ∷ 0x56 ∷ 0 ∷ 1 ∷ 0 ∷ 0 ∷ 0 ∷ 1 ∷ []) ([])
+
+abbrev start : TreeWorld
+start = record {
+  roots = vacant (record { attached = Rattle.usb_port.specs.PortState.nothing; power = false; enable = false; connection_changed = false; enable_changed = false; reset_changed = false }) ended;
+  devices = thing ∷ [];
+  left = record { after = 0; action = Plug (1 ∷ []) 0 } ∷ [];
+  taken = 0;
+  attempts = 0;
+  attempts_then = 0;
+  limit = 10000;
+  damages = record { attempt = 5; packet = 3; harm = Lose } ∷ [];
+  losses = no_losses;
+  shared = false;
+  fault = None;
+}
+
+abbrev asks_in : Attempt
+asks_in = record { kind = InTok; addr = 0; ep = 0; low = false; pre = false; max = 64; payload = None }
+
+abbrev sets_up : List ℕ → Attempt
+sets_up bytes = record { kind = SetupTok; addr = 0; ep = 0; low = false; pre = false; max = 64; payload = Some (Zero, record { items = bytes }) }
+
+abbrev status_out : Attempt
+status_out = record { kind = OutTok; addr = 0; ep = 0; low = false; pre = false; max = 64; payload = Some (Data1, record { items = [] }) }
+
+abbrev plugged : TreeWorld
+plugged = after (root_call SetReset 1) (after event (after (root_call SetPower 1) start))
+
+abbrev set_up : TreeWorld
+set_up = after (attempt (sets_up (0x80 ∷ 6 ∷ 0 ∷ 1 ∷ 0 ∷ 0 ∷ 8 ∷ 0 ∷ []))) plugged
+
+abbrev read : TreeWorld
+read = after (attempt status_out) (after (attempt asks_in) set_up)
+
+abbrev asked : TreeWorld
+asked = after (attempt (sets_up (0 ∷ 5 ∷ 1 ∷ 0 ∷ 0 ∷ 0 ∷ 0 ∷ 0 ∷ []))) read
+
+abbrev lost : TreeWorld
+lost = after (attempt asks_in) asked
+
+example : (pend plugged.roots (1 ∷ []) ≡ true) × (reach plugged.roots (1 ∷ []) ≡ true)
+    × (outcome_in asks_in set_up ≡ got.Payload Data1 (record { items = 0x12 ∷ 1 ∷ 0 ∷ 2 ∷ 0 ∷ 0 ∷ 0 ∷ 0x40 ∷ [] }))
+    × (address_at lost.roots (1 ∷ []) ≡ Some 0) × (lost.losses.all ≡ 1) × (lost.attempts ≡ 5)
+    × (address_at (after (attempt asks_in) lost).roots (1 ∷ []) ≡ Some 1)
+unfolding after took due_from ready with_attempt outcome_in marked marked_some mark_of harm_to damage_of bit_count is_read token_of payload_of answer_place answer_mark reply_of outcome_of one_more held is_twice has_loss reach_at pend_at state_at changed_at received unread fresh reset_state asks set_call clear_call answer_of effect_of after_packet answers all_forgotten change_bits setup_of status_of all_off outcome awaits_address
+example = (refl, refl, refl, refl, refl, refl, refl)

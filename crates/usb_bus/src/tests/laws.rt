@@ -1,0 +1,23 @@
+use crate::{
+    attempt_at_laws, call_laws, event_laws, events_are_pending, harmless_requests, holder_laws,
+    packet_laws, pending_stays, quiet_courses_keep_addresses, reachable_is_the_same,
+    reset_makes_new, reset_makes_reachable, sane_laws,
+};
+
+/// The laws are there to be cited; calling them does nothing.
+#[test]
+fn laws_are_called() {
+    event_laws();
+    call_laws();
+    packet_laws();
+    sane_laws();
+    holder_laws();
+    attempt_at_laws();
+    reset_makes_reachable();
+    reset_makes_new();
+    reachable_is_the_same();
+    pending_stays();
+    events_are_pending();
+    harmless_requests();
+    quiet_courses_keep_addresses();
+}
