@@ -10,7 +10,12 @@ use crate::bulk::{Which, served};
 use crate::calls::PortCall;
 use crate::lists::Bytes;
 use crate::spec::DeviceSpec;
-use usb_request::{Setup, descriptor_type, request_code, request_type};
+use usb_request::request_code::{
+    CLEAR_FEATURE, GET_CONFIGURATION, GET_DESCRIPTOR, GET_STATUS, SET_ADDRESS, SET_CONFIGURATION,
+    SET_FEATURE,
+};
+use usb_request::request_type::{DEVICE_IN, DEVICE_OUT, ENDPOINT_OUT, HUB_IN, PORT_IN, PORT_OUT};
+use usb_request::{Setup, descriptor_type};
 
 /// What the host can set in a device.
 #[derive(Clone, Copy, Debug)]
@@ -233,47 +238,28 @@ pub fn react(spec: &DeviceSpec, registers: Registers, setup: &Setup) -> Reaction
 {
     let stalls = spec.stalls();
     match (setup.request_type, setup.request) {
-        (request_type::DEVICE_IN, request_code::GET_DESCRIPTOR) => get_descriptor(
-            spec,
-            setup.value,
-        ),
-        (request_type::DEVICE_IN, request_code::GET_STATUS) => {
-            unless(stalls.status, get_status(setup))
-        }
-        (request_type::DEVICE_IN, request_code::GET_CONFIGURATION) => {
+        (DEVICE_IN, GET_DESCRIPTOR) => get_descriptor(spec, setup.value),
+        (DEVICE_IN, GET_STATUS) => unless(stalls.status, get_status(setup)),
+        (DEVICE_IN, GET_CONFIGURATION) => {
             Reaction::Answer(Source::Configuration(registers.configuration))
         }
-        (request_type::DEVICE_OUT, request_code::SET_ADDRESS) => {
-            unless(stalls.address, set_address(setup))
-        }
-        (request_type::DEVICE_OUT, request_code::SET_CONFIGURATION) => unless(
+        (DEVICE_OUT, SET_ADDRESS) => unless(stalls.address, set_address(setup)),
+        (DEVICE_OUT, SET_CONFIGURATION) => unless(
             stalls.set_config,
             set_configuration(spec, registers, setup),
         ),
-        (request_type::ENDPOINT_OUT, request_code::CLEAR_FEATURE) => unhalt(endpoint_of(
-            spec, registers, setup,
-        )),
-        (request_type::ENDPOINT_OUT, request_code::SET_FEATURE) => halt(endpoint_of(
-            spec, registers, setup,
-        )),
-        (request_type::HUB_IN, request_code::GET_DESCRIPTOR) => {
-            unless(stalls.hub, get_hub_descriptor(spec, setup))
+        (ENDPOINT_OUT, CLEAR_FEATURE) => unhalt(endpoint_of(spec, registers, setup)),
+        (ENDPOINT_OUT, SET_FEATURE) => halt(endpoint_of(spec, registers, setup)),
+        (HUB_IN, GET_DESCRIPTOR) => unless(stalls.hub, get_hub_descriptor(spec, setup)),
+        (PORT_IN, GET_STATUS) => get_port_status(spec, registers, setup),
+        (PORT_OUT, SET_FEATURE) => {
+            let call = PortCall::of_set(setup.value);
+            port_feature(call, spec, registers, setup)
         }
-        (request_type::PORT_IN, request_code::GET_STATUS) => get_port_status(
-            spec, registers, setup,
-        ),
-        (request_type::PORT_OUT, request_code::SET_FEATURE) => port_feature(
-            PortCall::of_set(setup.value),
-            spec,
-            registers,
-            setup,
-        ),
-        (request_type::PORT_OUT, request_code::CLEAR_FEATURE) => port_feature(
-            PortCall::of_clear(setup.value),
-            spec,
-            registers,
-            setup,
-        ),
+        (PORT_OUT, CLEAR_FEATURE) => {
+            let call = PortCall::of_clear(setup.value);
+            port_feature(call, spec, registers, setup)
+        }
         _ => Reaction::Refuse,
     }
 }
