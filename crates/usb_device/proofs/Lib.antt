@@ -9,4 +9,5 @@ pub mod Delivering
 pub mod Betweens
 pub mod Nodes
 pub mod Marking
+pub mod Figures
 pub mod Views

@@ -9,6 +9,7 @@ use Rattle.usb_device.specs.declared.delivery.Content.TheVariants.{Whole, Broken
 use Rattle.usb_device.specs.declared.delivery.Sent.{Sent}
 use Rattle.usb_device.specs.declared.effect.Effect.{Effect}
 use Rattle.usb_device.specs.declared.effect.Effect.TheVariants.{Leaves}
+use Rattle.usb_device.specs.Spec.{Spec}
 use Rattle.usb_device.specs.Rows.{State, Reply, received, unread, forgotten, awaits_address}
 use Rattle.usb_device.specs.Effect.{asks}
 use Rattle.usb_device.specs.declared.delivery.Heard.{Heard}
@@ -145,3 +146,16 @@ has_loss_in (Some t) = awaits_address t.own || has_loss t.ports
 abbrev pub held_in : PortState → Option Plugged → List ℕ
 held_in b None = []
 held_in b (Some t) = if b.enable then t.own.registers.address ∷ held t.ports else []
+
+-- which devices stand where: a mark for each port and for each end of a row
+unfoldable pub figure : Ports → List (Option (Option Spec))
+figure ended = None ∷ []
+figure (vacant b k) = Some None ∷ figure k
+figure (taken b s a k) = Some (Some s.spec) ∷ (figure a ++ figure k)
+
+abbrev pub figure_in : Place → List (Option (Option Spec))
+figure_in (empty b) = Some None ∷ []
+figure_in (full b s a) = Some (Some s.spec) ∷ figure a
+
+abbrev pub figure_of : Plugged → List (Option (Option Spec))
+figure_of t = Some (Some t.own.spec) ∷ figure t.ports

@@ -1,7 +1,7 @@
 //! A packet on its way through the tree of devices (8.6.5, 11.8.4).
-ghost use Rattle.std.specs.Prelude.{◌≡◌, false, true, IfOk};
+ghost use Rattle.std.specs.Prelude.{◌≡◌, false, true, IfOk, OnErr};
 ghost use Rattle.usb_device.specs.Places.{ports_in, stood};
-ghost use Rattle.usb_device.specs.Delivery.{Carries, is_heard, heard_from, both, delivered, taken_content, taken_sent, delivered_device, delivered_place};
+ghost use Rattle.usb_device.specs.Delivery.{Carries, is_heard, heard_from, both, delivered, taken_content, taken_sent, delivered_device, delivered_place, figure, figure_in, figure_of};
 
 use crate::answer::Answer;
 use crate::device::Device;
@@ -89,24 +89,28 @@ impl Ports {
     /// of these ports hears low-speed packets; one below hears them only with PRE.
     ///
     /// An error: memory is refused for a sink that was to grow; each device that was reached may have had the packet or not.
+    /// The same devices stand at the same ports.
     pub fn deliver(&mut self, sent: &Sent) -> Result<Heard, AllocError>
-        ensures { IfOk result (λ heard. (heard, self.new) ≡ delivered sent.now false self.old) }
+        ensures ok { IfOk result (λ heard. (heard, self.new) ≡ delivered sent.now false self.old) }
+        ensures err { OnErr result (figure self.new ≡ figure self.old) }
     {
         self.pass(sent, false)
     }
 
     #[cycle(deliver)]
     fn pass(&mut self, sent: &Sent, deep: bool) -> Result<Heard, AllocError>
-        ensures { IfOk result (λ heard. (heard, self.new) ≡ delivered sent.now deep self.old) }
+        ensures ok { IfOk result (λ heard. (heard, self.new) ≡ delivered sent.now deep self.old) }
+        ensures err { OnErr result (figure self.new ≡ figure self.old) }
     {
         deliver_all(self.places.as_mut_slice(), sent, deep)
     }
 }
 
 #[cycle(deliver)]
-#[tactic(auto, using(crate::proofs::Delivering::delivering))]
+#[tactic(auto, using(crate::proofs::Delivering::delivering, crate::proofs::Figures::figures))]
 fn deliver_all(places: &mut [Place], sent: &Sent, deep: bool) -> Result<Heard, AllocError>
-    ensures { IfOk result (λ heard. (heard, ports_in places.new) ≡ delivered sent.now deep (ports_in places.old)) }
+    ensures ok { IfOk result (λ heard. (heard, ports_in places.new) ≡ delivered sent.now deep (ports_in places.old)) }
+    ensures err { OnErr result (figure (ports_in places.new) ≡ figure (ports_in places.old)) }
 {
     match places.split_first_mut() {
         None => Ok(Heard::NoAnswer),
@@ -121,7 +125,8 @@ fn deliver_all(places: &mut [Place], sent: &Sent, deep: bool) -> Result<Heard, A
 impl Place {
     #[cycle(deliver)]
     fn deliver(&mut self, sent: &Sent, deep: bool) -> Result<Heard, AllocError>
-        ensures { IfOk result (λ heard. (heard, stood self.new) ≡ delivered_place sent.now deep (stood self.old)) }
+        ensures ok { IfOk result (λ heard. (heard, stood self.new) ≡ delivered_place sent.now deep (stood self.old)) }
+        ensures err { OnErr result (figure_in (stood self.new) ≡ figure_in (stood self.old)) }
     {
         match &mut self.device {
             Some(device) if self.port.is_enabled() => device.deliver(sent, deep),
@@ -133,9 +138,10 @@ impl Place {
 impl Device {
     /// The devices below come first, by the enables as they stood, then the device itself, then what it asks of its ports.
     #[cycle(deliver)]
-    #[tactic(auto, using(crate::proofs::Delivering::delivering))]
+    #[tactic(auto, using(crate::proofs::Delivering::delivering, crate::proofs::Figures::figures))]
     fn deliver(&mut self, sent: &Sent, deep: bool) -> Result<Heard, AllocError>
-        ensures { IfOk result (λ heard. (heard, self.new) ≡ delivered_device sent.now deep self.old) }
+        ensures ok { IfOk result (λ heard. (heard, self.new) ≡ delivered_device sent.now deep self.old) }
+        ensures err { OnErr result (figure_of self.new ≡ figure_of self.old) }
     {
         let below = self.ports.pass(sent, true)?;
         let here = self.take_sent(sent, deep)?;
@@ -144,7 +150,8 @@ impl Device {
 
     #[tactic(auto, unfolding(crate::specs::Delivery::answer_of, crate::specs::Delivery::effect_of))]
     fn take_sent(&mut self, sent: &Sent, deep: bool) -> Result<Option<Answer>, AllocError>
-        ensures { IfOk result (λ answer. (answer, self.new) ≡ taken_sent sent.now deep self.old) }
+        ensures ok { IfOk result (λ answer. (answer, self.new) ≡ taken_sent sent.now deep self.old) }
+        ensures err { OnErr result (self.new ≡ self.old) }
     {
         if is_heard(sent, deep, self.is_low()) {
             self.take_content(&sent.content)
@@ -154,7 +161,8 @@ impl Device {
     }
 
     fn take_content(&mut self, content: &Content) -> Result<Option<Answer>, AllocError>
-        ensures { IfOk result (λ answer. (answer, self.new) ≡ taken_content content.now self.old) }
+        ensures ok { IfOk result (λ answer. (answer, self.new) ≡ taken_content content.now self.old) }
+        ensures err { OnErr result (self.new ≡ self.old) }
     {
         match content {
             Content::Whole(packet) => self.take(packet),
