@@ -24,13 +24,13 @@ use Rattle.usb_bus.specs.Wire.{damage_of, harm_to, mark_of, bit_count, marked, m
 use Rattle.usb_bus.specs.Exchange.{token_of, payload_of, answer_place, answer_mark, reply_of, outcome_of}
 use Rattle.usb_bus.specs.Losses.{no_losses, one_more}
 use Rattle.usb_bus.specs.Live.{pend_at, pend}
-use Rattle.usb_bus.specs.TreeWorld.{TreeWorld, took, due_from, ready, with_attempt, outcome_in, attempt, root_call, event, after}
+use Rattle.usb_bus.specs.Steps.{took, due_from, ready, with_attempt, outcome_in, attempt, root_call, event, after}
 use Rattle.usb_bus.specs.Courses.{address_at}
 
 abbrev thing : Spec
 thing = function (0x66 ∷ 0x6e ∷ []) (0x12 ∷ 1 ∷ 0 ∷ 2 ∷ 0 ∷ 0 ∷ 0 ∷ 0x40 ∷ 0x34 ∷ 0x12 ∷ 0x78 ∷ 0x56 ∷ 0 ∷ 1 ∷ 0 ∷ 0 ∷ 0 ∷ 1 ∷ []) ([])
 
-abbrev start : TreeWorld
+abbrev start : World
 start = record {
   roots = vacant (record { attached = Rattle.usb_port.specs.PortState.nothing; power = false; enable = false; connection_changed = false; enable_changed = false; reset_changed = false }) ended;
   devices = thing ∷ [];
@@ -54,19 +54,19 @@ sets_up bytes = record { kind = SetupTok; addr = 0; ep = 0; low = false; pre = f
 abbrev status_out : Attempt
 status_out = record { kind = OutTok; addr = 0; ep = 0; low = false; pre = false; max = 64; payload = Some (Data1, record { items = [] }) }
 
-abbrev plugged : TreeWorld
+abbrev plugged : World
 plugged = after (root_call SetReset 1) (after event (after (root_call SetPower 1) start))
 
-abbrev set_up : TreeWorld
+abbrev set_up : World
 set_up = after (attempt (sets_up (0x80 ∷ 6 ∷ 0 ∷ 1 ∷ 0 ∷ 0 ∷ 8 ∷ 0 ∷ []))) plugged
 
-abbrev read : TreeWorld
+abbrev read : World
 read = after (attempt status_out) (after (attempt asks_in) set_up)
 
-abbrev asked : TreeWorld
+abbrev asked : World
 asked = after (attempt (sets_up (0 ∷ 5 ∷ 1 ∷ 0 ∷ 0 ∷ 0 ∷ 0 ∷ 0 ∷ []))) read
 
-abbrev lost : TreeWorld
+abbrev lost : World
 lost = after (attempt asks_in) asked
 
 example : (pend plugged.roots (1 ∷ []) ≡ true) × (reach plugged.roots (1 ∷ []) ≡ true)

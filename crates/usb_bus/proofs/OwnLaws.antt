@@ -40,7 +40,7 @@ use Rattle.usb_bus.specs.Exchange.{token_of, payload_of, reply_of}
 use Rattle.usb_bus.specs.Live.{address_of, device_of, is_way, same_path, Holds, Two}
 use Rattle.usb_bus.specs.Touched.{resets_at, reset_if, call_resets}
 use Rattle.usb_bus.specs.Passes.{passed, told, after_attempt, heard_state, deep_at, pass_resets, attempt_resets}
-use Rattle.usb_bus.specs.TreeWorld.{TreeWorld, with_plugged, happened, way_of, names, is_due, took, took_first, due_from, ready, sent_down, goes_out, token_out, payload_out, reply_out, heard_all, heard_in, mark_in, place_of_answer, damage_in, with_attempt, attempted, event_taken, losses_after, Step, attempt, root_call, event, report, after, Course, here, step}
+use Rattle.usb_bus.specs.Steps.{with_plugged, happened, way_of, names, is_due, took, took_first, due_from, ready, sent_down, goes_out, token_out, payload_out, reply_out, heard_all, heard_in, mark_in, place_of_answer, damage_in, with_attempt, attempted, event_taken, losses_after, Step, attempt, root_call, event, report, after, Course, here, step}
 use Rattle.usb_bus.specs.Courses.{is_made, made_resets, root_resets, resets, address_at, Own, Injective, is_quiet, Quiet, quiet_data, is_harmless, IsHarmlessOut}
 use Rattle.usb_bus.proofs.Booleans.{no, both, and_of, decided}
 use Rattle.usb_bus.proofs.EventLaws.{event_place}
@@ -114,7 +114,7 @@ attempt_address t d ct cd k j p f h =
 
 -- Where each reachable device holds an address of its own, no address is held twice
 
-pub own_not_twice : (f : List ℕ → Option ℕ) → Injective f → (w : TreeWorld) → Own f w → is_twice (held w.roots) ≡ false
+pub own_not_twice : (f : List ℕ → Option ℕ) → Injective f → (w : World) → Own f w → is_twice (held w.roots) ≡ false
 own_not_twice f inj w own = split (decided (is_twice (held w.roots)))
   where
     at_of : (h : Option ℕ) (x : Option ℕ) (n : ℕ) → h ≡ x → h ≡ Some n → x ≡ Some n
@@ -151,7 +151,7 @@ happened_state (Send x b) d k p h = refl
 happened_state (Receive x n) d k p h = refl
 happened_state (Clear x) d k p h = refl
 
-due_state : (es : List Event) (w : TreeWorld) (p : List ℕ) → reach (due_from es w).roots p ≡ true → device_of (due_from es w).roots p ≡ device_of w.roots p
+due_state : (es : List Event) (w : World) (p : List ℕ) → reach (due_from es w).roots p ≡ true → device_of (due_from es w).roots p ≡ device_of w.roots p
 unfolding due_from took
 due_state [] w p h = refl
 due_state (e ∷ es) w p h =
@@ -160,12 +160,12 @@ due_state (e ∷ es) w p h =
       | false ↦ λ h. refl
     ] h
 
-first_state : (es : List Event) (w : TreeWorld) (p : List ℕ) → reach (took_first es w).roots p ≡ true → device_of (took_first es w).roots p ≡ device_of w.roots p
+first_state : (es : List Event) (w : World) (p : List ℕ) → reach (took_first es w).roots p ≡ true → device_of (took_first es w).roots p ≡ device_of w.roots p
 unfolding took
 first_state [] w p h = refl
 first_state (e ∷ es) w p h = happened_state e.action w.devices w.roots p (happened_reach e.action w.devices w.roots p h).1
 
-taken_state : (f : Option BusFault) (w : TreeWorld) (p : List ℕ) → reach (event_taken f w).roots p ≡ true → device_of (event_taken f w).roots p ≡ device_of w.roots p
+taken_state : (f : Option BusFault) (w : World) (p : List ℕ) → reach (event_taken f w).roots p ≡ true → device_of (event_taken f w).roots p ≡ device_of w.roots p
 taken_state (Some f) w p h = refl
 taken_state None w p h = first_state w.left w p h
 
@@ -345,7 +345,7 @@ no_reply a d k g =
     (plain_reply (told (token_out a d) k ++ told (payload_out a d) (passed (token_out a d) k)) (mark_in a d k) a.max
     (plain_append (told (token_out a d) k) (told (payload_out a d) (passed (token_out a d) k)) (plain_told (token_out a d) g.token k) (plain_told (payload_out a d) g.payload (passed (token_out a d) k))))
 
-made_address : (a : Attempt) (w : TreeWorld) → SetupGoes a (damage_in w) → (p : List ℕ) → address_at (with_attempt a w).roots p ≡ address_at w.roots p
+made_address : (a : Attempt) (w : World) → SetupGoes a (damage_in w) → (p : List ℕ) → address_at (with_attempt a w).roots p ≡ address_at w.roots p
 unfolding with_attempt
 made_address a w g [] = refl
 made_address a w g (zero ∷ p) = refl
@@ -360,7 +360,7 @@ quiet_sends a d h = setup_sends a d a.kind a.payload refl refl h
 
 -- Steps
 
-quiet_resets : (s : Step) (w : TreeWorld) (p : List ℕ) → is_quiet s ≡ true → resets s w p ≡ false
+quiet_resets : (s : Step) (w : World) (p : List ℕ) → is_quiet s ≡ true → resets s w p ≡ false
 unfolding resets
 quiet_resets (attempt a) w p h = made (is_made w.fault w) (by_path p)
   where
@@ -387,7 +387,7 @@ quiet_resets (root_call c n) w p h = by_path n p
 quiet_resets event w p h = refl
 quiet_resets (report l) w p h = refl
 
-attempted_address : (a : Attempt) (f : Option BusFault) (w : TreeWorld) (p : List ℕ) → quiet_data a.kind a.payload ≡ true → reach w.roots p ≡ true → reach (attempted a f w).roots p ≡ true
+attempted_address : (a : Attempt) (f : Option BusFault) (w : World) (p : List ℕ) → quiet_data a.kind a.payload ≡ true → reach w.roots p ≡ true → reach (attempted a f w).roots p ≡ true
     → made_resets a (ready w) p ≡ false → address_at (attempted a f w).roots p ≡ address_at w.roots p
 unfolding ready
 attempted_address a (Some f) w p q on h r = refl
@@ -397,7 +397,7 @@ attempted_address a None w p q on h r =
       | false ↦ λ h. made_address a (ready w) (quiet_sends a (damage_in (ready w)) q) p ∙ ap (option_map address_of) (due_state w.left w p (made_reach a (ready w) p r h))
     ] h
 
-step_address : (s : Step) (w : TreeWorld) (p : List ℕ) → is_quiet s ≡ true → reach w.roots p ≡ true → reach (after s w).roots p ≡ true → address_at (after s w).roots p ≡ address_at w.roots p
+step_address : (s : Step) (w : World) (p : List ℕ) → is_quiet s ≡ true → reach w.roots p ≡ true → reach (after s w).roots p ≡ true → address_at (after s w).roots p ≡ address_at w.roots p
 unfolding after resets
 step_address (attempt a) w p q on h = attempted_address a w.fault w p q on h (by_path p)
   where
@@ -409,28 +409,28 @@ step_address (root_call c n) w p q on h = root_address c n w.roots p (quiet_rese
 step_address event w p q on h = ap (option_map address_of) (taken_state w.fault w p h)
 step_address (report l) w p q on h = refl
 
-pub step_own : (f : List ℕ → Option ℕ) (s : Step) (w : TreeWorld) → is_quiet s ≡ true → Own f w → Own f (after s w)
+pub step_own : (f : List ℕ → Option ℕ) (s : Step) (w : World) → is_quiet s ≡ true → Own f w → Own f (after s w)
 step_own f s w q own p h =
     let on : _ = (unreset_reach s w p (quiet_resets s w p q) h).0 in
     step_address s w p q on h ∙ own p on
 
 -- no mark is set
 
-due_shared : (es : List Event) (w : TreeWorld) → (due_from es w).shared ≡ w.shared
+due_shared : (es : List Event) (w : World) → (due_from es w).shared ≡ w.shared
 unfolding due_from took
 due_shared [] w = refl
 due_shared (e ∷ es) w = elim (is_due e w) as (λ b. (if b then due_from es (took e es w) else w).shared ≡ w.shared) [ true ↦ due_shared es (took e es w) | false ↦ refl ]
 
-due_own : (f : List ℕ → Option ℕ) (w : TreeWorld) → Own f w → Own f (ready w)
+due_own : (f : List ℕ → Option ℕ) (w : World) → Own f w → Own f (ready w)
 unfolding ready
 due_own f w own p h = ap (option_map address_of) (due_state w.left w p h) ∙ own p (due_reach w.left w p refl h).0
 
-first_shared : (es : List Event) (w : TreeWorld) → (took_first es w).shared ≡ w.shared
+first_shared : (es : List Event) (w : World) → (took_first es w).shared ≡ w.shared
 unfolding took
 first_shared [] w = refl
 first_shared (e ∷ es) w = refl
 
-pub step_unshared : (f : List ℕ → Option ℕ) → Injective f → (s : Step) (w : TreeWorld) → Own f w → w.shared ≡ false → (after s w).shared ≡ false
+pub step_unshared : (f : List ℕ → Option ℕ) → Injective f → (s : Step) (w : World) → Own f w → w.shared ≡ false → (after s w).shared ≡ false
 unfolding after with_attempt ready
 step_unshared f inj (attempt a) w own h = tried w.fault
   where
@@ -453,6 +453,6 @@ step_unshared f inj event w own h = taken_it w.fault
 step_unshared f inj (report l) w own h = h
 
 -- a course of such steps keeps each reachable device at its own address, and sets no mark, whatever is lost and whatever is plugged
-pub course_own : (f : List ℕ → Option ℕ) → Injective f → {w v : TreeWorld} → Course Quiet w v → Own f w → w.shared ≡ false → Own f v × (v.shared ≡ false)
+pub course_own : (f : List ℕ → Option ℕ) → Injective f → {w v : World} → Course Quiet w v → Own f w → w.shared ≡ false → Own f v × (v.shared ≡ false)
 course_own f inj (here w) own h = (own, h)
 course_own f inj (step s {w} {v} k more) own h = course_own f inj more (step_own f s w k own) (step_unshared f inj s w own h)

@@ -27,7 +27,7 @@ use Rattle.usb_bus.specs.Live.{live, pend, is_way}
 use Rattle.usb_bus.specs.Touched.{IsNew, call_resets, call_spares}
 use Rattle.usb_bus.specs.Sane.{IsSane}
 use Rattle.usb_bus.specs.Passes.{IfOut, IsTokenFor, IsDataOut, IsAckOut, IsAttemptAt, attempt_resets, attempt_spares, IsSettled}
-use Rattle.usb_bus.specs.TreeWorld.{TreeWorld, with_plugged, happened, way_of, names, is_due, took, took_first, due_from, ready, sent_down, goes_out, token_out, payload_out, reply_out, heard_in, mark_in, place_of_answer, damage_in, with_attempt, attempted, event_taken, losses_after, Step, attempt, root_call, event, report, after, Course, here, step}
+use Rattle.usb_bus.specs.Steps.{with_plugged, happened, way_of, names, is_due, took, took_first, due_from, ready, sent_down, goes_out, token_out, payload_out, reply_out, heard_in, mark_in, place_of_answer, damage_in, with_attempt, attempted, event_taken, losses_after, Step, attempt, root_call, event, report, after, Course, here, step}
 use Rattle.usb_bus.specs.Courses.{NoneNames, Undisturbed, at_path, is_made, made_resets, made_spares, root_resets, root_spares, resets, spares_step, Reached, Keeps, NoReset, Spares}
 use Rattle.usb_bus.proofs.Booleans.{no, both, decided}
 use Rattle.usb_bus.proofs.EventLaws.{event_reach, event_live, event_pend}
@@ -36,7 +36,7 @@ use Rattle.usb_bus.proofs.PassLaws.{attempt_reach, attempt_new, attempt_pend, at
 
 -- Undisturbed
 
-pub undisturbed_here : (w v : TreeWorld) (p : List ℕ) → w.left ≡ v.left → v.devices ≡ w.devices → Undisturbed w v p
+pub undisturbed_here : (w v : World) (p : List ℕ) → w.left ≡ v.left → v.devices ≡ w.devices → Undisturbed w v p
 undisturbed_here w v p e d = record { events = []; split = e; silent = tt; devices = d }
 
 append_assoc : (a b c : List Event) → (a ++ b) ++ c ≡ a ++ (b ++ c)
@@ -47,7 +47,7 @@ none_append : (d : List Spec) (a b : List Event) (p : List ℕ) → NoneNames d 
 none_append d [] b p h g = g
 none_append d (x ∷ a) b p h g = (h.0, none_append d a b p h.1 g)
 
-pub undisturbed_on : (w v u : TreeWorld) (p : List ℕ) → Undisturbed w v p → Undisturbed v u p → Undisturbed w u p
+pub undisturbed_on : (w v u : World) (p : List ℕ) → Undisturbed w v p → Undisturbed v u p → Undisturbed w u p
 undisturbed_on w v u p f g = record {
   events = f.events ++ g.events;
   split = f.split ∙ ap (λ x. f.events ++ x) g.split ∙ sym (append_assoc f.events g.events u.left);
@@ -118,13 +118,13 @@ happened_live (Send x b) d k p h = inl (h, refl)
 happened_live (Receive x n) d k p h = inl (h, refl)
 happened_live (Clear x) d k p h = inl (h, refl)
 
-took_reach : (e : Event) (es : List Event) (w : TreeWorld) (p : List ℕ) → w.left ≡ e ∷ es → reach (took e es w).roots p ≡ true → (reach w.roots p ≡ true) × Undisturbed w (took e es w) p
+took_reach : (e : Event) (es : List Event) (w : World) (p : List ℕ) → w.left ≡ e ∷ es → reach (took e es w).roots p ≡ true → (reach w.roots p ≡ true) × Undisturbed w (took e es w) p
 unfolding took
 took_reach e es w p l h =
     let at : _ = happened_reach e.action w.devices w.roots p h in
     (at.0, record { events = e ∷ []; split = l; silent = (at.1, tt); devices = refl })
 
-took_live : (e : Event) (es : List Event) (w : TreeWorld) (p : List ℕ) → w.left ≡ e ∷ es → live w.roots p ≡ true → Keeps w (took e es w) p
+took_live : (e : Event) (es : List Event) (w : World) (p : List ℕ) → w.left ≡ e ∷ es → live w.roots p ≡ true → Keeps w (took e es w) p
 unfolding took
 took_live e es w p l h = pick (happened_live e.action w.devices w.roots p h)
   where
@@ -132,11 +132,11 @@ took_live e es w p l h = pick (happened_live e.action w.devices w.roots p h)
     pick (inl y) = inl (y.0, record { events = e ∷ []; split = l; silent = (y.1, tt); devices = refl })
     pick (inr y) = inr y
 
-took_pend : (e : Event) (es : List Event) (w : TreeWorld) (p : List ℕ) → pend w.roots p ≡ true → pend (took e es w).roots p ≡ true
+took_pend : (e : Event) (es : List Event) (w : World) (p : List ℕ) → pend w.roots p ≡ true → pend (took e es w).roots p ≡ true
 unfolding took
 took_pend e es w p h = happened_pend e.action w.devices w.roots p h
 
-pub due_reach : (es : List Event) (w : TreeWorld) (p : List ℕ) → w.left ≡ es → reach (due_from es w).roots p ≡ true → (reach w.roots p ≡ true) × Undisturbed w (due_from es w) p
+pub due_reach : (es : List Event) (w : World) (p : List ℕ) → w.left ≡ es → reach (due_from es w).roots p ≡ true → (reach w.roots p ≡ true) × Undisturbed w (due_from es w) p
 unfolding due_from took
 due_reach [] w p l h = (h, undisturbed_here w w p refl refl)
 due_reach (e ∷ es) w p l h =
@@ -146,7 +146,7 @@ due_reach (e ∷ es) w p l h =
       | false ↦ λ h. (h, undisturbed_here w w p refl refl)
     ] h
 
-due_pend : (es : List Event) (w : TreeWorld) (p : List ℕ) → pend w.roots p ≡ true → pend (due_from es w).roots p ≡ true
+due_pend : (es : List Event) (w : World) (p : List ℕ) → pend w.roots p ≡ true → pend (due_from es w).roots p ≡ true
 unfolding due_from took
 due_pend [] w p h = h
 due_pend (e ∷ es) w p h =
@@ -155,7 +155,7 @@ due_pend (e ∷ es) w p h =
       | false ↦ h
     ]
 
-due_live : (es : List Event) (w : TreeWorld) (p : List ℕ) → w.left ≡ es → live w.roots p ≡ true → Keeps w (due_from es w) p
+due_live : (es : List Event) (w : World) (p : List ℕ) → w.left ≡ es → live w.roots p ≡ true → Keeps w (due_from es w) p
 unfolding due_from took
 due_live [] w p l h = inl (h, undisturbed_here w w p refl refl)
 due_live (e ∷ es) w p l h =
@@ -235,31 +235,31 @@ goes a d k = record { token = token_goes a d; payload = payload_goes a d; reply 
 
 -- An attempt that is made
 
-pub made_reach : (a : Attempt) (w : TreeWorld) (p : List ℕ) → made_resets a w p ≡ false → reach (with_attempt a w).roots p ≡ true → reach w.roots p ≡ true
+pub made_reach : (a : Attempt) (w : World) (p : List ℕ) → made_resets a w p ≡ false → reach (with_attempt a w).roots p ≡ true → reach w.roots p ≡ true
 unfolding with_attempt
 made_reach a w [] f h = no h
 made_reach a w (zero ∷ p) f h = no h
 made_reach a w (suc j ∷ p) f h = attempt_reach a.addr (token_out a (damage_in w)) (payload_out a (damage_in w)) (reply_out a (damage_in w) w.roots) (goes a (damage_in w) w.roots) w.roots j p f h
 
-made_new : (a : Attempt) (w : TreeWorld) (p : List ℕ) → made_resets a w p ≡ true → IsNew (place (with_attempt a w).roots p)
+made_new : (a : Attempt) (w : World) (p : List ℕ) → made_resets a w p ≡ true → IsNew (place (with_attempt a w).roots p)
 unfolding with_attempt
 made_new a w [] f = no f
 made_new a w (zero ∷ p) f = no f
 made_new a w (suc j ∷ p) f = attempt_new a.addr (token_out a (damage_in w)) (payload_out a (damage_in w)) (reply_out a (damage_in w) w.roots) (goes a (damage_in w) w.roots) w.roots j p f
 
-made_pend : (a : Attempt) (w : TreeWorld) (p : List ℕ) → made_spares a w p ≡ true → pend w.roots p ≡ true → pend (with_attempt a w).roots p ≡ true
+made_pend : (a : Attempt) (w : World) (p : List ℕ) → made_spares a w p ≡ true → pend w.roots p ≡ true → pend (with_attempt a w).roots p ≡ true
 unfolding with_attempt
 made_pend a w [] f h = no h
 made_pend a w (zero ∷ p) f h = no h
 made_pend a w (suc j ∷ p) f h = attempt_pend a.addr (token_out a (damage_in w)) (payload_out a (damage_in w)) (reply_out a (damage_in w) w.roots) (goes a (damage_in w) w.roots) w.roots j p f h
 
-made_live : (a : Attempt) (w : TreeWorld) (p : List ℕ) → made_spares a w p ≡ true → live w.roots p ≡ true → live (with_attempt a w).roots p ≡ true
+made_live : (a : Attempt) (w : World) (p : List ℕ) → made_spares a w p ≡ true → live w.roots p ≡ true → live (with_attempt a w).roots p ≡ true
 unfolding with_attempt
 made_live a w [] f h = no h
 made_live a w (zero ∷ p) f h = no h
 made_live a w (suc j ∷ p) f h = attempt_live a.addr (token_out a (damage_in w)) (payload_out a (damage_in w)) (reply_out a (damage_in w) w.roots) (goes a (damage_in w) w.roots) w.roots j p f h
 
-made_rest : (a : Attempt) (w : TreeWorld) (p : List ℕ) → Undisturbed w (with_attempt a w) p
+made_rest : (a : Attempt) (w : World) (p : List ℕ) → Undisturbed w (with_attempt a w) p
 unfolding with_attempt
 made_rest a w p = undisturbed_here w (with_attempt a w) p refl refl
 
@@ -292,7 +292,7 @@ root_live c (suc i) k (suc j ∷ p) g h = call_live c k i j p g h
 -- Steps
 
 -- a device that a step resets is new after it
-attempted_new : (a : Attempt) (f : Option BusFault) (w : TreeWorld) (p : List ℕ) → (is_made f w && made_resets a (ready w) p) ≡ true → IsNew (place (attempted a f w).roots p)
+attempted_new : (a : Attempt) (f : Option BusFault) (w : World) (p : List ℕ) → (is_made f w && made_resets a (ready w) p) ≡ true → IsNew (place (attempted a f w).roots p)
 attempted_new a (Some f) w p h = no h
 attempted_new a None w p h =
     elim (w.attempts == w.limit) as (λ b. (not b && made_resets a (ready w) p) ≡ true → IsNew (place (if b then record w { fault = Some LimitReached } else with_attempt a (ready w)).roots p)) [
@@ -300,14 +300,14 @@ attempted_new a None w p h =
       | false ↦ λ h. made_new a (ready w) p h
     ] h
 
-pub step_new : (s : Step) (w : TreeWorld) (p : List ℕ) → resets s w p ≡ true → IsNew (place (after s w).roots p)
+pub step_new : (s : Step) (w : World) (p : List ℕ) → resets s w p ≡ true → IsNew (place (after s w).roots p)
 unfolding after resets
 step_new (attempt a) w p h = attempted_new a w.fault w p h
 step_new (root_call c n) w p h = root_new c n w.roots p h
 step_new event w p h = no h
 step_new (report l) w p h = no h
 
-attempted_reach : (a : Attempt) (f : Option BusFault) (w : TreeWorld) (p : List ℕ) → (is_made f w && made_resets a (ready w) p) ≡ false → reach (attempted a f w).roots p ≡ true
+attempted_reach : (a : Attempt) (f : Option BusFault) (w : World) (p : List ℕ) → (is_made f w && made_resets a (ready w) p) ≡ false → reach (attempted a f w).roots p ≡ true
     → (reach w.roots p ≡ true) × Undisturbed w (attempted a f w) p
 unfolding ready
 attempted_reach a (Some f) w p g h = (h, undisturbed_here w w p refl refl)
@@ -319,15 +319,15 @@ attempted_reach a None w p g h =
           (on.0, undisturbed_on w (ready w) (with_attempt a (ready w)) p on.1 (made_rest a (ready w) p))
     ] g h
 
-first_reach : (es : List Event) (w : TreeWorld) (p : List ℕ) → w.left ≡ es → reach (took_first es w).roots p ≡ true → (reach w.roots p ≡ true) × Undisturbed w (took_first es w) p
+first_reach : (es : List Event) (w : World) (p : List ℕ) → w.left ≡ es → reach (took_first es w).roots p ≡ true → (reach w.roots p ≡ true) × Undisturbed w (took_first es w) p
 first_reach [] w p l h = (h, undisturbed_here w w p refl refl)
 first_reach (e ∷ es) w p l h = took_reach e es w p l h
 
-event_taken_reach : (f : Option BusFault) (w : TreeWorld) (p : List ℕ) → reach (event_taken f w).roots p ≡ true → (reach w.roots p ≡ true) × Undisturbed w (event_taken f w) p
+event_taken_reach : (f : Option BusFault) (w : World) (p : List ℕ) → reach (event_taken f w).roots p ≡ true → (reach w.roots p ≡ true) × Undisturbed w (event_taken f w) p
 event_taken_reach (Some f) w p h = (h, undisturbed_here w w p refl refl)
 event_taken_reach None w p h = first_reach w.left w p refl h
 
-pub unreset_reach : (s : Step) (w : TreeWorld) (p : List ℕ) → resets s w p ≡ false → reach (after s w).roots p ≡ true → (reach w.roots p ≡ true) × Undisturbed w (after s w) p
+pub unreset_reach : (s : Step) (w : World) (p : List ℕ) → resets s w p ≡ false → reach (after s w).roots p ≡ true → (reach w.roots p ≡ true) × Undisturbed w (after s w) p
 unfolding after resets
 unreset_reach (attempt a) w p g h = attempted_reach a w.fault w p g h
 unreset_reach (root_call c n) w p g h = (root_reach c n w.roots p g h, undisturbed_here w (record w { roots = changed (called c) w.roots (n ∷ []); losses = losses_after c w.losses }) p refl refl)
@@ -335,7 +335,7 @@ unreset_reach event w p g h = event_taken_reach w.fault w p h
 unreset_reach (report l) w p g h = (h, undisturbed_here w w p refl refl)
 
 -- a device becomes reachable in one way only: by PORT_RESET at its own port, which leaves it new
-pub step_reach : (s : Step) (w : TreeWorld) (p : List ℕ) → reach (after s w).roots p ≡ true → Reached w (after s w) p (resets s w p)
+pub step_reach : (s : Step) (w : World) (p : List ℕ) → reach (after s w).roots p ≡ true → Reached w (after s w) p (resets s w p)
 step_reach s w p h = pick (decided (resets s w p))
   where
     pick : (resets s w p ≡ true) ⊎ (resets s w p ≡ false) → Reached w (after s w) p (resets s w p)
@@ -344,7 +344,7 @@ step_reach s w p h = pick (decided (resets s w p))
 
 -- Pending persists
 
-attempted_pend : (a : Attempt) (f : Option BusFault) (w : TreeWorld) (p : List ℕ) → made_spares a (ready w) p ≡ true → pend w.roots p ≡ true → pend (attempted a f w).roots p ≡ true
+attempted_pend : (a : Attempt) (f : Option BusFault) (w : World) (p : List ℕ) → made_spares a (ready w) p ≡ true → pend w.roots p ≡ true → pend (attempted a f w).roots p ≡ true
 unfolding ready
 attempted_pend a (Some f) w p g h = h
 attempted_pend a None w p g h =
@@ -353,15 +353,15 @@ attempted_pend a None w p g h =
       | false ↦ made_pend a (ready w) p g (due_pend w.left w p h)
     ]
 
-first_pend : (es : List Event) (w : TreeWorld) (p : List ℕ) → pend w.roots p ≡ true → pend (took_first es w).roots p ≡ true
+first_pend : (es : List Event) (w : World) (p : List ℕ) → pend w.roots p ≡ true → pend (took_first es w).roots p ≡ true
 first_pend [] w p h = h
 first_pend (e ∷ es) w p h = took_pend e es w p h
 
-event_taken_pend : (f : Option BusFault) (w : TreeWorld) (p : List ℕ) → pend w.roots p ≡ true → pend (event_taken f w).roots p ≡ true
+event_taken_pend : (f : Option BusFault) (w : World) (p : List ℕ) → pend w.roots p ≡ true → pend (event_taken f w).roots p ≡ true
 event_taken_pend (Some f) w p h = h
 event_taken_pend None w p h = first_pend w.left w p h
 
-pub step_pend : (s : Step) (w : TreeWorld) (p : List ℕ) → spares_step s w p ≡ true → pend w.roots p ≡ true → pend (after s w).roots p ≡ true
+pub step_pend : (s : Step) (w : World) (p : List ℕ) → spares_step s w p ≡ true → pend w.roots p ≡ true → pend (after s w).roots p ≡ true
 unfolding after spares_step
 step_pend (attempt a) w p g h = attempted_pend a w.fault w p g h
 step_pend (root_call c n) w p g h = root_pend c n w.roots p g h
@@ -370,7 +370,7 @@ step_pend (report l) w p g h = h
 
 -- No event comes on a live way but that it is pending
 
-attempted_live : (a : Attempt) (f : Option BusFault) (w : TreeWorld) (p : List ℕ) → made_spares a (ready w) p ≡ true → live w.roots p ≡ true → Keeps w (attempted a f w) p
+attempted_live : (a : Attempt) (f : Option BusFault) (w : World) (p : List ℕ) → made_spares a (ready w) p ≡ true → live w.roots p ≡ true → Keeps w (attempted a f w) p
 unfolding ready
 attempted_live a (Some f) w p g h = inl (h, undisturbed_here w w p refl refl)
 attempted_live a None w p g h =
@@ -383,15 +383,15 @@ attempted_live a None w p g h =
     pick (inl y) = inl (made_live a (ready w) p g y.0, undisturbed_on w (ready w) (with_attempt a (ready w)) p y.1 (made_rest a (ready w) p))
     pick (inr y) = inr (made_pend a (ready w) p g y)
 
-first_live : (es : List Event) (w : TreeWorld) (p : List ℕ) → w.left ≡ es → live w.roots p ≡ true → Keeps w (took_first es w) p
+first_live : (es : List Event) (w : World) (p : List ℕ) → w.left ≡ es → live w.roots p ≡ true → Keeps w (took_first es w) p
 first_live [] w p l h = inl (h, undisturbed_here w w p refl refl)
 first_live (e ∷ es) w p l h = took_live e es w p l h
 
-event_taken_live : (f : Option BusFault) (w : TreeWorld) (p : List ℕ) → live w.roots p ≡ true → Keeps w (event_taken f w) p
+event_taken_live : (f : Option BusFault) (w : World) (p : List ℕ) → live w.roots p ≡ true → Keeps w (event_taken f w) p
 event_taken_live (Some f) w p h = inl (h, undisturbed_here w w p refl refl)
 event_taken_live None w p h = first_live w.left w p refl h
 
-pub step_live : (s : Step) (w : TreeWorld) (p : List ℕ) → spares_step s w p ≡ true → live w.roots p ≡ true → Keeps w (after s w) p
+pub step_live : (s : Step) (w : World) (p : List ℕ) → spares_step s w p ≡ true → live w.roots p ≡ true → Keeps w (after s w) p
 unfolding after spares_step
 step_live (attempt a) w p g h = attempted_live a w.fault w p g h
 step_live (root_call c n) w p g h = inl (root_live c n w.roots p g h, undisturbed_here w (record w { roots = changed (called c) w.roots (n ∷ []); losses = losses_after c w.losses }) p refl refl)
@@ -401,18 +401,18 @@ step_live (report l) w p g h = inl (h, undisturbed_here w w p refl refl)
 -- Courses
 
 -- a device that is reachable after a course that does not reset it was reachable before it, and is the same one
-pub same_device : (p : List ℕ) {w v : TreeWorld} → Course (NoReset p) w v → reach v.roots p ≡ true → (reach w.roots p ≡ true) × Undisturbed w v p
+pub same_device : (p : List ℕ) {w v : World} → Course (NoReset p) w v → reach v.roots p ≡ true → (reach w.roots p ≡ true) × Undisturbed w v p
 same_device p (here w) h = (h, undisturbed_here w w p refl refl)
 same_device p (step s {w} {v} k more) h =
     let on : _ = same_device p more h in
     let first : _ = unreset_reach s w p k on.0 in
     (first.0, undisturbed_on w (after s w) v p first.1 on.1)
 
-pub pending_persists : (p : List ℕ) {w v : TreeWorld} → Course (Spares p) w v → pend w.roots p ≡ true → pend v.roots p ≡ true
+pub pending_persists : (p : List ℕ) {w v : World} → Course (Spares p) w v → pend w.roots p ≡ true → pend v.roots p ≡ true
 pending_persists p (here w) h = h
 pending_persists p (step s {w} {v} k more) h = pending_persists p more (step_pend s w p k h)
 
-pub untouched_or_pending : (p : List ℕ) {w v : TreeWorld} → Course (Spares p) w v → live w.roots p ≡ true → Keeps w v p
+pub untouched_or_pending : (p : List ℕ) {w v : World} → Course (Spares p) w v → live w.roots p ≡ true → Keeps w v p
 untouched_or_pending p (here w) h = inl (h, undisturbed_here w w p refl refl)
 untouched_or_pending p (step s {w} {v} k more) h = pick (step_live s w p k h) (untouched_or_pending p more) (pending_persists p more)
   where
@@ -425,10 +425,10 @@ untouched_or_pending p (step s {w} {v} k more) h = pick (step_live s w p k h) (u
     pick (inr y) live_on pend_on = inr (pend_on y)
 
 -- courses join
-pub course_joined : {K : Step → TreeWorld → Type 0} {w v u : TreeWorld} → Course K w v → Course K v u → Course K w u
+pub course_joined : {K : Step → World → Type 0} {w v u : World} → Course K w v → Course K v u → Course K w u
 course_joined (here w) d = d
 course_joined (step s k c) d = step s k (course_joined c d)
 
-pub course_wider : {K L : Step → TreeWorld → Type 0} {w v : TreeWorld} → ((s : Step) (w : TreeWorld) → K s w → L s w) → Course K w v → Course L w v
+pub course_wider : {K L : Step → World → Type 0} {w v : World} → ((s : Step) (w : World) → K s w → L s w) → Course K w v → Course L w v
 course_wider f (here w) = here w
 course_wider f (step s {w} {v} k c) = step s (f s w k) (course_wider f c)

@@ -21,7 +21,7 @@ use Rattle.usb_bus.specs.declared.types.BusFault.{BusFault}
 use Rattle.usb_bus.specs.Live.{live, pend, device_of, address_of, same_path}
 use Rattle.usb_bus.specs.Touched.{IsNew, call_resets, call_spares}
 use Rattle.usb_bus.specs.Passes.{attempt_resets, attempt_spares}
-use Rattle.usb_bus.specs.TreeWorld.{TreeWorld, names, ready, damage_in, token_out, payload_out, Step, attempt, root_call, event, report}
+use Rattle.usb_bus.specs.Steps.{names, ready, damage_in, token_out, payload_out, Step, attempt, root_call, event, report}
 
 -- no event of these is at the path or at a port on its way
 abbrev pub NoneNames : List Spec → List Event → List ℕ → Type 0
@@ -29,7 +29,7 @@ NoneNames devices [] p = ⊤
 NoneNames devices (e ∷ events) p = (names devices e.action p ≡ false) × NoneNames devices events p
 
 -- no event between two worlds was at the path or on its way: the same device, or none, stood there throughout
-pub record Undisturbed (w v : TreeWorld) (p : List ℕ) : Type 0 where
+pub record Undisturbed (w v : World) (p : List ℕ) : Type 0 where
   pub events : List Event
   pub split : w.left ≡ events ++ v.left
   pub silent : NoneNames w.devices events p
@@ -41,14 +41,14 @@ at_path f none (zero ∷ p) = none
 at_path f none (suc j ∷ p) = f j p
 
 -- whether an attempt is made, and not refused
-abbrev pub is_made : Option BusFault → TreeWorld → Bool
+abbrev pub is_made : Option BusFault → World → Bool
 is_made (Some f) w = false
 is_made None w = not (w.attempts == w.limit)
 
-abbrev pub made_resets : Attempt → TreeWorld → List ℕ → Bool
+abbrev pub made_resets : Attempt → World → List ℕ → Bool
 made_resets a w p = at_path (attempt_resets (token_out a (damage_in w)) (payload_out a (damage_in w)) w.roots) false p
 
-abbrev pub made_spares : Attempt → TreeWorld → List ℕ → Bool
+abbrev pub made_spares : Attempt → World → List ℕ → Bool
 made_spares a w p = at_path (attempt_spares (token_out a (damage_in w)) (payload_out a (damage_in w)) w.roots) true p
 
 abbrev pub root_resets : PortCall → ℕ → Ports → List ℕ → Bool
@@ -60,7 +60,7 @@ root_spares c zero p = true
 root_spares c (suc i) p = at_path (call_spares c i) true p
 
 -- whether a step resets the device at just this path
-unfoldable pub resets : Step → TreeWorld → List ℕ → Bool
+unfoldable pub resets : Step → World → List ℕ → Bool
 resets (attempt a) w p = is_made w.fault w && made_resets a (ready w) p
 resets (root_call c n) w p = root_resets c n w.roots p
 resets event w p = false
@@ -68,24 +68,24 @@ resets (report line) w p = false
 
 -- whether a step leaves pending what is pending there: it clears no change of connection there or on the way, and
 -- neither resets a device on the way nor takes its power or configuration
-unfoldable pub spares_step : Step → TreeWorld → List ℕ → Bool
+unfoldable pub spares_step : Step → World → List ℕ → Bool
 spares_step (attempt a) w p = made_spares a (ready w) p
 spares_step (root_call c n) w p = root_spares c n p
 spares_step event w p = true
 spares_step (report line) w p = true
 
 -- reachable before and not disturbed since, or just reset
-abbrev pub Reached : TreeWorld → TreeWorld → List ℕ → Bool → Type 0
+abbrev pub Reached : World → World → List ℕ → Bool → Type 0
 Reached w v p was_reset = ((was_reset ≡ false) × (reach w.roots p ≡ true) × Undisturbed w v p) ⊎ ((was_reset ≡ true) × IsNew (place v.roots p))
 
 -- powered on its whole way and not disturbed, or pending
-abbrev pub Keeps : TreeWorld → TreeWorld → List ℕ → Type 0
+abbrev pub Keeps : World → World → List ℕ → Type 0
 Keeps w v p = ((live v.roots p ≡ true) × Undisturbed w v p) ⊎ (pend v.roots p ≡ true)
 
-abbrev pub NoReset : List ℕ → Step → TreeWorld → Type 0
+abbrev pub NoReset : List ℕ → Step → World → Type 0
 NoReset p s w = resets s w p ≡ false
 
-abbrev pub Spares : List ℕ → Step → TreeWorld → Type 0
+abbrev pub Spares : List ℕ → Step → World → Type 0
 Spares p s w = spares_step s w p ≡ true
 
 -- a request that is not PORT_RESET of a port
@@ -103,7 +103,7 @@ abbrev pub address_at : Ports → List ℕ → Option ℕ
 address_at k p = option_map address_of (device_of k p)
 
 -- each reachable device holds the address that a map gives its path
-abbrev pub Own : (List ℕ → Option ℕ) → TreeWorld → Type 0
+abbrev pub Own : (List ℕ → Option ℕ) → World → Type 0
 Own f w = (p : List ℕ) → reach w.roots p ≡ true → address_at w.roots p ≡ f p
 
 -- no two paths have one address
@@ -123,5 +123,5 @@ is_quiet (attempt a) = quiet_data a.kind a.payload
 is_quiet (root_call c n) = not (is_reset c)
 is_quiet s = true
 
-abbrev pub Quiet : Step → TreeWorld → Type 0
+abbrev pub Quiet : Step → World → Type 0
 Quiet s w = is_quiet s ≡ true

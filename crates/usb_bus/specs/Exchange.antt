@@ -1,35 +1,28 @@
--- The packets of an attempt, and what the host makes of the answers.
-use Rattle.std.specs.Prelude.{ℕ, ◌+◌, Bool, false, not, ◌&&◌, ◌||◌, List, [], ◌∷◌, map, option_map, length, nat_le, if◌then◌else◌, Option, Some, None}
+-- The packets of an attempt, what the devices make of them, and what the host makes of the answers (8.5).
+use Rattle.std.specs.Prelude.{ℕ, ◌+◌, Bool, true, false, not, ◌&&◌, List, [], ◌∷◌, ◌++◌, length, nat_le, if◌then◌else◌, Option, Some, None}
 use Rattle.usb_packet.specs.declared.Packet.{Packet}
 use Rattle.usb_packet.specs.declared.Packet.TheVariants.{Token, Ack, Sof, Nak, Stall, Pre}
 use Rattle.usb_packet.specs.declared.Packet.TheVariants as packet
 use Rattle.usb_device.specs.declared.answer.Answer.{Answer}
-use Rattle.usb_device.specs.Rows.{unread, awaits_address}
-use Rattle.usb_device.specs.Tree.{Plugged}
-use Rattle.usb_device.specs.Delivery.{forgotten_whole}
-use Rattle.usb_device.specs.Received.{packet_of, received_by}
+use Rattle.usb_device.specs.declared.delivery.Content.{Content}
+use Rattle.usb_device.specs.declared.delivery.Content.TheVariants as content
+use Rattle.usb_device.specs.declared.delivery.Sent.{Sent}
+use Rattle.usb_device.specs.Received.{packet_of}
+use Rattle.usb_device.specs.Tree.{Ports}
+use Rattle.usb_device.specs.Delivery.{has_loss, clears_change}
 use Rattle.usb_bus.specs.declared.types.Attempt.{Attempt}
 use Rattle.usb_bus.specs.declared.types.Outcome.{Outcome}
 use Rattle.usb_bus.specs.declared.types.Outcome.TheVariants as outcome
 use Rattle.usb_bus.specs.declared.damage.Damage.{Damage}
 use Rattle.usb_bus.specs.declared.damage.Harm.{Harm}
-use Rattle.usb_bus.specs.declared.root.RootPort.{RootPort}
 use Rattle.usb_bus.specs.declared.exchange.Exchange.{Exchange}
 use Rattle.usb_bus.specs.declared.exchange.Heard.{Heard}
 use Rattle.usb_bus.specs.declared.exchange.Heard.TheVariants.{Nothing, One, Collision}
 use Rattle.usb_bus.specs.declared.wire.Mark.{Mark}
 use Rattle.usb_bus.specs.declared.wire.Mark.TheVariants.{Whole, Lost, PreLost, Flipped}
-use Rattle.usb_bus.specs.declared.wire.Sent.{Sent}
-use Rattle.usb_bus.specs.Roots.{reaches}
+use Rattle.usb_bus.specs.declared.wire.Outgoing.{Outgoing}
 use Rattle.usb_bus.specs.Wire.{harm_to, mark_of, is_read, marked, marked_some}
-
--- two answers collide
-unfoldable pub joined : Heard → Heard → Heard
-joined Nothing other = other
-joined (One p) Nothing = One p
-joined (One p) (One q) = Collision
-joined (One p) Collision = Collision
-joined Collision other = Collision
+use Rattle.usb_bus.specs.Passes.{passed, told, after_attempt}
 
 unfoldable pub token_of : Attempt → Packet
 token_of a = Token a.kind a.addr a.ep
@@ -39,7 +32,7 @@ unfoldable pub payload_of : Attempt → Option Packet
 payload_of a = elim a.payload [ None ↦ None | Some p ↦ Some (packet.Payload p.0 p.1) ]
 
 -- the place of the answer among the packets of an attempt: after the token, or after the host's data
-unfoldable pub answer_place : Option Sent → ℕ
+unfoldable pub answer_place : Option Outgoing → ℕ
 answer_place None = 2
 answer_place (Some s) = 3
 
@@ -66,74 +59,87 @@ outcome_heard _ max = outcome.Nothing
 unfoldable pub outcome_of : Heard → Mark → ℕ → Outcome
 outcome_of answer mark max = if not (is_read mark) then outcome.Nothing else outcome_heard answer max
 
--- the answer of one device
-abbrev pub heard_from : Option Answer → Heard
-heard_from None = Nothing
-heard_from (Some answer) = One (packet_of answer)
+-- a packet as damage leaves it, on its way to the devices
+abbrev pub sent_as : Bool → Bool → Mark → Packet → Option Sent
+sent_as low pre Whole p = Some (record { low = low; pre = pre; content = content.Whole p })
+sent_as low pre Lost p = None
+sent_as low pre PreLost p = Some (record { low = low; pre = false; content = content.Whole p })
+sent_as low pre (Flipped bit) p = Some (record { low = low; pre = pre; content = content.Broken })
 
--- a device gets a packet, or bytes that spell none
-unfoldable pub device_received : Option Packet → Plugged → Heard × Plugged
-device_received None d = (Nothing, record d { own = unread d.own })
-device_received (Some p) d = (heard_from (received_by d p).0, (received_by d p).1)
+unfoldable pub goes_out : Attempt → Outgoing → Option Sent
+goes_out a s = sent_as a.low a.pre s.mark s.packet
 
-unfoldable pub place_received : Option Packet → Option Plugged → Heard × Option Plugged
-place_received p None = (Nothing, None)
-place_received p (Some d) = ((device_received p d).0, Some (device_received p d).1)
+abbrev pub goes_out_some : Attempt → Option Outgoing → Option Sent
+goes_out_some a None = None
+goes_out_some a (Some s) = goes_out a s
 
--- a packet at a root port: its device gets it where it is reached
-unfoldable pub root_received : Bool → Option Packet → RootPort → Heard × RootPort
-root_received low p r = if reaches r.port low then ((place_received p r.device).0, record r { device = (place_received p r.device).1 }) else (Nothing, r)
+-- two answers collide
+unfoldable pub heard_all : List Answer → Heard
+heard_all [] = Nothing
+heard_all (x ∷ []) = One (packet_of x)
+heard_all (x ∷ y ∷ more) = Collision
 
--- a packet at every root port, and the answers together
-unfoldable pub delivered : Bool → Option Packet → List RootPort → Heard × List RootPort
-delivered low p [] = (Nothing, [])
-delivered low p (r ∷ roots) = (joined (root_received low p r).0 (delivered low p roots).0, (root_received low p r).1 ∷ (delivered low p roots).1)
+-- the packets of an attempt, as its damage leaves them
+abbrev pub token_out : Attempt → Option Damage → Option Sent
+token_out a damage = goes_out a (marked damage 1 a.pre (token_of a))
 
--- a packet as damage leaves it: lost, or with a flipped bit, so that it spells nothing, or whole
-abbrev pub sent_as : Mark → Bool → Packet → List RootPort → Heard × List RootPort
-sent_as Lost low p roots = (Nothing, roots)
-sent_as (Flipped bit) low p roots = delivered low None roots
-sent_as Whole low p roots = delivered low (Some p) roots
-sent_as PreLost low p roots = delivered low (Some p) roots
+abbrev pub payload_in : Attempt → Option Damage → Option Outgoing
+payload_in a damage = marked_some damage 2 a.pre (payload_of a)
 
-unfoldable pub sent : Bool → Sent → List RootPort → Heard × List RootPort
-sent low s roots = sent_as s.mark low s.packet roots
+abbrev pub payload_out : Attempt → Option Damage → Option Sent
+payload_out a damage = goes_out_some a (payload_in a damage)
 
-unfoldable pub sent_some : Bool → Option Sent → List RootPort → Heard × List RootPort
-sent_some low None roots = (Nothing, roots)
-sent_some low (Some s) roots = sent low s roots
+-- what is answered
+abbrev pub heard_in : Attempt → Option Damage → Ports → Heard
+heard_in a damage k = heard_all (told (token_out a damage) k ++ told (payload_out a damage) (passed (token_out a damage) k))
 
--- the host's ACK went out, and nobody reads it
-unfoldable pub is_unread : Option Sent → Bool
-is_unread None = false
-is_unread (Some s) = not (is_read s.mark)
+abbrev pub mark_in : Attempt → Option Damage → Ports → Mark
+mark_in a damage k = answer_mark (harm_to damage (answer_place (payload_in a damage))) (heard_in a damage k)
 
--- the device of a root port awaits the ACK at which it takes its address
-unfoldable pub root_awaits : RootPort → Bool
-root_awaits r = elim r.device [ None ↦ false | Some d ↦ awaits_address d.own ]
+-- the host's ACK of the answer
+abbrev pub reply_in : Attempt → Option Damage → Ports → Option Outgoing
+reply_in a damage k = marked_some damage (answer_place (payload_in a damage) + 1) a.pre (reply_of (heard_in a damage k) (mark_in a damage k) a.max)
 
-unfoldable pub is_address_awaited : List RootPort → Bool
-is_address_awaited [] = false
-is_address_awaited (r ∷ roots) = root_awaits r || is_address_awaited roots
+abbrev pub reply_out : Attempt → Option Damage → Ports → Option Sent
+reply_out a damage k = goes_out_some a (reply_in a damage k)
 
--- the attempt is over
-abbrev pub over : RootPort → RootPort
-over r = record r { device = option_map forgotten_whole r.device }
+-- the devices when the host's ACK goes out
+abbrev pub answered_in : Attempt → Option Damage → Ports → Ports
+answered_in a damage k = passed (payload_out a damage) (passed (token_out a damage) k)
 
-unfoldable pub ended : List RootPort → List RootPort
-ended roots = map over roots
+-- a packet that devices can read
+abbrev pub readable : Option Sent → Option Sent
+readable None = None
+readable (Some q) = elim q.content [ content.Whole p ↦ Some q | content.Broken ↦ None ]
+
+-- the host's ACK went out, and a device did not read it that awaits it to take its address (9.4.6)
+abbrev pub is_lost : Option Outgoing → Option Sent → Ports → Bool
+is_lost None q k = false
+is_lost (Some s) q k = has_loss (passed (readable q) k)
+
+unfoldable pub lost_in : Attempt → Option Damage → Ports → Bool
+lost_in a damage k = is_lost (reply_in a damage k) (reply_out a damage k) (answered_in a damage k)
+
+-- a hub clears a change of connection at a packet
+abbrev pub is_clearing : Option Sent → Ports → Bool
+is_clearing None k = false
+is_clearing (Some q) k = clears_change q false k
+
+abbrev pub cleared_in : Attempt → Option Damage → Ports → Bool
+cleared_in a damage k = is_clearing (payload_out a damage) (passed (token_out a damage) k)
 
 -- the token, the host's data, the answer to them, and the host's ACK
-unfoldable pub exchanged : Attempt → Option Damage → List RootPort → Exchange × List RootPort
-exchanged a damage roots =
-    let token = marked damage 1 a.pre (token_of a) in
-    let first = sent a.low token roots in
-    let payload = marked_some damage 2 a.pre (payload_of a) in
-    let second = sent_some a.low payload first.1 in
-    let answer = joined first.0 second.0 in
-    let place = answer_place payload in
-    let mark = answer_mark (harm_to damage place) answer in
-    let reply = marked_some damage (place + 1) a.pre (reply_of answer mark a.max) in
-    let third = sent_some a.low reply second.1 in
-    let lost = is_unread reply && is_address_awaited second.1 in
-    (record { token = token; payload = payload; answer = answer; answer_mark = mark; reply = reply; address_lost = lost }, ended third.1)
+unfoldable pub exchange_in : Attempt → Option Damage → Ports → Exchange
+exchange_in a damage k = record {
+  token = marked damage 1 a.pre (token_of a);
+  payload = payload_in a damage;
+  answer = heard_in a damage k;
+  answer_mark = mark_in a damage k;
+  reply = reply_in a damage k;
+  address_lost = lost_in a damage k;
+  change_cleared = cleared_in a damage k;
+}
+
+-- the root ports after an attempt, with all that is plugged
+unfoldable pub ports_in : Attempt → Option Damage → Ports → Ports
+ports_in a damage k = after_attempt (token_out a damage) (payload_out a damage) (reply_out a damage k) k

@@ -1,5 +1,5 @@
 -- How often a device lost the host's ACK at which it was to take its address.
-use Rattle.std.specs.Prelude.{ℕ, ◌+◌, ◌≤◌, max, ◌==◌, Bool, List, if◌then◌else◌}
+use Rattle.std.specs.Prelude.{ℕ, ◌+◌, ◌≤◌, max, Bool, List, if◌then◌else◌}
 use Rattle.usb_bus.specs.declared.damage.Damage.{Damage}
 use Rattle.usb_bus.specs.Wire.{damages_until}
 use Rattle.usb_bus.specs.declared.losses.Losses.{Losses}
@@ -14,9 +14,9 @@ one_more l = record { all = l.all + 1; run = l.run + 1; worst = max l.worst (l.r
 abbrev pub counted : Bool → Losses → Losses
 counted lost l = if lost then one_more l else l
 
--- where C_PORT_CONNECTION is cleared, the losses that come are another stretch's
-abbrev pub after_clearing : ℕ → Losses → Losses
-after_clearing feature l = if feature == 16 then record l { run = 0 } else l
+-- where a change of connection is cleared, the losses that come are another stretch's
+abbrev pub after_clearing : Bool → Losses → Losses
+after_clearing cleared l = if cleared then record l { run = 0 } else l
 
 -- there is a damage for each loss, to one of the attempts so far
 pub record AreOfDamages (attempts : ℕ) (damages : List Damage) (l : Losses) : Type 0 where

@@ -63,14 +63,14 @@ pub record IsPlan (p : PlanData) : Type 0 where
   pub events : events_fit p.roots p.devices [] p.events ≡ true
   pub damages : damages_fit 0 p.damages ≡ true
 
--- the action is at one of so many root ports where it plugs or unplugs, and it plugs one of so many devices
-abbrev pub can_be_done : ℕ → ℕ → Action → Bool
-can_be_done roots devices (Plug path device) = is_root_path roots path && nat_lt device devices
-can_be_done roots devices (Unplug path) = is_root_path roots path
-can_be_done roots devices Show = true
-can_be_done roots devices (Send path bytes) = true
-can_be_done roots devices (Receive path packets) = true
-can_be_done roots devices (Clear path) = true
+-- the action plugs one of so many devices, where it plugs one
+abbrev pub can_be_done : ℕ → Action → Bool
+can_be_done devices (Plug path device) = nat_lt device devices
+can_be_done devices (Unplug path) = true
+can_be_done devices Show = true
+can_be_done devices (Send path bytes) = true
+can_be_done devices (Receive path packets) = true
+can_be_done devices (Clear path) = true
 
-abbrev pub can_come : ℕ → ℕ → Event → Bool
-can_come roots devices e = can_be_done roots devices e.action
+abbrev pub can_come : ℕ → Event → Bool
+can_come devices e = can_be_done devices e.action

@@ -1,14 +1,175 @@
--- A plan's opening world, and what the steps beside attempts and root calls do.
-use Rattle.std.specs.Prelude.{◌≡◌, ◌+◌, length, replicate, Option, Some, None, Result, Ok, Err}
-use Rattle.usb_port.specs.PortState.{off}
-use Rattle.usb_bus.specs.declared.types.BusFault.{BusFault}
+-- The steps of a world: attempts, root calls, events and lines of report.
+use Rattle.std.specs.Prelude.{◌≡◌, ℕ, ◌+◌, ◌-◌, ◌==◌, nat_le, Bool, true, false, ◌&&◌, ◌||◌, not, if◌then◌else◌, List, [], ◌∷◌, slice_get, Option, Some, None, is_some, Result, Ok, Err}
+use Rattle.usb_device.specs.declared.calls.PortCall.{PortCall}
+use Rattle.usb_device.specs.declared.calls.PortCall.TheVariants.{ClearConnectionChange}
+use Rattle.usb_device.specs.Spec.{Spec}
+use Rattle.usb_device.specs.Calls.{set_call, clear_call}
+use Rattle.usb_device.specs.Tree.{Ports, new_ports, called, replaced, changed}
+use Rattle.usb_device.specs.Delivery.{held, is_twice}
+use Rattle.usb_bus.specs.declared.damage.Damage.{Damage}
 use Rattle.usb_bus.specs.declared.event.Due.{Due}
-use Rattle.usb_bus.specs.World.{World, Spends, Failed}
+use Rattle.usb_bus.specs.declared.event.Event.{Event}
+use Rattle.usb_bus.specs.declared.event.Action.{Action}
+use Rattle.usb_bus.specs.declared.event.Action.TheVariants.{Plug, Unplug, Show, Send, Receive, Clear}
+use Rattle.usb_bus.specs.declared.exchange.Exchange.{Exchange}
+use Rattle.usb_bus.specs.declared.types.Attempt.{Attempt}
+use Rattle.usb_bus.specs.declared.types.Outcome.{Outcome}
+use Rattle.usb_bus.specs.declared.types.BusFault.{BusFault}
+use Rattle.usb_bus.specs.declared.types.BusFault.TheVariants.{LimitReached}
+use Rattle.usb_bus.specs.Wire.{damage_of}
+use Rattle.usb_bus.specs.Exchange.{heard_in, mark_in, lost_in, cleared_in, exchange_in, ports_in, outcome_of}
+use Rattle.usb_bus.specs.Losses.{no_losses, counted, after_clearing}
+use Rattle.usb_bus.specs.Live.{is_way}
+use Rattle.usb_bus.specs.Sane.{IsSane}
+use Rattle.usb_bus.specs.Passes.{IsSettled}
 use Rattle.usb_bus.specs.PlanData.{PlanData}
+use Rattle.usb_bus.specs.World.{World, to_come, Spends, Failed}
+
+-- Events
+
+-- a device is plugged at a path, where the plan has it
+abbrev pub with_plugged : Option Spec → List ℕ → Ports → Ports
+with_plugged None path k = k
+with_plugged (Some spec) path k = changed (replaced (Some spec)) k path
+
+-- what an action does to what is plugged
+abbrev pub happened : Action → List Spec → Ports → Ports
+happened (Plug path device) devices k = with_plugged (slice_get devices device) path k
+happened (Unplug path) devices k = changed (replaced None) k path
+happened Show devices k = k
+happened (Send path bytes) devices k = k
+happened (Receive path packets) devices k = k
+happened (Clear path) devices k = k
+
+-- whether a path is another's, or that of a port on its way
+abbrev pub way_of : List ℕ → List ℕ → Bool
+way_of [] p = false
+way_of (m ∷ x) p = is_way (m ∷ x) p
+
+-- whether an action plugs or unplugs at a path, or at a port on its way
+abbrev pub names : List Spec → Action → List ℕ → Bool
+names devices (Plug path device) p = is_some (slice_get devices device) && way_of path p
+names devices (Unplug path) p = way_of path p
+names devices Show p = false
+names devices (Send path bytes) p = false
+names devices (Receive path packets) p = false
+names devices (Clear path) p = false
+
+-- an action of the host waits until nothing is left to do; what is plugged and unplugged does not wait
+abbrev pub waits : Action → Bool
+waits (Plug path device) = false
+waits (Unplug path) = false
+waits Show = true
+waits (Send path bytes) = true
+waits (Receive path packets) = true
+waits (Clear path) = true
+
+-- the event comes, and these are the events after it
+unfoldable pub took : Event → List Event → World → World
+took e events w = record w { roots = happened e.action w.devices w.roots; left = events; taken = w.taken + 1; attempts_then = w.attempts }
+
+abbrev pub took_first : List Event → World → World
+took_first [] w = w
+took_first (e ∷ events) w = took e events w
+
+abbrev pub is_due : Event → World → Bool
+is_due e w = not (waits e.action) && nat_le e.after (w.attempts - w.attempts_then)
+
+-- the events that are due come, one after the other
+unfoldable pub due_from : List Event → World → World
+due_from [] w = w
+due_from (e ∷ events) w = if is_due e w then due_from events (took e events w) else w
+
+-- the world in which an attempt is made
+unfoldable pub ready : World → World
+ready w = due_from w.left w
+
+-- Attempts
+
+-- the damage of the next attempt
+abbrev pub damage_in : World → Option Damage
+damage_in w = damage_of w.damages (w.attempts + 1)
+
+-- the packets of the next attempt
+abbrev pub made_in : Attempt → World → Exchange
+made_in a w = exchange_in a (damage_in w) w.roots
+
+-- the attempt's packets have gone
+unfoldable pub with_attempt : Attempt → World → World
+with_attempt a w = record w {
+  roots = ports_in a (damage_in w) w.roots;
+  attempts = w.attempts + 1;
+  losses = counted (lost_in a (damage_in w) w.roots) (after_clearing (cleared_in a (damage_in w) w.roots) w.losses);
+  shared = w.shared || is_twice (held w.roots);
+}
+
+abbrev pub outcome_made : Attempt → Exchange → Outcome
+outcome_made a x = outcome_of x.answer x.answer_mark a.max
+
+-- what the host gets
+unfoldable pub outcome_in : Attempt → World → Outcome
+outcome_in a w = outcome_of (heard_in a (damage_in (ready w)) (ready w).roots) (mark_in a (damage_in (ready w)) (ready w).roots) a.max
+
+-- Steps
+
+pub data Step : Type 0 where
+  attempt : Attempt → Step
+  root_call : PortCall → ℕ → Step
+  event : Step
+  report : List ℕ → Step
+
+abbrev pub attempted : Attempt → Option BusFault → World → World
+attempted a (Some f) w = w
+attempted a None w = if w.attempts == w.limit then record w { fault = Some LimitReached } else with_attempt a (ready w)
+
+abbrev pub event_taken : Option BusFault → World → World
+event_taken (Some f) w = w
+event_taken None w = took_first w.left w
+
+abbrev pub is_clear_change : PortCall → Bool
+is_clear_change ClearConnectionChange = true
+is_clear_change c = false
+
+unfoldable pub after : Step → World → World
+after (attempt a) w = attempted a w.fault w
+after (root_call c n) w = record w { roots = changed (called c) w.roots (n ∷ []); losses = after_clearing (is_clear_change c) w.losses }
+after event w = event_taken w.fault w
+after (report line) w = w
+
+-- a course of steps each of which has K where it stands
+pub data Course (K : Step → World → Type 0) : World → World → Type 0 where
+  here : (w : World) → Course K w w
+  step : (s : Step) {w v : World} → K s w → Course K (after s w) v → Course K w v
+
+-- between two steps no device remembers a packet, and what is so of every port is so
+pub record IsBetween (w : World) : Type 0 where
+  pub settled : IsSettled w.roots
+  pub sane : IsSane w.roots
+
+-- a root call is its step (11.24.2)
+abbrev pub SetsRoot : ℕ → ℕ → World → World → Type 0
+SetsRoot port feature old new = (c : PortCall) → set_call feature ≡ Some c → new ≡ after (root_call c port) old
+
+abbrev pub ClearsRoot : ℕ → ℕ → World → World → Type 0
+ClearsRoot port feature old new = (c : PortCall) → clear_call feature ≡ Some c → new ≡ after (root_call c port) old
 
 -- a plan's world before anything came
 abbrev pub opening : PlanData → World
-opening p = record { ports = replicate p.roots off; taken = 0; left = length p.events; attempts = 0; limit = p.limit; fault = None }
+opening p = record {
+  roots = new_ports p.roots;
+  devices = p.devices;
+  left = p.events;
+  taken = 0;
+  attempts = 0;
+  attempts_then = 0;
+  limit = p.limit;
+  damages = p.damages;
+  losses = no_losses;
+  shared = false;
+  fault = None;
+}
+
+-- How a call ends
 
 abbrev pub fault_of : {T : Type 0} → Result T BusFault → Option BusFault
 fault_of (Ok x) = None
@@ -22,7 +183,7 @@ pub record Came (old new : World) : Type 0 where
 
 pub record NoneLeft (old new : World) : Type 0 where
   pub sound : old.fault ≡ None
-  pub none : old.left ≡ 0
+  pub none : to_come old ≡ 0
   pub same : new ≡ old
 
 abbrev pub EventEnds : World → Result (Option Due) BusFault → World → Type 0

@@ -7,7 +7,7 @@ use Rattle.usb_bus.specs.declared.exchange.Heard.{Heard}
 use Rattle.usb_bus.specs.declared.exchange.Heard.TheVariants.{Nothing, One, Collision}
 use Rattle.usb_bus.specs.declared.wire.Mark.{Mark}
 use Rattle.usb_bus.specs.declared.wire.Mark.TheVariants.{Whole, Lost, PreLost, Flipped}
-use Rattle.usb_bus.specs.declared.wire.Sent.{Sent}
+use Rattle.usb_bus.specs.declared.wire.Outgoing.{Outgoing}
 
 abbrev pub pre_text : Bool → List ℕ
 pre_text true = codes "PRE "
@@ -21,11 +21,11 @@ mark_text PreLost = codes " [pre lost]"
 mark_text (Flipped bit) = codes " [bit " ++ decimal bit ++ codes "]"
 
 -- a packet of the host
-abbrev pub host_text : Bool → Sent → List ℕ
+abbrev pub host_text : Bool → Outgoing → List ℕ
 host_text pre s = pre_text pre ++ text_of s.packet ++ mark_text s.mark
 
 -- a further packet of the host, where there is one
-abbrev pub next_text : Bool → Option Sent → List ℕ
+abbrev pub next_text : Bool → Option Outgoing → List ℕ
 next_text pre None = []
 next_text pre (Some s) = codes " / " ++ host_text pre s
 

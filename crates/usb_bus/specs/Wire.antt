@@ -8,7 +8,7 @@ use Rattle.usb_bus.specs.declared.damage.Harm.{Harm}
 use Rattle.usb_bus.specs.declared.damage.Harm.TheVariants.{Lose, LosePre, Flip}
 use Rattle.usb_bus.specs.declared.wire.Mark.{Mark}
 use Rattle.usb_bus.specs.declared.wire.Mark.TheVariants.{Whole, Lost, PreLost, Flipped}
-use Rattle.usb_bus.specs.declared.wire.Sent.{Sent}
+use Rattle.usb_bus.specs.declared.wire.Outgoing.{Outgoing}
 
 -- the damage to the attempt of a number
 unfoldable pub damage_of : List Damage → ℕ → Option Damage
@@ -57,10 +57,10 @@ has_its_bit PreLost p = true
 has_its_bit (Flipped bit) p = nat_lt bit (bit_count p)
 
 -- a packet as it goes out at a place of its attempt
-unfoldable pub marked : Option Damage → ℕ → Bool → Packet → Sent
+unfoldable pub marked : Option Damage → ℕ → Bool → Packet → Outgoing
 marked damage place pre p = record { packet = p; mark = mark_of (harm_to damage place) pre p }
 
-unfoldable pub marked_some : Option Damage → ℕ → Bool → Option Packet → Option Sent
+unfoldable pub marked_some : Option Damage → ℕ → Bool → Option Packet → Option Outgoing
 marked_some damage place pre None = None
 marked_some damage place pre (Some p) = Some (marked damage place pre p)
 

@@ -1,8 +1,13 @@
--- What a bus stands for: the root ports, the events left, and the counts of attempts.
-use Rattle.std.specs.Prelude.{◌≡◌, ℕ, ◌+◌, ◌-◌, ◌<◌, ◌≤◌, ◌⊎◌, List, [], ◌∷◌, length, Bool, true, false, Option, None, Some, Result, Ok, Err, slice_index_or, slice_set, unwrap_or, ⊤, if◌then◌else◌, is_some}
+-- What a bus stands for: its root ports with all that is plugged, the events to come, and its counts.
+use Rattle.std.specs.Prelude.{◌≡◌, ℕ, ◌+◌, ◌-◌, ◌<◌, ◌≤◌, ◌⊎◌, List, [], ◌∷◌, length, Bool, true, false, Option, None, Some, Result, Ok, Err, slice_index_or, ⊤, if◌then◌else◌, is_some}
 use Rattle.usb_packet.specs.declared.TokenKind.{TokenKind}
 use Rattle.usb_packet.specs.declared.TokenKind.TheVariants.{OutTok, InTok, SetupTok}
-use Rattle.usb_port.specs.PortState.{PortState, off, set_row, clear_row}
+use Rattle.usb_port.specs.PortState.{PortState, off}
+use Rattle.usb_device.specs.Spec.{Spec}
+use Rattle.usb_device.specs.Tree.{Ports, row_of}
+use Rattle.usb_bus.specs.declared.damage.Damage.{Damage}
+use Rattle.usb_bus.specs.declared.event.Event.{Event}
+use Rattle.usb_bus.specs.declared.losses.Losses.{Losses}
 use Rattle.usb_bus.specs.declared.types.Attempt.{Attempt}
 use Rattle.usb_bus.specs.declared.types.Outcome.{Outcome}
 use Rattle.usb_bus.specs.declared.types.Outcome.TheVariants.{Payload, Ack, Nak, Stall, Nothing}
@@ -10,22 +15,35 @@ use Rattle.usb_bus.specs.declared.types.BusFault.{BusFault}
 use Rattle.usb_bus.specs.declared.types.BusFault.TheVariants.{LimitReached}
 
 pub record World : Type 0 where
-  pub ports : List PortState  -- the root ports, port 1 first
-  pub taken : ℕ  -- events applied
-  pub left : ℕ  -- events to come
+  pub roots : Ports
+  pub devices : List Spec  -- those that a plan names
+  pub left : List Event  -- the events to come
+  pub taken : ℕ  -- how many events came
   pub attempts : ℕ
+  pub attempts_then : ℕ  -- the attempts made when the last event came
   pub limit : ℕ
+  pub damages : List Damage
+  pub losses : Losses
+  pub shared : Bool  -- at some attempt two reachable devices held one address
   pub fault : Option BusFault
 
+-- the root ports, port 1 first
+abbrev pub root_row : World → List PortState
+root_row w = row_of w.roots
+
+-- how many events are to come
+abbrev pub to_come : World → ℕ
+to_come w = length w.left
+
 abbrev pub roots_of : World → ℕ
-roots_of w = length w.ports
+roots_of w = length (root_row w)
 
 abbrev pub IsRootPort : World → ℕ → Type 0
-IsRootPort w port = (1 ≤ port) × (port ≤ length w.ports)
+IsRootPort w port = (1 ≤ port) × (port ≤ length (root_row w))
 
 -- the port of a number from 1
 unfoldable pub port_at : World → ℕ → PortState
-port_at w port = slice_index_or w.ports (port - 1) off
+port_at w port = slice_index_or (root_row w) (port - 1) off
 
 -- PORT_RESET and PORT_POWER can be set; PORT_ENABLE, PORT_POWER and the change bits can be cleared
 abbrev pub IsSetFeature : ℕ → Type 0
@@ -33,16 +51,6 @@ IsSetFeature feature = (feature ≡ 4) ⊎ (feature ≡ 8)
 
 abbrev pub IsClearFeature : ℕ → Type 0
 IsClearFeature feature = (feature ≡ 1) ⊎ (feature ≡ 8) ⊎ (feature ≡ 16) ⊎ (feature ≡ 17) ⊎ (feature ≡ 20)
-
-abbrev pub with_port : ℕ → PortState → World → World
-with_port port p w = record w { ports = slice_set w.ports (port - 1) p }
-
--- a root call is one row of the port table at one root port
-pub record SetsRoot (port feature : ℕ) (old new : World) : Type 0 where
-  pub row : new ≡ with_port port (unwrap_or (set_row feature (port_at old port)) (port_at old port)) old
-
-pub record ClearsRoot (port feature : ℕ) (old new : World) : Type 0 where
-  pub row : new ≡ with_port port (unwrap_or (clear_row feature (port_at old port)) (port_at old port)) old
 
 -- SETUP and OUT send data, IN does not
 abbrev pub sends : TokenKind → Bool
@@ -70,13 +78,13 @@ changes (p ∷ ps) = change_of p + changes ps
 -- at most n attempts were made, within the limit; each event that was taken set at most one change bit
 pub record Spends (n : ℕ) (old new : World) : Type 0 where
   pub limit : new.limit ≡ old.limit
-  pub roots : length new.ports ≡ length old.ports
+  pub roots : roots_of new ≡ roots_of old
   pub later : old.attempts ≤ new.attempts
   pub most : new.attempts ≤ old.attempts + n
   pub within : old.attempts ≤ old.limit → new.attempts ≤ new.limit
-  pub events : new.taken + new.left ≡ old.taken + old.left
+  pub events : new.taken + to_come new ≡ old.taken + to_come old
   pub onward : old.taken ≤ new.taken
-  pub served : changes new.ports + new.left ≤ changes old.ports + old.left
+  pub served : changes (root_row new) + to_come new ≤ changes (root_row old) + to_come old
 
 -- one attempt: made, or refused with a fault that stays
 pub record Made (old new : World) : Type 0 where

@@ -1,6 +1,7 @@
-ghost use Rattle.std.specs.Prelude.{◌≡◌, ◌≤◌};
+ghost use Rattle.std.specs.Prelude.{◌≡◌, ◌≤◌, IfOk, OnOk};
 ghost use Rattle.usb_port.specs.PortState.{status_of};
-ghost use Rattle.usb_bus.specs.World.{World, Attempted, IsAttempt, IsRootPort, SetsRoot, ClearsRoot, IsSetFeature, IsClearFeature, port_at, roots_of};
+ghost use Rattle.usb_bus.specs.World.{World, Attempted, IsAttempt, IsRootPort, IsSetFeature, IsClearFeature, port_at, roots_of};
+ghost use Rattle.usb_bus.specs.Steps.{IsBetween, SetsRoot, ClearsRoot, after, attempt, outcome_in};
 
 use crate::{Attempt, BusFault, Outcome};
 
@@ -16,7 +17,10 @@ pub trait Bus {
     /// After an `Err` every later attempt tells the same fault again.
     fn attempt(&mut self, attempt: &Attempt) -> Result<Outcome, BusFault>
         requires { IsAttempt attempt.now }
-        ensures counts { Attempted attempt.now (world self.old) result (world self.new) };
+        ensures counts { Attempted attempt.now (world self.old) result (world self.new) }
+        ensures exact { OnOk result (world self.new ≡ after (attempt attempt.now) (world self.old)) }
+        ensures outcome { IfOk result (λ outcome. outcome ≡ outcome_in attempt.now (world self.old)) }
+        ensures before { IsBetween (world self.old) };
 
     /// The number of root ports, 1 to 7.
     fn root_ports(&self) -> u8

@@ -1,6 +1,7 @@
 //! The events of a plan.
 ghost use Rattle.std.specs.Prelude.{◌≡◌, IfOk};
-ghost use Rattle.usb_bus.specs.Simulation.{due_of, waits};
+ghost use Rattle.usb_bus.specs.Lines.{due_of};
+ghost use Rattle.usb_bus.specs.Steps.{waits};
 
 use std::alloc::{AllocError, Global};
 use std::marker::Model;
@@ -80,7 +81,7 @@ pub enum Due {
 impl From<Action> for Due {
     ghost from_gives = { λ action due. due ≡ due_of action };
 
-    #[tactic(auto, unfolding(crate::specs::Simulation::due_of))]
+    #[tactic(auto, unfolding(crate::specs::Lines::due_of))]
     fn from(action: Action) -> Due {
         match action {
             Action::Plug(_, _) => Due::Changed,
@@ -95,7 +96,6 @@ impl From<Action> for Due {
 
 impl Action {
     /// Whether it waits until the host has nothing left to do.
-    #[tactic(auto, unfolding(crate::specs::Simulation::waits))]
     pub(crate) fn waits(&self) -> bool
         ensures { result ≡ waits self.now }
     {

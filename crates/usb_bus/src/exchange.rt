@@ -1,20 +1,20 @@
 //! One attempt: the host's packets go to the devices, and their answers come together.
-ghost use Rattle.std.specs.Prelude.{◌≡◌, ◌+◌, ◌≤◌, length, true, IfOk, IfSome, Option, Some, None};
-ghost use Rattle.usb_packet.specs.Spelling.{HasFields, Spells};
-ghost use Rattle.usb_packet.specs.declared.Packet.{Packet as APacket};
+ghost use Rattle.std.specs.Prelude.{◌≡◌, ◌+◌, ◌≤◌, IfOk, IfSome, OnErr};
+ghost use Rattle.usb_packet.specs.Spelling.{HasFields};
+ghost use Rattle.usb_device.specs.Tree.{row_of};
 ghost use Rattle.usb_bus.specs.World.{IsAttempt, FitsMaximum};
-ghost use Rattle.usb_bus.specs.Roots.{ports_of};
-ghost use Rattle.usb_bus.specs.Wire.{Reads, is_read, has_its_bit};
-ghost use Rattle.usb_bus.specs.Exchange.{joined, token_of, payload_of, answer_place, answer_mark, reply_of, outcome_of, delivered, sent, sent_some, is_unread, is_address_awaited, ended, exchanged};
-ghost use Rattle.usb_bus.specs.declared.exchange.Heard.TheVariants.{Nothing, One};
+ghost use Rattle.usb_bus.specs.Wire.{has_its_bit};
+ghost use Rattle.usb_bus.specs.Exchange.{token_of, payload_of, answer_place, answer_mark, reply_of, outcome_of, exchange_in, ports_in, goes_out, goes_out_some, is_lost, is_clearing};
+ghost use Rattle.usb_bus.specs.Passes.{passed, told};
+ghost use Rattle.usb_bus.specs.Answering.{joined, heard_from, heard_told};
 
 use crate::damage::{Damage, Harm};
-use crate::root::RootPort;
-use crate::wire::{Mark, Sent, flipped, harm_to, mark_of, marked, marked_some};
+use crate::wire::{Mark, Outgoing, flipped, harm_to, mark_of, marked, marked_some};
 use crate::{Attempt, Outcome};
 use arrayvec::ArrayVec;
 use std::alloc::AllocError;
-use usb_packet::{Packet, decode, encode, one_flipped_bit};
+use usb_device::{Content, Ports, Sent};
+use usb_packet::{Packet, encode, one_flipped_bit};
 
 /// What the devices' answers are together.
 #[derive(Drop)]
@@ -26,21 +26,6 @@ pub(crate) enum Heard {
 }
 
 impl Heard {
-    /// The answer of one device, which is heard where it spells a packet.
-    pub(crate) fn of(answer: Option<ArrayVec<u8, 67>>) -> Self
-        ensures none { answer ≡ None → result ≡ Nothing }
-        ensures some { IfSome answer (λ bytes. (p : APacket) → Spells bytes.items p → result ≡ One p) }
-    {
-        match answer {
-            None => Heard::Nothing,
-            Some(bytes) => match decode(bytes.as_slice()) {
-                Ok(packet) => Heard::One(packet),
-                Err(_) => Heard::Nothing,
-            },
-        }
-    }
-
-    #[tactic(auto, unfolding(crate::specs::Exchange::joined))]
     fn joined(self, other: Heard) -> Self
         ensures { result ≡ joined self other }
     {
@@ -52,57 +37,73 @@ impl Heard {
     }
 }
 
+impl From<usb_device::Heard> for Heard {
+    ghost from_gives = { λ heard result. result ≡ heard_from heard };
+
+    fn from(heard: usb_device::Heard) -> Heard {
+        match heard {
+            usb_device::Heard::NoAnswer => Heard::Nothing,
+            usb_device::Heard::One(answer) => Heard::One(answer.into_packet()),
+            usb_device::Heard::Collision => Heard::Collision,
+        }
+    }
+}
+
 /// The packets of an attempt as they went over the bus.
 #[derive(Drop)]
 pub(crate) struct Exchange {
-    pub(crate) token: Sent,
+    pub(crate) token: Outgoing,
     /// The host's data, for SETUP and OUT.
-    pub(crate) payload: Option<Sent>,
+    pub(crate) payload: Option<Outgoing>,
     pub(crate) answer: Heard,
     /// What damage did to the answer of one device.
     pub(crate) answer_mark: Mark,
     /// The host's ACK, where it took data.
-    pub(crate) reply: Option<Sent>,
+    pub(crate) reply: Option<Outgoing>,
     /// A device did not see the ACK at which it was to take its address (9.4.6).
     pub(crate) address_lost: bool,
+    /// A hub cleared a change of connection of one of its ports (11.24.2.2).
+    pub(crate) change_cleared: bool,
 }
 
 /// Makes an attempt: the token, then the data, one of them; then what the host says to the answer.
-#[tactic(auto, unfolding(crate::specs::Exchange::exchanged))]
+#[tactic(auto, unfolding(crate::specs::Exchange::exchange_in, crate::specs::Exchange::ports_in))]
 pub(crate) fn make_exchange(
-    roots: &mut [RootPort],
+    roots: &mut Ports,
     attempt: &Attempt,
     damage: Option<Damage>,
 ) -> Result<Exchange, AllocError>
     requires { IsAttempt attempt.now }
-    ensures ports { ports_of roots.new ≡ ports_of roots.old }
-    ensures exact { IfOk result (λ made. (made, roots.new) ≡ exchanged attempt.now damage roots.old) }
+    ensures row { row_of roots.new ≡ row_of roots.old }
+    ensures made { IfOk result (λ made. made ≡ exchange_in attempt.now damage roots.old) }
+    ensures ports { IfOk result (λ made. roots.new ≡ ports_in attempt.now damage roots.old) }
 {
     let token = marked(damage, 1, attempt.pre, token_of(attempt));
-    let to_token = send(roots, attempt.low, &token)?;
+    let to_token = send(roots, attempt, &token)?;
     let payload = marked_some(damage, 2, attempt.pre, payload_of(attempt));
-    let to_payload = send_some(roots, attempt.low, &payload)?;
+    let change_cleared = clears_change(roots, attempt, &payload);
+    let to_payload = send_some(roots, attempt, &payload)?;
     let answer = to_token.joined(to_payload);
     let place = answer_place(&payload);
     let answer_mark = answer_mark(harm_to(damage, place), &answer);
     let reply = reply_of(&answer, answer_mark, attempt.max);
     let reply = marked_some(damage, place + 1, attempt.pre, reply);
-    let awaited = is_address_awaited(roots);
-    let _unanswered = send_some(roots, attempt.low, &reply)?;
-    end_attempt(roots);
+    let address_lost = send_reply(roots, attempt, &reply)?;
+    roots.attempt_over();
     Ok(Exchange {
-        address_lost: is_unread(&reply) && awaited,
         token,
         payload,
         answer,
         answer_mark,
         reply,
+        address_lost,
+        change_cleared,
     })
 }
 
 /// The place of the devices' answer among the packets of an attempt, counted from 1.
 #[tactic(auto, unfolding(crate::specs::Exchange::answer_place))]
-fn answer_place(payload: &Option<Sent>) -> u8
+fn answer_place(payload: &Option<Outgoing>) -> u8
     ensures value { result ≡ answer_place payload.now }
     ensures most { result ≤ 3 }
 {
@@ -124,90 +125,104 @@ fn answer_mark(harm: Option<Harm>, answer: &Heard) -> Mark
     }
 }
 
-/// Whether the host's ACK went out and nobody read it.
-#[tactic(auto, unfolding(crate::specs::Exchange::is_unread))]
-fn is_unread(reply: &Option<Sent>) -> bool
-    ensures { result ≡ is_unread reply.now }
-{
-    match reply {
-        None => false,
-        Some(reply) => !reply.mark.is_read(),
-    }
-}
-
-/// Whether a device awaits the ACK at which it takes its address.
-#[tactic(auto, unfolding(crate::specs::Exchange::is_address_awaited))]
-fn is_address_awaited(roots: &[RootPort]) -> bool
-    ensures { result ≡ is_address_awaited roots.now }
-{
-    match roots.split_first() {
-        None => false,
-        Some((root, rest)) => root.awaits_address() || is_address_awaited(rest),
-    }
-}
-
-/// Hands bytes to every device that they reach, and gathers the answers.
-#[tactic(auto, unfolding(crate::specs::Exchange::delivered))]
-fn deliver(roots: &mut [RootPort], low: bool, bytes: &[u8]) -> Result<Heard, AllocError>
-    ensures ports { ports_of roots.new ≡ ports_of roots.old }
-    ensures exact { (p : Option APacket) → Reads bytes.now p → IfOk result (λ heard. (heard, roots.new) ≡ delivered low p roots.old) }
-{
-    match roots.split_first_mut() {
-        None => Ok(Heard::Nothing),
-        Some((root, rest)) => {
-            let here = root.receive(low, bytes)?;
-            let further = deliver(rest, low, bytes)?;
-            Ok(here.joined(further))
-        }
-    }
-}
-
-/// Sends a packet of the host, as damage leaves it.
-#[tactic(auto, unfolding(crate::specs::Exchange::sent))]
-fn send(roots: &mut [RootPort], low: bool, packet: &Sent) -> Result<Heard, AllocError>
+/// A packet as damage leaves it, on its way to the devices; None where it is lost.
+#[tactic(auto, unfolding(crate::specs::Exchange::goes_out))]
+fn goes_out(attempt: &Attempt, packet: &Outgoing) -> Option<Sent>
     requires fields { HasFields packet.now.packet }
     requires bit { has_its_bit packet.now.mark packet.now.packet ≡ true }
-    ensures ports { ports_of roots.new ≡ ports_of roots.old }
-    ensures exact { IfOk result (λ heard. (heard, roots.new) ≡ sent low packet.now roots.old) }
+    ensures { result ≡ goes_out attempt.now packet.now }
 {
     let bytes = encode(&packet.packet);
     match packet.mark {
-        Mark::Lost => Ok(Heard::Nothing),
+        Mark::Whole => Some(Sent {
+            low: attempt.low,
+            pre: attempt.pre,
+            content: Content::of(bytes.as_slice()),
+        }),
+        Mark::Lost => None,
+        Mark::PreLost => Some(Sent {
+            low: attempt.low,
+            pre: false,
+            content: Content::of(bytes.as_slice()),
+        }),
         Mark::Flipped(bit) => {
             one_flipped_bit();
-            deliver(roots, low, flipped(bytes, bit).as_slice())
+            Some(Sent {
+                low: attempt.low,
+                pre: attempt.pre,
+                content: Content::of(flipped(bytes, bit).as_slice()),
+            })
         }
-        Mark::Whole => deliver(roots, low, bytes.as_slice()),
-        Mark::PreLost => deliver(roots, low, bytes.as_slice()),
     }
 }
 
-#[tactic(auto, unfolding(crate::specs::Exchange::sent_some))]
-fn send_some(roots: &mut [RootPort], low: bool, packet: &Option<Sent>) -> Result<Heard, AllocError>
+/// Sends a packet of the host, as damage leaves it, and tells what is answered.
+fn send(roots: &mut Ports, attempt: &Attempt, packet: &Outgoing) -> Result<Heard, AllocError>
+    requires fields { HasFields packet.now.packet }
+    requires bit { has_its_bit packet.now.mark packet.now.packet ≡ true }
+    ensures row { row_of roots.new ≡ row_of roots.old }
+    ensures heard { IfOk result (λ heard. heard ≡ heard_told (goes_out attempt.now packet.now) roots.old) }
+    ensures ports { IfOk result (λ heard. roots.new ≡ passed (goes_out attempt.now packet.now) roots.old) }
+{
+    match goes_out(attempt, packet) {
+        None => Ok(Heard::Nothing),
+        Some(sent) => Ok(Heard::from(roots.deliver(&sent)?)),
+    }
+}
+
+fn send_some(
+    roots: &mut Ports,
+    attempt: &Attempt,
+    packet: &Option<Outgoing>,
+) -> Result<Heard, AllocError>
     requires fields { IfSome packet.now (λ s. HasFields s.packet) }
     requires bit { IfSome packet.now (λ s. has_its_bit s.mark s.packet ≡ true) }
-    ensures ports { ports_of roots.new ≡ ports_of roots.old }
-    ensures exact { IfOk result (λ heard. (heard, roots.new) ≡ sent_some low packet.now roots.old) }
+    ensures row { row_of roots.new ≡ row_of roots.old }
+    ensures heard { IfOk result (λ heard. heard ≡ heard_told (goes_out_some attempt.now packet.now) roots.old) }
+    ensures ports { IfOk result (λ heard. roots.new ≡ passed (goes_out_some attempt.now packet.now) roots.old) }
 {
     match packet {
         None => Ok(Heard::Nothing),
-        Some(packet) => send(roots, low, packet),
+        Some(packet) => send(roots, attempt, packet),
     }
 }
 
-/// Tells every device that the attempt is over.
-#[tactic(auto, unfolding(crate::specs::Exchange::ended))]
-fn end_attempt(roots: &mut [RootPort])
-    ensures ports { ports_of roots.new ≡ ports_of roots.old }
-    ensures exact { roots.new ≡ ended roots.old }
+/// Whether a hub will clear a change of connection of one of its ports at the packet.
+fn clears_change(roots: &Ports, attempt: &Attempt, packet: &Option<Outgoing>) -> bool
+    requires fields { IfSome packet.now (λ s. HasFields s.packet) }
+    requires bit { IfSome packet.now (λ s. has_its_bit s.mark s.packet ≡ true) }
+    ensures { result ≡ is_clearing (goes_out_some attempt.now packet.now) roots.now }
 {
-    match roots.split_first_mut() {
-        None => {}
-        Some((root, rest)) => {
-            root.attempt_over();
-            end_attempt(rest);
-        }
+    match packet {
+        None => false,
+        Some(packet) => match goes_out(attempt, packet) {
+            None => false,
+            Some(sent) => roots.clears_change(&sent),
+        },
     }
+}
+
+/// Sends the host's ACK, where there is one, and tells whether a device did not read it that awaits it to take its address.
+fn send_reply(
+    roots: &mut Ports,
+    attempt: &Attempt,
+    reply: &Option<Outgoing>,
+) -> Result<bool, AllocError>
+    requires fields { IfSome reply.now (λ s. HasFields s.packet) }
+    requires bit { IfSome reply.now (λ s. has_its_bit s.mark s.packet ≡ true) }
+    ensures row { row_of roots.new ≡ row_of roots.old }
+    ensures lost { IfOk result (λ lost. lost ≡ is_lost reply.now (goes_out_some attempt.now reply.now) roots.old) }
+    ensures ports { IfOk result (λ lost. roots.new ≡ passed (goes_out_some attempt.now reply.now) roots.old) }
+{
+    let Some(packet) = reply else {
+        return Ok(false);
+    };
+    let awaited = roots.has_address_loss();
+    let _unanswered = send(roots, attempt, packet)?;
+    Ok(match packet.mark {
+        Mark::Flipped(_) => awaited,
+        _ => roots.has_address_loss(),
+    })
 }
 
 #[tactic(auto, unfolding(crate::specs::Exchange::token_of))]

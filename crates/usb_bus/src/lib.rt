@@ -8,7 +8,6 @@ mod exchange;
 mod losses;
 mod not_served;
 mod plan;
-mod root;
 mod sim;
 mod trace;
 mod types;

@@ -46,11 +46,11 @@ impl Losses {
         }
     }
 
-    /// A new stretch where C_PORT_CONNECTION (16) is cleared.
-    pub(crate) fn after_clearing(self, feature: u16) -> Self
-        ensures { result ≡ after_clearing feature self }
+    /// A new stretch where a change of connection is cleared.
+    pub(crate) fn after_clearing(self, cleared: bool) -> Self
+        ensures { result ≡ after_clearing cleared self }
     {
-        if feature == 16 {
+        if cleared {
             Losses { run: 0, ..self }
         } else {
             self

@@ -1,14 +1,13 @@
 //! A simulated bus: the devices that a plan's events plug at its root ports, and the trace of its attempts.
-ghost use Rattle.std.specs.Prelude.{◌≡◌, ◌+◌, ◌≤◌, length, replicate, map, IfOk, IfErr, Ok, Some, option_map, true};
+ghost use Rattle.std.specs.Prelude.{◌≡◌, ◌+◌, ◌≤◌, length, IfOk, IfErr, Some, option_map, true};
 ghost use Rattle.std.specs.List.{list_all};
 ghost use Rattle.usb_bus.specs.PlanData.{can_come};
-ghost use Rattle.usb_bus.specs.Roots.{ports_of, vacant, place_at, registers_of};
+ghost use Rattle.usb_device.specs.Tree.{new_ports, row_of};
 ghost use Rattle.usb_bus.specs.Losses.{AreOfDamages};
-ghost use Rattle.usb_bus.specs.Served.{served_of};
-ghost use Rattle.usb_bus.specs.Simulation.{beginning};
+ghost use Rattle.usb_bus.specs.Passes.{IsSettled};
+ghost use Rattle.usb_bus.specs.Sane.{IsSane};
 ghost use Rattle.usb_bus.specs.Steps.{opening, fault_of};
 ghost use Rattle.usb_bus.specs.declared.types.BusFault.TheVariants.{LimitReached};
-ghost use Rattle.usb_port.specs.PortState.{off};
 
 mod bus;
 mod events;
@@ -16,12 +15,11 @@ mod lines;
 
 use crate::event::{Event, copies as event_copies};
 use crate::losses::Losses;
-use crate::root::RootPort;
 use crate::{BusFault, Damage, Plan, Watched};
 use std::alloc::{AllocError, Global};
 use std::collections::VecDeque;
 use std::io::Write;
-use usb_device::{Device, DeviceSpec};
+use usb_device::{DeviceSpec, Ports};
 use usb_port::PortPath;
 
 /// A bus that a plan describes. Each attempt, plug and unplug is a line of the trace, which goes to a writer at once.
@@ -30,7 +28,7 @@ use usb_port::PortPath;
 #[derive(Drop)]
 pub struct SimBus<W> {
     alloc: Global,
-    roots: Vec<RootPort>,
+    roots: Ports,
     devices: Vec<DeviceSpec>,
     /// The events to come.
     left: VecDeque<Event>,
@@ -46,9 +44,11 @@ pub struct SimBus<W> {
     shared: bool,
     fault: Option<BusFault>,
     writer: Watched<W>,
-    ghost some_root: { 1 ≤ length roots.items },
-    ghost few_roots: { length roots.items ≤ 7 },
-    ghost planned: { list_all (can_come (length roots.items) (length devices.items)) left.items ≡ true },
+    ghost some_root: { 1 ≤ length (row_of roots) },
+    ghost few_roots: { length (row_of roots) ≤ 7 },
+    ghost settled: { IsSettled roots },
+    ghost sane: { IsSane roots },
+    ghost planned: { list_all (can_come (length devices.items)) left.items ≡ true },
     ghost few_events: { taken + length left.items ≤ 10000 },
     ghost counted: { attempts_then ≤ attempts },
     ghost within: { attempts ≤ limit },
@@ -61,27 +61,25 @@ pub struct SimBus<W> {
 /// What a simulated bus keeps of a plan.
 #[derive(Drop)]
 struct Stage {
-    roots: Vec<RootPort>,
+    roots: Ports,
     devices: Vec<DeviceSpec>,
     left: VecDeque<Event>,
     damages: Vec<Damage>,
 }
 
 impl<W: Write> SimBus<W> {
-    ghost use Rattle.usb_bus.specs.Sim.{world_of, writer_of, simulation_of, device_at};
+    ghost use Rattle.usb_bus.specs.Sim.{world_of, writer_of, device_at, registers_of};
 
     /// The bus of a plan, before anything came: all ports are off.
     ///
-    /// The plan is one that `served` accepts. An error: memory is refused; the writer is handed back.
+    /// An error: memory is refused; the writer is handed back.
     #[tactic(auto, using(crate::proofs::Wires::no_losses_yet))]
     pub fn new(
         alloc: Global,
         plan: &Plan,
         writer: Watched<W>,
     ) -> Result<SimBus<W>, (AllocError, Watched<W>)>
-        requires { served_of plan.now ≡ Ok tt }
         ensures world { IfOk result (λ bus. world_of bus ≡ opening plan.now) }
-        ensures simulation { IfOk result (λ bus. simulation_of bus ≡ beginning plan.now) }
         ensures writer { IfOk result (λ bus. writer_of bus ≡ writer) }
         ensures back { IfErr result (λ e. e.1 ≡ writer) }
     {
@@ -122,7 +120,7 @@ impl<W: Write> SimBus<W> {
 
     /// How many events are to come.
     pub fn events_left(&self) -> u64
-        ensures { result ≡ (world_of self.now).left }
+        ensures { result ≡ length (world_of self.now).left }
     {
         self.left.len() as u64
     }
@@ -137,7 +135,7 @@ impl<W: Write> SimBus<W> {
     /// How often a device did not see the host's ACK of the status stage of SET_ADDRESS, at which it was to take its
     /// address (9.4.6).
     pub fn address_losses(&self) -> u64
-        ensures { result ≡ (simulation_of self.now).losses.all }
+        ensures { result ≡ (world_of self.now).losses.all }
     {
         u64::from(self.losses.all)
     }
@@ -145,7 +143,7 @@ impl<W: Write> SimBus<W> {
     /// The greatest number of those losses between two steps that clear a change of connection, or before the first
     /// or behind the last of these steps.
     pub fn worst_address_run(&self) -> u32
-        ensures { result ≡ (simulation_of self.now).losses.worst }
+        ensures { result ≡ (world_of self.now).losses.worst }
     {
         self.losses.worst
     }
@@ -154,7 +152,7 @@ impl<W: Write> SimBus<W> {
     pub fn registers(&self, path: &PortPath) -> Option<(u8, u8)>
         ensures { result ≡ option_map registers_of (device_at self.now path.now) }
     {
-        match self.device(path) {
+        match self.roots.device_at(path.numbers()) {
             None => None,
             Some(device) => Some((device.address(), device.configuration())),
         }
@@ -164,35 +162,15 @@ impl<W: Write> SimBus<W> {
     pub fn sink(&self, path: &PortPath) -> Option<&[u8]>
         ensures { option_map (λ s. s.now) result ≡ option_map (λ d. d.own.sink) (device_at self.now path.now) }
     {
-        match self.device(path) {
+        match self.roots.device_at(path.numbers()) {
             None => None,
             Some(device) => Some(device.sink()),
         }
     }
-
-    fn device(&self, path: &PortPath) -> Option<&Device>
-        ensures { option_map (λ d. d.now) result ≡ device_at self.now path.now }
-    {
-        let numbers = path.numbers();
-        if numbers.len() != 1 {
-            return None;
-        }
-        device_at(&self.roots, usize::from(numbers[0]) - 1)
-    }
-}
-
-fn device_at(roots: &[RootPort], i: usize) -> Option<&Device>
-    ensures { option_map (λ d. d.now) result ≡ place_at roots.now i }
-{
-    match roots.get(i) {
-        None => None,
-        Some(root) => root.device.as_ref(),
-    }
 }
 
 fn staged(alloc: Global, plan: &Plan) -> Result<Stage, AllocError>
-    ensures ports { IfOk result (λ s. ports_of s.roots.items ≡ replicate plan.now.roots off) }
-    ensures roots { IfOk result (λ s. s.roots.items ≡ replicate plan.now.roots vacant) }
+    ensures roots { IfOk result (λ s. s.roots ≡ new_ports plan.now.roots) }
     ensures devices { IfOk result (λ s. s.devices.items ≡ plan.now.devices) }
     ensures events { IfOk result (λ s. s.left.items ≡ plan.now.events) }
     ensures damages { IfOk result (λ s. s.damages.items ≡ plan.now.damages) }
@@ -200,23 +178,11 @@ fn staged(alloc: Global, plan: &Plan) -> Result<Stage, AllocError>
     ensures few_damages { IfOk result (λ s. length s.damages.items ≤ 10000) }
 {
     Ok(Stage {
-        roots: roots_off(alloc, plan.roots())?,
+        roots: Ports::new(alloc, plan.roots())?,
         devices: copies(alloc, plan.devices())?,
         left: VecDeque::from(event_copies(alloc, plan.events())?),
         damages: plan.damages().to_vec(alloc)?,
     })
-}
-
-#[tactic(auto, using(crate::proofs::RootPorts::ports_off))]
-fn roots_off(alloc: Global, count: u8) -> Result<Vec<RootPort>, AllocError>
-    ensures ports { IfOk result (λ v. ports_of v.items ≡ replicate count off) }
-    ensures exact { IfOk result (λ v. v.items ≡ replicate count vacant) }
-{
-    let mut roots = Vec::new(alloc);
-    'roots: for _ in 0..count {
-        roots.push(RootPort::new())?;
-    }
-    Ok(roots)
 }
 
 fn copies(alloc: Global, specs: &[DeviceSpec]) -> Result<Vec<DeviceSpec>, AllocError>

@@ -3,7 +3,7 @@ ghost use Rattle.std.specs.Prelude.{◌≡◌, ◌+◌, ◌<◌, ◌≤◌, ◌+
 ghost use Rattle.usb_bus.specs.Trace.{attempt_line, pre_text, mark_text, host_text, next_text, answer_text};
 
 use crate::exchange::{Exchange, Heard};
-use crate::wire::{Mark, Sent};
+use crate::wire::{Mark, Outgoing};
 use arrayvec::ArrayString;
 use usb_packet::packet_text;
 
@@ -34,7 +34,7 @@ fn pre_text(pre: bool) -> &'static str
 }
 
 /// A packet of the host.
-fn push_host(line: &mut Line, pre: bool, packet: &Sent)
+fn push_host(line: &mut Line, pre: bool, packet: &Outgoing)
     requires { length line.old.bytes ≤ 530 }
     ensures text { line.new.bytes ≡ line.old.bytes ++ host_text pre packet.now }
     ensures few { length line.new.bytes ≤ length line.old.bytes + 167 }
@@ -45,7 +45,7 @@ fn push_host(line: &mut Line, pre: bool, packet: &Sent)
 }
 
 /// A further packet of the host, where there is one.
-fn push_next(line: &mut Line, pre: bool, packet: &Option<Sent>)
+fn push_next(line: &mut Line, pre: bool, packet: &Option<Outgoing>)
     requires { length line.old.bytes ≤ 527 }
     ensures text { line.new.bytes ≡ line.old.bytes ++ next_text pre packet.now }
     ensures few { length line.new.bytes ≤ length line.old.bytes + 170 }

@@ -32,7 +32,7 @@ impl Mark {
 
 /// A packet of the host, and what damage did to it.
 #[derive(Drop)]
-pub(crate) struct Sent {
+pub(crate) struct Outgoing {
     pub(crate) packet: Packet,
     pub(crate) mark: Mark,
 }
@@ -105,14 +105,14 @@ pub(crate) fn mark_of(harm: Option<Harm>, pre: bool, packet: &Packet) -> Mark
 
 /// The packet as it goes out at a place of its attempt.
 #[tactic(auto, unfolding(crate::specs::Wire::marked))]
-pub(crate) fn marked(damage: Option<Damage>, place: u8, pre: bool, packet: Packet) -> Sent
+pub(crate) fn marked(damage: Option<Damage>, place: u8, pre: bool, packet: Packet) -> Outgoing
     requires { HasFields packet }
     ensures value { result ≡ marked damage place pre packet }
     ensures fields { HasFields result.packet }
     ensures bit { has_its_bit result.mark result.packet ≡ true }
 {
     let mark = mark_of(harm_to(damage, place), pre, &packet);
-    Sent { packet, mark }
+    Outgoing { packet, mark }
 }
 
 #[tactic(auto, unfolding(crate::specs::Wire::marked_some))]
@@ -121,7 +121,7 @@ pub(crate) fn marked_some(
     place: u8,
     pre: bool,
     packet: Option<Packet>,
-) -> Option<Sent>
+) -> Option<Outgoing>
     requires { IfSome packet HasFields }
     ensures value { result ≡ marked_some damage place pre packet }
     ensures fields { IfSome result (λ s. HasFields s.packet) }

@@ -12,7 +12,7 @@ ghost use Rattle.usb_bus.specs.Live.{live_at, pend_at, live, pend, on_way, addre
 ghost use Rattle.usb_bus.specs.Touched.{IsNew, call_resets, call_spares, resets_at, reset_if, packet_spares, port_after, way_rests, way_leaves};
 ghost use Rattle.usb_bus.specs.Sane.{IsSane, IsSanePlace, open_at};
 ghost use Rattle.usb_bus.specs.Passes.{passed, told, after_attempt, heard_place, heard_state, deep_at, IsAttemptAt, attempt_resets, attempt_spares, IsSettled, NobodyHolds, OneHolds, OneActs};
-ghost use Rattle.usb_bus.specs.TreeWorld.{TreeWorld, Step, Course, after};
+ghost use Rattle.usb_bus.specs.Steps.{Step, Course, after};
 ghost use Rattle.usb_bus.specs.Courses.{Undisturbed, Reached, NoReset, Spares, Keeps, Quiet, Injective, Own, IsHarmlessOut, resets};
 
 /// A plug or an unplug at a port (7.1.7.3, 11.24.2.7.2).
@@ -108,27 +108,27 @@ pub fn attempt_at_laws()
 /// A device becomes reachable in one way only: by PORT_RESET at its own port, which leaves it at address 0, without a
 /// configuration, its ports off.
 pub fn reset_makes_reachable()
-    ensures { (s : Step) (w : TreeWorld) (p : List ℕ) → reach (after s w).roots p ≡ true → Reached w (after s w) p (resets s w p) }
+    ensures { (s : Step) (w : World) (p : List ℕ) → reach (after s w).roots p ≡ true → Reached w (after s w) p (resets s w p) }
 {}
 
 /// A step that resets a device leaves it new.
 pub fn reset_makes_new()
-    ensures { (s : Step) (w : TreeWorld) (p : List ℕ) → resets s w p ≡ true → IsNew (place (after s w).roots p) }
+    ensures { (s : Step) (w : World) (p : List ℕ) → resets s w p ≡ true → IsNew (place (after s w).roots p) }
 {}
 
 /// Reachable now and not reset since: the same device, reachable all the while.
 pub fn reachable_is_the_same()
-    ensures { (p : List ℕ) (w v : TreeWorld) → Course (NoReset p) w v → reach v.roots p ≡ true → (reach w.roots p ≡ true) × Undisturbed w v p }
+    ensures { (p : List ℕ) (w v : World) → Course (NoReset p) w v → reach v.roots p ≡ true → (reach w.roots p ≡ true) × Undisturbed w v p }
 {}
 
 /// A pending change stays, until a call clears it.
 pub fn pending_stays()
-    ensures { (p : List ℕ) (w v : TreeWorld) → Course (Spares p) w v → pend w.roots p ≡ true → pend v.roots p ≡ true }
+    ensures { (p : List ℕ) (w v : World) → Course (Spares p) w v → pend w.roots p ≡ true → pend v.roots p ≡ true }
 {}
 
 /// No event comes on a way with power but that it is pending.
 pub fn events_are_pending()
-    ensures { (p : List ℕ) (w v : TreeWorld) → Course (Spares p) w v → live w.roots p ≡ true → Keeps w v p }
+    ensures { (p : List ℕ) (w v : World) → Course (Spares p) w v → live w.roots p ≡ true → Keeps w v p }
 {}
 
 /// Setup data whose request is not PORT_RESET reset no device, whoever hears them and whoever holds the address.
@@ -140,5 +140,5 @@ pub fn harmless_requests()
 /// events, root calls but PORT_RESET, and setup data of any request but PORT_RESET; and no address is ever held twice,
 /// whatever is lost and whatever is plugged.
 pub fn quiet_courses_keep_addresses()
-    ensures { (f : List ℕ → Option ℕ) → Injective f → (w v : TreeWorld) → Course Quiet w v → Own f w → w.shared ≡ false → Own f v × (v.shared ≡ false) }
+    ensures { (f : List ℕ → Option ℕ) → Injective f → (w v : World) → Course Quiet w v → Own f w → w.shared ≡ false → Own f v × (v.shared ≡ false) }
 {}

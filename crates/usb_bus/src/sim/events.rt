@@ -1,27 +1,26 @@
 //! The events of a plan as they come.
-ghost use Rattle.std.specs.Prelude.{◌≡◌, ◌≢◌, ◌+◌, ◌-◌, ◌<◌, ◌≤◌, List, ℕ, [], ◌∷◌, ◌++◌, length, true, slice_index, Ok, None, IfOk, OnOk, OnErr, IfErr, IsTrue, IsSome};
+ghost use Rattle.std.specs.Prelude.{◌≡◌, ◌≢◌, ◌+◌, ◌<◌, ◌≤◌, [], ◌∷◌, ◌++◌, length, true, Ok, Some, None, IfOk, OnOk, OnErr, IfErr, IsTrue, IsSome};
 ghost use Rattle.std.specs.Io.KnownBytes.{Appends};
-ghost use Rattle.usb_bus.specs.World.{Spends, changes};
-ghost use Rattle.usb_bus.specs.Steps.{TookEvent};
-ghost use Rattle.usb_bus.specs.PlanData.{is_root_path, can_be_done};
-ghost use Rattle.usb_bus.specs.Roots.{ports_of, root_of, plugged_at, unplugged_at};
-ghost use Rattle.usb_bus.specs.Simulation.{done, action_line, next_event, next_line, next_due, has_due, due_from, due_lines};
+ghost use Rattle.usb_device.specs.Tree.{row_of, changed, replaced};
+ghost use Rattle.usb_bus.specs.World.{Spends, changes, to_come};
+ghost use Rattle.usb_bus.specs.Steps.{TookEvent, after, event, happened, ready, took_first};
+ghost use Rattle.usb_bus.specs.PlanData.{can_be_done};
+ghost use Rattle.usb_bus.specs.Lines.{action_line, next_line, next_due, has_due, due_lines};
 ghost use Rattle.usb_bus.specs.Trace.{plug_line, unplug_line};
 ghost use Rattle.usb_bus.specs.Watch.{inner_of, has_failed, AppendsFront};
 ghost use Rattle.usb_bus.specs.declared.types.BusFault.TheVariants.{LimitReached, Memory, TraceFailed};
 
 use super::{SimBus, fault_of};
 use crate::event::{Action, Due};
-use crate::root::RootPort;
 use crate::watched::put_pieces;
 use crate::{BusFault, Watched, WriteFailed};
 use std::alloc::{AllocError, Global};
 use std::io::Write;
-use usb_device::{Device, DeviceSpec};
+use usb_device::{Device, DeviceSpec, Ports};
 use usb_port::PortPath;
 
 impl<W: Write> SimBus<W> {
-    ghost use Rattle.usb_bus.specs.Sim.{world_of, writer_of, simulation_of};
+    ghost use Rattle.usb_bus.specs.Sim.{world_of, writer_of};
 
     /// Lets the next event come at once, however many attempts it would wait for, and tells what it asks; None
     /// where no event is left.
@@ -30,12 +29,12 @@ impl<W: Write> SimBus<W> {
     /// come; `TraceFailed` where the writer failed in this call, and the event came.
     pub fn apply_next_event(&mut self) -> Result<Option<Due>, BusFault>
         ensures event { TookEvent (world_of self.old) result (world_of self.new) }
-        ensures asked { IfOk result (λ due. due ≡ next_due (simulation_of self.old)) }
-        ensures exact { OnOk result (simulation_of self.new ≡ next_event (simulation_of self.old)) }
-        ensures line { OnOk result (Appends (W.contents (inner_of (writer_of self.old))) (W.contents (inner_of (writer_of self.new))) (next_line (simulation_of self.old))) }
+        ensures asked { IfOk result (λ due. due ≡ next_due (world_of self.old)) }
+        ensures exact { OnOk result (world_of self.new ≡ after event (world_of self.old)) }
+        ensures line { OnOk result (Appends (W.contents (inner_of (writer_of self.old))) (W.contents (inner_of (writer_of self.new))) (next_line (world_of self.old))) }
         ensures trace { result ≡ Err TraceFailed → (world_of self.old).fault ≡ None → has_failed (writer_of self.new) ≡ true }
-        ensures kept { result ≡ Err Memory → (simulation_of self.new ≡ simulation_of self.old) × (writer_of self.new ≡ writer_of self.old) }
-        ensures cut { result ≡ Err TraceFailed → (world_of self.old).fault ≡ None → simulation_of self.new ≡ next_event (simulation_of self.old) }
+        ensures kept { result ≡ Err Memory → (world_of self.old).fault ≡ None → (world_of self.new ≡ record (world_of self.old) { fault = Some Memory }) × (writer_of self.new ≡ writer_of self.old) }
+        ensures cut { result ≡ Err TraceFailed → (world_of self.old).fault ≡ None → world_of self.new ≡ record (after event (world_of self.old)) { fault = Some TraceFailed } }
         ensures again { IsSome (world_of self.old).fault → self.new ≡ self.old }
     {
         if let Some(fault) = self.fault {
@@ -50,8 +49,8 @@ impl<W: Write> SimBus<W> {
     pub(super) fn take_due_events(&mut self) -> Result<(), BusFault>
         ensures spends { Spends 0 (world_of self.old) (world_of self.new) }
         ensures fault { (world_of self.new).fault ≡ (world_of self.old).fault }
-        ensures exact { OnOk result (simulation_of self.new ≡ due_from (simulation_of self.old).left (simulation_of self.old)) }
-        ensures lines { OnOk result (Appends (W.contents (inner_of (writer_of self.old))) (W.contents (inner_of (writer_of self.new))) (due_lines (simulation_of self.old).left (simulation_of self.old))) }
+        ensures exact { OnOk result (world_of self.new ≡ ready (world_of self.old)) }
+        ensures lines { OnOk result (Appends (W.contents (inner_of (writer_of self.old))) (W.contents (inner_of (writer_of self.new))) (due_lines (world_of self.old).left (world_of self.old))) }
         ensures other { IfErr result (λ f. f ≢ LimitReached) }
         ensures trace { result ≡ Err TraceFailed → has_failed (writer_of self.new) ≡ true }
     {
@@ -63,10 +62,10 @@ impl<W: Write> SimBus<W> {
 
     /// Whether the next event comes by itself: it does not wait for the host, and so many attempts were made since
     /// the former event.
-    #[tactic(auto, unfolding(crate::specs::Simulation::has_due))]
+    #[tactic(auto, unfolding(crate::specs::Lines::has_due))]
     fn is_due(&self) -> bool
-        ensures value { result ≡ has_due (simulation_of self.now) }
-        ensures left { IsTrue result → 0 < (world_of self.now).left }
+        ensures value { result ≡ has_due (world_of self.now) }
+        ensures left { IsTrue result → 0 < to_come (world_of self.now) }
     {
         match self.left.front() {
             None => false,
@@ -77,18 +76,18 @@ impl<W: Write> SimBus<W> {
     }
 
     /// The next event comes, if one is left.
-    #[tactic(auto, using(crate::proofs::Simulations::next_none, crate::proofs::Simulations::due_none, crate::proofs::Simulations::line_none))]
+    #[tactic(auto, using(crate::proofs::Comings::next_none, crate::proofs::Comings::due_none, crate::proofs::Comings::line_none))]
     fn take_event(&mut self) -> Result<Option<Due>, BusFault>
         ensures spends { Spends 0 (world_of self.old) (world_of self.new) }
         ensures fault { (world_of self.new).fault ≡ (world_of self.old).fault }
-        ensures none { result ≡ Ok None → ((world_of self.old).left ≡ 0) × (self.new ≡ self.old) }
+        ensures none { result ≡ Ok None → (to_come (world_of self.old) ≡ 0) × (self.new ≡ self.old) }
         ensures one { IfOk result (λ due. IsSome due → (world_of self.new).taken ≡ (world_of self.old).taken + 1) }
-        ensures fewer { 0 < (world_of self.old).left → OnOk result ((world_of self.new).left < (world_of self.old).left) }
-        ensures asked { IfOk result (λ due. due ≡ next_due (simulation_of self.old)) }
-        ensures exact { OnOk result (simulation_of self.new ≡ next_event (simulation_of self.old)) }
-        ensures line { OnOk result (Appends (W.contents (inner_of (writer_of self.old))) (W.contents (inner_of (writer_of self.new))) (next_line (simulation_of self.old))) }
-        ensures kept { result ≡ Err Memory → (simulation_of self.new ≡ simulation_of self.old) × (writer_of self.new ≡ writer_of self.old) }
-        ensures cut { result ≡ Err TraceFailed → simulation_of self.new ≡ next_event (simulation_of self.old) }
+        ensures fewer { 0 < to_come (world_of self.old) → OnOk result (to_come (world_of self.new) < to_come (world_of self.old)) }
+        ensures asked { IfOk result (λ due. due ≡ next_due (world_of self.old)) }
+        ensures exact { OnOk result (world_of self.new ≡ took_first (world_of self.old).left (world_of self.old)) }
+        ensures line { OnOk result (Appends (W.contents (inner_of (writer_of self.old))) (W.contents (inner_of (writer_of self.new))) (next_line (world_of self.old))) }
+        ensures kept { result ≡ Err Memory → (world_of self.new ≡ world_of self.old) × (writer_of self.new ≡ writer_of self.old) }
+        ensures cut { result ≡ Err TraceFailed → world_of self.new ≡ took_first (world_of self.old).left (world_of self.old) }
         ensures other { IfErr result (λ f. f ≢ LimitReached) }
         ensures trace { result ≡ Err TraceFailed → has_failed (writer_of self.new) ≡ true }
     {
@@ -104,22 +103,24 @@ impl<W: Write> SimBus<W> {
     }
 }
 
-#[tactic(auto, unfolding(crate::specs::Simulation::done))]
+/// What an action does to what is plugged. An error: memory is refused for a device, and nothing changes.
 fn carry_out(
     alloc: Global,
-    roots: &mut [RootPort],
+    roots: &mut Ports,
     devices: &[DeviceSpec],
     action: &Action,
 ) -> Result<(), AllocError>
-    requires { can_be_done (length roots.old) (length devices.now) action.now ≡ true }
-    ensures ok { OnOk result (roots.new ≡ done action.now devices.now roots.old) }
+    requires { can_be_done (length devices.now) action.now ≡ true }
+    ensures ok { OnOk result (roots.new ≡ happened action.now devices.now roots.old) }
     ensures err { OnErr result (roots.new ≡ roots.old) }
-    ensures number { length (ports_of roots.new) ≡ length (ports_of roots.old) }
-    ensures grown { changes (ports_of roots.new) ≤ changes (ports_of roots.old) + 1 }
 {
     match action {
-        Action::Plug(path, device) => plug(alloc, roots, path, &devices[*device])?,
-        Action::Unplug(path) => unplug(roots, path),
+        Action::Plug(path, device) => {
+            roots.plug(path.numbers(), Device::new(alloc, &devices[*device])?)
+        }
+        Action::Unplug(path) => {
+            let _ = roots.unplug(path.numbers());
+        }
         Action::Show => {}
         Action::Send(_, _) => {}
         Action::Receive(_, _) => {}
@@ -129,13 +130,13 @@ fn carry_out(
 }
 
 /// The line of an event.
-#[tactic(auto, unfolding(crate::specs::Simulation::action_line))]
+#[tactic(auto, unfolding(crate::specs::Lines::action_line))]
 fn put_action<W: Write>(
     writer: &mut Watched<W>,
     devices: &[DeviceSpec],
     action: &Action,
 ) -> Result<(), WriteFailed>
-    requires { (roots : ℕ) × (can_be_done roots (length devices.now) action.now ≡ true) }
+    requires { can_be_done (length devices.now) action.now ≡ true }
     ensures front { AppendsFront (W.contents (inner_of writer.old)) (W.contents (inner_of writer.new)) (action_line action.now devices.now) }
     ensures ok { OnOk result (Appends (W.contents (inner_of writer.old)) (W.contents (inner_of writer.new)) (action_line action.now devices.now)) }
     ensures marked { OnErr result (has_failed writer.new ≡ true) }
@@ -148,43 +149,6 @@ fn put_action<W: Write>(
         Action::Receive(_, _) => Ok(()),
         Action::Clear(_) => Ok(()),
     }
-}
-
-/// Makes the device, and plugs it at its root port.
-#[tactic(auto, unfolding(crate::specs::Roots::plugged_at, crate::specs::Roots::with_device))]
-fn plug(
-    alloc: Global,
-    roots: &mut [RootPort],
-    path: &PortPath,
-    spec: &DeviceSpec,
-) -> Result<(), AllocError>
-    requires { is_root_path (length roots.old) path.now ≡ true }
-    ensures ok { OnOk result (roots.new ≡ plugged_at path.now spec.now roots.old) }
-    ensures err { OnErr result (roots.new ≡ roots.old) }
-    ensures number { length (ports_of roots.new) ≡ length (ports_of roots.old) }
-    ensures grown { changes (ports_of roots.new) ≤ changes (ports_of roots.old) + 1 }
-{
-    let device = Device::new(alloc, spec)?;
-    roots[root_of(path)].plug(spec.is_low(), device);
-    Ok(())
-}
-
-/// Unplugs what is at the root port.
-#[tactic(auto, unfolding(crate::specs::Roots::unplugged_at, crate::specs::Roots::without_device))]
-fn unplug(roots: &mut [RootPort], path: &PortPath)
-    requires { is_root_path (length roots.old) path.now ≡ true }
-    ensures exact { roots.new ≡ unplugged_at path.now roots.old }
-    ensures number { length (ports_of roots.new) ≡ length (ports_of roots.old) }
-    ensures grown { changes (ports_of roots.new) ≤ changes (ports_of roots.old) + 1 }
-{
-    roots[root_of(path)].unplug();
-}
-
-fn root_of(path: &PortPath) -> usize
-    ensures value { result ≡ root_of path.now }
-    ensures first { result + 1 ≡ slice_index path.now 0 }
-{
-    usize::from(path.numbers()[0]) - 1
 }
 
 /// The line of a plug.

@@ -13,14 +13,13 @@ use crate::{BusFault, Watched, WriteFailed};
 use std::io::Write;
 
 impl<W: Write> SimBus<W> {
-    ghost use Rattle.usb_bus.specs.Sim.{world_of, writer_of, simulation_of};
+    ghost use Rattle.usb_bus.specs.Sim.{world_of, writer_of};
 
     /// Writes a line of report, given without its newline. It takes no memory.
     ///
     /// Errors: the fault that was told before, and then nothing is written; `TraceFailed` where the writer failed
     /// in this call, and then a front of the line was written.
     pub fn put_line(&mut self, line: &[u8]) -> Result<(), BusFault>
-        ensures same { simulation_of self.new ≡ simulation_of self.old }
         ensures step { PutLine (world_of self.old) result (world_of self.new) }
         ensures front { AppendsFront (W.contents (inner_of (writer_of self.old))) (W.contents (inner_of (writer_of self.new))) (line.now ++ 10 ∷ []) }
         ensures ok { OnOk result (Appends (W.contents (inner_of (writer_of self.old))) (W.contents (inner_of (writer_of self.new))) (line.now ++ 10 ∷ [])) }
