@@ -1,5 +1,5 @@
 -- A whole attempt with one device.
-use Rattle.std.proofs.Common.{◌≡◌, ℕ, ◌+◌, ◌==◌, nat_le, if◌then◌else◌, ◌&&◌, Bool, true, false, List, [], ◌∷◌, length, Option, None, Some, is_some, take, refl, ap, ◌∙◌, arith}
+use Rattle.std.proofs.Common.{◌≡◌, ℕ, ◌==◌, nat_le, if◌then◌else◌, ◌&&◌, Bool, true, false, List, [], ◌∷◌, length, Option, None, Some, take, refl, ap, ◌∙◌, arith}
 use Rattle.std.proofs.lemmas.Bool.Decides.{nat_tests}
 use Rattle.usb_packet.specs.declared.TokenKind.{TokenKind}
 use Rattle.usb_packet.specs.declared.TokenKind.TheVariants.{OutTok, InTok, SetupTok}
@@ -20,8 +20,8 @@ use Rattle.usb_port.specs.PortState.{PortState}
 use Rattle.usb_device.specs.Bulk.{tells_changes, change_bits}
 use Rattle.usb_device.specs.Request.{Outcome, stalled, answers, takes_address, takes_configuration, halts, unhalts, tells_port, calls_port, outcome}
 use Rattle.usb_device.specs.Transfer.{Stage, idle, refused, reading, read, ending, max_packet, packet_at, toggle_at}
-use Rattle.usb_device.specs.Rows.{State, Reply, received, answered, unread, forgotten, accepted, payload, is_busy, nak_row, unless_busy, gives, in_row, begun, data_row, token_row, source_row, changes_row, new_changes_row, held_row, in_other_row, in_bulk_row, acknowledged, bulk_of, rest_of}
-use Rattle.usb_device.specs.Attempt.{Way, whole, broken, lost, heard, acked, setup_attempt, out_attempt, in_attempt, setup_law, out_law, gave, in_stage_law, source_law, changes_law, new_changes_law, held_law, in_other_law, in_bulk_law, in_control_law, in_law, is_own}
+use Rattle.usb_device.specs.Rows.{State, Reply, received, answered, unread, forgotten, accepted, payload, is_busy, nak_row, unless_busy, gives, in_row, begun, data_row, token_row, source_row, changes_row, held_row, in_other_row, in_bulk_row, acknowledged, bulk_of, rest_of}
+use Rattle.usb_device.specs.Attempt.{Way, whole, broken, lost, heard, acked, setup_attempt, out_attempt, in_attempt, setup_law, out_law, gave, in_stage_law, source_law, changes_law, held_law, in_other_law, in_bulk_law, in_control_law, in_law, is_own}
 
 same_number : (n : ℕ) → (n == n) ≡ true
 same_number n = grind (arith, nat_tests)

@@ -1,9 +1,10 @@
 -- What devices forget or lose, for a row of ports that begins with a place.
-use Rattle.std.proofs.Common.{◌≡◌, ◌||◌, false, List, [], ◌∷◌, Option, None, Some, length, refl, arith}
+use Rattle.std.proofs.Common.{◌≡◌, ◌||◌, Bool, false, List, [], ◌∷◌, Option, None, Some, length, refl, arith}
 use Rattle.usb_port.specs.PortState.{PortState}
 use Rattle.usb_device.specs.declared.ports.Place.{Place as Kept}
 use Rattle.usb_device.specs.Tree.{Ports, Plugged, before}
-use Rattle.usb_device.specs.Delivery.{all_forgotten, forgotten_whole, has_loss, has_loss_in}
+use Rattle.usb_device.specs.declared.delivery.Sent.{Sent}
+use Rattle.usb_device.specs.Delivery.{all_forgotten, forgotten_whole, has_loss, has_loss_in, clears_change, clears_in}
 use Rattle.usb_device.specs.Places.{standing, ports_in}
 
 pub forgotten-vacant : (b : PortState) (k : Ports) → all_forgotten (before (standing b None) k) ≡ before (standing b None) (all_forgotten k)
@@ -29,4 +30,15 @@ unfolding has_loss
 loss-none [] h = refl
 loss-none (p ∷ ps) h = absurd (omega (arith, h))
 
-pub ruleset betweens = (forgotten-vacant, forgotten-taken, forgotten-none, loss-before, loss-none)
+pub clears-before : (q : Sent) (deep : Bool) (b : PortState) (d : Option Plugged) (k : Ports)
+    → clears_change q deep (before (standing b d) k) ≡ (clears_in q deep b d || clears_change q deep k)
+unfolding clears_change
+clears-before q deep b None k = refl
+clears-before q deep b (Some t) k = refl
+
+pub clears-none : (q : Sent) (deep : Bool) (ps : List Kept) → length ps ≡ 0 → clears_change q deep (ports_in ps) ≡ false
+unfolding clears_change
+clears-none q deep [] h = refl
+clears-none q deep (p ∷ ps) h = absurd (omega (arith, h))
+
+pub ruleset betweens = (forgotten-vacant, forgotten-taken, forgotten-none, loss-before, loss-none, clears-before, clears-none)

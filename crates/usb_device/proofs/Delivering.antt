@@ -8,21 +8,11 @@ use Rattle.usb_device.specs.declared.delivery.Heard.TheVariants.{NoAnswer, One, 
 use Rattle.usb_device.specs.declared.ports.Place.{Place as Kept}
 use Rattle.usb_device.specs.Places.{ports_in}
 use Rattle.usb_device.specs.Rows.{State}
-use Rattle.usb_device.specs.Tree.{Ports, ended, vacant, taken, Plugged, Place, empty, full, before, row_of}
-use Rattle.usb_device.specs.Delivery.{answer_of, effect_of, after_packet, answers, listed, heard_from, heard_of, both, delivered, delivered_device, delivered_place}
+use Rattle.usb_device.specs.Tree.{Ports, taken, Place, empty, full, before}
+use Rattle.usb_device.proofs.Rows.{row_of-after}
+use Rattle.usb_device.specs.Delivery.{answer_of, after_packet, answers, listed, heard_from, heard_of, both, delivered, delivered_device, delivered_place}
 
 -- ---- a packet leaves the ports of a device as they are until the device itself asks something of them
-
-either-enable : (b : PortState) (x y k : Ports) (e : Bool) → row_of x ≡ b ∷ row_of k → row_of y ≡ b ∷ row_of k → row_of (if e then x else y) ≡ b ∷ row_of k
-either-enable b x y k true h g = h
-either-enable b x y k false h g = g
-
-pub row_of-after : (q : Sent) (deep : Bool) (k : Ports) → row_of (after_packet q deep k) ≡ row_of k
-unfolding row_of after_packet
-row_of-after q deep ended = refl
-row_of-after q deep (vacant b k) = ap (λ r. b ∷ r) (row_of-after q deep k)
-row_of-after q deep (taken b s a k) =
-    either-enable b _ _ k b.enable (ap (λ r. b ∷ r) (row_of-after q deep k)) (ap (λ r. b ∷ r) (row_of-after q deep k))
 
 pub answer_of-after : (q : Sent) (deep : Bool) (s : State) (a : Ports) (below : Bool) → answer_of q deep s (after_packet q below a) ≡ answer_of q deep s a
 unfolding answer_of

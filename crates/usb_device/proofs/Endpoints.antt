@@ -1,5 +1,5 @@
 -- Bytes that are no configuration have no endpoints.
-use Rattle.std.proofs.Common.{◌≡◌, ℕ, List, Option, None, Result, Ok, Err, refl, ap}
+use Rattle.std.proofs.Common.{◌≡◌, ℕ, List, None, Err, ap}
 use Rattle.usb_descriptor.specs.declared.fault.DescriptorFault.{DescriptorFault}
 use Rattle.usb_descriptor.specs.Config.{config_of}
 use Rattle.usb_descriptor.specs.Choice.{in_config, bulk_in_of, bulk_out_of, bulk_in_at, bulk_out_at}

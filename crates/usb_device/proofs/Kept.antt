@@ -11,7 +11,6 @@ use Rattle.usb_request.specs.Layout.{setup_of}
 use Rattle.usb_device.specs.declared.answer.Answer.TheVariants.{Ack, Nak, Stall}
 use Rattle.arrayvec.specs.ArrayVec.{ArrayVec}
 use Rattle.usb_device.specs.declared.transfer.Memory.{Memory}
-use Rattle.usb_device.specs.declared.transfer.Giver.{Giver}
 use Rattle.usb_device.specs.declared.transfer.Giver.TheVariants as by
 use Rattle.usb_device.specs.declared.bulk.Which.TheVariants.{BulkOut, BulkIn, Changes}
 use Rattle.usb_port.specs.PortState.{PortState}
@@ -19,7 +18,7 @@ use Rattle.usb_device.specs.Bulk.{is_same, tells_changes, change_bits}
 use Rattle.usb_device.specs.declared.transfer.Memory.TheVariants.{Nothing, SetupSeen, OutSeen, AckAwaited}
 use Rattle.usb_device.specs.Request.{Outcome, stalled, answers, takes_address, takes_configuration, halts, unhalts, tells_port, calls_port, outcome}
 use Rattle.usb_device.specs.Transfer.{Stage, idle, refused, reading, read, ending, max_packet, packet_at, toggle_at}
-use Rattle.usb_device.specs.Rows.{State, Reply, received, answered, forgotten, begun, accepted, is_busy, nak_row, unless_busy, gives, in_row, status_row, out_row, ack_row, token_row, payload_row, source_row, changes_row, new_changes_row, held_row, in_other_row, in_bulk_row, sink_row, sunk, out_bulk_row, data_row, bulk_ack_row, acknowledged, after_memory, bulk_of, rest_of}
+use Rattle.usb_device.specs.Rows.{State, Reply, received, answered, forgotten, begun, accepted, is_busy, nak_row, unless_busy, gives, in_row, status_row, out_row, ack_row, token_row, payload_row, source_row, changes_row, new_changes_row, held_row, in_other_row, in_bulk_row, sink_row, sunk, out_bulk_row, bulk_ack_row, after_memory, bulk_of, rest_of}
 use Rattle.usb_device.specs.Kept.{Keeps, is_data}
 
 same : (p : Packet) (d : State) → Keeps p d d

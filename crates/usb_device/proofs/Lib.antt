@@ -4,6 +4,7 @@ pub mod Endpoints
 pub mod Attempts
 pub mod Kept
 pub mod Packets
+pub mod Rows
 pub mod Placing
 pub mod Delivering
 pub mod Betweens

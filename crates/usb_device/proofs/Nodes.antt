@@ -1,5 +1,5 @@
 -- A measure that falls on the way down a tree and along a row of ports.
-use Rattle.std.proofs.Common.{ℕ, ◌+◌, ◌*◌, Option, None, Some}
+use Rattle.std.proofs.Common.{ℕ, ◌+◌, Option, None, Some}
 use Rattle.usb_device.specs.Tree.{Ports, ended, vacant, taken, Plugged}
 
 -- ports and ends of rows

@@ -1,10 +1,10 @@
 -- A row of ports that begins with a place.
 use Rattle.std.proofs.Common.{◌≡◌, ℕ, zero, suc, ◌+◌, ◌-◌, List, [], ◌∷◌, ◌++◌, Option, None, Some, length, slice_get, refl, ap, sym, ◌∙◌, add-one, arith}
 use Rattle.usb_port.specs.PortState.{PortState, off, powered_off}
-use Rattle.usb_device.specs.Rows.{State}
 use Rattle.usb_device.specs.Tree.{Ports, ended, vacant, taken, Plugged, Place, empty, full, before, new_ports, all_off, row_of, changed_at, changed_in, changed, plugged_at, plugged_in, device_there}
 use Rattle.usb_device.specs.Places.{standing, stood, ports_in}
 use Rattle.usb_device.specs.declared.ports.Place.{Place as Kept}
+use Rattle.usb_device.proofs.Rows.{row_of-before}
 
 -- ---- a number that is not 0
 
@@ -61,11 +61,6 @@ plugged_at-none [] i p h = refl
 plugged_at-none (q ∷ ps) i p h = absurd (omega (arith, h))
 
 -- ---- the ports without what is on them
-
-row_of-before : (b : PortState) (d : Option Plugged) (k : Ports) → row_of (before (standing b d) k) ≡ b ∷ row_of k
-unfolding row_of
-row_of-before b None k = refl
-row_of-before b (Some t) k = refl
 
 pub port-first : (b : PortState) (d : Option Plugged) (k : Ports) (i : ℕ) → i ≡ 0 → slice_get (row_of (before (standing b d) k)) i ≡ Some b
 port-first b d k i h = rw (row_of-before b d k, h) refl

@@ -7,8 +7,10 @@ use Rattle.usb_device.specs.declared.answer.Answer.{Answer}
 use Rattle.usb_device.specs.declared.delivery.Content.{Content}
 use Rattle.usb_device.specs.declared.delivery.Content.TheVariants.{Whole, Broken}
 use Rattle.usb_device.specs.declared.delivery.Sent.{Sent}
+use Rattle.usb_device.specs.declared.calls.PortCall.{PortCall}
+use Rattle.usb_device.specs.declared.calls.PortCall.TheVariants.{ClearConnectionChange}
 use Rattle.usb_device.specs.declared.effect.Effect.{Effect}
-use Rattle.usb_device.specs.declared.effect.Effect.TheVariants.{Leaves}
+use Rattle.usb_device.specs.declared.effect.Effect.TheVariants.{Leaves, Calls, PortsOff}
 use Rattle.usb_device.specs.Spec.{Spec}
 use Rattle.usb_device.specs.Rows.{State, Reply, received, unread, forgotten, awaits_address}
 use Rattle.usb_device.specs.Effect.{asks}
@@ -50,6 +52,31 @@ after_packet q deep (vacant b k) = vacant b (after_packet q deep k)
 after_packet q deep (taken b s a k) =
     if b.enable then taken b (answer_of q deep s a).1 (acted (effect_of q deep s) (after_packet q true a)) (after_packet q deep k)
     else taken b s a (after_packet q deep k)
+
+-- ClearPortFeature of C_PORT_CONNECTION (11.24.2.2)
+abbrev pub is_clearing : PortCall → Bool
+is_clearing ClearConnectionChange = true
+is_clearing c = false
+
+abbrev pub asks_clearing : Effect → Bool
+asks_clearing Leaves = false
+asks_clearing (Calls c i) = is_clearing c
+asks_clearing PortsOff = false
+
+-- a device that the packet reaches clears a change of connection at one of its ports
+unfoldable pub clears_change : Sent → Bool → Ports → Bool
+clears_change q deep ended = false
+clears_change q deep (vacant b k) = clears_change q deep k
+clears_change q deep (taken b s a k) =
+    (b.enable && (asks_clearing (effect_of q deep s) || clears_change q true a)) || clears_change q deep k
+
+-- the same, of a device and all below it, and of the device on a port
+abbrev pub clears_whole : Sent → Bool → Plugged → Bool
+clears_whole q deep t = asks_clearing (effect_of q deep t.own) || clears_change q true t.ports
+
+abbrev pub clears_in : Sent → Bool → PortState → Option Plugged → Bool
+clears_in q deep b None = false
+clears_in q deep b (Some t) = b.enable && clears_whole q deep t
 
 abbrev pub listed : Option Answer → List Answer → List Answer
 listed None more = more

@@ -1,5 +1,5 @@
 -- What each request asks of a device: bytes, a change of the device or of one of its ports, or a refusal (9.4, 11.24).
-use Rattle.std.specs.Prelude.{ℕ, ◌-◌, ◌/◌, ◌%◌, ◌==◌, nat_lt, nat_le, if◌then◌else◌, ◌&&◌, ◌||◌, not, Bool, List, [], ◌∷◌, length, slice_index, slice_get, Option, None, Some}
+use Rattle.std.specs.Prelude.{ℕ, ◌-◌, ◌/◌, ◌%◌, ◌==◌, nat_lt, nat_le, if◌then◌else◌, ◌&&◌, ◌||◌, not, Bool, List, [], ◌∷◌, slice_get, Option, None, Some}
 use Rattle.std.specs.List.{list_any}
 use Rattle.usb_request.specs.declared.setup.Setup.{Setup}
 use Rattle.usb_device.specs.declared.calls.PortCall.{PortCall}

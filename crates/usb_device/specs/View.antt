@@ -1,11 +1,11 @@
 -- A tree of devices, seen place by place: what stands at a path is told by the place at its first number.
-use Rattle.std.specs.Prelude.{ℕ, zero, suc, ◌==◌, ◌&&◌, if◌then◌else◌, Bool, true, false, List, [], ◌∷◌, Option, None, Some}
+use Rattle.std.specs.Prelude.{ℕ, zero, suc, ◌==◌, ◌&&◌, if◌then◌else◌, Bool, false, List, [], ◌∷◌, slice_set, Option, None, Some}
 use Rattle.std.specs.Option.{option_map}
 use Rattle.usb_port.specs.PortState.{PortState, powered_off, unplugged}
 use Rattle.usb_device.specs.declared.effect.Effect.{Effect}
 use Rattle.usb_device.specs.declared.effect.Effect.TheVariants.{Leaves, Calls, PortsOff}
 use Rattle.usb_device.specs.Rows.{State, forgotten}
-use Rattle.usb_device.specs.Tree.{Ports, Place, empty, full, called, state_at, port_at, reach, reach_at}
+use Rattle.usb_device.specs.Tree.{Ports, Place, empty, full, port_of, called, state_at, port_at, reach}
 use Rattle.usb_device.specs.Delivery.{all_forgotten}
 
 abbrev pub state_there : Ports → List ℕ → Option State
@@ -64,3 +64,8 @@ abbrev pub asked_place : Effect → ℕ → Place → Place
 asked_place Leaves i q = q
 asked_place (Calls c j) i q = if i == j then called c q else q
 asked_place PortsOff i q = off_place q
+
+-- a row with the port of a place in place of its own, where there is one
+abbrev pub with_port : List PortState → ℕ → Option Place → List PortState
+with_port row i None = row
+with_port row i (Some q) = slice_set row i (port_of q)

@@ -1,5 +1,6 @@
 //! A packet on its way through the tree of devices (8.6.5, 11.8.4).
 ghost use Rattle.std.specs.Prelude.{◌≡◌, false, true, IfOk, OnErr};
+ghost use Rattle.usb_device.specs.Tree.{row_of};
 ghost use Rattle.usb_device.specs.Places.{ports_in, stood};
 ghost use Rattle.usb_device.specs.Delivery.{Carries, is_heard, heard_from, both, delivered, taken_content, taken_sent, delivered_device, delivered_place, figure, figure_in, figure_of};
 
@@ -74,7 +75,7 @@ fn heard_from(answer: Option<Answer>) -> Heard
 
 /// Whether a device of a speed hears a packet, which is `deep` where it stands on a port of a hub: there it hears
 /// low-speed packets only with PRE.
-fn is_heard(sent: &Sent, deep: bool, low: bool) -> bool
+pub(crate) fn is_heard(sent: &Sent, deep: bool, low: bool) -> bool
     ensures { result ≡ is_heard sent.now deep low }
 {
     if sent.low {
@@ -89,10 +90,11 @@ impl Ports {
     /// of these ports hears low-speed packets; one below hears them only with PRE.
     ///
     /// An error: memory is refused for a sink that was to grow; each device that was reached may have had the packet or not.
-    /// The same devices stand at the same ports.
+    /// The same devices stand at the same ports, and the ports of the row itself are as they were.
     pub fn deliver(&mut self, sent: &Sent) -> Result<Heard, AllocError>
         ensures ok { IfOk result (λ heard. (heard, self.new) ≡ delivered sent.now false self.old) }
         ensures err { OnErr result (figure self.new ≡ figure self.old) }
+        ensures row { OnErr result (row_of self.new ≡ row_of self.old) }
     {
         self.pass(sent, false)
     }
@@ -101,16 +103,18 @@ impl Ports {
     fn pass(&mut self, sent: &Sent, deep: bool) -> Result<Heard, AllocError>
         ensures ok { IfOk result (λ heard. (heard, self.new) ≡ delivered sent.now deep self.old) }
         ensures err { OnErr result (figure self.new ≡ figure self.old) }
+        ensures row { row_of self.new ≡ row_of self.old }
     {
         deliver_all(self.places.as_mut_slice(), sent, deep)
     }
 }
 
 #[cycle(deliver)]
-#[tactic(auto, using(crate::proofs::Delivering::delivering, crate::proofs::Figures::figures))]
+#[tactic(auto, using(crate::proofs::Delivering::delivering, crate::proofs::Figures::figures, crate::proofs::Rows::rows))]
 fn deliver_all(places: &mut [Place], sent: &Sent, deep: bool) -> Result<Heard, AllocError>
     ensures ok { IfOk result (λ heard. (heard, ports_in places.new) ≡ delivered sent.now deep (ports_in places.old)) }
     ensures err { OnErr result (figure (ports_in places.new) ≡ figure (ports_in places.old)) }
+    ensures row { row_of (ports_in places.new) ≡ row_of (ports_in places.old) }
 {
     match places.split_first_mut() {
         None => Ok(Heard::NoAnswer),
@@ -127,6 +131,7 @@ impl Place {
     fn deliver(&mut self, sent: &Sent, deep: bool) -> Result<Heard, AllocError>
         ensures ok { IfOk result (λ heard. (heard, stood self.new) ≡ delivered_place sent.now deep (stood self.old)) }
         ensures err { OnErr result (figure_in (stood self.new) ≡ figure_in (stood self.old)) }
+        ensures port { self.new.port ≡ self.old.port }
     {
         match &mut self.device {
             Some(device) if self.port.is_enabled() => device.deliver(sent, deep),

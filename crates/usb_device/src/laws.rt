@@ -1,19 +1,19 @@
 //! Laws of a device's answers, for those who send it packets.
-ghost use Rattle.std.specs.Prelude.{◌≡◌, ◌<◌, ◌≤◌, ◌+◌, ◌==◌, ◌&&◌, ℕ, suc, nat_lt, Bool, List, [], length, take, true, false, None, Some, is_some, option_map};
+ghost use Rattle.std.specs.Prelude.{◌≡◌, ◌<◌, ◌≤◌, ◌+◌, ◌==◌, ◌&&◌, ℕ, suc, nat_lt, Bool, List, [], ◌∷◌, length, slice_get, take, true, false, None, Some, is_some, option_map};
 ghost use Rattle.usb_device.specs.Transfer.{packet_at, joined};
 ghost use Rattle.usb_packet.specs.declared.Packet.{Packet};
 ghost use Rattle.usb_packet.specs.declared.Packet.TheVariants.{Token};
 ghost use Rattle.usb_packet.specs.declared.TokenKind.{TokenKind};
 ghost use Rattle.usb_packet.specs.declared.Toggle.{Toggle};
-ghost use Rattle.usb_port.specs.PortState.{PortState};
+ghost use Rattle.usb_port.specs.PortState.{PortState, powered_off};
 ghost use Rattle.usb_device.specs.Rows.{State, received, unread, forgotten};
 ghost use Rattle.usb_device.specs.Kept.{Keeps};
 ghost use Rattle.usb_device.specs.declared.delivery.Sent.{Sent};
 ghost use Rattle.usb_device.specs.Effect.{asks};
-ghost use Rattle.usb_device.specs.Tree.{Ports as TreePorts, Plugged, put, place_at, state_at, port_at, reach_at, reset_whole, with_child, without_child};
-ghost use Rattle.usb_device.specs.Delivery.{after_packet, delivered_place, forgotten_whole};
+ghost use Rattle.usb_device.specs.Tree.{Ports as TreePorts, Place, Plugged, put, changed_at, all_off, row_of, place_at, state_at, port_at, reach_at, reset_whole, with_child, without_child};
+ghost use Rattle.usb_device.specs.Delivery.{after_packet, delivered_place, all_forgotten, forgotten_whole};
 ghost use Rattle.usb_device.specs.Received.{after_receiving};
-ghost use Rattle.usb_device.specs.View.{seen, state_in, port_in, reach_in, off_place, left_place, forgotten_place, asked_place, at_number};
+ghost use Rattle.usb_device.specs.View.{seen, state_in, port_in, reach_in, off_place, left_place, forgotten_place, asked_place, at_number, with_port};
 ghost use Rattle.usb_device.specs.Attempt.{Way, setup_attempt, setup_law, out_attempt, out_law, in_attempt, in_law, is_own};
 
 /// A whole attempt with a device that remembers nothing, each packet of it coming or not.
@@ -74,4 +74,18 @@ pub fn place_laws()
     ensures attempt_over { (t : Plugged) (i : ℕ) → place_at (forgotten_whole t).ports i [] ≡ option_map forgotten_place (place_at t.ports i []) }
     // A packet that goes down the tree.
     ensures deliver { (q : Sent) (deep : Bool) (k : TreePorts) (i : ℕ) → place_at (after_packet q deep k) i [] ≡ option_map (λ p. (delivered_place q deep p).1) (place_at k i []) }
+{}
+
+/// What is left of a row of ports itself, whatever comes to the devices on it.
+#[tactic(auto, using(crate::proofs::Rows::row_laws))]
+pub fn row_laws()
+    ensures deliver { (q : Sent) (deep : Bool) (k : TreePorts) → row_of (after_packet q deep k) ≡ row_of k }
+    ensures attempt_over { (k : TreePorts) → row_of (all_forgotten k) ≡ row_of k }
+    // A change further down.
+    ensures below { (f : Place → Place) (k : TreePorts) (i n : ℕ) (p : List ℕ) → row_of (changed_at f k i (n ∷ p)) ≡ row_of k }
+    // A change at a port of the row.
+    ensures changed { (f : Place → Place) (k : TreePorts) (i : ℕ) → row_of (changed_at f k i []) ≡ with_port (row_of k) i (option_map f (place_at k i [])) }
+    // The other ports.
+    ensures others { (f : Place → Place) (k : TreePorts) (i j : ℕ) (p : List ℕ) → (i ≡ j → ⊥) → slice_get (row_of (changed_at f k i p)) j ≡ slice_get (row_of k) j }
+    ensures off { (k : TreePorts) (i : ℕ) → slice_get (row_of (all_off k)) i ≡ option_map powered_off (slice_get (row_of k) i) }
 {}

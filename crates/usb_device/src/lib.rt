@@ -5,6 +5,7 @@ mod answer;
 mod between;
 mod bulk;
 mod calls;
+mod clearing;
 mod delivery;
 mod device;
 mod devices;
@@ -25,7 +26,9 @@ pub use delivery::{Content, Heard, Sent};
 pub use device::Device;
 pub use devices::Devices;
 pub use hub_spec::{HubSpec, has_hub_class};
-pub use laws::{answer_laws, attempt_laws, frame_laws, place_laws, stranger_laws, view_laws};
+pub use laws::{
+    answer_laws, attempt_laws, frame_laws, place_laws, row_laws, stranger_laws, view_laws,
+};
 pub use lists::{Bytes, ConfigTexts, Name, StringTexts, Texts};
 pub use ports::Ports;
 pub use spec::{DeviceSpec, Stalls};

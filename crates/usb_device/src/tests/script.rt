@@ -157,6 +157,8 @@ pub(super) fn passes(
 pub(super) enum TreeStep {
     /// A packet of the host, at low speed or not, with PRE or not, and what is heard.
     Packet(bool, bool, Step, &'static str),
+    /// Whether a packet of the host at full speed is to clear a change of connection.
+    Clears(Step, bool),
     Plug(&'static [u8], Kind),
     /// What stands at a path is unplugged, where a device is.
     Unplug(&'static [u8], bool),
@@ -191,17 +193,23 @@ fn plug(alloc: Global, ports: &mut Ports, path: &[u8], kind: Kind) -> Result<(),
     Ok(())
 }
 
+/// A packet of the host that goes out at low speed or not, with PRE or not.
+fn going_out(low: bool, pre: bool, step: &Step) -> Sent {
+    Sent {
+        low,
+        pre,
+        content: Content::of(sent(step).as_slice()),
+    }
+}
+
 /// Whether a row is as it says.
 fn tree_holds(alloc: Global, ports: &mut Ports, step: &TreeStep) -> Result<bool, AllocError> {
     match step {
         TreeStep::Packet(low, pre, step, text) => {
-            let content = Content::of(sent(step).as_slice());
-            let packet = Sent {
-                low: *low,
-                pre: *pre,
-                content,
-            };
-            return is_heard(ports, &packet, *text);
+            return is_heard(ports, &going_out(*low, *pre, step), *text);
+        }
+        TreeStep::Clears(step, is) => {
+            return Ok(ports.clears_change(&going_out(false, false, step)) == *is);
         }
         TreeStep::Plug(path, kind) => plug(alloc, ports, *path, *kind)?,
         TreeStep::Unplug(path, was_there) => {

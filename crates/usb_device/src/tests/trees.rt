@@ -12,6 +12,8 @@ const SET_CONFIGURATION: &[u8] = &[0, 9, 1, 0, 0, 0, 0, 0];
 
 const POWER_PORT_1: &[u8] = &[0x23, 3, 8, 0, 1, 0, 0, 0];
 
+const CLEAR_CONNECTION_CHANGE: &[u8] = &[0x23, 1, 16, 0, 1, 0, 0, 0];
+
 const RESET_PORT_1: &[u8] = &[0x23, 3, 4, 0, 1, 0, 0, 0];
 
 /// Below a hub a low-speed device hears packets only with PRE, and only through an enabled port.
@@ -87,6 +89,34 @@ fn an_address_waits_for_its_ack(rt: HostRuntime) -> Result<(), Fail> {
         TreeStep::HasLoss(false),
         TreeStep::Packet(true, false, Step::Ack, "none"),
         TreeStep::Packet(true, false, Step::In(0), "DATA1 -"),
+    ];
+    assert!(rt; tree_passes(rt.alloc(), &steps)?);
+    Ok(())
+}
+
+/// ClearPortFeature of C_PORT_CONNECTION clears the change with its data, where a hub hears it and has heard its token.
+#[test]
+fn a_packet_clears_a_change(rt: HostRuntime) -> Result<(), Fail> {
+    let steps = [
+        TreeStep::Plug(&[1], Kind::Hub),
+        TreeStep::Call(1, PortCall::SetPower),
+        TreeStep::Call(1, PortCall::SetReset),
+        TreeStep::Packet(false, false, Step::Setup(0), "none"),
+        TreeStep::Packet(false, false, Step::Data0(SET_ADDRESS), "ACK"),
+        TreeStep::Packet(false, false, Step::In(0), "DATA1 -"),
+        TreeStep::Packet(false, false, Step::Ack, "none"),
+        TreeStep::Packet(false, false, Step::Setup(1), "none"),
+        TreeStep::Clears(Step::Data0(CLEAR_CONNECTION_CHANGE), false),
+        TreeStep::Clears(Step::Data0(SET_CONFIGURATION), false),
+        TreeStep::Packet(false, false, Step::Data0(SET_CONFIGURATION), "ACK"),
+        TreeStep::Clears(Step::Data0(CLEAR_CONNECTION_CHANGE), false),
+        TreeStep::Packet(false, false, Step::Setup(1), "none"),
+        TreeStep::Clears(Step::Data0(CLEAR_CONNECTION_CHANGE), true),
+        TreeStep::Clears(Step::Data1(CLEAR_CONNECTION_CHANGE), false),
+        TreeStep::Clears(Step::Data0(RESET_PORT_1), false),
+        TreeStep::Clears(Step::Bytes(&[0xff]), false),
+        TreeStep::Call(1, PortCall::ClearEnable),
+        TreeStep::Clears(Step::Data0(CLEAR_CONNECTION_CHANGE), false),
     ];
     assert!(rt; tree_passes(rt.alloc(), &steps)?);
     Ok(())

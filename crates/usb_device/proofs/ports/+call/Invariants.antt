@@ -1,6 +1,4 @@
-use Rattle.std.proofs.Common.{ℕ, ◌+◌, ◌*◌, length}
-use Rattle.usb_device.specs.Places.{ports_in}
-use Rattle.usb_device.proofs.Nodes.{nodes, nodes_in}
+use Rattle.std.proofs.Common.{length}
 use Rattle.usb_device.proofs.ports.+call.Given as goal
 
 abbrev pub decreases-call_at : goal.decreases-call_at

@@ -1,4 +1,4 @@
-use Rattle.std.proofs.Common.{ℕ, ◌+◌, ◌*◌, length}
+use Rattle.std.proofs.Common.{◌+◌, ◌*◌}
 use Rattle.usb_device.specs.Places.{ports_in}
 use Rattle.usb_device.proofs.Nodes.{nodes, nodes_in}
 use Rattle.usb_device.proofs.ports.+device_at.Given as goal

@@ -1,0 +1,80 @@
+//! Whether a packet clears a change of connection (11.24.2.2).
+ghost use Rattle.std.specs.Prelude.{◌≡◌, false};
+ghost use Rattle.usb_device.specs.Places.{ports_in};
+ghost use Rattle.usb_device.specs.Delivery.{effect_of, is_clearing, asks_clearing, clears_change, clears_whole, clears_in};
+
+use crate::calls::PortCall;
+use crate::delivery::{Content, Sent, is_heard};
+use crate::device::Device;
+use crate::effect::Effect;
+use crate::ports::{Place, Ports};
+
+impl Ports {
+    /// Whether a device that a packet reaches clears a change of connection at one of its ports (11.24.2.2): it has heard
+    /// the SETUP token, and the packet is the data of ClearPortFeature of C_PORT_CONNECTION. It is asked before the packet
+    /// is delivered.
+    pub fn clears_change(&self, sent: &Sent) -> bool
+        ensures { result ≡ clears_change sent.now false self.now }
+    {
+        self.clears(sent, false)
+    }
+
+    #[cycle(clearing)]
+    fn clears(&self, sent: &Sent, deep: bool) -> bool
+        ensures { result ≡ clears_change sent.now deep self.now }
+    {
+        any_clears(self.places.as_slice(), sent, deep)
+    }
+}
+
+#[cycle(clearing)]
+#[tactic(auto, using(crate::proofs::Betweens::betweens))]
+fn any_clears(places: &[Place], sent: &Sent, deep: bool) -> bool
+    ensures { result ≡ clears_change sent.now deep (ports_in places.now) }
+{
+    match places.split_first() {
+        None => false,
+        Some((place, rest)) => place.clears(sent, deep) || any_clears(rest, sent, deep),
+    }
+}
+
+impl Place {
+    #[cycle(clearing)]
+    fn clears(&self, sent: &Sent, deep: bool) -> bool
+        ensures { result ≡ clears_in sent.now deep self.now.port self.now.device }
+    {
+        match &self.device {
+            Some(device) if self.port.is_enabled() => device.clears(sent, deep),
+            _ => false,
+        }
+    }
+}
+
+impl Device {
+    #[cycle(clearing)]
+    fn clears(&self, sent: &Sent, deep: bool) -> bool
+        ensures { result ≡ clears_whole sent.now deep self.now }
+    {
+        is_clearing(self.effect(sent, deep)) || self.ports.clears(sent, true)
+    }
+
+    /// What the device itself asks of its ports at a packet.
+    #[tactic(auto, unfolding(crate::specs::Delivery::effect_of))]
+    fn effect(&self, sent: &Sent, deep: bool) -> Effect
+        ensures { result ≡ effect_of sent.now deep self.now.own }
+    {
+        match &sent.content {
+            Content::Whole(packet) if is_heard(sent, deep, self.is_low()) => self.own.asks(packet),
+            _ => Effect::Leaves,
+        }
+    }
+}
+
+fn is_clearing(effect: Effect) -> bool
+    ensures { result ≡ asks_clearing effect }
+{
+    match effect {
+        Effect::Calls(PortCall::ClearConnectionChange, _) => true,
+        _ => false,
+    }
+}
