@@ -1,9 +1,15 @@
 -- How the counts of several steps join.
-use Rattle.std.proofs.Common.{◌≡◌, ◌∙◌, refl, sym, subst, arith, suc, zero}
-use Rattle.std.specs.Prelude.{ℕ, ◌+◌, ◌-◌, ◌<◌, ◌≤◌, List, [], ◌∷◌, length, Bool, true, false, slice_set, slice_index_or, unwrap_or, if◌then◌else◌, ◌&&◌, ◌==◌, Option}
+use Rattle.std.proofs.Common.{◌≡◌, ◌∙◌, refl, sym, ap, subst, arith, suc, zero, inl, inr}
+use Rattle.std.specs.Prelude.{ℕ, ◌+◌, ◌-◌, ◌<◌, ◌≤◌, List, [], ◌∷◌, length, Bool, true, false, slice_set, slice_index_or, unwrap_or, if◌then◌else◌, ◌&&◌, ◌==◌, Option, Some, None}
 use Rattle.usb_port.specs.PortState.{PortState, is_attached, off, set_row, clear_row}
 use Rattle.std.proofs.Common.{length-set}
-use Rattle.usb_bus.specs.World.{World, change_of, Spends, SetsRoot, ClearsRoot, IsRootPort, changes, port_at, with_port}
+use Rattle.usb_device.specs.declared.calls.PortCall.{PortCall}
+use Rattle.usb_device.specs.declared.calls.PortCall.TheVariants.{SetPower, SetReset, ClearEnable, ClearPower, ClearConnectionChange, ClearEnableChange, ClearResetChange}
+use Rattle.usb_device.specs.Calls.{called_port, is_reset, set_call, clear_call}
+use Rattle.usb_device.specs.Rows.{State}
+use Rattle.usb_device.specs.Tree.{Ports, ended, vacant, taken, before, reset_where, called, changed, changed_at, row_of}
+use Rattle.usb_bus.specs.World.{World, root_row, to_come, change_of, Spends, IsRootPort, IsSetFeature, IsClearFeature, changes, port_at}
+use Rattle.usb_bus.specs.Steps.{SetsRoot, ClearsRoot, root_call, after}
 
 pub spends_none : (w : World) → Spends 0 w w
 spends_none w = record {
@@ -48,24 +54,91 @@ changes-set [] i p lt = absurd (omega (arith, lt))
 changes-set (q ∷ ps) zero p lt = omega arith
 changes-set (q ∷ ps) (suc i) p lt = omega (arith, changes-set ps i p (omega (arith, lt)))
 
--- a root call that leaves C_PORT_CONNECTION as it was, or clears it, makes no attempt and no event
-pub writes_spend : (port : ℕ) (p : PortState) (w : World) → IsRootPort w port → change_of p ≤ change_of (port_at w port) → Spends 0 w (with_port port p w)
-unfolding port_at
-writes_spend port p w is le = record {
-  limit = refl;
-  roots = length-set w.ports (port - 1) p;
-  later = omega arith;
-  most = omega arith;
-  within = λ h. h;
-  events = refl;
-  onward = omega arith;
-  served = omega (arith, le, changes-set w.ports (port - 1) p (omega (arith, is.0, is.1)));
-}
+-- a call at a port of a row is a row of the port table there
+row_reset : (x : Bool) (b : PortState) (s : State) (a k : Ports) → row_of (before (reset_where x b s a) k) ≡ b ∷ row_of k
+unfolding row_of
+row_reset true b s a k = refl
+row_reset false b s a k = refl
 
--- a set C_PORT_CONNECTION that is cleared
-pub writes_change : (port : ℕ) (p : PortState) (w : World) → IsRootPort w port → change_of (port_at w port) ≡ change_of p + 1 → changes (with_port port p w).ports + 1 ≡ changes w.ports
+pub row_called : (c : PortCall) (k : Ports) (i : ℕ) → row_of (changed_at (called c) k i []) ≡ slice_set (row_of k) i (called_port c (slice_index_or (row_of k) i off))
+unfolding row_of changed_at
+row_called c ended i = refl
+row_called c (vacant b k) zero = refl
+row_called c (vacant b k) (suc i) = ap (λ r. b ∷ r) (row_called c k i)
+row_called c (taken b s a k) zero = row_reset (is_reset c && (b.power && is_attached b.attached)) (called_port c b) s a k
+row_called c (taken b s a k) (suc i) = ap (λ r. b ∷ r) (row_called c k i)
+
+-- what a root call leaves as it was
+pub record RootCalled (port : ℕ) (p : PortState) (old new : World) : Type 0 where
+  pub row : root_row new ≡ slice_set (root_row old) (port - 1) p
+  pub attempts : new.attempts ≡ old.attempts
+  pub limit : new.limit ≡ old.limit
+  pub taken : new.taken ≡ old.taken
+  pub left : new.left ≡ old.left
+  pub fault : new.fault ≡ old.fault
+
+called_root : (port : ℕ) (c : PortCall) (w : World) → IsRootPort w port → RootCalled port (called_port c (port_at w port)) w (after (root_call c port) w)
+unfolding after port_at
+called_root zero c w is = absurd (omega (arith, is.0))
+called_root (suc i) c w is = record { row = row_called c w.roots i; attempts = refl; limit = refl; taken = refl; left = refl; fault = refl }
+
+-- the rows of the port table by their features
+set_is : (feature : ℕ) (p : PortState) → IsSetFeature feature → (c : PortCall) × (set_call feature ≡ Some c) × (unwrap_or (set_row feature p) p ≡ called_port c p)
+unfolding set_call set_row
+set_is feature p (inl e) = rw e (SetReset, refl, refl)
+set_is feature p (inr e) = rw e (SetPower, refl, refl)
+
+clear_is : (feature : ℕ) (p : PortState) → IsClearFeature feature → (c : PortCall) × (clear_call feature ≡ Some c) × (unwrap_or (clear_row feature p) p ≡ called_port c p)
+unfolding clear_call clear_row
+clear_is feature p (inl e) = rw e (ClearEnable, refl, refl)
+clear_is feature p (inr (inl e)) = rw e (ClearPower, refl, refl)
+clear_is feature p (inr (inr (inl e))) = rw e (ClearConnectionChange, refl, refl)
+clear_is feature p (inr (inr (inr (inl e)))) = rw e (ClearEnableChange, refl, refl)
+clear_is feature p (inr (inr (inr (inr e)))) = rw e (ClearResetChange, refl, refl)
+
+pub root_set : (port feature : ℕ) (old new : World) → IsRootPort old port → IsSetFeature feature → SetsRoot port feature old new → RootCalled port (unwrap_or (set_row feature (port_at old port)) (port_at old port)) old new
+root_set port feature old new is named s =
+    let (c, found, same) = set_is feature (port_at old port) named in
+    let P : PortState → Type 0 = λ p. RootCalled port p old (after (root_call c port) old) in
+    subst (λ w. RootCalled port (unwrap_or (set_row feature (port_at old port)) (port_at old port)) old w) (sym (s.step c found)) (subst P (sym same) (called_root port c old is))
+
+pub root_cleared : (port feature : ℕ) (old new : World) → IsRootPort old port → IsClearFeature feature → ClearsRoot port feature old new → RootCalled port (unwrap_or (clear_row feature (port_at old port)) (port_at old port)) old new
+root_cleared port feature old new is named s =
+    let (c, found, same) = clear_is feature (port_at old port) named in
+    let P : PortState → Type 0 = λ p. RootCalled port p old (after (root_call c port) old) in
+    subst (λ w. RootCalled port (unwrap_or (clear_row feature (port_at old port)) (port_at old port)) old w) (sym (s.step c found)) (subst P (sym same) (called_root port c old is))
+
+-- a step is a root call of its feature
+pub set_step : (port feature : ℕ) (old new : World) → IsRootPort old port → IsSetFeature feature → ((c : PortCall) → set_call feature ≡ Some c → new ≡ after (root_call c port) old) → SetsRoot port feature old new
+set_step port feature old new is named step =
+    let (c, found, same) = set_is feature (port_at old port) named in
+    record {
+      step = step;
+      row = ap (λ w. root_row w) (step c found) ∙ (called_root port c old is).row ∙ ap (λ p. slice_set (root_row old) (port - 1) p) (sym same);
+    }
+
+pub clear_step : (port feature : ℕ) (old new : World) → IsRootPort old port → IsClearFeature feature → ((c : PortCall) → clear_call feature ≡ Some c → new ≡ after (root_call c port) old) → ClearsRoot port feature old new
+clear_step port feature old new is named step =
+    let (c, found, same) = clear_is feature (port_at old port) named in
+    record {
+      step = step;
+      row = ap (λ w. root_row w) (step c found) ∙ (called_root port c old is).row ∙ ap (λ p. slice_set (root_row old) (port - 1) p) (sym same);
+    }
+
+-- a root call that leaves C_PORT_CONNECTION as it was, or clears it, makes no attempt and no event
+pub writes_spend : (port : ℕ) (p : PortState) (old new : World) → IsRootPort old port → change_of p ≤ change_of (port_at old port) → RootCalled port p old new → Spends 0 old new
 unfolding port_at
-writes_change port p w is e = omega (arith, e, changes-set w.ports (port - 1) p (omega (arith, is.0, is.1)))
+writes_spend port p old new is le c = record {
+  limit = c.limit;
+  roots = ap length c.row ∙ length-set (root_row old) (port - 1) p;
+  later = omega (arith, c.attempts);
+  most = omega (arith, c.attempts);
+  within = λ h. omega (arith, c.attempts, c.limit, h);
+  events = ap (λ l. new.taken + length l) c.left ∙ ap (λ n. n + to_come old) c.taken;
+  onward = omega (arith, c.taken);
+  served = subst (λ n. n ≤ changes (root_row old) + to_come old) (sym (ap (λ r. changes r + to_come new) c.row ∙ ap (λ l. changes (slice_set (root_row old) (port - 1) p) + length l) c.left))
+      (omega (arith, le, changes-set (root_row old) (port - 1) p (omega (arith, is.0, is.1))));
+}
 
 change_of-reset : (p : PortState) → change_of (unwrap_or (set_row 4 p) p) ≤ change_of p
 unfolding change_of set_row
@@ -93,27 +166,24 @@ change_of-clear feature p =
 
 -- setting PORT_RESET of a root port
 pub resets_spend : (port : ℕ) (old new : World) → IsRootPort old port → SetsRoot port 4 old new → Spends 0 old new
-resets_spend port old new is s = subst (λ w. Spends 0 old w) (sym s.row) (writes_spend port _ old is (change_of-reset (port_at old port)))
+resets_spend port old new is s = writes_spend port _ old new is (change_of-reset (port_at old port)) (root_set port 4 old new is (inl refl) s)
 
 -- clearing a feature of a root port
-pub clears_spend : (port feature : ℕ) (old new : World) → IsRootPort old port → ClearsRoot port feature old new → Spends 0 old new
+pub clears_spend : (port feature : ℕ) (old new : World) → IsRootPort old port → IsClearFeature feature → ClearsRoot port feature old new → Spends 0 old new
 unfolding Leaves
-clears_spend port feature old new is c = subst (λ w. Spends 0 old w) (sym c.row) (writes_spend port _ old is (change_of-clear feature (port_at old port)))
+clears_spend port feature old new is named c = writes_spend port _ old new is (change_of-clear feature (port_at old port)) (root_cleared port feature old new is named c)
 
-cleared : PortState → PortState
-cleared p = record p { connection_changed = false }
-
-one_change : (p : PortState) → p.connection_changed ≡ true → change_of p ≡ change_of (cleared p) + 1
-unfolding change_of cleared
+one_change : (p : PortState) → p.connection_changed ≡ true → change_of p ≡ change_of (unwrap_or (clear_row 16 p) p) + 1
+unfolding change_of clear_row
 one_change p set = rw set refl
 
 -- clearing a set C_PORT_CONNECTION
-pub clears_change : (port : ℕ) (old new : World) → IsRootPort old port → (port_at old port).connection_changed ≡ true → ClearsRoot port 16 old new → changes new.ports + new.left + 1 ≡ changes old.ports + old.left
-unfolding cleared clear_row
+pub clears_change : (port : ℕ) (old new : World) → IsRootPort old port → (port_at old port).connection_changed ≡ true → ClearsRoot port 16 old new → changes (root_row new) + to_come new + 1 ≡ changes (root_row old) + to_come old
+unfolding port_at
 clears_change port old new is set c =
-    subst (λ w. changes w.ports + w.left + 1 ≡ changes old.ports + old.left) (sym c.row)
-    (joined (writes_change port (cleared (port_at old port)) old is (one_change (port_at old port) set)))
-  where
-    joined : changes (with_port port (cleared (port_at old port)) old).ports + 1 ≡ changes old.ports
-        → changes (with_port port (cleared (port_at old port)) old).ports + old.left + 1 ≡ changes old.ports + old.left
-    joined e = omega (arith, e)
+    let p = unwrap_or (clear_row 16 (port_at old port)) (port_at old port) in
+    let called = root_cleared port 16 old new is (inr (inr (inl refl))) c in
+    let one = one_change (port_at old port) set in
+    let all = changes-set (root_row old) (port - 1) p (omega (arith, is.0, is.1)) in
+    ap (λ r. changes r + to_come new + 1) called.row ∙ ap (λ l. changes (slice_set (root_row old) (port - 1) p) + length l + 1) called.left
+    ∙ omega (arith, one, all)

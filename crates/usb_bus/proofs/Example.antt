@@ -10,7 +10,7 @@ use Rattle.usb_device.specs.Rows.{received, unread, fresh, reset_state, awaits_a
 use Rattle.usb_device.specs.Request.{outcome}
 use Rattle.usb_device.specs.Effect.{asks}
 use Rattle.usb_device.specs.Calls.{set_call, clear_call}
-use Rattle.usb_device.specs.Delivery.{answer_of, effect_of, after_packet, answers, all_forgotten, held, is_twice, has_loss}
+use Rattle.usb_device.specs.Delivery.{answer_of, effect_of, after_packet, answers, all_forgotten, held, is_twice, has_loss, clears_change}
 use Rattle.usb_device.specs.Bulk.{change_bits}
 use Rattle.usb_request.specs.Layout.{setup_of}
 use Rattle.usb_port.specs.PortState.{status_of}
@@ -21,9 +21,10 @@ use Rattle.usb_bus.specs.declared.types.Attempt.{Attempt}
 use Rattle.usb_bus.specs.declared.types.Outcome.{Outcome}
 use Rattle.usb_bus.specs.declared.types.Outcome.TheVariants as got
 use Rattle.usb_bus.specs.Wire.{damage_of, harm_to, mark_of, bit_count, marked, marked_some, is_read}
-use Rattle.usb_bus.specs.Exchange.{token_of, payload_of, answer_place, answer_mark, reply_of, outcome_of}
+use Rattle.usb_bus.specs.Exchange.{token_of, payload_of, answer_place, answer_mark, reply_of, outcome_of, ports_in, lost_in}
 use Rattle.usb_bus.specs.Losses.{no_losses, one_more}
 use Rattle.usb_bus.specs.Live.{pend_at, pend}
+use Rattle.usb_bus.specs.World.{World}
 use Rattle.usb_bus.specs.Steps.{took, due_from, ready, with_attempt, outcome_in, attempt, root_call, event, after}
 use Rattle.usb_bus.specs.Courses.{address_at}
 
@@ -73,5 +74,5 @@ example : (pend plugged.roots (1 ∷ []) ≡ true) × (reach plugged.roots (1 �
     × (outcome_in asks_in set_up ≡ got.Payload Data1 (record { items = 0x12 ∷ 1 ∷ 0 ∷ 2 ∷ 0 ∷ 0 ∷ 0 ∷ 0x40 ∷ [] }))
     × (address_at lost.roots (1 ∷ []) ≡ Some 0) × (lost.losses.all ≡ 1) × (lost.attempts ≡ 5)
     × (address_at (after (attempt asks_in) lost).roots (1 ∷ []) ≡ Some 1)
-unfolding after took due_from ready with_attempt outcome_in marked marked_some mark_of harm_to damage_of bit_count is_read token_of payload_of answer_place answer_mark reply_of outcome_of one_more held is_twice has_loss reach_at pend_at state_at changed_at received unread fresh reset_state asks set_call clear_call answer_of effect_of after_packet answers all_forgotten change_bits setup_of status_of all_off outcome awaits_address
+unfolding after took due_from ready with_attempt ports_in lost_in clears_change outcome_in marked marked_some mark_of harm_to damage_of bit_count is_read token_of payload_of answer_place answer_mark reply_of outcome_of one_more held is_twice has_loss reach_at pend_at state_at changed_at received unread fresh reset_state asks set_call clear_call answer_of effect_of after_packet answers all_forgotten change_bits setup_of status_of all_off outcome awaits_address
 example = (refl, refl, refl, refl, refl, refl, refl)

@@ -13,7 +13,7 @@ use Rattle.usb_device.specs.declared.answer.Answer.TheVariants as answer
 use Rattle.usb_device.specs.declared.calls.PortCall.{PortCall}
 use Rattle.usb_device.specs.declared.delivery.Content.{Content}
 use Rattle.usb_device.specs.declared.delivery.Content.TheVariants.{Whole, Broken}
-use Rattle.usb_device.specs.declared.delivery.Sent.{Sent as SentDown}
+use Rattle.usb_device.specs.declared.delivery.Sent.{Sent}
 use Rattle.usb_device.specs.declared.transfer.Memory.{Memory}
 use Rattle.usb_device.specs.declared.transfer.Memory.TheVariants.{Nothing, SetupSeen, OutSeen, AckAwaited}
 use Rattle.usb_device.specs.Spec.{Spec}
@@ -36,11 +36,13 @@ use Rattle.usb_bus.specs.declared.types.BusFault.TheVariants.{LimitReached}
 use Rattle.usb_bus.specs.declared.wire.Mark.{Mark}
 use Rattle.usb_bus.specs.declared.wire.Mark.TheVariants as mark
 use Rattle.usb_bus.specs.Wire.{mark_of, harm_to, marked, marked_some}
-use Rattle.usb_bus.specs.Exchange.{token_of, payload_of, reply_of}
+use Rattle.usb_bus.specs.Exchange.{token_of, payload_of, reply_of, sent_as, goes_out, token_out, payload_out, reply_out, heard_all, heard_in, mark_in, place_of_answer, ports_in}
 use Rattle.usb_bus.specs.Live.{address_of, device_of, is_way, same_path, Holds, Two}
 use Rattle.usb_bus.specs.Touched.{resets_at, reset_if, call_resets}
 use Rattle.usb_bus.specs.Passes.{passed, told, after_attempt, heard_state, deep_at, pass_resets, attempt_resets}
-use Rattle.usb_bus.specs.Steps.{with_plugged, happened, way_of, names, is_due, took, took_first, due_from, ready, sent_down, goes_out, token_out, payload_out, reply_out, heard_all, heard_in, mark_in, place_of_answer, damage_in, with_attempt, attempted, event_taken, losses_after, Step, attempt, root_call, event, report, after, Course, here, step}
+use Rattle.usb_bus.specs.World.{World}
+use Rattle.usb_bus.specs.Losses.{after_clearing}
+use Rattle.usb_bus.specs.Steps.{with_plugged, happened, way_of, names, is_due, took, took_first, due_from, ready, damage_in, with_attempt, attempted, event_taken, is_clear_change, Step, attempt, root_call, event, report, after, Course, here, step}
 use Rattle.usb_bus.specs.Courses.{is_made, made_resets, root_resets, resets, address_at, Own, Injective, is_quiet, Quiet, quiet_data, is_harmless, IsHarmlessOut}
 use Rattle.usb_bus.proofs.Booleans.{no, both, and_of, decided}
 use Rattle.usb_bus.proofs.EventLaws.{event_place}
@@ -58,7 +60,7 @@ is_ack_out : Content → Bool
 is_ack_out (Whole p) = is_ack p
 is_ack_out Broken = false
 
-answer_address : (q : SentDown) → is_ack_out q.content ≡ false → (deep : Bool) (s : State) (a : Ports) → address_of (answer_of q deep s a).1 ≡ address_of s
+answer_address : (q : Sent) → is_ack_out q.content ≡ false → (deep : Bool) (s : State) (a : Ports) → address_of (answer_of q deep s a).1 ≡ address_of s
 unfolding answer_of unread is_ack_out
 answer_address q c deep s a = heard (hears q deep s) q.content c
   where
@@ -74,7 +76,7 @@ answer_address q c deep s a = heard (hears q deep s) q.content c
     heard true c h = read c h
     heard false c h = refl
 
-heard_address : (q : SentDown) → is_ack_out q.content ≡ false → (d on : Bool) (x : Option Place) → option_map address_of (heard_state q d on x) ≡ option_map address_of (stands x)
+heard_address : (q : Sent) → is_ack_out q.content ≡ false → (d on : Bool) (x : Option Place) → option_map address_of (heard_state q d on x) ≡ option_map address_of (stands x)
 heard_address q c d on None = refl
 heard_address q c d on (Some (empty b)) = refl
 heard_address q c d true (Some (full b s a)) = ap (λ x. Some x) (answer_address q c d s a)
@@ -85,11 +87,11 @@ not_reset true o h = no (sym h)
 not_reset false None h = refl
 not_reset false (Some s) h = refl
 
-NoAckOut : Option SentDown → Type 0
+NoAckOut : Option Sent → Type 0
 NoAckOut None = Unit {0}
 NoAckOut (Some q) = is_ack_out q.content ≡ false
 
-pass_address : (o : Option SentDown) → NoAckOut o → (k : Ports) (j : ℕ) (p : List ℕ) → pass_resets o k j p ≡ false
+pass_address : (o : Option Sent) → NoAckOut o → (k : Ports) (j : ℕ) (p : List ℕ) → pass_resets o k j p ≡ false
     → option_map address_of (state_at (passed o k) j p) ≡ option_map address_of (state_at k j p)
 unfolding NoAckOut
 pass_address None c k j p h = refl
@@ -104,7 +106,7 @@ forgotten_address None = refl
 forgotten_address (Some s) = refl
 
 -- an attempt without an ACK of the host changes no address, but of a device that it resets
-attempt_address : (t d : Option SentDown) → NoAckOut t → NoAckOut d → (k : Ports) (j : ℕ) (p : List ℕ) → pass_resets t k j p ≡ false → attempt_resets t d k j p ≡ false
+attempt_address : (t d : Option Sent) → NoAckOut t → NoAckOut d → (k : Ports) (j : ℕ) (p : List ℕ) → pass_resets t k j p ≡ false → attempt_resets t d k j p ≡ false
     → option_map address_of (state_at (after_attempt t d None k) j p) ≡ option_map address_of (state_at k j p)
 attempt_address t d ct cd k j p f h =
     ap (option_map address_of) (forgotten_state (passed d (passed t k)) j p)
@@ -242,7 +244,7 @@ plain_content (Whole Stall) s row h = elim h [ ]
 plain_content (Whole Pre) s row h = elim h [ ]
 plain_content Broken s row h = refl
 
-plain_answer : (q : SentDown) → IsSetupOut q.content → (deep : Bool) (s : State) (a : Ports) → is_plain (answer_of q deep s a).0 ≡ true
+plain_answer : (q : Sent) → IsSetupOut q.content → (deep : Bool) (s : State) (a : Ports) → is_plain (answer_of q deep s a).0 ≡ true
 unfolding answer_of
 plain_answer q c deep s a = plain_if (hears q deep s) (reply_to q.content s (row_of a)) (None, s) (plain_content q.content s (row_of a) c) refl
 
@@ -261,7 +263,7 @@ unfolding all_plain
 plain_listed None xs h g = g
 plain_listed (Some x) xs h g = and_of (is_plain (Some x)) (all_plain xs) h g
 
-plain_answers : (q : SentDown) → IsSetupOut q.content → (deep : Bool) (k : Ports) → all_plain (answers q deep k) ≡ true
+plain_answers : (q : Sent) → IsSetupOut q.content → (deep : Bool) (k : Ports) → all_plain (answers q deep k) ≡ true
 unfolding answers all_plain
 plain_answers q c deep ended = refl
 plain_answers q c deep (vacant b k) = plain_answers q c deep k
@@ -271,11 +273,11 @@ plain_answers q c deep (taken b s a k) =
       | false ↦ plain_answers q c deep k
     ]
 
-SetupIfOut : Option SentDown → Type 0
+SetupIfOut : Option Sent → Type 0
 SetupIfOut None = Unit {0}
 SetupIfOut (Some q) = IsSetupOut q.content
 
-plain_told : (o : Option SentDown) → SetupIfOut o → (k : Ports) → all_plain (told o k) ≡ true
+plain_told : (o : Option Sent) → SetupIfOut o → (k : Ports) → all_plain (told o k) ≡ true
 unfolding all_plain SetupIfOut
 plain_told None c k = refl
 plain_told (Some q) c k = plain_answers q c false k
@@ -291,21 +293,21 @@ plain_reply (x ∷ y ∷ more) m max h = refl
 
 -- Attempts that send setup data
 
-setup_goes : (l pre : Bool) (m : Mark) (p : Packet) → IsSetupOut (Whole p) → SetupIfOut (sent_down l pre m p)
+setup_goes : (l pre : Bool) (m : Mark) (p : Packet) → IsSetupOut (Whole p) → SetupIfOut (sent_as l pre m p)
 unfolding SetupIfOut IsSetupOut
 setup_goes l pre mark.Whole p h = h
 setup_goes l pre mark.Lost p h = tt
 setup_goes l pre mark.PreLost p h = h
 setup_goes l pre (mark.Flipped b) p h = tt
 
-no_ack_goes : (l pre : Bool) (m : Mark) (p : Packet) → is_ack p ≡ false → NoAckOut (sent_down l pre m p)
+no_ack_goes : (l pre : Bool) (m : Mark) (p : Packet) → is_ack p ≡ false → NoAckOut (sent_as l pre m p)
 unfolding NoAckOut is_ack_out
 no_ack_goes l pre mark.Whole p h = h
 no_ack_goes l pre mark.Lost p h = tt
 no_ack_goes l pre mark.PreLost p h = h
 no_ack_goes l pre (mark.Flipped b) p h = refl
 
-harmless_goes : (l pre : Bool) (m : Mark) (p : Packet) → IsHarmlessOut (Whole p) → (k : Ports) (j : ℕ) (path : List ℕ) → pass_resets (sent_down l pre m p) k j path ≡ false
+harmless_goes : (l pre : Bool) (m : Mark) (p : Packet) → IsHarmlessOut (Whole p) → (k : Ports) (j : ℕ) (path : List ℕ) → pass_resets (sent_as l pre m p) k j path ≡ false
 harmless_goes l pre mark.Whole p h k j path = harmless_resets (record { low = l; pre = pre; content = Whole p }) h false k j path
 harmless_goes l pre mark.Lost p h k j path = refl
 harmless_goes l pre mark.PreLost p h k j path = harmless_resets (record { low = l; pre = false; content = Whole p }) h false k j path
@@ -346,7 +348,7 @@ no_reply a d k g =
     (plain_append (told (token_out a d) k) (told (payload_out a d) (passed (token_out a d) k)) (plain_told (token_out a d) g.token k) (plain_told (payload_out a d) g.payload (passed (token_out a d) k))))
 
 made_address : (a : Attempt) (w : World) → SetupGoes a (damage_in w) → (p : List ℕ) → address_at (with_attempt a w).roots p ≡ address_at w.roots p
-unfolding with_attempt
+unfolding with_attempt ports_in
 made_address a w g [] = refl
 made_address a w g (zero ∷ p) = refl
 made_address a w g (suc j ∷ p) =
@@ -431,7 +433,7 @@ first_shared [] w = refl
 first_shared (e ∷ es) w = refl
 
 pub step_unshared : (f : List ℕ → Option ℕ) → Injective f → (s : Step) (w : World) → Own f w → w.shared ≡ false → (after s w).shared ≡ false
-unfolding after with_attempt ready
+unfolding after with_attempt ports_in ready
 step_unshared f inj (attempt a) w own h = tried w.fault
   where
     neither_of : (x y : Bool) → x ≡ false → y ≡ false → (x || y) ≡ false

@@ -11,14 +11,16 @@ use Rattle.usb_packet.specs.declared.Packet.TheVariants.{Token, Sof, Payload, Ac
 use Rattle.usb_packet.specs.Spelling.{Spells, Carries, Follows, flipped}
 use Rattle.usb_bus.specs.declared.types.BusFault.{BusFault}
 use Rattle.usb_bus.specs.declared.damage.Damage.{Damage}
-use Rattle.usb_bus.specs.declared.exchange.Exchange.{Exchange}
 use Rattle.usb_bus.specs.declared.losses.Losses.{Losses}
-use Rattle.usb_bus.specs.declared.root.RootPort.{RootPort}
+use Rattle.usb_device.specs.Tree.{Ports}
 use Rattle.usb_bus.specs.declared.types.Attempt.{Attempt}
 use Rattle.usb_bus.specs.declared.wire.Mark.{Mark}
 use Rattle.usb_bus.specs.declared.wire.Mark.TheVariants.{Flipped}
-use Rattle.usb_bus.specs.declared.wire.Sent.{Sent}
-use Rattle.usb_bus.specs.Exchange.{exchanged, delivered, sent, sent_as, is_unread, is_address_awaited}
+use Rattle.usb_bus.specs.declared.wire.Outgoing.{Outgoing}
+use Rattle.usb_bus.specs.World.{IsAttempt}
+use Rattle.usb_bus.specs.Exchange.{lost_in}
+use Rattle.usb_bus.specs.Passes.{IsSettled}
+use Rattle.usb_bus.proofs.Losing.{none_lost}
 use Rattle.usb_bus.specs.Losses.{AreOfDamages, no_losses, counted, one_more, after_clearing}
 use Rattle.usb_bus.specs.Wire.{damage_of, damages_until, harm_to, bit_count, mark_of, is_read, has_its_bit, marked, marked_some}
 
@@ -65,14 +67,10 @@ bit_within bytes p n h lt =
     omega (arith, le, same)
 
 -- the same of a packet that goes out
-pub flip_within : (bytes : List ℕ) (s : Sent) (n : ℕ) → Spells bytes s.packet → has_its_bit s.mark s.packet ≡ true → s.mark ≡ Flipped n → n < 8 * length bytes
+pub flip_within : (bytes : List ℕ) (s : Outgoing) (n : ℕ) → Spells bytes s.packet → has_its_bit s.mark s.packet ≡ true → s.mark ≡ Flipped n → n < 8 * length bytes
 unfolding has_its_bit
 flip_within bytes s n h has is =
     bit_within bytes s.packet n h (sym (ap (λ (m : Mark). has_its_bit m s.packet) is) ∙ has)
-
-pub sent_flipped : (low : Bool) (s : Sent) (n : ℕ) (roots : List RootPort) → s.mark ≡ Flipped n → delivered low None roots ≡ sent low s roots
-unfolding sent
-sent_flipped low s n roots is = ap (λ (m : Mark). sent_as m low s.packet roots) (sym is)
 
 -- ---- the damage to an attempt
 
@@ -115,20 +113,6 @@ damage_none damages n i h le = sym (h ∙ ap (λ (l : List Damage). damage_of l 
 no_truth : true ≡ false → ⊥
 no_truth h = cc
 
-unread_none : (place : ℕ) (pre : Bool) (o : Option Packet) → is_unread (marked_some None place pre o) ≡ false
-unfolding is_unread marked_some marked mark_of harm_to is_read
-unread_none place pre None = refl
-unread_none place pre (Some p) = refl
-
-and_no : (b c : Bool) → b ≡ false → b && c ≡ false
-and_no false c h = refl
-and_no true c h = cc
-
--- no address is lost without damage
-none_lost : (a : Attempt) (roots : List RootPort) → (exchanged a None roots).0.address_lost ≡ false
-unfolding exchanged
-none_lost a roots = and_no _ _ (unread_none _ a.pre _)
-
 until_grows : (damages : List Damage) (n : ℕ) → damages_until n damages ≤ damages_until (n + 1) damages
 unfolding damages_until
 until_grows [] n = omega arith
@@ -152,15 +136,15 @@ until_most [] n = omega arith
 until_most (d ∷ damages) n = let rest = until_most damages n in grind (arith, nat_tests, rest)
 
 -- an address that was lost is one more damage that is past
-pub losses_damaged : (damages : List Damage) (n : ℕ) (a : Attempt) (roots : List RootPort) (l : Losses) (lost : Bool) → lost ≡ (exchanged a (damage_of damages (n + 1)) roots).0.address_lost
+pub losses_damaged : (damages : List Damage) (n : ℕ) (a : Attempt) (k : Ports) (l : Losses) (lost : Bool) → IsAttempt a → IsSettled k → lost ≡ lost_in a (damage_of damages (n + 1)) k
     → l.all ≤ damages_until n damages → (counted lost l).all ≤ damages_until (n + 1) damages
 unfolding one_more
-losses_damaged damages n a roots l false e h = let le = until_grows damages n in omega (arith, le, h)
-losses_damaged damages n a roots l true e h = at_loss (damage_of damages (n + 1)) refl e
+losses_damaged damages n a k l false is settled e h = let le = until_grows damages n in omega (arith, le, h)
+losses_damaged damages n a k l true is settled e h = at_loss (damage_of damages (n + 1)) refl e
   where
-    at_loss : (o : Option Damage) → damage_of damages (n + 1) ≡ o → true ≡ (exchanged a o roots).0.address_lost → l.all + 1 ≤ damages_until (n + 1) damages
-    at_loss None is t = absurd (no_truth (t ∙ none_lost a roots))
-    at_loss (Some d) is t = let more = until_more damages n d is in omega (arith, more, h)
+    at_loss : (o : Option Damage) → damage_of damages (n + 1) ≡ o → true ≡ lost_in a o k → l.all + 1 ≤ damages_until (n + 1) damages
+    at_loss None found t = absurd (no_truth (t ∙ none_lost a k is settled))
+    at_loss (Some d) found t = let more = until_more damages n d found in omega (arith, more, h)
 
 run_at : (l : Losses) (lost : Bool) → l.run ≤ l.all → (counted lost l).run ≤ (counted lost l).all
 unfolding one_more
@@ -172,24 +156,21 @@ unfolding one_more
 worst_at l false r w = w
 worst_at l true r w = omega (arith, r, w)
 
+-- a new stretch
+pub losses_cleared : (cleared : Bool) (n : ℕ) (damages : List Damage) (l : Losses) → AreOfDamages n damages l → AreOfDamages n damages (after_clearing cleared l)
+losses_cleared true n damages l h = record { all = h.all; run = omega arith; worst = h.worst }
+losses_cleared false n damages l h = h
+
 -- the losses after an attempt
-pub losses_after : (damages slice : List Damage) (n : ℕ) (a : Attempt) (roots new : List RootPort) (x : Exchange) (d : Option Damage) (l m : Losses) → m ≡ counted x.address_lost l
-    → (x, new) ≡ exchanged a d roots → d ≡ damage_of slice (n + 1) → slice ≡ damages → AreOfDamages n damages l → AreOfDamages (n + 1) damages m
-losses_after damages slice n a roots new x d l m is made of same h =
-    let lost = ap (λ (p : Exchange × List RootPort). p.0.address_lost) (made ∙ ap (λ (o : Option Damage). exchanged a o roots) (of ∙ ap (λ (s : List Damage). damage_of s (n + 1)) same)) in
-    subst (λ (k : Losses). AreOfDamages (n + 1) damages k) (sym is)
-    (record { all = losses_damaged damages n a roots l x.address_lost lost h.all; run = run_at l x.address_lost h.run; worst = worst_at l x.address_lost h.run h.worst })
+pub losses_after : (damages : List Damage) (n : ℕ) (a : Attempt) (k : Ports) (cleared lost : Bool) (l : Losses) → IsAttempt a → IsSettled k → lost ≡ lost_in a (damage_of damages (n + 1)) k
+    → AreOfDamages n damages l → AreOfDamages (n + 1) damages (counted lost (after_clearing cleared l))
+losses_after damages n a k cleared lost l is settled e h =
+    let m = after_clearing cleared l in
+    let g = losses_cleared cleared n damages l h in
+    record { all = losses_damaged damages n a k m lost is settled e g.all; run = run_at m lost g.run; worst = worst_at m lost g.run g.worst }
 
 pub no_losses_yet : (damages : List Damage) → AreOfDamages 0 damages no_losses
 no_losses_yet damages = record { all = omega arith; run = omega arith; worst = omega arith }
-
--- a new stretch
-pub losses_cleared : (feature n : ℕ) (damages : List Damage) (l m : Losses) → m ≡ after_clearing feature l → AreOfDamages n damages l → AreOfDamages n damages m
-losses_cleared feature n damages l m is h = subst (λ (k : Losses). AreOfDamages n damages k) (sym is) (at (feature == 16))
-  where
-    at : (b : Bool) → AreOfDamages n damages (if b then record l { run = 0 } else l)
-    at true = record { all = h.all; run = omega arith; worst = h.worst }
-    at false = h
 
 -- no fault was told
 pub other_fault : {A : Type 0} (f g : Option BusFault) (fault : BusFault) → f ≡ Some fault → f ≡ g → g ≡ None → A

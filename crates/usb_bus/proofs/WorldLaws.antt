@@ -1,7 +1,7 @@
 -- What a step of the world does to reachable, live and pending, and what whole courses do.
 use Rattle.std.proofs.Common.{◌≡◌, ℕ, zero, suc, ◌+◌, ◌==◌, ◌&&◌, not, nat_le, length, if◌then◌else◌, ◌⊎◌, inl, inr, Bool, true, false, List, [], ◌∷◌, ◌++◌, Option, None, Some, slice_get, is_some, refl, ap, sym, subst, ◌∙◌}
 use Rattle.usb_device.specs.declared.calls.PortCall.{PortCall}
-use Rattle.usb_device.specs.declared.delivery.Sent.{Sent as SentDown}
+use Rattle.usb_device.specs.declared.delivery.Sent.{Sent}
 use Rattle.usb_device.specs.declared.delivery.Content.TheVariants.{Whole}
 use Rattle.usb_device.specs.Spec.{Spec}
 use Rattle.usb_device.specs.Tree.{Ports, called, replaced, changed, reach, place, reach_at}
@@ -20,14 +20,15 @@ use Rattle.usb_bus.specs.declared.types.BusFault.{BusFault}
 use Rattle.usb_bus.specs.declared.types.BusFault.TheVariants.{LimitReached}
 use Rattle.usb_bus.specs.declared.wire.Mark.{Mark}
 use Rattle.usb_bus.specs.declared.wire.Mark.TheVariants as mark
-use Rattle.usb_bus.specs.declared.wire.Sent.{Sent}
 use Rattle.usb_bus.specs.Wire.{is_read, mark_of, harm_to, marked, marked_some}
-use Rattle.usb_bus.specs.Exchange.{token_of, payload_of, reply_of}
+use Rattle.usb_bus.specs.Exchange.{token_of, payload_of, reply_of, sent_as, goes_out, token_out, payload_out, reply_out, heard_in, mark_in, place_of_answer, ports_in}
 use Rattle.usb_bus.specs.Live.{live, pend, is_way}
 use Rattle.usb_bus.specs.Touched.{IsNew, call_resets, call_spares}
 use Rattle.usb_bus.specs.Sane.{IsSane}
 use Rattle.usb_bus.specs.Passes.{IfOut, IsTokenFor, IsDataOut, IsAckOut, IsAttemptAt, attempt_resets, attempt_spares, IsSettled}
-use Rattle.usb_bus.specs.Steps.{with_plugged, happened, way_of, names, is_due, took, took_first, due_from, ready, sent_down, goes_out, token_out, payload_out, reply_out, heard_in, mark_in, place_of_answer, damage_in, with_attempt, attempted, event_taken, losses_after, Step, attempt, root_call, event, report, after, Course, here, step}
+use Rattle.usb_bus.specs.World.{World}
+use Rattle.usb_bus.specs.Losses.{after_clearing}
+use Rattle.usb_bus.specs.Steps.{with_plugged, happened, way_of, names, is_due, took, took_first, due_from, ready, damage_in, with_attempt, attempted, event_taken, is_clear_change, Step, attempt, root_call, event, report, after, Course, here, step}
 use Rattle.usb_bus.specs.Courses.{NoneNames, Undisturbed, at_path, is_made, made_resets, made_spares, root_resets, root_spares, resets, spares_step, Reached, Keeps, NoReset, Spares}
 use Rattle.usb_bus.proofs.Booleans.{no, both, decided}
 use Rattle.usb_bus.proofs.EventLaws.{event_reach, event_live, event_pend}
@@ -175,19 +176,19 @@ due_live (e ∷ es) w p l h =
 
 -- The packets of an attempt are a token, data and an ACK
 
-sent_token : (n : ℕ) (l pre : Bool) (m : Mark) (p : Packet) → IsTokenFor n (Whole p) → IfOut (IsTokenFor n) (sent_down l pre m p)
+sent_token : (n : ℕ) (l pre : Bool) (m : Mark) (p : Packet) → IsTokenFor n (Whole p) → IfOut (IsTokenFor n) (sent_as l pre m p)
 sent_token n l pre mark.Whole p h = h
 sent_token n l pre mark.Lost p h = tt
 sent_token n l pre mark.PreLost p h = h
 sent_token n l pre (mark.Flipped b) p h = tt
 
-sent_data : (l pre : Bool) (m : Mark) (p : Packet) → IsDataOut (Whole p) → IfOut IsDataOut (sent_down l pre m p)
+sent_data : (l pre : Bool) (m : Mark) (p : Packet) → IsDataOut (Whole p) → IfOut IsDataOut (sent_as l pre m p)
 sent_data l pre mark.Whole p h = h
 sent_data l pre mark.Lost p h = tt
 sent_data l pre mark.PreLost p h = h
 sent_data l pre (mark.Flipped b) p h = tt
 
-sent_ack : (l pre : Bool) (m : Mark) (p : Packet) → IsAckOut (Whole p) → IfOut IsAckOut (sent_down l pre m p)
+sent_ack : (l pre : Bool) (m : Mark) (p : Packet) → IsAckOut (Whole p) → IfOut IsAckOut (sent_as l pre m p)
 sent_ack l pre mark.Whole p h = h
 sent_ack l pre mark.Lost p h = tt
 sent_ack l pre mark.PreLost p h = h
@@ -236,31 +237,31 @@ goes a d k = record { token = token_goes a d; payload = payload_goes a d; reply 
 -- An attempt that is made
 
 pub made_reach : (a : Attempt) (w : World) (p : List ℕ) → made_resets a w p ≡ false → reach (with_attempt a w).roots p ≡ true → reach w.roots p ≡ true
-unfolding with_attempt
+unfolding with_attempt ports_in
 made_reach a w [] f h = no h
 made_reach a w (zero ∷ p) f h = no h
 made_reach a w (suc j ∷ p) f h = attempt_reach a.addr (token_out a (damage_in w)) (payload_out a (damage_in w)) (reply_out a (damage_in w) w.roots) (goes a (damage_in w) w.roots) w.roots j p f h
 
 made_new : (a : Attempt) (w : World) (p : List ℕ) → made_resets a w p ≡ true → IsNew (place (with_attempt a w).roots p)
-unfolding with_attempt
+unfolding with_attempt ports_in
 made_new a w [] f = no f
 made_new a w (zero ∷ p) f = no f
 made_new a w (suc j ∷ p) f = attempt_new a.addr (token_out a (damage_in w)) (payload_out a (damage_in w)) (reply_out a (damage_in w) w.roots) (goes a (damage_in w) w.roots) w.roots j p f
 
 made_pend : (a : Attempt) (w : World) (p : List ℕ) → made_spares a w p ≡ true → pend w.roots p ≡ true → pend (with_attempt a w).roots p ≡ true
-unfolding with_attempt
+unfolding with_attempt ports_in
 made_pend a w [] f h = no h
 made_pend a w (zero ∷ p) f h = no h
 made_pend a w (suc j ∷ p) f h = attempt_pend a.addr (token_out a (damage_in w)) (payload_out a (damage_in w)) (reply_out a (damage_in w) w.roots) (goes a (damage_in w) w.roots) w.roots j p f h
 
 made_live : (a : Attempt) (w : World) (p : List ℕ) → made_spares a w p ≡ true → live w.roots p ≡ true → live (with_attempt a w).roots p ≡ true
-unfolding with_attempt
+unfolding with_attempt ports_in
 made_live a w [] f h = no h
 made_live a w (zero ∷ p) f h = no h
 made_live a w (suc j ∷ p) f h = attempt_live a.addr (token_out a (damage_in w)) (payload_out a (damage_in w)) (reply_out a (damage_in w) w.roots) (goes a (damage_in w) w.roots) w.roots j p f h
 
 made_rest : (a : Attempt) (w : World) (p : List ℕ) → Undisturbed w (with_attempt a w) p
-unfolding with_attempt
+unfolding with_attempt ports_in
 made_rest a w p = undisturbed_here w (with_attempt a w) p refl refl
 
 -- A root call
@@ -330,7 +331,7 @@ event_taken_reach None w p h = first_reach w.left w p refl h
 pub unreset_reach : (s : Step) (w : World) (p : List ℕ) → resets s w p ≡ false → reach (after s w).roots p ≡ true → (reach w.roots p ≡ true) × Undisturbed w (after s w) p
 unfolding after resets
 unreset_reach (attempt a) w p g h = attempted_reach a w.fault w p g h
-unreset_reach (root_call c n) w p g h = (root_reach c n w.roots p g h, undisturbed_here w (record w { roots = changed (called c) w.roots (n ∷ []); losses = losses_after c w.losses }) p refl refl)
+unreset_reach (root_call c n) w p g h = (root_reach c n w.roots p g h, undisturbed_here w (record w { roots = changed (called c) w.roots (n ∷ []); losses = after_clearing (is_clear_change c) w.losses }) p refl refl)
 unreset_reach event w p g h = event_taken_reach w.fault w p h
 unreset_reach (report l) w p g h = (h, undisturbed_here w w p refl refl)
 
@@ -394,7 +395,7 @@ event_taken_live None w p h = first_live w.left w p refl h
 pub step_live : (s : Step) (w : World) (p : List ℕ) → spares_step s w p ≡ true → live w.roots p ≡ true → Keeps w (after s w) p
 unfolding after spares_step
 step_live (attempt a) w p g h = attempted_live a w.fault w p g h
-step_live (root_call c n) w p g h = inl (root_live c n w.roots p g h, undisturbed_here w (record w { roots = changed (called c) w.roots (n ∷ []); losses = losses_after c w.losses }) p refl refl)
+step_live (root_call c n) w p g h = inl (root_live c n w.roots p g h, undisturbed_here w (record w { roots = changed (called c) w.roots (n ∷ []); losses = after_clearing (is_clear_change c) w.losses }) p refl refl)
 step_live event w p g h = event_taken_live w.fault w p h
 step_live (report l) w p g h = inl (h, undisturbed_here w w p refl refl)
 

@@ -21,7 +21,9 @@ use Rattle.usb_bus.specs.declared.types.BusFault.{BusFault}
 use Rattle.usb_bus.specs.Live.{live, pend, device_of, address_of, same_path}
 use Rattle.usb_bus.specs.Touched.{IsNew, call_resets, call_spares}
 use Rattle.usb_bus.specs.Passes.{attempt_resets, attempt_spares}
-use Rattle.usb_bus.specs.Steps.{names, ready, damage_in, token_out, payload_out, Step, attempt, root_call, event, report}
+use Rattle.usb_bus.specs.World.{World}
+use Rattle.usb_bus.specs.Exchange.{token_out, payload_out}
+use Rattle.usb_bus.specs.Steps.{names, ready, damage_in, Step, attempt, root_call, event, report}
 
 -- no event of these is at the path or at a port on its way
 abbrev pub NoneNames : List Spec → List Event → List ℕ → Type 0

@@ -66,42 +66,42 @@ sent_as low pre Lost p = None
 sent_as low pre PreLost p = Some (record { low = low; pre = false; content = content.Whole p })
 sent_as low pre (Flipped bit) p = Some (record { low = low; pre = pre; content = content.Broken })
 
-unfoldable pub goes_out : Attempt → Outgoing → Option Sent
-goes_out a s = sent_as a.low a.pre s.mark s.packet
-
-abbrev pub goes_out_some : Attempt → Option Outgoing → Option Sent
-goes_out_some a None = None
-goes_out_some a (Some s) = goes_out a s
+abbrev pub goes_out : Attempt → Option Outgoing → Option Sent
+goes_out a None = None
+goes_out a (Some s) = sent_as a.low a.pre s.mark s.packet
 
 -- two answers collide
-unfoldable pub heard_all : List Answer → Heard
+abbrev pub heard_all : List Answer → Heard
 heard_all [] = Nothing
 heard_all (x ∷ []) = One (packet_of x)
 heard_all (x ∷ y ∷ more) = Collision
 
 -- the packets of an attempt, as its damage leaves them
 abbrev pub token_out : Attempt → Option Damage → Option Sent
-token_out a damage = goes_out a (marked damage 1 a.pre (token_of a))
+token_out a damage = goes_out a (Some (marked damage 1 a.pre (token_of a)))
 
 abbrev pub payload_in : Attempt → Option Damage → Option Outgoing
 payload_in a damage = marked_some damage 2 a.pre (payload_of a)
 
 abbrev pub payload_out : Attempt → Option Damage → Option Sent
-payload_out a damage = goes_out_some a (payload_in a damage)
+payload_out a damage = goes_out a (payload_in a damage)
 
 -- what is answered
 abbrev pub heard_in : Attempt → Option Damage → Ports → Heard
 heard_in a damage k = heard_all (told (token_out a damage) k ++ told (payload_out a damage) (passed (token_out a damage) k))
 
+abbrev pub place_of_answer : Attempt → Option Damage → ℕ
+place_of_answer a damage = answer_place (payload_in a damage)
+
 abbrev pub mark_in : Attempt → Option Damage → Ports → Mark
-mark_in a damage k = answer_mark (harm_to damage (answer_place (payload_in a damage))) (heard_in a damage k)
+mark_in a damage k = answer_mark (harm_to damage (place_of_answer a damage)) (heard_in a damage k)
 
 -- the host's ACK of the answer
 abbrev pub reply_in : Attempt → Option Damage → Ports → Option Outgoing
-reply_in a damage k = marked_some damage (answer_place (payload_in a damage) + 1) a.pre (reply_of (heard_in a damage k) (mark_in a damage k) a.max)
+reply_in a damage k = marked_some damage (place_of_answer a damage + 1) a.pre (reply_of (heard_in a damage k) (mark_in a damage k) a.max)
 
 abbrev pub reply_out : Attempt → Option Damage → Ports → Option Sent
-reply_out a damage k = goes_out_some a (reply_in a damage k)
+reply_out a damage k = goes_out a (reply_in a damage k)
 
 -- the devices when the host's ACK goes out
 abbrev pub answered_in : Attempt → Option Damage → Ports → Ports

@@ -1,5 +1,6 @@
 -- The steps of a world: attempts, root calls, events and lines of report.
-use Rattle.std.specs.Prelude.{◌≡◌, ℕ, ◌+◌, ◌-◌, ◌==◌, nat_le, Bool, true, false, ◌&&◌, ◌||◌, not, if◌then◌else◌, List, [], ◌∷◌, slice_get, Option, Some, None, is_some, Result, Ok, Err}
+use Rattle.std.specs.Prelude.{◌≡◌, ℕ, ◌+◌, ◌-◌, ◌==◌, nat_le, Bool, true, false, ◌&&◌, ◌||◌, not, if◌then◌else◌, List, [], ◌∷◌, slice_get, slice_set, unwrap_or, Option, Some, None, is_some, Result, Ok, Err}
+use Rattle.usb_port.specs.PortState.{set_row, clear_row}
 use Rattle.usb_device.specs.declared.calls.PortCall.{PortCall}
 use Rattle.usb_device.specs.declared.calls.PortCall.TheVariants.{ClearConnectionChange}
 use Rattle.usb_device.specs.Spec.{Spec}
@@ -23,7 +24,7 @@ use Rattle.usb_bus.specs.Live.{is_way}
 use Rattle.usb_bus.specs.Sane.{IsSane}
 use Rattle.usb_bus.specs.Passes.{IsSettled}
 use Rattle.usb_bus.specs.PlanData.{PlanData}
-use Rattle.usb_bus.specs.World.{World, to_come, Spends, Failed}
+use Rattle.usb_bus.specs.World.{World, root_row, port_at, to_come, Spends, Failed}
 
 -- Events
 
@@ -146,12 +147,14 @@ pub record IsBetween (w : World) : Type 0 where
   pub settled : IsSettled w.roots
   pub sane : IsSane w.roots
 
--- a root call is its step (11.24.2)
-abbrev pub SetsRoot : ℕ → ℕ → World → World → Type 0
-SetsRoot port feature old new = (c : PortCall) → set_call feature ≡ Some c → new ≡ after (root_call c port) old
+-- a root call is its step, and one row of the port table at one root port (11.24.2)
+pub record SetsRoot (port feature : ℕ) (old new : World) : Type 0 where
+  pub step : (c : PortCall) → set_call feature ≡ Some c → new ≡ after (root_call c port) old
+  pub row : root_row new ≡ slice_set (root_row old) (port - 1) (unwrap_or (set_row feature (port_at old port)) (port_at old port))
 
-abbrev pub ClearsRoot : ℕ → ℕ → World → World → Type 0
-ClearsRoot port feature old new = (c : PortCall) → clear_call feature ≡ Some c → new ≡ after (root_call c port) old
+pub record ClearsRoot (port feature : ℕ) (old new : World) : Type 0 where
+  pub step : (c : PortCall) → clear_call feature ≡ Some c → new ≡ after (root_call c port) old
+  pub row : root_row new ≡ slice_set (root_row old) (port - 1) (unwrap_or (clear_row feature (port_at old port)) (port_at old port))
 
 -- a plan's world before anything came
 abbrev pub opening : PlanData → World

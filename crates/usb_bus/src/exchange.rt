@@ -1,10 +1,10 @@
 //! One attempt: the host's packets go to the devices, and their answers come together.
-ghost use Rattle.std.specs.Prelude.{◌≡◌, ◌+◌, ◌≤◌, IfOk, IfSome, OnErr};
+ghost use Rattle.std.specs.Prelude.{◌≡◌, ◌≤◌, true, Some, IfOk, IfSome};
 ghost use Rattle.usb_packet.specs.Spelling.{HasFields};
 ghost use Rattle.usb_device.specs.Tree.{row_of};
 ghost use Rattle.usb_bus.specs.World.{IsAttempt, FitsMaximum};
 ghost use Rattle.usb_bus.specs.Wire.{has_its_bit};
-ghost use Rattle.usb_bus.specs.Exchange.{token_of, payload_of, answer_place, answer_mark, reply_of, outcome_of, exchange_in, ports_in, goes_out, goes_out_some, is_lost, is_clearing};
+ghost use Rattle.usb_bus.specs.Exchange.{token_of, payload_of, answer_place, answer_mark, reply_of, outcome_of, exchange_in, ports_in, goes_out, sent_as, is_lost, is_clearing};
 ghost use Rattle.usb_bus.specs.Passes.{passed, told};
 ghost use Rattle.usb_bus.specs.Answering.{joined, heard_from, heard_told};
 
@@ -126,11 +126,10 @@ fn answer_mark(harm: Option<Harm>, answer: &Heard) -> Mark
 }
 
 /// A packet as damage leaves it, on its way to the devices; None where it is lost.
-#[tactic(auto, unfolding(crate::specs::Exchange::goes_out))]
 fn goes_out(attempt: &Attempt, packet: &Outgoing) -> Option<Sent>
     requires fields { HasFields packet.now.packet }
     requires bit { has_its_bit packet.now.mark packet.now.packet ≡ true }
-    ensures { result ≡ goes_out attempt.now packet.now }
+    ensures { result ≡ sent_as attempt.now.low attempt.now.pre packet.now.mark packet.now.packet }
 {
     let bytes = encode(&packet.packet);
     match packet.mark {
@@ -161,8 +160,8 @@ fn send(roots: &mut Ports, attempt: &Attempt, packet: &Outgoing) -> Result<Heard
     requires fields { HasFields packet.now.packet }
     requires bit { has_its_bit packet.now.mark packet.now.packet ≡ true }
     ensures row { row_of roots.new ≡ row_of roots.old }
-    ensures heard { IfOk result (λ heard. heard ≡ heard_told (goes_out attempt.now packet.now) roots.old) }
-    ensures ports { IfOk result (λ heard. roots.new ≡ passed (goes_out attempt.now packet.now) roots.old) }
+    ensures heard { IfOk result (λ heard. heard ≡ heard_told (goes_out attempt.now (Some packet.now)) roots.old) }
+    ensures ports { IfOk result (λ heard. roots.new ≡ passed (goes_out attempt.now (Some packet.now)) roots.old) }
 {
     match goes_out(attempt, packet) {
         None => Ok(Heard::Nothing),
@@ -178,8 +177,8 @@ fn send_some(
     requires fields { IfSome packet.now (λ s. HasFields s.packet) }
     requires bit { IfSome packet.now (λ s. has_its_bit s.mark s.packet ≡ true) }
     ensures row { row_of roots.new ≡ row_of roots.old }
-    ensures heard { IfOk result (λ heard. heard ≡ heard_told (goes_out_some attempt.now packet.now) roots.old) }
-    ensures ports { IfOk result (λ heard. roots.new ≡ passed (goes_out_some attempt.now packet.now) roots.old) }
+    ensures heard { IfOk result (λ heard. heard ≡ heard_told (goes_out attempt.now packet.now) roots.old) }
+    ensures ports { IfOk result (λ heard. roots.new ≡ passed (goes_out attempt.now packet.now) roots.old) }
 {
     match packet {
         None => Ok(Heard::Nothing),
@@ -191,7 +190,7 @@ fn send_some(
 fn clears_change(roots: &Ports, attempt: &Attempt, packet: &Option<Outgoing>) -> bool
     requires fields { IfSome packet.now (λ s. HasFields s.packet) }
     requires bit { IfSome packet.now (λ s. has_its_bit s.mark s.packet ≡ true) }
-    ensures { result ≡ is_clearing (goes_out_some attempt.now packet.now) roots.now }
+    ensures { result ≡ is_clearing (goes_out attempt.now packet.now) roots.now }
 {
     match packet {
         None => false,
@@ -211,8 +210,8 @@ fn send_reply(
     requires fields { IfSome reply.now (λ s. HasFields s.packet) }
     requires bit { IfSome reply.now (λ s. has_its_bit s.mark s.packet ≡ true) }
     ensures row { row_of roots.new ≡ row_of roots.old }
-    ensures lost { IfOk result (λ lost. lost ≡ is_lost reply.now (goes_out_some attempt.now reply.now) roots.old) }
-    ensures ports { IfOk result (λ lost. roots.new ≡ passed (goes_out_some attempt.now reply.now) roots.old) }
+    ensures lost { IfOk result (λ lost. lost ≡ is_lost reply.now (goes_out attempt.now reply.now) roots.old) }
+    ensures ports { IfOk result (λ lost. roots.new ≡ passed (goes_out attempt.now reply.now) roots.old) }
 {
     let Some(packet) = reply else {
         return Ok(false);

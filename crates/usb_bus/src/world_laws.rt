@@ -12,6 +12,7 @@ ghost use Rattle.usb_bus.specs.Live.{live_at, pend_at, live, pend, on_way, addre
 ghost use Rattle.usb_bus.specs.Touched.{IsNew, call_resets, call_spares, resets_at, reset_if, packet_spares, port_after, way_rests, way_leaves};
 ghost use Rattle.usb_bus.specs.Sane.{IsSane, IsSanePlace, open_at};
 ghost use Rattle.usb_bus.specs.Passes.{passed, told, after_attempt, heard_place, heard_state, deep_at, IsAttemptAt, attempt_resets, attempt_spares, IsSettled, NobodyHolds, OneHolds, OneActs};
+ghost use Rattle.usb_bus.specs.World.{World};
 ghost use Rattle.usb_bus.specs.Steps.{Step, Course, after};
 ghost use Rattle.usb_bus.specs.Courses.{Undisturbed, Reached, NoReset, Spares, Keeps, Quiet, Injective, Own, IsHarmlessOut, resets};
 

@@ -46,7 +46,7 @@ impl<W: Write> Bus for SimBus<W> {
     }
 
     fn root_ports(&self) -> u8 {
-        self.roots.len() as u8
+        self.roots.count() as u8
     }
 
     #[tactic(auto, unfolding(crate::specs::World::port_at))]
