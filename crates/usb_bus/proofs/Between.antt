@@ -6,7 +6,7 @@ use Rattle.usb_device.specs.Tree.{Ports, new_ports, changed, called}
 use Rattle.usb_bus.specs.declared.damage.Damage.{Damage}
 use Rattle.usb_bus.specs.declared.event.Action.{Action}
 use Rattle.usb_bus.specs.declared.types.Attempt.{Attempt}
-use Rattle.std.specs.Prelude.{Option, ◌∷◌, ◌×◌}
+use Rattle.std.specs.Prelude.{Option, ◌∷◌}
 use Rattle.usb_bus.specs.Exchange.{ports_in}
 use Rattle.usb_bus.specs.Passes.{IsSettled}
 use Rattle.usb_bus.specs.Sane.{IsSane}

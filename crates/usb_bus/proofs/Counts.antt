@@ -77,10 +77,13 @@ pub record RootCalled (port : ℕ) (p : PortState) (old new : World) : Type 0 wh
   pub left : new.left ≡ old.left
   pub fault : new.fault ≡ old.fault
 
+before_next : (i : ℕ) → i ≡ suc i - 1
+before_next i = omega arith
+
 called_root : (port : ℕ) (c : PortCall) (w : World) → IsRootPort w port → RootCalled port (called_port c (port_at w port)) w (after (root_call c port) w)
 unfolding after port_at
 called_root zero c w is = absurd (omega (arith, is.0))
-called_root (suc i) c w is = record { row = row_called c w.roots i; attempts = refl; limit = refl; taken = refl; left = refl; fault = refl }
+called_root (suc i) c w is = record { row = subst (λ j. row_of (changed_at (called c) w.roots i []) ≡ slice_set (row_of w.roots) j (called_port c (slice_index_or (row_of w.roots) j off))) (before_next i) (row_called c w.roots i); attempts = refl; limit = refl; taken = refl; left = refl; fault = refl }
 
 -- the rows of the port table by their features
 set_is : (feature : ℕ) (p : PortState) → IsSetFeature feature → (c : PortCall) × (set_call feature ≡ Some c) × (unwrap_or (set_row feature p) p ≡ called_port c p)

@@ -1,5 +1,5 @@
 -- The world that a simulated bus stands for, and its writer.
-use Rattle.std.specs.Prelude.{ℕ, List, Option, ◌×◌}
+use Rattle.std.specs.Prelude.{ℕ, List, Option}
 use Rattle.usb_device.specs.Tree.{Plugged, device_there}
 use Rattle.usb_bus.specs.declared.watched.Watched.{Watched}
 use Rattle.usb_bus.specs.declared.sim.SimBus.{SimBus}

@@ -1,7 +1,8 @@
 ghost use Rattle.std.specs.Prelude.{◌≡◌, ◌≤◌, IfOk, OnOk};
 ghost use Rattle.usb_port.specs.PortState.{status_of};
 ghost use Rattle.usb_bus.specs.World.{World, Attempted, IsAttempt, IsRootPort, IsSetFeature, IsClearFeature, port_at, roots_of};
-ghost use Rattle.usb_bus.specs.Steps.{IsBetween, SetsRoot, ClearsRoot, after, attempt, outcome_in};
+ghost use Rattle.usb_bus.specs.Steps.{SetsRoot, ClearsRoot, after, attempt as attempt_step, outcome_in};
+ghost use Rattle.usb_bus.specs.Passes.{IsSettled};
 
 use crate::{Attempt, BusFault, Outcome};
 
@@ -18,9 +19,9 @@ pub trait Bus {
     fn attempt(&mut self, attempt: &Attempt) -> Result<Outcome, BusFault>
         requires { IsAttempt attempt.now }
         ensures counts { Attempted attempt.now (world self.old) result (world self.new) }
-        ensures exact { OnOk result (world self.new ≡ after (attempt attempt.now) (world self.old)) }
+        ensures exact { OnOk result (world self.new ≡ after (attempt_step attempt.now) (world self.old)) }
         ensures outcome { IfOk result (λ outcome. outcome ≡ outcome_in attempt.now (world self.old)) }
-        ensures before { IsBetween (world self.old) };
+        ensures settled { IsSettled (world self.old).roots };
 
     /// The number of root ports, 1 to 7.
     fn root_ports(&self) -> u8

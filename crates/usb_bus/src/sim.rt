@@ -5,7 +5,6 @@ ghost use Rattle.usb_bus.specs.PlanData.{can_come};
 ghost use Rattle.usb_device.specs.Tree.{new_ports, row_of};
 ghost use Rattle.usb_bus.specs.Losses.{AreOfDamages};
 ghost use Rattle.usb_bus.specs.Passes.{IsSettled};
-ghost use Rattle.usb_bus.specs.Sane.{IsSane};
 ghost use Rattle.usb_bus.specs.Steps.{opening, fault_of};
 ghost use Rattle.usb_bus.specs.declared.types.BusFault.TheVariants.{LimitReached};
 
@@ -47,7 +46,6 @@ pub struct SimBus<W> {
     ghost some_root: { 1 ≤ length (row_of roots) },
     ghost few_roots: { length (row_of roots) ≤ 7 },
     ghost settled: { IsSettled roots },
-    ghost sane: { IsSane roots },
     ghost planned: { list_all (can_come (length devices.items)) left.items ≡ true },
     ghost few_events: { taken + length left.items ≤ 10000 },
     ghost counted: { attempts_then ≤ attempts },

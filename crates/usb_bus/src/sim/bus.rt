@@ -4,7 +4,8 @@ ghost use Rattle.usb_port.specs.PortState.{off, status_of};
 ghost use Rattle.usb_device.specs.Tree.{row_of};
 ghost use Rattle.usb_bus.specs.World.{Attempted, Spends, AnswerFits, IsAttempt, IsRootPort, IsSetFeature, IsClearFeature};
 ghost use Rattle.std.specs.Io.KnownBytes.{Appends};
-ghost use Rattle.usb_bus.specs.Steps.{IsBetween, SetsRoot, ClearsRoot, after, attempt, with_attempt, ready, outcome_in, is_clear_change};
+ghost use Rattle.usb_bus.specs.Steps.{SetsRoot, ClearsRoot, after, attempt as attempt_step, with_attempt, ready, outcome_in, is_clear_change};
+ghost use Rattle.usb_bus.specs.Passes.{IsSettled};
 ghost use Rattle.usb_bus.specs.Lines.{attempted_lines};
 ghost use Rattle.usb_bus.specs.Watch.{inner_of, has_failed};
 ghost use Rattle.usb_bus.specs.declared.types.BusFault.TheVariants.{LimitReached, TraceFailed};
@@ -25,12 +26,12 @@ impl<W: Write> Bus for SimBus<W> {
     fn attempt(&mut self, attempt: &Attempt) -> Result<Outcome, BusFault>
         requires { IsAttempt attempt.now }
         ensures counts { Attempted attempt.now (world_of self.old) result (world_of self.new) }
-        ensures exact { OnOk result (world_of self.new ≡ after (attempt attempt.now) (world_of self.old)) }
+        ensures exact { OnOk result (world_of self.new ≡ after (attempt_step attempt.now) (world_of self.old)) }
         ensures outcome { IfOk result (λ outcome. outcome ≡ outcome_in attempt.now (world_of self.old)) }
-        ensures before { IsBetween (world_of self.old) }
+        ensures settled { IsSettled (world_of self.old).roots }
         ensures lines { OnOk result (Appends (W.contents (inner_of (writer_of self.old))) (W.contents (inner_of (writer_of self.new))) (attempted_lines attempt.now (world_of self.old))) }
         ensures trace { result ≡ Err TraceFailed → (world_of self.old).fault ≡ None → has_failed (writer_of self.new) ≡ true }
-        ensures refused { result ≡ Err LimitReached → (world_of self.new ≡ after (attempt attempt.now) (world_of self.old)) × (writer_of self.new ≡ writer_of self.old) }
+        ensures refused { result ≡ Err LimitReached → (world_of self.new ≡ after (attempt_step attempt.now) (world_of self.old)) × (writer_of self.new ≡ writer_of self.old) }
         ensures again { IsSome (world_of self.old).fault → self.new ≡ self.old }
     {
         if let Some(fault) = self.fault {

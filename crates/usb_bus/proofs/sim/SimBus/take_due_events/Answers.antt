@@ -1,6 +1,6 @@
 use Rattle.std.proofs.Common.{sym, ◌∙◌}
 use Rattle.usb_bus.proofs.Counts.{spends_then}
-use Rattle.usb_bus.proofs.Simulations.{due_goes_on, due_ends}
+use Rattle.usb_bus.proofs.Comings.{due_goes_on, due_ends}
 use Rattle.usb_bus.proofs.sim.SimBus.take_due_events.Goals as goal
 
 pub due-preserved-in_ok-take_event : goal.due-preserved-in_ok-take_event
