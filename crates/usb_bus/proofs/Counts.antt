@@ -1,15 +1,19 @@
 -- How the counts of several steps join.
 use Rattle.std.proofs.Common.{◌≡◌, ◌∙◌, refl, sym, ap, subst, arith, suc, zero, inl, inr}
-use Rattle.std.specs.Prelude.{ℕ, ◌+◌, ◌-◌, ◌<◌, ◌≤◌, List, [], ◌∷◌, length, Bool, true, false, slice_set, slice_index_or, unwrap_or, if◌then◌else◌, ◌&&◌, ◌==◌, Option, Some, None}
+use Rattle.std.proofs.lemmas.Option.{same_Some}
+use Rattle.std.specs.Prelude.{ℕ, ◌+◌, ◌-◌, ◌<◌, ◌≤◌, List, [], ◌∷◌, length, Bool, true, false, slice_get, slice_set, slice_index_or, unwrap_or, if◌then◌else◌, ◌&&◌, ◌==◌, Option, Some, None}
 use Rattle.usb_port.specs.PortState.{PortState, is_attached, off, set_row, clear_row}
 use Rattle.std.proofs.Common.{length-set}
 use Rattle.usb_device.specs.declared.calls.PortCall.{PortCall}
 use Rattle.usb_device.specs.declared.calls.PortCall.TheVariants.{SetPower, SetReset, ClearEnable, ClearPower, ClearConnectionChange, ClearEnableChange, ClearResetChange}
 use Rattle.usb_device.specs.Calls.{called_port, is_reset, set_call, clear_call}
 use Rattle.usb_device.specs.Rows.{State}
-use Rattle.usb_device.specs.Tree.{Ports, ended, vacant, taken, before, reset_where, called, changed, changed_at, row_of}
-use Rattle.usb_bus.specs.World.{World, root_row, to_come, change_of, Spends, IsRootPort, IsSetFeature, IsClearFeature, changes, port_at}
-use Rattle.usb_bus.specs.Steps.{SetsRoot, ClearsRoot, root_call, after}
+use Rattle.usb_device.specs.Tree.{Ports, ended, vacant, taken, Place, empty, full, before, reset_where, called, replaced, changed, changed_at, row_of}
+use Rattle.usb_bus.specs.World.{World, roots_of, root_row, to_come, change_of, Spends, IsRootPort, IsSetFeature, IsClearFeature, changes, port_at}
+use Rattle.usb_device.specs.Spec.{Spec}
+use Rattle.usb_bus.specs.declared.event.Action.{Action}
+use Rattle.usb_bus.specs.declared.event.Action.TheVariants.{Plug, Unplug, Show, Send, Receive, Clear}
+use Rattle.usb_bus.specs.Steps.{with_plugged, happened, SetsRoot, ClearsRoot, root_call, after}
 
 pub spends_none : (w : World) → Spends 0 w w
 spends_none w = record {
@@ -53,6 +57,9 @@ unfolding changes
 changes-set [] i p lt = absurd (omega (arith, lt))
 changes-set (q ∷ ps) zero p lt = omega arith
 changes-set (q ∷ ps) (suc i) p lt = omega (arith, changes-set ps i p (omega (arith, lt)))
+
+none_some : (c : PortCall) → None ≡ Some c → ⊥
+none_some c e = cc
 
 -- a call at a port of a row is a row of the port table there
 row_reset : (x : Bool) (b : PortState) (s : State) (a k : Ports) → row_of (before (reset_where x b s a) k) ≡ b ∷ row_of k
@@ -127,6 +134,119 @@ clear_step port feature old new is named step =
       step = step;
       row = ap (λ w. root_row w) (step c found) ∙ (called_root port c old is).row ∙ ap (λ p. slice_set (root_row old) (port - 1) p) (sym same);
     }
+
+-- whatever is written somewhere, a row has as many ports
+row_head : (q : Place) (k : Ports) → length (row_of (before q k)) ≡ suc (length (row_of k))
+unfolding row_of
+row_head (empty b) k = refl
+row_head (full b s a) k = refl
+
+row_long_at : (f : Place → Place) (k : Ports) (i : ℕ) (p : List ℕ) → length (row_of (changed_at f k i p)) ≡ length (row_of k)
+unfolding row_of changed_at
+row_long_at f ended i p = refl
+row_long_at f (vacant b k) zero [] = row_head (f (empty b)) k
+row_long_at f (vacant b k) zero (n ∷ p) = refl
+row_long_at f (vacant b k) (suc i) p = ap (λ n. suc n) (row_long_at f k i p)
+row_long_at f (taken b s a k) zero [] = row_head (f (full b s a)) k
+row_long_at f (taken b s a k) zero (zero ∷ p) = refl
+row_long_at f (taken b s a k) zero (suc j ∷ p) = refl
+row_long_at f (taken b s a k) (suc i) p = ap (λ n. suc n) (row_long_at f k i p)
+
+pub row_long : (f : Place → Place) (k : Ports) (p : List ℕ) → length (row_of (changed f k p)) ≡ length (row_of k)
+row_long f k [] = refl
+row_long f k (zero ∷ p) = refl
+row_long f k (suc i ∷ p) = row_long_at f k i p
+
+pub happened_long : (a : Action) (ds : List Spec) (k : Ports) → length (row_of (happened a ds k)) ≡ length (row_of k)
+happened_long (Plug path device) ds k = elim (slice_get ds device) as (λ o. length (row_of (with_plugged o path k)) ≡ length (row_of k)) [ None ↦ refl | Some spec ↦ row_long (replaced (Some spec)) k path ]
+happened_long (Unplug path) ds k = row_long (replaced None) k path
+happened_long Show ds k = refl
+happened_long (Send path bytes) ds k = refl
+happened_long (Receive path packets) ds k = refl
+happened_long (Clear path) ds k = refl
+
+-- what is written at one place sets at most one change bit of a row
+change_most : (p : PortState) → change_of p ≤ 1
+unfolding change_of
+change_most p = elim p.connection_changed as (λ b. (if b then 1 else 0) ≤ 1) [ true ↦ omega arith | false ↦ omega arith ]
+
+head_changes : (q : Place) (p : PortState) (k : Ports) → changes (row_of (before q k)) ≤ change_of p + changes (row_of k) + 1
+unfolding row_of changes
+head_changes (empty b) p k = omega (arith, change_most b)
+head_changes (full b s a) p k = omega (arith, change_most b)
+
+same_changes : (n : ℕ) → n ≤ n + 1
+same_changes n = omega arith
+
+changes_at : (f : Place → Place) (k : Ports) (i : ℕ) (p : List ℕ) → changes (row_of (changed_at f k i p)) ≤ changes (row_of k) + 1
+unfolding row_of changed_at changes
+changes_at f ended i p = omega arith
+changes_at f (vacant b k) zero [] = head_changes (f (empty b)) b k
+changes_at f (vacant b k) zero (n ∷ p) = omega arith
+changes_at f (vacant b k) (suc i) p = omega (arith, changes_at f k i p)
+changes_at f (taken b s a k) zero [] = head_changes (f (full b s a)) b k
+changes_at f (taken b s a k) zero (zero ∷ p) = omega arith
+changes_at f (taken b s a k) zero (suc j ∷ p) = omega arith
+changes_at f (taken b s a k) (suc i) p = omega (arith, changes_at f k i p)
+
+changes_path : (f : Place → Place) (k : Ports) (p : List ℕ) → changes (row_of (changed f k p)) ≤ changes (row_of k) + 1
+changes_path f k [] = omega arith
+changes_path f k (zero ∷ p) = omega arith
+changes_path f k (suc i ∷ p) = changes_at f k i p
+
+pub happened_changes : (a : Action) (ds : List Spec) (k : Ports) → changes (row_of (happened a ds k)) ≤ changes (row_of k) + 1
+happened_changes (Plug path device) ds k = elim (slice_get ds device) as (λ o. changes (row_of (with_plugged o path k)) ≤ changes (row_of k) + 1) [ None ↦ same_changes (changes (row_of k)) | Some spec ↦ changes_path (replaced (Some spec)) k path ]
+happened_changes (Unplug path) ds k = changes_path (replaced None) k path
+happened_changes Show ds k = omega arith
+happened_changes (Send path bytes) ds k = omega arith
+happened_changes (Receive path packets) ds k = omega arith
+happened_changes (Clear path) ds k = omega arith
+
+-- an event that came
+pub event_spends : (old new : World) → changes (root_row new) ≤ changes (root_row old) + 1 → roots_of new ≡ roots_of old → new.taken ≡ old.taken + 1
+    → to_come new + 1 ≡ to_come old → new.attempts ≡ old.attempts → new.limit ≡ old.limit → Spends 0 old new
+event_spends old new grown number came left attempts limit = record {
+  limit = limit;
+  roots = number;
+  later = omega (arith, attempts);
+  most = omega (arith, attempts);
+  within = λ h. omega (arith, attempts, limit, h);
+  served = omega (arith, grown, left);
+  events = omega (arith, came, left);
+  onward = omega (arith, came);
+}
+
+pub came_spends : (old new : World) (a : Action) (ds : List Spec) → new.roots ≡ happened a ds old.roots → new.taken ≡ old.taken + 1
+    → to_come new + 1 ≡ to_come old → new.attempts ≡ old.attempts → new.limit ≡ old.limit → Spends 0 old new
+came_spends old new a ds e came left attempts limit =
+    event_spends old new (subst (λ k. changes (row_of k) ≤ changes (root_row old) + 1) (sym e) (happened_changes a ds old.roots))
+    (ap (λ k. length (row_of k)) e ∙ happened_long a ds old.roots) came left attempts limit
+
+-- the row stands as it was, and so do the events
+pub attempt_spends : (old new : World) → root_row new ≡ root_row old → new.left ≡ old.left → new.taken ≡ old.taken → new.attempts ≡ old.attempts + 1 → new.limit ≡ old.limit
+    → old.attempts < old.limit → Spends 1 old new
+attempt_spends old new row left came attempts limit within = record {
+  limit = limit;
+  roots = ap length row;
+  later = omega (arith, attempts);
+  most = omega (arith, attempts);
+  within = λ h. omega (arith, attempts, limit, within);
+  events = ap (λ l. new.taken + length l) left ∙ ap (λ n. n + to_come old) came;
+  onward = omega (arith, came);
+  served = subst (λ n. n ≤ changes (root_row old) + to_come old) (sym (ap (λ r. changes r + to_come new) row ∙ ap (λ l. changes (root_row old) + length l) left)) (omega arith);
+}
+
+pub set_ends : (port feature : ℕ) (old new : World) (c : PortCall) → IsRootPort old port → IsSetFeature feature → Some c ≡ set_call feature → new ≡ after (root_call c port) old → SetsRoot port feature old new
+set_ends port feature old new c is named found e = set_step port feature old new is named (λ d other. subst (λ x. new ≡ after (root_call x port) old) (same_Some c d (found ∙ other)) e)
+
+pub set_none : {A : Type 0} (feature : ℕ) → IsSetFeature feature → None ≡ set_call feature → A
+set_none feature named e = let (c, found, same) = set_is feature off named in absurd (none_some c (e ∙ found))
+
+pub clear_ends : (port feature : ℕ) (old new : World) (c : PortCall) → IsRootPort old port → IsClearFeature feature → Some c ≡ clear_call feature → new ≡ after (root_call c port) old → ClearsRoot port feature old new
+clear_ends port feature old new c is named found e = clear_step port feature old new is named (λ d other. subst (λ x. new ≡ after (root_call x port) old) (same_Some c d (found ∙ other)) e)
+
+pub clear_none : {A : Type 0} (feature : ℕ) → IsClearFeature feature → None ≡ clear_call feature → A
+clear_none feature named e = let (c, found, same) = clear_is feature off named in absurd (none_some c (e ∙ found))
 
 -- a root call that leaves C_PORT_CONNECTION as it was, or clears it, makes no attempt and no event
 pub writes_spend : (port : ℕ) (p : PortState) (old new : World) → IsRootPort old port → change_of p ≤ change_of (port_at old port) → RootCalled port p old new → Spends 0 old new

@@ -4,7 +4,7 @@ ghost use Rattle.usb_port.specs.PortState.{off, status_of};
 ghost use Rattle.usb_device.specs.Tree.{row_of};
 ghost use Rattle.usb_bus.specs.World.{Attempted, Spends, AnswerFits, IsAttempt, IsRootPort, IsSetFeature, IsClearFeature};
 ghost use Rattle.std.specs.Io.KnownBytes.{Appends};
-ghost use Rattle.usb_bus.specs.Steps.{SetsRoot, ClearsRoot, after, attempt as attempt_step, with_attempt, ready, outcome_in, is_clear_change};
+ghost use Rattle.usb_bus.specs.Steps.{SetsRoot, ClearsRoot, after, attempt as attempt_step, root_call, with_attempt, ready, outcome_in, is_clear_change};
 ghost use Rattle.usb_bus.specs.Passes.{IsSettled};
 ghost use Rattle.usb_bus.specs.Lines.{attempted_lines};
 ghost use Rattle.usb_bus.specs.Watch.{inner_of, has_failed};
@@ -55,22 +55,32 @@ impl<W: Write> Bus for SimBus<W> {
         status_of(&self.roots, port)
     }
 
+    #[tactic(auto, using(crate::proofs::Counts::set_ends, crate::proofs::Counts::set_none))]
     fn root_set(&mut self, port: u8, feature: u16) {
         if let Some(call) = PortCall::of_set(feature) {
-            self.roots.call(port, call);
+            self.call_root(port, call);
         }
     }
 
+    #[tactic(auto, using(crate::proofs::Counts::clear_ends, crate::proofs::Counts::clear_none))]
     fn root_clear(&mut self, port: u8, feature: u16) {
         if let Some(call) = PortCall::of_clear(feature) {
-            self.roots.call(port, call);
-            self.losses = self.losses.after_clearing(clears_connection_change(call));
+            self.call_root(port, call);
         }
     }
 }
 
 impl<W: Write> SimBus<W> {
     ghost use Rattle.usb_bus.specs.Sim.{world_of, writer_of};
+
+    /// A call at a root port.
+    #[tactic(auto, unfolding(crate::specs::Steps::after))]
+    fn call_root(&mut self, port: u8, call: PortCall)
+        ensures { world_of self.new ≡ after (root_call call port) (world_of self.old) }
+    {
+        self.roots.call(port, call);
+        self.losses = self.losses.after_clearing(clears_connection_change(call));
+    }
 
     /// The events that are due, and then an attempt and its line.
     #[tactic(auto, unfolding(crate::specs::Steps::ready, crate::specs::Steps::with_attempt, crate::specs::Steps::outcome_in, crate::specs::Lines::attempted_lines))]

@@ -1,0 +1,32 @@
+use Rattle.std.proofs.Common.{◌≡◌, ◌≤◌, ℕ, length, sym, subst, ap, ap₂, ◌∙◌, arith, [], ◌∷◌}
+use Rattle.usb_device.specs.Tree.{Ports, row_of, called, changed}
+use Rattle.usb_bus.specs.Passes.{IsSettled}
+use Rattle.usb_bus.specs.declared.losses.Losses.{Losses}
+use Rattle.usb_bus.specs.Losses.{AreOfDamages, after_clearing}
+use Rattle.usb_bus.specs.Steps.{is_clear_change}
+use Rattle.usb_bus.proofs.Counts.{row_long}
+use Rattle.usb_bus.proofs.Between.{settled_called}
+use Rattle.usb_bus.proofs.Wires.{losses_cleared}
+use Rattle.usb_bus.proofs.sim.SimBus.call_root.Goals as goal
+
+pub invariant_of-self : goal.invariant_of-self
+invariant_of-self g c =
+    let s = c.args.self.now in
+    let call = c.args.call in
+    let port = c.args.port in
+    let e = c.call.ensures in
+    let long : length (row_of c.call.new.self) ≡ length (row_of s.roots) = ap (λ k. length (row_of k)) e ∙ row_long (called call) s.roots (port ∷ []) in
+    let P : Losses → Type 0 = λ l. AreOfDamages s.attempts s.damages.items l in
+    record {
+      some_root = omega (arith, long, s.some_root);
+      few_roots = omega (arith, long, s.few_roots);
+      settled = subst IsSettled (sym e) (settled_called call s.roots (port ∷ []) s.settled);
+      planned = s.planned;
+      few_events = s.few_events;
+      counted = s.counted;
+      within = s.within;
+      few_attempts = s.few_attempts;
+      few_damages = s.few_damages;
+      lost = subst P (sym c.after_clearing-self.ensures) (losses_cleared _ s.attempts s.damages.items s.losses s.lost);
+      at_limit = s.at_limit;
+    }
