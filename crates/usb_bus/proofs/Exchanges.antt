@@ -45,8 +45,11 @@ over_row k m e = ap row_of e ∙ row_of-forgotten k
 
 -- what the code makes, one packet after the other
 pub record Makes (a : Attempt) (damage : Option Damage) (k : Ports) (x : Exchange) (last : Ports) : Type 0 where
-  pub first second third : Ports
-  pub to_token to_payload : Heard
+  pub first : Ports
+  pub second : Ports
+  pub third : Ports
+  pub to_token : Heard
+  pub to_payload : Heard
   pub token : x.token ≡ marked damage 1 a.pre (token_of a)
   pub token_heard : to_token ≡ heard_told (goes_out a (Some x.token)) k
   pub token_passed : first ≡ passed (goes_out a (Some x.token)) k

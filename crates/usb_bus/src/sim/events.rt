@@ -115,9 +115,7 @@ fn carry_out(
     ensures err { OnErr result (roots.new ≡ roots.old) }
 {
     match action {
-        Action::Plug(path, device) => {
-            roots.plug(path.numbers(), Device::new(alloc, &devices[*device])?)
-        }
+        Action::Plug(path, device) => plug(alloc, roots, path, &devices[*device])?,
         Action::Unplug(path) => {
             let _ = roots.unplug(path.numbers());
         }
@@ -126,6 +124,21 @@ fn carry_out(
         Action::Receive(_, _) => {}
         Action::Clear(_) => {}
     }
+    Ok(())
+}
+
+/// Makes the device, and plugs it at its port.
+fn plug(
+    alloc: Global,
+    roots: &mut Ports,
+    path: &PortPath,
+    spec: &DeviceSpec,
+) -> Result<(), AllocError>
+    ensures ok { OnOk result (roots.new ≡ changed (replaced (Some spec.now)) roots.old path.now) }
+    ensures err { OnErr result (roots.new ≡ roots.old) }
+{
+    let device = Device::new(alloc, spec)?;
+    roots.plug(path.numbers(), device);
     Ok(())
 }
 

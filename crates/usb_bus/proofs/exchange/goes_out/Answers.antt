@@ -1,17 +1,23 @@
-use Rattle.std.proofs.Common.{rules, ◌≡◌, ◌≤◌, true, Some, IfOk, IfSome, ℕ, ◌+◌, ◌-◌, ◌*◌, ◌<◌, length, ◌/◌, ◌%◌, Bool, false, nat_eq, nat_lt, List, [], ◌∷◌, ◌++◌, slice_index_or, slice_set, bit_and, bit_or, Fits, w8, w32, w64, Bor, MutBor}
-use Rattle.usb_packet.specs.Spelling.{HasFields}
-use Rattle.usb_device.specs.Tree.{row_of}
-use Rattle.usb_bus.specs.World.{IsAttempt, FitsMaximum}
-use Rattle.usb_bus.specs.Wire.{has_its_bit}
-use Rattle.usb_bus.specs.Exchange.{token_of, payload_of, answer_place, answer_mark, reply_of, outcome_of, exchange_in, ports_in, goes_out, sent_as, is_lost, is_clearing}
-use Rattle.usb_bus.specs.Passes.{passed, told}
-use Rattle.usb_bus.specs.Answering.{joined, heard_from, heard_told}
+use Rattle.std.proofs.Common.{◌≡◌, ℕ, List, Some, subst, ap, ◌∙◌, sym}
+use Rattle.usb_packet.specs.Spelling.{Spells}
+use Rattle.usb_device.specs.declared.delivery.Content.{Content}
+use Rattle.usb_device.specs.declared.delivery.Sent.{Sent}
+use Rattle.usb_bus.specs.declared.wire.Mark.{Mark}
+use Rattle.usb_bus.specs.Exchange.{sent_as}
+use Rattle.usb_bus.proofs.Wires.{flip_within}
 use Rattle.usb_bus.proofs.exchange.goes_out.Goals as goal
 
--- src/exchange.rt:152:38
 pub flipped-requires : goal.flipped-requires
-flipped-requires c = ?
+flipped-requires c = flip_within c.encode-bytes.result.items c.args.packet.now c.in-Flipped.bit c.encode-bytes.ensures c.requires.bit c.in-Flipped.is
 
--- src/exchange.rt:129:1
 pub returns-in-Flipped : goal.returns-in-Flipped
-returns-in-Flipped c = ?
+returns-in-Flipped c =
+    let a = c.args.attempt.now in
+    let s = c.args.packet.now in
+    let bytes = c.encode-bytes.result.items in
+    let n = c.in-Flipped.bit in
+    let within = flip_within bytes s n c.encode-bytes.ensures c.requires.bit c.in-Flipped.is in
+    let broken = c.of-in-Flipped.ensures.broken (λ p h. c.one_flipped_bit.ensures bytes s.packet p n c.encode-bytes.ensures within
+    (subst (λ (l : List ℕ). Spells l p) (c.as_slice-in-Flipped.ensures.value ∙ c.flipped.ensures) h)) in
+    let made : Content → Sent = λ x. record { low = a.low; pre = a.pre; content = x } in
+    ap (λ x. Some (made x)) broken ∙ ap (λ (m : Mark). sent_as a.low a.pre m s.packet) (sym c.in-Flipped.is)

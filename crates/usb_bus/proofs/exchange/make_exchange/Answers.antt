@@ -1,21 +1,48 @@
-use Rattle.std.proofs.Common.{rules, ◌≡◌, ◌≤◌, true, Some, IfOk, IfSome, ℕ, ◌+◌, ◌-◌, ◌*◌, ◌<◌, length, ◌/◌, ◌%◌, Bool, false, nat_eq, nat_lt, List, [], ◌∷◌, ◌++◌, slice_index_or, slice_set, bit_and, bit_or, Fits, w8, w32, w64, Bor, MutBor}
-use Rattle.usb_packet.specs.Spelling.{HasFields}
-use Rattle.usb_device.specs.Tree.{row_of}
-use Rattle.usb_bus.specs.World.{IsAttempt, FitsMaximum}
-use Rattle.usb_bus.specs.Wire.{has_its_bit}
-use Rattle.usb_bus.specs.Exchange.{token_of, payload_of, answer_place, answer_mark, reply_of, outcome_of, exchange_in, ports_in, goes_out, sent_as, is_lost, is_clearing}
-use Rattle.usb_bus.specs.Passes.{passed, told}
-use Rattle.usb_bus.specs.Answering.{joined, heard_from, heard_told}
+use Rattle.std.proofs.Common.{◌∙◌, ◌+◌, ap, ap₂}
+use Rattle.usb_bus.specs.Wire.{harm_to, marked, marked_some}
+use Rattle.usb_bus.specs.Exchange.{answer_mark}
+use Rattle.usb_bus.proofs.Exchanges.{Makes, over_row, made_exchange, made_ports}
 use Rattle.usb_bus.proofs.exchange.make_exchange.Goals as goal
 
--- src/exchange.rt:70:1
+makes : (c : goal.After-attempt_over) → Makes c.args.attempt.now c.args.damage c.args.roots.now
+    (record {
+      token = c.marked-token.result;
+      payload = c.marked_some-payload.result;
+      answer = c.joined-answer.result;
+      answer_mark = c.answer_mark-answer_mark.result;
+      reply = c.marked_some-reply.result;
+      address_lost = c.in_ok-address_lost.address_lost;
+      change_cleared = c.clears_change-change_cleared.result;
+    }) c.attempt_over.new.self
+makes c =
+    let a = c.args.attempt.now in
+    let damage = c.args.damage in
+    record {
+      first = c.send.new.roots;
+      second = c.send_some.new.roots;
+      third = c.send_reply.new.roots;
+      to_token = c.in_ok-to_token.to_token;
+      to_payload = c.in_ok-to_payload.to_payload;
+      token = c.marked-token.ensures.value ∙ ap (marked damage 1 a.pre) c.token_of.ensures.value;
+      token_heard = c.in_ok-to_token.ensures.heard;
+      token_passed = c.in_ok-to_token.ensures.ports;
+      payload = c.marked_some-payload.ensures.value ∙ ap (marked_some damage 2 a.pre) c.payload_of.ensures.value;
+      cleared = c.clears_change-change_cleared.ensures;
+      payload_heard = c.in_ok-to_payload.ensures.heard;
+      payload_passed = c.in_ok-to_payload.ensures.ports;
+      answer = c.joined-answer.ensures;
+      answer_mark = c.answer_mark-answer_mark.ensures ∙ ap (λ h. answer_mark h c.joined-answer.result) (c.harm_to.ensures ∙ ap (harm_to damage) c.answer_place-place.ensures.value);
+      reply = c.marked_some-reply.ensures.value ∙ ap₂ (λ n o. marked_some damage (n + 1) a.pre o) c.answer_place-place.ensures.value c.reply_of-reply.ensures.value;
+      lost = c.in_ok-address_lost.ensures.lost;
+      reply_passed = c.in_ok-address_lost.ensures.ports;
+      over = c.attempt_over.ensures;
+    }
+
 pub returns-clause-row : goal.returns-clause-row
-returns-clause-row c = ?
+returns-clause-row c = over_row _ _ c.attempt_over.ensures ∙ c.in_ok-address_lost.ensures.row ∙ c.in_ok-to_payload.ensures.row ∙ c.in_ok-to_token.ensures.row
 
--- src/exchange.rt:70:1
 pub returns-clause-made : goal.returns-clause-made
-returns-clause-made c = ?
+returns-clause-made c = made_exchange _ _ _ _ _ (makes c)
 
--- src/exchange.rt:70:1
 pub returns-clause-ports : goal.returns-clause-ports
-returns-clause-ports c = ?
+returns-clause-ports c = made_ports _ _ _ _ _ (makes c)
