@@ -1,5 +1,5 @@
 -- What is so between two steps stays so.
-use Rattle.std.proofs.Common.{◌≡◌, ℕ, zero, suc, Bool, true, false, if◌then◌else◌, ◌&&◌, ◌==◌, List, [], ◌∷◌, refl, ap, sym, ◌∙◌}
+use Rattle.std.proofs.Common.{◌≡◌, ℕ, zero, suc, Bool, true, false, if◌then◌else◌, ◌&&◌, ◌==◌, List, [], ◌∷◌, refl, ap, sym}
 use Rattle.usb_port.specs.PortState.{is_attached}
 use Rattle.usb_device.specs.Spec.{Spec, Hub}
 use Rattle.usb_device.specs.declared.calls.PortCall.{PortCall}
@@ -11,19 +11,24 @@ use Rattle.usb_device.specs.Tree.{Ports, ended, vacant, taken, Place, empty, ful
 use Rattle.usb_device.specs.Delivery.{all_forgotten}
 use Rattle.usb_bus.specs.declared.damage.Damage.{Damage}
 use Rattle.usb_bus.specs.declared.event.Action.{Action}
+use Rattle.usb_bus.specs.declared.event.Event.{Event}
+use Rattle.usb_bus.specs.declared.types.BusFault.{BusFault}
+use Rattle.usb_bus.specs.declared.types.BusFault.TheVariants.{LimitReached}
 use Rattle.usb_bus.specs.declared.event.Action.TheVariants.{Plug, Unplug, Show, Send, Receive, Clear}
 use Rattle.usb_bus.specs.declared.types.Attempt.{Attempt}
 use Rattle.std.specs.Prelude.{Option, None, Some, slice_get, ⊤}
 use Rattle.usb_bus.specs.Exchange.{ports_in, token_out, payload_out, reply_out}
 use Rattle.usb_bus.specs.Passes.{IsSettled}
 use Rattle.usb_bus.specs.Sane.{IsSane}
-use Rattle.usb_bus.specs.Steps.{happened, with_plugged}
-use Rattle.usb_bus.proofs.SaneLaws.{sane_path, sane_called, sane_replaced}
+use Rattle.usb_bus.specs.PlanData.{PlanData}
+use Rattle.usb_bus.specs.World.{World}
+use Rattle.usb_bus.specs.Steps.{happened, with_plugged, took, took_first, is_due, due_from, ready, damage_in, with_attempt, attempted, event_taken, Step, attempt, root_call, event, report, after, Course, here, step, IsBetween, opening}
+use Rattle.usb_bus.proofs.SaneLaws.{sane_path, sane_new_ports, sane_called, sane_replaced}
 use Rattle.usb_bus.proofs.PassLaws.{attempt_settled, attempt_sane}
 
 -- A device that remembers nothing, and all below it
 
-unfoldable Rests : Ports → Type 0
+unfoldable pub Rests : Ports → Type 0
 Rests ended = ⊤
 Rests (vacant b k) = Rests k
 Rests (taken b s a k) = (s.memory ≡ Nothing) × Rests a × Rests k
@@ -47,7 +52,7 @@ remembered ended = Nothing
 remembered (vacant b k) = Nothing
 remembered (taken b s a k) = s.memory
 
-rests : (k : Ports) → IsSettled k → Rests k
+pub rests : (k : Ports) → IsSettled k → Rests k
 unfolding all_forgotten Rests
 rests ended h = tt
 rests (vacant b k) h = rests k (ap further h)
@@ -158,3 +163,56 @@ sane_called_at c k p h = sane_path (called c) (sane_called c) k p h
 pub sane_ports : (a : Attempt) (d : Option Damage) (k : Ports) → IsSane k → IsSane (ports_in a d k)
 unfolding ports_in
 sane_ports a d k h = attempt_sane (token_out a d) (payload_out a d) (reply_out a d k) k h
+
+-- Worlds
+
+pub between_opening : (p : PlanData) → IsBetween (opening p)
+between_opening p = record { settled = settled_new p.roots; sane = sane_new_ports p.roots }
+
+took_between : (e : Event) (events : List Event) (w : World) → IsBetween w → IsBetween (took e events w)
+unfolding took
+took_between e events w h = record { settled = settled_happened e.action w.devices w.roots h.settled; sane = sane_happened e.action w.devices w.roots h.sane }
+
+first_between : (events : List Event) (w : World) → IsBetween w → IsBetween (took_first events w)
+first_between [] w h = h
+first_between (e ∷ events) w h = took_between e events w h
+
+due_between : (events : List Event) (w : World) → IsBetween w → IsBetween (due_from events w)
+unfolding due_from
+due_between [] w h = h
+due_between (e ∷ events) w h = split (is_due e w) (due_between events (took e events w) (took_between e events w h))
+  where
+    split : (x : Bool) → IsBetween (due_from events (took e events w)) → IsBetween (if x then due_from events (took e events w) else w)
+    split true g = g
+    split false g = h
+
+pub between_ready : (w : World) → IsBetween w → IsBetween (ready w)
+unfolding ready
+between_ready w h = due_between w.left w h
+
+attempt_between : (a : Attempt) (w : World) → IsBetween w → IsBetween (with_attempt a w)
+unfolding with_attempt
+attempt_between a w h = record { settled = settled_ports a (damage_in w) w.roots; sane = sane_ports a (damage_in w) w.roots h.sane }
+
+attempted_between : (a : Attempt) (f : Option BusFault) (w : World) → IsBetween w → IsBetween (attempted a f w)
+attempted_between a (Some f) w h = h
+attempted_between a None w h = split (w.attempts == w.limit)
+  where
+    split : (x : Bool) → IsBetween (if x then record w { fault = Some LimitReached } else with_attempt a (ready w))
+    split true = record { settled = h.settled; sane = h.sane }
+    split false = attempt_between a (ready w) (between_ready w h)
+
+event_between : (f : Option BusFault) (w : World) → IsBetween w → IsBetween (event_taken f w)
+event_between (Some f) w h = h
+event_between None w h = first_between w.left w h
+
+pub between_after : (s : Step) (w : World) → IsBetween w → IsBetween (after s w)
+unfolding after
+between_after (attempt a) w h = attempted_between a w.fault w h
+between_after (root_call c n) w h = record { settled = settled_called c w.roots (n ∷ []) h.settled; sane = sane_called_at c w.roots (n ∷ []) h.sane }
+between_after event w h = event_between w.fault w h
+between_after (report line) w h = h
+
+pub between_course : {K : Step → World → Type 0} {w v : World} → Course K w v → IsBetween w → IsBetween v
+between_course (here w) h = h
+between_course (step s {w} {v} k c) h = between_course c (between_after s w h)

@@ -22,22 +22,22 @@ use Rattle.usb_device.specs.declared.transfer.Memory.{Memory}
 use Rattle.usb_device.specs.declared.transfer.Memory.TheVariants.{Nothing, SetupSeen, OutSeen, AckAwaited}
 use Rattle.usb_device.specs.Bulk.{is_same}
 use Rattle.usb_device.specs.Calls.{called_port, is_reset}
-use Rattle.usb_device.specs.Effect.{asks}
 use Rattle.usb_device.specs.Request.{Outcome, stalled, answers, takes_address, takes_configuration, halts, unhalts, tells_port, calls_port, outcome}
 use Rattle.usb_device.specs.Transfer.{Stage, idle, refused, reading, read, ending, max_packet, packet_at}
-use Rattle.usb_device.specs.Rows.{State, Reply, received, answered, forgotten, reset_state, accepted, begun, is_busy, nak_row, unless_busy, status_row, out_row, ack_row, token_row, payload_row, data_row, sink_row, sunk, out_bulk_row, bulk_of, bulk_ack_row, after_memory, awaits_control, ends_with_address, awaits_address}
-use Rattle.usb_device.specs.Tree.{Ports, ended, vacant, taken, Place, empty, full, before, all_off, acted, called, reset_where, changed_at, row_of}
-use Rattle.usb_device.specs.Delivery.{is_heard, hears, reply_to, answer_of, effect_of, after_packet, all_forgotten, has_loss}
+use Rattle.usb_device.specs.Rows.{State, Reply, received, answered, forgotten, reset_state, accepted, begun, is_busy, nak_row, unless_busy, status_row, out_row, ack_row, payload_row, sink_row, sunk, out_bulk_row, bulk_of, bulk_ack_row, after_memory, awaits_control, ends_with_address, awaits_address}
+use Rattle.usb_device.specs.Tree.{Ports, ended, vacant, taken, full, before, all_off, acted, called, reset_where, changed_at, row_of}
+use Rattle.usb_device.specs.Delivery.{is_heard, hears, answer_of, effect_of, after_packet, has_loss}
 use Rattle.usb_bus.specs.declared.types.Attempt.{Attempt}
 use Rattle.usb_bus.specs.declared.exchange.Heard.{Heard}
 use Rattle.usb_bus.specs.declared.exchange.Heard.TheVariants as heard
 use Rattle.usb_bus.specs.declared.wire.Mark.{Mark}
 use Rattle.usb_bus.specs.Wire.{harm_to, mark_of, is_read, marked, marked_some}
 use Rattle.usb_bus.specs.World.{IsAttempt, sends}
-use Rattle.usb_bus.specs.Exchange.{lost_in, is_lost, readable, goes_out, token_of, payload_of, answered_in, heard_in, mark_in, place_of_answer, reply_of}
+use Rattle.usb_bus.specs.Exchange.{lost_in, is_lost, goes_out, token_of, payload_of, answered_in, heard_in, mark_in, place_of_answer, reply_of}
 use Rattle.usb_bus.specs.Passes.{passed, IsSettled}
 use Rattle.usb_bus.proofs.Booleans.{no, neither}
 use Rattle.usb_bus.proofs.SaneLaws.{answer_spec}
+use Rattle.usb_bus.proofs.Between.{Rests, rests}
 use Rattle.usb_bus.proofs.PassLaws.{token_out as token_rests}
 
 -- A device after a packet that is no IN token awaits no ACK of endpoint 0
@@ -293,27 +293,11 @@ acked_loss low pre kind n e deep (taken b s a k) h = split b.enable refl (acked_
 
 -- Nobody awaits anything where nothing is remembered
 
-abbrev further : Ports → Ports
-further ended = ended
-further (vacant b k) = k
-further (taken b s a k) = k
-
-abbrev below : Ports → Ports
-below ended = ended
-below (vacant b k) = ended
-below (taken b s a k) = a
-
-abbrev remembered : Ports → Memory
-remembered ended = Nothing
-remembered (vacant b k) = Nothing
-remembered (taken b s a k) = s.memory
-
-settled_loss : (k : Ports) → IsSettled k → has_loss k ≡ false
-unfolding has_loss all_forgotten
-settled_loss ended h = refl
-settled_loss (vacant b k) h = settled_loss k (ap further h)
-settled_loss (taken b s a k) h =
-    three_none (awaits_address s) (has_loss a) (has_loss k) (none_awaited s (ap (λ x. awaits_control (remembered x)) (sym h))) (settled_loss a (ap below h)) (settled_loss k (ap further h))
+rests_loss : (k : Ports) → Rests k → has_loss k ≡ false
+unfolding has_loss Rests
+rests_loss ended h = refl
+rests_loss (vacant b k) h = rests_loss k h
+rests_loss (taken b s a k) h = three_none (awaits_address s) (has_loss a) (has_loss k) (none_awaited s (ap awaits_control h.0)) (rests_loss a h.1) (rests_loss k h.2)
 
 -- Attempts without damage
 
@@ -353,8 +337,8 @@ reply_loss a k place o (inr e) is s = rw e (split a.payload is.payload_sent)
   where
     split : (x : Option (Toggle × ArrayVec ℕ)) → is_some x ≡ sends a.kind
         → has_loss (after_packet (whole a.low a.pre packet.Ack) false (passed (goes_out a (marked_some None 2 a.pre (elim x [ None ↦ None | Some p ↦ Some (Payload p.0 p.1) ]))) (after_packet (whole a.low a.pre (Token a.kind a.addr a.ep)) false k))) ≡ false
-    split None f = data_loss a.low a.pre a.kind a.addr a.ep None f k (settled_loss k s)
-    split (Some p) f = data_loss a.low a.pre a.kind a.addr a.ep (Some p) f k (settled_loss k s)
+    split None f = data_loss a.low a.pre a.kind a.addr a.ep None f k (rests_loss k (rests k s))
+    split (Some p) f = data_loss a.low a.pre a.kind a.addr a.ep (Some p) f k (rests_loss k (rests k s))
 
 -- without damage whoever awaits an ACK to take its address gets it
 pub none_lost : (a : Attempt) (k : Ports) → IsAttempt a → IsSettled k → lost_in a None k ≡ false
