@@ -140,6 +140,10 @@ exchange_in a damage k = record {
   change_cleared = cleared_in a damage k;
 }
 
--- the root ports after an attempt, with all that is plugged
+-- the root ports after its packets, with all that is plugged
+abbrev pub ended_in : Attempt → Option Damage → Ports → Ports
+ended_in a damage k = passed (reply_out a damage k) (answered_in a damage k)
+
+-- the same after the attempt
 unfoldable pub ports_in : Attempt → Option Damage → Ports → Ports
 ports_in a damage k = after_attempt (token_out a damage) (payload_out a damage) (reply_out a damage k) k
