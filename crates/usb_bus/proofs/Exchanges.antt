@@ -1,23 +1,20 @@
 -- What the code of an attempt does, packet by packet, is the attempt.
-use Rattle.std.proofs.Common.{◌≡◌, ℕ, ◌+◌, List, [], ◌∷◌, ◌++◌, Bool, false, Option, Some, None, Result, Ok, Err, OnOk, refl, sym, subst, ap, ap₂, ◌∙◌}
-use Rattle.usb_packet.specs.declared.Packet.{Packet}
+use Rattle.std.proofs.Common.{◌≡◌, ◌+◌, List, [], ◌∷◌, ◌++◌, false, Option, Some, None, Result, Ok, Err, OnOk, refl, sym, subst, ap, ap₂, ◌∙◌}
 use Rattle.usb_device.specs.declared.answer.Answer.{Answer}
 use Rattle.usb_device.specs.declared.delivery.Heard.{Heard as HeardBelow}
 use Rattle.usb_device.specs.declared.delivery.Sent.{Sent}
 use Rattle.usb_device.specs.Tree.{Ports, row_of}
-use Rattle.usb_device.specs.Delivery.{answers, after_packet, all_forgotten, heard_of, delivered}
+use Rattle.usb_device.specs.Delivery.{answers, all_forgotten, heard_of, delivered}
 use Rattle.usb_device.proofs.Rows.{row_of-after, row_of-forgotten}
 use Rattle.usb_bus.specs.declared.damage.Damage.{Damage}
 use Rattle.usb_bus.specs.declared.exchange.Exchange.{Exchange}
 use Rattle.usb_bus.specs.declared.exchange.Heard.{Heard}
 use Rattle.usb_bus.specs.declared.types.Attempt.{Attempt}
-use Rattle.usb_bus.specs.declared.wire.Mark.{Mark}
-use Rattle.usb_bus.specs.declared.wire.Outgoing.{Outgoing}
 use Rattle.usb_bus.specs.Wire.{harm_to, marked, marked_some}
 use Rattle.usb_bus.specs.Answering.{joined, heard_from, heard_told}
 use Rattle.usb_bus.specs.Passes.{IsSettled, passed, told}
 use Rattle.usb_bus.proofs.PassLaws.{attempt_settled}
-use Rattle.usb_bus.specs.Exchange.{token_of, payload_of, answer_place, answer_mark, reply_of, goes_out, heard_all, token_out, payload_in, payload_out, heard_in, place_of_answer, mark_in, reply_in, answered_in, is_lost, lost_in, is_clearing, cleared_in, exchange_in, ended_in, ports_in}
+use Rattle.usb_bus.specs.Exchange.{token_of, payload_of, answer_place, answer_mark, reply_of, goes_out, heard_all, token_out, payload_out, heard_in, mark_in, reply_in, answered_in, is_lost, lost_in, is_clearing, cleared_in, exchange_in, ended_in, ports_in}
 
 heard_all_of : (xs : List Answer) → heard_from (heard_of xs) ≡ heard_all xs
 heard_all_of [] = refl

@@ -1,4 +1,4 @@
-use Rattle.std.proofs.Common.{◌≡◌, ◌+◌, ◌||◌, ℕ, List, Bool, Option, refl, sym, subst, ap, ap₂, ◌∙◌, arith, length}
+use Rattle.std.proofs.Common.{◌≡◌, ◌+◌, ◌||◌, List, Bool, Option, refl, sym, subst, ap, ap₂, ◌∙◌, arith, length}
 use Rattle.usb_device.specs.Tree.{Ports, row_of}
 use Rattle.usb_bus.specs.declared.types.Attempt.{Attempt}
 use Rattle.usb_bus.specs.declared.damage.Damage.{Damage}
@@ -6,10 +6,10 @@ use Rattle.usb_bus.specs.declared.exchange.Exchange.{Exchange}
 use Rattle.usb_bus.specs.declared.losses.Losses.{Losses}
 use Rattle.usb_bus.specs.Wire.{damage_of}
 use Rattle.usb_bus.specs.Exchange.{exchange_in, ports_in, lost_in}
-use Rattle.usb_bus.specs.Losses.{AreOfDamages, after_clearing, counted}
+use Rattle.usb_bus.specs.Losses.{AreOfDamages, counted}
 use Rattle.usb_bus.specs.World.{World}
 use Rattle.usb_bus.specs.Sim.{world_of}
-use Rattle.usb_bus.specs.Steps.{made_in, damage_in}
+use Rattle.usb_bus.specs.Steps.{made_in}
 use Rattle.usb_bus.proofs.Comings.{lines_of_attempt, attempt_made, outcome_made_in}
 use Rattle.usb_bus.proofs.Wires.{until_most, losses_after, losses_cleared, other_fault}
 use Rattle.usb_bus.proofs.sim.SimBus.make_attempt.Goals as goal
