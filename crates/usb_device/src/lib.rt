@@ -5,6 +5,7 @@ mod answer;
 mod between;
 mod bulk;
 mod calls;
+mod children;
 mod clearing;
 mod delivery;
 mod device;
@@ -22,6 +23,7 @@ mod transfer;
 
 pub use answer::Answer;
 pub use calls::PortCall;
+pub use children::Parent;
 pub use delivery::{Content, Heard, Sent};
 pub use device::Device;
 pub use devices::Devices;

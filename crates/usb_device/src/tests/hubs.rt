@@ -118,3 +118,30 @@ fn a_port_is_reset(rt: HostRuntime) -> Result<(), Fail> {
     assert!(rt; passes(rt.alloc(), Kind::Hub, &steps)?);
     Ok(())
 }
+
+/// A write to the device on a port leaves the port and the hub as they are.
+#[test]
+fn a_device_below_is_written_to(rt: HostRuntime) -> Result<(), Fail> {
+    let steps = [
+        (Step::Setup(0), "none"),
+        (Step::Data0(SET_ADDRESS), "ACK"),
+        (Step::In(0), "DATA1 -"),
+        (Step::Ack, "none"),
+        (Step::Setup(1), "none"),
+        (Step::Data0(SET_CONFIGURATION), "ACK"),
+        (Step::Setup(1), "none"),
+        (Step::Data0(POWER_PORT_1), "ACK"),
+        (Step::ResetChild(1, false), ""),
+        (Step::PlugLow(5), ""),
+        (Step::ResetChild(0, false), ""),
+        (Step::ResetChild(2, false), ""),
+        (Step::ResetChild(3, false), ""),
+        (Step::ChildAddress(Some(5)), ""),
+        (Step::ResetChild(1, true), ""),
+        (Step::ChildAddress(Some(0)), ""),
+        (Step::PortBytes(1, Some([1, 3, 1, 0])), ""),
+        (Step::Registers(1, 1), ""),
+    ];
+    assert!(rt; passes(rt.alloc(), Kind::Hub, &steps)?);
+    Ok(())
+}

@@ -2,7 +2,7 @@
 ghost use Rattle.usb_packet.specs.Spelling.{HasFields};
 
 use super::kinds::{Kind, spec_of};
-use crate::{Content, Device, Heard, PortCall, Ports, Sent};
+use crate::{Content, Device, Heard, Parent, PortCall, Ports, Sent};
 use arrayvec::ArrayVec;
 use std::alloc::{AllocError, Global};
 use usb_packet::{Packet, Toggle, TokenKind, decode, encode, packet_text};
@@ -33,6 +33,8 @@ pub(super) enum Step {
     PlugLow(u8),
     /// The device at port 1 is unplugged, where one is.
     Unplug(bool),
+    /// The device at a port alone is reset, where one is.
+    ResetChild(u8, bool),
     PortBytes(u8, Option<[u8; 4]>),
     /// The address of the device at port 1.
     ChildAddress(Option<u8>),
@@ -107,6 +109,17 @@ fn child_address(hub: &Device) -> Option<u8> {
     }
 }
 
+/// Resets the device on a port, and tells whether one was there.
+fn reset_child(hub: &mut Device, port: u8) -> bool {
+    match hub.child_mut(port) {
+        Some(child) => {
+            child.reset();
+            true
+        }
+        None => false,
+    }
+}
+
 /// Whether what a row says of a device is so.
 fn is_so(device: &Device, step: &Step) -> bool {
     match step {
@@ -127,6 +140,7 @@ fn holds(alloc: Global, device: &mut Device, step: &Step, text: &str) -> Result<
         Step::Over => device.attempt_over(),
         Step::Reset => device.reset(),
         Step::PlugLow(address) => plug_low(alloc, device, *address)?,
+        Step::ResetChild(port, was_there) => return Ok(reset_child(device, *port) == *was_there),
         Step::Unplug(was_there) => return Ok(device.unplug_child(1).is_some() == *was_there),
         _ => {}
     }
