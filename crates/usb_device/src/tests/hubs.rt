@@ -145,3 +145,74 @@ fn a_device_below_is_written_to(rt: HostRuntime) -> Result<(), Fail> {
     assert!(rt; passes(rt.alloc(), Kind::Hub, &steps)?);
     Ok(())
 }
+
+/// IN 1 that is halted stalls; cleared, it begins with DATA0, and the byte that was given stands.
+#[test]
+fn the_changes_of_a_hub_halt(rt: HostRuntime) -> Result<(), Fail> {
+    let steps = [
+        (Step::Asks(0, SET_ADDRESS), ""),
+        (Step::In(0), "DATA1 -"),
+        (Step::Ack, "none"),
+        (Step::Asks(1, POWER_PORT_1), ""),
+        (Step::In(1), "STALL"),
+        (Step::Asks(1, SET_CONFIGURATION), ""),
+        (Step::Asks(1, POWER_PORT_1), ""),
+        (Step::PlugLow(0), ""),
+        (Step::InAt(1, 1), "DATA0 02"),
+        (Step::Ack, "none"),
+        (Step::InAt(1, 1), "DATA1 02"),
+        (Step::Asks(1, CLEAR_CONNECTION_CHANGE), ""),
+        (Step::Asks(1, &[2, 3, 0, 0, 0x81, 0, 0, 0]), ""),
+        (Step::InAt(1, 1), "STALL"),
+        (Step::Asks(1, &[2, 1, 0, 0, 0x81, 0, 0, 0]), ""),
+        (Step::InAt(1, 1), "DATA0 02"),
+        (Step::Asks(1, SET_CONFIGURATION), ""),
+        (Step::InAt(1, 1), "NAK"),
+        (Step::PortBytes(1, Some([0, 0, 0, 0])), ""),
+    ];
+    assert!(rt; passes(rt.alloc(), Kind::Hub, &steps)?);
+    Ok(())
+}
+
+/// A hub with seven ports: its last port is called, and one that it has not is refused.
+#[test]
+fn a_hub_has_its_ports(rt: HostRuntime) -> Result<(), Fail> {
+    let steps = [
+        (Step::Asks(0, SET_ADDRESS), ""),
+        (Step::In(0), "DATA1 -"),
+        (Step::Ack, "none"),
+        (Step::Asks(1, &[0x80, 0, 0, 0, 0, 0, 2, 0]), ""),
+        (Step::In(1), "DATA1 0000"),
+        (Step::Asks(1, &[0xa0, 6, 0, 0x29, 0, 0, 9, 0]), ""),
+        (Step::In(1), "STALL"),
+        (Step::Asks(1, SET_CONFIGURATION), ""),
+        (Step::Asks(1, &[0x23, 3, 8, 0, 7, 0, 0, 0]), ""),
+        (Step::In(1), "DATA1 -"),
+        (Step::PortBytes(7, Some([0, 1, 0, 0])), ""),
+        (Step::Asks(1, &[0x23, 3, 8, 0, 8, 0, 0, 0]), ""),
+        (Step::In(1), "STALL"),
+        (Step::Asks(1, &[0x23, 3, 8, 0, 0, 0, 0, 0]), ""),
+        (Step::In(1), "STALL"),
+        (Step::Asks(1, &[0x23, 3, 8, 0, 1, 1, 0, 0]), ""),
+        (Step::In(1), "STALL"),
+        (Step::Asks(1, &[0x23, 3, 22, 0, 1, 0, 0, 0]), ""),
+        (Step::In(1), "STALL"),
+        (Step::Asks(1, &[0x23, 3, 8, 0, 1, 0, 1, 0]), ""),
+        (Step::In(1), "STALL"),
+        (Step::Asks(1, &[0x23, 1, 4, 0, 7, 0, 0, 0]), ""),
+        (Step::In(1), "STALL"),
+        (Step::Asks(1, &[0x23, 1, 8, 0, 7, 0, 0, 0]), ""),
+        (Step::PortBytes(7, Some([0, 0, 0, 0])), ""),
+        (Step::Asks(1, POWER_PORT_1), ""),
+        (Step::PlugLow(3), ""),
+        (Step::Asks(1, RESET_PORT_1), ""),
+        (Step::PortBytes(1, Some([3, 3, 0x11, 0])), ""),
+        (Step::Asks(1, &[0x23, 1, 1, 0, 1, 0, 0, 0]), ""),
+        (Step::PortBytes(1, Some([1, 3, 0x11, 0])), ""),
+        (Step::Asks(1, &[0x23, 1, 17, 0, 1, 0, 0, 0]), ""),
+        (Step::PortBytes(1, Some([1, 3, 0x11, 0])), ""),
+        (Step::InAt(1, 1), "DATA0 02"),
+    ];
+    assert!(rt; passes(rt.alloc(), Kind::BusHub, &steps)?);
+    Ok(())
+}

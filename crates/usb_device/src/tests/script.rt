@@ -19,6 +19,8 @@ pub(super) enum Step {
     Data0(&'static [u8]),
     Data1(&'static [u8]),
     Ack,
+    /// A request to an address: the SETUP token and its data, which the device acknowledges.
+    Asks(u8, &'static [u8]),
     /// Bytes of the host, whatever they spell.
     Bytes(&'static [u8]),
     /// The end of an attempt.
@@ -89,6 +91,14 @@ fn is_answered(device: &mut Device, step: &Step, text: &str) -> Result<bool, All
     })
 }
 
+/// Whether a request to an address is acknowledged.
+fn asks(device: &mut Device, address: u8, data: &'static [u8]) -> Result<bool, AllocError> {
+    Ok(
+        is_answered(device, &Step::Setup(address), "none")?
+            && is_answered(device, &Step::Data0(data), "ACK")?,
+    )
+}
+
 fn plug_low(alloc: Global, hub: &mut Device, address: u8) -> Result<(), AllocError> {
     let mut child = Device::new(alloc, &spec_of(alloc, Kind::Low)?)?;
     let request = [0, 5, address, 0, 0, 0, 0, 0];
@@ -140,6 +150,7 @@ fn holds(alloc: Global, device: &mut Device, step: &Step, text: &str) -> Result<
         Step::Over => device.attempt_over(),
         Step::Reset => device.reset(),
         Step::PlugLow(address) => plug_low(alloc, device, *address)?,
+        Step::Asks(address, data) => return asks(device, *address, *data),
         Step::ResetChild(port, was_there) => return Ok(reset_child(device, *port) == *was_there),
         Step::Unplug(was_there) => return Ok(device.unplug_child(1).is_some() == *was_there),
         _ => {}
@@ -151,6 +162,20 @@ fn holds(alloc: Global, device: &mut Device, step: &Step, text: &str) -> Result<
     }
 }
 
+/// Whether each row is as it says, one after the other.
+pub(super) fn goes_on(
+    alloc: Global,
+    device: &mut Device,
+    steps: &[(Step, &str)],
+) -> Result<bool, AllocError> {
+    for (step, text) in steps {
+        if !holds(alloc, device, step, *text)? {
+            return Ok(false);
+        }
+    }
+    Ok(true)
+}
+
 /// Whether each row is as it says, one after the other, of a device that was just plugged.
 pub(super) fn passes(
     alloc: Global,
@@ -158,12 +183,7 @@ pub(super) fn passes(
     steps: &[(Step, &str)],
 ) -> Result<bool, AllocError> {
     let mut device = Device::new(alloc, &spec_of(alloc, kind)?)?;
-    for (step, text) in steps {
-        if !holds(alloc, &mut device, step, *text)? {
-            return Ok(false);
-        }
-    }
-    Ok(true)
+    goes_on(alloc, &mut device, steps)
 }
 
 /// A row of a table about a tree.
