@@ -13,3 +13,4 @@ pub mod Marking
 pub mod Figures
 pub mod Views
 pub mod Lent
+pub mod Strays

@@ -16,3 +16,4 @@ pub mod Attempt
 pub mod Kept
 pub mod View
 pub mod Lending
+pub mod Stray

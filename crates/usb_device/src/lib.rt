@@ -29,7 +29,8 @@ pub use device::Device;
 pub use devices::Devices;
 pub use hub_spec::{HubSpec, has_hub_class};
 pub use laws::{
-    answer_laws, attempt_laws, frame_laws, place_laws, row_laws, stranger_laws, view_laws,
+    answer_laws, attempt_laws, frame_laws, place_laws, row_laws, stranger_laws, stray_laws,
+    view_laws,
 };
 pub use lists::{Bytes, ConfigTexts, Name, StringTexts, Texts};
 pub use ports::Ports;

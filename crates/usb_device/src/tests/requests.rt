@@ -2,6 +2,7 @@
 use super::kinds::Kind;
 use super::script::{Step, passes};
 use crate::Stalls;
+use std::alloc::{AllocError, Global};
 use std::test::Fail;
 
 const GET_DEVICE: &[u8] = &[0x80, 6, 0, 1, 0, 0, 255, 0];
@@ -113,11 +114,7 @@ fn a_wrong_request_stalls(rt: HostRuntime) -> Result<(), Fail> {
 }
 
 /// Whether a device that refuses some requests refuses this one, and still tells its device descriptor.
-fn is_refused(
-    rt: &HostRuntime,
-    stalls: Stalls,
-    request: &'static [u8],
-) -> Result<bool, std::alloc::AllocError> {
+fn is_refused(alloc: Global, stalls: Stalls, request: &'static [u8]) -> Result<bool, AllocError> {
     let steps = [
         (Step::Asks(0, request), ""),
         (Step::In(0), "STALL"),
@@ -126,56 +123,41 @@ fn is_refused(
         (Step::Asks(0, GET_DEVICE), ""),
         (Step::In(0), "DATA1 120100020000004034127856000100010002"),
     ];
-    passes(rt.alloc(), Kind::Refusing(stalls), &steps)
+    passes(alloc, Kind::Refusing(stalls), &steps)
 }
 
 #[test]
 fn what_is_to_stall_stalls(rt: HostRuntime) -> Result<(), Fail> {
     let none = Stalls::none();
-    assert!(rt;
-        is_refused(
-            &rt,
-            Stalls {
-                address: true,
-                ..none
-            },
-            SET_ADDRESS
-        )?
-    );
-    assert!(rt;
-        is_refused(
-            &rt,
-            Stalls {
-                config: true,
-                ..none
-            },
-            GET_CONFIG_0
-        )?
-    );
-    assert!(rt;
-        is_refused(
-            &rt,
-            Stalls {
-                status: true,
-                ..none
-            },
-            GET_STATUS
-        )?
-    );
-    assert!(rt;
-        is_refused(
-            &rt,
-            Stalls {
-                string: true,
-                ..none
-            },
-            GET_STRING_1
-        )?
-    );
-    assert!(rt; !is_refused(&rt, none, GET_STATUS)?);
+    let address = Stalls {
+        address: true,
+        ..none
+    };
+    let config = Stalls {
+        config: true,
+        ..none
+    };
+    let status = Stalls {
+        status: true,
+        ..none
+    };
+    let string = Stalls {
+        string: true,
+        ..none
+    };
+    assert!(rt; is_refused(rt.alloc(), address, SET_ADDRESS)?);
+    assert!(rt; is_refused(rt.alloc(), config, GET_CONFIG_0)?);
+    assert!(rt; is_refused(rt.alloc(), status, GET_STATUS)?);
+    assert!(rt; is_refused(rt.alloc(), string, GET_STRING_1)?);
+    assert!(rt; !is_refused(rt.alloc(), none, GET_STATUS)?);
+    Ok(())
+}
+
+#[test]
+fn a_configuration_that_is_to_stall_stalls(rt: HostRuntime) -> Result<(), Fail> {
     let stalls = Stalls {
         set_config: true,
-        ..none
+        ..Stalls::none()
     };
     let steps = [
         (Step::Asks(0, SET_ADDRESS), ""),
