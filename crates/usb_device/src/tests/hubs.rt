@@ -1,6 +1,7 @@
 //! Hubs, packet by packet.
 use super::kinds::Kind;
 use super::script::{Step, passes};
+use crate::PortCall;
 use std::test::Fail;
 
 const SET_ADDRESS: &[u8] = &[0, 5, 1, 0, 0, 0, 0, 0];
@@ -16,6 +17,26 @@ const RESET_PORT_1: &[u8] = &[0x23, 3, 4, 0, 1, 0, 0, 0];
 const CLEAR_CONNECTION_CHANGE: &[u8] = &[0x23, 1, 16, 0, 1, 0, 0, 0];
 
 const CLEAR_RESET_CHANGE: &[u8] = &[0x23, 1, 20, 0, 1, 0, 0, 0];
+
+/// The features of a port (table 11-17).
+#[test]
+fn features_are_calls(rt: HostRuntime) -> Result<(), Fail> {
+    assert!(rt; matches!(PortCall::of_set(4), Some(PortCall::SetReset)));
+    assert!(rt; matches!(PortCall::of_set(8), Some(PortCall::SetPower)));
+    assert!(rt; PortCall::of_set(1).is_none());
+    assert!(rt; matches!(PortCall::of_clear(1), Some(PortCall::ClearEnable)));
+    assert!(rt; matches!(PortCall::of_clear(8), Some(PortCall::ClearPower)));
+    assert!(rt;
+        matches!(
+            PortCall::of_clear(16),
+            Some(PortCall::ClearConnectionChange)
+        )
+    );
+    assert!(rt; matches!(PortCall::of_clear(17), Some(PortCall::ClearEnableChange)));
+    assert!(rt; matches!(PortCall::of_clear(20), Some(PortCall::ClearResetChange)));
+    assert!(rt; PortCall::of_clear(4).is_none());
+    Ok(())
+}
 
 #[test]
 fn a_hub_tells_its_descriptor_and_ports(rt: HostRuntime) -> Result<(), Fail> {
