@@ -3,8 +3,9 @@ use Rattle.std.proofs.Common.{◌≡◌, ◌+◌, List, [], ◌∷◌, ◌++◌,
 use Rattle.usb_device.specs.declared.answer.Answer.{Answer}
 use Rattle.usb_device.specs.declared.delivery.Heard.{Heard as HeardBelow}
 use Rattle.usb_device.specs.declared.delivery.Sent.{Sent}
-use Rattle.usb_device.specs.Tree.{Ports, row_of}
-use Rattle.usb_device.specs.Delivery.{answers, all_forgotten, heard_of, delivered}
+use Rattle.usb_device.specs.Tree.{Ports, ended, vacant, taken, row_of}
+use Rattle.usb_device.specs.Delivery.{answers, all_forgotten, heard_of, delivered, figure}
+use Rattle.usb_device.proofs.Figures.{figure-after}
 use Rattle.usb_device.proofs.Rows.{row_of-after, row_of-forgotten}
 use Rattle.usb_bus.specs.declared.damage.Damage.{Damage}
 use Rattle.usb_bus.specs.declared.exchange.Exchange.{Exchange}
@@ -40,6 +41,18 @@ joined_all (x ∷ w ∷ xs) ys = refl
 
 pub over_row : (k m : Ports) → m ≡ all_forgotten k → row_of m ≡ row_of k
 over_row k m e = ap row_of e ∙ row_of-forgotten k
+
+figure-forgotten : (k : Ports) → figure (all_forgotten k) ≡ figure k
+unfolding figure all_forgotten
+figure-forgotten ended = refl
+figure-forgotten (vacant b k) = ap (λ f. Some None ∷ f) (figure-forgotten k)
+figure-forgotten (taken b s a k) = ap₂ (λ f g. Some (Some s.spec) ∷ (f ++ g)) (figure-forgotten a) (figure-forgotten k)
+
+pub over_figure : (k m : Ports) → m ≡ all_forgotten k → figure m ≡ figure k
+over_figure k m e = ap figure e ∙ figure-forgotten k
+
+pub delivered_figure : (q : Sent) (k m : Ports) (h : HeardBelow) → (h, m) ≡ delivered q false k → figure m ≡ figure k
+delivered_figure q k m h e = ap (λ x. figure x.1) e ∙ figure-after q false k
 
 pub over_settled : (k m : Ports) → m ≡ all_forgotten k → IsSettled m
 over_settled k m e = subst IsSettled (sym e) (attempt_settled None None None k)
