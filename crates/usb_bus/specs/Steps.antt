@@ -2,11 +2,10 @@
 use Rattle.std.specs.Prelude.{◌≡◌, ℕ, ◌+◌, ◌-◌, ◌==◌, nat_le, Bool, true, false, ◌&&◌, ◌||◌, not, if◌then◌else◌, List, [], ◌∷◌, slice_get, slice_set, unwrap_or, Option, Some, None, is_some, Result, Ok, Err, ⊤}
 use Rattle.usb_port.specs.PortState.{set_row, clear_row}
 use Rattle.usb_device.specs.declared.calls.PortCall.{PortCall}
-use Rattle.usb_device.specs.declared.calls.PortCall.TheVariants.{ClearConnectionChange}
 use Rattle.usb_device.specs.Spec.{Spec}
 use Rattle.usb_device.specs.Calls.{set_call, clear_call}
 use Rattle.usb_device.specs.Tree.{Ports, new_ports, called, replaced, changed, row_of}
-use Rattle.usb_device.specs.Delivery.{held, is_twice, figure}
+use Rattle.usb_device.specs.Delivery.{held, is_twice, figure, is_clearing}
 use Rattle.usb_bus.specs.declared.damage.Damage.{Damage}
 use Rattle.usb_bus.specs.declared.event.Due.{Due}
 use Rattle.usb_bus.specs.declared.event.Event.{Event}
@@ -131,13 +130,9 @@ abbrev pub event_taken : Option BusFault → World → World
 event_taken (Some f) w = w
 event_taken None w = took_first w.left w
 
-abbrev pub is_clear_change : PortCall → Bool
-is_clear_change ClearConnectionChange = true
-is_clear_change c = false
-
 unfoldable pub after : Step → World → World
 after (attempt a) w = attempted a w.fault w
-after (root_call c n) w = record w { roots = changed (called c) w.roots (n ∷ []); losses = after_clearing (is_clear_change c) w.losses }
+after (root_call c n) w = record w { roots = changed (called c) w.roots (n ∷ []); losses = after_clearing (is_clearing c) w.losses }
 after event w = event_taken w.fault w
 after (report line) w = w
 

@@ -5,7 +5,7 @@ ghost use Rattle.usb_device.specs.Tree.{row_of};
 ghost use Rattle.usb_device.specs.Delivery.{figure};
 ghost use Rattle.usb_bus.specs.World.{IsAttempt, FitsMaximum};
 ghost use Rattle.usb_bus.specs.Wire.{has_its_bit};
-ghost use Rattle.usb_bus.specs.Exchange.{token_of, payload_of, answer_place, answer_mark, reply_of, outcome_of, exchange_in, ended_in, ports_in, goes_out, sent_as, is_lost, is_clearing};
+ghost use Rattle.usb_bus.specs.Exchange.{token_of, payload_of, answer_place, answer_mark, reply_of, outcome_of, exchange_in, ended_in, ports_in, goes_out, sent_as, is_lost, clears_at};
 ghost use Rattle.usb_bus.specs.Passes.{IsSettled, passed, told};
 ghost use Rattle.usb_bus.specs.Answering.{joined, heard_from, heard_told};
 
@@ -211,7 +211,7 @@ fn send_some(
 fn clears_change(roots: &Ports, attempt: &Attempt, packet: &Option<Outgoing>) -> bool
     requires fields { IfSome packet.now (λ s. HasFields s.packet) }
     requires bit { IfSome packet.now (λ s. has_its_bit s.mark s.packet ≡ true) }
-    ensures { result ≡ is_clearing (goes_out attempt.now packet.now) roots.now }
+    ensures { result ≡ clears_at (goes_out attempt.now packet.now) roots.now }
 {
     match packet {
         None => false,

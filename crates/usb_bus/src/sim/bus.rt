@@ -4,7 +4,8 @@ ghost use Rattle.usb_port.specs.PortState.{off, status_of};
 ghost use Rattle.usb_device.specs.Tree.{row_of};
 ghost use Rattle.usb_bus.specs.World.{Attempted, Spends, AnswerFits, IsAttempt, IsRootPort, IsSetFeature, IsClearFeature};
 ghost use Rattle.std.specs.Io.KnownBytes.{Appends};
-ghost use Rattle.usb_bus.specs.Steps.{AttemptFails, Left, SetsRoot, ClearsRoot, after, attempt as attempt_step, root_call, with_attempt, ready, outcome_in, is_clear_change};
+ghost use Rattle.usb_device.specs.Delivery.{is_clearing};
+ghost use Rattle.usb_bus.specs.Steps.{AttemptFails, Left, SetsRoot, ClearsRoot, after, attempt as attempt_step, root_call, with_attempt, ready, outcome_in};
 ghost use Rattle.usb_bus.specs.Passes.{IsSettled};
 ghost use Rattle.usb_bus.specs.Lines.{attempted_lines};
 ghost use Rattle.usb_bus.specs.Watch.{inner_of, has_failed};
@@ -125,7 +126,7 @@ fn status_of(roots: &Ports, port: u8) -> [u8; 4]
 
 /// Whether the call clears C_PORT_CONNECTION.
 fn clears_connection_change(call: PortCall) -> bool
-    ensures { result ≡ is_clear_change call }
+    ensures { result ≡ is_clearing call }
 {
     matches!(call, PortCall::ClearConnectionChange)
 }
