@@ -172,6 +172,9 @@ pub data Course (K : Step → World → Type 0) : World → World → Type 0 whe
   here : (w : World) → Course K w w
   step : (s : Step) {w v : World} → K s w → Course K (after s w) v → Course K w v
 
+abbrev pub AnyStep : Step → World → Type 0
+AnyStep s w = ⊤
+
 -- between two steps no device remembers a packet, and what is so of every port is so
 pub record IsBetween (w : World) : Type 0 where
   pub settled : IsSettled w.roots

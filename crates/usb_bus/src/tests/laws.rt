@@ -1,7 +1,7 @@
 use crate::{
     attempt_at_laws, call_laws, event_laws, events_are_pending, harmless_requests, holder_laws,
     packet_laws, pending_stays, quiet_courses_keep_addresses, reachable_is_the_same,
-    reset_makes_new, reset_makes_reachable, sane_laws,
+    reset_makes_new, reset_makes_reachable, sane_laws, steps_keep_what_is_between,
 };
 
 /// The laws are there to be cited; calling them does nothing.
@@ -19,5 +19,6 @@ fn laws_are_called() {
     pending_stays();
     events_are_pending();
     harmless_requests();
+    steps_keep_what_is_between();
     quiet_courses_keep_addresses();
 }
