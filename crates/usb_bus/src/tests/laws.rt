@@ -1,6 +1,6 @@
 use crate::{
     attempt_at_laws, call_laws, event_laws, events_are_pending, harmless_requests, holder_laws,
-    packet_laws, pending_stays, quiet_courses_keep_addresses, reachable_is_the_same,
+    nobody_is_asked, packet_laws, pending_stays, quiet_courses_keep_addresses, reachable_is_the_same,
     reset_makes_new, reset_makes_reachable, sane_laws,
 };
 
@@ -20,4 +20,5 @@ fn laws_are_called() {
     events_are_pending();
     harmless_requests();
     quiet_courses_keep_addresses();
+    nobody_is_asked();
 }
