@@ -1,5 +1,5 @@
 -- One reachable device holds the address of an attempt: the attempt is an exchange with that device alone.
-use Rattle.std.specs.Prelude.{◌≡◌, ℕ, nat_le, ◌&&◌, ◌||◌, not, if◌then◌else◌, Bool, true, false, List, [], ◌∷◌, length, Option, None, Some}
+use Rattle.std.specs.Prelude.{◌≡◌, ℕ, nat_le, ◌&&◌, ◌||◌, not, if◌then◌else◌, Bool, true, false, List, [], ◌∷◌, length, Option, None, Some, is_some}
 use Rattle.usb_packet.specs.declared.Toggle.{Toggle}
 use Rattle.usb_packet.specs.declared.Toggle.TheVariants.{Zero}
 use Rattle.usb_packet.specs.declared.TokenKind.TheVariants.{OutTok, InTok, SetupTok}
@@ -20,7 +20,7 @@ use Rattle.usb_bus.specs.declared.damage.Damage.{Damage}
 use Rattle.usb_bus.specs.declared.wire.Mark.{Mark}
 use Rattle.usb_bus.specs.declared.wire.Mark.TheVariants as mark
 use Rattle.usb_bus.specs.Live.{address_of}
-use Rattle.usb_bus.specs.Exchange.{token_out, payload_out, reply_out, heard_in, mark_in, outcome_of, ports_in}
+use Rattle.usb_bus.specs.Exchange.{token_out, payload_out, reply_in, reply_out, heard_in, mark_in, outcome_of, ports_in}
 use Rattle.usb_bus.specs.Passes.{deep_at, IsSettled, OneHolds}
 use Rattle.usb_bus.specs.World.{World}
 use Rattle.usb_bus.specs.Steps.{outcome_in, ready, damage_in, attempt, after}
@@ -97,3 +97,34 @@ pub record Holder (n : ℕ) (k : Ports) (j : ℕ) (p : List ℕ) (b : PortState)
 pub record Exchanged (a : Attempt) (damage : Option Damage) (k : Ports) (j : ℕ) (p : List ℕ) (r : Reply) : Type 0 where
   pub outcome : outcome_of (heard_in a damage k) (mark_in a damage k) a.max ≡ got a.max r.0
   pub state : state_at (ports_in a damage k) j p ≡ Some r.1
+
+-- a device hears the packets of an attempt: they are at its speed, and at low speed with PRE where it stands deep
+abbrev pub hears_attempt : Attempt → Bool → State → Bool
+hears_attempt a deep s = if a.low then s.spec.low && (not deep || a.pre) else not s.spec.low
+
+-- each packet of an attempt that goes out comes whole
+pub record AllWhole (a : Attempt) (damage : Option Damage) (k : Ports) (deep : Bool) (s : State) : Type 0 where
+  pub token : token_way a damage deep s ≡ whole
+  pub payload : is_some a.payload ≡ true → payload_way a damage deep s ≡ whole
+  pub answer : answer_way a damage k ≡ whole
+  pub reply : is_some (reply_in a damage k) ≡ true → reply_way a damage k deep s ≡ whole
+
+-- Worlds
+
+-- an attempt is made, by devices that remember nothing
+pub record IsMade (a : Attempt) (w : World) : Type 0 where
+  pub sound : w.fault ≡ None
+  pub within : w.attempts ≡ w.limit → ⊥
+  pub settled : IsSettled w.roots
+
+-- the device that holds its address when it is made; and no address is held twice
+pub record HolderIn (a : Attempt) (w : World) (j : ℕ) (p : List ℕ) (b : PortState) (s : State) (below : Ports) : Type 0 where
+  pub made : IsMade a w
+  pub on : reach_at (ready w).roots j p ≡ true
+  pub stands : place_at (ready w).roots j p ≡ Some (full b s below)
+  pub at : address_of s ≡ a.addr
+  pub single : (after (attempt a) w).shared ≡ false
+
+pub record ExchangedIn (a : Attempt) (w : World) (j : ℕ) (p : List ℕ) (r : Reply) : Type 0 where
+  pub outcome : outcome_in a w ≡ got a.max r.0
+  pub state : state_at (after (attempt a) w).roots j p ≡ Some r.1

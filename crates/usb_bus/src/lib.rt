@@ -20,7 +20,7 @@ pub use bus::Bus;
 pub use damage::{Damage, Damages, Harm};
 pub use event::{Action, Due, Event, Events, SentBytes};
 pub use not_served::{NotServed, served};
-pub use one_holder::nobody_is_asked;
+pub use one_holder::{in_with_one_holder, nobody_is_asked, out_with_one_holder, setup_with_one_holder};
 pub use plan::Plan;
 pub use sim::SimBus;
 pub use types::{Attempt, BusFault, Outcome};

@@ -1,7 +1,8 @@
 use crate::{
     attempt_at_laws, call_laws, event_laws, events_are_pending, harmless_requests, holder_laws,
-    nobody_is_asked, packet_laws, pending_stays, quiet_courses_keep_addresses, reachable_is_the_same,
-    reset_makes_new, reset_makes_reachable, sane_laws,
+    in_with_one_holder, nobody_is_asked, out_with_one_holder, packet_laws, pending_stays,
+    quiet_courses_keep_addresses, reachable_is_the_same, reset_makes_new, reset_makes_reachable,
+    sane_laws, setup_with_one_holder,
 };
 
 /// The laws are there to be cited; calling them does nothing.
@@ -21,4 +22,7 @@ fn laws_are_called() {
     harmless_requests();
     quiet_courses_keep_addresses();
     nobody_is_asked();
+    setup_with_one_holder();
+    in_with_one_holder();
+    out_with_one_holder();
 }
