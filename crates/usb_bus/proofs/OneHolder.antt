@@ -46,7 +46,7 @@ use Rattle.usb_bus.proofs.WorldLaws.{goes}
 
 -- What the host gets
 
-outcome_unread : (h : Heard) (m : Mark) (max : ℕ) → h ≡ Nothing → outcome_of h m max ≡ outcome.Nothing
+pub outcome_unread : (h : Heard) (m : Mark) (max : ℕ) → h ≡ Nothing → outcome_of h m max ≡ outcome.Nothing
 unfolding outcome_of is_read
 outcome_unread h mark.Whole max e = rw e refl
 outcome_unread h mark.Lost max e = refl
@@ -80,7 +80,7 @@ nobody a d k s n =
 
 module _ (deep : Bool) (b : PortState) where
   -- its ports after the packet
-  abbrev ports_by : Option Sent → State → Ports → Ports
+  abbrev pub ports_by : Option Sent → State → Ports → Ports
   ports_by None s a = a
   ports_by (Some q) s a = acted (effect_of q deep s) (after_packet q true a)
 
@@ -147,7 +147,7 @@ way_same : (deep : Bool) (o : Option Sent) (s r : State) → r.spec ≡ s.spec �
 way_same deep None s r e = refl
 way_same deep (Some q) s r e = ap (λ x. if is_heard q deep x.low then content_way q.content else lost) e
 
-remembers : (s : State) → s.memory ≡ memory.Nothing → forgotten s ≡ s
+pub remembers : (s : State) → s.memory ≡ memory.Nothing → forgotten s ≡ s
 remembers s m = ap (λ x. record s { memory = x }) (sym m)
 
 -- An attempt with the device alone
@@ -196,38 +196,38 @@ no_data_good (Some x) h broken max = refl
 no_data_good (Some x) h lost max = refl
 
 module _ (a : Attempt) (d : Option Damage) (k : Ports) (j : ℕ) (p : List ℕ) (b : PortState) (s : State) (below : Ports) (h : Holder a.addr k j p b s below) where
-  abbrev is_deep : Bool
+  abbrev pub is_deep : Bool
   is_deep = deep_at false p
 
-  abbrev own_row : List PortState
+  abbrev pub own_row : List PortState
   own_row = row_of below
 
-  acts : OneActs (token_out a d) (payload_out a d) (reply_out a d k) k j p
+  pub acts : OneActs (token_out a d) (payload_out a d) (reply_out a d k) k j p
   acts = one_device a.addr (token_out a d) (payload_out a d) (reply_out a d k) (goes a d k) k j p h.settled h.one
 
-  rests : s.memory ≡ memory.Nothing
+  pub rests : s.memory ≡ memory.Nothing
   rests = settled_memory k j p s h.settled (sym (state_stands k j p) ∙ ap stands h.stands)
 
   address : s.registers.address ≡ a.addr
   address = same_Some (address_of s) a.addr (sym (ap (option_map address_of) (sym (state_stands k j p) ∙ ap stands h.stands)) ∙ h.one.at)
 
   -- the token, the host's data and its ACK at the device
-  abbrev first : Reply
+  abbrev pub first : Reply
   first = heard_by (token_out a d) is_deep s own_row
 
-  abbrev first_below : Ports
+  abbrev pub first_below : Ports
   first_below = ports_by is_deep b (token_out a d) s below
 
   first_row : row_of first_below ≡ own_row
   first_row = calm_row is_deep b (token_out a d) (token_calm a.addr (token_out a d) (goes a d k).token) s below
 
-  abbrev second : Reply
+  abbrev pub second : Reply
   second = heard_by (payload_out a d) is_deep first.1 own_row
 
-  abbrev second_below : Ports
+  abbrev pub second_below : Ports
   second_below = ports_by is_deep b (payload_out a d) first.1 first_below
 
-  abbrev third : Reply
+  abbrev pub third : Reply
   third = heard_by (reply_out a d k) is_deep second.1 (row_of second_below)
 
   first_place : option_map (passed_place (token_out a d) is_deep) (place_at k j p) ≡ Some (full b first.1 first_below)
@@ -243,10 +243,10 @@ module _ (a : Attempt) (d : Option Damage) (k : Ports) (j : ℕ) (p : List ℕ) 
   second_told = acts.second ∙ ap (told_at (payload_out a d) is_deep) first_place ∙ told_stands is_deep b (payload_out a d) first.1 first_below
       ∙ ap (λ r. listed (heard_by (payload_out a d) is_deep first.1 r).0 []) first_row
 
-  is_heard_in : heard_in a d k ≡ heard_all (listed first.0 [] ++ listed second.0 [])
+  pub is_heard_in : heard_in a d k ≡ heard_all (listed first.0 [] ++ listed second.0 [])
   is_heard_in = ap₂ (λ x y. heard_all (x ++ y)) first_told second_told
 
-  is_state : state_at (ports_in a d k) j p ≡ Some (forgotten third.1)
+  pub is_state : state_at (ports_in a d k) j p ≡ Some (forgotten third.1)
   unfolding ports_in
   is_state =
       sym (state_stands (ports_in a d k) j p)
@@ -292,10 +292,10 @@ module _ (a : Attempt) (d : Option Damage) (k : Ports) (j : ℕ) (p : List ℕ) 
 
   -- IN: the token T
   module _ (T : Packet) (token_is : token_of a ≡ T) (none : payload_of a ≡ None) where
-    abbrev to_in : Reply
+    abbrev pub to_in : Reply
     to_in = through (token_way a d is_deep s) s own_row T
 
-    abbrev good : Bool
+    abbrev pub good : Bool
     good = is_good a.max (heard (answer_way a d k) to_in.0)
 
     first_asked : first ≡ to_in
@@ -310,7 +310,7 @@ module _ (a : Attempt) (d : Option Damage) (k : Ports) (j : ℕ) (p : List ℕ) 
     asked_heard : heard_in a d k ≡ heard_all (listed to_in.0 [])
     asked_heard = is_heard_in ∙ ap₂ (λ x y. heard_all (listed x.0 [] ++ listed y.0 [])) first_asked second_asked ∙ ap heard_all (no_more (listed to_in.0 []))
 
-    asked_reply : reply_of (heard_in a d k) (mark_in a d k) a.max ≡ (if good then Some packet.Ack else None)
+    pub asked_reply : reply_of (heard_in a d k) (mark_in a d k) a.max ≡ (if good then Some packet.Ack else None)
     asked_reply = ap (λ x. reply_of x (mark_in a d k) a.max) asked_heard ∙ reply_told to_in.0 (mark_in a d k) a.max
 
     asked_third : third.1 ≡ (if good then (through (reply_way a d k is_deep s) to_in.1 own_row packet.Ack).1 else to_in.1)
@@ -327,7 +327,7 @@ module _ (a : Attempt) (d : Option Damage) (k : Ports) (j : ℕ) (p : List ℕ) 
 
 -- The three kinds
 
-token_is : (a : Attempt) (t : TokenKind) (n e : ℕ) → a.kind ≡ t → a.addr ≡ n → a.ep ≡ e → token_of a ≡ Token t n e
+pub token_is : (a : Attempt) (t : TokenKind) (n e : ℕ) → a.kind ≡ t → a.addr ≡ n → a.ep ≡ e → token_of a ≡ Token t n e
 unfolding token_of
 token_is a t n e x y z = rw (x, y, z) refl
 
@@ -335,11 +335,11 @@ data_is : (a : Attempt) (t : Toggle) (bytes : ArrayVec ℕ) → a.payload ≡ So
 unfolding payload_of
 data_is a t bytes e = rw e refl
 
-none_is : (a : Attempt) → a.payload ≡ None → payload_of a ≡ None
+pub none_is : (a : Attempt) → a.payload ≡ None → payload_of a ≡ None
 unfolding payload_of
 none_is a e = rw e refl
 
-abbrev replied : Option Answer → State → Reply
+abbrev pub replied : Option Answer → State → Reply
 replied o s = (o, s)
 
 quiet_of : (x y : Bool) (u v w : State) → (if x then replied None u else if y then replied None v else replied None w).0 ≡ None
@@ -406,7 +406,7 @@ module _ (a : Attempt) (d : Option Damage) (k : Ports) (j : ℕ) (p : List ℕ) 
   abbrev t4 : Way
   t4 = reply_way a d k (deep_at false p) s
 
-  its_address : s.registers.address ≡ a.addr
+  pub its_address : s.registers.address ≡ a.addr
   its_address = address a d k j p b s below h
 
   itself : forgotten s ≡ s
@@ -421,7 +421,7 @@ module _ (a : Attempt) (d : Option Damage) (k : Ports) (j : ℕ) (p : List ℕ) 
     out_same e t bytes x y z =
         subst (λ u. out_attempt u (row_of below) s.registers.address e t bytes x y z ≡ out_law u e t bytes x y z) itself (out_is s (row_of below) e t bytes loud x y z)
 
-    in_same : (e max : ℕ) (x y z : Way) → in_attempt s (row_of below) s.registers.address e max x y z ≡ in_law s (row_of below) e max x y z
+    pub in_same : (e max : ℕ) (x y z : Way) → in_attempt s (row_of below) s.registers.address e max x y z ≡ in_law s (row_of below) e max x y z
     in_same e max x y z =
         subst (λ u. in_attempt u (row_of below) s.registers.address e max x y z ≡ in_law u (row_of below) e max x y z) itself (in_is s (row_of below) e max loud x y z)
 
