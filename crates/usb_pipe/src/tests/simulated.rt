@@ -1,137 +1,183 @@
-use crate::{BulkPipe, Bus, InterruptPipe, PipeFault, Setup, Target, control_in, control_none};
+//! Simulated buses with one device at the only root port, and the requests that make it ready.
+ghost use Rattle.std.specs.Prelude.{◌≡◌, ◌≤◌, [], ◌∷◌, true, IfOk};
+ghost use Rattle.usb_bus.specs.PlanData.{damage_fits, damages_fit, harm_fits};
+ghost use Rattle.usb_transaction.specs.Trans.{IsTarget};
+
+use super::devices::{Kind, hub, plain, spec_of};
+use crate::{Bus, PipeFault, Setup, Target, control_in, control_none};
 use std::alloc::Global;
 use std::test::Fail;
-use usb_bus::{Action, Damages, Event, Events, Plan, SimBus, Watched, served};
-use usb_device::{Bytes, ConfigTexts, DeviceSpec, Devices, Name};
+use usb_bus::{Action, Damage, Damages, Event, Events, Harm, Plan, SimBus, Watched};
+use usb_device::Devices;
 use usb_port::PortPath;
-use usb_request::feature::{PORT_POWER, PORT_RESET};
+use usb_request::feature::{C_PORT_CONNECTION, C_PORT_RESET, PORT_POWER, PORT_RESET};
 
-const DEVICE: [u8; 18] = [
-    0x12, 1, 0, 2, 0, 0, 0, 0x40, 0x34, 0x12, 0x78, 0x56, 0, 1, 0, 0, 0, 1,
-];
+/// A damaged packet: the attempt, counted from 1, its packet, 1 to 3, and what happens to it.
+pub(super) type Hit = (u64, u8, Harm);
 
-/// One interface with bulk OUT 2 and bulk IN 2, 64 bytes each.
-const CONFIGURATION: [u8; 32] = [
-    9, 2, 32, 0, 1, 1, 0, 0x80, 50, 9, 4, 0, 0, 2, 0xff, 0, 0, 0, 7, 5, 2, 2, 64, 0, 0, 7, 5, 0x82,
-    2, 64, 0, 0,
-];
-
-/// At its new address.
-const TARGET: Target = Target {
+/// A full-speed device at address 1.
+pub(super) const TARGET: Target = Target {
     addr: 1,
     max: 64,
     low: false,
     pre: false,
 };
 
-/// A bus with one root port, at which a configured device stands at address 1.
-fn bus_with_device(alloc: Global) -> Result<SimBus<Vec<u8>>, Fail> {
-    let mut bus = bus_with_plan(alloc)?;
-    bus.root_set(1, PORT_POWER);
-    bus.apply_next_event()?;
-    bus.root_set(1, PORT_RESET);
-    let reset = Target {
-        addr: 0,
-        max: 8,
-        ..TARGET
-    };
-    control_none(&mut bus, reset, Setup::set_address(1))?;
-    control_none(&mut bus, TARGET, Setup::set_configuration(1))?;
+/// A low-speed device at address 1.
+pub(super) const LOW_TARGET: Target = Target {
+    addr: 1,
+    max: 8,
+    low: true,
+    pre: false,
+};
+
+/// The device stands at port 1, which has power and was reset; these packets are damaged.
+pub(super) fn bus_of(
+    alloc: Global,
+    kind: Kind,
+    limit: u64,
+    hits: &[Hit],
+) -> Result<SimBus<Vec<u8>>, Fail>
+    requires { limit ≤ 10000 }
+{
+    let mut devices = Devices::new(alloc);
+    devices.push(spec_of(alloc, kind)?)?;
+    let mut events = Events::new(alloc);
+    events.push(plug(root(), 0))?;
+    let plan = Plan::new(limit, 1, devices, events, damages_of(alloc, hits)?);
+    let mut bus = begun(alloc, &plan)?;
+    reset(&mut bus)?;
     Ok(bus)
 }
 
-fn bus_with_plan(alloc: Global) -> Result<SimBus<Vec<u8>>, Fail> {
-    let mut configs = ConfigTexts::new(alloc);
-    configs.push(Bytes::new(Vec::from_array(alloc, CONFIGURATION)?))?;
-    let spec = DeviceSpec::function(
-        Name::new(String::from_str(alloc, "bulk")?),
-        Bytes::new(Vec::from_array(alloc, DEVICE)?),
-        configs,
-    )
-    .with_source(Bytes::new(Vec::from_array(alloc, [0xaa, 0xbb, 0xcc])?))
-    .with_halt_after(2);
+/// A hub stands at port 1, which has power and was reset, and a function at the hub's port 1; these packets are damaged.
+pub(super) fn bus_of_hub(alloc: Global, limit: u64, hits: &[Hit]) -> Result<SimBus<Vec<u8>>, Fail>
+    requires { limit ≤ 10000 }
+{
     let mut devices = Devices::new(alloc);
-    devices.push(spec)?;
+    devices.push(hub(alloc)?)?;
+    devices.push(plain(alloc)?)?;
+    let mut below = root();
+    below.push(1);
     let mut events = Events::new(alloc);
-    events.push(Event {
-        after: 0,
-        action: Action::Plug(PortPath::root(1).ok_or("no root port")?, 0),
-    })?;
-    let plan = Plan::new(1000, 1, devices, events, Damages::new(alloc));
-    served(&plan)?;
-    match SimBus::new(alloc, &plan, Watched::new(Vec::new(alloc))) {
+    events.push(plug(root(), 0))?;
+    events.push(plug(below, 1))?;
+    let plan = Plan::new(limit, 1, devices, events, damages_of(alloc, hits)?);
+    let mut bus = begun(alloc, &plan)?;
+    reset(&mut bus)?;
+    bus.apply_next_event()?;
+    Ok(bus)
+}
+
+fn begun(alloc: Global, plan: &Plan) -> Result<SimBus<Vec<u8>>, Fail> {
+    match SimBus::new(alloc, plan, Watched::new(Vec::new(alloc))) {
         Ok(bus) => Ok(bus),
-        Err((fault, _)) => Err(fault)?,
+        Err((error, _writer)) => Err(Fail::from(error)),
     }
 }
 
-#[test]
-fn bulk_out_halts_and_is_cleared(rt: HostRuntime) -> Result<(), Fail> {
-    let alloc = rt.alloc();
-    let mut bus = bus_with_device(alloc)?;
-    let device = control_in(alloc, &mut bus, TARGET, Setup::get_device_descriptor(18))?;
-    assert_eq!(rt; device.as_slice(), DEVICE.as_slice());
-    let mut pipe = BulkPipe::new(TARGET, 2, 64, false);
-    assert_eq!(rt;
-        pipe.send(&mut bus, &[7; 130]).err(),
-        Some(PipeFault::Stalled)
-    );
-    assert_eq!(rt; bus.attempts(), 10);
-    pipe.clear_halt(&mut bus)?;
-    assert_eq!(rt; bus.attempts(), 12);
-    pipe.send(&mut bus, &[1, 2])?;
-    assert_eq!(rt; bus.attempts(), 13);
-    let trace = bus.into_writer().into_inner();
-    let text = str::from_utf8(trace.as_slice())?;
-    assert!(rt; text.ends_with(CLEARED));
+fn reset(bus: &mut SimBus<Vec<u8>>) -> Result<(), Fail> {
+    bus.root_set(1, PORT_POWER);
+    bus.apply_next_event()?;
+    bus.root_clear(1, C_PORT_CONNECTION);
+    bus.root_set(1, PORT_RESET);
+    bus.root_clear(1, C_PORT_RESET);
     Ok(())
 }
 
-const CLEARED: &str = "10 OUT 1.2 / DATA0 0707 / STALL
-11 SETUP 1.0 / DATA0 0201000002000000 / ACK
-12 IN 1.0 / DATA1 - / ACK
-13 OUT 1.2 / DATA0 0102 / ACK
-";
-
-#[test]
-fn bulk_in_is_busy_and_cleared(rt: HostRuntime) -> Result<(), Fail> {
-    let alloc = rt.alloc();
-    let mut bus = bus_with_device(alloc)?;
-    let mut pipe = BulkPipe::new(TARGET, 2, 64, true);
-    let bytes = pipe.receive(alloc, &mut bus, 4)?;
-    assert_eq!(rt; bytes.as_slice(), [0xaa, 0xbb, 0xcc].as_slice());
-    assert_eq!(rt; bus.attempts(), 5);
-    assert_eq!(rt;
-        pipe.receive(alloc, &mut bus, 1).err(),
-        Some(PipeFault::Busy)
-    );
-    assert_eq!(rt; bus.attempts(), 261);
-    assert_eq!(rt;
-        pipe.receive(alloc, &mut bus, 1).err(),
-        Some(PipeFault::Broken)
-    );
-    pipe.clear_halt(&mut bus)?;
-    assert_eq!(rt; bus.attempts(), 263);
-    let trace = bus.into_writer().into_inner();
-    let text = str::from_utf8(trace.as_slice())?;
-    assert!(rt; text.ends_with(BUSY));
-    Ok(())
+fn root() -> PortPath
+    ensures { result ≡ 1 ∷ [] }
+{
+    PortPath::root(1).unwrap()
 }
 
-const BUSY: &str = "261 IN 1.2 / NAK
-262 SETUP 1.0 / DATA0 0201000082000000 / ACK
-263 IN 1.0 / DATA1 - / ACK
-";
+fn plug(path: PortPath, device: usize) -> Event {
+    Event {
+        after: 0,
+        action: Action::Plug(path, device),
+    }
+}
 
-#[test]
-fn an_endpoint_is_polled(rt: HostRuntime) -> Result<(), Fail> {
-    let mut bus = bus_with_device(rt.alloc())?;
-    let mut pipe = InterruptPipe::new(TARGET, 2, 64);
-    let packet = pipe.poll(&mut bus)?.ok_or("no packet")?;
-    assert_eq!(rt; packet.as_slice(), [0xaa, 0xbb, 0xcc].as_slice());
-    assert!(rt; pipe.poll(&mut bus)?.is_none());
-    assert_eq!(rt; bus.attempts(), 6);
-    let mut unserved = InterruptPipe::new(TARGET, 1, 1);
-    assert_eq!(rt; unserved.poll(&mut bus).err(), Some(PipeFault::NoAnswer));
-    Ok(())
+/// Damages to attempts that rise.
+fn damages_of(alloc: Global, hits: &[Hit]) -> Result<Damages, Fail>
+    ensures { IfOk result (λ d. damages_fit 0 d ≡ true) }
+{
+    let mut damages = Damages::new(alloc);
+    let mut last = 0;
+    'hits: for hit in hits {
+        let damage = damage_of(last, *hit)?;
+        if damages.as_slice().len() == 10_000 {
+            return Err(Fail::new("too many packets are damaged"));
+        }
+        damages.push(damage)?;
+        last = damage.attempt;
+    }
+    Ok(damages)
+}
+
+fn damage_of(last: u64, hit: Hit) -> Result<Damage, Fail>
+    ensures { IfOk result (λ d. damage_fits last d ≡ true) }
+{
+    let (attempt, packet, harm) = hit;
+    if attempt <= last || packet < 1 || packet > 3 {
+        return Err(Fail::new("no such packet"));
+    }
+    Ok(Damage {
+        attempt,
+        packet,
+        harm: within(harm),
+    })
+}
+
+/// A bit that a plan may name.
+fn within(harm: Harm) -> Harm
+    ensures { harm_fits result ≡ true }
+{
+    match harm {
+        Harm::Lose => Harm::Lose,
+        Harm::LosePre => Harm::LosePre,
+        Harm::Flip(bit) => Harm::Flip(bit.min(535)),
+    }
+}
+
+/// Reads the descriptors of a device without an address, gives it address 1, and configures it. The device descriptor is
+/// the answer.
+pub(super) fn make_ready<B: Bus>(
+    alloc: Global,
+    bus: &mut B,
+    target: Target,
+) -> Result<Vec<u8>, PipeFault>
+    requires { IsTarget target }
+{
+    let unknown = Target {
+        addr: 0,
+        max: 8,
+        ..target
+    };
+    control_in(alloc, bus, unknown, Setup::get_device_descriptor(8))?;
+    let unnamed = Target { addr: 0, ..target };
+    control_none(bus, unnamed, Setup::set_address(1))?;
+    let device = control_in(alloc, bus, target, Setup::get_device_descriptor(18))?;
+    let head = control_in(alloc, bus, target, Setup::get_configuration_descriptor(0, 9))?;
+    let total = match head.get(2) {
+        Some(total) => u16::from(*total).max(1),
+        None => 1,
+    };
+    let whole = Setup::get_configuration_descriptor(0, total);
+    control_in(alloc, bus, target, whole)?;
+    control_none(bus, target, Setup::set_configuration(1))?;
+    Ok(device)
+}
+
+/// The lines of the bus's trace from the one behind so many on, without those of an IN that was answered by NAK.
+pub(super) fn told(alloc: Global, bus: SimBus<Vec<u8>>, head: usize) -> Result<String, Fail> {
+    let trace = bus.into_writer().into_inner();
+    let mut told = String::new(alloc);
+    for line in str::from_utf8(trace.as_slice())?.lines().skip(head) {
+        if !line.ends_with("/ NAK") {
+            told.push_str(line)?;
+            told.push('\n')?;
+        }
+    }
+    Ok(told)
 }
