@@ -1,4 +1,3 @@
 pub mod Bounds
 pub mod Moves
 pub mod Stages
-pub mod Scripts
