@@ -1,7 +1,8 @@
 -- What the calls on a port leave.
-use Rattle.std.specs.Prelude.{◌≡◌, ℕ, ◌+◌, ◌≤◌, List, length, true, Result, Ok, IsOk}
+use Rattle.std.specs.Prelude.{◌≡◌, ℕ, ◌+◌, ◌≤◌, List, true, Result, Ok, IsOk}
 use Rattle.usb_port.specs.PortState.{status_of}
-use Rattle.usb_bus.specs.World.{World, IsRootPort, SetsRoot, ClearsRoot, Spends, port_at, changes}
+use Rattle.usb_bus.specs.World.{World, IsRootPort, Spends, root_row, roots_of, to_come, port_at, changes}
+use Rattle.usb_bus.specs.Steps.{SetsRoot, ClearsRoot}
 use Rattle.usb_pipe.specs.declared.fault.PipeFault.{PipeFault}
 use Rattle.usb_hub.specs.declared.port.HubPort.{HubPort}
 use Rattle.usb_hub.specs.declared.port.HubPort.TheVariants.{Root}
@@ -27,7 +28,7 @@ pub record Quiet (old new : World) : Type 0 where
   pub taken : new.taken ≡ old.taken
   pub left : new.left ≡ old.left
   pub fault : new.fault ≡ old.fault
-  pub roots : length new.ports ≡ length old.ports
+  pub roots : roots_of new ≡ roots_of old
 
 pub record RootSet {A : Type 0} (number feature : ℕ) (old : World) (result : Result A PipeFault) (new : World) : Type 0 where
   pub done : IsOk result
@@ -35,7 +36,7 @@ pub record RootSet {A : Type 0} (number feature : ℕ) (old : World) (result : R
   pub quiet : Quiet old new
   -- PORT_RESET sets no C_PORT_CONNECTION, PORT_POWER at most this port's
   pub resets : feature ≡ 4 → Spends 0 old new
-  pub powers : changes new.ports ≤ changes old.ports + 1
+  pub powers : changes (root_row new) ≤ changes (root_row old) + 1
 
 pub record RootCleared {A : Type 0} (number feature : ℕ) (old : World) (result : Result A PipeFault) (new : World) : Type 0 where
   pub done : IsOk result
@@ -43,7 +44,7 @@ pub record RootCleared {A : Type 0} (number feature : ℕ) (old : World) (result
   pub quiet : Quiet old new
   pub count : Spends 0 old new
   -- a set C_PORT_CONNECTION that is cleared is one less
-  pub served : feature ≡ 16 → (port_at old number).connection_changed ≡ true → changes new.ports + new.left + 1 ≡ changes old.ports + old.left
+  pub served : feature ≡ 16 → (port_at old number).connection_changed ≡ true → changes (root_row new) + to_come new + 1 ≡ changes (root_row old) + to_come old
 
 abbrev pub PortRead : HubPort → World → Result (List ℕ) PipeFault → World → Type 0
 PortRead (Root number) old result new = RootRead number old result new
