@@ -1,22 +1,20 @@
 -- What the code of an attempt does, packet by packet, is the attempt.
-use Rattle.std.proofs.Common.{◌≡◌, ℕ, ◌+◌, List, [], ◌∷◌, ◌++◌, Bool, false, Option, Some, None, refl, sym, ap, ap₂, ◌∙◌}
-use Rattle.usb_packet.specs.declared.Packet.{Packet}
+use Rattle.std.proofs.Common.{◌≡◌, ◌+◌, List, [], ◌∷◌, ◌++◌, false, Option, Some, None, Result, Ok, Err, OnOk, refl, sym, subst, ap, ap₂, ◌∙◌}
 use Rattle.usb_device.specs.declared.answer.Answer.{Answer}
 use Rattle.usb_device.specs.declared.delivery.Heard.{Heard as HeardBelow}
 use Rattle.usb_device.specs.declared.delivery.Sent.{Sent}
 use Rattle.usb_device.specs.Tree.{Ports, row_of}
-use Rattle.usb_device.specs.Delivery.{answers, after_packet, all_forgotten, heard_of, delivered}
+use Rattle.usb_device.specs.Delivery.{answers, all_forgotten, heard_of, delivered}
 use Rattle.usb_device.proofs.Rows.{row_of-after, row_of-forgotten}
 use Rattle.usb_bus.specs.declared.damage.Damage.{Damage}
 use Rattle.usb_bus.specs.declared.exchange.Exchange.{Exchange}
 use Rattle.usb_bus.specs.declared.exchange.Heard.{Heard}
 use Rattle.usb_bus.specs.declared.types.Attempt.{Attempt}
-use Rattle.usb_bus.specs.declared.wire.Mark.{Mark}
-use Rattle.usb_bus.specs.declared.wire.Outgoing.{Outgoing}
 use Rattle.usb_bus.specs.Wire.{harm_to, marked, marked_some}
 use Rattle.usb_bus.specs.Answering.{joined, heard_from, heard_told}
-use Rattle.usb_bus.specs.Passes.{passed, told}
-use Rattle.usb_bus.specs.Exchange.{token_of, payload_of, answer_place, answer_mark, reply_of, goes_out, heard_all, token_out, payload_in, payload_out, heard_in, place_of_answer, mark_in, reply_in, answered_in, is_lost, lost_in, is_clearing, cleared_in, exchange_in, ports_in}
+use Rattle.usb_bus.specs.Passes.{IsSettled, passed, told}
+use Rattle.usb_bus.proofs.PassLaws.{attempt_settled}
+use Rattle.usb_bus.specs.Exchange.{token_of, payload_of, answer_place, answer_mark, reply_of, goes_out, heard_all, token_out, payload_out, heard_in, mark_in, reply_in, answered_in, is_lost, lost_in, is_clearing, cleared_in, exchange_in, ended_in, ports_in}
 
 heard_all_of : (xs : List Answer) → heard_from (heard_of xs) ≡ heard_all xs
 heard_all_of [] = refl
@@ -43,8 +41,16 @@ joined_all (x ∷ w ∷ xs) ys = refl
 pub over_row : (k m : Ports) → m ≡ all_forgotten k → row_of m ≡ row_of k
 over_row k m e = ap row_of e ∙ row_of-forgotten k
 
+pub over_settled : (k m : Ports) → m ≡ all_forgotten k → IsSettled m
+over_settled k m e = subst IsSettled (sym e) (attempt_settled None None None k)
+
+pub over_ports : {A E : Type 0} (a : Attempt) (d : Option Damage) (k j m : Ports) (r : Result A E) → m ≡ all_forgotten j → OnOk r (j ≡ ended_in a d k) → OnOk r (m ≡ ports_in a d k)
+unfolding ports_in
+over_ports a d k j m (Ok x) e h = e ∙ ap all_forgotten h
+over_ports a d k j m (Err x) e h = h
+
 -- what the code makes, one packet after the other
-pub record Makes (a : Attempt) (damage : Option Damage) (k : Ports) (x : Exchange) (last : Ports) : Type 0 where
+pub record Makes (a : Attempt) (damage : Option Damage) (k : Ports) (x : Exchange) : Type 0 where
   pub first : Ports
   pub second : Ports
   pub third : Ports
@@ -62,9 +68,8 @@ pub record Makes (a : Attempt) (damage : Option Damage) (k : Ports) (x : Exchang
   pub reply : x.reply ≡ marked_some damage (answer_place x.payload + 1) a.pre (reply_of x.answer x.answer_mark a.max)
   pub lost : x.address_lost ≡ is_lost x.reply (goes_out a x.reply) second
   pub reply_passed : third ≡ passed (goes_out a x.reply) second
-  pub over : last ≡ all_forgotten third
 
-module _ (a : Attempt) (damage : Option Damage) (k : Ports) (x : Exchange) (last : Ports) (m : Makes a damage k x last) where
+module _ (a : Attempt) (damage : Option Damage) (k : Ports) (x : Exchange) (m : Makes a damage k x) where
   first_is : m.first ≡ passed (token_out a damage) k
   first_is = m.token_passed ∙ ap (λ t. passed (goes_out a (Some t)) k) m.token
 
@@ -103,6 +108,5 @@ module _ (a : Attempt) (damage : Option Damage) (k : Ports) (x : Exchange) (last
     change_cleared = cleared_is i;
   }
 
-  pub made_ports : last ≡ ports_in a damage k
-  unfolding ports_in
-  made_ports = m.over ∙ ap all_forgotten (m.reply_passed ∙ ap₂ (λ r j. passed (goes_out a r) j) reply_is second_is)
+  pub made_ports : m.third ≡ ended_in a damage k
+  made_ports = m.reply_passed ∙ ap₂ (λ r j. passed (goes_out a r) j) reply_is second_is

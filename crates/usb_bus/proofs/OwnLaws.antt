@@ -1,5 +1,5 @@
 -- Which courses keep each device at its own address, and set no mark.
-use Rattle.std.proofs.Common.{◌≡◌, ℕ, zero, suc, ◌+◌, ◌==◌, ◌&&◌, ◌||◌, not, nat_lt, nat_le, if◌then◌else◌, ◌⊎◌, inl, inr, Bool, true, false, List, [], ◌∷◌, ◌++◌, length, Option, None, Some, option_map, slice_get, is_some, refl, ap, sym, subst, ◌∙◌}
+use Rattle.std.proofs.Common.{◌≡◌, ℕ, zero, suc, ◌+◌, ◌==◌, ◌&&◌, ◌||◌, not, nat_lt, if◌then◌else◌, ◌⊎◌, inl, inr, Bool, true, false, List, [], ◌∷◌, ◌++◌, length, Option, None, Some, option_map, slice_get, is_some, refl, ap, sym, ◌∙◌}
 use Rattle.usb_packet.specs.declared.Packet.{Packet}
 use Rattle.usb_packet.specs.declared.Packet.TheVariants.{Token, Payload, Ack, Sof, Nak, Stall, Pre}
 use Rattle.usb_packet.specs.declared.Toggle.{Toggle}
@@ -24,7 +24,7 @@ use Rattle.usb_device.specs.Bulk.{is_same}
 use Rattle.usb_device.specs.Transfer.{Stage, idle, refused, reading, read, ending}
 use Rattle.usb_request.specs.Layout.{setup_of}
 use Rattle.usb_device.specs.Tree.{Ports, ended, vacant, taken, Place, empty, full, called, replaced, changed, reach, reach_at, state_at, place_at, row_of}
-use Rattle.usb_device.specs.Delivery.{hears, reply_to, answer_of, after_packet, answers, listed, all_forgotten, held, is_twice}
+use Rattle.usb_device.specs.Delivery.{hears, reply_to, answer_of, answers, listed, held, is_twice}
 use Rattle.usb_device.proofs.Kept.{keeps-received}
 use Rattle.usb_bus.specs.declared.damage.Damage.{Damage}
 use Rattle.usb_bus.specs.declared.event.Event.{Event}
@@ -36,14 +36,13 @@ use Rattle.usb_bus.specs.declared.types.BusFault.TheVariants.{LimitReached}
 use Rattle.usb_bus.specs.declared.wire.Mark.{Mark}
 use Rattle.usb_bus.specs.declared.wire.Mark.TheVariants as mark
 use Rattle.usb_bus.specs.Wire.{mark_of, harm_to, marked, marked_some}
-use Rattle.usb_bus.specs.Exchange.{token_of, payload_of, reply_of, sent_as, goes_out, token_out, payload_out, reply_out, heard_all, heard_in, mark_in, place_of_answer, ports_in}
-use Rattle.usb_bus.specs.Live.{address_of, device_of, is_way, same_path, Holds, Two}
+use Rattle.usb_bus.specs.Exchange.{token_of, payload_of, reply_of, sent_as, goes_out, token_out, payload_out, reply_out, heard_all, mark_in, place_of_answer, ports_in}
+use Rattle.usb_bus.specs.Live.{address_of, device_of, is_way, Two}
 use Rattle.usb_bus.specs.Touched.{resets_at, reset_if, call_resets}
 use Rattle.usb_bus.specs.Passes.{passed, told, after_attempt, heard_state, deep_at, pass_resets, attempt_resets}
 use Rattle.usb_bus.specs.World.{World}
-use Rattle.usb_bus.specs.Losses.{after_clearing}
-use Rattle.usb_bus.specs.Steps.{with_plugged, happened, way_of, names, is_due, took, took_first, due_from, ready, damage_in, with_attempt, attempted, event_taken, is_clear_change, Step, attempt, root_call, event, report, after, Course, here, step}
-use Rattle.usb_bus.specs.Courses.{is_made, made_resets, root_resets, resets, address_at, Own, Injective, is_quiet, Quiet, quiet_data, is_harmless, IsHarmlessOut}
+use Rattle.usb_bus.specs.Steps.{with_plugged, happened, way_of, names, is_due, took, took_first, due_from, ready, damage_in, with_attempt, attempted, event_taken, Step, attempt, root_call, event, report, after, Course, here, step}
+use Rattle.usb_bus.specs.Courses.{is_made, made_resets, root_resets, resets, address_at, Own, Injective, is_quiet, Quiet, quiet_data, IsHarmlessOut}
 use Rattle.usb_bus.proofs.Booleans.{no, both, and_of, decided}
 use Rattle.usb_bus.proofs.EventLaws.{event_place}
 use Rattle.usb_bus.proofs.CallLaws.{call_state}

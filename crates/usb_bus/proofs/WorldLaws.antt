@@ -1,10 +1,9 @@
 -- What a step of the world does to reachable, live and pending, and what whole courses do.
 use Rattle.std.proofs.Common.{◌≡◌, ℕ, zero, suc, ◌+◌, ◌==◌, ◌&&◌, not, nat_le, length, if◌then◌else◌, ◌⊎◌, inl, inr, Bool, true, false, List, [], ◌∷◌, ◌++◌, Option, None, Some, slice_get, is_some, refl, ap, sym, subst, ◌∙◌}
 use Rattle.usb_device.specs.declared.calls.PortCall.{PortCall}
-use Rattle.usb_device.specs.declared.delivery.Sent.{Sent}
 use Rattle.usb_device.specs.declared.delivery.Content.TheVariants.{Whole}
 use Rattle.usb_device.specs.Spec.{Spec}
-use Rattle.usb_device.specs.Tree.{Ports, called, replaced, changed, reach, place, reach_at}
+use Rattle.usb_device.specs.Tree.{Ports, called, replaced, changed, reach, place}
 use Rattle.usb_packet.specs.declared.Packet.{Packet}
 use Rattle.usb_packet.specs.declared.Packet.TheVariants as packet
 use Rattle.usb_packet.specs.declared.Toggle.{Toggle}
@@ -23,14 +22,13 @@ use Rattle.usb_bus.specs.declared.wire.Mark.TheVariants as mark
 use Rattle.usb_bus.specs.Wire.{is_read, mark_of, harm_to, marked, marked_some}
 use Rattle.usb_bus.specs.Exchange.{token_of, payload_of, reply_of, sent_as, goes_out, token_out, payload_out, reply_out, heard_in, mark_in, place_of_answer, ports_in}
 use Rattle.usb_bus.specs.Live.{live, pend, is_way}
-use Rattle.usb_bus.specs.Touched.{IsNew, call_resets, call_spares}
-use Rattle.usb_bus.specs.Sane.{IsSane}
-use Rattle.usb_bus.specs.Passes.{IfOut, IsTokenFor, IsDataOut, IsAckOut, IsAttemptAt, attempt_resets, attempt_spares, IsSettled}
+use Rattle.usb_bus.specs.Touched.{IsNew}
+use Rattle.usb_bus.specs.Passes.{IfOut, IsTokenFor, IsDataOut, IsAckOut, IsAttemptAt}
 use Rattle.usb_bus.specs.World.{World}
 use Rattle.usb_bus.specs.Losses.{after_clearing}
 use Rattle.usb_bus.specs.Steps.{with_plugged, happened, way_of, names, is_due, took, took_first, due_from, ready, damage_in, with_attempt, attempted, event_taken, is_clear_change, Step, attempt, root_call, event, report, after, Course, here, step}
-use Rattle.usb_bus.specs.Courses.{NoneNames, Undisturbed, at_path, is_made, made_resets, made_spares, root_resets, root_spares, resets, spares_step, Reached, Keeps, NoReset, Spares}
-use Rattle.usb_bus.proofs.Booleans.{no, both, decided}
+use Rattle.usb_bus.specs.Courses.{NoneNames, Undisturbed, is_made, made_resets, made_spares, root_resets, root_spares, resets, spares_step, Reached, Keeps, NoReset, Spares}
+use Rattle.usb_bus.proofs.Booleans.{no, decided}
 use Rattle.usb_bus.proofs.EventLaws.{event_reach, event_live, event_pend}
 use Rattle.usb_bus.proofs.CallLaws.{call_new, call_reach, call_live, call_pend}
 use Rattle.usb_bus.proofs.PassLaws.{attempt_reach, attempt_new, attempt_pend, attempt_live}

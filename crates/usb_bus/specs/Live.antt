@@ -2,7 +2,7 @@
 use Rattle.std.specs.Prelude.{◌≡◌, ℕ, zero, suc, ◌&&◌, ◌||◌, Bool, true, false, List, [], ◌∷◌, Option, None, Some, option_map}
 use Rattle.usb_port.specs.PortState.{PortState}
 use Rattle.usb_device.specs.Rows.{State}
-use Rattle.usb_device.specs.Tree.{Ports, ended, vacant, taken, Place, reach_at, state_at, port_at}
+use Rattle.usb_device.specs.Tree.{Ports, ended, vacant, taken, reach_at, state_at, port_at}
 
 -- whether a port stands at a path, and it and each port on its way is powered
 unfoldable pub live_at : Ports → ℕ → List ℕ → Bool

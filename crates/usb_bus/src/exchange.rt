@@ -1,11 +1,11 @@
 //! One attempt: the host's packets go to the devices, and their answers come together.
-ghost use Rattle.std.specs.Prelude.{◌≡◌, ◌≤◌, true, Some, IfOk, IfSome};
+ghost use Rattle.std.specs.Prelude.{◌≡◌, ◌≤◌, true, Some, IfOk, IfSome, OnOk};
 ghost use Rattle.usb_packet.specs.Spelling.{HasFields};
 ghost use Rattle.usb_device.specs.Tree.{row_of};
 ghost use Rattle.usb_bus.specs.World.{IsAttempt, FitsMaximum};
 ghost use Rattle.usb_bus.specs.Wire.{has_its_bit};
-ghost use Rattle.usb_bus.specs.Exchange.{token_of, payload_of, answer_place, answer_mark, reply_of, outcome_of, exchange_in, ports_in, goes_out, sent_as, is_lost, is_clearing};
-ghost use Rattle.usb_bus.specs.Passes.{passed, told};
+ghost use Rattle.usb_bus.specs.Exchange.{token_of, payload_of, answer_place, answer_mark, reply_of, outcome_of, exchange_in, ended_in, ports_in, goes_out, sent_as, is_lost, is_clearing};
+ghost use Rattle.usb_bus.specs.Passes.{IsSettled, passed, told};
 ghost use Rattle.usb_bus.specs.Answering.{joined, heard_from, heard_told};
 
 use crate::damage::{Damage, Harm};
@@ -67,7 +67,8 @@ pub(crate) struct Exchange {
 }
 
 /// Makes an attempt: the token, then the data, one of them; then what the host says to the answer.
-#[tactic(auto, unfolding(crate::specs::Exchange::exchange_in, crate::specs::Exchange::ports_in))]
+/// After it no device remembers a packet, also where memory was refused.
+#[tactic(auto, using(crate::proofs::Exchanges::over_row, crate::proofs::Exchanges::over_settled, crate::proofs::Exchanges::over_ports))]
 pub(crate) fn make_exchange(
     roots: &mut Ports,
     attempt: &Attempt,
@@ -75,8 +76,24 @@ pub(crate) fn make_exchange(
 ) -> Result<Exchange, AllocError>
     requires { IsAttempt attempt.now }
     ensures row { row_of roots.new ≡ row_of roots.old }
+    ensures settled { IsSettled roots.new }
     ensures made { IfOk result (λ made. made ≡ exchange_in attempt.now damage roots.old) }
-    ensures ports { IfOk result (λ made. roots.new ≡ ports_in attempt.now damage roots.old) }
+    ensures ports { OnOk result (roots.new ≡ ports_in attempt.now damage roots.old) }
+{
+    let made = send_packets(roots, attempt, damage);
+    roots.attempt_over();
+    made
+}
+
+fn send_packets(
+    roots: &mut Ports,
+    attempt: &Attempt,
+    damage: Option<Damage>,
+) -> Result<Exchange, AllocError>
+    requires { IsAttempt attempt.now }
+    ensures row { row_of roots.new ≡ row_of roots.old }
+    ensures made { IfOk result (λ made. made ≡ exchange_in attempt.now damage roots.old) }
+    ensures ports { OnOk result (roots.new ≡ ended_in attempt.now damage roots.old) }
 {
     let token = marked(damage, 1, attempt.pre, token_of(attempt));
     let to_token = send(roots, attempt, &token)?;
@@ -89,7 +106,6 @@ pub(crate) fn make_exchange(
     let reply = reply_of(&answer, answer_mark, attempt.max);
     let reply = marked_some(damage, place + 1, attempt.pre, reply);
     let address_lost = send_reply(roots, attempt, &reply)?;
-    roots.attempt_over();
     Ok(Exchange {
         token,
         payload,
