@@ -2,7 +2,7 @@
 ghost use Rattle.std.specs.Prelude.{◌≡◌, ◌≢◌, ◌≤◌, ◌<◌, ◌+◌, ◌*◌, ◌↔◌, ℕ, [], ◌∷◌, true, false, length, map, IsTrue, IsErrOf, OnOk, OnErr, IfOk, IfErr, IsErr, Ok, Err};
 ghost use Rattle.std.specs.Borrow.{Lends, sem};
 ghost use Rattle.std.specs.FinSet as set;
-ghost use Rattle.usb_bus.specs.World.{World, Spends, IsRootPort, IsClearFeature, changes, port_at};
+ghost use Rattle.usb_bus.specs.World.{World, Spends, IsRootPort, IsClearFeature, root_row, to_come, changes, port_at};
 ghost use Rattle.usb_hub.specs.Status.{Shows};
 ghost use Rattle.usb_enum.specs.Bounds.{enumeration_bound};
 ghost use Rattle.std.specs.BTreeMap.{insert_entry};
@@ -52,10 +52,11 @@ impl<B: Bus> Model for Host<B> {
     ghost use Rattle.std.specs.Coded.{codes, coded_ℕ};
     ghost use Rattle.std.specs.FinSet as set;
     ghost use Rattle.std.specs.Ordering.{nat_cmp};
+    ghost use Rattle.usb_device.specs.Stored.{ports_code};
     ghost use Rattle.usb_host.specs.Accounts.{Accounts};
     ghost use Rattle.usb_host.specs.Hosting.{Hosting};
 
-    ghost coded = { Prim.hlevel (codes, set.code {R = nat_cmp} coded_ℕ) };
+    ghost coded = { Prim.hlevel (codes, ports_code, set.code {R = nat_cmp} coded_ℕ) };
 
     ghost Value = { Hosting };
 
@@ -142,7 +143,7 @@ impl<B: Bus> Host<B> {
         ensures spends { Spends (7 * enumeration_bound) self.old.world self.new.world }
         ensures told { IfErr result (λ fault. HostTold fault self.new.world) }
         ensures worked { result ≡ Ok Round.Worked → work self.new.world < work self.old.world }
-        ensures quiet { result ≡ Ok Round.Quiet → (self.new ≡ self.old) × (changes self.old.world.ports ≡ 0) }
+        ensures quiet { result ≡ Ok Round.Quiet → (self.new ≡ self.old) × (changes (root_row self.old.world) ≡ 0) }
     {
         if self.stopped {
             return Err(HostFault::Stopped);
@@ -164,7 +165,7 @@ impl<B: Bus> Host<B> {
         ensures spends { Spends (7 * enumeration_bound) self.old.world self.new.world }
         ensures told { IfErr result (λ fault. HostTold fault self.new.world) }
         ensures worked { result ≡ Ok Round.Worked → work self.new.world < work self.old.world }
-        ensures quiet { result ≡ Ok Round.Quiet → (self.new ≡ self.old) × (changes self.old.world.ports ≡ 0) }
+        ensures quiet { result ≡ Ok Round.Quiet → (self.new ≡ self.old) × (changes (root_row self.old.world) ≡ 0) }
     {
         let mut round = Round::Quiet;
         let roots = self.bus.root_ports();
@@ -196,7 +197,7 @@ impl<B: Bus> Host<B> {
         requires named { IsClearFeature feature }
         ensures others { self.new ≡ record self.old { world = self.new.world } }
         ensures spends { Spends 0 self.old.world self.new.world }
-        ensures served { feature ≡ 16 → (port_at self.old.world port).connection_changed ≡ true → changes self.new.world.ports + self.new.world.left + 1 ≡ changes self.old.world.ports + self.old.world.left }
+        ensures served { feature ≡ 16 → (port_at self.old.world port).connection_changed ≡ true → changes (root_row self.new.world) + to_come self.new.world + 1 ≡ changes (root_row self.old.world) + to_come self.old.world }
     {
         // a root port is a register, and never fails
         let _ = clear_port(&mut self.bus, HubPort::Root(port), feature);
