@@ -1,7 +1,7 @@
 -- What runs leave of a bus's world.
 use Rattle.std.specs.Prelude.{◌≡◌, ℕ, ◌+◌, ◌≤◌, Bool, true, false, if◌then◌else◌}
 use Rattle.usb_bus.specs.PlanData.{PlanData}
-use Rattle.usb_bus.specs.World.{World, Spends}
+use Rattle.usb_bus.specs.World.{World, Spends, to_come}
 use Rattle.usb_bus.specs.declared.types.BusFault.{BusFault}
 use Rattle.usb_bus.specs.declared.types.BusFault.TheVariants as bus
 use Rattle.usb_main.specs.declared.runs.RunFault.{RunFault}
@@ -31,4 +31,4 @@ IsCaused TraceFailed w = Unit {0}
 
 -- how many items are to come at most
 abbrev pub items_left : Bool → World → ℕ
-items_left over w = w.left + (if over then 0 else 1)
+items_left over w = to_come w + (if over then 0 else 1)

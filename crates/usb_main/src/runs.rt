@@ -1,7 +1,7 @@
 //! Runs of a plan.
 ghost use Rattle.std.specs.Prelude.{◌≡◌, ◌≢◌, ◌≤◌, ◌<◌, false, true, None, Ok, Err, OnOk, OnErr, IfOk, IfErr, IsSome};
 ghost use Rattle.usb_bus.specs.Served.{served_of};
-ghost use Rattle.usb_bus.specs.World.{Spends, changes};
+ghost use Rattle.usb_bus.specs.World.{Spends, root_row, to_come, changes};
 ghost use Rattle.usb_bus.specs.Sim.{world_of, writer_of};
 ghost use Rattle.usb_bus.specs.Steps.{opening, PutLine};
 ghost use Rattle.usb_host.specs.Hosting.{work};
@@ -74,7 +74,7 @@ pub fn settle<W: Write>(host: &mut Host<SimBus<W>>) -> Result<(), RunFault>
     ensures goes { Goes host.old.world host.new.world }
     ensures running { OnOk result (host.new.stopped ≡ false) }
     // No root port has its change of connection set.
-    ensures settled { OnOk result (changes host.new.world.ports ≡ 0) }
+    ensures settled { OnOk result (changes (root_row host.new.world) ≡ 0) }
     ensures caused { IfErr result (λ fault. IsCaused fault host.new.world) }
 {
     'rounds: loop {
@@ -93,7 +93,7 @@ fn round_of<W: Write>(host: &mut Host<SimBus<W>>) -> Result<Round, RunFault>
     ensures goes { Goes host.old.world host.new.world }
     ensures running { OnOk result (host.new.stopped ≡ false) }
     ensures worked { result ≡ Ok Round.Worked → work host.new.world < work host.old.world }
-    ensures quiet { result ≡ Ok Round.Quiet → (host.new ≡ host.old) × (changes host.old.world.ports ≡ 0) }
+    ensures quiet { result ≡ Ok Round.Quiet → (host.new ≡ host.old) × (changes (root_row host.old.world) ≡ 0) }
     ensures caused { IfErr result (λ fault. IsCaused fault host.new.world) }
 {
     match host.round() {
@@ -196,7 +196,7 @@ impl<W: Write> Runner<W> {
         ensures over { self.new.over ≡ self.old.over }
         ensures running { OnOk result (self.new.host.stopped ≡ false) }
         ensures caused { IfErr result (λ fault. IsCaused fault self.new.host.world) }
-        ensures fewer { IfOk result (λ due. IsSome due → self.new.host.world.left < self.old.host.world.left) }
+        ensures fewer { IfOk result (λ due. IsSome due → to_come self.new.host.world < to_come self.old.host.world) }
     {
         settle(&mut self.host)?;
         Ok(self.host.bus_mut().apply_next_event()?)
