@@ -3,7 +3,7 @@ ghost use Rattle.std.specs.Prelude.{◌≡◌, ◌≢◌, ◌≤◌, ◌<◌, �
 ghost use Rattle.std.specs.Borrow.{Lends, sem};
 ghost use Rattle.std.specs.FinSet as set;
 ghost use Rattle.usb_bus.specs.World.{World, Spends, IsRootPort, IsClearFeature, root_row, to_come, changes, port_at};
-ghost use Rattle.usb_hub.specs.Status.{Shows};
+ghost use Rattle.usb_port.specs.Status.{seen};
 ghost use Rattle.usb_enum.specs.Bounds.{enumeration_bound};
 ghost use Rattle.std.specs.BTreeMap.{insert_entry};
 ghost use Rattle.usb_port.specs.Order.{path_cmp};
@@ -19,8 +19,8 @@ use std::alloc::{AllocError, Global};
 use std::marker::Model;
 use usb_bus::Bus;
 use usb_enum::{EnumFault, Finding, enumerate};
-use usb_hub::{HubPort, PortStatus, clear_port, port_status};
-use usb_port::PortPath;
+use usb_hub::{HubPort, clear_port, port_status};
+use usb_port::{PortPath, PortStatus};
 use usb_request::feature::{
     C_PORT_CONNECTION, C_PORT_ENABLE, C_PORT_RESET, PORT_ENABLE, PORT_POWER,
 };
@@ -170,7 +170,7 @@ impl<B: Bus> Host<B> {
         let mut round = Round::Quiet;
         let roots = self.bus.root_ports();
         'ports: for port in 1..roots + 1 {
-            if self.status(port).connection_changed() {
+            if self.status(port).connection_changed {
                 self.handle(port)?;
                 round = Round::Worked;
             }
@@ -181,7 +181,7 @@ impl<B: Bus> Host<B> {
     /// The status of a root port.
     fn status(&mut self, port: u8) -> PortStatus
         requires { IsRootPort self.old.world port }
-        ensures shows { Shows (port_at self.old.world port) result }
+        ensures shows { result ≡ seen (port_at self.old.world port) }
         ensures same { self.new ≡ self.old }
     {
         match port_status(self.alloc, &mut self.bus, HubPort::Root(port)) {
@@ -214,7 +214,7 @@ impl<B: Bus> Host<B> {
         ensures served { (port_at self.old.world port).connection_changed ≡ true → work self.new.world < work self.old.world }
     {
         let status = self.status(port);
-        if !status.connection_changed() {
+        if !status.connection_changed {
             self.tidy(port, status);
             return Ok(());
         }
@@ -228,10 +228,10 @@ impl<B: Bus> Host<B> {
         ensures others { self.new ≡ record self.old { world = self.new.world } }
         ensures spends { Spends 0 self.old.world self.new.world }
     {
-        if status.enable_changed() {
+        if status.enable_changed {
             self.clear(port, C_PORT_ENABLE);
         }
-        if status.reset_changed() {
+        if status.reset_changed {
             self.clear(port, C_PORT_RESET);
         }
     }
@@ -247,12 +247,12 @@ impl<B: Bus> Host<B> {
         ensures entries { Replaced (port ∷ []) (without (port ∷ []) self.old.entries) self.new.entries }
     {
         let status = self.status(port);
-        if status.is_enabled() {
+        if status.enabled {
             self.clear(port, PORT_ENABLE);
         }
         let path = root_path(port);
         self.forget(&path);
-        if status.is_connected() {
+        if status.connected {
             self.discover(port, path)?;
         }
         Ok(())

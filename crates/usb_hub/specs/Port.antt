@@ -1,12 +1,12 @@
 -- What the calls on a port leave.
-use Rattle.std.specs.Prelude.{◌≡◌, ℕ, ◌+◌, ◌≤◌, List, true, Result, Ok, IsOk}
-use Rattle.usb_port.specs.PortState.{status_of}
+use Rattle.std.specs.Prelude.{◌≡◌, ℕ, ◌+◌, ◌≤◌, true, Result, Ok, IsOk}
+use Rattle.usb_port.specs.Status.{seen}
+use Rattle.usb_port.specs.declared.status.PortStatus.{PortStatus}
 use Rattle.usb_bus.specs.World.{World, IsRootPort, Spends, root_row, roots_of, to_come, port_at, changes}
 use Rattle.usb_bus.specs.Steps.{SetsRoot, ClearsRoot}
 use Rattle.usb_pipe.specs.declared.fault.PipeFault.{PipeFault}
 use Rattle.usb_hub.specs.declared.port.HubPort.{HubPort}
 use Rattle.usb_hub.specs.declared.port.HubPort.TheVariants.{Root}
-use Rattle.usb_hub.specs.Status.{Shows}
 
 abbrev pub IsPort : World → HubPort → Type 0
 IsPort w (Root number) = IsRootPort w number
@@ -15,10 +15,9 @@ IsPort w (Root number) = IsRootPort w number
 abbrev pub port_bound : HubPort → ℕ
 port_bound (Root number) = 0
 
--- the answer is the port's status, and nothing has changed
-pub record RootRead (number : ℕ) (old : World) (result : Result (List ℕ) PipeFault) (new : World) : Type 0 where
-  pub status : result ≡ Ok (status_of (port_at old number))
-  pub shows : Shows (port_at old number) (status_of (port_at old number))
+-- the answer is what the port's status says of it, and nothing has changed
+pub record RootRead (number : ℕ) (old : World) (result : Result PortStatus PipeFault) (new : World) : Type 0 where
+  pub status : result ≡ Ok (seen (port_at old number))
   pub same : new ≡ old
 
 -- no attempt was made and no event applied
@@ -46,7 +45,7 @@ pub record RootCleared {A : Type 0} (number feature : ℕ) (old : World) (result
   -- a set C_PORT_CONNECTION that is cleared is one less
   pub served : feature ≡ 16 → (port_at old number).connection_changed ≡ true → changes (root_row new) + to_come new + 1 ≡ changes (root_row old) + to_come old
 
-abbrev pub PortRead : HubPort → World → Result (List ℕ) PipeFault → World → Type 0
+abbrev pub PortRead : HubPort → World → Result PortStatus PipeFault → World → Type 0
 PortRead (Root number) old result new = RootRead number old result new
 
 abbrev pub PortSet : {A : Type 0} → HubPort → ℕ → World → Result A PipeFault → World → Type 0
