@@ -26,13 +26,13 @@ fn reset<B: Bus>(alloc: Global, bus: &mut B, port: HubPort) -> Result<bool, Stop
 {
     at_port(set_port(bus, port, PORT_RESET))?;
     let status = at_port(port_status(alloc, bus, port))?;
-    if !status.is_enabled() {
+    if !status.enabled {
         return Err(Stop::Refused(Cause::Lost));
     }
-    if status.reset_changed() {
+    if status.reset_changed {
         at_port(clear_port(bus, port, C_PORT_RESET))?;
     }
-    Ok(status.is_low_speed())
+    Ok(status.low_speed)
 }
 
 /// Whether PRE goes before packets to a low-speed device at the port (8.6.5).

@@ -72,7 +72,7 @@ fn refusal<const N: usize>(
     match enumerate(alloc, &mut bus, &mut pool, PORT, 2, supply)? {
         Finding::Device(_) => Ok(None),
         Finding::Refused(cause) => {
-            assert!(rt; !port_status(alloc, &mut bus, PORT)?.is_enabled());
+            assert!(rt; !port_status(alloc, &mut bus, PORT)?.enabled);
             assert_eq!(rt; pool.take().map(|address| address.number()), Some(1));
             Ok(Some(cause))
         }

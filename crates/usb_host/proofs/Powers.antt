@@ -1,49 +1,64 @@
 -- The root ports get power one by one.
-use Rattle.std.proofs.Common.{◌≡◌, ◌∙◌, refl, ap, arith, suc, zero}
-use Rattle.std.specs.Prelude.{ℕ, ◌-◌, ◌<◌, ◌≤◌, List, [], ◌∷◌, length, map, slice_set, slice_index_or}
-use Rattle.usb_port.specs.PortState.{PortState, off, powered_on, set_row}
-use Rattle.usb_bus.specs.World.{World, SetsRoot, port_at, with_port}
+use Rattle.std.proofs.Common.{◌≡◌, ◌∙◌, refl, sym, ap, arith, suc, zero}
+use Rattle.std.specs.Prelude.{ℕ, ◌-◌, ◌≤◌, [], length}
+use Rattle.usb_port.specs.PortState.{powered_on}
+use Rattle.usb_device.specs.Calls.{set_call}
+use Rattle.usb_device.specs.declared.calls.PortCall.TheVariants.{SetPower}
+use Rattle.usb_device.specs.Tree.{Ports, ended, vacant, taken, called, changed_at, row_of}
+use Rattle.usb_bus.specs.World.{World, roots_of}
+use Rattle.usb_bus.specs.Steps.{SetsRoot, after, root_call}
+use Rattle.usb_host.specs.Hosting.{with_power}
 
 -- the first so many ports have power
-pub powered_upto : ℕ → List PortState → List PortState
-powered_upto zero ps = ps
-powered_upto (suc k) [] = []
-powered_upto (suc k) (p ∷ ps) = powered_on p ∷ powered_upto k ps
+pub powered_upto : ℕ → Ports → Ports
+powered_upto zero k = k
+powered_upto (suc n) ended = ended
+powered_upto (suc n) (vacant b k) = vacant (powered_on b) (powered_upto n k)
+powered_upto (suc n) (taken b s a k) = taken (powered_on b) s a (powered_upto n k)
 
 abbrev pub powered_world : ℕ → World → World
-powered_world k w = record w { ports = powered_upto k w.ports }
+powered_world n w = record w { roots = powered_upto n w.roots }
 
-length_upto : (k : ℕ) (ps : List PortState) → length (powered_upto k ps) ≡ length ps
-unfolding powered_upto
-length_upto zero ps = refl
-length_upto (suc k) [] = refl
-length_upto (suc k) (p ∷ ps) = omega (arith, length_upto k ps)
+length_upto : (n : ℕ) (k : Ports) → length (row_of (powered_upto n k)) ≡ length (row_of k)
+unfolding powered_upto row_of
+length_upto zero k = refl
+length_upto (suc n) ended = refl
+length_upto (suc n) (vacant b k) = ap (λ m. suc m) (length_upto n k)
+length_upto (suc n) (taken b s a k) = ap (λ m. suc m) (length_upto n k)
 
-set_one : (k : ℕ) (ps : List PortState) → k < length ps → slice_set (powered_upto k ps) k (powered_on (slice_index_or (powered_upto k ps) k off)) ≡ powered_upto (suc k) ps
-unfolding powered_upto
-set_one k [] lt = absurd (omega (arith, lt))
-set_one zero (p ∷ ps) lt = refl
-set_one (suc k) (p ∷ ps) lt = ap (λ qs. powered_on p ∷ qs) (set_one k ps (omega (arith, lt)))
+set_one : (n : ℕ) (k : Ports) → changed_at (called SetPower) (powered_upto n k) n [] ≡ powered_upto (suc n) k
+unfolding powered_upto changed_at
+set_one zero ended = refl
+set_one zero (vacant b k) = refl
+set_one zero (taken b s a k) = refl
+set_one (suc n) ended = refl
+set_one (suc n) (vacant b k) = ap (λ r. vacant (powered_on b) r) (set_one n k)
+set_one (suc n) (taken b s a k) = ap (λ r. taken (powered_on b) s a r) (set_one n k)
 
-all_upto : (ps : List PortState) → powered_upto (length ps) ps ≡ map powered_on ps
-unfolding powered_upto
-all_upto [] = refl
-all_upto (p ∷ ps) = ap (λ qs. powered_on p ∷ qs) (all_upto ps)
+all_upto : (k : Ports) → powered_upto (length (row_of k)) k ≡ with_power k
+unfolding powered_upto row_of with_power
+all_upto ended = refl
+all_upto (vacant b k) = ap (λ r. vacant (powered_on b) r) (all_upto k)
+all_upto (taken b s a k) = ap (λ r. taken (powered_on b) s a r) (all_upto k)
 
-pub powered_length : (k : ℕ) (w0 w : World) → w ≡ powered_world k w0 → length w.ports ≡ length w0.ports
-powered_length k w0 w e = ap (λ v. length v.ports) e ∙ length_upto k w0.ports
+pub powered_length : (n : ℕ) (w0 w : World) → w ≡ powered_world n w0 → roots_of w ≡ roots_of w0
+powered_length n w0 w e = ap (λ v. roots_of v) e ∙ length_upto n w0.roots
 
 pub powered_none : (w : World) → w ≡ powered_world 0 w
 unfolding powered_upto
 powered_none w = refl
 
-pub powers_one : (w0 w v : World) (port : ℕ) → 1 ≤ port → port ≤ length w0.ports → w ≡ powered_world (port - 1) w0 → SetsRoot port 8 w v → v ≡ powered_world port w0
-unfolding port_at set_row
-powers_one w0 w v port least most e s =
-    let k : ℕ = port - 1 in
-    let next : suc k ≡ port = omega (arith, least) in
-    let made = set_one k w0.ports (omega (arith, least, most)) in
-    s.row ∙ ap (λ x. with_port port (powered_on (port_at x port)) x) e ∙ ap (λ ps. record w0 { ports = ps }) made ∙ ap (λ n. powered_world n w0) next
+powers_next : (w0 : World) (n : ℕ) → after (root_call SetPower (suc n)) (powered_world n w0) ≡ powered_world (suc n) w0
+unfolding after
+powers_next w0 n = ap (λ r. record w0 { roots = r }) (set_one n w0.roots)
 
-pub powered_all : (w0 w : World) (n : ℕ) → n ≡ length w0.ports → w ≡ powered_world n w0 → w ≡ record w0 { ports = map powered_on w0.ports }
-powered_all w0 w n e h = h ∙ ap (λ k. powered_world k w0) e ∙ ap (λ ps. record w0 { ports = ps }) (all_upto w0.ports)
+pub powers_one : (w0 w v : World) (port : ℕ) → 1 ≤ port → w ≡ powered_world (port - 1) w0 → SetsRoot port 8 w v → v ≡ powered_world port w0
+unfolding set_call
+powers_one w0 w v port least e s =
+    let n : ℕ = port - 1 in
+    let next : suc n ≡ port = omega (arith, least) in
+    s.step SetPower refl ∙ ap (λ x. after (root_call SetPower port) x) e ∙ ap (λ m. after (root_call SetPower m) (powered_world n w0)) (sym next)
+    ∙ powers_next w0 n ∙ ap (λ m. powered_world m w0) next
+
+pub powered_all : (w0 w : World) (n : ℕ) → n ≡ roots_of w0 → w ≡ powered_world n w0 → w ≡ record w0 { roots = with_power w0.roots }
+powered_all w0 w n e h = h ∙ ap (λ m. powered_world m w0) e ∙ ap (λ r. record w0 { roots = r }) (all_upto w0.roots)

@@ -2,7 +2,7 @@
 use Rattle.std.proofs.Common.{◌≡◌, refl, arith, subst, suc, zero, false}
 use Rattle.std.specs.Prelude.{ℕ, ◌+◌, ◌-◌, ◌<◌, ◌≤◌, List, [], ◌∷◌, length, slice_index_or}
 use Rattle.usb_port.specs.PortState.{PortState, off}
-use Rattle.usb_bus.specs.World.{World, port_at, change_of, changes}
+use Rattle.usb_bus.specs.World.{World, root_row, roots_of, port_at, change_of, changes}
 
 no_change : (p : PortState) → p.connection_changed ≡ false → change_of p ≡ 0
 unfolding change_of
@@ -13,10 +13,10 @@ unfolding changes
 no_changes [] h = refl
 no_changes (p ∷ ps) h = omega (arith, no_change p (h zero (omega arith)), no_changes ps (λ i lt. h (suc i) (omega (arith, lt))))
 
-pub none_changed : (w : World) (n : ℕ) → length w.ports < n → ((k : ℕ) → 1 ≤ k → k < n → (port_at w k).connection_changed ≡ false) → changes w.ports ≡ 0
+pub none_changed : (w : World) (n : ℕ) → roots_of w < n → ((k : ℕ) → 1 ≤ k → k < n → (port_at w k).connection_changed ≡ false) → changes (root_row w) ≡ 0
 unfolding port_at
 none_changed w n lt h =
-    no_changes w.ports (λ i inside.
+    no_changes (root_row w) (λ i inside.
     let back : (i + 1) - 1 ≡ i = omega arith in
-    let P : ℕ → Type 0 = λ k. (slice_index_or w.ports k off).connection_changed ≡ false in
+    let P : ℕ → Type 0 = λ k. (slice_index_or (root_row w) k off).connection_changed ≡ false in
     subst P back (h (i + 1) (omega arith) (omega (arith, inside, lt))))

@@ -1,8 +1,9 @@
 -- A host, as its callers see it.
-use Rattle.std.specs.Prelude.{◌≡◌, ℕ, ◌+◌, Bool, false, [], map}
+use Rattle.std.specs.Prelude.{◌≡◌, ℕ, ◌+◌, Bool, false, []}
 use Rattle.std.specs.FinSet as set
 use Rattle.usb_port.specs.PortState.{powered_on}
-use Rattle.usb_bus.specs.World.{World, changes}
+use Rattle.usb_device.specs.Tree.{Ports, ended, vacant, taken}
+use Rattle.usb_bus.specs.World.{World, root_row, to_come, changes}
 use Rattle.usb_resources.specs.Pool.{Addresses, Releases}
 use Rattle.usb_enum.specs.declared.finding.Finding.{Finding}
 use Rattle.usb_enum.specs.declared.finding.Finding.TheVariants.{Device, Refused}
@@ -14,13 +15,19 @@ pub record Hosting : Type 0 where
   pub addresses : Addresses  -- those that are taken
   pub stopped : Bool
 
+-- each port of a row has power, and what is on it stays
+unfoldable pub with_power : Ports → Ports
+with_power ended = ended
+with_power (vacant b k) = vacant (powered_on b) (with_power k)
+with_power (taken b s a k) = taken (powered_on b) s a (with_power k)
+
 -- the root ports have power, and no device is known
 abbrev pub opening : World → Hosting
-opening w = record { world = record w { ports = map powered_on w.ports }; entries = []; addresses = set.empty; stopped = false }
+opening w = record { world = record w { roots = with_power w.roots }; entries = []; addresses = set.empty; stopped = false }
 
 -- the change bits that are set and the events to come
 abbrev pub work : World → ℕ
-work w = changes w.ports + w.left
+work w = changes (root_row w) + to_come w
 
 -- a device that goes frees its address
 abbrev pub Frees : Finding → Addresses → Addresses → Type 0

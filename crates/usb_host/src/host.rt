@@ -2,8 +2,8 @@
 ghost use Rattle.std.specs.Prelude.{◌≡◌, ◌≢◌, ◌≤◌, ◌<◌, ◌+◌, ◌*◌, ◌↔◌, ℕ, [], ◌∷◌, true, false, length, map, IsTrue, IsErrOf, OnOk, OnErr, IfOk, IfErr, IsErr, Ok, Err};
 ghost use Rattle.std.specs.Borrow.{Lends, sem};
 ghost use Rattle.std.specs.FinSet as set;
-ghost use Rattle.usb_bus.specs.World.{World, Spends, IsRootPort, IsClearFeature, changes, port_at};
-ghost use Rattle.usb_hub.specs.Status.{Shows};
+ghost use Rattle.usb_bus.specs.World.{World, Spends, IsRootPort, IsClearFeature, root_row, to_come, changes, port_at};
+ghost use Rattle.usb_port.specs.Status.{seen};
 ghost use Rattle.usb_enum.specs.Bounds.{enumeration_bound};
 ghost use Rattle.std.specs.BTreeMap.{insert_entry};
 ghost use Rattle.usb_port.specs.Order.{path_cmp};
@@ -19,8 +19,8 @@ use std::alloc::{AllocError, Global};
 use std::marker::Model;
 use usb_bus::Bus;
 use usb_enum::{EnumFault, Finding, enumerate};
-use usb_hub::{HubPort, PortStatus, clear_port, port_status};
-use usb_port::PortPath;
+use usb_hub::{HubPort, clear_port, port_status};
+use usb_port::{PortPath, PortStatus};
 use usb_request::feature::{
     C_PORT_CONNECTION, C_PORT_ENABLE, C_PORT_RESET, PORT_ENABLE, PORT_POWER,
 };
@@ -52,10 +52,11 @@ impl<B: Bus> Model for Host<B> {
     ghost use Rattle.std.specs.Coded.{codes, coded_ℕ};
     ghost use Rattle.std.specs.FinSet as set;
     ghost use Rattle.std.specs.Ordering.{nat_cmp};
+    ghost use Rattle.usb_device.specs.Stored.{ports_code};
     ghost use Rattle.usb_host.specs.Accounts.{Accounts};
     ghost use Rattle.usb_host.specs.Hosting.{Hosting};
 
-    ghost coded = { Prim.hlevel (codes, set.code {R = nat_cmp} coded_ℕ) };
+    ghost coded = { Prim.hlevel (codes, ports_code, set.code {R = nat_cmp} coded_ℕ) };
 
     ghost Value = { Hosting };
 
@@ -142,7 +143,7 @@ impl<B: Bus> Host<B> {
         ensures spends { Spends (7 * enumeration_bound) self.old.world self.new.world }
         ensures told { IfErr result (λ fault. HostTold fault self.new.world) }
         ensures worked { result ≡ Ok Round.Worked → work self.new.world < work self.old.world }
-        ensures quiet { result ≡ Ok Round.Quiet → (self.new ≡ self.old) × (changes self.old.world.ports ≡ 0) }
+        ensures quiet { result ≡ Ok Round.Quiet → (self.new ≡ self.old) × (changes (root_row self.old.world) ≡ 0) }
     {
         if self.stopped {
             return Err(HostFault::Stopped);
@@ -164,12 +165,12 @@ impl<B: Bus> Host<B> {
         ensures spends { Spends (7 * enumeration_bound) self.old.world self.new.world }
         ensures told { IfErr result (λ fault. HostTold fault self.new.world) }
         ensures worked { result ≡ Ok Round.Worked → work self.new.world < work self.old.world }
-        ensures quiet { result ≡ Ok Round.Quiet → (self.new ≡ self.old) × (changes self.old.world.ports ≡ 0) }
+        ensures quiet { result ≡ Ok Round.Quiet → (self.new ≡ self.old) × (changes (root_row self.old.world) ≡ 0) }
     {
         let mut round = Round::Quiet;
         let roots = self.bus.root_ports();
         'ports: for port in 1..roots + 1 {
-            if self.status(port).connection_changed() {
+            if self.status(port).connection_changed {
                 self.handle(port)?;
                 round = Round::Worked;
             }
@@ -180,7 +181,7 @@ impl<B: Bus> Host<B> {
     /// The status of a root port.
     fn status(&mut self, port: u8) -> PortStatus
         requires { IsRootPort self.old.world port }
-        ensures shows { Shows (port_at self.old.world port) result }
+        ensures shows { result ≡ seen (port_at self.old.world port) }
         ensures same { self.new ≡ self.old }
     {
         match port_status(self.alloc, &mut self.bus, HubPort::Root(port)) {
@@ -196,7 +197,7 @@ impl<B: Bus> Host<B> {
         requires named { IsClearFeature feature }
         ensures others { self.new ≡ record self.old { world = self.new.world } }
         ensures spends { Spends 0 self.old.world self.new.world }
-        ensures served { feature ≡ 16 → (port_at self.old.world port).connection_changed ≡ true → changes self.new.world.ports + self.new.world.left + 1 ≡ changes self.old.world.ports + self.old.world.left }
+        ensures served { feature ≡ 16 → (port_at self.old.world port).connection_changed ≡ true → changes (root_row self.new.world) + to_come self.new.world + 1 ≡ changes (root_row self.old.world) + to_come self.old.world }
     {
         // a root port is a register, and never fails
         let _ = clear_port(&mut self.bus, HubPort::Root(port), feature);
@@ -213,7 +214,7 @@ impl<B: Bus> Host<B> {
         ensures served { (port_at self.old.world port).connection_changed ≡ true → work self.new.world < work self.old.world }
     {
         let status = self.status(port);
-        if !status.connection_changed() {
+        if !status.connection_changed {
             self.tidy(port, status);
             return Ok(());
         }
@@ -227,10 +228,10 @@ impl<B: Bus> Host<B> {
         ensures others { self.new ≡ record self.old { world = self.new.world } }
         ensures spends { Spends 0 self.old.world self.new.world }
     {
-        if status.enable_changed() {
+        if status.enable_changed {
             self.clear(port, C_PORT_ENABLE);
         }
-        if status.reset_changed() {
+        if status.reset_changed {
             self.clear(port, C_PORT_RESET);
         }
     }
@@ -246,12 +247,12 @@ impl<B: Bus> Host<B> {
         ensures entries { Replaced (port ∷ []) (without (port ∷ []) self.old.entries) self.new.entries }
     {
         let status = self.status(port);
-        if status.is_enabled() {
+        if status.enabled {
             self.clear(port, PORT_ENABLE);
         }
         let path = root_path(port);
         self.forget(&path);
-        if status.is_connected() {
+        if status.connected {
             self.discover(port, path)?;
         }
         Ok(())

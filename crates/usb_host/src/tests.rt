@@ -1,70 +1,45 @@
-ghost use Rattle.std.specs.Prelude.{◌≡◌, ◌∷◌, [], ◌≤◌, Some};
-ghost use Rattle.usb_bus.specs.declared.types.BusFault.TheVariants.{LimitReached};
+ghost use Rattle.std.specs.Prelude.{◌≤◌};
 
 use super::*;
+use std::alloc::Global;
 use std::test::Fail;
-use usb_bus::{Attempt, Bus, BusFault, Outcome};
+use usb_bus::{Action, BusFault, Damages, Event, Events, Plan, SimBus, Watched};
+use usb_device::{Bytes, ConfigTexts, DeviceSpec, Devices, Name};
 use usb_enum::{Cause, Finding};
-use usb_port::{Port, PortPath};
+use usb_port::PortPath;
 
-/// A bus of one port, at which nothing ever answers.
-#[derive(Drop)]
-struct Mute {
-    port: Port,
-    attempts: u64,
-    limit: u64,
-    fault: Option<BusFault>,
-    ghost within: { attempts ≤ limit },
-    ghost over: { fault ≡ Some LimitReached → attempts ≡ limit },
+const DEVICE: [u8; 18] = [
+    0x12, 1, 0, 2, 0, 0, 0, 8, 0x34, 0x12, 0x78, 0x56, 0, 1, 0, 0, 0, 1,
+];
+
+/// A device that never answers.
+fn silent(alloc: Global, low: bool) -> Result<DeviceSpec, Fail> {
+    let name = Name::new(String::from_str(alloc, "fn")?);
+    let device = Bytes::new(Vec::from_array(alloc, DEVICE)?);
+    let spec = DeviceSpec::function(name, device, ConfigTexts::new(alloc));
+    Ok(spec.with_low_speed(low).with_silent(true))
 }
 
-impl Mute {
-    fn new(limit: u64) -> Mute {
-        Mute {
-            port: Port::new(),
-            attempts: 0,
-            limit,
-            fault: None,
-        }
-    }
-}
-
-impl Bus for Mute {
-    ghost world = { λ m. record {
-      ports = m.port ∷ [];
-      taken = 0;
-      left = 0;
-      attempts = m.attempts;
-      limit = m.limit;
-      fault = m.fault;
-    } };
-
-    fn attempt(&mut self, _attempt: &Attempt) -> Result<Outcome, BusFault> {
-        if let Some(fault) = self.fault {
-            return Err(fault);
-        }
-        if self.attempts == self.limit {
-            self.fault = Some(BusFault::LimitReached);
-            return Err(BusFault::LimitReached);
-        }
-        self.attempts += 1;
-        Ok(Outcome::Nothing)
-    }
-
-    fn root_ports(&self) -> u8 {
-        1
-    }
-
-    fn root_status(&self, _port: u8) -> [u8; 4] {
-        self.port.status()
-    }
-
-    fn root_set(&mut self, _port: u8, feature: u16) {
-        let _ = self.port.set_feature(feature);
-    }
-
-    fn root_clear(&mut self, _port: u8, feature: u16) {
-        let _ = self.port.clear_feature(feature);
+/// A bus with one root port, at which a silent device is plugged and later unplugged.
+fn bus_with_silent(alloc: Global, limit: u64, low: bool) -> Result<SimBus<Vec<u8>>, Fail>
+    requires { limit ≤ 100 }
+{
+    let path = PortPath::root(1).ok_or("no root port")?;
+    let mut devices = Devices::new(alloc);
+    devices.push(silent(alloc, low)?)?;
+    let mut events = Events::new(alloc);
+    events.push(Event {
+        after: 0,
+        action: Action::Plug(path.duplicate(), 0),
+    })?;
+    events.push(Event {
+        after: 100,
+        action: Action::Unplug(path),
+    })?;
+    let plan = Plan::new(limit, 1, devices, events, Damages::new(alloc));
+    match SimBus::new(alloc, &plan, Watched::new(Vec::new(alloc))) {
+        Ok(bus) => Ok(bus),
+        Err((fault, _)) => Err(fault)?,
     }
 }
 
@@ -77,12 +52,12 @@ fn refusal(finding: &Finding) -> Option<Cause> {
 
 #[test]
 fn a_silent_device_is_refused(rt: HostRuntime) -> Result<(), Fail> {
-    let mut host = Host::new(rt.alloc(), Mute::new(100));
+    let mut host = Host::new(rt.alloc(), bus_with_silent(rt.alloc(), 100, false)?);
     assert_eq!(rt; host.round()?, Round::Quiet);
-    host.bus_mut().port.plug(false);
+    host.bus_mut().apply_next_event()?;
     assert_eq!(rt; host.round()?, Round::Worked);
     assert_eq!(rt; host.round()?, Round::Quiet);
-    assert_eq!(rt; host.bus().attempts, 3);
+    assert_eq!(rt; host.bus().attempts(), 3);
     let tree = host.tree()?;
     let [(path, finding)] = tree.entries() else {
         assert!(rt; false);
@@ -90,17 +65,17 @@ fn a_silent_device_is_refused(rt: HostRuntime) -> Result<(), Fail> {
     };
     assert_eq!(rt; path.numbers(), [1].as_slice());
     assert_eq!(rt; refusal(finding), Some(Cause::Silent));
-    host.bus_mut().port.unplug();
+    host.bus_mut().apply_next_event()?;
     assert_eq!(rt; host.round()?, Round::Worked);
     assert!(rt; host.tree()?.entries().is_empty());
-    assert_eq!(rt; host.into_bus().attempts, 3);
+    assert_eq!(rt; host.into_bus().attempts(), 3);
     Ok(())
 }
 
 #[test]
 fn a_host_stops_at_a_fault(rt: HostRuntime) -> Result<(), Fail> {
-    let mut host = Host::new(rt.alloc(), Mute::new(2));
-    host.bus_mut().port.plug(true);
+    let mut host = Host::new(rt.alloc(), bus_with_silent(rt.alloc(), 2, true)?);
+    host.bus_mut().apply_next_event()?;
     let over = Err(HostFault::Bus(BusFault::LimitReached));
     assert_eq!(rt; host.round(), over);
     assert_eq!(rt; host.round(), Err(HostFault::Stopped));

@@ -1,65 +1,26 @@
 -- What root calls leave, for whoever calls them as a hub's port.
 use borrow.Enum.Total.{values_d}
-use Rattle.std.proofs.Common.{◌≡◌, refl, sym, subst, arith, true, false, length-set}
-use Rattle.std.specs.Prelude.{ℕ, ◌+◌, ◌*◌, ◌-◌, ◌≤◌, Bool, List, Ok, bit_and, nat_eq, not, ◌&&◌, if◌then◌else◌}
-use Rattle.usb_port.specs.PortState.{PortState, is_attached, is_low, bit, status_of}
-use Rattle.usb_bus.specs.World.{World, Spends, IsRootPort, SetsRoot, ClearsRoot, change_of, changes, port_at, with_port}
-use Rattle.usb_bus.proofs.Counts.{spends_none, resets_spend, clears_spend, clears_change, changes-set}
+use Rattle.std.proofs.Common.{◌≡◌, ◌∙◌, refl, sym, ap, subst, arith, true, false, length-set}
+use Rattle.std.specs.Prelude.{ℕ, ◌+◌, ◌-◌, ◌≤◌, Bool, length, Ok, if◌then◌else◌}
+use Rattle.usb_port.specs.PortState.{PortState}
+use Rattle.usb_port.specs.Status.{seen}
+use Rattle.usb_port.specs.declared.status.PortStatus.{PortStatus}
+use Rattle.usb_bus.specs.World.{World, Spends, IsRootPort, IsSetFeature, IsClearFeature, root_row, change_of, changes, port_at}
+use Rattle.usb_bus.specs.Steps.{SetsRoot, ClearsRoot}
+use Rattle.usb_bus.proofs.Counts.{RootCalled, root_set as root_set_called, root_cleared as root_cleared_called, spends_none, resets_spend, clears_spend, clears_change, changes-set}
 use Rattle.usb_hub.specs.contracts.port.HubPort as hub_port
 use Rattle.usb_hub.specs.declared.port.HubPort.{HubPort}
 use Rattle.usb_hub.specs.declared.port.HubPort.TheVariants.{Root}
-use Rattle.usb_hub.specs.Status.{Shows}
 use Rattle.usb_hub.specs.Port.{IsPort, port_bound, Quiet, RootSet, RootCleared, PortRead, PortSet, PortCleared}
 
-low_of_two : (a b : Bool) → not (nat_eq (bit_and (bit a + 2 * bit b) 1) 0) ≡ a
-low_of_two true true = refl
-low_of_two true false = refl
-low_of_two false true = refl
-low_of_two false false = refl
-
-high_of_two : (a b : Bool) → not (nat_eq (bit_and (bit a + 2 * bit b) 2) 0) ≡ b
-high_of_two true true = refl
-high_of_two true false = refl
-high_of_two false true = refl
-high_of_two false false = refl
-
-record ThreeBits (a b c : Bool) : Type 0 where
-  first : not (nat_eq (bit_and (bit a + 2 * bit b + 16 * bit c) 1) 0) ≡ a
-  second : not (nat_eq (bit_and (bit a + 2 * bit b + 16 * bit c) 2) 0) ≡ b
-  third : not (nat_eq (bit_and (bit a + 2 * bit b + 16 * bit c) 16) 0) ≡ c
-
-three_bits : (a b c : Bool) → ThreeBits a b c
-three_bits true true true = record { first = refl; second = refl; third = refl }
-three_bits true true false = record { first = refl; second = refl; third = refl }
-three_bits true false true = record { first = refl; second = refl; third = refl }
-three_bits true false false = record { first = refl; second = refl; third = refl }
-three_bits false true true = record { first = refl; second = refl; third = refl }
-three_bits false true false = record { first = refl; second = refl; third = refl }
-three_bits false false true = record { first = refl; second = refl; third = refl }
-three_bits false false false = record { first = refl; second = refl; third = refl }
-
--- a port's status shows its bits
-pub shows : (p : PortState) → Shows p (status_of p)
-unfolding status_of
-shows p =
-    let changed = three_bits p.connection_changed p.enable_changed p.reset_changed in
-    record {
-      connected = low_of_two (p.power && is_attached p.attached) p.enable;
-      enabled = high_of_two (p.power && is_attached p.attached) p.enable;
-      low = high_of_two p.power (p.power && is_low p.attached);
-      connection = changed.first;
-      enable = changed.second;
-      reset = changed.third;
-    }
-
-quiet : (number : ℕ) (p : PortState) (w : World) → Quiet w (with_port number p w)
-quiet number p w = record {
-  attempts = refl;
-  limit = refl;
-  taken = refl;
-  left = refl;
-  fault = refl;
-  roots = length-set w.ports (number - 1) p;
+quiet : (number : ℕ) (p : PortState) (old new : World) → RootCalled number p old new → Quiet old new
+quiet number p old new c = record {
+  attempts = c.attempts;
+  limit = c.limit;
+  taken = c.taken;
+  left = c.left;
+  fault = c.fault;
+  roots = ap length c.row ∙ length-set (root_row old) (number - 1) p;
 }
 
 one_most : (b : Bool) → (if b then 1 else 0) ≤ 1
@@ -70,24 +31,28 @@ change_of_most : (p : PortState) → change_of p ≤ 1
 unfolding change_of
 change_of_most p = one_most p.connection_changed
 
-changes-write : (number : ℕ) (p : PortState) (w : World) → IsRootPort w number → changes (with_port number p w).ports ≤ changes w.ports + 1
-changes-write number p w is = omega (arith, changes-set w.ports (number - 1) p (omega (arith, is.0, is.1)), change_of_most p)
+changes_written : (number : ℕ) (p : PortState) (old new : World) → IsRootPort old number → RootCalled number p old new → changes (root_row new) ≤ changes (root_row old) + 1
+changes_written number p old new is c =
+    subst (λ row. changes row ≤ changes (root_row old) + 1) (sym c.row)
+    (omega (arith, changes-set (root_row old) (number - 1) p (omega (arith, is.0, is.1)), change_of_most p))
 
-pub root_set : {A : Type 0} (number feature : ℕ) (old new : World) (a : A) → IsRootPort old number → SetsRoot number feature old new → RootSet number feature old (Ok a) new
-root_set number feature old new a is row = record {
+pub root_set : {A : Type 0} (number feature : ℕ) (old new : World) (a : A) → IsRootPort old number → IsSetFeature feature → SetsRoot number feature old new → RootSet number feature old (Ok a) new
+root_set number feature old new a is named row =
+    let called = root_set_called number feature old new is named row in
+    record {
+      done = refl;
+      row = row;
+      quiet = quiet number _ old new called;
+      resets = λ e. resets_spend number old new is (subst (λ f. SetsRoot number f old new) e row);
+      powers = changes_written number _ old new is called;
+    }
+
+pub root_cleared : {A : Type 0} (number feature : ℕ) (old new : World) (a : A) → IsRootPort old number → IsClearFeature feature → ClearsRoot number feature old new → RootCleared number feature old (Ok a) new
+root_cleared number feature old new a is named row = record {
   done = refl;
   row = row;
-  quiet = subst (λ w. Quiet old w) (sym row.row) (quiet number _ old);
-  resets = λ e. resets_spend number old new is (subst (λ f. SetsRoot number f old new) e row);
-  powers = subst (λ w. changes w.ports ≤ changes old.ports + 1) (sym row.row) (changes-write number _ old is);
-}
-
-pub root_cleared : {A : Type 0} (number feature : ℕ) (old new : World) (a : A) → IsRootPort old number → ClearsRoot number feature old new → RootCleared number feature old (Ok a) new
-root_cleared number feature old new a is row = record {
-  done = refl;
-  row = row;
-  quiet = subst (λ w. Quiet old w) (sym row.row) (quiet number _ old);
-  count = clears_spend number feature old new is row;
+  quiet = quiet number _ old new (root_cleared_called number feature old new is named row);
+  count = clears_spend number feature old new is named row;
   served = λ e set. clears_change number old new is set (subst (λ f. ClearsRoot number f old new) e row);
 }
 
@@ -95,20 +60,20 @@ root_cleared number feature old new a is row = record {
 pub is_root : (port : HubPort) → port ≡ Root (values_d hub_port.enum 0 (0, tt) port).0
 is_root (Root number) = refl
 
-pub port_read : (port : HubPort) (number : ℕ) (w : World) (bytes : List ℕ) → port ≡ Root number → bytes ≡ status_of (port_at w number) → PortRead port w (Ok bytes) w
-port_read (Root n) number w bytes is e =
+pub port_read : (port : HubPort) (number : ℕ) (w : World) (status : PortStatus) → port ≡ Root number → status ≡ seen (port_at w number) → PortRead port w (Ok status) w
+port_read (Root n) number w status is e =
     let same : n ≡ number = cc is in
-    rw same (record { status = rw e refl; shows = shows (port_at w number); same = refl })
+    rw same (record { status = ap Ok e; same = refl })
 
-pub port_set : {A : Type 0} (port : HubPort) (number feature : ℕ) (old new : World) (a : A) → port ≡ Root number → IsPort old port → SetsRoot number feature old new → PortSet port feature old (Ok a) new
-port_set (Root n) number feature old new a is here row =
+pub port_set : {A : Type 0} (port : HubPort) (number feature : ℕ) (old new : World) (a : A) → port ≡ Root number → IsPort old port → IsSetFeature feature → SetsRoot number feature old new → PortSet port feature old (Ok a) new
+port_set (Root n) number feature old new a is here named row =
     let same : number ≡ n = cc is in
-    root_set n feature old new a here (rw same at row)
+    root_set n feature old new a here named (rw same at row)
 
-pub port_cleared : {A : Type 0} (port : HubPort) (number feature : ℕ) (old new : World) (a : A) → port ≡ Root number → IsPort old port → ClearsRoot number feature old new → PortCleared port feature old (Ok a) new
-port_cleared (Root n) number feature old new a is here row =
+pub port_cleared : {A : Type 0} (port : HubPort) (number feature : ℕ) (old new : World) (a : A) → port ≡ Root number → IsPort old port → IsClearFeature feature → ClearsRoot number feature old new → PortCleared port feature old (Ok a) new
+port_cleared (Root n) number feature old new a is here named row =
     let same : number ≡ n = cc is in
-    root_cleared n feature old new a here (rw same at row)
+    root_cleared n feature old new a here named (rw same at row)
 
 pub read_count : (port : HubPort) (w : World) → Spends (port_bound port) w w
 read_count (Root n) w = spends_none w

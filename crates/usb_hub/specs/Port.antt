@@ -1,11 +1,12 @@
 -- What the calls on a port leave.
-use Rattle.std.specs.Prelude.{◌≡◌, ℕ, ◌+◌, ◌≤◌, List, length, true, Result, Ok, IsOk}
-use Rattle.usb_port.specs.PortState.{status_of}
-use Rattle.usb_bus.specs.World.{World, IsRootPort, SetsRoot, ClearsRoot, Spends, port_at, changes}
+use Rattle.std.specs.Prelude.{◌≡◌, ℕ, ◌+◌, ◌≤◌, true, Result, Ok, IsOk}
+use Rattle.usb_port.specs.Status.{seen}
+use Rattle.usb_port.specs.declared.status.PortStatus.{PortStatus}
+use Rattle.usb_bus.specs.World.{World, IsRootPort, Spends, root_row, roots_of, to_come, port_at, changes}
+use Rattle.usb_bus.specs.Steps.{SetsRoot, ClearsRoot}
 use Rattle.usb_pipe.specs.declared.fault.PipeFault.{PipeFault}
 use Rattle.usb_hub.specs.declared.port.HubPort.{HubPort}
 use Rattle.usb_hub.specs.declared.port.HubPort.TheVariants.{Root}
-use Rattle.usb_hub.specs.Status.{Shows}
 
 abbrev pub IsPort : World → HubPort → Type 0
 IsPort w (Root number) = IsRootPort w number
@@ -14,10 +15,9 @@ IsPort w (Root number) = IsRootPort w number
 abbrev pub port_bound : HubPort → ℕ
 port_bound (Root number) = 0
 
--- the answer is the port's status, and nothing has changed
-pub record RootRead (number : ℕ) (old : World) (result : Result (List ℕ) PipeFault) (new : World) : Type 0 where
-  pub status : result ≡ Ok (status_of (port_at old number))
-  pub shows : Shows (port_at old number) (status_of (port_at old number))
+-- the answer is what the port's status says of it, and nothing has changed
+pub record RootRead (number : ℕ) (old : World) (result : Result PortStatus PipeFault) (new : World) : Type 0 where
+  pub status : result ≡ Ok (seen (port_at old number))
   pub same : new ≡ old
 
 -- no attempt was made and no event applied
@@ -27,7 +27,7 @@ pub record Quiet (old new : World) : Type 0 where
   pub taken : new.taken ≡ old.taken
   pub left : new.left ≡ old.left
   pub fault : new.fault ≡ old.fault
-  pub roots : length new.ports ≡ length old.ports
+  pub roots : roots_of new ≡ roots_of old
 
 pub record RootSet {A : Type 0} (number feature : ℕ) (old : World) (result : Result A PipeFault) (new : World) : Type 0 where
   pub done : IsOk result
@@ -35,7 +35,7 @@ pub record RootSet {A : Type 0} (number feature : ℕ) (old : World) (result : R
   pub quiet : Quiet old new
   -- PORT_RESET sets no C_PORT_CONNECTION, PORT_POWER at most this port's
   pub resets : feature ≡ 4 → Spends 0 old new
-  pub powers : changes new.ports ≤ changes old.ports + 1
+  pub powers : changes (root_row new) ≤ changes (root_row old) + 1
 
 pub record RootCleared {A : Type 0} (number feature : ℕ) (old : World) (result : Result A PipeFault) (new : World) : Type 0 where
   pub done : IsOk result
@@ -43,9 +43,9 @@ pub record RootCleared {A : Type 0} (number feature : ℕ) (old : World) (result
   pub quiet : Quiet old new
   pub count : Spends 0 old new
   -- a set C_PORT_CONNECTION that is cleared is one less
-  pub served : feature ≡ 16 → (port_at old number).connection_changed ≡ true → changes new.ports + new.left + 1 ≡ changes old.ports + old.left
+  pub served : feature ≡ 16 → (port_at old number).connection_changed ≡ true → changes (root_row new) + to_come new + 1 ≡ changes (root_row old) + to_come old
 
-abbrev pub PortRead : HubPort → World → Result (List ℕ) PipeFault → World → Type 0
+abbrev pub PortRead : HubPort → World → Result PortStatus PipeFault → World → Type 0
 PortRead (Root number) old result new = RootRead number old result new
 
 abbrev pub PortSet : {A : Type 0} → HubPort → ℕ → World → Result A PipeFault → World → Type 0

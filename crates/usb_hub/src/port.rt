@@ -31,7 +31,7 @@ pub fn port_status<B: Bus>(
     ensures status { PortRead port (B.world bus.old) result (B.world bus.new) }
 {
     match port {
-        HubPort::Root(number) => Ok(PortStatus::new(bus.root_status(number))),
+        HubPort::Root(number) => Ok(PortStatus::from_bytes(bus.root_status(number))),
     }
 }
 

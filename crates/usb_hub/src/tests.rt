@@ -64,12 +64,12 @@ fn a_function_is_found(rt: HostRuntime) -> Result<(), Fail> {
     set_port(&mut bus, PORT, PORT_POWER)?;
     bus.apply_next_event()?;
     let plugged = port_status(alloc, &mut bus, PORT)?;
-    assert!(rt; plugged.is_connected() && plugged.connection_changed());
-    assert!(rt; !plugged.is_enabled() && !plugged.is_low_speed() && !plugged.enable_changed());
+    assert!(rt; plugged.connected && plugged.connection_changed);
+    assert!(rt; !plugged.enabled && !plugged.low_speed && !plugged.enable_changed);
     clear_port(&mut bus, PORT, C_PORT_CONNECTION)?;
     set_port(&mut bus, PORT, PORT_RESET)?;
     let reset = port_status(alloc, &mut bus, PORT)?;
-    assert!(rt; reset.is_enabled() && reset.reset_changed() && !reset.connection_changed());
+    assert!(rt; reset.enabled && reset.reset_changed && !reset.connection_changed);
     clear_port(&mut bus, PORT, C_PORT_RESET)?;
 
     let head = get_device(alloc, &mut bus, target(0, 8), 8)?;

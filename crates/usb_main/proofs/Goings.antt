@@ -1,6 +1,6 @@
 -- How the parts of a run join.
 use Rattle.std.proofs.Common.{◌≡◌, ◌∙◌, refl, sym, subst, arith, ℕ, ◌+◌, ◌≤◌, ◌<◌}
-use Rattle.usb_bus.specs.World.{World, Spends}
+use Rattle.usb_bus.specs.World.{World, Spends, to_come}
 use Rattle.usb_bus.proofs.Counts.{spends_none, spends_then}
 use Rattle.usb_main.specs.Run.{Goes}
 
@@ -18,7 +18,7 @@ pub goes_within : (a b : World) → Goes a b → a.attempts ≤ a.limit → b.at
 goes_within a b g le = subst (λ n. b.attempts ≤ n) g.spends.limit (g.spends.within le)
 
 -- as many events are to come, or fewer
-pub goes_left : (a b : World) → Goes a b → b.left ≤ a.left
+pub goes_left : (a b : World) → Goes a b → to_come b ≤ to_come a
 goes_left a b g = omega (arith, g.spends.events, g.spends.onward)
 
 pub goes_from : (n : ℕ) (a b : World) → Spends n a b → Goes a b

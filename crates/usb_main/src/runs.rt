@@ -1,12 +1,12 @@
 //! Runs of a plan.
-ghost use Rattle.std.specs.Prelude.{◌≡◌, ◌≢◌, ◌≤◌, ◌<◌, false, true, None, Ok, Err, OnOk, OnErr, IfOk, IfErr, IsSome};
+ghost use Rattle.std.specs.Prelude.{◌≡◌, ◌≢◌, ◌≤◌, ◌<◌, false, true, None, Ok, Err, OnOk, OnErr, IfOk, IfErr, IfSome, IsSome};
 ghost use Rattle.usb_bus.specs.Served.{served_of};
-ghost use Rattle.usb_bus.specs.World.{Spends, changes};
+ghost use Rattle.usb_bus.specs.World.{Spends, root_row, to_come, changes};
 ghost use Rattle.usb_bus.specs.Sim.{world_of, writer_of};
 ghost use Rattle.usb_bus.specs.Steps.{opening, PutLine};
 ghost use Rattle.usb_host.specs.Hosting.{work};
 ghost use Rattle.usb_main.specs.declared.runs.RunFault.TheVariants.{Memory as NoMemory};
-ghost use Rattle.usb_main.specs.Run.{Goes, IsCaused, run_fault, items_left, IsBegun};
+ghost use Rattle.usb_main.specs.Run.{Counts, Goes, IsCaused, run_fault, item_of, items_left, listing_of, IsBegun};
 
 use std::alloc::{AllocError, AllocFailed, Global};
 use std::io;
@@ -74,7 +74,7 @@ pub fn settle<W: Write>(host: &mut Host<SimBus<W>>) -> Result<(), RunFault>
     ensures goes { Goes host.old.world host.new.world }
     ensures running { OnOk result (host.new.stopped ≡ false) }
     // No root port has its change of connection set.
-    ensures settled { OnOk result (changes host.new.world.ports ≡ 0) }
+    ensures settled { OnOk result (changes (root_row host.new.world) ≡ 0) }
     ensures caused { IfErr result (λ fault. IsCaused fault host.new.world) }
 {
     'rounds: loop {
@@ -93,7 +93,7 @@ fn round_of<W: Write>(host: &mut Host<SimBus<W>>) -> Result<Round, RunFault>
     ensures goes { Goes host.old.world host.new.world }
     ensures running { OnOk result (host.new.stopped ≡ false) }
     ensures worked { result ≡ Ok Round.Worked → work host.new.world < work host.old.world }
-    ensures quiet { result ≡ Ok Round.Quiet → (host.new ≡ host.old) × (changes host.old.world.ports ≡ 0) }
+    ensures quiet { result ≡ Ok Round.Quiet → (host.new ≡ host.old) × (changes (root_row host.old.world) ≡ 0) }
     ensures caused { IfErr result (λ fault. IsCaused fault host.new.world) }
 {
     match host.round() {
@@ -110,15 +110,17 @@ pub struct Report {
     pub attempts: u64,
     /// How often a device did not see the host's ACK of SET_ADDRESS.
     pub address_losses: u64,
-    /// The greatest number of those losses in one enumeration.
+    /// The greatest number of those losses between two steps that clear a change of connection, or before the first
+    /// or behind the last of these steps.
     pub worst_address_run: u32,
 }
 
-/// Runs a plan that is served to its end, with its trace thrown away.
+/// Runs a plan that is served to its end, with its trace thrown away. Where the plan asks for transfers, these events
+/// come in their turn, and nothing is sent, received or cleared.
 ///
 /// # Errors
 /// LimitReached where the attempts made equal the plan's limit, Memory where memory was refused.
-#[tactic(auto, using(crate::proofs::Goings::goes_then, crate::proofs::Goings::goes_none, crate::proofs::Goings::goes_within))]
+#[tactic(auto, using(crate::proofs::Goings::goes_within))]
 pub fn run(alloc: Global, plan: &Plan) -> Result<Report, RunFault>
     requires { served_of plan.now ≡ Ok tt }
     ensures { IfOk result (λ report. report.attempts ≤ plan.now.limit) }
@@ -127,6 +129,16 @@ pub fn run(alloc: Global, plan: &Plan) -> Result<Report, RunFault>
         Ok(runner) => runner,
         Err(_) => return Err(RunFault::Memory),
     };
+    report_of(alloc, &mut runner)
+}
+
+/// Runs on to the end, and tells what was made.
+#[tactic(auto, using(crate::proofs::Goings::goes_then, crate::proofs::Goings::goes_none))]
+fn report_of<W: Write>(alloc: Global, runner: &mut Runner<W>) -> Result<Report, RunFault>
+    requires running { runner.old.over ≡ false → runner.old.host.stopped ≡ false }
+    ensures goes { Goes runner.old.host.world runner.new.host.world }
+    ensures counts { IfOk result (λ report. Counts report runner.new.host.world) }
+{
     let mut items = Vec::new(alloc);
     'items: while let Some(item) = runner.next_item()? {
         items.push(item)?;
@@ -172,6 +184,7 @@ impl<W: Write> Runner<W> {
         ensures goes { Goes self.old.host.world self.new.host.world }
         ensures running { OnOk result (self.new.over ≡ false → self.new.host.stopped ≡ false) }
         ensures caused { IfErr result (λ fault. IsCaused fault self.new.host.world) }
+        ensures item { IfOk result (λ item. IfSome item (λ made. made ≡ listing_of self.new.host)) }
         ensures fewer { IfOk result (λ item. IsSome item → items_left self.new.over self.new.host.world < items_left self.old.over self.old.host.world) }
     {
         if self.over {
@@ -196,15 +209,16 @@ impl<W: Write> Runner<W> {
         ensures over { self.new.over ≡ self.old.over }
         ensures running { OnOk result (self.new.host.stopped ≡ false) }
         ensures caused { IfErr result (λ fault. IsCaused fault self.new.host.world) }
-        ensures fewer { IfOk result (λ due. IsSome due → self.new.host.world.left < self.old.host.world.left) }
+        ensures fewer { IfOk result (λ due. IsSome due → to_come self.new.host.world < to_come self.old.host.world) }
     {
         settle(&mut self.host)?;
         Ok(self.host.bus_mut().apply_next_event()?)
     }
 
-    /// What the run makes of an event: a listing where the host is to list. A plan that asks for transfers is not run.
+    /// What the run makes of an event: a listing where the host is to list. No transfer is made.
     fn item_of(&self, due: Due) -> Result<Option<Item>, RunFault>
-        ensures { IfErr result (λ fault. fault ≡ RunFault.Memory) }
+        ensures item { IfOk result (λ item. item ≡ item_of due self.now.host) }
+        ensures fault { IfErr result (λ fault. fault ≡ RunFault.Memory) }
     {
         match due {
             Due::Show => Ok(Some(self.listing()?)),
@@ -215,8 +229,10 @@ impl<W: Write> Runner<W> {
         }
     }
 
+    /// What the host has found, and how many events had come.
     fn listing(&self) -> Result<Item, RunFault>
-        ensures { IfErr result (λ fault. fault ≡ RunFault.Memory) }
+        ensures item { IfOk result (λ item. item ≡ listing_of self.now.host) }
+        ensures fault { IfErr result (λ fault. fault ≡ RunFault.Memory) }
     {
         let taken = self.host.bus().events_taken();
         match self.host.tree() {
@@ -242,12 +258,17 @@ impl<W: Write> Runner<W> {
     }
 
     /// How often a device did not see the host's ACK of SET_ADDRESS.
-    fn address_losses(&self) -> u64 {
+    fn address_losses(&self) -> u64
+        ensures { result ≡ self.now.host.world.losses.all }
+    {
         self.host.bus().address_losses()
     }
 
-    /// The greatest number of those losses in one enumeration.
-    fn worst_address_run(&self) -> u32 {
+    /// The greatest number of those losses between two steps that clear a change of connection, or before the first
+    /// or behind the last of these steps.
+    fn worst_address_run(&self) -> u32
+        ensures { result ≡ self.now.host.world.losses.worst }
+    {
         self.host.bus().worst_address_run()
     }
 

@@ -1,5 +1,5 @@
 use Rattle.std.proofs.Common.{◌≡◌, ◌+◌, false}
-use Rattle.usb_bus.specs.World.{changes}
+use Rattle.usb_bus.specs.World.{root_row, to_come, changes}
 use Rattle.usb_main.specs.Run.{Goes}
 use Rattle.usb_main.proofs.runs.settle.Given as goal
 
@@ -11,4 +11,4 @@ invariant-rounds g l = record {
 
 -- change bits that are set, and events to come
 abbrev pub decreases-rounds : goal.decreases-rounds
-decreases-rounds g l = changes l.host.world.ports + l.host.world.left
+decreases-rounds g l = changes (root_row l.host.world) + to_come l.host.world

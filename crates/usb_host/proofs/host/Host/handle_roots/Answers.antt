@@ -1,5 +1,5 @@
 use Rattle.std.proofs.Common.{◌≡◌, ap, arith}
-use Rattle.std.specs.Prelude.{length}
+use Rattle.usb_bus.specs.World.{roots_of}
 use Rattle.usb_host.specs.Hosting.{Hosting}
 use Rattle.usb_host.specs.declared.host.Round.TheVariants.{Quiet}
 use Rattle.usb_host.proofs.Quiets.{none_changed}
@@ -8,5 +8,5 @@ use Rattle.usb_host.proofs.host.Host.handle_roots.Goals as goal
 pub returns-clause-quiet : goal.returns-clause-quiet
 returns-clause-quiet g c = λ is.
     let quiet : c.ports.round ≡ Quiet = cc is in
-    let roots = ap (λ (h : Hosting). length h.world.ports) c.self.view_is in
+    let roots = ap (λ (h : Hosting). roots_of h.world) c.self.view_is in
     (c.ports.invariant.same quiet, none_changed c.args.self.now.world c.ports.port (omega (arith, c.ports-test.false, c.root_ports-roots.ensures.count, roots)) (c.ports.invariant.unchanged quiet))

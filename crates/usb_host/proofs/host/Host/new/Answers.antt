@@ -1,6 +1,5 @@
 use Rattle.std.proofs.Common.{◌≡◌, ◌∙◌, ◌-◌, ◌+◌, ℕ, ap, arith}
-use Rattle.std.specs.Prelude.{◌≤◌, length}
-use Rattle.usb_bus.specs.World.{World}
+use Rattle.usb_bus.specs.World.{World, roots_of}
 use Rattle.usb_host.proofs.Powers.{powered_none, powered_length, powers_one, powered_all, powered_world}
 use Rattle.usb_host.proofs.Balances.{accounts_none}
 use Rattle.usb_host.proofs.Openings.{opened}
@@ -18,14 +17,13 @@ pub ports-preserved : goal.ports-preserved
 ports-preserved g c =
     let w0 : World = g.B.Bus.world c.args.bus in
     let port : ℕ = c.ports.port in
-    let here : port ≤ length w0.ports = omega (arith, c.ports-test.true, c.root_ports-roots.ensures.count) in
     let back : port ≡ (port + 1) - 1 = omega arith in
-    powers_one w0 _ _ port c.ports.auto.port here c.ports.invariant c.root_set.ensures ∙ ap (λ k. powered_world k w0) back
+    powers_one w0 _ _ port c.ports.auto.port c.ports.invariant c.root_set.ensures ∙ ap (λ k. powered_world k w0) back
 
 pub returns : goal.returns
 returns g c =
     let w0 : World = g.B.Bus.world c.args.bus in
-    let all : c.ports.port - 1 ≡ length w0.ports = omega (arith, c.ports-test.false, c.ports.auto.port-end, c.root_ports-roots.ensures.count, c.root_ports-roots.ensures.least) in
+    let all : c.ports.port - 1 ≡ roots_of w0 = omega (arith, c.ports-test.false, c.ports.auto.port-end, c.root_ports-roots.ensures.count, c.root_ports-roots.ensures.least) in
     opened w0 _ _ _ (powered_all w0 _ (c.ports.port - 1) all c.ports.invariant) c.new-2.ensures c.new.ensures.empty
 
 pub invariant_of-result : goal.invariant_of-result

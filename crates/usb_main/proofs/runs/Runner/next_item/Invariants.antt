@@ -1,4 +1,5 @@
 use Rattle.std.proofs.Common.{◌≡◌, false}
+use Rattle.usb_bus.specs.World.{to_come}
 use Rattle.usb_main.specs.Run.{Goes}
 use Rattle.usb_main.proofs.runs.Runner.next_item.Given as goal
 
@@ -11,4 +12,4 @@ invariant-events g l = record {
 
 -- events to come
 abbrev pub decreases-events : goal.decreases-events
-decreases-events g l = l.self.host.world.left
+decreases-events g l = to_come l.self.host.world

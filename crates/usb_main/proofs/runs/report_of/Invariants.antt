@@ -1,13 +1,13 @@
 use Rattle.std.proofs.Common.{◌≡◌, false}
 use Rattle.usb_main.specs.Run.{Goes, items_left}
-use Rattle.usb_main.proofs.runs.run.Given as goal
+use Rattle.usb_main.proofs.runs.report_of.Given as goal
 
 abbrev pub invariant-items : goal.invariant-items
-invariant-items l = record {
+invariant-items g l = record {
   running : l.runner.over ≡ false → l.runner.host.stopped ≡ false;
-  goes : Goes l.initial.runner.host.world l.runner.host.world;
+  goes : Goes l.fn.runner.host.world l.runner.host.world;
 }
 
 -- items to come
 abbrev pub decreases-items : goal.decreases-items
-decreases-items l = items_left l.runner.over l.runner.host.world
+decreases-items g l = items_left l.runner.over l.runner.host.world
