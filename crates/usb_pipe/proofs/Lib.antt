@@ -1,3 +1,4 @@
 pub mod Bounds
 pub mod Moves
 pub mod Stages
+pub mod Growth

@@ -1,6 +1,6 @@
 //! The devices that stand on the simulated bus.
-ghost use Rattle.std.specs.Prelude.{◌≡◌, None, IfOk};
-ghost use Rattle.usb_device.specs.Spec.{function, usual_hub};
+ghost use Rattle.std.specs.Prelude.{◌≡◌, ◌≤◌, None, false, IfOk};
+ghost use Rattle.usb_bus.specs.Plugged.{hub_ports};
 
 use std::alloc::{AllocError, Global};
 use usb_device::{Bytes, ConfigTexts, DeviceSpec, HubSpec, Name, Stalls};
@@ -107,7 +107,9 @@ fn function<const D: usize, const C: usize>(
 ) -> Result<DeviceSpec, AllocError>
     requires descriptor { D ≤ 255 }
     requires configuration { C ≤ 65535 }
-    ensures { IfOk result (λ s. (s.hub ≡ None) × (s.descriptor ≡ descriptor)) }
+    ensures hub { IfOk result (λ s. s.hub ≡ None) }
+    ensures low { IfOk result (λ s. s.low ≡ false) }
+    ensures descriptor { IfOk result (λ s. s.descriptor ≡ descriptor.entry) }
 {
     let mut configs = ConfigTexts::new(alloc);
     configs.push(Bytes::new(Vec::from_array(alloc, configuration)?))?;
@@ -135,7 +137,9 @@ fn small_bulk(alloc: Global) -> Result<DeviceSpec, AllocError> {
 }
 
 /// A hub with two ports and its own power.
-pub(super) fn hub(alloc: Global) -> Result<DeviceSpec, AllocError> {
+pub(super) fn hub(alloc: Global) -> Result<DeviceSpec, AllocError>
+    ensures { IfOk result (λ s. hub_ports s.hub ≡ 2) }
+{
     let spec = function(alloc, "hub2", HUB_DEVICE, HUB)?.with_self_powered(true);
     Ok(spec.with_hub(HubSpec::usual(alloc, 2)?))
 }
