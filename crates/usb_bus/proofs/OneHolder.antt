@@ -1,5 +1,5 @@
 -- An attempt, where one reachable device holds its address or none does.
-use Rattle.std.proofs.Common.{◌≡◌, ℕ, ◌+◌, ◌==◌, nat_le, nat_lt, ◌&&◌, if◌then◌else◌, Bool, true, false, List, [], ◌∷◌, ◌++◌, length, Option, None, Some, option_map, refl, ap, ap₂, sym, subst, ◌∙◌}
+use Rattle.std.proofs.Common.{◌≡◌, ℕ, ◌+◌, ◌==◌, nat_lt, ◌&&◌, if◌then◌else◌, Bool, true, false, List, [], ◌∷◌, ◌++◌, length, Option, None, Some, option_map, refl, ap, ap₂, sym, subst, ◌∙◌}
 use Rattle.std.proofs.lemmas.Option.{same_Some}
 use Rattle.arrayvec.specs.ArrayVec.{ArrayVec}
 use Rattle.usb_packet.specs.declared.Packet.{Packet}
@@ -12,7 +12,6 @@ use Rattle.usb_packet.specs.declared.TokenKind.TheVariants.{OutTok, InTok, Setup
 use Rattle.usb_port.specs.PortState.{PortState}
 use Rattle.usb_device.specs.declared.answer.Answer.{Answer}
 use Rattle.usb_device.specs.declared.answer.Answer.TheVariants as answer
-use Rattle.usb_device.specs.declared.delivery.Content.{Content}
 use Rattle.usb_device.specs.declared.delivery.Content.TheVariants as content
 use Rattle.usb_device.specs.declared.delivery.Sent.{Sent}
 use Rattle.usb_device.specs.declared.transfer.Memory.TheVariants as memory
@@ -21,23 +20,22 @@ use Rattle.usb_device.specs.Bulk.{is_same}
 use Rattle.usb_device.specs.Transfer.{Stage, idle, refused, reading, read, ending}
 use Rattle.usb_device.specs.Rows.{State, Reply, received, unread, forgotten, accepted, is_busy, nak_row, unless_busy, out_row, status_row, sink_row, sunk, out_bulk_row, bulk_of, data_row}
 use Rattle.usb_device.specs.Attempt.{Way, whole, broken, lost, is_whole, through, heard, is_good, sends, acked, setup_attempt, out_attempt, in_attempt, setup_law, out_law, in_law}
-use Rattle.usb_device.specs.Tree.{Ports, Place, full, acted, row_of, state_at, place_at}
-use Rattle.usb_device.specs.Delivery.{hears, is_heard, reply_to, answer_of, effect_of, after_packet, listed}
+use Rattle.usb_device.specs.Tree.{Ports, full, acted, row_of, state_at, place_at}
+use Rattle.usb_device.specs.Delivery.{is_heard, answer_of, effect_of, after_packet, listed}
 use Rattle.usb_device.proofs.Kept.{keeps-received}
 use Rattle.usb_device.proofs.Rows.{row_of-after}
-use Rattle.usb_device.proofs.Attempts.{setup_is, out_is, in_is, silent-stays, silent-unread}
+use Rattle.usb_device.proofs.Attempts.{setup_is, out_is, in_is}
 use Rattle.usb_bus.specs.declared.types.Attempt.{Attempt}
-use Rattle.usb_bus.specs.declared.types.Outcome.{Outcome}
 use Rattle.usb_bus.specs.declared.types.Outcome.TheVariants as outcome
 use Rattle.usb_bus.specs.declared.damage.Damage.{Damage}
 use Rattle.usb_bus.specs.declared.exchange.Heard.{Heard}
-use Rattle.usb_bus.specs.declared.exchange.Heard.TheVariants.{Nothing, One, Collision}
+use Rattle.usb_bus.specs.declared.exchange.Heard.TheVariants.{Nothing}
 use Rattle.usb_bus.specs.declared.wire.Mark.{Mark}
 use Rattle.usb_bus.specs.declared.wire.Mark.TheVariants as mark
 use Rattle.usb_bus.specs.Wire.{is_read, mark_of, harm_to, marked, marked_some}
 use Rattle.usb_bus.specs.Live.{address_of}
-use Rattle.usb_bus.specs.Exchange.{token_of, payload_of, reply_of, answer_mark, outcome_heard, outcome_of, sent_as, goes_out, heard_all, token_out, payload_out, reply_out, heard_in, mark_in, place_of_answer, ports_in}
-use Rattle.usb_bus.specs.Passes.{passed, told, told_at, after_attempt, heard_by, passed_place, forgotten_place, place_after, deep_at, IsSettled, NobodyHolds, OneHolds, OneActs}
+use Rattle.usb_bus.specs.Exchange.{token_of, payload_of, reply_of, outcome_heard, outcome_of, sent_as, goes_out, heard_all, token_out, payload_out, reply_out, heard_in, mark_in, place_of_answer, ports_in}
+use Rattle.usb_bus.specs.Passes.{passed, told, told_at, heard_by, passed_place, forgotten_place, place_after, deep_at, IsSettled, NobodyHolds, OneActs}
 use Rattle.usb_bus.specs.OneHolder.{content_way, way_to, way_back, got, token_way, payload_way, answer_way, reply_way, setup_alone, out_alone, in_alone, IsSetup, IsOut, IsIn, Holder, Exchanged}
 use Rattle.usb_bus.proofs.Booleans.{no}
 use Rattle.usb_bus.proofs.PassLaws.{CalmOut, token_out as token_calm}

@@ -1,43 +1,39 @@
 -- A silent holder, attempts without damage, and the attempts of a world.
-use Rattle.std.proofs.Common.{◌≡◌, ℕ, suc, ◌+◌, ◌==◌, nat_le, nat_lt, ◌&&◌, ◌||◌, not, if◌then◌else◌, ◌⊎◌, inl, inr, Bool, true, false, List, [], ◌∷◌, ◌++◌, length, Option, None, Some, option_map, is_some, refl, ap, ap₂, sym, subst, ◌∙◌, arith}
+use Rattle.std.proofs.Common.{◌≡◌, ℕ, suc, ◌+◌, ◌==◌, ◌&&◌, if◌then◌else◌, ◌⊎◌, inl, inr, Bool, true, false, List, [], ◌∷◌, ◌++◌, Option, None, Some, option_map, is_some, refl, ap, ap₂, sym, subst, ◌∙◌, arith}
 use Rattle.std.proofs.lemmas.Bool.Decides.{nat_tests}
 use Rattle.arrayvec.specs.ArrayVec.{ArrayVec}
 use Rattle.usb_packet.specs.declared.Packet.{Packet}
 use Rattle.usb_packet.specs.declared.Packet.TheVariants.{Token}
 use Rattle.usb_packet.specs.declared.Packet.TheVariants as packet
 use Rattle.usb_packet.specs.declared.Toggle.{Toggle}
-use Rattle.usb_packet.specs.declared.TokenKind.TheVariants.{OutTok, InTok, SetupTok}
+use Rattle.usb_packet.specs.declared.TokenKind.TheVariants.{InTok}
 use Rattle.usb_port.specs.PortState.{PortState}
 use Rattle.usb_request.specs.Layout.{setup_of}
-use Rattle.usb_device.specs.declared.answer.Answer.{Answer}
 use Rattle.usb_device.specs.declared.answer.Answer.TheVariants as answer
 use Rattle.usb_device.specs.declared.delivery.Content.{Content}
 use Rattle.usb_device.specs.declared.delivery.Content.TheVariants as content
 use Rattle.usb_device.specs.declared.delivery.Sent.{Sent}
-use Rattle.usb_device.specs.Rows.{State, Reply, received, unread, forgotten, accepted, data_row}
-use Rattle.usb_device.specs.Attempt.{Way, whole, broken, lost, is_whole, through, heard, is_good, acked, in_attempt, setup_law, out_law, in_law}
-use Rattle.usb_device.specs.Tree.{Ports, Place, full, row_of, reach_at, state_at, place_at}
+use Rattle.usb_device.specs.Rows.{State, Reply, forgotten, accepted, data_row}
+use Rattle.usb_device.specs.Attempt.{Way, whole, lost, through, heard, is_good, acked, setup_law, out_law, in_law}
+use Rattle.usb_device.specs.Tree.{Ports, row_of, state_at}
 use Rattle.usb_device.specs.Delivery.{hears, reply_to, listed, held, is_twice}
 use Rattle.usb_device.proofs.Attempts.{silent-stays, silent-unread}
 use Rattle.usb_bus.specs.declared.types.Attempt.{Attempt}
 use Rattle.usb_bus.specs.declared.types.Outcome.TheVariants as outcome
-use Rattle.usb_bus.specs.declared.types.BusFault.{BusFault}
-use Rattle.usb_bus.specs.declared.types.BusFault.TheVariants.{LimitReached}
 use Rattle.usb_bus.specs.declared.damage.Damage.{Damage}
 use Rattle.usb_bus.specs.declared.event.Event.{Event}
 use Rattle.usb_bus.specs.declared.exchange.Heard.{Heard}
 use Rattle.usb_bus.specs.declared.exchange.Heard.TheVariants.{Nothing, One, Collision}
-use Rattle.usb_bus.specs.declared.wire.Mark.{Mark}
 use Rattle.usb_bus.specs.declared.wire.Mark.TheVariants as mark
-use Rattle.usb_bus.specs.Wire.{is_read, mark_of, harm_to, marked, marked_some}
+use Rattle.usb_bus.specs.Wire.{mark_of, harm_to, marked, marked_some}
 use Rattle.usb_bus.specs.Live.{address_of, same_number, same_path}
 use Rattle.usb_bus.specs.Touched.{reset_if}
-use Rattle.usb_bus.specs.Exchange.{token_of, payload_of, reply_of, answer_mark, outcome_of, goes_out, heard_all, token_out, payload_out, reply_in, reply_out, heard_in, mark_in, place_of_answer, ports_in}
-use Rattle.usb_bus.specs.Passes.{heard_by, deep_at, attempt_resets, IsSettled, NobodyHolds, OneHolds}
+use Rattle.usb_bus.specs.Exchange.{token_of, payload_of, reply_of, answer_mark, goes_out, heard_all, token_out, payload_out, reply_out, heard_in, mark_in, place_of_answer, ports_in}
+use Rattle.usb_bus.specs.Passes.{heard_by, deep_at, attempt_resets, IsSettled, NobodyHolds}
 use Rattle.usb_bus.specs.World.{World}
 use Rattle.usb_bus.specs.Courses.{is_made, resets}
-use Rattle.usb_bus.specs.Steps.{is_due, took, due_from, ready, damage_in, with_attempt, attempted, outcome_in, attempt, after}
-use Rattle.usb_bus.specs.OneHolder.{content_way, way_to, way_back, got, token_way, payload_way, answer_way, reply_way, setup_alone, out_alone, in_alone, IsSetup, IsOut, IsIn, Holder, Exchanged, hears_attempt, AllWhole, IsMade, HolderIn, ExchangedIn}
+use Rattle.usb_bus.specs.Steps.{is_due, took, due_from, ready, damage_in, with_attempt, outcome_in, attempt, after}
+use Rattle.usb_bus.specs.OneHolder.{way_to, way_back, token_way, answer_way, reply_way, setup_alone, out_alone, in_alone, IsSetup, IsOut, IsIn, Holder, Exchanged, hears_attempt, AllWhole, IsMade, HolderIn, ExchangedIn}
 use Rattle.usb_bus.proofs.Booleans.{no, decided, neither}
 use Rattle.usb_bus.proofs.Between.{settled_happened}
 use Rattle.usb_bus.proofs.OneDevice.{stands, state_stands}
