@@ -179,7 +179,7 @@ pub ready_settled : (w : World) → IsSettled w.roots → IsSettled (ready w).ro
 unfolding ready
 ready_settled w h = due_settled w.left w h
 
-equal_same : (n x : ℕ) → (n == x) ≡ true → n ≡ x
+pub equal_same : (n x : ℕ) → (n == x) ≡ true → n ≡ x
 equal_same n x h = grind (arith, nat_tests)
 
 unequal : (n x : ℕ) → (n ≡ x → ⊥) → (n == x) ≡ false

@@ -128,3 +128,17 @@ pub record HolderIn (a : Attempt) (w : World) (j : ℕ) (p : List ℕ) (b : Port
 pub record ExchangedIn (a : Attempt) (w : World) (j : ℕ) (p : List ℕ) (r : Reply) : Type 0 where
   pub outcome : outcome_in a w ≡ got a.max r.0
   pub state : state_at (after (attempt a) w).roots j p ≡ Some r.1
+
+-- one device that holds its address
+pub record SomeHolder (a : Attempt) (w : World) : Type 0 where
+  pub j : ℕ
+  pub p : List ℕ
+  pub b : PortState
+  pub s : State
+  pub below : Ports
+  pub holder : HolderIn a w j p b s below
+
+-- one that is not silent
+pub record Answerer (a : Attempt) (w : World) : Type 0 where
+  pub held : SomeHolder a w
+  pub loud : held.s.spec.silent ≡ false

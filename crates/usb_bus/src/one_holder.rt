@@ -1,7 +1,7 @@
 //! Laws of an attempt where one reachable device holds its address, or none does, for those who make attempts.
 //!
 //! Each call does nothing; what it ensures is for proofs to cite.
-ghost use Rattle.std.specs.Prelude.{◌≡◌, ℕ, suc, ◌&&◌, Bool, true, false, List, [], ◌∷◌, Option, None, Some};
+ghost use Rattle.std.specs.Prelude.{◌≡◌, ◌⊎◌, ℕ, suc, ◌&&◌, Bool, true, false, List, [], ◌∷◌, Option, None, Some};
 ghost use Rattle.usb_packet.specs.declared.Toggle.{Toggle};
 ghost use Rattle.usb_port.specs.PortState.{PortState};
 ghost use Rattle.usb_request.specs.Layout.{setup_of};
@@ -19,7 +19,7 @@ ghost use Rattle.usb_bus.specs.Passes.{IsSettled, NobodyHolds, deep_at, attempt_
 ghost use Rattle.usb_bus.specs.World.{World};
 ghost use Rattle.usb_bus.specs.Steps.{outcome_in, ready, damage_in, attempt, after};
 ghost use Rattle.usb_bus.specs.Courses.{resets};
-ghost use Rattle.usb_bus.specs.OneHolder.{Holder, Exchanged, IsSetup, IsOut, IsIn, setup_alone, out_alone, in_alone, hears_attempt, AllWhole, IsMade, HolderIn, ExchangedIn};
+ghost use Rattle.usb_bus.specs.OneHolder.{Holder, Exchanged, IsSetup, IsOut, IsIn, setup_alone, out_alone, in_alone, hears_attempt, AllWhole, IsMade, HolderIn, ExchangedIn, SomeHolder, Answerer};
 
 /// No reachable device holds the address: nothing is answered, and no device changes.
 pub fn nobody_is_asked()
@@ -99,4 +99,11 @@ pub fn undamaged_attempts_in_worlds()
     ensures into { (a : Attempt) (w : World) (j : ℕ) (p : List ℕ) (b : PortState) (s : State) (below : Ports) → HolderIn a w j p b s below
         → s.spec.silent ≡ false → hears_attempt a (deep_at false p) s ≡ true → damage_in w ≡ None → IsIn a
         → ExchangedIn a w j p (in_law s (row_of below) a.ep a.max whole whole whole) }
+{}
+
+/// Where no address is held twice, one device holds the address of an attempt or none does; so whatever the host gets
+/// comes from one device, which is not silent.
+pub fn one_device_answers()
+    ensures holder { (a : Attempt) (w : World) → IsMade a w → (after (attempt a) w).shared ≡ false → SomeHolder a w ⊎ NobodyHolds a.addr (ready w).roots }
+    ensures answerer { (a : Attempt) (w : World) → IsMade a w → (after (attempt a) w).shared ≡ false → (outcome_in a w ≡ Nothing → ⊥) → Answerer a w }
 {}

@@ -1,0 +1,5 @@
+use Rattle.usb_bus.proofs.OneHolderWho.{holder_or_nobody, one_answers}
+use Rattle.usb_bus.proofs.one_holder.one_device_answers.Goals as goal
+
+pub returns : goal.returns
+returns c = record { holder = holder_or_nobody; answerer = one_answers }
