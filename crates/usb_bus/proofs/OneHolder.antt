@@ -82,7 +82,7 @@ module _ (deep : Bool) (b : PortState) where
   ports_by None s a = a
   ports_by (Some q) s a = acted (effect_of q deep s) (after_packet q true a)
 
-  passed_stands : (o : Option Sent) (s : State) (a : Ports) → passed_place o deep (full b s a) ≡ full b (heard_by o deep s (row_of a)).1 (ports_by o s a)
+  pub passed_stands : (o : Option Sent) (s : State) (a : Ports) → passed_place o deep (full b s a) ≡ full b (heard_by o deep s (row_of a)).1 (ports_by o s a)
   unfolding answer_of
   passed_stands None s a = refl
   passed_stands (Some q) s a = refl
@@ -231,7 +231,7 @@ module _ (a : Attempt) (d : Option Damage) (k : Ports) (j : ℕ) (p : List ℕ) 
   first_place : option_map (passed_place (token_out a d) is_deep) (place_at k j p) ≡ Some (full b first.1 first_below)
   first_place = ap (option_map (passed_place (token_out a d) is_deep)) h.stands ∙ ap (λ x. Some x) (passed_stands is_deep b (token_out a d) s below)
 
-  second_place : passed_place (payload_out a d) is_deep (full b first.1 first_below) ≡ full b second.1 second_below
+  pub second_place : passed_place (payload_out a d) is_deep (full b first.1 first_below) ≡ full b second.1 second_below
   second_place = passed_stands is_deep b (payload_out a d) first.1 first_below ∙ ap (λ r. full b (heard_by (payload_out a d) is_deep first.1 r).1 second_below) first_row
 
   first_told : told (token_out a d) k ≡ listed first.0 []
@@ -255,13 +255,13 @@ module _ (a : Attempt) (d : Option Damage) (k : Ports) (j : ℕ) (p : List ℕ) 
 
   -- SETUP and OUT: the token T is not answered, and X is not answered by data
   module _ (T X : Packet) (token_is : token_of a ≡ T) (payload_is : payload_of a ≡ Some X) (quiet : (w : Way) → (through w s own_row T).0 ≡ None) where
-    abbrev to_token : Reply
+    abbrev pub to_token : Reply
     to_token = through (token_way a d is_deep s) s own_row T
 
     abbrev to_data : Reply
     to_data = through (payload_way a d is_deep s) to_token.1 own_row X
 
-    first_sent : first ≡ to_token
+    pub first_sent : first ≡ to_token
     first_sent = token_comes a d is_deep s own_row ∙ ap (through (token_way a d is_deep s) s own_row) token_is
 
     second_sent : second ≡ to_data
@@ -329,7 +329,7 @@ pub token_is : (a : Attempt) (t : TokenKind) (n e : ℕ) → a.kind ≡ t → a.
 unfolding token_of
 token_is a t n e x y z = rw (x, y, z) refl
 
-data_is : (a : Attempt) (t : Toggle) (bytes : ArrayVec ℕ) → a.payload ≡ Some (t, bytes) → payload_of a ≡ Some (packet.Payload t bytes)
+pub data_is : (a : Attempt) (t : Toggle) (bytes : ArrayVec ℕ) → a.payload ≡ Some (t, bytes) → payload_of a ≡ Some (packet.Payload t bytes)
 unfolding payload_of
 data_is a t bytes e = rw e refl
 
