@@ -105,7 +105,7 @@ comes l pre mark.PreLost p deep s row =
 comes l pre (mark.Flipped bit) p deep s row =
     elim (is_heard (record { low = l; pre = pre; content = content.Broken }) deep s.spec.low) as (λ x. ◌≡◌ {A = Reply} (if x then (None, unread s) else (None, s)) (through (if x then broken else lost) s row p)) [ true ↦ refl | false ↦ refl ]
 
-token_comes : (a : Attempt) (d : Option Damage) (deep : Bool) (s : State) (row : List PortState) → heard_by (token_out a d) deep s row ≡ through (token_way a d deep s) s row (token_of a)
+pub token_comes : (a : Attempt) (d : Option Damage) (deep : Bool) (s : State) (row : List PortState) → heard_by (token_out a d) deep s row ≡ through (token_way a d deep s) s row (token_of a)
 unfolding marked
 token_comes a d deep s row = comes a.low a.pre (mark_of (harm_to d 1) a.pre (token_of a)) (token_of a) deep s row
 
@@ -119,7 +119,7 @@ payload_comes : (a : Attempt) (d : Option Damage) (p : Packet) → payload_of a 
 payload_comes a d p e deep s row =
     subst (λ o. heard_by (goes_out a (marked_some d 2 a.pre o)) deep s row ≡ through (way_to deep s (goes_out a (marked_some d 2 a.pre o))) s row p) (sym e) (some_comes a d 2 p deep s row)
 
-no_payload : (a : Attempt) (d : Option Damage) → payload_of a ≡ None → payload_out a d ≡ None
+pub no_payload : (a : Attempt) (d : Option Damage) → payload_of a ≡ None → payload_out a d ≡ None
 unfolding marked_some
 no_payload a d e = ap (λ o. goes_out a (marked_some d 2 a.pre o)) e
 
@@ -135,13 +135,13 @@ reply_comes a d n o good deep s row e =
     base false = refl
 
 -- no packet changes what the device is
-through_spec : (w : Way) (s : State) (row : List PortState) (p : Packet) → (through w s row p).1.spec ≡ s.spec
+pub through_spec : (w : Way) (s : State) (row : List PortState) (p : Packet) → (through w s row p).1.spec ≡ s.spec
 unfolding unread
 through_spec whole s row p = (keeps-received s row p).spec
 through_spec broken s row p = elim s.spec.silent as (λ x. (if x then s else forgotten s).spec ≡ s.spec) [ true ↦ refl | false ↦ refl ]
 through_spec lost s row p = refl
 
-way_same : (deep : Bool) (o : Option Sent) (s r : State) → r.spec ≡ s.spec → way_to deep r o ≡ way_to deep s o
+pub way_same : (deep : Bool) (o : Option Sent) (s r : State) → r.spec ≡ s.spec → way_to deep r o ≡ way_to deep s o
 way_same deep None s r e = refl
 way_same deep (Some q) s r e = ap (λ x. if is_heard q deep x.low then content_way q.content else lost) e
 

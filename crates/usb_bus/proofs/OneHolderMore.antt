@@ -52,7 +52,7 @@ silent_heard (Some q) deep s row h =
 
 module _ (a : Attempt) (d : Option Damage) (k : Ports) (j : ℕ) (p : List ℕ) (b : PortState) (s : State) (below : Ports) (h : Holder a.addr k j p b s below) where
   module _ (silent : s.spec.silent ≡ true) where
-    first_silent : first a d k j p b s below h ≡ (None, s)
+    pub first_silent : first a d k j p b s below h ≡ (None, s)
     first_silent = silent_heard (token_out a d) (deep_at false p) s (row_of below) silent
 
     second_silent : second a d k j p b s below h ≡ (None, s)
@@ -189,7 +189,7 @@ unequal n x h = pick (decided (n == x))
     pick (inl y) = elim (h (equal_same n x y)) [ ]
     pick (inr y) = y
 
-made_is : (a : Attempt) (w : World) → IsMade a w → after (attempt a) w ≡ with_attempt a (ready w)
+pub made_is : (a : Attempt) (w : World) → IsMade a w → after (attempt a) w ≡ with_attempt a (ready w)
 unfolding after
 made_is a w m = rw (m.sound, unequal w.attempts w.limit m.within) refl
 

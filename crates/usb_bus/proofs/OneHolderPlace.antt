@@ -11,6 +11,7 @@ use Rattle.usb_packet.specs.declared.Toggle.TheVariants.{Zero}
 use Rattle.usb_packet.specs.declared.TokenKind.TheVariants.{OutTok, InTok, SetupTok}
 use Rattle.usb_port.specs.PortState.{PortState}
 use Rattle.usb_request.specs.Layout.{setup_of}
+use Rattle.usb_device.specs.declared.delivery.Content.{Content}
 use Rattle.usb_device.specs.declared.delivery.Content.TheVariants as content
 use Rattle.usb_device.specs.declared.delivery.Sent.{Sent}
 use Rattle.usb_device.specs.declared.effect.Effect.{Effect}
@@ -31,15 +32,17 @@ use Rattle.usb_bus.specs.Wire.{is_read, mark_of, harm_to, marked, marked_some}
 use Rattle.usb_bus.specs.Live.{address_of}
 use Rattle.usb_bus.specs.Exchange.{token_of, payload_of, reply_of, sent_as, goes_out, token_out, payload_out, reply_out, heard_in, mark_in, place_of_answer, ports_in}
 use Rattle.usb_bus.specs.Passes.{passed_place, forgotten_place, place_after, deep_at, IsSettled, NobodyHolds, OneHolds}
-use Rattle.usb_bus.specs.OneHolder.{way_to, token_way, payload_way, IsSetup, IsOut, IsIn, Holder, Exchanged}
+use Rattle.usb_bus.specs.World.{World}
+use Rattle.usb_bus.specs.Steps.{ready, damage_in, with_attempt, attempt, after}
+use Rattle.usb_bus.specs.OneHolder.{way_to, token_way, payload_way, IsSetup, IsOut, IsIn, Holder, HolderIn, Exchanged, setup_alone, out_alone, in_alone, setup_asked}
 use Rattle.usb_bus.proofs.Booleans.{no, both, and_of, decided}
 use Rattle.usb_bus.proofs.Holders.{one_path}
 use Rattle.usb_bus.proofs.PassLaws.{CalmOut, token_out as token_calm, ack_out as ack_calm, forgotten_off}
 use Rattle.usb_bus.proofs.Between.{settled_called}
 use Rattle.usb_bus.proofs.OneDevice.{AllRest, rest_packet, settled_memory, stands}
 use Rattle.usb_bus.proofs.WorldLaws.{goes}
-use Rattle.usb_bus.proofs.OneHolder.{is_deep, own_row, acts, rests, ports_by, passed_stands, first, first_below, second, second_below, third, second_place, is_state, its_address, token_is, data_is, none_is, first_sent}
-use Rattle.usb_bus.proofs.OneHolderMore.{equal_same}
+use Rattle.usb_bus.proofs.OneHolder.{is_deep, own_row, acts, rests, ports_by, passed_stands, first, first_below, second, second_below, third, second_place, is_state, its_address, token_is, data_is, none_is, token_comes, no_payload, through_spec, way_same, setup_one, out_one, in_one}
+use Rattle.usb_bus.proofs.OneHolderMore.{equal_same, first_silent, silent_one, made_is, holder_in}
 
 -- What stands below the holder
 
@@ -188,6 +191,94 @@ acted_settled Leaves x h = h
 acted_settled (Calls c i) x h = settled_called c x (suc i ∷ []) h
 acted_settled PortsOff x h = sym (forgotten_off x) ∙ ap all_off h
 
+-- the same, by how the packet comes
+abbrev pub asked_through : Way → State → Packet → Effect
+asked_through whole s p = asks s p
+asked_through broken s p = Leaves
+asked_through lost s p = Leaves
+
+asked_comes : (l pre : Bool) (m : Mark) (p : Packet) (deep : Bool) (s : State) → asked_of (sent_as l pre m p) deep s ≡ asked_through (way_to deep s (sent_as l pre m p)) s p
+unfolding effect_of
+asked_comes l pre mark.Whole p deep s =
+    elim (is_heard (record { low = l; pre = pre; content = content.Whole p }) deep s.spec.low) as (λ x. (if x then asks s p else Leaves) ≡ asked_through (if x then whole else lost) s p) [ true ↦ refl | false ↦ refl ]
+asked_comes l pre mark.Lost p deep s = refl
+asked_comes l pre mark.PreLost p deep s =
+    elim (is_heard (record { low = l; pre = false; content = content.Whole p }) deep s.spec.low) as (λ x. (if x then asks s p else Leaves) ≡ asked_through (if x then whole else lost) s p) [ true ↦ refl | false ↦ refl ]
+asked_comes l pre (mark.Flipped bit) p deep s =
+    elim (is_heard (record { low = l; pre = pre; content = content.Broken }) deep s.spec.low) as (λ x. (if x then Leaves else Leaves) ≡ asked_through (if x then broken else lost) s p) [ true ↦ refl | false ↦ refl ]
+
+some_asked : (a : Attempt) (d : Option Damage) (n : ℕ) (p : Packet) (deep : Bool) (s : State)
+    → asked_of (goes_out a (marked_some d n a.pre (Some p))) deep s ≡ asked_through (way_to deep s (goes_out a (marked_some d n a.pre (Some p)))) s p
+unfolding marked marked_some
+some_asked a d n p deep s = asked_comes a.low a.pre (mark_of (harm_to d n) a.pre p) p deep s
+
+payload_asked : (a : Attempt) (d : Option Damage) (p : Packet) → payload_of a ≡ Some p → (deep : Bool) (s : State) → asked_of (payload_out a d) deep s ≡ asked_through (payload_way a d deep s) s p
+payload_asked a d p e deep s =
+    subst (λ o. asked_of (goes_out a (marked_some d 2 a.pre o)) deep s ≡ asked_through (way_to deep s (goes_out a (marked_some d 2 a.pre o))) s p) (sym e) (some_asked a d 2 p deep s)
+
+silent_asks : (s : State) (p : Packet) → s.spec.silent ≡ true → asks s p ≡ Leaves
+unfolding asks
+silent_asks s p h = rw h refl
+
+silent_asked : (o : Option Sent) (deep : Bool) (s : State) → s.spec.silent ≡ true → asked_of o deep s ≡ Leaves
+unfolding effect_of
+silent_asked None deep s h = refl
+silent_asked (Some q) deep s h = elim (is_heard q deep s.spec.low) as (λ x. (if x then asked_by q.content s else Leaves) ≡ Leaves) [ true ↦ by_content q.content | false ↦ refl ]
+  where
+    by_content : (c : Content) → asked_by c s ≡ Leaves
+    by_content (content.Whole p) = silent_asks s p h
+    by_content content.Broken = refl
+
+-- data after a token
+
+same_self : (n : ℕ) → (n == n) ≡ true
+same_self n = grind (arith, nat_tests)
+
+-- a device that remembers nothing asks nothing
+quiet_asks : (s : State) (t : Toggle) (bytes : ArrayVec ℕ) → s.memory ≡ memory.Nothing → asks s (packet.Payload t bytes) ≡ Leaves
+unfolding asks
+quiet_asks s t bytes n = elim s.spec.silent as (λ x. (if x then Leaves else asked_by_packet s (packet.Payload t bytes)) ≡ Leaves) [ true ↦ refl | false ↦ rw n refl ]
+
+unread_rests : (s : State) → s.memory ≡ memory.Nothing → (unread s).memory ≡ memory.Nothing
+unfolding unread
+unread_rests s n = elim s.spec.silent as (λ x. (if x then s else forgotten s).memory ≡ memory.Nothing) [ true ↦ n | false ↦ refl ]
+
+setup_seen : (s : State) (row : List PortState) → s.spec.silent ≡ false → received s row (Token SetupTok s.registers.address 0) ≡ (None, record (forgotten s) { memory = memory.SetupSeen })
+unfolding received
+setup_seen s row loud = rw (loud, same_self s.registers.address) refl
+
+out_seen : (s : State) (row : List PortState) (e : ℕ) → s.spec.silent ≡ false → received s row (Token OutTok s.registers.address e) ≡ (None, record (forgotten s) { memory = memory.OutSeen e })
+unfolding received
+out_seen s row e loud = rw (loud, same_self s.registers.address) refl
+
+setup_asks : (s : State) (bytes : List ℕ) → s.spec.silent ≡ false → length bytes ≡ 8 → asks (record (forgotten s) { memory = memory.SetupSeen }) (packet.Payload Zero (record { items = bytes })) ≡ asked_by_setup s (setup_of bytes)
+unfolding asks
+setup_asks s bytes loud len = rw (loud, len) refl
+
+out_asks : (s : State) (e : ℕ) (t : Toggle) (bytes : List ℕ) → s.spec.silent ≡ false → asks (record (forgotten s) { memory = memory.OutSeen e }) (packet.Payload t (record { items = bytes })) ≡ Leaves
+unfolding asks
+out_asks s e t bytes loud = rw loud refl
+
+asked_setup : (s : State) (row : List PortState) → s.spec.silent ≡ false → s.memory ≡ memory.Nothing → (bytes : List ℕ) → length bytes ≡ 8 → (x y : Way)
+    → asked_through y (through x s row (Token SetupTok s.registers.address 0)).1 (packet.Payload Zero (record { items = bytes })) ≡ (if is_whole x && is_whole y then asked_by_setup s (setup_of bytes) else Leaves)
+asked_setup s row loud n bytes len whole whole = ap (λ r. asks r.1 (packet.Payload Zero (record { items = bytes }))) (setup_seen s row loud) ∙ setup_asks s bytes loud len
+asked_setup s row loud n bytes len whole broken = refl
+asked_setup s row loud n bytes len whole lost = refl
+asked_setup s row loud n bytes len broken whole = quiet_asks (unread s) Zero (record { items = bytes }) (unread_rests s n)
+asked_setup s row loud n bytes len broken broken = refl
+asked_setup s row loud n bytes len broken lost = refl
+asked_setup s row loud n bytes len lost whole = quiet_asks s Zero (record { items = bytes }) n
+asked_setup s row loud n bytes len lost broken = refl
+asked_setup s row loud n bytes len lost lost = refl
+
+asked_out : (s : State) (row : List PortState) → s.spec.silent ≡ false → s.memory ≡ memory.Nothing → (e : ℕ) (t : Toggle) (bytes : List ℕ) → (x y : Way)
+    → asked_through y (through x s row (Token OutTok s.registers.address e)).1 (packet.Payload t (record { items = bytes })) ≡ Leaves
+asked_out s row loud n e t bytes whole whole = ap (λ r. asks r.1 (packet.Payload t (record { items = bytes }))) (out_seen s row e loud) ∙ out_asks s e t bytes loud
+asked_out s row loud n e t bytes broken whole = quiet_asks (unread s) t (record { items = bytes }) (unread_rests s n)
+asked_out s row loud n e t bytes lost whole = quiet_asks s t (record { items = bytes }) n
+asked_out s row loud n e t bytes x broken = refl
+asked_out s row loud n e t bytes x lost = refl
+
 module _ (a : Attempt) (d : Option Damage) (k : Ports) (j : ℕ) (p : List ℕ) (b : PortState) (s : State) (below : Ports) (h : Holder a.addr k j p b s below) where
   abbrev pub effect : Effect
   effect = asked_of (payload_out a d) (deep_at false p) (first a d k j p b s below h).1
@@ -234,3 +325,93 @@ module _ (a : Attempt) (d : Option Damage) (k : Ports) (j : ℕ) (p : List ℕ) 
   placed r x =
       is_place
       ∙ ap₂ (λ u y. Some (full b u y)) (same_Some (forgotten (third a d k j p b s below h).1) r.1 (sym (is_state a d k j p b s below h) ∙ x.state)) (ap all_forgotten third_same ∙ settled_end)
+
+  -- By kind
+
+  abbrev row : List PortState
+  row = row_of below
+
+  abbrev t1 : Way
+  t1 = token_way a d (deep_at false p) s
+
+  abbrev t2 : Way
+  t2 = payload_way a d (deep_at false p) s
+
+  -- what the host's data X ask after the token T
+  sent_effect : (T X : Packet) → token_of a ≡ T → payload_of a ≡ Some X → effect ≡ asked_through t2 (through t1 s row T).1 X
+  sent_effect T X u v =
+      ap (λ r. asked_of (payload_out a d) (deep_at false p) r.1) (token_comes a d (deep_at false p) s row ∙ ap (through t1 s row) u)
+      ∙ payload_asked a d X v (deep_at false p) (through t1 s row T).1
+      ∙ ap (λ y. asked_through y (through t1 s row T).1 X) (way_same (deep_at false p) (payload_out a d) s (through t1 s row T).1 (through_spec t1 s row T))
+
+  remembers_nothing : s.memory ≡ memory.Nothing
+  remembers_nothing = rests a d k j p b s below h
+
+  its_own : s.registers.address ≡ a.addr
+  its_own = its_address a d k j p b s below h
+
+  setup_effect : s.spec.silent ≡ false → (bytes : List ℕ) → IsSetup a bytes → effect ≡ setup_asked a d (deep_at false p) s bytes
+  setup_effect loud bytes i =
+      sent_effect (Token SetupTok s.registers.address 0) (packet.Payload Zero (record { items = bytes })) (token_is a SetupTok s.registers.address 0 i.kind (sym its_own) i.ep) (data_is a Zero (record { items = bytes }) i.payload)
+      ∙ asked_setup s row loud remembers_nothing bytes i.whole t1 t2
+
+  out_effect : s.spec.silent ≡ false → (t : Toggle) (bytes : List ℕ) → IsOut a t bytes → effect ≡ Leaves
+  out_effect loud t bytes i =
+      sent_effect (Token OutTok s.registers.address a.ep) (packet.Payload t (record { items = bytes })) (token_is a OutTok s.registers.address a.ep i.kind (sym its_own) refl) (data_is a t (record { items = bytes }) i.payload)
+      ∙ asked_out s row loud remembers_nothing a.ep t bytes t1 t2
+
+  in_effect : IsIn a → effect ≡ Leaves
+  in_effect i = ap (λ o. asked_of o (deep_at false p) (first a d k j p b s below h).1) (no_payload a d (none_is a i.payload))
+
+  silent_effect : s.spec.silent ≡ true → effect ≡ Leaves
+  silent_effect silent = ap (λ r. asked_of (payload_out a d) (deep_at false p) r.1) (first_silent a d k j p b s below h silent) ∙ silent_asked (payload_out a d) (deep_at false p) s silent
+
+  placed_with : (r : Reply) (e : Effect) → effect ≡ e → Exchanged a d k j p r → place_at (ports_in a d k) j p ≡ Some (full b r.1 (acted e below))
+  placed_with r e is x = placed r x ∙ ap (λ y. Some (full b r.1 (acted y below))) is
+
+  pub setup_place : s.spec.silent ≡ false → (bytes : List ℕ) → IsSetup a bytes
+      → place_at (ports_in a d k) j p ≡ Some (full b (setup_alone a d k (deep_at false p) s (row_of below) bytes).1 (acted (setup_asked a d (deep_at false p) s bytes) below))
+  setup_place loud bytes i =
+      placed_with (setup_alone a d k (deep_at false p) s (row_of below) bytes) (setup_asked a d (deep_at false p) s bytes) (setup_effect loud bytes i) (setup_one a d k j p b s below h loud bytes i)
+
+  pub out_place : s.spec.silent ≡ false → (t : Toggle) (bytes : List ℕ) → IsOut a t bytes
+      → place_at (ports_in a d k) j p ≡ Some (full b (out_alone a d k (deep_at false p) s t bytes).1 below)
+  out_place loud t bytes i = placed_with (out_alone a d k (deep_at false p) s t bytes) Leaves (out_effect loud t bytes i) (out_one a d k j p b s below h loud t bytes i)
+
+  pub in_place : s.spec.silent ≡ false → IsIn a → place_at (ports_in a d k) j p ≡ Some (full b (in_alone a d k (deep_at false p) s (row_of below)).1 below)
+  in_place loud i = placed_with (in_alone a d k (deep_at false p) s (row_of below)) Leaves (in_effect i) (in_one a d k j p b s below h loud i)
+
+  pub silent_place : s.spec.silent ≡ true → place_at (ports_in a d k) j p ≡ Some (full b s below)
+  silent_place silent = placed_with (None, s) Leaves (silent_effect silent) (silent_one a d k j p b s below h silent)
+
+-- Worlds
+
+module _ (a : Attempt) (w : World) (j : ℕ) (p : List ℕ) (b : PortState) (s : State) (below : Ports) (h : HolderIn a w j p b s below) where
+  abbrev there : Holder a.addr (ready w).roots j p b s below
+  there = holder_in a w j p b s below h
+
+  world_place : (x : Option Place) → place_at (ports_in a (damage_in (ready w)) (ready w).roots) j p ≡ x → place_at (after (attempt a) w).roots j p ≡ x
+  unfolding with_attempt
+  world_place x e = ap (λ v. place_at v.roots j p) (made_is a w h.made) ∙ e
+
+  pub setup_place_in : s.spec.silent ≡ false → (bytes : List ℕ) → IsSetup a bytes
+      → place_at (after (attempt a) w).roots j p
+      ≡ Some (full b (setup_alone a (damage_in (ready w)) (ready w).roots (deep_at false p) s (row_of below) bytes).1 (acted (setup_asked a (damage_in (ready w)) (deep_at false p) s bytes) below))
+  setup_place_in loud bytes i =
+      world_place (Some (full b (setup_alone a (damage_in (ready w)) (ready w).roots (deep_at false p) s (row_of below) bytes).1 (acted (setup_asked a (damage_in (ready w)) (deep_at false p) s bytes) below)))
+      (setup_place a (damage_in (ready w)) (ready w).roots j p b s below there loud bytes i)
+
+  pub out_place_in : s.spec.silent ≡ false → (t : Toggle) (bytes : List ℕ) → IsOut a t bytes
+      → place_at (after (attempt a) w).roots j p ≡ Some (full b (out_alone a (damage_in (ready w)) (ready w).roots (deep_at false p) s t bytes).1 below)
+  out_place_in loud t bytes i =
+      world_place (Some (full b (out_alone a (damage_in (ready w)) (ready w).roots (deep_at false p) s t bytes).1 below))
+      (out_place a (damage_in (ready w)) (ready w).roots j p b s below there loud t bytes i)
+
+  pub in_place_in : s.spec.silent ≡ false → IsIn a
+      → place_at (after (attempt a) w).roots j p ≡ Some (full b (in_alone a (damage_in (ready w)) (ready w).roots (deep_at false p) s (row_of below)).1 below)
+  in_place_in loud i =
+      world_place (Some (full b (in_alone a (damage_in (ready w)) (ready w).roots (deep_at false p) s (row_of below)).1 below))
+      (in_place a (damage_in (ready w)) (ready w).roots j p b s below there loud i)
+
+  pub silent_place_in : s.spec.silent ≡ true → place_at (after (attempt a) w).roots j p ≡ Some (full b s below)
+  silent_place_in silent = world_place (Some (full b s below)) (silent_place a (damage_in (ready w)) (ready w).roots j p b s below there silent)

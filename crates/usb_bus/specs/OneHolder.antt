@@ -9,8 +9,12 @@ use Rattle.usb_device.specs.declared.answer.Answer.TheVariants as answer
 use Rattle.usb_device.specs.declared.delivery.Content.{Content}
 use Rattle.usb_device.specs.declared.delivery.Content.TheVariants as content
 use Rattle.usb_device.specs.declared.delivery.Sent.{Sent}
+use Rattle.usb_request.specs.Layout.{setup_of}
+use Rattle.usb_device.specs.declared.effect.Effect.{Effect}
+use Rattle.usb_device.specs.declared.effect.Effect.TheVariants.{Leaves}
+use Rattle.usb_device.specs.Effect.{asked_by_setup}
 use Rattle.usb_device.specs.Rows.{State, Reply}
-use Rattle.usb_device.specs.Attempt.{Way, whole, broken, lost, setup_law, out_law, in_law}
+use Rattle.usb_device.specs.Attempt.{Way, whole, broken, lost, is_whole, setup_law, out_law, in_law}
 use Rattle.usb_device.specs.Tree.{Ports, full, reach_at, state_at, place_at}
 use Rattle.usb_device.specs.Delivery.{hears}
 use Rattle.usb_bus.specs.declared.types.Attempt.{Attempt}
@@ -142,3 +146,7 @@ pub record SomeHolder (a : Attempt) (w : World) : Type 0 where
 pub record Answerer (a : Attempt) (w : World) : Type 0 where
   pub held : SomeHolder a w
   pub loud : held.s.spec.silent ≡ false
+
+-- what SETUP makes the device ask of its ports: what the setup data say, where they are accepted
+abbrev pub setup_asked : Attempt → Option Damage → Bool → State → List ℕ → Effect
+setup_asked a damage deep s bytes = if is_whole (token_way a damage deep s) && is_whole (payload_way a damage deep s) then asked_by_setup s (setup_of bytes) else Leaves

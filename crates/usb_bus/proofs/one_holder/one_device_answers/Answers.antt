@@ -1,4 +1,3 @@
-use Rattle.usb_bus.proofs.OneHolderPlace.{placed}
 use Rattle.usb_bus.proofs.OneHolderWho.{holder_or_nobody, one_answers}
 use Rattle.usb_bus.proofs.one_holder.one_device_answers.Goals as goal
 
