@@ -19,6 +19,7 @@ use Rattle.usb_device.specs.Tree.{Ports, row_of, state_at}
 use Rattle.usb_device.specs.Delivery.{hears, reply_to, listed, held, is_twice}
 use Rattle.usb_device.proofs.Attempts.{silent-stays, silent-unread}
 use Rattle.usb_bus.specs.declared.types.Attempt.{Attempt}
+use Rattle.usb_bus.specs.declared.types.BusFault.TheVariants.{LimitReached}
 use Rattle.usb_bus.specs.declared.types.Outcome.TheVariants as outcome
 use Rattle.usb_bus.specs.declared.damage.Damage.{Damage}
 use Rattle.usb_bus.specs.declared.event.Event.{Event}
@@ -30,7 +31,7 @@ use Rattle.usb_bus.specs.Live.{address_of, same_number, same_path}
 use Rattle.usb_bus.specs.Touched.{reset_if}
 use Rattle.usb_bus.specs.Exchange.{token_of, payload_of, reply_of, answer_mark, goes_out, heard_all, token_out, payload_out, reply_out, heard_in, mark_in, place_of_answer, ports_in}
 use Rattle.usb_bus.specs.Passes.{heard_by, deep_at, attempt_resets, IsSettled, NobodyHolds}
-use Rattle.usb_bus.specs.World.{World}
+use Rattle.usb_bus.specs.World.{World, Made}
 use Rattle.usb_bus.specs.Courses.{is_made, resets}
 use Rattle.usb_bus.specs.Steps.{is_due, took, due_from, ready, damage_in, with_attempt, outcome_in, attempt, after}
 use Rattle.usb_bus.specs.OneHolder.{way_to, way_back, token_way, answer_way, reply_way, setup_alone, out_alone, in_alone, IsSetup, IsOut, IsIn, Holder, Exchanged, hears_attempt, AllWhole, IsMade, HolderIn, ExchangedIn}
@@ -192,6 +193,17 @@ unequal n x h = pick (decided (n == x))
 pub made_is : (a : Attempt) (w : World) → IsMade a w → after (attempt a) w ≡ with_attempt a (ready w)
 unfolding after
 made_is a w m = rw (m.sound, unequal w.attempts w.limit m.within) refl
+
+same_test : (n x : ℕ) → n ≡ x → (n == x) ≡ true
+same_test n x h = grind (arith, nat_tests)
+
+at_limit : (a : Attempt) (w : World) → w.fault ≡ None → w.attempts ≡ w.limit → (after (attempt a) w).fault ≡ Some LimitReached
+unfolding after
+at_limit a w s e = rw (s, same_test w.attempts w.limit e) refl
+
+-- an attempt that ends well was made
+pub made_of : (a : Attempt) (w : World) → IsSettled w.roots → Made w (after (attempt a) w) → IsMade a w
+made_of a w h m = record { sound = m.sound; within = λ e. no (ap is_some (sym m.still ∙ at_limit a w m.sound e)); settled = h }
 
 made_true : (a : Attempt) (w : World) → IsMade a w → is_made w.fault w ≡ true
 made_true a w m = rw (m.sound, unequal w.attempts w.limit m.within) refl

@@ -16,7 +16,7 @@ ghost use Rattle.usb_bus.specs.Exchange.{heard_in, mark_in, outcome_of, ports_in
 ghost use Rattle.usb_bus.specs.Live.{same_number, same_path};
 ghost use Rattle.usb_bus.specs.Touched.{reset_if};
 ghost use Rattle.usb_bus.specs.Passes.{IsSettled, NobodyHolds, deep_at, attempt_resets};
-ghost use Rattle.usb_bus.specs.World.{World};
+ghost use Rattle.usb_bus.specs.World.{World, Made};
 ghost use Rattle.usb_bus.specs.Steps.{outcome_in, ready, damage_in, attempt, after};
 ghost use Rattle.usb_bus.specs.Courses.{resets};
 ghost use Rattle.usb_bus.specs.OneHolder.{Holder, Exchanged, IsSetup, IsOut, IsIn, setup_alone, out_alone, in_alone, setup_asked, hears_attempt, AllWhole, IsMade, HolderIn, ExchangedIn, SomeHolder, Answerer};
@@ -104,6 +104,8 @@ pub fn undamaged_attempts_in_worlds()
 /// Where no address is held twice, one device holds the address of an attempt or none does; so whatever the host gets
 /// comes from one device, which is not silent.
 pub fn one_device_answers()
+    // An attempt that ended well was made.
+    ensures made { (a : Attempt) (w : World) → IsSettled w.roots → Made w (after (attempt a) w) → IsMade a w }
     ensures holder { (a : Attempt) (w : World) → IsMade a w → (after (attempt a) w).shared ≡ false → SomeHolder a w ⊎ NobodyHolds a.addr (ready w).roots }
     ensures answerer { (a : Attempt) (w : World) → IsMade a w → (after (attempt a) w).shared ≡ false → (outcome_in a w ≡ Nothing → ⊥) → Answerer a w }
 {}
