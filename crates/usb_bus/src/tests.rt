@@ -1,4 +1,6 @@
 mod damage;
+mod hubs;
 mod laws;
+mod memory;
 mod sim;
 mod watched;

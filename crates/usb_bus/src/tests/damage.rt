@@ -30,7 +30,7 @@ fn within(harm: Harm) -> Harm
 }
 
 /// Damage to one of the packets of one of the first attempts.
-fn damage(attempt: u64, packet: u8, harm: Harm) -> Damage
+pub(super) fn damage(attempt: u64, packet: u8, harm: Harm) -> Damage
     ensures { damage_fits 0 result ≡ true }
 {
     Damage {

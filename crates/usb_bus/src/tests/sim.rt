@@ -141,13 +141,13 @@ pub(super) fn set<W: Write>(bus: &mut SimBus<W>, port: u8, feature: u16) {
     }
 }
 
-fn clear<W: Write>(bus: &mut SimBus<W>, port: u8, feature: u16) {
+pub(super) fn clear<W: Write>(bus: &mut SimBus<W>, port: u8, feature: u16) {
     if port >= 1 && port <= bus.root_ports() && (feature == 16 || feature == 20) {
         bus.root_clear(port, feature);
     }
 }
 
-fn status<W: Write>(bus: &SimBus<W>, port: u8) -> [u8; 4] {
+pub(super) fn status<W: Write>(bus: &SimBus<W>, port: u8) -> [u8; 4] {
     if port >= 1 && port <= bus.root_ports() {
         return bus.root_status(port);
     }
