@@ -4,7 +4,7 @@ ghost use Rattle.usb_bus.specs.Served.{served_of};
 ghost use Rattle.usb_bus.specs.World.{Spends, root_row, to_come, changes};
 ghost use Rattle.usb_bus.specs.Sim.{world_of, writer_of};
 ghost use Rattle.usb_bus.specs.Steps.{opening, PutLine};
-ghost use Rattle.usb_host.specs.Hosting.{work};
+ghost use Rattle.usb_host.specs.Hosting.{work, opening as host_opening};
 ghost use Rattle.usb_main.specs.declared.runs.RunFault.TheVariants.{Memory as NoMemory};
 ghost use Rattle.usb_main.specs.Run.{Counts, Goes, IsCaused, run_fault, item_of, items_left, listing_of, IsBegun};
 
@@ -166,6 +166,7 @@ impl<W: Write> Runner<W> {
         writer: Watched<W>,
     ) -> Result<Runner<W>, (AllocError, Watched<W>)>
         requires { served_of plan.now ≡ Ok tt }
+        ensures opened { IfOk result (λ runner. runner.host ≡ host_opening (opening plan.now)) }
         ensures begun { IfOk result (λ runner. IsBegun plan.now runner.host.world) }
         ensures running { IfOk result (λ runner. runner.host.stopped ≡ false) }
         ensures back { IfErr result (λ e. e.1 ≡ writer) }
