@@ -7,6 +7,7 @@ mod event;
 mod exchange;
 mod losses;
 mod not_served;
+mod one_holder;
 mod plan;
 mod sim;
 mod trace;
@@ -19,6 +20,11 @@ pub use bus::Bus;
 pub use damage::{Damage, Damages, Harm};
 pub use event::{Action, Due, Event, Events, SentBytes};
 pub use not_served::{NotServed, served};
+pub use one_holder::{
+    in_with_one_holder, nobody_is_asked, others_stay_or_are_reset, out_with_one_holder,
+    setup_with_one_holder, silent_holder_answers_nothing, undamaged_attempts,
+    undamaged_attempts_in_worlds,
+};
 pub use plan::Plan;
 pub use sim::SimBus;
 pub use types::{Attempt, BusFault, Outcome};
