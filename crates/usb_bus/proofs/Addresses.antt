@@ -40,14 +40,15 @@ use Rattle.usb_bus.specs.Live.{address_of}
 use Rattle.usb_bus.specs.Touched.{resets_at, reset_if}
 use Rattle.usb_bus.specs.Passes.{passed, after_attempt, heard_state, deep_at, pass_resets, attempt_resets, IsTokenFor, IsDataOut, IsAckOut, IfOut, IsSettled}
 use Rattle.usb_bus.specs.World.{World}
-use Rattle.usb_bus.specs.Steps.{is_due, took, due_from, ready, damage_in, with_attempt, attempted, Step, attempt, root_call, event, report, after, Course, here, step}
+use Rattle.usb_bus.specs.Steps.{is_due, took, took_first, event_taken, due_from, ready, damage_in, with_attempt, attempted, Step, attempt, root_call, event, report, after, Course, here, step}
 use Rattle.usb_bus.specs.Courses.{is_made, made_resets, resets, address_at, Own, Injective}
-use Rattle.usb_bus.specs.Addresses.{is_setup, NoneTakes}
+use Rattle.usb_bus.specs.Addresses.{is_setup, NoneTakes, MovesData, GivesNoAddress}
 use Rattle.usb_bus.proofs.Booleans.{no, and_false, and_of}
 use Rattle.usb_bus.proofs.PacketLaws.{packet_state}
 use Rattle.usb_bus.proofs.PassLaws.{forgotten_state, calm_pass, token_out as token_calm_out, ack_out}
 use Rattle.usb_bus.proofs.OneDevice.{stands, state_stands, settled_memory}
 use Rattle.usb_bus.proofs.OneHolderMore.{ready_settled}
+use Rattle.usb_bus.proofs.Between.{settled_called, settled_happened, settled_ports}
 use Rattle.usb_bus.proofs.WorldLaws.{due_reach, unreset_reach, made_reach, goes}
 use Rattle.usb_bus.proofs.OwnLaws.{step_own, step_unshared}
 
@@ -516,3 +517,45 @@ data_own f a w kind none settled own = tried w.fault
 pub data_keeps : (f : List ℕ → Option ℕ) → Injective f → (a : Attempt) (w : World) → is_setup a.kind ≡ false → NoneTakes a.addr (ready w).roots → IsSettled w.roots
     → Own f w → w.shared ≡ false → Own f (after (attempt a) w) × ((after (attempt a) w).shared ≡ false)
 data_keeps f inj a w kind none settled own h = (data_own f a w kind none settled own, step_unshared f inj (attempt a) w own h)
+
+-- Courses
+
+keeps_settled : (s : Step) (w : World) → IsSettled w.roots → IsSettled (after s w).roots
+unfolding after with_attempt took ready
+keeps_settled (attempt a) w h = tried w.fault
+  where
+    tried : (x : Option BusFault) → IsSettled (attempted a x w).roots
+    tried (Some x) = h
+    tried None = made (w.attempts == w.limit)
+      where
+        made : (x : Bool) → IsSettled (if x then record w { fault = Some LimitReached } else with_attempt a (ready w)).roots
+        made true = h
+        made false = settled_ports a (damage_in (ready w)) (ready w).roots
+keeps_settled (root_call c n) w h = settled_called c w.roots (n ∷ []) h
+keeps_settled event w h = taken_it w.fault
+  where
+    first : (es : List Event) → IsSettled (took_first es w).roots
+    first [] = h
+    first (e ∷ es) = settled_happened e.action w.devices w.roots h
+
+    taken_it : (x : Option BusFault) → IsSettled (event_taken x w).roots
+    taken_it (Some x) = h
+    taken_it None = first w.left
+keeps_settled (report l) w h = h
+
+moved_own : (f : List ℕ → Option ℕ) (s : Step) (w : World) → MovesData s w → IsSettled w.roots → Own f w → Own f (after s w)
+moved_own f (attempt a) w m settled own = data_own f a w m.0 m.1 settled own
+moved_own f (root_call c n) w m settled own = elim m [ ]
+moved_own f event w m settled own = elim m [ ]
+moved_own f (report l) w m settled own = elim m [ ]
+
+given_own : (f : List ℕ → Option ℕ) (s : Step) (w : World) → GivesNoAddress s w → IsSettled w.roots → Own f w → Own f (after s w)
+given_own f s w (inl q) settled own = step_own f s w q own
+given_own f s w (inr m) settled own = moved_own f s w m settled own
+
+-- a course of such steps keeps each reachable device at its own address, and sets no mark
+pub course_keeps : (f : List ℕ → Option ℕ) → Injective f → {w v : World} → Course GivesNoAddress w v → IsSettled w.roots → Own f w → w.shared ≡ false
+    → Own f v × (v.shared ≡ false) × IsSettled v.roots
+course_keeps f inj (here w) settled own h = (own, h, settled)
+course_keeps f inj (step s {w} {v} k more) settled own h =
+    course_keeps f inj more (keeps_settled s w settled) (given_own f s w k settled own) (step_unshared f inj s w own h)

@@ -1,14 +1,15 @@
 -- The host's packets of an attempt, as they go out, and the tree after them.
 use Rattle.std.specs.Prelude.{◌≡◌, ℕ, ◌==◌, ◌&&◌, Bool, true, false, List, [], ◌∷◌, Option, None, Some, option_map, if◌then◌else◌, ⊤}
 use Rattle.usb_packet.specs.declared.Packet.TheVariants.{Token, Payload, Ack}
+use Rattle.usb_port.specs.PortState.{PortState}
 use Rattle.usb_device.specs.declared.answer.Answer.{Answer}
 use Rattle.usb_device.specs.declared.delivery.Content.{Content}
 use Rattle.usb_device.specs.declared.delivery.Content.TheVariants.{Whole, Broken}
 use Rattle.usb_device.specs.declared.delivery.Sent.{Sent}
-use Rattle.usb_device.specs.Rows.{State}
+use Rattle.usb_device.specs.Rows.{State, Reply}
 use Rattle.usb_device.specs.Attempt.{is_own}
 use Rattle.usb_device.specs.Tree.{Ports, Place, empty, full, acted, reach_at, state_at, place_at}
-use Rattle.usb_device.specs.Delivery.{answer_of, effect_of, listed, after_packet, answers, all_forgotten, held, is_twice}
+use Rattle.usb_device.specs.Delivery.{answer_of, effect_of, listed, after_packet, answers, all_forgotten, held, is_twice, hears, reply_to}
 use Rattle.usb_device.specs.View.{forgotten_place}
 use Rattle.usb_bus.specs.Touched.{resets_at, packet_spares, reset_if}
 use Rattle.usb_bus.specs.Live.{address_of, same_number, same_path}
@@ -26,6 +27,11 @@ told (Some q) k = answers q false k
 -- the ports after an attempt: the token, the host's data and its ACK
 abbrev pub after_attempt : Option Sent → Option Sent → Option Sent → Ports → Ports
 after_attempt token payload reply k = all_forgotten (passed reply (passed payload (passed token k)))
+
+-- what one device makes of a packet
+abbrev pub heard_by : Option Sent → Bool → State → List PortState → Reply
+heard_by None deep s row = (None, s)
+heard_by (Some q) deep s row = if hears q deep s then reply_to q.content s row else (None, s)
 
 -- a device's own state after a packet, which reaches it or does not
 abbrev pub heard_state : Sent → Bool → Bool → Option Place → Option State

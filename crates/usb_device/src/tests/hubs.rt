@@ -88,7 +88,7 @@ fn a_hub_tells_which_ports_changed(rt: HostRuntime) -> Result<(), Fail> {
         (Step::In(1), "DATA1 -"),
         (Step::Ack, "none"),
         (Step::InAt(1, 1), "NAK"),
-        (Step::PlugLow(0), ""),
+        (Step::PlugLow(1, 0), ""),
         (Step::InAt(1, 1), "DATA0 02"),
         (Step::Setup(1), "none"),
         (Step::Data0(STATUS_OF_PORT_1), "ACK"),
@@ -120,7 +120,7 @@ fn a_port_is_reset(rt: HostRuntime) -> Result<(), Fail> {
         (Step::Data0(SET_CONFIGURATION), "ACK"),
         (Step::Setup(1), "none"),
         (Step::Data0(POWER_PORT_1), "ACK"),
-        (Step::PlugLow(5), ""),
+        (Step::PlugLow(1, 5), ""),
         (Step::ChildAddress(Some(5)), ""),
         (Step::Setup(1), "none"),
         (Step::Data0(RESET_PORT_1), "ACK"),
@@ -153,7 +153,7 @@ fn a_device_below_is_written_to(rt: HostRuntime) -> Result<(), Fail> {
         (Step::Setup(1), "none"),
         (Step::Data0(POWER_PORT_1), "ACK"),
         (Step::ResetChild(1, false), ""),
-        (Step::PlugLow(5), ""),
+        (Step::PlugLow(1, 5), ""),
         (Step::ResetChild(0, false), ""),
         (Step::ResetChild(2, false), ""),
         (Step::ResetChild(3, false), ""),
@@ -178,7 +178,7 @@ fn the_changes_of_a_hub_halt(rt: HostRuntime) -> Result<(), Fail> {
         (Step::In(1), "STALL"),
         (Step::Asks(1, SET_CONFIGURATION), ""),
         (Step::Asks(1, POWER_PORT_1), ""),
-        (Step::PlugLow(0), ""),
+        (Step::PlugLow(1, 0), ""),
         (Step::InAt(1, 1), "DATA0 02"),
         (Step::Ack, "none"),
         (Step::InAt(1, 1), "DATA1 02"),
@@ -195,7 +195,7 @@ fn the_changes_of_a_hub_halt(rt: HostRuntime) -> Result<(), Fail> {
     Ok(())
 }
 
-/// A hub with seven ports: its last port is called, and one that it has not is refused.
+/// The last of seven ports is called, and a port that the hub has not is refused.
 #[test]
 fn a_hub_has_its_ports(rt: HostRuntime) -> Result<(), Fail> {
     let steps = [
@@ -224,14 +224,34 @@ fn a_hub_has_its_ports(rt: HostRuntime) -> Result<(), Fail> {
         (Step::In(1), "STALL"),
         (Step::Asks(1, &[0x23, 1, 8, 0, 7, 0, 0, 0]), ""),
         (Step::PortBytes(7, Some([0, 0, 0, 0])), ""),
+    ];
+    assert!(rt; passes(rt.alloc(), Kind::BusHub, &steps)?);
+    Ok(())
+}
+
+/// Each change of a port is cleared by itself, and a byte of changes tells of all ports.
+#[test]
+fn changes_are_cleared(rt: HostRuntime) -> Result<(), Fail> {
+    let steps = [
+        (Step::Asks(0, SET_ADDRESS), ""),
+        (Step::In(0), "DATA1 -"),
+        (Step::Ack, "none"),
+        (Step::Asks(1, SET_CONFIGURATION), ""),
         (Step::Asks(1, POWER_PORT_1), ""),
-        (Step::PlugLow(3), ""),
+        (Step::PlugLow(1, 3), ""),
         (Step::Asks(1, RESET_PORT_1), ""),
         (Step::PortBytes(1, Some([3, 3, 0x11, 0])), ""),
         (Step::Asks(1, &[0x23, 1, 1, 0, 1, 0, 0, 0]), ""),
         (Step::PortBytes(1, Some([1, 3, 0x11, 0])), ""),
         (Step::Asks(1, &[0x23, 1, 17, 0, 1, 0, 0, 0]), ""),
         (Step::PortBytes(1, Some([1, 3, 0x11, 0])), ""),
+        (Step::InAt(1, 1), "DATA0 02"),
+        (Step::Ack, "none"),
+        (Step::Asks(1, &[0x23, 3, 8, 0, 7, 0, 0, 0]), ""),
+        (Step::PlugLow(7, 0), ""),
+        (Step::InAt(1, 1), "DATA1 82"),
+        (Step::Ack, "none"),
+        (Step::Asks(1, &[0x23, 1, 16, 0, 7, 0, 0, 0]), ""),
         (Step::InAt(1, 1), "DATA0 02"),
     ];
     assert!(rt; passes(rt.alloc(), Kind::BusHub, &steps)?);

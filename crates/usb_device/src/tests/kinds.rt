@@ -20,6 +20,10 @@ pub(super) enum Kind {
     Silent,
     /// A function whose device descriptor is two full packets.
     Short,
+    /// A function whose descriptors have no bytes.
+    Empty,
+    /// A function whose configuration is one full packet of 64 bytes.
+    Long,
     /// A function with two bulk endpoints of at most 8 bytes a packet, OUT 2 and IN 2: it gives nine bytes, and halts after
     /// two packets.
     Bulk,
@@ -67,6 +71,26 @@ fn short(alloc: Global) -> Result<DeviceSpec, AllocError> {
     let descriptor = [16, 1, 0, 2, 0, 0, 0, 8, 52, 18, 120, 86, 0, 1, 0, 0].to_vec(alloc)?;
     let name = Name::new(String::from_str(alloc, "short")?);
     Ok(DeviceSpec::function(name, Bytes::new(descriptor), ConfigTexts::new(alloc)))
+}
+
+fn empty(alloc: Global) -> Result<DeviceSpec, AllocError> {
+    let mut configs = ConfigTexts::new(alloc);
+    configs.push(Bytes::new(Vec::new(alloc)))?;
+    let name = Name::new(String::from_str(alloc, "empty")?);
+    Ok(DeviceSpec::function(name, Bytes::new(Vec::new(alloc)), configs))
+}
+
+fn long(alloc: Global) -> Result<DeviceSpec, AllocError> {
+    let descriptor = [18, 1, 0, 2, 0, 0, 0, 64, 52, 18, 120, 86, 0, 1, 0, 0, 0, 1].to_vec(alloc)?;
+    let head = [
+        9, 2, 64, 0, 1, 1, 0, 128, 50, 9, 4, 0, 0, 0, 255, 0, 0, 0, 46, 36,
+    ];
+    let mut config = [0; 64];
+    config[..20].copy_from_slice(&head);
+    let mut configs = ConfigTexts::new(alloc);
+    configs.push(Bytes::new(config.to_vec(alloc)?))?;
+    let name = Name::new(String::from_str(alloc, "long")?);
+    Ok(DeviceSpec::function(name, Bytes::new(descriptor), configs))
 }
 
 fn bulk(alloc: Global) -> Result<DeviceSpec, AllocError> {
@@ -139,6 +163,8 @@ pub(super) fn spec_of(alloc: Global, kind: Kind) -> Result<DeviceSpec, AllocErro
         Kind::Busy => Ok(function(alloc)?.with_busy(true)),
         Kind::Silent => Ok(function(alloc)?.with_silent(true)),
         Kind::Short => short(alloc),
+        Kind::Empty => empty(alloc),
+        Kind::Long => long(alloc),
         Kind::Bulk => bulk(alloc),
         Kind::Hub => hub(alloc),
         Kind::BusHub => bus_hub(alloc),

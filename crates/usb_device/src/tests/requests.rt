@@ -215,3 +215,43 @@ fn an_odd_maximum_is_eight(rt: HostRuntime) -> Result<(), Fail> {
     assert!(rt; passes(rt.alloc(), Kind::OddMaximum, &steps)?);
     Ok(())
 }
+
+/// An answer of no bytes is one empty packet.
+#[test]
+fn an_empty_descriptor_is_given(rt: HostRuntime) -> Result<(), Fail> {
+    let steps = [
+        (Step::Asks(0, GET_DEVICE), ""),
+        (Step::In(0), "DATA1 -"),
+        (Step::Ack, "none"),
+        (Step::In(0), "none"),
+        (Step::Asks(0, GET_CONFIG_0), ""),
+        (Step::In(0), "DATA1 -"),
+        (Step::Ack, "none"),
+        (Step::Out(0), "none"),
+        (Step::Data1(&[]), "ACK"),
+    ];
+    assert!(rt; passes(rt.alloc(), Kind::Empty, &steps)?);
+    Ok(())
+}
+
+const FULL_PACKET: &str =
+    "DATA1 0902400001010080320904000000FF0000002E240000000000000000000000000000000000000000000000000000000000000000000000000000000000000000";
+
+/// Behind a full packet comes an empty one where the host wants more, and none where it has all.
+#[test]
+fn a_full_packet_is_given(rt: HostRuntime) -> Result<(), Fail> {
+    let steps = [
+        (Step::Asks(0, &[0x80, 6, 0, 2, 0, 0, 64, 0]), ""),
+        (Step::In(0), FULL_PACKET),
+        (Step::Ack, "none"),
+        (Step::In(0), "none"),
+        (Step::Asks(0, GET_CONFIG_0), ""),
+        (Step::In(0), FULL_PACKET),
+        (Step::Ack, "none"),
+        (Step::In(0), "DATA0 -"),
+        (Step::Ack, "none"),
+        (Step::In(0), "none"),
+    ];
+    assert!(rt; passes(rt.alloc(), Kind::Long, &steps)?);
+    Ok(())
+}

@@ -31,8 +31,8 @@ pub(super) enum Step {
     Registers(u8, u8),
     AwaitsAddress(bool),
     Sink(&'static [u8]),
-    /// A low-speed function is plugged at port 1, with this address.
-    PlugLow(u8),
+    /// A low-speed function is plugged at a port, with this address.
+    PlugLow(u8, u8),
     /// The device at port 1 is unplugged, where one is.
     Unplug(bool),
     /// The device at a port alone is reset, where one is.
@@ -99,15 +99,15 @@ fn asks(device: &mut Device, address: u8, data: &'static [u8]) -> Result<bool, A
     )
 }
 
-fn plug_low(alloc: Global, hub: &mut Device, address: u8) -> Result<(), AllocError> {
+fn plug_low(alloc: Global, hub: &mut Device, port: u8, address: u8) -> Result<(), AllocError> {
     let mut child = Device::new(alloc, &spec_of(alloc, Kind::Low)?)?;
     let request = [0, 5, address, 0, 0, 0, 0, 0];
     let _ = child.receive(sent(&Step::Setup(0)).as_slice())?;
     let _ = child.receive(encode(&payload(Toggle::Zero, &request)).as_slice())?;
     let _ = child.receive(sent(&Step::In(0)).as_slice())?;
     let _ = child.receive(sent(&Step::Ack).as_slice())?;
-    if hub.port_count() >= 1 && hub.child(1).is_none() {
-        hub.plug_child(1, child);
+    if port >= 1 && usize::from(port) <= hub.port_count() && hub.child(port).is_none() {
+        hub.plug_child(port, child);
     }
     Ok(())
 }
@@ -149,7 +149,7 @@ fn holds(alloc: Global, device: &mut Device, step: &Step, text: &str) -> Result<
     match step {
         Step::Over => device.attempt_over(),
         Step::Reset => device.reset(),
-        Step::PlugLow(address) => plug_low(alloc, device, *address)?,
+        Step::PlugLow(port, address) => plug_low(alloc, device, *port, *address)?,
         Step::Asks(address, data) => return asks(device, *address, *data),
         Step::ResetChild(port, was_there) => return Ok(reset_child(device, *port) == *was_there),
         Step::Unplug(was_there) => return Ok(device.unplug_child(1).is_some() == *was_there),
