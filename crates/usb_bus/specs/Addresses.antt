@@ -1,11 +1,11 @@
 -- Which steps keep the addresses that devices hold, and which give one (9.4.6).
-use Rattle.std.specs.Prelude.{◌≡◌, ◌⊎◌, ℕ, Bool, true, false, List, Some}
+use Rattle.std.specs.Prelude.{◌≡◌, ◌⊎◌, ℕ, Bool, true, false, List, Option, None, Some, if◌then◌else◌}
 use Rattle.usb_packet.specs.declared.TokenKind.{TokenKind}
 use Rattle.usb_packet.specs.declared.TokenKind.TheVariants.{OutTok, InTok, SetupTok}
 use Rattle.usb_device.specs.Rows.{State, ends_with_address}
 use Rattle.usb_device.specs.Tree.{Ports, reach_at, state_at}
 use Rattle.usb_bus.specs.declared.types.Attempt.{Attempt}
-use Rattle.usb_bus.specs.Live.{address_of}
+use Rattle.usb_bus.specs.Live.{address_of, same_path, is_way}
 use Rattle.usb_bus.specs.World.{World}
 use Rattle.usb_bus.specs.Steps.{ready, Step, attempt, root_call, event, report}
 use Rattle.usb_bus.specs.Courses.{Quiet}
@@ -30,3 +30,7 @@ MovesData (report line) w = ⊥
 -- a step that gives no device an address
 abbrev pub GivesNoAddress : Step → World → Type 0
 GivesNoAddress s w = Quiet s w ⊎ MovesData s w
+
+-- addresses after PORT_RESET at a path: the device there has address 0, none below it is reached, the others keep theirs
+abbrev pub after_reset : (List ℕ → Option ℕ) → List ℕ → List ℕ → Option ℕ
+after_reset f p q = if same_path p q then Some 0 else if is_way p q then None else f q

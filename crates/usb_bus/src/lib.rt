@@ -17,7 +17,9 @@ mod watched;
 mod wire;
 mod world_laws;
 
-pub use address_laws::{control_courses_keep_addresses, data_attempts_keep_addresses};
+pub use address_laws::{
+    control_courses_keep_addresses, data_attempts_keep_addresses, root_reset_gives_address_zero,
+};
 pub use bus::Bus;
 pub use damage::{Damage, Damages, Harm};
 pub use event::{Action, Due, Event, Events, SentBytes};

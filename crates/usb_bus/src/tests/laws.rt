@@ -3,7 +3,7 @@ use crate::{
     event_laws, events_are_pending, harmless_requests, holder_laws,
     in_with_one_holder, nobody_is_asked, others_stay_or_are_reset, out_with_one_holder, packet_laws,
     pending_stays, quiet_courses_keep_addresses, reachable_is_the_same, reset_makes_new,
-    reset_makes_reachable, sane_laws, setup_with_one_holder, silent_holder_answers_nothing,
+    reset_makes_reachable, root_reset_gives_address_zero, sane_laws, setup_with_one_holder, silent_holder_answers_nothing,
     steps_keep_what_is_between, undamaged_attempts, undamaged_attempts_in_worlds,
 };
 
@@ -34,4 +34,5 @@ fn laws_are_called() {
     undamaged_attempts_in_worlds();
     data_attempts_keep_addresses();
     control_courses_keep_addresses();
+    root_reset_gives_address_zero();
 }
