@@ -9,21 +9,11 @@ use Rattle.usb_bus.specs.Touched.{IsNew, takes_reset, call_resets, reset_if}
 use Rattle.usb_bus.specs.World.{World}
 use Rattle.usb_bus.specs.Steps.{root_call, after}
 use Rattle.usb_bus.specs.Courses.{root_resets, resets, Own, Injective}
-use Rattle.usb_bus.specs.Addresses.{after_reset}
+use Rattle.usb_bus.specs.Addresses.{after_reset, after_taking}
 use Rattle.usb_bus.proofs.Booleans.{no, both, and_false, decided}
-use Rattle.usb_bus.proofs.CallLaws.{call_new, call_reach, call_state}
+use Rattle.usb_bus.proofs.CallLaws.{off_reach, call_new, call_reach, call_state}
 use Rattle.usb_bus.proofs.OneDevice.{stands, state_stands}
 use Rattle.usb_bus.proofs.WorldLaws.{unreset_reach}
-
-off_reach : (k : Ports) (i : ℕ) (p : List ℕ) → reach_at (all_off k) i p ≡ false
-unfolding all_off reach_at
-off_reach ended i p = refl
-off_reach (vacant b k) zero p = refl
-off_reach (vacant b k) (suc i) p = off_reach k i p
-off_reach (taken b s a k) zero [] = refl
-off_reach (taken b s a k) zero (zero ∷ p) = refl
-off_reach (taken b s a k) zero (suc j ∷ p) = refl
-off_reach (taken b s a k) (suc i) p = off_reach k i p
 
 -- below a device that was just reset none is reached
 new_below : (k : Ports) (i n : ℕ) (p : List ℕ) → IsNew (place_at k i []) → reach_at k i (n ∷ p) ≡ false
@@ -40,7 +30,7 @@ new_address None h = elim h [ ]
 new_address (Some (empty b)) h = elim h [ ]
 new_address (Some (full b s a)) h = ap (λ n. Some n) h.0
 
-is_same : (i j : ℕ) → same_number i j ≡ true → j ≡ i
+pub is_same : (i j : ℕ) → same_number i j ≡ true → j ≡ i
 is_same zero zero h = refl
 is_same zero (suc j) h = no h
 is_same (suc i) zero h = no h
@@ -142,3 +132,54 @@ way_split f p q a h = pick (same_path p q) (is_way p q) refl refl h
     pick true y e g h = inl (e, cc)
     pick false true e g h = cc
     pick false false e g h = inr (g, h)
+
+same_is : (p q : List ℕ) → same_path p q ≡ true → q ≡ p
+same_is [] [] h = refl
+same_is [] (n ∷ q) h = no h
+same_is (m ∷ p) [] h = no h
+same_is (m ∷ p) (n ∷ q) h = let x : _ = both (same_number m n) (same_path p q) h in rw (is_same m n x.0, same_is p q x.1) refl
+
+self_number : (n : ℕ) → same_number n n ≡ true
+self_number zero = refl
+self_number (suc n) = self_number n
+
+self_path : (p : List ℕ) → same_path p p ≡ true
+self_path [] = refl
+self_path (n ∷ p) = rw (self_number n, self_path p) refl
+
+same_join : (p q r : List ℕ) → same_path p q ≡ true → same_path p r ≡ true → same_path q r ≡ true
+same_join p q r h g = rw (same_is p q h, same_is p r g) (self_path p)
+
+-- addresses stay distinct, where no other device has address 0
+pub reset_distinct : (f : List ℕ → Option ℕ) (p : List ℕ) → Injective f → ((q : List ℕ) → f q ≡ Some 0 → is_way p q ≡ true) → Injective (after_reset f p)
+reset_distinct f p inj c q r a h g = pick (way_split f p q a h) (way_split f p r a g)
+  where
+    other : (q : List ℕ) → a ≡ 0 → is_way p q ≡ false → f q ≡ Some a → false ≡ true
+    other q z d e = sym d ∙ c q (e ∙ ap (λ n. Some n) z)
+
+    pick : ((same_path p q ≡ true) × (a ≡ 0)) ⊎ ((is_way p q ≡ false) × (f q ≡ Some a)) → ((same_path p r ≡ true) × (a ≡ 0)) ⊎ ((is_way p r ≡ false) × (f r ≡ Some a)) → same_path q r ≡ true
+    pick (inl x) (inl y) = same_join p q r x.0 y.0
+    pick (inl x) (inr y) = no (other r x.1 y.0 y.1)
+    pick (inr x) (inl y) = no (other q y.1 x.0 x.1)
+    pick (inr x) (inr y) = inj q r a x.1 y.1
+
+taken_split : (f : List ℕ → Option ℕ) (p : List ℕ) (n : ℕ) (q : List ℕ) (a : ℕ) → after_taking f p n q ≡ Some a
+    → ((same_path p q ≡ true) × (a ≡ n)) ⊎ ((same_path p q ≡ false) × (f q ≡ Some a))
+taken_split f p n q a h = pick (same_path p q) refl h
+  where
+    pick : (x : Bool) → same_path p q ≡ x → (if x then Some n else f q) ≡ Some a → ((same_path p q ≡ true) × (a ≡ n)) ⊎ ((same_path p q ≡ false) × (f q ≡ Some a))
+    pick true e h = inl (e, cc)
+    pick false e h = inr (e, h)
+
+-- the same, where no other device has the address that is taken
+pub taken_distinct : (f : List ℕ → Option ℕ) (p : List ℕ) (n : ℕ) → Injective f → ((q : List ℕ) → f q ≡ Some n → same_path p q ≡ true) → Injective (after_taking f p n)
+taken_distinct f p n inj c q r a h g = pick (taken_split f p n q a h) (taken_split f p n r a g)
+  where
+    other : (q : List ℕ) → a ≡ n → same_path p q ≡ false → f q ≡ Some a → false ≡ true
+    other q z d e = sym d ∙ c q (e ∙ ap (λ n. Some n) z)
+
+    pick : ((same_path p q ≡ true) × (a ≡ n)) ⊎ ((same_path p q ≡ false) × (f q ≡ Some a)) → ((same_path p r ≡ true) × (a ≡ n)) ⊎ ((same_path p r ≡ false) × (f r ≡ Some a)) → same_path q r ≡ true
+    pick (inl x) (inl y) = same_join p q r x.0 y.0
+    pick (inl x) (inr y) = no (other r x.1 y.0 y.1)
+    pick (inr x) (inl y) = no (other q y.1 x.0 x.1)
+    pick (inr x) (inr y) = inj q r a x.1 y.1

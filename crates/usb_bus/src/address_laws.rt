@@ -1,9 +1,10 @@
 //! Laws of the addresses that devices hold (9.4.6), for those who make attempts.
 //!
 //! Each call does nothing; what it ensures is for proofs to cite.
-ghost use Rattle.std.specs.Prelude.{◌≡◌, ℕ, true, false, List, [], ◌∷◌, Option};
+ghost use Rattle.std.specs.Prelude.{◌≡◌, ℕ, true, false, List, [], ◌∷◌, Option, Some};
 ghost use Rattle.usb_device.specs.declared.calls.PortCall.TheVariants.{SetReset};
 ghost use Rattle.usb_bus.specs.declared.types.Attempt.{Attempt};
+ghost use Rattle.usb_bus.specs.Live.{is_way};
 ghost use Rattle.usb_bus.specs.Passes.{IsSettled};
 ghost use Rattle.usb_bus.specs.World.{World};
 ghost use Rattle.usb_bus.specs.Steps.{Course, ready, attempt, root_call, after};
@@ -31,4 +32,6 @@ pub fn root_reset_gives_address_zero()
         → Own f w → Own (after_reset f (n ∷ [])) (after (root_call SetReset n) w) }
     ensures rest { (f : List ℕ → Option ℕ) (n : ℕ) (w : World) → resets (root_call SetReset n) w (n ∷ []) ≡ false
         → Own f w → Own f (after (root_call SetReset n) w) }
+    // Where no device that stays has address 0, the addresses are still distinct.
+    ensures distinct { (f : List ℕ → Option ℕ) (p : List ℕ) → Injective f → ((q : List ℕ) → f q ≡ Some 0 → is_way p q ≡ true) → Injective (after_reset f p) }
 {}
