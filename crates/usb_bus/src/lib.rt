@@ -1,6 +1,7 @@
 //! The bus: one transaction attempt at a time, over a world that events change between attempts, and that damages packets.
 #![tactic(auto)]
 
+mod address_laws;
 mod bus;
 mod damage;
 mod event;
@@ -16,6 +17,9 @@ mod watched;
 mod wire;
 mod world_laws;
 
+pub use address_laws::{
+    control_courses_keep_addresses, data_attempts_keep_addresses, root_reset_gives_address_zero,
+};
 pub use bus::Bus;
 pub use damage::{Damage, Damages, Harm};
 pub use event::{Action, Due, Event, Events, SentBytes};
