@@ -460,8 +460,8 @@ module _ (a : Attempt) (d : Option Damage) (k : Ports) (settled : IsSettled k) (
     calmed =
         pass_if Takes IsCalmed (token_out a d) k j p (token_calm j p) (λ s t. (ap saw_setup t.0, forgot_awaits s t.0))
         (λ q deep s below e on t.
-            let x : Asked a.addr s (answer_of q deep s below).1 = token_answer a.addr q (of_out (IsInOrOut a.addr) (token_out a d) q (token_goes a d kind) e) deep s below t.0 in
-            (x.0, x.1 (t.1 on)))
+        let x : Asked a.addr s (answer_of q deep s below).1 = token_answer a.addr q (of_out (IsInOrOut a.addr) (token_out a d) q (token_goes a d kind) e) deep s below t.0 in
+        (x.0, x.1 (t.1 on)))
         (at_rest Takes j p (λ s e m. (m, λ on. c s on e)))
 
     awaits_none : If AwaitsNone (state_at (passed (payload_out a d) asked_ports) j p)

@@ -109,7 +109,7 @@ below_nobody n k j p b s below o h i e t at on = pick (decided (n == address_of 
     pick : ((n == address_of t) ≡ true) ⊎ ((n == address_of t) ≡ false) → (n == address_of t) ≡ false
     pick (inl y) =
         let same : _ = one_path k j (p ++ (suc i ∷ e)) j p n o.single (deeper_reach k j p b s below h i e o.on on)
-            (ap (option_map address_of) (deeper_state k j p b s below h i e ∙ at) ∙ ap (λ x. Some x) (sym (equal_same n (address_of t) y))) o.on o.at in
+        (ap (option_map address_of) (deeper_state k j p b s below h i e ∙ at) ∙ ap (λ x. Some x) (sym (equal_same n (address_of t) y))) o.on o.at in
         elim (longer p (suc i) e (sym same.1)) [ ]
     pick (inr y) = y
 
