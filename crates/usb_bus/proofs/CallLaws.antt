@@ -1,17 +1,15 @@
 -- What a call at a port does to reachable, live and pending, and to the devices and ports.
-use Rattle.std.proofs.Common.{◌≡◌, ℕ, zero, suc, ◌&&◌, ◌||◌, if◌then◌else◌, ◌⊎◌, inl, inr, Bool, true, false, List, [], ◌∷◌, Option, None, Some, option_map, refl, ap, sym, ◌∙◌}
-use Rattle.usb_port.specs.PortState.{PortState, is_attached, powered_off, powered_on}
-use Rattle.usb_port.specs.PortState.{reset as reset_row}
+use Rattle.std.proofs.Common.{◌≡◌, ℕ, zero, suc, ◌&&◌, ◌||◌, if◌then◌else◌, Bool, true, false, List, [], ◌∷◌, Option, None, Some, option_map, refl, ap, sym, ◌∙◌}
+use Rattle.usb_port.specs.PortState.{PortState, is_attached, powered_off}
 use Rattle.usb_device.specs.declared.calls.PortCall.{PortCall}
 use Rattle.usb_device.specs.declared.calls.PortCall.TheVariants.{SetPower, SetReset, ClearEnable, ClearPower, ClearConnectionChange, ClearEnableChange, ClearResetChange}
-use Rattle.usb_device.specs.declared.effect.Effect.{Effect}
-use Rattle.usb_device.specs.declared.effect.Effect.TheVariants.{Leaves, Calls, PortsOff}
+use Rattle.usb_device.specs.declared.effect.Effect.TheVariants.{Calls}
 use Rattle.usb_device.specs.Rows.{State, reset_state}
-use Rattle.usb_device.specs.Tree.{Ports, ended, vacant, taken, Place, empty, full, called, reset_where, before, all_off, changed_at, reach_at, state_at, port_at, place_at}
+use Rattle.usb_device.specs.Tree.{Ports, ended, vacant, taken, called, reset_where, before, all_off, changed_at, reach_at, state_at, port_at, place_at}
 use Rattle.usb_device.specs.Calls.{called_port, is_reset}
-use Rattle.usb_bus.specs.Live.{live_at, pend_at, same_number, on_way, is_way}
-use Rattle.usb_bus.specs.Touched.{IsNew, takes_reset, call_resets, effect_resets, reset_if, spares, call_spares, port_after}
-use Rattle.usb_bus.proofs.Booleans.{both, and_of, and_false, or_left, or_right, or_wider, no}
+use Rattle.usb_bus.specs.Live.{live_at, pend_at, same_number}
+use Rattle.usb_bus.specs.Touched.{IsNew, call_resets, reset_if, spares, call_spares, port_after}
+use Rattle.usb_bus.proofs.Booleans.{both, and_of, and_false, or_right, or_wider, no}
 
 pub all_off_twice : (k : Ports) → all_off (all_off k) ≡ all_off k
 unfolding all_off

@@ -8,7 +8,7 @@ use Rattle.usb_device.specs.declared.calls.PortCall.{PortCall}
 use Rattle.usb_device.specs.declared.calls.PortCall.TheVariants.{SetPower, SetReset, ClearEnable, ClearPower, ClearConnectionChange, ClearEnableChange, ClearResetChange}
 use Rattle.usb_device.specs.Calls.{called_port, is_reset, set_call, clear_call}
 use Rattle.usb_device.specs.Rows.{State}
-use Rattle.usb_device.specs.Tree.{Ports, ended, vacant, taken, Place, empty, full, before, reset_where, called, replaced, changed, changed_at, row_of}
+use Rattle.usb_device.specs.Tree.{Ports, ended, vacant, taken, new_ports, Place, empty, full, before, reset_where, called, replaced, changed, changed_at, row_of}
 use Rattle.usb_bus.specs.World.{World, roots_of, root_row, to_come, change_of, Spends, IsRootPort, IsSetFeature, IsClearFeature, changes, port_at}
 use Rattle.usb_device.specs.Spec.{Spec}
 use Rattle.usb_bus.specs.declared.event.Action.{Action}
@@ -156,6 +156,11 @@ pub row_long : (f : Place → Place) (k : Ports) (p : List ℕ) → length (row_
 row_long f k [] = refl
 row_long f k (zero ∷ p) = refl
 row_long f k (suc i ∷ p) = row_long_at f k i p
+
+pub new_long : (n : ℕ) → length (row_of (new_ports n)) ≡ n
+unfolding row_of new_ports
+new_long zero = refl
+new_long (suc n) = ap (λ m. suc m) (new_long n)
 
 pub happened_long : (a : Action) (ds : List Spec) (k : Ports) → length (row_of (happened a ds k)) ≡ length (row_of k)
 happened_long (Plug path device) ds k = elim (slice_get ds device) as (λ o. length (row_of (with_plugged o path k)) ≡ length (row_of k)) [ None ↦ refl | Some spec ↦ row_long (replaced (Some spec)) k path ]

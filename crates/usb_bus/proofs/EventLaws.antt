@@ -4,7 +4,7 @@ use Rattle.usb_port.specs.PortState.{PortState}
 use Rattle.usb_device.specs.Spec.{Spec}
 use Rattle.usb_device.specs.Tree.{Ports, ended, vacant, taken, replaced, changed_at, reach_at, state_at, port_at}
 use Rattle.usb_bus.specs.Live.{live_at, pend_at, is_way, on_way}
-use Rattle.usb_bus.proofs.Booleans.{both, and_of, or_left, or_right, and_kept, or_kept, no}
+use Rattle.usb_bus.proofs.Booleans.{both, and_of, or_right, and_kept, or_kept, no}
 
 -- a port with power has its change of connection set then
 rises : (p x : Bool) → p ≡ true → (p && (p || x)) ≡ true

@@ -1,11 +1,11 @@
 -- A run by hand: a function is plugged, its port powered and reset; it is read, and takes address 1 after the host's
 -- first ACK of the status stage was lost.
-use Rattle.std.proofs.Common.{◌≡◌, ℕ, Bool, true, false, List, [], ◌∷◌, Option, None, Some, refl}
+use Rattle.std.proofs.Common.{◌≡◌, ℕ, true, false, List, [], ◌∷◌, None, Some, refl}
 use Rattle.usb_packet.specs.declared.TokenKind.TheVariants.{OutTok, InTok, SetupTok}
 use Rattle.usb_packet.specs.declared.Toggle.TheVariants.{Zero, One as Data1}
-use Rattle.usb_device.specs.declared.calls.PortCall.TheVariants.{SetPower, SetReset, ClearConnectionChange}
-use Rattle.usb_device.specs.Spec.{Spec, function, no_stalls, usual_hub}
-use Rattle.usb_device.specs.Tree.{Ports, ended, vacant, taken, new_ports, changed_at, reach_at, state_at, reach, all_off}
+use Rattle.usb_device.specs.declared.calls.PortCall.TheVariants.{SetPower, SetReset}
+use Rattle.usb_device.specs.Spec.{Spec, function}
+use Rattle.usb_device.specs.Tree.{ended, vacant, changed_at, reach_at, state_at, reach, all_off}
 use Rattle.usb_device.specs.Rows.{received, unread, fresh, reset_state, awaits_address}
 use Rattle.usb_device.specs.Request.{outcome}
 use Rattle.usb_device.specs.Effect.{asks}
@@ -14,11 +14,9 @@ use Rattle.usb_device.specs.Delivery.{answer_of, effect_of, after_packet, answer
 use Rattle.usb_device.specs.Bulk.{change_bits}
 use Rattle.usb_request.specs.Layout.{setup_of}
 use Rattle.usb_port.specs.PortState.{status_of}
-use Rattle.usb_bus.specs.declared.damage.Damage.{Damage}
 use Rattle.usb_bus.specs.declared.damage.Harm.TheVariants.{Lose}
 use Rattle.usb_bus.specs.declared.event.Action.TheVariants.{Plug}
 use Rattle.usb_bus.specs.declared.types.Attempt.{Attempt}
-use Rattle.usb_bus.specs.declared.types.Outcome.{Outcome}
 use Rattle.usb_bus.specs.declared.types.Outcome.TheVariants as got
 use Rattle.usb_bus.specs.Wire.{damage_of, harm_to, mark_of, bit_count, marked, marked_some, is_read}
 use Rattle.usb_bus.specs.Exchange.{token_of, payload_of, answer_place, answer_mark, reply_of, outcome_of, ports_in, lost_in}

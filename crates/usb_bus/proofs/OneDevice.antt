@@ -4,26 +4,24 @@ use Rattle.std.proofs.lemmas.Option.{same_Some}
 use Rattle.std.proofs.lemmas.Bool.Decides.{nat_tests}
 use Rattle.usb_packet.specs.declared.Packet.{Packet}
 use Rattle.usb_packet.specs.declared.Packet.TheVariants.{Token, Payload, Ack, Sof, Nak, Stall, Pre}
-use Rattle.usb_port.specs.PortState.{PortState}
 use Rattle.usb_device.specs.declared.answer.Answer.{Answer}
 use Rattle.usb_device.specs.declared.delivery.Content.{Content}
 use Rattle.usb_device.specs.declared.delivery.Content.TheVariants.{Whole, Broken}
 use Rattle.usb_device.specs.declared.delivery.Sent.{Sent}
-use Rattle.usb_device.specs.declared.effect.Effect.{Effect}
 use Rattle.usb_device.specs.declared.effect.Effect.TheVariants.{Leaves}
-use Rattle.usb_device.specs.declared.transfer.Memory.{Memory}
 use Rattle.usb_device.specs.declared.transfer.Memory.TheVariants.{Nothing}
-use Rattle.usb_device.specs.Rows.{State, Reply, forgotten, reset_state}
+use Rattle.usb_device.specs.Rows.{State, forgotten, reset_state}
 use Rattle.usb_device.specs.Effect.{asks, asked_by_packet}
 use Rattle.usb_device.specs.Tree.{Ports, ended, vacant, taken, Place, empty, full, acted, reach_at, state_at, place_at}
-use Rattle.usb_device.specs.Delivery.{hears, asked_by, answer_of, effect_of, after_packet, answers, listed, all_forgotten, held, is_twice}
+use Rattle.usb_device.specs.Delivery.{hears, asked_by, answer_of, effect_of, after_packet, answers, listed, all_forgotten}
 use Rattle.usb_bus.specs.Live.{address_of, same_number, same_path}
 use Rattle.usb_bus.specs.Touched.{is_left, way_rests, resets_at, reset_if}
-use Rattle.usb_bus.specs.Passes.{passed, told, told_at, answer_at, after_attempt, heard_place, passed_place, forgotten_place, place_after, deep_at, calls_on, IsTokenFor, IsDataOut, IsAckOut, IfOut, IsAttemptAt, pass_resets, attempt_resets, IsSettled, NobodyHolds, OneHolds, OneActs, heard_state}
+use Rattle.usb_device.specs.View.{forgotten_place}
+use Rattle.usb_bus.specs.Passes.{passed, told, told_at, answer_at, after_attempt, heard_place, passed_place, deep_at, calls_on, IsTokenFor, IsDataOut, IsAckOut, IfOut, IsAttemptAt, pass_resets, attempt_resets, IsSettled, NobodyHolds, OneHolds, OneActs, heard_state}
 use Rattle.usb_bus.proofs.Booleans.{no, both, and_of, decided}
 use Rattle.usb_bus.proofs.Holders.{one_path}
 use Rattle.usb_bus.proofs.PacketLaws.{packet_state, true_deep}
-use Rattle.usb_bus.proofs.PassLaws.{IsCalm, CalmOut, token_out, ack_out, calm_pass, pass_reach, rested_answer, forgotten_state}
+use Rattle.usb_bus.proofs.PassLaws.{token_out, ack_out, calm_pass, rested_answer, forgotten_state}
 use Rattle.usb_bus.proofs.PlaceLaws.{way_place, way_reach}
 
 -- Between attempts

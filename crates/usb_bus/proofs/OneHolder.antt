@@ -34,8 +34,9 @@ use Rattle.usb_bus.specs.declared.wire.Mark.{Mark}
 use Rattle.usb_bus.specs.declared.wire.Mark.TheVariants as mark
 use Rattle.usb_bus.specs.Wire.{is_read, mark_of, harm_to, marked, marked_some}
 use Rattle.usb_bus.specs.Live.{address_of}
+use Rattle.usb_device.specs.View.{forgotten_place}
 use Rattle.usb_bus.specs.Exchange.{token_of, payload_of, reply_of, outcome_heard, outcome_of, sent_as, goes_out, heard_all, token_out, payload_out, reply_out, heard_in, mark_in, place_of_answer, ports_in}
-use Rattle.usb_bus.specs.Passes.{passed, told, told_at, heard_by, passed_place, forgotten_place, place_after, deep_at, IsSettled, NobodyHolds, OneActs}
+use Rattle.usb_bus.specs.Passes.{passed, told, told_at, heard_by, passed_place, place_after, deep_at, IsSettled, NobodyHolds, OneActs}
 use Rattle.usb_bus.specs.OneHolder.{content_way, way_to, way_back, got, token_way, payload_way, answer_way, reply_way, setup_alone, out_alone, in_alone, IsSetup, IsOut, IsIn, Holder, Exchanged}
 use Rattle.usb_bus.proofs.Booleans.{no}
 use Rattle.usb_bus.proofs.PassLaws.{CalmOut, token_out as token_calm}

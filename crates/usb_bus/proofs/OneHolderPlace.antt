@@ -22,6 +22,7 @@ use Rattle.usb_device.specs.Effect.{asks, asked_by_setup, asked_by_packet}
 use Rattle.usb_device.specs.Attempt.{Way, whole, broken, lost, is_whole, through, is_own}
 use Rattle.usb_device.specs.Tree.{Ports, ended, vacant, taken, Place, empty, full, acted, called, all_off, row_of, reach_at, state_at, place_at}
 use Rattle.usb_device.specs.Delivery.{is_heard, asked_by, effect_of, after_packet, all_forgotten}
+use Rattle.usb_device.specs.View.{forgotten_place}
 use Rattle.usb_bus.specs.declared.types.Attempt.{Attempt}
 use Rattle.usb_bus.specs.declared.damage.Damage.{Damage}
 use Rattle.usb_bus.specs.declared.exchange.Heard.{Heard}
@@ -31,7 +32,7 @@ use Rattle.usb_bus.specs.declared.wire.Mark.TheVariants as mark
 use Rattle.usb_bus.specs.Wire.{is_read, mark_of, harm_to, marked, marked_some}
 use Rattle.usb_bus.specs.Live.{address_of}
 use Rattle.usb_bus.specs.Exchange.{token_of, payload_of, reply_of, sent_as, goes_out, token_out, payload_out, reply_out, heard_in, mark_in, place_of_answer, ports_in}
-use Rattle.usb_bus.specs.Passes.{passed_place, forgotten_place, place_after, deep_at, IsSettled, NobodyHolds, OneHolds}
+use Rattle.usb_bus.specs.Passes.{passed_place, place_after, deep_at, IsSettled, NobodyHolds, OneHolds}
 use Rattle.usb_bus.specs.World.{World}
 use Rattle.usb_bus.specs.Steps.{ready, damage_in, with_attempt, attempt, after}
 use Rattle.usb_bus.specs.OneHolder.{way_to, token_way, payload_way, IsSetup, IsOut, IsIn, Holder, HolderIn, Exchanged, setup_alone, out_alone, in_alone, setup_asked}

@@ -1,16 +1,16 @@
 -- What a packet does to reachable, live and pending, and to the devices and ports.
-use Rattle.std.proofs.Common.{◌≡◌, ℕ, zero, suc, ◌&&◌, ◌||◌, not, if◌then◌else◌, ◌⊎◌, inl, inr, Bool, true, false, List, [], ◌∷◌, ◌++◌, Option, None, Some, option_map, refl, ap, sym, ◌∙◌}
-use Rattle.usb_port.specs.PortState.{PortState, powered_off}
+use Rattle.std.proofs.Common.{◌≡◌, ℕ, zero, suc, ◌&&◌, ◌||◌, not, if◌then◌else◌, ◌⊎◌, inl, inr, Bool, true, false, List, [], ◌∷◌, Option, None, Some, option_map, refl, ap, sym, ◌∙◌}
+use Rattle.usb_port.specs.PortState.{PortState}
 use Rattle.usb_device.specs.declared.effect.Effect.{Effect}
 use Rattle.usb_device.specs.declared.effect.Effect.TheVariants.{Leaves, Calls, PortsOff}
 use Rattle.usb_device.specs.Rows.{State}
-use Rattle.usb_device.specs.Tree.{Ports, ended, vacant, taken, Place, empty, full, all_off, reach_at, state_at, port_at, place_at, acted}
+use Rattle.usb_device.specs.Tree.{Ports, ended, vacant, taken, full, reach_at, state_at, port_at, place_at, acted}
 use Rattle.usb_device.specs.Delivery.{answer_of, effect_of, after_packet}
 use Rattle.usb_device.specs.declared.delivery.Sent.{Sent}
-use Rattle.usb_bus.specs.Live.{live_at, pend_at, same_number}
-use Rattle.usb_bus.specs.Touched.{IsNew, takes_reset, call_resets, effect_resets, resets_at, reset_if, effect_spares, packet_spares, port_after}
+use Rattle.usb_bus.specs.Live.{live_at, pend_at}
+use Rattle.usb_bus.specs.Touched.{IsNew, takes_reset, effect_resets, resets_at, reset_if, effect_spares, packet_spares, port_after}
 use Rattle.usb_bus.specs.Passes.{deep_at, heard_state}
-use Rattle.usb_bus.proofs.Booleans.{both, and_of, and_false, and_kept, or_kept, either_of, neither, no}
+use Rattle.usb_bus.proofs.Booleans.{both, and_kept, or_kept, either_of, neither, no}
 use Rattle.usb_bus.proofs.CallLaws.{off_state, off_reach, off_new, off_port, off_port_below, call_new, call_new_below, call_reach, call_pend, call_live, call_state, call_port, call_port_below}
 
 -- a device after a packet, which comes to it or does not

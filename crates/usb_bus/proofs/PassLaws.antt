@@ -1,5 +1,5 @@
 -- What an attempt's packets do to reachable, live and pending.
-use Rattle.std.proofs.Common.{◌≡◌, ℕ, zero, suc, ◌==◌, ◌&&◌, ◌||◌, not, if◌then◌else◌, Bool, true, false, List, [], ◌∷◌, Option, None, Some, option_map, refl, ap, sym, ◌∙◌}
+use Rattle.std.proofs.Common.{◌≡◌, ℕ, zero, suc, ◌&&◌, ◌||◌, not, if◌then◌else◌, Bool, true, false, List, [], ◌∷◌, Option, None, Some, option_map, refl, ap, sym, ◌∙◌}
 use Rattle.usb_packet.specs.declared.Packet.{Packet}
 use Rattle.usb_packet.specs.declared.Packet.TheVariants.{Token, Payload, Ack, Sof, Nak, Stall, Pre}
 use Rattle.usb_port.specs.PortState.{PortState, powered_off}
@@ -13,12 +13,12 @@ use Rattle.usb_device.specs.declared.transfer.Memory.TheVariants.{Nothing}
 use Rattle.usb_device.specs.Rows.{State, Reply, forgotten, received, unread, answered}
 use Rattle.usb_device.specs.Attempt.{is_own}
 use Rattle.usb_device.specs.Effect.{asks}
-use Rattle.usb_device.specs.Tree.{Ports, ended, vacant, taken, Place, empty, full, all_off, acted, row_of, reach_at, state_at, port_at, place_at}
+use Rattle.usb_device.specs.Tree.{Ports, ended, vacant, taken, full, all_off, acted, row_of, reach_at, state_at, port_at, place_at}
 use Rattle.usb_device.specs.Delivery.{hears, reply_to, answer_of, asked_by, effect_of, after_packet, all_forgotten}
 use Rattle.usb_bus.specs.Live.{live_at, pend_at}
 use Rattle.usb_bus.specs.Touched.{IsNew, resets_at, packet_spares}
 use Rattle.usb_bus.specs.Sane.{IsSane}
-use Rattle.usb_bus.specs.Passes.{passed, after_attempt, calls_on, IsTokenFor, IsDataOut, IsAckOut, IfOut, IsAttemptAt, pass_resets, pass_spares, attempt_resets, attempt_spares, IsSettled}
+use Rattle.usb_bus.specs.Passes.{passed, after_attempt, calls_on, IsTokenFor, IsAckOut, IfOut, IsAttemptAt, pass_resets, pass_spares, attempt_resets, attempt_spares, IsSettled}
 use Rattle.usb_bus.proofs.Booleans.{no, and_false}
 use Rattle.usb_bus.proofs.PacketLaws.{packet_new, packet_reach, packet_pend, packet_live}
 use Rattle.usb_bus.proofs.SaneLaws.{sane_packet, sane_forgotten}

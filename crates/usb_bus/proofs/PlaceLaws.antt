@@ -1,17 +1,16 @@
 -- A device with its ports after a packet, where no device above it asks anything; and the ports that nobody asks anything of.
-use Rattle.std.proofs.Common.{◌≡◌, ℕ, zero, suc, ◌==◌, ◌&&◌, ◌||◌, not, if◌then◌else◌, Bool, true, false, List, [], ◌∷◌, Option, None, Some, option_map, refl, ap, sym, ◌∙◌}
+use Rattle.std.proofs.Common.{◌≡◌, ℕ, zero, suc, ◌&&◌, ◌||◌, not, if◌then◌else◌, Bool, true, false, List, [], ◌∷◌, Option, None, Some, option_map, refl, ap, ◌∙◌}
 use Rattle.usb_port.specs.PortState.{PortState}
 use Rattle.usb_device.specs.declared.delivery.Sent.{Sent}
 use Rattle.usb_device.specs.declared.effect.Effect.{Effect}
 use Rattle.usb_device.specs.declared.effect.Effect.TheVariants.{Leaves, Calls, PortsOff}
-use Rattle.usb_device.specs.Rows.{State, forgotten}
-use Rattle.usb_device.specs.Tree.{Ports, ended, vacant, taken, Place, empty, full, acted, called, reach_at, state_at, port_at, place_at, row_of}
-use Rattle.usb_device.specs.Delivery.{answer_of, effect_of, after_packet, all_forgotten}
+use Rattle.usb_device.specs.Rows.{State}
+use Rattle.usb_device.specs.Tree.{Ports, ended, vacant, taken, Place, empty, full, acted, reach_at, port_at, place_at, row_of}
+use Rattle.usb_device.specs.Delivery.{answer_of, effect_of, after_packet}
 use Rattle.usb_bus.specs.Live.{same_number}
-use Rattle.usb_bus.specs.Touched.{is_left, way_rests, leaves_port, way_leaves, effect_resets, call_resets, port_after}
-use Rattle.usb_bus.specs.Passes.{passed, after_attempt, heard_place, passed_place, forgotten_place, place_after, deep_at}
+use Rattle.usb_bus.specs.Touched.{is_left, way_rests, leaves_port, way_leaves, effect_resets, port_after}
+use Rattle.usb_bus.specs.Passes.{heard_place, deep_at}
 use Rattle.usb_bus.proofs.Booleans.{no, both, and_false}
-use Rattle.usb_bus.proofs.CallLaws.{call_port, call_port_below}
 use Rattle.usb_bus.proofs.PacketLaws.{true_deep, acted_port, acted_port_below}
 
 abbrev met : Bool → Sent → Bool → PortState → State → Ports → Ports → Ports

@@ -1,10 +1,9 @@
 -- Setup data whose request is not PORT_RESET reset no device, whoever hears them.
-use Rattle.std.proofs.Common.{◌≡◌, ℕ, zero, suc, ◌+◌, ◌/◌, ◌%◌, ◌==◌, ◌&&◌, ◌||◌, not, nat_lt, nat_le, if◌then◌else◌, ◌⊎◌, inl, inr, Bool, true, false, List, [], ◌∷◌, ◌++◌, length, slice_get, Option, None, Some, is_some, refl, ap, sym, ◌∙◌}
+use Rattle.std.proofs.Common.{◌≡◌, ℕ, zero, suc, ◌/◌, ◌%◌, ◌==◌, ◌&&◌, not, nat_le, if◌then◌else◌, Bool, true, false, List, [], ◌∷◌, length, slice_get, Option, None, Some, refl, sym, ◌∙◌}
 use Rattle.usb_packet.specs.declared.Packet.TheVariants.{Payload}
 use Rattle.usb_packet.specs.declared.Packet.TheVariants as packet
 use Rattle.usb_packet.specs.declared.Toggle.{Toggle}
 use Rattle.usb_packet.specs.declared.Toggle.TheVariants.{Zero, One}
-use Rattle.arrayvec.specs.ArrayVec.{ArrayVec}
 use Rattle.usb_request.specs.declared.setup.Setup.{Setup}
 use Rattle.usb_request.specs.Layout.{setup_of}
 use Rattle.usb_device.specs.declared.bulk.Which.{Which}
@@ -21,14 +20,13 @@ use Rattle.usb_device.specs.declared.transfer.Memory.TheVariants.{Nothing, Setup
 use Rattle.usb_device.specs.Spec.{Spec, Hub}
 use Rattle.usb_device.specs.Calls.{is_reset, set_call, clear_call}
 use Rattle.usb_device.specs.Request.{Outcome, stalled, answers, takes_address, takes_configuration, halts, unhalts, tells_port, calls_port, Is, unless, text_asked, get_descriptor, get_status, set_address, set_configuration, endpoint_of, on_endpoint, get_hub_descriptor, port_named, told_port, called_at, get_port_status, port_feature, outcome, is_value}
-use Rattle.usb_device.specs.Bulk.{served}
 use Rattle.usb_device.specs.Rows.{State}
-use Rattle.usb_device.specs.Effect.{asks, asked_by_packet, asked_by_data, asked_by_setup, effect_of_request}
+use Rattle.usb_device.specs.Effect.{asks, asked_by_data, asked_by_setup, effect_of_request}
 use Rattle.usb_device.specs.Tree.{Ports, ended, vacant, taken}
 use Rattle.usb_device.specs.Delivery.{hears, asked_by, effect_of}
-use Rattle.usb_bus.specs.Touched.{call_resets, effect_resets, resets_at}
+use Rattle.usb_bus.specs.Touched.{effect_resets, resets_at}
 use Rattle.usb_bus.specs.Courses.{is_harmless, IsHarmlessOut}
-use Rattle.usb_bus.proofs.Booleans.{no, and_of, and_false}
+use Rattle.usb_bus.proofs.Booleans.{no, and_false}
 
 -- a request asks for no reset of a port
 abbrev asks_reset : Outcome → Bool

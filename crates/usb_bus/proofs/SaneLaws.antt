@@ -1,7 +1,6 @@
 -- Ports stay sane.
 use Rattle.std.proofs.Common.{◌≡◌, ℕ, zero, suc, ◌&&◌, ◌||◌, if◌then◌else◌, Bool, true, false, List, [], ◌∷◌, Option, None, Some, refl, ap, sym, ◌∙◌}
-use Rattle.usb_port.specs.PortState.{PortState, nothing, off, is_attached, speed_of, has_change, plugged, unplugged, powered_on, powered_off}
-use Rattle.usb_port.specs.PortState.{reset as reset_row}
+use Rattle.usb_port.specs.PortState.{PortState, is_attached, speed_of, plugged, unplugged, powered_off}
 use Rattle.usb_device.specs.declared.calls.PortCall.{PortCall}
 use Rattle.usb_device.specs.declared.calls.PortCall.TheVariants.{SetPower, SetReset, ClearEnable, ClearPower, ClearConnectionChange, ClearEnableChange, ClearResetChange}
 use Rattle.usb_device.specs.declared.effect.Effect.{Effect}
@@ -17,7 +16,7 @@ use Rattle.usb_device.specs.Delivery.{answer_of, effect_of, after_packet, all_fo
 use Rattle.usb_device.proofs.Kept.{keeps-received}
 use Rattle.usb_bus.specs.Live.{live_at}
 use Rattle.usb_bus.specs.Sane.{IsSanePort, IsSane, IsSanePlace, is_open, open_at}
-use Rattle.usb_bus.proofs.Booleans.{both, and_of, no, or_left, or_right, either_of}
+use Rattle.usb_bus.proofs.Booleans.{both, and_of, no}
 
 -- Ports
 

@@ -1,5 +1,5 @@
 -- What damage leaves of packets, and how many addresses it loses.
-use Rattle.std.proofs.Common.{◌≡◌, ℕ, zero, suc, ◌+◌, ◌*◌, ◌<◌, ◌≤◌, ◌==◌, nat_le, nat_lt, List, [], ◌∷◌, ◌++◌, length, Bool, true, false, not, ◌&&◌, if◌then◌else◌, Option, Some, None, refl, sym, ap, ap₂, ◌∙◌, subst, arith, length-append, drop, drop-cons, get_or, add-one, drop_of_length-le}
+use Rattle.std.proofs.Common.{◌≡◌, ℕ, ◌+◌, ◌*◌, ◌<◌, ◌≤◌, ◌==◌, nat_lt, List, [], ◌∷◌, ◌++◌, length, Bool, true, false, if◌then◌else◌, Option, Some, None, refl, sym, ap, ◌∙◌, arith, length-append, drop, drop-cons, get_or, add-one, drop_of_length-le}
 use Rattle.std.proofs.lemmas.Bool.Decides.{nat_tests}
 use Rattle.std.proofs.lemmas.Bool.{ltb-true, eq-eqb}
 use Rattle.usb_check.specs.Bits.{low_bits, bits_of_bytes}
@@ -8,7 +8,7 @@ use Rattle.usb_check.proofs.BitLemmas.{length-low_bits, length-bits_of_bytes}
 use Rattle.usb_check.proofs.SumLemmas.{length-map_not}
 use Rattle.usb_packet.specs.declared.Packet.{Packet}
 use Rattle.usb_packet.specs.declared.Packet.TheVariants.{Token, Sof, Payload, Ack, Nak, Stall, Pre}
-use Rattle.usb_packet.specs.Spelling.{Spells, Carries, Follows, flipped}
+use Rattle.usb_packet.specs.Spelling.{Spells, Carries, Follows}
 use Rattle.usb_bus.specs.declared.types.BusFault.{BusFault}
 use Rattle.usb_bus.specs.declared.damage.Damage.{Damage}
 use Rattle.usb_bus.specs.declared.losses.Losses.{Losses}
@@ -22,7 +22,7 @@ use Rattle.usb_bus.specs.Exchange.{lost_in}
 use Rattle.usb_bus.specs.Passes.{IsSettled}
 use Rattle.usb_bus.proofs.Losing.{none_lost}
 use Rattle.usb_bus.specs.Losses.{AreOfDamages, no_losses, counted, one_more, after_clearing}
-use Rattle.usb_bus.specs.Wire.{damage_of, damages_until, harm_to, bit_count, mark_of, is_read, has_its_bit, marked, marked_some}
+use Rattle.usb_bus.specs.Wire.{damage_of, damages_until, bit_count, has_its_bit}
 
 -- ---- bits
 

@@ -1,5 +1,5 @@
 -- What is heard of the answers, where the devices answer in two passes.
-use Rattle.std.specs.Prelude.{List, Option, None, Some}
+use Rattle.std.specs.Prelude.{Option}
 use Rattle.usb_device.specs.declared.delivery.Heard.{Heard as HeardBelow}
 use Rattle.usb_device.specs.declared.delivery.Heard.TheVariants as below
 use Rattle.usb_device.specs.declared.delivery.Sent.{Sent}

@@ -1,10 +1,9 @@
 -- The packets of an attempt, what the devices make of them, and what the host makes of the answers (8.5).
-use Rattle.std.specs.Prelude.{ℕ, ◌+◌, Bool, true, false, not, ◌&&◌, List, [], ◌∷◌, ◌++◌, length, nat_le, if◌then◌else◌, Option, Some, None}
+use Rattle.std.specs.Prelude.{ℕ, ◌+◌, Bool, false, not, ◌&&◌, List, [], ◌∷◌, ◌++◌, length, nat_le, if◌then◌else◌, Option, Some, None}
 use Rattle.usb_packet.specs.declared.Packet.{Packet}
 use Rattle.usb_packet.specs.declared.Packet.TheVariants.{Token, Ack, Sof, Nak, Stall, Pre}
 use Rattle.usb_packet.specs.declared.Packet.TheVariants as packet
 use Rattle.usb_device.specs.declared.answer.Answer.{Answer}
-use Rattle.usb_device.specs.declared.delivery.Content.{Content}
 use Rattle.usb_device.specs.declared.delivery.Content.TheVariants as content
 use Rattle.usb_device.specs.declared.delivery.Sent.{Sent}
 use Rattle.usb_device.specs.Received.{packet_of}
@@ -121,12 +120,12 @@ unfoldable pub lost_in : Attempt → Option Damage → Ports → Bool
 lost_in a damage k = is_lost (reply_in a damage k) (reply_out a damage k) (answered_in a damage k)
 
 -- a hub clears a change of connection at a packet
-abbrev pub is_clearing : Option Sent → Ports → Bool
-is_clearing None k = false
-is_clearing (Some q) k = clears_change q false k
+abbrev pub clears_at : Option Sent → Ports → Bool
+clears_at None k = false
+clears_at (Some q) k = clears_change q false k
 
 abbrev pub cleared_in : Attempt → Option Damage → Ports → Bool
-cleared_in a damage k = is_clearing (payload_out a damage) (passed (token_out a damage) k)
+cleared_in a damage k = clears_at (payload_out a damage) (passed (token_out a damage) k)
 
 -- the token, the host's data, the answer to them, and the host's ACK
 unfoldable pub exchange_in : Attempt → Option Damage → Ports → Exchange
@@ -140,6 +139,10 @@ exchange_in a damage k = record {
   change_cleared = cleared_in a damage k;
 }
 
--- the root ports after an attempt, with all that is plugged
+-- the root ports after its packets, with all that is plugged
+abbrev pub ended_in : Attempt → Option Damage → Ports → Ports
+ended_in a damage k = passed (reply_out a damage k) (answered_in a damage k)
+
+-- the same after the attempt
 unfoldable pub ports_in : Attempt → Option Damage → Ports → Ports
 ports_in a damage k = after_attempt (token_out a damage) (payload_out a damage) (reply_out a damage k) k

@@ -1,5 +1,5 @@
 -- A plan as contracts see it, and the rules that it keeps.
-use Rattle.std.specs.Prelude.{◌≡◌, ◌≤◌, ℕ, List, [], ◌∷◌, length, Bool, true, false, ◌&&◌, not, ◌==◌, nat_le, nat_lt, slice_index, is_some}
+use Rattle.std.specs.Prelude.{◌≡◌, ◌≤◌, ℕ, List, [], ◌∷◌, length, Bool, true, ◌&&◌, not, ◌==◌, nat_le, nat_lt, slice_index, is_some}
 use Rattle.usb_device.specs.Spec.{Spec}
 use Rattle.usb_bus.specs.declared.event.Event.{Event}
 use Rattle.usb_bus.specs.declared.event.Action.{Action}

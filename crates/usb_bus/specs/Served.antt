@@ -1,5 +1,5 @@
 -- What of a plan a simulated bus serves.
-use Rattle.std.specs.Prelude.{ℕ, ◌+◌, List, [], ◌∷◌, length, Bool, true, false, ◌&&◌, ◌==◌, not, Option, None, Some, Result, Ok, Err, position, slice_get}
+use Rattle.std.specs.Prelude.{ℕ, ◌+◌, List, length, Bool, true, false, ◌&&◌, ◌==◌, not, Option, None, Some, Result, Ok, Err, position, slice_get}
 use Rattle.usb_device.specs.Spec.{Spec}
 use Rattle.usb_bus.specs.declared.event.Event.{Event}
 use Rattle.usb_bus.specs.declared.event.Action.{Action}

@@ -1,14 +1,14 @@
 -- What a call at a port, and a packet, does on the way to a path: whether it resets the device there, and whether it
 -- leaves what is pending.
-use Rattle.std.specs.Prelude.{◌≡◌, ℕ, zero, suc, ◌&&◌, ◌||◌, not, Bool, true, false, List, [], ◌∷◌, Option, None, Some, option_map, if◌then◌else◌}
+use Rattle.std.specs.Prelude.{◌≡◌, ℕ, zero, suc, ◌&&◌, ◌||◌, not, Bool, true, false, List, [], ◌∷◌, Option, None, Some, if◌then◌else◌}
 use Rattle.usb_port.specs.PortState.{PortState, is_attached, powered_off}
 use Rattle.usb_device.specs.declared.transfer.Memory.TheVariants.{Nothing}
 use Rattle.usb_device.specs.Rows.{State, reset_state}
 use Rattle.usb_device.specs.declared.calls.PortCall.{PortCall}
-use Rattle.usb_device.specs.declared.calls.PortCall.TheVariants.{SetPower, SetReset, ClearEnable, ClearPower, ClearConnectionChange, ClearEnableChange, ClearResetChange}
+use Rattle.usb_device.specs.declared.calls.PortCall.TheVariants.{SetReset, ClearPower, ClearConnectionChange}
 use Rattle.usb_device.specs.declared.effect.Effect.{Effect}
 use Rattle.usb_device.specs.declared.effect.Effect.TheVariants.{Leaves, Calls, PortsOff}
-use Rattle.usb_device.specs.Tree.{Ports, ended, vacant, taken, all_off, Place, empty, full, place_at, port_at}
+use Rattle.usb_device.specs.Tree.{Ports, ended, vacant, taken, all_off, Place, empty, full, place_at}
 use Rattle.usb_device.specs.Calls.{is_reset, called_port}
 use Rattle.usb_device.specs.Delivery.{effect_of}
 use Rattle.usb_device.specs.declared.delivery.Sent.{Sent}

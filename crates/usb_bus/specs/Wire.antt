@@ -1,5 +1,5 @@
 -- Packets on their way, and what damage does to them.
-use Rattle.std.specs.Prelude.{◌≡◌, ℕ, ◌+◌, ◌*◌, ◌==◌, nat_lt, nat_le, Bool, true, false, if◌then◌else◌, List, [], ◌∷◌, length, Option, None, Some}
+use Rattle.std.specs.Prelude.{ℕ, ◌+◌, ◌*◌, ◌==◌, nat_lt, nat_le, Bool, true, false, if◌then◌else◌, List, [], ◌∷◌, length, Option, None, Some}
 use Rattle.usb_packet.specs.Spelling.{Spells}
 use Rattle.usb_packet.specs.declared.Packet.{Packet}
 use Rattle.usb_packet.specs.declared.Packet.TheVariants.{Token, Sof, Payload, Ack, Nak, Stall, Pre}

@@ -32,7 +32,7 @@ pub use watched::{Watched, WriteFailed, put_piece};
 pub use world_laws::{
     attempt_at_laws, call_laws, event_laws, events_are_pending, harmless_requests, holder_laws,
     packet_laws, pending_stays, quiet_courses_keep_addresses, reachable_is_the_same,
-    reset_makes_new, reset_makes_reachable, sane_laws,
+    reset_makes_new, reset_makes_reachable, sane_laws, steps_keep_what_is_between,
 };
 
 #[cfg(test)]

@@ -1,4 +1,4 @@
-use Rattle.std.proofs.Common.{◌≡◌, ℕ, List, Some, subst, ap, ◌∙◌, sym}
+use Rattle.std.proofs.Common.{ℕ, List, Some, subst, ap, ◌∙◌, sym}
 use Rattle.usb_packet.specs.Spelling.{Spells}
 use Rattle.usb_device.specs.declared.delivery.Content.{Content}
 use Rattle.usb_device.specs.declared.delivery.Sent.{Sent}

@@ -1,9 +1,8 @@
-use Rattle.std.proofs.Common.{◌≡◌, ◌≤◌, ℕ, length, sym, subst, ap, ap₂, ◌∙◌, arith, [], ◌∷◌}
-use Rattle.usb_device.specs.Tree.{Ports, row_of, called, changed}
+use Rattle.std.proofs.Common.{◌≡◌, length, sym, subst, ap, ◌∙◌, arith, [], ◌∷◌}
+use Rattle.usb_device.specs.Tree.{row_of, called}
 use Rattle.usb_bus.specs.Passes.{IsSettled}
 use Rattle.usb_bus.specs.declared.losses.Losses.{Losses}
-use Rattle.usb_bus.specs.Losses.{AreOfDamages, after_clearing}
-use Rattle.usb_bus.specs.Steps.{is_clear_change}
+use Rattle.usb_bus.specs.Losses.{AreOfDamages}
 use Rattle.usb_bus.proofs.Counts.{row_long}
 use Rattle.usb_bus.proofs.Between.{settled_called}
 use Rattle.usb_bus.proofs.Wires.{losses_cleared}

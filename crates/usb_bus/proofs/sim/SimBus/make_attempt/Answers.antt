@@ -1,8 +1,134 @@
-use Rattle.std.proofs.Common.{arith}
-use Rattle.usb_bus.proofs.Wires.{until_most}
+use Rattle.std.proofs.Common.{◌≡◌, ◌+◌, ◌||◌, List, Bool, Option, refl, sym, subst, ap, ap₂, ◌∙◌, arith, length}
+use Rattle.usb_device.specs.Tree.{Ports, row_of}
+use Rattle.usb_bus.specs.declared.types.Attempt.{Attempt}
+use Rattle.usb_bus.specs.declared.damage.Damage.{Damage}
+use Rattle.usb_bus.specs.declared.exchange.Exchange.{Exchange}
+use Rattle.usb_bus.specs.declared.losses.Losses.{Losses}
+use Rattle.usb_bus.specs.Wire.{damage_of}
+use Rattle.usb_bus.specs.Exchange.{exchange_in, ports_in, lost_in}
+use Rattle.usb_bus.specs.Losses.{AreOfDamages, counted}
+use Rattle.usb_bus.specs.World.{World}
+use Rattle.usb_bus.specs.Sim.{world_of}
+use Rattle.usb_bus.specs.Steps.{made_in}
+use Rattle.usb_bus.proofs.Attempting.{left_at_packet, left_at_line}
+use Rattle.usb_bus.proofs.Comings.{lines_of_attempt, attempt_made, outcome_made_in}
+use Rattle.usb_bus.proofs.Wires.{until_most, losses_after, losses_cleared, other_fault}
 use Rattle.usb_bus.proofs.sim.SimBus.make_attempt.Goals as goal
 
-pub counted-requires-clause-all : goal.counted-requires-clause-all
-counted-requires-clause-all g c =
+lost_of : (a : Attempt) (d : Option Damage) (k : Ports) → (exchange_in a d k).address_lost ≡ lost_in a d k
+unfolding exchange_in
+lost_of a d k = refl
+
+pub counted-self-requires-clause-all : goal.counted-self-requires-clause-all
+counted-self-requires-clause-all g c =
     let mid = c.take_due_events.new.self in
-    omega (arith, mid.lost.all, until_most mid.damages.items mid.attempts, mid.few_damages)
+    let P : Losses → Type 0 = λ l. AreOfDamages mid.attempts mid.damages.items l in
+    let lost = subst P (sym c.after_clearing.ensures) (losses_cleared _ mid.attempts mid.damages.items mid.losses mid.lost) in
+    omega (arith, lost.all, until_most mid.damages.items mid.attempts, mid.few_damages)
+
+pub counted-self-requires-clause-run : goal.counted-self-requires-clause-run
+counted-self-requires-clause-run g c =
+    let mid = c.take_due_events.new.self in
+    let P : Losses → Type 0 = λ l. AreOfDamages mid.attempts mid.damages.items l in
+    let lost = subst P (sym c.after_clearing.ensures) (losses_cleared _ mid.attempts mid.damages.items mid.losses mid.lost) in
+    omega (arith, lost.run, lost.all, until_most mid.damages.items mid.attempts, mid.few_damages)
+
+pub invariant_of-self : goal.invariant_of-self
+invariant_of-self g c =
+    let mid = c.take_due_events.new.self in
+    let size : length (row_of c.make_exchange.new.roots) ≡ length (row_of mid.roots) = ap length c.make_exchange.ensures.row in
+    record {
+      some_root = omega (arith, size, mid.some_root);
+      few_roots = omega (arith, size, mid.few_roots);
+      settled = c.make_exchange.ensures.settled;
+      planned = mid.planned;
+      few_events = mid.few_events;
+      counted = mid.counted;
+      within = mid.within;
+      few_attempts = mid.few_attempts;
+      few_damages = mid.few_damages;
+      lost = mid.lost;
+      at_limit = mid.at_limit;
+    }
+
+pub invariant_of-self-2 : goal.invariant_of-self-2
+invariant_of-self-2 g c =
+    let mid = c.take_due_events.new.self in
+    let a = c.args.attempt.now in
+    let x = c.in_ok-exchange.exchange in
+    let spent = c.take_due_events.ensures.spends in
+    let size : length (row_of c.make_exchange.new.roots) ≡ length (row_of mid.roots) = ap length c.in_ok-exchange.ensures.row in
+    let damage = c.damage_of-damage.ensures ∙ ap (λ (l : List Damage). damage_of l (mid.attempts + 1)) c.deref.ensures.value in
+    let lost : x.address_lost ≡ lost_in a (damage_of mid.damages.items (mid.attempts + 1)) mid.roots =
+    ap (λ (y : Exchange). y.address_lost) c.in_ok-exchange.ensures.made ∙ lost_of a c.damage_of-damage.result mid.roots ∙ ap (λ (d : Option Damage). lost_in a d mid.roots) damage in
+    let P : Losses → Type 0 = λ l. AreOfDamages (mid.attempts + 1) mid.damages.items l in
+    record {
+      some_root = omega (arith, size, mid.some_root);
+      few_roots = omega (arith, size, mid.few_roots);
+      settled = c.in_ok-exchange.ensures.settled;
+      planned = mid.planned;
+      few_events = mid.few_events;
+      counted = omega (arith, mid.counted);
+      within = omega (arith, spent.most, spent.limit, c.requires.within);
+      few_attempts = mid.few_attempts;
+      few_damages = mid.few_damages;
+      lost = subst P (sym (c.counted-self.ensures ∙ ap (counted x.address_lost) c.after_clearing.ensures))
+          (losses_after mid.damages.items mid.attempts a mid.roots x.change_cleared x.address_lost mid.losses c.requires.attempt mid.settled lost mid.lost);
+      at_limit = λ e. other_fault _ _ _ e c.take_due_events.ensures.fault c.requires.sound;
+    }
+
+pub returns-clause-exact : goal.returns-clause-exact
+returns-clause-exact g c =
+    let mid = c.take_due_events.new.self in
+    let a = c.args.attempt.now in
+    let x = c.in_ok-exchange.exchange in
+    let damage = c.damage_of-damage.ensures ∙ ap (λ (l : List Damage). damage_of l (mid.attempts + 1)) c.deref.ensures.value in
+    let made : x ≡ made_in a (world_of mid) = c.in_ok-exchange.ensures.made ∙ ap (λ (d : Option Damage). exchange_in a d mid.roots) damage in
+    let ports = c.in_ok-exchange.ensures.ports ∙ ap (λ (d : Option Damage). ports_in a d mid.roots) damage in
+    let world : Losses → Bool → World
+    = λ l s. record (world_of mid) { roots = c.make_exchange.new.roots; attempts = mid.attempts + 1; losses = l; shared = mid.shared || s } in
+    ap₂ world (c.counted-self.ensures ∙ ap (counted x.address_lost) c.after_clearing.ensures) c.has_shared_address.ensures
+    ∙ attempt_made a (world_of c.args.self.now) (world_of mid) x c.make_exchange.new.roots c.in_ok-take_due_events.ensures.exact made ports
+
+pub returns-clause-outcome : goal.returns-clause-outcome
+returns-clause-outcome g c =
+    let mid = c.take_due_events.new.self in
+    let a = c.args.attempt.now in
+    let x = c.in_ok-exchange.exchange in
+    let damage = c.damage_of-damage.ensures ∙ ap (λ (l : List Damage). damage_of l (mid.attempts + 1)) c.deref.ensures.value in
+    let made : x ≡ made_in a (world_of mid) = c.in_ok-exchange.ensures.made ∙ ap (λ (d : Option Damage). exchange_in a d mid.roots) damage in
+    c.outcome_of.ensures.value ∙ outcome_made_in a (world_of c.args.self.now) (world_of mid) x c.in_ok-take_due_events.ensures.exact made
+
+pub returns-clause-lines : goal.returns-clause-lines
+returns-clause-lines g c =
+    let mid = c.take_due_events.new.self in
+    let a = c.args.attempt.now in
+    let x = c.in_ok-exchange.exchange in
+    let damage = c.damage_of-damage.ensures ∙ ap (λ (l : List Damage). damage_of l (mid.attempts + 1)) c.deref.ensures.value in
+    let made : x ≡ made_in a (world_of mid) = c.in_ok-exchange.ensures.made ∙ ap (λ (d : Option Damage). exchange_in a d mid.roots) damage in
+    lines_of_attempt a (world_of c.args.self.now) (world_of mid) (mid.attempts + 1) x _ _ _
+    c.in_ok-take_due_events.ensures.exact refl made
+    c.in_ok-take_due_events.ensures.lines c.in_ok-put_attempt.ensures.ok
+
+pub returns-in_err-exchange-clause-left : goal.returns-in_err-exchange-clause-left
+returns-in_err-exchange-clause-left g c =
+    let mid = c.take_due_events.new.self in
+    let world : Bool → World
+    = λ s. record (world_of mid) { roots = c.make_exchange.new.roots; shared = mid.shared || s } in
+    left_at_packet c.from_residual-in_err-exchange.result c.args.attempt.now (world_of c.args.self.now) (world_of mid) _ c.make_exchange.new.roots
+    c.from_residual-in_err-exchange.ensures.1 c.in_ok-take_due_events.ensures.exact c.make_exchange.ensures.figure c.make_exchange.ensures.row c.make_exchange.ensures.settled
+    (ap world c.has_shared_address.ensures)
+
+pub returns-in_err-put_attempt-clause-left : goal.returns-in_err-put_attempt-clause-left
+returns-in_err-put_attempt-clause-left g c =
+    let mid = c.take_due_events.new.self in
+    let a = c.args.attempt.now in
+    let x = c.in_ok-exchange.exchange in
+    let damage = c.damage_of-damage.ensures ∙ ap (λ (l : List Damage). damage_of l (mid.attempts + 1)) c.deref.ensures.value in
+    let made : x ≡ made_in a (world_of mid) = c.in_ok-exchange.ensures.made ∙ ap (λ (d : Option Damage). exchange_in a d mid.roots) damage in
+    let ports = c.in_ok-exchange.ensures.ports ∙ ap (λ (d : Option Damage). ports_in a d mid.roots) damage in
+    let world : Losses → Bool → World
+    = λ l s. record (world_of mid) { roots = c.make_exchange.new.roots; attempts = mid.attempts + 1; losses = l; shared = mid.shared || s } in
+    left_at_line c.from_residual-in_err-put_attempt.result a (world_of c.args.self.now) _ c.from_residual-in_err-put_attempt.ensures.1
+    (ap₂ world (c.counted-self.ensures ∙ ap (counted x.address_lost) c.after_clearing.ensures) c.has_shared_address.ensures
+    ∙ attempt_made a (world_of c.args.self.now) (world_of mid) x c.make_exchange.new.roots c.in_ok-take_due_events.ensures.exact made ports)

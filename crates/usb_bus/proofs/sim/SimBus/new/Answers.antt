@@ -1,5 +1,7 @@
-use Rattle.std.proofs.Common.{length, ap, sym, subst, ◌∙◌, refl}
+use Rattle.std.proofs.Common.{◌≡◌, length, arith, ap, sym, subst, ◌∙◌}
+use Rattle.usb_device.specs.Tree.{row_of}
 use Rattle.usb_bus.specs.Passes.{IsSettled}
+use Rattle.usb_bus.proofs.Counts.{new_long}
 use Rattle.usb_bus.proofs.Plans.{copies_come}
 use Rattle.usb_bus.proofs.Between.{settled_new}
 use Rattle.usb_bus.proofs.sim.SimBus.new.Goals as goal
@@ -11,3 +13,15 @@ invariant_of-result-clause-planned g c =
 
 pub invariant_of-result-clause-settled : goal.invariant_of-result-clause-settled
 invariant_of-result-clause-settled g c = subst IsSettled (sym c.in-Ok.ensures.roots) (settled_new c.args.plan.now.roots)
+
+pub invariant_of-result-clause-some_root : goal.invariant_of-result-clause-some_root
+invariant_of-result-clause-some_root g c =
+    let n = c.args.plan.now.roots in
+    let long : length (row_of c.in-Ok.stage.roots) ≡ n = ap (λ k. length (row_of k)) c.in-Ok.ensures.roots ∙ new_long n in
+    omega (arith, long, c.limit.ensures.plan.some_root)
+
+pub invariant_of-result-clause-few_roots : goal.invariant_of-result-clause-few_roots
+invariant_of-result-clause-few_roots g c =
+    let n = c.args.plan.now.roots in
+    let long : length (row_of c.in-Ok.stage.roots) ≡ n = ap (λ k. length (row_of k)) c.in-Ok.ensures.roots ∙ new_long n in
+    omega (arith, long, c.limit.ensures.plan.few_roots)

@@ -1,4 +1,11 @@
-use Rattle.std.proofs.Common.{refl, sym, ◌∙◌, ap, ap₂, Some, List}
+use Rattle.std.proofs.Common.{◌≡◌, refl, sym, subst, suc, true, length, arith, ◌∙◌, ap, ap₂, ◌∷◌, Bool, Some, List}
+use Rattle.std.proofs.lemmas.Bool.{and_parts}
+use Rattle.std.specs.List.{list_all}
+use Rattle.usb_device.specs.Tree.{row_of}
+use Rattle.usb_bus.specs.Passes.{IsSettled}
+use Rattle.usb_bus.specs.PlanData.{can_come}
+use Rattle.usb_bus.proofs.Between.{settled_happened}
+use Rattle.usb_bus.proofs.Counts.{happened_long, came_spends}
 use Rattle.usb_device.specs.Spec.{Spec}
 use Rattle.usb_bus.specs.declared.event.Event.{Event}
 use Rattle.usb_bus.specs.declared.event.Action.{Action}
@@ -42,3 +49,45 @@ returns-clause-line g c =
     let e = c.unwrap-event.result in
     let split = popped s.left.items c.pop_front.new.self.items c.pop_front.result e c.pop_front.ensures.items c.unwrap-event.ensures in
     rw (← line_next (world_of s) e _ split) (rw c.deref-2.ensures.value at c.in_ok-put_action.ensures.ok)
+
+pub invariant_of-self-2 : goal.invariant_of-self-2
+invariant_of-self-2 g c =
+    let s = c.args.self.now in
+    let rest = c.pop_front.new.self.items in
+    let split = popped s.left.items rest c.pop_front.result c.unwrap-event.result c.pop_front.ensures.items c.unwrap-event.ensures in
+    let size : length s.left.items ≡ suc (length rest) = ap length split in
+    let a = c.in-Some.event.now.action in
+    let done = c.in_ok-carry_out.ensures.ok in
+    let long : length (row_of c.carry_out.new.roots) ≡ length (row_of s.roots) = ap (λ k. length (row_of k)) done ∙ happened_long a c.deref.result.now s.roots in
+    let can : Event → Bool = can_come (length s.devices.items) in
+    let P : List Event → Type 0 = λ l. list_all can l ≡ true in
+    let all : P (c.unwrap-event.result ∷ rest) = subst P split s.planned in
+    record {
+      some_root = omega (arith, long, s.some_root);
+      few_roots = omega (arith, long, s.few_roots);
+      settled = subst IsSettled (sym done) (settled_happened a c.deref.result.now s.roots s.settled);
+      planned = (and_parts (can c.unwrap-event.result) (list_all can rest) all).1;
+      few_events = omega (arith, size, s.few_events);
+      counted = omega arith;
+      within = s.within;
+      few_attempts = s.few_attempts;
+      few_damages = s.few_damages;
+      lost = s.lost;
+      at_limit = s.at_limit;
+    }
+
+pub returns-in_err-put_action-clause-spends : goal.returns-in_err-put_action-clause-spends
+returns-in_err-put_action-clause-spends g c =
+    let s = c.args.self.now in
+    let rest = c.pop_front.new.self.items in
+    let split = popped s.left.items rest c.pop_front.result c.unwrap-event.result c.pop_front.ensures.items c.unwrap-event.ensures in
+    let size : length s.left.items ≡ suc (length rest) = ap length split in
+    came_spends (world_of s) _ c.in-Some.event.now.action c.deref.result.now c.in_ok-carry_out.ensures.ok refl (omega (arith, size)) refl refl
+
+pub returns-clause-spends : goal.returns-clause-spends
+returns-clause-spends g c =
+    let s = c.args.self.now in
+    let rest = c.pop_front.new.self.items in
+    let split = popped s.left.items rest c.pop_front.result c.unwrap-event.result c.pop_front.ensures.items c.unwrap-event.ensures in
+    let size : length s.left.items ≡ suc (length rest) = ap length split in
+    came_spends (world_of s) _ c.in-Some.event.now.action c.deref.result.now c.in_ok-carry_out.ensures.ok refl (omega (arith, size)) refl refl

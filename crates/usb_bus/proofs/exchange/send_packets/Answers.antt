@@ -1,10 +1,10 @@
 use Rattle.std.proofs.Common.{◌∙◌, ◌+◌, ap, ap₂}
 use Rattle.usb_bus.specs.Wire.{harm_to, marked, marked_some}
 use Rattle.usb_bus.specs.Exchange.{answer_mark}
-use Rattle.usb_bus.proofs.Exchanges.{Makes, over_row, made_exchange, made_ports}
-use Rattle.usb_bus.proofs.exchange.make_exchange.Goals as goal
+use Rattle.usb_bus.proofs.Exchanges.{Makes, made_exchange, made_ports}
+use Rattle.usb_bus.proofs.exchange.send_packets.Goals as goal
 
-makes : (c : goal.After-attempt_over) → Makes c.args.attempt.now c.args.damage c.args.roots.now
+makes : (c : goal.In_ok-address_lost) → Makes c.args.attempt.now c.args.damage c.args.roots.now
     (record {
       token = c.marked-token.result;
       payload = c.marked_some-payload.result;
@@ -13,7 +13,7 @@ makes : (c : goal.After-attempt_over) → Makes c.args.attempt.now c.args.damage
       reply = c.marked_some-reply.result;
       address_lost = c.in_ok-address_lost.address_lost;
       change_cleared = c.clears_change-change_cleared.result;
-    }) c.attempt_over.new.self
+    })
 makes c =
     let a = c.args.attempt.now in
     let damage = c.args.damage in
@@ -35,14 +35,17 @@ makes c =
       reply = c.marked_some-reply.ensures.value ∙ ap₂ (λ n o. marked_some damage (n + 1) a.pre o) c.answer_place-place.ensures.value c.reply_of-reply.ensures.value;
       lost = c.in_ok-address_lost.ensures.lost;
       reply_passed = c.in_ok-address_lost.ensures.ports;
-      over = c.attempt_over.ensures;
     }
 
 pub returns-clause-row : goal.returns-clause-row
-returns-clause-row c = over_row _ _ c.attempt_over.ensures ∙ c.in_ok-address_lost.ensures.row ∙ c.in_ok-to_payload.ensures.row ∙ c.in_ok-to_token.ensures.row
+returns-clause-row c = c.in_ok-address_lost.ensures.row ∙ c.in_ok-to_payload.ensures.row ∙ c.in_ok-to_token.ensures.row
+
+pub returns-clause-figure : goal.returns-clause-figure
+returns-clause-figure c = c.in_ok-address_lost.ensures.figure ∙ c.in_ok-to_payload.ensures.figure ∙ c.in_ok-to_token.ensures.figure
 
 pub returns-clause-made : goal.returns-clause-made
-returns-clause-made c = made_exchange _ _ _ _ _ (makes c)
+returns-clause-made c = made_exchange _ _ _ _ (makes c)
 
 pub returns-clause-ports : goal.returns-clause-ports
-returns-clause-ports c = made_ports _ _ _ _ _ (makes c)
+unfolding makes
+returns-clause-ports c = made_ports _ _ _ _ (makes c)
