@@ -1,5 +1,5 @@
 -- Where no address is held twice, one device holds an address or none does.
-use Rattle.std.proofs.Common.{◌≡◌, ℕ, zero, suc, ◌==◌, ◌&&◌, ◌⊎◌, inl, inr, Bool, true, false, List, [], ◌∷◌, Option, None, Some, option_map, is_some, refl, ap, sym, subst, ◌∙◌}
+use Rattle.std.proofs.Common.{◌≡◌, ℕ, zero, suc, ◌==◌, ◌⊎◌, inl, inr, true, false, [], ◌∷◌, Option, None, Some, option_map, is_some, refl, ap, sym, ◌∙◌}
 use Rattle.std.proofs.lemmas.Option.{same_Some}
 use Rattle.usb_port.specs.PortState.{PortState}
 use Rattle.usb_device.specs.Rows.{State}
@@ -10,7 +10,7 @@ use Rattle.usb_bus.specs.Live.{address_of, Holds}
 use Rattle.usb_bus.specs.Passes.{NobodyHolds}
 use Rattle.usb_bus.specs.World.{World}
 use Rattle.usb_bus.specs.Steps.{ready, outcome_in, attempt, after}
-use Rattle.usb_bus.specs.OneHolder.{IsMade, HolderIn, SomeHolder, Answerer}
+use Rattle.usb_bus.specs.OneHolder.{IsMade, SomeHolder, Answerer}
 use Rattle.usb_bus.proofs.Booleans.{no, both, and_of, decided}
 use Rattle.usb_bus.proofs.OneDevice.{stands, state_stands}
 use Rattle.usb_bus.proofs.OneHolderMore.{equal_same, nobody_in, silent_in}
