@@ -5,7 +5,7 @@ use crate::{
     ports_of_the_holder_in_worlds, quiet_courses_keep_addresses, reachable_is_the_same,
     reset_makes_new, reset_makes_reachable, sane_laws, setup_with_one_holder,
     silent_holder_answers_nothing, steps_keep_what_is_between, undamaged_attempts,
-    undamaged_attempts_in_worlds,
+    undamaged_attempts_in_worlds, what_is_heard_of_the_holder,
 };
 
 /// The laws are there to be cited; calling them does nothing.
@@ -34,6 +34,7 @@ fn laws_are_called() {
     undamaged_attempts();
     undamaged_attempts_in_worlds();
     one_device_answers();
+    what_is_heard_of_the_holder();
     ports_of_the_holder();
     ports_of_the_holder_in_worlds();
 }
