@@ -34,8 +34,8 @@ use Rattle.usb_bus.specs.declared.wire.Mark.{Mark}
 use Rattle.usb_bus.specs.declared.wire.Mark.TheVariants as mark
 use Rattle.usb_bus.specs.Wire.{is_read, mark_of, harm_to, marked, marked_some}
 use Rattle.usb_bus.specs.Live.{address_of}
-use Rattle.usb_bus.specs.Exchange.{token_of, payload_of, reply_of, outcome_heard, outcome_of, sent_as, goes_out, heard_all, token_out, payload_out, reply_out, heard_in, mark_in, place_of_answer, ports_in}
 use Rattle.usb_device.specs.View.{forgotten_place}
+use Rattle.usb_bus.specs.Exchange.{token_of, payload_of, reply_of, outcome_heard, outcome_of, sent_as, goes_out, heard_all, token_out, payload_out, reply_out, heard_in, mark_in, place_of_answer, ports_in}
 use Rattle.usb_bus.specs.Passes.{passed, told, told_at, heard_by, passed_place, place_after, deep_at, IsSettled, NobodyHolds, OneActs}
 use Rattle.usb_bus.specs.OneHolder.{content_way, way_to, way_back, got, token_way, payload_way, answer_way, reply_way, setup_alone, out_alone, in_alone, IsSetup, IsOut, IsIn, Holder, Exchanged}
 use Rattle.usb_bus.proofs.Booleans.{no}
@@ -259,7 +259,7 @@ module _ (a : Attempt) (d : Option Damage) (k : Ports) (j : ℕ) (p : List ℕ) 
     abbrev pub to_token : Reply
     to_token = through (token_way a d is_deep s) s own_row T
 
-    abbrev to_data : Reply
+    abbrev pub to_data : Reply
     to_data = through (payload_way a d is_deep s) to_token.1 own_row X
 
     pub first_sent : first ≡ to_token
@@ -271,7 +271,7 @@ module _ (a : Attempt) (d : Option Damage) (k : Ports) (j : ℕ) (p : List ℕ) 
         ∙ payload_comes a d X payload_is is_deep to_token.1 own_row
         ∙ ap (λ w. through w to_token.1 own_row X) (way_same is_deep (payload_out a d) s to_token.1 (through_spec (token_way a d is_deep s) s own_row T))
 
-    sent_heard : heard_in a d k ≡ heard_all (listed to_data.0 [])
+    pub sent_heard : heard_in a d k ≡ heard_all (listed to_data.0 [])
     sent_heard = is_heard_in ∙ ap₂ (λ x y. heard_all (listed x.0 [] ++ listed y.0 [])) first_sent second_sent ∙ ap (λ x. heard_all (listed x [] ++ listed to_data.0 [])) (quiet (token_way a d is_deep s))
 
     sent_reply : no_data to_data.0 ≡ true → reply_of (heard_in a d k) (mark_in a d k) a.max ≡ None
@@ -306,7 +306,7 @@ module _ (a : Attempt) (d : Option Damage) (k : Ports) (j : ℕ) (p : List ℕ) 
     below_asked : row_of second_below ≡ own_row
     below_asked = ap (λ o. row_of (ports_by is_deep b o first.1 first_below)) (no_payload a d none) ∙ first_row
 
-    asked_heard : heard_in a d k ≡ heard_all (listed to_in.0 [])
+    pub asked_heard : heard_in a d k ≡ heard_all (listed to_in.0 [])
     asked_heard = is_heard_in ∙ ap₂ (λ x y. heard_all (listed x.0 [] ++ listed y.0 [])) first_asked second_asked ∙ ap heard_all (no_more (listed to_in.0 []))
 
     pub asked_reply : reply_of (heard_in a d k) (mark_in a d k) a.max ≡ (if good then Some packet.Ack else None)
@@ -444,3 +444,21 @@ module _ (a : Attempt) (d : Option Damage) (k : Ports) (j : ℕ) (p : List ℕ) 
     in_one i =
         subst (Exchanged a d k j p) (in_same a.ep a.max t1 t3 t4)
         (asked a d k j p b s below h (Token InTok s.registers.address a.ep) (token_is a InTok s.registers.address a.ep i.kind (sym its_address) refl) (none_is a i.payload))
+
+    -- what is heard of the device
+    pub setup_heard : (bytes : List ℕ) → IsSetup a bytes → heard_in a d k ≡ heard_all (listed (setup_law s (row_of below) bytes t1 t2 whole).0 [])
+    setup_heard bytes i =
+        sent_heard a d k j p b s below h (Token SetupTok s.registers.address 0) (packet.Payload Zero (record { items = bytes }))
+        (token_is a SetupTok s.registers.address 0 i.kind (sym its_address) i.ep) (data_is a Zero (record { items = bytes }) i.payload) (setup_quiet s (row_of below) s.registers.address 0)
+        ∙ ap (λ r. heard_all (listed r.0 [])) (setup_same bytes i.whole t1 t2 whole)
+
+    pub out_heard : (t : Toggle) (bytes : List ℕ) → IsOut a t bytes → heard_in a d k ≡ heard_all (listed (out_law s a.ep t bytes t1 t2 whole).0 [])
+    out_heard t bytes i =
+        sent_heard a d k j p b s below h (Token OutTok s.registers.address a.ep) (packet.Payload t (record { items = bytes }))
+        (token_is a OutTok s.registers.address a.ep i.kind (sym its_address) refl) (data_is a t (record { items = bytes }) i.payload) (out_quiet s (row_of below) s.registers.address a.ep)
+        ∙ ap (λ r. heard_all (listed r.0 [])) (out_same a.ep t bytes t1 t2 whole)
+
+    pub in_heard : IsIn a → heard_in a d k ≡ heard_all (listed (in_law s (row_of below) a.ep a.max t1 whole whole).0 [])
+    in_heard i =
+        asked_heard a d k j p b s below h (Token InTok s.registers.address a.ep) (token_is a InTok s.registers.address a.ep i.kind (sym its_address) refl) (none_is a i.payload)
+        ∙ ap (λ r. heard_all (listed r.0 [])) (in_same a.ep a.max t1 whole whole)

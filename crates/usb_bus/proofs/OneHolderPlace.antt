@@ -8,7 +8,7 @@ use Rattle.usb_packet.specs.declared.Packet.TheVariants.{Token}
 use Rattle.usb_packet.specs.declared.Packet.TheVariants as packet
 use Rattle.usb_packet.specs.declared.Toggle.{Toggle}
 use Rattle.usb_packet.specs.declared.Toggle.TheVariants.{Zero}
-use Rattle.usb_packet.specs.declared.TokenKind.TheVariants.{OutTok, InTok, SetupTok}
+use Rattle.usb_packet.specs.declared.TokenKind.TheVariants.{OutTok, SetupTok}
 use Rattle.usb_port.specs.PortState.{PortState}
 use Rattle.usb_request.specs.Layout.{setup_of}
 use Rattle.usb_device.specs.declared.delivery.Content.{Content}
@@ -20,8 +20,9 @@ use Rattle.usb_device.specs.declared.transfer.Memory.TheVariants as memory
 use Rattle.usb_device.specs.Rows.{State, Reply, received, unread, forgotten}
 use Rattle.usb_device.specs.Effect.{asks, asked_by_setup, asked_by_packet}
 use Rattle.usb_device.specs.Attempt.{Way, whole, broken, lost, is_whole, through, is_own}
-use Rattle.usb_device.specs.Tree.{Ports, ended, vacant, taken, Place, empty, full, acted, called, all_off, row_of, reach_at, state_at, place_at}
+use Rattle.usb_device.specs.Tree.{Ports, ended, vacant, taken, Place, empty, full, acted, all_off, row_of, reach_at, state_at, place_at}
 use Rattle.usb_device.specs.Delivery.{is_heard, asked_by, effect_of, after_packet, all_forgotten}
+use Rattle.usb_device.specs.View.{forgotten_place}
 use Rattle.usb_bus.specs.declared.types.Attempt.{Attempt}
 use Rattle.usb_bus.specs.declared.damage.Damage.{Damage}
 use Rattle.usb_bus.specs.declared.exchange.Heard.{Heard}
@@ -31,7 +32,7 @@ use Rattle.usb_bus.specs.declared.wire.Mark.TheVariants as mark
 use Rattle.usb_bus.specs.Wire.{is_read, mark_of, harm_to, marked, marked_some}
 use Rattle.usb_bus.specs.Live.{address_of}
 use Rattle.usb_bus.specs.Exchange.{token_of, payload_of, reply_of, sent_as, goes_out, token_out, payload_out, reply_out, heard_in, mark_in, place_of_answer, ports_in}
-use Rattle.usb_bus.specs.Passes.{passed_place, forgotten_place, place_after, deep_at, IsSettled, NobodyHolds, OneHolds}
+use Rattle.usb_bus.specs.Passes.{passed_place, place_after, deep_at, IsSettled, NobodyHolds, OneHolds}
 use Rattle.usb_bus.specs.World.{World}
 use Rattle.usb_bus.specs.Steps.{ready, damage_in, with_attempt, attempt, after}
 use Rattle.usb_bus.specs.OneHolder.{way_to, token_way, payload_way, IsSetup, IsOut, IsIn, Holder, HolderIn, Exchanged, setup_alone, out_alone, in_alone, setup_asked}
@@ -39,9 +40,9 @@ use Rattle.usb_bus.proofs.Booleans.{no, both, and_of, decided}
 use Rattle.usb_bus.proofs.Holders.{one_path}
 use Rattle.usb_bus.proofs.PassLaws.{CalmOut, token_out as token_calm, ack_out as ack_calm, forgotten_off}
 use Rattle.usb_bus.proofs.Between.{settled_called}
-use Rattle.usb_bus.proofs.OneDevice.{AllRest, rest_packet, settled_memory, stands}
+use Rattle.usb_bus.proofs.OneDevice.{rest_packet, settled_memory, stands}
 use Rattle.usb_bus.proofs.WorldLaws.{goes}
-use Rattle.usb_bus.proofs.OneHolder.{is_deep, own_row, acts, rests, ports_by, passed_stands, first, first_below, second, second_below, third, second_place, is_state, its_address, token_is, data_is, none_is, token_comes, no_payload, through_spec, way_same, setup_one, out_one, in_one}
+use Rattle.usb_bus.proofs.OneHolder.{acts, rests, ports_by, passed_stands, first, first_below, second, second_below, third, second_place, is_state, its_address, token_is, data_is, none_is, token_comes, no_payload, through_spec, way_same, setup_one, out_one, in_one}
 use Rattle.usb_bus.proofs.OneHolderMore.{equal_same, first_silent, silent_one, made_is, holder_in}
 
 -- What stands below the holder

@@ -7,19 +7,20 @@ ghost use Rattle.usb_port.specs.PortState.{PortState};
 ghost use Rattle.usb_request.specs.Layout.{setup_of};
 ghost use Rattle.usb_device.specs.declared.answer.Answer.TheVariants.{Ack};
 ghost use Rattle.usb_device.specs.Rows.{State, accepted, data_row, forgotten};
-ghost use Rattle.usb_device.specs.Attempt.{whole, in_law};
+ghost use Rattle.usb_device.specs.Attempt.{whole, setup_law, out_law, in_law};
 ghost use Rattle.usb_device.specs.Tree.{Ports, full, acted, row_of, state_at, place_at};
+ghost use Rattle.usb_device.specs.Delivery.{listed};
 ghost use Rattle.usb_bus.specs.declared.types.Attempt.{Attempt};
 ghost use Rattle.usb_bus.specs.declared.types.Outcome.TheVariants.{Nothing};
 ghost use Rattle.usb_bus.specs.declared.damage.Damage.{Damage};
-ghost use Rattle.usb_bus.specs.Exchange.{heard_in, mark_in, outcome_of, ports_in, token_out, payload_out};
+ghost use Rattle.usb_bus.specs.Exchange.{heard_all, heard_in, mark_in, outcome_of, ports_in, token_out, payload_out};
 ghost use Rattle.usb_bus.specs.Live.{same_number, same_path};
 ghost use Rattle.usb_bus.specs.Touched.{reset_if};
 ghost use Rattle.usb_bus.specs.Passes.{IsSettled, NobodyHolds, deep_at, attempt_resets};
 ghost use Rattle.usb_bus.specs.World.{World, Made};
 ghost use Rattle.usb_bus.specs.Steps.{outcome_in, ready, damage_in, attempt, after};
 ghost use Rattle.usb_bus.specs.Courses.{resets};
-ghost use Rattle.usb_bus.specs.OneHolder.{Holder, Exchanged, IsSetup, IsOut, IsIn, setup_alone, out_alone, in_alone, setup_asked, hears_attempt, AllWhole, IsMade, HolderIn, ExchangedIn, SomeHolder, Answerer};
+ghost use Rattle.usb_bus.specs.OneHolder.{Holder, Exchanged, IsSetup, IsOut, IsIn, token_way, payload_way, setup_alone, out_alone, in_alone, setup_asked, hears_attempt, AllWhole, IsMade, HolderIn, ExchangedIn, SomeHolder, Answerer};
 
 /// No reachable device holds the address: nothing is answered, and no device changes.
 pub fn nobody_is_asked()
@@ -52,6 +53,20 @@ pub fn in_with_one_holder()
         → s.spec.silent ≡ false → IsIn a → Exchanged a d k j p (in_alone a d k (deep_at false p) s (row_of below)) }
     ensures world { (a : Attempt) (w : World) (j : ℕ) (p : List ℕ) (b : PortState) (s : State) (below : Ports) → HolderIn a w j p b s below
         → s.spec.silent ≡ false → IsIn a → ExchangedIn a w j p (in_alone a (damage_in (ready w)) (ready w).roots (deep_at false p) s (row_of below)) }
+{}
+
+/// What goes back over the bus is the answer of the device that holds the address, so a damage of the answer and the host's ACK
+/// hang on that device alone.
+pub fn what_is_heard_of_the_holder()
+    ensures setup { (a : Attempt) (d : Option Damage) (k : Ports) (j : ℕ) (p : List ℕ) (b : PortState) (s : State) (below : Ports) → Holder a.addr k j p b s below
+        → s.spec.silent ≡ false → (bytes : List ℕ) → IsSetup a bytes
+        → heard_in a d k ≡ heard_all (listed (setup_law s (row_of below) bytes (token_way a d (deep_at false p) s) (payload_way a d (deep_at false p) s) whole).0 []) }
+    ensures out { (a : Attempt) (d : Option Damage) (k : Ports) (j : ℕ) (p : List ℕ) (b : PortState) (s : State) (below : Ports) → Holder a.addr k j p b s below
+        → s.spec.silent ≡ false → (t : Toggle) (bytes : List ℕ) → IsOut a t bytes
+        → heard_in a d k ≡ heard_all (listed (out_law s a.ep t bytes (token_way a d (deep_at false p) s) (payload_way a d (deep_at false p) s) whole).0 []) }
+    ensures into { (a : Attempt) (d : Option Damage) (k : Ports) (j : ℕ) (p : List ℕ) (b : PortState) (s : State) (below : Ports) → Holder a.addr k j p b s below
+        → s.spec.silent ≡ false → IsIn a
+        → heard_in a d k ≡ heard_all (listed (in_law s (row_of below) a.ep a.max (token_way a d (deep_at false p) s) whole whole).0 []) }
 {}
 
 /// A silent device answers nothing, and stays as it is.
