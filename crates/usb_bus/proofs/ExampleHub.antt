@@ -5,7 +5,7 @@ use Rattle.usb_packet.specs.declared.TokenKind.TheVariants.{InTok, SetupTok}
 use Rattle.usb_packet.specs.declared.Toggle.TheVariants.{Zero, One as Data1}
 use Rattle.usb_device.specs.Spec.{Spec, function, usual_hub}
 use Rattle.usb_device.specs.Tree.{ended, vacant, taken, changed_at, reach_at, state_at, reach, all_off}
-use Rattle.usb_device.specs.Rows.{State, received, unread, fresh, reset_state, awaits_address}
+use Rattle.usb_device.specs.Rows.{received, unread, fresh, reset_state, awaits_address}
 use Rattle.usb_device.specs.Request.{outcome}
 use Rattle.usb_device.specs.Effect.{asks}
 use Rattle.usb_device.specs.Calls.{set_call, clear_call}

@@ -1,5 +1,4 @@
 //! A packet that a device has no memory for.
-ghost use Rattle.std.specs.Prelude.{◌≡◌, ◌<◌};
 ghost use Rattle.usb_bus.specs.World.{IsAttempt};
 
 use super::sim::{data_in, plug, reset, set, setup, status};
