@@ -159,7 +159,7 @@ IsInOrOut n (Whole (Token OutTok a e)) = a ≡ n
 IsInOrOut n Broken = Unit {0}
 IsInOrOut n (Whole p) = ⊥
 
-equal_is : (n x : ℕ) → (n == x) ≡ true → n ≡ x
+pub equal_is : (n x : ℕ) → (n == x) ≡ true → n ≡ x
 equal_is n x h = grind (arith, nat_tests)
 
 token_reply : (n : ℕ) (c : Content) → IsInOrOut n c → (s : State) (row : List PortState) → s.memory ≡ Nothing → Asked n s (reply_to c s row).1
@@ -485,7 +485,7 @@ module _ (a : Attempt) (d : Option Damage) (k : Ports) (settled : IsSettled k) (
 
 -- Worlds
 
-due_own : (f : List ℕ → Option ℕ) (es : List Event) (w : World) → Own f w → Own f (due_from es w)
+pub due_own : (f : List ℕ → Option ℕ) (es : List Event) (w : World) → Own f w → Own f (due_from es w)
 unfolding due_from took after
 due_own f [] w h = h
 due_own f (e ∷ es) w h = split (is_due e w) (due_own f es (took e es w) (step_own f event (record w { left = e ∷ es; fault = None }) refl h))

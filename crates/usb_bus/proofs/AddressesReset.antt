@@ -133,17 +133,17 @@ way_split f p q a h = pick (same_path p q) (is_way p q) refl refl h
     pick false true e g h = cc
     pick false false e g h = inr (g, h)
 
-same_is : (p q : List ℕ) → same_path p q ≡ true → q ≡ p
+pub same_is : (p q : List ℕ) → same_path p q ≡ true → q ≡ p
 same_is [] [] h = refl
 same_is [] (n ∷ q) h = no h
 same_is (m ∷ p) [] h = no h
 same_is (m ∷ p) (n ∷ q) h = let x : _ = both (same_number m n) (same_path p q) h in rw (is_same m n x.0, same_is p q x.1) refl
 
-self_number : (n : ℕ) → same_number n n ≡ true
+pub self_number : (n : ℕ) → same_number n n ≡ true
 self_number zero = refl
 self_number (suc n) = self_number n
 
-self_path : (p : List ℕ) → same_path p p ≡ true
+pub self_path : (p : List ℕ) → same_path p p ≡ true
 self_path [] = refl
 self_path (n ∷ p) = rw (self_number n, self_path p) refl
 

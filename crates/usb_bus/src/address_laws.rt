@@ -1,15 +1,20 @@
 //! Laws of the addresses that devices hold (9.4.6), for those who make attempts.
 //!
 //! Each call does nothing; what it ensures is for proofs to cite.
-ghost use Rattle.std.specs.Prelude.{◌≡◌, ℕ, true, false, List, [], ◌∷◌, Option, Some};
+ghost use Rattle.std.specs.Prelude.{◌≡◌, ℕ, suc, true, false, List, [], ◌∷◌, Option, Some};
+ghost use Rattle.usb_port.specs.PortState.{PortState};
+ghost use Rattle.usb_device.specs.Rows.{State};
+ghost use Rattle.usb_device.specs.Transfer.{ending};
+ghost use Rattle.usb_device.specs.Tree.{Ports};
 ghost use Rattle.usb_device.specs.declared.calls.PortCall.TheVariants.{SetReset};
 ghost use Rattle.usb_bus.specs.declared.types.Attempt.{Attempt};
-ghost use Rattle.usb_bus.specs.Live.{is_way};
-ghost use Rattle.usb_bus.specs.Passes.{IsSettled};
+ghost use Rattle.usb_bus.specs.Live.{is_way, same_path};
+ghost use Rattle.usb_bus.specs.Passes.{deep_at, IsSettled};
 ghost use Rattle.usb_bus.specs.World.{World};
-ghost use Rattle.usb_bus.specs.Steps.{Course, ready, attempt, root_call, after};
+ghost use Rattle.usb_bus.specs.Steps.{Course, ready, damage_in, attempt, root_call, after};
 ghost use Rattle.usb_bus.specs.Courses.{Injective, Own, resets};
-ghost use Rattle.usb_bus.specs.Addresses.{is_setup, NoneTakes, GivesNoAddress, after_reset};
+ghost use Rattle.usb_bus.specs.OneHolder.{HolderIn, IsIn};
+ghost use Rattle.usb_bus.specs.Addresses.{is_setup, NoneTakes, GivesNoAddress, after_reset, after_taking, ends_status};
 
 /// IN and OUT change no address and set no mark, whatever is lost, where no device at theirs takes another when its
 /// status stage ends.
@@ -34,4 +39,17 @@ pub fn root_reset_gives_address_zero()
         → Own f w → Own f (after (root_call SetReset n) w) }
     // Where no device that stays has address 0, the addresses are still distinct.
     ensures distinct { (f : List ℕ → Option ℕ) (p : List ℕ) → Injective f → ((q : List ℕ) → f q ≡ Some 0 → is_way p q ≡ true) → Injective (after_reset f p) }
+{}
+
+/// IN of the status stage of SET_ADDRESS, where one reachable device holds the address (9.4.6): the device takes its new
+/// address exactly where the host's ACK comes to it, and every other device keeps its own.
+pub fn set_address_takes_effect_at_its_ack()
+    ensures seen { (a : Attempt) (w : World) (j : ℕ) (p : List ℕ) (b : PortState) (s : State) (below : Ports) → HolderIn a w j p b s below
+        → IsIn a → (n : ℕ) → s.stage ≡ ending (Some n) → ends_status a (damage_in (ready w)) (ready w).roots (deep_at false p) s ≡ true
+        → (f : List ℕ → Option ℕ) → Own f w → Own (after_taking f (suc j ∷ p) n) (after (attempt a) w) }
+    ensures unseen { (a : Attempt) (w : World) (j : ℕ) (p : List ℕ) (b : PortState) (s : State) (below : Ports) → HolderIn a w j p b s below
+        → IsIn a → (n : ℕ) → s.stage ≡ ending (Some n) → ends_status a (damage_in (ready w)) (ready w).roots (deep_at false p) s ≡ false
+        → (f : List ℕ → Option ℕ) → Own f w → Own f (after (attempt a) w) }
+    // Where no other device has the new address, the addresses are still distinct.
+    ensures distinct { (f : List ℕ → Option ℕ) (p : List ℕ) (n : ℕ) → Injective f → ((q : List ℕ) → f q ≡ Some n → same_path p q ≡ true) → Injective (after_taking f p n) }
 {}
