@@ -1,5 +1,5 @@
 -- How an attempt or an event ends that a fault may cut.
-use Rattle.std.proofs.Common.{◌≡◌, Bool, true, false, if◌then◌else◌, Option, Some, None, Result, Ok, Err, OnOk, refl, sym, ap, ap₂, ◌∙◌}
+use Rattle.std.proofs.Common.{◌≡◌, Bool, true, false, if◌then◌else◌, Option, Some, None, Result, Ok, Err, OnOk, IfErr, IsErrAnd, ◌≢◌, ◌||◌, refl, sym, subst, ap, ap₂, ◌∙◌}
 use Rattle.std.specs.Prelude.{◌==◌}
 use Rattle.std.proofs.lemmas.Bool.{eq-eqb}
 use Rattle.std.proofs.lemmas.Bool.Decides.{nat_tests}
@@ -8,9 +8,12 @@ use Rattle.usb_bus.specs.declared.event.Due.{Due}
 use Rattle.usb_bus.specs.declared.types.Attempt.{Attempt}
 use Rattle.usb_bus.specs.declared.types.Outcome.{Outcome}
 use Rattle.usb_bus.specs.declared.types.BusFault.{BusFault}
-use Rattle.usb_bus.specs.declared.types.BusFault.TheVariants.{LimitReached, TraceFailed}
+use Rattle.usb_bus.specs.declared.types.BusFault.TheVariants.{LimitReached, Memory, TraceFailed}
 use Rattle.usb_bus.specs.World.{World}
-use Rattle.usb_bus.specs.Steps.{ready, with_attempt, attempted, attempt, event, event_taken, took_first, after, fault_of}
+use Rattle.usb_bus.specs.Steps.{ready, with_attempt, attempted, attempt, event, event_taken, took_first, after, fault_of, Left, at_packet, at_line, AttemptFails}
+use Rattle.usb_bus.specs.Passes.{IsSettled}
+use Rattle.usb_device.specs.Tree.{Ports, row_of}
+use Rattle.usb_device.specs.Delivery.{held, is_twice, figure}
 
 pub after_fault : (a : Attempt) (w : World) (f : BusFault) → w.fault ≡ Some f → w ≡ after (attempt a) w
 unfolding after
@@ -58,3 +61,25 @@ event_cut r w m f is sound cut e =
     let told : f ≡ Some TraceFailed = is ∙ ap (λ x. fault_of x) cut in
     let failed : Option BusFault → World → World = λ x v. record v { fault = x } in
     ap₂ failed told (e ∙ ap (λ o. event_taken o w) (sym sound))
+
+-- memory was refused while the packets went
+pub left_at_packet : {T : Type 0} (r : Result T BusFault) (a : Attempt) (w m v : World) (k : Ports) → IsErrAnd r (λ f. f ≡ Memory) → m ≡ ready w → figure k ≡ figure m.roots → row_of k ≡ row_of m.roots → IsSettled k
+    → v ≡ record m { roots = k; shared = m.shared || is_twice (held m.roots) } → IfErr r (λ f. Left a w f v)
+left_at_packet (Ok x) a w m v k is e same row settled made = tt
+left_at_packet (Err f) a w m v k is e same row settled made =
+    let P : World → Type 0 = λ x. figure k ≡ figure x.roots in
+    let Q : World → Type 0 = λ x. row_of k ≡ row_of x.roots in
+    let left : World → World = λ x. record x { roots = k; shared = x.shared || is_twice (held x.roots) } in
+    at_packet k is (record { same = subst P e same; row = subst Q e row; settled = settled }) (made ∙ ap left e)
+
+-- only the line was not written
+pub left_at_line : {T : Type 0} (r : Result T BusFault) (a : Attempt) (w v : World) → IsErrAnd r (λ f. f ≡ TraceFailed) → v ≡ with_attempt a (ready w) → IfErr r (λ f. Left a w f v)
+left_at_line (Ok x) a w v is e = tt
+left_at_line (Err f) a w v is e = at_line is e
+
+pub fails_at : (r : Result Outcome BusFault) (a : Attempt) (w m : World) (f : Option BusFault) → f ≡ fault_of r → IfErr r (λ x. x ≢ LimitReached) → IfErr r (λ x. Left a w x m)
+    → AttemptFails a w r (record m { fault = f })
+fails_at (Ok o) a w m f is other left = tt
+fails_at (Err LimitReached) a w m f is other left = absurd (other refl)
+fails_at (Err Memory) a w m f is other left = record { left = m; so_far = left; told = ap (λ x. record m { fault = x }) is }
+fails_at (Err TraceFailed) a w m f is other left = record { left = m; so_far = left; told = ap (λ x. record m { fault = x }) is }

@@ -1,18 +1,21 @@
 -- How events come, and what an attempt makes of the world.
-use Rattle.std.proofs.Common.{◌≡◌, ℕ, ◌+◌, List, [], ◌∷◌, ◌++◌, length, Bool, true, false, ◌||◌, if◌then◌else◌, Option, Some, None, refl, sym, ap, ap₂, ◌∙◌, subst, arith, get_or, append_assoc, append-nil}
+use Rattle.std.proofs.Common.{◌≡◌, ℕ, ◌+◌, List, [], ◌∷◌, ◌++◌, length, Bool, true, false, ◌||◌, if◌then◌else◌, Option, Some, None, Result, Ok, Err, IfErr, OnErr, ◌≢◌, refl, sym, ap, ap₂, ◌∙◌, subst, arith, get_or, append_assoc, append-nil}
 use Rattle.std.specs.Io.KnownBytes.{Appends}
 use Rattle.std.specs.Option.{option_to_list}
 use Rattle.std.proofs.KnownBytes.{Appends-trans, Appends-nil}
 use Rattle.usb_device.specs.Tree.{Ports}
 use Rattle.usb_device.specs.Delivery.{held, is_twice}
 use Rattle.usb_bus.specs.declared.event.Event.{Event}
+use Rattle.usb_bus.specs.declared.event.Due.{Due}
+use Rattle.usb_bus.specs.declared.types.BusFault.{BusFault}
+use Rattle.usb_bus.specs.declared.types.BusFault.TheVariants.{LimitReached, Memory, TraceFailed}
 use Rattle.usb_bus.specs.declared.exchange.Exchange.{Exchange}
 use Rattle.usb_bus.specs.declared.types.Attempt.{Attempt}
 use Rattle.usb_bus.specs.Exchange.{exchange_in, ports_in}
 use Rattle.usb_bus.specs.Losses.{counted, after_clearing}
 use Rattle.usb_bus.specs.World.{World}
-use Rattle.usb_bus.specs.Steps.{happened, is_due, took, took_first, due_from, ready, damage_in, made_in, with_attempt, outcome_made, outcome_in}
-use Rattle.usb_bus.specs.Lines.{action_line, due_of, next_line, next_due, has_due, due_lines, attempted_lines}
+use Rattle.usb_bus.specs.Steps.{Coming, next_came, happened, is_due, has_due, took, took_first, due_from, ready, damage_in, made_in, with_attempt, outcome_made, outcome_in}
+use Rattle.usb_bus.specs.Lines.{action_line, due_of, next_line, next_due, due_lines, attempted_lines}
 use Rattle.usb_bus.specs.Trace.{attempt_line}
 
 -- the next event came
@@ -94,6 +97,21 @@ due_goes_on first w v had has now d h e line =
       lines = d.lines ∙ ap (λ l. d.gone ++ l) step.lines ∙ sym (append_assoc d.gone (next_line w) _);
       written = Appends-trans had has now d.gone (next_line w) d.written line;
     })
+
+pub came_next : (first w v : World) → Coming first w → has_due w ≡ true → v ≡ took_first w.left w → Coming first v
+came_next first w v c h e = subst (Coming first) (sym e) (next_came c h)
+
+-- an event that was cut came, or it did not
+pub coming_cut : (r : Result (Option Due) BusFault) (f : BusFault) (first w v : World) → r ≡ Err f → Coming first w → has_due w ≡ true → IfErr r (λ x. x ≢ LimitReached)
+    → (r ≡ Err Memory → v ≡ w) → (r ≡ Err TraceFailed → v ≡ took_first w.left w) → Coming first v
+coming_cut (Ok x) f first w v is c h other kept cut = cc is
+coming_cut (Err LimitReached) f first w v is c h other kept cut = absurd (other refl)
+coming_cut (Err Memory) f first w v is c h other kept cut = subst (Coming first) (sym (kept refl)) c
+coming_cut (Err TraceFailed) f first w v is c h other kept cut = came_next first w v c h (cut refl)
+
+pub on_err : {A E : Type 0} {P : Type 0} (r : Result A E) → P → OnErr r P
+on_err (Ok x) h = tt
+on_err (Err x) h = h
 
 pub record DueDone (first now : World) (had has : Option (List ℕ)) : Type 0 where
   pub after : now ≡ ready first

@@ -3,8 +3,9 @@ use Rattle.std.proofs.Common.{◌≡◌, ◌+◌, List, [], ◌∷◌, ◌++◌,
 use Rattle.usb_device.specs.declared.answer.Answer.{Answer}
 use Rattle.usb_device.specs.declared.delivery.Heard.{Heard as HeardBelow}
 use Rattle.usb_device.specs.declared.delivery.Sent.{Sent}
-use Rattle.usb_device.specs.Tree.{Ports, row_of}
-use Rattle.usb_device.specs.Delivery.{answers, all_forgotten, heard_of, delivered}
+use Rattle.usb_device.specs.Tree.{Ports, ended, vacant, taken, row_of}
+use Rattle.usb_device.specs.Delivery.{answers, all_forgotten, heard_of, delivered, figure}
+use Rattle.usb_device.proofs.Figures.{figure-after}
 use Rattle.usb_device.proofs.Rows.{row_of-after, row_of-forgotten}
 use Rattle.usb_bus.specs.declared.damage.Damage.{Damage}
 use Rattle.usb_bus.specs.declared.exchange.Exchange.{Exchange}
@@ -14,7 +15,7 @@ use Rattle.usb_bus.specs.Wire.{harm_to, marked, marked_some}
 use Rattle.usb_bus.specs.Answering.{joined, heard_from, heard_told}
 use Rattle.usb_bus.specs.Passes.{IsSettled, passed, told}
 use Rattle.usb_bus.proofs.PassLaws.{attempt_settled}
-use Rattle.usb_bus.specs.Exchange.{token_of, payload_of, answer_place, answer_mark, reply_of, goes_out, heard_all, token_out, payload_out, heard_in, mark_in, reply_in, answered_in, is_lost, lost_in, is_clearing, cleared_in, exchange_in, ended_in, ports_in}
+use Rattle.usb_bus.specs.Exchange.{token_of, payload_of, answer_place, answer_mark, reply_of, goes_out, heard_all, token_out, payload_out, heard_in, mark_in, reply_in, answered_in, is_lost, lost_in, clears_at, cleared_in, exchange_in, ended_in, ports_in}
 
 heard_all_of : (xs : List Answer) → heard_from (heard_of xs) ≡ heard_all xs
 heard_all_of [] = refl
@@ -41,6 +42,18 @@ joined_all (x ∷ w ∷ xs) ys = refl
 pub over_row : (k m : Ports) → m ≡ all_forgotten k → row_of m ≡ row_of k
 over_row k m e = ap row_of e ∙ row_of-forgotten k
 
+figure-forgotten : (k : Ports) → figure (all_forgotten k) ≡ figure k
+unfolding figure all_forgotten
+figure-forgotten ended = refl
+figure-forgotten (vacant b k) = ap (λ f. Some None ∷ f) (figure-forgotten k)
+figure-forgotten (taken b s a k) = ap₂ (λ f g. Some (Some s.spec) ∷ (f ++ g)) (figure-forgotten a) (figure-forgotten k)
+
+pub over_figure : (k m : Ports) → m ≡ all_forgotten k → figure m ≡ figure k
+over_figure k m e = ap figure e ∙ figure-forgotten k
+
+pub delivered_figure : (q : Sent) (k m : Ports) (h : HeardBelow) → (h, m) ≡ delivered q false k → figure m ≡ figure k
+delivered_figure q k m h e = ap (λ x. figure x.1) e ∙ figure-after q false k
+
 pub over_settled : (k m : Ports) → m ≡ all_forgotten k → IsSettled m
 over_settled k m e = subst IsSettled (sym e) (attempt_settled None None None k)
 
@@ -60,7 +73,7 @@ pub record Makes (a : Attempt) (damage : Option Damage) (k : Ports) (x : Exchang
   pub token_heard : to_token ≡ heard_told (goes_out a (Some x.token)) k
   pub token_passed : first ≡ passed (goes_out a (Some x.token)) k
   pub payload : x.payload ≡ marked_some damage 2 a.pre (payload_of a)
-  pub cleared : x.change_cleared ≡ is_clearing (goes_out a x.payload) first
+  pub cleared : x.change_cleared ≡ clears_at (goes_out a x.payload) first
   pub payload_heard : to_payload ≡ heard_told (goes_out a x.payload) first
   pub payload_passed : second ≡ passed (goes_out a x.payload) first
   pub answer : x.answer ≡ joined to_token to_payload
@@ -94,7 +107,7 @@ module _ (a : Attempt) (damage : Option Damage) (k : Ports) (x : Exchange) (m : 
   lost_is = m.lost ∙ ap₂ (λ r j. is_lost r (goes_out a r) j) reply_is second_is
 
   cleared_is : x.change_cleared ≡ cleared_in a damage k
-  cleared_is = m.cleared ∙ ap₂ (λ p j. is_clearing (goes_out a p) j) m.payload first_is
+  cleared_is = m.cleared ∙ ap₂ (λ p j. clears_at (goes_out a p) j) m.payload first_is
 
   pub made_exchange : x ≡ exchange_in a damage k
   unfolding exchange_in

@@ -16,7 +16,8 @@ use Rattle.usb_device.specs.Tree.{Ports, ended, vacant, taken, Place, empty, ful
 use Rattle.usb_device.specs.Delivery.{hears, asked_by, answer_of, effect_of, after_packet, answers, listed, all_forgotten}
 use Rattle.usb_bus.specs.Live.{address_of, same_number, same_path}
 use Rattle.usb_bus.specs.Touched.{is_left, way_rests, resets_at, reset_if}
-use Rattle.usb_bus.specs.Passes.{passed, told, told_at, answer_at, after_attempt, heard_place, passed_place, forgotten_place, deep_at, calls_on, IsTokenFor, IsDataOut, IsAckOut, IfOut, IsAttemptAt, pass_resets, attempt_resets, IsSettled, NobodyHolds, OneHolds, OneActs, heard_state}
+use Rattle.usb_device.specs.View.{forgotten_place}
+use Rattle.usb_bus.specs.Passes.{passed, told, told_at, answer_at, after_attempt, heard_place, passed_place, deep_at, calls_on, IsTokenFor, IsDataOut, IsAckOut, IfOut, IsAttemptAt, pass_resets, attempt_resets, IsSettled, NobodyHolds, OneHolds, OneActs, heard_state}
 use Rattle.usb_bus.proofs.Booleans.{no, both, and_of, decided}
 use Rattle.usb_bus.proofs.Holders.{one_path}
 use Rattle.usb_bus.proofs.PacketLaws.{packet_state, true_deep}

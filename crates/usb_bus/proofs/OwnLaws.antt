@@ -37,7 +37,8 @@ use Rattle.usb_bus.specs.declared.wire.Mark.{Mark}
 use Rattle.usb_bus.specs.declared.wire.Mark.TheVariants as mark
 use Rattle.usb_bus.specs.Wire.{mark_of, harm_to, marked, marked_some}
 use Rattle.usb_bus.specs.Exchange.{token_of, payload_of, reply_of, sent_as, goes_out, token_out, payload_out, reply_out, heard_all, mark_in, place_of_answer, ports_in}
-use Rattle.usb_bus.specs.Live.{address_of, device_of, is_way, Two}
+use Rattle.usb_device.specs.View.{state_there}
+use Rattle.usb_bus.specs.Live.{address_of, is_way, Two}
 use Rattle.usb_bus.specs.Touched.{resets_at, reset_if, call_resets}
 use Rattle.usb_bus.specs.Passes.{passed, told, after_attempt, heard_state, deep_at, pass_resets, attempt_resets}
 use Rattle.usb_bus.specs.World.{World}
@@ -132,7 +133,7 @@ own_not_twice f inj w own = split (decided (is_twice (held w.roots)))
 
 -- Events
 
-replaced_state : (o : Option Spec) (k : Ports) (x p : List ℕ) → way_of x p ≡ false → device_of (changed (replaced o) k x) p ≡ device_of k p
+replaced_state : (o : Option Spec) (k : Ports) (x p : List ℕ) → way_of x p ≡ false → state_there (changed (replaced o) k x) p ≡ state_there k p
 unfolding is_way
 replaced_state o k x [] w = refl
 replaced_state o k x (zero ∷ p) w = refl
@@ -140,11 +141,11 @@ replaced_state o k [] (suc j ∷ p) w = refl
 replaced_state o k (zero ∷ x) (suc j ∷ p) w = refl
 replaced_state o k (suc i ∷ x) (suc j ∷ p) w = (event_place o k i x j p w).0
 
-plugged_state : (o : Option Spec) (k : Ports) (x p : List ℕ) → (is_some o && way_of x p) ≡ false → device_of (with_plugged o x k) p ≡ device_of k p
+plugged_state : (o : Option Spec) (k : Ports) (x p : List ℕ) → (is_some o && way_of x p) ≡ false → state_there (with_plugged o x k) p ≡ state_there k p
 plugged_state None k x p h = refl
 plugged_state (Some s) k x p h = replaced_state (Some s) k x p h
 
-happened_state : (a : Action) (d : List Spec) (k : Ports) (p : List ℕ) → names d a p ≡ false → device_of (happened a d k) p ≡ device_of k p
+happened_state : (a : Action) (d : List Spec) (k : Ports) (p : List ℕ) → names d a p ≡ false → state_there (happened a d k) p ≡ state_there k p
 happened_state (Plug x i) d k p h = plugged_state (slice_get d i) k x p h
 happened_state (Unplug x) d k p h = replaced_state None k x p h
 happened_state Show d k p h = refl
@@ -152,21 +153,21 @@ happened_state (Send x b) d k p h = refl
 happened_state (Receive x n) d k p h = refl
 happened_state (Clear x) d k p h = refl
 
-due_state : (es : List Event) (w : World) (p : List ℕ) → reach (due_from es w).roots p ≡ true → device_of (due_from es w).roots p ≡ device_of w.roots p
+due_state : (es : List Event) (w : World) (p : List ℕ) → reach (due_from es w).roots p ≡ true → state_there (due_from es w).roots p ≡ state_there w.roots p
 unfolding due_from took
 due_state [] w p h = refl
 due_state (e ∷ es) w p h =
-    elim (is_due e w) as (λ b. reach (if b then due_from es (took e es w) else w).roots p ≡ true → device_of (if b then due_from es (took e es w) else w).roots p ≡ device_of w.roots p) [
+    elim (is_due e w) as (λ b. reach (if b then due_from es (took e es w) else w).roots p ≡ true → state_there (if b then due_from es (took e es w) else w).roots p ≡ state_there w.roots p) [
       | true ↦ λ h. due_state es (took e es w) p h ∙ happened_state e.action w.devices w.roots p (happened_reach e.action w.devices w.roots p (due_reach es (took e es w) p refl h).0).1
       | false ↦ λ h. refl
     ] h
 
-first_state : (es : List Event) (w : World) (p : List ℕ) → reach (took_first es w).roots p ≡ true → device_of (took_first es w).roots p ≡ device_of w.roots p
+first_state : (es : List Event) (w : World) (p : List ℕ) → reach (took_first es w).roots p ≡ true → state_there (took_first es w).roots p ≡ state_there w.roots p
 unfolding took
 first_state [] w p h = refl
 first_state (e ∷ es) w p h = happened_state e.action w.devices w.roots p (happened_reach e.action w.devices w.roots p h).1
 
-taken_state : (f : Option BusFault) (w : World) (p : List ℕ) → reach (event_taken f w).roots p ≡ true → device_of (event_taken f w).roots p ≡ device_of w.roots p
+taken_state : (f : Option BusFault) (w : World) (p : List ℕ) → reach (event_taken f w).roots p ≡ true → state_there (event_taken f w).roots p ≡ state_there w.roots p
 taken_state (Some f) w p h = refl
 taken_state None w p h = first_state w.left w p h
 

@@ -26,7 +26,8 @@ use Rattle.usb_bus.specs.Touched.{IsNew}
 use Rattle.usb_bus.specs.Passes.{IfOut, IsTokenFor, IsDataOut, IsAckOut, IsAttemptAt}
 use Rattle.usb_bus.specs.World.{World}
 use Rattle.usb_bus.specs.Losses.{after_clearing}
-use Rattle.usb_bus.specs.Steps.{with_plugged, happened, way_of, names, is_due, took, took_first, due_from, ready, damage_in, with_attempt, attempted, event_taken, is_clear_change, Step, attempt, root_call, event, report, after, Course, here, step}
+use Rattle.usb_device.specs.Delivery.{is_clearing}
+use Rattle.usb_bus.specs.Steps.{with_plugged, happened, way_of, names, is_due, took, took_first, due_from, ready, damage_in, with_attempt, attempted, event_taken, Step, attempt, root_call, event, report, after, Course, here, step}
 use Rattle.usb_bus.specs.Courses.{NoneNames, Undisturbed, is_made, made_resets, made_spares, root_resets, root_spares, resets, spares_step, Reached, Keeps, NoReset, Spares}
 use Rattle.usb_bus.proofs.Booleans.{no, decided}
 use Rattle.usb_bus.proofs.EventLaws.{event_reach, event_live, event_pend}
@@ -329,7 +330,7 @@ event_taken_reach None w p h = first_reach w.left w p refl h
 pub unreset_reach : (s : Step) (w : World) (p : List ℕ) → resets s w p ≡ false → reach (after s w).roots p ≡ true → (reach w.roots p ≡ true) × Undisturbed w (after s w) p
 unfolding after resets
 unreset_reach (attempt a) w p g h = attempted_reach a w.fault w p g h
-unreset_reach (root_call c n) w p g h = (root_reach c n w.roots p g h, undisturbed_here w (record w { roots = changed (called c) w.roots (n ∷ []); losses = after_clearing (is_clear_change c) w.losses }) p refl refl)
+unreset_reach (root_call c n) w p g h = (root_reach c n w.roots p g h, undisturbed_here w (record w { roots = changed (called c) w.roots (n ∷ []); losses = after_clearing (is_clearing c) w.losses }) p refl refl)
 unreset_reach event w p g h = event_taken_reach w.fault w p h
 unreset_reach (report l) w p g h = (h, undisturbed_here w w p refl refl)
 
@@ -393,7 +394,7 @@ event_taken_live None w p h = first_live w.left w p refl h
 pub step_live : (s : Step) (w : World) (p : List ℕ) → spares_step s w p ≡ true → live w.roots p ≡ true → Keeps w (after s w) p
 unfolding after spares_step
 step_live (attempt a) w p g h = attempted_live a w.fault w p g h
-step_live (root_call c n) w p g h = inl (root_live c n w.roots p g h, undisturbed_here w (record w { roots = changed (called c) w.roots (n ∷ []); losses = after_clearing (is_clear_change c) w.losses }) p refl refl)
+step_live (root_call c n) w p g h = inl (root_live c n w.roots p g h, undisturbed_here w (record w { roots = changed (called c) w.roots (n ∷ []); losses = after_clearing (is_clearing c) w.losses }) p refl refl)
 step_live event w p g h = event_taken_live w.fault w p h
 step_live (report l) w p g h = inl (h, undisturbed_here w w p refl refl)
 

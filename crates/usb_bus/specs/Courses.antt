@@ -17,7 +17,8 @@ use Rattle.usb_device.specs.Tree.{Ports, reach, place}
 use Rattle.usb_bus.specs.declared.event.Event.{Event}
 use Rattle.usb_bus.specs.declared.types.Attempt.{Attempt}
 use Rattle.usb_bus.specs.declared.types.BusFault.{BusFault}
-use Rattle.usb_bus.specs.Live.{live, pend, device_of, address_of, same_path}
+use Rattle.usb_device.specs.View.{state_there}
+use Rattle.usb_bus.specs.Live.{live, pend, address_of, same_path}
 use Rattle.usb_bus.specs.Touched.{IsNew, call_resets, call_spares}
 use Rattle.usb_bus.specs.Passes.{attempt_resets, attempt_spares}
 use Rattle.usb_bus.specs.World.{World}
@@ -101,7 +102,7 @@ IsHarmlessOut (Whole p) = ⊥
 
 -- the address of a device, where one stands there
 abbrev pub address_at : Ports → List ℕ → Option ℕ
-address_at k p = option_map address_of (device_of k p)
+address_at k p = option_map address_of (state_there k p)
 
 -- each reachable device holds the address that a map gives its path
 abbrev pub Own : (List ℕ → Option ℕ) → World → Type 0

@@ -120,12 +120,12 @@ unfoldable pub lost_in : Attempt → Option Damage → Ports → Bool
 lost_in a damage k = is_lost (reply_in a damage k) (reply_out a damage k) (answered_in a damage k)
 
 -- a hub clears a change of connection at a packet
-abbrev pub is_clearing : Option Sent → Ports → Bool
-is_clearing None k = false
-is_clearing (Some q) k = clears_change q false k
+abbrev pub clears_at : Option Sent → Ports → Bool
+clears_at None k = false
+clears_at (Some q) k = clears_change q false k
 
 abbrev pub cleared_in : Attempt → Option Damage → Ports → Bool
-cleared_in a damage k = is_clearing (payload_out a damage) (passed (token_out a damage) k)
+cleared_in a damage k = clears_at (payload_out a damage) (passed (token_out a damage) k)
 
 -- the token, the host's data, the answer to them, and the host's ACK
 unfoldable pub exchange_in : Attempt → Option Damage → Ports → Exchange

@@ -1,5 +1,5 @@
 -- The lines of the trace that steps write, and what an event asks of the host.
-use Rattle.std.specs.Prelude.{ℕ, ◌+◌, if◌then◌else◌, List, [], ◌∷◌, ◌++◌, slice_get, Option, Some, None, Bool, false}
+use Rattle.std.specs.Prelude.{ℕ, ◌+◌, if◌then◌else◌, List, [], ◌∷◌, ◌++◌, slice_get, Option, Some, None}
 use Rattle.usb_device.specs.Spec.{Spec}
 use Rattle.usb_bus.specs.declared.event.Event.{Event}
 use Rattle.usb_bus.specs.declared.event.Action.{Action}
@@ -35,10 +35,6 @@ next_line w = elim w.left [ [] ↦ [] | e ∷ events ↦ action_line e.action w.
 
 unfoldable pub next_due : World → Option Due
 next_due w = elim w.left [ [] ↦ None | e ∷ events ↦ Some (due_of e.action) ]
-
--- the next event is due
-unfoldable pub has_due : World → Bool
-has_due w = elim w.left [ [] ↦ false | e ∷ events ↦ is_due e w ]
 
 -- the lines of the events that are due
 unfoldable pub due_lines : List Event → World → List ℕ

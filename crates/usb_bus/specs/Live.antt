@@ -1,8 +1,7 @@
 -- What a tree of ports says of a path: whether its way is powered, and whether a change of connection is pending on it.
-use Rattle.std.specs.Prelude.{◌≡◌, ℕ, zero, suc, ◌&&◌, ◌||◌, Bool, true, false, List, [], ◌∷◌, Option, None, Some, option_map}
-use Rattle.usb_port.specs.PortState.{PortState}
+use Rattle.std.specs.Prelude.{◌≡◌, ℕ, zero, suc, ◌&&◌, ◌||◌, Bool, true, false, List, [], ◌∷◌, Some, option_map}
 use Rattle.usb_device.specs.Rows.{State}
-use Rattle.usb_device.specs.Tree.{Ports, ended, vacant, taken, reach_at, state_at, port_at}
+use Rattle.usb_device.specs.Tree.{Ports, ended, vacant, taken, reach_at, state_at}
 
 -- whether a port stands at a path, and it and each port on its way is powered
 unfoldable pub live_at : Ports → ℕ → List ℕ → Bool
@@ -37,17 +36,6 @@ pend k (suc i ∷ p) = pend_at k i p
 
 abbrev pub address_of : State → ℕ
 address_of s = s.registers.address
-
--- the device at a path, and the port
-abbrev pub device_of : Ports → List ℕ → Option State
-device_of k [] = None
-device_of k (zero ∷ p) = None
-device_of k (suc i ∷ p) = state_at k i p
-
-abbrev pub port_of_path : Ports → List ℕ → Option PortState
-port_of_path k [] = None
-port_of_path k (zero ∷ p) = None
-port_of_path k (suc i ∷ p) = port_at k i p
 
 abbrev pub same_number : ℕ → ℕ → Bool
 same_number zero zero = true

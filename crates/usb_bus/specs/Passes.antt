@@ -6,10 +6,11 @@ use Rattle.usb_device.specs.declared.answer.Answer.{Answer}
 use Rattle.usb_device.specs.declared.delivery.Content.{Content}
 use Rattle.usb_device.specs.declared.delivery.Content.TheVariants.{Whole, Broken}
 use Rattle.usb_device.specs.declared.delivery.Sent.{Sent}
-use Rattle.usb_device.specs.Rows.{State, Reply, forgotten}
+use Rattle.usb_device.specs.Rows.{State, Reply}
 use Rattle.usb_device.specs.Attempt.{is_own}
-use Rattle.usb_device.specs.Tree.{Ports, Place, empty, full, row_of, acted, reach_at, state_at, place_at}
-use Rattle.usb_device.specs.Delivery.{hears, reply_to, answer_of, effect_of, listed, after_packet, answers, all_forgotten, held, is_twice}
+use Rattle.usb_device.specs.Tree.{Ports, Place, empty, full, acted, reach_at, state_at, place_at}
+use Rattle.usb_device.specs.Delivery.{answer_of, effect_of, listed, after_packet, answers, all_forgotten, held, is_twice, hears, reply_to}
+use Rattle.usb_device.specs.View.{forgotten_place}
 use Rattle.usb_bus.specs.Touched.{resets_at, packet_spares, reset_if}
 use Rattle.usb_bus.specs.Live.{address_of, same_number, same_path}
 
@@ -32,12 +33,6 @@ abbrev pub heard_by : Option Sent → Bool → State → List PortState → Repl
 heard_by None deep s row = (None, s)
 heard_by (Some q) deep s row = if hears q deep s then reply_to q.content s row else (None, s)
 
--- a device, and what its ports tell
-abbrev pub own_of : Option Place → Option (State × List PortState)
-own_of None = None
-own_of (Some (empty b)) = None
-own_of (Some (full b s a)) = Some (s, row_of a)
-
 -- a device's own state after a packet, which reaches it or does not
 abbrev pub heard_state : Sent → Bool → Bool → Option Place → Option State
 heard_state q deep on None = None
@@ -52,10 +47,6 @@ heard_place q deep on (full b s a) = if on then full b (answer_of q deep s a).1 
 abbrev pub passed_place : Option Sent → Bool → Place → Place
 passed_place None deep x = x
 passed_place (Some q) deep x = heard_place q deep true x
-
-abbrev pub forgotten_place : Place → Place
-forgotten_place (empty b) = empty b
-forgotten_place (full b s a) = full b (forgotten s) (all_forgotten a)
 
 -- a reached device with its ports after an attempt, where no other holds the address
 abbrev pub place_after : Option Sent → Option Sent → Option Sent → Bool → Place → Place

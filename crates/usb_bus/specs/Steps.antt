@@ -1,12 +1,11 @@
 -- The steps of a world: attempts, root calls, events and lines of report.
-use Rattle.std.specs.Prelude.{◌≡◌, ℕ, ◌+◌, ◌-◌, ◌==◌, nat_le, Bool, true, false, ◌&&◌, ◌||◌, not, if◌then◌else◌, List, [], ◌∷◌, slice_get, slice_set, unwrap_or, Option, Some, None, is_some, Result, Ok, Err}
+use Rattle.std.specs.Prelude.{◌≡◌, ℕ, ◌+◌, ◌-◌, ◌==◌, nat_le, Bool, true, false, ◌&&◌, ◌||◌, not, if◌then◌else◌, List, [], ◌∷◌, slice_get, slice_set, unwrap_or, Option, Some, None, is_some, Result, Ok, Err, ⊤}
 use Rattle.usb_port.specs.PortState.{set_row, clear_row}
 use Rattle.usb_device.specs.declared.calls.PortCall.{PortCall}
-use Rattle.usb_device.specs.declared.calls.PortCall.TheVariants.{ClearConnectionChange}
 use Rattle.usb_device.specs.Spec.{Spec}
 use Rattle.usb_device.specs.Calls.{set_call, clear_call}
-use Rattle.usb_device.specs.Tree.{Ports, new_ports, called, replaced, changed}
-use Rattle.usb_device.specs.Delivery.{held, is_twice}
+use Rattle.usb_device.specs.Tree.{Ports, new_ports, called, replaced, changed, row_of}
+use Rattle.usb_device.specs.Delivery.{held, is_twice, figure, is_clearing}
 use Rattle.usb_bus.specs.declared.damage.Damage.{Damage}
 use Rattle.usb_bus.specs.declared.event.Due.{Due}
 use Rattle.usb_bus.specs.declared.event.Event.{Event}
@@ -16,7 +15,7 @@ use Rattle.usb_bus.specs.declared.exchange.Exchange.{Exchange}
 use Rattle.usb_bus.specs.declared.types.Attempt.{Attempt}
 use Rattle.usb_bus.specs.declared.types.Outcome.{Outcome}
 use Rattle.usb_bus.specs.declared.types.BusFault.{BusFault}
-use Rattle.usb_bus.specs.declared.types.BusFault.TheVariants.{LimitReached}
+use Rattle.usb_bus.specs.declared.types.BusFault.TheVariants.{LimitReached, Memory, TraceFailed}
 use Rattle.usb_bus.specs.Wire.{damage_of}
 use Rattle.usb_bus.specs.Exchange.{heard_in, mark_in, lost_in, cleared_in, exchange_in, ports_in, outcome_of}
 use Rattle.usb_bus.specs.Losses.{no_losses, counted, after_clearing}
@@ -81,6 +80,10 @@ unfoldable pub due_from : List Event → World → World
 due_from [] w = w
 due_from (e ∷ events) w = if is_due e w then due_from events (took e events w) else w
 
+-- the next event is due
+unfoldable pub has_due : World → Bool
+has_due w = elim w.left [ [] ↦ false | e ∷ events ↦ is_due e w ]
+
 -- the world in which an attempt is made
 unfoldable pub ready : World → World
 ready w = due_from w.left w
@@ -127,20 +130,50 @@ abbrev pub event_taken : Option BusFault → World → World
 event_taken (Some f) w = w
 event_taken None w = took_first w.left w
 
-abbrev pub is_clear_change : PortCall → Bool
-is_clear_change ClearConnectionChange = true
-is_clear_change c = false
-
 unfoldable pub after : Step → World → World
 after (attempt a) w = attempted a w.fault w
-after (root_call c n) w = record w { roots = changed (called c) w.roots (n ∷ []); losses = after_clearing (is_clear_change c) w.losses }
+after (root_call c n) w = record w { roots = changed (called c) w.roots (n ∷ []); losses = after_clearing (is_clearing c) w.losses }
 after event w = event_taken w.fault w
 after (report line) w = w
+
+-- events that are due came, one after the other, up to some of them
+pub data Coming : World → World → Type 0 where
+  nothing_yet : (w : World) → Coming w w
+  next_came : {w v : World} → Coming w v → has_due v ≡ true → Coming w (took_first v.left v)
+
+-- each device may have had its packets or not: the same devices stand at the same ports, and remember none
+pub record IsCut (old new : Ports) : Type 0 where
+  pub same : figure new ≡ figure old
+  pub row : row_of new ≡ row_of old
+  pub settled : IsSettled new
+
+-- what a fault leaves of an attempt: some of the events that were due, and no attempt; or all of them, and an attempt
+-- that memory was refused for; or the whole step, and only its line was not written
+pub data Left (a : Attempt) (old : World) (f : BusFault) (new : World) : Type 0 where
+  at_event : Coming old new → Left a old f new
+  at_packet : (k : Ports) → f ≡ Memory → IsCut (ready old).roots k
+      → new ≡ record (ready old) { roots = k; shared = (ready old).shared || is_twice (held (ready old).roots) } → Left a old f new
+  at_line : f ≡ TraceFailed → new ≡ with_attempt a (ready old) → Left a old f new
+
+-- an attempt that the bus gave up, and not because of the limit
+pub record GaveUp (a : Attempt) (old : World) (f : BusFault) (new : World) : Type 0 where
+  pub left : World
+  pub so_far : Left a old f left
+  pub told : new ≡ record left { fault = Some f }
+
+abbrev pub AttemptFails : Attempt → World → Result Outcome BusFault → World → Type 0
+AttemptFails a old (Ok outcome) new = ⊤
+AttemptFails a old (Err LimitReached) new = new ≡ after (attempt a) old
+AttemptFails a old (Err Memory) new = GaveUp a old Memory new
+AttemptFails a old (Err TraceFailed) new = GaveUp a old TraceFailed new
 
 -- a course of steps each of which has K where it stands
 pub data Course (K : Step → World → Type 0) : World → World → Type 0 where
   here : (w : World) → Course K w w
   step : (s : Step) {w v : World} → K s w → Course K (after s w) v → Course K w v
+
+abbrev pub AnyStep : Step → World → Type 0
+AnyStep s w = ⊤
 
 -- between two steps no device remembers a packet, and what is so of every port is so
 pub record IsBetween (w : World) : Type 0 where

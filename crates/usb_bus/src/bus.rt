@@ -1,7 +1,7 @@
-ghost use Rattle.std.specs.Prelude.{◌≡◌, ◌≤◌, IfOk, OnOk};
+ghost use Rattle.std.specs.Prelude.{◌≡◌, ◌≤◌, None, IfOk, OnOk};
 ghost use Rattle.usb_port.specs.PortState.{status_of};
 ghost use Rattle.usb_bus.specs.World.{World, Attempted, IsAttempt, IsRootPort, IsSetFeature, IsClearFeature, port_at, roots_of};
-ghost use Rattle.usb_bus.specs.Steps.{SetsRoot, ClearsRoot, after, attempt as attempt_step, outcome_in};
+ghost use Rattle.usb_bus.specs.Steps.{AttemptFails, SetsRoot, ClearsRoot, after, attempt as attempt_step, outcome_in};
 ghost use Rattle.usb_bus.specs.Passes.{IsSettled};
 
 use crate::{Attempt, BusFault, Outcome};
@@ -21,6 +21,7 @@ pub trait Bus {
         ensures counts { Attempted attempt.now (world self.old) result (world self.new) }
         ensures exact { OnOk result (world self.new ≡ after (attempt_step attempt.now) (world self.old)) }
         ensures outcome { IfOk result (λ outcome. outcome ≡ outcome_in attempt.now (world self.old)) }
+        ensures fails { (world self.old).fault ≡ None → AttemptFails attempt.now (world self.old) result (world self.new) }
         ensures settled { IsSettled (world self.old).roots };
 
     /// The number of root ports, 1 to 7.

@@ -2,9 +2,10 @@
 ghost use Rattle.std.specs.Prelude.{◌≡◌, ◌≤◌, true, Some, IfOk, IfSome, OnOk};
 ghost use Rattle.usb_packet.specs.Spelling.{HasFields};
 ghost use Rattle.usb_device.specs.Tree.{row_of};
+ghost use Rattle.usb_device.specs.Delivery.{figure};
 ghost use Rattle.usb_bus.specs.World.{IsAttempt, FitsMaximum};
 ghost use Rattle.usb_bus.specs.Wire.{has_its_bit};
-ghost use Rattle.usb_bus.specs.Exchange.{token_of, payload_of, answer_place, answer_mark, reply_of, outcome_of, exchange_in, ended_in, ports_in, goes_out, sent_as, is_lost, is_clearing};
+ghost use Rattle.usb_bus.specs.Exchange.{token_of, payload_of, answer_place, answer_mark, reply_of, outcome_of, exchange_in, ended_in, ports_in, goes_out, sent_as, is_lost, clears_at};
 ghost use Rattle.usb_bus.specs.Passes.{IsSettled, passed, told};
 ghost use Rattle.usb_bus.specs.Answering.{joined, heard_from, heard_told};
 
@@ -68,7 +69,7 @@ pub(crate) struct Exchange {
 
 /// Makes an attempt: the token, then the data, one of them; then what the host says to the answer.
 /// After it no device remembers a packet, also where memory was refused.
-#[tactic(auto, using(crate::proofs::Exchanges::over_row, crate::proofs::Exchanges::over_settled, crate::proofs::Exchanges::over_ports))]
+#[tactic(auto, using(crate::proofs::Exchanges::over_row, crate::proofs::Exchanges::over_figure, crate::proofs::Exchanges::over_settled, crate::proofs::Exchanges::over_ports))]
 pub(crate) fn make_exchange(
     roots: &mut Ports,
     attempt: &Attempt,
@@ -76,6 +77,7 @@ pub(crate) fn make_exchange(
 ) -> Result<Exchange, AllocError>
     requires { IsAttempt attempt.now }
     ensures row { row_of roots.new ≡ row_of roots.old }
+    ensures figure { figure roots.new ≡ figure roots.old }
     ensures settled { IsSettled roots.new }
     ensures made { IfOk result (λ made. made ≡ exchange_in attempt.now damage roots.old) }
     ensures ports { OnOk result (roots.new ≡ ports_in attempt.now damage roots.old) }
@@ -92,6 +94,7 @@ fn send_packets(
 ) -> Result<Exchange, AllocError>
     requires { IsAttempt attempt.now }
     ensures row { row_of roots.new ≡ row_of roots.old }
+    ensures figure { figure roots.new ≡ figure roots.old }
     ensures made { IfOk result (λ made. made ≡ exchange_in attempt.now damage roots.old) }
     ensures ports { OnOk result (roots.new ≡ ended_in attempt.now damage roots.old) }
 {
@@ -176,6 +179,7 @@ fn send(roots: &mut Ports, attempt: &Attempt, packet: &Outgoing) -> Result<Heard
     requires fields { HasFields packet.now.packet }
     requires bit { has_its_bit packet.now.mark packet.now.packet ≡ true }
     ensures row { row_of roots.new ≡ row_of roots.old }
+    ensures figure { figure roots.new ≡ figure roots.old }
     ensures heard { IfOk result (λ heard. heard ≡ heard_told (goes_out attempt.now (Some packet.now)) roots.old) }
     ensures ports { IfOk result (λ heard. roots.new ≡ passed (goes_out attempt.now (Some packet.now)) roots.old) }
 {
@@ -193,6 +197,7 @@ fn send_some(
     requires fields { IfSome packet.now (λ s. HasFields s.packet) }
     requires bit { IfSome packet.now (λ s. has_its_bit s.mark s.packet ≡ true) }
     ensures row { row_of roots.new ≡ row_of roots.old }
+    ensures figure { figure roots.new ≡ figure roots.old }
     ensures heard { IfOk result (λ heard. heard ≡ heard_told (goes_out attempt.now packet.now) roots.old) }
     ensures ports { IfOk result (λ heard. roots.new ≡ passed (goes_out attempt.now packet.now) roots.old) }
 {
@@ -206,7 +211,7 @@ fn send_some(
 fn clears_change(roots: &Ports, attempt: &Attempt, packet: &Option<Outgoing>) -> bool
     requires fields { IfSome packet.now (λ s. HasFields s.packet) }
     requires bit { IfSome packet.now (λ s. has_its_bit s.mark s.packet ≡ true) }
-    ensures { result ≡ is_clearing (goes_out attempt.now packet.now) roots.now }
+    ensures { result ≡ clears_at (goes_out attempt.now packet.now) roots.now }
 {
     match packet {
         None => false,
@@ -226,6 +231,7 @@ fn send_reply(
     requires fields { IfSome reply.now (λ s. HasFields s.packet) }
     requires bit { IfSome reply.now (λ s. has_its_bit s.mark s.packet ≡ true) }
     ensures row { row_of roots.new ≡ row_of roots.old }
+    ensures figure { figure roots.new ≡ figure roots.old }
     ensures lost { IfOk result (λ lost. lost ≡ is_lost reply.now (goes_out attempt.now reply.now) roots.old) }
     ensures ports { IfOk result (λ lost. roots.new ≡ passed (goes_out attempt.now reply.now) roots.old) }
 {

@@ -7,6 +7,7 @@ mod event;
 mod exchange;
 mod losses;
 mod not_served;
+mod one_holder;
 mod plan;
 mod sim;
 mod trace;
@@ -19,6 +20,11 @@ pub use bus::Bus;
 pub use damage::{Damage, Damages, Harm};
 pub use event::{Action, Due, Event, Events, SentBytes};
 pub use not_served::{NotServed, served};
+pub use one_holder::{
+    in_with_one_holder, nobody_is_asked, one_device_answers, others_stay_or_are_reset,
+    out_with_one_holder, ports_of_the_holder, ports_of_the_holder_in_worlds, setup_with_one_holder,
+    silent_holder_answers_nothing, undamaged_attempts, undamaged_attempts_in_worlds,
+};
 pub use plan::Plan;
 pub use sim::SimBus;
 pub use types::{Attempt, BusFault, Outcome};
@@ -26,7 +32,7 @@ pub use watched::{Watched, WriteFailed, put_piece};
 pub use world_laws::{
     attempt_at_laws, call_laws, event_laws, events_are_pending, harmless_requests, holder_laws,
     packet_laws, pending_stays, quiet_courses_keep_addresses, reachable_is_the_same,
-    reset_makes_new, reset_makes_reachable, sane_laws,
+    reset_makes_new, reset_makes_reachable, sane_laws, steps_keep_what_is_between,
 };
 
 #[cfg(test)]

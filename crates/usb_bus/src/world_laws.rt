@@ -13,7 +13,9 @@ ghost use Rattle.usb_bus.specs.Touched.{IsNew, call_resets, call_spares, resets_
 ghost use Rattle.usb_bus.specs.Sane.{IsSane, IsSanePlace, open_at};
 ghost use Rattle.usb_bus.specs.Passes.{passed, told, after_attempt, heard_place, heard_state, deep_at, IsAttemptAt, attempt_resets, attempt_spares, IsSettled, NobodyHolds, OneHolds, OneActs};
 ghost use Rattle.usb_bus.specs.World.{World};
-ghost use Rattle.usb_bus.specs.Steps.{Step, Course, after};
+ghost use Rattle.usb_bus.specs.Holding.{Found};
+ghost use Rattle.usb_bus.specs.PlanData.{PlanData};
+ghost use Rattle.usb_bus.specs.Steps.{Step, AnyStep, Course, IsBetween, after, opening};
 ghost use Rattle.usb_bus.specs.Courses.{Undisturbed, Reached, NoReset, Spares, Keeps, Quiet, Injective, Own, IsHarmlessOut, resets};
 
 /// A plug or an unplug at a port (7.1.7.3, 11.24.2.7.2).
@@ -85,6 +87,8 @@ pub fn holder_laws()
         → reach_at k j q ≡ true → option_map address_of (state_at k j q) ≡ Some n
         → (i ≡ j) × (p ≡ q) }
     ensures two { (k : Ports) → is_twice (held k) ≡ true → Two k }
+    // A reachable device holds an address, or none does.
+    ensures found { (n : ℕ) (k : Ports) → Found n k ⊎ NobodyHolds n k }
 {}
 
 /// An attempt: a token for an address, the host's data or none, and its ACK or none, each as it goes out.
@@ -130,6 +134,13 @@ pub fn pending_stays()
 /// No event comes on a way with power but that it is pending.
 pub fn events_are_pending()
     ensures { (p : List ℕ) (w v : World) → Course (Spares p) w v → live w.roots p ≡ true → Keeps w v p }
+{}
+
+/// Between two steps no device remembers a packet, and what is so of every port is so.
+pub fn steps_keep_what_is_between()
+    ensures opening { (p : PlanData) → IsBetween (opening p) }
+    ensures step { (s : Step) (w : World) → IsBetween w → IsBetween (after s w) }
+    ensures course { (w v : World) → Course AnyStep w v → IsBetween w → IsBetween v }
 {}
 
 /// Setup data whose request is not PORT_RESET reset no device, whoever hears them and whoever holds the address.

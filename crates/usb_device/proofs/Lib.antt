@@ -12,3 +12,5 @@ pub mod Nodes
 pub mod Marking
 pub mod Figures
 pub mod Views
+pub mod Lent
+pub mod Strays

@@ -13,7 +13,7 @@ one_less i h = omega (arith, h)
 
 -- ---- the place at the head, and those behind it
 
-changed_at-head : (f : Place → Place) (q : Place) (k : Ports) (p : List ℕ) → changed_at f (before q k) 0 p ≡ before (changed_in f q p) k
+pub changed_at-head : (f : Place → Place) (q : Place) (k : Ports) (p : List ℕ) → changed_at f (before q k) 0 p ≡ before (changed_in f q p) k
 unfolding changed_at
 changed_at-head f (empty b) k [] = refl
 changed_at-head f (empty b) k (n ∷ p) = refl
@@ -21,7 +21,7 @@ changed_at-head f (full b s a) k [] = refl
 changed_at-head f (full b s a) k (zero ∷ p) = refl
 changed_at-head f (full b s a) k (suc j ∷ p) = refl
 
-changed_at-tail : (f : Place → Place) (q : Place) (k : Ports) (i : ℕ) (p : List ℕ) → changed_at f (before q k) (suc i) p ≡ before q (changed_at f k i p)
+pub changed_at-tail : (f : Place → Place) (q : Place) (k : Ports) (i : ℕ) (p : List ℕ) → changed_at f (before q k) (suc i) p ≡ before q (changed_at f k i p)
 unfolding changed_at
 changed_at-tail f (empty b) k i p = refl
 changed_at-tail f (full b s a) k i p = refl
@@ -37,14 +37,14 @@ unfolding changed_at
 changed_at-none f [] i p h = refl
 changed_at-none f (q ∷ ps) i p h = absurd (omega (arith, h))
 
-plugged_at-head : (q : Place) (k : Ports) (p : List ℕ) → plugged_at (before q k) 0 p ≡ plugged_in q p
+pub plugged_at-head : (q : Place) (k : Ports) (p : List ℕ) → plugged_at (before q k) 0 p ≡ plugged_in q p
 unfolding plugged_at
 plugged_at-head (empty b) k p = refl
 plugged_at-head (full b s a) k [] = refl
 plugged_at-head (full b s a) k (zero ∷ p) = refl
 plugged_at-head (full b s a) k (suc j ∷ p) = refl
 
-plugged_at-tail : (q : Place) (k : Ports) (i : ℕ) (p : List ℕ) → plugged_at (before q k) (suc i) p ≡ plugged_at k i p
+pub plugged_at-tail : (q : Place) (k : Ports) (i : ℕ) (p : List ℕ) → plugged_at (before q k) (suc i) p ≡ plugged_at k i p
 unfolding plugged_at
 plugged_at-tail (empty b) k i p = refl
 plugged_at-tail (full b s a) k i p = refl

@@ -15,3 +15,5 @@ pub mod Received
 pub mod Attempt
 pub mod Kept
 pub mod View
+pub mod Lending
+pub mod Stray

@@ -167,7 +167,8 @@ impl Device {
         self.ports.device_at(&[port])
     }
 
-    fn has_child(&self, port: u8) -> bool
+    /// Whether a device is on a port, by its number, counted from 1.
+    pub(crate) fn has_child(&self, port: u8) -> bool
         ensures { result ≡ is_some (child_of self.now port) }
     {
         self.child(port).is_some()

@@ -11,8 +11,10 @@ ghost use Rattle.usb_device.specs.Kept.{Keeps};
 ghost use Rattle.usb_device.specs.declared.delivery.Sent.{Sent};
 ghost use Rattle.usb_device.specs.Effect.{asks};
 ghost use Rattle.usb_device.specs.Tree.{Ports as TreePorts, Place, Plugged, put, changed_at, all_off, row_of, place_at, state_at, port_at, reach_at, reset_whole, with_child, without_child};
-ghost use Rattle.usb_device.specs.Delivery.{after_packet, delivered_place, all_forgotten, forgotten_whole};
+ghost use Rattle.usb_device.specs.Delivery.{after_packet, delivered_place, all_forgotten, forgotten_whole, answers, held, has};
 ghost use Rattle.usb_device.specs.Received.{after_receiving};
+ghost use Rattle.usb_device.specs.declared.delivery.Content.TheVariants.{Whole, Broken};
+ghost use Rattle.usb_device.specs.Stray.{is_token, concerns_some};
 ghost use Rattle.usb_device.specs.View.{seen, state_in, port_in, reach_in, off_place, left_place, forgotten_place, asked_place, at_number, with_port};
 ghost use Rattle.usb_device.specs.Attempt.{Way, setup_attempt, setup_law, out_attempt, out_law, in_attempt, in_law, is_own};
 
@@ -88,4 +90,17 @@ pub fn row_laws()
     // The other ports.
     ensures others { (f : Place → Place) (k : TreePorts) (i j : ℕ) (p : List ℕ) → (i ≡ j → ⊥) → slice_get (row_of (changed_at f k i p)) j ≡ slice_get (row_of k) j }
     ensures off { (k : TreePorts) (i : ℕ) → slice_get (row_of (all_off k)) i ≡ option_map powered_off (slice_get (row_of k) i) }
+{}
+
+/// A packet that is for none of the devices that it reaches: nothing is answered, and at most what they remember changes.
+#[tactic(auto, using(crate::proofs::Strays::strays))]
+pub fn stray_laws()
+    ensures unanswered { (q : Sent) (deep : Bool) (k : TreePorts) → concerns_some q.content k ≡ false → answers q deep k ≡ [] }
+    ensures kept { (q : Sent) (deep : Bool) (k : TreePorts) → concerns_some q.content k ≡ false → all_forgotten (after_packet q deep k) ≡ all_forgotten k }
+    // A token is for the devices with its address.
+    ensures token { (kind : TokenKind) (a e : ℕ) (k : TreePorts) → concerns_some (Whole (Token kind a e)) k ≡ has a (held k) }
+    // Bytes that spell no packet are for none.
+    ensures broken { (k : TreePorts) → concerns_some Broken k ≡ false }
+    // Where nothing is remembered, only a token is for a device.
+    ensures rested { (p : Packet) (k : TreePorts) → is_token p ≡ false → concerns_some (Whole p) (all_forgotten k) ≡ false }
 {}

@@ -3,5 +3,6 @@ mod bulk;
 mod described;
 mod hubs;
 mod kinds;
+mod requests;
 mod script;
 mod trees;

@@ -4,7 +4,8 @@ ghost use Rattle.usb_port.specs.PortState.{off, status_of};
 ghost use Rattle.usb_device.specs.Tree.{row_of};
 ghost use Rattle.usb_bus.specs.World.{Attempted, Spends, AnswerFits, IsAttempt, IsRootPort, IsSetFeature, IsClearFeature};
 ghost use Rattle.std.specs.Io.KnownBytes.{Appends};
-ghost use Rattle.usb_bus.specs.Steps.{SetsRoot, ClearsRoot, after, attempt as attempt_step, root_call, with_attempt, ready, outcome_in, is_clear_change};
+ghost use Rattle.usb_device.specs.Delivery.{is_clearing};
+ghost use Rattle.usb_bus.specs.Steps.{AttemptFails, Left, SetsRoot, ClearsRoot, after, attempt as attempt_step, root_call, with_attempt, ready, outcome_in};
 ghost use Rattle.usb_bus.specs.Passes.{IsSettled};
 ghost use Rattle.usb_bus.specs.Lines.{attempted_lines};
 ghost use Rattle.usb_bus.specs.Watch.{inner_of, has_failed};
@@ -29,6 +30,7 @@ impl<W: Write> Bus for SimBus<W> {
         ensures exact { OnOk result (world_of self.new ≡ after (attempt_step attempt.now) (world_of self.old)) }
         ensures outcome { IfOk result (λ outcome. outcome ≡ outcome_in attempt.now (world_of self.old)) }
         ensures settled { IsSettled (world_of self.old).roots }
+        ensures fails { (world_of self.old).fault ≡ None → AttemptFails attempt.now (world_of self.old) result (world_of self.new) }
         ensures lines { OnOk result (Appends (W.contents (inner_of (writer_of self.old))) (W.contents (inner_of (writer_of self.new))) (attempted_lines attempt.now (world_of self.old))) }
         ensures trace { result ≡ Err TraceFailed → (world_of self.old).fault ≡ None → has_failed (writer_of self.new) ≡ true }
         ensures refused { result ≡ Err LimitReached → (world_of self.new ≡ after (attempt_step attempt.now) (world_of self.old)) × (writer_of self.new ≡ writer_of self.old) }
@@ -92,6 +94,7 @@ impl<W: Write> SimBus<W> {
         ensures one { OnOk result ((world_of self.new).attempts ≡ (world_of self.old).attempts + 1) }
         ensures fits { AnswerFits attempt.now.max result }
         ensures exact { OnOk result (world_of self.new ≡ with_attempt attempt.now (ready (world_of self.old))) }
+        ensures left { IfErr result (λ f. Left attempt.now (world_of self.old) f (world_of self.new)) }
         ensures outcome { IfOk result (λ outcome. outcome ≡ outcome_in attempt.now (world_of self.old)) }
         ensures lines { OnOk result (Appends (W.contents (inner_of (writer_of self.old))) (W.contents (inner_of (writer_of self.new))) (attempted_lines attempt.now (world_of self.old))) }
         ensures fault { (world_of self.new).fault ≡ None }
@@ -123,7 +126,7 @@ fn status_of(roots: &Ports, port: u8) -> [u8; 4]
 
 /// Whether the call clears C_PORT_CONNECTION.
 fn clears_connection_change(call: PortCall) -> bool
-    ensures { result ≡ is_clear_change call }
+    ensures { result ≡ is_clearing call }
 {
     matches!(call, PortCall::ClearConnectionChange)
 }

@@ -3,9 +3,9 @@ ghost use Rattle.std.specs.Prelude.{◌≡◌, ◌≢◌, ◌+◌, ◌<◌, ◌�
 ghost use Rattle.std.specs.Io.KnownBytes.{Appends};
 ghost use Rattle.usb_device.specs.Tree.{row_of, changed, replaced};
 ghost use Rattle.usb_bus.specs.World.{Spends, changes, to_come};
-ghost use Rattle.usb_bus.specs.Steps.{TookEvent, after, event, happened, ready, took_first};
+ghost use Rattle.usb_bus.specs.Steps.{TookEvent, Coming, after, event, happened, has_due, ready, took_first};
 ghost use Rattle.usb_bus.specs.PlanData.{can_be_done};
-ghost use Rattle.usb_bus.specs.Lines.{action_line, next_line, next_due, has_due, due_lines};
+ghost use Rattle.usb_bus.specs.Lines.{action_line, next_line, next_due, due_lines};
 ghost use Rattle.usb_bus.specs.Trace.{plug_line, unplug_line};
 ghost use Rattle.usb_bus.specs.Watch.{inner_of, has_failed, AppendsFront};
 ghost use Rattle.usb_bus.specs.declared.types.BusFault.TheVariants.{LimitReached, Memory, TraceFailed};
@@ -50,6 +50,7 @@ impl<W: Write> SimBus<W> {
         ensures spends { Spends 0 (world_of self.old) (world_of self.new) }
         ensures fault { (world_of self.new).fault ≡ (world_of self.old).fault }
         ensures exact { OnOk result (world_of self.new ≡ ready (world_of self.old)) }
+        ensures cut { OnErr result (Coming (world_of self.old) (world_of self.new)) }
         ensures lines { OnOk result (Appends (W.contents (inner_of (writer_of self.old))) (W.contents (inner_of (writer_of self.new))) (due_lines (world_of self.old).left (world_of self.old))) }
         ensures other { IfErr result (λ f. f ≢ LimitReached) }
         ensures trace { result ≡ Err TraceFailed → has_failed (writer_of self.new) ≡ true }
@@ -62,7 +63,7 @@ impl<W: Write> SimBus<W> {
 
     /// Whether the next event comes by itself: it does not wait for the host, and so many attempts were made since
     /// the former event.
-    #[tactic(auto, unfolding(crate::specs::Lines::has_due))]
+    #[tactic(auto, unfolding(crate::specs::Steps::has_due))]
     fn is_due(&self) -> bool
         ensures value { result ≡ has_due (world_of self.now) }
         ensures left { IsTrue result → 0 < to_come (world_of self.now) }

@@ -1,7 +1,10 @@
 use crate::{
     attempt_at_laws, call_laws, event_laws, events_are_pending, harmless_requests, holder_laws,
-    packet_laws, pending_stays, quiet_courses_keep_addresses, reachable_is_the_same,
-    reset_makes_new, reset_makes_reachable, sane_laws,
+    in_with_one_holder, nobody_is_asked, one_device_answers, others_stay_or_are_reset,
+    out_with_one_holder, packet_laws, pending_stays, ports_of_the_holder,
+    ports_of_the_holder_in_worlds, quiet_courses_keep_addresses, reachable_is_the_same,
+    reset_makes_new, reset_makes_reachable, sane_laws, setup_with_one_holder,
+    silent_holder_answers_nothing, steps_keep_what_is_between, undamaged_attempts, undamaged_attempts_in_worlds,
 };
 
 /// The laws are there to be cited; calling them does nothing.
@@ -19,5 +22,17 @@ fn laws_are_called() {
     pending_stays();
     events_are_pending();
     harmless_requests();
+    steps_keep_what_is_between();
     quiet_courses_keep_addresses();
+    nobody_is_asked();
+    setup_with_one_holder();
+    in_with_one_holder();
+    out_with_one_holder();
+    silent_holder_answers_nothing();
+    others_stay_or_are_reset();
+    undamaged_attempts();
+    undamaged_attempts_in_worlds();
+    one_device_answers();
+    ports_of_the_holder();
+    ports_of_the_holder_in_worlds();
 }

@@ -2,7 +2,8 @@
 ghost use Rattle.std.specs.Prelude.{◌≡◌, None, IfOk};
 
 use crate::{
-    Bytes, ConfigTexts, DeviceSpec, Devices, HubSpec, Name, Stalls, StringTexts, has_hub_class,
+    Bytes, ConfigTexts, Device, DeviceSpec, Devices, HubSpec, Name, Stalls, StringTexts,
+    has_hub_class,
 };
 use std::alloc::{AllocError, Global};
 use std::test::Fail;
@@ -66,6 +67,8 @@ fn is_function_copied(alloc: Global) -> Result<bool, AllocError> {
 #[test]
 fn a_function_is_described(rt: HostRuntime) -> Result<(), Fail> {
     assert!(rt; is_function_copied(rt.alloc())?);
+    assert!(rt; Device::new(rt.alloc(), &odd_function(rt.alloc())?)?.is_low());
+    assert!(rt; !Device::new(rt.alloc(), &function(rt.alloc())?)?.is_low());
     Ok(())
 }
 

@@ -2,7 +2,7 @@
 ghost use Rattle.usb_packet.specs.Spelling.{HasFields};
 
 use super::kinds::{Kind, spec_of};
-use crate::{Content, Device, Heard, PortCall, Ports, Sent};
+use crate::{Content, Device, Heard, Parent, PortCall, Ports, Sent};
 use arrayvec::ArrayVec;
 use std::alloc::{AllocError, Global};
 use usb_packet::{Packet, Toggle, TokenKind, decode, encode, packet_text};
@@ -19,6 +19,8 @@ pub(super) enum Step {
     Data0(&'static [u8]),
     Data1(&'static [u8]),
     Ack,
+    /// A request to an address: the SETUP token and its data, which the device acknowledges.
+    Asks(u8, &'static [u8]),
     /// Bytes of the host, whatever they spell.
     Bytes(&'static [u8]),
     /// The end of an attempt.
@@ -29,10 +31,12 @@ pub(super) enum Step {
     Registers(u8, u8),
     AwaitsAddress(bool),
     Sink(&'static [u8]),
-    /// A low-speed function is plugged at port 1, with this address.
-    PlugLow(u8),
+    /// A low-speed function is plugged at a port, with this address.
+    PlugLow(u8, u8),
     /// The device at port 1 is unplugged, where one is.
     Unplug(bool),
+    /// The device at a port alone is reset, where one is.
+    ResetChild(u8, bool),
     PortBytes(u8, Option<[u8; 4]>),
     /// The address of the device at port 1.
     ChildAddress(Option<u8>),
@@ -87,15 +91,23 @@ fn is_answered(device: &mut Device, step: &Step, text: &str) -> Result<bool, All
     })
 }
 
-fn plug_low(alloc: Global, hub: &mut Device, address: u8) -> Result<(), AllocError> {
+/// Whether a request to an address is acknowledged.
+fn asks(device: &mut Device, address: u8, data: &'static [u8]) -> Result<bool, AllocError> {
+    Ok(
+        is_answered(device, &Step::Setup(address), "none")?
+            && is_answered(device, &Step::Data0(data), "ACK")?,
+    )
+}
+
+fn plug_low(alloc: Global, hub: &mut Device, port: u8, address: u8) -> Result<(), AllocError> {
     let mut child = Device::new(alloc, &spec_of(alloc, Kind::Low)?)?;
     let request = [0, 5, address, 0, 0, 0, 0, 0];
     let _ = child.receive(sent(&Step::Setup(0)).as_slice())?;
     let _ = child.receive(encode(&payload(Toggle::Zero, &request)).as_slice())?;
     let _ = child.receive(sent(&Step::In(0)).as_slice())?;
     let _ = child.receive(sent(&Step::Ack).as_slice())?;
-    if hub.port_count() >= 1 && hub.child(1).is_none() {
-        hub.plug_child(1, child);
+    if port >= 1 && usize::from(port) <= hub.port_count() && hub.child(port).is_none() {
+        hub.plug_child(port, child);
     }
     Ok(())
 }
@@ -104,6 +116,17 @@ fn child_address(hub: &Device) -> Option<u8> {
     match hub.child(1) {
         Some(child) => Some(child.address()),
         None => None,
+    }
+}
+
+/// Resets the device on a port, and tells whether one was there.
+fn reset_child(hub: &mut Device, port: u8) -> bool {
+    match hub.child_mut(port) {
+        Some(child) => {
+            child.reset();
+            true
+        }
+        None => false,
     }
 }
 
@@ -126,7 +149,9 @@ fn holds(alloc: Global, device: &mut Device, step: &Step, text: &str) -> Result<
     match step {
         Step::Over => device.attempt_over(),
         Step::Reset => device.reset(),
-        Step::PlugLow(address) => plug_low(alloc, device, *address)?,
+        Step::PlugLow(port, address) => plug_low(alloc, device, *port, *address)?,
+        Step::Asks(address, data) => return asks(device, *address, *data),
+        Step::ResetChild(port, was_there) => return Ok(reset_child(device, *port) == *was_there),
         Step::Unplug(was_there) => return Ok(device.unplug_child(1).is_some() == *was_there),
         _ => {}
     }
@@ -137,6 +162,20 @@ fn holds(alloc: Global, device: &mut Device, step: &Step, text: &str) -> Result<
     }
 }
 
+/// Whether each row is as it says, one after the other.
+pub(super) fn goes_on(
+    alloc: Global,
+    device: &mut Device,
+    steps: &[(Step, &str)],
+) -> Result<bool, AllocError> {
+    for (step, text) in steps {
+        if !holds(alloc, device, step, *text)? {
+            return Ok(false);
+        }
+    }
+    Ok(true)
+}
+
 /// Whether each row is as it says, one after the other, of a device that was just plugged.
 pub(super) fn passes(
     alloc: Global,
@@ -144,12 +183,7 @@ pub(super) fn passes(
     steps: &[(Step, &str)],
 ) -> Result<bool, AllocError> {
     let mut device = Device::new(alloc, &spec_of(alloc, kind)?)?;
-    for (step, text) in steps {
-        if !holds(alloc, &mut device, step, *text)? {
-            return Ok(false);
-        }
-    }
-    Ok(true)
+    goes_on(alloc, &mut device, steps)
 }
 
 /// A row of a table about a tree.

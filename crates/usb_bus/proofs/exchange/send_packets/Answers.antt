@@ -40,6 +40,9 @@ makes c =
 pub returns-clause-row : goal.returns-clause-row
 returns-clause-row c = c.in_ok-address_lost.ensures.row ∙ c.in_ok-to_payload.ensures.row ∙ c.in_ok-to_token.ensures.row
 
+pub returns-clause-figure : goal.returns-clause-figure
+returns-clause-figure c = c.in_ok-address_lost.ensures.figure ∙ c.in_ok-to_payload.ensures.figure ∙ c.in_ok-to_token.ensures.figure
+
 pub returns-clause-made : goal.returns-clause-made
 returns-clause-made c = made_exchange _ _ _ _ (makes c)
 

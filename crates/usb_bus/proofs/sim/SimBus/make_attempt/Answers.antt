@@ -10,6 +10,7 @@ use Rattle.usb_bus.specs.Losses.{AreOfDamages, counted}
 use Rattle.usb_bus.specs.World.{World}
 use Rattle.usb_bus.specs.Sim.{world_of}
 use Rattle.usb_bus.specs.Steps.{made_in}
+use Rattle.usb_bus.proofs.Attempting.{left_at_packet, left_at_line}
 use Rattle.usb_bus.proofs.Comings.{lines_of_attempt, attempt_made, outcome_made_in}
 use Rattle.usb_bus.proofs.Wires.{until_most, losses_after, losses_cleared, other_fault}
 use Rattle.usb_bus.proofs.sim.SimBus.make_attempt.Goals as goal
@@ -108,3 +109,26 @@ returns-clause-lines g c =
     lines_of_attempt a (world_of c.args.self.now) (world_of mid) (mid.attempts + 1) x _ _ _
     c.in_ok-take_due_events.ensures.exact refl made
     c.in_ok-take_due_events.ensures.lines c.in_ok-put_attempt.ensures.ok
+
+pub returns-in_err-exchange-clause-left : goal.returns-in_err-exchange-clause-left
+returns-in_err-exchange-clause-left g c =
+    let mid = c.take_due_events.new.self in
+    let world : Bool → World
+    = λ s. record (world_of mid) { roots = c.make_exchange.new.roots; shared = mid.shared || s } in
+    left_at_packet c.from_residual-in_err-exchange.result c.args.attempt.now (world_of c.args.self.now) (world_of mid) _ c.make_exchange.new.roots
+    c.from_residual-in_err-exchange.ensures.1 c.in_ok-take_due_events.ensures.exact c.make_exchange.ensures.figure c.make_exchange.ensures.row c.make_exchange.ensures.settled
+    (ap world c.has_shared_address.ensures)
+
+pub returns-in_err-put_attempt-clause-left : goal.returns-in_err-put_attempt-clause-left
+returns-in_err-put_attempt-clause-left g c =
+    let mid = c.take_due_events.new.self in
+    let a = c.args.attempt.now in
+    let x = c.in_ok-exchange.exchange in
+    let damage = c.damage_of-damage.ensures ∙ ap (λ (l : List Damage). damage_of l (mid.attempts + 1)) c.deref.ensures.value in
+    let made : x ≡ made_in a (world_of mid) = c.in_ok-exchange.ensures.made ∙ ap (λ (d : Option Damage). exchange_in a d mid.roots) damage in
+    let ports = c.in_ok-exchange.ensures.ports ∙ ap (λ (d : Option Damage). ports_in a d mid.roots) damage in
+    let world : Losses → Bool → World
+    = λ l s. record (world_of mid) { roots = c.make_exchange.new.roots; attempts = mid.attempts + 1; losses = l; shared = mid.shared || s } in
+    left_at_line c.from_residual-in_err-put_attempt.result a (world_of c.args.self.now) _ c.from_residual-in_err-put_attempt.ensures.1
+    (ap₂ world (c.counted-self.ensures ∙ ap (counted x.address_lost) c.after_clearing.ensures) c.has_shared_address.ensures
+    ∙ attempt_made a (world_of c.args.self.now) (world_of mid) x c.make_exchange.new.roots c.in_ok-take_due_events.ensures.exact made ports)

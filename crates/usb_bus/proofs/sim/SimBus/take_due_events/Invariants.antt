@@ -1,5 +1,6 @@
 use Rattle.std.proofs.Common.{◌≡◌}
 use Rattle.usb_bus.specs.World.{Spends, to_come}
+use Rattle.usb_bus.specs.Steps.{Coming}
 use Rattle.usb_bus.specs.Watch.{inner_of}
 use Rattle.usb_bus.specs.Sim.{world_of, writer_of}
 use Rattle.usb_bus.proofs.Comings.{DueSoFar}
@@ -9,6 +10,7 @@ abbrev pub invariant-due : goal.invariant-due
 invariant-due g l = record {
   spends : Spends 0 (world_of l.fn.self) (world_of l.self);
   fault : (world_of l.self).fault ≡ (world_of l.fn.self).fault;
+  coming : Coming (world_of l.fn.self) (world_of l.self);
   due : DueSoFar (world_of l.fn.self) (world_of l.self) (g.W.Write.contents (inner_of (writer_of l.fn.self))) (g.W.Write.contents (inner_of (writer_of l.self)));
 }
 

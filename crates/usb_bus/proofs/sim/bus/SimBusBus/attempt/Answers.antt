@@ -1,6 +1,6 @@
 use Rattle.usb_bus.specs.Sim.{world_of}
 use Rattle.std.proofs.Common.{refl}
-use Rattle.usb_bus.proofs.Attempting.{after_fault, at_limit, made_exact}
+use Rattle.usb_bus.proofs.Attempting.{after_fault, at_limit, made_exact, fails_at}
 use Rattle.usb_bus.proofs.sim.bus.SimBusBus.attempt.Goals as goal
 
 pub returns-in-Some-clause-refused : goal.returns-in-Some-clause-refused
@@ -13,3 +13,11 @@ pub returns-clause-exact : goal.returns-clause-exact
 returns-clause-exact g c =
     made_exact c.make_attempt-result.result c.args.attempt.now (world_of c.args.self.now) (world_of c.make_attempt-result.new.self) c.fault_of-self.result
     c.fault_of-self.ensures c.make_attempt-result.ensures.fault c.in_default.is c.if-self.false c.make_attempt-result.ensures.exact
+
+pub returns-then-self-clause-fails : goal.returns-then-self-clause-fails
+returns-then-self-clause-fails g c = λ _. at_limit c.args.attempt.now (world_of c.args.self.now) c.in_default.is c.if-self.true
+
+pub returns-clause-fails : goal.returns-clause-fails
+returns-clause-fails g c = λ _.
+    fails_at c.make_attempt-result.result c.args.attempt.now (world_of c.args.self.now) (world_of c.make_attempt-result.new.self) c.fault_of-self.result
+    c.fault_of-self.ensures c.make_attempt-result.ensures.other c.make_attempt-result.ensures.left
