@@ -59,7 +59,7 @@ worked n errors waits le t next = record {
 pub worked_tried : (errors waits : ℕ) {old now : World} → 0 < waits + errors → Tried errors waits old now → Worked (waits + errors) old now
 worked_tried errors waits lt t = record { sound = t.sound (t.still lt); least = t.least; still = t.still lt }
 
-heard_moved : (t : Toggle) (o : Outcome) (bytes : ArrayVec ℕ) → Moved bytes ≡ heard_as t o → o ≡ Payload t bytes
+pub heard_moved : (t : Toggle) (o : Outcome) (bytes : ArrayVec ℕ) → Moved bytes ≡ heard_as t o → o ≡ Payload t bytes
 heard_moved Zero (Payload Zero b) bytes e = cc
 heard_moved Zero (Payload One b) bytes e = cc
 heard_moved One (Payload Zero b) bytes e = cc

@@ -1,6 +1,6 @@
 -- The attempts of a transaction as a course of the world.
 use Rattle.std.proofs.Common.{◌≡◌, refl, sym, subst, ap, ◌∙◌}
-use Rattle.std.specs.Prelude.{◌==◌, ◌||◌, List, [], ◌∷◌, Bool, true, false, if◌then◌else◌, Some, None, ⊤}
+use Rattle.std.specs.Prelude.{◌==◌, ◌||◌, List, [], ◌∷◌, Bool, true, false, if◌then◌else◌, Some, None}
 use Rattle.usb_device.specs.Delivery.{held, is_twice}
 use Rattle.usb_bus.specs.declared.event.Event.{Event}
 use Rattle.usb_bus.specs.declared.types.Attempt.{Attempt}
@@ -8,7 +8,7 @@ use Rattle.usb_bus.specs.declared.types.BusFault.TheVariants.{LimitReached}
 use Rattle.usb_bus.specs.declared.types.Outcome.{Outcome}
 use Rattle.usb_bus.specs.Passes.{IsSettled}
 use Rattle.usb_bus.specs.World.{World, Made}
-use Rattle.usb_bus.specs.Steps.{Step, attempt, after, attempted, with_attempt, ready, due_from, took, is_due, Course, here, step, IsBetween, damage_in}
+use Rattle.usb_bus.specs.Steps.{Step, attempt, after, attempted, with_attempt, ready, due_from, took, is_due, Course, here, step, AnyStep, IsBetween, damage_in}
 use Rattle.usb_bus.proofs.Between.{between_course, settled_ports}
 use Rattle.usb_transaction.specs.Trail.{Trail, start, next}
 
@@ -34,7 +34,7 @@ trail_course {K} {a} {old} each start = here old
 trail_course {K} {a} each (next w t made) = course_then (attempt a) (trail_course each t) (each w made)
 
 pub trail_between : {a : Attempt} {old new : World} {outcomes : List Outcome} → Trail a old outcomes new → IsBetween old → IsBetween new
-trail_between t h = between_course (trail_course {K = λ s w. ⊤} (λ w made. tt) t) h
+trail_between t h = between_course (trail_course {K = AnyStep} (λ w made. tt) t) h
 
 pub trail_settled : {a : Attempt} {old new : World} {outcomes : List Outcome} → Trail a old outcomes new → IsSettled old.roots → IsSettled new.roots
 unfolding with_attempt

@@ -5,7 +5,7 @@ use Rattle.usb_bus.specs.declared.types.BusFault.{BusFault}
 use Rattle.usb_bus.specs.declared.types.Outcome.{Outcome}
 use Rattle.usb_bus.specs.declared.types.Outcome.TheVariants.{Nak, Stall}
 use Rattle.usb_bus.specs.World.{World, Made, Attempted}
-use Rattle.usb_bus.specs.Steps.{attempt, after, outcome_in}
+use Rattle.usb_bus.specs.Steps.{attempt, after, outcome_in, AttemptFails}
 use Rattle.usb_packet.specs.declared.Toggle.{Toggle}
 use Rattle.usb_transaction.specs.declared.heard.Heard.{Heard}
 use Rattle.usb_transaction.specs.declared.heard.Heard.TheVariants.{Moved, NotReady, Repeat, Refused, Lost}
@@ -81,6 +81,7 @@ pub record CutOff (hear : Outcome → Heard) (a : Attempt) (old : World) (fault 
   pub trail : Trail a old outcomes mid
   pub onward : GoesOn hear outcomes
   pub refused : Attempted a mid (Err fault) new
+  pub fails : mid.fault ≡ None → AttemptFails a mid (Err fault) new
 
 -- a transaction of one attempt that is made until an end, to a host that hears outcomes as `hear` says
 abbrev pub Transacted : (Outcome → Heard) → Attempt → World → Result (List ℕ) TransFault → World → Type 0
@@ -120,6 +121,7 @@ pub record PollCutOff (toggle : Toggle) (a : Attempt) (old : World) (fault : Bus
   pub onward : GoesOn (heard_as toggle) outcomes
   pub no_nak : HasNoNak outcomes
   pub refused : Attempted a mid (Err fault) new
+  pub fails : mid.fault ≡ None → AttemptFails a mid (Err fault) new
 
 abbrev pub Polled : Toggle → Attempt → World → Result (Option (List ℕ)) TransFault → World → Type 0
 Polled toggle a old (Ok None) new = Waiting toggle a old new
