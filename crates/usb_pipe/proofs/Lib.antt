@@ -2,3 +2,4 @@ pub mod Bounds
 pub mod Moves
 pub mod Stages
 pub mod Growth
+pub mod DataStages

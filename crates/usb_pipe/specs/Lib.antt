@@ -2,3 +2,4 @@ pub mod Control
 pub mod End
 pub mod Interrupt
 pub mod Bulk
+pub mod Stages
