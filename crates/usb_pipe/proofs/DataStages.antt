@@ -14,7 +14,7 @@ use Rattle.usb_transaction.specs.Heard.{flip}
 use Rattle.usb_pipe.specs.declared.fault.PipeFault.{PipeFault}
 use Rattle.usb_pipe.specs.declared.fault.PipeFault.TheVariants.{Memory}
 use Rattle.usb_pipe.specs.Control.{fault_of, is_last}
-use Rattle.usb_pipe.specs.Bulk.{flips}
+use Rattle.usb_pipe.specs.Toggles.{flips}
 use Rattle.usb_pipe.specs.Stages.{Asks, Goes, start, packet, DataStage, DataLost, NoRoom, DataEnds}
 use Rattle.usb_pipe.proofs.Stages.{GoesOn, goes_on}
 

@@ -1,4 +1,5 @@
 pub mod Control
+pub mod Toggles
 pub mod End
 pub mod Interrupt
 pub mod Bulk

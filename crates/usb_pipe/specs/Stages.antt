@@ -14,7 +14,7 @@ use Rattle.usb_transaction.specs.Trail.{Transacted}
 use Rattle.usb_pipe.specs.declared.fault.PipeFault.{PipeFault}
 use Rattle.usb_pipe.specs.declared.fault.PipeFault.TheVariants.{Memory}
 use Rattle.usb_pipe.specs.Control.{fault_of, is_last}
-use Rattle.usb_pipe.specs.Bulk.{flips}
+use Rattle.usb_pipe.specs.Toggles.{flips}
 
 -- Transactions of endpoint 0
 

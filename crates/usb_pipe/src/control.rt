@@ -38,7 +38,8 @@ pub fn control_in<B: Bus>(
     ensures stages { Reads target setup (B.world bus.old) result (B.world bus.new) }
     ensures most { IfOk result (λ bytes. length bytes.items ≤ setup.length) }
 {
-    send_setup(bus, target, setup.to_bytes())?;
+    let request = setup.to_bytes();
+    send_setup(bus, target, request)?;
     let bytes = data_stage(alloc, bus, target, setup.length)?;
     let mut toggle = Toggle::One;
     data_out(bus, target, 0, &mut toggle, &[])?;
