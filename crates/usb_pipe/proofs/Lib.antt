@@ -3,3 +3,4 @@ pub mod Moves
 pub mod Stages
 pub mod Growth
 pub mod Hubs
+pub mod DataStages

@@ -33,6 +33,14 @@ sent_as Nak = NotReady
 sent_as Stall = Refused
 sent_as Nothing = Lost
 
+-- to a host that has sent setup data: whatever is not ACK is an error (8.5.3)
+abbrev pub set_up_as : Outcome → Heard
+set_up_as (Payload given bytes) = Lost
+set_up_as Ack = Moved (record { items = [] })
+set_up_as Nak = Lost
+set_up_as Stall = Lost
+set_up_as Nothing = Lost
+
 abbrev pub acks : Outcome → Bool
 acks (Payload given bytes) = false
 acks Ack = true

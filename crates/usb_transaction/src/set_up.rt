@@ -1,7 +1,9 @@
 //! SETUP.
 ghost use Rattle.std.specs.Prelude.{◌≡◌, [], IfOk};
 ghost use Rattle.usb_bus.specs.World.{Spends};
-ghost use Rattle.usb_transaction.specs.Trans.{IsTarget, SetupEnds};
+ghost use Rattle.usb_transaction.specs.Heard.{set_up_as};
+ghost use Rattle.usb_transaction.specs.Trail.{Transacted};
+ghost use Rattle.usb_transaction.specs.Trans.{IsTarget, SetupEnds, setup_attempt};
 
 use crate::attempt::attempt_of_setup;
 use crate::heard::is_ack;
@@ -18,6 +20,7 @@ pub fn setup<B: Bus>(bus: &mut B, target: Target, bytes: [u8; 8]) -> Result<Done
     requires { IsTarget target }
     ensures count { Spends 3 (B.world bus.old) (B.world bus.new) }
     ensures ends { SetupEnds (B.world bus.old) result (B.world bus.new) }
+    ensures heard { Transacted set_up_as (setup_attempt target bytes) (B.world bus.old) result (B.world bus.new) }
     ensures nothing { IfOk result (λ done. done ≡ []) }
 {
     let attempt = attempt_of_setup(target, bytes);

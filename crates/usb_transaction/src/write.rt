@@ -1,8 +1,9 @@
 //! OUT.
 ghost use Rattle.std.specs.Prelude.{◌≡◌, ◌≤◌, ◌<◌, [], length, IfOk, OnOk, OnErr};
 ghost use Rattle.usb_bus.specs.World.{Spends};
-ghost use Rattle.usb_transaction.specs.Heard.{flip};
-ghost use Rattle.usb_transaction.specs.Trans.{IsTarget, Ends};
+ghost use Rattle.usb_transaction.specs.Heard.{flip, sent_as};
+ghost use Rattle.usb_transaction.specs.Trail.{Transacted};
+ghost use Rattle.usb_transaction.specs.Trans.{IsTarget, Ends, out_attempt};
 
 use crate::attempt::attempt_of_out;
 use crate::heard::{Heard, flipped, judged_sent};
@@ -32,6 +33,7 @@ pub fn data_out<B: Bus>(
     requires short { length bytes.now ≤ target.max }
     ensures count { Spends 768 (B.world bus.old) (B.world bus.new) }
     ensures ends { Ends (B.world bus.old) result (B.world bus.new) }
+    ensures heard { Transacted sent_as (out_attempt target ep toggle.old bytes.now) (B.world bus.old) result (B.world bus.new) }
     ensures nothing { IfOk result (λ done. done ≡ []) }
     ensures toggle_ok { OnOk result (toggle.new ≡ flip toggle.old) }
     ensures toggle_err { OnErr result (toggle.new ≡ toggle.old) }

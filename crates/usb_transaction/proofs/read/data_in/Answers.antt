@@ -1,0 +1,48 @@
+use Rattle.std.proofs.Common.{refl, ap, ◌∙◌}
+use Rattle.std.proofs.lemmas.Result.{err_from_is_err_and}
+use Rattle.usb_transaction.specs.Heard.{heard_as}
+use Rattle.usb_transaction.proofs.Going.{once, stands_new, stands_error, stands_waited, ended_moved, ended_silent, ended_busy, read_stalled}
+use Rattle.usb_transaction.proofs.read.data_in.Goals as goal
+
+pub tries-init : goal.tries-init
+tries-init g c = (refl, stands_new c.new-tries.result _ c.new-tries.ensures)
+
+pub returns-in-Moved-clause-heard : goal.returns-in-Moved-clause-heard
+returns-in-Moved-clause-heard g c =
+    let one = once c.attempt_of_in-attempt.ensures.value c.in-Ok.ensures.counts c.in-Ok.ensures.exact c.in-Ok.ensures.outcome in
+    let awaited = ap (λ t. heard_as t c.in-Ok.outcome) c.tries.invariant.0 in
+    rw c.data.ensures (ended_moved _ _ c.in-Moved.bytes c.tries.invariant.1.3 one (c.in-Moved.ensures ∙ awaited))
+
+pub tries-preserved-in-Continue-1 : goal.tries-preserved-in-Continue-1
+tries-preserved-in-Continue-1 g c =
+    let one = once c.attempt_of_in-attempt.ensures.value c.in-Ok.ensures.counts c.in-Ok.ensures.exact c.in-Ok.ensures.outcome in
+    let awaited = ap (λ t. heard_as t c.in-Ok.outcome) c.tries.invariant.0 in
+    (c.tries.invariant.0, stands_waited c.judged.result _ _ c.tries.invariant.1 one (c.judged.ensures ∙ awaited) c.in-NotReady.is c.wait.ensures.count c.in_ok-wait-in-NotReady.ensures.end)
+
+pub returns-in_err-wait-in-NotReady-clause-heard : goal.returns-in_err-wait-in-NotReady-clause-heard
+returns-in_err-wait-in-NotReady-clause-heard g c =
+    let one = once c.attempt_of_in-attempt.ensures.value c.in-Ok.ensures.counts c.in-Ok.ensures.exact c.in-Ok.ensures.outcome in
+    let awaited = ap (λ t. heard_as t c.in-Ok.outcome) c.tries.invariant.0 in
+    let told = err_from_is_err_and c.from_residual.result c.from_residual.ensures.1 in
+    let end = c.in_err-wait-in-NotReady.ensures.end in
+    rw (told.1, told.2, end.0) (ended_busy c.judged.result _ _ c.tries.invariant.1 one (c.judged.ensures ∙ awaited) c.in-NotReady.is c.wait.ensures.count end.1)
+
+pub returns-in-Refused-clause-heard : goal.returns-in-Refused-clause-heard
+returns-in-Refused-clause-heard g c =
+    let one = once c.attempt_of_in-attempt.ensures.value c.in-Ok.ensures.counts c.in-Ok.ensures.exact c.in-Ok.ensures.outcome in
+    let awaited = ap (λ t. heard_as t c.in-Ok.outcome) c.tries.invariant.0 in
+    read_stalled _ _ _ c.tries.invariant.1.3 one (c.in-Refused.ensures ∙ awaited)
+
+pub tries-preserved : goal.tries-preserved
+tries-preserved g c =
+    let one = once c.attempt_of_in-attempt.ensures.value c.in-Ok.ensures.counts c.in-Ok.ensures.exact c.in-Ok.ensures.outcome in
+    let awaited = ap (λ t. heard_as t c.in-Ok.outcome) c.tries.invariant.0 in
+    (c.tries.invariant.0, stands_error _ _ c.tries.invariant.1 one (c.in-Lost.ensures ∙ awaited) c.error.ensures.count c.in_ok-error-in-Lost.ensures.end)
+
+pub returns-in_err-error-in-Lost-clause-heard : goal.returns-in_err-error-in-Lost-clause-heard
+returns-in_err-error-in-Lost-clause-heard g c =
+    let one = once c.attempt_of_in-attempt.ensures.value c.in-Ok.ensures.counts c.in-Ok.ensures.exact c.in-Ok.ensures.outcome in
+    let awaited = ap (λ t. heard_as t c.in-Ok.outcome) c.tries.invariant.0 in
+    let told = err_from_is_err_and c.from_residual-in_err-error-in-Lost.result c.from_residual-in_err-error-in-Lost.ensures.1 in
+    let end = c.in_err-error-in-Lost.ensures.end in
+    rw (told.1, told.2, end.0) (ended_silent _ _ c.tries.invariant.1 one (c.in-Lost.ensures ∙ awaited) c.error.ensures.count end.1)

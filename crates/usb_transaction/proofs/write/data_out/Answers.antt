@@ -1,0 +1,41 @@
+use Rattle.std.proofs.Common.{refl}
+use Rattle.std.proofs.lemmas.Result.{err_from_is_err_and}
+use Rattle.usb_transaction.proofs.Going.{once, stands_new, stands_error, stands_waited, ended_sent, ended_silent, ended_busy, sent_stalled}
+use Rattle.usb_transaction.proofs.write.data_out.Goals as goal
+
+pub tries-init : goal.tries-init
+tries-init g c = (refl, stands_new c.new-tries.result _ c.new-tries.ensures)
+
+pub returns-in-Moved-clause-heard : goal.returns-in-Moved-clause-heard
+returns-in-Moved-clause-heard g c =
+    let one = once c.attempt_of_out-attempt.ensures.value c.in-Ok.ensures.counts c.in-Ok.ensures.exact c.in-Ok.ensures.outcome in
+    rw c.nothing.ensures (ended_sent _ _ _ c.tries.invariant.1.3 one (c.in-Moved.ensures))
+
+pub tries-preserved-in-Continue-1 : goal.tries-preserved-in-Continue-1
+tries-preserved-in-Continue-1 g c =
+    let one = once c.attempt_of_out-attempt.ensures.value c.in-Ok.ensures.counts c.in-Ok.ensures.exact c.in-Ok.ensures.outcome in
+    (c.tries.invariant.0, stands_waited c.judged_sent.result _ _ c.tries.invariant.1 one (c.judged_sent.ensures) c.in-NotReady.is c.wait.ensures.count c.in_ok-wait-in-NotReady.ensures.end)
+
+pub returns-in_err-wait-in-NotReady-clause-heard : goal.returns-in_err-wait-in-NotReady-clause-heard
+returns-in_err-wait-in-NotReady-clause-heard g c =
+    let one = once c.attempt_of_out-attempt.ensures.value c.in-Ok.ensures.counts c.in-Ok.ensures.exact c.in-Ok.ensures.outcome in
+    let told = err_from_is_err_and c.from_residual.result c.from_residual.ensures.1 in
+    let end = c.in_err-wait-in-NotReady.ensures.end in
+    rw (told.1, told.2, end.0) (ended_busy c.judged_sent.result _ _ c.tries.invariant.1 one (c.judged_sent.ensures) c.in-NotReady.is c.wait.ensures.count end.1)
+
+pub returns-in-Refused-clause-heard : goal.returns-in-Refused-clause-heard
+returns-in-Refused-clause-heard g c =
+    let one = once c.attempt_of_out-attempt.ensures.value c.in-Ok.ensures.counts c.in-Ok.ensures.exact c.in-Ok.ensures.outcome in
+    sent_stalled _ _ c.tries.invariant.1.3 one (c.in-Refused.ensures)
+
+pub tries-preserved : goal.tries-preserved
+tries-preserved g c =
+    let one = once c.attempt_of_out-attempt.ensures.value c.in-Ok.ensures.counts c.in-Ok.ensures.exact c.in-Ok.ensures.outcome in
+    (c.tries.invariant.0, stands_error _ _ c.tries.invariant.1 one (c.in-Lost.ensures) c.error.ensures.count c.in_ok-error-in-Lost.ensures.end)
+
+pub returns-in_err-error-in-Lost-clause-heard : goal.returns-in_err-error-in-Lost-clause-heard
+returns-in_err-error-in-Lost-clause-heard g c =
+    let one = once c.attempt_of_out-attempt.ensures.value c.in-Ok.ensures.counts c.in-Ok.ensures.exact c.in-Ok.ensures.outcome in
+    let told = err_from_is_err_and c.from_residual-in_err-error-in-Lost.result c.from_residual-in_err-error-in-Lost.ensures.1 in
+    let end = c.in_err-error-in-Lost.ensures.end in
+    rw (told.1, told.2, end.0) (ended_silent _ _ c.tries.invariant.1 one (c.in-Lost.ensures) c.error.ensures.count end.1)

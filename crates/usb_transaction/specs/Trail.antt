@@ -1,0 +1,130 @@
+-- What a transaction attempted, what the host got of it, and what each answer says of that (8.5, 8.6).
+use Rattle.std.specs.Prelude.{◌≡◌, ◌≢◌, ℕ, ◌+◌, ◌<◌, List, [], ◌∷◌, Option, Some, None, Result, Ok, Err, ⊤}
+use Rattle.usb_bus.specs.declared.types.Attempt.{Attempt}
+use Rattle.usb_bus.specs.declared.types.BusFault.{BusFault}
+use Rattle.usb_bus.specs.declared.types.Outcome.{Outcome}
+use Rattle.usb_bus.specs.declared.types.Outcome.TheVariants.{Nak, Stall}
+use Rattle.usb_bus.specs.World.{World, Made, Attempted}
+use Rattle.usb_bus.specs.Steps.{attempt, after, outcome_in}
+use Rattle.usb_packet.specs.declared.Toggle.{Toggle}
+use Rattle.usb_transaction.specs.declared.heard.Heard.{Heard}
+use Rattle.usb_transaction.specs.declared.heard.Heard.TheVariants.{Moved, NotReady, Repeat, Refused, Lost}
+use Rattle.usb_transaction.specs.declared.fault.TransFault.{TransFault}
+use Rattle.usb_transaction.specs.declared.fault.TransFault.TheVariants.{Stalled, Busy, NoAnswer, Bus}
+use Rattle.usb_transaction.specs.Heard.{heard_as}
+use Rattle.usb_transaction.specs.Trans.{packet_of}
+
+-- the same attempt was made again and again, and this is what the host got, the last of it first
+pub data Trail (a : Attempt) (old : World) : List Outcome → World → Type 0 where
+  start : Trail a old [] old
+  next : {outcomes : List Outcome} (w : World) → Trail a old outcomes w → Made w (after (attempt a) w) → Trail a old (outcome_in a w ∷ outcomes) (after (attempt a) w)
+
+-- an error is one more of those running; anything else ends their row
+abbrev pub errors_with : Heard → ℕ → ℕ
+errors_with (Moved bytes) n = 0
+errors_with NotReady n = 0
+errors_with Repeat n = 0
+errors_with Refused n = 0
+errors_with Lost n = n + 1
+
+-- a NAK and a repeat are one wait more
+abbrev pub waits_with : Heard → ℕ → ℕ
+waits_with (Moved bytes) n = n
+waits_with NotReady n = n + 1
+waits_with Repeat n = n + 1
+waits_with Refused n = n
+waits_with Lost n = n
+
+-- how many errors run at the end, to a host that hears outcomes as `hear` says
+unfoldable pub errors_running : (Outcome → Heard) → List Outcome → ℕ
+errors_running hear [] = 0
+errors_running hear (o ∷ outcomes) = errors_with (hear o) (errors_running hear outcomes)
+
+-- how many NAKs and repeats there were
+unfoldable pub waits_in : (Outcome → Heard) → List Outcome → ℕ
+waits_in hear [] = 0
+waits_in hear (o ∷ outcomes) = waits_with (hear o) (waits_in hear outcomes)
+
+-- neither the packet, or its acknowledgement, nor STALL
+abbrev pub IsNoEnd : Heard → Type 0
+IsNoEnd (Moved bytes) = ⊥
+IsNoEnd NotReady = ⊤
+IsNoEnd Repeat = ⊤
+IsNoEnd Refused = ⊥
+IsNoEnd Lost = ⊤
+
+-- the transaction goes on over these: nothing ended it, never did three errors run, and there were fewer than 256 waits
+unfoldable pub GoesOn : (Outcome → Heard) → List Outcome → Type 0
+GoesOn hear [] = ⊤
+GoesOn hear (o ∷ outcomes) = IsNoEnd (hear o) × (errors_running hear (o ∷ outcomes) < 3) × (waits_in hear (o ∷ outcomes) < 256) × GoesOn hear outcomes
+
+-- what an answer says of the last outcome, and of those before it
+abbrev pub Tells : (Outcome → Heard) → Result (List ℕ) TransFault → Outcome → List Outcome → Type 0
+Tells hear (Ok bytes) last outcomes = hear last ≡ Moved (packet_of bytes)
+Tells hear (Err Stalled) last outcomes = last ≡ Stall
+Tells hear (Err Busy) last outcomes = waits_in hear (last ∷ outcomes) ≡ 256
+Tells hear (Err NoAnswer) last outcomes = errors_running hear (last ∷ outcomes) ≡ 3
+Tells hear (Err (Bus fault)) last outcomes = ⊥
+
+-- the transaction went on until its last outcome, which the answer tells
+pub record Ended (hear : Outcome → Heard) (a : Attempt) (old : World) (result : Result (List ℕ) TransFault) (new : World) : Type 0 where
+  pub outcomes : List Outcome
+  pub last : Outcome
+  pub trail : Trail a old (last ∷ outcomes) new
+  pub onward : GoesOn hear outcomes
+  pub tells : Tells hear result last outcomes
+
+-- it went on until the bus refused one more attempt
+pub record CutOff (hear : Outcome → Heard) (a : Attempt) (old : World) (fault : BusFault) (new : World) : Type 0 where
+  pub outcomes : List Outcome
+  pub mid : World
+  pub trail : Trail a old outcomes mid
+  pub onward : GoesOn hear outcomes
+  pub refused : Attempted a mid (Err fault) new
+
+-- a transaction of one attempt that is made until an end, to a host that hears outcomes as `hear` says
+abbrev pub Transacted : (Outcome → Heard) → Attempt → World → Result (List ℕ) TransFault → World → Type 0
+Transacted hear a old (Ok bytes) new = Ended hear a old (Ok bytes) new
+Transacted hear a old (Err Stalled) new = Ended hear a old (Err Stalled) new
+Transacted hear a old (Err Busy) new = Ended hear a old (Err Busy) new
+Transacted hear a old (Err NoAnswer) new = Ended hear a old (Err NoAnswer) new
+Transacted hear a old (Err (Bus fault)) new = CutOff hear a old fault new
+
+-- Polls: a NAK is an answer, and ends them
+
+-- no NAK is among them
+unfoldable pub HasNoNak : List Outcome → Type 0
+HasNoNak [] = ⊤
+HasNoNak (o ∷ outcomes) = (o ≢ Nak) × HasNoNak outcomes
+
+-- the poll went on until a NAK
+pub record Waiting (toggle : Toggle) (a : Attempt) (old new : World) : Type 0 where
+  pub outcomes : List Outcome
+  pub trail : Trail a old (Nak ∷ outcomes) new
+  pub onward : GoesOn (heard_as toggle) outcomes
+  pub no_nak : HasNoNak outcomes
+
+-- it went on until another last outcome, which the answer tells
+pub record PollEnded (toggle : Toggle) (a : Attempt) (old : World) (result : Result (List ℕ) TransFault) (new : World) : Type 0 where
+  pub outcomes : List Outcome
+  pub last : Outcome
+  pub trail : Trail a old (last ∷ outcomes) new
+  pub onward : GoesOn (heard_as toggle) outcomes
+  pub no_nak : HasNoNak (last ∷ outcomes)
+  pub tells : Tells (heard_as toggle) result last outcomes
+
+pub record PollCutOff (toggle : Toggle) (a : Attempt) (old : World) (fault : BusFault) (new : World) : Type 0 where
+  pub outcomes : List Outcome
+  pub mid : World
+  pub trail : Trail a old outcomes mid
+  pub onward : GoesOn (heard_as toggle) outcomes
+  pub no_nak : HasNoNak outcomes
+  pub refused : Attempted a mid (Err fault) new
+
+abbrev pub Polled : Toggle → Attempt → World → Result (Option (List ℕ)) TransFault → World → Type 0
+Polled toggle a old (Ok None) new = Waiting toggle a old new
+Polled toggle a old (Ok (Some bytes)) new = PollEnded toggle a old (Ok bytes) new
+Polled toggle a old (Err Stalled) new = PollEnded toggle a old (Err Stalled) new
+Polled toggle a old (Err Busy) new = PollEnded toggle a old (Err Busy) new
+Polled toggle a old (Err NoAnswer) new = PollEnded toggle a old (Err NoAnswer) new
+Polled toggle a old (Err (Bus fault)) new = PollCutOff toggle a old fault new
