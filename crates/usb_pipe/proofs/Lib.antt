@@ -2,3 +2,5 @@ pub mod Bounds
 pub mod Moves
 pub mod Stages
 pub mod Growth
+pub mod Hubs
+pub mod DataStages

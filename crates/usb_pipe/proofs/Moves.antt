@@ -10,7 +10,8 @@ use Rattle.usb_bus.specs.World.{World, Spends}
 use Rattle.usb_bus.proofs.Counts.{spends_none, spends_then, spends_wider}
 use Rattle.usb_transaction.specs.Heard.{flip}
 use Rattle.usb_transaction.specs.Trans.{Worked}
-use Rattle.usb_pipe.specs.Bulk.{flips, packets_of, Turned}
+use Rattle.usb_pipe.specs.Bulk.{packets_of, Turned}
+use Rattle.usb_pipe.specs.Toggles.{flips}
 
 -- n packets were moved
 pub record Moved (n : ℕ) (first toggle : Toggle) (old now : World) : Type 0 where

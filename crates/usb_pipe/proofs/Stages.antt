@@ -4,7 +4,7 @@ use Rattle.std.specs.Prelude.{ℕ, ◌+◌, ◌*◌, ◌-◌, ◌≤◌, ◌<◌
 use Rattle.std.proofs.lemmas.List.{length-take, length-append}
 use Rattle.std.proofs.lemmas.Bool.{ltb-false, leb-false}
 use Rattle.usb_bus.specs.World.{World, Spends}
-use Rattle.usb_bus.proofs.Counts.{spends_then, spends_wider}
+use Rattle.usb_bus.proofs.Counts.{spends_none, spends_then, spends_wider}
 use Rattle.usb_transaction.specs.Trans.{Worked}
 use Rattle.usb_pipe.specs.Control.{byte_bound, is_last}
 use Rattle.usb_pipe.proofs.Bounds.{full_packet}
@@ -13,6 +13,9 @@ use Rattle.usb_pipe.proofs.Bounds.{full_packet}
 pub record Staged (max got : ℕ) (old now : World) : Type 0 where
   pub spends : Spends (byte_bound max * got) old now
   pub sound : now.fault ≡ None → old.fault ≡ None
+
+pub staged_none : (max got : ℕ) (w : World) → got ≡ 0 → Staged max got w w
+staged_none max got w none = rw none (record { spends = spends_wider 0 (byte_bound max * 0) w w (spends_none w) (omega arith); sound = λ e. e })
 
 -- one full packet more
 pub staged_more : (max m n : ℕ) (old mid new : World) → 1 ≤ max → m + max ≤ n → Staged max m old mid → Spends 768 mid new → Worked 1 mid new → Staged max n old new

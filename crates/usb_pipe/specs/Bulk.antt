@@ -6,14 +6,16 @@ use Rattle.usb_packet.specs.declared.Toggle.{Toggle}
 use Rattle.usb_packet.specs.declared.Toggle.TheVariants.{Zero}
 use Rattle.usb_bus.specs.World.{World}
 use Rattle.usb_transaction.specs.declared.target.Target.{Target}
-use Rattle.usb_transaction.specs.Heard.{flip}
 use Rattle.usb_transaction.specs.Trans.{Worked}
 use Rattle.usb_pipe.specs.declared.condition.Condition.{Condition}
 use Rattle.usb_pipe.specs.declared.condition.Condition.TheVariants.{Ready, Halted, Broken}
 use Rattle.usb_pipe.specs.declared.fault.PipeFault.{PipeFault}
 use Rattle.usb_pipe.specs.declared.fault.PipeFault.TheVariants.{Stalled, Busy, NoAnswer, Bus, Memory}
 use Rattle.usb_pipe.specs.declared.fault.PipeFault.TheVariants as fault
+use Rattle.usb_request.specs.Requests.{clear_endpoint_halt}
 use Rattle.usb_pipe.specs.Control.{Faults}
+use Rattle.usb_pipe.specs.Toggles.{flips}
+use Rattle.usb_pipe.specs.Stages.{Writes}
 
 pub record Bulk : Type 0 where
   pub target : Target  -- with the maximum of endpoint 0
@@ -53,11 +55,6 @@ after_failed_clear before NoAnswer = Broken
 after_failed_clear before fault.Broken = before
 after_failed_clear before (Bus why) = before
 after_failed_clear before Memory = Broken
-
--- the toggle behind n packets
-unfoldable pub flips : ℕ → Toggle → Toggle
-flips zero toggle = toggle
-flips (suc n) toggle = flip (flips n toggle)
 
 -- the toggle is the one behind fewer than n packets
 pub record Turned (n : ℕ) (first toggle : Toggle) : Type 0 where
@@ -111,6 +108,7 @@ cleared pipe (Err why) = record pipe { condition = after_failed_clear pipe.condi
 -- CLEAR_FEATURE(ENDPOINT_HALT) was sent
 pub record Cleared (pipe : Bulk) (old : World) (result : Result (Unit {0}) PipeFault) (left : Bulk) (new : World) : Type 0 where
   pub ends : MatchResult result (λ _. Worked 2 old new) (λ why. Faults 1 old why new)
+  pub stages : Writes pipe.target (clear_endpoint_halt (halt_address pipe.ep pipe.is_in)) old result new
   pub room : result ≢ Err Memory
   pub pipe_left : left ≡ cleared pipe result
 

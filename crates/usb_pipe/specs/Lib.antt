@@ -1,4 +1,6 @@
 pub mod Control
+pub mod Toggles
 pub mod End
 pub mod Interrupt
 pub mod Bulk
+pub mod Stages

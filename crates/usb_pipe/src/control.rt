@@ -4,6 +4,7 @@ ghost use Rattle.usb_bus.specs.World.{Spends};
 ghost use Rattle.usb_request.specs.Layout.{IsToHost, IsToDevice};
 ghost use Rattle.usb_transaction.specs.Trans.{IsTarget, Worked};
 ghost use Rattle.usb_pipe.specs.Control.{Faults, control_bound};
+ghost use Rattle.usb_pipe.specs.Stages.{Reads, Writes};
 
 use crate::PipeFault;
 use crate::stage::data_stage;
@@ -34,9 +35,11 @@ pub fn control_in<B: Bus>(
     requires some { 1 ≤ setup.length }
     ensures count { Spends (control_bound target.max setup.length) (B.world bus.old) (B.world bus.new) }
     ensures ends { MatchResult result (λ _. Worked 3 (B.world bus.old) (B.world bus.new)) (λ fault. Faults 1 (B.world bus.old) fault (B.world bus.new)) }
+    ensures stages { Reads target setup (B.world bus.old) result (B.world bus.new) }
     ensures most { IfOk result (λ bytes. length bytes.items ≤ setup.length) }
 {
-    send_setup(bus, target, setup.to_bytes())?;
+    let request = setup.to_bytes();
+    send_setup(bus, target, request)?;
     let bytes = data_stage(alloc, bus, target, setup.length)?;
     let mut toggle = Toggle::One;
     data_out(bus, target, 0, &mut toggle, &[])?;
@@ -58,6 +61,7 @@ pub fn control_none<B: Bus>(bus: &mut B, target: Target, setup: Setup) -> Result
     requires none { setup.length ≡ 0 }
     ensures count { Spends 1600 (B.world bus.old) (B.world bus.new) }
     ensures ends { MatchResult result (λ _. Worked 2 (B.world bus.old) (B.world bus.new)) (λ fault. Faults 1 (B.world bus.old) fault (B.world bus.new)) }
+    ensures stages { Writes target setup (B.world bus.old) result (B.world bus.new) }
     ensures room { result ≢ Err PipeFault.Memory }
 {
     send_setup(bus, target, setup.to_bytes())?;

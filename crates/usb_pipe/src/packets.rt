@@ -4,7 +4,8 @@ ghost use Rattle.std.specs.Int.{div_ceil};
 ghost use Rattle.usb_bus.specs.World.{Spends};
 ghost use Rattle.usb_transaction.specs.Trans.{IsTarget, Worked};
 ghost use Rattle.usb_pipe.specs.Control.{Faults};
-ghost use Rattle.usb_pipe.specs.Bulk.{flips, packets_of, Turned};
+ghost use Rattle.usb_pipe.specs.Bulk.{packets_of, Turned};
+ghost use Rattle.usb_pipe.specs.Toggles.{flips};
 
 use crate::PipeFault;
 use std::alloc::Global;

@@ -221,12 +221,12 @@ fn a_device_is_made_ready(rt: HostRuntime) -> Result<(), Fail> {
         let mut bus = bus_of(alloc, kind, 10_000, hits)?;
         match make_ready(alloc, &mut bus, target) {
             Ok(bytes) => {
-                assert_eq!(rt; fault, None, "{trace}");
-                assert_eq!(rt; bytes.as_slice(), device.as_slice(), "{trace}");
+                assert_eq!(rt; fault, None, "{attempts}");
+                assert_eq!(rt; bytes.as_slice(), device.as_slice(), "{attempts}");
             }
-            Err(ended) => assert_eq!(rt; fault, Some(ended), "{trace}"),
+            Err(ended) => assert_eq!(rt; fault, Some(ended), "{attempts}"),
         }
-        assert_eq!(rt; bus.attempts(), attempts, "{trace}");
+        assert_eq!(rt; bus.attempts(), attempts, "{attempts}");
         assert_eq!(rt; told(alloc, bus, 0)?.as_str(), trace);
     }
     Ok(())

@@ -101,7 +101,7 @@ fn stalls_of(kind: Kind) -> Stalls {
 /// A function with one configuration.
 fn function<const D: usize, const C: usize>(
     alloc: Global,
-    name: &str,
+    name: Name,
     descriptor: [u8; D],
     configuration: [u8; C],
 ) -> Result<DeviceSpec, AllocError>
@@ -114,33 +114,38 @@ fn function<const D: usize, const C: usize>(
     let mut configs = ConfigTexts::new(alloc);
     configs.push(Bytes::new(Vec::from_array(alloc, configuration)?))?;
     let descriptor = Bytes::new(Vec::from_array(alloc, descriptor)?);
-    let name = Name::new(String::from_str(alloc, name)?);
     Ok(DeviceSpec::function(name, descriptor, configs))
 }
 
-pub(super) fn plain(alloc: Global) -> Result<DeviceSpec, AllocError> {
-    function(alloc, "fn", DEVICE, CONFIGURATION)
+fn plain(alloc: Global) -> Result<DeviceSpec, AllocError> {
+    function(alloc, Name::new(String::from_str(alloc, "fn")?), DEVICE, CONFIGURATION)
 }
 
 fn low(alloc: Global) -> Result<DeviceSpec, AllocError> {
-    Ok(function(alloc, "low", LOW_DEVICE, CONFIGURATION)?.with_low_speed(true))
+    Ok(function(alloc, Name::new(String::from_str(alloc, "low")?), LOW_DEVICE, CONFIGURATION)?.with_low_speed(true))
 }
 
 fn bulk(alloc: Global) -> Result<DeviceSpec, AllocError> {
     let source = Bytes::new(Vec::from_array(alloc, [0xaa, 0xbb, 0xcc])?);
-    Ok(function(alloc, "bulk", DEVICE, BULK)?.with_source(source))
+    Ok(function(alloc, Name::new(String::from_str(alloc, "bulk")?), DEVICE, BULK)?.with_source(source))
 }
 
 fn small_bulk(alloc: Global) -> Result<DeviceSpec, AllocError> {
-    let source = Bytes::new(counted(alloc, 20)?);
-    Ok(function(alloc, "bulk", DEVICE, SMALL_BULK)?.with_source(source))
+    let source = Vec::from_array(
+        alloc,
+        [
+            1, 2, 3, 4, 5, 6, 7, 8, 9, 10, 11, 12, 13, 14, 15, 16, 17, 18, 19, 20,
+        ],
+    )?;
+    let source = Bytes::new(source);
+    Ok(function(alloc, Name::new(String::from_str(alloc, "bulk")?), DEVICE, SMALL_BULK)?.with_source(source))
 }
 
 /// A hub with two ports and its own power.
 pub(super) fn hub(alloc: Global) -> Result<DeviceSpec, AllocError>
     ensures { IfOk result (λ s. hub_ports s.hub ≡ 2) }
 {
-    let spec = function(alloc, "hub2", HUB_DEVICE, HUB)?.with_self_powered(true);
+    let spec = function(alloc, Name::new(String::from_str(alloc, "hub2")?), HUB_DEVICE, HUB)?.with_self_powered(true);
     Ok(spec.with_hub(HubSpec::usual(alloc, 2)?))
 }
 

@@ -12,7 +12,7 @@ use usb_request::feature::{C_PORT_CONNECTION, PORT_POWER};
 /// behind the hub's requests.
 type Row = (
     &'static [Hit],
-    [Result<Option<u8>, PipeFault>; 3],
+    &'static [Result<Option<u8>, PipeFault>],
     u64,
     &'static str,
 );
@@ -23,7 +23,7 @@ const CHANGED: Result<Option<u8>, PipeFault> = Ok(Some(2));
 const POLLS: [Row; 5] = [
     (
         &[],
-        [CHANGED, CHANGED, CHANGED],
+        &[CHANGED, CHANGED, CHANGED],
         29,
         "27 IN 1.1 / DATA0 02 / ACK
 28 IN 1.1 / DATA1 02 / ACK
@@ -32,7 +32,7 @@ const POLLS: [Row; 5] = [
     ),
     (
         &[(27, 3, Harm::Lose)],
-        [CHANGED, CHANGED, CHANGED],
+        &[CHANGED, CHANGED, CHANGED],
         30,
         "27 IN 1.1 / DATA0 02 / ACK [lost]
 28 IN 1.1 / DATA0 02 / ACK
@@ -42,7 +42,7 @@ const POLLS: [Row; 5] = [
     ),
     (
         &[(27, 1, Harm::Lose), (28, 2, Harm::Flip(7))],
-        [CHANGED, CHANGED, CHANGED],
+        &[CHANGED, CHANGED, CHANGED],
         31,
         "27 IN 1.1 [lost] / none
 28 IN 1.1 / DATA0 02 [bit 7]
@@ -57,7 +57,7 @@ const POLLS: [Row; 5] = [
             (28, 1, Harm::Lose),
             (29, 2, Harm::Lose),
         ],
-        [Err(PipeFault::NoAnswer), CHANGED, CHANGED],
+        &[Err(PipeFault::NoAnswer), CHANGED, CHANGED],
         31,
         "27 IN 1.1 [lost] / none
 28 IN 1.1 [lost] / none
@@ -75,7 +75,7 @@ const POLLS: [Row; 5] = [
             (31, 2, Harm::Flip(7)),
             (32, 1, Harm::Flip(7)),
         ],
-        [CHANGED, CHANGED, CHANGED],
+        &[CHANGED, CHANGED, CHANGED],
         34,
         "27 IN 1.1 / DATA0 02 / ACK [lost]
 28 IN 1.1 [lost] / none
@@ -89,7 +89,7 @@ const POLLS: [Row; 5] = [
     ),
 ];
 
-/// A hub with two ports that have power, a function at port 1: 26 attempts were made, and 28 lines written.
+/// A hub with two ports that have power, a hub at its port 1: 26 attempts were made, and 28 lines written.
 fn ready_hub(alloc: Global, limit: u64, hits: &[Hit]) -> Result<SimBus<Vec<u8>>, Fail>
     requires { limit ≤ 10000 }
 {
@@ -119,10 +119,10 @@ fn a_poll_asks_again_until_there_is_an_answer(rt: HostRuntime) -> Result<(), Fai
     for (hits, answers, attempts, lines) in POLLS {
         let mut bus = ready_hub(alloc, 10_000, hits)?;
         let mut pipe = InterruptPipe::new(TARGET, 1, 1);
-        for answer in answers {
-            assert_eq!(rt; polled(&mut bus, &mut pipe), answer, "{lines}");
+        'polls: for answer in answers {
+            assert_eq!(rt; polled(&mut bus, &mut pipe), *answer, "{attempts}");
         }
-        assert_eq!(rt; bus.attempts(), attempts, "{lines}");
+        assert_eq!(rt; bus.attempts(), attempts, "{attempts}");
         assert_eq!(rt; told(alloc, bus, 28)?.as_str(), lines);
     }
     Ok(())

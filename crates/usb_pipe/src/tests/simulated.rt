@@ -1,9 +1,10 @@
 //! Simulated buses with one device at the only root port, and the requests that make it ready.
 ghost use Rattle.std.specs.Prelude.{◌≡◌, ◌≤◌, [], ◌∷◌, true, IfOk};
+ghost use Rattle.usb_bus.specs.declared.event.Action.TheVariants.{Plug};
 ghost use Rattle.usb_bus.specs.PlanData.{damage_fits, damages_fit, harm_fits};
 ghost use Rattle.usb_transaction.specs.Trans.{IsTarget};
 
-use super::devices::{Kind, hub, plain, spec_of};
+use super::devices::{Kind, hub, spec_of};
 use crate::{Bus, PipeFault, Setup, Target, control_in, control_none};
 use std::alloc::Global;
 use std::test::Fail;
@@ -50,18 +51,16 @@ pub(super) fn bus_of(
     Ok(bus)
 }
 
-/// A hub stands at port 1, which has power and was reset, and a function at the hub's port 1; these packets are damaged.
+/// A hub stands at port 1, which has power and was reset, and such a hub at the hub's port 1; these packets are damaged.
+#[tactic(auto, using(crate::proofs::Hubs::hubs_fit))]
 pub(super) fn bus_of_hub(alloc: Global, limit: u64, hits: &[Hit]) -> Result<SimBus<Vec<u8>>, Fail>
     requires { limit ≤ 10000 }
 {
     let mut devices = Devices::new(alloc);
     devices.push(hub(alloc)?)?;
-    devices.push(plain(alloc)?)?;
-    let mut below = root();
-    below.push(1);
     let mut events = Events::new(alloc);
     events.push(plug(root(), 0))?;
-    events.push(plug(below, 1))?;
+    events.push(plug(below(), 0))?;
     let plan = Plan::new(limit, 1, devices, events, damages_of(alloc, hits)?);
     let mut bus = begun(alloc, &plan)?;
     reset(&mut bus)?;
@@ -91,7 +90,17 @@ fn root() -> PortPath
     PortPath::root(1).unwrap()
 }
 
-fn plug(path: PortPath, device: usize) -> Event {
+fn below() -> PortPath
+    ensures { result ≡ 1 ∷ 1 ∷ [] }
+{
+    let mut path = root();
+    path.push(1);
+    path
+}
+
+fn plug(path: PortPath, device: usize) -> Event
+    ensures { result ≡ record { after = 0; action = Plug path device } }
+{
     Event {
         after: 0,
         action: Action::Plug(path, device),

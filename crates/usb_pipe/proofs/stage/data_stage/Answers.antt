@@ -1,6 +1,15 @@
-use Rattle.std.proofs.Common.{◌≡◌, ◌≤◌, ◌<◌, ◌+◌, length, arith, sym, ap, ◌∙◌}
-use Rattle.usb_pipe.proofs.Stages.{staged_more, kept_full, GoesOn, goes_on}
+use Rattle.std.proofs.Common.{◌≡◌, ◌≤◌, ◌<◌, ◌+◌, ◌-◌, ◌++◌, take, length, arith, sym, ap, ◌∙◌, true, false, inl, inr}
+use Rattle.usb_pipe.specs.Control.{is_last}
+use Rattle.usb_pipe.proofs.DataStages.{onward_none, onward_more, data_ends, lost_ends, no_room_ends}
+use Rattle.usb_pipe.proofs.Stages.{Staged, staged_none, staged_more, kept_full, GoesOn, goes_on}
 use Rattle.usb_pipe.proofs.stage.data_stage.Goals as goal
+
+pub packets-init : goal.packets-init
+packets-init g c = record {
+  few = rw c.new-bytes.ensures.items c.requires.some;
+  staged = staged_none c.args.target.max _ _ (ap length c.new-bytes.ensures.items);
+  onward = onward_none c.args.target c.args.wanted _ _ c.new-bytes.ensures.items;
+}
 
 pub packets-preserved : goal.packets-preserved
 packets-preserved g c =
@@ -9,7 +18,24 @@ packets-preserved g c =
     let full : c.args.target.max ≤ length c.bytes.result.now = omega (arith, on.full, size) in
     let more : length c.keep.new.bytes.items < c.args.wanted = omega (arith, on.more, c.len.ensures) in
     let grown : length c.packets.bytes.items + c.args.target.max ≤ length c.keep.new.bytes.items =
-    rw c.in_ok-keep.ensures (kept_full c.args.wanted c.args.target.max c.packets.bytes.items c.bytes.result.now full (rw c.in_ok-keep.ensures at more)) in (
-      more,
-      staged_more _ _ _ _ _ _ c.requires.target.max_least grown c.packets.invariant.1 c.data_in.ensures.count c.in_ok-packet.ensures.ends,
-    )
+    rw c.in_ok-keep.ensures (kept_full c.args.wanted c.args.target.max c.packets.bytes.items c.bytes.result.now full (rw c.in_ok-keep.ensures at more)) in
+    let kept = c.in_ok-keep.ensures ∙ ap (λ x. c.packets.bytes.items ++ take (c.args.wanted - length c.packets.bytes.items) x) c.bytes.ensures.value in
+    let len : c.len.result ≡ length c.keep.new.bytes.items = omega (arith, c.len.ensures) in
+    let more_comes : is_last (length c.in_ok-packet.packet) c.args.target.max (length c.keep.new.bytes.items) c.args.wanted ≡ false = rw (sym c.bytes-in-packets.ensures.value, sym len) (sym c.last.ensures ∙ c.if-last.false) in record {
+      few = more;
+      staged = staged_more _ _ _ _ _ _ c.requires.target.max_least grown c.packets.invariant.staged c.data_in.ensures.count c.in_ok-packet.ensures.ends;
+      onward = onward_more c.args.target c.args.wanted c.in_ok-packet.packet c.packets.invariant.onward c.in_ok-packet.ensures.heard kept more_comes c.in_ok-packet.ensures.toggle_ok;
+    }
+
+pub returns-then-last-clause-packets : goal.returns-then-last-clause-packets
+returns-then-last-clause-packets g c =
+    let kept = c.in_ok-keep.ensures ∙ ap (λ x. c.packets.bytes.items ++ take (c.args.wanted - length c.packets.bytes.items) x) c.bytes.ensures.value in
+    let len : c.len.result ≡ length c.keep.new.bytes.items = omega (arith, c.len.ensures) in
+    let ends : is_last (length c.in_ok-packet.packet) c.args.target.max (length c.keep.new.bytes.items) c.args.wanted ≡ true = rw (sym c.bytes-in-packets.ensures.value, sym len) (sym c.last.ensures ∙ c.if-last.true) in
+    data_ends c.args.target c.args.wanted c.in_ok-packet.packet c.packets.invariant.onward c.packets.invariant.few c.in_ok-packet.ensures.heard kept ends
+
+pub returns-in_err-packet-clause-packets : goal.returns-in_err-packet-clause-packets
+returns-in_err-packet-clause-packets g c = lost_ends c.args.target c.args.wanted _ c.in_err-packet.field-0.0 c.from_residual.result c.from_residual.ensures.0 c.from_residual.ensures.1 c.packets.invariant.onward c.in_err-packet.ensures.heard
+
+pub returns-in_err-keep-clause-packets : goal.returns-in_err-keep-clause-packets
+returns-in_err-keep-clause-packets g c = no_room_ends c.args.target c.args.wanted c.in_ok-packet.packet c.from_residual-in_err-keep.result c.from_residual-in_err-keep.ensures.0 c.from_residual-in_err-keep.ensures.1 c.packets.invariant.onward c.in_ok-packet.ensures.heard
