@@ -1,5 +1,5 @@
 -- Bulk pipes.
-use Rattle.std.specs.Prelude.{◌≡◌, ◌≢◌, ℕ, zero, suc, ◌+◌, ◌*◌, ◌/◌, ◌<◌, ◌≤◌, min, List, [], length, Bool, true, false, if◌then◌else◌, Result, Ok, Err, OnOk, IfOk, MatchResult}
+use Rattle.std.specs.Prelude.{◌≡◌, ◌≢◌, ℕ, ◌+◌, ◌*◌, ◌/◌, ◌<◌, ◌≤◌, min, List, [], length, Bool, true, false, if◌then◌else◌, Result, Ok, Err, OnOk, IfOk, MatchResult}
 use Rattle.std.specs.Global.{Vec}
 use Rattle.std.specs.Int.{div_ceil}
 use Rattle.usb_packet.specs.declared.Toggle.{Toggle}

@@ -66,8 +66,16 @@ const WRITES: [Row<WriteCall, ()>; 10] = [
         Kind::Bulk,
         64,
         2,
-        &[(17, 3, Harm::Lose), (18, 3, Harm::Lose), (19, 3, Harm::Lose)],
-        &[(WriteCall::Send(130), Err(PipeFault::NoAnswer)), (WriteCall::Send(130), Err(PipeFault::Broken)), (WriteCall::Clear, Ok(()))],
+        &[
+            (17, 3, Harm::Lose),
+            (18, 3, Harm::Lose),
+            (19, 3, Harm::Lose),
+        ],
+        &[
+            (WriteCall::Send(130), Err(PipeFault::NoAnswer)),
+            (WriteCall::Send(130), Err(PipeFault::Broken)),
+            (WriteCall::Clear, Ok(())),
+        ],
         21,
         "17 OUT 1.2 / DATA0 0102030405060708090A0B0C0D0E0F101112131415161718191A1B1C1D1E1F202122232425262728292A2B2C2D2E2F303132333435363738393A3B3C3D3E3F40 / ACK [lost]
 18 OUT 1.2 / DATA0 0102030405060708090A0B0C0D0E0F101112131415161718191A1B1C1D1E1F202122232425262728292A2B2C2D2E2F303132333435363738393A3B3C3D3E3F40 / ACK [lost]
@@ -81,7 +89,11 @@ const WRITES: [Row<WriteCall, ()>; 10] = [
         64,
         2,
         &[],
-        &[(WriteCall::Send(130), Err(PipeFault::Stalled)), (WriteCall::Clear, Ok(())), (WriteCall::Send(2), Ok(()))],
+        &[
+            (WriteCall::Send(130), Err(PipeFault::Stalled)),
+            (WriteCall::Clear, Ok(())),
+            (WriteCall::Send(2), Ok(())),
+        ],
         22,
         "17 OUT 1.2 / DATA0 0102030405060708090A0B0C0D0E0F101112131415161718191A1B1C1D1E1F202122232425262728292A2B2C2D2E2F303132333435363738393A3B3C3D3E3F40 / ACK
 18 OUT 1.2 / DATA1 4142434445464748494A4B4C4D4E4F505152535455565758595A5B5C5D5E5F606162636465666768696A6B6C6D6E6F707172737475767778797A7B7C7D7E7F80 / ACK
@@ -95,8 +107,18 @@ const WRITES: [Row<WriteCall, ()>; 10] = [
         Kind::HaltsAfterOne,
         64,
         2,
-        &[(20, 1, Harm::Lose), (21, 1, Harm::Lose), (22, 1, Harm::Lose)],
-        &[(WriteCall::Send(65), Err(PipeFault::Stalled)), (WriteCall::Clear, Err(PipeFault::NoAnswer)), (WriteCall::Send(1), Err(PipeFault::Broken)), (WriteCall::Clear, Ok(())), (WriteCall::Send(1), Ok(()))],
+        &[
+            (20, 1, Harm::Lose),
+            (21, 1, Harm::Lose),
+            (22, 1, Harm::Lose),
+        ],
+        &[
+            (WriteCall::Send(65), Err(PipeFault::Stalled)),
+            (WriteCall::Clear, Err(PipeFault::NoAnswer)),
+            (WriteCall::Send(1), Err(PipeFault::Broken)),
+            (WriteCall::Clear, Ok(())),
+            (WriteCall::Send(1), Ok(())),
+        ],
         25,
         "17 OUT 1.2 / DATA0 0102030405060708090A0B0C0D0E0F101112131415161718191A1B1C1D1E1F202122232425262728292A2B2C2D2E2F303132333435363738393A3B3C3D3E3F40 / ACK
 18 OUT 1.2 / DATA1 41 / STALL
@@ -134,7 +156,14 @@ const WRITES: [Row<WriteCall, ()>; 10] = [
         64,
         2,
         &[],
-        &[(WriteCall::Send(65), Err(PipeFault::Stalled)), (WriteCall::Send(1), Err(PipeFault::Stalled)), (WriteCall::Send(0), Ok(())), (WriteCall::Clear, Ok(())), (WriteCall::Send(1), Ok(())), (WriteCall::Clear, Ok(()))],
+        &[
+            (WriteCall::Send(65), Err(PipeFault::Stalled)),
+            (WriteCall::Send(1), Err(PipeFault::Stalled)),
+            (WriteCall::Send(0), Ok(())),
+            (WriteCall::Clear, Ok(())),
+            (WriteCall::Send(1), Ok(())),
+            (WriteCall::Clear, Ok(())),
+        ],
         22,
         "17 OUT 1.2 / DATA0 0102030405060708090A0B0C0D0E0F101112131415161718191A1B1C1D1E1F202122232425262728292A2B2C2D2E2F303132333435363738393A3B3C3D3E3F40 / ACK
 18 OUT 1.2 / DATA1 41 / STALL
@@ -149,7 +178,11 @@ const WRITES: [Row<WriteCall, ()>; 10] = [
         64,
         3,
         &[],
-        &[(WriteCall::Send(1), Err(PipeFault::NoAnswer)), (WriteCall::Clear, Err(PipeFault::Stalled)), (WriteCall::Send(0), Err(PipeFault::Broken))],
+        &[
+            (WriteCall::Send(1), Err(PipeFault::NoAnswer)),
+            (WriteCall::Clear, Err(PipeFault::Stalled)),
+            (WriteCall::Send(0), Err(PipeFault::Broken)),
+        ],
         21,
         "17 OUT 1.3 / DATA0 01 / none
 18 OUT 1.3 / DATA0 01 / none
@@ -162,8 +195,25 @@ const WRITES: [Row<WriteCall, ()>; 10] = [
         Kind::SmallBulk,
         8,
         2,
-        &[(18, 1, Harm::Lose), (19, 2, Harm::Lose), (20, 2, Harm::Flip(7)), (22, 1, Harm::Lose), (23, 1, Harm::Flip(7)), (24, 1, Harm::Lose)],
-        &[(WriteCall::Clear, Ok(())), (WriteCall::Send(1), Ok(())), (WriteCall::Send(2), Err(PipeFault::NoAnswer)), (WriteCall::Send(3), Err(PipeFault::Broken)), (WriteCall::Send(0), Err(PipeFault::Broken)), (WriteCall::Clear, Err(PipeFault::NoAnswer)), (WriteCall::Send(3), Err(PipeFault::Broken)), (WriteCall::Clear, Ok(())), (WriteCall::Send(4), Ok(()))],
+        &[
+            (18, 1, Harm::Lose),
+            (19, 2, Harm::Lose),
+            (20, 2, Harm::Flip(7)),
+            (22, 1, Harm::Lose),
+            (23, 1, Harm::Flip(7)),
+            (24, 1, Harm::Lose),
+        ],
+        &[
+            (WriteCall::Clear, Ok(())),
+            (WriteCall::Send(1), Ok(())),
+            (WriteCall::Send(2), Err(PipeFault::NoAnswer)),
+            (WriteCall::Send(3), Err(PipeFault::Broken)),
+            (WriteCall::Send(0), Err(PipeFault::Broken)),
+            (WriteCall::Clear, Err(PipeFault::NoAnswer)),
+            (WriteCall::Send(3), Err(PipeFault::Broken)),
+            (WriteCall::Clear, Ok(())),
+            (WriteCall::Send(4), Ok(())),
+        ],
         27,
         "17 OUT 1.2 / DATA0 01 / ACK
 18 OUT 1.2 [lost] / DATA1 0102 / none
@@ -186,7 +236,11 @@ const READS: [Row<ReadCall, &'static [u8]>; 5] = [
         64,
         2,
         &[],
-        &[(ReadCall::Receive(4), Ok(&[0xaa, 0xbb, 0xcc])), (ReadCall::Receive(1), Err(PipeFault::Busy)), (ReadCall::Receive(1), Err(PipeFault::Broken))],
+        &[
+            (ReadCall::Receive(4), Ok(&[0xaa, 0xbb, 0xcc])),
+            (ReadCall::Receive(1), Err(PipeFault::Busy)),
+            (ReadCall::Receive(1), Err(PipeFault::Broken)),
+        ],
         273,
         "17 IN 1.2 / DATA0 AABBCC / ACK
 ",
@@ -205,7 +259,15 @@ const READS: [Row<ReadCall, &'static [u8]>; 5] = [
         8,
         2,
         &[(17, 3, Harm::Lose), (19, 2, Harm::Flip(7))],
-        &[(ReadCall::Receive(0), Ok(&[])), (ReadCall::Receive(1), Ok(&[1, 2, 3, 4, 5, 6, 7, 8])), (ReadCall::Receive(4), Ok(&[9, 10, 11, 12, 13, 14, 15, 16, 17, 18, 19, 20])), (ReadCall::Receive(1), Err(PipeFault::Busy))],
+        &[
+            (ReadCall::Receive(0), Ok(&[])),
+            (ReadCall::Receive(1), Ok(&[1, 2, 3, 4, 5, 6, 7, 8])),
+            (
+                ReadCall::Receive(4),
+                Ok(&[9, 10, 11, 12, 13, 14, 15, 16, 17, 18, 19, 20]),
+            ),
+            (ReadCall::Receive(1), Err(PipeFault::Busy)),
+        ],
         277,
         "17 IN 1.2 / DATA0 0102030405060708 / ACK [lost]
 18 IN 1.2 / DATA0 0102030405060708 / ACK
@@ -219,7 +281,11 @@ const READS: [Row<ReadCall, &'static [u8]>; 5] = [
         64,
         3,
         &[],
-        &[(ReadCall::Receive(1), Err(PipeFault::NoAnswer)), (ReadCall::Clear, Err(PipeFault::Stalled)), (ReadCall::Receive(0), Err(PipeFault::Broken))],
+        &[
+            (ReadCall::Receive(1), Err(PipeFault::NoAnswer)),
+            (ReadCall::Clear, Err(PipeFault::Stalled)),
+            (ReadCall::Receive(0), Err(PipeFault::Broken)),
+        ],
         21,
         "17 IN 1.3 / none
 18 IN 1.3 / none
@@ -233,7 +299,13 @@ const READS: [Row<ReadCall, &'static [u8]>; 5] = [
         64,
         2,
         &[],
-        &[(ReadCall::Receive(1), Ok(&[0xaa, 0xbb, 0xcc])), (ReadCall::Receive(1), Err(PipeFault::Busy)), (ReadCall::Clear, Ok(&[])), (ReadCall::Receive(0), Ok(&[])), (ReadCall::Clear, Ok(&[]))],
+        &[
+            (ReadCall::Receive(1), Ok(&[0xaa, 0xbb, 0xcc])),
+            (ReadCall::Receive(1), Err(PipeFault::Busy)),
+            (ReadCall::Clear, Ok(&[])),
+            (ReadCall::Receive(0), Ok(&[])),
+            (ReadCall::Clear, Ok(&[])),
+        ],
         275,
         "17 IN 1.2 / DATA0 AABBCC / ACK
 274 SETUP 1.0 / DATA0 0201000082000000 / ACK
@@ -298,7 +370,11 @@ fn a_pipe_writes(rt: HostRuntime) -> Result<(), Fail> {
         let mut bus = ready(alloc, kind, 10_000, hits)?;
         let mut pipe = pipe_to(ep, max, false);
         'calls: for (call, answer) in calls {
-            assert_eq!(rt; written(&bytes, &mut bus, &mut pipe, *call), *answer, "{lines}");
+            assert_eq!(rt;
+                written(&bytes, &mut bus, &mut pipe, *call),
+                *answer,
+                "{lines}"
+            );
         }
         assert_eq!(rt; bus.attempts(), attempts, "{lines}");
         assert_eq!(rt; told(alloc, bus, 17)?.as_str(), lines);

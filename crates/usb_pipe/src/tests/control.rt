@@ -197,17 +197,53 @@ const STALLED_SET_CONFIG: &str = "plug 1 fn
 const ROWS: [Row; 13] = [
     (Kind::Function, &[], None, 16, FUNCTION),
     (Kind::Function, &[(1, 2, Harm::Flip(0))], None, 17, FLIPPED),
-    (Kind::Function, &[(1, 2, Harm::Flip(88))], None, 16, FUNCTION),
+    (
+        Kind::Function,
+        &[(1, 2, Harm::Flip(88))],
+        None,
+        16,
+        FUNCTION,
+    ),
     (Kind::Low, &[], None, 21, LOW),
     (Kind::Low, &[(8, 3, Harm::Lose)], None, 22, LOW_ACK_LOST),
-    (Kind::Low, &[(9, 3, Harm::Lose)], None, 21, LOW_LAST_ACK_LOST),
+    (
+        Kind::Low,
+        &[(9, 3, Harm::Lose)],
+        None,
+        21,
+        LOW_LAST_ACK_LOST,
+    ),
     (Kind::Naks, &[], None, 1216, NAKS),
     (Kind::Busy, &[], Some(PipeFault::Busy), 257, BUSY),
     (Kind::Silent, &[], Some(PipeFault::NoAnswer), 3, SILENT),
-    (Kind::RefusesDevice, &[], Some(PipeFault::Stalled), 2, STALLED_DEVICE),
-    (Kind::RefusesAddress, &[], Some(PipeFault::Stalled), 5, STALLED_ADDRESS),
-    (Kind::RefusesConfiguration, &[], Some(PipeFault::Stalled), 10, STALLED_CONFIG),
-    (Kind::RefusesSetConfiguration, &[], Some(PipeFault::Stalled), 16, STALLED_SET_CONFIG),
+    (
+        Kind::RefusesDevice,
+        &[],
+        Some(PipeFault::Stalled),
+        2,
+        STALLED_DEVICE,
+    ),
+    (
+        Kind::RefusesAddress,
+        &[],
+        Some(PipeFault::Stalled),
+        5,
+        STALLED_ADDRESS,
+    ),
+    (
+        Kind::RefusesConfiguration,
+        &[],
+        Some(PipeFault::Stalled),
+        10,
+        STALLED_CONFIG,
+    ),
+    (
+        Kind::RefusesSetConfiguration,
+        &[],
+        Some(PipeFault::Stalled),
+        16,
+        STALLED_SET_CONFIG,
+    ),
 ];
 
 #[test]
@@ -235,94 +271,274 @@ fn a_device_is_made_ready(rt: HostRuntime) -> Result<(), Fail> {
 /// A damaged packet of GET_DESCRIPTOR or SET_CONFIGURATION, how many attempts are made in all, and the lines of the
 /// attempt and the next one.
 const DAMAGES: [(u64, u8, Harm, u64, &str); 30] = [
-    (6, 1, Harm::Lose, 17, "6 SETUP 1.0 [lost] / DATA0 8006000100001200 / none
+    (
+        6,
+        1,
+        Harm::Lose,
+        17,
+        "6 SETUP 1.0 [lost] / DATA0 8006000100001200 / none
 7 SETUP 1.0 / DATA0 8006000100001200 / ACK
-"),
-    (6, 1, Harm::Flip(7), 17, "6 SETUP 1.0 [bit 7] / DATA0 8006000100001200 / none
+",
+    ),
+    (
+        6,
+        1,
+        Harm::Flip(7),
+        17,
+        "6 SETUP 1.0 [bit 7] / DATA0 8006000100001200 / none
 7 SETUP 1.0 / DATA0 8006000100001200 / ACK
-"),
-    (6, 2, Harm::Lose, 17, "6 SETUP 1.0 / DATA0 8006000100001200 [lost] / none
+",
+    ),
+    (
+        6,
+        2,
+        Harm::Lose,
+        17,
+        "6 SETUP 1.0 / DATA0 8006000100001200 [lost] / none
 7 SETUP 1.0 / DATA0 8006000100001200 / ACK
-"),
-    (6, 2, Harm::Flip(7), 17, "6 SETUP 1.0 / DATA0 8006000100001200 [bit 7] / none
+",
+    ),
+    (
+        6,
+        2,
+        Harm::Flip(7),
+        17,
+        "6 SETUP 1.0 / DATA0 8006000100001200 [bit 7] / none
 7 SETUP 1.0 / DATA0 8006000100001200 / ACK
-"),
-    (6, 3, Harm::Lose, 17, "6 SETUP 1.0 / DATA0 8006000100001200 / ACK [lost]
+",
+    ),
+    (
+        6,
+        3,
+        Harm::Lose,
+        17,
+        "6 SETUP 1.0 / DATA0 8006000100001200 / ACK [lost]
 7 SETUP 1.0 / DATA0 8006000100001200 / ACK
-"),
-    (6, 3, Harm::Flip(7), 17, "6 SETUP 1.0 / DATA0 8006000100001200 / ACK [bit 7]
+",
+    ),
+    (
+        6,
+        3,
+        Harm::Flip(7),
+        17,
+        "6 SETUP 1.0 / DATA0 8006000100001200 / ACK [bit 7]
 7 SETUP 1.0 / DATA0 8006000100001200 / ACK
-"),
-    (7, 1, Harm::Lose, 17, "7 IN 1.0 [lost] / none
+",
+    ),
+    (
+        7,
+        1,
+        Harm::Lose,
+        17,
+        "7 IN 1.0 [lost] / none
 8 IN 1.0 / DATA1 120100020000004034127856000100000001 / ACK
-"),
-    (7, 1, Harm::Flip(7), 17, "7 IN 1.0 [bit 7] / none
+",
+    ),
+    (
+        7,
+        1,
+        Harm::Flip(7),
+        17,
+        "7 IN 1.0 [bit 7] / none
 8 IN 1.0 / DATA1 120100020000004034127856000100000001 / ACK
-"),
-    (7, 2, Harm::Lose, 17, "7 IN 1.0 / DATA1 120100020000004034127856000100000001 [lost]
+",
+    ),
+    (
+        7,
+        2,
+        Harm::Lose,
+        17,
+        "7 IN 1.0 / DATA1 120100020000004034127856000100000001 [lost]
 8 IN 1.0 / DATA1 120100020000004034127856000100000001 / ACK
-"),
-    (7, 2, Harm::Flip(7), 17, "7 IN 1.0 / DATA1 120100020000004034127856000100000001 [bit 7]
+",
+    ),
+    (
+        7,
+        2,
+        Harm::Flip(7),
+        17,
+        "7 IN 1.0 / DATA1 120100020000004034127856000100000001 [bit 7]
 8 IN 1.0 / DATA1 120100020000004034127856000100000001 / ACK
-"),
-    (7, 3, Harm::Lose, 16, "7 IN 1.0 / DATA1 120100020000004034127856000100000001 / ACK [lost]
+",
+    ),
+    (
+        7,
+        3,
+        Harm::Lose,
+        16,
+        "7 IN 1.0 / DATA1 120100020000004034127856000100000001 / ACK [lost]
 8 OUT 1.0 / DATA1 - / ACK
-"),
-    (7, 3, Harm::Flip(7), 16, "7 IN 1.0 / DATA1 120100020000004034127856000100000001 / ACK [bit 7]
+",
+    ),
+    (
+        7,
+        3,
+        Harm::Flip(7),
+        16,
+        "7 IN 1.0 / DATA1 120100020000004034127856000100000001 / ACK [bit 7]
 8 OUT 1.0 / DATA1 - / ACK
-"),
-    (8, 1, Harm::Lose, 17, "8 OUT 1.0 [lost] / DATA1 - / none
+",
+    ),
+    (
+        8,
+        1,
+        Harm::Lose,
+        17,
+        "8 OUT 1.0 [lost] / DATA1 - / none
 9 OUT 1.0 / DATA1 - / ACK
-"),
-    (8, 1, Harm::Flip(7), 17, "8 OUT 1.0 [bit 7] / DATA1 - / none
+",
+    ),
+    (
+        8,
+        1,
+        Harm::Flip(7),
+        17,
+        "8 OUT 1.0 [bit 7] / DATA1 - / none
 9 OUT 1.0 / DATA1 - / ACK
-"),
-    (8, 2, Harm::Lose, 17, "8 OUT 1.0 / DATA1 - [lost] / none
+",
+    ),
+    (
+        8,
+        2,
+        Harm::Lose,
+        17,
+        "8 OUT 1.0 / DATA1 - [lost] / none
 9 OUT 1.0 / DATA1 - / ACK
-"),
-    (8, 2, Harm::Flip(7), 17, "8 OUT 1.0 / DATA1 - [bit 7] / none
+",
+    ),
+    (
+        8,
+        2,
+        Harm::Flip(7),
+        17,
+        "8 OUT 1.0 / DATA1 - [bit 7] / none
 9 OUT 1.0 / DATA1 - / ACK
-"),
-    (8, 3, Harm::Lose, 17, "8 OUT 1.0 / DATA1 - / ACK [lost]
+",
+    ),
+    (
+        8,
+        3,
+        Harm::Lose,
+        17,
+        "8 OUT 1.0 / DATA1 - / ACK [lost]
 9 OUT 1.0 / DATA1 - / ACK
-"),
-    (8, 3, Harm::Flip(7), 17, "8 OUT 1.0 / DATA1 - / ACK [bit 7]
+",
+    ),
+    (
+        8,
+        3,
+        Harm::Flip(7),
+        17,
+        "8 OUT 1.0 / DATA1 - / ACK [bit 7]
 9 OUT 1.0 / DATA1 - / ACK
-"),
-    (15, 1, Harm::Lose, 17, "15 SETUP 1.0 [lost] / DATA0 0009010000000000 / none
+",
+    ),
+    (
+        15,
+        1,
+        Harm::Lose,
+        17,
+        "15 SETUP 1.0 [lost] / DATA0 0009010000000000 / none
 16 SETUP 1.0 / DATA0 0009010000000000 / ACK
-"),
-    (15, 1, Harm::Flip(7), 17, "15 SETUP 1.0 [bit 7] / DATA0 0009010000000000 / none
+",
+    ),
+    (
+        15,
+        1,
+        Harm::Flip(7),
+        17,
+        "15 SETUP 1.0 [bit 7] / DATA0 0009010000000000 / none
 16 SETUP 1.0 / DATA0 0009010000000000 / ACK
-"),
-    (15, 2, Harm::Lose, 17, "15 SETUP 1.0 / DATA0 0009010000000000 [lost] / none
+",
+    ),
+    (
+        15,
+        2,
+        Harm::Lose,
+        17,
+        "15 SETUP 1.0 / DATA0 0009010000000000 [lost] / none
 16 SETUP 1.0 / DATA0 0009010000000000 / ACK
-"),
-    (15, 2, Harm::Flip(7), 17, "15 SETUP 1.0 / DATA0 0009010000000000 [bit 7] / none
+",
+    ),
+    (
+        15,
+        2,
+        Harm::Flip(7),
+        17,
+        "15 SETUP 1.0 / DATA0 0009010000000000 [bit 7] / none
 16 SETUP 1.0 / DATA0 0009010000000000 / ACK
-"),
-    (15, 3, Harm::Lose, 17, "15 SETUP 1.0 / DATA0 0009010000000000 / ACK [lost]
+",
+    ),
+    (
+        15,
+        3,
+        Harm::Lose,
+        17,
+        "15 SETUP 1.0 / DATA0 0009010000000000 / ACK [lost]
 16 SETUP 1.0 / DATA0 0009010000000000 / ACK
-"),
-    (15, 3, Harm::Flip(7), 17, "15 SETUP 1.0 / DATA0 0009010000000000 / ACK [bit 7]
+",
+    ),
+    (
+        15,
+        3,
+        Harm::Flip(7),
+        17,
+        "15 SETUP 1.0 / DATA0 0009010000000000 / ACK [bit 7]
 16 SETUP 1.0 / DATA0 0009010000000000 / ACK
-"),
-    (16, 1, Harm::Lose, 17, "16 IN 1.0 [lost] / none
+",
+    ),
+    (
+        16,
+        1,
+        Harm::Lose,
+        17,
+        "16 IN 1.0 [lost] / none
 17 IN 1.0 / DATA1 - / ACK
-"),
-    (16, 1, Harm::Flip(7), 17, "16 IN 1.0 [bit 7] / none
+",
+    ),
+    (
+        16,
+        1,
+        Harm::Flip(7),
+        17,
+        "16 IN 1.0 [bit 7] / none
 17 IN 1.0 / DATA1 - / ACK
-"),
-    (16, 2, Harm::Lose, 17, "16 IN 1.0 / DATA1 - [lost]
+",
+    ),
+    (
+        16,
+        2,
+        Harm::Lose,
+        17,
+        "16 IN 1.0 / DATA1 - [lost]
 17 IN 1.0 / DATA1 - / ACK
-"),
-    (16, 2, Harm::Flip(7), 17, "16 IN 1.0 / DATA1 - [bit 7]
+",
+    ),
+    (
+        16,
+        2,
+        Harm::Flip(7),
+        17,
+        "16 IN 1.0 / DATA1 - [bit 7]
 17 IN 1.0 / DATA1 - / ACK
-"),
-    (16, 3, Harm::Lose, 16, "16 IN 1.0 / DATA1 - / ACK [lost]
-"),
-    (16, 3, Harm::Flip(7), 16, "16 IN 1.0 / DATA1 - / ACK [bit 7]
-"),
+",
+    ),
+    (
+        16,
+        3,
+        Harm::Lose,
+        16,
+        "16 IN 1.0 / DATA1 - / ACK [lost]
+",
+    ),
+    (
+        16,
+        3,
+        Harm::Flip(7),
+        16,
+        "16 IN 1.0 / DATA1 - / ACK [bit 7]
+",
+    ),
 ];
 
 #[test]

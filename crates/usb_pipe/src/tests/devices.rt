@@ -43,9 +43,7 @@ pub(super) const LOW_DEVICE: [u8; 18] = [
     0x12, 1, 0x10, 1, 0, 0, 0, 8, 0x34, 0x12, 1, 0, 0, 1, 0, 0, 0, 1,
 ];
 
-const HUB_DEVICE: [u8; 18] = [
-    0x12, 1, 0, 2, 9, 0, 0, 0x40, 1, 0, 2, 0, 0, 1, 0, 0, 0, 1,
-];
+const HUB_DEVICE: [u8; 18] = [0x12, 1, 0, 2, 9, 0, 0, 0x40, 1, 0, 2, 0, 0, 1, 0, 0, 0, 1];
 
 /// One interface without endpoints.
 const CONFIGURATION: [u8; 18] = [
@@ -118,16 +116,33 @@ fn function<const D: usize, const C: usize>(
 }
 
 fn plain(alloc: Global) -> Result<DeviceSpec, AllocError> {
-    function(alloc, Name::new(String::from_str(alloc, "fn")?), DEVICE, CONFIGURATION)
+    function(
+        alloc,
+        Name::new(String::from_str(alloc, "fn")?),
+        DEVICE,
+        CONFIGURATION,
+    )
 }
 
 fn low(alloc: Global) -> Result<DeviceSpec, AllocError> {
-    Ok(function(alloc, Name::new(String::from_str(alloc, "low")?), LOW_DEVICE, CONFIGURATION)?.with_low_speed(true))
+    Ok(function(
+        alloc,
+        Name::new(String::from_str(alloc, "low")?),
+        LOW_DEVICE,
+        CONFIGURATION,
+    )?
+    .with_low_speed(true))
 }
 
 fn bulk(alloc: Global) -> Result<DeviceSpec, AllocError> {
     let source = Bytes::new(Vec::from_array(alloc, [0xaa, 0xbb, 0xcc])?);
-    Ok(function(alloc, Name::new(String::from_str(alloc, "bulk")?), DEVICE, BULK)?.with_source(source))
+    Ok(function(
+        alloc,
+        Name::new(String::from_str(alloc, "bulk")?),
+        DEVICE,
+        BULK,
+    )?
+    .with_source(source))
 }
 
 fn small_bulk(alloc: Global) -> Result<DeviceSpec, AllocError> {
@@ -138,14 +153,26 @@ fn small_bulk(alloc: Global) -> Result<DeviceSpec, AllocError> {
         ],
     )?;
     let source = Bytes::new(source);
-    Ok(function(alloc, Name::new(String::from_str(alloc, "bulk")?), DEVICE, SMALL_BULK)?.with_source(source))
+    Ok(function(
+        alloc,
+        Name::new(String::from_str(alloc, "bulk")?),
+        DEVICE,
+        SMALL_BULK,
+    )?
+    .with_source(source))
 }
 
 /// A hub with two ports and its own power.
 pub(super) fn hub(alloc: Global) -> Result<DeviceSpec, AllocError>
     ensures { IfOk result (λ s. hub_ports s.hub ≡ 2) }
 {
-    let spec = function(alloc, Name::new(String::from_str(alloc, "hub2")?), HUB_DEVICE, HUB)?.with_self_powered(true);
+    let spec = function(
+        alloc,
+        Name::new(String::from_str(alloc, "hub2")?),
+        HUB_DEVICE,
+        HUB,
+    )?
+    .with_self_powered(true);
     Ok(spec.with_hub(HubSpec::usual(alloc, 2)?))
 }
 

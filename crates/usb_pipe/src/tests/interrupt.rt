@@ -103,10 +103,7 @@ fn ready_hub(alloc: Global, limit: u64, hits: &[Hit]) -> Result<SimBus<Vec<u8>>,
 }
 
 /// The byte that a poll answers.
-fn polled(
-    bus: &mut SimBus<Vec<u8>>,
-    pipe: &mut InterruptPipe,
-) -> Result<Option<u8>, PipeFault> {
+fn polled(bus: &mut SimBus<Vec<u8>>, pipe: &mut InterruptPipe) -> Result<Option<u8>, PipeFault> {
     match pipe.poll(bus)? {
         Some(packet) => Ok(packet.first().copied()),
         None => Ok(None),

@@ -167,7 +167,12 @@ pub(super) fn make_ready<B: Bus>(
     let unnamed = Target { addr: 0, ..target };
     control_none(bus, unnamed, Setup::set_address(1))?;
     let device = control_in(alloc, bus, target, Setup::get_device_descriptor(18))?;
-    let head = control_in(alloc, bus, target, Setup::get_configuration_descriptor(0, 9))?;
+    let head = control_in(
+        alloc,
+        bus,
+        target,
+        Setup::get_configuration_descriptor(0, 9),
+    )?;
     let total = match head.get(2) {
         Some(total) => u16::from(*total).max(1),
         None => 1,

@@ -1,7 +1,7 @@
-use Rattle.std.proofs.Common.{◌≡◌, ◌≤◌, ◌<◌, ◌+◌, ◌-◌, ◌++◌, take, length, arith, sym, ap, ◌∙◌, true, false, inl, inr}
+use Rattle.std.proofs.Common.{◌≡◌, ◌≤◌, ◌<◌, ◌+◌, ◌-◌, ◌++◌, take, length, arith, sym, ap, ◌∙◌, true, false}
 use Rattle.usb_pipe.specs.Control.{is_last}
 use Rattle.usb_pipe.proofs.DataStages.{onward_none, onward_more, data_ends, lost_ends, no_room_ends}
-use Rattle.usb_pipe.proofs.Stages.{Staged, staged_none, staged_more, kept_full, GoesOn, goes_on}
+use Rattle.usb_pipe.proofs.Stages.{staged_none, staged_more, kept_full, GoesOn, goes_on}
 use Rattle.usb_pipe.proofs.stage.data_stage.Goals as goal
 
 pub packets-init : goal.packets-init
