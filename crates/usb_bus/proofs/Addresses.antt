@@ -1,6 +1,5 @@
 -- IN and OUT change no address, where no device at theirs takes another.
-use Rattle.std.proofs.Common.{◌≡◌, ℕ, zero, suc, ◌+◌, ◌==◌, ◌&&◌, not, nat_lt, if◌then◌else◌, inl, inr, Bool, true, false, List, [], ◌∷◌, length, take, Option, None, Some, option_map, refl, ap, sym, subst, ◌∙◌, arith}
-use Rattle.std.proofs.lemmas.Bool.Decides.{nat_tests}
+use Rattle.std.proofs.Common.{◌≡◌, ℕ, zero, suc, ◌+◌, ◌==◌, ◌&&◌, not, nat_lt, if◌then◌else◌, inl, inr, Bool, true, false, List, [], ◌∷◌, length, take, Option, None, Some, option_map, refl, ap, sym, subst, ◌∙◌}
 use Rattle.usb_packet.specs.declared.Packet.{Packet}
 use Rattle.usb_packet.specs.declared.Packet.TheVariants.{Token, Payload, Ack, Sof, Nak, Stall, Pre}
 use Rattle.usb_packet.specs.declared.Toggle.{Toggle}
@@ -43,7 +42,7 @@ use Rattle.usb_bus.proofs.Booleans.{no, and_false}
 use Rattle.usb_bus.proofs.PacketLaws.{packet_state}
 use Rattle.usb_bus.proofs.PassLaws.{forgotten_state, calm_pass, token_out as token_calm_out, ack_out}
 use Rattle.usb_bus.proofs.OneDevice.{stands, state_stands, settled_memory}
-use Rattle.usb_bus.proofs.OneHolderMore.{ready_settled}
+use Rattle.usb_bus.proofs.OneHolderMore.{equal_same, ready_settled}
 use Rattle.usb_bus.proofs.Between.{settled_called, settled_happened, settled_ports}
 use Rattle.usb_bus.proofs.WorldLaws.{made_reach, goes}
 use Rattle.usb_bus.proofs.OwnLaws.{step_own, step_unshared}
@@ -155,15 +154,12 @@ IsInOrOut n (Whole (Token OutTok a e)) = a ≡ n
 IsInOrOut n Broken = Unit {0}
 IsInOrOut n (Whole p) = ⊥
 
-pub equal_is : (n x : ℕ) → (n == x) ≡ true → n ≡ x
-equal_is n x h = grind (arith, nat_tests)
-
 token_reply : (n : ℕ) (c : Content) → IsInOrOut n c → (s : State) (row : List PortState) → s.memory ≡ Nothing → Asked n s (reply_to c s row).1
 unfolding received unread IsInOrOut awaits_address
 token_reply n (Whole (Token InTok a e)) h s row m = heard s.spec.silent
   where
     own : (x : Bool) → (a == s.registers.address) ≡ x → Asked n s (if x then token_row (forgotten s) row InTok e else (None, forgotten s)).1
-    own true g = stayed_asked n s (token_row (forgotten s) row InTok e).1 (stays_token (forgotten s) refl row e) (sym (equal_is a s.registers.address g) ∙ h)
+    own true g = stayed_asked n s (token_row (forgotten s) row InTok e).1 (stays_token (forgotten s) refl row e) (sym (equal_same a s.registers.address g) ∙ h)
     own false g = rested_asked n s (forgotten s) refl
 
     heard : (x : Bool) → Asked n s (if x then (None, s) else answered (forgotten s) row s.memory (Token InTok a e)).1

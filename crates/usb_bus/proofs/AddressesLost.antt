@@ -16,7 +16,6 @@ use Rattle.usb_device.specs.Rows.{State, Reply, received, unread, forgotten, giv
 use Rattle.usb_device.specs.Attempt.{Way, whole, broken, lost, is_whole, through, heard, is_good}
 use Rattle.usb_device.specs.Tree.{Ports, ended, vacant, taken, Place, empty, full, row_of, reach_at, state_at, place_at}
 use Rattle.usb_device.specs.Delivery.{hears, reply_to, answer_of, has_loss}
-use Rattle.usb_device.proofs.Kept.{keeps-received}
 use Rattle.usb_bus.specs.declared.damage.Damage.{Damage}
 use Rattle.usb_bus.specs.declared.event.Event.{Event}
 use Rattle.usb_bus.specs.declared.types.Attempt.{Attempt}
@@ -24,7 +23,7 @@ use Rattle.usb_bus.specs.declared.wire.Mark.{Mark}
 use Rattle.usb_bus.specs.declared.wire.Mark.TheVariants as mark
 use Rattle.usb_bus.specs.declared.losses.Losses.{Losses}
 use Rattle.usb_bus.specs.Wire.{mark_of, harm_to, marked, marked_some}
-use Rattle.usb_bus.specs.Exchange.{token_of, payload_of, reply_of, sent_as, goes_out, token_out, payload_out, reply_in, heard_in, mark_in, place_of_answer, answered_in, readable, is_lost, lost_in, cleared_in}
+use Rattle.usb_bus.specs.Exchange.{token_of, reply_of, sent_as, goes_out, token_out, reply_in, heard_in, mark_in, place_of_answer, answered_in, readable, is_lost, lost_in, cleared_in}
 use Rattle.usb_bus.specs.Losses.{one_more, counted, after_clearing}
 use Rattle.usb_bus.specs.Touched.{resets_at, reset_if}
 use Rattle.usb_bus.specs.Passes.{passed, heard_state, deep_at, pass_resets}
@@ -36,10 +35,9 @@ use Rattle.usb_bus.proofs.Booleans.{no}
 use Rattle.usb_bus.proofs.PacketLaws.{packet_state}
 use Rattle.usb_bus.proofs.PassLaws.{calm_pass, ack_out, token_out as token_calm_out}
 use Rattle.usb_bus.proofs.OneDevice.{stands, state_stands}
-use Rattle.usb_bus.proofs.OneHolder.{token_is, none_is, its_address, asked_reply}
-use Rattle.usb_bus.proofs.OneHolderMore.{holder_in}
+use Rattle.usb_bus.proofs.OneHolder.{no_payload, through_spec, token_is, none_is, its_address, asked_reply}
+use Rattle.usb_bus.proofs.OneHolderMore.{made_is, holder_in}
 use Rattle.usb_bus.proofs.WorldLaws.{goes}
-use Rattle.usb_bus.proofs.AddressesTaken.{made_is}
 
 -- A device that gives its status stage
 
@@ -244,12 +242,6 @@ ack_missed l pre mark.PreLost k j p s u h =
     missed q k j p s (calm_pass (Some q) (ack_out (Some q) tt) k j p) (unheard_of (hears q (deep_at false p) s) u) h
 ack_missed l pre (mark.Flipped bit) k j p s u h = h
 
-through_spec : (w : Way) (s : State) (row : List PortState) (p : Packet) → (through w s row p).1.spec ≡ s.spec
-unfolding unread
-through_spec whole s row p = (keeps-received s row p).spec
-through_spec broken s row p = elim s.spec.silent as (λ x. (if x then s else forgotten s).spec ≡ s.spec) [ true ↦ refl | false ↦ refl ]
-through_spec lost s row p = refl
-
 -- One attempt
 
 ends_is : (u t e b x y : Bool) → u ≡ false → t ≡ true → e ≡ true → b ≡ false → x ≡ true → (not u && (t && (e && (not b && (x && y))))) ≡ y
@@ -259,10 +251,6 @@ some_marked : (d : Option Damage) (n : ℕ) (pre : Bool) (o : Option Packet) →
 unfolding marked_some
 some_marked d n pre None h = h
 some_marked d n pre (Some p) h = refl
-
-none_sent : (a : Attempt) (d : Option Damage) → payload_of a ≡ None → payload_out a d ≡ None
-unfolding marked_some
-none_sent a d e = ap (λ o. goes_out a (marked_some d 2 a.pre o)) e
 
 module _ (a : Attempt) (d : Option Damage) (k : Ports) (j : ℕ) (p : List ℕ) (b : PortState) (s : State) (below : Ports) (h : Holder a.addr k j p b s below) (into : IsIn a)
     (n : ℕ) (stage : s.stage ≡ ending (Some n)) (zeroth : a.ep ≡ 0) (unended : ends_status a d k (deep_at false p) s ≡ false) (went : is_some (reply_in a d k) ≡ true) where
@@ -302,7 +290,7 @@ module _ (a : Attempt) (d : Option Damage) (k : Ports) (j : ℕ) (p : List ℕ) 
   given : state_at (answered_in a d k) j p ≡ Some to_in.1
   unfolding marked
   given =
-      ap (λ o. state_at (passed o (passed (token_out a d) k)) j p) (none_sent a d (none_is a into.payload))
+      ap (λ o. state_at (passed o (passed (token_out a d) k)) j p) (no_payload a d (none_is a into.payload))
       ∙ token_state a.low a.pre (mark_of (harm_to d 1) a.pre (token_of a)) (token_of a) k j p b s below h.stands h.one.on
       (calm_pass (token_out a d) (token_calm_out a.addr (token_out a d) (goes a d k).token) k j p)
       ∙ ap (λ T. Some (through (token_way a d (deep_at false p) s) s (row_of below) T).1) of_token

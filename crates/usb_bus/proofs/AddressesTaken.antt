@@ -18,13 +18,13 @@ use Rattle.usb_bus.specs.Passes.{deep_at}
 use Rattle.usb_bus.specs.World.{World}
 use Rattle.usb_bus.specs.Steps.{ready, damage_in, with_attempt, attempt, after}
 use Rattle.usb_bus.specs.Courses.{Own}
-use Rattle.usb_bus.specs.OneHolder.{token_way, answer_way, reply_way, IsMade, IsIn, Holder, HolderIn}
+use Rattle.usb_bus.specs.OneHolder.{token_way, answer_way, reply_way, IsIn, Holder, HolderIn}
 use Rattle.usb_bus.specs.Addresses.{is_setup, after_taking, ends_status}
 use Rattle.usb_bus.proofs.Booleans.{no, decided}
 use Rattle.usb_bus.proofs.Holders.{one_path}
 use Rattle.usb_bus.proofs.WorldLaws.{made_reach}
-use Rattle.usb_bus.proofs.OneHolderMore.{holder_in, in_in, silent_in}
-use Rattle.usb_bus.proofs.Addresses.{equal_is, due_own, data_calm, ports_address}
+use Rattle.usb_bus.proofs.OneHolderMore.{made_is, holder_in, in_in, silent_in}
+use Rattle.usb_bus.proofs.Addresses.{due_own, data_calm, ports_address}
 use Rattle.usb_bus.proofs.AddressesReset.{self_number, self_path, same_is}
 
 -- The address after IN
@@ -105,17 +105,6 @@ module _ (s : State) (max : ℕ) (x y : Way) where
       by_token false = refl
 
 -- In a world
-
-unequal : (n x : ℕ) → (n ≡ x → ⊥) → (n == x) ≡ false
-unequal n x h = pick (decided (n == x))
-  where
-    pick : ((n == x) ≡ true) ⊎ ((n == x) ≡ false) → (n == x) ≡ false
-    pick (inl y) = elim (h (equal_is n x y)) [ ]
-    pick (inr y) = y
-
-pub made_is : (a : Attempt) (w : World) → IsMade a w → after (attempt a) w ≡ with_attempt a (ready w)
-unfolding after
-made_is a w m = rw (m.sound, unequal w.attempts w.limit m.within) refl
 
 module _ (a : Attempt) (w : World) (j : ℕ) (p : List ℕ) (b : PortState) (s : State) (below : Ports) (h : HolderIn a w j p b s below) (into : IsIn a) (n : ℕ) (stage : s.stage ≡ ending (Some n)) where
   abbrev k : Ports

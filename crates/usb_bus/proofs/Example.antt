@@ -1,5 +1,5 @@
 -- A run by hand: a function is plugged, its port powered and reset; it is read, and takes address 1 after the host's
--- first ACK of the status stage was lost.
+-- first ACK of the status stage was lost, or one of its bits was flipped.
 use Rattle.std.proofs.Common.{◌≡◌, ℕ, true, false, List, [], ◌∷◌, None, Some, refl}
 use Rattle.usb_packet.specs.declared.TokenKind.TheVariants.{OutTok, InTok, SetupTok}
 use Rattle.usb_packet.specs.declared.Toggle.TheVariants.{Zero, One as Data1}
@@ -14,7 +14,8 @@ use Rattle.usb_device.specs.Delivery.{answer_of, effect_of, after_packet, answer
 use Rattle.usb_device.specs.Bulk.{change_bits}
 use Rattle.usb_request.specs.Layout.{setup_of}
 use Rattle.usb_port.specs.PortState.{status_of}
-use Rattle.usb_bus.specs.declared.damage.Harm.TheVariants.{Lose}
+use Rattle.usb_bus.specs.declared.damage.Harm.{Harm}
+use Rattle.usb_bus.specs.declared.damage.Harm.TheVariants.{Lose, Flip}
 use Rattle.usb_bus.specs.declared.event.Action.TheVariants.{Plug}
 use Rattle.usb_bus.specs.declared.types.Attempt.{Attempt}
 use Rattle.usb_bus.specs.declared.types.Outcome.TheVariants as got
@@ -29,8 +30,9 @@ use Rattle.usb_bus.specs.Courses.{address_at}
 abbrev thing : Spec
 thing = function (0x66 ∷ 0x6e ∷ []) (0x12 ∷ 1 ∷ 0 ∷ 2 ∷ 0 ∷ 0 ∷ 0 ∷ 0x40 ∷ 0x34 ∷ 0x12 ∷ 0x78 ∷ 0x56 ∷ 0 ∷ 1 ∷ 0 ∷ 0 ∷ 0 ∷ 1 ∷ []) ([])
 
-abbrev start : World
-start = record {
+-- the host's ACK of the status stage is damaged
+abbrev start : Harm → World
+start harm = record {
   roots = vacant (record { attached = Rattle.usb_port.specs.PortState.nothing; power = false; enable = false; connection_changed = false; enable_changed = false; reset_changed = false }) ended;
   devices = thing ∷ [];
   left = record { after = 0; action = Plug (1 ∷ []) 0 } ∷ [];
@@ -38,7 +40,7 @@ start = record {
   attempts = 0;
   attempts_then = 0;
   limit = 10000;
-  damages = record { attempt = 5; packet = 3; harm = Lose } ∷ [];
+  damages = record { attempt = 5; packet = 3; harm = harm } ∷ [];
   losses = no_losses;
   shared = false;
   fault = None;
@@ -53,24 +55,30 @@ sets_up bytes = record { kind = SetupTok; addr = 0; ep = 0; low = false; pre = f
 abbrev status_out : Attempt
 status_out = record { kind = OutTok; addr = 0; ep = 0; low = false; pre = false; max = 64; payload = Some (Data1, record { items = [] }) }
 
-abbrev plugged : World
-plugged = after (root_call SetReset 1) (after event (after (root_call SetPower 1) start))
+abbrev plugged : Harm → World
+plugged harm = after (root_call SetReset 1) (after event (after (root_call SetPower 1) (start harm)))
 
-abbrev set_up : World
-set_up = after (attempt (sets_up (0x80 ∷ 6 ∷ 0 ∷ 1 ∷ 0 ∷ 0 ∷ 8 ∷ 0 ∷ []))) plugged
+abbrev set_up : Harm → World
+set_up harm = after (attempt (sets_up (0x80 ∷ 6 ∷ 0 ∷ 1 ∷ 0 ∷ 0 ∷ 8 ∷ 0 ∷ []))) (plugged harm)
 
-abbrev read : World
-read = after (attempt status_out) (after (attempt asks_in) set_up)
+abbrev read : Harm → World
+read harm = after (attempt status_out) (after (attempt asks_in) (set_up harm))
 
-abbrev asked : World
-asked = after (attempt (sets_up (0 ∷ 5 ∷ 1 ∷ 0 ∷ 0 ∷ 0 ∷ 0 ∷ 0 ∷ []))) read
+abbrev asked : Harm → World
+asked harm = after (attempt (sets_up (0 ∷ 5 ∷ 1 ∷ 0 ∷ 0 ∷ 0 ∷ 0 ∷ 0 ∷ []))) (read harm)
 
-abbrev lost : World
-lost = after (attempt asks_in) asked
+abbrev lost : Harm → World
+lost harm = after (attempt asks_in) (asked harm)
 
-example : (pend plugged.roots (1 ∷ []) ≡ true) × (reach plugged.roots (1 ∷ []) ≡ true)
-    × (outcome_in asks_in set_up ≡ got.Payload Data1 (record { items = 0x12 ∷ 1 ∷ 0 ∷ 2 ∷ 0 ∷ 0 ∷ 0 ∷ 0x40 ∷ [] }))
-    × (address_at lost.roots (1 ∷ []) ≡ Some 0) × (lost.losses.all ≡ 1) × (lost.attempts ≡ 5)
-    × (address_at (after (attempt asks_in) lost).roots (1 ∷ []) ≡ Some 1)
+example : (pend (plugged Lose).roots (1 ∷ []) ≡ true) × (reach (plugged Lose).roots (1 ∷ []) ≡ true)
+    × (outcome_in asks_in (set_up Lose) ≡ got.Payload Data1 (record { items = 0x12 ∷ 1 ∷ 0 ∷ 2 ∷ 0 ∷ 0 ∷ 0 ∷ 0x40 ∷ [] }))
+    × (address_at (lost Lose).roots (1 ∷ []) ≡ Some 0) × ((lost Lose).losses.all ≡ 1) × ((lost Lose).attempts ≡ 5)
+    × (address_at (after (attempt asks_in) (lost Lose)).roots (1 ∷ []) ≡ Some 1)
 unfolding after took due_from ready with_attempt ports_in lost_in clears_change outcome_in marked marked_some mark_of harm_to damage_of bit_count is_read token_of payload_of answer_place answer_mark reply_of outcome_of one_more held is_twice has_loss reach_at pend_at state_at changed_at received unread fresh reset_state asks set_call clear_call answer_of effect_of after_packet answers all_forgotten change_bits setup_of status_of all_off outcome awaits_address
 example = (refl, refl, refl, refl, refl, refl, refl)
+
+flipped : (address_at (lost (Flip 0)).roots (1 ∷ []) ≡ Some 0) × ((lost (Flip 0)).losses.all ≡ 1) × ((lost (Flip 0)).attempts ≡ 5)
+    × (address_at (lost (Flip 8)).roots (1 ∷ []) ≡ Some 1) × ((lost (Flip 8)).losses.all ≡ 0)
+    × (address_at (after (attempt asks_in) (lost (Flip 0))).roots (1 ∷ []) ≡ Some 1)
+unfolding after took due_from ready with_attempt ports_in lost_in clears_change outcome_in marked marked_some mark_of harm_to damage_of bit_count is_read token_of payload_of answer_place answer_mark reply_of outcome_of one_more held is_twice has_loss reach_at pend_at state_at changed_at received unread fresh reset_state asks set_call clear_call answer_of effect_of after_packet answers all_forgotten change_bits setup_of status_of all_off outcome awaits_address
+flipped = (refl, refl, refl, refl, refl, refl)

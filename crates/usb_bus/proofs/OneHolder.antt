@@ -1,5 +1,5 @@
 -- An attempt, where one reachable device holds its address or none does.
-use Rattle.std.proofs.Common.{◌≡◌, ℕ, ◌+◌, ◌==◌, nat_le, nat_lt, ◌&&◌, if◌then◌else◌, Bool, true, false, List, [], ◌∷◌, ◌++◌, length, Option, None, Some, option_map, refl, ap, ap₂, sym, subst, ◌∙◌}
+use Rattle.std.proofs.Common.{◌≡◌, ℕ, ◌+◌, ◌==◌, nat_lt, ◌&&◌, if◌then◌else◌, Bool, true, false, List, [], ◌∷◌, ◌++◌, length, Option, None, Some, option_map, refl, ap, ap₂, sym, subst, ◌∙◌}
 use Rattle.std.proofs.lemmas.Option.{same_Some}
 use Rattle.arrayvec.specs.ArrayVec.{ArrayVec}
 use Rattle.usb_packet.specs.declared.Packet.{Packet}
@@ -12,7 +12,6 @@ use Rattle.usb_packet.specs.declared.TokenKind.TheVariants.{OutTok, InTok, Setup
 use Rattle.usb_port.specs.PortState.{PortState}
 use Rattle.usb_device.specs.declared.answer.Answer.{Answer}
 use Rattle.usb_device.specs.declared.answer.Answer.TheVariants as answer
-use Rattle.usb_device.specs.declared.delivery.Content.{Content}
 use Rattle.usb_device.specs.declared.delivery.Content.TheVariants as content
 use Rattle.usb_device.specs.declared.delivery.Sent.{Sent}
 use Rattle.usb_device.specs.declared.transfer.Memory.TheVariants as memory
@@ -21,24 +20,23 @@ use Rattle.usb_device.specs.Bulk.{is_same}
 use Rattle.usb_device.specs.Transfer.{Stage, idle, refused, reading, read, ending}
 use Rattle.usb_device.specs.Rows.{State, Reply, received, unread, forgotten, accepted, is_busy, nak_row, unless_busy, out_row, status_row, sink_row, sunk, out_bulk_row, bulk_of, data_row}
 use Rattle.usb_device.specs.Attempt.{Way, whole, broken, lost, is_whole, through, heard, is_good, sends, acked, setup_attempt, out_attempt, in_attempt, setup_law, out_law, in_law}
-use Rattle.usb_device.specs.Tree.{Ports, Place, full, acted, row_of, state_at, place_at}
-use Rattle.usb_device.specs.Delivery.{hears, is_heard, reply_to, answer_of, effect_of, after_packet, listed}
+use Rattle.usb_device.specs.Tree.{Ports, full, acted, row_of, state_at, place_at}
+use Rattle.usb_device.specs.Delivery.{is_heard, answer_of, effect_of, after_packet, listed}
 use Rattle.usb_device.proofs.Kept.{keeps-received}
 use Rattle.usb_device.proofs.Rows.{row_of-after}
-use Rattle.usb_device.proofs.Attempts.{setup_is, out_is, in_is, silent-stays, silent-unread}
+use Rattle.usb_device.proofs.Attempts.{setup_is, out_is, in_is}
 use Rattle.usb_bus.specs.declared.types.Attempt.{Attempt}
-use Rattle.usb_bus.specs.declared.types.Outcome.{Outcome}
 use Rattle.usb_bus.specs.declared.types.Outcome.TheVariants as outcome
 use Rattle.usb_bus.specs.declared.damage.Damage.{Damage}
 use Rattle.usb_bus.specs.declared.exchange.Heard.{Heard}
-use Rattle.usb_bus.specs.declared.exchange.Heard.TheVariants.{Nothing, One, Collision}
+use Rattle.usb_bus.specs.declared.exchange.Heard.TheVariants.{Nothing}
 use Rattle.usb_bus.specs.declared.wire.Mark.{Mark}
 use Rattle.usb_bus.specs.declared.wire.Mark.TheVariants as mark
 use Rattle.usb_bus.specs.Wire.{is_read, mark_of, harm_to, marked, marked_some}
 use Rattle.usb_bus.specs.Live.{address_of}
-use Rattle.usb_bus.specs.Exchange.{token_of, payload_of, reply_of, answer_mark, outcome_heard, outcome_of, sent_as, goes_out, heard_all, token_out, payload_out, reply_out, heard_in, mark_in, place_of_answer, ports_in}
+use Rattle.usb_bus.specs.Exchange.{token_of, payload_of, reply_of, outcome_heard, outcome_of, sent_as, goes_out, heard_all, token_out, payload_out, reply_out, heard_in, mark_in, place_of_answer, ports_in}
 use Rattle.usb_device.specs.View.{forgotten_place}
-use Rattle.usb_bus.specs.Passes.{passed, told, told_at, after_attempt, heard_by, passed_place, place_after, deep_at, IsSettled, NobodyHolds, OneHolds, OneActs}
+use Rattle.usb_bus.specs.Passes.{passed, told, told_at, heard_by, passed_place, place_after, deep_at, IsSettled, NobodyHolds, OneActs}
 use Rattle.usb_bus.specs.OneHolder.{content_way, way_to, way_back, got, token_way, payload_way, answer_way, reply_way, setup_alone, out_alone, in_alone, IsSetup, IsOut, IsIn, Holder, Exchanged}
 use Rattle.usb_bus.proofs.Booleans.{no}
 use Rattle.usb_bus.proofs.PassLaws.{CalmOut, token_out as token_calm}
@@ -85,7 +83,7 @@ module _ (deep : Bool) (b : PortState) where
   ports_by None s a = a
   ports_by (Some q) s a = acted (effect_of q deep s) (after_packet q true a)
 
-  passed_stands : (o : Option Sent) (s : State) (a : Ports) → passed_place o deep (full b s a) ≡ full b (heard_by o deep s (row_of a)).1 (ports_by o s a)
+  pub passed_stands : (o : Option Sent) (s : State) (a : Ports) → passed_place o deep (full b s a) ≡ full b (heard_by o deep s (row_of a)).1 (ports_by o s a)
   unfolding answer_of
   passed_stands None s a = refl
   passed_stands (Some q) s a = refl
@@ -108,7 +106,7 @@ comes l pre mark.PreLost p deep s row =
 comes l pre (mark.Flipped bit) p deep s row =
     elim (is_heard (record { low = l; pre = pre; content = content.Broken }) deep s.spec.low) as (λ x. ◌≡◌ {A = Reply} (if x then (None, unread s) else (None, s)) (through (if x then broken else lost) s row p)) [ true ↦ refl | false ↦ refl ]
 
-token_comes : (a : Attempt) (d : Option Damage) (deep : Bool) (s : State) (row : List PortState) → heard_by (token_out a d) deep s row ≡ through (token_way a d deep s) s row (token_of a)
+pub token_comes : (a : Attempt) (d : Option Damage) (deep : Bool) (s : State) (row : List PortState) → heard_by (token_out a d) deep s row ≡ through (token_way a d deep s) s row (token_of a)
 unfolding marked
 token_comes a d deep s row = comes a.low a.pre (mark_of (harm_to d 1) a.pre (token_of a)) (token_of a) deep s row
 
@@ -122,7 +120,7 @@ payload_comes : (a : Attempt) (d : Option Damage) (p : Packet) → payload_of a 
 payload_comes a d p e deep s row =
     subst (λ o. heard_by (goes_out a (marked_some d 2 a.pre o)) deep s row ≡ through (way_to deep s (goes_out a (marked_some d 2 a.pre o))) s row p) (sym e) (some_comes a d 2 p deep s row)
 
-no_payload : (a : Attempt) (d : Option Damage) → payload_of a ≡ None → payload_out a d ≡ None
+pub no_payload : (a : Attempt) (d : Option Damage) → payload_of a ≡ None → payload_out a d ≡ None
 unfolding marked_some
 no_payload a d e = ap (λ o. goes_out a (marked_some d 2 a.pre o)) e
 
@@ -138,13 +136,13 @@ reply_comes a d n o good deep s row e =
     base false = refl
 
 -- no packet changes what the device is
-through_spec : (w : Way) (s : State) (row : List PortState) (p : Packet) → (through w s row p).1.spec ≡ s.spec
+pub through_spec : (w : Way) (s : State) (row : List PortState) (p : Packet) → (through w s row p).1.spec ≡ s.spec
 unfolding unread
 through_spec whole s row p = (keeps-received s row p).spec
 through_spec broken s row p = elim s.spec.silent as (λ x. (if x then s else forgotten s).spec ≡ s.spec) [ true ↦ refl | false ↦ refl ]
 through_spec lost s row p = refl
 
-way_same : (deep : Bool) (o : Option Sent) (s r : State) → r.spec ≡ s.spec → way_to deep r o ≡ way_to deep s o
+pub way_same : (deep : Bool) (o : Option Sent) (s r : State) → r.spec ≡ s.spec → way_to deep r o ≡ way_to deep s o
 way_same deep None s r e = refl
 way_same deep (Some q) s r e = ap (λ x. if is_heard q deep x.low then content_way q.content else lost) e
 
@@ -234,7 +232,7 @@ module _ (a : Attempt) (d : Option Damage) (k : Ports) (j : ℕ) (p : List ℕ) 
   first_place : option_map (passed_place (token_out a d) is_deep) (place_at k j p) ≡ Some (full b first.1 first_below)
   first_place = ap (option_map (passed_place (token_out a d) is_deep)) h.stands ∙ ap (λ x. Some x) (passed_stands is_deep b (token_out a d) s below)
 
-  second_place : passed_place (payload_out a d) is_deep (full b first.1 first_below) ≡ full b second.1 second_below
+  pub second_place : passed_place (payload_out a d) is_deep (full b first.1 first_below) ≡ full b second.1 second_below
   second_place = passed_stands is_deep b (payload_out a d) first.1 first_below ∙ ap (λ r. full b (heard_by (payload_out a d) is_deep first.1 r).1 second_below) first_row
 
   first_told : told (token_out a d) k ≡ listed first.0 []
@@ -258,13 +256,13 @@ module _ (a : Attempt) (d : Option Damage) (k : Ports) (j : ℕ) (p : List ℕ) 
 
   -- SETUP and OUT: the token T is not answered, and X is not answered by data
   module _ (T X : Packet) (token_is : token_of a ≡ T) (payload_is : payload_of a ≡ Some X) (quiet : (w : Way) → (through w s own_row T).0 ≡ None) where
-    abbrev to_token : Reply
+    abbrev pub to_token : Reply
     to_token = through (token_way a d is_deep s) s own_row T
 
     abbrev to_data : Reply
     to_data = through (payload_way a d is_deep s) to_token.1 own_row X
 
-    first_sent : first ≡ to_token
+    pub first_sent : first ≡ to_token
     first_sent = token_comes a d is_deep s own_row ∙ ap (through (token_way a d is_deep s) s own_row) token_is
 
     second_sent : second ≡ to_data
@@ -332,7 +330,7 @@ pub token_is : (a : Attempt) (t : TokenKind) (n e : ℕ) → a.kind ≡ t → a.
 unfolding token_of
 token_is a t n e x y z = rw (x, y, z) refl
 
-data_is : (a : Attempt) (t : Toggle) (bytes : ArrayVec ℕ) → a.payload ≡ Some (t, bytes) → payload_of a ≡ Some (packet.Payload t bytes)
+pub data_is : (a : Attempt) (t : Toggle) (bytes : ArrayVec ℕ) → a.payload ≡ Some (t, bytes) → payload_of a ≡ Some (packet.Payload t bytes)
 unfolding payload_of
 data_is a t bytes e = rw e refl
 

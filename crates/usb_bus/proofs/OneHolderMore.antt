@@ -1,43 +1,40 @@
 -- A silent holder, attempts without damage, and the attempts of a world.
-use Rattle.std.proofs.Common.{◌≡◌, ℕ, suc, ◌+◌, ◌==◌, nat_le, nat_lt, ◌&&◌, ◌||◌, not, if◌then◌else◌, ◌⊎◌, inl, inr, Bool, true, false, List, [], ◌∷◌, ◌++◌, length, Option, None, Some, option_map, is_some, refl, ap, ap₂, sym, subst, ◌∙◌, arith}
+use Rattle.std.proofs.Common.{◌≡◌, ℕ, suc, ◌+◌, ◌==◌, ◌&&◌, if◌then◌else◌, ◌⊎◌, inl, inr, Bool, true, false, List, [], ◌∷◌, ◌++◌, Option, None, Some, option_map, is_some, refl, ap, ap₂, sym, subst, ◌∙◌, arith}
 use Rattle.std.proofs.lemmas.Bool.Decides.{nat_tests}
 use Rattle.arrayvec.specs.ArrayVec.{ArrayVec}
 use Rattle.usb_packet.specs.declared.Packet.{Packet}
 use Rattle.usb_packet.specs.declared.Packet.TheVariants.{Token}
 use Rattle.usb_packet.specs.declared.Packet.TheVariants as packet
 use Rattle.usb_packet.specs.declared.Toggle.{Toggle}
-use Rattle.usb_packet.specs.declared.TokenKind.TheVariants.{OutTok, InTok, SetupTok}
+use Rattle.usb_packet.specs.declared.TokenKind.TheVariants.{InTok}
 use Rattle.usb_port.specs.PortState.{PortState}
 use Rattle.usb_request.specs.Layout.{setup_of}
-use Rattle.usb_device.specs.declared.answer.Answer.{Answer}
 use Rattle.usb_device.specs.declared.answer.Answer.TheVariants as answer
 use Rattle.usb_device.specs.declared.delivery.Content.{Content}
 use Rattle.usb_device.specs.declared.delivery.Content.TheVariants as content
 use Rattle.usb_device.specs.declared.delivery.Sent.{Sent}
-use Rattle.usb_device.specs.Rows.{State, Reply, received, unread, forgotten, accepted, data_row}
-use Rattle.usb_device.specs.Attempt.{Way, whole, broken, lost, is_whole, through, heard, is_good, acked, in_attempt, setup_law, out_law, in_law}
-use Rattle.usb_device.specs.Tree.{Ports, Place, full, row_of, reach_at, state_at, place_at}
+use Rattle.usb_device.specs.Rows.{State, Reply, forgotten, accepted, data_row}
+use Rattle.usb_device.specs.Attempt.{Way, whole, lost, through, heard, is_good, acked, setup_law, out_law, in_law}
+use Rattle.usb_device.specs.Tree.{Ports, row_of, state_at}
 use Rattle.usb_device.specs.Delivery.{hears, reply_to, listed, held, is_twice}
 use Rattle.usb_device.proofs.Attempts.{silent-stays, silent-unread}
 use Rattle.usb_bus.specs.declared.types.Attempt.{Attempt}
-use Rattle.usb_bus.specs.declared.types.Outcome.TheVariants as outcome
-use Rattle.usb_bus.specs.declared.types.BusFault.{BusFault}
 use Rattle.usb_bus.specs.declared.types.BusFault.TheVariants.{LimitReached}
+use Rattle.usb_bus.specs.declared.types.Outcome.TheVariants as outcome
 use Rattle.usb_bus.specs.declared.damage.Damage.{Damage}
 use Rattle.usb_bus.specs.declared.event.Event.{Event}
 use Rattle.usb_bus.specs.declared.exchange.Heard.{Heard}
 use Rattle.usb_bus.specs.declared.exchange.Heard.TheVariants.{Nothing, One, Collision}
-use Rattle.usb_bus.specs.declared.wire.Mark.{Mark}
 use Rattle.usb_bus.specs.declared.wire.Mark.TheVariants as mark
-use Rattle.usb_bus.specs.Wire.{is_read, mark_of, harm_to, marked, marked_some}
+use Rattle.usb_bus.specs.Wire.{mark_of, harm_to, marked, marked_some}
 use Rattle.usb_bus.specs.Live.{address_of, same_number, same_path}
 use Rattle.usb_bus.specs.Touched.{reset_if}
-use Rattle.usb_bus.specs.Exchange.{token_of, payload_of, reply_of, answer_mark, outcome_of, goes_out, heard_all, token_out, payload_out, reply_in, reply_out, heard_in, mark_in, place_of_answer, ports_in}
-use Rattle.usb_bus.specs.Passes.{heard_by, deep_at, attempt_resets, IsSettled, NobodyHolds, OneHolds}
-use Rattle.usb_bus.specs.World.{World}
+use Rattle.usb_bus.specs.Exchange.{token_of, payload_of, reply_of, answer_mark, goes_out, heard_all, token_out, payload_out, reply_out, heard_in, mark_in, place_of_answer, ports_in}
+use Rattle.usb_bus.specs.Passes.{heard_by, deep_at, attempt_resets, IsSettled, NobodyHolds}
+use Rattle.usb_bus.specs.World.{World, Made}
 use Rattle.usb_bus.specs.Courses.{is_made, resets}
-use Rattle.usb_bus.specs.Steps.{is_due, took, due_from, ready, damage_in, with_attempt, attempted, outcome_in, attempt, after}
-use Rattle.usb_bus.specs.OneHolder.{content_way, way_to, way_back, got, token_way, payload_way, answer_way, reply_way, setup_alone, out_alone, in_alone, IsSetup, IsOut, IsIn, Holder, Exchanged, hears_attempt, AllWhole, IsMade, HolderIn, ExchangedIn}
+use Rattle.usb_bus.specs.Steps.{is_due, took, due_from, ready, damage_in, with_attempt, outcome_in, attempt, after}
+use Rattle.usb_bus.specs.OneHolder.{way_to, way_back, token_way, answer_way, reply_way, setup_alone, out_alone, in_alone, IsSetup, IsOut, IsIn, Holder, Exchanged, hears_attempt, AllWhole, IsMade, HolderIn, ExchangedIn}
 use Rattle.usb_bus.proofs.Booleans.{no, decided, neither}
 use Rattle.usb_bus.proofs.Between.{settled_happened}
 use Rattle.usb_bus.proofs.OneDevice.{stands, state_stands}
@@ -56,7 +53,7 @@ silent_heard (Some q) deep s row h =
 
 module _ (a : Attempt) (d : Option Damage) (k : Ports) (j : ℕ) (p : List ℕ) (b : PortState) (s : State) (below : Ports) (h : Holder a.addr k j p b s below) where
   module _ (silent : s.spec.silent ≡ true) where
-    first_silent : first a d k j p b s below h ≡ (None, s)
+    pub first_silent : first a d k j p b s below h ≡ (None, s)
     first_silent = silent_heard (token_out a d) (deep_at false p) s (row_of below) silent
 
     second_silent : second a d k j p b s below h ≡ (None, s)
@@ -183,7 +180,7 @@ pub ready_settled : (w : World) → IsSettled w.roots → IsSettled (ready w).ro
 unfolding ready
 ready_settled w h = due_settled w.left w h
 
-equal_same : (n x : ℕ) → (n == x) ≡ true → n ≡ x
+pub equal_same : (n x : ℕ) → (n == x) ≡ true → n ≡ x
 equal_same n x h = grind (arith, nat_tests)
 
 unequal : (n x : ℕ) → (n ≡ x → ⊥) → (n == x) ≡ false
@@ -193,9 +190,20 @@ unequal n x h = pick (decided (n == x))
     pick (inl y) = elim (h (equal_same n x y)) [ ]
     pick (inr y) = y
 
-made_is : (a : Attempt) (w : World) → IsMade a w → after (attempt a) w ≡ with_attempt a (ready w)
+pub made_is : (a : Attempt) (w : World) → IsMade a w → after (attempt a) w ≡ with_attempt a (ready w)
 unfolding after
 made_is a w m = rw (m.sound, unequal w.attempts w.limit m.within) refl
+
+same_test : (n x : ℕ) → n ≡ x → (n == x) ≡ true
+same_test n x h = grind (arith, nat_tests)
+
+at_limit : (a : Attempt) (w : World) → w.fault ≡ None → w.attempts ≡ w.limit → (after (attempt a) w).fault ≡ Some LimitReached
+unfolding after
+at_limit a w s e = rw (s, same_test w.attempts w.limit e) refl
+
+-- an attempt that ends well was made
+pub made_of : (a : Attempt) (w : World) → IsSettled w.roots → Made w (after (attempt a) w) → IsMade a w
+made_of a w h m = record { sound = m.sound; within = λ e. no (ap is_some (sym m.still ∙ at_limit a w m.sound e)); settled = h }
 
 made_true : (a : Attempt) (w : World) → IsMade a w → is_made w.fault w ≡ true
 made_true a w m = rw (m.sound, unequal w.attempts w.limit m.within) refl

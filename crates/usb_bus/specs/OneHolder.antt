@@ -1,5 +1,5 @@
 -- One reachable device holds the address of an attempt: the attempt is an exchange with that device alone.
-use Rattle.std.specs.Prelude.{◌≡◌, ℕ, nat_le, ◌&&◌, ◌||◌, not, if◌then◌else◌, Bool, true, false, List, [], ◌∷◌, length, Option, None, Some, is_some}
+use Rattle.std.specs.Prelude.{◌≡◌, ℕ, nat_le, ◌&&◌, ◌||◌, not, if◌then◌else◌, Bool, true, false, List, length, Option, None, Some, is_some}
 use Rattle.usb_packet.specs.declared.Toggle.{Toggle}
 use Rattle.usb_packet.specs.declared.Toggle.TheVariants.{Zero}
 use Rattle.usb_packet.specs.declared.TokenKind.TheVariants.{OutTok, InTok, SetupTok}
@@ -9,9 +9,13 @@ use Rattle.usb_device.specs.declared.answer.Answer.TheVariants as answer
 use Rattle.usb_device.specs.declared.delivery.Content.{Content}
 use Rattle.usb_device.specs.declared.delivery.Content.TheVariants as content
 use Rattle.usb_device.specs.declared.delivery.Sent.{Sent}
+use Rattle.usb_request.specs.Layout.{setup_of}
+use Rattle.usb_device.specs.declared.effect.Effect.{Effect}
+use Rattle.usb_device.specs.declared.effect.Effect.TheVariants.{Leaves}
+use Rattle.usb_device.specs.Effect.{asked_by_setup}
 use Rattle.usb_device.specs.Rows.{State, Reply}
-use Rattle.usb_device.specs.Attempt.{Way, whole, broken, lost, setup_law, out_law, in_law}
-use Rattle.usb_device.specs.Tree.{Ports, Place, full, row_of, reach_at, state_at, place_at}
+use Rattle.usb_device.specs.Attempt.{Way, whole, broken, lost, is_whole, setup_law, out_law, in_law}
+use Rattle.usb_device.specs.Tree.{Ports, full, reach_at, state_at, place_at}
 use Rattle.usb_device.specs.Delivery.{hears}
 use Rattle.usb_bus.specs.declared.types.Attempt.{Attempt}
 use Rattle.usb_bus.specs.declared.types.Outcome.{Outcome}
@@ -21,9 +25,9 @@ use Rattle.usb_bus.specs.declared.wire.Mark.{Mark}
 use Rattle.usb_bus.specs.declared.wire.Mark.TheVariants as mark
 use Rattle.usb_bus.specs.Live.{address_of}
 use Rattle.usb_bus.specs.Exchange.{token_out, payload_out, reply_in, reply_out, heard_in, mark_in, outcome_of, ports_in}
-use Rattle.usb_bus.specs.Passes.{deep_at, IsSettled, OneHolds}
+use Rattle.usb_bus.specs.Passes.{IsSettled, OneHolds}
 use Rattle.usb_bus.specs.World.{World}
-use Rattle.usb_bus.specs.Steps.{outcome_in, ready, damage_in, attempt, after}
+use Rattle.usb_bus.specs.Steps.{outcome_in, ready, attempt, after}
 
 -- how a packet of the host comes to a device: not at all where it does not go out, or the device does not hear it
 abbrev pub content_way : Content → Way
@@ -128,3 +132,21 @@ pub record HolderIn (a : Attempt) (w : World) (j : ℕ) (p : List ℕ) (b : Port
 pub record ExchangedIn (a : Attempt) (w : World) (j : ℕ) (p : List ℕ) (r : Reply) : Type 0 where
   pub outcome : outcome_in a w ≡ got a.max r.0
   pub state : state_at (after (attempt a) w).roots j p ≡ Some r.1
+
+-- one device that holds its address
+pub record SomeHolder (a : Attempt) (w : World) : Type 0 where
+  pub j : ℕ
+  pub p : List ℕ
+  pub b : PortState
+  pub s : State
+  pub below : Ports
+  pub holder : HolderIn a w j p b s below
+
+-- one that is not silent
+pub record Answerer (a : Attempt) (w : World) : Type 0 where
+  pub held : SomeHolder a w
+  pub loud : held.s.spec.silent ≡ false
+
+-- what SETUP makes the device ask of its ports: what the setup data say, where they are accepted
+abbrev pub setup_asked : Attempt → Option Damage → Bool → State → List ℕ → Effect
+setup_asked a damage deep s bytes = if is_whole (token_way a damage deep s) && is_whole (payload_way a damage deep s) then asked_by_setup s (setup_of bytes) else Leaves

@@ -10,7 +10,7 @@ use Rattle.usb_device.specs.Rows.{State, Reply}
 use Rattle.usb_device.specs.Attempt.{is_own}
 use Rattle.usb_device.specs.Tree.{Ports, Place, empty, full, acted, reach_at, state_at, place_at}
 use Rattle.usb_device.specs.Delivery.{answer_of, effect_of, listed, after_packet, answers, all_forgotten, held, is_twice, hears, reply_to}
-use Rattle.usb_device.specs.View.{forgotten_place}
+pub use Rattle.usb_device.specs.View.{forgotten_place}
 use Rattle.usb_bus.specs.Touched.{resets_at, packet_spares, reset_if}
 use Rattle.usb_bus.specs.Live.{address_of, same_number, same_path}
 

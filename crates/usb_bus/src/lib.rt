@@ -26,9 +26,9 @@ pub use damage::{Damage, Damages, Harm};
 pub use event::{Action, Due, Event, Events, SentBytes};
 pub use not_served::{NotServed, served};
 pub use one_holder::{
-    in_with_one_holder, nobody_is_asked, others_stay_or_are_reset, out_with_one_holder,
-    setup_with_one_holder, silent_holder_answers_nothing, undamaged_attempts,
-    undamaged_attempts_in_worlds,
+    in_with_one_holder, nobody_is_asked, one_device_answers, others_stay_or_are_reset,
+    out_with_one_holder, ports_of_the_holder, ports_of_the_holder_in_worlds, setup_with_one_holder,
+    silent_holder_answers_nothing, undamaged_attempts, undamaged_attempts_in_worlds,
 };
 pub use plan::Plan;
 pub use sim::SimBus;

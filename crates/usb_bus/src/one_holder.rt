@@ -1,14 +1,14 @@
 //! Laws of an attempt where one reachable device holds its address, or none does, for those who make attempts.
 //!
 //! Each call does nothing; what it ensures is for proofs to cite.
-ghost use Rattle.std.specs.Prelude.{◌≡◌, ℕ, suc, ◌&&◌, Bool, true, false, List, [], ◌∷◌, Option, None, Some};
+ghost use Rattle.std.specs.Prelude.{◌≡◌, ◌⊎◌, ℕ, suc, ◌&&◌, Bool, true, false, List, [], ◌∷◌, Option, None, Some};
 ghost use Rattle.usb_packet.specs.declared.Toggle.{Toggle};
 ghost use Rattle.usb_port.specs.PortState.{PortState};
 ghost use Rattle.usb_request.specs.Layout.{setup_of};
 ghost use Rattle.usb_device.specs.declared.answer.Answer.TheVariants.{Ack};
 ghost use Rattle.usb_device.specs.Rows.{State, accepted, data_row, forgotten};
 ghost use Rattle.usb_device.specs.Attempt.{whole, in_law};
-ghost use Rattle.usb_device.specs.Tree.{Ports, row_of, state_at};
+ghost use Rattle.usb_device.specs.Tree.{Ports, full, acted, row_of, state_at, place_at};
 ghost use Rattle.usb_bus.specs.declared.types.Attempt.{Attempt};
 ghost use Rattle.usb_bus.specs.declared.types.Outcome.TheVariants.{Nothing};
 ghost use Rattle.usb_bus.specs.declared.damage.Damage.{Damage};
@@ -16,10 +16,10 @@ ghost use Rattle.usb_bus.specs.Exchange.{heard_in, mark_in, outcome_of, ports_in
 ghost use Rattle.usb_bus.specs.Live.{same_number, same_path};
 ghost use Rattle.usb_bus.specs.Touched.{reset_if};
 ghost use Rattle.usb_bus.specs.Passes.{IsSettled, NobodyHolds, deep_at, attempt_resets};
-ghost use Rattle.usb_bus.specs.World.{World};
+ghost use Rattle.usb_bus.specs.World.{World, Made};
 ghost use Rattle.usb_bus.specs.Steps.{outcome_in, ready, damage_in, attempt, after};
 ghost use Rattle.usb_bus.specs.Courses.{resets};
-ghost use Rattle.usb_bus.specs.OneHolder.{Holder, Exchanged, IsSetup, IsOut, IsIn, setup_alone, out_alone, in_alone, hears_attempt, AllWhole, IsMade, HolderIn, ExchangedIn};
+ghost use Rattle.usb_bus.specs.OneHolder.{Holder, Exchanged, IsSetup, IsOut, IsIn, setup_alone, out_alone, in_alone, setup_asked, hears_attempt, AllWhole, IsMade, HolderIn, ExchangedIn, SomeHolder, Answerer};
 
 /// No reachable device holds the address: nothing is answered, and no device changes.
 pub fn nobody_is_asked()
@@ -99,4 +99,42 @@ pub fn undamaged_attempts_in_worlds()
     ensures into { (a : Attempt) (w : World) (j : ℕ) (p : List ℕ) (b : PortState) (s : State) (below : Ports) → HolderIn a w j p b s below
         → s.spec.silent ≡ false → hears_attempt a (deep_at false p) s ≡ true → damage_in w ≡ None → IsIn a
         → ExchangedIn a w j p (in_law s (row_of below) a.ep a.max whole whole whole) }
+{}
+
+/// Where no address is held twice, one device holds the address of an attempt or none does; so whatever the host gets
+/// comes from one device, which is not silent.
+pub fn one_device_answers()
+    // An attempt that ended well was made.
+    ensures made { (a : Attempt) (w : World) → IsSettled w.roots → Made w (after (attempt a) w) → IsMade a w }
+    ensures holder { (a : Attempt) (w : World) → IsMade a w → (after (attempt a) w).shared ≡ false → SomeHolder a w ⊎ NobodyHolds a.addr (ready w).roots }
+    ensures answerer { (a : Attempt) (w : World) → IsMade a w → (after (attempt a) w).shared ≡ false → (outcome_in a w ≡ Nothing → ⊥) → Answerer a w }
+{}
+
+/// The device that holds the address, with its ports: setup data that it accepts ask of them what the request says (11.24.2),
+/// and nothing else changes them or what is plugged below.
+pub fn ports_of_the_holder()
+    ensures setup { (a : Attempt) (d : Option Damage) (k : Ports) (j : ℕ) (p : List ℕ) (b : PortState) (s : State) (below : Ports) → Holder a.addr k j p b s below
+        → s.spec.silent ≡ false → (bytes : List ℕ) → IsSetup a bytes
+        → place_at (ports_in a d k) j p ≡ Some (full b (setup_alone a d k (deep_at false p) s (row_of below) bytes).1 (acted (setup_asked a d (deep_at false p) s bytes) below)) }
+    ensures out { (a : Attempt) (d : Option Damage) (k : Ports) (j : ℕ) (p : List ℕ) (b : PortState) (s : State) (below : Ports) → Holder a.addr k j p b s below
+        → s.spec.silent ≡ false → (t : Toggle) (bytes : List ℕ) → IsOut a t bytes
+        → place_at (ports_in a d k) j p ≡ Some (full b (out_alone a d k (deep_at false p) s t bytes).1 below) }
+    ensures into { (a : Attempt) (d : Option Damage) (k : Ports) (j : ℕ) (p : List ℕ) (b : PortState) (s : State) (below : Ports) → Holder a.addr k j p b s below
+        → s.spec.silent ≡ false → IsIn a → place_at (ports_in a d k) j p ≡ Some (full b (in_alone a d k (deep_at false p) s (row_of below)).1 below) }
+    ensures silent { (a : Attempt) (d : Option Damage) (k : Ports) (j : ℕ) (p : List ℕ) (b : PortState) (s : State) (below : Ports) → Holder a.addr k j p b s below
+        → s.spec.silent ≡ true → place_at (ports_in a d k) j p ≡ Some (full b s below) }
+{}
+
+/// The same after an attempt of a world.
+pub fn ports_of_the_holder_in_worlds()
+    ensures setup { (a : Attempt) (w : World) (j : ℕ) (p : List ℕ) (b : PortState) (s : State) (below : Ports) → HolderIn a w j p b s below
+        → s.spec.silent ≡ false → (bytes : List ℕ) → IsSetup a bytes
+        → place_at (after (attempt a) w).roots j p ≡ Some (full b (setup_alone a (damage_in (ready w)) (ready w).roots (deep_at false p) s (row_of below) bytes).1 (acted (setup_asked a (damage_in (ready w)) (deep_at false p) s bytes) below)) }
+    ensures out { (a : Attempt) (w : World) (j : ℕ) (p : List ℕ) (b : PortState) (s : State) (below : Ports) → HolderIn a w j p b s below
+        → s.spec.silent ≡ false → (t : Toggle) (bytes : List ℕ) → IsOut a t bytes
+        → place_at (after (attempt a) w).roots j p ≡ Some (full b (out_alone a (damage_in (ready w)) (ready w).roots (deep_at false p) s t bytes).1 below) }
+    ensures into { (a : Attempt) (w : World) (j : ℕ) (p : List ℕ) (b : PortState) (s : State) (below : Ports) → HolderIn a w j p b s below
+        → s.spec.silent ≡ false → IsIn a → place_at (after (attempt a) w).roots j p ≡ Some (full b (in_alone a (damage_in (ready w)) (ready w).roots (deep_at false p) s (row_of below)).1 below) }
+    ensures silent { (a : Attempt) (w : World) (j : ℕ) (p : List ℕ) (b : PortState) (s : State) (below : Ports) → HolderIn a w j p b s below
+        → s.spec.silent ≡ true → place_at (after (attempt a) w).roots j p ≡ Some (full b s below) }
 {}

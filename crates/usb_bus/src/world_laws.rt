@@ -13,6 +13,7 @@ ghost use Rattle.usb_bus.specs.Touched.{IsNew, call_resets, call_spares, resets_
 ghost use Rattle.usb_bus.specs.Sane.{IsSane, IsSanePlace, open_at};
 ghost use Rattle.usb_bus.specs.Passes.{passed, told, after_attempt, heard_place, heard_state, deep_at, IsAttemptAt, attempt_resets, attempt_spares, IsSettled, NobodyHolds, OneHolds, OneActs};
 ghost use Rattle.usb_bus.specs.World.{World};
+ghost use Rattle.usb_bus.specs.Holding.{Found};
 ghost use Rattle.usb_bus.specs.PlanData.{PlanData};
 ghost use Rattle.usb_bus.specs.Steps.{Step, AnyStep, Course, IsBetween, after, opening};
 ghost use Rattle.usb_bus.specs.Courses.{Undisturbed, Reached, NoReset, Spares, Keeps, Quiet, Injective, Own, IsHarmlessOut, resets};
@@ -86,6 +87,8 @@ pub fn holder_laws()
         → reach_at k j q ≡ true → option_map address_of (state_at k j q) ≡ Some n
         → (i ≡ j) × (p ≡ q) }
     ensures two { (k : Ports) → is_twice (held k) ≡ true → Two k }
+    // A reachable device holds an address, or none does.
+    ensures found { (n : ℕ) (k : Ports) → Found n k ⊎ NobodyHolds n k }
 {}
 
 /// An attempt: a token for an address, the host's data or none, and its ACK or none, each as it goes out.

@@ -40,6 +40,15 @@ fn descriptors_are_given(rt: HostRuntime) -> Result<(), Fail> {
         (Step::In(0), "DATA1 0902120001020080320904000000FF000000"),
         (Step::Asks(0, &[0x80, 6, 2, 2, 0, 0, 255, 0]), ""),
         (Step::In(0), "STALL"),
+    ];
+    assert!(rt; passes(rt.alloc(), Kind::Texts, &steps)?);
+    Ok(())
+}
+
+/// A string is given whatever its language.
+#[test]
+fn strings_are_given(rt: HostRuntime) -> Result<(), Fail> {
+    let steps = [
         (Step::Asks(0, &[0x80, 6, 0, 3, 0, 0, 255, 0]), ""),
         (Step::In(0), "DATA1 04030904"),
         (Step::Asks(0, GET_STRING_1), ""),
