@@ -1,7 +1,5 @@
 -- IN and OUT change no address, where no device at theirs takes another.
-use Rattle.std.proofs.Common.{◌≡◌, ℕ, zero, suc, ◌+◌, ◌==◌, ◌&&◌, ◌||◌, not, nat_lt, if◌then◌else◌, ◌⊎◌, inl, inr, Bool, true, false, List, [], ◌∷◌, length, take, Option, None, Some, option_map, refl, ap, sym, subst, ◌∙◌, arith}
-use Rattle.std.proofs.lemmas.Bool.Decides.{nat_tests}
-use Rattle.arrayvec.specs.ArrayVec.{ArrayVec}
+use Rattle.std.proofs.Common.{◌≡◌, ℕ, zero, suc, ◌+◌, ◌==◌, ◌&&◌, not, nat_lt, if◌then◌else◌, inl, inr, Bool, true, false, List, [], ◌∷◌, length, take, Option, None, Some, option_map, refl, ap, sym, subst, ◌∙◌}
 use Rattle.usb_packet.specs.declared.Packet.{Packet}
 use Rattle.usb_packet.specs.declared.Packet.TheVariants.{Token, Payload, Ack, Sof, Nak, Stall, Pre}
 use Rattle.usb_packet.specs.declared.Toggle.{Toggle}
@@ -13,19 +11,16 @@ use Rattle.usb_device.specs.declared.answer.Answer.TheVariants as answer
 use Rattle.usb_device.specs.declared.delivery.Content.{Content}
 use Rattle.usb_device.specs.declared.delivery.Content.TheVariants.{Whole, Broken}
 use Rattle.usb_device.specs.declared.delivery.Sent.{Sent}
-use Rattle.usb_device.specs.declared.effect.Effect.{Effect}
 use Rattle.usb_device.specs.declared.effect.Effect.TheVariants.{Leaves}
-use Rattle.usb_device.specs.declared.transfer.Giver.{Giver}
 use Rattle.usb_device.specs.declared.transfer.Giver.TheVariants as by
 use Rattle.usb_device.specs.declared.transfer.Memory.{Memory}
 use Rattle.usb_device.specs.declared.transfer.Memory.TheVariants.{Nothing, SetupSeen, OutSeen, AckAwaited}
 use Rattle.usb_device.specs.Bulk.{is_same, tells_changes, change_bits}
 use Rattle.usb_device.specs.Transfer.{Stage, idle, refused, reading, read, ending, max_packet, packet_at, toggle_at}
-use Rattle.usb_device.specs.Rows.{State, Reply, received, unread, forgotten, answered, gives, is_busy, nak_row, unless_busy, in_row, out_row, status_row, ack_row, source_row, in_bulk_row, in_other_row, changes_row, held_row, new_changes_row, sink_row, sunk, out_bulk_row, bulk_ack_row, bulk_of, rest_of, token_row, payload_row, after_memory, awaits_control, ends_with_address, awaits_address}
-use Rattle.usb_device.specs.Kept.{is_ack}
+use Rattle.usb_device.specs.Rows.{State, Reply, received, unread, forgotten, answered, gives, is_busy, nak_row, unless_busy, in_row, out_row, status_row, ack_row, source_row, in_bulk_row, in_other_row, changes_row, held_row, sink_row, sunk, out_bulk_row, bulk_ack_row, bulk_of, rest_of, token_row, payload_row, after_memory, awaits_control, ends_with_address, awaits_address}
 use Rattle.usb_device.specs.Effect.{asks, asked_by_data}
-use Rattle.usb_device.specs.Tree.{Ports, ended, vacant, taken, Place, empty, full, row_of, reach, reach_at, state_at, place_at}
-use Rattle.usb_device.specs.Delivery.{hears, reply_to, answer_of, asked_by, effect_of, after_packet}
+use Rattle.usb_device.specs.Tree.{Ports, ended, vacant, taken, Place, empty, full, row_of, reach_at, state_at, place_at}
+use Rattle.usb_device.specs.Delivery.{hears, reply_to, answer_of, asked_by, effect_of}
 use Rattle.usb_device.proofs.Kept.{keeps-received}
 use Rattle.usb_bus.specs.declared.damage.Damage.{Damage}
 use Rattle.usb_bus.specs.declared.event.Event.{Event}
@@ -38,18 +33,18 @@ use Rattle.usb_bus.specs.Wire.{mark_of, harm_to, marked}
 use Rattle.usb_bus.specs.Exchange.{token_of, sent_as, token_out, payload_out, reply_out, ports_in}
 use Rattle.usb_bus.specs.Live.{address_of}
 use Rattle.usb_bus.specs.Touched.{resets_at, reset_if}
-use Rattle.usb_bus.specs.Passes.{passed, after_attempt, heard_state, deep_at, pass_resets, attempt_resets, IsTokenFor, IsDataOut, IsAckOut, IfOut, IsSettled}
+use Rattle.usb_bus.specs.Passes.{passed, heard_state, deep_at, pass_resets, attempt_resets, IsDataOut, IfOut, IsSettled}
 use Rattle.usb_bus.specs.World.{World}
 use Rattle.usb_bus.specs.Steps.{is_due, took, took_first, event_taken, due_from, ready, damage_in, with_attempt, attempted, Step, attempt, root_call, event, report, after, Course, here, step}
-use Rattle.usb_bus.specs.Courses.{is_made, made_resets, resets, address_at, Own, Injective}
+use Rattle.usb_bus.specs.Courses.{resets, Own, Injective}
 use Rattle.usb_bus.specs.Addresses.{is_setup, NoneTakes, MovesData, GivesNoAddress}
-use Rattle.usb_bus.proofs.Booleans.{no, and_false, and_of}
+use Rattle.usb_bus.proofs.Booleans.{no, and_false}
 use Rattle.usb_bus.proofs.PacketLaws.{packet_state}
 use Rattle.usb_bus.proofs.PassLaws.{forgotten_state, calm_pass, token_out as token_calm_out, ack_out}
 use Rattle.usb_bus.proofs.OneDevice.{stands, state_stands, settled_memory}
-use Rattle.usb_bus.proofs.OneHolderMore.{ready_settled}
+use Rattle.usb_bus.proofs.OneHolderMore.{equal_same, ready_settled}
 use Rattle.usb_bus.proofs.Between.{settled_called, settled_happened, settled_ports}
-use Rattle.usb_bus.proofs.WorldLaws.{due_reach, unreset_reach, made_reach, goes}
+use Rattle.usb_bus.proofs.WorldLaws.{made_reach, goes}
 use Rattle.usb_bus.proofs.OwnLaws.{step_own, step_unshared}
 
 -- What is so of a device, where one stands there
@@ -159,15 +154,12 @@ IsInOrOut n (Whole (Token OutTok a e)) = a ≡ n
 IsInOrOut n Broken = Unit {0}
 IsInOrOut n (Whole p) = ⊥
 
-pub equal_is : (n x : ℕ) → (n == x) ≡ true → n ≡ x
-equal_is n x h = grind (arith, nat_tests)
-
 token_reply : (n : ℕ) (c : Content) → IsInOrOut n c → (s : State) (row : List PortState) → s.memory ≡ Nothing → Asked n s (reply_to c s row).1
 unfolding received unread IsInOrOut awaits_address
 token_reply n (Whole (Token InTok a e)) h s row m = heard s.spec.silent
   where
     own : (x : Bool) → (a == s.registers.address) ≡ x → Asked n s (if x then token_row (forgotten s) row InTok e else (None, forgotten s)).1
-    own true g = stayed_asked n s (token_row (forgotten s) row InTok e).1 (stays_token (forgotten s) refl row e) (sym (equal_is a s.registers.address g) ∙ h)
+    own true g = stayed_asked n s (token_row (forgotten s) row InTok e).1 (stays_token (forgotten s) refl row e) (sym (equal_same a s.registers.address g) ∙ h)
     own false g = rested_asked n s (forgotten s) refl
 
     heard : (x : Bool) → Asked n s (if x then (None, s) else answered (forgotten s) row s.memory (Token InTok a e)).1

@@ -3,7 +3,7 @@ use Rattle.std.proofs.Common.{◌≡◌, ℕ, zero, suc, ◌&&◌, if◌then◌e
 use Rattle.usb_device.specs.declared.calls.PortCall.{PortCall}
 use Rattle.usb_device.specs.declared.calls.PortCall.TheVariants.{SetReset}
 use Rattle.usb_device.specs.Rows.{State}
-use Rattle.usb_device.specs.Tree.{Ports, ended, vacant, taken, all_off, Place, empty, full, called, changed_at, reach_at, state_at, place_at}
+use Rattle.usb_device.specs.Tree.{Ports, ended, vacant, taken, Place, empty, full, called, changed_at, reach_at, state_at, place_at}
 use Rattle.usb_bus.specs.Live.{address_of, same_number, same_path, is_way}
 use Rattle.usb_bus.specs.Touched.{IsNew, takes_reset, call_resets, reset_if}
 use Rattle.usb_bus.specs.World.{World}

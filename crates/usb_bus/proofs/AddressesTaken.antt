@@ -1,35 +1,31 @@
 -- The device that ends its status stage takes its address at the host's ACK.
-use Rattle.std.proofs.Common.{◌≡◌, ℕ, zero, suc, ◌+◌, ◌==◌, nat_le, ◌&&◌, ◌||◌, not, if◌then◌else◌, ◌⊎◌, inl, inr, Bool, true, false, List, [], ◌∷◌, length, take, Option, None, Some, option_map, is_some, refl, ap, ap₂, sym, subst, ◌∙◌, arith}
+use Rattle.std.proofs.Common.{◌≡◌, ℕ, zero, suc, ◌==◌, nat_le, ◌&&◌, not, if◌then◌else◌, ◌⊎◌, inl, inr, Bool, true, false, List, [], ◌∷◌, length, take, Option, None, Some, option_map, refl, ap, ap₂, sym, ◌∙◌, arith}
 use Rattle.std.proofs.lemmas.Bool.Decides.{nat_tests}
-use Rattle.std.proofs.lemmas.Option.{same_Some}
 use Rattle.usb_packet.specs.declared.Toggle.{Toggle}
-use Rattle.usb_packet.specs.declared.Toggle.TheVariants.{One as Data1}
-use Rattle.usb_packet.specs.declared.TokenKind.TheVariants.{OutTok, InTok, SetupTok}
 use Rattle.usb_port.specs.PortState.{PortState}
 use Rattle.usb_device.specs.declared.answer.Answer.TheVariants as answer
 use Rattle.usb_device.specs.declared.transfer.Giver.{Giver}
 use Rattle.usb_device.specs.declared.transfer.Giver.TheVariants as by
 use Rattle.usb_device.specs.Bulk.{tells_changes, change_bits}
-use Rattle.usb_device.specs.Transfer.{Stage, idle, refused, reading, read, ending}
+use Rattle.usb_device.specs.Transfer.{Stage, ending}
 use Rattle.usb_device.specs.Rows.{State, Reply, forgotten, is_busy, nak_row, bulk_of, bulk_ack_row, rest_of, acknowledged, ends_with_address}
-use Rattle.usb_device.specs.Attempt.{Way, is_whole, heard, gave, in_law, in_stage_law, in_control_law, in_other_law, in_bulk_law, source_law, changes_law, held_law, new_changes_law}
-use Rattle.usb_device.specs.Tree.{Ports, row_of, reach, reach_at, state_at}
-use Rattle.usb_device.specs.Delivery.{held, is_twice}
+use Rattle.usb_device.specs.Attempt.{Way, is_whole, heard, gave, in_law, in_stage_law, in_control_law, in_other_law, in_bulk_law, source_law, changes_law, held_law}
+use Rattle.usb_device.specs.Tree.{Ports, row_of, reach_at, state_at}
+use Rattle.usb_device.specs.Delivery.{held}
 use Rattle.usb_bus.specs.declared.types.Attempt.{Attempt}
-use Rattle.usb_bus.specs.Exchange.{ports_in}
 use Rattle.usb_bus.specs.Live.{address_of, same_number, same_path}
-use Rattle.usb_bus.specs.Passes.{deep_at, IsSettled, OneHolds}
+use Rattle.usb_bus.specs.Passes.{deep_at}
 use Rattle.usb_bus.specs.World.{World}
 use Rattle.usb_bus.specs.Steps.{ready, damage_in, with_attempt, attempt, after}
 use Rattle.usb_bus.specs.Courses.{Own}
-use Rattle.usb_bus.specs.OneHolder.{token_way, answer_way, reply_way, IsMade, IsIn, Holder, HolderIn, in_alone}
+use Rattle.usb_bus.specs.OneHolder.{token_way, answer_way, reply_way, IsIn, Holder, HolderIn}
 use Rattle.usb_bus.specs.Addresses.{is_setup, after_taking, ends_status}
 use Rattle.usb_bus.proofs.Booleans.{no, decided}
 use Rattle.usb_bus.proofs.Holders.{one_path}
 use Rattle.usb_bus.proofs.WorldLaws.{made_reach}
-use Rattle.usb_bus.proofs.OneHolderMore.{holder_in, in_in, silent_in}
-use Rattle.usb_bus.proofs.Addresses.{equal_is, due_own, data_calm, ports_address}
-use Rattle.usb_bus.proofs.AddressesReset.{is_same, self_number, self_path, same_is}
+use Rattle.usb_bus.proofs.OneHolderMore.{made_is, holder_in, in_in, silent_in}
+use Rattle.usb_bus.proofs.Addresses.{due_own, data_calm, ports_address}
+use Rattle.usb_bus.proofs.AddressesReset.{self_number, self_path, same_is}
 
 -- The address after IN
 
@@ -109,17 +105,6 @@ module _ (s : State) (max : ℕ) (x y : Way) where
       by_token false = refl
 
 -- In a world
-
-unequal : (n x : ℕ) → (n ≡ x → ⊥) → (n == x) ≡ false
-unequal n x h = pick (decided (n == x))
-  where
-    pick : ((n == x) ≡ true) ⊎ ((n == x) ≡ false) → (n == x) ≡ false
-    pick (inl y) = elim (h (equal_is n x y)) [ ]
-    pick (inr y) = y
-
-made_is : (a : Attempt) (w : World) → IsMade a w → after (attempt a) w ≡ with_attempt a (ready w)
-unfolding after
-made_is a w m = rw (m.sound, unequal w.attempts w.limit m.within) refl
 
 module _ (a : Attempt) (w : World) (j : ℕ) (p : List ℕ) (b : PortState) (s : State) (below : Ports) (h : HolderIn a w j p b s below) (into : IsIn a) (n : ℕ) (stage : s.stage ≡ ending (Some n)) where
   abbrev k : Ports

@@ -1,13 +1,14 @@
 //! Laws of the addresses that devices hold (9.4.6), for those who make attempts.
 //!
 //! Each call does nothing; what it ensures is for proofs to cite.
-ghost use Rattle.std.specs.Prelude.{◌≡◌, ℕ, suc, true, false, List, [], ◌∷◌, Option, Some};
+ghost use Rattle.std.specs.Prelude.{◌≡◌, ℕ, suc, ◌+◌, true, false, List, [], ◌∷◌, Option, Some, is_some};
 ghost use Rattle.usb_port.specs.PortState.{PortState};
 ghost use Rattle.usb_device.specs.Rows.{State};
 ghost use Rattle.usb_device.specs.Transfer.{ending};
 ghost use Rattle.usb_device.specs.Tree.{Ports};
 ghost use Rattle.usb_device.specs.declared.calls.PortCall.TheVariants.{SetReset};
 ghost use Rattle.usb_bus.specs.declared.types.Attempt.{Attempt};
+ghost use Rattle.usb_bus.specs.Exchange.{reply_in};
 ghost use Rattle.usb_bus.specs.Live.{is_way, same_path};
 ghost use Rattle.usb_bus.specs.Passes.{deep_at, IsSettled};
 ghost use Rattle.usb_bus.specs.World.{World};
@@ -52,4 +53,12 @@ pub fn set_address_takes_effect_at_its_ack()
         → (f : List ℕ → Option ℕ) → Own f w → Own f (after (attempt a) w) }
     // Where no other device has the new address, the addresses are still distinct.
     ensures distinct { (f : List ℕ → Option ℕ) (p : List ℕ) (n : ℕ) → Injective f → ((q : List ℕ) → f q ≡ Some n → same_path p q ≡ true) → Injective (after_taking f p n) }
+{}
+
+/// Where the host's ACK of such a status stage goes out and does not come to the device, one loss more is counted.
+pub fn lost_status_ack_is_counted()
+    ensures { (a : Attempt) (w : World) (j : ℕ) (p : List ℕ) (b : PortState) (s : State) (below : Ports) → HolderIn a w j p b s below
+        → IsIn a → (n : ℕ) → s.stage ≡ ending (Some n) → a.ep ≡ 0
+        → ends_status a (damage_in (ready w)) (ready w).roots (deep_at false p) s ≡ false → is_some (reply_in a (damage_in (ready w)) (ready w).roots) ≡ true
+        → (after (attempt a) w).losses.all ≡ w.losses.all + 1 }
 {}

@@ -18,8 +18,8 @@ mod wire;
 mod world_laws;
 
 pub use address_laws::{
-    control_courses_keep_addresses, data_attempts_keep_addresses, root_reset_gives_address_zero,
-    set_address_takes_effect_at_its_ack,
+    control_courses_keep_addresses, data_attempts_keep_addresses, lost_status_ack_is_counted,
+    root_reset_gives_address_zero, set_address_takes_effect_at_its_ack,
 };
 pub use bus::Bus;
 pub use damage::{Damage, Damages, Harm};
