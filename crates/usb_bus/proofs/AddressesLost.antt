@@ -114,11 +114,11 @@ module _ (max : ℕ) (x : Way) where
         let h3 : Good control.0 = subst (λ b. Good (if b then control else in_other_row (forgotten s) row e).0) endpoint h2 in
         let busy : is_busy s ≡ false = not_first (is_busy s) (nak_row (forgotten s)) status nak_bad h3 in
         let is : loud ≡ gives (forgotten s) by.Control Data1 [] =
-            ap (λ b. if b then (None, s) else own) silent
-            ∙ ap (λ b. if b then asked else (None, forgotten s)) mine
-            ∙ ap (λ b. if b then control else in_other_row (forgotten s) row e) endpoint
-            ∙ ap (λ b. if b then nak_row (forgotten s) else status) busy
-            ∙ ap (in_row (forgotten s)) stage in
+        ap (λ b. if b then (None, s) else own) silent
+        ∙ ap (λ b. if b then asked else (None, forgotten s)) mine
+        ∙ ap (λ b. if b then control else in_other_row (forgotten s) row e) endpoint
+        ∙ ap (λ b. if b then nak_row (forgotten s) else status) busy
+        ∙ ap (in_row (forgotten s)) stage in
         record {
           silent = silent;
           token = refl;
@@ -342,5 +342,5 @@ unfolding with_attempt ready
 lost_counted a w j p b s below h into n stage zeroth unended went =
     ap (λ v. v.losses.all) (made_is a w h.made)
     ∙ counted_all (lost_in a (damage_in (ready w)) (ready w).roots) (cleared_in a (damage_in (ready w)) (ready w).roots) (ready w).losses
-      (is_loss a (damage_in (ready w)) (ready w).roots j p b s below (holder_in a w j p b s below h) into n stage zeroth unended went)
+    (is_loss a (damage_in (ready w)) (ready w).roots j p b s below (holder_in a w j p b s below h) into n stage zeroth unended went)
     ∙ ap (λ l. l.all + 1) (due_losses w.left w)

@@ -1,5 +1,13 @@
 use crate::{
-    attempt_at_laws, call_laws, control_courses_keep_addresses, data_attempts_keep_addresses, event_laws, events_are_pending, harmless_requests, holder_laws, in_with_one_holder, lost_status_ack_is_counted, nobody_is_asked, one_device_answers, others_stay_or_are_reset, out_with_one_holder, packet_laws, pending_stays, ports_of_the_holder, ports_of_the_holder_in_worlds, quiet_courses_keep_addresses, reachable_is_the_same, reset_makes_new, reset_makes_reachable, root_reset_gives_address_zero, sane_laws, set_address_takes_effect_at_its_ack, setup_with_one_holder, silent_holder_answers_nothing, steps_keep_what_is_between, undamaged_attempts, undamaged_attempts_in_worlds, what_is_heard_of_the_holder,
+    attempt_at_laws, call_laws, control_courses_keep_addresses, data_attempts_keep_addresses,
+    event_laws, events_are_pending, harmless_requests, holder_laws, in_with_one_holder,
+    lost_status_ack_is_counted, nobody_is_asked, one_device_answers, others_stay_or_are_reset,
+    out_with_one_holder, packet_laws, pending_stays, ports_of_the_holder,
+    ports_of_the_holder_in_worlds, quiet_courses_keep_addresses, reachable_is_the_same,
+    reset_makes_new, reset_makes_reachable, root_reset_gives_address_zero, sane_laws,
+    set_address_takes_effect_at_its_ack, setup_with_one_holder, silent_holder_answers_nothing,
+    steps_keep_what_is_between, undamaged_attempts, undamaged_attempts_in_worlds,
+    what_is_heard_of_the_holder,
 };
 
 /// The laws are there to be cited; calling them does nothing.
