@@ -373,10 +373,10 @@ fn a_pipe_writes(rt: HostRuntime) -> Result<(), Fail> {
             assert_eq!(rt;
                 written(&bytes, &mut bus, &mut pipe, *call),
                 *answer,
-                "{lines}"
+                "{attempts}"
             );
         }
-        assert_eq!(rt; bus.attempts(), attempts, "{lines}");
+        assert_eq!(rt; bus.attempts(), attempts, "{attempts}");
         assert_eq!(rt; told(alloc, bus, 17)?.as_str(), lines);
     }
     Ok(())
@@ -390,11 +390,11 @@ fn a_pipe_reads(rt: HostRuntime) -> Result<(), Fail> {
         let mut pipe = pipe_to(ep, max, true);
         'calls: for (call, answer) in calls {
             match read_from(alloc, &mut bus, &mut pipe, *call) {
-                Ok(bytes) => assert_eq!(rt; Ok(bytes.as_slice()), *answer, "{lines}"),
-                Err(fault) => assert_eq!(rt; Err(fault), *answer, "{lines}"),
+                Ok(bytes) => assert_eq!(rt; Ok(bytes.as_slice()), *answer, "{attempts}"),
+                Err(fault) => assert_eq!(rt; Err(fault), *answer, "{attempts}"),
             }
         }
-        assert_eq!(rt; bus.attempts(), attempts, "{lines}");
+        assert_eq!(rt; bus.attempts(), attempts, "{attempts}");
         assert_eq!(rt; told(alloc, bus, 17)?.as_str(), lines);
     }
     Ok(())
