@@ -24,7 +24,7 @@ made_step a w made = whole ∙ split (w.attempts == w.limit) (ap (λ v. v.fault)
     split true e = absurd (cc e)
     split false e = refl
 
-course_then : {K : Step → World → Type 0} {w v : World} (s : Step) → Course K w v → K s v → Course K w (after s v)
+pub course_then : {K : Step → World → Type 0} {w v : World} (s : Step) → Course K w v → K s v → Course K w (after s v)
 course_then s (here w) k = step s k (here (after s w))
 course_then s (step t {w} {v} l c) k = step t l (course_then s c k)
 

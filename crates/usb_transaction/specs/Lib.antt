@@ -1,3 +1,4 @@
 pub mod Heard
 pub mod Trans
 pub mod Trail
+pub mod Meaning

@@ -12,6 +12,7 @@ mod attempt;
 mod done;
 mod fault;
 mod heard;
+mod meaning;
 mod poll;
 mod read;
 mod set_up;
@@ -21,6 +22,7 @@ mod write;
 
 pub use done::Done;
 pub use fault::TransFault;
+pub use meaning::{what_data_in_tells, what_data_out_tells, what_setup_tells};
 pub use poll::poll_in;
 pub use read::data_in;
 pub use set_up::setup;
