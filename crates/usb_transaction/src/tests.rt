@@ -361,3 +361,11 @@ fn faults_as_printed(rt: HostRuntime) -> Result<(), Fail> {
     }
     Ok(())
 }
+
+/// The laws are there to be cited; calling them does nothing.
+#[test]
+fn laws_are_called() {
+    what_setup_tells();
+    what_data_in_tells();
+    what_data_out_tells();
+}
