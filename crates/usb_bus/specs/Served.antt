@@ -1,4 +1,4 @@
--- What of a plan a simulated bus serves.
+-- Which plans are served: those of functions at root ports.
 use Rattle.std.specs.Prelude.{ℕ, ◌+◌, List, length, Bool, true, false, ◌&&◌, ◌==◌, not, Option, None, Some, Result, Ok, Err, position, slice_get}
 use Rattle.usb_device.specs.Spec.{Spec}
 use Rattle.usb_bus.specs.declared.event.Event.{Event}

@@ -1,4 +1,4 @@
-//! What of a plan a simulated bus serves.
+//! Which plans are served: those of functions at root ports.
 ghost use Rattle.std.specs.Prelude.{◌≡◌};
 ghost use Rattle.usb_bus.specs.Served.{is_hub, is_function_at, is_served, first_not_served, served_of};
 
@@ -58,9 +58,8 @@ fn first_not_served(devices: &[DeviceSpec], events: &[Event]) -> Option<usize>
         .position(|event| !is_served(devices, &event.action))
 }
 
-/// Whether a simulated bus can run the plan. An error: the first event that it can't.
-///
-/// Everything is served but hubs, and what is plugged to them.
+/// Whether all that the plan plugs and unplugs is functions at root ports, which is what a host that knows no hubs can
+/// find. A simulated bus itself takes any plan. An error: the first event that is not so.
 #[tactic(auto, unfolding(crate::specs::Served::served_of))]
 pub fn served(plan: &Plan) -> Result<(), NotServed>
     ensures { result ≡ served_of plan.now }
