@@ -9,6 +9,7 @@ use Rattle.usb_bus.specs.declared.types.BusFault.{BusFault}
 use Rattle.usb_bus.specs.declared.types.Outcome.{Outcome}
 use Rattle.usb_bus.specs.declared.types.Outcome.TheVariants.{Payload, Ack, Nak, Stall, Nothing}
 use Rattle.usb_bus.specs.World.{World, Made, Attempted}
+use Rattle.usb_bus.specs.Passes.{IsSettled}
 use Rattle.usb_bus.specs.Steps.{attempt, after, outcome_in, AttemptFails}
 use Rattle.usb_transaction.specs.declared.heard.Heard.{Heard}
 use Rattle.usb_transaction.specs.declared.heard.Heard.TheVariants.{Moved, NotReady, Repeat, Refused, Lost}
@@ -81,6 +82,10 @@ going_wait {hear} {a} {o} h errors waits on none more calm g one is = record {
 
     waited : waits_with (hear o) (waits_in hear g.outcomes) ≡ waits + 1
     waited = ap (λ x. waits_with x (waits_in hear g.outcomes)) (sym is) ∙ more (waits_in hear g.outcomes) ∙ ap (λ n. n + 1) g.waited
+
+-- if a later world of the call remembers nothing, so did the first; each attempt tells it of the world before it
+abbrev pub SettledSince : World → World → Type 0
+SettledSince old now = IsSettled now.roots → IsSettled old.roots
 
 -- Ends
 
@@ -207,6 +212,10 @@ set_up_moved Nothing e = cc
 -- after n attempts none of which was acknowledged
 abbrev pub SetUpStands : Attempt → ℕ → World → World → Type 0
 SetUpStands a n old now = Tried n 0 old now × (n < 3 → Going set_up_as a n 0 old now) × (n ≡ 3 → Ended set_up_as a old (Err NoAnswer) now)
+
+-- and where attempts were made
+abbrev pub SetUpSettled : ℕ → World → World → Type 0
+SetUpSettled n old now = SettledSince old now × (0 < n → IsSettled old.roots)
 
 pub set_up_new : {a : Attempt} (w : World) → SetUpStands a 0 w w
 set_up_new w = (tried_none w, λ _. going_none w, λ e. absurd (omega (arith, e)))

@@ -1,6 +1,7 @@
 //! IN, where NAK is an answer.
 ghost use Rattle.std.specs.Prelude.{◌≡◌, ◌≤◌, ◌<◌, length, IfOk, IfSome};
 ghost use Rattle.usb_bus.specs.World.{Spends};
+ghost use Rattle.usb_bus.specs.Passes.{IsSettled};
 ghost use Rattle.usb_transaction.specs.Heard.{toggle_after};
 ghost use Rattle.usb_transaction.specs.Trail.{Polled};
 ghost use Rattle.usb_transaction.specs.Trans.{IsTarget, Ends, in_attempt};
@@ -32,6 +33,7 @@ pub fn poll_in<B: Bus>(
     ensures count { Spends 768 (B.world bus.old) (B.world bus.new) }
     ensures ends { Ends (B.world bus.old) result (B.world bus.new) }
     ensures heard { Polled toggle.old (in_attempt target ep) (B.world bus.old) result (B.world bus.new) }
+    ensures settled { IsSettled (B.world bus.old).roots }
     ensures short { IfOk result (λ got. IfSome got (λ done. length done ≤ target.max)) }
     ensures toggle { toggle.new ≡ toggle_after toggle.old result }
 {

@@ -1,6 +1,7 @@
 //! IN.
 ghost use Rattle.std.specs.Prelude.{◌≡◌, ◌≤◌, ◌<◌, length, IfOk, OnOk, OnErr};
 ghost use Rattle.usb_bus.specs.World.{Spends};
+ghost use Rattle.usb_bus.specs.Passes.{IsSettled};
 ghost use Rattle.usb_transaction.specs.Heard.{flip, heard_as};
 ghost use Rattle.usb_transaction.specs.Trail.{Transacted};
 ghost use Rattle.usb_transaction.specs.Trans.{IsTarget, Ends, in_attempt};
@@ -32,6 +33,7 @@ pub fn data_in<B: Bus>(
     ensures count { Spends 768 (B.world bus.old) (B.world bus.new) }
     ensures ends { Ends (B.world bus.old) result (B.world bus.new) }
     ensures heard { Transacted (heard_as toggle.old) (in_attempt target ep) (B.world bus.old) result (B.world bus.new) }
+    ensures settled { IsSettled (B.world bus.old).roots }
     ensures short { IfOk result (λ done. length done ≤ target.max) }
     ensures toggle_ok { OnOk result (toggle.new ≡ flip toggle.old) }
     ensures toggle_err { OnErr result (toggle.new ≡ toggle.old) }

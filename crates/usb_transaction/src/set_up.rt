@@ -1,6 +1,7 @@
 //! SETUP.
 ghost use Rattle.std.specs.Prelude.{◌≡◌, [], IfOk};
 ghost use Rattle.usb_bus.specs.World.{Spends};
+ghost use Rattle.usb_bus.specs.Passes.{IsSettled};
 ghost use Rattle.usb_transaction.specs.Heard.{set_up_as};
 ghost use Rattle.usb_transaction.specs.Trail.{Transacted};
 ghost use Rattle.usb_transaction.specs.Trans.{IsTarget, SetupEnds, setup_attempt};
@@ -21,6 +22,7 @@ pub fn setup<B: Bus>(bus: &mut B, target: Target, bytes: [u8; 8]) -> Result<Done
     ensures count { Spends 3 (B.world bus.old) (B.world bus.new) }
     ensures ends { SetupEnds (B.world bus.old) result (B.world bus.new) }
     ensures heard { Transacted set_up_as (setup_attempt target bytes) (B.world bus.old) result (B.world bus.new) }
+    ensures settled { IsSettled (B.world bus.old).roots }
     ensures nothing { IfOk result (λ done. done ≡ []) }
 {
     let attempt = attempt_of_setup(target, bytes);

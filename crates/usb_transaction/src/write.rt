@@ -1,6 +1,7 @@
 //! OUT.
 ghost use Rattle.std.specs.Prelude.{◌≡◌, ◌≤◌, ◌<◌, [], length, IfOk, OnOk, OnErr};
 ghost use Rattle.usb_bus.specs.World.{Spends};
+ghost use Rattle.usb_bus.specs.Passes.{IsSettled};
 ghost use Rattle.usb_transaction.specs.Heard.{flip, sent_as};
 ghost use Rattle.usb_transaction.specs.Trail.{Transacted};
 ghost use Rattle.usb_transaction.specs.Trans.{IsTarget, Ends, out_attempt};
@@ -34,6 +35,7 @@ pub fn data_out<B: Bus>(
     ensures count { Spends 768 (B.world bus.old) (B.world bus.new) }
     ensures ends { Ends (B.world bus.old) result (B.world bus.new) }
     ensures heard { Transacted sent_as (out_attempt target ep toggle.old bytes.now) (B.world bus.old) result (B.world bus.new) }
+    ensures settled { IsSettled (B.world bus.old).roots }
     ensures nothing { IfOk result (λ done. done ≡ []) }
     ensures toggle_ok { OnOk result (toggle.new ≡ flip toggle.old) }
     ensures toggle_err { OnErr result (toggle.new ≡ toggle.old) }

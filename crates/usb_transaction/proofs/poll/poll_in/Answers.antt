@@ -5,7 +5,7 @@ use Rattle.usb_transaction.proofs.Going.{once, poll_new, poll_error, poll_repeat
 use Rattle.usb_transaction.proofs.poll.poll_in.Goals as goal
 
 pub tries-init : goal.tries-init
-tries-init g c = (refl, poll_new c.new-tries.result _ c.new-tries.ensures)
+tries-init g c = (refl, poll_new c.new-tries.result _ c.new-tries.ensures, λ h. h)
 
 pub returns-in-Moved-clause-heard : goal.returns-in-Moved-clause-heard
 returns-in-Moved-clause-heard g c =
@@ -23,7 +23,7 @@ pub tries-preserved-in-Continue-1 : goal.tries-preserved-in-Continue-1
 tries-preserved-in-Continue-1 g c =
     let one = once c.attempt_of_in-attempt.ensures.value c.in-Ok.ensures.counts c.in-Ok.ensures.exact c.in-Ok.ensures.outcome in
     let awaited = ap (λ t. heard_as t c.in-Ok.outcome) c.tries.invariant.0 in
-    (c.tries.invariant.0, poll_repeat _ _ c.tries.invariant.1 one (c.in-Repeat.ensures ∙ awaited) c.wait.ensures.count c.in_ok-wait-in-Repeat.ensures.end)
+    (c.tries.invariant.0, poll_repeat _ _ c.tries.invariant.1 one (c.in-Repeat.ensures ∙ awaited) c.wait.ensures.count c.in_ok-wait-in-Repeat.ensures.end, λ _. c.tries.invariant.2 c.in-Ok.ensures.settled)
 
 pub returns-in_err-wait-in-Repeat-clause-heard : goal.returns-in_err-wait-in-Repeat-clause-heard
 returns-in_err-wait-in-Repeat-clause-heard g c =
@@ -43,7 +43,7 @@ pub tries-preserved : goal.tries-preserved
 tries-preserved g c =
     let one = once c.attempt_of_in-attempt.ensures.value c.in-Ok.ensures.counts c.in-Ok.ensures.exact c.in-Ok.ensures.outcome in
     let awaited = ap (λ t. heard_as t c.in-Ok.outcome) c.tries.invariant.0 in
-    (c.tries.invariant.0, poll_error _ _ c.tries.invariant.1 one (c.in-Lost.ensures ∙ awaited) c.error.ensures.count c.in_ok-error-in-Lost.ensures.end)
+    (c.tries.invariant.0, poll_error _ _ c.tries.invariant.1 one (c.in-Lost.ensures ∙ awaited) c.error.ensures.count c.in_ok-error-in-Lost.ensures.end, λ _. c.tries.invariant.2 c.in-Ok.ensures.settled)
 
 pub returns-in_err-error-in-Lost-clause-heard : goal.returns-in_err-error-in-Lost-clause-heard
 returns-in_err-error-in-Lost-clause-heard g c =

@@ -5,7 +5,7 @@ use Rattle.usb_transaction.proofs.Going.{once, stands_new, stands_error, stands_
 use Rattle.usb_transaction.proofs.read.data_in.Goals as goal
 
 pub tries-init : goal.tries-init
-tries-init g c = (refl, stands_new c.new-tries.result _ c.new-tries.ensures)
+tries-init g c = (refl, stands_new c.new-tries.result _ c.new-tries.ensures, λ h. h)
 
 pub returns-in-Moved-clause-heard : goal.returns-in-Moved-clause-heard
 returns-in-Moved-clause-heard g c =
@@ -17,7 +17,7 @@ pub tries-preserved-in-Continue-1 : goal.tries-preserved-in-Continue-1
 tries-preserved-in-Continue-1 g c =
     let one = once c.attempt_of_in-attempt.ensures.value c.in-Ok.ensures.counts c.in-Ok.ensures.exact c.in-Ok.ensures.outcome in
     let awaited = ap (λ t. heard_as t c.in-Ok.outcome) c.tries.invariant.0 in
-    (c.tries.invariant.0, stands_waited c.judged.result _ _ c.tries.invariant.1 one (c.judged.ensures ∙ awaited) c.in-NotReady.is c.wait.ensures.count c.in_ok-wait-in-NotReady.ensures.end)
+    (c.tries.invariant.0, stands_waited c.judged.result _ _ c.tries.invariant.1 one (c.judged.ensures ∙ awaited) c.in-NotReady.is c.wait.ensures.count c.in_ok-wait-in-NotReady.ensures.end, λ _. c.tries.invariant.2 c.in-Ok.ensures.settled)
 
 pub returns-in_err-wait-in-NotReady-clause-heard : goal.returns-in_err-wait-in-NotReady-clause-heard
 returns-in_err-wait-in-NotReady-clause-heard g c =
@@ -37,7 +37,7 @@ pub tries-preserved : goal.tries-preserved
 tries-preserved g c =
     let one = once c.attempt_of_in-attempt.ensures.value c.in-Ok.ensures.counts c.in-Ok.ensures.exact c.in-Ok.ensures.outcome in
     let awaited = ap (λ t. heard_as t c.in-Ok.outcome) c.tries.invariant.0 in
-    (c.tries.invariant.0, stands_error _ _ c.tries.invariant.1 one (c.in-Lost.ensures ∙ awaited) c.error.ensures.count c.in_ok-error-in-Lost.ensures.end)
+    (c.tries.invariant.0, stands_error _ _ c.tries.invariant.1 one (c.in-Lost.ensures ∙ awaited) c.error.ensures.count c.in_ok-error-in-Lost.ensures.end, λ _. c.tries.invariant.2 c.in-Ok.ensures.settled)
 
 pub returns-in_err-error-in-Lost-clause-heard : goal.returns-in_err-error-in-Lost-clause-heard
 returns-in_err-error-in-Lost-clause-heard g c =

@@ -5,7 +5,7 @@ use Rattle.usb_transaction.proofs.Going.{once, stands_new, stands_error, stands_
 use Rattle.usb_transaction.proofs.write.data_out.Goals as goal
 
 pub tries-init : goal.tries-init
-tries-init g c = (refl, stands_new c.new-tries.result _ c.new-tries.ensures)
+tries-init g c = (refl, stands_new c.new-tries.result _ c.new-tries.ensures, λ h. h)
 
 pub returns-in-Moved-clause-heard : goal.returns-in-Moved-clause-heard
 returns-in-Moved-clause-heard g c =
@@ -15,7 +15,7 @@ returns-in-Moved-clause-heard g c =
 pub tries-preserved-in-Continue-1 : goal.tries-preserved-in-Continue-1
 tries-preserved-in-Continue-1 g c =
     let one = once c.attempt_of_out-attempt.ensures.value c.in-Ok.ensures.counts c.in-Ok.ensures.exact c.in-Ok.ensures.outcome in
-    (c.tries.invariant.0, stands_waited c.judged_sent.result _ _ c.tries.invariant.1 one c.judged_sent.ensures c.in-NotReady.is c.wait.ensures.count c.in_ok-wait-in-NotReady.ensures.end)
+    (c.tries.invariant.0, stands_waited c.judged_sent.result _ _ c.tries.invariant.1 one c.judged_sent.ensures c.in-NotReady.is c.wait.ensures.count c.in_ok-wait-in-NotReady.ensures.end, λ _. c.tries.invariant.2 c.in-Ok.ensures.settled)
 
 pub returns-in_err-wait-in-NotReady-clause-heard : goal.returns-in_err-wait-in-NotReady-clause-heard
 returns-in_err-wait-in-NotReady-clause-heard g c =
@@ -32,7 +32,7 @@ returns-in-Refused-clause-heard g c =
 pub tries-preserved : goal.tries-preserved
 tries-preserved g c =
     let one = once c.attempt_of_out-attempt.ensures.value c.in-Ok.ensures.counts c.in-Ok.ensures.exact c.in-Ok.ensures.outcome in
-    (c.tries.invariant.0, stands_error _ _ c.tries.invariant.1 one c.in-Lost.ensures c.error.ensures.count c.in_ok-error-in-Lost.ensures.end)
+    (c.tries.invariant.0, stands_error _ _ c.tries.invariant.1 one c.in-Lost.ensures c.error.ensures.count c.in_ok-error-in-Lost.ensures.end, λ _. c.tries.invariant.2 c.in-Ok.ensures.settled)
 
 pub returns-in_err-error-in-Lost-clause-heard : goal.returns-in_err-error-in-Lost-clause-heard
 returns-in_err-error-in-Lost-clause-heard g c =
