@@ -10,7 +10,7 @@ use Rattle.usb_bus.specs.declared.types.Outcome.{Outcome}
 use Rattle.usb_bus.specs.declared.types.BusFault.{BusFault}
 use Rattle.usb_bus.specs.declared.types.BusFault.TheVariants.{LimitReached, Memory, TraceFailed}
 use Rattle.usb_bus.specs.World.{World}
-use Rattle.usb_bus.specs.Steps.{ready, with_attempt, attempted, attempt, event, event_taken, took_first, after, fault_of, Left, at_packet, at_line, AttemptFails}
+use Rattle.usb_bus.specs.Steps.{ready, with_attempt, attempted, attempt, event, event_taken, took_first, after, fault_of, Left, Coming, at_event, at_packet, at_line, AttemptFails}
 use Rattle.usb_bus.specs.Passes.{IsSettled}
 use Rattle.usb_device.specs.Tree.{Ports, row_of}
 use Rattle.usb_device.specs.Delivery.{held, is_twice, figure}
@@ -40,10 +40,10 @@ pub made : (a : Attempt) (w : World) → w.fault ≡ None → (w.attempts ≡ w.
 unfolding after
 made a w sound e = if_no (w.attempts == w.limit) (record w { fault = Some LimitReached }) (with_attempt a (ready w)) (not_same w.attempts w.limit e) ∙ ap (λ o. attempted a o w) (sym sound)
 
-without_fault : (w v : World) (f : Option BusFault) → w ≡ v → w.fault ≡ None → f ≡ None → record w { fault = f } ≡ v
+pub without_fault : (w v : World) (f : Option BusFault) → w ≡ v → w.fault ≡ None → f ≡ None → record w { fault = f } ≡ v
 without_fault w v f e sound is = ap (λ x. record w { fault = x }) (is ∙ sym sound) ∙ e
 
-pub made_exact : (r : Result Outcome BusFault) (a : Attempt) (w m : World) (f : Option BusFault) → f ≡ fault_of r → m.fault ≡ None → w.fault ≡ None → (w.attempts ≡ w.limit → ⊥)
+pub made_exact : (r : Result Outcome BusFault) (a : Attempt) (w m : World) (f : Option BusFault) → f ≡ fault_of r → OnOk r (m.fault ≡ None) → w.fault ≡ None → (w.attempts ≡ w.limit → ⊥)
     → OnOk r (m ≡ with_attempt a (ready w)) → OnOk r (record m { fault = f } ≡ after (attempt a) w)
 made_exact (Ok o) a w m f is still sound below e = without_fault m (after (attempt a) w) f (e ∙ made a w sound below) still is
 made_exact (Err x) a w m f is still sound below e = e
@@ -62,6 +62,11 @@ event_cut r w m f is sound cut e =
     let failed : Option BusFault → World → World = λ x v. record v { fault = x } in
     ap₂ failed told (e ∙ ap (λ o. event_taken o w) (sym sound))
 
+-- an event that was due could not come
+pub left_at_event : {T : Type 0} (r : Result T BusFault) (a : Attempt) (w m : World) → Coming w m → m.fault ≡ None → IfErr r (λ f. Left a w f (record m { fault = None }))
+left_at_event (Ok x) a w m c sound = tt
+left_at_event (Err f) a w m c sound = at_event (subst (λ v. Coming w v) (sym (without_fault m m None refl sound refl)) c)
+
 -- memory was refused while the packets went
 pub left_at_packet : {T : Type 0} (r : Result T BusFault) (a : Attempt) (w m v : World) (k : Ports) → IsErrAnd r (λ f. f ≡ Memory) → m ≡ ready w → figure k ≡ figure m.roots → row_of k ≡ row_of m.roots → IsSettled k
     → v ≡ record m { roots = k; shared = m.shared || is_twice (held m.roots) } → IfErr r (λ f. Left a w f v)
@@ -77,9 +82,9 @@ pub left_at_line : {T : Type 0} (r : Result T BusFault) (a : Attempt) (w v : Wor
 left_at_line (Ok x) a w v is e = tt
 left_at_line (Err f) a w v is e = at_line is e
 
-pub fails_at : (r : Result Outcome BusFault) (a : Attempt) (w m : World) (f : Option BusFault) → f ≡ fault_of r → IfErr r (λ x. x ≢ LimitReached) → IfErr r (λ x. Left a w x m)
+pub fails_at : (r : Result Outcome BusFault) (a : Attempt) (w m : World) (f : Option BusFault) → f ≡ fault_of r → IfErr r (λ x. x ≢ LimitReached) → IfErr r (λ x. Left a w x (record m { fault = None }))
     → AttemptFails a w r (record m { fault = f })
 fails_at (Ok o) a w m f is other left = tt
 fails_at (Err LimitReached) a w m f is other left = absurd (other refl)
-fails_at (Err Memory) a w m f is other left = record { left = m; so_far = left; told = ap (λ x. record m { fault = x }) is }
-fails_at (Err TraceFailed) a w m f is other left = record { left = m; so_far = left; told = ap (λ x. record m { fault = x }) is }
+fails_at (Err Memory) a w m f is other left = record { left = record m { fault = None }; so_far = left; told = ap (λ x. record m { fault = x }) is }
+fails_at (Err TraceFailed) a w m f is other left = record { left = record m { fault = None }; so_far = left; told = ap (λ x. record m { fault = x }) is }

@@ -3,6 +3,7 @@ ghost use Rattle.usb_port.specs.PortState.{status_of};
 ghost use Rattle.usb_bus.specs.World.{World, Attempted, IsAttempt, IsRootPort, IsSetFeature, IsClearFeature, port_at, roots_of};
 ghost use Rattle.usb_bus.specs.Steps.{AttemptFails, SetsRoot, ClearsRoot, after, attempt as attempt_step, outcome_in};
 ghost use Rattle.usb_bus.specs.Passes.{IsSettled};
+ghost use Rattle.usb_bus.specs.Sane.{IsSane};
 
 use crate::{Attempt, BusFault, Outcome};
 
@@ -11,6 +12,9 @@ use crate::{Attempt, BusFault, Outcome};
 /// Whoever drives a real controller implements this, and has the whole host half.
 pub trait Bus {
     /// The world that the bus stands for.
+    ///
+    /// As long as no fault was told, each port is sane: what is attached is what is plugged there, an enabled port is
+    /// powered and has something attached, and only a powered port tells of a change (11.5).
     ghost world: { Self → World };
 
     /// Applies the events that are due, and then makes one attempt.
@@ -22,7 +26,8 @@ pub trait Bus {
         ensures exact { OnOk result (world self.new ≡ after (attempt_step attempt.now) (world self.old)) }
         ensures outcome { IfOk result (λ outcome. outcome ≡ outcome_in attempt.now (world self.old)) }
         ensures fails { (world self.old).fault ≡ None → AttemptFails attempt.now (world self.old) result (world self.new) }
-        ensures settled { IsSettled (world self.old).roots };
+        ensures settled { IsSettled (world self.old).roots }
+        ensures sane { (world self.old).fault ≡ None → IsSane (world self.old).roots };
 
     /// The number of root ports, 1 to 7.
     fn root_ports(&self) -> u8
@@ -39,11 +44,13 @@ pub trait Bus {
     fn root_set(&mut self, port: u8, feature: u16)
         requires port { IsRootPort (world self.old) port }
         requires named { IsSetFeature feature }
-        ensures { SetsRoot port feature (world self.old) (world self.new) };
+        ensures call { SetsRoot port feature (world self.old) (world self.new) }
+        ensures sane { (world self.old).fault ≡ None → IsSane (world self.old).roots };
 
     /// Clears a feature of a root port (11.24.2.2).
     fn root_clear(&mut self, port: u8, feature: u16)
         requires port { IsRootPort (world self.old) port }
         requires named { IsClearFeature feature }
-        ensures { ClearsRoot port feature (world self.old) (world self.new) };
+        ensures call { ClearsRoot port feature (world self.old) (world self.new) }
+        ensures sane { (world self.old).fault ≡ None → IsSane (world self.old).roots };
 }

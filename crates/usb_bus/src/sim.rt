@@ -1,10 +1,12 @@
 //! A simulated bus: the devices that a plan's events plug at its root ports, and the trace of its attempts.
-ghost use Rattle.std.specs.Prelude.{◌≡◌, ◌+◌, ◌≤◌, length, IfOk, IfErr, Some, option_map, true};
+ghost use Rattle.std.specs.Prelude.{◌≡◌, ◌+◌, ◌≤◌, length, IfOk, IfErr, None, Some, option_map, true};
 ghost use Rattle.std.specs.List.{list_all};
 ghost use Rattle.usb_bus.specs.PlanData.{can_come};
 ghost use Rattle.usb_device.specs.Tree.{new_ports, row_of};
 ghost use Rattle.usb_bus.specs.Losses.{AreOfDamages};
 ghost use Rattle.usb_bus.specs.Passes.{IsSettled};
+ghost use Rattle.usb_bus.specs.Sane.{IsSane};
+ghost use Rattle.usb_bus.specs.SaneProp.{IsSane-prop};
 ghost use Rattle.usb_bus.specs.Steps.{opening, fault_of};
 ghost use Rattle.usb_bus.specs.declared.types.BusFault.TheVariants.{LimitReached};
 
@@ -46,6 +48,7 @@ pub struct SimBus<W> {
     ghost some_root: { 1 ≤ length (row_of roots) },
     ghost few_roots: { length (row_of roots) ≤ 7 },
     ghost settled: { IsSettled roots },
+    ghost sane: { fault ≡ None → IsSane roots } by { λ x y i none. IsSane-prop roots (x none) (y none) i },
     ghost planned: { list_all (can_come (length devices.items)) left.items ≡ true },
     ghost few_events: { taken + length left.items ≤ 10000 },
     ghost counted: { attempts_then ≤ attempts },

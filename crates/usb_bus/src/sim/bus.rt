@@ -7,6 +7,7 @@ ghost use Rattle.std.specs.Io.KnownBytes.{Appends};
 ghost use Rattle.usb_device.specs.Delivery.{is_clearing};
 ghost use Rattle.usb_bus.specs.Steps.{AttemptFails, Left, SetsRoot, ClearsRoot, after, attempt as attempt_step, root_call, with_attempt, ready, outcome_in};
 ghost use Rattle.usb_bus.specs.Passes.{IsSettled};
+ghost use Rattle.usb_bus.specs.Sane.{IsSane};
 ghost use Rattle.usb_bus.specs.Lines.{attempted_lines};
 ghost use Rattle.usb_bus.specs.Watch.{inner_of, has_failed};
 ghost use Rattle.usb_bus.specs.declared.types.BusFault.TheVariants.{LimitReached, TraceFailed};
@@ -30,6 +31,7 @@ impl<W: Write> Bus for SimBus<W> {
         ensures exact { OnOk result (world_of self.new ≡ after (attempt_step attempt.now) (world_of self.old)) }
         ensures outcome { IfOk result (λ outcome. outcome ≡ outcome_in attempt.now (world_of self.old)) }
         ensures settled { IsSettled (world_of self.old).roots }
+        ensures sane { (world_of self.old).fault ≡ None → IsSane (world_of self.old).roots }
         ensures fails { (world_of self.old).fault ≡ None → AttemptFails attempt.now (world_of self.old) result (world_of self.new) }
         ensures lines { OnOk result (Appends (W.contents (inner_of (writer_of self.old))) (W.contents (inner_of (writer_of self.new))) (attempted_lines attempt.now (world_of self.old))) }
         ensures trace { result ≡ Err TraceFailed → (world_of self.old).fault ≡ None → has_failed (writer_of self.new) ≡ true }
@@ -94,17 +96,20 @@ impl<W: Write> SimBus<W> {
         ensures one { OnOk result ((world_of self.new).attempts ≡ (world_of self.old).attempts + 1) }
         ensures fits { AnswerFits attempt.now.max result }
         ensures exact { OnOk result (world_of self.new ≡ with_attempt attempt.now (ready (world_of self.old))) }
-        ensures left { IfErr result (λ f. Left attempt.now (world_of self.old) f (world_of self.new)) }
+        ensures left { IfErr result (λ f. Left attempt.now (world_of self.old) f (record (world_of self.new) { fault = None })) }
         ensures outcome { IfOk result (λ outcome. outcome ≡ outcome_in attempt.now (world_of self.old)) }
         ensures lines { OnOk result (Appends (W.contents (inner_of (writer_of self.old))) (W.contents (inner_of (writer_of self.new))) (attempted_lines attempt.now (world_of self.old))) }
-        ensures fault { (world_of self.new).fault ≡ None }
+        ensures fault { OnOk result ((world_of self.new).fault ≡ None) }
         ensures other { IfErr result (λ f. f ≢ LimitReached) }
         ensures trace { result ≡ Err TraceFailed → has_failed (writer_of self.new) ≡ true }
     {
         self.take_due_events()?;
         self.shared |= self.roots.has_shared_address();
         let damage = damage_of(&self.damages, self.attempts + 1);
+        // Where memory is refused, a device may have had its packets or not: the fault stands before they go.
+        self.fault = Some(BusFault::Memory);
         let exchange = make_exchange(&mut self.roots, attempt, damage)?;
+        self.fault = None;
         self.attempts += 1;
         self.losses = self
             .losses

@@ -1,10 +1,11 @@
 use Rattle.std.proofs.Common.{◌≡◌, length, sym, subst, ap, ◌∙◌, arith, [], ◌∷◌}
 use Rattle.usb_device.specs.Tree.{row_of, called}
 use Rattle.usb_bus.specs.Passes.{IsSettled}
+use Rattle.usb_bus.specs.Sane.{IsSane}
 use Rattle.usb_bus.specs.declared.losses.Losses.{Losses}
 use Rattle.usb_bus.specs.Losses.{AreOfDamages}
 use Rattle.usb_bus.proofs.Counts.{row_long}
-use Rattle.usb_bus.proofs.Between.{settled_called}
+use Rattle.usb_bus.proofs.Between.{settled_called, sane_called_at}
 use Rattle.usb_bus.proofs.Wires.{losses_cleared}
 use Rattle.usb_bus.proofs.sim.SimBus.call_root.Goals as goal
 
@@ -20,6 +21,7 @@ invariant_of-self g c =
       some_root = omega (arith, long, s.some_root);
       few_roots = omega (arith, long, s.few_roots);
       settled = subst IsSettled (sym e) (settled_called call s.roots (port ∷ []) s.settled);
+      sane = λ none. subst IsSane (sym e) (sane_called_at call s.roots (port ∷ []) (s.sane none));
       planned = s.planned;
       few_events = s.few_events;
       counted = s.counted;

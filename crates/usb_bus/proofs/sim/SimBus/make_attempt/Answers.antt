@@ -1,4 +1,4 @@
-use Rattle.std.proofs.Common.{◌≡◌, ◌+◌, ◌||◌, List, Bool, Option, refl, sym, subst, ap, ap₂, ◌∙◌, arith, length}
+use Rattle.std.proofs.Common.{◌≡◌, ◌+◌, ◌||◌, List, Bool, Option, None, refl, sym, subst, ap, ap₂, ◌∙◌, arith, length}
 use Rattle.usb_device.specs.Tree.{Ports, row_of}
 use Rattle.usb_bus.specs.declared.types.Attempt.{Attempt}
 use Rattle.usb_bus.specs.declared.damage.Damage.{Damage}
@@ -9,10 +9,12 @@ use Rattle.usb_bus.specs.Exchange.{exchange_in, ports_in, lost_in}
 use Rattle.usb_bus.specs.Losses.{AreOfDamages, counted}
 use Rattle.usb_bus.specs.World.{World}
 use Rattle.usb_bus.specs.Sim.{world_of}
+use Rattle.usb_bus.specs.Sane.{IsSane}
 use Rattle.usb_bus.specs.Steps.{made_in}
-use Rattle.usb_bus.proofs.Attempting.{left_at_packet, left_at_line}
+use Rattle.usb_bus.proofs.Attempting.{without_fault, left_at_event, left_at_packet, left_at_line}
+use Rattle.usb_bus.proofs.Between.{sane_ports}
 use Rattle.usb_bus.proofs.Comings.{lines_of_attempt, attempt_made, outcome_made_in}
-use Rattle.usb_bus.proofs.Wires.{until_most, losses_after, losses_cleared, other_fault}
+use Rattle.usb_bus.proofs.Wires.{until_most, losses_after, losses_cleared}
 use Rattle.usb_bus.proofs.sim.SimBus.make_attempt.Goals as goal
 
 lost_of : (a : Attempt) (d : Option Damage) (k : Ports) → (exchange_in a d k).address_lost ≡ lost_in a d k
@@ -41,6 +43,7 @@ invariant_of-self g c =
       some_root = omega (arith, size, mid.some_root);
       few_roots = omega (arith, size, mid.few_roots);
       settled = c.make_exchange.ensures.settled;
+      sane = λ none. absurd (cc none);
       planned = mid.planned;
       few_events = mid.few_events;
       counted = mid.counted;
@@ -48,7 +51,7 @@ invariant_of-self g c =
       few_attempts = mid.few_attempts;
       few_damages = mid.few_damages;
       lost = mid.lost;
-      at_limit = mid.at_limit;
+      at_limit = λ e. absurd (cc e);
     }
 
 pub invariant_of-self-2 : goal.invariant_of-self-2
@@ -66,6 +69,7 @@ invariant_of-self-2 g c =
       some_root = omega (arith, size, mid.some_root);
       few_roots = omega (arith, size, mid.few_roots);
       settled = c.in_ok-exchange.ensures.settled;
+      sane = λ _. subst IsSane (sym c.in_ok-exchange.ensures.ports) (sane_ports a c.damage_of-damage.result mid.roots (mid.sane (c.take_due_events.ensures.fault ∙ c.requires.sound)));
       planned = mid.planned;
       few_events = mid.few_events;
       counted = omega (arith, mid.counted);
@@ -74,7 +78,7 @@ invariant_of-self-2 g c =
       few_damages = mid.few_damages;
       lost = subst P (sym (c.counted-self.ensures ∙ ap (counted x.address_lost) c.after_clearing.ensures))
           (losses_after mid.damages.items mid.attempts a mid.roots x.change_cleared x.address_lost mid.losses c.requires.attempt mid.settled lost mid.lost);
-      at_limit = λ e. other_fault _ _ _ e c.take_due_events.ensures.fault c.requires.sound;
+      at_limit = λ e. absurd (cc e);
     }
 
 pub returns-clause-exact : goal.returns-clause-exact
@@ -87,8 +91,11 @@ returns-clause-exact g c =
     let ports = c.in_ok-exchange.ensures.ports ∙ ap (λ (d : Option Damage). ports_in a d mid.roots) damage in
     let world : Losses → Bool → World
     = λ l s. record (world_of mid) { roots = c.make_exchange.new.roots; attempts = mid.attempts + 1; losses = l; shared = mid.shared || s } in
-    ap₂ world (c.counted-self.ensures ∙ ap (counted x.address_lost) c.after_clearing.ensures) c.has_shared_address.ensures
-    ∙ attempt_made a (world_of c.args.self.now) (world_of mid) x c.make_exchange.new.roots c.in_ok-take_due_events.ensures.exact made ports
+    let sound = c.take_due_events.ensures.fault ∙ c.requires.sound in
+    without_fault (world c.counted-self.result c.has_shared_address.result) _ None
+    (ap₂ world (c.counted-self.ensures ∙ ap (counted x.address_lost) c.after_clearing.ensures) c.has_shared_address.ensures
+    ∙ attempt_made a (world_of c.args.self.now) (world_of mid) x c.make_exchange.new.roots c.in_ok-take_due_events.ensures.exact made ports)
+    sound refl
 
 pub returns-clause-outcome : goal.returns-clause-outcome
 returns-clause-outcome g c =
@@ -115,9 +122,10 @@ returns-in_err-exchange-clause-left g c =
     let mid = c.take_due_events.new.self in
     let world : Bool → World
     = λ s. record (world_of mid) { roots = c.make_exchange.new.roots; shared = mid.shared || s } in
+    let sound = c.take_due_events.ensures.fault ∙ c.requires.sound in
     left_at_packet c.from_residual-in_err-exchange.result c.args.attempt.now (world_of c.args.self.now) (world_of mid) _ c.make_exchange.new.roots
     c.from_residual-in_err-exchange.ensures.1 c.in_ok-take_due_events.ensures.exact c.make_exchange.ensures.figure c.make_exchange.ensures.row c.make_exchange.ensures.settled
-    (ap world c.has_shared_address.ensures)
+    (without_fault (world c.has_shared_address.result) _ None (ap world c.has_shared_address.ensures) sound refl)
 
 pub returns-in_err-put_attempt-clause-left : goal.returns-in_err-put_attempt-clause-left
 returns-in_err-put_attempt-clause-left g c =
@@ -129,6 +137,14 @@ returns-in_err-put_attempt-clause-left g c =
     let ports = c.in_ok-exchange.ensures.ports ∙ ap (λ (d : Option Damage). ports_in a d mid.roots) damage in
     let world : Losses → Bool → World
     = λ l s. record (world_of mid) { roots = c.make_exchange.new.roots; attempts = mid.attempts + 1; losses = l; shared = mid.shared || s } in
+    let sound = c.take_due_events.ensures.fault ∙ c.requires.sound in
     left_at_line c.from_residual-in_err-put_attempt.result a (world_of c.args.self.now) _ c.from_residual-in_err-put_attempt.ensures.1
+    (without_fault (world c.counted-self.result c.has_shared_address.result) _ None
     (ap₂ world (c.counted-self.ensures ∙ ap (counted x.address_lost) c.after_clearing.ensures) c.has_shared_address.ensures
     ∙ attempt_made a (world_of c.args.self.now) (world_of mid) x c.make_exchange.new.roots c.in_ok-take_due_events.ensures.exact made ports)
+    sound refl)
+
+pub returns-in_err-take_due_events-clause-left : goal.returns-in_err-take_due_events-clause-left
+returns-in_err-take_due_events-clause-left g c =
+    left_at_event c.from_residual.result c.args.attempt.now (world_of c.args.self.now) (world_of c.take_due_events.new.self) c.in_err-take_due_events.ensures.cut
+    (c.take_due_events.ensures.fault ∙ c.requires.sound)

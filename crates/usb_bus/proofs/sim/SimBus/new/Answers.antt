@@ -1,9 +1,11 @@
 use Rattle.std.proofs.Common.{◌≡◌, length, arith, ap, sym, subst, ◌∙◌}
 use Rattle.usb_device.specs.Tree.{row_of}
 use Rattle.usb_bus.specs.Passes.{IsSettled}
+use Rattle.usb_bus.specs.Sane.{IsSane}
 use Rattle.usb_bus.proofs.Counts.{new_long}
 use Rattle.usb_bus.proofs.Plans.{copies_come}
 use Rattle.usb_bus.proofs.Between.{settled_new}
+use Rattle.usb_bus.proofs.SaneLaws.{sane_new_ports}
 use Rattle.usb_bus.proofs.sim.SimBus.new.Goals as goal
 
 pub invariant_of-result-clause-planned : goal.invariant_of-result-clause-planned
@@ -13,6 +15,9 @@ invariant_of-result-clause-planned g c =
 
 pub invariant_of-result-clause-settled : goal.invariant_of-result-clause-settled
 invariant_of-result-clause-settled g c = subst IsSettled (sym c.in-Ok.ensures.roots) (settled_new c.args.plan.now.roots)
+
+pub invariant_of-result-clause-sane : goal.invariant_of-result-clause-sane
+invariant_of-result-clause-sane g c = λ _. subst IsSane (sym c.in-Ok.ensures.roots) (sane_new_ports c.args.plan.now.roots)
 
 pub invariant_of-result-clause-some_root : goal.invariant_of-result-clause-some_root
 invariant_of-result-clause-some_root g c =

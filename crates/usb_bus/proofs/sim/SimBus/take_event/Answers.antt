@@ -3,8 +3,9 @@ use Rattle.std.proofs.lemmas.Bool.{and_parts}
 use Rattle.std.specs.List.{list_all}
 use Rattle.usb_device.specs.Tree.{row_of}
 use Rattle.usb_bus.specs.Passes.{IsSettled}
+use Rattle.usb_bus.specs.Sane.{IsSane}
 use Rattle.usb_bus.specs.PlanData.{can_come}
-use Rattle.usb_bus.proofs.Between.{settled_happened}
+use Rattle.usb_bus.proofs.Between.{settled_happened, sane_happened}
 use Rattle.usb_bus.proofs.Counts.{happened_long, came_spends}
 use Rattle.usb_device.specs.Spec.{Spec}
 use Rattle.usb_bus.specs.declared.event.Event.{Event}
@@ -66,6 +67,7 @@ invariant_of-self-2 g c =
       some_root = omega (arith, long, s.some_root);
       few_roots = omega (arith, long, s.few_roots);
       settled = subst IsSettled (sym done) (settled_happened a c.deref.result.now s.roots s.settled);
+      sane = λ none. subst IsSane (sym done) (sane_happened a c.deref.result.now s.roots (s.sane none));
       planned = (and_parts (can c.unwrap-event.result) (list_all can rest) all).1;
       few_events = omega (arith, size, s.few_events);
       counted = omega arith;

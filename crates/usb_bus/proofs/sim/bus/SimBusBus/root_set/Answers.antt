@@ -3,10 +3,10 @@ use Rattle.usb_bus.specs.Sim.{world_of}
 use Rattle.usb_bus.proofs.Counts.{set_ends, set_none}
 use Rattle.usb_bus.proofs.sim.bus.SimBusBus.root_set.Goals as goal
 
-pub returns-in-Some : goal.returns-in-Some
-returns-in-Some g c =
+pub returns-in-Some-clause-call : goal.returns-in-Some-clause-call
+returns-in-Some-clause-call g c =
     set_ends c.args.port c.args.feature (world_of c.args.self.now) (world_of c.call_root.new.self) c.in-Some.call c.requires.port c.requires.named
     (sym c.in-Some.is ∙ c.of_set.ensures) c.call_root.ensures
 
-pub returns-in_default : goal.returns-in_default
-returns-in_default g c = set_none c.args.feature c.requires.named (sym c.in_default.is ∙ c.of_set.ensures)
+pub returns-in_default-clause-call : goal.returns-in_default-clause-call
+returns-in_default-clause-call g c = set_none c.args.feature c.requires.named (sym c.in_default.is ∙ c.of_set.ensures)
