@@ -18,7 +18,7 @@ ports-preserved g c =
     let w0 : World = g.B.Bus.world c.args.bus in
     let port : ℕ = c.ports.port in
     let back : port ≡ (port + 1) - 1 = omega arith in
-    powers_one w0 _ _ port c.ports.auto.port c.ports.invariant c.root_set.ensures ∙ ap (λ k. powered_world k w0) back
+    powers_one w0 _ _ port c.ports.auto.port c.ports.invariant c.root_set.ensures.call ∙ ap (λ k. powered_world k w0) back
 
 pub returns : goal.returns
 returns g c =
