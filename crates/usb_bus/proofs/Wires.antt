@@ -9,7 +9,6 @@ use Rattle.usb_check.proofs.SumLemmas.{length-map_not}
 use Rattle.usb_packet.specs.declared.Packet.{Packet}
 use Rattle.usb_packet.specs.declared.Packet.TheVariants.{Token, Sof, Payload, Ack, Nak, Stall, Pre}
 use Rattle.usb_packet.specs.Spelling.{Spells, Carries, Follows}
-use Rattle.usb_bus.specs.declared.types.BusFault.{BusFault}
 use Rattle.usb_bus.specs.declared.damage.Damage.{Damage}
 use Rattle.usb_bus.specs.declared.losses.Losses.{Losses}
 use Rattle.usb_device.specs.Tree.{Ports}
@@ -171,7 +170,3 @@ losses_after damages n a k cleared lost l is settled e h =
 
 pub no_losses_yet : (damages : List Damage) → AreOfDamages 0 damages no_losses
 no_losses_yet damages = record { all = omega arith; run = omega arith; worst = omega arith }
-
--- no fault was told
-pub other_fault : {A : Type 0} (f g : Option BusFault) (fault : BusFault) → f ≡ Some fault → f ≡ g → g ≡ None → A
-other_fault f g fault e same none = cc
