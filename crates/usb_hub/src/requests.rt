@@ -3,6 +3,8 @@ ghost use Rattle.std.specs.Prelude.{◌≡◌, ◌≢◌, ◌≤◌, vec_len, Er
 ghost use Rattle.usb_bus.specs.World.{Spends};
 ghost use Rattle.usb_transaction.specs.Trans.{IsTarget, Worked};
 ghost use Rattle.usb_pipe.specs.Control.{Faults, control_bound};
+ghost use Rattle.usb_pipe.specs.Stages.{Reads, Writes};
+ghost use Rattle.usb_request.specs.Requests.{get_device_descriptor, get_configuration_descriptor, get_string_descriptor, set_address as address_request, set_configuration as configuration_request};
 
 use std::alloc::Global;
 use usb_pipe::{Bus, PipeFault, Setup, Target, control_in, control_none};
@@ -22,6 +24,7 @@ pub fn get_device<B: Bus>(
     requires some { 1 ≤ length }
     ensures count { Spends (control_bound target.max length) (B.world bus.old) (B.world bus.new) }
     ensures ends { MatchResult result (λ _. Worked 3 (B.world bus.old) (B.world bus.new)) (λ fault. Faults 1 (B.world bus.old) fault (B.world bus.new)) }
+    ensures stages { Reads target (get_device_descriptor length) (B.world bus.old) result (B.world bus.new) }
     ensures most { IfOk result (λ bytes. vec_len bytes ≤ length) }
 {
     control_in(alloc, bus, target, Setup::get_device_descriptor(length))
@@ -44,6 +47,7 @@ pub fn get_config<B: Bus>(
     requires some { 1 ≤ length }
     ensures count { Spends (control_bound target.max length) (B.world bus.old) (B.world bus.new) }
     ensures ends { MatchResult result (λ _. Worked 3 (B.world bus.old) (B.world bus.new)) (λ fault. Faults 1 (B.world bus.old) fault (B.world bus.new)) }
+    ensures stages { Reads target (get_configuration_descriptor index length) (B.world bus.old) result (B.world bus.new) }
     ensures most { IfOk result (λ bytes. vec_len bytes ≤ length) }
 {
     control_in(
@@ -70,6 +74,7 @@ pub fn get_string<B: Bus>(
     requires target { IsTarget target }
     ensures count { Spends (control_bound target.max 255) (B.world bus.old) (B.world bus.new) }
     ensures ends { MatchResult result (λ _. Worked 3 (B.world bus.old) (B.world bus.new)) (λ fault. Faults 1 (B.world bus.old) fault (B.world bus.new)) }
+    ensures stages { Reads target (get_string_descriptor index language) (B.world bus.old) result (B.world bus.new) }
     ensures most { IfOk result (λ bytes. vec_len bytes ≤ 255) }
 {
     control_in(
@@ -92,6 +97,7 @@ pub fn set_address<B: Bus>(bus: &mut B, target: Target, address: u8) -> Result<(
     requires most { address ≤ 127 }
     ensures count { Spends 1600 (B.world bus.old) (B.world bus.new) }
     ensures ends { MatchResult result (λ _. Worked 2 (B.world bus.old) (B.world bus.new)) (λ fault. Faults 1 (B.world bus.old) fault (B.world bus.new)) }
+    ensures stages { Writes target (address_request address) (B.world bus.old) result (B.world bus.new) }
     ensures room { result ≢ Err PipeFault.Memory }
 {
     control_none(bus, target, Setup::set_address(address))
@@ -107,6 +113,7 @@ pub fn set_configuration<B: Bus>(bus: &mut B, target: Target, value: u8) -> Resu
     requires target { IsTarget target }
     ensures count { Spends 1600 (B.world bus.old) (B.world bus.new) }
     ensures ends { MatchResult result (λ _. Worked 2 (B.world bus.old) (B.world bus.new)) (λ fault. Faults 1 (B.world bus.old) fault (B.world bus.new)) }
+    ensures stages { Writes target (configuration_request value) (B.world bus.old) result (B.world bus.new) }
     ensures room { result ≢ Err PipeFault.Memory }
 {
     control_none(bus, target, Setup::set_configuration(value))
