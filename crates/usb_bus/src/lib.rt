@@ -10,6 +10,7 @@ mod losses;
 mod not_served;
 mod one_holder;
 mod plan;
+mod request_laws;
 mod sim;
 mod trace;
 mod types;
@@ -32,6 +33,7 @@ pub use one_holder::{
     what_is_heard_of_the_holder,
 };
 pub use plan::Plan;
+pub use request_laws::pending_may_be_told_at_each_port;
 pub use sim::SimBus;
 pub use types::{Attempt, BusFault, Outcome};
 pub use watched::{Watched, WriteFailed, put_piece};

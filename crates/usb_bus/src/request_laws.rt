@@ -1,0 +1,18 @@
+//! Laws of what requests ask of ports (11.24.2), and of the change bits that they leave, for those who make attempts.
+//!
+//! Each call does nothing; what it ensures is for proofs to cite.
+ghost use Rattle.std.specs.Prelude.{◌≡◌, ◌⊎◌, ℕ, true, List, Some};
+ghost use Rattle.usb_port.specs.PortState.{PortState};
+ghost use Rattle.usb_device.specs.Tree.{Ports};
+ghost use Rattle.usb_device.specs.View.{port_there};
+ghost use Rattle.usb_bus.specs.Live.{pend, is_way};
+ghost use Rattle.usb_bus.specs.Sane.{IsSane};
+ghost use Rattle.usb_bus.specs.Requested.{told};
+
+/// A change of connection is pending exactly where one is told on the way: each port of the way need have power only
+/// where none is told at it or above it.
+pub fn pending_may_be_told_at_each_port()
+    ensures { (k : Ports) (path : List ℕ) → IsSane k
+        → ((x : List ℕ) (b : PortState) → is_way x path ≡ true → port_there k x ≡ Some b → (b.power ≡ true) ⊎ (told k x ≡ true))
+        → pend k path ≡ told k path }
+{}
