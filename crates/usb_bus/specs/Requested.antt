@@ -59,8 +59,8 @@ leaves_step (root_call c n) w p = root_leaves n p
 leaves_step event w p = true
 leaves_step (report line) w p = true
 
-abbrev pub Leaves : List ℕ → Step → World → Type 0
-Leaves p s w = leaves_step s w p ≡ true
+abbrev pub LeavesPort : List ℕ → Step → World → Type 0
+LeavesPort p s w = leaves_step s w p ≡ true
 
 -- a step that asks nothing of any port on the way to a path, nor of the one there
 pub record AsksNothing (s : Step) (w : World) (p : List ℕ) : Type 0 where

@@ -33,7 +33,7 @@ pub use one_holder::{
     what_is_heard_of_the_holder,
 };
 pub use plan::Plan;
-pub use request_laws::pending_may_be_told_at_each_port;
+pub use request_laws::{pending_may_be_told_at_each_port, requests_that_ask_nothing};
 pub use sim::SimBus;
 pub use types::{Attempt, BusFault, Outcome};
 pub use watched::{Watched, WriteFailed, put_piece};
