@@ -11,7 +11,7 @@ ghost use Rattle.usb_bus.specs.Passes.{IsSettled};
 ghost use Rattle.usb_bus.specs.World.{World};
 ghost use Rattle.usb_bus.specs.Steps.{attempt};
 ghost use Rattle.usb_bus.specs.declared.types.Attempt.{Attempt};
-ghost use Rattle.usb_bus.specs.Requested.{told, plain_payload, AsksNothing};
+ghost use Rattle.usb_bus.specs.Requested.{told, plain_payload, plain_data, AsksNothing};
 
 /// A change of connection is pending exactly where one is told on the way: each port of the way need have power only
 /// where none is told at it or above it.
@@ -24,5 +24,6 @@ pub fn pending_may_be_told_at_each_port()
 /// Setup data whose request is neither SetPortFeature nor ClearPortFeature nor SetConfiguration ask nothing of any port,
 /// whoever hears them; nor does IN or OUT, where no device remembers a packet before it.
 pub fn requests_that_ask_nothing()
-    ensures { (a : Attempt) (w : World) (p : List ℕ) → plain_payload a.payload ≡ true → AsksNothing (attempt a) w p }
+    ensures heard { (a : Attempt) (w : World) (p : List ℕ) → plain_payload a.payload ≡ true → AsksNothing (attempt a) w p }
+    ensures settled { (a : Attempt) (w : World) (p : List ℕ) → plain_data a.kind a.payload ≡ true → IsSettled w.roots → AsksNothing (attempt a) w p }
 {}
