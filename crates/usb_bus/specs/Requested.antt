@@ -102,10 +102,6 @@ plain_data InTok o = true
 abbrev pub is_port_request : Setup → Bool
 is_port_request r = Is r 0x23 3 || Is r 0x23 1
 
--- SetPortFeature of PORT_RESET
-abbrev pub is_port_reset : Setup → Bool
-is_port_reset r = Is r 0x23 3 && r.value == 4
-
 -- PORT_RESET, PORT_POWER, and the clearing of PORT_ENABLE, C_PORT_ENABLE and C_PORT_RESET: of these the port itself keeps
 -- its power and its change of connection
 abbrev pub is_sparing : Setup → Bool

@@ -33,7 +33,10 @@ pub use one_holder::{
     what_is_heard_of_the_holder,
 };
 pub use plan::Plan;
-pub use request_laws::{pending_may_be_told_at_each_port, requests_that_ask_nothing};
+pub use request_laws::{
+    change_bits_rest, hub_reset_gives_address_zero, pending_may_be_told_at_each_port,
+    port_requests_spare_the_rest, requests_that_ask_nothing,
+};
 pub use sim::SimBus;
 pub use types::{Attempt, BusFault, Outcome};
 pub use watched::{Watched, WriteFailed, put_piece};
