@@ -6,7 +6,7 @@ use Rattle.usb_device.specs.View.{port_there}
 use Rattle.usb_bus.specs.Live.{pend_at, pend, is_way}
 use Rattle.usb_bus.specs.Sane.{IsSanePort, IsSane}
 use Rattle.usb_bus.specs.Requested.{told_at, told}
-use Rattle.usb_bus.proofs.Booleans.{no, and_of, or_left}
+use Rattle.usb_bus.proofs.Booleans.{and_of, or_left}
 use Rattle.usb_bus.proofs.AddressesReset.{self_number}
 
 -- a change of connection is told only by a port with power

@@ -9,8 +9,8 @@ use Rattle.usb_device.specs.declared.effect.Effect.TheVariants.{Leaves, Calls, P
 use Rattle.usb_device.specs.Calls.{is_reset}
 use Rattle.usb_device.specs.Rows.{fresh}
 use Rattle.usb_device.specs.Spec.{Spec}
-use Rattle.usb_device.specs.Tree.{Ports, ended, vacant, taken, called, replaced, changed, changed_at, port_at, place_at, reach}
-use Rattle.usb_device.specs.Delivery.{effect_of, all_forgotten}
+use Rattle.usb_device.specs.Tree.{Ports, ended, vacant, taken, called, replaced, changed, changed_at, port_at, place_at}
+use Rattle.usb_device.specs.Delivery.{effect_of}
 use Rattle.usb_device.specs.View.{port_there}
 use Rattle.usb_bus.specs.declared.event.Event.{Event}
 use Rattle.usb_bus.specs.declared.event.Action.{Action}
@@ -21,15 +21,15 @@ use Rattle.usb_bus.specs.declared.types.BusFault.TheVariants.{LimitReached}
 use Rattle.usb_bus.specs.Exchange.{token_out, payload_out, reply_out, ports_in}
 use Rattle.usb_bus.specs.Live.{is_way, on_way, same_number}
 use Rattle.usb_bus.specs.Passes.{passed, after_attempt, pass_resets, IsAttemptAt}
-use Rattle.usb_bus.specs.Touched.{call_resets, effect_resets, resets_at, leaves_port, way_leaves, takes_reset}
+use Rattle.usb_bus.specs.Touched.{effect_resets, resets_at, leaves_port, way_leaves, takes_reset}
 use Rattle.usb_bus.specs.World.{World}
 use Rattle.usb_bus.specs.Steps.{with_plugged, happened, way_of, names, is_due, took, took_first, due_from, ready, damage_in, with_attempt, attempted, event_taken, Step, attempt, root_call, event, report, after, Course, here, step}
-use Rattle.usb_bus.specs.Courses.{is_made, made_resets, root_resets, resets, NoReset}
+use Rattle.usb_bus.specs.Courses.{is_made, made_resets, root_resets, resets}
 use Rattle.usb_bus.specs.Requested.{pass_leaves, made_leaves, root_leaves, leaves_step, LeavesPort, row_reached, StillSet}
 use Rattle.usb_bus.proofs.Booleans.{no, both, and_false, or_right}
 use Rattle.usb_bus.proofs.CallLaws.{call_port, call_port_below}
 use Rattle.usb_bus.proofs.PlaceLaws.{way_port}
-use Rattle.usb_bus.proofs.PassLaws.{CalmOut, token_out as token_calm, ack_out as ack_calm, forgotten_port}
+use Rattle.usb_bus.proofs.PassLaws.{token_out as token_calm, ack_out as ack_calm, forgotten_port}
 use Rattle.usb_bus.proofs.WorldLaws.{happened_reach, due_reach, made_reach, same_device, course_wider, goes}
 use Rattle.usb_bus.proofs.RequestLawsWay.{calm_leaves}
 
@@ -267,7 +267,7 @@ unfolding ready
 attempted_bits a (Some f) w q n b g on h = still_same b _ h
 attempted_bits a None w q n b g on h =
     elim (w.attempts == w.limit) as (λ x. row_reached (if x then record w { fault = Some LimitReached } else with_attempt a (ready w)).roots q ≡ true
-        → StillSet b (port_there (if x then record w { fault = Some LimitReached } else with_attempt a (ready w)).roots (q ++ (n ∷ [])))) [
+    → StillSet b (port_there (if x then record w { fault = Some LimitReached } else with_attempt a (ready w)).roots (q ++ (n ∷ [])))) [
       | true ↦ λ on. still_same b _ h
       | false ↦ λ on. subst (StillSet b) (sym (made_port a (ready w) (q ++ (n ∷ [])) g)) (due_bits w.left w q n b (made_row a (ready w) q n g on) h)
     ] on

@@ -8,9 +8,9 @@ use Rattle.usb_device.specs.declared.calls.PortCall.{PortCall}
 use Rattle.usb_device.specs.declared.calls.PortCall.TheVariants.{SetPower, SetReset, ClearEnable, ClearEnableChange, ClearResetChange}
 use Rattle.usb_device.specs.declared.delivery.Sent.{Sent}
 use Rattle.usb_device.specs.declared.effect.Effect.{Effect}
-use Rattle.usb_device.specs.declared.effect.Effect.TheVariants.{Leaves, Calls, PortsOff}
+use Rattle.usb_device.specs.declared.effect.Effect.TheVariants.{Leaves, Calls}
 use Rattle.usb_device.specs.declared.transfer.Memory.TheVariants.{Nothing}
-use Rattle.usb_device.specs.Calls.{is_reset, set_call, clear_call}
+use Rattle.usb_device.specs.Calls.{set_call, clear_call}
 use Rattle.usb_device.specs.Request.{Is}
 use Rattle.usb_device.specs.Rows.{State}
 use Rattle.usb_device.specs.Tree.{Ports, state_at}
@@ -22,15 +22,15 @@ use Rattle.usb_bus.specs.Passes.{passed, IsTokenFor, IfOut, IsSettled, OneHolds,
 use Rattle.usb_bus.specs.Touched.{effect_resets, resets_at, reset_if, spares, effect_spares, leaves_port}
 use Rattle.usb_bus.specs.World.{World}
 use Rattle.usb_bus.specs.Steps.{ready, damage_in, attempt}
-use Rattle.usb_bus.specs.Courses.{is_made, made_resets, made_spares, resets, spares_step}
+use Rattle.usb_bus.specs.Courses.{is_made, made_resets, resets, spares_step}
 use Rattle.usb_bus.specs.OneHolder.{IsSetup, Holder, HolderIn}
-use Rattle.usb_bus.specs.Requested.{pass_leaves, made_leaves, leaves_step, AsksNothing, is_port_request, is_sparing, is_below}
+use Rattle.usb_bus.specs.Requested.{pass_leaves, leaves_step, AsksNothing, is_port_request, is_sparing, is_below}
 use Rattle.usb_bus.proofs.Booleans.{no, both, decided, either_of, and_false, or_left, or_right}
 use Rattle.usb_bus.proofs.PassLaws.{calm_pass, token_out as token_calm}
 use Rattle.usb_bus.proofs.OneDevice.{settled_memory, rest_state, rested_effect, token_calls, other_address}
 use Rattle.usb_bus.proofs.OneHolderMore.{holder_in, equal_same}
 use Rattle.usb_bus.proofs.WorldLaws.{goes}
-use Rattle.usb_bus.proofs.AddressesReset.{is_same, same_is, self_number, self_path}
+use Rattle.usb_bus.proofs.AddressesReset.{is_same, same_is, self_number}
 use Rattle.usb_bus.proofs.RequestLawsAsked.{Allows, AllowsOut, PayloadAllows, sent_allowed, payload_allowed}
 use Rattle.usb_bus.proofs.RequestLawsWay.{OnWay, spares_if, leaves_if, resets_if}
 use Rattle.usb_bus.proofs.RequestLawsBits.{left_effect}

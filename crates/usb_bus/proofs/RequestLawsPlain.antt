@@ -1,12 +1,9 @@
 -- Attempts that ask nothing of ports.
-use Rattle.std.proofs.Common.{◌≡◌, ℕ, ◌==◌, ◌&&◌, if◌then◌else◌, Bool, true, false, List, [], ◌∷◌, length, take, Option, None, Some, option_map, is_some, refl, ap, sym, subst, ◌∙◌}
-use Rattle.std.proofs.lemmas.Option.{same_Some}
-use Rattle.arrayvec.specs.ArrayVec.{ArrayVec}
+use Rattle.std.proofs.Common.{◌≡◌, ℕ, ◌==◌, ◌&&◌, if◌then◌else◌, Bool, true, false, List, [], ◌∷◌, length, take, Option, None, Some, option_map, refl, ap, sym, subst, ◌∙◌}
 use Rattle.usb_packet.specs.declared.Packet.{Packet}
 use Rattle.usb_packet.specs.declared.Packet.TheVariants.{Token, Payload}
 use Rattle.usb_packet.specs.declared.Packet.TheVariants as packet
 use Rattle.usb_packet.specs.declared.Toggle.{Toggle}
-use Rattle.usb_packet.specs.declared.Toggle.TheVariants.{Zero, One}
 use Rattle.usb_packet.specs.declared.TokenKind.{TokenKind}
 use Rattle.usb_packet.specs.declared.TokenKind.TheVariants.{OutTok, InTok, SetupTok}
 use Rattle.usb_port.specs.PortState.{PortState}
@@ -21,7 +18,7 @@ use Rattle.usb_device.specs.declared.transfer.Memory.TheVariants.{Nothing, Setup
 use Rattle.usb_device.specs.Bulk.{tells_changes, change_bits}
 use Rattle.usb_device.specs.Effect.{asks, asked_by_packet, asked_by_data}
 use Rattle.usb_device.specs.Transfer.{Stage, idle, refused, reading, read, ending, max_packet, packet_at, toggle_at}
-use Rattle.usb_device.specs.Rows.{State, Reply, received, unread, forgotten, token_row, is_busy, nak_row, in_row, in_other_row, changes_row, held_row, new_changes_row, in_bulk_row, source_row, bulk_of, rest_of, gives}
+use Rattle.usb_device.specs.Rows.{State, Reply, received, unread, forgotten, token_row, is_busy, nak_row, in_row, in_other_row, changes_row, held_row, in_bulk_row, source_row, bulk_of, rest_of, gives}
 use Rattle.usb_device.specs.Tree.{Ports, Place, empty, full, state_at, place_at, reach_at, row_of}
 use Rattle.usb_device.specs.Delivery.{hears, reply_to, answer_of, asked_by, effect_of}
 use Rattle.usb_bus.specs.declared.damage.Damage.{Damage}
@@ -31,7 +28,7 @@ use Rattle.usb_bus.specs.declared.wire.Mark.TheVariants as mark
 use Rattle.usb_bus.specs.Wire.{mark_of, harm_to, marked}
 use Rattle.usb_bus.specs.Touched.{is_left, resets_at, reset_if}
 use Rattle.usb_bus.specs.Exchange.{token_of, sent_as, token_out, payload_out}
-use Rattle.usb_bus.specs.Passes.{passed, IfOut, IsDataOut, IsSettled, heard_state, deep_at, pass_resets}
+use Rattle.usb_bus.specs.Passes.{passed, IfOut, IsDataOut, IsSettled, heard_state, deep_at}
 use Rattle.usb_bus.specs.World.{World}
 use Rattle.usb_bus.specs.Steps.{ready, damage_in, attempt}
 use Rattle.usb_bus.specs.Addresses.{is_setup}

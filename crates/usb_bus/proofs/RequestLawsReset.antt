@@ -1,7 +1,6 @@
 -- PORT_RESET of a hub's port gives the device there address 0, and leaves the others theirs.
-use Rattle.std.proofs.Common.{◌≡◌, ℕ, zero, suc, ◌==◌, ◌&&◌, not, if◌then◌else◌, ◌⊎◌, inl, inr, Bool, true, false, List, [], ◌∷◌, ◌++◌, Option, None, Some, option_map, is_some, refl, ap, ap₂, sym, subst, ◌∙◌}
+use Rattle.std.proofs.Common.{◌≡◌, ℕ, zero, suc, ◌&&◌, if◌then◌else◌, ◌⊎◌, inl, inr, Bool, true, false, List, [], ◌∷◌, ◌++◌, Option, None, Some, option_map, refl, ap, ap₂, sym, subst, ◌∙◌}
 use Rattle.usb_port.specs.PortState.{PortState}
-use Rattle.usb_request.specs.declared.setup.Setup.{Setup}
 use Rattle.usb_request.specs.Layout.{setup_of}
 use Rattle.usb_device.specs.declared.request.Registers.{Registers}
 use Rattle.usb_device.specs.Request.{Outcome, stalled, answers, takes_address, takes_configuration, halts, unhalts, tells_port, calls_port, outcome, registers_at_setup}
@@ -16,7 +15,7 @@ use Rattle.usb_bus.specs.Passes.{deep_at}
 use Rattle.usb_bus.specs.World.{World}
 use Rattle.usb_bus.specs.Steps.{ready, damage_in, with_attempt, attempt, after}
 use Rattle.usb_bus.specs.Courses.{is_made, made_resets, resets, address_at, Own}
-use Rattle.usb_bus.specs.OneHolder.{IsSetup, Holder, HolderIn, token_way, payload_way, answer_way, setup_alone}
+use Rattle.usb_bus.specs.OneHolder.{IsSetup, Holder, HolderIn, token_way, payload_way, answer_way}
 use Rattle.usb_bus.specs.Addresses.{after_reset}
 use Rattle.usb_bus.proofs.Booleans.{no, both, decided, and_false}
 use Rattle.usb_bus.proofs.CallLaws.{off_reach}
