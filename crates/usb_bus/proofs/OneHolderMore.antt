@@ -205,7 +205,7 @@ at_limit a w s e = rw (s, same_test w.attempts w.limit e) refl
 pub made_of : (a : Attempt) (w : World) → IsSettled w.roots → Made w (after (attempt a) w) → IsMade a w
 made_of a w h m = record { sound = m.sound; within = λ e. no (ap is_some (sym m.still ∙ at_limit a w m.sound e)); settled = h }
 
-made_true : (a : Attempt) (w : World) → IsMade a w → is_made w.fault w ≡ true
+pub made_true : (a : Attempt) (w : World) → IsMade a w → is_made w.fault w ≡ true
 made_true a w m = rw (m.sound, unequal w.attempts w.limit m.within) refl
 
 -- the events that are due change neither the damages nor how many attempts were made

@@ -10,6 +10,7 @@ mod losses;
 mod not_served;
 mod one_holder;
 mod plan;
+mod request_laws;
 mod sim;
 mod trace;
 mod types;
@@ -32,6 +33,10 @@ pub use one_holder::{
     what_is_heard_of_the_holder,
 };
 pub use plan::Plan;
+pub use request_laws::{
+    change_bits_rest, hub_reset_gives_address_zero, pending_may_be_told_at_each_port,
+    port_requests_spare_the_rest, requests_that_ask_nothing,
+};
 pub use sim::SimBus;
 pub use types::{Attempt, BusFault, Outcome};
 pub use watched::{Watched, WriteFailed, put_piece};
