@@ -5,7 +5,7 @@ use Rattle.usb_packet.specs.declared.Toggle.TheVariants.{One}
 use Rattle.usb_port.specs.PortState.{PortState}
 use Rattle.usb_request.specs.Layout.{setup_of}
 use Rattle.usb_device.specs.Bulk.{tells_changes, change_bits}
-use Rattle.usb_device.specs.Rows.{State, accepted, forgotten}
+use Rattle.usb_device.specs.Rows.{State, accepted}
 use Rattle.usb_device.specs.Transfer.{ending, toggle_at}
 use Rattle.usb_device.specs.Tree.{Ports, full, row_of, place_at}
 use Rattle.usb_device.specs.Progress.{ReadingAt, ReadOn, StatusOn, IsRead, IsSource, SourceAt, SourceOn, IsSink, SinkAt, Joined, PollAt, NeverTold, ToldByte, OnlyControl, OnlyStage, OnlySource, OnlySink, OnlyChanges}
@@ -93,7 +93,7 @@ pub record ChangesIn (t : Target) (toggle : Toggle) (old : World) (result : Resu
 -- a device accepted setup data once or more often, and is as after the last time; these were its ports then
 pub record AcceptedSince (bytes : List ℕ) (s v : State) : Type 0 where
   pub row : List PortState
-  pub is : v ≡ accepted (forgotten s) row (setup_of bytes)
+  pub is : v ≡ accepted s row (setup_of bytes)
 
 -- SETUP of a request that resets no port (8.5.3)
 pub record SetupDone (t : Target) (bytes : List ℕ) (result : Result (List ℕ) TransFault) (j : ℕ) (p : List ℕ) (s v : State) : Type 0 where
