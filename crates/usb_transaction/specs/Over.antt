@@ -6,7 +6,7 @@ use Rattle.usb_port.specs.PortState.{PortState}
 use Rattle.usb_request.specs.Layout.{setup_of}
 use Rattle.usb_device.specs.Bulk.{tells_changes, change_bits}
 use Rattle.usb_device.specs.Rows.{State, accepted}
-use Rattle.usb_device.specs.Transfer.{ending, toggle_at}
+use Rattle.usb_device.specs.Transfer.{ending, reading, refused as stage_refused, toggle_at}
 use Rattle.usb_device.specs.Tree.{Ports, full, row_of, place_at}
 use Rattle.usb_device.specs.Progress.{ReadingAt, ReadOn, StatusOn, IsRead, IsSource, SourceAt, SourceOn, IsSink, SinkAt, Joined, PollAt, NeverTold, ToldByte, OnlyControl, OnlyStage, OnlySource, OnlySink, OnlyChanges}
 use Rattle.usb_bus.specs.declared.types.Attempt.{Attempt}
@@ -35,13 +35,20 @@ pub record ControlIn (t : Target) (awaited : Toggle) (result : Result (List ℕ)
   pub frame : OnlyControl s v
   pub reading : is_at s t ≡ true → (answer : List ℕ) (wanted n : ℕ) → awaited ≡ toggle_at n → ReadingAt answer wanted n s → ReadOn answer wanted n s (packet_in result) v
   pub status : is_at s t ≡ true → awaited ≡ One → (a : Option ℕ) → s.stage ≡ ending a → StatusOn a s (packet_in result) v
+  pub refused : s.stage ≡ stage_refused → (v.stage ≡ stage_refused) × (is_at s t ≡ true → (bytes : List ℕ) → result ≡ Ok bytes → ⊥)
+  pub failed : awaited ≡ One → (fault : TransFault) → result ≡ Err fault → v.registers ≡ s.registers
+
+-- in the data stage or the status stage of a control read, or behind it
+pub data IsInRead (s : State) : Type 0 where
+  data_stage : (answer : List ℕ) (wanted known : ℕ) → s.stage ≡ reading answer wanted known → IsInRead s
+  over : IsRead s → IsInRead s
 
 -- OUT of no bytes to endpoint 0 with DATA1, which ends a control read (8.5.3)
 pub record ReadStatus (t : Target) (result : Result (List ℕ) TransFault) (j : ℕ) (p : List ℕ) (s v : State) : Type 0 where
   pub others : is_at s t ≡ false → v ≡ s
   pub frame : OnlyStage s v
   pub kept : (v.stage ≡ s.stage) ⊎ IsRead v
-  pub done : is_at s t ≡ true → (bytes : List ℕ) → result ≡ Ok bytes → IsRead v
+  pub done : is_at s t ≡ true → (bytes : List ℕ) → result ≡ Ok bytes → IsRead v × IsInRead s
 
 -- IN of a bulk endpoint (5.8)
 pub record SourceIn (t : Target) (ep : ℕ) (awaited : Toggle) (result : Result (List ℕ) TransFault) (j : ℕ) (p : List ℕ) (s v : State) : Type 0 where
