@@ -37,25 +37,25 @@ pub record Ways (a : Attempt) (w : World) (p : List ℕ) (s : State) : Type 0 wh
 
 -- An attempt is for another address; or the device is silent; or the host got what it answers, and it is what its law says.
 
-pub data DidIn (a : Attempt) (w : World) : Relation where
-  other : {j : ℕ} {p : List ℕ} {s v : State} → (address_of s == a.addr) ≡ false → v ≡ s → DidIn a w j p s v
-  silent : {j : ℕ} {p : List ℕ} {s v : State} → (address_of s == a.addr) ≡ true → s.spec.silent ≡ true → outcome_in a w ≡ Nothing → v ≡ s → DidIn a w j p s v
-  asked : {j : ℕ} {p : List ℕ} {s v : State} → (address_of s == a.addr) ≡ true → s.spec.silent ≡ false
+pub data DidIn (a : Attempt) (w : World) (j : ℕ) (p : List ℕ) (s v : State) : Type 0 where
+  other : (address_of s == a.addr) ≡ false → v ≡ s → DidIn a w j p s v
+  silent : (address_of s == a.addr) ≡ true → s.spec.silent ≡ true → outcome_in a w ≡ Nothing → v ≡ s → DidIn a w j p s v
+  asked : (address_of s == a.addr) ≡ true → s.spec.silent ≡ false
       → (b : PortState) (below : Ports) → place_at (ready w).roots j p ≡ Some (full b s below) → (x : Ways a w p s)
       → outcome_in a w ≡ got a.max (in_law s (row_of below) a.ep a.max x.first x.second x.third).0
       → v ≡ (in_law s (row_of below) a.ep a.max x.first x.second x.third).1 → DidIn a w j p s v
 
-pub data DidOut (a : Attempt) (t : Toggle) (bytes : List ℕ) (w : World) : Relation where
-  other : {j : ℕ} {p : List ℕ} {s v : State} → (address_of s == a.addr) ≡ false → v ≡ s → DidOut a t bytes w j p s v
-  silent : {j : ℕ} {p : List ℕ} {s v : State} → (address_of s == a.addr) ≡ true → s.spec.silent ≡ true → outcome_in a w ≡ Nothing → v ≡ s → DidOut a t bytes w j p s v
-  asked : {j : ℕ} {p : List ℕ} {s v : State} → (address_of s == a.addr) ≡ true → s.spec.silent ≡ false → (x : Ways a w p s)
+pub data DidOut (a : Attempt) (t : Toggle) (bytes : List ℕ) (w : World) (j : ℕ) (p : List ℕ) (s v : State) : Type 0 where
+  other : (address_of s == a.addr) ≡ false → v ≡ s → DidOut a t bytes w j p s v
+  silent : (address_of s == a.addr) ≡ true → s.spec.silent ≡ true → outcome_in a w ≡ Nothing → v ≡ s → DidOut a t bytes w j p s v
+  asked : (address_of s == a.addr) ≡ true → s.spec.silent ≡ false → (x : Ways a w p s)
       → outcome_in a w ≡ got a.max (out_law s a.ep t bytes x.first x.second x.third).0
       → v ≡ (out_law s a.ep t bytes x.first x.second x.third).1 → DidOut a t bytes w j p s v
 
-pub data DidSetup (a : Attempt) (bytes : List ℕ) (w : World) : Relation where
-  other : {j : ℕ} {p : List ℕ} {s v : State} → (address_of s == a.addr) ≡ false → v ≡ s → DidSetup a bytes w j p s v
-  silent : {j : ℕ} {p : List ℕ} {s v : State} → (address_of s == a.addr) ≡ true → s.spec.silent ≡ true → outcome_in a w ≡ Nothing → v ≡ s → DidSetup a bytes w j p s v
-  asked : {j : ℕ} {p : List ℕ} {s v : State} → (address_of s == a.addr) ≡ true → s.spec.silent ≡ false
+pub data DidSetup (a : Attempt) (bytes : List ℕ) (w : World) (j : ℕ) (p : List ℕ) (s v : State) : Type 0 where
+  other : (address_of s == a.addr) ≡ false → v ≡ s → DidSetup a bytes w j p s v
+  silent : (address_of s == a.addr) ≡ true → s.spec.silent ≡ true → outcome_in a w ≡ Nothing → v ≡ s → DidSetup a bytes w j p s v
+  asked : (address_of s == a.addr) ≡ true → s.spec.silent ≡ false
       → (b : PortState) (below : Ports) → place_at (ready w).roots j p ≡ Some (full b s below) → (x : Ways a w p s)
       → outcome_in a w ≡ got a.max (setup_law s (row_of below) bytes x.first x.second x.third).0
       → v ≡ (setup_law s (row_of below) bytes x.first x.second x.third).1 → DidSetup a bytes w j p s v

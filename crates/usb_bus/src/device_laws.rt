@@ -10,7 +10,7 @@ ghost use Rattle.usb_bus.specs.World.{World};
 ghost use Rattle.usb_bus.specs.Steps.{attempt, after};
 ghost use Rattle.usb_bus.specs.Courses.{resets};
 ghost use Rattle.usb_bus.specs.OneHolder.{IsMade, IsSetup, IsOut, IsIn};
-ghost use Rattle.usb_bus.specs.Devices.{Relation, Was, EachWas, DidIn, DidOut, DidSetup};
+ghost use Rattle.usb_bus.specs.Devices.{Was, EachWas, DidIn, DidOut, DidSetup};
 
 /// An attempt, where no address is held twice: each device that is reachable after it was reachable before, and did what its law
 /// says, if the attempt was for it; nothing, if not (8.5). Setup data may besides reset a device: of these nothing is said here.
@@ -20,12 +20,4 @@ pub fn what_an_attempt_does_to_a_device()
     ensures setup { (a : Attempt) (w : World) (bytes : List ℕ) → IsMade a w → IsSetup a bytes → (after (attempt a) w).shared ≡ false
         → (j : ℕ) (p : List ℕ) (s : State) → resets (attempt a) w (suc j ∷ p) ≡ false
         → reach_at (after (attempt a) w).roots j p ≡ true → state_at (after (attempt a) w).roots j p ≡ Some s → Was (DidSetup a bytes w) w j p s }
-{}
-
-/// What is so of each device over one course and over the next is so over both.
-pub fn devices_over_courses()
-    ensures none { (R : Relation) → ((j : ℕ) (p : List ℕ) (s : State) → R j p s s) → (w : World) → EachWas R w w }
-    ensures joined { (R S T : Relation) → ((j : ℕ) (p : List ℕ) (s u v : State) → R j p s u → S j p u v → T j p s v)
-        → (old mid new : World) → EachWas R old mid → EachWas S mid new → EachWas T old new }
-    ensures wider { (R S : Relation) → ((j : ℕ) (p : List ℕ) (s v : State) → R j p s v → S j p s v) → (old new : World) → EachWas R old new → EachWas S old new }
 {}

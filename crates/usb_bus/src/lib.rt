@@ -24,7 +24,7 @@ pub use address_laws::{
 };
 pub use bus::Bus;
 pub use damage::{Damage, Damages, Harm};
-pub use device_laws::{devices_over_courses, what_an_attempt_does_to_a_device};
+pub use device_laws::what_an_attempt_does_to_a_device;
 pub use event::{Action, Due, Event, Events, SentBytes};
 pub use not_served::{NotServed, served};
 pub use one_holder::{
