@@ -14,3 +14,4 @@ pub mod Figures
 pub mod Views
 pub mod Lent
 pub mod Strays
+pub mod BulkProgress

@@ -37,6 +37,7 @@ pub fn read_status_goes_on()
 {}
 
 /// IN of the bulk IN endpoint (5.8): each byte of the source comes once, in order, whatever is lost.
+#[tactic(auto, using(crate::proofs::BulkProgress::sources))]
 pub fn source_goes_on()
     ensures source { (e most got : ℕ) (t : Toggle) (s : State) → IsSource e most s → 1 ≤ most → SourceAt most got t s → (row : List PortState) (max : ℕ) (t1 t2 t3 : Way)
         → SourceOn most got t s (taken_of t max (in_law s row e max t1 t2 t3).0) (in_law s row e max t1 t2 t3).1 }
