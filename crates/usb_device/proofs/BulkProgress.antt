@@ -1,5 +1,5 @@
 -- The bulk IN endpoint, one attempt after another.
-use Rattle.std.proofs.Common.{◌≡◌, ◌≢◌, ◌<◌, ◌≤◌, ◌==◌, ◌&&◌, ℕ, nat_le, if◌then◌else◌, Bool, true, false, List, [], length, take, drop, Option, None, Some, refl, ap, sym, subst, ◌∙◌, arith, length-drop}
+use Rattle.std.proofs.Common.{◌≡◌, ◌≢◌, ◌<◌, ◌≤◌, ◌==◌, ◌&&◌, ℕ, nat_le, if◌then◌else◌, Bool, true, false, List, [], length, take, drop, None, Some, refl, ap, sym, subst, ◌∙◌, arith, length-drop}
 use Rattle.std.proofs.lemmas.List.{length-take}
 use Rattle.std.proofs.lemmas.Bool.Decides.{nat_tests}
 use Rattle.usb_packet.specs.declared.Toggle.{Toggle}
@@ -7,7 +7,7 @@ use Rattle.usb_packet.specs.declared.Toggle.TheVariants.{Zero, One}
 use Rattle.usb_port.specs.PortState.{PortState}
 use Rattle.usb_device.specs.declared.answer.Answer.TheVariants.{Nak, Stall}
 use Rattle.usb_device.specs.declared.transfer.Giver.TheVariants as by
-use Rattle.usb_device.specs.Bulk.{other, advanced, tells_changes}
+use Rattle.usb_device.specs.Bulk.{other, advanced}
 use Rattle.usb_device.specs.Rows.{State, Reply, forgotten, payload, bulk_ack_row, bulk_of, rest_of}
 use Rattle.usb_device.specs.Attempt.{Way, whole, broken, lost, is_whole, heard, gave, source_law, changes_law, in_control_law, in_other_law, in_bulk_law, in_law}
 use Rattle.usb_device.specs.Progress.{taken_of, IsSource, SourceAt, level, ahead, SourceOn}
@@ -76,10 +76,12 @@ went_on e most got t s i g q p n false fits came = level g q
 went_on e most got t s i g q p n true false came = level g q
 went_on e most got t s i g q p n true true false =
     (ap (λ k. take most (drop k s.spec.source)) g, n, ahead (ap (λ k. advanced k most (length s.spec.source)) (sym g)) p (q ∙ sym (other_twice t)))
-went_on e most got t s i g q p n true true true =
-    (ap (λ k. take most (drop k s.spec.source)) g, n,
-    subst (λ o. SourceAt most (advanced got most (length s.spec.source)) (other t) (forgotten (bulk_ack_row s o))) (sym i.endpoint)
-    (level (ap (λ k. advanced k most (length s.spec.source)) g) (ap other q)))
+went_on e most got t s i g q p n true true true = (
+  ap (λ k. take most (drop k s.spec.source)) g,
+  n,
+  subst (λ o. SourceAt most (advanced got most (length s.spec.source)) (other t) (forgotten (bulk_ack_row s o))) (sym i.endpoint)
+      (level (ap (λ k. advanced k most (length s.spec.source)) g) (ap other q)),
+)
 
 gave_level : (e most got : ℕ) (t : Toggle) (s : State) → IsSource e most s → s.place ≡ got → s.bulk_in.toggle ≡ t → s.place < length s.spec.source → take most (rest_of s) ≢ []
     → (max : ℕ) (t2 t3 : Way) → On most got t s max (gave s by.Bulk max s.bulk_in.toggle (take most (rest_of s)) t2 t3)

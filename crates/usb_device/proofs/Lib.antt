@@ -15,3 +15,4 @@ pub mod Views
 pub mod Lent
 pub mod Strays
 pub mod BulkProgress
+pub mod ChangesProgress

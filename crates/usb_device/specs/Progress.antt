@@ -97,6 +97,10 @@ pub data PollAt (Told : ℕ → Type 0) (t : Toggle) (s : State) : Type 0 where
   told : (bits : ℕ) → Told bits → s.held ≡ Some bits → s.changes.toggle ≡ t → PollAt Told t s
   ahead : (bits : ℕ) → s.held ≡ Some bits → s.changes.toggle ≡ other t → PollAt Told t s
 
+-- what a test is true of
+abbrev pub Passes : (ℕ → Bool) → ℕ → Type 0
+Passes test bits = test bits ≡ true
+
 -- between two polls of which none failed
 abbrev pub NeverTold : ℕ → Type 0
 NeverTold bits = ⊥
