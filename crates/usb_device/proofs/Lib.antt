@@ -15,3 +15,5 @@ pub mod Views
 pub mod Lent
 pub mod Strays
 pub mod ControlProgress
+pub mod BulkProgress
+pub mod ChangesProgress

@@ -52,7 +52,7 @@ IsRead s = s.stage ≡ read
 -- this is the number of the bulk IN endpoint and the most bytes of its packets
 pub record IsSource (e most : ℕ) (s : State) : Type 0 where
   pub endpoint : bulk_of s true ≡ Some (e, most)
-  pub numbered : (e == 0) ≡ false
+  pub not_zero : (e == 0) ≡ false
   pub alone : (e == 1 && tells_changes s.spec s.registers) ≡ false
 
 -- the host has got this many bytes of the source, and awaits a toggle
@@ -68,7 +68,7 @@ SourceOn most got t s (Some bytes) s' = (bytes ≡ take most (drop got s.spec.so
 
 pub record IsSink (e most : ℕ) (s : State) : Type 0 where
   pub endpoint : bulk_of s false ≡ Some (e, most)
-  pub numbered : (e == 0) ≡ false
+  pub not_zero : (e == 0) ≡ false
 
 -- a packet is being sent with a toggle to a device that had taken these bytes before: it has not joined them, or it has, and the
 -- host has not seen the ACK
@@ -96,6 +96,10 @@ pub data PollAt (Told : ℕ → Type 0) (t : Toggle) (s : State) : Type 0 where
   level : s.held ≡ None → s.changes.toggle ≡ t → PollAt Told t s
   told : (bits : ℕ) → Told bits → s.held ≡ Some bits → s.changes.toggle ≡ t → PollAt Told t s
   ahead : (bits : ℕ) → s.held ≡ Some bits → s.changes.toggle ≡ other t → PollAt Told t s
+
+-- what a test is true of
+abbrev pub Passes : (ℕ → Bool) → ℕ → Type 0
+Passes test bits = test bits ≡ true
 
 -- between two polls of which none failed
 abbrev pub NeverTold : ℕ → Type 0

@@ -2,7 +2,7 @@
 //!
 //! They speak of one attempt with a device, whose packets come or do not, and answer and change as the laws of whole attempts say.
 //! Each call does nothing; what it ensures is for proofs to cite.
-ghost use Rattle.std.specs.Prelude.{◌≡◌, ◌⊎◌, ◌≤◌, ◌&&◌, ◌==◌, ℕ, List, [], Option, Some, true, false, length};
+ghost use Rattle.std.specs.Prelude.{◌≡◌, ◌⊎◌, ◌≤◌, ◌&&◌, ◌==◌, ℕ, Bool, List, [], Option, Some, true, false, length};
 ghost use Rattle.usb_packet.specs.declared.Toggle.{Toggle};
 ghost use Rattle.usb_packet.specs.declared.Toggle.TheVariants.{One};
 ghost use Rattle.usb_port.specs.PortState.{PortState};
@@ -11,7 +11,7 @@ ghost use Rattle.usb_device.specs.Bulk.{change_bits, tells_changes};
 ghost use Rattle.usb_device.specs.Transfer.{ending, toggle_at};
 ghost use Rattle.usb_device.specs.Rows.{State, forgotten};
 ghost use Rattle.usb_device.specs.Attempt.{Way, in_law, out_law};
-ghost use Rattle.usb_device.specs.Progress.{taken_of, ReadingAt, ReadOn, StatusOn, IsRead, IsSource, SourceAt, SourceOn, IsSink, SinkAt, SinkOn, PollAt, PollOn, OnlyControl, OnlyStage, OnlySource, OnlySink, OnlyChanges};
+ghost use Rattle.usb_device.specs.Progress.{taken_of, ReadingAt, ReadOn, StatusOn, IsRead, IsSource, SourceAt, SourceOn, IsSink, SinkAt, SinkOn, PollAt, Passes, PollOn, OnlyControl, OnlyStage, OnlySource, OnlySink, OnlyChanges};
 
 /// IN of endpoint 0 in a control read (8.5.3): each packet comes once, in order, whatever is lost.
 pub fn control_read_goes_on()
@@ -37,6 +37,7 @@ pub fn read_status_goes_on()
 {}
 
 /// IN of the bulk IN endpoint (5.8): each byte of the source comes once, in order, whatever is lost.
+#[tactic(auto, using(crate::proofs::BulkProgress::sources))]
 pub fn source_goes_on()
     ensures source { (e most got : ℕ) (t : Toggle) (s : State) → IsSource e most s → 1 ≤ most → SourceAt most got t s → (row : List PortState) (max : ℕ) (t1 t2 t3 : Way)
         → SourceOn most got t s (taken_of t max (in_law s row e max t1 t2 t3).0) (in_law s row e max t1 t2 t3).1 }
@@ -58,8 +59,9 @@ pub fn sink_goes_on()
 /// IN 1 of a configured hub (11.12.3): a byte comes once, and is what the ports told when it was given first; NAK comes where no
 /// port told of a change.
 pub fn changes_go_on()
-    ensures poll { (Told : ℕ → Type 0) (t : Toggle) (s : State) → tells_changes s.spec s.registers ≡ true → (row : List PortState) → Told (change_bits row) → PollAt Told t s
-        → (max : ℕ) → 1 ≤ max → (t1 t2 t3 : Way) → PollOn Told (change_bits row) t (in_law s row 1 max t1 t2 t3).0 (in_law s row 1 max t1 t2 t3).1 }
+    // A test that is true of what the ports tell now, and of what was given before, is true of the byte that comes.
+    ensures poll { (test : ℕ → Bool) (t : Toggle) (s : State) → tells_changes s.spec s.registers ≡ true → (row : List PortState) → test (change_bits row) ≡ true → PollAt (Passes test) t s
+        → (max : ℕ) → 1 ≤ max → (t1 t2 t3 : Way) → PollOn (Passes test) (change_bits row) t (in_law s row 1 max t1 t2 t3).0 (in_law s row 1 max t1 t2 t3).1 }
 {}
 
 /// What an attempt leaves as it is (8.5): it changes what its own endpoint has, and nothing else.
