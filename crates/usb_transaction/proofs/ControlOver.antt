@@ -1,6 +1,5 @@
 -- What IN of endpoint 0 leaves of each device.
-use Rattle.std.proofs.Common.{◌≡◌, ℕ, ◌==◌, ◌+◌, nat_le, ◌&&◌, if◌then◌else◌, Bool, true, false, List, [], ◌∷◌, length, Option, None, Some, is_some, Result, Ok, Err, refl, sym, subst, ap, ◌∙◌}
-use Rattle.arrayvec.specs.ArrayVec.{ArrayVec}
+use Rattle.std.proofs.Common.{◌≡◌, ℕ, ◌==◌, ◌+◌, nat_le, ◌&&◌, if◌then◌else◌, Bool, true, false, List, [], length, Option, None, Some, is_some, Result, Ok, Err, refl, sym, subst, ap, ◌∙◌}
 use Rattle.usb_packet.specs.declared.Toggle.{Toggle}
 use Rattle.usb_packet.specs.declared.Toggle.TheVariants.{Zero, One}
 use Rattle.usb_port.specs.PortState.{PortState}
@@ -15,9 +14,7 @@ use Rattle.usb_device.specs.Attempt.{Way, whole, broken, lost, is_whole, heard, 
 use Rattle.usb_device.specs.Tree.{row_of}
 use Rattle.usb_device.specs.Progress.{address_then, taken_of, ReadingAt, ReadOn, StatusGiven, seen, unseen, StatusOn, OnlyControl}
 use Rattle.usb_device.proofs.ControlProgress.{control_read}
-use Rattle.usb_bus.specs.declared.types.Outcome.{Outcome}
 use Rattle.usb_bus.specs.declared.types.Outcome.TheVariants as outcome
-use Rattle.usb_bus.specs.Live.{address_of}
 use Rattle.usb_bus.specs.Passes.{IsSettled}
 use Rattle.usb_bus.specs.OneHolder.{got}
 use Rattle.usb_bus.specs.World.{World}
@@ -33,7 +30,7 @@ use Rattle.usb_transaction.specs.Heard.{heard_as}
 use Rattle.usb_transaction.specs.Trail.{IsNoEnd, Ended}
 use Rattle.usb_transaction.specs.Trans.{packet_of, in_attempt}
 use Rattle.usb_transaction.specs.Over.{packet_in, is_at, ControlIn}
-use Rattle.usb_transaction.proofs.Overs.{StepsSo, LastIs, each_ended}
+use Rattle.usb_transaction.proofs.Overs.{LastIs, each_ended, other_twice, mine}
 
 -- What the host hears, and what it takes
 
@@ -135,9 +132,6 @@ stall_none awaited max broken = refl
 stall_none awaited max lost = refl
 
 -- a packet of a control read
-abbrev Acked : State → Bool → State
-Acked s x = if x then forgotten (ack_row s s.stage) else s
-
 read_frame : (answer : List ℕ) (wanted k : ℕ) (s : State) (x y : Bool)
     → OnlyControl (at_stage s (reading answer wanted k)) (if x then forgotten (if y then at_stage s (reading answer wanted (k + 1)) else at_stage s (reading answer wanted k)) else at_stage s (reading answer wanted k))
 read_frame answer wanted k s true true = refl
@@ -275,9 +269,6 @@ kept_none t awaited j p s = record {
 only_twice : (s u v : State) → OnlyControl s u → OnlyControl u v → OnlyControl s v
 only_twice s u v f g = g ∙ ap {A = State} (λ x. record x { memory = v.memory; naks = v.naks; stage = v.stage; registers = v.registers }) f
 
-other_twice : (t : Target) (s u v : State) → (is_at s t ≡ false → u ≡ s) → (is_at u t ≡ false → v ≡ u) → is_at s t ≡ false → v ≡ s
-other_twice t s u v f g h = g (ap (λ x. is_at x t) (f h) ∙ h) ∙ f h
-
 kept_twice : (t : Target) (awaited : Toggle) (j : ℕ) (p : List ℕ) (s u v : State) → Kept t awaited j p s u → Kept t awaited j p u v → Kept t awaited j p s v
 kept_twice t awaited j p s u v x y = record {
   others = other_twice t s u v x.others y.others;
@@ -293,9 +284,6 @@ reads_on : (awaited : Toggle) (answer : List ℕ) (wanted n max : ℕ) (s : Stat
 reads_on awaited answer wanted n max s row t1 t2 t3 o e h at =
     subst (λ x. ReadOn answer wanted n s x (in_law s row 0 max t1 t2 t3).1) (ap (λ x. taken_of x max (in_law s row 0 max t1 t2 t3).0) (sym e) ∙ h)
     (control_read answer wanted n s at row max t1 t2 t3)
-
-mine : (t : Target) (s : State) {P : Type 0} → is_at s t ≡ true → is_at s t ≡ false → P
-mine t s h g = cc (sym h ∙ g)
 
 kept_asked : (t : Target) (awaited : Toggle) (j : ℕ) (p : List ℕ) (s : State) (row : List PortState) (t1 t2 t3 : Way) → is_at s t ≡ true → taken_of awaited t.max (in_law s row 0 t.max t1 t2 t3).0 ≡ None
     → Kept t awaited j p s (in_law s row 0 t.max t1 t2 t3).1
@@ -373,8 +361,8 @@ kept_then t awaited result j p s u v x y = record {
   others = other_twice t s u v x.others y.others;
   frame = only_twice s u v x.frame y.frame;
   reading = λ at answer wanted n e h.
-    let r : _ = x.reads answer wanted n e h in
-    reads_from answer wanted n s u v (packet_in result) (ap (λ z. z.spec) x.frame) (y.reading (at_from t s u r.1 at) answer wanted n e r.0);
+      let r : _ = x.reads answer wanted n e h in
+      reads_from answer wanted n s u v (packet_in result) (ap (λ z. z.spec) x.frame) (y.reading (at_from t s u r.1 at) answer wanted n e r.0);
   status = λ at e a h. status_from a s u v (packet_in result) (x.fails e) (y.status (at_from t s u (x.fails e) at) e a (x.ends e a h));
   refused = λ h. ((y.refused (x.refuses h).0).0, λ at. (y.refused (x.refuses h).0).1 (at_from t s u (x.refuses h).1 at));
   failed = λ e fault h. y.failed e fault h ∙ x.fails e;

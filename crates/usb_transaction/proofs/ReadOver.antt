@@ -1,5 +1,5 @@
 -- What the status stage of a control read leaves of each device.
-use Rattle.std.proofs.Common.{◌≡◌, ◌⊎◌, inl, inr, ℕ, ◌==◌, ◌&&◌, if◌then◌else◌, Bool, true, false, List, [], Option, None, Some, Result, Ok, Err, refl, sym, subst, ap, ◌∙◌}
+use Rattle.std.proofs.Common.{◌≡◌, ◌⊎◌, inl, inr, ℕ, ◌==◌, ◌&&◌, if◌then◌else◌, Bool, true, false, List, [], Option, None, Some, Result, Ok, refl, sym, subst, ap, ◌∙◌}
 use Rattle.usb_packet.specs.declared.Toggle.TheVariants.{One}
 use Rattle.usb_device.specs.declared.answer.Answer.{Answer}
 use Rattle.usb_device.specs.declared.answer.Answer.TheVariants as answer
@@ -9,23 +9,20 @@ use Rattle.usb_device.specs.Attempt.{Way, whole, broken, lost, is_whole, heard, 
 use Rattle.usb_device.specs.Progress.{IsRead, OnlyStage}
 use Rattle.usb_bus.specs.declared.types.Outcome.{Outcome}
 use Rattle.usb_bus.specs.declared.types.Outcome.TheVariants as outcome
-use Rattle.usb_bus.specs.Live.{address_of}
 use Rattle.usb_bus.specs.Passes.{IsSettled}
-use Rattle.usb_bus.specs.OneHolder.{got}
 use Rattle.usb_bus.specs.World.{World}
 use Rattle.usb_bus.specs.Steps.{attempt, after, outcome_in}
 use Rattle.usb_bus.specs.Devices.{EachWas, DidOut}
 use Rattle.usb_bus.proofs.Devices.{each_wider, each_out}
 use Rattle.usb_transaction.specs.declared.target.Target.{Target}
 use Rattle.usb_transaction.specs.declared.fault.TransFault.{TransFault}
-use Rattle.usb_transaction.specs.declared.fault.TransFault.TheVariants.{Stalled, Busy, NoAnswer, Bus}
 use Rattle.usb_transaction.specs.Heard.{sent_as}
 use Rattle.usb_transaction.specs.Trail.{Ended}
 use Rattle.usb_transaction.specs.Trans.{packet_of, out_attempt}
 use Rattle.usb_transaction.specs.Over.{is_at, IsInRead, data_stage, over, ReadStatus}
 use Rattle.usb_transaction.proofs.Lasts.{sent_last}
 use Rattle.usb_transaction.proofs.Meanings.{got_ack}
-use Rattle.usb_transaction.proofs.Overs.{LastIs, each_ended}
+use Rattle.usb_transaction.proofs.Overs.{LastIs, each_ended, other_twice, mine}
 
 -- One attempt with one device
 
@@ -101,9 +98,6 @@ kept_none t j p s = record { others = λ h. refl; frame = refl; moves = inl refl
 only_twice : (s u v : State) → OnlyStage s u → OnlyStage u v → OnlyStage s v
 only_twice s u v f g = g ∙ ap {A = State} (λ x. record x { memory = v.memory; naks = v.naks; stage = v.stage }) f
 
-other_twice : (t : Target) (s u v : State) → (is_at s t ≡ false → u ≡ s) → (is_at u t ≡ false → v ≡ u) → is_at s t ≡ false → v ≡ s
-other_twice t s u v f g h = g (ap (λ x. is_at x t) (f h) ∙ h) ∙ f h
-
 -- one that stands where another stands is in a control read if the other is
 as_other : (s u : State) → u.stage ≡ s.stage → IsInRead u → IsInRead s
 as_other s u e (data_stage answer wanted known h) = data_stage answer wanted known (sym e ∙ h)
@@ -117,9 +111,6 @@ moves_twice s u v (inr x) (inr y) = inr (y.0, x.1)
 
 kept_twice : (t : Target) (j : ℕ) (p : List ℕ) (s u v : State) → Kept t j p s u → Kept t j p u v → Kept t j p s v
 kept_twice t j p s u v x y = record { others = other_twice t s u v x.others y.others; frame = only_twice s u v x.frame y.frame; moves = moves_twice s u v x.moves y.moves }
-
-mine : (t : Target) (s : State) {P : Type 0} → is_at s t ≡ true → is_at s t ≡ false → P
-mine t s h g = cc (sym h ∙ g)
 
 kept_asked : (t : Target) (j : ℕ) (p : List ℕ) (s : State) (t1 t2 t3 : Way) → is_at s t ≡ true → Kept t j p s (out_law s 0 One [] t1 t2 t3).1
 kept_asked t j p s t1 t2 t3 at =
@@ -155,7 +146,7 @@ last_did t result w c j p s v (DidOut.asked d q x o e) =
     record {
       kept = subst (λ y. Kept t j p s y) (sym e) (kept_asked t j p s x.first x.second x.third d);
       done = λ at bytes h. subst (λ y. IsRead y × IsInRead s) (sym e)
-        ((out_in s x.first x.second x.third).done (got_ack t.max r.0 (sym o ∙ acked_last result (outcome_in (out_attempt t 0 One []) w) bytes c h)));
+          ((out_in s x.first x.second x.third).done (got_ack t.max r.0 (sym o ∙ acked_last result (outcome_in (out_attempt t 0 One []) w) bytes c h)));
     }
 
 -- A device over both
