@@ -183,7 +183,7 @@ ready_settled w h = due_settled w.left w h
 pub equal_same : (n x : ℕ) → (n == x) ≡ true → n ≡ x
 equal_same n x h = grind (arith, nat_tests)
 
-unequal : (n x : ℕ) → (n ≡ x → ⊥) → (n == x) ≡ false
+pub unequal : (n x : ℕ) → (n ≡ x → ⊥) → (n == x) ≡ false
 unequal n x h = pick (decided (n == x))
   where
     pick : ((n == x) ≡ true) ⊎ ((n == x) ≡ false) → (n == x) ≡ false
@@ -194,7 +194,7 @@ pub made_is : (a : Attempt) (w : World) → IsMade a w → after (attempt a) w �
 unfolding after
 made_is a w m = rw (m.sound, unequal w.attempts w.limit m.within) refl
 
-same_test : (n x : ℕ) → n ≡ x → (n == x) ≡ true
+pub same_test : (n x : ℕ) → n ≡ x → (n == x) ≡ true
 same_test n x h = grind (arith, nat_tests)
 
 at_limit : (a : Attempt) (w : World) → w.fault ≡ None → w.attempts ≡ w.limit → (after (attempt a) w).fault ≡ Some LimitReached

@@ -153,7 +153,7 @@ happened_state (Send x b) d k p h = refl
 happened_state (Receive x n) d k p h = refl
 happened_state (Clear x) d k p h = refl
 
-due_state : (es : List Event) (w : World) (p : List ℕ) → reach (due_from es w).roots p ≡ true → state_there (due_from es w).roots p ≡ state_there w.roots p
+pub due_state : (es : List Event) (w : World) (p : List ℕ) → reach (due_from es w).roots p ≡ true → state_there (due_from es w).roots p ≡ state_there w.roots p
 unfolding due_from took
 due_state [] w p h = refl
 due_state (e ∷ es) w p h =
@@ -362,7 +362,7 @@ quiet_sends a d h = setup_sends a d a.kind a.payload refl refl h
 
 -- Steps
 
-quiet_resets : (s : Step) (w : World) (p : List ℕ) → is_quiet s ≡ true → resets s w p ≡ false
+pub quiet_resets : (s : Step) (w : World) (p : List ℕ) → is_quiet s ≡ true → resets s w p ≡ false
 unfolding resets
 quiet_resets (attempt a) w p h = made (is_made w.fault w) (by_path p)
   where

@@ -2,3 +2,4 @@ pub mod Heard
 pub mod Trans
 pub mod Trail
 pub mod Meaning
+pub mod Over

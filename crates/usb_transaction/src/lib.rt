@@ -13,6 +13,7 @@ mod done;
 mod fault;
 mod heard;
 mod meaning;
+mod over_laws;
 mod poll;
 mod read;
 mod set_up;
@@ -23,6 +24,10 @@ mod write;
 pub use done::Done;
 pub use fault::TransFault;
 pub use meaning::{what_data_in_tells, what_data_out_tells, what_setup_tells};
+pub use over_laws::{
+    what_a_poll_leaves, what_bulk_in_leaves, what_bulk_out_leaves, what_control_in_leaves,
+    what_read_status_leaves, what_setup_leaves,
+};
 pub use poll::poll_in;
 pub use read::data_in;
 pub use set_up::setup;

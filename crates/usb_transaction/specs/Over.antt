@@ -1,0 +1,108 @@
+-- One device over a transaction: what it was before, seen from where it is reachable after it.
+use Rattle.std.specs.Prelude.{◌≡◌, ◌⊎◌, ◌==◌, ◌≤◌, ℕ, List, length, Bool, true, false, Option, None, Some, Result, Ok, Err}
+use Rattle.usb_packet.specs.declared.Toggle.{Toggle}
+use Rattle.usb_packet.specs.declared.Toggle.TheVariants.{One}
+use Rattle.usb_port.specs.PortState.{PortState}
+use Rattle.usb_request.specs.Layout.{setup_of}
+use Rattle.usb_device.specs.Bulk.{tells_changes, change_bits}
+use Rattle.usb_device.specs.Rows.{State, accepted}
+use Rattle.usb_device.specs.Transfer.{ending, reading, refused as stage_refused, toggle_at}
+use Rattle.usb_device.specs.Tree.{Ports, full, row_of, place_at}
+use Rattle.usb_device.specs.Progress.{ReadingAt, ReadOn, StatusOn, IsRead, IsSource, SourceAt, SourceOn, IsSink, SinkAt, Joined, PollAt, NeverTold, ToldByte, OnlyControl, OnlyStage, OnlySource, OnlySink, OnlyChanges}
+use Rattle.usb_bus.specs.declared.types.Attempt.{Attempt}
+use Rattle.usb_bus.specs.declared.types.Outcome.{Outcome}
+use Rattle.usb_bus.specs.Live.{address_of}
+use Rattle.usb_bus.specs.World.{World}
+use Rattle.usb_bus.specs.Steps.{ready}
+use Rattle.usb_transaction.specs.declared.target.Target.{Target}
+use Rattle.usb_transaction.specs.declared.fault.TransFault.{TransFault}
+use Rattle.usb_transaction.specs.declared.fault.TransFault.TheVariants.{Stalled, Busy, NoAnswer, Bus}
+use Rattle.usb_transaction.specs.Trail.{Trail}
+use Rattle.usb_transaction.specs.Trans.{in_attempt}
+
+-- the packet that came with an answer
+abbrev pub packet_in : Result (List ℕ) TransFault → Option (List ℕ)
+packet_in (Ok bytes) = Some bytes
+packet_in (Err fault) = None
+
+abbrev pub is_at : State → Target → Bool
+is_at s t = address_of s == t.addr
+
+-- IN of endpoint 0, by a host that awaits a toggle (8.5.3)
+pub record ControlIn (t : Target) (awaited : Toggle) (result : Result (List ℕ) TransFault) (j : ℕ) (p : List ℕ) (s v : State) : Type 0 where
+  pub others : is_at s t ≡ false → v ≡ s
+  pub frame : OnlyControl s v
+  pub reading : is_at s t ≡ true → (answer : List ℕ) (wanted n : ℕ) → awaited ≡ toggle_at n → ReadingAt answer wanted n s → ReadOn answer wanted n s (packet_in result) v
+  pub status : is_at s t ≡ true → awaited ≡ One → (a : Option ℕ) → s.stage ≡ ending a → StatusOn a s (packet_in result) v
+  pub refused : s.stage ≡ stage_refused → (v.stage ≡ stage_refused) × (is_at s t ≡ true → (bytes : List ℕ) → result ≡ Ok bytes → ⊥)
+  pub failed : awaited ≡ One → (fault : TransFault) → result ≡ Err fault → v.registers ≡ s.registers
+
+-- in the data stage or the status stage of a control read, or behind it
+pub data IsInRead (s : State) : Type 0 where
+  data_stage : (answer : List ℕ) (wanted known : ℕ) → s.stage ≡ reading answer wanted known → IsInRead s
+  over : IsRead s → IsInRead s
+
+-- OUT of no bytes to endpoint 0 with DATA1, which ends a control read (8.5.3)
+pub record ReadStatus (t : Target) (result : Result (List ℕ) TransFault) (j : ℕ) (p : List ℕ) (s v : State) : Type 0 where
+  pub others : is_at s t ≡ false → v ≡ s
+  pub frame : OnlyStage s v
+  pub kept : (v.stage ≡ s.stage) ⊎ IsRead v
+  pub done : is_at s t ≡ true → (bytes : List ℕ) → result ≡ Ok bytes → IsRead v × IsInRead s
+
+-- IN of a bulk endpoint (5.8)
+pub record SourceIn (t : Target) (ep : ℕ) (awaited : Toggle) (result : Result (List ℕ) TransFault) (j : ℕ) (p : List ℕ) (s v : State) : Type 0 where
+  pub others : is_at s t ≡ false → v ≡ s
+  pub frame : (most : ℕ) → IsSource ep most s → OnlySource s v
+  pub source : is_at s t ≡ true → (most got : ℕ) → IsSource ep most s → 1 ≤ most → SourceAt most got awaited s → SourceOn most got awaited s (packet_in result) v
+  pub stalled : is_at s t ≡ true → (most : ℕ) → IsSource ep most s → result ≡ Err Stalled → (s.bulk_in.halted ≡ true) × (v ≡ s)
+
+-- what an answer says of a packet that was sent to a bulk endpoint
+abbrev pub SinkEnds : List ℕ → List ℕ → Toggle → Result (List ℕ) TransFault → State → Type 0
+SinkEnds before bytes toggle (Ok done) v = Joined before bytes toggle v
+SinkEnds before bytes toggle (Err Stalled) v = SinkAt before bytes toggle v × (v.bulk_out.halted ≡ true)
+SinkEnds before bytes toggle (Err Busy) v = SinkAt before bytes toggle v
+SinkEnds before bytes toggle (Err NoAnswer) v = SinkAt before bytes toggle v
+SinkEnds before bytes toggle (Err (Bus fault)) v = SinkAt before bytes toggle v
+
+-- OUT of a bulk endpoint (5.8)
+pub record SinkOut (t : Target) (ep : ℕ) (toggle : Toggle) (bytes : List ℕ) (result : Result (List ℕ) TransFault) (j : ℕ) (p : List ℕ) (s v : State) : Type 0 where
+  pub others : is_at s t ≡ false → v ≡ s
+  pub frame : (most : ℕ) → IsSink ep most s → OnlySink s v
+  pub sink : is_at s t ≡ true → (most : ℕ) (before : List ℕ) → IsSink ep most s → length bytes ≤ most → SinkAt before bytes toggle s → SinkEnds before bytes toggle result v
+  pub halted : is_at s t ≡ true → (most : ℕ) → IsSink ep most s → s.bulk_out.halted ≡ true → (v ≡ s) × ((done : List ℕ) → result ≡ Ok done → ⊥)
+
+-- the hub's ports told these bits when one of the attempts of a poll was made
+pub record ToldIn (a : Attempt) (old : World) (j : ℕ) (p : List ℕ) (bits : ℕ) : Type 0 where
+  pub outcomes : List Outcome
+  pub mid : World
+  pub trail : Trail a old outcomes mid
+  pub b : PortState
+  pub s : State
+  pub below : Ports
+  pub stood : place_at (ready mid).roots j p ≡ Some (full b s below)
+  pub told : bits ≡ change_bits (row_of below)
+
+abbrev pub PollEnds : (ℕ → Type 0) → Toggle → Result (Option (List ℕ)) TransFault → State → Type 0
+PollEnds Told toggle (Ok None) v = Told 0 × PollAt NeverTold toggle v
+PollEnds Told toggle (Ok (Some bytes)) v = ToldByte Told toggle bytes v
+PollEnds Told toggle (Err Stalled) v = PollAt Told toggle v × (v.changes.halted ≡ true)
+PollEnds Told toggle (Err Busy) v = PollAt Told toggle v
+PollEnds Told toggle (Err NoAnswer) v = PollAt Told toggle v
+PollEnds Told toggle (Err (Bus fault)) v = PollAt Told toggle v
+
+-- a poll of a hub's status endpoint (11.12.3)
+pub record ChangesIn (t : Target) (toggle : Toggle) (old : World) (result : Result (Option (List ℕ)) TransFault) (j : ℕ) (p : List ℕ) (s v : State) : Type 0 where
+  pub others : is_at s t ≡ false → v ≡ s
+  pub frame : tells_changes s.spec s.registers ≡ true → OnlyChanges s v
+  pub poll : is_at s t ≡ true → tells_changes s.spec s.registers ≡ true → PollAt NeverTold toggle s → PollEnds (ToldIn (in_attempt t 1) old j p) toggle result v
+
+-- a device accepted setup data once or more often, and is as after the last time; these were its ports then
+pub record AcceptedSince (bytes : List ℕ) (s v : State) : Type 0 where
+  pub row : List PortState
+  pub is : v ≡ accepted s row (setup_of bytes)
+
+-- SETUP of a request that resets no port (8.5.3)
+pub record SetupDone (t : Target) (bytes : List ℕ) (result : Result (List ℕ) TransFault) (j : ℕ) (p : List ℕ) (s v : State) : Type 0 where
+  pub others : is_at s t ≡ false → v ≡ s
+  pub kept : (v ≡ s) ⊎ AcceptedSince bytes s v
+  pub done : is_at s t ≡ true → (got : List ℕ) → result ≡ Ok got → AcceptedSince bytes s v
