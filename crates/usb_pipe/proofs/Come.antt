@@ -1,6 +1,6 @@
 -- How the packets that are received join.
-use Rattle.std.proofs.Common.{◌≡◌, ◌∙◌, refl, sym, ap, subst, add-one, arith, inl, inr}
-use Rattle.std.specs.Prelude.{ℕ, ◌+◌, ◌<◌, ◌≤◌, ◌⊎◌, List, [], ◌++◌, length, Result, Ok, Err}
+use Rattle.std.proofs.Common.{◌≡◌, refl, sym, subst, arith, inl, inr}
+use Rattle.std.specs.Prelude.{ℕ, ◌+◌, ◌<◌, ◌≤◌, List, [], ◌++◌, length, Result, Ok, Err}
 use Rattle.std.specs.Result.{IsErr, IsErrAnd}
 use Rattle.std.specs.Global.{Vec}
 use Rattle.usb_packet.specs.declared.Toggle.{Toggle}
@@ -11,21 +11,21 @@ use Rattle.usb_pipe.specs.declared.fault.PipeFault.{PipeFault}
 use Rattle.usb_pipe.specs.declared.fault.PipeFault.TheVariants.{Memory}
 use Rattle.usb_pipe.specs.Control.{fault_of}
 use Rattle.usb_pipe.specs.Toggles.{flips}
-use Rattle.usb_pipe.specs.Moves.{Fetches, Came, start, packet, AllCame, NotCame, NoRoomLeft, ReceiveEnds}
+use Rattle.usb_pipe.specs.Moves.{Fetches, Came, start, packet, AllCame, ReceiveEnds}
 
 pub came_none : (t : Target) (ep : ℕ) (first : Toggle) (got : List ℕ) (w : World) → got ≡ [] → Came t ep first w 0 got w
 came_none t ep first got w none = rw none start
 
 -- a full packet more
-pub came_more : (t : Target) (ep : ℕ) (first : Toggle) (n m : ℕ) {old mid new : World} {got kept : List ℕ} {toggle : Toggle} (bytes : List ℕ) → m ≡ n + 1 → Came t ep first old n got mid → toggle ≡ flips n first → Fetches t ep toggle mid (Ok bytes) new
-    → length bytes ≡ t.max → kept ≡ got ++ bytes → Came t ep first old m kept new
-came_more t ep first n m {old} {mid} {new} {got} {kept} {toggle} bytes next c turned asks full is =
-    rw (next, is) (packet bytes c (subst (λ x. Fetches t ep x mid (Ok bytes) new) turned asks) full)
+pub came_more : (t : Target) (ep : ℕ) (first : Toggle) (n m : ℕ) {old mid new : World} {got front kept : List ℕ} {toggle : Toggle} (bytes : List ℕ) → m ≡ n + 1 → Came t ep first old n got mid → toggle ≡ flips n first → Fetches t ep toggle mid (Ok bytes) new
+    → length bytes ≡ t.max → front ≡ bytes → kept ≡ got ++ front → Came t ep first old m kept new
+came_more t ep first n m {old} {mid} {new} {got} {front} {kept} {toggle} bytes next c turned asks full same is =
+    rw (next, is, same) (packet bytes c (subst (λ x. Fetches t ep x mid (Ok bytes) new) turned asks) full)
 
 -- a short one ends the transfer
-pub short_came : (t : Target) (ep : ℕ) (first : Toggle) (n wanted : ℕ) {old mid new : World} {got kept : List ℕ} {toggle : Toggle} (last : List ℕ) → n < wanted → Came t ep first old n got mid → toggle ≡ flips n first → Fetches t ep toggle mid (Ok last) new
-    → length last < t.max → kept ≡ got ++ last → AllCame t ep first wanted old kept new
-short_came t ep first n wanted {old} {mid} {new} {got} {kept} {toggle} last few c turned asks short is = record {
+pub short_came : (t : Target) (ep : ℕ) (first : Toggle) (n wanted : ℕ) {old mid new : World} {got front kept : List ℕ} {toggle : Toggle} (last : List ℕ) → n < wanted → Came t ep first old n got mid → toggle ≡ flips n first → Fetches t ep toggle mid (Ok last) new
+    → length last < t.max → front ≡ last → kept ≡ got ++ front → AllCame t ep first wanted old kept new
+short_came t ep first n wanted {old} {mid} {new} {got} {front} {kept} {toggle} last few c turned asks short same is = record {
   packets = n;
   few = few;
   got = got;
@@ -34,7 +34,7 @@ short_came t ep first n wanted {old} {mid} {new} {got} {kept} {toggle} last few 
   last = last;
   came = subst (λ x. Fetches t ep x mid (Ok last) new) turned asks;
   fits = omega (arith, short);
-  kept = is;
+  kept = rw (sym same) is;
   ends = inr short;
 }
 

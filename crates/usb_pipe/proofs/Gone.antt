@@ -11,7 +11,7 @@ use Rattle.usb_transaction.specs.Heard.{flip}
 use Rattle.usb_pipe.specs.declared.fault.PipeFault.{PipeFault}
 use Rattle.usb_pipe.specs.Control.{fault_of}
 use Rattle.usb_pipe.specs.Toggles.{flips}
-use Rattle.usb_pipe.specs.Moves.{Puts, Gave, start, packet, AllGone, NotGone, SendEnds}
+use Rattle.usb_pipe.specs.Moves.{Puts, Gave, start, packet, AllGone, SendEnds}
 
 -- so far these bytes are left
 pub record Going (t : Target) (ep : ℕ) (first : Toggle) (total : List ℕ) (old : World) (rest : List ℕ) (toggle : Toggle) (now : World) : Type 0 where

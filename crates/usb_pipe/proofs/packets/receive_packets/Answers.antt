@@ -1,4 +1,4 @@
-use Rattle.std.proofs.Common.{◌≡◌, ◌∙◌, sym, ap, ◌*◌, ◌<◌, ◌≤◌, ◌+◌, ◌++◌, length, length-append, arith}
+use Rattle.std.proofs.Common.{◌≡◌, ap, ◌*◌, ◌<◌, ◌+◌, length, length-append, arith}
 use Rattle.usb_pipe.proofs.Moves.{moved_none, moved_more, moved_turned, packets_short}
 use Rattle.usb_pipe.proofs.Come.{came_none, came_more, short_came, all_came, not_came, no_room_left}
 use Rattle.usb_pipe.proofs.packets.receive_packets.Goals as goal
@@ -17,19 +17,17 @@ packets-preserved g c =
     let joined = length-append c.packets.bytes.items c.bytes.result.now in
     let given = ap length c.bytes.ensures.value in
     let again = ap length c.bytes-in-packets.ensures.value in
-    let kept : c.extend_from_slice.new.self.items ≡ c.packets.bytes.items ++ c.in_ok-packet.packet = c.in_ok-extend_from_slice.ensures.items ∙ ap (λ x. c.packets.bytes.items ++ x) c.bytes.ensures.value in
     let full : length c.in_ok-packet.packet ≡ c.args.target.max = omega (arith, again, c.if-bytes-from.false, c.from.ensures, c.in_ok-packet.ensures.short) in record {
       size = omega (arith, grown, joined, given, again, c.packets.invariant.size, c.if-bytes-from.false, c.from.ensures, c.in_ok-packet.ensures.short);
       moved = moved_more _ _ _ _ _ (omega arith) c.packets.invariant.moved c.data_in.ensures.count c.in_ok-packet.ensures.ends c.in_ok-packet.ensures.toggle_ok;
-      came = came_more c.args.target c.args.ep _ c.packets._taken _ c.in_ok-packet.packet (omega arith) c.packets.invariant.came c.packets.invariant.moved.turned c.in_ok-packet.ensures.heard full kept;
+      came = came_more c.args.target c.args.ep _ c.packets._taken _ c.in_ok-packet.packet (omega arith) c.packets.invariant.came c.packets.invariant.moved.turned c.in_ok-packet.ensures.heard full c.bytes.ensures.value c.in_ok-extend_from_slice.ensures.items;
     }
 
 pub returns-then-bytes-from-clause-moves : goal.returns-then-bytes-from-clause-moves
 returns-then-bytes-from-clause-moves g c =
     let again = ap length c.bytes-in-packets.ensures.value in
-    let kept : c.extend_from_slice.new.self.items ≡ c.packets.bytes.items ++ c.in_ok-packet.packet = c.in_ok-extend_from_slice.ensures.items ∙ ap (λ x. c.packets.bytes.items ++ x) c.bytes.ensures.value in
     let short : length c.in_ok-packet.packet < c.args.target.max = omega (arith, again, c.if-bytes-from.true, c.from.ensures) in
-    short_came c.args.target c.args.ep _ c.packets._taken c.args.wanted c.in_ok-packet.packet c.packets-test.true c.packets.invariant.came c.packets.invariant.moved.turned c.in_ok-packet.ensures.heard short kept
+    short_came c.args.target c.args.ep _ c.packets._taken c.args.wanted c.in_ok-packet.packet c.packets-test.true c.packets.invariant.came c.packets.invariant.moved.turned c.in_ok-packet.ensures.heard short c.bytes.ensures.value c.in_ok-extend_from_slice.ensures.items
 
 pub returns-then-bytes-from-clause-toggle : goal.returns-then-bytes-from-clause-toggle
 returns-then-bytes-from-clause-toggle g c =
