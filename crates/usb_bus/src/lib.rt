@@ -10,6 +10,7 @@ mod losses;
 mod not_served;
 mod one_holder;
 mod plan;
+mod plugged_laws;
 mod sim;
 mod trace;
 mod types;
@@ -32,6 +33,7 @@ pub use one_holder::{
     what_is_heard_of_the_holder,
 };
 pub use plan::Plan;
+pub use plugged_laws::plugged_is_what_the_events_left;
 pub use sim::SimBus;
 pub use types::{Attempt, BusFault, Outcome};
 pub use watched::{Watched, WriteFailed, put_piece};
