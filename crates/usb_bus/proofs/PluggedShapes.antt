@@ -1,10 +1,10 @@
 -- Which devices stand where, as a tree, and what an event makes of it.
-use Rattle.std.proofs.Common.{◌≡◌, ℕ, zero, suc, ◌&&◌, Bool, true, false, List, [], ◌∷◌, ◌++◌, Option, None, Some, option_map, ◌<◌, refl, ap, sym, arith}
+use Rattle.std.proofs.Common.{◌≡◌, ℕ, zero, suc, ◌&&◌, Bool, true, false, List, [], ◌∷◌, ◌++◌, Option, None, Some, ◌<◌, refl, ap, sym, arith}
 use Rattle.std.specs.Prelude.{⊤}
 use Rattle.usb_device.specs.Spec.{Spec}
 use Rattle.usb_bus.specs.Live.{same_number, same_path, is_way, on_way}
 use Rattle.usb_bus.specs.Plugged.{hub_ports}
-use Rattle.usb_bus.proofs.Booleans.{no, both}
+use Rattle.usb_bus.proofs.Booleans.{no}
 
 -- a row of ports: no port more, an empty port, or a port with a device and that device's ports
 pub data Shape : Type 0 where

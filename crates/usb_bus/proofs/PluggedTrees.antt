@@ -1,10 +1,9 @@
 -- What is plugged after an event, path by path, as a plan has it and as the ports have it.
-use Rattle.std.proofs.Common.{◌≡◌, ℕ, zero, suc, ◌-◌, ◌≤◌, ◌<◌, ◌==◌, ◌&&◌, ◌||◌, inl, inr, not, cond, if◌then◌else◌, Bool, true, false, List, [], ◌∷◌, ◌++◌, length, take, Option, None, Some, is_some, option_map, slice_get, nat_eq, nat_lt, nat_le, All, refl, ap, ap₂, sym, subst, ◌∙◌, arith, ⊎_elim, Ordering, Less, Equal, Greater, is_eq}
+use Rattle.std.proofs.Common.{◌≡◌, ℕ, zero, suc, ◌-◌, ◌≤◌, ◌<◌, ◌==◌, ◌&&◌, not, cond, Bool, true, false, List, [], ◌∷◌, ◌++◌, length, take, Option, None, Some, is_some, slice_get, nat_eq, nat_le, All, refl, ap, ap₂, sym, subst, ◌∙◌, arith, ⊎_elim, Ordering, Less, Equal, Greater, is_eq}
 use Rattle.std.specs.Prelude.{⊤}
 use Rattle.std.specs.Ordering.{match_ordering}
 use Rattle.std.specs.Cmp.Lexicographic.{bytes_decides}
 use Rattle.std.specs.List.{starts_with}
-use Rattle.std.specs.Map.{lookup}
 use Rattle.std.specs.BTreeMap.{insert_entry}
 use Rattle.std.proofs.lemmas.Bool.{eqb-true, eq-eqb, leb-true, lt-ltb}
 use Rattle.std.proofs.lemmas.List.Elements.{All-head, All-tail}
