@@ -11,24 +11,22 @@ use Rattle.usb_device.specs.declared.transfer.Giver.TheVariants as by
 use Rattle.usb_device.specs.Bulk.{is_same, tells_changes, change_bits}
 use Rattle.usb_device.specs.Rows.{State, Reply, forgotten, acknowledged, bulk_of}
 use Rattle.usb_device.specs.Attempt.{Way, whole, broken, lost, is_whole, heard, gave, held_law, changes_law, in_bulk_law, in_law}
-use Rattle.usb_device.specs.Tree.{Ports, full, row_of, place_at}
+use Rattle.usb_device.specs.Tree.{row_of}
 use Rattle.usb_device.specs.Progress.{PollAt, level, told, ahead, NeverTold, ToldByte, PollOn, OnlyChanges}
 use Rattle.usb_device.proofs.ChangesProgress.{poll_on}
 use Rattle.usb_bus.specs.declared.types.Outcome.{Outcome}
 use Rattle.usb_bus.specs.declared.types.Outcome.TheVariants as outcome
 use Rattle.usb_bus.specs.Passes.{IsSettled}
-use Rattle.usb_bus.specs.OneHolder.{IsMade, got}
+use Rattle.usb_bus.specs.OneHolder.{got}
 use Rattle.usb_bus.specs.World.{World}
-use Rattle.usb_bus.specs.Steps.{ready, attempt, after, outcome_in}
+use Rattle.usb_bus.specs.Steps.{attempt, after, outcome_in}
 use Rattle.usb_bus.specs.Devices.{EachWas, DidIn}
 use Rattle.usb_bus.proofs.Booleans.{no, decided}
 use Rattle.usb_bus.proofs.Devices.{each_in, each_wider}
 use Rattle.usb_transaction.specs.declared.target.Target.{Target}
 use Rattle.usb_transaction.specs.declared.fault.TransFault.{TransFault}
 use Rattle.usb_transaction.specs.declared.fault.TransFault.TheVariants.{Stalled, Busy, NoAnswer, Bus}
-use Rattle.usb_transaction.specs.declared.heard.Heard.{Heard}
-use Rattle.usb_transaction.specs.declared.heard.Heard.TheVariants.{Moved, Repeat}
-use Rattle.usb_transaction.specs.Heard.{same_toggle, heard_as}
+use Rattle.usb_transaction.specs.Heard.{heard_as}
 use Rattle.usb_transaction.specs.Trail.{Trail, IsNoEnd, HasNoNak, Waiting, PollEnded}
 use Rattle.usb_transaction.specs.Trans.{packet_of, in_attempt}
 use Rattle.usb_transaction.specs.Over.{is_at, ToldIn, PollEnds, ChangesIn}
