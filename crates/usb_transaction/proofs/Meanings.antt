@@ -61,7 +61,7 @@ asked_at l y = record {
 }
 
 -- what the host got tells what was answered
-got_ack : (max : ℕ) (o : Option Answer) → got max o ≡ outcome.Ack → o ≡ Some answer.Ack
+pub got_ack : (max : ℕ) (o : Option Answer) → got max o ≡ outcome.Ack → o ≡ Some answer.Ack
 got_ack max None e = cc e
 got_ack max (Some answer.Ack) e = refl
 got_ack max (Some answer.Nak) e = cc e

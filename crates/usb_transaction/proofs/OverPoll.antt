@@ -32,7 +32,7 @@ use Rattle.usb_transaction.specs.Trans.{packet_of, in_attempt}
 use Rattle.usb_transaction.specs.Over.{is_at, ToldIn, PollEnds, ChangesIn}
 use Rattle.usb_transaction.proofs.Lasts.{read_last}
 use Rattle.usb_transaction.proofs.Meanings.{got_stall, got_payload}
-use Rattle.usb_transaction.proofs.Overs.{StepsSo, LastIs, last_is, none_ends_a_poll, each_then}
+use Rattle.usb_transaction.proofs.Overs.{StepsSo, LastIs, last_is, none_ends_a_poll, each_then, other_twice}
 
 -- IN 1 of a configured hub changes nothing else
 
@@ -226,23 +226,20 @@ module _ (t : Target) (toggle : Toggle) (old : World) where
 
   -- One after the other
 
-  others_joined : (s u v : State) → (is_at s t ≡ false → u ≡ s) → (is_at u t ≡ false → v ≡ u) → is_at s t ≡ false → v ≡ s
-  others_joined s u v f g h = g (ap (λ d. is_at d t) (f h) ∙ h) ∙ f h
-
   frame_joined : (s u v : State) → (tells_changes s.spec s.registers ≡ true → OnlyChanges s u) → (tells_changes u.spec u.registers ≡ true → OnlyChanges u v)
       → tells_changes s.spec s.registers ≡ true → OnlyChanges s v
   frame_joined s u v f g k = only_twice s u v (f k) (g (still_tells s u (f k) k))
 
   joined : (j : ℕ) (p : List ℕ) (s u v : State) → Poll j p s u → Poll j p u v → Poll j p s v
   joined j p s u v x y = record {
-    others = others_joined s u v x.others y.others;
+    others = other_twice t s u v x.others y.others;
     frame = frame_joined s u v x.frame y.frame;
     poll = λ h k at. y.poll (still_at t s u (x.frame k) h) (still_tells s u (x.frame k) k) (x.poll h k at);
   }
 
   ended : (result : Result (Option (List ℕ)) TransFault) (j : ℕ) (p : List ℕ) (s u v : State) → Poll j p s u → Last result j p u v → ChangesIn t toggle old result j p s v
   ended result j p s u v x y = record {
-    others = others_joined s u v x.others y.others;
+    others = other_twice t s u v x.others y.others;
     frame = frame_joined s u v x.frame y.frame;
     poll = λ h k at. y.poll (still_at t s u (x.frame k) h) (still_tells s u (x.frame k) k) (x.poll h k (never_told (Told j p) toggle s at));
   }

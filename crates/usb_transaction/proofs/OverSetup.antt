@@ -34,7 +34,7 @@ use Rattle.usb_transaction.specs.Trans.{packet_of, setup_attempt}
 use Rattle.usb_transaction.specs.Over.{is_at, AcceptedSince, SetupDone}
 use Rattle.usb_transaction.proofs.Lasts.{set_up_last}
 use Rattle.usb_transaction.proofs.Meanings.{taken_up}
-use Rattle.usb_transaction.proofs.Overs.{StepsSo, LastIs, each_ended}
+use Rattle.usb_transaction.proofs.Overs.{StepsSo, LastIs, each_ended, other_twice}
 
 -- A request asks the same once it was accepted
 
@@ -169,12 +169,12 @@ address_stays g (calls_port c i) = refl
 
 -- What is so over any number of attempts
 
-record SetUp (t : Target) (bytes : List ℕ) (j : ℕ) (p : List ℕ) (s v : State) : Type 0 where
-  others : is_at s t ≡ false → v ≡ s
-  kept : (v ≡ s) ⊎ AcceptedSince bytes s v
-
 abbrev Kept : List ℕ → State → State → Type 0
 Kept bytes s v = (v ≡ s) ⊎ AcceptedSince bytes s v
+
+record SetUp (t : Target) (bytes : List ℕ) (j : ℕ) (p : List ℕ) (s v : State) : Type 0 where
+  others : is_at s t ≡ false → v ≡ s
+  kept : Kept bytes s v
 
 -- the ports of the last time
 accepted_since : (bytes : List ℕ) (s u v : State) → Kept bytes s u → AcceptedSince bytes u v → AcceptedSince bytes s v
@@ -191,19 +191,13 @@ same_address : (bytes : List ℕ) (s u : State) → Kept bytes s u → address_o
 same_address bytes s u (inl e) = ap (λ d. address_of d) e
 same_address bytes s u (inr y) = ap (λ d. address_of d) y.is ∙ address_stays s.registers (outcome s.spec s.registers (setup_of bytes))
 
-not_at : (t : Target) (s u : State) → u ≡ s → is_at s t ≡ false → is_at u t ≡ false
-not_at t s u e h = ap (λ d. is_at d t) e ∙ h
-
-abbrev others_joined : (t : Target) (s u v : State) → (is_at s t ≡ false → u ≡ s) → (is_at u t ≡ false → v ≡ u) → is_at s t ≡ false → v ≡ s
-others_joined t s u v f g h = g (not_at t s u (f h) h) ∙ f h
-
 joined : (t : Target) (bytes : List ℕ) (j : ℕ) (p : List ℕ) (s u v : State) → SetUp t bytes j p s u → SetUp t bytes j p u v → SetUp t bytes j p s v
-joined t bytes j p s u v x y = record { others = others_joined t s u v x.others y.others; kept = kept_since bytes s u v x.kept y.kept }
+joined t bytes j p s u v x y = record { others = other_twice t s u v x.others y.others; kept = kept_since bytes s u v x.kept y.kept }
 
 ended : (t : Target) (bytes : List ℕ) (result : Result (List ℕ) TransFault) (j : ℕ) (p : List ℕ) (s u v : State)
     → SetUp t bytes j p s u → SetupDone t bytes result j p u v → SetupDone t bytes result j p s v
 ended t bytes result j p s u v x y = record {
-  others = others_joined t s u v x.others y.others;
+  others = other_twice t s u v x.others y.others;
   kept = kept_since bytes s u v x.kept y.kept;
   done = λ h got e. accepted_since bytes s u v x.kept (y.done (ap (λ n. n == t.addr) (same_address bytes s u x.kept) ∙ h) got e);
 }
