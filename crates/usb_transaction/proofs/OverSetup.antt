@@ -94,15 +94,15 @@ configured_again s g r c =
     let k : Registers = record g { configuration = c } in
     branch c (Is r 0x80 6) (get_descriptor s r.value) _ (get_descriptor s r.value) _ (never c _ _ (by_descriptor s r.value))
     (branch c (Is r 0x80 0) (unless s.stalls.status (get_status s r)) _ (unless s.stalls.status (get_status s r)) _
-        (never c _ _ (either s.stalls.status stalled (get_status s r) refl (either (r.value == 0 && r.index == 0) (answers (status_bytes s)) stalled refl refl)))
+    (never c _ _ (either s.stalls.status stalled (get_status s r) refl (either (r.value == 0 && r.index == 0) (answers (status_bytes s)) stalled refl refl)))
     (branch c (Is r 0x80 8) (answers (g.configuration ∷ [])) _ (answers (c ∷ [])) _ (never c _ _ refl)
     (branch c (Is r 0x00 5) (unless s.stalls.address (set_address r)) _ (unless s.stalls.address (set_address r)) _
-        (never c _ _ (either s.stalls.address stalled (set_address r) refl (either (nat_le r.value 127 && r.length == 0) (takes_address r.value) stalled refl refl)))
+    (never c _ _ (either s.stalls.address stalled (set_address r) refl (either (nat_le r.value 127 && r.length == 0) (takes_address r.value) stalled refl refl)))
     (branch c (Is r 0x00 9) (unless s.stalls.set_config (set_configuration s g r)) _ (unless s.stalls.set_config (set_configuration s k r)) _ (λ e. e)
     (branch c (Is r 0x02 1) (on_endpoint unhalts (endpoint_of s g r)) _ (on_endpoint unhalts (endpoint_of s k r)) _ (never c _ _ (by_endpoint unhalts (λ w. refl) (endpoint_of s g r)))
     (branch c (Is r 0x02 3) (on_endpoint halts (endpoint_of s g r)) _ (on_endpoint halts (endpoint_of s k r)) _ (never c _ _ (by_endpoint halts (λ w. refl) (endpoint_of s g r)))
     (branch c (Is r 0xA0 6) (unless s.stalls.hub (get_hub_descriptor s.hub r)) _ (unless s.stalls.hub (get_hub_descriptor s.hub r)) _
-        (never c _ _ (either s.stalls.hub stalled (get_hub_descriptor s.hub r) refl (by_hub s.hub r)))
+    (never c _ _ (either s.stalls.hub stalled (get_hub_descriptor s.hub r) refl (by_hub s.hub r)))
     (branch c (Is r 0xA3 0) (get_port_status s g r) _ (get_port_status s k r) _ (never c _ _ (by_status (port_named s.hub g r.index)))
     (branch c (Is r 0x23 3) (port_feature (set_call r.value) s g r) _ (port_feature (set_call r.value) s k r) _ (never c _ _ (by_feature (set_call r.value) s g r))
     (branch c (Is r 0x23 1) (port_feature (clear_call r.value) s g r) stalled (port_feature (clear_call r.value) s k r) stalled (never c _ _ (by_feature (clear_call r.value) s g r)) (λ e. e)))))))))))
