@@ -1,6 +1,7 @@
 //! The events of a plan.
 ghost use Rattle.std.specs.Prelude.{◌≡◌, IfOk};
 ghost use Rattle.usb_bus.specs.Lines.{due_of};
+ghost use Rattle.usb_bus.specs.PluggedAt.{PlugsAtPort};
 ghost use Rattle.usb_bus.specs.Steps.{waits};
 
 use std::alloc::{AllocError, Global};
@@ -118,7 +119,7 @@ pub struct Event {
     pub action: Action,
 }
 
-/// At most 10,000 events in their order.
+/// At most 10,000 events in their order. Each plug is at the path of a port.
 #[derive(Debug, Drop)]
 pub struct Events {
     events: Vec<Event>,
@@ -127,16 +128,18 @@ pub struct Events {
 impl Model for Events {
     ghost use Rattle.std.specs.Prelude.{List, ◌≤◌, length};
     ghost use Rattle.usb_bus.specs.declared.event.Event.{Event};
+    ghost use Rattle.usb_bus.specs.PluggedAt.{AtPorts};
 
     ghost Value = { List Event };
 
     ghost view = { λ e. e.events.items };
 
-    ghost invariant = { λ e. length e.events.items ≤ 10000 };
+    ghost invariant = { λ e. (length e.events.items ≤ 10000) × AtPorts e.events.items };
 }
 
 impl Events {
     ghost use Rattle.std.specs.Prelude.{◌≡◌, ◌<◌, ◌≤◌, [], ◌∷◌, ◌++◌, length, IfOk, OnOk, OnErr};
+    ghost use Rattle.usb_bus.specs.PluggedAt.{AtPorts};
 
     /// No events.
     pub fn new(alloc: Global) -> Self
@@ -151,6 +154,7 @@ impl Events {
     pub fn as_slice(&self) -> &[Event]
         ensures value { result.now ≡ self.now }
         ensures bound { length self.now ≤ 10000 }
+        ensures paths { AtPorts self.now }
     {
         self.events.as_slice()
     }
@@ -161,7 +165,24 @@ impl Events {
         ensures ok { OnOk result (self.new ≡ self.old ++ event ∷ []) }
         ensures err { OnErr result (self.new ≡ self.old) }
     {
+        plugs_at_port(&event.action);
         Ok(self.events.push(event)?)
+    }
+}
+
+/// Does nothing; what it ensures is for `push` to cite: a plug is at a port's path.
+fn plugs_at_port(action: &Action)
+    ensures { PlugsAtPort action.now }
+{
+    match action {
+        Action::Plug(path, _) => {
+            path.numbers();
+        }
+        Action::Unplug(_)
+        | Action::Show
+        | Action::Send(_, _)
+        | Action::Receive(_, _)
+        | Action::Clear(_) => {}
     }
 }
 

@@ -33,6 +33,7 @@ impl Model for Plan {
 impl Plan {
     ghost use Rattle.std.specs.Prelude.{◌≡◌, ◌≤◌, length};
     ghost use Rattle.usb_bus.specs.PlanData.{PlanData, IsPlan};
+    ghost use Rattle.usb_bus.specs.PluggedAt.{AtPorts};
 
     /// The plan of these parts.
     pub fn new(limit: u64, roots: u8, devices: Devices, events: Events, damages: Damages) -> Self
@@ -77,6 +78,7 @@ impl Plan {
         ensures value { result.now ≡ self.now.events }
         ensures bound { length self.now.events ≤ 10000 }
         ensures plan { IsPlan self.now }
+        ensures paths { AtPorts self.now.events }
     {
         self.events.as_slice()
     }
