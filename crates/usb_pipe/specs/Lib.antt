@@ -4,3 +4,4 @@ pub mod End
 pub mod Interrupt
 pub mod Bulk
 pub mod Stages
+pub mod Whole
