@@ -4,3 +4,5 @@ pub mod Stages
 pub mod Growth
 pub mod Hubs
 pub mod DataStages
+pub mod Gone
+pub mod Come

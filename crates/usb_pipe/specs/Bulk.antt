@@ -16,6 +16,8 @@ use Rattle.usb_request.specs.Requests.{clear_endpoint_halt}
 use Rattle.usb_pipe.specs.Control.{Faults}
 use Rattle.usb_pipe.specs.Toggles.{flips}
 use Rattle.usb_pipe.specs.Stages.{Writes}
+use Rattle.usb_pipe.specs.End.{packet_target}
+use Rattle.usb_pipe.specs.Moves.{SendEnds, ReceiveEnds}
 
 pub record Bulk : Type 0 where
   pub target : Target  -- with the maximum of endpoint 0
@@ -72,9 +74,10 @@ pub record Idle {A : Type 0} (given : Result A PipeFault) (pipe : Bulk) (old : W
   pub pipe_kept : left ≡ pipe
   pub world_kept : new ≡ old
 
--- n packets were sent
-pub record Sent (n : ℕ) (pipe : Bulk) (old : World) (result : Result (Unit {0}) PipeFault) (left : Bulk) (new : World) : Type 0 where
+-- these bytes were sent, in n packets
+pub record Sent (n : ℕ) (bytes : List ℕ) (pipe : Bulk) (old : World) (result : Result (Unit {0}) PipeFault) (left : Bulk) (new : World) : Type 0 where
   pub ends : MatchResult result (λ _. Worked n old new) (λ why. Faults 0 old why new)
+  pub went : SendEnds (packet_target pipe.target pipe.max) pipe.ep pipe.toggle bytes old result new
   pub room : result ≢ Err Memory
   pub pipe_left : left ≡ record pipe { toggle = left.toggle; condition = after_transfer pipe.condition result }
   pub toggle : OnOk result (left.toggle ≡ flips n pipe.toggle)
@@ -84,11 +87,12 @@ pub record Sent (n : ℕ) (pipe : Bulk) (old : World) (result : Result (Unit {0}
 pub record Sends (bytes : List ℕ) (pipe : Bulk) (old : World) (result : Result (Unit {0}) PipeFault) (left : Bulk) (new : World) : Type 0 where
   pub broken : pipe.condition ≡ Broken → Idle (Err fault.Broken) pipe old result left new
   pub nothing : pipe.condition ≢ Broken → bytes ≡ [] → Idle (Ok tt) pipe old result left new
-  pub moved : pipe.condition ≢ Broken → bytes ≢ [] → Sent (div_ceil (length bytes) pipe.max) pipe old result left new
+  pub moved : pipe.condition ≢ Broken → bytes ≢ [] → Sent (div_ceil (length bytes) pipe.max) bytes pipe old result left new
 
 -- at most `wanted` packets were received
 pub record Received (wanted : ℕ) (pipe : Bulk) (old : World) (result : Result (Vec ℕ) PipeFault) (left : Bulk) (new : World) : Type 0 where
   pub ends : MatchResult result (λ bytes. Worked (packets_of (length bytes.items) pipe.max wanted) old new) (λ why. Faults 0 old why new)
+  pub came : ReceiveEnds (packet_target pipe.target pipe.max) pipe.ep pipe.toggle wanted old result new
   pub most : IfOk result (λ bytes. length bytes.items ≤ wanted * pipe.max)
   pub pipe_left : left ≡ record pipe { toggle = left.toggle; condition = after_transfer pipe.condition result }
   pub toggle : IfOk result (λ bytes. left.toggle ≡ flips (packets_of (length bytes.items) pipe.max wanted) pipe.toggle)

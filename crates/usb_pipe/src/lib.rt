@@ -20,7 +20,10 @@ pub use fault::PipeFault;
 pub use interrupt::InterruptPipe;
 pub use usb_request::Setup;
 pub use usb_transaction::{Bus, BusFault, Target};
-pub use whole_laws::{what_a_read_leaves, what_a_write_leaves};
+pub use whole_laws::{
+    what_a_poll_tells, what_a_read_leaves, what_a_receive_leaves, what_a_send_leaves,
+    what_a_write_leaves,
+};
 
 #[cfg(test)]
 mod tests;

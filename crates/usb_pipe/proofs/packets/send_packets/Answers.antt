@@ -1,16 +1,21 @@
 use Rattle.std.proofs.Common.{◌≡◌, ◌≢◌, ◌∙◌, sym, subst, Bool, nat_eq, ℕ, ◌<◌, ◌+◌, ◌-◌, length, arith, true, false}
 use Rattle.std.proofs.lemmas.Bool.{eqb-true, eqb-false}
+use Rattle.std.proofs.lemmas.List.{nil_from_length}
 use Rattle.std.specs.Prelude.{min}
 use Rattle.std.specs.Int.{div_ceil}
 use Rattle.usb_pipe.proofs.Moves.{Moved, moved_none, moved_more, moved_worked, moved_turned, packets_one, packets_none, packets_some}
+use Rattle.usb_pipe.proofs.Gone.{going_none, going_more, all_gone, not_gone}
 use Rattle.usb_packet.specs.declared.Toggle.{Toggle}
 use Rattle.usb_bus.specs.World.{World}
 use Rattle.usb_pipe.proofs.packets.send_packets.Goals as goal
 
 pub packets-init : goal.packets-init
 packets-init g c =
-    let none : div_ceil (length c.args.bytes.now) c.args.target.max - div_ceil (length c.args.bytes.now) c.args.target.max ≡ 0 = omega arith in
-    (omega arith, rw none (moved_none _ _))
+    let none : div_ceil (length c.args.bytes.now) c.args.target.max - div_ceil (length c.args.bytes.now) c.args.target.max ≡ 0 = omega arith in record {
+      left = omega arith;
+      moved = rw none (moved_none _ _);
+      going = going_none c.args.target c.args.ep _ c.args.bytes.now _;
+    }
 
 nonzero : (n : ℕ) (b : Bool) → b ≡ nat_eq n 0 → b ≡ false → 0 < n
 nonzero n b is e = let no : n ≢ 0 = eqb-false n 0 (sym is ∙ e) in omega arith
@@ -26,29 +31,40 @@ packets-smaller g c =
 pub packets-preserved : goal.packets-preserved
 packets-preserved g c =
     let some : 0 < length c.packets.rest.now = nonzero _ _ c.is_empty.ensures c.packets-test.true in
+    let fits : c.min.result ≡ min (length c.packets.rest.now) c.args.target.max = omega (arith, c.min.ensures, c.from.ensures) in
     let size : length c.split_at.result.0.now ≡ min (length c.packets.rest.now) c.args.target.max = omega (arith, c.split_at.ensures.front_len, c.min.ensures, c.from.ensures) in
     let parts : length c.packets.rest.now ≡ length c.split_at.result.0.now + length c.split_at.result.1.now = omega (arith, c.split_at.ensures.front_len, c.split_at.ensures.back_len, c.min.ensures) in
-    let one = packets_one _ _ _ _ c.requires.target.max_least some size parts in (
-      omega (arith, one, c.packets.invariant.0),
-      moved_more _ _ _ _ _ (omega (arith, one, c.packets.invariant.0)) c.packets.invariant.1 c.data_out.ensures.count c.in_ok-data_out.ensures.ends c.in_ok-data_out.ensures.toggle_ok,
-    )
+    let one = packets_one _ _ _ _ c.requires.target.max_least some size parts in record {
+      left = omega (arith, one, c.packets.invariant.left);
+      moved = moved_more _ _ _ _ _ (omega (arith, one, c.packets.invariant.left)) c.packets.invariant.moved c.data_out.ensures.count c.in_ok-data_out.ensures.ends c.in_ok-data_out.ensures.toggle_ok;
+      going = going_more c.args.target c.args.ep _ c.args.bytes.now c.min.result c.requires.target.max_least some fits c.split_at.ensures.front c.split_at.ensures.back c.packets.invariant.going c.in_ok-data_out.ensures.heard c.in_ok-data_out.ensures.nothing c.in_ok-data_out.ensures.toggle_ok;
+    }
 
 -- all are sent
 all_sent : (total left : ℕ) (first toggle : Toggle) (old now : World) → left ≡ 0 → Moved (total - left) first toggle old now → Moved total first toggle old now
 all_sent total left first toggle old now none t = subst (λ n. Moved n first toggle old now) (omega arith) t
 
 pub returns-clause-count : goal.returns-clause-count
-returns-clause-count g c = (all_sent _ _ _ _ _ _ (packets_none _ c.args.target.max (zero_is _ _ c.is_empty.ensures c.packets-test.false)) c.packets.invariant.1).spends
+returns-clause-count g c = (all_sent _ _ _ _ _ _ (packets_none _ c.args.target.max (zero_is _ _ c.is_empty.ensures c.packets-test.false)) c.packets.invariant.moved).spends
 
 pub returns-clause-ends : goal.returns-clause-ends
 returns-clause-ends g c =
     moved_worked _ _ (packets_some _ _ c.requires.target.max_least c.requires.some) (omega arith)
-    (all_sent _ _ _ _ _ _ (packets_none _ c.args.target.max (zero_is _ _ c.is_empty.ensures c.packets-test.false)) c.packets.invariant.1)
+    (all_sent _ _ _ _ _ _ (packets_none _ c.args.target.max (zero_is _ _ c.is_empty.ensures c.packets-test.false)) c.packets.invariant.moved)
+
+pub returns-clause-moves : goal.returns-clause-moves
+returns-clause-moves g c = all_gone c.args.target c.args.ep _ c.args.bytes.now (nil_from_length _ (zero_is _ _ c.is_empty.ensures c.packets-test.false)) c.packets.invariant.going
 
 pub returns-clause-toggle : goal.returns-clause-toggle
-returns-clause-toggle g c = (all_sent _ _ _ _ _ _ (packets_none _ c.args.target.max (zero_is _ _ c.is_empty.ensures c.packets-test.false)) c.packets.invariant.1).turned
+returns-clause-toggle g c = (all_sent _ _ _ _ _ _ (packets_none _ c.args.target.max (zero_is _ _ c.is_empty.ensures c.packets-test.false)) c.packets.invariant.moved).turned
+
+pub returns-in_err-data_out-clause-moves : goal.returns-in_err-data_out-clause-moves
+returns-in_err-data_out-clause-moves g c =
+    let some : 0 < length c.packets.rest.now = nonzero _ _ c.is_empty.ensures c.packets-test.true in
+    let fits : c.min.result ≡ min (length c.packets.rest.now) c.args.target.max = omega (arith, c.min.ensures, c.from.ensures) in
+    not_gone c.args.target c.args.ep _ c.args.bytes.now _ c.min.result c.in_err-data_out.field-0.0 c.from_residual.result some fits c.split_at.ensures.front c.from_residual.ensures.0 c.from_residual.ensures.1 c.packets.invariant.going c.in_err-data_out.ensures.heard
 
 pub returns-in_err-data_out-clause-halted : goal.returns-in_err-data_out-clause-halted
 returns-in_err-data_out-clause-halted g c = λ _.
     let left = packets_some (length c.packets.rest.now) c.args.target.max c.requires.target.max_least (nonzero _ _ c.is_empty.ensures c.packets-test.true) in
-    moved_turned _ _ (omega (arith, left, c.packets.invariant.0)) c.packets.invariant.1 c.in_err-data_out.ensures.toggle_err
+    moved_turned _ _ (omega (arith, left, c.packets.invariant.left)) c.packets.invariant.moved c.in_err-data_out.ensures.toggle_err
