@@ -4,8 +4,5 @@ pub mod End
 pub mod Interrupt
 pub mod Bulk
 pub mod Stages
-<<<<<<< HEAD
-pub mod Whole
-=======
 pub mod Moves
->>>>>>> pipe
+pub mod Whole
