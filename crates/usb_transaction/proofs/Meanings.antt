@@ -95,7 +95,7 @@ got_payload max (Some (answer.Data u c)) t b e = by (nat_le (length c.items) max
     by false h = cc h
 
 -- setup data that were answered were accepted
-taken_up : (x : Bool) (t : Way) (s v : State) (max : ℕ) → got max (if◌then◌else◌ {A = Reply} x (heard t (Some answer.Ack), v) (None, s)).0 ≡ outcome.Ack
+pub taken_up : (x : Bool) (t : Way) (s v : State) (max : ℕ) → got max (if◌then◌else◌ {A = Reply} x (heard t (Some answer.Ack), v) (None, s)).0 ≡ outcome.Ack
     → (if◌then◌else◌ {A = Reply} x (heard t (Some answer.Ack), v) (None, s)).1 ≡ v
 taken_up true t s v max e = refl
 taken_up false t s v max e = cc e
