@@ -6,3 +6,5 @@ pub mod Hubs
 pub mod DataStages
 pub mod Gone
 pub mod Come
+pub mod WholeEnds
+pub mod WholeSends
