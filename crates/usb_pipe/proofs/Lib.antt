@@ -8,3 +8,4 @@ pub mod Gone
 pub mod Come
 pub mod WholeEnds
 pub mod WholeSends
+pub mod WholePolls
