@@ -9,3 +9,5 @@ pub mod Come
 pub mod WholeEnds
 pub mod WholeSends
 pub mod WholePolls
+pub mod WholeHalts
+pub mod WholeReceives

@@ -60,7 +60,7 @@ at_kept t s u e h = ap (λ x. is_at x t) e ∙ h
 sink_twice : (s u v : State) → OnlySink s u → OnlySink u v → OnlySink s v
 sink_twice s u v e f = f ∙ ap {A = State} (λ x. record x { memory = v.memory; bulk_out = v.bulk_out; sink = v.sink; until_halt = v.until_halt }) e
 
-others_twice : (t : Target) (s u v : State) → (is_at s t ≡ false → u ≡ s) → (is_at u t ≡ false → v ≡ u) → is_at s t ≡ false → v ≡ s
+pub others_twice : (t : Target) (s u v : State) → (is_at s t ≡ false → u ≡ s) → (is_at u t ≡ false → v ≡ u) → is_at s t ≡ false → v ≡ s
 others_twice t s u v f g h = g (ap (λ x. is_at x t) (f h) ∙ h) ∙ f h
 
 gave_none : (t : Target) (ep : ℕ) (first : Toggle) (j : ℕ) (p : List ℕ) (s : State) → GaveLeaves t ep first 0 [] j p s s
