@@ -27,13 +27,15 @@ use Rattle.usb_bus.specs.Devices.{Relation, EachWas}
 use Rattle.usb_transaction.specs.declared.target.Target.{Target}
 use Rattle.usb_transaction.specs.declared.fault.TransFault.{TransFault}
 use Rattle.usb_transaction.specs.Over.{is_at, packet_in, ControlIn, ReadStatus, AcceptedSince, SetupDone}
+use Rattle.usb_transaction.proofs.Overs.{other_twice}
+use Rattle.usb_transaction.proofs.ReadOver.{read_status_leaves}
 use Rattle.usb_pipe.specs.declared.fault.PipeFault.{PipeFault}
 use Rattle.usb_pipe.specs.Control.{is_last}
 use Rattle.usb_pipe.specs.Stages.{SetUp, Goes, start, packet, DataStage, DataLost, NoRoom, WasRead, NoSetUp, NoData, NotConfirmed, Reads}
 use Rattle.usb_pipe.specs.Toggles.{flips}
 use Rattle.usb_pipe.specs.Whole.{IsNotOfBus, IsMaximum, AnswerRead, ReadLeaves}
 use Rattle.usb_pipe.proofs.WholeSteady.{IsReading, reads, Steady}
-use Rattle.usb_pipe.proofs.WholeSteps.{SetupLaw, InLaw, StatusLaw, ended, ended_settled, ended_unshared, set_up_leaves, InLeaves, asked_leaves, confirm_leaves, Accepted, accepted_since, only_twice, only_stage, other_twice, at_from, elsewhere, flips_at, flips_none}
+use Rattle.usb_pipe.proofs.WholeSteps.{ended, ended_settled, ended_unshared, request_leaves, InLeaves, asked_leaves, Accepted, accepted_since, only_twice, only_stage, at_from, flips_at, flips_none}
 
 -- What a request for data asks: bytes, or a refusal
 
@@ -360,17 +362,17 @@ record Then (R S : Relation) (j : ℕ) (p : List ℕ) (s v : State) : Type 0 whe
 each_then : (R S : Relation) (old mid new : World) → EachWas R old mid → EachWas S mid new → EachWas (Then R S) old new
 each_then R S old mid new x y = each_joined R S (Then R S) (λ j p s u v a b. record { between = u; first = a; second = b }) old mid new x y
 
-module _ (setups : SetupLaw) (ins : InLaw) (outs : StatusLaw) (t : Target) where
+module _ (t : Target) where
   each_along : {wanted : ℕ} {old : World} {n : ℕ} {got : List ℕ} {new : World} → IsSettled old.roots → Goes t wanted old n got new → new.shared ≡ false → EachWas (Along t wanted n got) old new
   each_along {wanted} {old = old} settled start single = each_none (Along t wanted 0 []) (along_none t wanted) old
   each_along {wanted} {old = old} {new = new} settled (packet {n} {got} {mid} bytes g x l) single =
       each_joined (Along t wanted n got) (InLeaves t (flips n One) (Ok bytes)) (Along t wanted (n + 1) (got ++ bytes)) (along_more t wanted n got bytes) old mid new
-      (each_along settled g (ended_unshared x single)) (asked_leaves ins t (flips n One) (Ok bytes) mid new (goes_settled g settled) x single)
+      (each_along settled g (ended_unshared x single)) (asked_leaves t (flips n One) (Ok bytes) mid new (goes_settled g settled) x single)
 
   each_came : (wanted : ℕ) (bytes : List ℕ) (old new : World) → IsSettled old.roots → (d : DataStage t wanted old bytes new) → new.shared ≡ false → EachWas (Came t wanted d.packets d.got d.last) old new
   each_came wanted bytes old new settled d single =
       each_joined (Along t wanted d.packets d.got) (InLeaves t (flips d.packets One) (Ok d.last)) (Came t wanted d.packets d.got d.last) (along_came t wanted d.packets d.got d.last) old d.mid new
-      (each_along settled d.before (ended_unshared d.came single)) (asked_leaves ins t (flips d.packets One) (Ok d.last) d.mid new (goes_settled d.before settled) d.came single)
+      (each_along settled d.before (ended_unshared d.came single)) (asked_leaves t (flips d.packets One) (Ok d.last) d.mid new (goes_settled d.before settled) d.came single)
 
   each_came_rests : (wanted : ℕ) (bytes : List ℕ) (old new : World) → IsSettled old.roots → DataStage t wanted old bytes new → new.shared ≡ false → EachWas (Rests t wanted) old new
   each_came_rests wanted bytes old new settled d single =
@@ -380,13 +382,13 @@ module _ (setups : SetupLaw) (ins : InLaw) (outs : StatusLaw) (t : Target) where
   each_lost wanted why old new sound settled d single =
       let lost = ended (Vec ℕ) why d.fault d.told sound d.lost in
       each_joined (Along t wanted d.packets d.got) (InLeaves t (flips d.packets One) (Err d.fault)) (Rests t wanted) (along_lost t wanted d.packets d.got d.fault) old d.mid new
-      (each_along settled d.before (ended_unshared lost single)) (asked_leaves ins t (flips d.packets One) (Err d.fault) d.mid new (goes_settled d.before settled) lost single)
+      (each_along settled d.before (ended_unshared lost single)) (asked_leaves t (flips d.packets One) (Err d.fault) d.mid new (goes_settled d.before settled) lost single)
 
   each_no_room : (wanted : ℕ) (why : PipeFault) (old new : World) → IsSettled old.roots → NoRoom t wanted old why new → new.shared ≡ false → EachWas (Rests t wanted) old new
   each_no_room wanted why old new settled d single =
       each_joined (Along t wanted d.packets d.got) (InLeaves t (flips d.packets One) (Ok d.last)) (Rests t wanted)
       (λ j p s u v x y. along_rests t wanted (d.packets + 1) (d.got ++ d.last) j p s v (along_more t wanted d.packets d.got d.last j p s u v x y)) old d.mid new
-      (each_along settled d.before (ended_unshared d.came single)) (asked_leaves ins t (flips d.packets One) (Ok d.last) d.mid new (goes_settled d.before settled) d.came single)
+      (each_along settled d.before (ended_unshared d.came single)) (asked_leaves t (flips d.packets One) (Ok d.last) d.mid new (goes_settled d.before settled) d.came single)
 
   unshared_stage : {wanted : ℕ} {bytes : List ℕ} {old new : World} → DataStage t wanted old bytes new → new.shared ≡ false → old.shared ≡ false
   unshared_stage d h = goes_unshared d.before (ended_unshared d.came h)
@@ -404,19 +406,19 @@ module _ (setups : SetupLaw) (ins : InLaw) (outs : StatusLaw) (t : Target) where
         let began : IsSettled x.first.roots = ended_settled x.set_up settled in
         each_joined (SetupDone t (bytes_of request) (Ok [])) (Then (Came t request.length d.packets d.got d.last) (ReadStatus t (Ok []))) (ReadLeaves t request (Ok bytes))
         (λ j p s u v a b. read_at_device t request host some same d.packets d.got d.last bytes.items d.kept d.ends j p s u b.between v a b.first b.second bytes refl) old x.first new
-        (set_up_leaves setups t request (Ok []) old x.first same (host_harmless request host) settled x.set_up (unshared_stage d second))
+        (request_leaves t request (Ok []) old x.first same (host_harmless request host) settled x.set_up (unshared_stage d second))
         (each_then (Came t request.length d.packets d.got d.last) (ReadStatus t (Ok [])) x.first x.second new (each_came request.length bytes.items x.first x.second began d second)
-        (confirm_leaves outs t (Ok []) x.second new (settled_stage d began) x.status single))
+        (read_status_leaves t (Ok []) x.second new (settled_stage d began) x.status single))
 
     each_no_set_up : (why : PipeFault) → IsNotOfBus {A = Vec ℕ} (Err why) → NoSetUp t request old why new → EachWas (ReadLeaves t request (Err why)) old new
     each_no_set_up why sound x =
         each_wider (SetupDone t (bytes_of request) (Err x.fault)) (ReadLeaves t request (Err why)) (failed_at_setup t request host some same x.fault why) old new
-        (set_up_leaves setups t request (Err x.fault) old new same (host_harmless request host) settled (ended (Vec ℕ) why x.fault x.told sound x.set_up) single)
+        (request_leaves t request (Err x.fault) old new same (host_harmless request host) settled (ended (Vec ℕ) why x.fault x.told sound x.set_up) single)
 
     after_set_up : (why : PipeFault) (mid : World) → SetUp t request old (Ok []) mid → mid.shared ≡ false → EachWas (Rests t request.length) mid new → EachWas (ReadLeaves t request (Err why)) old new
     after_set_up why mid x clear rests =
         each_joined (SetupDone t (bytes_of request) (Ok [])) (Rests t request.length) (ReadLeaves t request (Err why)) (failed_later t request host some same why) old mid new
-        (set_up_leaves setups t request (Ok []) old mid same (host_harmless request host) settled x clear) rests
+        (request_leaves t request (Ok []) old mid same (host_harmless request host) settled x clear) rests
 
     each_no_data : (why : PipeFault) → IsNotOfBus {A = Vec ℕ} (Err why) → NoData t request old why new → EachWas (ReadLeaves t request (Err why)) old new
     each_no_data why sound x = by_cause x.data_stage
@@ -437,7 +439,7 @@ module _ (setups : SetupLaw) (ins : InLaw) (outs : StatusLaw) (t : Target) where
         after_set_up why x.first x.set_up (unshared_stage x.data_stage second)
         (each_joined (Rests t request.length) (ReadStatus t (Err x.fault)) (Rests t request.length) (rests_confirmed t request.length (Err x.fault)) x.first x.second new
         (each_came_rests request.length x.bytes x.first x.second began x.data_stage second)
-        (confirm_leaves outs t (Err x.fault) x.second new (settled_stage x.data_stage began) status single))
+        (read_status_leaves t (Err x.fault) x.second new (settled_stage x.data_stage began) status single))
 
     each_of_read : (result : Result (Vec ℕ) PipeFault) → IsNotOfBus result → Reads t request old result new → EachWas (ReadLeaves t request result) old new
     each_of_read (Ok bytes) sound x = each_read bytes x
@@ -445,6 +447,6 @@ module _ (setups : SetupLaw) (ins : InLaw) (outs : StatusLaw) (t : Target) where
     each_of_read (Err why) sound (inr (inl x)) = each_no_data why sound x
     each_of_read (Err why) sound (inr (inr x)) = each_not_confirmed why sound x
 
-pub read_leaves : SetupLaw → InLaw → StatusLaw → (t : Target) (request : Setup) (result : Result (Vec ℕ) PipeFault) (old new : World) → IsToHost request → 1 ≤ request.length → setup_of (bytes_of request) ≡ request
+pub read_leaves : (t : Target) (request : Setup) (result : Result (Vec ℕ) PipeFault) (old new : World) → IsToHost request → 1 ≤ request.length → setup_of (bytes_of request) ≡ request
     → IsSettled old.roots → Reads t request old result new → IsNotOfBus result → new.shared ≡ false → EachWas (ReadLeaves t request result) old new
-read_leaves setups ins outs t request result old new host some same settled x sound single = each_of_read setups ins outs t request host some same old new settled single result sound x
+read_leaves t request result old new host some same settled x sound single = each_of_read t request host some same old new settled single result sound x

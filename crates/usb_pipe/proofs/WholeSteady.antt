@@ -1,6 +1,8 @@
 -- A device in the data stage of a control read keeps its registers, whatever the INs of its endpoint 0 bring.
 use Rattle.std.proofs.Common.{◌≡◌, ℕ, ◌+◌, nat_le, ◌&&◌, if◌then◌else◌, Bool, true, false, List, length, Option, None, Some, is_some, refl, ap, sym, subst, ◌∙◌}
+use Rattle.std.specs.Prelude.{Result}
 use Rattle.std.proofs.lemmas.Option.{same_Some}
+use Rattle.usb_packet.specs.declared.Toggle.{Toggle}
 use Rattle.usb_port.specs.PortState.{PortState}
 use Rattle.usb_device.specs.declared.answer.Answer.TheVariants.{Nak}
 use Rattle.usb_device.specs.declared.transfer.Giver.TheVariants as by
@@ -13,12 +15,13 @@ use Rattle.usb_bus.specs.Passes.{IsSettled}
 use Rattle.usb_bus.specs.World.{World}
 use Rattle.usb_bus.specs.Steps.{attempt, after}
 use Rattle.usb_bus.specs.Devices.{Relation, Was, EachWas, DidIn}
-use Rattle.usb_bus.proofs.Devices.{each_none, each_joined, each_wider, each_in}
-use Rattle.usb_bus.proofs.OneHolderMore.{made_of}
+use Rattle.usb_bus.proofs.Devices.{each_wider, each_in}
 use Rattle.usb_transaction.specs.declared.target.Target.{Target}
-use Rattle.usb_transaction.specs.Trail.{Trail, start, next}
+use Rattle.usb_transaction.specs.declared.fault.TransFault.{TransFault}
+use Rattle.usb_transaction.specs.Heard.{heard_as}
+use Rattle.usb_transaction.specs.Trail.{IsNoEnd, Ended}
 use Rattle.usb_transaction.specs.Trans.{in_attempt}
-use Rattle.usb_transaction.proofs.Trails.{trail_settled, made_unshared}
+use Rattle.usb_transaction.proofs.Overs.{StepsSo, LastIs, each_ended}
 
 -- Two relations at once
 
@@ -84,10 +87,12 @@ steady_did t w j p s v (DidIn.asked d q b below f x o e) h = subst (λ y. Stays 
 steady_twice : (j : ℕ) (p : List ℕ) (s u v : State) → Steady j p s u → Steady j p u v → Steady j p s v
 steady_twice j p s u v x y h = ((y (x h).0).0, (y (x h).0).1 ∙ (x h).1)
 
-pub each_steady : (t : Target) {old new : World} {outcomes : List Outcome} → IsSettled old.roots → Trail (in_attempt t 0) old outcomes new → new.shared ≡ false → EachWas Steady old new
-each_steady t {old} settled start single = each_none Steady (λ j p s h. (h, refl)) old
-each_steady t {old} settled (next w trail made) single =
-    each_joined Steady Steady Steady steady_twice old w (after (attempt (in_attempt t 0)) w)
-    (each_steady t settled trail (made_unshared (in_attempt t 0) w made single).before)
-    (each_wider (DidIn (in_attempt t 0) w) Steady (steady_did t w) w (after (attempt (in_attempt t 0)) w)
-    (each_in (in_attempt t 0) w (made_of (in_attempt t 0) w (trail_settled trail settled) made) (record { kind = refl; payload = refl }) single))
+module _ (t : Target) where
+  each_attempt : (P : Outcome → Type 0) (old : World) → StepsSo Steady (in_attempt t 0) old P
+  each_attempt P old outcomes w trail made single o =
+      each_wider (DidIn (in_attempt t 0) w) Steady (steady_did t w) w (after (attempt (in_attempt t 0)) w) (each_in (in_attempt t 0) w made (record { kind = refl; payload = refl }) single)
+
+  pub each_steady : (awaited : Toggle) (result : Result (List ℕ) TransFault) (old new : World) → IsSettled old.roots → Ended (heard_as awaited) (in_attempt t 0) old result new → new.shared ≡ false → EachWas Steady old new
+  each_steady awaited result old new settled x single =
+      each_ended Steady Steady Steady (λ j p s h. (h, refl)) steady_twice steady_twice
+      (each_attempt (λ o. IsNoEnd (heard_as awaited o)) old) (each_attempt (LastIs (heard_as awaited) result) old) settled x single

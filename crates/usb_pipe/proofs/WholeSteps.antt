@@ -23,6 +23,8 @@ use Rattle.usb_transaction.specs.Over.{is_at, ControlIn, ReadStatus, AcceptedSin
 use Rattle.usb_transaction.specs.Trail.{Ended, Transacted}
 use Rattle.usb_transaction.specs.Trans.{setup_attempt, in_attempt, out_attempt}
 use Rattle.usb_transaction.proofs.Trails.{trail_settled, trail_unshared}
+use Rattle.usb_transaction.proofs.ControlOver.{control_in_leaves}
+use Rattle.usb_transaction.proofs.OverSetup.{set_up_leaves}
 use Rattle.usb_pipe.specs.declared.fault.PipeFault.{PipeFault}
 use Rattle.usb_pipe.specs.Control.{fault_of}
 use Rattle.usb_pipe.specs.Toggles.{flips}
@@ -46,47 +48,23 @@ ended_unshared x h = trail_unshared x.trail h
 
 -- Each transaction
 
-pub SetupLaw : Type 0
-SetupLaw = (t : Target) (bytes : List ℕ) (result : Result (List ℕ) TransFault) (old new : World) → length bytes ≡ 8 → is_harmless (setup_of bytes) ≡ true → IsSettled old.roots
-    → Ended set_up_as (setup_attempt t bytes) old result new → new.shared ≡ false → EachWas (SetupDone t bytes result) old new
-
-pub InLaw : Type 0
-InLaw = (t : Target) (awaited : Toggle) (result : Result (List ℕ) TransFault) (old new : World) → IsSettled old.roots
-    → Ended (heard_as awaited) (in_attempt t 0) old result new → new.shared ≡ false → EachWas (ControlIn t awaited result) old new
-
-pub StatusLaw : Type 0
-StatusLaw = (t : Target) (result : Result (List ℕ) TransFault) (old new : World) → IsSettled old.roots
-    → Ended sent_as (out_attempt t 0 One []) old result new → new.shared ≡ false → EachWas (ReadStatus t result) old new
-
 eight_bytes : (request : Setup) → length (bytes_of request) ≡ 8
 unfolding bytes_of
 eight_bytes request = refl
 
-pub set_up_leaves : SetupLaw → (t : Target) (request : Setup) (result : Result (List ℕ) TransFault) (old new : World) → setup_of (bytes_of request) ≡ request → is_harmless request ≡ true → IsSettled old.roots
+pub request_leaves : (t : Target) (request : Setup) (result : Result (List ℕ) TransFault) (old new : World) → setup_of (bytes_of request) ≡ request → is_harmless request ≡ true → IsSettled old.roots
     → Ended set_up_as (setup_attempt t (bytes_of request)) old result new → new.shared ≡ false → EachWas (SetupDone t (bytes_of request) result) old new
-unfolding SetupLaw
-set_up_leaves law t request result old new e harmless settled x single =
-    law t (bytes_of request) result old new (eight_bytes request) (ap (λ r. is_harmless r) e ∙ harmless) settled x single
+request_leaves t request result old new e harmless settled x single =
+    set_up_leaves t (bytes_of request) result old new (eight_bytes request) (ap (λ r. is_harmless r) e ∙ harmless) settled x single
 
 -- an IN of endpoint 0
-pub in_leaves : InLaw → (t : Target) (awaited : Toggle) (result : Result (List ℕ) TransFault) (old new : World) → IsSettled old.roots
-    → Ended (heard_as awaited) (in_attempt t 0) old result new → new.shared ≡ false → EachWas (ControlIn t awaited result) old new
-unfolding InLaw
-in_leaves law t awaited result old new settled x single = law t awaited result old new settled x single
-
 abbrev pub InLeaves : Target → Toggle → Result (List ℕ) TransFault → Relation
 InLeaves t awaited result j p s v = ControlIn t awaited result j p s v × Steady j p s v
 
-pub asked_leaves : InLaw → (t : Target) (awaited : Toggle) (result : Result (List ℕ) TransFault) (old new : World) → IsSettled old.roots
+pub asked_leaves : (t : Target) (awaited : Toggle) (result : Result (List ℕ) TransFault) (old new : World) → IsSettled old.roots
     → Ended (heard_as awaited) (in_attempt t 0) old result new → new.shared ≡ false → EachWas (InLeaves t awaited result) old new
-unfolding InLaw
-asked_leaves law t awaited result old new settled x single =
-    each_both (ControlIn t awaited result) Steady old new (law t awaited result old new settled x single) (each_steady t settled x.trail single)
-
-pub confirm_leaves : StatusLaw → (t : Target) (result : Result (List ℕ) TransFault) (old new : World) → IsSettled old.roots
-    → Ended sent_as (out_attempt t 0 One []) old result new → new.shared ≡ false → EachWas (ReadStatus t result) old new
-unfolding StatusLaw
-confirm_leaves law t result old new settled x single = law t result old new settled x single
+asked_leaves t awaited result old new settled x single =
+    each_both (ControlIn t awaited result) Steady old new (control_in_leaves t awaited result old new settled x single) (each_steady t awaited result old new settled x single)
 
 -- One device
 
@@ -105,14 +83,8 @@ only_twice s u v f g = g ∙ ap {A = State} (λ x. record x { memory = v.memory;
 pub only_stage : (s v : State) → OnlyControl s v → v.registers ≡ s.registers → OnlyStage s v
 only_stage s v f e = f ∙ ap {A = _} {B = State} (λ g. record s { memory = v.memory; naks = v.naks; stage = v.stage; registers = g }) e
 
-pub other_twice : (t : Target) (s u v : State) → (is_at s t ≡ false → u ≡ s) → (is_at u t ≡ false → v ≡ u) → is_at s t ≡ false → v ≡ s
-other_twice t s u v f g h = g (ap (λ x. is_at x t) (f h) ∙ h) ∙ f h
-
 pub at_from : (t : Target) (s u : State) → u.registers ≡ s.registers → is_at s t ≡ true → is_at u t ≡ true
 at_from t s u e h = ap (λ x. x.address == t.addr) e ∙ h
-
-pub elsewhere : (t : Target) (s : State) {P : Type 0} → is_at s t ≡ true → is_at s t ≡ false → P
-elsewhere t s h g = cc (sym h ∙ g)
 
 -- Toggles of a data stage
 

@@ -19,10 +19,12 @@ use Rattle.usb_bus.proofs.Devices.{each_joined, each_wider}
 use Rattle.usb_transaction.specs.declared.target.Target.{Target}
 use Rattle.usb_transaction.specs.declared.fault.TransFault.{TransFault}
 use Rattle.usb_transaction.specs.Over.{is_at, ControlIn, AcceptedSince, SetupDone}
+use Rattle.usb_transaction.proofs.ControlOver.{control_in_leaves}
+use Rattle.usb_transaction.proofs.Overs.{other_twice}
 use Rattle.usb_pipe.specs.declared.fault.PipeFault.{PipeFault}
 use Rattle.usb_pipe.specs.Stages.{Written, NoSetUp, NoStatus, Writes}
 use Rattle.usb_pipe.specs.Whole.{IsNotOfBus, EffectDone, EffectOrNone, none, some, WriteLeaves}
-use Rattle.usb_pipe.proofs.WholeSteps.{SetupLaw, InLaw, ended, ended_settled, ended_unshared, set_up_leaves, in_leaves, Accepted, accepted_since, other_twice}
+use Rattle.usb_pipe.proofs.WholeSteps.{ended, ended_settled, ended_unshared, request_leaves, Accepted, accepted_since}
 
 -- The stage that a request without data begins
 
@@ -111,17 +113,17 @@ module _ (t : Target) (request : Setup) (nothing : request.length ≡ 0) (same :
 
 -- A whole write
 
-pub write_leaves : SetupLaw → InLaw → (t : Target) (request : Setup) (result : Result (Unit {0}) PipeFault) (old new : World) → IsToDevice request → request.length ≡ 0 → setup_of (bytes_of request) ≡ request → is_harmless request ≡ true
+pub write_leaves : (t : Target) (request : Setup) (result : Result (Unit {0}) PipeFault) (old new : World) → IsToDevice request → request.length ≡ 0 → setup_of (bytes_of request) ≡ request → is_harmless request ≡ true
     → IsSettled old.roots → Writes t request old result new → IsNotOfBus result → new.shared ≡ false → EachWas (WriteLeaves t request result) old new
-write_leaves setups ins t request (Ok unit) old new host nothing same harmless settled x sound single =
+write_leaves t request (Ok unit) old new host nothing same harmless settled x sound single =
     each_joined (SetupDone t (bytes_of request) (Ok [])) (ControlIn t One (Ok x.given)) (WriteLeaves t request (Ok unit)) (written_at t request nothing same x.given unit) old x.mid new
-    (set_up_leaves setups t request (Ok []) old x.mid same harmless settled x.set_up (ended_unshared x.status single))
-    (in_leaves ins t One (Ok x.given) x.mid new (ended_settled x.set_up settled) x.status single)
-write_leaves setups ins t request (Err why) old new host nothing same harmless settled (inl x) sound single =
+    (request_leaves t request (Ok []) old x.mid same harmless settled x.set_up (ended_unshared x.status single))
+    (control_in_leaves t One (Ok x.given) x.mid new (ended_settled x.set_up settled) x.status single)
+write_leaves t request (Err why) old new host nothing same harmless settled (inl x) sound single =
     each_wider (SetupDone t (bytes_of request) (Err x.fault)) (WriteLeaves t request (Err why)) (failed_at_setup t request nothing same x.fault why) old new
-    (set_up_leaves setups t request (Err x.fault) old new same harmless settled (ended (Unit {0}) why x.fault x.told sound x.set_up) single)
-write_leaves setups ins t request (Err why) old new host nothing same harmless settled (inr x) sound single =
+    (request_leaves t request (Err x.fault) old new same harmless settled (ended (Unit {0}) why x.fault x.told sound x.set_up) single)
+write_leaves t request (Err why) old new host nothing same harmless settled (inr x) sound single =
     let status = ended (Unit {0}) why x.fault x.told sound x.status in
     each_joined (SetupDone t (bytes_of request) (Ok [])) (ControlIn t One (Err x.fault)) (WriteLeaves t request (Err why)) (failed_at_status t request nothing same x.fault why) old x.mid new
-    (set_up_leaves setups t request (Ok []) old x.mid same harmless settled x.set_up (ended_unshared status single))
-    (in_leaves ins t One (Err x.fault) x.mid new (ended_settled x.set_up settled) status single)
+    (request_leaves t request (Ok []) old x.mid same harmless settled x.set_up (ended_unshared status single))
+    (control_in_leaves t One (Err x.fault) x.mid new (ended_settled x.set_up settled) status single)
