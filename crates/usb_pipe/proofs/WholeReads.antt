@@ -1,22 +1,20 @@
 -- What a control read leaves of each device.
-use Rattle.std.proofs.Common.{◌≡◌, ◌⊎◌, inl, inr, ℕ, zero, suc, ◌+◌, ◌-◌, ◌*◌, ◌/◌, ◌<◌, ◌≤◌, ◌==◌, min, nat_lt, nat_le, if◌then◌else◌, ◌&&◌, ◌||◌, not, Bool, true, false, List, [], ◌++◌, length, take, Option, None, Some, is_some, unwrap_or, refl, ap, sym, subst, ◌∙◌, arith}
+use Rattle.std.proofs.Common.{◌≡◌, ◌⊎◌, inl, inr, ℕ, suc, ◌+◌, ◌*◌, ◌/◌, ◌<◌, ◌≤◌, ◌==◌, nat_lt, nat_le, if◌then◌else◌, ◌&&◌, ◌||◌, not, Bool, true, false, List, [], ◌++◌, length, take, Option, None, Some, is_some, unwrap_or, refl, ap, sym, subst, ◌∙◌, arith}
 use Rattle.std.specs.Prelude.{Result, Ok, Err, slice_get, slice_index}
 use Rattle.std.specs.Global.{Vec}
 use Rattle.std.proofs.lemmas.Bool.Decides.{nat_tests}
-use Rattle.std.proofs.lemmas.Bool.{and_parts}
 use Rattle.std.proofs.lemmas.List.{take_all, length-take}
-use Rattle.usb_packet.specs.declared.Toggle.{Toggle}
 use Rattle.usb_packet.specs.declared.Toggle.TheVariants.{One}
 use Rattle.usb_request.specs.declared.setup.Setup.{Setup}
 use Rattle.usb_request.specs.Layout.{IsToHost, bytes_of, setup_of}
 use Rattle.usb_port.specs.PortState.{PortState, status_of}
 use Rattle.usb_device.specs.declared.request.Registers.{Registers}
 use Rattle.usb_device.specs.Spec.{Spec, Hub}
-use Rattle.usb_device.specs.Request.{Outcome, stalled, answers, tells_port, Is, unless, text_asked, get_descriptor, get_status, get_hub_descriptor, port_named, told_port, outcome}
+use Rattle.usb_device.specs.Request.{Outcome, stalled, answers, tells_port, Is, unless, get_descriptor, get_hub_descriptor, port_named, told_port, outcome}
 use Rattle.usb_device.specs.Transfer.{Stage, reading, ending, refused, max_packet, packet_at, joined, first_stage, reads_port}
 use Rattle.usb_device.specs.Transfer.{reads as reads_bytes}
-use Rattle.usb_device.specs.Rows.{State, begun, accepted}
-use Rattle.usb_device.specs.Progress.{ReadingAt, ReadOn, IsRead, OnlyControl, OnlyStage}
+use Rattle.usb_device.specs.Rows.{State, begun}
+use Rattle.usb_device.specs.Progress.{ReadingAt, ReadOn, OnlyControl, OnlyStage}
 use Rattle.usb_device.proofs.Packets.{joined-is, joined-whole, packet-further}
 use Rattle.usb_bus.proofs.Booleans.{decided, either_of}
 use Rattle.usb_bus.proofs.Devices.{each_none, each_joined, each_wider}
@@ -26,15 +24,15 @@ use Rattle.usb_bus.specs.World.{World}
 use Rattle.usb_bus.specs.Devices.{Relation, EachWas}
 use Rattle.usb_transaction.specs.declared.target.Target.{Target}
 use Rattle.usb_transaction.specs.declared.fault.TransFault.{TransFault}
-use Rattle.usb_transaction.specs.Over.{is_at, packet_in, ControlIn, ReadStatus, AcceptedSince, SetupDone}
+use Rattle.usb_transaction.specs.Over.{is_at, ReadStatus, AcceptedSince, SetupDone}
 use Rattle.usb_transaction.proofs.Overs.{other_twice}
 use Rattle.usb_transaction.proofs.ReadOver.{read_status_leaves}
 use Rattle.usb_pipe.specs.declared.fault.PipeFault.{PipeFault}
 use Rattle.usb_pipe.specs.Control.{is_last}
 use Rattle.usb_pipe.specs.Stages.{SetUp, Goes, start, packet, DataStage, DataLost, NoRoom, WasRead, NoSetUp, NoData, NotConfirmed, Reads}
 use Rattle.usb_pipe.specs.Toggles.{flips}
-use Rattle.usb_pipe.specs.Whole.{IsNotOfBus, IsMaximum, AnswerRead, ReadLeaves}
-use Rattle.usb_pipe.proofs.WholeSteady.{IsReading, reads, Steady}
+use Rattle.usb_pipe.specs.Whole.{IsNotOfBus, AnswerRead, ReadLeaves}
+use Rattle.usb_pipe.proofs.WholeSteady.{IsReading, reads}
 use Rattle.usb_pipe.proofs.WholeSteps.{ended, ended_settled, ended_unshared, request_leaves, InLeaves, asked_leaves, Accepted, accepted_since, only_twice, only_stage, at_from, flips_at, flips_none}
 
 -- What a request for data asks: bytes, or a refusal
@@ -175,16 +173,16 @@ along_more t wanted n got bytes j p s u v x y = record {
   others = other_twice t s u v x.others y.0.others;
   frame = only_twice s u v x.frame y.0.frame;
   refuses = λ at h.
-    let e : u ≡ s = (x.refuses at h).1 in
-    absurd ((y.0.refused (ap (λ d. d.stage) e ∙ h)).1 (ap (λ d. is_at d t) e ∙ at) bytes refl);
+      let e : u ≡ s = (x.refuses at h).1 in
+      absurd ((y.0.refused (ap (λ d. d.stage) e ∙ h)).1 (ap (λ d. is_at d t) e ∙ at) bytes refl);
   answers = λ at answer h.
-    let r : Answered wanted n got answer s u = x.answers at answer h in
-    let on : ReadOn answer wanted n u (Some bytes) v = y.0.reading (at_from t s u r.registers at) answer wanted n (flips_at n) r.at in
-    record {
-      at = on.1;
-      registers = (y.1 (is_reading answer wanted n u r.at)).1 ∙ r.registers;
-      bytes = joined_more (max_packet s.spec) wanted answer got bytes n r.bytes (ap (λ d. packet_at (max_packet d.spec) wanted answer n) (sym x.frame) ∙ on.0);
-    };
+      let r : Answered wanted n got answer s u = x.answers at answer h in
+      let on : ReadOn answer wanted n u (Some bytes) v = y.0.reading (at_from t s u r.registers at) answer wanted n (flips_at n) r.at in
+      record {
+        at = on.1;
+        registers = (y.1 (is_reading answer wanted n u r.at)).1 ∙ r.registers;
+        bytes = joined_more (max_packet s.spec) wanted answer got bytes n r.bytes (ap (λ d. packet_at (max_packet d.spec) wanted answer n) (sym x.frame) ∙ on.0);
+      };
 }
 
 -- a device at which the stage began as a request for data begins it keeps its registers
@@ -278,9 +276,9 @@ along_came : (t : Target) (wanted n : ℕ) (got last : List ℕ) (j : ℕ) (p : 
 along_came t wanted n got last j p s u v x y = record {
   along = along_more t wanted n got last j p s u v x y;
   packet = λ at answer h.
-    let r : Answered wanted n got answer s u = x.answers at answer h in
-    let on : ReadOn answer wanted n u (Some last) v = y.0.reading (at_from t s u r.registers at) answer wanted n (flips_at n) r.at in
-    ap (λ d. packet_at (max_packet d.spec) wanted answer n) (sym x.frame) ∙ on.0;
+      let r : Answered wanted n got answer s u = x.answers at answer h in
+      let on : ReadOn answer wanted n u (Some last) v = y.0.reading (at_from t s u r.registers at) answer wanted n (flips_at n) r.at in
+      ap (λ d. packet_at (max_packet d.spec) wanted answer n) (sym x.frame) ∙ on.0;
 }
 
 -- A whole read at one device
@@ -330,7 +328,7 @@ module _ (t : Target) (request : Setup) (host : IsToHost request) (some : 1 ≤ 
               answer = answer;
               is = sym k.stage ∙ h;
               came = λ most. bytes_are_all (max_packet u.spec) t.max request.length n answer got last bytes (at_least_8 u.spec) (y.packet (still_at s u k at) answer h) r.bytes kept ends
-                (subst (λ d. (max_packet d.spec ≡ t.max) ⊎ (request.length ≤ 8)) (sym k.frame) most);
+                  (subst (λ d. (max_packet d.spec ≡ t.max) ⊎ (request.length ≤ 8)) (sym k.frame) most);
               over = (z.done (at_from t u m r.registers (still_at s u k at)) [] refl).0;
             }
 

@@ -1,6 +1,6 @@
 -- The transactions of a control transfer, and what each leaves of each device.
-use Rattle.std.proofs.Common.{◌≡◌, ◌⊎◌, inl, inr, ℕ, zero, suc, ◌+◌, ◌<◌, ◌≤◌, ◌%◌, ◌==◌, if◌then◌else◌, ◌&&◌, not, Bool, true, false, List, [], length, Option, None, Some, refl, ap, sym, subst, ◌∙◌, arith}
-use Rattle.std.specs.Prelude.{Result, Ok, Err}
+use Rattle.std.proofs.Common.{◌≡◌, ℕ, zero, suc, ◌%◌, ◌==◌, if◌then◌else◌, not, Bool, true, false, List, length, refl, ap, subst, ◌∙◌, arith}
+use Rattle.std.specs.Prelude.{Result, Err}
 use Rattle.std.proofs.lemmas.Bool.Decides.{nat_tests}
 use Rattle.usb_packet.specs.declared.Toggle.{Toggle}
 use Rattle.usb_packet.specs.declared.Toggle.TheVariants.{Zero, One}
@@ -18,10 +18,10 @@ use Rattle.usb_bus.specs.Devices.{Relation, EachWas}
 use Rattle.usb_transaction.specs.declared.target.Target.{Target}
 use Rattle.usb_transaction.specs.declared.fault.TransFault.{TransFault}
 use Rattle.usb_transaction.specs.declared.fault.TransFault.TheVariants as trans
-use Rattle.usb_transaction.specs.Heard.{heard_as, sent_as, set_up_as, flip}
-use Rattle.usb_transaction.specs.Over.{is_at, ControlIn, ReadStatus, AcceptedSince, SetupDone}
+use Rattle.usb_transaction.specs.Heard.{heard_as, set_up_as, flip}
+use Rattle.usb_transaction.specs.Over.{is_at, ControlIn, AcceptedSince, SetupDone}
 use Rattle.usb_transaction.specs.Trail.{Ended, Transacted}
-use Rattle.usb_transaction.specs.Trans.{setup_attempt, in_attempt, out_attempt}
+use Rattle.usb_transaction.specs.Trans.{setup_attempt, in_attempt}
 use Rattle.usb_transaction.proofs.Trails.{trail_settled, trail_unshared}
 use Rattle.usb_transaction.proofs.ControlOver.{control_in_leaves}
 use Rattle.usb_transaction.proofs.OverSetup.{set_up_leaves}

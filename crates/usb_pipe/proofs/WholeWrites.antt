@@ -6,10 +6,10 @@ use Rattle.usb_request.specs.declared.setup.Setup.{Setup}
 use Rattle.usb_request.specs.Layout.{IsToDevice, bytes_of, setup_of}
 use Rattle.usb_port.specs.PortState.{PortState, status_of}
 use Rattle.usb_device.specs.declared.request.Registers.{Registers}
-use Rattle.usb_device.specs.Request.{Outcome, stalled, answers, takes_address, takes_configuration, halts, unhalts, tells_port, calls_port, address_at_end, outcome, registers_at_setup}
+use Rattle.usb_device.specs.Request.{Outcome, stalled, answers, takes_address, takes_configuration, halts, unhalts, tells_port, calls_port, outcome, registers_at_setup}
 use Rattle.usb_device.specs.Transfer.{Stage, ending, refused, first_stage, reads, reads_port}
-use Rattle.usb_device.specs.Rows.{State, accepted}
-use Rattle.usb_device.specs.Progress.{StatusGiven, StatusOn, OnlyControl}
+use Rattle.usb_device.specs.Rows.{State}
+use Rattle.usb_device.specs.Progress.{StatusGiven, OnlyControl}
 use Rattle.usb_bus.specs.Courses.{is_harmless}
 use Rattle.usb_bus.specs.Passes.{IsSettled}
 use Rattle.usb_bus.specs.World.{World}
@@ -22,7 +22,7 @@ use Rattle.usb_transaction.specs.Over.{is_at, ControlIn, AcceptedSince, SetupDon
 use Rattle.usb_transaction.proofs.ControlOver.{control_in_leaves}
 use Rattle.usb_transaction.proofs.Overs.{other_twice}
 use Rattle.usb_pipe.specs.declared.fault.PipeFault.{PipeFault}
-use Rattle.usb_pipe.specs.Stages.{Written, NoSetUp, NoStatus, Writes}
+use Rattle.usb_pipe.specs.Stages.{Writes}
 use Rattle.usb_pipe.specs.Whole.{IsNotOfBus, EffectDone, EffectOrNone, none, some, WriteLeaves}
 use Rattle.usb_pipe.proofs.WholeSteps.{ended, ended_settled, ended_unshared, request_leaves, Accepted, accepted_since}
 
