@@ -1,6 +1,6 @@
 -- No packet comes of a bulk IN endpoint that is halted.
 use Rattle.std.proofs.Common.{◌≡◌, ◌∙◌, ℕ, ◌==◌, if◌then◌else◌, refl, sym, ap, subst, true, false, List, length, take, Option, None, Some}
-use Rattle.std.specs.Prelude.{◌&&◌, nat_le, Result, Ok, Err}
+use Rattle.std.specs.Prelude.{Ok}
 use Rattle.arrayvec.specs.ArrayVec.{ArrayVec}
 use Rattle.usb_packet.specs.declared.Toggle.{Toggle}
 use Rattle.usb_port.specs.PortState.{PortState}
@@ -12,7 +12,6 @@ use Rattle.usb_device.specs.Progress.{IsSource}
 use Rattle.usb_device.specs.Rows.{State, Reply, bulk_of, rest_of}
 use Rattle.usb_device.specs.Tree.{row_of}
 use Rattle.usb_device.proofs.Attempts.{same_number}
-use Rattle.usb_bus.specs.declared.types.Outcome.{Outcome}
 use Rattle.usb_bus.specs.declared.types.Outcome.TheVariants as outcome
 use Rattle.usb_bus.specs.Passes.{IsSettled}
 use Rattle.usb_bus.specs.OneHolder.{got}

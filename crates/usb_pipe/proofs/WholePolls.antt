@@ -1,26 +1,25 @@
 -- What a poll of a hub's status pipe leaves of each device, and what it tells of it.
-use Rattle.std.proofs.Common.{◌≡◌, ◌∙◌, refl, sym, ap, subst, false, true}
-use Rattle.std.specs.Prelude.{ℕ, ◌≤◌, List, [], ◌∷◌, Option, Some, None, Result, Ok, Err}
+use Rattle.std.proofs.Common.{◌≡◌, ◌∙◌, sym, ap, subst, false}
+use Rattle.std.specs.Prelude.{ℕ, ◌≤◌, List, Option, Some, None, Result, Ok, Err}
 use Rattle.arrayvec.specs.ArrayVec.{ArrayVec}
 use Rattle.usb_packet.specs.declared.Toggle.{Toggle}
-use Rattle.usb_device.specs.Bulk.{other, tells_changes}
+use Rattle.usb_device.specs.Bulk.{other}
 use Rattle.usb_device.specs.Rows.{State}
-use Rattle.usb_device.specs.Progress.{PollAt, NeverTold, ToldByte, OnlyChanges}
+use Rattle.usb_device.specs.Progress.{PollAt, NeverTold, ToldByte}
 use Rattle.usb_bus.specs.Passes.{IsSettled}
 use Rattle.usb_bus.specs.World.{World}
 use Rattle.usb_bus.specs.Devices.{EachWas}
 use Rattle.usb_bus.proofs.Devices.{each_wider}
 use Rattle.usb_transaction.specs.declared.fault.TransFault.{TransFault}
 use Rattle.usb_transaction.specs.declared.fault.TransFault.TheVariants as trans
-use Rattle.usb_transaction.specs.Heard.{toggle_after}
-use Rattle.usb_transaction.specs.Over.{is_at, PollEnds, ToldIn, ChangesIn}
+use Rattle.usb_transaction.specs.Over.{ChangesIn}
 use Rattle.usb_transaction.specs.Trail.{Waiting, PollEnded, Polled}
 use Rattle.usb_transaction.specs.Trans.{in_attempt}
 use Rattle.usb_transaction.proofs.OverPoll.{poll_waits, poll_comes, poll_fails}
 use Rattle.usb_pipe.specs.declared.fault.PipeFault.{PipeFault}
 use Rattle.usb_pipe.specs.Control.{fault_of}
-use Rattle.usb_pipe.specs.Interrupt.{Interrupt, NoPoll, Asked, Polls}
-use Rattle.usb_pipe.specs.Whole.{IsNotOfBus, ToldOf, ByteTold, PollTells, PollLeaves}
+use Rattle.usb_pipe.specs.Interrupt.{Interrupt, NoPoll, Polls}
+use Rattle.usb_pipe.specs.Whole.{IsNotOfBus, ToldOf, PollLeaves}
 use Rattle.usb_pipe.proofs.WholeSends.{flip_other}
 
 nothing_told : (pipe left : Interrupt) (old : World) → left.toggle ≡ pipe.toggle → (j : ℕ) (p : List ℕ) (s v : State) → ChangesIn pipe.target pipe.toggle old (Ok None) j p s v → PollLeaves pipe old (Ok None) left j p s v

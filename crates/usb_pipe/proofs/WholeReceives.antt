@@ -1,26 +1,25 @@
 -- What receiving leaves of each device: one packet after the other, and the last, or one that did not come.
 use Rattle.std.proofs.Common.{◌≡◌, ◌≢◌, ◌∙◌, ◌⊎◌, inl, inr, refl, sym, ap, subst, arith, false, true}
-use Rattle.std.specs.Prelude.{ℕ, zero, suc, ◌+◌, ◌-◌, ◌*◌, ◌/◌, ◌<◌, ◌≤◌, min, List, [], ◌∷◌, ◌++◌, length, take, drop, MatchResult, Result, Ok, Err}
+use Rattle.std.specs.Prelude.{ℕ, zero, suc, ◌+◌, ◌*◌, ◌<◌, ◌≤◌, min, List, [], ◌++◌, length, take, drop, MatchResult, Result, Ok, Err}
 use Rattle.std.specs.Global.{Vec}
 use Rattle.std.proofs.Math.Seq.{take-add}
 use Rattle.std.proofs.lemmas.List.{length-append, length-take, length-drop, drop-drop, take_min}
 use Rattle.std.proofs.lemmas.Nat.{le-div}
-use Rattle.std.proofs.lemmas.Option.{same_Some}
 use Rattle.usb_packet.specs.declared.Toggle.{Toggle}
 use Rattle.usb_device.specs.Bulk.{other, advanced}
 use Rattle.usb_device.specs.Rows.{State}
 use Rattle.usb_device.specs.Progress.{IsSource, SourceAt, OnlySource}
 use Rattle.usb_bus.specs.Passes.{IsSettled}
 use Rattle.usb_bus.specs.World.{World}
-use Rattle.usb_bus.specs.Devices.{Relation, Was, EachWas}
-use Rattle.usb_bus.proofs.Devices.{each_none, each_joined, each_wider}
+use Rattle.usb_bus.specs.Devices.{EachWas}
+use Rattle.usb_bus.proofs.Devices.{each_none, each_joined}
 use Rattle.usb_transaction.specs.declared.target.Target.{Target}
 use Rattle.usb_transaction.specs.declared.fault.TransFault.{TransFault}
-use Rattle.usb_transaction.specs.declared.fault.TransFault.TheVariants as trans
 use Rattle.usb_transaction.specs.Heard.{heard_as}
 use Rattle.usb_transaction.specs.Over.{is_at, SourceIn}
 use Rattle.usb_transaction.specs.Trail.{Ended}
 use Rattle.usb_transaction.specs.Trans.{in_attempt}
+use Rattle.usb_transaction.proofs.Overs.{other_twice}
 use Rattle.usb_transaction.proofs.OverSource.{source_over}
 use Rattle.usb_pipe.specs.declared.condition.Condition.{Condition}
 use Rattle.usb_pipe.specs.declared.condition.Condition.TheVariants.{Ready, Halted, Broken}
@@ -33,17 +32,10 @@ use Rattle.usb_pipe.specs.Moves.{Came, start, packet, AllCame, NotCame, NoRoomLe
 use Rattle.usb_pipe.specs.Toggles.{flips}
 use Rattle.usb_pipe.specs.Whole.{IsNotOfBus, FitsSource, ReceiveLeaves}
 use Rattle.usb_pipe.proofs.Moves.{packets_short}
-use Rattle.usb_pipe.proofs.WholeEnds.{lost_ended, settled_then, unshared_before}
+use Rattle.usb_pipe.proofs.WholeSteady.{each_both}
+use Rattle.usb_pipe.proofs.WholeSteps.{ended, ended_settled, ended_unshared}
 use Rattle.usb_pipe.proofs.WholeHalts.{NotHalted, came_of}
-use Rattle.usb_pipe.proofs.WholeSends.{turned_on, others_twice, not_ready, halted_by}
-
--- Two relations at once
-
-each_also : (R S : Relation) (old new : World) → EachWas R old new → EachWas S old new → EachWas (λ j p s v. R j p s v × S j p s v) old new
-each_also R S old new x y j p s on there =
-    let one : Was R old j p s = x j p s on there in
-    let two : Was S old j p s = y j p s on there in
-    record { before = one.before; on = one.on; stands = one.stands; so = (one.so, subst (λ d. S j p d s) (same_Some two.before one.before (sym two.stands ∙ one.stands)) two.so) }
+use Rattle.usb_pipe.proofs.WholeSends.{turned_on, not_ready, halted_by}
 
 -- The next bytes of a list
 
@@ -105,7 +97,7 @@ not_halted t ep first n got j p s u v x y h i c =
 came_then : (t : Target) (ep : ℕ) (first : Toggle) (n : ℕ) (got bytes : List ℕ) → 1 ≤ t.max → (j : ℕ) (p : List ℕ) (s u v : State)
     → CameLeaves t ep first n got j p s u → Fetched t ep (flips n first) bytes j p u v → CameLeaves t ep first (n + 1) (got ++ bytes) j p s v
 came_then t ep first n got bytes least j p s u v x (y, z) = record {
-  others = others_twice t s u v x.others y.others;
+  others = other_twice t s u v x.others y.others;
   frame = λ i. source_twice s u v (x.frame i) (y.frame t.max (source_kept ep t.max s u (x.frame i) i));
   source = λ h i place at.
       let f : OnlySource s u = x.frame i in
@@ -123,21 +115,21 @@ came_then t ep first n got bytes least j p s u v x (y, z) = record {
   still = λ h i c. elim (not_halted t ep first n got j p s u v x z h i c) [ ];
 }
 
-pub came_settled : {t : Target} {ep : ℕ} {first : Toggle} {old : World} {n : ℕ} {got : List ℕ} {new : World} → Came t ep first old n got new → IsSettled old.roots → IsSettled new.roots
+came_settled : {t : Target} {ep : ℕ} {first : Toggle} {old : World} {n : ℕ} {got : List ℕ} {new : World} → Came t ep first old n got new → IsSettled old.roots → IsSettled new.roots
 came_settled start h = h
-came_settled (packet bytes c fetches full) h = settled_then fetches (came_settled c h)
+came_settled (packet bytes c fetches full) h = ended_settled fetches (came_settled c h)
 
 fetched : (t : Target) (ep : ℕ) (awaited : Toggle) (bytes : List ℕ) (old new : World) → IsSettled old.roots → Ended (heard_as awaited) (in_attempt t ep) old (Ok bytes) new → new.shared ≡ false
     → EachWas (Fetched t ep awaited bytes) old new
 fetched t ep awaited bytes old new settled e single =
-    each_also (SourceIn t ep awaited (Ok bytes)) (NotHalted t ep) old new (source_over t ep awaited (Ok bytes) old new settled e single) (came_of t ep awaited bytes old new settled e single)
+    each_both (SourceIn t ep awaited (Ok bytes)) (NotHalted t ep) old new (source_over t ep awaited (Ok bytes) old new settled e single) (came_of t ep awaited bytes old new settled e single)
 
 came_leaves : (t : Target) (ep : ℕ) (first : Toggle) → 1 ≤ t.max → {old : World} {n : ℕ} {got : List ℕ} {new : World} → IsSettled old.roots → Came t ep first old n got new → new.shared ≡ false
     → EachWas (CameLeaves t ep first n got) old new
 came_leaves t ep first least {old} settled start single = each_none (CameLeaves t ep first 0 []) (came_none t ep first) old
 came_leaves t ep first least {old} {new} settled (packet {n} {got} {mid} bytes c fetches full) single =
     each_joined (CameLeaves t ep first n got) (Fetched t ep (flips n first) bytes) (CameLeaves t ep first (n + 1) (got ++ bytes)) (came_then t ep first n got bytes least) old mid new
-    (came_leaves t ep first least settled c (unshared_before fetches single))
+    (came_leaves t ep first least settled c (ended_unshared fetches single))
     (fetched t ep (flips n first) bytes mid new (came_settled c settled) fetches single)
 
 -- How many packets
@@ -185,7 +177,7 @@ all_then : (pipe left : Bulk) (bytes : Vec ℕ) (n : ℕ) (got last : List ℕ) 
     → left ≡ record pipe { toggle = left.toggle; condition = Ready } → left.toggle ≡ flips (n + 1) pipe.toggle → (j : ℕ) (p : List ℕ) (s u v : State)
     → CameLeaves (packet_target pipe.target pipe.max) pipe.ep pipe.toggle n got j p s u → Fetched (packet_target pipe.target pipe.max) pipe.ep (flips n pipe.toggle) last j p u v → ReceiveLeaves pipe (Ok bytes) left j p s v
 all_then pipe left bytes n got last works least kept e turned j p s u v x y = record {
-  others = others_twice pipe.target s u v x.others y.0.others;
+  others = other_twice pipe.target s u v x.others y.0.others;
   frame = frame;
   fits = λ h place f. subst (λ l. FitsSource l (place + length bytes.items) v) (sym e) (record {
     endpoint = source_kept pipe.ep pipe.max s v (frame f.endpoint) f.endpoint;
@@ -220,7 +212,7 @@ lost_then : (pipe left : Bulk) (why : PipeFault) (fault : TransFault) (n : ℕ) 
     → CameLeaves (packet_target pipe.target pipe.max) pipe.ep pipe.toggle n got j p s u → SourceIn (packet_target pipe.target pipe.max) pipe.ep (flips n pipe.toggle) (Err fault) j p u v → ReceiveLeaves pipe (Err why) left j p s v
 lost_then pipe left why fault n got said sound e j p s u v x y =
     none_then pipe left why e (not_ready (Vec ℕ) pipe.condition why fault said sound) j p s v
-    (others_twice pipe.target s u v x.others y.others)
+    (other_twice pipe.target s u v x.others y.others)
     (λ i. source_twice s u v (x.frame i) (y.frame pipe.max (source_kept pipe.ep pipe.max s u (x.frame i) i)))
     (λ h i r.
     let f : OnlySource s u = x.frame i in
@@ -232,7 +224,7 @@ room_then : (pipe left : Bulk) (why : PipeFault) (last : List ℕ) (n : ℕ) (go
     → SourceIn (packet_target pipe.target pipe.max) pipe.ep (flips n pipe.toggle) (Ok last) j p u v → ReceiveLeaves pipe (Err why) left j p s v
 room_then pipe left why last n got said e j p s u v x y =
     none_then pipe left why e (λ r. cc (ap (λ k. after_fault pipe.condition k) (sym said) ∙ r)) j p s v
-    (others_twice pipe.target s u v x.others y.others)
+    (other_twice pipe.target s u v x.others y.others)
     (λ i. source_twice s u v (x.frame i) (y.frame pipe.max (source_kept pipe.ep pipe.max s u (x.frame i) i)))
     (λ h i r. cc (ap (λ k. after_fault pipe.condition k) (sym said) ∙ r))
 
@@ -273,11 +265,11 @@ each_lost : (wanted : ℕ) (pipe left : Bulk) (why : PipeFault) (old new : World
     → NotCame (packet_target pipe.target pipe.max) pipe.ep pipe.toggle wanted old why new → IsNotOfBus {A = Vec ℕ} (Err why) → new.shared ≡ false → EachWas (ReceiveLeaves pipe (Err why) left) old new
 each_lost wanted pipe left why old new least settled e g sound single =
     let t = packet_target pipe.target pipe.max in
-    let ended : Ended (heard_as (flips g.packets pipe.toggle)) (in_attempt t pipe.ep) g.mid (Err g.fault) new = lost_ended (Vec ℕ) why g.fault g.told sound g.lost in
+    let over : Ended (heard_as (flips g.packets pipe.toggle)) (in_attempt t pipe.ep) g.mid (Err g.fault) new = ended (Vec ℕ) why g.fault g.told sound g.lost in
     each_joined (CameLeaves t pipe.ep pipe.toggle g.packets g.got) (SourceIn t pipe.ep (flips g.packets pipe.toggle) (Err g.fault)) (ReceiveLeaves pipe (Err why) left)
     (lost_then pipe left why g.fault g.packets g.got g.told sound e) old g.mid new
-    (came_leaves t pipe.ep pipe.toggle least settled g.before (unshared_before ended single))
-    (source_over t pipe.ep (flips g.packets pipe.toggle) (Err g.fault) g.mid new (came_settled g.before settled) ended single)
+    (came_leaves t pipe.ep pipe.toggle least settled g.before (ended_unshared over single))
+    (source_over t pipe.ep (flips g.packets pipe.toggle) (Err g.fault) g.mid new (came_settled g.before settled) over single)
 
 each_dropped : (wanted : ℕ) (pipe left : Bulk) (why : PipeFault) (old new : World) → 1 ≤ pipe.max → IsSettled old.roots → left ≡ record pipe { toggle = left.toggle; condition = after_fault pipe.condition why }
     → NoRoomLeft (packet_target pipe.target pipe.max) pipe.ep pipe.toggle wanted old why new → new.shared ≡ false → EachWas (ReceiveLeaves pipe (Err why) left) old new
@@ -285,7 +277,7 @@ each_dropped wanted pipe left why old new least settled e g single =
     let t = packet_target pipe.target pipe.max in
     each_joined (CameLeaves t pipe.ep pipe.toggle g.packets g.got) (SourceIn t pipe.ep (flips g.packets pipe.toggle) (Ok g.last)) (ReceiveLeaves pipe (Err why) left)
     (room_then pipe left why g.last g.packets g.got g.told e) old g.mid new
-    (came_leaves t pipe.ep pipe.toggle least settled g.before (unshared_before g.came single))
+    (came_leaves t pipe.ep pipe.toggle least settled g.before (ended_unshared g.came single))
     (source_over t pipe.ep (flips g.packets pipe.toggle) (Ok g.last) g.mid new (came_settled g.before settled) g.came single)
 
 each_failed : (wanted : ℕ) (pipe left : Bulk) (why : PipeFault) (old new : World) → 1 ≤ pipe.max → IsSettled old.roots → left ≡ record pipe { toggle = left.toggle; condition = after_fault pipe.condition why }
@@ -302,7 +294,7 @@ each_received wanted pipe (Ok bytes) left old new least settled works x sound si
     let turned : left.toggle ≡ flips (g.packets + 1) pipe.toggle = x.toggle ∙ ap (λ k. flips k pipe.toggle) (all_packets t pipe.ep pipe.toggle wanted old new bytes.items least g) in
     each_joined (CameLeaves t pipe.ep pipe.toggle g.packets g.got) (Fetched t pipe.ep (flips g.packets pipe.toggle) g.last) (ReceiveLeaves pipe (Ok bytes) left)
     (all_then pipe left bytes g.packets g.got g.last works least g.kept x.pipe_left turned) old g.mid new
-    (came_leaves t pipe.ep pipe.toggle least settled g.before (unshared_before g.came single))
+    (came_leaves t pipe.ep pipe.toggle least settled g.before (ended_unshared g.came single))
     (fetched t pipe.ep (flips g.packets pipe.toggle) g.last g.mid new (came_settled g.before settled) g.came single)
 each_received wanted pipe (Err why) left old new least settled works x sound single = each_failed wanted pipe left why old new least settled x.pipe_left x.came sound single
 

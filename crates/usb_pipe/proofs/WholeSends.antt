@@ -1,6 +1,6 @@
 -- What sending leaves of each device: one packet after the other, and the last that did not go.
 use Rattle.std.proofs.Common.{◌≡◌, ◌≢◌, ◌∙◌, refl, sym, ap, subst, add-one, arith, false, true}
-use Rattle.std.specs.Prelude.{ℕ, zero, suc, ◌+◌, ◌*◌, ◌<◌, ◌≤◌, List, [], ◌∷◌, ◌++◌, length, take, drop, OnOk, Result, Ok, Err}
+use Rattle.std.specs.Prelude.{ℕ, zero, suc, ◌+◌, ◌*◌, ◌<◌, ◌≤◌, List, [], ◌∷◌, ◌++◌, length, take, drop, Result, Ok, Err}
 use Rattle.std.specs.Int.{div_ceil}
 use Rattle.std.proofs.lemmas.List.{append_assoc, append-nil, length-append, length-take, take-append-drop}
 use Rattle.usb_packet.specs.declared.Toggle.{Toggle}
@@ -19,19 +19,20 @@ use Rattle.usb_transaction.specs.Heard.{sent_as, flip}
 use Rattle.usb_transaction.specs.Over.{is_at, SinkEnds, SinkOut}
 use Rattle.usb_transaction.specs.Trail.{Ended}
 use Rattle.usb_transaction.specs.Trans.{out_attempt}
+use Rattle.usb_transaction.proofs.Overs.{other_twice}
 use Rattle.usb_transaction.proofs.OverSink.{sink_over}
 use Rattle.usb_pipe.specs.declared.condition.Condition.{Condition}
 use Rattle.usb_pipe.specs.declared.condition.Condition.TheVariants.{Ready, Halted, Broken}
 use Rattle.usb_pipe.specs.declared.fault.PipeFault.{PipeFault}
 use Rattle.usb_pipe.specs.declared.fault.PipeFault.TheVariants as pipe_fault
-use Rattle.usb_pipe.specs.Bulk.{Bulk, after_fault, after_transfer, Idle, Sent, Sends}
+use Rattle.usb_pipe.specs.Bulk.{Bulk, after_fault, Idle, Sent, Sends}
 use Rattle.usb_pipe.specs.Control.{fault_of}
 use Rattle.usb_pipe.specs.End.{packet_target}
-use Rattle.usb_pipe.specs.Moves.{Gave, start, packet, AllGone, NotGone, SendEnds}
+use Rattle.usb_pipe.specs.Moves.{Gave, start, packet, NotGone}
 use Rattle.usb_pipe.specs.Toggles.{flips}
 use Rattle.usb_pipe.specs.Whole.{IsNotOfBus, FitsSink, FrontTaken, SendLeaves}
 use Rattle.usb_pipe.proofs.Moves.{packets_one, packets_none}
-use Rattle.usb_pipe.proofs.WholeEnds.{lost_ended, settled_then, unshared_before}
+use Rattle.usb_pipe.proofs.WholeSteps.{ended, ended_settled, ended_unshared}
 
 -- Toggles
 
@@ -60,9 +61,6 @@ at_kept t s u e h = ap (λ x. is_at x t) e ∙ h
 sink_twice : (s u v : State) → OnlySink s u → OnlySink u v → OnlySink s v
 sink_twice s u v e f = f ∙ ap {A = State} (λ x. record x { memory = v.memory; bulk_out = v.bulk_out; sink = v.sink; until_halt = v.until_halt }) e
 
-pub others_twice : (t : Target) (s u v : State) → (is_at s t ≡ false → u ≡ s) → (is_at u t ≡ false → v ≡ u) → is_at s t ≡ false → v ≡ s
-others_twice t s u v f g h = g (ap (λ x. is_at x t) (f h) ∙ h) ∙ f h
-
 gave_none : (t : Target) (ep : ℕ) (first : Toggle) (j : ℕ) (p : List ℕ) (s : State) → GaveLeaves t ep first 0 [] j p s s
 unfolding flips
 gave_none t ep first j p s = record {
@@ -75,7 +73,7 @@ gave_none t ep first j p s = record {
 gave_then : (t : Target) (ep : ℕ) (first : Toggle) (n : ℕ) (sent bytes : List ℕ) → length bytes ≤ t.max → (j : ℕ) (p : List ℕ) (s u v : State)
     → GaveLeaves t ep first n sent j p s u → SinkOut t ep (flips n first) bytes (Ok []) j p u v → GaveLeaves t ep first (n + 1) (sent ++ bytes) j p s v
 gave_then t ep first n sent bytes fits j p s u v x y = record {
-  others = others_twice t s u v x.others y.others;
+  others = other_twice t s u v x.others y.others;
   frame = λ i. sink_twice s u v (x.frame i) (y.frame t.max (sink_kept ep t.max s u (x.frame i) i));
   sink = λ h i e.
       let f : OnlySink s u = x.frame i in
@@ -88,16 +86,16 @@ gave_then t ep first n sent bytes fits j p s u v x y = record {
       elim (z.1 [] refl) [ ];
 }
 
-pub gave_settled : {t : Target} {ep : ℕ} {first : Toggle} {old : World} {n : ℕ} {sent : List ℕ} {new : World} → Gave t ep first old n sent new → IsSettled old.roots → IsSettled new.roots
+gave_settled : {t : Target} {ep : ℕ} {first : Toggle} {old : World} {n : ℕ} {sent : List ℕ} {new : World} → Gave t ep first old n sent new → IsSettled old.roots → IsSettled new.roots
 gave_settled start h = h
-gave_settled (packet bytes g full some fits puts) h = settled_then puts (gave_settled g h)
+gave_settled (packet bytes g full some fits puts) h = ended_settled puts (gave_settled g h)
 
 gave_leaves : (t : Target) (ep : ℕ) (first : Toggle) {old : World} {n : ℕ} {sent : List ℕ} {new : World} → IsSettled old.roots → Gave t ep first old n sent new → new.shared ≡ false
     → EachWas (GaveLeaves t ep first n sent) old new
 gave_leaves t ep first {old} settled start single = each_none (GaveLeaves t ep first 0 []) (gave_none t ep first) old
 gave_leaves t ep first {old} {new} settled (packet {n} {sent} {mid} bytes g full some fits puts) single =
     each_joined (GaveLeaves t ep first n sent) (SinkOut t ep (flips n first) bytes (Ok [])) (GaveLeaves t ep first (n + 1) (sent ++ bytes)) (gave_then t ep first n sent bytes fits) old mid new
-    (gave_leaves t ep first settled g (unshared_before puts single))
+    (gave_leaves t ep first settled g (ended_unshared puts single))
     (sink_over t ep (flips n first) bytes (Ok []) mid new (gave_settled g settled) puts single)
 
 -- How many packets
@@ -206,7 +204,7 @@ lost_then : (bytes sent rest : List ℕ) (pipe left : Bulk) (n : ℕ) (why : Pip
     → GaveLeaves (packet_target pipe.target pipe.max) pipe.ep pipe.toggle n sent j p s u → SinkOut (packet_target pipe.target pipe.max) pipe.ep (flips n pipe.toggle) (take pipe.max rest) (Err fault) j p u v
     → SendLeaves bytes pipe (Err why) left j p s v
 lost_then bytes sent rest pipe left n why fault works split said sound e j p s u v x y = record {
-  others = others_twice pipe.target s u v x.others y.others;
+  others = other_twice pipe.target s u v x.others y.others;
   frame = frame;
   fits = λ h f. subst (λ l. FitsSink l v) (sym e) (record {
     endpoint = sink_kept pipe.ep pipe.max s v (frame f.endpoint) f.endpoint;
@@ -259,11 +257,11 @@ each_sent bytes pipe (Ok done) left old new settled works some x sound single =
 each_sent bytes pipe (Err why) left old new settled works some x sound single =
     let t = packet_target pipe.target pipe.max in
     let g : NotGone t pipe.ep pipe.toggle bytes old why new = x.went in
-    let ended : Ended sent_as (out_attempt t pipe.ep (flips g.packets pipe.toggle) (take pipe.max g.rest)) g.mid (Err g.fault) new = lost_ended (Unit {0}) why g.fault g.told sound g.lost in
+    let over : Ended sent_as (out_attempt t pipe.ep (flips g.packets pipe.toggle) (take pipe.max g.rest)) g.mid (Err g.fault) new = ended (Unit {0}) why g.fault g.told sound g.lost in
     each_joined (GaveLeaves t pipe.ep pipe.toggle g.packets g.sent) (SinkOut t pipe.ep (flips g.packets pipe.toggle) (take pipe.max g.rest) (Err g.fault)) (SendLeaves bytes pipe (Err why) left)
     (lost_then bytes g.sent g.rest pipe left g.packets why g.fault works g.split g.told sound x.pipe_left) old g.mid new
-    (gave_leaves t pipe.ep pipe.toggle settled g.before (unshared_before ended single))
-    (sink_over t pipe.ep (flips g.packets pipe.toggle) (take pipe.max g.rest) (Err g.fault) g.mid new (gave_settled g.before settled) ended single)
+    (gave_leaves t pipe.ep pipe.toggle settled g.before (ended_unshared over single))
+    (sink_over t pipe.ep (flips g.packets pipe.toggle) (take pipe.max g.rest) (Err g.fault) g.mid new (gave_settled g.before settled) over single)
 
 -- any bytes, by whether there are some
 each_working : (bytes : List ℕ) (pipe : Bulk) (result : Result (Unit {0}) PipeFault) (left : Bulk) (old new : World) → IsSettled old.roots → pipe.condition ≢ Broken
