@@ -48,7 +48,7 @@ next_bytes got bytes xs place max before now =
     let ys = drop place xs in
     let later : drop (place + length got) xs ≡ drop (length got) ys = sym (drop-drop (length got) place xs) in
     let here : bytes ≡ take (length bytes) (drop (length got) ys) =
-        now ∙ take_full max (drop (place + length got) xs) ∙ ap (λ k. take (length k) (drop (place + length got) xs)) (sym now) ∙ ap (λ z. take (length bytes) z) later in
+    now ∙ take_full max (drop (place + length got) xs) ∙ ap (λ k. take (length k) (drop (place + length got) xs)) (sym now) ∙ ap (λ z. take (length bytes) z) later in
     ap (λ x. x ++ bytes) before ∙ ap (λ x. take (length got) ys ++ x) here ∙ sym (take-add (length got) (length bytes) ys) ∙ ap (λ k. take k ys) (sym (length-append got bytes))
 
 next_place : (got bytes xs : List ℕ) (place max : ℕ) → bytes ≡ take max (drop (place + length got) xs) → advanced (place + length got) max (length xs) ≡ place + length (got ++ bytes)
@@ -106,8 +106,7 @@ came_then t ep first n got bytes least j p s u v x (y, z) = record {
       let same : u.spec.source ≡ s.spec.source = ap (λ q. q.spec.source) f in
       let next : bytes ≡ take t.max (drop (place + length got) s.spec.source) = subst (λ q. bytes ≡ take t.max (drop (place + length got) q)) same now.0 in
       let there : SourceAt t.max (advanced (place + length got) t.max (length s.spec.source)) (other (flips n first)) v =
-          subst (λ q. SourceAt t.max (advanced (place + length got) t.max (length q)) (other (flips n first)) v) same now.2 in
-      (
+      subst (λ q. SourceAt t.max (advanced (place + length got) t.max (length q)) (other (flips n first)) v) same now.2 in (
         next_bytes got bytes s.spec.source place t.max before.0 next,
         subst (λ k. SourceAt t.max k (flips (n + 1) first) v) (next_place got bytes s.spec.source place t.max next)
             (subst (λ k. SourceAt t.max (advanced (place + length got) t.max (length s.spec.source)) k v) (turned_on n first (other (flips n first)) refl) there),

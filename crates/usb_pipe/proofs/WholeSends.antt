@@ -178,7 +178,7 @@ lost_leaves bytes sent rest pipe n fault j p s u v works split x y h f = pick pi
     pick Ready e =
         let at : _ = x.sink h f.endpoint (f.level e) in
         let z : _ = lost_at (s.sink ++ sent) (take pipe.max rest) (flips n pipe.toggle) fault v
-            (y.sink (at_kept pipe.target s u only h) pipe.max (s.sink ++ sent) (sink_kept pipe.ep pipe.max s u only f.endpoint) (fits_packet pipe.max rest) (level at.0 at.1)) in
+        (y.sink (at_kept pipe.target s u only h) pipe.max (s.sink ++ sent) (sink_kept pipe.ep pipe.max s u only f.endpoint) (fits_packet pipe.max rest) (level at.0 at.1)) in
         (front_at bytes sent rest pipe.max (flips n pipe.toggle) s v split z.0, z.1)
     pick Halted e =
         let same : u ≡ s = (x.halted h f.endpoint (f.halted e)).0 in
