@@ -6,3 +6,11 @@ pub mod Hubs
 pub mod DataStages
 pub mod Gone
 pub mod Come
+pub mod WholeSteady
+pub mod WholeSteps
+pub mod WholeReads
+pub mod WholeWrites
+pub mod WholeSends
+pub mod WholePolls
+pub mod WholeHalts
+pub mod WholeReceives

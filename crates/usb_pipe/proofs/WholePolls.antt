@@ -1,0 +1,71 @@
+-- What a poll of a hub's status pipe leaves of each device, and what it tells of it.
+use Rattle.std.proofs.Common.{◌≡◌, ◌∙◌, sym, ap, subst, false}
+use Rattle.std.specs.Prelude.{ℕ, ◌≤◌, List, Option, Some, None, Result, Ok, Err}
+use Rattle.arrayvec.specs.ArrayVec.{ArrayVec}
+use Rattle.usb_packet.specs.declared.Toggle.{Toggle}
+use Rattle.usb_device.specs.Bulk.{other}
+use Rattle.usb_device.specs.Rows.{State}
+use Rattle.usb_device.specs.Progress.{PollAt, NeverTold, ToldByte}
+use Rattle.usb_bus.specs.Passes.{IsSettled}
+use Rattle.usb_bus.specs.World.{World}
+use Rattle.usb_bus.specs.Devices.{EachWas}
+use Rattle.usb_bus.proofs.Devices.{each_wider}
+use Rattle.usb_transaction.specs.declared.fault.TransFault.{TransFault}
+use Rattle.usb_transaction.specs.declared.fault.TransFault.TheVariants as trans
+use Rattle.usb_transaction.specs.Over.{ChangesIn}
+use Rattle.usb_transaction.specs.Trail.{Waiting, PollEnded, Polled}
+use Rattle.usb_transaction.specs.Trans.{in_attempt}
+use Rattle.usb_transaction.proofs.OverPoll.{poll_waits, poll_comes, poll_fails}
+use Rattle.usb_pipe.specs.declared.fault.PipeFault.{PipeFault}
+use Rattle.usb_pipe.specs.Control.{fault_of}
+use Rattle.usb_pipe.specs.Interrupt.{Interrupt, NoPoll, Polls}
+use Rattle.usb_pipe.specs.Whole.{IsNotOfBus, ToldOf, PollLeaves}
+use Rattle.usb_pipe.proofs.WholeSends.{flip_other}
+
+nothing_told : (pipe left : Interrupt) (old : World) → left.toggle ≡ pipe.toggle → (j : ℕ) (p : List ℕ) (s v : State) → ChangesIn pipe.target pipe.toggle old (Ok None) j p s v → PollLeaves pipe old (Ok None) left j p s v
+nothing_told pipe left old e j p s v x = record {
+  others = x.others;
+  frame = x.frame;
+  tells = λ h k at. (x.poll h k at).0;
+  level = λ h k at got r. subst (λ t. PollAt NeverTold t v) (sym e) (x.poll h k at).1;
+}
+
+byte_told : (pipe left : Interrupt) (old : World) (byte : ArrayVec ℕ) → left.toggle ≡ other pipe.toggle → (j : ℕ) (p : List ℕ) (s v : State)
+    → ChangesIn pipe.target pipe.toggle old (Ok (Some byte.items)) j p s v → PollLeaves pipe old (Ok (Some byte)) left j p s v
+byte_told pipe left old byte e j p s v x = record {
+  others = x.others;
+  frame = x.frame;
+  tells = λ h k at. let told : ToldByte (ToldOf pipe old j p) pipe.toggle byte.items v = x.poll h k at in record { bits = told.bits; so = told.so; is = told.came };
+  level = λ h k at got r. let told : ToldByte (ToldOf pipe old j p) pipe.toggle byte.items v = x.poll h k at in subst (λ t. PollAt NeverTold t v) (sym e) told.between;
+}
+
+none_told : (pipe left : Interrupt) (old : World) (why : PipeFault) (fault : TransFault) (j : ℕ) (p : List ℕ) (s v : State)
+    → ChangesIn pipe.target pipe.toggle old (Err fault) j p s v → PollLeaves pipe old (Err why) left j p s v
+none_told pipe left old why fault j p s v x = record {
+  others = x.others;
+  frame = x.frame;
+  tells = λ h k at. tt;
+  level = λ h k at got r. cc r;
+}
+
+-- a poll that failed, but for the bus
+failed : (toggle : Toggle) (pipe : Interrupt) (old new : World) (why : PipeFault) (fault : TransFault) → why ≡ fault_of fault → IsNotOfBus {A = Option (ArrayVec ℕ)} (Err why) → pipe.ep ≡ 1
+    → Polled toggle (in_attempt pipe.target pipe.ep) old (Err fault) new → PollEnded toggle (in_attempt pipe.target 1) old (Err fault) new
+failed toggle pipe old new why trans.Stalled e n one x = subst (λ k. PollEnded toggle (in_attempt pipe.target k) old (Err trans.Stalled) new) one x
+failed toggle pipe old new why trans.Busy e n one x = subst (λ k. PollEnded toggle (in_attempt pipe.target k) old (Err trans.Busy) new) one x
+failed toggle pipe old new why trans.NoAnswer e n one x = subst (λ k. PollEnded toggle (in_attempt pipe.target k) old (Err trans.NoAnswer) new) one x
+failed toggle pipe old new why (trans.Bus fault) e n one x = absurd (subst (λ y. IsNotOfBus {A = Option (ArrayVec ℕ)} (Err y)) e n)
+
+pub poll_tells : (pipe : Interrupt) (result : Result (Option (ArrayVec ℕ)) PipeFault) (left : Interrupt) (old new : World) → pipe.ep ≡ 1 → 1 ≤ pipe.target.max → IsSettled old.roots
+    → Polls pipe old result left new → IsNotOfBus result → new.shared ≡ false → EachWas (PollLeaves pipe old result left) old new
+poll_tells pipe (Ok None) left old new one least settled x sound single =
+    each_wider (ChangesIn pipe.target pipe.toggle old (Ok None)) (PollLeaves pipe old (Ok None) left) (nothing_told pipe left old (ap (λ l. l.toggle) x.pipe_left)) old new
+    (poll_waits pipe.target pipe.toggle old new least settled (subst (λ k. Waiting pipe.toggle (in_attempt pipe.target k) old new) one x.asked) single)
+poll_tells pipe (Ok (Some byte)) left old new one least settled x sound single =
+    each_wider (ChangesIn pipe.target pipe.toggle old (Ok (Some byte.items))) (PollLeaves pipe old (Ok (Some byte)) left)
+    (byte_told pipe left old byte (ap (λ l. l.toggle) x.pipe_left ∙ sym (flip_other pipe.toggle))) old new
+    (poll_comes pipe.target pipe.toggle byte.items old new least settled (subst (λ k. PollEnded pipe.toggle (in_attempt pipe.target k) old (Ok byte.items) new) one x.asked) single)
+poll_tells pipe (Err why) left old new one least settled x sound single =
+    let n : NoPoll pipe old why new = x.asked in
+    each_wider (ChangesIn pipe.target pipe.toggle old (Err n.fault)) (PollLeaves pipe old (Err why) left) (none_told pipe left old why n.fault) old new
+    (poll_fails pipe.target pipe.toggle n.fault old new least settled (failed pipe.toggle pipe old new why n.fault n.told sound one n.polled) single)
