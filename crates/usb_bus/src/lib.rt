@@ -32,8 +32,8 @@ pub use not_served::{NotServed, served};
 pub use one_holder::{
     in_with_one_holder, nobody_is_asked, one_device_answers, others_stay_or_are_reset,
     out_with_one_holder, ports_of_the_holder, ports_of_the_holder_in_worlds, setup_with_one_holder,
-    silent_holder_answers_nothing, undamaged_attempts, undamaged_attempts_in_worlds,
-    what_is_heard_of_the_holder,
+    silent_holder_answers_nothing, the_holder_stays_reachable, undamaged_attempts,
+    undamaged_attempts_in_worlds, what_is_heard_of_the_holder,
 };
 pub use plan::Plan;
 pub use request_laws::{

@@ -8,7 +8,7 @@ ghost use Rattle.usb_request.specs.Layout.{setup_of};
 ghost use Rattle.usb_device.specs.declared.answer.Answer.TheVariants.{Ack};
 ghost use Rattle.usb_device.specs.Rows.{State, accepted, data_row, forgotten};
 ghost use Rattle.usb_device.specs.Attempt.{whole, setup_law, out_law, in_law};
-ghost use Rattle.usb_device.specs.Tree.{Ports, full, acted, row_of, state_at, place_at};
+ghost use Rattle.usb_device.specs.Tree.{Ports, full, acted, row_of, reach_at, state_at, place_at};
 ghost use Rattle.usb_device.specs.Delivery.{listed};
 ghost use Rattle.usb_bus.specs.declared.types.Attempt.{Attempt};
 ghost use Rattle.usb_bus.specs.declared.types.Outcome.TheVariants.{Nothing};
@@ -152,4 +152,12 @@ pub fn ports_of_the_holder_in_worlds()
         → s.spec.silent ≡ false → IsIn a → place_at (after (attempt a) w).roots j p ≡ Some (full b (in_alone a (damage_in (ready w)) (ready w).roots (deep_at false p) s (row_of below)).1 below) }
     ensures silent { (a : Attempt) (w : World) (j : ℕ) (p : List ℕ) (b : PortState) (s : State) (below : Ports) → HolderIn a w j p b s below
         → s.spec.silent ≡ true → place_at (after (attempt a) w).roots j p ≡ Some (full b s below) }
+{}
+
+/// After an attempt the device that holds its address is still reachable.
+pub fn the_holder_stays_reachable()
+    ensures ports { (a : Attempt) (d : Option Damage) (k : Ports) (j : ℕ) (p : List ℕ) (b : PortState) (s : State) (below : Ports) → Holder a.addr k j p b s below
+        → reach_at (ports_in a d k) j p ≡ true }
+    ensures world { (a : Attempt) (w : World) (j : ℕ) (p : List ℕ) (b : PortState) (s : State) (below : Ports) → HolderIn a w j p b s below
+        → reach_at (after (attempt a) w).roots j p ≡ true }
 {}

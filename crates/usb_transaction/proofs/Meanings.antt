@@ -7,7 +7,7 @@ use Rattle.usb_device.specs.declared.answer.Answer.{Answer}
 use Rattle.usb_device.specs.declared.answer.Answer.TheVariants as answer
 use Rattle.usb_device.specs.Attempt.{Way, is_whole, heard}
 use Rattle.usb_device.specs.Rows.{State, Reply, accepted}
-use Rattle.usb_device.specs.Tree.{row_of, state_at}
+use Rattle.usb_device.specs.Tree.{row_of, reach_at, state_at}
 use Rattle.usb_bus.specs.declared.types.Attempt.{Attempt}
 use Rattle.usb_bus.specs.declared.types.Outcome.{Outcome}
 use Rattle.usb_bus.specs.declared.types.Outcome.TheVariants as outcome
@@ -17,6 +17,7 @@ use Rattle.usb_bus.specs.World.{World}
 use Rattle.usb_bus.specs.Steps.{ready, damage_in, outcome_in, attempt, after, Course, here}
 use Rattle.usb_bus.proofs.Booleans.{decided}
 use Rattle.usb_bus.proofs.OneHolderMore.{made_of, setup_in, in_in, out_in, setup_sound_in}
+use Rattle.usb_bus.proofs.OneHolderReach.{stays_reachable_in}
 use Rattle.usb_bus.proofs.OneHolderWho.{one_answers}
 use Rattle.usb_transaction.specs.declared.target.Target.{Target}
 use Rattle.usb_transaction.specs.declared.fault.TransFault.TheVariants.{Stalled, NoAnswer}
@@ -59,6 +60,10 @@ asked_at l y = record {
   holder = y.held.holder;
   loud = y.loud;
 }
+
+-- the device that was asked is still reachable
+still_on : {a : Attempt} {old new : World} (q : Asked a old new) → reach_at new.roots q.j q.p ≡ true
+still_on {a} q = ap (λ w. reach_at w.roots q.j q.p) q.last ∙ stays_reachable_in a q.mid q.j q.p q.b q.s q.below q.holder
 
 -- what the host got tells what was answered
 pub got_ack : (max : ℕ) (o : Option Answer) → got max o ≡ outcome.Ack → o ≡ Some answer.Ack
@@ -123,6 +128,7 @@ set_up_done t bytes got_bytes old new eight settled e h =
     let whole : Bool = is_whole (token_way a d (deep_at false q.p) q.s) && is_whole (payload_way a d (deep_at false q.p) q.s) in
     record {
       asked = asked_at l y;
+      on = still_on (asked_at l y);
       state = ap (λ w. state_at w.roots q.j q.p) l.is_last ∙ x.state
           ∙ ap (λ v. Some v) (taken_up whole (answer_way a d k) q.s (accepted q.s (row_of q.below) (setup_of bytes)) a.max (sym x.outcome ∙ l.came ∙ last));
     }
@@ -139,6 +145,7 @@ read_done t ep toggle bytes old new settled e h =
     record {
       asked = asked_at l y;
       gave = got_payload a.max _ toggle (packet_of bytes) (sym x.outcome ∙ l.came ∙ last);
+      on = still_on (asked_at l y);
       state = ap (λ w. state_at w.roots q.j q.p) l.is_last ∙ x.state;
     }
 
@@ -154,6 +161,7 @@ read_stalled t ep toggle old new settled e h =
     record {
       asked = asked_at l y;
       gave = got_stall a.max _ (sym x.outcome ∙ l.came ∙ last);
+      on = still_on (asked_at l y);
       state = ap (λ w. state_at w.roots q.j q.p) l.is_last ∙ x.state;
     }
 
@@ -169,6 +177,7 @@ write_done t ep toggle bytes got_bytes old new settled e h =
     record {
       asked = asked_at l y;
       gave = got_ack a.max _ (sym x.outcome ∙ l.came ∙ last);
+      on = still_on (asked_at l y);
       state = ap (λ w. state_at w.roots q.j q.p) l.is_last ∙ x.state;
     }
 
@@ -184,6 +193,7 @@ write_stalled t ep toggle bytes old new settled e h =
     record {
       asked = asked_at l y;
       gave = got_stall a.max _ (sym x.outcome ∙ l.came ∙ last);
+      on = still_on (asked_at l y);
       state = ap (λ w. state_at w.roots q.j q.p) l.is_last ∙ x.state;
     }
 

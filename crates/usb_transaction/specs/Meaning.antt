@@ -5,7 +5,7 @@ use Rattle.usb_port.specs.PortState.{PortState}
 use Rattle.usb_request.specs.Layout.{setup_of}
 use Rattle.usb_device.specs.declared.answer.Answer.{Answer}
 use Rattle.usb_device.specs.Rows.{State, accepted}
-use Rattle.usb_device.specs.Tree.{Ports, row_of, state_at}
+use Rattle.usb_device.specs.Tree.{Ports, row_of, reach_at, state_at}
 use Rattle.usb_bus.specs.declared.types.Attempt.{Attempt}
 use Rattle.usb_bus.specs.declared.types.Outcome.{Outcome}
 use Rattle.usb_bus.specs.Passes.{deep_at}
@@ -30,21 +30,24 @@ pub record Asked (a : Attempt) (old new : World) : Type 0 where
   pub holder : HolderIn a mid j p b s below
   pub loud : s.spec.silent ≡ false
 
--- the device accepted the setup data
+-- the device accepted the setup data, and is still reachable
 pub record Accepted (t : Target) (bytes : List ℕ) (old new : World) : Type 0 where
   pub asked : Asked (setup_attempt t bytes) old new
+  pub on : reach_at new.roots asked.j asked.p ≡ true
   pub state : state_at new.roots asked.j asked.p ≡ Some (accepted asked.s (row_of asked.below) (setup_of bytes))
 
--- the device gave this answer to IN, and is what its row says
+-- the device gave this answer to IN, and is what its row says, still reachable
 pub record Answered (t : Target) (ep : ℕ) (got : Answer) (old new : World) : Type 0 where
   pub asked : Asked (in_attempt t ep) old new
   pub gave : (in_alone (in_attempt t ep) (damage_in (ready asked.mid)) (ready asked.mid).roots (deep_at false asked.p) asked.s (row_of asked.below)).0 ≡ Some got
+  pub on : reach_at new.roots asked.j asked.p ≡ true
   pub state : state_at new.roots asked.j asked.p ≡ Some (in_alone (in_attempt t ep) (damage_in (ready asked.mid)) (ready asked.mid).roots (deep_at false asked.p) asked.s (row_of asked.below)).1
 
--- the device gave this answer to OUT with these data, and is what its row says
+-- the device gave this answer to OUT with these data, and is what its row says, still reachable
 pub record Took (t : Target) (ep : ℕ) (toggle : Toggle) (bytes : List ℕ) (got : Answer) (old new : World) : Type 0 where
   pub asked : Asked (out_attempt t ep toggle bytes) old new
   pub gave : (out_alone (out_attempt t ep toggle bytes) (damage_in (ready asked.mid)) (ready asked.mid).roots (deep_at false asked.p) asked.s toggle bytes).0 ≡ Some got
+  pub on : reach_at new.roots asked.j asked.p ≡ true
   pub state : state_at new.roots asked.j asked.p ≡ Some (out_alone (out_attempt t ep toggle bytes) (damage_in (ready asked.mid)) (ready asked.mid).roots (deep_at false asked.p) asked.s toggle bytes).1
 
 -- why an attempt of setup data is not answered by ACK: whoever holds its address is silent or does not hear it, or the attempt is damaged

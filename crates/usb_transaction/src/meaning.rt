@@ -1,7 +1,7 @@
 //! Laws of what an answer says of the one device that holds the target's address, for those above.
 //!
-//! They hold where no address was ever held twice, which the last world tells. Each call does nothing; what it ensures
-//! is for proofs to cite.
+//! They hold where no address was ever held twice, which the last world tells. The device that answered is still reachable
+//! there. Each call does nothing; what it ensures is for proofs to cite.
 ghost use Rattle.std.specs.Prelude.{◌≡◌, ◌∷◌, ℕ, List, Ok, Err, false, length};
 ghost use Rattle.usb_packet.specs.declared.Toggle.{Toggle};
 ghost use Rattle.usb_device.specs.declared.answer.Answer.TheVariants as answer;

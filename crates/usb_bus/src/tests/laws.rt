@@ -6,8 +6,8 @@ use crate::{
     ports_of_the_holder_in_worlds, quiet_courses_keep_addresses, reachable_is_the_same,
     reset_makes_new, reset_makes_reachable, root_reset_gives_address_zero, sane_laws,
     set_address_takes_effect_at_its_ack, setup_with_one_holder, silent_holder_answers_nothing,
-    steps_keep_what_is_between, undamaged_attempts, undamaged_attempts_in_worlds,
-    what_is_heard_of_the_holder,
+    steps_keep_what_is_between, the_holder_stays_reachable, undamaged_attempts,
+    undamaged_attempts_in_worlds, what_is_heard_of_the_holder,
 };
 
 /// The laws are there to be cited; calling them does nothing.
@@ -39,6 +39,7 @@ fn laws_are_called() {
     what_is_heard_of_the_holder();
     ports_of_the_holder();
     ports_of_the_holder_in_worlds();
+    the_holder_stays_reachable();
     data_attempts_keep_addresses();
     control_courses_keep_addresses();
     root_reset_gives_address_zero();
