@@ -6,3 +6,7 @@ pub mod Hubs
 pub mod DataStages
 pub mod Gone
 pub mod Come
+pub mod WholeSteady
+pub mod WholeSteps
+pub mod WholeReads
+pub mod WholeWrites

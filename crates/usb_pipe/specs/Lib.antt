@@ -5,3 +5,4 @@ pub mod Interrupt
 pub mod Bulk
 pub mod Stages
 pub mod Moves
+pub mod Whole

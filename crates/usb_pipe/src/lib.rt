@@ -12,6 +12,7 @@ mod fault;
 mod interrupt;
 mod packets;
 mod stage;
+mod whole_laws;
 
 pub use bulk::BulkPipe;
 pub use control::{control_in, control_none};
@@ -19,6 +20,10 @@ pub use fault::PipeFault;
 pub use interrupt::InterruptPipe;
 pub use usb_request::Setup;
 pub use usb_transaction::{Bus, BusFault, Target};
+pub use whole_laws::{
+    what_a_poll_tells, what_a_read_leaves, what_a_receive_leaves, what_a_send_leaves,
+    what_a_write_leaves,
+};
 
 #[cfg(test)]
 mod tests;

@@ -1,0 +1,107 @@
+-- The transactions of a control transfer, and what each leaves of each device.
+use Rattle.std.proofs.Common.{◌≡◌, ◌⊎◌, inl, inr, ℕ, zero, suc, ◌+◌, ◌<◌, ◌≤◌, ◌%◌, ◌==◌, if◌then◌else◌, ◌&&◌, not, Bool, true, false, List, [], length, Option, None, Some, refl, ap, sym, subst, ◌∙◌, arith}
+use Rattle.std.specs.Prelude.{Result, Ok, Err}
+use Rattle.std.proofs.lemmas.Bool.Decides.{nat_tests}
+use Rattle.usb_packet.specs.declared.Toggle.{Toggle}
+use Rattle.usb_packet.specs.declared.Toggle.TheVariants.{Zero, One}
+use Rattle.usb_request.specs.declared.setup.Setup.{Setup}
+use Rattle.usb_request.specs.Layout.{bytes_of, setup_of}
+use Rattle.usb_port.specs.PortState.{PortState}
+use Rattle.usb_device.specs.Transfer.{toggle_at}
+use Rattle.usb_device.specs.Rows.{State, accepted}
+use Rattle.usb_device.specs.Progress.{OnlyControl, OnlyStage}
+use Rattle.usb_bus.specs.declared.types.Attempt.{Attempt}
+use Rattle.usb_bus.specs.Courses.{is_harmless}
+use Rattle.usb_bus.specs.Passes.{IsSettled}
+use Rattle.usb_bus.specs.World.{World}
+use Rattle.usb_bus.specs.Devices.{Relation, EachWas}
+use Rattle.usb_transaction.specs.declared.target.Target.{Target}
+use Rattle.usb_transaction.specs.declared.fault.TransFault.{TransFault}
+use Rattle.usb_transaction.specs.declared.fault.TransFault.TheVariants as trans
+use Rattle.usb_transaction.specs.Heard.{heard_as, sent_as, set_up_as, flip}
+use Rattle.usb_transaction.specs.Over.{is_at, ControlIn, ReadStatus, AcceptedSince, SetupDone}
+use Rattle.usb_transaction.specs.Trail.{Ended, Transacted}
+use Rattle.usb_transaction.specs.Trans.{setup_attempt, in_attempt, out_attempt}
+use Rattle.usb_transaction.proofs.Trails.{trail_settled, trail_unshared}
+use Rattle.usb_transaction.proofs.ControlOver.{control_in_leaves}
+use Rattle.usb_transaction.proofs.OverSetup.{set_up_leaves}
+use Rattle.usb_pipe.specs.declared.fault.PipeFault.{PipeFault}
+use Rattle.usb_pipe.specs.Control.{fault_of}
+use Rattle.usb_pipe.specs.Toggles.{flips}
+use Rattle.usb_pipe.specs.Whole.{IsNotOfBus}
+use Rattle.usb_pipe.proofs.WholeSteady.{Steady, each_both, each_steady}
+
+-- The worlds between
+
+-- a transaction whose fault is none of the bus
+pub ended : (A : Type 0) {hear : _} {a : Attempt} {old new : World} (why : PipeFault) (fault : TransFault) → why ≡ fault_of fault → IsNotOfBus {A = A} (Err why) → Transacted hear a old (Err fault) new → Ended hear a old (Err fault) new
+ended A why trans.Stalled e n t = t
+ended A why trans.Busy e n t = t
+ended A why trans.NoAnswer e n t = t
+ended A why (trans.Bus fault) e n t = absurd (subst (λ x. IsNotOfBus {A = A} (Err x)) e n)
+
+pub ended_settled : {hear : _} {a : Attempt} {old new : World} {result : Result (List ℕ) TransFault} → Ended hear a old result new → IsSettled old.roots → IsSettled new.roots
+ended_settled x h = trail_settled x.trail h
+
+pub ended_unshared : {hear : _} {a : Attempt} {old new : World} {result : Result (List ℕ) TransFault} → Ended hear a old result new → new.shared ≡ false → old.shared ≡ false
+ended_unshared x h = trail_unshared x.trail h
+
+-- Each transaction
+
+eight_bytes : (request : Setup) → length (bytes_of request) ≡ 8
+unfolding bytes_of
+eight_bytes request = refl
+
+pub request_leaves : (t : Target) (request : Setup) (result : Result (List ℕ) TransFault) (old new : World) → setup_of (bytes_of request) ≡ request → is_harmless request ≡ true → IsSettled old.roots
+    → Ended set_up_as (setup_attempt t (bytes_of request)) old result new → new.shared ≡ false → EachWas (SetupDone t (bytes_of request) result) old new
+request_leaves t request result old new e harmless settled x single =
+    set_up_leaves t (bytes_of request) result old new (eight_bytes request) (ap (λ r. is_harmless r) e ∙ harmless) settled x single
+
+-- an IN of endpoint 0
+abbrev pub InLeaves : Target → Toggle → Result (List ℕ) TransFault → Relation
+InLeaves t awaited result j p s v = ControlIn t awaited result j p s v × Steady j p s v
+
+pub asked_leaves : (t : Target) (awaited : Toggle) (result : Result (List ℕ) TransFault) (old new : World) → IsSettled old.roots
+    → Ended (heard_as awaited) (in_attempt t 0) old result new → new.shared ≡ false → EachWas (InLeaves t awaited result) old new
+asked_leaves t awaited result old new settled x single =
+    each_both (ControlIn t awaited result) Steady old new (control_in_leaves t awaited result old new settled x single) (each_steady t awaited result old new settled x single)
+
+-- One device
+
+-- the request was accepted, the last time with these ports
+pub record Accepted (request : Setup) (s v : State) : Type 0 where
+  pub row : List PortState
+  pub is : v ≡ accepted s row request
+
+pub accepted_since : (request : Setup) (s v : State) → setup_of (bytes_of request) ≡ request → AcceptedSince (bytes_of request) s v → Accepted request s v
+accepted_since request s v e x = record { row = x.row; is = x.is ∙ ap (λ r. accepted s x.row r) e }
+
+pub only_twice : (s u v : State) → OnlyControl s u → OnlyControl u v → OnlyControl s v
+only_twice s u v f g = g ∙ ap {A = State} (λ x. record x { memory = v.memory; naks = v.naks; stage = v.stage; registers = v.registers }) f
+
+-- where the registers stay, only the stage changes
+pub only_stage : (s v : State) → OnlyControl s v → v.registers ≡ s.registers → OnlyStage s v
+only_stage s v f e = f ∙ ap {A = _} {B = State} (λ g. record s { memory = v.memory; naks = v.naks; stage = v.stage; registers = g }) e
+
+pub at_from : (t : Target) (s u : State) → u.registers ≡ s.registers → is_at s t ≡ true → is_at u t ≡ true
+at_from t s u e h = ap (λ x. x.address == t.addr) e ∙ h
+
+-- Toggles of a data stage
+
+flipped : (b c : Bool) → c ≡ not b → flip (if b then One else Zero) ≡ (if c then One else Zero)
+flipped true true h = cc h
+flipped true false h = refl
+flipped false true h = refl
+flipped false false h = cc h
+
+opposite : (k : ℕ) → (suc k % 2 == 0) ≡ not (k % 2 == 0)
+opposite k = grind (arith, nat_tests)
+
+pub flips_at : (n : ℕ) → flips n One ≡ toggle_at n
+unfolding flips
+flips_at zero = refl
+flips_at (suc n) = ap flip (flips_at n) ∙ flipped (n % 2 == 0) (suc n % 2 == 0) (opposite n)
+
+pub flips_none : (n : ℕ) → n ≡ 0 → flips n One ≡ One
+unfolding flips
+flips_none n e = ap (λ m. flips m One) e

@@ -1,0 +1,134 @@
+-- One device over a whole control transfer (8.5.3): what it was before, seen from where it is reachable after it.
+use Rattle.std.specs.Prelude.{◌≡◌, ◌⊎◌, ◌≤◌, ℕ, ◌+◌, List, [], ◌∷◌, ◌++◌, length, take, drop, true, false, Option, None, Some, Result, Ok, Err, ⊤}
+use Rattle.arrayvec.specs.ArrayVec.{ArrayVec}
+use Rattle.std.specs.Global.{Vec}
+use Rattle.usb_request.specs.declared.setup.Setup.{Setup}
+use Rattle.usb_port.specs.PortState.{PortState}
+use Rattle.usb_device.specs.Request.{outcome}
+use Rattle.usb_device.specs.Transfer.{first_stage, reading, ending, max_packet}
+use Rattle.usb_device.specs.Rows.{State, accepted}
+use Rattle.usb_device.specs.Bulk.{tells_changes}
+use Rattle.usb_device.specs.Progress.{IsRead, StatusGiven, IsSink, IsSource, SourceAt, PollAt, NeverTold, OnlyControl, OnlyStage, OnlySink, OnlySource, OnlyChanges}
+use Rattle.usb_bus.specs.World.{World}
+use Rattle.usb_transaction.specs.declared.target.Target.{Target}
+use Rattle.usb_transaction.specs.Over.{is_at, ToldIn}
+use Rattle.usb_transaction.specs.Trans.{in_attempt}
+use Rattle.usb_pipe.specs.declared.condition.Condition.TheVariants.{Ready, Halted}
+use Rattle.usb_pipe.specs.Bulk.{Bulk}
+use Rattle.usb_pipe.specs.Interrupt.{Interrupt}
+use Rattle.usb_pipe.specs.declared.fault.PipeFault.{PipeFault}
+use Rattle.usb_pipe.specs.declared.fault.PipeFault.TheVariants.{Stalled, Busy, NoAnswer, Broken, Bus, Memory}
+
+-- the call did not end because the bus gave up
+abbrev pub IsNotOfBus : {A : Type 0} → Result A PipeFault → Type 0
+IsNotOfBus (Ok x) = ⊤
+IsNotOfBus (Err Stalled) = ⊤
+IsNotOfBus (Err Busy) = ⊤
+IsNotOfBus (Err NoAnswer) = ⊤
+IsNotOfBus (Err Broken) = ⊤
+IsNotOfBus (Err (Bus fault)) = ⊥
+IsNotOfBus (Err Memory) = ⊤
+
+-- the target's maximum is the device's, or so little is wanted that one packet holds it
+abbrev pub IsMaximum : Target → ℕ → State → Type 0
+IsMaximum t wanted s = (max_packet s.spec ≡ t.max) ⊎ (wanted ≤ 8)
+
+-- the device answered a request for data, with its ports as they were when it accepted it; these bytes are of that answer, from its
+-- first on, and the transfer is over
+pub record AnswerRead (t : Target) (request : Setup) (bytes : List ℕ) (s v : State) : Type 0 where
+  pub row : List PortState
+  pub answer : List ℕ
+  pub is : first_stage row request.length (outcome s.spec s.registers request) ≡ reading answer request.length 0
+  pub came : IsMaximum t request.length s → bytes ≡ take request.length answer
+  pub over : IsRead v
+
+-- a control read
+pub record ReadLeaves (t : Target) (request : Setup) (result : Result (Vec ℕ) PipeFault) (j : ℕ) (p : List ℕ) (s v : State) : Type 0 where
+  pub others : is_at s t ≡ false → v ≡ s
+  pub frame : OnlyStage s v
+  pub done : is_at s t ≡ true → (bytes : Vec ℕ) → result ≡ Ok bytes → AnswerRead t request bytes.items s v
+
+-- the device did what was asked when it accepted it, the last time with these ports, and its status stage was given
+pub record EffectDone (request : Setup) (s v : State) : Type 0 where
+  pub row : List PortState
+  pub address : Option ℕ
+  pub is : first_stage row request.length (outcome s.spec s.registers request) ≡ ending address
+  pub given : StatusGiven address (accepted s row request) v
+  pub rest : OnlyControl (accepted s row request) v
+
+-- the device did what was asked, or did not hear of it
+pub data EffectOrNone (request : Setup) (s v : State) : Type 0 where
+  none : OnlyControl s v → v.registers ≡ s.registers → EffectOrNone request s v
+  some : (row : List PortState) → OnlyControl (accepted s row request) v → v.registers ≡ (accepted s row request).registers → EffectOrNone request s v
+
+-- a request without data, that resets no port
+pub record WriteLeaves (t : Target) (request : Setup) (result : Result (Unit {0}) PipeFault) (j : ℕ) (p : List ℕ) (s v : State) : Type 0 where
+  pub others : is_at s t ≡ false → v ≡ s
+  pub failed : (fault : PipeFault) → result ≡ Err fault → EffectOrNone request s v
+  pub done : is_at s t ≡ true → (u : Unit {0}) → result ≡ Ok u → EffectDone request s v
+
+-- Bulk pipes (5.8)
+
+-- a bulk OUT pipe and the endpoint at its other end: a pipe that works awaits the same toggle as the endpoint, and one that was stalled
+-- has an endpoint that is halted
+pub record FitsSink (pipe : Bulk) (s : State) : Type 0 where
+  pub endpoint : IsSink pipe.ep pipe.max s
+  pub level : pipe.condition ≡ Ready → s.bulk_out.toggle ≡ pipe.toggle
+  pub halted : pipe.condition ≡ Halted → s.bulk_out.halted ≡ true
+
+-- a front of the bytes joined what the device took, once
+pub record FrontTaken (bytes : List ℕ) (s v : State) : Type 0 where
+  pub front : List ℕ
+  pub rest : List ℕ
+  pub split : bytes ≡ front ++ rest
+  pub sink : v.sink ≡ s.sink ++ front
+
+pub record SendLeaves (bytes : List ℕ) (pipe : Bulk) (result : Result (Unit {0}) PipeFault) (left : Bulk) (j : ℕ) (p : List ℕ) (s v : State) : Type 0 where
+  pub others : is_at s pipe.target ≡ false → v ≡ s
+  pub frame : IsSink pipe.ep pipe.max s → OnlySink s v
+  pub fits : is_at s pipe.target ≡ true → FitsSink pipe s → FitsSink left v
+  pub done : is_at s pipe.target ≡ true → FitsSink pipe s → (u : Unit {0}) → result ≡ Ok u → v.sink ≡ s.sink ++ bytes
+  pub failed : is_at s pipe.target ≡ true → FitsSink pipe s → (fault : PipeFault) → result ≡ Err fault → FrontTaken bytes s v
+
+-- a bulk IN pipe that has got so many bytes of the source, and the endpoint at its other end
+pub record FitsSource (pipe : Bulk) (got : ℕ) (s : State) : Type 0 where
+  pub endpoint : IsSource pipe.ep pipe.max s
+  pub level : pipe.condition ≡ Ready → SourceAt pipe.max got pipe.toggle s
+  pub halted : pipe.condition ≡ Halted → s.bulk_in.halted ≡ true
+
+-- how many bytes came with an answer
+abbrev pub came_with : Result (Vec ℕ) PipeFault → ℕ
+came_with (Ok bytes) = length bytes.items
+came_with (Err fault) = 0
+
+pub record ReceiveLeaves (pipe : Bulk) (result : Result (Vec ℕ) PipeFault) (left : Bulk) (j : ℕ) (p : List ℕ) (s v : State) : Type 0 where
+  pub others : is_at s pipe.target ≡ false → v ≡ s
+  pub frame : IsSource pipe.ep pipe.max s → OnlySource s v
+  pub fits : is_at s pipe.target ≡ true → (got : ℕ) → FitsSource pipe got s → FitsSource left (got + came_with result) v
+  -- the bytes are the next ones of the source
+  pub done : is_at s pipe.target ≡ true → (got : ℕ) → FitsSource pipe got s → (bytes : Vec ℕ) → result ≡ Ok bytes → bytes.items ≡ take (length bytes.items) (drop got s.spec.source)
+
+-- A hub's status pipe (11.12.3)
+
+-- a hub's ports told these bits at a moment of a poll
+abbrev pub ToldOf : Interrupt → World → ℕ → List ℕ → ℕ → Type 0
+ToldOf pipe old j p bits = ToldIn (in_attempt pipe.target 1) old j p bits
+
+-- the byte of bits that were told
+pub record ByteTold (Told : ℕ → Type 0) (bytes : List ℕ) : Type 0 where
+  pub bits : ℕ
+  pub so : Told bits
+  pub is : bytes ≡ bits ∷ []
+
+abbrev pub PollTells : (ℕ → Type 0) → Result (Option (ArrayVec ℕ)) PipeFault → Type 0
+PollTells Told (Ok None) = Told 0
+PollTells Told (Ok (Some packet)) = ByteTold Told packet.items
+PollTells Told (Err fault) = ⊤
+
+pub record PollLeaves (pipe : Interrupt) (old : World) (result : Result (Option (ArrayVec ℕ)) PipeFault) (left : Interrupt) (j : ℕ) (p : List ℕ) (s v : State) : Type 0 where
+  pub others : is_at s pipe.target ≡ false → v ≡ s
+  pub frame : tells_changes s.spec s.registers ≡ true → OnlyChanges s v
+  -- the bits are the ports' own at a moment of the poll
+  pub tells : is_at s pipe.target ≡ true → tells_changes s.spec s.registers ≡ true → PollAt NeverTold pipe.toggle s → PollTells (ToldOf pipe old j p) result
+  -- both ends are as far, where it did not fail
+  pub level : is_at s pipe.target ≡ true → tells_changes s.spec s.registers ≡ true → PollAt NeverTold pipe.toggle s → (got : Option (ArrayVec ℕ)) → result ≡ Ok got → PollAt NeverTold left.toggle v
