@@ -11,3 +11,4 @@ pub mod WholeSteady
 pub mod WholeSteps
 pub mod WholeReads
 pub mod WholeWrites
+pub mod Controls
