@@ -6,6 +6,7 @@ pub mod Hubs
 pub mod DataStages
 pub mod Gone
 pub mod Come
+pub mod Settling
 pub mod WholeSteady
 pub mod WholeSteps
 pub mod WholeReads
@@ -14,3 +15,4 @@ pub mod WholeSends
 pub mod WholePolls
 pub mod WholeHalts
 pub mod WholeReceives
+pub mod Controls

@@ -5,6 +5,7 @@ use Rattle.std.specs.Int.{div_ceil}
 use Rattle.usb_packet.specs.declared.Toggle.{Toggle}
 use Rattle.usb_packet.specs.declared.Toggle.TheVariants.{Zero}
 use Rattle.usb_bus.specs.World.{World}
+use Rattle.usb_bus.specs.Passes.{IsSettled}
 use Rattle.usb_transaction.specs.declared.target.Target.{Target}
 use Rattle.usb_transaction.specs.Trans.{Worked}
 use Rattle.usb_pipe.specs.declared.condition.Condition.{Condition}
@@ -78,6 +79,7 @@ pub record Idle {A : Type 0} (given : Result A PipeFault) (pipe : Bulk) (old : W
 pub record Sent (n : ℕ) (bytes : List ℕ) (pipe : Bulk) (old : World) (result : Result (Unit {0}) PipeFault) (left : Bulk) (new : World) : Type 0 where
   pub ends : MatchResult result (λ _. Worked n old new) (λ why. Faults 0 old why new)
   pub went : SendEnds (packet_target pipe.target pipe.max) pipe.ep pipe.toggle bytes old result new
+  pub settled : IsSettled old.roots
   pub room : result ≢ Err Memory
   pub pipe_left : left ≡ record pipe { toggle = left.toggle; condition = after_transfer pipe.condition result }
   pub toggle : OnOk result (left.toggle ≡ flips n pipe.toggle)
@@ -93,6 +95,7 @@ pub record Sends (bytes : List ℕ) (pipe : Bulk) (old : World) (result : Result
 pub record Received (wanted : ℕ) (pipe : Bulk) (old : World) (result : Result (Vec ℕ) PipeFault) (left : Bulk) (new : World) : Type 0 where
   pub ends : MatchResult result (λ bytes. Worked (packets_of (length bytes.items) pipe.max wanted) old new) (λ why. Faults 0 old why new)
   pub came : ReceiveEnds (packet_target pipe.target pipe.max) pipe.ep pipe.toggle wanted old result new
+  pub settled : IsSettled old.roots
   pub most : IfOk result (λ bytes. length bytes.items ≤ wanted * pipe.max)
   pub pipe_left : left ≡ record pipe { toggle = left.toggle; condition = after_transfer pipe.condition result }
   pub toggle : IfOk result (λ bytes. left.toggle ≡ flips (packets_of (length bytes.items) pipe.max wanted) pipe.toggle)
@@ -113,6 +116,7 @@ cleared pipe (Err why) = record pipe { condition = after_failed_clear pipe.condi
 pub record Cleared (pipe : Bulk) (old : World) (result : Result (Unit {0}) PipeFault) (left : Bulk) (new : World) : Type 0 where
   pub ends : MatchResult result (λ _. Worked 2 old new) (λ why. Faults 1 old why new)
   pub stages : Writes pipe.target (clear_endpoint_halt (halt_address pipe.ep pipe.is_in)) old result new
+  pub settled : IsSettled old.roots
   pub room : result ≢ Err Memory
   pub pipe_left : left ≡ cleared pipe result
 

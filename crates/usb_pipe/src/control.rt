@@ -1,10 +1,14 @@
 //! Control transfers (8.5.3).
-ghost use Rattle.std.specs.Prelude.{◌≡◌, ◌≤◌, Err, ◌≢◌, length, IfOk, MatchResult};
+ghost use Rattle.std.specs.Prelude.{◌≡◌, ◌≤◌, Err, ◌≢◌, length, false, true, IfOk, MatchResult};
 ghost use Rattle.usb_bus.specs.World.{Spends};
+ghost use Rattle.usb_bus.specs.Passes.{IsSettled};
+ghost use Rattle.usb_bus.specs.Courses.{is_harmless};
+ghost use Rattle.usb_bus.specs.Devices.{EachWas};
 ghost use Rattle.usb_request.specs.Layout.{IsToHost, IsToDevice};
 ghost use Rattle.usb_transaction.specs.Trans.{IsTarget, Worked};
 ghost use Rattle.usb_pipe.specs.Control.{Faults, control_bound};
 ghost use Rattle.usb_pipe.specs.Stages.{Reads, Writes};
+ghost use Rattle.usb_pipe.specs.Whole.{IsNotOfBus, ReadLeaves, WriteLeaves};
 
 use crate::PipeFault;
 use crate::stage::data_stage;
@@ -17,7 +21,9 @@ use usb_transaction::{Bus, Target, data_in, data_out, setup as send_setup};
 ///
 /// The request is one whose data go to the host, with a length from 1. The answer holds the bytes
 /// that came, at most that length: the data stage ends there or at a packet shorter than the
-/// target's maximum, and what came past the length is dropped.
+/// target's maximum, and what came past the length is dropped. Where no address was ever held twice,
+/// they are the first bytes of what the device that holds the target's address answers the request
+/// with.
 ///
 /// # Errors
 ///
@@ -36,6 +42,8 @@ pub fn control_in<B: Bus>(
     ensures count { Spends (control_bound target.max setup.length) (B.world bus.old) (B.world bus.new) }
     ensures ends { MatchResult result (λ _. Worked 3 (B.world bus.old) (B.world bus.new)) (λ fault. Faults 1 (B.world bus.old) fault (B.world bus.new)) }
     ensures stages { Reads target setup (B.world bus.old) result (B.world bus.new) }
+    ensures settled { IsSettled (B.world bus.old).roots }
+    ensures what { IsNotOfBus result → (B.world bus.new).shared ≡ false → EachWas (ReadLeaves target setup result) (B.world bus.old) (B.world bus.new) }
     ensures most { IfOk result (λ bytes. length bytes.items ≤ setup.length) }
 {
     let request = setup.to_bytes();
@@ -48,7 +56,8 @@ pub fn control_in<B: Bus>(
 
 /// Asks endpoint 0 for something that has no data: a SETUP, and an IN that is answered by DATA1.
 ///
-/// The request is one whose data would go to the device, and its length is 0.
+/// The request is one whose data would go to the device, and its length is 0. Where no address was
+/// ever held twice, `Ok` means that the device that holds the target's address did what was asked.
 ///
 /// # Errors
 ///
@@ -62,6 +71,8 @@ pub fn control_none<B: Bus>(bus: &mut B, target: Target, setup: Setup) -> Result
     ensures count { Spends 1600 (B.world bus.old) (B.world bus.new) }
     ensures ends { MatchResult result (λ _. Worked 2 (B.world bus.old) (B.world bus.new)) (λ fault. Faults 1 (B.world bus.old) fault (B.world bus.new)) }
     ensures stages { Writes target setup (B.world bus.old) result (B.world bus.new) }
+    ensures settled { IsSettled (B.world bus.old).roots }
+    ensures what { is_harmless setup ≡ true → IsNotOfBus result → (B.world bus.new).shared ≡ false → EachWas (WriteLeaves target setup result) (B.world bus.old) (B.world bus.new) }
     ensures room { result ≢ Err PipeFault.Memory }
 {
     send_setup(bus, target, setup.to_bytes())?;

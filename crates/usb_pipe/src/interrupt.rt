@@ -32,6 +32,7 @@ impl InterruptPipe {
     ghost use Rattle.std.specs.Prelude.{◌≡◌, ◌<◌, ◌≤◌};
     ghost use Rattle.usb_packet.specs.declared.Toggle.TheVariants.{Zero};
     ghost use Rattle.usb_bus.specs.World.{Spends};
+    ghost use Rattle.usb_bus.specs.Passes.{IsSettled};
     ghost use Rattle.usb_transaction.specs.Trans.{IsTarget};
     ghost use Rattle.usb_pipe.specs.Interrupt.{Interrupt, Polls};
     ghost use Rattle.usb_pipe.specs.End.{packet_target};
@@ -62,6 +63,7 @@ impl InterruptPipe {
     pub fn poll<B: Bus>(&mut self, bus: &mut B) -> Result<Option<ArrayVec<u8, 64>>, PipeFault>
         ensures count { Spends 768 (B.world bus.old) (B.world bus.new) }
         ensures polls { Polls self.old (B.world bus.old) result self.new (B.world bus.new) }
+        ensures settled { IsSettled (B.world bus.old).roots }
     {
         let mut toggle = self.toggle;
         let polled = poll_in(bus, self.target, self.ep, &mut toggle);

@@ -2,6 +2,7 @@
 ghost use Rattle.std.specs.Prelude.{◌≡◌, ◌≢◌, ◌*◌, ◌<◌, ◌≤◌, length, Err, OnOk, IfOk, MatchResult};
 ghost use Rattle.std.specs.Int.{div_ceil};
 ghost use Rattle.usb_bus.specs.World.{Spends};
+ghost use Rattle.usb_bus.specs.Passes.{IsSettled};
 ghost use Rattle.usb_transaction.specs.Trans.{IsTarget, Worked};
 ghost use Rattle.usb_pipe.specs.Control.{Faults};
 ghost use Rattle.usb_pipe.specs.Bulk.{packets_of, Turned};
@@ -27,6 +28,7 @@ pub(crate) fn send_packets<B: Bus>(
     ensures count { Spends (768 * div_ceil (length bytes.now) target.max) (B.world bus.old) (B.world bus.new) }
     ensures ends { MatchResult result (λ _. Worked (div_ceil (length bytes.now) target.max) (B.world bus.old) (B.world bus.new)) (λ fault. Faults 0 (B.world bus.old) fault (B.world bus.new)) }
     ensures moves { SendEnds target ep toggle.old bytes.now (B.world bus.old) result (B.world bus.new) }
+    ensures settled { IsSettled (B.world bus.old).roots }
     ensures room { result ≢ Err PipeFault.Memory }
     ensures toggle { OnOk result (toggle.new ≡ flips (div_ceil (length bytes.now) target.max) toggle.old) }
     ensures halted { result ≡ Err PipeFault.Stalled → Turned (div_ceil (length bytes.now) target.max) toggle.old toggle.new }
@@ -55,6 +57,7 @@ pub(crate) fn receive_packets<B: Bus>(
     ensures count { Spends (768 * wanted) (B.world bus.old) (B.world bus.new) }
     ensures ends { MatchResult result (λ bytes. Worked (packets_of (length bytes.items) target.max wanted) (B.world bus.old) (B.world bus.new)) (λ fault. Faults 0 (B.world bus.old) fault (B.world bus.new)) }
     ensures moves { ReceiveEnds target ep toggle.old wanted (B.world bus.old) result (B.world bus.new) }
+    ensures settled { IsSettled (B.world bus.old).roots }
     ensures most { IfOk result (λ bytes. length bytes.items ≤ wanted * target.max) }
     ensures toggle { IfOk result (λ bytes. toggle.new ≡ flips (packets_of (length bytes.items) target.max wanted) toggle.old) }
     ensures halted { result ≡ Err PipeFault.Stalled → Turned wanted toggle.old toggle.new }

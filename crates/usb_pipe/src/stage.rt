@@ -1,6 +1,7 @@
 //! The data stage of a control transfer that reads.
 ghost use Rattle.std.specs.Prelude.{◌≡◌, ◌-◌, ◌+◌, ◌*◌, ◌<◌, ◌≤◌, ◌++◌, take, length, OnOk, IfOk, MatchResult};
 ghost use Rattle.usb_bus.specs.World.{Spends};
+ghost use Rattle.usb_bus.specs.Passes.{IsSettled};
 ghost use Rattle.usb_transaction.specs.Trans.{IsTarget, Worked};
 ghost use Rattle.usb_pipe.specs.Control.{Faults, byte_bound, is_last};
 ghost use Rattle.usb_pipe.specs.Stages.{DataEnds};
@@ -23,6 +24,7 @@ pub(crate) fn data_stage<B: Bus>(
     ensures count { Spends (768 + byte_bound target.max * wanted) (B.world bus.old) (B.world bus.new) }
     ensures ends { MatchResult result (λ _. Worked 1 (B.world bus.old) (B.world bus.new)) (λ fault. Faults 0 (B.world bus.old) fault (B.world bus.new)) }
     ensures packets { DataEnds target wanted (B.world bus.old) result (B.world bus.new) }
+    ensures settled { IsSettled (B.world bus.old).roots }
     ensures most { IfOk result (λ bytes. length bytes.items ≤ wanted) }
 {
     let mut bytes = Vec::new(alloc);

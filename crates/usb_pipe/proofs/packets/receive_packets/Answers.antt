@@ -1,6 +1,7 @@
-use Rattle.std.proofs.Common.{◌≡◌, ap, ◌*◌, ◌<◌, ◌+◌, length, length-append, arith}
+use Rattle.std.proofs.Common.{◌≡◌, refl, ap, ◌*◌, ◌<◌, ◌+◌, length, length-append, arith}
 use Rattle.usb_pipe.proofs.Moves.{moved_none, moved_more, moved_turned, packets_short}
 use Rattle.usb_pipe.proofs.Come.{came_none, came_more, short_came, all_came, not_came, no_room_left}
+use Rattle.usb_pipe.proofs.Settling.{since_now, since_more}
 use Rattle.usb_pipe.proofs.packets.receive_packets.Goals as goal
 
 pub packets-init : goal.packets-init
@@ -8,6 +9,7 @@ packets-init g c =
     let none = ap length c.new-bytes.ensures.items in record {
       size = omega (arith, none);
       moved = moved_none _ _;
+      settled = since_now 0 _ refl;
       came = came_none c.args.target c.args.ep _ _ _ c.new-bytes.ensures.items;
     }
 
@@ -20,6 +22,7 @@ packets-preserved g c =
     let full : length c.in_ok-packet.packet ≡ c.args.target.max = omega (arith, again, c.if-bytes-from.false, c.from.ensures, c.in_ok-packet.ensures.short) in record {
       size = omega (arith, grown, joined, given, again, c.packets.invariant.size, c.if-bytes-from.false, c.from.ensures, c.in_ok-packet.ensures.short);
       moved = moved_more _ _ _ _ _ (omega arith) c.packets.invariant.moved c.data_in.ensures.count c.in_ok-packet.ensures.ends c.in_ok-packet.ensures.toggle_ok;
+      settled = since_more c.packets._taken _ _ c.packets.invariant.settled c.data_in.ensures.settled;
       came = came_more c.args.target c.args.ep _ c.packets._taken _ c.in_ok-packet.packet (omega arith) c.packets.invariant.came c.packets.invariant.moved.turned c.in_ok-packet.ensures.heard full c.bytes.ensures.value c.in_ok-extend_from_slice.ensures.items;
     }
 

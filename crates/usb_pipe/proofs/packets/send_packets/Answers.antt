@@ -7,6 +7,7 @@ use Rattle.usb_pipe.proofs.Moves.{Moved, moved_none, moved_more, moved_worked, m
 use Rattle.usb_pipe.proofs.Gone.{going_none, going_more, all_gone, not_gone}
 use Rattle.usb_packet.specs.declared.Toggle.{Toggle}
 use Rattle.usb_bus.specs.World.{World}
+use Rattle.usb_pipe.proofs.Settling.{since_now, since_more}
 use Rattle.usb_pipe.proofs.packets.send_packets.Goals as goal
 
 pub packets-init : goal.packets-init
@@ -14,6 +15,7 @@ packets-init g c =
     let none : div_ceil (length c.args.bytes.now) c.args.target.max - div_ceil (length c.args.bytes.now) c.args.target.max ≡ 0 = omega arith in record {
       left = omega arith;
       moved = rw none (moved_none _ _);
+      settled = since_now _ _ (omega arith);
       going = going_none c.args.target c.args.ep _ c.args.bytes.now _;
     }
 
@@ -37,6 +39,7 @@ packets-preserved g c =
     let one = packets_one _ _ _ _ c.requires.target.max_least some size parts in record {
       left = omega (arith, one, c.packets.invariant.left);
       moved = moved_more _ _ _ _ _ (omega (arith, one, c.packets.invariant.left)) c.packets.invariant.moved c.data_out.ensures.count c.in_ok-data_out.ensures.ends c.in_ok-data_out.ensures.toggle_ok;
+      settled = since_more _ _ _ c.packets.invariant.settled c.data_out.ensures.settled;
       going = going_more c.args.target c.args.ep _ c.args.bytes.now c.min.result c.requires.target.max_least some fits c.split_at.ensures.front c.split_at.ensures.back c.packets.invariant.going c.in_ok-data_out.ensures.heard c.in_ok-data_out.ensures.nothing c.in_ok-data_out.ensures.toggle_ok;
     }
 

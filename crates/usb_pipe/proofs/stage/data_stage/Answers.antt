@@ -1,13 +1,15 @@
-use Rattle.std.proofs.Common.{◌≡◌, ◌≤◌, ◌<◌, ◌+◌, ◌-◌, ◌++◌, take, length, arith, sym, ap, ◌∙◌, true, false}
+use Rattle.std.proofs.Common.{◌≡◌, ◌≤◌, ◌<◌, ◌+◌, ◌-◌, ◌++◌, take, length, arith, refl, sym, ap, ◌∙◌, true, false}
 use Rattle.usb_pipe.specs.Control.{is_last}
 use Rattle.usb_pipe.proofs.DataStages.{onward_none, onward_more, data_ends, lost_ends, no_room_ends}
 use Rattle.usb_pipe.proofs.Stages.{staged_none, staged_more, kept_full, GoesOn, goes_on}
+use Rattle.usb_pipe.proofs.Settling.{since_now, since_more}
 use Rattle.usb_pipe.proofs.stage.data_stage.Goals as goal
 
 pub packets-init : goal.packets-init
 packets-init g c = record {
   few = rw c.new-bytes.ensures.items c.requires.some;
   staged = staged_none c.args.target.max _ _ (ap length c.new-bytes.ensures.items);
+  settled = since_now 0 _ refl;
   onward = onward_none c.args.target c.args.wanted _ _ c.new-bytes.ensures.items;
 }
 
@@ -24,6 +26,7 @@ packets-preserved g c =
     let more_comes : is_last (length c.in_ok-packet.packet) c.args.target.max (length c.keep.new.bytes.items) c.args.wanted ≡ false = rw (sym c.bytes-in-packets.ensures.value, sym len) (sym c.last.ensures ∙ c.if-last.false) in record {
       few = more;
       staged = staged_more _ _ _ _ _ _ c.requires.target.max_least grown c.packets.invariant.staged c.data_in.ensures.count c.in_ok-packet.ensures.ends;
+      settled = since_more 0 0 _ c.packets.invariant.settled c.data_in.ensures.settled;
       onward = onward_more c.args.target c.args.wanted c.in_ok-packet.packet c.packets.invariant.onward c.in_ok-packet.ensures.heard kept more_comes c.in_ok-packet.ensures.toggle_ok;
     }
 
