@@ -28,27 +28,27 @@ use Rattle.usb_pipe.proofs.WholeWrites.{write_leaves}
 abbrev pub SendsSetup : Target → List ℕ → World → Result (List ℕ) TransFault → World → Type 0
 SendsSetup t bytes old answer new = Transacted set_up_as (setup_attempt t bytes) old answer new
 
-sent_request : (t : Target) (request : Setup) (answer : Result (List ℕ) TransFault) {old new : World} (bytes : List ℕ) → bytes ≡ bytes_of request → SendsSetup t bytes old answer new → SetUp t request old answer new
-sent_request t request answer {old} {new} bytes is x = subst (λ b. SendsSetup t b old answer new) is x
+sent_request : (t : Target) (request : Setup) (answer : Result (List ℕ) TransFault) (old new : World) (bytes : List ℕ) → bytes ≡ bytes_of request → SendsSetup t bytes old answer new → SetUp t request old answer new
+sent_request t request answer old new bytes is x = subst (λ b. SendsSetup t b old answer new) is x
 
 taken_request : (t : Target) (request : Setup) {old new : World} (bytes given : List ℕ) → bytes ≡ bytes_of request → given ≡ [] → SendsSetup t bytes old (Ok given) new → SetUp t request old (Ok []) new
-taken_request t request {old} {new} bytes given is none x = sent_request t request (Ok []) bytes is (subst (λ b. SendsSetup t bytes old (Ok b) new) none x)
+taken_request t request {old} {new} bytes given is none x = sent_request t request (Ok []) old new bytes is (subst (λ b. SendsSetup t bytes old (Ok b) new) none x)
 
 -- With data to the host
 
-pub read_at_setup : (t : Target) (request : Setup) {old new : World} (fault : TransFault) (bytes : List ℕ) (result : Result (Vec ℕ) PipeFault) → bytes ≡ bytes_of request → IsErr result → IsErrAnd result (λ why. why ≡ fault_of fault)
+pub read_at_setup : (t : Target) (request : Setup) (old new : World) (fault : TransFault) (bytes : List ℕ) (result : Result (Vec ℕ) PipeFault) → bytes ≡ bytes_of request → IsErr result → IsErrAnd result (λ why. why ≡ fault_of fault)
     → SendsSetup t bytes old (Err fault) new → Reads t request old result new
-read_at_setup t request fault bytes (Err why) is err told x = inl (record { fault = fault; told = told; set_up = sent_request t request (Err fault) bytes is x })
-read_at_setup t request fault bytes (Ok got) is err told x = cc
+read_at_setup t request old new fault bytes (Err why) is err told x = inl (record { fault = fault; told = told; set_up = sent_request t request (Err fault) old new bytes is x })
+read_at_setup t request old new fault bytes (Ok got) is err told x = cc
 
 pub read_at_data : (t : Target) (request : Setup) {old mid new : World} (why : PipeFault) (bytes given : List ℕ) (result : Result (Vec ℕ) PipeFault) → bytes ≡ bytes_of request → given ≡ [] → IsErr result → IsErrAnd result (λ told. told ≡ why)
     → SendsSetup t bytes old (Ok given) mid → DataEnds t request.length mid (Err why) new → Reads t request old result new
 read_at_data t request {old} {mid} {new} why bytes given (Err same) is none err told x y = rw told (inr (inl (record { mid = mid; set_up = taken_request t request bytes given is none x; data_stage = y })))
 read_at_data t request why bytes given (Ok got) is none err told x y = cc
 
-pub read_at_status : (t : Target) (request : Setup) {old first second new : World} (fault : TransFault) (bytes given : List ℕ) (got : Vec ℕ) (result : Result (Vec ℕ) PipeFault) → bytes ≡ bytes_of request → given ≡ [] → IsErr result
+pub read_at_status : (t : Target) (request : Setup) {old first second : World} (new : World) (fault : TransFault) (bytes given : List ℕ) (got : Vec ℕ) (result : Result (Vec ℕ) PipeFault) → bytes ≡ bytes_of request → given ≡ [] → IsErr result
     → IsErrAnd result (λ why. why ≡ fault_of fault) → SendsSetup t bytes old (Ok given) first → DataEnds t request.length first (Ok got) second → Confirms t second (Err fault) new → Reads t request old result new
-read_at_status t request {old} {first} {second} {new} fault bytes given got (Err why) is none err told x y z = inr (inr (record {
+read_at_status t request {old} {first} {second} new fault bytes given got (Err why) is none err told x y z = inr (inr (record {
   first = first;
   set_up = taken_request t request bytes given is none x;
   second = second;
@@ -58,7 +58,7 @@ read_at_status t request {old} {first} {second} {new} fault bytes given got (Err
   told = told;
   status = z;
 }))
-read_at_status t request fault bytes given got (Ok other) is none err told x y z = cc
+read_at_status t request new fault bytes given got (Ok other) is none err told x y z = cc
 
 pub read_done : (t : Target) (request : Setup) {old first second new : World} (bytes given confirmed : List ℕ) (got : Vec ℕ) → bytes ≡ bytes_of request → given ≡ [] → confirmed ≡ [] → SendsSetup t bytes old (Ok given) first
     → DataEnds t request.length first (Ok got) second → Confirms t second (Ok confirmed) new → Reads t request old (Ok got) new
@@ -70,25 +70,25 @@ read_done t request {old} {first} {second} {new} bytes given confirmed got is no
   status = subst (λ b. Confirms t second (Ok b) new) nothing z;
 }
 
-pub what_read : (t : Target) (request : Setup) {old new : World} (bytes : List ℕ) (result : Result (Vec ℕ) PipeFault) → IsToHost request → 1 ≤ request.length → bytes ≡ bytes_of request → setup_of bytes ≡ request → IsSettled old.roots
+pub what_read : (t : Target) (request : Setup) {old : World} (new : World) (bytes : List ℕ) (result : Result (Vec ℕ) PipeFault) → IsToHost request → 1 ≤ request.length → bytes ≡ bytes_of request → setup_of bytes ≡ request → IsSettled old.roots
     → Reads t request old result new → IsNotOfBus result → new.shared ≡ false → EachWas (ReadLeaves t request result) old new
-what_read t request {old} {new} bytes result host some is same settled x = read_leaves t request result old new host some (subst (λ b. setup_of b ≡ request) is same) settled x
+what_read t request {old} new bytes result host some is same settled x = read_leaves t request result old new host some (subst (λ b. setup_of b ≡ request) is same) settled x
 
 -- Without data
 
-pub write_at_setup : (t : Target) (request : Setup) {old new : World} (fault : TransFault) (bytes : List ℕ) (result : Result (Unit {0}) PipeFault) → bytes ≡ bytes_of request → IsErr result → IsErrAnd result (λ why. why ≡ fault_of fault)
+pub write_at_setup : (t : Target) (request : Setup) (old new : World) (fault : TransFault) (bytes : List ℕ) (result : Result (Unit {0}) PipeFault) → bytes ≡ bytes_of request → IsErr result → IsErrAnd result (λ why. why ≡ fault_of fault)
     → SendsSetup t bytes old (Err fault) new → Writes t request old result new
-write_at_setup t request fault bytes (Err why) is err told x = inl (record { fault = fault; told = told; set_up = sent_request t request (Err fault) bytes is x })
-write_at_setup t request fault bytes (Ok done) is err told x = cc
+write_at_setup t request old new fault bytes (Err why) is err told x = inl (record { fault = fault; told = told; set_up = sent_request t request (Err fault) old new bytes is x })
+write_at_setup t request old new fault bytes (Ok done) is err told x = cc
 
-pub write_at_status : (t : Target) (request : Setup) {old mid new : World} (fault : TransFault) (bytes given : List ℕ) (result : Result (Unit {0}) PipeFault) → bytes ≡ bytes_of request → given ≡ [] → IsErr result
+pub write_at_status : (t : Target) (request : Setup) {old mid : World} (new : World) (fault : TransFault) (bytes given : List ℕ) (result : Result (Unit {0}) PipeFault) → bytes ≡ bytes_of request → given ≡ [] → IsErr result
     → IsErrAnd result (λ why. why ≡ fault_of fault) → SendsSetup t bytes old (Ok given) mid → Asks t One mid (Err fault) new → Writes t request old result new
-write_at_status t request {old} {mid} {new} fault bytes given (Err why) is none err told x y = inr (record { mid = mid; set_up = taken_request t request bytes given is none x; fault = fault; told = told; status = y })
-write_at_status t request fault bytes given (Ok done) is none err told x y = cc
+write_at_status t request {old} {mid} new fault bytes given (Err why) is none err told x y = inr (record { mid = mid; set_up = taken_request t request bytes given is none x; fault = fault; told = told; status = y })
+write_at_status t request new fault bytes given (Ok done) is none err told x y = cc
 
 pub write_done : (t : Target) (request : Setup) {old mid new : World} (bytes given last : List ℕ) → bytes ≡ bytes_of request → given ≡ [] → SendsSetup t bytes old (Ok given) mid → Asks t One mid (Ok last) new → Writes t request old (Ok tt) new
 write_done t request {old} {mid} {new} bytes given last is none x y = record { mid = mid; set_up = taken_request t request bytes given is none x; given = last; status = y }
 
-pub what_write : (t : Target) (request : Setup) {old new : World} (bytes : List ℕ) (result : Result (Unit {0}) PipeFault) → IsToDevice request → request.length ≡ 0 → bytes ≡ bytes_of request → setup_of bytes ≡ request → IsSettled old.roots
+pub what_write : (t : Target) (request : Setup) {old : World} (new : World) (bytes : List ℕ) (result : Result (Unit {0}) PipeFault) → IsToDevice request → request.length ≡ 0 → bytes ≡ bytes_of request → setup_of bytes ≡ request → IsSettled old.roots
     → Writes t request old result new → is_harmless request ≡ true → IsNotOfBus result → new.shared ≡ false → EachWas (WriteLeaves t request result) old new
-what_write t request {old} {new} bytes result device none is same settled x harmless = write_leaves t request result old new device none (subst (λ b. setup_of b ≡ request) is same) harmless settled x
+what_write t request {old} new bytes result device none is same settled x harmless = write_leaves t request result old new device none (subst (λ b. setup_of b ≡ request) is same) harmless settled x

@@ -21,9 +21,9 @@ use usb_transaction::{Bus, Target, data_in, data_out, setup as send_setup};
 ///
 /// The request is one whose data go to the host, with a length from 1. The answer holds the bytes
 /// that came, at most that length: the data stage ends there or at a packet shorter than the
-/// target's maximum, and what came past the length is dropped. Where no address was ever held twice,
-/// they are the first bytes of what the device that holds the target's address answers the request
-/// with.
+/// target's maximum, and what came past the length is dropped. Where no address was ever held
+/// twice, and the target's maximum is the device's, they are the first bytes of what the device at
+/// the target's address answers the request with.
 ///
 /// # Errors
 ///
@@ -57,7 +57,8 @@ pub fn control_in<B: Bus>(
 /// Asks endpoint 0 for something that has no data: a SETUP, and an IN that is answered by DATA1.
 ///
 /// The request is one whose data would go to the device, and its length is 0. Where no address was
-/// ever held twice, `Ok` means that the device that holds the target's address did what was asked.
+/// ever held twice, `Ok` to any request but the reset of a port means that the device at the
+/// target's address did what was asked.
 ///
 /// # Errors
 ///
