@@ -3,7 +3,7 @@
 //! They hold where no address was ever held twice, which the last world tells, and where the bus did not give up. Each speaks of
 //! every device that is reachable in the end: it was so before the transaction. Each call does nothing; what it ensures is for
 //! proofs to cite.
-ghost use Rattle.std.specs.Prelude.{◌≡◌, ℕ, List, [], Some, None, Result, Ok, Err, false, true, length};
+ghost use Rattle.std.specs.Prelude.{◌≡◌, ◌≤◌, ℕ, List, [], Some, None, Result, Ok, Err, false, true, length};
 ghost use Rattle.usb_packet.specs.declared.Toggle.{Toggle};
 ghost use Rattle.usb_packet.specs.declared.Toggle.TheVariants.{One};
 ghost use Rattle.usb_request.specs.Layout.{setup_of};
@@ -46,11 +46,11 @@ pub fn what_bulk_out_leaves()
 /// A byte of a poll is what the hub's ports told when one of its attempts was made, and where there is none, no port told of a
 /// change then (11.12.3).
 pub fn what_a_poll_leaves()
-    ensures waiting { (t : ATarget) (toggle : Toggle) (old new : World) → IsSettled old.roots
+    ensures waiting { (t : ATarget) (toggle : Toggle) (old new : World) → 1 ≤ t.max → IsSettled old.roots
         → Waiting toggle (in_attempt t 1) old new → new.shared ≡ false → EachWas (ChangesIn t toggle old (Ok None)) old new }
-    ensures came { (t : ATarget) (toggle : Toggle) (bytes : List ℕ) (old new : World) → IsSettled old.roots
+    ensures came { (t : ATarget) (toggle : Toggle) (bytes : List ℕ) (old new : World) → 1 ≤ t.max → IsSettled old.roots
         → PollEnded toggle (in_attempt t 1) old (Ok bytes) new → new.shared ≡ false → EachWas (ChangesIn t toggle old (Ok (Some bytes))) old new }
-    ensures failed { (t : ATarget) (toggle : Toggle) (fault : AFault) (old new : World) → IsSettled old.roots
+    ensures failed { (t : ATarget) (toggle : Toggle) (fault : AFault) (old new : World) → 1 ≤ t.max → IsSettled old.roots
         → PollEnded toggle (in_attempt t 1) old (Err fault) new → new.shared ≡ false → EachWas (ChangesIn t toggle old (Err fault)) old new }
 {}
 
