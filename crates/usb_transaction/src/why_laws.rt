@@ -1,7 +1,7 @@
 //! Laws of why a transaction fails, where no three attempts running are damaged and the device stays reachable, for those above.
 //!
 //! Each call does nothing; what it ensures is for proofs to cite.
-ghost use Rattle.std.specs.Prelude.{◌≡◌, ℕ, List, [], Result, Err, false};
+ghost use Rattle.std.specs.Prelude.{◌≡◌, ◌≤◌, ℕ, List, [], Result, Err, false};
 ghost use Rattle.usb_packet.specs.declared.Toggle.{Toggle};
 ghost use Rattle.usb_packet.specs.declared.Toggle.TheVariants.{One};
 ghost use Rattle.usb_bus.specs.Passes.{IsSettled};
@@ -40,6 +40,6 @@ pub fn why_bulk_out_fails()
 
 /// A poll of a hub's status endpoint (11.12.3).
 pub fn why_a_poll_fails()
-    ensures { (t : ATarget) (toggle : Toggle) (fault : AFault) (old new : World) → IsSettled old.roots → NoThreeDamaged old
+    ensures { (t : ATarget) (toggle : Toggle) (fault : AFault) (old new : World) → 1 ≤ t.max → IsSettled old.roots → NoThreeDamaged old
         → PollEnded toggle (in_attempt t 1) old (Err fault) new → new.shared ≡ false → EachWas (WhyPoll t toggle (Err fault)) old new }
 {}
