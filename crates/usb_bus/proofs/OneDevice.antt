@@ -208,7 +208,7 @@ path_self (n ∷ p) = and_of (same_number n n) _ (same_self n) (path_self p)
 equal_same : (n x : ℕ) → (n == x) ≡ true → n ≡ x
 equal_same n x h = grind (arith, nat_tests)
 
-other_address : (n : ℕ) (k : Ports) (j : ℕ) (p : List ℕ) → OneHolds n k j p → (i : ℕ) (e : List ℕ) (t : State) → (same_number i j && same_path e p) ≡ false → state_at k i e ≡ Some t → reach_at k i e ≡ true
+pub other_address : (n : ℕ) (k : Ports) (j : ℕ) (p : List ℕ) → OneHolds n k j p → (i : ℕ) (e : List ℕ) (t : State) → (same_number i j && same_path e p) ≡ false → state_at k i e ≡ Some t → reach_at k i e ≡ true
     → (n == address_of t) ≡ false
 other_address n k j p o i e t d h on = pick (decided (n == address_of t))
   where

@@ -183,7 +183,7 @@ ready_settled w h = due_settled w.left w h
 pub equal_same : (n x : ℕ) → (n == x) ≡ true → n ≡ x
 equal_same n x h = grind (arith, nat_tests)
 
-unequal : (n x : ℕ) → (n ≡ x → ⊥) → (n == x) ≡ false
+pub unequal : (n x : ℕ) → (n ≡ x → ⊥) → (n == x) ≡ false
 unequal n x h = pick (decided (n == x))
   where
     pick : ((n == x) ≡ true) ⊎ ((n == x) ≡ false) → (n == x) ≡ false
@@ -194,7 +194,7 @@ pub made_is : (a : Attempt) (w : World) → IsMade a w → after (attempt a) w �
 unfolding after
 made_is a w m = rw (m.sound, unequal w.attempts w.limit m.within) refl
 
-same_test : (n x : ℕ) → n ≡ x → (n == x) ≡ true
+pub same_test : (n x : ℕ) → n ≡ x → (n == x) ≡ true
 same_test n x h = grind (arith, nat_tests)
 
 at_limit : (a : Attempt) (w : World) → w.fault ≡ None → w.attempts ≡ w.limit → (after (attempt a) w).fault ≡ Some LimitReached
@@ -205,7 +205,7 @@ at_limit a w s e = rw (s, same_test w.attempts w.limit e) refl
 pub made_of : (a : Attempt) (w : World) → IsSettled w.roots → Made w (after (attempt a) w) → IsMade a w
 made_of a w h m = record { sound = m.sound; within = λ e. no (ap is_some (sym m.still ∙ at_limit a w m.sound e)); settled = h }
 
-made_true : (a : Attempt) (w : World) → IsMade a w → is_made w.fault w ≡ true
+pub made_true : (a : Attempt) (w : World) → IsMade a w → is_made w.fault w ≡ true
 made_true a w m = rw (m.sound, unequal w.attempts w.limit m.within) refl
 
 -- the events that are due change neither the damages nor how many attempts were made

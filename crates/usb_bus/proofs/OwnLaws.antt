@@ -153,7 +153,7 @@ happened_state (Send x b) d k p h = refl
 happened_state (Receive x n) d k p h = refl
 happened_state (Clear x) d k p h = refl
 
-due_state : (es : List Event) (w : World) (p : List ℕ) → reach (due_from es w).roots p ≡ true → state_there (due_from es w).roots p ≡ state_there w.roots p
+pub due_state : (es : List Event) (w : World) (p : List ℕ) → reach (due_from es w).roots p ≡ true → state_there (due_from es w).roots p ≡ state_there w.roots p
 unfolding due_from took
 due_state [] w p h = refl
 due_state (e ∷ es) w p h =

@@ -4,6 +4,7 @@
 mod address_laws;
 mod bus;
 mod damage;
+mod device_laws;
 mod event;
 mod exchange;
 mod losses;
@@ -23,6 +24,7 @@ pub use address_laws::{
 };
 pub use bus::Bus;
 pub use damage::{Damage, Damages, Harm};
+pub use device_laws::what_an_attempt_does_to_a_device;
 pub use event::{Action, Due, Event, Events, SentBytes};
 pub use not_served::{NotServed, served};
 pub use one_holder::{

@@ -23,7 +23,7 @@ use Rattle.usb_device.specs.Transfer.{Stage, idle, refused, reading, read, endin
 use Rattle.usb_device.specs.Rows.{State, Reply, received, answered, unread, forgotten, accepted, payload, is_busy, nak_row, unless_busy, gives, in_row, begun, data_row, token_row, source_row, changes_row, held_row, in_other_row, in_bulk_row, acknowledged, bulk_of, rest_of}
 use Rattle.usb_device.specs.Attempt.{Way, whole, broken, lost, heard, acked, setup_attempt, out_attempt, in_attempt, setup_law, out_law, gave, in_stage_law, source_law, changes_law, held_law, in_other_law, in_bulk_law, in_control_law, in_law, is_own}
 
-same_number : (n : ℕ) → (n == n) ≡ true
+pub same_number : (n : ℕ) → (n == n) ≡ true
 same_number n = grind (arith, nat_tests)
 
 abbrev pair : Option Answer → State → Reply

@@ -14,3 +14,6 @@ pub mod Figures
 pub mod Views
 pub mod Lent
 pub mod Strays
+pub mod ControlProgress
+pub mod BulkProgress
+pub mod ChangesProgress

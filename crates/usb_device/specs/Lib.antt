@@ -17,3 +17,4 @@ pub mod Kept
 pub mod View
 pub mod Lending
 pub mod Stray
+pub mod Progress

@@ -16,6 +16,7 @@ mod laws;
 mod lists;
 mod own;
 mod ports;
+mod progress_laws;
 mod request;
 mod shared;
 mod spec;
@@ -34,6 +35,10 @@ pub use laws::{
 };
 pub use lists::{Bytes, ConfigTexts, Name, StringTexts, Texts};
 pub use ports::Ports;
+pub use progress_laws::{
+    attempts_keep_the_rest, changes_go_on, control_read_goes_on, read_status_goes_on, sink_goes_on,
+    source_goes_on, status_stage_goes_on,
+};
 pub use spec::{DeviceSpec, Stalls};
 
 #[cfg(test)]
