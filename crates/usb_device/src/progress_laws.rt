@@ -41,7 +41,7 @@ pub fn read_status_goes_on()
 pub fn source_goes_on()
     ensures source { (e most got : ℕ) (t : Toggle) (s : State) → IsSource e most s → 1 ≤ most → SourceAt most got t s → (row : List PortState) (max : ℕ) (t1 t2 t3 : Way)
         → SourceOn most got t s (taken_of t max (in_law s row e max t1 t2 t3).0) (in_law s row e max t1 t2 t3).1 }
-    // STALL is answered exactly where the endpoint is halted, and the host hears it.
+    // STALL is answered only where the endpoint is halted, and a halted one changes nothing.
     ensures stalled { (e most : ℕ) (s : State) → IsSource e most s → (row : List PortState) (max : ℕ) (t1 t2 t3 : Way)
         → (in_law s row e max t1 t2 t3).0 ≡ Some Stall → s.bulk_in.halted ≡ true }
     ensures halted { (e most : ℕ) (s : State) → IsSource e most s → s.bulk_in.halted ≡ true → (row : List PortState) (max : ℕ) (t1 t2 t3 : Way)
