@@ -29,18 +29,18 @@ use Rattle.usb_bus.proofs.OneHolderWho.{holder_or_nobody}
 -- Over courses
 
 pub each_none : (R : Relation) → ((j : ℕ) (p : List ℕ) (s : State) → R j p s s) → (w : World) → EachWas R w w
-each_none R f w j p s on stands = record { before = s; on = on; stands = stands; so = f j p s }
+each_none R f w j p s on there = record { before = s; on = on; stands = there; so = f j p s }
 
 pub each_joined : (R S T : Relation) → ((j : ℕ) (p : List ℕ) (s u v : State) → R j p s u → S j p u v → T j p s v)
     → (old mid new : World) → EachWas R old mid → EachWas S mid new → EachWas T old new
-each_joined R S T f old mid new x y j p s on stands =
-    let later : Was S mid j p s = y j p s on stands in
+each_joined R S T f old mid new x y j p s on there =
+    let later : Was S mid j p s = y j p s on there in
     let sooner : Was R old j p later.before = x j p later.before later.on later.stands in
     record { before = sooner.before; on = sooner.on; stands = sooner.stands; so = f j p sooner.before later.before s sooner.so later.so }
 
 pub each_wider : (R S : Relation) → ((j : ℕ) (p : List ℕ) (s v : State) → R j p s v → S j p s v) → (old new : World) → EachWas R old new → EachWas S old new
-each_wider R S f old new x j p s on stands =
-    let was : Was R old j p s = x j p s on stands in
+each_wider R S f old new x j p s on there =
+    let was : Was R old j p s = x j p s on there in
     record { before = was.before; on = was.on; stands = was.stands; so = f j p was.before s was.so }
 
 -- A reachable device stands
