@@ -362,7 +362,7 @@ quiet_sends a d h = setup_sends a d a.kind a.payload refl refl h
 
 -- Steps
 
-quiet_resets : (s : Step) (w : World) (p : List ℕ) → is_quiet s ≡ true → resets s w p ≡ false
+pub quiet_resets : (s : Step) (w : World) (p : List ℕ) → is_quiet s ≡ true → resets s w p ≡ false
 unfolding resets
 quiet_resets (attempt a) w p h = made (is_made w.fault w) (by_path p)
   where

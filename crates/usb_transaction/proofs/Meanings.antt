@@ -61,7 +61,7 @@ asked_at l y = record {
 }
 
 -- what the host got tells what was answered
-got_ack : (max : ℕ) (o : Option Answer) → got max o ≡ outcome.Ack → o ≡ Some answer.Ack
+pub got_ack : (max : ℕ) (o : Option Answer) → got max o ≡ outcome.Ack → o ≡ Some answer.Ack
 got_ack max None e = cc e
 got_ack max (Some answer.Ack) e = refl
 got_ack max (Some answer.Nak) e = cc e
@@ -72,7 +72,7 @@ got_ack max (Some (answer.Data t b)) e = by (nat_le (length b.items) max) e
     by true h = cc h
     by false h = cc h
 
-got_stall : (max : ℕ) (o : Option Answer) → got max o ≡ outcome.Stall → o ≡ Some answer.Stall
+pub got_stall : (max : ℕ) (o : Option Answer) → got max o ≡ outcome.Stall → o ≡ Some answer.Stall
 got_stall max None e = cc e
 got_stall max (Some answer.Ack) e = cc e
 got_stall max (Some answer.Nak) e = cc e
@@ -83,7 +83,7 @@ got_stall max (Some (answer.Data t b)) e = by (nat_le (length b.items) max) e
     by true h = cc h
     by false h = cc h
 
-got_payload : (max : ℕ) (o : Option Answer) (t : Toggle) (b : ArrayVec ℕ) → got max o ≡ outcome.Payload t b → o ≡ Some (answer.Data t b)
+pub got_payload : (max : ℕ) (o : Option Answer) (t : Toggle) (b : ArrayVec ℕ) → got max o ≡ outcome.Payload t b → o ≡ Some (answer.Data t b)
 got_payload max None t b e = cc e
 got_payload max (Some answer.Ack) t b e = cc e
 got_payload max (Some answer.Nak) t b e = cc e
@@ -95,7 +95,7 @@ got_payload max (Some (answer.Data u c)) t b e = by (nat_le (length c.items) max
     by false h = cc h
 
 -- setup data that were answered were accepted
-taken_up : (x : Bool) (t : Way) (s v : State) (max : ℕ) → got max (if◌then◌else◌ {A = Reply} x (heard t (Some answer.Ack), v) (None, s)).0 ≡ outcome.Ack
+pub taken_up : (x : Bool) (t : Way) (s v : State) (max : ℕ) → got max (if◌then◌else◌ {A = Reply} x (heard t (Some answer.Ack), v) (None, s)).0 ≡ outcome.Ack
     → (if◌then◌else◌ {A = Reply} x (heard t (Some answer.Ack), v) (None, s)).1 ≡ v
 taken_up true t s v max e = refl
 taken_up false t s v max e = cc e

@@ -1,5 +1,5 @@
 -- One device over a transaction: what it was before, seen from where it is reachable after it.
-use Rattle.std.specs.Prelude.{◌≡◌, ◌⊎◌, ◌==◌, ◌≤◌, ◌&&◌, ℕ, List, [], length, Bool, true, false, Option, None, Some, Result, Ok, Err}
+use Rattle.std.specs.Prelude.{◌≡◌, ◌⊎◌, ◌==◌, ◌≤◌, ℕ, List, length, Bool, true, false, Option, None, Some, Result, Ok, Err}
 use Rattle.usb_packet.specs.declared.Toggle.{Toggle}
 use Rattle.usb_packet.specs.declared.Toggle.TheVariants.{One}
 use Rattle.usb_port.specs.PortState.{PortState}
@@ -14,7 +14,6 @@ use Rattle.usb_bus.specs.declared.types.Outcome.{Outcome}
 use Rattle.usb_bus.specs.Live.{address_of}
 use Rattle.usb_bus.specs.World.{World}
 use Rattle.usb_bus.specs.Steps.{ready}
-use Rattle.usb_bus.specs.Devices.{Relation}
 use Rattle.usb_transaction.specs.declared.target.Target.{Target}
 use Rattle.usb_transaction.specs.declared.fault.TransFault.{TransFault}
 use Rattle.usb_transaction.specs.declared.fault.TransFault.TheVariants.{Stalled, Busy, NoAnswer, Bus}

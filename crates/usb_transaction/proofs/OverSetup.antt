@@ -1,0 +1,273 @@
+-- What SETUP leaves of each device: setup data that were accepted more than once are as if they were accepted once, the last time.
+use Rattle.std.proofs.Common.{◌≡◌, ◌⊎◌, inl, inr, ℕ, suc, ◌/◌, ◌%◌, ◌==◌, nat_le, ◌&&◌, not, if◌then◌else◌, Bool, true, false, List, [], ◌∷◌, length, slice_get, Option, None, Some, Result, Ok, Err, refl, sym, subst, ap, ◌∙◌}
+use Rattle.usb_port.specs.PortState.{PortState}
+use Rattle.usb_request.specs.declared.setup.Setup.{Setup}
+use Rattle.usb_request.specs.Layout.{setup_of}
+use Rattle.usb_device.specs.declared.answer.Answer.TheVariants as answer
+use Rattle.usb_device.specs.declared.bulk.Which.{Which}
+use Rattle.usb_device.specs.declared.bulk.Which.TheVariants.{BulkOut, BulkIn, Changes}
+use Rattle.usb_device.specs.declared.calls.PortCall.{PortCall}
+use Rattle.usb_device.specs.declared.request.Registers.{Registers}
+use Rattle.usb_device.specs.Spec.{Spec, Hub}
+use Rattle.usb_device.specs.Calls.{set_call, clear_call}
+use Rattle.usb_device.specs.Request.{Outcome, stalled, answers, takes_address, takes_configuration, halts, unhalts, tells_port, calls_port, Is, unless, text_asked, status_bytes, get_descriptor, get_status, set_address, set_configuration, is_value, endpoint_of, on_endpoint, get_hub_descriptor, port_named, told_port, called_at, get_port_status, port_feature, outcome, registers_at_setup}
+use Rattle.usb_device.specs.Rows.{State, Reply, with_endpoints, begun, accepted}
+use Rattle.usb_device.specs.Attempt.{Way, is_whole, heard, setup_law}
+use Rattle.usb_device.specs.Tree.{row_of}
+use Rattle.usb_bus.specs.declared.types.Outcome as bus
+use Rattle.usb_bus.specs.declared.types.Outcome.TheVariants as got_as
+use Rattle.usb_bus.specs.Live.{address_of}
+use Rattle.usb_bus.specs.Passes.{IsSettled}
+use Rattle.usb_bus.specs.Courses.{is_harmless}
+use Rattle.usb_bus.specs.OneHolder.{IsMade, got}
+use Rattle.usb_bus.specs.World.{World}
+use Rattle.usb_bus.specs.Steps.{attempt, after, outcome_in}
+use Rattle.usb_bus.specs.Devices.{EachWas, DidSetup}
+use Rattle.usb_bus.proofs.Booleans.{no}
+use Rattle.usb_bus.proofs.Devices.{each_setup, each_wider}
+use Rattle.usb_bus.proofs.OwnLaws.{quiet_resets}
+use Rattle.usb_transaction.specs.declared.target.Target.{Target}
+use Rattle.usb_transaction.specs.declared.fault.TransFault.{TransFault}
+use Rattle.usb_transaction.specs.Heard.{set_up_as}
+use Rattle.usb_transaction.specs.Trail.{IsNoEnd, Ended}
+use Rattle.usb_transaction.specs.Trans.{packet_of, setup_attempt}
+use Rattle.usb_transaction.specs.Over.{is_at, AcceptedSince, SetupDone}
+use Rattle.usb_transaction.proofs.Lasts.{set_up_last}
+use Rattle.usb_transaction.proofs.Meanings.{taken_up}
+use Rattle.usb_transaction.proofs.Overs.{StepsSo, LastIs, each_ended}
+
+-- A request asks the same once it was accepted
+
+abbrev configures : Outcome → Bool
+configures (takes_configuration c) = true
+configures o = false
+
+either : (b : Bool) (x y : Outcome) → configures x ≡ false → configures y ≡ false → configures (if b then x else y) ≡ false
+either true x y h g = h
+either false x y h g = g
+
+by_text : (o : Option (List ℕ)) → configures (elim o [ None ↦ stalled | Some text ↦ answers text ]) ≡ false
+by_text None = refl
+by_text (Some t) = refl
+
+by_descriptor : (s : Spec) (v : ℕ) → configures (get_descriptor s v) ≡ false
+by_descriptor s v =
+    either (v == 0x0100) _ _ (either s.stalls.device stalled (answers s.descriptor) refl refl)
+    (either (v / 256 == 2) _ _ (either s.stalls.config stalled (text_asked s.configs (v % 256)) refl (by_text (slice_get s.configs (v % 256))))
+    (either (v / 256 == 3) _ _ (either s.stalls.string stalled (text_asked s.strings (v % 256)) refl (by_text (slice_get s.strings (v % 256)))) refl))
+
+by_endpoint : (f : Which → Outcome) → ((w : Which) → configures (f w) ≡ false) → (o : Option Which) → configures (on_endpoint f o) ≡ false
+by_endpoint f c None = refl
+by_endpoint f c (Some w) = c w
+
+by_hub : (o : Option Hub) (r : Setup) → configures (get_hub_descriptor o r) ≡ false
+by_hub None r = refl
+by_hub (Some hub) r = either (r.value == 0x2900) (answers hub.descriptor) stalled refl refl
+
+by_status : (o : Option ℕ) → configures (told_port o) ≡ false
+by_status None = refl
+by_status (Some i) = refl
+
+by_call : (c : Option PortCall) (o : Option ℕ) → configures (called_at c o) ≡ false
+by_call None o = refl
+by_call (Some x) None = refl
+by_call (Some x) (Some i) = refl
+
+by_feature : (c : Option PortCall) (s : Spec) (g : Registers) (r : Setup) → configures (port_feature c s g r) ≡ false
+by_feature c s g r = either (r.length == 0) (called_at c (port_named s.hub g r.index)) stalled (by_call c (port_named s.hub g r.index)) refl
+
+-- where the first takes a configuration, the other does
+abbrev Again : ℕ → Outcome → Outcome → Type 0
+Again c x y = x ≡ takes_configuration c → y ≡ takes_configuration c
+
+never : (c : ℕ) (x y : Outcome) → configures x ≡ false → Again c x y
+never c x y h e = no (sym h ∙ ap configures e)
+
+branch : (c : ℕ) (b : Bool) (x y u v : Outcome) → Again c x u → Again c y v → Again c (if b then x else y) (if b then u else v)
+branch c true x y u v f g = f
+branch c false x y u v f g = g
+
+-- SET_CONFIGURATION looks at the address and not at the configuration (9.4.7)
+configured_again : (s : Spec) (g : Registers) (r : Setup) (c : ℕ) → Again c (outcome s g r) (outcome s (record g { configuration = c }) r)
+unfolding outcome
+configured_again s g r c =
+    let k : Registers = record g { configuration = c } in
+    branch c (Is r 0x80 6) (get_descriptor s r.value) _ (get_descriptor s r.value) _ (never c _ _ (by_descriptor s r.value))
+    (branch c (Is r 0x80 0) (unless s.stalls.status (get_status s r)) _ (unless s.stalls.status (get_status s r)) _
+        (never c _ _ (either s.stalls.status stalled (get_status s r) refl (either (r.value == 0 && r.index == 0) (answers (status_bytes s)) stalled refl refl)))
+    (branch c (Is r 0x80 8) (answers (g.configuration ∷ [])) _ (answers (c ∷ [])) _ (never c _ _ refl)
+    (branch c (Is r 0x00 5) (unless s.stalls.address (set_address r)) _ (unless s.stalls.address (set_address r)) _
+        (never c _ _ (either s.stalls.address stalled (set_address r) refl (either (nat_le r.value 127 && r.length == 0) (takes_address r.value) stalled refl refl)))
+    (branch c (Is r 0x00 9) (unless s.stalls.set_config (set_configuration s g r)) _ (unless s.stalls.set_config (set_configuration s k r)) _ (λ e. e)
+    (branch c (Is r 0x02 1) (on_endpoint unhalts (endpoint_of s g r)) _ (on_endpoint unhalts (endpoint_of s k r)) _ (never c _ _ (by_endpoint unhalts (λ w. refl) (endpoint_of s g r)))
+    (branch c (Is r 0x02 3) (on_endpoint halts (endpoint_of s g r)) _ (on_endpoint halts (endpoint_of s k r)) _ (never c _ _ (by_endpoint halts (λ w. refl) (endpoint_of s g r)))
+    (branch c (Is r 0xA0 6) (unless s.stalls.hub (get_hub_descriptor s.hub r)) _ (unless s.stalls.hub (get_hub_descriptor s.hub r)) _
+        (never c _ _ (either s.stalls.hub stalled (get_hub_descriptor s.hub r) refl (by_hub s.hub r)))
+    (branch c (Is r 0xA3 0) (get_port_status s g r) _ (get_port_status s k r) _ (never c _ _ (by_status (port_named s.hub g r.index)))
+    (branch c (Is r 0x23 3) (port_feature (set_call r.value) s g r) _ (port_feature (set_call r.value) s k r) _ (never c _ _ (by_feature (set_call r.value) s g r))
+    (branch c (Is r 0x23 1) (port_feature (clear_call r.value) s g r) stalled (port_feature (clear_call r.value) s k r) stalled (never c _ _ (by_feature (clear_call r.value) s g r)) (λ e. e)))))))))))
+
+-- only a configuration that was taken changes a register
+asks_again : (s : Spec) (g : Registers) (r : Setup) (o : Outcome) → outcome s g r ≡ o → outcome s (registers_at_setup g o) r ≡ o
+asks_again s g r stalled e = e
+asks_again s g r (answers b) e = e
+asks_again s g r (takes_address a) e = e
+asks_again s g r (takes_configuration c) e = configured_again s g r c e
+asks_again s g r (halts w) e = e
+asks_again s g r (unhalts w) e = e
+asks_again s g r (tells_port i) e = e
+asks_again s g r (calls_port c i) e = e
+
+-- Accepted twice
+
+spec_stays : (d : State) (o : Outcome) → (with_endpoints d o).spec ≡ d.spec
+spec_stays d stalled = refl
+spec_stays d (answers b) = refl
+spec_stays d (takes_address a) = refl
+spec_stays d (takes_configuration c) = refl
+spec_stays d (halts BulkOut) = refl
+spec_stays d (halts BulkIn) = refl
+spec_stays d (halts Changes) = refl
+spec_stays d (unhalts BulkOut) = refl
+spec_stays d (unhalts BulkIn) = refl
+spec_stays d (unhalts Changes) = refl
+spec_stays d (tells_port i) = refl
+spec_stays d (calls_port c i) = refl
+
+begun_twice : (d : State) (first row : List PortState) (wanted : ℕ) (o : Outcome) → begun (begun d first wanted o) row wanted o ≡ begun d row wanted o
+begun_twice d first row n stalled = refl
+begun_twice d first row n (answers b) = refl
+begun_twice d first row n (takes_address a) = refl
+begun_twice d first row n (takes_configuration c) = refl
+begun_twice d first row n (halts BulkOut) = refl
+begun_twice d first row n (halts BulkIn) = refl
+begun_twice d first row n (halts Changes) = refl
+begun_twice d first row n (unhalts BulkOut) = refl
+begun_twice d first row n (unhalts BulkIn) = refl
+begun_twice d first row n (unhalts Changes) = refl
+begun_twice d first row n (tells_port i) = refl
+begun_twice d first row n (calls_port c i) = refl
+
+pub accepted_twice : (d : State) (first row : List PortState) (r : Setup) → accepted (accepted d first r) row r ≡ accepted d row r
+accepted_twice d first row r =
+    let o : Outcome = outcome d.spec d.registers r in
+    let once : State = begun d first r.length o in
+    ap (begun once row r.length)
+    (ap (λ s. outcome s (registers_at_setup d.registers o) r) (spec_stays d o) ∙ asks_again d.spec d.registers r o refl)
+    ∙ begun_twice d first row r.length o
+
+-- no request gives an address when it is accepted (9.4.6)
+address_stays : (g : Registers) (o : Outcome) → (registers_at_setup g o).address ≡ g.address
+address_stays g stalled = refl
+address_stays g (answers b) = refl
+address_stays g (takes_address a) = refl
+address_stays g (takes_configuration c) = refl
+address_stays g (halts w) = refl
+address_stays g (unhalts w) = refl
+address_stays g (tells_port i) = refl
+address_stays g (calls_port c i) = refl
+
+-- What is so over any number of attempts
+
+record SetUp (t : Target) (bytes : List ℕ) (j : ℕ) (p : List ℕ) (s v : State) : Type 0 where
+  others : is_at s t ≡ false → v ≡ s
+  kept : (v ≡ s) ⊎ AcceptedSince bytes s v
+
+abbrev Kept : List ℕ → State → State → Type 0
+Kept bytes s v = (v ≡ s) ⊎ AcceptedSince bytes s v
+
+-- the ports of the last time
+accepted_since : (bytes : List ℕ) (s u v : State) → Kept bytes s u → AcceptedSince bytes u v → AcceptedSince bytes s v
+accepted_since bytes s u v (inl e) x = record { row = x.row; is = x.is ∙ ap (λ d. accepted d x.row (setup_of bytes)) e }
+accepted_since bytes s u v (inr y) x =
+    record { row = x.row; is = x.is ∙ ap (λ d. accepted d x.row (setup_of bytes)) y.is ∙ accepted_twice s y.row x.row (setup_of bytes) }
+
+kept_since : (bytes : List ℕ) (s u v : State) → Kept bytes s u → Kept bytes u v → Kept bytes s v
+kept_since bytes s u v (inl e) (inl f) = inl (f ∙ e)
+kept_since bytes s u v (inr y) (inl f) = inr (record { row = y.row; is = f ∙ y.is })
+kept_since bytes s u v x (inr y) = inr (accepted_since bytes s u v x y)
+
+same_address : (bytes : List ℕ) (s u : State) → Kept bytes s u → address_of u ≡ address_of s
+same_address bytes s u (inl e) = ap (λ d. address_of d) e
+same_address bytes s u (inr y) = ap (λ d. address_of d) y.is ∙ address_stays s.registers (outcome s.spec s.registers (setup_of bytes))
+
+not_at : (t : Target) (s u : State) → u ≡ s → is_at s t ≡ false → is_at u t ≡ false
+not_at t s u e h = ap (λ d. is_at d t) e ∙ h
+
+abbrev others_joined : (t : Target) (s u v : State) → (is_at s t ≡ false → u ≡ s) → (is_at u t ≡ false → v ≡ u) → is_at s t ≡ false → v ≡ s
+others_joined t s u v f g h = g (not_at t s u (f h) h) ∙ f h
+
+joined : (t : Target) (bytes : List ℕ) (j : ℕ) (p : List ℕ) (s u v : State) → SetUp t bytes j p s u → SetUp t bytes j p u v → SetUp t bytes j p s v
+joined t bytes j p s u v x y = record { others = others_joined t s u v x.others y.others; kept = kept_since bytes s u v x.kept y.kept }
+
+ended : (t : Target) (bytes : List ℕ) (result : Result (List ℕ) TransFault) (j : ℕ) (p : List ℕ) (s u v : State)
+    → SetUp t bytes j p s u → SetupDone t bytes result j p u v → SetupDone t bytes result j p s v
+ended t bytes result j p s u v x y = record {
+  others = others_joined t s u v x.others y.others;
+  kept = kept_since bytes s u v x.kept y.kept;
+  done = λ h got e. accepted_since bytes s u v x.kept (y.done (ap (λ n. n == t.addr) (same_address bytes s u x.kept) ∙ h) got e);
+}
+
+-- One attempt
+
+law_kept : (bytes : List ℕ) (x : Bool) (t : Way) (s : State) (row : List PortState)
+    → Kept bytes s (if◌then◌else◌ {A = Reply} x (heard t (Some answer.Ack), accepted s row (setup_of bytes)) (None, s)).1
+law_kept bytes true t s row = inr (record { row = row; is = refl })
+law_kept bytes false t s row = inl refl
+
+did_kept : (t : Target) (bytes : List ℕ) (w : World) (j : ℕ) (p : List ℕ) (s v : State) → DidSetup (setup_attempt t bytes) bytes w j p s v → Kept bytes s v
+did_kept t bytes w j p s v (DidSetup.other d e) = inl e
+did_kept t bytes w j p s v (DidSetup.silent d q o e) = inl e
+did_kept t bytes w j p s v (DidSetup.asked d q b below at x o e) =
+    subst (Kept bytes s) (sym e) (law_kept bytes (is_whole x.first && is_whole x.second) x.third s (row_of below))
+
+did_others : (t : Target) (bytes : List ℕ) (w : World) (j : ℕ) (p : List ℕ) (s v : State) → DidSetup (setup_attempt t bytes) bytes w j p s v → is_at s t ≡ false → v ≡ s
+did_others t bytes w j p s v (DidSetup.other d e) h = e
+did_others t bytes w j p s v (DidSetup.silent d q o e) h = e
+did_others t bytes w j p s v (DidSetup.asked d q b below at x o e) h = no (sym h ∙ d)
+
+-- the device at the address that answered by ACK
+did_done : (t : Target) (bytes : List ℕ) (w : World) (j : ℕ) (p : List ℕ) (s v : State) → DidSetup (setup_attempt t bytes) bytes w j p s v
+    → is_at s t ≡ true → outcome_in (setup_attempt t bytes) w ≡ got_as.Ack → AcceptedSince bytes s v
+did_done t bytes w j p s v (DidSetup.other d e) h a = no (sym d ∙ h)
+did_done t bytes w j p s v (DidSetup.silent d q o e) h a = elim (no_ack (sym a ∙ o)) [ ]
+  where
+    no_ack : got_as.Ack ≡ got_as.Nothing → ⊥
+    no_ack e = cc e
+did_done t bytes w j p s v (DidSetup.asked d q b below at x o e) h a = record {
+  row = row_of below;
+  is = e ∙ taken_up (is_whole x.first && is_whole x.second) x.third s (accepted s (row_of below) (setup_of bytes)) 8 (sym o ∙ a);
+}
+
+abbrev acked : (result : Result (List ℕ) TransFault) (o : bus.Outcome) → LastIs set_up_as result o → (bytes : List ℕ) → result ≡ Ok bytes → o ≡ got_as.Ack
+acked result o l bytes e = set_up_last o (packet_of bytes) (subst (λ r. LastIs set_up_as r o) e l)
+
+module _ (t : Target) (bytes : List ℕ) (eight : length bytes ≡ 8) (harmless : is_harmless (setup_of bytes) ≡ true) where
+  each_did : (w : World) → IsMade (setup_attempt t bytes) w → (after (attempt (setup_attempt t bytes)) w).shared ≡ false
+      → EachWas (DidSetup (setup_attempt t bytes) bytes w) w (after (attempt (setup_attempt t bytes)) w)
+  each_did w m u j p v =
+      each_setup (setup_attempt t bytes) w bytes m (record { kind = refl; ep = refl; payload = refl; whole = eight }) u j p v
+      (quiet_resets (attempt (setup_attempt t bytes)) w (suc j ∷ p) harmless)
+
+  set_up_steps : (old : World) → StepsSo (SetUp t bytes) (setup_attempt t bytes) old (λ o. IsNoEnd (set_up_as o))
+  set_up_steps old outcomes w trail m u o =
+      each_wider (DidSetup (setup_attempt t bytes) bytes w) (SetUp t bytes)
+      (λ j p s v d. record { others = did_others t bytes w j p s v d; kept = did_kept t bytes w j p s v d })
+      w (after (attempt (setup_attempt t bytes)) w) (each_did w m u)
+
+  set_up_ends : (result : Result (List ℕ) TransFault) (old : World) → StepsSo (SetupDone t bytes result) (setup_attempt t bytes) old (LastIs set_up_as result)
+  set_up_ends result old outcomes w trail m u o =
+      each_wider (DidSetup (setup_attempt t bytes) bytes w) (SetupDone t bytes result)
+      (λ j p s v d. record {
+        others = did_others t bytes w j p s v d;
+        kept = did_kept t bytes w j p s v d;
+        done = λ h got e. did_done t bytes w j p s v d h (acked result (outcome_in (setup_attempt t bytes) w) o got e);
+      })
+      w (after (attempt (setup_attempt t bytes)) w) (each_did w m u)
+
+pub set_up_leaves : (t : Target) (bytes : List ℕ) (result : Result (List ℕ) TransFault) (old new : World) → length bytes ≡ 8 → is_harmless (setup_of bytes) ≡ true → IsSettled old.roots
+    → Ended set_up_as (setup_attempt t bytes) old result new → new.shared ≡ false → EachWas (SetupDone t bytes result) old new
+set_up_leaves t bytes result old new eight harmless settled e single =
+    each_ended (SetUp t bytes) (SetupDone t bytes result) (SetupDone t bytes result)
+    (λ j p s. record { others = λ h. refl; kept = inl refl }) (joined t bytes) (ended t bytes result)
+    (set_up_steps t bytes eight harmless old) (set_up_ends t bytes eight harmless result old) settled e single

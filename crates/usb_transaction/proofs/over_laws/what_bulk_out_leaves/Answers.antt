@@ -1,0 +1,5 @@
+use Rattle.usb_transaction.proofs.OverSink.{sink_over}
+use Rattle.usb_transaction.proofs.over_laws.what_bulk_out_leaves.Goals as goal
+
+pub returns : goal.returns
+returns c = sink_over
