@@ -1,9 +1,5 @@
 -- Each device over the attempts of a transaction: what one attempt leaves of it, one after the other.
-<<<<<<< HEAD
 use Rattle.std.proofs.Common.{◌≡◌, ◌≢◌, ℕ, ◌<◌, List, [], ◌∷◌, Result, Ok, Err, true, false, refl, sym, ap, ◌∙◌, arith}
-=======
-use Rattle.std.proofs.Common.{◌≡◌, ◌≢◌, ℕ, ◌+◌, ◌<◌, List, [], ◌∷◌, Result, Ok, Err, false, refl, sym, subst, arith}
->>>>>>> over3
 use Rattle.usb_device.specs.Rows.{State}
 use Rattle.usb_bus.specs.declared.types.Attempt.{Attempt}
 use Rattle.usb_bus.specs.declared.types.Outcome.{Outcome}
@@ -15,20 +11,14 @@ use Rattle.usb_bus.specs.Steps.{attempt, after, outcome_in}
 use Rattle.usb_bus.specs.Devices.{Relation, EachWas}
 use Rattle.usb_bus.proofs.Devices.{each_none, each_joined}
 use Rattle.usb_bus.proofs.OneHolderMore.{made_of}
-<<<<<<< HEAD
 use Rattle.usb_transaction.specs.declared.target.Target.{Target}
-=======
->>>>>>> over3
 use Rattle.usb_transaction.specs.declared.heard.Heard.{Heard}
 use Rattle.usb_transaction.specs.declared.heard.Heard.TheVariants.{Moved, NotReady, Repeat, Refused, Lost}
 use Rattle.usb_transaction.specs.declared.fault.TransFault.{TransFault}
 use Rattle.usb_transaction.specs.declared.fault.TransFault.TheVariants.{Stalled, Busy, NoAnswer, Bus}
 use Rattle.usb_transaction.specs.Trail.{Trail, start, next, errors_with, waits_with, errors_running, waits_in, IsNoEnd, GoesOn, HasNoNak, Tells, Ended}
 use Rattle.usb_transaction.specs.Trans.{packet_of}
-<<<<<<< HEAD
 use Rattle.usb_transaction.specs.Over.{is_at}
-=======
->>>>>>> over3
 use Rattle.usb_transaction.proofs.Trails.{trail_settled, made_unshared}
 
 -- What is so of each outcome of a trail
@@ -127,7 +117,6 @@ pub each_ended : (R S T : Relation) → Reflexive R → Composes R R R → Compo
 each_ended R S T none joins ends {hear} {a} {old} {new} {result} step final settled e single =
     each_then R S T none joins ends (λ o. IsNoEnd (hear o)) (LastIs hear result) step final settled e.trail (none_ends hear e.outcomes e.onward)
     (last_is hear result e.last e.outcomes e.onward e.tells) single
-<<<<<<< HEAD
 
 -- Devices that an attempt is not for
 
@@ -137,5 +126,3 @@ other_twice t s u v f g h = g (ap (λ x. is_at x t) (f h) ∙ h) ∙ f h
 -- a device is at the target's address, or not
 pub mine : (t : Target) (s : State) {P : Type 0} → is_at s t ≡ true → is_at s t ≡ false → P
 mine t s h g = cc (sym h ∙ g)
-=======
->>>>>>> over3
