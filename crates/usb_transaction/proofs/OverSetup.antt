@@ -1,5 +1,5 @@
 -- What SETUP leaves of each device: setup data that were accepted more than once are as if they were accepted once, the last time.
-use Rattle.std.proofs.Common.{◌≡◌, ◌⊎◌, inl, inr, ℕ, suc, ◌/◌, ◌%◌, ◌==◌, nat_le, ◌&&◌, not, if◌then◌else◌, Bool, true, false, List, [], ◌∷◌, length, slice_get, Option, None, Some, Result, Ok, Err, refl, sym, subst, ap, ◌∙◌}
+use Rattle.std.proofs.Common.{◌≡◌, ◌⊎◌, inl, inr, ℕ, suc, ◌/◌, ◌%◌, ◌==◌, nat_le, ◌&&◌, if◌then◌else◌, Bool, true, false, List, [], ◌∷◌, length, slice_get, Option, None, Some, Result, Ok, refl, sym, subst, ap, ◌∙◌}
 use Rattle.usb_port.specs.PortState.{PortState}
 use Rattle.usb_request.specs.declared.setup.Setup.{Setup}
 use Rattle.usb_request.specs.Layout.{setup_of}
@@ -10,16 +10,16 @@ use Rattle.usb_device.specs.declared.calls.PortCall.{PortCall}
 use Rattle.usb_device.specs.declared.request.Registers.{Registers}
 use Rattle.usb_device.specs.Spec.{Spec, Hub}
 use Rattle.usb_device.specs.Calls.{set_call, clear_call}
-use Rattle.usb_device.specs.Request.{Outcome, stalled, answers, takes_address, takes_configuration, halts, unhalts, tells_port, calls_port, Is, unless, text_asked, status_bytes, get_descriptor, get_status, set_address, set_configuration, is_value, endpoint_of, on_endpoint, get_hub_descriptor, port_named, told_port, called_at, get_port_status, port_feature, outcome, registers_at_setup}
+use Rattle.usb_device.specs.Request.{Outcome, stalled, answers, takes_address, takes_configuration, halts, unhalts, tells_port, calls_port, Is, unless, text_asked, status_bytes, get_descriptor, get_status, set_address, set_configuration, endpoint_of, on_endpoint, get_hub_descriptor, port_named, told_port, called_at, get_port_status, port_feature, outcome, registers_at_setup}
 use Rattle.usb_device.specs.Rows.{State, Reply, with_endpoints, begun, accepted}
-use Rattle.usb_device.specs.Attempt.{Way, is_whole, heard, setup_law}
+use Rattle.usb_device.specs.Attempt.{Way, is_whole, heard}
 use Rattle.usb_device.specs.Tree.{row_of}
 use Rattle.usb_bus.specs.declared.types.Outcome as bus
 use Rattle.usb_bus.specs.declared.types.Outcome.TheVariants as got_as
 use Rattle.usb_bus.specs.Live.{address_of}
 use Rattle.usb_bus.specs.Passes.{IsSettled}
 use Rattle.usb_bus.specs.Courses.{is_harmless}
-use Rattle.usb_bus.specs.OneHolder.{IsMade, got}
+use Rattle.usb_bus.specs.OneHolder.{IsMade}
 use Rattle.usb_bus.specs.World.{World}
 use Rattle.usb_bus.specs.Steps.{attempt, after, outcome_in}
 use Rattle.usb_bus.specs.Devices.{EachWas, DidSetup}
@@ -34,7 +34,7 @@ use Rattle.usb_transaction.specs.Trans.{packet_of, setup_attempt}
 use Rattle.usb_transaction.specs.Over.{is_at, AcceptedSince, SetupDone}
 use Rattle.usb_transaction.proofs.Lasts.{set_up_last}
 use Rattle.usb_transaction.proofs.Meanings.{taken_up}
-use Rattle.usb_transaction.proofs.Overs.{StepsSo, LastIs, each_ended}
+use Rattle.usb_transaction.proofs.Overs.{StepsSo, LastIs, each_ended, other_twice}
 
 -- A request asks the same once it was accepted
 
@@ -94,15 +94,15 @@ configured_again s g r c =
     let k : Registers = record g { configuration = c } in
     branch c (Is r 0x80 6) (get_descriptor s r.value) _ (get_descriptor s r.value) _ (never c _ _ (by_descriptor s r.value))
     (branch c (Is r 0x80 0) (unless s.stalls.status (get_status s r)) _ (unless s.stalls.status (get_status s r)) _
-        (never c _ _ (either s.stalls.status stalled (get_status s r) refl (either (r.value == 0 && r.index == 0) (answers (status_bytes s)) stalled refl refl)))
+    (never c _ _ (either s.stalls.status stalled (get_status s r) refl (either (r.value == 0 && r.index == 0) (answers (status_bytes s)) stalled refl refl)))
     (branch c (Is r 0x80 8) (answers (g.configuration ∷ [])) _ (answers (c ∷ [])) _ (never c _ _ refl)
     (branch c (Is r 0x00 5) (unless s.stalls.address (set_address r)) _ (unless s.stalls.address (set_address r)) _
-        (never c _ _ (either s.stalls.address stalled (set_address r) refl (either (nat_le r.value 127 && r.length == 0) (takes_address r.value) stalled refl refl)))
+    (never c _ _ (either s.stalls.address stalled (set_address r) refl (either (nat_le r.value 127 && r.length == 0) (takes_address r.value) stalled refl refl)))
     (branch c (Is r 0x00 9) (unless s.stalls.set_config (set_configuration s g r)) _ (unless s.stalls.set_config (set_configuration s k r)) _ (λ e. e)
     (branch c (Is r 0x02 1) (on_endpoint unhalts (endpoint_of s g r)) _ (on_endpoint unhalts (endpoint_of s k r)) _ (never c _ _ (by_endpoint unhalts (λ w. refl) (endpoint_of s g r)))
     (branch c (Is r 0x02 3) (on_endpoint halts (endpoint_of s g r)) _ (on_endpoint halts (endpoint_of s k r)) _ (never c _ _ (by_endpoint halts (λ w. refl) (endpoint_of s g r)))
     (branch c (Is r 0xA0 6) (unless s.stalls.hub (get_hub_descriptor s.hub r)) _ (unless s.stalls.hub (get_hub_descriptor s.hub r)) _
-        (never c _ _ (either s.stalls.hub stalled (get_hub_descriptor s.hub r) refl (by_hub s.hub r)))
+    (never c _ _ (either s.stalls.hub stalled (get_hub_descriptor s.hub r) refl (by_hub s.hub r)))
     (branch c (Is r 0xA3 0) (get_port_status s g r) _ (get_port_status s k r) _ (never c _ _ (by_status (port_named s.hub g r.index)))
     (branch c (Is r 0x23 3) (port_feature (set_call r.value) s g r) _ (port_feature (set_call r.value) s k r) _ (never c _ _ (by_feature (set_call r.value) s g r))
     (branch c (Is r 0x23 1) (port_feature (clear_call r.value) s g r) stalled (port_feature (clear_call r.value) s k r) stalled (never c _ _ (by_feature (clear_call r.value) s g r)) (λ e. e)))))))))))
@@ -169,12 +169,12 @@ address_stays g (calls_port c i) = refl
 
 -- What is so over any number of attempts
 
-record SetUp (t : Target) (bytes : List ℕ) (j : ℕ) (p : List ℕ) (s v : State) : Type 0 where
-  others : is_at s t ≡ false → v ≡ s
-  kept : (v ≡ s) ⊎ AcceptedSince bytes s v
-
 abbrev Kept : List ℕ → State → State → Type 0
 Kept bytes s v = (v ≡ s) ⊎ AcceptedSince bytes s v
+
+record SetUp (t : Target) (bytes : List ℕ) (j : ℕ) (p : List ℕ) (s v : State) : Type 0 where
+  others : is_at s t ≡ false → v ≡ s
+  kept : Kept bytes s v
 
 -- the ports of the last time
 accepted_since : (bytes : List ℕ) (s u v : State) → Kept bytes s u → AcceptedSince bytes u v → AcceptedSince bytes s v
@@ -191,19 +191,13 @@ same_address : (bytes : List ℕ) (s u : State) → Kept bytes s u → address_o
 same_address bytes s u (inl e) = ap (λ d. address_of d) e
 same_address bytes s u (inr y) = ap (λ d. address_of d) y.is ∙ address_stays s.registers (outcome s.spec s.registers (setup_of bytes))
 
-not_at : (t : Target) (s u : State) → u ≡ s → is_at s t ≡ false → is_at u t ≡ false
-not_at t s u e h = ap (λ d. is_at d t) e ∙ h
-
-abbrev others_joined : (t : Target) (s u v : State) → (is_at s t ≡ false → u ≡ s) → (is_at u t ≡ false → v ≡ u) → is_at s t ≡ false → v ≡ s
-others_joined t s u v f g h = g (not_at t s u (f h) h) ∙ f h
-
 joined : (t : Target) (bytes : List ℕ) (j : ℕ) (p : List ℕ) (s u v : State) → SetUp t bytes j p s u → SetUp t bytes j p u v → SetUp t bytes j p s v
-joined t bytes j p s u v x y = record { others = others_joined t s u v x.others y.others; kept = kept_since bytes s u v x.kept y.kept }
+joined t bytes j p s u v x y = record { others = other_twice t s u v x.others y.others; kept = kept_since bytes s u v x.kept y.kept }
 
 ended : (t : Target) (bytes : List ℕ) (result : Result (List ℕ) TransFault) (j : ℕ) (p : List ℕ) (s u v : State)
     → SetUp t bytes j p s u → SetupDone t bytes result j p u v → SetupDone t bytes result j p s v
 ended t bytes result j p s u v x y = record {
-  others = others_joined t s u v x.others y.others;
+  others = other_twice t s u v x.others y.others;
   kept = kept_since bytes s u v x.kept y.kept;
   done = λ h got e. accepted_since bytes s u v x.kept (y.done (ap (λ n. n == t.addr) (same_address bytes s u x.kept) ∙ h) got e);
 }
