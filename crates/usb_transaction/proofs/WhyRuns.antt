@@ -60,6 +60,12 @@ ran_three w k n f r l =
     (r.damaged (k - 2 + 1) 1 (omega (arith, l, le)) (omega (arith, l)))
     (r.damaged (k - 2 + 2) 0 (omega (arith, l, le)) (omega (arith, l)))
 
+pub two_at_most : (w : World) (k n : ℕ) → NoThreeDamaged w → Ran w.damages k n → n ≤ 2
+two_at_most w k zero f r = omega arith
+two_at_most w k (suc zero) f r = omega arith
+two_at_most w k (suc (suc zero)) f r = omega arith
+two_at_most w k (suc (suc (suc n))) f r = elim (ran_three w k (suc (suc (suc n))) f r (omega arith)) [ ]
+
 -- One attempt more
 
 damage_now : {a : Attempt} {old w : World} {outcomes : List Outcome} → Trail a old outcomes w → damage_of old.damages (w.attempts + 1) ≡ None → damage_in w ≡ None
