@@ -1,5 +1,5 @@
 -- Why a poll of a hub's status endpoint fails (11.12.3).
-use Rattle.std.proofs.Common.{◌≡◌, ◌≢◌, ◌⊎◌, inl, inr, ℕ, zero, suc, ◌+◌, ◌≤◌, ◌==◌, nat_le, ◌&&◌, if◌then◌else◌, Bool, true, false, List, [], ◌∷◌, Option, None, Some, Err, refl, sym, subst, ap, ◌∙◌, arith}
+use Rattle.std.proofs.Common.{◌≡◌, ◌≢◌, ℕ, ◌+◌, ◌≤◌, ◌==◌, nat_le, ◌&&◌, if◌then◌else◌, Bool, true, false, List, [], ◌∷◌, Option, None, Some, Err, refl, sym, subst, ap, ◌∙◌, arith}
 use Rattle.std.proofs.lemmas.Bool.Decides.{nat_tests}
 use Rattle.arrayvec.specs.ArrayVec.{ArrayVec}
 use Rattle.usb_packet.specs.declared.Toggle.{Toggle}
@@ -19,7 +19,7 @@ use Rattle.usb_bus.specs.declared.types.Outcome.{Outcome}
 use Rattle.usb_bus.specs.declared.types.Outcome.TheVariants as outcome
 use Rattle.usb_bus.specs.World.{World, Made}
 use Rattle.usb_bus.specs.Steps.{attempt, after, outcome_in, damage_in}
-use Rattle.usb_bus.specs.Devices.{Relation, EachWas, Ways, DidIn}
+use Rattle.usb_bus.specs.Devices.{Relation, EachWas, DidIn}
 use Rattle.usb_bus.proofs.Booleans.{no}
 use Rattle.usb_bus.proofs.Devices.{each_wider, each_in}
 use Rattle.usb_transaction.specs.declared.target.Target.{Target}
@@ -207,10 +207,10 @@ module _ (t : Target) (toggle : Toggle) (old : World) (three : NoThreeDamaged ol
       let row : List PortState = row_of below in
       let f : OnlyChanges u v = subst (OnlyChanges u) (sym e) (only_changes u row t.max x.first x.second x.third r.tells) in
       let law : On toggle t.max (waits_in hear outcomes) u (Clear x.first x.second x.third) (in_law u row 1 t.max x.first x.second x.third) =
-              polled_law toggle t.max (waits_in hear outcomes) m u r.tells r.quiet row x.first x.second x.third in
+      polled_law toggle t.max (waits_in hear outcomes) m u r.tells r.quiet row x.first x.second x.third in
       let on : Polled toggle (waits_in hear outcomes) u (Clear x.first x.second x.third) (outcome_in a w) v =
-              subst (λ y. Polled toggle (waits_in hear outcomes) u (Clear x.first x.second x.third) y v) (sym o)
-              (subst (Polled toggle (waits_in hear outcomes) u (Clear x.first x.second x.third) (got t.max (in_law u row 1 t.max x.first x.second x.third).0)) (sym e) law) in
+      subst (λ y. Polled toggle (waits_in hear outcomes) u (Clear x.first x.second x.third) y v) (sym o)
+      (subst (Polled toggle (waits_in hear outcomes) u (Clear x.first x.second x.third) (got t.max (in_law u row 1 t.max x.first x.second x.third).0)) (sym e) law) in
       record {
         listens = listens_on t p u v (ap (λ y. y.spec) f) (ap (λ y. y.registers) f) r.listens;
         tells = still_tells u v f r.tells;

@@ -1,5 +1,5 @@
 -- How many attempts running were damaged, over the attempts of a transaction.
-use Rattle.std.proofs.Common.{◌≡◌, ◌≢◌, ℕ, zero, suc, ◌+◌, ◌-◌, ◌≤◌, ◌<◌, ◌==◌, ◌&&◌, ◌||◌, not, if◌then◌else◌, Bool, true, false, List, [], ◌∷◌, Option, None, Some, refl, sym, subst, ap, ◌∙◌, arith}
+use Rattle.std.proofs.Common.{◌≡◌, ◌≢◌, ℕ, zero, suc, ◌+◌, ◌-◌, ◌≤◌, ◌<◌, ◌==◌, ◌&&◌, ◌||◌, not, if◌then◌else◌, true, false, List, [], ◌∷◌, None, refl, sym, subst, ap, ◌∙◌, arith}
 use Rattle.usb_device.specs.Rows.{State}
 use Rattle.usb_device.specs.Attempt.{Way, whole}
 use Rattle.usb_bus.specs.declared.damage.Damage.{Damage}

@@ -1,5 +1,5 @@
 -- Why bulk OUT fails.
-use Rattle.std.proofs.Common.{◌≡◌, ℕ, ◌≤◌, nat_lt, if◌then◌else◌, Bool, true, false, List, [], ◌∷◌, length, Option, None, Some, Result, Ok, Err, refl, sym, subst, ap, ◌∙◌, arith}
+use Rattle.std.proofs.Common.{◌≡◌, ℕ, ◌≤◌, nat_lt, if◌then◌else◌, Bool, true, false, List, [], ◌∷◌, length, Option, None, Some, Result, refl, sym, subst, ap, ◌∙◌, arith}
 use Rattle.std.proofs.lemmas.Bool.Decides.{nat_tests}
 use Rattle.usb_packet.specs.declared.Toggle.{Toggle}
 use Rattle.usb_device.specs.declared.answer.Answer.{Answer}
@@ -12,14 +12,13 @@ use Rattle.usb_bus.specs.Passes.{IsSettled}
 use Rattle.usb_bus.specs.OneHolder.{got}
 use Rattle.usb_bus.specs.declared.types.Outcome.{Outcome}
 use Rattle.usb_bus.specs.World.{World, Made}
-use Rattle.usb_bus.specs.Steps.{attempt, after, outcome_in, damage_in}
-use Rattle.usb_bus.specs.Devices.{Relation, EachWas, Ways, DidOut}
+use Rattle.usb_bus.specs.Steps.{attempt, after, outcome_in}
+use Rattle.usb_bus.specs.Devices.{Relation, EachWas, DidOut}
 use Rattle.usb_bus.proofs.Booleans.{no}
 use Rattle.usb_bus.proofs.Devices.{each_wider, each_out}
 use Rattle.usb_transaction.specs.declared.target.Target.{Target}
 use Rattle.usb_transaction.specs.declared.heard.Heard.TheVariants.{Lost}
 use Rattle.usb_transaction.specs.declared.fault.TransFault.{TransFault}
-use Rattle.usb_transaction.specs.declared.fault.TransFault.TheVariants.{Busy, NoAnswer}
 use Rattle.usb_transaction.specs.Heard.{sent_as}
 use Rattle.usb_transaction.specs.Trail.{Trail, waits_with, waits_in, errors_running, Tells, Ended}
 use Rattle.usb_transaction.specs.Trans.{out_attempt}
@@ -105,8 +104,8 @@ module _ (t : Target) (ep : ℕ) (toggle : Toggle) (bytes : List ℕ) (old : Wor
       let a = out_attempt t ep toggle bytes in
       let f : OnlySink u v = subst (OnlySink u) (sym e) (sent ep most u r.sink toggle bytes x.first x.second x.third).frame in
       let waited : waits_with (sent_as (outcome_in a w)) (waits_in sent_as outcomes) ≡ waits_in sent_as outcomes =
-              ap (λ y. waits_with (sent_as y) (waits_in sent_as outcomes)) o
-              ∙ no_wait t.max (out_law u ep toggle bytes x.first x.second x.third).0 (waits_in sent_as outcomes) (law_sunk ep most u r.sink toggle bytes x.first x.second x.third) in
+      ap (λ y. waits_with (sent_as y) (waits_in sent_as outcomes)) o
+      ∙ no_wait t.max (out_law u ep toggle bytes x.first x.second x.third).0 (waits_in sent_as outcomes) (law_sunk ep most u r.sink toggle bytes x.first x.second x.third) in
       record {
         listens = listens_on t p u v (ap (λ y. y.spec) f) (ap (λ y. y.registers) f) r.listens;
         sink = sink_kept ep most u v f r.sink;

@@ -1,5 +1,5 @@
 -- Why bulk IN fails.
-use Rattle.std.proofs.Common.{◌≡◌, ◌≢◌, ◌⊎◌, inl, inr, ℕ, zero, suc, ◌+◌, ◌≤◌, ◌<◌, ◌==◌, nat_le, ◌&&◌, if◌then◌else◌, Bool, true, false, List, [], ◌∷◌, length, take, drop, Option, None, Some, Result, Ok, Err, refl, sym, subst, ap, ◌∙◌, arith, length-drop}
+use Rattle.std.proofs.Common.{◌≡◌, ℕ, ◌+◌, ◌≤◌, ◌<◌, ◌==◌, nat_le, ◌&&◌, if◌then◌else◌, Bool, true, false, List, [], ◌∷◌, length, take, Some, Result, Err, refl, sym, subst, ap, ◌∙◌, arith, length-drop}
 use Rattle.std.proofs.lemmas.List.{length-take}
 use Rattle.std.proofs.lemmas.Bool.Decides.{nat_tests}
 use Rattle.arrayvec.specs.ArrayVec.{ArrayVec}
@@ -20,15 +20,15 @@ use Rattle.usb_bus.specs.declared.types.Attempt.{Attempt}
 use Rattle.usb_bus.specs.declared.types.Outcome.{Outcome}
 use Rattle.usb_bus.specs.declared.types.Outcome.TheVariants as outcome
 use Rattle.usb_bus.specs.World.{World, Made}
-use Rattle.usb_bus.specs.Steps.{attempt, after, outcome_in, damage_in}
+use Rattle.usb_bus.specs.Steps.{attempt, after, outcome_in}
 use Rattle.usb_bus.specs.Devices.{Relation, EachWas, Ways, DidIn}
 use Rattle.usb_bus.proofs.Booleans.{no}
 use Rattle.usb_bus.proofs.Devices.{each_wider, each_in}
 use Rattle.usb_transaction.specs.declared.target.Target.{Target}
 use Rattle.usb_transaction.specs.declared.heard.Heard.{Heard}
-use Rattle.usb_transaction.specs.declared.heard.Heard.TheVariants.{Moved, NotReady, Repeat, Refused, Lost}
+use Rattle.usb_transaction.specs.declared.heard.Heard.TheVariants.{Moved, Repeat, Lost}
 use Rattle.usb_transaction.specs.declared.fault.TransFault.{TransFault}
-use Rattle.usb_transaction.specs.declared.fault.TransFault.TheVariants.{Busy, NoAnswer}
+use Rattle.usb_transaction.specs.declared.fault.TransFault.TheVariants.{Busy}
 use Rattle.usb_transaction.specs.Heard.{heard_as, same_toggle}
 use Rattle.usb_transaction.specs.Trail.{Trail, waits_with, waits_in, errors_running, IsNoEnd, Tells, Ended}
 use Rattle.usb_transaction.specs.Trans.{in_attempt}
@@ -196,7 +196,7 @@ module _ (t : Target) (ep : ℕ) (awaited : Toggle) (old : World) (three : NoThr
     after_even : u.place ≡ had → u.bulk_in.toggle ≡ awaited → n ≤ 3 → Next
     after_even g q few =
         let r : ((in_law u row ep t.max x.first x.second x.third).1 ≡ u) × (waits_with (hear (got t.max (in_law u row ep t.max x.first x.second x.third).0)) n ≡ n) =
-                even_law ep most t.max n u i row awaited q (subst (λ y. y < length u.spec.source) (sym g) left) x.first x.second x.third no_end in
+        even_law ep most t.max n u i row awaited q (subst (λ y. y < length u.spec.source) (sym g) left) x.first x.second x.third no_end in
         let stays : v ≡ u = e ∙ r.0 in
         let waited : waits_with (hear (outcome_in a w)) n ≡ n = ap (λ y. waits_with (hear y) n) o ∙ r.1 in
         even (ap (λ y. y.place) stays ∙ g) (ap (λ y. y.bulk_in.toggle) stays ∙ q) (subst (λ y. y ≤ 3) (sym waited) few)
