@@ -1,5 +1,6 @@
 -- A device over the attempts of a transaction where no three attempts running are damaged: what is so after each of them.
-use Rattle.std.proofs.Common.{◌≡◌, ◌≢◌, ℕ, zero, suc, ◌+◌, ◌<◌, ◌≤◌, List, [], ◌∷◌, Bool, true, false, if◌then◌else◌, Option, None, Some, refl, sym, subst, ap, ◌∙◌, arith}
+use Rattle.std.proofs.Common.{◌≡◌, ◌≢◌, ℕ, zero, suc, ◌+◌, ◌<◌, ◌≤◌, nat_lt, ◌||◌, List, [], ◌∷◌, Bool, true, false, if◌then◌else◌, Option, None, Some, refl, sym, subst, ap, ◌∙◌, arith}
+use Rattle.usb_device.specs.Rows.{State, is_busy}
 use Rattle.usb_bus.specs.declared.damage.Damage.{Damage}
 use Rattle.usb_bus.specs.declared.event.Event.{Event}
 use Rattle.usb_bus.specs.declared.types.Attempt.{Attempt}
@@ -111,6 +112,12 @@ each_along R S P {a} {old} none more does settled (next {outcomes = os} w t made
     (each_along R S P none more does settled t all.1 (made_unshared a w made single).before)
     (does w (made_of a w (trail_settled t settled) made) single)
 
+-- of any outcome
+pub each_any : (outcomes : List Outcome) → EachOf (λ o. Unit {0}) outcomes
+unfolding EachOf
+each_any [] = tt
+each_any (o ∷ outcomes) = (tt, each_any outcomes)
+
 -- and one attempt more, which is another
 pub each_along_then : (R T : Along) (S : World → Relation) (P Q : Outcome → Type 0) {a : Attempt} {old new : World} {last : Outcome} {outcomes : List Outcome} → Reflexive (R [] old) → Onward a old P R S R → Onward a old Q R S T → Does a S
     → IsSettled old.roots → Trail a old (last ∷ outcomes) new → EachOf P outcomes → Q last → new.shared ≡ false → EachWas (T (last ∷ outcomes) new) old new
@@ -118,3 +125,20 @@ each_along_then R T S P Q {a} {old} none more final does settled (next {outcomes
     each_joined (R os w) (S w) (T (outcome_in a w ∷ os) (after (attempt a) w)) (final os w t made is) old w (after (attempt a) w)
     (each_along R S P none more does settled t all (made_unshared a w made single).before)
     (does w (made_of a w (trail_settled t settled) made) single)
+
+-- Busy devices
+
+more_than_none : (n : ℕ) → nat_lt 0 n ≡ true → 0 < n
+more_than_none zero e = cc e
+more_than_none (suc n) e = omega arith
+
+-- one that is busy, and not by its description, has a NAK left to give
+pub positive : (s : State) → is_busy s ≡ true → s.spec.busy ≡ false → 0 < s.naks
+positive s busy calm = more_than_none s.naks (sym (ap (λ b. b || nat_lt 0 s.naks) calm) ∙ busy)
+
+first_false : (x y : Bool) → x || y ≡ false → x ≡ false
+first_false true y e = cc e
+first_false false y e = refl
+
+pub not_busy : (s : State) → is_busy s ≡ false → s.spec.busy ≡ false
+not_busy s e = first_false s.spec.busy (nat_lt 0 s.naks) e
