@@ -1,5 +1,5 @@
 -- Why a poll of a hub's status endpoint fails (11.12.3).
-use Rattle.std.proofs.Common.{◌≡◌, ◌≢◌, ℕ, ◌+◌, ◌≤◌, ◌==◌, nat_le, ◌&&◌, if◌then◌else◌, Bool, true, false, List, [], ◌∷◌, Option, None, Some, Err, refl, sym, subst, ap, ◌∙◌, arith}
+use Rattle.std.proofs.Common.{◌≡◌, ◌≢◌, ℕ, ◌+◌, ◌<◌, ◌≤◌, ◌==◌, nat_le, ◌&&◌, if◌then◌else◌, Bool, true, false, List, [], ◌∷◌, Option, None, Some, Err, refl, sym, subst, ap, ◌∙◌, arith}
 use Rattle.std.proofs.lemmas.Bool.Decides.{nat_tests}
 use Rattle.arrayvec.specs.ArrayVec.{ArrayVec}
 use Rattle.usb_packet.specs.declared.Toggle.{Toggle}
@@ -33,8 +33,9 @@ use Rattle.usb_transaction.specs.Trans.{in_attempt}
 use Rattle.usb_transaction.specs.Why.{NoThreeDamaged, Listens, WhyPoll}
 use Rattle.usb_transaction.proofs.Overs.{EachOf, none_ends_a_poll, last_is}
 use Rattle.usb_transaction.proofs.OverPoll.{law_is, only_changes, still_tells}
-use Rattle.usb_transaction.proofs.WhyRuns.{Ran, ran_none, ran_on, ran_three, ran_errors, one_wait, each_counted, listens_on, two_at_most}
 use Rattle.usb_transaction.proofs.WhySource.{data_heard, same_self}
+use Rattle.usb_transaction.proofs.WhyCommon.{LostRun, run_none, run_short, lost_more, damaged_more, each_along, each_any}
+use Rattle.usb_transaction.proofs.WhyListens.{one_wait, listens_on}
 
 -- What one attempt leaves of an endpoint that is not halted
 
@@ -155,13 +156,13 @@ module _ (t : Target) (toggle : Toggle) (old : World) (three : NoThreeDamaged ol
   -- it is level, or it is behind, and then all attempts were damaged
   data Stands (n : ℕ) (w : World) (u : State) : Type 0 where
     even : u.changes.toggle ≡ toggle → n ≤ 3 → Stands n w u
-    behind : u.changes.toggle ≡ other toggle → (k : ℕ) → Ran old.damages w.attempts k → n ≤ k → Stands n w u
+    behind : u.changes.toggle ≡ other toggle → (k : ℕ) → LostRun old.damages k w.attempts → n ≤ k → Stands n w u
 
   record Runs (outcomes : List Outcome) (w : World) (p : List ℕ) (u : State) : Type 0 where
     listens : Listens t p u
     tells : tells_changes u.spec u.registers ≡ true
     quiet : u.changes.halted ≡ false
-    runs : Ran old.damages w.attempts (errors_running hear outcomes)
+    runs : LostRun old.damages (errors_running hear outcomes) w.attempts
     unstalled : EachOf (λ o. o ≡ outcome.Stall → ⊥) outcomes
     stands : EachOf (GoesOnBy toggle) outcomes → Stands (waits_in hear outcomes) w u
 
@@ -171,11 +172,11 @@ module _ (t : Target) (toggle : Toggle) (old : World) (three : NoThreeDamaged ol
   first_stands : (s : State) → PollAt NeverTold toggle s → Stands 0 old s
   first_stands s (level h q) = even q (omega arith)
   first_stands s (told bits so h q) = elim so [ ]
-  first_stands s (ahead bits h q) = behind q 0 (ran_none old.damages old.attempts) (omega arith)
+  first_stands s (ahead bits h q) = behind q 0 (run_none old.damages old.attempts) (omega arith)
 
   none_yet : (j : ℕ) (p : List ℕ) (s : State) → Counted [] old j p s s
   unfolding waits_in errors_running EachOf
-  none_yet j p s l h at q = record { listens = l; tells = h; quiet = q; runs = ran_none old.damages old.attempts; unstalled = tt; stands = λ ends. first_stands s at }
+  none_yet j p s l h at q = record { listens = l; tells = h; quiet = q; runs = run_none old.damages old.attempts; unstalled = tt; stands = λ ends. first_stands s at }
 
   module _ (outcomes : List Outcome) (w : World) (trail : Trail a old outcomes w) (made : Made w (after (attempt a) w)) (u v : State) (C : Type 0) (n : ℕ)
       (clear : damage_in w ≡ None → C) (x : Polled toggle n u C (outcome_in a w) v) (z : GoesOnBy toggle (outcome_in a w)) where
@@ -191,11 +192,11 @@ module _ (t : Target) (toggle : Toggle) (old : World) (three : NoThreeDamaged ol
         one : waits_with (hear (outcome_in a w)) n ≤ n + 1
         one = one_wait (hear (outcome_in a w)) n
 
-        two : k ≤ 2
-        two = two_at_most old w.attempts k three ran
+        two : k < 3
+        two = run_short old k w.attempts three ran
 
         pick : Caught toggle u v C → Next
-        pick (same e c) = behind (e ∙ q) (k + 1) (ran_on w k trail made ran (λ h. c (clear h))) (omega (arith, one, few))
+        pick (same e c) = behind (e ∙ q) (k + 1) (damaged_more k trail made (λ h. c (clear h)) ran) (omega (arith, one, few))
         pick (caught e) = even e (omega (arith, one, few, two))
 
   one_more : (outcomes : List Outcome) (w : World) → Trail a old outcomes w → Made w (after (attempt a) w) → (j : ℕ) (p : List ℕ) (u v : State) → Runs outcomes w p u → DidIn a w j p u v
@@ -215,22 +216,22 @@ module _ (t : Target) (toggle : Toggle) (old : World) (three : NoThreeDamaged ol
         listens = listens_on t p u v (ap (λ y. y.spec) f) (ap (λ y. y.registers) f) r.listens;
         tells = still_tells u v f r.tells;
         quiet = on.quiet ∙ r.quiet;
-        runs = ran_errors hear w trail made r.runs (λ n lost_it. on.heard_it (x.heard n r.listens.hears) lost_it);
+        runs = lost_more hear trail made (λ n lost_it. on.heard_it (x.heard n r.listens.hears) lost_it) r.runs;
         unstalled = (on.unstalled, r.unstalled);
         stands = λ ends.
             next_stands outcomes w trail made u v (Clear x.first x.second x.third) (waits_in hear outcomes) (λ n. x.heard n r.listens.hears) on ends.0 (r.stands ends.1);
       }
 
   each_runs : IsSettled old.roots → {outcomes : List Outcome} {new : World} → Trail a old outcomes new → new.shared ≡ false → EachWas (Counted outcomes new) old new
-  each_runs settled trail single =
-      each_counted Counted (λ w. DidIn a w) a old none_yet
-      (λ outcomes w trail' made j p s u v q d l h at quiet. one_more outcomes w trail' made j p u v (q l h at quiet) d)
+  each_runs settled {outcomes} trail single =
+      each_along Counted (λ w. DidIn a w) (λ o. Unit {0}) none_yet
+      (λ outcomes w trail' made so j p s u v q d l h at quiet. one_more outcomes w trail' made j p u v (q l h at quiet) d)
       (λ w made one. each_in a w made (record { kind = refl; payload = refl }) one)
-      settled trail single
+      settled trail (each_any outcomes) single
 
   never_waits : (n : ℕ) (w : World) (u : State) → Stands n w u → n ≡ 256 → ⊥
   never_waits n w u (even q few) e = absurd (omega (arith, few, e))
-  never_waits n w u (behind q k ran few) e = ran_three old w.attempts k three ran (omega (arith, few, e))
+  never_waits n w u (behind q k ran few) e = absurd (omega (arith, few, e, run_short old k w.attempts three ran))
 
   never_fails : (fault : TransFault) (new : World) (e : PollEnded toggle a old (Err fault) new) (p : List ℕ) (v : State) → Runs (e.last ∷ e.outcomes) new p v
       → Tells hear (Err fault) e.last e.outcomes → ⊥
@@ -239,7 +240,7 @@ module _ (t : Target) (toggle : Toggle) (old : World) (three : NoThreeDamaged ol
   never_fails Busy new e p v r is =
       never_waits (waits_in hear (e.last ∷ e.outcomes)) new v
       (r.stands ((last_is hear (Err Busy) e.last e.outcomes e.onward is, e.no_nak.0), none_ends_a_poll hear e.outcomes e.onward e.no_nak.1)) is
-  never_fails NoAnswer new e p v r is = ran_three old new.attempts (errors_running hear (e.last ∷ e.outcomes)) three r.runs (omega (arith, is))
+  never_fails NoAnswer new e p v r is = absurd (omega (arith, is, run_short old (errors_running hear (e.last ∷ e.outcomes)) new.attempts three r.runs))
   never_fails (Bus fault) new e p v r is = is
 
 pub poll_why : (t : Target) (toggle : Toggle) (fault : TransFault) (old new : World) → 1 ≤ t.max → IsSettled old.roots → NoThreeDamaged old

@@ -1,5 +1,5 @@
 -- Why bulk OUT fails.
-use Rattle.std.proofs.Common.{◌≡◌, ℕ, ◌≤◌, nat_lt, if◌then◌else◌, Bool, true, false, List, [], ◌∷◌, length, Option, None, Some, Result, refl, sym, subst, ap, ◌∙◌, arith}
+use Rattle.std.proofs.Common.{◌≡◌, ℕ, ◌<◌, ◌≤◌, nat_lt, if◌then◌else◌, Bool, true, false, List, [], ◌∷◌, length, Option, None, Some, Result, refl, sym, subst, ap, ◌∙◌, arith}
 use Rattle.std.proofs.lemmas.Bool.Decides.{nat_tests}
 use Rattle.usb_packet.specs.declared.Toggle.{Toggle}
 use Rattle.usb_device.specs.declared.answer.Answer.{Answer}
@@ -24,7 +24,8 @@ use Rattle.usb_transaction.specs.Trail.{Trail, waits_with, waits_in, errors_runn
 use Rattle.usb_transaction.specs.Trans.{out_attempt}
 use Rattle.usb_transaction.specs.Why.{NoThreeDamaged, Listens, WhySinkOut}
 use Rattle.usb_transaction.proofs.OverSink.{row_is, sent, sink_kept}
-use Rattle.usb_transaction.proofs.WhyRuns.{Ran, ran_none, ran_three, ran_errors, each_counted, listens_on, as_whole}
+use Rattle.usb_transaction.proofs.WhyCommon.{LostRun, run_none, run_short, lost_more, each_along, each_any}
+use Rattle.usb_transaction.proofs.WhyListens.{listens_on, as_whole}
 
 -- What the endpoint answers: never NAK, and no data
 
@@ -85,14 +86,14 @@ module _ (t : Target) (ep : ℕ) (toggle : Toggle) (bytes : List ℕ) (old : Wor
     listens : Listens t p u
     sink : IsSink ep most u
     waits : waits_in sent_as outcomes ≡ 0
-    runs : length bytes ≤ most → Ran old.damages w.attempts (errors_running sent_as outcomes)
+    runs : length bytes ≤ most → LostRun old.damages (errors_running sent_as outcomes) w.attempts
 
   abbrev Counted : List Outcome → World → Relation
   Counted outcomes w j p s u = (most : ℕ) → Listens t p s → IsSink ep most s → Runs most outcomes w p u
 
   none_yet : (j : ℕ) (p : List ℕ) (s : State) → Counted [] old j p s s
   unfolding waits_in errors_running
-  none_yet j p s most l i = record { listens = l; sink = i; waits = refl; runs = λ fits. ran_none old.damages old.attempts }
+  none_yet j p s most l i = record { listens = l; sink = i; waits = refl; runs = λ fits. run_none old.damages old.attempts }
 
   one_more : (outcomes : List Outcome) (w : World) → Trail (out_attempt t ep toggle bytes) old outcomes w → Made w (after (attempt (out_attempt t ep toggle bytes)) w)
       → (most j : ℕ) (p : List ℕ) (u v : State) → Runs most outcomes w p u → DidOut (out_attempt t ep toggle bytes) toggle bytes w j p u v
@@ -111,19 +112,20 @@ module _ (t : Target) (ep : ℕ) (toggle : Toggle) (bytes : List ℕ) (old : Wor
         sink = sink_kept ep most u v f r.sink;
         waits = waited ∙ r.waits;
         runs = λ fits.
-            ran_errors sent_as w trail made (r.runs fits)
+            lost_more sent_as trail made
             (λ n lost_it.
             law_heard ep most t.max u r.sink toggle bytes fits
-            (sym (ap (λ y. sent_as (got t.max y.0)) (as_whole (out_law u ep toggle bytes) x.first x.second x.third (x.heard n r.listens.hears))) ∙ sym (ap sent_as o) ∙ lost_it));
+            (sym (ap (λ y. sent_as (got t.max y.0)) (as_whole (out_law u ep toggle bytes) x.first x.second x.third (x.heard n r.listens.hears))) ∙ sym (ap sent_as o) ∙ lost_it))
+            (r.runs fits);
       }
 
   each_runs : IsSettled old.roots → {outcomes : List Outcome} {new : World} → Trail (out_attempt t ep toggle bytes) old outcomes new → new.shared ≡ false → EachWas (Counted outcomes new) old new
-  each_runs settled trail single =
+  each_runs settled {outcomes} trail single =
       let a = out_attempt t ep toggle bytes in
-      each_counted Counted (λ w. DidOut a toggle bytes w) a old none_yet
-      (λ outcomes w trail' made j p s u v q d most l i. one_more outcomes w trail' made most j p u v (q most l i) d)
+      each_along Counted (λ w. DidOut a toggle bytes w) (λ o. Unit {0}) none_yet
+      (λ outcomes w trail' made so j p s u v q d most l i. one_more outcomes w trail' made most j p u v (q most l i) d)
       (λ w made one. each_out a w toggle bytes made (record { kind = refl; payload = refl }) one)
-      settled trail single
+      settled trail (each_any outcomes) single
 
 pub sink_why : (t : Target) (ep : ℕ) (toggle : Toggle) (bytes : List ℕ) (result : Result (List ℕ) TransFault) (old new : World) → IsSettled old.roots → NoThreeDamaged old
     → Ended sent_as (out_attempt t ep toggle bytes) old result new → new.shared ≡ false → EachWas (WhySinkOut t ep toggle bytes result) old new
@@ -132,7 +134,8 @@ sink_why t ep toggle bytes result old new settled three e single =
     (λ j p s v q. record {
       answered = λ l most i fits h.
           let errors : errors_running sent_as (e.last ∷ e.outcomes) ≡ 3 = subst (λ x. Tells sent_as x e.last e.outcomes) h e.tells in
-          ran_three old new.attempts (errors_running sent_as (e.last ∷ e.outcomes)) three ((q most l i).runs fits) (omega (arith, errors));
+          let few : errors_running sent_as (e.last ∷ e.outcomes) < 3 = run_short old (errors_running sent_as (e.last ∷ e.outcomes)) new.attempts three ((q most l i).runs fits) in
+          absurd (omega (arith, errors, few));
       waited = λ l most i h.
           let waits : waits_in sent_as (e.last ∷ e.outcomes) ≡ 256 = subst (λ x. Tells sent_as x e.last e.outcomes) h e.tells in
           let none_waited : waits_in sent_as (e.last ∷ e.outcomes) ≡ 0 = (q most l i).waits in

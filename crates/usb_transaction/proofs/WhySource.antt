@@ -35,7 +35,8 @@ use Rattle.usb_transaction.specs.Trans.{in_attempt}
 use Rattle.usb_transaction.specs.Why.{NoThreeDamaged, Listens, WhySourceIn}
 use Rattle.usb_transaction.proofs.Overs.{EachOf, none_ends, last_is}
 use Rattle.usb_transaction.proofs.OverSource.{law_is, given, source_kept}
-use Rattle.usb_transaction.proofs.WhyRuns.{Ran, ran_none, ran_on, ran_three, ran_errors, one_wait, each_counted, listens_on, as_whole, two_at_most}
+use Rattle.usb_transaction.proofs.WhyCommon.{LostRun, run_none, run_short, lost_more, damaged_more, each_along, each_any}
+use Rattle.usb_transaction.proofs.WhyListens.{one_wait, listens_on, as_whole}
 
 -- Packets that come whole are answered
 
@@ -163,13 +164,13 @@ module _ (t : Target) (ep : ℕ) (awaited : Toggle) (old : World) (three : NoThr
   data Stands (most had n : ℕ) (w : World) (u : State) : Type 0 where
     even : u.place ≡ had → u.bulk_in.toggle ≡ awaited → n ≤ 3 → Stands most had n w u
     behind : had ≡ advanced u.place most (length u.spec.source) → u.place < length u.spec.source → u.bulk_in.toggle ≡ other awaited
-        → (m : ℕ) → Ran old.damages w.attempts m → n ≤ m → Stands most had n w u
+        → (m : ℕ) → LostRun old.damages m w.attempts → n ≤ m → Stands most had n w u
 
   record Runs (most : ℕ) (s : State) (outcomes : List Outcome) (w : World) (p : List ℕ) (u : State) : Type 0 where
     listens : Listens t p u
     source : IsSource ep most u
     bytes : u.spec ≡ s.spec
-    runs : most ≤ t.max → Ran old.damages w.attempts (errors_running hear outcomes)
+    runs : most ≤ t.max → LostRun old.damages (errors_running hear outcomes) w.attempts
     stands : (had : ℕ) → SourceAt most had awaited s → most ≤ t.max → had < length s.spec.source → EachOf (λ o. IsNoEnd (hear o)) outcomes → Stands most had (waits_in hear outcomes) w u
 
   abbrev Counted : List Outcome → World → Relation
@@ -177,11 +178,11 @@ module _ (t : Target) (ep : ℕ) (awaited : Toggle) (old : World) (three : NoThr
 
   first_stands : (most had : ℕ) (s : State) → SourceAt most had awaited s → Stands most had 0 old s
   first_stands most had s (level g q) = even g q (omega arith)
-  first_stands most had s (ahead g p q) = behind g p q 0 (ran_none old.damages old.attempts) (omega arith)
+  first_stands most had s (ahead g p q) = behind g p q 0 (run_none old.damages old.attempts) (omega arith)
 
   none_yet : (j : ℕ) (p : List ℕ) (s : State) → Counted [] old j p s s
   unfolding waits_in errors_running
-  none_yet j p s most l i = record { listens = l; source = i; bytes = refl; runs = λ m. ran_none old.damages old.attempts; stands = λ had at m left ends. first_stands most had s at }
+  none_yet j p s most l i = record { listens = l; source = i; bytes = refl; runs = λ m. run_none old.damages old.attempts; stands = λ had at m left ends. first_stands most had s at }
 
   module _ (outcomes : List Outcome) (w : World) (trail : Trail a old outcomes w) (made : Made w (after (attempt a) w)) (p : List ℕ) (most : ℕ) (m : most ≤ t.max)
       (s u v : State) (row : List PortState) (x : Ways a w p u) (o : outcome_in a w ≡ got t.max (in_law u row ep t.max x.first x.second x.third).0)
@@ -202,20 +203,20 @@ module _ (t : Target) (ep : ℕ) (awaited : Toggle) (old : World) (three : NoThr
         even (ap (λ y. y.place) stays ∙ g) (ap (λ y. y.bulk_in.toggle) stays ∙ q) (subst (λ y. y ≤ 3) (sym waited) few)
 
     after_behind : had ≡ advanced u.place most (length u.spec.source) → u.place < length u.spec.source → u.bulk_in.toggle ≡ other awaited
-        → (k : ℕ) → Ran old.damages w.attempts k → n ≤ k → Next
+        → (k : ℕ) → LostRun old.damages k w.attempts → n ≤ k → Next
     after_behind g q b k ran few = pick (caught_law ep most had t.max u i row awaited g b q m x.first x.second x.third no_end)
       where
         one : waits_with (hear (outcome_in a w)) n ≤ n + 1
         one = one_wait (hear (outcome_in a w)) n
 
-        two : k ≤ 2
-        two = two_at_most old w.attempts k three ran
+        two : k < 3
+        two = run_short old k w.attempts three ran
 
         pick : Caught awaited had u (in_law u row ep t.max x.first x.second x.third).1 (Clear x.first x.second x.third) → Next
         pick (same d c) =
             let stays : v ≡ u = e ∙ d in
             behind (subst (λ y. had ≡ advanced y.place most (length y.spec.source)) (sym stays) g) (subst (λ y. y.place < length y.spec.source) (sym stays) q)
-            (ap (λ y. y.bulk_in.toggle) stays ∙ b) (k + 1) (ran_on w k trail made ran (λ h. c (x.heard h listens.hears))) (omega (arith, one, few))
+            (ap (λ y. y.bulk_in.toggle) stays ∙ b) (k + 1) (damaged_more k trail made (λ h. c (x.heard h listens.hears)) ran) (omega (arith, one, few))
         pick (caught d c) = even (ap (λ y. y.place) e ∙ d) (ap (λ y. y.bulk_in.toggle) e ∙ c) (omega (arith, one, few, two))
 
     next_stands : Stands most had n w u → Next
@@ -236,25 +237,26 @@ module _ (t : Target) (ep : ℕ) (awaited : Toggle) (old : World) (three : NoThr
         source = source_kept ep most u v f r.source;
         bytes = ap (λ y. y.spec) f ∙ bytes;
         runs = λ m.
-            ran_errors hear w trail made (r.runs m)
+            lost_more hear trail made
             (λ n lost_it.
             law_heard ep most t.max u r.source row awaited m
-            (sym (ap (λ y. hear (got t.max y.0)) (as_whole (in_law u row ep t.max) x.first x.second x.third (x.heard n r.listens.hears))) ∙ sym (ap hear o) ∙ lost_it));
+            (sym (ap (λ y. hear (got t.max y.0)) (as_whole (in_law u row ep t.max) x.first x.second x.third (x.heard n r.listens.hears))) ∙ sym (ap hear o) ∙ lost_it))
+            (r.runs m);
         stands = λ had at m left ends.
             next_stands outcomes w trail made p most m s u v row x o e r.listens r.source had (subst (λ y. had < length y.source) (sym bytes) left) ends.0 (waits_in hear outcomes)
             (r.stands had at m left ends.1);
       }
 
   each_runs : IsSettled old.roots → {outcomes : List Outcome} {new : World} → Trail a old outcomes new → new.shared ≡ false → EachWas (Counted outcomes new) old new
-  each_runs settled trail single =
-      each_counted Counted (λ w. DidIn a w) a old none_yet
-      (λ outcomes w trail' made j p s u v q d most l i. one_more outcomes w trail' made most j p s u v (q most l i) d)
+  each_runs settled {outcomes} trail single =
+      each_along Counted (λ w. DidIn a w) (λ o. Unit {0}) none_yet
+      (λ outcomes w trail' made so j p s u v q d most l i. one_more outcomes w trail' made most j p s u v (q most l i) d)
       (λ w made one. each_in a w made (record { kind = refl; payload = refl }) one)
-      settled trail single
+      settled trail (each_any outcomes) single
 
   never_waits : (most had n : ℕ) (w : World) (u : State) → Stands most had n w u → n ≡ 256 → ⊥
   never_waits most had n w u (even g q few) e = absurd (omega (arith, few, e))
-  never_waits most had n w u (behind g p q m ran few) e = ran_three old w.attempts m three ran (omega (arith, few, e))
+  never_waits most had n w u (behind g p q m ran few) e = absurd (omega (arith, few, e, run_short old m w.attempts three ran))
 
 pub source_why : (t : Target) (ep : ℕ) (awaited : Toggle) (result : Result (List ℕ) TransFault) (old new : World) → IsSettled old.roots → NoThreeDamaged old
     → Ended (heard_as awaited) (in_attempt t ep) old result new → new.shared ≡ false → EachWas (WhySourceIn t ep awaited result) old new
@@ -265,7 +267,8 @@ source_why t ep awaited result old new settled three e single =
     (λ j p s v q. record {
       answered = λ l most had i at m h.
           let errors : errors_running hear (e.last ∷ e.outcomes) ≡ 3 = subst (λ x. Tells hear x e.last e.outcomes) h e.tells in
-          ran_three old new.attempts (errors_running hear (e.last ∷ e.outcomes)) three ((q most l i).runs m) (omega (arith, errors));
+          let short_run : errors_running hear (e.last ∷ e.outcomes) < 3 = run_short old (errors_running hear (e.last ∷ e.outcomes)) new.attempts three ((q most l i).runs m) in
+          absurd (omega (arith, errors, short_run));
       waited = λ l most had i one at m left h.
           let tells : Tells hear (Err Busy) e.last e.outcomes = subst (λ x. Tells hear x e.last e.outcomes) h e.tells in
           never_waits t ep awaited old three most had (waits_in hear (e.last ∷ e.outcomes)) new v
