@@ -1,5 +1,5 @@
 -- A bulk OUT endpoint over the attempts of a transaction.
-use Rattle.std.proofs.Common.{◌≡◌, ℕ, zero, suc, ◌≤◌, ◌==◌, ◌++◌, nat_lt, if◌then◌else◌, Bool, true, false, List, [], ◌∷◌, length, Option, None, Some, Result, Ok, Err, refl, ap, sym, subst, ◌∙◌}
+use Rattle.std.proofs.Common.{◌≡◌, ℕ, zero, suc, ◌++◌, nat_lt, if◌then◌else◌, Bool, true, false, List, [], ◌∷◌, length, Option, None, Some, Result, Ok, Err, refl, ap, sym, subst, ◌∙◌}
 use Rattle.std.proofs.lemmas.Option.{same_Some}
 use Rattle.usb_packet.specs.declared.Toggle.{Toggle}
 use Rattle.usb_packet.specs.declared.Toggle.TheVariants.{Zero, One}
@@ -29,7 +29,7 @@ use Rattle.usb_transaction.specs.declared.heard.Heard.TheVariants.{Moved, NotRea
 use Rattle.usb_transaction.specs.declared.fault.TransFault.{TransFault}
 use Rattle.usb_transaction.specs.declared.fault.TransFault.TheVariants.{Stalled, Busy, NoAnswer, Bus}
 use Rattle.usb_transaction.specs.Heard.{sent_as}
-use Rattle.usb_transaction.specs.Trail.{Trail, IsNoEnd, Ended}
+use Rattle.usb_transaction.specs.Trail.{IsNoEnd, Ended}
 use Rattle.usb_transaction.specs.Trans.{packet_of, out_attempt}
 use Rattle.usb_transaction.specs.Over.{is_at, SinkEnds, SinkOut}
 use Rattle.usb_transaction.proofs.Lasts.{sent_last}
@@ -302,4 +302,3 @@ sink_over t ep toggle bytes result old new settled e single =
     each_step t ep toggle bytes (λ before x. SinkEnds before bytes toggle result x) (Oks result) w made one
     (λ before v. last_ends before bytes toggle result (outcome_in (out_attempt t ep toggle bytes) w) l v) (last_ack result (outcome_in (out_attempt t ep toggle bytes) w) l))
     settled e single
-

@@ -1,6 +1,5 @@
 -- A bulk IN endpoint over the attempts of a transaction.
-use Rattle.std.proofs.Common.{◌≡◌, ℕ, ◌+◌, ◌≤◌, ◌==◌, ◌&&◌, nat_le, if◌then◌else◌, Bool, true, false, List, [], length, take, drop, Option, None, Some, Result, Ok, Err, refl, ap, sym, subst, ◌∙◌}
-use Rattle.arrayvec.specs.ArrayVec.{ArrayVec}
+use Rattle.std.proofs.Common.{◌≡◌, ℕ, ◌≤◌, ◌==◌, ◌&&◌, nat_le, if◌then◌else◌, Bool, true, false, List, length, take, drop, Option, None, Some, Result, Ok, Err, refl, ap, sym, subst, ◌∙◌}
 use Rattle.usb_packet.specs.declared.Toggle.{Toggle}
 use Rattle.usb_packet.specs.declared.Toggle.TheVariants.{Zero, One}
 use Rattle.usb_port.specs.PortState.{PortState}
@@ -14,15 +13,13 @@ use Rattle.usb_device.specs.Tree.{row_of}
 use Rattle.usb_device.specs.Progress.{taken_of, IsSource, SourceAt, SourceOn, OnlySource}
 use Rattle.usb_device.proofs.Attempts.{same_number}
 use Rattle.usb_device.proofs.BulkProgress.{source_on}
-use Rattle.usb_bus.specs.declared.types.Attempt.{Attempt}
 use Rattle.usb_bus.specs.declared.types.Outcome.{Outcome}
 use Rattle.usb_bus.specs.declared.types.Outcome.TheVariants as outcome
-use Rattle.usb_bus.specs.Live.{address_of}
 use Rattle.usb_bus.specs.Passes.{IsSettled}
 use Rattle.usb_bus.specs.OneHolder.{IsMade, got}
 use Rattle.usb_bus.specs.World.{World}
 use Rattle.usb_bus.specs.Steps.{attempt, after, outcome_in}
-use Rattle.usb_bus.specs.Devices.{Relation, EachWas, DidIn}
+use Rattle.usb_bus.specs.Devices.{EachWas, DidIn}
 use Rattle.usb_bus.proofs.Booleans.{no}
 use Rattle.usb_bus.proofs.Devices.{each_wider, each_in}
 use Rattle.usb_transaction.specs.declared.target.Target.{Target}
@@ -31,11 +28,11 @@ use Rattle.usb_transaction.specs.declared.heard.Heard.TheVariants.{Moved, NotRea
 use Rattle.usb_transaction.specs.declared.fault.TransFault.{TransFault}
 use Rattle.usb_transaction.specs.declared.fault.TransFault.TheVariants.{Stalled, Busy, NoAnswer, Bus}
 use Rattle.usb_transaction.specs.Heard.{heard_as}
-use Rattle.usb_transaction.specs.Trail.{Trail, IsNoEnd, Ended}
-use Rattle.usb_transaction.specs.Trans.{packet_of, in_attempt}
+use Rattle.usb_transaction.specs.Trail.{IsNoEnd, Ended}
+use Rattle.usb_transaction.specs.Trans.{in_attempt}
 use Rattle.usb_transaction.specs.Over.{packet_in, is_at, SourceIn}
 use Rattle.usb_transaction.proofs.Meanings.{got_stall}
-use Rattle.usb_transaction.proofs.Overs.{Reflexive, Composes, StepsSo, LastIs, each_ended}
+use Rattle.usb_transaction.proofs.Overs.{Composes, LastIs, each_ended}
 
 -- What IN of the endpoint leaves, whatever is lost
 
@@ -268,4 +265,3 @@ source_over t ep awaited result old new settled e single =
     (λ outcomes w trail made one l.
     each_step t ep awaited (packet_in result) (result ≡ Err Stalled) w made one (last_packet awaited result (outcome_in (in_attempt t ep) w) l) (last_stall awaited result (outcome_in (in_attempt t ep) w) l))
     settled e single
-
