@@ -248,15 +248,15 @@ left_in awaited max s row lost t2 t3 = still awaited max s s None refl refl refl
 
 -- Attempts that bring nothing
 
-record Kept (t : Target) (awaited : Toggle) (j : ℕ) (p : List ℕ) (s v : State) : Type 0 where
-  others : is_at s t ≡ false → v ≡ s
-  frame : OnlyControl s v
-  reads : (answer : List ℕ) (wanted n : ℕ) → awaited ≡ toggle_at n → ReadingAt answer wanted n s → ReadingAt answer wanted n v × (v.registers ≡ s.registers)
-  ends : awaited ≡ One → (a : Option ℕ) → s.stage ≡ ending a → v.stage ≡ ending a
-  refuses : s.stage ≡ refused → (v.stage ≡ refused) × (v.registers ≡ s.registers)
-  fails : awaited ≡ One → v.registers ≡ s.registers
+pub record Kept (t : Target) (awaited : Toggle) (j : ℕ) (p : List ℕ) (s v : State) : Type 0 where
+  pub others : is_at s t ≡ false → v ≡ s
+  pub frame : OnlyControl s v
+  pub reads : (answer : List ℕ) (wanted n : ℕ) → awaited ≡ toggle_at n → ReadingAt answer wanted n s → ReadingAt answer wanted n v × (v.registers ≡ s.registers)
+  pub ends : awaited ≡ One → (a : Option ℕ) → s.stage ≡ ending a → v.stage ≡ ending a
+  pub refuses : s.stage ≡ refused → (v.stage ≡ refused) × (v.registers ≡ s.registers)
+  pub fails : awaited ≡ One → v.registers ≡ s.registers
 
-kept_none : (t : Target) (awaited : Toggle) (j : ℕ) (p : List ℕ) (s : State) → Kept t awaited j p s s
+pub kept_none : (t : Target) (awaited : Toggle) (j : ℕ) (p : List ℕ) (s : State) → Kept t awaited j p s s
 kept_none t awaited j p s = record {
   others = λ h. refl;
   frame = refl;
@@ -269,7 +269,7 @@ kept_none t awaited j p s = record {
 only_twice : (s u v : State) → OnlyControl s u → OnlyControl u v → OnlyControl s v
 only_twice s u v f g = g ∙ ap {A = State} (λ x. record x { memory = v.memory; naks = v.naks; stage = v.stage; registers = v.registers }) f
 
-kept_twice : (t : Target) (awaited : Toggle) (j : ℕ) (p : List ℕ) (s u v : State) → Kept t awaited j p s u → Kept t awaited j p u v → Kept t awaited j p s v
+pub kept_twice : (t : Target) (awaited : Toggle) (j : ℕ) (p : List ℕ) (s u v : State) → Kept t awaited j p s u → Kept t awaited j p u v → Kept t awaited j p s v
 kept_twice t awaited j p s u v x y = record {
   others = other_twice t s u v x.others y.others;
   frame = only_twice s u v x.frame y.frame;
@@ -298,7 +298,7 @@ kept_asked t awaited j p s row t1 t2 t3 at none =
       fails = λ e. l.fails e none;
     }
 
-kept_did : (t : Target) (awaited : Toggle) (w : World) → IsNoEnd (heard_as awaited (outcome_in (in_attempt t 0) w)) → (j : ℕ) (p : List ℕ) (s v : State) → DidIn (in_attempt t 0) w j p s v → Kept t awaited j p s v
+pub kept_did : (t : Target) (awaited : Toggle) (w : World) → IsNoEnd (heard_as awaited (outcome_in (in_attempt t 0) w)) → (j : ℕ) (p : List ℕ) (s v : State) → DidIn (in_attempt t 0) w j p s v → Kept t awaited j p s v
 kept_did t awaited w c j p s v (DidIn.other d e) = subst (λ x. Kept t awaited j p s x) (sym e) (kept_none t awaited j p s)
 kept_did t awaited w c j p s v (DidIn.silent d q o e) = subst (λ x. Kept t awaited j p s x) (sym e) (kept_none t awaited j p s)
 kept_did t awaited w c j p s v (DidIn.asked d q b below h x o e) =

@@ -36,7 +36,7 @@ use Rattle.usb_transaction.proofs.Overs.{StepsSo, LastIs, last_is, none_ends_a_p
 
 -- IN 1 of a configured hub changes nothing else
 
-law_is : (s : State) → tells_changes s.spec s.registers ≡ true → (row : List PortState) (max : ℕ) (t2 t3 : Way) → in_law s row 1 max whole t2 t3 ≡ changes_law s row max t2 t3
+pub law_is : (s : State) → tells_changes s.spec s.registers ≡ true → (row : List PortState) (max : ℕ) (t2 t3 : Way) → in_law s row 1 max whole t2 t3 ≡ changes_law s row max t2 t3
 law_is s h row max t2 t3 = ap (λ z. if z then changes_law s row max t2 t3 else in_bulk_law s 1 (bulk_of s true) max t2 t3) h
 
 only_byte : (s : State) (held : Option ℕ) (came : Bool) → OnlyChanges s (if came then forgotten (acknowledged (record s { held = held }) by.Changes) else record s { held = held })
@@ -56,7 +56,7 @@ only_halt : (s : State) (t2 : Way) (rest : Reply) → OnlyChanges s rest.1 → (
 only_halt s t2 rest h true = refl
 only_halt s t2 rest h false = h
 
-only_changes : (s : State) (row : List PortState) (max : ℕ) (t1 t2 t3 : Way) → tells_changes s.spec s.registers ≡ true → OnlyChanges s (in_law s row 1 max t1 t2 t3).1
+pub only_changes : (s : State) (row : List PortState) (max : ℕ) (t1 t2 t3 : Way) → tells_changes s.spec s.registers ≡ true → OnlyChanges s (in_law s row 1 max t1 t2 t3).1
 only_changes s row max broken t2 t3 h = refl
 only_changes s row max lost t2 t3 h = refl
 only_changes s row max whole t2 t3 h =
@@ -67,7 +67,7 @@ only_twice : (s u v : State) → OnlyChanges s u → OnlyChanges u v → OnlyCha
 only_twice s u v x y = y ∙ ap {A = State} (λ d. record d { memory = v.memory; changes = v.changes; held = v.held }) x
 
 -- so it is still a hub that tells of changes, at its address
-still_tells : (s u : State) → OnlyChanges s u → tells_changes s.spec s.registers ≡ true → tells_changes u.spec u.registers ≡ true
+pub still_tells : (s u : State) → OnlyChanges s u → tells_changes s.spec s.registers ≡ true → tells_changes u.spec u.registers ≡ true
 still_tells s u x h = ap (λ d. tells_changes d.spec d.registers) x ∙ h
 
 still_at : (t : Target) (s u : State) → OnlyChanges s u → is_at s t ≡ true → is_at u t ≡ true

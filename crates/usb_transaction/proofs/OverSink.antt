@@ -1,5 +1,5 @@
 -- A bulk OUT endpoint over the attempts of a transaction.
-use Rattle.std.proofs.Common.{◌≡◌, ℕ, zero, suc, ◌≤◌, ◌==◌, ◌++◌, nat_lt, if◌then◌else◌, Bool, true, false, List, [], ◌∷◌, length, Option, None, Some, Result, Ok, Err, refl, ap, sym, subst, ◌∙◌}
+use Rattle.std.proofs.Common.{◌≡◌, ℕ, zero, suc, ◌++◌, nat_lt, if◌then◌else◌, Bool, true, false, List, [], ◌∷◌, length, Option, None, Some, Result, Ok, Err, refl, ap, sym, subst, ◌∙◌}
 use Rattle.std.proofs.lemmas.Option.{same_Some}
 use Rattle.usb_packet.specs.declared.Toggle.{Toggle}
 use Rattle.usb_packet.specs.declared.Toggle.TheVariants.{Zero, One}
@@ -29,7 +29,7 @@ use Rattle.usb_transaction.specs.declared.heard.Heard.TheVariants.{Moved, NotRea
 use Rattle.usb_transaction.specs.declared.fault.TransFault.{TransFault}
 use Rattle.usb_transaction.specs.declared.fault.TransFault.TheVariants.{Stalled, Busy, NoAnswer, Bus}
 use Rattle.usb_transaction.specs.Heard.{sent_as}
-use Rattle.usb_transaction.specs.Trail.{Trail, IsNoEnd, Ended}
+use Rattle.usb_transaction.specs.Trail.{IsNoEnd, Ended}
 use Rattle.usb_transaction.specs.Trans.{packet_of, out_attempt}
 use Rattle.usb_transaction.specs.Over.{is_at, SinkEnds, SinkOut}
 use Rattle.usb_transaction.proofs.Lasts.{sent_last}
@@ -50,8 +50,8 @@ stands_forgotten (taken b t a k) (suc j) p s h e = stands_forgotten k j p s h.2 
 
 -- What OUT of the endpoint leaves, whatever is lost
 
-record Taken (t : Toggle) (bytes : List ℕ) (s : State) (r : Reply) : Type 0 where
-  frame : OnlySink s r.1
+pub record Taken (t : Toggle) (bytes : List ℕ) (s : State) (r : Reply) : Type 0 where
+  pub frame : OnlySink s r.1
   sink : (before : List ℕ) → SinkAt before bytes t s → SinkOn before bytes t r.0 r.1
   halted : s.bulk_out.halted ≡ true → forgotten s ≡ s → (r.1 ≡ s) × (r.0 ≡ Some answer.Ack → ⊥)
 
@@ -129,13 +129,13 @@ taken_by t bytes s t3 long true h = record {
 }
 taken_by t bytes s t3 long false h = taken_fit t bytes s t3 long (is_same t s.bulk_out.toggle) h refl
 
-row_is : (e most : ℕ) (s : State) → IsSink e most s → (t : Toggle) (bytes : List ℕ) → data_row s e t bytes ≡ sink_row s most t bytes
+pub row_is : (e most : ℕ) (s : State) → IsSink e most s → (t : Toggle) (bytes : List ℕ) → data_row s e t bytes ≡ sink_row s most t bytes
 row_is e most s i t bytes =
     ap (λ z. if z then unless_busy s (out_row s s.stage t bytes) else out_bulk_row s e (bulk_of s false) t bytes) i.not_zero
     ∙ ap (λ o. out_bulk_row s e o t bytes) i.endpoint
     ∙ ap (λ z. if z then sink_row s most t bytes else (None, s)) (same_number e)
 
-sent : (e most : ℕ) (s : State) → IsSink e most s → (t : Toggle) (bytes : List ℕ) (t1 t2 t3 : Way) → Taken t bytes s (out_law s e t bytes t1 t2 t3)
+pub sent : (e most : ℕ) (s : State) → IsSink e most s → (t : Toggle) (bytes : List ℕ) (t1 t2 t3 : Way) → Taken t bytes s (out_law s e t bytes t1 t2 t3)
 sent e most s i t bytes broken t2 t3 = not_taken t bytes s
 sent e most s i t bytes lost t2 t3 = not_taken t bytes s
 sent e most s i t bytes whole broken t3 = not_taken t bytes s
@@ -231,7 +231,7 @@ did_step t ep toggle bytes w j p s v f (DidOut.asked d z x o e) =
 
 -- One after the other
 
-sink_kept : (ep most : ℕ) (s u : State) → OnlySink s u → IsSink ep most s → IsSink ep most u
+pub sink_kept : (ep most : ℕ) (s u : State) → OnlySink s u → IsSink ep most s → IsSink ep most u
 sink_kept ep most s u e i = subst (λ x. IsSink ep most x) (sym e) (record { endpoint = i.endpoint; not_zero = i.not_zero })
 
 at_kept : (t : Target) (s u : State) → OnlySink s u → is_at s t ≡ true → is_at u t ≡ true
@@ -302,4 +302,3 @@ sink_over t ep toggle bytes result old new settled e single =
     each_step t ep toggle bytes (λ before x. SinkEnds before bytes toggle result x) (Oks result) w made one
     (λ before v. last_ends before bytes toggle result (outcome_in (out_attempt t ep toggle bytes) w) l v) (last_ack result (outcome_in (out_attempt t ep toggle bytes) w) l))
     settled e single
-

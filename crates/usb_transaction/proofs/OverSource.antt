@@ -1,6 +1,5 @@
 -- A bulk IN endpoint over the attempts of a transaction.
-use Rattle.std.proofs.Common.{◌≡◌, ℕ, ◌+◌, ◌≤◌, ◌==◌, ◌&&◌, nat_le, if◌then◌else◌, Bool, true, false, List, [], length, take, drop, Option, None, Some, Result, Ok, Err, refl, ap, sym, subst, ◌∙◌}
-use Rattle.arrayvec.specs.ArrayVec.{ArrayVec}
+use Rattle.std.proofs.Common.{◌≡◌, ℕ, ◌≤◌, ◌==◌, ◌&&◌, nat_le, if◌then◌else◌, Bool, true, false, List, length, take, drop, Option, None, Some, Result, Ok, Err, refl, ap, sym, subst, ◌∙◌}
 use Rattle.usb_packet.specs.declared.Toggle.{Toggle}
 use Rattle.usb_packet.specs.declared.Toggle.TheVariants.{Zero, One}
 use Rattle.usb_port.specs.PortState.{PortState}
@@ -14,15 +13,13 @@ use Rattle.usb_device.specs.Tree.{row_of}
 use Rattle.usb_device.specs.Progress.{taken_of, IsSource, SourceAt, SourceOn, OnlySource}
 use Rattle.usb_device.proofs.Attempts.{same_number}
 use Rattle.usb_device.proofs.BulkProgress.{source_on}
-use Rattle.usb_bus.specs.declared.types.Attempt.{Attempt}
 use Rattle.usb_bus.specs.declared.types.Outcome.{Outcome}
 use Rattle.usb_bus.specs.declared.types.Outcome.TheVariants as outcome
-use Rattle.usb_bus.specs.Live.{address_of}
 use Rattle.usb_bus.specs.Passes.{IsSettled}
 use Rattle.usb_bus.specs.OneHolder.{IsMade, got}
 use Rattle.usb_bus.specs.World.{World}
 use Rattle.usb_bus.specs.Steps.{attempt, after, outcome_in}
-use Rattle.usb_bus.specs.Devices.{Relation, EachWas, DidIn}
+use Rattle.usb_bus.specs.Devices.{EachWas, DidIn}
 use Rattle.usb_bus.proofs.Booleans.{no}
 use Rattle.usb_bus.proofs.Devices.{each_wider, each_in}
 use Rattle.usb_transaction.specs.declared.target.Target.{Target}
@@ -31,16 +28,16 @@ use Rattle.usb_transaction.specs.declared.heard.Heard.TheVariants.{Moved, NotRea
 use Rattle.usb_transaction.specs.declared.fault.TransFault.{TransFault}
 use Rattle.usb_transaction.specs.declared.fault.TransFault.TheVariants.{Stalled, Busy, NoAnswer, Bus}
 use Rattle.usb_transaction.specs.Heard.{heard_as}
-use Rattle.usb_transaction.specs.Trail.{Trail, IsNoEnd, Ended}
-use Rattle.usb_transaction.specs.Trans.{packet_of, in_attempt}
+use Rattle.usb_transaction.specs.Trail.{IsNoEnd, Ended}
+use Rattle.usb_transaction.specs.Trans.{in_attempt}
 use Rattle.usb_transaction.specs.Over.{packet_in, is_at, SourceIn}
 use Rattle.usb_transaction.proofs.Meanings.{got_stall}
-use Rattle.usb_transaction.proofs.Overs.{Reflexive, Composes, StepsSo, LastIs, each_ended}
+use Rattle.usb_transaction.proofs.Overs.{Composes, LastIs, each_ended}
 
 -- What IN of the endpoint leaves, whatever is lost
 
-record Given (s : State) (r : Reply) : Type 0 where
-  frame : OnlySource s r.1
+pub record Given (s : State) (r : Reply) : Type 0 where
+  pub frame : OnlySource s r.1
   halted : r.1.bulk_in.halted ≡ s.bulk_in.halted
   still : s.bulk_in.halted ≡ true → r.1 ≡ s
   stalled : r.0 ≡ Some answer.Stall → s.bulk_in.halted ≡ true
@@ -78,14 +75,14 @@ given_by s good t2 true empty h f = unchanged s (heard t2 (Some answer.Stall)) (
 given_by s good t2 false true h f = given_nak s t2
 given_by s good t2 false false h f = f h
 
-law_is : (e most : ℕ) (s : State) → IsSource e most s → (row : List PortState) (max : ℕ) (t2 t3 : Way) → in_law s row e max whole t2 t3 ≡ source_law s most max t2 t3
+pub law_is : (e most : ℕ) (s : State) → IsSource e most s → (row : List PortState) (max : ℕ) (t2 t3 : Way) → in_law s row e max whole t2 t3 ≡ source_law s most max t2 t3
 law_is e most s i row max t2 t3 =
     ap (λ z. if z then in_control_law s max t2 t3 else in_other_law s row e max t2 t3) i.not_zero
     ∙ ap (λ z. if z then changes_law s row max t2 t3 else in_bulk_law s e (bulk_of s true) max t2 t3) i.alone
     ∙ ap (λ o. in_bulk_law s e o max t2 t3) i.endpoint
     ∙ ap (λ z. if z then source_law s most max t2 t3 else (None, s)) (same_number e)
 
-given : (e most : ℕ) (s : State) → IsSource e most s → (row : List PortState) (max : ℕ) (t1 t2 t3 : Way) → Given s (in_law s row e max t1 t2 t3)
+pub given : (e most : ℕ) (s : State) → IsSource e most s → (row : List PortState) (max : ℕ) (t1 t2 t3 : Way) → Given s (in_law s row e max t1 t2 t3)
 given e most s i row max broken t2 t3 = nothing s
 given e most s i row max lost t2 t3 = nothing s
 given e most s i row max whole t2 t3 =
@@ -200,7 +197,7 @@ did_step t ep awaited w j p s v (DidIn.asked d z b below stands x o e) =
 
 -- One after the other
 
-source_kept : (ep most : ℕ) (s u : State) → OnlySource s u → IsSource ep most s → IsSource ep most u
+pub source_kept : (ep most : ℕ) (s u : State) → OnlySource s u → IsSource ep most s → IsSource ep most u
 source_kept ep most s u e i = subst (λ x. IsSource ep most x) (sym e) (record { endpoint = i.endpoint; not_zero = i.not_zero; alone = i.alone })
 
 at_kept : (t : Target) (s u : State) → OnlySource s u → is_at s t ≡ true → is_at u t ≡ true
@@ -268,4 +265,3 @@ source_over t ep awaited result old new settled e single =
     (λ outcomes w trail made one l.
     each_step t ep awaited (packet_in result) (result ≡ Err Stalled) w made one (last_packet awaited result (outcome_in (in_attempt t ep) w) l) (last_stall awaited result (outcome_in (in_attempt t ep) w) l))
     settled e single
-

@@ -23,7 +23,7 @@ use Rattle.usb_transaction.proofs.Trails.{trail_settled, made_unshared}
 
 -- What is so of each outcome of a trail
 
-pub EachOf : (Outcome → Type 0) → List Outcome → Type 0
+unfoldable pub EachOf : (Outcome → Type 0) → List Outcome → Type 0
 EachOf P [] = Unit {0}
 EachOf P (o ∷ outcomes) = P o × EachOf P outcomes
 

@@ -33,7 +33,7 @@ abbrev pair : Option Answer → State → Reply
 pair o s = (o, s)
 
 -- the stage stays, or a control read is over with it
-abbrev Moves : State → State → Type 0
+abbrev pub Moves : State → State → Type 0
 Moves s v = (v.stage ≡ s.stage) ⊎ (IsRead v × IsInRead s)
 
 record Out (s : State) (r : Reply) : Type 0 where
@@ -71,7 +71,7 @@ out_stage s (reading answer wanted k) t3 = record { frame = refl; kept = inr (re
 out_stage s read t3 = record { frame = refl; kept = inl refl; done = λ e. (refl, over refl) }
 out_stage s (ending a) t3 = out_same (at_stage s (ending a)) (forgotten (at_stage s (ending a))) (heard t3 None) (no_none (heard t3 None) (none_heard t3)) refl refl
 
-abbrev Heard_row : State → Way → Reply → Reply
+abbrev pub Heard_row : State → Way → Reply → Reply
 Heard_row s t3 row = (heard t3 row.0, forgotten row.1)
 
 out_control : (s : State) (t3 : Way) (busy : Bool) → Out s (Heard_row s t3 (if busy then nak_row s else out_row s s.stage One []))
@@ -87,19 +87,19 @@ out_in s t1 t2 t3 = out_through s t3 (is_whole t1 && is_whole t2)
 
 -- Attempts before the last
 
-record Kept (t : Target) (j : ℕ) (p : List ℕ) (s v : State) : Type 0 where
-  others : is_at s t ≡ false → v ≡ s
-  frame : OnlyStage s v
-  moves : Moves s v
+pub record Kept (t : Target) (j : ℕ) (p : List ℕ) (s v : State) : Type 0 where
+  pub others : is_at s t ≡ false → v ≡ s
+  pub frame : OnlyStage s v
+  pub moves : Moves s v
 
-kept_none : (t : Target) (j : ℕ) (p : List ℕ) (s : State) → Kept t j p s s
+pub kept_none : (t : Target) (j : ℕ) (p : List ℕ) (s : State) → Kept t j p s s
 kept_none t j p s = record { others = λ h. refl; frame = refl; moves = inl refl }
 
 only_twice : (s u v : State) → OnlyStage s u → OnlyStage u v → OnlyStage s v
 only_twice s u v f g = g ∙ ap {A = State} (λ x. record x { memory = v.memory; naks = v.naks; stage = v.stage }) f
 
 -- one that stands where another stands is in a control read if the other is
-as_other : (s u : State) → u.stage ≡ s.stage → IsInRead u → IsInRead s
+pub as_other : (s u : State) → u.stage ≡ s.stage → IsInRead u → IsInRead s
 as_other s u e (data_stage answer wanted known h) = data_stage answer wanted known (sym e ∙ h)
 as_other s u e (over h) = over (sym e ∙ h)
 
@@ -109,7 +109,7 @@ moves_twice s u v (inr x) (inl f) = inr (f ∙ x.0, x.1)
 moves_twice s u v (inl e) (inr y) = inr (y.0, as_other s u e y.1)
 moves_twice s u v (inr x) (inr y) = inr (y.0, x.1)
 
-kept_twice : (t : Target) (j : ℕ) (p : List ℕ) (s u v : State) → Kept t j p s u → Kept t j p u v → Kept t j p s v
+pub kept_twice : (t : Target) (j : ℕ) (p : List ℕ) (s u v : State) → Kept t j p s u → Kept t j p u v → Kept t j p s v
 kept_twice t j p s u v x y = record { others = other_twice t s u v x.others y.others; frame = only_twice s u v x.frame y.frame; moves = moves_twice s u v x.moves y.moves }
 
 kept_asked : (t : Target) (j : ℕ) (p : List ℕ) (s : State) (t1 t2 t3 : Way) → is_at s t ≡ true → Kept t j p s (out_law s 0 One [] t1 t2 t3).1
@@ -117,7 +117,7 @@ kept_asked t j p s t1 t2 t3 at =
     let l : Out s (out_law s 0 One [] t1 t2 t3) = out_in s t1 t2 t3 in
     record { others = λ h. mine t s at h; frame = l.frame; moves = l.kept }
 
-kept_did : (t : Target) (w : World) (j : ℕ) (p : List ℕ) (s v : State) → DidOut (out_attempt t 0 One []) One [] w j p s v → Kept t j p s v
+pub kept_did : (t : Target) (w : World) (j : ℕ) (p : List ℕ) (s v : State) → DidOut (out_attempt t 0 One []) One [] w j p s v → Kept t j p s v
 kept_did t w j p s v (DidOut.other d e) = subst (λ x. Kept t j p s x) (sym e) (kept_none t j p s)
 kept_did t w j p s v (DidOut.silent d q o e) = subst (λ x. Kept t j p s x) (sym e) (kept_none t j p s)
 kept_did t w j p s v (DidOut.asked d q x o e) = subst (λ y. Kept t j p s y) (sym e) (kept_asked t j p s x.first x.second x.third d)

@@ -3,3 +3,4 @@ pub mod Trans
 pub mod Trail
 pub mod Meaning
 pub mod Over
+pub mod Why

@@ -19,6 +19,7 @@ mod read;
 mod set_up;
 mod target;
 mod tries;
+mod why_laws;
 mod write;
 
 pub use done::Done;
@@ -34,6 +35,10 @@ pub use set_up::setup;
 pub use target::Target;
 pub use usb_bus::{Bus, BusFault};
 pub use usb_packet::Toggle;
+pub use why_laws::{
+    why_a_poll_fails, why_bulk_in_fails, why_bulk_out_fails, why_control_in_fails,
+    why_read_status_fails,
+};
 pub use write::data_out;
 
 #[cfg(test)]
