@@ -1,0 +1,349 @@
+-- Why IN of endpoint 0 fails.
+use Rattle.std.proofs.Common.{◌≡◌, ◌≢◌, ◌⊎◌, inl, inr, ℕ, zero, suc, ◌+◌, ◌-◌, ◌<◌, ◌≤◌, nat_le, nat_lt, ◌==◌, ◌||◌, ◌&&◌, if◌then◌else◌, Bool, true, false, List, [], ◌∷◌, length, Option, None, Some, is_some, Result, Ok, Err, refl, sym, subst, ap, ◌∙◌, arith}
+use Rattle.std.proofs.lemmas.Bool.Decides.{nat_tests}
+use Rattle.arrayvec.specs.ArrayVec.{ArrayVec}
+use Rattle.usb_packet.specs.declared.Toggle.{Toggle}
+use Rattle.usb_packet.specs.declared.Toggle.TheVariants.{Zero, One}
+use Rattle.usb_port.specs.PortState.{PortState}
+use Rattle.usb_device.specs.declared.answer.Answer.{Answer}
+use Rattle.usb_device.specs.declared.answer.Answer.TheVariants as answer
+use Rattle.usb_device.specs.declared.transfer.Giver.TheVariants as by
+use Rattle.usb_device.specs.Transfer.{Stage, idle, refused, reading, read, ending, max_packet, packet_at, toggle_at}
+use Rattle.usb_device.specs.Rows.{State, Reply, payload, forgotten, is_busy, nak_row, ack_row, acknowledged}
+use Rattle.usb_device.specs.Attempt.{Way, whole, broken, lost, is_whole, heard, gave, in_stage_law, in_law}
+use Rattle.usb_device.specs.Progress.{ReadingAt}
+use Rattle.usb_device.proofs.Packets.{packet-fits}
+use Rattle.usb_bus.specs.declared.types.Outcome.{Outcome}
+use Rattle.usb_bus.specs.declared.types.Outcome.TheVariants as outcome
+use Rattle.usb_bus.specs.OneHolder.{got}
+use Rattle.usb_transaction.specs.declared.target.Target.{Target}
+use Rattle.usb_transaction.specs.declared.heard.Heard.{Heard}
+use Rattle.usb_transaction.specs.declared.heard.Heard.TheVariants.{Moved, NotReady, Repeat, Refused, Lost}
+use Rattle.usb_transaction.specs.Heard.{heard_as}
+use Rattle.usb_transaction.specs.Trail.{IsNoEnd, waits_with}
+use Rattle.usb_transaction.specs.Why.{HasNext, data_stage, status, refusal}
+use Rattle.usb_transaction.proofs.WhyCommon.{positive, not_busy}
+
+-- What one attempt with one device brings
+
+abbrev at_stage : State → Stage → State
+at_stage s st = record s { stage = st }
+
+abbrev pair : Option Answer → State → Reply
+pair o s = (o, s)
+
+no_stall : (t : Way) (tg : Toggle) (bytes : List ℕ) → heard t (Some (payload tg bytes)) ≢ Some answer.Stall
+no_stall whole tg bytes e = cc e
+no_stall broken tg bytes e = cc e
+no_stall lost tg bytes e = cc e
+
+-- only a device that refuses a request answers STALL, and no other comes to refuse
+pub record Refuses (s : State) (r : Reply) : Type 0 where
+  pub stalls : r.0 ≡ Some answer.Stall → s.stage ≡ refused
+  pub back : r.1.stage ≡ refused → s.stage ≡ refused
+
+reading_back : (text : List ℕ) (wanted k : ℕ) (s : State) (x y : Bool)
+    → (if x then forgotten (if y then at_stage s (reading text wanted (k + 1)) else at_stage s (reading text wanted k)) else at_stage s (reading text wanted k)).stage ≢ refused
+reading_back text wanted k s true true e = cc e
+reading_back text wanted k s true false e = cc e
+reading_back text wanted k s false y e = cc e
+
+ending_back : (a : Option ℕ) (s : State) (x : Bool) → (if x then forgotten (ack_row (at_stage s (ending a)) (ending a)) else at_stage s (ending a)).stage ≢ refused
+ending_back None s true e = cc e
+ending_back (Some n) s true e = cc e
+ending_back a s false e = cc e
+
+refuses_reading : (max : ℕ) (bytes : List ℕ) (wanted k : ℕ) (s : State) (t2 t3 : Way) (o : Option (List ℕ))
+    → Refuses (at_stage s (reading bytes wanted k)) (elim o [ None ↦ (None, at_stage s (reading bytes wanted k)) | Some b ↦ gave (at_stage s (reading bytes wanted k)) by.Control max (toggle_at k) b t2 t3 ])
+refuses_reading max bytes wanted k s t2 t3 None = record { stalls = λ e. cc e; back = λ e. cc e }
+refuses_reading max bytes wanted k s t2 t3 (Some b) = record {
+  stalls = λ e. absurd (no_stall t2 (toggle_at k) b e);
+  back = λ e. absurd (reading_back bytes wanted k s (is_whole t2 && nat_le (length b) max && is_whole t3) (is_some (packet_at (max_packet s.spec) wanted bytes k)) e);
+}
+
+refuses_stage : (max : ℕ) (s : State) (st : Stage) (t2 t3 : Way) → Refuses (at_stage s st) (in_stage_law (at_stage s st) st max t2 t3)
+refuses_stage max s idle t2 t3 = record { stalls = λ e. cc e; back = λ e. e }
+refuses_stage max s refused t2 t3 = record { stalls = λ e. refl; back = λ e. refl }
+refuses_stage max s (reading bytes wanted k) t2 t3 = refuses_reading max bytes wanted k s t2 t3 (packet_at (max_packet s.spec) wanted bytes k)
+refuses_stage max s read t2 t3 = record { stalls = λ e. cc e; back = λ e. e }
+refuses_stage max s (ending a) t2 t3 = record {
+  stalls = λ e. absurd (no_stall t2 One [] e);
+  back = λ e. absurd (ending_back a s (is_whole t2 && nat_le 0 max && is_whole t3) e);
+}
+
+nak_no_stall : (t : Way) → heard t (Some answer.Nak) ≢ Some answer.Stall
+nak_no_stall whole e = cc e
+nak_no_stall broken e = cc e
+nak_no_stall lost e = cc e
+
+refuses_control : (max : ℕ) (s : State) (t2 t3 : Way) (b : Bool) → Refuses s (if b then (heard t2 (Some answer.Nak), (nak_row s).1) else in_stage_law s s.stage max t2 t3)
+refuses_control max s t2 t3 true = record { stalls = λ e. absurd (nak_no_stall t2 e); back = λ e. e }
+refuses_control max s t2 t3 false = refuses_stage max s s.stage t2 t3
+
+pub refuses_in : (max : ℕ) (s : State) (row : List PortState) (t1 t2 t3 : Way) → Refuses s (in_law s row 0 max t1 t2 t3)
+refuses_in max s row whole t2 t3 = refuses_control max s t2 t3 (is_busy s)
+refuses_in max s row broken t2 t3 = record { stalls = λ e. cc e; back = λ e. e }
+refuses_in max s row lost t2 t3 = record { stalls = λ e. cc e; back = λ e. e }
+
+-- A device that is busy by its description moves nothing and changes no register
+
+record Calm (awaited : Toggle) (max : ℕ) (s : State) (r : Reply) : Type 0 where
+  moved : (b : ArrayVec ℕ) → heard_as awaited (got max r.0) ≡ Moved b → s.spec.busy ≡ false
+  there : (r.1.registers ≡ s.registers) ⊎ (s.spec.busy ≡ false)
+
+nak_moves : (awaited : Toggle) (max : ℕ) (t : Way) (b : ArrayVec ℕ) → heard_as awaited (got max (heard t (Some answer.Nak))) ≢ Moved b
+nak_moves awaited max whole b e = cc e
+nak_moves awaited max broken b e = cc e
+nak_moves awaited max lost b e = cc e
+
+calm_control : (awaited : Toggle) (max : ℕ) (s : State) (t2 t3 : Way) (b : Bool) → is_busy s ≡ b → Calm awaited max s (if b then (heard t2 (Some answer.Nak), (nak_row s).1) else in_stage_law s s.stage max t2 t3)
+calm_control awaited max s t2 t3 true busy = record { moved = λ b e. absurd (nak_moves awaited max t2 b e); there = inl refl }
+calm_control awaited max s t2 t3 false busy = record { moved = λ b e. not_busy s busy; there = inr (not_busy s busy) }
+
+calm_in : (awaited : Toggle) (max : ℕ) (s : State) (row : List PortState) (t1 t2 t3 : Way) → Calm awaited max s (in_law s row 0 max t1 t2 t3)
+calm_in awaited max s row whole t2 t3 = calm_control awaited max s t2 t3 (is_busy s) refl
+calm_in awaited max s row broken t2 t3 = record { moved = λ b e. cc e; there = inl refl }
+calm_in awaited max s row lost t2 t3 = record { moved = λ b e. cc e; there = inl refl }
+
+-- Packets that come whole
+
+abbrev AllWhole : Way → Way → Way → Type 0
+AllWhole t1 t2 t3 = (t1 ≡ whole) × (t2 ≡ whole) × (t3 ≡ whole)
+
+payload_heard : (awaited given : Toggle) (b : ArrayVec ℕ) → heard_as awaited (outcome.Payload given b) ≢ Lost
+payload_heard Zero Zero b e = cc e
+payload_heard Zero One b e = cc e
+payload_heard One Zero b e = cc e
+payload_heard One One b e = cc e
+
+within : (n max : ℕ) → n ≤ max → nat_le n max ≡ true
+within n max h = grind (arith, nat_tests, h)
+
+data_heard : (awaited given : Toggle) (max : ℕ) (bytes : List ℕ) → length bytes ≤ max → heard_as awaited (got max (Some (payload given bytes))) ≢ Lost
+data_heard awaited given max bytes h e =
+    payload_heard awaited given (record { items = bytes }) (sym (ap (λ x. heard_as awaited (if x then outcome.Payload given (record { items = bytes }) else outcome.Nothing)) (within (length bytes) max h)) ∙ e)
+
+-- what a reading device that is not busy gives
+reading_gives : (max : ℕ) (text bytes : List ℕ) (wanted k : ℕ) (s : State) (row : List PortState) (t2 t3 : Way) → is_busy s ≡ false → s.stage ≡ reading text wanted k → packet_at (max_packet s.spec) wanted text k ≡ Some bytes
+    → in_law s row 0 max whole t2 t3 ≡ gave s by.Control max (toggle_at k) bytes t2 t3
+reading_gives max text bytes wanted k s row t2 t3 free stage packet =
+    ap (λ b. if b then pair (heard t2 (Some answer.Nak)) (nak_row s).1 else in_stage_law s s.stage max t2 t3) free
+    ∙ ap (λ st. in_stage_law s st max t2 t3) stage
+    ∙ ap (λ o. elim o [ None ↦ pair None s | Some b ↦ gave s by.Control max (toggle_at k) b t2 t3 ]) packet
+
+stage_gives : (max : ℕ) (s : State) (st : Stage) (row : List PortState) (t2 t3 : Way) → is_busy s ≡ false → s.stage ≡ st → in_law s row 0 max whole t2 t3 ≡ in_stage_law s st max t2 t3
+stage_gives max s st row t2 t3 free stage =
+    ap (λ b. if b then pair (heard t2 (Some answer.Nak)) (nak_row s).1 else in_stage_law s s.stage max t2 t3) free ∙ ap (λ x. in_stage_law s x max t2 t3) stage
+
+record Bytes (o : Option (List ℕ)) : Type 0 where
+  bytes : List ℕ
+  is : o ≡ Some bytes
+
+bytes_in : (o : Option (List ℕ)) → is_some o ≡ true → Bytes o
+bytes_in None e = absurd (cc e)
+bytes_in (Some b) e = record { bytes = b; is = refl }
+
+-- a device that has what is next answers
+reading_answers : (t : Target) (awaited : Toggle) (text : List ℕ) (wanted k : ℕ) (s : State) (row : List PortState) → is_busy s ≡ false → s.stage ≡ reading text wanted k → is_some (packet_at (max_packet s.spec) wanted text k) ≡ true
+    → max_packet s.spec ≤ t.max → heard_as awaited (got t.max (in_law s row 0 t.max whole whole whole).0) ≢ Lost
+reading_answers t awaited text wanted k s row free stage some most e =
+    let b : Bytes (packet_at (max_packet s.spec) wanted text k) = bytes_in (packet_at (max_packet s.spec) wanted text k) some in
+    let few : length b.bytes ≤ t.max = omega (arith, most, packet-fits (max_packet s.spec) wanted text b.bytes k b.is) in
+    data_heard awaited (toggle_at k) t.max b.bytes few (sym (ap {A = Reply} (λ r. heard_as awaited (got t.max r.0)) (reading_gives t.max text b.bytes wanted k s row whole whole free stage b.is)) ∙ e)
+
+known_some : (text : List ℕ) (wanted n : ℕ) (s : State) (r : ReadingAt text wanted n s) → is_some (packet_at (max_packet s.spec) wanted text n) ≡ true → is_some (packet_at (max_packet s.spec) wanted text r.known) ≡ true
+known_some text wanted n s r h = pick r.near
+  where
+    pick : (n ≡ r.known) ⊎ ((n ≡ r.known + 1) × (is_some (packet_at (max_packet s.spec) wanted text r.known) ≡ true)) → is_some (packet_at (max_packet s.spec) wanted text r.known) ≡ true
+    pick (inl e) = sym (ap (λ m. is_some (packet_at (max_packet s.spec) wanted text m)) e) ∙ h
+    pick (inr x) = x.1
+
+stall_heard : (awaited : Toggle) (max : ℕ) → heard_as awaited (got max (Some answer.Stall)) ≢ Lost
+stall_heard awaited max e = cc e
+
+answers_free : (t : Target) (awaited : Toggle) (s : State) (row : List PortState) → HasNext t awaited s → is_busy s ≡ false → heard_as awaited (got t.max (in_law s row 0 t.max whole whole whole).0) ≢ Lost
+answers_free t awaited s row (data_stage text wanted n e r some most) free f = reading_answers t awaited text wanted r.known s row free r.stage (known_some text wanted n s r some) most f
+answers_free t awaited s row (status a h e) free f =
+    data_heard awaited One t.max [] (omega arith) (sym (ap {A = Reply} (λ r. heard_as awaited (got t.max r.0)) (stage_gives t.max s (ending a) row whole whole free h)) ∙ f)
+answers_free t awaited s row (refusal h) free f =
+    stall_heard awaited t.max (sym (ap {A = Reply} (λ r. heard_as awaited (got t.max r.0)) (stage_gives t.max s refused row whole whole free h)) ∙ f)
+
+busy_gives : (max : ℕ) (s : State) (row : List PortState) (t2 t3 : Way) → is_busy s ≡ true → in_law s row 0 max whole t2 t3 ≡ pair (heard t2 (Some answer.Nak)) (nak_row s).1
+busy_gives max s row t2 t3 busy = ap (λ b. if b then pair (heard t2 (Some answer.Nak)) (nak_row s).1 else in_stage_law s s.stage max t2 t3) busy
+
+nak_heard : (awaited : Toggle) (max : ℕ) → heard_as awaited (got max (Some answer.Nak)) ≢ Lost
+nak_heard awaited max e = cc e
+
+answers_whole : (t : Target) (awaited : Toggle) (s : State) (row : List PortState) → HasNext t awaited s → (b : Bool) → is_busy s ≡ b → heard_as awaited (got t.max (in_law s row 0 t.max whole whole whole).0) ≢ Lost
+answers_whole t awaited s row h true busy e = nak_heard awaited t.max (sym (ap {A = Reply} (λ r. heard_as awaited (got t.max r.0)) (busy_gives t.max s row whole whole busy)) ∙ e)
+answers_whole t awaited s row h false busy e = answers_free t awaited s row h busy e
+
+answers_in : (t : Target) (awaited : Toggle) (s : State) (row : List PortState) (t1 t2 t3 : Way) → HasNext t awaited s → AllWhole t1 t2 t3 → heard_as awaited (got t.max (in_law s row 0 t.max t1 t2 t3).0) ≢ Lost
+answers_in t awaited s row t1 t2 t3 h x =
+    subst (λ y. heard_as awaited (got t.max (in_law s row 0 t.max y t2 t3).0) ≢ Lost) (sym x.0)
+    (subst (λ y. heard_as awaited (got t.max (in_law s row 0 t.max whole y t3).0) ≢ Lost) (sym x.1)
+    (subst (λ y. heard_as awaited (got t.max (in_law s row 0 t.max whole whole y).0) ≢ Lost) (sym x.2)
+    (answers_whole t awaited s row h (is_busy s) refl)))
+
+-- Repeats
+
+-- a device that stands so gives no repeat
+pub record Quiet (awaited : Toggle) (st : Stage) : Type 0 where
+  pub reads : (text : List ℕ) (wanted k : ℕ) → st ≡ reading text wanted k → awaited ≡ toggle_at k
+  pub ends : (a : Option ℕ) → st ≡ ending a → awaited ≡ One
+
+-- one that has not seen the host's last ACK
+pub record Behind (t : Target) (awaited : Toggle) (s : State) : Type 0 where
+  pub text : List ℕ
+  pub wanted : ℕ
+  pub known : ℕ
+  pub stage : s.stage ≡ reading text wanted known
+  pub next : awaited ≡ toggle_at (known + 1)
+  pub some : is_some (packet_at (max_packet s.spec) wanted text known) ≡ true
+  pub most : max_packet s.spec ≤ t.max
+
+abbrev number_in : Stage → ℕ
+number_in idle = 0
+number_in refused = 0
+number_in (reading text wanted k) = k
+number_in read = 0
+number_in (ending a) = 0
+
+quiet_reading : (awaited : Toggle) (text : List ℕ) (wanted k : ℕ) → awaited ≡ toggle_at k → Quiet awaited (reading text wanted k)
+quiet_reading awaited text wanted k e = record { reads = λ x w n h. e ∙ ap (λ st. toggle_at (number_in st)) h; ends = λ a h. cc h }
+
+pub quiet_or_behind : (t : Target) (awaited : Toggle) (s : State) → HasNext t awaited s → Quiet awaited s.stage ⊎ Behind t awaited s
+quiet_or_behind t awaited s (data_stage text wanted n e r some most) = pick r.near
+  where
+    pick : (n ≡ r.known) ⊎ ((n ≡ r.known + 1) × (is_some (packet_at (max_packet s.spec) wanted text r.known) ≡ true)) → Quiet awaited s.stage ⊎ Behind t awaited s
+    pick (inl f) = inl (subst (λ x. Quiet awaited x) (sym r.stage) (quiet_reading awaited text wanted r.known (e ∙ ap toggle_at f)))
+    pick (inr x) = inr (record { text = text; wanted = wanted; known = r.known; stage = r.stage; next = e ∙ ap toggle_at x.0; some = x.1; most = most })
+quiet_or_behind t awaited s (status a h e) = inl (record { reads = λ x w n f. cc (sym h ∙ f); ends = λ b f. e })
+quiet_or_behind t awaited s (refusal h) = inl (record { reads = λ x w n f. cc (sym h ∙ f); ends = λ b f. cc (sym h ∙ f) })
+
+-- NAKs and repeats
+
+waits_most : (h : Heard) (n : ℕ) → waits_with h n ≤ n + 1
+waits_most (Moved b) n = omega arith
+waits_most NotReady n = omega arith
+waits_most Repeat n = omega arith
+waits_most Refused n = omega arith
+waits_most Lost n = omega arith
+
+-- it stands where it stood, and a wait is a NAK fewer to come
+record Counts (awaited : Toggle) (max : ℕ) (s : State) (r : Reply) : Type 0 where
+  stays : r.1.stage ≡ s.stage
+  counts : (n : ℕ) → waits_with (heard_as awaited (got max r.0)) n + r.1.naks ≤ n + s.naks
+
+counts_same : (awaited : Toggle) (max : ℕ) (s : State) → Counts awaited max s (pair None s)
+counts_same awaited max s = record { stays = refl; counts = λ n. omega arith }
+
+counts_nak : (awaited : Toggle) (max : ℕ) (s : State) (t2 : Way) → 0 < s.naks → Counts awaited max s (pair (heard t2 (Some answer.Nak)) (nak_row s).1)
+counts_nak awaited max s whole h = record { stays = refl; counts = λ n. omega (arith, h) }
+counts_nak awaited max s broken h = record { stays = refl; counts = λ n. omega arith }
+counts_nak awaited max s lost h = record { stays = refl; counts = λ n. omega arith }
+
+busy_in : (awaited : Toggle) (max : ℕ) (s : State) (row : List PortState) (t1 t2 t3 : Way) → is_busy s ≡ true → s.spec.busy ≡ false → Counts awaited max s (in_law s row 0 max t1 t2 t3)
+busy_in awaited max s row whole t2 t3 busy calm = subst (λ r. Counts awaited max s r) (sym (busy_gives max s row t2 t3 busy)) (counts_nak awaited max s t2 (positive s busy calm))
+busy_in awaited max s row broken t2 t3 busy calm = counts_same awaited max s
+busy_in awaited max s row lost t2 t3 busy calm = counts_same awaited max s
+
+ends_it : (awaited given : Toggle) (b : ArrayVec ℕ) → awaited ≡ given → IsNoEnd (heard_as awaited (outcome.Payload given b)) → ⊥
+ends_it Zero Zero b e h = absurd h
+ends_it Zero One b e h = cc e
+ends_it One Zero b e h = cc e
+ends_it One One b e h = absurd h
+
+-- what is awaited came, or the device stays
+quiet_fit : (awaited given : Toggle) (b : ArrayVec ℕ) (s : State) (t3 : Way) → awaited ≡ given → (x : Bool) → IsNoEnd (heard_as awaited (if x then outcome.Payload given b else outcome.Nothing))
+    → ((if x && is_whole t3 then forgotten (acknowledged s by.Control) else s) ≡ s) × ((n : ℕ) → waits_with (heard_as awaited (if x then outcome.Payload given b else outcome.Nothing)) n ≡ n)
+quiet_fit awaited given b s t3 e true h = absurd (ends_it awaited given b e h)
+quiet_fit awaited given b s t3 e false h = (refl, λ n. refl)
+
+quiet_gave : (awaited given : Toggle) (max : ℕ) (bytes : List ℕ) (s : State) (t2 t3 : Way) → awaited ≡ given → IsNoEnd (heard_as awaited (got max (gave s by.Control max given bytes t2 t3).0)) → Counts awaited max s (gave s by.Control max given bytes t2 t3)
+quiet_gave awaited given max bytes s whole t3 e h =
+    let f : _ = quiet_fit awaited given (record { items = bytes }) s t3 e (nat_le (length bytes) max) h in
+    record { stays = ap {A = State} (λ x. x.stage) f.0; counts = λ n. omega (arith, f.1 n, ap {A = State} (λ x. x.naks) f.0) }
+quiet_gave awaited given max bytes s broken t3 e h = record { stays = refl; counts = λ n. omega arith }
+quiet_gave awaited given max bytes s lost t3 e h = record { stays = refl; counts = λ n. omega arith }
+
+quiet_read : (awaited : Toggle) (max k : ℕ) (s : State) (t2 t3 : Way) (o : Option (List ℕ)) → awaited ≡ toggle_at k
+    → IsNoEnd (heard_as awaited (got max (elim o [ None ↦ pair None s | Some b ↦ gave s by.Control max (toggle_at k) b t2 t3 ]).0)) → Counts awaited max s (elim o [ None ↦ pair None s | Some b ↦ gave s by.Control max (toggle_at k) b t2 t3 ])
+quiet_read awaited max k s t2 t3 None e h = counts_same awaited max s
+quiet_read awaited max k s t2 t3 (Some b) e h = quiet_gave awaited (toggle_at k) max b s t2 t3 e h
+
+counts_stall : (awaited : Toggle) (max : ℕ) (s : State) (t2 : Way) → Counts awaited max s (pair (heard t2 (Some answer.Stall)) s)
+counts_stall awaited max s whole = record { stays = refl; counts = λ n. omega arith }
+counts_stall awaited max s broken = record { stays = refl; counts = λ n. omega arith }
+counts_stall awaited max s lost = record { stays = refl; counts = λ n. omega arith }
+
+quiet_stage : (awaited : Toggle) (max : ℕ) (s : State) (st : Stage) (t2 t3 : Way) → Quiet awaited st → IsNoEnd (heard_as awaited (got max (in_stage_law s st max t2 t3).0)) → Counts awaited max s (in_stage_law s st max t2 t3)
+quiet_stage awaited max s idle t2 t3 q h = counts_same awaited max s
+quiet_stage awaited max s refused t2 t3 q h = counts_stall awaited max s t2
+quiet_stage awaited max s (reading text wanted k) t2 t3 q h = quiet_read awaited max k s t2 t3 (packet_at (max_packet s.spec) wanted text k) (q.reads text wanted k refl) h
+quiet_stage awaited max s read t2 t3 q h = counts_same awaited max s
+quiet_stage awaited max s (ending a) t2 t3 q h = quiet_gave awaited One max [] s t2 t3 (q.ends a refl) h
+
+quiet_in : (awaited : Toggle) (max : ℕ) (s : State) (row : List PortState) (t1 t2 t3 : Way) → is_busy s ≡ false → Quiet awaited s.stage → IsNoEnd (heard_as awaited (got max (in_law s row 0 max t1 t2 t3).0))
+    → Counts awaited max s (in_law s row 0 max t1 t2 t3)
+quiet_in awaited max s row whole t2 t3 free q h =
+    let e : in_law s row 0 max whole t2 t3 ≡ in_stage_law s s.stage max t2 t3 = stage_gives max s s.stage row t2 t3 free refl in
+    subst (λ r. Counts awaited max s r) (sym e) (quiet_stage awaited max s s.stage t2 t3 q (subst {A = Reply} (λ r. IsNoEnd (heard_as awaited (got max r.0))) e h))
+quiet_in awaited max s row broken t2 t3 free q h = counts_same awaited max s
+quiet_in awaited max s row lost t2 t3 free q h = counts_same awaited max s
+
+-- one that is not busy has no NAKs to give, nor has it after an attempt
+
+ack_naks : (s : State) (st : Stage) → (ack_row s st).naks ≡ s.naks
+ack_naks s idle = refl
+ack_naks s refused = refl
+ack_naks s (reading text wanted k) = split (is_some (packet_at (max_packet s.spec) wanted text k))
+  where
+    split : (x : Bool) → (if x then at_stage s (reading text wanted (k + 1)) else s).naks ≡ s.naks
+    split true = refl
+    split false = refl
+ack_naks s read = refl
+ack_naks s (ending None) = refl
+ack_naks s (ending (Some a)) = refl
+
+gave_naks : (s : State) (x : Bool) → (if x then forgotten (acknowledged s by.Control) else s).naks ≡ s.naks
+gave_naks s true = ack_naks s s.stage
+gave_naks s false = refl
+
+stage_naks : (max : ℕ) (s : State) (st : Stage) (t2 t3 : Way) → (in_stage_law s st max t2 t3).1.naks ≡ s.naks
+stage_naks max s idle t2 t3 = refl
+stage_naks max s refused t2 t3 = refl
+stage_naks max s (reading text wanted k) t2 t3 = split (packet_at (max_packet s.spec) wanted text k)
+  where
+    split : (o : Option (List ℕ)) → (elim o [ None ↦ pair None s | Some b ↦ gave s by.Control max (toggle_at k) b t2 t3 ]).1.naks ≡ s.naks
+    split None = refl
+    split (Some b) = gave_naks s (is_whole t2 && nat_le (length b) max && is_whole t3)
+stage_naks max s read t2 t3 = refl
+stage_naks max s (ending a) t2 t3 = gave_naks s (is_whole t2 && nat_le 0 max && is_whole t3)
+
+free_naks : (max : ℕ) (s : State) (row : List PortState) (t1 t2 t3 : Way) → is_busy s ≡ false → (in_law s row 0 max t1 t2 t3).1.naks ≡ s.naks
+free_naks max s row whole t2 t3 free = ap {A = Reply} (λ r. r.1.naks) (stage_gives max s s.stage row t2 t3 free refl) ∙ stage_naks max s s.stage t2 t3
+free_naks max s row broken t2 t3 free = refl
+free_naks max s row lost t2 t3 free = refl
+
+-- A device that is behind is so no more after an attempt that comes whole
+
+acked_stage : (text : List ℕ) (wanted k : ℕ) (s : State) → s.stage ≡ reading text wanted k → is_some (packet_at (max_packet s.spec) wanted text k) ≡ true → (forgotten (acknowledged s by.Control)).stage ≡ reading text wanted (k + 1)
+acked_stage text wanted k s stage some =
+    ap (λ st. (ack_row s st).stage) stage ∙ ap (λ b. (if b then at_stage s (reading text wanted (k + 1)) else s).stage) some
+
+behind_whole : (t : Target) (awaited : Toggle) (s : State) (row : List PortState) → is_busy s ≡ false → Behind t awaited s → Quiet awaited (in_law s row 0 t.max whole whole whole).1.stage
+behind_whole t awaited s row free h =
+    let b : Bytes (packet_at (max_packet s.spec) h.wanted h.text h.known) = bytes_in (packet_at (max_packet s.spec) h.wanted h.text h.known) h.some in
+    let few : length b.bytes ≤ t.max = omega (arith, h.most, packet-fits (max_packet s.spec) h.wanted h.text b.bytes h.known b.is) in
+    let gives : in_law s row 0 t.max whole whole whole ≡ gave s by.Control t.max (toggle_at h.known) b.bytes whole whole = reading_gives t.max h.text b.bytes h.wanted h.known s row whole whole free h.stage b.is in
+    let stage : (in_law s row 0 t.max whole whole whole).1.stage ≡ reading h.text h.wanted (h.known + 1) =
+        ap {A = Reply} (λ r. r.1.stage) gives ∙ ap (λ x. (if x && is_whole whole then forgotten (acknowledged s by.Control) else s).stage) (within (length b.bytes) t.max few) ∙ acked_stage h.text h.wanted h.known s h.stage h.some in
+    subst (λ st. Quiet awaited st) (sym stage) (quiet_reading awaited h.text h.wanted (h.known + 1) h.next)
+
+behind_in : (t : Target) (awaited : Toggle) (s : State) (row : List PortState) (t1 t2 t3 : Way) → is_busy s ≡ false → Behind t awaited s → AllWhole t1 t2 t3 → Quiet awaited (in_law s row 0 t.max t1 t2 t3).1.stage
+behind_in t awaited s row t1 t2 t3 free h x =
+    subst (λ y. Quiet awaited (in_law s row 0 t.max y t2 t3).1.stage) (sym x.0)
+    (subst (λ y. Quiet awaited (in_law s row 0 t.max whole y t3).1.stage) (sym x.1)
+    (subst (λ y. Quiet awaited (in_law s row 0 t.max whole whole y).1.stage) (sym x.2)
+    (behind_whole t awaited s row free h)))
