@@ -1,5 +1,5 @@
 -- Why IN of endpoint 0 fails.
-use Rattle.std.proofs.Common.{◌≡◌, ◌≢◌, ◌⊎◌, inl, inr, ℕ, zero, suc, ◌+◌, ◌-◌, ◌<◌, ◌≤◌, nat_le, nat_lt, ◌==◌, ◌||◌, ◌&&◌, if◌then◌else◌, Bool, true, false, List, [], ◌∷◌, length, Option, None, Some, is_some, Result, Ok, Err, refl, sym, subst, ap, ◌∙◌, arith}
+use Rattle.std.proofs.Common.{◌≡◌, ◌≢◌, ◌⊎◌, inl, inr, ℕ, zero, suc, ◌+◌, ◌-◌, ◌<◌, ◌≤◌, nat_le, nat_lt, ◌==◌, ◌||◌, ◌&&◌, not, if◌then◌else◌, Bool, true, false, List, [], ◌∷◌, length, Option, None, Some, is_some, Result, Ok, Err, refl, sym, subst, ap, ◌∙◌, arith}
 use Rattle.std.proofs.lemmas.Bool.Decides.{nat_tests}
 use Rattle.arrayvec.specs.ArrayVec.{ArrayVec}
 use Rattle.usb_packet.specs.declared.Toggle.{Toggle}
@@ -16,13 +16,25 @@ use Rattle.usb_device.proofs.Packets.{packet-fits}
 use Rattle.usb_bus.specs.declared.types.Outcome.{Outcome}
 use Rattle.usb_bus.specs.declared.types.Outcome.TheVariants as outcome
 use Rattle.usb_bus.specs.OneHolder.{got}
+use Rattle.usb_device.specs.Tree.{row_of}
+use Rattle.usb_bus.specs.Passes.{deep_at, IsSettled}
+use Rattle.usb_bus.specs.World.{World, Made}
+use Rattle.usb_bus.specs.Steps.{attempt, after, outcome_in, damage_in}
+use Rattle.usb_bus.specs.Devices.{EachWas, Ways, DidIn}
+use Rattle.usb_bus.proofs.Devices.{each_wider, each_in}
+use Rattle.usb_transaction.specs.declared.fault.TransFault.{TransFault}
+use Rattle.usb_transaction.specs.declared.fault.TransFault.TheVariants.{Stalled, Busy, NoAnswer}
+use Rattle.usb_transaction.specs.Trans.{packet_of, in_attempt}
+use Rattle.usb_transaction.specs.Over.{is_at}
+use Rattle.usb_transaction.proofs.Overs.{EachOf, mine, none_ends}
+use Rattle.usb_transaction.proofs.ControlOver.{Kept, kept_none, kept_twice, kept_did}
 use Rattle.usb_transaction.specs.declared.target.Target.{Target}
 use Rattle.usb_transaction.specs.declared.heard.Heard.{Heard}
 use Rattle.usb_transaction.specs.declared.heard.Heard.TheVariants.{Moved, NotReady, Repeat, Refused, Lost}
 use Rattle.usb_transaction.specs.Heard.{heard_as}
-use Rattle.usb_transaction.specs.Trail.{IsNoEnd, waits_with}
-use Rattle.usb_transaction.specs.Why.{HasNext, data_stage, status, refusal}
-use Rattle.usb_transaction.proofs.WhyCommon.{positive, not_busy}
+use Rattle.usb_transaction.specs.Trail.{Trail, Ended, Tells, IsNoEnd, waits_with, errors_running, waits_in}
+use Rattle.usb_transaction.specs.Why.{NoThreeDamaged, Listens, WhyControlIn, HasNext, data_stage, status, refusal}
+use Rattle.usb_transaction.proofs.WhyCommon.{LostRun, run_none, run_short, lost_more, damaged_more, each_along, each_along_then, positive, not_busy}
 
 -- What one attempt with one device brings
 
@@ -267,8 +279,11 @@ quiet_gave awaited given max bytes s whole t3 e h =
 quiet_gave awaited given max bytes s broken t3 e h = record { stays = refl; counts = λ n. omega arith }
 quiet_gave awaited given max bytes s lost t3 e h = record { stays = refl; counts = λ n. omega arith }
 
+abbrev read_reply : ℕ → ℕ → State → Way → Way → Option (List ℕ) → Reply
+read_reply max k s t2 t3 o = elim o [ None ↦ pair None s | Some b ↦ gave s by.Control max (toggle_at k) b t2 t3 ]
+
 quiet_read : (awaited : Toggle) (max k : ℕ) (s : State) (t2 t3 : Way) (o : Option (List ℕ)) → awaited ≡ toggle_at k
-    → IsNoEnd (heard_as awaited (got max (elim o [ None ↦ pair None s | Some b ↦ gave s by.Control max (toggle_at k) b t2 t3 ]).0)) → Counts awaited max s (elim o [ None ↦ pair None s | Some b ↦ gave s by.Control max (toggle_at k) b t2 t3 ])
+    → IsNoEnd (heard_as awaited (got max (read_reply max k s t2 t3 o).0)) → Counts awaited max s (read_reply max k s t2 t3 o)
 quiet_read awaited max k s t2 t3 None e h = counts_same awaited max s
 quiet_read awaited max k s t2 t3 (Some b) e h = quiet_gave awaited (toggle_at k) max b s t2 t3 e h
 
@@ -315,7 +330,7 @@ stage_naks max s idle t2 t3 = refl
 stage_naks max s refused t2 t3 = refl
 stage_naks max s (reading text wanted k) t2 t3 = split (packet_at (max_packet s.spec) wanted text k)
   where
-    split : (o : Option (List ℕ)) → (elim o [ None ↦ pair None s | Some b ↦ gave s by.Control max (toggle_at k) b t2 t3 ]).1.naks ≡ s.naks
+    split : (o : Option (List ℕ)) → (read_reply max k s t2 t3 o).1.naks ≡ s.naks
     split None = refl
     split (Some b) = gave_naks s (is_whole t2 && nat_le (length b) max && is_whole t3)
 stage_naks max s read t2 t3 = refl
@@ -347,3 +362,119 @@ behind_in t awaited s row t1 t2 t3 free h x =
     (subst (λ y. Quiet awaited (in_law s row 0 t.max whole y t3).1.stage) (sym x.1)
     (subst (λ y. Quiet awaited (in_law s row 0 t.max whole whole y).1.stage) (sym x.2)
     (behind_whole t awaited s row free h)))
+
+-- What an attempt brings from any device
+
+abbrev heard_in : Target → Toggle → World → Heard
+heard_in t awaited w = heard_as awaited (outcome_in (in_attempt t 0) w)
+
+record Brings (t : Target) (awaited : Toggle) (w : World) (p : List ℕ) (s v : State) (h : Heard) : Type 0 where
+  answers : Listens t p s → HasNext t awaited s → damage_in w ≡ None → h ≢ Lost
+  busy : is_at s t ≡ true → is_busy s ≡ true → s.spec.busy ≡ false → (v.stage ≡ s.stage) × ((n : ℕ) → waits_with h n + v.naks ≤ n + s.naks)
+  quiet : is_at s t ≡ true → is_busy s ≡ false → Quiet awaited s.stage → IsNoEnd h → (v.stage ≡ s.stage) × ((n : ℕ) → waits_with h n + v.naks ≤ n + s.naks)
+  naks : is_at s t ≡ true → is_busy s ≡ false → v.naks ≡ s.naks
+  level : Listens t p s → is_busy s ≡ false → Behind t awaited s → damage_in w ≡ None → Quiet awaited v.stage
+  back : v.stage ≡ refused → s.stage ≡ refused
+  there : is_at s t ≡ true → (v.registers ≡ s.registers) ⊎ ((s.spec.silent ≡ false) × (s.spec.busy ≡ false))
+  moved : is_at s t ≡ true → (b : ArrayVec ℕ) → h ≡ Moved b → (s.spec.silent ≡ false) × (s.spec.busy ≡ false)
+
+brings_other : (t : Target) (awaited : Toggle) (w : World) (p : List ℕ) (s : State) (h : Heard) → is_at s t ≡ false → Brings t awaited w p s s h
+brings_other t awaited w p s h d = record {
+  answers = λ l x n. mine t s l.at d;
+  busy = λ at x y. mine t s at d;
+  quiet = λ at x y z. mine t s at d;
+  naks = λ at x. mine t s at d;
+  level = λ l x y z. mine t s l.at d;
+  back = λ e. e;
+  there = λ at. mine t s at d;
+  moved = λ at b e. mine t s at d;
+}
+
+brings_silent : (t : Target) (awaited : Toggle) (w : World) (p : List ℕ) (s : State) → s.spec.silent ≡ true → Brings t awaited w p s s Lost
+brings_silent t awaited w p s q = record {
+  answers = λ l x n. absurd (cc (sym q ∙ l.loud));
+  busy = λ at x y. (refl, λ n. omega arith);
+  quiet = λ at x y z. (refl, λ n. omega arith);
+  naks = λ at x. refl;
+  level = λ l x y z. absurd (cc (sym q ∙ l.loud));
+  back = λ e. e;
+  there = λ at. inl refl;
+  moved = λ at b e. cc e;
+}
+
+there_loud : (s v : State) → s.spec.silent ≡ false → (v.registers ≡ s.registers) ⊎ (s.spec.busy ≡ false) → (v.registers ≡ s.registers) ⊎ ((s.spec.silent ≡ false) × (s.spec.busy ≡ false))
+there_loud s v q (inl e) = inl e
+there_loud s v q (inr e) = inr (q, e)
+
+brings_asked : (t : Target) (awaited : Toggle) (w : World) (p : List ℕ) (s : State) (row : List PortState) → s.spec.silent ≡ false → (x : Ways (in_attempt t 0) w p s)
+    → Brings t awaited w p s (in_law s row 0 t.max x.first x.second x.third).1 (heard_as awaited (got t.max (in_law s row 0 t.max x.first x.second x.third).0))
+brings_asked t awaited w p s row q x =
+    let r : Reply = in_law s row 0 t.max x.first x.second x.third in
+    let c : Calm awaited t.max s r = calm_in awaited t.max s row x.first x.second x.third in
+    record {
+      answers = λ l h n. answers_in t awaited s row x.first x.second x.third h (x.heard n l.hears);
+      busy = λ at b y. let k : Counts awaited t.max s r = busy_in awaited t.max s row x.first x.second x.third b y in (k.stays, k.counts);
+      quiet = λ at b y z. let k : Counts awaited t.max s r = quiet_in awaited t.max s row x.first x.second x.third b y z in (k.stays, k.counts);
+      naks = λ at b. free_naks t.max s row x.first x.second x.third b;
+      level = λ l b y n. behind_in t awaited s row x.first x.second x.third b y (x.heard n l.hears);
+      back = λ e. (refuses_in t.max s row x.first x.second x.third).back e;
+      there = λ at. there_loud s r.1 q c.there;
+      moved = λ at b e. (q, c.moved b e);
+    }
+
+did_brings : (t : Target) (awaited : Toggle) (w : World) (j : ℕ) (p : List ℕ) (s v : State) → DidIn (in_attempt t 0) w j p s v → Brings t awaited w p s v (heard_in t awaited w)
+did_brings t awaited w j p s v (DidIn.other d e) = subst (λ x. Brings t awaited w p s x (heard_in t awaited w)) (sym e) (brings_other t awaited w p s (heard_in t awaited w) d)
+did_brings t awaited w j p s v (DidIn.silent d q o e) =
+    subst (λ x. Brings t awaited w p s x (heard_in t awaited w)) (sym e) (subst (λ x. Brings t awaited w p s s (heard_as awaited x)) (sym o) (brings_silent t awaited w p s q))
+did_brings t awaited w j p s v (DidIn.asked d q b below h x o e) =
+    let r : Reply = in_law s (row_of below) 0 t.max x.first x.second x.third in
+    subst (λ y. Brings t awaited w p s y (heard_in t awaited w)) (sym e) (subst (λ y. Brings t awaited w p s r.1 (heard_as awaited y)) (sym o) (brings_asked t awaited w p s (row_of below) q x))
+
+-- A device over the attempts
+
+data Waiting (t : Target) (awaited : Toggle) (old : World) (outcomes : List Outcome) (w : World) (s v : State) : Type 0 where
+  quiet : Quiet awaited v.stage → waits_in (heard_as awaited) outcomes + v.naks ≤ s.naks + 3 → Waiting t awaited old outcomes w s v
+  behind : Behind t awaited v → (r : ℕ) → LostRun old.damages r w.attempts → (0 < r → v.naks ≡ 0) → waits_in (heard_as awaited) outcomes + v.naks ≤ s.naks + r → Waiting t awaited old outcomes w s v
+
+record Going (t : Target) (awaited : Toggle) (old : World) (outcomes : List Outcome) (w : World) (j : ℕ) (p : List ℕ) (s v : State) : Type 0 where
+  kept : Kept t awaited j p s v
+  back : v.stage ≡ refused → s.stage ≡ refused
+  there : is_at s t ≡ true → (is_at v t ≡ true) ⊎ ((s.spec.silent ≡ false) × (s.spec.busy ≡ false))
+  lost : Listens t p s → HasNext t awaited s → LostRun old.damages (errors_running (heard_as awaited) outcomes) w.attempts
+  waits : Listens t p s → HasNext t awaited s → s.spec.busy ≡ false → Waiting t awaited old outcomes w s v
+
+waiting_none : (t : Target) (awaited : Toggle) (old : World) (s : State) → Quiet awaited s.stage ⊎ Behind t awaited s → Waiting t awaited old [] old s s
+unfolding waits_in
+waiting_none t awaited old s (inl q) = quiet q (omega arith)
+waiting_none t awaited old s (inr h) = behind h 0 (run_none old.damages old.attempts) (λ e. absurd (omega (arith, e))) (omega arith)
+
+going_none : (t : Target) (awaited : Toggle) (old : World) (j : ℕ) (p : List ℕ) (s : State) → Going t awaited old [] old j p s s
+unfolding errors_running
+going_none t awaited old j p s = record {
+  kept = kept_none t awaited j p s;
+  back = λ e. e;
+  there = λ at. inl at;
+  lost = λ l h. run_none old.damages old.attempts;
+  waits = λ l h b. waiting_none t awaited old s (quiet_or_behind t awaited s h);
+}
+
+-- what is next is so until it comes
+kept_spec : (t : Target) (awaited : Toggle) (j : ℕ) (p : List ℕ) (s v : State) → Kept t awaited j p s v → v.spec ≡ s.spec
+kept_spec t awaited j p s v k = ap (λ x. x.spec) k.frame
+
+next_kept : (t : Target) (awaited : Toggle) (j : ℕ) (p : List ℕ) (s v : State) → Kept t awaited j p s v → HasNext t awaited s → HasNext t awaited v × (v.registers ≡ s.registers)
+next_kept t awaited j p s v k (data_stage text wanted n e r some most) =
+    let x : _ = k.reads text wanted n e r in
+    (data_stage text wanted n e x.0 (ap (λ y. is_some (packet_at (max_packet y) wanted text n)) (kept_spec t awaited j p s v k) ∙ some) (subst (λ y. max_packet y ≤ t.max) (sym (kept_spec t awaited j p s v k)) most), x.1)
+next_kept t awaited j p s v k (status a h e) = (status a (k.ends e a h) e, k.fails e)
+next_kept t awaited j p s v k (refusal h) = (refusal (k.refuses h).0, (k.refuses h).1)
+
+at_from : (t : Target) (s v : State) → v.registers ≡ s.registers → is_at s t ≡ true → is_at v t ≡ true
+at_from t s v e h = ap (λ x. x.address == t.addr) e ∙ h
+
+listens_kept : (t : Target) (awaited : Toggle) (j : ℕ) (p : List ℕ) (s v : State) → Kept t awaited j p s v → HasNext t awaited s → Listens t p s → Listens t p v
+listens_kept t awaited j p s v k h l = record {
+  at = at_from t s v (next_kept t awaited j p s v k h).1 l.at;
+  loud = ap (λ x. x.silent) (kept_spec t awaited j p s v k) ∙ l.loud;
+  hears = ap (λ x. if t.low then x.low && (not (deep_at false p) || t.pre) else not x.low) (kept_spec t awaited j p s v k) ∙ l.hears;
+}
