@@ -13,6 +13,7 @@ use Rattle.usb_device.specs.Rows.{State, Reply, payload, forgotten, is_busy, nak
 use Rattle.usb_device.specs.Attempt.{Way, whole, broken, lost, is_whole, heard, gave, in_stage_law, in_law}
 use Rattle.usb_device.specs.Progress.{ReadingAt}
 use Rattle.usb_device.proofs.Packets.{packet-fits}
+use Rattle.usb_bus.specs.declared.damage.Damage.{Damage}
 use Rattle.usb_bus.specs.declared.types.Outcome.{Outcome}
 use Rattle.usb_bus.specs.declared.types.Outcome.TheVariants as outcome
 use Rattle.usb_bus.specs.OneHolder.{got}
@@ -365,7 +366,7 @@ behind_in t awaited s row t1 t2 t3 free h x =
 
 -- What an attempt brings from any device
 
-abbrev heard_in : Target → Toggle → World → Heard
+abbrev pub heard_in : Target → Toggle → World → Heard
 heard_in t awaited w = heard_as awaited (outcome_in (in_attempt t 0) w)
 
 record Brings (t : Target) (awaited : Toggle) (w : World) (p : List ℕ) (s v : State) (h : Heard) : Type 0 where
@@ -430,13 +431,19 @@ did_brings t awaited w j p s v (DidIn.asked d q b below h x o e) =
     let r : Reply = in_law s (row_of below) 0 t.max x.first x.second x.third in
     subst (λ y. Brings t awaited w p s y (heard_in t awaited w)) (sym e) (subst (λ y. Brings t awaited w p s r.1 (heard_as awaited y)) (sym o) (brings_asked t awaited w p s (row_of below) q x))
 
+pub did_back : (t : Target) (w : World) (j : ℕ) (p : List ℕ) (s v : State) → DidIn (in_attempt t 0) w j p s v → (is_at s t ≡ false → v ≡ s) × (v.stage ≡ refused → s.stage ≡ refused)
+did_back t w j p s v (DidIn.other d e) = (λ h. e, λ h. ap (λ x. x.stage) (sym e) ∙ h)
+did_back t w j p s v (DidIn.silent d q o e) = (λ h. e, λ h. ap (λ x. x.stage) (sym e) ∙ h)
+did_back t w j p s v (DidIn.asked d q b below h x o e) =
+    (λ f. mine t s d f, λ f. (refuses_in t.max s (row_of below) x.first x.second x.third).back (ap (λ y. y.stage) (sym e) ∙ f))
+
 -- A device over the attempts
 
-data Waiting (t : Target) (awaited : Toggle) (old : World) (outcomes : List Outcome) (w : World) (s v : State) : Type 0 where
+pub data Waiting (t : Target) (awaited : Toggle) (old : World) (outcomes : List Outcome) (w : World) (s v : State) : Type 0 where
   quiet : Quiet awaited v.stage → waits_in (heard_as awaited) outcomes + v.naks ≤ s.naks + 3 → Waiting t awaited old outcomes w s v
   behind : Behind t awaited v → (r : ℕ) → LostRun old.damages r w.attempts → (0 < r → v.naks ≡ 0) → waits_in (heard_as awaited) outcomes + v.naks ≤ s.naks + r → Waiting t awaited old outcomes w s v
 
-record Going (t : Target) (awaited : Toggle) (old : World) (outcomes : List Outcome) (w : World) (j : ℕ) (p : List ℕ) (s v : State) : Type 0 where
+pub record Going (t : Target) (awaited : Toggle) (old : World) (outcomes : List Outcome) (w : World) (j : ℕ) (p : List ℕ) (s v : State) : Type 0 where
   kept : Kept t awaited j p s v
   back : v.stage ≡ refused → s.stage ≡ refused
   there : is_at s t ≡ true → (is_at v t ≡ true) ⊎ ((s.spec.silent ≡ false) × (s.spec.busy ≡ false))
@@ -448,7 +455,7 @@ unfolding waits_in
 waiting_none t awaited old s (inl q) = quiet q (omega arith)
 waiting_none t awaited old s (inr h) = behind h 0 (run_none old.damages old.attempts) (λ e. absurd (omega (arith, e))) (omega arith)
 
-going_none : (t : Target) (awaited : Toggle) (old : World) (j : ℕ) (p : List ℕ) (s : State) → Going t awaited old [] old j p s s
+pub going_none : (t : Target) (awaited : Toggle) (old : World) (j : ℕ) (p : List ℕ) (s : State) → Going t awaited old [] old j p s s
 unfolding errors_running
 going_none t awaited old j p s = record {
   kept = kept_none t awaited j p s;
@@ -478,3 +485,126 @@ listens_kept t awaited j p s v k h l = record {
   loud = ap (λ x. x.silent) (kept_spec t awaited j p s v k) ∙ l.loud;
   hears = ap (λ x. if t.low then x.low && (not (deep_at false p) || t.pre) else not x.low) (kept_spec t awaited j p s v k) ∙ l.hears;
 }
+
+-- One attempt more
+
+second_false : (x y : Bool) → x || y ≡ false → y ≡ false
+second_false true y e = cc
+second_false false y e = e
+
+none_more : (n : ℕ) → nat_lt 0 n ≡ false → n ≡ 0
+none_more n e = grind (arith, nat_tests, e)
+
+free_none : (s : State) → is_busy s ≡ false → s.naks ≡ 0
+free_none s e = none_more s.naks (second_false s.spec.busy (nat_lt 0 s.naks) e)
+
+module _ (t : Target) (awaited : Toggle) (old : World) (never : NoThreeDamaged old) (outcomes : List Outcome) (w : World)
+    (trail : Trail (in_attempt t 0) old outcomes w) (made : Made w (after (attempt (in_attempt t 0)) w)) (p : List ℕ) (s u v : State)
+    (b : Brings t awaited w p u v (heard_in t awaited w)) where
+  abbrev Then : Type 0
+  Then = Waiting t awaited old (outcome_in (in_attempt t 0) w ∷ outcomes) (after (attempt (in_attempt t 0)) w) s v
+
+  more_counts : (n : ℕ) → ((m : ℕ) → waits_with (heard_in t awaited w) m + v.naks ≤ m + u.naks) → waits_in (heard_as awaited) outcomes + u.naks ≤ n
+      → waits_in (heard_as awaited) (outcome_in (in_attempt t 0) w ∷ outcomes) + v.naks ≤ n
+  unfolding waits_in
+  more_counts n k le = omega (arith, k (waits_in (heard_as awaited) outcomes), le)
+
+  more_most : (n : ℕ) → v.naks ≡ u.naks → waits_in (heard_as awaited) outcomes + u.naks ≤ n → waits_in (heard_as awaited) (outcome_in (in_attempt t 0) w ∷ outcomes) + v.naks ≤ n + 1
+  unfolding waits_in
+  more_most n e le = omega (arith, waits_most (heard_in t awaited w) (waits_in (heard_as awaited) outcomes), e, le)
+
+  from_quiet : is_at u t ≡ true → u.spec.busy ≡ false → IsNoEnd (heard_in t awaited w) → Quiet awaited u.stage → waits_in (heard_as awaited) outcomes + u.naks ≤ s.naks + 3 → (x : Bool) → is_busy u ≡ x → Then
+  from_quiet at calm on q le true busy = quiet (subst (λ st. Quiet awaited st) (sym (b.busy at busy calm).0) q) (more_counts (s.naks + 3) (b.busy at busy calm).1 le)
+  from_quiet at calm on q le false free = quiet (subst (λ st. Quiet awaited st) (sym (b.quiet at free q on).0) q) (more_counts (s.naks + 3) (b.quiet at free q on).1 le)
+
+  none_run : (n : ℕ) → Quiet awaited v.stage ⊎ Behind t awaited v → waits_in (heard_as awaited) (outcome_in (in_attempt t 0) w ∷ outcomes) + v.naks ≤ s.naks + 0 → Then
+  none_run n (inl q) le = quiet q (omega (arith, le))
+  none_run n (inr h) le = behind h 0 (run_none old.damages (after (attempt (in_attempt t 0)) w).attempts) (λ e. absurd (omega (arith, e))) le
+
+  from_busy : is_at u t ≡ true → u.spec.busy ≡ false → HasNext t awaited v → is_busy u ≡ true → (r : ℕ) → (0 < r → u.naks ≡ 0) → waits_in (heard_as awaited) outcomes + u.naks ≤ s.naks + r → Then
+  from_busy at calm next busy zero none le = none_run 0 (quiet_or_behind t awaited v next) (more_counts (s.naks + 0) (b.busy at busy calm).1 le)
+  from_busy at calm next busy (suc r) none le = absurd (omega (arith, positive u busy calm, none (omega arith)))
+
+  from_damaged : is_at u t ≡ true → is_busy u ≡ false → damage_in w ≢ None → Quiet awaited v.stage ⊎ Behind t awaited v → (r : ℕ) → LostRun old.damages r w.attempts → waits_in (heard_as awaited) outcomes + u.naks ≤ s.naks + r → Then
+  from_damaged at free d (inl q) r run le = quiet q (omega (arith, run_short old r w.attempts never run, more_most (s.naks + r) (b.naks at free) le))
+  from_damaged at free d (inr h) r run le =
+      behind h (r + 1) (damaged_more r trail made d run) (λ e. b.naks at free ∙ free_none u free) (omega (arith, more_most (s.naks + r) (b.naks at free) le))
+
+  from_free : Listens t p u → HasNext t awaited v → is_busy u ≡ false → Behind t awaited u → (r : ℕ) → LostRun old.damages r w.attempts → waits_in (heard_as awaited) outcomes + u.naks ≤ s.naks + r
+      → (o : Option Damage) → damage_in w ≡ o → Then
+  from_free l next free h r run le None d = quiet (b.level l free h d) (omega (arith, run_short old r w.attempts never run, more_most (s.naks + r) (b.naks l.at free) le))
+  from_free l next free h r run le (Some x) d = from_damaged l.at free (λ e. cc (sym d ∙ e)) (quiet_or_behind t awaited v next) r run le
+
+  from_behind : Listens t p u → HasNext t awaited v → u.spec.busy ≡ false → Behind t awaited u → (r : ℕ) → LostRun old.damages r w.attempts → (0 < r → u.naks ≡ 0) → waits_in (heard_as awaited) outcomes + u.naks ≤ s.naks + r
+      → (x : Bool) → is_busy u ≡ x → Then
+  from_behind l next calm h r run none le true busy = from_busy l.at calm next busy r none le
+  from_behind l next calm h r run none le false free = from_free l next free h r run le (damage_in w) refl
+
+  waiting_more : Listens t p u → HasNext t awaited v → u.spec.busy ≡ false → IsNoEnd (heard_in t awaited w) → Waiting t awaited old outcomes w s u → Then
+  waiting_more l next calm on (quiet q le) = from_quiet l.at calm on q le (is_busy u) refl
+  waiting_more l next calm on (behind h r run none le) = from_behind l next calm h r run none le (is_busy u) refl
+
+there_more : (t : Target) (s u v : State) → u.spec ≡ s.spec → (is_at u t ≡ true → (v.registers ≡ u.registers) ⊎ ((u.spec.silent ≡ false) × (u.spec.busy ≡ false))) → (is_at u t ≡ true) ⊎ ((s.spec.silent ≡ false) × (s.spec.busy ≡ false))
+    → (is_at v t ≡ true) ⊎ ((s.spec.silent ≡ false) × (s.spec.busy ≡ false))
+there_more t s u v e f (inr x) = inr x
+there_more t s u v e f (inl at) = pick (f at)
+  where
+    pick : (v.registers ≡ u.registers) ⊎ ((u.spec.silent ≡ false) × (u.spec.busy ≡ false)) → (is_at v t ≡ true) ⊎ ((s.spec.silent ≡ false) × (s.spec.busy ≡ false))
+    pick (inl g) = inl (at_from t u v g at)
+    pick (inr x) = inr (ap (λ y. y.silent) (sym e) ∙ x.0, ap (λ y. y.busy) (sym e) ∙ x.1)
+
+lost_then : (t : Target) (awaited : Toggle) (old : World) (outcomes : List Outcome) (w : World) → Trail (in_attempt t 0) old outcomes w → Made w (after (attempt (in_attempt t 0)) w)
+    → (j : ℕ) (p : List ℕ) (s u v : State) → Going t awaited old outcomes w j p s u → Brings t awaited w p u v (heard_in t awaited w) → Listens t p s → HasNext t awaited s
+    → LostRun old.damages (errors_running (heard_as awaited) (outcome_in (in_attempt t 0) w ∷ outcomes)) (after (attempt (in_attempt t 0)) w).attempts
+lost_then t awaited old outcomes w trail made j p s u v g b l h =
+    lost_more (heard_as awaited) trail made (b.answers (listens_kept t awaited j p s u g.kept h l) (next_kept t awaited j p s u g.kept h).0) (g.lost l h)
+
+pub going_more : (t : Target) (awaited : Toggle) (old : World) → NoThreeDamaged old → (outcomes : List Outcome) (w : World) → Trail (in_attempt t 0) old outcomes w → Made w (after (attempt (in_attempt t 0)) w)
+    → IsNoEnd (heard_in t awaited w) → (j : ℕ) (p : List ℕ) (s u v : State) → Going t awaited old outcomes w j p s u → DidIn (in_attempt t 0) w j p u v
+    → Going t awaited old (outcome_in (in_attempt t 0) w ∷ outcomes) (after (attempt (in_attempt t 0)) w) j p s v
+going_more t awaited old never outcomes w trail made on j p s u v g d =
+    let b : Brings t awaited w p u v (heard_in t awaited w) = did_brings t awaited w j p u v d in
+    let k : Kept t awaited j p s v = kept_twice t awaited j p s u v g.kept (kept_did t awaited w on j p u v d) in
+    let same : u.spec ≡ s.spec = kept_spec t awaited j p s u g.kept in
+    record {
+      kept = k;
+      back = λ e. g.back (b.back e);
+      there = λ at. there_more t s u v same b.there (g.there at);
+      lost = λ l h. lost_then t awaited old outcomes w trail made j p s u v g b l h;
+      waits = λ l h calm. waiting_more t awaited old never outcomes w trail made p s u v b (listens_kept t awaited j p s u g.kept h l) (next_kept t awaited j p s v k h).0
+          (ap (λ x. x.busy) same ∙ calm) on (g.waits l h calm);
+    }
+
+-- The last attempt
+
+abbrev pub HeadOn : Toggle → List Outcome → Type 0
+HeadOn awaited [] = ⊥
+HeadOn awaited (o ∷ outcomes) = IsNoEnd (heard_as awaited o)
+
+abbrev pub HeadMoves : Toggle → List Outcome → Type 0 → Type 0
+HeadMoves awaited [] P = Unit {0}
+HeadMoves awaited (o ∷ outcomes) P = (b : ArrayVec ℕ) → heard_as awaited o ≡ Moved b → P
+
+pub record Final (t : Target) (awaited : Toggle) (old : World) (outcomes : List Outcome) (w : World) (j : ℕ) (p : List ℕ) (s v : State) : Type 0 where
+  pub lost : Listens t p s → HasNext t awaited s → LostRun old.damages (errors_running (heard_as awaited) outcomes) w.attempts
+  pub waits : HeadOn awaited outcomes → Listens t p s → HasNext t awaited s → s.spec.busy ≡ false → Waiting t awaited old outcomes w s v
+  pub moved : is_at s t ≡ true → HeadMoves awaited outcomes ((s.spec.silent ≡ false) × (s.spec.busy ≡ false))
+
+moved_then : (t : Target) (s u : State) → u.spec ≡ s.spec → (is_at u t ≡ true) ⊎ ((s.spec.silent ≡ false) × (s.spec.busy ≡ false)) → (is_at u t ≡ true → (u.spec.silent ≡ false) × (u.spec.busy ≡ false)) → (s.spec.silent ≡ false) × (s.spec.busy ≡ false)
+moved_then t s u e (inl at) f = (ap (λ y. y.silent) (sym e) ∙ (f at).0, ap (λ y. y.busy) (sym e) ∙ (f at).1)
+moved_then t s u e (inr x) f = x
+
+pub final_more : (t : Target) (awaited : Toggle) (old : World) → NoThreeDamaged old → (outcomes : List Outcome) (w : World) → Trail (in_attempt t 0) old outcomes w → Made w (after (attempt (in_attempt t 0)) w)
+    → (j : ℕ) (p : List ℕ) (s u v : State) → Going t awaited old outcomes w j p s u → DidIn (in_attempt t 0) w j p u v
+    → Final t awaited old (outcome_in (in_attempt t 0) w ∷ outcomes) (after (attempt (in_attempt t 0)) w) j p s v
+final_more t awaited old never outcomes w trail made j p s u v g d =
+    let b : Brings t awaited w p u v (heard_in t awaited w) = did_brings t awaited w j p u v d in
+    record {
+      lost = λ l h. lost_then t awaited old outcomes w trail made j p s u v g b l h;
+      waits = λ on. (going_more t awaited old never outcomes w trail made on j p s u v g d).waits;
+      moved = λ at c e. moved_then t s u (kept_spec t awaited j p s u g.kept) (g.there at) (λ x. b.moved x c e);
+    }
+
+pub waited_few : (t : Target) (awaited : Toggle) (old : World) (outcomes : List Outcome) (w : World) (s v : State) → NoThreeDamaged old → Waiting t awaited old outcomes w s v → waits_in (heard_as awaited) outcomes ≤ s.naks + 3
+waited_few t awaited old outcomes w s v never (quiet q le) = omega (arith, le)
+waited_few t awaited old outcomes w s v never (behind h r run none le) = omega (arith, le, run_short old r w.attempts never run)

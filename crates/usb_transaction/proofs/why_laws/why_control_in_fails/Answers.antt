@@ -1,5 +1,5 @@
-use Rattle.usb_transaction.proofs.WhyControl.{quiet_or_behind, refuses_in}
+use Rattle.usb_transaction.proofs.WhyControlIn.{control_in_why}
 use Rattle.usb_transaction.proofs.why_laws.why_control_in_fails.Goals as goal
 
 pub returns : goal.returns
-returns c = ?
+returns c = control_in_why
