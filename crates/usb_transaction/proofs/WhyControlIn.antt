@@ -51,5 +51,5 @@ control_in_why t awaited result old new settled never e single j p v on there =
       on = f.on;
       stands = f.stands;
       so = why t awaited result old new never e.last e.outcomes e.onward e.tells j p f.before v
-          (λ at is. stalled_refused t settled (subst (λ o. Trail (in_attempt t 0) old (o ∷ e.outcomes) new) is e.trail) single j p f.before on f.stands at) f.so;
+          (λ at is. stalled_refused t settled e.trail is single j p f.before on f.stands at) f.so;
     }

@@ -112,16 +112,14 @@ stalled_by t {old} {w} settled whole single r unshared e h j p s on there at =
     (equal_same (address_of f.before) t.addr (was_at t f.before h.s f.so.others (same_test (address_of h.s) t.addr x.at)))
     on ((due_back old j p on).1 ∙ there) at (f.so.back (stalled_stage t w h.j h.p h.b h.s h.below x e))
 
-pub stalled_refused : (t : Target) {old new : World} {outcomes : List Outcome} → IsSettled old.roots → Trail (in_attempt t 0) old (outcome.Stall ∷ outcomes) new → new.shared ≡ false
-    → (j : ℕ) (p : List ℕ) (s : State) → reach_at new.roots j p ≡ true → state_at old.roots j p ≡ Some s → is_at s t ≡ true → s.stage ≡ refused
-stalled_refused t {old} {new} {outcomes} settled r single j p s on there at = split outcome.Stall refl r
-  where
-    split : (o : Outcome) → o ≡ outcome.Stall → Trail (in_attempt t 0) old (o ∷ outcomes) new → s.stage ≡ refused
-    split o e (next w q made) = pick (holder_or_nobody (in_attempt t 0) w m single)
-      where
-        m : IsMade (in_attempt t 0) w
-        m = made_of (in_attempt t 0) w (trail_settled q settled) made
+stalled_with : (t : Target) {old w new : World} {o : Outcome} {outcomes rest : List Outcome} → IsSettled old.roots → Trail (in_attempt t 0) old (o ∷ rest) new → new.shared ≡ false → Trail (in_attempt t 0) old outcomes w → w.shared ≡ false
+    → outcome_in (in_attempt t 0) w ≡ outcome.Stall → IsMade (in_attempt t 0) w → SomeHolder (in_attempt t 0) w ⊎ NobodyHolds t.addr (ready w).roots
+    → (j : ℕ) (p : List ℕ) (s : State) → reach_at (ready old).roots j p ≡ true → state_at old.roots j p ≡ Some s → is_at s t ≡ true → s.stage ≡ refused
+stalled_with t settled whole single r unshared e m (inl h) = stalled_by t settled whole single r unshared e h
+stalled_with t {old} {w} settled whole single r unshared e m (inr n) = absurd (cc (sym e ∙ (nobody_in (in_attempt t 0) w m n).0))
 
-        pick : SomeHolder (in_attempt t 0) w ⊎ NobodyHolds t.addr (ready w).roots → s.stage ≡ refused
-        pick (inl h) = stalled_by t settled r single q (made_unshared (in_attempt t 0) w made single).before e h j p s (trail_back t settled q j p (made_back t w m j p on)) there at
-        pick (inr n) = absurd (cc (sym e ∙ (nobody_in (in_attempt t 0) w m n).0))
+pub stalled_refused : (t : Target) {old new : World} {o : Outcome} {outcomes : List Outcome} → IsSettled old.roots → Trail (in_attempt t 0) old (o ∷ outcomes) new → o ≡ outcome.Stall → new.shared ≡ false
+    → (j : ℕ) (p : List ℕ) (s : State) → reach_at new.roots j p ≡ true → state_at old.roots j p ≡ Some s → is_at s t ≡ true → s.stage ≡ refused
+stalled_refused t settled (next w q made) e single j p s on there at =
+    let m : IsMade (in_attempt t 0) w = made_of (in_attempt t 0) w (trail_settled q settled) made in
+    stalled_with t settled (next w q made) single q (made_unshared (in_attempt t 0) w made single).before e m (holder_or_nobody (in_attempt t 0) w m single) j p s (trail_back t settled q j p (made_back t w m j p on)) there at
