@@ -1,5 +1,5 @@
 -- Why IN of endpoint 0 fails.
-use Rattle.std.proofs.Common.{◌≡◌, ◌≢◌, ◌⊎◌, inl, inr, ℕ, zero, suc, ◌+◌, ◌-◌, ◌<◌, ◌≤◌, nat_le, nat_lt, ◌==◌, ◌||◌, ◌&&◌, not, if◌then◌else◌, Bool, true, false, List, [], ◌∷◌, length, Option, None, Some, is_some, Result, Ok, Err, refl, sym, subst, ap, ◌∙◌, arith}
+use Rattle.std.proofs.Common.{◌≡◌, ◌≢◌, ◌⊎◌, inl, inr, ℕ, zero, suc, ◌+◌, ◌<◌, ◌≤◌, nat_le, nat_lt, ◌==◌, ◌||◌, ◌&&◌, not, if◌then◌else◌, Bool, true, false, List, [], ◌∷◌, length, Option, None, Some, is_some, refl, sym, subst, ap, ◌∙◌, arith}
 use Rattle.std.proofs.lemmas.Bool.Decides.{nat_tests}
 use Rattle.arrayvec.specs.ArrayVec.{ArrayVec}
 use Rattle.usb_packet.specs.declared.Toggle.{Toggle}
@@ -18,24 +18,21 @@ use Rattle.usb_bus.specs.declared.types.Outcome.{Outcome}
 use Rattle.usb_bus.specs.declared.types.Outcome.TheVariants as outcome
 use Rattle.usb_bus.specs.OneHolder.{got}
 use Rattle.usb_device.specs.Tree.{row_of}
-use Rattle.usb_bus.specs.Passes.{deep_at, IsSettled}
+use Rattle.usb_bus.specs.Passes.{deep_at}
 use Rattle.usb_bus.specs.World.{World, Made}
 use Rattle.usb_bus.specs.Steps.{attempt, after, outcome_in, damage_in}
-use Rattle.usb_bus.specs.Devices.{EachWas, Ways, DidIn}
-use Rattle.usb_bus.proofs.Devices.{each_wider, each_in}
-use Rattle.usb_transaction.specs.declared.fault.TransFault.{TransFault}
-use Rattle.usb_transaction.specs.declared.fault.TransFault.TheVariants.{Stalled, Busy, NoAnswer}
-use Rattle.usb_transaction.specs.Trans.{packet_of, in_attempt}
+use Rattle.usb_bus.specs.Devices.{Ways, DidIn}
+use Rattle.usb_transaction.specs.Trans.{in_attempt}
 use Rattle.usb_transaction.specs.Over.{is_at}
-use Rattle.usb_transaction.proofs.Overs.{EachOf, mine, none_ends}
+use Rattle.usb_transaction.proofs.Overs.{mine}
 use Rattle.usb_transaction.proofs.ControlOver.{Kept, kept_none, kept_twice, kept_did}
 use Rattle.usb_transaction.specs.declared.target.Target.{Target}
 use Rattle.usb_transaction.specs.declared.heard.Heard.{Heard}
 use Rattle.usb_transaction.specs.declared.heard.Heard.TheVariants.{Moved, NotReady, Repeat, Refused, Lost}
 use Rattle.usb_transaction.specs.Heard.{heard_as}
-use Rattle.usb_transaction.specs.Trail.{Trail, Ended, Tells, IsNoEnd, waits_with, errors_running, waits_in}
-use Rattle.usb_transaction.specs.Why.{NoThreeDamaged, Listens, WhyControlIn, HasNext, data_stage, status, refusal}
-use Rattle.usb_transaction.proofs.WhyCommon.{LostRun, run_none, run_short, lost_more, damaged_more, each_along, each_along_then, positive, not_busy}
+use Rattle.usb_transaction.specs.Trail.{Trail, IsNoEnd, waits_with, errors_running, waits_in}
+use Rattle.usb_transaction.specs.Why.{NoThreeDamaged, Listens, HasNext, data_stage, status, refusal}
+use Rattle.usb_transaction.proofs.WhyCommon.{LostRun, run_none, run_short, lost_more, damaged_more, positive, not_busy}
 
 -- What one attempt with one device brings
 

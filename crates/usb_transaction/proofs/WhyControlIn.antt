@@ -1,5 +1,5 @@
 -- Why IN of endpoint 0 fails, by its answer.
-use Rattle.std.proofs.Common.{◌≡◌, ℕ, ◌+◌, ◌≤◌, List, [], ◌∷◌, true, false, Some, Result, Ok, Err, refl, sym, subst, ap, ◌∙◌, arith}
+use Rattle.std.proofs.Common.{◌≡◌, ℕ, List, ◌∷◌, true, false, Result, Ok, Err, refl, subst, arith}
 use Rattle.usb_packet.specs.declared.Toggle.{Toggle}
 use Rattle.usb_device.specs.Rows.{State}
 use Rattle.usb_device.specs.Transfer.{refused}
@@ -13,11 +13,11 @@ use Rattle.usb_transaction.specs.declared.target.Target.{Target}
 use Rattle.usb_transaction.specs.declared.fault.TransFault.{TransFault}
 use Rattle.usb_transaction.specs.declared.fault.TransFault.TheVariants.{Stalled, Busy, NoAnswer}
 use Rattle.usb_transaction.specs.Heard.{heard_as}
-use Rattle.usb_transaction.specs.Trail.{Trail, Ended, Tells, IsNoEnd, GoesOn, errors_running, waits_in}
+use Rattle.usb_transaction.specs.Trail.{Ended, Tells, IsNoEnd, GoesOn, errors_running, waits_in}
 use Rattle.usb_transaction.specs.Trans.{packet_of, in_attempt}
 use Rattle.usb_transaction.specs.Over.{is_at}
-use Rattle.usb_transaction.specs.Why.{NoThreeDamaged, Listens, HasNext, WhyControlIn}
-use Rattle.usb_transaction.proofs.Overs.{LastIs, last_is, none_ends}
+use Rattle.usb_transaction.specs.Why.{NoThreeDamaged, WhyControlIn}
+use Rattle.usb_transaction.proofs.Overs.{last_is, none_ends}
 use Rattle.usb_transaction.proofs.WhyCommon.{run_short, each_along_then}
 use Rattle.usb_transaction.proofs.WhyControl.{Going, Final, going_none, going_more, final_more, waited_few}
 use Rattle.usb_transaction.proofs.WhyStall.{stalled_refused}

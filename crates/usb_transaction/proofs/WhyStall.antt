@@ -1,7 +1,6 @@
 -- A STALL of endpoint 0 is of the one device that had the target's address from the first attempt on.
-use Rattle.std.proofs.Common.{◌≡◌, ◌⊎◌, inl, inr, ℕ, suc, ◌==◌, ◌&&◌, Bool, true, false, List, [], ◌∷◌, Option, None, Some, option_map, refl, sym, subst, ap, ◌∙◌}
+use Rattle.std.proofs.Common.{◌≡◌, ◌⊎◌, inl, inr, ℕ, suc, ◌&&◌, true, false, List, ◌∷◌, Some, option_map, refl, sym, ap, ◌∙◌}
 use Rattle.std.proofs.lemmas.Option.{same_Some}
-use Rattle.usb_packet.specs.declared.Toggle.{Toggle}
 use Rattle.usb_port.specs.PortState.{PortState}
 use Rattle.usb_device.specs.Transfer.{refused}
 use Rattle.usb_device.specs.Rows.{State}
@@ -12,7 +11,7 @@ use Rattle.usb_bus.specs.declared.types.Outcome.TheVariants as outcome
 use Rattle.usb_bus.specs.Live.{address_of, same_number, same_path}
 use Rattle.usb_bus.specs.Passes.{IsSettled, OneHolds, NobodyHolds}
 use Rattle.usb_bus.specs.OneHolder.{IsMade, HolderIn, SomeHolder}
-use Rattle.usb_bus.specs.World.{World, Made}
+use Rattle.usb_bus.specs.World.{World}
 use Rattle.usb_bus.specs.Steps.{attempt, after, outcome_in, damage_in, ready}
 use Rattle.usb_bus.specs.Devices.{Was, EachWas, DidIn}
 use Rattle.usb_bus.proofs.Addresses.{data_calm}
@@ -29,7 +28,7 @@ use Rattle.usb_transaction.specs.Trail.{Trail, start, next}
 use Rattle.usb_transaction.specs.Trans.{in_attempt}
 use Rattle.usb_transaction.specs.Over.{is_at}
 use Rattle.usb_transaction.proofs.Meanings.{got_stall}
-use Rattle.usb_transaction.proofs.Overs.{mine, other_twice}
+use Rattle.usb_transaction.proofs.Overs.{other_twice}
 use Rattle.usb_transaction.proofs.Trails.{trail_settled, made_unshared}
 use Rattle.usb_transaction.proofs.WhyCommon.{each_along, each_any}
 use Rattle.usb_transaction.proofs.WhyControl.{did_back, refuses_in}

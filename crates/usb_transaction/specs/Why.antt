@@ -1,11 +1,11 @@
 -- Why a transaction fails, where no three attempts running are damaged.
-use Rattle.std.specs.Prelude.{◌≡◌, ◌≢◌, ℕ, ◌+◌, ◌≤◌, ◌<◌, List, [], length, true, false, Option, None, Some, is_some, Result, Ok, Err}
+use Rattle.std.specs.Prelude.{◌≡◌, ◌≢◌, ℕ, ◌+◌, ◌≤◌, ◌<◌, List, length, true, false, Option, None, is_some, Result, Ok, Err}
 use Rattle.usb_packet.specs.declared.Toggle.{Toggle}
 use Rattle.usb_packet.specs.declared.Toggle.TheVariants.{One}
 use Rattle.usb_device.specs.Bulk.{tells_changes}
 use Rattle.usb_device.specs.Rows.{State}
 use Rattle.usb_device.specs.Transfer.{ending, refused, max_packet, packet_at, toggle_at}
-use Rattle.usb_device.specs.Progress.{ReadingAt, IsSource, SourceAt, IsSink, SinkAt, PollAt, NeverTold}
+use Rattle.usb_device.specs.Progress.{ReadingAt, IsSource, SourceAt, IsSink, PollAt, NeverTold}
 use Rattle.usb_bus.specs.Wire.{damage_of}
 use Rattle.usb_bus.specs.Passes.{deep_at}
 use Rattle.usb_bus.specs.OneHolder.{hears_attempt}
