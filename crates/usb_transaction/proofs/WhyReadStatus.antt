@@ -1,5 +1,5 @@
 -- Why the status stage of a control read fails.
-use Rattle.std.proofs.Common.{◌≡◌, ◌≢◌, inl, inr, ℕ, zero, suc, ◌+◌, ◌≤◌, nat_le, nat_lt, ◌==◌, ◌||◌, ◌&&◌, if◌then◌else◌, Bool, true, false, List, [], ◌∷◌, length, Option, None, Some, Result, Ok, Err, refl, sym, subst, ap, ◌∙◌, arith}
+use Rattle.std.proofs.Common.{◌≡◌, ◌≢◌, inl, inr, ℕ, ◌+◌, ◌≤◌, nat_le, ◌==◌, ◌&&◌, if◌then◌else◌, Bool, true, false, List, [], ◌∷◌, length, Option, None, Some, Result, Ok, Err, refl, sym, subst, ap, ◌∙◌, arith}
 use Rattle.usb_packet.specs.declared.Toggle.TheVariants.{One}
 use Rattle.usb_device.specs.declared.answer.Answer.{Answer}
 use Rattle.usb_device.specs.declared.answer.Answer.TheVariants as answer
@@ -26,7 +26,7 @@ use Rattle.usb_transaction.specs.Over.{is_at, IsInRead, data_stage, over}
 use Rattle.usb_transaction.specs.Why.{NoThreeDamaged, Listens, WhyReadStatus}
 use Rattle.usb_transaction.proofs.Lasts.{sent_last}
 use Rattle.usb_transaction.proofs.Meanings.{got_ack, got_stall}
-use Rattle.usb_transaction.proofs.Overs.{EachOf, mine}
+use Rattle.usb_transaction.proofs.Overs.{mine}
 use Rattle.usb_transaction.proofs.ReadOver.{Heard_row, Moves, Kept, as_other, kept_none, kept_twice, kept_did}
 use Rattle.usb_transaction.proofs.WhyCommon.{LostRun, run_none, run_short, lost_more, each_along, each_any, positive, not_busy}
 
