@@ -36,7 +36,8 @@ pub use target::Target;
 pub use usb_bus::{Bus, BusFault};
 pub use usb_packet::Toggle;
 pub use why_laws::{
-    why_a_poll_fails, why_bulk_in_fails, why_bulk_out_fails, why_read_status_fails,
+    why_a_poll_fails, why_bulk_in_fails, why_bulk_out_fails, why_control_in_fails,
+    why_read_status_fails,
 };
 pub use write::data_out;
 

@@ -12,7 +12,13 @@ ghost use Rattle.usb_transaction.specs.declared.fault.TransFault.{TransFault as 
 ghost use Rattle.usb_transaction.specs.Heard.{heard_as, sent_as};
 ghost use Rattle.usb_transaction.specs.Trail.{Ended, PollEnded};
 ghost use Rattle.usb_transaction.specs.Trans.{in_attempt, out_attempt};
-ghost use Rattle.usb_transaction.specs.Why.{NoThreeDamaged, WhyReadStatus, WhySourceIn, WhySinkOut, WhyPoll};
+ghost use Rattle.usb_transaction.specs.Why.{NoThreeDamaged, WhyControlIn, WhyReadStatus, WhySourceIn, WhySinkOut, WhyPoll};
+
+/// IN of endpoint 0 (8.5.3).
+pub fn why_control_in_fails()
+    ensures { (t : ATarget) (awaited : Toggle) (result : Result (List ℕ) AFault) (old new : World) → IsSettled old.roots → NoThreeDamaged old
+        → Ended (heard_as awaited) (in_attempt t 0) old result new → new.shared ≡ false → EachWas (WhyControlIn t awaited result) old new }
+{}
 
 /// The status stage of a control read (8.5.3).
 pub fn why_read_status_fails()
