@@ -351,7 +351,7 @@ behind_whole t awaited s row free h =
     let few : length b.bytes ≤ t.max = omega (arith, h.most, packet-fits (max_packet s.spec) h.wanted h.text b.bytes h.known b.is) in
     let gives : in_law s row 0 t.max whole whole whole ≡ gave s by.Control t.max (toggle_at h.known) b.bytes whole whole = reading_gives t.max h.text b.bytes h.wanted h.known s row whole whole free h.stage b.is in
     let stage : (in_law s row 0 t.max whole whole whole).1.stage ≡ reading h.text h.wanted (h.known + 1) =
-        ap {A = Reply} (λ r. r.1.stage) gives ∙ ap (λ x. (if x && is_whole whole then forgotten (acknowledged s by.Control) else s).stage) (within (length b.bytes) t.max few) ∙ acked_stage h.text h.wanted h.known s h.stage h.some in
+    ap {A = Reply} (λ r. r.1.stage) gives ∙ ap (λ x. (if x && is_whole whole then forgotten (acknowledged s by.Control) else s).stage) (within (length b.bytes) t.max few) ∙ acked_stage h.text h.wanted h.known s h.stage h.some in
     subst (λ st. Quiet awaited st) (sym stage) (quiet_reading awaited h.text h.wanted (h.known + 1) h.next)
 
 behind_in : (t : Target) (awaited : Toggle) (s : State) (row : List PortState) (t1 t2 t3 : Way) → is_busy s ≡ false → Behind t awaited s → AllWhole t1 t2 t3 → Quiet awaited (in_law s row 0 t.max t1 t2 t3).1.stage

@@ -43,9 +43,9 @@ pub control_in_why : (t : Target) (awaited : Toggle) (result : Result (List ℕ)
     → Ended (heard_as awaited) (in_attempt t 0) old result new → new.shared ≡ false → EachWas (WhyControlIn t awaited result) old new
 control_in_why t awaited result old new settled never e single j p v on there =
     let f : Was (Final t awaited old (e.last ∷ e.outcomes) new) old j p v =
-        each_along_then (Going t awaited old) (Final t awaited old) (DidIn (in_attempt t 0)) (λ o. IsNoEnd (heard_as awaited o)) (λ o. Unit {0}) (going_none t awaited old)
-        (λ outcomes w trail made k. going_more t awaited old never outcomes w trail made k) (λ outcomes w trail made k. final_more t awaited old never outcomes w trail made)
-        (λ w made u. each_in (in_attempt t 0) w made (record { kind = refl; payload = refl }) u) settled e.trail (none_ends (heard_as awaited) e.outcomes e.onward) tt single j p v on there in
+    each_along_then (Going t awaited old) (Final t awaited old) (DidIn (in_attempt t 0)) (λ o. IsNoEnd (heard_as awaited o)) (λ o. Unit {0}) (going_none t awaited old)
+    (λ outcomes w trail made k. going_more t awaited old never outcomes w trail made k) (λ outcomes w trail made k. final_more t awaited old never outcomes w trail made)
+    (λ w made u. each_in (in_attempt t 0) w made (record { kind = refl; payload = refl }) u) settled e.trail (none_ends (heard_as awaited) e.outcomes e.onward) tt single j p v on there in
     record {
       before = f.before;
       on = f.on;
