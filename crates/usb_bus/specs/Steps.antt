@@ -141,17 +141,19 @@ pub data Coming : World → World → Type 0 where
   nothing_yet : (w : World) → Coming w w
   next_came : {w v : World} → Coming w v → has_due v ≡ true → Coming w (took_first v.left v)
 
--- each device may have had its packets or not: the same devices stand at the same ports, and remember none
-pub record IsCut (old new : Ports) : Type 0 where
-  pub same : figure new ≡ figure old
-  pub row : row_of new ≡ row_of old
-  pub settled : IsSettled new
+-- memory was refused for the host's data on their way down the tree: some devices had them, and nothing went after them
+pub record IsCut (a : Attempt) (damage : Option Damage) (old new : Ports) : Type 0 where
+  pub sent : Sent
+  pub went : payload_out a damage ≡ Some sent
+  pub tree : Ports
+  pub stopped : Stopped sent false (passed (token_out a damage) old) tree
+  pub is : new ≡ all_forgotten tree
 
 -- what a fault leaves of an attempt: some of the events that were due, and no attempt; or all of them, and an attempt
 -- that memory was refused for; or the whole step, and only its line was not written
 pub data Left (a : Attempt) (old : World) (f : BusFault) (new : World) : Type 0 where
   at_event : Coming old new → Left a old f new
-  at_packet : (k : Ports) → f ≡ Memory → IsCut (ready old).roots k
+  at_packet : (k : Ports) → f ≡ Memory → IsCut a (damage_in (ready old)) (ready old).roots k
       → new ≡ record (ready old) { roots = k; shared = (ready old).shared || is_twice (held (ready old).roots) } → Left a old f new
   at_line : f ≡ TraceFailed → new ≡ with_attempt a (ready old) → Left a old f new
 
