@@ -2,10 +2,12 @@
 use Rattle.std.specs.Prelude.{◌≡◌, ℕ, ◌+◌, ◌-◌, ◌==◌, nat_le, Bool, true, false, ◌&&◌, ◌||◌, not, if◌then◌else◌, List, [], ◌∷◌, slice_get, slice_set, unwrap_or, Option, Some, None, is_some, Result, Ok, Err, ⊤}
 use Rattle.usb_port.specs.PortState.{set_row, clear_row}
 use Rattle.usb_device.specs.declared.calls.PortCall.{PortCall}
+use Rattle.usb_device.specs.declared.delivery.Sent.{Sent}
 use Rattle.usb_device.specs.Spec.{Spec}
 use Rattle.usb_device.specs.Calls.{set_call, clear_call}
-use Rattle.usb_device.specs.Tree.{Ports, new_ports, called, replaced, changed, row_of}
-use Rattle.usb_device.specs.Delivery.{held, is_twice, figure, is_clearing}
+use Rattle.usb_device.specs.Tree.{Ports, new_ports, called, replaced, changed}
+use Rattle.usb_device.specs.Delivery.{held, is_twice, all_forgotten, is_clearing}
+use Rattle.usb_device.specs.Stopped.{Stopped}
 use Rattle.usb_bus.specs.declared.damage.Damage.{Damage}
 use Rattle.usb_bus.specs.declared.event.Due.{Due}
 use Rattle.usb_bus.specs.declared.event.Event.{Event}
@@ -17,11 +19,11 @@ use Rattle.usb_bus.specs.declared.types.Outcome.{Outcome}
 use Rattle.usb_bus.specs.declared.types.BusFault.{BusFault}
 use Rattle.usb_bus.specs.declared.types.BusFault.TheVariants.{LimitReached, Memory, TraceFailed}
 use Rattle.usb_bus.specs.Wire.{damage_of}
-use Rattle.usb_bus.specs.Exchange.{heard_in, mark_in, lost_in, cleared_in, exchange_in, ports_in, outcome_of}
+use Rattle.usb_bus.specs.Exchange.{heard_in, mark_in, lost_in, cleared_in, exchange_in, ports_in, outcome_of, token_out, payload_out}
 use Rattle.usb_bus.specs.Losses.{no_losses, counted, after_clearing}
 use Rattle.usb_bus.specs.Live.{is_way}
 use Rattle.usb_bus.specs.Sane.{IsSane}
-use Rattle.usb_bus.specs.Passes.{IsSettled}
+use Rattle.usb_bus.specs.Passes.{IsSettled, passed}
 use Rattle.usb_bus.specs.PlanData.{PlanData}
 use Rattle.usb_bus.specs.World.{World, root_row, port_at, to_come, Spends, Failed}
 

@@ -4,7 +4,7 @@ use Rattle.usb_port.specs.PortState.{PortState}
 use Rattle.usb_device.specs.declared.delivery.Sent.{Sent}
 use Rattle.usb_device.specs.declared.delivery.Heard.{Heard}
 use Rattle.usb_device.specs.Rows.{State}
-use Rattle.usb_device.specs.Tree.{Ports, vacant, taken, Plugged, Place, empty, full, before}
+use Rattle.usb_device.specs.Tree.{Ports, taken, Plugged, Place, empty, full, before}
 use Rattle.usb_device.specs.Delivery.{after_packet, delivered_place}
 use Rattle.usb_device.specs.Stopped.{Stopped, behind_empty, behind, below, here, StoppedDevice, lower, itself, StoppedPlace, IsRefused}
 
