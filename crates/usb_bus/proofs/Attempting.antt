@@ -10,10 +10,9 @@ use Rattle.usb_bus.specs.declared.types.Outcome.{Outcome}
 use Rattle.usb_bus.specs.declared.types.BusFault.{BusFault}
 use Rattle.usb_bus.specs.declared.types.BusFault.TheVariants.{LimitReached, Memory, TraceFailed}
 use Rattle.usb_bus.specs.World.{World}
-use Rattle.usb_bus.specs.Steps.{ready, with_attempt, attempted, attempt, event, event_taken, took_first, after, fault_of, Left, Coming, at_event, at_packet, at_line, AttemptFails}
-use Rattle.usb_bus.specs.Passes.{IsSettled}
-use Rattle.usb_device.specs.Tree.{Ports, row_of}
-use Rattle.usb_device.specs.Delivery.{held, is_twice, figure}
+use Rattle.usb_bus.specs.Steps.{ready, with_attempt, attempted, attempt, event, event_taken, took_first, after, fault_of, Left, Coming, at_event, at_packet, at_line, AttemptFails, IsCut, damage_in}
+use Rattle.usb_device.specs.Tree.{Ports}
+use Rattle.usb_device.specs.Delivery.{held, is_twice}
 
 pub after_fault : (a : Attempt) (w : World) (f : BusFault) → w.fault ≡ Some f → w ≡ after (attempt a) w
 unfolding after
@@ -67,15 +66,14 @@ pub left_at_event : {T : Type 0} (r : Result T BusFault) (a : Attempt) (w m : Wo
 left_at_event (Ok x) a w m c sound = tt
 left_at_event (Err f) a w m c sound = at_event (subst (λ v. Coming w v) (sym (without_fault m m None refl sound refl)) c)
 
--- memory was refused while the packets went
-pub left_at_packet : {T : Type 0} (r : Result T BusFault) (a : Attempt) (w m v : World) (k : Ports) → IsErrAnd r (λ f. f ≡ Memory) → m ≡ ready w → figure k ≡ figure m.roots → row_of k ≡ row_of m.roots → IsSettled k
+-- memory was refused while the host's data went
+pub left_at_packet : {T : Type 0} (r : Result T BusFault) (a : Attempt) (w m v : World) (k : Ports) → IsErrAnd r (λ f. f ≡ Memory) → m ≡ ready w → IsCut a (damage_in m) m.roots k
     → v ≡ record m { roots = k; shared = m.shared || is_twice (held m.roots) } → IfErr r (λ f. Left a w f v)
-left_at_packet (Ok x) a w m v k is e same row settled made = tt
-left_at_packet (Err f) a w m v k is e same row settled made =
-    let P : World → Type 0 = λ x. figure k ≡ figure x.roots in
-    let Q : World → Type 0 = λ x. row_of k ≡ row_of x.roots in
+left_at_packet (Ok x) a w m v k is e cut made = tt
+left_at_packet (Err f) a w m v k is e cut made =
+    let P : World → Type 0 = λ x. IsCut a (damage_in x) x.roots k in
     let left : World → World = λ x. record x { roots = k; shared = x.shared || is_twice (held x.roots) } in
-    at_packet k is (record { same = subst P e same; row = subst Q e row; settled = settled }) (made ∙ ap left e)
+    at_packet k is (subst P e cut) (made ∙ ap left e)
 
 -- only the line was not written
 pub left_at_line : {T : Type 0} (r : Result T BusFault) (a : Attempt) (w v : World) → IsErrAnd r (λ f. f ≡ TraceFailed) → v ≡ with_attempt a (ready w) → IfErr r (λ f. Left a w f v)

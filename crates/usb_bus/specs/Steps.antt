@@ -2,10 +2,12 @@
 use Rattle.std.specs.Prelude.{◌≡◌, ℕ, ◌+◌, ◌-◌, ◌==◌, nat_le, Bool, true, false, ◌&&◌, ◌||◌, not, if◌then◌else◌, List, [], ◌∷◌, slice_get, slice_set, unwrap_or, Option, Some, None, is_some, Result, Ok, Err, ⊤}
 use Rattle.usb_port.specs.PortState.{set_row, clear_row}
 use Rattle.usb_device.specs.declared.calls.PortCall.{PortCall}
+use Rattle.usb_device.specs.declared.delivery.Sent.{Sent}
 use Rattle.usb_device.specs.Spec.{Spec}
 use Rattle.usb_device.specs.Calls.{set_call, clear_call}
-use Rattle.usb_device.specs.Tree.{Ports, new_ports, called, replaced, changed, row_of}
-use Rattle.usb_device.specs.Delivery.{held, is_twice, figure, is_clearing}
+use Rattle.usb_device.specs.Tree.{Ports, new_ports, called, replaced, changed}
+use Rattle.usb_device.specs.Delivery.{held, is_twice, all_forgotten, is_clearing}
+use Rattle.usb_device.specs.Stopped.{Stopped}
 use Rattle.usb_bus.specs.declared.damage.Damage.{Damage}
 use Rattle.usb_bus.specs.declared.event.Due.{Due}
 use Rattle.usb_bus.specs.declared.event.Event.{Event}
@@ -17,11 +19,11 @@ use Rattle.usb_bus.specs.declared.types.Outcome.{Outcome}
 use Rattle.usb_bus.specs.declared.types.BusFault.{BusFault}
 use Rattle.usb_bus.specs.declared.types.BusFault.TheVariants.{LimitReached, Memory, TraceFailed}
 use Rattle.usb_bus.specs.Wire.{damage_of}
-use Rattle.usb_bus.specs.Exchange.{heard_in, mark_in, lost_in, cleared_in, exchange_in, ports_in, outcome_of}
+use Rattle.usb_bus.specs.Exchange.{heard_in, mark_in, lost_in, cleared_in, exchange_in, ports_in, outcome_of, token_out, payload_out}
 use Rattle.usb_bus.specs.Losses.{no_losses, counted, after_clearing}
 use Rattle.usb_bus.specs.Live.{is_way}
 use Rattle.usb_bus.specs.Sane.{IsSane}
-use Rattle.usb_bus.specs.Passes.{IsSettled}
+use Rattle.usb_bus.specs.Passes.{IsSettled, passed}
 use Rattle.usb_bus.specs.PlanData.{PlanData}
 use Rattle.usb_bus.specs.World.{World, root_row, port_at, to_come, Spends, Failed}
 
@@ -141,17 +143,19 @@ pub data Coming : World → World → Type 0 where
   nothing_yet : (w : World) → Coming w w
   next_came : {w v : World} → Coming w v → has_due v ≡ true → Coming w (took_first v.left v)
 
--- each device may have had its packets or not: the same devices stand at the same ports, and remember none
-pub record IsCut (old new : Ports) : Type 0 where
-  pub same : figure new ≡ figure old
-  pub row : row_of new ≡ row_of old
-  pub settled : IsSettled new
+-- memory was refused for the host's data on their way down the tree: some devices had them, and nothing went after them
+pub record IsCut (a : Attempt) (damage : Option Damage) (old new : Ports) : Type 0 where
+  pub sent : Sent
+  pub went : payload_out a damage ≡ Some sent
+  pub tree : Ports
+  pub stopped : Stopped sent false (passed (token_out a damage) old) tree
+  pub is : new ≡ all_forgotten tree
 
 -- what a fault leaves of an attempt: some of the events that were due, and no attempt; or all of them, and an attempt
 -- that memory was refused for; or the whole step, and only its line was not written
 pub data Left (a : Attempt) (old : World) (f : BusFault) (new : World) : Type 0 where
   at_event : Coming old new → Left a old f new
-  at_packet : (k : Ports) → f ≡ Memory → IsCut (ready old).roots k
+  at_packet : (k : Ports) → f ≡ Memory → IsCut a (damage_in (ready old)) (ready old).roots k
       → new ≡ record (ready old) { roots = k; shared = (ready old).shared || is_twice (held (ready old).roots) } → Left a old f new
   at_line : f ≡ TraceFailed → new ≡ with_attempt a (ready old) → Left a old f new
 

@@ -1,12 +1,14 @@
 //! One attempt: the host's packets go to the devices, and their answers come together.
-ghost use Rattle.std.specs.Prelude.{◌≡◌, ◌≤◌, true, Some, IfOk, IfSome, OnOk};
+ghost use Rattle.std.specs.Prelude.{◌≡◌, ◌≤◌, true, Some, IfOk, IfSome, OnOk, OnErr};
 ghost use Rattle.usb_packet.specs.Spelling.{HasFields};
 ghost use Rattle.usb_device.specs.Tree.{row_of};
 ghost use Rattle.usb_device.specs.Delivery.{figure};
 ghost use Rattle.usb_bus.specs.World.{IsAttempt, FitsMaximum};
 ghost use Rattle.usb_bus.specs.Wire.{has_its_bit};
-ghost use Rattle.usb_bus.specs.Exchange.{token_of, payload_of, answer_place, answer_mark, reply_of, outcome_of, exchange_in, ended_in, ports_in, goes_out, sent_as, is_lost, clears_at};
+ghost use Rattle.usb_bus.specs.Exchange.{token_of, payload_of, answer_place, answer_mark, reply_of, outcome_of, exchange_in, ended_in, ports_in, goes_out, token_out, payload_out, sent_as, is_lost, clears_at};
 ghost use Rattle.usb_bus.specs.Passes.{IsSettled, passed, told};
+ghost use Rattle.usb_bus.specs.Cut.{IsStopped};
+ghost use Rattle.usb_bus.specs.Steps.{IsCut};
 ghost use Rattle.usb_bus.specs.Answering.{joined, heard_from, heard_told};
 
 use crate::damage::{Damage, Harm};
@@ -68,8 +70,9 @@ pub(crate) struct Exchange {
 }
 
 /// Makes an attempt: the token, then the data, one of them; then what the host says to the answer.
-/// After it no device remembers a packet, also where memory was refused.
-#[tactic(auto, using(crate::proofs::Exchanges::over_row, crate::proofs::Exchanges::over_figure, crate::proofs::Exchanges::over_settled, crate::proofs::Exchanges::over_ports))]
+/// After it no device remembers a packet, also where memory was refused. That happens to the host's data alone: no sink grows
+/// at a token or at an ACK.
+#[tactic(auto, using(crate::proofs::Exchanges::over_row, crate::proofs::Exchanges::over_figure, crate::proofs::Exchanges::over_settled, crate::proofs::Exchanges::over_ports, crate::proofs::Refusals::over_cut))]
 pub(crate) fn make_exchange(
     roots: &mut Ports,
     attempt: &Attempt,
@@ -81,6 +84,7 @@ pub(crate) fn make_exchange(
     ensures settled { IsSettled roots.new }
     ensures made { IfOk result (λ made. made ≡ exchange_in attempt.now damage roots.old) }
     ensures ports { OnOk result (roots.new ≡ ports_in attempt.now damage roots.old) }
+    ensures cut { OnErr result (IsCut attempt.now damage roots.old roots.new) }
 {
     let made = send_packets(roots, attempt, damage);
     roots.attempt_over();
@@ -97,6 +101,7 @@ fn send_packets(
     ensures figure { figure roots.new ≡ figure roots.old }
     ensures made { IfOk result (λ made. made ≡ exchange_in attempt.now damage roots.old) }
     ensures ports { OnOk result (roots.new ≡ ended_in attempt.now damage roots.old) }
+    ensures stopped { OnErr result (IsStopped (payload_out attempt.now damage) (passed (token_out attempt.now damage) roots.old) roots.new) }
 {
     let token = marked(damage, 1, attempt.pre, token_of(attempt));
     let to_token = send(roots, attempt, &token)?;
@@ -182,6 +187,7 @@ fn send(roots: &mut Ports, attempt: &Attempt, packet: &Outgoing) -> Result<Heard
     ensures figure { figure roots.new ≡ figure roots.old }
     ensures heard { IfOk result (λ heard. heard ≡ heard_told (goes_out attempt.now (Some packet.now)) roots.old) }
     ensures ports { IfOk result (λ heard. roots.new ≡ passed (goes_out attempt.now (Some packet.now)) roots.old) }
+    ensures stopped { OnErr result (IsStopped (goes_out attempt.now (Some packet.now)) roots.old roots.new) }
 {
     match goes_out(attempt, packet) {
         None => Ok(Heard::Nothing),
@@ -200,6 +206,7 @@ fn send_some(
     ensures figure { figure roots.new ≡ figure roots.old }
     ensures heard { IfOk result (λ heard. heard ≡ heard_told (goes_out attempt.now packet.now) roots.old) }
     ensures ports { IfOk result (λ heard. roots.new ≡ passed (goes_out attempt.now packet.now) roots.old) }
+    ensures stopped { OnErr result (IsStopped (goes_out attempt.now packet.now) roots.old roots.new) }
 {
     match packet {
         None => Ok(Heard::Nothing),
@@ -234,6 +241,7 @@ fn send_reply(
     ensures figure { figure roots.new ≡ figure roots.old }
     ensures lost { IfOk result (λ lost. lost ≡ is_lost reply.now (goes_out attempt.now reply.now) roots.old) }
     ensures ports { IfOk result (λ lost. roots.new ≡ passed (goes_out attempt.now reply.now) roots.old) }
+    ensures stopped { OnErr result (IsStopped (goes_out attempt.now reply.now) roots.old roots.new) }
 {
     let Some(packet) = reply else {
         return Ok(false);

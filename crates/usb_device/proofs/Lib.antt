@@ -17,3 +17,4 @@ pub mod Strays
 pub mod ControlProgress
 pub mod BulkProgress
 pub mod ChangesProgress
+pub mod Stopping

@@ -18,3 +18,4 @@ pub mod View
 pub mod Lending
 pub mod Stray
 pub mod Progress
+pub mod Stopped

@@ -2,6 +2,7 @@
 ghost use Rattle.std.specs.Prelude.{◌≡◌, false, true, IfOk, OnErr};
 ghost use Rattle.usb_device.specs.Tree.{row_of};
 ghost use Rattle.usb_device.specs.Places.{ports_in, stood};
+ghost use Rattle.usb_device.specs.Stopped.{Stopped, StoppedDevice, StoppedPlace, IsRefused, IsRefusedContent};
 ghost use Rattle.usb_device.specs.Delivery.{Carries, is_heard, heard_from, both, delivered, taken_content, taken_sent, delivered_device, delivered_place, figure, figure_in, figure_of};
 
 use crate::answer::Answer;
@@ -89,12 +90,13 @@ impl Ports {
     /// A packet goes down the tree, through the enabled ports, and what is heard of the answers comes back. A device on one
     /// of these ports hears low-speed packets; one below hears them only with PRE.
     ///
-    /// An error: memory is refused for a sink that was to grow; each device that was reached may have had the packet or not.
-    /// The same devices stand at the same ports, and the ports of the row itself are as they were.
+    /// An error: memory is refused for a sink that was to grow. The devices in front of it and below it had the packet; it
+    /// and those behind it had not. The same devices stand at the same ports, and the ports of the row itself are as they were.
     pub fn deliver(&mut self, sent: &Sent) -> Result<Heard, AllocError>
         ensures ok { IfOk result (λ heard. (heard, self.new) ≡ delivered sent.now false self.old) }
         ensures err { OnErr result (figure self.new ≡ figure self.old) }
         ensures row { OnErr result (row_of self.new ≡ row_of self.old) }
+        ensures stopped { OnErr result (Stopped sent.now false self.old self.new) }
     {
         self.pass(sent, false)
     }
@@ -104,6 +106,7 @@ impl Ports {
         ensures ok { IfOk result (λ heard. (heard, self.new) ≡ delivered sent.now deep self.old) }
         ensures err { OnErr result (figure self.new ≡ figure self.old) }
         ensures row { row_of self.new ≡ row_of self.old }
+        ensures stopped { OnErr result (Stopped sent.now deep self.old self.new) }
     {
         deliver_all(self.places.as_mut_slice(), sent, deep)
     }
@@ -115,6 +118,7 @@ fn deliver_all(places: &mut [Place], sent: &Sent, deep: bool) -> Result<Heard, A
     ensures ok { IfOk result (λ heard. (heard, ports_in places.new) ≡ delivered sent.now deep (ports_in places.old)) }
     ensures err { OnErr result (figure (ports_in places.new) ≡ figure (ports_in places.old)) }
     ensures row { row_of (ports_in places.new) ≡ row_of (ports_in places.old) }
+    ensures stopped { OnErr result (Stopped sent.now deep (ports_in places.old) (ports_in places.new)) }
 {
     match places.split_first_mut() {
         None => Ok(Heard::NoAnswer),
@@ -132,6 +136,7 @@ impl Place {
         ensures ok { IfOk result (λ heard. (heard, stood self.new) ≡ delivered_place sent.now deep (stood self.old)) }
         ensures err { OnErr result (figure_in (stood self.new) ≡ figure_in (stood self.old)) }
         ensures port { self.new.port ≡ self.old.port }
+        ensures stopped { OnErr result (StoppedPlace sent.now deep (stood self.old) (stood self.new)) }
     {
         match &mut self.device {
             Some(device) if self.port.is_enabled() => device.deliver(sent, deep),
@@ -147,6 +152,7 @@ impl Device {
     fn deliver(&mut self, sent: &Sent, deep: bool) -> Result<Heard, AllocError>
         ensures ok { IfOk result (λ heard. (heard, self.new) ≡ delivered_device sent.now deep self.old) }
         ensures err { OnErr result (figure_of self.new ≡ figure_of self.old) }
+        ensures stopped { OnErr result (StoppedDevice sent.now deep self.old self.new) }
     {
         let below = self.ports.pass(sent, true)?;
         let here = self.take_sent(sent, deep)?;
@@ -157,6 +163,7 @@ impl Device {
     fn take_sent(&mut self, sent: &Sent, deep: bool) -> Result<Option<Answer>, AllocError>
         ensures ok { IfOk result (λ answer. (answer, self.new) ≡ taken_sent sent.now deep self.old) }
         ensures err { OnErr result (self.new ≡ self.old) }
+        ensures refused { OnErr result (IsRefused sent.now deep self.old.own) }
     {
         if is_heard(sent, deep, self.is_low()) {
             self.take_content(&sent.content)
@@ -168,6 +175,7 @@ impl Device {
     fn take_content(&mut self, content: &Content) -> Result<Option<Answer>, AllocError>
         ensures ok { IfOk result (λ answer. (answer, self.new) ≡ taken_content content.now self.old) }
         ensures err { OnErr result (self.new ≡ self.old) }
+        ensures refused { OnErr result (IsRefusedContent content.now self.old.own) }
     {
         match content {
             Content::Whole(packet) => self.take(packet),

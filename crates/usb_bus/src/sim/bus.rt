@@ -106,7 +106,7 @@ impl<W: Write> SimBus<W> {
         self.take_due_events()?;
         self.shared |= self.roots.has_shared_address();
         let damage = damage_of(&self.damages, self.attempts + 1);
-        // Where memory is refused, a device may have had its packets or not: the fault stands before they go.
+        // Where memory is refused, some devices had the host's data and others had not: the fault stands before they go.
         self.fault = Some(BusFault::Memory);
         let exchange = make_exchange(&mut self.roots, attempt, damage)?;
         self.fault = None;

@@ -2,6 +2,7 @@ use Rattle.std.proofs.Common.{◌∙◌, ◌+◌, ap, ap₂}
 use Rattle.usb_bus.specs.Wire.{harm_to, marked, marked_some}
 use Rattle.usb_bus.specs.Exchange.{answer_mark}
 use Rattle.usb_bus.proofs.Exchanges.{Makes, made_exchange, made_ports}
+use Rattle.usb_bus.proofs.Refusals.{token_not_stopped, reply_not_stopped}
 use Rattle.usb_bus.proofs.exchange.send_packets.Goals as goal
 
 makes : (c : goal.In_ok-address_lost) → Makes c.args.attempt.now c.args.damage c.args.roots.now
@@ -49,3 +50,17 @@ returns-clause-made c = made_exchange _ _ _ _ (makes c)
 pub returns-clause-ports : goal.returns-clause-ports
 unfolding makes
 returns-clause-ports c = made_ports _ _ _ _ (makes c)
+
+pub returns-in_err-to_token-clause-stopped : goal.returns-in_err-to_token-clause-stopped
+returns-in_err-to_token-clause-stopped c =
+    let a = c.args.attempt.now in
+    let token = c.marked-token.ensures.value ∙ ap (marked c.args.damage 1 a.pre) c.token_of.ensures.value in
+    absurd (token_not_stopped a c.args.damage c.marked-token.result c.args.roots.now c.send.new.roots token c.in_err-to_token.ensures.stopped)
+
+pub returns-in_err-address_lost-clause-stopped : goal.returns-in_err-address_lost-clause-stopped
+returns-in_err-address_lost-clause-stopped c =
+    let a = c.args.attempt.now in
+    let n = c.answer_place-place.result + 1 in
+    let reply = c.marked_some-reply.ensures.value ∙ ap (λ o. marked_some c.args.damage n a.pre o) c.reply_of-reply.ensures.value in
+    absurd (reply_not_stopped a c.args.damage n c.joined-answer.result c.answer_mark-answer_mark.result a.max c.marked_some-reply.result c.send_some.new.roots c.send_reply.new.roots reply
+    c.in_err-address_lost.ensures.stopped)

@@ -10,7 +10,7 @@ use Rattle.usb_bus.specs.Losses.{AreOfDamages, counted}
 use Rattle.usb_bus.specs.World.{World}
 use Rattle.usb_bus.specs.Sim.{world_of}
 use Rattle.usb_bus.specs.Sane.{IsSane}
-use Rattle.usb_bus.specs.Steps.{made_in}
+use Rattle.usb_bus.specs.Steps.{made_in, IsCut}
 use Rattle.usb_bus.proofs.Attempting.{without_fault, left_at_event, left_at_packet, left_at_line}
 use Rattle.usb_bus.proofs.Between.{sane_ports}
 use Rattle.usb_bus.proofs.Comings.{lines_of_attempt, attempt_made, outcome_made_in}
@@ -120,11 +120,14 @@ returns-clause-lines g c =
 pub returns-in_err-exchange-clause-left : goal.returns-in_err-exchange-clause-left
 returns-in_err-exchange-clause-left g c =
     let mid = c.take_due_events.new.self in
+    let a = c.args.attempt.now in
+    let damage = c.damage_of-damage.ensures ∙ ap (λ (l : List Damage). damage_of l (mid.attempts + 1)) c.deref.ensures.value in
+    let cut = subst (λ (d : Option Damage). IsCut a d mid.roots c.make_exchange.new.roots) damage c.in_err-exchange.ensures.cut in
     let world : Bool → World
     = λ s. record (world_of mid) { roots = c.make_exchange.new.roots; shared = mid.shared || s } in
     let sound = c.take_due_events.ensures.fault ∙ c.requires.sound in
-    left_at_packet c.from_residual-in_err-exchange.result c.args.attempt.now (world_of c.args.self.now) (world_of mid) _ c.make_exchange.new.roots
-    c.from_residual-in_err-exchange.ensures.1 c.in_ok-take_due_events.ensures.exact c.make_exchange.ensures.figure c.make_exchange.ensures.row c.make_exchange.ensures.settled
+    left_at_packet c.from_residual-in_err-exchange.result a (world_of c.args.self.now) (world_of mid) _ c.make_exchange.new.roots
+    c.from_residual-in_err-exchange.ensures.1 c.in_ok-take_due_events.ensures.exact cut
     (without_fault (world c.has_shared_address.result) _ None (ap world c.has_shared_address.ensures) sound refl)
 
 pub returns-in_err-put_attempt-clause-left : goal.returns-in_err-put_attempt-clause-left

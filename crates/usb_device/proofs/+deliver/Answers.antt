@@ -1,0 +1,29 @@
+use Rattle.std.proofs.Common.{List, sym, subst, ap, ◌∙◌}
+use Rattle.usb_device.specs.declared.ports.Place.{Place as Kept}
+use Rattle.usb_device.specs.Tree.{Plugged, before}
+use Rattle.usb_device.specs.Places.{ports_in, stood, standing}
+use Rattle.usb_device.specs.Stopped.{Stopped, StoppedDevice}
+use Rattle.usb_device.proofs.Stopping.{on_err, stopped_first, stopped_behind, stopped_itself, stopped_place}
+use Rattle.usb_device.proofs.+deliver.Goals as goal
+
+pub delivery::deliver_all-returns-in_err-here-in-Some-clause-stopped : goal.delivery::deliver_all-returns-in_err-here-in-Some-clause-stopped
+delivery::deliver_all-returns-in_err-here-in-Some-clause-stopped t c =
+    let P : List Kept → Type 0 = λ l. Stopped c.args.sent.now c.args.deep (ports_in l) (before (stood c.deliver.new.self) (ports_in c.in-Some.rest.now)) in
+    on_err c.from_residual.result (subst P (sym c.in-Some.ensures.cases.0) (stopped_first _ _ _ _ _ c.in_err-here-in-Some.ensures.stopped))
+
+pub delivery::deliver_all-returns-in_err-further-in-Some-clause-stopped : goal.delivery::deliver_all-returns-in_err-further-in-Some-clause-stopped
+delivery::deliver_all-returns-in_err-further-in-Some-clause-stopped t c =
+    let P : List Kept → Type 0 = λ l. Stopped c.args.sent.now c.args.deep (ports_in l) (before (stood c.deliver.new.self) (ports_in c.deliver_all.new.places)) in
+    on_err c.from_residual-in_err-further-in-Some.result
+    (subst P (sym c.in-Some.ensures.cases.0) (stopped_behind _ _ _ _ _ _ _ c.in_ok-here-in-Some.ensures.ok c.in_err-further-in-Some.ensures.stopped))
+
+pub device::Device::deliver-returns-in_err-here-clause-stopped : goal.device::Device::deliver-returns-in_err-here-clause-stopped
+device::Device::deliver-returns-in_err-here-clause-stopped t c =
+    let P : Plugged → Type 0 = λ x. StoppedDevice c.args.sent.now c.args.deep x c.take_sent.new.self in
+    on_err c.from_residual-in_err-here.result
+    (subst P c.self.view_is (stopped_itself _ _ _ c.take_sent.new.self c.pass.new.self (ap (λ x. x.1) c.in_ok-below.ensures.ok) c.in_err-here.ensures.err c.in_err-here.ensures.refused))
+
+pub ports::Place::deliver-returns-in-Some-clause-stopped : goal.ports::Place::deliver-returns-in-Some-clause-stopped
+ports::Place::deliver-returns-in-Some-clause-stopped t c =
+    stopped_place c.deliver.result _ _ c.args.self.now.port c.in-Some.device c.deliver.new.self (stood c.args.self.now)
+    (ap (λ o. standing c.args.self.now.port o) c.in-Some.is) (sym c.is_enabled.ensures ∙ c.if-is_enabled.true) c.deliver.ensures.stopped
