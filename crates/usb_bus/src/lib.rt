@@ -11,6 +11,7 @@ mod losses;
 mod not_served;
 mod one_holder;
 mod plan;
+mod refused_laws;
 mod request_laws;
 mod plugged_laws;
 mod sim;
@@ -36,6 +37,7 @@ pub use one_holder::{
     what_is_heard_of_the_holder,
 };
 pub use plan::Plan;
+pub use refused_laws::refused_memory_keeps;
 pub use request_laws::{
     change_bits_rest, hub_reset_gives_address_zero, pending_may_be_told_at_each_port,
     port_requests_spare_the_rest, requests_that_ask_nothing,
