@@ -1,5 +1,5 @@
 -- Where no address is held twice, a refused packet leaves everything as it was.
-use Rattle.std.proofs.Common.{◌≡◌, ℕ, zero, ◌+◌, ◌≤◌, ◌==◌, not, if◌then◌else◌, ◌⊎◌, inl, inr, Bool, true, false, List, [], ◌∷◌, ◌++◌, Option, None, Some, refl, sym, subst, ap, ◌∙◌, arith}
+use Rattle.std.proofs.Common.{◌≡◌, ℕ, ◌+◌, ◌≤◌, ◌==◌, not, if◌then◌else◌, ◌⊎◌, inl, inr, Bool, true, false, List, [], ◌∷◌, ◌++◌, Option, None, Some, refl, sym, subst, ap, ◌∙◌, arith}
 use Rattle.usb_packet.specs.declared.Packet.{Packet}
 use Rattle.usb_packet.specs.declared.Packet.TheVariants.{Token, Payload, Ack, Sof, Nak, Stall, Pre}
 use Rattle.usb_packet.specs.declared.TokenKind.TheVariants.{OutTok}
@@ -13,7 +13,6 @@ use Rattle.usb_device.specs.declared.effect.Effect.TheVariants.{Leaves}
 use Rattle.usb_device.specs.declared.transfer.Memory.{Memory}
 use Rattle.usb_device.specs.declared.transfer.Memory.TheVariants.{Nothing, SetupSeen, OutSeen, AckAwaited}
 use Rattle.usb_device.specs.Rows.{State, Reply, forgotten, received, unread, token_row, sink_grows}
-use Rattle.usb_device.specs.Attempt.{is_own}
 use Rattle.usb_device.specs.Tree.{Ports, ended, vacant, taken, full, before, acted, row_of}
 use Rattle.usb_device.specs.Delivery.{hears, reply_to, answer_of, effect_of, after_packet, delivered_device, on_port, all_forgotten, held, is_twice}
 use Rattle.usb_device.specs.Stopped.{Stopped, behind_empty, behind, below, here}
@@ -33,7 +32,7 @@ use Rattle.usb_bus.proofs.Holders.{one_if, occurs, not_twice}
 use Rattle.usb_bus.proofs.OneDevice.{rested_effect}
 use Rattle.usb_bus.proofs.PassLaws.{rested_answer}
 use Rattle.usb_bus.proofs.WorldLaws.{goes}
-use Rattle.usb_bus.proofs.RefusedLawsPackets.{is_nothing, nothing_no_out, grows_after_out}
+use Rattle.usb_bus.proofs.RefusedLawsPackets.{either, is_nothing, nothing_no_out, grows_after_out}
 use Rattle.usb_bus.proofs.RefusedLawsCut.{cut_kind}
 
 -- how many devices remember something
@@ -187,10 +186,6 @@ unfolding all_forgotten Rests
 settled ended h = refl
 settled (vacant b k) h = ap (vacant b) (settled k h)
 settled (taken b s a k) h = rw (forgets s h.0, settled a h.1, settled k h.2) refl
-
-either : (P : Reply → Type 0) (b : Bool) (x y : Reply) → P x → P y → P (if b then x else y)
-either P true x y h g = h
-either P false x y h g = g
 
 -- a device that remembered nothing is as it was when it forgets
 abbrev Forgets : Content → Type 0

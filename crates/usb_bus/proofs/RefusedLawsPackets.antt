@@ -59,7 +59,7 @@ mild_answer {old} {new} q c deep s a h = record {
 }
 
 -- one row or another
-either : (P : Reply → Type 0) (b : Bool) (x y : Reply) → P x → P y → P (if b then x else y)
+pub either : (P : Reply → Type 0) (b : Bool) (x y : Reply) → P x → P y → P (if b then x else y)
 either P true x y h g = h
 either P false x y h g = g
 
