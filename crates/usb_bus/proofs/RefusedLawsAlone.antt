@@ -165,9 +165,13 @@ token_seen n q c deep (taken b s a k) h = split b.enable (token_seen n q c true 
   where
     split : (x : Bool) → seen (after_packet q true a) ≤ occurs n (held a) → seen (after_packet q deep k) ≤ occurs n (held k)
         → seen (if x then taken b (answer_of q deep s a).1 (acted (effect_of q deep s) (after_packet q true a)) (after_packet q deep k) else taken b s a (after_packet q deep k))
-          ≤ occurs n (if x then address_of s ∷ (held a ++ held k) else held k)
+        ≤ occurs n (if x then address_of s ∷ (held a ++ held k) else held k)
     split true lower rest = omega (
-      arith, lower, rest, token_one n q c deep s a h.0, occurs_append n (held a) (held k),
+      arith,
+      lower,
+      rest,
+      token_one n q c deep s a h.0,
+      occurs_append n (held a) (held k),
       seen_acted b (answer_of q deep s a).1 (effect_of q deep s) (after_packet q true a) (after_packet q deep k) (rested_effect q deep s h.0),
     )
     split false lower rest = omega (arith, rest, ap (λ x. one_if (not (is_nothing x))) h.0, rest_seen a h.1)

@@ -96,9 +96,9 @@ unfolding received asks
 mild_out n e = record {
   wider = nothing_no_setup;
   own = λ s row h. either (λ x. self_of x.1 ≡ self_of s) s.spec.silent (None, s) _ refl (
-    either (λ x. self_of x.1 ≡ self_of s) (n == s.registers.address) (token_row (forgotten s) row OutTok e) (None, forgotten s) refl refl);
+      either (λ x. self_of x.1 ≡ self_of s) (n == s.registers.address) (token_row (forgotten s) row OutTok e) (None, forgotten s) refl refl);
   after = λ s row h. either (λ x. no_setup x.1.memory ≡ true) s.spec.silent (None, s) _ (nothing_no_setup s.memory h) (
-    either (λ x. no_setup x.1.memory ≡ true) (n == s.registers.address) (token_row (forgotten s) row OutTok e) (None, forgotten s) refl refl);
+      either (λ x. no_setup x.1.memory ≡ true) (n == s.registers.address) (token_row (forgotten s) row OutTok e) (None, forgotten s) refl refl);
   calm = λ s h. silent_calm s;
 }
 
@@ -110,11 +110,11 @@ unfolding received asks
 mild_setup n e = record {
   wider = nothing_no_out;
   own = λ s row h. either (λ x. self_of x.1 ≡ self_of s) s.spec.silent (None, s) _ refl (
-    either (λ x. self_of x.1 ≡ self_of s) (n == s.registers.address) (token_row (forgotten s) row SetupTok e) (None, forgotten s)
-    (setup_row_of (λ x. self_of x ≡ self_of s) (forgotten s) row e refl refl) refl);
+      either (λ x. self_of x.1 ≡ self_of s) (n == s.registers.address) (token_row (forgotten s) row SetupTok e) (None, forgotten s)
+      (setup_row_of (λ x. self_of x ≡ self_of s) (forgotten s) row e refl refl) refl);
   after = λ s row h. either (λ x. no_out x.1.memory ≡ true) s.spec.silent (None, s) _ (nothing_no_out s.memory h) (
-    either (λ x. no_out x.1.memory ≡ true) (n == s.registers.address) (token_row (forgotten s) row SetupTok e) (None, forgotten s)
-    (setup_row_of (λ x. no_out x.memory ≡ true) (forgotten s) row e refl refl) refl);
+      either (λ x. no_out x.1.memory ≡ true) (n == s.registers.address) (token_row (forgotten s) row SetupTok e) (None, forgotten s)
+      (setup_row_of (λ x. no_out x.memory ≡ true) (forgotten s) row e refl refl) refl);
   calm = λ s h. silent_calm s;
 }
 

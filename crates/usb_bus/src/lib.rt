@@ -11,9 +11,9 @@ mod losses;
 mod not_served;
 mod one_holder;
 mod plan;
+mod plugged_laws;
 mod refused_laws;
 mod request_laws;
-mod plugged_laws;
 mod sim;
 mod trace;
 mod types;
@@ -37,12 +37,12 @@ pub use one_holder::{
     what_is_heard_of_the_holder,
 };
 pub use plan::Plan;
+pub use plugged_laws::plugged_is_what_the_events_left;
 pub use refused_laws::refused_memory_keeps;
 pub use request_laws::{
     change_bits_rest, hub_reset_gives_address_zero, pending_may_be_told_at_each_port,
     port_requests_spare_the_rest, requests_that_ask_nothing,
 };
-pub use plugged_laws::plugged_is_what_the_events_left;
 pub use sim::SimBus;
 pub use types::{Attempt, BusFault, Outcome};
 pub use watched::{Watched, WriteFailed, put_piece};
