@@ -12,6 +12,7 @@ mod not_served;
 mod one_holder;
 mod plan;
 mod plugged_laws;
+mod refused_laws;
 mod request_laws;
 mod sim;
 mod trace;
@@ -37,6 +38,7 @@ pub use one_holder::{
 };
 pub use plan::Plan;
 pub use plugged_laws::plugged_is_what_the_events_left;
+pub use refused_laws::refused_memory_keeps;
 pub use request_laws::{
     change_bits_rest, hub_reset_gives_address_zero, pending_may_be_told_at_each_port,
     port_requests_spare_the_rest, requests_that_ask_nothing,
