@@ -58,7 +58,7 @@ pub fn control_in<B: Bus>(
 ///
 /// The request is one whose data would go to the device, and its length is 0. Where no address was
 /// ever held twice, `Ok` to any request but the reset of a port means that the device at the
-/// target's address did what was asked.
+/// target's address did what was asked; a new address it takes where it saw the last ACK.
 ///
 /// # Errors
 ///
