@@ -368,4 +368,15 @@ fn laws_are_called() {
     what_setup_tells();
     what_data_in_tells();
     what_data_out_tells();
+    what_setup_leaves();
+    what_control_in_leaves();
+    what_read_status_leaves();
+    what_bulk_in_leaves();
+    what_bulk_out_leaves();
+    what_a_poll_leaves();
+    why_control_in_fails();
+    why_read_status_fails();
+    why_bulk_in_fails();
+    why_bulk_out_fails();
+    why_a_poll_fails();
 }
