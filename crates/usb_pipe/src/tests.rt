@@ -2,4 +2,5 @@ mod bulk;
 mod control;
 mod devices;
 mod interrupt;
+mod laws;
 mod simulated;
