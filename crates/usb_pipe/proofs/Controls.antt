@@ -1,18 +1,18 @@
 -- What a control transfer leaves of each device, from what its stages' calls tell.
-use Rattle.std.proofs.Common.{◌≡◌, subst, inl, inr, true, false}
+use Rattle.std.proofs.Common.{◌≡◌, subst, inl, inr, false}
 use Rattle.std.specs.Prelude.{ℕ, ◌≤◌, List, [], Result, Ok, Err}
 use Rattle.std.specs.Result.{IsErr, IsErrAnd}
 use Rattle.std.specs.Global.{Vec}
 use Rattle.usb_packet.specs.declared.Toggle.TheVariants.{One}
 use Rattle.usb_request.specs.declared.setup.Setup.{Setup}
-use Rattle.usb_request.specs.Layout.{IsToHost, IsToDevice, bytes_of, setup_of}
-use Rattle.usb_bus.specs.Courses.{is_harmless}
+use Rattle.usb_request.specs.Layout.{IsToHost, bytes_of, setup_of}
 use Rattle.usb_bus.specs.Devices.{EachWas}
 use Rattle.usb_bus.specs.Passes.{IsSettled}
 use Rattle.usb_bus.specs.World.{World}
 use Rattle.usb_transaction.specs.declared.target.Target.{Target}
 use Rattle.usb_transaction.specs.declared.fault.TransFault.{TransFault}
 use Rattle.usb_transaction.specs.Heard.{set_up_as}
+use Rattle.usb_transaction.specs.Spared.{EachSpared}
 use Rattle.usb_transaction.specs.Trans.{setup_attempt}
 use Rattle.usb_transaction.specs.Trail.{Transacted}
 use Rattle.usb_pipe.specs.declared.fault.PipeFault.{PipeFault}
@@ -89,6 +89,6 @@ write_at_status t request new fault bytes given (Ok done) is none err told x y =
 pub write_done : (t : Target) (request : Setup) {old mid new : World} (bytes given last : List ℕ) → bytes ≡ bytes_of request → given ≡ [] → SendsSetup t bytes old (Ok given) mid → Asks t One mid (Ok last) new → Writes t request old (Ok tt) new
 write_done t request {old} {mid} {new} bytes given last is none x y = record { mid = mid; set_up = taken_request t request bytes given is none x; given = last; status = y }
 
-pub what_write : (t : Target) (request : Setup) {old : World} (new : World) (bytes : List ℕ) (result : Result (Unit {0}) PipeFault) → IsToDevice request → request.length ≡ 0 → bytes ≡ bytes_of request → setup_of bytes ≡ request → IsSettled old.roots
-    → Writes t request old result new → is_harmless request ≡ true → IsNotOfBus result → new.shared ≡ false → EachWas (WriteLeaves t request result) old new
-what_write t request {old} new bytes result device none is same settled x harmless = write_leaves t request result old new device none (subst (λ b. setup_of b ≡ request) is same) harmless settled x
+pub what_write : (t : Target) (request : Setup) {old : World} (new : World) (bytes : List ℕ) (result : Result (Unit {0}) PipeFault) → request.length ≡ 0 → bytes ≡ bytes_of request → setup_of bytes ≡ request → IsSettled old.roots
+    → Writes t request old result new → IsNotOfBus result → new.shared ≡ false → EachSpared t request (WriteLeaves t request result) old new
+what_write t request {old} new bytes result none is same settled x = write_leaves t request result old new none (subst (λ b. setup_of b ≡ request) is same) settled x

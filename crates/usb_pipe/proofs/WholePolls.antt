@@ -12,13 +12,14 @@ use Rattle.usb_bus.specs.Devices.{EachWas}
 use Rattle.usb_bus.proofs.Devices.{each_wider}
 use Rattle.usb_transaction.specs.declared.fault.TransFault.{TransFault}
 use Rattle.usb_transaction.specs.declared.fault.TransFault.TheVariants as trans
+use Rattle.usb_transaction.specs.Heard.{toggle_after}
 use Rattle.usb_transaction.specs.Over.{ChangesIn}
 use Rattle.usb_transaction.specs.Trail.{Waiting, PollEnded, Polled}
 use Rattle.usb_transaction.specs.Trans.{in_attempt}
 use Rattle.usb_transaction.proofs.OverPoll.{poll_waits, poll_comes, poll_fails}
 use Rattle.usb_pipe.specs.declared.fault.PipeFault.{PipeFault}
 use Rattle.usb_pipe.specs.Control.{fault_of}
-use Rattle.usb_pipe.specs.Interrupt.{Interrupt, NoPoll, Polls}
+use Rattle.usb_pipe.specs.Interrupt.{Interrupt, NoPoll, Asked, Polls}
 use Rattle.usb_pipe.specs.Whole.{IsNotOfBus, ToldOf, PollLeaves}
 use Rattle.usb_pipe.proofs.WholeSends.{flip_other}
 
@@ -49,23 +50,27 @@ none_told pipe left old why fault j p s v x = record {
 }
 
 -- a poll that failed, but for the bus
-failed : (toggle : Toggle) (pipe : Interrupt) (old new : World) (why : PipeFault) (fault : TransFault) → why ≡ fault_of fault → IsNotOfBus {A = Option (ArrayVec ℕ)} (Err why) → pipe.ep ≡ 1
+pub failed : (toggle : Toggle) (pipe : Interrupt) (old new : World) (why : PipeFault) (fault : TransFault) → why ≡ fault_of fault → IsNotOfBus {A = Option (ArrayVec ℕ)} (Err why) → pipe.ep ≡ 1
     → Polled toggle (in_attempt pipe.target pipe.ep) old (Err fault) new → PollEnded toggle (in_attempt pipe.target 1) old (Err fault) new
 failed toggle pipe old new why trans.Stalled e n one x = subst (λ k. PollEnded toggle (in_attempt pipe.target k) old (Err trans.Stalled) new) one x
 failed toggle pipe old new why trans.Busy e n one x = subst (λ k. PollEnded toggle (in_attempt pipe.target k) old (Err trans.Busy) new) one x
 failed toggle pipe old new why trans.NoAnswer e n one x = subst (λ k. PollEnded toggle (in_attempt pipe.target k) old (Err trans.NoAnswer) new) one x
 failed toggle pipe old new why (trans.Bus fault) e n one x = absurd (subst (λ y. IsNotOfBus {A = Option (ArrayVec ℕ)} (Err y)) e n)
 
-pub poll_tells : (pipe : Interrupt) (result : Result (Option (ArrayVec ℕ)) PipeFault) (left : Interrupt) (old new : World) → pipe.ep ≡ 1 → 1 ≤ pipe.target.max → IsSettled old.roots
-    → Polls pipe old result left new → IsNotOfBus result → new.shared ≡ false → EachWas (PollLeaves pipe old result left) old new
-poll_tells pipe (Ok None) left old new one least settled x sound single =
-    each_wider (ChangesIn pipe.target pipe.toggle old (Ok None)) (PollLeaves pipe old (Ok None) left) (nothing_told pipe left old (ap (λ l. l.toggle) x.pipe_left)) old new
-    (poll_waits pipe.target pipe.toggle old new least settled (subst (λ k. Waiting pipe.toggle (in_attempt pipe.target k) old new) one x.asked) single)
-poll_tells pipe (Ok (Some byte)) left old new one least settled x sound single =
+pub asked_tells : (pipe : Interrupt) (result : Result (Option (ArrayVec ℕ)) PipeFault) (left : Interrupt) (old new : World) → pipe.ep ≡ 1 → 1 ≤ pipe.target.max → IsSettled old.roots
+    → Asked pipe old result new → left ≡ record pipe { toggle = toggle_after pipe.toggle result } → IsNotOfBus result → new.shared ≡ false → EachWas (PollLeaves pipe old result left) old new
+asked_tells pipe (Ok None) left old new one least settled asked turned sound single =
+    each_wider (ChangesIn pipe.target pipe.toggle old (Ok None)) (PollLeaves pipe old (Ok None) left) (nothing_told pipe left old (ap (λ l. l.toggle) turned)) old new
+    (poll_waits pipe.target pipe.toggle old new least settled (subst (λ k. Waiting pipe.toggle (in_attempt pipe.target k) old new) one asked) single)
+asked_tells pipe (Ok (Some byte)) left old new one least settled asked turned sound single =
     each_wider (ChangesIn pipe.target pipe.toggle old (Ok (Some byte.items))) (PollLeaves pipe old (Ok (Some byte)) left)
-    (byte_told pipe left old byte (ap (λ l. l.toggle) x.pipe_left ∙ sym (flip_other pipe.toggle))) old new
-    (poll_comes pipe.target pipe.toggle byte.items old new least settled (subst (λ k. PollEnded pipe.toggle (in_attempt pipe.target k) old (Ok byte.items) new) one x.asked) single)
-poll_tells pipe (Err why) left old new one least settled x sound single =
-    let n : NoPoll pipe old why new = x.asked in
+    (byte_told pipe left old byte (ap (λ l. l.toggle) turned ∙ sym (flip_other pipe.toggle))) old new
+    (poll_comes pipe.target pipe.toggle byte.items old new least settled (subst (λ k. PollEnded pipe.toggle (in_attempt pipe.target k) old (Ok byte.items) new) one asked) single)
+asked_tells pipe (Err why) left old new one least settled asked turned sound single =
+    let n : NoPoll pipe old why new = asked in
     each_wider (ChangesIn pipe.target pipe.toggle old (Err n.fault)) (PollLeaves pipe old (Err why) left) (none_told pipe left old why n.fault) old new
     (poll_fails pipe.target pipe.toggle n.fault old new least settled (failed pipe.toggle pipe old new why n.fault n.told sound one n.polled) single)
+
+pub poll_tells : (pipe : Interrupt) (result : Result (Option (ArrayVec ℕ)) PipeFault) (left : Interrupt) (old new : World) → pipe.ep ≡ 1 → 1 ≤ pipe.target.max → IsSettled old.roots
+    → Polls pipe old result left new → IsNotOfBus result → new.shared ≡ false → EachWas (PollLeaves pipe old result left) old new
+poll_tells pipe result left old new one least settled x sound single = asked_tells pipe result left old new one least settled x.asked x.pipe_left sound single

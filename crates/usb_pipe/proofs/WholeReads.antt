@@ -24,14 +24,20 @@ use Rattle.usb_bus.specs.World.{World}
 use Rattle.usb_bus.specs.Devices.{Relation, EachWas}
 use Rattle.usb_transaction.specs.declared.target.Target.{Target}
 use Rattle.usb_transaction.specs.declared.fault.TransFault.{TransFault}
-use Rattle.usb_transaction.specs.Over.{is_at, ReadStatus, AcceptedSince, SetupDone}
+use Rattle.usb_transaction.specs.declared.fault.TransFault.TheVariants as trans
+use Rattle.usb_transaction.specs.Heard.{set_up_as}
+use Rattle.usb_transaction.specs.Over.{is_at, CanAnswer, CanAccept, data_stage, ReadStatus, AcceptedSince, SetupDone}
+use Rattle.usb_transaction.specs.Trail.{Ended}
+use Rattle.usb_transaction.specs.Trans.{setup_attempt}
 use Rattle.usb_transaction.proofs.Overs.{other_twice}
-use Rattle.usb_transaction.proofs.ReadOver.{read_status_leaves}
+use Rattle.usb_transaction.proofs.ReadLeaves.{read_status_leaves}
+use Rattle.usb_transaction.proofs.Spared.{spared_all}
 use Rattle.usb_pipe.specs.declared.fault.PipeFault.{PipeFault}
-use Rattle.usb_pipe.specs.Control.{is_last}
+use Rattle.usb_pipe.specs.declared.fault.PipeFault.TheVariants.{Stalled, Memory}
+use Rattle.usb_pipe.specs.Control.{fault_of, is_last}
 use Rattle.usb_pipe.specs.Stages.{SetUp, Goes, start, packet, DataStage, DataLost, NoRoom, WasRead, NoSetUp, NoData, NotConfirmed, Reads}
 use Rattle.usb_pipe.specs.Toggles.{flips}
-use Rattle.usb_pipe.specs.Whole.{IsNotOfBus, AnswerRead, ReadLeaves}
+use Rattle.usb_pipe.specs.Whole.{IsNotOfBus, CanEnd, AnswerRead, ReadLeaves}
 use Rattle.usb_pipe.proofs.WholeSteady.{IsReading, reads}
 use Rattle.usb_pipe.proofs.WholeSteps.{ended, ended_settled, ended_unshared, request_leaves, InLeaves, asked_leaves, Accepted, accepted_since, only_twice, only_stage, at_from, flips_at, flips_none}
 
@@ -71,7 +77,7 @@ tells_a_port : (o : Option ℕ) → Tells (told_port o)
 tells_a_port None = stalls
 tells_a_port (Some i) = port_is i
 
-other_type : (n type : ℕ) (b : Bool) → 128 ≤ n → type < 128 → (n == type && b) ≡ false
+pub other_type : (n type : ℕ) (b : Bool) → 128 ≤ n → type < 128 → (n == type && b) ≡ false
 other_type n type b h g = grind (arith, nat_tests, h, g)
 
 tells : (s : Spec) (g : Registers) (r : Setup) → IsToHost r → Tells (outcome s g r)
@@ -89,12 +95,18 @@ tells s g r h =
     (tells_not (Is r 0x23 3) _ _ (other_type r.request_type 0x23 (r.request == 3) h (omega arith))
     (tells_not (Is r 0x23 1) _ _ (other_type r.request_type 0x23 (r.request == 1) h (omega arith)) stalls))))))))))
 
-host_harmless : (r : Setup) → IsToHost r → is_harmless r ≡ true
+pub host_harmless : (r : Setup) → IsToHost r → is_harmless r ≡ true
 host_harmless r h = ap (λ b. not (b && r.value == 4)) (other_type r.request_type 0x23 (r.request == 3) h (omega arith))
+
+-- so it leaves each device where it is
+pub read_request_leaves : (t : Target) (request : Setup) (result : Result (List ℕ) TransFault) (old new : World) → IsToHost request → setup_of (bytes_of request) ≡ request → IsSettled old.roots
+    → Ended set_up_as (setup_attempt t (bytes_of request)) old result new → new.shared ≡ false → EachWas (SetupDone t (bytes_of request) result) old new
+read_request_leaves t request result old new host same settled x single =
+    spared_all t request (SetupDone t (bytes_of request) result) old new (host_harmless request host) (request_leaves t request result old new same settled x single)
 
 -- The stage that such a request begins
 
-data Begun (wanted : ℕ) (st : Stage) : Type 0 where
+pub data Begun (wanted : ℕ) (st : Stage) : Type 0 where
   refuses : st ≡ refused → Begun wanted st
   answered : (answer : List ℕ) → st ≡ reading answer wanted 0 → Begun wanted st
 
@@ -120,11 +132,12 @@ asks_only s row wanted _ (bytes_are bytes) = refl
 asks_only s row wanted _ (port_is i) = refl
 
 -- the device that accepted it
-record Asked (request : Setup) (s u : State) : Type 0 where
-  row : List PortState
-  stage : u.stage ≡ first_stage row request.length (outcome s.spec s.registers request)
-  frame : OnlyStage s u
-  begun : Begun request.length u.stage
+pub record Asked (request : Setup) (s u : State) : Type 0 where
+  pub row : List PortState
+  pub stage : u.stage ≡ first_stage row request.length (outcome s.spec s.registers request)
+  pub frame : OnlyStage s u
+  pub naks : u.naks ≡ s.spec.naks
+  pub begun : Begun request.length u.stage
 
 asked : (request : Setup) (s u : State) → IsToHost request → 1 ≤ request.length → Accepted request s u → Asked request s u
 asked request s u host some x =
@@ -135,27 +148,30 @@ asked request s u host some x =
       row = x.row;
       stage = ap (λ d. d.stage) e;
       frame = subst (λ d. OnlyStage s d) (sym e) refl;
+      naks = ap (λ d. d.naks) e;
       begun = subst (λ d. Begun request.length d.stage) (sym e) (begins x.row request.length o t some);
     }
 
 -- The data stage at one device
 
-record Answered (wanted n : ℕ) (got answer : List ℕ) (s v : State) : Type 0 where
-  at : ReadingAt answer wanted n v
-  registers : v.registers ≡ s.registers
-  bytes : got ≡ joined (max_packet s.spec) wanted answer n
+pub record Answered (wanted n : ℕ) (got answer : List ℕ) (s v : State) : Type 0 where
+  pub at : ReadingAt answer wanted n v
+  pub registers : v.registers ≡ s.registers
+  pub bytes : got ≡ joined (max_packet s.spec) wanted answer n
 
 -- n packets of it came
-record Along (t : Target) (wanted n : ℕ) (got : List ℕ) (j : ℕ) (p : List ℕ) (s v : State) : Type 0 where
-  others : is_at s t ≡ false → v ≡ s
-  frame : OnlyControl s v
-  refuses : is_at s t ≡ true → s.stage ≡ refused → (n ≡ 0) × (v ≡ s)
-  answers : is_at s t ≡ true → (answer : List ℕ) → s.stage ≡ reading answer wanted 0 → Answered wanted n got answer s v
+pub record Along (t : Target) (wanted n : ℕ) (got : List ℕ) (j : ℕ) (p : List ℕ) (s v : State) : Type 0 where
+  pub others : is_at s t ≡ false → v ≡ s
+  pub frame : OnlyControl s v
+  pub naks : v.naks ≤ s.naks
+  pub refuses : is_at s t ≡ true → s.stage ≡ refused → (n ≡ 0) × (v ≡ s)
+  pub answers : is_at s t ≡ true → (answer : List ℕ) → s.stage ≡ reading answer wanted 0 → Answered wanted n got answer s v
 
-along_none : (t : Target) (wanted : ℕ) (j : ℕ) (p : List ℕ) (s : State) → Along t wanted 0 [] j p s s
+pub along_none : (t : Target) (wanted : ℕ) (j : ℕ) (p : List ℕ) (s : State) → Along t wanted 0 [] j p s s
 along_none t wanted j p s = record {
   others = λ h. refl;
   frame = refl;
+  naks = omega arith;
   refuses = λ at h. (refl, refl);
   answers = λ at answer h. record { at = record { known = 0; stage = h; near = inl refl }; registers = refl; bytes = refl };
 }
@@ -168,10 +184,11 @@ joined_more max wanted answer got bytes n e h =
 is_reading : (answer : List ℕ) (wanted n : ℕ) (s : State) → ReadingAt answer wanted n s → IsReading s
 is_reading answer wanted n s h = reads answer wanted h.known h.stage
 
-along_more : (t : Target) (wanted n : ℕ) (got bytes : List ℕ) (j : ℕ) (p : List ℕ) (s u v : State) → Along t wanted n got j p s u → InLeaves t (flips n One) (Ok bytes) j p u v → Along t wanted (n + 1) (got ++ bytes) j p s v
+pub along_more : (t : Target) (wanted n : ℕ) (got bytes : List ℕ) (j : ℕ) (p : List ℕ) (s u v : State) → Along t wanted n got j p s u → InLeaves t (flips n One) (Ok bytes) j p u v → Along t wanted (n + 1) (got ++ bytes) j p s v
 along_more t wanted n got bytes j p s u v x y = record {
   others = other_twice t s u v x.others y.0.others;
   frame = only_twice s u v x.frame y.0.frame;
+  naks = omega (arith, x.naks, y.0.naks);
   refuses = λ at h.
       let e : u ≡ s = (x.refuses at h).1 in
       absurd ((y.0.refused (ap (λ d. d.stage) e ∙ h)).1 (ap (λ d. is_at d t) e ∙ at) bytes refl);
@@ -186,12 +203,12 @@ along_more t wanted n got bytes j p s u v x y = record {
 }
 
 -- a device at which the stage began as a request for data begins it keeps its registers
-record Rests (t : Target) (wanted : ℕ) (j : ℕ) (p : List ℕ) (s v : State) : Type 0 where
-  others : is_at s t ≡ false → v ≡ s
-  frame : OnlyControl s v
-  registers : is_at s t ≡ true → Begun wanted s.stage → v.registers ≡ s.registers
+pub record Rests (t : Target) (wanted : ℕ) (j : ℕ) (p : List ℕ) (s v : State) : Type 0 where
+  pub others : is_at s t ≡ false → v ≡ s
+  pub frame : OnlyControl s v
+  pub registers : is_at s t ≡ true → Begun wanted s.stage → v.registers ≡ s.registers
 
-along_rests : (t : Target) (wanted n : ℕ) (got : List ℕ) (j : ℕ) (p : List ℕ) (s v : State) → Along t wanted n got j p s v → Rests t wanted j p s v
+pub along_rests : (t : Target) (wanted n : ℕ) (got : List ℕ) (j : ℕ) (p : List ℕ) (s v : State) → Along t wanted n got j p s v → Rests t wanted j p s v
 along_rests t wanted n got j p s v x = record { others = x.others; frame = x.frame; registers = kept }
   where
     kept : is_at s t ≡ true → Begun wanted s.stage → v.registers ≡ s.registers
@@ -218,7 +235,7 @@ least_by : (m : ℕ) (a b : Bool) → (b || m == 64) ≡ a → b ≡ (m == 16 ||
 least_by m true b e f = grind (arith, nat_tests, e, f)
 least_by m false b e f = omega arith
 
-at_least_8 : (s : Spec) → 8 ≤ max_packet s
+pub at_least_8 : (s : Spec) → 8 ≤ max_packet s
 at_least_8 s = by_speed s.low (slice_index s.descriptor 7)
   where
     by_speed : (low : Bool) (m : ℕ) → 8 ≤ (if not low && (m == 16 || m == 32 || m == 64) then m else 8)
@@ -268,11 +285,11 @@ bytes_are_all max tmax wanted n answer got last bytes least h e kept ends same =
 
 -- The last packet
 
-record Came (t : Target) (wanted n : ℕ) (got last : List ℕ) (j : ℕ) (p : List ℕ) (s v : State) : Type 0 where
-  along : Along t wanted (n + 1) (got ++ last) j p s v
-  packet : is_at s t ≡ true → (answer : List ℕ) → s.stage ≡ reading answer wanted 0 → packet_at (max_packet s.spec) wanted answer n ≡ Some last
+pub record Came (t : Target) (wanted n : ℕ) (got last : List ℕ) (j : ℕ) (p : List ℕ) (s v : State) : Type 0 where
+  pub along : Along t wanted (n + 1) (got ++ last) j p s v
+  pub packet : is_at s t ≡ true → (answer : List ℕ) → s.stage ≡ reading answer wanted 0 → packet_at (max_packet s.spec) wanted answer n ≡ Some last
 
-along_came : (t : Target) (wanted n : ℕ) (got last : List ℕ) (j : ℕ) (p : List ℕ) (s u v : State) → Along t wanted n got j p s u → InLeaves t (flips n One) (Ok last) j p u v → Came t wanted n got last j p s v
+pub along_came : (t : Target) (wanted n : ℕ) (got last : List ℕ) (j : ℕ) (p : List ℕ) (s u v : State) → Along t wanted n got j p s u → InLeaves t (flips n One) (Ok last) j p u v → Came t wanted n got last j p s v
 along_came t wanted n got last j p s u v x y = record {
   along = along_more t wanted n got last j p s u v x y;
   packet = λ at answer h.
@@ -281,6 +298,100 @@ along_came t wanted n got last j p s u v x y = record {
       ap (λ d. packet_at (max_packet d.spec) wanted answer n) (sym x.frame) ∙ on.0;
 }
 
+-- How a transfer that failed ends
+
+abbrev Fails : PipeFault → PipeFault → Type 0
+Fails why fault = ◌≡◌ {A = Result (Vec ℕ) PipeFault} (Err why) (Err fault)
+
+abbrev Fell : TransFault → TransFault → Type 0
+Fell why fault = ◌≡◌ {A = Result (List ℕ) TransFault} (Err why) (Err fault)
+
+abbrev CanFail : Spec → PipeFault → Type 0
+CanFail spec why = CanEnd {A = Vec ℕ} spec (Err why)
+
+-- a refusal is a transaction's
+lost_refusal : (why : PipeFault) (fault : TransFault) → why ≡ fault_of fault → Fails why Stalled → Fell fault trans.Stalled
+lost_refusal why trans.Stalled e h = refl
+lost_refusal why trans.Busy e h = cc
+lost_refusal why trans.NoAnswer e h = cc
+lost_refusal why (trans.Bus fault) e h = cc
+
+answers_so : (spec : Spec) (fault : TransFault) → CanAnswer {A = List ℕ} spec (Err fault) → CanFail spec (fault_of fault)
+answers_so spec trans.Stalled c = c
+answers_so spec trans.Busy c = c
+answers_so spec trans.NoAnswer c = tt
+answers_so spec (trans.Bus fault) c = tt
+
+accepts_so : (spec : Spec) (fault : TransFault) → CanAccept {A = List ℕ} spec (Err fault) → CanFail spec (fault_of fault)
+accepts_so spec trans.Stalled c = absurd c
+accepts_so spec trans.Busy c = absurd c
+accepts_so spec trans.NoAnswer c = tt
+accepts_so spec (trans.Bus fault) c = tt
+
+-- the data stage and the status stage of a transfer that failed, at a device at which they began as a request for data begins them
+record Failed (t : Target) (wanted : ℕ) (why : PipeFault) (j : ℕ) (p : List ℕ) (s v : State) : Type 0 where
+  rests : Rests t wanted j p s v
+  refusal : is_at s t ≡ true → Begun wanted s.stage → Fails why Stalled → s.stage ≡ refused
+  could : is_at s t ≡ true → Begun wanted s.stage → CanFail s.spec why
+
+-- at a packet that did not come
+module _ (t : Target) (wanted n : ℕ) (got : List ℕ) (why : PipeFault) (fault : TransFault) (told : why ≡ fault_of fault) (j : ℕ) (p : List ℕ) (s u v : State)
+    (x : Along t wanted n got j p s u) (y : InLeaves t (flips n One) (Err fault) j p u v) where
+  lost_at : is_at s t ≡ true → Begun wanted s.stage → is_at u t ≡ true
+  lost_at at b = at_from t s u ((along_rests t wanted n got j p s u x).registers at b) at
+
+  lost_refused : is_at s t ≡ true → Begun wanted s.stage → Fails why Stalled → s.stage ≡ refused
+  lost_refused at (refuses h) e = h
+  lost_refused at (answered answer h) e =
+      let there : is_at u t ≡ true = lost_at at (answered answer h) in
+      cc (sym (x.answers at answer h).at.stage ∙ y.0.stalled there (lost_refusal why fault told e))
+
+  lost_could : is_at s t ≡ true → Begun wanted s.stage → CanFail s.spec why
+  lost_could at b =
+      let can : CanFail u.spec (fault_of fault) = answers_so u.spec fault (y.0.could (lost_at at b)) in
+      subst (λ w. CanFail s.spec w) (sym told) (subst (λ d. CanFail d (fault_of fault)) (ap (λ d. d.spec) x.frame) can)
+
+  along_failed : Failed t wanted why j p s v
+  along_failed = record { rests = along_lost t wanted n got fault j p s u v x y; refusal = lost_refused; could = lost_could }
+
+-- at a packet for which there was no memory
+module _ (t : Target) (wanted n : ℕ) (got last : List ℕ) (why : PipeFault) (told : why ≡ Memory) (j : ℕ) (p : List ℕ) (s u v : State)
+    (x : Along t wanted n got j p s u) (y : InLeaves t (flips n One) (Ok last) j p u v) where
+  full_could : is_at s t ≡ true → Begun wanted s.stage → CanFail s.spec why
+  full_could at b =
+      let can : CanFail u.spec Memory = y.0.could (at_from t s u ((along_rests t wanted n got j p s u x).registers at b) at) in
+      subst (λ w. CanFail s.spec w) (sym told) (subst (λ d. CanFail d Memory) (ap (λ d. d.spec) x.frame) can)
+
+  along_full : Failed t wanted why j p s v
+  along_full = record {
+    rests = along_rests t wanted (n + 1) (got ++ last) j p s v (along_more t wanted n got last j p s u v x y);
+    refusal = λ at b e. cc (sym (ap {A = PipeFault} {B = Result (Vec ℕ) PipeFault} (λ w. Err w) told) ∙ e);
+    could = full_could;
+  }
+
+-- at its status stage, of which a device that refuses gets none
+module _ (t : Target) (wanted n : ℕ) (got last : List ℕ) (why : PipeFault) (fault : TransFault) (told : why ≡ fault_of fault) (j : ℕ) (p : List ℕ) (s u v : State)
+    (x : Came t wanted n got last j p s u) (y : ReadStatus t (Err fault) j p u v) where
+  came_rests : Rests t wanted j p s u
+  came_rests = along_rests t wanted (n + 1) (got ++ last) j p s u x.along
+
+  came_at : is_at s t ≡ true → Begun wanted s.stage → is_at u t ≡ true
+  came_at at b = at_from t s u (came_rests.registers at b) at
+
+  came_refused : is_at s t ≡ true → Begun wanted s.stage → Fails why Stalled → s.stage ≡ refused
+  came_refused at (refuses h) e = h
+  came_refused at (answered answer h) e =
+      let r : ReadingAt answer wanted (n + 1) u = (x.along.answers at answer h).at in
+      absurd (y.stalled (came_at at (answered answer h)) (data_stage answer wanted r.known r.stage) (lost_refusal why fault told e))
+
+  came_could : is_at s t ≡ true → Begun wanted s.stage → CanFail s.spec why
+  came_could at b =
+      let can : CanFail u.spec (fault_of fault) = answers_so u.spec fault (y.could (came_at at b)) in
+      subst (λ w. CanFail s.spec w) (sym told) (subst (λ d. CanFail d (fault_of fault)) (ap (λ d. d.spec) x.along.frame) can)
+
+  came_failed : Failed t wanted why j p s v
+  came_failed = record { rests = rests_confirmed t wanted (Err fault) j p s u v came_rests y; refusal = came_refused; could = came_could }
+
 -- A whole read at one device
 
 abbrev items_of : Result (Vec ℕ) PipeFault → List ℕ
@@ -288,7 +399,7 @@ items_of (Ok bytes) = bytes.items
 items_of (Err why) = []
 
 module _ (t : Target) (request : Setup) (host : IsToHost request) (some : 1 ≤ request.length) (same : setup_of (bytes_of request) ≡ request) where
-  begun_then : (s u : State) (j : ℕ) (p : List ℕ) → SetupDone t (bytes_of request) (Ok []) j p s u → is_at s t ≡ true → Asked request s u
+  pub begun_then : (s u : State) (j : ℕ) (p : List ℕ) → SetupDone t (bytes_of request) (Ok []) j p s u → is_at s t ≡ true → Asked request s u
   begun_then s u j p x at = asked request s u host some (accepted_since request s u same (x.done at [] refl))
 
   still_at : (s u : State) → Asked request s u → is_at s t ≡ true → is_at u t ≡ true
@@ -304,15 +415,27 @@ module _ (t : Target) (request : Setup) (host : IsToHost request) (some : 1 ≤ 
       by_place (inl at) = let k : Asked request s u = begun_then s u j p x at in stage_twice k (only_stage u v y.frame (y.registers (still_at s u k at) k.begun))
       by_place (inr off) = subst (λ d. OnlyStage s d) (sym (other_twice t s u v x.others y.others off)) refl
 
-  failed_at_setup : (fault : TransFault) (why : PipeFault) (j : ℕ) (p : List ℕ) (s v : State) → SetupDone t (bytes_of request) (Err fault) j p s v → ReadLeaves t request (Err why) j p s v
-  failed_at_setup fault why j p s v x = record { others = x.others; frame = kept x.kept; done = λ at b e. cc e }
+  failed_at_setup : (fault : TransFault) (why : PipeFault) → why ≡ fault_of fault → (j : ℕ) (p : List ℕ) (s v : State) → SetupDone t (bytes_of request) (Err fault) j p s v → ReadLeaves t request (Err why) j p s v
+  failed_at_setup fault why told j p s v x = record {
+    others = x.others;
+    frame = kept x.kept;
+    done = λ at b e. cc e;
+    refused = λ at e. absurd (subst (λ r. CanAccept {A = List ℕ} s.spec r) (lost_refusal why fault told e) (x.could at));
+    could = λ at. subst (λ w. CanFail s.spec w) (sym told) (accepts_so s.spec fault (x.could at));
+  }
     where
       kept : (v ≡ s) ⊎ AcceptedSince (bytes_of request) s v → OnlyStage s v
       kept (inl e) = subst (λ d. OnlyStage s d) (sym e) refl
       kept (inr a) = (asked request s v host some (accepted_since request s v same a)).frame
 
-  failed_later : (why : PipeFault) (j : ℕ) (p : List ℕ) (s u v : State) → SetupDone t (bytes_of request) (Ok []) j p s u → Rests t request.length j p u v → ReadLeaves t request (Err why) j p s v
-  failed_later why j p s u v x y = record { others = other_twice t s u v x.others y.others; frame = rests_frame j p s u v x y; done = λ at b e. cc e }
+  failed_later : (why : PipeFault) (j : ℕ) (p : List ℕ) (s u v : State) → SetupDone t (bytes_of request) (Ok []) j p s u → Failed t request.length why j p u v → ReadLeaves t request (Err why) j p s v
+  failed_later why j p s u v x y = record {
+    others = other_twice t s u v x.others y.rests.others;
+    frame = rests_frame j p s u v x y.rests;
+    done = λ at b e. cc e;
+    refused = λ at e. let k : Asked request s u = begun_then s u j p x at in record { row = k.row; is = sym k.stage ∙ y.refusal (still_at s u k at) k.begun e };
+    could = λ at. let k : Asked request s u = begun_then s u j p x at in subst (λ d. CanFail d why) (ap (λ d. d.spec) k.frame) (y.could (still_at s u k at) k.begun);
+  }
 
   module _ (n : ℕ) (got last bytes : List ℕ) (kept : bytes ≡ take request.length (got ++ last)) (ends : is_last (length last) t.max (length bytes) request.length ≡ true)
       (j : ℕ) (p : List ℕ) (s u m v : State) (x : SetupDone t (bytes_of request) (Ok []) j p s u) (y : Came t request.length n got last j p u m) (z : ReadStatus t (Ok []) j p m v) where
@@ -332,6 +455,12 @@ module _ (t : Target) (request : Setup) (host : IsToHost request) (some : 1 ≤ 
               over = (z.done (at_from t u m r.registers (still_at s u k at)) [] refl).0;
             }
 
+    could_read : (whole : Vec ℕ) → is_at s t ≡ true → Asked request s u → CanEnd s.spec (Ok whole)
+    could_read whole at k =
+        let before : Rests t request.length j p u m = along_rests t request.length (n + 1) (got ++ last) j p u m y.along in
+        let can : CanEnd m.spec (Ok whole) = z.could (at_from t u m (before.registers (still_at s u k at) k.begun) (still_at s u k at)) in
+        subst (λ d. CanEnd d (Ok whole)) (ap (λ d. d.spec) y.along.frame ∙ ap (λ d. d.spec) k.frame) can
+
     read_at_device : (whole : Vec ℕ) → bytes ≡ whole.items → ReadLeaves t request (Ok whole) j p s v
     read_at_device whole e =
         let rests : Rests t request.length j p u v = rests_confirmed t request.length (Ok []) j p u m v (along_rests t request.length (n + 1) (got ++ last) j p u m y.along) z in
@@ -339,6 +468,8 @@ module _ (t : Target) (request : Setup) (host : IsToHost request) (some : 1 ≤ 
           others = other_twice t s u v x.others rests.others;
           frame = rests_frame j p s u v x rests;
           done = λ at b q. subst (λ l. AnswerRead t request l s v) (e ∙ ap items_of q) (was_answered at (begun_then s u j p x at));
+          refused = λ at q. cc q;
+          could = λ at. could_read whole at (begun_then s u j p x at);
         }
 
 -- The worlds of a data stage
@@ -361,37 +492,32 @@ each_then : (R S : Relation) (old mid new : World) → EachWas R old mid → Eac
 each_then R S old mid new x y = each_joined R S (Then R S) (λ j p s u v a b. record { between = u; first = a; second = b }) old mid new x y
 
 module _ (t : Target) where
-  each_along : {wanted : ℕ} {old : World} {n : ℕ} {got : List ℕ} {new : World} → IsSettled old.roots → Goes t wanted old n got new → new.shared ≡ false → EachWas (Along t wanted n got) old new
+  pub each_along : {wanted : ℕ} {old : World} {n : ℕ} {got : List ℕ} {new : World} → IsSettled old.roots → Goes t wanted old n got new → new.shared ≡ false → EachWas (Along t wanted n got) old new
   each_along {wanted} {old = old} settled start single = each_none (Along t wanted 0 []) (along_none t wanted) old
   each_along {wanted} {old = old} {new = new} settled (packet {n} {got} {mid} bytes g x l) single =
       each_joined (Along t wanted n got) (InLeaves t (flips n One) (Ok bytes)) (Along t wanted (n + 1) (got ++ bytes)) (along_more t wanted n got bytes) old mid new
       (each_along settled g (ended_unshared x single)) (asked_leaves t (flips n One) (Ok bytes) mid new (goes_settled g settled) x single)
 
-  each_came : (wanted : ℕ) (bytes : List ℕ) (old new : World) → IsSettled old.roots → (d : DataStage t wanted old bytes new) → new.shared ≡ false → EachWas (Came t wanted d.packets d.got d.last) old new
+  pub each_came : (wanted : ℕ) (bytes : List ℕ) (old new : World) → IsSettled old.roots → (d : DataStage t wanted old bytes new) → new.shared ≡ false → EachWas (Came t wanted d.packets d.got d.last) old new
   each_came wanted bytes old new settled d single =
       each_joined (Along t wanted d.packets d.got) (InLeaves t (flips d.packets One) (Ok d.last)) (Came t wanted d.packets d.got d.last) (along_came t wanted d.packets d.got d.last) old d.mid new
       (each_along settled d.before (ended_unshared d.came single)) (asked_leaves t (flips d.packets One) (Ok d.last) d.mid new (goes_settled d.before settled) d.came single)
 
-  each_came_rests : (wanted : ℕ) (bytes : List ℕ) (old new : World) → IsSettled old.roots → DataStage t wanted old bytes new → new.shared ≡ false → EachWas (Rests t wanted) old new
-  each_came_rests wanted bytes old new settled d single =
-      each_wider (Came t wanted d.packets d.got d.last) (Rests t wanted) (λ j p s v x. along_rests t wanted (d.packets + 1) (d.got ++ d.last) j p s v x.along) old new (each_came wanted bytes old new settled d single)
-
-  each_lost : (wanted : ℕ) (why : PipeFault) (old new : World) → IsNotOfBus {A = Vec ℕ} (Err why) → IsSettled old.roots → DataLost t wanted old why new → new.shared ≡ false → EachWas (Rests t wanted) old new
+  each_lost : (wanted : ℕ) (why : PipeFault) (old new : World) → IsNotOfBus {A = Vec ℕ} (Err why) → IsSettled old.roots → DataLost t wanted old why new → new.shared ≡ false → EachWas (Failed t wanted why) old new
   each_lost wanted why old new sound settled d single =
       let lost = ended (Vec ℕ) why d.fault d.told sound d.lost in
-      each_joined (Along t wanted d.packets d.got) (InLeaves t (flips d.packets One) (Err d.fault)) (Rests t wanted) (along_lost t wanted d.packets d.got d.fault) old d.mid new
+      each_joined (Along t wanted d.packets d.got) (InLeaves t (flips d.packets One) (Err d.fault)) (Failed t wanted why) (along_failed t wanted d.packets d.got why d.fault d.told) old d.mid new
       (each_along settled d.before (ended_unshared lost single)) (asked_leaves t (flips d.packets One) (Err d.fault) d.mid new (goes_settled d.before settled) lost single)
 
-  each_no_room : (wanted : ℕ) (why : PipeFault) (old new : World) → IsSettled old.roots → NoRoom t wanted old why new → new.shared ≡ false → EachWas (Rests t wanted) old new
+  each_no_room : (wanted : ℕ) (why : PipeFault) (old new : World) → IsSettled old.roots → NoRoom t wanted old why new → new.shared ≡ false → EachWas (Failed t wanted why) old new
   each_no_room wanted why old new settled d single =
-      each_joined (Along t wanted d.packets d.got) (InLeaves t (flips d.packets One) (Ok d.last)) (Rests t wanted)
-      (λ j p s u v x y. along_rests t wanted (d.packets + 1) (d.got ++ d.last) j p s v (along_more t wanted d.packets d.got d.last j p s u v x y)) old d.mid new
+      each_joined (Along t wanted d.packets d.got) (InLeaves t (flips d.packets One) (Ok d.last)) (Failed t wanted why) (along_full t wanted d.packets d.got d.last why d.told) old d.mid new
       (each_along settled d.before (ended_unshared d.came single)) (asked_leaves t (flips d.packets One) (Ok d.last) d.mid new (goes_settled d.before settled) d.came single)
 
-  unshared_stage : {wanted : ℕ} {bytes : List ℕ} {old new : World} → DataStage t wanted old bytes new → new.shared ≡ false → old.shared ≡ false
+  pub unshared_stage : {wanted : ℕ} {bytes : List ℕ} {old new : World} → DataStage t wanted old bytes new → new.shared ≡ false → old.shared ≡ false
   unshared_stage d h = goes_unshared d.before (ended_unshared d.came h)
 
-  settled_stage : {wanted : ℕ} {bytes : List ℕ} {old new : World} → DataStage t wanted old bytes new → IsSettled old.roots → IsSettled new.roots
+  pub settled_stage : {wanted : ℕ} {bytes : List ℕ} {old new : World} → DataStage t wanted old bytes new → IsSettled old.roots → IsSettled new.roots
   settled_stage d h = ended_settled d.came (goes_settled d.before h)
 
   -- A whole control read
@@ -404,19 +530,19 @@ module _ (t : Target) where
         let began : IsSettled x.first.roots = ended_settled x.set_up settled in
         each_joined (SetupDone t (bytes_of request) (Ok [])) (Then (Came t request.length d.packets d.got d.last) (ReadStatus t (Ok []))) (ReadLeaves t request (Ok bytes))
         (λ j p s u v a b. read_at_device t request host some same d.packets d.got d.last bytes.items d.kept d.ends j p s u b.between v a b.first b.second bytes refl) old x.first new
-        (request_leaves t request (Ok []) old x.first same (host_harmless request host) settled x.set_up (unshared_stage d second))
+        (read_request_leaves t request (Ok []) old x.first host same settled x.set_up (unshared_stage d second))
         (each_then (Came t request.length d.packets d.got d.last) (ReadStatus t (Ok [])) x.first x.second new (each_came request.length bytes.items x.first x.second began d second)
         (read_status_leaves t (Ok []) x.second new (settled_stage d began) x.status single))
 
     each_no_set_up : (why : PipeFault) → IsNotOfBus {A = Vec ℕ} (Err why) → NoSetUp t request old why new → EachWas (ReadLeaves t request (Err why)) old new
     each_no_set_up why sound x =
-        each_wider (SetupDone t (bytes_of request) (Err x.fault)) (ReadLeaves t request (Err why)) (failed_at_setup t request host some same x.fault why) old new
-        (request_leaves t request (Err x.fault) old new same (host_harmless request host) settled (ended (Vec ℕ) why x.fault x.told sound x.set_up) single)
+        each_wider (SetupDone t (bytes_of request) (Err x.fault)) (ReadLeaves t request (Err why)) (failed_at_setup t request host some same x.fault why x.told) old new
+        (read_request_leaves t request (Err x.fault) old new host same settled (ended (Vec ℕ) why x.fault x.told sound x.set_up) single)
 
-    after_set_up : (why : PipeFault) (mid : World) → SetUp t request old (Ok []) mid → mid.shared ≡ false → EachWas (Rests t request.length) mid new → EachWas (ReadLeaves t request (Err why)) old new
-    after_set_up why mid x clear rests =
-        each_joined (SetupDone t (bytes_of request) (Ok [])) (Rests t request.length) (ReadLeaves t request (Err why)) (failed_later t request host some same why) old mid new
-        (request_leaves t request (Ok []) old mid same (host_harmless request host) settled x clear) rests
+    after_set_up : (why : PipeFault) (mid : World) → SetUp t request old (Ok []) mid → mid.shared ≡ false → EachWas (Failed t request.length why) mid new → EachWas (ReadLeaves t request (Err why)) old new
+    after_set_up why mid x clear fails =
+        each_joined (SetupDone t (bytes_of request) (Ok [])) (Failed t request.length why) (ReadLeaves t request (Err why)) (failed_later t request host some same why) old mid new
+        (read_request_leaves t request (Ok []) old mid host same settled x clear) fails
 
     each_no_data : (why : PipeFault) → IsNotOfBus {A = Vec ℕ} (Err why) → NoData t request old why new → EachWas (ReadLeaves t request (Err why)) old new
     each_no_data why sound x = by_cause x.data_stage
@@ -434,10 +560,11 @@ module _ (t : Target) where
         let status = ended (Vec ℕ) why x.fault x.told sound x.status in
         let second : x.second.shared ≡ false = ended_unshared status single in
         let began : IsSettled x.first.roots = ended_settled x.set_up settled in
-        after_set_up why x.first x.set_up (unshared_stage x.data_stage second)
-        (each_joined (Rests t request.length) (ReadStatus t (Err x.fault)) (Rests t request.length) (rests_confirmed t request.length (Err x.fault)) x.first x.second new
-        (each_came_rests request.length x.bytes x.first x.second began x.data_stage second)
-        (read_status_leaves t (Err x.fault) x.second new (settled_stage x.data_stage began) status single))
+        let d : DataStage t request.length x.first x.bytes x.second = x.data_stage in
+        after_set_up why x.first x.set_up (unshared_stage d second)
+        (each_joined (Came t request.length d.packets d.got d.last) (ReadStatus t (Err x.fault)) (Failed t request.length why) (came_failed t request.length d.packets d.got d.last why x.fault x.told) x.first x.second new
+        (each_came request.length x.bytes x.first x.second began d second)
+        (read_status_leaves t (Err x.fault) x.second new (settled_stage d began) status single))
 
     each_of_read : (result : Result (Vec ℕ) PipeFault) → IsNotOfBus result → Reads t request old result new → EachWas (ReadLeaves t request result) old new
     each_of_read (Ok bytes) sound x = each_read bytes x

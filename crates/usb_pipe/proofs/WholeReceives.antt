@@ -32,9 +32,7 @@ use Rattle.usb_pipe.specs.Moves.{Came, start, packet, AllCame, NotCame, NoRoomLe
 use Rattle.usb_pipe.specs.Toggles.{flips}
 use Rattle.usb_pipe.specs.Whole.{IsNotOfBus, FitsSource, ReceiveLeaves}
 use Rattle.usb_pipe.proofs.Moves.{packets_short}
-use Rattle.usb_pipe.proofs.WholeSteady.{each_both}
 use Rattle.usb_pipe.proofs.WholeSteps.{ended, ended_settled, ended_unshared}
-use Rattle.usb_pipe.proofs.WholeHalts.{NotHalted, came_of}
 use Rattle.usb_pipe.proofs.WholeSends.{turned_on, not_ready, halted_by}
 
 -- The next bytes of a list
@@ -60,17 +58,17 @@ next_place got bytes xs place max now =
 
 -- What packets that came leave of one device
 
-record CameLeaves (t : Target) (ep : ℕ) (first : Toggle) (n : ℕ) (got : List ℕ) (j : ℕ) (p : List ℕ) (s v : State) : Type 0 where
-  others : is_at s t ≡ false → v ≡ s
-  frame : IsSource ep t.max s → OnlySource s v
-  source : is_at s t ≡ true → IsSource ep t.max s → (place : ℕ) → SourceAt t.max place first s → (got ≡ take (length got) (drop place s.spec.source)) × SourceAt t.max (place + length got) (flips n first) v
-  still : is_at s t ≡ true → IsSource ep t.max s → s.bulk_in.halted ≡ true → v ≡ s
+pub record CameLeaves (t : Target) (ep : ℕ) (first : Toggle) (n : ℕ) (got : List ℕ) (j : ℕ) (p : List ℕ) (s v : State) : Type 0 where
+  pub others : is_at s t ≡ false → v ≡ s
+  pub frame : IsSource ep t.max s → OnlySource s v
+  pub source : is_at s t ≡ true → IsSource ep t.max s → (place : ℕ) → SourceAt t.max place first s → (got ≡ take (length got) (drop place s.spec.source)) × SourceAt t.max (place + length got) (flips n first) v
+  pub still : is_at s t ≡ true → IsSource ep t.max s → s.bulk_in.halted ≡ true → v ≡ s
 
 -- and one that came behind them
 abbrev Fetched : Target → ℕ → Toggle → List ℕ → ℕ → List ℕ → State → State → Type 0
-Fetched t ep awaited bytes j p s v = SourceIn t ep awaited (Ok bytes) j p s v × NotHalted t ep j p s v
+Fetched t ep awaited bytes j p s v = SourceIn t ep awaited (Ok bytes) j p s v
 
-source_kept : (ep most : ℕ) (s u : State) → OnlySource s u → IsSource ep most s → IsSource ep most u
+pub source_kept : (ep most : ℕ) (s u : State) → OnlySource s u → IsSource ep most s → IsSource ep most u
 source_kept ep most s u e i = subst (λ x. IsSource ep most x) (sym e) (record { endpoint = i.endpoint; not_zero = i.not_zero; alone = i.alone })
 
 at_kept : (t : Target) (s u : State) → OnlySource s u → is_at s t ≡ true → is_at u t ≡ true
@@ -88,15 +86,15 @@ came_none t ep first j p s = record {
   still = λ h i c. refl;
 }
 
-not_halted : (t : Target) (ep : ℕ) (first : Toggle) (n : ℕ) (got : List ℕ) (j : ℕ) (p : List ℕ) (s u v : State) → CameLeaves t ep first n got j p s u → NotHalted t ep j p u v
+not_halted : (t : Target) (ep : ℕ) (first : Toggle) (n : ℕ) (got bytes : List ℕ) (j : ℕ) (p : List ℕ) (s u v : State) → CameLeaves t ep first n got j p s u → Fetched t ep (flips n first) bytes j p u v
     → is_at s t ≡ true → IsSource ep t.max s → s.bulk_in.halted ≡ true → ⊥
-not_halted t ep first n got j p s u v x y h i c =
+not_halted t ep first n got bytes j p s u v x y h i c =
     let f : OnlySource s u = x.frame i in
-    y (at_kept t s u f h) t.max (source_kept ep t.max s u f i) (ap (λ q. q.bulk_in.halted) (x.still h i c) ∙ c)
+    (y.halted (at_kept t s u f h) t.max (source_kept ep t.max s u f i) (ap (λ q. q.bulk_in.halted) (x.still h i c) ∙ c)).1 bytes refl
 
 came_then : (t : Target) (ep : ℕ) (first : Toggle) (n : ℕ) (got bytes : List ℕ) → 1 ≤ t.max → (j : ℕ) (p : List ℕ) (s u v : State)
     → CameLeaves t ep first n got j p s u → Fetched t ep (flips n first) bytes j p u v → CameLeaves t ep first (n + 1) (got ++ bytes) j p s v
-came_then t ep first n got bytes least j p s u v x (y, z) = record {
+came_then t ep first n got bytes least j p s u v x y = record {
   others = other_twice t s u v x.others y.others;
   frame = λ i. source_twice s u v (x.frame i) (y.frame t.max (source_kept ep t.max s u (x.frame i) i));
   source = λ h i place at.
@@ -111,19 +109,19 @@ came_then t ep first n got bytes least j p s u v x (y, z) = record {
         subst (λ k. SourceAt t.max k (flips (n + 1) first) v) (next_place got bytes s.spec.source place t.max next)
             (subst (λ k. SourceAt t.max (advanced (place + length got) t.max (length s.spec.source)) k v) (turned_on n first (other (flips n first)) refl) there),
       );
-  still = λ h i c. elim (not_halted t ep first n got j p s u v x z h i c) [ ];
+  still = λ h i c. elim (not_halted t ep first n got bytes j p s u v x y h i c) [ ];
 }
 
-came_settled : {t : Target} {ep : ℕ} {first : Toggle} {old : World} {n : ℕ} {got : List ℕ} {new : World} → Came t ep first old n got new → IsSettled old.roots → IsSettled new.roots
+pub came_settled : {t : Target} {ep : ℕ} {first : Toggle} {old : World} {n : ℕ} {got : List ℕ} {new : World} → Came t ep first old n got new → IsSettled old.roots → IsSettled new.roots
 came_settled start h = h
 came_settled (packet bytes c fetches full) h = ended_settled fetches (came_settled c h)
 
 fetched : (t : Target) (ep : ℕ) (awaited : Toggle) (bytes : List ℕ) (old new : World) → IsSettled old.roots → Ended (heard_as awaited) (in_attempt t ep) old (Ok bytes) new → new.shared ≡ false
     → EachWas (Fetched t ep awaited bytes) old new
 fetched t ep awaited bytes old new settled e single =
-    each_both (SourceIn t ep awaited (Ok bytes)) (NotHalted t ep) old new (source_over t ep awaited (Ok bytes) old new settled e single) (came_of t ep awaited bytes old new settled e single)
+    source_over t ep awaited (Ok bytes) old new settled e single
 
-came_leaves : (t : Target) (ep : ℕ) (first : Toggle) → 1 ≤ t.max → {old : World} {n : ℕ} {got : List ℕ} {new : World} → IsSettled old.roots → Came t ep first old n got new → new.shared ≡ false
+pub came_leaves : (t : Target) (ep : ℕ) (first : Toggle) → 1 ≤ t.max → {old : World} {n : ℕ} {got : List ℕ} {new : World} → IsSettled old.roots → Came t ep first old n got new → new.shared ≡ false
     → EachWas (CameLeaves t ep first n got) old new
 came_leaves t ep first least {old} settled start single = each_none (CameLeaves t ep first 0 []) (came_none t ep first) old
 came_leaves t ep first least {old} {new} settled (packet {n} {got} {mid} bytes c fetches full) single =
@@ -133,7 +131,7 @@ came_leaves t ep first least {old} {new} settled (packet {n} {got} {mid} bytes c
 
 -- How many packets
 
-came_full : {t : Target} {ep : ℕ} {first : Toggle} {old : World} {n : ℕ} {got : List ℕ} {new : World} → Came t ep first old n got new → length got ≡ n * t.max
+pub came_full : {t : Target} {ep : ℕ} {first : Toggle} {old : World} {n : ℕ} {got : List ℕ} {new : World} → Came t ep first old n got new → length got ≡ n * t.max
 came_full start = omega arith
 came_full (packet {n} {got} bytes c fetches full) =
     let before = came_full c in
@@ -165,7 +163,7 @@ came_ready pipe n got last j p s u v works least x y h place f = pick pipe.condi
     pick Ready e =
         let z : CameLeaves (packet_target pipe.target pipe.max) pipe.ep pipe.toggle (n + 1) (got ++ last) j p s v = came_then (packet_target pipe.target pipe.max) pipe.ep pipe.toggle n got last least j p s u v x y in
         z.source h f.endpoint place (f.level e)
-    pick Halted e = absurd (not_halted (packet_target pipe.target pipe.max) pipe.ep pipe.toggle n got j p s u v x y.1 h f.endpoint (f.halted e))
+    pick Halted e = absurd (not_halted (packet_target pipe.target pipe.max) pipe.ep pipe.toggle n got last j p s u v x y h f.endpoint (f.halted e))
     pick Broken e = absurd (works e)
 
 abbrev items_of : Result (Vec ℕ) PipeFault → List ℕ
@@ -176,7 +174,7 @@ all_then : (pipe left : Bulk) (bytes : Vec ℕ) (n : ℕ) (got last : List ℕ) 
     → left ≡ record pipe { toggle = left.toggle; condition = Ready } → left.toggle ≡ flips (n + 1) pipe.toggle → (j : ℕ) (p : List ℕ) (s u v : State)
     → CameLeaves (packet_target pipe.target pipe.max) pipe.ep pipe.toggle n got j p s u → Fetched (packet_target pipe.target pipe.max) pipe.ep (flips n pipe.toggle) last j p u v → ReceiveLeaves pipe (Ok bytes) left j p s v
 all_then pipe left bytes n got last works least kept e turned j p s u v x y = record {
-  others = other_twice pipe.target s u v x.others y.0.others;
+  others = other_twice pipe.target s u v x.others y.others;
   frame = frame;
   fits = λ h place f. subst (λ l. FitsSource l (place + length bytes.items) v) (sym e) (record {
     endpoint = source_kept pipe.ep pipe.max s v (frame f.endpoint) f.endpoint;
@@ -189,7 +187,7 @@ all_then pipe left bytes n got last works least kept e turned j p s u v x y = re
 }
   where
     frame : IsSource pipe.ep pipe.max s → OnlySource s v
-    frame i = source_twice s u v (x.frame i) (y.0.frame pipe.max (source_kept pipe.ep pipe.max s u (x.frame i) i))
+    frame i = source_twice s u v (x.frame i) (y.frame pipe.max (source_kept pipe.ep pipe.max s u (x.frame i) i))
 
 -- where a call fails, no more is known of the endpoint than that it is the one it was, and that it is halted where it answered STALL
 none_then : (pipe left : Bulk) (why : PipeFault) → left ≡ record pipe { toggle = left.toggle; condition = after_fault pipe.condition why } → (after_fault pipe.condition why ≡ Ready → ⊥)
@@ -285,31 +283,31 @@ each_failed : (wanted : ℕ) (pipe left : Bulk) (why : PipeFault) (old new : Wor
 each_failed wanted pipe left why old new least settled e (inl g) sound single = each_lost wanted pipe left why old new least settled e g sound single
 each_failed wanted pipe left why old new least settled e (inr g) sound single = each_dropped wanted pipe left why old new least settled e g single
 
-each_received : (wanted : ℕ) (pipe : Bulk) (result : Result (Vec ℕ) PipeFault) (left : Bulk) (old new : World) → 1 ≤ pipe.max → IsSettled old.roots → pipe.condition ≢ Broken
+each_received : (wanted : ℕ) (pipe : Bulk) (result : Result (Vec ℕ) PipeFault) (left : Bulk) (old new : World) → 1 ≤ pipe.max → pipe.condition ≢ Broken
     → Received wanted pipe old result left new → IsNotOfBus result → new.shared ≡ false → EachWas (ReceiveLeaves pipe result left) old new
-each_received wanted pipe (Ok bytes) left old new least settled works x sound single =
+each_received wanted pipe (Ok bytes) left old new least works x sound single =
     let t = packet_target pipe.target pipe.max in
     let g : AllCame t pipe.ep pipe.toggle wanted old bytes.items new = x.came in
     let turned : left.toggle ≡ flips (g.packets + 1) pipe.toggle = x.toggle ∙ ap (λ k. flips k pipe.toggle) (all_packets t pipe.ep pipe.toggle wanted old new bytes.items least g) in
     each_joined (CameLeaves t pipe.ep pipe.toggle g.packets g.got) (Fetched t pipe.ep (flips g.packets pipe.toggle) g.last) (ReceiveLeaves pipe (Ok bytes) left)
     (all_then pipe left bytes g.packets g.got g.last works least g.kept x.pipe_left turned) old g.mid new
-    (came_leaves t pipe.ep pipe.toggle least settled g.before (ended_unshared g.came single))
-    (fetched t pipe.ep (flips g.packets pipe.toggle) g.last g.mid new (came_settled g.before settled) g.came single)
-each_received wanted pipe (Err why) left old new least settled works x sound single = each_failed wanted pipe left why old new least settled x.pipe_left x.came sound single
+    (came_leaves t pipe.ep pipe.toggle least x.settled g.before (ended_unshared g.came single))
+    (fetched t pipe.ep (flips g.packets pipe.toggle) g.last g.mid new (came_settled g.before x.settled) g.came single)
+each_received wanted pipe (Err why) left old new least works x sound single = each_failed wanted pipe left why old new least x.settled x.pipe_left x.came sound single
 
 -- any number of packets, by whether some are wanted
-each_working : (wanted : ℕ) (pipe : Bulk) (result : Result (Vec ℕ) PipeFault) (left : Bulk) (old new : World) → 1 ≤ pipe.max → IsSettled old.roots → pipe.condition ≢ Broken
+each_working : (wanted : ℕ) (pipe : Bulk) (result : Result (Vec ℕ) PipeFault) (left : Bulk) (old new : World) → 1 ≤ pipe.max → pipe.condition ≢ Broken
     → Receives wanted pipe old result left new → IsNotOfBus result → new.shared ≡ false → EachWas (ReceiveLeaves pipe result left) old new
-each_working zero pipe result left old new least settled works x sound single = let n : _ = x.nothing works refl in each_empty pipe left result old new n.0 n.1 n.2
-each_working (suc k) pipe result left old new least settled works x sound single = each_received (suc k) pipe result left old new least settled works (x.moved works (λ e. cc e)) sound single
+each_working zero pipe result left old new least works x sound single = let n : _ = x.nothing works refl in each_empty pipe left result old new n.0 n.1 n.2
+each_working (suc k) pipe result left old new least works x sound single = each_received (suc k) pipe result left old new least works (x.moved works (λ e. cc e)) sound single
 
-pub receive_leaves : (wanted : ℕ) (pipe : Bulk) (result : Result (Vec ℕ) PipeFault) (left : Bulk) (old new : World) → 1 ≤ pipe.max → IsSettled old.roots
+pub receive_leaves : (wanted : ℕ) (pipe : Bulk) (result : Result (Vec ℕ) PipeFault) (left : Bulk) (old new : World) → 1 ≤ pipe.max
     → Receives wanted pipe old result left new → IsNotOfBus result → new.shared ≡ false → EachWas (ReceiveLeaves pipe result left) old new
-receive_leaves wanted pipe result left old new least settled x sound single = pick pipe.condition refl
+receive_leaves wanted pipe result left old new least x sound single = pick pipe.condition refl
   where
     pick : (c : Condition) → pipe.condition ≡ c → EachWas (ReceiveLeaves pipe result left) old new
-    pick Ready e = each_working wanted pipe result left old new least settled (λ h. cc (sym e ∙ h)) x sound single
-    pick Halted e = each_working wanted pipe result left old new least settled (λ h. cc (sym e ∙ h)) x sound single
+    pick Ready e = each_working wanted pipe result left old new least (λ h. cc (sym e ∙ h)) x sound single
+    pick Halted e = each_working wanted pipe result left old new least (λ h. cc (sym e ∙ h)) x sound single
     pick Broken e =
         let b : _ = x.broken e in
         subst (λ r. EachWas (ReceiveLeaves pipe r left) old new) (sym b.0) (each_idle pipe left (Err pipe_fault.Broken) old new b.1 b.2 (idle_broken pipe))

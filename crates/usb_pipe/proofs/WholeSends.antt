@@ -46,19 +46,19 @@ turned_on n first toggle e = rw (add-one n) (e ∙ flip_other (flips n first))
 
 -- What packets that were acknowledged leave of one device
 
-record GaveLeaves (t : Target) (ep : ℕ) (first : Toggle) (n : ℕ) (sent : List ℕ) (j : ℕ) (p : List ℕ) (s v : State) : Type 0 where
-  others : is_at s t ≡ false → v ≡ s
-  frame : IsSink ep t.max s → OnlySink s v
-  sink : is_at s t ≡ true → IsSink ep t.max s → s.bulk_out.toggle ≡ first → (v.sink ≡ s.sink ++ sent) × (v.bulk_out.toggle ≡ flips n first)
-  halted : is_at s t ≡ true → IsSink ep t.max s → s.bulk_out.halted ≡ true → (v ≡ s) × (sent ≡ [])
+pub record GaveLeaves (t : Target) (ep : ℕ) (first : Toggle) (n : ℕ) (sent : List ℕ) (j : ℕ) (p : List ℕ) (s v : State) : Type 0 where
+  pub others : is_at s t ≡ false → v ≡ s
+  pub frame : IsSink ep t.max s → OnlySink s v
+  pub sink : is_at s t ≡ true → IsSink ep t.max s → s.bulk_out.toggle ≡ first → (v.sink ≡ s.sink ++ sent) × (v.bulk_out.toggle ≡ flips n first)
+  pub halted : is_at s t ≡ true → IsSink ep t.max s → s.bulk_out.halted ≡ true → (v ≡ s) × (sent ≡ [])
 
-sink_kept : (ep most : ℕ) (s u : State) → OnlySink s u → IsSink ep most s → IsSink ep most u
+pub sink_kept : (ep most : ℕ) (s u : State) → OnlySink s u → IsSink ep most s → IsSink ep most u
 sink_kept ep most s u e i = subst (λ x. IsSink ep most x) (sym e) (record { endpoint = i.endpoint; not_zero = i.not_zero })
 
-at_kept : (t : Target) (s u : State) → OnlySink s u → is_at s t ≡ true → is_at u t ≡ true
+pub at_kept : (t : Target) (s u : State) → OnlySink s u → is_at s t ≡ true → is_at u t ≡ true
 at_kept t s u e h = ap (λ x. is_at x t) e ∙ h
 
-sink_twice : (s u v : State) → OnlySink s u → OnlySink u v → OnlySink s v
+pub sink_twice : (s u v : State) → OnlySink s u → OnlySink u v → OnlySink s v
 sink_twice s u v e f = f ∙ ap {A = State} (λ x. record x { memory = v.memory; bulk_out = v.bulk_out; sink = v.sink; until_halt = v.until_halt }) e
 
 gave_none : (t : Target) (ep : ℕ) (first : Toggle) (j : ℕ) (p : List ℕ) (s : State) → GaveLeaves t ep first 0 [] j p s s
@@ -86,11 +86,11 @@ gave_then t ep first n sent bytes fits j p s u v x y = record {
       elim (z.1 [] refl) [ ];
 }
 
-gave_settled : {t : Target} {ep : ℕ} {first : Toggle} {old : World} {n : ℕ} {sent : List ℕ} {new : World} → Gave t ep first old n sent new → IsSettled old.roots → IsSettled new.roots
+pub gave_settled : {t : Target} {ep : ℕ} {first : Toggle} {old : World} {n : ℕ} {sent : List ℕ} {new : World} → Gave t ep first old n sent new → IsSettled old.roots → IsSettled new.roots
 gave_settled start h = h
 gave_settled (packet bytes g full some fits puts) h = ended_settled puts (gave_settled g h)
 
-gave_leaves : (t : Target) (ep : ℕ) (first : Toggle) {old : World} {n : ℕ} {sent : List ℕ} {new : World} → IsSettled old.roots → Gave t ep first old n sent new → new.shared ≡ false
+pub gave_leaves : (t : Target) (ep : ℕ) (first : Toggle) {old : World} {n : ℕ} {sent : List ℕ} {new : World} → IsSettled old.roots → Gave t ep first old n sent new → new.shared ≡ false
     → EachWas (GaveLeaves t ep first n sent) old new
 gave_leaves t ep first {old} settled start single = each_none (GaveLeaves t ep first 0 []) (gave_none t ep first) old
 gave_leaves t ep first {old} {new} settled (packet {n} {sent} {mid} bytes g full some fits puts) single =
@@ -133,7 +133,7 @@ front_at total sent rest k t s v split (ahead a b) = record {
 none_taken : (total : List ℕ) (s v : State) → v ≡ s → FrontTaken total s v
 none_taken total s v e = record { front = []; rest = total; split = refl; sink = ap (λ x. x.sink) e ∙ sym (append-nil s.sink) }
 
-fits_packet : (max : ℕ) (rest : List ℕ) → length (take max rest) ≤ max
+pub fits_packet : (max : ℕ) (rest : List ℕ) → length (take max rest) ≤ max
 fits_packet max rest = let l = length-take max rest in omega (arith, l)
 
 -- One device and its pipe
@@ -247,33 +247,33 @@ each_idle bytes pipe left given result old new same i =
 
 -- A call that sends
 
-each_sent : (bytes : List ℕ) (pipe : Bulk) (result : Result (Unit {0}) PipeFault) (left : Bulk) (old new : World) → IsSettled old.roots → pipe.condition ≢ Broken → bytes ≢ []
+each_sent : (bytes : List ℕ) (pipe : Bulk) (result : Result (Unit {0}) PipeFault) (left : Bulk) (old new : World) → pipe.condition ≢ Broken → bytes ≢ []
     → Sent (div_ceil (length bytes) pipe.max) bytes pipe old result left new → IsNotOfBus result → new.shared ≡ false → EachWas (SendLeaves bytes pipe result left) old new
-each_sent bytes pipe (Ok done) left old new settled works some x sound single =
+each_sent bytes pipe (Ok done) left old new works some x sound single =
     let t = packet_target pipe.target pipe.max in
     let turned : left.toggle ≡ flips x.went.packets pipe.toggle = x.toggle ∙ ap (λ k. flips k pipe.toggle) (gave_packets t pipe.ep pipe.toggle x.went.gone some) in
     each_wider (GaveLeaves t pipe.ep pipe.toggle x.went.packets bytes) (SendLeaves bytes pipe (Ok done) left) (all_leaves bytes pipe left done x.went.packets works some x.pipe_left turned) old new
-    (gave_leaves t pipe.ep pipe.toggle settled x.went.gone single)
-each_sent bytes pipe (Err why) left old new settled works some x sound single =
+    (gave_leaves t pipe.ep pipe.toggle x.settled x.went.gone single)
+each_sent bytes pipe (Err why) left old new works some x sound single =
     let t = packet_target pipe.target pipe.max in
     let g : NotGone t pipe.ep pipe.toggle bytes old why new = x.went in
     let over : Ended sent_as (out_attempt t pipe.ep (flips g.packets pipe.toggle) (take pipe.max g.rest)) g.mid (Err g.fault) new = ended (Unit {0}) why g.fault g.told sound g.lost in
     each_joined (GaveLeaves t pipe.ep pipe.toggle g.packets g.sent) (SinkOut t pipe.ep (flips g.packets pipe.toggle) (take pipe.max g.rest) (Err g.fault)) (SendLeaves bytes pipe (Err why) left)
     (lost_then bytes g.sent g.rest pipe left g.packets why g.fault works g.split g.told sound x.pipe_left) old g.mid new
-    (gave_leaves t pipe.ep pipe.toggle settled g.before (ended_unshared over single))
-    (sink_over t pipe.ep (flips g.packets pipe.toggle) (take pipe.max g.rest) (Err g.fault) g.mid new (gave_settled g.before settled) over single)
+    (gave_leaves t pipe.ep pipe.toggle x.settled g.before (ended_unshared over single))
+    (sink_over t pipe.ep (flips g.packets pipe.toggle) (take pipe.max g.rest) (Err g.fault) g.mid new (gave_settled g.before x.settled) over single)
 
 -- any bytes, by whether there are some
-each_working : (bytes : List ℕ) (pipe : Bulk) (result : Result (Unit {0}) PipeFault) (left : Bulk) (old new : World) → IsSettled old.roots → pipe.condition ≢ Broken
+each_working : (bytes : List ℕ) (pipe : Bulk) (result : Result (Unit {0}) PipeFault) (left : Bulk) (old new : World) → pipe.condition ≢ Broken
     → Sends bytes pipe old result left new → IsNotOfBus result → new.shared ≡ false → EachWas (SendLeaves bytes pipe result left) old new
-each_working [] pipe result left old new settled works x sound single = each_idle [] pipe left (Ok tt) result old new (idle_nothing pipe) (x.nothing works refl)
-each_working (b ∷ bytes) pipe result left old new settled works x sound single = each_sent (b ∷ bytes) pipe result left old new settled works (λ e. cc e) (x.moved works (λ e. cc e)) sound single
+each_working [] pipe result left old new works x sound single = each_idle [] pipe left (Ok tt) result old new (idle_nothing pipe) (x.nothing works refl)
+each_working (b ∷ bytes) pipe result left old new works x sound single = each_sent (b ∷ bytes) pipe result left old new works (λ e. cc e) (x.moved works (λ e. cc e)) sound single
 
-pub send_leaves : (bytes : List ℕ) (pipe : Bulk) (result : Result (Unit {0}) PipeFault) (left : Bulk) (old new : World) → IsSettled old.roots
+pub send_leaves : (bytes : List ℕ) (pipe : Bulk) (result : Result (Unit {0}) PipeFault) (left : Bulk) (old new : World)
     → Sends bytes pipe old result left new → IsNotOfBus result → new.shared ≡ false → EachWas (SendLeaves bytes pipe result left) old new
-send_leaves bytes pipe result left old new settled x sound single = pick pipe.condition refl
+send_leaves bytes pipe result left old new x sound single = pick pipe.condition refl
   where
     pick : (c : Condition) → pipe.condition ≡ c → EachWas (SendLeaves bytes pipe result left) old new
-    pick Ready e = each_working bytes pipe result left old new settled (λ h. cc (sym e ∙ h)) x sound single
-    pick Halted e = each_working bytes pipe result left old new settled (λ h. cc (sym e ∙ h)) x sound single
+    pick Ready e = each_working bytes pipe result left old new (λ h. cc (sym e ∙ h)) x sound single
+    pick Halted e = each_working bytes pipe result left old new (λ h. cc (sym e ∙ h)) x sound single
     pick Broken e = each_idle bytes pipe left (Err pipe_fault.Broken) result old new (idle_broken bytes pipe) (x.broken e)

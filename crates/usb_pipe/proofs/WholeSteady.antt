@@ -1,7 +1,6 @@
 -- A device in the data stage of a control read keeps its registers, whatever the INs of its endpoint 0 bring.
 use Rattle.std.proofs.Common.{◌≡◌, ℕ, ◌+◌, nat_le, ◌&&◌, if◌then◌else◌, Bool, true, false, List, length, Option, None, Some, is_some, refl, sym, subst, ◌∙◌}
 use Rattle.std.specs.Prelude.{Result}
-use Rattle.std.proofs.lemmas.Option.{same_Some}
 use Rattle.usb_packet.specs.declared.Toggle.{Toggle}
 use Rattle.usb_port.specs.PortState.{PortState}
 use Rattle.usb_device.specs.declared.answer.Answer.TheVariants.{Nak}
@@ -14,7 +13,7 @@ use Rattle.usb_bus.specs.declared.types.Outcome.{Outcome}
 use Rattle.usb_bus.specs.Passes.{IsSettled}
 use Rattle.usb_bus.specs.World.{World}
 use Rattle.usb_bus.specs.Steps.{attempt, after}
-use Rattle.usb_bus.specs.Devices.{Relation, Was, EachWas, DidIn}
+use Rattle.usb_bus.specs.Devices.{Relation, EachWas, DidIn}
 use Rattle.usb_bus.proofs.Devices.{each_wider, each_in}
 use Rattle.usb_transaction.specs.declared.target.Target.{Target}
 use Rattle.usb_transaction.specs.declared.fault.TransFault.{TransFault}
@@ -22,14 +21,6 @@ use Rattle.usb_transaction.specs.Heard.{heard_as}
 use Rattle.usb_transaction.specs.Trail.{IsNoEnd, Ended}
 use Rattle.usb_transaction.specs.Trans.{in_attempt}
 use Rattle.usb_transaction.proofs.Overs.{StepsSo, LastIs, each_ended}
-
--- Two relations at once
-
-pub each_both : (R S : Relation) (old new : World) → EachWas R old new → EachWas S old new → EachWas (λ j p s v. R j p s v × S j p s v) old new
-each_both R S old new x y j p s on there =
-    let one : Was R old j p s = x j p s on there in
-    let other : Was S old j p s = y j p s on there in
-    record { before = one.before; on = one.on; stands = one.stands; so = (one.so, subst (λ d. S j p d s) (same_Some other.before one.before (sym other.stands ∙ one.stands)) other.so) }
 
 -- One attempt with one device
 

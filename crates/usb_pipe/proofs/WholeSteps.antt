@@ -11,7 +11,6 @@ use Rattle.usb_device.specs.Transfer.{toggle_at}
 use Rattle.usb_device.specs.Rows.{State, accepted}
 use Rattle.usb_device.specs.Progress.{OnlyControl, OnlyStage}
 use Rattle.usb_bus.specs.declared.types.Attempt.{Attempt}
-use Rattle.usb_bus.specs.Courses.{is_harmless}
 use Rattle.usb_bus.specs.Passes.{IsSettled}
 use Rattle.usb_bus.specs.World.{World}
 use Rattle.usb_bus.specs.Devices.{Relation, EachWas}
@@ -20,16 +19,21 @@ use Rattle.usb_transaction.specs.declared.fault.TransFault.{TransFault}
 use Rattle.usb_transaction.specs.declared.fault.TransFault.TheVariants as trans
 use Rattle.usb_transaction.specs.Heard.{heard_as, set_up_as, flip}
 use Rattle.usb_transaction.specs.Over.{is_at, ControlIn, AcceptedSince, SetupDone}
+use Rattle.usb_transaction.specs.Spared.{EachSpared}
 use Rattle.usb_transaction.specs.Trail.{Ended, Transacted}
 use Rattle.usb_transaction.specs.Trans.{setup_attempt, in_attempt}
+use Rattle.usb_transaction.specs.Why.{NoThreeDamaged, WhySetup}
 use Rattle.usb_transaction.proofs.Trails.{trail_settled, trail_unshared}
-use Rattle.usb_transaction.proofs.ControlOver.{control_in_leaves}
+use Rattle.usb_transaction.proofs.ControlLeaves.{control_in_leaves}
 use Rattle.usb_transaction.proofs.OverSetup.{set_up_leaves}
+use Rattle.usb_transaction.proofs.Overs.{each_both}
+use Rattle.usb_transaction.proofs.Spared.{spared_both}
+use Rattle.usb_transaction.proofs.WhySetup.{set_up_why}
 use Rattle.usb_pipe.specs.declared.fault.PipeFault.{PipeFault}
 use Rattle.usb_pipe.specs.Control.{fault_of}
 use Rattle.usb_pipe.specs.Toggles.{flips}
 use Rattle.usb_pipe.specs.Whole.{IsNotOfBus}
-use Rattle.usb_pipe.proofs.WholeSteady.{Steady, each_both, each_steady}
+use Rattle.usb_pipe.proofs.WholeSteady.{Steady, each_steady}
 
 -- The worlds between
 
@@ -52,10 +56,20 @@ eight_bytes : (request : Setup) → length (bytes_of request) ≡ 8
 unfolding bytes_of
 eight_bytes request = refl
 
-pub request_leaves : (t : Target) (request : Setup) (result : Result (List ℕ) TransFault) (old new : World) → setup_of (bytes_of request) ≡ request → is_harmless request ≡ true → IsSettled old.roots
-    → Ended set_up_as (setup_attempt t (bytes_of request)) old result new → new.shared ≡ false → EachWas (SetupDone t (bytes_of request) result) old new
-request_leaves t request result old new e harmless settled x single =
-    set_up_leaves t (bytes_of request) result old new (eight_bytes request) (ap (λ r. is_harmless r) e ∙ harmless) settled x single
+pub request_leaves : (t : Target) (request : Setup) (result : Result (List ℕ) TransFault) (old new : World) → setup_of (bytes_of request) ≡ request → IsSettled old.roots
+    → Ended set_up_as (setup_attempt t (bytes_of request)) old result new → new.shared ≡ false → EachSpared t request (SetupDone t (bytes_of request) result) old new
+request_leaves t request result old new e settled x single =
+    subst (λ r. EachSpared t r (SetupDone t (bytes_of request) result) old new) e (set_up_leaves t (bytes_of request) result old new (eight_bytes request) settled x single)
+
+-- and why it fails
+abbrev pub SetUpWhy : Target → Setup → Result (List ℕ) TransFault → Relation
+SetUpWhy t request result j p s v = SetupDone t (bytes_of request) result j p s v × WhySetup t result j p s v
+
+pub request_why : (t : Target) (request : Setup) (result : Result (List ℕ) TransFault) (old new : World) → setup_of (bytes_of request) ≡ request → IsSettled old.roots → NoThreeDamaged old
+    → Ended set_up_as (setup_attempt t (bytes_of request)) old result new → new.shared ≡ false → EachSpared t request (SetUpWhy t request result) old new
+request_why t request result old new e settled three x single =
+    spared_both t request (SetupDone t (bytes_of request) result) (WhySetup t result) old new (request_leaves t request result old new e settled x single)
+    (subst (λ r. EachSpared t r (WhySetup t result) old new) e (set_up_why t (bytes_of request) result old new (eight_bytes request) settled three x single))
 
 -- an IN of endpoint 0
 abbrev pub InLeaves : Target → Toggle → Result (List ℕ) TransFault → Relation

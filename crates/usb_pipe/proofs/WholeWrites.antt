@@ -3,32 +3,40 @@ use Rattle.std.proofs.Common.{◌≡◌, ◌⊎◌, ◌==◌, inl, inr, ℕ, tru
 use Rattle.std.specs.Prelude.{Result, Ok, Err, slice_get}
 use Rattle.usb_packet.specs.declared.Toggle.TheVariants.{One}
 use Rattle.usb_request.specs.declared.setup.Setup.{Setup}
-use Rattle.usb_request.specs.Layout.{IsToDevice, bytes_of, setup_of}
+use Rattle.usb_request.specs.Layout.{bytes_of, setup_of}
 use Rattle.usb_port.specs.PortState.{PortState, status_of}
 use Rattle.usb_device.specs.declared.request.Registers.{Registers}
+use Rattle.usb_device.specs.Spec.{Spec}
 use Rattle.usb_device.specs.Request.{Outcome, stalled, answers, takes_address, takes_configuration, halts, unhalts, tells_port, calls_port, outcome, registers_at_setup}
 use Rattle.usb_device.specs.Transfer.{Stage, ending, refused, first_stage, reads, reads_port}
 use Rattle.usb_device.specs.Rows.{State}
 use Rattle.usb_device.specs.Progress.{StatusGiven, OnlyControl}
-use Rattle.usb_bus.specs.Courses.{is_harmless}
 use Rattle.usb_bus.specs.Passes.{IsSettled}
 use Rattle.usb_bus.specs.World.{World}
-use Rattle.usb_bus.specs.Devices.{EachWas}
+use Rattle.usb_bus.specs.Devices.{Relation, EachWas}
 use Rattle.usb_bus.proofs.Booleans.{decided}
-use Rattle.usb_bus.proofs.Devices.{each_joined, each_wider}
 use Rattle.usb_transaction.specs.declared.target.Target.{Target}
 use Rattle.usb_transaction.specs.declared.fault.TransFault.{TransFault}
-use Rattle.usb_transaction.specs.Over.{is_at, ControlIn, AcceptedSince, SetupDone}
-use Rattle.usb_transaction.proofs.ControlOver.{control_in_leaves}
-use Rattle.usb_transaction.proofs.Overs.{other_twice}
+use Rattle.usb_transaction.specs.declared.fault.TransFault.TheVariants as trans
+use Rattle.usb_transaction.specs.Heard.{heard_as}
+use Rattle.usb_transaction.specs.Over.{is_at, CanAnswer, CanAccept, ControlIn, AcceptedSince, SetupDone}
+use Rattle.usb_transaction.specs.Spared.{EachSpared}
+use Rattle.usb_transaction.specs.Trail.{Ended}
+use Rattle.usb_transaction.specs.Trans.{in_attempt}
+use Rattle.usb_transaction.proofs.ControlLeaves.{control_in_leaves}
+use Rattle.usb_transaction.proofs.Overs.{Composes, each_both, other_twice}
+use Rattle.usb_transaction.proofs.OverSetup.{spec_stays}
+use Rattle.usb_transaction.proofs.Spared.{spared_wider, spared_joined}
 use Rattle.usb_pipe.specs.declared.fault.PipeFault.{PipeFault}
-use Rattle.usb_pipe.specs.Stages.{Writes}
-use Rattle.usb_pipe.specs.Whole.{IsNotOfBus, EffectDone, EffectOrNone, none, some, WriteLeaves}
+use Rattle.usb_pipe.specs.declared.fault.PipeFault.TheVariants as pipe_fault
+use Rattle.usb_pipe.specs.Control.{fault_of}
+use Rattle.usb_pipe.specs.Stages.{SetUp, Writes}
+use Rattle.usb_pipe.specs.Whole.{IsNotOfBus, CanEnd, WasRefused, EffectDone, EffectOrNone, none, some, WriteLeaves}
 use Rattle.usb_pipe.proofs.WholeSteps.{ended, ended_settled, ended_unshared, request_leaves, Accepted, accepted_since}
 
 -- The stage that a request without data begins
 
-data Closing (st : Stage) : Type 0 where
+pub data Closing (st : Stage) : Type 0 where
   refuses : st ≡ refused → Closing st
   ends : (a : Option ℕ) → st ≡ ending a → Closing st
 
@@ -39,7 +47,7 @@ closes_port : (wanted : ℕ) (o : Option PortState) → wanted ≡ 0 → Closing
 closes_port wanted None e = refuses refl
 closes_port wanted (Some port) e = closes_bytes wanted (status_of port) e
 
-closes : (row : List PortState) (wanted : ℕ) (o : Outcome) → wanted ≡ 0 → Closing (first_stage row wanted o)
+pub closes : (row : List PortState) (wanted : ℕ) (o : Outcome) → wanted ≡ 0 → Closing (first_stage row wanted o)
 closes row wanted stalled e = refuses refl
 closes row wanted (answers bytes) e = closes_bytes wanted bytes e
 closes row wanted (takes_address a) e = ends (Some a) refl
@@ -60,9 +68,45 @@ address_kept g (unhalts which) = refl
 address_kept g (tells_port i) = refl
 address_kept g (calls_port c i) = refl
 
-still_at : (t : Target) (request : Setup) (s u : State) → Accepted request s u → is_at s t ≡ true → is_at u t ≡ true
+pub still_at : (t : Target) (request : Setup) (s u : State) → Accepted request s u → is_at s t ≡ true → is_at u t ≡ true
 still_at t request s u a at =
     ap (λ d. is_at d t) a.is ∙ ap (λ n. n == t.addr) (address_kept s.registers (outcome s.spec s.registers request)) ∙ at
+
+-- the description stays, and the stage is the request's first
+pub same_spec : (request : Setup) (s u : State) → Accepted request s u → u.spec ≡ s.spec
+same_spec request s u a = ap (λ d. d.spec) a.is ∙ spec_stays s (outcome s.spec s.registers request)
+
+pub stage_then : (request : Setup) (s u : State) (a : Accepted request s u) → u.stage ≡ first_stage a.row request.length (outcome s.spec s.registers request)
+stage_then request s u a = ap (λ d. d.stage) a.is
+
+-- What a failed transaction says of the transfer: the fault is the same, and a device that can answer so can end so
+
+abbrev Fails : PipeFault → PipeFault → Type 0
+Fails why fault = ◌≡◌ {A = Result (Unit {0}) PipeFault} (Err why) (Err fault)
+
+abbrev Fell : TransFault → TransFault → Type 0
+Fell why fault = ◌≡◌ {A = Result (List ℕ) TransFault} (Err why) (Err fault)
+
+abbrev EndsSo : Spec → PipeFault → Type 0
+EndsSo spec why = CanEnd {A = Unit {0}} spec (Err why)
+
+stall_of : (why : PipeFault) (fault : TransFault) → why ≡ fault_of fault → Fails why pipe_fault.Stalled → Fell fault trans.Stalled
+stall_of why trans.Stalled e h = refl
+stall_of why trans.Busy e h = cc
+stall_of why trans.NoAnswer e h = cc
+stall_of why (trans.Bus fault) e h = cc
+
+answers_so : (spec : Spec) (fault : TransFault) → CanAnswer {A = List ℕ} spec (Err fault) → EndsSo spec (fault_of fault)
+answers_so spec trans.Stalled h = h
+answers_so spec trans.Busy h = h
+answers_so spec trans.NoAnswer h = h
+answers_so spec (trans.Bus fault) h = h
+
+accepts_so : (spec : Spec) (fault : TransFault) → CanAccept {A = List ℕ} spec (Err fault) → EndsSo spec (fault_of fault)
+accepts_so spec trans.Stalled h = absurd h
+accepts_so spec trans.Busy h = absurd h
+accepts_so spec trans.NoAnswer h = h
+accepts_so spec (trans.Bus fault) h = h
 
 -- A whole write at one device
 
@@ -70,31 +114,42 @@ module _ (t : Target) (request : Setup) (nothing : request.length ≡ 0) (same :
   effect_done : (given : List ℕ) (j : ℕ) (p : List ℕ) (s u v : State) → Accepted request s u → is_at u t ≡ true → ControlIn t One (Ok given) j p u v → EffectDone request s v
   effect_done given j p s u v a at y = by_stage (closes a.row request.length (outcome s.spec s.registers request) nothing)
     where
-      stage_is : u.stage ≡ first_stage a.row request.length (outcome s.spec s.registers request)
-      stage_is = ap (λ d. d.stage) a.is
-
       by_stage : Closing (first_stage a.row request.length (outcome s.spec s.registers request)) → EffectDone request s v
-      by_stage (refuses h) = absurd ((y.refused (stage_is ∙ h)).1 at given refl)
+      by_stage (refuses h) = absurd ((y.refused (stage_then request s u a ∙ h)).1 at given refl)
       by_stage (ends address h) = record {
         row = a.row;
         address = address;
         is = h;
-        given = subst (λ d. StatusGiven address d v) a.is (y.status at refl address (stage_is ∙ h)).1;
+        given = subst (λ d. StatusGiven address d v) a.is (y.status at refl address (stage_then request s u a ∙ h)).1;
         rest = subst (λ d. OnlyControl d v) a.is y.frame;
       }
+
+  accepted_then : (j : ℕ) (p : List ℕ) (s u : State) → SetupDone t (bytes_of request) (Ok []) j p s u → is_at s t ≡ true → Accepted request s u
+  accepted_then j p s u x at = accepted_since request s u same (x.done at [] refl)
+
+  could_then : (result : Result (List ℕ) TransFault) (j : ℕ) (p : List ℕ) (s u v : State) → Accepted request s u → is_at s t ≡ true → ControlIn t One result j p u v → CanAnswer s.spec result
+  could_then result j p s u v a at y = subst (λ d. CanAnswer d result) (same_spec request s u a) (y.could (still_at t request s u a at))
 
   written_at : (given : List ℕ) (unit : Unit {0}) (j : ℕ) (p : List ℕ) (s u v : State) → SetupDone t (bytes_of request) (Ok []) j p s u → ControlIn t One (Ok given) j p u v → WriteLeaves t request (Ok unit) j p s v
   written_at given unit j p s u v x y = record {
     others = other_twice t s u v x.others y.others;
     failed = λ fault e. cc e;
-    done = λ at d e. let a : Accepted request s u = accepted_since request s u same (x.done at [] refl) in effect_done given j p s u v a (still_at t request s u a at) y;
+    done = λ at d e. let a : Accepted request s u = accepted_then j p s u x at in effect_done given j p s u v a (still_at t request s u a at) y;
+    refused = λ at e. cc e;
+    could = λ at. could_then (Ok given) j p s u v (accepted_then j p s u x at) at y;
   }
 
   unchanged : (s v : State) → v ≡ s → EffectOrNone request s v
   unchanged s v e = none (subst (λ d. OnlyControl s d) (sym e) refl) (ap (λ d. d.registers) e)
 
-  failed_at_setup : (fault : TransFault) (why : PipeFault) (j : ℕ) (p : List ℕ) (s v : State) → SetupDone t (bytes_of request) (Err fault) j p s v → WriteLeaves t request (Err why) j p s v
-  failed_at_setup fault why j p s v x = record { others = x.others; failed = λ f e. by_case x.kept; done = λ at d e. cc e }
+  failed_at_setup : (fault : TransFault) (why : PipeFault) → why ≡ fault_of fault → (j : ℕ) (p : List ℕ) (s v : State) → SetupDone t (bytes_of request) (Err fault) j p s v → WriteLeaves t request (Err why) j p s v
+  failed_at_setup fault why told j p s v x = record {
+    others = x.others;
+    failed = λ f e. by_case x.kept;
+    done = λ at d e. cc e;
+    refused = λ at e. absurd (subst (λ r. CanAccept s.spec r) (stall_of why fault told e) (x.could at));
+    could = λ at. subst (EndsSo s.spec) (sym told) (accepts_so s.spec fault (x.could at));
+  }
     where
       by_case : (v ≡ s) ⊎ AcceptedSince (bytes_of request) s v → EffectOrNone request s v
       by_case (inl e) = unchanged s v e
@@ -102,28 +157,48 @@ module _ (t : Target) (request : Setup) (nothing : request.length ≡ 0) (same :
           let a : Accepted request s v = accepted_since request s v same since in
           some a.row (subst (λ d. OnlyControl d v) a.is refl) (ap (λ d. d.registers) a.is)
 
-  failed_at_status : (fault : TransFault) (why : PipeFault) (j : ℕ) (p : List ℕ) (s u v : State) → SetupDone t (bytes_of request) (Ok []) j p s u → ControlIn t One (Err fault) j p u v → WriteLeaves t request (Err why) j p s v
-  failed_at_status fault why j p s u v x y = record { others = other_twice t s u v x.others y.others; failed = λ f e. by_place (decided (is_at s t)); done = λ at d e. cc e }
+  -- the request was refused where its status stage was
+  was_refused : (j : ℕ) (p : List ℕ) (s u v : State) → Accepted request s u → is_at s t ≡ true → ControlIn t One (Err trans.Stalled) j p u v → WasRefused request s
+  was_refused j p s u v a at y = record { row = a.row; is = sym (stage_then request s u a) ∙ y.stalled (still_at t request s u a at) refl }
+
+  failed_at_status : (fault : TransFault) (why : PipeFault) → why ≡ fault_of fault → (j : ℕ) (p : List ℕ) (s u v : State) → SetupDone t (bytes_of request) (Ok []) j p s u → ControlIn t One (Err fault) j p u v → WriteLeaves t request (Err why) j p s v
+  failed_at_status fault why told j p s u v x y = record {
+    others = other_twice t s u v x.others y.others;
+    failed = λ f e. by_place (decided (is_at s t));
+    done = λ at d e. cc e;
+    refused = λ at e. was_refused j p s u v (accepted_then j p s u x at) at (subst (λ r. ControlIn t One r j p u v) (stall_of why fault told e) y);
+    could = λ at. subst (EndsSo s.spec) (sym told) (answers_so s.spec fault (could_then (Err fault) j p s u v (accepted_then j p s u x at) at y));
+  }
     where
       by_place : (is_at s t ≡ true) ⊎ (is_at s t ≡ false) → EffectOrNone request s v
       by_place (inl at) =
-          let a : Accepted request s u = accepted_since request s u same (x.done at [] refl) in
+          let a : Accepted request s u = accepted_then j p s u x at in
           some a.row (subst (λ d. OnlyControl d v) a.is y.frame) (y.failed refl fault refl ∙ ap (λ d. d.registers) a.is)
       by_place (inr off) = unchanged s v (other_twice t s u v x.others y.others off)
 
+-- The status stage, behind setup data that were taken, with what else is so of it
+
+pub over_status : (t : Target) (request : Setup) (S T : Relation) (result : Result (List ℕ) TransFault) (old mid new : World) → Composes (SetupDone t (bytes_of request) (Ok [])) S T
+    → setup_of (bytes_of request) ≡ request → IsSettled old.roots → SetUp t request old (Ok []) mid → Ended (heard_as One) (in_attempt t 0) mid result new → new.shared ≡ false
+    → EachWas S mid new → EachSpared t request T old new
+over_status t request S T result old mid new f same settled x y single e =
+    spared_joined t request (SetupDone t (bytes_of request) (Ok [])) (λ j p s v. ControlIn t One result j p s v × S j p s v) T (λ j p s v a. a.0.others) (λ j p s u v a b. f j p s u v a b.1) old mid new
+    (request_leaves t request (Ok []) old mid same settled x (ended_unshared y single))
+    (each_both (ControlIn t One result) S mid new (control_in_leaves t One result mid new (ended_settled x settled) y single) e)
+
 -- A whole write
 
-pub write_leaves : (t : Target) (request : Setup) (result : Result (Unit {0}) PipeFault) (old new : World) → IsToDevice request → request.length ≡ 0 → setup_of (bytes_of request) ≡ request → is_harmless request ≡ true
-    → IsSettled old.roots → Writes t request old result new → IsNotOfBus result → new.shared ≡ false → EachWas (WriteLeaves t request result) old new
-write_leaves t request (Ok unit) old new host nothing same harmless settled x sound single =
-    each_joined (SetupDone t (bytes_of request) (Ok [])) (ControlIn t One (Ok x.given)) (WriteLeaves t request (Ok unit)) (written_at t request nothing same x.given unit) old x.mid new
-    (request_leaves t request (Ok []) old x.mid same harmless settled x.set_up (ended_unshared x.status single))
+pub write_leaves : (t : Target) (request : Setup) (result : Result (Unit {0}) PipeFault) (old new : World) → request.length ≡ 0 → setup_of (bytes_of request) ≡ request
+    → IsSettled old.roots → Writes t request old result new → IsNotOfBus result → new.shared ≡ false → EachSpared t request (WriteLeaves t request result) old new
+write_leaves t request (Ok unit) old new nothing same settled x sound single =
+    spared_joined t request (SetupDone t (bytes_of request) (Ok [])) (ControlIn t One (Ok x.given)) (WriteLeaves t request (Ok unit)) (λ j p s v y. y.others) (written_at t request nothing same x.given unit) old x.mid new
+    (request_leaves t request (Ok []) old x.mid same settled x.set_up (ended_unshared x.status single))
     (control_in_leaves t One (Ok x.given) x.mid new (ended_settled x.set_up settled) x.status single)
-write_leaves t request (Err why) old new host nothing same harmless settled (inl x) sound single =
-    each_wider (SetupDone t (bytes_of request) (Err x.fault)) (WriteLeaves t request (Err why)) (failed_at_setup t request nothing same x.fault why) old new
-    (request_leaves t request (Err x.fault) old new same harmless settled (ended (Unit {0}) why x.fault x.told sound x.set_up) single)
-write_leaves t request (Err why) old new host nothing same harmless settled (inr x) sound single =
+write_leaves t request (Err why) old new nothing same settled (inl x) sound single =
+    spared_wider t request (SetupDone t (bytes_of request) (Err x.fault)) (WriteLeaves t request (Err why)) (failed_at_setup t request nothing same x.fault why x.told) old new
+    (request_leaves t request (Err x.fault) old new same settled (ended (Unit {0}) why x.fault x.told sound x.set_up) single)
+write_leaves t request (Err why) old new nothing same settled (inr x) sound single =
     let status = ended (Unit {0}) why x.fault x.told sound x.status in
-    each_joined (SetupDone t (bytes_of request) (Ok [])) (ControlIn t One (Err x.fault)) (WriteLeaves t request (Err why)) (failed_at_status t request nothing same x.fault why) old x.mid new
-    (request_leaves t request (Ok []) old x.mid same harmless settled x.set_up (ended_unshared status single))
+    spared_joined t request (SetupDone t (bytes_of request) (Ok [])) (ControlIn t One (Err x.fault)) (WriteLeaves t request (Err why)) (λ j p s v y. y.others) (failed_at_status t request nothing same x.fault why x.told) old x.mid new
+    (request_leaves t request (Ok []) old x.mid same settled x.set_up (ended_unshared status single))
     (control_in_leaves t One (Err x.fault) x.mid new (ended_settled x.set_up settled) status single)

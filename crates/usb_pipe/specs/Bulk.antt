@@ -28,6 +28,11 @@ pub record Bulk : Type 0 where
   pub toggle : Toggle  -- of the next packet
   pub condition : Condition
 
+abbrev pub is_ready : Condition → Bool
+is_ready Ready = true
+is_ready Halted = false
+is_ready Broken = false
+
 abbrev pub is_broken : Condition → Bool
 is_broken Ready = false
 is_broken Halted = false

@@ -6,3 +6,4 @@ pub mod Bulk
 pub mod Stages
 pub mod Moves
 pub mod Whole
+pub mod WhyWhole

@@ -2,12 +2,13 @@
 use Rattle.std.specs.Prelude.{◌≡◌, ℕ, ◌+◌, ◌*◌, ◌<◌, ◌≤◌, ◌⊎◌, List, [], ◌++◌, length, take, Result, Ok, Err}
 use Rattle.std.specs.Global.{Vec}
 use Rattle.usb_packet.specs.declared.Toggle.{Toggle}
+use Rattle.usb_bus.specs.declared.types.Outcome.{Outcome}
 use Rattle.usb_bus.specs.World.{World}
 use Rattle.usb_transaction.specs.declared.target.Target.{Target}
 use Rattle.usb_transaction.specs.declared.fault.TransFault.{TransFault}
 use Rattle.usb_transaction.specs.Heard.{heard_as, sent_as}
 use Rattle.usb_transaction.specs.Trans.{in_attempt, out_attempt}
-use Rattle.usb_transaction.specs.Trail.{Transacted}
+use Rattle.usb_transaction.specs.Trail.{Trail, GoesOn, Transacted}
 use Rattle.usb_pipe.specs.declared.fault.PipeFault.{PipeFault}
 use Rattle.usb_pipe.specs.declared.fault.PipeFault.TheVariants.{Memory}
 use Rattle.usb_pipe.specs.Control.{fault_of}
@@ -49,6 +50,19 @@ pub record NotGone (t : Target) (ep : ℕ) (first : Toggle) (total : List ℕ) (
   pub fault : TransFault
   pub told : why ≡ fault_of fault
   pub lost : Puts t ep (flips packets first) (take t.max rest) mid (Err fault) new
+
+-- a moment of it: full packets were acknowledged, and the next, with as many of the rest as fit, is being sent
+pub record WhileSending (t : Target) (ep : ℕ) (first : Toggle) (total : List ℕ) (old now : World) : Type 0 where
+  pub packets : ℕ
+  pub sent : List ℕ
+  pub rest : List ℕ
+  pub mid : World
+  pub before : Gave t ep first old packets sent mid
+  pub full : length sent ≡ packets * t.max
+  pub split : total ≡ sent ++ rest
+  pub outcomes : List Outcome
+  pub trail : Trail (out_attempt t ep (flips packets first) (take t.max rest)) mid outcomes now
+  pub onward : GoesOn sent_as outcomes
 
 abbrev pub SendEnds : Target → ℕ → Toggle → List ℕ → World → Result (Unit {0}) PipeFault → World → Type 0
 SendEnds t ep first total old (Ok done) new = AllGone t ep first total old new

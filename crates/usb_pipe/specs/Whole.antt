@@ -1,20 +1,24 @@
 -- One device over a whole control transfer (8.5.3): what it was before, seen from where it is reachable after it.
-use Rattle.std.specs.Prelude.{◌≡◌, ◌⊎◌, ◌≤◌, ℕ, ◌+◌, List, [], ◌∷◌, ◌++◌, length, take, drop, true, false, Option, None, Some, Result, Ok, Err, ⊤}
+use Rattle.std.specs.Prelude.{◌≡◌, ◌≢◌, ◌⊎◌, ◌≤◌, ℕ, ◌+◌, List, [], ◌∷◌, ◌++◌, length, take, drop, true, false, Option, None, Some, Result, Ok, Err, ⊤, if◌then◌else◌}
 use Rattle.arrayvec.specs.ArrayVec.{ArrayVec}
 use Rattle.std.specs.Global.{Vec}
+use Rattle.usb_packet.specs.declared.Toggle.{Toggle}
 use Rattle.usb_request.specs.declared.setup.Setup.{Setup}
 use Rattle.usb_port.specs.PortState.{PortState}
-use Rattle.usb_device.specs.Request.{outcome}
-use Rattle.usb_device.specs.Transfer.{first_stage, reading, ending, max_packet}
+use Rattle.usb_device.specs.Spec.{Spec}
+use Rattle.usb_device.specs.declared.bulk.Pipe.{Pipe}
+use Rattle.usb_device.specs.Request.{outcome, takes_address}
+use Rattle.usb_device.specs.Transfer.{first_stage, reading, ending, refused as stage_refused, max_packet}
 use Rattle.usb_device.specs.Rows.{State, accepted}
-use Rattle.usb_device.specs.Bulk.{tells_changes}
-use Rattle.usb_device.specs.Progress.{IsRead, StatusGiven, IsSink, IsSource, SourceAt, PollAt, NeverTold, OnlyControl, OnlyStage, OnlySink, OnlySource, OnlyChanges}
+use Rattle.usb_device.specs.Bulk.{tells_changes, rested}
+use Rattle.usb_device.specs.Progress.{IsRead, StatusGiven, IsSink, SinkAt, IsSource, SourceAt, PollAt, NeverTold, OnlyControl, OnlyStage, OnlySink, OnlySource, OnlyChanges}
+use Rattle.usb_bus.specs.Losses.{one_more}
 use Rattle.usb_bus.specs.World.{World}
 use Rattle.usb_transaction.specs.declared.target.Target.{Target}
 use Rattle.usb_transaction.specs.Over.{is_at, ToldIn}
 use Rattle.usb_transaction.specs.Trans.{in_attempt}
 use Rattle.usb_pipe.specs.declared.condition.Condition.TheVariants.{Ready, Halted}
-use Rattle.usb_pipe.specs.Bulk.{Bulk}
+use Rattle.usb_pipe.specs.Bulk.{Bulk, is_ready}
 use Rattle.usb_pipe.specs.Interrupt.{Interrupt}
 use Rattle.usb_pipe.specs.declared.fault.PipeFault.{PipeFault}
 use Rattle.usb_pipe.specs.declared.fault.PipeFault.TheVariants.{Stalled, Busy, NoAnswer, Broken, Bus, Memory}
@@ -28,6 +32,22 @@ IsNotOfBus (Err NoAnswer) = ⊤
 IsNotOfBus (Err Broken) = ⊤
 IsNotOfBus (Err (Bus fault)) = ⊥
 IsNotOfBus (Err Memory) = ⊤
+
+-- a device of this description may end a control transfer so: it is neither silent nor always busy where the transfer is done, is refused, or finds
+-- no memory, and not silent where the host waited in vain
+abbrev pub CanEnd : {A : Type 0} → Spec → Result A PipeFault → Type 0
+CanEnd spec (Ok x) = (spec.silent ≡ false) × (spec.busy ≡ false)
+CanEnd spec (Err Stalled) = (spec.silent ≡ false) × (spec.busy ≡ false)
+CanEnd spec (Err Busy) = spec.silent ≡ false
+CanEnd spec (Err NoAnswer) = ⊤
+CanEnd spec (Err Broken) = ⊥
+CanEnd spec (Err (Bus fault)) = ⊤
+CanEnd spec (Err Memory) = (spec.silent ≡ false) × (spec.busy ≡ false)
+
+-- the device refused the request, with its ports as they were when it accepted it
+pub record WasRefused (request : Setup) (s : State) : Type 0 where
+  pub row : List PortState
+  pub is : first_stage row request.length (outcome s.spec s.registers request) ≡ stage_refused
 
 -- the target's maximum is the device's, or so little is wanted that one packet holds it
 abbrev pub IsMaximum : Target → ℕ → State → Type 0
@@ -47,6 +67,8 @@ pub record ReadLeaves (t : Target) (request : Setup) (result : Result (Vec ℕ) 
   pub others : is_at s t ≡ false → v ≡ s
   pub frame : OnlyStage s v
   pub done : is_at s t ≡ true → (bytes : Vec ℕ) → result ≡ Ok bytes → AnswerRead t request bytes.items s v
+  pub refused : is_at s t ≡ true → result ≡ Err Stalled → WasRefused request s
+  pub could : is_at s t ≡ true → CanEnd s.spec result
 
 -- the device did what was asked when it accepted it, the last time with these ports, and its status stage was given
 pub record EffectDone (request : Setup) (s v : State) : Type 0 where
@@ -61,11 +83,30 @@ pub data EffectOrNone (request : Setup) (s v : State) : Type 0 where
   none : OnlyControl s v → v.registers ≡ s.registers → EffectOrNone request s v
   some : (row : List PortState) → OnlyControl (accepted s row request) v → v.registers ≡ (accepted s row request).registers → EffectOrNone request s v
 
--- a request without data, that resets no port
+-- a request without data
 pub record WriteLeaves (t : Target) (request : Setup) (result : Result (Unit {0}) PipeFault) (j : ℕ) (p : List ℕ) (s v : State) : Type 0 where
   pub others : is_at s t ≡ false → v ≡ s
   pub failed : (fault : PipeFault) → result ≡ Err fault → EffectOrNone request s v
   pub done : is_at s t ≡ true → (u : Unit {0}) → result ≡ Ok u → EffectDone request s v
+  pub refused : is_at s t ≡ true → result ≡ Err Stalled → WasRefused request s
+  pub could : is_at s t ≡ true → CanEnd s.spec result
+
+-- Address losses (9.4.6)
+
+-- a device has taken the address that it was asked to take; or it has not, and one loss more is counted
+pub data TookOrLost (a : ℕ) (old new : World) (s v : State) : Type 0 where
+  took : v.registers ≡ record s.registers { address = a } → new.losses ≡ old.losses → TookOrLost a old new s v
+  lost : v.registers ≡ s.registers → new.losses ≡ one_more old.losses → TookOrLost a old new s v
+
+-- a request without data counts a loss exactly where it is done, asks for an address, and the device has not taken that
+pub record LossesOf (t : Target) (request : Setup) (result : Result (Unit {0}) PipeFault) (old new : World) (j : ℕ) (p : List ℕ) (s v : State) : Type 0 where
+  pub done : is_at s t ≡ true → (u : Unit {0}) → result ≡ Ok u → (a : ℕ) → outcome s.spec s.registers request ≡ takes_address a → TookOrLost a old new s v
+  pub failed : is_at s t ≡ true → (why : PipeFault) → result ≡ Err why → new.losses ≡ old.losses
+  pub none : is_at s t ≡ true → ((a : ℕ) → outcome s.spec s.registers request ≢ takes_address a) → new.losses ≡ old.losses
+
+-- a control read counts none of a device that it asked
+abbrev pub LossesKept : Target → World → World → ℕ → List ℕ → State → State → Type 0
+LossesKept t old new j p s v = is_at s t ≡ true → new.losses ≡ old.losses
 
 -- Bulk pipes (5.8)
 
@@ -82,6 +123,12 @@ pub record FrontTaken (bytes : List ℕ) (s v : State) : Type 0 where
   pub rest : List ℕ
   pub split : bytes ≡ front ++ rest
   pub sink : v.sink ≡ s.sink ++ front
+
+-- at a moment of a send: the bytes before the packet that is on its way joined what the device took, and the packet joined them or did not yet
+pub record SendingLeaves (sent packet : List ℕ) (toggle : Toggle) (pipe : Bulk) (j : ℕ) (p : List ℕ) (s v : State) : Type 0 where
+  pub others : is_at s pipe.target ≡ false → v ≡ s
+  pub frame : IsSink pipe.ep pipe.max s → OnlySink s v
+  pub way : is_at s pipe.target ≡ true → pipe.condition ≡ Ready → FitsSink pipe s → SinkAt (s.sink ++ sent) packet toggle v
 
 pub record SendLeaves (bytes : List ℕ) (pipe : Bulk) (result : Result (Unit {0}) PipeFault) (left : Bulk) (j : ℕ) (p : List ℕ) (s v : State) : Type 0 where
   pub others : is_at s pipe.target ≡ false → v ≡ s
@@ -107,6 +154,23 @@ pub record ReceiveLeaves (pipe : Bulk) (result : Result (Vec ℕ) PipeFault) (le
   pub fits : is_at s pipe.target ≡ true → (got : ℕ) → FitsSource pipe got s → FitsSource left (got + came_with result) v
   -- the bytes are the next ones of the source
   pub done : is_at s pipe.target ≡ true → (got : ℕ) → FitsSource pipe got s → (bytes : Vec ℕ) → result ≡ Ok bytes → bytes.items ≡ take (length bytes.items) (drop got s.spec.source)
+
+-- how many bytes of the source a pipe has got after a clear: where one was sent and is done, those that the device counts
+abbrev pub got_after : Bulk → ℕ → Result (Unit {0}) PipeFault → State → ℕ
+got_after pipe got (Ok done) s = if is_ready pipe.condition then got else s.place
+got_after pipe got (Err fault) s = got
+
+-- an endpoint as it was, or begun again where a clear that was sent is done
+abbrev pub BegunAgain : Bulk → Result (Unit {0}) PipeFault → Pipe → Pipe → Type 0
+BegunAgain pipe (Ok done) before after = after ≡ (if is_ready pipe.condition then before else rested)
+BegunAgain pipe (Err fault) before after = ⊤
+
+-- a clear of a halt (9.4.5) moves no bytes, and both ends begin again together
+pub record ClearLeaves (pipe : Bulk) (result : Result (Unit {0}) PipeFault) (left : Bulk) (j : ℕ) (p : List ℕ) (s v : State) : Type 0 where
+  pub others : is_at s pipe.target ≡ false → v ≡ s
+  pub sink : is_at s pipe.target ≡ true → pipe.is_in ≡ false → FitsSink pipe s → FitsSink left v × (v.sink ≡ s.sink) × BegunAgain pipe result s.bulk_out v.bulk_out
+  pub source : is_at s pipe.target ≡ true → pipe.is_in ≡ true → (got : ℕ) → FitsSource pipe got s
+      → FitsSource left (got_after pipe got result s) v × (v.place ≡ s.place) × BegunAgain pipe result s.bulk_in v.bulk_in
 
 -- A hub's status pipe (11.12.3)
 

@@ -39,11 +39,16 @@ impl Model for BulkPipe {
 }
 
 impl BulkPipe {
-    ghost use Rattle.std.specs.Prelude.{◌≡◌, ◌*◌, ◌<◌, ◌≤◌, true, false, length};
+    ghost use Rattle.std.specs.Prelude.{◌≡◌, ◌≢◌, ◌*◌, ◌<◌, ◌≤◌, true, false, [], length, OnOk};
     ghost use Rattle.std.specs.Int.{div_ceil};
     ghost use Rattle.usb_packet.specs.declared.Toggle.TheVariants.{Zero};
     ghost use Rattle.usb_bus.specs.World.{Spends};
+    ghost use Rattle.usb_bus.specs.Devices.{EachWas};
     ghost use Rattle.usb_transaction.specs.Trans.{IsTarget};
+    ghost use Rattle.usb_transaction.specs.Why.{NoThreeDamaged};
+    ghost use Rattle.usb_transaction.specs.Answerer.{Answerer};
+    ghost use Rattle.usb_pipe.specs.Whole.{IsNotOfBus, SendLeaves, ReceiveLeaves, ClearLeaves};
+    ghost use Rattle.usb_pipe.specs.WhyWhole.{WhyWrite, WhySend, WhyReceive};
     ghost use Rattle.usb_pipe.specs.declared.condition.Condition.TheVariants.{Ready};
     ghost use Rattle.usb_pipe.specs.Bulk.{Bulk, Sends, Receives, Clears, Cleared};
     ghost use Rattle.usb_pipe.specs.End.{packet_target};
@@ -82,6 +87,9 @@ impl BulkPipe {
         requires writes { self.old.is_in ≡ false }
         ensures count { Spends (768 * div_ceil (length bytes.now) self.old.max) (B.world bus.old) (B.world bus.new) }
         ensures sends { Sends bytes.now self.old (B.world bus.old) result self.new (B.world bus.new) }
+        ensures what { IsNotOfBus result → (B.world bus.new).shared ≡ false → EachWas (SendLeaves bytes.now self.old result self.new) (B.world bus.old) (B.world bus.new) }
+        ensures why { NoThreeDamaged (B.world bus.old) → IsNotOfBus result → (B.world bus.new).shared ≡ false → EachWas (WhySend self.old result) (B.world bus.old) (B.world bus.new) }
+        ensures who { OnOk result (bytes.now ≢ [] → (B.world bus.new).shared ≡ false → Answerer self.old.target (B.world bus.old) (B.world bus.new)) }
     {
         if self.condition.is_broken() {
             return Err(PipeFault::Broken);
@@ -113,6 +121,9 @@ impl BulkPipe {
         requires reads { self.old.is_in ≡ true }
         ensures count { Spends (768 * packets) (B.world bus.old) (B.world bus.new) }
         ensures receives { Receives packets self.old (B.world bus.old) result self.new (B.world bus.new) }
+        ensures what { IsNotOfBus result → (B.world bus.new).shared ≡ false → EachWas (ReceiveLeaves self.old result self.new) (B.world bus.old) (B.world bus.new) }
+        ensures why { NoThreeDamaged (B.world bus.old) → IsNotOfBus result → (B.world bus.new).shared ≡ false → EachWas (WhyReceive packets self.old result) (B.world bus.old) (B.world bus.new) }
+        ensures who { OnOk result (packets ≢ 0 → (B.world bus.new).shared ≡ false → Answerer self.old.target (B.world bus.old) (B.world bus.new)) }
     {
         if self.condition.is_broken() {
             return Err(PipeFault::Broken);
@@ -146,6 +157,8 @@ impl BulkPipe {
     pub fn clear_halt<B: Bus>(&mut self, bus: &mut B) -> Result<(), PipeFault>
         ensures count { Spends 1600 (B.world bus.old) (B.world bus.new) }
         ensures clears { Clears self.old (B.world bus.old) result self.new (B.world bus.new) }
+        ensures what { IsNotOfBus result → (B.world bus.new).shared ≡ false → EachWas (ClearLeaves self.old result self.new) (B.world bus.old) (B.world bus.new) }
+        ensures why { NoThreeDamaged (B.world bus.old) → IsNotOfBus result → (B.world bus.new).shared ≡ false → EachWas (WhyWrite self.old.target result) (B.world bus.old) (B.world bus.new) }
     {
         match self.condition {
             Condition::Ready => Ok(()),

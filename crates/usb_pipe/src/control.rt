@@ -1,14 +1,19 @@
 //! Control transfers (8.5.3).
-ghost use Rattle.std.specs.Prelude.{◌≡◌, ◌≤◌, Err, ◌≢◌, length, false, true, IfOk, MatchResult};
+ghost use Rattle.std.specs.Prelude.{◌≡◌, ◌≤◌, Err, ◌≢◌, length, false, true, OnOk, IfOk, MatchResult};
 ghost use Rattle.usb_bus.specs.World.{Spends};
 ghost use Rattle.usb_bus.specs.Passes.{IsSettled};
 ghost use Rattle.usb_bus.specs.Courses.{is_harmless};
 ghost use Rattle.usb_bus.specs.Devices.{EachWas};
 ghost use Rattle.usb_request.specs.Layout.{IsToHost, IsToDevice};
 ghost use Rattle.usb_transaction.specs.Trans.{IsTarget, Worked};
+ghost use Rattle.usb_transaction.specs.Why.{NoThreeDamaged};
+ghost use Rattle.usb_transaction.specs.Answerer.{Answerer};
+ghost use Rattle.usb_transaction.specs.Losses.{begins_no_stretch};
+ghost use Rattle.usb_transaction.specs.Spared.{EachSpared};
 ghost use Rattle.usb_pipe.specs.Control.{Faults, control_bound};
 ghost use Rattle.usb_pipe.specs.Stages.{Reads, Writes};
-ghost use Rattle.usb_pipe.specs.Whole.{IsNotOfBus, ReadLeaves, WriteLeaves};
+ghost use Rattle.usb_pipe.specs.Whole.{IsNotOfBus, ReadLeaves, WriteLeaves, LossesOf};
+ghost use Rattle.usb_pipe.specs.WhyWhole.{WhyRead, WhyWrite};
 
 use crate::PipeFault;
 use crate::stage::data_stage;
@@ -44,6 +49,8 @@ pub fn control_in<B: Bus>(
     ensures stages { Reads target setup (B.world bus.old) result (B.world bus.new) }
     ensures settled { IsSettled (B.world bus.old).roots }
     ensures what { IsNotOfBus result → (B.world bus.new).shared ≡ false → EachWas (ReadLeaves target setup result) (B.world bus.old) (B.world bus.new) }
+    ensures why { NoThreeDamaged (B.world bus.old) → 8 ≤ target.max → IsNotOfBus result → (B.world bus.new).shared ≡ false → EachWas (WhyRead target setup result) (B.world bus.old) (B.world bus.new) }
+    ensures who { OnOk result ((B.world bus.new).shared ≡ false → Answerer target (B.world bus.old) (B.world bus.new)) }
     ensures most { IfOk result (λ bytes. length bytes.items ≤ setup.length) }
 {
     let request = setup.to_bytes();
@@ -57,8 +64,8 @@ pub fn control_in<B: Bus>(
 /// Asks endpoint 0 for something that has no data: a SETUP, and an IN that is answered by DATA1.
 ///
 /// The request is one whose data would go to the device, and its length is 0. Where no address was
-/// ever held twice, `Ok` to any request but the reset of a port means that the device at the
-/// target's address did what was asked; a new address it takes where it saw the last ACK.
+/// ever held twice, `Ok` means that the device at the target's address did what was asked; a new
+/// address it takes where it saw the last ACK, and else one address loss more is counted.
 ///
 /// # Errors
 ///
@@ -73,7 +80,10 @@ pub fn control_none<B: Bus>(bus: &mut B, target: Target, setup: Setup) -> Result
     ensures ends { MatchResult result (λ _. Worked 2 (B.world bus.old) (B.world bus.new)) (λ fault. Faults 1 (B.world bus.old) fault (B.world bus.new)) }
     ensures stages { Writes target setup (B.world bus.old) result (B.world bus.new) }
     ensures settled { IsSettled (B.world bus.old).roots }
-    ensures what { is_harmless setup ≡ true → IsNotOfBus result → (B.world bus.new).shared ≡ false → EachWas (WriteLeaves target setup result) (B.world bus.old) (B.world bus.new) }
+    ensures what { IsNotOfBus result → (B.world bus.new).shared ≡ false → EachSpared target setup (WriteLeaves target setup result) (B.world bus.old) (B.world bus.new) }
+    ensures why { NoThreeDamaged (B.world bus.old) → IsNotOfBus result → (B.world bus.new).shared ≡ false → EachSpared target setup (WhyWrite target result) (B.world bus.old) (B.world bus.new) }
+    ensures who { OnOk result ((is_harmless setup ≡ false → target.addr ≢ 0) → (B.world bus.new).shared ≡ false → Answerer target (B.world bus.old) (B.world bus.new)) }
+    ensures losses { begins_no_stretch setup ≡ true → IsNotOfBus result → (B.world bus.new).shared ≡ false → EachSpared target setup (LossesOf target setup result (B.world bus.old) (B.world bus.new)) (B.world bus.old) (B.world bus.new) }
     ensures room { result ≢ Err PipeFault.Memory }
 {
     send_setup(bus, target, setup.to_bytes())?;

@@ -29,12 +29,17 @@ impl Model for InterruptPipe {
 }
 
 impl InterruptPipe {
-    ghost use Rattle.std.specs.Prelude.{◌≡◌, ◌<◌, ◌≤◌};
+    ghost use Rattle.std.specs.Prelude.{◌≡◌, ◌<◌, ◌≤◌, false, OnOk};
     ghost use Rattle.usb_packet.specs.declared.Toggle.TheVariants.{Zero};
     ghost use Rattle.usb_bus.specs.World.{Spends};
     ghost use Rattle.usb_bus.specs.Passes.{IsSettled};
+    ghost use Rattle.usb_bus.specs.Devices.{EachWas};
     ghost use Rattle.usb_transaction.specs.Trans.{IsTarget};
     ghost use Rattle.usb_pipe.specs.Interrupt.{Interrupt, Polls};
+    ghost use Rattle.usb_transaction.specs.Why.{NoThreeDamaged};
+    ghost use Rattle.usb_transaction.specs.Answerer.{Answerer};
+    ghost use Rattle.usb_pipe.specs.Whole.{IsNotOfBus, PollLeaves};
+    ghost use Rattle.usb_pipe.specs.WhyWhole.{WhyPolling};
     ghost use Rattle.usb_pipe.specs.End.{packet_target};
 
     /// A pipe to an endpoint, 1 to 15, with its maximum packet, 1 to 64 bytes.
@@ -64,6 +69,9 @@ impl InterruptPipe {
         ensures count { Spends 768 (B.world bus.old) (B.world bus.new) }
         ensures polls { Polls self.old (B.world bus.old) result self.new (B.world bus.new) }
         ensures settled { IsSettled (B.world bus.old).roots }
+        ensures what { self.old.ep ≡ 1 → IsNotOfBus result → (B.world bus.new).shared ≡ false → EachWas (PollLeaves self.old (B.world bus.old) result self.new) (B.world bus.old) (B.world bus.new) }
+        ensures why { self.old.ep ≡ 1 → NoThreeDamaged (B.world bus.old) → IsNotOfBus result → (B.world bus.new).shared ≡ false → EachWas (WhyPolling self.old result) (B.world bus.old) (B.world bus.new) }
+        ensures who { OnOk result ((B.world bus.new).shared ≡ false → Answerer self.old.target (B.world bus.old) (B.world bus.new)) }
     {
         let mut toggle = self.toggle;
         let polled = poll_in(bus, self.target, self.ep, &mut toggle);

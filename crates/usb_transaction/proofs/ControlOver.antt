@@ -29,7 +29,7 @@ use Rattle.usb_transaction.specs.declared.fault.TransFault.TheVariants.{Stalled,
 use Rattle.usb_transaction.specs.Heard.{heard_as}
 use Rattle.usb_transaction.specs.Trail.{IsNoEnd, Ended}
 use Rattle.usb_transaction.specs.Trans.{packet_of, in_attempt}
-use Rattle.usb_transaction.specs.Over.{packet_in, is_at, ControlIn}
+use Rattle.usb_transaction.specs.Over.{packet_in, is_at}
 use Rattle.usb_transaction.proofs.Overs.{LastIs, each_ended, other_twice, mine}
 
 -- What the host hears, and what it takes
@@ -101,8 +101,8 @@ silent_last awaited (Err fault) h = refl
 abbrev at_stage : State → Stage → State
 at_stage s st = record s { stage = st }
 
-record Left (awaited : Toggle) (max : ℕ) (s : State) (r : Reply) : Type 0 where
-  frame : OnlyControl s r.1
+pub record Left (awaited : Toggle) (max : ℕ) (s : State) (r : Reply) : Type 0 where
+  pub frame : OnlyControl s r.1
   reads : (answer : List ℕ) (wanted known : ℕ) → s.stage ≡ reading answer wanted known → r.1.registers ≡ s.registers
   refuses : s.stage ≡ refused → (r.1.stage ≡ refused) × (r.1.registers ≡ s.registers) × (taken_of awaited max r.0 ≡ None)
   fails : awaited ≡ One → taken_of awaited max r.0 ≡ None → r.1.registers ≡ s.registers
@@ -230,7 +230,7 @@ left_ending One a max s t2 t3 = record {
 }
 
 -- any stage
-left_stage : (awaited : Toggle) (max : ℕ) (s : State) (st : Stage) (t2 t3 : Way) → Left awaited max (at_stage s st) (in_stage_law (at_stage s st) st max t2 t3)
+pub left_stage : (awaited : Toggle) (max : ℕ) (s : State) (st : Stage) (t2 t3 : Way) → Left awaited max (at_stage s st) (in_stage_law (at_stage s st) st max t2 t3)
 left_stage awaited max s idle t2 t3 = still awaited max (at_stage s idle) (at_stage s idle) None refl refl refl refl
 left_stage awaited max s refused t2 t3 = still awaited max (at_stage s refused) (at_stage s refused) (heard t2 (Some answer.Stall)) (stall_none awaited max t2) refl refl refl
 left_stage awaited max s (reading answer wanted k) t2 t3 = left_read awaited max answer wanted k s t2 t3 (packet_at (max_packet s.spec) wanted answer k)
@@ -305,9 +305,19 @@ kept_did t awaited w c j p s v (DidIn.asked d q b below h x o e) =
     subst (λ y. Kept t awaited j p s y) (sym e)
     (kept_asked t awaited j p s (row_of below) x.first x.second x.third d (taken_none awaited t.max _ (subst (λ y. IsNoEnd (heard_as awaited y)) o c)))
 
+-- How far both ends are after a transaction
+
+pub record OverControl (t : Target) (awaited : Toggle) (result : Result (List ℕ) TransFault) (j : ℕ) (p : List ℕ) (s v : State) : Type 0 where
+  pub others : is_at s t ≡ false → v ≡ s
+  pub frame : OnlyControl s v
+  pub reading : is_at s t ≡ true → (answer : List ℕ) (wanted n : ℕ) → awaited ≡ toggle_at n → ReadingAt answer wanted n s → ReadOn answer wanted n s (packet_in result) v
+  pub status : is_at s t ≡ true → awaited ≡ One → (a : Option ℕ) → s.stage ≡ ending a → StatusOn a s (packet_in result) v
+  pub refused : s.stage ≡ refused → (v.stage ≡ refused) × (is_at s t ≡ true → (bytes : List ℕ) → result ≡ Ok bytes → ⊥)
+  pub failed : awaited ≡ One → (fault : TransFault) → result ≡ Err fault → v.registers ≡ s.registers
+
 -- The last attempt
 
-last_same : (t : Target) (awaited : Toggle) (result : Result (List ℕ) TransFault) (j : ℕ) (p : List ℕ) (s : State) → (is_at s t ≡ true → packet_in result ≡ None) → ControlIn t awaited result j p s s
+last_same : (t : Target) (awaited : Toggle) (result : Result (List ℕ) TransFault) (j : ℕ) (p : List ℕ) (s : State) → (is_at s t ≡ true → packet_in result ≡ None) → OverControl t awaited result j p s s
 last_same t awaited result j p s none = record {
   others = λ h. refl;
   frame = refl;
@@ -318,7 +328,7 @@ last_same t awaited result j p s none = record {
 }
 
 last_asked : (t : Target) (awaited : Toggle) (result : Result (List ℕ) TransFault) (j : ℕ) (p : List ℕ) (s : State) (row : List PortState) (t1 t2 t3 : Way) → is_at s t ≡ true
-    → taken_of awaited t.max (in_law s row 0 t.max t1 t2 t3).0 ≡ packet_in result → ControlIn t awaited result j p s (in_law s row 0 t.max t1 t2 t3).1
+    → taken_of awaited t.max (in_law s row 0 t.max t1 t2 t3).0 ≡ packet_in result → OverControl t awaited result j p s (in_law s row 0 t.max t1 t2 t3).1
 last_asked t awaited result j p s row t1 t2 t3 at took =
     let l : Left awaited t.max s (in_law s row 0 t.max t1 t2 t3) = left_in awaited t.max s row t1 t2 t3 in
     record {
@@ -331,12 +341,12 @@ last_asked t awaited result j p s row t1 t2 t3 at took =
     }
 
 last_did : (t : Target) (awaited : Toggle) (result : Result (List ℕ) TransFault) (w : World) → LastIs (heard_as awaited) result (outcome_in (in_attempt t 0) w) → (j : ℕ) (p : List ℕ) (s v : State) → DidIn (in_attempt t 0) w j p s v
-    → ControlIn t awaited result j p s v
-last_did t awaited result w c j p s v (DidIn.other d e) = subst (λ x. ControlIn t awaited result j p s x) (sym e) (last_same t awaited result j p s (λ at. mine t s at d))
+    → OverControl t awaited result j p s v
+last_did t awaited result w c j p s v (DidIn.other d e) = subst (λ x. OverControl t awaited result j p s x) (sym e) (last_same t awaited result j p s (λ at. mine t s at d))
 last_did t awaited result w c j p s v (DidIn.silent d q o e) =
-    subst (λ x. ControlIn t awaited result j p s x) (sym e) (last_same t awaited result j p s (λ at. silent_last awaited result (subst (λ y. LastIs (heard_as awaited) result y) o c)))
+    subst (λ x. OverControl t awaited result j p s x) (sym e) (last_same t awaited result j p s (λ at. silent_last awaited result (subst (λ y. LastIs (heard_as awaited) result y) o c)))
 last_did t awaited result w c j p s v (DidIn.asked d q b below h x o e) =
-    subst (λ y. ControlIn t awaited result j p s y) (sym e)
+    subst (λ y. OverControl t awaited result j p s y) (sym e)
     (last_asked t awaited result j p s (row_of below) x.first x.second x.third d (taken_last awaited t.max _ result (subst (λ y. LastIs (heard_as awaited) result y) o c)))
 
 -- A device over both
@@ -356,7 +366,7 @@ status_from a s u v (Some bytes) e h = (h.0, given_from a s u v e h.1)
 at_from : (t : Target) (s u : State) → u.registers ≡ s.registers → is_at s t ≡ true → is_at u t ≡ true
 at_from t s u e h = ap (λ x. x.address == t.addr) e ∙ h
 
-kept_then : (t : Target) (awaited : Toggle) (result : Result (List ℕ) TransFault) (j : ℕ) (p : List ℕ) (s u v : State) → Kept t awaited j p s u → ControlIn t awaited result j p u v → ControlIn t awaited result j p s v
+kept_then : (t : Target) (awaited : Toggle) (result : Result (List ℕ) TransFault) (j : ℕ) (p : List ℕ) (s u v : State) → Kept t awaited j p s u → OverControl t awaited result j p u v → OverControl t awaited result j p s v
 kept_then t awaited result j p s u v x y = record {
   others = other_twice t s u v x.others y.others;
   frame = only_twice s u v x.frame y.frame;
@@ -368,10 +378,10 @@ kept_then t awaited result j p s u v x y = record {
   failed = λ e fault h. y.failed e fault h ∙ x.fails e;
 }
 
-pub control_in_leaves : (t : Target) (awaited : Toggle) (result : Result (List ℕ) TransFault) (old new : World) → IsSettled old.roots
-    → Ended (heard_as awaited) (in_attempt t 0) old result new → new.shared ≡ false → EachWas (ControlIn t awaited result) old new
-control_in_leaves t awaited result old new settled e single =
-    each_ended (Kept t awaited) (ControlIn t awaited result) (ControlIn t awaited result) (kept_none t awaited) (kept_twice t awaited) (kept_then t awaited result)
+pub each_over_control : (t : Target) (awaited : Toggle) (result : Result (List ℕ) TransFault) (old new : World) → IsSettled old.roots
+    → Ended (heard_as awaited) (in_attempt t 0) old result new → new.shared ≡ false → EachWas (OverControl t awaited result) old new
+each_over_control t awaited result old new settled e single =
+    each_ended (Kept t awaited) (OverControl t awaited result) (OverControl t awaited result) (kept_none t awaited) (kept_twice t awaited) (kept_then t awaited result)
     (λ outcomes w trail made u c. each_wider (DidIn (in_attempt t 0) w) (Kept t awaited) (kept_did t awaited w c) w (after (attempt (in_attempt t 0)) w) (each_in (in_attempt t 0) w made (record { kind = refl; payload = refl }) u))
-    (λ outcomes w trail made u c. each_wider (DidIn (in_attempt t 0) w) (ControlIn t awaited result) (last_did t awaited result w c) w (after (attempt (in_attempt t 0)) w) (each_in (in_attempt t 0) w made (record { kind = refl; payload = refl }) u))
+    (λ outcomes w trail made u c. each_wider (DidIn (in_attempt t 0) w) (OverControl t awaited result) (last_did t awaited result w c) w (after (attempt (in_attempt t 0)) w) (each_in (in_attempt t 0) w made (record { kind = refl; payload = refl }) u))
     settled e single

@@ -1,5 +1,5 @@
 -- What SETUP leaves of each device: setup data that were accepted more than once are as if they were accepted once, the last time.
-use Rattle.std.proofs.Common.{◌≡◌, ◌⊎◌, inl, inr, ℕ, suc, ◌/◌, ◌%◌, ◌==◌, nat_le, ◌&&◌, if◌then◌else◌, Bool, true, false, List, [], ◌∷◌, length, slice_get, Option, None, Some, Result, Ok, refl, sym, subst, ap, ◌∙◌}
+use Rattle.std.proofs.Common.{◌≡◌, ◌≢◌, ◌⊎◌, inl, inr, ℕ, ◌/◌, ◌%◌, ◌==◌, nat_le, ◌&&◌, if◌then◌else◌, Bool, true, false, List, [], ◌∷◌, length, slice_get, Option, None, Some, Result, Ok, Err, refl, sym, subst, ap, ◌∙◌, arith}
 use Rattle.usb_port.specs.PortState.{PortState}
 use Rattle.usb_request.specs.declared.setup.Setup.{Setup}
 use Rattle.usb_request.specs.Layout.{setup_of}
@@ -12,29 +12,29 @@ use Rattle.usb_device.specs.Spec.{Spec, Hub}
 use Rattle.usb_device.specs.Calls.{set_call, clear_call}
 use Rattle.usb_device.specs.Request.{Outcome, stalled, answers, takes_address, takes_configuration, halts, unhalts, tells_port, calls_port, Is, unless, text_asked, status_bytes, get_descriptor, get_status, set_address, set_configuration, endpoint_of, on_endpoint, get_hub_descriptor, port_named, told_port, called_at, get_port_status, port_feature, outcome, registers_at_setup}
 use Rattle.usb_device.specs.Rows.{State, Reply, with_endpoints, begun, accepted}
-use Rattle.usb_device.specs.Attempt.{Way, is_whole, heard}
+use Rattle.usb_device.specs.Attempt.{Way, whole, broken, lost, is_whole, heard}
 use Rattle.usb_device.specs.Tree.{row_of}
 use Rattle.usb_bus.specs.declared.types.Outcome as bus
 use Rattle.usb_bus.specs.declared.types.Outcome.TheVariants as got_as
 use Rattle.usb_bus.specs.Live.{address_of}
 use Rattle.usb_bus.specs.Passes.{IsSettled}
-use Rattle.usb_bus.specs.Courses.{is_harmless}
-use Rattle.usb_bus.specs.OneHolder.{IsMade}
+use Rattle.usb_bus.specs.OneHolder.{got}
 use Rattle.usb_bus.specs.World.{World}
-use Rattle.usb_bus.specs.Steps.{attempt, after, outcome_in}
-use Rattle.usb_bus.specs.Devices.{EachWas, DidSetup}
+use Rattle.usb_bus.specs.Steps.{outcome_in}
+use Rattle.usb_bus.specs.Devices.{DidSetup}
 use Rattle.usb_bus.proofs.Booleans.{no}
-use Rattle.usb_bus.proofs.Devices.{each_setup, each_wider}
-use Rattle.usb_bus.proofs.OwnLaws.{quiet_resets}
 use Rattle.usb_transaction.specs.declared.target.Target.{Target}
 use Rattle.usb_transaction.specs.declared.fault.TransFault.{TransFault}
+use Rattle.usb_transaction.specs.declared.fault.TransFault.TheVariants.{Stalled, Busy, NoAnswer, Bus}
 use Rattle.usb_transaction.specs.Heard.{set_up_as}
-use Rattle.usb_transaction.specs.Trail.{IsNoEnd, Ended}
+use Rattle.usb_transaction.specs.Trail.{Ended, Tells, waits_in}
 use Rattle.usb_transaction.specs.Trans.{packet_of, setup_attempt}
-use Rattle.usb_transaction.specs.Over.{is_at, AcceptedSince, SetupDone}
+use Rattle.usb_transaction.specs.Over.{is_at, CanAccept, AcceptedSince, SetupDone}
+use Rattle.usb_transaction.specs.Spared.{EachSpared}
 use Rattle.usb_transaction.proofs.Lasts.{set_up_last}
 use Rattle.usb_transaction.proofs.Meanings.{taken_up}
-use Rattle.usb_transaction.proofs.Overs.{StepsSo, LastIs, each_ended, other_twice}
+use Rattle.usb_transaction.proofs.Overs.{LastIs, last_is, other_twice}
+use Rattle.usb_transaction.proofs.Spared.{spared_along_then, spared_setup}
 
 -- A request asks the same once it was accepted
 
@@ -120,7 +120,7 @@ asks_again s g r (calls_port c i) e = e
 
 -- Accepted twice
 
-spec_stays : (d : State) (o : Outcome) → (with_endpoints d o).spec ≡ d.spec
+pub spec_stays : (d : State) (o : Outcome) → (with_endpoints d o).spec ≡ d.spec
 spec_stays d stalled = refl
 spec_stays d (answers b) = refl
 spec_stays d (takes_address a) = refl
@@ -169,7 +169,7 @@ address_stays g (calls_port c i) = refl
 
 -- What is so over any number of attempts
 
-abbrev Kept : List ℕ → State → State → Type 0
+abbrev pub Kept : List ℕ → State → State → Type 0
 Kept bytes s v = (v ≡ s) ⊎ AcceptedSince bytes s v
 
 record SetUp (t : Target) (bytes : List ℕ) (j : ℕ) (p : List ℕ) (s v : State) : Type 0 where
@@ -187,19 +187,27 @@ kept_since bytes s u v (inl e) (inl f) = inl (f ∙ e)
 kept_since bytes s u v (inr y) (inl f) = inr (record { row = y.row; is = f ∙ y.is })
 kept_since bytes s u v x (inr y) = inr (accepted_since bytes s u v x y)
 
-same_address : (bytes : List ℕ) (s u : State) → Kept bytes s u → address_of u ≡ address_of s
+pub same_address : (bytes : List ℕ) (s u : State) → Kept bytes s u → address_of u ≡ address_of s
 same_address bytes s u (inl e) = ap (λ d. address_of d) e
 same_address bytes s u (inr y) = ap (λ d. address_of d) y.is ∙ address_stays s.registers (outcome s.spec s.registers (setup_of bytes))
 
 joined : (t : Target) (bytes : List ℕ) (j : ℕ) (p : List ℕ) (s u v : State) → SetUp t bytes j p s u → SetUp t bytes j p u v → SetUp t bytes j p s v
 joined t bytes j p s u v x y = record { others = other_twice t s u v x.others y.others; kept = kept_since bytes s u v x.kept y.kept }
 
+same_spec : (bytes : List ℕ) (s u : State) → Kept bytes s u → u.spec ≡ s.spec
+same_spec bytes s u (inl e) = ap {A = State} (λ d. d.spec) e
+same_spec bytes s u (inr y) = ap {A = State} (λ d. d.spec) y.is ∙ spec_stays s (outcome s.spec s.registers (setup_of bytes))
+
+same_at : (t : Target) (bytes : List ℕ) (s u : State) → Kept bytes s u → is_at s t ≡ true → is_at u t ≡ true
+same_at t bytes s u x h = ap (λ n. n == t.addr) (same_address bytes s u x) ∙ h
+
 ended : (t : Target) (bytes : List ℕ) (result : Result (List ℕ) TransFault) (j : ℕ) (p : List ℕ) (s u v : State)
     → SetUp t bytes j p s u → SetupDone t bytes result j p u v → SetupDone t bytes result j p s v
 ended t bytes result j p s u v x y = record {
   others = other_twice t s u v x.others y.others;
   kept = kept_since bytes s u v x.kept y.kept;
-  done = λ h got e. accepted_since bytes s u v x.kept (y.done (ap (λ n. n == t.addr) (same_address bytes s u x.kept) ∙ h) got e);
+  done = λ h got e. accepted_since bytes s u v x.kept (y.done (same_at t bytes s u x.kept h) got e);
+  could = λ h. subst (λ d. CanAccept d result) (same_spec bytes s u x.kept) (y.could (same_at t bytes s u x.kept h));
 }
 
 -- One attempt
@@ -209,13 +217,13 @@ law_kept : (bytes : List ℕ) (x : Bool) (t : Way) (s : State) (row : List PortS
 law_kept bytes true t s row = inr (record { row = row; is = refl })
 law_kept bytes false t s row = inl refl
 
-did_kept : (t : Target) (bytes : List ℕ) (w : World) (j : ℕ) (p : List ℕ) (s v : State) → DidSetup (setup_attempt t bytes) bytes w j p s v → Kept bytes s v
+pub did_kept : (t : Target) (bytes : List ℕ) (w : World) (j : ℕ) (p : List ℕ) (s v : State) → DidSetup (setup_attempt t bytes) bytes w j p s v → Kept bytes s v
 did_kept t bytes w j p s v (DidSetup.other d e) = inl e
 did_kept t bytes w j p s v (DidSetup.silent d q o e) = inl e
 did_kept t bytes w j p s v (DidSetup.asked d q b below at x o e) =
     subst (Kept bytes s) (sym e) (law_kept bytes (is_whole x.first && is_whole x.second) x.third s (row_of below))
 
-did_others : (t : Target) (bytes : List ℕ) (w : World) (j : ℕ) (p : List ℕ) (s v : State) → DidSetup (setup_attempt t bytes) bytes w j p s v → is_at s t ≡ false → v ≡ s
+pub did_others : (t : Target) (bytes : List ℕ) (w : World) (j : ℕ) (p : List ℕ) (s v : State) → DidSetup (setup_attempt t bytes) bytes w j p s v → is_at s t ≡ false → v ≡ s
 did_others t bytes w j p s v (DidSetup.other d e) h = e
 did_others t bytes w j p s v (DidSetup.silent d q o e) h = e
 did_others t bytes w j p s v (DidSetup.asked d q b below at x o e) h = no (sym h ∙ d)
@@ -236,32 +244,62 @@ did_done t bytes w j p s v (DidSetup.asked d q b below at x o e) h a = record {
 abbrev acked : (result : Result (List ℕ) TransFault) (o : bus.Outcome) → LastIs set_up_as result o → (bytes : List ℕ) → result ≡ Ok bytes → o ≡ got_as.Ack
 acked result o l bytes e = set_up_last o (packet_of bytes) (subst (λ r. LastIs set_up_as r o) e l)
 
-module _ (t : Target) (bytes : List ℕ) (eight : length bytes ≡ 8) (harmless : is_harmless (setup_of bytes) ≡ true) where
-  each_did : (w : World) → IsMade (setup_attempt t bytes) w → (after (attempt (setup_attempt t bytes)) w).shared ≡ false
-      → EachWas (DidSetup (setup_attempt t bytes) bytes w) w (after (attempt (setup_attempt t bytes)) w)
-  each_did w m u j p v =
-      each_setup (setup_attempt t bytes) w bytes m (record { kind = refl; ep = refl; payload = refl; whole = eight }) u j p v
-      (quiet_resets (attempt (setup_attempt t bytes)) w (suc j ∷ p) harmless)
+-- What the answer says of the device that was asked
 
-  set_up_steps : (old : World) → StepsSo (SetUp t bytes) (setup_attempt t bytes) old (λ o. IsNoEnd (set_up_as o))
-  set_up_steps old outcomes w trail m u o =
-      each_wider (DidSetup (setup_attempt t bytes) bytes w) (SetUp t bytes)
-      (λ j p s v d. record { others = did_others t bytes w j p s v d; kept = did_kept t bytes w j p s v d })
-      w (after (attempt (setup_attempt t bytes)) w) (each_did w m u)
+-- to SETUP nothing is a wait
+never_waits : (outcomes : List bus.Outcome) → waits_in set_up_as outcomes ≡ 0
+unfolding waits_in
+never_waits [] = refl
+never_waits (got_as.Payload given b ∷ outcomes) = never_waits outcomes
+never_waits (got_as.Ack ∷ outcomes) = never_waits outcomes
+never_waits (got_as.Nak ∷ outcomes) = never_waits outcomes
+never_waits (got_as.Stall ∷ outcomes) = never_waits outcomes
+never_waits (got_as.Nothing ∷ outcomes) = never_waits outcomes
 
-  set_up_ends : (result : Result (List ℕ) TransFault) (old : World) → StepsSo (SetupDone t bytes result) (setup_attempt t bytes) old (LastIs set_up_as result)
-  set_up_ends result old outcomes w trail m u o =
-      each_wider (DidSetup (setup_attempt t bytes) bytes w) (SetupDone t bytes result)
-      (λ j p s v d. record {
-        others = did_others t bytes w j p s v d;
-        kept = did_kept t bytes w j p s v d;
-        done = λ h got e. did_done t bytes w j p s v d h (acked result (outcome_in (setup_attempt t bytes) w) o got e);
-      })
-      w (after (attempt (setup_attempt t bytes)) w) (each_did w m u)
+never_busy : (t : Target) (bytes : List ℕ) (result : Result (List ℕ) TransFault) (old new : World) → Ended set_up_as (setup_attempt t bytes) old result new → result ≢ Err Busy
+never_busy t bytes result old new e r =
+    let full : Tells set_up_as (Err Busy) e.last e.outcomes = subst (λ x. Tells set_up_as x e.last e.outcomes) r e.tells in
+    omega (arith, full, never_waits (e.last ∷ e.outcomes))
 
-pub set_up_leaves : (t : Target) (bytes : List ℕ) (result : Result (List ℕ) TransFault) (old new : World) → length bytes ≡ 8 → is_harmless (setup_of bytes) ≡ true → IsSettled old.roots
-    → Ended set_up_as (setup_attempt t bytes) old result new → new.shared ≡ false → EachWas (SetupDone t bytes result) old new
-set_up_leaves t bytes result old new eight harmless settled e single =
-    each_ended (SetUp t bytes) (SetupDone t bytes result) (SetupDone t bytes result)
-    (λ j p s. record { others = λ h. refl; kept = inl refl }) (joined t bytes) (ended t bytes result)
-    (set_up_steps t bytes eight harmless old) (set_up_ends t bytes eight harmless result old) settled e single
+can_accept : (spec : Spec) (result : Result (List ℕ) TransFault) (o : bus.Outcome) → result ≢ Err Busy → LastIs set_up_as result o → (o ≡ got_as.Ack → spec.silent ≡ false) → o ≢ got_as.Stall → CanAccept spec result
+can_accept spec (Ok bytes) o free l loud stall = loud (set_up_last o (packet_of bytes) l)
+can_accept spec (Err Stalled) o free l loud stall = stall l
+can_accept spec (Err Busy) o free l loud stall = free refl
+can_accept spec (Err NoAnswer) o free l loud stall = tt
+can_accept spec (Err (Bus fault)) o free l loud stall = tt
+
+law_no_stall : (x : Bool) (t : Way) (s v : State) → got 8 (if◌then◌else◌ {A = Reply} x (heard t (Some answer.Ack), v) (None, s)).0 ≢ got_as.Stall
+law_no_stall true whole s v e = cc e
+law_no_stall true broken s v e = cc e
+law_no_stall true lost s v e = cc e
+law_no_stall false t s v e = cc e
+
+did_could : (t : Target) (bytes : List ℕ) (result : Result (List ℕ) TransFault) (w : World) (j : ℕ) (p : List ℕ) (s v : State) → DidSetup (setup_attempt t bytes) bytes w j p s v
+    → result ≢ Err Busy → LastIs set_up_as result (outcome_in (setup_attempt t bytes) w) → is_at s t ≡ true → CanAccept s.spec result
+did_could t bytes result w j p s v (DidSetup.other d e) free l h = no (sym d ∙ h)
+did_could t bytes result w j p s v (DidSetup.silent d q o e) free l h =
+    can_accept s.spec result (outcome_in (setup_attempt t bytes) w) free l (λ a. cc (sym o ∙ a)) (λ a. cc (sym o ∙ a))
+did_could t bytes result w j p s v (DidSetup.asked d q b below at x o e) free l h =
+    can_accept s.spec result (outcome_in (setup_attempt t bytes) w) free l (λ a. q)
+    (λ a. law_no_stall (is_whole x.first && is_whole x.second) x.third s (accepted s (row_of below) (setup_of bytes)) (sym o ∙ a))
+
+did_once : (t : Target) (bytes : List ℕ) (w : World) (j : ℕ) (p : List ℕ) (s v : State) → DidSetup (setup_attempt t bytes) bytes w j p s v → SetUp t bytes j p s v
+did_once t bytes w j p s v d = record { others = did_others t bytes w j p s v d; kept = did_kept t bytes w j p s v d }
+
+did_last : (t : Target) (bytes : List ℕ) (result : Result (List ℕ) TransFault) (w : World) (j : ℕ) (p : List ℕ) (s v : State) → DidSetup (setup_attempt t bytes) bytes w j p s v
+    → result ≢ Err Busy → LastIs set_up_as result (outcome_in (setup_attempt t bytes) w) → SetupDone t bytes result j p s v
+did_last t bytes result w j p s v d free l = record {
+  others = did_others t bytes w j p s v d;
+  kept = did_kept t bytes w j p s v d;
+  done = λ h got e. did_done t bytes w j p s v d h (acked result (outcome_in (setup_attempt t bytes) w) l got e);
+  could = λ h. did_could t bytes result w j p s v d free l h;
+}
+
+pub set_up_leaves : (t : Target) (bytes : List ℕ) (result : Result (List ℕ) TransFault) (old new : World) → length bytes ≡ 8 → IsSettled old.roots
+    → Ended set_up_as (setup_attempt t bytes) old result new → new.shared ≡ false → EachSpared t (setup_of bytes) (SetupDone t bytes result) old new
+set_up_leaves t bytes result old new eight settled e single =
+    spared_along_then t (setup_of bytes) (λ os w. SetUp t bytes) (λ os w. SetupDone t bytes result) (DidSetup (setup_attempt t bytes) bytes) (LastIs set_up_as result)
+    (λ j p s. record { others = λ h. refl; kept = inl refl })
+    (λ os w r made o j p s u v q d. joined t bytes j p s u v q (did_once t bytes w j p u v d))
+    (λ os w r made l j p s u v q d. ended t bytes result j p s u v q (did_last t bytes result w j p u v d (never_busy t bytes result old new e) l))
+    (did_others t bytes) (spared_setup t bytes eight) settled e.trail (last_is set_up_as result e.last e.outcomes e.onward e.tells) single

@@ -22,19 +22,19 @@ use Rattle.usb_bus.specs.Devices.{Was, EachWas, DidOut}
 use Rattle.usb_bus.proofs.Booleans.{no}
 use Rattle.usb_bus.proofs.Between.{Rests, rests}
 use Rattle.usb_bus.proofs.OneHolder.{remembers}
-use Rattle.usb_bus.proofs.Devices.{each_out}
+use Rattle.usb_bus.proofs.Devices.{each_wider, each_out}
 use Rattle.usb_transaction.specs.declared.target.Target.{Target}
 use Rattle.usb_transaction.specs.declared.heard.Heard.{Heard}
 use Rattle.usb_transaction.specs.declared.heard.Heard.TheVariants.{Moved, NotReady, Repeat, Refused, Lost}
 use Rattle.usb_transaction.specs.declared.fault.TransFault.{TransFault}
 use Rattle.usb_transaction.specs.declared.fault.TransFault.TheVariants.{Stalled, Busy, NoAnswer, Bus}
 use Rattle.usb_transaction.specs.Heard.{sent_as}
-use Rattle.usb_transaction.specs.Trail.{IsNoEnd, Ended}
+use Rattle.usb_transaction.specs.Trail.{IsNoEnd, Trail, GoesOn, Ended}
 use Rattle.usb_transaction.specs.Trans.{packet_of, out_attempt}
-use Rattle.usb_transaction.specs.Over.{is_at, SinkEnds, SinkOut}
+use Rattle.usb_transaction.specs.Over.{is_at, SinkEnds, SinkOut, SinkBetween}
 use Rattle.usb_transaction.proofs.Lasts.{sent_last}
 use Rattle.usb_transaction.proofs.Meanings.{got_ack}
-use Rattle.usb_transaction.proofs.Overs.{Composes, LastIs, each_ended}
+use Rattle.usb_transaction.proofs.Overs.{Composes, LastIs, each_ended, each_trail}
 
 -- A device that stands between attempts remembers nothing
 
@@ -302,3 +302,17 @@ sink_over t ep toggle bytes result old new settled e single =
     each_step t ep toggle bytes (λ before x. SinkEnds before bytes toggle result x) (Oks result) w made one
     (λ before v. last_ends before bytes toggle result (outcome_in (out_attempt t ep toggle bytes) w) l v) (last_ack result (outcome_in (out_attempt t ep toggle bytes) w) l))
     settled e single
+
+-- Between two attempts
+
+pub sink_between : (t : Target) (ep : ℕ) (toggle : Toggle) (bytes : List ℕ) (outcomes : List Outcome) (old now : World) → IsSettled old.roots
+    → Trail (out_attempt t ep toggle bytes) old outcomes now → GoesOn sent_as outcomes → now.shared ≡ false → EachWas (SinkBetween t ep toggle bytes) old now
+sink_between t ep toggle bytes outcomes old now settled trail onward single =
+    each_wider (SinkStep t ep toggle bytes (λ before x. SinkAt before bytes toggle x) ⊥) (SinkBetween t ep toggle bytes)
+    (λ j p s v x. record { others = x.others; frame = x.frame; sink = λ h most before i fits at. x.sink h most before i at }) old now
+    (each_trail (SinkStep t ep toggle bytes (λ before x. SinkAt before bytes toggle x) ⊥)
+    (λ j p s. unmoved t ep toggle bytes (λ before x. SinkAt before bytes toggle x) ⊥ j p s s (λ before at. at) (λ x. x) refl)
+    (steps_joined t ep toggle bytes (λ before x. SinkAt before bytes toggle x) ⊥ ⊥) sent_as
+    (λ outcomes w trail made one n.
+    each_step t ep toggle bytes (λ before x. SinkAt before bytes toggle x) ⊥ w made one (λ before v. goes_on before bytes toggle (sent_as (outcome_in (out_attempt t ep toggle bytes) w)) n v) (λ x. elim x [ ]))
+    settled trail onward single)

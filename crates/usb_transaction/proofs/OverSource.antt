@@ -28,18 +28,18 @@ use Rattle.usb_transaction.specs.declared.heard.Heard.TheVariants.{Moved, NotRea
 use Rattle.usb_transaction.specs.declared.fault.TransFault.{TransFault}
 use Rattle.usb_transaction.specs.declared.fault.TransFault.TheVariants.{Stalled, Busy, NoAnswer, Bus}
 use Rattle.usb_transaction.specs.Heard.{heard_as}
-use Rattle.usb_transaction.specs.Trail.{IsNoEnd, Ended}
+use Rattle.usb_transaction.specs.Trail.{IsNoEnd, Trail, GoesOn, Ended}
 use Rattle.usb_transaction.specs.Trans.{in_attempt}
-use Rattle.usb_transaction.specs.Over.{packet_in, is_at, SourceIn}
+use Rattle.usb_transaction.specs.Over.{packet_in, is_at, SourceIn, SourceBetween}
 use Rattle.usb_transaction.proofs.Meanings.{got_stall}
-use Rattle.usb_transaction.proofs.Overs.{Composes, LastIs, each_ended}
+use Rattle.usb_transaction.proofs.Overs.{Composes, LastIs, each_ended, each_trail}
 
 -- What IN of the endpoint leaves, whatever is lost
 
 pub record Given (s : State) (r : Reply) : Type 0 where
   pub frame : OnlySource s r.1
   halted : r.1.bulk_in.halted ≡ s.bulk_in.halted
-  still : s.bulk_in.halted ≡ true → r.1 ≡ s
+  pub still : s.bulk_in.halted ≡ true → r.1 ≡ s
   stalled : r.0 ≡ Some answer.Stall → s.bulk_in.halted ≡ true
 
 unchanged : (s : State) (o : Option Answer) → (o ≡ Some answer.Stall → s.bulk_in.halted ≡ true) → Given s (o, s)
@@ -89,6 +89,31 @@ given e most s i row max whole t2 t3 =
     subst (Given s) (sym (law_is e most s i row max t2 t3))
     (given_by s (gave s by.Bulk max s.bulk_in.toggle (take most (rest_of s)) t2 t3) t2 s.bulk_in.halted (length (rest_of s) == 0) refl
     (λ h. given_data s h max s.bulk_in.toggle (take most (rest_of s)) t2 t3))
+
+-- What an endpoint that is halted answers: STALL, or the host hears nothing
+
+pub halted_law : (e most : ℕ) (s : State) → IsSource e most s → s.bulk_in.halted ≡ true → (row : List PortState) (max : ℕ) (t2 t3 : Way) → in_law s row e max whole t2 t3 ≡ (heard t2 (Some answer.Stall), s)
+halted_law e most s i c row max t2 t3 =
+    law_is e most s i row max t2 t3
+    ∙ ap (λ z. if z then (heard t2 (Some answer.Stall), s) else if length (rest_of s) == 0 then (heard t2 (Some answer.Nak), s) else gave s by.Bulk max s.bulk_in.toggle (take most (rest_of s)) t2 t3) c
+
+pub data IsQuiet : Option Answer → Type 0 where
+  stall : IsQuiet (Some answer.Stall)
+  none : IsQuiet None
+
+heard_stall : (t2 : Way) → IsQuiet (heard t2 (Some answer.Stall))
+heard_stall whole = stall
+heard_stall broken = none
+heard_stall lost = none
+
+pub quiet : (e most : ℕ) (s : State) → IsSource e most s → s.bulk_in.halted ≡ true → (row : List PortState) (max : ℕ) (t1 t2 t3 : Way) → IsQuiet (in_law s row e max t1 t2 t3).0
+quiet e most s i c row max broken t2 t3 = none
+quiet e most s i c row max lost t2 t3 = none
+quiet e most s i c row max whole t2 t3 = subst (λ r. IsQuiet r.0) (sym (halted_law e most s i c row max t2 t3)) (heard_stall t2)
+
+none_taken : (awaited : Toggle) (max : ℕ) (o : Option Answer) → IsQuiet o → taken_of awaited max o ≡ None
+none_taken awaited max o stall = refl
+none_taken awaited max o none = refl
 
 -- The packet that the host hears
 
@@ -149,6 +174,7 @@ record SourceStep (t : Target) (ep : ℕ) (awaited : Toggle) (came : Option (Lis
   halted : is_at s t ≡ true → (most : ℕ) → IsSource ep most s → v.bulk_in.halted ≡ s.bulk_in.halted
   still : is_at s t ≡ true → (most : ℕ) → IsSource ep most s → s.bulk_in.halted ≡ true → v ≡ s
   stalled : is_at s t ≡ true → (most : ℕ) → IsSource ep most s → Stalls → s.bulk_in.halted ≡ true
+  none : is_at s t ≡ true → (most : ℕ) → IsSource ep most s → s.bulk_in.halted ≡ true → came ≡ None
 
 unmoved : (t : Target) (ep : ℕ) (awaited : Toggle) (came : Option (List ℕ)) (Stalls : Type 0) → came ≡ None → (Stalls → ⊥) → (j : ℕ) (p : List ℕ) (s v : State) → v ≡ s
     → SourceStep t ep awaited came Stalls j p s v
@@ -159,6 +185,7 @@ unmoved t ep awaited came Stalls n z j p s v e = subst (λ x. SourceStep t ep aw
   halted = λ h most i. refl;
   still = λ h most i x. refl;
   stalled = λ h most i x. elim (z x) [ ];
+  none = λ h most i x. n;
 })
 
 elsewhere : (t : Target) (ep : ℕ) (awaited : Toggle) (came : Option (List ℕ)) (Stalls : Type 0) (j : ℕ) (p : List ℕ) (s v : State) → is_at s t ≡ false → v ≡ s
@@ -170,19 +197,24 @@ elsewhere t ep awaited came Stalls j p s v d e = record {
   halted = λ h most i. no (sym d ∙ h);
   still = λ h most i x. e;
   stalled = λ h most i x. no (sym d ∙ h);
+  none = λ h most i x. no (sym d ∙ h);
 }
 
 asked_step : (t : Target) (ep : ℕ) (awaited : Toggle) (o : Outcome) (j : ℕ) (p : List ℕ) (s : State) (r : Reply) → is_at s t ≡ true → ((most : ℕ) → IsSource ep most s → Given s r)
     → ((most got : ℕ) → IsSource ep most s → 1 ≤ most → SourceAt most got awaited s → SourceOn most got awaited s (taken_of awaited t.max r.0) r.1)
+    → ((most : ℕ) → IsSource ep most s → s.bulk_in.halted ≡ true → IsQuiet r.0)
     → o ≡ got t.max r.0 → SourceStep t ep awaited (packet_heard (heard_as awaited o)) (o ≡ outcome.Stall) j p s r.1
-asked_step t ep awaited o j p s r d g on e = record {
-  others = λ h. no (sym h ∙ d);
-  frame = λ most i. (g most i).frame;
-  source = λ h most n i m at. subst (λ x. SourceOn most n awaited s x r.1) (sym (ap (λ x. packet_heard (heard_as awaited x)) e ∙ heard_taken awaited t.max r.0)) (on most n i m at);
-  halted = λ h most i. (g most i).halted;
-  still = λ h most i x. (g most i).still x;
-  stalled = λ h most i x. (g most i).stalled (got_stall t.max r.0 (sym e ∙ x));
-}
+asked_step t ep awaited o j p s r d g on q e =
+    let came : packet_heard (heard_as awaited o) ≡ taken_of awaited t.max r.0 = ap (λ x. packet_heard (heard_as awaited x)) e ∙ heard_taken awaited t.max r.0 in
+    record {
+      others = λ h. no (sym h ∙ d);
+      frame = λ most i. (g most i).frame;
+      source = λ h most n i m at. subst (λ x. SourceOn most n awaited s x r.1) (sym came) (on most n i m at);
+      halted = λ h most i. (g most i).halted;
+      still = λ h most i x. (g most i).still x;
+      stalled = λ h most i x. (g most i).stalled (got_stall t.max r.0 (sym e ∙ x));
+      none = λ h most i x. came ∙ none_taken awaited t.max r.0 (q most i x);
+    }
 
 did_step : (t : Target) (ep : ℕ) (awaited : Toggle) (w : World) (j : ℕ) (p : List ℕ) (s v : State) → DidIn (in_attempt t ep) w j p s v
     → SourceStep t ep awaited (packet_heard (heard_as awaited (outcome_in (in_attempt t ep) w))) (outcome_in (in_attempt t ep) w ≡ outcome.Stall) j p s v
@@ -193,7 +225,8 @@ did_step t ep awaited w j p s v (DidIn.asked d z b below stands x o e) =
     subst (λ y. SourceStep t ep awaited (packet_heard (heard_as awaited (outcome_in (in_attempt t ep) w))) (outcome_in (in_attempt t ep) w ≡ outcome.Stall) j p s y) (sym e)
     (asked_step t ep awaited (outcome_in (in_attempt t ep) w) j p s r d
     (λ most i. given ep most s i (row_of below) t.max x.first x.second x.third)
-    (λ most n i m at. source_on ep most n awaited s i m at (row_of below) t.max x.first x.second x.third) o)
+    (λ most n i m at. source_on ep most n awaited s i m at (row_of below) t.max x.first x.second x.third)
+    (λ most i c. quiet ep most s i c (row_of below) t.max x.first x.second x.third) o)
 
 -- One after the other
 
@@ -223,6 +256,7 @@ steps_joined t ep awaited came A B j p s u v x y = record {
       let f : OnlySource s u = x.frame most i in
       y.still (at_kept t s u f h) most (source_kept ep most s u f i) (x.halted h most i ∙ c) ∙ x.still h most i c;
   stalled = λ h most i c. let f : OnlySource s u = x.frame most i in sym (x.halted h most i) ∙ y.stalled (at_kept t s u f h) most (source_kept ep most s u f i) c;
+  none = λ h most i c. let f : OnlySource s u = x.frame most i in y.none (at_kept t s u f h) most (source_kept ep most s u f i) (x.halted h most i ∙ c);
 }
 
 step_is : (t : Target) (ep : ℕ) (awaited : Toggle) (came came' : Option (List ℕ)) (A B : Type 0) → came ≡ came' → (B → A) → (j : ℕ) (p : List ℕ) (s v : State)
@@ -234,6 +268,7 @@ step_is t ep awaited came came' A B e f j p s v x = record {
   halted = x.halted;
   still = x.still;
   stalled = λ h most i c. x.stalled h most i (f c);
+  none = λ h most i c. sym e ∙ x.none h most i c;
 }
 
 whole_step : (t : Target) (ep : ℕ) (awaited : Toggle) (result : Result (List ℕ) TransFault) (j : ℕ) (p : List ℕ) (s v : State)
@@ -243,6 +278,7 @@ whole_step t ep awaited result j p s v x = record {
   frame = x.frame;
   source = x.source;
   stalled = λ h most i e. let c : s.bulk_in.halted ≡ true = x.stalled h most i e in (c, x.still h most i c);
+  halted = λ h most i c. (x.still h most i c, λ bytes e. cc (sym (ap (λ z. packet_in z) e) ∙ x.none h most i c));
 }
 
 each_step : (t : Target) (ep : ℕ) (awaited : Toggle) (came : Option (List ℕ)) (B : Type 0) (w : World) → IsMade (in_attempt t ep) w → (after (attempt (in_attempt t ep)) w).shared ≡ false
@@ -265,3 +301,12 @@ source_over t ep awaited result old new settled e single =
     (λ outcomes w trail made one l.
     each_step t ep awaited (packet_in result) (result ≡ Err Stalled) w made one (last_packet awaited result (outcome_in (in_attempt t ep) w) l) (last_stall awaited result (outcome_in (in_attempt t ep) w) l))
     settled e single
+
+-- Between two attempts
+
+pub source_between : (t : Target) (ep : ℕ) (awaited : Toggle) (outcomes : List Outcome) (old now : World) → IsSettled old.roots
+    → Trail (in_attempt t ep) old outcomes now → GoesOn (heard_as awaited) outcomes → now.shared ≡ false → EachWas (SourceBetween t ep awaited) old now
+source_between t ep awaited outcomes old now settled trail onward single =
+    each_wider (SourceStep t ep awaited None ⊥) (SourceBetween t ep awaited) (λ j p s v x. record { others = x.others; frame = x.frame; source = x.source }) old now
+    (each_trail (SourceStep t ep awaited None ⊥) (λ j p s. unmoved t ep awaited None ⊥ refl (λ x. x) j p s s refl) (steps_joined t ep awaited None ⊥ ⊥) (heard_as awaited)
+    (λ outcomes w trail made one n. each_step t ep awaited None ⊥ w made one (no_packet (heard_as awaited (outcome_in (in_attempt t ep) w)) n) (λ x. elim x [ ])) settled trail onward single)

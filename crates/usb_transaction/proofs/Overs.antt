@@ -1,5 +1,6 @@
 -- Each device over the attempts of a transaction: what one attempt leaves of it, one after the other.
-use Rattle.std.proofs.Common.{◌≡◌, ◌≢◌, ℕ, ◌<◌, List, [], ◌∷◌, Result, Ok, Err, true, false, refl, sym, ap, ◌∙◌, arith}
+use Rattle.std.proofs.Common.{◌≡◌, ◌≢◌, ℕ, ◌<◌, List, [], ◌∷◌, Result, Ok, Err, true, false, refl, sym, subst, ap, ◌∙◌, arith}
+use Rattle.std.proofs.lemmas.Option.{same_Some}
 use Rattle.usb_device.specs.Rows.{State}
 use Rattle.usb_bus.specs.declared.types.Attempt.{Attempt}
 use Rattle.usb_bus.specs.declared.types.Outcome.{Outcome}
@@ -8,7 +9,7 @@ use Rattle.usb_bus.specs.Passes.{IsSettled}
 use Rattle.usb_bus.specs.OneHolder.{IsMade}
 use Rattle.usb_bus.specs.World.{World}
 use Rattle.usb_bus.specs.Steps.{attempt, after, outcome_in}
-use Rattle.usb_bus.specs.Devices.{Relation, EachWas}
+use Rattle.usb_bus.specs.Devices.{Relation, Was, EachWas}
 use Rattle.usb_bus.proofs.Devices.{each_none, each_joined}
 use Rattle.usb_bus.proofs.OneHolderMore.{made_of}
 use Rattle.usb_transaction.specs.declared.target.Target.{Target}
@@ -117,6 +118,14 @@ pub each_ended : (R S T : Relation) → Reflexive R → Composes R R R → Compo
 each_ended R S T none joins ends {hear} {a} {old} {new} {result} step final settled e single =
     each_then R S T none joins ends (λ o. IsNoEnd (hear o)) (LastIs hear result) step final settled e.trail (none_ends hear e.outcomes e.onward)
     (last_is hear result e.last e.outcomes e.onward e.tells) single
+
+-- Two relations of the same device
+
+pub each_both : (R S : Relation) (old new : World) → EachWas R old new → EachWas S old new → EachWas (λ j p s v. R j p s v × S j p s v) old new
+each_both R S old new x y j p s on there =
+    let one : Was R old j p s = x j p s on there in
+    let other : Was S old j p s = y j p s on there in
+    record { before = one.before; on = one.on; stands = one.stands; so = (one.so, subst (λ d. S j p d s) (same_Some other.before one.before (sym other.stands ∙ one.stands)) other.so) }
 
 -- Devices that an attempt is not for
 

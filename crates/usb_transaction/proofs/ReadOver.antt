@@ -19,7 +19,7 @@ use Rattle.usb_transaction.specs.declared.fault.TransFault.{TransFault}
 use Rattle.usb_transaction.specs.Heard.{sent_as}
 use Rattle.usb_transaction.specs.Trail.{Ended}
 use Rattle.usb_transaction.specs.Trans.{packet_of, out_attempt}
-use Rattle.usb_transaction.specs.Over.{is_at, IsInRead, data_stage, over, ReadStatus}
+use Rattle.usb_transaction.specs.Over.{is_at, IsInRead, data_stage, over}
 use Rattle.usb_transaction.proofs.Lasts.{sent_last}
 use Rattle.usb_transaction.proofs.Meanings.{got_ack}
 use Rattle.usb_transaction.proofs.Overs.{LastIs, each_ended, other_twice, mine}
@@ -151,6 +151,12 @@ last_did t result w c j p s v (DidOut.asked d q x o e) =
 
 -- A device over both
 
+pub record OverRead (t : Target) (result : Result (List ℕ) TransFault) (j : ℕ) (p : List ℕ) (s v : State) : Type 0 where
+  pub others : is_at s t ≡ false → v ≡ s
+  pub frame : OnlyStage s v
+  pub kept : (v.stage ≡ s.stage) ⊎ IsRead v
+  pub done : is_at s t ≡ true → (bytes : List ℕ) → result ≡ Ok bytes → IsRead v × IsInRead s
+
 was_in : (s u : State) → Moves s u → IsInRead u → IsInRead s
 was_in s u (inl e) h = as_other s u e h
 was_in s u (inr x) h = x.1
@@ -159,10 +165,10 @@ only_moved : (s v : State) → Moves s v → (v.stage ≡ s.stage) ⊎ IsRead v
 only_moved s v (inl e) = inl e
 only_moved s v (inr x) = inr x.0
 
-same_at : (t : Target) (s u : State) → OnlyStage s u → is_at s t ≡ true → is_at u t ≡ true
+pub same_at : (t : Target) (s u : State) → OnlyStage s u → is_at s t ≡ true → is_at u t ≡ true
 same_at t s u f h = ap (λ x. x.registers.address == t.addr) f ∙ h
 
-kept_then : (t : Target) (result : Result (List ℕ) TransFault) (j : ℕ) (p : List ℕ) (s u v : State) → Kept t j p s u → Last t result j p u v → ReadStatus t result j p s v
+kept_then : (t : Target) (result : Result (List ℕ) TransFault) (j : ℕ) (p : List ℕ) (s u v : State) → Kept t j p s u → Last t result j p u v → OverRead t result j p s v
 kept_then t result j p s u v x y = record {
   others = other_twice t s u v x.others y.kept.others;
   frame = only_twice s u v x.frame y.kept.frame;
@@ -170,11 +176,11 @@ kept_then t result j p s u v x y = record {
   done = λ at bytes h. ((y.done (same_at t s u x.frame at) bytes h).0, was_in s u x.moves (y.done (same_at t s u x.frame at) bytes h).1);
 }
 
-pub read_status_leaves : (t : Target) (result : Result (List ℕ) TransFault) (old new : World) → IsSettled old.roots
-    → Ended sent_as (out_attempt t 0 One []) old result new → new.shared ≡ false → EachWas (ReadStatus t result) old new
-read_status_leaves t result old new settled e single =
+pub each_over_read : (t : Target) (result : Result (List ℕ) TransFault) (old new : World) → IsSettled old.roots
+    → Ended sent_as (out_attempt t 0 One []) old result new → new.shared ≡ false → EachWas (OverRead t result) old new
+each_over_read t result old new settled e single =
     let a = out_attempt t 0 One [] in
-    each_ended (Kept t) (Last t result) (ReadStatus t result) (kept_none t) (kept_twice t) (kept_then t result)
+    each_ended (Kept t) (Last t result) (OverRead t result) (kept_none t) (kept_twice t) (kept_then t result)
     (λ outcomes w trail made u c. each_wider (DidOut a One [] w) (Kept t) (kept_did t w) w (after (attempt a) w) (each_out a w One [] made (record { kind = refl; payload = refl }) u))
     (λ outcomes w trail made u c. each_wider (DidOut a One [] w) (Last t result) (last_did t result w c) w (after (attempt a) w) (each_out a w One [] made (record { kind = refl; payload = refl }) u))
     settled e single

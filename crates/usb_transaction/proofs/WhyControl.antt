@@ -12,7 +12,6 @@ use Rattle.usb_device.specs.Transfer.{Stage, idle, refused, reading, read, endin
 use Rattle.usb_device.specs.Rows.{State, Reply, payload, forgotten, is_busy, nak_row, ack_row, acknowledged}
 use Rattle.usb_device.specs.Attempt.{Way, whole, broken, lost, is_whole, heard, gave, in_stage_law, in_law}
 use Rattle.usb_device.specs.Progress.{ReadingAt}
-use Rattle.usb_device.proofs.Packets.{packet-fits}
 use Rattle.usb_bus.specs.declared.damage.Damage.{Damage}
 use Rattle.usb_bus.specs.declared.types.Outcome.{Outcome}
 use Rattle.usb_bus.specs.declared.types.Outcome.TheVariants as outcome
@@ -31,7 +30,7 @@ use Rattle.usb_transaction.specs.declared.heard.Heard.{Heard}
 use Rattle.usb_transaction.specs.declared.heard.Heard.TheVariants.{Moved, NotReady, Repeat, Refused, Lost}
 use Rattle.usb_transaction.specs.Heard.{heard_as}
 use Rattle.usb_transaction.specs.Trail.{Trail, IsNoEnd, waits_with, errors_running, waits_in}
-use Rattle.usb_transaction.specs.Why.{NoThreeDamaged, Listens, HasNext, data_stage, status, refusal}
+use Rattle.usb_transaction.specs.Why.{NoThreeDamaged, Listens, Fits, HasNext, data_stage, status, refusal}
 use Rattle.usb_transaction.proofs.WhyCommon.{LostRun, run_none, run_short, lost_more, damaged_more, positive, not_busy}
 
 -- What one attempt with one device brings
@@ -97,9 +96,9 @@ refuses_in max s row lost t2 t3 = record { stalls = λ e. cc e; back = λ e. e }
 
 -- A device that is busy by its description moves nothing and changes no register
 
-record Calm (awaited : Toggle) (max : ℕ) (s : State) (r : Reply) : Type 0 where
-  moved : (b : ArrayVec ℕ) → heard_as awaited (got max r.0) ≡ Moved b → s.spec.busy ≡ false
-  there : (r.1.registers ≡ s.registers) ⊎ (s.spec.busy ≡ false)
+pub record Calm (awaited : Toggle) (max : ℕ) (s : State) (r : Reply) : Type 0 where
+  pub moved : (b : ArrayVec ℕ) → heard_as awaited (got max r.0) ≡ Moved b → s.spec.busy ≡ false
+  pub there : (r.1.registers ≡ s.registers) ⊎ (s.spec.busy ≡ false)
 
 nak_moves : (awaited : Toggle) (max : ℕ) (t : Way) (b : ArrayVec ℕ) → heard_as awaited (got max (heard t (Some answer.Nak))) ≢ Moved b
 nak_moves awaited max whole b e = cc e
@@ -110,7 +109,7 @@ calm_control : (awaited : Toggle) (max : ℕ) (s : State) (t2 t3 : Way) (b : Boo
 calm_control awaited max s t2 t3 true busy = record { moved = λ b e. absurd (nak_moves awaited max t2 b e); there = inl refl }
 calm_control awaited max s t2 t3 false busy = record { moved = λ b e. not_busy s busy; there = inr (not_busy s busy) }
 
-calm_in : (awaited : Toggle) (max : ℕ) (s : State) (row : List PortState) (t1 t2 t3 : Way) → Calm awaited max s (in_law s row 0 max t1 t2 t3)
+pub calm_in : (awaited : Toggle) (max : ℕ) (s : State) (row : List PortState) (t1 t2 t3 : Way) → Calm awaited max s (in_law s row 0 max t1 t2 t3)
 calm_in awaited max s row whole t2 t3 = calm_control awaited max s t2 t3 (is_busy s) refl
 calm_in awaited max s row broken t2 t3 = record { moved = λ b e. cc e; there = inl refl }
 calm_in awaited max s row lost t2 t3 = record { moved = λ b e. cc e; there = inl refl }
@@ -155,11 +154,10 @@ bytes_in (Some b) e = record { bytes = b; is = refl }
 
 -- a device that has what is next answers
 reading_answers : (t : Target) (awaited : Toggle) (text : List ℕ) (wanted k : ℕ) (s : State) (row : List PortState) → is_busy s ≡ false → s.stage ≡ reading text wanted k → is_some (packet_at (max_packet s.spec) wanted text k) ≡ true
-    → max_packet s.spec ≤ t.max → heard_as awaited (got t.max (in_law s row 0 t.max whole whole whole).0) ≢ Lost
-reading_answers t awaited text wanted k s row free stage some most e =
+    → Fits t (max_packet s.spec) wanted text → heard_as awaited (got t.max (in_law s row 0 t.max whole whole whole).0) ≢ Lost
+reading_answers t awaited text wanted k s row free stage some fits e =
     let b : Bytes (packet_at (max_packet s.spec) wanted text k) = bytes_in (packet_at (max_packet s.spec) wanted text k) some in
-    let few : length b.bytes ≤ t.max = omega (arith, most, packet-fits (max_packet s.spec) wanted text b.bytes k b.is) in
-    data_heard awaited (toggle_at k) t.max b.bytes few (sym (ap {A = Reply} (λ r. heard_as awaited (got t.max r.0)) (reading_gives t.max text b.bytes wanted k s row whole whole free stage b.is)) ∙ e)
+    data_heard awaited (toggle_at k) t.max b.bytes (fits k b.bytes b.is) (sym (ap {A = Reply} (λ r. heard_as awaited (got t.max r.0)) (reading_gives t.max text b.bytes wanted k s row whole whole free stage b.is)) ∙ e)
 
 known_some : (text : List ℕ) (wanted n : ℕ) (s : State) (r : ReadingAt text wanted n s) → is_some (packet_at (max_packet s.spec) wanted text n) ≡ true → is_some (packet_at (max_packet s.spec) wanted text r.known) ≡ true
 known_some text wanted n s r h = pick r.near
@@ -172,7 +170,7 @@ stall_heard : (awaited : Toggle) (max : ℕ) → heard_as awaited (got max (Some
 stall_heard awaited max e = cc e
 
 answers_free : (t : Target) (awaited : Toggle) (s : State) (row : List PortState) → HasNext t awaited s → is_busy s ≡ false → heard_as awaited (got t.max (in_law s row 0 t.max whole whole whole).0) ≢ Lost
-answers_free t awaited s row (data_stage text wanted n e r some most) free f = reading_answers t awaited text wanted r.known s row free r.stage (known_some text wanted n s r some) most f
+answers_free t awaited s row (data_stage text wanted n e r some fits) free f = reading_answers t awaited text wanted r.known s row free r.stage (known_some text wanted n s r some) fits f
 answers_free t awaited s row (status a h e) free f =
     data_heard awaited One t.max [] (omega arith) (sym (ap {A = Reply} (λ r. heard_as awaited (got t.max r.0)) (stage_gives t.max s (ending a) row whole whole free h)) ∙ f)
 answers_free t awaited s row (refusal h) free f =
@@ -210,7 +208,7 @@ pub record Behind (t : Target) (awaited : Toggle) (s : State) : Type 0 where
   pub stage : s.stage ≡ reading text wanted known
   pub next : awaited ≡ toggle_at (known + 1)
   pub some : is_some (packet_at (max_packet s.spec) wanted text known) ≡ true
-  pub most : max_packet s.spec ≤ t.max
+  pub fits : Fits t (max_packet s.spec) wanted text
 
 abbrev number_in : Stage → ℕ
 number_in idle = 0
@@ -223,11 +221,11 @@ quiet_reading : (awaited : Toggle) (text : List ℕ) (wanted k : ℕ) → awaite
 quiet_reading awaited text wanted k e = record { reads = λ x w n h. e ∙ ap (λ st. toggle_at (number_in st)) h; ends = λ a h. cc h }
 
 pub quiet_or_behind : (t : Target) (awaited : Toggle) (s : State) → HasNext t awaited s → Quiet awaited s.stage ⊎ Behind t awaited s
-quiet_or_behind t awaited s (data_stage text wanted n e r some most) = pick r.near
+quiet_or_behind t awaited s (data_stage text wanted n e r some fits) = pick r.near
   where
     pick : (n ≡ r.known) ⊎ ((n ≡ r.known + 1) × (is_some (packet_at (max_packet s.spec) wanted text r.known) ≡ true)) → Quiet awaited s.stage ⊎ Behind t awaited s
     pick (inl f) = inl (subst (λ x. Quiet awaited x) (sym r.stage) (quiet_reading awaited text wanted r.known (e ∙ ap toggle_at f)))
-    pick (inr x) = inr (record { text = text; wanted = wanted; known = r.known; stage = r.stage; next = e ∙ ap toggle_at x.0; some = x.1; most = most })
+    pick (inr x) = inr (record { text = text; wanted = wanted; known = r.known; stage = r.stage; next = e ∙ ap toggle_at x.0; some = x.1; fits = fits })
 quiet_or_behind t awaited s (status a h e) = inl (record { reads = λ x w n f. cc (sym h ∙ f); ends = λ b f. e })
 quiet_or_behind t awaited s (refusal h) = inl (record { reads = λ x w n f. cc (sym h ∙ f); ends = λ b f. cc (sym h ∙ f) })
 
@@ -323,7 +321,7 @@ gave_naks : (s : State) (x : Bool) → (if x then forgotten (acknowledged s by.C
 gave_naks s true = ack_naks s s.stage
 gave_naks s false = refl
 
-stage_naks : (max : ℕ) (s : State) (st : Stage) (t2 t3 : Way) → (in_stage_law s st max t2 t3).1.naks ≡ s.naks
+pub stage_naks : (max : ℕ) (s : State) (st : Stage) (t2 t3 : Way) → (in_stage_law s st max t2 t3).1.naks ≡ s.naks
 stage_naks max s idle t2 t3 = refl
 stage_naks max s refused t2 t3 = refl
 stage_naks max s (reading text wanted k) t2 t3 = split (packet_at (max_packet s.spec) wanted text k)
@@ -348,7 +346,7 @@ acked_stage text wanted k s stage some =
 behind_whole : (t : Target) (awaited : Toggle) (s : State) (row : List PortState) → is_busy s ≡ false → Behind t awaited s → Quiet awaited (in_law s row 0 t.max whole whole whole).1.stage
 behind_whole t awaited s row free h =
     let b : Bytes (packet_at (max_packet s.spec) h.wanted h.text h.known) = bytes_in (packet_at (max_packet s.spec) h.wanted h.text h.known) h.some in
-    let few : length b.bytes ≤ t.max = omega (arith, h.most, packet-fits (max_packet s.spec) h.wanted h.text b.bytes h.known b.is) in
+    let few : length b.bytes ≤ t.max = h.fits h.known b.bytes b.is in
     let gives : in_law s row 0 t.max whole whole whole ≡ gave s by.Control t.max (toggle_at h.known) b.bytes whole whole = reading_gives t.max h.text b.bytes h.wanted h.known s row whole whole free h.stage b.is in
     let stage : (in_law s row 0 t.max whole whole whole).1.stage ≡ reading h.text h.wanted (h.known + 1) =
     ap {A = Reply} (λ r. r.1.stage) gives ∙ ap (λ x. (if x && is_whole whole then forgotten (acknowledged s by.Control) else s).stage) (within (length b.bytes) t.max few) ∙ acked_stage h.text h.wanted h.known s h.stage h.some in
@@ -372,9 +370,6 @@ record Brings (t : Target) (awaited : Toggle) (w : World) (p : List ℕ) (s v : 
   quiet : is_at s t ≡ true → is_busy s ≡ false → Quiet awaited s.stage → IsNoEnd h → (v.stage ≡ s.stage) × ((n : ℕ) → waits_with h n + v.naks ≤ n + s.naks)
   naks : is_at s t ≡ true → is_busy s ≡ false → v.naks ≡ s.naks
   level : Listens t p s → is_busy s ≡ false → Behind t awaited s → damage_in w ≡ None → Quiet awaited v.stage
-  back : v.stage ≡ refused → s.stage ≡ refused
-  there : is_at s t ≡ true → (v.registers ≡ s.registers) ⊎ ((s.spec.silent ≡ false) × (s.spec.busy ≡ false))
-  moved : is_at s t ≡ true → (b : ArrayVec ℕ) → h ≡ Moved b → (s.spec.silent ≡ false) × (s.spec.busy ≡ false)
 
 brings_other : (t : Target) (awaited : Toggle) (w : World) (p : List ℕ) (s : State) (h : Heard) → is_at s t ≡ false → Brings t awaited w p s s h
 brings_other t awaited w p s h d = record {
@@ -383,9 +378,6 @@ brings_other t awaited w p s h d = record {
   quiet = λ at x y z. mine t s at d;
   naks = λ at x. mine t s at d;
   level = λ l x y z. mine t s l.at d;
-  back = λ e. e;
-  there = λ at. mine t s at d;
-  moved = λ at b e. mine t s at d;
 }
 
 brings_silent : (t : Target) (awaited : Toggle) (w : World) (p : List ℕ) (s : State) → s.spec.silent ≡ true → Brings t awaited w p s s Lost
@@ -395,29 +387,18 @@ brings_silent t awaited w p s q = record {
   quiet = λ at x y z. (refl, λ n. omega arith);
   naks = λ at x. refl;
   level = λ l x y z. absurd (cc (sym q ∙ l.loud));
-  back = λ e. e;
-  there = λ at. inl refl;
-  moved = λ at b e. cc e;
 }
 
-there_loud : (s v : State) → s.spec.silent ≡ false → (v.registers ≡ s.registers) ⊎ (s.spec.busy ≡ false) → (v.registers ≡ s.registers) ⊎ ((s.spec.silent ≡ false) × (s.spec.busy ≡ false))
-there_loud s v q (inl e) = inl e
-there_loud s v q (inr e) = inr (q, e)
-
-brings_asked : (t : Target) (awaited : Toggle) (w : World) (p : List ℕ) (s : State) (row : List PortState) → s.spec.silent ≡ false → (x : Ways (in_attempt t 0) w p s)
+brings_asked : (t : Target) (awaited : Toggle) (w : World) (p : List ℕ) (s : State) (row : List PortState) → (x : Ways (in_attempt t 0) w p s)
     → Brings t awaited w p s (in_law s row 0 t.max x.first x.second x.third).1 (heard_as awaited (got t.max (in_law s row 0 t.max x.first x.second x.third).0))
-brings_asked t awaited w p s row q x =
+brings_asked t awaited w p s row x =
     let r : Reply = in_law s row 0 t.max x.first x.second x.third in
-    let c : Calm awaited t.max s r = calm_in awaited t.max s row x.first x.second x.third in
     record {
       answers = λ l h n. answers_in t awaited s row x.first x.second x.third h (x.heard n l.hears);
       busy = λ at b y. let k : Counts awaited t.max s r = busy_in awaited t.max s row x.first x.second x.third b y in (k.stays, k.counts);
       quiet = λ at b y z. let k : Counts awaited t.max s r = quiet_in awaited t.max s row x.first x.second x.third b y z in (k.stays, k.counts);
       naks = λ at b. free_naks t.max s row x.first x.second x.third b;
       level = λ l b y n. behind_in t awaited s row x.first x.second x.third b y (x.heard n l.hears);
-      back = λ e. (refuses_in t.max s row x.first x.second x.third).back e;
-      there = λ at. there_loud s r.1 q c.there;
-      moved = λ at b e. (q, c.moved b e);
     }
 
 did_brings : (t : Target) (awaited : Toggle) (w : World) (j : ℕ) (p : List ℕ) (s v : State) → DidIn (in_attempt t 0) w j p s v → Brings t awaited w p s v (heard_in t awaited w)
@@ -426,7 +407,7 @@ did_brings t awaited w j p s v (DidIn.silent d q o e) =
     subst (λ x. Brings t awaited w p s x (heard_in t awaited w)) (sym e) (subst (λ x. Brings t awaited w p s s (heard_as awaited x)) (sym o) (brings_silent t awaited w p s q))
 did_brings t awaited w j p s v (DidIn.asked d q b below h x o e) =
     let r : Reply = in_law s (row_of below) 0 t.max x.first x.second x.third in
-    subst (λ y. Brings t awaited w p s y (heard_in t awaited w)) (sym e) (subst (λ y. Brings t awaited w p s r.1 (heard_as awaited y)) (sym o) (brings_asked t awaited w p s (row_of below) q x))
+    subst (λ y. Brings t awaited w p s y (heard_in t awaited w)) (sym e) (subst (λ y. Brings t awaited w p s r.1 (heard_as awaited y)) (sym o) (brings_asked t awaited w p s (row_of below) x))
 
 pub did_back : (t : Target) (w : World) (j : ℕ) (p : List ℕ) (s v : State) → DidIn (in_attempt t 0) w j p s v → (is_at s t ≡ false → v ≡ s) × (v.stage ≡ refused → s.stage ≡ refused)
 did_back t w j p s v (DidIn.other d e) = (λ h. e, λ h. ap (λ x. x.stage) (sym e) ∙ h)
@@ -442,8 +423,6 @@ pub data Waiting (t : Target) (awaited : Toggle) (old : World) (outcomes : List 
 
 pub record Going (t : Target) (awaited : Toggle) (old : World) (outcomes : List Outcome) (w : World) (j : ℕ) (p : List ℕ) (s v : State) : Type 0 where
   kept : Kept t awaited j p s v
-  back : v.stage ≡ refused → s.stage ≡ refused
-  there : is_at s t ≡ true → (is_at v t ≡ true) ⊎ ((s.spec.silent ≡ false) × (s.spec.busy ≡ false))
   lost : Listens t p s → HasNext t awaited s → LostRun old.damages (errors_running (heard_as awaited) outcomes) w.attempts
   waits : Listens t p s → HasNext t awaited s → s.spec.busy ≡ false → Waiting t awaited old outcomes w s v
 
@@ -456,8 +435,6 @@ pub going_none : (t : Target) (awaited : Toggle) (old : World) (j : ℕ) (p : Li
 unfolding errors_running
 going_none t awaited old j p s = record {
   kept = kept_none t awaited j p s;
-  back = λ e. e;
-  there = λ at. inl at;
   lost = λ l h. run_none old.damages old.attempts;
   waits = λ l h b. waiting_none t awaited old s (quiet_or_behind t awaited s h);
 }
@@ -467,9 +444,9 @@ kept_spec : (t : Target) (awaited : Toggle) (j : ℕ) (p : List ℕ) (s v : Stat
 kept_spec t awaited j p s v k = ap (λ x. x.spec) k.frame
 
 next_kept : (t : Target) (awaited : Toggle) (j : ℕ) (p : List ℕ) (s v : State) → Kept t awaited j p s v → HasNext t awaited s → HasNext t awaited v × (v.registers ≡ s.registers)
-next_kept t awaited j p s v k (data_stage text wanted n e r some most) =
+next_kept t awaited j p s v k (data_stage text wanted n e r some fits) =
     let x : _ = k.reads text wanted n e r in
-    (data_stage text wanted n e x.0 (ap (λ y. is_some (packet_at (max_packet y) wanted text n)) (kept_spec t awaited j p s v k) ∙ some) (subst (λ y. max_packet y ≤ t.max) (sym (kept_spec t awaited j p s v k)) most), x.1)
+    (data_stage text wanted n e x.0 (ap (λ y. is_some (packet_at (max_packet y) wanted text n)) (kept_spec t awaited j p s v k) ∙ some) (subst (λ y. Fits t (max_packet y) wanted text) (sym (kept_spec t awaited j p s v k)) fits), x.1)
 next_kept t awaited j p s v k (status a h e) = (status a (k.ends e a h) e, k.fails e)
 next_kept t awaited j p s v k (refusal h) = (refusal (k.refuses h).0, (k.refuses h).1)
 
@@ -541,15 +518,6 @@ module _ (t : Target) (awaited : Toggle) (old : World) (never : NoThreeDamaged o
   waiting_more l next calm on (quiet q le) = from_quiet l.at calm on q le (is_busy u) refl
   waiting_more l next calm on (behind h r run none le) = from_behind l next calm h r run none le (is_busy u) refl
 
-there_more : (t : Target) (s u v : State) → u.spec ≡ s.spec → (is_at u t ≡ true → (v.registers ≡ u.registers) ⊎ ((u.spec.silent ≡ false) × (u.spec.busy ≡ false))) → (is_at u t ≡ true) ⊎ ((s.spec.silent ≡ false) × (s.spec.busy ≡ false))
-    → (is_at v t ≡ true) ⊎ ((s.spec.silent ≡ false) × (s.spec.busy ≡ false))
-there_more t s u v e f (inr x) = inr x
-there_more t s u v e f (inl at) = pick (f at)
-  where
-    pick : (v.registers ≡ u.registers) ⊎ ((u.spec.silent ≡ false) × (u.spec.busy ≡ false)) → (is_at v t ≡ true) ⊎ ((s.spec.silent ≡ false) × (s.spec.busy ≡ false))
-    pick (inl g) = inl (at_from t u v g at)
-    pick (inr x) = inr (ap (λ y. y.silent) (sym e) ∙ x.0, ap (λ y. y.busy) (sym e) ∙ x.1)
-
 lost_then : (t : Target) (awaited : Toggle) (old : World) (outcomes : List Outcome) (w : World) → Trail (in_attempt t 0) old outcomes w → Made w (after (attempt (in_attempt t 0)) w)
     → (j : ℕ) (p : List ℕ) (s u v : State) → Going t awaited old outcomes w j p s u → Brings t awaited w p u v (heard_in t awaited w) → Listens t p s → HasNext t awaited s
     → LostRun old.damages (errors_running (heard_as awaited) (outcome_in (in_attempt t 0) w ∷ outcomes)) (after (attempt (in_attempt t 0)) w).attempts
@@ -565,8 +533,6 @@ going_more t awaited old never outcomes w trail made on j p s u v g d =
     let same : u.spec ≡ s.spec = kept_spec t awaited j p s u g.kept in
     record {
       kept = k;
-      back = λ e. g.back (b.back e);
-      there = λ at. there_more t s u v same b.there (g.there at);
       lost = λ l h. lost_then t awaited old outcomes w trail made j p s u v g b l h;
       waits = λ l h calm. waiting_more t awaited old never outcomes w trail made p s u v b (listens_kept t awaited j p s u g.kept h l) (next_kept t awaited j p s v k h).0
           (ap (λ x. x.busy) same ∙ calm) on (g.waits l h calm);
@@ -578,18 +544,9 @@ abbrev pub HeadOn : Toggle → List Outcome → Type 0
 HeadOn awaited [] = ⊥
 HeadOn awaited (o ∷ outcomes) = IsNoEnd (heard_as awaited o)
 
-abbrev pub HeadMoves : Toggle → List Outcome → Type 0 → Type 0
-HeadMoves awaited [] P = Unit {0}
-HeadMoves awaited (o ∷ outcomes) P = (b : ArrayVec ℕ) → heard_as awaited o ≡ Moved b → P
-
 pub record Final (t : Target) (awaited : Toggle) (old : World) (outcomes : List Outcome) (w : World) (j : ℕ) (p : List ℕ) (s v : State) : Type 0 where
   pub lost : Listens t p s → HasNext t awaited s → LostRun old.damages (errors_running (heard_as awaited) outcomes) w.attempts
   pub waits : HeadOn awaited outcomes → Listens t p s → HasNext t awaited s → s.spec.busy ≡ false → Waiting t awaited old outcomes w s v
-  pub moved : is_at s t ≡ true → HeadMoves awaited outcomes ((s.spec.silent ≡ false) × (s.spec.busy ≡ false))
-
-moved_then : (t : Target) (s u : State) → u.spec ≡ s.spec → (is_at u t ≡ true) ⊎ ((s.spec.silent ≡ false) × (s.spec.busy ≡ false)) → (is_at u t ≡ true → (u.spec.silent ≡ false) × (u.spec.busy ≡ false)) → (s.spec.silent ≡ false) × (s.spec.busy ≡ false)
-moved_then t s u e (inl at) f = (ap (λ y. y.silent) (sym e) ∙ (f at).0, ap (λ y. y.busy) (sym e) ∙ (f at).1)
-moved_then t s u e (inr x) f = x
 
 pub final_more : (t : Target) (awaited : Toggle) (old : World) → NoThreeDamaged old → (outcomes : List Outcome) (w : World) → Trail (in_attempt t 0) old outcomes w → Made w (after (attempt (in_attempt t 0)) w)
     → (j : ℕ) (p : List ℕ) (s u v : State) → Going t awaited old outcomes w j p s u → DidIn (in_attempt t 0) w j p u v
@@ -599,7 +556,6 @@ final_more t awaited old never outcomes w trail made j p s u v g d =
     record {
       lost = λ l h. lost_then t awaited old outcomes w trail made j p s u v g b l h;
       waits = λ on. (going_more t awaited old never outcomes w trail made on j p s u v g d).waits;
-      moved = λ at c e. moved_then t s u (kept_spec t awaited j p s u g.kept) (g.there at) (λ x. b.moved x c e);
     }
 
 pub waited_few : (t : Target) (awaited : Toggle) (old : World) (outcomes : List Outcome) (w : World) (s v : State) → NoThreeDamaged old → Waiting t awaited old outcomes w s v → waits_in (heard_as awaited) outcomes ≤ s.naks + 3

@@ -2,6 +2,7 @@
 use Rattle.std.proofs.Common.{◌≡◌, ℕ, ◌+◌, ◌≤◌, ◌==◌, ◌&&◌, ◌||◌, not, if◌then◌else◌, List, false, ap, ◌∙◌, arith}
 use Rattle.usb_device.specs.Rows.{State}
 use Rattle.usb_device.specs.Attempt.{Way, whole}
+use Rattle.usb_bus.specs.Live.{address_of}
 use Rattle.usb_bus.specs.Passes.{deep_at}
 use Rattle.usb_transaction.specs.declared.target.Target.{Target}
 use Rattle.usb_transaction.specs.declared.heard.Heard.{Heard}
@@ -16,13 +17,16 @@ one_wait Repeat n = omega arith
 one_wait Refused n = omega arith
 one_wait Lost n = omega arith
 
--- it goes on listening where its description and its registers stay
-pub listens_on : (t : Target) (p : List ℕ) (s v : State) → v.spec ≡ s.spec → v.registers ≡ s.registers → Listens t p s → Listens t p v
-listens_on t p s v e f l = record {
-  at = ap (λ x. x.address == t.addr) f ∙ l.at;
+-- it goes on listening where its description and its address stay
+pub listens_at : (t : Target) (p : List ℕ) (s v : State) → v.spec ≡ s.spec → address_of v ≡ address_of s → Listens t p s → Listens t p v
+listens_at t p s v e f l = record {
+  at = ap (λ n. n == t.addr) f ∙ l.at;
   loud = ap (λ x. x.silent) e ∙ l.loud;
   hears = ap (λ x. if t.low then x.low && (not (deep_at false p) || t.pre) else not x.low) e ∙ l.hears;
 }
+
+pub listens_on : (t : Target) (p : List ℕ) (s v : State) → v.spec ≡ s.spec → v.registers ≡ s.registers → Listens t p s → Listens t p v
+listens_on t p s v e f l = listens_at t p s v e (ap (λ x. x.address) f) l
 
 -- what comes of an attempt whose packets came whole
 pub as_whole : {A : Type 0} (f : Way → Way → Way → A) (x y z : Way) → (x ≡ whole) × (y ≡ whole) × (z ≡ whole) → f x y z ≡ f whole whole whole

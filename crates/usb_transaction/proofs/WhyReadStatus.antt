@@ -1,5 +1,5 @@
 -- Why the status stage of a control read fails.
-use Rattle.std.proofs.Common.{◌≡◌, ◌≢◌, inl, inr, ℕ, ◌+◌, ◌≤◌, nat_le, ◌==◌, ◌&&◌, if◌then◌else◌, Bool, true, false, List, [], ◌∷◌, length, Option, None, Some, Result, Ok, Err, refl, sym, subst, ap, ◌∙◌, arith}
+use Rattle.std.proofs.Common.{◌≡◌, ◌≢◌, inl, inr, ℕ, ◌+◌, ◌≤◌, nat_le, ◌==◌, ◌&&◌, if◌then◌else◌, Bool, true, false, List, [], ◌∷◌, length, Option, None, Some, Result, Err, refl, sym, subst, ap, ◌∙◌, arith}
 use Rattle.usb_packet.specs.declared.Toggle.TheVariants.{One}
 use Rattle.usb_device.specs.declared.answer.Answer.{Answer}
 use Rattle.usb_device.specs.declared.answer.Answer.TheVariants as answer
@@ -18,14 +18,12 @@ use Rattle.usb_bus.proofs.Devices.{each_wider, each_out}
 use Rattle.usb_transaction.specs.declared.target.Target.{Target}
 use Rattle.usb_transaction.specs.declared.heard.Heard.TheVariants.{Lost}
 use Rattle.usb_transaction.specs.declared.fault.TransFault.{TransFault}
-use Rattle.usb_transaction.specs.declared.fault.TransFault.TheVariants.{Stalled, Busy, NoAnswer}
+use Rattle.usb_transaction.specs.declared.fault.TransFault.TheVariants.{Busy, NoAnswer}
 use Rattle.usb_transaction.specs.Heard.{sent_as}
 use Rattle.usb_transaction.specs.Trail.{Trail, Ended, Tells, waits_with, errors_running, waits_in}
-use Rattle.usb_transaction.specs.Trans.{packet_of, out_attempt}
+use Rattle.usb_transaction.specs.Trans.{out_attempt}
 use Rattle.usb_transaction.specs.Over.{is_at, IsInRead, data_stage, over}
 use Rattle.usb_transaction.specs.Why.{NoThreeDamaged, Listens, WhyReadStatus}
-use Rattle.usb_transaction.proofs.Lasts.{sent_last}
-use Rattle.usb_transaction.proofs.Meanings.{got_ack, got_stall}
 use Rattle.usb_transaction.proofs.Overs.{mine}
 use Rattle.usb_transaction.proofs.ReadOver.{Heard_row, Moves, Kept, as_other, kept_none, kept_twice, kept_did}
 use Rattle.usb_transaction.proofs.WhyCommon.{LostRun, run_none, run_short, lost_more, each_along, each_any, positive, not_busy}
@@ -38,10 +36,10 @@ at_stage s st = record s { stage = st }
 abbrev pair : Option Answer → State → Reply
 pair o s = (o, s)
 
-record Gives (max : ℕ) (s : State) (r : Reply) : Type 0 where
-  taken : IsInRead s → r.0 ≢ Some answer.Stall
-  counts : (n : ℕ) → s.spec.busy ≡ false → waits_with (sent_as (got max r.0)) n + r.1.naks ≤ n + s.naks
-  calm : r.0 ≡ Some answer.Ack → s.spec.busy ≡ false
+pub record Gives (max : ℕ) (s : State) (r : Reply) : Type 0 where
+  pub taken : IsInRead s → r.0 ≢ Some answer.Stall
+  pub counts : (n : ℕ) → s.spec.busy ≡ false → waits_with (sent_as (got max r.0)) n + r.1.naks ≤ n + s.naks
+  pub calm : r.0 ≡ Some answer.Ack → s.spec.busy ≡ false
 
 -- only NAK is waited for
 no_wait : (max n : ℕ) (t : Way) (o : Option Answer) → o ≢ Some answer.Nak → waits_with (sent_as (got max (heard t o))) n ≡ n
@@ -106,7 +104,7 @@ out_through : (max : ℕ) (s : State) (t3 : Way) (b : Bool) → Gives max s (if 
 out_through max s t3 true = out_control max s t3 (is_busy s) refl
 out_through max s t3 false = nothing_gives max s
 
-out_gives : (max : ℕ) (s : State) (t1 t2 t3 : Way) → Gives max s (out_law s 0 One [] t1 t2 t3)
+pub out_gives : (max : ℕ) (s : State) (t1 t2 t3 : Way) → Gives max s (out_law s 0 One [] t1 t2 t3)
 out_gives max s t1 t2 t3 = out_through max s t3 (is_whole t1 && is_whole t2)
 
 -- one that comes whole is answered
@@ -128,36 +126,28 @@ answered_whole max s whole whole lost h e = absurd (cc e.2)
 
 record Brings (t : Target) (w : World) (p : List ℕ) (s v : State) (o : Outcome) : Type 0 where
   answered : Listens t p s → IsInRead s → damage_in w ≡ None → sent_as o ≢ Lost
-  taken : IsInRead s → is_at s t ≡ true → o ≢ outcome.Stall
   counts : is_at s t ≡ true → s.spec.busy ≡ false → (n : ℕ) → waits_with (sent_as o) n + v.naks ≤ n + s.naks
-  moved : is_at s t ≡ true → o ≡ outcome.Ack → (s.spec.silent ≡ false) × (s.spec.busy ≡ false)
 
 brings_other : (t : Target) (w : World) (p : List ℕ) (s v : State) (o : Outcome) → is_at s t ≡ false → Brings t w p s v o
 brings_other t w p s v o d = record {
   answered = λ l h n. mine t s l.at d;
-  taken = λ h at. mine t s at d;
   counts = λ at b n. mine t s at d;
-  moved = λ at e. mine t s at d;
 }
 
 brings_silent : (t : Target) (w : World) (p : List ℕ) (s : State) → s.spec.silent ≡ true → Brings t w p s s outcome.Nothing
 brings_silent t w p s q = record {
   answered = λ l h n. absurd (cc (sym q ∙ l.loud));
-  taken = λ h at e. cc e;
   counts = λ at b n. omega arith;
-  moved = λ at e. cc e;
 }
 
-brings_asked : (t : Target) (w : World) (p : List ℕ) (s : State) → s.spec.silent ≡ false → (x : Ways (out_attempt t 0 One []) w p s)
+brings_asked : (t : Target) (w : World) (p : List ℕ) (s : State) → (x : Ways (out_attempt t 0 One []) w p s)
     → Brings t w p s (out_law s 0 One [] x.first x.second x.third).1 (got t.max (out_law s 0 One [] x.first x.second x.third).0)
-brings_asked t w p s q x =
+brings_asked t w p s x =
     let r : Reply = out_law s 0 One [] x.first x.second x.third in
     let g : Gives t.max s r = out_gives t.max s x.first x.second x.third in
     record {
       answered = λ l h n. answered_whole t.max s x.first x.second x.third h (x.heard n l.hears);
-      taken = λ h at e. g.taken h (got_stall t.max r.0 e);
       counts = λ at b n. g.counts n b;
-      moved = λ at e. (q, g.calm (got_ack t.max r.0 e));
     }
 
 did_brings : (t : Target) (w : World) (j : ℕ) (p : List ℕ) (s v : State) → DidOut (out_attempt t 0 One []) One [] w j p s v → Brings t w p s v (outcome_in (out_attempt t 0 One []) w)
@@ -165,26 +155,20 @@ did_brings t w j p s v (DidOut.other d e) = brings_other t w p s v (outcome_in (
 did_brings t w j p s v (DidOut.silent d q o e) = subst (λ x. Brings t w p s x (outcome_in (out_attempt t 0 One []) w)) (sym e) (subst (λ x. Brings t w p s s x) (sym o) (brings_silent t w p s q))
 did_brings t w j p s v (DidOut.asked d q x o e) =
     let r : Reply = out_law s 0 One [] x.first x.second x.third in
-    subst (λ y. Brings t w p s y (outcome_in (out_attempt t 0 One []) w)) (sym e) (subst (λ y. Brings t w p s r.1 y) (sym o) (brings_asked t w p s q x))
+    subst (λ y. Brings t w p s y (outcome_in (out_attempt t 0 One []) w)) (sym e) (subst (λ y. Brings t w p s r.1 y) (sym o) (brings_asked t w p s x))
 
 -- A device over the attempts
-
--- what the last outcome says, where there is one
-abbrev LastSays : Target → State → List Outcome → Type 0
-LastSays t s [] = Unit {0}
-LastSays t s (o ∷ outcomes) = (IsInRead s → is_at s t ≡ true → o ≢ outcome.Stall) × (is_at s t ≡ true → o ≡ outcome.Ack → (s.spec.silent ≡ false) × (s.spec.busy ≡ false))
 
 record Going (t : Target) (old : World) (outcomes : List Outcome) (w : World) (j : ℕ) (p : List ℕ) (s v : State) : Type 0 where
   kept : Kept t j p s v
   lost : Listens t p s → IsInRead s → LostRun old.damages (errors_running sent_as outcomes) w.attempts
   waits : is_at s t ≡ true → s.spec.busy ≡ false → waits_in sent_as outcomes + v.naks ≤ s.naks
-  last : LastSays t s outcomes
 
 going_none : (t : Target) (old : World) (j : ℕ) (p : List ℕ) (s : State) → Going t old [] old j p s s
 unfolding errors_running waits_in
-going_none t old j p s = record { kept = kept_none t j p s; lost = λ l h. run_none old.damages old.attempts; waits = λ at b. omega arith; last = tt }
+going_none t old j p s = record { kept = kept_none t j p s; lost = λ l h. run_none old.damages old.attempts; waits = λ at b. omega arith }
 
-still_in : (s v : State) → Moves s v → IsInRead s → IsInRead v
+pub still_in : (s v : State) → Moves s v → IsInRead s → IsInRead v
 still_in s v (inl e) h = as_other v s (sym e) h
 still_in s v (inr x) h = over x.0
 
@@ -204,12 +188,6 @@ going_more t old outcomes w trail made j p s u v g d =
       kept = kept_twice t j p s u v g.kept (kept_did t w j p u v d);
       lost = λ l h. lost_more sent_as trail made (b.answered (still_listens t p s u g.kept.frame l) (still_in s u g.kept.moves h)) (g.lost l h);
       waits = λ at calm. omega (arith, g.waits at calm, b.counts (still_at t s u g.kept.frame at) (ap (λ x. x.spec.busy) g.kept.frame ∙ calm) (waits_in sent_as outcomes));
-      last = (
-        λ h at. b.taken (still_in s u g.kept.moves h) (still_at t s u g.kept.frame at),
-        λ at e.
-            let m : _ = b.moved (still_at t s u g.kept.frame at) e in
-            (sym (ap (λ x. x.spec.silent) g.kept.frame) ∙ m.0, sym (ap (λ x. x.spec.busy) g.kept.frame) ∙ m.1),
-      );
     }
 
 -- By the answer
@@ -222,8 +200,6 @@ why : (t : Target) (result : Result (List ℕ) TransFault) (old new : World) →
 why t result old new never last outcomes tells j p s v g = record {
   answered = λ l h e. omega (arith, run_short old (errors_running sent_as (last ∷ outcomes)) new.attempts never (g.lost l h), told result (Err NoAnswer) last outcomes tells e);
   waited = λ l h calm few e. omega (arith, g.waits l.at calm, few, told result (Err Busy) last outcomes tells e);
-  taken = λ h at e. g.last.0 h at (told result (Err Stalled) last outcomes tells e);
-  moved = λ at bytes e. g.last.1 at (sent_last last (packet_of bytes) (told result (Ok bytes) last outcomes tells e));
 }
 
 pub read_status_why : (t : Target) (result : Result (List ℕ) TransFault) (old new : World) → IsSettled old.roots → NoThreeDamaged old

@@ -1,11 +1,12 @@
 -- Why bulk IN fails.
-use Rattle.std.proofs.Common.{◌≡◌, ℕ, ◌+◌, ◌≤◌, ◌<◌, ◌==◌, nat_le, ◌&&◌, if◌then◌else◌, Bool, true, false, List, [], ◌∷◌, length, take, Some, Result, Err, refl, sym, subst, ap, ◌∙◌, arith, length-drop}
+use Rattle.std.proofs.Common.{◌≡◌, ℕ, ◌+◌, ◌≤◌, ◌<◌, ◌==◌, nat_le, ◌&&◌, if◌then◌else◌, Bool, true, false, List, [], ◌∷◌, length, take, Option, Some, Result, Err, refl, sym, subst, ap, ◌∙◌, arith, length-drop}
 use Rattle.std.proofs.lemmas.List.{length-take}
 use Rattle.std.proofs.lemmas.Bool.Decides.{nat_tests}
 use Rattle.arrayvec.specs.ArrayVec.{ArrayVec}
 use Rattle.usb_packet.specs.declared.Toggle.{Toggle}
 use Rattle.usb_packet.specs.declared.Toggle.TheVariants.{Zero, One}
 use Rattle.usb_port.specs.PortState.{PortState}
+use Rattle.usb_device.specs.declared.answer.Answer.{Answer}
 use Rattle.usb_device.specs.declared.answer.Answer.TheVariants as answer
 use Rattle.usb_device.specs.declared.transfer.Giver.TheVariants as by
 use Rattle.usb_device.specs.Bulk.{other, advanced}
@@ -34,7 +35,7 @@ use Rattle.usb_transaction.specs.Trail.{Trail, waits_with, waits_in, errors_runn
 use Rattle.usb_transaction.specs.Trans.{in_attempt}
 use Rattle.usb_transaction.specs.Why.{NoThreeDamaged, Listens, WhySourceIn}
 use Rattle.usb_transaction.proofs.Overs.{EachOf, none_ends, last_is}
-use Rattle.usb_transaction.proofs.OverSource.{law_is, given, source_kept}
+use Rattle.usb_transaction.proofs.OverSource.{law_is, given, IsQuiet, stall, none, halted_law, quiet, source_kept}
 use Rattle.usb_transaction.proofs.WhyCommon.{LostRun, run_none, run_short, lost_more, damaged_more, each_along, each_any}
 use Rattle.usb_transaction.proofs.WhyListens.{one_wait, listens_on, as_whole}
 
@@ -151,6 +152,15 @@ caught_law e most had max s i row t g q p m whole t2 t3 =
     (caught_by t had max s t2 t3 s.bulk_in.halted (length (rest_of s) == 0) (gave s by.Bulk max s.bulk_in.toggle (take most (rest_of s)) t2 t3) (some_left s p)
     (caught_gave e most had max t s i g q m t2 t3))
 
+-- A device whose endpoint is halted: it answers, and the host does not wait
+
+no_wait : (t : Toggle) (max : ℕ) (o : Option Answer) (n : ℕ) → IsQuiet o → waits_with (heard_as t (got max o)) n ≡ n
+no_wait t max o n stall = refl
+no_wait t max o n none = refl
+
+halted_heard : (e most max : ℕ) (s : State) → IsSource e most s → s.bulk_in.halted ≡ true → (row : List PortState) (t : Toggle) → heard_as t (got max (in_law s row e max whole whole whole).0) ≡ Lost → ⊥
+halted_heard e most max s i c row t h = cc (sym (ap (λ q. heard_as t (got max q.0)) (halted_law e most s i c row max whole whole)) ∙ h)
+
 -- The endpoint over attempts
 
 module _ (t : Target) (ep : ℕ) (awaited : Toggle) (old : World) (three : NoThreeDamaged old) where
@@ -166,12 +176,19 @@ module _ (t : Target) (ep : ℕ) (awaited : Toggle) (old : World) (three : NoThr
     behind : had ≡ advanced u.place most (length u.spec.source) → u.place < length u.spec.source → u.bulk_in.toggle ≡ other awaited
         → (m : ℕ) → LostRun old.damages m w.attempts → n ≤ m → Stands most had n w u
 
+  -- it is halted, and the host never waited
+  record Halts (outcomes : List Outcome) (w : World) (u : State) : Type 0 where
+    halted : u.bulk_in.halted ≡ true
+    waits : waits_in hear outcomes ≡ 0
+    runs : LostRun old.damages (errors_running hear outcomes) w.attempts
+
   record Runs (most : ℕ) (s : State) (outcomes : List Outcome) (w : World) (p : List ℕ) (u : State) : Type 0 where
     listens : Listens t p u
     source : IsSource ep most u
     bytes : u.spec ≡ s.spec
     runs : most ≤ t.max → LostRun old.damages (errors_running hear outcomes) w.attempts
     stands : (had : ℕ) → SourceAt most had awaited s → most ≤ t.max → had < length s.spec.source → EachOf (λ o. IsNoEnd (hear o)) outcomes → Stands most had (waits_in hear outcomes) w u
+    halts : s.bulk_in.halted ≡ true → Halts outcomes w u
 
   abbrev Counted : List Outcome → World → Relation
   Counted outcomes w j p s u = (most : ℕ) → Listens t p s → IsSource ep most s → Runs most s outcomes w p u
@@ -182,7 +199,14 @@ module _ (t : Target) (ep : ℕ) (awaited : Toggle) (old : World) (three : NoThr
 
   none_yet : (j : ℕ) (p : List ℕ) (s : State) → Counted [] old j p s s
   unfolding waits_in errors_running
-  none_yet j p s most l i = record { listens = l; source = i; bytes = refl; runs = λ m. run_none old.damages old.attempts; stands = λ had at m left ends. first_stands most had s at }
+  none_yet j p s most l i = record {
+    listens = l;
+    source = i;
+    bytes = refl;
+    runs = λ m. run_none old.damages old.attempts;
+    stands = λ had at m left ends. first_stands most had s at;
+    halts = λ c. record { halted = c; waits = refl; runs = run_none old.damages old.attempts };
+  }
 
   module _ (outcomes : List Outcome) (w : World) (trail : Trail a old outcomes w) (made : Made w (after (attempt a) w)) (p : List ℕ) (most : ℕ) (m : most ≤ t.max)
       (s u v : State) (row : List PortState) (x : Ways a w p u) (o : outcome_in a w ≡ got t.max (in_law u row ep t.max x.first x.second x.third).0)
@@ -223,6 +247,25 @@ module _ (t : Target) (ep : ℕ) (awaited : Toggle) (old : World) (three : NoThr
     next_stands (even g q few) = after_even g q few
     next_stands (behind g q b k ran few) = after_behind g q b k ran few
 
+  next_halts : (outcomes : List Outcome) (w : World) → Trail a old outcomes w → Made w (after (attempt a) w) → (most : ℕ) (p : List ℕ) (u v : State) (row : List PortState) (x : Ways a w p u)
+      → outcome_in a w ≡ got t.max (in_law u row ep t.max x.first x.second x.third).0 → v ≡ (in_law u row ep t.max x.first x.second x.third).1
+      → Listens t p u → IsSource ep most u → Halts outcomes w u → Halts (outcome_in a w ∷ outcomes) (after (attempt a) w) v
+  unfolding waits_in
+  next_halts outcomes w trail made most p u v row x o e listens i h =
+      record {
+        halted = ap (λ y. y.bulk_in.halted) (e ∙ (given ep most u i row t.max x.first x.second x.third).still h.halted) ∙ h.halted;
+        waits =
+            ap (λ y. waits_with (hear y) (waits_in hear outcomes)) o
+            ∙ no_wait awaited t.max (in_law u row ep t.max x.first x.second x.third).0 (waits_in hear outcomes) (quiet ep most u i h.halted row t.max x.first x.second x.third)
+            ∙ h.waits;
+        runs =
+            lost_more hear trail made
+            (λ n lost_it.
+            halted_heard ep most t.max u i h.halted row awaited
+            (sym (ap (λ y. hear (got t.max y.0)) (as_whole (in_law u row ep t.max) x.first x.second x.third (x.heard n listens.hears))) ∙ sym (ap hear o) ∙ lost_it))
+            h.runs;
+      }
+
   one_more : (outcomes : List Outcome) (w : World) → Trail a old outcomes w → Made w (after (attempt a) w) → (most j : ℕ) (p : List ℕ) (s u v : State) → Runs most s outcomes w p u → DidIn a w j p u v
       → Runs most s (outcome_in a w ∷ outcomes) (after (attempt a) w) p v
   unfolding waits_in EachOf
@@ -245,6 +288,7 @@ module _ (t : Target) (ep : ℕ) (awaited : Toggle) (old : World) (three : NoThr
         stands = λ had at m left ends.
             next_stands outcomes w trail made p most m s u v row x o e r.listens r.source had (subst (λ y. had < length y.source) (sym bytes) left) ends.0 (waits_in hear outcomes)
             (r.stands had at m left ends.1);
+        halts = λ c. next_halts outcomes w trail made most p u v row x o e r.listens r.source (r.halts c);
       }
 
   each_runs : IsSettled old.roots → {outcomes : List Outcome} {new : World} → Trail a old outcomes new → new.shared ≡ false → EachWas (Counted outcomes new) old new
@@ -273,5 +317,15 @@ source_why t ep awaited result old new settled three e single =
           let tells : Tells hear (Err Busy) e.last e.outcomes = subst (λ x. Tells hear x e.last e.outcomes) h e.tells in
           never_waits t ep awaited old three most had (waits_in hear (e.last ∷ e.outcomes)) new v
           ((q most l i).stands had at m left (last_is hear (Err Busy) e.last e.outcomes e.onward tells, none_ends hear e.outcomes e.onward)) tells;
+      halted = λ l most i c. (
+        (λ h.
+            let errors : errors_running hear (e.last ∷ e.outcomes) ≡ 3 = subst (λ x. Tells hear x e.last e.outcomes) h e.tells in
+            let short_run : errors_running hear (e.last ∷ e.outcomes) < 3 = run_short old (errors_running hear (e.last ∷ e.outcomes)) new.attempts three ((q most l i).halts c).runs in
+            absurd (omega (arith, errors, short_run))),
+        (λ h.
+            let waits : waits_in hear (e.last ∷ e.outcomes) ≡ 256 = subst (λ x. Tells hear x e.last e.outcomes) h e.tells in
+            let none_waited : waits_in hear (e.last ∷ e.outcomes) ≡ 0 = ((q most l i).halts c).waits in
+            absurd (omega (arith, waits, none_waited))),
+      );
     })
     old new (each_runs t ep awaited old three settled e.trail single)

@@ -35,12 +35,12 @@ use Rattle.usb_transaction.proofs.WhyControl.{did_back, refuses_in}
 
 -- Places that are reachable after an attempt were so when it was made
 
-made_back : (t : Target) (w : World) → IsMade (in_attempt t 0) w → (j : ℕ) (p : List ℕ) → reach_at (after (attempt (in_attempt t 0)) w).roots j p ≡ true → reach_at (ready w).roots j p ≡ true
+pub made_back : (t : Target) (w : World) → IsMade (in_attempt t 0) w → (j : ℕ) (p : List ℕ) → reach_at (after (attempt (in_attempt t 0)) w).roots j p ≡ true → reach_at (ready w).roots j p ≡ true
 made_back t w m j p on =
     made_reach (in_attempt t 0) (ready w) (suc j ∷ p) (data_calm (in_attempt t 0) (damage_in (ready w)) (ready w).roots (ready_settled w m.settled) refl j p)
     (ap (λ x. reach_at x.roots j p) (sym (made_is (in_attempt t 0) w m)) ∙ on)
 
-due_back : (w : World) (j : ℕ) (p : List ℕ) → reach_at (ready w).roots j p ≡ true → (reach_at w.roots j p ≡ true) × (state_at (ready w).roots j p ≡ state_at w.roots j p)
+pub due_back : (w : World) (j : ℕ) (p : List ℕ) → reach_at (ready w).roots j p ≡ true → (reach_at w.roots j p ≡ true) × (state_at (ready w).roots j p ≡ state_at w.roots j p)
 unfolding ready
 due_back w j p on = ((due_reach w.left w (suc j ∷ p) refl on).0, due_state w.left w (suc j ∷ p) on)
 

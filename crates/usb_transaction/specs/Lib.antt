@@ -4,3 +4,6 @@ pub mod Trail
 pub mod Meaning
 pub mod Over
 pub mod Why
+pub mod Losses
+pub mod Answerer
+pub mod Spared

@@ -1,9 +1,10 @@
 -- One device over a transaction: what it was before, seen from where it is reachable after it.
-use Rattle.std.specs.Prelude.{◌≡◌, ◌⊎◌, ◌==◌, ◌≤◌, ℕ, List, length, Bool, true, false, Option, None, Some, Result, Ok, Err}
+use Rattle.std.specs.Prelude.{◌≡◌, ◌≢◌, ◌⊎◌, ◌==◌, ◌≤◌, ℕ, List, length, Bool, true, false, Option, None, Some, Result, Ok, Err, ⊤}
 use Rattle.usb_packet.specs.declared.Toggle.{Toggle}
 use Rattle.usb_packet.specs.declared.Toggle.TheVariants.{One}
 use Rattle.usb_port.specs.PortState.{PortState}
 use Rattle.usb_request.specs.Layout.{setup_of}
+use Rattle.usb_device.specs.Spec.{Spec}
 use Rattle.usb_device.specs.Bulk.{tells_changes, change_bits}
 use Rattle.usb_device.specs.Rows.{State, accepted}
 use Rattle.usb_device.specs.Transfer.{ending, reading, refused as stage_refused, toggle_at}
@@ -28,6 +29,22 @@ packet_in (Err fault) = None
 abbrev pub is_at : State → Target → Bool
 is_at s t = address_of s == t.addr
 
+-- a device of this description may answer endpoint 0 so: data and STALL come of none that is silent or always busy, and a wait of none that is silent
+abbrev pub CanAnswer : {A : Type 0} → Spec → Result A TransFault → Type 0
+CanAnswer spec (Ok x) = (spec.silent ≡ false) × (spec.busy ≡ false)
+CanAnswer spec (Err Stalled) = (spec.silent ≡ false) × (spec.busy ≡ false)
+CanAnswer spec (Err Busy) = spec.silent ≡ false
+CanAnswer spec (Err NoAnswer) = ⊤
+CanAnswer spec (Err (Bus fault)) = ⊤
+
+-- setup data are acknowledged, or nothing is heard
+abbrev pub CanAccept : {A : Type 0} → Spec → Result A TransFault → Type 0
+CanAccept spec (Ok x) = spec.silent ≡ false
+CanAccept spec (Err Stalled) = ⊥
+CanAccept spec (Err Busy) = ⊥
+CanAccept spec (Err NoAnswer) = ⊤
+CanAccept spec (Err (Bus fault)) = ⊤
+
 -- IN of endpoint 0, by a host that awaits a toggle (8.5.3)
 pub record ControlIn (t : Target) (awaited : Toggle) (result : Result (List ℕ) TransFault) (j : ℕ) (p : List ℕ) (s v : State) : Type 0 where
   pub others : is_at s t ≡ false → v ≡ s
@@ -36,6 +53,9 @@ pub record ControlIn (t : Target) (awaited : Toggle) (result : Result (List ℕ)
   pub status : is_at s t ≡ true → awaited ≡ One → (a : Option ℕ) → s.stage ≡ ending a → StatusOn a s (packet_in result) v
   pub refused : s.stage ≡ stage_refused → (v.stage ≡ stage_refused) × (is_at s t ≡ true → (bytes : List ℕ) → result ≡ Ok bytes → ⊥)
   pub failed : awaited ≡ One → (fault : TransFault) → result ≡ Err fault → v.registers ≡ s.registers
+  pub stalled : is_at s t ≡ true → result ≡ Err Stalled → s.stage ≡ stage_refused
+  pub could : is_at s t ≡ true → CanAnswer s.spec result
+  pub naks : v.naks ≤ s.naks
 
 -- in the data stage or the status stage of a control read, or behind it
 pub data IsInRead (s : State) : Type 0 where
@@ -48,6 +68,9 @@ pub record ReadStatus (t : Target) (result : Result (List ℕ) TransFault) (j : 
   pub frame : OnlyStage s v
   pub kept : (v.stage ≡ s.stage) ⊎ IsRead v
   pub done : is_at s t ≡ true → (bytes : List ℕ) → result ≡ Ok bytes → IsRead v × IsInRead s
+  pub stalled : is_at s t ≡ true → IsInRead s → result ≢ Err Stalled
+  pub could : is_at s t ≡ true → CanAnswer s.spec result
+  pub naks : v.naks ≤ s.naks
 
 -- IN of a bulk endpoint (5.8)
 pub record SourceIn (t : Target) (ep : ℕ) (awaited : Toggle) (result : Result (List ℕ) TransFault) (j : ℕ) (p : List ℕ) (s v : State) : Type 0 where
@@ -55,6 +78,13 @@ pub record SourceIn (t : Target) (ep : ℕ) (awaited : Toggle) (result : Result 
   pub frame : (most : ℕ) → IsSource ep most s → OnlySource s v
   pub source : is_at s t ≡ true → (most got : ℕ) → IsSource ep most s → 1 ≤ most → SourceAt most got awaited s → SourceOn most got awaited s (packet_in result) v
   pub stalled : is_at s t ≡ true → (most : ℕ) → IsSource ep most s → result ≡ Err Stalled → (s.bulk_in.halted ≡ true) × (v ≡ s)
+  pub halted : is_at s t ≡ true → (most : ℕ) → IsSource ep most s → s.bulk_in.halted ≡ true → (v ≡ s) × ((bytes : List ℕ) → result ≡ Ok bytes → ⊥)
+
+-- between two of its attempts both ends are as far as they were
+pub record SourceBetween (t : Target) (ep : ℕ) (awaited : Toggle) (j : ℕ) (p : List ℕ) (s v : State) : Type 0 where
+  pub others : is_at s t ≡ false → v ≡ s
+  pub frame : (most : ℕ) → IsSource ep most s → OnlySource s v
+  pub source : is_at s t ≡ true → (most got : ℕ) → IsSource ep most s → 1 ≤ most → SourceAt most got awaited s → SourceAt most got awaited v
 
 -- what an answer says of a packet that was sent to a bulk endpoint
 abbrev pub SinkEnds : List ℕ → List ℕ → Toggle → Result (List ℕ) TransFault → State → Type 0
@@ -70,6 +100,12 @@ pub record SinkOut (t : Target) (ep : ℕ) (toggle : Toggle) (bytes : List ℕ) 
   pub frame : (most : ℕ) → IsSink ep most s → OnlySink s v
   pub sink : is_at s t ≡ true → (most : ℕ) (before : List ℕ) → IsSink ep most s → length bytes ≤ most → SinkAt before bytes toggle s → SinkEnds before bytes toggle result v
   pub halted : is_at s t ≡ true → (most : ℕ) → IsSink ep most s → s.bulk_out.halted ≡ true → (v ≡ s) × ((done : List ℕ) → result ≡ Ok done → ⊥)
+
+-- between two of its attempts the packet joined what the device took, or did not yet
+pub record SinkBetween (t : Target) (ep : ℕ) (toggle : Toggle) (bytes : List ℕ) (j : ℕ) (p : List ℕ) (s v : State) : Type 0 where
+  pub others : is_at s t ≡ false → v ≡ s
+  pub frame : (most : ℕ) → IsSink ep most s → OnlySink s v
+  pub sink : is_at s t ≡ true → (most : ℕ) (before : List ℕ) → IsSink ep most s → length bytes ≤ most → SinkAt before bytes toggle s → SinkAt before bytes toggle v
 
 -- the hub's ports told these bits when one of the attempts of a poll was made
 pub record ToldIn (a : Attempt) (old : World) (j : ℕ) (p : List ℕ) (bits : ℕ) : Type 0 where
@@ -101,8 +137,9 @@ pub record AcceptedSince (bytes : List ℕ) (s v : State) : Type 0 where
   pub row : List PortState
   pub is : v ≡ accepted s row (setup_of bytes)
 
--- SETUP of a request that resets no port (8.5.3)
+-- SETUP (8.5.3)
 pub record SetupDone (t : Target) (bytes : List ℕ) (result : Result (List ℕ) TransFault) (j : ℕ) (p : List ℕ) (s v : State) : Type 0 where
   pub others : is_at s t ≡ false → v ≡ s
   pub kept : (v ≡ s) ⊎ AcceptedSince bytes s v
   pub done : is_at s t ≡ true → (got : List ℕ) → result ≡ Ok got → AcceptedSince bytes s v
+  pub could : is_at s t ≡ true → CanAccept s.spec result

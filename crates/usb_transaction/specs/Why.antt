@@ -1,5 +1,5 @@
 -- Why a transaction fails, where no three attempts running are damaged.
-use Rattle.std.specs.Prelude.{◌≡◌, ◌≢◌, ℕ, ◌+◌, ◌≤◌, ◌<◌, List, length, true, false, Option, None, is_some, Result, Ok, Err}
+use Rattle.std.specs.Prelude.{◌≡◌, ◌≢◌, ℕ, ◌+◌, ◌≤◌, ◌<◌, List, length, true, false, Option, None, Some, is_some, Result, Err}
 use Rattle.usb_packet.specs.declared.Toggle.{Toggle}
 use Rattle.usb_packet.specs.declared.Toggle.TheVariants.{One}
 use Rattle.usb_device.specs.Bulk.{tells_changes}
@@ -12,7 +12,7 @@ use Rattle.usb_bus.specs.OneHolder.{hears_attempt}
 use Rattle.usb_bus.specs.World.{World}
 use Rattle.usb_transaction.specs.declared.target.Target.{Target}
 use Rattle.usb_transaction.specs.declared.fault.TransFault.{TransFault}
-use Rattle.usb_transaction.specs.declared.fault.TransFault.TheVariants.{Stalled, Busy, NoAnswer}
+use Rattle.usb_transaction.specs.declared.fault.TransFault.TheVariants.{Busy, NoAnswer}
 use Rattle.usb_transaction.specs.Over.{is_at, IsInRead}
 use Rattle.usb_transaction.specs.Trans.{in_attempt}
 
@@ -26,31 +26,36 @@ pub record Listens (t : Target) (p : List ℕ) (s : State) : Type 0 where
   pub loud : s.spec.silent ≡ false
   pub hears : hears_attempt (in_attempt t 0) (deep_at false p) s ≡ true
 
+-- each packet of the answer is as short as the host wants packets
+abbrev pub Fits : Target → ℕ → ℕ → List ℕ → Type 0
+Fits t most wanted answer = (k : ℕ) (bytes : List ℕ) → packet_at most wanted answer k ≡ Some bytes → length bytes ≤ t.max
+
 -- what the device has for a host that awaits this toggle of endpoint 0: the next packet of a read, a status stage, or a refusal
 pub data HasNext (t : Target) (awaited : Toggle) (s : State) : Type 0 where
   data_stage : (answer : List ℕ) (wanted n : ℕ) → awaited ≡ toggle_at n → ReadingAt answer wanted n s → is_some (packet_at (max_packet s.spec) wanted answer n) ≡ true
-      → max_packet s.spec ≤ t.max → HasNext t awaited s
+      → Fits t (max_packet s.spec) wanted answer → HasNext t awaited s
   status : (a : Option ℕ) → s.stage ≡ ending a → awaited ≡ One → HasNext t awaited s
   refusal : s.stage ≡ refused → HasNext t awaited s
 
--- a device that has it answers, and only a busy one goes on waiting; a STALL is a refusal
+-- setup data: a device that hears them answers
+pub record WhySetup (t : Target) (result : Result (List ℕ) TransFault) (j : ℕ) (p : List ℕ) (s v : State) : Type 0 where
+  pub answered : Listens t p s → result ≢ Err NoAnswer
+
+-- a device that has it answers, and only a busy one goes on waiting
 pub record WhyControlIn (t : Target) (awaited : Toggle) (result : Result (List ℕ) TransFault) (j : ℕ) (p : List ℕ) (s v : State) : Type 0 where
   pub answered : Listens t p s → HasNext t awaited s → result ≢ Err NoAnswer
   pub waited : Listens t p s → HasNext t awaited s → s.spec.busy ≡ false → s.naks ≤ 200 → result ≢ Err Busy
-  pub refused_it : is_at s t ≡ true → result ≡ Err Stalled → s.stage ≡ refused
-  pub moved : is_at s t ≡ true → (bytes : List ℕ) → result ≡ Ok bytes → (s.spec.silent ≡ false) × (s.spec.busy ≡ false)
 
 -- the status stage of a control read
 pub record WhyReadStatus (t : Target) (result : Result (List ℕ) TransFault) (j : ℕ) (p : List ℕ) (s v : State) : Type 0 where
   pub answered : Listens t p s → IsInRead s → result ≢ Err NoAnswer
   pub waited : Listens t p s → IsInRead s → s.spec.busy ≡ false → s.naks ≤ 200 → result ≢ Err Busy
-  pub taken : IsInRead s → is_at s t ≡ true → result ≢ Err Stalled
-  pub moved : is_at s t ≡ true → (bytes : List ℕ) → result ≡ Ok bytes → (s.spec.silent ≡ false) × (s.spec.busy ≡ false)
 
--- bulk IN: an endpoint answers; where it has bytes left it does not keep the host waiting
+-- bulk IN: an endpoint answers; where it has bytes left, or is halted, it does not keep the host waiting
 pub record WhySourceIn (t : Target) (ep : ℕ) (awaited : Toggle) (result : Result (List ℕ) TransFault) (j : ℕ) (p : List ℕ) (s v : State) : Type 0 where
   pub answered : Listens t p s → (most got : ℕ) → IsSource ep most s → SourceAt most got awaited s → most ≤ t.max → result ≢ Err NoAnswer
   pub waited : Listens t p s → (most got : ℕ) → IsSource ep most s → 1 ≤ most → SourceAt most got awaited s → most ≤ t.max → got < length s.spec.source → result ≢ Err Busy
+  pub halted : Listens t p s → (most : ℕ) → IsSource ep most s → s.bulk_in.halted ≡ true → (result ≢ Err NoAnswer) × (result ≢ Err Busy)
 
 -- bulk OUT: an endpoint answers and never waits
 pub record WhySinkOut (t : Target) (ep : ℕ) (toggle : Toggle) (bytes : List ℕ) (result : Result (List ℕ) TransFault) (j : ℕ) (p : List ℕ) (s v : State) : Type 0 where

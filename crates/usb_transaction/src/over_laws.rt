@@ -3,20 +3,21 @@
 //! They hold where no address was ever held twice, which the last world tells, and where the bus did not give up. Each speaks of
 //! every device that is reachable in the end: it was so before the transaction. Each call does nothing; what it ensures is for
 //! proofs to cite.
-ghost use Rattle.std.specs.Prelude.{◌≡◌, ◌≤◌, ℕ, List, [], Some, None, Result, Ok, Err, false, true, length};
+ghost use Rattle.std.specs.Prelude.{◌≡◌, ◌≤◌, ℕ, List, [], Some, None, Result, Ok, Err, false, length};
 ghost use Rattle.usb_packet.specs.declared.Toggle.{Toggle};
 ghost use Rattle.usb_packet.specs.declared.Toggle.TheVariants.{One};
 ghost use Rattle.usb_request.specs.Layout.{setup_of};
+ghost use Rattle.usb_bus.specs.declared.types.Outcome.{Outcome};
 ghost use Rattle.usb_bus.specs.Passes.{IsSettled};
 ghost use Rattle.usb_bus.specs.World.{World};
-ghost use Rattle.usb_bus.specs.Courses.{is_harmless};
 ghost use Rattle.usb_bus.specs.Devices.{EachWas};
 ghost use Rattle.usb_transaction.specs.declared.target.Target.{Target as ATarget};
 ghost use Rattle.usb_transaction.specs.declared.fault.TransFault.{TransFault as AFault};
 ghost use Rattle.usb_transaction.specs.Heard.{heard_as, sent_as, set_up_as};
-ghost use Rattle.usb_transaction.specs.Trail.{Ended, Waiting, PollEnded};
+ghost use Rattle.usb_transaction.specs.Trail.{Trail, GoesOn, Ended, Waiting, PollEnded};
 ghost use Rattle.usb_transaction.specs.Trans.{setup_attempt, in_attempt, out_attempt};
-ghost use Rattle.usb_transaction.specs.Over.{ControlIn, ReadStatus, SourceIn, SinkOut, ChangesIn, SetupDone};
+ghost use Rattle.usb_transaction.specs.Spared.{EachSpared};
+ghost use Rattle.usb_transaction.specs.Over.{ControlIn, ReadStatus, SourceIn, SourceBetween, SinkOut, SinkBetween, ChangesIn, SetupDone};
 
 /// A packet of a control read comes once, in order; a status stage ends once (8.5.3, 9.4.6). Where none came, both ends are as far
 /// as they were.
@@ -43,6 +44,14 @@ pub fn what_bulk_out_leaves()
         → Ended sent_as (out_attempt t ep toggle bytes) old result new → new.shared ≡ false → EachWas (SinkOut t ep toggle bytes result) old new }
 {}
 
+/// Between any two attempts of a bulk transaction the two ends are level or one is a packet ahead (5.8, 8.6).
+pub fn what_is_so_between_bulk_attempts()
+    ensures into { (t : ATarget) (ep : ℕ) (awaited : Toggle) (outcomes : List Outcome) (old now : World) → IsSettled old.roots
+        → Trail (in_attempt t ep) old outcomes now → GoesOn (heard_as awaited) outcomes → now.shared ≡ false → EachWas (SourceBetween t ep awaited) old now }
+    ensures out { (t : ATarget) (ep : ℕ) (toggle : Toggle) (bytes : List ℕ) (outcomes : List Outcome) (old now : World) → IsSettled old.roots
+        → Trail (out_attempt t ep toggle bytes) old outcomes now → GoesOn sent_as outcomes → now.shared ≡ false → EachWas (SinkBetween t ep toggle bytes) old now }
+{}
+
 /// A byte of a poll is what the hub's ports told when one of its attempts was made, and where there is none, no port told of a
 /// change then (11.12.3).
 pub fn what_a_poll_leaves()
@@ -54,8 +63,9 @@ pub fn what_a_poll_leaves()
         → PollEnded toggle (in_attempt t 1) old (Err fault) new → new.shared ≡ false → EachWas (ChangesIn t toggle old (Err fault)) old new }
 {}
 
-/// Setup data that were acknowledged were accepted; others were accepted or not, and nothing else came of them (8.5.3).
+/// Setup data that were acknowledged were accepted; others were accepted or not, and nothing else came of them (8.5.3). Of a device that
+/// they may have reset nothing is said.
 pub fn what_setup_leaves()
-    ensures { (t : ATarget) (bytes : List ℕ) (result : Result (List ℕ) AFault) (old new : World) → length bytes ≡ 8 → is_harmless (setup_of bytes) ≡ true → IsSettled old.roots
-        → Ended set_up_as (setup_attempt t bytes) old result new → new.shared ≡ false → EachWas (SetupDone t bytes result) old new }
+    ensures { (t : ATarget) (bytes : List ℕ) (result : Result (List ℕ) AFault) (old new : World) → length bytes ≡ 8 → IsSettled old.roots
+        → Ended set_up_as (setup_attempt t bytes) old result new → new.shared ≡ false → EachSpared t (setup_of bytes) (SetupDone t bytes result) old new }
 {}

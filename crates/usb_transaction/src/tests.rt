@@ -374,6 +374,10 @@ fn laws_are_called() {
     what_bulk_in_leaves();
     what_bulk_out_leaves();
     what_a_poll_leaves();
+    what_is_so_between_bulk_attempts();
+    who_answers();
+    address_losses_of_a_transaction();
+    why_setup_fails();
     why_control_in_fails();
     why_read_status_fails();
     why_bulk_in_fails();

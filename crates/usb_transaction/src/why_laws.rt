@@ -1,18 +1,26 @@
 //! Laws of why a transaction fails, where no three attempts running are damaged and the device stays reachable, for those above.
 //!
 //! Each call does nothing; what it ensures is for proofs to cite.
-ghost use Rattle.std.specs.Prelude.{◌≡◌, ◌≤◌, ℕ, List, [], Result, Err, false};
+ghost use Rattle.std.specs.Prelude.{◌≡◌, ◌≤◌, ℕ, List, [], Result, Err, false, length};
 ghost use Rattle.usb_packet.specs.declared.Toggle.{Toggle};
 ghost use Rattle.usb_packet.specs.declared.Toggle.TheVariants.{One};
+ghost use Rattle.usb_request.specs.Layout.{setup_of};
 ghost use Rattle.usb_bus.specs.Passes.{IsSettled};
 ghost use Rattle.usb_bus.specs.World.{World};
 ghost use Rattle.usb_bus.specs.Devices.{EachWas};
 ghost use Rattle.usb_transaction.specs.declared.target.Target.{Target as ATarget};
 ghost use Rattle.usb_transaction.specs.declared.fault.TransFault.{TransFault as AFault};
-ghost use Rattle.usb_transaction.specs.Heard.{heard_as, sent_as};
+ghost use Rattle.usb_transaction.specs.Heard.{heard_as, sent_as, set_up_as};
 ghost use Rattle.usb_transaction.specs.Trail.{Ended, PollEnded};
-ghost use Rattle.usb_transaction.specs.Trans.{in_attempt, out_attempt};
-ghost use Rattle.usb_transaction.specs.Why.{NoThreeDamaged, WhyControlIn, WhyReadStatus, WhySourceIn, WhySinkOut, WhyPoll};
+ghost use Rattle.usb_transaction.specs.Trans.{setup_attempt, in_attempt, out_attempt};
+ghost use Rattle.usb_transaction.specs.Spared.{EachSpared};
+ghost use Rattle.usb_transaction.specs.Why.{NoThreeDamaged, WhySetup, WhyControlIn, WhyReadStatus, WhySourceIn, WhySinkOut, WhyPoll};
+
+/// SETUP (8.5.3).
+pub fn why_setup_fails()
+    ensures { (t : ATarget) (bytes : List ℕ) (result : Result (List ℕ) AFault) (old new : World) → length bytes ≡ 8 → IsSettled old.roots → NoThreeDamaged old
+        → Ended set_up_as (setup_attempt t bytes) old result new → new.shared ≡ false → EachSpared t (setup_of bytes) (WhySetup t result) old new }
+{}
 
 /// IN of endpoint 0 (8.5.3).
 pub fn why_control_in_fails()

@@ -1,4 +1,4 @@
-use Rattle.usb_transaction.proofs.ControlOver.{control_in_leaves}
+use Rattle.usb_transaction.proofs.ControlLeaves.{control_in_leaves}
 use Rattle.usb_transaction.proofs.over_laws.what_control_in_leaves.Goals as goal
 
 pub returns : goal.returns

@@ -1,4 +1,4 @@
-use Rattle.usb_transaction.proofs.ReadOver.{read_status_leaves}
+use Rattle.usb_transaction.proofs.ReadLeaves.{read_status_leaves}
 use Rattle.usb_transaction.proofs.over_laws.what_read_status_leaves.Goals as goal
 
 pub returns : goal.returns

@@ -1,0 +1,182 @@
+-- Who answered a transfer: a device that had the target's address all along, and is still reachable.
+use Rattle.std.proofs.Common.{◌≡◌, ◌≢◌, ◌⊎◌, inl, inr, refl, sym, ap, ◌∙◌, false, true}
+use Rattle.std.specs.Prelude.{ℕ, List, [], Option, None, Some, Ok}
+use Rattle.std.specs.Global.{Vec}
+use Rattle.arrayvec.specs.ArrayVec.{ArrayVec}
+use Rattle.usb_packet.specs.declared.Toggle.{Toggle}
+use Rattle.usb_packet.specs.declared.Toggle.TheVariants.{One}
+use Rattle.usb_request.specs.declared.setup.Setup.{Setup}
+use Rattle.usb_request.specs.Layout.{IsToHost, bytes_of, setup_of}
+use Rattle.usb_device.specs.Rows.{State}
+use Rattle.usb_bus.specs.declared.types.Attempt.{Attempt}
+use Rattle.usb_bus.specs.Courses.{is_harmless}
+use Rattle.usb_bus.specs.Live.{address_of}
+use Rattle.usb_bus.specs.Passes.{IsSettled}
+use Rattle.usb_bus.specs.World.{World}
+use Rattle.usb_bus.specs.Devices.{Relation, Was, EachWas}
+use Rattle.usb_bus.proofs.Booleans.{decided}
+use Rattle.usb_bus.proofs.Devices.{each_none, each_joined, each_wider}
+use Rattle.usb_bus.proofs.OneHolderMore.{equal_same}
+use Rattle.usb_transaction.specs.declared.target.Target.{Target}
+use Rattle.usb_transaction.specs.Answerer.{Answerer}
+use Rattle.usb_transaction.specs.Heard.{heard_as, sent_as}
+use Rattle.usb_transaction.specs.Over.{is_at, ControlIn, SourceIn, SinkOut, SetupDone}
+use Rattle.usb_transaction.specs.Spared.{IsSpared, EachSpared}
+use Rattle.usb_transaction.specs.Trail.{Ended}
+use Rattle.usb_transaction.specs.Trans.{in_attempt, out_attempt}
+use Rattle.usb_transaction.proofs.Answering.{read_answered, write_answered, wait_answered, poll_answered}
+use Rattle.usb_transaction.proofs.ControlLeaves.{control_in_leaves}
+use Rattle.usb_transaction.proofs.OverSink.{sink_over}
+use Rattle.usb_transaction.proofs.OverSource.{source_over}
+use Rattle.usb_transaction.proofs.Overs.{other_twice, mine}
+use Rattle.usb_transaction.proofs.Spared.{spared_wider}
+use Rattle.usb_pipe.specs.declared.condition.Condition.TheVariants.{Broken}
+use Rattle.usb_pipe.specs.Bulk.{Bulk, Sends, Receives}
+use Rattle.usb_pipe.specs.End.{packet_target}
+use Rattle.usb_pipe.specs.Interrupt.{Interrupt, Polls}
+use Rattle.usb_pipe.specs.Moves.{Gave, Came}
+use Rattle.usb_pipe.specs.Moves as moves
+use Rattle.usb_pipe.specs.Stages.{SetUp, Goes, Reads, Writes}
+use Rattle.usb_pipe.specs.Stages as stages
+use Rattle.usb_pipe.specs.Toggles.{flips}
+use Rattle.usb_pipe.proofs.WholeSteps.{ended_settled, ended_unshared, request_leaves}
+use Rattle.usb_pipe.proofs.WholeReads.{read_request_leaves}
+
+-- Transactions before the last one
+
+-- a device that has not the target's address is unchanged
+abbrev Untouched : Target → Relation
+Untouched t j p s v = is_at s t ≡ false → v ≡ s
+
+-- so transactions leave each device
+record Passed (t : Target) (old new : World) : Type 0 where
+  settled : IsSettled old.roots → IsSettled new.roots
+  unshared : new.shared ≡ false → old.shared ≡ false
+  others : IsSettled old.roots → new.shared ≡ false → EachWas (Untouched t) old new
+
+passed_none : (t : Target) (w : World) → Passed t w w
+passed_none t w = record { settled = λ h. h; unshared = λ h. h; others = λ h single. each_none (Untouched t) (λ j p s off. refl) w }
+
+passed_then : {t : Target} {old mid new : World} → Passed t old mid → Passed t mid new → Passed t old new
+passed_then {t} {old} {mid} {new} x y = record {
+  settled = λ h. y.settled (x.settled h);
+  unshared = λ h. x.unshared (y.unshared h);
+  others = λ h single.
+      each_joined (Untouched t) (Untouched t) (Untouched t) (λ j p s u v f g. other_twice t s u v f g) old mid new (x.others h (y.unshared single)) (y.others (x.settled h) single);
+}
+
+-- a transaction that leaves them so
+passed_one : {t : Target} {hear : _} {a : Attempt} {old new : World} {bytes : List ℕ} (R : Relation) → ((j : ℕ) (p : List ℕ) (s v : State) → R j p s v → is_at s t ≡ false → v ≡ s)
+    → (IsSettled old.roots → new.shared ≡ false → EachWas R old new) → Ended hear a old (Ok bytes) new → Passed t old new
+passed_one {t} {old} {new} R others each e = record {
+  settled = λ h. ended_settled e h;
+  unshared = λ h. ended_unshared e h;
+  others = λ h single. each_wider R (Untouched t) others old new (each h single);
+}
+
+set_up_passed : (t : Target) (request : Setup) {old new : World} → IsToHost request → setup_of (bytes_of request) ≡ request → SetUp t request old (Ok []) new → Passed t old new
+set_up_passed t request {old} {new} host same e =
+    passed_one (SetupDone t (bytes_of request) (Ok [])) (λ j p s v x. x.others) (λ h single. read_request_leaves t request (Ok []) old new host same h e single) e
+
+asked_passed : (t : Target) (awaited : Toggle) (bytes : List ℕ) {old new : World} → Ended (heard_as awaited) (in_attempt t 0) old (Ok bytes) new → Passed t old new
+asked_passed t awaited bytes {old} {new} e = passed_one (ControlIn t awaited (Ok bytes)) (λ j p s v x. x.others) (λ h single. control_in_leaves t awaited (Ok bytes) old new h e single) e
+
+fetched_passed : (t : Target) (ep : ℕ) (awaited : Toggle) (bytes : List ℕ) {old new : World} → Ended (heard_as awaited) (in_attempt t ep) old (Ok bytes) new → Passed t old new
+fetched_passed t ep awaited bytes {old} {new} e = passed_one (SourceIn t ep awaited (Ok bytes)) (λ j p s v x. x.others) (λ h single. source_over t ep awaited (Ok bytes) old new h e single) e
+
+put_passed : (t : Target) (ep : ℕ) (toggle : Toggle) (bytes : List ℕ) {old new : World} → Ended sent_as (out_attempt t ep toggle bytes) old (Ok []) new → Passed t old new
+put_passed t ep toggle bytes {old} {new} e = passed_one (SinkOut t ep toggle bytes (Ok [])) (λ j p s v x. x.others) (λ h single. sink_over t ep toggle bytes (Ok []) old new h e single) e
+
+-- the packets of a transfer
+
+goes_passed : (t : Target) {wanted : ℕ} {old : World} {n : ℕ} {got : List ℕ} {new : World} → Goes t wanted old n got new → Passed t old new
+goes_passed t {old} stages.start = passed_none t old
+goes_passed t (stages.packet {n} bytes g x l) = passed_then (goes_passed t g) (asked_passed t (flips n One) bytes x)
+
+gave_passed : (t : Target) (ep : ℕ) (first : Toggle) {old : World} {n : ℕ} {sent : List ℕ} {new : World} → Gave t ep first old n sent new → Passed t old new
+gave_passed t ep first {old} moves.start = passed_none t old
+gave_passed t ep first (moves.packet {n} bytes g full some fits puts) = passed_then (gave_passed t ep first g) (put_passed t ep (flips n first) bytes puts)
+
+came_passed : (t : Target) (ep : ℕ) (first : Toggle) {old : World} {n : ℕ} {got : List ℕ} {new : World} → Came t ep first old n got new → Passed t old new
+came_passed t ep first {old} moves.start = passed_none t old
+came_passed t ep first (moves.packet {n} bytes c fetches full) = passed_then (came_passed t ep first c) (fetched_passed t ep (flips n first) bytes fetches)
+
+-- The device that answered the last one
+
+-- what has the address now had it before
+had_address : (t : Target) (s v : State) → (is_at s t ≡ false → v ≡ s) → is_at v t ≡ true → is_at s t ≡ true
+had_address t s v f at = pick (decided (is_at s t))
+  where
+    pick : (is_at s t ≡ true) ⊎ (is_at s t ≡ false) → is_at s t ≡ true
+    pick (inl on) = on
+    pick (inr off) = mine t v at (ap (λ d. is_at d t) (f off) ∙ off)
+
+had_it_before : {t : Target} {old mid new : World} (a : Answerer t mid new) → Was (Untouched t) old a.j a.p a.before → Answerer t old new
+had_it_before {t} a was =
+    record { j = a.j; p = a.p; now = a.now; on = a.on; stands = a.stands; before = was.before; was_on = was.on; stood = was.stands; at = had_address t was.before a.before was.so a.at }
+
+answered : {t : Target} {old mid new : World} → Passed t old mid → IsSettled old.roots → mid.shared ≡ false → (IsSettled mid.roots → Answerer t mid new) → Answerer t old new
+answered {t} {old} {mid} {new} x settled single last =
+    let a : Answerer t mid new = last (x.settled settled) in
+    had_it_before a (x.others settled single a.j a.p a.before a.was_on a.stood)
+
+-- it is the device of the pipe
+of_device : (t : Target) (max : ℕ) {old new : World} → Answerer (packet_target t max) old new → Answerer t old new
+of_device t max a = record { j = a.j; p = a.p; now = a.now; on = a.on; stands = a.stands; before = a.before; was_on = a.was_on; stood = a.stood; at = a.at }
+
+-- Control transfers
+
+pub who_reads : (t : Target) (request : Setup) (bytes : Vec ℕ) (old new : World) → IsToHost request → setup_of (bytes_of request) ≡ request
+    → IsSettled old.roots → Reads t request old (Ok bytes) new → new.shared ≡ false → Answerer t old new
+who_reads t request bytes old new host same settled x single =
+    let d = x.data_stage in
+    let set_up : Passed t old x.first = set_up_passed t request host same x.set_up in
+    let data_stage : Passed t x.first x.second = passed_then (goes_passed t d.before) (asked_passed t (flips d.packets One) d.last d.came) in
+    answered (passed_then set_up data_stage) settled (ended_unshared x.status single) (λ h. write_answered t 0 One [] [] x.second new h x.status single)
+
+-- a device at an address that is not 0 was not reset
+spared_at : (t : Target) (request : Setup) (s : State) → (is_harmless request ≡ false → t.addr ≢ 0) → is_at s t ≡ true → IsSpared t request s
+spared_at t request s addressed at h = (addressed h, λ e. addressed h (sym (equal_same (address_of s) t.addr at) ∙ e))
+
+pub who_writes : (t : Target) (request : Setup) (u : Unit {0}) (old new : World) → setup_of (bytes_of request) ≡ request → (is_harmless request ≡ false → t.addr ≢ 0)
+    → IsSettled old.roots → Writes t request old (Ok u) new → new.shared ≡ false → Answerer t old new
+who_writes t request u old new same addressed settled x single =
+    let a : Answerer t x.mid new = read_answered t 0 One x.given x.mid new (ended_settled x.set_up settled) x.status single in
+    let others : EachSpared t request (Untouched t) old x.mid =
+    spared_wider t request (SetupDone t (bytes_of request) (Ok [])) (Untouched t) (λ j p s v y. y.others) old x.mid
+    (request_leaves t request (Ok []) old x.mid same settled x.set_up (ended_unshared x.status single)) in
+    had_it_before a (others a.j a.p a.before a.was_on a.stood (spared_at t request a.before addressed a.at))
+
+-- Bulk transfers
+
+-- where bytes went there is a last packet
+gone_answered : (t : Target) (ep : ℕ) (first : Toggle) {old : World} {n : ℕ} {sent : List ℕ} {new : World} → IsSettled old.roots → Gave t ep first old n sent new → sent ≢ [] → new.shared ≡ false
+    → Answerer t old new
+gone_answered t ep first settled moves.start some single = absurd (some refl)
+gone_answered t ep first {new} settled (moves.packet {n} {mid} bytes g full more fits puts) some single =
+    answered (gave_passed t ep first g) settled (ended_unshared puts single) (λ h. write_answered t ep (flips n first) bytes [] mid new h puts single)
+
+pub who_sends : (bytes : List ℕ) (pipe : Bulk) (u : Unit {0}) (left : Bulk) (old new : World) → bytes ≢ []
+    → Sends bytes pipe old (Ok u) left new → new.shared ≡ false → Answerer pipe.target old new
+who_sends bytes pipe u left old new some x single =
+    let works : pipe.condition ≢ Broken = λ e. cc (x.broken e).answer in
+    let s = x.moved works some in
+    of_device pipe.target pipe.max (gone_answered (packet_target pipe.target pipe.max) pipe.ep pipe.toggle s.settled s.went.gone some single)
+
+pub who_receives : (wanted : ℕ) (pipe : Bulk) (bytes : Vec ℕ) (left : Bulk) (old new : World) → wanted ≢ 0
+    → Receives wanted pipe old (Ok bytes) left new → new.shared ≡ false → Answerer pipe.target old new
+who_receives wanted pipe bytes left old new some x single =
+    let works : pipe.condition ≢ Broken = λ e. cc (x.broken e).0 in
+    let r = x.moved works some in
+    let t = packet_target pipe.target pipe.max in
+    let c = r.came in
+    of_device pipe.target pipe.max
+    (answered (came_passed t pipe.ep pipe.toggle c.before) r.settled (ended_unshared c.came single)
+    (λ h. read_answered t pipe.ep (flips c.packets pipe.toggle) c.last c.mid new h c.came single))
+
+-- Polls
+
+pub who_polls : (pipe : Interrupt) (got : Option (ArrayVec ℕ)) (left : Interrupt) (old new : World) → IsSettled old.roots
+    → Polls pipe old (Ok got) left new → new.shared ≡ false → Answerer pipe.target old new
+who_polls pipe None left old new settled x single = wait_answered pipe.target pipe.ep pipe.toggle old new settled x.asked single
+who_polls pipe (Some packet) left old new settled x single = poll_answered pipe.target pipe.ep pipe.toggle packet.items old new settled x.asked single

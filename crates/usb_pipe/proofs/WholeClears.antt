@@ -1,0 +1,275 @@
+-- What a clear of a halt leaves of each device.
+use Rattle.std.proofs.Common.{◌≡◌, ◌≢◌, ◌∙◌, refl, sym, ap, subst, arith, false, true, Bool}
+use Rattle.std.specs.Prelude.{ℕ, ◌+◌, ◌*◌, ◌/◌, ◌%◌, ◌<◌, ◌==◌, ◌&&◌, if◌then◌else◌, List, Option, None, Some, Result, Ok, Err, MatchResult}
+use Rattle.std.proofs.lemmas.Bool.Decides.{nat_tests}
+use Rattle.usb_request.specs.declared.setup.Setup.{Setup}
+use Rattle.usb_request.specs.Layout.{bytes_of, setup_of}
+use Rattle.usb_request.specs.Requests.{clear_endpoint_halt}
+use Rattle.usb_port.specs.PortState.{PortState}
+use Rattle.usb_device.specs.declared.bulk.Which.{Which}
+use Rattle.usb_device.specs.declared.bulk.Which.TheVariants.{BulkOut, BulkIn, Changes}
+use Rattle.usb_device.specs.declared.request.Registers.{Registers}
+use Rattle.usb_device.specs.Spec.{Spec}
+use Rattle.usb_device.specs.Bulk.{rested, bulk_at, is_end, served, tells_changes}
+use Rattle.usb_device.specs.Request.{outcome, unhalts, on_endpoint}
+use Rattle.usb_device.specs.Transfer.{first_stage}
+use Rattle.usb_device.specs.Rows.{State, bulk_of, with_pipe, begun, accepted}
+use Rattle.usb_device.specs.Progress.{IsSink, IsSource, level, StatusGiven, seen, unseen, OnlyControl, OnlyStage}
+use Rattle.usb_bus.specs.Courses.{is_harmless}
+use Rattle.usb_bus.specs.World.{World}
+use Rattle.usb_bus.specs.Devices.{EachWas}
+use Rattle.usb_bus.proofs.Devices.{each_none, each_wider}
+use Rattle.usb_transaction.specs.Trans.{Worked}
+use Rattle.usb_transaction.proofs.Spared.{spared_all}
+use Rattle.usb_pipe.specs.declared.condition.Condition.{Condition}
+use Rattle.usb_pipe.specs.declared.condition.Condition.TheVariants.{Ready, Halted, Broken}
+use Rattle.usb_pipe.specs.declared.fault.PipeFault.{PipeFault}
+use Rattle.usb_pipe.specs.declared.fault.PipeFault.TheVariants as pipe_fault
+use Rattle.usb_pipe.specs.Bulk.{Bulk, is_ready, halt_address, after_failed_clear, cleared, Idle, Cleared, Clears}
+use Rattle.usb_pipe.specs.Control.{Faults}
+use Rattle.usb_pipe.specs.Whole.{IsNotOfBus, EffectDone, EffectOrNone, none, some, WasRefused, WriteLeaves, FitsSource, ClearLeaves}
+use Rattle.usb_pipe.proofs.Numbers.{IsSmall, small_out_end}
+use Rattle.usb_pipe.proofs.WholeSteps.{only_stage}
+use Rattle.usb_pipe.proofs.WholeWrites.{write_leaves}
+
+-- The endpoint that the request names
+
+not_status : (e : ℕ) → e < 16 → (e == 129) ≡ false
+not_status e small = grind (arith, nat_tests)
+
+out_end : (e : ℕ) → (e + 0 == e) ≡ true
+out_end e = grind (arith, nat_tests)
+
+in_end : (e : ℕ) → (e + 128 == 128 + e) ≡ true
+in_end e = grind (arith, nat_tests)
+
+status_end : (e : ℕ) → (128 + e == 129) ≡ (e == 1)
+status_end e = grind (arith, nat_tests)
+
+far : (n e : ℕ) → n < 16 → (n + 0 == 128 + e) ≡ false
+far n e small = grind (arith, nat_tests)
+
+no_out_end : (e : ℕ) (o : Option (ℕ × ℕ)) → IsSmall o → is_end (128 + e) 0 o ≡ false
+no_out_end e None small = refl
+no_out_end e (Some end) small = far end.0 e small
+
+-- the endpoint, by the three tests
+abbrev picks : Bool → Bool → Bool → Option Which
+picks changes takes gives = if changes then Some Changes else if takes then Some BulkOut else if gives then Some BulkIn else None
+
+-- an endpoint that takes bytes has a number below 16
+small_sink : (e most : ℕ) (s : State) → IsSink e most s → e < 16
+small_sink e most s i = subst IsSmall i.endpoint (small_out_end s.spec s.registers)
+
+names_out : (e most : ℕ) (s : State) → IsSink e most s → served s.spec s.registers e ≡ Some BulkOut
+names_out e most s i =
+    ap (λ b. picks (b && tells_changes s.spec s.registers) (is_end e 0 (bulk_of s false)) (is_end e 128 (bulk_of s true))) (not_status e (small_sink e most s i))
+    ∙ ap (λ o. picks false (is_end e 0 o) (is_end e 128 (bulk_of s true))) i.endpoint
+    ∙ ap (λ b. picks false b (is_end e 128 (bulk_of s true))) (out_end e)
+
+names_in : (e most : ℕ) (s : State) → IsSource e most s → served s.spec s.registers (128 + e) ≡ Some BulkIn
+names_in e most s i =
+    ap (λ b. picks (b && tells_changes s.spec s.registers) (is_end (128 + e) 0 (bulk_of s false)) (is_end (128 + e) 128 (bulk_of s true))) (status_end e)
+    ∙ ap (λ b. picks b (is_end (128 + e) 0 (bulk_of s false)) (is_end (128 + e) 128 (bulk_of s true))) i.alone
+    ∙ ap (λ b. picks false b (is_end (128 + e) 128 (bulk_of s true))) (no_out_end e (bulk_of s false) (small_out_end s.spec s.registers))
+    ∙ ap (λ o. picks false false (is_end (128 + e) 128 o)) i.endpoint
+    ∙ ap (λ b. picks false false b) (in_end e)
+
+-- The request
+
+asked : (s : Spec) (g : Registers) (index : ℕ) → outcome s g (clear_endpoint_halt index) ≡ on_endpoint unhalts (served s g index)
+unfolding outcome clear_endpoint_halt
+asked s g index = refl
+
+pub no_data : (index : ℕ) → (clear_endpoint_halt index).length ≡ 0
+unfolding clear_endpoint_halt
+no_data index = refl
+
+pub harmless : (index : ℕ) → is_harmless (clear_endpoint_halt index) ≡ true
+unfolding clear_endpoint_halt
+harmless index = refl
+
+two_bytes : (n : ℕ) → n % 256 + 256 * (n / 256) ≡ n
+two_bytes n = omega arith
+
+pub same_request : (index : ℕ) → setup_of (bytes_of (clear_endpoint_halt index)) ≡ clear_endpoint_halt index
+unfolding clear_endpoint_halt bytes_of setup_of
+same_request index = ap {A = ℕ} {B = Setup} (λ n. record { request_type = 2; request = 1; value = 0; index = n; length = 0 }) (two_bytes index)
+
+-- What the request leaves of a device that has the endpoint
+
+-- no byte moved, and the endpoints have their numbers
+record Still (s v : State) : Type 0 where
+  spec : v.spec ≡ s.spec
+  registers : v.registers ≡ s.registers
+  sink : v.sink ≡ s.sink
+  place : v.place ≡ s.place
+
+-- only the endpoint began again
+abbrev OnlyRested : Which → State → State → Type 0
+OnlyRested which s v = OnlyStage (with_pipe s which rested) v
+
+still_pipe : (which : Which) (s : State) → Still s (with_pipe s which rested)
+still_pipe BulkOut s = record { spec = refl; registers = refl; sink = refl; place = refl }
+still_pipe BulkIn s = record { spec = refl; registers = refl; sink = refl; place = refl }
+still_pipe Changes s = record { spec = refl; registers = refl; sink = refl; place = refl }
+
+still_then : (s u v : State) → Still s u → OnlyStage u v → Still s v
+still_then s u v k o = record {
+  spec = ap (λ x. x.spec) o ∙ k.spec;
+  registers = ap (λ x. x.registers) o ∙ k.registers;
+  sink = ap (λ x. x.sink) o ∙ k.sink;
+  place = ap (λ x. x.place) o ∙ k.place;
+}
+
+still_rested : (which : Which) (s v : State) → OnlyRested which s v → Still s v
+still_rested which s v o = still_then s (with_pipe s which rested) v (still_pipe which s) o
+
+still_none : (s v : State) → OnlyControl s v → v.registers ≡ s.registers → Still s v
+still_none s v o e = still_then s s v (record { spec = refl; registers = refl; sink = refl; place = refl }) (only_stage s v o e)
+
+still_sink : (e most : ℕ) (s v : State) → Still s v → IsSink e most s → IsSink e most v
+still_sink e most s v k i = record { endpoint = ap (λ x. bulk_at x v.registers false) k.spec ∙ ap (λ g. bulk_at s.spec g false) k.registers ∙ i.endpoint; not_zero = i.not_zero }
+
+still_source : (e most : ℕ) (s v : State) → Still s v → IsSource e most s → IsSource e most v
+still_source e most s v k i = record {
+  endpoint = ap (λ x. bulk_at x v.registers true) k.spec ∙ ap (λ g. bulk_at s.spec g true) k.registers ∙ i.endpoint;
+  not_zero = i.not_zero;
+  alone = ap (λ x. e == 1 && tells_changes x v.registers) k.spec ∙ ap (λ g. e == 1 && tells_changes s.spec g) k.registers ∙ i.alone;
+}
+
+module _ (request : Setup) (which : Which) (s : State) (is : outcome s.spec s.registers request ≡ unhalts which) where
+  accepted_rests : (row : List PortState) (v : State) → OnlyControl (accepted s row request) v → v.registers ≡ (accepted s row request).registers → OnlyRested which s v
+  accepted_rests row v o e =
+      let a : accepted s row request ≡ begun s row request.length (unhalts which) = ap (begun s row request.length) is in
+      let only : OnlyControl (with_pipe s which rested) v = subst (λ d. OnlyControl d v) a o in
+      only_stage (with_pipe s which rested) v only (e ∙ ap (λ d. d.registers) a ∙ sym (still_pipe which s).registers)
+
+  given_registers : (row : List PortState) (address : Option ℕ) (v : State) → address ≡ None → StatusGiven address (accepted s row request) v → v.registers ≡ (accepted s row request).registers
+  given_registers row None v e (seen h g) = g
+  given_registers row None v e (unseen h g) = g
+  given_registers row (Some a) v e x = cc e
+
+  done_rests : (v : State) → EffectDone request s v → OnlyRested which s v
+  done_rests v d =
+      let none : d.address ≡ None = cc (sym (ap (first_stage d.row request.length) is) ∙ d.is) in
+      accepted_rests d.row v d.rest (given_registers d.row d.address v none d.given)
+
+  failed_still : (v : State) → EffectOrNone request s v → Still s v
+  failed_still v (none o e) = still_none s v o e
+  failed_still v (some row o e) = still_rested which s v (accepted_rests row v o e)
+
+  not_refused : WasRefused request s → ⊥
+  not_refused r = cc (sym (ap (first_stage r.row request.length) is) ∙ r.is)
+
+-- One device and its pipe
+
+-- the request of a clear
+abbrev pub clear_of : Bulk → Setup
+clear_of pipe = clear_endpoint_halt (halt_address pipe.ep pipe.is_in)
+
+asks_out : (pipe : Bulk) (s : State) → pipe.is_in ≡ false → IsSink pipe.ep pipe.max s → outcome s.spec s.registers (clear_of pipe) ≡ unhalts BulkOut
+asks_out pipe s out i =
+    asked s.spec s.registers (halt_address pipe.ep pipe.is_in) ∙ ap (λ d. on_endpoint unhalts (served s.spec s.registers (halt_address pipe.ep d))) out ∙ ap (on_endpoint unhalts) (names_out pipe.ep pipe.max s i)
+
+asks_in : (pipe : Bulk) (s : State) → pipe.is_in ≡ true → IsSource pipe.ep pipe.max s → outcome s.spec s.registers (clear_of pipe) ≡ unhalts BulkIn
+asks_in pipe s is i =
+    asked s.spec s.registers (halt_address pipe.ep pipe.is_in) ∙ ap (λ d. on_endpoint unhalts (served s.spec s.registers (halt_address pipe.ep d))) is ∙ ap (on_endpoint unhalts) (names_in pipe.ep pipe.max s i)
+
+-- A clear that is done
+
+done_leaves : (pipe : Bulk) (done : Unit {0}) → is_ready pipe.condition ≡ false → (j : ℕ) (p : List ℕ) (s v : State) → WriteLeaves pipe.target (clear_of pipe) (Ok done) j p s v
+    → ClearLeaves pipe (Ok done) (cleared pipe (Ok done)) j p s v
+done_leaves pipe done unready j p s v x = record {
+  others = x.others;
+  sink = λ at out f.
+      let o : OnlyRested BulkOut s v = done_rests (clear_of pipe) BulkOut s (asks_out pipe s out f.endpoint) v (x.done at done refl) in
+      let k : Still s v = still_rested BulkOut s v o in (
+        record { endpoint = still_sink pipe.ep pipe.max s v k f.endpoint; level = λ r. ap (λ d. d.bulk_out.toggle) o; halted = λ r. cc r },
+        k.sink,
+        ap (λ d. d.bulk_out) o ∙ sym (ap (λ b. if b then s.bulk_out else rested) unready),
+      );
+  source = λ at is got f.
+      let o : OnlyRested BulkIn s v = done_rests (clear_of pipe) BulkIn s (asks_in pipe s is f.endpoint) v (x.done at done refl) in
+      let k : Still s v = still_rested BulkIn s v o in (
+        record {
+          endpoint = still_source pipe.ep pipe.max s v k f.endpoint;
+          level = λ r. level (k.place ∙ sym (ap (λ b. if b then got else s.place) unready)) (ap (λ d. d.bulk_in.toggle) o);
+          halted = λ r. cc r;
+        },
+        k.place,
+        ap (λ d. d.bulk_in) o ∙ sym (ap (λ b. if b then s.bulk_in else rested) unready),
+      );
+}
+
+-- A clear that failed
+
+-- where it was not refused, the pipe is broken
+failed_breaks : (c : Condition) (why : PipeFault) (old new : World) → Faults 1 old why new → IsNotOfBus {A = Unit {0}} (Err why) → why ≢ pipe_fault.Stalled → after_failed_clear c why ≡ Broken
+failed_breaks c pipe_fault.Stalled old new x sound n = absurd (n refl)
+failed_breaks c pipe_fault.Busy old new x sound n = refl
+failed_breaks c pipe_fault.NoAnswer old new x sound n = refl
+failed_breaks c pipe_fault.Broken old new x sound n = absurd x
+failed_breaks c (pipe_fault.Bus fault) old new x sound n = absurd sound
+failed_breaks c pipe_fault.Memory old new x sound n = refl
+
+failed_leaves : (pipe : Bulk) (why : PipeFault) → (why ≢ pipe_fault.Stalled → after_failed_clear pipe.condition why ≡ Broken) → (j : ℕ) (p : List ℕ) (s v : State)
+    → WriteLeaves pipe.target (clear_of pipe) (Err why) j p s v → ClearLeaves pipe (Err why) (cleared pipe (Err why)) j p s v
+failed_leaves pipe why breaks j p s v x = record {
+  others = x.others;
+  sink = λ at out f.
+      let is = asks_out pipe s out f.endpoint in
+      let k : Still s v = failed_still (clear_of pipe) BulkOut s is v (x.failed why refl) in
+      let broken : after_failed_clear pipe.condition why ≡ Broken = breaks (λ e. not_refused (clear_of pipe) BulkOut s is (x.refused at (ap Err e))) in
+      (record { endpoint = still_sink pipe.ep pipe.max s v k f.endpoint; level = λ r. cc (sym broken ∙ r); halted = λ r. cc (sym broken ∙ r) }, k.sink, tt);
+  source = λ at way got f.
+      let is = asks_in pipe s way f.endpoint in
+      let k : Still s v = failed_still (clear_of pipe) BulkIn s is v (x.failed why refl) in
+      let broken : after_failed_clear pipe.condition why ≡ Broken = breaks (λ e. not_refused (clear_of pipe) BulkIn s is (x.refused at (ap Err e))) in
+      (record { endpoint = still_source pipe.ep pipe.max s v k f.endpoint; level = λ r. cc (sym broken ∙ r); halted = λ r. cc (sym broken ∙ r) }, k.place, tt);
+}
+
+-- A call that makes no request
+
+ready_leaves : (pipe : Bulk) → pipe.condition ≡ Ready → (j : ℕ) (p : List ℕ) (s : State) → ClearLeaves pipe (Ok tt) pipe j p s s
+ready_leaves pipe ready j p s = record {
+  others = λ h. refl;
+  sink = λ at out f. (f, refl, sym (ap (λ c. if is_ready c then s.bulk_out else rested) ready));
+  source = λ at is got f.
+      (subst (λ c. FitsSource pipe (if is_ready c then got else s.place) s) (sym ready) f, refl, sym (ap (λ c. if is_ready c then s.bulk_in else rested) ready));
+}
+
+each_ready : (pipe left : Bulk) (result : Result (Unit {0}) PipeFault) (old new : World) → pipe.condition ≡ Ready → Idle (Ok tt) pipe old result left new → EachWas (ClearLeaves pipe result left) old new
+each_ready pipe left result old new ready i =
+    subst (λ r. EachWas (ClearLeaves pipe r left) old new) (sym i.answer)
+    (subst (λ l. EachWas (ClearLeaves pipe (Ok tt) l) old new) (sym i.pipe_kept)
+    (subst (λ w. EachWas (ClearLeaves pipe (Ok tt) pipe) old w) (sym i.world_kept) (each_none (ClearLeaves pipe (Ok tt) pipe) (ready_leaves pipe ready) old)))
+
+-- A call that makes the request
+
+write_of : (pipe left : Bulk) (result : Result (Unit {0}) PipeFault) (old new : World) → Cleared pipe old result left new → IsNotOfBus result → new.shared ≡ false → EachWas (WriteLeaves pipe.target (clear_of pipe) result) old new
+write_of pipe left result old new x sound single =
+    let index = halt_address pipe.ep pipe.is_in in
+    spared_all pipe.target (clear_of pipe) (WriteLeaves pipe.target (clear_of pipe) result) old new (harmless index)
+    (write_leaves pipe.target (clear_of pipe) result old new (no_data index) (same_request index) x.settled x.stages sound single)
+
+each_sent : (pipe : Bulk) (result : Result (Unit {0}) PipeFault) (old new : World) → is_ready pipe.condition ≡ false → MatchResult result (λ done. Worked 2 old new) (λ why. Faults 1 old why new)
+    → IsNotOfBus result → EachWas (WriteLeaves pipe.target (clear_of pipe) result) old new → EachWas (ClearLeaves pipe result (cleared pipe result)) old new
+each_sent pipe (Ok done) old new unready ends sound x =
+    each_wider (WriteLeaves pipe.target (clear_of pipe) (Ok done)) (ClearLeaves pipe (Ok done) (cleared pipe (Ok done))) (done_leaves pipe done unready) old new x
+each_sent pipe (Err why) old new unready ends sound x =
+    each_wider (WriteLeaves pipe.target (clear_of pipe) (Err why)) (ClearLeaves pipe (Err why) (cleared pipe (Err why))) (failed_leaves pipe why (failed_breaks pipe.condition why old new ends sound)) old new x
+
+each_cleared : (pipe : Bulk) (result : Result (Unit {0}) PipeFault) (left : Bulk) (old new : World) → is_ready pipe.condition ≡ false
+    → Cleared pipe old result left new → IsNotOfBus result → new.shared ≡ false → EachWas (ClearLeaves pipe result left) old new
+each_cleared pipe result left old new unready x sound single =
+    subst (λ l. EachWas (ClearLeaves pipe result l) old new) (sym x.pipe_left) (each_sent pipe result old new unready x.ends sound (write_of pipe left result old new x sound single))
+
+pub clear_leaves : (pipe : Bulk) (result : Result (Unit {0}) PipeFault) (left : Bulk) (old new : World)
+    → Clears pipe old result left new → IsNotOfBus result → new.shared ≡ false → EachWas (ClearLeaves pipe result left) old new
+clear_leaves pipe result left old new x sound single = pick pipe.condition refl
+  where
+    pick : (c : Condition) → pipe.condition ≡ c → EachWas (ClearLeaves pipe result left) old new
+    pick Ready e = each_ready pipe left result old new e (x.ready e)
+    pick Halted e = each_cleared pipe result left old new (ap is_ready e) (x.sent (λ h. cc (sym e ∙ h))) sound single
+    pick Broken e = each_cleared pipe result left old new (ap is_ready e) (x.sent (λ h. cc (sym e ∙ h))) sound single

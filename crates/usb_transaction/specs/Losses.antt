@@ -1,0 +1,30 @@
+-- Address losses over a transaction: a device that was to take an address at the host's ACK of its status stage did not see it (9.4.6).
+use Rattle.std.specs.Prelude.{◌≡◌, ◌≢◌, ◌==◌, ◌&&◌, not, ℕ, Bool, true, List, Some, Result, Ok, Err}
+use Rattle.usb_request.specs.declared.setup.Setup.{Setup}
+use Rattle.usb_device.specs.Request.{Is}
+use Rattle.usb_device.specs.Rows.{State}
+use Rattle.usb_device.specs.Transfer.{idle, ending}
+use Rattle.usb_bus.specs.Losses.{one_more}
+use Rattle.usb_bus.specs.World.{World}
+use Rattle.usb_transaction.specs.declared.target.Target.{Target}
+use Rattle.usb_transaction.specs.declared.fault.TransFault.{TransFault}
+use Rattle.usb_transaction.specs.Over.{is_at}
+
+-- the request clears no change of connection (11.24.2.2), at which the losses of another stretch begin
+abbrev pub begins_no_stretch : Setup → Bool
+begins_no_stretch r = not (Is r 0x23 1 && r.value == 16)
+
+-- a device has taken an address; or it has not, and one loss more is counted
+pub data TookOrLost (a : ℕ) (old new : World) (s v : State) : Type 0 where
+  took : v.stage ≡ idle → v.registers ≡ record s.registers { address = a } → new.losses ≡ old.losses → TookOrLost a old new s v
+  lost : v.stage ≡ s.stage → v.registers ≡ s.registers → new.losses ≡ one_more old.losses → TookOrLost a old new s v
+
+-- IN of endpoint 0, by a host that awaits a status stage: a loss is counted exactly where it is done and the device has not taken its address
+pub record LossesIn (t : Target) (result : Result (List ℕ) TransFault) (old new : World) (j : ℕ) (p : List ℕ) (s v : State) : Type 0 where
+  pub done : is_at s t ≡ true → (a : ℕ) → s.stage ≡ ending (Some a) → (bytes : List ℕ) → result ≡ Ok bytes → TookOrLost a old new s v
+  pub failed : is_at s t ≡ true → (a : ℕ) → s.stage ≡ ending (Some a) → (fault : TransFault) → result ≡ Err fault → new.losses ≡ old.losses
+  pub none : is_at s t ≡ true → ((a : ℕ) → s.stage ≢ ending (Some a)) → new.losses ≡ old.losses
+
+-- IN of endpoint 0 in a read: a device that is to take no address loses none
+abbrev pub LosesNone : Target → World → World → ℕ → List ℕ → State → State → Type 0
+LosesNone t old new j p s v = is_at s t ≡ true → ((a : ℕ) → s.stage ≢ ending (Some a)) → new.losses ≡ old.losses
