@@ -8,6 +8,7 @@ pub mod Gone
 pub mod Come
 pub mod Settling
 pub mod WholeSteady
+pub mod Behind
 pub mod WholeSteps
 pub mod WholeReads
 pub mod WholeWrites

@@ -114,17 +114,17 @@ module _ (t : Target) (request : Setup) (host : IsToHost request) (some : 1 ≤ 
 
   no_set_up_kept : (result : Result (List ℕ) TransFault) → Ended set_up_as (setup_attempt t (bytes_of request)) old result new → EachWas (LossesKept t old new) old new
   no_set_up_kept result x =
-      each_wider (SetupDone t (bytes_of request) result) (LossesKept t old new) (λ j p s v y at. request_kept result new x) old new
+      each_wider (SetupDone t (bytes_of request) result old new) (LossesKept t old new) (λ j p s v y at. request_kept result new x) old new
       (read_request_leaves t request result old new host same settled x single)
 
   after_set_up_kept : (mid : World) → SetUp t request old (Ok []) mid → mid.shared ≡ false → EachWas (LosesNoneSince t request.length mid new) mid new → EachWas (LossesKept t old new) old new
   after_set_up_kept mid x clear later =
-      each_joined (SetupDone t (bytes_of request) (Ok [])) (LosesNoneSince t request.length mid new) (LossesKept t old new) at_device old mid new
+      each_joined (SetupDone t (bytes_of request) (Ok []) old mid) (LosesNoneSince t request.length mid new) (LossesKept t old new) at_device old mid new
       (read_request_leaves t request (Ok []) old mid host same settled x clear) later
     where
-      at_device : (j : ℕ) (p : List ℕ) (s u v : State) → SetupDone t (bytes_of request) (Ok []) j p s u → LosesNoneSince t request.length mid new j p u v → LossesKept t old new j p s v
+      at_device : (j : ℕ) (p : List ℕ) (s u v : State) → SetupDone t (bytes_of request) (Ok []) old mid j p s u → LosesNoneSince t request.length mid new j p u v → LossesKept t old new j p s v
       at_device j p s u v y f at =
-          let k : reads.Asked request s u = begun_then t request host some same s u j p y at in
+          let k : reads.Asked t request old mid j p s u = begun_then t request host some same s u j p y at in
           f (at_from t s u (ap (λ d. d.registers) k.frame) at) k.begun ∙ request_kept (Ok []) mid x
 
   each_read_kept : (result : Result (Vec ℕ) PipeFault) → IsNotOfBus result → Reads t request old result new → EachWas (LossesKept t old new) old new

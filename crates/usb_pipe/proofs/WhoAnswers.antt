@@ -76,7 +76,7 @@ passed_one {t} {old} {new} R others each e = record {
 
 set_up_passed : (t : Target) (request : Setup) {old new : World} → IsToHost request → setup_of (bytes_of request) ≡ request → SetUp t request old (Ok []) new → Passed t old new
 set_up_passed t request {old} {new} host same e =
-    passed_one (SetupDone t (bytes_of request) (Ok [])) (λ j p s v x. x.others) (λ h single. read_request_leaves t request (Ok []) old new host same h e single) e
+    passed_one (SetupDone t (bytes_of request) (Ok []) old new) (λ j p s v x. x.others) (λ h single. read_request_leaves t request (Ok []) old new host same h e single) e
 
 asked_passed : (t : Target) (awaited : Toggle) (bytes : List ℕ) {old new : World} → Ended (heard_as awaited) (in_attempt t 0) old (Ok bytes) new → Passed t old new
 asked_passed t awaited bytes {old} {new} e = passed_one (ControlIn t awaited (Ok bytes)) (λ j p s v x. x.others) (λ h single. control_in_leaves t awaited (Ok bytes) old new h e single) e
@@ -143,7 +143,7 @@ pub who_writes : (t : Target) (request : Setup) (u : Unit {0}) (old new : World)
 who_writes t request u old new same addressed settled x single =
     let a : Answerer t x.mid new = read_answered t 0 One x.given x.mid new (ended_settled x.set_up settled) x.status single in
     let others : EachSpared t request (Untouched t) old x.mid =
-    spared_wider t request (SetupDone t (bytes_of request) (Ok [])) (Untouched t) (λ j p s v y. y.others) old x.mid
+    spared_wider t request (SetupDone t (bytes_of request) (Ok []) old x.mid) (Untouched t) (λ j p s v y. y.others) old x.mid
     (request_leaves t request (Ok []) old x.mid same settled x.set_up (ended_unshared x.status single)) in
     had_it_before a (others a.j a.p a.before a.was_on a.stood (spared_at t request a.before addressed a.at))
 

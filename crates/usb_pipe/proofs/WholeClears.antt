@@ -150,16 +150,16 @@ module _ (request : Setup) (which : Which) (s : State) (is : outcome s.spec s.re
   given_registers row None v e (unseen h g) = g
   given_registers row (Some a) v e x = cc e
 
-  done_rests : (v : State) → EffectDone request s v → OnlyRested which s v
+  done_rests : {t : Target} {old new : World} {j : ℕ} {p : List ℕ} (v : State) → EffectDone t request old new j p s v → OnlyRested which s v
   done_rests v d =
       let none : d.address ≡ None = cc (sym (ap (first_stage d.row request.length) is) ∙ d.is) in
       accepted_rests d.row v d.rest (given_registers d.row d.address v none d.given)
 
-  failed_still : (v : State) → EffectOrNone request s v → Still s v
+  failed_still : {t : Target} {old : World} {j : ℕ} {p : List ℕ} (v : State) → EffectOrNone t request old j p s v → Still s v
   failed_still v (none o e) = still_none s v o e
-  failed_still v (some row o e) = still_rested which s v (accepted_rests row v o e)
+  failed_still v (some row now m o e) = still_rested which s v (accepted_rests row v o e)
 
-  not_refused : WasRefused request s → ⊥
+  not_refused : {t : Target} {old new : World} {j : ℕ} {p : List ℕ} → WasRefused t request old new j p s → ⊥
   not_refused r = cc (sym (ap (first_stage r.row request.length) is) ∙ r.is)
 
 -- One device and its pipe
@@ -178,7 +178,7 @@ asks_in pipe s is i =
 
 -- A clear that is done
 
-done_leaves : (pipe : Bulk) (done : Unit {0}) → is_ready pipe.condition ≡ false → (j : ℕ) (p : List ℕ) (s v : State) → WriteLeaves pipe.target (clear_of pipe) (Ok done) j p s v
+done_leaves : (pipe : Bulk) (done : Unit {0}) → is_ready pipe.condition ≡ false → {old new : World} (j : ℕ) (p : List ℕ) (s v : State) → WriteLeaves pipe.target (clear_of pipe) (Ok done) old new j p s v
     → ClearLeaves pipe (Ok done) (cleared pipe (Ok done)) j p s v
 done_leaves pipe done unready j p s v x = record {
   others = x.others;
@@ -213,8 +213,8 @@ failed_breaks c pipe_fault.Broken old new x sound n = absurd x
 failed_breaks c (pipe_fault.Bus fault) old new x sound n = absurd sound
 failed_breaks c pipe_fault.Memory old new x sound n = refl
 
-failed_leaves : (pipe : Bulk) (why : PipeFault) → (why ≢ pipe_fault.Stalled → after_failed_clear pipe.condition why ≡ Broken) → (j : ℕ) (p : List ℕ) (s v : State)
-    → WriteLeaves pipe.target (clear_of pipe) (Err why) j p s v → ClearLeaves pipe (Err why) (cleared pipe (Err why)) j p s v
+failed_leaves : (pipe : Bulk) (why : PipeFault) → (why ≢ pipe_fault.Stalled → after_failed_clear pipe.condition why ≡ Broken) → {old new : World} (j : ℕ) (p : List ℕ) (s v : State)
+    → WriteLeaves pipe.target (clear_of pipe) (Err why) old new j p s v → ClearLeaves pipe (Err why) (cleared pipe (Err why)) j p s v
 failed_leaves pipe why breaks j p s v x = record {
   others = x.others;
   sink = λ at out f.
@@ -247,18 +247,18 @@ each_ready pipe left result old new ready i =
 
 -- A call that makes the request
 
-write_of : (pipe left : Bulk) (result : Result (Unit {0}) PipeFault) (old new : World) → Cleared pipe old result left new → IsNotOfBus result → new.shared ≡ false → EachWas (WriteLeaves pipe.target (clear_of pipe) result) old new
+write_of : (pipe left : Bulk) (result : Result (Unit {0}) PipeFault) (old new : World) → Cleared pipe old result left new → IsNotOfBus result → new.shared ≡ false → EachWas (WriteLeaves pipe.target (clear_of pipe) result old new) old new
 write_of pipe left result old new x sound single =
     let index = halt_address pipe.ep pipe.is_in in
-    spared_all pipe.target (clear_of pipe) (WriteLeaves pipe.target (clear_of pipe) result) old new (harmless index)
+    spared_all pipe.target (clear_of pipe) (WriteLeaves pipe.target (clear_of pipe) result old new) old new (harmless index)
     (write_leaves pipe.target (clear_of pipe) result old new (no_data index) (same_request index) x.settled x.stages sound single)
 
 each_sent : (pipe : Bulk) (result : Result (Unit {0}) PipeFault) (old new : World) → is_ready pipe.condition ≡ false → MatchResult result (λ done. Worked 2 old new) (λ why. Faults 1 old why new)
-    → IsNotOfBus result → EachWas (WriteLeaves pipe.target (clear_of pipe) result) old new → EachWas (ClearLeaves pipe result (cleared pipe result)) old new
+    → IsNotOfBus result → EachWas (WriteLeaves pipe.target (clear_of pipe) result old new) old new → EachWas (ClearLeaves pipe result (cleared pipe result)) old new
 each_sent pipe (Ok done) old new unready ends sound x =
-    each_wider (WriteLeaves pipe.target (clear_of pipe) (Ok done)) (ClearLeaves pipe (Ok done) (cleared pipe (Ok done))) (done_leaves pipe done unready) old new x
+    each_wider (WriteLeaves pipe.target (clear_of pipe) (Ok done) old new) (ClearLeaves pipe (Ok done) (cleared pipe (Ok done))) (done_leaves pipe done unready) old new x
 each_sent pipe (Err why) old new unready ends sound x =
-    each_wider (WriteLeaves pipe.target (clear_of pipe) (Err why)) (ClearLeaves pipe (Err why) (cleared pipe (Err why))) (failed_leaves pipe why (failed_breaks pipe.condition why old new ends sound)) old new x
+    each_wider (WriteLeaves pipe.target (clear_of pipe) (Err why) old new) (ClearLeaves pipe (Err why) (cleared pipe (Err why))) (failed_leaves pipe why (failed_breaks pipe.condition why old new ends sound)) old new x
 
 each_cleared : (pipe : Bulk) (result : Result (Unit {0}) PipeFault) (left : Bulk) (old new : World) → is_ready pipe.condition ≡ false
     → Cleared pipe old result left new → IsNotOfBus result → new.shared ≡ false → EachWas (ClearLeaves pipe result left) old new

@@ -21,12 +21,13 @@ use Rattle.usb_bus.proofs.Devices.{each_none, each_joined, each_wider}
 use Rattle.usb_bus.specs.Courses.{is_harmless}
 use Rattle.usb_bus.specs.Passes.{IsSettled}
 use Rattle.usb_bus.specs.World.{World}
+use Rattle.usb_bus.specs.Steps.{Course}
 use Rattle.usb_bus.specs.Devices.{Relation, EachWas}
 use Rattle.usb_transaction.specs.declared.target.Target.{Target}
 use Rattle.usb_transaction.specs.declared.fault.TransFault.{TransFault}
 use Rattle.usb_transaction.specs.declared.fault.TransFault.TheVariants as trans
 use Rattle.usb_transaction.specs.Heard.{set_up_as}
-use Rattle.usb_transaction.specs.Over.{is_at, CanAnswer, CanAccept, data_stage, ReadStatus, AcceptedSince, SetupDone}
+use Rattle.usb_transaction.specs.Over.{is_at, CanAnswer, CanAccept, data_stage, ReadStatus, AcceptedAt, AcceptedSince, SetupDone}
 use Rattle.usb_transaction.specs.Trail.{Ended}
 use Rattle.usb_transaction.specs.Trans.{setup_attempt}
 use Rattle.usb_transaction.proofs.Overs.{other_twice}
@@ -37,7 +38,8 @@ use Rattle.usb_pipe.specs.declared.fault.PipeFault.TheVariants.{Stalled, Memory}
 use Rattle.usb_pipe.specs.Control.{fault_of, is_last}
 use Rattle.usb_pipe.specs.Stages.{SetUp, Goes, start, packet, DataStage, DataLost, NoRoom, WasRead, NoSetUp, NoData, NotConfirmed, Reads}
 use Rattle.usb_pipe.specs.Toggles.{flips}
-use Rattle.usb_pipe.specs.Whole.{IsNotOfBus, CanEnd, AnswerRead, ReadLeaves}
+use Rattle.usb_pipe.specs.Whole.{IsNotOfBus, CanEnd, AcceptedIn, IsBehind, AnswerRead, ReadLeaves}
+use Rattle.usb_pipe.proofs.Behind.{course_joined, in_behind, out_behind, goes_behind, stage_behind}
 use Rattle.usb_pipe.proofs.WholeSteady.{IsReading, reads}
 use Rattle.usb_pipe.proofs.WholeSteps.{ended, ended_settled, ended_unshared, request_leaves, InLeaves, asked_leaves, Accepted, accepted_since, only_twice, only_stage, at_from, flips_at, flips_none}
 
@@ -100,9 +102,9 @@ host_harmless r h = ap (λ b. not (b && r.value == 4)) (other_type r.request_typ
 
 -- so it leaves each device where it is
 pub read_request_leaves : (t : Target) (request : Setup) (result : Result (List ℕ) TransFault) (old new : World) → IsToHost request → setup_of (bytes_of request) ≡ request → IsSettled old.roots
-    → Ended set_up_as (setup_attempt t (bytes_of request)) old result new → new.shared ≡ false → EachWas (SetupDone t (bytes_of request) result) old new
+    → Ended set_up_as (setup_attempt t (bytes_of request)) old result new → new.shared ≡ false → EachWas (SetupDone t (bytes_of request) result old new) old new
 read_request_leaves t request result old new host same settled x single =
-    spared_all t request (SetupDone t (bytes_of request) result) old new (host_harmless request host) (request_leaves t request result old new same settled x single)
+    spared_all t request (SetupDone t (bytes_of request) result old new) old new (host_harmless request host) (request_leaves t request result old new same settled x single)
 
 -- The stage that such a request begins
 
@@ -132,20 +134,24 @@ asks_only s row wanted _ (bytes_are bytes) = refl
 asks_only s row wanted _ (port_is i) = refl
 
 -- the device that accepted it
-pub record Asked (request : Setup) (s u : State) : Type 0 where
+pub record Asked (t : Target) (request : Setup) (old now : World) (j : ℕ) (p : List ℕ) (s u : State) : Type 0 where
   pub row : List PortState
+  pub moment : AcceptedIn t request old now j p row s
   pub stage : u.stage ≡ first_stage row request.length (outcome s.spec s.registers request)
   pub frame : OnlyStage s u
   pub naks : u.naks ≡ s.spec.naks
   pub begun : Begun request.length u.stage
 
-asked : (request : Setup) (s u : State) → IsToHost request → 1 ≤ request.length → Accepted request s u → Asked request s u
-asked request s u host some x =
+asked : {t : Target} (request : Setup) {old now : World} {j : ℕ} {p : List ℕ} (s u : State) → IsToHost request → 1 ≤ request.length → setup_of (bytes_of request) ≡ request
+    → AcceptedAt t (bytes_of request) old now j p s u → Asked t request old now j p s u
+asked request s u host some same a =
+    let x : Accepted request s u = accepted_at request s u same a in
     let o : Outcome = outcome s.spec s.registers request in
     let t : Tells o = tells s.spec s.registers request host in
     let e : u ≡ record s { naks = s.spec.naks; stage = first_stage x.row request.length o } = x.is ∙ asks_only s x.row request.length o t in
     record {
       row = x.row;
+      moment = accepted_in s u a;
       stage = ap (λ d. d.stage) e;
       frame = subst (λ d. OnlyStage s d) (sym e) refl;
       naks = ap (λ d. d.naks) e;
@@ -399,24 +405,25 @@ items_of (Ok bytes) = bytes.items
 items_of (Err why) = []
 
 module _ (t : Target) (request : Setup) (host : IsToHost request) (some : 1 ≤ request.length) (same : setup_of (bytes_of request) ≡ request) where
-  pub begun_then : (s u : State) (j : ℕ) (p : List ℕ) → SetupDone t (bytes_of request) (Ok []) j p s u → is_at s t ≡ true → Asked request s u
-  begun_then s u j p x at = asked request s u host some (accepted_since request s u same (x.done at [] refl))
+  pub begun_then : {old mid : World} (s u : State) (j : ℕ) (p : List ℕ) → SetupDone t (bytes_of request) (Ok []) old mid j p s u → is_at s t ≡ true → Asked t request old mid j p s u
+  begun_then s u j p x at = asked request s u host some same (x.done at [] refl)
 
-  still_at : (s u : State) → Asked request s u → is_at s t ≡ true → is_at u t ≡ true
+  still_at : {old mid : World} {j : ℕ} {p : List ℕ} (s u : State) → Asked t request old mid j p s u → is_at s t ≡ true → is_at u t ≡ true
   still_at s u k at = at_from t s u (ap (λ d. d.registers) k.frame) at
 
-  rests_frame : (j : ℕ) (p : List ℕ) (s u v : State) → SetupDone t (bytes_of request) (Ok []) j p s u → Rests t request.length j p u v → OnlyStage s v
-  rests_frame j p s u v x y = by_place (decided (is_at s t))
+  rests_frame : {old mid : World} (j : ℕ) (p : List ℕ) (s u v : State) → SetupDone t (bytes_of request) (Ok []) old mid j p s u → Rests t request.length j p u v → OnlyStage s v
+  rests_frame {old} {mid} j p s u v x y = by_place (decided (is_at s t))
     where
-      stage_twice : Asked request s u → OnlyStage u v → OnlyStage s v
+      stage_twice : Asked t request old mid j p s u → OnlyStage u v → OnlyStage s v
       stage_twice k f = f ∙ ap {A = State} (λ d. record d { memory = v.memory; naks = v.naks; stage = v.stage }) k.frame
 
       by_place : (is_at s t ≡ true) ⊎ (is_at s t ≡ false) → OnlyStage s v
-      by_place (inl at) = let k : Asked request s u = begun_then s u j p x at in stage_twice k (only_stage u v y.frame (y.registers (still_at s u k at) k.begun))
+      by_place (inl at) = let k : Asked t request old mid j p s u = begun_then s u j p x at in stage_twice k (only_stage u v y.frame (y.registers (still_at s u k at) k.begun))
       by_place (inr off) = subst (λ d. OnlyStage s d) (sym (other_twice t s u v x.others y.others off)) refl
 
-  failed_at_setup : (fault : TransFault) (why : PipeFault) → why ≡ fault_of fault → (j : ℕ) (p : List ℕ) (s v : State) → SetupDone t (bytes_of request) (Err fault) j p s v → ReadLeaves t request (Err why) j p s v
-  failed_at_setup fault why told j p s v x = record {
+  failed_at_setup : (fault : TransFault) (why : PipeFault) → why ≡ fault_of fault → (old new : World) (j : ℕ) (p : List ℕ) (s v : State) → SetupDone t (bytes_of request) (Err fault) old new j p s v
+      → ReadLeaves t request (Err why) old new j p s v
+  failed_at_setup fault why told old new j p s v x = record {
     others = x.others;
     frame = kept x.kept;
     done = λ at b e. cc e;
@@ -424,30 +431,34 @@ module _ (t : Target) (request : Setup) (host : IsToHost request) (some : 1 ≤ 
     could = λ at. subst (λ w. CanFail s.spec w) (sym told) (accepts_so s.spec fault (x.could at));
   }
     where
-      kept : (v ≡ s) ⊎ AcceptedSince (bytes_of request) s v → OnlyStage s v
+      kept : (v ≡ s) ⊎ AcceptedSince t (bytes_of request) old j p s v → OnlyStage s v
       kept (inl e) = subst (λ d. OnlyStage s d) (sym e) refl
-      kept (inr a) = (asked request s v host some (accepted_since request s v same a)).frame
+      kept (inr a) = (asked request s v host some same a.at).frame
 
-  failed_later : (why : PipeFault) (j : ℕ) (p : List ℕ) (s u v : State) → SetupDone t (bytes_of request) (Ok []) j p s u → Failed t request.length why j p u v → ReadLeaves t request (Err why) j p s v
-  failed_later why j p s u v x y = record {
+  failed_later : (why : PipeFault) (old mid new : World) → Course (IsBehind t) mid new → (j : ℕ) (p : List ℕ) (s u v : State) → SetupDone t (bytes_of request) (Ok []) old mid j p s u
+      → Failed t request.length why j p u v → ReadLeaves t request (Err why) old new j p s v
+  failed_later why old mid new since j p s u v x y = record {
     others = other_twice t s u v x.others y.rests.others;
     frame = rests_frame j p s u v x y.rests;
     done = λ at b e. cc e;
-    refused = λ at e. let k : Asked request s u = begun_then s u j p x at in record { row = k.row; is = sym k.stage ∙ y.refusal (still_at s u k at) k.begun e };
-    could = λ at. let k : Asked request s u = begun_then s u j p x at in subst (λ d. CanFail d why) (ap (λ d. d.spec) k.frame) (y.could (still_at s u k at) k.begun);
+    refused = λ at e.
+        let k : Asked t request old mid j p s u = begun_then s u j p x at in
+        record { row = k.row; moment = record { now = mid; accepts = k.moment; since = since }; is = sym k.stage ∙ y.refusal (still_at s u k at) k.begun e };
+    could = λ at. let k : Asked t request old mid j p s u = begun_then s u j p x at in subst (λ d. CanFail d why) (ap (λ d. d.spec) k.frame) (y.could (still_at s u k at) k.begun);
   }
 
   module _ (n : ℕ) (got last bytes : List ℕ) (kept : bytes ≡ take request.length (got ++ last)) (ends : is_last (length last) t.max (length bytes) request.length ≡ true)
-      (j : ℕ) (p : List ℕ) (s u m v : State) (x : SetupDone t (bytes_of request) (Ok []) j p s u) (y : Came t request.length n got last j p u m) (z : ReadStatus t (Ok []) j p m v) where
-    was_answered : is_at s t ≡ true → Asked request s u → AnswerRead t request bytes s v
+      (old mid new : World) (since : Course (IsBehind t) mid new) (j : ℕ) (p : List ℕ) (s u m v : State) (x : SetupDone t (bytes_of request) (Ok []) old mid j p s u) (y : Came t request.length n got last j p u m) (z : ReadStatus t (Ok []) j p m v) where
+    was_answered : is_at s t ≡ true → Asked t request old mid j p s u → AnswerRead t request bytes old new j p s v
     was_answered at k = by_stage k.begun
       where
-        by_stage : Begun request.length u.stage → AnswerRead t request bytes s v
+        by_stage : Begun request.length u.stage → AnswerRead t request bytes old new j p s v
         by_stage (refuses h) = absurd (omega (arith, (y.along.refuses (still_at s u k at) h).0))
         by_stage (answered answer h) =
             let r : Answered request.length (n + 1) (got ++ last) answer u m = y.along.answers (still_at s u k at) answer h in
             record {
               row = k.row;
+              moment = record { now = mid; accepts = k.moment; since = since };
               answer = answer;
               is = sym k.stage ∙ h;
               came = λ most. bytes_are_all (max_packet u.spec) t.max request.length n answer got last bytes (at_least_8 u.spec) (y.packet (still_at s u k at) answer h) r.bytes kept ends
@@ -455,19 +466,19 @@ module _ (t : Target) (request : Setup) (host : IsToHost request) (some : 1 ≤ 
               over = (z.done (at_from t u m r.registers (still_at s u k at)) [] refl).0;
             }
 
-    could_read : (whole : Vec ℕ) → is_at s t ≡ true → Asked request s u → CanEnd s.spec (Ok whole)
+    could_read : (whole : Vec ℕ) → is_at s t ≡ true → Asked t request old mid j p s u → CanEnd s.spec (Ok whole)
     could_read whole at k =
         let before : Rests t request.length j p u m = along_rests t request.length (n + 1) (got ++ last) j p u m y.along in
         let can : CanEnd m.spec (Ok whole) = z.could (at_from t u m (before.registers (still_at s u k at) k.begun) (still_at s u k at)) in
         subst (λ d. CanEnd d (Ok whole)) (ap (λ d. d.spec) y.along.frame ∙ ap (λ d. d.spec) k.frame) can
 
-    read_at_device : (whole : Vec ℕ) → bytes ≡ whole.items → ReadLeaves t request (Ok whole) j p s v
+    read_at_device : (whole : Vec ℕ) → bytes ≡ whole.items → ReadLeaves t request (Ok whole) old new j p s v
     read_at_device whole e =
         let rests : Rests t request.length j p u v = rests_confirmed t request.length (Ok []) j p u m v (along_rests t request.length (n + 1) (got ++ last) j p u m y.along) z in
         record {
           others = other_twice t s u v x.others rests.others;
           frame = rests_frame j p s u v x rests;
-          done = λ at b q. subst (λ l. AnswerRead t request l s v) (e ∙ ap items_of q) (was_answered at (begun_then s u j p x at));
+          done = λ at b q. subst (λ l. AnswerRead t request l old new j p s v) (e ∙ ap items_of q) (was_answered at (begun_then s u j p x at));
           refused = λ at q. cc q;
           could = λ at. could_read whole at (begun_then s u j p x at);
         }
@@ -523,55 +534,58 @@ module _ (t : Target) where
   -- A whole control read
 
   module _ (request : Setup) (host : IsToHost request) (some : 1 ≤ request.length) (same : setup_of (bytes_of request) ≡ request) (old new : World) (settled : IsSettled old.roots) (single : new.shared ≡ false) where
-    each_read : (bytes : Vec ℕ) → WasRead t request old bytes.items new → EachWas (ReadLeaves t request (Ok bytes)) old new
+    each_read : (bytes : Vec ℕ) → WasRead t request old bytes.items new → EachWas (ReadLeaves t request (Ok bytes) old new) old new
     each_read bytes x =
         let d : DataStage t request.length x.first bytes.items x.second = x.data_stage in
         let second : x.second.shared ≡ false = ended_unshared x.status single in
         let began : IsSettled x.first.roots = ended_settled x.set_up settled in
-        each_joined (SetupDone t (bytes_of request) (Ok [])) (Then (Came t request.length d.packets d.got d.last) (ReadStatus t (Ok []))) (ReadLeaves t request (Ok bytes))
-        (λ j p s u v a b. read_at_device t request host some same d.packets d.got d.last bytes.items d.kept d.ends j p s u b.between v a b.first b.second bytes refl) old x.first new
+        let since : Course (IsBehind t) x.first new = course_joined (stage_behind d) (out_behind x.status) in
+        each_joined (SetupDone t (bytes_of request) (Ok []) old x.first) (Then (Came t request.length d.packets d.got d.last) (ReadStatus t (Ok []))) (ReadLeaves t request (Ok bytes) old new)
+        (λ j p s u v a b. read_at_device t request host some same d.packets d.got d.last bytes.items d.kept d.ends old x.first new since j p s u b.between v a b.first b.second bytes refl) old x.first new
         (read_request_leaves t request (Ok []) old x.first host same settled x.set_up (unshared_stage d second))
         (each_then (Came t request.length d.packets d.got d.last) (ReadStatus t (Ok [])) x.first x.second new (each_came request.length bytes.items x.first x.second began d second)
         (read_status_leaves t (Ok []) x.second new (settled_stage d began) x.status single))
 
-    each_no_set_up : (why : PipeFault) → IsNotOfBus {A = Vec ℕ} (Err why) → NoSetUp t request old why new → EachWas (ReadLeaves t request (Err why)) old new
+    each_no_set_up : (why : PipeFault) → IsNotOfBus {A = Vec ℕ} (Err why) → NoSetUp t request old why new → EachWas (ReadLeaves t request (Err why) old new) old new
     each_no_set_up why sound x =
-        each_wider (SetupDone t (bytes_of request) (Err x.fault)) (ReadLeaves t request (Err why)) (failed_at_setup t request host some same x.fault why x.told) old new
+        each_wider (SetupDone t (bytes_of request) (Err x.fault) old new) (ReadLeaves t request (Err why) old new) (failed_at_setup t request host some same x.fault why x.told old new) old new
         (read_request_leaves t request (Err x.fault) old new host same settled (ended (Vec ℕ) why x.fault x.told sound x.set_up) single)
 
-    after_set_up : (why : PipeFault) (mid : World) → SetUp t request old (Ok []) mid → mid.shared ≡ false → EachWas (Failed t request.length why) mid new → EachWas (ReadLeaves t request (Err why)) old new
-    after_set_up why mid x clear fails =
-        each_joined (SetupDone t (bytes_of request) (Ok [])) (Failed t request.length why) (ReadLeaves t request (Err why)) (failed_later t request host some same why) old mid new
+    after_set_up : (why : PipeFault) (mid : World) → SetUp t request old (Ok []) mid → Course (IsBehind t) mid new → mid.shared ≡ false → EachWas (Failed t request.length why) mid new
+        → EachWas (ReadLeaves t request (Err why) old new) old new
+    after_set_up why mid x since clear fails =
+        each_joined (SetupDone t (bytes_of request) (Ok []) old mid) (Failed t request.length why) (ReadLeaves t request (Err why) old new) (failed_later t request host some same why old mid new since) old mid new
         (read_request_leaves t request (Ok []) old mid host same settled x clear) fails
 
-    each_no_data : (why : PipeFault) → IsNotOfBus {A = Vec ℕ} (Err why) → NoData t request old why new → EachWas (ReadLeaves t request (Err why)) old new
+    each_no_data : (why : PipeFault) → IsNotOfBus {A = Vec ℕ} (Err why) → NoData t request old why new → EachWas (ReadLeaves t request (Err why) old new) old new
     each_no_data why sound x = by_cause x.data_stage
       where
-        by_cause : DataLost t request.length x.mid why new ⊎ NoRoom t request.length x.mid why new → EachWas (ReadLeaves t request (Err why)) old new
+        by_cause : DataLost t request.length x.mid why new ⊎ NoRoom t request.length x.mid why new → EachWas (ReadLeaves t request (Err why) old new) old new
         by_cause (inl d) =
-            after_set_up why x.mid x.set_up (goes_unshared d.before (ended_unshared (ended (Vec ℕ) why d.fault d.told sound d.lost) single))
+            let lost = ended (Vec ℕ) why d.fault d.told sound d.lost in
+            after_set_up why x.mid x.set_up (course_joined (goes_behind d.before) (in_behind lost)) (goes_unshared d.before (ended_unshared lost single))
             (each_lost request.length why x.mid new sound (ended_settled x.set_up settled) d single)
         by_cause (inr d) =
-            after_set_up why x.mid x.set_up (goes_unshared d.before (ended_unshared d.came single))
+            after_set_up why x.mid x.set_up (course_joined (goes_behind d.before) (in_behind d.came)) (goes_unshared d.before (ended_unshared d.came single))
             (each_no_room request.length why x.mid new (ended_settled x.set_up settled) d single)
 
-    each_not_confirmed : (why : PipeFault) → IsNotOfBus {A = Vec ℕ} (Err why) → NotConfirmed t request old why new → EachWas (ReadLeaves t request (Err why)) old new
+    each_not_confirmed : (why : PipeFault) → IsNotOfBus {A = Vec ℕ} (Err why) → NotConfirmed t request old why new → EachWas (ReadLeaves t request (Err why) old new) old new
     each_not_confirmed why sound x =
         let status = ended (Vec ℕ) why x.fault x.told sound x.status in
         let second : x.second.shared ≡ false = ended_unshared status single in
         let began : IsSettled x.first.roots = ended_settled x.set_up settled in
         let d : DataStage t request.length x.first x.bytes x.second = x.data_stage in
-        after_set_up why x.first x.set_up (unshared_stage d second)
+        after_set_up why x.first x.set_up (course_joined (stage_behind d) (out_behind status)) (unshared_stage d second)
         (each_joined (Came t request.length d.packets d.got d.last) (ReadStatus t (Err x.fault)) (Failed t request.length why) (came_failed t request.length d.packets d.got d.last why x.fault x.told) x.first x.second new
         (each_came request.length x.bytes x.first x.second began d second)
         (read_status_leaves t (Err x.fault) x.second new (settled_stage d began) status single))
 
-    each_of_read : (result : Result (Vec ℕ) PipeFault) → IsNotOfBus result → Reads t request old result new → EachWas (ReadLeaves t request result) old new
+    each_of_read : (result : Result (Vec ℕ) PipeFault) → IsNotOfBus result → Reads t request old result new → EachWas (ReadLeaves t request result old new) old new
     each_of_read (Ok bytes) sound x = each_read bytes x
     each_of_read (Err why) sound (inl x) = each_no_set_up why sound x
     each_of_read (Err why) sound (inr (inl x)) = each_no_data why sound x
     each_of_read (Err why) sound (inr (inr x)) = each_not_confirmed why sound x
 
 pub read_leaves : (t : Target) (request : Setup) (result : Result (Vec ℕ) PipeFault) (old new : World) → IsToHost request → 1 ≤ request.length → setup_of (bytes_of request) ≡ request
-    → IsSettled old.roots → Reads t request old result new → IsNotOfBus result → new.shared ≡ false → EachWas (ReadLeaves t request result) old new
+    → IsSettled old.roots → Reads t request old result new → IsNotOfBus result → new.shared ≡ false → EachWas (ReadLeaves t request result old new) old new
 read_leaves t request result old new host some same settled x sound single = each_of_read t request host some same old new settled single result sound x

@@ -9,6 +9,7 @@ use Rattle.usb_request.specs.Layout.{bytes_of, setup_of}
 use Rattle.usb_port.specs.PortState.{PortState}
 use Rattle.usb_device.specs.Transfer.{toggle_at}
 use Rattle.usb_device.specs.Rows.{State, accepted}
+use Rattle.usb_device.specs.Tree.{row_of}
 use Rattle.usb_device.specs.Progress.{OnlyControl, OnlyStage}
 use Rattle.usb_bus.specs.declared.types.Attempt.{Attempt}
 use Rattle.usb_bus.specs.Passes.{IsSettled}
@@ -18,7 +19,7 @@ use Rattle.usb_transaction.specs.declared.target.Target.{Target}
 use Rattle.usb_transaction.specs.declared.fault.TransFault.{TransFault}
 use Rattle.usb_transaction.specs.declared.fault.TransFault.TheVariants as trans
 use Rattle.usb_transaction.specs.Heard.{heard_as, set_up_as, flip}
-use Rattle.usb_transaction.specs.Over.{is_at, ControlIn, AcceptedSince, SetupDone}
+use Rattle.usb_transaction.specs.Over.{is_at, ControlIn, AcceptedAt, SetupDone}
 use Rattle.usb_transaction.specs.Spared.{EachSpared}
 use Rattle.usb_transaction.specs.Trail.{Ended, Transacted}
 use Rattle.usb_transaction.specs.Trans.{setup_attempt, in_attempt}
@@ -32,7 +33,7 @@ use Rattle.usb_transaction.proofs.WhySetup.{set_up_why}
 use Rattle.usb_pipe.specs.declared.fault.PipeFault.{PipeFault}
 use Rattle.usb_pipe.specs.Control.{fault_of}
 use Rattle.usb_pipe.specs.Toggles.{flips}
-use Rattle.usb_pipe.specs.Whole.{IsNotOfBus}
+use Rattle.usb_pipe.specs.Whole.{IsNotOfBus, AcceptedIn}
 use Rattle.usb_pipe.proofs.WholeSteady.{Steady, each_steady}
 
 -- The worlds between
@@ -57,18 +58,18 @@ unfolding bytes_of
 eight_bytes request = refl
 
 pub request_leaves : (t : Target) (request : Setup) (result : Result (List ℕ) TransFault) (old new : World) → setup_of (bytes_of request) ≡ request → IsSettled old.roots
-    → Ended set_up_as (setup_attempt t (bytes_of request)) old result new → new.shared ≡ false → EachSpared t request (SetupDone t (bytes_of request) result) old new
+    → Ended set_up_as (setup_attempt t (bytes_of request)) old result new → new.shared ≡ false → EachSpared t request (SetupDone t (bytes_of request) result old new) old new
 request_leaves t request result old new e settled x single =
-    subst (λ r. EachSpared t r (SetupDone t (bytes_of request) result) old new) e (set_up_leaves t (bytes_of request) result old new (eight_bytes request) settled x single)
+    subst (λ r. EachSpared t r (SetupDone t (bytes_of request) result old new) old new) e (set_up_leaves t (bytes_of request) result old new (eight_bytes request) settled x single)
 
 -- and why it fails
-abbrev pub SetUpWhy : Target → Setup → Result (List ℕ) TransFault → Relation
-SetUpWhy t request result j p s v = SetupDone t (bytes_of request) result j p s v × WhySetup t result j p s v
+abbrev pub SetUpWhy : Target → Setup → Result (List ℕ) TransFault → World → World → Relation
+SetUpWhy t request result old new j p s v = SetupDone t (bytes_of request) result old new j p s v × WhySetup t result j p s v
 
 pub request_why : (t : Target) (request : Setup) (result : Result (List ℕ) TransFault) (old new : World) → setup_of (bytes_of request) ≡ request → IsSettled old.roots → NoThreeDamaged old
-    → Ended set_up_as (setup_attempt t (bytes_of request)) old result new → new.shared ≡ false → EachSpared t request (SetUpWhy t request result) old new
+    → Ended set_up_as (setup_attempt t (bytes_of request)) old result new → new.shared ≡ false → EachSpared t request (SetUpWhy t request result old new) old new
 request_why t request result old new e settled three x single =
-    spared_both t request (SetupDone t (bytes_of request) result) (WhySetup t result) old new (request_leaves t request result old new e settled x single)
+    spared_both t request (SetupDone t (bytes_of request) result old new) (WhySetup t result) old new (request_leaves t request result old new e settled x single)
     (subst (λ r. EachSpared t r (WhySetup t result) old new) e (set_up_why t (bytes_of request) result old new (eight_bytes request) settled three x single))
 
 -- an IN of endpoint 0
@@ -87,8 +88,13 @@ pub record Accepted (request : Setup) (s v : State) : Type 0 where
   pub row : List PortState
   pub is : v ≡ accepted s row request
 
-pub accepted_since : (request : Setup) (s v : State) → setup_of (bytes_of request) ≡ request → AcceptedSince (bytes_of request) s v → Accepted request s v
-accepted_since request s v e x = record { row = x.row; is = x.is ∙ ap (λ r. accepted s x.row r) e }
+abbrev pub accepted_at : {t : Target} (request : Setup) {old now : World} {j : ℕ} {p : List ℕ} (s v : State) → setup_of (bytes_of request) ≡ request
+    → AcceptedAt t (bytes_of request) old now j p s v → Accepted request s v
+accepted_at request s v e x = record { row = row_of x.below; is = x.is ∙ ap (λ r. accepted s (row_of x.below) r) e }
+
+abbrev pub accepted_in : {t : Target} {request : Setup} {old now : World} {j : ℕ} {p : List ℕ} (s v : State) (x : AcceptedAt t (bytes_of request) old now j p s v)
+    → AcceptedIn t request old now j p (row_of x.below) s
+accepted_in s v x = record { state = v; at = x; had = refl }
 
 pub only_twice : (s u v : State) → OnlyControl s u → OnlyControl u v → OnlyControl s v
 only_twice s u v f g = g ∙ ap {A = State} (λ x. record x { memory = v.memory; naks = v.naks; stage = v.stage; registers = v.registers }) f

@@ -10,16 +10,18 @@ use Rattle.usb_device.specs.Spec.{Spec}
 use Rattle.usb_device.specs.Request.{Outcome, stalled, answers, takes_address, takes_configuration, halts, unhalts, tells_port, calls_port, outcome, registers_at_setup}
 use Rattle.usb_device.specs.Transfer.{Stage, ending, refused, first_stage, reads, reads_port}
 use Rattle.usb_device.specs.Rows.{State}
+use Rattle.usb_device.specs.Tree.{row_of}
 use Rattle.usb_device.specs.Progress.{StatusGiven, OnlyControl}
 use Rattle.usb_bus.specs.Passes.{IsSettled}
 use Rattle.usb_bus.specs.World.{World}
+use Rattle.usb_bus.specs.Steps.{Course}
 use Rattle.usb_bus.specs.Devices.{Relation, EachWas}
 use Rattle.usb_bus.proofs.Booleans.{decided}
 use Rattle.usb_transaction.specs.declared.target.Target.{Target}
 use Rattle.usb_transaction.specs.declared.fault.TransFault.{TransFault}
 use Rattle.usb_transaction.specs.declared.fault.TransFault.TheVariants as trans
 use Rattle.usb_transaction.specs.Heard.{heard_as}
-use Rattle.usb_transaction.specs.Over.{is_at, CanAnswer, CanAccept, ControlIn, AcceptedSince, SetupDone}
+use Rattle.usb_transaction.specs.Over.{is_at, CanAnswer, CanAccept, ControlIn, AcceptedAt, AcceptedSince, SetupDone}
 use Rattle.usb_transaction.specs.Spared.{EachSpared}
 use Rattle.usb_transaction.specs.Trail.{Ended}
 use Rattle.usb_transaction.specs.Trans.{in_attempt}
@@ -31,8 +33,9 @@ use Rattle.usb_pipe.specs.declared.fault.PipeFault.{PipeFault}
 use Rattle.usb_pipe.specs.declared.fault.PipeFault.TheVariants as pipe_fault
 use Rattle.usb_pipe.specs.Control.{fault_of}
 use Rattle.usb_pipe.specs.Stages.{SetUp, Writes}
-use Rattle.usb_pipe.specs.Whole.{IsNotOfBus, CanEnd, WasRefused, EffectDone, EffectOrNone, none, some, WriteLeaves}
-use Rattle.usb_pipe.proofs.WholeSteps.{ended, ended_settled, ended_unshared, request_leaves, Accepted, accepted_since}
+use Rattle.usb_pipe.specs.Whole.{IsNotOfBus, CanEnd, IsBehind, WasRefused, EffectDone, EffectOrNone, none, some, WriteLeaves}
+use Rattle.usb_pipe.proofs.Behind.{in_behind}
+use Rattle.usb_pipe.proofs.WholeSteps.{ended, ended_settled, ended_unshared, request_leaves, Accepted, accepted_at, accepted_in}
 
 -- The stage that a request without data begins
 
@@ -111,39 +114,52 @@ accepts_so spec (trans.Bus fault) h = h
 -- A whole write at one device
 
 module _ (t : Target) (request : Setup) (nothing : request.length ≡ 0) (same : setup_of (bytes_of request) ≡ request) where
-  effect_done : (given : List ℕ) (j : ℕ) (p : List ℕ) (s u v : State) → Accepted request s u → is_at u t ≡ true → ControlIn t One (Ok given) j p u v → EffectDone request s v
-  effect_done given j p s u v a at y = by_stage (closes a.row request.length (outcome s.spec s.registers request) nothing)
+  abbrev Took : World → World → Relation
+  Took old now j p s u = AcceptedAt t (bytes_of request) old now j p s u
+
+  abbrev taken : {old now : World} {j : ℕ} {p : List ℕ} (s u : State) → Took old now j p s u → Accepted request s u
+  taken s u x = accepted_at request s u same x
+
+  effect_done : (given : List ℕ) (old mid new : World) → Course (IsBehind t) mid new → (j : ℕ) (p : List ℕ) (s u v : State) → Took old mid j p s u → is_at u t ≡ true → ControlIn t One (Ok given) j p u v
+      → EffectDone t request old new j p s v
+  effect_done given old mid new since j p s u v x at y = by_stage (closes a.row request.length (outcome s.spec s.registers request) nothing)
     where
-      by_stage : Closing (first_stage a.row request.length (outcome s.spec s.registers request)) → EffectDone request s v
+      abbrev a : Accepted request s u
+      a = taken s u x
+
+      by_stage : Closing (first_stage a.row request.length (outcome s.spec s.registers request)) → EffectDone t request old new j p s v
       by_stage (refuses h) = absurd ((y.refused (stage_then request s u a ∙ h)).1 at given refl)
       by_stage (ends address h) = record {
         row = a.row;
+        moment = record { now = mid; accepts = accepted_in s u x; since = since };
         address = address;
         is = h;
         given = subst (λ d. StatusGiven address d v) a.is (y.status at refl address (stage_then request s u a ∙ h)).1;
         rest = subst (λ d. OnlyControl d v) a.is y.frame;
       }
 
-  accepted_then : (j : ℕ) (p : List ℕ) (s u : State) → SetupDone t (bytes_of request) (Ok []) j p s u → is_at s t ≡ true → Accepted request s u
-  accepted_then j p s u x at = accepted_since request s u same (x.done at [] refl)
+  took : (old mid : World) (j : ℕ) (p : List ℕ) (s u : State) → SetupDone t (bytes_of request) (Ok []) old mid j p s u → is_at s t ≡ true → Took old mid j p s u
+  took old mid j p s u x at = x.done at [] refl
 
   could_then : (result : Result (List ℕ) TransFault) (j : ℕ) (p : List ℕ) (s u v : State) → Accepted request s u → is_at s t ≡ true → ControlIn t One result j p u v → CanAnswer s.spec result
   could_then result j p s u v a at y = subst (λ d. CanAnswer d result) (same_spec request s u a) (y.could (still_at t request s u a at))
 
-  written_at : (given : List ℕ) (unit : Unit {0}) (j : ℕ) (p : List ℕ) (s u v : State) → SetupDone t (bytes_of request) (Ok []) j p s u → ControlIn t One (Ok given) j p u v → WriteLeaves t request (Ok unit) j p s v
-  written_at given unit j p s u v x y = record {
+  written_at : (given : List ℕ) (unit : Unit {0}) (old mid new : World) → Course (IsBehind t) mid new → (j : ℕ) (p : List ℕ) (s u v : State) → SetupDone t (bytes_of request) (Ok []) old mid j p s u
+      → ControlIn t One (Ok given) j p u v → WriteLeaves t request (Ok unit) old new j p s v
+  written_at given unit old mid new since j p s u v x y = record {
     others = other_twice t s u v x.others y.others;
     failed = λ fault e. cc e;
-    done = λ at d e. let a : Accepted request s u = accepted_then j p s u x at in effect_done given j p s u v a (still_at t request s u a at) y;
+    done = λ at d e. let a : Took old mid j p s u = took old mid j p s u x at in effect_done given old mid new since j p s u v a (still_at t request s u (taken s u a) at) y;
     refused = λ at e. cc e;
-    could = λ at. could_then (Ok given) j p s u v (accepted_then j p s u x at) at y;
+    could = λ at. could_then (Ok given) j p s u v (taken s u (took old mid j p s u x at)) at y;
   }
 
-  unchanged : (s v : State) → v ≡ s → EffectOrNone request s v
-  unchanged s v e = none (subst (λ d. OnlyControl s d) (sym e) refl) (ap (λ d. d.registers) e)
+  unchanged : (old : World) (j : ℕ) (p : List ℕ) (s v : State) → v ≡ s → EffectOrNone t request old j p s v
+  unchanged old j p s v e = none (subst (λ d. OnlyControl s d) (sym e) refl) (ap (λ d. d.registers) e)
 
-  failed_at_setup : (fault : TransFault) (why : PipeFault) → why ≡ fault_of fault → (j : ℕ) (p : List ℕ) (s v : State) → SetupDone t (bytes_of request) (Err fault) j p s v → WriteLeaves t request (Err why) j p s v
-  failed_at_setup fault why told j p s v x = record {
+  failed_at_setup : (fault : TransFault) (why : PipeFault) → why ≡ fault_of fault → (old new : World) (j : ℕ) (p : List ℕ) (s v : State) → SetupDone t (bytes_of request) (Err fault) old new j p s v
+      → WriteLeaves t request (Err why) old new j p s v
+  failed_at_setup fault why told old new j p s v x = record {
     others = x.others;
     failed = λ f e. by_case x.kept;
     done = λ at d e. cc e;
@@ -151,54 +167,63 @@ module _ (t : Target) (request : Setup) (nothing : request.length ≡ 0) (same :
     could = λ at. subst (EndsSo s.spec) (sym told) (accepts_so s.spec fault (x.could at));
   }
     where
-      by_case : (v ≡ s) ⊎ AcceptedSince (bytes_of request) s v → EffectOrNone request s v
-      by_case (inl e) = unchanged s v e
+      by_case : (v ≡ s) ⊎ AcceptedSince t (bytes_of request) old j p s v → EffectOrNone t request old j p s v
+      by_case (inl e) = unchanged old j p s v e
       by_case (inr since) =
-          let a : Accepted request s v = accepted_since request s v same since in
-          some a.row (subst (λ d. OnlyControl d v) a.is refl) (ap (λ d. d.registers) a.is)
+          let a : Accepted request s v = taken s v since.at in
+          some (row_of since.at.below) since.now (accepted_in s v since.at) (subst (λ d. OnlyControl d v) a.is refl) (ap (λ d. d.registers) a.is)
 
   -- the request was refused where its status stage was
-  was_refused : (j : ℕ) (p : List ℕ) (s u v : State) → Accepted request s u → is_at s t ≡ true → ControlIn t One (Err trans.Stalled) j p u v → WasRefused request s
-  was_refused j p s u v a at y = record { row = a.row; is = sym (stage_then request s u a) ∙ y.stalled (still_at t request s u a at) refl }
+  was_refused : (old mid new : World) → Course (IsBehind t) mid new → (j : ℕ) (p : List ℕ) (s u v : State) → Took old mid j p s u → is_at s t ≡ true → ControlIn t One (Err trans.Stalled) j p u v
+      → WasRefused t request old new j p s
+  was_refused old mid new since j p s u v x at y = record {
+    row = row_of x.below;
+    moment = record { now = mid; accepts = accepted_in s u x; since = since };
+    is = sym (stage_then request s u (taken s u x)) ∙ y.stalled (still_at t request s u (taken s u x) at) refl;
+  }
 
-  failed_at_status : (fault : TransFault) (why : PipeFault) → why ≡ fault_of fault → (j : ℕ) (p : List ℕ) (s u v : State) → SetupDone t (bytes_of request) (Ok []) j p s u → ControlIn t One (Err fault) j p u v → WriteLeaves t request (Err why) j p s v
-  failed_at_status fault why told j p s u v x y = record {
+  failed_at_status : (fault : TransFault) (why : PipeFault) → why ≡ fault_of fault → (old mid new : World) → Course (IsBehind t) mid new → (j : ℕ) (p : List ℕ) (s u v : State)
+      → SetupDone t (bytes_of request) (Ok []) old mid j p s u → ControlIn t One (Err fault) j p u v → WriteLeaves t request (Err why) old new j p s v
+  failed_at_status fault why told old mid new since j p s u v x y = record {
     others = other_twice t s u v x.others y.others;
     failed = λ f e. by_place (decided (is_at s t));
     done = λ at d e. cc e;
-    refused = λ at e. was_refused j p s u v (accepted_then j p s u x at) at (subst (λ r. ControlIn t One r j p u v) (stall_of why fault told e) y);
-    could = λ at. subst (EndsSo s.spec) (sym told) (answers_so s.spec fault (could_then (Err fault) j p s u v (accepted_then j p s u x at) at y));
+    refused = λ at e. was_refused old mid new since j p s u v (took old mid j p s u x at) at (subst (λ r. ControlIn t One r j p u v) (stall_of why fault told e) y);
+    could = λ at. subst (EndsSo s.spec) (sym told) (answers_so s.spec fault (could_then (Err fault) j p s u v (taken s u (took old mid j p s u x at)) at y));
   }
     where
-      by_place : (is_at s t ≡ true) ⊎ (is_at s t ≡ false) → EffectOrNone request s v
+      by_place : (is_at s t ≡ true) ⊎ (is_at s t ≡ false) → EffectOrNone t request old j p s v
       by_place (inl at) =
-          let a : Accepted request s u = accepted_then j p s u x at in
-          some a.row (subst (λ d. OnlyControl d v) a.is y.frame) (y.failed refl fault refl ∙ ap (λ d. d.registers) a.is)
-      by_place (inr off) = unchanged s v (other_twice t s u v x.others y.others off)
+          let x : Took old mid j p s u = took old mid j p s u x at in
+          let a : Accepted request s u = taken s u x in
+          some (row_of x.below) mid (accepted_in s u x) (subst (λ d. OnlyControl d v) a.is y.frame) (y.failed refl fault refl ∙ ap (λ d. d.registers) a.is)
+      by_place (inr off) = unchanged old j p s v (other_twice t s u v x.others y.others off)
 
 -- The status stage, behind setup data that were taken, with what else is so of it
 
-pub over_status : (t : Target) (request : Setup) (S T : Relation) (result : Result (List ℕ) TransFault) (old mid new : World) → Composes (SetupDone t (bytes_of request) (Ok [])) S T
+pub over_status : (t : Target) (request : Setup) (S T : Relation) (result : Result (List ℕ) TransFault) (old mid new : World) → Composes (SetupDone t (bytes_of request) (Ok []) old mid) S T
     → setup_of (bytes_of request) ≡ request → IsSettled old.roots → SetUp t request old (Ok []) mid → Ended (heard_as One) (in_attempt t 0) mid result new → new.shared ≡ false
     → EachWas S mid new → EachSpared t request T old new
 over_status t request S T result old mid new f same settled x y single e =
-    spared_joined t request (SetupDone t (bytes_of request) (Ok [])) (λ j p s v. ControlIn t One result j p s v × S j p s v) T (λ j p s v a. a.0.others) (λ j p s u v a b. f j p s u v a b.1) old mid new
+    spared_joined t request (SetupDone t (bytes_of request) (Ok []) old mid) (λ j p s v. ControlIn t One result j p s v × S j p s v) T (λ j p s v a. a.0.others) (λ j p s u v a b. f j p s u v a b.1) old mid new
     (request_leaves t request (Ok []) old mid same settled x (ended_unshared y single))
     (each_both (ControlIn t One result) S mid new (control_in_leaves t One result mid new (ended_settled x settled) y single) e)
 
 -- A whole write
 
 pub write_leaves : (t : Target) (request : Setup) (result : Result (Unit {0}) PipeFault) (old new : World) → request.length ≡ 0 → setup_of (bytes_of request) ≡ request
-    → IsSettled old.roots → Writes t request old result new → IsNotOfBus result → new.shared ≡ false → EachSpared t request (WriteLeaves t request result) old new
+    → IsSettled old.roots → Writes t request old result new → IsNotOfBus result → new.shared ≡ false → EachSpared t request (WriteLeaves t request result old new) old new
 write_leaves t request (Ok unit) old new nothing same settled x sound single =
-    spared_joined t request (SetupDone t (bytes_of request) (Ok [])) (ControlIn t One (Ok x.given)) (WriteLeaves t request (Ok unit)) (λ j p s v y. y.others) (written_at t request nothing same x.given unit) old x.mid new
+    spared_joined t request (SetupDone t (bytes_of request) (Ok []) old x.mid) (ControlIn t One (Ok x.given)) (WriteLeaves t request (Ok unit) old new) (λ j p s v y. y.others)
+    (written_at t request nothing same x.given unit old x.mid new (in_behind x.status)) old x.mid new
     (request_leaves t request (Ok []) old x.mid same settled x.set_up (ended_unshared x.status single))
     (control_in_leaves t One (Ok x.given) x.mid new (ended_settled x.set_up settled) x.status single)
 write_leaves t request (Err why) old new nothing same settled (inl x) sound single =
-    spared_wider t request (SetupDone t (bytes_of request) (Err x.fault)) (WriteLeaves t request (Err why)) (failed_at_setup t request nothing same x.fault why x.told) old new
+    spared_wider t request (SetupDone t (bytes_of request) (Err x.fault) old new) (WriteLeaves t request (Err why) old new) (failed_at_setup t request nothing same x.fault why x.told old new) old new
     (request_leaves t request (Err x.fault) old new same settled (ended (Unit {0}) why x.fault x.told sound x.set_up) single)
 write_leaves t request (Err why) old new nothing same settled (inr x) sound single =
     let status = ended (Unit {0}) why x.fault x.told sound x.status in
-    spared_joined t request (SetupDone t (bytes_of request) (Ok [])) (ControlIn t One (Err x.fault)) (WriteLeaves t request (Err why)) (λ j p s v y. y.others) (failed_at_status t request nothing same x.fault why x.told) old x.mid new
+    spared_joined t request (SetupDone t (bytes_of request) (Ok []) old x.mid) (ControlIn t One (Err x.fault)) (WriteLeaves t request (Err why) old new) (λ j p s v y. y.others)
+    (failed_at_status t request nothing same x.fault why x.told old x.mid new (in_behind status)) old x.mid new
     (request_leaves t request (Ok []) old x.mid same settled x.set_up (ended_unshared status single))
     (control_in_leaves t One (Err x.fault) x.mid new (ended_settled x.set_up settled) status single)

@@ -178,18 +178,18 @@ module _ (t : Target) (request : Setup) (host : IsToHost request) (some : 1 ≤ 
   never_failed result answers waits j p s v = record { answered = λ l m. answers; waited = λ l m calm few. waits }
 
   at_setup : (why : PipeFault) (fault : TransFault) → why ≡ fault_of fault → (j : ℕ) (p : List ℕ) (s v : State)
-      → SetUpWhy t request (Err fault) j p s v → WhyRead t request (Err why) j p s v
+      → SetUpWhy t request (Err fault) old new j p s v → WhyRead t request (Err why) j p s v
   at_setup why fault told j p s v x = record {
     answered = λ l m e. x.1.answered l (lost_answer (Vec ℕ) why fault told e);
     waited = λ l m calm few e. subst (λ r. CanAccept {A = List ℕ} s.spec r) (lost_wait (Vec ℕ) why fault told e) (x.0.could l.at);
   }
 
-  module _ (why : PipeFault) (j : ℕ) (p : List ℕ) (s u v : State) (x : SetupDone t (bytes_of request) (Ok []) j p s u) (y : WhyStages t request.length why j p u v) where
-    begun : Listens t p s → Asked request s u
+  module _ (why : PipeFault) {old mid : World} (j : ℕ) (p : List ℕ) (s u v : State) (x : SetupDone t (bytes_of request) (Ok []) old mid j p s u) (y : WhyStages t request.length why j p u v) where
+    begun : Listens t p s → Asked t request old mid j p s u
     begun l = begun_then t request host some same s u j p x l.at
 
     listens : Listens t p s → Listens t p u
-    listens l = let k : Asked request s u = begun l in listens_on t p s u (ap (λ d. d.spec) k.frame) (ap (λ d. d.registers) k.frame) l
+    listens l = let k : Asked t request old mid j p s u = begun l in listens_on t p s u (ap (λ d. d.spec) k.frame) (ap (λ d. d.registers) k.frame) l
 
     maximum : Listens t p s → IsMaximum t request.length s → IsMaximum t request.length u
     maximum l m = subst (λ d. (max_packet d ≡ t.max) ⊎ (request.length ≤ 8)) (sym (ap (λ d. d.spec) (begun l).frame)) m
@@ -206,18 +206,18 @@ module _ (t : Target) (request : Setup) (least : 8 ≤ t.max) (host : IsToHost r
     (old new : World) (settled : IsSettled old.roots) (three : NoThreeDamaged old) (single : new.shared ≡ false) where
   each_never : (result : Result (Vec ℕ) PipeFault) → result ≢ Err pipe_fault.NoAnswer → result ≢ Err pipe_fault.Busy → IsNotOfBus result → Reads t request old result new → EachWas (WhyRead t request result) old new
   each_never result answers waits sound x =
-      each_wider (ReadLeaves t request result) (WhyRead t request result) (λ j p s v y. never_failed t request host some same result answers waits j p s v) old new
+      each_wider (ReadLeaves t request result old new) (WhyRead t request result) (λ j p s v y. never_failed t request host some same result answers waits j p s v) old new
       (read_leaves t request result old new host some same settled x sound single)
 
   each_no_set_up : (why : PipeFault) → IsNotOfBus {A = Vec ℕ} (Err why) → NoSetUp t request old why new → EachWas (WhyRead t request (Err why)) old new
   each_no_set_up why sound x =
       let over : Ended set_up_as (setup_attempt t (bytes_of request)) old (Err x.fault) new = ended (Vec ℕ) why x.fault x.told sound x.set_up in
-      each_wider (SetUpWhy t request (Err x.fault)) (WhyRead t request (Err why)) (at_setup t request host some same why x.fault x.told) old new
-      (spared_all t request (SetUpWhy t request (Err x.fault)) old new (host_harmless request host) (request_why t request (Err x.fault) old new same settled three over single))
+      each_wider (SetUpWhy t request (Err x.fault) old new) (WhyRead t request (Err why)) (at_setup t request host some same why x.fault x.told) old new
+      (spared_all t request (SetUpWhy t request (Err x.fault) old new) old new (host_harmless request host) (request_why t request (Err x.fault) old new same settled three over single))
 
   after_set_up : (why : PipeFault) (mid : World) → SetUp t request old (Ok []) mid → mid.shared ≡ false → EachWas (WhyStages t request.length why) mid new → EachWas (WhyRead t request (Err why)) old new
   after_set_up why mid x clear stages =
-      each_joined (SetupDone t (bytes_of request) (Ok [])) (WhyStages t request.length why) (WhyRead t request (Err why)) (after_setup t request host some same why) old mid new
+      each_joined (SetupDone t (bytes_of request) (Ok []) old mid) (WhyStages t request.length why) (WhyRead t request (Err why)) (after_setup t request host some same why) old mid new
       (read_request_leaves t request (Ok []) old mid host same settled x clear) stages
 
   each_lost : (why : PipeFault) (mid : World) → IsNotOfBus {A = Vec ℕ} (Err why) → SetUp t request old (Ok []) mid → DataLost t request.length mid why new → EachWas (WhyRead t request (Err why)) old new

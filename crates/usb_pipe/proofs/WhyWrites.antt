@@ -14,7 +14,7 @@ use Rattle.usb_transaction.specs.declared.fault.TransFault.{TransFault}
 use Rattle.usb_transaction.specs.Over.{CanAccept, SetupDone}
 use Rattle.usb_transaction.specs.Spared.{EachSpared}
 use Rattle.usb_transaction.specs.Why.{NoThreeDamaged, Listens, HasNext, status, refusal, WhyControlIn}
-use Rattle.usb_transaction.proofs.OverSetup.{same_address}
+use Rattle.usb_transaction.proofs.OverSetup.{same_address, kept_of}
 use Rattle.usb_transaction.proofs.Spared.{spared_wider}
 use Rattle.usb_transaction.proofs.WhyListens.{listens_at}
 use Rattle.usb_transaction.proofs.WhyControlIn.{control_in_why}
@@ -23,7 +23,7 @@ use Rattle.usb_pipe.specs.Control.{fault_of}
 use Rattle.usb_pipe.specs.Stages.{NoSetUp, NoStatus, Writes}
 use Rattle.usb_pipe.specs.Whole.{IsNotOfBus, WriteLeaves}
 use Rattle.usb_pipe.specs.WhyWhole.{WhyWrite}
-use Rattle.usb_pipe.proofs.WholeSteps.{ended, ended_settled, SetUpWhy, request_why, Accepted, accepted_since}
+use Rattle.usb_pipe.proofs.WholeSteps.{ended, ended_settled, SetUpWhy, request_why, Accepted, accepted_at}
 use Rattle.usb_pipe.proofs.WholeWrites.{Closing, refuses, ends, closes, same_spec, stage_then, over_status, write_leaves}
 use Rattle.usb_pipe.proofs.WhySends.{lost_answer, lost_wait, ended_damages, never_three}
 
@@ -34,7 +34,7 @@ never_failed : (t : Target) (done : Unit {0}) (j : ℕ) (p : List ℕ) (s v : St
 never_failed t done j p s v = record { answered = λ l e. cc e; waited = λ l calm few e. cc e }
 
 -- setup data that were not acknowledged: nothing is a wait
-why_no_set_up : (t : Target) (request : Setup) (fault : TransFault) (why : PipeFault) → why ≡ fault_of fault → (j : ℕ) (p : List ℕ) (s v : State) → SetUpWhy t request (Err fault) j p s v → WhyWrite t (Err why) j p s v
+why_no_set_up : (t : Target) (request : Setup) (fault : TransFault) (why : PipeFault) → why ≡ fault_of fault → {old new : World} (j : ℕ) (p : List ℕ) (s v : State) → SetUpWhy t request (Err fault) old new j p s v → WhyWrite t (Err why) j p s v
 why_no_set_up t request fault why told j p s v x = record {
   answered = λ l e. x.1.answered l (lost_answer (Unit {0}) why fault told e);
   waited = λ l calm few e. subst (λ r. CanAccept s.spec r) (lost_wait (Unit {0}) why fault told e) (x.0.could l.at);
@@ -50,13 +50,13 @@ module _ (t : Target) (request : Setup) (nothing : request.length ≡ 0) (same :
       by_stage (ends address h) = status address (stage_then request s u a ∙ h) refl
 
   -- the status stage of a request that was accepted
-  module _ (fault : TransFault) (why : PipeFault) (told : why ≡ fault_of fault) (j : ℕ) (p : List ℕ) (s u v : State) (x : SetupDone t (bytes_of request) (Ok []) j p s u)
+  module _ (fault : TransFault) (why : PipeFault) (told : why ≡ fault_of fault) {old mid : World} (j : ℕ) (p : List ℕ) (s u v : State) (x : SetupDone t (bytes_of request) (Ok []) old mid j p s u)
       (y : WhyControlIn t One (Err fault) j p u v) where
     taken : Listens t p s → Accepted request s u
-    taken l = accepted_since request s u same (x.done l.at [] refl)
+    taken l = accepted_at request s u same (x.done l.at [] refl)
 
     listens : Listens t p s → Listens t p u
-    listens l = listens_at t p s u (same_spec request s u (taken l)) (same_address (bytes_of request) s u x.kept) l
+    listens l = listens_at t p s u (same_spec request s u (taken l)) (same_address (bytes_of request) s u (kept_of x.kept)) l
 
     calm_then : Listens t p s → s.spec.busy ≡ false → u.spec.busy ≡ false
     calm_then l calm = ap (λ d. d.busy) (same_spec request s u (taken l)) ∙ calm
@@ -76,7 +76,7 @@ module _ (t : Target) (request : Setup) (nothing : request.length ≡ 0) (same :
     (single : new.shared ≡ false) where
   each_no_set_up : (why : PipeFault) → IsNotOfBus {A = Unit {0}} (Err why) → NoSetUp t request old why new → EachSpared t request (WhyWrite t (Err why)) old new
   each_no_set_up why sound x =
-      spared_wider t request (SetUpWhy t request (Err x.fault)) (WhyWrite t (Err why)) (why_no_set_up t request x.fault why x.told) old new
+      spared_wider t request (SetUpWhy t request (Err x.fault) old new) (WhyWrite t (Err why)) (why_no_set_up t request x.fault why x.told) old new
       (request_why t request (Err x.fault) old new same settled three (ended (Unit {0}) why x.fault x.told sound x.set_up) single)
 
   each_no_status : (why : PipeFault) → IsNotOfBus {A = Unit {0}} (Err why) → NoStatus t request old why new → EachSpared t request (WhyWrite t (Err why)) old new
@@ -88,6 +88,6 @@ module _ (t : Target) (request : Setup) (nothing : request.length ≡ 0) (same :
 pub write_why : (t : Target) (request : Setup) (result : Result (Unit {0}) PipeFault) (old new : World) → request.length ≡ 0 → setup_of (bytes_of request) ≡ request
     → IsSettled old.roots → NoThreeDamaged old → Writes t request old result new → IsNotOfBus result → new.shared ≡ false → EachSpared t request (WhyWrite t result) old new
 write_why t request (Ok done) old new nothing same settled three x sound single =
-    spared_wider t request (WriteLeaves t request (Ok done)) (WhyWrite t (Ok done)) (λ j p s v y. never_failed t done j p s v) old new (write_leaves t request (Ok done) old new nothing same settled x sound single)
+    spared_wider t request (WriteLeaves t request (Ok done) old new) (WhyWrite t (Ok done)) (λ j p s v y. never_failed t done j p s v) old new (write_leaves t request (Ok done) old new nothing same settled x sound single)
 write_why t request (Err why) old new nothing same settled three (inl x) sound single = each_no_set_up t request nothing same old new settled three single why sound x
 write_why t request (Err why) old new nothing same settled three (inr x) sound single = each_no_status t request nothing same old new settled three single why sound x

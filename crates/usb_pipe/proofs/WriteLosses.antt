@@ -26,7 +26,7 @@ use Rattle.usb_transaction.proofs.Spared.{spared_wider}
 use Rattle.usb_pipe.specs.declared.fault.PipeFault.{PipeFault}
 use Rattle.usb_pipe.specs.Stages.{Writes}
 use Rattle.usb_pipe.specs.Whole.{IsNotOfBus, TookOrLost, took, lost, LossesOf}
-use Rattle.usb_pipe.proofs.WholeSteps.{ended, ended_settled, request_leaves, Accepted, accepted_since}
+use Rattle.usb_pipe.proofs.WholeSteps.{ended, ended_settled, request_leaves, Accepted, accepted_at}
 use Rattle.usb_pipe.proofs.WholeWrites.{still_at, stage_then, over_status}
 
 -- The stage that a request begins: one that gives an address exactly where it asks for one
@@ -56,12 +56,12 @@ gives row wanted (calls_port c i) = nothing (λ a e. cc e) (λ a e. cc e)
 -- A whole write at one device
 
 module _ (t : Target) (request : Setup) (same : setup_of (bytes_of request) ≡ request) (old mid new : World) (before : mid.losses ≡ old.losses)
-    (j : ℕ) (p : List ℕ) (s u v : State) (x : SetupDone t (bytes_of request) (Ok []) j p s u) where
+    (j : ℕ) (p : List ℕ) (s u v : State) (x : SetupDone t (bytes_of request) (Ok []) old mid j p s u) where
   abbrev asked : Outcome
   asked = outcome s.spec s.registers request
 
   accepts : is_at s t ≡ true → Accepted request s u
-  accepts at = accepted_since request s u same (x.done at [] refl)
+  accepts at = accepted_at request s u same (x.done at [] refl)
 
   -- where no address is asked for
   none_counted : {result : Result (List ℕ) TransFault} → LossesIn t result mid new j p u v → is_at s t ≡ true → ((n : ℕ) → asked ≢ takes_address n) → new.losses ≡ old.losses
@@ -112,7 +112,7 @@ write_losses t request (Ok unit) old new same plain settled x sound single =
     (in_losses t (Ok x.given) x.mid new (ended_settled x.set_up settled) x.status single)
 write_losses t request (Err why) old new same plain settled (inl x) sound single =
     let set_up : Ended set_up_as (setup_attempt t (bytes_of request)) old (Err x.fault) new = ended (Unit {0}) why x.fault x.told sound x.set_up in
-    spared_wider t request (SetupDone t (bytes_of request) (Err x.fault)) (LossesOf t request (Err why) old new)
+    spared_wider t request (SetupDone t (bytes_of request) (Err x.fault) old new) (LossesOf t request (Err why) old new)
     (λ j p s v y. not_set_up_at t request why old new (request_losses t request (Err x.fault) old new same plain settled set_up) j p s v) old new
     (request_leaves t request (Err x.fault) old new same settled set_up single)
 write_losses t request (Err why) old new same plain settled (inr x) sound single =

@@ -3,7 +3,9 @@ use Rattle.std.specs.Prelude.{◌≡◌, ◌≢◌, ◌⊎◌, ◌≤◌, ℕ, �
 use Rattle.arrayvec.specs.ArrayVec.{ArrayVec}
 use Rattle.std.specs.Global.{Vec}
 use Rattle.usb_packet.specs.declared.Toggle.{Toggle}
+use Rattle.usb_packet.specs.declared.Toggle.TheVariants.{One}
 use Rattle.usb_request.specs.declared.setup.Setup.{Setup}
+use Rattle.usb_request.specs.Layout.{bytes_of}
 use Rattle.usb_port.specs.PortState.{PortState}
 use Rattle.usb_device.specs.Spec.{Spec}
 use Rattle.usb_device.specs.declared.bulk.Pipe.{Pipe}
@@ -11,12 +13,14 @@ use Rattle.usb_device.specs.Request.{outcome, takes_address}
 use Rattle.usb_device.specs.Transfer.{first_stage, reading, ending, refused as stage_refused, max_packet}
 use Rattle.usb_device.specs.Rows.{State, accepted}
 use Rattle.usb_device.specs.Bulk.{tells_changes, rested}
+use Rattle.usb_device.specs.Tree.{row_of}
 use Rattle.usb_device.specs.Progress.{IsRead, StatusGiven, IsSink, SinkAt, IsSource, SourceAt, PollAt, NeverTold, OnlyControl, OnlyStage, OnlySink, OnlySource, OnlyChanges}
 use Rattle.usb_bus.specs.Losses.{one_more}
 use Rattle.usb_bus.specs.World.{World}
+use Rattle.usb_bus.specs.Steps.{Step, attempt, root_call, event, report, Course}
 use Rattle.usb_transaction.specs.declared.target.Target.{Target}
-use Rattle.usb_transaction.specs.Over.{is_at, ToldIn}
-use Rattle.usb_transaction.specs.Trans.{in_attempt}
+use Rattle.usb_transaction.specs.Over.{is_at, ToldIn, AcceptedAt}
+use Rattle.usb_transaction.specs.Trans.{in_attempt, out_attempt}
 use Rattle.usb_pipe.specs.declared.condition.Condition.TheVariants.{Ready, Halted}
 use Rattle.usb_pipe.specs.Bulk.{Bulk, is_ready}
 use Rattle.usb_pipe.specs.Interrupt.{Interrupt}
@@ -44,9 +48,29 @@ CanEnd spec (Err Broken) = ⊥
 CanEnd spec (Err (Bus fault)) = ⊤
 CanEnd spec (Err Memory) = (spec.silent ≡ false) × (spec.busy ≡ false)
 
+-- the device at a place accepted the request in an attempt that left this world, the last time in the call; these were its ports then
+pub record AcceptedIn (t : Target) (request : Setup) (old now : World) (j : ℕ) (p : List ℕ) (row : List PortState) (s : State) : Type 0 where
+  pub state : State
+  pub at : AcceptedAt t (bytes_of request) old now j p s state
+  pub had : row ≡ row_of at.below
+
+-- an attempt behind a SETUP that was acknowledged: IN of endpoint 0, or OUT of no bytes with DATA1
+abbrev pub IsBehind : Target → Step → World → Type 0
+IsBehind t (attempt a) w = (a ≡ in_attempt t 0) ⊎ (a ≡ out_attempt t 0 One [])
+IsBehind t (root_call c n) w = ⊥
+IsBehind t event w = ⊥
+IsBehind t (report line) w = ⊥
+
+-- it did so at a moment of the call: nothing but the stages behind SETUP was attempted since
+pub record Moment (t : Target) (request : Setup) (old new : World) (j : ℕ) (p : List ℕ) (row : List PortState) (s : State) : Type 0 where
+  pub now : World
+  pub accepts : AcceptedIn t request old now j p row s
+  pub since : Course (IsBehind t) now new
+
 -- the device refused the request, with its ports as they were when it accepted it
-pub record WasRefused (request : Setup) (s : State) : Type 0 where
+pub record WasRefused (t : Target) (request : Setup) (old new : World) (j : ℕ) (p : List ℕ) (s : State) : Type 0 where
   pub row : List PortState
+  pub moment : Moment t request old new j p row s
   pub is : first_stage row request.length (outcome s.spec s.registers request) ≡ stage_refused
 
 -- the target's maximum is the device's, or so little is wanted that one packet holds it
@@ -55,40 +79,43 @@ IsMaximum t wanted s = (max_packet s.spec ≡ t.max) ⊎ (wanted ≤ 8)
 
 -- the device answered a request for data, with its ports as they were when it accepted it; these bytes are of that answer, from its
 -- first on, and the transfer is over
-pub record AnswerRead (t : Target) (request : Setup) (bytes : List ℕ) (s v : State) : Type 0 where
+pub record AnswerRead (t : Target) (request : Setup) (bytes : List ℕ) (old new : World) (j : ℕ) (p : List ℕ) (s v : State) : Type 0 where
   pub row : List PortState
+  pub moment : Moment t request old new j p row s
   pub answer : List ℕ
   pub is : first_stage row request.length (outcome s.spec s.registers request) ≡ reading answer request.length 0
   pub came : IsMaximum t request.length s → bytes ≡ take request.length answer
   pub over : IsRead v
 
 -- a control read
-pub record ReadLeaves (t : Target) (request : Setup) (result : Result (Vec ℕ) PipeFault) (j : ℕ) (p : List ℕ) (s v : State) : Type 0 where
+pub record ReadLeaves (t : Target) (request : Setup) (result : Result (Vec ℕ) PipeFault) (old new : World) (j : ℕ) (p : List ℕ) (s v : State) : Type 0 where
   pub others : is_at s t ≡ false → v ≡ s
   pub frame : OnlyStage s v
-  pub done : is_at s t ≡ true → (bytes : Vec ℕ) → result ≡ Ok bytes → AnswerRead t request bytes.items s v
-  pub refused : is_at s t ≡ true → result ≡ Err Stalled → WasRefused request s
+  pub done : is_at s t ≡ true → (bytes : Vec ℕ) → result ≡ Ok bytes → AnswerRead t request bytes.items old new j p s v
+  pub refused : is_at s t ≡ true → result ≡ Err Stalled → WasRefused t request old new j p s
   pub could : is_at s t ≡ true → CanEnd s.spec result
 
 -- the device did what was asked when it accepted it, the last time with these ports, and its status stage was given
-pub record EffectDone (request : Setup) (s v : State) : Type 0 where
+pub record EffectDone (t : Target) (request : Setup) (old new : World) (j : ℕ) (p : List ℕ) (s v : State) : Type 0 where
   pub row : List PortState
+  pub moment : Moment t request old new j p row s
   pub address : Option ℕ
   pub is : first_stage row request.length (outcome s.spec s.registers request) ≡ ending address
   pub given : StatusGiven address (accepted s row request) v
   pub rest : OnlyControl (accepted s row request) v
 
 -- the device did what was asked, or did not hear of it
-pub data EffectOrNone (request : Setup) (s v : State) : Type 0 where
-  none : OnlyControl s v → v.registers ≡ s.registers → EffectOrNone request s v
-  some : (row : List PortState) → OnlyControl (accepted s row request) v → v.registers ≡ (accepted s row request).registers → EffectOrNone request s v
+pub data EffectOrNone (t : Target) (request : Setup) (old : World) (j : ℕ) (p : List ℕ) (s v : State) : Type 0 where
+  none : OnlyControl s v → v.registers ≡ s.registers → EffectOrNone t request old j p s v
+  some : (row : List PortState) (now : World) → AcceptedIn t request old now j p row s → OnlyControl (accepted s row request) v → v.registers ≡ (accepted s row request).registers
+      → EffectOrNone t request old j p s v
 
 -- a request without data
-pub record WriteLeaves (t : Target) (request : Setup) (result : Result (Unit {0}) PipeFault) (j : ℕ) (p : List ℕ) (s v : State) : Type 0 where
+pub record WriteLeaves (t : Target) (request : Setup) (result : Result (Unit {0}) PipeFault) (old new : World) (j : ℕ) (p : List ℕ) (s v : State) : Type 0 where
   pub others : is_at s t ≡ false → v ≡ s
-  pub failed : (fault : PipeFault) → result ≡ Err fault → EffectOrNone request s v
-  pub done : is_at s t ≡ true → (u : Unit {0}) → result ≡ Ok u → EffectDone request s v
-  pub refused : is_at s t ≡ true → result ≡ Err Stalled → WasRefused request s
+  pub failed : (fault : PipeFault) → result ≡ Err fault → EffectOrNone t request old j p s v
+  pub done : is_at s t ≡ true → (u : Unit {0}) → result ≡ Ok u → EffectDone t request old new j p s v
+  pub refused : is_at s t ≡ true → result ≡ Err Stalled → WasRefused t request old new j p s
   pub could : is_at s t ≡ true → CanEnd s.spec result
 
 -- Address losses (9.4.6)

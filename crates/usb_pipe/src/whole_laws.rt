@@ -29,7 +29,7 @@ ghost use Rattle.usb_pipe.specs.Whole.{IsNotOfBus, ReadLeaves, WriteLeaves, Loss
 /// answer is, nothing of any device changed but where its own transfer stands (8.5.3).
 pub fn what_a_read_leaves()
     ensures { (t : ATarget) (request : ARequest) (result : Result (AVec ℕ) AFault) (old new : World) → IsToHost request → 1 ≤ request.length → setup_of (bytes_of request) ≡ request
-        → IsSettled old.roots → Reads t request old result new → IsNotOfBus result → new.shared ≡ false → EachWas (ReadLeaves t request result) old new }
+        → IsSettled old.roots → Reads t request old result new → IsNotOfBus result → new.shared ≡ false → EachWas (ReadLeaves t request result old new) old new }
 {}
 
 /// A request without data that is done had its effect in the device, as it was last accepted; SET_ADDRESS has it where the device saw
@@ -37,7 +37,7 @@ pub fn what_a_read_leaves()
 /// reached nothing is said.
 pub fn what_a_write_leaves()
     ensures { (t : ATarget) (request : ARequest) (result : Result (Unit {0}) AFault) (old new : World) → request.length ≡ 0 → setup_of (bytes_of request) ≡ request
-        → IsSettled old.roots → Writes t request old result new → IsNotOfBus result → new.shared ≡ false → EachSpared t request (WriteLeaves t request result) old new }
+        → IsSettled old.roots → Writes t request old result new → IsNotOfBus result → new.shared ≡ false → EachSpared t request (WriteLeaves t request result old new) old new }
 {}
 
 /// A request without data counts an address loss exactly where it is done, asked for an address, and the device did not see the last ACK

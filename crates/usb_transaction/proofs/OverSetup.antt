@@ -12,29 +12,31 @@ use Rattle.usb_device.specs.Spec.{Spec, Hub}
 use Rattle.usb_device.specs.Calls.{set_call, clear_call}
 use Rattle.usb_device.specs.Request.{Outcome, stalled, answers, takes_address, takes_configuration, halts, unhalts, tells_port, calls_port, Is, unless, text_asked, status_bytes, get_descriptor, get_status, set_address, set_configuration, endpoint_of, on_endpoint, get_hub_descriptor, port_named, told_port, called_at, get_port_status, port_feature, outcome, registers_at_setup}
 use Rattle.usb_device.specs.Rows.{State, Reply, with_endpoints, begun, accepted}
+use Rattle.usb_device.specs.Effect.{effect_of_request, asked_by_setup}
 use Rattle.usb_device.specs.Attempt.{Way, whole, broken, lost, is_whole, heard}
-use Rattle.usb_device.specs.Tree.{row_of}
+use Rattle.usb_device.specs.Tree.{full, acted, row_of}
 use Rattle.usb_bus.specs.declared.types.Outcome as bus
 use Rattle.usb_bus.specs.declared.types.Outcome.TheVariants as got_as
 use Rattle.usb_bus.specs.Live.{address_of}
 use Rattle.usb_bus.specs.Passes.{IsSettled}
 use Rattle.usb_bus.specs.OneHolder.{got}
 use Rattle.usb_bus.specs.World.{World}
-use Rattle.usb_bus.specs.Steps.{outcome_in}
-use Rattle.usb_bus.specs.Devices.{DidSetup}
+use Rattle.usb_bus.specs.Steps.{outcome_in, attempt, after}
+use Rattle.usb_bus.specs.Devices.{Relation, DidSetup}
 use Rattle.usb_bus.proofs.Booleans.{no}
 use Rattle.usb_transaction.specs.declared.target.Target.{Target}
 use Rattle.usb_transaction.specs.declared.fault.TransFault.{TransFault}
 use Rattle.usb_transaction.specs.declared.fault.TransFault.TheVariants.{Stalled, Busy, NoAnswer, Bus}
 use Rattle.usb_transaction.specs.Heard.{set_up_as}
-use Rattle.usb_transaction.specs.Trail.{Ended, Tells, waits_in}
+use Rattle.usb_transaction.specs.Trail.{Trail, Ended, Tells, waits_in}
 use Rattle.usb_transaction.specs.Trans.{packet_of, setup_attempt}
-use Rattle.usb_transaction.specs.Over.{is_at, CanAccept, AcceptedSince, SetupDone}
+use Rattle.usb_transaction.specs.Over.{is_at, CanAccept, AcceptedAt, AcceptedSince, SetupDone}
 use Rattle.usb_transaction.specs.Spared.{EachSpared}
 use Rattle.usb_transaction.proofs.Lasts.{set_up_last}
 use Rattle.usb_transaction.proofs.Meanings.{taken_up}
 use Rattle.usb_transaction.proofs.Overs.{LastIs, last_is, other_twice}
-use Rattle.usb_transaction.proofs.Spared.{spared_along_then, spared_setup}
+use Rattle.usb_transaction.proofs.Accepting.{AcceptedNow, Accepts, accepting}
+use Rattle.usb_transaction.proofs.Spared.{spared_along_then}
 
 -- A request asks the same once it was accepted
 
@@ -169,30 +171,22 @@ address_stays g (calls_port c i) = refl
 
 -- What is so over any number of attempts
 
+-- a device is as after setup data that it accepted with these ports
+pub record AcceptedWith (bytes : List ℕ) (s v : State) : Type 0 where
+  pub row : List PortState
+  pub is : v ≡ accepted s row (setup_of bytes)
+
 abbrev pub Kept : List ℕ → State → State → Type 0
-Kept bytes s v = (v ≡ s) ⊎ AcceptedSince bytes s v
+Kept bytes s v = (v ≡ s) ⊎ AcceptedWith bytes s v
 
-record SetUp (t : Target) (bytes : List ℕ) (j : ℕ) (p : List ℕ) (s v : State) : Type 0 where
-  others : is_at s t ≡ false → v ≡ s
-  kept : Kept bytes s v
-
--- the ports of the last time
-accepted_since : (bytes : List ℕ) (s u v : State) → Kept bytes s u → AcceptedSince bytes u v → AcceptedSince bytes s v
-accepted_since bytes s u v (inl e) x = record { row = x.row; is = x.is ∙ ap (λ d. accepted d x.row (setup_of bytes)) e }
-accepted_since bytes s u v (inr y) x =
-    record { row = x.row; is = x.is ∙ ap (λ d. accepted d x.row (setup_of bytes)) y.is ∙ accepted_twice s y.row x.row (setup_of bytes) }
-
-kept_since : (bytes : List ℕ) (s u v : State) → Kept bytes s u → Kept bytes u v → Kept bytes s v
-kept_since bytes s u v (inl e) (inl f) = inl (f ∙ e)
-kept_since bytes s u v (inr y) (inl f) = inr (record { row = y.row; is = f ∙ y.is })
-kept_since bytes s u v x (inr y) = inr (accepted_since bytes s u v x y)
+-- with the ports of the last time
+accepted_since : (bytes : List ℕ) (s u v : State) (row : List PortState) → Kept bytes s u → v ≡ accepted u row (setup_of bytes) → v ≡ accepted s row (setup_of bytes)
+accepted_since bytes s u v row (inl e) x = x ∙ ap (λ d. accepted d row (setup_of bytes)) e
+accepted_since bytes s u v row (inr y) x = x ∙ ap (λ d. accepted d row (setup_of bytes)) y.is ∙ accepted_twice s y.row row (setup_of bytes)
 
 pub same_address : (bytes : List ℕ) (s u : State) → Kept bytes s u → address_of u ≡ address_of s
 same_address bytes s u (inl e) = ap (λ d. address_of d) e
 same_address bytes s u (inr y) = ap (λ d. address_of d) y.is ∙ address_stays s.registers (outcome s.spec s.registers (setup_of bytes))
-
-joined : (t : Target) (bytes : List ℕ) (j : ℕ) (p : List ℕ) (s u v : State) → SetUp t bytes j p s u → SetUp t bytes j p u v → SetUp t bytes j p s v
-joined t bytes j p s u v x y = record { others = other_twice t s u v x.others y.others; kept = kept_since bytes s u v x.kept y.kept }
 
 same_spec : (bytes : List ℕ) (s u : State) → Kept bytes s u → u.spec ≡ s.spec
 same_spec bytes s u (inl e) = ap {A = State} (λ d. d.spec) e
@@ -201,14 +195,48 @@ same_spec bytes s u (inr y) = ap {A = State} (λ d. d.spec) y.is ∙ spec_stays 
 same_at : (t : Target) (bytes : List ℕ) (s u : State) → Kept bytes s u → is_at s t ≡ true → is_at u t ≡ true
 same_at t bytes s u x h = ap (λ n. n == t.addr) (same_address bytes s u x) ∙ h
 
-ended : (t : Target) (bytes : List ℕ) (result : Result (List ℕ) TransFault) (j : ℕ) (p : List ℕ) (s u v : State)
-    → SetUp t bytes j p s u → SetupDone t bytes result j p u v → SetupDone t bytes result j p s v
-ended t bytes result j p s u v x y = record {
-  others = other_twice t s u v x.others y.others;
-  kept = kept_since bytes s u v x.kept y.kept;
-  done = λ h got e. accepted_since bytes s u v x.kept (y.done (same_at t bytes s u x.kept h) got e);
-  could = λ h. subst (λ d. CanAccept d result) (same_spec bytes s u x.kept) (y.could (same_at t bytes s u x.kept h));
-}
+-- it asks the same of its ports once it was accepted
+asked_again : (bytes : List ℕ) (s u : State) → Kept bytes s u → asked_by_setup u (setup_of bytes) ≡ asked_by_setup s (setup_of bytes)
+asked_again bytes s u (inl e) = ap (λ d. asked_by_setup d (setup_of bytes)) e
+asked_again bytes s u (inr y) =
+    let r : Setup = setup_of bytes in
+    let o : Outcome = outcome s.spec s.registers r in
+    ap (λ d. asked_by_setup d r) y.is
+    ∙ ap effect_of_request (ap (λ x. outcome x (registers_at_setup s.registers o) r) (spec_stays s o) ∙ asks_again s.spec s.registers r o refl)
+
+-- And at which attempt
+
+abbrev KeptSince : Target → List ℕ → World → ℕ → List ℕ → State → State → Type 0
+KeptSince t bytes old j p s v = (v ≡ s) ⊎ AcceptedSince t bytes old j p s v
+
+record SetUp (t : Target) (bytes : List ℕ) (old : World) (j : ℕ) (p : List ℕ) (s v : State) : Type 0 where
+  others : is_at s t ≡ false → v ≡ s
+  kept : KeptSince t bytes old j p s v
+
+pub kept_of : {t : Target} {bytes : List ℕ} {old : World} {j : ℕ} {p : List ℕ} {s v : State} → (v ≡ s) ⊎ AcceptedSince t bytes old j p s v → Kept bytes s v
+kept_of (inl e) = inl e
+kept_of (inr y) = inr (record { row = row_of y.at.below; is = y.at.is })
+
+-- one attempt more
+module _ (t : Target) (bytes : List ℕ) (old : World) (outcomes : List bus.Outcome) (w : World) (r : Trail (setup_attempt t bytes) old outcomes w) (j : ℕ) (p : List ℕ) (s u v : State) where
+  accepted_at : Kept bytes s u → AcceptedNow t bytes w j p u v → AcceptedAt t bytes old (after (attempt (setup_attempt t bytes)) w) j p s v
+  accepted_at k x = record {
+    outcomes = outcomes;
+    mid = w;
+    trail = r;
+    last = refl;
+    b = x.b;
+    held = u;
+    below = x.below;
+    holder = x.holder;
+    is = accepted_since bytes s u v (row_of x.below) k x.is;
+    left = x.left ∙ ap (λ e. Some (full x.b v (acted e x.below))) (asked_again bytes s u k);
+  }
+
+  kept_more : KeptSince t bytes old j p s u → (v ≡ u) ⊎ AcceptedNow t bytes w j p u v → KeptSince t bytes old j p s v
+  kept_more (inl e) (inl f) = inl (f ∙ e)
+  kept_more (inr y) (inl f) = inr (subst (λ d. AcceptedSince t bytes old j p s d) (sym f) y)
+  kept_more k (inr x) = inr (record { now = after (attempt (setup_attempt t bytes)) w; at = accepted_at (kept_of k) x })
 
 -- One attempt
 
@@ -227,19 +255,6 @@ pub did_others : (t : Target) (bytes : List ℕ) (w : World) (j : ℕ) (p : List
 did_others t bytes w j p s v (DidSetup.other d e) h = e
 did_others t bytes w j p s v (DidSetup.silent d q o e) h = e
 did_others t bytes w j p s v (DidSetup.asked d q b below at x o e) h = no (sym h ∙ d)
-
--- the device at the address that answered by ACK
-did_done : (t : Target) (bytes : List ℕ) (w : World) (j : ℕ) (p : List ℕ) (s v : State) → DidSetup (setup_attempt t bytes) bytes w j p s v
-    → is_at s t ≡ true → outcome_in (setup_attempt t bytes) w ≡ got_as.Ack → AcceptedSince bytes s v
-did_done t bytes w j p s v (DidSetup.other d e) h a = no (sym d ∙ h)
-did_done t bytes w j p s v (DidSetup.silent d q o e) h a = elim (no_ack (sym a ∙ o)) [ ]
-  where
-    no_ack : got_as.Ack ≡ got_as.Nothing → ⊥
-    no_ack e = cc e
-did_done t bytes w j p s v (DidSetup.asked d q b below at x o e) h a = record {
-  row = row_of below;
-  is = e ∙ taken_up (is_whole x.first && is_whole x.second) x.third s (accepted s (row_of below) (setup_of bytes)) 8 (sym o ∙ a);
-}
 
 abbrev acked : (result : Result (List ℕ) TransFault) (o : bus.Outcome) → LastIs set_up_as result o → (bytes : List ℕ) → result ≡ Ok bytes → o ≡ got_as.Ack
 acked result o l bytes e = set_up_last o (packet_of bytes) (subst (λ r. LastIs set_up_as r o) e l)
@@ -283,23 +298,34 @@ did_could t bytes result w j p s v (DidSetup.asked d q b below at x o e) free l 
     can_accept s.spec result (outcome_in (setup_attempt t bytes) w) free l (λ a. q)
     (λ a. law_no_stall (is_whole x.first && is_whole x.second) x.third s (accepted s (row_of below) (setup_of bytes)) (sym o ∙ a))
 
-did_once : (t : Target) (bytes : List ℕ) (w : World) (j : ℕ) (p : List ℕ) (s v : State) → DidSetup (setup_attempt t bytes) bytes w j p s v → SetUp t bytes j p s v
-did_once t bytes w j p s v d = record { others = did_others t bytes w j p s v d; kept = did_kept t bytes w j p s v d }
+-- Over the attempts
 
-did_last : (t : Target) (bytes : List ℕ) (result : Result (List ℕ) TransFault) (w : World) (j : ℕ) (p : List ℕ) (s v : State) → DidSetup (setup_attempt t bytes) bytes w j p s v
-    → result ≢ Err Busy → LastIs set_up_as result (outcome_in (setup_attempt t bytes) w) → SetupDone t bytes result j p s v
-did_last t bytes result w j p s v d free l = record {
-  others = did_others t bytes w j p s v d;
-  kept = did_kept t bytes w j p s v d;
-  done = λ h got e. did_done t bytes w j p s v d h (acked result (outcome_in (setup_attempt t bytes) w) l got e);
-  could = λ h. did_could t bytes result w j p s v d free l h;
-}
+abbrev Did : Target → List ℕ → World → Relation
+Did t bytes w j p s v = DidSetup (setup_attempt t bytes) bytes w j p s v × Accepts t bytes w j p s v
+
+module _ (t : Target) (bytes : List ℕ) (old : World) (outcomes : List bus.Outcome) (w : World) (r : Trail (setup_attempt t bytes) old outcomes w) (j : ℕ) (p : List ℕ) (s u v : State) (q : SetUp t bytes old j p s u) (d : Did t bytes w j p u v) where
+  joined : SetUp t bytes old j p s v
+  joined = record {
+    others = other_twice t s u v q.others (did_others t bytes w j p u v d.0);
+    kept = kept_more t bytes old outcomes w r j p s u v q.kept d.1.kept;
+  }
+
+  ended : (result : Result (List ℕ) TransFault) → result ≢ Err Busy → LastIs set_up_as result (outcome_in (setup_attempt t bytes) w)
+      → SetupDone t bytes result old (after (attempt (setup_attempt t bytes)) w) j p s v
+  ended result free l =
+      let k : Kept bytes s u = kept_of q.kept in
+      record {
+        others = joined.others;
+        kept = joined.kept;
+        done = λ h got e. accepted_at t bytes old outcomes w r j p s u v k (d.1.acked (same_at t bytes s u k h) (acked result (outcome_in (setup_attempt t bytes) w) l got e));
+        could = λ h. subst (λ x. CanAccept x result) (same_spec bytes s u k) (did_could t bytes result w j p u v d.0 free l (same_at t bytes s u k h));
+      }
 
 pub set_up_leaves : (t : Target) (bytes : List ℕ) (result : Result (List ℕ) TransFault) (old new : World) → length bytes ≡ 8 → IsSettled old.roots
-    → Ended set_up_as (setup_attempt t bytes) old result new → new.shared ≡ false → EachSpared t (setup_of bytes) (SetupDone t bytes result) old new
+    → Ended set_up_as (setup_attempt t bytes) old result new → new.shared ≡ false → EachSpared t (setup_of bytes) (SetupDone t bytes result old new) old new
 set_up_leaves t bytes result old new eight settled e single =
-    spared_along_then t (setup_of bytes) (λ os w. SetUp t bytes) (λ os w. SetupDone t bytes result) (DidSetup (setup_attempt t bytes) bytes) (LastIs set_up_as result)
+    spared_along_then t (setup_of bytes) (λ os w. SetUp t bytes old) (λ os w. SetupDone t bytes result old w) (Did t bytes) (LastIs set_up_as result)
     (λ j p s. record { others = λ h. refl; kept = inl refl })
-    (λ os w r made o j p s u v q d. joined t bytes j p s u v q (did_once t bytes w j p u v d))
-    (λ os w r made l j p s u v q d. ended t bytes result j p s u v q (did_last t bytes result w j p u v d (never_busy t bytes result old new e) l))
-    (did_others t bytes) (spared_setup t bytes eight) settled e.trail (last_is set_up_as result e.last e.outcomes e.onward e.tells) single
+    (λ os w r made o j p s u v q d. joined t bytes old os w r j p s u v q d)
+    (λ os w r made l j p s u v q d. ended t bytes old os w r j p s u v q d result (never_busy t bytes result old new e) l)
+    (λ w j p s v d. did_others t bytes w j p s v d.0) (accepting t bytes eight) settled e.trail (last_is set_up_as result e.last e.outcomes e.onward e.tells) single

@@ -119,7 +119,7 @@ module _ (t : Target) (bytes : List ℕ) (w : World) (j : ℕ) (p : List ℕ) (v
       let roots : _ = (after (attempt (setup_attempt t bytes)) w).roots in
       new_at_0 (place_at roots j p) v (step_new (attempt (setup_attempt t bytes)) w (suc j ∷ p) h) (state_stands roots j p ∙ there)
 
-  spared_rests : IsSpared t (setup_of bytes) v → hit ≡ false
+  pub spared_rests : IsSpared t (setup_of bytes) v → hit ≡ false
   spared_rests x = pick (decided (is_harmless (setup_of bytes))) (decided hit)
     where
       pick : (is_harmless (setup_of bytes) ≡ true) ⊎ (is_harmless (setup_of bytes) ≡ false) → (hit ≡ true) ⊎ (hit ≡ false) → hit ≡ false

@@ -6,20 +6,22 @@ use Rattle.usb_port.specs.PortState.{PortState}
 use Rattle.usb_request.specs.Layout.{setup_of}
 use Rattle.usb_device.specs.Spec.{Spec}
 use Rattle.usb_device.specs.Bulk.{tells_changes, change_bits}
+use Rattle.usb_device.specs.Effect.{asked_by_setup}
 use Rattle.usb_device.specs.Rows.{State, accepted}
 use Rattle.usb_device.specs.Transfer.{ending, reading, refused as stage_refused, toggle_at}
-use Rattle.usb_device.specs.Tree.{Ports, full, row_of, place_at}
+use Rattle.usb_device.specs.Tree.{Ports, full, acted, row_of, place_at}
 use Rattle.usb_device.specs.Progress.{ReadingAt, ReadOn, StatusOn, IsRead, IsSource, SourceAt, SourceOn, IsSink, SinkAt, Joined, PollAt, NeverTold, ToldByte, OnlyControl, OnlyStage, OnlySource, OnlySink, OnlyChanges}
 use Rattle.usb_bus.specs.declared.types.Attempt.{Attempt}
 use Rattle.usb_bus.specs.declared.types.Outcome.{Outcome}
 use Rattle.usb_bus.specs.Live.{address_of}
 use Rattle.usb_bus.specs.World.{World}
-use Rattle.usb_bus.specs.Steps.{ready}
+use Rattle.usb_bus.specs.OneHolder.{HolderIn}
+use Rattle.usb_bus.specs.Steps.{ready, attempt, after}
 use Rattle.usb_transaction.specs.declared.target.Target.{Target}
 use Rattle.usb_transaction.specs.declared.fault.TransFault.{TransFault}
 use Rattle.usb_transaction.specs.declared.fault.TransFault.TheVariants.{Stalled, Busy, NoAnswer, Bus}
 use Rattle.usb_transaction.specs.Trail.{Trail}
-use Rattle.usb_transaction.specs.Trans.{in_attempt}
+use Rattle.usb_transaction.specs.Trans.{in_attempt, setup_attempt}
 
 -- the packet that came with an answer
 abbrev pub packet_in : Result (List ℕ) TransFault → Option (List ℕ)
@@ -132,14 +134,28 @@ pub record ChangesIn (t : Target) (toggle : Toggle) (old : World) (result : Resu
   pub frame : tells_changes s.spec s.registers ≡ true → OnlyChanges s v
   pub poll : is_at s t ≡ true → tells_changes s.spec s.registers ≡ true → PollAt NeverTold toggle s → PollEnds (ToldIn (in_attempt t 1) old j p) toggle result v
 
--- a device accepted setup data once or more often, and is as after the last time; these were its ports then
-pub record AcceptedSince (bytes : List ℕ) (s v : State) : Type 0 where
-  pub row : List PortState
-  pub is : v ≡ accepted s row (setup_of bytes)
+-- A device accepted setup data, the last time in the attempt that left this world: it alone held the address, it is what the request makes of what it was
+-- before the transaction, and what the request asks of its ports is done (8.5.3, 11.24.2)
+pub record AcceptedAt (t : Target) (bytes : List ℕ) (old now : World) (j : ℕ) (p : List ℕ) (s v : State) : Type 0 where
+  pub outcomes : List Outcome
+  pub mid : World
+  pub trail : Trail (setup_attempt t bytes) old outcomes mid
+  pub last : now ≡ after (attempt (setup_attempt t bytes)) mid
+  pub b : PortState
+  pub held : State
+  pub below : Ports
+  pub holder : HolderIn (setup_attempt t bytes) mid j p b held below
+  pub is : v ≡ accepted s (row_of below) (setup_of bytes)
+  pub left : place_at now.roots j p ≡ Some (full b v (acted (asked_by_setup s (setup_of bytes)) below))
 
--- SETUP (8.5.3)
-pub record SetupDone (t : Target) (bytes : List ℕ) (result : Result (List ℕ) TransFault) (j : ℕ) (p : List ℕ) (s v : State) : Type 0 where
+-- so it was at one of the attempts
+pub record AcceptedSince (t : Target) (bytes : List ℕ) (old : World) (j : ℕ) (p : List ℕ) (s v : State) : Type 0 where
+  pub now : World
+  pub at : AcceptedAt t bytes old now j p s v
+
+-- SETUP (8.5.3): where it is done, its last attempt was accepted
+pub record SetupDone (t : Target) (bytes : List ℕ) (result : Result (List ℕ) TransFault) (old new : World) (j : ℕ) (p : List ℕ) (s v : State) : Type 0 where
   pub others : is_at s t ≡ false → v ≡ s
-  pub kept : (v ≡ s) ⊎ AcceptedSince bytes s v
-  pub done : is_at s t ≡ true → (got : List ℕ) → result ≡ Ok got → AcceptedSince bytes s v
+  pub kept : (v ≡ s) ⊎ AcceptedSince t bytes old j p s v
+  pub done : is_at s t ≡ true → (got : List ℕ) → result ≡ Ok got → AcceptedAt t bytes old new j p s v
   pub could : is_at s t ≡ true → CanAccept s.spec result

@@ -67,5 +67,5 @@ pub fn what_a_poll_leaves()
 /// they may have reset nothing is said.
 pub fn what_setup_leaves()
     ensures { (t : ATarget) (bytes : List ℕ) (result : Result (List ℕ) AFault) (old new : World) → length bytes ≡ 8 → IsSettled old.roots
-        → Ended set_up_as (setup_attempt t bytes) old result new → new.shared ≡ false → EachSpared t (setup_of bytes) (SetupDone t bytes result) old new }
+        → Ended set_up_as (setup_attempt t bytes) old result new → new.shared ≡ false → EachSpared t (setup_of bytes) (SetupDone t bytes result old new) old new }
 {}
