@@ -1,5 +1,5 @@
 -- What a clear of a halt leaves of each device.
-use Rattle.std.proofs.Common.{◌≡◌, ◌≢◌, ◌∙◌, refl, sym, ap, subst, arith, false, true, Bool}
+use Rattle.std.proofs.Common.{◌≡◌, ◌≢◌, ◌⊎◌, inl, inr, ◌∙◌, refl, sym, ap, subst, arith, false, true, Bool}
 use Rattle.std.specs.Prelude.{ℕ, ◌+◌, ◌*◌, ◌/◌, ◌%◌, ◌<◌, ◌==◌, ◌&&◌, if◌then◌else◌, List, Option, None, Some, Result, Ok, Err, MatchResult}
 use Rattle.std.proofs.lemmas.Bool.Decides.{nat_tests}
 use Rattle.usb_request.specs.declared.setup.Setup.{Setup}
@@ -19,6 +19,7 @@ use Rattle.usb_bus.specs.Courses.{is_harmless}
 use Rattle.usb_bus.specs.World.{World}
 use Rattle.usb_bus.specs.Devices.{EachWas}
 use Rattle.usb_bus.proofs.Devices.{each_none, each_wider}
+use Rattle.usb_transaction.specs.declared.target.Target.{Target}
 use Rattle.usb_transaction.specs.Trans.{Worked}
 use Rattle.usb_transaction.proofs.Spared.{spared_all}
 use Rattle.usb_pipe.specs.declared.condition.Condition.{Condition}
@@ -162,6 +163,17 @@ module _ (request : Setup) (which : Which) (s : State) (is : outcome s.spec s.re
   not_refused : {t : Target} {old new : World} {j : ℕ} {p : List ℕ} → WasRefused t request old new j p s → ⊥
   not_refused r = cc (sym (ap (first_stage r.row request.length) is) ∙ r.is)
 
+-- the endpoint is as it was, or begun again
+failed_out : {t : Target} {old : World} {j : ℕ} {p : List ℕ} (request : Setup) (s : State) → outcome s.spec s.registers request ≡ unhalts BulkOut → (v : State) → EffectOrNone t request old j p s v
+    → (v.bulk_out ≡ s.bulk_out) ⊎ (v.bulk_out ≡ rested)
+failed_out request s is v (none o e) = inl (ap (λ d. d.bulk_out) (only_stage s v o e))
+failed_out request s is v (some row now m o e) = inr (ap (λ d. d.bulk_out) (accepted_rests request BulkOut s is row v o e))
+
+failed_in : {t : Target} {old : World} {j : ℕ} {p : List ℕ} (request : Setup) (s : State) → outcome s.spec s.registers request ≡ unhalts BulkIn → (v : State) → EffectOrNone t request old j p s v
+    → (v.bulk_in ≡ s.bulk_in) ⊎ (v.bulk_in ≡ rested)
+failed_in request s is v (none o e) = inl (ap (λ d. d.bulk_in) (only_stage s v o e))
+failed_in request s is v (some row now m o e) = inr (ap (λ d. d.bulk_in) (accepted_rests request BulkIn s is row v o e))
+
 -- One device and its pipe
 
 -- the request of a clear
@@ -221,12 +233,12 @@ failed_leaves pipe why breaks j p s v x = record {
       let is = asks_out pipe s out f.endpoint in
       let k : Still s v = failed_still (clear_of pipe) BulkOut s is v (x.failed why refl) in
       let broken : after_failed_clear pipe.condition why ≡ Broken = breaks (λ e. not_refused (clear_of pipe) BulkOut s is (x.refused at (ap Err e))) in
-      (record { endpoint = still_sink pipe.ep pipe.max s v k f.endpoint; level = λ r. cc (sym broken ∙ r); halted = λ r. cc (sym broken ∙ r) }, k.sink, tt);
+      (record { endpoint = still_sink pipe.ep pipe.max s v k f.endpoint; level = λ r. cc (sym broken ∙ r); halted = λ r. cc (sym broken ∙ r) }, k.sink, failed_out (clear_of pipe) s is v (x.failed why refl));
   source = λ at way got f.
       let is = asks_in pipe s way f.endpoint in
       let k : Still s v = failed_still (clear_of pipe) BulkIn s is v (x.failed why refl) in
       let broken : after_failed_clear pipe.condition why ≡ Broken = breaks (λ e. not_refused (clear_of pipe) BulkIn s is (x.refused at (ap Err e))) in
-      (record { endpoint = still_source pipe.ep pipe.max s v k f.endpoint; level = λ r. cc (sym broken ∙ r); halted = λ r. cc (sym broken ∙ r) }, k.place, tt);
+      (record { endpoint = still_source pipe.ep pipe.max s v k f.endpoint; level = λ r. cc (sym broken ∙ r); halted = λ r. cc (sym broken ∙ r) }, k.place, failed_in (clear_of pipe) s is v (x.failed why refl));
 }
 
 -- A call that makes no request

@@ -41,7 +41,7 @@ use Rattle.usb_pipe.specs.Toggles.{flips}
 use Rattle.usb_pipe.specs.Whole.{IsNotOfBus, CanEnd, AcceptedIn, IsBehind, AnswerRead, ReadLeaves}
 use Rattle.usb_pipe.proofs.Behind.{course_joined, in_behind, out_behind, goes_behind, stage_behind}
 use Rattle.usb_pipe.proofs.WholeSteady.{IsReading, reads}
-use Rattle.usb_pipe.proofs.WholeSteps.{ended, ended_settled, ended_unshared, request_leaves, InLeaves, asked_leaves, Accepted, accepted_since, only_twice, only_stage, at_from, flips_at, flips_none}
+use Rattle.usb_pipe.proofs.WholeSteps.{ended, ended_settled, ended_unshared, request_leaves, InLeaves, asked_leaves, Accepted, accepted_at, accepted_in, only_twice, only_stage, at_from, flips_at, flips_none}
 
 -- What a request for data asks: bytes, or a refusal
 
@@ -563,10 +563,10 @@ module _ (t : Target) where
         by_cause : DataLost t request.length x.mid why new ⊎ NoRoom t request.length x.mid why new → EachWas (ReadLeaves t request (Err why) old new) old new
         by_cause (inl d) =
             let lost = ended (Vec ℕ) why d.fault d.told sound d.lost in
-            after_set_up why x.mid x.set_up (course_joined (goes_behind d.before) (in_behind lost)) (goes_unshared d.before (ended_unshared lost single))
+            after_set_up why x.mid x.set_up (course_joined (goes_behind d.before) (in_behind (flips d.packets One) lost)) (goes_unshared d.before (ended_unshared lost single))
             (each_lost request.length why x.mid new sound (ended_settled x.set_up settled) d single)
         by_cause (inr d) =
-            after_set_up why x.mid x.set_up (course_joined (goes_behind d.before) (in_behind d.came)) (goes_unshared d.before (ended_unshared d.came single))
+            after_set_up why x.mid x.set_up (course_joined (goes_behind d.before) (in_behind (flips d.packets One) d.came)) (goes_unshared d.before (ended_unshared d.came single))
             (each_no_room request.length why x.mid new (ended_settled x.set_up settled) d single)
 
     each_not_confirmed : (why : PipeFault) → IsNotOfBus {A = Vec ℕ} (Err why) → NotConfirmed t request old why new → EachWas (ReadLeaves t request (Err why) old new) old new

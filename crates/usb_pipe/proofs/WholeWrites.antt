@@ -122,20 +122,17 @@ module _ (t : Target) (request : Setup) (nothing : request.length ≡ 0) (same :
 
   effect_done : (given : List ℕ) (old mid new : World) → Course (IsBehind t) mid new → (j : ℕ) (p : List ℕ) (s u v : State) → Took old mid j p s u → is_at u t ≡ true → ControlIn t One (Ok given) j p u v
       → EffectDone t request old new j p s v
-  effect_done given old mid new since j p s u v x at y = by_stage (closes a.row request.length (outcome s.spec s.registers request) nothing)
+  effect_done given old mid new since j p s u v x at y = by_stage (closes (row_of x.below) request.length (outcome s.spec s.registers request) nothing)
     where
-      abbrev a : Accepted request s u
-      a = taken s u x
-
-      by_stage : Closing (first_stage a.row request.length (outcome s.spec s.registers request)) → EffectDone t request old new j p s v
-      by_stage (refuses h) = absurd ((y.refused (stage_then request s u a ∙ h)).1 at given refl)
+      by_stage : Closing (first_stage (row_of x.below) request.length (outcome s.spec s.registers request)) → EffectDone t request old new j p s v
+      by_stage (refuses h) = absurd ((y.refused (stage_then request s u (taken s u x) ∙ h)).1 at given refl)
       by_stage (ends address h) = record {
-        row = a.row;
+        row = row_of x.below;
         moment = record { now = mid; accepts = accepted_in s u x; since = since };
         address = address;
         is = h;
-        given = subst (λ d. StatusGiven address d v) a.is (y.status at refl address (stage_then request s u a ∙ h)).1;
-        rest = subst (λ d. OnlyControl d v) a.is y.frame;
+        given = subst (λ d. StatusGiven address d v) (taken s u x).is (y.status at refl address (stage_then request s u (taken s u x) ∙ h)).1;
+        rest = subst (λ d. OnlyControl d v) (taken s u x).is y.frame;
       }
 
   took : (old mid : World) (j : ℕ) (p : List ℕ) (s u : State) → SetupDone t (bytes_of request) (Ok []) old mid j p s u → is_at s t ≡ true → Took old mid j p s u
@@ -215,7 +212,7 @@ pub write_leaves : (t : Target) (request : Setup) (result : Result (Unit {0}) Pi
     → IsSettled old.roots → Writes t request old result new → IsNotOfBus result → new.shared ≡ false → EachSpared t request (WriteLeaves t request result old new) old new
 write_leaves t request (Ok unit) old new nothing same settled x sound single =
     spared_joined t request (SetupDone t (bytes_of request) (Ok []) old x.mid) (ControlIn t One (Ok x.given)) (WriteLeaves t request (Ok unit) old new) (λ j p s v y. y.others)
-    (written_at t request nothing same x.given unit old x.mid new (in_behind x.status)) old x.mid new
+    (written_at t request nothing same x.given unit old x.mid new (in_behind One x.status)) old x.mid new
     (request_leaves t request (Ok []) old x.mid same settled x.set_up (ended_unshared x.status single))
     (control_in_leaves t One (Ok x.given) x.mid new (ended_settled x.set_up settled) x.status single)
 write_leaves t request (Err why) old new nothing same settled (inl x) sound single =
@@ -224,6 +221,6 @@ write_leaves t request (Err why) old new nothing same settled (inl x) sound sing
 write_leaves t request (Err why) old new nothing same settled (inr x) sound single =
     let status = ended (Unit {0}) why x.fault x.told sound x.status in
     spared_joined t request (SetupDone t (bytes_of request) (Ok []) old x.mid) (ControlIn t One (Err x.fault)) (WriteLeaves t request (Err why) old new) (λ j p s v y. y.others)
-    (failed_at_status t request nothing same x.fault why x.told old x.mid new (in_behind status)) old x.mid new
+    (failed_at_status t request nothing same x.fault why x.told old x.mid new (in_behind One status)) old x.mid new
     (request_leaves t request (Ok []) old x.mid same settled x.set_up (ended_unshared status single))
     (control_in_leaves t One (Err x.fault) x.mid new (ended_settled x.set_up settled) status single)

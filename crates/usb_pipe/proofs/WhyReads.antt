@@ -177,7 +177,7 @@ module _ (t : Target) (request : Setup) (host : IsToHost request) (some : 1 ≤ 
   never_failed : (result : Result (Vec ℕ) PipeFault) → result ≢ Err pipe_fault.NoAnswer → result ≢ Err pipe_fault.Busy → (j : ℕ) (p : List ℕ) (s v : State) → WhyRead t request result j p s v
   never_failed result answers waits j p s v = record { answered = λ l m. answers; waited = λ l m calm few. waits }
 
-  at_setup : (why : PipeFault) (fault : TransFault) → why ≡ fault_of fault → (j : ℕ) (p : List ℕ) (s v : State)
+  at_setup : (why : PipeFault) (fault : TransFault) → why ≡ fault_of fault → {old new : World} (j : ℕ) (p : List ℕ) (s v : State)
       → SetUpWhy t request (Err fault) old new j p s v → WhyRead t request (Err why) j p s v
   at_setup why fault told j p s v x = record {
     answered = λ l m e. x.1.answered l (lost_answer (Vec ℕ) why fault told e);

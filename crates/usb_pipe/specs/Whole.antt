@@ -187,10 +187,10 @@ abbrev pub got_after : Bulk → ℕ → Result (Unit {0}) PipeFault → State �
 got_after pipe got (Ok done) s = if is_ready pipe.condition then got else s.place
 got_after pipe got (Err fault) s = got
 
--- an endpoint as it was, or begun again where a clear that was sent is done
+-- an endpoint as it was, or begun again where a clear that was sent is done; where it failed, either
 abbrev pub BegunAgain : Bulk → Result (Unit {0}) PipeFault → Pipe → Pipe → Type 0
 BegunAgain pipe (Ok done) before after = after ≡ (if is_ready pipe.condition then before else rested)
-BegunAgain pipe (Err fault) before after = ⊤
+BegunAgain pipe (Err fault) before after = (after ≡ before) ⊎ (after ≡ rested)
 
 -- a clear of a halt (9.4.5) moves no bytes, and both ends begin again together
 pub record ClearLeaves (pipe : Bulk) (result : Result (Unit {0}) PipeFault) (left : Bulk) (j : ℕ) (p : List ℕ) (s v : State) : Type 0 where
