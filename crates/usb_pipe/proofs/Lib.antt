@@ -14,6 +14,7 @@ pub mod WholeReads
 pub mod WholeWrites
 pub mod WholeSends
 pub mod WholeSending
+pub mod SendCourse
 pub mod WholePolls
 pub mod WholeReceives
 pub mod WhySends

@@ -4,6 +4,7 @@ use Rattle.std.specs.Global.{Vec}
 use Rattle.usb_packet.specs.declared.Toggle.{Toggle}
 use Rattle.usb_bus.specs.declared.types.Outcome.{Outcome}
 use Rattle.usb_bus.specs.World.{World}
+use Rattle.usb_bus.specs.Steps.{Step, attempt}
 use Rattle.usb_transaction.specs.declared.target.Target.{Target}
 use Rattle.usb_transaction.specs.declared.fault.TransFault.{TransFault}
 use Rattle.usb_transaction.specs.Heard.{heard_as, sent_as}
@@ -63,6 +64,11 @@ pub record WhileSending (t : Target) (ep : ℕ) (first : Toggle) (total : List �
   pub outcomes : List Outcome
   pub trail : Trail (out_attempt t ep (flips packets first) (take t.max rest)) mid outcomes now
   pub onward : GoesOn sent_as outcomes
+
+-- the attempt that is made at such a moment
+pub record SendsAt (t : Target) (ep : ℕ) (first : Toggle) (total : List ℕ) (old : World) (s : Step) (now : World) : Type 0 where
+  pub moment : WhileSending t ep first total old now
+  pub is : s ≡ attempt (out_attempt t ep (flips moment.packets first) (take t.max moment.rest))
 
 abbrev pub SendEnds : Target → ℕ → Toggle → List ℕ → World → Result (Unit {0}) PipeFault → World → Type 0
 SendEnds t ep first total old (Ok done) new = AllGone t ep first total old new

@@ -10,6 +10,7 @@ ghost use Rattle.usb_request.specs.declared.setup.Setup.{Setup as ARequest};
 ghost use Rattle.usb_request.specs.Layout.{IsToHost, bytes_of, setup_of};
 ghost use Rattle.usb_bus.specs.Passes.{IsSettled};
 ghost use Rattle.usb_bus.specs.World.{World};
+ghost use Rattle.usb_bus.specs.Steps.{Course};
 ghost use Rattle.usb_bus.specs.Courses.{is_harmless};
 ghost use Rattle.usb_bus.specs.Devices.{EachWas};
 ghost use Rattle.usb_transaction.specs.declared.target.Target.{Target as ATarget};
@@ -19,7 +20,7 @@ ghost use Rattle.usb_transaction.specs.Answerer.{Answerer};
 ghost use Rattle.usb_pipe.specs.declared.fault.PipeFault.{PipeFault as AFault};
 ghost use Rattle.usb_pipe.specs.Stages.{Reads, Writes};
 ghost use Rattle.usb_pipe.specs.End.{packet_target};
-ghost use Rattle.usb_pipe.specs.Moves.{WhileSending};
+ghost use Rattle.usb_pipe.specs.Moves.{WhileSending, SendsAt};
 ghost use Rattle.usb_pipe.specs.Toggles.{flips};
 ghost use Rattle.usb_pipe.specs.Bulk.{Bulk as ABulk, Sends, Receives, Clears};
 ghost use Rattle.usb_pipe.specs.Interrupt.{Interrupt as APipe, Polls};
@@ -79,9 +80,12 @@ pub fn what_a_send_leaves()
 /// At each moment of a send the bytes before the packet that is on its way have joined what the device took, and that packet has or has not: the two
 /// ends are level, or the device is one packet ahead (5.8, 8.6).
 pub fn what_is_so_while_sending()
-    ensures { (bytes : List ℕ) (pipe : ABulk) (old now : World) → IsSettled old.roots
+    ensures moment { (bytes : List ℕ) (pipe : ABulk) (old now : World) → IsSettled old.roots
         → (moment : WhileSending (packet_target pipe.target pipe.max) pipe.ep pipe.toggle bytes old now) → now.shared ≡ false
         → EachWas (SendingLeaves moment.sent (take pipe.max moment.rest) (flips moment.packets pipe.toggle) pipe) old now }
+    // Each attempt of a send is made at such a moment.
+    ensures attempts { (bytes : List ℕ) (pipe : ABulk) (result : Result (Unit {0}) AFault) (left : ABulk) (old new : World)
+        → Sends bytes pipe old result left new → IsNotOfBus result → Course (SendsAt (packet_target pipe.target pipe.max) pipe.ep pipe.toggle bytes old) old new }
 {}
 
 /// Bytes that were received are the next ones of the device's source, in order, none twice and none left out (5.8). The pipe and the endpoint
