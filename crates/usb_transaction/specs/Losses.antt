@@ -19,12 +19,12 @@ pub data TookOrLost (a : ℕ) (old new : World) (s v : State) : Type 0 where
   took : v.stage ≡ idle → v.registers ≡ record s.registers { address = a } → new.losses ≡ old.losses → TookOrLost a old new s v
   lost : v.stage ≡ s.stage → v.registers ≡ s.registers → new.losses ≡ one_more old.losses → TookOrLost a old new s v
 
+-- IN of endpoint 0: a device that is to take no address loses none
+abbrev pub LosesNone : Target → World → World → ℕ → List ℕ → State → State → Type 0
+LosesNone t old new j p s v = is_at s t ≡ true → ((a : ℕ) → s.stage ≢ ending (Some a)) → new.losses ≡ old.losses
+
 -- IN of endpoint 0, by a host that awaits a status stage: a loss is counted exactly where it is done and the device has not taken its address
 pub record LossesIn (t : Target) (result : Result (List ℕ) TransFault) (old new : World) (j : ℕ) (p : List ℕ) (s v : State) : Type 0 where
   pub done : is_at s t ≡ true → (a : ℕ) → s.stage ≡ ending (Some a) → (bytes : List ℕ) → result ≡ Ok bytes → TookOrLost a old new s v
   pub failed : is_at s t ≡ true → (a : ℕ) → s.stage ≡ ending (Some a) → (fault : TransFault) → result ≡ Err fault → new.losses ≡ old.losses
-  pub none : is_at s t ≡ true → ((a : ℕ) → s.stage ≢ ending (Some a)) → new.losses ≡ old.losses
-
--- IN of endpoint 0 in a read: a device that is to take no address loses none
-abbrev pub LosesNone : Target → World → World → ℕ → List ℕ → State → State → Type 0
-LosesNone t old new j p s v = is_at s t ≡ true → ((a : ℕ) → s.stage ≢ ending (Some a)) → new.losses ≡ old.losses
+  pub none : LosesNone t old new j p s v

@@ -11,6 +11,6 @@ returns c = record {
   bulk = λ t ep awaited result old new other settled e. other_losses t ep old new other settled e.trail;
   waited = λ t ep toggle old new other settled e. other_losses t ep old new other settled e.trail;
   polled = λ t ep toggle result old new other settled e. other_losses t ep old new other settled e.trail;
-  set_up = λ t bytes result old new eight none settled e. set_up_losses t bytes old new none settled e.trail;
+  set_up = λ t bytes result old new none settled e. set_up_losses t bytes old new none settled e.trail;
   out = λ t ep toggle bytes result old new settled e. out_losses t ep toggle bytes old new settled e.trail;
 }
