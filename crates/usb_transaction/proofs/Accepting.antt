@@ -90,7 +90,7 @@ module _ (t : Target) (bytes : List ℕ) (w : World) (eight : length bytes ≡ 8
         → place_at (after (attempt a) w).roots j p ≡ Some (full b (reply_if x way s made).1 (acted (effect_if x (asked_by_setup s (setup_of bytes))) below)) → Accepts t bytes w j p s v
     by_whole true e o l =
         let now : AcceptedNow t bytes w j p s v =
-            record { b = b; below = below; holder = h; is = e; left = l ∙ ap (λ d. Some (full b d (acted (asked_by_setup s (setup_of bytes)) below))) (sym e) } in
+        record { b = b; below = below; holder = h; is = e; left = l ∙ ap (λ d. Some (full b d (acted (asked_by_setup s (setup_of bytes)) below))) (sym e) } in
         record { kept = inr now; acked = λ at k. now }
     by_whole false e o l = record { kept = inl e; acked = λ at k. elim (no_ack (sym k ∙ o)) [ ] }
       where
