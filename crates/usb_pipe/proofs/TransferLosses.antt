@@ -43,7 +43,7 @@ use Rattle.usb_pipe.proofs.WholeReads.{other_type, read_request_leaves, Begun, r
 use Rattle.usb_pipe.proofs.WholeReads as reads
 use Rattle.usb_pipe.proofs.WholeReceives.{came_settled}
 use Rattle.usb_pipe.proofs.WholeSends.{gave_settled}
-use Rattle.usb_pipe.proofs.WholeSteps.{ended, ended_settled, ended_unshared, InLeaves, asked_leaves, at_from}
+use Rattle.usb_pipe.proofs.WholeSteps.{ended, ended_settled, ended_unshared, AskedLeaves, asked_leaves, at_from}
 
 -- The data stage of a control read
 
@@ -57,7 +57,7 @@ AlongKept t wanted n got old now j p s v = Along t wanted n got j p s v × Loses
 
 -- a packet of endpoint 0, and what it loses
 abbrev InKept : Target → Toggle → Result (List ℕ) TransFault → World → World → Relation
-InKept t awaited result old new j p s v = InLeaves t awaited result j p s v × LosesNone t old new j p s v
+InKept t awaited result old new j p s v = AskedLeaves t awaited result j p s v × LosesNone t old new j p s v
 
 -- such a device is to take no address
 gives_none : (t : Target) (wanted n : ℕ) (got : List ℕ) (j : ℕ) (p : List ℕ) (s u : State) → Along t wanted n got j p s u → is_at s t ≡ true → Begun wanted s.stage → (a : ℕ) → u.stage ≢ ending (Some a)
@@ -77,7 +77,7 @@ one_more_kept t wanted n got bytes old mid new j p s u v x y =
 in_kept : (t : Target) (awaited : Toggle) (result : Result (List ℕ) TransFault) (old new : World) → IsSettled old.roots → Ended (heard_as awaited) (in_attempt t 0) old result new → new.shared ≡ false
     → EachWas (InKept t awaited result old new) old new
 in_kept t awaited result old new settled x single =
-    each_both (InLeaves t awaited result) (LosesNone t old new) old new (asked_leaves t awaited result old new settled x single) (in_losses t awaited result old new settled x single)
+    each_both (AskedLeaves t awaited result) (LosesNone t old new) old new (asked_leaves t awaited result old new settled x single) (in_losses t awaited result old new settled x single)
 
 each_along_kept : (t : Target) {wanted : ℕ} {old : World} {n : ℕ} {got : List ℕ} {new : World} → IsSettled old.roots → Goes t wanted old n got new → new.shared ≡ false → EachWas (AlongKept t wanted n got old new) old new
 each_along_kept t {wanted} {old} settled stages.start single = each_none (AlongKept t wanted 0 [] old old) (λ j p s. (along_none t wanted j p s, λ at b. refl)) old

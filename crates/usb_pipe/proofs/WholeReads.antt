@@ -41,7 +41,7 @@ use Rattle.usb_pipe.specs.Toggles.{flips}
 use Rattle.usb_pipe.specs.Whole.{IsNotOfBus, CanEnd, AcceptedIn, IsBehind, AnswerRead, ReadLeaves}
 use Rattle.usb_pipe.proofs.Behind.{course_joined, in_behind, out_behind, goes_behind, stage_behind}
 use Rattle.usb_pipe.proofs.WholeSteady.{IsReading, reads}
-use Rattle.usb_pipe.proofs.WholeSteps.{ended, ended_settled, ended_unshared, request_leaves, InLeaves, asked_leaves, Accepted, accepted_at, accepted_in, only_twice, only_stage, at_from, flips_at, flips_none}
+use Rattle.usb_pipe.proofs.WholeSteps.{ended, ended_settled, ended_unshared, request_leaves, AskedLeaves, asked_leaves, Accepted, accepted_at, accepted_in, only_twice, only_stage, at_from, flips_at, flips_none}
 
 -- What a request for data asks: bytes, or a refusal
 
@@ -190,7 +190,7 @@ joined_more max wanted answer got bytes n e h =
 is_reading : (answer : List ℕ) (wanted n : ℕ) (s : State) → ReadingAt answer wanted n s → IsReading s
 is_reading answer wanted n s h = reads answer wanted h.known h.stage
 
-pub along_more : (t : Target) (wanted n : ℕ) (got bytes : List ℕ) (j : ℕ) (p : List ℕ) (s u v : State) → Along t wanted n got j p s u → InLeaves t (flips n One) (Ok bytes) j p u v → Along t wanted (n + 1) (got ++ bytes) j p s v
+pub along_more : (t : Target) (wanted n : ℕ) (got bytes : List ℕ) (j : ℕ) (p : List ℕ) (s u v : State) → Along t wanted n got j p s u → AskedLeaves t (flips n One) (Ok bytes) j p u v → Along t wanted (n + 1) (got ++ bytes) j p s v
 along_more t wanted n got bytes j p s u v x y = record {
   others = other_twice t s u v x.others y.0.others;
   frame = only_twice s u v x.frame y.0.frame;
@@ -221,7 +221,7 @@ along_rests t wanted n got j p s v x = record { others = x.others; frame = x.fra
     kept at (refuses h) = ap (λ d. d.registers) (x.refuses at h).1
     kept at (answered answer h) = (x.answers at answer h).registers
 
-along_lost : (t : Target) (wanted n : ℕ) (got : List ℕ) (fault : TransFault) (j : ℕ) (p : List ℕ) (s u v : State) → Along t wanted n got j p s u → InLeaves t (flips n One) (Err fault) j p u v → Rests t wanted j p s v
+along_lost : (t : Target) (wanted n : ℕ) (got : List ℕ) (fault : TransFault) (j : ℕ) (p : List ℕ) (s u v : State) → Along t wanted n got j p s u → AskedLeaves t (flips n One) (Err fault) j p u v → Rests t wanted j p s v
 along_lost t wanted n got fault j p s u v x y = record { others = other_twice t s u v x.others y.0.others; frame = only_twice s u v x.frame y.0.frame; registers = kept }
   where
     kept : is_at s t ≡ true → Begun wanted s.stage → v.registers ≡ s.registers
@@ -295,7 +295,7 @@ pub record Came (t : Target) (wanted n : ℕ) (got last : List ℕ) (j : ℕ) (p
   pub along : Along t wanted (n + 1) (got ++ last) j p s v
   pub packet : is_at s t ≡ true → (answer : List ℕ) → s.stage ≡ reading answer wanted 0 → packet_at (max_packet s.spec) wanted answer n ≡ Some last
 
-pub along_came : (t : Target) (wanted n : ℕ) (got last : List ℕ) (j : ℕ) (p : List ℕ) (s u v : State) → Along t wanted n got j p s u → InLeaves t (flips n One) (Ok last) j p u v → Came t wanted n got last j p s v
+pub along_came : (t : Target) (wanted n : ℕ) (got last : List ℕ) (j : ℕ) (p : List ℕ) (s u v : State) → Along t wanted n got j p s u → AskedLeaves t (flips n One) (Ok last) j p u v → Came t wanted n got last j p s v
 along_came t wanted n got last j p s u v x y = record {
   along = along_more t wanted n got last j p s u v x y;
   packet = λ at answer h.
@@ -342,7 +342,7 @@ record Failed (t : Target) (wanted : ℕ) (why : PipeFault) (j : ℕ) (p : List 
 
 -- at a packet that did not come
 module _ (t : Target) (wanted n : ℕ) (got : List ℕ) (why : PipeFault) (fault : TransFault) (told : why ≡ fault_of fault) (j : ℕ) (p : List ℕ) (s u v : State)
-    (x : Along t wanted n got j p s u) (y : InLeaves t (flips n One) (Err fault) j p u v) where
+    (x : Along t wanted n got j p s u) (y : AskedLeaves t (flips n One) (Err fault) j p u v) where
   lost_at : is_at s t ≡ true → Begun wanted s.stage → is_at u t ≡ true
   lost_at at b = at_from t s u ((along_rests t wanted n got j p s u x).registers at b) at
 
@@ -362,7 +362,7 @@ module _ (t : Target) (wanted n : ℕ) (got : List ℕ) (why : PipeFault) (fault
 
 -- at a packet for which there was no memory
 module _ (t : Target) (wanted n : ℕ) (got last : List ℕ) (why : PipeFault) (told : why ≡ Memory) (j : ℕ) (p : List ℕ) (s u v : State)
-    (x : Along t wanted n got j p s u) (y : InLeaves t (flips n One) (Ok last) j p u v) where
+    (x : Along t wanted n got j p s u) (y : AskedLeaves t (flips n One) (Ok last) j p u v) where
   full_could : is_at s t ≡ true → Begun wanted s.stage → CanFail s.spec why
   full_could at b =
       let can : CanFail u.spec Memory = y.0.could (at_from t s u ((along_rests t wanted n got j p s u x).registers at b) at) in
@@ -506,23 +506,23 @@ module _ (t : Target) where
   pub each_along : {wanted : ℕ} {old : World} {n : ℕ} {got : List ℕ} {new : World} → IsSettled old.roots → Goes t wanted old n got new → new.shared ≡ false → EachWas (Along t wanted n got) old new
   each_along {wanted} {old = old} settled start single = each_none (Along t wanted 0 []) (along_none t wanted) old
   each_along {wanted} {old = old} {new = new} settled (packet {n} {got} {mid} bytes g x l) single =
-      each_joined (Along t wanted n got) (InLeaves t (flips n One) (Ok bytes)) (Along t wanted (n + 1) (got ++ bytes)) (along_more t wanted n got bytes) old mid new
+      each_joined (Along t wanted n got) (AskedLeaves t (flips n One) (Ok bytes)) (Along t wanted (n + 1) (got ++ bytes)) (along_more t wanted n got bytes) old mid new
       (each_along settled g (ended_unshared x single)) (asked_leaves t (flips n One) (Ok bytes) mid new (goes_settled g settled) x single)
 
   pub each_came : (wanted : ℕ) (bytes : List ℕ) (old new : World) → IsSettled old.roots → (d : DataStage t wanted old bytes new) → new.shared ≡ false → EachWas (Came t wanted d.packets d.got d.last) old new
   each_came wanted bytes old new settled d single =
-      each_joined (Along t wanted d.packets d.got) (InLeaves t (flips d.packets One) (Ok d.last)) (Came t wanted d.packets d.got d.last) (along_came t wanted d.packets d.got d.last) old d.mid new
+      each_joined (Along t wanted d.packets d.got) (AskedLeaves t (flips d.packets One) (Ok d.last)) (Came t wanted d.packets d.got d.last) (along_came t wanted d.packets d.got d.last) old d.mid new
       (each_along settled d.before (ended_unshared d.came single)) (asked_leaves t (flips d.packets One) (Ok d.last) d.mid new (goes_settled d.before settled) d.came single)
 
   each_lost : (wanted : ℕ) (why : PipeFault) (old new : World) → IsNotOfBus {A = Vec ℕ} (Err why) → IsSettled old.roots → DataLost t wanted old why new → new.shared ≡ false → EachWas (Failed t wanted why) old new
   each_lost wanted why old new sound settled d single =
       let lost = ended (Vec ℕ) why d.fault d.told sound d.lost in
-      each_joined (Along t wanted d.packets d.got) (InLeaves t (flips d.packets One) (Err d.fault)) (Failed t wanted why) (along_failed t wanted d.packets d.got why d.fault d.told) old d.mid new
+      each_joined (Along t wanted d.packets d.got) (AskedLeaves t (flips d.packets One) (Err d.fault)) (Failed t wanted why) (along_failed t wanted d.packets d.got why d.fault d.told) old d.mid new
       (each_along settled d.before (ended_unshared lost single)) (asked_leaves t (flips d.packets One) (Err d.fault) d.mid new (goes_settled d.before settled) lost single)
 
   each_no_room : (wanted : ℕ) (why : PipeFault) (old new : World) → IsSettled old.roots → NoRoom t wanted old why new → new.shared ≡ false → EachWas (Failed t wanted why) old new
   each_no_room wanted why old new settled d single =
-      each_joined (Along t wanted d.packets d.got) (InLeaves t (flips d.packets One) (Ok d.last)) (Failed t wanted why) (along_full t wanted d.packets d.got d.last why d.told) old d.mid new
+      each_joined (Along t wanted d.packets d.got) (AskedLeaves t (flips d.packets One) (Ok d.last)) (Failed t wanted why) (along_full t wanted d.packets d.got d.last why d.told) old d.mid new
       (each_along settled d.before (ended_unshared d.came single)) (asked_leaves t (flips d.packets One) (Ok d.last) d.mid new (goes_settled d.before settled) d.came single)
 
   pub unshared_stage : {wanted : ℕ} {bytes : List ℕ} {old new : World} → DataStage t wanted old bytes new → new.shared ≡ false → old.shared ≡ false

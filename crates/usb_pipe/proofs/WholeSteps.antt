@@ -73,11 +73,11 @@ request_why t request result old new e settled three x single =
     (subst (λ r. EachSpared t r (WhySetup t result) old new) e (set_up_why t (bytes_of request) result old new (eight_bytes request) settled three x single))
 
 -- an IN of endpoint 0
-abbrev pub InLeaves : Target → Toggle → Result (List ℕ) TransFault → Relation
-InLeaves t awaited result j p s v = ControlIn t awaited result j p s v × Steady j p s v
+abbrev pub AskedLeaves : Target → Toggle → Result (List ℕ) TransFault → Relation
+AskedLeaves t awaited result j p s v = ControlIn t awaited result j p s v × Steady j p s v
 
 pub asked_leaves : (t : Target) (awaited : Toggle) (result : Result (List ℕ) TransFault) (old new : World) → IsSettled old.roots
-    → Ended (heard_as awaited) (in_attempt t 0) old result new → new.shared ≡ false → EachWas (InLeaves t awaited result) old new
+    → Ended (heard_as awaited) (in_attempt t 0) old result new → new.shared ≡ false → EachWas (AskedLeaves t awaited result) old new
 asked_leaves t awaited result old new settled x single =
     each_both (ControlIn t awaited result) Steady old new (control_in_leaves t awaited result old new settled x single) (each_steady t awaited result old new settled x single)
 

@@ -36,7 +36,7 @@ use Rattle.usb_pipe.specs.Stages.{SetUp, Goes, start, packet, DataStage, DataLos
 use Rattle.usb_pipe.specs.Toggles.{flips}
 use Rattle.usb_pipe.specs.Whole.{IsNotOfBus, IsMaximum, ReadLeaves}
 use Rattle.usb_pipe.specs.WhyWhole.{WhyRead}
-use Rattle.usb_pipe.proofs.WholeSteps.{ended, ended_settled, ended_unshared, SetUpWhy, request_why, InLeaves, asked_leaves, flips_at}
+use Rattle.usb_pipe.proofs.WholeSteps.{ended, ended_settled, ended_unshared, SetUpWhy, request_why, AskedLeaves, asked_leaves, flips_at}
 use Rattle.usb_pipe.proofs.WholeReads.{host_harmless, read_request_leaves, Begun, refuses, answered, Asked, begun_then, Answered, Along, along_none, along_rests, at_least_8, Came, along_came, each_along, each_came, goes_settled, goes_unshared, settled_stage, unshared_stage, read_leaves}
 use Rattle.usb_pipe.proofs.WhySends.{Fails, lost_answer, lost_wait, ended_damages, never_three}
 
@@ -123,7 +123,7 @@ module _ (t : Target) (wanted : ℕ) (least : 8 ≤ t.max) where
   each_expects : {old : World} {n : ℕ} {got : List ℕ} {new : World} → 1 ≤ wanted → IsSettled old.roots → Goes t wanted old n got new → new.shared ≡ false → EachWas (Expects t wanted n got) old new
   each_expects {old} some settled start single = each_none (Expects t wanted 0 []) (expects_first some) old
   each_expects {old} {new = new} some settled (packet {n} {got} {mid} bytes g x on) single =
-      each_joined (Along t wanted n got) (InLeaves t (flips n One) (Ok bytes)) (Expects t wanted (n + 1) (got ++ bytes))
+      each_joined (Along t wanted n got) (AskedLeaves t (flips n One) (Ok bytes)) (Expects t wanted (n + 1) (got ++ bytes))
       (λ j p s u v a b. expects_more n got bytes on j p s v (along_came t wanted n got bytes j p s u v a b)) old mid new
       (each_along t settled g (ended_unshared x single)) (asked_leaves t (flips n One) (Ok bytes) mid new (goes_settled g settled) x single)
 

@@ -7,3 +7,4 @@ pub mod Why
 pub mod Losses
 pub mod Answerer
 pub mod Spared
+pub mod Call

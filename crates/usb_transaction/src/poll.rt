@@ -1,10 +1,15 @@
 //! IN, where NAK is an answer.
-ghost use Rattle.std.specs.Prelude.{◌≡◌, ◌≤◌, ◌<◌, length, IfOk, IfSome};
+ghost use Rattle.std.specs.Prelude.{◌≡◌, ◌≤◌, ◌<◌, length, false, IfOk, OnOk, IfSome};
 ghost use Rattle.usb_bus.specs.World.{Spends};
 ghost use Rattle.usb_bus.specs.Passes.{IsSettled};
+ghost use Rattle.usb_bus.specs.Devices.{EachWas};
+ghost use Rattle.usb_transaction.specs.Answerer.{Answerer};
+ghost use Rattle.usb_transaction.specs.Call.{IsNotOfBus};
 ghost use Rattle.usb_transaction.specs.Heard.{toggle_after};
+ghost use Rattle.usb_transaction.specs.Over.{ChangesIn};
 ghost use Rattle.usb_transaction.specs.Trail.{Polled};
 ghost use Rattle.usb_transaction.specs.Trans.{IsTarget, Ends, in_attempt};
+ghost use Rattle.usb_transaction.specs.Why.{NoThreeDamaged, WhyPoll};
 
 use crate::attempt::attempt_of_in;
 use crate::heard::{Heard, flipped, judged};
@@ -16,7 +21,8 @@ use usb_packet::Toggle;
 /// Asks an endpoint, 0 to 15, whether it has a data packet (5.7, 8.5.4): None at NAK.
 ///
 /// It asks again after an error or a packet of the other toggle, which is a repeat and discarded.
-/// The toggle changes exactly where a packet came.
+/// The toggle changes exactly where a packet came. Where no address was ever held twice, a hub's
+/// byte is what its ports told at one of the attempts, and None that they told of nothing.
 ///
 /// # Errors
 ///
@@ -34,6 +40,9 @@ pub fn poll_in<B: Bus>(
     ensures ends { Ends (B.world bus.old) result (B.world bus.new) }
     ensures heard { Polled toggle.old (in_attempt target ep) (B.world bus.old) result (B.world bus.new) }
     ensures settled { IsSettled (B.world bus.old).roots }
+    ensures what { ep ≡ 1 → IsNotOfBus result → (B.world bus.new).shared ≡ false → EachWas (ChangesIn target toggle.old (B.world bus.old) result) (B.world bus.old) (B.world bus.new) }
+    ensures why { NoThreeDamaged (B.world bus.old) → ep ≡ 1 → IsNotOfBus result → (B.world bus.new).shared ≡ false → EachWas (WhyPoll target toggle.old result) (B.world bus.old) (B.world bus.new) }
+    ensures who { OnOk result ((B.world bus.new).shared ≡ false → Answerer target (B.world bus.old) (B.world bus.new)) }
     ensures short { IfOk result (λ got. IfSome got (λ done. length done ≤ target.max)) }
     ensures toggle { toggle.new ≡ toggle_after toggle.old result }
 {

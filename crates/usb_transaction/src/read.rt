@@ -1,10 +1,14 @@
 //! IN.
-ghost use Rattle.std.specs.Prelude.{◌≡◌, ◌≤◌, ◌<◌, length, IfOk, OnOk, OnErr};
+ghost use Rattle.std.specs.Prelude.{◌≡◌, ◌≤◌, ◌<◌, length, false, IfOk, OnOk, OnErr};
 ghost use Rattle.usb_bus.specs.World.{Spends};
 ghost use Rattle.usb_bus.specs.Passes.{IsSettled};
+ghost use Rattle.usb_bus.specs.Devices.{EachWas};
+ghost use Rattle.usb_transaction.specs.Answerer.{Answerer};
+ghost use Rattle.usb_transaction.specs.Call.{IsNotOfBus, InLeaves, WhyIn};
 ghost use Rattle.usb_transaction.specs.Heard.{flip, heard_as};
 ghost use Rattle.usb_transaction.specs.Trail.{Transacted};
 ghost use Rattle.usb_transaction.specs.Trans.{IsTarget, Ends, in_attempt};
+ghost use Rattle.usb_transaction.specs.Why.{NoThreeDamaged};
 
 use crate::attempt::attempt_of_in;
 use crate::heard::{Heard, flipped, judged};
@@ -16,7 +20,8 @@ use usb_packet::Toggle;
 /// Asks an endpoint, 0 to 15, for one data packet (8.5), until one of the awaited toggle comes.
 ///
 /// A packet of the other toggle is a repeat: it is discarded. The toggle changes exactly where the
-/// call is done.
+/// call is done. Where no address was ever held twice, the packet is the next one that the device at
+/// the target's address has for the endpoint: each comes once.
 ///
 /// # Errors
 ///
@@ -34,6 +39,9 @@ pub fn data_in<B: Bus>(
     ensures ends { Ends (B.world bus.old) result (B.world bus.new) }
     ensures heard { Transacted (heard_as toggle.old) (in_attempt target ep) (B.world bus.old) result (B.world bus.new) }
     ensures settled { IsSettled (B.world bus.old).roots }
+    ensures what { IsNotOfBus result → (B.world bus.new).shared ≡ false → EachWas (InLeaves target ep toggle.old result) (B.world bus.old) (B.world bus.new) }
+    ensures why { NoThreeDamaged (B.world bus.old) → IsNotOfBus result → (B.world bus.new).shared ≡ false → EachWas (WhyIn target ep toggle.old result) (B.world bus.old) (B.world bus.new) }
+    ensures who { OnOk result ((B.world bus.new).shared ≡ false → Answerer target (B.world bus.old) (B.world bus.new)) }
     ensures short { IfOk result (λ done. length done ≤ target.max) }
     ensures toggle_ok { OnOk result (toggle.new ≡ flip toggle.old) }
     ensures toggle_err { OnErr result (toggle.new ≡ toggle.old) }

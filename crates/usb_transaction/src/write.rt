@@ -1,10 +1,14 @@
 //! OUT.
-ghost use Rattle.std.specs.Prelude.{◌≡◌, ◌≤◌, ◌<◌, [], length, IfOk, OnOk, OnErr};
+ghost use Rattle.std.specs.Prelude.{◌≡◌, ◌≤◌, ◌<◌, [], length, false, IfOk, OnOk, OnErr};
 ghost use Rattle.usb_bus.specs.World.{Spends};
 ghost use Rattle.usb_bus.specs.Passes.{IsSettled};
+ghost use Rattle.usb_bus.specs.Devices.{EachWas};
+ghost use Rattle.usb_transaction.specs.Answerer.{Answerer};
+ghost use Rattle.usb_transaction.specs.Call.{IsNotOfBus, OutLeaves, WhyOut};
 ghost use Rattle.usb_transaction.specs.Heard.{flip, sent_as};
 ghost use Rattle.usb_transaction.specs.Trail.{Transacted};
 ghost use Rattle.usb_transaction.specs.Trans.{IsTarget, Ends, out_attempt};
+ghost use Rattle.usb_transaction.specs.Why.{NoThreeDamaged};
 
 use crate::attempt::attempt_of_out;
 use crate::heard::{Heard, flipped, judged_sent};
@@ -16,7 +20,8 @@ use usb_packet::Toggle;
 /// Sends one data packet of at most the target's maximum to an endpoint, 0 to 15 (8.5), again
 /// with the same toggle until it is acknowledged.
 ///
-/// The toggle changes exactly where the call is done.
+/// The toggle changes exactly where the call is done. Where no address was ever held twice, the
+/// device at the target's address has taken the data then, once.
 ///
 /// # Errors
 ///
@@ -36,6 +41,9 @@ pub fn data_out<B: Bus>(
     ensures ends { Ends (B.world bus.old) result (B.world bus.new) }
     ensures heard { Transacted sent_as (out_attempt target ep toggle.old bytes.now) (B.world bus.old) result (B.world bus.new) }
     ensures settled { IsSettled (B.world bus.old).roots }
+    ensures what { IsNotOfBus result → (B.world bus.new).shared ≡ false → EachWas (OutLeaves target ep toggle.old bytes.now result) (B.world bus.old) (B.world bus.new) }
+    ensures why { NoThreeDamaged (B.world bus.old) → IsNotOfBus result → (B.world bus.new).shared ≡ false → EachWas (WhyOut target ep toggle.old bytes.now result) (B.world bus.old) (B.world bus.new) }
+    ensures who { OnOk result ((B.world bus.new).shared ≡ false → Answerer target (B.world bus.old) (B.world bus.new)) }
     ensures nothing { IfOk result (λ done. done ≡ []) }
     ensures toggle_ok { OnOk result (toggle.new ≡ flip toggle.old) }
     ensures toggle_err { OnErr result (toggle.new ≡ toggle.old) }

@@ -1,6 +1,7 @@
-use Rattle.std.proofs.Common.{refl, ap, ◌∙◌}
+use Rattle.std.proofs.Common.{None, Some, refl, ap, ◌∙◌}
 use Rattle.std.proofs.lemmas.Result.{err_from_is_err_and}
 use Rattle.usb_transaction.specs.Heard.{heard_as}
+use Rattle.usb_transaction.proofs.Calls.{what_poll, why_poll, who_poll}
 use Rattle.usb_transaction.proofs.Going.{once, poll_new, poll_error, poll_repeat, poll_waiting, poll_moved, poll_stalled, poll_silent, poll_busy}
 use Rattle.usb_transaction.proofs.poll.poll_in.Goals as goal
 
@@ -52,3 +53,39 @@ returns-in_err-error-in-Lost-clause-heard g c =
     let told = err_from_is_err_and c.from_residual-in_err-error-in-Lost.result c.from_residual-in_err-error-in-Lost.ensures.1 in
     let end = c.in_err-error-in-Lost.ensures.end in
     rw (told.1, told.2, end.0) (poll_silent _ _ c.tries.invariant.1 one (c.in-Lost.ensures ∙ awaited) c.error.ensures.count end.1)
+
+pub returns-in-Moved-clause-what : goal.returns-in-Moved-clause-what
+returns-in-Moved-clause-what g c = what_poll c.args.target c.args.ep c.args.toggle.now _ c.requires.target.max_least (c.tries.invariant.2 c.in-Ok.ensures.settled) _ (returns-in-Moved-clause-heard g c)
+
+pub returns-in-Moved-clause-why : goal.returns-in-Moved-clause-why
+returns-in-Moved-clause-why g c = why_poll c.args.target c.args.ep c.args.toggle.now _ c.requires.target.max_least (c.tries.invariant.2 c.in-Ok.ensures.settled) _ (returns-in-Moved-clause-heard g c)
+
+pub returns-in-Moved-clause-who : goal.returns-in-Moved-clause-who
+returns-in-Moved-clause-who g c = who_poll c.args.target c.args.ep c.args.toggle.now _ c.requires.target.max_least (c.tries.invariant.2 c.in-Ok.ensures.settled) (Some c.data.result) (returns-in-Moved-clause-heard g c)
+
+pub returns-in-NotReady-clause-what : goal.returns-in-NotReady-clause-what
+returns-in-NotReady-clause-what g c = what_poll c.args.target c.args.ep c.args.toggle.now _ c.requires.target.max_least (c.tries.invariant.2 c.in-Ok.ensures.settled) _ (returns-in-NotReady-clause-heard g c)
+
+pub returns-in-NotReady-clause-why : goal.returns-in-NotReady-clause-why
+returns-in-NotReady-clause-why g c = why_poll c.args.target c.args.ep c.args.toggle.now _ c.requires.target.max_least (c.tries.invariant.2 c.in-Ok.ensures.settled) _ (returns-in-NotReady-clause-heard g c)
+
+pub returns-in-NotReady-clause-who : goal.returns-in-NotReady-clause-who
+returns-in-NotReady-clause-who g c = who_poll c.args.target c.args.ep c.args.toggle.now _ c.requires.target.max_least (c.tries.invariant.2 c.in-Ok.ensures.settled) None (returns-in-NotReady-clause-heard g c)
+
+pub returns-in_err-wait-in-Repeat-clause-what : goal.returns-in_err-wait-in-Repeat-clause-what
+returns-in_err-wait-in-Repeat-clause-what g c = what_poll c.args.target c.args.ep c.args.toggle.now _ c.requires.target.max_least (c.tries.invariant.2 c.in-Ok.ensures.settled) _ (returns-in_err-wait-in-Repeat-clause-heard g c)
+
+pub returns-in_err-wait-in-Repeat-clause-why : goal.returns-in_err-wait-in-Repeat-clause-why
+returns-in_err-wait-in-Repeat-clause-why g c = why_poll c.args.target c.args.ep c.args.toggle.now _ c.requires.target.max_least (c.tries.invariant.2 c.in-Ok.ensures.settled) _ (returns-in_err-wait-in-Repeat-clause-heard g c)
+
+pub returns-in-Refused-clause-what : goal.returns-in-Refused-clause-what
+returns-in-Refused-clause-what g c = what_poll c.args.target c.args.ep c.args.toggle.now _ c.requires.target.max_least (c.tries.invariant.2 c.in-Ok.ensures.settled) _ (returns-in-Refused-clause-heard g c)
+
+pub returns-in-Refused-clause-why : goal.returns-in-Refused-clause-why
+returns-in-Refused-clause-why g c = why_poll c.args.target c.args.ep c.args.toggle.now _ c.requires.target.max_least (c.tries.invariant.2 c.in-Ok.ensures.settled) _ (returns-in-Refused-clause-heard g c)
+
+pub returns-in_err-error-in-Lost-clause-what : goal.returns-in_err-error-in-Lost-clause-what
+returns-in_err-error-in-Lost-clause-what g c = what_poll c.args.target c.args.ep c.args.toggle.now _ c.requires.target.max_least (c.tries.invariant.2 c.in-Ok.ensures.settled) _ (returns-in_err-error-in-Lost-clause-heard g c)
+
+pub returns-in_err-error-in-Lost-clause-why : goal.returns-in_err-error-in-Lost-clause-why
+returns-in_err-error-in-Lost-clause-why g c = why_poll c.args.target c.args.ep c.args.toggle.now _ c.requires.target.max_least (c.tries.invariant.2 c.in-Ok.ensures.settled) _ (returns-in_err-error-in-Lost-clause-heard g c)

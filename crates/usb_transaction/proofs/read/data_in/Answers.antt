@@ -1,6 +1,7 @@
 use Rattle.std.proofs.Common.{refl, ap, ◌∙◌}
 use Rattle.std.proofs.lemmas.Result.{err_from_is_err_and}
 use Rattle.usb_transaction.specs.Heard.{heard_as}
+use Rattle.usb_transaction.proofs.Calls.{what_in, why_in, who_in}
 use Rattle.usb_transaction.proofs.Going.{once, stands_new, stands_error, stands_waited, ended_moved, ended_silent, ended_busy, read_stalled}
 use Rattle.usb_transaction.proofs.read.data_in.Goals as goal
 
@@ -46,3 +47,30 @@ returns-in_err-error-in-Lost-clause-heard g c =
     let told = err_from_is_err_and c.from_residual-in_err-error-in-Lost.result c.from_residual-in_err-error-in-Lost.ensures.1 in
     let end = c.in_err-error-in-Lost.ensures.end in
     rw (told.1, told.2, end.0) (ended_silent _ _ c.tries.invariant.1 one (c.in-Lost.ensures ∙ awaited) c.error.ensures.count end.1)
+
+pub returns-in-Moved-clause-what : goal.returns-in-Moved-clause-what
+returns-in-Moved-clause-what g c = what_in c.args.target c.args.ep c.args.toggle.now _ _ (c.tries.invariant.2 c.in-Ok.ensures.settled) (returns-in-Moved-clause-heard g c)
+
+pub returns-in-Moved-clause-why : goal.returns-in-Moved-clause-why
+returns-in-Moved-clause-why g c = why_in c.args.target c.args.ep c.args.toggle.now _ _ (c.tries.invariant.2 c.in-Ok.ensures.settled) (returns-in-Moved-clause-heard g c)
+
+pub returns-in-Moved-clause-who : goal.returns-in-Moved-clause-who
+returns-in-Moved-clause-who g c = who_in c.args.target c.args.ep c.args.toggle.now _ _ (c.tries.invariant.2 c.in-Ok.ensures.settled) (returns-in-Moved-clause-heard g c)
+
+pub returns-in_err-wait-in-NotReady-clause-what : goal.returns-in_err-wait-in-NotReady-clause-what
+returns-in_err-wait-in-NotReady-clause-what g c = what_in c.args.target c.args.ep c.args.toggle.now _ _ (c.tries.invariant.2 c.in-Ok.ensures.settled) (returns-in_err-wait-in-NotReady-clause-heard g c)
+
+pub returns-in_err-wait-in-NotReady-clause-why : goal.returns-in_err-wait-in-NotReady-clause-why
+returns-in_err-wait-in-NotReady-clause-why g c = why_in c.args.target c.args.ep c.args.toggle.now _ _ (c.tries.invariant.2 c.in-Ok.ensures.settled) (returns-in_err-wait-in-NotReady-clause-heard g c)
+
+pub returns-in-Refused-clause-what : goal.returns-in-Refused-clause-what
+returns-in-Refused-clause-what g c = what_in c.args.target c.args.ep c.args.toggle.now _ _ (c.tries.invariant.2 c.in-Ok.ensures.settled) (returns-in-Refused-clause-heard g c)
+
+pub returns-in-Refused-clause-why : goal.returns-in-Refused-clause-why
+returns-in-Refused-clause-why g c = why_in c.args.target c.args.ep c.args.toggle.now _ _ (c.tries.invariant.2 c.in-Ok.ensures.settled) (returns-in-Refused-clause-heard g c)
+
+pub returns-in_err-error-in-Lost-clause-what : goal.returns-in_err-error-in-Lost-clause-what
+returns-in_err-error-in-Lost-clause-what g c = what_in c.args.target c.args.ep c.args.toggle.now _ _ (c.tries.invariant.2 c.in-Ok.ensures.settled) (returns-in_err-error-in-Lost-clause-heard g c)
+
+pub returns-in_err-error-in-Lost-clause-why : goal.returns-in_err-error-in-Lost-clause-why
+returns-in_err-error-in-Lost-clause-why g c = why_in c.args.target c.args.ep c.args.toggle.now _ _ (c.tries.invariant.2 c.in-Ok.ensures.settled) (returns-in_err-error-in-Lost-clause-heard g c)

@@ -1,4 +1,5 @@
-use Rattle.std.proofs.Common.{sym, ◌∙◌, arith}
+use Rattle.std.proofs.Common.{◌≡◌, length, sym, ◌∙◌, arith, rules}
+use Rattle.usb_transaction.proofs.Calls.{what_setup, why_setup, who_setup}
 use Rattle.usb_transaction.proofs.Going.{once, set_up_new, set_up_again, set_up_done}
 use Rattle.usb_transaction.proofs.set_up.setup.Goals as goal
 
@@ -15,3 +16,30 @@ loop-error-preserved g c =
     let one = once c.attempt_of_setup-attempt.ensures.value c.in-Ok.ensures.counts c.in-Ok.ensures.exact c.in-Ok.ensures.outcome in
     let settled = c.loop-error.invariant.1.0 c.in-Ok.ensures.settled in
     (set_up_again _ c.loop-error-test.true c.loop-error.invariant.0 one (sym c.is_ack.ensures ∙ c.if-is_ack.false), (λ _. settled, λ _. settled))
+
+pub returns-then-is_ack-clause-what : goal.returns-then-is_ack-clause-what
+returns-then-is_ack-clause-what g c =
+    let eight : length c.args.bytes ≡ 8 = search rules in
+    what_setup c.args.target c.args.bytes _ _ eight (c.loop-error.invariant.1.0 c.in-Ok.ensures.settled) (returns-then-is_ack-clause-heard g c)
+
+pub returns-then-is_ack-clause-why : goal.returns-then-is_ack-clause-why
+returns-then-is_ack-clause-why g c =
+    let eight : length c.args.bytes ≡ 8 = search rules in
+    why_setup c.args.target c.args.bytes _ _ eight (c.loop-error.invariant.1.0 c.in-Ok.ensures.settled) (returns-then-is_ack-clause-heard g c)
+
+pub returns-then-is_ack-clause-who : goal.returns-then-is_ack-clause-who
+returns-then-is_ack-clause-who g c =
+    let eight : length c.args.bytes ≡ 8 = search rules in
+    who_setup c.args.target c.args.bytes _ _ eight (c.loop-error.invariant.1.0 c.in-Ok.ensures.settled) (returns-then-is_ack-clause-heard g c)
+
+pub returns-clause-what : goal.returns-clause-what
+returns-clause-what g c =
+    let eight : length c.args.bytes ≡ 8 = search rules in
+    let all : c.loop-error._error ≡ 3 = omega (arith, c.loop-error-test.false, c.loop-error.auto._error-end) in
+    what_setup c.args.target c.args.bytes _ _ eight (c.loop-error.invariant.1.1 (omega (arith, all))) (c.loop-error.invariant.0.2 all)
+
+pub returns-clause-why : goal.returns-clause-why
+returns-clause-why g c =
+    let eight : length c.args.bytes ≡ 8 = search rules in
+    let all : c.loop-error._error ≡ 3 = omega (arith, c.loop-error-test.false, c.loop-error.auto._error-end) in
+    why_setup c.args.target c.args.bytes _ _ eight (c.loop-error.invariant.1.1 (omega (arith, all))) (c.loop-error.invariant.0.2 all)
