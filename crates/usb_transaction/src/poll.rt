@@ -21,8 +21,9 @@ use usb_packet::Toggle;
 /// Asks an endpoint, 0 to 15, whether it has a data packet (5.7, 8.5.4): None at NAK.
 ///
 /// It asks again after an error or a packet of the other toggle, which is a repeat and discarded.
-/// The toggle changes exactly where a packet came. Where no address was ever held twice, a hub's
-/// byte is what its ports told at one of the attempts, and None that they told of nothing.
+/// The toggle changes exactly where a packet came. Where no address was ever held twice, and no
+/// earlier poll failed, a hub's byte is what its ports told at one of the attempts, and at None they
+/// told of nothing.
 ///
 /// # Errors
 ///
