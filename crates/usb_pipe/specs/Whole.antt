@@ -48,7 +48,7 @@ CanEnd spec (Err Broken) = ⊥
 CanEnd spec (Err (Bus fault)) = ⊤
 CanEnd spec (Err Memory) = (spec.silent ≡ false) × (spec.busy ≡ false)
 
--- the device at a place accepted the request in an attempt that left this world, the last time in the call; these were its ports then
+-- the device at a place accepted the request in an attempt of the call that left this world; these were its ports then
 pub record AcceptedIn (t : Target) (request : Setup) (old now : World) (j : ℕ) (p : List ℕ) (row : List PortState) (s : State) : Type 0 where
   pub state : State
   pub at : AcceptedAt t (bytes_of request) old now j p s state

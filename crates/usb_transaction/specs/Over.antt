@@ -134,8 +134,8 @@ pub record ChangesIn (t : Target) (toggle : Toggle) (old : World) (result : Resu
   pub frame : tells_changes s.spec s.registers ≡ true → OnlyChanges s v
   pub poll : is_at s t ≡ true → tells_changes s.spec s.registers ≡ true → PollAt NeverTold toggle s → PollEnds (ToldIn (in_attempt t 1) old j p) toggle result v
 
--- A device accepted setup data, the last time in the attempt that left this world: it alone held the address, it is what the request makes of what it was
--- before the transaction, and what the request asks of its ports is done (8.5.3, 11.24.2)
+-- A device accepted setup data in the attempt that left this world: it alone held the address, it is what the request makes, with the ports it had there, of what it
+-- was before the transaction, and what the request asks of its ports is done (8.5.3, 11.24.2)
 pub record AcceptedAt (t : Target) (bytes : List ℕ) (old now : World) (j : ℕ) (p : List ℕ) (s v : State) : Type 0 where
   pub outcomes : List Outcome
   pub mid : World
