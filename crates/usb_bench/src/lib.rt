@@ -1,0 +1,107 @@
+//! Simulated buses for tests: from a plan's text, with the port and the device made ready.
+#![tactic(auto)]
+
+ghost use Rattle.std.specs.Prelude.{◌≡◌};
+ghost use Rattle.usb_bus.specs.Watch.{inner_of};
+ghost use Rattle.usb_bus.specs.Sim.{writer_of};
+
+use std::alloc::{AllocError, Global};
+use std::io::Write;
+use thiserror::Error;
+use usb_bus::{Bus, BusFault, SimBus, Watched};
+use usb_plan::{PlanFault, read_plan};
+use usb_request::feature::{C_PORT_CONNECTION, C_PORT_RESET, PORT_POWER, PORT_RESET};
+
+/// Why there is no such bus.
+#[derive(Clone, Copy, Debug, PartialEq, Eq, Error)]
+pub enum BenchFault {
+    /// The text is no plan.
+    #[error("{0}")]
+    Plan(PlanFault),
+    /// The bus told a fault.
+    #[error("{0}")]
+    Bus(BusFault),
+    /// Memory was refused.
+    #[error("out of memory")]
+    Memory,
+}
+
+/// The text of a plan with one root port: so many attempts at most, and these tables behind each other.
+pub fn plan_text(alloc: Global, limit: u64, tables: &[&str]) -> Result<String, AllocError> {
+    let mut text = format!(in alloc; "limit = {limit}\nroots = 1\n")?;
+    'tables: for table in tables {
+        text.push_str(table)?;
+    }
+    Ok(text)
+}
+
+/// The bus of a plan's text, before anything came, with a writer for its trace.
+///
+/// # Errors
+/// Plan where the text is no plan, Memory where memory was refused.
+pub fn bus_on<W: Write + Drop>(
+    alloc: Global,
+    text: &str,
+    writer: Watched<W>,
+) -> Result<SimBus<W>, BenchFault> {
+    let plan = match read_plan(alloc, text) {
+        Ok(plan) => plan,
+        Err(fault) => return Err(BenchFault::Plan(fault)),
+    };
+    match SimBus::new(alloc, &plan, writer) {
+        Ok(bus) => Ok(bus),
+        Err((_, _)) => Err(BenchFault::Memory),
+    }
+}
+
+/// The bus of a plan's text, before anything came, that keeps its trace.
+///
+/// # Errors
+/// As `bus_on`.
+pub fn bus_of(alloc: Global, text: &str) -> Result<SimBus<Vec<u8>>, BenchFault> {
+    bus_on(alloc, text, Watched::new(Vec::new(alloc)))
+}
+
+/// The bus of a plan's text whose first event came: root port 1 has power, and what is plugged there was reset.
+///
+/// # Errors
+/// As `bus_on`; Bus where the event could not come.
+pub fn plugged(alloc: Global, text: &str) -> Result<SimBus<Vec<u8>>, BenchFault> {
+    let mut bus = bus_of(alloc, text)?;
+    plug(&mut bus)?;
+    Ok(bus)
+}
+
+/// Gives power to root port 1, lets the next event come, and resets what is plugged at the port; no change is left there.
+///
+/// # Errors
+/// Bus where the event could not come.
+pub fn plug<W: Write>(bus: &mut SimBus<W>) -> Result<(), BenchFault> {
+    set(bus, PORT_POWER);
+    if let Err(fault) = bus.apply_next_event() {
+        return Err(BenchFault::Bus(fault));
+    }
+    clear(bus, C_PORT_CONNECTION);
+    set(bus, PORT_RESET);
+    clear(bus, C_PORT_RESET);
+    Ok(())
+}
+
+fn set<W: Write>(bus: &mut SimBus<W>, feature: u16) {
+    if bus.root_ports() >= 1 && (feature == PORT_POWER || feature == PORT_RESET) {
+        bus.root_set(1, feature);
+    }
+}
+
+fn clear<W: Write>(bus: &mut SimBus<W>, feature: u16) {
+    if bus.root_ports() >= 1 && (feature == C_PORT_CONNECTION || feature == C_PORT_RESET) {
+        bus.root_clear(1, feature);
+    }
+}
+
+/// The trace that a bus kept.
+pub fn trace_of(bus: SimBus<Vec<u8>>) -> Vec<u8>
+    ensures { result ≡ inner_of (writer_of bus) }
+{
+    bus.into_writer().into_inner()
+}
