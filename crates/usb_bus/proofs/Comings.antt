@@ -5,17 +5,17 @@ use Rattle.std.specs.Option.{option_to_list}
 use Rattle.std.proofs.KnownBytes.{Appends-trans, Appends-nil}
 use Rattle.usb_device.specs.Tree.{Ports}
 use Rattle.usb_device.specs.Delivery.{held, is_twice}
-use Rattle.usb_bus.specs.declared.event.Event.{Event}
-use Rattle.usb_bus.specs.declared.event.Due.{Due}
-use Rattle.usb_bus.specs.declared.types.BusFault.{BusFault}
-use Rattle.usb_bus.specs.declared.types.BusFault.TheVariants.{LimitReached, Memory, TraceFailed}
-use Rattle.usb_bus.specs.declared.exchange.Exchange.{Exchange}
-use Rattle.usb_bus.specs.declared.types.Attempt.{Attempt}
-use Rattle.usb_bus.specs.Exchange.{exchange_in, ports_in}
-use Rattle.usb_bus.specs.Losses.{counted, after_clearing}
-use Rattle.usb_bus.specs.World.{World}
-use Rattle.usb_bus.specs.Steps.{Coming, next_came, happened, is_due, has_due, took, took_first, due_from, ready, damage_in, made_in, with_attempt, outcome_made, outcome_in}
-use Rattle.usb_bus.specs.Lines.{action_line, due_of, next_line, next_due, due_lines, attempted_lines}
+use Rattle.usb_world.specs.declared.event.Event.{Event}
+use Rattle.usb_world.specs.declared.event.Due.{Due}
+use Rattle.usb_world.specs.declared.types.BusFault.{BusFault}
+use Rattle.usb_world.specs.declared.types.BusFault.TheVariants.{LimitReached, Memory, TraceFailed}
+use Rattle.usb_world.specs.declared.exchange.Exchange.{Exchange}
+use Rattle.usb_world.specs.declared.types.Attempt.{Attempt}
+use Rattle.usb_world.specs.Exchange.{exchange_in, ports_in}
+use Rattle.usb_world.specs.Losses.{counted, after_clearing}
+use Rattle.usb_world.specs.World.{World}
+use Rattle.usb_world.specs.Steps.{Coming, next_came, happened, is_due, has_due, took, took_first, due_from, ready, damage_in, made_in, with_attempt, outcome_made, outcome_in, due_of}
+use Rattle.usb_bus.specs.Lines.{action_line, next_line, next_due, due_lines, attempted_lines}
 use Rattle.usb_bus.specs.Trace.{attempt_line}
 
 -- the next event came

@@ -3,11 +3,11 @@ use Rattle.std.proofs.Common.{◌≡◌, ℕ, List, [], ◌∷◌, true, ◌&&�
 use Rattle.std.proofs.lemmas.Bool.{and_parts, and_from}
 use Rattle.std.specs.List.{list_all}
 use Rattle.usb_device.specs.Spec.{Spec}
-use Rattle.usb_bus.specs.declared.event.Event.{Event}
-use Rattle.usb_bus.specs.declared.event.Action.{Action}
-use Rattle.usb_bus.specs.declared.event.Action.TheVariants.{Plug, Unplug, Show, Send, Receive, Clear}
-use Rattle.usb_bus.specs.Plugged.{Plugged, plugged_after, has_port}
-use Rattle.usb_bus.specs.PlanData.{PlanData, IsPlan, is_taken, action_fits, event_fits, events_fit, can_be_done, can_come}
+use Rattle.usb_world.specs.declared.event.Event.{Event}
+use Rattle.usb_world.specs.declared.event.Action.{Action}
+use Rattle.usb_world.specs.declared.event.Action.TheVariants.{Plug, Unplug, Show, Send, Receive, Clear}
+use Rattle.usb_world.specs.Plugged.{Plugged, plugged_after, has_port}
+use Rattle.usb_world.specs.PlanData.{PlanData, IsPlan, is_taken, action_fits, event_fits, events_fit, can_be_done, can_come}
 
 action_done : (roots : ℕ) (devices : List Spec) (tree : Plugged) (a : Action) → action_fits roots devices tree a ≡ true → can_be_done (length devices) a ≡ true
 action_done roots devices tree (Plug path device) h = (and_parts (has_port roots devices tree path && not (is_taken tree path)) (nat_lt device (length devices)) h).1

@@ -1,14 +1,13 @@
 -- The lines of the trace that steps write, and what an event asks of the host.
 use Rattle.std.specs.Prelude.{ℕ, ◌+◌, if◌then◌else◌, List, [], ◌∷◌, ◌++◌, slice_get, Option, Some, None}
 use Rattle.usb_device.specs.Spec.{Spec}
-use Rattle.usb_bus.specs.declared.event.Event.{Event}
-use Rattle.usb_bus.specs.declared.event.Action.{Action}
-use Rattle.usb_bus.specs.declared.event.Action.TheVariants.{Plug, Unplug, Show, Send, Receive, Clear}
-use Rattle.usb_bus.specs.declared.event.Due.{Due}
-use Rattle.usb_bus.specs.declared.event.Due.TheVariants as due
-use Rattle.usb_bus.specs.declared.types.Attempt.{Attempt}
-use Rattle.usb_bus.specs.World.{World}
-use Rattle.usb_bus.specs.Steps.{took, is_due, ready, made_in}
+use Rattle.usb_world.specs.declared.event.Event.{Event}
+use Rattle.usb_world.specs.declared.event.Action.{Action}
+use Rattle.usb_world.specs.declared.event.Action.TheVariants.{Plug, Unplug, Show, Send, Receive, Clear}
+use Rattle.usb_world.specs.declared.event.Due.{Due}
+use Rattle.usb_world.specs.declared.types.Attempt.{Attempt}
+use Rattle.usb_world.specs.World.{World}
+use Rattle.usb_world.specs.Steps.{took, is_due, ready, made_in, due_of}
 use Rattle.usb_bus.specs.Trace.{plug_line, unplug_line, attempt_line}
 
 -- the line of an event
@@ -19,15 +18,6 @@ action_line Show devices = []
 action_line (Send path bytes) devices = []
 action_line (Receive path packets) devices = []
 action_line (Clear path) devices = []
-
--- what it asks of the host
-unfoldable pub due_of : Action → Due
-due_of (Plug path device) = due.Changed
-due_of (Unplug path) = due.Changed
-due_of Show = due.Show
-due_of (Send path bytes) = due.Send path bytes
-due_of (Receive path packets) = due.Receive path packets
-due_of (Clear path) = due.Clear path
 
 -- the next event
 unfoldable pub next_line : World → List ℕ

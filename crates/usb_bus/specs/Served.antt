@@ -1,12 +1,12 @@
 -- Which plans are served: those of functions at root ports.
 use Rattle.std.specs.Prelude.{ℕ, ◌+◌, List, length, Bool, true, false, ◌&&◌, ◌==◌, not, Option, None, Some, Result, Ok, Err, position, slice_get}
 use Rattle.usb_device.specs.Spec.{Spec}
-use Rattle.usb_bus.specs.declared.event.Event.{Event}
-use Rattle.usb_bus.specs.declared.event.Action.{Action}
-use Rattle.usb_bus.specs.declared.event.Action.TheVariants.{Plug, Unplug, Show, Send, Receive, Clear}
+use Rattle.usb_world.specs.declared.event.Event.{Event}
+use Rattle.usb_world.specs.declared.event.Action.{Action}
+use Rattle.usb_world.specs.declared.event.Action.TheVariants.{Plug, Unplug, Show, Send, Receive, Clear}
 use Rattle.usb_bus.specs.declared.not_served.NotServed.{NotServed}
 use Rattle.usb_bus.specs.declared.not_served.NotServed.TheVariants as not_served
-use Rattle.usb_bus.specs.PlanData.{PlanData}
+use Rattle.usb_world.specs.PlanData.{PlanData}
 
 abbrev pub is_nine : Option ℕ → Bool
 is_nine None = false

@@ -3,7 +3,7 @@ use Rattle.std.specs.Prelude.{ℕ, List, Option}
 use Rattle.usb_device.specs.Tree.{Plugged, device_there}
 use Rattle.usb_bus.specs.declared.watched.Watched.{Watched}
 use Rattle.usb_bus.specs.declared.sim.SimBus.{SimBus}
-use Rattle.usb_bus.specs.World.{World}
+use Rattle.usb_world.specs.World.{World}
 
 abbrev pub world_of : {W : Type 0} → SimBus W → World
 world_of s = record {

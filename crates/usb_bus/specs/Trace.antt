@@ -2,12 +2,12 @@
 use Rattle.std.specs.Prelude.{ℕ, Bool, true, false, List, [], ◌++◌, codes, decimal, Option, Some, None}
 use Rattle.usb_packet.specs.Text.{text_of}
 use Rattle.usb_port.specs.Path.{path_text}
-use Rattle.usb_bus.specs.declared.exchange.Exchange.{Exchange}
-use Rattle.usb_bus.specs.declared.exchange.Heard.{Heard}
-use Rattle.usb_bus.specs.declared.exchange.Heard.TheVariants.{Nothing, One, Collision}
-use Rattle.usb_bus.specs.declared.wire.Mark.{Mark}
-use Rattle.usb_bus.specs.declared.wire.Mark.TheVariants.{Whole, Lost, PreLost, Flipped}
-use Rattle.usb_bus.specs.declared.wire.Outgoing.{Outgoing}
+use Rattle.usb_world.specs.declared.exchange.Exchange.{Exchange}
+use Rattle.usb_world.specs.declared.exchange.Heard.{Heard}
+use Rattle.usb_world.specs.declared.exchange.Heard.TheVariants.{Nothing, One, Collision}
+use Rattle.usb_world.specs.declared.wire.Mark.{Mark}
+use Rattle.usb_world.specs.declared.wire.Mark.TheVariants.{Whole, Lost, PreLost, Flipped}
+use Rattle.usb_world.specs.declared.wire.Outgoing.{Outgoing}
 
 abbrev pub pre_text : Bool → List ℕ
 pre_text true = codes "PRE "

@@ -1,9 +1,9 @@
 ghost use Rattle.std.specs.Prelude.{◌≡◌, ◌≤◌, None, IfOk, OnOk};
 ghost use Rattle.usb_port.specs.PortState.{status_of};
-ghost use Rattle.usb_bus.specs.World.{World, Attempted, IsAttempt, IsRootPort, IsSetFeature, IsClearFeature, port_at, roots_of};
-ghost use Rattle.usb_bus.specs.Steps.{AttemptFails, SetsRoot, ClearsRoot, after, attempt as attempt_step, outcome_in};
-ghost use Rattle.usb_bus.specs.Passes.{IsSettled};
-ghost use Rattle.usb_bus.specs.Sane.{IsSane};
+ghost use Rattle.usb_world.specs.World.{World, Attempted, IsAttempt, IsRootPort, IsSetFeature, IsClearFeature, port_at, roots_of};
+ghost use Rattle.usb_world.specs.Steps.{AttemptFails, SetsRoot, ClearsRoot, after, attempt as attempt_step, outcome_in};
+ghost use Rattle.usb_world.specs.Passes.{IsSettled};
+ghost use Rattle.usb_world.specs.Sane.{IsSane};
 
 use crate::{Attempt, BusFault, Outcome};
 

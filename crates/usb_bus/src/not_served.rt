@@ -2,8 +2,7 @@
 ghost use Rattle.std.specs.Prelude.{◌≡◌};
 ghost use Rattle.usb_bus.specs.Served.{is_hub, is_function_at, is_served, first_not_served, served_of};
 
-use crate::event::{Action, Event};
-use crate::plan::Plan;
+use crate::{Action, Event, Plan};
 use thiserror::Error;
 use usb_device::DeviceSpec;
 

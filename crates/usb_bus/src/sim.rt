@@ -1,27 +1,26 @@
 //! A simulated bus: the devices that a plan's events plug at its root ports, and the trace of its attempts.
 ghost use Rattle.std.specs.Prelude.{◌≡◌, ◌+◌, ◌≤◌, length, IfOk, IfErr, None, Some, option_map, true};
 ghost use Rattle.std.specs.List.{list_all};
-ghost use Rattle.usb_bus.specs.PlanData.{can_come};
+ghost use Rattle.usb_world.specs.PlanData.{can_come};
 ghost use Rattle.usb_device.specs.Tree.{new_ports, row_of};
-ghost use Rattle.usb_bus.specs.Losses.{AreOfDamages};
-ghost use Rattle.usb_bus.specs.Passes.{IsSettled};
-ghost use Rattle.usb_bus.specs.Sane.{IsSane};
-ghost use Rattle.usb_bus.specs.SaneProp.{IsSane-prop};
-ghost use Rattle.usb_bus.specs.Steps.{opening, fault_of};
-ghost use Rattle.usb_bus.specs.declared.types.BusFault.TheVariants.{LimitReached};
+ghost use Rattle.usb_world.specs.Losses.{AreOfDamages};
+ghost use Rattle.usb_world.specs.Passes.{IsSettled};
+ghost use Rattle.usb_world.specs.Sane.{IsSane};
+ghost use Rattle.usb_world.specs.SaneProp.{IsSane-prop};
+ghost use Rattle.usb_world.specs.Steps.{opening, fault_of};
+ghost use Rattle.usb_world.specs.declared.types.BusFault.TheVariants.{LimitReached};
 
 mod bus;
 mod events;
 mod lines;
 
-use crate::event::{Event, copies as event_copies};
-use crate::losses::Losses;
-use crate::{BusFault, Damage, Plan, Watched};
+use crate::{BusFault, Damage, Event, Plan, Watched};
 use std::alloc::{AllocError, Global};
 use std::collections::VecDeque;
 use std::io::Write;
 use usb_device::{DeviceSpec, Ports};
 use usb_port::PortPath;
+use usb_world::{Losses, event_copies};
 
 /// A bus that a plan describes. Each attempt, plug and unplug is a line of the trace, which goes to a writer at once.
 ///
@@ -74,7 +73,7 @@ impl<W: Write> SimBus<W> {
     /// The bus of a plan, before anything came: all ports are off.
     ///
     /// An error: memory is refused; the writer is handed back.
-    #[tactic(auto, using(crate::proofs::Wires::no_losses_yet))]
+    #[tactic(auto, using(usb_world::proofs::Wires::no_losses_yet))]
     pub fn new(
         alloc: Global,
         plan: &Plan,

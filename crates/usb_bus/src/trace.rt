@@ -2,10 +2,9 @@
 ghost use Rattle.std.specs.Prelude.{◌≡◌, ◌+◌, ◌<◌, ◌≤◌, ◌++◌, length, decimal, encode_utf8};
 ghost use Rattle.usb_bus.specs.Trace.{attempt_line, pre_text, mark_text, host_text, next_text, answer_text};
 
-use crate::exchange::{Exchange, Heard};
-use crate::wire::{Mark, Outgoing};
 use arrayvec::ArrayString;
 use usb_packet::packet_text;
+use usb_world::{Exchange, Heard, Mark, Outgoing};
 
 /// Room for the longest line of an attempt.
 type Line = ArrayString<700>;

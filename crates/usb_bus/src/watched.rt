@@ -3,10 +3,12 @@ ghost use Rattle.std.specs.Prelude.{◌≡◌, ◌+◌, ◌≤◌, ◌||◌, fal
 ghost use Rattle.std.specs.Io.{ReadsAtMost, WritesAtMost};
 ghost use Rattle.std.specs.Io.KnownBytes.{Keeps, Appends, ReadConsumes, WriteAppends};
 ghost use Rattle.usb_bus.specs.Watch.{inner_of, has_failed, calls_of, write_fails, AppendsFront};
+ghost use Rattle.usb_world.specs.declared.types.BusFault.TheVariants.{TraceFailed as trace_failed};
 
 use std::io;
 use std::io::{Read, Write};
 use thiserror::Error;
+use usb_world::BusFault;
 
 /// A reader or writer, whether it has failed, and how often it was called.
 ///
@@ -111,6 +113,14 @@ impl<T: Write> Write for Watched<T> {
 #[derive(Clone, Copy, Debug, PartialEq, Eq, Error)]
 #[error("write failed")]
 pub struct WriteFailed;
+
+impl From<WriteFailed> for BusFault {
+    ghost from_gives = { λ _ fault. fault ≡ trace_failed };
+
+    fn from(_error: WriteFailed) -> BusFault {
+        BusFault::TraceFailed
+    }
+}
 
 /// Writes a piece, part by part, until all of it is taken.
 ///

@@ -1,8 +1,8 @@
 -- How the counts of an enumeration's parts join.
 use Rattle.std.proofs.Common.{subst, arith}
 use Rattle.std.specs.Prelude.{ℕ, ◌+◌, ◌*◌, ◌≤◌}
-use Rattle.usb_bus.specs.World.{World, Spends}
-use Rattle.usb_bus.proofs.Counts.{spends_then, spends_wider}
+use Rattle.usb_world.specs.World.{World, Spends}
+use Rattle.usb_world.proofs.Counts.{spends_then, spends_wider}
 use Rattle.usb_pipe.specs.Control.{control_bound}
 use Rattle.usb_enum.specs.Bounds.{read_bound, configuration_bound}
 use Rattle.usb_pipe.proofs.Bounds.{bound_wide}

@@ -3,7 +3,7 @@ use Rattle.std.proofs.Common.{◌≡◌, refl, sym, subst, arith}
 use Rattle.std.specs.Prelude.{◌-◌, List, Result, false, slice_index_or}
 use Rattle.std.proofs.Common.{get_or-set_same}
 use Rattle.usb_port.specs.PortState.{PortState, off, clear_row}
-use Rattle.usb_bus.specs.World.{World, root_row, port_at}
+use Rattle.usb_world.specs.World.{World, root_row, port_at}
 use Rattle.usb_pipe.specs.declared.fault.PipeFault.{PipeFault}
 use Rattle.usb_hub.specs.declared.port.HubPort.{HubPort}
 use Rattle.usb_hub.specs.declared.port.HubPort.TheVariants.{Root}

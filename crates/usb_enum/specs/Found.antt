@@ -1,6 +1,6 @@
 -- What an enumeration finds, and what it leaves.
 use Rattle.std.specs.Prelude.{◌≡◌, ◌⊎◌, ℕ, true, false, Some, Result, Ok, Err, length}
-use Rattle.usb_bus.specs.World.{World, port_at}
+use Rattle.usb_world.specs.World.{World, port_at}
 use Rattle.usb_hub.specs.declared.port.HubPort.{HubPort}
 use Rattle.usb_hub.specs.declared.port.HubPort.TheVariants.{Root}
 use Rattle.usb_resources.specs.Pool.{Addresses, Takes, IsFull}

@@ -1,6 +1,6 @@
 //! The configurations of a device: each is read, and one is chosen.
 ghost use Rattle.std.specs.Prelude.{◌≡◌, ◌≤◌, ◌<◌, ◌*◌, length, Some, IfOk, IfErr, IfSome};
-ghost use Rattle.usb_bus.specs.World.{Spends};
+ghost use Rattle.usb_world.specs.World.{Spends};
 ghost use Rattle.usb_transaction.specs.Trans.{IsTarget};
 ghost use Rattle.usb_enum.specs.Bounds.{read_bound, configuration_bound};
 ghost use Rattle.usb_enum.specs.Stop.{Told};

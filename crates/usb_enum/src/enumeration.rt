@@ -1,6 +1,6 @@
 //! The whole enumeration.
 ghost use Rattle.std.specs.Prelude.{◌≡◌, IfOk, IfErr};
-ghost use Rattle.usb_bus.specs.World.{Spends};
+ghost use Rattle.usb_world.specs.World.{Spends};
 ghost use Rattle.usb_hub.specs.Port.{IsPort};
 ghost use Rattle.usb_enum.specs.Bounds.{read_bound, enumeration_bound, configured_bound};
 ghost use Rattle.usb_enum.specs.Stop.{FaultTold, ToldIn, ToldWithout};

@@ -1,6 +1,6 @@
 //! The steps up to a device that has its address and has given its device descriptor.
 ghost use Rattle.std.specs.Prelude.{◌≡◌, ◌≤◌, ◌<◌, ◌*◌, IfOk, IfErr, IfSome, true, ◌&&◌};
-ghost use Rattle.usb_bus.specs.World.{Spends};
+ghost use Rattle.usb_world.specs.World.{Spends};
 ghost use Rattle.usb_hub.specs.Port.{IsPort};
 ghost use Rattle.usb_transaction.specs.Trans.{IsTarget};
 ghost use Rattle.usb_enum.specs.Bounds.{pass_bound, read_bound};

@@ -1,6 +1,6 @@
 //! The strings of a device (9.6.7).
 ghost use Rattle.std.specs.Prelude.{◌≡◌, ◌≤◌, IfOk, IfErr};
-ghost use Rattle.usb_bus.specs.World.{Spends};
+ghost use Rattle.usb_world.specs.World.{Spends};
 ghost use Rattle.usb_transaction.specs.Trans.{IsTarget};
 ghost use Rattle.usb_enum.specs.Bounds.{read_bound, strings_bound};
 ghost use Rattle.usb_enum.specs.Stop.{Told};
@@ -97,7 +97,7 @@ fn string_bytes<B: Bus>(
 }
 
 /// The string of an index; index 0 names none.
-#[tactic(auto, using(crate::proofs::Counts::spends_on, usb_bus::proofs::Counts::spends_none))]
+#[tactic(auto, using(crate::proofs::Counts::spends_on, usb_world::proofs::Counts::spends_none))]
 fn read_one<B: Bus>(
     alloc: Global,
     bus: &mut B,
@@ -133,7 +133,7 @@ fn language<B: Bus>(alloc: Global, bus: &mut B, target: Target) -> Result<Option
 }
 
 /// The device's strings, each in its first language.
-#[tactic(auto, using(crate::proofs::Counts::spends_on, usb_bus::proofs::Counts::spends_none))]
+#[tactic(auto, using(crate::proofs::Counts::spends_on, usb_world::proofs::Counts::spends_none))]
 pub(crate) fn read_strings<B: Bus>(
     alloc: Global,
     bus: &mut B,

@@ -5,8 +5,8 @@ use Rattle.usb_port.specs.PortState.{powered_on}
 use Rattle.usb_device.specs.Calls.{set_call}
 use Rattle.usb_device.specs.declared.calls.PortCall.TheVariants.{SetPower}
 use Rattle.usb_device.specs.Tree.{Ports, ended, vacant, taken, called, changed_at, row_of}
-use Rattle.usb_bus.specs.World.{World, roots_of}
-use Rattle.usb_bus.specs.Steps.{SetsRoot, after, root_call}
+use Rattle.usb_world.specs.World.{World, roots_of}
+use Rattle.usb_world.specs.Steps.{SetsRoot, after, root_call}
 use Rattle.usb_host.specs.Hosting.{with_power}
 
 -- the first so many ports have power

@@ -2,7 +2,7 @@
 use Rattle.std.proofs.Common.{◌≡◌, refl, arith, subst, suc, zero, false}
 use Rattle.std.specs.Prelude.{ℕ, ◌+◌, ◌-◌, ◌<◌, ◌≤◌, List, [], ◌∷◌, length, slice_index_or}
 use Rattle.usb_port.specs.PortState.{PortState, off}
-use Rattle.usb_bus.specs.World.{World, root_row, roots_of, port_at, change_of, changes}
+use Rattle.usb_world.specs.World.{World, root_row, roots_of, port_at, change_of, changes}
 
 no_change : (p : PortState) → p.connection_changed ≡ false → change_of p ≡ 0
 unfolding change_of

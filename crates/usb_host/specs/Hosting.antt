@@ -3,7 +3,7 @@ use Rattle.std.specs.Prelude.{◌≡◌, ℕ, ◌+◌, Bool, false, []}
 use Rattle.std.specs.FinSet as set
 use Rattle.usb_port.specs.PortState.{powered_on}
 use Rattle.usb_device.specs.Tree.{Ports, ended, vacant, taken}
-use Rattle.usb_bus.specs.World.{World, root_row, to_come, changes}
+use Rattle.usb_world.specs.World.{World, root_row, to_come, changes}
 use Rattle.usb_resources.specs.Pool.{Addresses, Releases}
 use Rattle.usb_enum.specs.declared.finding.Finding.{Finding}
 use Rattle.usb_enum.specs.declared.finding.Finding.TheVariants.{Device, Refused}

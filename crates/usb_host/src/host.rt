@@ -2,7 +2,7 @@
 ghost use Rattle.std.specs.Prelude.{◌≡◌, ◌≢◌, ◌≤◌, ◌<◌, ◌+◌, ◌*◌, ◌↔◌, ℕ, [], ◌∷◌, true, false, length, map, IsTrue, IsErrOf, OnOk, OnErr, IfOk, IfErr, IsErr, Ok, Err};
 ghost use Rattle.std.specs.Borrow.{Lends, sem};
 ghost use Rattle.std.specs.FinSet as set;
-ghost use Rattle.usb_bus.specs.World.{World, Spends, IsRootPort, IsClearFeature, root_row, to_come, changes, port_at};
+ghost use Rattle.usb_world.specs.World.{World, Spends, IsRootPort, IsClearFeature, root_row, to_come, changes, port_at};
 ghost use Rattle.usb_port.specs.Status.{seen};
 ghost use Rattle.usb_enum.specs.Bounds.{enumeration_bound};
 ghost use Rattle.std.specs.BTreeMap.{insert_entry};
@@ -135,7 +135,7 @@ impl<B: Bus> Host<B> {
     ///
     /// `Stopped` where an earlier round failed, and nothing happens. `Bus` where the bus makes no
     /// more steps and `Memory` where memory was refused; the host then stops.
-    #[tactic(auto, using(usb_enum::proofs::Counts::spends_on, usb_bus::proofs::Counts::spends_none))]
+    #[tactic(auto, using(usb_enum::proofs::Counts::spends_on, usb_world::proofs::Counts::spends_none))]
     pub fn round(&mut self) -> Result<Round, HostFault>
         ensures stopped { IsErrOf result HostFault.Stopped ↔ IsTrue self.old.stopped }
         ensures nothing { IsTrue self.old.stopped → self.new ≡ self.old }
@@ -158,7 +158,7 @@ impl<B: Bus> Host<B> {
     }
 
     /// Handles each root port whose connection has changed.
-    #[tactic(auto, using(usb_enum::proofs::Counts::spends_on, usb_bus::proofs::Counts::spends_none))]
+    #[tactic(auto, using(usb_enum::proofs::Counts::spends_on, usb_world::proofs::Counts::spends_none))]
     fn handle_roots(&mut self) -> Result<Round, HostFault>
         ensures going { self.new.stopped ≡ self.old.stopped }
         ensures started { result ≢ Err HostFault.Stopped }

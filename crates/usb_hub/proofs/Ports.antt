@@ -5,9 +5,9 @@ use Rattle.std.specs.Prelude.{ℕ, ◌+◌, ◌-◌, ◌≤◌, Bool, length, Ok
 use Rattle.usb_port.specs.PortState.{PortState}
 use Rattle.usb_port.specs.Status.{seen}
 use Rattle.usb_port.specs.declared.status.PortStatus.{PortStatus}
-use Rattle.usb_bus.specs.World.{World, Spends, IsRootPort, IsSetFeature, IsClearFeature, root_row, change_of, changes, port_at}
-use Rattle.usb_bus.specs.Steps.{SetsRoot, ClearsRoot}
-use Rattle.usb_bus.proofs.Counts.{RootCalled, root_set as root_set_called, root_cleared as root_cleared_called, spends_none, resets_spend, clears_spend, clears_change, changes-set}
+use Rattle.usb_world.specs.World.{World, Spends, IsRootPort, IsSetFeature, IsClearFeature, root_row, change_of, changes, port_at}
+use Rattle.usb_world.specs.Steps.{SetsRoot, ClearsRoot}
+use Rattle.usb_world.proofs.Counts.{RootCalled, root_set as root_set_called, root_cleared as root_cleared_called, spends_none, resets_spend, clears_spend, clears_change, changes-set}
 use Rattle.usb_hub.specs.contracts.port.HubPort as hub_port
 use Rattle.usb_hub.specs.declared.port.HubPort.{HubPort}
 use Rattle.usb_hub.specs.declared.port.HubPort.TheVariants.{Root}

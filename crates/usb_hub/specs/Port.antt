@@ -2,8 +2,8 @@
 use Rattle.std.specs.Prelude.{◌≡◌, ℕ, ◌+◌, ◌≤◌, true, Result, Ok, IsOk}
 use Rattle.usb_port.specs.Status.{seen}
 use Rattle.usb_port.specs.declared.status.PortStatus.{PortStatus}
-use Rattle.usb_bus.specs.World.{World, IsRootPort, Spends, root_row, roots_of, to_come, port_at, changes}
-use Rattle.usb_bus.specs.Steps.{SetsRoot, ClearsRoot}
+use Rattle.usb_world.specs.World.{World, IsRootPort, Spends, root_row, roots_of, to_come, port_at, changes}
+use Rattle.usb_world.specs.Steps.{SetsRoot, ClearsRoot}
 use Rattle.usb_pipe.specs.declared.fault.PipeFault.{PipeFault}
 use Rattle.usb_hub.specs.declared.port.HubPort.{HubPort}
 use Rattle.usb_hub.specs.declared.port.HubPort.TheVariants.{Root}

@@ -1,6 +1,6 @@
 //! The ports of hubs, the root's among them.
 ghost use Rattle.std.specs.Prelude.{◌≡◌, IfErr};
-ghost use Rattle.usb_bus.specs.World.{Spends, IsSetFeature, IsClearFeature};
+ghost use Rattle.usb_world.specs.World.{Spends, IsSetFeature, IsClearFeature};
 ghost use Rattle.usb_pipe.specs.Control.{Faults};
 ghost use Rattle.usb_hub.specs.Port.{IsPort, PortRead, PortSet, PortCleared, port_bound};
 

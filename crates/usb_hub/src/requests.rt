@@ -1,6 +1,6 @@
 //! The standard's requests to a device (9.4).
 ghost use Rattle.std.specs.Prelude.{◌≡◌, ◌≢◌, ◌≤◌, vec_len, Err, IfOk, MatchResult};
-ghost use Rattle.usb_bus.specs.World.{Spends};
+ghost use Rattle.usb_world.specs.World.{Spends};
 ghost use Rattle.usb_transaction.specs.Trans.{IsTarget, Worked};
 ghost use Rattle.usb_pipe.specs.Control.{Faults, control_bound};
 ghost use Rattle.usb_pipe.specs.Stages.{Reads, Writes};

@@ -1,7 +1,7 @@
 -- How the parts of a run join.
 use Rattle.std.proofs.Common.{◌≡◌, ◌∙◌, refl, sym, subst, arith, ℕ, ◌+◌, ◌≤◌, ◌<◌}
-use Rattle.usb_bus.specs.World.{World, Spends, to_come}
-use Rattle.usb_bus.proofs.Counts.{spends_none, spends_then}
+use Rattle.usb_world.specs.World.{World, Spends, to_come}
+use Rattle.usb_world.proofs.Counts.{spends_none, spends_then}
 use Rattle.usb_main.specs.Run.{Goes}
 
 pub goes_none : (w : World) → Goes w w

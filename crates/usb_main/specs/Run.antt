@@ -1,11 +1,11 @@
 -- What runs leave of a bus's world.
 use Rattle.std.specs.Prelude.{◌≡◌, ℕ, ◌+◌, ◌≤◌, Bool, true, false, Option, Some, None, if◌then◌else◌}
-use Rattle.usb_bus.specs.PlanData.{PlanData}
-use Rattle.usb_bus.specs.World.{World, Spends, to_come}
-use Rattle.usb_bus.specs.declared.event.Due.{Due}
-use Rattle.usb_bus.specs.declared.event.Due.TheVariants.{Changed, Show, Send, Receive, Clear}
-use Rattle.usb_bus.specs.declared.types.BusFault.{BusFault}
-use Rattle.usb_bus.specs.declared.types.BusFault.TheVariants as bus
+use Rattle.usb_world.specs.PlanData.{PlanData}
+use Rattle.usb_world.specs.World.{World, Spends, to_come}
+use Rattle.usb_world.specs.declared.event.Due.{Due}
+use Rattle.usb_world.specs.declared.event.Due.TheVariants.{Changed, Show, Send, Receive, Clear}
+use Rattle.usb_world.specs.declared.types.BusFault.{BusFault}
+use Rattle.usb_world.specs.declared.types.BusFault.TheVariants as bus
 use Rattle.usb_host.specs.Hosting.{Hosting}
 use Rattle.usb_main.specs.declared.runs.Item.{Item}
 use Rattle.usb_main.specs.declared.runs.Item.TheVariants.{Listing}

@@ -1,9 +1,9 @@
 //! Runs of a plan.
 ghost use Rattle.std.specs.Prelude.{◌≡◌, ◌≢◌, ◌≤◌, ◌<◌, false, true, None, Ok, Err, OnOk, OnErr, IfOk, IfErr, IfSome, IsSome};
 ghost use Rattle.usb_bus.specs.Served.{served_of};
-ghost use Rattle.usb_bus.specs.World.{Spends, root_row, to_come, changes};
+ghost use Rattle.usb_world.specs.World.{Spends, root_row, to_come, changes};
 ghost use Rattle.usb_bus.specs.Sim.{world_of, writer_of};
-ghost use Rattle.usb_bus.specs.Steps.{opening, PutLine};
+ghost use Rattle.usb_world.specs.Steps.{opening, PutLine};
 ghost use Rattle.usb_host.specs.Hosting.{work, opening as host_opening};
 ghost use Rattle.usb_main.specs.declared.runs.RunFault.TheVariants.{Memory as NoMemory};
 ghost use Rattle.usb_main.specs.Run.{Counts, Goes, IsCaused, run_fault, item_of, items_left, listing_of, IsBegun};

@@ -4,9 +4,9 @@ use Rattle.std.specs.Prelude.{ℕ, ◌*◌, ◌≤◌, List, [], length, Result,
 use Rattle.std.specs.Global.{Vec}
 use Rattle.std.specs.Int.{div_ceil}
 use Rattle.usb_packet.specs.declared.Toggle.{Toggle}
-use Rattle.usb_bus.specs.Devices.{EachWas}
-use Rattle.usb_bus.specs.Passes.{IsSettled}
-use Rattle.usb_bus.specs.World.{World}
+use Rattle.usb_world.specs.Devices.{EachWas}
+use Rattle.usb_world.specs.Passes.{IsSettled}
+use Rattle.usb_world.specs.World.{World}
 use Rattle.usb_transaction.specs.declared.target.Target.{Target}
 use Rattle.usb_transaction.specs.Answerer.{Answerer}
 use Rattle.usb_transaction.specs.Trans.{Worked}

@@ -4,10 +4,10 @@ use Rattle.std.specs.Prelude.{ℕ, ◌≤◌, List, Result, Ok}
 use Rattle.std.specs.Global.{Vec}
 use Rattle.usb_request.specs.declared.setup.Setup.{Setup}
 use Rattle.usb_request.specs.Layout.{IsToHost, bytes_of, setup_of}
-use Rattle.usb_bus.specs.Courses.{is_harmless}
-use Rattle.usb_bus.specs.Devices.{EachWas}
-use Rattle.usb_bus.specs.Passes.{IsSettled}
-use Rattle.usb_bus.specs.World.{World}
+use Rattle.usb_world.specs.Courses.{is_harmless}
+use Rattle.usb_world.specs.Devices.{EachWas}
+use Rattle.usb_world.specs.Passes.{IsSettled}
+use Rattle.usb_world.specs.World.{World}
 use Rattle.usb_transaction.specs.declared.target.Target.{Target}
 use Rattle.usb_transaction.specs.Why.{NoThreeDamaged}
 use Rattle.usb_transaction.specs.Answerer.{Answerer}

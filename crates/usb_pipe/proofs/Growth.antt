@@ -1,8 +1,8 @@
 -- Lists of damages grow at their end.
 use Rattle.std.proofs.Common.{◌≡◌, ℕ, List, [], ◌∷◌, ◌++◌, true, refl}
 use Rattle.std.proofs.lemmas.Bool.{and_parts}
-use Rattle.usb_bus.specs.declared.damage.Damage.{Damage}
-use Rattle.usb_bus.specs.PlanData.{damage_fits, damages_fit}
+use Rattle.usb_world.specs.declared.damage.Damage.{Damage}
+use Rattle.usb_world.specs.PlanData.{damage_fits, damages_fit}
 
 -- the attempt of the last damage
 unfoldable pub last_from : ℕ → List Damage → ℕ

@@ -6,8 +6,8 @@ use Rattle.std.proofs.lemmas.Bool.{cases_lt}
 use Rattle.std.proofs.lemmas.Nat.{div-mul-add}
 use Rattle.std.proofs.Math.Nat.{add-div_right, add-mod_right, div-eq_of_lt, mod-eq_of_lt, zero-div, zero-mod}
 use Rattle.usb_packet.specs.declared.Toggle.{Toggle}
-use Rattle.usb_bus.specs.World.{World, Spends}
-use Rattle.usb_bus.proofs.Counts.{spends_none, spends_then, spends_wider}
+use Rattle.usb_world.specs.World.{World, Spends}
+use Rattle.usb_world.proofs.Counts.{spends_none, spends_then, spends_wider}
 use Rattle.usb_transaction.specs.Heard.{flip}
 use Rattle.usb_transaction.specs.Trans.{Worked}
 use Rattle.usb_pipe.specs.Bulk.{packets_of, Turned}

@@ -1,8 +1,8 @@
 -- No device remembers a packet before a transfer that made a transaction.
 use Rattle.std.proofs.Common.{◌≡◌, arith}
 use Rattle.std.specs.Prelude.{ℕ, ◌<◌}
-use Rattle.usb_bus.specs.Passes.{IsSettled}
-use Rattle.usb_bus.specs.World.{World}
+use Rattle.usb_world.specs.Passes.{IsSettled}
+use Rattle.usb_world.specs.World.{World}
 
 -- where none does now, none did before, and so many packets were moved since
 pub record SettledSince (packets : ℕ) (old now : World) : Type 0 where

@@ -3,8 +3,8 @@ use Rattle.std.proofs.Common.{◌≡◌, refl, arith, true, false, Bool}
 use Rattle.std.specs.Prelude.{ℕ, ◌+◌, ◌*◌, ◌-◌, ◌≤◌, ◌<◌, List, ◌++◌, take, length, None, nat_lt, nat_le, ◌||◌}
 use Rattle.std.proofs.lemmas.List.{length-take, length-append}
 use Rattle.std.proofs.lemmas.Bool.{ltb-false, leb-false}
-use Rattle.usb_bus.specs.World.{World, Spends}
-use Rattle.usb_bus.proofs.Counts.{spends_none, spends_then, spends_wider}
+use Rattle.usb_world.specs.World.{World, Spends}
+use Rattle.usb_world.proofs.Counts.{spends_none, spends_then, spends_wider}
 use Rattle.usb_transaction.specs.Trans.{Worked}
 use Rattle.usb_pipe.specs.Control.{byte_bound, is_last}
 use Rattle.usb_pipe.proofs.Bounds.{full_packet}

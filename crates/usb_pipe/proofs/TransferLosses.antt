@@ -9,10 +9,10 @@ use Rattle.usb_request.specs.declared.setup.Setup.{Setup}
 use Rattle.usb_request.specs.Layout.{IsToHost, bytes_of, setup_of}
 use Rattle.usb_device.specs.Transfer.{ending}
 use Rattle.usb_device.specs.Rows.{State}
-use Rattle.usb_bus.specs.Devices.{Relation, EachWas}
-use Rattle.usb_bus.specs.Passes.{IsSettled}
-use Rattle.usb_bus.specs.World.{World}
-use Rattle.usb_bus.proofs.Devices.{each_none, each_joined, each_wider}
+use Rattle.usb_world.specs.Devices.{Relation, EachWas}
+use Rattle.usb_world.specs.Passes.{IsSettled}
+use Rattle.usb_world.specs.World.{World}
+use Rattle.usb_world.proofs.Devices.{each_none, each_joined, each_wider}
 use Rattle.usb_transaction.specs.declared.target.Target.{Target}
 use Rattle.usb_transaction.specs.declared.fault.TransFault.{TransFault}
 use Rattle.usb_transaction.specs.declared.fault.TransFault.TheVariants as trans

@@ -8,15 +8,15 @@ use Rattle.usb_packet.specs.declared.Toggle.TheVariants.{One}
 use Rattle.usb_request.specs.declared.setup.Setup.{Setup}
 use Rattle.usb_request.specs.Layout.{IsToHost, bytes_of, setup_of}
 use Rattle.usb_device.specs.Rows.{State}
-use Rattle.usb_bus.specs.declared.types.Attempt.{Attempt}
-use Rattle.usb_bus.specs.Courses.{is_harmless}
-use Rattle.usb_bus.specs.Live.{address_of}
-use Rattle.usb_bus.specs.Passes.{IsSettled}
-use Rattle.usb_bus.specs.World.{World}
-use Rattle.usb_bus.specs.Devices.{Relation, Was, EachWas}
-use Rattle.usb_bus.proofs.Booleans.{decided}
-use Rattle.usb_bus.proofs.Devices.{each_none, each_joined, each_wider}
-use Rattle.usb_bus.proofs.OneHolderMore.{equal_same}
+use Rattle.usb_world.specs.declared.types.Attempt.{Attempt}
+use Rattle.usb_world.specs.Courses.{is_harmless}
+use Rattle.usb_world.specs.Live.{address_of}
+use Rattle.usb_world.specs.Passes.{IsSettled}
+use Rattle.usb_world.specs.World.{World}
+use Rattle.usb_world.specs.Devices.{Relation, Was, EachWas}
+use Rattle.usb_world.proofs.Booleans.{decided}
+use Rattle.usb_world.proofs.Devices.{each_none, each_joined, each_wider}
+use Rattle.usb_world.proofs.OneHolderMore.{equal_same}
 use Rattle.usb_transaction.specs.declared.target.Target.{Target}
 use Rattle.usb_transaction.specs.Answerer.{Answerer}
 use Rattle.usb_transaction.specs.Heard.{heard_as, sent_as}

@@ -15,10 +15,10 @@ use Rattle.usb_device.specs.Request.{outcome, unhalts, on_endpoint}
 use Rattle.usb_device.specs.Transfer.{first_stage}
 use Rattle.usb_device.specs.Rows.{State, bulk_of, with_pipe, begun, accepted}
 use Rattle.usb_device.specs.Progress.{IsSink, IsSource, level, StatusGiven, seen, unseen, OnlyControl, OnlyStage}
-use Rattle.usb_bus.specs.Courses.{is_harmless}
-use Rattle.usb_bus.specs.World.{World}
-use Rattle.usb_bus.specs.Devices.{EachWas}
-use Rattle.usb_bus.proofs.Devices.{each_none, each_wider}
+use Rattle.usb_world.specs.Courses.{is_harmless}
+use Rattle.usb_world.specs.World.{World}
+use Rattle.usb_world.specs.Devices.{EachWas}
+use Rattle.usb_world.proofs.Devices.{each_none, each_wider}
 use Rattle.usb_transaction.specs.declared.target.Target.{Target}
 use Rattle.usb_transaction.specs.Trans.{Worked}
 use Rattle.usb_transaction.proofs.Spared.{spared_all}

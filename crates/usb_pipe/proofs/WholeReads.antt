@@ -16,13 +16,13 @@ use Rattle.usb_device.specs.Transfer.{reads as reads_bytes}
 use Rattle.usb_device.specs.Rows.{State, begun}
 use Rattle.usb_device.specs.Progress.{ReadingAt, ReadOn, OnlyControl, OnlyStage}
 use Rattle.usb_device.proofs.Packets.{joined-is, joined-whole, packet-further}
-use Rattle.usb_bus.proofs.Booleans.{decided, either_of}
-use Rattle.usb_bus.proofs.Devices.{each_none, each_joined, each_wider}
-use Rattle.usb_bus.specs.Courses.{is_harmless}
-use Rattle.usb_bus.specs.Passes.{IsSettled}
-use Rattle.usb_bus.specs.World.{World}
-use Rattle.usb_bus.specs.Steps.{Course}
-use Rattle.usb_bus.specs.Devices.{Relation, EachWas}
+use Rattle.usb_world.proofs.Booleans.{decided, either_of}
+use Rattle.usb_world.proofs.Devices.{each_none, each_joined, each_wider}
+use Rattle.usb_world.specs.Courses.{is_harmless}
+use Rattle.usb_world.specs.Passes.{IsSettled}
+use Rattle.usb_world.specs.World.{World}
+use Rattle.usb_world.specs.Steps.{Course}
+use Rattle.usb_world.specs.Devices.{Relation, EachWas}
 use Rattle.usb_transaction.specs.declared.target.Target.{Target}
 use Rattle.usb_transaction.specs.declared.fault.TransFault.{TransFault}
 use Rattle.usb_transaction.specs.declared.fault.TransFault.TheVariants as trans

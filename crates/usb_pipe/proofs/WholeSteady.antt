@@ -9,12 +9,12 @@ use Rattle.usb_device.specs.Tree.{row_of}
 use Rattle.usb_device.specs.Transfer.{reading, max_packet, packet_at, toggle_at}
 use Rattle.usb_device.specs.Rows.{State, Reply, forgotten, is_busy, nak_row}
 use Rattle.usb_device.specs.Attempt.{Way, whole, broken, lost, is_whole, heard, gave, in_stage_law, in_law}
-use Rattle.usb_bus.specs.declared.types.Outcome.{Outcome}
-use Rattle.usb_bus.specs.Passes.{IsSettled}
-use Rattle.usb_bus.specs.World.{World}
-use Rattle.usb_bus.specs.Steps.{attempt, after}
-use Rattle.usb_bus.specs.Devices.{Relation, EachWas, DidIn}
-use Rattle.usb_bus.proofs.Devices.{each_wider, each_in}
+use Rattle.usb_world.specs.declared.types.Outcome.{Outcome}
+use Rattle.usb_world.specs.Passes.{IsSettled}
+use Rattle.usb_world.specs.World.{World}
+use Rattle.usb_world.specs.Steps.{attempt, after}
+use Rattle.usb_world.specs.Devices.{Relation, EachWas, DidIn}
+use Rattle.usb_world.proofs.Devices.{each_wider, each_in}
 use Rattle.usb_transaction.specs.declared.target.Target.{Target}
 use Rattle.usb_transaction.specs.declared.fault.TransFault.{TransFault}
 use Rattle.usb_transaction.specs.Heard.{heard_as}

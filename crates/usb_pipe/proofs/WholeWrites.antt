@@ -12,11 +12,11 @@ use Rattle.usb_device.specs.Transfer.{Stage, ending, refused, first_stage, reads
 use Rattle.usb_device.specs.Rows.{State}
 use Rattle.usb_device.specs.Tree.{row_of}
 use Rattle.usb_device.specs.Progress.{StatusGiven, OnlyControl}
-use Rattle.usb_bus.specs.Passes.{IsSettled}
-use Rattle.usb_bus.specs.World.{World}
-use Rattle.usb_bus.specs.Steps.{Course}
-use Rattle.usb_bus.specs.Devices.{Relation, EachWas}
-use Rattle.usb_bus.proofs.Booleans.{decided}
+use Rattle.usb_world.specs.Passes.{IsSettled}
+use Rattle.usb_world.specs.World.{World}
+use Rattle.usb_world.specs.Steps.{Course}
+use Rattle.usb_world.specs.Devices.{Relation, EachWas}
+use Rattle.usb_world.proofs.Booleans.{decided}
 use Rattle.usb_transaction.specs.declared.target.Target.{Target}
 use Rattle.usb_transaction.specs.declared.fault.TransFault.{TransFault}
 use Rattle.usb_transaction.specs.declared.fault.TransFault.TheVariants as trans

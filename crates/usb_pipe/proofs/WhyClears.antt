@@ -1,9 +1,9 @@
 -- Why a clear of a halt fails.
 use Rattle.std.proofs.Common.{◌≡◌, ◌⊎◌, ◌∙◌, inl, inr, refl, sym, subst, false}
 use Rattle.std.specs.Prelude.{Result, Ok}
-use Rattle.usb_bus.specs.World.{World}
-use Rattle.usb_bus.specs.Devices.{EachWas}
-use Rattle.usb_bus.proofs.Devices.{each_none}
+use Rattle.usb_world.specs.World.{World}
+use Rattle.usb_world.specs.Devices.{EachWas}
+use Rattle.usb_world.proofs.Devices.{each_none}
 use Rattle.usb_transaction.specs.Why.{NoThreeDamaged}
 use Rattle.usb_transaction.proofs.Spared.{spared_all}
 use Rattle.usb_pipe.specs.declared.condition.Condition.{Condition}

@@ -2,10 +2,10 @@
 use Rattle.std.proofs.Common.{◌≡◌, refl, false}
 use Rattle.std.specs.Prelude.{ℕ, ◌≤◌, Option, Result, Ok, Err}
 use Rattle.arrayvec.specs.ArrayVec.{ArrayVec}
-use Rattle.usb_bus.specs.Passes.{IsSettled}
-use Rattle.usb_bus.specs.World.{World}
-use Rattle.usb_bus.specs.Devices.{EachWas}
-use Rattle.usb_bus.proofs.Devices.{each_wider}
+use Rattle.usb_world.specs.Passes.{IsSettled}
+use Rattle.usb_world.specs.World.{World}
+use Rattle.usb_world.specs.Devices.{EachWas}
+use Rattle.usb_world.proofs.Devices.{each_wider}
 use Rattle.usb_transaction.specs.Heard.{toggle_after}
 use Rattle.usb_transaction.specs.Why.{NoThreeDamaged, WhyPoll}
 use Rattle.usb_transaction.proofs.WhyPoll.{poll_why}

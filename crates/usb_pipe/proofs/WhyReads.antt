@@ -14,10 +14,10 @@ use Rattle.usb_device.specs.Transfer.{max_packet, packet_count, packet_at, joine
 use Rattle.usb_device.specs.Rows.{State}
 use Rattle.usb_device.specs.Progress.{ReadingAt}
 use Rattle.usb_device.proofs.Packets.{packet-fits, packet-further}
-use Rattle.usb_bus.specs.Passes.{IsSettled}
-use Rattle.usb_bus.specs.World.{World}
-use Rattle.usb_bus.specs.Devices.{EachWas}
-use Rattle.usb_bus.proofs.Devices.{each_none, each_joined, each_wider}
+use Rattle.usb_world.specs.Passes.{IsSettled}
+use Rattle.usb_world.specs.World.{World}
+use Rattle.usb_world.specs.Devices.{EachWas}
+use Rattle.usb_world.proofs.Devices.{each_none, each_joined, each_wider}
 use Rattle.usb_transaction.specs.declared.target.Target.{Target}
 use Rattle.usb_transaction.specs.declared.fault.TransFault.{TransFault}
 use Rattle.usb_transaction.specs.Heard.{set_up_as, heard_as, sent_as}

@@ -5,11 +5,11 @@ use Rattle.std.specs.Int.{div_ceil}
 use Rattle.usb_packet.specs.declared.Toggle.{Toggle}
 use Rattle.usb_device.specs.Rows.{State}
 use Rattle.usb_device.specs.Progress.{IsSink, OnlySink}
-use Rattle.usb_bus.specs.declared.types.Attempt.{Attempt}
-use Rattle.usb_bus.specs.World.{World}
-use Rattle.usb_bus.specs.Wire.{damage_of}
-use Rattle.usb_bus.specs.Devices.{EachWas}
-use Rattle.usb_bus.proofs.Devices.{each_none, each_joined, each_wider}
+use Rattle.usb_world.specs.declared.types.Attempt.{Attempt}
+use Rattle.usb_world.specs.World.{World}
+use Rattle.usb_world.specs.Wire.{damage_of}
+use Rattle.usb_world.specs.Devices.{EachWas}
+use Rattle.usb_world.proofs.Devices.{each_none, each_joined, each_wider}
 use Rattle.usb_transaction.specs.declared.target.Target.{Target}
 use Rattle.usb_transaction.specs.declared.fault.TransFault.{TransFault}
 use Rattle.usb_transaction.specs.declared.fault.TransFault.TheVariants as trans

@@ -7,8 +7,8 @@ use Rattle.usb_request.specs.Layout.{bytes_of, setup_of}
 use Rattle.usb_device.specs.Request.{outcome}
 use Rattle.usb_device.specs.Transfer.{first_stage}
 use Rattle.usb_device.specs.Rows.{State}
-use Rattle.usb_bus.specs.Passes.{IsSettled}
-use Rattle.usb_bus.specs.World.{World}
+use Rattle.usb_world.specs.Passes.{IsSettled}
+use Rattle.usb_world.specs.World.{World}
 use Rattle.usb_transaction.specs.declared.target.Target.{Target}
 use Rattle.usb_transaction.specs.declared.fault.TransFault.{TransFault}
 use Rattle.usb_transaction.specs.Over.{CanAccept, SetupDone}

@@ -8,9 +8,9 @@ use Rattle.usb_device.specs.declared.request.Registers.{Registers}
 use Rattle.usb_device.specs.Request.{Outcome, stalled, answers, takes_address, takes_configuration, halts, unhalts, tells_port, calls_port, outcome, registers_at_setup}
 use Rattle.usb_device.specs.Transfer.{Stage, reading, ending, first_stage, reads_port}
 use Rattle.usb_device.specs.Rows.{State}
-use Rattle.usb_bus.specs.Losses.{one_more}
-use Rattle.usb_bus.specs.Passes.{IsSettled}
-use Rattle.usb_bus.specs.World.{World}
+use Rattle.usb_world.specs.Losses.{one_more}
+use Rattle.usb_world.specs.Passes.{IsSettled}
+use Rattle.usb_world.specs.World.{World}
 use Rattle.usb_transaction.specs.declared.target.Target.{Target}
 use Rattle.usb_transaction.specs.declared.fault.TransFault.{TransFault}
 use Rattle.usb_transaction.specs.Heard.{set_up_as}

@@ -4,8 +4,8 @@ use Rattle.std.specs.Global.{Vec}
 use Rattle.std.specs.Int.{div_ceil}
 use Rattle.usb_packet.specs.declared.Toggle.{Toggle}
 use Rattle.usb_packet.specs.declared.Toggle.TheVariants.{Zero}
-use Rattle.usb_bus.specs.World.{World}
-use Rattle.usb_bus.specs.Passes.{IsSettled}
+use Rattle.usb_world.specs.World.{World}
+use Rattle.usb_world.specs.Passes.{IsSettled}
 use Rattle.usb_transaction.specs.declared.target.Target.{Target}
 use Rattle.usb_transaction.specs.Trans.{Worked}
 use Rattle.usb_pipe.specs.declared.condition.Condition.{Condition}

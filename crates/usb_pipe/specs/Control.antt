@@ -1,6 +1,6 @@
 -- What a control transfer tells, and how many attempts it may take.
 use Rattle.std.specs.Prelude.{ℕ, ◌+◌, ◌*◌, Bool, ◌||◌, nat_lt, nat_le, if◌then◌else◌}
-use Rattle.usb_bus.specs.World.{World, Failed}
+use Rattle.usb_world.specs.World.{World, Failed}
 use Rattle.usb_transaction.specs.declared.fault.TransFault.{TransFault}
 use Rattle.usb_transaction.specs.declared.fault.TransFault.TheVariants.{Stalled as TransStalled, Busy as TransBusy, NoAnswer as TransNoAnswer, Bus as TransBus}
 use Rattle.usb_transaction.specs.Trans.{Worked}

@@ -2,7 +2,7 @@
 use Rattle.std.specs.Prelude.{◌≡◌, ◌≢◌, ℕ, ◌≤◌, length, Option, Some, None, Result, Ok, Err, IfOk, IfSome, MatchResult}
 use Rattle.arrayvec.specs.ArrayVec.{ArrayVec}
 use Rattle.usb_packet.specs.declared.Toggle.{Toggle}
-use Rattle.usb_bus.specs.World.{World}
+use Rattle.usb_world.specs.World.{World}
 use Rattle.usb_transaction.specs.declared.target.Target.{Target}
 use Rattle.usb_transaction.specs.Heard.{toggle_after}
 use Rattle.usb_transaction.specs.Trans.{Worked, in_attempt}

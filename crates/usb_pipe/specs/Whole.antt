@@ -15,9 +15,9 @@ use Rattle.usb_device.specs.Rows.{State, accepted}
 use Rattle.usb_device.specs.Bulk.{tells_changes, rested}
 use Rattle.usb_device.specs.Tree.{row_of}
 use Rattle.usb_device.specs.Progress.{IsRead, StatusGiven, IsSink, SinkAt, IsSource, SourceAt, PollAt, NeverTold, OnlyControl, OnlyStage, OnlySink, OnlySource, OnlyChanges}
-use Rattle.usb_bus.specs.Losses.{one_more}
-use Rattle.usb_bus.specs.World.{World}
-use Rattle.usb_bus.specs.Steps.{Step, attempt, root_call, event, report, Course}
+use Rattle.usb_world.specs.Losses.{one_more}
+use Rattle.usb_world.specs.World.{World}
+use Rattle.usb_world.specs.Steps.{Step, attempt, root_call, event, report, Course}
 use Rattle.usb_transaction.specs.declared.target.Target.{Target}
 use Rattle.usb_transaction.specs.Over.{is_at, ToldIn, AcceptedAt}
 use Rattle.usb_transaction.specs.Trans.{in_attempt, out_attempt}

@@ -42,8 +42,8 @@ impl BulkPipe {
     ghost use Rattle.std.specs.Prelude.{◌≡◌, ◌≢◌, ◌*◌, ◌<◌, ◌≤◌, true, false, [], length, OnOk};
     ghost use Rattle.std.specs.Int.{div_ceil};
     ghost use Rattle.usb_packet.specs.declared.Toggle.TheVariants.{Zero};
-    ghost use Rattle.usb_bus.specs.World.{Spends};
-    ghost use Rattle.usb_bus.specs.Devices.{EachWas};
+    ghost use Rattle.usb_world.specs.World.{Spends};
+    ghost use Rattle.usb_world.specs.Devices.{EachWas};
     ghost use Rattle.usb_transaction.specs.Trans.{IsTarget};
     ghost use Rattle.usb_transaction.specs.Why.{NoThreeDamaged};
     ghost use Rattle.usb_transaction.specs.Answerer.{Answerer};

@@ -1,9 +1,9 @@
 //! Control transfers (8.5.3).
 ghost use Rattle.std.specs.Prelude.{◌≡◌, ◌≤◌, Err, ◌≢◌, length, false, true, OnOk, IfOk, MatchResult};
-ghost use Rattle.usb_bus.specs.World.{Spends};
-ghost use Rattle.usb_bus.specs.Passes.{IsSettled};
-ghost use Rattle.usb_bus.specs.Courses.{is_harmless};
-ghost use Rattle.usb_bus.specs.Devices.{EachWas};
+ghost use Rattle.usb_world.specs.World.{Spends};
+ghost use Rattle.usb_world.specs.Passes.{IsSettled};
+ghost use Rattle.usb_world.specs.Courses.{is_harmless};
+ghost use Rattle.usb_world.specs.Devices.{EachWas};
 ghost use Rattle.usb_request.specs.Layout.{IsToHost, IsToDevice};
 ghost use Rattle.usb_transaction.specs.Trans.{IsTarget, Worked};
 ghost use Rattle.usb_transaction.specs.Why.{NoThreeDamaged};

@@ -31,9 +31,9 @@ impl Model for InterruptPipe {
 impl InterruptPipe {
     ghost use Rattle.std.specs.Prelude.{◌≡◌, ◌<◌, ◌≤◌, false, OnOk};
     ghost use Rattle.usb_packet.specs.declared.Toggle.TheVariants.{Zero};
-    ghost use Rattle.usb_bus.specs.World.{Spends};
-    ghost use Rattle.usb_bus.specs.Passes.{IsSettled};
-    ghost use Rattle.usb_bus.specs.Devices.{EachWas};
+    ghost use Rattle.usb_world.specs.World.{Spends};
+    ghost use Rattle.usb_world.specs.Passes.{IsSettled};
+    ghost use Rattle.usb_world.specs.Devices.{EachWas};
     ghost use Rattle.usb_transaction.specs.Trans.{IsTarget};
     ghost use Rattle.usb_pipe.specs.Interrupt.{Interrupt, Polls};
     ghost use Rattle.usb_transaction.specs.Why.{NoThreeDamaged};

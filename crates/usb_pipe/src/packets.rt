@@ -1,8 +1,8 @@
 //! The packets of a bulk transfer (5.8.3).
 ghost use Rattle.std.specs.Prelude.{◌≡◌, ◌≢◌, ◌*◌, ◌<◌, ◌≤◌, length, Err, OnOk, IfOk, MatchResult};
 ghost use Rattle.std.specs.Int.{div_ceil};
-ghost use Rattle.usb_bus.specs.World.{Spends};
-ghost use Rattle.usb_bus.specs.Passes.{IsSettled};
+ghost use Rattle.usb_world.specs.World.{Spends};
+ghost use Rattle.usb_world.specs.Passes.{IsSettled};
 ghost use Rattle.usb_transaction.specs.Trans.{IsTarget, Worked};
 ghost use Rattle.usb_pipe.specs.Control.{Faults};
 ghost use Rattle.usb_pipe.specs.Bulk.{packets_of, Turned};

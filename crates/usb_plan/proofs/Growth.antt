@@ -8,12 +8,12 @@ use Rattle.toml.specs.View.{view}
 use Rattle.usb_plan.specs.declared.kind.Kind.{Kind}
 use Rattle.usb_plan.specs.declared.fault.Place.TheVariants as place
 use Rattle.usb_plan.specs.declared.fault.PlanFault.{PlanFault}
-use Rattle.usb_bus.specs.declared.event.Event.{Event}
+use Rattle.usb_world.specs.declared.event.Event.{Event}
 use Rattle.usb_plan.specs.Kind.{placed}
 use Rattle.usb_device.specs.Spec.{Spec}
-use Rattle.usb_bus.specs.declared.damage.Damage.{Damage}
-use Rattle.usb_bus.specs.Plugged.{Plugged, plugged, plugged_after}
-use Rattle.usb_bus.specs.PlanData.{event_fits, events_fit, damage_fits, damages_fit}
+use Rattle.usb_world.specs.declared.damage.Damage.{Damage}
+use Rattle.usb_world.specs.Plugged.{Plugged, plugged, plugged_after}
+use Rattle.usb_world.specs.PlanData.{event_fits, events_fit, damage_fits, damages_fit}
 use Rattle.usb_plan.specs.Device.{device_in, devices_from}
 use Rattle.usb_plan.specs.Event.{event_in, events_from}
 use Rattle.usb_plan.specs.Damage.{damage_in, last_from, damages_from}

@@ -8,13 +8,13 @@ use Rattle.usb_port.specs.Path.{path_of}
 use Rattle.usb_plan.specs.declared.kind.Kind.{Kind}
 use Rattle.usb_plan.specs.declared.kind.Kind.TheVariants.{BadValue, BadPath, PortTaken, PortEmpty}
 use Rattle.usb_plan.specs.declared.fault.Place.{Place}
-use Rattle.usb_bus.specs.declared.event.Event.{Event}
-use Rattle.usb_bus.specs.declared.event.Action.{Action}
-use Rattle.usb_bus.specs.declared.event.Action.TheVariants.{Plug, Unplug, Show, Send, Receive, Clear}
-use Rattle.usb_bus.specs.declared.damage.Damage.{Damage}
-use Rattle.usb_bus.specs.declared.damage.Harm.{Harm}
-use Rattle.usb_bus.specs.declared.damage.Harm.TheVariants.{Lose, LosePre, Flip}
-use Rattle.usb_bus.specs.Plugged.{Plugged, is_rooted, has_port}
+use Rattle.usb_world.specs.declared.event.Event.{Event}
+use Rattle.usb_world.specs.declared.event.Action.{Action}
+use Rattle.usb_world.specs.declared.event.Action.TheVariants.{Plug, Unplug, Show, Send, Receive, Clear}
+use Rattle.usb_world.specs.declared.damage.Damage.{Damage}
+use Rattle.usb_world.specs.declared.damage.Harm.{Harm}
+use Rattle.usb_world.specs.declared.damage.Harm.TheVariants.{Lose, LosePre, Flip}
+use Rattle.usb_world.specs.Plugged.{Plugged, is_rooted, has_port}
 use Rattle.usb_plan.specs.declared.verb.Verb.{Verb}
 use Rattle.usb_plan.specs.declared.verb.Verb.TheVariants as verb
 use Rattle.usb_plan.specs.declared.damage.Way.{Way}
@@ -26,7 +26,7 @@ use Rattle.usb_device.specs.Spec.{Spec, Hub, hub_fits, has_hub_class, function, 
 use Rattle.usb_plan.specs.Hub.{class_at, hub_at, no_hub, is_low, is_other}
 use Rattle.usb_plan.specs.Quirks.{Quirks, quirks_of, flag_at, naks_at}
 use Rattle.usb_plan.specs.Bulk.{Bulk, bulk_of, source_at, halt_at, halt_in, some_in}
-use Rattle.usb_bus.specs.PlanData.{is_taken, action_fits, event_fits, harm_fits, damage_fits}
+use Rattle.usb_world.specs.PlanData.{is_taken, action_fits, event_fits, harm_fits, damage_fits}
 use Rattle.usb_plan.specs.Device as device
 use Rattle.usb_plan.specs.Device.{name_in, name_at, speed_at, descriptor_at, configs_at, strings_at, device_keys, with_quirks, with_halt, with_hub, named_device, PartsFit, device_from, made, parts_of, device_of, device_in}
 use Rattle.usb_plan.specs.Path.{rooted, path_in, path_at, free, taken}

@@ -14,7 +14,7 @@ use Rattle.std.specs.Cmp.{nat_cmp_is}
 use Rattle.std.specs.Cmp.Lexicographic.{same_text}
 use Rattle.std.proofs.lemmas.Map.Text.{is_eq-slice_cmp}
 use Rattle.usb_port.specs.Order.{path_cmp}
-use Rattle.usb_bus.specs.Plugged.{Plugged, unplugged}
+use Rattle.usb_world.specs.Plugged.{Plugged, unplugged}
 use Rattle.usb_plan.specs.Tree.{first_through}
 
 abbrev through : List ℕ → List ℕ → Bool

@@ -5,7 +5,7 @@ use Rattle.std.proofs.lemmas.Bool.{leb-true, leb-false}
 use Rattle.std.proofs.lemmas.List.{take_more}
 use Rattle.std.proofs.lemmas.List.Recursion.{max_push}
 use Rattle.usb_device.specs.Spec.{Spec}
-use Rattle.usb_bus.specs.declared.event.Event.{Event}
+use Rattle.usb_world.specs.declared.event.Event.{Event}
 use Rattle.usb_plan.specs.Attempts.{plugged_total, greatest_total}
 
 pub greatest_total-more : (devices : List Spec) (events : List Event) (i : ℕ) (e : Event) → i < length events → e ≡ get_or events i e → greatest_total devices (take (i + 1) events) ≡ max (greatest_total devices (take i events)) (plugged_total devices e)

@@ -11,9 +11,9 @@ use Rattle.usb_plan.specs.Keys.{keys_at}
 use Rattle.usb_plan.specs.Value.{number_at, sent_in}
 use Rattle.usb_plan.specs.Path.{path_at, free, taken}
 use Rattle.usb_device.specs.Spec.{Spec}
-use Rattle.usb_bus.specs.declared.event.Action.{Action}
-use Rattle.usb_bus.specs.declared.event.Action.TheVariants.{Plug, Unplug, Show, Send, Receive, Clear}
-use Rattle.usb_bus.specs.Plugged.{Plugged}
+use Rattle.usb_world.specs.declared.event.Action.{Action}
+use Rattle.usb_world.specs.declared.event.Action.TheVariants.{Plug, Unplug, Show, Send, Receive, Clear}
+use Rattle.usb_world.specs.Plugged.{Plugged}
 
 unfoldable pub known : Option ℕ → Result ℕ Kind
 known None = Err UnknownDevice

@@ -3,11 +3,11 @@ use Rattle.std.specs.Prelude.{ℕ, ◌+◌, ◌*◌, List, [], ◌∷◌, length
 use Rattle.std.specs.List.{sum_by}
 use Rattle.usb_descriptor.specs.declared.fault.DescriptorFault.{DescriptorFault}
 use Rattle.usb_descriptor.specs.Config.{config_head_of}
-use Rattle.usb_bus.specs.declared.event.Action.{Action}
-use Rattle.usb_bus.specs.declared.event.Action.TheVariants.{Plug, Unplug, Show, Send, Receive, Clear}
-use Rattle.usb_bus.specs.declared.event.Event.{Event}
+use Rattle.usb_world.specs.declared.event.Action.{Action}
+use Rattle.usb_world.specs.declared.event.Action.TheVariants.{Plug, Unplug, Show, Send, Receive, Clear}
+use Rattle.usb_world.specs.declared.event.Event.{Event}
 use Rattle.usb_device.specs.Spec.{Spec}
-use Rattle.usb_bus.specs.PlanData.{PlanData}
+use Rattle.usb_world.specs.PlanData.{PlanData}
 
 abbrev pub total_in : Result ℕ DescriptorFault → ℕ
 total_in (Ok total) = total

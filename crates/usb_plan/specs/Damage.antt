@@ -11,9 +11,9 @@ use Rattle.usb_plan.specs.declared.fault.PlanFault.{PlanFault}
 use Rattle.usb_plan.specs.Kind.{both, placed, ◌>>=◌}
 use Rattle.usb_plan.specs.Keys.{keys_at}
 use Rattle.usb_plan.specs.Value.{number_at}
-use Rattle.usb_bus.specs.declared.damage.Damage.{Damage}
-use Rattle.usb_bus.specs.declared.damage.Harm.{Harm}
-use Rattle.usb_bus.specs.declared.damage.Harm.TheVariants.{Lose, LosePre, Flip}
+use Rattle.usb_world.specs.declared.damage.Damage.{Damage}
+use Rattle.usb_world.specs.declared.damage.Harm.{Harm}
+use Rattle.usb_world.specs.declared.damage.Harm.TheVariants.{Lose, LosePre, Flip}
 
 -- the key `attempt`: after the last one
 unfoldable pub attempt_at : ℕ → Option Data → Result ℕ Kind

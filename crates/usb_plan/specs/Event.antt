@@ -11,9 +11,9 @@ use Rattle.usb_plan.specs.Value.{number_or}
 use Rattle.usb_plan.specs.Verb.{verb_at}
 use Rattle.usb_plan.specs.Action.{action_of, keys_of}
 use Rattle.usb_device.specs.Spec.{Spec}
-use Rattle.usb_bus.specs.declared.event.Action.{Action}
-use Rattle.usb_bus.specs.declared.event.Event.{Event}
-use Rattle.usb_bus.specs.Plugged.{Plugged, plugged}
+use Rattle.usb_world.specs.declared.event.Action.{Action}
+use Rattle.usb_world.specs.declared.event.Event.{Event}
+use Rattle.usb_world.specs.Plugged.{Plugged, plugged}
 
 -- the key `after`
 unfoldable pub after_at : Option Data → Result ℕ Kind

@@ -5,8 +5,8 @@ use Rattle.usb_port.specs.Path.{path_of}
 use Rattle.usb_plan.specs.declared.kind.Kind.{Kind}
 use Rattle.usb_plan.specs.declared.kind.Kind.TheVariants.{MissingKey, BadValue, BadPath, PortTaken, PortEmpty}
 use Rattle.usb_device.specs.Spec.{Spec}
-use Rattle.usb_bus.specs.Plugged.{Plugged, is_rooted, has_port}
-use Rattle.usb_bus.specs.PlanData.{is_taken}
+use Rattle.usb_world.specs.Plugged.{Plugged, is_rooted, has_port}
+use Rattle.usb_world.specs.PlanData.{is_taken}
 
 unfoldable pub rooted : ℕ → Option (List ℕ) → Result (List ℕ) Kind
 rooted roots None = Err BadPath

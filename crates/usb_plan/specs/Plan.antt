@@ -14,7 +14,7 @@ use Rattle.usb_plan.specs.Value.{number_at, data_list}
 use Rattle.usb_plan.specs.Device.{devices_from}
 use Rattle.usb_plan.specs.Event.{events_from}
 use Rattle.usb_plan.specs.Damage.{damages_from}
-use Rattle.usb_bus.specs.PlanData.{PlanData}
+use Rattle.usb_world.specs.PlanData.{PlanData}
 
 -- the key `limit`
 unfoldable pub limit_at : Option Data → Result ℕ Kind

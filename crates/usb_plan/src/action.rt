@@ -13,7 +13,7 @@ use crate::value::{number_at, sent_in, value_at};
 use crate::verb::Verb;
 use std::alloc::{AllocError, Global};
 use toml::{Table, Value};
-use usb_bus::{Action, SentBytes};
+use usb_world::{Action, SentBytes};
 use usb_device::DeviceSpec;
 use usb_port::PortPath;
 

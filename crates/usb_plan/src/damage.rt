@@ -2,7 +2,7 @@
 
 ghost use Rattle.std.specs.Prelude.{◌≡◌, ◌≤◌, ◌<◌, IfOk, option_map, map, Ok, [], true, length};
 ghost use Rattle.toml.specs.View.{view, table_view};
-ghost use Rattle.usb_bus.specs.PlanData.{damages_fit};
+ghost use Rattle.usb_world.specs.PlanData.{damages_fit};
 ghost use Rattle.usb_plan.specs.Damage.{attempt_at, packet_at, way_named, way_in, way_at, no_bit, flipped, harm_of, harm_by, room, whole, damage_of, damage_in, damages_from};
 
 use crate::fault::{Place, PlanFault};
@@ -11,7 +11,7 @@ use crate::kind::{Kind, both, placed};
 use crate::value::{number_at, value_at};
 use std::alloc::{AllocError, Global};
 use toml::{Table, Value};
-use usb_bus::{Damage, Damages, Harm};
+use usb_world::{Damage, Damages, Harm};
 
 /// The key `attempt`: after the last one.
 #[tactic(auto, unfolding(crate::specs::Damage::attempt_at))]

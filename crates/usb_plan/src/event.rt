@@ -2,7 +2,7 @@
 
 ghost use Rattle.std.specs.Prelude.{◌≡◌, ◌≤◌, IfOk, option_map, map, Ok, [], true, length};
 ghost use Rattle.toml.specs.View.{view, table_view};
-ghost use Rattle.usb_bus.specs.PlanData.{events_fit};
+ghost use Rattle.usb_world.specs.PlanData.{events_fit};
 ghost use Rattle.usb_plan.specs.Action.{action_of, keys_of};
 ghost use Rattle.usb_plan.specs.Event.{after_at, room, whole, event_of, event_by, event_in, events_from};
 
@@ -14,7 +14,7 @@ use crate::value::{number_or, value_at};
 use crate::verb::{Verb, verb_at};
 use std::alloc::{AllocError, Global};
 use toml::{Table, Value};
-use usb_bus::{Action, Event, Events};
+use usb_world::{Action, Event, Events};
 use usb_device::DeviceSpec;
 
 /// The key `after`: attempts since the last event.

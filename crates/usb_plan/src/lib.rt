@@ -24,7 +24,7 @@ mod verb;
 pub use attempts::bound;
 pub use fault::{Place, PlanFault};
 pub use plan::read_plan;
-pub use usb_bus::Plan;
+pub use usb_world::Plan;
 
 #[cfg(test)]
 mod tests;

@@ -17,7 +17,7 @@ use crate::value::{number_at, value_at};
 use std::alloc::{AllocError, Global};
 use toml::value::Array;
 use toml::{Table, Value};
-use usb_bus::Plan;
+use usb_world::Plan;
 
 /// The key `limit`.
 #[tactic(auto, unfolding(crate::specs::Plan::limit_at))]

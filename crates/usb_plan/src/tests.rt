@@ -5,7 +5,7 @@ mod unplugging;
 
 use super::*;
 use std::test::*;
-use usb_bus::{Action, Harm, served};
+use usb_world::{Action, Harm, served};
 
 /// One root port, and a full-speed function with one configuration of 18 bytes.
 const FUNCTION: &str =

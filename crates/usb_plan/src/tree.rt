@@ -1,12 +1,12 @@
 //! What is plugged where, while the events of a plan are read.
 ghost use Rattle.std.specs.Prelude.{◌≡◌, nat_eq, option_map};
 ghost use Rattle.std.specs.List.{starts_with};
-ghost use Rattle.usb_bus.specs.Plugged.{is_rooted, device_of, port_count};
+ghost use Rattle.usb_world.specs.Plugged.{is_rooted, device_of, port_count};
 
 use std::alloc::{AllocError, Global};
 use std::collections::BTreeMap;
 use std::marker::Model;
-use usb_bus::Action;
+use usb_world::Action;
 use usb_device::DeviceSpec;
 use usb_port::PortPath;
 
@@ -17,7 +17,7 @@ pub(crate) struct Tree {
 }
 
 impl Model for Tree {
-    ghost use Rattle.usb_bus.specs.Plugged.{Plugged};
+    ghost use Rattle.usb_world.specs.Plugged.{Plugged};
 
     ghost Value = { Plugged };
 
@@ -26,8 +26,8 @@ impl Model for Tree {
 
 impl Tree {
     ghost use Rattle.std.specs.Prelude.{◌≡◌, [], OnOk, is_some};
-    ghost use Rattle.usb_bus.specs.Plugged.{device_at, unplugged, plugged_after, has_port, parent_has};
-    ghost use Rattle.usb_bus.specs.PlanData.{is_taken};
+    ghost use Rattle.usb_world.specs.Plugged.{device_at, unplugged, plugged_after, has_port, parent_has};
+    ghost use Rattle.usb_world.specs.PlanData.{is_taken};
     ghost use Rattle.usb_plan.specs.Tree.{first_through};
 
     /// Nothing is plugged.
@@ -53,7 +53,7 @@ impl Tree {
         self.device_at(path).is_some()
     }
 
-    #[tactic(auto, unfolding(usb_bus::specs::Plugged::parent_has))]
+    #[tactic(auto, unfolding(usb_world::specs::Plugged::parent_has))]
     fn parent_has(&self, devices: &[DeviceSpec], parent: Option<PortPath>, port: u8) -> bool
         ensures { result ≡ parent_has devices.now self.now parent port }
     {
@@ -132,7 +132,7 @@ fn device_of(devices: &[DeviceSpec], index: Option<usize>) -> Option<&DeviceSpec
 }
 
 /// How many ports the device has.
-#[tactic(auto, unfolding(usb_bus::specs::Plugged::port_count))]
+#[tactic(auto, unfolding(usb_world::specs::Plugged::port_count))]
 fn port_count(device: Option<&DeviceSpec>) -> u8
     ensures { result ≡ port_count (option_map (λ d. d.now) device.entry) }
 {

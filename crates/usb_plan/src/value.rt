@@ -8,7 +8,7 @@ ghost use Rattle.usb_plan.specs.Value.{is_word, number_in, number_at, number_or,
 use crate::kind::Kind;
 use std::alloc::{AllocError, Global};
 use toml::{Table, Value};
-use usb_bus::SentBytes;
+use usb_world::SentBytes;
 use usb_device::Bytes;
 
 /// The value at a key.

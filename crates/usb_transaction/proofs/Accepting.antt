@@ -10,19 +10,19 @@ use Rattle.usb_device.specs.Attempt.{Way, is_whole, heard}
 use Rattle.usb_device.specs.Effect.{asked_by_setup}
 use Rattle.usb_device.specs.Rows.{State, Reply, accepted}
 use Rattle.usb_device.specs.Tree.{Ports, full, acted, row_of, reach_at, state_at, place_at}
-use Rattle.usb_bus.specs.declared.types.Attempt.{Attempt}
-use Rattle.usb_bus.specs.declared.types.Outcome.TheVariants as got_as
-use Rattle.usb_bus.specs.Live.{address_of}
-use Rattle.usb_bus.specs.Passes.{deep_at}
-use Rattle.usb_bus.specs.Courses.{made_resets, resets}
-use Rattle.usb_bus.specs.OneHolder.{IsMade, IsSetup, HolderIn, got, token_way, payload_way, answer_way}
-use Rattle.usb_bus.specs.World.{World}
-use Rattle.usb_bus.specs.Steps.{ready, damage_in, outcome_in, attempt, after}
-use Rattle.usb_bus.specs.Devices.{Was, DidSetup}
-use Rattle.usb_bus.proofs.Booleans.{no}
-use Rattle.usb_bus.proofs.OneHolderMore.{made_is, made_true, equal_same, setup_in}
-use Rattle.usb_bus.proofs.OneHolderPlace.{setup_place_in}
-use Rattle.usb_bus.proofs.WorldLaws.{made_reach}
+use Rattle.usb_world.specs.declared.types.Attempt.{Attempt}
+use Rattle.usb_world.specs.declared.types.Outcome.TheVariants as got_as
+use Rattle.usb_world.specs.Live.{address_of}
+use Rattle.usb_world.specs.Passes.{deep_at}
+use Rattle.usb_world.specs.Courses.{made_resets, resets}
+use Rattle.usb_world.specs.OneHolder.{IsMade, IsSetup, HolderIn, got, token_way, payload_way, answer_way}
+use Rattle.usb_world.specs.World.{World}
+use Rattle.usb_world.specs.Steps.{ready, damage_in, outcome_in, attempt, after}
+use Rattle.usb_world.specs.Devices.{Was, DidSetup}
+use Rattle.usb_world.proofs.Booleans.{no}
+use Rattle.usb_world.proofs.OneHolderMore.{made_is, made_true, equal_same, setup_in}
+use Rattle.usb_world.proofs.OneHolderPlace.{setup_place_in}
+use Rattle.usb_world.proofs.WorldLaws.{made_reach}
 use Rattle.usb_transaction.specs.declared.target.Target.{Target}
 use Rattle.usb_transaction.specs.Trans.{setup_attempt}
 use Rattle.usb_transaction.specs.Over.{is_at}

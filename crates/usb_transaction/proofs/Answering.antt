@@ -5,23 +5,23 @@ use Rattle.usb_port.specs.PortState.{PortState}
 use Rattle.usb_request.specs.Layout.{setup_of}
 use Rattle.usb_device.specs.Rows.{State, forgotten}
 use Rattle.usb_device.specs.Tree.{Ports, reach_at, state_at}
-use Rattle.usb_bus.specs.declared.types.Attempt.{Attempt}
-use Rattle.usb_bus.specs.declared.types.Outcome.{Outcome}
-use Rattle.usb_bus.specs.declared.types.Outcome.TheVariants as outcome
-use Rattle.usb_bus.specs.Live.{address_of}
-use Rattle.usb_bus.specs.Passes.{IsSettled}
-use Rattle.usb_bus.specs.Courses.{is_harmless}
-use Rattle.usb_bus.specs.OneHolder.{IsMade, HolderIn, SomeHolder}
-use Rattle.usb_bus.specs.World.{World}
-use Rattle.usb_bus.specs.Steps.{ready, damage_in, with_attempt, attempt, after}
-use Rattle.usb_bus.specs.Devices.{Relation, Was, DidIn, DidOut, DidSetup}
-use Rattle.usb_bus.proofs.Booleans.{no, decided}
-use Rattle.usb_bus.proofs.Devices.{each_in, each_out}
-use Rattle.usb_bus.proofs.OneDevice.{stands, state_stands}
-use Rattle.usb_bus.proofs.OneHolder.{third, is_state}
-use Rattle.usb_bus.proofs.OneHolderMore.{made_of, made_is, equal_same, same_test, holder_in}
-use Rattle.usb_bus.proofs.OneHolderReach.{stays_reachable_in}
-use Rattle.usb_bus.proofs.OneHolderWho.{one_answers}
+use Rattle.usb_world.specs.declared.types.Attempt.{Attempt}
+use Rattle.usb_world.specs.declared.types.Outcome.{Outcome}
+use Rattle.usb_world.specs.declared.types.Outcome.TheVariants as outcome
+use Rattle.usb_world.specs.Live.{address_of}
+use Rattle.usb_world.specs.Passes.{IsSettled}
+use Rattle.usb_world.specs.Courses.{is_harmless}
+use Rattle.usb_world.specs.OneHolder.{IsMade, HolderIn, SomeHolder}
+use Rattle.usb_world.specs.World.{World}
+use Rattle.usb_world.specs.Steps.{ready, damage_in, with_attempt, attempt, after}
+use Rattle.usb_world.specs.Devices.{Relation, Was, DidIn, DidOut, DidSetup}
+use Rattle.usb_world.proofs.Booleans.{no, decided}
+use Rattle.usb_world.proofs.Devices.{each_in, each_out}
+use Rattle.usb_world.proofs.OneDevice.{stands, state_stands}
+use Rattle.usb_world.proofs.OneHolder.{third, is_state}
+use Rattle.usb_world.proofs.OneHolderMore.{made_of, made_is, equal_same, same_test, holder_in}
+use Rattle.usb_world.proofs.OneHolderReach.{stays_reachable_in}
+use Rattle.usb_world.proofs.OneHolderWho.{one_answers}
 use Rattle.usb_transaction.specs.declared.target.Target.{Target}
 use Rattle.usb_transaction.specs.Answerer.{Answerer}
 use Rattle.usb_transaction.specs.Heard.{heard_as, sent_as, set_up_as}

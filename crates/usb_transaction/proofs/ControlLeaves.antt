@@ -8,11 +8,11 @@ use Rattle.usb_device.specs.Transfer.{refused}
 use Rattle.usb_device.specs.Rows.{State, is_busy, nak_row}
 use Rattle.usb_device.specs.Attempt.{Way, whole, broken, lost, heard, in_stage_law, in_law}
 use Rattle.usb_device.specs.Tree.{row_of}
-use Rattle.usb_bus.specs.Passes.{IsSettled}
-use Rattle.usb_bus.specs.World.{World}
-use Rattle.usb_bus.specs.Steps.{outcome_in}
-use Rattle.usb_bus.specs.Devices.{Was, EachWas, DidIn}
-use Rattle.usb_bus.proofs.Devices.{each_in}
+use Rattle.usb_world.specs.Passes.{IsSettled}
+use Rattle.usb_world.specs.World.{World}
+use Rattle.usb_world.specs.Steps.{outcome_in}
+use Rattle.usb_world.specs.Devices.{Was, EachWas, DidIn}
+use Rattle.usb_world.proofs.Devices.{each_in}
 use Rattle.usb_transaction.specs.declared.target.Target.{Target}
 use Rattle.usb_transaction.specs.declared.fault.TransFault.{TransFault}
 use Rattle.usb_transaction.specs.declared.fault.TransFault.TheVariants.{Stalled}

@@ -14,13 +14,13 @@ use Rattle.usb_device.specs.Attempt.{Way, whole, broken, lost, is_whole, heard, 
 use Rattle.usb_device.specs.Tree.{row_of}
 use Rattle.usb_device.specs.Progress.{address_then, taken_of, ReadingAt, ReadOn, StatusGiven, seen, unseen, StatusOn, OnlyControl}
 use Rattle.usb_device.proofs.ControlProgress.{control_read}
-use Rattle.usb_bus.specs.declared.types.Outcome.TheVariants as outcome
-use Rattle.usb_bus.specs.Passes.{IsSettled}
-use Rattle.usb_bus.specs.OneHolder.{got}
-use Rattle.usb_bus.specs.World.{World}
-use Rattle.usb_bus.specs.Steps.{attempt, after, outcome_in}
-use Rattle.usb_bus.specs.Devices.{EachWas, DidIn}
-use Rattle.usb_bus.proofs.Devices.{each_wider, each_in}
+use Rattle.usb_world.specs.declared.types.Outcome.TheVariants as outcome
+use Rattle.usb_world.specs.Passes.{IsSettled}
+use Rattle.usb_world.specs.OneHolder.{got}
+use Rattle.usb_world.specs.World.{World}
+use Rattle.usb_world.specs.Steps.{attempt, after, outcome_in}
+use Rattle.usb_world.specs.Devices.{EachWas, DidIn}
+use Rattle.usb_world.proofs.Devices.{each_wider, each_in}
 use Rattle.usb_transaction.specs.declared.target.Target.{Target}
 use Rattle.usb_transaction.specs.declared.heard.Heard.{Heard}
 use Rattle.usb_transaction.specs.declared.heard.Heard.TheVariants.{Moved, NotReady, Repeat, Refused, Lost}

@@ -5,14 +5,14 @@ use Rattle.usb_device.specs.declared.answer.Answer.TheVariants as answer
 use Rattle.usb_device.specs.Spec.{Spec}
 use Rattle.usb_device.specs.Rows.{State, Reply}
 use Rattle.usb_device.specs.Attempt.{Way, whole, broken, lost, heard}
-use Rattle.usb_bus.specs.declared.types.Attempt.{Attempt}
-use Rattle.usb_bus.specs.declared.types.Outcome.{Outcome}
-use Rattle.usb_bus.specs.declared.types.Outcome.TheVariants.{Payload, Ack, Nak, Stall, Nothing}
-use Rattle.usb_bus.specs.Passes.{IsSettled}
-use Rattle.usb_bus.specs.OneHolder.{got}
-use Rattle.usb_bus.specs.World.{World}
-use Rattle.usb_bus.specs.Steps.{outcome_in}
-use Rattle.usb_bus.specs.Devices.{Relation, EachWas}
+use Rattle.usb_world.specs.declared.types.Attempt.{Attempt}
+use Rattle.usb_world.specs.declared.types.Outcome.{Outcome}
+use Rattle.usb_world.specs.declared.types.Outcome.TheVariants.{Payload, Ack, Nak, Stall, Nothing}
+use Rattle.usb_world.specs.Passes.{IsSettled}
+use Rattle.usb_world.specs.OneHolder.{got}
+use Rattle.usb_world.specs.World.{World}
+use Rattle.usb_world.specs.Steps.{outcome_in}
+use Rattle.usb_world.specs.Devices.{Relation, EachWas}
 use Rattle.usb_transaction.specs.declared.target.Target.{Target}
 use Rattle.usb_transaction.specs.declared.heard.Heard.{Heard}
 use Rattle.usb_transaction.specs.declared.heard.Heard.TheVariants.{Moved, NotReady, Lost}

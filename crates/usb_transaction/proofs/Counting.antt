@@ -4,12 +4,12 @@ use Rattle.std.specs.Prelude.{ℕ, ◌+◌, ◌*◌, ◌<◌, ◌≤◌, length,
 use Rattle.arrayvec.specs.ArrayVec.{ArrayVec}
 use Rattle.usb_packet.specs.declared.Toggle.{Toggle}
 use Rattle.usb_packet.specs.declared.Toggle.TheVariants.{Zero, One}
-use Rattle.usb_bus.specs.declared.types.Attempt.{Attempt}
-use Rattle.usb_bus.specs.declared.types.BusFault.{BusFault}
-use Rattle.usb_bus.specs.declared.types.Outcome.{Outcome}
-use Rattle.usb_bus.specs.declared.types.Outcome.TheVariants.{Payload, Ack, Nak, Stall, Nothing}
-use Rattle.usb_bus.specs.World.{World, Spends, Attempted, FitsMaximum}
-use Rattle.usb_bus.proofs.Counts.{spends_none, spends_then, spends_wider}
+use Rattle.usb_world.specs.declared.types.Attempt.{Attempt}
+use Rattle.usb_world.specs.declared.types.BusFault.{BusFault}
+use Rattle.usb_world.specs.declared.types.Outcome.{Outcome}
+use Rattle.usb_world.specs.declared.types.Outcome.TheVariants.{Payload, Ack, Nak, Stall, Nothing}
+use Rattle.usb_world.specs.World.{World, Spends, Attempted, FitsMaximum}
+use Rattle.usb_world.proofs.Counts.{spends_none, spends_then, spends_wider}
 use Rattle.usb_transaction.specs.declared.heard.Heard.TheVariants.{Moved}
 use Rattle.usb_transaction.specs.Heard.{heard_as}
 use Rattle.usb_transaction.specs.Trans.{Worked}

@@ -18,21 +18,21 @@ use Rattle.usb_device.specs.Attempt.{Way, whole, broken, lost, is_whole, through
 use Rattle.usb_device.specs.Tree.{Ports, ended, vacant, taken, Place, empty, full, row_of, reach_at, state_at, place_at}
 use Rattle.usb_device.proofs.Attempts.{silent-stays, silent-unread}
 use Rattle.usb_device.specs.Delivery.{is_heard, hears, reply_to, answer_of, has_loss}
-use Rattle.usb_bus.specs.declared.damage.Damage.{Damage}
-use Rattle.usb_bus.specs.declared.types.Attempt.{Attempt}
-use Rattle.usb_bus.specs.Wire.{marked_some}
-use Rattle.usb_bus.specs.Live.{same_number, same_path}
-use Rattle.usb_bus.specs.Touched.{resets_at, reset_if}
-use Rattle.usb_bus.specs.Exchange.{token_of, reply_of, goes_out, token_out, reply_out, heard_in, mark_in, place_of_answer, answered_in, readable, is_lost, lost_in}
-use Rattle.usb_bus.specs.Passes.{IfOut, IsAckOut, IsTokenFor, passed, heard_by, heard_state, deep_at}
-use Rattle.usb_bus.specs.OneHolder.{content_way, way_to, token_way, reply_way, IsIn, Holder}
-use Rattle.usb_bus.proofs.Booleans.{no, both, either_of, decided}
-use Rattle.usb_bus.proofs.AddressesReset.{is_same, same_is}
-use Rattle.usb_bus.proofs.OneDevice.{settled_memory, other_address, token_calls, rest_state, stands, state_stands}
-use Rattle.usb_bus.proofs.OneHolder.{acts, no_payload, none_is, token_comes, through_spec}
-use Rattle.usb_bus.proofs.PacketLaws.{packet_state}
-use Rattle.usb_bus.proofs.PassLaws.{CalmOut, token_out as token_calm, ack_out, calm_pass, pass_reach}
-use Rattle.usb_bus.proofs.WorldLaws.{goes}
+use Rattle.usb_world.specs.declared.damage.Damage.{Damage}
+use Rattle.usb_world.specs.declared.types.Attempt.{Attempt}
+use Rattle.usb_world.specs.Wire.{marked_some}
+use Rattle.usb_world.specs.Live.{same_number, same_path}
+use Rattle.usb_world.specs.Touched.{resets_at, reset_if}
+use Rattle.usb_world.specs.Exchange.{token_of, reply_of, goes_out, token_out, reply_out, heard_in, mark_in, place_of_answer, answered_in, readable, is_lost, lost_in}
+use Rattle.usb_world.specs.Passes.{IfOut, IsAckOut, IsTokenFor, passed, heard_by, heard_state, deep_at}
+use Rattle.usb_world.specs.OneHolder.{content_way, way_to, token_way, reply_way, IsIn, Holder}
+use Rattle.usb_world.proofs.Booleans.{no, both, either_of, decided}
+use Rattle.usb_world.proofs.AddressesReset.{is_same, same_is}
+use Rattle.usb_world.proofs.OneDevice.{settled_memory, other_address, token_calls, rest_state, stands, state_stands}
+use Rattle.usb_world.proofs.OneHolder.{acts, no_payload, none_is, token_comes, through_spec}
+use Rattle.usb_world.proofs.PacketLaws.{packet_state}
+use Rattle.usb_world.proofs.PassLaws.{CalmOut, token_out as token_calm, ack_out, calm_pass, pass_reach}
+use Rattle.usb_world.proofs.WorldLaws.{goes}
 
 -- A device that awaits it
 

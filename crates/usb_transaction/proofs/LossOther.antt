@@ -13,20 +13,20 @@ use Rattle.usb_device.specs.Rows.{State, Reply, received, unread, forgotten, giv
 use Rattle.usb_device.specs.Attempt.{Way, whole, broken, lost, through}
 use Rattle.usb_device.specs.Tree.{Ports, Place, empty, full, row_of, reach_at, state_at, place_at}
 use Rattle.usb_device.specs.Delivery.{answer_of}
-use Rattle.usb_bus.specs.declared.damage.Damage.{Damage}
-use Rattle.usb_bus.specs.declared.types.Attempt.{Attempt}
-use Rattle.usb_bus.specs.Exchange.{token_of, token_out, answered_in}
-use Rattle.usb_bus.specs.Passes.{IsSettled, passed, heard_by, heard_state, deep_at}
-use Rattle.usb_bus.specs.OneHolder.{token_way}
-use Rattle.usb_bus.specs.World.{World}
-use Rattle.usb_bus.specs.Steps.{ready, damage_in}
-use Rattle.usb_bus.proofs.Booleans.{no, decided}
-use Rattle.usb_bus.proofs.OneDevice.{settled_memory, stands, state_stands}
-use Rattle.usb_bus.proofs.OneHolder.{no_payload, none_is, token_comes}
-use Rattle.usb_bus.proofs.OneHolderMore.{unequal, ready_settled}
-use Rattle.usb_bus.proofs.PassLaws.{CalmOut, token_out as token_calm}
-use Rattle.usb_bus.proofs.WorldLaws.{goes}
-use Rattle.usb_bus.specs.declared.types.Outcome.{Outcome}
+use Rattle.usb_world.specs.declared.damage.Damage.{Damage}
+use Rattle.usb_world.specs.declared.types.Attempt.{Attempt}
+use Rattle.usb_world.specs.Exchange.{token_of, token_out, answered_in}
+use Rattle.usb_world.specs.Passes.{IsSettled, passed, heard_by, heard_state, deep_at}
+use Rattle.usb_world.specs.OneHolder.{token_way}
+use Rattle.usb_world.specs.World.{World}
+use Rattle.usb_world.specs.Steps.{ready, damage_in}
+use Rattle.usb_world.proofs.Booleans.{no, decided}
+use Rattle.usb_world.proofs.OneDevice.{settled_memory, stands, state_stands}
+use Rattle.usb_world.proofs.OneHolder.{no_payload, none_is, token_comes}
+use Rattle.usb_world.proofs.OneHolderMore.{unequal, ready_settled}
+use Rattle.usb_world.proofs.PassLaws.{CalmOut, token_out as token_calm}
+use Rattle.usb_world.proofs.WorldLaws.{goes}
+use Rattle.usb_world.specs.declared.types.Outcome.{Outcome}
 use Rattle.usb_transaction.specs.declared.target.Target.{Target}
 use Rattle.usb_transaction.specs.Trail.{Trail}
 use Rattle.usb_transaction.specs.Trans.{in_attempt}

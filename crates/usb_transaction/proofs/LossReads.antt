@@ -2,9 +2,9 @@
 use Rattle.std.proofs.Common.{◌≡◌, ℕ, true, false, List, Result, refl, ◌∙◌}
 use Rattle.usb_packet.specs.declared.Toggle.{Toggle}
 use Rattle.usb_device.specs.Rows.{State}
-use Rattle.usb_bus.specs.Passes.{IsSettled}
-use Rattle.usb_bus.specs.World.{World}
-use Rattle.usb_bus.specs.Devices.{EachWas}
+use Rattle.usb_world.specs.Passes.{IsSettled}
+use Rattle.usb_world.specs.World.{World}
+use Rattle.usb_world.specs.Devices.{EachWas}
 use Rattle.usb_transaction.specs.declared.target.Target.{Target}
 use Rattle.usb_transaction.specs.declared.fault.TransFault.{TransFault}
 use Rattle.usb_transaction.specs.Heard.{heard_as}

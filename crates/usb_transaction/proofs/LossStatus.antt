@@ -14,21 +14,21 @@ use Rattle.usb_device.specs.Transfer.{idle, ending}
 use Rattle.usb_device.specs.Rows.{State, forgotten, is_busy, nak_row, ack_row, ends_with_address}
 use Rattle.usb_device.specs.Attempt.{Way, whole, broken, lost, is_whole, heard, in_stage_law, in_law}
 use Rattle.usb_device.specs.Tree.{Ports, row_of, state_at}
-use Rattle.usb_bus.specs.declared.damage.Damage.{Damage}
-use Rattle.usb_bus.specs.declared.types.Attempt.{Attempt}
-use Rattle.usb_bus.specs.declared.types.Outcome.{Outcome}
-use Rattle.usb_bus.specs.declared.types.Outcome.TheVariants.{Payload, Ack, Nak, Stall, Nothing}
-use Rattle.usb_bus.specs.Wire.{is_read, marked_some}
-use Rattle.usb_bus.specs.Exchange.{token_of, reply_of, outcome_of, heard_all, token_out, payload_out, mark_in, place_of_answer, reply_in, clears_at}
-use Rattle.usb_bus.specs.Passes.{passed, told, deep_at}
-use Rattle.usb_bus.specs.Addresses.{ends_status}
-use Rattle.usb_bus.specs.OneHolder.{got, token_way, answer_way, reply_way, in_alone, IsIn, Holder, HolderIn, ExchangedIn}
-use Rattle.usb_bus.specs.World.{World}
-use Rattle.usb_bus.specs.Steps.{ready, damage_in, outcome_in, attempt, after}
-use Rattle.usb_bus.proofs.Booleans.{no, decided}
-use Rattle.usb_bus.proofs.AddressesLost.{is_loss}
-use Rattle.usb_bus.proofs.OneHolder.{no_payload, none_is}
-use Rattle.usb_bus.proofs.OneHolderMore.{holder_in, in_in}
+use Rattle.usb_world.specs.declared.damage.Damage.{Damage}
+use Rattle.usb_world.specs.declared.types.Attempt.{Attempt}
+use Rattle.usb_world.specs.declared.types.Outcome.{Outcome}
+use Rattle.usb_world.specs.declared.types.Outcome.TheVariants.{Payload, Ack, Nak, Stall, Nothing}
+use Rattle.usb_world.specs.Wire.{is_read, marked_some}
+use Rattle.usb_world.specs.Exchange.{token_of, reply_of, outcome_of, heard_all, token_out, payload_out, mark_in, place_of_answer, reply_in, clears_at}
+use Rattle.usb_world.specs.Passes.{passed, told, deep_at}
+use Rattle.usb_world.specs.Addresses.{ends_status}
+use Rattle.usb_world.specs.OneHolder.{got, token_way, answer_way, reply_way, in_alone, IsIn, Holder, HolderIn, ExchangedIn}
+use Rattle.usb_world.specs.World.{World}
+use Rattle.usb_world.specs.Steps.{ready, damage_in, outcome_in, attempt, after}
+use Rattle.usb_world.proofs.Booleans.{no, decided}
+use Rattle.usb_world.proofs.AddressesLost.{is_loss}
+use Rattle.usb_world.proofs.OneHolder.{no_payload, none_is}
+use Rattle.usb_world.proofs.OneHolderMore.{holder_in, in_in}
 use Rattle.usb_transaction.specs.declared.target.Target.{Target}
 use Rattle.usb_transaction.specs.Trans.{in_attempt}
 use Rattle.usb_transaction.specs.Losses.{TookOrLost, took, lost as lost_it}

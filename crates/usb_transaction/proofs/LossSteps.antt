@@ -28,25 +28,25 @@ use Rattle.usb_device.specs.Rows.{State, Reply, received, answered, forgotten, a
 use Rattle.usb_device.specs.Attempt.{Way, whole, broken, lost, through}
 use Rattle.usb_device.specs.Tree.{Ports, ended, vacant, taken, row_of}
 use Rattle.usb_device.specs.Delivery.{hears, reply_to, answer_of, effect_of, answers, listed, is_clearing, asks_clearing, clears_change}
-use Rattle.usb_bus.specs.declared.damage.Damage.{Damage}
-use Rattle.usb_bus.specs.declared.event.Event.{Event}
-use Rattle.usb_bus.specs.declared.types.Attempt.{Attempt}
-use Rattle.usb_bus.specs.declared.types.Outcome.{Outcome}
-use Rattle.usb_bus.specs.Wire.{marked_some}
-use Rattle.usb_bus.specs.Losses.{counted, after_clearing}
-use Rattle.usb_bus.specs.Exchange.{token_of, reply_of, goes_out, heard_all, token_out, payload_out, heard_in, mark_in, place_of_answer, answered_in, is_lost, lost_in, clears_at, cleared_in}
-use Rattle.usb_bus.specs.Touched.{leaves_port, way_leaves}
-use Rattle.usb_bus.specs.Passes.{IfOut, IsDataOut, IsSettled, passed, told, heard_by}
-use Rattle.usb_bus.specs.Requested.{pass_leaves, leaves_step}
-use Rattle.usb_bus.specs.OneHolder.{IsMade, token_way}
-use Rattle.usb_bus.specs.World.{World}
-use Rattle.usb_bus.specs.Steps.{is_due, took, due_from, ready, damage_in, with_attempt, attempt, after}
-use Rattle.usb_bus.proofs.Booleans.{no, both}
-use Rattle.usb_bus.proofs.RequestLawsAsked.{Allows, AllowsOut, sent_allowed, payload_allowed}
-use Rattle.usb_bus.proofs.RequestLawsPlain.{data_asks_nothing}
-use Rattle.usb_bus.proofs.OneHolder.{token_comes}
-use Rattle.usb_bus.proofs.OneHolderMore.{made_of, made_is}
-use Rattle.usb_bus.proofs.WorldLaws.{goes}
+use Rattle.usb_world.specs.declared.damage.Damage.{Damage}
+use Rattle.usb_world.specs.declared.event.Event.{Event}
+use Rattle.usb_world.specs.declared.types.Attempt.{Attempt}
+use Rattle.usb_world.specs.declared.types.Outcome.{Outcome}
+use Rattle.usb_world.specs.Wire.{marked_some}
+use Rattle.usb_world.specs.Losses.{counted, after_clearing}
+use Rattle.usb_world.specs.Exchange.{token_of, reply_of, goes_out, heard_all, token_out, payload_out, heard_in, mark_in, place_of_answer, answered_in, is_lost, lost_in, clears_at, cleared_in}
+use Rattle.usb_world.specs.Touched.{leaves_port, way_leaves}
+use Rattle.usb_world.specs.Passes.{IfOut, IsDataOut, IsSettled, passed, told, heard_by}
+use Rattle.usb_world.specs.Requested.{pass_leaves, leaves_step}
+use Rattle.usb_world.specs.OneHolder.{IsMade, token_way}
+use Rattle.usb_world.specs.World.{World}
+use Rattle.usb_world.specs.Steps.{is_due, took, due_from, ready, damage_in, with_attempt, attempt, after}
+use Rattle.usb_world.proofs.Booleans.{no, both}
+use Rattle.usb_world.proofs.RequestLawsAsked.{Allows, AllowsOut, sent_allowed, payload_allowed}
+use Rattle.usb_world.proofs.RequestLawsPlain.{data_asks_nothing}
+use Rattle.usb_world.proofs.OneHolder.{token_comes}
+use Rattle.usb_world.proofs.OneHolderMore.{made_of, made_is}
+use Rattle.usb_world.proofs.WorldLaws.{goes}
 use Rattle.usb_transaction.specs.declared.target.Target.{Target}
 use Rattle.usb_transaction.specs.Trail.{Trail, start, next}
 use Rattle.usb_transaction.specs.Trans.{setup_attempt, out_attempt}

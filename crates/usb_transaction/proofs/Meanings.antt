@@ -8,17 +8,17 @@ use Rattle.usb_device.specs.declared.answer.Answer.TheVariants as answer
 use Rattle.usb_device.specs.Attempt.{Way, is_whole, heard}
 use Rattle.usb_device.specs.Rows.{State, Reply, accepted}
 use Rattle.usb_device.specs.Tree.{row_of, reach_at, state_at}
-use Rattle.usb_bus.specs.declared.types.Attempt.{Attempt}
-use Rattle.usb_bus.specs.declared.types.Outcome.{Outcome}
-use Rattle.usb_bus.specs.declared.types.Outcome.TheVariants as outcome
-use Rattle.usb_bus.specs.Passes.{IsSettled, deep_at}
-use Rattle.usb_bus.specs.OneHolder.{IsMade, Answerer, IsSetup, got, hears_attempt, token_way, payload_way, answer_way}
-use Rattle.usb_bus.specs.World.{World}
-use Rattle.usb_bus.specs.Steps.{ready, damage_in, outcome_in, attempt, after, Course, here}
-use Rattle.usb_bus.proofs.Booleans.{decided}
-use Rattle.usb_bus.proofs.OneHolderMore.{made_of, setup_in, in_in, out_in, setup_sound_in}
-use Rattle.usb_bus.proofs.OneHolderReach.{stays_reachable_in}
-use Rattle.usb_bus.proofs.OneHolderWho.{one_answers}
+use Rattle.usb_world.specs.declared.types.Attempt.{Attempt}
+use Rattle.usb_world.specs.declared.types.Outcome.{Outcome}
+use Rattle.usb_world.specs.declared.types.Outcome.TheVariants as outcome
+use Rattle.usb_world.specs.Passes.{IsSettled, deep_at}
+use Rattle.usb_world.specs.OneHolder.{IsMade, Answerer, IsSetup, got, hears_attempt, token_way, payload_way, answer_way}
+use Rattle.usb_world.specs.World.{World}
+use Rattle.usb_world.specs.Steps.{ready, damage_in, outcome_in, attempt, after, Course, here}
+use Rattle.usb_world.proofs.Booleans.{decided}
+use Rattle.usb_world.proofs.OneHolderMore.{made_of, setup_in, in_in, out_in, setup_sound_in}
+use Rattle.usb_world.proofs.OneHolderReach.{stays_reachable_in}
+use Rattle.usb_world.proofs.OneHolderWho.{one_answers}
 use Rattle.usb_transaction.specs.declared.target.Target.{Target}
 use Rattle.usb_transaction.specs.declared.fault.TransFault.TheVariants.{Stalled, NoAnswer}
 use Rattle.usb_transaction.specs.Heard.{heard_as, sent_as, set_up_as}

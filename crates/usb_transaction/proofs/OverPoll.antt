@@ -14,15 +14,15 @@ use Rattle.usb_device.specs.Attempt.{Way, whole, broken, lost, is_whole, heard, 
 use Rattle.usb_device.specs.Tree.{row_of}
 use Rattle.usb_device.specs.Progress.{PollAt, level, told, ahead, NeverTold, ToldByte, PollOn, OnlyChanges}
 use Rattle.usb_device.proofs.ChangesProgress.{poll_on}
-use Rattle.usb_bus.specs.declared.types.Outcome.{Outcome}
-use Rattle.usb_bus.specs.declared.types.Outcome.TheVariants as outcome
-use Rattle.usb_bus.specs.Passes.{IsSettled}
-use Rattle.usb_bus.specs.OneHolder.{got}
-use Rattle.usb_bus.specs.World.{World}
-use Rattle.usb_bus.specs.Steps.{attempt, after, outcome_in}
-use Rattle.usb_bus.specs.Devices.{EachWas, DidIn}
-use Rattle.usb_bus.proofs.Booleans.{no, decided}
-use Rattle.usb_bus.proofs.Devices.{each_in, each_wider}
+use Rattle.usb_world.specs.declared.types.Outcome.{Outcome}
+use Rattle.usb_world.specs.declared.types.Outcome.TheVariants as outcome
+use Rattle.usb_world.specs.Passes.{IsSettled}
+use Rattle.usb_world.specs.OneHolder.{got}
+use Rattle.usb_world.specs.World.{World}
+use Rattle.usb_world.specs.Steps.{attempt, after, outcome_in}
+use Rattle.usb_world.specs.Devices.{EachWas, DidIn}
+use Rattle.usb_world.proofs.Booleans.{no, decided}
+use Rattle.usb_world.proofs.Devices.{each_in, each_wider}
 use Rattle.usb_transaction.specs.declared.target.Target.{Target}
 use Rattle.usb_transaction.specs.declared.fault.TransFault.{TransFault}
 use Rattle.usb_transaction.specs.declared.fault.TransFault.TheVariants.{Stalled, Busy, NoAnswer, Bus}

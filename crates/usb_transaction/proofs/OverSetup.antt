@@ -15,15 +15,15 @@ use Rattle.usb_device.specs.Rows.{State, Reply, with_endpoints, begun, accepted}
 use Rattle.usb_device.specs.Effect.{effect_of_request, asked_by_setup}
 use Rattle.usb_device.specs.Attempt.{Way, whole, broken, lost, is_whole, heard}
 use Rattle.usb_device.specs.Tree.{full, acted, row_of}
-use Rattle.usb_bus.specs.declared.types.Outcome as bus
-use Rattle.usb_bus.specs.declared.types.Outcome.TheVariants as got_as
-use Rattle.usb_bus.specs.Live.{address_of}
-use Rattle.usb_bus.specs.Passes.{IsSettled}
-use Rattle.usb_bus.specs.OneHolder.{got}
-use Rattle.usb_bus.specs.World.{World}
-use Rattle.usb_bus.specs.Steps.{outcome_in, attempt, after}
-use Rattle.usb_bus.specs.Devices.{Relation, DidSetup}
-use Rattle.usb_bus.proofs.Booleans.{no}
+use Rattle.usb_world.specs.declared.types.Outcome as bus
+use Rattle.usb_world.specs.declared.types.Outcome.TheVariants as got_as
+use Rattle.usb_world.specs.Live.{address_of}
+use Rattle.usb_world.specs.Passes.{IsSettled}
+use Rattle.usb_world.specs.OneHolder.{got}
+use Rattle.usb_world.specs.World.{World}
+use Rattle.usb_world.specs.Steps.{outcome_in, attempt, after}
+use Rattle.usb_world.specs.Devices.{Relation, DidSetup}
+use Rattle.usb_world.proofs.Booleans.{no}
 use Rattle.usb_transaction.specs.declared.target.Target.{Target}
 use Rattle.usb_transaction.specs.declared.fault.TransFault.{TransFault}
 use Rattle.usb_transaction.specs.declared.fault.TransFault.TheVariants.{Stalled, Busy, NoAnswer, Bus}

@@ -12,17 +12,17 @@ use Rattle.usb_device.specs.Attempt.{Way, whole, broken, lost, heard, out_law}
 use Rattle.usb_device.specs.Tree.{Ports, ended, vacant, taken, state_at}
 use Rattle.usb_device.specs.Progress.{IsSink, SinkAt, level, ahead, Joined, SinkOn, OnlySink}
 use Rattle.usb_device.proofs.Attempts.{same_number}
-use Rattle.usb_bus.specs.declared.types.Outcome.{Outcome}
-use Rattle.usb_bus.specs.declared.types.Outcome.TheVariants as outcome
-use Rattle.usb_bus.specs.Passes.{IsSettled}
-use Rattle.usb_bus.specs.OneHolder.{IsMade, got}
-use Rattle.usb_bus.specs.World.{World}
-use Rattle.usb_bus.specs.Steps.{attempt, after, outcome_in}
-use Rattle.usb_bus.specs.Devices.{Was, EachWas, DidOut}
-use Rattle.usb_bus.proofs.Booleans.{no}
-use Rattle.usb_bus.proofs.Between.{Rests, rests}
-use Rattle.usb_bus.proofs.OneHolder.{remembers}
-use Rattle.usb_bus.proofs.Devices.{each_wider, each_out}
+use Rattle.usb_world.specs.declared.types.Outcome.{Outcome}
+use Rattle.usb_world.specs.declared.types.Outcome.TheVariants as outcome
+use Rattle.usb_world.specs.Passes.{IsSettled}
+use Rattle.usb_world.specs.OneHolder.{IsMade, got}
+use Rattle.usb_world.specs.World.{World}
+use Rattle.usb_world.specs.Steps.{attempt, after, outcome_in}
+use Rattle.usb_world.specs.Devices.{Was, EachWas, DidOut}
+use Rattle.usb_world.proofs.Booleans.{no}
+use Rattle.usb_world.proofs.Between.{Rests, rests}
+use Rattle.usb_world.proofs.OneHolder.{remembers}
+use Rattle.usb_world.proofs.Devices.{each_wider, each_out}
 use Rattle.usb_transaction.specs.declared.target.Target.{Target}
 use Rattle.usb_transaction.specs.declared.heard.Heard.{Heard}
 use Rattle.usb_transaction.specs.declared.heard.Heard.TheVariants.{Moved, NotReady, Repeat, Refused, Lost}

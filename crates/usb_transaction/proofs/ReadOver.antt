@@ -7,13 +7,13 @@ use Rattle.usb_device.specs.Transfer.{Stage, idle, refused, reading, read, endin
 use Rattle.usb_device.specs.Rows.{State, Reply, forgotten, is_busy, nak_row, out_row}
 use Rattle.usb_device.specs.Attempt.{Way, whole, broken, lost, is_whole, heard, out_law}
 use Rattle.usb_device.specs.Progress.{IsRead, OnlyStage}
-use Rattle.usb_bus.specs.declared.types.Outcome.{Outcome}
-use Rattle.usb_bus.specs.declared.types.Outcome.TheVariants as outcome
-use Rattle.usb_bus.specs.Passes.{IsSettled}
-use Rattle.usb_bus.specs.World.{World}
-use Rattle.usb_bus.specs.Steps.{attempt, after, outcome_in}
-use Rattle.usb_bus.specs.Devices.{EachWas, DidOut}
-use Rattle.usb_bus.proofs.Devices.{each_wider, each_out}
+use Rattle.usb_world.specs.declared.types.Outcome.{Outcome}
+use Rattle.usb_world.specs.declared.types.Outcome.TheVariants as outcome
+use Rattle.usb_world.specs.Passes.{IsSettled}
+use Rattle.usb_world.specs.World.{World}
+use Rattle.usb_world.specs.Steps.{attempt, after, outcome_in}
+use Rattle.usb_world.specs.Devices.{EachWas, DidOut}
+use Rattle.usb_world.proofs.Devices.{each_wider, each_out}
 use Rattle.usb_transaction.specs.declared.target.Target.{Target}
 use Rattle.usb_transaction.specs.declared.fault.TransFault.{TransFault}
 use Rattle.usb_transaction.specs.Heard.{sent_as}

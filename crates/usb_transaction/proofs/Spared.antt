@@ -5,22 +5,22 @@ use Rattle.usb_request.specs.declared.setup.Setup.{Setup}
 use Rattle.usb_request.specs.Layout.{setup_of}
 use Rattle.usb_device.specs.Rows.{State}
 use Rattle.usb_device.specs.Tree.{Place, empty, full, place_at, state_at}
-use Rattle.usb_bus.specs.declared.types.Attempt.{Attempt}
-use Rattle.usb_bus.specs.declared.types.Outcome.{Outcome}
-use Rattle.usb_bus.specs.Live.{address_of}
-use Rattle.usb_bus.specs.Touched.{IsNew}
-use Rattle.usb_bus.specs.Passes.{IsSettled}
-use Rattle.usb_bus.specs.Courses.{is_harmless, resets}
-use Rattle.usb_bus.specs.OneHolder.{IsMade}
-use Rattle.usb_bus.specs.World.{World}
-use Rattle.usb_bus.specs.Steps.{attempt, after, outcome_in}
-use Rattle.usb_bus.specs.Devices.{Relation, Was, EachWas, DidSetup}
-use Rattle.usb_bus.proofs.Booleans.{no, decided}
-use Rattle.usb_bus.proofs.Devices.{each_setup}
-use Rattle.usb_bus.proofs.OneDevice.{stands, state_stands}
-use Rattle.usb_bus.proofs.OneHolderMore.{made_of, equal_same}
-use Rattle.usb_bus.proofs.OwnLaws.{quiet_resets}
-use Rattle.usb_bus.proofs.WorldLaws.{step_new}
+use Rattle.usb_world.specs.declared.types.Attempt.{Attempt}
+use Rattle.usb_world.specs.declared.types.Outcome.{Outcome}
+use Rattle.usb_world.specs.Live.{address_of}
+use Rattle.usb_world.specs.Touched.{IsNew}
+use Rattle.usb_world.specs.Passes.{IsSettled}
+use Rattle.usb_world.specs.Courses.{is_harmless, resets}
+use Rattle.usb_world.specs.OneHolder.{IsMade}
+use Rattle.usb_world.specs.World.{World}
+use Rattle.usb_world.specs.Steps.{attempt, after, outcome_in}
+use Rattle.usb_world.specs.Devices.{Relation, Was, EachWas, DidSetup}
+use Rattle.usb_world.proofs.Booleans.{no, decided}
+use Rattle.usb_world.proofs.Devices.{each_setup}
+use Rattle.usb_world.proofs.OneDevice.{stands, state_stands}
+use Rattle.usb_world.proofs.OneHolderMore.{made_of, equal_same}
+use Rattle.usb_world.proofs.OwnLaws.{quiet_resets}
+use Rattle.usb_world.proofs.WorldLaws.{step_new}
 use Rattle.usb_transaction.specs.declared.target.Target.{Target}
 use Rattle.usb_transaction.specs.Trail.{Trail, start, next}
 use Rattle.usb_transaction.specs.Trans.{setup_attempt}

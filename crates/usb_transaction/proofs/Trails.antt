@@ -2,14 +2,14 @@
 use Rattle.std.proofs.Common.{◌≡◌, refl, sym, subst, ap, ◌∙◌}
 use Rattle.std.specs.Prelude.{◌==◌, ◌||◌, List, [], ◌∷◌, Bool, true, false, if◌then◌else◌, Some, None}
 use Rattle.usb_device.specs.Delivery.{held, is_twice}
-use Rattle.usb_bus.specs.declared.event.Event.{Event}
-use Rattle.usb_bus.specs.declared.types.Attempt.{Attempt}
-use Rattle.usb_bus.specs.declared.types.BusFault.TheVariants.{LimitReached}
-use Rattle.usb_bus.specs.declared.types.Outcome.{Outcome}
-use Rattle.usb_bus.specs.Passes.{IsSettled}
-use Rattle.usb_bus.specs.World.{World, Made}
-use Rattle.usb_bus.specs.Steps.{Step, attempt, after, attempted, with_attempt, ready, due_from, took, is_due, Course, here, step, AnyStep, IsBetween, damage_in}
-use Rattle.usb_bus.proofs.Between.{between_course, settled_ports}
+use Rattle.usb_world.specs.declared.event.Event.{Event}
+use Rattle.usb_world.specs.declared.types.Attempt.{Attempt}
+use Rattle.usb_world.specs.declared.types.BusFault.TheVariants.{LimitReached}
+use Rattle.usb_world.specs.declared.types.Outcome.{Outcome}
+use Rattle.usb_world.specs.Passes.{IsSettled}
+use Rattle.usb_world.specs.World.{World, Made}
+use Rattle.usb_world.specs.Steps.{Step, attempt, after, attempted, with_attempt, ready, due_from, took, is_due, Course, here, step, AnyStep, IsBetween, damage_in}
+use Rattle.usb_world.proofs.Between.{between_course, settled_ports}
 use Rattle.usb_transaction.specs.Trail.{Trail, start, next}
 
 -- an attempt that was made is its packets, after the events that were due

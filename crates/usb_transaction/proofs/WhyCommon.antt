@@ -1,18 +1,18 @@
 -- A device over the attempts of a transaction where no three attempts running are damaged: what is so after each of them.
 use Rattle.std.proofs.Common.{◌≡◌, ◌≢◌, ℕ, zero, suc, ◌+◌, ◌<◌, ◌≤◌, nat_lt, ◌||◌, List, [], ◌∷◌, Bool, true, false, if◌then◌else◌, None, refl, sym, subst, ap, ◌∙◌, arith}
 use Rattle.usb_device.specs.Rows.{State, is_busy}
-use Rattle.usb_bus.specs.declared.damage.Damage.{Damage}
-use Rattle.usb_bus.specs.declared.event.Event.{Event}
-use Rattle.usb_bus.specs.declared.types.Attempt.{Attempt}
-use Rattle.usb_bus.specs.declared.types.Outcome.{Outcome}
-use Rattle.usb_bus.specs.Passes.{IsSettled}
-use Rattle.usb_bus.specs.Wire.{damage_of}
-use Rattle.usb_bus.specs.OneHolder.{IsMade}
-use Rattle.usb_bus.specs.World.{World, Made}
-use Rattle.usb_bus.specs.Steps.{attempt, after, outcome_in, damage_in, ready, due_from, took, is_due, with_attempt}
-use Rattle.usb_bus.specs.Devices.{Relation, EachWas}
-use Rattle.usb_bus.proofs.Devices.{each_none, each_joined}
-use Rattle.usb_bus.proofs.OneHolderMore.{made_of}
+use Rattle.usb_world.specs.declared.damage.Damage.{Damage}
+use Rattle.usb_world.specs.declared.event.Event.{Event}
+use Rattle.usb_world.specs.declared.types.Attempt.{Attempt}
+use Rattle.usb_world.specs.declared.types.Outcome.{Outcome}
+use Rattle.usb_world.specs.Passes.{IsSettled}
+use Rattle.usb_world.specs.Wire.{damage_of}
+use Rattle.usb_world.specs.OneHolder.{IsMade}
+use Rattle.usb_world.specs.World.{World, Made}
+use Rattle.usb_world.specs.Steps.{attempt, after, outcome_in, damage_in, ready, due_from, took, is_due, with_attempt}
+use Rattle.usb_world.specs.Devices.{Relation, EachWas}
+use Rattle.usb_world.proofs.Devices.{each_none, each_joined}
+use Rattle.usb_world.proofs.OneHolderMore.{made_of}
 use Rattle.usb_transaction.specs.declared.heard.Heard.{Heard}
 use Rattle.usb_transaction.specs.declared.heard.Heard.TheVariants.{Moved, NotReady, Repeat, Refused, Lost}
 use Rattle.usb_transaction.specs.Trail.{Trail, start, next, errors_with, errors_running}

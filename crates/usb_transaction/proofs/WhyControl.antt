@@ -12,15 +12,15 @@ use Rattle.usb_device.specs.Transfer.{Stage, idle, refused, reading, read, endin
 use Rattle.usb_device.specs.Rows.{State, Reply, payload, forgotten, is_busy, nak_row, ack_row, acknowledged}
 use Rattle.usb_device.specs.Attempt.{Way, whole, broken, lost, is_whole, heard, gave, in_stage_law, in_law}
 use Rattle.usb_device.specs.Progress.{ReadingAt}
-use Rattle.usb_bus.specs.declared.damage.Damage.{Damage}
-use Rattle.usb_bus.specs.declared.types.Outcome.{Outcome}
-use Rattle.usb_bus.specs.declared.types.Outcome.TheVariants as outcome
-use Rattle.usb_bus.specs.OneHolder.{got}
+use Rattle.usb_world.specs.declared.damage.Damage.{Damage}
+use Rattle.usb_world.specs.declared.types.Outcome.{Outcome}
+use Rattle.usb_world.specs.declared.types.Outcome.TheVariants as outcome
+use Rattle.usb_world.specs.OneHolder.{got}
 use Rattle.usb_device.specs.Tree.{row_of}
-use Rattle.usb_bus.specs.Passes.{deep_at}
-use Rattle.usb_bus.specs.World.{World, Made}
-use Rattle.usb_bus.specs.Steps.{attempt, after, outcome_in, damage_in}
-use Rattle.usb_bus.specs.Devices.{Ways, DidIn}
+use Rattle.usb_world.specs.Passes.{deep_at}
+use Rattle.usb_world.specs.World.{World, Made}
+use Rattle.usb_world.specs.Steps.{attempt, after, outcome_in, damage_in}
+use Rattle.usb_world.specs.Devices.{Ways, DidIn}
 use Rattle.usb_transaction.specs.Trans.{in_attempt}
 use Rattle.usb_transaction.specs.Over.{is_at}
 use Rattle.usb_transaction.proofs.Overs.{mine}

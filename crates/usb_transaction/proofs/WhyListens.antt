@@ -2,8 +2,8 @@
 use Rattle.std.proofs.Common.{◌≡◌, ℕ, ◌+◌, ◌≤◌, ◌==◌, ◌&&◌, ◌||◌, not, if◌then◌else◌, List, false, ap, ◌∙◌, arith}
 use Rattle.usb_device.specs.Rows.{State}
 use Rattle.usb_device.specs.Attempt.{Way, whole}
-use Rattle.usb_bus.specs.Live.{address_of}
-use Rattle.usb_bus.specs.Passes.{deep_at}
+use Rattle.usb_world.specs.Live.{address_of}
+use Rattle.usb_world.specs.Passes.{deep_at}
 use Rattle.usb_transaction.specs.declared.target.Target.{Target}
 use Rattle.usb_transaction.specs.declared.heard.Heard.{Heard}
 use Rattle.usb_transaction.specs.declared.heard.Heard.TheVariants.{Moved, NotReady, Repeat, Refused, Lost}

@@ -6,13 +6,13 @@ use Rattle.usb_device.specs.Request as request
 use Rattle.usb_device.specs.Rows.{State}
 use Rattle.usb_device.specs.Attempt.{Way, whole, setup_law}
 use Rattle.usb_device.specs.Tree.{row_of}
-use Rattle.usb_bus.specs.declared.types.Outcome.{Outcome}
-use Rattle.usb_bus.specs.Passes.{IsSettled}
-use Rattle.usb_bus.specs.OneHolder.{got}
-use Rattle.usb_bus.specs.World.{World, Made}
-use Rattle.usb_bus.specs.Steps.{attempt, after, outcome_in, damage_in}
-use Rattle.usb_bus.specs.Devices.{Relation, DidSetup}
-use Rattle.usb_bus.proofs.Booleans.{no}
+use Rattle.usb_world.specs.declared.types.Outcome.{Outcome}
+use Rattle.usb_world.specs.Passes.{IsSettled}
+use Rattle.usb_world.specs.OneHolder.{got}
+use Rattle.usb_world.specs.World.{World, Made}
+use Rattle.usb_world.specs.Steps.{attempt, after, outcome_in, damage_in}
+use Rattle.usb_world.specs.Devices.{Relation, DidSetup}
+use Rattle.usb_world.proofs.Booleans.{no}
 use Rattle.usb_transaction.specs.declared.target.Target.{Target}
 use Rattle.usb_transaction.specs.declared.heard.Heard.TheVariants.{Moved, Lost}
 use Rattle.usb_transaction.specs.declared.fault.TransFault.{TransFault}

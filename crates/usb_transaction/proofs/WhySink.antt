@@ -8,14 +8,14 @@ use Rattle.usb_device.specs.Bulk.{is_same}
 use Rattle.usb_device.specs.Rows.{State, Reply, sunk, sink_row, data_row}
 use Rattle.usb_device.specs.Attempt.{Way, whole, broken, lost, heard, out_law}
 use Rattle.usb_device.specs.Progress.{IsSink, OnlySink}
-use Rattle.usb_bus.specs.Passes.{IsSettled}
-use Rattle.usb_bus.specs.OneHolder.{got}
-use Rattle.usb_bus.specs.declared.types.Outcome.{Outcome}
-use Rattle.usb_bus.specs.World.{World, Made}
-use Rattle.usb_bus.specs.Steps.{attempt, after, outcome_in}
-use Rattle.usb_bus.specs.Devices.{Relation, EachWas, DidOut}
-use Rattle.usb_bus.proofs.Booleans.{no}
-use Rattle.usb_bus.proofs.Devices.{each_wider, each_out}
+use Rattle.usb_world.specs.Passes.{IsSettled}
+use Rattle.usb_world.specs.OneHolder.{got}
+use Rattle.usb_world.specs.declared.types.Outcome.{Outcome}
+use Rattle.usb_world.specs.World.{World, Made}
+use Rattle.usb_world.specs.Steps.{attempt, after, outcome_in}
+use Rattle.usb_world.specs.Devices.{Relation, EachWas, DidOut}
+use Rattle.usb_world.proofs.Booleans.{no}
+use Rattle.usb_world.proofs.Devices.{each_wider, each_out}
 use Rattle.usb_transaction.specs.declared.target.Target.{Target}
 use Rattle.usb_transaction.specs.declared.heard.Heard.TheVariants.{Lost}
 use Rattle.usb_transaction.specs.declared.fault.TransFault.{TransFault}

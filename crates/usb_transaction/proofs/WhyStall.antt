@@ -6,23 +6,23 @@ use Rattle.usb_device.specs.Transfer.{refused}
 use Rattle.usb_device.specs.Rows.{State}
 use Rattle.usb_device.specs.Tree.{Ports, row_of, reach_at, state_at}
 use Rattle.usb_device.specs.Delivery.{held, is_twice}
-use Rattle.usb_bus.specs.declared.types.Outcome.{Outcome}
-use Rattle.usb_bus.specs.declared.types.Outcome.TheVariants as outcome
-use Rattle.usb_bus.specs.Live.{address_of, same_number, same_path}
-use Rattle.usb_bus.specs.Passes.{IsSettled, OneHolds, NobodyHolds}
-use Rattle.usb_bus.specs.OneHolder.{IsMade, HolderIn, SomeHolder}
-use Rattle.usb_bus.specs.World.{World}
-use Rattle.usb_bus.specs.Steps.{attempt, after, outcome_in, damage_in, ready}
-use Rattle.usb_bus.specs.Devices.{Was, EachWas, DidIn}
-use Rattle.usb_bus.proofs.Addresses.{data_calm}
-use Rattle.usb_bus.proofs.AddressesReset.{is_same, same_is}
-use Rattle.usb_bus.proofs.Booleans.{both, decided}
-use Rattle.usb_bus.proofs.Devices.{each_in}
-use Rattle.usb_bus.proofs.OneDevice.{other_address, stands, state_stands}
-use Rattle.usb_bus.proofs.OneHolderMore.{ready_settled, made_of, made_is, equal_same, same_test, nobody_in, silent_in, in_in}
-use Rattle.usb_bus.proofs.OneHolderWho.{holder_or_nobody}
-use Rattle.usb_bus.proofs.OwnLaws.{due_state}
-use Rattle.usb_bus.proofs.WorldLaws.{due_reach, made_reach}
+use Rattle.usb_world.specs.declared.types.Outcome.{Outcome}
+use Rattle.usb_world.specs.declared.types.Outcome.TheVariants as outcome
+use Rattle.usb_world.specs.Live.{address_of, same_number, same_path}
+use Rattle.usb_world.specs.Passes.{IsSettled, OneHolds, NobodyHolds}
+use Rattle.usb_world.specs.OneHolder.{IsMade, HolderIn, SomeHolder}
+use Rattle.usb_world.specs.World.{World}
+use Rattle.usb_world.specs.Steps.{attempt, after, outcome_in, damage_in, ready}
+use Rattle.usb_world.specs.Devices.{Was, EachWas, DidIn}
+use Rattle.usb_world.proofs.Addresses.{data_calm}
+use Rattle.usb_world.proofs.AddressesReset.{is_same, same_is}
+use Rattle.usb_world.proofs.Booleans.{both, decided}
+use Rattle.usb_world.proofs.Devices.{each_in}
+use Rattle.usb_world.proofs.OneDevice.{other_address, stands, state_stands}
+use Rattle.usb_world.proofs.OneHolderMore.{ready_settled, made_of, made_is, equal_same, same_test, nobody_in, silent_in, in_in}
+use Rattle.usb_world.proofs.OneHolderWho.{holder_or_nobody}
+use Rattle.usb_world.proofs.OwnLaws.{due_state}
+use Rattle.usb_world.proofs.WorldLaws.{due_reach, made_reach}
 use Rattle.usb_transaction.specs.declared.target.Target.{Target}
 use Rattle.usb_transaction.specs.Trail.{Trail, start, next}
 use Rattle.usb_transaction.specs.Trans.{in_attempt}

@@ -2,7 +2,7 @@
 use Rattle.std.specs.Prelude.{◌≡◌, ℕ, List, Some, true}
 use Rattle.usb_device.specs.Rows.{State}
 use Rattle.usb_device.specs.Tree.{reach_at, state_at}
-use Rattle.usb_bus.specs.World.{World}
+use Rattle.usb_world.specs.World.{World}
 use Rattle.usb_transaction.specs.declared.target.Target.{Target}
 use Rattle.usb_transaction.specs.Over.{is_at}
 

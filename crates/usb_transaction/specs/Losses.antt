@@ -4,8 +4,8 @@ use Rattle.usb_request.specs.declared.setup.Setup.{Setup}
 use Rattle.usb_device.specs.Request.{Is}
 use Rattle.usb_device.specs.Rows.{State}
 use Rattle.usb_device.specs.Transfer.{idle, ending}
-use Rattle.usb_bus.specs.Losses.{one_more}
-use Rattle.usb_bus.specs.World.{World}
+use Rattle.usb_world.specs.Losses.{one_more}
+use Rattle.usb_world.specs.World.{World}
 use Rattle.usb_transaction.specs.declared.target.Target.{Target}
 use Rattle.usb_transaction.specs.declared.fault.TransFault.{TransFault}
 use Rattle.usb_transaction.specs.Over.{is_at}

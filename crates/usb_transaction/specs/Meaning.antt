@@ -6,12 +6,12 @@ use Rattle.usb_request.specs.Layout.{setup_of}
 use Rattle.usb_device.specs.declared.answer.Answer.{Answer}
 use Rattle.usb_device.specs.Rows.{State, accepted}
 use Rattle.usb_device.specs.Tree.{Ports, row_of, reach_at, state_at}
-use Rattle.usb_bus.specs.declared.types.Attempt.{Attempt}
-use Rattle.usb_bus.specs.declared.types.Outcome.{Outcome}
-use Rattle.usb_bus.specs.Passes.{deep_at}
-use Rattle.usb_bus.specs.OneHolder.{HolderIn, hears_attempt, in_alone, out_alone}
-use Rattle.usb_bus.specs.World.{World}
-use Rattle.usb_bus.specs.Steps.{ready, damage_in, Step, attempt, root_call, event, report, after}
+use Rattle.usb_world.specs.declared.types.Attempt.{Attempt}
+use Rattle.usb_world.specs.declared.types.Outcome.{Outcome}
+use Rattle.usb_world.specs.Passes.{deep_at}
+use Rattle.usb_world.specs.OneHolder.{HolderIn, hears_attempt, in_alone, out_alone}
+use Rattle.usb_world.specs.World.{World}
+use Rattle.usb_world.specs.Steps.{ready, damage_in, Step, attempt, root_call, event, report, after}
 use Rattle.usb_transaction.specs.declared.target.Target.{Target}
 use Rattle.usb_transaction.specs.Trail.{Trail}
 use Rattle.usb_transaction.specs.Trans.{setup_attempt, in_attempt, out_attempt}

@@ -11,12 +11,12 @@ use Rattle.usb_device.specs.Rows.{State, accepted}
 use Rattle.usb_device.specs.Transfer.{ending, reading, refused as stage_refused, toggle_at}
 use Rattle.usb_device.specs.Tree.{Ports, full, acted, row_of, place_at}
 use Rattle.usb_device.specs.Progress.{ReadingAt, ReadOn, StatusOn, IsRead, IsSource, SourceAt, SourceOn, IsSink, SinkAt, Joined, PollAt, NeverTold, ToldByte, OnlyControl, OnlyStage, OnlySource, OnlySink, OnlyChanges}
-use Rattle.usb_bus.specs.declared.types.Attempt.{Attempt}
-use Rattle.usb_bus.specs.declared.types.Outcome.{Outcome}
-use Rattle.usb_bus.specs.Live.{address_of}
-use Rattle.usb_bus.specs.World.{World}
-use Rattle.usb_bus.specs.OneHolder.{HolderIn}
-use Rattle.usb_bus.specs.Steps.{ready, attempt, after}
+use Rattle.usb_world.specs.declared.types.Attempt.{Attempt}
+use Rattle.usb_world.specs.declared.types.Outcome.{Outcome}
+use Rattle.usb_world.specs.Live.{address_of}
+use Rattle.usb_world.specs.World.{World}
+use Rattle.usb_world.specs.OneHolder.{HolderIn}
+use Rattle.usb_world.specs.Steps.{ready, attempt, after}
 use Rattle.usb_transaction.specs.declared.target.Target.{Target}
 use Rattle.usb_transaction.specs.declared.fault.TransFault.{TransFault}
 use Rattle.usb_transaction.specs.declared.fault.TransFault.TheVariants.{Stalled, Busy, NoAnswer, Bus}

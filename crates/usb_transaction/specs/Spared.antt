@@ -3,10 +3,10 @@ use Rattle.std.specs.Prelude.{◌≡◌, ◌≢◌, ℕ, List, Some, true, false
 use Rattle.usb_request.specs.declared.setup.Setup.{Setup}
 use Rattle.usb_device.specs.Rows.{State}
 use Rattle.usb_device.specs.Tree.{reach_at, state_at}
-use Rattle.usb_bus.specs.Live.{address_of}
-use Rattle.usb_bus.specs.Courses.{is_harmless}
-use Rattle.usb_bus.specs.Devices.{Relation, Was}
-use Rattle.usb_bus.specs.World.{World}
+use Rattle.usb_world.specs.Live.{address_of}
+use Rattle.usb_world.specs.Courses.{is_harmless}
+use Rattle.usb_world.specs.Devices.{Relation, Was}
+use Rattle.usb_world.specs.World.{World}
 use Rattle.usb_transaction.specs.declared.target.Target.{Target}
 
 -- after such a reset, asked of a device with an address, one that has an address was not reset

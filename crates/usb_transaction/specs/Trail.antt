@@ -1,11 +1,11 @@
 -- What a transaction attempted, what the host got of it, and what each answer says of that (8.5, 8.6).
 use Rattle.std.specs.Prelude.{◌≡◌, ◌≢◌, ℕ, ◌+◌, ◌<◌, List, [], ◌∷◌, Option, Some, None, Result, Ok, Err, ⊤}
-use Rattle.usb_bus.specs.declared.types.Attempt.{Attempt}
-use Rattle.usb_bus.specs.declared.types.BusFault.{BusFault}
-use Rattle.usb_bus.specs.declared.types.Outcome.{Outcome}
-use Rattle.usb_bus.specs.declared.types.Outcome.TheVariants.{Nak, Stall}
-use Rattle.usb_bus.specs.World.{World, Made, Attempted}
-use Rattle.usb_bus.specs.Steps.{attempt, after, outcome_in, AttemptFails}
+use Rattle.usb_world.specs.declared.types.Attempt.{Attempt}
+use Rattle.usb_world.specs.declared.types.BusFault.{BusFault}
+use Rattle.usb_world.specs.declared.types.Outcome.{Outcome}
+use Rattle.usb_world.specs.declared.types.Outcome.TheVariants.{Nak, Stall}
+use Rattle.usb_world.specs.World.{World, Made, Attempted}
+use Rattle.usb_world.specs.Steps.{attempt, after, outcome_in, AttemptFails}
 use Rattle.usb_packet.specs.declared.Toggle.{Toggle}
 use Rattle.usb_transaction.specs.declared.heard.Heard.{Heard}
 use Rattle.usb_transaction.specs.declared.heard.Heard.TheVariants.{Moved, NotReady, Repeat, Refused, Lost}

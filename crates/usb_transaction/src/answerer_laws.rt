@@ -5,9 +5,9 @@
 ghost use Rattle.std.specs.Prelude.{◌≡◌, ◌≢◌, ℕ, List, Ok, false, length};
 ghost use Rattle.usb_packet.specs.declared.Toggle.{Toggle};
 ghost use Rattle.usb_request.specs.Layout.{setup_of};
-ghost use Rattle.usb_bus.specs.Passes.{IsSettled};
-ghost use Rattle.usb_bus.specs.World.{World};
-ghost use Rattle.usb_bus.specs.Courses.{is_harmless};
+ghost use Rattle.usb_world.specs.Passes.{IsSettled};
+ghost use Rattle.usb_world.specs.World.{World};
+ghost use Rattle.usb_world.specs.Courses.{is_harmless};
 ghost use Rattle.usb_transaction.specs.declared.target.Target.{Target as ATarget};
 ghost use Rattle.usb_transaction.specs.Answerer.{Answerer};
 ghost use Rattle.usb_transaction.specs.Heard.{heard_as, sent_as, set_up_as};

@@ -7,10 +7,10 @@ ghost use Rattle.std.specs.Prelude.{◌≡◌, ◌≤◌, ℕ, List, [], Some, N
 ghost use Rattle.usb_packet.specs.declared.Toggle.{Toggle};
 ghost use Rattle.usb_packet.specs.declared.Toggle.TheVariants.{One};
 ghost use Rattle.usb_request.specs.Layout.{setup_of};
-ghost use Rattle.usb_bus.specs.declared.types.Outcome.{Outcome};
-ghost use Rattle.usb_bus.specs.Passes.{IsSettled};
-ghost use Rattle.usb_bus.specs.World.{World};
-ghost use Rattle.usb_bus.specs.Devices.{EachWas};
+ghost use Rattle.usb_world.specs.declared.types.Outcome.{Outcome};
+ghost use Rattle.usb_world.specs.Passes.{IsSettled};
+ghost use Rattle.usb_world.specs.World.{World};
+ghost use Rattle.usb_world.specs.Devices.{EachWas};
 ghost use Rattle.usb_transaction.specs.declared.target.Target.{Target as ATarget};
 ghost use Rattle.usb_transaction.specs.declared.fault.TransFault.{TransFault as AFault};
 ghost use Rattle.usb_transaction.specs.Heard.{heard_as, sent_as, set_up_as};

@@ -1,8 +1,8 @@
 //! IN, where NAK is an answer.
 ghost use Rattle.std.specs.Prelude.{◌≡◌, ◌≤◌, ◌<◌, length, false, IfOk, OnOk, IfSome};
-ghost use Rattle.usb_bus.specs.World.{Spends};
-ghost use Rattle.usb_bus.specs.Passes.{IsSettled};
-ghost use Rattle.usb_bus.specs.Devices.{EachWas};
+ghost use Rattle.usb_world.specs.World.{Spends};
+ghost use Rattle.usb_world.specs.Passes.{IsSettled};
+ghost use Rattle.usb_world.specs.Devices.{EachWas};
 ghost use Rattle.usb_transaction.specs.Answerer.{Answerer};
 ghost use Rattle.usb_transaction.specs.Call.{IsNotOfBus};
 ghost use Rattle.usb_transaction.specs.Heard.{toggle_after};

@@ -1,8 +1,8 @@
 //! SETUP.
 ghost use Rattle.std.specs.Prelude.{◌≡◌, ◌≢◌, [], false, IfOk, OnOk};
-ghost use Rattle.usb_bus.specs.World.{Spends};
-ghost use Rattle.usb_bus.specs.Passes.{IsSettled};
-ghost use Rattle.usb_bus.specs.Courses.{is_harmless};
+ghost use Rattle.usb_world.specs.World.{Spends};
+ghost use Rattle.usb_world.specs.Passes.{IsSettled};
+ghost use Rattle.usb_world.specs.Courses.{is_harmless};
 ghost use Rattle.usb_request.specs.Layout.{setup_of};
 ghost use Rattle.usb_transaction.specs.Answerer.{Answerer};
 ghost use Rattle.usb_transaction.specs.Call.{IsNotOfBus};

@@ -1,6 +1,6 @@
 //! Transactions over a simulated bus with one function, of which packets are damaged.
 ghost use Rattle.std.specs.Prelude.{◌≡◌, ◌≤◌, [], ◌∷◌, true, IfOk};
-ghost use Rattle.usb_bus.specs.PlanData.{damages_fit};
+ghost use Rattle.usb_world.specs.PlanData.{damages_fit};
 
 use super::*;
 use std::alloc::{AllocError, Global};

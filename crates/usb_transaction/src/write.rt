@@ -1,8 +1,8 @@
 //! OUT.
 ghost use Rattle.std.specs.Prelude.{◌≡◌, ◌≤◌, ◌<◌, [], length, false, IfOk, OnOk, OnErr};
-ghost use Rattle.usb_bus.specs.World.{Spends};
-ghost use Rattle.usb_bus.specs.Passes.{IsSettled};
-ghost use Rattle.usb_bus.specs.Devices.{EachWas};
+ghost use Rattle.usb_world.specs.World.{Spends};
+ghost use Rattle.usb_world.specs.Passes.{IsSettled};
+ghost use Rattle.usb_world.specs.Devices.{EachWas};
 ghost use Rattle.usb_transaction.specs.Answerer.{Answerer};
 ghost use Rattle.usb_transaction.specs.Call.{IsNotOfBus, OutLeaves, WhyOut};
 ghost use Rattle.usb_transaction.specs.Heard.{flip, sent_as};

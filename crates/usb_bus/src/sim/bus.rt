@@ -2,23 +2,22 @@
 ghost use Rattle.std.specs.Prelude.{◌≡◌, ◌≢◌, ◌+◌, ◌-◌, ◌<◌, ◌≤◌, ◌∷◌, [], length, slice_index_or, true, None, IsSome, OnOk, IfOk, IfErr};
 ghost use Rattle.usb_port.specs.PortState.{off, status_of};
 ghost use Rattle.usb_device.specs.Tree.{row_of};
-ghost use Rattle.usb_bus.specs.World.{Attempted, Spends, AnswerFits, IsAttempt, IsRootPort, IsSetFeature, IsClearFeature};
+ghost use Rattle.usb_world.specs.World.{Attempted, Spends, AnswerFits, IsAttempt, IsRootPort, IsSetFeature, IsClearFeature};
 ghost use Rattle.std.specs.Io.KnownBytes.{Appends};
 ghost use Rattle.usb_device.specs.Delivery.{is_clearing};
-ghost use Rattle.usb_bus.specs.Steps.{AttemptFails, Left, SetsRoot, ClearsRoot, after, attempt as attempt_step, root_call, with_attempt, ready, outcome_in};
-ghost use Rattle.usb_bus.specs.Passes.{IsSettled};
-ghost use Rattle.usb_bus.specs.Sane.{IsSane};
+ghost use Rattle.usb_world.specs.Steps.{AttemptFails, Left, SetsRoot, ClearsRoot, after, attempt as attempt_step, root_call, with_attempt, ready, outcome_in};
+ghost use Rattle.usb_world.specs.Passes.{IsSettled};
+ghost use Rattle.usb_world.specs.Sane.{IsSane};
 ghost use Rattle.usb_bus.specs.Lines.{attempted_lines};
 ghost use Rattle.usb_bus.specs.Watch.{inner_of, has_failed};
-ghost use Rattle.usb_bus.specs.declared.types.BusFault.TheVariants.{LimitReached, TraceFailed};
+ghost use Rattle.usb_world.specs.declared.types.BusFault.TheVariants.{LimitReached, TraceFailed};
 
 use super::lines::put_attempt;
 use super::{SimBus, fault_of};
-use crate::exchange::{make_exchange, outcome_of};
-use crate::wire::damage_of;
 use crate::{Attempt, Bus, BusFault, Outcome};
 use std::io::Write;
 use usb_device::{PortCall, Ports};
+use usb_world::{damage_of, make_exchange, outcome_of};
 
 impl<W: Write> Bus for SimBus<W> {
     ghost use Rattle.usb_bus.specs.Sim.{world_of, writer_of};
@@ -54,19 +53,19 @@ impl<W: Write> Bus for SimBus<W> {
         self.roots.count() as u8
     }
 
-    #[tactic(auto, unfolding(crate::specs::World::port_at))]
+    #[tactic(auto, unfolding(usb_world::specs::World::port_at))]
     fn root_status(&self, port: u8) -> [u8; 4] {
         status_of(&self.roots, port)
     }
 
-    #[tactic(auto, using(crate::proofs::Counts::set_ends, crate::proofs::Counts::set_none))]
+    #[tactic(auto, using(usb_world::proofs::Counts::set_ends, usb_world::proofs::Counts::set_none))]
     fn root_set(&mut self, port: u8, feature: u16) {
         if let Some(call) = PortCall::of_set(feature) {
             self.call_root(port, call);
         }
     }
 
-    #[tactic(auto, using(crate::proofs::Counts::clear_ends, crate::proofs::Counts::clear_none))]
+    #[tactic(auto, using(usb_world::proofs::Counts::clear_ends, usb_world::proofs::Counts::clear_none))]
     fn root_clear(&mut self, port: u8, feature: u16) {
         if let Some(call) = PortCall::of_clear(feature) {
             self.call_root(port, call);
@@ -78,7 +77,7 @@ impl<W: Write> SimBus<W> {
     ghost use Rattle.usb_bus.specs.Sim.{world_of, writer_of};
 
     /// A call at a root port.
-    #[tactic(auto, unfolding(crate::specs::Steps::after))]
+    #[tactic(auto, unfolding(usb_world::specs::Steps::after))]
     fn call_root(&mut self, port: u8, call: PortCall)
         ensures { world_of self.new ≡ after (root_call call port) (world_of self.old) }
     {
@@ -87,7 +86,7 @@ impl<W: Write> SimBus<W> {
     }
 
     /// The events that are due, and then an attempt and its line.
-    #[tactic(auto, unfolding(crate::specs::Steps::ready, crate::specs::Steps::with_attempt, crate::specs::Steps::outcome_in, crate::specs::Lines::attempted_lines))]
+    #[tactic(auto, unfolding(usb_world::specs::Steps::ready, usb_world::specs::Steps::with_attempt, usb_world::specs::Steps::outcome_in, crate::specs::Lines::attempted_lines))]
     fn make_attempt(&mut self, attempt: &Attempt) -> Result<Outcome, BusFault>
         requires attempt { IsAttempt attempt.now }
         requires sound { (world_of self.old).fault ≡ None }

@@ -2,18 +2,17 @@
 ghost use Rattle.std.specs.Prelude.{◌≡◌, ◌≢◌, ◌+◌, ◌<◌, ◌≤◌, [], ◌∷◌, ◌++◌, length, true, Ok, Some, None, IfOk, OnOk, OnErr, IfErr, IsTrue, IsSome};
 ghost use Rattle.std.specs.Io.KnownBytes.{Appends};
 ghost use Rattle.usb_device.specs.Tree.{row_of, changed, replaced};
-ghost use Rattle.usb_bus.specs.World.{Spends, changes, to_come};
-ghost use Rattle.usb_bus.specs.Steps.{TookEvent, Coming, after, event, happened, has_due, ready, took_first};
-ghost use Rattle.usb_bus.specs.PlanData.{can_be_done};
+ghost use Rattle.usb_world.specs.World.{Spends, changes, to_come};
+ghost use Rattle.usb_world.specs.Steps.{TookEvent, Coming, after, event, happened, has_due, ready, took_first};
+ghost use Rattle.usb_world.specs.PlanData.{can_be_done};
 ghost use Rattle.usb_bus.specs.Lines.{action_line, next_line, next_due, due_lines};
 ghost use Rattle.usb_bus.specs.Trace.{plug_line, unplug_line};
 ghost use Rattle.usb_bus.specs.Watch.{inner_of, has_failed, AppendsFront};
-ghost use Rattle.usb_bus.specs.declared.types.BusFault.TheVariants.{LimitReached, Memory, TraceFailed};
+ghost use Rattle.usb_world.specs.declared.types.BusFault.TheVariants.{LimitReached, Memory, TraceFailed};
 
 use super::{SimBus, fault_of};
-use crate::event::{Action, Due};
 use crate::watched::put_pieces;
-use crate::{BusFault, Watched, WriteFailed};
+use crate::{Action, BusFault, Due, Watched, WriteFailed};
 use std::alloc::{AllocError, Global};
 use std::io::Write;
 use usb_device::{Device, DeviceSpec, Ports};
@@ -63,7 +62,7 @@ impl<W: Write> SimBus<W> {
 
     /// Whether the next event comes by itself: it does not wait for the host, and so many attempts were made since
     /// the former event.
-    #[tactic(auto, unfolding(crate::specs::Steps::has_due))]
+    #[tactic(auto, unfolding(usb_world::specs::Steps::has_due))]
     fn is_due(&self) -> bool
         ensures value { result ≡ has_due (world_of self.now) }
         ensures left { IsTrue result → 0 < to_come (world_of self.now) }

@@ -1,16 +1,16 @@
 //! The lines that go to the writer.
 ghost use Rattle.std.specs.Prelude.{◌≡◌, [], ◌∷◌, ◌++◌, true, IsSome, OnOk, OnErr};
 ghost use Rattle.std.specs.Io.KnownBytes.{Appends};
-ghost use Rattle.usb_bus.specs.Steps.{PutLine};
+ghost use Rattle.usb_world.specs.Steps.{PutLine};
 ghost use Rattle.usb_bus.specs.Trace.{attempt_line};
 ghost use Rattle.usb_bus.specs.Watch.{inner_of, has_failed, AppendsFront};
 
 use super::SimBus;
-use crate::exchange::Exchange;
 use crate::trace::attempt_line;
 use crate::watched::put_pieces;
 use crate::{BusFault, Watched, WriteFailed};
 use std::io::Write;
+use usb_world::Exchange;
 
 impl<W: Write> SimBus<W> {
     ghost use Rattle.usb_bus.specs.Sim.{world_of, writer_of};

@@ -1,6 +1,6 @@
 //! Damaged packets, and the events that wait for the host.
 ghost use Rattle.std.specs.Prelude.{◌≡◌, [], ◌∷◌, true};
-ghost use Rattle.usb_bus.specs.PlanData.{harm_fits, damage_fits};
+ghost use Rattle.usb_world.specs.PlanData.{harm_fits, damage_fits};
 
 use super::sim::{data_in, data_out, function, plug, reset, set, setup, short_in};
 use crate::{

@@ -1,10 +1,10 @@
 //! Devices below a hub.
 ghost use Rattle.std.specs.Prelude.{◌≡◌, ◌<◌, [], ◌∷◌, true, Some, IfOk};
 ghost use Rattle.usb_device.specs.Spec.{usual_hub};
-ghost use Rattle.usb_bus.specs.PlanData.{damages_fit};
-ghost use Rattle.usb_bus.specs.World.{IsAttempt};
+ghost use Rattle.usb_world.specs.PlanData.{damages_fit};
+ghost use Rattle.usb_world.specs.World.{IsAttempt};
 ghost use Rattle.usb_port.specs.Path.{IsPortNumber};
-ghost use Rattle.usb_bus.specs.declared.event.Action.TheVariants.{Plug};
+ghost use Rattle.usb_world.specs.declared.event.Action.TheVariants.{Plug};
 
 use super::damage::damage;
 use super::sim::{data_in, data_out, plug, reset, setup};

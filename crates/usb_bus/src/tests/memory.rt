@@ -1,5 +1,5 @@
 //! A packet that a device has no memory for.
-ghost use Rattle.usb_bus.specs.World.{IsAttempt};
+ghost use Rattle.usb_world.specs.World.{IsAttempt};
 
 use super::sim::{data_in, plug, reset, set, setup, status};
 use crate::{Attempt, Bus, BusFault, Damages, Events, Outcome, Plan, SimBus, Watched};

@@ -1,7 +1,7 @@
 ghost use Rattle.std.specs.Prelude.{◌≡◌, ◌<◌, ◌≤◌, [], ◌∷◌, is_some};
 ghost use Rattle.usb_port.specs.Path.{IsPortNumber};
-ghost use Rattle.usb_bus.specs.World.{IsAttempt, sends};
-ghost use Rattle.usb_bus.specs.declared.event.Action.TheVariants.{Plug};
+ghost use Rattle.usb_world.specs.World.{IsAttempt, sends};
+ghost use Rattle.usb_world.specs.declared.event.Action.TheVariants.{Plug};
 
 use super::watched::Frail;
 use crate::{

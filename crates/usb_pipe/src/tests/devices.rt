@@ -1,6 +1,6 @@
 //! The devices that stand on the simulated bus.
 ghost use Rattle.std.specs.Prelude.{◌≡◌, ◌≤◌, None, false, IfOk};
-ghost use Rattle.usb_bus.specs.Plugged.{hub_ports};
+ghost use Rattle.usb_world.specs.Plugged.{hub_ports};
 
 use std::alloc::{AllocError, Global};
 use usb_device::{Bytes, ConfigTexts, DeviceSpec, HubSpec, Name, Stalls};

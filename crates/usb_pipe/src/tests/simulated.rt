@@ -1,7 +1,7 @@
 //! Simulated buses with one device at the only root port, and the requests that make it ready.
 ghost use Rattle.std.specs.Prelude.{◌≡◌, ◌≤◌, [], ◌∷◌, true, IfOk};
-ghost use Rattle.usb_bus.specs.declared.event.Action.TheVariants.{Plug};
-ghost use Rattle.usb_bus.specs.PlanData.{damage_fits, damages_fit, harm_fits};
+ghost use Rattle.usb_world.specs.declared.event.Action.TheVariants.{Plug};
+ghost use Rattle.usb_world.specs.PlanData.{damage_fits, damages_fit, harm_fits};
 ghost use Rattle.usb_transaction.specs.Trans.{IsTarget};
 
 use super::devices::{Kind, hub, spec_of};

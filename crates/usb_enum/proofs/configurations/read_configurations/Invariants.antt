@@ -1,5 +1,5 @@
 use Rattle.std.proofs.Common.{◌≡◌, ◌*◌, length}
-use Rattle.usb_bus.specs.World.{Spends}
+use Rattle.usb_world.specs.World.{Spends}
 use Rattle.usb_enum.specs.Bounds.{configuration_bound}
 use Rattle.usb_enum.specs.Text.{ValuesDiffer}
 use Rattle.usb_enum.proofs.configurations.read_configurations.Given as goal

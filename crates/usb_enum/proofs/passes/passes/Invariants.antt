@@ -1,5 +1,5 @@
 use Rattle.std.proofs.Common.{◌*◌}
-use Rattle.usb_bus.specs.World.{Spends}
+use Rattle.usb_world.specs.World.{Spends}
 use Rattle.usb_enum.specs.Bounds.{pass_bound}
 use Rattle.usb_enum.proofs.passes.passes.Given as goal
 

@@ -1,5 +1,5 @@
 use Rattle.std.proofs.Common.{◌≡◌, ◌+◌, false}
-use Rattle.usb_bus.specs.World.{root_row, to_come, changes}
+use Rattle.usb_world.specs.World.{root_row, to_come, changes}
 use Rattle.usb_main.specs.Run.{Goes}
 use Rattle.usb_main.proofs.runs.settle.Given as goal
 

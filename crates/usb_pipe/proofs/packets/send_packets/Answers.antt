@@ -6,7 +6,7 @@ use Rattle.std.specs.Int.{div_ceil}
 use Rattle.usb_pipe.proofs.Moves.{Moved, moved_none, moved_more, moved_worked, moved_turned, packets_one, packets_none, packets_some}
 use Rattle.usb_pipe.proofs.Gone.{going_none, going_more, all_gone, not_gone}
 use Rattle.usb_packet.specs.declared.Toggle.{Toggle}
-use Rattle.usb_bus.specs.World.{World}
+use Rattle.usb_world.specs.World.{World}
 use Rattle.usb_pipe.proofs.Settling.{since_now, since_more}
 use Rattle.usb_pipe.proofs.packets.send_packets.Goals as goal
 

@@ -1,7 +1,7 @@
 use Rattle.std.proofs.Common.{◌≡◌, ◌+◌, ◌∙◌, sym, ap, [], length}
 use Rattle.toml.specs.Data.{as_table}
 use Rattle.toml.specs.View.{view}
-use Rattle.usb_bus.specs.Plugged.{plugged, plugged_after}
+use Rattle.usb_world.specs.Plugged.{plugged, plugged_after}
 use Rattle.usb_plan.specs.Event.{event_in}
 use Rattle.usb_plan.proofs.Parts.{event_in_ok, placed_ok}
 use Rattle.usb_plan.proofs.Growth.{events_from-step, events_from-fault, events_from-end, events_fit-push, plugged-push}

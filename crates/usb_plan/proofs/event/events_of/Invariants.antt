@@ -1,7 +1,7 @@
 use Rattle.std.proofs.Common.{◌≡◌, ◌+◌, [], map, drop, true}
 use Rattle.toml.specs.View.{view}
-use Rattle.usb_bus.specs.Plugged.{plugged}
-use Rattle.usb_bus.specs.PlanData.{events_fit}
+use Rattle.usb_world.specs.Plugged.{plugged}
+use Rattle.usb_world.specs.PlanData.{events_fit}
 use Rattle.usb_plan.specs.Event.{events_from}
 use Rattle.usb_plan.proofs.event.events_of.Given as goal
 

@@ -1,20 +1,20 @@
 use Rattle.std.proofs.Common.{◌≡◌, ◌+◌, ◌||◌, List, Bool, Option, None, refl, sym, subst, ap, ap₂, ◌∙◌, arith, length}
 use Rattle.usb_device.specs.Tree.{Ports, row_of}
-use Rattle.usb_bus.specs.declared.types.Attempt.{Attempt}
-use Rattle.usb_bus.specs.declared.damage.Damage.{Damage}
-use Rattle.usb_bus.specs.declared.exchange.Exchange.{Exchange}
-use Rattle.usb_bus.specs.declared.losses.Losses.{Losses}
-use Rattle.usb_bus.specs.Wire.{damage_of}
-use Rattle.usb_bus.specs.Exchange.{exchange_in, ports_in, lost_in}
-use Rattle.usb_bus.specs.Losses.{AreOfDamages, counted}
-use Rattle.usb_bus.specs.World.{World}
+use Rattle.usb_world.specs.declared.types.Attempt.{Attempt}
+use Rattle.usb_world.specs.declared.damage.Damage.{Damage}
+use Rattle.usb_world.specs.declared.exchange.Exchange.{Exchange}
+use Rattle.usb_world.specs.declared.losses.Losses.{Losses}
+use Rattle.usb_world.specs.Wire.{damage_of}
+use Rattle.usb_world.specs.Exchange.{exchange_in, ports_in, lost_in}
+use Rattle.usb_world.specs.Losses.{AreOfDamages, counted}
+use Rattle.usb_world.specs.World.{World}
 use Rattle.usb_bus.specs.Sim.{world_of}
-use Rattle.usb_bus.specs.Sane.{IsSane}
-use Rattle.usb_bus.specs.Steps.{made_in, IsCut}
+use Rattle.usb_world.specs.Sane.{IsSane}
+use Rattle.usb_world.specs.Steps.{made_in, IsCut}
 use Rattle.usb_bus.proofs.Attempting.{without_fault, left_at_event, left_at_packet, left_at_line}
-use Rattle.usb_bus.proofs.Between.{sane_ports}
+use Rattle.usb_world.proofs.Between.{sane_ports}
 use Rattle.usb_bus.proofs.Comings.{lines_of_attempt, attempt_made, outcome_made_in}
-use Rattle.usb_bus.proofs.Wires.{until_most, losses_after, losses_cleared}
+use Rattle.usb_world.proofs.Wires.{until_most, losses_after, losses_cleared}
 use Rattle.usb_bus.proofs.sim.SimBus.make_attempt.Goals as goal
 
 lost_of : (a : Attempt) (d : Option Damage) (k : Ports) → (exchange_in a d k).address_lost ≡ lost_in a d k

@@ -1,11 +1,11 @@
 use Rattle.std.proofs.Common.{◌≡◌, length, arith, ap, sym, subst, ◌∙◌}
 use Rattle.usb_device.specs.Tree.{row_of}
-use Rattle.usb_bus.specs.Passes.{IsSettled}
-use Rattle.usb_bus.specs.Sane.{IsSane}
-use Rattle.usb_bus.proofs.Counts.{new_long}
+use Rattle.usb_world.specs.Passes.{IsSettled}
+use Rattle.usb_world.specs.Sane.{IsSane}
+use Rattle.usb_world.proofs.Counts.{new_long}
 use Rattle.usb_bus.proofs.Plans.{copies_come}
-use Rattle.usb_bus.proofs.Between.{settled_new}
-use Rattle.usb_bus.proofs.SaneLaws.{sane_new_ports}
+use Rattle.usb_world.proofs.Between.{settled_new}
+use Rattle.usb_world.proofs.SaneLaws.{sane_new_ports}
 use Rattle.usb_bus.proofs.sim.SimBus.new.Goals as goal
 
 pub invariant_of-result-clause-planned : goal.invariant_of-result-clause-planned

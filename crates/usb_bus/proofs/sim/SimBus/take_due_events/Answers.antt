@@ -1,7 +1,7 @@
 use Rattle.std.proofs.Common.{refl, sym, ◌∙◌}
-use Rattle.usb_bus.specs.Steps.{nothing_yet}
+use Rattle.usb_world.specs.Steps.{nothing_yet}
 use Rattle.usb_bus.specs.Sim.{world_of}
-use Rattle.usb_bus.proofs.Counts.{spends_none, spends_then}
+use Rattle.usb_world.proofs.Counts.{spends_none, spends_then}
 use Rattle.usb_bus.proofs.Comings.{came_next, coming_cut, on_err, due_begins, due_goes_on, due_ends}
 use Rattle.usb_bus.proofs.sim.SimBus.take_due_events.Goals as goal
 

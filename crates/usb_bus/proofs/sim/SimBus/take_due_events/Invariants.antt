@@ -1,6 +1,6 @@
 use Rattle.std.proofs.Common.{◌≡◌}
-use Rattle.usb_bus.specs.World.{Spends, to_come}
-use Rattle.usb_bus.specs.Steps.{Coming}
+use Rattle.usb_world.specs.World.{Spends, to_come}
+use Rattle.usb_world.specs.Steps.{Coming}
 use Rattle.usb_bus.specs.Watch.{inner_of}
 use Rattle.usb_bus.specs.Sim.{world_of, writer_of}
 use Rattle.usb_bus.proofs.Comings.{DueSoFar}

@@ -2,15 +2,15 @@ use Rattle.std.proofs.Common.{◌≡◌, refl, sym, subst, suc, true, length, ar
 use Rattle.std.proofs.lemmas.Bool.{and_parts}
 use Rattle.std.specs.List.{list_all}
 use Rattle.usb_device.specs.Tree.{row_of}
-use Rattle.usb_bus.specs.Passes.{IsSettled}
-use Rattle.usb_bus.specs.Sane.{IsSane}
-use Rattle.usb_bus.specs.PlanData.{can_come}
-use Rattle.usb_bus.proofs.Between.{settled_happened, sane_happened}
-use Rattle.usb_bus.proofs.Counts.{happened_long, came_spends}
+use Rattle.usb_world.specs.Passes.{IsSettled}
+use Rattle.usb_world.specs.Sane.{IsSane}
+use Rattle.usb_world.specs.PlanData.{can_come}
+use Rattle.usb_world.proofs.Between.{settled_happened, sane_happened}
+use Rattle.usb_world.proofs.Counts.{happened_long, came_spends}
 use Rattle.usb_device.specs.Spec.{Spec}
-use Rattle.usb_bus.specs.declared.event.Event.{Event}
-use Rattle.usb_bus.specs.declared.event.Action.{Action}
-use Rattle.usb_bus.specs.Steps.{happened}
+use Rattle.usb_world.specs.declared.event.Event.{Event}
+use Rattle.usb_world.specs.declared.event.Action.{Action}
+use Rattle.usb_world.specs.Steps.{happened}
 use Rattle.usb_bus.specs.Sim.{world_of}
 use Rattle.usb_bus.proofs.Comings.{came, line_next, due_next, popped, front_is}
 use Rattle.usb_bus.proofs.sim.SimBus.take_event.Goals as goal

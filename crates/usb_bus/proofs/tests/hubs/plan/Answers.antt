@@ -2,10 +2,10 @@
 use Rattle.std.proofs.Common.{rules, arith, ◌≡◌, true, List, [], ◌∷◌, Some, refl}
 use Rattle.usb_port.specs.Order.{parent_of, port_of}
 use Rattle.usb_device.specs.Spec.{Spec, usual_hub}
-use Rattle.usb_bus.specs.declared.event.Event.{Event}
-use Rattle.usb_bus.specs.declared.event.Action.TheVariants.{Plug, Unplug}
-use Rattle.usb_bus.specs.Plugged.{unplugged, port_count, parent_has}
-use Rattle.usb_bus.specs.PlanData.{events_fit}
+use Rattle.usb_world.specs.declared.event.Event.{Event}
+use Rattle.usb_world.specs.declared.event.Action.TheVariants.{Plug, Unplug}
+use Rattle.usb_world.specs.Plugged.{unplugged, port_count, parent_has}
+use Rattle.usb_world.specs.PlanData.{events_fit}
 use Rattle.usb_bus.proofs.tests.hubs.plan.Goals as goal
 
 abbrev events : List Event

@@ -1,5 +1,5 @@
 use Rattle.std.proofs.Common.{◌≡◌, ap, arith}
-use Rattle.usb_bus.specs.World.{roots_of}
+use Rattle.usb_world.specs.World.{roots_of}
 use Rattle.usb_host.specs.Hosting.{Hosting}
 use Rattle.usb_host.specs.declared.host.Round.TheVariants.{Quiet}
 use Rattle.usb_host.proofs.Quiets.{none_changed}

@@ -1,6 +1,6 @@
 use Rattle.std.proofs.Common.{◌≡◌, ◌-◌, ◌*◌, ◌<◌}
 use Rattle.std.specs.Prelude.{ℕ, ◌≤◌, false}
-use Rattle.usb_bus.specs.World.{Spends, port_at}
+use Rattle.usb_world.specs.World.{Spends, port_at}
 use Rattle.usb_enum.specs.Bounds.{enumeration_bound}
 use Rattle.usb_host.specs.Hosting.{work}
 use Rattle.usb_host.specs.declared.host.Round.TheVariants.{Worked, Quiet}

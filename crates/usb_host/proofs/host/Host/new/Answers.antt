@@ -1,5 +1,5 @@
 use Rattle.std.proofs.Common.{◌≡◌, ◌∙◌, ◌-◌, ◌+◌, ℕ, ap, arith}
-use Rattle.usb_bus.specs.World.{World, roots_of}
+use Rattle.usb_world.specs.World.{World, roots_of}
 use Rattle.usb_host.proofs.Powers.{powered_none, powered_length, powers_one, powered_all, powered_world}
 use Rattle.usb_host.proofs.Balances.{accounts_none}
 use Rattle.usb_host.proofs.Openings.{opened}

@@ -1,5 +1,5 @@
 use Rattle.std.proofs.Common.{◌≡◌, false}
-use Rattle.usb_bus.specs.World.{to_come}
+use Rattle.usb_world.specs.World.{to_come}
 use Rattle.usb_main.specs.Run.{Goes}
 use Rattle.usb_main.proofs.runs.Runner.next_item.Given as goal
 

@@ -1,5 +1,5 @@
 use Rattle.std.proofs.Common.{◌≡◌, true}
-use Rattle.usb_bus.specs.PlanData.{damages_fit}
+use Rattle.usb_world.specs.PlanData.{damages_fit}
 use Rattle.usb_pipe.proofs.Growth.{last_from}
 use Rattle.usb_pipe.proofs.tests.simulated.damages_of.Given as goal
 

@@ -1,0 +1,84 @@
+-- A run by hand: a function is plugged, its port powered and reset; it is read, and takes address 1 after the host's
+-- first ACK of the status stage was lost, or one of its bits was flipped.
+use Rattle.std.proofs.Common.{◌≡◌, ℕ, true, false, List, [], ◌∷◌, None, Some, refl}
+use Rattle.usb_packet.specs.declared.TokenKind.TheVariants.{OutTok, InTok, SetupTok}
+use Rattle.usb_packet.specs.declared.Toggle.TheVariants.{Zero, One as Data1}
+use Rattle.usb_device.specs.declared.calls.PortCall.TheVariants.{SetPower, SetReset}
+use Rattle.usb_device.specs.Spec.{Spec, function}
+use Rattle.usb_device.specs.Tree.{ended, vacant, changed_at, reach_at, state_at, reach, all_off}
+use Rattle.usb_device.specs.Rows.{received, unread, fresh, reset_state, awaits_address}
+use Rattle.usb_device.specs.Request.{outcome}
+use Rattle.usb_device.specs.Effect.{asks}
+use Rattle.usb_device.specs.Calls.{set_call, clear_call}
+use Rattle.usb_device.specs.Delivery.{answer_of, effect_of, after_packet, answers, all_forgotten, held, is_twice, has_loss, clears_change}
+use Rattle.usb_device.specs.Bulk.{change_bits}
+use Rattle.usb_request.specs.Layout.{setup_of}
+use Rattle.usb_port.specs.PortState.{status_of}
+use Rattle.usb_world.specs.declared.damage.Harm.{Harm}
+use Rattle.usb_world.specs.declared.damage.Harm.TheVariants.{Lose, Flip}
+use Rattle.usb_world.specs.declared.event.Action.TheVariants.{Plug}
+use Rattle.usb_world.specs.declared.types.Attempt.{Attempt}
+use Rattle.usb_world.specs.declared.types.Outcome.TheVariants as got
+use Rattle.usb_world.specs.Wire.{damage_of, harm_to, mark_of, bit_count, marked, marked_some, is_read}
+use Rattle.usb_world.specs.Exchange.{token_of, payload_of, answer_place, answer_mark, reply_of, outcome_of, ports_in, lost_in}
+use Rattle.usb_world.specs.Losses.{no_losses, one_more}
+use Rattle.usb_world.specs.Live.{pend_at, pend}
+use Rattle.usb_world.specs.World.{World}
+use Rattle.usb_world.specs.Steps.{took, due_from, ready, with_attempt, outcome_in, attempt, root_call, event, after}
+use Rattle.usb_world.specs.Courses.{address_at}
+
+abbrev thing : Spec
+thing = function (0x66 ∷ 0x6e ∷ []) (0x12 ∷ 1 ∷ 0 ∷ 2 ∷ 0 ∷ 0 ∷ 0 ∷ 0x40 ∷ 0x34 ∷ 0x12 ∷ 0x78 ∷ 0x56 ∷ 0 ∷ 1 ∷ 0 ∷ 0 ∷ 0 ∷ 1 ∷ []) ([])
+
+-- the host's ACK of the status stage is damaged
+abbrev start : Harm → World
+start harm = record {
+  roots = vacant (record { attached = Rattle.usb_port.specs.PortState.nothing; power = false; enable = false; connection_changed = false; enable_changed = false; reset_changed = false }) ended;
+  devices = thing ∷ [];
+  left = record { after = 0; action = Plug (1 ∷ []) 0 } ∷ [];
+  taken = 0;
+  attempts = 0;
+  attempts_then = 0;
+  limit = 10000;
+  damages = record { attempt = 5; packet = 3; harm = harm } ∷ [];
+  losses = no_losses;
+  shared = false;
+  fault = None;
+}
+
+abbrev asks_in : Attempt
+asks_in = record { kind = InTok; addr = 0; ep = 0; low = false; pre = false; max = 64; payload = None }
+
+abbrev sets_up : List ℕ → Attempt
+sets_up bytes = record { kind = SetupTok; addr = 0; ep = 0; low = false; pre = false; max = 64; payload = Some (Zero, record { items = bytes }) }
+
+abbrev status_out : Attempt
+status_out = record { kind = OutTok; addr = 0; ep = 0; low = false; pre = false; max = 64; payload = Some (Data1, record { items = [] }) }
+
+abbrev plugged : Harm → World
+plugged harm = after (root_call SetReset 1) (after event (after (root_call SetPower 1) (start harm)))
+
+abbrev set_up : Harm → World
+set_up harm = after (attempt (sets_up (0x80 ∷ 6 ∷ 0 ∷ 1 ∷ 0 ∷ 0 ∷ 8 ∷ 0 ∷ []))) (plugged harm)
+
+abbrev read : Harm → World
+read harm = after (attempt status_out) (after (attempt asks_in) (set_up harm))
+
+abbrev asked : Harm → World
+asked harm = after (attempt (sets_up (0 ∷ 5 ∷ 1 ∷ 0 ∷ 0 ∷ 0 ∷ 0 ∷ 0 ∷ []))) (read harm)
+
+abbrev lost : Harm → World
+lost harm = after (attempt asks_in) (asked harm)
+
+example : (pend (plugged Lose).roots (1 ∷ []) ≡ true) × (reach (plugged Lose).roots (1 ∷ []) ≡ true)
+    × (outcome_in asks_in (set_up Lose) ≡ got.Payload Data1 (record { items = 0x12 ∷ 1 ∷ 0 ∷ 2 ∷ 0 ∷ 0 ∷ 0 ∷ 0x40 ∷ [] }))
+    × (address_at (lost Lose).roots (1 ∷ []) ≡ Some 0) × ((lost Lose).losses.all ≡ 1) × ((lost Lose).attempts ≡ 5)
+    × (address_at (after (attempt asks_in) (lost Lose)).roots (1 ∷ []) ≡ Some 1)
+unfolding after took due_from ready with_attempt ports_in lost_in clears_change outcome_in marked marked_some mark_of harm_to damage_of bit_count is_read token_of payload_of answer_place answer_mark reply_of outcome_of one_more held is_twice has_loss reach_at pend_at state_at changed_at received unread fresh reset_state asks set_call clear_call answer_of effect_of after_packet answers all_forgotten change_bits setup_of status_of all_off outcome awaits_address
+example = (refl, refl, refl, refl, refl, refl, refl)
+
+flipped : (address_at (lost (Flip 0)).roots (1 ∷ []) ≡ Some 0) × ((lost (Flip 0)).losses.all ≡ 1) × ((lost (Flip 0)).attempts ≡ 5)
+    × (address_at (lost (Flip 8)).roots (1 ∷ []) ≡ Some 1) × ((lost (Flip 8)).losses.all ≡ 0)
+    × (address_at (after (attempt asks_in) (lost (Flip 0))).roots (1 ∷ []) ≡ Some 1)
+unfolding after took due_from ready with_attempt ports_in lost_in clears_change outcome_in marked marked_some mark_of harm_to damage_of bit_count is_read token_of payload_of answer_place answer_mark reply_of outcome_of one_more held is_twice has_loss reach_at pend_at state_at changed_at received unread fresh reset_state asks set_call clear_call answer_of effect_of after_packet answers all_forgotten change_bits setup_of status_of all_off outcome awaits_address
+flipped = (refl, refl, refl, refl, refl, refl)

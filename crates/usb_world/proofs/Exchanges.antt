@@ -1,0 +1,125 @@
+-- What the code of an attempt does, packet by packet, is the attempt.
+use Rattle.std.proofs.Common.{◌≡◌, ◌+◌, List, [], ◌∷◌, ◌++◌, false, Option, Some, None, Result, Ok, Err, OnOk, refl, sym, subst, ap, ap₂, ◌∙◌}
+use Rattle.usb_device.specs.declared.answer.Answer.{Answer}
+use Rattle.usb_device.specs.declared.delivery.Heard.{Heard as HeardBelow}
+use Rattle.usb_device.specs.declared.delivery.Sent.{Sent}
+use Rattle.usb_device.specs.Tree.{Ports, ended, vacant, taken, row_of}
+use Rattle.usb_device.specs.Delivery.{answers, all_forgotten, heard_of, delivered, figure}
+use Rattle.usb_device.proofs.Figures.{figure-after}
+use Rattle.usb_device.proofs.Rows.{row_of-after, row_of-forgotten}
+use Rattle.usb_world.specs.declared.damage.Damage.{Damage}
+use Rattle.usb_world.specs.declared.exchange.Exchange.{Exchange}
+use Rattle.usb_world.specs.declared.exchange.Heard.{Heard}
+use Rattle.usb_world.specs.declared.types.Attempt.{Attempt}
+use Rattle.usb_world.specs.Wire.{harm_to, marked, marked_some}
+use Rattle.usb_world.specs.Answering.{joined, heard_from, heard_told}
+use Rattle.usb_world.specs.Passes.{IsSettled, passed, told}
+use Rattle.usb_world.proofs.PassLaws.{attempt_settled}
+use Rattle.usb_world.specs.Exchange.{token_of, payload_of, answer_place, answer_mark, reply_of, goes_out, heard_all, token_out, payload_out, heard_in, mark_in, reply_in, answered_in, is_lost, lost_in, clears_at, cleared_in, exchange_in, ended_in, ports_in}
+
+heard_all_of : (xs : List Answer) → heard_from (heard_of xs) ≡ heard_all xs
+heard_all_of [] = refl
+heard_all_of (x ∷ []) = refl
+heard_all_of (x ∷ y ∷ more) = refl
+
+pub delivered_heard : (q : Sent) (k m : Ports) (h : HeardBelow) (r : Heard) → (h, m) ≡ delivered q false k → r ≡ heard_from h → r ≡ heard_told (Some q) k
+delivered_heard q k m h r e is = is ∙ ap (λ x. heard_from x.0) e ∙ heard_all_of (answers q false k)
+
+pub delivered_ports : (q : Sent) (k m : Ports) (h : HeardBelow) → (h, m) ≡ delivered q false k → m ≡ passed (Some q) k
+delivered_ports q k m h e = ap (λ x. x.1) e
+
+pub delivered_row : (q : Sent) (k m : Ports) (h : HeardBelow) → (h, m) ≡ delivered q false k → row_of m ≡ row_of k
+delivered_row q k m h e = ap (λ x. row_of x.1) e ∙ row_of-after q false k
+
+-- the answers of two passes
+joined_all : (xs ys : List Answer) → joined (heard_all xs) (heard_all ys) ≡ heard_all (xs ++ ys)
+joined_all [] ys = refl
+joined_all (x ∷ []) [] = refl
+joined_all (x ∷ []) (y ∷ []) = refl
+joined_all (x ∷ []) (y ∷ z ∷ ys) = refl
+joined_all (x ∷ w ∷ xs) ys = refl
+
+pub over_row : (k m : Ports) → m ≡ all_forgotten k → row_of m ≡ row_of k
+over_row k m e = ap row_of e ∙ row_of-forgotten k
+
+figure-forgotten : (k : Ports) → figure (all_forgotten k) ≡ figure k
+unfolding figure all_forgotten
+figure-forgotten ended = refl
+figure-forgotten (vacant b k) = ap (λ f. Some None ∷ f) (figure-forgotten k)
+figure-forgotten (taken b s a k) = ap₂ (λ f g. Some (Some s.spec) ∷ (f ++ g)) (figure-forgotten a) (figure-forgotten k)
+
+pub over_figure : (k m : Ports) → m ≡ all_forgotten k → figure m ≡ figure k
+over_figure k m e = ap figure e ∙ figure-forgotten k
+
+pub delivered_figure : (q : Sent) (k m : Ports) (h : HeardBelow) → (h, m) ≡ delivered q false k → figure m ≡ figure k
+delivered_figure q k m h e = ap (λ x. figure x.1) e ∙ figure-after q false k
+
+pub over_settled : (k m : Ports) → m ≡ all_forgotten k → IsSettled m
+over_settled k m e = subst IsSettled (sym e) (attempt_settled None None None k)
+
+pub over_ports : {A E : Type 0} (a : Attempt) (d : Option Damage) (k j m : Ports) (r : Result A E) → m ≡ all_forgotten j → OnOk r (j ≡ ended_in a d k) → OnOk r (m ≡ ports_in a d k)
+unfolding ports_in
+over_ports a d k j m (Ok x) e h = e ∙ ap all_forgotten h
+over_ports a d k j m (Err x) e h = h
+
+-- what the code makes, one packet after the other
+pub record Makes (a : Attempt) (damage : Option Damage) (k : Ports) (x : Exchange) : Type 0 where
+  pub first : Ports
+  pub second : Ports
+  pub third : Ports
+  pub to_token : Heard
+  pub to_payload : Heard
+  pub token : x.token ≡ marked damage 1 a.pre (token_of a)
+  pub token_heard : to_token ≡ heard_told (goes_out a (Some x.token)) k
+  pub token_passed : first ≡ passed (goes_out a (Some x.token)) k
+  pub payload : x.payload ≡ marked_some damage 2 a.pre (payload_of a)
+  pub cleared : x.change_cleared ≡ clears_at (goes_out a x.payload) first
+  pub payload_heard : to_payload ≡ heard_told (goes_out a x.payload) first
+  pub payload_passed : second ≡ passed (goes_out a x.payload) first
+  pub answer : x.answer ≡ joined to_token to_payload
+  pub answer_mark : x.answer_mark ≡ answer_mark (harm_to damage (answer_place x.payload)) x.answer
+  pub reply : x.reply ≡ marked_some damage (answer_place x.payload + 1) a.pre (reply_of x.answer x.answer_mark a.max)
+  pub lost : x.address_lost ≡ is_lost x.reply (goes_out a x.reply) second
+  pub reply_passed : third ≡ passed (goes_out a x.reply) second
+
+module _ (a : Attempt) (damage : Option Damage) (k : Ports) (x : Exchange) (m : Makes a damage k x) where
+  first_is : m.first ≡ passed (token_out a damage) k
+  first_is = m.token_passed ∙ ap (λ t. passed (goes_out a (Some t)) k) m.token
+
+  second_is : m.second ≡ answered_in a damage k
+  second_is = m.payload_passed ∙ ap₂ (λ p r. passed (goes_out a p) r) m.payload first_is
+
+  answer_is : x.answer ≡ heard_in a damage k
+  answer_is =
+      m.answer
+      ∙ ap₂ joined (m.token_heard ∙ ap (λ t. heard_told (goes_out a (Some t)) k) m.token) (m.payload_heard ∙ ap₂ (λ p r. heard_told (goes_out a p) r) m.payload first_is)
+      ∙ joined_all (told (token_out a damage) k) (told (payload_out a damage) (passed (token_out a damage) k))
+
+  mark_is : x.answer_mark ≡ mark_in a damage k
+  mark_is = m.answer_mark ∙ ap₂ (λ p h. answer_mark (harm_to damage (answer_place p)) h) m.payload answer_is
+
+  reply_is : x.reply ≡ reply_in a damage k
+  reply_is =
+      m.reply ∙ ap₂ (λ p o. marked_some damage (answer_place p + 1) a.pre o) m.payload (ap₂ (λ h mark. reply_of h mark a.max) answer_is mark_is)
+
+  lost_is : x.address_lost ≡ lost_in a damage k
+  unfolding lost_in
+  lost_is = m.lost ∙ ap₂ (λ r j. is_lost r (goes_out a r) j) reply_is second_is
+
+  cleared_is : x.change_cleared ≡ cleared_in a damage k
+  cleared_is = m.cleared ∙ ap₂ (λ p j. clears_at (goes_out a p) j) m.payload first_is
+
+  pub made_exchange : x ≡ exchange_in a damage k
+  unfolding exchange_in
+  made_exchange = λ i. record {
+    token = m.token i;
+    payload = m.payload i;
+    answer = answer_is i;
+    answer_mark = mark_is i;
+    reply = reply_is i;
+    address_lost = lost_is i;
+    change_cleared = cleared_is i;
+  }
+
+  pub made_ports : m.third ≡ ended_in a damage k
+  made_ports = m.reply_passed ∙ ap₂ (λ r j. passed (goes_out a r) j) reply_is second_is

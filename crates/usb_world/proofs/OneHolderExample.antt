@@ -1,0 +1,61 @@
+-- A function behind an enabled root port, at address 0, as the one holder: SET_ADDRESS is answered, and awaits its status stage.
+use Rattle.std.proofs.Common.{◌≡◌, ℕ, Bool, true, false, List, [], ◌∷◌, Option, None, Some, ◌==◌, refl, ap}
+use Rattle.usb_packet.specs.declared.TokenKind.TheVariants.{SetupTok}
+use Rattle.usb_packet.specs.declared.Toggle.TheVariants.{Zero}
+use Rattle.usb_port.specs.PortState.{PortState}
+use Rattle.usb_device.specs.declared.answer.Answer.TheVariants as answer
+use Rattle.usb_device.specs.Spec.{Spec, function}
+use Rattle.usb_device.specs.Tree.{Ports, ended, taken, reach_at, state_at, place_at, row_of}
+use Rattle.usb_device.specs.Rows.{State, fresh, accepted}
+use Rattle.usb_device.specs.Delivery.{held, is_twice, all_forgotten}
+use Rattle.usb_request.specs.Layout.{setup_of}
+use Rattle.usb_world.specs.declared.types.Attempt.{Attempt}
+use Rattle.usb_world.specs.declared.types.Outcome.TheVariants as outcome
+use Rattle.usb_world.specs.Wire.{damage_of}
+use Rattle.usb_world.specs.Losses.{no_losses}
+use Rattle.usb_world.specs.World.{World}
+use Rattle.usb_world.specs.Steps.{due_from, ready, with_attempt, outcome_in, attempt, after}
+use Rattle.usb_world.specs.OneHolder.{IsMade, HolderIn, ExchangedIn, IsSetup}
+use Rattle.usb_world.proofs.Booleans.{no}
+use Rattle.usb_world.proofs.OneHolderMore.{setup_sound_in}
+
+abbrev thing : Spec
+thing = function (0x66 ∷ 0x6e ∷ []) (0x12 ∷ 1 ∷ 0 ∷ 2 ∷ 0 ∷ 0 ∷ 0 ∷ 0x40 ∷ 0x34 ∷ 0x12 ∷ 0x78 ∷ 0x56 ∷ 0 ∷ 1 ∷ 0 ∷ 0 ∷ 0 ∷ 1 ∷ []) ([])
+
+abbrev port : PortState
+port = record { attached = Rattle.usb_port.specs.PortState.full; power = true; enable = true; connection_changed = false; enable_changed = false; reset_changed = false }
+
+abbrev here : World
+here = record {
+  roots = taken port (fresh thing) ended ended;
+  devices = [];
+  left = [];
+  taken = 0;
+  attempts = 0;
+  attempts_then = 0;
+  limit = 10;
+  damages = [];
+  losses = no_losses;
+  shared = false;
+  fault = None;
+}
+
+abbrev bytes : List ℕ
+bytes = 0 ∷ 5 ∷ 1 ∷ 0 ∷ 0 ∷ 0 ∷ 0 ∷ 0 ∷ []
+
+abbrev asks : Attempt
+asks = record { kind = SetupTok; addr = 0; ep = 0; low = false; pre = false; max = 64; payload = Some (Zero, record { items = bytes }) }
+
+fresh_count : here.attempts ≡ here.limit → ⊥
+fresh_count e = no (ap (λ n. n == 10) e)
+
+holder : HolderIn asks here 0 [] port (fresh thing) ended
+unfolding after with_attempt ready due_from reach_at place_at held is_twice all_forgotten fresh
+holder = record { made = record { sound = refl; within = fresh_count; settled = refl }; on = refl; stands = refl; at = refl; single = refl }
+
+pub answered : ExchangedIn asks here 0 [] (Some answer.Ack, accepted (fresh thing) [] (setup_of bytes))
+unfolding damage_of row_of fresh
+answered = setup_sound_in asks here 0 [] port (fresh thing) ended holder refl refl refl bytes (record { kind = refl; ep = refl; payload = refl; whole = refl })
+
+example : outcome_in asks here ≡ outcome.Ack
+example = answered.outcome

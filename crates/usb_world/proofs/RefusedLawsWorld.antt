@@ -1,0 +1,89 @@
+-- What an attempt that was refused memory leaves of the world.
+use Rattle.std.proofs.Common.{◌≡◌, ℕ, zero, suc, true, List, [], ◌∷◌, Option, None, Some, option_map, refl, sym, subst, ap, ◌∙◌}
+use Rattle.usb_device.specs.Rows.{State}
+use Rattle.usb_device.specs.Tree.{Ports, reach, state_at}
+use Rattle.usb_world.specs.declared.event.Event.{Event}
+use Rattle.usb_world.specs.declared.types.Attempt.{Attempt}
+use Rattle.usb_world.specs.declared.types.BusFault.TheVariants.{Memory}
+use Rattle.usb_world.specs.Live.{address_of}
+use Rattle.usb_world.specs.Passes.{IsSettled}
+use Rattle.usb_world.specs.Sane.{IsSane}
+use Rattle.usb_world.specs.World.{World, IsAttempt}
+use Rattle.usb_world.specs.Courses.{address_at, Own}
+use Rattle.usb_world.specs.Steps.{took, took_first, event_taken, event, after, ready, damage_in, Coming, nothing_yet, next_came, Left, at_event, at_packet, at_line, GaveUp, IsBetween, IsCut}
+use Rattle.usb_world.specs.Refused.{self_of}
+use Rattle.usb_world.proofs.Between.{between_ready, between_after}
+use Rattle.usb_world.proofs.OwnLaws.{due_state, step_own}
+use Rattle.usb_world.proofs.OneHolderMore.{ready_settled}
+use Rattle.usb_world.proofs.WorldLaws.{due_reach}
+use Rattle.usb_world.proofs.RefusedLaws.{Alike}
+use Rattle.usb_world.proofs.RefusedLawsCut.{cut_alike}
+
+-- Events that came
+
+first_fault : (events : List Event) (w : World) → (took_first events w).fault ≡ w.fault
+unfolding took
+first_fault [] w = refl
+first_fault (e ∷ events) w = refl
+
+pub came_fault : {w v : World} → Coming w v → v.fault ≡ w.fault
+came_fault (nothing_yet w) = refl
+came_fault (next_came {w} {v} c due) = first_fault v.left v ∙ came_fault c
+
+event_is : (w : World) → w.fault ≡ None → after event w ≡ took_first w.left w
+unfolding after
+event_is w h = ap (λ x. event_taken x w) h
+
+-- what each event keeps stays while they come
+pub came_keeps : (P : World → Type 0) → ((w : World) → P w → P (after event w)) → {w v : World} → Coming w v → w.fault ≡ None → P w → P v
+came_keeps P step (nothing_yet w) sound h = h
+came_keeps P step (next_came {w} {v} c due) sound h =
+    subst P (event_is v (came_fault c ∙ sound)) (step v (came_keeps P step c sound h))
+
+-- Trees that are alike
+
+address_of_self : (o : Option State) → option_map (λ x. x.1.address) (option_map self_of o) ≡ option_map address_of o
+address_of_self None = refl
+address_of_self (Some s) = refl
+
+alike_address : (k m : Ports) → Alike k m → (p : List ℕ) → address_at m p ≡ address_at k p
+alike_address k m h [] = refl
+alike_address k m h (zero ∷ p) = refl
+alike_address k m h (suc i ∷ p) =
+    sym (address_of_self (state_at m i p)) ∙ ap (option_map (λ x. x.1.address)) (h.selves i p) ∙ address_of_self (state_at k i p)
+
+alike_reach : (k m : Ports) → Alike k m → (p : List ℕ) → reach m p ≡ reach k p
+alike_reach k m h [] = refl
+alike_reach k m h (zero ∷ p) = refl
+alike_reach k m h (suc i ∷ p) = h.reach i p
+
+alike_own : (f : List ℕ → Option ℕ) (k m : Ports) → Alike k m → ((p : List ℕ) → reach k p ≡ true → address_at k p ≡ f p)
+    → (p : List ℕ) → reach m p ≡ true → address_at m p ≡ f p
+alike_own f k m h own p on = alike_address k m h p ∙ own p (sym (alike_reach k m h p) ∙ on)
+
+ready_own : (f : List ℕ → Option ℕ) (w : World) → Own f w → Own f (ready w)
+unfolding ready
+ready_own f w own p h = ap (option_map address_of) (due_state w.left w p h) ∙ own p (due_reach w.left w p refl h).0
+
+-- The attempt
+
+module _ (a : Attempt) (w : World) (is : IsAttempt a) (sound : w.fault ≡ None) (settled : IsSettled w.roots) where
+  packet_alike : (k : Ports) → IsCut a (damage_in (ready w)) (ready w).roots k → Alike (ready w).roots k
+  packet_alike k c = cut_alike a (damage_in (ready w)) (ready w).roots k is (ready_settled w settled) c
+
+  left_own : (f : List ℕ → Option ℕ) (v : World) → Left a w Memory v → Own f w → Own f v
+  left_own f v (at_event c) own = came_keeps (Own f) (λ x h. step_own f event x refl h) c sound own
+  left_own f v (at_packet k e c made) own = subst (Own f) (sym made) (alike_own f (ready w).roots k (packet_alike k c) (ready_own f w own))
+  left_own f v (at_line e made) own = cc
+
+  left_sane : (v : World) → Left a w Memory v → IsSane w.roots → IsSane v.roots
+  left_sane v (at_event c) h = (came_keeps IsBetween (λ x g. between_after event x g) c sound (record { settled = settled; sane = h })).sane
+  left_sane v (at_packet k e c made) h =
+      subst (λ x. IsSane x.roots) (sym made) ((packet_alike k c).sane (between_ready w (record { settled = settled; sane = h })).sane)
+  left_sane v (at_line e made) h = cc
+
+pub refused_own : (a : Attempt) (w v : World) → IsAttempt a → w.fault ≡ None → IsSettled w.roots → GaveUp a w Memory v → (f : List ℕ → Option ℕ) → Own f w → Own f v
+refused_own a w v is sound settled g f own = subst (Own f) (sym g.told) (left_own a w is sound settled f g.left g.so_far own)
+
+pub refused_sane : (a : Attempt) (w v : World) → IsAttempt a → w.fault ≡ None → IsSettled w.roots → GaveUp a w Memory v → IsSane w.roots → IsSane v.roots
+refused_sane a w v is sound settled g h = subst (λ x. IsSane x.roots) (sym g.told) (left_sane a w is sound settled g.left g.so_far h)

@@ -1,0 +1,129 @@
+-- What steps do on the way to a path, and which device stands there after them.
+use Rattle.std.specs.Prelude.{◌≡◌, ◌⊎◌, ℕ, zero, suc, ◌==◌, ◌&&◌, not, Bool, true, false, List, [], ◌∷◌, ◌++◌, Option, None, Some, option_map, ⊤}
+use Rattle.usb_device.specs.declared.calls.PortCall.{PortCall}
+use Rattle.arrayvec.specs.ArrayVec.{ArrayVec}
+use Rattle.usb_packet.specs.declared.Toggle.{Toggle}
+use Rattle.usb_packet.specs.declared.TokenKind.{TokenKind}
+use Rattle.usb_packet.specs.declared.TokenKind.TheVariants.{OutTok, InTok, SetupTok}
+use Rattle.usb_packet.specs.declared.Packet.TheVariants.{Payload}
+use Rattle.usb_device.specs.declared.delivery.Content.{Content}
+use Rattle.usb_device.specs.declared.delivery.Content.TheVariants.{Whole, Broken}
+use Rattle.usb_device.specs.Calls.{is_reset}
+use Rattle.usb_request.specs.Layout.{setup_of}
+use Rattle.usb_request.specs.declared.setup.Setup.{Setup}
+use Rattle.usb_device.specs.Request.{Is}
+use Rattle.usb_device.specs.Spec.{Spec}
+use Rattle.usb_device.specs.Tree.{Ports, reach, place}
+use Rattle.usb_world.specs.declared.event.Event.{Event}
+use Rattle.usb_world.specs.declared.types.Attempt.{Attempt}
+use Rattle.usb_world.specs.declared.types.BusFault.{BusFault}
+use Rattle.usb_device.specs.View.{state_there}
+use Rattle.usb_world.specs.Live.{live, pend, address_of, same_path}
+use Rattle.usb_world.specs.Touched.{IsNew, call_resets, call_spares}
+use Rattle.usb_world.specs.Passes.{attempt_resets, attempt_spares}
+use Rattle.usb_world.specs.World.{World}
+use Rattle.usb_world.specs.Exchange.{token_out, payload_out}
+use Rattle.usb_world.specs.Steps.{names, ready, damage_in, Step, attempt, root_call, event, report}
+
+-- no event of these is at the path or at a port on its way
+abbrev pub NoneNames : List Spec → List Event → List ℕ → Type 0
+NoneNames devices [] p = ⊤
+NoneNames devices (e ∷ events) p = (names devices e.action p ≡ false) × NoneNames devices events p
+
+-- no event between two worlds was at the path or on its way: the same device, or none, stood there throughout
+pub record Undisturbed (w v : World) (p : List ℕ) : Type 0 where
+  pub events : List Event
+  pub split : w.left ≡ events ++ v.left
+  pub silent : NoneNames w.devices events p
+  pub devices : v.devices ≡ w.devices
+
+abbrev pub at_path : (ℕ → List ℕ → Bool) → Bool → List ℕ → Bool
+at_path f none [] = none
+at_path f none (zero ∷ p) = none
+at_path f none (suc j ∷ p) = f j p
+
+-- whether an attempt is made, and not refused
+abbrev pub is_made : Option BusFault → World → Bool
+is_made (Some f) w = false
+is_made None w = not (w.attempts == w.limit)
+
+abbrev pub made_resets : Attempt → World → List ℕ → Bool
+made_resets a w p = at_path (attempt_resets (token_out a (damage_in w)) (payload_out a (damage_in w)) w.roots) false p
+
+abbrev pub made_spares : Attempt → World → List ℕ → Bool
+made_spares a w p = at_path (attempt_spares (token_out a (damage_in w)) (payload_out a (damage_in w)) w.roots) true p
+
+abbrev pub root_resets : PortCall → ℕ → Ports → List ℕ → Bool
+root_resets c zero k p = false
+root_resets c (suc i) k p = at_path (call_resets c k i) false p
+
+abbrev pub root_spares : PortCall → ℕ → List ℕ → Bool
+root_spares c zero p = true
+root_spares c (suc i) p = at_path (call_spares c i) true p
+
+-- whether a step resets the device at just this path
+unfoldable pub resets : Step → World → List ℕ → Bool
+resets (attempt a) w p = is_made w.fault w && made_resets a (ready w) p
+resets (root_call c n) w p = root_resets c n w.roots p
+resets event w p = false
+resets (report line) w p = false
+
+-- whether a step leaves pending what is pending there: it clears no change of connection there or on the way, and
+-- neither resets a device on the way nor takes its power or configuration
+unfoldable pub spares_step : Step → World → List ℕ → Bool
+spares_step (attempt a) w p = made_spares a (ready w) p
+spares_step (root_call c n) w p = root_spares c n p
+spares_step event w p = true
+spares_step (report line) w p = true
+
+-- reachable before and not disturbed since, or just reset
+abbrev pub Reached : World → World → List ℕ → Bool → Type 0
+Reached w v p was_reset = ((was_reset ≡ false) × (reach w.roots p ≡ true) × Undisturbed w v p) ⊎ ((was_reset ≡ true) × IsNew (place v.roots p))
+
+-- powered on its whole way and not disturbed, or pending
+abbrev pub Keeps : World → World → List ℕ → Type 0
+Keeps w v p = ((live v.roots p ≡ true) × Undisturbed w v p) ⊎ (pend v.roots p ≡ true)
+
+abbrev pub NoReset : List ℕ → Step → World → Type 0
+NoReset p s w = resets s w p ≡ false
+
+abbrev pub Spares : List ℕ → Step → World → Type 0
+Spares p s w = spares_step s w p ≡ true
+
+-- a request that is not PORT_RESET of a port
+abbrev pub is_harmless : Setup → Bool
+is_harmless r = not (Is r 0x23 3 && r.value == 4)
+
+-- data that are no such request
+abbrev pub IsHarmlessOut : Content → Type 0
+IsHarmlessOut (Whole (Payload t bytes)) = is_harmless (setup_of bytes.items) ≡ true
+IsHarmlessOut Broken = ⊤
+IsHarmlessOut (Whole p) = ⊥
+
+-- the address of a device, where one stands there
+abbrev pub address_at : Ports → List ℕ → Option ℕ
+address_at k p = option_map address_of (state_there k p)
+
+-- each reachable device holds the address that a map gives its path
+abbrev pub Own : (List ℕ → Option ℕ) → World → Type 0
+Own f w = (p : List ℕ) → reach w.roots p ≡ true → address_at w.roots p ≡ f p
+
+-- no two paths have one address
+abbrev pub Injective : (List ℕ → Option ℕ) → Type 0
+Injective f = (p q : List ℕ) (a : ℕ) → f p ≡ Some a → f q ≡ Some a → same_path p q ≡ true
+
+-- steps that reset no device and give none an address: events, reports, root calls but PORT_RESET, and setup data whose
+-- request is not PORT_RESET
+abbrev pub quiet_data : TokenKind → Option (Toggle × ArrayVec ℕ) → Bool
+quiet_data SetupTok None = true
+quiet_data SetupTok (Some x) = is_harmless (setup_of x.1.items)
+quiet_data OutTok o = false
+quiet_data InTok o = false
+
+abbrev pub is_quiet : Step → Bool
+is_quiet (attempt a) = quiet_data a.kind a.payload
+is_quiet (root_call c n) = not (is_reset c)
+is_quiet s = true
+
+abbrev pub Quiet : Step → World → Type 0
+Quiet s w = is_quiet s ≡ true

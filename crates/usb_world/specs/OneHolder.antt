@@ -1,0 +1,152 @@
+-- One reachable device holds the address of an attempt: the attempt is an exchange with that device alone.
+use Rattle.std.specs.Prelude.{◌≡◌, ℕ, nat_le, ◌&&◌, ◌||◌, not, if◌then◌else◌, Bool, true, false, List, length, Option, None, Some, is_some}
+use Rattle.usb_packet.specs.declared.Toggle.{Toggle}
+use Rattle.usb_packet.specs.declared.Toggle.TheVariants.{Zero}
+use Rattle.usb_packet.specs.declared.TokenKind.TheVariants.{OutTok, InTok, SetupTok}
+use Rattle.usb_port.specs.PortState.{PortState}
+use Rattle.usb_device.specs.declared.answer.Answer.{Answer}
+use Rattle.usb_device.specs.declared.answer.Answer.TheVariants as answer
+use Rattle.usb_device.specs.declared.delivery.Content.{Content}
+use Rattle.usb_device.specs.declared.delivery.Content.TheVariants as content
+use Rattle.usb_device.specs.declared.delivery.Sent.{Sent}
+use Rattle.usb_request.specs.Layout.{setup_of}
+use Rattle.usb_device.specs.declared.effect.Effect.{Effect}
+use Rattle.usb_device.specs.declared.effect.Effect.TheVariants.{Leaves}
+use Rattle.usb_device.specs.Effect.{asked_by_setup}
+use Rattle.usb_device.specs.Rows.{State, Reply}
+use Rattle.usb_device.specs.Attempt.{Way, whole, broken, lost, is_whole, setup_law, out_law, in_law}
+use Rattle.usb_device.specs.Tree.{Ports, full, reach_at, state_at, place_at}
+use Rattle.usb_device.specs.Delivery.{hears}
+use Rattle.usb_world.specs.declared.types.Attempt.{Attempt}
+use Rattle.usb_world.specs.declared.types.Outcome.{Outcome}
+use Rattle.usb_world.specs.declared.types.Outcome.TheVariants as outcome
+use Rattle.usb_world.specs.declared.damage.Damage.{Damage}
+use Rattle.usb_world.specs.declared.wire.Mark.{Mark}
+use Rattle.usb_world.specs.declared.wire.Mark.TheVariants as mark
+use Rattle.usb_world.specs.Live.{address_of}
+use Rattle.usb_world.specs.Exchange.{token_out, payload_out, reply_in, reply_out, heard_in, mark_in, outcome_of, ports_in}
+use Rattle.usb_world.specs.Passes.{IsSettled, OneHolds}
+use Rattle.usb_world.specs.World.{World}
+use Rattle.usb_world.specs.Steps.{outcome_in, ready, attempt, after}
+
+-- how a packet of the host comes to a device: not at all where it does not go out, or the device does not hear it
+abbrev pub content_way : Content → Way
+content_way (content.Whole p) = whole
+content_way content.Broken = broken
+
+abbrev pub way_to : Bool → State → Option Sent → Way
+way_to deep s None = lost
+way_to deep s (Some q) = if hears q deep s then content_way q.content else lost
+
+-- how the answer comes to the host
+abbrev pub way_back : Mark → Way
+way_back mark.Whole = whole
+way_back mark.Lost = lost
+way_back mark.PreLost = whole
+way_back (mark.Flipped bit) = broken
+
+-- what the host gets of what it hears: data that are too long are nothing
+abbrev pub got : ℕ → Option Answer → Outcome
+got max None = outcome.Nothing
+got max (Some answer.Ack) = outcome.Ack
+got max (Some answer.Nak) = outcome.Nak
+got max (Some answer.Stall) = outcome.Stall
+got max (Some (answer.Data toggle bytes)) = if nat_le (length bytes.items) max then outcome.Payload toggle bytes else outcome.Nothing
+
+-- the ways of the four packets of an attempt: token, the host's data, answer and the host's ACK
+abbrev pub token_way : Attempt → Option Damage → Bool → State → Way
+token_way a damage deep s = way_to deep s (token_out a damage)
+
+abbrev pub payload_way : Attempt → Option Damage → Bool → State → Way
+payload_way a damage deep s = way_to deep s (payload_out a damage)
+
+abbrev pub answer_way : Attempt → Option Damage → Ports → Way
+answer_way a damage k = way_back (mark_in a damage k)
+
+abbrev pub reply_way : Attempt → Option Damage → Ports → Bool → State → Way
+reply_way a damage k deep s = way_to deep s (reply_out a damage k)
+
+-- what a device that stands deep or not, with these ports, makes of an attempt with it alone
+abbrev pub setup_alone : Attempt → Option Damage → Ports → Bool → State → List PortState → List ℕ → Reply
+setup_alone a damage k deep s row bytes = setup_law s row bytes (token_way a damage deep s) (payload_way a damage deep s) (answer_way a damage k)
+
+abbrev pub out_alone : Attempt → Option Damage → Ports → Bool → State → Toggle → List ℕ → Reply
+out_alone a damage k deep s toggle bytes = out_law s a.ep toggle bytes (token_way a damage deep s) (payload_way a damage deep s) (answer_way a damage k)
+
+abbrev pub in_alone : Attempt → Option Damage → Ports → Bool → State → List PortState → Reply
+in_alone a damage k deep s row = in_law s row a.ep a.max (token_way a damage deep s) (answer_way a damage k) (reply_way a damage k deep s)
+
+-- the three kinds of attempt
+pub record IsSetup (a : Attempt) (bytes : List ℕ) : Type 0 where
+  pub kind : a.kind ≡ SetupTok
+  pub ep : a.ep ≡ 0
+  pub payload : a.payload ≡ Some (Zero, record { items = bytes })
+  pub whole : length bytes ≡ 8
+
+pub record IsOut (a : Attempt) (toggle : Toggle) (bytes : List ℕ) : Type 0 where
+  pub kind : a.kind ≡ OutTok
+  pub payload : a.payload ≡ Some (toggle, record { items = bytes })
+
+pub record IsIn (a : Attempt) : Type 0 where
+  pub kind : a.kind ≡ InTok
+  pub payload : a.payload ≡ None
+
+-- between attempts one reachable device holds the address, and this is the device
+pub record Holder (n : ℕ) (k : Ports) (j : ℕ) (p : List ℕ) (b : PortState) (s : State) (below : Ports) : Type 0 where
+  pub settled : IsSettled k
+  pub one : OneHolds n k j p
+  pub stands : place_at k j p ≡ Some (full b s below)
+
+-- the host gets what the device answers, and the device is what it is then
+pub record Exchanged (a : Attempt) (damage : Option Damage) (k : Ports) (j : ℕ) (p : List ℕ) (r : Reply) : Type 0 where
+  pub outcome : outcome_of (heard_in a damage k) (mark_in a damage k) a.max ≡ got a.max r.0
+  pub state : state_at (ports_in a damage k) j p ≡ Some r.1
+
+-- a device hears the packets of an attempt: they are at its speed, and at low speed with PRE where it stands deep
+abbrev pub hears_attempt : Attempt → Bool → State → Bool
+hears_attempt a deep s = if a.low then s.spec.low && (not deep || a.pre) else not s.spec.low
+
+-- each packet of an attempt that goes out comes whole
+pub record AllWhole (a : Attempt) (damage : Option Damage) (k : Ports) (deep : Bool) (s : State) : Type 0 where
+  pub token : token_way a damage deep s ≡ whole
+  pub payload : is_some a.payload ≡ true → payload_way a damage deep s ≡ whole
+  pub answer : answer_way a damage k ≡ whole
+  pub reply : is_some (reply_in a damage k) ≡ true → reply_way a damage k deep s ≡ whole
+
+-- Worlds
+
+-- an attempt is made, by devices that remember nothing
+pub record IsMade (a : Attempt) (w : World) : Type 0 where
+  pub sound : w.fault ≡ None
+  pub within : w.attempts ≡ w.limit → ⊥
+  pub settled : IsSettled w.roots
+
+-- the device that holds its address when it is made; and no address is held twice
+pub record HolderIn (a : Attempt) (w : World) (j : ℕ) (p : List ℕ) (b : PortState) (s : State) (below : Ports) : Type 0 where
+  pub made : IsMade a w
+  pub on : reach_at (ready w).roots j p ≡ true
+  pub stands : place_at (ready w).roots j p ≡ Some (full b s below)
+  pub at : address_of s ≡ a.addr
+  pub single : (after (attempt a) w).shared ≡ false
+
+pub record ExchangedIn (a : Attempt) (w : World) (j : ℕ) (p : List ℕ) (r : Reply) : Type 0 where
+  pub outcome : outcome_in a w ≡ got a.max r.0
+  pub state : state_at (after (attempt a) w).roots j p ≡ Some r.1
+
+-- one device that holds its address
+pub record SomeHolder (a : Attempt) (w : World) : Type 0 where
+  pub j : ℕ
+  pub p : List ℕ
+  pub b : PortState
+  pub s : State
+  pub below : Ports
+  pub holder : HolderIn a w j p b s below
+
+-- one that is not silent
+pub record Answerer (a : Attempt) (w : World) : Type 0 where
+  pub held : SomeHolder a w
+  pub loud : held.s.spec.silent ≡ false
+
+-- what SETUP makes the device ask of its ports: what the setup data say, where they are accepted
+abbrev pub setup_asked : Attempt → Option Damage → Bool → State → List ℕ → Effect
+setup_asked a damage deep s bytes = if is_whole (token_way a damage deep s) && is_whole (payload_way a damage deep s) then asked_by_setup s (setup_of bytes) else Leaves

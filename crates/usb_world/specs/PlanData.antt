@@ -1,0 +1,76 @@
+-- A plan as contracts see it, and the rules that it keeps.
+use Rattle.std.specs.Prelude.{◌≡◌, ◌≤◌, ℕ, List, [], ◌∷◌, length, Bool, true, ◌&&◌, not, ◌==◌, nat_le, nat_lt, slice_index, is_some}
+use Rattle.usb_device.specs.Spec.{Spec}
+use Rattle.usb_world.specs.declared.event.Event.{Event}
+use Rattle.usb_world.specs.declared.event.Action.{Action}
+use Rattle.usb_world.specs.declared.event.Action.TheVariants.{Plug, Unplug, Show, Send, Receive, Clear}
+use Rattle.usb_world.specs.declared.damage.Damage.{Damage}
+use Rattle.usb_world.specs.declared.damage.Harm.{Harm}
+use Rattle.usb_world.specs.declared.damage.Harm.TheVariants.{Lose, LosePre, Flip}
+use Rattle.usb_world.specs.Plugged.{Plugged, device_at, plugged_after, is_rooted, has_port}
+
+-- the path of a root port
+abbrev pub is_root_path : ℕ → List ℕ → Bool
+is_root_path roots path = length path == 1 && nat_le (slice_index path 0) roots
+
+-- something is plugged at the path
+abbrev pub is_taken : Plugged → List ℕ → Bool
+is_taken tree path = is_some (device_at tree path)
+
+-- the action may come where so much is plugged
+abbrev pub action_fits : ℕ → List Spec → Plugged → Action → Bool
+action_fits roots devices tree (Plug path device) = has_port roots devices tree path && not (is_taken tree path) && nat_lt device (length devices)
+action_fits roots devices tree (Unplug path) = is_rooted roots path && is_taken tree path
+action_fits roots devices tree Show = true
+action_fits roots devices tree (Send path bytes) = is_rooted roots path
+action_fits roots devices tree (Receive path packets) = is_rooted roots path && nat_le packets 1000
+action_fits roots devices tree (Clear path) = is_rooted roots path
+
+abbrev pub event_fits : ℕ → List Spec → Plugged → Event → Bool
+event_fits roots devices tree e = nat_le e.after 1000000000 && action_fits roots devices tree e.action
+
+-- each event fits what is plugged before it
+abbrev pub events_fit : ℕ → List Spec → Plugged → List Event → Bool
+events_fit roots devices tree [] = true
+events_fit roots devices tree (e ∷ events) = event_fits roots devices tree e && events_fit roots devices (plugged_after e.action tree) events
+
+abbrev pub harm_fits : Harm → Bool
+harm_fits Lose = true
+harm_fits LosePre = true
+harm_fits (Flip bit) = nat_le bit 535
+
+-- the damage is to an attempt after that one
+abbrev pub damage_fits : ℕ → Damage → Bool
+damage_fits last d = nat_lt last d.attempt && nat_le 1 d.packet && nat_le d.packet 3 && harm_fits d.harm
+
+-- attempts rise strictly
+abbrev pub damages_fit : ℕ → List Damage → Bool
+damages_fit last [] = true
+damages_fit last (d ∷ damages) = damage_fits last d && damages_fit d.attempt damages
+
+pub record PlanData : Type 0 where
+  pub limit : ℕ
+  pub roots : ℕ
+  pub devices : List Spec
+  pub events : List Event
+  pub damages : List Damage
+
+-- the rules of a plan
+pub record IsPlan (p : PlanData) : Type 0 where
+  pub limit : p.limit ≤ 100000000000000
+  pub some_root : 1 ≤ p.roots
+  pub few_roots : p.roots ≤ 7
+  pub events : events_fit p.roots p.devices [] p.events ≡ true
+  pub damages : damages_fit 0 p.damages ≡ true
+
+-- the action plugs one of so many devices, where it plugs one
+abbrev pub can_be_done : ℕ → Action → Bool
+can_be_done devices (Plug path device) = nat_lt device devices
+can_be_done devices (Unplug path) = true
+can_be_done devices Show = true
+can_be_done devices (Send path bytes) = true
+can_be_done devices (Receive path packets) = true
+can_be_done devices (Clear path) = true
+
+abbrev pub can_come : ℕ → Event → Bool
+can_come devices e = can_be_done devices e.action

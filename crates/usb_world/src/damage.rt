@@ -1,0 +1,72 @@
+//! Damage to packets on their way.
+
+use std::alloc::{AllocError, Global};
+use std::marker::Model;
+
+/// What happens to a damaged packet.
+#[derive(Clone, Copy, Debug, PartialEq, Eq)]
+pub enum Harm {
+    /// The packet is lost.
+    Lose,
+    /// The PRE before the packet is lost (8.6.5), and the packet with it.
+    LosePre,
+    /// One bit of the packet is flipped, counted from 0, at most 535.
+    Flip(u16),
+}
+
+/// Damage to one packet of one attempt.
+#[derive(Clone, Copy, Debug, PartialEq, Eq)]
+pub struct Damage {
+    /// The attempt, counted from 1.
+    pub attempt: u64,
+    /// The packet of the attempt, 1 to 3.
+    pub packet: u8,
+    pub harm: Harm,
+}
+
+/// At most 10,000 damages in their order.
+#[derive(Debug, Drop)]
+pub struct Damages {
+    damages: Vec<Damage>,
+}
+
+impl Model for Damages {
+    ghost use Rattle.std.specs.Prelude.{List, ◌≤◌, length};
+    ghost use Rattle.usb_world.specs.declared.damage.Damage.{Damage};
+
+    ghost Value = { List Damage };
+
+    ghost view = { λ d. d.damages.items };
+
+    ghost invariant = { λ d. length d.damages.items ≤ 10000 };
+}
+
+impl Damages {
+    ghost use Rattle.std.specs.Prelude.{◌≡◌, ◌<◌, ◌≤◌, [], ◌∷◌, ◌++◌, length, OnOk, OnErr};
+
+    /// No damage.
+    pub fn new(alloc: Global) -> Self
+        ensures { result ≡ [] }
+    {
+        Damages {
+            damages: Vec::new(alloc),
+        }
+    }
+
+    /// The damages in their order.
+    pub fn as_slice(&self) -> &[Damage]
+        ensures value { result.now ≡ self.now }
+        ensures bound { length self.now ≤ 10000 }
+    {
+        self.damages.as_slice()
+    }
+
+    /// Adds a damage at the end. An error: memory is refused, and nothing changes.
+    pub fn push(&mut self, damage: Damage) -> Result<(), AllocError>
+        requires room { length self.old < 10000 }
+        ensures ok { OnOk result (self.new ≡ self.old ++ damage ∷ []) }
+        ensures err { OnErr result (self.new ≡ self.old) }
+    {
+        Ok(self.damages.push(damage)?)
+    }
+}

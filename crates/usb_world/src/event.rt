@@ -1,0 +1,219 @@
+//! The events of a plan.
+ghost use Rattle.std.specs.Prelude.{◌≡◌, IfOk};
+ghost use Rattle.usb_world.specs.PluggedAt.{PlugsAtPort};
+ghost use Rattle.usb_world.specs.Steps.{waits, due_of};
+
+use std::alloc::{AllocError, Global};
+use std::marker::Model;
+use usb_port::PortPath;
+
+/// Bytes that an event sends.
+#[derive(Debug, Drop)]
+pub struct SentBytes {
+    bytes: Vec<u8>,
+}
+
+impl Model for SentBytes {
+    ghost use Rattle.std.specs.Prelude.{List, ℕ};
+
+    ghost Value = { List ℕ };
+
+    ghost view = { λ b. b.bytes.items };
+}
+
+impl SentBytes {
+    /// The bytes themselves.
+    pub fn new(bytes: Vec<u8>) -> Self
+        ensures { result ≡ bytes.items }
+    {
+        SentBytes { bytes }
+    }
+
+    /// The bytes in their order.
+    pub fn as_slice(&self) -> &[u8]
+        ensures { result.now ≡ self.now }
+    {
+        self.bytes.as_slice()
+    }
+
+    /// The same bytes in memory of their own. An error: memory is refused.
+    pub fn try_clone(&self, alloc: Global) -> Result<Self, AllocError>
+        ensures { IfOk result (λ b. b ≡ self.now) }
+    {
+        Ok(SentBytes {
+            bytes: self.bytes.as_slice().to_vec(alloc)?,
+        })
+    }
+}
+
+/// What an event does.
+#[derive(Debug, Drop)]
+pub enum Action {
+    /// Plugs a device, by its index among the plan's devices, at a port.
+    Plug(PortPath, usize),
+    /// Unplugs the device at a port, and with it all that is plugged below it.
+    Unplug(PortPath),
+    /// Has the host list what it found.
+    Show,
+    /// Sends bytes to the bulk endpoint of the device at a port (5.8).
+    Send(PortPath, SentBytes),
+    /// Receives at most so many packets, 0 to 1,000, from the bulk endpoint of the device at a port (5.8).
+    Receive(PortPath, u16),
+    /// Clears the halts of the bulk endpoints of the device at a port (9.4.1).
+    Clear(PortPath),
+}
+
+/// What an event asks of the host.
+#[derive(Debug, Drop)]
+pub enum Due {
+    /// Nothing: a device was plugged or unplugged.
+    Changed,
+    /// To list what it found.
+    Show,
+    /// To send these bytes to the bulk endpoint of the device at a port (5.8).
+    Send(PortPath, SentBytes),
+    /// To receive at most so many packets, 0 to 1,000, from the bulk endpoint of the device at a port (5.8).
+    Receive(PortPath, u16),
+    /// To clear the halts of the bulk endpoints of the device at a port (9.4.1).
+    Clear(PortPath),
+}
+
+impl From<Action> for Due {
+    ghost from_gives = { λ action due. due ≡ due_of action };
+
+    #[tactic(auto, unfolding(crate::specs::Steps::due_of))]
+    fn from(action: Action) -> Due {
+        match action {
+            Action::Plug(_, _) => Due::Changed,
+            Action::Unplug(_) => Due::Changed,
+            Action::Show => Due::Show,
+            Action::Send(path, bytes) => Due::Send(path, bytes),
+            Action::Receive(path, packets) => Due::Receive(path, packets),
+            Action::Clear(path) => Due::Clear(path),
+        }
+    }
+}
+
+impl Action {
+    /// Whether it waits until the host has nothing left to do.
+    pub fn waits(&self) -> bool
+        ensures { result ≡ waits self.now }
+    {
+        match self {
+            Action::Plug(_, _) => false,
+            Action::Unplug(_) => false,
+            Action::Show => true,
+            Action::Send(_, _) => true,
+            Action::Receive(_, _) => true,
+            Action::Clear(_) => true,
+        }
+    }
+}
+
+/// What happens, and how many attempts after the former event, or after the start.
+#[derive(Debug, Drop)]
+pub struct Event {
+    /// In attempts.
+    pub after: u64,
+    pub action: Action,
+}
+
+/// At most 10,000 events in their order. Each plug is at the path of a port.
+#[derive(Debug, Drop)]
+pub struct Events {
+    events: Vec<Event>,
+}
+
+impl Model for Events {
+    ghost use Rattle.std.specs.Prelude.{List, ◌≤◌, length};
+    ghost use Rattle.usb_world.specs.declared.event.Event.{Event};
+    ghost use Rattle.usb_world.specs.PluggedAt.{AtPorts};
+
+    ghost Value = { List Event };
+
+    ghost view = { λ e. e.events.items };
+
+    ghost invariant = { λ e. (length e.events.items ≤ 10000) × AtPorts e.events.items };
+}
+
+impl Events {
+    ghost use Rattle.std.specs.Prelude.{◌≡◌, ◌<◌, ◌≤◌, [], ◌∷◌, ◌++◌, length, IfOk, OnOk, OnErr};
+    ghost use Rattle.usb_world.specs.PluggedAt.{AtPorts};
+
+    /// No events.
+    pub fn new(alloc: Global) -> Self
+        ensures { result ≡ [] }
+    {
+        Events {
+            events: Vec::new(alloc),
+        }
+    }
+
+    /// The events in their order.
+    pub fn as_slice(&self) -> &[Event]
+        ensures value { result.now ≡ self.now }
+        ensures bound { length self.now ≤ 10000 }
+        ensures paths { AtPorts self.now }
+    {
+        self.events.as_slice()
+    }
+
+    /// Adds an event at the end. An error: memory is refused, and nothing changes.
+    pub fn push(&mut self, event: Event) -> Result<(), AllocError>
+        requires room { length self.old < 10000 }
+        ensures ok { OnOk result (self.new ≡ self.old ++ event ∷ []) }
+        ensures err { OnErr result (self.new ≡ self.old) }
+    {
+        plugs_at_port(&event.action);
+        Ok(self.events.push(event)?)
+    }
+}
+
+/// Does nothing; what it ensures is for `push` to cite: a plug is at a port's path.
+fn plugs_at_port(action: &Action)
+    ensures { PlugsAtPort action.now }
+{
+    match action {
+        Action::Plug(path, _) => {
+            path.numbers();
+        }
+        Action::Unplug(_)
+        | Action::Show
+        | Action::Send(_, _)
+        | Action::Receive(_, _)
+        | Action::Clear(_) => {}
+    }
+}
+
+/// The same events in memory of their own. An error: memory is refused.
+pub fn event_copies(alloc: Global, events: &[Event]) -> Result<Vec<Event>, AllocError>
+    ensures { IfOk result (λ v. v.items ≡ events.now) }
+{
+    let mut all = Vec::new(alloc);
+    'events: for event in events {
+        all.push(copy_of(alloc, event)?)?;
+    }
+    Ok(all)
+}
+
+fn copy_of(alloc: Global, event: &Event) -> Result<Event, AllocError>
+    ensures { IfOk result (λ e. e ≡ event.now) }
+{
+    Ok(Event {
+        after: event.after,
+        action: action_copy(alloc, &event.action)?,
+    })
+}
+
+fn action_copy(alloc: Global, action: &Action) -> Result<Action, AllocError>
+    ensures { IfOk result (λ a. a ≡ action.now) }
+{
+    Ok(match action {
+        Action::Plug(path, device) => Action::Plug(path.duplicate(), *device),
+        Action::Unplug(path) => Action::Unplug(path.duplicate()),
+        Action::Show => Action::Show,
+        Action::Send(path, bytes) => Action::Send(path.duplicate(), bytes.try_clone(alloc)?),
+        Action::Receive(path, packets) => Action::Receive(path.duplicate(), *packets),
+        Action::Clear(path) => Action::Clear(path.duplicate()),
+    })
+}

@@ -1,0 +1,59 @@
+//! Address losses: how often a device did not see the host's ACK at which it was to take its address (9.4.6).
+ghost use Rattle.std.specs.Prelude.{◌≡◌, ◌<◌};
+ghost use Rattle.usb_world.specs.Losses.{no_losses, one_more, counted, after_clearing};
+
+/// Address losses in all, in this stretch, and in the worst stretch. A stretch begins where a change of
+/// connection is cleared.
+#[derive(Clone, Copy)]
+pub struct Losses {
+    pub all: u32,
+    pub run: u32,
+    pub worst: u32,
+}
+
+impl Losses {
+    /// None.
+    pub fn none() -> Self
+        ensures { result ≡ no_losses }
+    {
+        Losses {
+            all: 0,
+            run: 0,
+            worst: 0,
+        }
+    }
+
+    /// One more where an address was lost.
+    pub fn counted(self, lost: bool) -> Self
+        requires all { self.all < 4294967295 }
+        requires run { self.run < 4294967295 }
+        ensures { result ≡ counted lost self }
+    {
+        if lost { self.one_more() } else { self }
+    }
+
+    #[tactic(auto, unfolding(crate::specs::Losses::one_more))]
+    fn one_more(self) -> Self
+        requires all { self.all < 4294967295 }
+        requires run { self.run < 4294967295 }
+        ensures { result ≡ one_more self }
+    {
+        let run = self.run + 1;
+        Losses {
+            all: self.all + 1,
+            run,
+            worst: self.worst.max(run),
+        }
+    }
+
+    /// A new stretch where a change of connection is cleared.
+    pub fn after_clearing(self, cleared: bool) -> Self
+        ensures { result ≡ after_clearing cleared self }
+    {
+        if cleared {
+            Losses { run: 0, ..self }
+        } else {
+            self
+        }
+    }
+}

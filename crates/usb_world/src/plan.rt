@@ -1,0 +1,94 @@
+//! A plan: which devices there are, what happens to them, and which packets are damaged.
+
+use crate::damage::{Damage, Damages};
+use crate::event::{Event, Events};
+use std::marker::Model;
+use usb_device::{DeviceSpec, Devices};
+
+/// A plan for a bus.
+///
+/// At most 100,000,000,000,000 attempts are made; there are 1 to 7 root ports. Each event comes at most
+/// 1,000,000,000 attempts after the former one. A plug names one of the plan's devices and a free port: a root
+/// port, or a port of a device that is plugged then. Something is plugged where an event unplugs. Each damage
+/// is to a later attempt than the former one.
+#[derive(Debug, Drop)]
+pub struct Plan {
+    limit: u64,
+    roots: u8,
+    devices: Devices,
+    events: Events,
+    damages: Damages,
+}
+
+impl Model for Plan {
+    ghost use Rattle.usb_world.specs.PlanData.{PlanData, IsPlan};
+
+    ghost Value = { PlanData };
+
+    ghost view = { λ p. record { limit = p.limit; roots = p.roots; devices = p.devices; events = p.events; damages = p.damages } };
+
+    ghost invariant = { λ p. IsPlan (record { limit = p.limit; roots = p.roots; devices = p.devices; events = p.events; damages = p.damages }) };
+}
+
+impl Plan {
+    ghost use Rattle.std.specs.Prelude.{◌≡◌, ◌≤◌, length};
+    ghost use Rattle.usb_world.specs.PlanData.{PlanData, IsPlan};
+    ghost use Rattle.usb_world.specs.PluggedAt.{AtPorts};
+
+    /// The plan of these parts.
+    pub fn new(limit: u64, roots: u8, devices: Devices, events: Events, damages: Damages) -> Self
+        requires { IsPlan (record { limit = limit; roots = roots; devices = devices; events = events; damages = damages }) }
+        ensures { result ≡ record { limit = limit; roots = roots; devices = devices; events = events; damages = damages } }
+    {
+        Plan {
+            limit,
+            roots,
+            devices,
+            events,
+            damages,
+        }
+    }
+
+    /// How many attempts are made at most.
+    pub fn limit(&self) -> u64
+        ensures value { result ≡ self.now.limit }
+        ensures plan { IsPlan self.now }
+    {
+        self.limit
+    }
+
+    /// The number of root ports, 1 to 7.
+    pub fn roots(&self) -> u8
+        ensures value { result ≡ self.now.roots }
+        ensures plan { IsPlan self.now }
+    {
+        self.roots
+    }
+
+    /// The devices that events plug.
+    pub fn devices(&self) -> &[DeviceSpec]
+        ensures value { result.now ≡ self.now.devices }
+        ensures plan { IsPlan self.now }
+    {
+        self.devices.as_slice()
+    }
+
+    /// The events in their order, at most 10,000.
+    pub fn events(&self) -> &[Event]
+        ensures value { result.now ≡ self.now.events }
+        ensures bound { length self.now.events ≤ 10000 }
+        ensures plan { IsPlan self.now }
+        ensures paths { AtPorts self.now.events }
+    {
+        self.events.as_slice()
+    }
+
+    /// The damages in their order, at most 10,000.
+    pub fn damages(&self) -> &[Damage]
+        ensures value { result.now ≡ self.now.damages }
+        ensures bound { length self.now.damages ≤ 10000 }
+        ensures plan { IsPlan self.now }
+    {
+        self.damages.as_slice()
+    }
+}

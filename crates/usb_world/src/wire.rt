@@ -1,0 +1,145 @@
+//! Packets on their way, and what damage does to them.
+ghost use Rattle.std.specs.Prelude.{◌≡◌, ◌*◌, ◌<◌, length, true, IfSome};
+ghost use Rattle.usb_packet.specs.Spelling.{HasFields, flipped};
+ghost use Rattle.usb_world.specs.Wire.{damage_of, harm_to, bit_count, mark_of, is_read, has_its_bit, marked, marked_some};
+
+use crate::damage::{Damage, Harm};
+use arrayvec::ArrayVec;
+use usb_packet::Packet;
+
+/// What damage did to a packet on its way.
+#[derive(Clone, Copy)]
+pub enum Mark {
+    /// Nothing.
+    Whole,
+    /// It is lost.
+    Lost,
+    /// The PRE before it is lost (8.6.5).
+    PreLost,
+    /// This bit of it is flipped, counted from 0.
+    Flipped(u16),
+}
+
+impl Mark {
+    /// Whether a listener reads the packet: it is not lost, and no bit of it is wrong (8.3.1 and 8.3.5).
+    #[tactic(auto, unfolding(crate::specs::Wire::is_read))]
+    pub fn is_read(self) -> bool
+        ensures { result ≡ is_read self }
+    {
+        matches!(self, Mark::Whole | Mark::PreLost)
+    }
+}
+
+/// A packet of the host, and what damage did to it.
+#[derive(Drop)]
+pub struct Outgoing {
+    pub packet: Packet,
+    pub mark: Mark,
+}
+
+/// The damage to the attempt of a number.
+pub fn damage_of(damages: &[Damage], attempt: u64) -> Option<Damage>
+    ensures { result ≡ damage_of damages.now attempt }
+{
+    'damages: for damage in damages {
+        if damage.attempt == attempt {
+            return Some(*damage);
+        }
+    }
+    None
+}
+
+/// The harm to the packet at a place of its attempt, counted from 1.
+#[tactic(auto, unfolding(crate::specs::Wire::harm_to))]
+pub(crate) fn harm_to(damage: Option<Damage>, place: u8) -> Option<Harm>
+    ensures { result ≡ harm_to damage place }
+{
+    match damage {
+        None => None,
+        Some(damage) => {
+            if damage.packet == place {
+                Some(damage.harm)
+            } else {
+                None
+            }
+        }
+    }
+}
+
+/// How many bits the packet has.
+#[tactic(auto, unfolding(crate::specs::Wire::bit_count))]
+fn bit_count(packet: &Packet) -> usize
+    ensures { result ≡ bit_count packet.now }
+{
+    match packet {
+        Packet::Token {
+            kind: _,
+            addr: _,
+            ep: _,
+        } => 24,
+        Packet::Sof(_) => 24,
+        Packet::Payload { toggle: _, bytes } => 24 + 8 * bytes.len(),
+        Packet::Ack | Packet::Nak | Packet::Stall | Packet::Pre => 8,
+    }
+}
+
+/// The mark that a harm leaves: none where the packet has no PRE, or has not the bit.
+#[tactic(auto, unfolding(crate::specs::Wire::mark_of, crate::specs::Wire::has_its_bit))]
+pub(crate) fn mark_of(harm: Option<Harm>, pre: bool, packet: &Packet) -> Mark
+    ensures value { result ≡ mark_of harm pre packet.now }
+    ensures bit { has_its_bit result packet.now ≡ true }
+{
+    match harm {
+        None => Mark::Whole,
+        Some(Harm::Lose) => Mark::Lost,
+        Some(Harm::LosePre) => { if pre { Mark::PreLost } else { Mark::Whole } }
+        Some(Harm::Flip(bit)) => {
+            if usize::from(bit) < bit_count(packet) {
+                Mark::Flipped(bit)
+            } else {
+                Mark::Whole
+            }
+        }
+    }
+}
+
+/// The packet as it goes out at a place of its attempt.
+#[tactic(auto, unfolding(crate::specs::Wire::marked))]
+pub(crate) fn marked(damage: Option<Damage>, place: u8, pre: bool, packet: Packet) -> Outgoing
+    requires { HasFields packet }
+    ensures value { result ≡ marked damage place pre packet }
+    ensures fields { HasFields result.packet }
+    ensures bit { has_its_bit result.mark result.packet ≡ true }
+{
+    let mark = mark_of(harm_to(damage, place), pre, &packet);
+    Outgoing { packet, mark }
+}
+
+#[tactic(auto, unfolding(crate::specs::Wire::marked_some))]
+pub(crate) fn marked_some(
+    damage: Option<Damage>,
+    place: u8,
+    pre: bool,
+    packet: Option<Packet>,
+) -> Option<Outgoing>
+    requires { IfSome packet HasFields }
+    ensures value { result ≡ marked_some damage place pre packet }
+    ensures fields { IfSome result (λ s. HasFields s.packet) }
+    ensures bit { IfSome result (λ s. has_its_bit s.mark s.packet ≡ true) }
+{
+    match packet {
+        None => None,
+        Some(packet) => Some(marked(damage, place, pre, packet)),
+    }
+}
+
+/// The bytes with one bit flipped, counted from 0.
+pub(crate) fn flipped(bytes: ArrayVec<u8, 67>, bit: u16) -> ArrayVec<u8, 67>
+    requires { bit < 8 * length bytes.items }
+    ensures { result.items ≡ flipped bytes.items bit }
+{
+    let mut bytes = bytes;
+    let place = usize::from(bit / 8);
+    bytes.as_mut_slice()[place] ^= 1 << (bit % 8);
+    bytes
+}
