@@ -1,14 +1,18 @@
 //! A reader or writer with a mark that tells whether it has failed.
-ghost use Rattle.std.specs.Prelude.{◌≡◌, ◌+◌, ◌≤◌, ◌||◌, false, true, flat_map, is_err, OnOk, OnErr};
+ghost use Rattle.std.specs.Prelude.{◌≡◌, ◌+◌, ◌≤◌, ◌||◌, false, true, flat_map, is_err, OnOk, OnErr, IfSome};
 ghost use Rattle.std.specs.Io.{ReadsAtMost, WritesAtMost};
 ghost use Rattle.std.specs.Io.KnownBytes.{Keeps, Appends, ReadConsumes, WriteAppends};
 ghost use Rattle.usb_bus.specs.Watch.{inner_of, has_failed, calls_of, write_fails, AppendsFront};
 ghost use Rattle.usb_world.specs.declared.types.BusFault.TheVariants.{TraceFailed as trace_failed};
 
+use arrayvec::ArrayVec;
 use std::io;
 use std::io::{Read, Write};
 use thiserror::Error;
 use usb_world::BusFault;
+
+/// Room for a line that goes out as one piece, in bytes; the longest line of an attempt has 701.
+const LINE_ROOM: usize = 1024;
 
 /// A reader or writer, whether it has failed, and how often it was called.
 ///
@@ -143,10 +147,9 @@ pub fn put_piece<W: Write>(writer: &mut Watched<W>, piece: &[u8]) -> Result<(), 
     Ok(())
 }
 
-/// Writes pieces in their order.
+/// Writes pieces in their order, as one piece where they fit into a line's room.
 ///
 /// After an error the writer is marked, and what went out is a front of all of them.
-#[tactic(auto, using(crate::proofs::Fronts::first_front, crate::proofs::Fronts::front_after_first))]
 pub(crate) fn put_pieces<W: Write>(
     writer: &mut Watched<W>,
     pieces: &[&[u8]],
@@ -156,9 +159,36 @@ pub(crate) fn put_pieces<W: Write>(
     ensures unmarked { OnOk result (has_failed writer.new ≡ has_failed writer.old) }
     ensures marked { OnErr result (has_failed writer.new ≡ true) }
 {
+    match joined(pieces) {
+        Some(line) => put_piece(writer, line.as_slice()),
+        None => put_each(writer, pieces),
+    }
+}
+
+/// The pieces as one, where they fit into a line's room.
+fn joined(pieces: &[&[u8]]) -> Option<ArrayVec<u8, LINE_ROOM>>
+    ensures { IfSome result (λ line. line.items ≡ flat_map (λ p. p.now) pieces.now) }
+{
+    let mut line = ArrayVec::new();
+    'pieces: for piece in pieces {
+        if line.try_extend_from_slice(piece).is_err() {
+            return None;
+        }
+    }
+    Some(line)
+}
+
+/// Writes one piece after the other.
+#[tactic(auto, using(crate::proofs::Fronts::first_front, crate::proofs::Fronts::front_after_first))]
+fn put_each<W: Write>(writer: &mut Watched<W>, pieces: &[&[u8]]) -> Result<(), WriteFailed>
+    ensures front { AppendsFront (W.contents (inner_of writer.old)) (W.contents (inner_of writer.new)) (flat_map (λ p. p.now) pieces.now) }
+    ensures ok { OnOk result (Appends (W.contents (inner_of writer.old)) (W.contents (inner_of writer.new)) (flat_map (λ p. p.now) pieces.now)) }
+    ensures unmarked { OnOk result (has_failed writer.new ≡ has_failed writer.old) }
+    ensures marked { OnErr result (has_failed writer.new ≡ true) }
+{
     let Some((piece, rest)) = pieces.split_first() else {
         return Ok(());
     };
     put_piece(writer, piece)?;
-    put_pieces(writer, rest)
+    put_each(writer, rest)
 }
