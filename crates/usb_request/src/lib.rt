@@ -10,6 +10,3 @@ pub mod request_type;
 mod setup;
 
 pub use setup::{Setup, setup_laws};
-
-#[cfg(test)]
-mod tests;

@@ -6,6 +6,3 @@ mod power;
 
 pub use pool::{Address, AddressPool};
 pub use power::{choose, supply};
-
-#[cfg(test)]
-mod tests;

@@ -1,0 +1,6 @@
+//! Tests of the crates that stand on no device: check fields, packets, requests, descriptors, ports
+//! and resources.
+#![tactic(auto)]
+
+#[cfg(test)]
+mod tests;

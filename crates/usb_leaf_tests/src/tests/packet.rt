@@ -1,0 +1,140 @@
+//! Packets with their bytes and their text, bytes that spell none, and the digits of a byte.
+use arrayvec::{ArrayString, ArrayVec};
+use std::alloc::{AllocError, Global};
+use std::test::Fail;
+use usb_packet::{PacketFault, decode, encode, hex_digits, packet_text};
+
+struct PacketRow {
+    bytes: &'static [u8],
+    text: &'static str,
+}
+
+const PACKETS: &[PacketRow] = &[
+    PacketRow {
+        bytes: &[0x2d, 0, 0x10],
+        text: "SETUP 0.0",
+    },
+    PacketRow {
+        bytes: &[0xe1, 0x3a, 0x3d],
+        text: "OUT 58.10",
+    },
+    PacketRow {
+        bytes: &[0x69, 0x81, 0x58],
+        text: "IN 1.1",
+    },
+    PacketRow {
+        bytes: &[0xd2],
+        text: "ACK",
+    },
+    PacketRow {
+        bytes: &[0xa5, 1, 0xe8],
+        text: "SOF 1",
+    },
+    PacketRow {
+        bytes: &[0x4b, 0, 0],
+        text: "DATA1 -",
+    },
+    PacketRow {
+        bytes: &[0xc3, 0x80, 6, 0, 1, 0, 0, 0x40, 0, 0xdd, 0x94],
+        text: "DATA0 8006000100004000",
+    },
+    PacketRow {
+        bytes: &[0xc3, 0, 1, 2, 3, 0xef, 0x7a],
+        text: "DATA0 00010203",
+    },
+];
+
+struct FaultRow {
+    bytes: &'static [u8],
+    fault: PacketFault,
+    words: &'static str,
+}
+
+const FAULTS: &[FaultRow] = &[
+    FaultRow {
+        bytes: &[],
+        fault: PacketFault::Empty,
+        words: "empty",
+    },
+    FaultRow {
+        bytes: &[0xd3],
+        fault: PacketFault::PidCheck,
+        words: "pid check",
+    },
+    FaultRow {
+        bytes: &[0xf0],
+        fault: PacketFault::UnknownPid,
+        words: "unknown pid",
+    },
+    FaultRow {
+        bytes: &[0x4b, 0],
+        fault: PacketFault::Length,
+        words: "length",
+    },
+    FaultRow {
+        bytes: &[0xa5, 1, 0xe9],
+        fault: PacketFault::Check,
+        words: "check",
+    },
+    FaultRow {
+        bytes: &[0xa5, 1, 0xe0],
+        fault: PacketFault::Check,
+        words: "check",
+    },
+];
+
+struct DigitRow {
+    byte: u8,
+    digits: [u8; 2],
+}
+
+const DIGITS: &[DigitRow] = &[
+    DigitRow {
+        byte: 0x0a,
+        digits: *b"0A",
+    },
+    DigitRow {
+        byte: 0xf9,
+        digits: *b"F9",
+    },
+];
+
+/// The text of the packet that the bytes spell, and the bytes that spell it again.
+fn spelled(bytes: &[u8]) -> Result<(ArrayString<136>, ArrayVec<u8, 67>), PacketFault> {
+    match decode(bytes) {
+        Ok(packet) => Ok((packet_text(&packet), encode(&packet))),
+        Err(fault) => Err(fault),
+    }
+}
+
+#[test]
+fn packets(rt: HostRuntime) {
+    for row in PACKETS {
+        let told = spelled(row.bytes);
+        let read = told
+            .as_ref()
+            .map(|(text, bytes)| (text.as_str(), bytes.as_slice()));
+        assert_eq!(rt; read, Ok((row.text, row.bytes)), "{}", row.text);
+    }
+}
+
+fn words_of(alloc: Global, fault: PacketFault) -> Result<String, AllocError> {
+    format!(in alloc; "{fault}")
+}
+
+#[test]
+fn bytes_that_spell_no_packet(rt: HostRuntime) -> Result<(), Fail> {
+    for row in FAULTS {
+        let words = words_of(rt.alloc(), row.fault)?;
+        let told = (decode(row.bytes).err(), words.as_str());
+        assert_eq!(rt; told, (Some(row.fault), row.words), "{:?}", row.bytes);
+    }
+    Ok(())
+}
+
+#[test]
+fn digits_in_upper_case(rt: HostRuntime) {
+    for row in DIGITS {
+        assert_eq!(rt; hex_digits(row.byte), row.digits, "of {}", row.byte);
+    }
+}
