@@ -40,6 +40,3 @@ pub use progress_laws::{
     source_goes_on, status_stage_goes_on,
 };
 pub use spec::{DeviceSpec, Stalls};
-
-#[cfg(test)]
-mod tests;

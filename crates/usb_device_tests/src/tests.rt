@@ -3,6 +3,7 @@ mod bulk;
 mod described;
 mod hubs;
 mod kinds;
+mod packets;
 mod requests;
-mod script;
+mod steps;
 mod trees;
