@@ -25,6 +25,3 @@ pub use attempts::bound;
 pub use fault::{Place, PlanFault};
 pub use plan::read_plan;
 pub use usb_world::Plan;
-
-#[cfg(test)]
-mod tests;

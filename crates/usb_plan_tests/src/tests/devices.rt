@@ -1,0 +1,149 @@
+//! The keys of a device, beside one device before it.
+use super::{Cases, FUNCTION, check};
+use std::test::*;
+
+/// Lines of a second device.
+const DEVICES: [Cases; 4] = [
+    Cases {
+        told: "plan",
+        texts: &[
+            "name = \"other\"\nspeed = \"full\"\ndescriptor = \"\"\nconfigs = []",
+            "name = \"other\"\nspeed = \"full\"\ndescriptor = \"0102030409\"\nconfigs = []",
+            "name = \"other\"\nspeed = \"full\"\ndescriptor = \"01020304\"\nconfigs = [\"AB\", \"cd\"]",
+        ],
+    },
+    Cases {
+        told: "plan: device 2: bad value",
+        texts: &[
+            "name = \"fn\"\nspeed = \"full\"\ndescriptor = \"\"\nconfigs = []",
+            "name = \"\"\nspeed = \"full\"\ndescriptor = \"\"\nconfigs = []",
+            "name = 1\nspeed = \"full\"\ndescriptor = \"\"\nconfigs = []",
+            "name = \"other\"\nspeed = \"high\"\ndescriptor = \"\"\nconfigs = []",
+            "name = \"other\"\nspeed = \"full\"\ndescriptor = \"1\"\nconfigs = [1]",
+            "name = \"other\"\nspeed = \"full\"\ndescriptor = \"\"\nconfigs = [\"\", \"\", \"\", \"\", \"\", \"\", \"\", \"\", \"\"]",
+            "name = \"other\"\nspeed = \"full\"\ndescriptor = \"1\"\nconfigs = []\nport = 1",
+        ],
+    },
+    Cases {
+        told: "plan: device 2: bad hex",
+        texts: &[
+            "name = \"other\"\nspeed = \"full\"\ndescriptor = \"1\"\nconfigs = []",
+            "name = \"other\"\nspeed = \"full\"\ndescriptor = \"0x\"\nconfigs = []",
+            "name = \"other\"\nspeed = \"full\"\ndescriptor = \"\"\nconfigs = [\"\", \"F\"]",
+            "name = \"other\"\nspeed = \"full\"\ndescriptor = \"1\"\nconfigs = []\n[[device]]",
+        ],
+    },
+    Cases {
+        told: "plan: device 3: missing key",
+        texts: &[
+            "name = \"other\"\nspeed = \"full\"\ndescriptor = \"\"\nconfigs = []\n[[device]]\nname = 1",
+        ],
+    },
+];
+
+/// A second device with the five bytes of class 9, so that it may have ports.
+const HUB: &str =
+    "[[device]]\nname = \"other\"\nspeed = \"full\"\ndescriptor = \"0102030409\"\nconfigs = []\n";
+
+/// Further lines of a second device, of class 9 and full speed.
+const KEYS: [Cases; 3] = [
+    Cases {
+        told: "plan",
+        texts: &[
+            "strings = [\"04030904\", \"ff\"]",
+            "ports = 1",
+            "ports = 7",
+            "ports = 2\nhub_descriptor = \"0929020100000000FF\"",
+            "ports = 2\nhub_descriptor = \"09290301000000\"",
+            "self_powered = true",
+            "busy = true",
+            "silent = false",
+            "naks = 0",
+            "naks = 200",
+            "stalls = [\"device\", \"address\", \"config\", \"set_config\", \"status\", \"hub\", \"string\"]",
+            "stalls = [\"hub\", \"hub\"]",
+            "stalls = []",
+            "source = \"\"",
+            "source = \"0a\"",
+            "halt_after = 1",
+            "halt_after = 65535",
+        ],
+    },
+    Cases {
+        told: "plan: device 2: bad value",
+        texts: &[
+            "strings = \"04\"",
+            "strings = [\"0\", 1]",
+            "ports = 0",
+            "ports = 8",
+            "ports = \"1\"",
+            "ports = 2\nhub_descriptor = \"0929030100000000FF\"",
+            "ports = 8\nhub_descriptor = \"0\"",
+            "ports = 2\nhub_descriptor = 0",
+            "hub_descriptor = \"0\"",
+            "hub_descriptor = \"0929020100000000FF\"",
+            "self_powered = 1",
+            "busy = \"yes\"",
+            "silent = []",
+            "naks = -1",
+            "naks = 201",
+            "naks = true",
+            "stalls = [\"hubs\"]",
+            "stalls = [1]",
+            "stalls = \"hub\"",
+            "source = 0",
+            "halt_after = 65536",
+            "halt_after = 0",
+            "halt_after = true",
+            "source = \"0\"\nnaks = 201",
+            "sources = \"\"",
+        ],
+    },
+    Cases {
+        told: "plan: device 2: bad hex",
+        texts: &[
+            "strings = [\"0\"]",
+            "ports = 2\nhub_descriptor = \"0\"",
+            "source = \"0\"",
+        ],
+    },
+];
+
+/// A second device with two ports.
+const WITH_PORTS: &str = "[[device]]\nname = \"other\"\nconfigs = []\nports = 2\n";
+
+/// Speed and descriptor of a second device, which has ports.
+const PORTS: [Cases; 3] = [
+    Cases {
+        told: "plan",
+        texts: &["speed = \"full\"\ndescriptor = \"0000000009\""],
+    },
+    Cases {
+        told: "plan: device 2: bad value",
+        texts: &[
+            "speed = \"low\"\ndescriptor = \"0000000009\"",
+            "speed = \"full\"\ndescriptor = \"0000000008\"",
+            "speed = \"full\"\ndescriptor = \"00000000\"",
+            "speed = \"low\"\ndescriptor = \"0\"",
+        ],
+    },
+    Cases {
+        told: "plan: device 2: bad hex",
+        texts: &["speed = \"full\"\ndescriptor = \"0\""],
+    },
+];
+
+#[test]
+fn devices(rt: HostRuntime) -> Result<(), Fail> {
+    check(&rt, rt.alloc(), &[FUNCTION, "[[device]]\n"], &DEVICES)
+}
+
+#[test]
+fn keys_of_a_device(rt: HostRuntime) -> Result<(), Fail> {
+    check(&rt, rt.alloc(), &[FUNCTION, HUB], &KEYS)
+}
+
+#[test]
+fn ports_go_with_hubs_of_full_speed(rt: HostRuntime) -> Result<(), Fail> {
+    check(&rt, rt.alloc(), &[FUNCTION, WITH_PORTS], &PORTS)
+}

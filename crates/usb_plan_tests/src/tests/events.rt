@@ -1,0 +1,202 @@
+//! The keys of an event, alone and after others.
+use super::{Cases, FUNCTION, check};
+use std::test::*;
+
+/// Lines of the first event.
+const EVENTS: [Cases; 7] = [
+    Cases {
+        told: "plan",
+        texts: &[
+            "do = \"plug\"\npath = \"1\"\ndevice = \"fn\"",
+            "do = \"plug\"\npath = \"1\"\ndevice = \"fn\"\nafter = 1000000000",
+            "do = \"show\"\nafter = 0",
+            "do = \"receive\"\npath = \"1\"\npackets = 0",
+            "do = \"clear\"\npath = \"1.1.1.1.1.1.1\"",
+            "do = \"clear\"\npath = \"1.7.7.7.7.7.7\"",
+        ],
+    },
+    Cases {
+        told: "plan: event 1: bad value",
+        texts: &[
+            "do = \"plug\"\npath = \"1\"\ndevice = \"fn\"\nafter = 1000000001",
+            "do = \"plug\"\npath = 1\ndevice = \"fn\"",
+            "do = \"plug\"\npath = \"8\"\ndevice = \"fn\"\nbytes = \"\"",
+            "do = \"plugs\"",
+            "do = 1\npath = \"8\"",
+            "do = \"show\"\nafter = -1",
+            "do = \"show\"\nafter = \"0\"",
+            "do = \"plug\"\npath = \"1\"\ndevice = 1",
+            "do = \"unplug\"\npath = 1",
+            "do = \"send\"\npath = 1\nbytes = \"\"",
+            "do = \"receive\"\npath = 1\npackets = 1",
+            "do = \"clear\"\npath = 1",
+            "do = \"receive\"\npath = \"1\"\npackets = -1",
+            "do = \"receive\"\npath = \"1\"\npackets = \"1\"",
+            "do = \"plug\"\npath = \"1\"\ndevice = \"fn\"\npackets = 1",
+            "do = \"send\"\npath = \"1\"\nbytes = \"\"\npackets = 1",
+            "do = \"receive\"\npath = \"1\"\npackets = 1\nbytes = \"\"",
+            "do = \"clear\"\npath = \"1\"\nbytes = \"\"",
+            "do = \"plug\"\npath = \"1\"\ndevice = \"x\"\nafter = -1",
+            "do = \"plug\"\npath = \"8\"\ndevice = \"fn\"\nafter = -1",
+            "do = \"unplug\"\npath = \"1\"\nafter = -1",
+            "do = \"send\"\npath = \"1\"\nbytes = \"0\"\nafter = -1",
+        ],
+    },
+    Cases {
+        told: "plan: event 2: port taken",
+        texts: &[
+            "do = \"plug\"\npath = \"1\"\ndevice = \"fn\"\n[[event]]\ndo = \"plug\"\npath = \"1\"\ndevice = \"fn\"",
+        ],
+    },
+    Cases {
+        told: "plan: event 2: unknown device",
+        texts: &[
+            "do = \"plug\"\npath = \"1\"\ndevice = \"fn\"\n[[event]]\ndo = \"plug\"\npath = \"1\"\ndevice = \"x\"",
+        ],
+    },
+    Cases {
+        told: "plan: event 1: bad path",
+        texts: &[
+            "do = \"plug\"\npath = \"8\"\ndevice = \"fn\"",
+            "do = \"plug\"\npath = \"2\"\ndevice = \"fn\"",
+            "do = \"plug\"\npath = \"1.1\"\ndevice = \"fn\"",
+            "do = \"plug\"\npath = \"\"\ndevice = \"fn\"",
+            "do = \"clear\"\npath = \"1.1.1.1.1.1.1.1\"",
+            "do = \"clear\"\npath = \"0\"",
+            "do = \"clear\"\npath = \"2\"",
+            "do = \"clear\"\npath = \"1.0\"",
+            "do = \"clear\"\npath = \"1.8\"",
+            "do = \"clear\"\npath = \"1.\"",
+            "do = \"clear\"\npath = \".1\"",
+            "do = \"clear\"\npath = \"1..1\"",
+            "do = \"clear\"\npath = \"11\"",
+            "do = \"clear\"\npath = \" 1\"",
+        ],
+    },
+    Cases {
+        told: "plan: event 1: unknown device",
+        texts: &[
+            "do = \"plug\"\npath = \"1\"\ndevice = \"x\"",
+            "do = \"plug\"\npath = \"8\"\ndevice = \"x\"",
+        ],
+    },
+    Cases {
+        told: "plan: event 1: missing key",
+        texts: &[
+            "do = \"plug\"\npath = \"8\"\nbytes = \"\"",
+            "do = \"unplug\"",
+            "path = \"8\"\ndevice = 1",
+            "do = \"plug\"\ndevice = \"fn\"",
+            "do = \"plug\"\npath = \"1\"",
+            "do = \"send\"\nbytes = \"\"",
+            "do = \"send\"\npath = \"1\"",
+            "do = \"receive\"\npackets = 1",
+            "do = \"receive\"\npath = \"1\"",
+            "do = \"clear\"",
+            "do = \"send\"\nbytes = \"0\"",
+        ],
+    },
+];
+
+/// A plug of the function at port 1, and the head of another event.
+const PLUGGED: &str = "[[event]]\ndo = \"plug\"\npath = \"1\"\ndevice = \"fn\"\n[[event]]\n";
+
+/// Lines of the events after a plug of the function at port 1.
+const LATER: [Cases; 7] = [
+    Cases {
+        told: "plan",
+        texts: &[
+            "do = \"unplug\"\npath = \"1\"",
+            "do = \"unplug\"\npath = \"1\"\n[[event]]\ndo = \"plug\"\npath = \"1\"\ndevice = \"fn\"",
+            "do = \"show\"\nafter = 3",
+            "do = \"send\"\npath = \"1.7\"\nbytes = \"00fF\"",
+            "do = \"receive\"\npath = \"1\"\npackets = 1000",
+            "do = \"clear\"\npath = \"1\"",
+        ],
+    },
+    Cases {
+        told: "plan: event 2: port empty",
+        texts: &["do = \"unplug\"\npath = \"1.1\""],
+    },
+    Cases {
+        told: "plan: event 2: bad path",
+        texts: &[
+            "do = \"unplug\"\npath = \"2\"",
+            "do = \"plug\"\npath = \"1.1\"\ndevice = \"fn\"",
+            "do = \"clear\"\npath = \"8\"",
+        ],
+    },
+    Cases {
+        told: "plan: event 3: port empty",
+        texts: &["do = \"unplug\"\npath = \"1\"\n[[event]]\ndo = \"unplug\"\npath = \"1\""],
+    },
+    Cases {
+        told: "plan: event 2: bad value",
+        texts: &[
+            "do = \"unplug\"\npath = \"1\"\ndevice = \"fn\"",
+            "do = \"show\"\npath = \"1\"",
+            "do = \"send\"\npath = \"2\"\nbytes = 0",
+            "do = \"receive\"\npath = \"1\"\npackets = 1001",
+        ],
+    },
+    Cases {
+        told: "plan: event 2: bad hex",
+        texts: &[
+            "do = \"send\"\npath = \"1\"\nbytes = \"0\"",
+            "do = \"send\"\npath = \"2\"\nbytes = \"0\"",
+        ],
+    },
+    Cases {
+        told: "plan: event 2: missing key",
+        texts: &["do = \"receive\"\npath = \"1\""],
+    },
+];
+
+/// A hub with two ports.
+const HUB: &str =
+    "[[device]]\nname = \"hub\"\nspeed = \"full\"\ndescriptor = \"0000000009\"\nconfigs = []\nports = 2\n";
+
+/// A plug of the hub at port 1, and the head of another event.
+const HUB_PLUGGED: &str = "[[event]]\ndo = \"plug\"\npath = \"1\"\ndevice = \"hub\"\n[[event]]\n";
+
+/// Lines of the events after a plug of a hub with two ports at port 1.
+const HUB_EVENTS: [Cases; 4] = [
+    Cases {
+        told: "plan",
+        texts: &["do = \"plug\"\npath = \"1.2\"\ndevice = \"fn\""],
+    },
+    Cases {
+        told: "plan: event 2: bad path",
+        texts: &[
+            "do = \"plug\"\npath = \"1.3\"\ndevice = \"fn\"",
+            "do = \"plug\"\npath = \"1.2.1\"\ndevice = \"fn\"",
+        ],
+    },
+    Cases {
+        told: "plan: event 4: port empty",
+        texts: &[
+            "do = \"plug\"\npath = \"1.2\"\ndevice = \"fn\"\n[[event]]\ndo = \"unplug\"\npath = \"1\"\n[[event]]\ndo = \"unplug\"\npath = \"1.2\"",
+        ],
+    },
+    Cases {
+        told: "plan: event 3: bad path",
+        texts: &[
+            "do = \"unplug\"\npath = \"1\"\n[[event]]\ndo = \"plug\"\npath = \"1.2\"\ndevice = \"fn\"",
+        ],
+    },
+];
+
+#[test]
+fn keys_of_each_event(rt: HostRuntime) -> Result<(), Fail> {
+    check(&rt, rt.alloc(), &[FUNCTION, "[[event]]\n"], &EVENTS)
+}
+
+#[test]
+fn later_events(rt: HostRuntime) -> Result<(), Fail> {
+    check(&rt, rt.alloc(), &[FUNCTION, PLUGGED], &LATER)
+}
+
+#[test]
+fn a_hub_has_ports_while_it_is_plugged(rt: HostRuntime) -> Result<(), Fail> {
+    check(&rt, rt.alloc(), &[FUNCTION, HUB, HUB_PLUGGED], &HUB_EVENTS)
+}
