@@ -44,6 +44,3 @@ pub use why_laws::{
     why_read_status_fails, why_setup_fails,
 };
 pub use write::data_out;
-
-#[cfg(test)]
-mod tests;
