@@ -29,6 +29,3 @@ pub use whole_laws::{
 pub use why_laws::{
     why_a_read_fails, why_a_receive_fails, why_a_send_fails, why_a_write_fails, why_polling_fails,
 };
-
-#[cfg(test)]
-mod tests;

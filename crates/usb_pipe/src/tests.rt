@@ -1,6 +1,0 @@
-mod bulk;
-mod control;
-mod devices;
-mod interrupt;
-mod laws;
-mod simulated;

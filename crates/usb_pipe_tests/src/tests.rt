@@ -1,0 +1,7 @@
+mod bulk;
+mod control;
+mod faults;
+mod plans;
+mod polls;
+mod ready;
+mod resent;

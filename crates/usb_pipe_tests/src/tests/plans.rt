@@ -1,0 +1,138 @@
+//! Plans with one device at the only root port, and the packets that are damaged.
+
+use std::alloc::{AllocError, Global};
+use std::test::Fail;
+use usb_bench::{plan_text, plugged};
+use usb_bus::SimBus;
+
+/// A function with one interface and no endpoints.
+pub(super) const FUNCTION: &str = r#"
+[[event]]
+do = "plug"
+path = "1"
+device = "fn"
+
+[[device]]
+name = "fn"
+speed = "full"
+descriptor = "120100020000004034127856000100000001"
+configs = ["0902120001010080320904000000FF000000"]
+"#;
+
+/// A function at low speed.
+pub(super) const LOW: &str = r#"
+[[event]]
+do = "plug"
+path = "1"
+device = "low"
+
+[[device]]
+name = "low"
+speed = "low"
+descriptor = "120110010000000834120100000100000001"
+configs = ["0902120001010080320904000000FF000000"]
+"#;
+
+/// Bulk OUT 2 and bulk IN 2 with packets of 64 bytes; IN gives AA, BB, CC.
+pub(super) const BULK: &str = r#"
+[[event]]
+do = "plug"
+path = "1"
+device = "bulk"
+
+[[device]]
+name = "bulk"
+speed = "full"
+descriptor = "120100020000004034127856000100000001"
+configs = ["0902200001010080320904000002FF0000000705020240000007058202400000"]
+source = "AABBCC"
+"#;
+
+/// Bulk OUT 2 and bulk IN 2 with packets of 8 bytes; IN gives the bytes 1 to 20.
+pub(super) const SMALL_BULK: &str = r#"
+[[event]]
+do = "plug"
+path = "1"
+device = "bulk"
+
+[[device]]
+name = "bulk"
+speed = "full"
+descriptor = "120100020000004034127856000100000001"
+configs = ["0902200001010080320904000002FF0000000705020208000007058202080000"]
+source = "0102030405060708090A0B0C0D0E0F1011121314"
+"#;
+
+/// A hub with two ports and its own power, and such a hub at the hub's port 1.
+pub(super) const HUBS: &str = r#"
+[[event]]
+do = "plug"
+path = "1"
+device = "hub2"
+
+[[event]]
+do = "plug"
+path = "1.1"
+device = "hub2"
+
+[[device]]
+name = "hub2"
+speed = "full"
+descriptor = "120100020900004001000200000100000001"
+configs = ["09021900010100C000090400000109000000070581030100FF"]
+ports = 2
+self_powered = true
+"#;
+
+/// A damage: attempts are counted from 1, and the packets of one are 1 to 3.
+#[derive(Clone, Copy)]
+pub(super) enum Hit {
+    /// This packet of the attempt is lost.
+    Lost(u64, u8),
+    /// In this packet of the attempt this bit is turned.
+    Flipped(u64, u8, u16),
+    /// Packet 3 is lost in each attempt from the first to the second.
+    AcksLost(u64, u64),
+}
+
+/// The bus of a device and what else its plan says of it; the port is ready.
+pub(super) fn bus_of(
+    alloc: Global,
+    limit: u64,
+    device: &str,
+    quirk: &str,
+    hits: &[Hit],
+) -> Result<SimBus<Vec<u8>>, Fail> {
+    let damages = damages(alloc, hits)?;
+    let text = plan_text(alloc, limit, &[device, quirk, damages.as_str()])?;
+    Ok(plugged(alloc, text.as_str())?)
+}
+
+fn damages(alloc: Global, hits: &[Hit]) -> Result<String, AllocError> {
+    let mut text = String::new(alloc);
+    'hits: for hit in hits {
+        match *hit {
+            Hit::Lost(attempt, packet) => lose(&mut text, attempt, attempt, packet)?,
+            Hit::AcksLost(first, last) => lose(&mut text, first, last, 3)?,
+            Hit::Flipped(attempt, packet, bit) => flip(&mut text, attempt, packet, bit)?,
+        }
+    }
+    Ok(text)
+}
+
+fn lose(text: &mut String, first: u64, last: u64, packet: u8) -> Result<(), AllocError> {
+    for attempt in first..=last {
+        write!(
+            text,
+            "[[damage]]\nattempt = {attempt}\npacket = {packet}\nhow = \"lose\"\n"
+        )?;
+    }
+    Ok(())
+}
+
+fn flip(text: &mut String, attempt: u64, packet: u8, bit: u16) -> Result<(), AllocError> {
+    write!(
+        text,
+        "[[damage]]\nattempt = {attempt}\npacket = {packet}\nhow = \"flip\"\nbit = {bit}\n"
+    )
+}
