@@ -19,6 +19,3 @@ pub use fault::EnumFault;
 pub use finding::{Accepted, Finding};
 pub use strings::Strings;
 pub use text::{ConfigText, ConfigTexts, StringUnits};
-
-#[cfg(test)]
-mod tests;

@@ -10,6 +10,3 @@ pub use fault::HostFault;
 pub use host::{Host, Round};
 pub use table::DeviceTable;
 pub use tree::Tree;
-
-#[cfg(test)]
-mod tests;

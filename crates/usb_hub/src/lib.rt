@@ -8,6 +8,3 @@ pub use port::{HubPort, clear_port, port_status, set_port};
 pub use requests::{get_config, get_device, get_string, set_address, set_configuration};
 pub use usb_pipe::{Bus, BusFault, PipeFault, Target};
 pub use usb_port::PortStatus;
-
-#[cfg(test)]
-mod tests;

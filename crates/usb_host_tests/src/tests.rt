@@ -1,0 +1,4 @@
+//! One module a crate. A test is a loop over rows of worked values.
+mod enumeration;
+mod host;
+mod hub;

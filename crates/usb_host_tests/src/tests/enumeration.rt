@@ -1,0 +1,183 @@
+//! What is found at root port 1.
+use std::alloc::{AllocError, Global};
+use std::test::Fail;
+use usb_bench::{bus_of, plan_text};
+use usb_bus::{Bus, SimBus};
+use usb_enum::{Accepted, Cause, Finding, Request, enumerate};
+use usb_hub::{HubPort, port_status, set_port};
+use usb_request::feature::PORT_POWER;
+use usb_resources::AddressPool;
+
+const PORT: HubPort = HubPort::Root(1);
+
+/// The keys of a full-speed device with its name, and the plug of it.
+const NAMED: &str = "[[device]]
+name = \"fn\"
+speed = \"full\"
+";
+
+const PLUG: &str = "[[event]]
+do = \"plug\"
+path = \"1\"
+device = \"fn\"
+";
+
+struct Row {
+    about: &'static str,
+    /// The other keys of the device.
+    device: &'static str,
+    /// Whether the port has power, so that the device is plugged.
+    powered: bool,
+    /// What the port gives, in mA.
+    supply: u16,
+    told: &'static str,
+}
+
+const ROWS: &[Row] = &[
+    Row {
+        about: "the first configuration that fits is chosen",
+        device: "descriptor = \"120100020000004034127856000100010002\"
+configs = [\"0902120001010080FA0904000000FF000000\", \"0902120001020080320904000000FF000000\"]
+",
+        powered: true,
+        supply: 100,
+        told: "1 full 120100020000004034127856000100010002, 0902120001010080FA0904000000FF000000, chosen 0902120001020080320904000000FF000000, no product; 24 attempts, enabled: true, next address 2",
+    },
+    Row {
+        about: "two configurations of one value",
+        device: "descriptor = \"120100020000004034127856000100010002\"
+configs = [\"0902120001010080320904000000FF000000\", \"0902120001010080190904000000FF000000\"]
+",
+        powered: true,
+        supply: 500,
+        told: "refused bad configuration 1; 20 attempts, enabled: false, next address 1",
+    },
+    Row {
+        about: "a need of 102 mA",
+        device: "descriptor = \"120100020000004034127856000100000001\"
+configs = [\"0902120001010080330904000000FF000000\"]
+",
+        powered: true,
+        supply: 100,
+        told: "refused no power; 14 attempts, enabled: false, next address 1",
+    },
+    Row {
+        about: "one configuration of two",
+        device: "descriptor = \"120100020000004034127856000100010002\"
+configs = [\"0902120001010080320904000000FF000000\"]
+",
+        powered: true,
+        supply: 500,
+        told: "refused stalled config; 16 attempts, enabled: false, next address 1",
+    },
+    Row {
+        about: "a device of no configuration",
+        device: "descriptor = \"120100020000004034127856000100000000\"
+configs = [\"0902120001010080320904000000FF000000\"]
+",
+        powered: true,
+        supply: 500,
+        told: "refused bad device; 8 attempts, enabled: false, next address 1",
+    },
+    Row {
+        about: "an empty port",
+        device: "descriptor = \"120100020000004034127856000100000001\"
+configs = []
+",
+        powered: false,
+        supply: 500,
+        told: "refused lost; 0 attempts, enabled: false, next address 1",
+    },
+];
+
+/// The bus of a row, with its device plugged where the port has power.
+fn bus_for(alloc: Global, row: &Row) -> Result<SimBus<Vec<u8>>, Fail> {
+    let text = plan_text(alloc, 100, &[NAMED, row.device, PLUG])?;
+    let mut bus = bus_of(alloc, text.as_str())?;
+    if row.powered {
+        let roots = bus.root_ports();
+        prove!(roots >= 1);
+        set_port(&mut bus, PORT, PORT_POWER)?;
+        bus.apply_next_event()?;
+    }
+    Ok(bus)
+}
+
+/// The address, the speed and the descriptors of a device, and its product string.
+fn put_device(alloc: Global, text: &mut String, device: &Accepted) -> Result<(), Fail> {
+    let speed = if device.low { "low" } else { "full" };
+    let bytes = hex::encode_upper(alloc, device.bytes.as_slice())?;
+    write!(text, "{} {speed} {bytes}", device.address.number())?;
+    for (index, config) in device.configs.as_slice().iter().enumerate() {
+        let chosen = if index == device.chosen {
+            "chosen "
+        } else {
+            ""
+        };
+        let bytes = hex::encode_upper(alloc, config.as_slice())?;
+        write!(text, ", {chosen}{bytes}")?;
+    }
+    text.push_str(match device.strings.product {
+        Some(_) => ", a product",
+        None => ", no product",
+    })?;
+    Ok(())
+}
+
+/// What a copy of a finding tells.
+fn finding_told(alloc: Global, finding: &Finding) -> Result<String, Fail> {
+    let mut text = String::new(alloc);
+    match finding.try_clone(alloc)? {
+        Finding::Device(device) => put_device(alloc, &mut text, &device)?,
+        Finding::Refused(cause) => write!(text, "refused {cause}")?,
+    }
+    Ok(text)
+}
+
+/// Whether root port 1 is enabled.
+fn is_enabled(alloc: Global, bus: &mut SimBus<Vec<u8>>) -> bool {
+    let roots = bus.root_ports();
+    prove!(roots >= 1);
+    match port_status(alloc, bus, PORT) {
+        Ok(status) => status.enabled,
+        Err(_) => false,
+    }
+}
+
+/// What is found, and what the port and the free addresses are then.
+fn told(alloc: Global, row: &Row) -> Result<String, Fail> {
+    let mut bus = bus_for(alloc, row)?;
+    let mut pool = AddressPool::new();
+    let roots = bus.root_ports();
+    prove!(roots >= 1);
+    let finding = enumerate(alloc, &mut bus, &mut pool, PORT, 2, row.supply)?;
+    let text = finding_told(alloc, &finding)?;
+    let attempts = bus.attempts();
+    let enabled = is_enabled(alloc, &mut bus);
+    let next = pool.take().map_or(0, |address| address.number());
+    Ok(format!(in alloc; "{text}; {attempts} attempts, enabled: {enabled}, next address {next}")?)
+}
+
+#[test]
+fn findings_at_a_root_port(rt: HostRuntime) -> Result<(), Fail> {
+    for row in ROWS {
+        let told = told(rt.alloc(), row)?;
+        assert_eq!(rt; told.as_str(), row.told, "{}", row.about);
+    }
+    Ok(())
+}
+
+/// A cause, and its words.
+const WORDS: [(Cause, &str); 2] = [
+    (Cause::Stalled(Request::SetConfig), "stalled set config"),
+    (Cause::BadConfiguration(3), "bad configuration 3"),
+];
+
+#[test]
+fn causes_print_as_words(rt: HostRuntime) -> Result<(), Fail> {
+    for (cause, words) in WORDS {
+        let told = cause.to_string(rt.alloc())?;
+        assert_eq!(rt; told.as_str(), words, "{cause:?}");
+    }
+    Ok(())
+}
