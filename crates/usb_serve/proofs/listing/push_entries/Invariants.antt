@@ -1,0 +1,7 @@
+use Rattle.std.proofs.Common.{◌≡◌, ◌++◌, flat_map, take}
+use Rattle.usb_serve.specs.Report.{entry_lines}
+use Rattle.usb_serve.proofs.listing.push_entries.Given as goal
+
+-- the lines of the entries so far are written
+abbrev pub invariant-entries : goal.invariant-entries
+invariant-entries l = l.lines ≡ l.fn.lines ++ flat_map entry_lines (take l.entry-index l.entries)

@@ -1,0 +1,103 @@
+-- The printed lines of a report, each with its newline.
+use Rattle.std.specs.Prelude.{ℕ, ◌+◌, ◌/◌, ◌%◌, ◌==◌, ◌&&◌, not, nat_le, Bool, List, [], ◌∷◌, ◌++◌, Option, None, Some, codes, decimal, flat_map, if◌then◌else◌}
+use Rattle.hex.specs.Hex.{encode_upper}
+use Rattle.usb_packet.specs.Text.{hex_text}
+use Rattle.usb_port.specs.Path.{path_text}
+use Rattle.usb_enum.specs.declared.cause.Cause.{Cause}
+use Rattle.usb_enum.specs.declared.cause.Cause.TheVariants.{Silent, Busy, Stalled, BadDevice, TooDeep, BadConfiguration, NoPower, BadHub, Lost, NoAddress}
+use Rattle.usb_enum.specs.declared.cause.Request.{Request}
+use Rattle.usb_enum.specs.declared.cause.Request.TheVariants as request
+use Rattle.usb_enum.specs.declared.finding.Accepted.{Accepted}
+use Rattle.usb_enum.specs.declared.finding.Finding.{Finding}
+use Rattle.usb_enum.specs.declared.finding.Finding.TheVariants.{Device, Refused}
+use Rattle.usb_host.specs.Entries.{Entries}
+
+unfoldable pub speed_word : Bool → List ℕ
+speed_word low = if low then codes "low" else codes "full"
+
+-- printable ASCII but the quotation mark and the backslash
+abbrev pub is_plain_unit : ℕ → Bool
+is_plain_unit u = nat_le 32 u && nat_le u 126 && not (u == 34) && not (u == 92)
+
+abbrev pub escaped_text : ℕ → ℕ → List ℕ
+escaped_text high low = codes "\\u" ++ encode_upper (high ∷ []) ++ encode_upper (low ∷ [])
+
+-- a unit as its character, or as \uXXXX
+abbrev pub unit_text : ℕ → List ℕ
+unit_text u = if is_plain_unit u then u ∷ [] else escaped_text (u / 256) (u % 256)
+
+-- PATH address A full|low HEX
+unfoldable pub address_line : List ℕ → ℕ → Bool → List ℕ → List ℕ
+address_line path address low bytes = path_text path ++ codes " address " ++ decimal address ++ codes " " ++ speed_word low ++ codes " " ++ hex_text bytes ++ codes "\n"
+
+abbrev pub star : Bool → List ℕ
+star chosen = if chosen then codes " *" else []
+
+-- PATH config I HEX, and a star behind the chosen one
+unfoldable pub config_line : List ℕ → ℕ → List ℕ → Bool → List ℕ
+config_line path index text chosen = path_text path ++ codes " config " ++ decimal index ++ codes " " ++ hex_text text ++ star chosen ++ codes "\n"
+
+-- a line for each configuration, the first one of this index
+unfoldable pub config_lines : List ℕ → ℕ → ℕ → List (List ℕ) → List (List ℕ)
+config_lines path index chosen [] = []
+config_lines path index chosen (text ∷ texts) = config_line path index text (index == chosen) ∷ config_lines path (index + 1) chosen texts
+
+-- PATH LABEL "TEXT"
+unfoldable pub string_line : List ℕ → List ℕ → List ℕ → List ℕ
+string_line path label units = path_text path ++ codes " " ++ label ++ codes " \"" ++ flat_map unit_text units ++ codes "\"\n"
+
+abbrev pub string_lines : List ℕ → List ℕ → Option (List ℕ) → List (List ℕ)
+string_lines path label None = []
+string_lines path label (Some units) = string_line path label units ∷ []
+
+unfoldable pub device_lines : List ℕ → Accepted → List (List ℕ)
+device_lines path d =
+    address_line path d.address d.low d.bytes ∷ []
+    ++ config_lines path 0 d.chosen d.configs
+    ++ string_lines path (codes "manufacturer") d.strings.manufacturer
+    ++ string_lines path (codes "product") d.strings.product
+    ++ string_lines path (codes "serial") d.strings.serial_number
+
+abbrev pub request_word : Request → List ℕ
+request_word request.Device = codes "stalled device"
+request_word request.Address = codes "stalled address"
+request_word request.Config = codes "stalled config"
+request_word request.SetConfig = codes "stalled set config"
+
+-- the words of a cause, and the index that one of them ends in
+abbrev pub cause_word : Cause → List ℕ
+cause_word Silent = codes "silent"
+cause_word Busy = codes "busy"
+cause_word (Stalled r) = request_word r
+cause_word BadDevice = codes "bad device"
+cause_word TooDeep = codes "too deep"
+cause_word (BadConfiguration index) = codes "bad configuration "
+cause_word NoPower = codes "no power"
+cause_word BadHub = codes "bad hub"
+cause_word Lost = codes "lost"
+cause_word NoAddress = codes "no address"
+
+abbrev pub cause_index : Cause → List ℕ
+cause_index (BadConfiguration index) = decimal index
+cause_index cause = []
+
+-- PATH refused CAUSE
+unfoldable pub refused_line : List ℕ → Cause → List ℕ
+refused_line path cause = path_text path ++ codes " refused " ++ cause_word cause ++ cause_index cause ++ codes "\n"
+
+abbrev pub finding_lines : List ℕ → Finding → List (List ℕ)
+finding_lines path (Device device) = device_lines path device
+finding_lines path (Refused cause) = refused_line path cause ∷ []
+
+abbrev pub entry_lines : List ℕ × Finding → List (List ℕ)
+entry_lines entry = finding_lines entry.0 entry.1
+
+unfoldable pub listing_line : ℕ → List ℕ
+listing_line number = codes "listing " ++ decimal number ++ codes "\n"
+
+-- listing N, the lines of each entry, end
+unfoldable pub listing_lines : ℕ → Entries → List (List ℕ)
+listing_lines number entries = listing_line number ∷ [] ++ flat_map entry_lines entries ++ codes "end\n" ∷ []
+
+unfoldable pub bound_line : ℕ → List ℕ
+bound_line bound = codes "bound " ++ decimal bound ++ codes "\n"

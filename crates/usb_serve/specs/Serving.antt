@@ -1,0 +1,53 @@
+-- What serving a plan tells and writes.
+use Rattle.std.specs.Prelude.{ℕ, List, Bool, true, false, Result, Ok, Err}
+use Rattle.usb_world.specs.declared.event.Action.{Action}
+use Rattle.usb_world.specs.declared.event.Action.TheVariants.{Plug, Unplug, Show, Send, Receive, Clear}
+use Rattle.usb_world.specs.declared.types.BusFault.{BusFault}
+use Rattle.usb_world.specs.declared.types.BusFault.TheVariants as bus
+use Rattle.usb_serve.specs.declared.input.InputFault.{InputFault}
+use Rattle.usb_serve.specs.declared.input.InputFault.TheVariants as input
+use Rattle.usb_serve.specs.declared.runs.Item.{Item}
+use Rattle.usb_serve.specs.declared.runs.Item.TheVariants.{Listing}
+use Rattle.usb_serve.specs.declared.runs.RunFault.TheVariants as run
+use Rattle.usb_serve.specs.declared.serving.ServeFault.{ServeFault}
+use Rattle.usb_serve.specs.declared.serving.ServeFault.TheVariants.{Read, TooLong, NotServed, Run, Write, Memory}
+use Rattle.usb_serve.specs.declared.serving.ServeFault.TheVariants as serve
+use Rattle.usb_serve.specs.Report.{listing_lines}
+
+abbrev pub input_fault : InputFault → ServeFault
+input_fault input.Read = Read
+input_fault input.TooLong = TooLong
+input_fault input.Memory = Memory
+
+-- what the fault of a line of report is to the one who is served
+abbrev pub report_fault : BusFault → ServeFault
+report_fault bus.LimitReached = Run run.LimitReached
+report_fault bus.Memory = Run run.Memory
+report_fault bus.TraceFailed = Write
+
+-- a fault that a run or its report can have: none of the reader's or of the plan's
+abbrev pub IsFaultOfRun : ServeFault → Type 0
+IsFaultOfRun Read = ⊥
+IsFaultOfRun TooLong = ⊥
+IsFaultOfRun (serve.Plan fault) = ⊥
+IsFaultOfRun (NotServed fault) = ⊥
+IsFaultOfRun (Run fault) = Unit {0}
+IsFaultOfRun Write = Unit {0}
+IsFaultOfRun Memory = Unit {0}
+
+abbrev pub IsOfRun : Result (Unit {0}) ServeFault → Type 0
+IsOfRun (Ok done) = Unit {0}
+IsOfRun (Err fault) = IsFaultOfRun fault
+
+-- the lines of an item; the number is that of a listing
+abbrev pub item_lines : ℕ → Item → List (List ℕ)
+item_lines number (Listing entries taken) = listing_lines number entries
+
+-- the host is to send, to receive or to clear
+abbrev pub is_transfer : Action → Bool
+is_transfer (Plug path device) = false
+is_transfer (Unplug path) = false
+is_transfer Show = false
+is_transfer (Send path bytes) = true
+is_transfer (Receive path packets) = true
+is_transfer (Clear path) = true

@@ -1,0 +1,246 @@
+//! The lines of a listing, each with its newline.
+ghost use Rattle.std.specs.Prelude.{◌≡◌, ◌++◌, ◌∷◌, [], OnOk, IfOk, flat_map, map, option_map};
+ghost use Rattle.usb_serve.specs.Report.{address_line, config_line, config_lines, string_line, string_lines, refused_line, listing_line, bound_line, device_lines, finding_lines, entry_lines, listing_lines, star, request_word, cause_word, cause_index};
+
+use crate::lines::Lines;
+use crate::text::{push_decimal, push_hex, push_path, push_units, speed_word};
+use std::alloc::{AllocError, Global};
+use usb_enum::{Accepted, Cause, ConfigText, Finding, Request, StringUnits};
+use usb_host::Tree;
+use usb_port::PortPath;
+
+/// `listing N`.
+#[tactic(auto, unfolding(crate::specs::Report::listing_line))]
+fn listing_line(alloc: Global, number: u64) -> Result<Vec<u8>, AllocError>
+    ensures { IfOk result (λ line. line.items ≡ listing_line number) }
+{
+    let mut line = Vec::new(alloc);
+    line.extend_from_slice(b"listing ")?;
+    push_decimal(alloc, &mut line, number)?;
+    line.extend_from_slice(b"\n")?;
+    Ok(line)
+}
+
+/// `bound N`.
+#[tactic(auto, unfolding(crate::specs::Report::bound_line))]
+pub fn bound_line(alloc: Global, bound: u64) -> Result<Vec<u8>, AllocError>
+    ensures { IfOk result (λ line. line.items ≡ bound_line bound) }
+{
+    let mut line = Vec::new(alloc);
+    line.extend_from_slice(b"bound ")?;
+    push_decimal(alloc, &mut line, bound)?;
+    line.extend_from_slice(b"\n")?;
+    Ok(line)
+}
+
+/// `PATH address A full|low HEX`.
+#[tactic(auto, unfolding(crate::specs::Report::address_line))]
+fn address_line(alloc: Global, path: &PortPath, device: &Accepted) -> Result<Vec<u8>, AllocError>
+    ensures { IfOk result (λ line. line.items ≡ address_line path.now device.now.address device.now.low device.now.bytes) }
+{
+    let mut line = Vec::new(alloc);
+    push_path(&mut line, path)?;
+    line.extend_from_slice(b" address ")?;
+    push_decimal(alloc, &mut line, u64::from(device.address.number()))?;
+    line.extend_from_slice(b" ")?;
+    line.extend_from_slice(speed_word(device.low).as_bytes())?;
+    line.extend_from_slice(b" ")?;
+    push_hex(alloc, &mut line, &device.bytes)?;
+    line.extend_from_slice(b"\n")?;
+    Ok(line)
+}
+
+/// What stands behind the chosen configuration.
+fn star(chosen: bool) -> &'static str
+    ensures { result.now ≡ star chosen }
+{
+    if chosen { " *" } else { "" }
+}
+
+/// `PATH config I HEX`, and a star behind the chosen one.
+#[tactic(auto, unfolding(crate::specs::Report::config_line))]
+fn config_line(
+    alloc: Global,
+    path: &PortPath,
+    index: usize,
+    text: &[u8],
+    chosen: bool,
+) -> Result<Vec<u8>, AllocError>
+    ensures { IfOk result (λ line. line.items ≡ config_line path.now index text.now chosen) }
+{
+    let mut line = Vec::new(alloc);
+    push_path(&mut line, path)?;
+    line.extend_from_slice(b" config ")?;
+    push_decimal(alloc, &mut line, index as u64)?;
+    line.extend_from_slice(b" ")?;
+    push_hex(alloc, &mut line, text)?;
+    line.extend_from_slice(star(chosen).as_bytes())?;
+    line.extend_from_slice(b"\n")?;
+    Ok(line)
+}
+
+fn push_configs(
+    alloc: Global,
+    lines: &mut Lines,
+    path: &PortPath,
+    texts: &[ConfigText],
+    chosen: usize,
+) -> Result<(), AllocError>
+    ensures { OnOk result (lines.new ≡ lines.old ++ config_lines path.now 0 chosen texts.now) }
+{
+    'texts: for (index, text) in texts.iter().enumerate() {
+        lines.push(config_line(alloc, path, index, text.as_slice(), index == chosen)?)?;
+    }
+    Ok(())
+}
+
+/// `PATH LABEL "TEXT"`.
+#[tactic(auto, unfolding(crate::specs::Report::string_line))]
+fn string_line(
+    alloc: Global,
+    path: &PortPath,
+    label: &str,
+    units: &[u16],
+) -> Result<Vec<u8>, AllocError>
+    ensures { IfOk result (λ line. line.items ≡ string_line path.now label.now units.now) }
+{
+    let mut line = Vec::new(alloc);
+    push_path(&mut line, path)?;
+    line.extend_from_slice(b" ")?;
+    line.extend_from_slice(label.as_bytes())?;
+    line.extend_from_slice(b" \"")?;
+    push_units(&mut line, units)?;
+    line.extend_from_slice(b"\"\n")?;
+    Ok(line)
+}
+
+fn push_string(
+    alloc: Global,
+    lines: &mut Lines,
+    path: &PortPath,
+    label: &str,
+    units: &Option<StringUnits>,
+) -> Result<(), AllocError>
+    ensures { OnOk result (lines.new ≡ lines.old ++ string_lines path.now label.now units.now) }
+{
+    match units {
+        Some(units) => lines.push(string_line(alloc, path, label, units.as_slice())?),
+        None => Ok(()),
+    }
+}
+
+#[tactic(auto, unfolding(crate::specs::Report::device_lines))]
+fn push_device(
+    alloc: Global,
+    lines: &mut Lines,
+    path: &PortPath,
+    device: &Accepted,
+) -> Result<(), AllocError>
+    ensures { OnOk result (lines.new ≡ lines.old ++ device_lines path.now device.now) }
+{
+    lines.push(address_line(alloc, path, device)?)?;
+    push_configs(alloc, lines, path, device.configs.as_slice(), device.chosen)?;
+    push_string(
+        alloc,
+        lines,
+        path,
+        "manufacturer",
+        &device.strings.manufacturer,
+    )?;
+    push_string(alloc, lines, path, "product", &device.strings.product)?;
+    push_string(alloc, lines, path, "serial", &device.strings.serial_number)
+}
+
+/// The request that a stalled device stalled.
+fn request_word(request: Request) -> &'static str
+    ensures { result.now ≡ request_word request }
+{
+    match request {
+        Request::Device => "stalled device",
+        Request::Address => "stalled address",
+        Request::Config => "stalled config",
+        Request::SetConfig => "stalled set config",
+    }
+}
+
+/// The words of a cause, without the number that some end in.
+fn cause_word(cause: Cause) -> &'static str
+    ensures { result.now ≡ cause_word cause }
+{
+    match cause {
+        Cause::Silent => "silent",
+        Cause::Busy => "busy",
+        Cause::Stalled(request) => request_word(request),
+        Cause::BadDevice => "bad device",
+        Cause::TooDeep => "too deep",
+        Cause::BadConfiguration(_) => "bad configuration ",
+        Cause::NoPower => "no power",
+        Cause::BadHub => "bad hub",
+        Cause::Lost => "lost",
+        Cause::NoAddress => "no address",
+    }
+}
+
+fn push_index(alloc: Global, line: &mut Vec<u8>, cause: Cause) -> Result<(), AllocError>
+    ensures { OnOk result (line.new.items ≡ line.old.items ++ cause_index cause) }
+{
+    match cause {
+        Cause::BadConfiguration(index) => push_decimal(alloc, line, u64::from(index)),
+        _ => Ok(()),
+    }
+}
+
+/// `PATH refused CAUSE`.
+#[tactic(auto, unfolding(crate::specs::Report::refused_line))]
+fn refused_line(alloc: Global, path: &PortPath, cause: Cause) -> Result<Vec<u8>, AllocError>
+    ensures { IfOk result (λ line. line.items ≡ refused_line path.now cause) }
+{
+    let mut line = Vec::new(alloc);
+    push_path(&mut line, path)?;
+    line.extend_from_slice(b" refused ")?;
+    line.extend_from_slice(cause_word(cause).as_bytes())?;
+    push_index(alloc, &mut line, cause)?;
+    line.extend_from_slice(b"\n")?;
+    Ok(line)
+}
+
+fn push_finding(
+    alloc: Global,
+    lines: &mut Lines,
+    path: &PortPath,
+    finding: &Finding,
+) -> Result<(), AllocError>
+    ensures { OnOk result (lines.new ≡ lines.old ++ finding_lines path.now finding.now) }
+{
+    match finding {
+        Finding::Device(device) => push_device(alloc, lines, path, device),
+        Finding::Refused(cause) => lines.push(refused_line(alloc, path, *cause)?),
+    }
+}
+
+fn push_entries(
+    alloc: Global,
+    lines: &mut Lines,
+    entries: &[(PortPath, Finding)],
+) -> Result<(), AllocError>
+    ensures { OnOk result (lines.new ≡ lines.old ++ flat_map entry_lines entries.now) }
+{
+    'entries: for entry in entries {
+        push_finding(alloc, lines, &entry.0, &entry.1)?;
+    }
+    Ok(())
+}
+
+/// The lines of a listing, the first one number 1.
+#[tactic(auto, unfolding(crate::specs::Report::listing_lines))]
+pub fn listing_lines(alloc: Global, number: u64, tree: &Tree) -> Result<Lines, AllocError>
+    ensures { IfOk result (λ lines. lines ≡ listing_lines number tree.now) }
+{
+    let mut lines = Lines::new(alloc);
+    lines.push(listing_line(alloc, number)?)?;
+    push_entries(alloc, &mut lines, tree.entries())?;
+    let mut end = Vec::new(alloc);
+    end.extend_from_slice(b"end\n")?;
+    lines.push(end)?;
+    Ok(lines)
+}

@@ -1,0 +1,105 @@
+//! The words after the program's name, and what is read from them.
+use std::alloc::{AllocError, Global};
+use std::test::Fail;
+use usb_words::read_words;
+
+const HELP: &str = "\
+Runs a USB host on a simulated bus, as a plan says, or prints one packet
+
+Usage: usbplan [COMMAND]
+
+Commands:
+  packet  Prints the packet that bytes spell, and the bytes
+  tree    Runs a plan, and prints the devices that the host found
+  run     Runs a plan, and prints each plug, each attempt and the devices that the host found
+  help    Print this message or the help of the given subcommand(s)
+
+Options:
+  -h, --help     Print help
+  -V, --version  Print version
+
+With no command it does what `packet` does, with the digits on standard input.
+";
+
+const PACKET_HELP: &str = "\
+Prints the packet that bytes spell, and the bytes
+
+Usage: usbplan packet <HEX>
+
+Arguments:
+  <HEX>  The bytes, in hexadecimal digits
+
+Options:
+  -h, --help  Print help
+";
+
+const TREE_HELP: &str = "\
+Runs a plan, and prints the devices that the host found
+
+Usage: usbplan tree <FILE>
+
+Arguments:
+  <FILE>  The plan's file; `-` is standard input
+
+Options:
+  -h, --help  Print help
+";
+
+const NO_SUCH_COMMAND: &str = "\
+error: unrecognized subcommand 'list'
+
+Usage: usbplan [COMMAND]
+
+For more information, try '--help'.
+";
+
+const NO_SUCH_OPTION: &str = "\
+error: unexpected argument '--all' found
+
+  tip: to pass '--all' as a value, use '-- --all'
+
+Usage: usbplan tree <FILE>
+
+For more information, try '--help'.
+";
+
+const NO_FILE: &str = "\
+error: the following required arguments were not provided:
+  <FILE>
+
+Usage: usbplan run <FILE>
+
+For more information, try '--help'.
+";
+
+/// Words, and what they ask for, or the text that is shown in its place.
+const WORDS: [(&[&str], &str); 11] = [
+    (&["packet", "2D0010"], "Packet(\"2D0010\")"),
+    (&[], "Stdin"),
+    (&["tree", "plan.toml"], "Tree(\"plan.toml\")"),
+    (&["run", "-"], "Run(\"-\")"),
+    (&["list", "plan.toml"], NO_SUCH_COMMAND),
+    (&["tree", "--all"], NO_SUCH_OPTION),
+    (&["run"], NO_FILE),
+    (&["packet", "--help"], PACKET_HELP),
+    (&["tree", "--help"], TREE_HELP),
+    (&["--help"], HELP),
+    (&["--version"], "usbplan 0.1.0\n"),
+];
+
+/// What the words ask for, or the text that is shown in its place.
+fn told(alloc: Global, words: &[&str]) -> Result<String, AllocError> {
+    match read_words(alloc, words) {
+        Ok(asked) => format!(in alloc; "{asked:?}"),
+        Err(fault) => format!(in alloc; "{fault}"),
+    }
+}
+
+#[test]
+fn words_are_read(rt: HostRuntime) -> Result<(), Fail> {
+    for (words, want) in &WORDS {
+        let told = told(rt.alloc(), words)?;
+        assert_eq!(rt; told.as_str(), *want, "{words:?}");
+    }
+    Ok(())
+}

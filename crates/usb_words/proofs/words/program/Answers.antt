@@ -1,0 +1,10 @@
+use Rattle.std.proofs.Common.{◌≡◌, ◌∙◌, ap₂, subst, IfOk}
+use Rattle.clap.specs.Simple.{app_of, with_subcommand}
+use Rattle.usb_words.proofs.words.program.Goals as goal
+
+pub returns : goal.returns
+returns c =
+    let first = c.in_ok-with_packet.ensures ∙ ap₂ (λ p q. with_subcommand p q.top) c.in_ok-plain_program.ensures c.in_ok-packet.ensures in
+    let second = c.in_ok-with_tree.ensures ∙ ap₂ (λ p q. with_subcommand p q.top) first c.in_ok-tree.ensures in
+    subst (λ a. IfOk c.with_command-3.result (λ whole. app_of whole ≡ a))
+    (ap₂ (λ p q. with_subcommand p q.top) second c.in_ok-run.ensures) c.with_command-3.ensures

@@ -1,0 +1,52 @@
+use Rattle.std.proofs.Common.{◌≡◌, ◌∙◌, sym, ap, List, Some, None, option_map, codes}
+use Rattle.clap.specs.Walk.{Row, Text, rows_of}
+use Rattle.clap.specs.Matches.{found_of, subcommand_name_of}
+use Rattle.clap.specs.Simple.{subcommand_rows, subcommand_rows_of}
+use Rattle.clap.specs.declared.parser.matches.ArgMatches.{ArgMatches}
+use Rattle.clap.specs.declared.parser.matches.ArgMatches.TheViews.{out-ArgMatches, out-SubCommand}
+use Rattle.std.specs.Box.{box_value}
+use Rattle.clap.proofs.WalkLemmas.{first_value-rows}
+use Rattle.usb_words.proofs.words.read_words.Goals as goal
+
+-- the subcommand's name and rows as one pair
+pair_of : (m : ArgMatches) (n : Text) (rows : List Row) → Some n ≡ subcommand_name_of m
+    → Some rows ≡ option_map (λ p. p.1) (subcommand_rows_of m) → subcommand_rows_of m ≡ Some (n, rows)
+pair_of m n rows a b =
+    elim (out-ArgMatches m).subcommand as (λ o. Some n ≡ option_map (λ b. (out-SubCommand (box_value b)).name.now) o
+    → Some rows ≡ option_map (λ p. p.1) (subcommand_rows o) → subcommand_rows o ≡ Some (n, rows)) [
+      | None ↦ λ x y. cc
+      | Some s ↦ λ x y. cc
+    ] a b
+
+pub returns-in-Some-get_str : goal.returns-in-Some-get_str
+returns-in-Some-get_str c =
+    let found = found_of c.in-Some-packet-default.found.now in
+    let arm = c.in-Some-packet-default.ensures in
+    let name : Some (codes "packet") ≡ subcommand_name_of c.in-Ok.matches = sym (ap Some c.in-Some-packet-default.is-packet) ∙ arm.name in
+    record {
+      rows = rows_of found;
+      subcommand = sym c.in-Ok.ensures ∙ pair_of c.in-Ok.matches (codes "packet") (rows_of found) name arm.rows;
+      value = sym (first_value-rows found (codes "text")) ∙ sym c.in-Some-get_str.ensures;
+    }
+
+pub returns-in-Some-get_str-2 : goal.returns-in-Some-get_str-2
+returns-in-Some-get_str-2 c =
+    let found = found_of c.in-Some-tree-default.found.now in
+    let arm = c.in-Some-tree-default.ensures in
+    let name : Some (codes "tree") ≡ subcommand_name_of c.in-Ok.matches = sym (ap Some c.in-Some-tree-default.is-tree) ∙ arm.name in
+    record {
+      rows = rows_of found;
+      subcommand = sym c.in-Ok.ensures ∙ pair_of c.in-Ok.matches (codes "tree") (rows_of found) name arm.rows;
+      value = sym (first_value-rows found (codes "text")) ∙ sym c.in-Some-get_str-2.ensures;
+    }
+
+pub returns-in-Some-get_str-3 : goal.returns-in-Some-get_str-3
+returns-in-Some-get_str-3 c =
+    let found = found_of c.in-Some-run-default.found.now in
+    let arm = c.in-Some-run-default.ensures in
+    let name : Some (codes "run") ≡ subcommand_name_of c.in-Ok.matches = sym (ap Some c.in-Some-run-default.is-run) ∙ arm.name in
+    record {
+      rows = rows_of found;
+      subcommand = sym c.in-Ok.ensures ∙ pair_of c.in-Ok.matches (codes "run") (rows_of found) name arm.rows;
+      value = sym (first_value-rows found (codes "text")) ∙ sym c.in-Some-get_str-3.ensures;
+    }

@@ -1,0 +1,34 @@
+-- The program's command line, as `clap` reads it.
+use Rattle.std.specs.Prelude.{◌≡◌, List, ℕ, codes, Some, None, true}
+use Rattle.clap.specs.Walk.{Row, Rule, Text, first_of}
+use Rattle.clap.specs.Simple.{App, new_app, new_rule, with_rule, with_subcommand, subcommand_of}
+use Rattle.clap.specs.declared.builder.action.ArgAction.TheVariants.{Set}
+use Rattle.usb_words.specs.declared.words.Words.{Words}
+use Rattle.usb_words.specs.declared.words.Words.TheVariants.{Stdin, Packet, Tree, Run}
+
+-- the one text that a subcommand wants
+abbrev pub text_rule : Rule
+text_rule = record (new_rule (codes "text")) { required = true; action = Some Set; value_names = 1 }
+
+abbrev pub text_app : List ℕ → App
+text_app name = with_rule (new_app name) text_rule
+
+-- the program takes its words without its name, and has a version
+abbrev pub plain_app : App
+plain_app = let app = new_app (codes "usbplan") in record app { top = record app.top { no_binary_name = true; has_version = true } }
+
+abbrev pub program_app : App
+program_app = with_subcommand (with_subcommand (with_subcommand plain_app (text_app (codes "packet")).top) (text_app (codes "tree")).top) (text_app (codes "run")).top
+
+-- clap reads this subcommand from the words, with this text
+pub record Asks (words : List Text) (name text : List ℕ) : Type 0 where
+  pub rows : List Row
+  pub subcommand : subcommand_of program_app words ≡ Some (name, rows)
+  pub value : first_of (codes "text") rows ≡ Some text
+
+-- what the words say, by the subcommand that clap reads from them and its text
+abbrev pub Reads : List Text → Words → Type 0
+Reads words Stdin = subcommand_of program_app words ≡ None
+Reads words (Packet text) = Asks words (codes "packet") text.now
+Reads words (Tree text) = Asks words (codes "tree") text.now
+Reads words (Run text) = Asks words (codes "run") text.now

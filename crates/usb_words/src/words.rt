@@ -1,0 +1,168 @@
+//! The words after the program's name.
+ghost use Rattle.std.specs.Prelude.{◌≡◌, IfOk, map, true, false};
+ghost use Rattle.clap.specs.Simple.{app_of, subcommand_of, subcommand_rows_of, with_subcommand};
+ghost use Rattle.clap.specs.Walk.{rule_of};
+ghost use Rattle.usb_words.specs.CommandLine.{Reads, plain_app, program_app, text_app, text_rule};
+
+use clap::error::ErrorKind;
+use clap::{Arg, ArgAction, ArgMatches, Command, Error};
+use std::alloc::{AllocError, Global};
+
+/// The program's version.
+const VERSION: &str = "0.1.0";
+
+/// What the words ask for.
+#[derive(Debug, Drop)]
+pub enum Words<'a> {
+    /// No words: a packet's digits on standard input.
+    Stdin,
+    /// A packet, by its digits.
+    Packet(&'a str),
+    /// The tree that a plan's run ends in, by the plan's file.
+    Tree(&'a str),
+    /// A plan's run, by the plan's file.
+    Run(&'a str),
+}
+
+/// Why the words ask for nothing.
+#[derive(Debug, Drop, thiserror::Error)]
+pub enum WordFault {
+    /// They are no command of the program, or ask for its help or its version.
+    #[error("{0}")]
+    Refused(Error),
+    /// Memory was refused.
+    #[error("out of memory")]
+    Memory,
+}
+
+/// Reads the words after the program's name: `packet HEX`, `tree FILE`, `run FILE` or none.
+///
+/// # Errors
+/// Refused where `clap` reads no such command, or is asked for the help or the version.
+pub fn read_words<'a>(alloc: Global, words: &'a [&'a str]) -> Result<Words<'a>, WordFault>
+    ensures { IfOk result (λ asked. Reads (map (λ s. s.now) words.entry.now) asked) }
+{
+    let matches = match matches_of(alloc, words) {
+        Ok(matches) => matches,
+        Err(error) if error.kind() == ErrorKind::OutOfMemory => return Err(WordFault::Memory),
+        Err(error) => return Err(WordFault::Refused(error)),
+    };
+    match matches.subcommand() {
+        None => Ok(Words::Stdin),
+        Some(("packet", found)) => match found.get_str("text") {
+            Some(text) => Ok(Words::Packet(text)),
+            None => Err(no_command(alloc)),
+        },
+        Some(("tree", found)) => match found.get_str("text") {
+            Some(text) => Ok(Words::Tree(text)),
+            None => Err(no_command(alloc)),
+        },
+        Some(("run", found)) => match found.get_str("text") {
+            Some(text) => Ok(Words::Run(text)),
+            None => Err(no_command(alloc)),
+        },
+        Some(_) => Err(no_command(alloc)),
+    }
+}
+
+/// The fault of words that are no command.
+fn no_command(alloc: Global) -> WordFault {
+    let Ok(mut program) = program(alloc) else {
+        return WordFault::Memory;
+    };
+    match program.error(ErrorKind::InvalidSubcommand, "no such command") {
+        Ok(error) => WordFault::Refused(error),
+        Err(_) => WordFault::Memory,
+    }
+}
+
+fn matches_of<'a>(alloc: Global, words: &'a [&'a str]) -> Result<ArgMatches<'a>, Error>
+    ensures { IfOk result (λ m. subcommand_rows_of m ≡ subcommand_of program_app (map (λ s. s.now) words.entry.now)) }
+{
+    program(alloc)?.try_get_matches_from(words)
+}
+
+fn program<'a>(alloc: Global) -> Result<Command<'a>, AllocError>
+    ensures { IfOk result (λ c. app_of c ≡ program_app) }
+{
+    let packet = command(
+        alloc,
+        "packet",
+        "Prints the packet that bytes spell, and the bytes",
+        text(alloc, "HEX", "The bytes, in hexadecimal digits"),
+    )?;
+    let tree = command(
+        alloc,
+        "tree",
+        "Runs a plan, and prints the devices that the host found",
+        plan_file(alloc),
+    )?;
+    let run = command(
+        alloc,
+        "run",
+        "Runs a plan, and prints each plug, each attempt and the devices that the host found",
+        plan_file(alloc),
+    )?;
+    let with_packet = with_command(plain_program(alloc)?, packet)?;
+    let with_tree = with_command(with_packet, tree)?;
+    with_command(with_tree, run)
+}
+
+/// The program before its commands.
+fn plain_program<'a>(alloc: Global) -> Result<Command<'a>, AllocError>
+    ensures { IfOk result (λ c. app_of c ≡ plain_app) }
+{
+    let named = Command::new(alloc, "usbplan").bin_name("usbplan")?;
+    Ok(
+        named
+            .no_binary_name(true)
+            .version(VERSION)
+            .about("Runs a USB host on a simulated bus, as a plan says, or prints one packet")
+            .after_help(
+                "With no command it does what `packet` does, with the digits on standard input.",
+            ),
+    )
+}
+
+/// The program with one more command.
+fn with_command<'a>(program: Command<'a>, command: Command<'a>) -> Result<Command<'a>, AllocError>
+    requires { (app_of command).top.is_plain ≡ true }
+    ensures { IfOk result (λ c. app_of c ≡ with_subcommand (app_of program.entry) (app_of command.entry).top) }
+{
+    let whole = program.subcommand(command)?;
+    Ok(whole)
+}
+
+/// A command that wants one text.
+fn command<'a>(
+    alloc: Global,
+    name: &'a str,
+    purpose: &'a str,
+    text: Arg<'a>,
+) -> Result<Command<'a>, AllocError>
+    requires local { text.global ≡ false }
+    requires rule { rule_of text ≡ text_rule }
+    ensures { IfOk result (λ c. app_of c ≡ text_app name.entry.now) }
+{
+    Command::new(alloc, name).about(purpose).arg(text)
+}
+
+/// The file of a command that runs a plan.
+fn plan_file<'a>(alloc: Global) -> Arg<'a>
+    ensures local { result.global ≡ false }
+    ensures rule { rule_of result ≡ text_rule }
+{
+    text(alloc, "FILE", "The plan's file; `-` is standard input")
+}
+
+/// The one text that a command wants, and what help says of it.
+fn text<'a>(alloc: Global, value: &'a str, purpose: &'a str) -> Arg<'a>
+    ensures local { result.global ≡ false }
+    ensures rule { rule_of result ≡ text_rule }
+{
+    Arg::new(alloc, "text")
+        .required(true)
+        .action(ArgAction::Set)
+        .value_name(value)
+        .help(purpose)
+}
