@@ -51,6 +51,3 @@ pub use world_laws::{
     packet_laws, pending_stays, quiet_courses_keep_addresses, reachable_is_the_same,
     reset_makes_new, reset_makes_reachable, sane_laws, steps_keep_what_is_between,
 };
-
-#[cfg(test)]
-mod tests;
