@@ -14,6 +14,3 @@ pub use usb_world::{
     Action, Attempt, BusFault, Damage, Damages, Due, Event, Events, Harm, Outcome, Plan, SentBytes,
 };
 pub use watched::{Watched, WriteFailed, put_piece};
-
-#[cfg(test)]
-mod tests;

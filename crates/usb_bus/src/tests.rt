@@ -1,6 +1,0 @@
-mod damage;
-mod hubs;
-mod laws;
-mod memory;
-mod sim;
-mod watched;

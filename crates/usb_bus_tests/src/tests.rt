@@ -1,0 +1,9 @@
+mod damage;
+mod hubs;
+mod memory;
+mod plans;
+mod roots;
+mod row;
+mod step;
+mod watched;
+mod writers;

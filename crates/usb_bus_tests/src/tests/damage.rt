@@ -1,0 +1,417 @@
+//! Damaged packets.
+
+use super::plans::{GET_DEVICE, ONE_FUNCTION, SET_ADDRESS_5};
+use super::row::{joined, plan_text, went_otherwise};
+use super::step::Speed::Full;
+use super::step::{Step, told};
+use std::alloc::Global;
+use std::str;
+use std::test::Fail;
+use usb_bench::{plugged, trace_of};
+use usb_bus::{Damage, Harm};
+
+/// The damage to a packet of one of the attempts SETUP, IN and OUT, and what that attempt tells and its line.
+#[derive(Clone, Copy)]
+struct Damaged {
+    damage: Damage,
+    told: &'static str,
+    line: &'static str,
+}
+
+const DAMAGES: &[Damaged] = &[
+    Damaged {
+        damage: Damage {
+            attempt: 1,
+            packet: 1,
+            harm: Harm::LosePre,
+        },
+        told: "ack",
+        line: "1 SETUP 0.0 / DATA0 8006000100000800 / ACK",
+    },
+    Damaged {
+        damage: Damage {
+            attempt: 1,
+            packet: 1,
+            harm: Harm::Lose,
+        },
+        told: "none",
+        line: "1 SETUP 0.0 [lost] / DATA0 8006000100000800 / none",
+    },
+    Damaged {
+        damage: Damage {
+            attempt: 1,
+            packet: 1,
+            harm: Harm::Flip(7),
+        },
+        told: "none",
+        line: "1 SETUP 0.0 [bit 7] / DATA0 8006000100000800 / none",
+    },
+    Damaged {
+        damage: Damage {
+            attempt: 1,
+            packet: 1,
+            harm: Harm::Flip(24),
+        },
+        told: "ack",
+        line: "1 SETUP 0.0 / DATA0 8006000100000800 / ACK",
+    },
+    Damaged {
+        damage: Damage {
+            attempt: 1,
+            packet: 2,
+            harm: Harm::Lose,
+        },
+        told: "none",
+        line: "1 SETUP 0.0 / DATA0 8006000100000800 [lost] / none",
+    },
+    Damaged {
+        damage: Damage {
+            attempt: 1,
+            packet: 2,
+            harm: Harm::Flip(7),
+        },
+        told: "none",
+        line: "1 SETUP 0.0 / DATA0 8006000100000800 [bit 7] / none",
+    },
+    Damaged {
+        damage: Damage {
+            attempt: 1,
+            packet: 2,
+            harm: Harm::Flip(88),
+        },
+        told: "ack",
+        line: "1 SETUP 0.0 / DATA0 8006000100000800 / ACK",
+    },
+    Damaged {
+        damage: Damage {
+            attempt: 1,
+            packet: 3,
+            harm: Harm::Lose,
+        },
+        told: "none",
+        line: "1 SETUP 0.0 / DATA0 8006000100000800 / ACK [lost]",
+    },
+    Damaged {
+        damage: Damage {
+            attempt: 1,
+            packet: 3,
+            harm: Harm::Flip(7),
+        },
+        told: "none",
+        line: "1 SETUP 0.0 / DATA0 8006000100000800 / ACK [bit 7]",
+    },
+    Damaged {
+        damage: Damage {
+            attempt: 1,
+            packet: 3,
+            harm: Harm::Flip(8),
+        },
+        told: "ack",
+        line: "1 SETUP 0.0 / DATA0 8006000100000800 / ACK",
+    },
+    Damaged {
+        damage: Damage {
+            attempt: 2,
+            packet: 1,
+            harm: Harm::Lose,
+        },
+        told: "none",
+        line: "2 IN 0.0 [lost] / none",
+    },
+    Damaged {
+        damage: Damage {
+            attempt: 2,
+            packet: 1,
+            harm: Harm::Flip(7),
+        },
+        told: "none",
+        line: "2 IN 0.0 [bit 7] / none",
+    },
+    Damaged {
+        damage: Damage {
+            attempt: 2,
+            packet: 1,
+            harm: Harm::Flip(24),
+        },
+        told: "data",
+        line: "2 IN 0.0 / DATA1 1201000200000040 / ACK",
+    },
+    Damaged {
+        damage: Damage {
+            attempt: 2,
+            packet: 2,
+            harm: Harm::Lose,
+        },
+        told: "none",
+        line: "2 IN 0.0 / DATA1 1201000200000040 [lost]",
+    },
+    Damaged {
+        damage: Damage {
+            attempt: 2,
+            packet: 2,
+            harm: Harm::Flip(7),
+        },
+        told: "none",
+        line: "2 IN 0.0 / DATA1 1201000200000040 [bit 7]",
+    },
+    Damaged {
+        damage: Damage {
+            attempt: 2,
+            packet: 2,
+            harm: Harm::Flip(88),
+        },
+        told: "data",
+        line: "2 IN 0.0 / DATA1 1201000200000040 / ACK",
+    },
+    Damaged {
+        damage: Damage {
+            attempt: 2,
+            packet: 3,
+            harm: Harm::Lose,
+        },
+        told: "data",
+        line: "2 IN 0.0 / DATA1 1201000200000040 / ACK [lost]",
+    },
+    Damaged {
+        damage: Damage {
+            attempt: 2,
+            packet: 3,
+            harm: Harm::Flip(7),
+        },
+        told: "data",
+        line: "2 IN 0.0 / DATA1 1201000200000040 / ACK [bit 7]",
+    },
+    Damaged {
+        damage: Damage {
+            attempt: 2,
+            packet: 3,
+            harm: Harm::Flip(8),
+        },
+        told: "data",
+        line: "2 IN 0.0 / DATA1 1201000200000040 / ACK",
+    },
+    Damaged {
+        damage: Damage {
+            attempt: 3,
+            packet: 1,
+            harm: Harm::Lose,
+        },
+        told: "none",
+        line: "3 OUT 0.0 [lost] / DATA1 - / none",
+    },
+    Damaged {
+        damage: Damage {
+            attempt: 3,
+            packet: 1,
+            harm: Harm::Flip(7),
+        },
+        told: "none",
+        line: "3 OUT 0.0 [bit 7] / DATA1 - / none",
+    },
+    Damaged {
+        damage: Damage {
+            attempt: 3,
+            packet: 1,
+            harm: Harm::Flip(24),
+        },
+        told: "ack",
+        line: "3 OUT 0.0 / DATA1 - / ACK",
+    },
+    Damaged {
+        damage: Damage {
+            attempt: 3,
+            packet: 2,
+            harm: Harm::Lose,
+        },
+        told: "none",
+        line: "3 OUT 0.0 / DATA1 - [lost] / none",
+    },
+    Damaged {
+        damage: Damage {
+            attempt: 3,
+            packet: 2,
+            harm: Harm::Flip(7),
+        },
+        told: "none",
+        line: "3 OUT 0.0 / DATA1 - [bit 7] / none",
+    },
+    Damaged {
+        damage: Damage {
+            attempt: 3,
+            packet: 2,
+            harm: Harm::Flip(24),
+        },
+        told: "ack",
+        line: "3 OUT 0.0 / DATA1 - / ACK",
+    },
+    Damaged {
+        damage: Damage {
+            attempt: 3,
+            packet: 3,
+            harm: Harm::Lose,
+        },
+        told: "none",
+        line: "3 OUT 0.0 / DATA1 - / ACK [lost]",
+    },
+    Damaged {
+        damage: Damage {
+            attempt: 3,
+            packet: 3,
+            harm: Harm::Flip(7),
+        },
+        told: "none",
+        line: "3 OUT 0.0 / DATA1 - / ACK [bit 7]",
+    },
+    Damaged {
+        damage: Damage {
+            attempt: 3,
+            packet: 3,
+            harm: Harm::Flip(8),
+        },
+        told: "ack",
+        line: "3 OUT 0.0 / DATA1 - / ACK",
+    },
+];
+
+/// What the damaged attempt told, and its line.
+fn damaged_told(alloc: Global, damage: Damage) -> Result<String, Fail> {
+    let text = plan_text(alloc, ONE_FUNCTION, &[damage])?;
+    let mut bus = plugged(alloc, text.as_str())?;
+    let mut words = String::new(alloc);
+    for step in [
+        Step::Setup(Full, 0, GET_DEVICE),
+        Step::In(Full, 0),
+        Step::Out(Full, 0),
+    ] {
+        let told = told(alloc, &mut bus, step)?;
+        if bus.attempts() == damage.attempt {
+            words = told;
+        }
+    }
+    let trace = trace_of(bus);
+    let line = str::from_utf8(trace.as_slice())?
+        .lines()
+        .nth(damage.attempt as usize);
+    Ok(format!(in alloc; "{}: {}", words.as_str(), line.unwrap_or(""))?)
+}
+
+#[test]
+fn each_packet_is_damaged(rt: HostRuntime) -> Result<(), Fail> {
+    let alloc = rt.alloc();
+    for row in DAMAGES {
+        let wanted = joined(alloc, &[row.told, ": ", row.line])?;
+        assert_eq!(rt;
+            damaged_told(alloc, row.damage)?.as_str(),
+            wanted.as_str(),
+            "{}",
+            row.line
+        );
+    }
+    Ok(())
+}
+
+/// The damage to a packet of SET_ADDRESS, what its two attempts tell, and what is counted and registered then.
+#[derive(Clone, Copy)]
+struct Lost {
+    damage: Damage,
+    setup: &'static str,
+    status: &'static str,
+    counts: &'static str,
+    registers: &'static str,
+}
+
+const NEVER: &str = "attempts 2, events 1 of 1, losses 0, worst 0";
+
+const ONCE: &str = "attempts 2, events 1 of 1, losses 1, worst 1";
+
+/// An address is lost only where the device gave the status stage and did not see the ACK.
+const LOSSES: &[Lost] = &[
+    Lost {
+        damage: Damage {
+            attempt: 2,
+            packet: 3,
+            harm: Harm::Lose,
+        },
+        setup: "ack",
+        status: "data",
+        counts: ONCE,
+        registers: "Some((0, 0))",
+    },
+    Lost {
+        damage: Damage {
+            attempt: 2,
+            packet: 3,
+            harm: Harm::Flip(0),
+        },
+        setup: "ack",
+        status: "data",
+        counts: ONCE,
+        registers: "Some((0, 0))",
+    },
+    Lost {
+        damage: Damage {
+            attempt: 2,
+            packet: 3,
+            harm: Harm::Flip(8),
+        },
+        setup: "ack",
+        status: "data",
+        counts: NEVER,
+        registers: "Some((5, 0))",
+    },
+    Lost {
+        damage: Damage {
+            attempt: 2,
+            packet: 2,
+            harm: Harm::Lose,
+        },
+        setup: "ack",
+        status: "none",
+        counts: NEVER,
+        registers: "Some((0, 0))",
+    },
+    Lost {
+        damage: Damage {
+            attempt: 2,
+            packet: 1,
+            harm: Harm::Lose,
+        },
+        setup: "ack",
+        status: "none",
+        counts: NEVER,
+        registers: "Some((0, 0))",
+    },
+    Lost {
+        damage: Damage {
+            attempt: 1,
+            packet: 3,
+            harm: Harm::Lose,
+        },
+        setup: "none",
+        status: "data",
+        counts: NEVER,
+        registers: "Some((5, 0))",
+    },
+];
+
+/// What the attempts of a row told otherwise than it wants.
+fn lost_otherwise(alloc: Global, row: &Lost) -> Result<String, Fail> {
+    let text = plan_text(alloc, ONE_FUNCTION, &[row.damage])?;
+    let opening = [(Step::Event, "changed"), (Step::Reset(1), "")];
+    let steps = [
+        (Step::Setup(Full, 0, SET_ADDRESS_5), row.setup),
+        (Step::In(Full, 0), row.status),
+        (Step::Counts, row.counts),
+        (Step::Registers("1"), row.registers),
+    ];
+    went_otherwise(alloc, text.as_str(), &opening, &steps)
+}
+
+#[test]
+fn lost_addresses_are_counted(rt: HostRuntime) -> Result<(), Fail> {
+    for row in LOSSES {
+        let words = lost_otherwise(rt.alloc(), row)?;
+        assert_eq!(rt; words.as_str(), "", "{:?}", row.damage);
+    }
+    Ok(())
+}

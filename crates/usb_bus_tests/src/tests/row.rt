@@ -1,0 +1,121 @@
+//! A row: a plan, the steps of a host at its bus with what each tells, and the trace.
+
+use super::step::{Step, told};
+use std::alloc::{AllocError, Global};
+use std::io::Write;
+use std::str;
+use std::test::Fail;
+use usb_bench::{bus_of, trace_of};
+use usb_bus::{Damage, Harm, SimBus};
+
+/// A step and what it tells.
+pub(super) type Told<'a> = (Step, &'a str);
+
+#[derive(Clone, Copy)]
+pub(super) struct Row {
+    pub(super) about: &'static str,
+    /// The tables of the plan, but for its damages.
+    pub(super) plan: &'static [&'static str],
+    pub(super) damages: &'static [Damage],
+    /// The first steps, which rows share.
+    pub(super) opening: &'static [Told<'static>],
+    pub(super) steps: &'static [Told<'static>],
+    /// The parts of the trace.
+    pub(super) trace: &'static [&'static str],
+}
+
+/// What the row went like, to be compared with its trace.
+pub(super) fn row_went(alloc: Global, row: &Row) -> Result<String, Fail> {
+    went(alloc, row.plan, row.damages, row.opening, row.steps)
+}
+
+/// What the steps told otherwise than wanted, and then the trace.
+pub(super) fn went(
+    alloc: Global,
+    plan: &[&str],
+    damages: &[Damage],
+    opening: &[Told<'_>],
+    steps: &[Told<'_>],
+) -> Result<String, Fail> {
+    let text = plan_text(alloc, plan, damages)?;
+    let mut bus = bus_of(alloc, text.as_str())?;
+    let mut all = otherwise(alloc, &mut bus, opening, steps)?;
+    let trace = trace_of(bus);
+    all.push_str(str::from_utf8(trace.as_slice())?)?;
+    Ok(all)
+}
+
+/// What the steps at the bus of a plan's text told otherwise than wanted.
+pub(super) fn went_otherwise(
+    alloc: Global,
+    text: &str,
+    opening: &[Told<'_>],
+    steps: &[Told<'_>],
+) -> Result<String, Fail> {
+    let mut bus = bus_of(alloc, text)?;
+    Ok(otherwise(alloc, &mut bus, opening, steps)?)
+}
+
+/// Does the steps, and tells which of them told otherwise than wanted.
+pub(super) fn otherwise<W: Write>(
+    alloc: Global,
+    bus: &mut SimBus<W>,
+    opening: &[Told<'_>],
+    steps: &[Told<'_>],
+) -> Result<String, AllocError> {
+    let mut all = String::new(alloc);
+    push_otherwise(alloc, &mut all, bus, opening)?;
+    push_otherwise(alloc, &mut all, bus, steps)?;
+    Ok(all)
+}
+
+fn push_otherwise<W: Write>(
+    alloc: Global,
+    all: &mut String,
+    bus: &mut SimBus<W>,
+    steps: &[Told<'_>],
+) -> Result<(), AllocError> {
+    for (step, wanted) in steps {
+        let words = told(alloc, bus, *step)?;
+        if words.as_str() != *wanted {
+            writeln!(all, "{} and not {}", words.as_str(), *wanted)?;
+        }
+    }
+    Ok(())
+}
+
+/// The parts behind each other.
+pub(super) fn joined(alloc: Global, parts: &[&str]) -> Result<String, AllocError> {
+    let mut all = String::new(alloc);
+    for part in parts {
+        all.push_str(part)?;
+    }
+    Ok(all)
+}
+
+/// The text of a plan of these tables and damages.
+pub(super) fn plan_text(
+    alloc: Global,
+    tables: &[&str],
+    damages: &[Damage],
+) -> Result<String, AllocError> {
+    let mut text = joined(alloc, tables)?;
+    for damage in damages {
+        push_damage(&mut text, *damage)?;
+    }
+    Ok(text)
+}
+
+/// Adds the table of a damage.
+fn push_damage(text: &mut String, damage: Damage) -> Result<(), AllocError> {
+    write!(
+        text,
+        "\n[[damage]]\nattempt = {}\npacket = {}\n",
+        damage.attempt, damage.packet
+    )?;
+    match damage.harm {
+        Harm::Lose => text.push_str("how = \"lose\"\n"),
+        Harm::LosePre => text.push_str("how = \"pre\"\n"),
+        Harm::Flip(bit) => write!(text, "how = \"flip\"\nbit = {bit}\n"),
+    }
+}

@@ -1,0 +1,166 @@
+//! Buses whose trace goes to a writer that takes one byte at a time, or fails.
+
+use super::hubs::{TO_LOW_DEVICE, TO_LOW_DEVICE_TRACE};
+use super::plans::{HUB, ONE_FUNCTION};
+use super::roots::{ENUMERATION, ENUMERATION_TRACE};
+use super::row::{Told, joined, otherwise};
+use super::step::Speed::Full;
+use super::step::Step;
+use super::watched::Frail;
+use std::alloc::Global;
+use std::str;
+use std::test::Fail;
+use usb_bench::bus_on;
+use usb_bus::Watched;
+
+/// How many writes there may be, and what becomes of the enumeration of a function and its trace.
+#[derive(Clone, Copy)]
+struct Writes {
+    writes: u64,
+    /// Whether the trace fails; then each later step tells so again.
+    is_cut: bool,
+    /// How many bytes were taken.
+    taken: usize,
+}
+
+const WRITES: &[Writes] = &[
+    Writes {
+        writes: 0,
+        is_cut: true,
+        taken: 0,
+    },
+    Writes {
+        writes: 1,
+        is_cut: true,
+        taken: 1,
+    },
+    Writes {
+        writes: 9,
+        is_cut: true,
+        taken: 9,
+    },
+    Writes {
+        writes: 10,
+        is_cut: true,
+        taken: 10,
+    },
+    Writes {
+        writes: 11,
+        is_cut: true,
+        taken: 11,
+    },
+    Writes {
+        writes: 52,
+        is_cut: true,
+        taken: 52,
+    },
+    Writes {
+        writes: 631,
+        is_cut: true,
+        taken: 631,
+    },
+    Writes {
+        writes: 640,
+        is_cut: true,
+        taken: 640,
+    },
+    Writes {
+        writes: 641,
+        is_cut: false,
+        taken: 641,
+    },
+    Writes {
+        writes: 700,
+        is_cut: false,
+        taken: 641,
+    },
+    Writes {
+        writes: 710,
+        is_cut: false,
+        taken: 641,
+    },
+    Writes {
+        writes: 720,
+        is_cut: false,
+        taken: 641,
+    },
+];
+
+/// What each step tells once the trace failed.
+const AGAIN: &[Told<'static>] = &[
+    (Step::Line("end"), "trace failed"),
+    (Step::Event, "trace failed"),
+    (Step::In(Full, 0), "trace failed"),
+];
+
+/// What became of an enumeration.
+#[derive(Clone, Copy, Debug, PartialEq)]
+struct Ended {
+    is_whole: bool,
+    is_cut: bool,
+    is_marked: bool,
+    taken: usize,
+    is_front: bool,
+}
+
+/// A writer of one byte at a time, and so many bytes at most.
+fn frail(alloc: Global, writes_left: u64) -> Watched<Frail> {
+    Watched::new(Frail {
+        taken: Vec::new(alloc),
+        at_once: 1,
+        writes_left,
+    })
+}
+
+fn enumerated(alloc: Global, writes: u64) -> Result<Ended, Fail> {
+    let text = joined(alloc, ONE_FUNCTION)?;
+    let mut bus = bus_on(alloc, text.as_str(), frail(alloc, writes))?;
+    let is_whole = otherwise(alloc, &mut bus, ENUMERATION, &[])?.is_empty();
+    let is_cut = !is_whole && otherwise(alloc, &mut bus, AGAIN, &[])?.is_empty();
+    let writer = bus.into_writer();
+    let is_marked = writer.failed();
+    let taken = writer.into_inner().taken;
+    Ok(Ended {
+        is_whole,
+        is_cut,
+        is_marked,
+        taken: taken.len(),
+        is_front: ENUMERATION_TRACE.as_bytes().starts_with(taken.as_slice()),
+    })
+}
+
+#[test]
+fn each_write_fails_in_turn(rt: HostRuntime) -> Result<(), Fail> {
+    for row in WRITES {
+        let wanted = Ended {
+            is_whole: !row.is_cut,
+            is_cut: row.is_cut,
+            is_marked: row.is_cut,
+            taken: row.taken,
+            is_front: true,
+        };
+        assert_eq!(rt;
+            enumerated(rt.alloc(), row.writes)?,
+            wanted,
+            "at {}",
+            row.writes
+        );
+    }
+    Ok(())
+}
+
+/// What the way to a low-speed device tells otherwise than wanted, and the trace that a writer of single bytes took.
+fn to_low_device(alloc: Global) -> Result<String, Fail> {
+    let text = joined(alloc, HUB)?;
+    let mut bus = bus_on(alloc, text.as_str(), frail(alloc, 10000))?;
+    let mut all = otherwise(alloc, &mut bus, TO_LOW_DEVICE, &[])?;
+    let taken = bus.into_writer().into_inner().taken;
+    all.push_str(str::from_utf8(taken.as_slice())?)?;
+    Ok(all)
+}
+
+#[test]
+fn a_low_speed_device_below_a_hub_is_read(rt: HostRuntime) -> Result<(), Fail> {
+    assert_eq!(rt; to_low_device(rt.alloc())?.as_str(), TO_LOW_DEVICE_TRACE);
+    Ok(())
+}
