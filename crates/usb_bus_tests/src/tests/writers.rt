@@ -149,6 +149,21 @@ fn each_write_fails_in_turn(rt: HostRuntime) -> Result<(), Fail> {
     Ok(())
 }
 
+/// How many writes there are in the enumeration of a function, to a writer that takes all it is given.
+fn writes_of_enumeration(alloc: Global) -> Result<u64, Fail> {
+    let text = joined(alloc, ONE_FUNCTION)?;
+    let mut bus = bus_on(alloc, text.as_str(), Watched::new(Vec::new(alloc)))?;
+    otherwise(alloc, &mut bus, ENUMERATION, &[])?;
+    Ok(bus.into_writer().calls())
+}
+
+#[test]
+fn each_line_is_one_write(rt: HostRuntime) -> Result<(), Fail> {
+    let lines = ENUMERATION_TRACE.lines().count() as u64;
+    assert_eq!(rt; writes_of_enumeration(rt.alloc())?, lines);
+    Ok(())
+}
+
 /// What the way to a low-speed device tells otherwise than wanted, and the trace that a writer of single bytes took.
 fn to_low_device(alloc: Global) -> Result<String, Fail> {
     let text = joined(alloc, HUB)?;
