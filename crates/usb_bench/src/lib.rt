@@ -1,16 +1,22 @@
 //! Simulated buses for tests: from a plan's text, with the port and the device made ready.
 #![tactic(auto)]
 
-ghost use Rattle.std.specs.Prelude.{◌≡◌};
+ghost use Rattle.std.specs.Prelude.{◌≡◌, ◌++◌, codes, decimal, flat_map, string_bytes, IfOk, OnOk};
 ghost use Rattle.usb_bus.specs.Watch.{inner_of};
-ghost use Rattle.usb_bus.specs.Sim.{writer_of};
+ghost use Rattle.usb_bus.specs.Sim.{world_of, writer_of};
+ghost use Rattle.usb_world.specs.Steps.{after, root_call};
+ghost use Rattle.usb_device.specs.Calls.{set_call, clear_call};
+ghost use Rattle.usb_bench.specs.Bench.{IsOpened, IsReady, made_ready, port_called};
 
 use std::alloc::{AllocError, Global};
 use std::io::Write;
 use thiserror::Error;
 use usb_bus::{Bus, BusFault, SimBus, Watched};
+use usb_device::PortCall;
 use usb_plan::{PlanFault, read_plan};
-use usb_request::feature::{C_PORT_CONNECTION, C_PORT_RESET, PORT_POWER, PORT_RESET};
+use usb_request::feature::{
+    C_PORT_CONNECTION, C_PORT_ENABLE, C_PORT_RESET, PORT_ENABLE, PORT_POWER, PORT_RESET,
+};
 
 /// Why there is no such bus.
 #[derive(Clone, Copy, Debug, PartialEq, Eq, Error)]
@@ -27,7 +33,9 @@ pub enum BenchFault {
 }
 
 /// The text of a plan with one root port: so many attempts at most, and these tables behind each other.
-pub fn plan_text(alloc: Global, limit: u64, tables: &[&str]) -> Result<String, AllocError> {
+pub fn plan_text(alloc: Global, limit: u64, tables: &[&str]) -> Result<String, AllocError>
+    ensures { IfOk result (λ s. string_bytes s ≡ codes "limit = " ++ decimal limit ++ codes "\nroots = 1\n" ++ flat_map (λ t. t.now) tables.now) }
+{
     let mut text = format!(in alloc; "limit = {limit}\nroots = 1\n")?;
     'tables: for table in tables {
         text.push_str(table)?;
@@ -43,7 +51,10 @@ pub fn bus_on<W: Write + Drop>(
     alloc: Global,
     text: &str,
     writer: Watched<W>,
-) -> Result<SimBus<W>, BenchFault> {
+) -> Result<SimBus<W>, BenchFault>
+    ensures world { IfOk result (λ bus. IsOpened text.now (world_of bus)) }
+    ensures writer { IfOk result (λ bus. writer_of bus ≡ writer) }
+{
     let plan = match read_plan(alloc, text) {
         Ok(plan) => plan,
         Err(fault) => return Err(BenchFault::Plan(fault)),
@@ -58,7 +69,9 @@ pub fn bus_on<W: Write + Drop>(
 ///
 /// # Errors
 /// As `bus_on`.
-pub fn bus_of(alloc: Global, text: &str) -> Result<SimBus<Vec<u8>>, BenchFault> {
+pub fn bus_of(alloc: Global, text: &str) -> Result<SimBus<Vec<u8>>, BenchFault>
+    ensures { IfOk result (λ bus. IsOpened text.now (world_of bus)) }
+{
     bus_on(alloc, text, Watched::new(Vec::new(alloc)))
 }
 
@@ -66,7 +79,9 @@ pub fn bus_of(alloc: Global, text: &str) -> Result<SimBus<Vec<u8>>, BenchFault> 
 ///
 /// # Errors
 /// As `bus_on`; Bus where the event could not come.
-pub fn plugged(alloc: Global, text: &str) -> Result<SimBus<Vec<u8>>, BenchFault> {
+pub fn plugged(alloc: Global, text: &str) -> Result<SimBus<Vec<u8>>, BenchFault>
+    ensures { IfOk result (λ bus. IsReady text.now (world_of bus)) }
+{
     let mut bus = bus_of(alloc, text)?;
     plug(&mut bus)?;
     Ok(bus)
@@ -76,26 +91,32 @@ pub fn plugged(alloc: Global, text: &str) -> Result<SimBus<Vec<u8>>, BenchFault>
 ///
 /// # Errors
 /// Bus where the event could not come.
-pub fn plug<W: Write>(bus: &mut SimBus<W>) -> Result<(), BenchFault> {
-    set(bus, PORT_POWER);
+pub fn plug<W: Write>(bus: &mut SimBus<W>) -> Result<(), BenchFault>
+    ensures { OnOk result (world_of bus.new ≡ made_ready (world_of bus.old)) }
+{
+    call(bus, PortCall::SetPower);
     if let Err(fault) = bus.apply_next_event() {
         return Err(BenchFault::Bus(fault));
     }
-    clear(bus, C_PORT_CONNECTION);
-    set(bus, PORT_RESET);
-    clear(bus, C_PORT_RESET);
+    call(bus, PortCall::ClearConnectionChange);
+    call(bus, PortCall::SetReset);
+    call(bus, PortCall::ClearResetChange);
     Ok(())
 }
 
-fn set<W: Write>(bus: &mut SimBus<W>, feature: u16) {
-    if bus.root_ports() >= 1 && (feature == PORT_POWER || feature == PORT_RESET) {
-        bus.root_set(1, feature);
-    }
-}
-
-fn clear<W: Write>(bus: &mut SimBus<W>, feature: u16) {
-    if bus.root_ports() >= 1 && (feature == C_PORT_CONNECTION || feature == C_PORT_RESET) {
-        bus.root_clear(1, feature);
+/// Makes a call of root port 1.
+fn call<W: Write>(bus: &mut SimBus<W>, call: PortCall)
+    ensures { world_of bus.new ≡ port_called call (world_of bus.old) }
+{
+    let _ports = bus.root_ports();
+    match call {
+        PortCall::SetPower => bus.root_set(1, PORT_POWER),
+        PortCall::SetReset => bus.root_set(1, PORT_RESET),
+        PortCall::ClearEnable => bus.root_clear(1, PORT_ENABLE),
+        PortCall::ClearPower => bus.root_clear(1, PORT_POWER),
+        PortCall::ClearConnectionChange => bus.root_clear(1, C_PORT_CONNECTION),
+        PortCall::ClearEnableChange => bus.root_clear(1, C_PORT_ENABLE),
+        PortCall::ClearResetChange => bus.root_clear(1, C_PORT_RESET),
     }
 }
 
