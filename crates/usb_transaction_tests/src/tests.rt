@@ -93,6 +93,14 @@ fn number_of(endpoint: Endpoint) -> u8
     }
 }
 
+/// An answer that is no poll's, as that of a poll.
+fn polled(answer: Result<Done, TransFault>) -> Result<Option<Done>, TransFault> {
+    match answer {
+        Ok(done) => Ok(Some(done)),
+        Err(fault) => Err(fault),
+    }
+}
+
 /// What a call answers, of whose bytes the first 8 are sent; None of a poll that brings no packet.
 fn answer_to(
     bus: &mut SimBus<Vec<u8>>,
@@ -103,11 +111,11 @@ fn answer_to(
     let target = target_of(endpoint);
     let number = number_of(endpoint);
     match call {
-        Call::Setup(bytes) => Ok(Some(setup(bus, target, bytes)?)),
-        Call::In => Ok(Some(data_in(bus, target, number, toggle)?)),
+        Call::Setup(bytes) => polled(setup(bus, target, bytes)),
+        Call::In => polled(data_in(bus, target, number, toggle)),
         Call::Out(bytes) => {
             let sent = &bytes[..bytes.len().min(8)];
-            Ok(Some(data_out(bus, target, number, toggle, sent)?))
+            polled(data_out(bus, target, number, toggle, sent))
         }
         Call::Poll => poll_in(bus, target, number, toggle),
     }
@@ -159,17 +167,19 @@ fn lines_of(
 fn told_by(alloc: Global, row: &Row) -> Result<String, Fail> {
     let text = plan_text(alloc, row.limit, &[FUNCTION, row.keys, row.damages])?;
     let mut bus = plugged(alloc, text.as_str())?;
-    let mut told = lines_of(alloc, &mut bus, row.steps)?;
+    let lines = lines_of(alloc, &mut bus, row.steps);
+    let trace = trace_of(bus);
+    let mut told = lines?;
     if row.traced {
-        told.push_str(str::from_utf8(trace_of(bus).as_slice())?)?;
+        told.push_str(str::from_utf8(trace.as_slice())?)?;
     }
     Ok(told)
 }
 
 #[test]
 fn transactions_are_as_told(rt: HostRuntime) -> Result<(), Fail> {
-    for row in ROWS {
-        let told = told_by(rt.alloc(), &row)?;
+    for row in &ROWS {
+        let told = told_by(rt.alloc(), row)?;
         assert_eq!(rt; told.as_str(), row.told, "{}", row.about);
     }
     Ok(())
