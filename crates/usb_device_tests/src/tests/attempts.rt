@@ -10,7 +10,7 @@ const SET_ADDRESS: &[u8] = &[0, 5, 1, 0, 0, 0, 0, 0];
 
 const SET_CONFIGURATION: &[u8] = &[0, 9, 3, 0, 0, 0, 0, 0];
 
-pub(super) const ROWS: &[Row] = &[
+const ROWS: &[Row] = &[
     Row {
         about: "eight bytes of a descriptor are read",
         device: &FUNCTION,
@@ -135,3 +135,7 @@ pub(super) const ROWS: &[Row] = &[
         ],
     },
 ];
+
+pub(super) fn all() -> &'static [Row] {
+    ROWS
+}

@@ -6,7 +6,7 @@ use super::steps::Step::{Asks, Gets, GetsAtLast, Registers, Reset, Sink, TakesAd
 
 const SET_CONFIGURATION: &[u8] = &[0, 9, 1, 0, 0, 0, 0, 0];
 
-pub(super) const ROWS: &[Row] = &[
+const ROWS: &[Row] = &[
     Row {
         about: "the source is given packet by packet",
         device: &BULK,
@@ -72,3 +72,7 @@ pub(super) const ROWS: &[Row] = &[
         ],
     },
 ];
+
+pub(super) fn all() -> &'static [Row] {
+    ROWS
+}

@@ -35,7 +35,8 @@ const ADDRESSED_5: &[Exchange] = &[
     (Ack, "none"),
 ];
 
-pub(super) const ROWS: &[Row] = &[
+/// What a hub tells of itself and of its changes.
+const CHANGES: &[Row] = &[
     Row {
         about: "a hub tells its descriptor and its ports",
         device: &HUB,
@@ -82,6 +83,32 @@ pub(super) const ROWS: &[Row] = &[
         ],
     },
     Row {
+        about: "IN 1 that is halted stalls; cleared, it begins with DATA0 and the byte that was given",
+        device: &HUB,
+        steps: &[
+            TakesAddress,
+            Answers(1, POWER_PORT_1, "STALL"),
+            Asks(1, SET_CONFIGURATION),
+            Asks(1, POWER_PORT_1),
+            Plugs(1, &[]),
+            Gets(InAt(1, 1), "DATA0 02"),
+            Gets(Ack, "none"),
+            Gets(InAt(1, 1), "DATA1 02"),
+            Asks(1, CLEAR_CONNECTION_CHANGE),
+            Asks(1, &[2, 3, 0, 0, 0x81, 0, 0, 0]),
+            Gets(InAt(1, 1), "STALL"),
+            Asks(1, &[2, 1, 0, 0, 0x81, 0, 0, 0]),
+            Gets(InAt(1, 1), "DATA0 02"),
+            Asks(1, SET_CONFIGURATION),
+            Gets(InAt(1, 1), "NAK"),
+            PortBytes(1, Some([0, 0, 0, 0])),
+        ],
+    },
+];
+
+/// What is done to the ports of a hub.
+const PORTS: &[Row] = &[
+    Row {
         about: "a port is reset, unplugged, and without power after a reset of the hub",
         device: &HUB,
         steps: &[
@@ -120,28 +147,6 @@ pub(super) const ROWS: &[Row] = &[
             ChildAddress(Some(0)),
             PortBytes(1, Some([1, 3, 1, 0])),
             Registers(1, 1),
-        ],
-    },
-    Row {
-        about: "IN 1 that is halted stalls; cleared, it begins with DATA0 and the byte that was given",
-        device: &HUB,
-        steps: &[
-            TakesAddress,
-            Answers(1, POWER_PORT_1, "STALL"),
-            Asks(1, SET_CONFIGURATION),
-            Asks(1, POWER_PORT_1),
-            Plugs(1, &[]),
-            Gets(InAt(1, 1), "DATA0 02"),
-            Gets(Ack, "none"),
-            Gets(InAt(1, 1), "DATA1 02"),
-            Asks(1, CLEAR_CONNECTION_CHANGE),
-            Asks(1, &[2, 3, 0, 0, 0x81, 0, 0, 0]),
-            Gets(InAt(1, 1), "STALL"),
-            Asks(1, &[2, 1, 0, 0, 0x81, 0, 0, 0]),
-            Gets(InAt(1, 1), "DATA0 02"),
-            Asks(1, SET_CONFIGURATION),
-            Gets(InAt(1, 1), "NAK"),
-            PortBytes(1, Some([0, 0, 0, 0])),
         ],
     },
     Row {
@@ -189,6 +194,14 @@ pub(super) const ROWS: &[Row] = &[
         ],
     },
 ];
+
+pub(super) fn of_changes() -> &'static [Row] {
+    CHANGES
+}
+
+pub(super) fn of_ports() -> &'static [Row] {
+    PORTS
+}
 
 /// The calls of the features of a port, with the names of the calls.
 #[derive(Clone, Copy)]

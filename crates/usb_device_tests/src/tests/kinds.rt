@@ -256,9 +256,14 @@ pub(super) const ODD: Plan = Plan {
     ..FUNCTION
 };
 
+/// The bytes themselves; none where there are too many.
 fn bytes<const MAX: usize>(alloc: Global, bytes: &[u8]) -> Result<Bytes<MAX>, AllocError> {
-    let most = bytes.len().min(MAX);
-    Ok(Bytes::new(bytes[..most].to_vec(alloc)?))
+    let all = bytes.to_vec(alloc)?;
+    if all.len() <= MAX {
+        Ok(Bytes::new(all))
+    } else {
+        Ok(Bytes::new(Vec::new(alloc)))
+    }
 }
 
 fn texts<const COUNT: usize, const MAX: usize>(

@@ -24,7 +24,8 @@ const SET_CONFIGURATION: &[u8] = &[0, 9, 2, 0, 0, 0, 0, 0];
 const FULL_PACKET: &str =
     "DATA1 0902400001010080320904000000FF0000002E240000000000000000000000000000000000000000000000000000000000000000000000000000000000000000";
 
-pub(super) const ROWS: &[Row] = &[
+/// Which descriptor a request is for.
+const DESCRIPTORS: &[Row] = &[
     Row {
         about: "descriptors are given",
         device: &TEXTS,
@@ -57,6 +58,61 @@ pub(super) const ROWS: &[Row] = &[
             Answers(0, &[0x80, 6, 0, 4, 0, 0, 255, 0], "STALL"),
         ],
     },
+];
+
+/// How an answer ends.
+const LENGTHS: &[Row] = &[
+    Row {
+        about: "the maximum of endpoint 0 is 8 where the descriptor has none of the standard",
+        device: &ODD_MAXIMUM,
+        steps: &[
+            Answers(0, GET_CONFIG_0, "DATA1 0902100001010080"),
+            Gets(Ack, "none"),
+            Gets(In(0), "DATA0 3207240102030405"),
+            Gets(Ack, "none"),
+            Gets(In(0), "DATA1 -"),
+            Gets(Ack, "none"),
+            Gets(In(0), "none"),
+            Answers(0, &[0x80, 6, 0, 2, 0, 0, 16, 0], "DATA1 0902100001010080"),
+            Gets(Ack, "none"),
+            Gets(In(0), "DATA0 3207240102030405"),
+            Gets(Ack, "none"),
+            Gets(In(0), "none"),
+            Gets(Out(0), "none"),
+            Gets(Data1(&[]), "ACK"),
+        ],
+    },
+    Row {
+        about: "an answer of no bytes is one empty packet",
+        device: &EMPTY,
+        steps: &[
+            Answers(0, GET_DEVICE, "DATA1 -"),
+            Gets(Ack, "none"),
+            Gets(In(0), "none"),
+            Answers(0, GET_CONFIG_0, "DATA1 -"),
+            Gets(Ack, "none"),
+            Gets(Out(0), "none"),
+            Gets(Data1(&[]), "ACK"),
+        ],
+    },
+    Row {
+        about: "behind a full packet comes an empty one where more is wanted, else none",
+        device: &LONG,
+        steps: &[
+            Answers(0, &[0x80, 6, 0, 2, 0, 0, 64, 0], FULL_PACKET),
+            Gets(Ack, "none"),
+            Gets(In(0), "none"),
+            Answers(0, GET_CONFIG_0, FULL_PACKET),
+            Gets(Ack, "none"),
+            Gets(In(0), "DATA0 -"),
+            Gets(Ack, "none"),
+            Gets(In(0), "none"),
+        ],
+    },
+];
+
+/// The status, the configuration, and requests that are none of the table.
+const STATES: &[Row] = &[
     Row {
         about: "a status and a configuration are told",
         device: &TEXTS,
@@ -95,6 +151,26 @@ pub(super) const ROWS: &[Row] = &[
             Answers(1, &[0x81, 0, 0, 0, 0, 0, 2, 0], "STALL"),
         ],
     },
+    Row {
+        about: "setup data are eight bytes behind DATA0, after a SETUP token for endpoint 0",
+        device: &TEXTS,
+        steps: &[
+            Gets(Setup(0), "none"),
+            Gets(Data1(GET_STATUS), "none"),
+            Gets(Setup(0), "none"),
+            Gets(Data0(&[0x80, 0, 0, 0, 0, 0, 2]), "none"),
+            Gets(Setup(0), "none"),
+            Gets(Data0(&[0x80, 0, 0, 0, 0, 0, 2, 0, 0]), "none"),
+            Gets(Data0(GET_STATUS), "none"),
+            Gets(In(0), "none"),
+            Asks(0, GET_STATUS),
+            Answers(0, GET_CONFIGURATION, "DATA1 00"),
+        ],
+    },
+];
+
+/// Requests that a device refuses whatever else it could answer.
+const REFUSALS: &[Row] = &[
     Row {
         about: "SET_ADDRESS is refused, and the device descriptor given",
         device: &NO_ADDRESS,
@@ -144,67 +220,20 @@ pub(super) const ROWS: &[Row] = &[
             Registers(1, 0),
         ],
     },
-    Row {
-        about: "setup data are eight bytes behind DATA0, after a SETUP token for endpoint 0",
-        device: &TEXTS,
-        steps: &[
-            Gets(Setup(0), "none"),
-            Gets(Data1(GET_STATUS), "none"),
-            Gets(Setup(0), "none"),
-            Gets(Data0(&[0x80, 0, 0, 0, 0, 0, 2]), "none"),
-            Gets(Setup(0), "none"),
-            Gets(Data0(&[0x80, 0, 0, 0, 0, 0, 2, 0, 0]), "none"),
-            Gets(Data0(GET_STATUS), "none"),
-            Gets(In(0), "none"),
-            Asks(0, GET_STATUS),
-            Answers(0, GET_CONFIGURATION, "DATA1 00"),
-        ],
-    },
-    Row {
-        about: "the maximum of endpoint 0 is 8 where the descriptor has none of the standard",
-        device: &ODD_MAXIMUM,
-        steps: &[
-            Answers(0, GET_CONFIG_0, "DATA1 0902100001010080"),
-            Gets(Ack, "none"),
-            Gets(In(0), "DATA0 3207240102030405"),
-            Gets(Ack, "none"),
-            Gets(In(0), "DATA1 -"),
-            Gets(Ack, "none"),
-            Gets(In(0), "none"),
-            Answers(0, &[0x80, 6, 0, 2, 0, 0, 16, 0], "DATA1 0902100001010080"),
-            Gets(Ack, "none"),
-            Gets(In(0), "DATA0 3207240102030405"),
-            Gets(Ack, "none"),
-            Gets(In(0), "none"),
-            Gets(Out(0), "none"),
-            Gets(Data1(&[]), "ACK"),
-        ],
-    },
-    Row {
-        about: "an answer of no bytes is one empty packet",
-        device: &EMPTY,
-        steps: &[
-            Answers(0, GET_DEVICE, "DATA1 -"),
-            Gets(Ack, "none"),
-            Gets(In(0), "none"),
-            Answers(0, GET_CONFIG_0, "DATA1 -"),
-            Gets(Ack, "none"),
-            Gets(Out(0), "none"),
-            Gets(Data1(&[]), "ACK"),
-        ],
-    },
-    Row {
-        about: "behind a full packet comes an empty one where more is wanted, else none",
-        device: &LONG,
-        steps: &[
-            Answers(0, &[0x80, 6, 0, 2, 0, 0, 64, 0], FULL_PACKET),
-            Gets(Ack, "none"),
-            Gets(In(0), "none"),
-            Answers(0, GET_CONFIG_0, FULL_PACKET),
-            Gets(Ack, "none"),
-            Gets(In(0), "DATA0 -"),
-            Gets(Ack, "none"),
-            Gets(In(0), "none"),
-        ],
-    },
 ];
+
+pub(super) fn of_descriptors() -> &'static [Row] {
+    DESCRIPTORS
+}
+
+pub(super) fn of_lengths() -> &'static [Row] {
+    LENGTHS
+}
+
+pub(super) fn of_states() -> &'static [Row] {
+    STATES
+}
+
+pub(super) fn of_refusals() -> &'static [Row] {
+    REFUSALS
+}

@@ -142,6 +142,10 @@ const ROWS: &[TreeRow] = &[
     },
 ];
 
+fn rows_of_trees() -> &'static [TreeRow] {
+    ROWS
+}
+
 fn is_enabled(ports: &Ports, number: u8) -> bool {
     match ports.port(number) {
         Some(port) => port.is_enabled(),
@@ -206,7 +210,7 @@ fn first_difference(alloc: Global, row: &TreeRow) -> Result<Option<usize>, Alloc
 
 #[test]
 fn packets_go_through_a_tree(rt: HostRuntime) -> Result<(), Fail> {
-    for row in ROWS {
+    for row in rows_of_trees() {
         assert_eq!(rt;
             first_difference(rt.alloc(), row)?,
             None,
