@@ -391,7 +391,9 @@ fn called<B: Bus>(
     Ok(Vec::new(alloc))
 }
 
+/// The answers of a device that was made ready.
 fn answers<B: Bus>(alloc: Global, bus: &mut B, row: &Row) -> Result<String, Fail> {
+    make_ready(alloc, bus, TARGET)?;
     let mut sink = pipe_to(row.endpoint, row.most, false);
     let mut source = pipe_to(row.endpoint, row.most, true);
     let mut answers = String::new(alloc);
@@ -404,7 +406,6 @@ fn answers<B: Bus>(alloc: Global, bus: &mut B, row: &Row) -> Result<String, Fail
 
 fn moved(alloc: Global, row: &Row) -> Result<Told, Fail> {
     let mut bus = bus_of(alloc, row.limit, row.device, row.quirk, row.hits)?;
-    make_ready(alloc, &mut bus, TARGET)?;
     let answers = answers(alloc, &mut bus, row)?;
     told(alloc, answers, bus, 17)
 }
@@ -439,22 +440,23 @@ fn behind_a_refusal(
     Ok((second, made, pipe.receive(alloc, bus, 1)?.len()))
 }
 
+/// Whether the first packet comes, or what comes behind a refusal is right.
+fn came(alloc: Global, bus: &mut SimBus<Vec<u8>>) -> Result<bool, PipeFault> {
+    make_ready(alloc, bus, TARGET)?;
+    let mut pipe = pipe_to(2, 8, true);
+    match pipe.receive(alloc, bus, 1) {
+        Ok(bytes) => Ok(bytes.as_slice() == [1, 2, 3, 4, 5, 6, 7, 8].as_slice()),
+        Err(PipeFault::Memory) => {
+            Ok(behind_a_refusal(alloc, bus, &mut pipe)? == (Some(PipeFault::Broken), 0, 8))
+        }
+        Err(fault) => Err(fault),
+    }
+}
+
 /// Where no allocation is refused the bytes come at once.
 #[test]
 fn refused_memory_breaks_the_pipe(rt: HostRuntime) -> Result<(), Fail> {
-    let alloc = rt.alloc();
-    let mut bus = bus_of(alloc, 10_000, SMALL_BULK, "", &[])?;
-    make_ready(alloc, &mut bus, TARGET)?;
-    let mut pipe = pipe_to(2, 8, true);
-    match pipe.receive(alloc, &mut bus, 1) {
-        Err(PipeFault::Memory) => {
-            let behind = behind_a_refusal(alloc, &mut bus, &mut pipe)?;
-            assert_eq!(rt; behind, (Some(PipeFault::Broken), 0, 8));
-        }
-        first => {
-            let bytes = first?;
-            assert_eq!(rt; bytes.as_slice(), [1, 2, 3, 4, 5, 6, 7, 8].as_slice());
-        }
-    }
+    let mut bus = bus_of(rt.alloc(), 10_000, SMALL_BULK, "", &[])?;
+    assert!(rt; came(rt.alloc(), &mut bus)?);
     Ok(())
 }

@@ -2,10 +2,12 @@ ghost use Rattle.std.specs.Prelude.{◌≤◌};
 
 use super::plans::Hit::{Flipped, Lost};
 use super::plans::{FUNCTION, Hit, LOW, bus_of};
-use super::ready::{LOW_TARGET, TARGET, Told, make_ready, target_of, tell, tell_done, told};
+use super::ready::{
+    LOW_TARGET, TARGET, Told, made_ready, make_ready, target_of, tell, tell_done, told,
+};
 use std::alloc::Global;
 use std::test::Fail;
-use usb_pipe::{Setup, control_in, control_none};
+use usb_pipe::{Bus, Setup, control_in, control_none};
 
 /// A device, what else its plan says of it, and the damaged packets; what the requests that make it ready answer, after
 /// how many attempts, and the trace without its NAKs.
@@ -348,9 +350,7 @@ const ROWS: [Row; 13] = [
 
 fn readied(alloc: Global, row: &Row) -> Result<Told, Fail> {
     let mut bus = bus_of(alloc, 10_000, row.device, row.quirk, row.hits)?;
-    let mut answer = String::new(alloc);
-    let ready = make_ready(alloc, &mut bus, target_of(row.low));
-    tell(alloc, &mut answer, ready)?;
+    let answer = made_ready(alloc, &mut bus, target_of(row.low))?;
     told(alloc, answer, bus, 0)
 }
 
@@ -372,13 +372,16 @@ fn a_device_is_made_ready(rt: HostRuntime) -> Result<(), Fail> {
 const LIMITS: [u64; 7] = [0, 1, 2, 3, 4, 10, 15];
 
 /// Making a device ready, and then SET_ADDRESS.
+fn ready_and_named<B: Bus>(alloc: Global, bus: &mut B) -> Result<String, Fail> {
+    let mut answers = made_ready(alloc, bus, TARGET)?;
+    let again = control_none(bus, TARGET, Setup::set_address(1));
+    tell_done(alloc, &mut answers, again)?;
+    Ok(answers)
+}
+
 fn limited(alloc: Global, limit: u64) -> Result<Told, Fail> {
     let mut bus = bus_of(alloc, limit, FUNCTION, "", &[])?;
-    let mut answers = String::new(alloc);
-    let ready = make_ready(alloc, &mut bus, TARGET);
-    tell(alloc, &mut answers, ready)?;
-    let again = control_none(&mut bus, TARGET, Setup::set_address(1));
-    tell_done(alloc, &mut answers, again)?;
+    let answers = ready_and_named(alloc, &mut bus)?;
     told(alloc, answers, bus, 0)
 }
 
@@ -412,15 +415,23 @@ const LENGTHS: [(u16, &str, u64); 8] = [
     (255, LOW_DEVICE, 26),
 ];
 
+/// GET_DESCRIPTOR of a device that was made ready.
+fn described<B: Bus>(alloc: Global, bus: &mut B, length: u16) -> Result<String, Fail>
+    requires { 1 ≤ length }
+{
+    make_ready(alloc, bus, LOW_TARGET)?;
+    let request = Setup::get_device_descriptor(length);
+    let bytes = control_in(alloc, bus, LOW_TARGET, request);
+    let mut answer = String::new(alloc);
+    tell(alloc, &mut answer, bytes)?;
+    Ok(answer)
+}
+
 fn asked_for(alloc: Global, length: u16) -> Result<(String, u64), Fail>
     requires { 1 ≤ length }
 {
     let mut bus = bus_of(alloc, 10_000, LOW, "", &[])?;
-    make_ready(alloc, &mut bus, LOW_TARGET)?;
-    let request = Setup::get_device_descriptor(length);
-    let bytes = control_in(alloc, &mut bus, LOW_TARGET, request);
-    let mut answer = String::new(alloc);
-    tell(alloc, &mut answer, bytes)?;
+    let answer = described(alloc, &mut bus, length)?;
     Ok((answer, bus.attempts()))
 }
 

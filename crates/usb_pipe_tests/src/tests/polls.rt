@@ -196,9 +196,8 @@ const ROWS: [Row; 9] = [
     },
 ];
 
-/// The device at address 1 is a hub, and gives power to its two ports.
+/// Asks the hub at address 1 what it is, and to give power to its two ports.
 fn make_hub_ready<B: Bus>(alloc: Global, bus: &mut B) -> Result<(), PipeFault> {
-    make_ready(alloc, bus, TARGET)?;
     control_in(alloc, bus, TARGET, Setup::get_hub_descriptor())?;
     control_in(alloc, bus, TARGET, Setup::get_status())?;
     control_none(bus, TARGET, Setup::set_port_feature(PORT_POWER, 1))?;
@@ -250,7 +249,10 @@ fn polled<B: Bus>(
     Ok(bytes)
 }
 
+/// The answers of a hub that was made ready.
 fn answers<B: Bus>(alloc: Global, bus: &mut B, row: &Row) -> Result<String, Fail> {
+    make_ready(alloc, bus, TARGET)?;
+    make_hub_ready(alloc, bus)?;
     let mut pipe = InterruptPipe::new(TARGET, row.endpoint.min(15), 1);
     let mut answers = String::new(alloc);
     'calls: for call in row.calls {
@@ -263,7 +265,6 @@ fn answers<B: Bus>(alloc: Global, bus: &mut B, row: &Row) -> Result<String, Fail
 fn asked(alloc: Global, row: &Row) -> Result<Told, Fail> {
     let mut bus = bus_of(alloc, row.limit, HUBS, "", row.hits)?;
     bus.apply_next_event()?;
-    make_hub_ready(alloc, &mut bus)?;
     let answers = answers(alloc, &mut bus, row)?;
     told(alloc, answers, bus, row.from)
 }

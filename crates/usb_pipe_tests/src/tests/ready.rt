@@ -73,6 +73,16 @@ fn configure<B: Bus>(alloc: Global, bus: &mut B, target: Target) -> Result<(), P
     control_none(bus, target, Setup::set_configuration(1))
 }
 
+/// What making a device ready answers, as `tell` tells it.
+pub(super) fn made_ready<B: Bus>(alloc: Global, bus: &mut B, target: Target) -> Result<String, Fail>
+    requires { IsTarget target }
+{
+    let mut answer = String::new(alloc);
+    let ready = make_ready(alloc, bus, target);
+    tell(alloc, &mut answer, ready)?;
+    Ok(answer)
+}
+
 /// Tells an answer behind the earlier ones: its bytes in hexadecimal digits, `ok` where there are none, or its fault.
 pub(super) fn tell(
     alloc: Global,

@@ -1,6 +1,6 @@
 use super::plans::Hit::{Flipped, Lost};
 use super::plans::{FUNCTION, Hit, bus_of};
-use super::ready::{TARGET, Told, make_ready, tell, told};
+use super::ready::{TARGET, Told, made_ready, told};
 use std::alloc::Global;
 use std::test::Fail;
 
@@ -260,9 +260,7 @@ const ROWS: [Row; 30] = [
 
 fn damaged(alloc: Global, row: &Row) -> Result<Told, Fail> {
     let mut bus = bus_of(alloc, 10_000, FUNCTION, "", &[row.hit])?;
-    let mut answer = String::new(alloc);
-    let ready = make_ready(alloc, &mut bus, TARGET);
-    tell(alloc, &mut answer, ready)?;
+    let answer = made_ready(alloc, &mut bus, TARGET)?;
     told(alloc, answer, bus, row.from)
 }
 
