@@ -7,9 +7,8 @@ mod long;
 mod reads;
 mod unplugging;
 
-use std::alloc::Global;
+use std::alloc::{AllocError, Global};
 use std::process::Abort;
-use std::test::*;
 use usb_plan::{PlanFault, read_plan};
 
 /// One root port, and a full-speed function with one configuration of 18 bytes.
@@ -23,31 +22,50 @@ struct Cases {
 }
 
 /// What a text is told to be: a plan, or its fault in words.
-fn told(alloc: Global, text: &str) -> Result<String, Fail> {
+fn told(alloc: Global, text: &str) -> Result<String, AllocError> {
     match read_plan(alloc, text) {
-        Ok(_) => Ok(String::from_str(alloc, "plan")?),
-        Err(fault) => Ok(fault.to_string(alloc)?),
+        Ok(_) => String::from_str(alloc, "plan"),
+        Err(fault) => fault.to_string(alloc),
     }
 }
 
-/// Compares what each text is told to be, where it stands between these lines and a line break.
-fn check(rt: &impl Abort, alloc: Global, before: &[&str], groups: &[Cases]) -> Result<(), Fail> {
-    let before = before.concat(alloc)?;
+/// The same of the text of these pieces, a last one and a line break.
+fn told_of(alloc: Global, before: &[&str], last: &str) -> Result<String, AllocError> {
+    let mut text = before.concat(alloc)?;
+    text.push_str(last)?;
+    text.push_str("\n")?;
+    told(alloc, text.as_str())
+}
+
+/// Compares what each of these texts is told to be, after the pieces before it.
+fn check_cases(
+    rt: &impl Abort,
+    alloc: Global,
+    before: &[&str],
+    cases: &Cases,
+) -> Result<(), AllocError> {
+    for text in cases.texts {
+        let words = told_of(alloc, before, text)?;
+        assert_eq!(rt; words.as_str(), cases.told, "of {text}");
+    }
+    Ok(())
+}
+
+/// The same of all groups.
+fn check(
+    rt: &impl Abort,
+    alloc: Global,
+    before: &[&str],
+    groups: &[Cases],
+) -> Result<(), AllocError> {
     for cases in groups {
-        for text in cases.texts {
-            let whole = format!(in alloc; "{before}{text}\n")?;
-            assert_eq!(rt;
-                told(alloc, whole.as_str())?.as_str(),
-                cases.told,
-                "of {text}"
-            );
-        }
+        check_cases(rt, alloc, before, cases)?;
     }
     Ok(())
 }
 
 #[test]
-fn want_of_memory_is_told(rt: HostRuntime) -> Result<(), Fail> {
+fn want_of_memory_is_told(rt: HostRuntime) -> Result<(), AllocError> {
     let words = PlanFault::Memory.to_string(rt.alloc())?;
     assert_eq!(rt; words.as_str(), "out of memory");
     Ok(())

@@ -1,7 +1,7 @@
 //! The text of a plan, cut at each byte.
 use super::FUNCTION;
 use super::reads::read;
-use std::test::*;
+use std::alloc::{AllocError, Global};
 
 /// The lines of an event, after those of the function.
 const PLUG: &str = "\n[[event]]\ndo = \"plug\"\npath = \"1\"\ndevice = \"fn\"\n";
@@ -71,7 +71,7 @@ const CUTS: [Cut; 23] = [
     },
     Cut {
         last: 167,
-        read: "limit 10000, roots 1, bound 2, served true; fn 120100020000004034127856000100000001 0902120001010080320904000000FF000000",
+        read: "limit 10000, roots 1, bound 2, served true; fn 18 1 0 2 0 0 0 64 52 18 120 86 0 1 0 0 0 1, 9 2 18 0 1 1 0 128 50 9 4 0 0 0 255 0 0 0",
     },
     Cut {
         last: 175,
@@ -103,7 +103,7 @@ const CUTS: [Cut; 23] = [
     },
     Cut {
         last: 214,
-        read: "limit 10000, roots 1, bound 6086002, served true; fn 120100020000004034127856000100000001 0902120001010080320904000000FF000000; 0 plug 1 0",
+        read: "limit 10000, roots 1, bound 6086002, served true; fn 18 1 0 2 0 0 0 64 52 18 120 86 0 1 0 0 0 1, 9 2 18 0 1 1 0 128 50 9 4 0 0 0 255 0 0 0; 0 plug 1 0",
     },
 ];
 
@@ -115,19 +115,20 @@ fn wanted(length: usize) -> &'static str {
     }
 }
 
+/// What is read of the text cut at this length.
+fn read_cut(alloc: Global, whole: &str, length: usize) -> Result<String, AllocError> {
+    match whole.get(..length) {
+        Some(cut) => read(alloc, cut),
+        None => String::from_str(alloc, "no end of a character"),
+    }
+}
+
 #[test]
-fn a_text_cut_at_each_byte(rt: HostRuntime) -> Result<(), Fail> {
+fn a_text_cut_at_each_byte(rt: HostRuntime) -> Result<(), AllocError> {
     let whole = [FUNCTION, PLUG].concat(rt.alloc())?;
     for length in 0..=whole.len() {
-        let cut = whole
-            .as_str()
-            .get(..length)
-            .ok_or("a character is one byte")?;
-        assert_eq!(rt;
-            read(rt.alloc(), cut)?.as_str(),
-            wanted(length),
-            "cut at {length}"
-        );
+        let words = read_cut(rt.alloc(), whole.as_str(), length)?;
+        assert_eq!(rt; words.as_str(), wanted(length), "cut at {length}");
     }
     Ok(())
 }

@@ -1,6 +1,6 @@
 //! The keys of a damage.
 use super::{Cases, FUNCTION, check};
-use std::test::*;
+use std::alloc::AllocError;
 
 /// Lines of the first damage.
 const DAMAGES: [Cases; 6] = [
@@ -61,6 +61,6 @@ const DAMAGES: [Cases; 6] = [
 ];
 
 #[test]
-fn keys_of_each_damage(rt: HostRuntime) -> Result<(), Fail> {
+fn keys_of_each_damage(rt: HostRuntime) -> Result<(), AllocError> {
     check(&rt, rt.alloc(), &[FUNCTION, "[[damage]]\n"], &DAMAGES)
 }

@@ -1,6 +1,6 @@
 //! The keys of a device, beside one device before it.
 use super::{Cases, FUNCTION, check};
-use std::test::*;
+use std::alloc::AllocError;
 
 /// Lines of a second device.
 const DEVICES: [Cases; 4] = [
@@ -134,16 +134,16 @@ const PORTS: [Cases; 3] = [
 ];
 
 #[test]
-fn devices(rt: HostRuntime) -> Result<(), Fail> {
+fn devices(rt: HostRuntime) -> Result<(), AllocError> {
     check(&rt, rt.alloc(), &[FUNCTION, "[[device]]\n"], &DEVICES)
 }
 
 #[test]
-fn keys_of_a_device(rt: HostRuntime) -> Result<(), Fail> {
+fn keys_of_a_device(rt: HostRuntime) -> Result<(), AllocError> {
     check(&rt, rt.alloc(), &[FUNCTION, HUB], &KEYS)
 }
 
 #[test]
-fn ports_go_with_hubs_of_full_speed(rt: HostRuntime) -> Result<(), Fail> {
+fn ports_go_with_hubs_of_full_speed(rt: HostRuntime) -> Result<(), AllocError> {
     check(&rt, rt.alloc(), &[FUNCTION, WITH_PORTS], &PORTS)
 }

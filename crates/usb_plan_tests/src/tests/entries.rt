@@ -1,6 +1,6 @@
 //! The keys at the top, and entries of each kind: which of two faults is told.
 use super::{Cases, check};
-use std::test::*;
+use std::alloc::AllocError;
 
 /// Whole texts.
 const TOPS: [Cases; 5] = [
@@ -105,11 +105,11 @@ const ENTRIES: [Cases; 10] = [
 ];
 
 #[test]
-fn tops(rt: HostRuntime) -> Result<(), Fail> {
+fn tops(rt: HostRuntime) -> Result<(), AllocError> {
     check(&rt, rt.alloc(), &[], &TOPS)
 }
 
 #[test]
-fn entries_of_each_kind(rt: HostRuntime) -> Result<(), Fail> {
+fn entries_of_each_kind(rt: HostRuntime) -> Result<(), AllocError> {
     check(&rt, rt.alloc(), &["limit = 1\nroots = 1\n"], &ENTRIES)
 }

@@ -1,6 +1,6 @@
 //! The keys of an event, alone and after others.
 use super::{Cases, FUNCTION, check};
-use std::test::*;
+use std::alloc::AllocError;
 
 /// Lines of the first event.
 const EVENTS: [Cases; 7] = [
@@ -187,16 +187,16 @@ const HUB_EVENTS: [Cases; 4] = [
 ];
 
 #[test]
-fn keys_of_each_event(rt: HostRuntime) -> Result<(), Fail> {
+fn keys_of_each_event(rt: HostRuntime) -> Result<(), AllocError> {
     check(&rt, rt.alloc(), &[FUNCTION, "[[event]]\n"], &EVENTS)
 }
 
 #[test]
-fn later_events(rt: HostRuntime) -> Result<(), Fail> {
+fn later_events(rt: HostRuntime) -> Result<(), AllocError> {
     check(&rt, rt.alloc(), &[FUNCTION, PLUGGED], &LATER)
 }
 
 #[test]
-fn a_hub_has_ports_while_it_is_plugged(rt: HostRuntime) -> Result<(), Fail> {
+fn a_hub_has_ports_while_it_is_plugged(rt: HostRuntime) -> Result<(), AllocError> {
     check(&rt, rt.alloc(), &[FUNCTION, HUB, HUB_PLUGGED], &HUB_EVENTS)
 }

@@ -1,14 +1,20 @@
 //! The longest lists and texts that a plan may have, and those that are one longer.
 use super::{Cases, FUNCTION, check};
-use std::alloc::Global;
+use std::alloc::{AllocError, Global};
 use std::process::Abort;
-use std::test::*;
+
+/// A piece of a text that comes again and again.
+enum Piece {
+    /// The same each time.
+    Same(&'static str),
+    /// With its number, from 1 on, between these two.
+    Numbered(&'static str, &'static str),
+}
 
 /// A piece that comes so many times, between the lines before it and those of each case.
 struct Long {
     before: &'static str,
-    /// With its number, from 1 on, in place of a `#`.
-    piece: &'static str,
+    piece: Piece,
     times: u32,
     after: &'static [Cases],
 }
@@ -59,43 +65,43 @@ const LIST_ENDS: &[Cases] = &[
 const KEYS: [Long; 7] = [
     Long {
         before: "configs = []\ndescriptor = \"",
-        piece: "00",
+        piece: Piece::Same("00"),
         times: 255,
         after: TEXT_ENDS,
     },
     Long {
         before: "descriptor = \"\"\nconfigs = [",
-        piece: "\"\",",
+        piece: Piece::Same("\"\","),
         times: 8,
         after: LIST_ENDS,
     },
     Long {
         before: "descriptor = \"\"\nconfigs = [\"",
-        piece: "00",
+        piece: Piece::Same("00"),
         times: 65_535,
         after: ONLY_TEXT_ENDS,
     },
     Long {
         before: "descriptor = \"\"\nconfigs = []\nstrings = [",
-        piece: "\"\",",
+        piece: Piece::Same("\"\","),
         times: 256,
         after: LIST_ENDS,
     },
     Long {
         before: "descriptor = \"\"\nconfigs = []\nstrings = [\"",
-        piece: "00",
+        piece: Piece::Same("00"),
         times: 255,
         after: ONLY_TEXT_ENDS,
     },
     Long {
         before: "descriptor = \"0000000009\"\nconfigs = []\nports = 1\nhub_descriptor = \"",
-        piece: "00",
+        piece: Piece::Same("00"),
         times: 255,
         after: TEXT_ENDS,
     },
     Long {
         before: "descriptor = \"\"\nconfigs = []\nsource = \"",
-        piece: "00",
+        piece: Piece::Same("00"),
         times: 65_535,
         after: TEXT_ENDS,
     },
@@ -104,7 +110,10 @@ const KEYS: [Long; 7] = [
 /// 127 devices, then nothing, a device that lacks a key, and a whole one.
 const DEVICES: Long = Long {
     before: "",
-    piece: "[[device]]\nname = \"#\"\nspeed = \"full\"\ndescriptor = \"\"\nconfigs = []\n",
+    piece: Piece::Numbered(
+        "[[device]]\nname = \"",
+        "\"\nspeed = \"full\"\ndescriptor = \"\"\nconfigs = []\n",
+    ),
     times: 127,
     after: &[
         Cases {
@@ -127,7 +136,7 @@ const DEVICES: Long = Long {
 /// 10,000 events, then nothing, an event that lacks a key, and a whole one.
 const EVENTS: Long = Long {
     before: "",
-    piece: "[[event]]\ndo = \"show\"\n",
+    piece: Piece::Same("[[event]]\ndo = \"show\"\n"),
     times: 10_000,
     after: &[
         Cases {
@@ -148,7 +157,7 @@ const EVENTS: Long = Long {
 /// 10,000 damages, then nothing, a damage that lacks a key, and a whole one.
 const DAMAGES: Long = Long {
     before: "",
-    piece: "[[damage]]\nattempt = #\npacket = 1\nhow = \"lose\"\n",
+    piece: Piece::Numbered("[[damage]]\nattempt = ", "\npacket = 1\nhow = \"lose\"\n"),
     times: 10_000,
     after: &[
         Cases {
@@ -166,52 +175,49 @@ const DAMAGES: Long = Long {
     ],
 };
 
-/// The piece so many times, each with its number.
-fn repeated(alloc: Global, piece: &str, times: u32) -> Result<String, Fail> {
-    let (start, end) = piece.split_once('#').unwrap_or((piece, ""));
-    let numbered = piece.contains('#');
-    let mut text = String::new(alloc);
-    for number in 1..=times {
-        text.push_str(start)?;
-        if numbered {
-            write!(text, "{number}")?;
+/// These pieces, and the long one so many times, each with its number.
+fn repeated(alloc: Global, before: &[&str], long: &Long) -> Result<String, AllocError> {
+    let mut text = before.concat(alloc)?;
+    text.push_str(long.before)?;
+    for number in 1..=long.times {
+        match &long.piece {
+            Piece::Same(piece) => text.push_str(piece)?,
+            Piece::Numbered(start, end) => write!(text, "{start}{number}{end}")?,
         }
-        text.push_str(end)?;
     }
     Ok(text)
 }
 
-/// Compares what the texts of each of these are told to be, after this head.
-fn check_long(rt: &impl Abort, alloc: Global, head: &[&str], all: &[Long]) -> Result<(), Fail> {
-    let head = head.concat(alloc)?;
-    for long in all {
-        let pieces = repeated(alloc, long.piece, long.times)?;
-        check(
-            rt,
-            alloc,
-            &[head.as_str(), long.before, pieces.as_str()],
-            long.after,
-        )?;
+/// Compares what the texts of a long piece are told to be, after these pieces.
+fn check_long(
+    rt: &impl Abort,
+    alloc: Global,
+    before: &[&str],
+    long: &Long,
+) -> Result<(), AllocError> {
+    let text = repeated(alloc, before, long)?;
+    check(rt, alloc, &[text.as_str()], long.after)
+}
+
+#[test]
+fn texts_and_lists_of_a_device_have_a_greatest_length(rt: HostRuntime) -> Result<(), AllocError> {
+    for key in KEYS.iter() {
+        check_long(&rt, rt.alloc(), &[FUNCTION, OTHER], key)?;
     }
     Ok(())
 }
 
 #[test]
-fn texts_and_lists_of_a_device_have_a_greatest_length(rt: HostRuntime) -> Result<(), Fail> {
-    check_long(&rt, rt.alloc(), &[FUNCTION, OTHER], &KEYS)
+fn a_plan_has_at_most_127_devices(rt: HostRuntime) -> Result<(), AllocError> {
+    check_long(&rt, rt.alloc(), &[TOP], &DEVICES)
 }
 
 #[test]
-fn a_plan_has_at_most_127_devices(rt: HostRuntime) -> Result<(), Fail> {
-    check_long(&rt, rt.alloc(), &[TOP], &[DEVICES])
+fn a_plan_has_at_most_10_000_events(rt: HostRuntime) -> Result<(), AllocError> {
+    check_long(&rt, rt.alloc(), &[TOP], &EVENTS)
 }
 
 #[test]
-fn a_plan_has_at_most_10_000_events(rt: HostRuntime) -> Result<(), Fail> {
-    check_long(&rt, rt.alloc(), &[TOP], &[EVENTS])
-}
-
-#[test]
-fn a_plan_has_at_most_10_000_damages(rt: HostRuntime) -> Result<(), Fail> {
-    check_long(&rt, rt.alloc(), &[TOP], &[DAMAGES])
+fn a_plan_has_at_most_10_000_damages(rt: HostRuntime) -> Result<(), AllocError> {
+    check_long(&rt, rt.alloc(), &[TOP], &DAMAGES)
 }

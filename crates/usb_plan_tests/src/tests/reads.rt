@@ -1,109 +1,114 @@
 //! What is read of a text.
 use super::FUNCTION;
 use std::alloc::{AllocError, Global};
-use std::test::*;
-use usb_bus::{Action, Event, Plan, served};
+use usb_bus::{Action, Plan, served};
 use usb_device::DeviceSpec;
 use usb_plan::{bound, read_plan};
 
-/// The device and what it holds, in hexadecimal digits.
-fn put_device(alloc: Global, text: &mut String, device: &DeviceSpec) -> Result<(), Fail> {
-    let descriptor = hex::encode_upper(alloc, device.descriptor())?;
-    write!(text, "; {} {descriptor}", device.name())?;
-    for config in device.configs() {
-        let config = hex::encode_upper(alloc, config.as_slice())?;
-        write!(text, " {config}")?;
+/// Adds the bytes, in decimal digits.
+fn put_bytes(text: &mut String, bytes: &[u8]) -> Result<(), AllocError> {
+    for byte in bytes {
+        write!(text, " {byte}")?;
     }
     Ok(())
 }
 
-/// What an event does, after how many attempts.
-fn put_event(text: &mut String, event: &Event) -> Result<(), AllocError> {
-    let after = event.after;
-    match &event.action {
-        Action::Plug(path, device) => write!(text, "; {after} plug {} {device}", path.text()),
-        Action::Unplug(path) => write!(text, "; {after} unplug {}", path.text()),
-        Action::Show => write!(text, "; {after} show"),
+/// Adds the device and what it holds.
+fn put_device(text: &mut String, device: &DeviceSpec) -> Result<(), AllocError> {
+    write!(text, "; {}", device.name())?;
+    put_bytes(text, device.descriptor())?;
+    for config in device.configs() {
+        text.push_str(",")?;
+        put_bytes(text, config.as_slice())?;
+    }
+    Ok(())
+}
+
+/// Adds what is done, of the kinds that the texts below have.
+fn put_action(text: &mut String, action: &Action) -> Result<(), AllocError> {
+    match action {
+        Action::Plug(path, device) => write!(text, "plug {} {device}", path.text()),
+        Action::Receive(path, packets) => write!(text, "receive {} {packets}", path.text()),
         Action::Send(path, bytes) => {
-            write!(
-                text,
-                "; {after} send {} {:?}",
-                path.text(),
-                bytes.as_slice()
-            )
+            write!(text, "send {}", path.text())?;
+            put_bytes(text, bytes.as_slice())
         }
-        Action::Receive(path, packets) => {
-            write!(text, "; {after} receive {} {packets}", path.text())
-        }
-        Action::Clear(path) => write!(text, "; {after} clear {}", path.text()),
+        _ => text.push_str("other"),
     }
 }
 
-/// All that a plan holds.
-fn printed(alloc: Global, plan: &Plan) -> Result<String, Fail> {
-    let mut text = format!(in alloc;
-        "limit {}, roots {}, bound {}, served {}",
-        plan.limit(),
-        plan.roots(),
-        bound(plan),
-        served(plan).is_ok()
-    )?;
+/// Adds all entries of a plan.
+fn put_entries(text: &mut String, plan: &Plan) -> Result<(), AllocError> {
     for device in plan.devices() {
-        put_device(alloc, &mut text, device)?;
+        put_device(text, device)?;
     }
     for event in plan.events() {
-        put_event(&mut text, event)?;
+        write!(text, "; {} ", event.after)?;
+        put_action(text, &event.action)?;
     }
     for damage in plan.damages() {
         write!(text, "; {damage:?}")?;
     }
+    Ok(())
+}
+
+/// All that a plan holds.
+fn printed(alloc: Global, plan: &Plan) -> Result<String, AllocError> {
+    let (limit, roots, attempts) = (plan.limit(), plan.roots(), bound(plan));
+    let served = served(plan).is_ok();
+    let mut text = format!(in alloc;
+        "limit {limit}, roots {roots}, bound {attempts}, served {served}"
+    )?;
+    put_entries(&mut text, plan)?;
     Ok(text)
 }
 
 /// What a text is told to be: its fault in words, or all that the plan holds.
-pub fn read(alloc: Global, text: &str) -> Result<String, Fail> {
+pub fn read(alloc: Global, text: &str) -> Result<String, AllocError> {
     match read_plan(alloc, text) {
         Ok(plan) => printed(alloc, &plan),
-        Err(fault) => Ok(fault.to_string(alloc)?),
+        Err(fault) => fault.to_string(alloc),
     }
+}
+
+/// What is read of the text of these pieces.
+fn read_joined(alloc: Global, pieces: &[&str]) -> Result<String, AllocError> {
+    let text = pieces.concat(alloc)?;
+    read(alloc, text.as_str())
 }
 
 /// A text, and what is read of it.
 struct Example {
-    text: [&'static str; 2],
+    text: &'static [&'static str],
     read: &'static str,
 }
 
 const EXAMPLES: [Example; 3] = [
     Example {
-        text: ["limit = 0\nroots = 1\n", ""],
+        text: &["limit = 0\nroots = 1\n"],
         read: "limit 0, roots 1, bound 2, served true",
     },
     Example {
-        text: [
+        text: &[
             FUNCTION,
             "[[event]]\ndo = \"plug\"\npath = \"1\"\ndevice = \"fn\"\nafter = 7\n",
         ],
-        read: "limit 10000, roots 1, bound 6086002, served true; fn 120100020000004034127856000100000001 0902120001010080320904000000FF000000; 7 plug 1 0",
+        read: "limit 10000, roots 1, bound 6086002, served true; fn 18 1 0 2 0 0 0 64 52 18 120 86 0 1 0 0 0 1, 9 2 18 0 1 1 0 128 50 9 4 0 0 0 255 0 0 0; 7 plug 1 0",
     },
     Example {
-        text: [
+        text: &[
             "limit = 1\nroots = 1\n[[event]]\ndo = \"send\"\npath = \"1.2\"\nbytes = \"0aFF\"\n[[event]]\ndo = \"receive\"\npath = \"1\"\npackets = 7\n",
             "[[damage]]\nattempt = 3\npacket = 2\nhow = \"flip\"\nbit = 9\n",
         ],
-        read: "limit 1, roots 1, bound 12209002, served true; 0 send 1.2 [10, 255]; 0 receive 1 7; Damage { attempt: 3, packet: 2, harm: Flip(9) }",
+        read: "limit 1, roots 1, bound 12209002, served true; 0 send 1.2 10 255; 0 receive 1 7; Damage { attempt: 3, packet: 2, harm: Flip(9) }",
     },
 ];
 
 #[test]
-fn plans_are_read(rt: HostRuntime) -> Result<(), Fail> {
+fn plans_are_read(rt: HostRuntime) -> Result<(), AllocError> {
     for example in EXAMPLES.iter() {
-        let text = example.text.concat(rt.alloc())?;
-        assert_eq!(rt;
-            read(rt.alloc(), text.as_str())?.as_str(),
-            example.read,
-            "of {text}"
-        );
+        let words = read_joined(rt.alloc(), example.text)?;
+        assert_eq!(rt; words.as_str(), example.read, "for {}", example.read);
     }
     Ok(())
 }

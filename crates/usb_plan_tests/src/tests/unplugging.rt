@@ -1,118 +1,136 @@
 //! What an unplug takes with it, and what it leaves.
 use super::told;
-use std::alloc::Global;
-use std::test::*;
+use Step::{Plug, Unplug};
+use std::alloc::{AllocError, Global};
 
 /// Three root ports, and a hub of seven ports.
 const HUB: &str =
     "limit = 1\nroots = 3\n\n[[device]]\nname = \"hub\"\nspeed = \"full\"\ndescriptor = \"0000000009\"\nconfigs = []\nports = 7\n";
 
-/// Events: a hub is plugged at each path, and unplugged at a path behind a minus.
-const BEFORE: &str = "2 3 2.7 1 2.1 2.1.1 1.2 -2";
+/// An event: a hub is plugged at a path, or unplugged there.
+enum Step {
+    Plug(&'static str),
+    Unplug(&'static str),
+}
+
+/// The first events.
+const BEFORE: &[Step] = &[
+    Plug("2"),
+    Plug("3"),
+    Plug("2.7"),
+    Plug("1"),
+    Plug("2.1"),
+    Plug("2.1.1"),
+    Plug("1.2"),
+    Unplug("2"),
+];
 
 /// Events after those, and what the text is told to be.
 struct Later {
-    steps: &'static str,
+    steps: &'static [Step],
     told: &'static str,
 }
 
 const LATER: [Later; 16] = [
     Later {
-        steps: "1",
+        steps: &[Plug("1")],
         told: "plan: event 9: port taken",
     },
     Later {
-        steps: "1.2",
+        steps: &[Plug("1.2")],
         told: "plan: event 9: port taken",
     },
     Later {
-        steps: "3",
+        steps: &[Plug("3")],
         told: "plan: event 9: port taken",
     },
     Later {
-        steps: "-1.2",
+        steps: &[Unplug("1.2")],
         told: "plan",
     },
     Later {
-        steps: "-2",
+        steps: &[Unplug("2")],
         told: "plan: event 9: port empty",
     },
     Later {
-        steps: "-2.1",
+        steps: &[Unplug("2.1")],
         told: "plan: event 9: port empty",
     },
     Later {
-        steps: "-2.1.1",
+        steps: &[Unplug("2.1.1")],
         told: "plan: event 9: port empty",
     },
     Later {
-        steps: "-2.7",
+        steps: &[Unplug("2.7")],
         told: "plan: event 9: port empty",
     },
     Later {
-        steps: "2.1",
+        steps: &[Plug("2.1")],
         told: "plan: event 9: bad path",
     },
     Later {
-        steps: "2.1.1",
+        steps: &[Plug("2.1.1")],
         told: "plan: event 9: bad path",
     },
     Later {
-        steps: "2",
+        steps: &[Plug("2")],
         told: "plan",
     },
     Later {
-        steps: "2 2.1.1",
+        steps: &[Plug("2"), Plug("2.1.1")],
         told: "plan: event 10: bad path",
     },
     Later {
-        steps: "2 2.1 2.1.1 2.7",
+        steps: &[Plug("2"), Plug("2.1"), Plug("2.1.1"), Plug("2.7")],
         told: "plan",
     },
     Later {
-        steps: "2 2.1 -2.1 2",
+        steps: &[Plug("2"), Plug("2.1"), Unplug("2.1"), Plug("2")],
         told: "plan: event 12: port taken",
     },
     Later {
-        steps: "2 -1 1.2",
+        steps: &[Plug("2"), Unplug("1"), Plug("1.2")],
         told: "plan: event 11: bad path",
     },
     Later {
-        steps: "2 -1 3.7 -3",
+        steps: &[Plug("2"), Unplug("1"), Plug("3.7"), Unplug("3")],
         told: "plan",
     },
 ];
 
-/// The lines of an event.
-fn event(alloc: Global, step: &str) -> Result<String, Fail> {
-    Ok(match step.strip_prefix('-') {
-        Some(path) => { format!(in alloc; "[[event]]\ndo = \"unplug\"\npath = \"{path}\"\n")? }
-        None => {
-            format!(in alloc; "[[event]]\ndo = \"plug\"\npath = \"{step}\"\ndevice = \"hub\"\n")?
-        }
-    })
+/// Adds the lines of an event to the text.
+fn put_event(text: &mut String, step: &Step) -> Result<(), AllocError> {
+    let (verb, path, device) = match step {
+        Plug(path) => ("plug", path, "device = \"hub\"\n"),
+        Unplug(path) => ("unplug", path, ""),
+    };
+    write!(
+        text,
+        "[[event]]\ndo = \"{verb}\"\npath = \"{path}\"\n{device}"
+    )
 }
 
-/// The hub, and the events of the steps.
-fn text_of(alloc: Global, steps: &str) -> Result<String, Fail> {
-    let mut text = String::from_str(alloc, HUB)?;
-    for step in steps.split(' ') {
-        text.push_str(event(alloc, step)?.as_str())?;
+/// Adds the lines of the events to the text.
+fn put_events(text: &mut String, steps: &[Step]) -> Result<(), AllocError> {
+    for step in steps {
+        put_event(text, step)?;
     }
-    Ok(text)
+    Ok(())
 }
 
 /// What the text with these steps after the first ones is told to be.
-fn told_after(alloc: Global, steps: &str) -> Result<String, Fail> {
-    let steps = format!(in alloc; "{BEFORE} {steps}")?;
-    told(alloc, text_of(alloc, steps.as_str())?.as_str())
+fn told_after(alloc: Global, steps: &[Step]) -> Result<String, AllocError> {
+    let mut text = String::from_str(alloc, HUB)?;
+    put_events(&mut text, BEFORE)?;
+    put_events(&mut text, steps)?;
+    told(alloc, text.as_str())
 }
 
 #[test]
-fn an_unplug_takes_what_is_below(rt: HostRuntime) -> Result<(), Fail> {
-    for later in LATER.iter() {
+fn an_unplug_takes_what_is_below(rt: HostRuntime) -> Result<(), AllocError> {
+    for (number, later) in LATER.iter().enumerate() {
         let words = told_after(rt.alloc(), later.steps)?;
-        assert_eq!(rt; words.as_str(), later.told, "after {}", later.steps);
+        assert_eq!(rt; words.as_str(), later.told, "after the steps at {number}");
     }
     Ok(())
 }
