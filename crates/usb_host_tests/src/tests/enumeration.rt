@@ -90,17 +90,13 @@ configs = []
     },
 ];
 
-/// The bus of a row, with its device plugged where the port has power.
-fn bus_for(alloc: Global, row: &Row) -> Result<SimBus<Vec<u8>>, Fail> {
-    let text = plan_text(alloc, 100, &[NAMED, row.device, PLUG])?;
-    let mut bus = bus_of(alloc, text.as_str())?;
-    if row.powered {
-        let roots = bus.root_ports();
-        prove!(roots >= 1);
-        set_port(&mut bus, PORT, PORT_POWER)?;
-        bus.apply_next_event()?;
-    }
-    Ok(bus)
+/// Gives power to root port 1, and lets the next event come.
+fn power(bus: &mut SimBus<Vec<u8>>) -> Result<(), Fail> {
+    let roots = bus.root_ports();
+    prove!(roots >= 1);
+    set_port(bus, PORT, PORT_POWER)?;
+    bus.apply_next_event()?;
+    Ok(())
 }
 
 /// The address, the speed and the descriptors of a device, and its product string.
@@ -145,17 +141,30 @@ fn is_enabled(alloc: Global, bus: &mut SimBus<Vec<u8>>) -> bool {
 }
 
 /// What is found, and what the port and the free addresses are then.
-fn told(alloc: Global, row: &Row) -> Result<String, Fail> {
-    let mut bus = bus_for(alloc, row)?;
+fn found(alloc: Global, bus: &mut SimBus<Vec<u8>>, supply: u16) -> Result<String, Fail> {
     let mut pool = AddressPool::new();
     let roots = bus.root_ports();
     prove!(roots >= 1);
-    let finding = enumerate(alloc, &mut bus, &mut pool, PORT, 2, row.supply)?;
+    let finding = enumerate(alloc, bus, &mut pool, PORT, 2, supply)?;
     let text = finding_told(alloc, &finding)?;
     let attempts = bus.attempts();
-    let enabled = is_enabled(alloc, &mut bus);
+    let enabled = is_enabled(alloc, bus);
     let next = pool.take().map_or(0, |address| address.number());
     Ok(format!(in alloc; "{text}; {attempts} attempts, enabled: {enabled}, next address {next}")?)
+}
+
+/// The same, where the device is plugged if the port has power.
+fn found_for(alloc: Global, bus: &mut SimBus<Vec<u8>>, row: &Row) -> Result<String, Fail> {
+    if row.powered {
+        power(bus)?;
+    }
+    found(alloc, bus, row.supply)
+}
+
+fn told(alloc: Global, row: &Row) -> Result<String, Fail> {
+    let text = plan_text(alloc, 100, &[NAMED, row.device, PLUG])?;
+    let mut bus = bus_of(alloc, text.as_str())?;
+    found_for(alloc, &mut bus, row)
 }
 
 #[test]

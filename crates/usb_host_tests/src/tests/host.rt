@@ -115,15 +115,21 @@ fn put_step(text: &mut String, host: &mut TestHost, step: Step) -> Result<(), Fa
     Ok(())
 }
 
+/// What the steps tell.
+fn steps_told(alloc: Global, host: &mut TestHost, steps: &[Step]) -> Result<String, Fail> {
+    let mut text = String::new(alloc);
+    for step in steps {
+        put_step(&mut text, host, *step)?;
+    }
+    Ok(text)
+}
+
 /// What the steps of a row tell, and how many attempts were made at last.
 fn told(alloc: Global, row: &Row) -> Result<String, Fail> {
     let mut host = host_for(alloc, row)?;
-    let mut text = String::new(alloc);
-    for step in row.steps {
-        put_step(&mut text, &mut host, *step)?;
-    }
-    write!(text, "{} attempts", host.into_bus().attempts())?;
-    Ok(text)
+    let text = steps_told(alloc, &mut host, row.steps);
+    let attempts = host.into_bus().attempts();
+    Ok(format!(in alloc; "{}{attempts} attempts", text?)?)
 }
 
 #[test]
@@ -205,15 +211,25 @@ fn put_call(
     Ok(())
 }
 
-/// What the calls of a row tell, and the entries at last.
+/// Adds what the calls tell, and the entries at last.
+fn put_calls(
+    alloc: Global,
+    text: &mut String,
+    table: &mut DeviceTable,
+    calls: &[CallAt],
+) -> Result<(), Fail> {
+    for (call, path) in calls {
+        let path = PortPath::from_text(path).ok_or("no path")?;
+        put_call(text, table, *call, path)?;
+    }
+    put_entries(text, table.entries(alloc)?.as_slice())?;
+    Ok(())
+}
+
 fn table_told(alloc: Global, row: &TableRow) -> Result<String, Fail> {
     let mut table = DeviceTable::new(alloc);
     let mut text = String::new(alloc);
-    for (call, path) in row.calls {
-        let path = PortPath::from_text(path).ok_or("no path")?;
-        put_call(&mut text, &mut table, *call, path)?;
-    }
-    put_entries(&mut text, table.entries(alloc)?.as_slice())?;
+    put_calls(alloc, &mut text, &mut table, row.calls)?;
     Ok(text)
 }
 

@@ -215,16 +215,25 @@ fn told(alloc: Global, bus: &mut SimBus<Vec<u8>>, call: Call) -> Result<String, 
     }
 }
 
+/// The first call that tells something else than its row, and what it tells.
+fn first_other(alloc: Global, bus: &mut SimBus<Vec<u8>>) -> Result<Option<String>, AllocError> {
+    for row in ROWS {
+        let told = told(alloc, bus, row.call)?;
+        if told.as_str() != row.told {
+            return Ok(Some(format!(in alloc; "{:?}: {told}", row.call)?));
+        }
+    }
+    Ok(None)
+}
+
 #[test]
 fn calls_tell_what_came(rt: HostRuntime) -> Result<(), Fail> {
     let alloc = rt.alloc();
     let text = plan_text(alloc, 100, &[FUNCTION])?;
     let mut bus = bus_of(alloc, text.as_str())?;
-    for row in ROWS {
-        let told = told(alloc, &mut bus, row.call)?;
-        assert_eq!(rt; told.as_str(), row.told, "{:?}", row.call);
-    }
+    let other = first_other(alloc, &mut bus);
     let trace = trace_of(bus);
+    assert_eq!(rt; other?, None);
     assert_eq!(rt; str::from_utf8(trace.as_slice()).ok(), Some(TRACE));
     Ok(())
 }
