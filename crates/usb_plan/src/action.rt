@@ -13,9 +13,9 @@ use crate::value::{number_at, sent_in, value_at};
 use crate::verb::Verb;
 use std::alloc::{AllocError, Global};
 use toml::{Table, Value};
-use usb_world::{Action, SentBytes};
 use usb_device::DeviceSpec;
 use usb_port::PortPath;
+use usb_world::{Action, SentBytes};
 
 #[tactic(auto, unfolding(crate::specs::Action::known))]
 fn known(index: Option<usize>) -> Result<usize, Kind>

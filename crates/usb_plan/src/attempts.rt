@@ -4,9 +4,9 @@ ghost use Rattle.std.specs.Prelude.{◌≡◌, ◌≤◌, ◌<◌, ◌-◌, ◌^
 ghost use Rattle.std.specs.List.{sum_by};
 ghost use Rattle.usb_plan.specs.Attempts.{total_of, all_totals, plugged_total, greatest_total, moved, bound_of};
 
-use usb_world::{Action, Event, Plan};
 use usb_descriptor::config_head;
 use usb_device::DeviceSpec;
+use usb_world::{Action, Event, Plan};
 
 /// The first 9 bytes, or all that there are.
 fn head(text: &[u8]) -> &[u8]

@@ -14,8 +14,8 @@ use crate::value::{number_or, value_at};
 use crate::verb::{Verb, verb_at};
 use std::alloc::{AllocError, Global};
 use toml::{Table, Value};
-use usb_world::{Action, Event, Events};
 use usb_device::DeviceSpec;
+use usb_world::{Action, Event, Events};
 
 /// The key `after`: attempts since the last event.
 #[tactic(auto, unfolding(crate::specs::Event::after_at))]

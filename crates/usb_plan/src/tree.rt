@@ -6,9 +6,9 @@ ghost use Rattle.usb_world.specs.Plugged.{is_rooted, device_of, port_count};
 use std::alloc::{AllocError, Global};
 use std::collections::BTreeMap;
 use std::marker::Model;
-use usb_world::Action;
 use usb_device::DeviceSpec;
 use usb_port::PortPath;
+use usb_world::Action;
 
 /// The devices that are plugged, by their index among the plan's devices, at their paths.
 #[derive(Drop)]

@@ -8,8 +8,8 @@ ghost use Rattle.usb_plan.specs.Value.{is_word, number_in, number_at, number_or,
 use crate::kind::Kind;
 use std::alloc::{AllocError, Global};
 use toml::{Table, Value};
-use usb_world::SentBytes;
 use usb_device::Bytes;
+use usb_world::SentBytes;
 
 /// The value at a key.
 pub(crate) fn value_at<'a>(table: &'a Table, key: &str) -> Option<&'a Value>
