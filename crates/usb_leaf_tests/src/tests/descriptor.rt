@@ -1,5 +1,5 @@
-//! Descriptors read: their fields, the items of a configuration, the endpoints that a host uses,
-//! and the first fault of bytes that are none.
+//! Descriptors read: what each reader tells of bytes, the first fault among it, and the items of a
+//! configuration.
 use arrayvec::ArrayVec;
 use usb_descriptor::DescriptorFault::{
     Length, MaxPacket, NoConfiguration, Short, Total, WrongType,
@@ -35,573 +35,438 @@ const HUB: &[u8] = &[
 /// A configuration with one item, neither an interface nor an endpoint.
 const OTHER: &[u8] = &[9, 2, 12, 0, 0, 1, 0, 0, 0, 3, 0x24, 7];
 
-#[derive(Clone, Copy, Debug, PartialEq, Eq)]
-struct DeviceFields {
-    length: u8,
-    descriptor_type: u8,
-    usb_release: u16,
-    class: u8,
-    subclass: u8,
-    protocol: u8,
-    max_packet: u8,
-    vendor_id: u16,
-    product_id: u16,
-    device_release: u16,
-    manufacturer_index: u8,
-    product_index: u8,
-    serial_index: u8,
-    configurations: u8,
+/// Numbers that a reader tells.
+type Numbers = ArrayVec<u16, 14>;
+
+/// The numbers as a list, empty where they are more than it holds.
+fn list(numbers: &[u16]) -> Numbers {
+    let mut list = ArrayVec::new();
+    let _ = list.try_extend_from_slice(numbers);
+    list
 }
 
-fn device_fields(bytes: &[u8]) -> Result<DeviceFields, DescriptorFault> {
+/// What is read of bytes.
+#[derive(Clone, Copy, Debug)]
+enum Reader {
+    /// The maximum packet in the head of a low-speed device.
+    LowDeviceHead,
+    /// The same of a full-speed device.
+    DeviceHead,
+    /// The fields of a full-speed device, in the order of its bytes.
+    Device,
+    /// The total length in the head of a configuration.
+    ConfigHead,
+    /// The fields of a configuration, in the order of its bytes.
+    Config,
+    /// The number and the maximum packet of the endpoint of a configuration, if there is one.
+    BulkOut,
+    BulkIn,
+    StatusEndpoint,
+    /// The fields of a hub, in the order of its bytes.
+    Hub,
+    /// The length and the type of a string, and its units.
+    Units,
+    /// The first language of a string, if there is one.
+    FirstLanguage,
+}
+
+fn device_max(bytes: &[u8], low: bool) -> Result<Numbers, DescriptorFault> {
+    Ok(list(&[u16::from(device_head(bytes, low)?)]))
+}
+
+fn device_fields(bytes: &[u8]) -> Result<Numbers, DescriptorFault> {
     let device = read_device(bytes, false)?;
-    Ok(DeviceFields {
-        length: device.length(),
-        descriptor_type: device.descriptor_type(),
-        usb_release: device.usb_release(),
-        class: device.class(),
-        subclass: device.subclass(),
-        protocol: device.protocol(),
-        max_packet: device.max_packet(),
-        vendor_id: device.vendor_id(),
-        product_id: device.product_id(),
-        device_release: device.device_release(),
-        manufacturer_index: device.manufacturer_index(),
-        product_index: device.product_index(),
-        serial_index: device.serial_index(),
-        configurations: device.configurations(),
-    })
+    Ok(list(&[
+        u16::from(device.length()),
+        u16::from(device.descriptor_type()),
+        device.usb_release(),
+        u16::from(device.class()),
+        u16::from(device.subclass()),
+        u16::from(device.protocol()),
+        u16::from(device.max_packet()),
+        device.vendor_id(),
+        device.product_id(),
+        device.device_release(),
+        u16::from(device.manufacturer_index()),
+        u16::from(device.product_index()),
+        u16::from(device.serial_index()),
+        u16::from(device.configurations()),
+    ]))
 }
 
-#[test]
-fn a_device(rt: HostRuntime) {
-    let want = DeviceFields {
-        length: 18,
-        descriptor_type: 1,
-        usb_release: 0x100,
-        class: 0,
-        subclass: 0,
-        protocol: 0,
-        max_packet: 64,
-        vendor_id: 0x1234,
-        product_id: 0x5678,
-        device_release: 0x100,
-        manufacturer_index: 0,
-        product_index: 1,
-        serial_index: 0,
-        configurations: 1,
-    };
-    assert_eq!(rt; device_fields(DEVICE), Ok(want));
+fn config_total(bytes: &[u8]) -> Result<Numbers, DescriptorFault> {
+    Ok(list(&[config_head(bytes)?]))
 }
 
-#[test]
-fn heads(rt: HostRuntime) {
-    assert_eq!(rt; device_head(&DEVICE[..8], false), Ok(64));
-    assert_eq!(rt; config_head(&BULK[..9]), Ok(32));
-}
-
-#[derive(Clone, Copy, Debug, PartialEq, Eq)]
-struct ConfigFields {
-    length: u8,
-    descriptor_type: u8,
-    total_length: u16,
-    interfaces: u8,
-    value: u8,
-    string_index: u8,
-    attributes: u8,
-    max_power: u8,
-}
-
-fn config_fields(bytes: &[u8]) -> Result<ConfigFields, DescriptorFault> {
+fn config_fields(bytes: &[u8]) -> Result<Numbers, DescriptorFault> {
     let config = read_config(bytes)?;
-    Ok(ConfigFields {
-        length: config.length(),
-        descriptor_type: config.descriptor_type(),
-        total_length: config.total_length(),
-        interfaces: config.interfaces(),
-        value: config.value(),
-        string_index: config.string_index(),
-        attributes: config.attributes(),
-        max_power: config.max_power(),
+    Ok(list(&[
+        u16::from(config.length()),
+        u16::from(config.descriptor_type()),
+        config.total_length(),
+        u16::from(config.interfaces()),
+        u16::from(config.value()),
+        u16::from(config.string_index()),
+        u16::from(config.attributes()),
+        u16::from(config.max_power()),
+    ]))
+}
+
+fn endpoint_of(reader: Reader, bytes: &[u8]) -> Result<Numbers, DescriptorFault> {
+    let config = read_config(bytes)?;
+    let found = match reader {
+        Reader::BulkOut => config.bulk_out(),
+        Reader::BulkIn => config.bulk_in(),
+        _ => config.status_endpoint(),
+    };
+    Ok(match found {
+        Some((number, max)) => list(&[u16::from(number), u16::from(max)]),
+        None => list(&[]),
     })
 }
 
+fn hub_fields(bytes: &[u8]) -> Result<Numbers, DescriptorFault> {
+    let hub = read_hub(bytes)?;
+    Ok(list(&[
+        u16::from(hub.length()),
+        u16::from(hub.descriptor_type()),
+        u16::from(hub.ports()),
+        hub.characteristics(),
+        u16::from(hub.power_on_time()),
+        u16::from(hub.controller_current()),
+        u16::from(hub.removable()),
+        u16::from(hub.power_mask()),
+    ]))
+}
+
+fn string_units(bytes: &[u8]) -> Result<Numbers, DescriptorFault> {
+    let text = read_string(bytes)?;
+    let mut numbers = list(&[u16::from(text.length()), u16::from(text.descriptor_type())]);
+    for unit in text.units() {
+        let _ = numbers.try_push(unit);
+    }
+    Ok(numbers)
+}
+
+fn first_language(bytes: &[u8]) -> Result<Numbers, DescriptorFault> {
+    Ok(match read_string(bytes)?.first_language() {
+        Some(language) => list(&[language]),
+        None => list(&[]),
+    })
+}
+
+fn told_by(reader: Reader, bytes: &[u8]) -> Result<Numbers, DescriptorFault> {
+    match reader {
+        Reader::LowDeviceHead => device_max(bytes, true),
+        Reader::DeviceHead => device_max(bytes, false),
+        Reader::Device => device_fields(bytes),
+        Reader::ConfigHead => config_total(bytes),
+        Reader::Config => config_fields(bytes),
+        Reader::BulkOut | Reader::BulkIn | Reader::StatusEndpoint => endpoint_of(reader, bytes),
+        Reader::Hub => hub_fields(bytes),
+        Reader::Units => string_units(bytes),
+        Reader::FirstLanguage => first_language(bytes),
+    }
+}
+
+/// Bytes, and what the reader tells of them: numbers, or the first fault.
+const READINGS: &[(Reader, &[u8], Result<&[u16], DescriptorFault>)] = &[
+    (
+        Reader::DeviceHead,
+        &[0x12, 1, 0, 1, 0, 0, 0, 0x40],
+        Ok(&[64]),
+    ),
+    (
+        Reader::Device,
+        DEVICE,
+        Ok(&[18, 1, 0x100, 0, 0, 0, 64, 0x1234, 0x5678, 0x100, 0, 1, 0, 1]),
+    ),
+    (
+        Reader::ConfigHead,
+        &[9, 2, 0x20, 0, 1, 1, 0, 0x80, 0x32],
+        Ok(&[32]),
+    ),
+    (Reader::Config, BULK, Ok(&[9, 2, 32, 1, 1, 0, 0x80, 0x32])),
+    (Reader::BulkOut, BULK, Ok(&[2, 64])),
+    (Reader::BulkIn, BULK, Ok(&[2, 64])),
+    (Reader::StatusEndpoint, BULK, Ok(&[])),
+    (Reader::BulkOut, HUB, Ok(&[])),
+    (Reader::BulkIn, HUB, Ok(&[])),
+    (Reader::StatusEndpoint, HUB, Ok(&[1, 1])),
+    // endpoints of another alternate setting do not count
+    (Reader::BulkOut, BULK_OTHER, Ok(&[])),
+    (Reader::BulkIn, BULK_OTHER, Ok(&[])),
+    (
+        Reader::Hub,
+        &[9, 0x29, 2, 1, 0, 0, 0, 0, 0xff],
+        Ok(&[9, 0x29, 2, 1, 0, 0, 0, 0xff]),
+    ),
+    (Reader::FirstLanguage, &[4, 3, 9, 4], Ok(&[0x409])),
+    (Reader::FirstLanguage, &[2, 3], Ok(&[])),
+    (
+        Reader::Units,
+        &[8, 3, 0x41, 0, 0x22, 0, 0x0a, 0, 0xff],
+        Ok(&[8, 3, 0x41, 0x22, 0x0a]),
+    ),
+    (Reader::LowDeviceHead, &[0; 7], Err(Short)),
+    (Reader::LowDeviceHead, &[0; 8], Err(WrongType)),
+    (
+        Reader::LowDeviceHead,
+        &[0, 1, 0, 0, 0, 0, 0, 0],
+        Err(Length),
+    ),
+    (
+        Reader::LowDeviceHead,
+        &[18, 1, 0, 0, 0, 0, 0, 0],
+        Err(MaxPacket),
+    ),
+    (
+        Reader::LowDeviceHead,
+        &[18, 1, 0, 0, 0, 0, 0, 64],
+        Err(MaxPacket),
+    ),
+    (
+        Reader::Device,
+        &[18, 1, 0, 0, 0, 0, 0, 9, 0, 0, 0, 0, 0, 0, 0, 0, 0],
+        Err(Short),
+    ),
+    (Reader::Device, &[0; 18], Err(WrongType)),
+    (
+        Reader::Device,
+        &[0, 1, 0, 0, 0, 0, 0, 9, 0, 0, 0, 0, 0, 0, 0, 0, 0, 0],
+        Err(Length),
+    ),
+    (
+        Reader::Device,
+        &[18, 1, 0, 0, 0, 0, 0, 9, 0, 0, 0, 0, 0, 0, 0, 0, 0, 0],
+        Err(MaxPacket),
+    ),
+    (
+        Reader::Device,
+        &[18, 1, 0, 0, 0, 0, 0, 64, 0, 0, 0, 0, 0, 0, 0, 0, 0, 0],
+        Err(NoConfiguration),
+    ),
+    (Reader::ConfigHead, &[0; 8], Err(Short)),
+    (Reader::ConfigHead, &[0; 9], Err(WrongType)),
+    (
+        Reader::ConfigHead,
+        &[0, 2, 0, 0, 0, 0, 0, 0, 0],
+        Err(Length),
+    ),
+    (Reader::ConfigHead, &[9, 2, 8, 0, 0, 0, 0, 0, 0], Err(Total)),
+    (
+        Reader::ConfigHead,
+        &[9, 2, 9, 0, 0, 0, 0, 0, 0],
+        Err(NoConfiguration),
+    ),
+    (Reader::Config, &[0; 8], Err(Short)),
+    (Reader::Config, &[0; 9], Err(WrongType)),
+    (Reader::Config, &[0, 2, 0, 0, 0, 0, 0, 0, 0], Err(Length)),
+    (Reader::Config, &[9, 2, 8, 0, 0, 0, 0, 0, 0], Err(Total)),
+    (
+        Reader::Config,
+        &[9, 2, 9, 0, 0, 0, 0, 0, 0],
+        Err(NoConfiguration),
+    ),
+    (Reader::Config, &[9, 2, 11, 0, 0, 1, 0, 0, 0, 1], Err(Short)),
+    (
+        Reader::Config,
+        &[9, 2, 10, 0, 0, 1, 0, 0, 0, 1, 0],
+        Err(Total),
+    ),
+    // one byte is left over, whatever its value
+    (Reader::Config, &[9, 2, 10, 0, 0, 1, 0, 0, 0, 1], Err(Total)),
+    (
+        Reader::Config,
+        &[9, 2, 12, 0, 0, 1, 0, 0, 0, 2, 9, 2],
+        Err(Total),
+    ),
+    (
+        Reader::Config,
+        &[9, 2, 11, 0, 0, 1, 0, 0, 0, 1, 9],
+        Err(Length),
+    ),
+    // the type's least length goes before the end
+    (
+        Reader::Config,
+        &[9, 2, 11, 0, 0, 1, 0, 0, 0, 8, 4],
+        Err(Length),
+    ),
+    (
+        Reader::Config,
+        &[9, 2, 11, 0, 0, 1, 0, 0, 0, 9, 4],
+        Err(Total),
+    ),
+    (
+        Reader::Config,
+        &[9, 2, 11, 0, 0, 1, 0, 0, 0, 6, 5],
+        Err(Length),
+    ),
+    (
+        Reader::Config,
+        &[9, 2, 11, 0, 0, 1, 0, 0, 0, 7, 5],
+        Err(Total),
+    ),
+    (Reader::Hub, &[0; 8], Err(Short)),
+    (Reader::Hub, &[0; 9], Err(WrongType)),
+    (Reader::Hub, &[8, 0x29, 1, 0, 0, 0, 0, 0, 0], Err(Length)),
+    (Reader::Hub, &[9, 0x29, 0, 0, 0, 0, 0, 0, 0], Err(Length)),
+    (Reader::Hub, &[9, 0x29, 8, 0, 0, 0, 0, 0, 0], Err(Length)),
+    (Reader::Units, &[3], Err(Short)),
+    (Reader::Units, &[3, 2], Err(WrongType)),
+    (Reader::Units, &[3, 3, 0], Err(Length)),
+    (Reader::Units, &[0, 3, 0], Err(Length)),
+    (Reader::Units, &[4, 3, 0], Err(Length)),
+];
+
 #[test]
-fn a_configuration(rt: HostRuntime) {
-    let want = ConfigFields {
-        length: 9,
-        descriptor_type: 2,
-        total_length: 32,
-        interfaces: 1,
-        value: 1,
-        string_index: 0,
-        attributes: 0x80,
-        max_power: 0x32,
+fn readings(rt: HostRuntime) {
+    for (reader, bytes, want) in READINGS {
+        let read = told_by(*reader, bytes);
+        let told = match &read {
+            Ok(numbers) => Ok(numbers.as_slice()),
+            Err(fault) => Err(*fault),
+        };
+        assert_eq!(rt; told, *want, "{reader:?} of {bytes:?}");
+    }
+}
+
+/// What an item of a configuration and its view tell.
+#[derive(Drop)]
+struct ItemTold {
+    item: &'static [u8],
+    view: &'static [u8],
+    /// The fields in the order of the bytes; of an endpoint then its number, and 1 for IN.
+    numbers: Numbers,
+    /// An endpoint's.
+    transfer_type: Option<TransferType>,
+}
+
+fn item_told(item: &Item<'static>) -> ItemTold {
+    let (view, numbers, transfer_type) = match item {
+        Item::Interface(interface) => (interface.as_slice(), interface_numbers(interface), None),
+        Item::Endpoint(endpoint) => (
+            endpoint.as_slice(),
+            endpoint_numbers(endpoint),
+            Some(endpoint.transfer_type()),
+        ),
+        Item::Other(other) => (
+            other.as_slice(),
+            list(&[
+                u16::from(other.length()),
+                u16::from(other.descriptor_type()),
+            ]),
+            None,
+        ),
     };
-    assert_eq!(rt; config_fields(BULK), Ok(want));
-}
-
-#[derive(Clone, Copy, Debug, PartialEq, Eq)]
-struct InterfaceFields {
-    length: u8,
-    descriptor_type: u8,
-    number: u8,
-    alternate_setting: u8,
-    endpoints: u8,
-    class: u8,
-    subclass: u8,
-    protocol: u8,
-    string_index: u8,
-}
-
-fn interface_fields(interface: &InterfaceView<'_>) -> InterfaceFields {
-    InterfaceFields {
-        length: interface.length(),
-        descriptor_type: interface.descriptor_type(),
-        number: interface.number(),
-        alternate_setting: interface.alternate_setting(),
-        endpoints: interface.endpoints(),
-        class: interface.class(),
-        subclass: interface.subclass(),
-        protocol: interface.protocol(),
-        string_index: interface.string_index(),
+    ItemTold {
+        item: item.as_slice(),
+        view,
+        numbers,
+        transfer_type,
     }
 }
 
-#[derive(Clone, Copy, Debug, PartialEq, Eq)]
-struct EndpointFields {
-    length: u8,
-    descriptor_type: u8,
-    address: u8,
-    number: u8,
-    is_in: bool,
-    attributes: u8,
-    transfer_type: TransferType,
-    max_packet: u16,
-    interval: u8,
+fn interface_numbers(interface: &InterfaceView<'_>) -> Numbers {
+    list(&[
+        u16::from(interface.length()),
+        u16::from(interface.descriptor_type()),
+        u16::from(interface.number()),
+        u16::from(interface.alternate_setting()),
+        u16::from(interface.endpoints()),
+        u16::from(interface.class()),
+        u16::from(interface.subclass()),
+        u16::from(interface.protocol()),
+        u16::from(interface.string_index()),
+    ])
 }
 
-fn endpoint_fields(endpoint: &EndpointView<'_>) -> EndpointFields {
-    EndpointFields {
-        length: endpoint.length(),
-        descriptor_type: endpoint.descriptor_type(),
-        address: endpoint.address(),
-        number: endpoint.number(),
-        is_in: endpoint.is_in(),
-        attributes: endpoint.attributes(),
-        transfer_type: endpoint.transfer_type(),
-        max_packet: endpoint.max_packet(),
-        interval: endpoint.interval(),
-    }
-}
-
-#[derive(Clone, Copy, Debug, PartialEq, Eq)]
-enum ItemFields {
-    Interface(InterfaceFields),
-    Endpoint(EndpointFields),
-    Other { length: u8, descriptor_type: u8 },
-}
-
-fn item_fields(item: &Item<'_>) -> ItemFields {
-    match item {
-        Item::Interface(interface) => ItemFields::Interface(interface_fields(interface)),
-        Item::Endpoint(endpoint) => ItemFields::Endpoint(endpoint_fields(endpoint)),
-        Item::Other(other) => ItemFields::Other {
-            length: other.length(),
-            descriptor_type: other.descriptor_type(),
-        },
-    }
-}
-
-/// The bytes that the view of the item's own kind gives.
-fn view_bytes<'a>(item: &Item<'a>) -> &'a [u8] {
-    match item {
-        Item::Interface(interface) => interface.as_slice(),
-        Item::Endpoint(endpoint) => endpoint.as_slice(),
-        Item::Other(other) => other.as_slice(),
-    }
+fn endpoint_numbers(endpoint: &EndpointView<'_>) -> Numbers {
+    list(&[
+        u16::from(endpoint.length()),
+        u16::from(endpoint.descriptor_type()),
+        u16::from(endpoint.address()),
+        u16::from(endpoint.attributes()),
+        endpoint.max_packet(),
+        u16::from(endpoint.interval()),
+        u16::from(endpoint.number()),
+        u16::from(endpoint.is_in()),
+    ])
 }
 
 /// The item of this place from 0, None behind the last.
-fn item_at(config: &'static [u8], place: u8) -> Option<Item<'static>> {
+fn told_at(config: &'static [u8], place: u8) -> Option<ItemTold> {
     let config = read_config(config).ok()?;
     let mut items = config.items();
     for _ in 0..place {
         items.next()?;
     }
-    items.next()
+    let item = items.next()?;
+    Some(item_told(&item))
 }
 
+/// An item by its place from 0; behind the last there are no bytes.
 struct ItemRow {
     config: &'static [u8],
     place: u8,
-    /// The item's bytes and fields.
-    item: Option<(&'static [u8], ItemFields)>,
+    bytes: &'static [u8],
+    /// As [`ItemTold`] has them.
+    numbers: &'static [u16],
+    transfer_type: Option<TransferType>,
 }
 
 const ITEMS: &[ItemRow] = &[
     ItemRow {
         config: BULK,
         place: 0,
-        item: Some((
-            &[9, 4, 0, 0, 2, 0xff, 0, 0, 0],
-            ItemFields::Interface(InterfaceFields {
-                length: 9,
-                descriptor_type: 4,
-                number: 0,
-                alternate_setting: 0,
-                endpoints: 2,
-                class: 0xff,
-                subclass: 0,
-                protocol: 0,
-                string_index: 0,
-            }),
-        )),
+        bytes: &[9, 4, 0, 0, 2, 0xff, 0, 0, 0],
+        numbers: &[9, 4, 0, 0, 2, 0xff, 0, 0, 0],
+        transfer_type: None,
     },
     ItemRow {
         config: BULK,
         place: 1,
-        item: Some((
-            &[7, 5, 2, 2, 0x40, 0, 0],
-            ItemFields::Endpoint(EndpointFields {
-                length: 7,
-                descriptor_type: 5,
-                address: 2,
-                number: 2,
-                is_in: false,
-                attributes: 2,
-                transfer_type: TransferType::Bulk,
-                max_packet: 64,
-                interval: 0,
-            }),
-        )),
+        bytes: &[7, 5, 2, 2, 0x40, 0, 0],
+        numbers: &[7, 5, 2, 2, 64, 0, 2, 0],
+        transfer_type: Some(TransferType::Bulk),
     },
     ItemRow {
         config: BULK,
         place: 2,
-        item: Some((
-            &[7, 5, 0x82, 2, 0x40, 0, 0],
-            ItemFields::Endpoint(EndpointFields {
-                length: 7,
-                descriptor_type: 5,
-                address: 0x82,
-                number: 2,
-                is_in: true,
-                attributes: 2,
-                transfer_type: TransferType::Bulk,
-                max_packet: 64,
-                interval: 0,
-            }),
-        )),
+        bytes: &[7, 5, 0x82, 2, 0x40, 0, 0],
+        numbers: &[7, 5, 0x82, 2, 64, 0, 2, 1],
+        transfer_type: Some(TransferType::Bulk),
     },
     ItemRow {
         config: BULK,
         place: 3,
-        item: None,
+        bytes: &[],
+        numbers: &[],
+        transfer_type: None,
     },
     ItemRow {
         config: OTHER,
         place: 0,
-        item: Some((
-            &[3, 0x24, 7],
-            ItemFields::Other {
-                length: 3,
-                descriptor_type: 0x24,
-            },
-        )),
+        bytes: &[3, 0x24, 7],
+        numbers: &[3, 0x24],
+        transfer_type: None,
     },
 ];
-
-/// The bytes of the item and of its view, and its fields.
-fn told_at(config: &'static [u8], place: u8) -> Option<(&'static [u8], &'static [u8], ItemFields)> {
-    let item = item_at(config, place)?;
-    Some((item.as_slice(), view_bytes(&item), item_fields(&item)))
-}
 
 #[test]
 fn items_of_a_configuration(rt: HostRuntime) {
     for row in ITEMS {
-        let want = match row.item {
-            Some((bytes, fields)) => Some((bytes, bytes, fields)),
-            None => None,
+        let found = told_at(row.config, row.place);
+        let told: (&[u8], &[u8], &[u16], Option<TransferType>) = match &found {
+            Some(told) => (
+                told.item,
+                told.view,
+                told.numbers.as_slice(),
+                told.transfer_type,
+            ),
+            None => (&[], &[], &[], None),
         };
-        assert_eq!(rt; told_at(row.config, row.place), want, "item {}", row.place);
-    }
-}
-
-/// The endpoints that a host uses, each by its number and its maximum packet.
-#[derive(Clone, Copy, Debug, PartialEq, Eq)]
-struct Chosen {
-    bulk_out: Option<(u8, u8)>,
-    bulk_in: Option<(u8, u8)>,
-    status_endpoint: Option<(u8, u8)>,
-}
-
-fn endpoints_of(bytes: &[u8]) -> Result<Chosen, DescriptorFault> {
-    let config = read_config(bytes)?;
-    Ok(Chosen {
-        bulk_out: config.bulk_out(),
-        bulk_in: config.bulk_in(),
-        status_endpoint: config.status_endpoint(),
-    })
-}
-
-const CHOICES: &[(&[u8], Chosen)] = &[
-    (
-        BULK,
-        Chosen {
-            bulk_out: Some((2, 64)),
-            bulk_in: Some((2, 64)),
-            status_endpoint: None,
-        },
-    ),
-    (
-        HUB,
-        Chosen {
-            bulk_out: None,
-            bulk_in: None,
-            status_endpoint: Some((1, 1)),
-        },
-    ),
-    // endpoints of another alternate setting do not count
-    (
-        BULK_OTHER,
-        Chosen {
-            bulk_out: None,
-            bulk_in: None,
-            status_endpoint: None,
-        },
-    ),
-];
-
-#[test]
-fn chosen_endpoints(rt: HostRuntime) {
-    for (bytes, want) in CHOICES {
-        assert_eq!(rt; endpoints_of(bytes), Ok(*want), "{bytes:?}");
-    }
-}
-
-#[derive(Clone, Copy, Debug, PartialEq, Eq)]
-struct HubFields {
-    length: u8,
-    descriptor_type: u8,
-    ports: u8,
-    characteristics: u16,
-    power_on_time: u8,
-    controller_current: u8,
-    removable: u8,
-    power_mask: u8,
-}
-
-fn hub_fields(bytes: &[u8]) -> Result<HubFields, DescriptorFault> {
-    let hub = read_hub(bytes)?;
-    Ok(HubFields {
-        length: hub.length(),
-        descriptor_type: hub.descriptor_type(),
-        ports: hub.ports(),
-        characteristics: hub.characteristics(),
-        power_on_time: hub.power_on_time(),
-        controller_current: hub.controller_current(),
-        removable: hub.removable(),
-        power_mask: hub.power_mask(),
-    })
-}
-
-#[test]
-fn a_hub(rt: HostRuntime) {
-    let want = HubFields {
-        length: 9,
-        descriptor_type: 0x29,
-        ports: 2,
-        characteristics: 1,
-        power_on_time: 0,
-        controller_current: 0,
-        removable: 0,
-        power_mask: 0xff,
-    };
-    assert_eq!(rt; hub_fields(&[9, 0x29, 2, 1, 0, 0, 0, 0, 0xff]), Ok(want));
-}
-
-#[derive(Clone, Copy, Debug, PartialEq, Eq)]
-struct StringFields {
-    length: u8,
-    descriptor_type: u8,
-    first_language: Option<u16>,
-}
-
-struct StringRow {
-    bytes: &'static [u8],
-    fields: StringFields,
-    units: &'static [u16],
-}
-
-const STRINGS: &[StringRow] = &[
-    StringRow {
-        bytes: &[4, 3, 9, 4],
-        fields: StringFields {
-            length: 4,
-            descriptor_type: 3,
-            first_language: Some(0x409),
-        },
-        units: &[0x409],
-    },
-    StringRow {
-        bytes: &[8, 3, 0x41, 0, 0x22, 0, 0x0a, 0, 0xff],
-        fields: StringFields {
-            length: 8,
-            descriptor_type: 3,
-            first_language: Some(0x41),
-        },
-        units: &[0x41, 0x22, 0x0a],
-    },
-    StringRow {
-        bytes: &[2, 3],
-        fields: StringFields {
-            length: 2,
-            descriptor_type: 3,
-            first_language: None,
-        },
-        units: &[],
-    },
-];
-
-/// The fields of the string, and its units as far as there is room.
-fn string_told(bytes: &[u8]) -> Result<(StringFields, ArrayVec<u16, 8>), DescriptorFault> {
-    let text = read_string(bytes)?;
-    let fields = StringFields {
-        length: text.length(),
-        descriptor_type: text.descriptor_type(),
-        first_language: text.first_language(),
-    };
-    let mut units = ArrayVec::new();
-    for unit in text.units() {
-        if units.is_full() {
-            break;
-        }
-        units.push(unit);
-    }
-    Ok((fields, units))
-}
-
-#[test]
-fn strings(rt: HostRuntime) {
-    for row in STRINGS {
-        let told = string_told(row.bytes);
-        let told = told
-            .as_ref()
-            .map(|(fields, units)| (*fields, units.as_slice()));
-        assert_eq!(rt; told, Ok((row.fields, row.units)), "{:?}", row.bytes);
-    }
-}
-
-/// What reads the bytes.
-#[derive(Clone, Copy, Debug)]
-enum Reader {
-    /// Of a low-speed device.
-    LowDeviceHead,
-    /// Of a full-speed device.
-    Device,
-    ConfigHead,
-    Config,
-    Hub,
-    Text,
-}
-
-fn fault_of(reader: Reader, bytes: &[u8]) -> Option<DescriptorFault> {
-    match reader {
-        Reader::LowDeviceHead => device_head(bytes, true).err(),
-        Reader::Device => read_device(bytes, false).err(),
-        Reader::ConfigHead => config_head(bytes).err(),
-        Reader::Config => read_config(bytes).err(),
-        Reader::Hub => read_hub(bytes).err(),
-        Reader::Text => read_string(bytes).err(),
-    }
-}
-
-/// Bytes that are no such descriptor, and the first fault.
-const FAULTS: &[(Reader, &[u8], DescriptorFault)] = &[
-    (Reader::LowDeviceHead, &[0; 7], Short),
-    (Reader::LowDeviceHead, &[0; 8], WrongType),
-    (Reader::LowDeviceHead, &[0, 1, 0, 0, 0, 0, 0, 0], Length),
-    (Reader::LowDeviceHead, &[18, 1, 0, 0, 0, 0, 0, 0], MaxPacket),
-    (
-        Reader::LowDeviceHead,
-        &[18, 1, 0, 0, 0, 0, 0, 64],
-        MaxPacket,
-    ),
-    (
-        Reader::Device,
-        &[18, 1, 0, 0, 0, 0, 0, 9, 0, 0, 0, 0, 0, 0, 0, 0, 0],
-        Short,
-    ),
-    (Reader::Device, &[0; 18], WrongType),
-    (
-        Reader::Device,
-        &[0, 1, 0, 0, 0, 0, 0, 9, 0, 0, 0, 0, 0, 0, 0, 0, 0, 0],
-        Length,
-    ),
-    (
-        Reader::Device,
-        &[18, 1, 0, 0, 0, 0, 0, 9, 0, 0, 0, 0, 0, 0, 0, 0, 0, 0],
-        MaxPacket,
-    ),
-    (
-        Reader::Device,
-        &[18, 1, 0, 0, 0, 0, 0, 64, 0, 0, 0, 0, 0, 0, 0, 0, 0, 0],
-        NoConfiguration,
-    ),
-    (Reader::ConfigHead, &[0; 8], Short),
-    (Reader::ConfigHead, &[0; 9], WrongType),
-    (Reader::ConfigHead, &[0, 2, 0, 0, 0, 0, 0, 0, 0], Length),
-    (Reader::ConfigHead, &[9, 2, 8, 0, 0, 0, 0, 0, 0], Total),
-    (
-        Reader::ConfigHead,
-        &[9, 2, 9, 0, 0, 0, 0, 0, 0],
-        NoConfiguration,
-    ),
-    (Reader::Config, &[0; 8], Short),
-    (Reader::Config, &[0; 9], WrongType),
-    (Reader::Config, &[0, 2, 0, 0, 0, 0, 0, 0, 0], Length),
-    (Reader::Config, &[9, 2, 8, 0, 0, 0, 0, 0, 0], Total),
-    (
-        Reader::Config,
-        &[9, 2, 9, 0, 0, 0, 0, 0, 0],
-        NoConfiguration,
-    ),
-    (Reader::Config, &[9, 2, 11, 0, 0, 1, 0, 0, 0, 1], Short),
-    (Reader::Config, &[9, 2, 10, 0, 0, 1, 0, 0, 0, 1, 0], Total),
-    // one byte is left over, whatever its value
-    (Reader::Config, &[9, 2, 10, 0, 0, 1, 0, 0, 0, 1], Total),
-    (
-        Reader::Config,
-        &[9, 2, 12, 0, 0, 1, 0, 0, 0, 2, 9, 2],
-        Total,
-    ),
-    (Reader::Config, &[9, 2, 11, 0, 0, 1, 0, 0, 0, 1, 9], Length),
-    // the type's least length goes before the end
-    (Reader::Config, &[9, 2, 11, 0, 0, 1, 0, 0, 0, 8, 4], Length),
-    (Reader::Config, &[9, 2, 11, 0, 0, 1, 0, 0, 0, 9, 4], Total),
-    (Reader::Config, &[9, 2, 11, 0, 0, 1, 0, 0, 0, 6, 5], Length),
-    (Reader::Config, &[9, 2, 11, 0, 0, 1, 0, 0, 0, 7, 5], Total),
-    (Reader::Hub, &[0; 8], Short),
-    (Reader::Hub, &[0; 9], WrongType),
-    (Reader::Hub, &[8, 0x29, 1, 0, 0, 0, 0, 0, 0], Length),
-    (Reader::Hub, &[9, 0x29, 0, 0, 0, 0, 0, 0, 0], Length),
-    (Reader::Hub, &[9, 0x29, 8, 0, 0, 0, 0, 0, 0], Length),
-    (Reader::Text, &[3], Short),
-    (Reader::Text, &[3, 2], WrongType),
-    (Reader::Text, &[3, 3, 0], Length),
-    (Reader::Text, &[0, 3, 0], Length),
-    (Reader::Text, &[4, 3, 0], Length),
-];
-
-#[test]
-fn first_faults(rt: HostRuntime) {
-    for (reader, bytes, fault) in FAULTS {
-        assert_eq!(rt;
-            fault_of(*reader, bytes),
-            Some(*fault),
-            "{reader:?} of {bytes:?}"
-        );
+        let want = (row.bytes, row.bytes, row.numbers, row.transfer_type);
+        assert_eq!(rt; told, want, "item {} of {:?}", row.place, row.config);
     }
 }

@@ -1,7 +1,6 @@
 //! Packets with their bytes and their text, bytes that spell none, and the digits of a byte.
 use arrayvec::{ArrayString, ArrayVec};
-use std::alloc::{AllocError, Global};
-use std::test::Fail;
+use std::fmt::Write;
 use usb_packet::{PacketFault, decode, encode, hex_digits, packet_text};
 
 struct PacketRow {
@@ -99,37 +98,32 @@ const DIGITS: &[DigitRow] = &[
     },
 ];
 
-/// The text of the packet that the bytes spell, and the bytes that spell it again.
-fn spelled(bytes: &[u8]) -> Result<(ArrayString<136>, ArrayVec<u8, 67>), PacketFault> {
+/// The text of the packet that the bytes spell, and the bytes that spell it again; of bytes that
+/// spell none the fault.
+fn spelled(bytes: &[u8]) -> (Option<PacketFault>, ArrayString<136>, ArrayVec<u8, 67>) {
     match decode(bytes) {
-        Ok(packet) => Ok((packet_text(&packet), encode(&packet))),
-        Err(fault) => Err(fault),
+        Ok(packet) => (None, packet_text(&packet), encode(&packet)),
+        Err(fault) => (Some(fault), ArrayString::new(), ArrayVec::new()),
     }
 }
 
 #[test]
 fn packets(rt: HostRuntime) {
     for row in PACKETS {
-        let told = spelled(row.bytes);
-        let read = told
-            .as_ref()
-            .map(|(text, bytes)| (text.as_str(), bytes.as_slice()));
-        assert_eq!(rt; read, Ok((row.text, row.bytes)), "{}", row.text);
+        let (fault, text, bytes) = spelled(row.bytes);
+        let told = (fault, text.as_str(), bytes.as_slice());
+        assert_eq!(rt; told, (None, row.text, row.bytes), "{}", row.text);
     }
-}
-
-fn words_of(alloc: Global, fault: PacketFault) -> Result<String, AllocError> {
-    format!(in alloc; "{fault}")
 }
 
 #[test]
-fn bytes_that_spell_no_packet(rt: HostRuntime) -> Result<(), Fail> {
+fn bytes_that_spell_no_packet(rt: HostRuntime) {
     for row in FAULTS {
-        let words = words_of(rt.alloc(), row.fault)?;
-        let told = (decode(row.bytes).err(), words.as_str());
-        assert_eq!(rt; told, (Some(row.fault), row.words), "{:?}", row.bytes);
+        let mut words = ArrayString::<16>::new();
+        let written = write!(words, "{}", row.fault).is_ok();
+        let told = (decode(row.bytes).err(), written, words.as_str());
+        assert_eq!(rt; told, (Some(row.fault), true, row.words), "{:?}", row.bytes);
     }
-    Ok(())
 }
 
 #[test]

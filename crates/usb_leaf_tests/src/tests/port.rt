@@ -5,7 +5,7 @@ use usb_request::feature::{
     C_PORT_CONNECTION, C_PORT_ENABLE, C_PORT_RESET, PORT_ENABLE, PORT_POWER, PORT_RESET,
 };
 
-/// What is done to a port.
+/// What is done to a port, or asked of it.
 #[derive(Clone, Copy, Debug)]
 enum Step {
     /// A new port comes in its place.
@@ -13,160 +13,81 @@ enum Step {
     PlugLow,
     PlugFull,
     Unplug,
-    Set(u16),
-    Clear(u16),
+    /// A feature is set, by its number.
+    Set,
+    /// A feature is cleared, by its number.
+    Clear,
+    IsAttached,
+    IsLowSpeed,
+    IsPowered,
+    IsEnabled,
+    HasChange,
 }
 
-fn take_step(port: &mut Port, step: Step) -> Result<(), UnknownFeature> {
+/// The answer to what is asked; of what is done, whether the table names it.
+fn take_step(port: &mut Port, step: Step, feature: u16) -> bool {
     match step {
         Step::New => *port = Port::new(),
         Step::PlugLow => port.plug(true),
         Step::PlugFull => port.plug(false),
         Step::Unplug => port.unplug(),
-        Step::Set(feature) => return port.set_feature(feature),
-        Step::Clear(feature) => return port.clear_feature(feature),
+        Step::Set => return port.set_feature(feature) != Err(UnknownFeature),
+        Step::Clear => return port.clear_feature(feature) != Err(UnknownFeature),
+        Step::IsAttached => return port.is_attached(),
+        Step::IsLowSpeed => return port.is_low_speed(),
+        Step::IsPowered => return port.is_powered(),
+        Step::IsEnabled => return port.is_enabled(),
+        Step::HasChange => return port.has_change(),
     }
-    Ok(())
+    true
 }
 
-/// Steps, each with the status after it.
-const STEPS: &[(Step, [u8; 4])] = &[
+/// A step with its feature, 0 where it has none, its answer, and the port's status after it.
+const STEPS: &[(Step, u16, bool, [u8; 4])] = &[
     // from power to unplug
-    (Step::New, [0, 0, 0, 0]),
-    (Step::PlugLow, [0, 0, 0, 0]),
-    (Step::Set(PORT_POWER), [1, 3, 1, 0]),
-    (Step::Clear(C_PORT_CONNECTION), [1, 3, 0, 0]),
-    (Step::Set(PORT_RESET), [3, 3, 0x10, 0]),
-    (Step::Clear(C_PORT_RESET), [3, 3, 0, 0]),
-    (Step::Unplug, [0, 1, 1, 0]),
-    // reset where nothing is attached, disabled and switched off
-    (Step::New, [0, 0, 0, 0]),
-    (Step::Set(PORT_POWER), [0, 1, 0, 0]),
-    (Step::Set(PORT_RESET), [0, 1, 0, 0]),
-    (Step::PlugFull, [1, 1, 1, 0]),
-    (Step::Set(PORT_RESET), [3, 1, 0x11, 0]),
-    (Step::Clear(PORT_ENABLE), [1, 1, 0x11, 0]),
-    (Step::Clear(C_PORT_ENABLE), [1, 1, 0x11, 0]),
-    (Step::Clear(PORT_POWER), [0, 0, 0, 0]),
+    (Step::New, 0, true, [0, 0, 0, 0]),
+    (Step::PlugLow, 0, true, [0, 0, 0, 0]),
+    (Step::IsAttached, 0, true, [0, 0, 0, 0]),
+    (Step::IsLowSpeed, 0, true, [0, 0, 0, 0]),
+    (Step::IsPowered, 0, false, [0, 0, 0, 0]),
+    (Step::Set, PORT_POWER, true, [1, 3, 1, 0]),
+    (Step::Clear, C_PORT_CONNECTION, true, [1, 3, 0, 0]),
+    (Step::Set, PORT_RESET, true, [3, 3, 0x10, 0]),
+    (Step::IsEnabled, 0, true, [3, 3, 0x10, 0]),
+    (Step::HasChange, 0, true, [3, 3, 0x10, 0]),
+    (Step::Clear, C_PORT_RESET, true, [3, 3, 0, 0]),
+    (Step::HasChange, 0, false, [3, 3, 0, 0]),
+    (Step::Unplug, 0, true, [0, 1, 1, 0]),
+    // reset with nothing attached, then disabled and switched off
+    (Step::New, 0, true, [0, 0, 0, 0]),
+    (Step::Set, PORT_POWER, true, [0, 1, 0, 0]),
+    (Step::Set, PORT_RESET, true, [0, 1, 0, 0]),
+    (Step::PlugFull, 0, true, [1, 1, 1, 0]),
+    (Step::Set, PORT_RESET, true, [3, 1, 0x11, 0]),
+    (Step::Clear, PORT_ENABLE, true, [1, 1, 0x11, 0]),
+    (Step::Clear, C_PORT_ENABLE, true, [1, 1, 0x11, 0]),
+    (Step::Clear, PORT_POWER, true, [0, 0, 0, 0]),
+    // features that the table does not name for the call
+    (Step::Set, 0, false, [0, 0, 0, 0]),
+    (Step::Set, 1, false, [0, 0, 0, 0]),
+    (Step::Set, 2, false, [0, 0, 0, 0]),
+    (Step::Set, 16, false, [0, 0, 0, 0]),
+    (Step::Set, 20, false, [0, 0, 0, 0]),
+    (Step::Set, 0x108, false, [0, 0, 0, 0]),
+    (Step::Clear, 0, false, [0, 0, 0, 0]),
+    (Step::Clear, 2, false, [0, 0, 0, 0]),
+    (Step::Clear, 4, false, [0, 0, 0, 0]),
+    (Step::Clear, 18, false, [0, 0, 0, 0]),
+    (Step::Clear, 19, false, [0, 0, 0, 0]),
+    (Step::Clear, 0x110, false, [0, 0, 0, 0]),
 ];
 
 #[test]
 fn a_port_by_its_table(rt: HostRuntime) {
     let mut port = Port::new();
-    for (step, status) in STEPS {
-        let told = (take_step(&mut port, *step), port.status());
-        assert_eq!(rt; told, (Ok(()), *status), "{step:?}");
-    }
-}
-
-/// Features that the table doesn't name for the call.
-const UNKNOWN: &[Step] = &[
-    Step::Set(0),
-    Step::Set(1),
-    Step::Set(2),
-    Step::Set(16),
-    Step::Set(20),
-    Step::Set(0x108),
-    Step::Clear(0),
-    Step::Clear(2),
-    Step::Clear(4),
-    Step::Clear(18),
-    Step::Clear(19),
-    Step::Clear(0x110),
-];
-
-#[test]
-fn features_outside_the_table(rt: HostRuntime) {
-    let mut port = Port::new();
-    for step in UNKNOWN {
-        assert_eq!(rt;
-            take_step(&mut port, *step),
-            Err(UnknownFeature),
-            "{step:?}"
-        );
-    }
-}
-
-/// What a port answers.
-#[derive(Clone, Copy, Debug, PartialEq, Eq)]
-struct Answers {
-    is_attached: bool,
-    is_low_speed: bool,
-    is_powered: bool,
-    is_enabled: bool,
-    has_change: bool,
-}
-
-/// Steps, each with what the port answers after it.
-const ANSWERS: &[(Step, Answers)] = &[
-    (
-        Step::PlugLow,
-        Answers {
-            is_attached: true,
-            is_low_speed: true,
-            is_powered: false,
-            is_enabled: false,
-            has_change: false,
-        },
-    ),
-    (
-        Step::Set(PORT_POWER),
-        Answers {
-            is_attached: true,
-            is_low_speed: true,
-            is_powered: true,
-            is_enabled: false,
-            has_change: true,
-        },
-    ),
-    (
-        Step::Clear(C_PORT_CONNECTION),
-        Answers {
-            is_attached: true,
-            is_low_speed: true,
-            is_powered: true,
-            is_enabled: false,
-            has_change: false,
-        },
-    ),
-    (
-        Step::Set(PORT_RESET),
-        Answers {
-            is_attached: true,
-            is_low_speed: true,
-            is_powered: true,
-            is_enabled: true,
-            has_change: true,
-        },
-    ),
-    (
-        Step::Clear(C_PORT_RESET),
-        Answers {
-            is_attached: true,
-            is_low_speed: true,
-            is_powered: true,
-            is_enabled: true,
-            has_change: false,
-        },
-    ),
-];
-
-fn answers_of(port: &Port) -> Answers {
-    Answers {
-        is_attached: port.is_attached(),
-        is_low_speed: port.is_low_speed(),
-        is_powered: port.is_powered(),
-        is_enabled: port.is_enabled(),
-        has_change: port.has_change(),
-    }
-}
-
-#[test]
-fn answers_of_a_port(rt: HostRuntime) {
-    let mut port = Port::new();
-    for (step, answers) in ANSWERS {
-        let told = (take_step(&mut port, *step), answers_of(&port));
-        assert_eq!(rt; told, (Ok(()), *answers), "{step:?}");
+    for (step, feature, answer, status) in STEPS {
+        let told = (take_step(&mut port, *step, *feature), port.status());
+        assert_eq!(rt; told, (*answer, *status), "{step:?} {feature}");
     }
 }
 
@@ -214,40 +135,36 @@ fn a_status_read(rt: HostRuntime) {
     }
 }
 
-/// The text of the path, or `none`.
+/// The text of the path, empty where there is none.
 fn text_of(path: Option<PortPath>) -> ArrayString<13> {
     match path {
         Some(path) => path.text(),
-        None => {
-            let mut none = ArrayString::new();
-            none.push_str("none");
-            none
-        }
+        None => ArrayString::new(),
     }
 }
 
-/// A text, and that of the path that it spells.
+/// A text, and that of the path that it spells, empty where it spells none.
 const TEXTS: &[(&str, &str)] = &[
     ("1", "1"),
     ("7", "7"),
     ("1.1", "1.1"),
     ("3.7.1", "3.7.1"),
     ("1.2.3.4.5.6.7", "1.2.3.4.5.6.7"),
-    ("", "none"),
-    ("8", "none"),
-    ("0", "none"),
-    ("9", "none"),
-    ("a", "none"),
-    (".", "none"),
-    (".1", "none"),
-    ("1.", "none"),
-    ("1..2", "none"),
-    ("11", "none"),
-    ("1,2", "none"),
-    (" 1", "none"),
-    ("1.8", "none"),
-    ("1.2.", "none"),
-    ("1.1.1.1.1.1.1.1", "none"),
+    ("", ""),
+    ("8", ""),
+    ("0", ""),
+    ("9", ""),
+    ("a", ""),
+    (".", ""),
+    (".1", ""),
+    ("1.", ""),
+    ("1..2", ""),
+    ("11", ""),
+    ("1,2", ""),
+    (" 1", ""),
+    ("1.8", ""),
+    ("1.2.", ""),
+    ("1.1.1.1.1.1.1.1", ""),
 ];
 
 #[test]
@@ -261,21 +178,8 @@ fn texts_of_paths(rt: HostRuntime) {
     }
 }
 
-/// The number of a root port, and the text of its path.
-const ROOTS: &[(u8, &str)] = &[(0, "none"), (8, "none"), (3, "3")];
-
-#[test]
-fn roots(rt: HostRuntime) {
-    for (number, text) in ROOTS {
-        assert_eq!(rt;
-            text_of(PortPath::root(*number)).as_str(),
-            *text,
-            "of {number}"
-        );
-    }
-}
-
-/// A number that is pushed on a path, whether it goes, and the path then.
+/// A number that is pushed on a path, whether it goes, and the path then; a root port's parent is
+/// empty.
 struct PushRow {
     number: u8,
     pushed: bool,
@@ -291,14 +195,14 @@ const PUSHES: &[PushRow] = &[
         pushed: false,
         numbers: &[3],
         port: 3,
-        parent: "none",
+        parent: "",
     },
     PushRow {
         number: 8,
         pushed: false,
         numbers: &[3],
         port: 3,
-        parent: "none",
+        parent: "",
     },
     PushRow {
         number: 5,
@@ -353,7 +257,8 @@ const PUSHES: &[PushRow] = &[
 
 #[test]
 fn a_path_grows(rt: HostRuntime) {
-    let Some(mut path) = PortPath::root(3) else {
+    let (None, None, Some(mut path)) = (PortPath::root(0), PortPath::root(8), PortPath::root(3))
+    else {
         assert!(rt; false);
         return;
     };
@@ -366,59 +271,49 @@ fn a_path_grows(rt: HostRuntime) {
     }
 }
 
-/// How a path stands to another.
-#[derive(Clone, Copy, Debug, PartialEq, Eq)]
-struct Relation {
-    is_less: bool,
-    is_equal: bool,
-    is_below: bool,
+/// What one path may be to another.
+#[derive(Clone, Copy)]
+enum Relation {
+    Less,
+    Equal,
+    Below,
 }
 
-const BEFORE: Relation = Relation {
-    is_less: true,
-    is_equal: false,
-    is_below: false,
-};
-
-const SAME: Relation = Relation {
-    is_less: false,
-    is_equal: true,
-    is_below: false,
-};
-
-const BELOW: Relation = Relation {
-    is_less: false,
-    is_equal: false,
-    is_below: true,
-};
-
-/// A path, another, and how it stands to that one.
-const RELATIONS: &[(&str, &str, Relation)] = &[
-    ("3", "3.5", BEFORE),
-    ("3", "3", SAME),
-    ("3.5", "3", BELOW),
-    ("1", "1.1", BEFORE),
-    ("1.1", "1.1.7", BEFORE),
-    ("1.1.7", "1.2", BEFORE),
-    ("1.2", "2", BEFORE),
-    ("2", "2.1.1.1.1.1.1", BEFORE),
-    ("2.1.1.1.1.1.1", "2.3", BEFORE),
-    ("2.3", "7", BEFORE),
-];
-
-fn relation_of(path: &str, other: &str) -> Option<Relation> {
+/// Whether the one path is that to the other; None where a text spells no path.
+fn holds(path: &str, relation: Relation, other: &str) -> Option<bool> {
     let path = PortPath::from_text(path)?;
     let other = PortPath::from_text(other)?.duplicate();
-    Some(Relation {
-        is_less: path < other,
-        is_equal: path == other,
-        is_below: path.is_below(&other),
+    Some(match relation {
+        Relation::Less => path < other,
+        Relation::Equal => path == other,
+        Relation::Below => path.is_below(&other),
     })
 }
 
+/// Two paths, what the one may be to the other, and whether it is.
+const RELATIONS: &[(&str, Relation, &str, bool)] = &[
+    ("3", Relation::Less, "3.5", true),
+    ("3", Relation::Equal, "3.5", false),
+    ("3", Relation::Equal, "3", true),
+    ("3.5", Relation::Below, "3", true),
+    ("3", Relation::Below, "3.5", false),
+    ("3", Relation::Below, "3", false),
+    ("1", Relation::Less, "1.1", true),
+    ("1.1", Relation::Less, "1.1.7", true),
+    ("1.1.7", Relation::Less, "1.2", true),
+    ("1.2", Relation::Less, "2", true),
+    ("2", Relation::Less, "2.1.1.1.1.1.1", true),
+    ("2.1.1.1.1.1.1", Relation::Less, "2.3", true),
+    ("2.3", Relation::Less, "7", true),
+];
+
 #[test]
-fn paths_in_order(rt: HostRuntime) {
-    for (path, other, want) in RELATIONS {
-        assert_eq!(rt; relation_of(path, other), Some(*want), "{path} to {other}");
+fn relations_of_paths(rt: HostRuntime) {
+    for (path, relation, other, want) in RELATIONS {
+        assert_eq!(rt;
+            holds(path, *relation, other),
+            Some(*want),
+            "{path} to {other}"
+        );
     }
 }
