@@ -4,11 +4,11 @@ use super::plans::{GET_DEVICE, ONE_FUNCTION, SET_ADDRESS_5};
 use super::row::{joined, plan_text, went_otherwise};
 use super::step::Speed::Full;
 use super::step::{Step, told};
-use std::alloc::Global;
+use std::alloc::{AllocError, Global};
 use std::str;
 use std::test::Fail;
 use usb_bench::{plugged, trace_of};
-use usb_bus::{Damage, Harm};
+use usb_bus::{Damage, Harm, SimBus};
 
 /// The damage to a packet of one of the attempts SETUP, IN and OUT, and what that attempt tells and its line.
 #[derive(Clone, Copy)]
@@ -273,26 +273,40 @@ const DAMAGES: &[Damaged] = &[
     },
 ];
 
-/// What the damaged attempt told, and its line.
-fn damaged_told(alloc: Global, damage: Damage) -> Result<String, Fail> {
-    let text = plan_text(alloc, ONE_FUNCTION, &[damage])?;
-    let mut bus = plugged(alloc, text.as_str())?;
+/// Makes three attempts; what the one of a number told.
+fn attempt_told(
+    alloc: Global,
+    bus: &mut SimBus<Vec<u8>>,
+    number: u64,
+) -> Result<String, AllocError> {
     let mut words = String::new(alloc);
     for step in [
         Step::Setup(Full, 0, GET_DEVICE),
         Step::In(Full, 0),
         Step::Out(Full, 0),
     ] {
-        let told = told(alloc, &mut bus, step)?;
-        if bus.attempts() == damage.attempt {
+        let told = told(alloc, bus, step)?;
+        if bus.attempts() == number {
             words = told;
         }
     }
+    Ok(words)
+}
+
+/// What the damaged attempt told, and its line.
+fn damaged_told(alloc: Global, damage: Damage) -> Result<String, Fail> {
+    let text = plan_text(alloc, ONE_FUNCTION, &[damage])?;
+    let mut bus = plugged(alloc, text.as_str())?;
+    let words = attempt_told(alloc, &mut bus, damage.attempt);
     let trace = trace_of(bus);
-    let line = str::from_utf8(trace.as_slice())?
-        .lines()
-        .nth(damage.attempt as usize);
-    Ok(format!(in alloc; "{}: {}", words.as_str(), line.unwrap_or(""))?)
+    let mut all = words?;
+    let mut lines = str::from_utf8(trace.as_slice())?.lines();
+    write!(
+        all,
+        ": {}",
+        lines.nth(damage.attempt as usize).unwrap_or("")
+    )?;
+    Ok(all)
 }
 
 #[test]

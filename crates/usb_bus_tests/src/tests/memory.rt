@@ -4,9 +4,10 @@ use super::plans::{BULK, ONE_PORT, SET_ADDRESS_1, SET_CONFIGURATION};
 use super::row::{Told, joined, otherwise};
 use super::step::Speed::Full;
 use super::step::{Step, told};
-use std::alloc::Global;
+use std::alloc::{AllocError, Global};
 use std::test::Fail;
-use usb_bench::bus_of;
+use usb_bench::{bus_of, trace_of};
+use usb_bus::SimBus;
 
 const PLUG_BULK: &str = r#"
 [[event]]
@@ -77,25 +78,40 @@ const CALLS: &[Told<'static>] = &[
     (Step::Registers("1"), "Some((0, 0))"),
 ];
 
+/// The steps behind the OUT that told this; None where no row wants it.
+fn steps_behind(words: &str) -> Option<&'static [Told<'static>]> {
+    for row in SENT {
+        if words == row.told {
+            return Some(row.steps);
+        }
+    }
+    None
+}
+
 /// Sends two bytes to the function; what went otherwise than the row of what this told wants.
-fn sent_otherwise(alloc: Global) -> Result<String, Fail> {
-    let text = joined(alloc, &[ONE_PORT, BULK, PLUG_BULK])?;
-    let mut bus = bus_of(alloc, text.as_str())?;
-    let words = otherwise(alloc, &mut bus, CONFIGURED, &[])?;
+fn sent_otherwise(alloc: Global, bus: &mut SimBus<Vec<u8>>) -> Result<String, AllocError> {
+    let words = otherwise(alloc, bus, CONFIGURED, &[])?;
     if !words.is_empty() {
         return Ok(words);
     }
-    let words = told(alloc, &mut bus, Step::BulkOut)?;
-    for row in SENT {
-        if words.as_str() == row.told {
-            return Ok(otherwise(alloc, &mut bus, row.steps, CALLS)?);
-        }
+    let words = told(alloc, bus, Step::BulkOut)?;
+    match steps_behind(words.as_str()) {
+        Some(steps) => otherwise(alloc, bus, steps, CALLS),
+        None => Ok(words),
     }
-    Ok(words)
+}
+
+/// The same at the bus of a plan.
+fn went_otherwise(alloc: Global) -> Result<String, Fail> {
+    let text = joined(alloc, &[ONE_PORT, BULK, PLUG_BULK])?;
+    let mut bus = bus_of(alloc, text.as_str())?;
+    let words = sent_otherwise(alloc, &mut bus);
+    trace_of(bus);
+    Ok(words?)
 }
 
 #[test]
 fn a_sink_takes_data_or_is_refused_memory(rt: HostRuntime) -> Result<(), Fail> {
-    assert_eq!(rt; sent_otherwise(rt.alloc())?.as_str(), "");
+    assert_eq!(rt; went_otherwise(rt.alloc())?.as_str(), "");
     Ok(())
 }

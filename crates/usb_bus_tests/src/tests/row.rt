@@ -39,8 +39,9 @@ pub(super) fn went(
 ) -> Result<String, Fail> {
     let text = plan_text(alloc, plan, damages)?;
     let mut bus = bus_of(alloc, text.as_str())?;
-    let mut all = otherwise(alloc, &mut bus, opening, steps)?;
+    let words = otherwise(alloc, &mut bus, opening, steps);
     let trace = trace_of(bus);
+    let mut all = words?;
     all.push_str(str::from_utf8(trace.as_slice())?)?;
     Ok(all)
 }
@@ -53,7 +54,9 @@ pub(super) fn went_otherwise(
     steps: &[Told<'_>],
 ) -> Result<String, Fail> {
     let mut bus = bus_of(alloc, text)?;
-    Ok(otherwise(alloc, &mut bus, opening, steps)?)
+    let words = otherwise(alloc, &mut bus, opening, steps);
+    trace_of(bus);
+    Ok(words?)
 }
 
 /// Does the steps, and tells which of them told otherwise than wanted.

@@ -7,11 +7,11 @@ use super::row::{Told, joined, otherwise};
 use super::step::Speed::Full;
 use super::step::Step;
 use super::watched::Frail;
-use std::alloc::Global;
+use std::alloc::{AllocError, Global};
 use std::str;
 use std::test::Fail;
 use usb_bench::bus_on;
-use usb_bus::Watched;
+use usb_bus::{SimBus, Watched};
 
 /// How many writes there may be, and what becomes of the enumeration of a function and its trace.
 #[derive(Clone, Copy)]
@@ -112,17 +112,37 @@ fn frail(alloc: Global, writes_left: u64) -> Watched<Frail> {
     })
 }
 
+/// How an enumeration goes.
+#[derive(Clone, Copy)]
+enum Course {
+    /// Each step tells what is wanted.
+    Whole,
+    /// The trace fails, and each step behind tells so again.
+    Cut,
+    Otherwise,
+}
+
+fn enumeration(alloc: Global, bus: &mut SimBus<Frail>) -> Result<Course, AllocError> {
+    if otherwise(alloc, bus, ENUMERATION, &[])?.is_empty() {
+        return Ok(Course::Whole);
+    }
+    if otherwise(alloc, bus, AGAIN, &[])?.is_empty() {
+        return Ok(Course::Cut);
+    }
+    Ok(Course::Otherwise)
+}
+
 fn enumerated(alloc: Global, writes: u64) -> Result<Ended, Fail> {
     let text = joined(alloc, ONE_FUNCTION)?;
     let mut bus = bus_on(alloc, text.as_str(), frail(alloc, writes))?;
-    let is_whole = otherwise(alloc, &mut bus, ENUMERATION, &[])?.is_empty();
-    let is_cut = !is_whole && otherwise(alloc, &mut bus, AGAIN, &[])?.is_empty();
+    let course = enumeration(alloc, &mut bus);
     let writer = bus.into_writer();
     let is_marked = writer.failed();
     let taken = writer.into_inner().taken;
+    let course = course?;
     Ok(Ended {
-        is_whole,
-        is_cut,
+        is_whole: matches!(course, Course::Whole),
+        is_cut: matches!(course, Course::Cut),
         is_marked,
         taken: taken.len(),
         is_front: ENUMERATION_TRACE.as_bytes().starts_with(taken.as_slice()),
@@ -168,8 +188,9 @@ fn each_line_is_one_write(rt: HostRuntime) -> Result<(), Fail> {
 fn to_low_device(alloc: Global) -> Result<String, Fail> {
     let text = joined(alloc, HUB)?;
     let mut bus = bus_on(alloc, text.as_str(), frail(alloc, 10000))?;
-    let mut all = otherwise(alloc, &mut bus, TO_LOW_DEVICE, &[])?;
+    let words = otherwise(alloc, &mut bus, TO_LOW_DEVICE, &[]);
     let taken = bus.into_writer().into_inner().taken;
+    let mut all = words?;
     all.push_str(str::from_utf8(taken.as_slice())?)?;
     Ok(all)
 }
