@@ -173,8 +173,10 @@ fn each_write_fails_in_turn(rt: HostRuntime) -> Result<(), Fail> {
 fn writes_of_enumeration(alloc: Global) -> Result<u64, Fail> {
     let text = joined(alloc, ONE_FUNCTION)?;
     let mut bus = bus_on(alloc, text.as_str(), Watched::new(Vec::new(alloc)))?;
-    otherwise(alloc, &mut bus, ENUMERATION, &[])?;
-    Ok(bus.into_writer().calls())
+    let told = otherwise(alloc, &mut bus, ENUMERATION, &[]);
+    let writes = bus.into_writer().calls();
+    told?;
+    Ok(writes)
 }
 
 #[test]
