@@ -4,10 +4,13 @@ ghost use Rattle.usb_world.specs.World.{Spends};
 ghost use Rattle.usb_transaction.specs.Trans.{IsTarget, Worked};
 ghost use Rattle.usb_pipe.specs.Control.{Faults, control_bound};
 ghost use Rattle.usb_pipe.specs.Stages.{Reads, Writes};
-ghost use Rattle.usb_request.specs.Requests.{get_device_descriptor, get_configuration_descriptor, get_string_descriptor, set_address as address_request, set_configuration as configuration_request};
+ghost use Rattle.usb_request.specs.Requests.{get_device_descriptor, get_configuration_descriptor, get_string_descriptor, get_hub_descriptor, get_status as status_request, set_address as address_request, set_configuration as configuration_request};
+ghost use Rattle.usb_hub.specs.Requests.{Asked, Told, device_status};
 
+use crate::DeviceStatus;
+use crate::asking::{ask, ask_all, order};
 use std::alloc::Global;
-use usb_pipe::{Bus, PipeFault, Setup, Target, control_in, control_none};
+use usb_pipe::{Bus, PipeFault, Setup, Target};
 
 /// The first `length` bytes, or all, of the device descriptor (9.4.3); `length` is not 0.
 ///
@@ -27,7 +30,7 @@ pub fn get_device<B: Bus>(
     ensures stages { Reads target (get_device_descriptor length) (B.world bus.old) result (B.world bus.new) }
     ensures most { IfOk result (λ bytes. vec_len bytes ≤ length) }
 {
-    control_in(alloc, bus, target, Setup::get_device_descriptor(length))
+    ask(alloc, bus, target, Setup::get_device_descriptor(length))
 }
 
 /// The first `length` bytes, or all, of a configuration's text, by its index from 0 (9.4.3);
@@ -50,7 +53,7 @@ pub fn get_config<B: Bus>(
     ensures stages { Reads target (get_configuration_descriptor index length) (B.world bus.old) result (B.world bus.new) }
     ensures most { IfOk result (λ bytes. vec_len bytes ≤ length) }
 {
-    control_in(
+    ask(
         alloc,
         bus,
         target,
@@ -77,12 +80,45 @@ pub fn get_string<B: Bus>(
     ensures stages { Reads target (get_string_descriptor index language) (B.world bus.old) result (B.world bus.new) }
     ensures most { IfOk result (λ bytes. vec_len bytes ≤ 255) }
 {
-    control_in(
+    ask(
         alloc,
         bus,
         target,
         Setup::get_string_descriptor(index, language),
     )
+}
+
+/// The first nine bytes, or all, of a hub's descriptor (11.24.2.5).
+///
+/// # Errors
+///
+/// Those of `control_in`.
+pub fn hub_descriptor<B: Bus>(
+    alloc: Global,
+    bus: &mut B,
+    target: Target,
+) -> Result<Vec<u8>, PipeFault>
+    requires { IsTarget target }
+    ensures { Asked target get_hub_descriptor (B.world bus.old) result (B.world bus.new) }
+{
+    ask(alloc, bus, target, Setup::get_hub_descriptor())
+}
+
+/// The status of a device (9.4.5).
+///
+/// # Errors
+///
+/// Those of `control_in`, and `Stalled` where the answer is not two bytes long.
+pub fn get_status<B: Bus>(
+    alloc: Global,
+    bus: &mut B,
+    target: Target,
+) -> Result<DeviceStatus, PipeFault>
+    requires { IsTarget target }
+    ensures { Told device_status target status_request (B.world bus.old) result (B.world bus.new) }
+{
+    let bytes = ask_all(alloc, bus, target, Setup::get_status())?;
+    Ok(DeviceStatus::from_bytes(bytes))
 }
 
 /// Gives the device at `target` an address, 1 to 127 (9.4.6). It has it from the end of the status
@@ -100,7 +136,7 @@ pub fn set_address<B: Bus>(bus: &mut B, target: Target, address: u8) -> Result<(
     ensures stages { Writes target (address_request address) (B.world bus.old) result (B.world bus.new) }
     ensures room { result ≢ Err PipeFault.Memory }
 {
-    control_none(bus, target, Setup::set_address(address))
+    order(bus, target, Setup::set_address(address))
 }
 
 /// Configures the device with the configuration whose bConfigurationValue this is; 0 unconfigures
@@ -116,5 +152,5 @@ pub fn set_configuration<B: Bus>(bus: &mut B, target: Target, value: u8) -> Resu
     ensures stages { Writes target (configuration_request value) (B.world bus.old) result (B.world bus.new) }
     ensures room { result ≢ Err PipeFault.Memory }
 {
-    control_none(bus, target, Setup::set_configuration(value))
+    order(bus, target, Setup::set_configuration(value))
 }

@@ -1,0 +1,65 @@
+//! The two shapes of a request: one that is answered with data, and one without.
+ghost use Rattle.std.specs.Prelude.{◌≡◌, ◌≤◌};
+ghost use Rattle.usb_transaction.specs.Trans.{IsTarget};
+ghost use Rattle.usb_request.specs.Layout.{IsToHost, IsToDevice};
+ghost use Rattle.usb_hub.specs.Requests.{Asked, Told, Ordered};
+
+use std::alloc::Global;
+use usb_pipe::{Bus, PipeFault, Setup, Target, control_in, control_none};
+
+/// Asks for data: at most as many bytes as the request's length says.
+///
+/// # Errors
+///
+/// Those of `control_in`.
+pub(crate) fn ask<B: Bus>(
+    alloc: Global,
+    bus: &mut B,
+    target: Target,
+    setup: Setup,
+) -> Result<Vec<u8>, PipeFault>
+    requires target { IsTarget target }
+    requires reads { IsToHost setup }
+    requires some { 1 ≤ setup.length }
+    ensures { Asked target setup (B.world bus.old) result (B.world bus.new) }
+{
+    control_in(alloc, bus, target, setup)
+}
+
+/// Asks for data of just as many bytes as the request's length says.
+///
+/// # Errors
+///
+/// Those of `control_in`, and `Stalled` where the answer has another length.
+pub(crate) fn ask_all<B: Bus, const N: usize>(
+    alloc: Global,
+    bus: &mut B,
+    target: Target,
+    setup: Setup,
+) -> Result<[u8; N], PipeFault>
+    requires target { IsTarget target }
+    requires reads { IsToHost setup }
+    requires some { 1 ≤ setup.length }
+    requires size { setup.length ≡ N }
+    ensures { Told (λ bytes. bytes) target setup (B.world bus.old) result (B.world bus.new) }
+{
+    let answer = ask(alloc, bus, target, setup)?;
+    match answer.as_slice().try_into() {
+        Ok(bytes) => Ok(bytes),
+        Err(_) => Err(PipeFault::Stalled),
+    }
+}
+
+/// Orders what has no data.
+///
+/// # Errors
+///
+/// Those of `control_none`.
+pub(crate) fn order<B: Bus>(bus: &mut B, target: Target, setup: Setup) -> Result<(), PipeFault>
+    requires target { IsTarget target }
+    requires writes { IsToDevice setup }
+    requires none { setup.length ≡ 0 }
+    ensures { Ordered target setup (B.world bus.old) result (B.world bus.new) }
+{
+    control_none(bus, target, setup)
+}

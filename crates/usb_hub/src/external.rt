@@ -1,0 +1,62 @@
+//! The ports of a hub, asked of the hub (11.24.2).
+ghost use Rattle.usb_transaction.specs.Trans.{IsTarget};
+ghost use Rattle.usb_port.specs.Status.{status_in};
+ghost use Rattle.usb_request.specs.Requests.{get_port_status, set_port_feature as set_feature, clear_port_feature as clear_feature};
+ghost use Rattle.usb_hub.specs.Requests.{Told, Ordered};
+
+use crate::PortStatus;
+use crate::asking::{ask_all, order};
+use std::alloc::Global;
+use usb_pipe::{Bus, PipeFault, Setup, Target};
+
+/// The status of a hub's port, by its number from 1 (11.24.2.7).
+///
+/// # Errors
+///
+/// Those of `control_in`, and `Stalled` where the answer is not four bytes long.
+pub fn hub_port_status<B: Bus>(
+    alloc: Global,
+    bus: &mut B,
+    hub: Target,
+    port: u8,
+) -> Result<PortStatus, PipeFault>
+    requires { IsTarget hub }
+    ensures { Told status_in hub (get_port_status port) (B.world bus.old) result (B.world bus.new) }
+{
+    let bytes = ask_all(alloc, bus, hub, Setup::get_port_status(port))?;
+    Ok(PortStatus::from_bytes(bytes))
+}
+
+/// Sets a feature of a hub's port (11.24.2.13).
+///
+/// # Errors
+///
+/// Those of `control_none`; after `Busy` and `NoAnswer` the feature may be set.
+pub fn set_hub_port<B: Bus>(
+    bus: &mut B,
+    hub: Target,
+    port: u8,
+    feature: u16,
+) -> Result<(), PipeFault>
+    requires { IsTarget hub }
+    ensures { Ordered hub (set_feature feature port) (B.world bus.old) result (B.world bus.new) }
+{
+    order(bus, hub, Setup::set_port_feature(feature, port))
+}
+
+/// Clears a feature of a hub's port (11.24.2.2).
+///
+/// # Errors
+///
+/// Those of `control_none`; after `Busy` and `NoAnswer` the feature may be cleared.
+pub fn clear_hub_port<B: Bus>(
+    bus: &mut B,
+    hub: Target,
+    port: u8,
+    feature: u16,
+) -> Result<(), PipeFault>
+    requires { IsTarget hub }
+    ensures { Ordered hub (clear_feature feature port) (B.world bus.old) result (B.world bus.new) }
+{
+    order(bus, hub, Setup::clear_port_feature(feature, port))
+}
