@@ -13,7 +13,7 @@ use usb_serve::{Mode, run, serve};
 const PLANS: [&[Row]; 5] = [&ROWS, &DEVICES, &EVENTS, &DAMAGED, &LOSSES];
 
 /// What is written of a plan, and the fault that is told, empty where there is none.
-pub fn served(alloc: Global, mode: Mode, plan: &str) -> Result<(String, String), Fail> {
+pub(super) fn served(alloc: Global, mode: Mode, plan: &str) -> Result<(String, String), Fail> {
     let mut reader = Watched::new(plan.as_bytes());
     let (result, writer) = serve(alloc, mode, &mut reader, Watched::new(Vec::new(alloc)));
     let fault = match result {
