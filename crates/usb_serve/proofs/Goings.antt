@@ -1,5 +1,5 @@
 -- How the parts of a run join.
-use Rattle.std.proofs.Common.{◌≡◌, ◌∙◌, refl, sym, subst, arith, ℕ, ◌+◌, ◌≤◌, ◌<◌}
+use Rattle.std.proofs.Common.{◌≡◌, subst, arith, ℕ, ◌+◌, ◌≤◌}
 use Rattle.usb_world.specs.World.{World, Spends, to_come}
 use Rattle.usb_world.proofs.Counts.{spends_none, spends_then}
 use Rattle.usb_serve.specs.Run.{Goes}

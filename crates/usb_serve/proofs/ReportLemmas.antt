@@ -1,5 +1,5 @@
 -- Lists of printed lines.
-use Rattle.std.proofs.Common.{◌≡◌, ◌∙◌, refl, sym, ap, suc, zero, arith, ℕ, ◌+◌, ◌<◌, List, [], ◌∷◌, ◌++◌, length, take, get_or}
+use Rattle.std.proofs.Common.{◌≡◌, ◌∙◌, ap, suc, zero, arith, ℕ, ◌+◌, ◌<◌, List, [], ◌∷◌, ◌++◌, length, take, get_or}
 use Rattle.std.specs.Prelude.{◌==◌}
 use Rattle.usb_serve.specs.Report.{config_line, config_lines}
 

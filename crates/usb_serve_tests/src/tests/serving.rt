@@ -4,38 +4,72 @@ use super::devices::DEVICES;
 use super::events::EVENTS;
 use super::losses::LOSSES;
 use super::rows::{ROWS, Row};
-use std::alloc::Global;
+use std::alloc::{AllocError, Global};
 use std::test::Fail;
 use usb_bus::Watched;
 use usb_plan::read_plan;
-use usb_serve::{Mode, run, serve};
+use usb_serve::{Mode, ServeFault, run, serve};
 
 const PLANS: [&[Row]; 5] = [&ROWS, &DEVICES, &EVENTS, &DAMAGED, &LOSSES];
 
-/// What is written of a plan, and the fault that is told, empty where there is none.
-pub fn served(alloc: Global, mode: Mode, plan: &str) -> Result<(String, String), Fail> {
+/// How what is written of a plan compares with what is wanted.
+#[derive(Clone, Copy, Debug, PartialEq)]
+pub(super) enum Shown {
+    AsWanted,
+    OtherText,
+    OtherFault,
+}
+
+/// What is written of a plan, and how that ended.
+fn served(alloc: Global, mode: Mode, plan: &str) -> (Vec<u8>, Result<(), ServeFault>) {
     let mut reader = Watched::new(plan.as_bytes());
-    let (result, writer) = serve(alloc, mode, &mut reader, Watched::new(Vec::new(alloc)));
-    let fault = match result {
-        Ok(()) => String::new(alloc),
-        Err(fault) => format!(in alloc; "{fault}")?,
+    let (ended, writer) = serve(alloc, mode, &mut reader, Watched::new(Vec::new(alloc)));
+    (writer.into_inner(), ended)
+}
+
+/// The fault that is told, empty where there is none.
+fn fault_text(alloc: Global, ended: Result<(), ServeFault>) -> Result<String, AllocError> {
+    match ended {
+        Ok(()) => Ok(String::new(alloc)),
+        Err(fault) => format!(in alloc; "{fault}"),
+    }
+}
+
+/// Whether this text is written of a plan, and this fault told.
+pub(super) fn shown(
+    alloc: Global,
+    mode: Mode,
+    plan: &str,
+    text: &str,
+    fault: &str,
+) -> Result<Shown, AllocError> {
+    let (written, ended) = served(alloc, mode, plan);
+    if written.as_slice() != text.as_bytes() {
+        return Ok(Shown::OtherText);
+    }
+    if fault_text(alloc, ended)?.as_str() != fault {
+        return Ok(Shown::OtherFault);
+    }
+    Ok(Shown::AsWanted)
+}
+
+/// How what is written of a row's plan compares with the row.
+fn row_shown(alloc: Global, mode: Mode, row: &Row) -> Result<Shown, AllocError> {
+    let text = match mode {
+        Mode::Run => row.run,
+        Mode::Tree => row.tree,
     };
-    Ok((String::from_utf8(writer.into_inner())?, fault))
+    shown(alloc, mode, row.plan, text, row.fault)
 }
 
 #[test]
 fn plans_are_run_and_listed(rt: HostRuntime) -> Result<(), Fail> {
     for rows in PLANS {
         for row in rows {
-            for (mode, want) in [(Mode::Run, row.run), (Mode::Tree, row.tree)] {
-                let (text, fault) = served(rt.alloc(), mode, row.plan)?;
-                assert_eq!(rt;
-                    (text.as_str(), fault.as_str()),
-                    (want, row.fault),
-                    "{}",
-                    row.name
-                );
-            }
+            let run = row_shown(rt.alloc(), Mode::Run, row)?;
+            assert_eq!(rt; run, Shown::AsWanted, "run: {}", row.name);
+            let tree = row_shown(rt.alloc(), Mode::Tree, row)?;
+            assert_eq!(rt; tree, Shown::AsWanted, "tree: {}", row.name);
         }
     }
     Ok(())

@@ -1,4 +1,4 @@
-use Rattle.std.proofs.Common.{◌∙◌, sym, ap, append-nil, append_assoc, ◌++◌, ◌+◌, add-one, suc, arith, take, get_or, ◌≡◌, ◌∷◌, [], List, ℕ}
+use Rattle.std.proofs.Common.{◌∙◌, sym, ap, append-nil, append_assoc, ◌++◌, add-one, suc, arith, take, ◌≡◌, ◌∷◌, [], List, ℕ}
 use Rattle.usb_serve.specs.Report.{config_line, config_lines}
 use Rattle.std.specs.Prelude.{◌==◌}
 use Rattle.usb_serve.proofs.ReportLemmas.{config_lines_at}
