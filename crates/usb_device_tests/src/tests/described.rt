@@ -1,11 +1,11 @@
 //! Devices as they are described.
 use super::kinds::{
     BULK, BUS_HUB, EMPTY, FUNCTION, HUB, LATE_HALT, LOW, NO_CONFIG, NO_SET_CONFIG, NO_STATUS,
-    NO_STRING, ODD, ODD_HUB, Plan, Refused, SHORT, STALLING, TEXTS, spec_of,
+    NO_STRING, ODD, ODD_HUB, Plan, Refused, SHORT, STALLING, TEXTS, new_device, spec_of,
 };
 use std::alloc::{AllocError, Global};
 use std::test::Fail;
-use usb_device::{Bytes, Device, DeviceSpec, Devices, HubSpec, Stalls, has_hub_class};
+use usb_device::{Bytes, DeviceSpec, Devices, HubSpec, Stalls, has_hub_class};
 
 /// Devices of which, one or the other, everything is said that can be said.
 const PLANS: &[Plan] = &[
@@ -87,22 +87,27 @@ fn quirks(spec: &DeviceSpec, plan: &Plan) -> [bool; 8] {
 
 type Told = ([bool; 5], [bool; 8], bool);
 
+fn copy_of(alloc: Global, plan: &Plan) -> Result<DeviceSpec, AllocError> {
+    spec_of(alloc, plan)?.try_clone(alloc)
+}
+
+/// The speed of a device that was just plugged.
+fn is_low(alloc: Global, plan: &Plan) -> Result<bool, AllocError> {
+    Ok(new_device(alloc, plan)?.is_low())
+}
+
 /// What a copy of a description tells, and whether a device that was plugged has the speed.
 fn told(alloc: Global, plan: &Plan) -> Result<Told, AllocError> {
-    let copy = spec_of(alloc, plan)?.try_clone(alloc)?;
-    let is_low = Device::new(alloc, &copy)?.is_low();
-    Ok((texts(&copy, plan), quirks(&copy, plan), is_low == plan.low))
+    let is_speed = is_low(alloc, plan)? == plan.low;
+    let copy = copy_of(alloc, plan)?;
+    Ok((texts(&copy, plan), quirks(&copy, plan), is_speed))
 }
 
 #[test]
 fn devices_are_described(rt: HostRuntime) -> Result<(), Fail> {
     for plan in PLANS {
-        assert_eq!(rt;
-            told(rt.alloc(), plan)?,
-            ([true; 5], [true; 8], true),
-            "{}",
-            plan.name
-        );
+        let is = told(rt.alloc(), plan)? == ([true; 5], [true; 8], true);
+        assert!(rt; is, "{}", plan.name);
     }
     Ok(())
 }
@@ -110,6 +115,7 @@ fn devices_are_described(rt: HostRuntime) -> Result<(), Fail> {
 /// Which hub descriptors a hub with so many ports can have.
 #[derive(Clone, Copy)]
 struct HubRow {
+    about: &'static str,
     ports: u8,
     descriptor: &'static [u8],
     agrees: bool,
@@ -119,21 +125,25 @@ const USUAL: &[u8] = &[9, 0x29, 2, 1, 0, 0, 0, 0, 0xff];
 
 const HUBS: &[HubRow] = &[
     HubRow {
+        about: "as many ports",
         ports: 2,
         descriptor: USUAL,
         agrees: true,
     },
     HubRow {
+        about: "other ports",
         ports: 3,
         descriptor: USUAL,
         agrees: false,
     },
     HubRow {
+        about: "three bytes",
         ports: 3,
         descriptor: &[9, 0x29, 2],
         agrees: true,
     },
     HubRow {
+        about: "one byte",
         ports: 7,
         descriptor: &[0],
         agrees: true,
@@ -166,7 +176,8 @@ fn is_named(alloc: Global, name: &str) -> Result<(bool, usize), AllocError> {
 #[test]
 fn devices_have_names(rt: HostRuntime) -> Result<(), Fail> {
     for (name, is) in NAMES {
-        assert_eq!(rt; is_named(rt.alloc(), *name)?, (*is, 1), "{name}");
+        let (told, count) = is_named(rt.alloc(), *name)?;
+        assert!(rt; told == *is && count == 1, "{name}");
     }
     Ok(())
 }

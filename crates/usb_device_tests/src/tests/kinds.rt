@@ -318,17 +318,24 @@ fn hub_spec(alloc: Global, hub: HubText) -> Result<HubSpec, AllocError> {
     }
 }
 
-/// The same device with its ports, where it can have them.
-fn with_ports(
-    alloc: Global,
-    spec: DeviceSpec,
-    hub: Option<HubText>,
-) -> Result<DeviceSpec, AllocError> {
+fn ports(alloc: Global, hub: Option<HubText>) -> Result<Option<HubSpec>, AllocError> {
     match hub {
-        Some(hub) if !spec.is_low() && has_hub_class(spec.descriptor()) => {
-            Ok(spec.with_hub(hub_spec(alloc, hub)?))
+        Some(hub) => Ok(Some(hub_spec(alloc, hub)?)),
+        None => Ok(None),
+    }
+}
+
+/// The same device with its ports, where it can have them.
+fn with_ports(spec: DeviceSpec, hub: Option<HubSpec>) -> DeviceSpec {
+    match hub {
+        Some(hub) => {
+            if !spec.is_low() && has_hub_class(spec.descriptor()) {
+                spec.with_hub(hub)
+            } else {
+                spec
+            }
         }
-        _ => Ok(spec),
+        None => spec,
     }
 }
 
@@ -346,10 +353,12 @@ fn with_quirks(spec: DeviceSpec, plan: &Plan) -> DeviceSpec {
 }
 
 pub(super) fn spec_of(alloc: Global, plan: &Plan) -> Result<DeviceSpec, AllocError> {
-    let spec = with_ports(alloc, function(alloc, plan)?, plan.hub)?;
-    let spec = spec.with_strings(texts(alloc, plan.strings)?);
-    let spec = spec.with_source(bytes(alloc, plan.source)?);
-    Ok(with_quirks(spec, plan))
+    let strings = texts(alloc, plan.strings)?;
+    let source = bytes(alloc, plan.source)?;
+    let hub = ports(alloc, plan.hub)?;
+    let spec = function(alloc, plan)?;
+    let spec = spec.with_strings(strings).with_source(source);
+    Ok(with_quirks(with_ports(spec, hub), plan))
 }
 
 /// A device that was just plugged.

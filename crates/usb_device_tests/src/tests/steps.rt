@@ -81,7 +81,13 @@ fn answers(
     are_answered(device, &exchanges)
 }
 
-/// Whether a low-speed function could be plugged and answered as it is printed.
+fn plug(hub: &mut Device, port: u8, child: Device) {
+    if port >= 1 && usize::from(port) <= hub.port_count() && hub.child(port).is_none() {
+        hub.plug_child(port, child);
+    }
+}
+
+/// Plugs a low-speed function, and tells whether it answered before as it is printed.
 fn plugs(
     alloc: Global,
     hub: &mut Device,
@@ -89,13 +95,9 @@ fn plugs(
     exchanges: &[Exchange],
 ) -> Result<bool, AllocError> {
     let mut child = new_device(alloc, &LOW)?;
-    let is = are_answered(&mut child, exchanges)?;
-    if port >= 1 && usize::from(port) <= hub.port_count() && hub.child(port).is_none() {
-        hub.plug_child(port, child);
-        Ok(is)
-    } else {
-        Ok(false)
-    }
+    let is = are_answered(&mut child, exchanges);
+    plug(hub, port, child);
+    is
 }
 
 fn child_address(hub: &Device) -> Option<u8> {
@@ -154,15 +156,23 @@ fn holds(alloc: Global, device: &mut Device, step: Step) -> Result<bool, AllocEr
     }
 }
 
-/// The first step of a row that is not as it says, counted from 0.
-pub(super) fn first_difference(alloc: Global, row: &Row) -> Result<Option<usize>, AllocError> {
-    let mut device = new_device(alloc, row.device)?;
-    for (i, step) in row.steps.iter().enumerate() {
-        if !holds(alloc, &mut device, *step)? {
+/// The first step that is not as it says, counted from 0.
+fn first_among(
+    alloc: Global,
+    device: &mut Device,
+    steps: &[Step],
+) -> Result<Option<usize>, AllocError> {
+    for (i, step) in steps.iter().enumerate() {
+        if !holds(alloc, device, *step)? {
             return Ok(Some(i));
         }
     }
     Ok(None)
+}
+
+fn first_difference(alloc: Global, row: &Row) -> Result<Option<usize>, AllocError> {
+    let mut device = new_device(alloc, row.device)?;
+    first_among(alloc, &mut device, row.steps)
 }
 
 #[test]
