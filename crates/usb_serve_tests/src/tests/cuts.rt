@@ -1,5 +1,5 @@
 //! Devices one of whose descriptors is cut short, with what a run of each writes.
-use super::serving::{Shown, shown};
+use super::serving::{Shown, compared};
 use std::alloc::{AllocError, Global};
 use std::test::Fail;
 use usb_serve::Mode;
@@ -227,17 +227,17 @@ fn printed(digits: &str) -> &str {
 }
 
 /// How what is written of a device with these digits left compares with what is wanted.
-fn cut_shown(alloc: Global, cut: &Cut, digits: &str) -> Result<Shown, AllocError> {
+fn cut_compared(alloc: Global, cut: &Cut, digits: &str) -> Result<Shown, AllocError> {
     let plan = cut.plan.join(alloc, digits)?;
     let run = cut.run.join(alloc, printed(digits))?;
-    shown(alloc, Mode::Run, plan.as_str(), run.as_str(), "")
+    compared(alloc, Mode::Run, plan.as_str(), run.as_str(), "")
 }
 
 #[test]
 fn cut_descriptors_are_refused(rt: HostRuntime) -> Result<(), Fail> {
     for cut in &CUTS {
         for digits in cut.digits {
-            let shown = cut_shown(rt.alloc(), cut, digits)?;
+            let shown = cut_compared(rt.alloc(), cut, digits)?;
             assert_eq!(rt; shown, Shown::AsWanted, "{}, cut to '{digits}'", cut.name);
         }
     }

@@ -36,7 +36,7 @@ fn fault_text(alloc: Global, ended: Result<(), ServeFault>) -> Result<String, Al
 }
 
 /// Whether this text is written of a plan, and this fault told.
-pub(super) fn shown(
+pub(super) fn compared(
     alloc: Global,
     mode: Mode,
     plan: &str,
@@ -54,21 +54,21 @@ pub(super) fn shown(
 }
 
 /// How what is written of a row's plan compares with the row.
-fn row_shown(alloc: Global, mode: Mode, row: &Row) -> Result<Shown, AllocError> {
+fn row_compared(alloc: Global, mode: Mode, row: &Row) -> Result<Shown, AllocError> {
     let text = match mode {
         Mode::Run => row.run,
         Mode::Tree => row.tree,
     };
-    shown(alloc, mode, row.plan, text, row.fault)
+    compared(alloc, mode, row.plan, text, row.fault)
 }
 
 #[test]
 fn plans_are_run_and_listed(rt: HostRuntime) -> Result<(), Fail> {
     for rows in PLANS {
         for row in rows {
-            let run = row_shown(rt.alloc(), Mode::Run, row)?;
+            let run = row_compared(rt.alloc(), Mode::Run, row)?;
             assert_eq!(rt; run, Shown::AsWanted, "run: {}", row.name);
-            let tree = row_shown(rt.alloc(), Mode::Tree, row)?;
+            let tree = row_compared(rt.alloc(), Mode::Tree, row)?;
             assert_eq!(rt; tree, Shown::AsWanted, "tree: {}", row.name);
         }
     }
