@@ -1,5 +1,4 @@
 //! One module a crate. A test is a loop over rows of worked values.
 mod enumeration;
-mod external;
 mod host;
 mod hub;
