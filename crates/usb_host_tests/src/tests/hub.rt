@@ -135,7 +135,7 @@ const TRACE: &str = "plug 1 fn
 const PORT: HubPort = HubPort::Root(1);
 
 /// A target at full speed.
-fn target(addr: u8, max: u8) -> Target
+pub(super) fn target(addr: u8, max: u8) -> Target
     requires addr { addr < 128 }
     requires least { 1 ≤ max }
     requires most { max ≤ 64 }
@@ -149,14 +149,17 @@ fn target(addr: u8, max: u8) -> Target
     }
 }
 
-fn done(alloc: Global, outcome: Result<(), PipeFault>) -> Result<String, AllocError> {
+pub(super) fn done(alloc: Global, outcome: Result<(), PipeFault>) -> Result<String, AllocError> {
     match outcome {
         Ok(()) => String::from_str(alloc, "done"),
         Err(fault) => format!(in alloc; "{fault:?}"),
     }
 }
 
-fn read(alloc: Global, outcome: Result<Vec<u8>, PipeFault>) -> Result<String, AllocError> {
+pub(super) fn read(
+    alloc: Global,
+    outcome: Result<Vec<u8>, PipeFault>,
+) -> Result<String, AllocError> {
     match outcome {
         Ok(bytes) => hex::encode_upper(alloc, bytes.as_slice()),
         Err(fault) => format!(in alloc; "{fault:?}"),
@@ -164,7 +167,7 @@ fn read(alloc: Global, outcome: Result<Vec<u8>, PipeFault>) -> Result<String, Al
 }
 
 /// The names of the bits that are set.
-fn bits(alloc: Global, status: PortStatus) -> Result<String, AllocError> {
+pub(super) fn bits(alloc: Global, status: PortStatus) -> Result<String, AllocError> {
     let mut text = String::new(alloc);
     for (is_set, name) in [
         (status.connected, "connected "),
