@@ -6,7 +6,7 @@ use Rattle.usb_resources.specs.Pool.{Addresses, Takes}
 use Rattle.usb_enum.specs.declared.finding.Finding.{Finding}
 use Rattle.usb_enum.specs.declared.finding.Finding.TheVariants.{Device, Refused}
 use Rattle.usb_host.specs.declared.fault.HostFault.{HostFault}
-use Rattle.usb_host.specs.Entries.{Entries}
+use Rattle.usb_table.specs.Entries.{Entries}
 
 -- a device with the address was found
 unfoldable pub has_address : ℕ → Finding → Bool

@@ -7,7 +7,7 @@ use Rattle.usb_world.specs.World.{World, root_row, to_come, changes}
 use Rattle.usb_resources.specs.Pool.{Addresses, Releases}
 use Rattle.usb_enum.specs.declared.finding.Finding.{Finding}
 use Rattle.usb_enum.specs.declared.finding.Finding.TheVariants.{Device, Refused}
-use Rattle.usb_host.specs.Entries.{Entries}
+use Rattle.usb_table.specs.Entries.{Entries}
 
 pub record Hosting : Type 0 where
   pub world : World  -- the bus's

@@ -1,4 +1,6 @@
 pub mod Accounts
-pub mod Entries
+pub mod Agreement
+pub mod Bounds
 pub mod Hosting
+pub mod Progress
 pub mod Told

@@ -1,10 +1,89 @@
--- What a fault of the host says of the bus.
-use Rattle.std.specs.Prelude.{⊤}
+-- What a fault of the host says of the bus, and when the host stops.
+use Rattle.std.specs.Prelude.{◌≡◌, ◌↔◌, ⊤, Bool, true, false, IsTrue, IsErrOf, IsErr, Result, Ok, Err}
 use Rattle.usb_world.specs.World.{World, Failed}
+use Rattle.usb_pipe.specs.declared.fault.PipeFault.{PipeFault}
+use Rattle.usb_pipe.specs.declared.fault.PipeFault.TheVariants as pipe
+use Rattle.usb_table.specs.declared.fault.EndpointFault.{EndpointFault}
+use Rattle.usb_table.specs.declared.fault.EndpointFault.TheVariants as endpoint
 use Rattle.usb_host.specs.declared.fault.HostFault.{HostFault}
-use Rattle.usb_host.specs.declared.fault.HostFault.TheVariants.{Stopped, Bus, Memory}
+use Rattle.usb_host.specs.declared.fault.HostFault.TheVariants.{Stopped, NoDevice, NoEndpoint, Pipe, Bus, Memory}
+use Rattle.usb_host.specs.Hosting.{Hosting}
 
-abbrev pub HostTold : HostFault → World → Type 0
-HostTold Stopped w = ⊤
-HostTold (Bus f) w = Failed f w
-HostTold Memory w = ⊤
+-- a pipe's fault as the host's
+abbrev pub pipe_fault : PipeFault → HostFault
+pipe_fault pipe.Stalled = Pipe pipe.Stalled
+pipe_fault pipe.Busy = Pipe pipe.Busy
+pipe_fault pipe.NoAnswer = Pipe pipe.NoAnswer
+pipe_fault pipe.Broken = Pipe pipe.Broken
+pipe_fault (pipe.Bus fault) = Bus fault
+pipe_fault pipe.Memory = Memory
+
+abbrev pub endpoint_fault : EndpointFault → HostFault
+endpoint_fault endpoint.NoDevice = NoDevice
+endpoint_fault endpoint.NoEndpoint = NoEndpoint
+endpoint_fault (endpoint.Pipe fault) = pipe_fault fault
+
+abbrev pub host_told : {A : Type 0} → Result A EndpointFault → Result A HostFault
+host_told (Ok done) = Ok done
+host_told (Err fault) = Err (endpoint_fault fault)
+
+-- a fault that ends a part of a round: of the bus, which tells it, or of memory
+abbrev pub Ended : HostFault → World → Type 0
+Ended Stopped w = ⊥
+Ended NoDevice w = ⊥
+Ended NoEndpoint w = ⊥
+Ended (Pipe fault) w = ⊥
+Ended (Bus fault) w = Failed fault w
+Ended Memory w = ⊤
+
+-- a fault of a whole round
+abbrev pub RoundTold : HostFault → World → Type 0
+RoundTold Stopped w = ⊤
+RoundTold NoDevice w = ⊥
+RoundTold NoEndpoint w = ⊥
+RoundTold (Pipe fault) w = ⊥
+RoundTold (Bus fault) w = Failed fault w
+RoundTold Memory w = ⊤
+
+-- a pipe's fault that the host goes on after
+abbrev pub IsOfPipe : PipeFault → Type 0
+IsOfPipe pipe.Stalled = ⊤
+IsOfPipe pipe.Busy = ⊤
+IsOfPipe pipe.NoAnswer = ⊤
+IsOfPipe pipe.Broken = ⊤
+IsOfPipe (pipe.Bus fault) = ⊥
+IsOfPipe pipe.Memory = ⊥
+
+-- a fault of a transfer
+abbrev pub TransferTold : HostFault → World → Type 0
+TransferTold Stopped w = ⊤
+TransferTold NoDevice w = ⊤
+TransferTold NoEndpoint w = ⊤
+TransferTold (Pipe fault) w = IsOfPipe fault
+TransferTold (Bus fault) w = Failed fault w
+TransferTold Memory w = ⊤
+
+-- after these the host makes no more attempts
+abbrev pub is_last : HostFault → Bool
+is_last Stopped = false
+is_last NoDevice = false
+is_last NoEndpoint = false
+is_last (Pipe fault) = false
+is_last (Bus fault) = true
+is_last Memory = true
+
+abbrev pub is_final : {A : Type 0} → Result A HostFault → Bool
+is_final (Ok done) = false
+is_final (Err fault) = is_last fault
+
+-- a stopped host changes nothing and says so; another stops where the round fails
+pub record StopsAsRound {A : Type 0} (old : Hosting) (result : Result A HostFault) (new : Hosting) : Type 0 where
+  pub said : IsErrOf result Stopped ↔ IsTrue old.stopped
+  pub nothing : IsTrue old.stopped → new ≡ old
+  pub stops : IsTrue new.stopped ↔ IsErr result
+
+-- a stopped host changes nothing and says so; another stops at a fault of the bus and for want of memory
+pub record StopsAsTransfer {A : Type 0} (old : Hosting) (result : Result A HostFault) (new : Hosting) : Type 0 where
+  pub said : IsErrOf result Stopped ↔ IsTrue old.stopped
+  pub nothing : IsTrue old.stopped → new ≡ old
+  pub stops : old.stopped ≡ false → new.stopped ≡ is_final result

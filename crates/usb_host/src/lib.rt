@@ -1,12 +1,13 @@
-//! The host: rounds over its ports, and a table of the devices that it found (9.1.2, 11.12).
+//! The host: rounds over the ports of its root and of the hubs that it knows, and the transfers to
+//! the devices that it found (9.1.2, 11.12).
 #![tactic(auto)]
 
 mod fault;
 mod host;
-mod table;
+mod ports;
+mod rounds;
 mod tree;
 
 pub use fault::HostFault;
 pub use host::{Host, Round};
-pub use table::DeviceTable;
 pub use tree::Tree;

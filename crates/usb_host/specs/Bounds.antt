@@ -1,0 +1,46 @@
+-- How many attempts the parts of a round may take.
+use Rattle.std.specs.Prelude.{ℕ, ◌+◌, ◌*◌, ◌^◌}
+use Rattle.usb_enum.specs.Bounds.{widest_enumeration}
+
+-- a port's status, and an order to it
+abbrev pub status_most : ℕ
+status_most = 2000
+
+abbrev pub order_most : ℕ
+order_most = 1600
+
+-- the clearing of the change, a second status, the disabling, and the enumeration
+abbrev pub look_bound : ℕ
+look_bound = order_most + status_most + order_most + widest_enumeration
+
+-- a hub and each above it is disabled
+abbrev pub drop_bound : ℕ
+drop_bound = 7 * order_most
+
+-- a port is looked at, and its hub dropped
+abbrev pub handling_bound : ℕ
+handling_bound = status_most + look_bound + drop_bound
+
+abbrev pub roots_bound : ℕ
+roots_bound = 7 * handling_bound
+
+abbrev pub told_bound : ℕ
+told_bound = 7 * handling_bound
+
+-- a poll, and what it tells
+abbrev pub hub_bound : ℕ
+hub_bound = 768 + drop_bound + told_bound
+
+-- there are fewer than 8 ^ 7 paths, and each is polled at most once, and looked at again at most once
+abbrev pub hubs_bound : ℕ
+hubs_bound = 2097152 * hub_bound
+
+abbrev pub looks_bound : ℕ
+looks_bound = 2097152 * handling_bound
+
+abbrev pub round_bound : ℕ
+round_bound = roots_bound + hubs_bound + looks_bound
+
+-- two requests
+abbrev pub clear_bound : ℕ
+clear_bound = 3200

@@ -1,0 +1,43 @@
+-- That a round gets on.
+use Rattle.std.specs.Prelude.{◌≡◌, ◌⊎◌, ℕ, ◌+◌, ◌*◌, ◌<◌, List, Bool, true, false, if◌then◌else◌}
+use Rattle.std.specs.List.{count_by}
+use Rattle.usb_world.specs.World.{Spends}
+use Rattle.usb_enum.specs.declared.cause.Cause.{Cause}
+use Rattle.usb_enum.specs.declared.cause.Cause.TheVariants.{Silent, Busy, Stalled, BadDevice, TooDeep, BadConfiguration, NoPower, BadHub, Lost, NoAddress}
+use Rattle.usb_enum.specs.declared.finding.Finding.{Finding}
+use Rattle.usb_enum.specs.declared.finding.Finding.TheVariants.{Device, Refused}
+use Rattle.usb_table.specs.Entries.{Entries}
+use Rattle.usb_table.specs.Places.{is_waiting}
+use Rattle.usb_host.specs.Hosting.{Hosting, work}
+use Rattle.usb_host.specs.declared.host.Round.{Round}
+use Rattle.usb_host.specs.declared.host.Round.TheVariants.{Worked, Quiet}
+
+-- how many devices wait for an address
+abbrev pub waiting : Entries → ℕ
+waiting entries = count_by (λ e. is_waiting e.1) entries
+
+-- what is left to do without an attempt: a change may leave one device more that waits
+abbrev pub idle_work : Hosting → ℕ
+idle_work h = 2 * work h.world + waiting h.entries
+
+-- an attempt was made, or there is less to do
+abbrev pub Advances : Hosting → Hosting → Type 0
+Advances old new = (old.world.attempts < new.world.attempts) ⊎ (idle_work new < idle_work old)
+
+-- nothing that is known has changed
+abbrev pub Rests : Hosting → Hosting → Type 0
+Rests old new = new ≡ record old { world = new.world }
+
+-- at most so many attempts were made, and the host goes on
+pub record Goes (most : ℕ) (old new : Hosting) : Type 0 where
+  pub spends : Spends most old.world new.world
+  pub going : new.stopped ≡ old.stopped
+
+-- what a part of a round did
+abbrev pub Did : Round → Hosting → Hosting → Type 0
+Did Worked old new = Advances old new
+Did Quiet old new = Rests old new
+
+abbrev pub either : Round → Round → Round
+either Worked other = Worked
+either Quiet other = other

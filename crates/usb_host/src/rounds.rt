@@ -1,0 +1,136 @@
+//! The parts of a round.
+ghost use Rattle.std.specs.Prelude.{◌≡◌, ◌≢◌, ◌≤◌, ◌<◌, ◌+◌, ◌*◌, true, false, OnOk, IfOk, IfErr, IfSome, Ok, Err};
+ghost use Rattle.usb_world.specs.World.{root_row, changes, IsRootPort};
+ghost use Rattle.usb_host.specs.Bounds.{roots_bound, hubs_bound, hub_bound, looks_bound, look_bound};
+ghost use Rattle.usb_host.specs.Progress.{Goes, Did};
+ghost use Rattle.usb_host.specs.Told.{Ended};
+
+use crate::host::{Host, Round};
+use crate::HostFault;
+use usb_bus::Bus;
+use usb_hub::PipeFault;
+use usb_port::PortPath;
+
+impl Round {
+    /// Whether one of two parts of a round did anything.
+    fn and(self, other: Round) -> Round
+        ensures { result ≡ either self other }
+    {
+        match self {
+            Round::Worked => Round::Worked,
+            Round::Quiet => other,
+        }
+    }
+}
+
+impl<B: Bus> Host<B> {
+    /// The root ports, the hubs, and the devices that wait.
+    pub(crate) fn parts(&mut self) -> Result<Round, HostFault>
+        ensures goes { Goes round_bound self.old self.new }
+        ensures told { IfErr result (λ fault. Ended fault self.new.world) }
+        ensures did { IfOk result (λ round. Did round self.old self.new) }
+        ensures none { result ≡ Ok Round.Quiet → changes (root_row self.old.world) ≡ 0 }
+    {
+        let roots = self.serve_roots()?;
+        let hubs = self.serve_hubs()?;
+        let looks = self.look_again()?;
+        Ok(roots.and(hubs).and(looks))
+    }
+
+    /// Handles each root port whose connection has changed, by rising number.
+    fn serve_roots(&mut self) -> Result<Round, HostFault>
+        ensures goes { Goes roots_bound self.old self.new }
+        ensures told { IfErr result (λ fault. Ended fault self.new.world) }
+        ensures did { IfOk result (λ round. Did round self.old self.new) }
+        ensures none { result ≡ Ok Round.Quiet → changes (root_row self.old.world) ≡ 0 }
+    {
+        let mut round = Round::Quiet;
+        let roots = self.bus.root_ports();
+        'ports: for number in 1..roots + 1 {
+            if self.has_changed(number) {
+                self.handle_root(number)?;
+                round = Round::Worked;
+            }
+        }
+        Ok(round)
+    }
+
+    /// Polls each hub that is known, by rising path, and handles the ports of which it tells.
+    fn serve_hubs(&mut self) -> Result<Round, HostFault>
+        ensures goes { Goes hubs_bound self.old self.new }
+        ensures told { IfErr result (λ fault. Ended fault self.new.world) }
+        ensures did { IfOk result (λ round. Did round self.old self.new) }
+    {
+        let mut round = Round::Quiet;
+        let mut last: Option<PortPath> = None;
+        'hubs: while let Some(hub) = self.table.next_hub(last.as_ref()) {
+            round = round.and(self.serve_hub(&hub)?);
+            last = Some(hub);
+        }
+        Ok(round)
+    }
+
+    /// Polls a hub, and handles the ports of which it tells; where it does not answer, it is dropped.
+    fn serve_hub(&mut self, hub: &PortPath) -> Result<Round, HostFault>
+        ensures goes { Goes hub_bound self.old self.new }
+        ensures told { IfErr result (λ fault. Ended fault self.new.world) }
+        ensures did { IfOk result (λ round. Did round self.old self.new) }
+    {
+        match self.table.poll(&mut self.bus, hub) {
+            Ok(None) => Ok(Round::Quiet),
+            Ok(Some(bits)) => self.serve_told(hub, first_byte(bits.as_slice())),
+            Err(PipeFault::Bus(fault)) => Err(HostFault::Bus(fault)),
+            Err(_) => {
+                self.drop_hub(hub.duplicate())?;
+                Ok(Round::Worked)
+            }
+        }
+    }
+
+    /// Handles each port of a hub whose bit is set, by rising number, as long as the hub is known.
+    fn serve_told(&mut self, hub: &PortPath, bits: u8) -> Result<Round, HostFault>
+        ensures goes { Goes told_bound self.old self.new }
+        ensures told { IfErr result (λ fault. Ended fault self.new.world) }
+        ensures did { IfOk result (λ round. Did round self.old self.new) }
+    {
+        let mut round = Round::Quiet;
+        'ports: for number in 1..8u8 {
+            if bits >> number & 1 == 1 {
+                round = round.and(self.handle_below(hub, number)?);
+            }
+        }
+        Ok(round)
+    }
+
+    /// Looks again at each device that waits for an address, by rising path, while one is free.
+    fn look_again(&mut self) -> Result<Round, HostFault>
+        ensures goes { Goes looks_bound self.old self.new }
+        ensures told { IfErr result (λ fault. Ended fault self.new.world) }
+        ensures did { IfOk result (λ round. Did round self.old self.new) }
+    {
+        let mut round = Round::Quiet;
+        let mut last: Option<PortPath> = None;
+        'waiting: while let Some(path) = self.next_waiting(last.as_ref()) {
+            round = round.and(self.look_once_more(&path)?);
+            last = Some(path);
+        }
+        Ok(round)
+    }
+
+    /// The next device that waits for an address; none where no address is free.
+    fn next_waiting(&self, last: Option<&PortPath>) -> Option<PortPath>
+    {
+        if self.pool.is_full() {
+            return None;
+        }
+        self.table.next_waiting(last)
+    }
+}
+
+/// The first byte of a status change, which has a bit for each of a hub's ports (11.12.4).
+fn first_byte(bits: &[u8]) -> u8 {
+    match bits.first() {
+        Some(byte) => *byte,
+        None => 0,
+    }
+}
