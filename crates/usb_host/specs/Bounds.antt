@@ -13,13 +13,17 @@ order_most = 1600
 abbrev pub look_bound : ℕ
 look_bound = order_most + status_most + order_most + widest_enumeration
 
+-- a status, and then what it asks for
+abbrev pub serving_bound : ℕ
+serving_bound = status_most + look_bound
+
 -- a hub and each above it is disabled
 abbrev pub drop_bound : ℕ
 drop_bound = 7 * order_most
 
 -- a port is looked at, and its hub dropped
 abbrev pub handling_bound : ℕ
-handling_bound = status_most + look_bound + drop_bound
+handling_bound = serving_bound + drop_bound
 
 abbrev pub roots_bound : ℕ
 roots_bound = 7 * handling_bound

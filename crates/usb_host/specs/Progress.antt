@@ -1,13 +1,9 @@
 -- That a round gets on.
-use Rattle.std.specs.Prelude.{◌≡◌, ◌⊎◌, ℕ, ◌+◌, ◌*◌, ◌<◌, List, Bool, true, false, if◌then◌else◌}
+use Rattle.std.specs.Prelude.{◌≡◌, ◌⊎◌, ℕ, ◌+◌, ◌*◌, ◌<◌}
 use Rattle.std.specs.List.{count_by}
 use Rattle.usb_world.specs.World.{Spends}
-use Rattle.usb_enum.specs.declared.cause.Cause.{Cause}
-use Rattle.usb_enum.specs.declared.cause.Cause.TheVariants.{Silent, Busy, Stalled, BadDevice, TooDeep, BadConfiguration, NoPower, BadHub, Lost, NoAddress}
-use Rattle.usb_enum.specs.declared.finding.Finding.{Finding}
-use Rattle.usb_enum.specs.declared.finding.Finding.TheVariants.{Device, Refused}
 use Rattle.usb_table.specs.Entries.{Entries}
-use Rattle.usb_table.specs.Places.{is_waiting}
+use Rattle.usb_table.specs.Findings.{is_waiting}
 use Rattle.usb_host.specs.Hosting.{Hosting, work}
 use Rattle.usb_host.specs.declared.host.Round.{Round}
 use Rattle.usb_host.specs.declared.host.Round.TheVariants.{Worked, Quiet}

@@ -1,8 +1,9 @@
 //! The parts of a round.
 ghost use Rattle.std.specs.Prelude.{◌≡◌, ◌≢◌, ◌≤◌, ◌<◌, ◌+◌, ◌*◌, true, false, OnOk, IfOk, IfErr, IfSome, Ok, Err};
 ghost use Rattle.usb_world.specs.World.{root_row, changes, IsRootPort};
-ghost use Rattle.usb_host.specs.Bounds.{roots_bound, hubs_bound, hub_bound, looks_bound, look_bound};
-ghost use Rattle.usb_host.specs.Progress.{Goes, Did};
+ghost use Rattle.usb_host.specs.Bounds.{round_bound, roots_bound, hubs_bound, hub_bound, told_bound, looks_bound};
+ghost use Rattle.usb_host.specs.Ports.{Waits};
+ghost use Rattle.usb_host.specs.Progress.{Goes, Did, either};
 ghost use Rattle.usb_host.specs.Told.{Ended};
 
 use crate::host::{Host, Round};
@@ -119,6 +120,7 @@ impl<B: Bus> Host<B> {
 
     /// The next device that waits for an address; none where no address is free.
     fn next_waiting(&self, last: Option<&PortPath>) -> Option<PortPath>
+        ensures { IfSome result (λ path. Waits path self.now × IsAbove last path) }
     {
         if self.pool.is_full() {
             return None;

@@ -1,0 +1,64 @@
+-- What the host does at a port.
+use Rattle.std.specs.Prelude.{◌≡◌, ◌⊎◌, ◌<◌, ⊤, ℕ, List, Bool, true, Option, Some, Result, Ok, Err, MatchResult}
+use Rattle.std.specs.Map.{lookup}
+use Rattle.std.specs.BTreeMap.{is_at, insert_entry}
+use Rattle.usb_port.specs.Order.{path_cmp}
+use Rattle.usb_world.specs.World.{World, Failed, port_at}
+use Rattle.usb_hub.specs.declared.port.HubPort.{HubPort}
+use Rattle.usb_hub.specs.declared.port.HubPort.TheVariants.{Root, External}
+use Rattle.usb_hub.specs.Port.{IsPort}
+use Rattle.usb_resources.specs.Pool.{IsFull}
+use Rattle.usb_enum.specs.declared.cause.Cause.TheVariants.{NoAddress}
+use Rattle.usb_enum.specs.declared.fault.EnumFault.{EnumFault}
+use Rattle.usb_enum.specs.declared.fault.EnumFault.TheVariants.{ParentLost, Bus, Memory}
+use Rattle.usb_enum.specs.declared.finding.Finding.{Finding}
+use Rattle.usb_enum.specs.declared.finding.Finding.TheVariants.{Refused}
+use Rattle.usb_table.specs.declared.known.KnownPort.{KnownPort}
+use Rattle.usb_table.specs.Known.{known_port, IsServed}
+use Rattle.usb_host.specs.Hosting.{Hosting}
+use Rattle.usb_host.specs.Progress.{Advances}
+
+-- the port at a path, as the table knows it and the bus has it
+pub record StandsAt (path : List ℕ) (port : KnownPort) (h : Hosting) : Type 0 where
+  pub known : known_port path h.entries ≡ Some port
+  pub there : IsPort h.world port.port
+  pub served : IsServed port.port
+
+-- a root port tells of a change; a hub has told of it
+abbrev pub IsDue : World → HubPort → Type 0
+IsDue w (Root number) = (port_at w number).connection_changed ≡ true
+IsDue w (External hub port) = ⊤
+
+-- a device waits there for an address, and one is free
+pub record Waits (path : List ℕ) (h : Hosting) : Type 0 where
+  pub entry : lookup (is_at (path_cmp path)) h.entries ≡ Some (Refused NoAddress)
+  pub free : IsFull h.addresses → ⊥
+
+-- what is left at a port: the host gets on, or its hub is lost after an attempt
+abbrev pub Served : Result (Unit {0}) EnumFault → Hosting → Hosting → Type 0
+Served (Ok done) old new = Advances old new
+Served (Err ParentLost) old new = old.world.attempts < new.world.attempts
+Served (Err (Bus fault)) old new = ⊤
+Served (Err Memory) old new = ⊤
+
+-- the bus tells its fault
+abbrev pub Broke : EnumFault → World → Type 0
+Broke ParentLost w = ⊤
+Broke (Bus fault) w = Failed fault w
+Broke Memory w = ⊤
+
+-- a finding is entered; a device waits only where no address was free
+pub record EntersOne (path : List ℕ) (old new : Hosting) : Type 0 where
+  pub finding : Finding
+  pub entries : new.entries ≡ insert_entry path_cmp old.entries path finding
+  pub waits : finding ≡ Refused NoAddress → IsFull old.addresses
+
+abbrev pub Entered : List ℕ → Hosting → Result (Unit {0}) EnumFault → Hosting → Type 0
+Entered path old result new = MatchResult result (λ _. EntersOne path old new) (λ _. new.entries ≡ old.entries)
+
+-- a port that was served is left as it is; else an attempt was made before, and more may be
+abbrev pub Finished : Result (Unit {0}) EnumFault → Hosting → Hosting → Type 0
+Finished (Ok done) old new = new ≡ old
+Finished (Err ParentLost) old new = ⊤
+Finished (Err (Bus fault)) old new = ⊥
+Finished (Err Memory) old new = ⊥
