@@ -1,0 +1,38 @@
+-- What is known of the ports: paths with what was found there, by rising path.
+use Rattle.std.specs.Prelude.{◌≡◌, ◌⊎◌, not, ℕ, List, Bool, true, ◌||◌, Some, nat_eq}
+use Rattle.std.specs.Cmp.Lexicographic.{pointwise}
+use Rattle.std.specs.BTreeMap.{is_at, insert_entry}
+use Rattle.std.specs.List.{list_any, filter}
+use Rattle.std.specs.List.Sorted.{IsStrictlySortedBy}
+use Rattle.std.specs.Map.{keys_of, lookup, remove_entry}
+use Rattle.usb_port.specs.Order.{path_cmp, is_below}
+use Rattle.usb_enum.specs.declared.finding.Finding.{Finding}
+
+abbrev pub Entries : Type 0
+Entries = List (List ℕ × Finding)
+
+abbrev pub is_at_or_below : List ℕ → List ℕ → Bool
+is_at_or_below path above = pointwise nat_eq path above || is_below path above
+
+-- some entry is at the path or below it
+abbrev pub has_at : List ℕ → Entries → Bool
+has_at path entries = list_any (λ e. is_at_or_below e.0 path) entries
+
+-- the entries that stand neither at the path nor below it
+abbrev pub without : List ℕ → Entries → Entries
+without path entries = filter (λ e. not (is_at_or_below e.0 path)) entries
+
+-- at most one entry is new, at the path
+abbrev pub Replaced : List ℕ → Entries → Entries → Type 0
+Replaced path old new = (new ≡ old) ⊎ ((finding : Finding) × (new ≡ insert_entry path_cmp old path finding))
+
+-- the paths rise
+abbrev pub Rises : Entries → Type 0
+Rises entries = IsStrictlySortedBy path_cmp (keys_of entries)
+
+-- an entry at the path or below it is taken out
+pub record TakesOut (path : List ℕ) (finding : Finding) (old new : Entries) : Type 0 where
+  pub first : List ℕ
+  pub at : is_at_or_below first path ≡ true
+  pub found : lookup (is_at (path_cmp first)) old ≡ Some finding
+  pub rest : new ≡ remove_entry (is_at (path_cmp first)) old
