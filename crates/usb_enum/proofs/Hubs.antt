@@ -28,13 +28,13 @@ plain_fits tier cause.BadHub plain = absurd plain
 plain_fits tier cause.Lost plain = plain
 plain_fits tier cause.NoAddress plain = plain
 
-not_last_by : (hub : Bool) (tier : ℕ) → hub ≡ true → (if hub && tier == 7 then Err (Refused cause.TooDeep) else Ok tt) ≡ Ok tt → tier ≢ 7
-not_last_by true tier is fits e = absurd (rw e at fits)
-not_last_by false tier is fits e = absurd cc
+not_last_by : (hub : Bool) (tier : ℕ) (done : Unit {0}) → hub ≡ true → (if hub && tier == 7 then Err (Refused cause.TooDeep) else Ok done) ≡ Ok done → tier ≢ 7
+not_last_by true tier done is fits e = let last = rw e at fits in absurd cc
+not_last_by false tier done is fits e = absurd cc
 
 -- a hub that fits its tier is not in the last
 not_last : (tier : ℕ) (bytes : List ℕ) → is_hub bytes ≡ true → fits_tier tier bytes ≡ Ok tt → tier ≢ 7
-not_last tier bytes = not_last_by (is_hub bytes) tier
+not_last tier bytes = not_last_by (is_hub bytes) tier tt
 
 pub told_of_hub : (tier : ℕ) (bytes : List ℕ) (stop : Stop) (w : World) → fits_tier tier bytes ≡ Ok tt → is_hub bytes ≡ true → ToldOfHub stop w → ToldOfDevice tier stop w
 told_of_hub tier bytes (Refused why) w fits is (inl e) = rw e (not_last tier bytes is fits)

@@ -68,7 +68,7 @@ fn port_count<B: Bus>(alloc: Global, bus: &mut B, target: Target) -> Result<u8, 
 }
 
 /// What each port of a hub gives, in mA, by the hub's status.
-#[tactic(auto, using(crate::proofs::Counts::status_read, crate::proofs::Hubs::hub_supply))]
+#[tactic(auto, using(crate::proofs::Hubs::hub_supply))]
 fn port_supply<B: Bus>(alloc: Global, bus: &mut B, target: Target) -> Result<u16, Stop>
     requires target { IsTarget target }
     requires max { 8 ≤ target.max }
@@ -81,7 +81,7 @@ fn port_supply<B: Bus>(alloc: Global, bus: &mut B, target: Target) -> Result<u16
 }
 
 /// Gives power to the first so many ports of a hub.
-#[tactic(auto, using(crate::proofs::Counts::spends_on, usb_world::proofs::Counts::spends_wider))]
+#[tactic(auto, using(crate::proofs::Counts::spends_on))]
 fn power_ports<B: Bus>(bus: &mut B, target: Target, ports: u8) -> Result<(), Stop>
     requires { IsTarget target }
     ensures spends { Spends (ports * none_bound) (B.world bus.old) (B.world bus.new) }
