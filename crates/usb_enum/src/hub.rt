@@ -1,5 +1,5 @@
 //! What the host asks of a hub once it is configured, and the power of its ports (11.23, 11.24).
-ghost use Rattle.std.specs.Prelude.{◌≡◌, ◌≤◌, ◌*◌, IfOk, IfErr, is_some, true};
+ghost use Rattle.std.specs.Prelude.{◌≡◌, ◌⊎◌, ◌≤◌, ◌*◌, IfOk, IfErr, is_some, true};
 ghost use Rattle.usb_world.specs.World.{Spends};
 ghost use Rattle.usb_port.specs.Path.{IsPortNumber};
 ghost use Rattle.usb_transaction.specs.Trans.{IsTarget};
@@ -46,16 +46,13 @@ pub(crate) fn start_hub<B: Bus>(
         return Err(Stop::Refused(Cause::BadHub));
     }
     let ports = port_count(alloc, bus, target)?;
-    let status = answered_or(Cause::BadHub, get_status(alloc, bus, target))?;
+    let supply = port_supply(alloc, bus, target)?;
     power_ports(bus, target, ports)?;
-    Ok(HubFacts {
-        ports,
-        supply: supply(false, status.self_powered),
-    })
+    Ok(HubFacts { ports, supply })
 }
 
 /// bNbrPorts of the hub descriptor, 1 to 7.
-#[tactic(auto, using(crate::proofs::Counts::read_spends))]
+#[tactic(auto, using(crate::proofs::Counts::hub_read))]
 fn port_count<B: Bus>(alloc: Global, bus: &mut B, target: Target) -> Result<u8, Stop>
     requires target { IsTarget target }
     requires max { 8 ≤ target.max }
@@ -68,6 +65,19 @@ fn port_count<B: Bus>(alloc: Global, bus: &mut B, target: Target) -> Result<u8, 
         Ok(hub) => Ok(hub.ports()),
         Err(_) => Err(Stop::Refused(Cause::BadHub)),
     }
+}
+
+/// What each port of a hub gives, in mA, by the hub's status.
+#[tactic(auto, using(crate::proofs::Hubs::hub_supply))]
+fn port_supply<B: Bus>(alloc: Global, bus: &mut B, target: Target) -> Result<u16, Stop>
+    requires target { IsTarget target }
+    requires max { 8 ≤ target.max }
+    ensures spends { Spends (read_bound 2) (B.world bus.old) (B.world bus.new) }
+    ensures told { IfErr result (λ stop. ToldOfHub stop (B.world bus.new)) }
+    ensures supply { IfOk result (λ supply. (supply ≡ 500) ⊎ (supply ≡ 100)) }
+{
+    let status = answered_or(Cause::BadHub, get_status(alloc, bus, target))?;
+    Ok(supply(false, status.self_powered))
 }
 
 /// Gives power to the first so many ports of a hub.

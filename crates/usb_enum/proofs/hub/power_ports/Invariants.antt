@@ -1,0 +1,10 @@
+use Rattle.std.proofs.Common.{◌*◌, ◌+◌, ◌-◌, ◌≤◌}
+use Rattle.usb_world.specs.World.{Spends}
+use Rattle.usb_enum.specs.Bounds.{none_bound}
+use Rattle.usb_enum.proofs.hub.power_ports.Given as goal
+
+abbrev pub invariant-ports : goal.invariant-ports
+invariant-ports g l = record {
+  spent : Spends ((l.port - 1) * none_bound) (g.B.Bus.world l.initial.bus) (g.B.Bus.world l.bus);
+  within : l.port ≤ l.ports + 1;
+}
