@@ -15,8 +15,9 @@ use Rattle.usb_port.specs.Order.{path_cmp}
 use Rattle.usb_resources.specs.Pool.{Addresses}
 use Rattle.usb_enum.specs.declared.finding.Finding.{Finding}
 use Rattle.usb_enum.specs.declared.finding.Finding.TheVariants.{Device, Refused}
-use Rattle.usb_host.specs.Accounts.{Accounts, Claims, has_address}
-use Rattle.usb_host.specs.Entries.{Entries, TakesOut, has_at, is_at_or_below}
+use Rattle.usb_table.specs.Findings.{has_address, HasNewAddress}
+use Rattle.usb_host.specs.Accounts.{Accounts, Claims}
+use Rattle.usb_table.specs.Entries.{Entries, TakesOut, has_at, is_at_or_below}
 use Rattle.usb_host.specs.Hosting.{Frees}
 
 one : Bool → ℕ

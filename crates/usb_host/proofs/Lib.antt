@@ -1,5 +1,7 @@
+pub mod Agreements
 pub mod Balances
 pub mod Openings
 pub mod Powers
 pub mod Quiets
-pub mod Removals
+pub mod Joins
+pub mod Waits

@@ -1,5 +1,5 @@
 -- What the host does at a port.
-use Rattle.std.specs.Prelude.{◌≡◌, ◌⊎◌, ◌<◌, ⊤, ℕ, List, Bool, true, Option, Some, Result, Ok, Err, MatchResult}
+use Rattle.std.specs.Prelude.{◌≡◌, ⊤, ℕ, List, Bool, true, Option, Some, Result, Ok, Err, MatchResult}
 use Rattle.std.specs.Map.{lookup}
 use Rattle.std.specs.BTreeMap.{is_at, insert_entry}
 use Rattle.usb_port.specs.Order.{path_cmp}
@@ -34,10 +34,10 @@ pub record Waits (path : List ℕ) (h : Hosting) : Type 0 where
   pub entry : lookup (is_at (path_cmp path)) h.entries ≡ Some (Refused NoAddress)
   pub free : IsFull h.addresses → ⊥
 
--- what is left at a port: the host gets on, or its hub is lost after an attempt
+-- a port was served, or its hub is lost: either way the host got on
 abbrev pub Served : Result (Unit {0}) EnumFault → Hosting → Hosting → Type 0
 Served (Ok done) old new = Advances old new
-Served (Err ParentLost) old new = old.world.attempts < new.world.attempts
+Served (Err ParentLost) old new = Advances old new
 Served (Err (Bus fault)) old new = ⊤
 Served (Err Memory) old new = ⊤
 
@@ -55,10 +55,3 @@ pub record EntersOne (path : List ℕ) (old new : Hosting) : Type 0 where
 
 abbrev pub Entered : List ℕ → Hosting → Result (Unit {0}) EnumFault → Hosting → Type 0
 Entered path old result new = MatchResult result (λ _. EntersOne path old new) (λ _. new.entries ≡ old.entries)
-
--- a port that was served is left as it is; else an attempt was made before, and more may be
-abbrev pub Finished : Result (Unit {0}) EnumFault → Hosting → Hosting → Type 0
-Finished (Ok done) old new = new ≡ old
-Finished (Err ParentLost) old new = ⊤
-Finished (Err (Bus fault)) old new = ⊥
-Finished (Err Memory) old new = ⊥

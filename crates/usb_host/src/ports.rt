@@ -11,8 +11,8 @@ ghost use Rattle.usb_enum.specs.Stop.{FaultAt};
 ghost use Rattle.usb_table.specs.Entries.{has_at, without};
 ghost use Rattle.usb_table.specs.Known.{known_port};
 ghost use Rattle.usb_host.specs.Bounds.{look_bound, drop_bound, handling_bound, order_most, serving_bound};
-ghost use Rattle.usb_host.specs.Ports.{StandsAt, IsDue, Waits, Served, Broke, Finished, Entered};
-ghost use Rattle.usb_host.specs.Progress.{Goes, Advances, Rests, Did};
+ghost use Rattle.usb_host.specs.Ports.{StandsAt, IsDue, Waits, Served, Broke, Entered};
+ghost use Rattle.usb_host.specs.Progress.{Goes, Advances, Holds, Rests, Did};
 ghost use Rattle.usb_host.specs.Told.{Ended};
 
 use crate::HostFault;
@@ -109,7 +109,7 @@ impl<B: Bus> Host<B> {
         requires { IfErr served (λ fault. Broke fault self.old.world) }
         ensures goes { Goes drop_bound self.old self.new }
         ensures told { IfErr result (λ fault. Ended fault self.new.world) }
-        ensures ended { OnOk result (Finished served self.old self.new) }
+        ensures holds { Holds self.old self.new }
     {
         match served {
             Ok(()) => Ok(()),
@@ -204,6 +204,7 @@ impl<B: Bus> Host<B> {
     pub(crate) fn drop_hub(&mut self, hub: PortPath) -> Result<(), HostFault>
         ensures goes { Goes drop_bound self.old self.new }
         ensures told { IfErr result (λ fault. Ended fault self.new.world) }
+        ensures holds { Holds self.old self.new }
     {
         let lost = self.disable_upward(hub)?;
         self.forget(&lost);

@@ -107,6 +107,7 @@ impl Entry {
     /// Clears the halts of a function's bulk endpoints.
     pub fn clear_halt<B: Bus>(&mut self, bus: &mut B) -> Result<(), EndpointFault>
         ensures same { self.new ≡ self.old }
+        ensures count { Spends 3200 (B.world bus.old) (B.world bus.new) }
         ensures cleared { Cleared (device_of (Some self.old)) (B.world bus.old) result (B.world bus.new) }
     {
         match &mut self.pipes {

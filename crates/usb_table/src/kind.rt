@@ -27,7 +27,7 @@ pub(crate) fn fits(kind: Kind, finding: &Finding) -> bool
 
 /// Whether a path comes after the last one, where there is one.
 pub(crate) fn is_after(last: Option<&PortPath>, path: &PortPath) -> bool
-    ensures { result ≡ is_after (option_copied last) path.now }
+    ensures { result ≡ is_after (option_copied last.entry) path.now }
 {
     match last {
         Some(last) => last < path,

@@ -4,6 +4,7 @@ ghost use Rattle.usb_port.specs.Path.{IsPortNumber};
 ghost use Rattle.usb_table.specs.Findings.{IsSound};
 ghost use Rattle.usb_table.specs.Known.{root_port, is_below_hub, port_of_finding, IsServed};
 
+use crate::target::target_to;
 use usb_enum::Finding;
 use usb_hub::HubPort;
 use usb_port::PortPath;
@@ -44,7 +45,7 @@ pub(crate) fn port_of_finding(finding: &Finding, below_hub: bool, number: u8) ->
         Finding::Device(device) => match device.hub {
             Some(facts) if number <= facts.ports => Some(KnownPort {
                 port: HubPort::External {
-                    hub: device.target(below_hub),
+                    hub: target_to(device, below_hub),
                     port: number,
                 },
                 supply: facts.supply,

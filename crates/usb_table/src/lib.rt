@@ -8,6 +8,7 @@ mod kind;
 mod known;
 mod pipes;
 mod table;
+mod target;
 
 pub use fault::EndpointFault;
 pub use found::address_of;

@@ -1,11 +1,13 @@
 //! The host's pipes to a device.
 ghost use Rattle.std.specs.Prelude.{◌≡◌, false, true, is_some, IfSome};
+ghost use Rattle.usb_world.specs.World.{Spends};
 ghost use Rattle.usb_descriptor.specs.Choice.{IsUsable};
 ghost use Rattle.usb_table.specs.Findings.{IsSoundDevice, at_full_speed};
 ghost use Rattle.usb_table.specs.Pipes.{ArePipesTo, IsPipe, IsStatusPipe};
 ghost use Rattle.usb_table.specs.Transfers.{SentBy, ReceivedBy, ClearedBy, ClearedInTurn};
 
 use crate::EndpointFault;
+use crate::target::target_to;
 use std::alloc::Global;
 use usb_bus::Bus;
 use usb_enum::Accepted;
@@ -51,7 +53,7 @@ fn status_pipe(device: &Accepted, below_hub: bool) -> InterruptPipe
     ensures { IsStatusPipe device.now result }
 {
     match device.configuration().status_endpoint() {
-        Some((ep, max)) => InterruptPipe::new(device.target(below_hub), ep, max),
+        Some((ep, max)) => InterruptPipe::new(target_to(device, below_hub), ep, max),
         // a hub that is accepted has one
         None => unreachable!(),
     }
@@ -65,7 +67,7 @@ fn bulk_pipe(device: &Accepted, endpoint: Option<(u8, u8)>, is_in: bool) -> Opti
 {
     match endpoint {
         Some((ep, max)) if !device.low => {
-            Some(BulkPipe::new(device.target(false), ep, max, is_in))
+            Some(BulkPipe::new(target_to(device, false), ep, max, is_in))
         }
         _ => None,
     }
@@ -104,7 +106,8 @@ pub(crate) fn receive_through<B: Bus>(
 
 /// Clears the halt of a pipe's endpoint, if there is one.
 fn clear_through<B: Bus>(pipe: &mut Option<BulkPipe>, bus: &mut B) -> Result<(), PipeFault>
-    ensures { ClearedBy pipe.old (B.world bus.old) result pipe.new (B.world bus.new) }
+    ensures count { Spends 1600 (B.world bus.old) (B.world bus.new) }
+    ensures cleared { ClearedBy pipe.old (B.world bus.old) result pipe.new (B.world bus.new) }
 {
     match pipe {
         Some(pipe) => pipe.clear_halt(bus),
@@ -114,8 +117,10 @@ fn clear_through<B: Bus>(pipe: &mut Option<BulkPipe>, bus: &mut B) -> Result<(),
 
 impl BulkPipes {
     /// Clears the halt of both endpoints, of the one that writes first.
+    #[tactic(auto, using(usb_world::proofs::Counts::spends_then, usb_world::proofs::Counts::spends_wider))]
     pub fn clear_halt<B: Bus>(&mut self, bus: &mut B) -> Result<(), EndpointFault>
-        ensures { ClearedInTurn self.old (B.world bus.old) result self.new (B.world bus.new) }
+        ensures count { Spends 3200 (B.world bus.old) (B.world bus.new) }
+        ensures cleared { ClearedInTurn self.old (B.world bus.old) result self.new (B.world bus.new) }
     {
         if self.out.is_none() && self.into.is_none() {
             return Err(EndpointFault::NoEndpoint);

@@ -124,8 +124,8 @@ impl DeviceTable {
 
     /// The least path of an accepted hub after the last one, or of all.
     pub fn next_hub(&self, last: Option<&PortPath>) -> Option<PortPath>
-        ensures some { IfSome result (IsNext is_hub (option_copied last) self.now) }
-        ensures none { IfNone result (IsLast is_hub (option_copied last) self.now) }
+        ensures some { IfSome result (IsNext is_hub (option_copied last.entry) self.now) }
+        ensures none { IfNone result (IsLast is_hub (option_copied last.entry) self.now) }
     {
         self.next_of(Kind::Hub, last)
     }
@@ -133,15 +133,15 @@ impl DeviceTable {
     /// The least path, after the last one or of all, of a device that was refused because no
     /// address was free.
     pub fn next_waiting(&self, last: Option<&PortPath>) -> Option<PortPath>
-        ensures some { IfSome result (IsNext is_waiting (option_copied last) self.now) }
-        ensures none { IfNone result (IsLast is_waiting (option_copied last) self.now) }
+        ensures some { IfSome result (IsNext is_waiting (option_copied last.entry) self.now) }
+        ensures none { IfNone result (IsLast is_waiting (option_copied last.entry) self.now) }
     {
         self.next_of(Kind::Waiting, last)
     }
 
     fn next_of(&self, kind: Kind, last: Option<&PortPath>) -> Option<PortPath>
-        ensures some { IfSome result (IsNext (fits kind) (option_copied last) self.now) }
-        ensures none { IfNone result (IsLast (fits kind) (option_copied last) self.now) }
+        ensures some { IfSome result (IsNext (fits kind) (option_copied last.entry) self.now) }
+        ensures none { IfNone result (IsLast (fits kind) (option_copied last.entry) self.now) }
     {
         'entries: for (path, entry) in self.entries.iter() {
             if is_after(last, path) && fits(kind, entry.finding()) {
@@ -156,6 +156,7 @@ impl DeviceTable {
     /// # Errors
     ///
     /// Those of `InterruptPipe::poll`.
+    #[tactic(auto, using(std::proofs::lemmas::Map::Steps::set_value_same))]
     pub fn poll<B: Bus>(
         &mut self,
         bus: &mut B,
@@ -178,6 +179,7 @@ impl DeviceTable {
     ///
     /// `NoDevice` where no accepted device stands there, `NoEndpoint` where it is a hub, is at low
     /// speed or has no bulk OUT endpoint; `Pipe` with those of `BulkPipe::send`.
+    #[tactic(auto, using(std::proofs::lemmas::Map::Steps::set_value_same))]
     pub fn send<B: Bus>(
         &mut self,
         bus: &mut B,
@@ -202,6 +204,7 @@ impl DeviceTable {
     ///
     /// `NoDevice` where no accepted device stands there, `NoEndpoint` where it is a hub, is at low
     /// speed or has no bulk IN endpoint; `Pipe` with those of `BulkPipe::receive`.
+    #[tactic(auto, using(std::proofs::lemmas::Map::Steps::set_value_same))]
     pub fn receive<B: Bus>(
         &mut self,
         alloc: Global,
@@ -227,6 +230,7 @@ impl DeviceTable {
     ///
     /// `NoDevice` where no accepted device stands there, `NoEndpoint` where it is a hub, is at low
     /// speed or has no bulk endpoint; `Pipe` with those of `BulkPipe::clear_halt`.
+    #[tactic(auto, using(std::proofs::lemmas::Map::Steps::set_value_same))]
     pub fn clear_halt<B: Bus>(
         &mut self,
         bus: &mut B,

@@ -1,6 +1,6 @@
 use Rattle.std.proofs.Common.{◌≡◌, length}
 use Rattle.usb_host.specs.Accounts.{Accounts}
-use Rattle.usb_host.specs.Entries.{without}
+use Rattle.usb_table.specs.Entries.{without}
 use Rattle.usb_host.proofs.host.Host.forget.Given as goal
 
 abbrev pub invariant-entries : goal.invariant-entries

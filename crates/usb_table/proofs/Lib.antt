@@ -1,0 +1,5 @@
+pub mod Kept
+pub mod Nexts
+pub mod Ports
+pub mod Removals
+pub mod Targets
