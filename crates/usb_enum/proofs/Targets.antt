@@ -1,7 +1,7 @@
 -- Endpoint 0 of a device that was enumerated, and the most attempts of an enumeration.
 use Rattle.std.proofs.Common.{◌≡◌, refl, arith}
 use Rattle.std.proofs.lemmas.Bool.Decides.{nat_tests}
-use Rattle.std.specs.Prelude.{ℕ, ◌≤◌, ◌==◌, List, length, nat_lt, Bool, true, false, ◌&&◌, ◌||◌, not, Result, Ok, Err, is_ok, if◌then◌else◌, slice_index}
+use Rattle.std.specs.Prelude.{ℕ, ◌≤◌, ◌==◌, List, length, nat_lt, Bool, true, false, ◌&&◌, not, Result, Ok, Err, is_ok, if◌then◌else◌, slice_index}
 use Rattle.usb_transaction.specs.Trans.{IsTarget}
 use Rattle.usb_descriptor.specs.declared.fault.DescriptorFault.{DescriptorFault}
 use Rattle.usb_descriptor.specs.declared.fault.DescriptorFault.TheVariants.{Short, WrongType, Length, MaxPacket}
