@@ -1,14 +1,21 @@
 -- What a hub tells, and what its refusal means.
-use Rattle.std.proofs.Common.{◌≡◌, ◌≢◌, ◌⊎◌, inl, inr, refl}
-use Rattle.std.specs.Prelude.{ℕ, List, Bool, true, false, ◌&&◌, ◌==◌, Result, Ok, Err, if◌then◌else◌}
+use Rattle.std.proofs.Common.{◌≡◌, ◌≢◌, ◌⊎◌, ◌∙◌, inl, inr, refl, sym, ap, add-one}
+use Rattle.std.specs.Prelude.{ℕ, ◌+◌, List, Bool, true, false, ◌&&◌, ◌==◌, Result, Ok, Err, if◌then◌else◌}
 use Rattle.usb_world.specs.World.{World}
+use Rattle.usb_transaction.specs.declared.target.Target.{Target}
+use Rattle.usb_pipe.specs.declared.fault.PipeFault.{PipeFault}
+use Rattle.std.specs.Global.{Vec}
+use Rattle.usb_request.specs.Requests.{get_hub_descriptor}
+use Rattle.usb_hub.specs.Requests.{Asked}
+use Rattle.usb_descriptor.specs.Hub.{hub_of, port_count}
 use Rattle.usb_resources.specs.Power.{supply_of}
 use Rattle.usb_enum.specs.declared.cause.Cause.{Cause}
 use Rattle.usb_enum.specs.declared.cause.Cause.TheVariants as cause
 use Rattle.usb_enum.specs.declared.stop.Stop.{Stop}
 use Rattle.usb_enum.specs.declared.stop.Stop.TheVariants.{Refused, Fault}
 use Rattle.usb_enum.specs.Device.{is_hub, fits_tier}
-use Rattle.usb_enum.specs.Stop.{FitsTier, IsPlain, ToldOfHub, ToldOfDevice}
+use Rattle.usb_enum.specs.Hub.{CountTold, IsPowered, Powered}
+use Rattle.usb_enum.specs.Stop.{FitsTier, IsPlain, ToldOfHub, ToldOfDevice, answered_or}
 
 -- what a port of a hub gives
 pub hub_supply : (self_powered : Bool) → (supply_of false self_powered ≡ 500) ⊎ (supply_of false self_powered ≡ 100)
@@ -40,3 +47,22 @@ pub told_of_hub : (tier : ℕ) (bytes : List ℕ) (stop : Stop) (w : World) → 
 told_of_hub tier bytes (Refused why) w fits is (inl e) = rw e (not_last tier bytes is fits)
 told_of_hub tier bytes (Refused why) w fits is (inr plain) = plain_fits tier why plain
 told_of_hub tier bytes (Fault fault) w fits is told = told
+
+-- what was answered
+pub answered_ok : {X : Type 0} (stalled : Cause) (outcome : Result X PipeFault) (answer : X) → answered_or stalled outcome ≡ Ok answer → outcome ≡ Ok answer
+answered_ok stalled (Ok given) answer is = cc
+answered_ok stalled (Err fault) answer is = absurd cc
+
+-- the descriptor that a hub told
+pub count_told : (hub : Target) (stalled : Cause) (outcome : Result (Vec ℕ) PipeFault) (bytes : Vec ℕ) (view : List ℕ) (old new : World) → answered_or stalled outcome ≡ Ok bytes → Asked hub get_hub_descriptor old outcome new → Ok view ≡ hub_of bytes.items → view ≡ bytes.items → CountTold hub old new (port_count view)
+count_told hub stalled outcome bytes view old new answered asked good same = record {
+  bytes = bytes;
+  asked = rw (answered_ok stalled outcome bytes answered) at asked;
+  good = sym good ∙ ap Ok same;
+  said = ap port_count same;
+}
+
+-- one port more
+pub powered_more : (hub : Target) (n : ℕ) (old between new : World) → Powered hub n old between → IsPowered hub (n + 1) between new → Powered hub (n + 1) old new
+powered_more hub n old between new before now =
+    rw (add-one n) (between, (before, rw (add-one n) at now))

@@ -2,6 +2,7 @@
 use Rattle.std.specs.Prelude.{◌≡◌, ◌⊎◌, ⊤, ℕ, ◌==◌, true, false, List, [], Bool, ◌&&◌, Option, Some, None, is_some, slice_index, slice_index_or, Result, Ok, Err, is_ok, if◌then◌else◌}
 use Rattle.usb_hub.specs.declared.port.HubPort.{HubPort}
 use Rattle.usb_hub.specs.declared.port.HubPort.TheVariants.{Root, External}
+use Rattle.usb_world.specs.World.{World}
 use Rattle.usb_port.specs.Path.{IsPortNumber}
 use Rattle.usb_transaction.specs.declared.target.Target.{Target}
 use Rattle.usb_descriptor.specs.Choice.{status_endpoint_of}
@@ -9,6 +10,7 @@ use Rattle.usb_descriptor.specs.Device.{device_of, device_class, manufacturer_in
 use Rattle.usb_enum.specs.declared.cause.Cause.TheVariants.{BadDevice, TooDeep}
 use Rattle.usb_enum.specs.declared.finding.Accepted.{Accepted}
 use Rattle.usb_enum.specs.declared.hub.HubFacts.{HubFacts}
+use Rattle.usb_enum.specs.Hub.{Started}
 use Rattle.usb_enum.specs.declared.strings.StringIndexes.{StringIndexes}
 use Rattle.usb_enum.specs.declared.stop.Stop.{Stop}
 use Rattle.usb_enum.specs.declared.stop.Stop.TheVariants.{Refused}
@@ -43,6 +45,18 @@ is_hub bytes = device_class bytes == 9
 -- a hub may not stand in the last tier
 abbrev pub fits_tier : ℕ → List ℕ → Result (Unit {0}) Stop
 fits_tier tier bytes = if is_hub bytes && tier == 7 then Err (Refused TooDeep) else Ok tt
+
+-- the facts are what the hub with this address told
+pub record HasStarted (address : ℕ) (facts : HubFacts) : Type 0 where
+  pub hub : Target
+  pub addressed : hub.addr ≡ address
+  pub before : World
+  pub after : World
+  pub started : Started hub before after facts
+
+abbrev pub IsServed : ℕ → Option HubFacts → Type 0
+IsServed address (Some facts) = HasStarted address facts
+IsServed address None = ⊤
 
 -- one to seven ports, which give what a hub's ports may
 pub record AreFacts (facts : HubFacts) : Type 0 where

@@ -5,14 +5,14 @@ ghost use Rattle.usb_hub.specs.Port.{IsPort, order_bound};
 ghost use Rattle.usb_enum.specs.Bounds.{unaddressed_bound, examination_bound, enumeration_bound, configured_bound, hub_bound};
 ghost use Rattle.usb_enum.specs.Stop.{FaultAt, ToldIn, ToldOfDevice, ToldOfHub, ToldWithout};
 ghost use Rattle.usb_enum.specs.Found.{GivesUp, IsFound, IsWhole, TakesFor};
-ghost use Rattle.usb_enum.specs.Device.{HasFacts, fits_tier, is_hub};
+ghost use Rattle.usb_enum.specs.Device.{HasFacts, IsServed, fits_tier, is_hub};
 
 use crate::addressed::Addressed;
 use crate::configurations::{choose_configuration, read_configurations};
+use crate::hub::start_hub;
 use crate::passes::{passes, unaddressed};
 use crate::stop::{Stop, answered_or, at_port};
 use crate::strings::read_strings;
-use crate::hub::start_hub;
 use crate::{Accepted, Cause, ConfigText, EnumFault, Finding, HubFacts, Request};
 use std::alloc::Global;
 use usb_bus::Bus;
@@ -31,8 +31,9 @@ const LAST_TIER: u8 = 7;
 ///
 /// # Errors
 ///
-/// `ParentLost` where a request to the hub that has the port failed; none to a root port does. `Bus` where
-/// the bus makes no more steps. `Memory` where memory was refused. The pool is then as it was.
+/// `ParentLost` where a request to the hub that has the port failed; none to a root port does.
+/// `Bus` where the bus makes no more steps. `Memory` where memory was refused. The pool is then as
+/// it was.
 #[tactic(auto, using(crate::proofs::Counts::spends_on, usb_hub::proofs::Ports::port_stays))]
 pub fn enumerate<B: Bus>(
     alloc: Global,
@@ -120,6 +121,7 @@ fn configure<B: Bus>(
     tier: u8,
     supply: u16,
 ) -> Result<Accepted, Stop>
+    requires { device.target.addr ≡ address }
     ensures spends { Spends configured_bound (B.world bus.old) (B.world bus.new) }
     ensures told { IfErr result (λ stop. ToldOfDevice tier stop (B.world bus.new)) }
     ensures address { IfOk result (λ accepted. accepted.address ≡ address) }
@@ -168,6 +170,7 @@ fn hub_facts<B: Bus>(
     ensures told { IfErr result (λ stop. ToldOfHub stop (B.world bus.new)) }
     ensures facts { IfOk result (λ facts. HasFacts device.now.bytes text.now facts) }
     ensures hub { IfErr result (λ _. is_hub device.now.bytes ≡ true) }
+    ensures served { IfOk result (λ facts. IsServed device.now.target.addr facts) }
 {
     if !device.is_hub() {
         return Ok(None);
