@@ -1,5 +1,5 @@
 -- How the counts of an enumeration's parts join.
-use Rattle.std.proofs.Common.{◌≡◌, subst, refl, arith}
+use Rattle.std.proofs.Common.{subst, arith}
 use Rattle.std.proofs.Math.Nat.{mul-le-mul_right, suc-mul}
 use Rattle.std.specs.Prelude.{ℕ, ◌+◌, ◌*◌, ◌≤◌, Result}
 use Rattle.std.specs.Global.{Vec}

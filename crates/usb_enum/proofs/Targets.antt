@@ -1,16 +1,17 @@
 -- Endpoint 0 of a device that was enumerated, and the most attempts of an enumeration.
 use Rattle.std.proofs.Common.{◌≡◌, refl, arith}
 use Rattle.std.proofs.lemmas.Bool.Decides.{nat_tests}
-use Rattle.std.specs.Prelude.{ℕ, ◌≤◌, ◌==◌, List, length, nat_lt, Bool, true, false, ◌&&◌, ◌||◌, not, Result, Ok, Err, is_ok, if◌then◌else◌, slice_index}
+use Rattle.std.specs.Prelude.{ℕ, ◌≤◌, ◌==◌, List, length, nat_lt, Bool, true, false, ◌&&◌, not, Result, Ok, Err, is_ok, if◌then◌else◌, slice_index}
 use Rattle.usb_transaction.specs.Trans.{IsTarget}
 use Rattle.usb_descriptor.specs.declared.fault.DescriptorFault.{DescriptorFault}
 use Rattle.usb_descriptor.specs.declared.fault.DescriptorFault.TheVariants.{Short, WrongType, Length, MaxPacket}
 use Rattle.usb_descriptor.specs.Device.{is_max_packet, device_after, device_head_of, device_of}
 use Rattle.usb_hub.specs.declared.port.HubPort.{HubPort}
 use Rattle.usb_hub.specs.declared.port.HubPort.TheVariants.{Root, External}
+use Rattle.usb_hub.specs.Port.{status_bound, order_bound}
 use Rattle.usb_pipe.proofs.Bounds.{bound_wide}
 use Rattle.usb_enum.specs.declared.finding.Accepted.{Accepted}
-use Rattle.usb_enum.specs.Bounds.{IsWide, enumeration_bound, widest_enumeration}
+use Rattle.usb_enum.specs.Bounds.{IsWide, read_bound, none_bound, enumeration_bound, widest_enumeration}
 use Rattle.usb_enum.specs.Device.{is_device, target_of}
 use Rattle.usb_enum.specs.Found.{IsWhole}
 
@@ -65,7 +66,15 @@ target_fits supply device below_hub whole =
 pub target_wide : (supply : ℕ) (device : Accepted) (below_hub : Bool) → IsWhole supply device → 8 ≤ (target_of device below_hub).max
 target_wide supply device below_hub whole = (device_fits device.low device.bytes whole.head).0
 
--- no enumeration takes more
+-- a status, an order and an enumeration take no more
+pub status_most : (port : HubPort) → IsWide port → status_bound port ≤ read_bound 4
+status_most (Root number) wide = omega arith
+status_most (External hub port) wide = rw (bound_wide hub.max 4 wide) (omega arith)
+
+pub order_most : (port : HubPort) → order_bound port ≤ none_bound
+order_most (Root number) = omega arith
+order_most (External hub port) = omega arith
+
 pub enumeration_most : (port : HubPort) → IsWide port → enumeration_bound port ≤ widest_enumeration
 enumeration_most (Root number) wide = omega arith
 enumeration_most (External hub port) wide = rw (bound_wide hub.max 4 wide) (omega arith)
