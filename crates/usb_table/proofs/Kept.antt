@@ -42,7 +42,7 @@ sent_same bytes pipe old answer left new sends =
       | inr whole ↦ elim (empty_or_not bytes) [
         | inl none ↦ same_if pipe left (sends.nothing whole none).pipe_kept
         | inr some ↦ let e = (sends.moved whole some).pipe_left in
-          record { target = ap (λ (p : Bulk). p.target) e; ep = ap (λ (p : Bulk). p.ep) e; max = ap (λ (p : Bulk). p.max) e; is_in = ap (λ (p : Bulk). p.is_in) e }
+            record { target = ap (λ (p : Bulk). p.target) e; ep = ap (λ (p : Bulk). p.ep) e; max = ap (λ (p : Bulk). p.max) e; is_in = ap (λ (p : Bulk). p.is_in) e }
       ]
     ]
 

@@ -2,4 +2,5 @@ pub mod Kept
 pub mod Nexts
 pub mod Ports
 pub mod Removals
+pub mod Sound
 pub mod Targets

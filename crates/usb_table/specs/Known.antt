@@ -55,6 +55,6 @@ pub record IsPortOf (hub : Target) (port : ℕ) : Type 0 where
   pub wide : 8 ≤ hub.max
 
 -- a port that can be asked
-abbrev pub IsServed : HubPort → Type 0
-IsServed (Root number) = IsPortNumber number
-IsServed (External hub port) = IsPortOf hub port
+abbrev pub IsAskable : HubPort → Type 0
+IsAskable (Root number) = IsPortNumber number
+IsAskable (External hub port) = IsPortOf hub port

@@ -2,7 +2,7 @@
 ghost use Rattle.std.specs.Prelude.{◌≡◌, ◌<◌, length, IfSome, nat_lt};
 ghost use Rattle.usb_port.specs.Path.{IsPortNumber};
 ghost use Rattle.usb_table.specs.Findings.{IsSound};
-ghost use Rattle.usb_table.specs.Known.{root_port, is_below_hub, port_of_finding, IsServed};
+ghost use Rattle.usb_table.specs.Known.{root_port, is_below_hub, port_of_finding, IsAskable};
 
 use crate::target::target_to;
 use usb_enum::Finding;
@@ -39,7 +39,7 @@ pub(crate) fn port_of_finding(finding: &Finding, below_hub: bool, number: u8) ->
     requires sound { IsSound finding.now }
     requires number { IsPortNumber number }
     ensures value { result ≡ port_of_finding finding.now below_hub number }
-    ensures served { IfSome result (λ known. IsServed known.port) }
+    ensures served { IfSome result (λ known. IsAskable known.port) }
 {
     match finding {
         Finding::Device(device) => match device.hub {

@@ -9,7 +9,7 @@ ghost use Rattle.usb_transaction.specs.Trans.{Worked};
 ghost use Rattle.usb_table.specs.Entries.{Entries, Rises, TakesOut, has_at, is_at_or_below};
 ghost use Rattle.usb_table.specs.Findings.{IsSound, HasNewAddress, is_hub, is_waiting, device_at};
 ghost use Rattle.usb_table.specs.Kinds.{fits};
-ghost use Rattle.usb_table.specs.Known.{IsServed, known_port};
+ghost use Rattle.usb_table.specs.Known.{IsAskable, known_port};
 ghost use Rattle.usb_table.specs.Next.{IsNext, IsLast};
 ghost use Rattle.usb_table.specs.Transfers.{FaultTold, Polled, Sent, Received, Cleared};
 
@@ -113,7 +113,7 @@ impl DeviceTable {
     /// The port at a path, and what it gives; `None` where no accepted hub has it.
     pub fn port_at(&self, path: &PortPath) -> Option<KnownPort>
         ensures value { result ≡ known_port path.now self.now }
-        ensures served { IfSome result (λ known. IsServed known.port) }
+        ensures served { IfSome result (λ known. IsAskable known.port) }
     {
         let Some(hub) = path.parent() else {
             return Some(root_port(path.port()));
@@ -231,11 +231,7 @@ impl DeviceTable {
     /// `NoDevice` where no accepted device stands there, `NoEndpoint` where it is a hub, is at low
     /// speed or has no bulk endpoint; `Pipe` with those of `BulkPipe::clear_halt`.
     #[tactic(auto, using(std::proofs::lemmas::Map::Steps::set_value_same))]
-    pub fn clear_halt<B: Bus>(
-        &mut self,
-        bus: &mut B,
-        path: &PortPath,
-    ) -> Result<(), EndpointFault>
+    pub fn clear_halt<B: Bus>(&mut self, bus: &mut B, path: &PortPath) -> Result<(), EndpointFault>
         ensures same { self.new ≡ self.old }
         ensures count { Spends 3200 (B.world bus.old) (B.world bus.new) }
         ensures told { IfErr result (λ fault. FaultTold fault (B.world bus.new)) }

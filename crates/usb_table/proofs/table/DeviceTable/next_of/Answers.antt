@@ -13,7 +13,7 @@ returns-then-fits-clause-some c =
     let after : is_after (option_copied c.args.last) c.in-Some.path.now ≡ true = sym c.is_after.ensures ∙ c.if-is_after.true in
     let kind : fits c.args.kind c.in-Some.entry.now ≡ true = ap (fits c.args.kind) (sym c.finding.ensures.value) ∙ sym c.fits.ensures ∙ c.if-fits.true in
     let found : first_from (fits c.args.kind) (option_copied c.args.last) c.args.self.now ≡ Some c.duplicate.result =
-        sym c.entries.invariant ∙ ap (first_from (fits c.args.kind) (option_copied c.args.last)) turn ∙ rw (after, kind) (ap Some (sym c.duplicate.ensures)) in
+    sym c.entries.invariant ∙ ap (first_from (fits c.args.kind) (option_copied c.args.last)) turn ∙ rw (after, kind) (ap Some (sym c.duplicate.ensures)) in
     next_is (fits c.args.kind) (option_copied c.args.last) c.args.self.now c.duplicate.result (rw (← c.self.view_is) c.iter-path-items.ensures.ordered) found
 
 pub returns-clause-none : goal.returns-clause-none
