@@ -12,6 +12,7 @@ use Rattle.usb_port.specs.Order.{path_cmp, is_below, parent_of, port_of}
 use Rattle.usb_port.proofs.OrderLaws.{below, rejoined}
 use Rattle.usb_enum.specs.declared.finding.Finding.{Finding}
 use Rattle.usb_table.specs.Entries.{Entries, has_at, is_at_or_below, without}
+use Rattle.usb_table.specs.declared.known.KnownPort.{KnownPort}
 use Rattle.usb_table.specs.Known.{known_port, port_below, port_found, is_below_hub}
 use Rattle.usb_host.specs.Agreement.{Nested}
 
@@ -137,3 +138,6 @@ nested_entered path f es away known n = record { each = λ q g found. entered_st
 
 pub nested_none : Nested []
 nested_none = record { each = λ path f found. absurd cc }
+
+pub known_some : (path : List ℕ) (es : Entries) (port : KnownPort) → known_port path es ≡ Some port → IsSome (known_port path es)
+known_some path es port e = subst IsSome (sym e) refl

@@ -1,9 +1,11 @@
 -- How the parts of a round join.
-use Rattle.std.proofs.Common.{◌≡◌, ◌∙◌, refl, ap, arith, ℕ, ◌+◌, ◌≤◌}
+use Rattle.std.proofs.Common.{◌≡◌, ◌∙◌, refl, ap, arith, ℕ, ◌+◌, ◌≤◌, List}
 use Rattle.usb_world.specs.World.{World, Spends}
 use Rattle.usb_world.proofs.Counts.{spends_none, spends_then, spends_wider}
+use Rattle.usb_table.specs.Entries.{Entries, without}
 use Rattle.usb_host.specs.Hosting.{Hosting}
 use Rattle.usb_host.specs.Progress.{Goes, Advances, Holds, Rests, Did, either, waiting}
+use Rattle.usb_host.proofs.Waits.{waiting-without}
 use Rattle.usb_host.specs.declared.host.Round.{Round}
 use Rattle.usb_host.specs.declared.host.Round.TheVariants.{Worked, Quiet}
 
@@ -45,3 +47,16 @@ pub did_then : (m n : ℕ) (r s : Round) (a b c : Hosting) → Goes m a b → Go
 did_then m n Worked s a b c p q ab bc = advances_then a b c ab (did_holds n s b c q bc)
 did_then m n Quiet Worked a b c p q ab bc = advances_after a b c (rests_holds m a b p ab) bc
 did_then m n Quiet Quiet a b c p q ab bc = rests_then a b c ab bc
+
+-- a call on the bus alone
+pub goes_by : (n k : ℕ) (a b : Hosting) → Spends n a.world b.world → n ≤ k → b.stopped ≡ a.stopped → Goes k a b
+goes_by n k a b s le e = record { spends = spends_wider n k a.world b.world s le; going = e }
+
+-- a hub whose port was disabled is forgotten, with what stood below it
+pub dropped : (n : ℕ) (path : List ℕ) (a b c : Hosting) (world : World) (entries : Entries) → Goes n a b → Rests a b → c ≡ record b { entries = c.entries; addresses = c.addresses } → c.entries ≡ without path b.entries
+    → world ≡ c.world → waiting entries ≤ waiting c.entries → Holds a (record c { world = world; entries = entries })
+dropped n path a b c world entries g r others rest same fewer =
+    let there : world ≡ b.world = same ∙ ap (λ (h : Hosting). h.world) others in
+    let before : waiting b.entries ≡ waiting a.entries = ap (λ (h : Hosting). waiting h.entries) r in
+    let left : waiting c.entries ≡ waiting (without path b.entries) = ap waiting rest in
+    rw there (omega (arith, before, left, fewer, waiting-without path b.entries, g.spends.served, g.spends.later))

@@ -77,6 +77,6 @@ waiting-entered path f es = omega (arith, waiting-insert_entry path f es, one_mo
 -- one that does not wait
 pub waiting-entered_other : (path : List ℕ) (f : Finding) (es : Entries) → is_waiting f ≡ false → waiting (insert_entry path_cmp es path f) ≤ waiting es
 unfolding one
-waiting-entered_other path f es no =
-    let none : one (is_waiting f) ≡ 0 = ap one no in
+waiting-entered_other path f es other =
+    let none : one (is_waiting f) ≡ 0 = ap one other in
     omega (arith, waiting-insert_entry path f es, none)

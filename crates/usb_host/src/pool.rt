@@ -1,5 +1,5 @@
 //! The table and the pool of addresses, changed together.
-ghost use Rattle.std.specs.Prelude.{◌≡◌, OnOk, OnErr};
+ghost use Rattle.std.specs.Prelude.{◌≡◌, false, OnOk, OnErr};
 ghost use Rattle.std.specs.BTreeMap.{insert_entry};
 ghost use Rattle.usb_port.specs.Order.{path_cmp};
 ghost use Rattle.usb_table.specs.Entries.{has_at};

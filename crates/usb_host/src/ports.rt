@@ -2,16 +2,16 @@
 ghost use Rattle.std.specs.Prelude.{◌≡◌, ◌⊎◌, ◌*◌, [], ◌∷◌, true, false, length, IsTrue, OnOk, IfOk, IfErr, IfSome, IsSome};
 ghost use Rattle.std.specs.BTreeMap.{insert_entry};
 ghost use Rattle.usb_port.specs.Order.{path_cmp};
-ghost use Rattle.usb_port.specs.Path.{IsPortNumber};
+ghost use Rattle.usb_port.specs.Path.{IsPath, IsPortNumber};
 ghost use Rattle.usb_world.specs.World.{IsRootPort, port_at};
 ghost use Rattle.usb_hub.specs.Port.{IsPort};
 ghost use Rattle.usb_resources.specs.Pool.{IsFull};
 ghost use Rattle.usb_enum.specs.Bounds.{widest_enumeration};
 ghost use Rattle.usb_enum.specs.Stop.{FaultAt};
 ghost use Rattle.usb_table.specs.Entries.{has_at, without};
-ghost use Rattle.usb_table.specs.Known.{known_port};
-ghost use Rattle.usb_host.specs.Bounds.{look_bound, drop_bound, handling_bound, order_most, serving_bound};
-ghost use Rattle.usb_host.specs.Ports.{StandsAt, IsDue, Waits, Served, Broke, Entered};
+ghost use Rattle.usb_table.specs.Known.{IsAskable, known_port};
+ghost use Rattle.usb_host.specs.Bounds.{clearing_bound, look_bound, drop_bound, handling_bound, status_most, order_most, serving_bound};
+ghost use Rattle.usb_host.specs.Ports.{StandsAt, IsDue, Waits, Served, Shown, Gains, Broke, Entered};
 ghost use Rattle.usb_host.specs.Progress.{Goes, Advances, Holds, Rests, Did};
 ghost use Rattle.usb_host.specs.Told.{Ended};
 
@@ -70,10 +70,12 @@ impl<B: Bus> Host<B> {
     /// Looks again at a device that waits for an address.
     pub(crate) fn look_once_more(&mut self, path: &PortPath) -> Result<Round, HostFault>
         requires { Waits path.now self.old }
+        ensures path { IsPath path.now }
         ensures goes { Goes handling_bound self.old self.new }
         ensures told { IfErr result (λ fault. Ended fault self.new.world) }
         ensures did { IfOk result (λ round. Did round self.old self.new) }
     {
+        let _numbers = path.numbers();
         let Some(port) = self.port_at(path) else {
             return Ok(Round::Quiet);
         };
@@ -131,12 +133,24 @@ impl<B: Bus> Host<B> {
         ensures told { IfErr result (λ fault. FaultAt port.port fault self.new.world) }
         ensures served { IsDue self.old.world port.port → Served result self.old self.new }
     {
-        let status = port_status(self.alloc, &mut self.bus, port.port)?;
+        let status = self.status(port.port)?;
         if status.connection_changed {
             self.look(path, port)
         } else {
             self.tidy(port.port, status)
         }
+    }
+
+    /// The status of a port.
+    fn status(&mut self, port: HubPort) -> Result<PortStatus, EnumFault>
+        requires port { IsPort self.old.world port }
+        requires askable { IsAskable port }
+        ensures goes { Goes status_most self.old self.new }
+        ensures told { IfErr result (λ fault. FaultAt port fault self.new.world) }
+        ensures rests { Rests self.old self.new }
+        ensures shown { Shown port result self.old.world self.new.world }
+    {
+        Ok(port_status(self.alloc, &mut self.bus, port)?)
     }
 
     /// Clears what an earlier reset or error left of a port whose connection has not changed.
@@ -163,16 +177,29 @@ impl<B: Bus> Host<B> {
         ensures told { IfErr result (λ fault. FaultAt port.port fault self.new.world) }
         ensures served { IsDue self.old.world port.port ⊎ Waits path.now self.old → Served result self.old self.new }
     {
-        clear_port(&mut self.bus, port.port, C_PORT_CONNECTION)?;
-        let status = port_status(self.alloc, &mut self.bus, port.port)?;
-        if status.enabled {
-            clear_port(&mut self.bus, port.port, PORT_ENABLE)?;
-        }
+        let status = self.clear_change(port.port)?;
         self.forget(path);
         if status.connected {
             self.discover(path, port)?;
         }
         Ok(())
+    }
+
+    /// Clears a port's change of connection, reads its status, and disables it where it is enabled.
+    fn clear_change(&mut self, port: HubPort) -> Result<PortStatus, EnumFault>
+        requires port { IsPort self.old.world port }
+        requires askable { IsAskable port }
+        ensures goes { Goes clearing_bound self.old self.new }
+        ensures told { IfErr result (λ fault. FaultAt port fault self.new.world) }
+        ensures rests { Rests self.old self.new }
+        ensures gains { IsDue self.old.world port → Gains result self.old.world self.new.world }
+    {
+        clear_port(&mut self.bus, port, C_PORT_CONNECTION)?;
+        let status = port_status(self.alloc, &mut self.bus, port)?;
+        if status.enabled {
+            clear_port(&mut self.bus, port, PORT_ENABLE)?;
+        }
+        Ok(status)
     }
 
     /// Enters what is found at a port, of which nothing is known.
@@ -218,6 +245,8 @@ impl<B: Bus> Host<B> {
         ensures rests { Rests self.old self.new }
         ensures known { IfOk result (λ path. IsSome (known_port path self.old.entries)) }
     {
+        // (a path's numbers say that it has at most seven)
+        let _numbers = first.numbers();
         let mut path = first;
         'up: loop {
             if self.disable(&path)? {
@@ -248,6 +277,7 @@ impl<B: Bus> Host<B> {
     }
 
     /// Takes out the entries at a path and below it, and releases their addresses.
+    #[tactic(auto, using(usb_table::proofs::Removals::takes_one, crate::proofs::Balances::accounts_freed, usb_table::proofs::Removals::taken_apart, crate::proofs::Balances::full_before))]
     fn forget(&mut self, path: &PortPath)
         ensures others { self.new ≡ record self.old { entries = self.new.entries; addresses = self.new.addresses } }
         ensures gone { has_at path.now self.new.entries ≡ false }
