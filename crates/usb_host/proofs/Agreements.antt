@@ -30,10 +30,11 @@ same_path q k tie = same_text q k (sym (texts_ties q k ∙ tie))
 -- what goes on from a path's hub goes on from the path too
 under : (q hub path rest : List ℕ) → parent_of q ≡ Some hub → hub ≡ path ++ rest → is_below q path ≡ true
 under q hub path rest is on =
-    (below q path).1
-    (rest ++ port_of q ∷ [],
-    rejoined q hub is ∙ ap (λ l. l ++ port_of q ∷ []) on ∙ append_assoc path rest (port_of q ∷ []),
-    omega (arith, length-append rest (port_of q ∷ [])))
+    (below q path).1 (
+      rest ++ port_of q ∷ [],
+      rejoined q hub is ∙ ap (λ l. l ++ port_of q ∷ []) on ∙ append_assoc path rest (port_of q ∷ []),
+      omega (arith, length-append rest (port_of q ∷ [])),
+    )
 
 hub_away_by : (q hub path : List ℕ) → parent_of q ≡ Some hub → is_at_or_below q path ≡ false → (same on : Bool) → pointwise nat_eq hub path ≡ same → is_below hub path ≡ on → (same || on) ≡ false
 hub_away_by q hub path is away true on same is_on =

@@ -43,6 +43,10 @@ pub did_holds : (n : ℕ) (r : Round) (a b : Hosting) → Goes n a b → Did r a
 did_holds n Worked a b g d = omega (arith, d)
 did_holds n Quiet a b g d = rests_holds n a b g d
 
+-- a part that worked comes after another part
+pub worked_after : (n : ℕ) (r : Round) (a b c : Hosting) → Goes n a b → Did r a b → Advances b c → Advances a c
+worked_after n r a b c g d on = advances_after a b c (did_holds n r a b g d) on
+
 pub did_then : (m n : ℕ) (r s : Round) (a b c : Hosting) → Goes m a b → Goes n b c → Did r a b → Did s b c → Did (either r s) a c
 did_then m n Worked s a b c p q ab bc = advances_then a b c ab (did_holds n s b c q bc)
 did_then m n Quiet Worked a b c p q ab bc = advances_after a b c (rests_holds m a b p ab) bc

@@ -6,6 +6,7 @@ pub mod Openings
 pub mod Powers
 pub mod Quiets
 pub mod Enumerations
-pub mod Gaining
+pub mod Hubs
 pub mod Joins
+pub mod Ranks
 pub mod Waits

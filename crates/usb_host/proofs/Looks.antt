@@ -1,6 +1,7 @@
 -- That the host gets on by a look at a port.
 use Rattle.std.proofs.Common.{◌≡◌, ◌∙◌, refl, sym, ap, subst, arith, inl, inr, true, false, Bool, ℕ, ◌+◌, ◌≤◌, ◌⊎◌, List, Some, Ok, Err, Result}
 use Rattle.std.specs.BTreeMap.{insert_entry, is_at}
+use Rattle.std.specs.Prelude.{OnOk}
 use Rattle.std.specs.Map.{lookup}
 use Rattle.usb_port.specs.Order.{path_cmp}
 use Rattle.usb_resources.specs.Pool.{IsFull}
@@ -18,8 +19,10 @@ use Rattle.usb_table.specs.Findings.{is_waiting}
 use Rattle.usb_table.specs.Known.{known_port}
 use Rattle.usb_table.proofs.Ports.{known_port-without}
 use Rattle.usb_host.specs.Hosting.{Hosting, work}
-use Rattle.usb_host.specs.Ports.{StandsAt, Waits, Gained, Served, EntersOne}
-use Rattle.usb_host.specs.Progress.{Goes, Rests, Advances, waiting}
+use Rattle.usb_host.specs.declared.fault.HostFault.{HostFault}
+use Rattle.usb_host.specs.Ports.{StandsAt, Waits, Gained, Served, GoesOn, EntersOne}
+use Rattle.usb_host.specs.Progress.{Goes, Rests, Holds, Advances, waiting}
+use Rattle.usb_host.proofs.Joins.{advances_then}
 use Rattle.usb_host.proofs.Waits.{waiting-without, waiting-without_one, waiting-entered, waiting-entered_other}
 
 waiting_is : (f : Finding) → is_waiting f ≡ true → f ≡ Refused cause.NoAddress
@@ -51,7 +54,7 @@ enters_few path c d e =
     omega (arith, left, waiting-entered path e.finding c.entries)
 
 module _ (path : List ℕ) (m n : ℕ) (a b c d : Hosting) (g : Goes m a b) (r : Rests a b) (others : c ≡ record b { entries = c.entries; addresses = c.addresses })
-  (rest : c.entries ≡ without path b.entries) (h : Goes n c d) where
+    (rest : c.entries ≡ without path b.entries) (h : Goes n c d) where
   world_is : c.world ≡ b.world
   world_is = ap (λ (x : Hosting). x.world) others
 
@@ -96,3 +99,14 @@ stands_kept n path port a b c g r others rest s =
       there = subst (λ w. IsPort w port.port) (sym (ap (λ (x : Hosting). x.world) others)) (port_stays n port.port a.world b.world g.spends s.there);
       askable = s.askable;
     }
+
+pub served_on : (served : Result (Unit {0}) EnumFault) (a b : Hosting) → GoesOn served → Served served a b → Advances a b
+served_on (Ok done) a b on s = s
+served_on (Err ParentLost) a b on s = s
+served_on (Err (Bus fault)) a b on s = absurd on
+served_on (Err Memory) a b on s = absurd on
+
+-- a port was served, and the rest of its handling took nothing back
+pub handled : {Due : Type 0} (result : Result (Unit {0}) HostFault) (served : Result (Unit {0}) EnumFault) (a b c : Hosting) → OnOk result (GoesOn served) → Holds b c → (Due → Served served a b) → OnOk result (Due → Advances a c)
+handled (Ok done) served a b c on holds s = λ due. advances_then a b c (served_on served a b on (s due)) holds
+handled (Err fault) served a b c on holds s = tt

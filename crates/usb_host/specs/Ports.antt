@@ -64,6 +64,13 @@ Broke ParentLost w = ⊤
 Broke (Bus fault) w = Failed fault w
 Broke Memory w = ⊤
 
+-- an end after which the host goes on
+abbrev pub GoesOn : Result (Unit {0}) EnumFault → Type 0
+GoesOn (Ok done) = ⊤
+GoesOn (Err ParentLost) = ⊤
+GoesOn (Err (Bus fault)) = ⊥
+GoesOn (Err Memory) = ⊥
+
 -- a finding is entered; a device waits only where no address was free
 pub record EntersOne (path : List ℕ) (old new : Hosting) : Type 0 where
   pub finding : Finding

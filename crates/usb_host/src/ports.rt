@@ -11,7 +11,7 @@ ghost use Rattle.usb_enum.specs.Stop.{FaultAt};
 ghost use Rattle.usb_table.specs.Entries.{has_at, without};
 ghost use Rattle.usb_table.specs.Known.{IsAskable, known_port};
 ghost use Rattle.usb_host.specs.Bounds.{clearing_bound, look_bound, drop_bound, handling_bound, status_most, order_most, serving_bound};
-ghost use Rattle.usb_host.specs.Ports.{StandsAt, IsDue, Waits, Served, Shown, Gains, Broke, Entered};
+ghost use Rattle.usb_host.specs.Ports.{StandsAt, IsDue, Waits, Served, Shown, Gains, Broke, GoesOn, Entered};
 ghost use Rattle.usb_host.specs.Progress.{Goes, Advances, Holds, Rests, Did};
 ghost use Rattle.usb_host.specs.Told.{Ended};
 
@@ -52,6 +52,7 @@ impl<B: Bus> Host<B> {
 
     /// Handles a port of a hub, where that is known and has the port.
     pub(crate) fn handle_below(&mut self, hub: &PortPath, number: u8) -> Result<Round, HostFault>
+        requires { IsPath hub.now }
         ensures goes { Goes handling_bound self.old self.new }
         ensures told { IfErr result (λ fault. Ended fault self.new.world) }
         ensures did { IfOk result (λ round. Did round self.old self.new) }
@@ -112,6 +113,7 @@ impl<B: Bus> Host<B> {
         ensures goes { Goes drop_bound self.old self.new }
         ensures told { IfErr result (λ fault. Ended fault self.new.world) }
         ensures holds { Holds self.old self.new }
+        ensures on { OnOk result (GoesOn served) }
     {
         match served {
             Ok(()) => Ok(()),
@@ -218,12 +220,7 @@ impl<B: Bus> Host<B> {
             tier(path),
             port.supply,
         )?;
-        Ok(enter(
-            &mut self.table,
-            &mut self.pool,
-            path.duplicate(),
-            finding,
-        )?)
+        Ok(enter(&mut self.table, &mut self.pool, path.duplicate(), finding)?)
     }
 
     /// Drops a hub that failed: its port is disabled, what stood there and below is forgotten, and

@@ -8,8 +8,8 @@ ghost use Rattle.usb_host.specs.Ports.{Waits};
 ghost use Rattle.usb_host.specs.Progress.{Goes, Did, either};
 ghost use Rattle.usb_host.specs.Told.{Ended};
 
-use crate::host::{Host, Round};
 use crate::HostFault;
+use crate::host::{Host, Round};
 use usb_bus::Bus;
 use usb_hub::PipeFault;
 use usb_port::PortPath;
@@ -28,6 +28,7 @@ impl Round {
 
 impl<B: Bus> Host<B> {
     /// The root ports, the hubs, and the devices that wait.
+    #[tactic(auto, using(crate::proofs::Joins::goes_then, crate::proofs::Joins::goes_wider, crate::proofs::Joins::goes_none))]
     pub(crate) fn parts(&mut self) -> Result<Round, HostFault>
         ensures goes { Goes round_bound self.old self.new }
         ensures told { IfErr result (λ fault. Ended fault self.new.world) }
@@ -41,6 +42,7 @@ impl<B: Bus> Host<B> {
     }
 
     /// Handles each root port whose connection has changed, by rising number.
+    #[tactic(auto, using(crate::proofs::Joins::goes_then, crate::proofs::Joins::goes_wider, crate::proofs::Joins::goes_none))]
     fn serve_roots(&mut self) -> Result<Round, HostFault>
         ensures goes { Goes roots_bound self.old self.new }
         ensures told { IfErr result (λ fault. Ended fault self.new.world) }
@@ -66,7 +68,7 @@ impl<B: Bus> Host<B> {
     {
         let mut round = Round::Quiet;
         let mut last: Option<PortPath> = None;
-        'hubs: while let Some(hub) = self.table.next_hub(last.as_ref()) {
+        'hubs: while let Some(hub) = self.next_hub(&last) {
             round = round.and(self.serve_hub(&hub)?);
             last = Some(hub);
         }
@@ -74,6 +76,7 @@ impl<B: Bus> Host<B> {
     }
 
     /// Polls a hub, and handles the ports of which it tells; where it does not answer, it is dropped.
+    #[tactic(auto, using(crate::proofs::Joins::goes_then, crate::proofs::Joins::goes_wider, crate::proofs::Joins::goes_none))]
     fn serve_hub(&mut self, hub: &PortPath) -> Result<Round, HostFault>
         ensures path { IsPath hub.now }
         ensures goes { Goes hub_bound self.old self.new }
@@ -93,7 +96,9 @@ impl<B: Bus> Host<B> {
     }
 
     /// Handles each port of a hub whose bit is set, by rising number, as long as the hub is known.
+    #[tactic(auto, using(crate::proofs::Joins::goes_then, crate::proofs::Joins::goes_wider, crate::proofs::Joins::goes_none))]
     fn serve_told(&mut self, hub: &PortPath, bits: u8) -> Result<Round, HostFault>
+        requires { IsPath hub.now }
         ensures goes { Goes told_bound self.old self.new }
         ensures told { IfErr result (λ fault. Ended fault self.new.world) }
         ensures did { IfOk result (λ round. Did round self.old self.new) }
@@ -120,6 +125,13 @@ impl<B: Bus> Host<B> {
             last = Some(path);
         }
         Ok(round)
+    }
+
+    /// The next hub that is known.
+    fn next_hub(&self, last: &Option<PortPath>) -> Option<PortPath>
+        ensures { IfSome result (λ hub. IsAfter last.now hub) }
+    {
+        self.table.next_hub(last.as_ref())
     }
 
     /// The next device that waits for an address; none where no address is free.

@@ -34,7 +34,7 @@ invariant_of-self-2 g c =
     let path = c.in_ok-lost.lost in
     let away = subst (λ (h : Hosting). has_at path h.entries ≡ false) (sym c.self.view_is) c.forget.ensures.gone in
     let left : c.self.inside.table ≡ without path c.args.self.now.entries =
-        ap (λ (h : Hosting). h.entries) c.self.view_is ∙ c.forget.ensures.rest ∙ ap (λ (h : Hosting). without path h.entries) c.in_ok-lost.ensures.rests in
+    ap (λ (h : Hosting). h.entries) c.self.view_is ∙ c.forget.ensures.rest ∙ ap (λ (h : Hosting). without path h.entries) c.in_ok-lost.ensures.rests in
     let known = subst (λ (es : Entries). IsSome (known_port path es)) (sym left) (subst IsSome (sym (known_port-without path c.args.self.now.entries)) c.in_ok-lost.ensures.known) in
     rw c.in_ok-insert.ensures.ok (record {
       accounts = accounts_entered path (Refused Lost) c.self.inside.table c.self.inside.pool c.self.inside.pool c.self.invariant.accounts away refl;

@@ -1,0 +1,6 @@
+use Rattle.std.proofs.Common.{refl}
+use Rattle.usb_host.proofs.Hubs.{root_stands}
+use Rattle.usb_host.proofs.host.Host.handle_root.Goals as goal
+
+pub handle-requires : goal.handle-requires
+handle-requires g c = rw (c.root_path.ensures, c.supply.ensures) (root_stands c.args.number c.args.self.now c.requires.port c.requires.number)
