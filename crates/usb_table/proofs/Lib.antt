@@ -1,4 +1,7 @@
+pub mod Comings
+pub mod Goings
 pub mod Kept
+pub mod Keys
 pub mod Nexts
 pub mod Ports
 pub mod Removals
