@@ -1,6 +1,6 @@
 -- An entry comes under a key that was vacant.
 use Rattle.std.proofs.Common.{◌≡◌, ◌≢◌, ◌∙◌, refl, sym, ap, subst, inl, inr, true, false, Bool, ℕ, ◌+◌, cond, List, [], ◌∷◌, Option, Some, None, arith}
-use Rattle.std.specs.Prelude.{◌⊎◌, ◌||◌, ◌↔◌, nat_eq, IsSome, IfSome, is_some}
+use Rattle.std.specs.Prelude.{◌⊎◌, ◌||◌, nat_eq, IsSome, IfSome, is_some}
 use Rattle.std.specs.Map.{lookup}
 use Rattle.std.specs.BTreeMap.{is_at, insert_entry}
 use Rattle.std.specs.List.{list_any, count_by}
@@ -15,7 +15,7 @@ use Rattle.usb_table.specs.declared.indexes.Indexes.{Indexes}
 use Rattle.usb_table.specs.Entries.{Entries, has_at, is_at_or_below}
 use Rattle.usb_table.specs.Findings.{address_of, has_address, HasNewAddress}
 use Rattle.usb_table.specs.Keys.{Slots, PathKeys, AddressKeys, key_of_path, key_of_address, finding_under, entries_of, address_in, AreIndexes, UpdatesAddress, Enters}
-use Rattle.usb_table.proofs.Keys.{path_tied, path_itself, number_tied, number_itself, same_or_not, tests, found_at, entries-has_at, entries-insert, agree, some_address, none_or}
+use Rattle.usb_table.proofs.Keys.{path_tied, path_itself, number_tied, number_itself, same_or_not, found_at, entries-has_at, entries-insert, agree, some_address, none_or}
 
 module _ (old new : Slots) (before after : Indexes) (path : List ℕ) (key : ℕ) (finding : Finding)
     (are : AreIndexes old before.by_path.entries before.by_address.entries) (vacant : old key ≡ None)
@@ -58,7 +58,7 @@ module _ (old new : Slots) (before after : Indexes) (path : List ℕ) (key : ℕ
   named k s = elim (same_or_not k key) [
     | inl e ↦ (path, enters.path_keys path ∙ ap (λ b. cond b (Some key) (key_of_path before.by_path.entries path)) (path_itself path) ∙ ap Some (sym e))
     | inr ne ↦ let at = are.named k (ap is_some (sym (others k ne)) ∙ s) in
-      (at.0, enters.path_keys at.0 ∙ still at.0 k at.1 (is_at (path_cmp path) at.0) refl)
+        (at.0, enters.path_keys at.0 ∙ still at.0 k at.1 (is_at (path_cmp path) at.0) refl)
   ]
 
   old_address : (a k : ℕ) → key_of_address before.by_address.entries a ≡ Some k → address_in (new k) ≡ Some a
@@ -161,10 +161,10 @@ free_of : (found : Slots) (paths : PathKeys) (addresses : AddressKeys) → AreIn
 free_of found paths addresses are a none = elim (none_or (key_of_address addresses a)) [
   | inl nothing ↦ nothing
   | inr some ↦
-    let k = some.0 in
-    let f = found_by (found k) a ((are.addressed a k).0 some.1) in
-    let at = are.named k (ap is_some f.1) in
-    absurd (counted a at.0 (entries_of found paths) f.0 (found_at found at.0 paths k f.0 at.1 f.1) (has_its f.0 a f.2) none)
+      let k = some.0 in
+      let f = found_by (found k) a ((are.addressed a k).0 some.1) in
+      let at = are.named k (ap is_some f.1) in
+      absurd (counted a at.0 (entries_of found paths) f.0 (found_at found at.0 paths k f.0 at.1 f.1) (has_its f.0 a f.2) none)
 ]
 
 pub free_key : (found : Slots) (paths : PathKeys) (addresses : AddressKeys) (finding : Finding) → AreIndexes found paths addresses → HasNewAddress finding (entries_of found paths) → IfSome (address_of finding) (λ a. key_of_address addresses a ≡ None)

@@ -1,13 +1,12 @@
 -- An entry goes, and its key is vacant.
 use Rattle.std.proofs.Common.{◌≡◌, ◌≢◌, ◌∙◌, refl, sym, ap, subst, inl, inr, true, false, Bool, ℕ, cond, List, Option, Some, None}
-use Rattle.std.specs.Prelude.{◌⊎◌, ◌↔◌, IsSome, is_some}
+use Rattle.std.specs.Prelude.{◌⊎◌, IsSome, is_some}
 use Rattle.std.specs.Map.{keys_of, remove_entry}
 use Rattle.std.specs.BTreeMap.{is_at}
 use Rattle.std.specs.List.Sorted.{IsStrictlySortedBy}
 use Rattle.std.specs.Ordering.{nat_cmp}
 use Rattle.usb_port.specs.Order.{path_cmp}
 use Rattle.usb_enum.specs.declared.finding.Finding.{Finding}
-use Rattle.usb_table.specs.Entries.{Entries}
 use Rattle.usb_table.specs.Findings.{address_of}
 use Rattle.usb_table.specs.Keys.{Slots, PathKeys, AddressKeys, key_of_path, key_of_address, entries_of, address_in, AreIndexes, UpdatesAddress}
 use Rattle.usb_table.proofs.Keys.{path_tied, path_itself, number_tied, number_itself, same_or_not, entries-remove, agree}
@@ -27,9 +26,9 @@ module _ (old new : Slots) (paths left : PathKeys) (addresses rest : AddressKeys
   still_by q k false tie h = record {
     at = h;
     apart = λ e.
-      let same : q ≡ first = are.once first q key was (h ∙ ap Some e) in
-      let yes : is_at (path_cmp first) q ≡ true = subst (λ (r : List ℕ). is_at (path_cmp first) r ≡ true) (sym same) (path_itself first) in
-      absurd (cc (yes, tie));
+        let same : q ≡ first = are.once first q key was (h ∙ ap Some e) in
+        let yes : is_at (path_cmp first) q ≡ true = subst (λ (r : List ℕ). is_at (path_cmp first) r ≡ true) (sym same) (path_itself first) in
+        absurd (cc (yes, tie));
   }
 
   still : (q : List ℕ) (k : ℕ) → key_of_path left q ≡ Some k → Still q k

@@ -1,9 +1,9 @@
 -- Entries that come and go under their keys.
-use Rattle.std.proofs.Common.{◌≡◌, ◌≢◌, ◌∙◌, refl, sym, ap, subst, inl, inr, true, false, Bool, ℕ, ◌+◌, cond, List, [], ◌∷◌, map, Option, Some, None, All, set, get_or, arith}
-use Rattle.std.specs.Prelude.{◌⊎◌, ◌||◌, nat_eq, ◌==◌, ◌↔◌, IsSome, IfSome, is_some, unwrap_or}
+use Rattle.std.proofs.Common.{◌≡◌, ◌≢◌, ◌∙◌, refl, sym, ap, subst, inl, inr, true, false, Bool, ℕ, cond, List, [], ◌∷◌, Option, Some, None, All, set}
+use Rattle.std.specs.Prelude.{◌⊎◌, ◌||◌, ◌==◌, IsSome, IfSome, unwrap_or}
 use Rattle.std.specs.Map.{lookup, keys_of, values_of, remove_entry}
 use Rattle.std.specs.BTreeMap.{is_at, insert_entry}
-use Rattle.std.specs.List.{list_any, count_by}
+use Rattle.std.specs.List.{list_any}
 use Rattle.std.specs.List.Sorted.{IsStrictlySortedBy}
 use Rattle.std.specs.Option.{option_map}
 use Rattle.std.specs.Ordering.{nat_cmp, is_eq, match_ordering}
@@ -11,7 +11,7 @@ use Rattle.std.specs.Cmp.{eq_by_cmp_equiv, nat_cmp_total, unsigned_tied}
 use Rattle.std.specs.Cmp.Lexicographic.{nat_list_cmp_total, same_text, texts_ties}
 use Rattle.std.specs.declared.cmp.Ordering.{Ordering}
 use Rattle.std.specs.declared.cmp.Ordering.TheVariants.{Less, Equal, Greater}
-use Rattle.std.proofs.lemmas.Bool.{eqb-true, eq-eqb, ne_eqb}
+use Rattle.std.proofs.lemmas.Bool.{eqb-true, eq-eqb}
 use Rattle.std.proofs.lemmas.List.{set-get_or}
 use Rattle.std.proofs.lemmas.List.Elements.{All-head, All-tail}
 use Rattle.std.proofs.lemmas.Map.Keys.{IsDistinct-from_sorted}
@@ -21,11 +21,9 @@ use Rattle.slab.specs.Slab.{Slab, get, with_value}
 use Rattle.usb_port.specs.Order.{path_cmp}
 use Rattle.usb_enum.specs.declared.cause.Cause.TheVariants.{Silent}
 use Rattle.usb_enum.specs.declared.finding.Finding.{Finding}
-use Rattle.usb_enum.specs.declared.finding.Finding.TheVariants.{Device, Refused}
-use Rattle.usb_table.specs.declared.indexes.Indexes.{Indexes}
+use Rattle.usb_enum.specs.declared.finding.Finding.TheVariants.{Refused}
 use Rattle.usb_table.specs.Entries.{Entries, Rises, has_at, is_at_or_below}
-use Rattle.usb_table.specs.Findings.{address_of, has_address, HasNewAddress}
-use Rattle.usb_table.specs.Keys.{Slots, PathKeys, AddressKeys, key_of_path, key_of_address, finding_under, entries_of, address_in, AreIndexes, with_address, without_address, UpdatesAddress, Enters}
+use Rattle.usb_table.specs.Keys.{Slots, PathKeys, AddressKeys, key_of_path, key_of_address, finding_under, entries_of, address_in, with_address, without_address}
 
 -- Tests of keys
 

@@ -1,3 +1,4 @@
+pub mod Addresses
 pub mod Comings
 pub mod Goings
 pub mod Kept

@@ -1,5 +1,5 @@
 -- What is known of a port hangs on its hub alone.
-use Rattle.std.proofs.Common.{◌≡◌, ◌∙◌, refl, sym, ap, subst, arith, length-append, true, false, Bool, ℕ, ◌+◌, ◌<◌, cond, List, [], ◌∷◌, ◌++◌, length, not, Option, Some, None, ◌||◌}
+use Rattle.std.proofs.Common.{◌≡◌, ◌∙◌, refl, sym, ap, subst, arith, length-append, true, false, Bool, ℕ, ◌+◌, ◌<◌, List, [], ◌∷◌, length, not, Option, Some, None, ◌||◌}
 use Rattle.std.specs.Prelude.{nat_eq}
 use Rattle.std.specs.Map.{lookup}
 use Rattle.std.specs.BTreeMap.{is_at}
@@ -7,7 +7,6 @@ use Rattle.std.specs.Cmp.Lexicographic.{pointwise, same_text, texts_ties}
 use Rattle.std.proofs.lemmas.Map.Entries.{lookup-filter-keys}
 use Rattle.usb_port.specs.Order.{path_cmp, is_below, parent_of, port_of}
 use Rattle.usb_port.proofs.OrderLaws.{below, rejoined}
-use Rattle.usb_enum.specs.declared.finding.Finding.{Finding}
 use Rattle.usb_table.specs.Entries.{Entries, is_at_or_below, without}
 use Rattle.usb_table.specs.Known.{known_port, port_below, port_found, is_below_hub}
 

@@ -1,17 +1,15 @@
 //! What stands at each port.
-ghost use Rattle.std.specs.Prelude.{◌≡◌, ◌*◌, [], length, true, false, Some, IfSome, IfNone, IfOk, IfErr, OnOk, OnErr, MatchResult, option_copied, is_some};
+ghost use Rattle.std.specs.Prelude.{◌≡◌, ◌*◌, [], length, false, IfSome, IfNone, IfOk, IfErr, OnOk, OnErr, option_copied};
 ghost use Rattle.std.specs.BTreeMap.{insert_entry, is_at};
 ghost use Rattle.std.specs.Map.{lookup};
 ghost use Rattle.usb_port.specs.Order.{path_cmp};
 ghost use Rattle.usb_world.specs.World.{Spends};
-ghost use Rattle.usb_pipe.specs.Control.{Faults};
-ghost use Rattle.usb_transaction.specs.Trans.{Worked};
-ghost use Rattle.usb_table.specs.Entries.{Entries, Rises, TakesOut, has_at, is_at_or_below};
-ghost use Rattle.usb_table.specs.Findings.{IsSound, HasNewAddress, is_hub, is_waiting, device_at};
+ghost use Rattle.usb_table.specs.Entries.{Entries, Rises, TakesOut, has_at};
+ghost use Rattle.usb_table.specs.Findings.{IsSound, HasNewAddress, HasDevice, HasNoDevice, is_hub, is_waiting, device_at};
 ghost use Rattle.usb_table.specs.Kinds.{fits};
 ghost use Rattle.usb_table.specs.Known.{IsAskable, known_port};
 ghost use Rattle.usb_table.specs.Next.{IsNext, IsLast};
-ghost use Rattle.usb_table.specs.Transfers.{FaultTold, Polled, Sent, Received, Cleared};
+ghost use Rattle.usb_table.specs.Transfers.{PollEnds, FaultTold, Polled, Sent, Received, Cleared};
 
 use crate::entry::Entry;
 use crate::found::address_number;
@@ -28,6 +26,7 @@ use usb_bus::Bus;
 use usb_enum::Finding;
 use usb_pipe::PipeFault;
 use usb_port::PortPath;
+use usb_resources::Address;
 
 /// What stands at each port, by the port's path, with the host's pipes to it.
 #[derive(Drop)]
@@ -91,6 +90,17 @@ impl DeviceTable {
         }
     }
 
+    /// The device that has an address, if one was found.
+    pub fn at_address(&self, address: Address) -> Option<&Finding>
+        ensures some { IfSome result (λ finding. HasDevice address finding.now self.now) }
+        ensures none { IfNone result (HasNoDevice address self.now) }
+    {
+        match self.indexes.by_address.get(&address.number()) {
+            Some(key) => Some(self.entries[*key].finding()),
+            None => None,
+        }
+    }
+
     /// Takes out one entry at or below a path; `None` where there is none.
     pub fn take_at(&mut self, path: &PortPath) -> Option<Finding>
         ensures some { IfSome result (λ finding. TakesOut path.now finding self.old self.new) }
@@ -100,8 +110,7 @@ impl DeviceTable {
         let first = self.indexes.first_at(path)?;
         let key = self.indexes.by_path.remove(&first)?;
         let entry = self.entries.remove(key);
-        self.indexes
-            .remove_address(address_number(entry.finding()));
+        self.indexes.remove_address(address_number(entry.finding()));
         Some(entry.into_finding())
     }
 
@@ -172,7 +181,7 @@ impl DeviceTable {
     ) -> Result<Option<ArrayVec<u8, 64>>, PipeFault>
         ensures same { self.new ≡ self.old }
         ensures count { Spends 768 (B.world bus.old) (B.world bus.new) }
-        ensures ends { MatchResult result (λ got. IfSome got (λ _. Worked 1 (B.world bus.old) (B.world bus.new))) (λ fault. Faults 0 (B.world bus.old) fault (B.world bus.new)) }
+        ensures ends { PollEnds (B.world bus.old) result (B.world bus.new) }
         ensures polled { Polled (device_at hub.now self.old) (B.world bus.old) result (B.world bus.new) }
     {
         match self.indexes.by_path.get(hub) {

@@ -1,5 +1,5 @@
 -- The slab has what the path's key names.
-use Rattle.std.proofs.Common.{◌≡◌, ◌∙◌, sym, ap, Some}
+use Rattle.std.proofs.Common.{◌∙◌, sym, ap, Some}
 use Rattle.slab.specs.Slab.{get}
 use Rattle.usb_table.proofs.Keys.{found_at, none_at}
 use Rattle.usb_table.proofs.table.DeviceTable.get.Goals as goal

@@ -7,7 +7,7 @@ use Rattle.usb_port.specs.Order.{path_cmp}
 use Rattle.usb_enum.specs.declared.finding.Finding.{Finding}
 use Rattle.usb_table.specs.Entries.{Entries, has_at}
 use Rattle.usb_table.specs.Findings.{address_of, HasNewAddress}
-use Rattle.usb_table.specs.Keys.{key_of_path, key_of_address, entries_of, Enters}
+use Rattle.usb_table.specs.Keys.{key_of_path, key_of_address, Enters}
 use Rattle.usb_table.proofs.Comings.{come, come_entries, away_key, free_key}
 use Rattle.usb_table.proofs.table.DeviceTable.insert.Goals as goal
 

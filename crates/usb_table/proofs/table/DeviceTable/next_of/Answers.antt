@@ -7,8 +7,6 @@ use Rattle.std.proofs.lemmas.Map.Iter.{rest_more, rest_all}
 use Rattle.std.proofs.lemmas.Map.Views.{All-turn}
 use Rattle.slab.specs.Slab.{get}
 use Rattle.usb_port.specs.Order.{path_cmp}
-use Rattle.usb_enum.specs.declared.finding.Finding.{Finding}
-use Rattle.usb_table.specs.Entries.{Entries}
 use Rattle.usb_table.specs.Keys.{PathKeys, finding_under, entries_of}
 use Rattle.usb_table.specs.Kinds.{fits, is_after}
 use Rattle.usb_table.proofs.Keys.{entries_rise, under}
@@ -29,9 +27,9 @@ returns-then-fits-clause-some c =
     let stands : finding_under (get s.entries) c.in-Some.key.now ≡ c.finding.result.now = under (get s.entries) c.in-Some.key.now c.index.result.now c.index.ensures ∙ sym c.finding.ensures.value in
     let kind : fits c.args.kind (finding_under (get s.entries) c.in-Some.key.now) ≡ true = ap (fits c.args.kind) stands ∙ sym c.fits.ensures ∙ c.if-fits.true in
     let found : first_from (fits c.args.kind) (option_copied c.args.last) c.args.self.now ≡ Some c.duplicate.result =
-        sym c.entries.invariant
-        ∙ ap (λ (left : PathKeys). first_from (fits c.args.kind) (option_copied c.args.last) (entries_of (get s.entries) left)) turn
-        ∙ rw (after, kind) (ap Some (sym c.duplicate.ensures)) in
+    sym c.entries.invariant
+    ∙ ap (λ (left : PathKeys). first_from (fits c.args.kind) (option_copied c.args.last) (entries_of (get s.entries) left)) turn
+    ∙ rw (after, kind) (ap Some (sym c.duplicate.ensures)) in
     next_is (fits c.args.kind) (option_copied c.args.last) c.args.self.now c.duplicate.result (entries_rise (get s.entries) s.indexes.by_path.entries c.args.self.now c.self.view_is c.iter-path-items.ensures.ordered) found
 
 pub returns-clause-none : goal.returns-clause-none

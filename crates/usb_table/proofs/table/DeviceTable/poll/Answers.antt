@@ -1,11 +1,9 @@
 -- The entry shows the same when it is written back.
-use Rattle.std.proofs.Common.{◌≡◌, ◌∙◌, sym, ap, subst, Some, Option}
+use Rattle.std.proofs.Common.{◌∙◌, sym, ap, Some}
 use Rattle.slab.specs.Slab.{Slab, get}
 use Rattle.usb_enum.specs.declared.finding.Finding.{Finding}
-use Rattle.usb_table.specs.Findings.{device_of}
 use Rattle.usb_table.specs.Keys.{entries_of}
-use Rattle.usb_table.specs.Transfers.{Sent, Received, Cleared}
-use Rattle.usb_table.proofs.Keys.{same_slot, found_at}
+use Rattle.usb_table.proofs.Keys.{same_slot}
 use Rattle.usb_table.proofs.table.DeviceTable.poll.Goals as goal
 
 pub returns-in-Some-clause-same : goal.returns-in-Some-clause-same

@@ -3,13 +3,12 @@ use Rattle.std.proofs.Common.{◌≡◌, ◌∙◌, sym, ap, subst, cond, ℕ, L
 use Rattle.std.specs.Prelude.{IfNone}
 use Rattle.std.specs.BTreeMap.{BTreeMap, is_at}
 use Rattle.std.specs.List.Sorted.{IsStrictlySortedBy}
-use Rattle.std.specs.Map.{keys_of, lookup, remove_entry}
+use Rattle.std.specs.Map.{keys_of, remove_entry}
 use Rattle.slab.specs.Slab.{get}
 use Rattle.usb_port.specs.Order.{path_cmp}
-use Rattle.usb_enum.specs.declared.finding.Finding.{Finding}
 use Rattle.usb_table.specs.Entries.{Entries}
 use Rattle.usb_table.specs.Findings.{address_of}
-use Rattle.usb_table.specs.Keys.{PathKeys, key_of_path, entries_of, UpdatesAddress}
+use Rattle.usb_table.specs.Keys.{PathKeys, key_of_path, UpdatesAddress}
 use Rattle.usb_table.proofs.Keys.{found_at, entries-has_at}
 use Rattle.usb_table.proofs.Goings.{go, go_entries}
 use Rattle.usb_table.proofs.table.DeviceTable.take_at.Goals as goal
@@ -54,8 +53,8 @@ returns-clause-some c =
       at = c.in_ok-first.ensures.some;
       found = rw (← c.self.view_is) (found_at (get s.entries) c.in_ok-first.first s.indexes.by_path.entries c.in_ok-key.key c.remove-entry.result h.was c.remove-entry.ensures.value ∙ ap Some (sym c.into_finding.ensures));
       rest =
-        go_entries (get s.entries) (get c.remove-entry.new.self) s.indexes.by_path.entries c.remove_address.new.self.by_path.entries s.indexes.by_address.entries c.remove_address.new.self.by_address.entries
-        c.in_ok-first.first c.in_ok-key.key c.remove-entry.result c.self.invariant c.remove-entry.ensures.value c.remove-entry.ensures.updates.changed c.remove-entry.ensures.updates.others
-        h.was h.path_keys h.address_keys (left ∙ c.in_ok-key.ensures.entries) (subst (λ (es : PathKeys). IsStrictlySortedBy path_cmp (keys_of es)) (sym left) c.in_ok-key.ensures.ordered)
-        ∙ ap (λ (es : Entries). remove_entry (is_at (path_cmp c.in_ok-first.first)) es) c.self.view_is;
+          go_entries (get s.entries) (get c.remove-entry.new.self) s.indexes.by_path.entries c.remove_address.new.self.by_path.entries s.indexes.by_address.entries c.remove_address.new.self.by_address.entries
+          c.in_ok-first.first c.in_ok-key.key c.remove-entry.result c.self.invariant c.remove-entry.ensures.value c.remove-entry.ensures.updates.changed c.remove-entry.ensures.updates.others
+          h.was h.path_keys h.address_keys (left ∙ c.in_ok-key.ensures.entries) (subst (λ (es : PathKeys). IsStrictlySortedBy path_cmp (keys_of es)) (sym left) c.in_ok-key.ensures.ordered)
+          ∙ ap (λ (es : Entries). remove_entry (is_at (path_cmp c.in_ok-first.first)) es) c.self.view_is;
     }
