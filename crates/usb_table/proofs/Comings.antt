@@ -15,7 +15,8 @@ use Rattle.usb_table.specs.declared.indexes.Indexes.{Indexes}
 use Rattle.usb_table.specs.Entries.{Entries, has_at, is_at_or_below}
 use Rattle.usb_table.specs.Findings.{address_of, has_address, HasNewAddress}
 use Rattle.usb_table.specs.Keys.{Slots, PathKeys, AddressKeys, key_of_path, key_of_address, finding_under, entries_of, address_in, AreIndexes, UpdatesAddress, Enters}
-use Rattle.usb_table.proofs.Keys.{path_tied, path_itself, number_tied, number_itself, same_or_not, found_at, entries-has_at, entries-insert, agree, some_address, none_or}
+use Rattle.usb_table.proofs.Keys.{number_tied, number_itself, same_or_not, found_at, entries-has_at, entries-insert, agree, some_address, none_or}
+use Rattle.usb_table.proofs.Paths.{path_tied, path_itself}
 
 module _ (old new : Slots) (before after : Indexes) (path : List ℕ) (key : ℕ) (finding : Finding)
     (are : AreIndexes old before.by_path.entries before.by_address.entries) (vacant : old key ≡ None)

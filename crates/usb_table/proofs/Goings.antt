@@ -9,7 +9,8 @@ use Rattle.usb_port.specs.Order.{path_cmp}
 use Rattle.usb_enum.specs.declared.finding.Finding.{Finding}
 use Rattle.usb_table.specs.Findings.{address_of}
 use Rattle.usb_table.specs.Keys.{Slots, PathKeys, AddressKeys, key_of_path, key_of_address, entries_of, address_in, AreIndexes, UpdatesAddress}
-use Rattle.usb_table.proofs.Keys.{path_tied, path_itself, number_tied, number_itself, same_or_not, entries-remove, agree}
+use Rattle.usb_table.proofs.Keys.{number_tied, number_itself, same_or_not, entries-remove, agree}
+use Rattle.usb_table.proofs.Paths.{path_tied, path_itself}
 
 module _ (old new : Slots) (paths left : PathKeys) (addresses rest : AddressKeys) (first : List ℕ) (key : ℕ) (finding : Finding)
     (are : AreIndexes old paths addresses) (held : old key ≡ Some finding)

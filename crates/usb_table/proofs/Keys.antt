@@ -8,7 +8,7 @@ use Rattle.std.specs.List.Sorted.{IsStrictlySortedBy}
 use Rattle.std.specs.Option.{option_map}
 use Rattle.std.specs.Ordering.{nat_cmp, is_eq, match_ordering}
 use Rattle.std.specs.Cmp.{eq_by_cmp_equiv, nat_cmp_total, unsigned_tied}
-use Rattle.std.specs.Cmp.Lexicographic.{nat_list_cmp_total, same_text, texts_ties}
+use Rattle.std.specs.Cmp.Lexicographic.{nat_list_cmp_total}
 use Rattle.std.specs.declared.cmp.Ordering.{Ordering}
 use Rattle.std.specs.declared.cmp.Ordering.TheVariants.{Less, Equal, Greater}
 use Rattle.std.proofs.lemmas.Bool.{eqb-true, eq-eqb}
@@ -27,12 +27,6 @@ use Rattle.usb_table.specs.Keys.{Slots, PathKeys, AddressKeys, key_of_path, key_
 
 -- Tests of keys
 
-pub path_tied : (q k : List ℕ) → is_at (path_cmp q) k ≡ true → q ≡ k
-path_tied q k tie = same_text q k (sym (texts_ties q k ∙ tie))
-
-pub path_itself : (q : List ℕ) → is_at (path_cmp q) q ≡ true
-path_itself q = (eq_by_cmp_equiv nat_list_cmp_total).refl q
-
 pub number_tied : (x y : ℕ) → is_at (nat_cmp x) y ≡ true → x ≡ y
 number_tied x y tie = eqb-true x y (sym (unsigned_tied x y) ∙ tie)
 
@@ -45,10 +39,6 @@ same_or_not_by x y false e = inr (λ h. let t : (x == y) ≡ true = eq-eqb x y h
 
 pub same_or_not : (x y : ℕ) → (x ≡ y) ⊎ (x ≢ y)
 same_or_not x y = same_or_not_by x y (x == y) refl
-
-pub tests : (b : Bool) → (b ≡ true) ⊎ (b ≡ false)
-tests true = inl refl
-tests false = inr refl
 
 -- A value written back under its key changes nothing
 

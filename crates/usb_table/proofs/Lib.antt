@@ -4,6 +4,7 @@ pub mod Goings
 pub mod Kept
 pub mod Keys
 pub mod Nexts
+pub mod Paths
 pub mod Ports
 pub mod Removals
 pub mod Sound
