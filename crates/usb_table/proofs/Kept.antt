@@ -13,7 +13,7 @@ use Rattle.usb_enum.specs.declared.finding.Finding.TheVariants.{Device, Refused}
 use Rattle.usb_table.specs.declared.pipes.BulkPipes.{BulkPipes}
 use Rattle.usb_table.specs.declared.pipes.Pipes.TheVariants.{Function}
 use Rattle.usb_table.specs.Findings.{bulk_out}
-use Rattle.usb_table.specs.Pipes.{IsPipe, IsBulkPipe, ArePipesOf}
+use Rattle.usb_table.specs.Pipes.{IsPipe, ArePipesOf}
 use Rattle.usb_table.specs.Transfers.{SentBy}
 
 broken_or_not : (c : Condition) → (c ≡ Broken) ⊎ (c ≢ Broken)

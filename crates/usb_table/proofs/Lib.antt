@@ -1,5 +1,10 @@
+pub mod Addresses
+pub mod Comings
+pub mod Goings
 pub mod Kept
+pub mod Keys
 pub mod Nexts
+pub mod Paths
 pub mod Ports
 pub mod Removals
 pub mod Sound

@@ -1,10 +1,10 @@
 -- The next entry of a kind is the first one after the last path.
-use Rattle.std.proofs.Common.{◌≡◌, ◌≢◌, ◌∙◌, refl, sym, ap, subst, true, false, Bool, ℕ, cond, List, [], ◌∷◌, ◌&&◌, Option, Some, None}
+use Rattle.std.proofs.Common.{◌≡◌, ◌≢◌, ◌∙◌, refl, sym, subst, true, false, Bool, ℕ, cond, List, [], ◌∷◌, ◌&&◌, Option, Some, None}
 use Rattle.std.specs.Map.{lookup, keys_of}
 use Rattle.std.specs.BTreeMap.{is_at}
-use Rattle.std.specs.Ordering.{is_eq, is_lt}
+use Rattle.std.specs.Ordering.{is_lt}
 use Rattle.std.specs.Cmp.{eq_by_cmp_equiv}
-use Rattle.std.specs.Cmp.Lexicographic.{nat_list_cmp_total, same_text, texts_ties}
+use Rattle.std.specs.Cmp.Lexicographic.{nat_list_cmp_total}
 use Rattle.std.specs.declared.cmp.Ordering.{Ordering}
 use Rattle.std.specs.declared.cmp.Ordering.TheVariants.{Less, Equal, Greater}
 use Rattle.std.proofs.lemmas.Bool.{and_parts, and_from}
@@ -13,6 +13,7 @@ use Rattle.std.proofs.lemmas.Map.Entries.{none_below_head, none_past_head, looku
 use Rattle.std.proofs.lemmas.Map.Keys.{IsDistinct-from_sorted, sorted_tail}
 use Rattle.usb_port.specs.Order.{path_cmp}
 use Rattle.usb_enum.specs.declared.finding.Finding.{Finding}
+use Rattle.usb_table.proofs.Paths.{path_tied, path_itself}
 use Rattle.usb_table.specs.Entries.{Entries, Rises}
 use Rattle.usb_table.specs.Kinds.{is_after}
 use Rattle.usb_table.specs.Next.{IsAfter, Stands, IsNext, IsLast}
@@ -35,12 +36,6 @@ if_after : (last : Option (List ℕ)) (path : List ℕ) → IsAfter last path �
 if_after None path h = refl
 if_after (Some l) path h = rw h refl
 
-same_path : (q k : List ℕ) → is_at (path_cmp q) k ≡ true → q ≡ k
-same_path q k tie = same_text q k (sym (texts_ties q k ∙ tie))
-
-itself : (q : List ℕ) → is_at (path_cmp q) q ≡ true
-itself q = (eq_by_cmp_equiv nat_list_cmp_total).refl q
-
 not_below : (q : List ℕ) (e : List ℕ × Finding) (es : Entries) (f : Finding) → Rises (e ∷ es) → lookup (is_at (path_cmp q)) (e ∷ es) ≡ Some f → path_cmp q e.0 ≢ Less
 not_below q e es f rises found = λ less.
     let none = lookup-none (is_at (path_cmp q)) (e ∷ es) (none_below_head nat_list_cmp_total q e es rises less) in
@@ -60,7 +55,7 @@ module _ (kind : Finding → Bool) (last : Option (List ℕ)) (e : List ℕ × F
   here : (is_after last e.0 && kind e.1) ≡ true → Stands kind last (e ∷ es) e.0
   here pass =
       let parts = and_parts (is_after last e.0) (kind e.1) pass in
-      record { finding = e.1; found = lookup_head (is_at (path_cmp e.0)) e es (itself e.0); fits = parts.1; after = after_if last e.0 parts.0 }
+      record { finding = e.1; found = lookup_head (is_at (path_cmp e.0)) e es (path_itself e.0); fits = parts.1; after = after_if last e.0 parts.0 }
 
   later : (q : List ℕ) → Rises (e ∷ es) → Stands kind last es q → Stands kind last (e ∷ es) q
   later q rises s =
@@ -68,7 +63,7 @@ module _ (kind : Finding → Bool) (last : Option (List ℕ)) (e : List ℕ × F
 
   in_tail_by : (q : List ℕ) → (is_after last e.0 && kind e.1) ≡ false → Stands kind last (e ∷ es) q → (b : Bool) → is_at (path_cmp q) e.0 ≡ b → Stands kind last es q
   in_tail_by q fails s true tie =
-      let same = same_path q e.0 tie in
+      let same = path_tied q e.0 tie in
       let found : Some e.1 ≡ Some s.finding = sym (lookup_head (is_at (path_cmp q)) e es tie) ∙ s.found in
       let kind_is : kind e.1 ≡ true = subst (λ (f : Finding). kind f ≡ true) (cc found) s.fits in
       let after_is : is_after last e.0 ≡ true = if_after last e.0 (subst (λ (p : List ℕ). IsAfter last p) same s.after) in

@@ -2,11 +2,11 @@
 use Rattle.std.proofs.Common.{◌≡◌, ◌∙◌, refl, ap, arith, subst, sym}
 use Rattle.std.specs.Prelude.{ℕ, ◌+◌, List, [], ◌∷◌, length, Bool, true, false, cond, not, ◌||◌, Some}
 use Rattle.std.specs.List.{filter}
-use Rattle.std.specs.Cmp.Lexicographic.{same_text, texts_ties}
 use Rattle.std.specs.Map.{lookup, remove_entry}
 use Rattle.std.specs.BTreeMap.{is_at}
 use Rattle.usb_port.specs.Order.{path_cmp}
 use Rattle.usb_enum.specs.declared.finding.Finding.{Finding}
+use Rattle.usb_table.proofs.Paths.{path_tied}
 use Rattle.usb_table.specs.Entries.{Entries, TakesOut, has_at, is_at_or_below, without}
 
 length_without : (test : List ℕ → Bool) (es : Entries) (v : Finding) → lookup test es ≡ Some v → length (remove_entry test es) + 1 ≡ length es
@@ -30,14 +30,11 @@ kept_apart : (keep test : List ℕ → Bool) → ((q : List ℕ) → test q ≡ 
 kept_apart keep test goes [] = refl
 kept_apart keep test goes (e ∷ es) = kept_step keep e es (remove_entry test es) (test e.0) (goes e.0) (kept_apart keep test goes es)
 
-same_path : (first q : List ℕ) → is_at (path_cmp first) q ≡ true → first ≡ q
-same_path first q tie = same_text first q (sym (texts_ties first q ∙ tie))
-
 pub taken_apart : (path : List ℕ) (finding : Finding) (old new : Entries) → TakesOut path finding old new → without path new ≡ without path old
 taken_apart path finding old new t =
     ap (without path) t.rest
     ∙ kept_apart (λ q. not (is_at_or_below q path)) (is_at (path_cmp t.first))
-    (λ q tie. subst (λ r. not (is_at_or_below r path) ≡ false) (same_path t.first q tie) (rw t.at refl)) old
+    (λ q tie. subst (λ r. not (is_at_or_below r path) ≡ false) (path_tied t.first q tie) (rw t.at refl)) old
 
 rest_false : (b c : Bool) → (b || c) ≡ false → c ≡ false
 rest_false true c h = cc

@@ -1,5 +1,5 @@
 -- What was found at a port, as the table needs it.
-use Rattle.std.specs.Prelude.{◌≡◌, ⊤, ℕ, List, Bool, true, false, ◌||◌, nat_eq, Option, Some, None, is_some, if◌then◌else◌}
+use Rattle.std.specs.Prelude.{◌≡◌, ◌≢◌, ⊤, ℕ, List, Bool, true, false, nat_eq, Option, Some, None, is_some, if◌then◌else◌}
 use Rattle.std.specs.BTreeMap.{is_at}
 use Rattle.std.specs.List.{count_by}
 use Rattle.std.specs.Map.{lookup}
@@ -36,6 +36,16 @@ has_address address (Refused cause) = false
 abbrev pub HasNewAddress : Finding → Entries → Type 0
 HasNewAddress (Device device) entries = count_by (λ e. has_address device.address e.1) entries ≡ 0
 HasNewAddress (Refused cause) entries = ⊤
+
+-- a device with the address was found at some path
+pub record HasDevice (address : ℕ) (finding : Finding) (entries : Entries) : Type 0 where
+  pub path : List ℕ
+  pub found : lookup (is_at (path_cmp path)) entries ≡ Some finding
+  pub addressed : address_of finding ≡ Some address
+
+-- and at none
+abbrev pub HasNoDevice : ℕ → Entries → Type 0
+HasNoDevice address entries = (path : List ℕ) (finding : Finding) → lookup (is_at (path_cmp path)) entries ≡ Some finding → address_of finding ≢ Some address
 
 -- an accepted hub
 abbrev pub is_hub : Finding → Bool

@@ -1,5 +1,5 @@
 -- How the ports that the table knows are asked.
-use Rattle.std.specs.Prelude.{◌≡◌, ℕ, ◌≤◌, List, length, Bool, true, false, Option, Some, None, nat_lt, nat_le, if◌then◌else◌}
+use Rattle.std.specs.Prelude.{ℕ, ◌≤◌, List, length, Bool, true, false, Option, Some, None, nat_lt, nat_le, if◌then◌else◌}
 use Rattle.std.specs.BTreeMap.{is_at}
 use Rattle.std.specs.Map.{lookup}
 use Rattle.usb_port.specs.Order.{path_cmp, parent_of, port_of}

@@ -1,5 +1,6 @@
 pub mod Entries
 pub mod Findings
+pub mod Keys
 pub mod Kinds
 pub mod Known
 pub mod Next

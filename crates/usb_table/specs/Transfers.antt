@@ -1,9 +1,11 @@
 -- What transfers to the devices of the table leave.
-use Rattle.std.specs.Prelude.{◌≡◌, ⊤, ℕ, ◌*◌, List, length, Bool, true, false, ◌||◌, Option, Some, None, is_some, Result, Ok, Err}
+use Rattle.std.specs.Prelude.{◌≡◌, ⊤, ℕ, ◌*◌, List, length, Bool, true, false, ◌||◌, Option, Some, None, is_some, Result, Ok, Err, IfSome, MatchResult}
 use Rattle.std.specs.Global.{Vec}
 use Rattle.std.specs.Int.{div_ceil}
 use Rattle.arrayvec.specs.ArrayVec.{ArrayVec}
 use Rattle.usb_world.specs.World.{World, Spends, Failed}
+use Rattle.usb_transaction.specs.Trans.{Worked}
+use Rattle.usb_pipe.specs.Control.{Faults}
 use Rattle.usb_pipe.specs.Bulk.{Bulk, Sends, Receives, Clears}
 use Rattle.usb_pipe.specs.Interrupt.{Interrupt, Polls}
 use Rattle.usb_pipe.specs.declared.fault.PipeFault.{PipeFault}
@@ -37,6 +39,10 @@ abbrev pub FaultTold : EndpointFault → World → Type 0
 FaultTold NoDevice w = ⊤
 FaultTold NoEndpoint w = ⊤
 FaultTold (Pipe fault) w = PipeTold fault w
+
+-- a packet that came took an attempt, and so did each fault but the bus's own
+abbrev pub PollEnds : World → Result (Option (ArrayVec ℕ)) PipeFault → World → Type 0
+PollEnds old result new = MatchResult result (λ got. IfSome got (λ packet. Worked 1 old new)) (λ fault. Faults 0 old fault new)
 
 -- Through a pipe, if there is one
 

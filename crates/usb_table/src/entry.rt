@@ -1,10 +1,8 @@
 //! What stands at a port, with the host's pipes to it.
-ghost use Rattle.std.specs.Prelude.{◌≡◌, ◌*◌, length, Some, IfSome, IfErr, MatchResult};
+ghost use Rattle.std.specs.Prelude.{◌≡◌, Some};
 ghost use Rattle.usb_world.specs.World.{Spends};
-ghost use Rattle.usb_pipe.specs.Control.{Faults};
-ghost use Rattle.usb_transaction.specs.Trans.{Worked};
 ghost use Rattle.usb_table.specs.Findings.{IsSound, device_of};
-ghost use Rattle.usb_table.specs.Transfers.{FaultTold, Polled, Sent, Received, Cleared};
+ghost use Rattle.usb_table.specs.Transfers.{PollEnds, Polled, Sent, Received, Cleared};
 
 use crate::EndpointFault;
 use crate::pipes::{Pipes, pipes_to, receive_through, send_through};
@@ -66,7 +64,7 @@ impl Entry {
     pub fn poll<B: Bus>(&mut self, bus: &mut B) -> Result<Option<ArrayVec<u8, 64>>, PipeFault>
         ensures same { self.new ≡ self.old }
         ensures count { Spends 768 (B.world bus.old) (B.world bus.new) }
-        ensures ends { MatchResult result (λ got. IfSome got (λ _. Worked 1 (B.world bus.old) (B.world bus.new))) (λ fault. Faults 0 (B.world bus.old) fault (B.world bus.new)) }
+        ensures ends { PollEnds (B.world bus.old) result (B.world bus.new) }
         ensures polled { Polled (device_of (Some self.old)) (B.world bus.old) result (B.world bus.new) }
     {
         match &mut self.pipes {

@@ -15,6 +15,16 @@ pub fn address_of(finding: &Finding) -> Option<Address>
     }
 }
 
+/// The number of that address.
+pub(crate) fn address_number(finding: &Finding) -> Option<u8>
+    ensures { result ≡ address_of finding.now }
+{
+    match address_of(finding) {
+        Some(address) => Some(address.number()),
+        None => None,
+    }
+}
+
 /// Whether it is an accepted hub.
 pub(crate) fn is_hub(finding: &Finding) -> bool
     ensures { result ≡ is_hub finding.now }

@@ -1,5 +1,5 @@
 //! A port of which the table knows how it is asked.
-ghost use Rattle.std.specs.Prelude.{◌≡◌, ◌<◌, length, IfSome, nat_lt};
+ghost use Rattle.std.specs.Prelude.{◌≡◌, ◌<◌, IfSome};
 ghost use Rattle.usb_port.specs.Path.{IsPortNumber};
 ghost use Rattle.usb_table.specs.Findings.{IsSound};
 ghost use Rattle.usb_table.specs.Known.{root_port, is_below_hub, port_of_finding, IsAskable};

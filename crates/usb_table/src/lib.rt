@@ -4,6 +4,7 @@
 mod entry;
 mod fault;
 mod found;
+mod indexes;
 mod kind;
 mod known;
 mod pipes;

@@ -1,23 +1,24 @@
 //! What stands at each port.
-ghost use Rattle.std.specs.Prelude.{◌≡◌, ◌*◌, [], length, true, false, Some, IfSome, IfNone, IfOk, IfErr, OnOk, OnErr, MatchResult, option_copied, is_some};
+ghost use Rattle.std.specs.Prelude.{◌≡◌, ◌*◌, [], length, false, IfSome, IfNone, IfOk, IfErr, OnOk, OnErr, option_copied};
 ghost use Rattle.std.specs.BTreeMap.{insert_entry, is_at};
 ghost use Rattle.std.specs.Map.{lookup};
 ghost use Rattle.usb_port.specs.Order.{path_cmp};
 ghost use Rattle.usb_world.specs.World.{Spends};
-ghost use Rattle.usb_pipe.specs.Control.{Faults};
-ghost use Rattle.usb_transaction.specs.Trans.{Worked};
-ghost use Rattle.usb_table.specs.Entries.{Entries, Rises, TakesOut, has_at, is_at_or_below};
-ghost use Rattle.usb_table.specs.Findings.{IsSound, HasNewAddress, is_hub, is_waiting, device_at};
+ghost use Rattle.usb_table.specs.Entries.{Entries, Rises, TakesOut, has_at};
+ghost use Rattle.usb_table.specs.Findings.{IsSound, HasNewAddress, HasDevice, HasNoDevice, is_hub, is_waiting, device_at};
 ghost use Rattle.usb_table.specs.Kinds.{fits};
 ghost use Rattle.usb_table.specs.Known.{IsAskable, known_port};
 ghost use Rattle.usb_table.specs.Next.{IsNext, IsLast};
-ghost use Rattle.usb_table.specs.Transfers.{FaultTold, Polled, Sent, Received, Cleared};
+ghost use Rattle.usb_table.specs.Transfers.{PollEnds, FaultTold, Polled, Sent, Received, Cleared};
 
 use crate::entry::Entry;
+use crate::found::address_number;
+use crate::indexes::Indexes;
 use crate::kind::{Kind, fits, is_after};
 use crate::known::{is_below_hub, port_of_finding, root_port};
 use crate::{EndpointFault, KnownPort};
 use arrayvec::ArrayVec;
+use slab::Slab;
 use std::alloc::{AllocError, Global};
 use std::collections::BTreeMap;
 use std::marker::Model;
@@ -25,19 +26,26 @@ use usb_bus::Bus;
 use usb_enum::Finding;
 use usb_pipe::PipeFault;
 use usb_port::PortPath;
+use usb_resources::Address;
 
 /// What stands at each port, by the port's path, with the host's pipes to it.
 #[derive(Drop)]
 pub struct DeviceTable {
-    entries: BTreeMap<PortPath, Entry>,
+    entries: Slab<Entry>,
+    indexes: Indexes,
 }
 
 impl Model for DeviceTable {
+    ghost use Rattle.slab.specs.Slab.{get};
     ghost use Rattle.usb_table.specs.Entries.{Entries};
 
     ghost Value = { Entries };
 
-    ghost view = { λ t. t.entries.entries };
+    ghost use Rattle.usb_table.specs.Keys.{AreIndexes, entries_of};
+
+    ghost view = { λ t. entries_of (get t.entries) t.indexes.by_path.entries };
+
+    ghost invariant = { λ t. AreIndexes (get t.entries) t.indexes.by_path.entries t.indexes.by_address.entries };
 }
 
 impl DeviceTable {
@@ -46,7 +54,11 @@ impl DeviceTable {
         ensures { result ≡ [] }
     {
         DeviceTable {
-            entries: BTreeMap::new(alloc),
+            entries: Slab::new(alloc),
+            indexes: Indexes {
+                by_path: BTreeMap::new(alloc),
+                by_address: BTreeMap::new(alloc),
+            },
         }
     }
 
@@ -58,17 +70,33 @@ impl DeviceTable {
         ensures ok { OnOk result (self.new ≡ insert_entry path_cmp self.old path finding) }
         ensures err { OnErr result (self.new ≡ self.old) }
     {
+        let address = address_number(&finding);
         let entry = Entry::new(finding, is_below_hub(&path));
-        self.entries.insert(path, entry)?;
+        self.entries.reserve(1)?;
+        let key = self.entries.vacant_key();
+        self.indexes.insert(path, address, key)?;
+        self.entries.insert_reserved(entry);
         Ok(())
     }
 
     /// What was found at a path.
     pub fn get(&self, path: &PortPath) -> Option<&Finding>
-        ensures { option_copied result ≡ lookup (is_at (path_cmp path.now)) self.now }
+        ensures value { option_copied result ≡ lookup (is_at (path_cmp path.now)) self.now }
+        ensures sound { IfSome result (λ finding. IsSound finding.now) }
     {
-        match self.entries.get(path) {
-            Some(entry) => Some(entry.finding()),
+        match self.indexes.by_path.get(path) {
+            Some(key) => Some(self.entries[*key].finding()),
+            None => None,
+        }
+    }
+
+    /// The device that has an address, if one was found.
+    pub fn at_address(&self, address: Address) -> Option<&Finding>
+        ensures some { IfSome result (λ finding. HasDevice address finding.now self.now) }
+        ensures none { IfNone result (HasNoDevice address self.now) }
+    {
+        match self.indexes.by_address.get(&address.number()) {
+            Some(key) => Some(self.entries[*key].finding()),
             None => None,
         }
     }
@@ -79,23 +107,11 @@ impl DeviceTable {
         ensures none { IfNone result (has_at path.now self.old ≡ false) }
         ensures same { IfNone result (self.new ≡ self.old) }
     {
-        let first = self.first_at(path)?;
-        let entry = self.entries.remove(&first)?;
+        let first = self.indexes.first_at(path)?;
+        let key = self.indexes.by_path.remove(&first)?;
+        let entry = self.entries.remove(key);
+        self.indexes.remove_address(address_number(entry.finding()));
         Some(entry.into_finding())
-    }
-
-    /// The least path of an entry at or below a path.
-    fn first_at(&self, path: &PortPath) -> Option<PortPath>
-        ensures some { IfSome result (λ first. is_at_or_below first path.now ≡ true) }
-        ensures found { IfSome result (λ first. is_some (lookup (is_at (path_cmp first)) self.now) ≡ true) }
-        ensures none { IfNone result (has_at path.now self.now ≡ false) }
-    {
-        'entries: for (entry, _) in self.entries.iter() {
-            if is_at_or_below(entry, path) {
-                return Some(entry.duplicate());
-            }
-        }
-        None
     }
 
     /// A second table's worth of entries, by rising path.
@@ -104,8 +120,9 @@ impl DeviceTable {
         ensures rising { Rises self.now }
     {
         let mut entries = Vec::new(alloc);
-        'entries: for (path, entry) in self.entries.iter() {
-            entries.push((path.duplicate(), entry.finding().try_clone(alloc)?))?;
+        'entries: for (path, key) in self.indexes.by_path.iter() {
+            let finding = self.entries[*key].finding();
+            entries.push((path.duplicate(), finding.try_clone(alloc)?))?;
         }
         Ok(entries)
     }
@@ -118,8 +135,8 @@ impl DeviceTable {
         let Some(hub) = path.parent() else {
             return Some(root_port(path.port()));
         };
-        let entry = self.entries.get(&hub)?;
-        port_of_finding(entry.finding(), is_below_hub(&hub), path.port())
+        let finding = self.get(&hub)?;
+        port_of_finding(finding, is_below_hub(&hub), path.port())
     }
 
     /// The least path of an accepted hub after the last one, or of all.
@@ -143,8 +160,8 @@ impl DeviceTable {
         ensures some { IfSome result (IsNext (fits kind) (option_copied last.entry) self.now) }
         ensures none { IfNone result (IsLast (fits kind) (option_copied last.entry) self.now) }
     {
-        'entries: for (path, entry) in self.entries.iter() {
-            if is_after(last, path) && fits(kind, entry.finding()) {
+        'entries: for (path, key) in self.indexes.by_path.iter() {
+            if is_after(last, path) && fits(kind, self.entries[*key].finding()) {
                 return Some(path.duplicate());
             }
         }
@@ -156,7 +173,7 @@ impl DeviceTable {
     /// # Errors
     ///
     /// Those of `InterruptPipe::poll`.
-    #[tactic(auto, using(std::proofs::lemmas::Map::Steps::set_value_same))]
+    #[tactic(auto, using(crate::proofs::Keys::same_slot, crate::proofs::Keys::found_at, crate::proofs::Keys::none_at))]
     pub fn poll<B: Bus>(
         &mut self,
         bus: &mut B,
@@ -164,11 +181,11 @@ impl DeviceTable {
     ) -> Result<Option<ArrayVec<u8, 64>>, PipeFault>
         ensures same { self.new ≡ self.old }
         ensures count { Spends 768 (B.world bus.old) (B.world bus.new) }
-        ensures ends { MatchResult result (λ got. IfSome got (λ _. Worked 1 (B.world bus.old) (B.world bus.new))) (λ fault. Faults 0 (B.world bus.old) fault (B.world bus.new)) }
+        ensures ends { PollEnds (B.world bus.old) result (B.world bus.new) }
         ensures polled { Polled (device_at hub.now self.old) (B.world bus.old) result (B.world bus.new) }
     {
-        match self.entries.get_mut(hub) {
-            Some(entry) => entry.poll(bus),
+        match self.indexes.by_path.get(hub) {
+            Some(key) => self.entries[*key].poll(bus),
             None => Ok(None),
         }
     }
@@ -179,7 +196,7 @@ impl DeviceTable {
     ///
     /// `NoDevice` where no accepted device stands there, `NoEndpoint` where it is a hub, is at low
     /// speed or has no bulk OUT endpoint; `Pipe` with those of `BulkPipe::send`.
-    #[tactic(auto, using(std::proofs::lemmas::Map::Steps::set_value_same))]
+    #[tactic(auto, using(crate::proofs::Keys::same_slot, crate::proofs::Keys::found_at, crate::proofs::Keys::none_at))]
     pub fn send<B: Bus>(
         &mut self,
         bus: &mut B,
@@ -191,8 +208,8 @@ impl DeviceTable {
         ensures told { IfErr result (λ fault. FaultTold fault (B.world bus.new)) }
         ensures sent { Sent (device_at path.now self.old) bytes.now (B.world bus.old) result (B.world bus.new) }
     {
-        match self.entries.get_mut(path) {
-            Some(entry) => entry.send(bus, bytes),
+        match self.indexes.by_path.get(path) {
+            Some(key) => self.entries[*key].send(bus, bytes),
             None => Err(EndpointFault::NoDevice),
         }
     }
@@ -204,7 +221,7 @@ impl DeviceTable {
     ///
     /// `NoDevice` where no accepted device stands there, `NoEndpoint` where it is a hub, is at low
     /// speed or has no bulk IN endpoint; `Pipe` with those of `BulkPipe::receive`.
-    #[tactic(auto, using(std::proofs::lemmas::Map::Steps::set_value_same))]
+    #[tactic(auto, using(crate::proofs::Keys::same_slot, crate::proofs::Keys::found_at, crate::proofs::Keys::none_at))]
     pub fn receive<B: Bus>(
         &mut self,
         alloc: Global,
@@ -217,8 +234,8 @@ impl DeviceTable {
         ensures told { IfErr result (λ fault. FaultTold fault (B.world bus.new)) }
         ensures received { Received (device_at path.now self.old) packets (B.world bus.old) result (B.world bus.new) }
     {
-        match self.entries.get_mut(path) {
-            Some(entry) => entry.receive(alloc, bus, packets),
+        match self.indexes.by_path.get(path) {
+            Some(key) => self.entries[*key].receive(alloc, bus, packets),
             None => Err(EndpointFault::NoDevice),
         }
     }
@@ -230,23 +247,16 @@ impl DeviceTable {
     ///
     /// `NoDevice` where no accepted device stands there, `NoEndpoint` where it is a hub, is at low
     /// speed or has no bulk endpoint; `Pipe` with those of `BulkPipe::clear_halt`.
-    #[tactic(auto, using(std::proofs::lemmas::Map::Steps::set_value_same))]
+    #[tactic(auto, using(crate::proofs::Keys::same_slot, crate::proofs::Keys::found_at, crate::proofs::Keys::none_at))]
     pub fn clear_halt<B: Bus>(&mut self, bus: &mut B, path: &PortPath) -> Result<(), EndpointFault>
         ensures same { self.new ≡ self.old }
         ensures count { Spends 3200 (B.world bus.old) (B.world bus.new) }
         ensures told { IfErr result (λ fault. FaultTold fault (B.world bus.new)) }
         ensures cleared { Cleared (device_at path.now self.old) (B.world bus.old) result (B.world bus.new) }
     {
-        match self.entries.get_mut(path) {
-            Some(entry) => entry.clear_halt(bus),
+        match self.indexes.by_path.get(path) {
+            Some(key) => self.entries[*key].clear_halt(bus),
             None => Err(EndpointFault::NoDevice),
         }
     }
-}
-
-/// Whether a path is the other or goes on from it.
-fn is_at_or_below(path: &PortPath, above: &PortPath) -> bool
-    ensures { result ≡ is_at_or_below path.now above.now }
-{
-    path == above || path.is_below(above)
 }

@@ -1,0 +1,135 @@
+-- Entries that come and go under their keys.
+use Rattle.std.proofs.Common.{◌≡◌, ◌≢◌, ◌∙◌, refl, sym, ap, subst, inl, inr, true, false, Bool, ℕ, cond, List, [], ◌∷◌, Option, Some, None, All, set}
+use Rattle.std.specs.Prelude.{◌⊎◌, ◌||◌, ◌==◌, IsSome, IfSome, unwrap_or}
+use Rattle.std.specs.Map.{lookup, keys_of, values_of, remove_entry}
+use Rattle.std.specs.BTreeMap.{is_at, insert_entry}
+use Rattle.std.specs.List.{list_any}
+use Rattle.std.specs.List.Sorted.{IsStrictlySortedBy}
+use Rattle.std.specs.Option.{option_map}
+use Rattle.std.specs.Ordering.{nat_cmp, is_eq, match_ordering}
+use Rattle.std.specs.Cmp.{eq_by_cmp_equiv, nat_cmp_total, unsigned_tied}
+use Rattle.std.specs.Cmp.Lexicographic.{nat_list_cmp_total}
+use Rattle.std.specs.declared.cmp.Ordering.{Ordering}
+use Rattle.std.specs.declared.cmp.Ordering.TheVariants.{Less, Equal, Greater}
+use Rattle.std.proofs.lemmas.Bool.{eqb-true, eq-eqb}
+use Rattle.std.proofs.lemmas.List.{set-get_or}
+use Rattle.std.proofs.lemmas.List.Elements.{All-head, All-tail}
+use Rattle.std.proofs.lemmas.Map.Keys.{IsDistinct-from_sorted}
+use Rattle.std.proofs.lemmas.Map.Made.{lookup-map_values}
+use Rattle.std.proofs.lemmas.Map.Views.{All-values_from_lookup}
+use Rattle.slab.specs.Slab.{Slab, get, with_value}
+use Rattle.usb_port.specs.Order.{path_cmp}
+use Rattle.usb_enum.specs.declared.cause.Cause.TheVariants.{Silent}
+use Rattle.usb_enum.specs.declared.finding.Finding.{Finding}
+use Rattle.usb_enum.specs.declared.finding.Finding.TheVariants.{Refused}
+use Rattle.usb_table.specs.Entries.{Entries, Rises, has_at, is_at_or_below}
+use Rattle.usb_table.specs.Keys.{Slots, PathKeys, AddressKeys, key_of_path, key_of_address, finding_under, entries_of, address_in, with_address, without_address}
+
+-- Tests of keys
+
+pub number_tied : (x y : ℕ) → is_at (nat_cmp x) y ≡ true → x ≡ y
+number_tied x y tie = eqb-true x y (sym (unsigned_tied x y) ∙ tie)
+
+pub number_itself : (x : ℕ) → is_at (nat_cmp x) x ≡ true
+number_itself x = (eq_by_cmp_equiv nat_cmp_total).refl x
+
+same_or_not_by : (x y : ℕ) (b : Bool) → (x == y) ≡ b → (x ≡ y) ⊎ (x ≢ y)
+same_or_not_by x y true e = inl (eqb-true x y e)
+same_or_not_by x y false e = inr (λ h. let t : (x == y) ≡ true = eq-eqb x y h in absurd (cc (t, e)))
+
+pub same_or_not : (x y : ℕ) → (x ≡ y) ⊎ (x ≢ y)
+same_or_not x y = same_or_not_by x y (x == y) refl
+
+-- A value written back under its key changes nothing
+
+pub same_slot : {T : Type 0} (s : Slab T) (key : ℕ) (value : T) → get s key ≡ Some value → with_value s key value ≡ s
+same_slot s key value is = ap (λ slots. record s { slots = slots }) (ap (λ v. set s.slots key v) (sym is) ∙ set-get_or s.slots key None)
+
+-- What the entries show of the keys
+
+pub entries-lookup : (found : Slots) (path : List ℕ) (paths : PathKeys) → lookup (is_at (path_cmp path)) (entries_of found paths) ≡ option_map (finding_under found) (key_of_path paths path)
+entries-lookup found path paths = lookup-map_values (finding_under found) (is_at (path_cmp path)) paths
+
+pub found_at : (found : Slots) (path : List ℕ) (paths : PathKeys) (key : ℕ) (finding : Finding) → key_of_path paths path ≡ Some key → found key ≡ Some finding → lookup (is_at (path_cmp path)) (entries_of found paths) ≡ Some finding
+found_at found path paths key finding is stands = entries-lookup found path paths ∙ ap (option_map (finding_under found)) is ∙ ap (λ f. Some (unwrap_or f (Refused Silent))) stands
+
+pub under : (found : Slots) (key : ℕ) (finding : Finding) → found key ≡ Some finding → finding_under found key ≡ finding
+under found key finding stands = ap (λ f. unwrap_or f (Refused Silent)) stands
+
+pub none_at : (found : Slots) (path : List ℕ) (paths : PathKeys) → key_of_path paths path ≡ None → lookup (is_at (path_cmp path)) (entries_of found paths) ≡ None
+none_at found path paths is = entries-lookup found path paths ∙ ap (option_map (finding_under found)) is
+
+pub entries-keys : (found : Slots) (paths : PathKeys) → keys_of (entries_of found paths) ≡ keys_of paths
+entries-keys found [] = refl
+entries-keys found (e ∷ es) = ap (λ ks. e.0 ∷ ks) (entries-keys found es)
+
+pub entries_rise : (found : Slots) (paths : PathKeys) (entries : Entries) → entries_of found paths ≡ entries → IsStrictlySortedBy path_cmp (keys_of paths) → Rises entries
+entries_rise found paths entries is rises = subst Rises is (rw (entries-keys found paths) rises)
+
+pub entries-has_at : (found : Slots) (path : List ℕ) (paths : PathKeys) → has_at path (entries_of found paths) ≡ list_any (λ e. is_at_or_below e.0 path) paths
+entries-has_at found path [] = refl
+entries-has_at found path (e ∷ es) = ap (λ b. is_at_or_below e.0 path || b) (entries-has_at found path es)
+
+pub entries-remove : (found : Slots) (test : List ℕ → Bool) (paths : PathKeys) → entries_of found (remove_entry test paths) ≡ remove_entry test (entries_of found paths)
+entries-remove found test [] = refl
+entries-remove found test (e ∷ es) =
+    (elim (test e.0) as (λ b. entries_of found (cond b es (e ∷ remove_entry test es)) ≡ cond b (entries_of found es) ((e.0, finding_under found e.1) ∷ remove_entry test (entries_of found es))) [
+      | true ↦ refl
+      | false ↦ ap (λ l. (e.0, finding_under found e.1) ∷ l) (entries-remove found test es)
+    ])
+
+pub entries-insert : (found : Slots) (path : List ℕ) (key : ℕ) (paths : PathKeys) → entries_of found (insert_entry path_cmp paths path key) ≡ insert_entry path_cmp (entries_of found paths) path (finding_under found key)
+entries-insert found path key [] = refl
+entries-insert found path key (e ∷ es) =
+    (elim (path_cmp path e.0) as (λ o. entries_of found (match_ordering o ((path, key) ∷ e ∷ es) ((e.0, key) ∷ es) (e ∷ insert_entry path_cmp es path key)) ≡ match_ordering o ((path, finding_under found key) ∷ (e.0, finding_under found e.1) ∷ entries_of found es) ((e.0, finding_under found key) ∷ entries_of found es) ((e.0, finding_under found e.1) ∷ insert_entry path_cmp (entries_of found es) path (finding_under found key))) [
+      | Less ↦ refl
+      | Equal ↦ refl
+      | Greater ↦ ap (λ l. (e.0, finding_under found e.1) ∷ l) (entries-insert found path key es)
+    ])
+
+-- slots that agree on the keys show the same entries
+entries-agree : (old new : Slots) (paths : PathKeys) → All (λ k. new k ≡ old k) (values_of paths) → entries_of new paths ≡ entries_of old paths
+entries-agree old new [] all = refl
+entries-agree old new (e ∷ es) all =
+    let head : new e.1 ≡ old e.1 = All-head (λ k. new k ≡ old k) e.1 (values_of es) all in
+    let tail = entries-agree old new es (All-tail (λ k. new k ≡ old k) e.1 (values_of es) all) in
+    ap (λ f. (e.0, unwrap_or f (Refused Silent)) ∷ entries_of new es) head ∙ ap (λ l. (e.0, finding_under old e.1) ∷ l) tail
+
+if_some : {P : ℕ → Type 0} (slot : Option ℕ) → ((key : ℕ) → slot ≡ Some key → P key) → IfSome slot P
+if_some None each = tt
+if_some (Some key) each = each key refl
+
+pub agree : (old new : Slots) (paths : PathKeys) → IsStrictlySortedBy path_cmp (keys_of paths) → ((path : List ℕ) (key : ℕ) → key_of_path paths path ≡ Some key → new key ≡ old key) → entries_of new paths ≡ entries_of old paths
+agree old new paths rises each =
+    entries-agree old new paths
+    (All-values_from_lookup (eq_by_cmp_equiv nat_list_cmp_total) (λ k. new k ≡ old k) paths (IsDistinct-from_sorted path_cmp (keys_of paths) rises) (λ q. if_some (key_of_path paths q) (each q)))
+
+-- What is entered can be taken back
+
+back_step : (address key : ℕ) (e : ℕ × ℕ) (es : AddressKeys) → is_at (nat_cmp address) e.0 ≡ false → remove_entry (is_at (nat_cmp address)) (insert_entry nat_cmp es address key) ≡ es
+    → (o : Ordering) → nat_cmp address e.0 ≡ o → remove_entry (is_at (nat_cmp address)) (match_ordering o ((address, key) ∷ e ∷ es) ((e.0, key) ∷ es) (e ∷ insert_entry nat_cmp es address key)) ≡ e ∷ es
+back_step address key e es apart more Less is = rw (number_itself address) refl
+back_step address key e es apart more Equal is = let t : is_eq (nat_cmp address e.0) ≡ true = ap is_eq is in absurd (cc (t, apart))
+back_step address key e es apart more Greater is = rw apart (ap (λ l. e ∷ l) more)
+
+tail_none : (b : Bool) (k : ℕ) (rest : Option ℕ) → cond b (Some k) rest ≡ None → (b ≡ false) × (rest ≡ None)
+tail_none true k rest h = absurd cc
+tail_none false k rest h = (refl, h)
+
+back : (address key : ℕ) (es : AddressKeys) → key_of_address es address ≡ None → remove_entry (is_at (nat_cmp address)) (insert_entry nat_cmp es address key) ≡ es
+back address key [] none = rw (number_itself address) refl
+back address key (e ∷ es) none =
+    let parts = tail_none (is_at (nat_cmp address) e.0) e.1 (key_of_address es address) none in
+    back_step address key e es parts.0 (back address key es parts.1) (nat_cmp address e.0) refl
+
+pub taken_back : (address : Option ℕ) (key : ℕ) (es : AddressKeys) → IfSome address (λ a. key_of_address es a ≡ None) → without_address address (with_address address key es) ≡ es
+taken_back None key es free = refl
+taken_back (Some address) key es free = back address key es free
+
+pub some_address : (o : Option Finding) (a : ℕ) → address_in o ≡ Some a → IsSome o
+some_address None a h = absurd cc
+some_address (Some f) a h = refl
+
+pub none_or : (o : Option ℕ) → (o ≡ None) ⊎ ((k : ℕ) × (o ≡ Some k))
+none_or None = inl refl
+none_or (Some k) = inr (k, refl)

@@ -1,0 +1,13 @@
+-- The entry shows the same when it is written back.
+use Rattle.std.proofs.Common.{◌∙◌, sym, ap, Some}
+use Rattle.slab.specs.Slab.{Slab, get}
+use Rattle.usb_enum.specs.declared.finding.Finding.{Finding}
+use Rattle.usb_table.specs.Keys.{entries_of}
+use Rattle.usb_table.proofs.Keys.{same_slot}
+use Rattle.usb_table.proofs.table.DeviceTable.poll.Goals as goal
+
+pub returns-in-Some-clause-same : goal.returns-in-Some-clause-same
+returns-in-Some-clause-same g c =
+    let s = c.self.inside in
+    ap (λ (t : Slab Finding). entries_of (get t) s.indexes.by_path.entries) (same_slot s.entries c.in-Some.key.now c.poll.new.self (c.index_mut.ensures.value ∙ ap Some (sym c.poll.ensures.same)))
+    ∙ c.self.view_is

@@ -1,0 +1,18 @@
+-- The entry shows the same when it is written back.
+use Rattle.std.proofs.Common.{◌∙◌, sym, ap, Some}
+use Rattle.slab.specs.Slab.{Slab, get}
+use Rattle.usb_enum.specs.declared.finding.Finding.{Finding}
+use Rattle.usb_table.specs.Keys.{entries_of}
+use Rattle.usb_table.proofs.Keys.{same_slot, found_at}
+use Rattle.usb_table.proofs.table.DeviceTable.receive.Goals as goal
+
+pub returns-in-Some-clause-same : goal.returns-in-Some-clause-same
+returns-in-Some-clause-same g c =
+    let s = c.self.inside in
+    ap (λ (t : Slab Finding). entries_of (get t) s.indexes.by_path.entries) (same_slot s.entries c.in-Some.key.now c.receive.new.self (c.index_mut.ensures.value ∙ ap Some (sym c.receive.ensures.same)))
+    ∙ c.self.view_is
+
+pub returns-in-Some-clause-received : goal.returns-in-Some-clause-received
+returns-in-Some-clause-received g c =
+    let s = c.self.inside in
+    rw (← c.self.view_is, found_at (get s.entries) c.args.path.now s.indexes.by_path.entries c.in-Some.key.now c.index_mut.result.now (sym c.in-Some.ensures.value) c.index_mut.ensures.value) c.receive.ensures.received
