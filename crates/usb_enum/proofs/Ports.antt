@@ -1,18 +1,22 @@
 -- What clearing PORT_ENABLE leaves.
 use Rattle.std.proofs.Common.{◌≡◌, refl, sym, subst, arith}
-use Rattle.std.specs.Prelude.{◌-◌, List, Result, false, slice_index_or}
+use Rattle.std.specs.Prelude.{◌-◌, List, Result, Ok, Err, false, slice_index_or}
 use Rattle.std.proofs.Common.{get_or-set_same}
 use Rattle.usb_port.specs.PortState.{PortState, off, clear_row}
 use Rattle.usb_world.specs.World.{World, root_row, port_at}
 use Rattle.usb_pipe.specs.declared.fault.PipeFault.{PipeFault}
 use Rattle.usb_hub.specs.declared.port.HubPort.{HubPort}
-use Rattle.usb_hub.specs.declared.port.HubPort.TheVariants.{Root}
+use Rattle.usb_hub.specs.declared.port.HubPort.TheVariants.{Root, External}
 use Rattle.usb_hub.specs.Port.{IsPort, PortCleared}
 use Rattle.usb_enum.specs.Found.{IsDisabled}
+use Rattle.usb_enum.specs.Stop.{at_port}
 
-pub disabled : {A : Type 0} (port : HubPort) (old new : World) (result : Result A PipeFault) → IsPort old port → PortCleared port 1 old result new → IsDisabled port new
+-- where the call worked
+pub disabled : (port : HubPort) (old new : World) (result : Result (Unit {0}) PipeFault) (done : Unit {0}) → at_port result ≡ Ok done → IsPort old port → PortCleared port 1 old result new → IsDisabled port new
 unfolding clear_row port_at
-disabled (Root number) old new result is cleared =
+disabled (Root number) old new result done worked is cleared =
     let P : List PortState → Type 0 = λ row. (slice_index_or row (number - 1) off).enable ≡ false in
     let Q : PortState → Type 0 = λ p. p.enable ≡ false in
     subst P (sym cleared.row.row) (subst Q (sym (get_or-set_same (root_row old) (number - 1) _ off (omega (arith, is.0, is.1)))) refl)
+disabled (External hub port) old new (Ok tt) done worked is cleared = record { before = old; ordered = cleared }
+disabled (External hub port) old new (Err fault) done worked is cleared = absurd cc

@@ -1,6 +1,7 @@
 -- How many attempts each part of an enumeration may take.
-use Rattle.std.specs.Prelude.{ℕ, ◌+◌, ◌*◌}
+use Rattle.std.specs.Prelude.{ℕ, ◌+◌, ◌*◌, ◌≤◌, ⊤}
 use Rattle.usb_hub.specs.declared.port.HubPort.{HubPort}
+use Rattle.usb_hub.specs.declared.port.HubPort.TheVariants.{Root, External}
 use Rattle.usb_hub.specs.Port.{status_bound, order_bound}
 
 -- one transfer that reads, at a maximum packet of 8 or more, and one that reads nothing
@@ -45,3 +46,15 @@ examination_bound port = 3 * pass_bound port + configured_bound
 -- the port is disabled where the device is refused
 abbrev pub enumeration_bound : HubPort → ℕ
 enumeration_bound port = examination_bound port + order_bound port
+
+-- a port of the root, or of a hub with a maximum packet of 8 or more
+abbrev pub IsWide : HubPort → Type 0
+IsWide (Root number) = ⊤
+IsWide (External hub port) = 8 ≤ hub.max
+
+-- a pass and an enumeration where each request to the port is a transfer to a hub
+abbrev pub widest_pass : ℕ
+widest_pass = 2 * none_bound + read_bound 4 + read_bound 8 + none_bound + read_bound 18
+
+abbrev pub widest_enumeration : ℕ
+widest_enumeration = 3 * widest_pass + configured_bound + none_bound

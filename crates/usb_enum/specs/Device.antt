@@ -1,14 +1,16 @@
 -- Device descriptors, as they are read of a device.
-use Rattle.std.specs.Prelude.{◌≡◌, ◌⊎◌, ⊤, ℕ, ◌==◌, true, false, List, Bool, ◌&&◌, Option, Some, None, is_some, slice_index, Result, Ok, Err, is_ok, if◌then◌else◌}
+use Rattle.std.specs.Prelude.{◌≡◌, ◌⊎◌, ⊤, ℕ, ◌==◌, true, false, List, [], Bool, ◌&&◌, Option, Some, None, is_some, slice_index, slice_index_or, Result, Ok, Err, is_ok, if◌then◌else◌}
 use Rattle.usb_hub.specs.declared.port.HubPort.{HubPort}
 use Rattle.usb_hub.specs.declared.port.HubPort.TheVariants.{Root, External}
+use Rattle.usb_world.specs.World.{World}
 use Rattle.usb_port.specs.Path.{IsPortNumber}
 use Rattle.usb_transaction.specs.declared.target.Target.{Target}
 use Rattle.usb_descriptor.specs.Choice.{status_endpoint_of}
 use Rattle.usb_descriptor.specs.Device.{device_of, device_class, manufacturer_index, product_index, serial_index}
-use Rattle.usb_enum.specs.declared.cause.Cause.TheVariants.{BadDevice}
+use Rattle.usb_enum.specs.declared.cause.Cause.TheVariants.{BadDevice, TooDeep}
 use Rattle.usb_enum.specs.declared.finding.Accepted.{Accepted}
 use Rattle.usb_enum.specs.declared.hub.HubFacts.{HubFacts}
+use Rattle.usb_enum.specs.Hub.{Started}
 use Rattle.usb_enum.specs.declared.strings.StringIndexes.{StringIndexes}
 use Rattle.usb_enum.specs.declared.stop.Stop.{Stop}
 use Rattle.usb_enum.specs.declared.stop.Stop.TheVariants.{Refused}
@@ -32,9 +34,29 @@ needs_pre (External hub port) = true
 abbrev pub target_of : Accepted → Bool → Target
 target_of device below_hub = record { addr = device.address; max = slice_index device.bytes 7; low = device.low; pre = device.low && below_hub }
 
+-- the configuration that the device was set to
+abbrev pub configuration_of : Accepted → List ℕ
+configuration_of device = slice_index_or device.configs device.chosen []
+
 -- bDeviceClass of a hub is 9
 abbrev pub is_hub : List ℕ → Bool
 is_hub bytes = device_class bytes == 9
+
+-- a hub may not stand in the last tier
+abbrev pub fits_tier : ℕ → List ℕ → Result (Unit {0}) Stop
+fits_tier tier bytes = if is_hub bytes && tier == 7 then Err (Refused TooDeep) else Ok tt
+
+-- the facts are what the hub with this address told
+pub record HasStarted (address : ℕ) (facts : HubFacts) : Type 0 where
+  pub hub : Target
+  pub addressed : hub.addr ≡ address
+  pub before : World
+  pub after : World
+  pub started : Started hub before after facts
+
+abbrev pub IsServed : ℕ → Option HubFacts → Type 0
+IsServed address (Some facts) = HasStarted address facts
+IsServed address None = ⊤
 
 -- one to seven ports, which give what a hub's ports may
 pub record AreFacts (facts : HubFacts) : Type 0 where

@@ -1,11 +1,11 @@
 -- What an enumeration finds, and what it leaves.
-use Rattle.std.specs.Prelude.{◌≡◌, ◌⊎◌, ℕ, true, false, Some, Result, Ok, Err, MatchResult, length, slice_index}
+use Rattle.std.specs.Prelude.{◌≡◌, ◌⊎◌, ℕ, true, false, Some, Result, Ok, Err, MatchResult, length}
 use Rattle.usb_world.specs.World.{World, port_at}
 use Rattle.usb_hub.specs.declared.port.HubPort.{HubPort}
 use Rattle.usb_hub.specs.declared.port.HubPort.TheVariants.{Root, External}
 use Rattle.usb_hub.specs.Requests.{Ordered}
 use Rattle.usb_request.specs.Requests.{clear_port_feature}
-use Rattle.usb_resources.specs.Pool.{Addresses, Takes, IsFull}
+use Rattle.usb_resources.specs.Pool.{Addresses, IsAddress, Takes, IsFull}
 use Rattle.usb_descriptor.specs.Device.{configuration_count}
 use Rattle.usb_transaction.specs.declared.target.Target.{Target}
 use Rattle.usb_enum.specs.declared.cause.Cause.{Cause}
@@ -16,17 +16,19 @@ use Rattle.usb_enum.specs.declared.fault.EnumFault.{EnumFault}
 use Rattle.usb_enum.specs.declared.finding.Accepted.{Accepted}
 use Rattle.usb_enum.specs.declared.finding.Finding.{Finding}
 use Rattle.usb_enum.specs.declared.finding.Finding.TheVariants.{Device, Refused}
-use Rattle.usb_enum.specs.Device.{is_device, HasFacts}
+use Rattle.usb_enum.specs.Device.{is_device, configuration_of, HasFacts, IsServed}
 use Rattle.usb_enum.specs.Stop.{FaultAt, FitsTier}
 use Rattle.usb_enum.specs.Text.{ValuesDiffer, choice_of}
 
--- the device descriptor is good, every configuration was read, and the first that the supply allows is chosen
+-- the device has an address, its descriptor is good, every configuration was read, and the first that the supply allows is chosen
 pub record IsWhole (supply : ℕ) (device : Accepted) : Type 0 where
+  pub address : IsAddress device.address
   pub head : is_device device.low device.bytes ≡ true
   pub all : length device.configs ≡ configuration_count device.bytes
   pub differ : ValuesDiffer device.configs
   pub chosen : choice_of supply device.configs ≡ Some device.chosen
-  pub hub : HasFacts device.bytes (slice_index device.configs device.chosen) device.hub
+  pub hub : HasFacts device.bytes (configuration_of device) device.hub
+  pub served : IsServed device.address device.hub
 
 -- the last request to a hub was to clear PORT_ENABLE, and it was done
 pub record LastDisabled (hub : Target) (port : ℕ) (w : World) : Type 0 where

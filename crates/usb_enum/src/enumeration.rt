@@ -1,18 +1,18 @@
 //! The whole enumeration.
-ghost use Rattle.std.specs.Prelude.{◌≡◌, IfOk, IfErr};
+ghost use Rattle.std.specs.Prelude.{◌≡◌, IfOk, IfErr, true};
 ghost use Rattle.usb_world.specs.World.{Spends};
 ghost use Rattle.usb_hub.specs.Port.{IsPort, order_bound};
 ghost use Rattle.usb_enum.specs.Bounds.{unaddressed_bound, examination_bound, enumeration_bound, configured_bound, hub_bound};
 ghost use Rattle.usb_enum.specs.Stop.{FaultAt, ToldIn, ToldOfDevice, ToldOfHub, ToldWithout};
 ghost use Rattle.usb_enum.specs.Found.{GivesUp, IsFound, IsWhole, TakesFor};
-ghost use Rattle.usb_enum.specs.Device.{HasFacts};
+ghost use Rattle.usb_enum.specs.Device.{HasFacts, IsServed, fits_tier, is_hub};
 
 use crate::addressed::Addressed;
 use crate::configurations::{choose_configuration, read_configurations};
+use crate::hub::start_hub;
 use crate::passes::{passes, unaddressed};
 use crate::stop::{Stop, answered_or, at_port};
 use crate::strings::read_strings;
-use crate::hub::start_hub;
 use crate::{Accepted, Cause, ConfigText, EnumFault, Finding, HubFacts, Request};
 use std::alloc::Global;
 use usb_bus::Bus;
@@ -31,8 +31,9 @@ const LAST_TIER: u8 = 7;
 ///
 /// # Errors
 ///
-/// `ParentLost` where a request to the hub that has the port failed; none to a root port does. `Bus` where
-/// the bus makes no more steps. `Memory` where memory was refused. The pool is then as it was.
+/// `ParentLost` where a request to the hub that has the port failed; none to a root port does.
+/// `Bus` where the bus makes no more steps. `Memory` where memory was refused. The pool is then as
+/// it was.
 #[tactic(auto, using(crate::proofs::Counts::spends_on, usb_hub::proofs::Ports::port_stays))]
 pub fn enumerate<B: Bus>(
     alloc: Global,
@@ -111,7 +112,7 @@ fn examine<B: Bus>(
 }
 
 /// Reads and configures a device that has its address.
-#[tactic(auto, using(crate::proofs::Counts::spends_on))]
+#[tactic(auto, using(crate::proofs::Counts::spends_on, crate::proofs::Hubs::told_of_hub))]
 fn configure<B: Bus>(
     alloc: Global,
     bus: &mut B,
@@ -120,15 +121,14 @@ fn configure<B: Bus>(
     tier: u8,
     supply: u16,
 ) -> Result<Accepted, Stop>
+    requires { device.target.addr ≡ address }
     ensures spends { Spends configured_bound (B.world bus.old) (B.world bus.new) }
     ensures told { IfErr result (λ stop. ToldOfDevice tier stop (B.world bus.new)) }
     ensures address { IfOk result (λ accepted. accepted.address ≡ address) }
     ensures whole { IfOk result (λ accepted. IsWhole supply accepted) }
 {
     let target = device.target;
-    if device.is_hub() && tier == LAST_TIER {
-        return Err(Stop::Refused(Cause::TooDeep));
-    }
+    fits_tier(&device, tier)?;
     let configs = read_configurations(alloc, bus, target, device.configurations())?;
     let Some(chosen) = choose_configuration(alloc, &configs, supply)? else {
         return Err(Stop::Refused(Cause::NoPower));
@@ -149,6 +149,16 @@ fn configure<B: Bus>(
     })
 }
 
+/// Refuses a hub in the last tier.
+fn fits_tier(device: &Addressed, tier: u8) -> Result<(), Stop>
+    ensures { result ≡ fits_tier tier device.now.bytes }
+{
+    if device.is_hub() && tier == LAST_TIER {
+        return Err(Stop::Refused(Cause::TooDeep));
+    }
+    Ok(())
+}
+
 /// What a device says of its ports where it is a hub, which then have power.
 fn hub_facts<B: Bus>(
     alloc: Global,
@@ -159,6 +169,8 @@ fn hub_facts<B: Bus>(
     ensures spends { Spends hub_bound (B.world bus.old) (B.world bus.new) }
     ensures told { IfErr result (λ stop. ToldOfHub stop (B.world bus.new)) }
     ensures facts { IfOk result (λ facts. HasFacts device.now.bytes text.now facts) }
+    ensures hub { IfErr result (λ _. is_hub device.now.bytes ≡ true) }
+    ensures served { IfOk result (λ facts. IsServed device.now.target.addr facts) }
 {
     if !device.is_hub() {
         return Ok(None);

@@ -1,11 +1,9 @@
 //! What was found at a port.
-ghost use Rattle.std.specs.Prelude.{◌≡◌, ◌<◌, length, IfOk, slice_index};
-ghost use Rattle.usb_enum.specs.Device.{target_of};
+ghost use Rattle.std.specs.Prelude.{◌≡◌, ◌<◌, length, IfOk};
 
-use crate::{Cause, ConfigText, ConfigTexts, HubFacts, Strings};
+use crate::{Cause, ConfigTexts, HubFacts, Strings};
 use std::alloc::{AllocError, Global};
 use usb_resources::Address;
-use usb_transaction::Target;
 
 /// What was found at a port.
 #[derive(Drop)]
@@ -59,25 +57,5 @@ impl Accepted {
             strings: self.strings.try_clone(alloc)?,
             hub: self.hub,
         })
-    }
-
-    /// The configuration that the device was set to.
-    pub fn configuration(&self) -> &ConfigText
-        ensures { result.now ≡ slice_index self.now.configs self.now.chosen }
-    {
-        &self.configs.as_slice()[self.chosen]
-    }
-
-    /// Endpoint 0 of the device, which has its address. Below an external hub PRE goes before each
-    /// packet to a low-speed device (8.6.5).
-    pub fn target(&self, below_hub: bool) -> Target
-        ensures { result ≡ target_of self.now below_hub }
-    {
-        Target {
-            addr: self.address.number(),
-            max: self.bytes[7],
-            low: self.low,
-            pre: self.low && below_hub,
-        }
     }
 }

@@ -1,5 +1,5 @@
 //! What the host asks of a hub once it is configured, and the power of its ports (11.23, 11.24).
-ghost use Rattle.std.specs.Prelude.{◌≡◌, ◌≤◌, ◌*◌, IfOk, IfErr, is_some, true};
+ghost use Rattle.std.specs.Prelude.{◌≡◌, ◌⊎◌, ◌≤◌, ◌*◌, IfOk, IfErr, is_some, true};
 ghost use Rattle.usb_world.specs.World.{Spends};
 ghost use Rattle.usb_port.specs.Path.{IsPortNumber};
 ghost use Rattle.usb_transaction.specs.Trans.{IsTarget};
@@ -7,6 +7,7 @@ ghost use Rattle.usb_descriptor.specs.Choice.{status_endpoint_of};
 ghost use Rattle.usb_enum.specs.Bounds.{read_bound, none_bound, hub_bound};
 ghost use Rattle.usb_enum.specs.Stop.{ToldOfHub};
 ghost use Rattle.usb_enum.specs.Device.{AreFacts};
+ghost use Rattle.usb_enum.specs.Hub.{CountTold, SupplyTold, IsPowered, Powered, Started};
 
 use crate::stop::{Stop, answered_or};
 use crate::{Cause, ConfigText};
@@ -41,27 +42,26 @@ pub(crate) fn start_hub<B: Bus>(
     ensures told { IfErr result (λ stop. ToldOfHub stop (B.world bus.new)) }
     ensures facts { IfOk result AreFacts }
     ensures status { IfOk result (λ _. is_some (status_endpoint_of text.now) ≡ true) }
+    ensures started { IfOk result (Started target (B.world bus.old) (B.world bus.new)) }
 {
     if text.status_endpoint().is_none() {
         return Err(Stop::Refused(Cause::BadHub));
     }
     let ports = port_count(alloc, bus, target)?;
-    let status = answered_or(Cause::BadHub, get_status(alloc, bus, target))?;
+    let supply = port_supply(alloc, bus, target)?;
     power_ports(bus, target, ports)?;
-    Ok(HubFacts {
-        ports,
-        supply: supply(false, status.self_powered),
-    })
+    Ok(HubFacts { ports, supply })
 }
 
 /// bNbrPorts of the hub descriptor, 1 to 7.
-#[tactic(auto, using(crate::proofs::Counts::read_spends))]
+#[tactic(auto, using(crate::proofs::Counts::hub_read))]
 fn port_count<B: Bus>(alloc: Global, bus: &mut B, target: Target) -> Result<u8, Stop>
     requires target { IsTarget target }
     requires max { 8 ≤ target.max }
     ensures spends { Spends (read_bound 9) (B.world bus.old) (B.world bus.new) }
     ensures told { IfErr result (λ stop. ToldOfHub stop (B.world bus.new)) }
     ensures number { IfOk result IsPortNumber }
+    ensures count { IfOk result (CountTold target (B.world bus.old) (B.world bus.new)) }
 {
     let bytes = answered_or(Cause::BadHub, hub_descriptor(alloc, bus, target))?;
     match read_hub(bytes.as_slice()) {
@@ -70,15 +70,40 @@ fn port_count<B: Bus>(alloc: Global, bus: &mut B, target: Target) -> Result<u8, 
     }
 }
 
+/// What each port of a hub gives, in mA, by the hub's status.
+#[tactic(auto, using(crate::proofs::Hubs::hub_supply))]
+fn port_supply<B: Bus>(alloc: Global, bus: &mut B, target: Target) -> Result<u16, Stop>
+    requires target { IsTarget target }
+    requires max { 8 ≤ target.max }
+    ensures spends { Spends (read_bound 2) (B.world bus.old) (B.world bus.new) }
+    ensures told { IfErr result (λ stop. ToldOfHub stop (B.world bus.new)) }
+    ensures supply { IfOk result (λ supply. (supply ≡ 500) ⊎ (supply ≡ 100)) }
+    ensures said { IfOk result (SupplyTold target (B.world bus.old) (B.world bus.new)) }
+{
+    let status = answered_or(Cause::BadHub, get_status(alloc, bus, target))?;
+    Ok(supply(false, status.self_powered))
+}
+
 /// Gives power to the first so many ports of a hub.
 #[tactic(auto, using(crate::proofs::Counts::spends_on))]
 fn power_ports<B: Bus>(bus: &mut B, target: Target, ports: u8) -> Result<(), Stop>
     requires { IsTarget target }
     ensures spends { Spends (ports * none_bound) (B.world bus.old) (B.world bus.new) }
     ensures told { IfErr result (λ stop. ToldOfHub stop (B.world bus.new)) }
+    ensures powered { IfOk result (λ _. Powered target ports (B.world bus.old) (B.world bus.new)) }
 {
-    'ports: for port in 1..=ports {
-        answered_or(Cause::BadHub, set_hub_port(bus, target, port, PORT_POWER))?;
+    'ports: for before in 0..ports {
+        power_port(bus, target, before + 1)?;
     }
     Ok(())
+}
+
+/// Gives power to a port of a hub.
+fn power_port<B: Bus>(bus: &mut B, target: Target, port: u8) -> Result<(), Stop>
+    requires { IsTarget target }
+    ensures spends { Spends none_bound (B.world bus.old) (B.world bus.new) }
+    ensures told { IfErr result (λ stop. ToldOfHub stop (B.world bus.new)) }
+    ensures powered { IfOk result (λ _. IsPowered target port (B.world bus.old) (B.world bus.new)) }
+{
+    answered_or(Cause::BadHub, set_hub_port(bus, target, port, PORT_POWER))
 }

@@ -5,6 +5,7 @@
 mod addressed;
 mod cause;
 mod configurations;
+mod configured;
 mod enumeration;
 mod fault;
 mod finding;

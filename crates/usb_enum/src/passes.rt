@@ -156,7 +156,7 @@ fn pass<B: Bus>(
 
 /// At most three passes: a device that missed the end of SET_ADDRESS is reset, and given the same
 /// address again.
-#[tactic(auto, using(crate::proofs::Counts::spends_on))]
+#[tactic(auto, using(crate::proofs::Counts::spends_times, usb_hub::proofs::Ports::port_stays))]
 pub(crate) fn passes<B: Bus>(
     alloc: Global,
     bus: &mut B,

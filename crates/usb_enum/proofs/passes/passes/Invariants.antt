@@ -4,4 +4,4 @@ use Rattle.usb_enum.specs.Bounds.{pass_bound}
 use Rattle.usb_enum.proofs.passes.passes.Given as goal
 
 abbrev pub invariant-loop-pass : goal.invariant-loop-pass
-invariant-loop-pass g l = Spends (l._pass * pass_bound) (g.B.Bus.world l.initial.bus) (g.B.Bus.world l.bus)
+invariant-loop-pass g l = Spends (l._pass * pass_bound l.port) (g.B.Bus.world l.initial.bus) (g.B.Bus.world l.bus)

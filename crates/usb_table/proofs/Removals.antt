@@ -7,7 +7,7 @@ use Rattle.std.specs.Map.{lookup, remove_entry}
 use Rattle.std.specs.BTreeMap.{is_at}
 use Rattle.usb_port.specs.Order.{path_cmp}
 use Rattle.usb_enum.specs.declared.finding.Finding.{Finding}
-use Rattle.usb_host.specs.Entries.{Entries, TakesOut, has_at, is_at_or_below, without}
+use Rattle.usb_table.specs.Entries.{Entries, TakesOut, has_at, is_at_or_below, without}
 
 length_without : (test : List ℕ → Bool) (es : Entries) (v : Finding) → lookup test es ≡ Some v → length (remove_entry test es) + 1 ≡ length es
 length_without test [] v h = absurd cc

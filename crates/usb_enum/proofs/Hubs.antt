@@ -1,0 +1,68 @@
+-- What a hub tells, and what its refusal means.
+use Rattle.std.proofs.Common.{◌≡◌, ◌≢◌, ◌⊎◌, ◌∙◌, inl, inr, refl, sym, ap, add-one}
+use Rattle.std.specs.Prelude.{ℕ, ◌+◌, List, Bool, true, false, ◌&&◌, ◌==◌, Result, Ok, Err, if◌then◌else◌}
+use Rattle.usb_world.specs.World.{World}
+use Rattle.usb_transaction.specs.declared.target.Target.{Target}
+use Rattle.usb_pipe.specs.declared.fault.PipeFault.{PipeFault}
+use Rattle.std.specs.Global.{Vec}
+use Rattle.usb_request.specs.Requests.{get_hub_descriptor}
+use Rattle.usb_hub.specs.Requests.{Asked}
+use Rattle.usb_descriptor.specs.Hub.{hub_of, port_count}
+use Rattle.usb_resources.specs.Power.{supply_of}
+use Rattle.usb_enum.specs.declared.cause.Cause.{Cause}
+use Rattle.usb_enum.specs.declared.cause.Cause.TheVariants as cause
+use Rattle.usb_enum.specs.declared.stop.Stop.{Stop}
+use Rattle.usb_enum.specs.declared.stop.Stop.TheVariants.{Refused, Fault}
+use Rattle.usb_enum.specs.Device.{is_hub, fits_tier}
+use Rattle.usb_enum.specs.Hub.{CountTold, IsPowered, Powered}
+use Rattle.usb_enum.specs.Stop.{FitsTier, IsPlain, ToldOfHub, ToldOfDevice, answered_or}
+
+-- what a port of a hub gives
+pub hub_supply : (self_powered : Bool) → (supply_of false self_powered ≡ 500) ⊎ (supply_of false self_powered ≡ 100)
+unfolding supply_of
+hub_supply true = inl refl
+hub_supply false = inr refl
+
+plain_fits : (tier : ℕ) (why : Cause) → IsPlain why → FitsTier tier why
+plain_fits tier cause.Silent plain = plain
+plain_fits tier cause.Busy plain = plain
+plain_fits tier (cause.Stalled request) plain = plain
+plain_fits tier cause.BadDevice plain = plain
+plain_fits tier cause.TooDeep plain = absurd plain
+plain_fits tier (cause.BadConfiguration index) plain = plain
+plain_fits tier cause.NoPower plain = plain
+plain_fits tier cause.BadHub plain = absurd plain
+plain_fits tier cause.Lost plain = plain
+plain_fits tier cause.NoAddress plain = plain
+
+not_last_by : (hub : Bool) (tier : ℕ) (done : Unit {0}) → hub ≡ true → (if hub && tier == 7 then Err (Refused cause.TooDeep) else Ok done) ≡ Ok done → tier ≢ 7
+not_last_by true tier done is fits e = let last = rw e at fits in absurd cc
+not_last_by false tier done is fits e = absurd cc
+
+-- a hub that fits its tier is not in the last
+not_last : (tier : ℕ) (bytes : List ℕ) → is_hub bytes ≡ true → fits_tier tier bytes ≡ Ok tt → tier ≢ 7
+not_last tier bytes = not_last_by (is_hub bytes) tier tt
+
+pub told_of_hub : (tier : ℕ) (bytes : List ℕ) (stop : Stop) (w : World) → fits_tier tier bytes ≡ Ok tt → is_hub bytes ≡ true → ToldOfHub stop w → ToldOfDevice tier stop w
+told_of_hub tier bytes (Refused why) w fits is (inl e) = rw e (not_last tier bytes is fits)
+told_of_hub tier bytes (Refused why) w fits is (inr plain) = plain_fits tier why plain
+told_of_hub tier bytes (Fault fault) w fits is told = told
+
+-- what was answered
+pub answered_ok : {X : Type 0} (stalled : Cause) (outcome : Result X PipeFault) (answer : X) → answered_or stalled outcome ≡ Ok answer → outcome ≡ Ok answer
+answered_ok stalled (Ok given) answer is = cc
+answered_ok stalled (Err fault) answer is = absurd cc
+
+-- the descriptor that a hub told
+pub count_told : (hub : Target) (stalled : Cause) (outcome : Result (Vec ℕ) PipeFault) (bytes : Vec ℕ) (view : List ℕ) (old new : World) → answered_or stalled outcome ≡ Ok bytes → Asked hub get_hub_descriptor old outcome new → Ok view ≡ hub_of bytes.items → view ≡ bytes.items → CountTold hub old new (port_count view)
+count_told hub stalled outcome bytes view old new answered asked good same = record {
+  bytes = bytes;
+  asked = rw (answered_ok stalled outcome bytes answered) at asked;
+  good = sym good ∙ ap Ok same;
+  said = ap port_count same;
+}
+
+-- one port more
+pub powered_more : (hub : Target) (n : ℕ) (old between new : World) → Powered hub n old between → IsPowered hub (n + 1) between new → Powered hub (n + 1) old new
+powered_more hub n old between new before now =
+    rw (add-one n) (between, (before, rw (add-one n) at now))

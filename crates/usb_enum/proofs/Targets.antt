@@ -1,0 +1,80 @@
+-- Endpoint 0 of a device that was enumerated, and the most attempts of an enumeration.
+use Rattle.std.proofs.Common.{◌≡◌, refl, arith}
+use Rattle.std.proofs.lemmas.Bool.Decides.{nat_tests}
+use Rattle.std.specs.Prelude.{ℕ, ◌≤◌, ◌==◌, List, length, nat_lt, Bool, true, false, ◌&&◌, not, Result, Ok, Err, is_ok, if◌then◌else◌, slice_index}
+use Rattle.usb_transaction.specs.Trans.{IsTarget}
+use Rattle.usb_descriptor.specs.declared.fault.DescriptorFault.{DescriptorFault}
+use Rattle.usb_descriptor.specs.declared.fault.DescriptorFault.TheVariants.{Short, WrongType, Length, MaxPacket}
+use Rattle.usb_descriptor.specs.Device.{is_max_packet, device_after, device_head_of, device_of}
+use Rattle.usb_hub.specs.declared.port.HubPort.{HubPort}
+use Rattle.usb_hub.specs.declared.port.HubPort.TheVariants.{Root, External}
+use Rattle.usb_hub.specs.Port.{status_bound, order_bound}
+use Rattle.usb_pipe.proofs.Bounds.{bound_wide}
+use Rattle.usb_enum.specs.declared.finding.Accepted.{Accepted}
+use Rattle.usb_enum.specs.Bounds.{IsWide, read_bound, none_bound, enumeration_bound, widest_enumeration}
+use Rattle.usb_enum.specs.Device.{is_device, target_of}
+use Rattle.usb_enum.specs.Found.{IsWhole}
+
+head_ok : (a b c good : Bool) (n : ℕ) → is_ok (if a then Err Short else (if b then Err WrongType else (if c then Err Length else (if not good then Err MaxPacket else Ok n)))) ≡ true → good ≡ true
+head_ok true b c good n h = absurd cc
+head_ok false true c good n h = absurd cc
+head_ok false false true good n h = absurd cc
+head_ok false false false true n h = refl
+head_ok false false false false n h = absurd cc
+
+head_maximum : (low : Bool) (bytes : List ℕ) → is_ok (device_head_of low bytes) ≡ true → is_max_packet low (slice_index bytes 7) ≡ true
+unfolding device_head_of
+head_maximum low bytes h = head_ok (nat_lt (length bytes) 8) (not (slice_index bytes 1 == 1)) (not (slice_index bytes 0 == 18)) (is_max_packet low (slice_index bytes 7)) (slice_index bytes 7) h
+
+ok_long : (short : Bool) (rest : Result (List ℕ) DescriptorFault) → is_ok (if short then Err Short else rest) ≡ true → is_ok rest ≡ true
+ok_long true rest h = absurd cc
+ok_long false rest h = h
+
+ok_after : (head : Result ℕ DescriptorFault) (bytes : List ℕ) → is_ok (device_after head bytes) ≡ true → is_ok head ≡ true
+ok_after (Ok max) bytes h = refl
+ok_after (Err why) bytes h = absurd cc
+
+device_maximum : (low : Bool) (bytes : List ℕ) → is_device low bytes ≡ true → is_max_packet low (slice_index bytes 7) ≡ true
+unfolding device_of
+device_maximum low bytes h =
+    let head = device_head_of low bytes in
+    head_maximum low bytes (ok_after head bytes (ok_long (nat_lt (length bytes) 18) (device_after head bytes) h))
+
+maximum_fits : (low : Bool) (n : ℕ) → is_max_packet low n ≡ true → (8 ≤ n) × (n ≤ 64)
+maximum_fits true n h = grind (arith, nat_tests, h)
+maximum_fits false n h = grind (arith, nat_tests, h)
+
+-- bMaxPacketSize0 of a device
+pub device_fits : (low : Bool) (bytes : List ℕ) → is_device low bytes ≡ true → (8 ≤ slice_index bytes 7) × (slice_index bytes 7 ≤ 64)
+device_fits low bytes h = maximum_fits low (slice_index bytes 7) (device_maximum low bytes h)
+
+both_first : (a b : Bool) → a && b ≡ true → a ≡ true
+both_first true b h = refl
+both_first false b h = absurd cc
+
+-- an enumerated device can be spoken to, and in packets of 8 bytes or more
+pub target_fits : (supply : ℕ) (device : Accepted) (below_hub : Bool) → IsWhole supply device → IsTarget (target_of device below_hub)
+target_fits supply device below_hub whole =
+    let fits = device_fits device.low device.bytes whole.head in
+    record {
+      addr_fits = whole.address.1;
+      max_least = omega (arith, fits.0);
+      max_most = fits.1;
+      pre_low = both_first device.low below_hub;
+    }
+
+pub target_wide : (supply : ℕ) (device : Accepted) (below_hub : Bool) → IsWhole supply device → 8 ≤ (target_of device below_hub).max
+target_wide supply device below_hub whole = (device_fits device.low device.bytes whole.head).0
+
+-- a status, an order and an enumeration take no more
+pub status_most : (port : HubPort) → IsWide port → status_bound port ≤ read_bound 4
+status_most (Root number) wide = omega arith
+status_most (External hub port) wide = rw (bound_wide hub.max 4 wide) (omega arith)
+
+pub order_most : (port : HubPort) → order_bound port ≤ none_bound
+order_most (Root number) = omega arith
+order_most (External hub port) = omega arith
+
+pub enumeration_most : (port : HubPort) → IsWide port → enumeration_bound port ≤ widest_enumeration
+enumeration_most (Root number) wide = omega arith
+enumeration_most (External hub port) wide = rw (bound_wide hub.max 4 wide) (omega arith)

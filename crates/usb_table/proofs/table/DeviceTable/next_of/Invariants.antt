@@ -1,0 +1,8 @@
+use Rattle.std.proofs.Common.{◌≡◌}
+use Rattle.std.specs.Prelude.{option_copied}
+use Rattle.usb_table.specs.Kinds.{fits}
+use Rattle.usb_table.proofs.Nexts.{first_from}
+use Rattle.usb_table.proofs.table.DeviceTable.next_of.Given as goal
+
+abbrev pub invariant-entries : goal.invariant-entries
+invariant-entries l = first_from (fits l.kind) (option_copied l.last) l.path-iterator ≡ first_from (fits l.kind) (option_copied l.last) l.self

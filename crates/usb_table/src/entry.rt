@@ -1,0 +1,119 @@
+//! What stands at a port, with the host's pipes to it.
+ghost use Rattle.std.specs.Prelude.{◌≡◌, ◌*◌, length, Some, IfSome, IfErr, MatchResult};
+ghost use Rattle.usb_world.specs.World.{Spends};
+ghost use Rattle.usb_pipe.specs.Control.{Faults};
+ghost use Rattle.usb_transaction.specs.Trans.{Worked};
+ghost use Rattle.usb_table.specs.Findings.{IsSound, device_of};
+ghost use Rattle.usb_table.specs.Transfers.{FaultTold, Polled, Sent, Received, Cleared};
+
+use crate::EndpointFault;
+use crate::pipes::{Pipes, pipes_to, receive_through, send_through};
+use arrayvec::ArrayVec;
+use std::alloc::Global;
+use std::marker::Model;
+use usb_bus::Bus;
+use usb_enum::Finding;
+use usb_pipe::PipeFault;
+
+/// What was found at a port, with the host's pipes to it.
+#[derive(Drop)]
+pub(crate) struct Entry {
+    finding: Finding,
+    pipes: Pipes,
+}
+
+impl Model for Entry {
+    ghost use Rattle.usb_enum.specs.declared.finding.Finding.{Finding};
+
+    ghost Value = { Finding };
+
+    ghost use Rattle.usb_table.specs.Findings.{IsSound};
+    ghost use Rattle.usb_table.specs.Pipes.{ArePipesOf};
+
+    ghost view = { λ e. e.finding };
+
+    ghost invariant = { λ e. IsSound e.finding × ArePipesOf e.finding e.pipes };
+}
+
+impl Entry {
+    /// What was just found, with new pipes.
+    pub fn new(finding: Finding, below_hub: bool) -> Entry
+        requires { IsSound finding }
+        ensures { result ≡ finding }
+    {
+        let pipes = match &finding {
+            Finding::Device(device) => pipes_to(device, below_hub),
+            Finding::Refused(_) => Pipes::Absent,
+        };
+        Entry { finding, pipes }
+    }
+
+    pub fn finding(&self) -> &Finding
+        ensures value { result.now ≡ self.now }
+        ensures sound { IsSound self.now }
+    {
+        &self.finding
+    }
+
+    pub fn into_finding(self) -> Finding
+        ensures { result ≡ self }
+    {
+        let Entry { finding, pipes: _ } = self;
+        finding
+    }
+
+    /// Asks a hub's status endpoint once; `None` of anything else.
+    pub fn poll<B: Bus>(&mut self, bus: &mut B) -> Result<Option<ArrayVec<u8, 64>>, PipeFault>
+        ensures same { self.new ≡ self.old }
+        ensures count { Spends 768 (B.world bus.old) (B.world bus.new) }
+        ensures ends { MatchResult result (λ got. IfSome got (λ _. Worked 1 (B.world bus.old) (B.world bus.new))) (λ fault. Faults 0 (B.world bus.old) fault (B.world bus.new)) }
+        ensures polled { Polled (device_of (Some self.old)) (B.world bus.old) result (B.world bus.new) }
+    {
+        match &mut self.pipes {
+            Pipes::Hub(pipe) => pipe.poll(bus),
+            Pipes::Function(_) | Pipes::Absent => Ok(None),
+        }
+    }
+
+    /// Sends bytes to a function's bulk OUT endpoint.
+    pub fn send<B: Bus>(&mut self, bus: &mut B, bytes: &[u8]) -> Result<(), EndpointFault>
+        ensures same { self.new ≡ self.old }
+        ensures sent { Sent (device_of (Some self.old)) bytes.now (B.world bus.old) result (B.world bus.new) }
+    {
+        match &mut self.pipes {
+            Pipes::Function(pipes) => send_through(&mut pipes.out, bus, bytes),
+            Pipes::Hub(_) => Err(EndpointFault::NoEndpoint),
+            Pipes::Absent => Err(EndpointFault::NoDevice),
+        }
+    }
+
+    /// Receives packets from a function's bulk IN endpoint.
+    pub fn receive<B: Bus>(
+        &mut self,
+        alloc: Global,
+        bus: &mut B,
+        packets: u16,
+    ) -> Result<Vec<u8>, EndpointFault>
+        ensures same { self.new ≡ self.old }
+        ensures received { Received (device_of (Some self.old)) packets (B.world bus.old) result (B.world bus.new) }
+    {
+        match &mut self.pipes {
+            Pipes::Function(pipes) => receive_through(&mut pipes.into, alloc, bus, packets),
+            Pipes::Hub(_) => Err(EndpointFault::NoEndpoint),
+            Pipes::Absent => Err(EndpointFault::NoDevice),
+        }
+    }
+
+    /// Clears the halts of a function's bulk endpoints.
+    pub fn clear_halt<B: Bus>(&mut self, bus: &mut B) -> Result<(), EndpointFault>
+        ensures same { self.new ≡ self.old }
+        ensures count { Spends 3200 (B.world bus.old) (B.world bus.new) }
+        ensures cleared { Cleared (device_of (Some self.old)) (B.world bus.old) result (B.world bus.new) }
+    {
+        match &mut self.pipes {
+            Pipes::Function(pipes) => pipes.clear_halt(bus),
+            Pipes::Hub(_) => Err(EndpointFault::NoEndpoint),
+            Pipes::Absent => Err(EndpointFault::NoDevice),
+        }
+    }
+}

@@ -1,0 +1,36 @@
+//! What findings are told apart by.
+ghost use Rattle.std.specs.Prelude.{◌≡◌};
+ghost use Rattle.usb_table.specs.Findings.{address_of, is_hub, is_waiting};
+
+use usb_enum::{Cause, Finding};
+use usb_resources::Address;
+
+/// The address of a device that was found.
+pub fn address_of(finding: &Finding) -> Option<Address>
+    ensures { result ≡ address_of finding.now }
+{
+    match finding {
+        Finding::Device(device) => Some(device.address),
+        Finding::Refused(_) => None,
+    }
+}
+
+/// Whether it is an accepted hub.
+pub(crate) fn is_hub(finding: &Finding) -> bool
+    ensures { result ≡ is_hub finding.now }
+{
+    match finding {
+        Finding::Device(device) => device.hub.is_some(),
+        Finding::Refused(_) => false,
+    }
+}
+
+/// Whether it was refused because no address was free.
+pub(crate) fn is_waiting(finding: &Finding) -> bool
+    ensures { result ≡ is_waiting finding.now }
+{
+    match finding {
+        Finding::Device(_) => false,
+        Finding::Refused(cause) => *cause == Cause::NoAddress,
+    }
+}

@@ -1,0 +1,131 @@
+//! The host's pipes to a device.
+ghost use Rattle.std.specs.Prelude.{◌≡◌, false, true, is_some, IfSome};
+ghost use Rattle.usb_world.specs.World.{Spends};
+ghost use Rattle.usb_descriptor.specs.Choice.{IsUsable};
+ghost use Rattle.usb_table.specs.Findings.{IsSoundDevice, at_full_speed};
+ghost use Rattle.usb_table.specs.Pipes.{ArePipesTo, IsPipe, IsStatusPipe};
+ghost use Rattle.usb_table.specs.Transfers.{SentBy, ReceivedBy, ClearedBy, ClearedInTurn};
+
+use crate::EndpointFault;
+use crate::target::target_to;
+use std::alloc::Global;
+use usb_bus::Bus;
+use usb_enum::Accepted;
+use usb_pipe::{BulkPipe, InterruptPipe, PipeFault};
+
+/// The host's pipes to what stands at a port.
+#[derive(Drop)]
+pub(crate) enum Pipes {
+    /// To a hub's status endpoint (11.12.1).
+    Hub(InterruptPipe),
+    /// To a function's first bulk endpoints (5.8).
+    Function(BulkPipes),
+    /// None, since the device was refused.
+    Absent,
+}
+
+/// The pipes to a function's first bulk endpoints; a low-speed device has none (5.8.3).
+#[derive(Drop)]
+pub(crate) struct BulkPipes {
+    pub out: Option<BulkPipe>,
+    pub into: Option<BulkPipe>,
+}
+
+/// The pipes to a device that was just configured.
+pub(crate) fn pipes_to(device: &Accepted, below_hub: bool) -> Pipes
+    requires { IsSoundDevice device.now }
+    ensures { ArePipesTo device.now result }
+{
+    if device.hub.is_some() {
+        return Pipes::Hub(status_pipe(device, below_hub));
+    }
+    let text = device.configuration();
+    Pipes::Function(BulkPipes {
+        out: bulk_pipe(device, text.bulk_out(), false),
+        into: bulk_pipe(device, text.bulk_in(), true),
+    })
+}
+
+/// The pipe to a hub's status endpoint.
+fn status_pipe(device: &Accepted, below_hub: bool) -> InterruptPipe
+    requires sound { IsSoundDevice device.now }
+    requires hub { is_some device.now.hub ≡ true }
+    ensures { IsStatusPipe device.now result }
+{
+    match device.configuration().status_endpoint() {
+        Some((ep, max)) => InterruptPipe::new(target_to(device, below_hub), ep, max),
+        // a hub that is accepted has one
+        None => unreachable!(),
+    }
+}
+
+/// The pipe to a function's bulk endpoint, if it has one at full speed.
+fn bulk_pipe(device: &Accepted, endpoint: Option<(u8, u8)>, is_in: bool) -> Option<BulkPipe>
+    requires sound { IsSoundDevice device.now }
+    requires usable { IfSome endpoint IsUsable }
+    ensures { IsPipe device.now is_in (at_full_speed device.now.low endpoint) result }
+{
+    match endpoint {
+        Some((ep, max)) if !device.low => {
+            Some(BulkPipe::new(target_to(device, false), ep, max, is_in))
+        }
+        _ => None,
+    }
+}
+
+/// Sends bytes through a pipe, if there is one.
+pub(crate) fn send_through<B: Bus>(
+    pipe: &mut Option<BulkPipe>,
+    bus: &mut B,
+    bytes: &[u8],
+) -> Result<(), EndpointFault>
+    requires { IfSome pipe.old (λ p. p.is_in ≡ false) }
+    ensures { SentBy pipe.old bytes.now (B.world bus.old) result pipe.new (B.world bus.new) }
+{
+    match pipe {
+        Some(pipe) => Ok(pipe.send(bus, bytes)?),
+        None => Err(EndpointFault::NoEndpoint),
+    }
+}
+
+/// Receives packets through a pipe, if there is one.
+pub(crate) fn receive_through<B: Bus>(
+    pipe: &mut Option<BulkPipe>,
+    alloc: Global,
+    bus: &mut B,
+    packets: u16,
+) -> Result<Vec<u8>, EndpointFault>
+    requires { IfSome pipe.old (λ p. p.is_in ≡ true) }
+    ensures { ReceivedBy pipe.old packets (B.world bus.old) result pipe.new (B.world bus.new) }
+{
+    match pipe {
+        Some(pipe) => Ok(pipe.receive(alloc, bus, packets)?),
+        None => Err(EndpointFault::NoEndpoint),
+    }
+}
+
+/// Clears the halt of a pipe's endpoint, if there is one.
+fn clear_through<B: Bus>(pipe: &mut Option<BulkPipe>, bus: &mut B) -> Result<(), PipeFault>
+    ensures count { Spends 1600 (B.world bus.old) (B.world bus.new) }
+    ensures cleared { ClearedBy pipe.old (B.world bus.old) result pipe.new (B.world bus.new) }
+{
+    match pipe {
+        Some(pipe) => pipe.clear_halt(bus),
+        None => Ok(()),
+    }
+}
+
+impl BulkPipes {
+    /// Clears the halt of both endpoints, of the one that writes first.
+    #[tactic(auto, using(usb_world::proofs::Counts::spends_then, usb_world::proofs::Counts::spends_wider))]
+    pub fn clear_halt<B: Bus>(&mut self, bus: &mut B) -> Result<(), EndpointFault>
+        ensures count { Spends 3200 (B.world bus.old) (B.world bus.new) }
+        ensures cleared { ClearedInTurn self.old (B.world bus.old) result self.new (B.world bus.new) }
+    {
+        if self.out.is_none() && self.into.is_none() {
+            return Err(EndpointFault::NoEndpoint);
+        }
+        clear_through(&mut self.out, bus)?;
+        Ok(clear_through(&mut self.into, bus)?)
+    }
+}

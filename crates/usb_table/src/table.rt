@@ -1,0 +1,252 @@
+//! What stands at each port.
+ghost use Rattle.std.specs.Prelude.{◌≡◌, ◌*◌, [], length, true, false, Some, IfSome, IfNone, IfOk, IfErr, OnOk, OnErr, MatchResult, option_copied, is_some};
+ghost use Rattle.std.specs.BTreeMap.{insert_entry, is_at};
+ghost use Rattle.std.specs.Map.{lookup};
+ghost use Rattle.usb_port.specs.Order.{path_cmp};
+ghost use Rattle.usb_world.specs.World.{Spends};
+ghost use Rattle.usb_pipe.specs.Control.{Faults};
+ghost use Rattle.usb_transaction.specs.Trans.{Worked};
+ghost use Rattle.usb_table.specs.Entries.{Entries, Rises, TakesOut, has_at, is_at_or_below};
+ghost use Rattle.usb_table.specs.Findings.{IsSound, HasNewAddress, is_hub, is_waiting, device_at};
+ghost use Rattle.usb_table.specs.Kinds.{fits};
+ghost use Rattle.usb_table.specs.Known.{IsAskable, known_port};
+ghost use Rattle.usb_table.specs.Next.{IsNext, IsLast};
+ghost use Rattle.usb_table.specs.Transfers.{FaultTold, Polled, Sent, Received, Cleared};
+
+use crate::entry::Entry;
+use crate::kind::{Kind, fits, is_after};
+use crate::known::{is_below_hub, port_of_finding, root_port};
+use crate::{EndpointFault, KnownPort};
+use arrayvec::ArrayVec;
+use std::alloc::{AllocError, Global};
+use std::collections::BTreeMap;
+use std::marker::Model;
+use usb_bus::Bus;
+use usb_enum::Finding;
+use usb_pipe::PipeFault;
+use usb_port::PortPath;
+
+/// What stands at each port, by the port's path, with the host's pipes to it.
+#[derive(Drop)]
+pub struct DeviceTable {
+    entries: BTreeMap<PortPath, Entry>,
+}
+
+impl Model for DeviceTable {
+    ghost use Rattle.usb_table.specs.Entries.{Entries};
+
+    ghost Value = { Entries };
+
+    ghost view = { λ t. t.entries.entries };
+}
+
+impl DeviceTable {
+    /// A table with no entry.
+    pub fn new(alloc: Global) -> Self
+        ensures { result ≡ [] }
+    {
+        DeviceTable {
+            entries: BTreeMap::new(alloc),
+        }
+    }
+
+    /// Enters what was just found at a path, where nothing stands at it or below it.
+    pub fn insert(&mut self, path: PortPath, finding: Finding) -> Result<(), AllocError>
+        requires away { has_at path self.old ≡ false }
+        requires sound { IsSound finding }
+        requires address { HasNewAddress finding self.old }
+        ensures ok { OnOk result (self.new ≡ insert_entry path_cmp self.old path finding) }
+        ensures err { OnErr result (self.new ≡ self.old) }
+    {
+        let entry = Entry::new(finding, is_below_hub(&path));
+        self.entries.insert(path, entry)?;
+        Ok(())
+    }
+
+    /// What was found at a path.
+    pub fn get(&self, path: &PortPath) -> Option<&Finding>
+        ensures { option_copied result ≡ lookup (is_at (path_cmp path.now)) self.now }
+    {
+        match self.entries.get(path) {
+            Some(entry) => Some(entry.finding()),
+            None => None,
+        }
+    }
+
+    /// Takes out one entry at or below a path; `None` where there is none.
+    pub fn take_at(&mut self, path: &PortPath) -> Option<Finding>
+        ensures some { IfSome result (λ finding. TakesOut path.now finding self.old self.new) }
+        ensures none { IfNone result (has_at path.now self.old ≡ false) }
+        ensures same { IfNone result (self.new ≡ self.old) }
+    {
+        let first = self.first_at(path)?;
+        let entry = self.entries.remove(&first)?;
+        Some(entry.into_finding())
+    }
+
+    /// The least path of an entry at or below a path.
+    fn first_at(&self, path: &PortPath) -> Option<PortPath>
+        ensures some { IfSome result (λ first. is_at_or_below first path.now ≡ true) }
+        ensures found { IfSome result (λ first. is_some (lookup (is_at (path_cmp first)) self.now) ≡ true) }
+        ensures none { IfNone result (has_at path.now self.now ≡ false) }
+    {
+        'entries: for (entry, _) in self.entries.iter() {
+            if is_at_or_below(entry, path) {
+                return Some(entry.duplicate());
+            }
+        }
+        None
+    }
+
+    /// A second table's worth of entries, by rising path.
+    pub fn entries(&self, alloc: Global) -> Result<Vec<(PortPath, Finding)>, AllocError>
+        ensures value { IfOk result (λ entries. entries.items ≡ self.now) }
+        ensures rising { Rises self.now }
+    {
+        let mut entries = Vec::new(alloc);
+        'entries: for (path, entry) in self.entries.iter() {
+            entries.push((path.duplicate(), entry.finding().try_clone(alloc)?))?;
+        }
+        Ok(entries)
+    }
+
+    /// The port at a path, and what it gives; `None` where no accepted hub has it.
+    pub fn port_at(&self, path: &PortPath) -> Option<KnownPort>
+        ensures value { result ≡ known_port path.now self.now }
+        ensures served { IfSome result (λ known. IsAskable known.port) }
+    {
+        let Some(hub) = path.parent() else {
+            return Some(root_port(path.port()));
+        };
+        let entry = self.entries.get(&hub)?;
+        port_of_finding(entry.finding(), is_below_hub(&hub), path.port())
+    }
+
+    /// The least path of an accepted hub after the last one, or of all.
+    pub fn next_hub(&self, last: Option<&PortPath>) -> Option<PortPath>
+        ensures some { IfSome result (IsNext is_hub (option_copied last.entry) self.now) }
+        ensures none { IfNone result (IsLast is_hub (option_copied last.entry) self.now) }
+    {
+        self.next_of(Kind::Hub, last)
+    }
+
+    /// The least path, after the last one or of all, of a device that was refused because no
+    /// address was free.
+    pub fn next_waiting(&self, last: Option<&PortPath>) -> Option<PortPath>
+        ensures some { IfSome result (IsNext is_waiting (option_copied last.entry) self.now) }
+        ensures none { IfNone result (IsLast is_waiting (option_copied last.entry) self.now) }
+    {
+        self.next_of(Kind::Waiting, last)
+    }
+
+    fn next_of(&self, kind: Kind, last: Option<&PortPath>) -> Option<PortPath>
+        ensures some { IfSome result (IsNext (fits kind) (option_copied last.entry) self.now) }
+        ensures none { IfNone result (IsLast (fits kind) (option_copied last.entry) self.now) }
+    {
+        'entries: for (path, entry) in self.entries.iter() {
+            if is_after(last, path) && fits(kind, entry.finding()) {
+                return Some(path.duplicate());
+            }
+        }
+        None
+    }
+
+    /// Asks the status endpoint of the hub at a path once; `None` also where no hub stands there.
+    ///
+    /// # Errors
+    ///
+    /// Those of `InterruptPipe::poll`.
+    #[tactic(auto, using(std::proofs::lemmas::Map::Steps::set_value_same))]
+    pub fn poll<B: Bus>(
+        &mut self,
+        bus: &mut B,
+        hub: &PortPath,
+    ) -> Result<Option<ArrayVec<u8, 64>>, PipeFault>
+        ensures same { self.new ≡ self.old }
+        ensures count { Spends 768 (B.world bus.old) (B.world bus.new) }
+        ensures ends { MatchResult result (λ got. IfSome got (λ _. Worked 1 (B.world bus.old) (B.world bus.new))) (λ fault. Faults 0 (B.world bus.old) fault (B.world bus.new)) }
+        ensures polled { Polled (device_at hub.now self.old) (B.world bus.old) result (B.world bus.new) }
+    {
+        match self.entries.get_mut(hub) {
+            Some(entry) => entry.poll(bus),
+            None => Ok(None),
+        }
+    }
+
+    /// Sends bytes to the bulk OUT endpoint of the function at a path.
+    ///
+    /// # Errors
+    ///
+    /// `NoDevice` where no accepted device stands there, `NoEndpoint` where it is a hub, is at low
+    /// speed or has no bulk OUT endpoint; `Pipe` with those of `BulkPipe::send`.
+    #[tactic(auto, using(std::proofs::lemmas::Map::Steps::set_value_same))]
+    pub fn send<B: Bus>(
+        &mut self,
+        bus: &mut B,
+        path: &PortPath,
+        bytes: &[u8],
+    ) -> Result<(), EndpointFault>
+        ensures same { self.new ≡ self.old }
+        ensures count { Spends (768 * length bytes.now) (B.world bus.old) (B.world bus.new) }
+        ensures told { IfErr result (λ fault. FaultTold fault (B.world bus.new)) }
+        ensures sent { Sent (device_at path.now self.old) bytes.now (B.world bus.old) result (B.world bus.new) }
+    {
+        match self.entries.get_mut(path) {
+            Some(entry) => entry.send(bus, bytes),
+            None => Err(EndpointFault::NoDevice),
+        }
+    }
+
+    /// Receives so many packets from the bulk IN endpoint of the function at a path, or fewer where
+    /// one of them is short.
+    ///
+    /// # Errors
+    ///
+    /// `NoDevice` where no accepted device stands there, `NoEndpoint` where it is a hub, is at low
+    /// speed or has no bulk IN endpoint; `Pipe` with those of `BulkPipe::receive`.
+    #[tactic(auto, using(std::proofs::lemmas::Map::Steps::set_value_same))]
+    pub fn receive<B: Bus>(
+        &mut self,
+        alloc: Global,
+        bus: &mut B,
+        path: &PortPath,
+        packets: u16,
+    ) -> Result<Vec<u8>, EndpointFault>
+        ensures same { self.new ≡ self.old }
+        ensures count { Spends (768 * packets) (B.world bus.old) (B.world bus.new) }
+        ensures told { IfErr result (λ fault. FaultTold fault (B.world bus.new)) }
+        ensures received { Received (device_at path.now self.old) packets (B.world bus.old) result (B.world bus.new) }
+    {
+        match self.entries.get_mut(path) {
+            Some(entry) => entry.receive(alloc, bus, packets),
+            None => Err(EndpointFault::NoDevice),
+        }
+    }
+
+    /// Clears the halts of the bulk endpoints of the function at a path: of the OUT endpoint, then
+    /// of the IN endpoint. The first fault ends it.
+    ///
+    /// # Errors
+    ///
+    /// `NoDevice` where no accepted device stands there, `NoEndpoint` where it is a hub, is at low
+    /// speed or has no bulk endpoint; `Pipe` with those of `BulkPipe::clear_halt`.
+    #[tactic(auto, using(std::proofs::lemmas::Map::Steps::set_value_same))]
+    pub fn clear_halt<B: Bus>(&mut self, bus: &mut B, path: &PortPath) -> Result<(), EndpointFault>
+        ensures same { self.new ≡ self.old }
+        ensures count { Spends 3200 (B.world bus.old) (B.world bus.new) }
+        ensures told { IfErr result (λ fault. FaultTold fault (B.world bus.new)) }
+        ensures cleared { Cleared (device_at path.now self.old) (B.world bus.old) result (B.world bus.new) }
+    {
+        match self.entries.get_mut(path) {
+            Some(entry) => entry.clear_halt(bus),
+            None => Err(EndpointFault::NoDevice),
+        }
+    }
+}
+
+/// Whether a path is the other or goes on from it.
+fn is_at_or_below(path: &PortPath, above: &PortPath) -> bool
+    ensures { result ≡ is_at_or_below path.now above.now }
+{
+    path == above || path.is_below(above)
+}
