@@ -1,5 +1,5 @@
 -- What runs leave of a bus's world.
-use Rattle.std.specs.Prelude.{◌≡◌, ℕ, ◌+◌, ◌≤◌, ⊤, Bool, if◌then◌else◌}
+use Rattle.std.specs.Prelude.{◌≡◌, ℕ, ◌+◌, ⊤, Bool, if◌then◌else◌}
 use Rattle.usb_world.specs.PlanData.{PlanData}
 use Rattle.usb_world.specs.World.{World, Spends, root_row, to_come, changes}
 use Rattle.usb_world.specs.declared.types.BusFault.{BusFault}
@@ -7,7 +7,7 @@ use Rattle.usb_world.specs.declared.types.BusFault.TheVariants as bus
 use Rattle.usb_host.specs.declared.host.Round.{Round}
 use Rattle.usb_host.specs.declared.host.Round.TheVariants.{Worked, Quiet}
 use Rattle.usb_host.specs.Hosting.{Hosting}
-use Rattle.usb_host.specs.Progress.{Advances, Rests, waiting}
+use Rattle.usb_host.specs.Progress.{Advances, Rests}
 use Rattle.usb_serve.specs.declared.runs.Item.{Item}
 use Rattle.usb_serve.specs.declared.runs.Item.TheVariants.{Listing, Sent, Received, Cleared}
 use Rattle.usb_serve.specs.declared.runs.Report.{Report}
@@ -36,11 +36,10 @@ IsCaused LimitReached w = w.attempts ≡ w.limit
 IsCaused Memory w = Unit {0}
 IsCaused TraceFailed w = Unit {0}
 
--- what a round did: it got on, or no port had changed; few devices wait for an address
+-- what a round did: it got on, or no port had changed
 pub record DidRound (round : Round) (old new : Hosting) : Type 0 where
   pub worked : round ≡ Worked → Advances old new
   pub quiet : round ≡ Quiet → Rests old new × (changes (root_row old.world) ≡ 0)
-  pub few : waiting new.entries ≤ 2097152
 
 -- how many items are to come at most
 abbrev pub items_left : Bool → World → ℕ
