@@ -1,5 +1,5 @@
 -- What runs leave of a bus's world.
-use Rattle.std.specs.Prelude.{◌≡◌, ℕ, ◌+◌, ⊤, Bool, if◌then◌else◌}
+use Rattle.std.specs.Prelude.{◌≡◌, ℕ, ◌+◌, ⊤, Bool, false, Result, OnOk, IfErr, if◌then◌else◌}
 use Rattle.usb_world.specs.PlanData.{PlanData}
 use Rattle.usb_world.specs.World.{World, Spends, root_row, to_come, changes}
 use Rattle.usb_world.specs.declared.types.BusFault.{BusFault}
@@ -40,6 +40,12 @@ IsCaused TraceFailed w = Unit {0}
 pub record DidRound (round : Round) (old new : Hosting) : Type 0 where
   pub worked : round ≡ Worked → Advances old new
   pub quiet : round ≡ Quiet → Rests old new × (changes (root_row old.world) ≡ 0)
+
+-- a part of a run: its host goes on where no fault is told, and a fault has its cause
+pub record RunsOn {A : Type 0} (old : Hosting) (result : Result A RunFault) (new : Hosting) : Type 0 where
+  pub goes : Goes old.world new.world
+  pub running : OnOk result (new.stopped ≡ false)
+  pub caused : IfErr result (λ fault. IsCaused fault new.world)
 
 -- how many items are to come at most
 abbrev pub items_left : Bool → World → ℕ

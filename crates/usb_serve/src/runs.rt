@@ -6,7 +6,7 @@ ghost use Rattle.usb_world.specs.Steps.{opening, PutLine};
 ghost use Rattle.usb_host.specs.Hosting.{opening as host_opening};
 ghost use Rattle.usb_serve.specs.declared.runs.RunFault.TheVariants.{Memory as NoMemory};
 ghost use Rattle.usb_serve.specs.Transfers.{IsItemOf};
-ghost use Rattle.usb_serve.specs.Run.{Counts, Goes, IsBegun, IsCaused, IsOfHost, DidRound, run_fault, items_left, listing_of};
+ghost use Rattle.usb_serve.specs.Run.{Counts, Goes, IsBegun, IsCaused, IsOfHost, DidRound, RunsOn, run_fault, items_left, listing_of};
 
 use crate::transfer::{TransferFault, answered, counted};
 use std::alloc::{AllocError, AllocFailed, Global};
@@ -211,10 +211,8 @@ impl<W: Write> Runner<W> {
     #[tactic(auto, using(crate::proofs::Goings::goes_by))]
     fn next_due(&mut self) -> Result<Option<Due>, RunFault>
         requires running { self.old.host.stopped ≡ false }
-        ensures goes { Goes self.old.host.world self.new.host.world }
+        ensures on { RunsOn self.old.host result self.new.host }
         ensures over { self.new.over ≡ self.old.over }
-        ensures running { OnOk result (self.new.host.stopped ≡ false) }
-        ensures caused { IfErr result (λ fault. IsCaused fault self.new.host.world) }
         ensures fewer { IfOk result (λ due. IsSome due → to_come self.new.host.world < to_come self.old.host.world) }
     {
         settle(&mut self.host)?;
@@ -225,10 +223,8 @@ impl<W: Write> Runner<W> {
     #[tactic(auto, using(crate::proofs::Goings::goes_none, crate::proofs::Goings::goes_from))]
     fn item_of(&mut self, due: Due) -> Result<Option<Item>, RunFault>
         requires running { self.old.host.stopped ≡ false }
-        ensures goes { Goes self.old.host.world self.new.host.world }
+        ensures on { RunsOn self.old.host result self.new.host }
         ensures over { self.new.over ≡ self.old.over }
-        ensures running { OnOk result (self.new.host.stopped ≡ false) }
-        ensures caused { IfErr result (λ fault. IsCaused fault self.new.host.world) }
         ensures item { IfOk result (λ item. IsItemOf due item self.new.host) }
     {
         match due {
@@ -244,10 +240,8 @@ impl<W: Write> Runner<W> {
     #[tactic(auto, using(crate::proofs::Goings::goes_from))]
     fn send(&mut self, path: PortPath, bytes: &[u8]) -> Result<Item, RunFault>
         requires running { self.old.host.stopped ≡ false }
-        ensures goes { Goes self.old.host.world self.new.host.world }
+        ensures on { RunsOn self.old.host result self.new.host }
         ensures over { self.new.over ≡ self.old.over }
-        ensures running { OnOk result (self.new.host.stopped ≡ false) }
-        ensures caused { IfErr result (λ fault. IsCaused fault self.new.host.world) }
         ensures item { IfOk result (λ item. IsItemOf (Due.Send path bytes.now) (Some item) self.new.host) }
     {
         let sent = answered(self.host.send(&path, bytes))?;
@@ -258,10 +252,8 @@ impl<W: Write> Runner<W> {
     #[tactic(auto, using(crate::proofs::Goings::goes_from))]
     fn receive(&mut self, path: PortPath, packets: u16) -> Result<Item, RunFault>
         requires running { self.old.host.stopped ≡ false }
-        ensures goes { Goes self.old.host.world self.new.host.world }
+        ensures on { RunsOn self.old.host result self.new.host }
         ensures over { self.new.over ≡ self.old.over }
-        ensures running { OnOk result (self.new.host.stopped ≡ false) }
-        ensures caused { IfErr result (λ fault. IsCaused fault self.new.host.world) }
         ensures item { IfOk result (λ item. IsItemOf (Due.Receive path packets) (Some item) self.new.host) }
     {
         let received = answered(self.host.receive(&path, packets))?;
@@ -272,10 +264,8 @@ impl<W: Write> Runner<W> {
     #[tactic(auto, using(crate::proofs::Goings::goes_from))]
     fn clear(&mut self, path: PortPath) -> Result<Item, RunFault>
         requires running { self.old.host.stopped ≡ false }
-        ensures goes { Goes self.old.host.world self.new.host.world }
+        ensures on { RunsOn self.old.host result self.new.host }
         ensures over { self.new.over ≡ self.old.over }
-        ensures running { OnOk result (self.new.host.stopped ≡ false) }
-        ensures caused { IfErr result (λ fault. IsCaused fault self.new.host.world) }
         ensures item { IfOk result (λ item. IsItemOf (Due.Clear path) (Some item) self.new.host) }
     {
         let cleared = answered(self.host.clear_halt(&path))?;
