@@ -1,9 +1,9 @@
 -- Rounds come to an end.
 use Rattle.std.proofs.Common.{◌≡◌, ◌≢◌, refl, ap, arith, ℕ, ◌+◌, ◌-◌, ◌*◌, ◌≤◌, ◌<◌}
-use Rattle.usb_world.specs.World.{World, to_come}
+use Rattle.usb_world.specs.World.{to_come}
 use Rattle.usb_host.specs.declared.host.Round.{Round}
 use Rattle.usb_host.specs.declared.host.Round.TheVariants.{Worked, Quiet}
-use Rattle.usb_host.specs.Hosting.{Hosting, work}
+use Rattle.usb_host.specs.Hosting.{Hosting}
 use Rattle.usb_host.specs.Progress.{Advances, Rests, idle_work}
 use Rattle.usb_serve.specs.Run.{Goes, DidRound}
 

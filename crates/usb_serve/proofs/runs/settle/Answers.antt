@@ -1,6 +1,5 @@
 use Rattle.std.proofs.Common.{◌≡◌, ◌≢◌, ◌≤◌, ◌∙◌, sym, ap, subst, true}
 use denote.Enum.Bare.{sameb}
-use Rattle.usb_bus.specs.Sim.{world_of}
 use Rattle.usb_world.specs.World.{World}
 use Rattle.usb_host.specs.contracts.host.Round.{the_type}
 use Rattle.usb_host.specs.declared.host.Round.{Round}
