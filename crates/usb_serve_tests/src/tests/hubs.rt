@@ -1,6 +1,6 @@
 //! Plans with hubs: their listings, and runs that end in the middle of an enumeration.
 use super::serving::{Shown, compared};
-use super::transfers::DEVICES;
+use super::transfers::HEAD;
 use std::alloc::{AllocError, Global};
 use std::test::Fail;
 use usb_serve::Mode;
@@ -223,7 +223,7 @@ bound 38191002
 #[test]
 fn trees_of_hubs_are_listed(rt: HostRuntime) -> Result<(), Fail> {
     for row in rows() {
-        let plan = format!(in rt.alloc(); "{DEVICES}{}", row.events)?;
+        let plan = format!(in rt.alloc(); "{HEAD}{}", row.events)?;
         let shown = compared(rt.alloc(), Mode::Tree, plan.as_str(), row.tree, "")?;
         assert_eq!(rt; shown, Shown::AsWanted, "{}", row.name);
     }

@@ -6,8 +6,8 @@ use usb_bus::Watched;
 use usb_plan::read_plan;
 use usb_serve::{Item, Mode, TransferFault, run, serve};
 
-/// The head of each plan: its devices.
-pub const DEVICES: &str = r#"limit = 10000
+/// The head of each plan: its limit, its root ports and its devices.
+pub const HEAD: &str = r#"limit = 10000
 roots = 2
 
 [[device]]
@@ -431,7 +431,7 @@ fn items_told(alloc: Global, plan: &str) -> Result<String, Fail> {
 #[test]
 fn transfers_are_told(rt: HostRuntime) -> Result<(), Fail> {
     for row in rows() {
-        let plan = format!(in rt.alloc(); "{DEVICES}{}", row.events)?;
+        let plan = format!(in rt.alloc(); "{HEAD}{}", row.events)?;
         let lines = lines_told(rt.alloc(), plan.as_str())?;
         assert_eq!(rt; lines.as_str(), row.told, "lines: {}", row.name);
         let items = items_told(rt.alloc(), plan.as_str())?;
