@@ -1,5 +1,5 @@
 -- How the entries and the taken addresses change together.
-use Rattle.std.proofs.Common.{◌≡◌, ◌≢◌, ◌∙◌, refl, sym, subst, ap, arith, inl, inr, true, false, Bool, ℕ, ◌+◌, cond, List, [], ◌∷◌, ◌||◌, Option, Some}
+use Rattle.std.proofs.Common.{◌≡◌, ◌≢◌, ◌∙◌, refl, sym, subst, ap, arith, inl, inr, true, false, Bool, ℕ, ◌+◌, cond, List, [], ◌∷◌, ◌||◌, Option, Some, Ok}
 use Rattle.std.specs.Prelude.{nat_eq}
 use Rattle.std.specs.List.{sum_by}
 use Rattle.std.specs.Map.{lookup, remove_entry}
@@ -12,11 +12,13 @@ use Rattle.std.specs.FinSet.{empty, contains, contains-empty}
 use Rattle.std.proofs.lemmas.Bool.{eq-eqb, ne_eqb, cases_order}
 use Rattle.std.proofs.lemmas.List.Sums.{sum_by-cons}
 use Rattle.usb_port.specs.Order.{path_cmp}
-use Rattle.usb_resources.specs.Pool.{Addresses}
+use Rattle.usb_resources.specs.Pool.{Addresses, IsFull}
 use Rattle.usb_enum.specs.declared.finding.Finding.{Finding}
 use Rattle.usb_enum.specs.declared.finding.Finding.TheVariants.{Device, Refused}
-use Rattle.usb_host.specs.Accounts.{Accounts, Claims, has_address}
-use Rattle.usb_host.specs.Entries.{Entries, TakesOut, has_at, is_at_or_below}
+use Rattle.usb_table.specs.Findings.{has_address, HasNewAddress}
+use Rattle.usb_host.specs.Accounts.{Accounts, Claims}
+use Rattle.usb_table.specs.Entries.{Entries, TakesOut, has_at, is_at_or_below}
+use Rattle.usb_enum.specs.Found.{TakesFor}
 use Rattle.usb_host.specs.Hosting.{Frees}
 
 one : Bool → ℕ
@@ -129,3 +131,17 @@ unfolding count one
 accounts_back f es old mid new h c gone = record {
   each = λ a. freed f mid new a (count a es) gone (ap (λ n. one (has_address a f) + n) (h.each a) ∙ sym (claimed f old mid a c));
 }
+
+-- no address is free that was not, where one more is
+pub full_before : (f : Finding) (old new : Addresses) → Frees f old new → IsFull new → IsFull old
+full_before (Device device) old new gone full = absurd (cc (full device.address gone.free.0, gone.free.1))
+full_before (Refused cause) old new same full = subst IsFull same full
+
+-- the address that was taken for a finding is no entry's yet
+pub address_new : (f : Finding) (es : Entries) (old new : Addresses) → Accounts es old → Claims f old new → HasNewAddress f es
+address_new (Device device) es old new h c = h.each device.address ∙ ap (λ b. cond b 1 0) c.free.1
+address_new (Refused cause) es old new h c = tt
+
+pub claims_found : (f : Finding) (old new : Addresses) → TakesFor (Ok f) old new → Claims f old new
+claims_found (Device device) old new takes = takes
+claims_found (Refused cause) old new same = same

@@ -1,5 +1,11 @@
+pub mod Agreements
 pub mod Balances
+pub mod Climbs
+pub mod Looks
 pub mod Openings
 pub mod Powers
 pub mod Quiets
-pub mod Removals
+pub mod Enumerations
+pub mod Gaining
+pub mod Joins
+pub mod Waits

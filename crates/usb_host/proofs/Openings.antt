@@ -4,7 +4,7 @@ use Rattle.std.specs.Prelude.{[], false}
 use Rattle.std.specs.FinSet as set
 use Rattle.usb_world.specs.World.{World}
 use Rattle.usb_resources.specs.Pool.{Addresses}
-use Rattle.usb_host.specs.Entries.{Entries}
+use Rattle.usb_table.specs.Entries.{Entries}
 use Rattle.usb_host.specs.Hosting.{Hosting, opening}
 
 abbrev going : World → Entries → Addresses → Hosting

@@ -6,7 +6,7 @@ use Rattle.usb_port.specs.Order.{path_cmp}
 use Rattle.usb_resources.specs.Pool.{Addresses}
 use Rattle.usb_enum.specs.declared.finding.Finding.{Finding}
 use Rattle.usb_table.specs.Entries.{Entries}
-use Rattle.usb_table.specs.Places.{known_port}
+use Rattle.usb_table.specs.Known.{known_port}
 use Rattle.usb_host.specs.Accounts.{Accounts}
 
 -- each entry stands at a port of the root, or of a hub that is known

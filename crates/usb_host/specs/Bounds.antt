@@ -9,9 +9,17 @@ status_most = 2000
 abbrev pub order_most : ℕ
 order_most = 1600
 
--- the clearing of the change, a second status, the disabling, and the enumeration
+-- the clearing of the change, a second status, and the disabling
+abbrev pub clearing_bound : ℕ
+clearing_bound = order_most + status_most + order_most
+
+-- and then the enumeration
 abbrev pub look_bound : ℕ
-look_bound = order_most + status_most + order_most + widest_enumeration
+look_bound = clearing_bound + widest_enumeration
+
+-- a status, and then what it asks for
+abbrev pub serving_bound : ℕ
+serving_bound = status_most + look_bound
 
 -- a hub and each above it is disabled
 abbrev pub drop_bound : ℕ
@@ -19,7 +27,7 @@ drop_bound = 7 * order_most
 
 -- a port is looked at, and its hub dropped
 abbrev pub handling_bound : ℕ
-handling_bound = status_most + look_bound + drop_bound
+handling_bound = serving_bound + drop_bound
 
 abbrev pub roots_bound : ℕ
 roots_bound = 7 * handling_bound

@@ -2,5 +2,6 @@ pub mod Accounts
 pub mod Agreement
 pub mod Bounds
 pub mod Hosting
+pub mod Ports
 pub mod Progress
 pub mod Told

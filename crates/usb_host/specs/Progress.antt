@@ -1,13 +1,9 @@
 -- That a round gets on.
-use Rattle.std.specs.Prelude.{◌≡◌, ◌⊎◌, ℕ, ◌+◌, ◌*◌, ◌<◌, List, Bool, true, false, if◌then◌else◌}
+use Rattle.std.specs.Prelude.{◌≡◌, ℕ, ◌+◌, ◌*◌, ◌<◌, ◌≤◌}
 use Rattle.std.specs.List.{count_by}
 use Rattle.usb_world.specs.World.{Spends}
-use Rattle.usb_enum.specs.declared.cause.Cause.{Cause}
-use Rattle.usb_enum.specs.declared.cause.Cause.TheVariants.{Silent, Busy, Stalled, BadDevice, TooDeep, BadConfiguration, NoPower, BadHub, Lost, NoAddress}
-use Rattle.usb_enum.specs.declared.finding.Finding.{Finding}
-use Rattle.usb_enum.specs.declared.finding.Finding.TheVariants.{Device, Refused}
 use Rattle.usb_table.specs.Entries.{Entries}
-use Rattle.usb_table.specs.Places.{is_waiting}
+use Rattle.usb_table.specs.Findings.{is_waiting}
 use Rattle.usb_host.specs.Hosting.{Hosting, work}
 use Rattle.usb_host.specs.declared.host.Round.{Round}
 use Rattle.usb_host.specs.declared.host.Round.TheVariants.{Worked, Quiet}
@@ -16,13 +12,17 @@ use Rattle.usb_host.specs.declared.host.Round.TheVariants.{Worked, Quiet}
 abbrev pub waiting : Entries → ℕ
 waiting entries = count_by (λ e. is_waiting e.1) entries
 
--- what is left to do without an attempt: a change may leave one device more that waits
+-- what is left to do without an attempt; a change that is served may leave one device more that waits
 abbrev pub idle_work : Hosting → ℕ
 idle_work h = 2 * work h.world + waiting h.entries
 
--- an attempt was made, or there is less to do
+-- no more is left to do than before, but by attempts: each attempt may leave two things more
+abbrev pub Holds : Hosting → Hosting → Type 0
+Holds old new = idle_work new + 2 * old.world.attempts ≤ idle_work old + 2 * new.world.attempts
+
+-- the same, and something was done: an attempt was made, or less is left to do
 abbrev pub Advances : Hosting → Hosting → Type 0
-Advances old new = (old.world.attempts < new.world.attempts) ⊎ (idle_work new < idle_work old)
+Advances old new = idle_work new + 2 * old.world.attempts < idle_work old + 2 * new.world.attempts
 
 -- nothing that is known has changed
 abbrev pub Rests : Hosting → Hosting → Type 0

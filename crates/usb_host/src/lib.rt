@@ -4,6 +4,7 @@
 
 mod fault;
 mod host;
+mod pool;
 mod ports;
 mod rounds;
 mod tree;

@@ -1,23 +1,30 @@
 //! What the host does at a port.
-ghost use Rattle.std.specs.Prelude.{◌≡◌, ◌≢◌, ◌≤◌, ◌<◌, ◌+◌, ◌*◌, [], ◌∷◌, true, false, Some, None, OnOk, OnErr, IfOk, IfErr, IfSome, IsSome, Ok, Err};
+ghost use Rattle.std.specs.Prelude.{◌≡◌, ◌⊎◌, ◌*◌, [], ◌∷◌, true, false, length, IsTrue, OnOk, IfOk, IfErr, IfSome, IsSome};
 ghost use Rattle.std.specs.BTreeMap.{insert_entry};
 ghost use Rattle.usb_port.specs.Order.{path_cmp};
-ghost use Rattle.usb_port.specs.Path.{IsPortNumber};
-ghost use Rattle.usb_world.specs.World.{IsRootPort};
-ghost use Rattle.usb_enum.specs.declared.finding.Finding.{Finding};
+ghost use Rattle.usb_port.specs.Path.{IsPath, IsPortNumber};
+ghost use Rattle.usb_world.specs.World.{IsRootPort, port_at};
+ghost use Rattle.usb_hub.specs.Port.{IsPort};
+ghost use Rattle.usb_resources.specs.Pool.{IsFull};
+ghost use Rattle.usb_enum.specs.Bounds.{widest_enumeration};
 ghost use Rattle.usb_enum.specs.Stop.{FaultAt};
 ghost use Rattle.usb_table.specs.Entries.{has_at, without};
+ghost use Rattle.usb_table.specs.Known.{IsAskable, known_port};
+ghost use Rattle.usb_host.specs.Bounds.{clearing_bound, look_bound, drop_bound, handling_bound, status_most, order_most, serving_bound};
+ghost use Rattle.usb_host.specs.Ports.{StandsAt, IsDue, Waits, Served, Shown, Gains, Broke, Entered};
+ghost use Rattle.usb_host.specs.Progress.{Goes, Advances, Holds, Rests, Did};
+ghost use Rattle.usb_host.specs.Told.{Ended};
 
 use crate::HostFault;
 use crate::host::{Host, Round};
-use std::alloc::AllocError;
+use crate::pool::{enter, release};
 use usb_bus::Bus;
 use usb_enum::{Cause, EnumFault, Finding, enumerate};
 use usb_hub::{HubPort, PipeFault, PortStatus, clear_port, port_status};
 use usb_port::PortPath;
 use usb_request::feature::{C_PORT_CONNECTION, C_PORT_ENABLE, C_PORT_RESET, PORT_ENABLE};
-use usb_resources::{Address, AddressPool, supply};
-use usb_table::{DeviceTable, KnownPort};
+use usb_resources::supply;
+use usb_table::{KnownPort, address_of};
 
 impl<B: Bus> Host<B> {
     /// Whether the connection of a root port has changed.
@@ -29,7 +36,13 @@ impl<B: Bus> Host<B> {
     }
 
     /// Handles a root port.
-    pub(crate) fn handle_root(&mut self, number: u8) -> Result<(), HostFault> {
+    pub(crate) fn handle_root(&mut self, number: u8) -> Result<(), HostFault>
+        requires port { IsRootPort self.old.world number }
+        requires number { IsPortNumber number }
+        ensures goes { Goes handling_bound self.old self.new }
+        ensures told { IfErr result (λ fault. Ended fault self.new.world) }
+        ensures advances { OnOk result ((port_at self.old.world number).connection_changed ≡ true → Advances self.old self.new) }
+    {
         let port = KnownPort {
             port: HubPort::Root(number),
             supply: supply(true, false),
@@ -38,34 +51,43 @@ impl<B: Bus> Host<B> {
     }
 
     /// Handles a port of a hub, where that is known and has the port.
-    pub(crate) fn handle_below(&mut self, hub: &PortPath, number: u8) -> Result<Round, HostFault> {
+    pub(crate) fn handle_below(&mut self, hub: &PortPath, number: u8) -> Result<Round, HostFault>
+        ensures goes { Goes handling_bound self.old self.new }
+        ensures told { IfErr result (λ fault. Ended fault self.new.world) }
+        ensures did { IfOk result (λ round. Did round self.old self.new) }
+    {
         let mut path = hub.duplicate();
         if !path.push(number) {
             return Ok(Round::Quiet);
         }
-        match self.port_at(&path) {
-            None => Ok(Round::Quiet),
-            Some(port) => {
-                self.handle(&path, port)?;
-                Ok(Round::Worked)
-            }
-        }
+        let Some(port) = self.port_at(&path) else {
+            return Ok(Round::Quiet);
+        };
+        self.handle(&path, port)?;
+        Ok(Round::Worked)
     }
 
     /// Looks again at a device that waits for an address.
-    pub(crate) fn look_once_more(&mut self, path: &PortPath) -> Result<Round, HostFault> {
-        match self.port_at(path) {
-            None => Ok(Round::Quiet),
-            Some(port) => {
-                let looked = self.look(path, port);
-                self.served(path, looked)?;
-                Ok(Round::Worked)
-            }
-        }
+    pub(crate) fn look_once_more(&mut self, path: &PortPath) -> Result<Round, HostFault>
+        requires { Waits path.now self.old }
+        ensures path { IsPath path.now }
+        ensures goes { Goes handling_bound self.old self.new }
+        ensures told { IfErr result (λ fault. Ended fault self.new.world) }
+        ensures did { IfOk result (λ round. Did round self.old self.new) }
+    {
+        let _numbers = path.numbers();
+        let Some(port) = self.port_at(path) else {
+            return Ok(Round::Quiet);
+        };
+        let looked = self.look(path, port);
+        self.finish(path, looked)?;
+        Ok(Round::Worked)
     }
 
     /// The port at a path, where it is one of the root or of a hub that is known.
-    fn port_at(&self, path: &PortPath) -> Option<KnownPort> {
+    fn port_at(&self, path: &PortPath) -> Option<KnownPort>
+        ensures { IfSome result (λ port. StandsAt path.now port self.now) }
+    {
         let known = self.table.port_at(path)?;
         match known.port {
             HubPort::Root(number) if number > self.bus.root_ports() => None,
@@ -73,15 +95,24 @@ impl<B: Bus> Host<B> {
         }
     }
 
-    /// Handles a port: where its connection has changed, what is there is forgotten and found anew;
-    /// else what an earlier reset or error left is cleared.
-    fn handle(&mut self, path: &PortPath, port: KnownPort) -> Result<(), HostFault> {
+    /// Handles a port. Where a request to its hub fails, that hub is dropped.
+    fn handle(&mut self, path: &PortPath, port: KnownPort) -> Result<(), HostFault>
+        requires { StandsAt path.now port self.old }
+        ensures goes { Goes handling_bound self.old self.new }
+        ensures told { IfErr result (λ fault. Ended fault self.new.world) }
+        ensures advances { OnOk result (IsDue self.old.world port.port → Advances self.old self.new) }
+    {
         let served = self.serve(path, port);
-        self.served(path, served)
+        self.finish(path, served)
     }
 
-    /// What comes of a port's handling: where a request to its hub failed, that hub is dropped.
-    fn served(&mut self, path: &PortPath, served: Result<(), EnumFault>) -> Result<(), HostFault> {
+    /// Drops the hub of a port, where a request to it failed.
+    fn finish(&mut self, path: &PortPath, served: Result<(), EnumFault>) -> Result<(), HostFault>
+        requires { IfErr served (λ fault. Broke fault self.old.world) }
+        ensures goes { Goes drop_bound self.old self.new }
+        ensures told { IfErr result (λ fault. Ended fault self.new.world) }
+        ensures holds { Holds self.old self.new }
+    {
         match served {
             Ok(()) => Ok(()),
             Err(EnumFault::Bus(fault)) => Err(HostFault::Bus(fault)),
@@ -94,8 +125,15 @@ impl<B: Bus> Host<B> {
         }
     }
 
-    fn serve(&mut self, path: &PortPath, port: KnownPort) -> Result<(), EnumFault> {
-        let status = port_status(self.alloc, &mut self.bus, port.port)?;
+    /// Where the connection of a port has changed, what is there is forgotten and found anew; else
+    /// what an earlier reset or error left is cleared.
+    fn serve(&mut self, path: &PortPath, port: KnownPort) -> Result<(), EnumFault>
+        requires { StandsAt path.now port self.old }
+        ensures goes { Goes serving_bound self.old self.new }
+        ensures told { IfErr result (λ fault. FaultAt port.port fault self.new.world) }
+        ensures served { IsDue self.old.world port.port → Served result self.old self.new }
+    {
+        let status = self.status(port.port)?;
         if status.connection_changed {
             self.look(path, port)
         } else {
@@ -103,8 +141,25 @@ impl<B: Bus> Host<B> {
         }
     }
 
+    /// The status of a port.
+    fn status(&mut self, port: HubPort) -> Result<PortStatus, EnumFault>
+        requires port { IsPort self.old.world port }
+        requires askable { IsAskable port }
+        ensures goes { Goes status_most self.old self.new }
+        ensures told { IfErr result (λ fault. FaultAt port fault self.new.world) }
+        ensures rests { Rests self.old self.new }
+        ensures shown { Shown port result self.old.world self.new.world }
+    {
+        Ok(port_status(self.alloc, &mut self.bus, port)?)
+    }
+
     /// Clears what an earlier reset or error left of a port whose connection has not changed.
-    fn tidy(&mut self, port: HubPort, status: PortStatus) -> Result<(), EnumFault> {
+    fn tidy(&mut self, port: HubPort, status: PortStatus) -> Result<(), EnumFault>
+        requires { IsPort self.old.world port }
+        ensures goes { Goes (2 * order_most) self.old self.new }
+        ensures told { IfErr result (λ fault. FaultAt port fault self.new.world) }
+        ensures rests { Rests self.old self.new }
+    {
         if status.enable_changed {
             clear_port(&mut self.bus, port, C_PORT_ENABLE)?;
         }
@@ -116,12 +171,13 @@ impl<B: Bus> Host<B> {
 
     /// Forgets what was found at a port, and finds what is there now. The change is cleared before
     /// the status is read, so that no later change is lost.
-    fn look(&mut self, path: &PortPath, port: KnownPort) -> Result<(), EnumFault> {
-        clear_port(&mut self.bus, port.port, C_PORT_CONNECTION)?;
-        let status = port_status(self.alloc, &mut self.bus, port.port)?;
-        if status.enabled {
-            clear_port(&mut self.bus, port.port, PORT_ENABLE)?;
-        }
+    fn look(&mut self, path: &PortPath, port: KnownPort) -> Result<(), EnumFault>
+        requires { StandsAt path.now port self.old }
+        ensures goes { Goes look_bound self.old self.new }
+        ensures told { IfErr result (λ fault. FaultAt port.port fault self.new.world) }
+        ensures served { IsDue self.old.world port.port ⊎ Waits path.now self.old → Served result self.old self.new }
+    {
+        let status = self.clear_change(port.port)?;
         self.forget(path);
         if status.connected {
             self.discover(path, port)?;
@@ -129,8 +185,31 @@ impl<B: Bus> Host<B> {
         Ok(())
     }
 
+    /// Clears a port's change of connection, reads its status, and disables it where it is enabled.
+    fn clear_change(&mut self, port: HubPort) -> Result<PortStatus, EnumFault>
+        requires port { IsPort self.old.world port }
+        requires askable { IsAskable port }
+        ensures goes { Goes clearing_bound self.old self.new }
+        ensures told { IfErr result (λ fault. FaultAt port fault self.new.world) }
+        ensures rests { Rests self.old self.new }
+        ensures gains { IsDue self.old.world port → Gains result self.old.world self.new.world }
+    {
+        clear_port(&mut self.bus, port, C_PORT_CONNECTION)?;
+        let status = port_status(self.alloc, &mut self.bus, port)?;
+        if status.enabled {
+            clear_port(&mut self.bus, port, PORT_ENABLE)?;
+        }
+        Ok(status)
+    }
+
     /// Enters what is found at a port, of which nothing is known.
-    fn discover(&mut self, path: &PortPath, port: KnownPort) -> Result<(), EnumFault> {
+    fn discover(&mut self, path: &PortPath, port: KnownPort) -> Result<(), EnumFault>
+        requires port { StandsAt path.now port self.old }
+        requires away { has_at path.now self.old.entries ≡ false }
+        ensures goes { Goes widest_enumeration self.old self.new }
+        ensures told { IfErr result (λ fault. FaultAt port.port fault self.new.world) }
+        ensures entered { Entered path.now self.old result self.new }
+    {
         let finding = enumerate(
             self.alloc,
             &mut self.bus,
@@ -149,14 +228,25 @@ impl<B: Bus> Host<B> {
 
     /// Drops a hub that failed: its port is disabled, what stood there and below is forgotten, and
     /// it is listed as lost. Where its port cannot be disabled, its own hub is dropped in its place.
-    pub(crate) fn drop_hub(&mut self, hub: PortPath) -> Result<(), HostFault> {
+    pub(crate) fn drop_hub(&mut self, hub: PortPath) -> Result<(), HostFault>
+        ensures goes { Goes drop_bound self.old self.new }
+        ensures told { IfErr result (λ fault. Ended fault self.new.world) }
+        ensures holds { Holds self.old self.new }
+    {
         let lost = self.disable_upward(hub)?;
         self.forget(&lost);
         Ok(self.table.insert(lost, Finding::Refused(Cause::Lost))?)
     }
 
     /// Disables the port at a path, or the nearest one above it that can be disabled.
-    fn disable_upward(&mut self, first: PortPath) -> Result<PortPath, HostFault> {
+    fn disable_upward(&mut self, first: PortPath) -> Result<PortPath, HostFault>
+        ensures goes { Goes drop_bound self.old self.new }
+        ensures told { IfErr result (λ fault. Ended fault self.new.world) }
+        ensures rests { Rests self.old self.new }
+        ensures known { IfOk result (λ path. IsSome (known_port path self.old.entries)) }
+    {
+        // (a path's numbers say that it has at most seven)
+        let _numbers = first.numbers();
         let mut path = first;
         'up: loop {
             if self.disable(&path)? {
@@ -170,7 +260,12 @@ impl<B: Bus> Host<B> {
     }
 
     /// Disables the port at a path, and says whether it could.
-    fn disable(&mut self, path: &PortPath) -> Result<bool, HostFault> {
+    fn disable(&mut self, path: &PortPath) -> Result<bool, HostFault>
+        ensures goes { Goes order_most self.old self.new }
+        ensures told { IfErr result (λ fault. Ended fault self.new.world) }
+        ensures rests { Rests self.old self.new }
+        ensures known { IfOk result (λ done. IsTrue done → IsSome (known_port path.now self.old.entries)) }
+    {
         let Some(port) = self.port_at(path) else {
             return Ok(false);
         };
@@ -182,7 +277,13 @@ impl<B: Bus> Host<B> {
     }
 
     /// Takes out the entries at a path and below it, and releases their addresses.
-    fn forget(&mut self, path: &PortPath) {
+    #[tactic(auto, using(usb_table::proofs::Removals::takes_one, crate::proofs::Balances::accounts_freed, usb_table::proofs::Removals::taken_apart, crate::proofs::Balances::full_before))]
+    fn forget(&mut self, path: &PortPath)
+        ensures others { self.new ≡ record self.old { entries = self.new.entries; addresses = self.new.addresses } }
+        ensures gone { has_at path.now self.new.entries ≡ false }
+        ensures rest { self.new.entries ≡ without path.now self.old.entries }
+        ensures freed { IsFull self.new.addresses → IsFull self.old.addresses }
+    {
         'entries: while let Some(finding) = self.table.take_at(path) {
             release(&mut self.pool, address_of(&finding));
         }
@@ -193,6 +294,7 @@ impl<B: Bus> Host<B> {
 fn tier(path: &PortPath) -> u8 {
     path.numbers().len() as u8 + 1
 }
+
 /// The path of a root port.
 fn root_path(number: u8) -> PortPath
     requires { IsPortNumber number }
@@ -201,42 +303,5 @@ fn root_path(number: u8) -> PortPath
     match PortPath::root(number) {
         Some(path) => path,
         None => unreachable!(),
-    }
-}
-
-/// Enters a finding. Where memory is refused, its address is released.
-fn enter(
-    table: &mut DeviceTable,
-    pool: &mut AddressPool,
-    path: PortPath,
-    finding: Finding,
-) -> Result<(), AllocError>
-    ensures ok { OnOk result ((table.new ≡ insert_entry path_cmp table.old path finding) × (pool.new ≡ pool.old)) }
-    ensures err { OnErr result ((table.new ≡ table.old) × Frees finding pool.old pool.new) }
-{
-    let address = address_of(&finding);
-    let entered = table.insert(path, finding);
-    if entered.is_err() {
-        release(pool, address);
-    }
-    entered
-}
-
-/// The address of a device that was found.
-fn address_of(finding: &Finding) -> Option<Address>
-    ensures { result ≡ address_of finding.now }
-{
-    match finding {
-        Finding::Device(device) => Some(device.address),
-        Finding::Refused(_) => None,
-    }
-}
-
-/// Releases an address, where there is one.
-fn release(pool: &mut AddressPool, address: Option<Address>)
-    ensures { (finding : Finding) → address_of finding ≡ address → Frees finding pool.old pool.new }
-{
-    if let Some(address) = address {
-        pool.release(address);
     }
 }

@@ -1,8 +1,11 @@
 //! The parts of a round.
-ghost use Rattle.std.specs.Prelude.{◌≡◌, ◌≢◌, ◌≤◌, ◌<◌, ◌+◌, ◌*◌, true, false, OnOk, IfOk, IfErr, IfSome, Ok, Err};
+ghost use Rattle.std.specs.Prelude.{◌≡◌, ◌≢◌, ◌≤◌, ◌<◌, ◌+◌, ◌*◌, true, false, IfOk, IfErr, IfSome, Ok};
 ghost use Rattle.usb_world.specs.World.{root_row, changes, IsRootPort};
-ghost use Rattle.usb_host.specs.Bounds.{roots_bound, hubs_bound, hub_bound, looks_bound, look_bound};
-ghost use Rattle.usb_host.specs.Progress.{Goes, Did};
+ghost use Rattle.usb_port.specs.Path.{IsPath};
+ghost use Rattle.usb_table.specs.Next.{IsAfter};
+ghost use Rattle.usb_host.specs.Bounds.{round_bound, roots_bound, hubs_bound, hub_bound, told_bound, looks_bound};
+ghost use Rattle.usb_host.specs.Ports.{Waits};
+ghost use Rattle.usb_host.specs.Progress.{Goes, Did, either};
 ghost use Rattle.usb_host.specs.Told.{Ended};
 
 use crate::host::{Host, Round};
@@ -72,10 +75,12 @@ impl<B: Bus> Host<B> {
 
     /// Polls a hub, and handles the ports of which it tells; where it does not answer, it is dropped.
     fn serve_hub(&mut self, hub: &PortPath) -> Result<Round, HostFault>
+        ensures path { IsPath hub.now }
         ensures goes { Goes hub_bound self.old self.new }
         ensures told { IfErr result (λ fault. Ended fault self.new.world) }
         ensures did { IfOk result (λ round. Did round self.old self.new) }
     {
+        let _numbers = hub.numbers();
         match self.table.poll(&mut self.bus, hub) {
             Ok(None) => Ok(Round::Quiet),
             Ok(Some(bits)) => self.serve_told(hub, first_byte(bits.as_slice())),
@@ -110,7 +115,7 @@ impl<B: Bus> Host<B> {
     {
         let mut round = Round::Quiet;
         let mut last: Option<PortPath> = None;
-        'waiting: while let Some(path) = self.next_waiting(last.as_ref()) {
+        'waiting: while let Some(path) = self.next_waiting(&last) {
             round = round.and(self.look_once_more(&path)?);
             last = Some(path);
         }
@@ -118,12 +123,13 @@ impl<B: Bus> Host<B> {
     }
 
     /// The next device that waits for an address; none where no address is free.
-    fn next_waiting(&self, last: Option<&PortPath>) -> Option<PortPath>
+    fn next_waiting(&self, last: &Option<PortPath>) -> Option<PortPath>
+        ensures { IfSome result (λ path. Waits path self.now × IsAfter last.now path) }
     {
         if self.pool.is_full() {
             return None;
         }
-        self.table.next_waiting(last)
+        self.table.next_waiting(last.as_ref())
     }
 }
 

@@ -4,8 +4,9 @@ use std::test::Fail;
 use usb_bench::{bus_of, plan_text};
 use usb_bus::SimBus;
 use usb_enum::{Cause, Finding};
-use usb_host::{DeviceTable, Host};
+use usb_host::Host;
 use usb_port::PortPath;
+use usb_table::DeviceTable;
 
 /// A device that never answers, but for its speed.
 const SILENT: &str = "[[device]]

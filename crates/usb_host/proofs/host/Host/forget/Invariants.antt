@@ -1,6 +1,7 @@
 use Rattle.std.proofs.Common.{◌≡◌, length}
+use Rattle.usb_resources.specs.Pool.{IsFull}
 use Rattle.usb_host.specs.Accounts.{Accounts}
-use Rattle.usb_host.specs.Entries.{without}
+use Rattle.usb_table.specs.Entries.{without}
 use Rattle.usb_host.proofs.host.Host.forget.Given as goal
 
 abbrev pub invariant-entries : goal.invariant-entries
@@ -8,6 +9,7 @@ invariant-entries g l = record {
   others : l.self-inside ≡ record l.initial.self-inside { table = l.self-inside.table; pool = l.self-inside.pool };
   rest : without l.path l.self-inside.table ≡ without l.path l.initial.self-inside.table;
   accounts : Accounts l.self-inside.table l.self-inside.pool;
+  full : IsFull l.self-inside.pool → IsFull l.initial.self-inside.pool;
 }
 
 abbrev pub decreases-entries : goal.decreases-entries

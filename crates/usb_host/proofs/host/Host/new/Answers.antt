@@ -1,6 +1,7 @@
 use Rattle.std.proofs.Common.{◌≡◌, ◌∙◌, ◌-◌, ◌+◌, ℕ, ap, arith}
 use Rattle.usb_world.specs.World.{World, roots_of}
 use Rattle.usb_host.proofs.Powers.{powered_none, powered_length, powers_one, powered_all, powered_world}
+use Rattle.usb_host.proofs.Agreements.{nested_none}
 use Rattle.usb_host.proofs.Balances.{accounts_none}
 use Rattle.usb_host.proofs.Openings.{opened}
 use Rattle.usb_host.proofs.host.Host.new.Goals as goal
@@ -27,4 +28,4 @@ returns g c =
     opened w0 _ _ _ (powered_all w0 _ (c.ports.port - 1) all c.ports.invariant) c.new-2.ensures c.new.ensures.empty
 
 pub invariant_of-result : goal.invariant_of-result
-invariant_of-result g c = rw (c.new-2.ensures, c.new.ensures.empty) accounts_none
+invariant_of-result g c = rw (c.new-2.ensures, c.new.ensures.empty) (record { accounts = accounts_none; nested = nested_none })

@@ -1,0 +1,16 @@
+-- The way up from a port.
+use Rattle.std.proofs.Common.{◌≡◌, ◌∙◌, ap, arith, length-append, ℕ, ◌+◌, ◌≤◌, List, [], ◌∷◌, length, Option, Some}
+use Rattle.usb_port.specs.Order.{parent_of, port_of}
+use Rattle.usb_port.proofs.OrderLaws.{rejoined}
+
+long : (path hub : List ℕ) → parent_of path ≡ Some hub → 2 ≤ length path
+unfolding parent_of
+long [] hub is = absurd (cc is)
+long (n ∷ []) hub is = absurd (cc is)
+long (n ∷ m ∷ rest) hub is = omega arith
+
+-- a parent is one number shorter
+pub parent_length : (path hub : List ℕ) → parent_of path ≡ Some hub → (length path ≡ length hub + 1) × (1 ≤ length hub)
+parent_length path hub is =
+    let e : length path ≡ length hub + 1 = ap length (rejoined path hub is) ∙ length-append hub (port_of path ∷ []) in
+    (e, omega (arith, e, long path hub is))

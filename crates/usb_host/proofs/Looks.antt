@@ -1,0 +1,98 @@
+-- That the host gets on by a look at a port.
+use Rattle.std.proofs.Common.{◌≡◌, ◌∙◌, refl, sym, ap, subst, arith, inl, inr, true, false, Bool, ℕ, ◌+◌, ◌≤◌, ◌⊎◌, List, Some, Ok, Err, Result}
+use Rattle.std.specs.BTreeMap.{insert_entry, is_at}
+use Rattle.std.specs.Map.{lookup}
+use Rattle.usb_port.specs.Order.{path_cmp}
+use Rattle.usb_resources.specs.Pool.{IsFull}
+use Rattle.usb_hub.specs.Port.{IsPort}
+use Rattle.usb_hub.proofs.Ports.{port_stays}
+use Rattle.usb_enum.specs.declared.cause.Cause.{Cause}
+use Rattle.usb_enum.specs.declared.cause.Cause.TheVariants as cause
+use Rattle.usb_enum.specs.declared.fault.EnumFault.{EnumFault}
+use Rattle.usb_enum.specs.declared.fault.EnumFault.TheVariants.{ParentLost, Bus, Memory}
+use Rattle.usb_enum.specs.declared.finding.Finding.{Finding}
+use Rattle.usb_enum.specs.declared.finding.Finding.TheVariants.{Device, Refused}
+use Rattle.usb_table.specs.declared.known.KnownPort.{KnownPort}
+use Rattle.usb_table.specs.Entries.{Entries, without}
+use Rattle.usb_table.specs.Findings.{is_waiting}
+use Rattle.usb_table.specs.Known.{known_port}
+use Rattle.usb_table.proofs.Ports.{known_port-without}
+use Rattle.usb_host.specs.Hosting.{Hosting, work}
+use Rattle.usb_host.specs.Ports.{StandsAt, Waits, Gained, Served, EntersOne}
+use Rattle.usb_host.specs.Progress.{Goes, Rests, Advances, waiting}
+use Rattle.usb_host.proofs.Waits.{waiting-without, waiting-without_one, waiting-entered, waiting-entered_other}
+
+waiting_is : (f : Finding) → is_waiting f ≡ true → f ≡ Refused cause.NoAddress
+waiting_is (Device device) h = absurd (cc h)
+waiting_is (Refused cause.Silent) h = absurd (cc h)
+waiting_is (Refused cause.Busy) h = absurd (cc h)
+waiting_is (Refused (cause.Stalled request)) h = absurd (cc h)
+waiting_is (Refused cause.BadDevice) h = absurd (cc h)
+waiting_is (Refused cause.TooDeep) h = absurd (cc h)
+waiting_is (Refused (cause.BadConfiguration index)) h = absurd (cc h)
+waiting_is (Refused cause.NoPower) h = absurd (cc h)
+waiting_is (Refused cause.BadHub) h = absurd (cc h)
+waiting_is (Refused cause.Lost) h = absurd (cc h)
+waiting_is (Refused cause.NoAddress) h = refl
+
+other_by : (path : List ℕ) (c d : Hosting) (e : EntersOne path c d) → (IsFull c.addresses → ⊥) → (b : Bool) → is_waiting e.finding ≡ b → waiting d.entries ≤ waiting c.entries
+other_by path c d e free true h = absurd (free (e.waits (waiting_is e.finding h)))
+other_by path c d e free false h =
+    let left = ap waiting e.entries in
+    omega (arith, left, waiting-entered_other path e.finding c.entries h)
+
+-- where an address is free, what is entered does not wait
+pub enters_other : (path : List ℕ) (c d : Hosting) → EntersOne path c d → (IsFull c.addresses → ⊥) → waiting d.entries ≤ waiting c.entries
+enters_other path c d e free = other_by path c d e free (is_waiting e.finding) refl
+
+pub enters_few : (path : List ℕ) (c d : Hosting) → EntersOne path c d → waiting d.entries ≤ waiting c.entries + 1
+enters_few path c d e =
+    let left = ap waiting e.entries in
+    omega (arith, left, waiting-entered path e.finding c.entries)
+
+module _ (path : List ℕ) (m n : ℕ) (a b c d : Hosting) (g : Goes m a b) (r : Rests a b) (others : c ≡ record b { entries = c.entries; addresses = c.addresses })
+  (rest : c.entries ≡ without path b.entries) (h : Goes n c d) where
+  world_is : c.world ≡ b.world
+  world_is = ap (λ (x : Hosting). x.world) others
+
+  looks_due : Gained a.world b.world → waiting d.entries ≤ waiting c.entries + 1 → Advances a d
+  looks_due gained few =
+      let same : waiting b.entries ≡ waiting a.entries = ap (λ (x : Hosting). waiting x.entries) r in
+      let left : waiting c.entries ≡ waiting (without path b.entries) = ap waiting rest in
+      let done : work c.world ≡ work b.world = ap work world_is in
+      let made : c.world.attempts ≡ b.world.attempts = ap (λ (x : Hosting). x.world.attempts) others in
+      omega (arith, gained, few, same, left, done, made, waiting-without path b.entries, h.spends.served, h.spends.later)
+
+  looks_waits : Waits path a → waiting d.entries ≤ waiting c.entries → Advances a d
+  looks_waits w fewer =
+      let same : waiting b.entries ≡ waiting a.entries = ap (λ (x : Hosting). waiting x.entries) r in
+      let found = subst (λ (es : Entries). lookup (is_at (path_cmp path)) es ≡ Some (Refused cause.NoAddress)) (sym (ap (λ (x : Hosting). x.entries) r)) w.entry in
+      let left : waiting c.entries ≡ waiting (without path b.entries) = ap waiting rest in
+      let done : work c.world ≡ work b.world = ap work world_is in
+      let made : c.world.attempts ≡ b.world.attempts = ap (λ (x : Hosting). x.world.attempts) others in
+      let gone = waiting-without_one path (Refused cause.NoAddress) b.entries refl found in
+      omega (arith, fewer, same, left, done, made, gone, h.spends.served, h.spends.later, g.spends.served, g.spends.later)
+
+  -- a change was to be served, or a device waits for an address and one is free
+  pub looks : {Due : Type 0} → (Due → Gained a.world b.world) → (IsFull c.addresses → IsFull b.addresses) → waiting d.entries ≤ waiting c.entries + 1
+      → ((IsFull c.addresses → ⊥) → waiting d.entries ≤ waiting c.entries) → Due ⊎ Waits path a → Advances a d
+  looks gains freed few other (inl due) = looks_due (gains due) few
+  looks gains freed few other (inr w) =
+      looks_waits w (other (λ full. w.free (subst (λ (x : Hosting). IsFull x.addresses) r (freed full))))
+
+pub served_any : (result : Result (Unit {0}) EnumFault) (a d : Hosting) → Advances a d → Served result a d
+served_any (Ok done) a d on = on
+served_any (Err ParentLost) a d on = on
+served_any (Err (Bus fault)) a d on = tt
+served_any (Err Memory) a d on = tt
+
+-- the port stands where it stood, once what was on it is forgotten
+pub stands_kept : (n : ℕ) (path : List ℕ) (port : KnownPort) (a b c : Hosting) → Goes n a b → Rests a b → c ≡ record b { entries = c.entries; addresses = c.addresses } → c.entries ≡ without path b.entries
+    → StandsAt path port a → StandsAt path port c
+stands_kept n path port a b c g r others rest s =
+    let left : c.entries ≡ without path a.entries = rest ∙ ap (λ (x : Hosting). without path x.entries) r in
+    record {
+      known = ap (known_port path) left ∙ known_port-without path a.entries ∙ s.known;
+      there = subst (λ w. IsPort w port.port) (sym (ap (λ (x : Hosting). x.world) others)) (port_stays n port.port a.world b.world g.spends s.there);
+      askable = s.askable;
+    }

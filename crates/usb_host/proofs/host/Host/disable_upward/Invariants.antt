@@ -1,0 +1,15 @@
+use Rattle.std.proofs.Common.{◌≡◌, ◌-◌, ◌*◌, ◌≤◌, length}
+use Rattle.usb_host.specs.Bounds.{order_most}
+use Rattle.usb_host.specs.Progress.{Goes, Rests}
+use Rattle.usb_host.proofs.host.Host.disable_upward.Given as goal
+
+abbrev pub invariant-up : goal.invariant-up
+invariant-up g l = record {
+  goes : Goes ((7 - length l.path) * order_most) l.initial.self l.self;
+  rests : Rests l.initial.self l.self;
+  least : 1 ≤ length l.path;
+  most : length l.path ≤ 7;
+}
+
+abbrev pub decreases-up : goal.decreases-up
+decreases-up g l = length l.path

@@ -1,0 +1,42 @@
+use Rattle.std.proofs.Common.{◌≡◌, ◌∙◌, ◌≤◌, ap, arith, refl, sym, subst, false}
+use Rattle.std.specs.Prelude.{IsSome}
+use Rattle.usb_enum.specs.declared.cause.Cause.TheVariants.{Lost}
+use Rattle.usb_enum.specs.declared.finding.Finding.TheVariants.{Refused}
+use Rattle.usb_table.specs.Entries.{Entries, has_at, without}
+use Rattle.usb_table.specs.Known.{known_port}
+use Rattle.usb_table.proofs.Ports.{known_port-without}
+use Rattle.usb_host.specs.Hosting.{Hosting}
+use Rattle.usb_host.specs.Progress.{waiting}
+use Rattle.usb_host.proofs.Agreements.{nested_entered}
+use Rattle.usb_host.proofs.Balances.{accounts_entered}
+use Rattle.usb_host.proofs.Joins.{dropped}
+use Rattle.usb_host.proofs.Waits.{waiting-entered_other}
+use Rattle.usb_host.proofs.host.Host.drop_hub.Goals as goal
+
+pub returns-in_err-insert-clause-holds : goal.returns-in_err-insert-clause-holds
+returns-in_err-insert-clause-holds g c =
+    let same = ap waiting (c.in_err-insert.ensures.err ∙ ap (λ (h : Hosting). h.entries) c.self.view_is) in
+    let fewer : waiting c.insert.new.self ≤ waiting c.forget.new.self.entries = omega (arith, same) in
+    dropped _ c.in_ok-lost.lost c.args.self.now c.disable_upward.new.self c.forget.new.self (g.B.Bus.world c.self.inside.bus) c.insert.new.self c.disable_upward.ensures.goes c.in_ok-lost.ensures.rests
+    c.forget.ensures.others c.forget.ensures.rest (ap (λ (h : Hosting). h.world) c.self.view_is) fewer
+
+pub returns-clause-holds : goal.returns-clause-holds
+returns-clause-holds g c =
+    let table = ap (λ (h : Hosting). waiting h.entries) c.self.view_is in
+    let more = waiting-entered_other c.in_ok-lost.lost (Refused Lost) c.self.inside.table refl in
+    let entered = ap waiting c.in_ok-insert.ensures.ok in
+    let fewer : waiting c.insert.new.self ≤ waiting c.forget.new.self.entries = omega (arith, table, more, entered) in
+    dropped _ c.in_ok-lost.lost c.args.self.now c.disable_upward.new.self c.forget.new.self (g.B.Bus.world c.self.inside.bus) c.insert.new.self c.disable_upward.ensures.goes c.in_ok-lost.ensures.rests
+    c.forget.ensures.others c.forget.ensures.rest (ap (λ (h : Hosting). h.world) c.self.view_is) fewer
+
+pub invariant_of-self-2 : goal.invariant_of-self-2
+invariant_of-self-2 g c =
+    let path = c.in_ok-lost.lost in
+    let away = subst (λ (h : Hosting). has_at path h.entries ≡ false) (sym c.self.view_is) c.forget.ensures.gone in
+    let left : c.self.inside.table ≡ without path c.args.self.now.entries =
+        ap (λ (h : Hosting). h.entries) c.self.view_is ∙ c.forget.ensures.rest ∙ ap (λ (h : Hosting). without path h.entries) c.in_ok-lost.ensures.rests in
+    let known = subst (λ (es : Entries). IsSome (known_port path es)) (sym left) (subst IsSome (sym (known_port-without path c.args.self.now.entries)) c.in_ok-lost.ensures.known) in
+    rw c.in_ok-insert.ensures.ok (record {
+      accounts = accounts_entered path (Refused Lost) c.self.inside.table c.self.inside.pool c.self.inside.pool c.self.invariant.accounts away refl;
+      nested = nested_entered path (Refused Lost) c.self.inside.table away known c.self.invariant.nested;
+    })

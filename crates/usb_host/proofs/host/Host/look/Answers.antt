@@ -1,0 +1,27 @@
+use Rattle.std.proofs.Common.{arith, ap, ◌≤◌}
+use Rattle.usb_host.specs.Progress.{waiting}
+use Rattle.usb_host.proofs.Joins.{goes_none}
+use Rattle.usb_host.proofs.Looks.{looks, stands_kept, served_any, enters_few, enters_other}
+use Rattle.usb_host.proofs.host.Host.look.Goals as goal
+
+pub discover-requires-clause-port : goal.discover-requires-clause-port
+discover-requires-clause-port g c =
+    stands_kept _ c.args.path.now c.args.port c.args.self.now c.clear_change.new.self c.forget.new.self c.clear_change.ensures.goes c.in_ok-status.ensures.rests c.forget.ensures.others c.forget.ensures.rest c.requires
+
+pub returns-in_err-discover-clause-served : goal.returns-in_err-discover-clause-served
+returns-in_err-discover-clause-served g c = λ due.
+    let same = ap waiting c.in_err-discover.ensures.entered in
+    let fewer : waiting c.discover.new.self.entries ≤ waiting c.forget.new.self.entries = omega (arith, same) in
+    served_any _ _ _ (looks c.args.path.now _ _ c.args.self.now c.clear_change.new.self c.forget.new.self c.discover.new.self c.clear_change.ensures.goes c.in_ok-status.ensures.rests
+    c.forget.ensures.others c.forget.ensures.rest c.discover.ensures.goes c.in_ok-status.ensures.gains c.forget.ensures.freed (omega (arith, fewer)) (λ _. fewer) due)
+
+pub returns-in_ok-discover-clause-served : goal.returns-in_ok-discover-clause-served
+returns-in_ok-discover-clause-served g c = λ due.
+    let one = c.in_ok-discover.ensures.entered in
+    looks c.args.path.now _ _ c.args.self.now c.clear_change.new.self c.forget.new.self c.discover.new.self c.clear_change.ensures.goes c.in_ok-status.ensures.rests
+    c.forget.ensures.others c.forget.ensures.rest c.discover.ensures.goes c.in_ok-status.ensures.gains c.forget.ensures.freed (enters_few c.args.path.now _ _ one) (enters_other c.args.path.now _ _ one) due
+
+pub returns-else-status-clause-served : goal.returns-else-status-clause-served
+returns-else-status-clause-served g c = λ due.
+    looks c.args.path.now _ 0 c.args.self.now c.clear_change.new.self c.forget.new.self c.forget.new.self c.clear_change.ensures.goes c.in_ok-status.ensures.rests
+    c.forget.ensures.others c.forget.ensures.rest (goes_none c.forget.new.self) c.in_ok-status.ensures.gains c.forget.ensures.freed (omega arith) (λ _. omega arith) due

@@ -1,0 +1,44 @@
+//! The table and the pool of addresses, changed together.
+ghost use Rattle.std.specs.Prelude.{◌≡◌, false, OnOk, OnErr};
+ghost use Rattle.std.specs.BTreeMap.{insert_entry};
+ghost use Rattle.usb_port.specs.Order.{path_cmp};
+ghost use Rattle.usb_table.specs.Entries.{has_at};
+ghost use Rattle.usb_table.specs.Findings.{IsSound, HasNewAddress, address_of};
+ghost use Rattle.usb_enum.specs.declared.finding.Finding.{Finding};
+ghost use Rattle.usb_host.specs.Hosting.{Frees};
+
+use std::alloc::AllocError;
+use usb_enum::Finding;
+use usb_port::PortPath;
+use usb_resources::{Address, AddressPool};
+use usb_table::{DeviceTable, address_of};
+
+/// Enters a finding. Where memory is refused, its address is released.
+pub(crate) fn enter(
+    table: &mut DeviceTable,
+    pool: &mut AddressPool,
+    path: PortPath,
+    finding: Finding,
+) -> Result<(), AllocError>
+    requires away { has_at path table.old ≡ false }
+    requires sound { IsSound finding }
+    requires new { HasNewAddress finding table.old }
+    ensures ok { OnOk result ((table.new ≡ insert_entry path_cmp table.old path finding) × (pool.new ≡ pool.old)) }
+    ensures err { OnErr result ((table.new ≡ table.old) × Frees finding pool.old pool.new) }
+{
+    let address = address_of(&finding);
+    let entered = table.insert(path, finding);
+    if entered.is_err() {
+        release(pool, address);
+    }
+    entered
+}
+
+/// Releases an address, where there is one.
+pub(crate) fn release(pool: &mut AddressPool, address: Option<Address>)
+    ensures { (finding : Finding) → address_of finding ≡ address → Frees finding pool.old pool.new }
+{
+    if let Some(address) = address {
+        pool.release(address);
+    }
+}
