@@ -13,6 +13,9 @@ goes_by n a b c g s = record { count = g.count + n; spends = spends_then g.count
 pub goes_then : (a b c : World) → Goes a b → Goes b c → Goes a c
 goes_then a b c g h = goes_by h.count a b c g h.spends
 
+pub goes_thrice : (a b c d : World) → Goes a b → Goes b c → Goes c d → Goes a d
+goes_thrice a b c d g h i = goes_then a c d (goes_then a b c g h) i
+
 -- a run that began within its limit ends within it
 pub goes_within : (a b : World) → Goes a b → a.attempts ≤ a.limit → b.attempts ≤ a.limit
 goes_within a b g le = subst (λ n. b.attempts ≤ n) g.spends.limit (g.spends.within le)

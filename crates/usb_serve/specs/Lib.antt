@@ -2,3 +2,4 @@ pub mod Line
 pub mod Report
 pub mod Run
 pub mod Serving
+pub mod Transfers

@@ -1,14 +1,15 @@
 -- What runs leave of a bus's world.
-use Rattle.std.specs.Prelude.{◌≡◌, ℕ, ◌+◌, Bool, Option, Some, None, if◌then◌else◌}
+use Rattle.std.specs.Prelude.{◌≡◌, ℕ, ◌+◌, ⊤, Bool, false, Result, OnOk, IfErr, if◌then◌else◌}
 use Rattle.usb_world.specs.PlanData.{PlanData}
-use Rattle.usb_world.specs.World.{World, Spends, to_come}
-use Rattle.usb_world.specs.declared.event.Due.{Due}
-use Rattle.usb_world.specs.declared.event.Due.TheVariants.{Changed, Show, Send, Receive, Clear}
+use Rattle.usb_world.specs.World.{World, Spends, root_row, to_come, changes}
 use Rattle.usb_world.specs.declared.types.BusFault.{BusFault}
 use Rattle.usb_world.specs.declared.types.BusFault.TheVariants as bus
+use Rattle.usb_host.specs.declared.host.Round.{Round}
+use Rattle.usb_host.specs.declared.host.Round.TheVariants.{Worked, Quiet}
 use Rattle.usb_host.specs.Hosting.{Hosting}
+use Rattle.usb_host.specs.Progress.{Advances, Rests}
 use Rattle.usb_serve.specs.declared.runs.Item.{Item}
-use Rattle.usb_serve.specs.declared.runs.Item.TheVariants.{Listing}
+use Rattle.usb_serve.specs.declared.runs.Item.TheVariants.{Listing, Sent, Received, Cleared}
 use Rattle.usb_serve.specs.declared.runs.Report.{Report}
 use Rattle.usb_serve.specs.declared.runs.RunFault.{RunFault}
 use Rattle.usb_serve.specs.declared.runs.RunFault.TheVariants.{LimitReached, Memory, TraceFailed}
@@ -35,6 +36,17 @@ IsCaused LimitReached w = w.attempts ≡ w.limit
 IsCaused Memory w = Unit {0}
 IsCaused TraceFailed w = Unit {0}
 
+-- what a round did: it got on, or no port had changed
+pub record DidRound (round : Round) (old new : Hosting) : Type 0 where
+  pub worked : round ≡ Worked → Advances old new
+  pub quiet : round ≡ Quiet → Rests old new × (changes (root_row old.world) ≡ 0)
+
+-- a part of a run: its host goes on where no fault is told, and a fault has its cause
+pub record RunsOn {A : Type 0} (old : Hosting) (result : Result A RunFault) (new : Hosting) : Type 0 where
+  pub goes : Goes old.world new.world
+  pub running : OnOk result (new.stopped ≡ false)
+  pub caused : IfErr result (λ fault. IsCaused fault new.world)
+
 -- how many items are to come at most
 abbrev pub items_left : Bool → World → ℕ
 items_left over w = to_come w + (if over then 0 else 1)
@@ -43,13 +55,12 @@ items_left over w = to_come w + (if over then 0 else 1)
 abbrev pub listing_of : Hosting → Item
 listing_of h = Listing h.entries h.world.taken
 
--- what a run makes of an event: a listing where the host is to list, and no transfer
-abbrev pub item_of : Due → Hosting → Option Item
-item_of Changed h = None
-item_of Show h = Some (listing_of h)
-item_of (Send path bytes) h = None
-item_of (Receive path packets) h = None
-item_of (Clear path) h = None
+-- a listing is what the host has found
+abbrev pub IsOfHost : Item → Hosting → Type 0
+IsOfHost (Listing entries taken) h = Listing entries taken ≡ listing_of h
+IsOfHost (Sent path sent) h = ⊤
+IsOfHost (Received path received) h = ⊤
+IsOfHost (Cleared path cleared) h = ⊤
 
 -- a report's counts are the world's
 pub record Counts (report : Report) (w : World) : Type 0 where

@@ -1,18 +1,16 @@
 -- What serving a plan tells and writes.
-use Rattle.std.specs.Prelude.{ℕ, List, Bool, true, false, Result, Ok, Err}
-use Rattle.usb_world.specs.declared.event.Action.{Action}
-use Rattle.usb_world.specs.declared.event.Action.TheVariants.{Plug, Unplug, Show, Send, Receive, Clear}
+use Rattle.std.specs.Prelude.{ℕ, ◌+◌, List, [], ◌∷◌, Result, Ok, Err}
 use Rattle.usb_world.specs.declared.types.BusFault.{BusFault}
 use Rattle.usb_world.specs.declared.types.BusFault.TheVariants as bus
 use Rattle.usb_serve.specs.declared.input.InputFault.{InputFault}
 use Rattle.usb_serve.specs.declared.input.InputFault.TheVariants as input
 use Rattle.usb_serve.specs.declared.runs.Item.{Item}
-use Rattle.usb_serve.specs.declared.runs.Item.TheVariants.{Listing}
+use Rattle.usb_serve.specs.declared.runs.Item.TheVariants.{Listing, Sent, Received, Cleared}
 use Rattle.usb_serve.specs.declared.runs.RunFault.TheVariants as run
 use Rattle.usb_serve.specs.declared.serving.ServeFault.{ServeFault}
-use Rattle.usb_serve.specs.declared.serving.ServeFault.TheVariants.{Read, TooLong, NotServed, Run, Write, Memory}
+use Rattle.usb_serve.specs.declared.serving.ServeFault.TheVariants.{Read, TooLong, Run, Write, Memory}
 use Rattle.usb_serve.specs.declared.serving.ServeFault.TheVariants as serve
-use Rattle.usb_serve.specs.Report.{listing_lines}
+use Rattle.usb_serve.specs.Report.{listing_lines, sent_line, received_line, cleared_line}
 
 abbrev pub input_fault : InputFault → ServeFault
 input_fault input.Read = Read
@@ -30,7 +28,6 @@ abbrev pub IsFaultOfRun : ServeFault → Type 0
 IsFaultOfRun Read = ⊥
 IsFaultOfRun TooLong = ⊥
 IsFaultOfRun (serve.Plan fault) = ⊥
-IsFaultOfRun (NotServed fault) = ⊥
 IsFaultOfRun (Run fault) = Unit {0}
 IsFaultOfRun Write = Unit {0}
 IsFaultOfRun Memory = Unit {0}
@@ -42,12 +39,13 @@ IsOfRun (Err fault) = IsFaultOfRun fault
 -- the lines of an item; the number is that of a listing
 abbrev pub item_lines : ℕ → Item → List (List ℕ)
 item_lines number (Listing entries taken) = listing_lines number entries
+item_lines number (Sent path sent) = sent_line path sent ∷ []
+item_lines number (Received path received) = received_line path received ∷ []
+item_lines number (Cleared path cleared) = cleared_line path cleared ∷ []
 
--- the host is to send, to receive or to clear
-abbrev pub is_transfer : Action → Bool
-is_transfer (Plug path device) = false
-is_transfer (Unplug path) = false
-is_transfer Show = false
-is_transfer (Send path bytes) = true
-is_transfer (Receive path packets) = true
-is_transfer (Clear path) = true
+-- listings alone are numbered
+abbrev pub number_of : Item → ℕ → ℕ
+number_of (Listing entries taken) number = number + 1
+number_of (Sent path sent) number = number
+number_of (Received path received) number = number
+number_of (Cleared path cleared) number = number

@@ -1,11 +1,11 @@
 //! The lines of a listing, each with its newline.
 ghost use Rattle.std.specs.Prelude.{◌≡◌, ◌++◌, ◌∷◌, [], OnOk, IfOk, flat_map, map, option_map};
-ghost use Rattle.usb_serve.specs.Report.{address_line, config_line, config_lines, string_line, string_lines, refused_line, listing_line, bound_line, device_lines, finding_lines, entry_lines, listing_lines, star, request_word, cause_word, cause_index};
+ghost use Rattle.usb_serve.specs.Report.{address_line, config_line, config_lines, hub_line, hub_lines, string_line, string_lines, refused_line, listing_line, bound_line, device_lines, finding_lines, entry_lines, listing_lines, star, request_word, cause_word, cause_index};
 
 use crate::lines::Lines;
 use crate::text::{push_decimal, push_hex, push_path, push_units, speed_word};
 use std::alloc::{AllocError, Global};
-use usb_enum::{Accepted, Cause, ConfigText, Finding, Request, StringUnits};
+use usb_enum::{Accepted, Cause, ConfigText, Finding, HubFacts, Request, StringUnits};
 use usb_host::Tree;
 use usb_port::PortPath;
 
@@ -94,6 +94,35 @@ fn push_configs(
     Ok(())
 }
 
+/// `PATH hub N ports S mA`.
+#[tactic(auto, unfolding(crate::specs::Report::hub_line))]
+fn hub_line(alloc: Global, path: &PortPath, hub: &HubFacts) -> Result<Vec<u8>, AllocError>
+    ensures { IfOk result (λ line. line.items ≡ hub_line path.now hub.now.ports hub.now.supply) }
+{
+    let mut line = Vec::new(alloc);
+    push_path(&mut line, path)?;
+    line.extend_from_slice(b" hub ")?;
+    push_decimal(alloc, &mut line, u64::from(hub.ports))?;
+    line.extend_from_slice(b" ports ")?;
+    push_decimal(alloc, &mut line, u64::from(hub.supply))?;
+    line.extend_from_slice(b" mA\n")?;
+    Ok(line)
+}
+
+fn push_hub(
+    alloc: Global,
+    lines: &mut Lines,
+    path: &PortPath,
+    hub: &Option<HubFacts>,
+) -> Result<(), AllocError>
+    ensures { OnOk result (lines.new ≡ lines.old ++ hub_lines path.now hub.now) }
+{
+    match hub {
+        Some(hub) => lines.push(hub_line(alloc, path, hub)?),
+        None => Ok(()),
+    }
+}
+
 /// `PATH LABEL "TEXT"`.
 #[tactic(auto, unfolding(crate::specs::Report::string_line))]
 fn string_line(
@@ -140,6 +169,7 @@ fn push_device(
 {
     lines.push(address_line(alloc, path, device)?)?;
     push_configs(alloc, lines, path, device.configs.as_slice(), device.chosen)?;
+    push_hub(alloc, lines, path, &device.hub)?;
     push_string(
         alloc,
         lines,

@@ -1,25 +1,33 @@
 //! Runs of a plan.
 ghost use Rattle.std.specs.Prelude.{◌≡◌, ◌≢◌, ◌≤◌, ◌<◌, false, true, None, Ok, Err, OnOk, OnErr, IfOk, IfErr, IfSome, IsSome};
-ghost use Rattle.usb_bus.specs.Served.{served_of};
 ghost use Rattle.usb_world.specs.World.{Spends, root_row, to_come, changes};
 ghost use Rattle.usb_bus.specs.Sim.{world_of, writer_of};
 ghost use Rattle.usb_world.specs.Steps.{opening, PutLine};
-ghost use Rattle.usb_host.specs.Hosting.{work, opening as host_opening};
+ghost use Rattle.usb_host.specs.Hosting.{opening as host_opening};
 ghost use Rattle.usb_serve.specs.declared.runs.RunFault.TheVariants.{Memory as NoMemory};
-ghost use Rattle.usb_serve.specs.Run.{Counts, Goes, IsCaused, run_fault, item_of, items_left, listing_of, IsBegun};
+ghost use Rattle.usb_serve.specs.Transfers.{IsItemOf};
+ghost use Rattle.usb_serve.specs.Run.{Counts, Goes, IsBegun, IsCaused, IsOfHost, DidRound, RunsOn, run_fault, items_left, listing_of};
 
+use crate::transfer::{TransferFault, answered, counted};
 use std::alloc::{AllocError, AllocFailed, Global};
 use std::io;
 use std::io::Write;
 use thiserror::Error;
 use usb_bus::{BusFault, Due, Plan, SimBus, Watched};
 use usb_host::{Host, HostFault, Round, Tree};
+use usb_port::PortPath;
 
 /// What a run made.
 #[derive(Drop)]
 pub enum Item {
     /// What the host had found, and how many events had been taken.
     Listing(Tree, u64),
+    /// How many bytes were sent to the device at a path.
+    Sent(PortPath, Result<u64, TransferFault>),
+    /// The bytes that were received from the device at a path.
+    Received(PortPath, Result<Vec<u8>, TransferFault>),
+    /// That the halts of the device at a path were cleared.
+    Cleared(PortPath, Result<(), TransferFault>),
 }
 
 /// Why a run ended early, in the order in which the reasons are told.
@@ -92,8 +100,7 @@ fn round_of<W: Write>(host: &mut Host<SimBus<W>>) -> Result<Round, RunFault>
     requires running { host.old.stopped ≡ false }
     ensures goes { Goes host.old.world host.new.world }
     ensures running { OnOk result (host.new.stopped ≡ false) }
-    ensures worked { result ≡ Ok Round.Worked → work host.new.world < work host.old.world }
-    ensures quiet { result ≡ Ok Round.Quiet → (host.new ≡ host.old) × (changes (root_row host.old.world) ≡ 0) }
+    ensures did { IfOk result (λ round. DidRound round host.old host.new) }
     ensures caused { IfErr result (λ fault. IsCaused fault host.new.world) }
 {
     match host.round() {
@@ -115,14 +122,13 @@ pub struct Report {
     pub worst_address_run: u32,
 }
 
-/// Runs a plan that is served to its end, with its trace thrown away. Where the plan asks for transfers, these events
-/// come in their turn, and nothing is sent, received or cleared.
+/// Runs a plan to its end, with its trace thrown away. A transfer that is not done is an item with its fault, and the
+/// run goes on.
 ///
 /// # Errors
 /// LimitReached where the attempts made equal the plan's limit, Memory where memory was refused.
 #[tactic(auto, using(crate::proofs::Goings::goes_within))]
 pub fn run(alloc: Global, plan: &Plan) -> Result<Report, RunFault>
-    requires { served_of plan.now ≡ Ok tt }
     ensures { IfOk result (λ report. report.attempts ≤ plan.now.limit) }
 {
     let mut runner = match Runner::new(alloc, plan, Watched::new(io::sink())) {
@@ -165,7 +171,6 @@ impl<W: Write> Runner<W> {
         plan: &Plan,
         writer: Watched<W>,
     ) -> Result<Runner<W>, (AllocError, Watched<W>)>
-        requires { served_of plan.now ≡ Ok tt }
         ensures opened { IfOk result (λ runner. runner.host ≡ host_opening (opening plan.now)) }
         ensures begun { IfOk result (λ runner. IsBegun plan.now runner.host.world) }
         ensures running { IfOk result (λ runner. runner.host.stopped ≡ false) }
@@ -179,13 +184,13 @@ impl<W: Write> Runner<W> {
     }
 
     /// Runs on to the next item, or answers None where the run is over.
-    #[tactic(auto, using(crate::proofs::Goings::goes_then, crate::proofs::Goings::goes_none))]
+    #[tactic(auto, using(crate::proofs::Goings::goes_then, crate::proofs::Goings::goes_thrice, crate::proofs::Goings::goes_none))]
     pub(crate) fn next_item(&mut self) -> Result<Option<Item>, RunFault>
         requires running { self.old.over ≡ false → self.old.host.stopped ≡ false }
         ensures goes { Goes self.old.host.world self.new.host.world }
         ensures running { OnOk result (self.new.over ≡ false → self.new.host.stopped ≡ false) }
         ensures caused { IfErr result (λ fault. IsCaused fault self.new.host.world) }
-        ensures item { IfOk result (λ item. IfSome item (λ made. made ≡ listing_of self.new.host)) }
+        ensures item { IfOk result (λ item. IfSome item (λ made. IsOfHost made self.new.host)) }
         ensures fewer { IfOk result (λ item. IsSome item → items_left self.new.over self.new.host.world < items_left self.old.over self.old.host.world) }
     {
         if self.over {
@@ -206,28 +211,65 @@ impl<W: Write> Runner<W> {
     #[tactic(auto, using(crate::proofs::Goings::goes_by))]
     fn next_due(&mut self) -> Result<Option<Due>, RunFault>
         requires running { self.old.host.stopped ≡ false }
-        ensures goes { Goes self.old.host.world self.new.host.world }
+        ensures on { RunsOn self.old.host result self.new.host }
         ensures over { self.new.over ≡ self.old.over }
-        ensures running { OnOk result (self.new.host.stopped ≡ false) }
-        ensures caused { IfErr result (λ fault. IsCaused fault self.new.host.world) }
         ensures fewer { IfOk result (λ due. IsSome due → to_come self.new.host.world < to_come self.old.host.world) }
     {
         settle(&mut self.host)?;
         Ok(self.host.bus_mut().apply_next_event()?)
     }
 
-    /// What the run makes of an event: a listing where the host is to list. No transfer is made.
-    fn item_of(&self, due: Due) -> Result<Option<Item>, RunFault>
-        ensures item { IfOk result (λ item. item ≡ item_of due self.now.host) }
-        ensures fault { IfErr result (λ fault. fault ≡ RunFault.Memory) }
+    /// What the run makes of an event: a listing where the host is to list, and the answer of a transfer.
+    #[tactic(auto, using(crate::proofs::Goings::goes_none, crate::proofs::Goings::goes_from))]
+    fn item_of(&mut self, due: Due) -> Result<Option<Item>, RunFault>
+        requires running { self.old.host.stopped ≡ false }
+        ensures on { RunsOn self.old.host result self.new.host }
+        ensures over { self.new.over ≡ self.old.over }
+        ensures item { IfOk result (λ item. IsItemOf due item self.new.host) }
     {
         match due {
-            Due::Show => Ok(Some(self.listing()?)),
             Due::Changed => Ok(None),
-            Due::Send(_, _) => Ok(None),
-            Due::Receive(_, _) => Ok(None),
-            Due::Clear(_) => Ok(None),
+            Due::Show => Ok(Some(self.listing()?)),
+            Due::Send(path, bytes) => Ok(Some(self.send(path, bytes.as_slice())?)),
+            Due::Receive(path, packets) => Ok(Some(self.receive(path, packets)?)),
+            Due::Clear(path) => Ok(Some(self.clear(path)?)),
         }
+    }
+
+    /// Sends bytes to the device at a path.
+    #[tactic(auto, using(crate::proofs::Goings::goes_from))]
+    fn send(&mut self, path: PortPath, bytes: &[u8]) -> Result<Item, RunFault>
+        requires running { self.old.host.stopped ≡ false }
+        ensures on { RunsOn self.old.host result self.new.host }
+        ensures over { self.new.over ≡ self.old.over }
+        ensures item { IfOk result (λ item. IsItemOf (Due.Send path bytes.now) (Some item) self.new.host) }
+    {
+        let sent = answered(self.host.send(&path, bytes))?;
+        Ok(Item::Sent(path, counted(bytes.len(), sent)))
+    }
+
+    /// Receives at most so many packets from the device at a path.
+    #[tactic(auto, using(crate::proofs::Goings::goes_from))]
+    fn receive(&mut self, path: PortPath, packets: u16) -> Result<Item, RunFault>
+        requires running { self.old.host.stopped ≡ false }
+        ensures on { RunsOn self.old.host result self.new.host }
+        ensures over { self.new.over ≡ self.old.over }
+        ensures item { IfOk result (λ item. IsItemOf (Due.Receive path packets) (Some item) self.new.host) }
+    {
+        let received = answered(self.host.receive(&path, packets))?;
+        Ok(Item::Received(path, received))
+    }
+
+    /// Clears the halts of the device at a path.
+    #[tactic(auto, using(crate::proofs::Goings::goes_from))]
+    fn clear(&mut self, path: PortPath) -> Result<Item, RunFault>
+        requires running { self.old.host.stopped ≡ false }
+        ensures on { RunsOn self.old.host result self.new.host }
+        ensures over { self.new.over ≡ self.old.over }
+        ensures item { IfOk result (λ item. IsItemOf (Due.Clear path) (Some item) self.new.host) }
+    {
+        let cleared = answered(self.host.clear_halt(&path))?;
+        Ok(Item::Cleared(path, cleared))
     }
 
     /// What the host has found, and how many events had come.

@@ -1,10 +1,10 @@
 //! A plan's text in, the text of its run out.
-ghost use Rattle.std.specs.Prelude.{◌≡◌, ◌≢◌, ◌+◌, ◌<◌, ◌≤◌, Ok, Err, true, false, IsErrOf, IfErr, IfOk, IfSome, OnErr, OnOk, length, position};
-ghost use Rattle.usb_bus.specs.Served.{served_of};
+ghost use Rattle.std.specs.Prelude.{◌≡◌, ◌≢◌, ◌+◌, ◌<◌, ◌≤◌, Ok, Err, true, false, IsErrOf, IfErr, IfOk, IfSome, OnErr, OnOk, [], ◌∷◌, length};
 ghost use Rattle.usb_bus.specs.Watch.{inner_of, has_failed, calls_of};
 ghost use Rattle.usb_serve.specs.declared.serving.ServeFault.TheVariants as serve;
-ghost use Rattle.usb_serve.specs.Serving.{IsOfRun, is_transfer, input_fault, item_lines, report_fault};
+ghost use Rattle.usb_serve.specs.Serving.{IsOfRun, input_fault, item_lines, number_of, report_fault};
 
+use crate::answers::{cleared_line, received_line, sent_line};
 use crate::input::{InputFault, read_text};
 use crate::lines::Lines;
 use crate::listing::{bound_line, listing_lines};
@@ -13,7 +13,7 @@ use std::alloc::{AllocError, Global};
 use std::io::{Read, Write};
 use std::{io, str};
 use thiserror::Error;
-use usb_bus::{Action, BusFault, Event, NotServed, Plan, Watched, WriteFailed, put_piece, served};
+use usb_bus::{BusFault, Plan, Watched, WriteFailed, put_piece};
 use usb_plan::{PlanFault, bound, read_plan};
 
 /// What is written of a plan's run.
@@ -37,9 +37,6 @@ pub enum ServeFault {
     /// The text is no plan.
     #[error("{0}")]
     Plan(PlanFault),
-    /// The plan asks for something that is not served yet.
-    #[error("{0}")]
-    NotServed(NotServed),
     /// The run ended early.
     #[error("{0}")]
     Run(RunFault),
@@ -71,14 +68,6 @@ impl From<InputFault> for ServeFault {
     }
 }
 
-impl From<NotServed> for ServeFault {
-    ghost from_gives = { λ fault e. e ≡ serve.NotServed fault };
-
-    fn from(fault: NotServed) -> ServeFault {
-        ServeFault::NotServed(fault)
-    }
-}
-
 impl From<RunFault> for ServeFault {
     ghost from_gives = { λ fault e. e ≡ serve.Run fault };
 
@@ -99,8 +88,7 @@ impl From<WriteFailed> for ServeFault {
 ///
 /// # Errors
 /// Read where the reader failed, TooLong for a text over the limit, Plan for a text that is no plan,
-/// NotServed for a plan that asks for what is not served yet, Run where the
-/// run ended early, Write where the writer failed in a line of report, Memory where memory was refused.
+/// Run where the run ended early, Write where the writer failed in a line of report, Memory where memory was refused.
 pub fn serve<R: Read, W: Write>(
     alloc: Global,
     mode: Mode,
@@ -128,42 +116,14 @@ fn plan_of<R: Read>(alloc: Global, reader: &mut Watched<R>) -> Result<Plan, Serv
     ensures read { IsErrOf result ServeFault.Read → has_failed reader.new ≡ true }
     ensures too_long { IsErrOf result ServeFault.TooLong → IfSome (R.remaining (inner_of reader.old)) (λ text. 1048576 < length text) }
     ensures others { result ≢ Err ServeFault.Write }
-    ensures served { IfOk result (λ plan. served_of plan ≡ Ok tt) }
 {
     let text = read_text(alloc, reader)?;
     let Ok(text) = str::from_utf8(text.as_slice()) else {
         return Err(ServeFault::Plan(PlanFault::Syntax));
     };
-    let plan = match read_plan(alloc, text) {
-        Ok(plan) => plan,
-        Err(fault) => return Err(ServeFault::Plan(fault)),
-    };
-    served(&plan)?;
-    if let Some(index) = first_transfer(plan.events()) {
-        return Err(ServeFault::NotServed(NotServed::Event(index + 1)));
-    }
-    Ok(plan)
-}
-
-/// The place of the first event that asks for a transfer, which the host does not make yet.
-fn first_transfer(events: &[Event]) -> Option<usize>
-    requires { length events.now ≤ 10000 }
-    ensures value { result ≡ position (λ e. is_transfer e.action) events.now }
-    ensures bound { IfSome result (λ i. i < 10000) }
-{
-    events.iter().position(|event| is_transfer(&event.action))
-}
-
-fn is_transfer(action: &Action) -> bool
-    ensures { result ≡ is_transfer action.now }
-{
-    match action {
-        Action::Plug(_, _) => false,
-        Action::Unplug(_) => false,
-        Action::Show => false,
-        Action::Send(_, _) => true,
-        Action::Receive(_, _) => true,
-        Action::Clear(_) => true,
+    match read_plan(alloc, text) {
+        Ok(plan) => Ok(plan),
+        Err(fault) => Err(ServeFault::Plan(fault)),
     }
 }
 
@@ -172,7 +132,6 @@ fn serve_tree<W: Write>(
     plan: &Plan,
     writer: Watched<W>,
 ) -> (Result<(), ServeFault>, Watched<W>)
-    requires { served_of plan.now ≡ Ok tt }
     ensures reader { IsOfRun result.0 }
     ensures write { IsErrOf result.0 ServeFault.Write → has_failed result.1 ≡ true }
 {
@@ -187,7 +146,6 @@ fn write_tree<W: Write>(
     plan: &Plan,
     writer: &mut Watched<W>,
 ) -> Result<(), ServeFault>
-    requires { served_of plan.now ≡ Ok tt }
     ensures reader { IsOfRun result }
     ensures write { IsErrOf result ServeFault.Write → has_failed writer.new ≡ true }
 {
@@ -197,17 +155,21 @@ fn write_tree<W: Write>(
     };
     let mut number = 0;
     'items: while let Some(item) = runner.next_item()? {
-        number = next_number(number);
+        number = number_of(&item, number);
         write_lines(writer, item_lines(alloc, number, &item)?.as_slice())?;
     }
     let line = bound_line(alloc, bound(plan))?;
     write_line(writer, line.as_slice())
 }
 
-fn next_number(number: u64) -> u64
-    ensures { number < 18446744073709551615 → result ≡ number + 1 }
+/// The number of the last listing, once an item is made.
+fn number_of(item: &Item, number: u64) -> u64
+    ensures { number < 18446744073709551615 → result ≡ number_of item.now number }
 {
-    number.saturating_add(1)
+    match item {
+        Item::Listing(_, _) => number.saturating_add(1),
+        Item::Sent(_, _) | Item::Received(_, _) | Item::Cleared(_, _) => number,
+    }
 }
 
 fn item_lines(alloc: Global, number: u64, item: &Item) -> Result<Lines, AllocError>
@@ -215,7 +177,18 @@ fn item_lines(alloc: Global, number: u64, item: &Item) -> Result<Lines, AllocErr
 {
     match item {
         Item::Listing(tree, _) => listing_lines(alloc, number, tree),
+        Item::Sent(path, sent) => one_line(alloc, sent_line(alloc, path, sent)?),
+        Item::Received(path, received) => one_line(alloc, received_line(alloc, path, received)?),
+        Item::Cleared(path, cleared) => one_line(alloc, cleared_line(alloc, path, cleared)?),
     }
+}
+
+fn one_line(alloc: Global, line: Vec<u8>) -> Result<Lines, AllocError>
+    ensures { IfOk result (λ lines. lines ≡ line.items ∷ []) }
+{
+    let mut lines = Lines::new(alloc);
+    lines.push(line)?;
+    Ok(lines)
 }
 
 fn write_lines<W: Write>(writer: &mut Watched<W>, lines: &[Vec<u8>]) -> Result<(), ServeFault>
@@ -241,7 +214,6 @@ fn serve_run<W: Write>(
     plan: &Plan,
     writer: Watched<W>,
 ) -> (Result<(), ServeFault>, Watched<W>)
-    requires { served_of plan.now ≡ Ok tt }
     ensures { IsOfRun result.0 }
 {
     match Runner::new(alloc, plan, writer) {
@@ -260,7 +232,7 @@ fn trace_run<W: Write>(alloc: Global, runner: &mut Runner<W>) -> Result<(), Serv
 {
     let mut number = 0;
     'items: while let Some(item) = runner.next_item()? {
-        number = next_number(number);
+        number = number_of(&item, number);
         put_lines(runner, item_lines(alloc, number, &item)?.as_slice())?;
     }
     Ok(())

@@ -1,6 +1,6 @@
-use Rattle.std.proofs.Common.{◌≡◌, ◌+◌, false}
-use Rattle.usb_world.specs.World.{root_row, to_come, changes}
+use Rattle.std.proofs.Common.{◌≡◌, false}
 use Rattle.usb_serve.specs.Run.{Goes}
+use Rattle.usb_serve.proofs.Settling.{rounds_left}
 use Rattle.usb_serve.proofs.runs.settle.Given as goal
 
 abbrev pub invariant-rounds : goal.invariant-rounds
@@ -9,6 +9,6 @@ invariant-rounds g l = record {
   goes : Goes l.fn.host.world l.host.world;
 }
 
--- change bits that are set, and events to come
+-- what is left to do, and what may still come
 abbrev pub decreases-rounds : goal.decreases-rounds
-decreases-rounds g l = changes (root_row l.host.world) + to_come l.host.world
+decreases-rounds g l = rounds_left l.host

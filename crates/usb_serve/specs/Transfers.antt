@@ -1,0 +1,56 @@
+-- What a run makes of an event that has come, and what a transfer comes to.
+use Rattle.std.specs.Prelude.{◌≡◌, ℕ, length, Option, Some, None, Result, Ok, Err}
+use Rattle.std.specs.Global.{Vec}
+use Rattle.usb_world.specs.declared.event.Due.{Due}
+use Rattle.usb_world.specs.declared.event.Due.TheVariants.{Changed, Show, Send, Receive, Clear}
+use Rattle.usb_pipe.specs.declared.fault.PipeFault.{PipeFault}
+use Rattle.usb_pipe.specs.declared.fault.PipeFault.TheVariants as pipe
+use Rattle.usb_host.specs.declared.fault.HostFault.{HostFault}
+use Rattle.usb_host.specs.declared.fault.HostFault.TheVariants as host
+use Rattle.usb_host.specs.Hosting.{Hosting}
+use Rattle.usb_serve.specs.declared.runs.Item.{Item}
+use Rattle.usb_serve.specs.declared.runs.Item.TheVariants.{Sent, Received, Cleared}
+use Rattle.usb_serve.specs.declared.runs.RunFault.{RunFault}
+use Rattle.usb_serve.specs.declared.runs.RunFault.TheVariants.{Memory}
+use Rattle.usb_serve.specs.declared.transfer.TransferFault.{TransferFault}
+use Rattle.usb_serve.specs.declared.transfer.TransferFault.TheVariants as transfer
+use Rattle.usb_serve.specs.Run.{run_fault, listing_of}
+
+abbrev pub answer_of_pipe : PipeFault → Result TransferFault RunFault
+answer_of_pipe pipe.Stalled = Ok transfer.Stalled
+answer_of_pipe pipe.Busy = Ok transfer.Busy
+answer_of_pipe pipe.NoAnswer = Ok transfer.NoAnswer
+answer_of_pipe pipe.Broken = Ok transfer.Broken
+answer_of_pipe (pipe.Bus fault) = Err (run_fault fault)
+answer_of_pipe pipe.Memory = Err Memory
+
+-- the host's faults of a transfer are its answers; those after which the host stops end the run
+abbrev pub answer_of : HostFault → Result TransferFault RunFault
+answer_of host.Stopped = Err Memory
+answer_of host.NoDevice = Ok transfer.NoDevice
+answer_of host.NoEndpoint = Ok transfer.NoEndpoint
+answer_of (host.Pipe fault) = answer_of_pipe fault
+answer_of (host.Bus fault) = Err (run_fault fault)
+answer_of host.Memory = Err Memory
+
+abbrev pub failed : {A : Type 0} → Result TransferFault RunFault → Result (Result A TransferFault) RunFault
+failed (Ok fault) = Ok (Err fault)
+failed (Err fault) = Err fault
+
+-- what a transfer came to, where it did not end the run
+abbrev pub answered : {A : Type 0} → Result A HostFault → Result (Result A TransferFault) RunFault
+answered (Ok done) = Ok (Ok done)
+answered (Err fault) = failed (answer_of fault)
+
+-- how many bytes were sent, where they were
+abbrev pub counted : ℕ → Result (Unit {0}) TransferFault → Result ℕ TransferFault
+counted count (Ok done) = Ok count
+counted count (Err fault) = Err fault
+
+-- what a run makes of an event: a listing where the host is to list, and a transfer's answer at its path
+abbrev pub IsItemOf : Due → Option Item → Hosting → Type 0
+IsItemOf Changed item h = item ≡ None
+IsItemOf Show item h = item ≡ Some (listing_of h)
+IsItemOf (Send path bytes) item h = (sent : Result (Unit {0}) TransferFault) × (item ≡ Some (Sent path (counted (length bytes) sent)))
+IsItemOf (Receive path packets) item h = (received : Result (Vec ℕ) TransferFault) × (item ≡ Some (Received path received))
+IsItemOf (Clear path) item h = (cleared : Result (Unit {0}) TransferFault) × (item ≡ Some (Cleared path cleared))

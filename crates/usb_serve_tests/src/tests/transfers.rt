@@ -1,0 +1,441 @@
+//! What is told of transfers: the lines that `serve` writes, and the items of `run`.
+use std::alloc::{AllocError, Global};
+use std::str;
+use std::test::Fail;
+use usb_bus::Watched;
+use usb_plan::read_plan;
+use usb_serve::{Item, Mode, TransferFault, run, serve};
+
+/// The head of each plan: its limit, its root ports and its devices.
+pub const HEAD: &str = r#"limit = 10000
+roots = 2
+
+[[device]]
+name = "fn"
+speed = "full"
+descriptor = "120100020000004034127856000100000001"
+configs = ["0902120001010080320904000000FF000000"]
+
+[[device]]
+name = "low"
+speed = "low"
+descriptor = "120110010000000834120100000100000001"
+configs = ["0902120001010080320904000000FF000000"]
+
+[[device]]
+name = "silent"
+speed = "full"
+descriptor = "120100020000004034127856000100000001"
+configs = ["0902120001010080320904000000FF000000"]
+silent = true
+
+[[device]]
+name = "bulk"
+speed = "full"
+descriptor = "120100020000004034127856000100000001"
+configs = ["0902200001010080320904000002FF0000000705020240000007058202400000"]
+source = "AABBCC"
+
+[[device]]
+name = "halting"
+speed = "full"
+descriptor = "120100020000004034127856000100000001"
+configs = ["0902200001010080320904000002FF0000000705020240000007058202400000"]
+halt_after = 1
+
+[[device]]
+name = "hub"
+speed = "full"
+descriptor = "120100020900004001000200000100000001"
+configs = ["09021900010100C000090400000109000000070581030100FF"]
+ports = 2
+self_powered = true
+
+[[device]]
+name = "bus powered hub"
+speed = "full"
+descriptor = "120100020900004001000200000100000001"
+configs = ["090219000101008032090400000109000000070581030100FF"]
+ports = 2
+"#;
+
+/// The events and the damages of a plan, and the lines that are told of its transfers.
+#[derive(Clone, Copy)]
+struct Row {
+    name: &'static str,
+    events: &'static str,
+    told: &'static str,
+}
+
+/// A row for each way in which a transfer ends.
+fn rows() -> &'static [Row] {
+    &[
+        Row {
+            name: "transfers that are done",
+            events: r#"
+[[event]]
+do = "plug"
+path = "1"
+device = "bulk"
+
+[[event]]
+do = "send"
+path = "1"
+bytes = "010203"
+
+[[event]]
+do = "receive"
+path = "1"
+packets = 1
+
+[[event]]
+do = "clear"
+path = "1"
+"#,
+            told: r#"send 1 done 3
+receive 1 done AABBCC
+clear 1 done
+"#,
+        },
+        Row {
+            name: "nothing to move",
+            events: r#"
+[[event]]
+do = "plug"
+path = "1"
+device = "bulk"
+
+[[event]]
+do = "send"
+path = "1"
+bytes = ""
+
+[[event]]
+do = "receive"
+path = "1"
+packets = 0
+"#,
+            told: r#"send 1 done 0
+receive 1 done -
+"#,
+        },
+        Row {
+            name: "no device",
+            events: r#"
+[[event]]
+do = "plug"
+path = "1"
+device = "bulk"
+
+[[event]]
+do = "send"
+path = "2"
+bytes = "01"
+
+[[event]]
+do = "receive"
+path = "2"
+packets = 1
+
+[[event]]
+do = "clear"
+path = "2"
+"#,
+            told: r#"send 2 failed no device
+receive 2 failed no device
+clear 2 failed no device
+"#,
+        },
+        Row {
+            name: "a refused device",
+            events: r#"
+[[event]]
+do = "plug"
+path = "1"
+device = "silent"
+
+[[event]]
+do = "send"
+path = "1"
+bytes = "01"
+
+[[event]]
+do = "receive"
+path = "1"
+packets = 1
+
+[[event]]
+do = "clear"
+path = "1"
+"#,
+            told: r#"send 1 failed no device
+receive 1 failed no device
+clear 1 failed no device
+"#,
+        },
+        Row {
+            name: "no endpoint",
+            events: r#"
+[[event]]
+do = "plug"
+path = "1"
+device = "fn"
+
+[[event]]
+do = "send"
+path = "1"
+bytes = "01"
+
+[[event]]
+do = "receive"
+path = "1"
+packets = 1
+
+[[event]]
+do = "clear"
+path = "1"
+"#,
+            told: r#"send 1 failed no endpoint
+receive 1 failed no endpoint
+clear 1 failed no endpoint
+"#,
+        },
+        Row {
+            name: "a hub",
+            events: r#"
+[[event]]
+do = "plug"
+path = "1"
+device = "hub"
+
+[[event]]
+do = "send"
+path = "1"
+bytes = "01"
+
+[[event]]
+do = "receive"
+path = "1"
+packets = 1
+
+[[event]]
+do = "clear"
+path = "1"
+"#,
+            told: r#"send 1 failed no endpoint
+receive 1 failed no endpoint
+clear 1 failed no endpoint
+"#,
+        },
+        Row {
+            name: "a halted endpoint",
+            events: r#"
+[[event]]
+do = "plug"
+path = "1"
+device = "halting"
+
+[[event]]
+do = "send"
+path = "1"
+bytes = "01"
+
+[[event]]
+do = "send"
+path = "1"
+bytes = "02"
+
+[[event]]
+do = "clear"
+path = "1"
+
+[[event]]
+do = "send"
+path = "1"
+bytes = "03"
+"#,
+            told: r#"send 1 done 1
+send 1 failed stalled
+clear 1 done
+send 1 done 1
+"#,
+        },
+        Row {
+            name: "a device that puts off",
+            events: r#"
+[[event]]
+do = "plug"
+path = "1"
+device = "halting"
+
+[[event]]
+do = "receive"
+path = "1"
+packets = 1
+
+[[event]]
+do = "receive"
+path = "1"
+packets = 1
+
+[[event]]
+do = "clear"
+path = "1"
+"#,
+            told: r#"receive 1 failed busy
+receive 1 failed broken
+clear 1 done
+"#,
+        },
+        Row {
+            name: "lost packets",
+            events: r#"
+[[event]]
+do = "plug"
+path = "1"
+device = "bulk"
+
+[[event]]
+do = "send"
+path = "1"
+bytes = "01"
+
+[[event]]
+do = "send"
+path = "1"
+bytes = "02"
+
+[[event]]
+do = "clear"
+path = "1"
+
+[[event]]
+do = "send"
+path = "1"
+bytes = "03"
+
+[[damage]]
+attempt = 17
+packet = 1
+how = "lose"
+
+[[damage]]
+attempt = 18
+packet = 1
+how = "lose"
+
+[[damage]]
+attempt = 19
+packet = 1
+how = "lose"
+
+[[damage]]
+attempt = 20
+packet = 1
+how = "lose"
+
+[[damage]]
+attempt = 21
+packet = 1
+how = "lose"
+
+[[damage]]
+attempt = 22
+packet = 1
+how = "lose"
+"#,
+            told: r#"send 1 failed no answer
+send 1 failed broken
+clear 1 failed no answer
+send 1 failed broken
+"#,
+        },
+    ]
+}
+
+/// The lines of transfers among those that `serve` writes of a plan.
+fn lines_told(alloc: Global, plan: &str) -> Result<String, Fail> {
+    let mut reader = Watched::new(plan.as_bytes());
+    let (_, writer) = serve(
+        alloc,
+        Mode::Tree,
+        &mut reader,
+        Watched::new(Vec::new(alloc)),
+    );
+    let written = writer.into_inner();
+    let mut told = String::new(alloc);
+    for line in str::from_utf8(written.as_slice())?.lines() {
+        if line.starts_with("send ") || line.starts_with("receive ") || line.starts_with("clear ") {
+            told.push_str(line)?;
+            told.push('\n')?;
+        }
+    }
+    Ok(told)
+}
+
+/// How a transfer ended, in the words of its line.
+fn end_text(alloc: Global, ended: Result<String, TransferFault>) -> Result<String, AllocError> {
+    match ended {
+        Ok(done) => format!(in alloc; "done{done}"),
+        Err(fault) => format!(in alloc; "failed {fault}"),
+    }
+}
+
+/// An item of a run, in the words of its line; none of a listing.
+fn item_text(alloc: Global, item: &Item) -> Result<String, AllocError> {
+    match item {
+        Item::Listing(_, _) => Ok(String::new(alloc)),
+        Item::Sent(path, sent) => {
+            let ended = match sent {
+                Ok(count) => Ok(format!(in alloc; " {count}")?),
+                Err(fault) => Err(*fault),
+            };
+            format!(in alloc; "send {} {}\n", path.text(), end_text(alloc, ended)?)
+        }
+        Item::Received(path, received) => {
+            let ended = match received {
+                Ok(bytes) => Ok(format!(in alloc; " {}", digits(alloc, bytes.as_slice())?)?),
+                Err(fault) => Err(*fault),
+            };
+            format!(in alloc; "receive {} {}\n", path.text(), end_text(alloc, ended)?)
+        }
+        Item::Cleared(path, cleared) => {
+            let ended = match cleared {
+                Ok(()) => Ok(String::new(alloc)),
+                Err(fault) => Err(*fault),
+            };
+            format!(in alloc; "clear {} {}\n", path.text(), end_text(alloc, ended)?)
+        }
+    }
+}
+
+/// Bytes as they are printed, a dash where there are none.
+fn digits(alloc: Global, bytes: &[u8]) -> Result<String, AllocError> {
+    if bytes.is_empty() {
+        return String::from_str(alloc, "-");
+    }
+    hex::encode_upper(alloc, bytes)
+}
+
+/// The items of a plan's run that are transfers, in the words of their lines.
+fn items_told(alloc: Global, plan: &str) -> Result<String, Fail> {
+    let plan = read_plan(alloc, plan)?;
+    let report = run(alloc, &plan)?;
+    let mut told = String::new(alloc);
+    for item in &report.items {
+        told.push_str(item_text(alloc, item)?.as_str())?;
+    }
+    Ok(told)
+}
+
+#[test]
+fn transfers_are_told(rt: HostRuntime) -> Result<(), Fail> {
+    for row in rows() {
+        let plan = format!(in rt.alloc(); "{HEAD}{}", row.events)?;
+        let lines = lines_told(rt.alloc(), plan.as_str())?;
+        assert_eq!(rt; lines.as_str(), row.told, "lines: {}", row.name);
+        let items = items_told(rt.alloc(), plan.as_str())?;
+        assert_eq!(rt; items.as_str(), row.told, "items: {}", row.name);
+    }
+    Ok(())
+}
