@@ -1,0 +1,135 @@
+//! Serves the rows of `data/`: plans, each in both modes, and packets in digits. Prints a line for each that is not as
+//! wanted, and how many rows there are and how many of them differ.
+#![tactic(auto)]
+
+use std::alloc::{AllocError, Global};
+use std::rt::Files;
+use std::{fs, io, str};
+use usb_bus::Watched;
+use usb_serve::{Mode, ServeFault, packet_line, serve};
+
+/// A line for each row of a plan: its NAME. The plan is NAME.toml; NAME.run.txt and NAME.tree.txt are what is written
+/// of it; NAME.status has the exit status and, on a second line, the fault that is told.
+const NAMES: &str = "names.txt";
+
+/// A line for each packet: digits, and behind a tab each its lines or the fault that is told.
+const PACKETS: &str = "packets.tsv";
+
+/// How many rows there were, and how many of them differed.
+#[derive(Drop)]
+struct Tally {
+    rows: u64,
+    differ: u64,
+}
+
+impl Tally {
+    fn count(&mut self, as_wanted: bool) {
+        self.rows = self.rows.saturating_add(1);
+        if !as_wanted {
+            self.differ = self.differ.saturating_add(1);
+        }
+    }
+}
+
+fn main(rt: HostRuntime) -> io::Result<()> {
+    let mut tally = Tally { rows: 0, differ: 0 };
+    serve_plans(&rt, &mut tally)?;
+    read_packets(&rt, &mut tally)?;
+    println!(rt; "{} rows, {} differ", tally.rows, tally.differ)
+}
+
+fn serve_plans<R: Files + Print + AllocGlobal>(rt: &R, tally: &mut Tally) -> io::Result<()> {
+    let names = fs::read_to_string(rt, NAMES)?;
+    'names: for name in names.lines() {
+        let run = is_as_wanted(rt, name, Mode::Run)?;
+        let tree = is_as_wanted(rt, name, Mode::Tree)?;
+        tally.count(run && tree);
+    }
+    Ok(())
+}
+
+/// Whether a row's plan is served as wanted. Prints a line where it is not.
+fn is_as_wanted<R: Files + Print + AllocGlobal>(
+    rt: &R,
+    name: &str,
+    mode: Mode,
+) -> io::Result<bool> {
+    let alloc = rt.alloc();
+    let word = mode_word(mode);
+    let plan = fs::open(rt, format!(in alloc; "{name}.toml")?)?;
+    let text = fs::read_to_string(rt, format!(in alloc; "{name}.{word}.txt")?)?;
+    let status = fs::read_to_string(rt, format!(in alloc; "{name}.status")?)?;
+    let (ended, writer) = serve(
+        alloc,
+        mode,
+        &mut Watched::new(plan),
+        Watched::new(Vec::new(alloc)),
+    );
+    let fault = fault_text(alloc, ended)?;
+    if fault.as_str() != wanted_fault(status.as_str()) {
+        println!(rt; "{name} {word}: told {fault}")?;
+        return Ok(false);
+    }
+    let written = writer.into_inner();
+    if written.as_slice() != text.as_bytes() {
+        let line = first_other_line(written.as_slice(), text.as_str());
+        println!(rt; "{name} {word}: line {line} is another")?;
+        return Ok(false);
+    }
+    Ok(true)
+}
+
+/// The number, from 1, of the first line that is another, or that one of the texts has alone.
+fn first_other_line(written: &[u8], wanted: &str) -> usize {
+    let lines = str::from_utf8(written).unwrap_or("").lines();
+    let same = lines
+        .zip(wanted.lines())
+        .take_while(|(line, wanted)| line == wanted);
+    same.count().saturating_add(1)
+}
+
+fn mode_word(mode: Mode) -> &'static str {
+    match mode {
+        Mode::Run => "run",
+        Mode::Tree => "tree",
+    }
+}
+
+/// The fault that is told, empty where there is none.
+fn fault_text(alloc: Global, ended: Result<(), ServeFault>) -> Result<String, AllocError> {
+    match ended {
+        Ok(()) => Ok(String::new(alloc)),
+        Err(fault) => format!(in alloc; "{fault}"),
+    }
+}
+
+/// The second line of a row's status, empty where there is none.
+fn wanted_fault(status: &str) -> &str {
+    match status.lines().nth(1) {
+        Some(fault) => fault,
+        None => "",
+    }
+}
+
+fn read_packets<R: Files + Print + AllocGlobal>(rt: &R, tally: &mut Tally) -> io::Result<()> {
+    let packets = fs::read_to_string(rt, PACKETS)?;
+    'packets: for packet in packets.lines() {
+        let mut columns = packet.split('\t');
+        let digits = columns.next().unwrap_or("");
+        let told = packet_text(rt.alloc(), digits)?;
+        let as_wanted = told.lines().eq(columns);
+        if !as_wanted {
+            println!(rt; "packet {digits}: {told}")?;
+        }
+        tally.count(as_wanted);
+    }
+    Ok(())
+}
+
+/// The lines of the packet that the digits spell, or the fault that is told.
+fn packet_text(alloc: Global, digits: &str) -> Result<String, AllocError> {
+    match packet_line(alloc, digits) {
+        Ok(lines) => Ok(lines),
+        Err(fault) => format!(in alloc; "{fault}"),
+    }
+}
