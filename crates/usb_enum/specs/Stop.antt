@@ -1,6 +1,8 @@
 -- What a failed transfer means.
 use Rattle.std.specs.Prelude.{◌≡◌, ◌≢◌, ◌⊎◌, ℕ, Option, Some, None, unwrap_or, Result, Ok, Err, ⊤}
 use Rattle.usb_world.specs.World.{World, Failed}
+use Rattle.usb_hub.specs.declared.port.HubPort.{HubPort}
+use Rattle.usb_hub.specs.declared.port.HubPort.TheVariants.{Root, External}
 use Rattle.usb_pipe.specs.declared.fault.PipeFault.{PipeFault}
 use Rattle.usb_pipe.specs.declared.fault.PipeFault.TheVariants as pipe
 use Rattle.usb_enum.specs.declared.cause.Cause.{Cause}
@@ -36,13 +38,24 @@ abbrev pub at_port : {X : Type 0} → Result X PipeFault → Result X EnumFault
 at_port (Ok answer) = Ok answer
 at_port (Err f) = Err (fault_at_port f)
 
--- the bus tells its fault; a root port is a register, so that no parent is lost
+-- a request to a hub's port may fail; a root port is a register
+abbrev pub CanFail : HubPort → Type 0
+CanFail (Root number) = ⊥
+CanFail (External hub port) = ⊤
+
+-- the bus tells its fault, and a parent is lost where it can fail
+abbrev pub FaultAt : HubPort → EnumFault → World → Type 0
+FaultAt port fault.ParentLost w = CanFail port
+FaultAt port (fault.Bus f) w = Failed f w
+FaultAt port fault.Memory w = ⊤
+
+-- the same where no port is asked
 abbrev pub FaultTold : EnumFault → World → Type 0
 FaultTold fault.ParentLost w = ⊥
 FaultTold (fault.Bus f) w = Failed f w
 FaultTold fault.Memory w = ⊤
 
--- a hub is too deep in the last tier, and is not served in those above; there was an address
+-- a hub is too deep in the last tier, and bad in those above alone; there was an address
 abbrev pub FitsTier : ℕ → Cause → Type 0
 FitsTier tier cause.Silent = ⊤
 FitsTier tier cause.Busy = ⊤
@@ -72,11 +85,24 @@ abbrev pub Told : Stop → World → Type 0
 Told (Refused cause) w = IsPlain cause
 Told (Fault f) w = FaultTold f w
 
-abbrev pub ToldIn : ℕ → Stop → World → Type 0
-ToldIn tier (Refused cause) w = FitsTier tier cause
-ToldIn tier (Fault f) w = FaultTold f w
+abbrev pub ToldAt : HubPort → Stop → World → Type 0
+ToldAt port (Refused cause) w = IsPlain cause
+ToldAt port (Fault f) w = FaultAt port f w
+
+-- of a hub that is configured
+abbrev pub ToldOfHub : Stop → World → Type 0
+ToldOfHub (Refused why) w = (why ≡ cause.BadHub) ⊎ IsPlain why
+ToldOfHub (Fault f) w = FaultTold f w
+
+abbrev pub ToldOfDevice : ℕ → Stop → World → Type 0
+ToldOfDevice tier (Refused cause) w = FitsTier tier cause
+ToldOfDevice tier (Fault f) w = FaultTold f w
+
+abbrev pub ToldIn : HubPort → ℕ → Stop → World → Type 0
+ToldIn port tier (Refused cause) w = FitsTier tier cause
+ToldIn port tier (Fault f) w = FaultAt port f w
 
 -- where no address was free
-abbrev pub ToldWithout : Stop → World → Type 0
-ToldWithout (Refused why) w = (why ≡ cause.NoAddress) ⊎ IsPlain why
-ToldWithout (Fault f) w = FaultTold f w
+abbrev pub ToldWithout : HubPort → Stop → World → Type 0
+ToldWithout port (Refused why) w = (why ≡ cause.NoAddress) ⊎ IsPlain why
+ToldWithout port (Fault f) w = FaultAt port f w

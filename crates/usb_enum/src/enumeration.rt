@@ -1,17 +1,19 @@
 //! The whole enumeration.
 ghost use Rattle.std.specs.Prelude.{◌≡◌, IfOk, IfErr};
 ghost use Rattle.usb_world.specs.World.{Spends};
-ghost use Rattle.usb_hub.specs.Port.{IsPort};
-ghost use Rattle.usb_enum.specs.Bounds.{read_bound, enumeration_bound, configured_bound};
-ghost use Rattle.usb_enum.specs.Stop.{FaultTold, ToldIn, ToldWithout};
+ghost use Rattle.usb_hub.specs.Port.{IsPort, order_bound};
+ghost use Rattle.usb_enum.specs.Bounds.{unaddressed_bound, examination_bound, enumeration_bound, configured_bound, hub_bound};
+ghost use Rattle.usb_enum.specs.Stop.{FaultAt, ToldIn, ToldOfDevice, ToldOfHub, ToldWithout};
 ghost use Rattle.usb_enum.specs.Found.{GivesUp, IsFound, IsWhole, TakesFor};
+ghost use Rattle.usb_enum.specs.Device.{HasFacts};
 
 use crate::addressed::Addressed;
 use crate::configurations::{choose_configuration, read_configurations};
 use crate::passes::{passes, unaddressed};
 use crate::stop::{Stop, answered_or, at_port};
 use crate::strings::read_strings;
-use crate::{Accepted, Cause, EnumFault, Finding, Request};
+use crate::hub::start_hub;
+use crate::{Accepted, Cause, ConfigText, EnumFault, Finding, HubFacts, Request};
 use std::alloc::Global;
 use usb_bus::Bus;
 use usb_hub::{HubPort, clear_port, set_configuration};
@@ -29,7 +31,7 @@ const LAST_TIER: u8 = 7;
 ///
 /// # Errors
 ///
-/// `ParentLost` where a request to the port failed, which none to a root port does. `Bus` where
+/// `ParentLost` where a request to the hub that has the port failed; none to a root port does. `Bus` where
 /// the bus makes no more steps. `Memory` where memory was refused. The pool is then as it was.
 #[tactic(auto, using(crate::proofs::Counts::spends_on, usb_hub::proofs::Ports::port_stays))]
 pub fn enumerate<B: Bus>(
@@ -41,8 +43,8 @@ pub fn enumerate<B: Bus>(
     supply: u16,
 ) -> Result<Finding, EnumFault>
     requires port { IsPort (B.world bus.old) port }
-    ensures spends { Spends enumeration_bound (B.world bus.old) (B.world bus.new) }
-    ensures told { IfErr result (λ fault. FaultTold fault (B.world bus.new)) }
+    ensures spends { Spends (enumeration_bound port) (B.world bus.old) (B.world bus.new) }
+    ensures told { IfErr result (λ fault. FaultAt port fault (B.world bus.new)) }
     ensures pool { TakesFor result pool.old pool.new }
     ensures found { IfOk result (λ finding. IsFound port pool.old tier supply finding (B.world bus.new)) }
 {
@@ -63,8 +65,8 @@ pub fn enumerate<B: Bus>(
 /// Goes on as far as a device is given its address, where none is free.
 fn without_address<B: Bus>(alloc: Global, bus: &mut B, port: HubPort) -> Stop
     requires { IsPort (B.world bus.old) port }
-    ensures spends { Spends (read_bound 8) (B.world bus.old) (B.world bus.new) }
-    ensures told { ToldWithout result (B.world bus.new) }
+    ensures spends { Spends (unaddressed_bound port) (B.world bus.old) (B.world bus.new) }
+    ensures told { ToldWithout port result (B.world bus.new) }
 {
     match unaddressed(alloc, bus, port) {
         Ok(_) => Stop::Refused(Cause::NoAddress),
@@ -76,9 +78,8 @@ fn without_address<B: Bus>(alloc: Global, bus: &mut B, port: HubPort) -> Stop
 #[tactic(auto, using(crate::proofs::Ports::disabled))]
 fn give_up<B: Bus>(bus: &mut B, port: HubPort, stop: Stop) -> Result<Finding, EnumFault>
     requires { IsPort (B.world bus.old) port }
-    ensures spends { Spends 0 (B.world bus.old) (B.world bus.new) }
-    ensures kept { IfErr result (λ _. B.world bus.new ≡ B.world bus.old) }
-    ensures left { GivesUp port stop result (B.world bus.new) }
+    ensures spends { Spends (order_bound port) (B.world bus.old) (B.world bus.new) }
+    ensures left { GivesUp port stop (B.world bus.old) result (B.world bus.new) }
 {
     match stop {
         Stop::Refused(cause) => {
@@ -100,8 +101,8 @@ fn examine<B: Bus>(
     supply: u16,
 ) -> Result<Accepted, Stop>
     requires port { IsPort (B.world bus.old) port }
-    ensures spends { Spends enumeration_bound (B.world bus.old) (B.world bus.new) }
-    ensures told { IfErr result (λ stop. ToldIn tier stop (B.world bus.new)) }
+    ensures spends { Spends (examination_bound port) (B.world bus.old) (B.world bus.new) }
+    ensures told { IfErr result (λ stop. ToldIn port tier stop (B.world bus.new)) }
     ensures address { IfOk result (λ device. device.address ≡ address) }
     ensures whole { IfOk result (λ device. IsWhole supply device) }
 {
@@ -120,7 +121,7 @@ fn configure<B: Bus>(
     supply: u16,
 ) -> Result<Accepted, Stop>
     ensures spends { Spends configured_bound (B.world bus.old) (B.world bus.new) }
-    ensures told { IfErr result (λ stop. ToldIn tier stop (B.world bus.new)) }
+    ensures told { IfErr result (λ stop. ToldOfDevice tier stop (B.world bus.new)) }
     ensures address { IfOk result (λ accepted. accepted.address ≡ address) }
     ensures whole { IfOk result (λ accepted. IsWhole supply accepted) }
 {
@@ -135,10 +136,7 @@ fn configure<B: Bus>(
     let value = configs.as_slice()[chosen].value();
     let stalled = Cause::Stalled(Request::SetConfig);
     answered_or(stalled, set_configuration(bus, target, value))?;
-    // hubs are not served yet
-    if device.is_hub() {
-        return Err(Stop::Refused(Cause::BadHub));
-    }
+    let hub = hub_facts(alloc, bus, &device, &configs.as_slice()[chosen])?;
     let strings = read_strings(alloc, bus, target, device.string_indexes())?;
     Ok(Accepted {
         address,
@@ -147,5 +145,23 @@ fn configure<B: Bus>(
         configs,
         chosen,
         strings,
+        hub,
     })
+}
+
+/// What a device says of its ports where it is a hub, which then have power.
+fn hub_facts<B: Bus>(
+    alloc: Global,
+    bus: &mut B,
+    device: &Addressed,
+    text: &ConfigText,
+) -> Result<Option<HubFacts>, Stop>
+    ensures spends { Spends hub_bound (B.world bus.old) (B.world bus.new) }
+    ensures told { IfErr result (λ stop. ToldOfHub stop (B.world bus.new)) }
+    ensures facts { IfOk result (λ facts. HasFacts device.now.bytes text.now facts) }
+{
+    if !device.is_hub() {
+        return Ok(None);
+    }
+    Ok(Some(start_hub(alloc, bus, device.target, text)?))
 }

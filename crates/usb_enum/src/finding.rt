@@ -1,9 +1,11 @@
 //! What was found at a port.
-ghost use Rattle.std.specs.Prelude.{◌≡◌, ◌<◌, length, IfOk};
+ghost use Rattle.std.specs.Prelude.{◌≡◌, ◌<◌, length, IfOk, slice_index};
+ghost use Rattle.usb_enum.specs.Device.{target_of};
 
-use crate::{Cause, ConfigTexts, Strings};
+use crate::{Cause, ConfigText, ConfigTexts, HubFacts, Strings};
 use std::alloc::{AllocError, Global};
 use usb_resources::Address;
+use usb_transaction::Target;
 
 /// What was found at a port.
 #[derive(Drop)]
@@ -26,6 +28,8 @@ pub struct Accepted {
     /// The index in `configs` of the configuration that it was set to.
     pub chosen: usize,
     pub strings: Strings,
+    /// What a hub says of its ports; `None` of a function.
+    pub hub: Option<HubFacts>,
     ghost chosen_in: { chosen < length configs },
 }
 
@@ -53,6 +57,27 @@ impl Accepted {
             configs: self.configs.try_clone(alloc)?,
             chosen: self.chosen,
             strings: self.strings.try_clone(alloc)?,
+            hub: self.hub,
         })
+    }
+
+    /// The configuration that the device was set to.
+    pub fn configuration(&self) -> &ConfigText
+        ensures { result.now ≡ slice_index self.now.configs self.now.chosen }
+    {
+        &self.configs.as_slice()[self.chosen]
+    }
+
+    /// Endpoint 0 of the device, which has its address. Below an external hub PRE goes before each
+    /// packet to a low-speed device (8.6.5).
+    pub fn target(&self, below_hub: bool) -> Target
+        ensures { result ≡ target_of self.now below_hub }
+    {
+        Target {
+            addr: self.address.number(),
+            max: self.bytes[7],
+            low: self.low,
+            pre: self.low && below_hub,
+        }
     }
 }

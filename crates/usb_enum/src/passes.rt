@@ -3,8 +3,8 @@ ghost use Rattle.std.specs.Prelude.{◌≡◌, ◌≤◌, ◌<◌, ◌*◌, IfOk
 ghost use Rattle.usb_world.specs.World.{Spends};
 ghost use Rattle.usb_hub.specs.Port.{IsPort};
 ghost use Rattle.usb_transaction.specs.Trans.{IsTarget};
-ghost use Rattle.usb_enum.specs.Bounds.{pass_bound, read_bound};
-ghost use Rattle.usb_enum.specs.Stop.{Told};
+ghost use Rattle.usb_enum.specs.Bounds.{read_bound, reset_bound, unaddressed_bound, pass_bound};
+ghost use Rattle.usb_enum.specs.Stop.{Told, ToldAt};
 ghost use Rattle.usb_enum.specs.Device.{device_bytes, is_device, needs_pre};
 
 use crate::addressed::Addressed;
@@ -21,8 +21,8 @@ use usb_transaction::Target;
 /// Resets the port (11.5.1.5), and tells whether a low-speed device is there.
 fn reset<B: Bus>(alloc: Global, bus: &mut B, port: HubPort) -> Result<bool, Stop>
     requires port { IsPort (B.world bus.old) port }
-    ensures spends { Spends 0 (B.world bus.old) (B.world bus.new) }
-    ensures told { IfErr result (λ stop. Told stop (B.world bus.new)) }
+    ensures spends { Spends (reset_bound port) (B.world bus.old) (B.world bus.new) }
+    ensures told { IfErr result (λ stop. ToldAt port stop (B.world bus.new)) }
 {
     at_port(set_port(bus, port, PORT_RESET))?;
     let status = at_port(port_status(alloc, bus, port))?;
@@ -41,6 +41,7 @@ fn needs_pre(port: HubPort) -> bool
 {
     match port {
         HubPort::Root(_) => false,
+        HubPort::External { .. } => true,
     }
 }
 
@@ -97,8 +98,8 @@ fn device_bytes(bytes: &[u8; 18], low: bool) -> Result<Option<[u8; 18]>, Stop>
 #[tactic(auto, using(crate::proofs::Counts::spends_on))]
 pub(crate) fn unaddressed<B: Bus>(alloc: Global, bus: &mut B, port: HubPort) -> Result<Target, Stop>
     requires port { IsPort (B.world bus.old) port }
-    ensures spends { Spends (read_bound 8) (B.world bus.old) (B.world bus.new) }
-    ensures told { IfErr result (λ stop. Told stop (B.world bus.new)) }
+    ensures spends { Spends (unaddressed_bound port) (B.world bus.old) (B.world bus.new) }
+    ensures told { IfErr result (λ stop. ToldAt port stop (B.world bus.new)) }
     ensures target { IfOk result (λ target. IsTarget target) }
     ensures max { IfOk result (λ target. 8 ≤ target.max) }
     ensures pre { IfOk result (λ target. target.pre ≡ (target.low && needs_pre port)) }
@@ -136,8 +137,8 @@ fn pass<B: Bus>(
     requires port { IsPort (B.world bus.old) port }
     requires least { 1 ≤ address }
     requires most { address < 128 }
-    ensures spends { Spends pass_bound (B.world bus.old) (B.world bus.new) }
-    ensures told { IfErr result (λ stop. Told stop (B.world bus.new)) }
+    ensures spends { Spends (pass_bound port) (B.world bus.old) (B.world bus.new) }
+    ensures told { IfErr result (λ stop. ToldAt port stop (B.world bus.new)) }
     ensures address { IfOk result (λ found. IfSome found (λ device. device.target.addr ≡ address)) }
 {
     let target = unaddressed(alloc, bus, port)?;
@@ -165,8 +166,8 @@ pub(crate) fn passes<B: Bus>(
     requires port { IsPort (B.world bus.old) port }
     requires least { 1 ≤ address }
     requires most { address < 128 }
-    ensures spends { Spends (3 * pass_bound) (B.world bus.old) (B.world bus.new) }
-    ensures told { IfErr result (λ stop. Told stop (B.world bus.new)) }
+    ensures spends { Spends (3 * pass_bound port) (B.world bus.old) (B.world bus.new) }
+    ensures told { IfErr result (λ stop. ToldAt port stop (B.world bus.new)) }
     ensures address { IfOk result (λ device. device.target.addr ≡ address) }
 {
     for _pass in 0..3u8 {

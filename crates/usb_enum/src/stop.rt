@@ -1,6 +1,6 @@
 //! What ends an enumeration early.
 ghost use Rattle.std.specs.Prelude.{◌≡◌};
-ghost use Rattle.usb_enum.specs.Stop.{stop_of, answered_or, fault_at_port, at_port};
+ghost use Rattle.usb_enum.specs.Stop.{stop_of, answered_or, at_port};
 ghost use Rattle.usb_enum.specs.declared.stop.Stop.TheVariants.{Fault as StopFault};
 ghost use Rattle.usb_enum.specs.declared.fault.EnumFault.TheVariants.{Memory as NoMemory};
 
@@ -57,25 +57,12 @@ pub(crate) fn answered_or<X>(stalled: Cause, outcome: Result<X, PipeFault>) -> R
     }
 }
 
-/// What a failed request to a port means.
-fn fault_at_port(fault: PipeFault) -> EnumFault
-    ensures { result ≡ fault_at_port fault }
-{
-    match fault {
-        PipeFault::Bus(fault) => EnumFault::Bus(fault),
-        PipeFault::Memory => EnumFault::Memory,
-        PipeFault::Stalled | PipeFault::Busy | PipeFault::NoAnswer | PipeFault::Broken => {
-            EnumFault::ParentLost
-        }
-    }
-}
-
 /// What a request to a port gave.
 pub(crate) fn at_port<X>(outcome: Result<X, PipeFault>) -> Result<X, EnumFault>
     ensures { result ≡ at_port outcome }
 {
     match outcome {
         Ok(answer) => Ok(answer),
-        Err(fault) => Err(fault_at_port(fault)),
+        Err(fault) => Err(EnumFault::from(fault)),
     }
 }

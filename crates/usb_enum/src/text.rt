@@ -1,5 +1,6 @@
 //! Texts of configurations and strings, as lists.
-ghost use Rattle.std.specs.Prelude.{◌≡◌, ◌<◌, ◌++◌, [], ◌∷◌, length, OnOk, OnErr, IfOk, vec_len};
+ghost use Rattle.std.specs.Prelude.{◌≡◌, ◌<◌, ◌++◌, [], ◌∷◌, length, OnOk, OnErr, IfOk, IfSome, vec_len};
+ghost use Rattle.usb_descriptor.specs.Choice.{IsUsable, status_endpoint_of, bulk_out_of, bulk_in_of};
 ghost use Rattle.usb_descriptor.specs.Config.{HasConfig, configuration_value};
 ghost use Rattle.usb_enum.specs.Text.{config_text_of, has_value, need_of, needs_of};
 
@@ -57,6 +58,42 @@ impl ConfigText {
         ensures { result ≡ need_of self.now }
     {
         2 * u16::from(self.bytes[8])
+    }
+
+    /// The number and the maximum packet of the status endpoint of a hub (11.12.1).
+    #[tactic(auto, unfolding(usb_descriptor::specs::Choice::status_endpoint_of))]
+    pub fn status_endpoint(&self) -> Option<(u8, u8)>
+        ensures value { result ≡ status_endpoint_of self.now }
+        ensures usable { IfSome result IsUsable }
+    {
+        match read_config(self.bytes.as_slice()) {
+            Ok(text) => text.status_endpoint(),
+            Err(_) => None,
+        }
+    }
+
+    /// The number and the maximum packet of the first bulk OUT endpoint (5.8).
+    #[tactic(auto, unfolding(usb_descriptor::specs::Choice::bulk_out_of))]
+    pub fn bulk_out(&self) -> Option<(u8, u8)>
+        ensures value { result ≡ bulk_out_of self.now }
+        ensures usable { IfSome result IsUsable }
+    {
+        match read_config(self.bytes.as_slice()) {
+            Ok(text) => text.bulk_out(),
+            Err(_) => None,
+        }
+    }
+
+    /// The number and the maximum packet of the first bulk IN endpoint (5.8).
+    #[tactic(auto, unfolding(usb_descriptor::specs::Choice::bulk_in_of))]
+    pub fn bulk_in(&self) -> Option<(u8, u8)>
+        ensures value { result ≡ bulk_in_of self.now }
+        ensures usable { IfSome result IsUsable }
+    {
+        match read_config(self.bytes.as_slice()) {
+            Ok(text) => text.bulk_in(),
+            Err(_) => None,
+        }
     }
 
     /// A second text of the same bytes.

@@ -10,8 +10,8 @@ use Rattle.usb_world.specs.Steps.{SetsRoot, ClearsRoot}
 use Rattle.usb_world.proofs.Counts.{RootCalled, root_set as root_set_called, root_cleared as root_cleared_called, spends_none, resets_spend, clears_spend, clears_change, changes-set}
 use Rattle.usb_hub.specs.contracts.port.HubPort as hub_port
 use Rattle.usb_hub.specs.declared.port.HubPort.{HubPort}
-use Rattle.usb_hub.specs.declared.port.HubPort.TheVariants.{Root}
-use Rattle.usb_hub.specs.Port.{IsPort, port_bound, Quiet, RootSet, RootCleared, PortRead, PortSet, PortCleared}
+use Rattle.usb_hub.specs.declared.port.HubPort.TheVariants.{Root, External}
+use Rattle.usb_hub.specs.Port.{IsPort, status_bound, order_bound, Quiet, RootSet, RootCleared, PortRead, PortSet, PortCleared}
 
 quiet : (number : ℕ) (p : PortState) (old new : World) → RootCalled number p old new → Quiet old new
 quiet number p old new c = record {
@@ -36,8 +36,8 @@ changes_written number p old new is c =
     subst (λ row. changes row ≤ changes (root_row old) + 1) (sym c.row)
     (omega (arith, changes-set (root_row old) (number - 1) p (omega (arith, is.0, is.1)), change_of_most p))
 
-pub root_set : {A : Type 0} (number feature : ℕ) (old new : World) (a : A) → IsRootPort old number → IsSetFeature feature → SetsRoot number feature old new → RootSet number feature old (Ok a) new
-root_set number feature old new a is named row =
+pub root_set : (number feature : ℕ) (old new : World) → IsRootPort old number → IsSetFeature feature → SetsRoot number feature old new → RootSet number feature old (Ok tt) new
+root_set number feature old new is named row =
     let called = root_set_called number feature old new is named row in
     record {
       done = refl;
@@ -47,8 +47,8 @@ root_set number feature old new a is named row =
       powers = changes_written number _ old new is called;
     }
 
-pub root_cleared : {A : Type 0} (number feature : ℕ) (old new : World) (a : A) → IsRootPort old number → IsClearFeature feature → ClearsRoot number feature old new → RootCleared number feature old (Ok a) new
-root_cleared number feature old new a is named row = record {
+pub root_cleared : (number feature : ℕ) (old new : World) → IsRootPort old number → IsClearFeature feature → ClearsRoot number feature old new → RootCleared number feature old (Ok tt) new
+root_cleared number feature old new is named row = record {
   done = refl;
   row = row;
   quiet = quiet number _ old new (root_cleared_called number feature old new is named row);
@@ -56,34 +56,21 @@ root_cleared number feature old new a is named row = record {
   served = λ e set. clears_change number old new is set (subst (λ f. ClearsRoot number f old new) e row);
 }
 
--- a port's number, as `match` reads it
-pub is_root : (port : HubPort) → port ≡ Root (values_d hub_port.enum 0 (0, tt) port).0
-is_root (Root number) = refl
-
-pub port_read : (port : HubPort) (number : ℕ) (w : World) (status : PortStatus) → port ≡ Root number → status ≡ seen (port_at w number) → PortRead port w (Ok status) w
-port_read (Root n) number w status is e =
-    let same : n ≡ number = cc is in
-    rw same (record { status = ap Ok e; same = refl })
-
-pub port_set : {A : Type 0} (port : HubPort) (number feature : ℕ) (old new : World) (a : A) → port ≡ Root number → IsPort old port → IsSetFeature feature → SetsRoot number feature old new → PortSet port feature old (Ok a) new
-port_set (Root n) number feature old new a is here named row =
-    let same : number ≡ n = cc is in
-    root_set n feature old new a here named (rw same at row)
-
-pub port_cleared : {A : Type 0} (port : HubPort) (number feature : ℕ) (old new : World) (a : A) → port ≡ Root number → IsPort old port → IsClearFeature feature → ClearsRoot number feature old new → PortCleared port feature old (Ok a) new
-port_cleared (Root n) number feature old new a is here named row =
-    let same : number ≡ n = cc is in
-    root_cleared n feature old new a here named (rw same at row)
-
-pub read_count : (port : HubPort) (w : World) → Spends (port_bound port) w w
-read_count (Root n) w = spends_none w
-
-pub set_count : {A : Type 0} (port : HubPort) (feature : ℕ) (old new : World) (a : A) → PortSet port feature old (Ok a) new → feature ≡ 4 → Spends (port_bound port) old new
-set_count (Root n) feature old new a set e = set.resets e
-
-pub cleared_count : {A : Type 0} (port : HubPort) (feature : ℕ) (old new : World) (a : A) → PortCleared port feature old (Ok a) new → Spends (port_bound port) old new
-cleared_count (Root n) feature old new a cleared = cleared.count
-
 -- a port stays one while the bus has as many root ports
 pub port_stays : (n : ℕ) (port : HubPort) (old new : World) → Spends n old new → IsPort old port → IsPort new port
 port_stays n (Root number) old new s is = (is.0, omega (arith, is.1, s.roots))
+port_stays n (External hub port) old new s is = is
+
+-- the same of a port that is one of the root
+pub port_set-root : (port : HubPort) (number feature : ℕ) (old new : World) → port ≡ Root number → IsPort old port → IsSetFeature feature → SetsRoot number feature old new → PortSet port feature old (Ok tt) new
+port_set-root port number feature old new e is named row = rw e (root_set number feature old new (rw e at is) named row)
+
+pub port_cleared-root : (port : HubPort) (number feature : ℕ) (old new : World) → port ≡ Root number → IsPort old port → IsClearFeature feature → ClearsRoot number feature old new → PortCleared port feature old (Ok tt) new
+port_cleared-root port number feature old new e is named row = rw e (root_cleared number feature old new (rw e at is) named row)
+
+-- and the attempts that such a call makes
+pub set_spends-root : (port : HubPort) (number feature : ℕ) (old new : World) → port ≡ Root number → PortSet port feature old (Ok tt) new → feature ≡ 4 → Spends (order_bound port) old new
+set_spends-root port number feature old new e set reset = rw e ((rw e at set).resets reset)
+
+pub cleared_spends-root : (port : HubPort) (number feature : ℕ) (old new : World) → port ≡ Root number → PortCleared port feature old (Ok tt) new → Spends (order_bound port) old new
+cleared_spends-root port number feature old new e cleared = rw e ((rw e at cleared).count)

@@ -1,19 +1,31 @@
 -- What the calls on a port leave.
 use Rattle.std.specs.Prelude.{◌≡◌, ℕ, ◌+◌, ◌≤◌, true, Result, Ok, IsOk}
-use Rattle.usb_port.specs.Status.{seen}
+use Rattle.usb_port.specs.Path.{IsPortNumber}
+use Rattle.usb_port.specs.Status.{seen, status_in}
 use Rattle.usb_port.specs.declared.status.PortStatus.{PortStatus}
 use Rattle.usb_world.specs.World.{World, IsRootPort, Spends, root_row, roots_of, to_come, port_at, changes}
 use Rattle.usb_world.specs.Steps.{SetsRoot, ClearsRoot}
+use Rattle.usb_request.specs.Requests.{get_port_status, set_port_feature, clear_port_feature}
+use Rattle.usb_transaction.specs.Trans.{IsTarget}
 use Rattle.usb_pipe.specs.declared.fault.PipeFault.{PipeFault}
+use Rattle.usb_pipe.specs.Control.{control_bound}
 use Rattle.usb_hub.specs.declared.port.HubPort.{HubPort}
-use Rattle.usb_hub.specs.declared.port.HubPort.TheVariants.{Root}
+use Rattle.usb_hub.specs.declared.port.HubPort.TheVariants.{Root, External}
+use Rattle.usb_hub.specs.Requests.{Told, Ordered}
 
+-- a port of the root, or one that a hub may have
 abbrev pub IsPort : World → HubPort → Type 0
 IsPort w (Root number) = IsRootPort w number
+IsPort w (External hub port) = IsTarget hub × IsPortNumber port
 
--- the most attempts of a call on a port; a root port is a register
-abbrev pub port_bound : HubPort → ℕ
-port_bound (Root number) = 0
+-- the most attempts of a status and of an order; a root port is a register
+abbrev pub status_bound : HubPort → ℕ
+status_bound (Root number) = 0
+status_bound (External hub port) = control_bound hub.max 4
+
+abbrev pub order_bound : HubPort → ℕ
+order_bound (Root number) = 0
+order_bound (External hub port) = 1600
 
 -- the answer is what the port's status says of it, and nothing has changed
 pub record RootRead (number : ℕ) (old : World) (result : Result PortStatus PipeFault) (new : World) : Type 0 where
@@ -29,7 +41,7 @@ pub record Quiet (old new : World) : Type 0 where
   pub fault : new.fault ≡ old.fault
   pub roots : roots_of new ≡ roots_of old
 
-pub record RootSet {A : Type 0} (number feature : ℕ) (old : World) (result : Result A PipeFault) (new : World) : Type 0 where
+pub record RootSet (number feature : ℕ) (old : World) (result : Result (Unit {0}) PipeFault) (new : World) : Type 0 where
   pub done : IsOk result
   pub row : SetsRoot number feature old new
   pub quiet : Quiet old new
@@ -37,7 +49,7 @@ pub record RootSet {A : Type 0} (number feature : ℕ) (old : World) (result : R
   pub resets : feature ≡ 4 → Spends 0 old new
   pub powers : changes (root_row new) ≤ changes (root_row old) + 1
 
-pub record RootCleared {A : Type 0} (number feature : ℕ) (old : World) (result : Result A PipeFault) (new : World) : Type 0 where
+pub record RootCleared (number feature : ℕ) (old : World) (result : Result (Unit {0}) PipeFault) (new : World) : Type 0 where
   pub done : IsOk result
   pub row : ClearsRoot number feature old new
   pub quiet : Quiet old new
@@ -47,9 +59,12 @@ pub record RootCleared {A : Type 0} (number feature : ℕ) (old : World) (result
 
 abbrev pub PortRead : HubPort → World → Result PortStatus PipeFault → World → Type 0
 PortRead (Root number) old result new = RootRead number old result new
+PortRead (External hub port) old result new = Told status_in hub (get_port_status port) old result new
 
-abbrev pub PortSet : {A : Type 0} → HubPort → ℕ → World → Result A PipeFault → World → Type 0
+abbrev pub PortSet : HubPort → ℕ → World → Result (Unit {0}) PipeFault → World → Type 0
 PortSet (Root number) feature old result new = RootSet number feature old result new
+PortSet (External hub port) feature old result new = Ordered hub (set_port_feature feature port) old result new
 
-abbrev pub PortCleared : {A : Type 0} → HubPort → ℕ → World → Result A PipeFault → World → Type 0
+abbrev pub PortCleared : HubPort → ℕ → World → Result (Unit {0}) PipeFault → World → Type 0
 PortCleared (Root number) feature old result new = RootCleared number feature old result new
+PortCleared (External hub port) feature old result new = Ordered hub (clear_port_feature feature port) old result new

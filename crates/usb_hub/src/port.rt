@@ -2,36 +2,41 @@
 ghost use Rattle.std.specs.Prelude.{◌≡◌, IfErr};
 ghost use Rattle.usb_world.specs.World.{Spends, IsSetFeature, IsClearFeature};
 ghost use Rattle.usb_pipe.specs.Control.{Faults};
-ghost use Rattle.usb_hub.specs.Port.{IsPort, PortRead, PortSet, PortCleared, port_bound};
+ghost use Rattle.usb_hub.specs.Port.{IsPort, PortRead, PortSet, PortCleared, status_bound, order_bound};
 
+use crate::external::{clear_hub_port, hub_port_status, set_hub_port};
 use crate::{PipeFault, PortStatus};
 use std::alloc::Global;
-use usb_pipe::Bus;
+use usb_pipe::{Bus, Target};
 
 /// A port that devices are attached to.
 #[derive(Clone, Copy, Debug, PartialEq, Eq)]
 pub enum HubPort {
     /// A port of the root, by its number from 1. It is a register of the bus, and never fails.
     Root(u8),
+    /// A port of a hub: the hub's endpoint 0, and the port's number, 1 to 7.
+    External { hub: Target, port: u8 },
 }
 
 /// The status of a port (11.24.2.7). `alloc` is for the answer of a hub: a root port needs none.
 ///
 /// # Errors
 ///
-/// None at a root port.
+/// None at a root port. At a hub's port those of `control_in`, and `Stalled` where the answer is not
+/// four bytes long.
 pub fn port_status<B: Bus>(
     alloc: Global,
     bus: &mut B,
     port: HubPort,
 ) -> Result<PortStatus, PipeFault>
     requires { IsPort (B.world bus.old) port }
-    ensures count { Spends (port_bound port) (B.world bus.old) (B.world bus.new) }
+    ensures count { Spends (status_bound port) (B.world bus.old) (B.world bus.new) }
     ensures fault { IfErr result (λ fault. Faults 1 (B.world bus.old) fault (B.world bus.new)) }
     ensures status { PortRead port (B.world bus.old) result (B.world bus.new) }
 {
     match port {
         HubPort::Root(number) => Ok(PortStatus::from_bytes(bus.root_status(number))),
+        HubPort::External { hub, port } => hub_port_status(alloc, bus, hub, port),
     }
 }
 
@@ -39,35 +44,43 @@ pub fn port_status<B: Bus>(
 ///
 /// # Errors
 ///
-/// None at a root port.
+/// None at a root port. At a hub's port those of `control_none`; after `Busy` and `NoAnswer` the
+/// feature may be set.
 pub fn set_port<B: Bus>(bus: &mut B, port: HubPort, feature: u16) -> Result<(), PipeFault>
     requires port { IsPort (B.world bus.old) port }
     requires named { IsSetFeature feature }
     // PORT_POWER of a root port may set its C_PORT_CONNECTION.
-    ensures count { feature ≡ 4 → Spends (port_bound port) (B.world bus.old) (B.world bus.new) }
+    ensures count { feature ≡ 4 → Spends (order_bound port) (B.world bus.old) (B.world bus.new) }
     ensures fault { IfErr result (λ fault. Faults 1 (B.world bus.old) fault (B.world bus.new)) }
     ensures effect { PortSet port feature (B.world bus.old) result (B.world bus.new) }
 {
     match port {
-        HubPort::Root(number) => bus.root_set(number, feature),
+        HubPort::Root(number) => {
+            bus.root_set(number, feature);
+            Ok(())
+        }
+        HubPort::External { hub, port } => set_hub_port(bus, hub, port, feature),
     }
-    Ok(())
 }
 
 /// Clears a feature of a port (11.24.2.2): PORT_ENABLE, PORT_POWER or a change bit.
 ///
 /// # Errors
 ///
-/// None at a root port.
+/// None at a root port. At a hub's port those of `control_none`; after `Busy` and `NoAnswer` the
+/// feature may be cleared.
 pub fn clear_port<B: Bus>(bus: &mut B, port: HubPort, feature: u16) -> Result<(), PipeFault>
     requires port { IsPort (B.world bus.old) port }
     requires named { IsClearFeature feature }
-    ensures count { Spends (port_bound port) (B.world bus.old) (B.world bus.new) }
+    ensures count { Spends (order_bound port) (B.world bus.old) (B.world bus.new) }
     ensures fault { IfErr result (λ fault. Faults 1 (B.world bus.old) fault (B.world bus.new)) }
     ensures effect { PortCleared port feature (B.world bus.old) result (B.world bus.new) }
 {
     match port {
-        HubPort::Root(number) => bus.root_clear(number, feature),
+        HubPort::Root(number) => {
+            bus.root_clear(number, feature);
+            Ok(())
+        }
+        HubPort::External { hub, port } => clear_hub_port(bus, hub, port, feature),
     }
-    Ok(())
 }

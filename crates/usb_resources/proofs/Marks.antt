@@ -125,3 +125,9 @@ none_marked n =
       | inl lt ↦ get_or-replicate n q false false lt
       | inr past ↦ get_or_past (replicate n false) q false (omega (arith, past, length-replicate n false))
     ]
+
+pub not_full : (marks : List Bool) (a : ℕ) → IsLeastUnset marks a → IsFull (marked marks) → ⊥
+not_full marks a least full =
+    let taken = full a least.range in
+    let free = contains_marked marks a ∙ least.unset in
+    cc (taken, free)

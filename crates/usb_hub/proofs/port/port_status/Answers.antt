@@ -1,8 +1,6 @@
-use Rattle.usb_hub.proofs.Ports.{port_read, read_count, is_root}
+use Rattle.usb_request.specs.Requests.{get_port_status}
 use Rattle.usb_hub.proofs.port.port_status.Goals as goal
 
-pub returns-clause-status : goal.returns-clause-status
-returns-clause-status g c = port_read c.args.port _ _ _ (is_root c.args.port) (c.from_bytes.ensures.port _ c.root_status.ensures)
-
-pub returns-clause-count : goal.returns-clause-count
-returns-clause-count g c = read_count c.args.port _
+pub returns-in-External-clause-count : goal.returns-in-External-clause-count
+unfolding get_port_status
+returns-in-External-clause-count g c = rw c.in-External.is c.hub_port_status.ensures.asked.count

@@ -1,0 +1,84 @@
+//! What the host asks of a hub once it is configured, and the power of its ports (11.23, 11.24).
+ghost use Rattle.std.specs.Prelude.{◌≡◌, ◌≤◌, ◌*◌, IfOk, IfErr, is_some, true};
+ghost use Rattle.usb_world.specs.World.{Spends};
+ghost use Rattle.usb_port.specs.Path.{IsPortNumber};
+ghost use Rattle.usb_transaction.specs.Trans.{IsTarget};
+ghost use Rattle.usb_descriptor.specs.Choice.{status_endpoint_of};
+ghost use Rattle.usb_enum.specs.Bounds.{read_bound, none_bound, hub_bound};
+ghost use Rattle.usb_enum.specs.Stop.{ToldOfHub};
+ghost use Rattle.usb_enum.specs.Device.{AreFacts};
+
+use crate::stop::{Stop, answered_or};
+use crate::{Cause, ConfigText};
+use std::alloc::Global;
+use usb_bus::Bus;
+use usb_descriptor::read_hub;
+use usb_hub::{get_status, hub_descriptor, set_hub_port};
+use usb_request::feature::PORT_POWER;
+use usb_resources::supply;
+use usb_transaction::Target;
+
+/// What a hub says of its ports.
+#[derive(Clone, Copy, Debug, PartialEq, Eq)]
+pub struct HubFacts {
+    /// How many ports it has, 1 to 7.
+    pub ports: u8,
+    /// What each of its ports gives, in mA: 500 where the hub powers itself, else 100 (7.2.1).
+    pub supply: u16,
+}
+
+/// Reads what a configured hub says of its ports, and gives each of them power, by rising number.
+#[tactic(auto, using(crate::proofs::Counts::spends_on))]
+pub(crate) fn start_hub<B: Bus>(
+    alloc: Global,
+    bus: &mut B,
+    target: Target,
+    text: &ConfigText,
+) -> Result<HubFacts, Stop>
+    requires target { IsTarget target }
+    requires max { 8 ≤ target.max }
+    ensures spends { Spends hub_bound (B.world bus.old) (B.world bus.new) }
+    ensures told { IfErr result (λ stop. ToldOfHub stop (B.world bus.new)) }
+    ensures facts { IfOk result AreFacts }
+    ensures status { IfOk result (λ _. is_some (status_endpoint_of text.now) ≡ true) }
+{
+    if text.status_endpoint().is_none() {
+        return Err(Stop::Refused(Cause::BadHub));
+    }
+    let ports = port_count(alloc, bus, target)?;
+    let status = answered_or(Cause::BadHub, get_status(alloc, bus, target))?;
+    power_ports(bus, target, ports)?;
+    Ok(HubFacts {
+        ports,
+        supply: supply(false, status.self_powered),
+    })
+}
+
+/// bNbrPorts of the hub descriptor, 1 to 7.
+#[tactic(auto, using(crate::proofs::Counts::read_spends))]
+fn port_count<B: Bus>(alloc: Global, bus: &mut B, target: Target) -> Result<u8, Stop>
+    requires target { IsTarget target }
+    requires max { 8 ≤ target.max }
+    ensures spends { Spends (read_bound 9) (B.world bus.old) (B.world bus.new) }
+    ensures told { IfErr result (λ stop. ToldOfHub stop (B.world bus.new)) }
+    ensures number { IfOk result IsPortNumber }
+{
+    let bytes = answered_or(Cause::BadHub, hub_descriptor(alloc, bus, target))?;
+    match read_hub(bytes.as_slice()) {
+        Ok(hub) => Ok(hub.ports()),
+        Err(_) => Err(Stop::Refused(Cause::BadHub)),
+    }
+}
+
+/// Gives power to the first so many ports of a hub.
+#[tactic(auto, using(crate::proofs::Counts::spends_on))]
+fn power_ports<B: Bus>(bus: &mut B, target: Target, ports: u8) -> Result<(), Stop>
+    requires { IsTarget target }
+    ensures spends { Spends (ports * none_bound) (B.world bus.old) (B.world bus.new) }
+    ensures told { IfErr result (λ stop. ToldOfHub stop (B.world bus.new)) }
+{
+    'ports: for port in 1..=ports {
+        answered_or(Cause::BadHub, set_hub_port(bus, target, port, PORT_POWER))?;
+    }
+    Ok(())
+}
