@@ -2,13 +2,11 @@
 #![tactic(auto)]
 
 mod bus;
-mod not_served;
 mod sim;
 mod trace;
 mod watched;
 
 pub use bus::Bus;
-pub use not_served::{NotServed, served};
 pub use sim::SimBus;
 pub use usb_world::{
     Action, Attempt, BusFault, Damage, Damages, Due, Event, Events, Harm, Outcome, Plan, SentBytes,

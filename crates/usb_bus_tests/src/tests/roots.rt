@@ -1,16 +1,14 @@
 //! Functions at root ports.
 
 use super::plans::{
-    FUNCTION, GET_DEVICE, HUB, ONE_FUNCTION, ONE_PORT, PLUG, SET_ADDRESS_1, SET_CONFIGURATION,
-    TWO_PORTS,
+    FUNCTION, GET_DEVICE, ONE_FUNCTION, ONE_PORT, PLUG, SET_ADDRESS_1, SET_CONFIGURATION, TWO_PORTS,
 };
 use super::row::{Row, Told, joined, row_went};
 use super::step::Speed::{BehindPre, Full};
 use super::step::Step;
 use std::alloc::Global;
 use std::test::Fail;
-use usb_bus::{Damage, Harm, NotServed, served};
-use usb_plan::read_plan;
+use usb_bus::{Damage, Harm};
 
 /// The function is plugged at port 1 and enumerated, and a line of report is written.
 pub(super) const ENUMERATION: &[Told<'static>] = &[
@@ -257,48 +255,6 @@ fn buses_of_functions(rt: HostRuntime) -> Result<(), Fail> {
             "{}",
             row.about
         );
-    }
-    Ok(())
-}
-
-/// The ACK of the second attempt is lost.
-const A_DAMAGE: &str = r#"
-[[damage]]
-attempt = 2
-packet = 3
-how = "lose"
-"#;
-
-/// What a plan is about, its tables, and whether it is one of functions at root ports.
-const SERVED: &[(&str, &[&str], Result<(), NotServed>)] = &[
-    ("one function", ONE_FUNCTION, Ok(())),
-    ("one attempt", ONE_ATTEMPT, Ok(())),
-    ("two functions", &[TWO_PORTS, FUNCTION, PLUGS], Ok(())),
-    (
-        "two functions, later",
-        &[TWO_PORTS, FUNCTION, PLUGS_LATER],
-        Ok(()),
-    ),
-    ("a damage", &[ONE_PORT, FUNCTION, PLUG, A_DAMAGE], Ok(())),
-    (
-        "the host is asked",
-        &[ONE_PORT, FUNCTION, PLUG, ASKED],
-        Ok(()),
-    ),
-    ("a hub", HUB, Err(NotServed::Event(1))),
-];
-
-/// Whether the plan of these tables is served.
-fn serving(alloc: Global, tables: &[&str]) -> Result<Result<(), NotServed>, Fail> {
-    let text = joined(alloc, tables)?;
-    let plan = read_plan(alloc, text.as_str())?;
-    Ok(served(&plan))
-}
-
-#[test]
-fn plans_are_served(rt: HostRuntime) -> Result<(), Fail> {
-    for (about, tables, wanted) in SERVED {
-        assert_eq!(rt; serving(rt.alloc(), tables)?, *wanted, "{about}");
     }
     Ok(())
 }
