@@ -1,12 +1,11 @@
-//! The rounds of a host, and the table of what it found.
+//! The rounds of a host.
 use std::alloc::{AllocError, Global};
 use std::test::Fail;
 use usb_bench::{bus_of, plan_text};
 use usb_bus::SimBus;
-use usb_enum::{Cause, Finding};
+use usb_enum::Finding;
 use usb_host::Host;
 use usb_port::PortPath;
-use usb_table::DeviceTable;
 
 /// A device that never answers, but for its speed.
 const SILENT: &str = "[[device]]
@@ -137,107 +136,6 @@ fn told(alloc: Global, row: &Row) -> Result<String, Fail> {
 fn rounds_of_a_host(rt: HostRuntime) -> Result<(), Fail> {
     for row in ROWS {
         let told = told(rt.alloc(), row)?;
-        assert_eq!(rt; told.as_str(), row.told, "{}", row.about);
-    }
-    Ok(())
-}
-
-#[derive(Clone, Copy)]
-enum Call {
-    /// A refusal is entered.
-    Insert(Cause),
-    /// An entry at or below the path is taken out, and told.
-    Take,
-    /// What stands at the path is told.
-    Get,
-}
-
-/// A call at a path.
-type CallAt = (Call, &'static str);
-
-struct TableRow {
-    about: &'static str,
-    /// Calls on an empty table.
-    calls: &'static [CallAt],
-    /// What they tell, and the entries that are there at last.
-    told: &'static str,
-}
-
-const TABLES: &[TableRow] = &[
-    TableRow {
-        about: "entries by rising path",
-        calls: &[
-            (Call::Insert(Cause::Busy), "2"),
-            (Call::Insert(Cause::TooDeep), "1.3.1"),
-            (Call::Insert(Cause::Silent), "1"),
-        ],
-        told: " 1 silent 1.3.1 too deep 2 busy",
-    },
-    TableRow {
-        about: "an entry goes with those below it",
-        calls: &[
-            (Call::Insert(Cause::Silent), "1"),
-            (Call::Insert(Cause::TooDeep), "1.3.1"),
-            (Call::Insert(Cause::Busy), "2"),
-            (Call::Take, "1"),
-            (Call::Get, "1"),
-            (Call::Take, "1"),
-            (Call::Take, "1"),
-            (Call::Get, "2"),
-        ],
-        told: "silent; none; too deep; none; busy;  2 busy",
-    },
-];
-
-fn put_found(text: &mut String, found: Option<&Finding>) -> Result<(), AllocError> {
-    match found {
-        Some(finding) => put_finding(text, finding)?,
-        None => write!(text, "none")?,
-    }
-    write!(text, "; ")
-}
-
-/// Makes a call, and adds what it tells.
-fn put_call(
-    text: &mut String,
-    table: &mut DeviceTable,
-    call: Call,
-    path: PortPath,
-) -> Result<(), Fail> {
-    match call {
-        Call::Insert(cause) => table.insert(path, Finding::Refused(cause))?,
-        Call::Take => put_found(text, table.take_at(&path).as_ref())?,
-        Call::Get => put_found(text, table.get(&path))?,
-    }
-    Ok(())
-}
-
-/// Adds what the calls tell, and the entries at last.
-fn put_calls(
-    alloc: Global,
-    text: &mut String,
-    table: &mut DeviceTable,
-    calls: &[CallAt],
-) -> Result<(), Fail> {
-    for (call, path) in calls {
-        let path = PortPath::from_text(path).ok_or("no path")?;
-        put_call(text, table, *call, path)?;
-    }
-    put_entries(text, table.entries(alloc)?.as_slice())?;
-    Ok(())
-}
-
-fn table_told(alloc: Global, row: &TableRow) -> Result<String, Fail> {
-    let mut table = DeviceTable::new(alloc);
-    let mut text = String::new(alloc);
-    put_calls(alloc, &mut text, &mut table, row.calls)?;
-    Ok(text)
-}
-
-#[test]
-fn tables_of_findings(rt: HostRuntime) -> Result<(), Fail> {
-    for row in TABLES {
-        let told = table_told(rt.alloc(), row)?;
         assert_eq!(rt; told.as_str(), row.told, "{}", row.about);
     }
     Ok(())
