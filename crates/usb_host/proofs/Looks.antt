@@ -14,7 +14,7 @@ use Rattle.usb_enum.specs.declared.fault.EnumFault.TheVariants.{ParentLost, Bus,
 use Rattle.usb_enum.specs.declared.finding.Finding.{Finding}
 use Rattle.usb_enum.specs.declared.finding.Finding.TheVariants.{Device, Refused}
 use Rattle.usb_table.specs.declared.known.KnownPort.{KnownPort}
-use Rattle.usb_table.specs.Entries.{Entries, without}
+use Rattle.usb_table.specs.Entries.{Entries, Replaced, without}
 use Rattle.usb_table.specs.Findings.{is_waiting}
 use Rattle.usb_table.specs.Known.{known_port}
 use Rattle.usb_table.proofs.Ports.{known_port-without}
@@ -110,3 +110,10 @@ served_on (Err Memory) a b on s = absurd on
 pub handled : {Due : Type 0} (result : Result (Unit {0}) HostFault) (served : Result (Unit {0}) EnumFault) (a b c : Hosting) → OnOk result (GoesOn served) → Holds b c → (Due → Served served a b) → OnOk result (Due → Advances a c)
 handled (Ok done) served a b c on holds s = λ due. advances_then a b c (served_on served a b on (s due)) holds
 handled (Err fault) served a b c on holds s = tt
+
+-- what stood at the port and below it is forgotten
+pub forgets : (path : List ℕ) (a b c : Hosting) → Rests a b → c.entries ≡ without path b.entries → c.entries ≡ without path a.entries
+forgets path a b c r rest = rest ∙ ap (λ (x : Hosting). without path x.entries) r
+
+pub renews : (path : List ℕ) (a b c d : Hosting) → Rests a b → c.entries ≡ without path b.entries → EntersOne path c d → Replaced path (without path a.entries) d.entries
+renews path a b c d r rest one = inr (one.finding, one.entries ∙ ap (λ (es : Entries). insert_entry path_cmp es path one.finding) (forgets path a b c r rest))

@@ -8,12 +8,13 @@ use Rattle.usb_hub.specs.declared.port.HubPort.{HubPort}
 use Rattle.usb_hub.specs.declared.port.HubPort.TheVariants.{Root, External}
 use Rattle.usb_hub.specs.Port.{IsPort}
 use Rattle.usb_resources.specs.Pool.{IsFull}
-use Rattle.usb_enum.specs.declared.cause.Cause.TheVariants.{NoAddress}
+use Rattle.usb_enum.specs.declared.cause.Cause.TheVariants.{NoAddress, Lost}
 use Rattle.usb_enum.specs.declared.fault.EnumFault.{EnumFault}
 use Rattle.usb_enum.specs.declared.fault.EnumFault.TheVariants.{ParentLost, Bus, Memory}
 use Rattle.usb_enum.specs.declared.finding.Finding.{Finding}
 use Rattle.usb_enum.specs.declared.finding.Finding.TheVariants.{Refused}
 use Rattle.usb_table.specs.declared.known.KnownPort.{KnownPort}
+use Rattle.usb_table.specs.Entries.{Entries, without}
 use Rattle.usb_table.specs.Known.{known_port, IsAskable}
 use Rattle.usb_port.specs.Status.{seen}
 use Rattle.usb_port.specs.declared.status.PortStatus.{PortStatus}
@@ -79,3 +80,8 @@ pub record EntersOne (path : List ℕ) (old new : Hosting) : Type 0 where
 
 abbrev pub Entered : List ℕ → Hosting → Result (Unit {0}) EnumFault → Hosting → Type 0
 Entered path old result new = MatchResult result (λ _. EntersOne path old new) (λ _. new.entries ≡ old.entries)
+
+-- a hub is listed as lost, and nothing stands below it
+pub record HasLost (old new : Entries) : Type 0 where
+  pub path : List ℕ
+  pub entries : new ≡ insert_entry path_cmp (without path old) path (Refused Lost)

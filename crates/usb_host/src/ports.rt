@@ -8,10 +8,10 @@ ghost use Rattle.usb_hub.specs.Port.{IsPort};
 ghost use Rattle.usb_resources.specs.Pool.{IsFull};
 ghost use Rattle.usb_enum.specs.Bounds.{widest_enumeration};
 ghost use Rattle.usb_enum.specs.Stop.{FaultAt};
-ghost use Rattle.usb_table.specs.Entries.{has_at, without};
+ghost use Rattle.usb_table.specs.Entries.{Replaced, has_at, without};
 ghost use Rattle.usb_table.specs.Known.{IsAskable, known_port};
 ghost use Rattle.usb_host.specs.Bounds.{clearing_bound, look_bound, drop_bound, handling_bound, status_most, order_most, serving_bound};
-ghost use Rattle.usb_host.specs.Ports.{StandsAt, IsDue, Waits, Served, Shown, Gains, Broke, GoesOn, Entered};
+ghost use Rattle.usb_host.specs.Ports.{StandsAt, IsDue, Waits, Served, Shown, Gains, Broke, GoesOn, Entered, HasLost};
 ghost use Rattle.usb_host.specs.Progress.{Goes, Advances, Holds, Rests, Did};
 ghost use Rattle.usb_host.specs.Told.{Ended};
 
@@ -178,6 +178,7 @@ impl<B: Bus> Host<B> {
         ensures goes { Goes look_bound self.old self.new }
         ensures told { IfErr result (λ fault. FaultAt port.port fault self.new.world) }
         ensures served { IsDue self.old.world port.port ⊎ Waits path.now self.old → Served result self.old self.new }
+        ensures renewed { OnOk result (Replaced path.now (without path.now self.old.entries) self.new.entries) }
     {
         let status = self.clear_change(port.port)?;
         self.forget(path);
@@ -229,6 +230,7 @@ impl<B: Bus> Host<B> {
         ensures goes { Goes drop_bound self.old self.new }
         ensures told { IfErr result (λ fault. Ended fault self.new.world) }
         ensures holds { Holds self.old self.new }
+        ensures lost { OnOk result (HasLost self.old.entries self.new.entries) }
     {
         let lost = self.disable_upward(hub)?;
         self.forget(&lost);

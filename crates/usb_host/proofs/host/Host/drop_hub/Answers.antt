@@ -1,5 +1,7 @@
 use Rattle.std.proofs.Common.{◌≡◌, ◌∙◌, ◌≤◌, ap, arith, refl, sym, subst, false}
 use Rattle.std.specs.Prelude.{IsSome}
+use Rattle.std.specs.BTreeMap.{insert_entry}
+use Rattle.usb_port.specs.Order.{path_cmp}
 use Rattle.usb_enum.specs.declared.cause.Cause.TheVariants.{Lost}
 use Rattle.usb_enum.specs.declared.finding.Finding.TheVariants.{Refused}
 use Rattle.usb_table.specs.Entries.{Entries, has_at, without}
@@ -40,3 +42,10 @@ invariant_of-self-2 g c =
       accounts = accounts_entered path (Refused Lost) c.self.inside.table c.self.inside.pool c.self.inside.pool c.self.invariant.accounts away refl;
       nested = nested_entered path (Refused Lost) c.self.inside.table away known c.self.invariant.nested;
     })
+
+pub returns-clause-lost : goal.returns-clause-lost
+returns-clause-lost g c =
+    let path = c.in_ok-lost.lost in
+    let left : c.self.inside.table ≡ without path c.args.self.now.entries =
+    ap (λ (h : Hosting). h.entries) c.self.view_is ∙ c.forget.ensures.rest ∙ ap (λ (h : Hosting). without path h.entries) c.in_ok-lost.ensures.rests in
+    record { path = path; entries = c.in_ok-insert.ensures.ok ∙ ap (λ (es : Entries). insert_entry path_cmp es path (Refused Lost)) left }

@@ -1,7 +1,7 @@
-use Rattle.std.proofs.Common.{arith, ap, ◌≤◌}
+use Rattle.std.proofs.Common.{arith, ap, ◌≤◌, inl}
 use Rattle.usb_host.specs.Progress.{waiting}
 use Rattle.usb_host.proofs.Joins.{goes_none}
-use Rattle.usb_host.proofs.Looks.{looks, stands_kept, served_any, enters_few, enters_other}
+use Rattle.usb_host.proofs.Looks.{looks, stands_kept, served_any, enters_few, enters_other, forgets, renews}
 use Rattle.usb_host.proofs.host.Host.look.Goals as goal
 
 pub discover-requires-clause-port : goal.discover-requires-clause-port
@@ -25,3 +25,10 @@ pub returns-else-status-clause-served : goal.returns-else-status-clause-served
 returns-else-status-clause-served g c = λ due.
     looks c.args.path.now _ 0 c.args.self.now c.clear_change.new.self c.forget.new.self c.forget.new.self c.clear_change.ensures.goes c.in_ok-status.ensures.rests
     c.forget.ensures.others c.forget.ensures.rest (goes_none c.forget.new.self) c.in_ok-status.ensures.gains c.forget.ensures.freed (omega arith) (λ _. omega arith) due
+
+pub returns-in_ok-discover-clause-renewed : goal.returns-in_ok-discover-clause-renewed
+returns-in_ok-discover-clause-renewed g c =
+    renews c.args.path.now c.args.self.now c.clear_change.new.self c.forget.new.self c.discover.new.self c.in_ok-status.ensures.rests c.forget.ensures.rest c.in_ok-discover.ensures.entered
+
+pub returns-else-status-clause-renewed : goal.returns-else-status-clause-renewed
+returns-else-status-clause-renewed g c = inl (forgets c.args.path.now c.args.self.now c.clear_change.new.self c.forget.new.self c.in_ok-status.ensures.rests c.forget.ensures.rest)
