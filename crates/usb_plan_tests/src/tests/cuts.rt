@@ -31,7 +31,7 @@ const CUTS: [Cut; 23] = [
     },
     Cut {
         last: 25,
-        read: "limit 10000, roots 1, bound 2, served true",
+        read: "limit 10000, roots 1, bound 2",
     },
     Cut {
         last: 34,
@@ -71,7 +71,7 @@ const CUTS: [Cut; 23] = [
     },
     Cut {
         last: 167,
-        read: "limit 10000, roots 1, bound 2, served true; fn 18 1 0 2 0 0 0 64 52 18 120 86 0 1 0 0 0 1, 9 2 18 0 1 1 0 128 50 9 4 0 0 0 255 0 0 0",
+        read: "limit 10000, roots 1, bound 2; fn 18 1 0 2 0 0 0 64 52 18 120 86 0 1 0 0 0 1, 9 2 18 0 1 1 0 128 50 9 4 0 0 0 255 0 0 0",
     },
     Cut {
         last: 175,
@@ -103,7 +103,7 @@ const CUTS: [Cut; 23] = [
     },
     Cut {
         last: 214,
-        read: "limit 10000, roots 1, bound 6086002, served true; fn 18 1 0 2 0 0 0 64 52 18 120 86 0 1 0 0 0 1, 9 2 18 0 1 1 0 128 50 9 4 0 0 0 255 0 0 0; 0 plug 1 0",
+        read: "limit 10000, roots 1, bound 6086002; fn 18 1 0 2 0 0 0 64 52 18 120 86 0 1 0 0 0 1, 9 2 18 0 1 1 0 128 50 9 4 0 0 0 255 0 0 0; 0 plug 1 0",
     },
 ];
 

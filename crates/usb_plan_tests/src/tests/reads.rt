@@ -1,7 +1,7 @@
 //! What is read of a text.
 use super::FUNCTION;
 use std::alloc::{AllocError, Global};
-use usb_bus::{Action, Plan, served};
+use usb_bus::{Action, Plan};
 use usb_device::DeviceSpec;
 use usb_plan::{bound, read_plan};
 
@@ -55,10 +55,7 @@ fn put_entries(text: &mut String, plan: &Plan) -> Result<(), AllocError> {
 /// All that a plan holds.
 fn printed(alloc: Global, plan: &Plan) -> Result<String, AllocError> {
     let (limit, roots, attempts) = (plan.limit(), plan.roots(), bound(plan));
-    let served = served(plan).is_ok();
-    let mut text = format!(in alloc;
-        "limit {limit}, roots {roots}, bound {attempts}, served {served}"
-    )?;
+    let mut text = format!(in alloc; "limit {limit}, roots {roots}, bound {attempts}")?;
     put_entries(&mut text, plan)?;
     Ok(text)
 }
@@ -86,21 +83,21 @@ struct Example {
 const EXAMPLES: [Example; 3] = [
     Example {
         text: &["limit = 0\nroots = 1\n"],
-        read: "limit 0, roots 1, bound 2, served true",
+        read: "limit 0, roots 1, bound 2",
     },
     Example {
         text: &[
             FUNCTION,
             "[[event]]\ndo = \"plug\"\npath = \"1\"\ndevice = \"fn\"\nafter = 7\n",
         ],
-        read: "limit 10000, roots 1, bound 6086002, served true; fn 18 1 0 2 0 0 0 64 52 18 120 86 0 1 0 0 0 1, 9 2 18 0 1 1 0 128 50 9 4 0 0 0 255 0 0 0; 7 plug 1 0",
+        read: "limit 10000, roots 1, bound 6086002; fn 18 1 0 2 0 0 0 64 52 18 120 86 0 1 0 0 0 1, 9 2 18 0 1 1 0 128 50 9 4 0 0 0 255 0 0 0; 7 plug 1 0",
     },
     Example {
         text: &[
             "limit = 1\nroots = 1\n[[event]]\ndo = \"send\"\npath = \"1.2\"\nbytes = \"0aFF\"\n[[event]]\ndo = \"receive\"\npath = \"1\"\npackets = 7\n",
             "[[damage]]\nattempt = 3\npacket = 2\nhow = \"flip\"\nbit = 9\n",
         ],
-        read: "limit 1, roots 1, bound 12209002, served true; 0 send 1.2 10 255; 0 receive 1 7; Damage { attempt: 3, packet: 2, harm: Flip(9) }",
+        read: "limit 1, roots 1, bound 12209002; 0 send 1.2 10 255; 0 receive 1 7; Damage { attempt: 3, packet: 2, harm: Flip(9) }",
     },
 ];
 
