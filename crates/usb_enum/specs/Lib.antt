@@ -1,3 +1,4 @@
+pub mod Addresses
 pub mod Bounds
 pub mod Device
 pub mod Found

@@ -5,6 +5,7 @@ ghost use Rattle.usb_transaction.specs.Trans.{IsTarget};
 ghost use Rattle.usb_enum.specs.Bounds.{read_bound, configuration_bound};
 ghost use Rattle.usb_enum.specs.Stop.{Told};
 ghost use Rattle.usb_enum.specs.Text.{ValuesDiffer, choice_of};
+ghost use Rattle.usb_address.specs.Owned.{KeepsAddresses};
 
 use crate::stop::{Stop, answered_or};
 use crate::{Cause, ConfigText, ConfigTexts, Request};
@@ -24,6 +25,7 @@ fn total_length<B: Bus>(alloc: Global, bus: &mut B, target: Target, index: u8) -
     ensures told { IfErr result (λ stop. Told stop (B.world bus.new)) }
     ensures least { IfOk result (λ total. 9 ≤ total) }
     ensures most { IfOk result (λ total. total ≤ 65535) }
+    ensures keeps { KeepsAddresses (B.world bus.old) (B.world bus.new) }
 {
     let stalled = Cause::Stalled(Request::Config);
     let head = answered_or(stalled, get_config(alloc, bus, target, index, 9))?;
@@ -34,6 +36,7 @@ fn total_length<B: Bus>(alloc: Global, bus: &mut B, target: Target, index: u8) -
 }
 
 /// The configuration text of an index.
+#[tactic(auto, using(usb_address::proofs::Keeping::keeps_then))]
 fn read_text<B: Bus>(
     alloc: Global,
     bus: &mut B,
@@ -44,6 +47,7 @@ fn read_text<B: Bus>(
     requires max { 8 ≤ target.max }
     ensures spends { Spends configuration_bound (B.world bus.old) (B.world bus.new) }
     ensures told { IfErr result (λ stop. Told stop (B.world bus.new)) }
+    ensures keeps { KeepsAddresses (B.world bus.old) (B.world bus.new) }
 {
     let total = total_length(alloc, bus, target, index)?;
     let stalled = Cause::Stalled(Request::Config);
@@ -55,7 +59,7 @@ fn read_text<B: Bus>(
 }
 
 /// The configurations of a device that has so many. No two of them have the same value.
-#[tactic(auto, using(crate::proofs::Counts::spends_on, crate::proofs::Values::one_more))]
+#[tactic(auto, using(crate::proofs::Counts::spends_on, crate::proofs::Values::one_more, usb_address::proofs::Keeping::keeps_then))]
 pub(crate) fn read_configurations<B: Bus>(
     alloc: Global,
     bus: &mut B,
@@ -68,6 +72,7 @@ pub(crate) fn read_configurations<B: Bus>(
     ensures told { IfErr result (λ stop. Told stop (B.world bus.new)) }
     ensures all { IfOk result (λ texts. length texts ≡ count) }
     ensures differ { IfOk result (λ texts. ValuesDiffer texts) }
+    ensures keeps { KeepsAddresses (B.world bus.old) (B.world bus.new) }
 {
     let mut texts = ConfigTexts::new(alloc);
     for index in 0..count {

@@ -1,11 +1,13 @@
 //! The whole enumeration.
-ghost use Rattle.std.specs.Prelude.{◌≡◌, IfOk, IfErr, true};
+ghost use Rattle.std.specs.Prelude.{◌≡◌, ℕ, IfOk, IfErr, true, OnOk};
 ghost use Rattle.usb_world.specs.World.{Spends};
 ghost use Rattle.usb_hub.specs.Port.{IsPort, order_bound};
 ghost use Rattle.usb_enum.specs.Bounds.{unaddressed_bound, examination_bound, enumeration_bound, configured_bound, hub_bound};
 ghost use Rattle.usb_enum.specs.Stop.{FaultAt, ToldIn, ToldOfDevice, ToldOfHub, ToldWithout};
 ghost use Rattle.usb_enum.specs.Found.{GivesUp, IsFound, IsWhole, TakesFor};
 ghost use Rattle.usb_enum.specs.Device.{HasFacts, IsServed, fits_tier, is_hub};
+ghost use Rattle.usb_enum.specs.Addresses.{Ends, KeepsEnumerated, Within, Takes};
+ghost use Rattle.usb_address.specs.Owned.{KeepsAddresses};
 
 use crate::addressed::Addressed;
 use crate::configurations::{choose_configuration, read_configurations};
@@ -48,6 +50,7 @@ pub fn enumerate<B: Bus>(
     ensures told { IfErr result (λ fault. FaultAt port fault (B.world bus.new)) }
     ensures pool { TakesFor result pool.old pool.new }
     ensures found { IfOk result (λ finding. IsFound port pool.old tier supply finding (B.world bus.new)) }
+    ensures addresses { KeepsEnumerated port pool.old (B.world bus.old) result (B.world bus.new) }
 {
     let Some(address) = pool.take() else {
         let stop = without_address(alloc, bus, port);
@@ -68,6 +71,7 @@ fn without_address<B: Bus>(alloc: Global, bus: &mut B, port: HubPort) -> Stop
     requires { IsPort (B.world bus.old) port }
     ensures spends { Spends (unaddressed_bound port) (B.world bus.old) (B.world bus.new) }
     ensures told { ToldWithout port result (B.world bus.new) }
+    ensures within { Within port 0 (B.world bus.old) (B.world bus.new) }
 {
     match unaddressed(alloc, bus, port) {
         Ok(_) => Stop::Refused(Cause::NoAddress),
@@ -81,6 +85,7 @@ fn give_up<B: Bus>(bus: &mut B, port: HubPort, stop: Stop) -> Result<Finding, En
     requires { IsPort (B.world bus.old) port }
     ensures spends { Spends (order_bound port) (B.world bus.old) (B.world bus.new) }
     ensures left { GivesUp port stop (B.world bus.old) result (B.world bus.new) }
+    ensures ends { (a : ℕ) → Ends port a (B.world bus.old) result (B.world bus.new) }
 {
     match stop {
         Stop::Refused(cause) => {
@@ -106,13 +111,15 @@ fn examine<B: Bus>(
     ensures told { IfErr result (λ stop. ToldIn port tier stop (B.world bus.new)) }
     ensures address { IfOk result (λ device. device.address ≡ address) }
     ensures whole { IfOk result (λ device. IsWhole supply device) }
+    ensures within { Within port address (B.world bus.old) (B.world bus.new) }
+    ensures takes { OnOk result (Takes port address (B.world bus.old) (B.world bus.new)) }
 {
     let device = passes(alloc, bus, port, address.number())?;
     configure(alloc, bus, address, device, tier, supply)
 }
 
 /// Reads and configures a device that has its address.
-#[tactic(auto, using(crate::proofs::Counts::spends_on, crate::proofs::Hubs::told_of_hub))]
+#[tactic(auto, using(crate::proofs::Counts::spends_on, crate::proofs::Hubs::told_of_hub, usb_address::proofs::Keeping::keeps_none, usb_address::proofs::Keeping::keeps_then))]
 fn configure<B: Bus>(
     alloc: Global,
     bus: &mut B,
@@ -126,6 +133,7 @@ fn configure<B: Bus>(
     ensures told { IfErr result (λ stop. ToldOfDevice tier stop (B.world bus.new)) }
     ensures address { IfOk result (λ accepted. accepted.address ≡ address) }
     ensures whole { IfOk result (λ accepted. IsWhole supply accepted) }
+    ensures keeps { KeepsAddresses (B.world bus.old) (B.world bus.new) }
 {
     let target = device.target;
     fits_tier(&device, tier)?;
@@ -171,6 +179,7 @@ fn hub_facts<B: Bus>(
     ensures facts { IfOk result (λ facts. HasFacts device.now.bytes text.now facts) }
     ensures hub { IfErr result (λ _. is_hub device.now.bytes ≡ true) }
     ensures served { IfOk result (λ facts. IsServed device.now.target.addr facts) }
+    ensures keeps { KeepsAddresses (B.world bus.old) (B.world bus.new) }
 {
     if !device.is_hub() {
         return Ok(None);

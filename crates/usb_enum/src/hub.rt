@@ -8,6 +8,7 @@ ghost use Rattle.usb_enum.specs.Bounds.{read_bound, none_bound, hub_bound};
 ghost use Rattle.usb_enum.specs.Stop.{ToldOfHub};
 ghost use Rattle.usb_enum.specs.Device.{AreFacts};
 ghost use Rattle.usb_enum.specs.Hub.{CountTold, SupplyTold, IsPowered, Powered, Started};
+ghost use Rattle.usb_address.specs.Owned.{KeepsAddresses};
 
 use crate::stop::{Stop, answered_or};
 use crate::{Cause, ConfigText};
@@ -29,7 +30,7 @@ pub struct HubFacts {
 }
 
 /// Reads what a configured hub says of its ports, and gives each of them power, by rising number.
-#[tactic(auto, using(crate::proofs::Counts::spends_on))]
+#[tactic(auto, using(crate::proofs::Counts::spends_on, usb_address::proofs::Keeping::keeps_none, usb_address::proofs::Keeping::keeps_then))]
 pub(crate) fn start_hub<B: Bus>(
     alloc: Global,
     bus: &mut B,
@@ -43,6 +44,7 @@ pub(crate) fn start_hub<B: Bus>(
     ensures facts { IfOk result AreFacts }
     ensures status { IfOk result (λ _. is_some (status_endpoint_of text.now) ≡ true) }
     ensures started { IfOk result (Started target (B.world bus.old) (B.world bus.new)) }
+    ensures keeps { KeepsAddresses (B.world bus.old) (B.world bus.new) }
 {
     if text.status_endpoint().is_none() {
         return Err(Stop::Refused(Cause::BadHub));
@@ -62,6 +64,7 @@ fn port_count<B: Bus>(alloc: Global, bus: &mut B, target: Target) -> Result<u8, 
     ensures told { IfErr result (λ stop. ToldOfHub stop (B.world bus.new)) }
     ensures number { IfOk result IsPortNumber }
     ensures count { IfOk result (CountTold target (B.world bus.old) (B.world bus.new)) }
+    ensures keeps { KeepsAddresses (B.world bus.old) (B.world bus.new) }
 {
     let bytes = answered_or(Cause::BadHub, hub_descriptor(alloc, bus, target))?;
     match read_hub(bytes.as_slice()) {
@@ -79,18 +82,20 @@ fn port_supply<B: Bus>(alloc: Global, bus: &mut B, target: Target) -> Result<u16
     ensures told { IfErr result (λ stop. ToldOfHub stop (B.world bus.new)) }
     ensures supply { IfOk result (λ supply. (supply ≡ 500) ⊎ (supply ≡ 100)) }
     ensures said { IfOk result (SupplyTold target (B.world bus.old) (B.world bus.new)) }
+    ensures keeps { KeepsAddresses (B.world bus.old) (B.world bus.new) }
 {
     let status = answered_or(Cause::BadHub, get_status(alloc, bus, target))?;
     Ok(supply(false, status.self_powered))
 }
 
 /// Gives power to the first so many ports of a hub.
-#[tactic(auto, using(crate::proofs::Counts::spends_on))]
+#[tactic(auto, using(crate::proofs::Counts::spends_on, usb_address::proofs::Keeping::keeps_then))]
 fn power_ports<B: Bus>(bus: &mut B, target: Target, ports: u8) -> Result<(), Stop>
     requires { IsTarget target }
     ensures spends { Spends (ports * none_bound) (B.world bus.old) (B.world bus.new) }
     ensures told { IfErr result (λ stop. ToldOfHub stop (B.world bus.new)) }
     ensures powered { IfOk result (λ _. Powered target ports (B.world bus.old) (B.world bus.new)) }
+    ensures keeps { KeepsAddresses (B.world bus.old) (B.world bus.new) }
 {
     'ports: for before in 0..ports {
         power_port(bus, target, before + 1)?;
@@ -104,6 +109,7 @@ fn power_port<B: Bus>(bus: &mut B, target: Target, port: u8) -> Result<(), Stop>
     ensures spends { Spends none_bound (B.world bus.old) (B.world bus.new) }
     ensures told { IfErr result (λ stop. ToldOfHub stop (B.world bus.new)) }
     ensures powered { IfOk result (λ _. IsPowered target port (B.world bus.old) (B.world bus.new)) }
+    ensures keeps { KeepsAddresses (B.world bus.old) (B.world bus.new) }
 {
     answered_or(Cause::BadHub, set_hub_port(bus, target, port, PORT_POWER))
 }

@@ -1,11 +1,14 @@
 //! The steps up to a device that has its address and has given its device descriptor.
-ghost use Rattle.std.specs.Prelude.{◌≡◌, ◌≤◌, ◌<◌, ◌*◌, IfOk, IfErr, IfSome, true, ◌&&◌};
+ghost use Rattle.std.specs.Prelude.{◌≡◌, ◌≤◌, ◌<◌, ◌*◌, IfOk, IfErr, IfSome, true, ◌&&◌, ℕ, OnOk};
 ghost use Rattle.usb_world.specs.World.{Spends};
 ghost use Rattle.usb_hub.specs.Port.{IsPort};
 ghost use Rattle.usb_transaction.specs.Trans.{IsTarget};
 ghost use Rattle.usb_enum.specs.Bounds.{read_bound, reset_bound, unaddressed_bound, pass_bound};
 ghost use Rattle.usb_enum.specs.Stop.{Told, ToldAt};
 ghost use Rattle.usb_enum.specs.Device.{device_bytes, is_device, needs_pre};
+ghost use Rattle.usb_address.specs.Owned.{KeepsAddresses};
+ghost use Rattle.usb_hub.specs.Addresses.{Answers};
+ghost use Rattle.usb_enum.specs.Addresses.{Within, Takes};
 
 use crate::addressed::Addressed;
 use crate::stop::{Stop, answered_or, at_port};
@@ -19,10 +22,12 @@ use usb_request::feature::{C_PORT_RESET, PORT_RESET};
 use usb_transaction::Target;
 
 /// Resets the port (11.5.1.5), and tells whether a low-speed device is there.
+#[tactic(auto, using(crate::proofs::Enumerations::within_set, crate::proofs::Enumerations::within_set_then, usb_address::proofs::Keeping::keeps_then))]
 fn reset<B: Bus>(alloc: Global, bus: &mut B, port: HubPort) -> Result<bool, Stop>
     requires port { IsPort (B.world bus.old) port }
     ensures spends { Spends (reset_bound port) (B.world bus.old) (B.world bus.new) }
     ensures told { IfErr result (λ stop. ToldAt port stop (B.world bus.new)) }
+    ensures within { (a : ℕ) → Within port a (B.world bus.old) (B.world bus.new) }
 {
     at_port(set_port(bus, port, PORT_RESET))?;
     let status = at_port(port_status(alloc, bus, port))?;
@@ -54,6 +59,7 @@ fn first_maximum<B: Bus>(alloc: Global, bus: &mut B, unaddressed: Target) -> Res
     ensures told { IfErr result (λ stop. Told stop (B.world bus.new)) }
     ensures least { IfOk result (λ max. 8 ≤ max) }
     ensures most { IfOk result (λ max. max ≤ 64) }
+    ensures keeps { KeepsAddresses (B.world bus.old) (B.world bus.new) }
 {
     let stalled = Cause::Stalled(Request::Device);
     let bytes = answered_or(stalled, get_device(alloc, bus, unaddressed, 8))?;
@@ -71,6 +77,8 @@ fn descriptor<B: Bus>(alloc: Global, bus: &mut B, target: Target) -> Result<Opti
     ensures spends { Spends (read_bound 18) (B.world bus.old) (B.world bus.new) }
     ensures told { IfErr result (λ stop. Told stop (B.world bus.new)) }
     ensures device { IfOk result (λ found. IfSome found (λ bytes. is_device target.low bytes ≡ true)) }
+    ensures keeps { KeepsAddresses (B.world bus.old) (B.world bus.new) }
+    ensures who { IfOk result (λ found. IfSome found (λ _. Answers target.addr (B.world bus.old))) }
 {
     let outcome = get_device(alloc, bus, target, 18);
     if outcome == Err(PipeFault::NoAnswer) {
@@ -101,8 +109,10 @@ pub(crate) fn unaddressed<B: Bus>(alloc: Global, bus: &mut B, port: HubPort) -> 
     ensures spends { Spends (unaddressed_bound port) (B.world bus.old) (B.world bus.new) }
     ensures told { IfErr result (λ stop. ToldAt port stop (B.world bus.new)) }
     ensures target { IfOk result (λ target. IsTarget target) }
+    ensures zero { IfOk result (λ target. target.addr ≡ 0) }
     ensures max { IfOk result (λ target. 8 ≤ target.max) }
     ensures pre { IfOk result (λ target. target.pre ≡ (target.low && needs_pre port)) }
+    ensures within { (a : ℕ) → Within port a (B.world bus.old) (B.world bus.new) }
 {
     let low = reset(alloc, bus, port)?;
     let pre = low && needs_pre(port);
@@ -140,6 +150,8 @@ fn pass<B: Bus>(
     ensures spends { Spends (pass_bound port) (B.world bus.old) (B.world bus.new) }
     ensures told { IfErr result (λ stop. ToldAt port stop (B.world bus.new)) }
     ensures address { IfOk result (λ found. IfSome found (λ device. device.target.addr ≡ address)) }
+    ensures within { Within port address (B.world bus.old) (B.world bus.new) }
+    ensures takes { IfOk result (λ found. IfSome found (λ _. Takes port address (B.world bus.old) (B.world bus.new))) }
 {
     let target = unaddressed(alloc, bus, port)?;
     let stalled = Cause::Stalled(Request::Address);
@@ -169,6 +181,8 @@ pub(crate) fn passes<B: Bus>(
     ensures spends { Spends (3 * pass_bound port) (B.world bus.old) (B.world bus.new) }
     ensures told { IfErr result (λ stop. ToldAt port stop (B.world bus.new)) }
     ensures address { IfOk result (λ device. device.target.addr ≡ address) }
+    ensures within { Within port address (B.world bus.old) (B.world bus.new) }
+    ensures takes { OnOk result (Takes port address (B.world bus.old) (B.world bus.new)) }
 {
     for _pass in 0..3u8 {
         if let Some(device) = pass(alloc, bus, port, address)? {

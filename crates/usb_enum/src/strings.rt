@@ -5,6 +5,7 @@ ghost use Rattle.usb_transaction.specs.Trans.{IsTarget};
 ghost use Rattle.usb_enum.specs.Bounds.{read_bound, strings_bound};
 ghost use Rattle.usb_enum.specs.Stop.{Told};
 ghost use Rattle.usb_enum.specs.Text.{first_language_of, units_of};
+ghost use Rattle.usb_address.specs.Owned.{KeepsAddresses};
 
 use crate::StringUnits;
 use crate::stop::{Stop, stop_of};
@@ -86,6 +87,7 @@ fn string_bytes<B: Bus>(
     requires max { 8 ≤ target.max }
     ensures spends { Spends (read_bound 255) (B.world bus.old) (B.world bus.new) }
     ensures told { IfErr result (λ stop. Told stop (B.world bus.new)) }
+    ensures keeps { KeepsAddresses (B.world bus.old) (B.world bus.new) }
 {
     match get_string(alloc, bus, target, index, language) {
         Ok(bytes) => Ok(Some(bytes)),
@@ -97,7 +99,7 @@ fn string_bytes<B: Bus>(
 }
 
 /// The string of an index; index 0 names none.
-#[tactic(auto, using(crate::proofs::Counts::spends_on, usb_world::proofs::Counts::spends_none))]
+#[tactic(auto, using(crate::proofs::Counts::spends_on, usb_world::proofs::Counts::spends_none, usb_address::proofs::Keeping::keeps_none))]
 fn read_one<B: Bus>(
     alloc: Global,
     bus: &mut B,
@@ -109,6 +111,7 @@ fn read_one<B: Bus>(
     requires max { 8 ≤ target.max }
     ensures spends { Spends (read_bound 255) (B.world bus.old) (B.world bus.new) }
     ensures told { IfErr result (λ stop. Told stop (B.world bus.new)) }
+    ensures keeps { KeepsAddresses (B.world bus.old) (B.world bus.new) }
 {
     if index == 0 {
         return Ok(None);
@@ -125,6 +128,7 @@ fn language<B: Bus>(alloc: Global, bus: &mut B, target: Target) -> Result<Option
     requires max { 8 ≤ target.max }
     ensures spends { Spends (read_bound 255) (B.world bus.old) (B.world bus.new) }
     ensures told { IfErr result (λ stop. Told stop (B.world bus.new)) }
+    ensures keeps { KeepsAddresses (B.world bus.old) (B.world bus.new) }
 {
     match string_bytes(alloc, bus, target, 0, 0)? {
         Some(bytes) => Ok(first_language(bytes.as_slice())),
@@ -133,7 +137,7 @@ fn language<B: Bus>(alloc: Global, bus: &mut B, target: Target) -> Result<Option
 }
 
 /// The device's strings, each in its first language.
-#[tactic(auto, using(crate::proofs::Counts::spends_on, usb_world::proofs::Counts::spends_none))]
+#[tactic(auto, using(crate::proofs::Counts::spends_on, usb_world::proofs::Counts::spends_none, usb_address::proofs::Keeping::keeps_none, usb_address::proofs::Keeping::keeps_then))]
 pub(crate) fn read_strings<B: Bus>(
     alloc: Global,
     bus: &mut B,
@@ -144,6 +148,7 @@ pub(crate) fn read_strings<B: Bus>(
     requires max { 8 ≤ target.max }
     ensures spends { Spends strings_bound (B.world bus.old) (B.world bus.new) }
     ensures told { IfErr result (λ stop. Told stop (B.world bus.new)) }
+    ensures keeps { KeepsAddresses (B.world bus.old) (B.world bus.new) }
 {
     if indexes.manufacturer == 0 && indexes.product == 0 && indexes.serial_number == 0 {
         return Ok(no_strings());

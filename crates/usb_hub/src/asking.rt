@@ -2,6 +2,8 @@
 ghost use Rattle.std.specs.Prelude.{◌≡◌, ◌≤◌};
 ghost use Rattle.usb_transaction.specs.Trans.{IsTarget};
 ghost use Rattle.usb_request.specs.Layout.{IsToHost, IsToDevice};
+ghost use Rattle.usb_address.specs.Owned.{KeepsAddresses};
+ghost use Rattle.usb_hub.specs.Addresses.{KeepsAnswered};
 ghost use Rattle.usb_hub.specs.Requests.{Asked, Told, Ordered};
 
 use std::alloc::Global;
@@ -12,6 +14,7 @@ use usb_pipe::{Bus, PipeFault, Setup, Target, control_in, control_none};
 /// # Errors
 ///
 /// Those of `control_in`.
+#[tactic(auto, using(crate::proofs::Keeping::answered))]
 pub(crate) fn ask<B: Bus>(
     alloc: Global,
     bus: &mut B,
@@ -21,7 +24,8 @@ pub(crate) fn ask<B: Bus>(
     requires target { IsTarget target }
     requires reads { IsToHost setup }
     requires some { 1 ≤ setup.length }
-    ensures { Asked target setup (B.world bus.old) result (B.world bus.new) }
+    ensures asked { Asked target setup (B.world bus.old) result (B.world bus.new) }
+    ensures addresses { KeepsAnswered target.addr (B.world bus.old) result (B.world bus.new) }
 {
     control_in(alloc, bus, target, setup)
 }
@@ -41,7 +45,8 @@ pub(crate) fn ask_all<B: Bus, const N: usize>(
     requires reads { IsToHost setup }
     requires some { 1 ≤ setup.length }
     requires size { setup.length ≡ N }
-    ensures { Told (λ bytes. bytes) target setup (B.world bus.old) result (B.world bus.new) }
+    ensures told { Told (λ bytes. bytes) target setup (B.world bus.old) result (B.world bus.new) }
+    ensures keeps { KeepsAddresses (B.world bus.old) (B.world bus.new) }
 {
     let answer = ask(alloc, bus, target, setup)?;
     match answer.as_slice().try_into() {

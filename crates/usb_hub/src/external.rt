@@ -1,7 +1,9 @@
 //! The ports of a hub, asked of the hub (11.24.2).
+ghost use Rattle.std.specs.Prelude.{◌≢◌};
 ghost use Rattle.usb_transaction.specs.Trans.{IsTarget};
 ghost use Rattle.usb_port.specs.Status.{status_in};
 ghost use Rattle.usb_request.specs.Requests.{get_port_status, set_port_feature as set_feature, clear_port_feature as clear_feature};
+ghost use Rattle.usb_address.specs.Owned.{KeepsAddresses};
 ghost use Rattle.usb_hub.specs.Requests.{Told, Ordered};
 
 use crate::PortStatus;
@@ -21,7 +23,8 @@ pub fn hub_port_status<B: Bus>(
     port: u8,
 ) -> Result<PortStatus, PipeFault>
     requires { IsTarget hub }
-    ensures { Told status_in hub (get_port_status port) (B.world bus.old) result (B.world bus.new) }
+    ensures told { Told status_in hub (get_port_status port) (B.world bus.old) result (B.world bus.new) }
+    ensures keeps { KeepsAddresses (B.world bus.old) (B.world bus.new) }
 {
     let bytes = ask_all(alloc, bus, hub, Setup::get_port_status(port))?;
     Ok(PortStatus::from_bytes(bytes))
@@ -32,6 +35,7 @@ pub fn hub_port_status<B: Bus>(
 /// # Errors
 ///
 /// Those of `control_none`; after `Busy` and `NoAnswer` the feature may be set.
+#[tactic(auto, using(crate::proofs::Keeping::set_keeps))]
 pub fn set_hub_port<B: Bus>(
     bus: &mut B,
     hub: Target,
@@ -39,7 +43,8 @@ pub fn set_hub_port<B: Bus>(
     feature: u16,
 ) -> Result<(), PipeFault>
     requires { IsTarget hub }
-    ensures { Ordered hub (set_feature feature port) (B.world bus.old) result (B.world bus.new) }
+    ensures ordered { Ordered hub (set_feature feature port) (B.world bus.old) result (B.world bus.new) }
+    ensures keeps { feature ≢ 4 → KeepsAddresses (B.world bus.old) (B.world bus.new) }
 {
     order(bus, hub, Setup::set_port_feature(feature, port))
 }
@@ -49,6 +54,7 @@ pub fn set_hub_port<B: Bus>(
 /// # Errors
 ///
 /// Those of `control_none`; after `Busy` and `NoAnswer` the feature may be cleared.
+#[tactic(auto, using(crate::proofs::Keeping::cleared_keeps))]
 pub fn clear_hub_port<B: Bus>(
     bus: &mut B,
     hub: Target,
@@ -56,7 +62,8 @@ pub fn clear_hub_port<B: Bus>(
     feature: u16,
 ) -> Result<(), PipeFault>
     requires { IsTarget hub }
-    ensures { Ordered hub (clear_feature feature port) (B.world bus.old) result (B.world bus.new) }
+    ensures ordered { Ordered hub (clear_feature feature port) (B.world bus.old) result (B.world bus.new) }
+    ensures keeps { KeepsAddresses (B.world bus.old) (B.world bus.new) }
 {
     order(bus, hub, Setup::clear_port_feature(feature, port))
 }

@@ -2,6 +2,7 @@
 ghost use Rattle.std.specs.Prelude.{◌≡◌, IfErr};
 ghost use Rattle.usb_world.specs.World.{Spends, IsSetFeature, IsClearFeature};
 ghost use Rattle.usb_pipe.specs.Control.{Faults};
+ghost use Rattle.usb_hub.specs.Addresses.{KeepsAsked, KeepsSet, KeepsCleared};
 ghost use Rattle.usb_hub.specs.Port.{IsPort, PortRead, PortSet, PortCleared, status_bound, order_bound};
 
 use crate::external::{clear_hub_port, hub_port_status, set_hub_port};
@@ -33,6 +34,7 @@ pub fn port_status<B: Bus>(
     ensures count { Spends (status_bound port) (B.world bus.old) (B.world bus.new) }
     ensures fault { IfErr result (λ fault. Faults 1 (B.world bus.old) fault (B.world bus.new)) }
     ensures status { PortRead port (B.world bus.old) result (B.world bus.new) }
+    ensures addresses { KeepsAsked port (B.world bus.old) result (B.world bus.new) }
 {
     match port {
         HubPort::Root(number) => Ok(PortStatus::from_bytes(bus.root_status(number))),
@@ -46,6 +48,7 @@ pub fn port_status<B: Bus>(
 ///
 /// None at a root port. At a hub's port those of `control_none`; after `Busy` and `NoAnswer` the
 /// feature may be set.
+#[tactic(auto, using(crate::proofs::Keeping::root_set_keeps, crate::proofs::Keeping::hub_set_keeps))]
 pub fn set_port<B: Bus>(bus: &mut B, port: HubPort, feature: u16) -> Result<(), PipeFault>
     requires port { IsPort (B.world bus.old) port }
     requires named { IsSetFeature feature }
@@ -53,6 +56,7 @@ pub fn set_port<B: Bus>(bus: &mut B, port: HubPort, feature: u16) -> Result<(), 
     ensures count { feature ≡ 4 → Spends (order_bound port) (B.world bus.old) (B.world bus.new) }
     ensures fault { IfErr result (λ fault. Faults 1 (B.world bus.old) fault (B.world bus.new)) }
     ensures effect { PortSet port feature (B.world bus.old) result (B.world bus.new) }
+    ensures addresses { KeepsSet port feature (B.world bus.old) (B.world bus.new) }
 {
     match port {
         HubPort::Root(number) => {
@@ -69,12 +73,14 @@ pub fn set_port<B: Bus>(bus: &mut B, port: HubPort, feature: u16) -> Result<(), 
 ///
 /// None at a root port. At a hub's port those of `control_none`; after `Busy` and `NoAnswer` the
 /// feature may be cleared.
+#[tactic(auto, using(crate::proofs::Keeping::hub_clear_keeps))]
 pub fn clear_port<B: Bus>(bus: &mut B, port: HubPort, feature: u16) -> Result<(), PipeFault>
     requires port { IsPort (B.world bus.old) port }
     requires named { IsClearFeature feature }
     ensures count { Spends (order_bound port) (B.world bus.old) (B.world bus.new) }
     ensures fault { IfErr result (λ fault. Faults 1 (B.world bus.old) fault (B.world bus.new)) }
     ensures effect { PortCleared port feature (B.world bus.old) result (B.world bus.new) }
+    ensures addresses { KeepsCleared port feature (B.world bus.old) result (B.world bus.new) }
 {
     match port {
         HubPort::Root(number) => {

@@ -5,6 +5,8 @@ ghost use Rattle.usb_transaction.specs.Trans.{IsTarget, Worked};
 ghost use Rattle.usb_pipe.specs.Control.{Faults, control_bound};
 ghost use Rattle.usb_pipe.specs.Stages.{Reads, Writes};
 ghost use Rattle.usb_request.specs.Requests.{get_device_descriptor, get_configuration_descriptor, get_string_descriptor, get_hub_descriptor, get_status as status_request, set_address as address_request, set_configuration as configuration_request};
+ghost use Rattle.usb_address.specs.Owned.{KeepsAddresses};
+ghost use Rattle.usb_hub.specs.Addresses.{KeepsAnswered, GivesAddress};
 ghost use Rattle.usb_hub.specs.Requests.{Asked, Told, device_status};
 
 use crate::DeviceStatus;
@@ -29,6 +31,7 @@ pub fn get_device<B: Bus>(
     ensures ends { MatchResult result (λ _. Worked 3 (B.world bus.old) (B.world bus.new)) (λ fault. Faults 1 (B.world bus.old) fault (B.world bus.new)) }
     ensures stages { Reads target (get_device_descriptor length) (B.world bus.old) result (B.world bus.new) }
     ensures most { IfOk result (λ bytes. vec_len bytes ≤ length) }
+    ensures addresses { KeepsAnswered target.addr (B.world bus.old) result (B.world bus.new) }
 {
     ask(alloc, bus, target, Setup::get_device_descriptor(length))
 }
@@ -52,6 +55,7 @@ pub fn get_config<B: Bus>(
     ensures ends { MatchResult result (λ _. Worked 3 (B.world bus.old) (B.world bus.new)) (λ fault. Faults 1 (B.world bus.old) fault (B.world bus.new)) }
     ensures stages { Reads target (get_configuration_descriptor index length) (B.world bus.old) result (B.world bus.new) }
     ensures most { IfOk result (λ bytes. vec_len bytes ≤ length) }
+    ensures keeps { KeepsAddresses (B.world bus.old) (B.world bus.new) }
 {
     ask(
         alloc,
@@ -79,6 +83,7 @@ pub fn get_string<B: Bus>(
     ensures ends { MatchResult result (λ _. Worked 3 (B.world bus.old) (B.world bus.new)) (λ fault. Faults 1 (B.world bus.old) fault (B.world bus.new)) }
     ensures stages { Reads target (get_string_descriptor index language) (B.world bus.old) result (B.world bus.new) }
     ensures most { IfOk result (λ bytes. vec_len bytes ≤ 255) }
+    ensures keeps { KeepsAddresses (B.world bus.old) (B.world bus.new) }
 {
     ask(
         alloc,
@@ -99,7 +104,8 @@ pub fn hub_descriptor<B: Bus>(
     target: Target,
 ) -> Result<Vec<u8>, PipeFault>
     requires { IsTarget target }
-    ensures { Asked target get_hub_descriptor (B.world bus.old) result (B.world bus.new) }
+    ensures asked { Asked target get_hub_descriptor (B.world bus.old) result (B.world bus.new) }
+    ensures keeps { KeepsAddresses (B.world bus.old) (B.world bus.new) }
 {
     ask(alloc, bus, target, Setup::get_hub_descriptor())
 }
@@ -115,7 +121,8 @@ pub fn get_status<B: Bus>(
     target: Target,
 ) -> Result<DeviceStatus, PipeFault>
     requires { IsTarget target }
-    ensures { Told device_status target status_request (B.world bus.old) result (B.world bus.new) }
+    ensures told { Told device_status target status_request (B.world bus.old) result (B.world bus.new) }
+    ensures keeps { KeepsAddresses (B.world bus.old) (B.world bus.new) }
 {
     let bytes = ask_all(alloc, bus, target, Setup::get_status())?;
     Ok(DeviceStatus::from_bytes(bytes))
@@ -127,6 +134,7 @@ pub fn get_status<B: Bus>(
 /// # Errors
 ///
 /// Those of `control_none`; after `Busy` and `NoAnswer` the device may have the address.
+#[tactic(auto, using(crate::proofs::Keeping::gives))]
 pub fn set_address<B: Bus>(bus: &mut B, target: Target, address: u8) -> Result<(), PipeFault>
     requires target { IsTarget target }
     requires least { 1 ≤ address }
@@ -135,6 +143,7 @@ pub fn set_address<B: Bus>(bus: &mut B, target: Target, address: u8) -> Result<(
     ensures ends { MatchResult result (λ _. Worked 2 (B.world bus.old) (B.world bus.new)) (λ fault. Faults 1 (B.world bus.old) fault (B.world bus.new)) }
     ensures stages { Writes target (address_request address) (B.world bus.old) result (B.world bus.new) }
     ensures room { result ≢ Err PipeFault.Memory }
+    ensures gives { GivesAddress target.addr address (B.world bus.old) (B.world bus.new) }
 {
     order(bus, target, Setup::set_address(address))
 }
@@ -145,12 +154,14 @@ pub fn set_address<B: Bus>(bus: &mut B, target: Target, address: u8) -> Result<(
 /// # Errors
 ///
 /// Those of `control_none`; after `Busy` and `NoAnswer` the device may be configured.
+#[tactic(auto, using(crate::proofs::Keeping::configured))]
 pub fn set_configuration<B: Bus>(bus: &mut B, target: Target, value: u8) -> Result<(), PipeFault>
     requires target { IsTarget target }
     ensures count { Spends 1600 (B.world bus.old) (B.world bus.new) }
     ensures ends { MatchResult result (λ _. Worked 2 (B.world bus.old) (B.world bus.new)) (λ fault. Faults 1 (B.world bus.old) fault (B.world bus.new)) }
     ensures stages { Writes target (configuration_request value) (B.world bus.old) result (B.world bus.new) }
     ensures room { result ≢ Err PipeFault.Memory }
+    ensures keeps { KeepsAddresses (B.world bus.old) (B.world bus.new) }
 {
     order(bus, target, Setup::set_configuration(value))
 }

@@ -53,7 +53,7 @@ sent_keeps device is_in endpoint bytes (Some pipe) None old result new sent to =
 sent_keeps device is_in None bytes (Some pipe) (Some left) old result new sent to = to
 sent_keeps device is_in (Some endpoint) bytes (Some pipe) (Some left) old result new sent to =
     let same = sent_same bytes pipe old sent.answer left new sent.sends in
-    record { target = same.target ∙ to.target; number = same.ep ∙ to.number; max = same.max ∙ to.max; least = to.least; way = same.is_in ∙ to.way }
+    record { target = same.target ∙ to.target; number = same.ep ∙ to.number; other = to.other; max = same.max ∙ to.max; least = to.least; way = same.is_in ∙ to.way }
 
 pub send_keeps : (finding : Finding) (pipes : BulkPipes) (bytes : List ℕ) (old : World) (result : Result (Unit {0}) EndpointFault) (left : Option Bulk) (new : World) → SentBy pipes.out bytes old result left new → ArePipesOf finding (Function pipes) → ArePipesOf finding (Function (record { out = left; into = pipes.into }))
 send_keeps (Device device) pipes bytes old result left new sent are = (are.0, sent_keeps device false (bulk_out device) bytes pipes.out left old result new sent are.1, are.2)

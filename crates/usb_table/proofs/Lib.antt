@@ -1,6 +1,7 @@
 pub mod Addresses
 pub mod Comings
 pub mod Goings
+pub mod Keeping
 pub mod Kept
 pub mod Keys
 pub mod Nexts

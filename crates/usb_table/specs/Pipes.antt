@@ -17,11 +17,13 @@ pub record IsStatusPipe (device : Accepted) (pipe : Interrupt) : Type 0 where
   pub below_hub : Bool
   pub target : pipe.target ≡ packet_target (target_of device below_hub) pipe.target.max
   pub endpoint : status_endpoint_of (configuration_of device) ≡ Some (pipe.ep, pipe.target.max)
+  pub other : 1 ≤ pipe.ep  -- not endpoint 0
 
 -- a pipe to a bulk endpoint of a function
 pub record IsBulkPipe (device : Accepted) (is_in : Bool) (endpoint : ℕ × ℕ) (pipe : Bulk) : Type 0 where
   pub target : pipe.target ≡ target_of device false
   pub number : pipe.ep ≡ endpoint.0
+  pub other : 1 ≤ endpoint.0  -- not endpoint 0
   pub max : pipe.max ≡ endpoint.1
   pub least : 1 ≤ endpoint.1
   pub way : pipe.is_in ≡ is_in

@@ -4,6 +4,7 @@ ghost use Rattle.std.specs.BTreeMap.{insert_entry, is_at};
 ghost use Rattle.std.specs.Map.{lookup};
 ghost use Rattle.usb_port.specs.Order.{path_cmp};
 ghost use Rattle.usb_world.specs.World.{Spends};
+ghost use Rattle.usb_address.specs.Owned.{KeepsAddresses};
 ghost use Rattle.usb_table.specs.Entries.{Entries, Rises, TakesOut, has_at};
 ghost use Rattle.usb_table.specs.Findings.{IsSound, HasNewAddress, HasDevice, HasNoDevice, is_hub, is_waiting, device_at};
 ghost use Rattle.usb_table.specs.Kinds.{fits};
@@ -183,6 +184,7 @@ impl DeviceTable {
         ensures count { Spends 768 (B.world bus.old) (B.world bus.new) }
         ensures ends { PollEnds (B.world bus.old) result (B.world bus.new) }
         ensures polled { Polled (device_at hub.now self.old) (B.world bus.old) result (B.world bus.new) }
+        ensures keeps { KeepsAddresses (B.world bus.old) (B.world bus.new) }
     {
         match self.indexes.by_path.get(hub) {
             Some(key) => self.entries[*key].poll(bus),
@@ -207,6 +209,7 @@ impl DeviceTable {
         ensures count { Spends (768 * length bytes.now) (B.world bus.old) (B.world bus.new) }
         ensures told { IfErr result (λ fault. FaultTold fault (B.world bus.new)) }
         ensures sent { Sent (device_at path.now self.old) bytes.now (B.world bus.old) result (B.world bus.new) }
+        ensures keeps { KeepsAddresses (B.world bus.old) (B.world bus.new) }
     {
         match self.indexes.by_path.get(path) {
             Some(key) => self.entries[*key].send(bus, bytes),
@@ -233,6 +236,7 @@ impl DeviceTable {
         ensures count { Spends (768 * packets) (B.world bus.old) (B.world bus.new) }
         ensures told { IfErr result (λ fault. FaultTold fault (B.world bus.new)) }
         ensures received { Received (device_at path.now self.old) packets (B.world bus.old) result (B.world bus.new) }
+        ensures keeps { KeepsAddresses (B.world bus.old) (B.world bus.new) }
     {
         match self.indexes.by_path.get(path) {
             Some(key) => self.entries[*key].receive(alloc, bus, packets),
@@ -253,6 +257,7 @@ impl DeviceTable {
         ensures count { Spends 3200 (B.world bus.old) (B.world bus.new) }
         ensures told { IfErr result (λ fault. FaultTold fault (B.world bus.new)) }
         ensures cleared { Cleared (device_at path.now self.old) (B.world bus.old) result (B.world bus.new) }
+        ensures keeps { KeepsAddresses (B.world bus.old) (B.world bus.new) }
     {
         match self.indexes.by_path.get(path) {
             Some(key) => self.entries[*key].clear_halt(bus),

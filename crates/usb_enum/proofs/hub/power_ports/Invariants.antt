@@ -1,5 +1,6 @@
 use Rattle.std.proofs.Common.{◌*◌}
 use Rattle.usb_world.specs.World.{Spends}
+use Rattle.usb_address.specs.Owned.{KeepsAddresses}
 use Rattle.usb_enum.specs.Bounds.{none_bound}
 use Rattle.usb_enum.specs.Hub.{Powered}
 use Rattle.usb_enum.proofs.hub.power_ports.Given as goal
@@ -7,5 +8,6 @@ use Rattle.usb_enum.proofs.hub.power_ports.Given as goal
 abbrev pub invariant-ports : goal.invariant-ports
 invariant-ports g l = record {
   spent : Spends (l.before * none_bound) (g.B.Bus.world l.initial.bus) (g.B.Bus.world l.bus);
+  kept : KeepsAddresses (g.B.Bus.world l.initial.bus) (g.B.Bus.world l.bus);
   powered : Powered l.target l.before (g.B.Bus.world l.initial.bus) (g.B.Bus.world l.bus);
 }

@@ -1,3 +1,4 @@
+use Rattle.usb_hub.proofs.Keeping.{root_clear_keeps_port}
 use Rattle.usb_hub.proofs.Ports.{port_cleared-root, cleared_spends-root}
 use Rattle.usb_hub.proofs.port.clear_port.Goals as goal
 
@@ -6,3 +7,6 @@ returns-in-Root-clause-effect g c = port_cleared-root c.args.port _ _ _ _ c.in-R
 
 pub returns-in-Root-clause-count : goal.returns-in-Root-clause-count
 returns-in-Root-clause-count g c = cleared_spends-root c.args.port _ _ _ _ c.in-Root.is (returns-in-Root-clause-effect g c)
+
+pub returns-in-Root-clause-addresses : goal.returns-in-Root-clause-addresses
+returns-in-Root-clause-addresses g c = root_clear_keeps_port c.args.port _ _ _ _ c.in-Root.is c.requires.named c.root_clear.ensures.call

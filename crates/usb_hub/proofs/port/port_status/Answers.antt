@@ -1,6 +1,17 @@
+use Rattle.std.proofs.Common.{rules}
 use Rattle.usb_request.specs.Requests.{get_port_status}
+use Rattle.usb_hub.proofs.Keeping.{status_keeps, hub_status_keeps}
 use Rattle.usb_hub.proofs.port.port_status.Goals as goal
 
 pub returns-in-External-clause-count : goal.returns-in-External-clause-count
 unfolding get_port_status
-returns-in-External-clause-count g c = rw c.in-External.is c.hub_port_status.ensures.asked.count
+returns-in-External-clause-count g c = rw c.in-External.is c.hub_port_status.ensures.told.asked.count
+
+pub returns-in-Root-clause-status : goal.returns-in-Root-clause-status
+returns-in-Root-clause-status g c = search rules
+
+pub returns-in-Root-clause-addresses : goal.returns-in-Root-clause-addresses
+returns-in-Root-clause-addresses g c = status_keeps c.args.port _ _ _ c.in-Root.number c.in-Root.is (returns-in-Root-clause-status g c)
+
+pub returns-in-External-clause-addresses : goal.returns-in-External-clause-addresses
+returns-in-External-clause-addresses g c = hub_status_keeps c.args.port _ _ _ _ _ c.in-External.is c.hub_port_status.ensures.told c.hub_port_status.ensures.keeps

@@ -2,7 +2,9 @@
 use Rattle.std.proofs.Common.{◌∙◌, sym, ap, Some}
 use Rattle.slab.specs.Slab.{Slab, get}
 use Rattle.usb_enum.specs.declared.finding.Finding.{Finding}
+use Rattle.usb_table.specs.Findings.{device_of}
 use Rattle.usb_table.specs.Keys.{entries_of}
+use Rattle.usb_table.proofs.Keeping.{polled_addresses}
 use Rattle.usb_table.proofs.Keys.{same_slot}
 use Rattle.usb_table.proofs.table.DeviceTable.poll.Goals as goal
 
@@ -11,3 +13,6 @@ returns-in-Some-clause-same g c =
     let s = c.self.inside in
     ap (λ (t : Slab Finding). entries_of (get t) s.indexes.by_path.entries) (same_slot s.entries c.in-Some.key.now c.poll.new.self (c.index_mut.ensures.value ∙ ap Some (sym c.poll.ensures.same)))
     ∙ c.self.view_is
+
+pub returns-in-Some-clause-keeps : goal.returns-in-Some-clause-keeps
+returns-in-Some-clause-keeps g c = polled_addresses (device_of (Some c.index_mut.result.now)) _ c.poll.result _ c.poll.ensures.polled

@@ -1,0 +1,78 @@
+-- What events and lines of report do to the addresses that devices hold.
+use Rattle.std.proofs.Common.{◌≡◌, false, List, [], ◌∷◌, Option, None, Some, Result, Ok, Err, refl, ap, ◌∙◌}
+use Rattle.std.specs.Prelude.{OnOk}
+use Rattle.usb_world.specs.declared.event.Due.{Due}
+use Rattle.usb_world.specs.declared.event.Event.{Event}
+use Rattle.usb_world.specs.declared.types.BusFault.{BusFault}
+use Rattle.usb_world.specs.declared.types.BusFault.TheVariants.{LimitReached, Memory, TraceFailed}
+use Rattle.usb_world.specs.Passes.{IsSettled}
+use Rattle.usb_world.specs.Steps.{took, took_first, event_taken, event, after, TookEvent, LineEnds, PutLine}
+use Rattle.usb_world.specs.World.{World}
+use Rattle.usb_world.proofs.Between.{settled_happened}
+use Rattle.usb_world.proofs.OwnLaws.{step_own, step_unshared}
+use Rattle.usb_address.specs.Claims.{Claims}
+use Rattle.usb_address.specs.Owned.{Owned, TillFault, KeepsAddresses}
+use Rattle.usb_address.proofs.Endpoints.{same_keeps}
+
+-- The next event, if one is left
+
+first_settled : (events : List Event) (w : World) → IsSettled w.roots → IsSettled (took_first events w).roots
+unfolding took
+first_settled [] w h = h
+first_settled (e ∷ events) w h = settled_happened e.action w.devices w.roots h
+
+first_fault : (events : List Event) (w : World) → (took_first events w).fault ≡ w.fault
+unfolding took
+first_fault [] w = refl
+first_fault (e ∷ events) w = refl
+
+taken_settled : (fault : Option BusFault) (w : World) → IsSettled w.roots → IsSettled (event_taken fault w).roots
+taken_settled (Some fault) w h = h
+taken_settled None w h = first_settled w.left w h
+
+taken_fault : (fault : Option BusFault) (w : World) → (event_taken fault w).fault ≡ w.fault
+taken_fault (Some fault) w = refl
+taken_fault None w = first_fault w.left w
+
+event_owned : (f : Claims) (w : World) → Owned f w → Owned f (after event w)
+unfolding after
+event_owned f w o = record {
+  distinct = o.distinct;
+  own = step_own f event w refl o.own;
+  single = step_unshared f o.distinct event w o.own o.single;
+  settled = taken_settled w.fault w o.settled;
+}
+
+-- where the bus gave up in a world, only its fault is new
+gave_up : (P : World → Type 0) (fault : BusFault) (w new : World) → new ≡ record w { fault = Some fault } → w.shared ≡ false → TillFault P new
+gave_up P fault w new is single = record { so = λ h. absurd (cc (h, ap (λ v. v.fault) is)); single = ap (λ v. v.shared) is ∙ single }
+
+came_keeps : (old new : World) → old.fault ≡ None → new ≡ after event old → KeepsAddresses old new
+unfolding after
+came_keeps old new e is = record { kept = λ f o. let kept : Owned f (after event old) = event_owned f old (o.so e) in rw is (record { so = λ _. kept; single = kept.single }) }
+
+-- an event that came, and none that was left; where the bus gave up, the event came or it did not
+pub event_keeps : (old : World) (result : Result (Option Due) BusFault) (new : World) → TookEvent old result new → OnOk result (new ≡ after event old)
+    → (result ≡ Err Memory → old.fault ≡ None → new ≡ record old { fault = Some Memory })
+    → (result ≡ Err TraceFailed → old.fault ≡ None → new ≡ record (after event old) { fault = Some TraceFailed })
+    → (result ≡ Err LimitReached → old.fault ≡ None → ⊥) → KeepsAddresses old new
+event_keeps old result new took_it exact refused cut other = split old.fault refl
+  where
+    sound : (r : Result (Option Due) BusFault) → result ≡ r → OnOk r (new ≡ after event old) → old.fault ≡ None → KeepsAddresses old new
+    sound (Ok due) is came e = came_keeps old new e came
+    sound (Err Memory) is came e = record { kept = λ f o. gave_up (Owned f) Memory old new (refused is e) o.single }
+    sound (Err TraceFailed) is came e = record { kept = λ f o. gave_up (Owned f) TraceFailed (after event old) new (cut is e) (event_owned f old (o.so e)).single }
+    sound (Err LimitReached) is came e = elim (other is e) [ ]
+
+    split : (x : Option BusFault) → old.fault ≡ x → KeepsAddresses old new
+    split None e = sound result refl exact e
+    split (Some fault) e = same_keeps old new (took_it.again fault e).1
+
+-- Lines of report
+
+pub line_keeps : (old : World) (result : Result (Unit {0}) BusFault) (new : World) → PutLine old result new → KeepsAddresses old new
+line_keeps old result new put = split result put.ends
+  where
+    split : (r : Result (Unit {0}) BusFault) → LineEnds old r new → KeepsAddresses old new
+    split (Ok done) ends = same_keeps old new ends.1
+    split (Err fault) ends = record { kept = λ f o. gave_up (Owned f) fault old new ends o.single }

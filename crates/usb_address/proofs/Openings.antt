@@ -1,0 +1,51 @@
+-- The world of a plan before anything came: no device stands, so none is reached.
+use Rattle.std.proofs.Common.{◌≡◌, ℕ, zero, suc, false, List, [], ◌∷◌, refl, ap}
+use Rattle.std.specs.Prelude.{⊤}
+use Rattle.usb_device.specs.Delivery.{all_forgotten}
+use Rattle.usb_device.specs.Tree.{Ports, ended, vacant, taken, new_ports, reach, reach_at}
+use Rattle.usb_world.specs.Passes.{IsSettled}
+use Rattle.usb_world.specs.PlanData.{PlanData}
+use Rattle.usb_world.specs.Steps.{opening}
+
+-- a row of ports on which no device stands
+abbrev pub IsVacant : Ports → Type 0
+IsVacant ended = ⊤
+IsVacant (vacant b k) = IsVacant k
+IsVacant (taken b s a k) = ⊥
+
+pub vacant_settled : (k : Ports) → IsVacant k → IsSettled k
+unfolding all_forgotten
+vacant_settled ended h = refl
+vacant_settled (vacant b k) h = ap (vacant b) (vacant_settled k h)
+vacant_settled (taken b s a k) h = elim h [ ]
+
+vacant_reach_at : (k : Ports) → IsVacant k → (i : ℕ) (p : List ℕ) → reach_at k i p ≡ false
+unfolding reach_at
+vacant_reach_at ended h i p = refl
+vacant_reach_at (vacant b k) h zero p = refl
+vacant_reach_at (vacant b k) h (suc i) p = vacant_reach_at k h i p
+vacant_reach_at (taken b s a k) h i p = elim h [ ]
+
+pub vacant_reach : (k : Ports) → IsVacant k → (p : List ℕ) → reach k p ≡ false
+vacant_reach k h [] = refl
+vacant_reach k h (zero ∷ p) = refl
+vacant_reach k h (suc i ∷ p) = vacant_reach_at k h i p
+
+pub new_vacant : (n : ℕ) → IsVacant (new_ports n)
+unfolding new_ports
+new_vacant zero = tt
+new_vacant (suc n) = new_vacant n
+
+-- The world of a plan
+
+pub opening_vacant : (plan : PlanData) → IsVacant (opening plan).roots
+opening_vacant plan = new_vacant plan.roots
+
+pub opening_settled : (plan : PlanData) → IsSettled (opening plan).roots
+opening_settled plan = vacant_settled (new_ports plan.roots) (opening_vacant plan)
+
+pub opening_reach : (plan : PlanData) (p : List ℕ) → reach (opening plan).roots p ≡ false
+opening_reach plan = vacant_reach (new_ports plan.roots) (opening_vacant plan)
+
+pub opening_single : (plan : PlanData) → (opening plan).shared ≡ false
+opening_single plan = refl

@@ -1,0 +1,209 @@
+-- Endpoints other than 0 take no part in who has which address, whatever is lost.
+use Rattle.std.proofs.Common.{◌≡◌, ◌≢◌, ℕ, zero, suc, ◌+◌, ◌==◌, ◌&&◌, not, nat_lt, nat_le, if◌then◌else◌, ◌⊎◌, inl, inr, Bool, true, false, List, [], ◌∷◌, length, take, Option, None, Some, option_map, Result, Ok, Err, refl, ap, sym, subst, ◌∙◌}
+use Rattle.arrayvec.specs.ArrayVec.{ArrayVec}
+use Rattle.usb_packet.specs.declared.Toggle.{Toggle}
+use Rattle.usb_packet.specs.declared.Toggle.TheVariants.{Zero, One as Data1}
+use Rattle.usb_port.specs.PortState.{PortState}
+use Rattle.usb_device.specs.declared.answer.Answer.TheVariants as answer
+use Rattle.usb_device.specs.declared.transfer.Giver.{Giver}
+use Rattle.usb_device.specs.declared.transfer.Giver.TheVariants as by
+use Rattle.usb_device.specs.Bulk.{is_same, tells_changes, change_bits}
+use Rattle.usb_device.specs.Transfer.{Stage, idle, refused, reading, read, ending}
+use Rattle.usb_device.specs.Rows.{State, Reply, forgotten, is_busy, nak_row, unless_busy, out_row, status_row, sink_row, sunk, out_bulk_row, bulk_ack_row, bulk_of, rest_of, data_row, acknowledged}
+use Rattle.usb_device.specs.Attempt.{Way, is_whole, heard, gave, source_law, new_changes_law, held_law, changes_law, in_bulk_law, in_other_law, in_control_law, in_law, out_law}
+use Rattle.usb_device.specs.Tree.{Ports, ended, vacant, taken, row_of, reach_at, state_at}
+use Rattle.usb_world.specs.declared.types.Attempt.{Attempt}
+use Rattle.usb_world.specs.declared.types.BusFault.{BusFault}
+use Rattle.usb_world.specs.declared.types.Outcome.{Outcome}
+use Rattle.usb_world.specs.Live.{address_of}
+use Rattle.usb_world.specs.World.{World, Made}
+use Rattle.usb_world.specs.Steps.{attempt, after}
+use Rattle.usb_world.specs.Courses.{Own}
+use Rattle.usb_world.specs.Devices.{Was, EachWas, DidIn, DidOut}
+use Rattle.usb_world.specs.OneHolder.{IsOut, IsIn, IsMade}
+use Rattle.usb_world.proofs.Booleans.{no, both}
+use Rattle.usb_world.proofs.Devices.{each_in, each_out}
+use Rattle.usb_world.proofs.OneHolderMore.{made_of, unequal}
+use Rattle.usb_transaction.specs.declared.fault.TransFault.{TransFault}
+use Rattle.usb_transaction.specs.declared.fault.TransFault.TheVariants.{Stalled, Busy, NoAnswer, Bus}
+use Rattle.usb_transaction.specs.Trans.{in_attempt}
+use Rattle.usb_transaction.specs.Trail.{Trail, start, next, Ended, CutOff, Transacted, Polled, Waiting, PollEnded, PollCutOff}
+use Rattle.usb_pipe.specs.declared.fault.PipeFault.{PipeFault}
+use Rattle.usb_pipe.specs.declared.fault.PipeFault.TheVariants as pipe
+use Rattle.usb_pipe.specs.Control.{fault_of}
+use Rattle.usb_pipe.specs.Interrupt.{Interrupt, NoPoll, Asked, Polls}
+use Rattle.usb_address.specs.Leaves.{LeavesTrans, LeavesPipe}
+use Rattle.usb_address.specs.Owned.{Owned}
+use Rattle.usb_address.proofs.Steps.{settled_after, unshared_after, fails_unshared}
+use Rattle.usb_address.proofs.Trails.{cut_off}
+
+module _ (s : State) where
+  abbrev Kept : Reply → Type 0
+  Kept r = address_of r.1 ≡ address_of s
+
+  kept_if : (b : Bool) (x y : Reply) → Kept x → Kept y → Kept (if b then x else y)
+  kept_if true x y h g = h
+  kept_if false x y h g = g
+
+  bulk_acked : (o : Option (ℕ × ℕ)) → address_of (bulk_ack_row s o) ≡ address_of s
+  bulk_acked None = refl
+  bulk_acked (Some end) = refl
+
+  gives : (d : State) (giver : Giver) (max : ℕ) (t : Toggle) (bytes : List ℕ) (x y : Way) → address_of d ≡ address_of s → address_of (acknowledged d giver) ≡ address_of s → Kept (gave d giver max t bytes x y)
+  gives d giver max t bytes x y h g = split (is_whole x && nat_le (length bytes) max && is_whole y)
+    where
+      split : (b : Bool) → address_of (if b then forgotten (acknowledged d giver) else d) ≡ address_of s
+      split true = g
+      split false = h
+
+  module _ (max : ℕ) (x y : Way) where
+    source_keeps : (most : ℕ) → Kept (source_law s most max x y)
+    source_keeps most =
+        kept_if s.bulk_in.halted (heard x (Some answer.Stall), s) _ refl
+        (kept_if (length (rest_of s) == 0) (heard x (Some answer.Nak), s) (gave s by.Bulk max s.bulk_in.toggle (take most (rest_of s)) x y) refl
+        (gives s by.Bulk max s.bulk_in.toggle (take most (rest_of s)) x y refl (bulk_acked (bulk_of s true))))
+
+    bulk_keeps : (e : ℕ) (o : Option (ℕ × ℕ)) → Kept (in_bulk_law s e o max x y)
+    bulk_keeps e None = refl
+    bulk_keeps e (Some end) = kept_if (end.0 == e) (source_law s end.1 max x y) (None, s) (source_keeps end.1) refl
+
+    held_keeps : (row : List PortState) (h : Option ℕ) → Kept (held_law s row h max x y)
+    held_keeps row None =
+        kept_if (change_bits row == 0) (heard x (Some answer.Nak), s) (gave (record s { held = Some (change_bits row) }) by.Changes max s.changes.toggle (change_bits row ∷ []) x y) refl
+        (gives (record s { held = Some (change_bits row) }) by.Changes max s.changes.toggle (change_bits row ∷ []) x y refl refl)
+    held_keeps row (Some bits) = gives s by.Changes max s.changes.toggle (bits ∷ []) x y refl refl
+
+    other_keeps : (row : List PortState) (e : ℕ) → Kept (in_other_law s row e max x y)
+    other_keeps row e =
+        kept_if (e == 1 && tells_changes s.spec s.registers) (changes_law s row max x y) (in_bulk_law s e (bulk_of s true) max x y)
+        (kept_if s.changes.halted (heard x (Some answer.Stall), s) (held_law s row s.held max x y) refl (held_keeps row s.held))
+        (bulk_keeps e (bulk_of s true))
+
+  in_far : (row : List PortState) (e max : ℕ) (z x y : Way) → (e == 0) ≡ false → Kept (in_law s row e max z x y)
+  in_far row e max z x y far =
+      kept_if (is_whole z) (if e == 0 then in_control_law s max x y else in_other_law s row e max x y) (None, s)
+      (subst (λ b. Kept (if b then in_control_law s max x y else in_other_law s row e max x y)) (sym far) (other_keeps max x y row e)) refl
+
+  module _ (t : Toggle) (bytes : List ℕ) where
+    status_keeps : (t : Toggle) (bytes : List ℕ) → Kept (status_row s t bytes)
+    status_keeps Zero b = refl
+    status_keeps Data1 [] = refl
+    status_keeps Data1 (x ∷ b) = refl
+
+    out_row_keeps : (g : Stage) → Kept (out_row s g t bytes)
+    out_row_keeps idle = refl
+    out_row_keeps refused = refl
+    out_row_keeps (reading a w k) = status_keeps t bytes
+    out_row_keeps read = status_keeps t bytes
+    out_row_keeps (ending a) = refl
+
+    sink_keeps : (max : ℕ) → Kept (sink_row s max t bytes)
+    sink_keeps max =
+        kept_if s.bulk_out.halted (Some answer.Stall, s) _ refl
+        (kept_if (nat_lt max (length bytes)) (None, s) _ refl
+        (kept_if (is_same t s.bulk_out.toggle) (Some answer.Ack, sunk s bytes) (Some answer.Ack, s) refl refl))
+
+    out_bulk_keeps : (e : ℕ) (o : Option (ℕ × ℕ)) → Kept (out_bulk_row s e o t bytes)
+    out_bulk_keeps e None = refl
+    out_bulk_keeps e (Some end) = kept_if (end.0 == e) (sink_row s end.1 t bytes) (None, s) (sink_keeps end.1) refl
+
+    data_keeps : (e : ℕ) → Kept (data_row s e t bytes)
+    data_keeps e =
+        kept_if (e == 0) (unless_busy s (out_row s s.stage t bytes)) (out_bulk_row s e (bulk_of s false) t bytes)
+        (kept_if (is_busy s) (nak_row s) (out_row s s.stage t bytes) refl (out_row_keeps s.stage)) (out_bulk_keeps e (bulk_of s false))
+
+    out_far : (e : ℕ) (x y z : Way) → Kept (out_law s e t bytes x y z)
+    out_far e x y z = kept_if (is_whole x && is_whole y) (heard z (data_row s e t bytes).0, forgotten (data_row s e t bytes).1) (None, s) (data_keeps e) refl
+
+-- Attempts
+
+-- IN of another endpoint than 0, or OUT of any
+pub data IsFar (a : Attempt) : Type 0 where
+  into : IsIn a → (a.ep == 0) ≡ false → IsFar a
+  out : (t : Toggle) (bytes : List ℕ) → IsOut a t bytes → IsFar a
+
+in_address : (a : Attempt) (w : World) (i : ℕ) (e : List ℕ) (s v : State) → (a.ep == 0) ≡ false → DidIn a w i e s v → address_of v ≡ address_of s
+in_address a w i e s v far (DidIn.other d same) = ap address_of same
+in_address a w i e s v far (DidIn.silent d q o same) = ap address_of same
+in_address a w i e s v far (DidIn.asked d q b below p x o same) = ap address_of same ∙ in_far s (row_of below) a.ep a.max x.first x.second x.third far
+
+out_address : (a : Attempt) (t : Toggle) (bytes : List ℕ) (w : World) (i : ℕ) (e : List ℕ) (s v : State) → DidOut a t bytes w i e s v → address_of v ≡ address_of s
+out_address a t bytes w i e s v (DidOut.other d same) = ap address_of same
+out_address a t bytes w i e s v (DidOut.silent d q o same) = ap address_of same
+out_address a t bytes w i e s v (DidOut.asked d q x o same) = ap address_of same ∙ out_far s t bytes a.ep x.first x.second x.third
+
+-- a device stands where one is reached
+pub reach_stands : (k : Ports) (i : ℕ) (e : List ℕ) → reach_at k i e ≡ true → state_at k i e ≡ None → ⊥
+unfolding reach_at state_at
+reach_stands ended i e on h = cc on
+reach_stands (vacant b k) zero e on h = cc on
+reach_stands (vacant b k) (suc i) e on h = reach_stands k i e on h
+reach_stands (taken b s a k) zero [] on h = cc h
+reach_stands (taken b s a k) zero (zero ∷ e) on h = cc on
+reach_stands (taken b s a k) zero (suc j ∷ e) on h = reach_stands a j e (both b.enable (reach_at a j e) on).1 h
+reach_stands (taken b s a k) (suc i) e on h = reach_stands k i e on h
+
+-- what an attempt leaves each device's address as, where it keeps it
+keeps_own : (R : ℕ → List ℕ → State → State → Type 0) → ((i : ℕ) (e : List ℕ) (s v : State) → R i e s v → address_of v ≡ address_of s) → (f : List ℕ → Option ℕ) (w u : World) → EachWas R w u → Own f w → Own f u
+keeps_own R same f w u each own [] on = no on
+keeps_own R same f w u each own (zero ∷ e) on = no on
+keeps_own R same f w u each own (suc i ∷ e) on = go (state_at u.roots i e) refl
+  where
+    go : (o : Option State) → state_at u.roots i e ≡ o → option_map address_of (state_at u.roots i e) ≡ f (suc i ∷ e)
+    go None h = elim (reach_stands u.roots i e on h) [ ]
+    go (Some v) h =
+        let x : Was R w i e v = each i e v on h in
+        ap (option_map address_of) h ∙ ap (λ n. Some n) (same i e x.before v x.so) ∙ sym (ap (option_map address_of) x.stands) ∙ own (suc i ∷ e) x.on
+
+far_own : (f : List ℕ → Option ℕ) (a : Attempt) (w : World) → IsFar a → IsMade a w → (after (attempt a) w).shared ≡ false → Own f w → Own f (after (attempt a) w)
+far_own f a w (into is far) m u own = keeps_own (DidIn a w) (λ i e s v x. in_address a w i e s v far x) f w (after (attempt a) w) (each_in a w m is u) own
+far_own f a w (out t bytes is) m u own = keeps_own (DidOut a t bytes w) (λ i e s v x. out_address a t bytes w i e s v x) f w (after (attempt a) w) (each_out a w t bytes m is u) own
+
+pub trail_far : (f : List ℕ → Option ℕ) (a : Attempt) → IsFar a → {old new : World} {outcomes : List Outcome} → Trail a old outcomes new → Owned f old → Owned f new
+trail_far f a far start o = o
+trail_far f a far (next w t made) o =
+    let x : Owned f w = trail_far f a far t o in
+    record { distinct = x.distinct; own = far_own f a w far (made_of a w x.settled made) (unshared_after f a w x) x.own; single = unshared_after f a w x; settled = settled_after a w made x.settled }
+
+pub far_transacted : (f : List ℕ → Option ℕ) (a : Attempt) → IsFar a → (hear : _) (old : World) (answer : Result (List ℕ) TransFault) (new : World) → Transacted hear a old answer new → Owned f old → LeavesTrans (Owned f) answer new
+far_transacted f a far hear old (Ok bytes) new e o = trail_far f a far e.trail o
+far_transacted f a far hear old (Err Stalled) new e o = trail_far f a far e.trail o
+far_transacted f a far hear old (Err Busy) new e o = trail_far f a far e.trail o
+far_transacted f a far hear old (Err NoAnswer) new e o = trail_far f a far e.trail o
+far_transacted f a far hear old (Err (Bus fault)) new c o = cut_off f a hear old fault new c (trail_far f a far c.trail o)
+
+-- Polls
+
+poll_cut : (f : List ℕ → Option ℕ) (toggle : Toggle) (a : Attempt) (old : World) (fault : BusFault) (new : World) → (c : PollCutOff toggle a old fault new) → Owned f c.mid → new.shared ≡ false
+poll_cut f toggle a old fault new c o = split c.mid.fault refl
+  where
+    split : (x : Option BusFault) → c.mid.fault ≡ x → new.shared ≡ false
+    split None e = fails_unshared f a c.mid new fault o (c.fails e)
+    split (Some g) e = ap (λ v. v.shared) (c.refused.again g e).1 ∙ o.single
+
+module _ (f : List ℕ → Option ℕ) (p : Interrupt) (far : p.ep ≢ 0) where
+  abbrev ask : Attempt
+  ask = in_attempt p.target p.ep
+
+  is_far : IsFar ask
+  is_far = into (record { kind = refl; payload = refl }) (unequal p.ep 0 far)
+
+  failed : (old : World) (fault : TransFault) (new : World) → Polled p.toggle ask old (Err fault) new → Owned f old → LeavesTrans {A = List ℕ} (Owned f) (Err fault) new
+  failed old Stalled new e o = trail_far f ask is_far e.trail o
+  failed old Busy new e o = trail_far f ask is_far e.trail o
+  failed old NoAnswer new e o = trail_far f ask is_far e.trail o
+  failed old (Bus fault) new c o = poll_cut f p.toggle ask old fault new c (trail_far f ask is_far c.trail o)
+
+  told : (fault : TransFault) (why : PipeFault) (new : World) → why ≡ fault_of fault → LeavesTrans {A = List ℕ} (Owned f) (Err fault) new → LeavesPipe {A = Option (ArrayVec ℕ)} (Owned f) (Err why) new
+  told Stalled why new e h = subst (λ x. LeavesPipe {A = Option (ArrayVec ℕ)} (Owned f) (Err x) new) (sym e) h
+  told Busy why new e h = subst (λ x. LeavesPipe {A = Option (ArrayVec ℕ)} (Owned f) (Err x) new) (sym e) h
+  told NoAnswer why new e h = subst (λ x. LeavesPipe {A = Option (ArrayVec ℕ)} (Owned f) (Err x) new) (sym e) h
+  told (Bus fault) why new e h = subst (λ x. LeavesPipe {A = Option (ArrayVec ℕ)} (Owned f) (Err x) new) (sym e) h
+
+  asked : (old : World) (result : Result (Option (ArrayVec ℕ)) PipeFault) (new : World) → Asked p old result new → Owned f old → LeavesPipe (Owned f) result new
+  asked old (Ok None) new x o = trail_far f ask is_far x.trail o
+  asked old (Ok (Some packet)) new x o = trail_far f ask is_far x.trail o
+  asked old (Err why) new x o = told x.fault why new x.told (failed old x.fault new x.polled o)
+
+  pub polls_leave : (old : World) (result : Result (Option (ArrayVec ℕ)) PipeFault) (left : Interrupt) (new : World) → Polls p old result left new → Owned f old → LeavesPipe (Owned f) result new
+  polls_leave old result left new x o = asked old result new x.asked o

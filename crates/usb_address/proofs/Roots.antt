@@ -1,0 +1,105 @@
+-- What the calls at a root port do to the addresses that devices hold (11.24.2).
+use Rattle.std.proofs.Common.{◌≡◌, ℕ, zero, suc, ◌⊎◌, inl, inr, Bool, true, false, List, [], ◌∷◌, Option, None, Some, slice_index_or, refl, ap, sym, subst, ◌∙◌}
+use Rattle.usb_device.specs.declared.calls.PortCall.{PortCall}
+use Rattle.usb_device.specs.declared.calls.PortCall.TheVariants.{SetReset, ClearEnable}
+use Rattle.usb_device.specs.Calls.{is_reset}
+use Rattle.usb_port.specs.PortState.{off}
+use Rattle.usb_device.specs.Tree.{Ports, ended, vacant, taken, reach, reach_at, row_of, called, changed}
+use Rattle.usb_world.specs.Addresses.{after_reset}
+use Rattle.usb_world.specs.Courses.{Own, Injective, resets}
+use Rattle.usb_world.specs.Live.{is_way, same_number}
+use Rattle.usb_world.specs.Steps.{root_call, after}
+use Rattle.usb_world.specs.World.{World, port_at}
+use Rattle.usb_world.proofs.Between.{settled_called}
+use Rattle.usb_world.proofs.Booleans.{no, both, decided}
+use Rattle.usb_world.proofs.OwnLaws.{step_own, step_unshared}
+use Rattle.usb_world.proofs.AddressesReset.{is_same, reset_own, rest_own, reset_distinct}
+use Rattle.usb_address.specs.Claims.{Claims, cleared}
+use Rattle.usb_address.specs.Owned.{Owned, TillFault, KeepsAddresses}
+use Rattle.usb_address.proofs.Bare.{closed, less_one}
+use Rattle.usb_address.proofs.States.{bared}
+
+module _ (c : PortCall) (n : ℕ) (w : World) where
+  abbrev v : World
+  v = after (root_call c n) w
+
+  same_fault : v.fault ≡ w.fault
+  unfolding after
+  same_fault = refl
+
+  same_mark : v.shared ≡ w.shared
+  unfolding after
+  same_mark = refl
+
+  quiet_owned : (f : Claims) → is_reset c ≡ false → Owned f w → Owned f v
+  unfolding after
+  quiet_owned f quiet o = record {
+    distinct = o.distinct;
+    own = step_own f (root_call c n) w (rw quiet refl) o.own;
+    single = o.single;
+    settled = settled_called c w.roots (n ∷ []) o.settled;
+  }
+
+  pub root_keeps : is_reset c ≡ false → KeepsAddresses w v
+  root_keeps quiet = record { kept = λ f o. record { so = λ e. quiet_owned f quiet (o.so (sym same_fault ∙ e)); single = same_mark ∙ o.single } }
+
+-- PORT_RESET
+module _ (n : ℕ) (w : World) where
+  abbrev u : World
+  u = after (root_call SetReset n) w
+
+  reset_owned : (f : Claims) → ((x : List ℕ) → f x ≡ Some 0 → is_way (n ∷ []) x ≡ true) → Owned f w → Owned f u ⊎ Owned (after_reset f (n ∷ [])) u
+  unfolding after
+  reset_owned f only o = split (decided (resets (root_call SetReset n) w (n ∷ [])))
+    where
+      split : (resets (root_call SetReset n) w (n ∷ []) ≡ true) ⊎ (resets (root_call SetReset n) w (n ∷ []) ≡ false) → Owned f u ⊎ Owned (after_reset f (n ∷ [])) u
+      split (inl e) = inr (record {
+        distinct = reset_distinct f (n ∷ []) o.distinct only;
+        own = reset_own f n w e o.own;
+        single = o.single;
+        settled = settled_called SetReset w.roots (n ∷ []) o.settled;
+      })
+      split (inr e) = inl (record {
+        distinct = o.distinct;
+        own = rest_own f n w e o.own;
+        single = o.single;
+        settled = settled_called SetReset w.roots (n ∷ []) o.settled;
+      })
+
+  pub root_resets : (f : Claims) → ((x : List ℕ) → f x ≡ Some 0 → is_way (n ∷ []) x ≡ true) → TillFault (Owned f) w → TillFault (λ w. Owned f w ⊎ Owned (after_reset f (n ∷ [])) w) u
+  unfolding after
+  root_resets f only o = record { so = λ e. reset_owned f only (o.so e); single = o.single }
+
+-- the clear of PORT_ENABLE
+bare_at : (n : ℕ) (w : World) (x : List ℕ) → is_way (n ∷ []) x ≡ true → reach (after (root_call ClearEnable n) w).roots x ≡ false
+unfolding after is_way
+bare_at n w [] h = refl
+bare_at n w (zero ∷ r) h = refl
+bare_at zero w (suc i ∷ r) h = no h
+bare_at (suc j) w (suc i ∷ r) h = rw (is_same j i (both (same_number j i) true h).0) (closed w.roots j r)
+
+pub root_bares : (f : Claims) (n : ℕ) (w : World) → TillFault (Owned f) w → TillFault (Owned (cleared f (n ∷ []))) (after (root_call ClearEnable n) w)
+root_bares f n w o =
+    let kept = (root_keeps ClearEnable n w refl).kept f o in
+    record { so = λ e. bared f (n ∷ []) _ (bare_at n w) (kept.so e); single = kept.single }
+
+-- a port that is not enabled passes nothing on
+shut_index : (k : Ports) (i : ℕ) (r : List ℕ) → (slice_index_or (row_of k) i off).enable ≡ false → reach_at k i r ≡ false
+unfolding row_of reach_at
+shut_index ended i r h = refl
+shut_index (vacant b k) zero r h = refl
+shut_index (vacant b k) (suc i) r h = shut_index k i r h
+shut_index (taken b s a k) zero [] h = h
+shut_index (taken b s a k) zero (zero ∷ r) h = refl
+shut_index (taken b s a k) zero (suc m ∷ r) h = rw h refl
+shut_index (taken b s a k) (suc i) r h = shut_index k i r h
+
+shut_at : (n : ℕ) (w : World) → (port_at w n).enable ≡ false → (x : List ℕ) → is_way (n ∷ []) x ≡ true → reach w.roots x ≡ false
+unfolding port_at is_way
+shut_at n w h [] way = refl
+shut_at n w h (zero ∷ r) way = refl
+shut_at zero w h (suc i ∷ r) way = no way
+shut_at (suc j) w h (suc i ∷ r) way = rw (is_same j i (both (same_number j i) true way).0) (shut_index w.roots j r (subst (λ k. (slice_index_or (row_of w.roots) k off).enable ≡ false) (less_one j) h))
+
+pub root_shut : (f : Claims) (n : ℕ) (w : World) → (port_at w n).enable ≡ false → TillFault (Owned f) w → TillFault (Owned (cleared f (n ∷ []))) w
+root_shut f n w off o = record { so = λ e. bared f (n ∷ []) w (shut_at n w off) (o.so e); single = o.single }

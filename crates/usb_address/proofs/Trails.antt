@@ -1,0 +1,98 @@
+-- What a transaction leaves of addresses, whatever is lost.
+use Rattle.std.proofs.Common.{◌≡◌, ℕ, suc, ◌⊎◌, inl, inr, Bool, true, false, List, [], ◌∷◌, Option, None, Some, Result, Ok, Err, refl, ap, sym, subst, ◌∙◌}
+use Rattle.usb_packet.specs.declared.Toggle.{Toggle}
+use Rattle.usb_request.specs.Layout.{setup_of}
+use Rattle.usb_device.specs.Request.{outcome}
+use Rattle.usb_device.specs.Rows.{State}
+use Rattle.usb_device.specs.Tree.{reach_at, state_at}
+use Rattle.usb_world.specs.declared.types.Attempt.{Attempt}
+use Rattle.usb_world.specs.declared.types.BusFault.{BusFault}
+use Rattle.usb_world.specs.declared.types.Outcome.{Outcome}
+use Rattle.usb_world.specs.declared.types.Outcome.TheVariants.{Ack, Payload, Nak, Stall, Nothing}
+use Rattle.usb_world.specs.World.{World, Made}
+use Rattle.usb_world.specs.Steps.{attempt, after, outcome_in}
+use Rattle.usb_world.specs.Courses.{is_quiet}
+use Rattle.usb_world.specs.OneHolder.{IsSetup, IsOut, IsIn, IsMade}
+use Rattle.usb_world.specs.Addresses.{is_setup}
+use Rattle.usb_world.proofs.OwnLaws.{quiet_resets}
+use Rattle.usb_world.proofs.OneHolderMore.{made_of}
+use Rattle.usb_transaction.specs.declared.fault.TransFault.{TransFault}
+use Rattle.usb_transaction.specs.declared.fault.TransFault.TheVariants.{Stalled, Busy, NoAnswer, Bus}
+use Rattle.usb_transaction.specs.Heard.{set_up_as}
+use Rattle.usb_transaction.specs.Trail.{Trail, start, next, Ended, CutOff, Transacted, Tells}
+use Rattle.usb_address.specs.Aims.{Aims, AllAim, TakesOnly, Never}
+use Rattle.usb_address.specs.Leaves.{LeavesTrans}
+use Rattle.usb_address.specs.Owned.{Owned}
+use Rattle.usb_address.proofs.Steps.{in_aims, out_aims, set_up_aims, data_owned, quiet_owned, unshared_after, fails_unshared}
+
+-- IN or OUT
+
+pub data IsData (a : Attempt) : Type 0 where
+  into : IsIn a → IsData a
+  out : (t : Toggle) (bytes : List ℕ) → IsOut a t bytes → IsData a
+
+no_setup : (a : Attempt) → IsData a → is_setup a.kind ≡ false
+no_setup a (into i) = ap is_setup i.kind
+no_setup a (out t bytes o) = ap is_setup o.kind
+
+data_aims : (Q : ℕ → Type 0) (a : Attempt) (w : World) → IsData a → IsMade a w → (after (attempt a) w).shared ≡ false → AllAim Q a.addr w → AllAim Q a.addr (after (attempt a) w)
+data_aims Q a w (into i) m u h = in_aims Q a w m i u h
+data_aims Q a w (out t bytes o) m u h = out_aims Q a t bytes w m o u h
+
+pub trail_data : (f : List ℕ → Option ℕ) (a : Attempt) → IsData a → {old new : World} {outcomes : List Outcome} → Trail a old outcomes new → Owned f old → AllAim Never a.addr old
+    → Owned f new × AllAim Never a.addr new
+trail_data f a d start o h = (o, h)
+trail_data f a d (next w t made) o h =
+    let x : Owned f w × AllAim Never a.addr w = trail_data f a d t o h in
+    (data_owned f a w (no_setup a d) x.0 x.1, data_aims Never a w d (made_of a w x.0.settled made) (unshared_after f a w x.0) x.1)
+
+pub cut_off : (f : List ℕ → Option ℕ) (a : Attempt) (hear : _) (old : World) (fault : BusFault) (new : World) → (c : CutOff hear a old fault new) → Owned f c.mid → new.shared ≡ false
+cut_off f a hear old fault new c o = split c.mid.fault refl
+  where
+    split : (x : Option BusFault) → c.mid.fault ≡ x → new.shared ≡ false
+    split None e = fails_unshared f a c.mid new fault o (c.fails e)
+    split (Some g) e = ap (λ v. v.shared) (c.refused.again g e).1 ∙ o.single
+
+-- IN or OUT, where no device at the address is to take another
+pub data_transacted : (f : List ℕ → Option ℕ) (a : Attempt) → IsData a → (hear : _) (old : World) (answer : Result (List ℕ) TransFault) (new : World)
+    → Transacted hear a old answer new → Owned f old → AllAim Never a.addr old → LeavesTrans (λ w. Owned f w × AllAim Never a.addr w) answer new
+data_transacted f a d hear old (Ok bytes) new e o h = trail_data f a d e.trail o h
+data_transacted f a d hear old (Err Stalled) new e o h = trail_data f a d e.trail o h
+data_transacted f a d hear old (Err Busy) new e o h = trail_data f a d e.trail o h
+data_transacted f a d hear old (Err NoAnswer) new e o h = trail_data f a d e.trail o h
+data_transacted f a d hear old (Err (Bus fault)) new c o h = cut_off f a hear old fault new c (trail_data f a d c.trail o h).0
+
+-- SETUP of a request that resets no device
+
+pub trail_quiet : (f : List ℕ → Option ℕ) (a : Attempt) → is_quiet (attempt a) ≡ true → {old new : World} {outcomes : List Outcome} → Trail a old outcomes new → Owned f old → Owned f new
+trail_quiet f a q start o = o
+trail_quiet f a q (next w t made) o = quiet_owned f a w q made (trail_quiet f a q t o)
+
+pub acked : (o : Outcome) (bytes : List ℕ) (os : List Outcome) → Tells set_up_as (Ok bytes) o os → o ≡ Ack
+acked (Payload t b) bytes os h = cc
+acked Ack bytes os h = refl
+acked Nak bytes os h = cc
+acked Stall bytes os h = cc
+acked Nothing bytes os h = cc
+
+last_set_up : (f : List ℕ → Option ℕ) (Q : ℕ → Type 0) (a : Attempt) (bytes : List ℕ) → is_quiet (attempt a) ≡ true → IsSetup a bytes → ((s : State) → TakesOnly Q (outcome s.spec s.registers (setup_of bytes)))
+    → {old new : World} {last : Outcome} {outcomes : List Outcome} → Trail a old (last ∷ outcomes) new → last ≡ Ack → Owned f old → AllAim Q a.addr new
+last_set_up f Q a bytes q is c (next w t made) h o =
+    let x : Owned f w = trail_quiet f a q t o in
+    λ i e v on there at. set_up_aims Q a bytes w (made_of a w x.settled made) is (unshared_after f a w x) c h i e v (quiet_resets (attempt a) w (suc i ∷ e) q) on there at
+
+-- what is so after it, where it is done
+abbrev pub SetUpLeaves : (List ℕ → Option ℕ) → (ℕ → Type 0) → ℕ → Result (List ℕ) TransFault → World → Type 0
+SetUpLeaves f Q n (Ok bytes) w = Owned f w × AllAim Q n w
+SetUpLeaves f Q n (Err Stalled) w = Owned f w
+SetUpLeaves f Q n (Err Busy) w = Owned f w
+SetUpLeaves f Q n (Err NoAnswer) w = Owned f w
+SetUpLeaves f Q n (Err (Bus fault)) w = w.shared ≡ false
+
+pub set_up_transacted : (f : List ℕ → Option ℕ) (Q : ℕ → Type 0) (a : Attempt) (bytes : List ℕ) → is_quiet (attempt a) ≡ true → IsSetup a bytes → ((s : State) → TakesOnly Q (outcome s.spec s.registers (setup_of bytes)))
+    → (old : World) (answer : Result (List ℕ) TransFault) (new : World) → Transacted set_up_as a old answer new → Owned f old → SetUpLeaves f Q a.addr answer new
+set_up_transacted f Q a bytes q is c old (Ok got) new e o = (trail_quiet f a q e.trail o, last_set_up f Q a bytes q is c e.trail (acked e.last got e.outcomes e.tells) o)
+set_up_transacted f Q a bytes q is c old (Err Stalled) new e o = trail_quiet f a q e.trail o
+set_up_transacted f Q a bytes q is c old (Err Busy) new e o = trail_quiet f a q e.trail o
+set_up_transacted f Q a bytes q is c old (Err NoAnswer) new e o = trail_quiet f a q e.trail o
+set_up_transacted f Q a bytes q is c old (Err (Bus fault)) new e o = cut_off f a set_up_as old fault new e (trail_quiet f a q e.trail o)

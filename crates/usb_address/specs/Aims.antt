@@ -1,0 +1,35 @@
+-- Which addresses status stages end with (9.4.6).
+use Rattle.std.specs.Prelude.{◌≡◌, ℕ, List, true, None, Some, ⊤}
+use Rattle.usb_device.specs.Request.{Outcome, stalled, answers, takes_address, takes_configuration, halts, unhalts, tells_port, calls_port}
+use Rattle.usb_device.specs.Rows.{State}
+use Rattle.usb_device.specs.Transfer.{Stage, idle, refused, reading, read, ending}
+use Rattle.usb_device.specs.Tree.{reach_at, state_at}
+use Rattle.usb_world.specs.Live.{address_of}
+use Rattle.usb_world.specs.World.{World}
+
+-- a status stage that ends with an address ends with such a one
+abbrev pub Aims : (ℕ → Type 0) → Stage → Type 0
+Aims Q idle = ⊤
+Aims Q refused = ⊤
+Aims Q (reading answer wanted k) = ⊤
+Aims Q read = ⊤
+Aims Q (ending None) = ⊤
+Aims Q (ending (Some a)) = Q a
+
+-- so it is of each reachable device at an address
+abbrev pub AllAim : (ℕ → Type 0) → ℕ → World → Type 0
+AllAim Q n w = (i : ℕ) (e : List ℕ) (s : State) → reach_at w.roots i e ≡ true → state_at w.roots i e ≡ Some s → address_of s ≡ n → Aims Q s.stage
+
+-- a request that asks for an address asks for such a one
+abbrev pub TakesOnly : (ℕ → Type 0) → Outcome → Type 0
+TakesOnly Q stalled = ⊤
+TakesOnly Q (answers bytes) = ⊤
+TakesOnly Q (takes_address a) = Q a
+TakesOnly Q (takes_configuration c) = ⊤
+TakesOnly Q (halts x) = ⊤
+TakesOnly Q (unhalts x) = ⊤
+TakesOnly Q (tells_port i) = ⊤
+TakesOnly Q (calls_port c i) = ⊤
+
+abbrev pub Never : ℕ → Type 0
+Never a = ⊥

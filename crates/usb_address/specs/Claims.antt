@@ -1,0 +1,18 @@
+-- Which path claims which address.
+use Rattle.std.specs.Prelude.{◌≡◌, ℕ, List, true, Option, None, Some, if◌then◌else◌}
+use Rattle.usb_world.specs.Live.{is_way}
+
+abbrev pub Claims : Type 0
+Claims = List ℕ → Option ℕ
+
+-- no claim is at the path, nor below it
+abbrev pub Free : Claims → List ℕ → Type 0
+Free f p = (x : List ℕ) → is_way p x ≡ true → f x ≡ None
+
+-- no path claims the address
+abbrev pub Unused : Claims → ℕ → Type 0
+Unused f n = (x : List ℕ) → f x ≡ Some n → ⊥
+
+-- the claims that are neither at the path nor below it
+abbrev pub cleared : Claims → List ℕ → Claims
+cleared f p x = if is_way p x then None else f x

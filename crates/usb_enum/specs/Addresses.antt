@@ -1,0 +1,44 @@
+-- What an enumeration does to the addresses that devices hold.
+use Rattle.std.specs.Prelude.{◌≡◌, ℕ, List, false, Some, Result, Ok, Err}
+use Rattle.usb_world.specs.Addresses.{after_taking}
+use Rattle.usb_world.specs.World.{World}
+use Rattle.usb_resources.specs.Pool.{Addresses, IsTaken}
+use Rattle.usb_address.specs.Claims.{Claims, Free, Unused}
+use Rattle.usb_address.specs.Owned.{Owned, OwnedBut, Enumerating, TillFault}
+use Rattle.usb_hub.specs.declared.port.HubPort.{HubPort}
+use Rattle.usb_hub.specs.Addresses.{IsAt}
+use Rattle.usb_enum.specs.declared.fault.EnumFault.{EnumFault}
+use Rattle.usb_enum.specs.declared.fault.EnumFault.TheVariants.{ParentLost, Bus, Memory}
+use Rattle.usb_enum.specs.declared.finding.Finding.{Finding}
+use Rattle.usb_enum.specs.declared.finding.Finding.TheVariants.{Device, Refused}
+
+-- a port of which nothing is claimed, and an address that no path claims
+pub record IsSpare (f : Claims) (port : HubPort) (p : List ℕ) (address : ℕ) : Type 0 where
+  pub at : IsAt f port p
+  pub free : Free f p
+  pub none : Unused f 0
+  pub spare : Unused f address
+
+-- the device at the port, where one is reachable, has address 0 or the one that is set aside for it; every other has its own
+pub record Within (port : HubPort) (address : ℕ) (old new : World) : Type 0 where
+  pub stays : (f : Claims) (p : List ℕ) → IsSpare f port p address → TillFault (Enumerating f p address) old → TillFault (Enumerating f p address) new
+
+-- the device at the port, where one is reachable, took the address
+pub record Takes (port : HubPort) (address : ℕ) (old new : World) : Type 0 where
+  pub took : (f : Claims) (p : List ℕ) → IsSpare f port p address → TillFault (Enumerating f p address) old → TillFault (Owned (after_taking f p address)) new
+
+-- what is so at each end; of a parent that is lost nothing is known at the port and below it
+abbrev pub EndsOwned : Claims → List ℕ → Result Finding EnumFault → World → Type 0
+EndsOwned f p (Ok (Device device)) w = TillFault (Owned (after_taking f p device.address)) w
+EndsOwned f p (Ok (Refused cause)) w = TillFault (Owned f) w
+EndsOwned f p (Err ParentLost) w = TillFault (OwnedBut p f) w
+EndsOwned f p (Err (Bus fault)) w = w.shared ≡ false
+EndsOwned f p (Err Memory) w = w.shared ≡ false
+
+-- where the device at the port, if one is reachable, has address 0 or the one that is set aside for it
+pub record Ends (port : HubPort) (address : ℕ) (old : World) (result : Result Finding EnumFault) (new : World) : Type 0 where
+  pub ends : (f : Claims) (p : List ℕ) → IsSpare f port p address → TillFault (Enumerating f p address) old → EndsOwned f p result new
+
+-- where nothing is claimed at the port, and only addresses that are taken are claimed
+pub record KeepsEnumerated (port : HubPort) (addresses : Addresses) (old : World) (result : Result Finding EnumFault) (new : World) : Type 0 where
+  pub ends : (f : Claims) (p : List ℕ) → IsAt f port p → Free f p → ((x : List ℕ) (a : ℕ) → f x ≡ Some a → IsTaken addresses a) → TillFault (Owned f) old → EndsOwned f p result new

@@ -1,0 +1,210 @@
+-- What the calls on devices and ports do to the addresses that devices hold.
+use borrow.Enum.Total.{values_d}
+use Rattle.std.proofs.Common.{◌≡◌, ◌≢◌, ◌⊎◌, inl, inr, ◌∙◌, refl, sym, ap, subst, arith, true, false}
+use Rattle.std.specs.Prelude.{ℕ, ◌-◌, ◌==◌, ◌≤◌, Bool, List, [], ◌∷◌, length, Option, None, Some, slice_index_or, Result, Ok, Err, MatchResult, OnOk, if◌then◌else◌}
+use Rattle.std.specs.Global.{Vec}
+use Rattle.usb_port.specs.PortState.{PortState, off}
+use Rattle.usb_port.specs.Path.{IsPortNumber}
+use Rattle.usb_port.specs.Status.{seen, status_in}
+use Rattle.usb_port.specs.declared.status.PortStatus.{PortStatus}
+use Rattle.usb_request.specs.Layout.{IsToHost}
+use Rattle.usb_request.specs.declared.setup.Setup.{Setup}
+use Rattle.usb_request.specs.Requests.{get_port_status, set_port_feature, clear_port_feature, set_address, set_configuration}
+use Rattle.usb_device.specs.declared.calls.PortCall.{PortCall}
+use Rattle.usb_device.specs.declared.calls.PortCall.TheVariants.{SetPower, SetReset, ClearEnable, ClearPower, ClearConnectionChange, ClearEnableChange, ClearResetChange}
+use Rattle.usb_device.specs.Calls.{set_call, clear_call, is_reset}
+use Rattle.usb_device.specs.Request.{Is}
+use Rattle.usb_world.specs.World.{World, IsSetFeature, IsClearFeature, port_at}
+use Rattle.usb_world.specs.Steps.{SetsRoot, ClearsRoot, root_call, after}
+use Rattle.usb_world.specs.Addresses.{after_reset, after_taking}
+use Rattle.usb_world.specs.Courses.{is_harmless}
+use Rattle.usb_world.specs.Live.{is_way}
+use Rattle.usb_transaction.specs.declared.target.Target.{Target}
+use Rattle.usb_transaction.specs.Answerer.{Answerer}
+use Rattle.usb_transaction.specs.Trans.{Worked}
+use Rattle.usb_pipe.specs.declared.fault.PipeFault.{PipeFault}
+use Rattle.usb_pipe.specs.declared.fault.PipeFault.TheVariants.{Stalled}
+use Rattle.usb_pipe.specs.Control.{Faults}
+use Rattle.usb_pipe.specs.Stages.{Reads, Writes}
+use Rattle.usb_address.specs.Claims.{Claims, cleared}
+use Rattle.usb_address.specs.Owned.{Owned, TillFault, KeepsAddresses}
+use Rattle.usb_address.proofs.Answerers.{answerer_claims}
+use Rattle.usb_address.proofs.Keeping.{keeps_none, read_keeps, write_keeps, write_till, either_alone}
+use Rattle.usb_address.proofs.Ports.{clear_bares, status_bares, reset_till}
+use Rattle.usb_address.proofs.Roots.{root_keeps, root_resets, root_bares, root_shut}
+use Rattle.usb_address.proofs.Setups.{same_setup, reads_harmless, reads_other}
+use Rattle.usb_address.proofs.Transfers.{gives_address}
+use Rattle.usb_hub.specs.declared.port.HubPort.{HubPort}
+use Rattle.usb_hub.specs.declared.port.HubPort.TheVariants.{Root, External}
+use Rattle.usb_hub.specs.Addresses.{IsBelow, Answers, Bares, Resets, GivesAddress, KeepsAnswered, KeepsAsked, KeepsSet, KeepsCleared}
+use Rattle.usb_hub.specs.Port.{PortRead, PortSet, PortCleared}
+use Rattle.usb_hub.specs.Requests.{Ends, Told, Ordered, said_in}
+
+told_same : (seen status : PortStatus) (result : Result PortStatus PipeFault) → result ≡ Ok seen → result ≡ Ok status → seen ≡ status
+told_same seen status result a b = cc (a, b)
+
+-- Requests to a device
+
+pub answered : (target : Target) (request : Setup) (old : World) (result : Result (Vec ℕ) PipeFault) (new : World) → IsToHost request → Ends 3 old result new → Reads target request old result new
+    → OnOk result (new.shared ≡ false → Answerer target old new) → KeepsAnswered target.addr old result new
+answered target request old result new reads ends stages who =
+    let keeps = read_keeps target request (same_setup request) (reads_harmless request reads) (reads_other request reads) 3 1 old new result ends stages in
+    record { keeps = keeps; who = told result ends who keeps }
+  where
+    told : (result : Result (Vec ℕ) PipeFault) → Ends 3 old result new → OnOk result (new.shared ≡ false → Answerer target old new) → KeepsAddresses old new → OnOk result (Answers target.addr old)
+    told (Ok bytes) ends who keeps = record { held = λ f o. answerer_claims f target old new (o.so ends.sound) (who (keeps.kept f o).single) }
+    told (Err fault) ends who keeps = tt
+
+pub ordered_keeps : (target : Target) (request : Setup) (old : World) (result : Result (Unit {0}) PipeFault) (new : World) → is_harmless request ≡ true → Is request 0x00 5 ≡ false → Ordered target request old result new → KeepsAddresses old new
+ordered_keeps target request old result new harmless other ordered =
+    write_keeps target request (same_setup request) harmless other 2 1 old new result ordered.ends ordered.stages
+
+pub configured : (target : Target) (value : ℕ) (old : World) (result : Result (Unit {0}) PipeFault) (new : World) → Ordered target (set_configuration value) old result new → KeepsAddresses old new
+unfolding set_configuration
+configured target value old result new = ordered_keeps target (set_configuration value) old result new refl refl
+
+pub gives : (target : Target) (address : ℕ) (old : World) (result : Result (Unit {0}) PipeFault) (new : World) → Ordered target (set_address address) old result new → GivesAddress target.addr address old new
+unfolding set_address
+gives target address old result new ordered = record {
+  gives = λ f p at spare differ o.
+      write_till (λ w. Owned f w ⊎ Owned (after_taking f p address) w) (either_alone f (after_taking f p address)) old new 2 1 target (set_address address) o.single result ordered.ends ordered.stages
+      (λ sound. gives_address f target (set_address address) (same_setup (set_address address)) refl p at spare differ old result new ordered.stages (o.so sound));
+}
+
+-- Requests to a port of a hub
+
+pub cleared_keeps : (hub : Target) (feature port : ℕ) (old : World) (result : Result (Unit {0}) PipeFault) (new : World) → Ordered hub (clear_port_feature feature port) old result new → KeepsAddresses old new
+unfolding clear_port_feature
+cleared_keeps hub feature port old result new = ordered_keeps hub (clear_port_feature feature port) old result new refl refl
+
+not_reset : (feature : ℕ) → feature ≢ 4 → (feature == 4) ≡ false
+not_reset feature other = grind (arith, other)
+
+pub set_keeps : (hub : Target) (feature port : ℕ) (old : World) (result : Result (Unit {0}) PipeFault) (new : World) → feature ≢ 4 → Ordered hub (set_port_feature feature port) old result new → KeepsAddresses old new
+unfolding set_port_feature
+set_keeps hub feature port old result new other = ordered_keeps hub (set_port_feature feature port) old result new (rw (not_reset feature other) refl) refl
+
+abbrev said_by : {A : Type 0} → (List ℕ → A) → Bool → Vec ℕ → Result A PipeFault
+said_by read b bytes = if b then Ok (read bytes.items) else Err Stalled
+
+record IsRead {A : Type 0} (read : List ℕ → A) (answer : Result (Vec ℕ) PipeFault) (x : A) : Type 0 where
+  bytes : Vec ℕ
+  is : answer ≡ Ok bytes
+  read_so : x ≡ read bytes.items
+
+said_if : {A : Type 0} (read : List ℕ → A) (b : Bool) (bytes : Vec ℕ) (x : A) → Ok x ≡ said_by read b bytes → IsRead read (Ok bytes) x
+said_if read true bytes x told = record { bytes = bytes; is = refl; read_so = cc }
+said_if read false bytes x told = absurd cc
+
+-- what was told was read
+said : {A : Type 0} (read : List ℕ → A) (size : ℕ) (answer : Result (Vec ℕ) PipeFault) (x : A) → Ok x ≡ said_in read size answer → IsRead read answer x
+said read size (Ok bytes) x told = said_if read (length bytes.items == size) bytes x told
+said read size (Err fault) x told = absurd cc
+
+hub_bares : (hub : Target) (port : ℕ) (status : PortStatus) (old new : World) → Told status_in hub (get_port_status port) old (Ok status) new → status.enabled ≡ false → Bares (External hub port) old new
+hub_bares hub port status old new told off = record { bares = bares }
+  where
+    bares : (f : Claims) (p : List ℕ) → IsBelow f hub.addr port p → TillFault (Owned f) old → TillFault (Owned (cleared f p)) new
+    bares f p at o =
+        let read = said status_in (get_port_status port).length told.answer status told.told in
+        subst (λ p. TillFault (Owned (cleared f p)) new) (sym at.path)
+        (status_bares hub 3 1 old new f at.hub port read.bytes at.is_path at.number at.held told.ends
+        (subst (λ a. Reads hub (get_port_status port) old a new) read.is told.asked.stages) (ap (λ s. s.enabled) (sym read.read_so) ∙ off) o)
+
+hub_disables : (hub : Target) (port : ℕ) (old new : World) → Ordered hub (clear_port_feature 1 port) old (Ok tt) new → Bares (External hub port) old new
+hub_disables hub port old new ordered = record { bares = bares }
+  where
+    bares : (f : Claims) (p : List ℕ) → IsBelow f hub.addr port p → TillFault (Owned f) old → TillFault (Owned (cleared f p)) new
+    bares f p at o =
+        subst (λ p. TillFault (Owned (cleared f p)) new) (sym at.path)
+        (clear_bares hub 2 1 old new f at.hub port at.is_path at.number at.held ordered.ends ordered.stages o)
+
+hub_resets : (hub : Target) (port : ℕ) (old : World) (result : Result (Unit {0}) PipeFault) (new : World) → Ordered hub (set_port_feature 4 port) old result new → Resets (External hub port) old new
+hub_resets hub port old result new ordered = record { resets = resets }
+  where
+    resets : (f : Claims) (p : List ℕ) → IsBelow f hub.addr port p → ((x : List ℕ) → f x ≡ Some 0 → is_way p x ≡ true) → TillFault (Owned f) old → TillFault (λ w. Owned f w ⊎ Owned (after_reset f p) w) new
+    resets f p at only o =
+        subst (λ p. TillFault (λ w. Owned f w ⊎ Owned (after_reset f p) w) new) (sym at.path)
+        (reset_till hub 2 1 old new f at.hub port result at.held ordered.ends ordered.stages (λ x e. subst (λ p. is_way p x ≡ true) at.path (only x e)) o)
+
+-- Root ports
+
+-- each call that sets or clears is one of these
+root_set_is : (number feature : ℕ) (old new : World) → SetsRoot number feature old new → feature ≡ 8 → new ≡ after (root_call SetPower number) old
+unfolding set_call
+root_set_is number feature old new sets e = (subst (λ n. SetsRoot number n old new) e sets).step SetPower refl
+
+root_reset_is : (number feature : ℕ) (old new : World) → SetsRoot number feature old new → feature ≡ 4 → new ≡ after (root_call SetReset number) old
+unfolding set_call
+root_reset_is number feature old new sets e = (subst (λ n. SetsRoot number n old new) e sets).step SetReset refl
+
+root_disables_is : (number feature : ℕ) (old new : World) → ClearsRoot number feature old new → feature ≡ 1 → new ≡ after (root_call ClearEnable number) old
+unfolding clear_call
+root_disables_is number feature old new clears e = (subst (λ n. ClearsRoot number n old new) e clears).step ClearEnable refl
+
+keeps_by : (c : PortCall) (number : ℕ) (old new : World) → is_reset c ≡ false → new ≡ after (root_call c number) old → KeepsAddresses old new
+keeps_by c number old new quiet e = subst (λ w. KeepsAddresses old w) (sym e) (root_keeps c number old quiet)
+
+root_clear_keeps : (number feature : ℕ) (old new : World) → IsClearFeature feature → ClearsRoot number feature old new → KeepsAddresses old new
+unfolding clear_call
+root_clear_keeps number feature old new (inl e) clears = keeps_by ClearEnable number old new refl ((subst (λ n. ClearsRoot number n old new) e clears).step ClearEnable refl)
+root_clear_keeps number feature old new (inr (inl e)) clears = keeps_by ClearPower number old new refl ((subst (λ n. ClearsRoot number n old new) e clears).step ClearPower refl)
+root_clear_keeps number feature old new (inr (inr (inl e))) clears = keeps_by ClearConnectionChange number old new refl ((subst (λ n. ClearsRoot number n old new) e clears).step ClearConnectionChange refl)
+root_clear_keeps number feature old new (inr (inr (inr (inl e)))) clears = keeps_by ClearEnableChange number old new refl ((subst (λ n. ClearsRoot number n old new) e clears).step ClearEnableChange refl)
+root_clear_keeps number feature old new (inr (inr (inr (inr e)))) clears = keeps_by ClearResetChange number old new refl ((subst (λ n. ClearsRoot number n old new) e clears).step ClearResetChange refl)
+
+-- Any port
+
+pub status_keeps : (port : HubPort) (old : World) (result : Result PortStatus PipeFault) (new : World) → (number : ℕ) → port ≡ Root number → PortRead port old result new → KeepsAsked port old result new
+status_keeps port old result new number e read = rw e (root (rw e at read))
+  where
+    root : PortRead (Root number) old result new → KeepsAsked (Root number) old result new
+    root r = record {
+      keeps = subst (λ w. KeepsAddresses old w) (sym r.same) (keeps_none old);
+      bare = λ status told off. record {
+        bares = λ f p at o. subst (λ w. TillFault (Owned (cleared f p)) w) (sym r.same)
+            (subst (λ p. TillFault (Owned (cleared f p)) old) (sym at) (root_shut f number old (ap (λ s. s.enabled) (told_same (seen (port_at old number)) status result r.status told) ∙ off) o));
+      };
+    }
+
+pub hub_status_keeps : (port : HubPort) (hub : Target) (number : ℕ) (old : World) (result : Result PortStatus PipeFault) (new : World) → port ≡ External hub number → Told status_in hub (get_port_status number) old result new → KeepsAddresses old new → KeepsAsked port old result new
+hub_status_keeps port hub number old result new e told keeps = rw e (record {
+  keeps = keeps;
+  bare = λ status is off. hub_bares hub number status old new (subst (λ r. Told status_in hub (get_port_status number) old r new) is told) off;
+})
+
+pub root_set_keeps : (port : HubPort) (number feature : ℕ) (old new : World) → port ≡ Root number → SetsRoot number feature old new → KeepsSet port feature old new
+root_set_keeps port number feature old new e sets = rw e (record {
+  keeps = λ is. keeps_by SetPower number old new refl (root_set_is number feature old new sets is);
+  resets = λ is. record {
+    resets = λ f p at only o.
+        subst (λ w. TillFault (λ w. Owned f w ⊎ Owned (after_reset f p) w) w) (sym (root_reset_is number feature old new sets is))
+        (subst (λ p. TillFault (λ w. Owned f w ⊎ Owned (after_reset f p) w) (after (root_call SetReset number) old)) (sym at)
+        (root_resets number old f (λ x h. subst (λ p. is_way p x ≡ true) at (only x h)) o));
+  };
+})
+
+pub hub_set_keeps : (port : HubPort) (hub : Target) (number feature : ℕ) (old : World) (result : Result (Unit {0}) PipeFault) (new : World) → port ≡ External hub number
+    → Ordered hub (set_port_feature feature number) old result new → KeepsSet port feature old new
+hub_set_keeps port hub number feature old result new e ordered = rw e (record {
+  keeps = λ is. set_keeps hub feature number old result new (λ four. absurd (cc (is, four))) ordered;
+  resets = λ is. hub_resets hub number old result new (subst (λ n. Ordered hub (set_port_feature n number) old result new) is ordered);
+})
+
+pub root_clear_keeps_port : (port : HubPort) (number feature : ℕ) (old new : World) → port ≡ Root number → IsClearFeature feature → ClearsRoot number feature old new → KeepsCleared port feature old (Ok tt) new
+root_clear_keeps_port port number feature old new e named clears = rw e (record {
+  keeps = root_clear_keeps number feature old new named clears;
+  bare = λ is done. record {
+    bares = λ f p at o.
+        subst (λ w. TillFault (Owned (cleared f p)) w) (sym (root_disables_is number feature old new clears is))
+        (subst (λ p. TillFault (Owned (cleared f p)) (after (root_call ClearEnable number) old)) (sym at) (root_bares f number old o));
+  };
+})
+
+pub hub_clear_keeps : (port : HubPort) (hub : Target) (number feature : ℕ) (old : World) (result : Result (Unit {0}) PipeFault) (new : World) → port ≡ External hub number
+    → Ordered hub (clear_port_feature feature number) old result new → KeepsCleared port feature old result new
+hub_clear_keeps port hub number feature old result new e ordered = rw e (record {
+  keeps = cleared_keeps hub feature number old result new ordered;
+  bare = λ is done. hub_disables hub number old new
+      (subst (λ r. Ordered hub (clear_port_feature 1 number) old r new) done (subst (λ n. Ordered hub (clear_port_feature n number) old result new) is ordered));
+})

@@ -1,0 +1,63 @@
+-- What the calls on devices and ports do to the addresses that devices hold.
+use Rattle.std.specs.Prelude.{◌≡◌, ◌≢◌, ◌⊎◌, ℕ, List, [], ◌∷◌, ◌++◌, true, false, Some, Result, Ok, OnOk}
+use Rattle.usb_port.specs.Path.{IsPath, IsPortNumber}
+use Rattle.usb_port.specs.declared.status.PortStatus.{PortStatus}
+use Rattle.usb_world.specs.Addresses.{after_reset, after_taking}
+use Rattle.usb_world.specs.Live.{is_way}
+use Rattle.usb_world.specs.World.{World}
+use Rattle.usb_pipe.specs.declared.fault.PipeFault.{PipeFault}
+use Rattle.usb_address.specs.Claims.{Claims, cleared}
+use Rattle.usb_address.specs.Owned.{Owned, TillFault, KeepsAddresses}
+use Rattle.usb_hub.specs.declared.port.HubPort.{HubPort}
+use Rattle.usb_hub.specs.declared.port.HubPort.TheVariants.{Root, External}
+
+-- the path of a port of the hub whose path claims the address
+pub record IsBelow (f : Claims) (address port : ℕ) (p : List ℕ) : Type 0 where
+  pub hub : List ℕ
+  pub is_path : IsPath hub
+  pub number : IsPortNumber port
+  pub path : p ≡ hub ++ (port ∷ [])
+  pub held : f hub ≡ Some address
+
+-- the path of a port; a hub is known by what its path claims, also where it is gone
+abbrev pub IsAt : Claims → HubPort → List ℕ → Type 0
+IsAt f (Root number) p = p ≡ number ∷ []
+IsAt f (External hub port) p = IsBelow f hub.addr port p
+
+-- some path claims the address
+pub record Answers (address : ℕ) (old : World) : Type 0 where
+  pub held : (f : Claims) → TillFault (Owned f) old → (p : List ℕ) × (f p ≡ Some address)
+
+-- no device is reachable at the port or below it
+pub record Bares (port : HubPort) (old new : World) : Type 0 where
+  pub bares : (f : Claims) (p : List ℕ) → IsAt f port p → TillFault (Owned f) old → TillFault (Owned (cleared f p)) new
+
+-- where address 0 is claimed at the port or below it alone: the device there has address 0, and none below it is reachable; or all have what they had
+pub record Resets (port : HubPort) (old new : World) : Type 0 where
+  pub resets : (f : Claims) (p : List ℕ) → IsAt f port p → ((x : List ℕ) → f x ≡ Some 0 → is_way p x ≡ true) → TillFault (Owned f) old
+      → TillFault (λ w. Owned f w ⊎ Owned (after_reset f p) w) new
+
+-- where a path alone claims the target's address, and none claims the new one beside it: the device there has the new one, or all have what they had
+pub record GivesAddress (target address : ℕ) (old new : World) : Type 0 where
+  pub gives : (f : Claims) (p : List ℕ) → ((x : List ℕ) → f x ≡ Some target → x ≡ p) → ((x y : List ℕ) → f x ≡ Some address → f y ≡ Some target → ⊥)
+      → target ≢ address → TillFault (Owned f) old → TillFault (λ w. Owned f w ⊎ Owned (after_taking f p address) w) new
+
+-- whoever answered had the target's address
+pub record KeepsAnswered {A : Type 0} (address : ℕ) (old : World) (result : Result A PipeFault) (new : World) : Type 0 where
+  pub keeps : KeepsAddresses old new
+  pub who : OnOk result (Answers address old)
+
+-- a port that is told not enabled has none reachable
+pub record KeepsAsked (port : HubPort) (old : World) (result : Result PortStatus PipeFault) (new : World) : Type 0 where
+  pub keeps : KeepsAddresses old new
+  pub bare : (status : PortStatus) → result ≡ Ok status → status.enabled ≡ false → Bares port old new
+
+-- PORT_POWER keeps them, PORT_RESET takes one
+pub record KeepsSet (port : HubPort) (feature : ℕ) (old new : World) : Type 0 where
+  pub keeps : feature ≡ 8 → KeepsAddresses old new
+  pub resets : feature ≡ 4 → Resets port old new
+
+-- a port that is disabled has none reachable
+pub record KeepsCleared (port : HubPort) (feature : ℕ) (old : World) (result : Result (Unit {0}) PipeFault) (new : World) : Type 0 where
+  pub keeps : KeepsAddresses old new
+  pub bare : feature ≡ 1 → result ≡ Ok tt → Bares port old new
