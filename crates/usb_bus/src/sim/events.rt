@@ -35,6 +35,7 @@ impl<W: Write> SimBus<W> {
         ensures kept { result ≡ Err Memory → (world_of self.old).fault ≡ None → (world_of self.new ≡ record (world_of self.old) { fault = Some Memory }) × (writer_of self.new ≡ writer_of self.old) }
         ensures cut { result ≡ Err TraceFailed → (world_of self.old).fault ≡ None → world_of self.new ≡ record (after event (world_of self.old)) { fault = Some TraceFailed } }
         ensures again { IsSome (world_of self.old).fault → self.new ≡ self.old }
+        ensures limit { result ≡ Err LimitReached → IsSome (world_of self.old).fault }
     {
         if let Some(fault) = self.fault {
             return Err(fault);
