@@ -161,7 +161,7 @@ module _ (f : List ℕ → Option ℕ) (j : ℕ) (e : List ℕ) (i : ℕ) (t : T
       hub = held_of (state_at new.roots j e) t.addr (o.own (suc j ∷ e) hub_on ∙ at)
 
       was : Was (WriteLeaves t request (Ok u) old new) old j e hub.0
-      was = write_leaves t request (Ok u) old new none same settled writes tt o.single j e hub.0 hub_on hub.1 (λ h. absurd (cc (harmless, h)))
+      was = write_leaves t request (Ok u) old new none same settled writes o.single j e hub.0 hub_on hub.1 (λ h. absurd (cc (harmless, h)))
 
       asked_it : is_at was.before t ≡ true
       asked_it = split (decided (is_at was.before t))

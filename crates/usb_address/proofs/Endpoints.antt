@@ -1,10 +1,9 @@
 -- Polls, bulk transfers and clears of halts keep addresses, whatever their answers are and whatever was lost.
-use Rattle.std.proofs.Common.{◌≡◌, ◌≢◌, ℕ, zero, suc, ◌+◌, ◌*◌, ◌/◌, ◌%◌, ◌⊎◌, inl, inr, true, false, List, [], ◌∷◌, length, take, Option, None, Some, Result, Ok, Err, refl, ap, sym, subst, ◌∙◌, arith}
+use Rattle.std.proofs.Common.{◌≡◌, ◌≢◌, ℕ, zero, suc, ◌⊎◌, inl, inr, true, false, List, [], ◌∷◌, length, take, Option, None, Some, Result, Ok, Err, refl, ap, sym, subst, ◌∙◌, arith}
 use Rattle.std.specs.Prelude.{MatchResult}
 use Rattle.std.specs.Global.{Vec}
 use Rattle.arrayvec.specs.ArrayVec.{ArrayVec}
 use Rattle.usb_packet.specs.declared.Toggle.{Toggle}
-use Rattle.usb_request.specs.Layout.{setup_of, bytes_of}
 use Rattle.usb_request.specs.Requests.{clear_endpoint_halt}
 use Rattle.usb_device.specs.Request.{Is}
 use Rattle.usb_world.specs.declared.types.Attempt.{Attempt}
@@ -35,6 +34,7 @@ use Rattle.usb_address.specs.Leaves.{LeavesTrans, LeavesPipe}
 use Rattle.usb_address.specs.Owned.{Owned, TillFault, KeepsAddresses}
 use Rattle.usb_address.proofs.Keeping.{keeps_none, trail_sound, till, still, owned_alone, write_keeps}
 use Rattle.usb_address.proofs.Polls.{into, out, far_transacted, polls_leave}
+use Rattle.usb_address.proofs.Setups.{same_setup}
 use Rattle.usb_address.proofs.Transfers.{of_fault}
 
 -- A bus that has given up makes no attempt
@@ -200,14 +200,7 @@ receives_keep wanted pipe far old result left new x = split pipe.condition refl
 
 -- The clear of a halt: a request that neither resets a port nor gives an address
 
-field_back : (n : ℕ) → n % 256 + 256 * (n / 256) ≡ n
-field_back n = omega arith
-
 module _ (endpoint : ℕ) where
-  clear_back : setup_of (bytes_of (clear_endpoint_halt endpoint)) ≡ clear_endpoint_halt endpoint
-  unfolding setup_of bytes_of clear_endpoint_halt
-  clear_back = rw (field_back endpoint) refl
-
   clear_harmless : is_harmless (clear_endpoint_halt endpoint) ≡ true
   unfolding clear_endpoint_halt
   clear_harmless = refl
@@ -222,7 +215,7 @@ clears_keep pipe old result left new x = split pipe.condition refl
     asked : Cleared pipe old result left new → KeepsAddresses old new
     asked y =
         let endpoint : ℕ = halt_address pipe.ep pipe.is_in in
-        write_keeps pipe.target (clear_endpoint_halt endpoint) (clear_back endpoint) (clear_harmless endpoint) (clear_other endpoint) 2 1 old new result y.ends y.stages
+        write_keeps pipe.target (clear_endpoint_halt endpoint) (same_setup (clear_endpoint_halt endpoint)) (clear_harmless endpoint) (clear_other endpoint) 2 1 old new result y.ends y.stages
 
     split : (c : Condition) → pipe.condition ≡ c → KeepsAddresses old new
     split condition.Ready e = same_keeps old new (x.ready e).world_kept

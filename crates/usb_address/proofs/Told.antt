@@ -97,7 +97,7 @@ module _ (f : List ℕ → Option ℕ) (j : ℕ) (e : List ℕ) (i : ℕ) (t : T
       hub = held_of (state_at new.roots j e) t.addr (o.own (suc j ∷ e) hub_on ∙ at)
 
       was : Was (ReadLeaves t request (Ok bytes) old new) old j e hub.0
-      was = read_leaves t request (Ok bytes) old new host (subst (λ n. 1 ≤ n) (sym length_is) (omega arith)) same settled reads tt o.single j e hub.0 hub_on hub.1
+      was = read_leaves t request (Ok bytes) old new host (subst (λ n. 1 ≤ n) (sym length_is) (omega arith)) same settled reads o.single j e hub.0 hub_on hub.1
 
       asked_it : is_at was.before t ≡ true
       asked_it = split (decided (is_at was.before t))

@@ -76,7 +76,7 @@ module _ (bytes : List ℕ) (read pipe : Bulk) (target : Target) (result : Resul
       let sent = sent_so bytes read result toggle condition old new is (subst (λ t. PacketsSent t read.ep read.toggle bytes old result toggle new) there x) in
       subst (λ p. Sends bytes p old result after_send new) same (record { broken = λ e. absurd (works e); nothing = λ w e. absurd (some e); moved = λ w e. sent })
 
-  pub what_sent : IsNotOfBus result → new.shared ≡ false → EachWas (SendLeaves bytes pipe result after_send) old new
+  pub what_sent : new.shared ≡ false → EachWas (SendLeaves bytes pipe result after_send) old new
   what_sent = send_leaves bytes pipe result after_send old new sends
 
   pub why_sent : NoThreeDamaged old → IsNotOfBus result → new.shared ≡ false → EachWas (WhySend pipe result) old new
@@ -129,7 +129,7 @@ module _ (wanted : ℕ) (read pipe : Bulk) (target : Target) (result : Result (V
   fits : 1 ≤ pipe.max
   fits = subst (λ p. 1 ≤ p.max) same least
 
-  pub what_received : IsNotOfBus result → new.shared ≡ false → EachWas (ReceiveLeaves pipe result after_receive) old new
+  pub what_received : new.shared ≡ false → EachWas (ReceiveLeaves pipe result after_receive) old new
   what_received = receive_leaves wanted pipe result after_receive old new fits receives
 
   pub why_received : NoThreeDamaged old → IsNotOfBus result → new.shared ≡ false → EachWas (WhyReceive wanted pipe result) old new

@@ -18,7 +18,7 @@ use Rattle.usb_transaction.specs.Trail.{Transacted}
 use Rattle.usb_pipe.specs.declared.fault.PipeFault.{PipeFault}
 use Rattle.usb_pipe.specs.Control.{fault_of}
 use Rattle.usb_pipe.specs.Stages.{SetUp, Asks, Confirms, DataEnds, Reads, Writes}
-use Rattle.usb_pipe.specs.Whole.{IsNotOfBus, ReadLeaves, WriteLeaves}
+use Rattle.usb_pipe.specs.Whole.{ReadLeaves, WriteLeaves}
 use Rattle.usb_pipe.proofs.WholeReads.{read_leaves}
 use Rattle.usb_pipe.proofs.WholeWrites.{write_leaves}
 
@@ -71,7 +71,7 @@ read_done t request {old} {first} {second} {new} bytes given confirmed got is no
 }
 
 pub what_read : (t : Target) (request : Setup) {old : World} (new : World) (bytes : List ℕ) (result : Result (Vec ℕ) PipeFault) → IsToHost request → 1 ≤ request.length → bytes ≡ bytes_of request → setup_of bytes ≡ request → IsSettled old.roots
-    → Reads t request old result new → IsNotOfBus result → new.shared ≡ false → EachWas (ReadLeaves t request result old new) old new
+    → Reads t request old result new → new.shared ≡ false → EachWas (ReadLeaves t request result old new) old new
 what_read t request {old} new bytes result host some is same settled x = read_leaves t request result old new host some (subst (λ b. setup_of b ≡ request) is same) settled x
 
 -- Without data
@@ -90,5 +90,5 @@ pub write_done : (t : Target) (request : Setup) {old mid new : World} (bytes giv
 write_done t request {old} {mid} {new} bytes given last is none x y = record { mid = mid; set_up = taken_request t request bytes given is none x; given = last; status = y }
 
 pub what_write : (t : Target) (request : Setup) {old : World} (new : World) (bytes : List ℕ) (result : Result (Unit {0}) PipeFault) → request.length ≡ 0 → bytes ≡ bytes_of request → setup_of bytes ≡ request → IsSettled old.roots
-    → Writes t request old result new → IsNotOfBus result → new.shared ≡ false → EachSpared t request (WriteLeaves t request result old new) old new
+    → Writes t request old result new → new.shared ≡ false → EachSpared t request (WriteLeaves t request result old new) old new
 what_write t request {old} new bytes result none is same settled x = write_leaves t request result old new none (subst (λ b. setup_of b ≡ request) is same) settled x

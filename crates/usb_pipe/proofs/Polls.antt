@@ -32,9 +32,9 @@ module _ (read pipe : Interrupt) (result : Result (Option (ArrayVec ℕ)) PipeFa
   left_so : after_poll ≡ record read { toggle = toggle_after read.toggle result }
   left_so = ap (λ t. record read { toggle = t }) turned
 
-  what_asked : pipe.ep ≡ 1 → IsNotOfBus result → new.shared ≡ false → EachWas (PollLeaves pipe old result after_poll) old new
-  what_asked one sound single =
-      subst (λ p. EachWas (PollLeaves p old result after_poll) old new) same (asked_tells read result after_poll old new (ap (λ p. p.ep) same ∙ one) least settled asked left_so sound single)
+  what_asked : pipe.ep ≡ 1 → new.shared ≡ false → EachWas (PollLeaves pipe old result after_poll) old new
+  what_asked one single =
+      subst (λ p. EachWas (PollLeaves p old result after_poll) old new) same (asked_tells read result after_poll old new (ap (λ p. p.ep) same ∙ one) least settled asked left_so single)
 
   why_asked : pipe.ep ≡ 1 → NoThreeDamaged old → IsNotOfBus result → new.shared ≡ false → EachWas (WhyPolling pipe result) old new
   why_asked one three sound single =
@@ -70,7 +70,7 @@ module _ (read pipe : Interrupt) (given : Option (List ℕ)) (got : Option (Arra
   moved_on : toggle ≡ toggle_after {A = ArrayVec ℕ} {E = PipeFault} read.toggle (Ok got)
   moved_on = turned_so read.toggle toggle given got is turned
 
-  pub what_told : pipe.ep ≡ 1 → IsNotOfBus {A = Option (ArrayVec ℕ)} (Ok got) → new.shared ≡ false → EachWas (PollLeaves pipe old (Ok got) (record read { toggle = toggle })) old new
+  pub what_told : pipe.ep ≡ 1 → new.shared ≡ false → EachWas (PollLeaves pipe old (Ok got) (record read { toggle = toggle })) old new
   what_told = what_asked read pipe (Ok got) toggle old new same least settled asked moved_on
 
   pub why_told : pipe.ep ≡ 1 → NoThreeDamaged old → IsNotOfBus {A = Option (ArrayVec ℕ)} (Ok got) → new.shared ≡ false → EachWas (WhyPolling pipe (Ok got)) old new
@@ -107,7 +107,7 @@ module _ (read pipe : Interrupt) (fault : TransFault) (result : Result (Option (
   stood : toggle ≡ toggle_after read.toggle result
   stood = still read.toggle toggle result err kept
 
-  pub what_failed : pipe.ep ≡ 1 → IsNotOfBus result → new.shared ≡ false → EachWas (PollLeaves pipe old result (record read { toggle = toggle })) old new
+  pub what_failed : pipe.ep ≡ 1 → new.shared ≡ false → EachWas (PollLeaves pipe old result (record read { toggle = toggle })) old new
   what_failed = what_asked read pipe result toggle old new same least settled unasked stood
 
   pub why_failed : pipe.ep ≡ 1 → NoThreeDamaged old → IsNotOfBus result → new.shared ≡ false → EachWas (WhyPolling pipe result) old new

@@ -33,17 +33,17 @@ use Rattle.usb_pipe.specs.Bulk.{Bulk, Sends, Receives}
 use Rattle.usb_pipe.specs.Control.{fault_of}
 use Rattle.usb_pipe.specs.End.{packet_target}
 use Rattle.usb_pipe.specs.Interrupt.{Interrupt, Asked, Polls}
-use Rattle.usb_pipe.specs.Moves.{Gave, Came, SendEnds, NotGone, ReceiveEnds}
+use Rattle.usb_pipe.specs.Moves.{Gave, Came, SendEnds, ReceiveEnds}
 use Rattle.usb_pipe.specs.Moves as moves
 use Rattle.usb_pipe.specs.Stages.{SetUp, Goes, DataStage, Reads}
 use Rattle.usb_pipe.specs.Stages as stages
 use Rattle.usb_pipe.specs.Toggles.{flips}
 use Rattle.usb_pipe.specs.Whole.{IsNotOfBus, LossesKept}
-use Rattle.usb_pipe.proofs.WholeReads.{other_type, read_request_leaves, Begun, refuses, answered, Along, along_none, along_more, Answered, along_rests, begun_then, goes_settled, unshared_stage, settled_stage}
+use Rattle.usb_pipe.proofs.WholeReads.{other_type, read_request_leaves, Begun, refuses, answered, Along, along_none, along_more, along_rests, begun_then, goes_settled, unshared_stage, settled_stage}
 use Rattle.usb_pipe.proofs.WholeReads as reads
 use Rattle.usb_pipe.proofs.WholeReceives.{came_settled}
 use Rattle.usb_pipe.proofs.WholeSends.{gave_settled}
-use Rattle.usb_pipe.proofs.WholeSteps.{ended, ended_settled, ended_unshared, AskedLeaves, asked_leaves, at_from}
+use Rattle.usb_pipe.proofs.WholeSteps.{ended, transacted_of, ended_settled, ended_unshared, AskedLeaves, asked_leaves, at_from}
 
 -- The data stage of a control read
 
@@ -77,7 +77,7 @@ one_more_kept t wanted n got bytes old mid new j p s u v x y =
 in_kept : (t : Target) (awaited : Toggle) (result : Result (List ℕ) TransFault) (old new : World) → IsSettled old.roots → Ended (heard_as awaited) (in_attempt t 0) old result new → new.shared ≡ false
     → EachWas (InKept t awaited result old new) old new
 in_kept t awaited result old new settled x single =
-    each_both (AskedLeaves t awaited result) (LosesNone t old new) old new (asked_leaves t awaited result old new settled x single) (in_losses t awaited result old new settled x single)
+    each_both (AskedLeaves t awaited result) (LosesNone t old new) old new (asked_leaves t awaited result old new settled (transacted_of result x) single) (in_losses t awaited result old new settled x single)
 
 each_along_kept : (t : Target) {wanted : ℕ} {old : World} {n : ℕ} {got : List ℕ} {new : World} → IsSettled old.roots → Goes t wanted old n got new → new.shared ≡ false → EachWas (AlongKept t wanted n got old new) old new
 each_along_kept t {wanted} {old} settled stages.start single = each_none (AlongKept t wanted 0 [] old old) (λ j p s. (along_none t wanted j p s, λ at b. refl)) old
@@ -115,7 +115,7 @@ module _ (t : Target) (request : Setup) (host : IsToHost request) (some : 1 ≤ 
   no_set_up_kept : (result : Result (List ℕ) TransFault) → Ended set_up_as (setup_attempt t (bytes_of request)) old result new → EachWas (LossesKept t old new) old new
   no_set_up_kept result x =
       each_wider (SetupDone t (bytes_of request) result old new) (LossesKept t old new) (λ j p s v y at. request_kept result new x) old new
-      (read_request_leaves t request result old new host same settled x single)
+      (read_request_leaves t request result old new host same settled (transacted_of result x) single)
 
   after_set_up_kept : (mid : World) → SetUp t request old (Ok []) mid → mid.shared ≡ false → EachWas (LosesNoneSince t request.length mid new) mid new → EachWas (LossesKept t old new) old new
   after_set_up_kept mid x clear later =

@@ -12,7 +12,7 @@ use Rattle.usb_device.specs.declared.request.Registers.{Registers}
 use Rattle.usb_device.specs.Spec.{Spec}
 use Rattle.usb_device.specs.Bulk.{rested, bulk_at, is_end, served, tells_changes}
 use Rattle.usb_device.specs.Request.{outcome, unhalts, on_endpoint}
-use Rattle.usb_device.specs.Transfer.{first_stage}
+use Rattle.usb_device.specs.Transfer.{first_stage, ending}
 use Rattle.usb_device.specs.Rows.{State, bulk_of, with_pipe, begun, accepted}
 use Rattle.usb_device.specs.Progress.{IsSink, IsSource, level, StatusGiven, seen, unseen, OnlyControl, OnlyStage}
 use Rattle.usb_world.specs.Courses.{is_harmless}
@@ -26,9 +26,9 @@ use Rattle.usb_pipe.specs.declared.condition.Condition.{Condition}
 use Rattle.usb_pipe.specs.declared.condition.Condition.TheVariants.{Ready, Halted, Broken}
 use Rattle.usb_pipe.specs.declared.fault.PipeFault.{PipeFault}
 use Rattle.usb_pipe.specs.declared.fault.PipeFault.TheVariants as pipe_fault
-use Rattle.usb_pipe.specs.Bulk.{Bulk, is_ready, halt_address, after_failed_clear, cleared, Idle, Cleared, Clears}
+use Rattle.usb_pipe.specs.Bulk.{Bulk, is_ready, halt_address, cleared, Idle, Cleared, Clears}
 use Rattle.usb_pipe.specs.Control.{Faults}
-use Rattle.usb_pipe.specs.Whole.{IsNotOfBus, EffectDone, EffectOrNone, none, some, WasRefused, WriteLeaves, FitsSource, ClearLeaves}
+use Rattle.usb_pipe.specs.Whole.{known, EffectDone, EffectOrNone, none, some, whole, WasRefused, WriteLeaves, FitsSink, FitsSource, ClearLeaves}
 use Rattle.usb_pipe.proofs.Numbers.{IsSmall, small_out_end}
 use Rattle.usb_pipe.proofs.WholeSteps.{only_stage}
 use Rattle.usb_pipe.proofs.WholeWrites.{write_leaves}
@@ -156,23 +156,32 @@ module _ (request : Setup) (which : Which) (s : State) (is : outcome s.spec s.re
       let none : d.address ≡ None = cc (sym (ap (first_stage d.row request.length) is) ∙ d.is) in
       accepted_rests d.row v d.rest (given_registers d.row d.address v none d.given)
 
-  failed_still : {t : Target} {old : World} {j : ℕ} {p : List ℕ} (v : State) → EffectOrNone t request old j p s v → Still s v
+  whole_rests : (row : List PortState) (v : State) → OnlyControl (accepted s row request) v → (address : Option ℕ)
+      → first_stage row request.length (outcome s.spec s.registers request) ≡ ending address → StatusGiven address (accepted s row request) v → OnlyRested which s v
+  whole_rests row v o address h g =
+      let none : address ≡ None = cc (sym (ap (first_stage row request.length) is) ∙ h) in
+      accepted_rests row v o (given_registers row address v none g)
+
+  failed_still : {t : Target} {fault : PipeFault} {old : World} {j : ℕ} {p : List ℕ} (v : State) → EffectOrNone t request fault old j p s v → Still s v
   failed_still v (none o e) = still_none s v o e
   failed_still v (some row now m o e) = still_rested which s v (accepted_rests row v o e)
+  failed_still v (whole why told row now m o a h g) = still_rested which s v (whole_rests row v o a h g)
 
   not_refused : {t : Target} {old new : World} {j : ℕ} {p : List ℕ} → WasRefused t request old new j p s → ⊥
   not_refused r = cc (sym (ap (first_stage r.row request.length) is) ∙ r.is)
 
 -- the endpoint is as it was, or begun again
-failed_out : {t : Target} {old : World} {j : ℕ} {p : List ℕ} (request : Setup) (s : State) → outcome s.spec s.registers request ≡ unhalts BulkOut → (v : State) → EffectOrNone t request old j p s v
+failed_out : {t : Target} {fault : PipeFault} {old : World} {j : ℕ} {p : List ℕ} (request : Setup) (s : State) → outcome s.spec s.registers request ≡ unhalts BulkOut → (v : State) → EffectOrNone t request fault old j p s v
     → (v.bulk_out ≡ s.bulk_out) ⊎ (v.bulk_out ≡ rested)
 failed_out request s is v (none o e) = inl (ap (λ d. d.bulk_out) (only_stage s v o e))
 failed_out request s is v (some row now m o e) = inr (ap (λ d. d.bulk_out) (accepted_rests request BulkOut s is row v o e))
+failed_out request s is v (whole why told row now m o a h g) = inr (ap (λ d. d.bulk_out) (whole_rests request BulkOut s is row v o a h g))
 
-failed_in : {t : Target} {old : World} {j : ℕ} {p : List ℕ} (request : Setup) (s : State) → outcome s.spec s.registers request ≡ unhalts BulkIn → (v : State) → EffectOrNone t request old j p s v
+failed_in : {t : Target} {fault : PipeFault} {old : World} {j : ℕ} {p : List ℕ} (request : Setup) (s : State) → outcome s.spec s.registers request ≡ unhalts BulkIn → (v : State) → EffectOrNone t request fault old j p s v
     → (v.bulk_in ≡ s.bulk_in) ⊎ (v.bulk_in ≡ rested)
 failed_in request s is v (none o e) = inl (ap (λ d. d.bulk_in) (only_stage s v o e))
 failed_in request s is v (some row now m o e) = inr (ap (λ d. d.bulk_in) (accepted_rests request BulkIn s is row v o e))
+failed_in request s is v (whole why told row now m o a h g) = inr (ap (λ d. d.bulk_in) (whole_rests request BulkIn s is row v o a h g))
 
 -- One device and its pipe
 
@@ -216,29 +225,35 @@ done_leaves pipe done unready j p s v x = record {
 
 -- A clear that failed
 
--- where it was not refused, the pipe is broken
-failed_breaks : (c : Condition) (why : PipeFault) (old new : World) → Faults 1 old why new → IsNotOfBus {A = Unit {0}} (Err why) → why ≢ pipe_fault.Stalled → after_failed_clear c why ≡ Broken
-failed_breaks c pipe_fault.Stalled old new x sound n = absurd (n refl)
-failed_breaks c pipe_fault.Busy old new x sound n = refl
-failed_breaks c pipe_fault.NoAnswer old new x sound n = refl
-failed_breaks c pipe_fault.Broken old new x sound n = absurd x
-failed_breaks c (pipe_fault.Bus fault) old new x sound n = absurd sound
-failed_breaks c pipe_fault.Memory old new x sound n = refl
+-- where it was not refused, the pipe is broken, or as good as that
+failed_breaks : (pipe : Bulk) (why : PipeFault) (old new : World) → Faults 1 old why new → why ≢ pipe_fault.Stalled → known {A = Unit {0}} (Err why) (cleared pipe (Err why)) ≡ record pipe { condition = Broken }
+failed_breaks pipe pipe_fault.Stalled old new x n = absurd (n refl)
+failed_breaks pipe pipe_fault.Busy old new x n = refl
+failed_breaks pipe pipe_fault.NoAnswer old new x n = refl
+failed_breaks pipe pipe_fault.Broken old new x n = absurd x
+failed_breaks pipe (pipe_fault.Bus fault) old new x n = refl
+failed_breaks pipe pipe_fault.Memory old new x n = refl
 
-failed_leaves : (pipe : Bulk) (why : PipeFault) → (why ≢ pipe_fault.Stalled → after_failed_clear pipe.condition why ≡ Broken) → {old new : World} (j : ℕ) (p : List ℕ) (s v : State)
+failed_leaves : (pipe : Bulk) (why : PipeFault) → (why ≢ pipe_fault.Stalled → known {A = Unit {0}} (Err why) (cleared pipe (Err why)) ≡ record pipe { condition = Broken }) → {old new : World} (j : ℕ) (p : List ℕ) (s v : State)
     → WriteLeaves pipe.target (clear_of pipe) (Err why) old new j p s v → ClearLeaves pipe (Err why) (cleared pipe (Err why)) j p s v
 failed_leaves pipe why breaks j p s v x = record {
   others = x.others;
   sink = λ at out f.
       let is = asks_out pipe s out f.endpoint in
       let k : Still s v = failed_still (clear_of pipe) BulkOut s is v (x.failed why refl) in
-      let broken : after_failed_clear pipe.condition why ≡ Broken = breaks (λ e. not_refused (clear_of pipe) BulkOut s is (x.refused at (ap Err e))) in
-      (record { endpoint = still_sink pipe.ep pipe.max s v k f.endpoint; level = λ r. cc (sym broken ∙ r); halted = λ r. cc (sym broken ∙ r) }, k.sink, failed_out (clear_of pipe) s is v (x.failed why refl));
+      let broken = breaks (λ e. not_refused (clear_of pipe) BulkOut s is (x.refused at (ap Err e))) in (
+        subst (λ l. FitsSink l v) (sym broken) (record { endpoint = still_sink pipe.ep pipe.max s v k f.endpoint; level = λ r. cc r; halted = λ r. cc r }),
+        k.sink,
+        failed_out (clear_of pipe) s is v (x.failed why refl),
+      );
   source = λ at way got f.
       let is = asks_in pipe s way f.endpoint in
       let k : Still s v = failed_still (clear_of pipe) BulkIn s is v (x.failed why refl) in
-      let broken : after_failed_clear pipe.condition why ≡ Broken = breaks (λ e. not_refused (clear_of pipe) BulkIn s is (x.refused at (ap Err e))) in
-      (record { endpoint = still_source pipe.ep pipe.max s v k f.endpoint; level = λ r. cc (sym broken ∙ r); halted = λ r. cc (sym broken ∙ r) }, k.place, failed_in (clear_of pipe) s is v (x.failed why refl));
+      let broken = breaks (λ e. not_refused (clear_of pipe) BulkIn s is (x.refused at (ap Err e))) in (
+        subst (λ l. FitsSource l got v) (sym broken) (record { endpoint = still_source pipe.ep pipe.max s v k f.endpoint; level = λ r. cc r; halted = λ r. cc r }),
+        k.place,
+        failed_in (clear_of pipe) s is v (x.failed why refl),
+      );
 }
 
 -- A call that makes no request
@@ -259,29 +274,29 @@ each_ready pipe left result old new ready i =
 
 -- A call that makes the request
 
-write_of : (pipe left : Bulk) (result : Result (Unit {0}) PipeFault) (old new : World) → Cleared pipe old result left new → IsNotOfBus result → new.shared ≡ false → EachWas (WriteLeaves pipe.target (clear_of pipe) result old new) old new
-write_of pipe left result old new x sound single =
+write_of : (pipe left : Bulk) (result : Result (Unit {0}) PipeFault) (old new : World) → Cleared pipe old result left new → new.shared ≡ false → EachWas (WriteLeaves pipe.target (clear_of pipe) result old new) old new
+write_of pipe left result old new x single =
     let index = halt_address pipe.ep pipe.is_in in
     spared_all pipe.target (clear_of pipe) (WriteLeaves pipe.target (clear_of pipe) result old new) old new (harmless index)
-    (write_leaves pipe.target (clear_of pipe) result old new (no_data index) (same_request index) x.settled x.stages sound single)
+    (write_leaves pipe.target (clear_of pipe) result old new (no_data index) (same_request index) x.settled x.stages single)
 
 each_sent : (pipe : Bulk) (result : Result (Unit {0}) PipeFault) (old new : World) → is_ready pipe.condition ≡ false → MatchResult result (λ done. Worked 2 old new) (λ why. Faults 1 old why new)
-    → IsNotOfBus result → EachWas (WriteLeaves pipe.target (clear_of pipe) result old new) old new → EachWas (ClearLeaves pipe result (cleared pipe result)) old new
-each_sent pipe (Ok done) old new unready ends sound x =
+    → EachWas (WriteLeaves pipe.target (clear_of pipe) result old new) old new → EachWas (ClearLeaves pipe result (cleared pipe result)) old new
+each_sent pipe (Ok done) old new unready ends x =
     each_wider (WriteLeaves pipe.target (clear_of pipe) (Ok done) old new) (ClearLeaves pipe (Ok done) (cleared pipe (Ok done))) (done_leaves pipe done unready) old new x
-each_sent pipe (Err why) old new unready ends sound x =
-    each_wider (WriteLeaves pipe.target (clear_of pipe) (Err why) old new) (ClearLeaves pipe (Err why) (cleared pipe (Err why))) (failed_leaves pipe why (failed_breaks pipe.condition why old new ends sound)) old new x
+each_sent pipe (Err why) old new unready ends x =
+    each_wider (WriteLeaves pipe.target (clear_of pipe) (Err why) old new) (ClearLeaves pipe (Err why) (cleared pipe (Err why))) (failed_leaves pipe why (failed_breaks pipe why old new ends)) old new x
 
 each_cleared : (pipe : Bulk) (result : Result (Unit {0}) PipeFault) (left : Bulk) (old new : World) → is_ready pipe.condition ≡ false
-    → Cleared pipe old result left new → IsNotOfBus result → new.shared ≡ false → EachWas (ClearLeaves pipe result left) old new
-each_cleared pipe result left old new unready x sound single =
-    subst (λ l. EachWas (ClearLeaves pipe result l) old new) (sym x.pipe_left) (each_sent pipe result old new unready x.ends sound (write_of pipe left result old new x sound single))
+    → Cleared pipe old result left new → new.shared ≡ false → EachWas (ClearLeaves pipe result left) old new
+each_cleared pipe result left old new unready x single =
+    subst (λ l. EachWas (ClearLeaves pipe result l) old new) (sym x.pipe_left) (each_sent pipe result old new unready x.ends (write_of pipe left result old new x single))
 
 pub clear_leaves : (pipe : Bulk) (result : Result (Unit {0}) PipeFault) (left : Bulk) (old new : World)
-    → Clears pipe old result left new → IsNotOfBus result → new.shared ≡ false → EachWas (ClearLeaves pipe result left) old new
-clear_leaves pipe result left old new x sound single = pick pipe.condition refl
+    → Clears pipe old result left new → new.shared ≡ false → EachWas (ClearLeaves pipe result left) old new
+clear_leaves pipe result left old new x single = pick pipe.condition refl
   where
     pick : (c : Condition) → pipe.condition ≡ c → EachWas (ClearLeaves pipe result left) old new
     pick Ready e = each_ready pipe left result old new e (x.ready e)
-    pick Halted e = each_cleared pipe result left old new (ap is_ready e) (x.sent (λ h. cc (sym e ∙ h))) sound single
-    pick Broken e = each_cleared pipe result left old new (ap is_ready e) (x.sent (λ h. cc (sym e ∙ h))) sound single
+    pick Halted e = each_cleared pipe result left old new (ap is_ready e) (x.sent (λ h. cc (sym e ∙ h))) single
+    pick Broken e = each_cleared pipe result left old new (ap is_ready e) (x.sent (λ h. cc (sym e ∙ h))) single

@@ -16,7 +16,8 @@ use Rattle.usb_transaction.specs.Heard.{toggle_after}
 use Rattle.usb_transaction.specs.Over.{ChangesIn}
 use Rattle.usb_transaction.specs.Trail.{Waiting, PollEnded, Polled}
 use Rattle.usb_transaction.specs.Trans.{in_attempt}
-use Rattle.usb_transaction.proofs.OverPoll.{poll_waits, poll_comes, poll_fails}
+use Rattle.usb_transaction.proofs.Calls.{what_poll}
+use Rattle.usb_transaction.proofs.OverPoll.{poll_waits, poll_comes}
 use Rattle.usb_pipe.specs.declared.fault.PipeFault.{PipeFault}
 use Rattle.usb_pipe.specs.Control.{fault_of}
 use Rattle.usb_pipe.specs.Interrupt.{Interrupt, NoPoll, Asked, Polls}
@@ -58,19 +59,19 @@ failed toggle pipe old new why trans.NoAnswer e n one x = subst (λ k. PollEnded
 failed toggle pipe old new why (trans.Bus fault) e n one x = absurd (subst (λ y. IsNotOfBus {A = Option (ArrayVec ℕ)} (Err y)) e n)
 
 pub asked_tells : (pipe : Interrupt) (result : Result (Option (ArrayVec ℕ)) PipeFault) (left : Interrupt) (old new : World) → pipe.ep ≡ 1 → 1 ≤ pipe.target.max → IsSettled old.roots
-    → Asked pipe old result new → left ≡ record pipe { toggle = toggle_after pipe.toggle result } → IsNotOfBus result → new.shared ≡ false → EachWas (PollLeaves pipe old result left) old new
-asked_tells pipe (Ok None) left old new one least settled asked turned sound single =
+    → Asked pipe old result new → left ≡ record pipe { toggle = toggle_after pipe.toggle result } → new.shared ≡ false → EachWas (PollLeaves pipe old result left) old new
+asked_tells pipe (Ok None) left old new one least settled asked turned single =
     each_wider (ChangesIn pipe.target pipe.toggle old (Ok None)) (PollLeaves pipe old (Ok None) left) (nothing_told pipe left old (ap (λ l. l.toggle) turned)) old new
     (poll_waits pipe.target pipe.toggle old new least settled (subst (λ k. Waiting pipe.toggle (in_attempt pipe.target k) old new) one asked) single)
-asked_tells pipe (Ok (Some byte)) left old new one least settled asked turned sound single =
+asked_tells pipe (Ok (Some byte)) left old new one least settled asked turned single =
     each_wider (ChangesIn pipe.target pipe.toggle old (Ok (Some byte.items))) (PollLeaves pipe old (Ok (Some byte)) left)
     (byte_told pipe left old byte (ap (λ l. l.toggle) turned ∙ sym (flip_other pipe.toggle))) old new
     (poll_comes pipe.target pipe.toggle byte.items old new least settled (subst (λ k. PollEnded pipe.toggle (in_attempt pipe.target k) old (Ok byte.items) new) one asked) single)
-asked_tells pipe (Err why) left old new one least settled asked turned sound single =
+asked_tells pipe (Err why) left old new one least settled asked turned single =
     let n : NoPoll pipe old why new = asked in
     each_wider (ChangesIn pipe.target pipe.toggle old (Err n.fault)) (PollLeaves pipe old (Err why) left) (none_told pipe left old why n.fault) old new
-    (poll_fails pipe.target pipe.toggle n.fault old new least settled (failed pipe.toggle pipe old new why n.fault n.told sound one n.polled) single)
+    (what_poll pipe.target pipe.ep pipe.toggle new least settled (Err n.fault) n.polled one single)
 
 pub poll_tells : (pipe : Interrupt) (result : Result (Option (ArrayVec ℕ)) PipeFault) (left : Interrupt) (old new : World) → pipe.ep ≡ 1 → 1 ≤ pipe.target.max → IsSettled old.roots
-    → Polls pipe old result left new → IsNotOfBus result → new.shared ≡ false → EachWas (PollLeaves pipe old result left) old new
-poll_tells pipe result left old new one least settled x sound single = asked_tells pipe result left old new one least settled x.asked x.pipe_left sound single
+    → Polls pipe old result left new → new.shared ≡ false → EachWas (PollLeaves pipe old result left) old new
+poll_tells pipe result left old new one least settled x single = asked_tells pipe result left old new one least settled x.asked x.pipe_left single

@@ -28,20 +28,21 @@ use Rattle.usb_transaction.specs.declared.fault.TransFault.{TransFault}
 use Rattle.usb_transaction.specs.declared.fault.TransFault.TheVariants as trans
 use Rattle.usb_transaction.specs.Heard.{set_up_as}
 use Rattle.usb_transaction.specs.Over.{is_at, CanAnswer, CanAccept, data_stage, ReadStatus, AcceptedAt, AcceptedSince, SetupDone}
-use Rattle.usb_transaction.specs.Trail.{Ended}
+use Rattle.usb_transaction.specs.Trail.{Transacted}
 use Rattle.usb_transaction.specs.Trans.{setup_attempt}
+use Rattle.usb_transaction.proofs.Cuts.{transacted_unshared}
 use Rattle.usb_transaction.proofs.Overs.{other_twice}
-use Rattle.usb_transaction.proofs.ReadLeaves.{read_status_leaves}
+use Rattle.usb_transaction.proofs.ReadLeaves.{read_status_leaves, status_leaves}
 use Rattle.usb_transaction.proofs.Spared.{spared_all}
 use Rattle.usb_pipe.specs.declared.fault.PipeFault.{PipeFault}
 use Rattle.usb_pipe.specs.declared.fault.PipeFault.TheVariants.{Stalled, Memory}
 use Rattle.usb_pipe.specs.Control.{fault_of, is_last}
 use Rattle.usb_pipe.specs.Stages.{SetUp, Goes, start, packet, DataStage, DataLost, NoRoom, WasRead, NoSetUp, NoData, NotConfirmed, Reads}
 use Rattle.usb_pipe.specs.Toggles.{flips}
-use Rattle.usb_pipe.specs.Whole.{IsNotOfBus, CanEnd, AcceptedIn, IsBehind, AnswerRead, ReadLeaves}
+use Rattle.usb_pipe.specs.Whole.{CanEnd, AcceptedIn, IsBehind, AnswerRead, ReadLeaves}
 use Rattle.usb_pipe.proofs.Behind.{course_joined, in_behind, out_behind, goes_behind, stage_behind}
 use Rattle.usb_pipe.proofs.WholeSteady.{IsReading, reads}
-use Rattle.usb_pipe.proofs.WholeSteps.{ended, ended_settled, ended_unshared, request_leaves, AskedLeaves, asked_leaves, Accepted, accepted_at, accepted_in, only_twice, only_stage, at_from, flips_at, flips_none}
+use Rattle.usb_pipe.proofs.WholeSteps.{ended_stalled, ended_settled, ended_unshared, request_leaves, AskedLeaves, asked_leaves, Accepted, accepted_at, accepted_in, only_twice, only_stage, at_from, flips_at}
 
 -- What a request for data asks: bytes, or a refusal
 
@@ -102,7 +103,7 @@ host_harmless r h = ap (λ b. not (b && r.value == 4)) (other_type r.request_typ
 
 -- so it leaves each device where it is
 pub read_request_leaves : (t : Target) (request : Setup) (result : Result (List ℕ) TransFault) (old new : World) → IsToHost request → setup_of (bytes_of request) ≡ request → IsSettled old.roots
-    → Ended set_up_as (setup_attempt t (bytes_of request)) old result new → new.shared ≡ false → EachWas (SetupDone t (bytes_of request) result old new) old new
+    → Transacted set_up_as (setup_attempt t (bytes_of request)) old result new → new.shared ≡ false → EachWas (SetupDone t (bytes_of request) result old new) old new
 read_request_leaves t request result old new host same settled x single =
     spared_all t request (SetupDone t (bytes_of request) result old new) old new (host_harmless request host) (request_leaves t request result old new same settled x single)
 
@@ -225,7 +226,7 @@ along_lost : (t : Target) (wanted n : ℕ) (got : List ℕ) (fault : TransFault)
 along_lost t wanted n got fault j p s u v x y = record { others = other_twice t s u v x.others y.0.others; frame = only_twice s u v x.frame y.0.frame; registers = kept }
   where
     kept : is_at s t ≡ true → Begun wanted s.stage → v.registers ≡ s.registers
-    kept at (refuses h) = y.0.failed (flips_none n (x.refuses at h).0) fault refl ∙ ap (λ d. d.registers) (x.refuses at h).1
+    kept at (refuses h) = y.0.rests (ap (λ d. d.stage) (x.refuses at h).1 ∙ h) ∙ ap (λ d. d.registers) (x.refuses at h).1
     kept at (answered answer h) = let r : Answered wanted n got answer s u = x.answers at answer h in (y.1 (is_reading answer wanted n u r.at)).1 ∙ r.registers
 
 rests_confirmed : (t : Target) (wanted : ℕ) (result : Result (List ℕ) TransFault) (j : ℕ) (p : List ℕ) (s u v : State) → Rests t wanted j p s u → ReadStatus t result j p u v → Rests t wanted j p s v
@@ -435,7 +436,7 @@ module _ (t : Target) (request : Setup) (host : IsToHost request) (some : 1 ≤ 
       kept (inl e) = subst (λ d. OnlyStage s d) (sym e) refl
       kept (inr a) = (asked request s v host some same a.at).frame
 
-  failed_later : (why : PipeFault) (old mid new : World) → Course (IsBehind t) mid new → (j : ℕ) (p : List ℕ) (s u v : State) → SetupDone t (bytes_of request) (Ok []) old mid j p s u
+  failed_later : (why : PipeFault) (old mid new : World) → (Fails why Stalled → Course (IsBehind t) mid new) → (j : ℕ) (p : List ℕ) (s u v : State) → SetupDone t (bytes_of request) (Ok []) old mid j p s u
       → Failed t request.length why j p u v → ReadLeaves t request (Err why) old new j p s v
   failed_later why old mid new since j p s u v x y = record {
     others = other_twice t s u v x.others y.rests.others;
@@ -443,7 +444,7 @@ module _ (t : Target) (request : Setup) (host : IsToHost request) (some : 1 ≤ 
     done = λ at b e. cc e;
     refused = λ at e.
         let k : Asked t request old mid j p s u = begun_then s u j p x at in
-        record { row = k.row; moment = record { now = mid; accepts = k.moment; since = since }; is = sym k.stage ∙ y.refusal (still_at s u k at) k.begun e };
+        record { row = k.row; moment = record { now = mid; accepts = k.moment; since = since e }; is = sym k.stage ∙ y.refusal (still_at s u k at) k.begun e };
     could = λ at. let k : Asked t request old mid j p s u = begun_then s u j p x at in subst (λ d. CanFail d why) (ap (λ d. d.spec) k.frame) (y.could (still_at s u k at) k.begun);
   }
 
@@ -514,11 +515,11 @@ module _ (t : Target) where
       each_joined (Along t wanted d.packets d.got) (AskedLeaves t (flips d.packets One) (Ok d.last)) (Came t wanted d.packets d.got d.last) (along_came t wanted d.packets d.got d.last) old d.mid new
       (each_along settled d.before (ended_unshared d.came single)) (asked_leaves t (flips d.packets One) (Ok d.last) d.mid new (goes_settled d.before settled) d.came single)
 
-  each_lost : (wanted : ℕ) (why : PipeFault) (old new : World) → IsNotOfBus {A = Vec ℕ} (Err why) → IsSettled old.roots → DataLost t wanted old why new → new.shared ≡ false → EachWas (Failed t wanted why) old new
-  each_lost wanted why old new sound settled d single =
-      let lost = ended (Vec ℕ) why d.fault d.told sound d.lost in
+  each_lost : (wanted : ℕ) (why : PipeFault) (old new : World) → IsSettled old.roots → DataLost t wanted old why new → new.shared ≡ false → EachWas (Failed t wanted why) old new
+  each_lost wanted why old new settled d single =
+      let began : IsSettled d.mid.roots = goes_settled d.before settled in
       each_joined (Along t wanted d.packets d.got) (AskedLeaves t (flips d.packets One) (Err d.fault)) (Failed t wanted why) (along_failed t wanted d.packets d.got why d.fault d.told) old d.mid new
-      (each_along settled d.before (ended_unshared lost single)) (asked_leaves t (flips d.packets One) (Err d.fault) d.mid new (goes_settled d.before settled) lost single)
+      (each_along settled d.before (transacted_unshared _ _ _ _ (Err d.fault) d.lost began single)) (asked_leaves t (flips d.packets One) (Err d.fault) d.mid new began d.lost single)
 
   each_no_room : (wanted : ℕ) (why : PipeFault) (old new : World) → IsSettled old.roots → NoRoom t wanted old why new → new.shared ≡ false → EachWas (Failed t wanted why) old new
   each_no_room wanted why old new settled d single =
@@ -546,46 +547,46 @@ module _ (t : Target) where
         (each_then (Came t request.length d.packets d.got d.last) (ReadStatus t (Ok [])) x.first x.second new (each_came request.length bytes.items x.first x.second began d second)
         (read_status_leaves t (Ok []) x.second new (settled_stage d began) x.status single))
 
-    each_no_set_up : (why : PipeFault) → IsNotOfBus {A = Vec ℕ} (Err why) → NoSetUp t request old why new → EachWas (ReadLeaves t request (Err why) old new) old new
-    each_no_set_up why sound x =
+    each_no_set_up : (why : PipeFault) → NoSetUp t request old why new → EachWas (ReadLeaves t request (Err why) old new) old new
+    each_no_set_up why x =
         each_wider (SetupDone t (bytes_of request) (Err x.fault) old new) (ReadLeaves t request (Err why) old new) (failed_at_setup t request host some same x.fault why x.told old new) old new
-        (read_request_leaves t request (Err x.fault) old new host same settled (ended (Vec ℕ) why x.fault x.told sound x.set_up) single)
+        (read_request_leaves t request (Err x.fault) old new host same settled x.set_up single)
 
-    after_set_up : (why : PipeFault) (mid : World) → SetUp t request old (Ok []) mid → Course (IsBehind t) mid new → mid.shared ≡ false → EachWas (Failed t request.length why) mid new
+    after_set_up : (why : PipeFault) (mid : World) → SetUp t request old (Ok []) mid → (Fails why Stalled → Course (IsBehind t) mid new) → mid.shared ≡ false → EachWas (Failed t request.length why) mid new
         → EachWas (ReadLeaves t request (Err why) old new) old new
     after_set_up why mid x since clear fails =
         each_joined (SetupDone t (bytes_of request) (Ok []) old mid) (Failed t request.length why) (ReadLeaves t request (Err why) old new) (failed_later t request host some same why old mid new since) old mid new
         (read_request_leaves t request (Ok []) old mid host same settled x clear) fails
 
-    each_no_data : (why : PipeFault) → IsNotOfBus {A = Vec ℕ} (Err why) → NoData t request old why new → EachWas (ReadLeaves t request (Err why) old new) old new
-    each_no_data why sound x = by_cause x.data_stage
+    each_no_data : (why : PipeFault) → NoData t request old why new → EachWas (ReadLeaves t request (Err why) old new) old new
+    each_no_data why x = by_cause x.data_stage
       where
         by_cause : DataLost t request.length x.mid why new ⊎ NoRoom t request.length x.mid why new → EachWas (ReadLeaves t request (Err why) old new) old new
         by_cause (inl d) =
-            let lost = ended (Vec ℕ) why d.fault d.told sound d.lost in
-            after_set_up why x.mid x.set_up (course_joined (goes_behind d.before) (in_behind (flips d.packets One) lost)) (goes_unshared d.before (ended_unshared lost single))
-            (each_lost request.length why x.mid new sound (ended_settled x.set_up settled) d single)
+            let began : IsSettled x.mid.roots = ended_settled x.set_up settled in
+            after_set_up why x.mid x.set_up (λ e. course_joined (goes_behind d.before) (in_behind (flips d.packets One) (ended_stalled d.fault d.lost (lost_refusal why d.fault d.told e))))
+            (goes_unshared d.before (transacted_unshared _ _ _ _ (Err d.fault) d.lost (goes_settled d.before began) single))
+            (each_lost request.length why x.mid new began d single)
         by_cause (inr d) =
-            after_set_up why x.mid x.set_up (course_joined (goes_behind d.before) (in_behind (flips d.packets One) d.came)) (goes_unshared d.before (ended_unshared d.came single))
+            after_set_up why x.mid x.set_up (λ e. course_joined (goes_behind d.before) (in_behind (flips d.packets One) d.came)) (goes_unshared d.before (ended_unshared d.came single))
             (each_no_room request.length why x.mid new (ended_settled x.set_up settled) d single)
 
-    each_not_confirmed : (why : PipeFault) → IsNotOfBus {A = Vec ℕ} (Err why) → NotConfirmed t request old why new → EachWas (ReadLeaves t request (Err why) old new) old new
-    each_not_confirmed why sound x =
-        let status = ended (Vec ℕ) why x.fault x.told sound x.status in
-        let second : x.second.shared ≡ false = ended_unshared status single in
+    each_not_confirmed : (why : PipeFault) → NotConfirmed t request old why new → EachWas (ReadLeaves t request (Err why) old new) old new
+    each_not_confirmed why x =
         let began : IsSettled x.first.roots = ended_settled x.set_up settled in
         let d : DataStage t request.length x.first x.bytes x.second = x.data_stage in
-        after_set_up why x.first x.set_up (course_joined (stage_behind d) (out_behind status)) (unshared_stage d second)
+        let second : x.second.shared ≡ false = transacted_unshared _ _ _ _ (Err x.fault) x.status (settled_stage d began) single in
+        after_set_up why x.first x.set_up (λ e. course_joined (stage_behind d) (out_behind (ended_stalled x.fault x.status (lost_refusal why x.fault x.told e)))) (unshared_stage d second)
         (each_joined (Came t request.length d.packets d.got d.last) (ReadStatus t (Err x.fault)) (Failed t request.length why) (came_failed t request.length d.packets d.got d.last why x.fault x.told) x.first x.second new
         (each_came request.length x.bytes x.first x.second began d second)
-        (read_status_leaves t (Err x.fault) x.second new (settled_stage d began) status single))
+        (status_leaves t (Err x.fault) x.second new (settled_stage d began) x.status single))
 
-    each_of_read : (result : Result (Vec ℕ) PipeFault) → IsNotOfBus result → Reads t request old result new → EachWas (ReadLeaves t request result old new) old new
-    each_of_read (Ok bytes) sound x = each_read bytes x
-    each_of_read (Err why) sound (inl x) = each_no_set_up why sound x
-    each_of_read (Err why) sound (inr (inl x)) = each_no_data why sound x
-    each_of_read (Err why) sound (inr (inr x)) = each_not_confirmed why sound x
+    each_of_read : (result : Result (Vec ℕ) PipeFault) → Reads t request old result new → EachWas (ReadLeaves t request result old new) old new
+    each_of_read (Ok bytes) x = each_read bytes x
+    each_of_read (Err why) (inl x) = each_no_set_up why x
+    each_of_read (Err why) (inr (inl x)) = each_no_data why x
+    each_of_read (Err why) (inr (inr x)) = each_not_confirmed why x
 
 pub read_leaves : (t : Target) (request : Setup) (result : Result (Vec ℕ) PipeFault) (old new : World) → IsToHost request → 1 ≤ request.length → setup_of (bytes_of request) ≡ request
-    → IsSettled old.roots → Reads t request old result new → IsNotOfBus result → new.shared ≡ false → EachWas (ReadLeaves t request result old new) old new
-read_leaves t request result old new host some same settled x sound single = each_of_read t request host some same old new settled single result sound x
+    → IsSettled old.roots → Reads t request old result new → new.shared ≡ false → EachWas (ReadLeaves t request result old new) old new
+read_leaves t request result old new host some same settled x single = each_of_read t request host some same old new settled single result x

@@ -20,7 +20,9 @@ use Rattle.usb_transaction.specs.Over.{is_at, SourceIn}
 use Rattle.usb_transaction.specs.Trail.{Ended}
 use Rattle.usb_transaction.specs.Trans.{in_attempt}
 use Rattle.usb_transaction.proofs.Overs.{other_twice}
-use Rattle.usb_transaction.proofs.OverSource.{source_over}
+use Rattle.usb_transaction.specs.declared.fault.TransFault.TheVariants as trans
+use Rattle.usb_transaction.proofs.Cuts.{transacted_unshared}
+use Rattle.usb_transaction.proofs.OverSource.{source_over, source_leaves}
 use Rattle.usb_pipe.specs.declared.condition.Condition.{Condition}
 use Rattle.usb_pipe.specs.declared.condition.Condition.TheVariants.{Ready, Halted, Broken}
 use Rattle.usb_pipe.specs.declared.fault.PipeFault.{PipeFault}
@@ -30,9 +32,9 @@ use Rattle.usb_pipe.specs.Control.{fault_of}
 use Rattle.usb_pipe.specs.End.{packet_target}
 use Rattle.usb_pipe.specs.Moves.{Came, start, packet, AllCame, NotCame, NoRoomLeft}
 use Rattle.usb_pipe.specs.Toggles.{flips}
-use Rattle.usb_pipe.specs.Whole.{IsNotOfBus, FitsSource, ReceiveLeaves}
+use Rattle.usb_pipe.specs.Whole.{IsNotOfBus, known, FitsSource, ReceiveLeaves}
 use Rattle.usb_pipe.proofs.Moves.{packets_short}
-use Rattle.usb_pipe.proofs.WholeSteps.{ended, ended_settled, ended_unshared}
+use Rattle.usb_pipe.proofs.WholeSteps.{ended_settled, ended_unshared}
 use Rattle.usb_pipe.proofs.WholeSends.{turned_on, not_ready, halted_by}
 
 -- The next bytes of a list
@@ -189,29 +191,42 @@ all_then pipe left bytes n got last works least kept e turned j p s u v x y = re
     frame : IsSource pipe.ep pipe.max s → OnlySource s v
     frame i = source_twice s u v (x.frame i) (y.frame pipe.max (source_kept pipe.ep pipe.max s u (x.frame i) i))
 
+-- what is known of the pipe then: where the bus gave up, no more than its endpoint
+fits_by : (why : PipeFault) (left : Bulk) (got : ℕ) (v : State) → IsSource left.ep left.max v → (IsNotOfBus {A = Vec ℕ} (Err why) → FitsSource left got v) → FitsSource (known {A = Vec ℕ} (Err why) left) got v
+fits_by pipe_fault.Stalled left got v i f = f tt
+fits_by pipe_fault.Busy left got v i f = f tt
+fits_by pipe_fault.NoAnswer left got v i f = f tt
+fits_by pipe_fault.Broken left got v i f = f tt
+fits_by (pipe_fault.Bus fault) left got v i f = record { endpoint = i; level = λ r. cc r; halted = λ r. cc r }
+fits_by pipe_fault.Memory left got v i f = f tt
+
 -- where a call fails, no more is known of the endpoint than that it is the one it was, and that it is halted where it answered STALL
-none_then : (pipe left : Bulk) (why : PipeFault) → left ≡ record pipe { toggle = left.toggle; condition = after_fault pipe.condition why } → (after_fault pipe.condition why ≡ Ready → ⊥)
+none_then : (pipe left : Bulk) (why : PipeFault) → left ≡ record pipe { toggle = left.toggle; condition = after_fault pipe.condition why }
+    → (IsNotOfBus {A = Vec ℕ} (Err why) → after_fault pipe.condition why ≡ Ready → ⊥)
     → (j : ℕ) (p : List ℕ) (s v : State) → (is_at s pipe.target ≡ false → v ≡ s) → (IsSource pipe.ep pipe.max s → OnlySource s v)
-    → (is_at s pipe.target ≡ true → IsSource pipe.ep pipe.max s → after_fault pipe.condition why ≡ Halted → v.bulk_in.halted ≡ true) → ReceiveLeaves pipe (Err why) left j p s v
+    → (IsNotOfBus {A = Vec ℕ} (Err why) → is_at s pipe.target ≡ true → IsSource pipe.ep pipe.max s → after_fault pipe.condition why ≡ Halted → v.bulk_in.halted ≡ true)
+    → ReceiveLeaves pipe (Err why) left j p s v
 none_then pipe left why e unready j p s v others frame halted = record {
   others = others;
   frame = frame;
-  fits = λ h place f. subst (λ l. FitsSource l (place + 0) v) (sym e) (record {
-    endpoint = source_kept pipe.ep pipe.max s v (frame f.endpoint) f.endpoint;
-    level = λ r. absurd (unready r);
-    halted = λ r. halted h f.endpoint r;
-  });
+  fits = λ h place f.
+      let there : IsSource pipe.ep pipe.max v = source_kept pipe.ep pipe.max s v (frame f.endpoint) f.endpoint in
+      fits_by why left (place + 0) v (subst (λ l. IsSource l.ep l.max v) (sym e) there) (λ sound. subst (λ l. FitsSource l (place + 0) v) (sym e) (record {
+        endpoint = there;
+        level = λ r. absurd (unready sound r);
+        halted = λ r. halted sound h f.endpoint r;
+      }));
   done = λ h place f given r. cc r;
 }
 
-lost_then : (pipe left : Bulk) (why : PipeFault) (fault : TransFault) (n : ℕ) (got : List ℕ) → why ≡ fault_of fault → IsNotOfBus {A = Vec ℕ} (Err why)
+lost_then : (pipe left : Bulk) (why : PipeFault) (fault : TransFault) (n : ℕ) (got : List ℕ) → why ≡ fault_of fault
     → left ≡ record pipe { toggle = left.toggle; condition = after_fault pipe.condition why } → (j : ℕ) (p : List ℕ) (s u v : State)
     → CameLeaves (packet_target pipe.target pipe.max) pipe.ep pipe.toggle n got j p s u → SourceIn (packet_target pipe.target pipe.max) pipe.ep (flips n pipe.toggle) (Err fault) j p u v → ReceiveLeaves pipe (Err why) left j p s v
-lost_then pipe left why fault n got said sound e j p s u v x y =
-    none_then pipe left why e (not_ready (Vec ℕ) pipe.condition why fault said sound) j p s v
+lost_then pipe left why fault n got said e j p s u v x y =
+    none_then pipe left why e (λ sound. not_ready (Vec ℕ) pipe.condition why fault said sound) j p s v
     (other_twice pipe.target s u v x.others y.others)
     (λ i. source_twice s u v (x.frame i) (y.frame pipe.max (source_kept pipe.ep pipe.max s u (x.frame i) i)))
-    (λ h i r.
+    (λ sound h i r.
     let f : OnlySource s u = x.frame i in
     let z : _ = y.stalled (at_kept pipe.target s u f h) pipe.max (source_kept pipe.ep pipe.max s u f i) (ap {B = Result (List ℕ) TransFault} (λ k. Err k) (halted_by (Vec ℕ) pipe.condition why fault said sound r)) in
     ap (λ q. q.bulk_in.halted) z.1 ∙ z.0)
@@ -220,10 +235,10 @@ room_then : (pipe left : Bulk) (why : PipeFault) (last : List ℕ) (n : ℕ) (go
     → (j : ℕ) (p : List ℕ) (s u v : State) → CameLeaves (packet_target pipe.target pipe.max) pipe.ep pipe.toggle n got j p s u
     → SourceIn (packet_target pipe.target pipe.max) pipe.ep (flips n pipe.toggle) (Ok last) j p u v → ReceiveLeaves pipe (Err why) left j p s v
 room_then pipe left why last n got said e j p s u v x y =
-    none_then pipe left why e (λ r. cc (ap (λ k. after_fault pipe.condition k) (sym said) ∙ r)) j p s v
+    none_then pipe left why e (λ sound r. cc (ap (λ k. after_fault pipe.condition k) (sym said) ∙ r)) j p s v
     (other_twice pipe.target s u v x.others y.others)
     (λ i. source_twice s u v (x.frame i) (y.frame pipe.max (source_kept pipe.ep pipe.max s u (x.frame i) i)))
-    (λ h i r. cc (ap (λ k. after_fault pipe.condition k) (sym said) ∙ r))
+    (λ sound h i r. cc (ap (λ k. after_fault pipe.condition k) (sym said) ∙ r))
 
 -- Calls that make no attempt
 
@@ -259,14 +274,14 @@ each_empty pipe left (Err why) old new none kept world = elim none [ ]
 -- A call that receives
 
 each_lost : (wanted : ℕ) (pipe left : Bulk) (why : PipeFault) (old new : World) → 1 ≤ pipe.max → IsSettled old.roots → left ≡ record pipe { toggle = left.toggle; condition = after_fault pipe.condition why }
-    → NotCame (packet_target pipe.target pipe.max) pipe.ep pipe.toggle wanted old why new → IsNotOfBus {A = Vec ℕ} (Err why) → new.shared ≡ false → EachWas (ReceiveLeaves pipe (Err why) left) old new
-each_lost wanted pipe left why old new least settled e g sound single =
+    → NotCame (packet_target pipe.target pipe.max) pipe.ep pipe.toggle wanted old why new → new.shared ≡ false → EachWas (ReceiveLeaves pipe (Err why) left) old new
+each_lost wanted pipe left why old new least settled e g single =
     let t = packet_target pipe.target pipe.max in
-    let over : Ended (heard_as (flips g.packets pipe.toggle)) (in_attempt t pipe.ep) g.mid (Err g.fault) new = ended (Vec ℕ) why g.fault g.told sound g.lost in
+    let began : IsSettled g.mid.roots = came_settled g.before settled in
     each_joined (CameLeaves t pipe.ep pipe.toggle g.packets g.got) (SourceIn t pipe.ep (flips g.packets pipe.toggle) (Err g.fault)) (ReceiveLeaves pipe (Err why) left)
-    (lost_then pipe left why g.fault g.packets g.got g.told sound e) old g.mid new
-    (came_leaves t pipe.ep pipe.toggle least settled g.before (ended_unshared over single))
-    (source_over t pipe.ep (flips g.packets pipe.toggle) (Err g.fault) g.mid new (came_settled g.before settled) over single)
+    (lost_then pipe left why g.fault g.packets g.got g.told e) old g.mid new
+    (came_leaves t pipe.ep pipe.toggle least settled g.before (transacted_unshared _ _ _ _ (Err g.fault) g.lost began single))
+    (source_leaves t pipe.ep (flips g.packets pipe.toggle) (Err g.fault) g.mid new began g.lost single)
 
 each_dropped : (wanted : ℕ) (pipe left : Bulk) (why : PipeFault) (old new : World) → 1 ≤ pipe.max → IsSettled old.roots → left ≡ record pipe { toggle = left.toggle; condition = after_fault pipe.condition why }
     → NoRoomLeft (packet_target pipe.target pipe.max) pipe.ep pipe.toggle wanted old why new → new.shared ≡ false → EachWas (ReceiveLeaves pipe (Err why) left) old new
@@ -279,13 +294,13 @@ each_dropped wanted pipe left why old new least settled e g single =
 
 each_failed : (wanted : ℕ) (pipe left : Bulk) (why : PipeFault) (old new : World) → 1 ≤ pipe.max → IsSettled old.roots → left ≡ record pipe { toggle = left.toggle; condition = after_fault pipe.condition why }
     → NotCame (packet_target pipe.target pipe.max) pipe.ep pipe.toggle wanted old why new ⊎ NoRoomLeft (packet_target pipe.target pipe.max) pipe.ep pipe.toggle wanted old why new
-    → IsNotOfBus {A = Vec ℕ} (Err why) → new.shared ≡ false → EachWas (ReceiveLeaves pipe (Err why) left) old new
-each_failed wanted pipe left why old new least settled e (inl g) sound single = each_lost wanted pipe left why old new least settled e g sound single
-each_failed wanted pipe left why old new least settled e (inr g) sound single = each_dropped wanted pipe left why old new least settled e g single
+    → new.shared ≡ false → EachWas (ReceiveLeaves pipe (Err why) left) old new
+each_failed wanted pipe left why old new least settled e (inl g) single = each_lost wanted pipe left why old new least settled e g single
+each_failed wanted pipe left why old new least settled e (inr g) single = each_dropped wanted pipe left why old new least settled e g single
 
 each_received : (wanted : ℕ) (pipe : Bulk) (result : Result (Vec ℕ) PipeFault) (left : Bulk) (old new : World) → 1 ≤ pipe.max → pipe.condition ≢ Broken
-    → Received wanted pipe old result left new → IsNotOfBus result → new.shared ≡ false → EachWas (ReceiveLeaves pipe result left) old new
-each_received wanted pipe (Ok bytes) left old new least works x sound single =
+    → Received wanted pipe old result left new → new.shared ≡ false → EachWas (ReceiveLeaves pipe result left) old new
+each_received wanted pipe (Ok bytes) left old new least works x single =
     let t = packet_target pipe.target pipe.max in
     let g : AllCame t pipe.ep pipe.toggle wanted old bytes.items new = x.came in
     let turned : left.toggle ≡ flips (g.packets + 1) pipe.toggle = x.toggle ∙ ap (λ k. flips k pipe.toggle) (all_packets t pipe.ep pipe.toggle wanted old new bytes.items least g) in
@@ -293,21 +308,21 @@ each_received wanted pipe (Ok bytes) left old new least works x sound single =
     (all_then pipe left bytes g.packets g.got g.last works least g.kept x.pipe_left turned) old g.mid new
     (came_leaves t pipe.ep pipe.toggle least x.settled g.before (ended_unshared g.came single))
     (fetched t pipe.ep (flips g.packets pipe.toggle) g.last g.mid new (came_settled g.before x.settled) g.came single)
-each_received wanted pipe (Err why) left old new least works x sound single = each_failed wanted pipe left why old new least x.settled x.pipe_left x.came sound single
+each_received wanted pipe (Err why) left old new least works x single = each_failed wanted pipe left why old new least x.settled x.pipe_left x.came single
 
 -- any number of packets, by whether some are wanted
 each_working : (wanted : ℕ) (pipe : Bulk) (result : Result (Vec ℕ) PipeFault) (left : Bulk) (old new : World) → 1 ≤ pipe.max → pipe.condition ≢ Broken
-    → Receives wanted pipe old result left new → IsNotOfBus result → new.shared ≡ false → EachWas (ReceiveLeaves pipe result left) old new
-each_working zero pipe result left old new least works x sound single = let n : _ = x.nothing works refl in each_empty pipe left result old new n.0 n.1 n.2
-each_working (suc k) pipe result left old new least works x sound single = each_received (suc k) pipe result left old new least works (x.moved works (λ e. cc e)) sound single
+    → Receives wanted pipe old result left new → new.shared ≡ false → EachWas (ReceiveLeaves pipe result left) old new
+each_working zero pipe result left old new least works x single = let n : _ = x.nothing works refl in each_empty pipe left result old new n.0 n.1 n.2
+each_working (suc k) pipe result left old new least works x single = each_received (suc k) pipe result left old new least works (x.moved works (λ e. cc e)) single
 
 pub receive_leaves : (wanted : ℕ) (pipe : Bulk) (result : Result (Vec ℕ) PipeFault) (left : Bulk) (old new : World) → 1 ≤ pipe.max
-    → Receives wanted pipe old result left new → IsNotOfBus result → new.shared ≡ false → EachWas (ReceiveLeaves pipe result left) old new
-receive_leaves wanted pipe result left old new least x sound single = pick pipe.condition refl
+    → Receives wanted pipe old result left new → new.shared ≡ false → EachWas (ReceiveLeaves pipe result left) old new
+receive_leaves wanted pipe result left old new least x single = pick pipe.condition refl
   where
     pick : (c : Condition) → pipe.condition ≡ c → EachWas (ReceiveLeaves pipe result left) old new
-    pick Ready e = each_working wanted pipe result left old new least (λ h. cc (sym e ∙ h)) x sound single
-    pick Halted e = each_working wanted pipe result left old new least (λ h. cc (sym e ∙ h)) x sound single
+    pick Ready e = each_working wanted pipe result left old new least (λ h. cc (sym e ∙ h)) x single
+    pick Halted e = each_working wanted pipe result left old new least (λ h. cc (sym e ∙ h)) x single
     pick Broken e =
         let b : _ = x.broken e in
         subst (λ r. EachWas (ReceiveLeaves pipe r left) old new) (sym b.0) (each_idle pipe left (Err pipe_fault.Broken) old new b.1 b.2 (idle_broken pipe))

@@ -15,12 +15,11 @@ use Rattle.usb_world.proofs.Devices.{each_none, each_joined, each_wider}
 use Rattle.usb_transaction.specs.declared.target.Target.{Target}
 use Rattle.usb_transaction.specs.declared.fault.TransFault.{TransFault}
 use Rattle.usb_transaction.specs.declared.fault.TransFault.TheVariants as trans
-use Rattle.usb_transaction.specs.Heard.{sent_as, flip}
+use Rattle.usb_transaction.specs.Heard.{flip}
 use Rattle.usb_transaction.specs.Over.{is_at, SinkEnds, SinkOut}
-use Rattle.usb_transaction.specs.Trail.{Ended}
-use Rattle.usb_transaction.specs.Trans.{out_attempt}
 use Rattle.usb_transaction.proofs.Overs.{other_twice}
-use Rattle.usb_transaction.proofs.OverSink.{sink_over}
+use Rattle.usb_transaction.proofs.Cuts.{transacted_unshared}
+use Rattle.usb_transaction.proofs.OverSink.{sink_over, sink_leaves}
 use Rattle.usb_pipe.specs.declared.condition.Condition.{Condition}
 use Rattle.usb_pipe.specs.declared.condition.Condition.TheVariants.{Ready, Halted, Broken}
 use Rattle.usb_pipe.specs.declared.fault.PipeFault.{PipeFault}
@@ -30,9 +29,9 @@ use Rattle.usb_pipe.specs.Control.{fault_of}
 use Rattle.usb_pipe.specs.End.{packet_target}
 use Rattle.usb_pipe.specs.Moves.{Gave, start, packet, NotGone}
 use Rattle.usb_pipe.specs.Toggles.{flips}
-use Rattle.usb_pipe.specs.Whole.{IsNotOfBus, FitsSink, FrontTaken, SendLeaves}
+use Rattle.usb_pipe.specs.Whole.{IsNotOfBus, known, FitsSink, FrontTaken, SendLeaves}
 use Rattle.usb_pipe.proofs.Moves.{packets_one, packets_none}
-use Rattle.usb_pipe.proofs.WholeSteps.{ended, ended_settled, ended_unshared}
+use Rattle.usb_pipe.proofs.WholeSteps.{ended_settled, ended_unshared}
 
 -- Toggles
 
@@ -199,18 +198,29 @@ halted_by A c why trans.Busy e n r = cc (ap (λ x. after_fault c x) (sym e) ∙ 
 halted_by A c why trans.NoAnswer e n r = cc (ap (λ x. after_fault c x) (sym e) ∙ r)
 halted_by A c why (trans.Bus fault) e n r = absurd (subst (λ x. IsNotOfBus {A = A} (Err x)) e n)
 
-lost_then : (bytes sent rest : List ℕ) (pipe left : Bulk) (n : ℕ) (why : PipeFault) (fault : TransFault) → pipe.condition ≢ Broken → bytes ≡ sent ++ rest → why ≡ fault_of fault → IsNotOfBus {A = Unit {0}} (Err why)
+-- what is known of the pipe then: where the bus gave up, no more than its endpoint
+fits_by : (why : PipeFault) (left : Bulk) (v : State) → IsSink left.ep left.max v → (IsNotOfBus {A = Unit {0}} (Err why) → FitsSink left v) → FitsSink (known {A = Unit {0}} (Err why) left) v
+fits_by pipe_fault.Stalled left v i f = f tt
+fits_by pipe_fault.Busy left v i f = f tt
+fits_by pipe_fault.NoAnswer left v i f = f tt
+fits_by pipe_fault.Broken left v i f = f tt
+fits_by (pipe_fault.Bus fault) left v i f = record { endpoint = i; level = λ r. cc r; halted = λ r. cc r }
+fits_by pipe_fault.Memory left v i f = f tt
+
+lost_then : (bytes sent rest : List ℕ) (pipe left : Bulk) (n : ℕ) (why : PipeFault) (fault : TransFault) → pipe.condition ≢ Broken → bytes ≡ sent ++ rest → why ≡ fault_of fault
     → left ≡ record pipe { toggle = left.toggle; condition = after_fault pipe.condition why } → (j : ℕ) (p : List ℕ) (s u v : State)
     → GaveLeaves (packet_target pipe.target pipe.max) pipe.ep pipe.toggle n sent j p s u → SinkOut (packet_target pipe.target pipe.max) pipe.ep (flips n pipe.toggle) (take pipe.max rest) (Err fault) j p u v
     → SendLeaves bytes pipe (Err why) left j p s v
-lost_then bytes sent rest pipe left n why fault works split said sound e j p s u v x y = record {
+lost_then bytes sent rest pipe left n why fault works split said e j p s u v x y = record {
   others = other_twice pipe.target s u v x.others y.others;
   frame = frame;
-  fits = λ h f. subst (λ l. FitsSink l v) (sym e) (record {
-    endpoint = sink_kept pipe.ep pipe.max s v (frame f.endpoint) f.endpoint;
-    level = λ r. absurd (not_ready (Unit {0}) pipe.condition why fault said sound r);
-    halted = λ r. (lost_leaves bytes sent rest pipe n fault j p s u v works split x y h f).1 (halted_by (Unit {0}) pipe.condition why fault said sound r);
-  });
+  fits = λ h f.
+      let there : IsSink pipe.ep pipe.max v = sink_kept pipe.ep pipe.max s v (frame f.endpoint) f.endpoint in
+      fits_by why left v (subst (λ l. IsSink l.ep l.max v) (sym e) there) (λ sound. subst (λ l. FitsSink l v) (sym e) (record {
+        endpoint = there;
+        level = λ r. absurd (not_ready (Unit {0}) pipe.condition why fault said sound r);
+        halted = λ r. (lost_leaves bytes sent rest pipe n fault j p s u v works split x y h f).1 (halted_by (Unit {0}) pipe.condition why fault said sound r);
+      }));
   done = λ h f done r. cc r;
   failed = λ h f why r. (lost_leaves bytes sent rest pipe n fault j p s u v works split x y h f).0;
 }
@@ -248,32 +258,32 @@ each_idle bytes pipe left given result old new same i =
 -- A call that sends
 
 each_sent : (bytes : List ℕ) (pipe : Bulk) (result : Result (Unit {0}) PipeFault) (left : Bulk) (old new : World) → pipe.condition ≢ Broken → bytes ≢ []
-    → Sent (div_ceil (length bytes) pipe.max) bytes pipe old result left new → IsNotOfBus result → new.shared ≡ false → EachWas (SendLeaves bytes pipe result left) old new
-each_sent bytes pipe (Ok done) left old new works some x sound single =
+    → Sent (div_ceil (length bytes) pipe.max) bytes pipe old result left new → new.shared ≡ false → EachWas (SendLeaves bytes pipe result left) old new
+each_sent bytes pipe (Ok done) left old new works some x single =
     let t = packet_target pipe.target pipe.max in
     let turned : left.toggle ≡ flips x.went.packets pipe.toggle = x.toggle ∙ ap (λ k. flips k pipe.toggle) (gave_packets t pipe.ep pipe.toggle x.went.gone some) in
     each_wider (GaveLeaves t pipe.ep pipe.toggle x.went.packets bytes) (SendLeaves bytes pipe (Ok done) left) (all_leaves bytes pipe left done x.went.packets works some x.pipe_left turned) old new
     (gave_leaves t pipe.ep pipe.toggle x.settled x.went.gone single)
-each_sent bytes pipe (Err why) left old new works some x sound single =
+each_sent bytes pipe (Err why) left old new works some x single =
     let t = packet_target pipe.target pipe.max in
     let g : NotGone t pipe.ep pipe.toggle bytes old why new = x.went in
-    let over : Ended sent_as (out_attempt t pipe.ep (flips g.packets pipe.toggle) (take pipe.max g.rest)) g.mid (Err g.fault) new = ended (Unit {0}) why g.fault g.told sound g.lost in
+    let began : IsSettled g.mid.roots = gave_settled g.before x.settled in
     each_joined (GaveLeaves t pipe.ep pipe.toggle g.packets g.sent) (SinkOut t pipe.ep (flips g.packets pipe.toggle) (take pipe.max g.rest) (Err g.fault)) (SendLeaves bytes pipe (Err why) left)
-    (lost_then bytes g.sent g.rest pipe left g.packets why g.fault works g.split g.told sound x.pipe_left) old g.mid new
-    (gave_leaves t pipe.ep pipe.toggle x.settled g.before (ended_unshared over single))
-    (sink_over t pipe.ep (flips g.packets pipe.toggle) (take pipe.max g.rest) (Err g.fault) g.mid new (gave_settled g.before x.settled) over single)
+    (lost_then bytes g.sent g.rest pipe left g.packets why g.fault works g.split g.told x.pipe_left) old g.mid new
+    (gave_leaves t pipe.ep pipe.toggle x.settled g.before (transacted_unshared _ _ _ _ (Err g.fault) g.lost began single))
+    (sink_leaves t pipe.ep (flips g.packets pipe.toggle) (take pipe.max g.rest) (Err g.fault) g.mid new began g.lost single)
 
 -- any bytes, by whether there are some
 each_working : (bytes : List ℕ) (pipe : Bulk) (result : Result (Unit {0}) PipeFault) (left : Bulk) (old new : World) → pipe.condition ≢ Broken
-    → Sends bytes pipe old result left new → IsNotOfBus result → new.shared ≡ false → EachWas (SendLeaves bytes pipe result left) old new
-each_working [] pipe result left old new works x sound single = each_idle [] pipe left (Ok tt) result old new (idle_nothing pipe) (x.nothing works refl)
-each_working (b ∷ bytes) pipe result left old new works x sound single = each_sent (b ∷ bytes) pipe result left old new works (λ e. cc e) (x.moved works (λ e. cc e)) sound single
+    → Sends bytes pipe old result left new → new.shared ≡ false → EachWas (SendLeaves bytes pipe result left) old new
+each_working [] pipe result left old new works x single = each_idle [] pipe left (Ok tt) result old new (idle_nothing pipe) (x.nothing works refl)
+each_working (b ∷ bytes) pipe result left old new works x single = each_sent (b ∷ bytes) pipe result left old new works (λ e. cc e) (x.moved works (λ e. cc e)) single
 
 pub send_leaves : (bytes : List ℕ) (pipe : Bulk) (result : Result (Unit {0}) PipeFault) (left : Bulk) (old new : World)
-    → Sends bytes pipe old result left new → IsNotOfBus result → new.shared ≡ false → EachWas (SendLeaves bytes pipe result left) old new
-send_leaves bytes pipe result left old new x sound single = pick pipe.condition refl
+    → Sends bytes pipe old result left new → new.shared ≡ false → EachWas (SendLeaves bytes pipe result left) old new
+send_leaves bytes pipe result left old new x single = pick pipe.condition refl
   where
     pick : (c : Condition) → pipe.condition ≡ c → EachWas (SendLeaves bytes pipe result left) old new
-    pick Ready e = each_working bytes pipe result left old new (λ h. cc (sym e ∙ h)) x sound single
-    pick Halted e = each_working bytes pipe result left old new (λ h. cc (sym e ∙ h)) x sound single
+    pick Ready e = each_working bytes pipe result left old new (λ h. cc (sym e ∙ h)) x single
+    pick Halted e = each_working bytes pipe result left old new (λ h. cc (sym e ∙ h)) x single
     pick Broken e = each_idle bytes pipe left (Err pipe_fault.Broken) result old new (idle_broken bytes pipe) (x.broken e)

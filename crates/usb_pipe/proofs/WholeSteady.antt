@@ -1,6 +1,6 @@
 -- A device in the data stage of a control read keeps its registers, whatever the INs of its endpoint 0 bring.
 use Rattle.std.proofs.Common.{◌≡◌, ℕ, ◌+◌, nat_le, ◌&&◌, if◌then◌else◌, Bool, true, false, List, length, Option, None, Some, is_some, refl, sym, subst, ◌∙◌}
-use Rattle.std.specs.Prelude.{Result}
+use Rattle.std.specs.Prelude.{Result, Ok, Err}
 use Rattle.usb_packet.specs.declared.Toggle.{Toggle}
 use Rattle.usb_port.specs.PortState.{PortState}
 use Rattle.usb_device.specs.declared.answer.Answer.TheVariants.{Nak}
@@ -18,8 +18,10 @@ use Rattle.usb_world.proofs.Devices.{each_wider, each_in}
 use Rattle.usb_transaction.specs.declared.target.Target.{Target}
 use Rattle.usb_transaction.specs.declared.fault.TransFault.{TransFault}
 use Rattle.usb_transaction.specs.Heard.{heard_as}
-use Rattle.usb_transaction.specs.Trail.{IsNoEnd, Ended}
+use Rattle.usb_transaction.specs.Trail.{IsNoEnd, Ended, Transacted}
 use Rattle.usb_transaction.specs.Trans.{in_attempt}
+use Rattle.usb_transaction.specs.declared.fault.TransFault.TheVariants.{Stalled, Busy, NoAnswer, Bus}
+use Rattle.usb_transaction.proofs.Cuts.{each_cut}
 use Rattle.usb_transaction.proofs.Overs.{StepsSo, LastIs, each_ended}
 
 -- One attempt with one device
@@ -83,7 +85,16 @@ module _ (t : Target) where
   each_attempt P old outcomes w trail made single o =
       each_wider (DidIn (in_attempt t 0) w) Steady (steady_did t w) w (after (attempt (in_attempt t 0)) w) (each_in (in_attempt t 0) w made (record { kind = refl; payload = refl }) single)
 
-  pub each_steady : (awaited : Toggle) (result : Result (List ℕ) TransFault) (old new : World) → IsSettled old.roots → Ended (heard_as awaited) (in_attempt t 0) old result new → new.shared ≡ false → EachWas Steady old new
-  each_steady awaited result old new settled x single =
+  ended_steady : (awaited : Toggle) (result : Result (List ℕ) TransFault) (old new : World) → IsSettled old.roots → Ended (heard_as awaited) (in_attempt t 0) old result new → new.shared ≡ false → EachWas Steady old new
+  ended_steady awaited result old new settled x single =
       each_ended Steady Steady Steady (λ j p s h. (h, refl)) steady_twice steady_twice
       (each_attempt (λ o. IsNoEnd (heard_as awaited o)) old) (each_attempt (LastIs (heard_as awaited) result) old) settled x single
+
+  pub each_steady : (awaited : Toggle) (result : Result (List ℕ) TransFault) (old new : World) → IsSettled old.roots → Transacted (heard_as awaited) (in_attempt t 0) old result new → new.shared ≡ false → EachWas Steady old new
+  each_steady awaited (Ok bytes) old new settled x single = ended_steady awaited (Ok bytes) old new settled x single
+  each_steady awaited (Err Stalled) old new settled x single = ended_steady awaited (Err Stalled) old new settled x single
+  each_steady awaited (Err Busy) old new settled x single = ended_steady awaited (Err Busy) old new settled x single
+  each_steady awaited (Err NoAnswer) old new settled x single = ended_steady awaited (Err NoAnswer) old new settled x single
+  each_steady awaited (Err (Bus fault)) old new settled x single =
+      each_cut Steady Steady Steady (λ j p s h. (h, refl)) steady_twice (λ j p s v h. h) steady_twice
+      (each_attempt (λ o. IsNoEnd (heard_as awaited o)) old) (each_attempt (λ o. Unit {0}) old) settled x single

@@ -1,6 +1,6 @@
 -- The transactions of a control transfer, and what each leaves of each device.
 use Rattle.std.proofs.Common.{◌≡◌, ℕ, zero, suc, ◌%◌, ◌==◌, if◌then◌else◌, not, Bool, true, false, List, length, refl, ap, subst, ◌∙◌, arith}
-use Rattle.std.specs.Prelude.{Result, Err}
+use Rattle.std.specs.Prelude.{Result, Ok, Err}
 use Rattle.std.proofs.lemmas.Bool.Decides.{nat_tests}
 use Rattle.usb_packet.specs.declared.Toggle.{Toggle}
 use Rattle.usb_packet.specs.declared.Toggle.TheVariants.{Zero, One}
@@ -25,8 +25,8 @@ use Rattle.usb_transaction.specs.Trail.{Ended, Transacted}
 use Rattle.usb_transaction.specs.Trans.{setup_attempt, in_attempt}
 use Rattle.usb_transaction.specs.Why.{NoThreeDamaged, WhySetup}
 use Rattle.usb_transaction.proofs.Trails.{trail_settled, trail_unshared}
-use Rattle.usb_transaction.proofs.ControlLeaves.{control_in_leaves}
-use Rattle.usb_transaction.proofs.OverSetup.{set_up_leaves}
+use Rattle.usb_transaction.proofs.ControlLeaves.{control_leaves}
+use Rattle.usb_transaction.proofs.OverSetup.{setup_leaves}
 use Rattle.usb_transaction.proofs.Overs.{each_both}
 use Rattle.usb_transaction.proofs.Spared.{spared_both}
 use Rattle.usb_transaction.proofs.WhySetup.{set_up_why}
@@ -45,11 +45,25 @@ ended A why trans.Busy e n t = t
 ended A why trans.NoAnswer e n t = t
 ended A why (trans.Bus fault) e n t = absurd (subst (λ x. IsNotOfBus {A = A} (Err x)) e n)
 
+-- one that was refused ended
+pub ended_stalled : {hear : _} {a : Attempt} {old new : World} (fault : TransFault) → Transacted hear a old (Err fault) new → ◌≡◌ {A = Result (List ℕ) TransFault} (Err fault) (Err trans.Stalled) → Ended hear a old (Err fault) new
+ended_stalled trans.Stalled x e = x
+ended_stalled trans.Busy x e = x
+ended_stalled trans.NoAnswer x e = x
+ended_stalled (trans.Bus fault) x e = cc e
+
 pub ended_settled : {hear : _} {a : Attempt} {old new : World} {result : Result (List ℕ) TransFault} → Ended hear a old result new → IsSettled old.roots → IsSettled new.roots
 ended_settled x h = trail_settled x.trail h
 
 pub ended_unshared : {hear : _} {a : Attempt} {old new : World} {result : Result (List ℕ) TransFault} → Ended hear a old result new → new.shared ≡ false → old.shared ≡ false
 ended_unshared x h = trail_unshared x.trail h
+
+pub transacted_of : {hear : _} {a : Attempt} {old new : World} (result : Result (List ℕ) TransFault) → Ended hear a old result new → Transacted hear a old result new
+transacted_of (Ok bytes) x = x
+transacted_of (Err trans.Stalled) x = x
+transacted_of (Err trans.Busy) x = x
+transacted_of (Err trans.NoAnswer) x = x
+transacted_of (Err (trans.Bus fault)) x = absurd x.tells
 
 -- Each transaction
 
@@ -58,9 +72,9 @@ unfolding bytes_of
 eight_bytes request = refl
 
 pub request_leaves : (t : Target) (request : Setup) (result : Result (List ℕ) TransFault) (old new : World) → setup_of (bytes_of request) ≡ request → IsSettled old.roots
-    → Ended set_up_as (setup_attempt t (bytes_of request)) old result new → new.shared ≡ false → EachSpared t request (SetupDone t (bytes_of request) result old new) old new
+    → Transacted set_up_as (setup_attempt t (bytes_of request)) old result new → new.shared ≡ false → EachSpared t request (SetupDone t (bytes_of request) result old new) old new
 request_leaves t request result old new e settled x single =
-    subst (λ r. EachSpared t r (SetupDone t (bytes_of request) result old new) old new) e (set_up_leaves t (bytes_of request) result old new (eight_bytes request) settled x single)
+    subst (λ r. EachSpared t r (SetupDone t (bytes_of request) result old new) old new) e (setup_leaves t (bytes_of request) result old new (eight_bytes request) settled x single)
 
 -- and why it fails
 abbrev pub SetUpWhy : Target → Setup → Result (List ℕ) TransFault → World → World → Relation
@@ -69,7 +83,7 @@ SetUpWhy t request result old new j p s v = SetupDone t (bytes_of request) resul
 pub request_why : (t : Target) (request : Setup) (result : Result (List ℕ) TransFault) (old new : World) → setup_of (bytes_of request) ≡ request → IsSettled old.roots → NoThreeDamaged old
     → Ended set_up_as (setup_attempt t (bytes_of request)) old result new → new.shared ≡ false → EachSpared t request (SetUpWhy t request result old new) old new
 request_why t request result old new e settled three x single =
-    spared_both t request (SetupDone t (bytes_of request) result old new) (WhySetup t result) old new (request_leaves t request result old new e settled x single)
+    spared_both t request (SetupDone t (bytes_of request) result old new) (WhySetup t result) old new (request_leaves t request result old new e settled (transacted_of result x) single)
     (subst (λ r. EachSpared t r (WhySetup t result) old new) e (set_up_why t (bytes_of request) result old new (eight_bytes request) settled three x single))
 
 -- an IN of endpoint 0
@@ -77,9 +91,9 @@ abbrev pub AskedLeaves : Target → Toggle → Result (List ℕ) TransFault → 
 AskedLeaves t awaited result j p s v = ControlIn t awaited result j p s v × Steady j p s v
 
 pub asked_leaves : (t : Target) (awaited : Toggle) (result : Result (List ℕ) TransFault) (old new : World) → IsSettled old.roots
-    → Ended (heard_as awaited) (in_attempt t 0) old result new → new.shared ≡ false → EachWas (AskedLeaves t awaited result) old new
+    → Transacted (heard_as awaited) (in_attempt t 0) old result new → new.shared ≡ false → EachWas (AskedLeaves t awaited result) old new
 asked_leaves t awaited result old new settled x single =
-    each_both (ControlIn t awaited result) Steady old new (control_in_leaves t awaited result old new settled x single) (each_steady t awaited result old new settled x single)
+    each_both (ControlIn t awaited result) Steady old new (control_leaves t awaited result old new settled x single) (each_steady t awaited result old new settled x single)
 
 -- One device
 

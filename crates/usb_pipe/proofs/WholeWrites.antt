@@ -25,7 +25,8 @@ use Rattle.usb_transaction.specs.Over.{is_at, CanAnswer, CanAccept, ControlIn, A
 use Rattle.usb_transaction.specs.Spared.{EachSpared}
 use Rattle.usb_transaction.specs.Trail.{Ended}
 use Rattle.usb_transaction.specs.Trans.{in_attempt}
-use Rattle.usb_transaction.proofs.ControlLeaves.{control_in_leaves}
+use Rattle.usb_transaction.proofs.ControlLeaves.{control_in_leaves, control_leaves}
+use Rattle.usb_transaction.proofs.Cuts.{transacted_unshared}
 use Rattle.usb_transaction.proofs.Overs.{Composes, each_both, other_twice}
 use Rattle.usb_transaction.proofs.OverSetup.{spec_stays}
 use Rattle.usb_transaction.proofs.Spared.{spared_wider, spared_joined}
@@ -33,9 +34,9 @@ use Rattle.usb_pipe.specs.declared.fault.PipeFault.{PipeFault}
 use Rattle.usb_pipe.specs.declared.fault.PipeFault.TheVariants as pipe_fault
 use Rattle.usb_pipe.specs.Control.{fault_of}
 use Rattle.usb_pipe.specs.Stages.{SetUp, Writes}
-use Rattle.usb_pipe.specs.Whole.{IsNotOfBus, CanEnd, IsBehind, WasRefused, EffectDone, EffectOrNone, none, some, WriteLeaves}
+use Rattle.usb_pipe.specs.Whole.{CanEnd, IsBehind, WasRefused, EffectDone, EffectOrNone, none, some, whole, WriteLeaves}
 use Rattle.usb_pipe.proofs.Behind.{in_behind}
-use Rattle.usb_pipe.proofs.WholeSteps.{ended, ended_settled, ended_unshared, request_leaves, Accepted, accepted_at, accepted_in}
+use Rattle.usb_pipe.proofs.WholeSteps.{ended_stalled, ended_settled, ended_unshared, request_leaves, Accepted, accepted_at, accepted_in}
 
 -- The stage that a request without data begins
 
@@ -86,6 +87,13 @@ stage_then request s u a = ap (λ d. d.stage) a.is
 
 abbrev Fails : PipeFault → PipeFault → Type 0
 Fails why fault = ◌≡◌ {A = Result (Unit {0}) PipeFault} (Err why) (Err fault)
+
+abbrev fault_in_err : Result (Unit {0}) PipeFault → PipeFault
+fault_in_err (Ok x) = pipe_fault.Memory
+fault_in_err (Err why) = why
+
+fault_in : {why fault : PipeFault} → Fails why fault → why ≡ fault
+fault_in e = ap fault_in_err e
 
 abbrev Fell : TransFault → TransFault → Type 0
 Fell why fault = ◌≡◌ {A = Result (List ℕ) TransFault} (Err why) (Err fault)
@@ -151,22 +159,22 @@ module _ (t : Target) (request : Setup) (nothing : request.length ≡ 0) (same :
     could = λ at. could_then (Ok given) j p s u v (taken s u (took old mid j p s u x at)) at y;
   }
 
-  unchanged : (old : World) (j : ℕ) (p : List ℕ) (s v : State) → v ≡ s → EffectOrNone t request old j p s v
-  unchanged old j p s v e = none (subst (λ d. OnlyControl s d) (sym e) refl) (ap (λ d. d.registers) e)
+  unchanged : (fault : PipeFault) (old : World) (j : ℕ) (p : List ℕ) (s v : State) → v ≡ s → EffectOrNone t request fault old j p s v
+  unchanged fault old j p s v e = none (subst (λ d. OnlyControl s d) (sym e) refl) (ap (λ d. d.registers) e)
 
   failed_at_setup : (fault : TransFault) (why : PipeFault) → why ≡ fault_of fault → (old new : World) (j : ℕ) (p : List ℕ) (s v : State) → SetupDone t (bytes_of request) (Err fault) old new j p s v
       → WriteLeaves t request (Err why) old new j p s v
   failed_at_setup fault why told old new j p s v x = record {
     others = x.others;
-    failed = λ f e. by_case x.kept;
+    failed = λ f e. by_case f x.kept;
     done = λ at d e. cc e;
     refused = λ at e. absurd (subst (λ r. CanAccept s.spec r) (stall_of why fault told e) (x.could at));
     could = λ at. subst (EndsSo s.spec) (sym told) (accepts_so s.spec fault (x.could at));
   }
     where
-      by_case : (v ≡ s) ⊎ AcceptedSince t (bytes_of request) old j p s v → EffectOrNone t request old j p s v
-      by_case (inl e) = unchanged old j p s v e
-      by_case (inr since) =
+      by_case : (f : PipeFault) → (v ≡ s) ⊎ AcceptedSince t (bytes_of request) old j p s v → EffectOrNone t request f old j p s v
+      by_case f (inl e) = unchanged f old j p s v e
+      by_case f (inr since) =
           let a : Accepted request s v = taken s v since.at in
           some (row_of since.at.below) since.now (accepted_in s v since.at) (subst (λ d. OnlyControl d v) a.is refl) (ap (λ d. d.registers) a.is)
 
@@ -179,22 +187,41 @@ module _ (t : Target) (request : Setup) (nothing : request.length ≡ 0) (same :
     is = sym (stage_then request s u (taken s u x)) ∙ y.stalled (still_at t request s u (taken s u x) at) refl;
   }
 
-  failed_at_status : (fault : TransFault) (why : PipeFault) → why ≡ fault_of fault → (old mid new : World) → Course (IsBehind t) mid new → (j : ℕ) (p : List ℕ) (s u v : State)
+  -- the registers are as the request left them; or the bus gave up behind a status stage that was given
+  kept_then : (fault : PipeFault) (old mid : World) (j : ℕ) (p : List ℕ) (s u v : State) → Took old mid j p s u → OnlyControl u v → v.registers ≡ u.registers → EffectOrNone t request fault old j p s v
+  kept_then fault old mid j p s u v x frame e =
+      let a : Accepted request s u = taken s u x in
+      some (row_of x.below) mid (accepted_in s u x) (subst (λ d. OnlyControl d v) a.is frame) (e ∙ ap (λ d. d.registers) a.is)
+
+  effect_then : (fault : TransFault) (old mid : World) (j : ℕ) (p : List ℕ) (s u v : State) → Took old mid j p s u → is_at u t ≡ true → ControlIn t One (Err fault) j p u v
+      → EffectOrNone t request (fault_of fault) old j p s v
+  effect_then trans.Stalled old mid j p s u v x at y = kept_then pipe_fault.Stalled old mid j p s u v x y.frame (y.failed refl trans.Stalled refl tt)
+  effect_then trans.Busy old mid j p s u v x at y = kept_then pipe_fault.Busy old mid j p s u v x y.frame (y.failed refl trans.Busy refl tt)
+  effect_then trans.NoAnswer old mid j p s u v x at y = kept_then pipe_fault.NoAnswer old mid j p s u v x y.frame (y.failed refl trans.NoAnswer refl tt)
+  effect_then (trans.Bus fault) old mid j p s u v x at y = by_stage (closes (row_of x.below) request.length (outcome s.spec s.registers request) nothing)
+    where
+      a : Accepted request s u
+      a = taken s u x
+
+      by_stage : Closing (first_stage (row_of x.below) request.length (outcome s.spec s.registers request)) → EffectOrNone t request (pipe_fault.Bus fault) old j p s v
+      by_stage (refuses h) = kept_then (pipe_fault.Bus fault) old mid j p s u v x y.frame (y.rests (stage_then request s u a ∙ h))
+      by_stage (ends address h) =
+          whole fault refl (row_of x.below) mid (accepted_in s u x) (subst (λ d. OnlyControl d v) a.is y.frame) address h
+          (subst (λ d. StatusGiven address d v) a.is (y.status at refl address (stage_then request s u a ∙ h)))
+
+  failed_at_status : (fault : TransFault) (why : PipeFault) → why ≡ fault_of fault → (old mid new : World) → (Fell fault trans.Stalled → Course (IsBehind t) mid new) → (j : ℕ) (p : List ℕ) (s u v : State)
       → SetupDone t (bytes_of request) (Ok []) old mid j p s u → ControlIn t One (Err fault) j p u v → WriteLeaves t request (Err why) old new j p s v
   failed_at_status fault why told old mid new since j p s u v x y = record {
     others = other_twice t s u v x.others y.others;
-    failed = λ f e. by_place (decided (is_at s t));
+    failed = λ f e. subst (λ w. EffectOrNone t request w old j p s v) (sym told ∙ fault_in e) (by_place (decided (is_at s t)));
     done = λ at d e. cc e;
-    refused = λ at e. was_refused old mid new since j p s u v (took old mid j p s u x at) at (subst (λ r. ControlIn t One r j p u v) (stall_of why fault told e) y);
+    refused = λ at e. was_refused old mid new (since (stall_of why fault told e)) j p s u v (took old mid j p s u x at) at (subst (λ r. ControlIn t One r j p u v) (stall_of why fault told e) y);
     could = λ at. subst (EndsSo s.spec) (sym told) (answers_so s.spec fault (could_then (Err fault) j p s u v (taken s u (took old mid j p s u x at)) at y));
   }
     where
-      by_place : (is_at s t ≡ true) ⊎ (is_at s t ≡ false) → EffectOrNone t request old j p s v
-      by_place (inl at) =
-          let x : Took old mid j p s u = took old mid j p s u x at in
-          let a : Accepted request s u = taken s u x in
-          some (row_of x.below) mid (accepted_in s u x) (subst (λ d. OnlyControl d v) a.is y.frame) (y.failed refl fault refl ∙ ap (λ d. d.registers) a.is)
-      by_place (inr off) = unchanged old j p s v (other_twice t s u v x.others y.others off)
+      by_place : (is_at s t ≡ true) ⊎ (is_at s t ≡ false) → EffectOrNone t request (fault_of fault) old j p s v
+      by_place (inl at) = let x : Took old mid j p s u = took old mid j p s u x at in effect_then fault old mid j p s u v x (still_at t request s u (taken s u x) at) y
+      by_place (inr off) = unchanged (fault_of fault) old j p s v (other_twice t s u v x.others y.others off)
 
 -- The status stage, behind setup data that were taken, with what else is so of it
 
@@ -209,18 +236,18 @@ over_status t request S T result old mid new f same settled x y single e =
 -- A whole write
 
 pub write_leaves : (t : Target) (request : Setup) (result : Result (Unit {0}) PipeFault) (old new : World) → request.length ≡ 0 → setup_of (bytes_of request) ≡ request
-    → IsSettled old.roots → Writes t request old result new → IsNotOfBus result → new.shared ≡ false → EachSpared t request (WriteLeaves t request result old new) old new
-write_leaves t request (Ok unit) old new nothing same settled x sound single =
+    → IsSettled old.roots → Writes t request old result new → new.shared ≡ false → EachSpared t request (WriteLeaves t request result old new) old new
+write_leaves t request (Ok unit) old new nothing same settled x single =
     spared_joined t request (SetupDone t (bytes_of request) (Ok []) old x.mid) (ControlIn t One (Ok x.given)) (WriteLeaves t request (Ok unit) old new) (λ j p s v y. y.others)
     (written_at t request nothing same x.given unit old x.mid new (in_behind One x.status)) old x.mid new
     (request_leaves t request (Ok []) old x.mid same settled x.set_up (ended_unshared x.status single))
     (control_in_leaves t One (Ok x.given) x.mid new (ended_settled x.set_up settled) x.status single)
-write_leaves t request (Err why) old new nothing same settled (inl x) sound single =
+write_leaves t request (Err why) old new nothing same settled (inl x) single =
     spared_wider t request (SetupDone t (bytes_of request) (Err x.fault) old new) (WriteLeaves t request (Err why) old new) (failed_at_setup t request nothing same x.fault why x.told old new) old new
-    (request_leaves t request (Err x.fault) old new same settled (ended (Unit {0}) why x.fault x.told sound x.set_up) single)
-write_leaves t request (Err why) old new nothing same settled (inr x) sound single =
-    let status = ended (Unit {0}) why x.fault x.told sound x.status in
+    (request_leaves t request (Err x.fault) old new same settled x.set_up single)
+write_leaves t request (Err why) old new nothing same settled (inr x) single =
+    let began : IsSettled x.mid.roots = ended_settled x.set_up settled in
     spared_joined t request (SetupDone t (bytes_of request) (Ok []) old x.mid) (ControlIn t One (Err x.fault)) (WriteLeaves t request (Err why) old new) (λ j p s v y. y.others)
-    (failed_at_status t request nothing same x.fault why x.told old x.mid new (in_behind One status)) old x.mid new
-    (request_leaves t request (Ok []) old x.mid same settled x.set_up (ended_unshared status single))
-    (control_in_leaves t One (Err x.fault) x.mid new (ended_settled x.set_up settled) status single)
+    (failed_at_status t request nothing same x.fault why x.told old x.mid new (λ e. in_behind One (ended_stalled x.fault x.status e))) old x.mid new
+    (request_leaves t request (Ok []) old x.mid same settled x.set_up (transacted_unshared _ _ _ _ (Err x.fault) x.status began single))
+    (control_leaves t One (Err x.fault) x.mid new began x.status single)

@@ -19,7 +19,7 @@ pub asked_why : (pipe : Interrupt) (result : Result (Option (ArrayVec ℕ)) Pipe
     → Asked pipe old result new → left ≡ record pipe { toggle = toggle_after pipe.toggle result } → IsNotOfBus result → new.shared ≡ false → EachWas (WhyPolling pipe result) old new
 asked_why pipe (Ok got) left old new one least settled three asked turned sound single =
     each_wider (PollLeaves pipe old (Ok got) left) (WhyPolling pipe (Ok got)) (λ j p s v y. record { answered = λ l h at quiet why e. cc e }) old new
-    (asked_tells pipe (Ok got) left old new one least settled asked turned sound single)
+    (asked_tells pipe (Ok got) left old new one least settled asked turned single)
 asked_why pipe (Err why) left old new one least settled three asked turned sound single =
     let n : NoPoll pipe old why new = asked in
     each_wider (WhyPoll pipe.target pipe.toggle (Err n.fault)) (WhyPolling pipe (Err why)) (λ j p s v y. record { answered = λ l h at quiet other e. y.answered l h at quiet n.fault refl }) old new

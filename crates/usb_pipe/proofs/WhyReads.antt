@@ -207,7 +207,7 @@ module _ (t : Target) (request : Setup) (least : 8 ≤ t.max) (host : IsToHost r
   each_never : (result : Result (Vec ℕ) PipeFault) → result ≢ Err pipe_fault.NoAnswer → result ≢ Err pipe_fault.Busy → IsNotOfBus result → Reads t request old result new → EachWas (WhyRead t request result) old new
   each_never result answers waits sound x =
       each_wider (ReadLeaves t request result old new) (WhyRead t request result) (λ j p s v y. never_failed t request host some same result answers waits j p s v) old new
-      (read_leaves t request result old new host some same settled x sound single)
+      (read_leaves t request result old new host some same settled x single)
 
   each_no_set_up : (why : PipeFault) → IsNotOfBus {A = Vec ℕ} (Err why) → NoSetUp t request old why new → EachWas (WhyRead t request (Err why)) old new
   each_no_set_up why sound x =

@@ -132,7 +132,7 @@ each_working : (wanted : ℕ) (pipe : Bulk) (result : Result (Vec ℕ) PipeFault
 each_working zero pipe result left old new least three works x sound single = let n : _ = x.nothing works refl in nothing_wanted 0 pipe result old new n.0 n.2
 each_working (suc k) pipe (Ok bytes) left old new least three works x sound single =
     let moved : Received (suc k) pipe old (Ok bytes) left new = x.moved works (λ e. cc e) in
-    each_never (suc k) pipe (Ok bytes) left old new (λ h. cc h) (λ h. cc h) (receive_leaves (suc k) pipe (Ok bytes) left old new least x sound single)
+    each_never (suc k) pipe (Ok bytes) left old new (λ h. cc h) (λ h. cc h) (receive_leaves (suc k) pipe (Ok bytes) left old new least x single)
 each_working (suc k) pipe (Err why) left old new least three works x sound single = pick moved.came
   where
     moved : Received (suc k) pipe old (Err why) left new
@@ -143,7 +143,7 @@ each_working (suc k) pipe (Err why) left old new least three works x sound singl
     pick (inl g) = each_lost (suc k) pipe why old new least moved.settled three works g sound single
     pick (inr g) =
         let memory : why ≡ pipe_fault.Memory = g.told in
-        each_never (suc k) pipe (Err why) left old new (λ h. cc) (λ h. cc) (receive_leaves (suc k) pipe (Err why) left old new least x sound single)
+        each_never (suc k) pipe (Err why) left old new (λ h. cc) (λ h. cc) (receive_leaves (suc k) pipe (Err why) left old new least x single)
 
 pub receive_why : (wanted : ℕ) (pipe : Bulk) (result : Result (Vec ℕ) PipeFault) (left : Bulk) (old new : World) → 1 ≤ pipe.max → NoThreeDamaged old
     → Receives wanted pipe old result left new → IsNotOfBus result → new.shared ≡ false → EachWas (WhyReceive wanted pipe result) old new

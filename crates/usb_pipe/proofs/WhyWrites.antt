@@ -88,6 +88,6 @@ module _ (t : Target) (request : Setup) (nothing : request.length ≡ 0) (same :
 pub write_why : (t : Target) (request : Setup) (result : Result (Unit {0}) PipeFault) (old new : World) → request.length ≡ 0 → setup_of (bytes_of request) ≡ request
     → IsSettled old.roots → NoThreeDamaged old → Writes t request old result new → IsNotOfBus result → new.shared ≡ false → EachSpared t request (WhyWrite t result) old new
 write_why t request (Ok done) old new nothing same settled three x sound single =
-    spared_wider t request (WriteLeaves t request (Ok done) old new) (WhyWrite t (Ok done)) (λ j p s v y. never_failed t done j p s v) old new (write_leaves t request (Ok done) old new nothing same settled x sound single)
+    spared_wider t request (WriteLeaves t request (Ok done) old new) (WhyWrite t (Ok done)) (λ j p s v y. never_failed t done j p s v) old new (write_leaves t request (Ok done) old new nothing same settled x single)
 write_why t request (Err why) old new nothing same settled three (inl x) sound single = each_no_set_up t request nothing same old new settled three single why sound x
 write_why t request (Err why) old new nothing same settled three (inr x) sound single = each_no_status t request nothing same old new settled three single why sound x

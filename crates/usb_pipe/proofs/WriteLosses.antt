@@ -26,7 +26,7 @@ use Rattle.usb_transaction.proofs.Spared.{spared_wider}
 use Rattle.usb_pipe.specs.declared.fault.PipeFault.{PipeFault}
 use Rattle.usb_pipe.specs.Stages.{Writes}
 use Rattle.usb_pipe.specs.Whole.{IsNotOfBus, TookOrLost, took, lost, LossesOf}
-use Rattle.usb_pipe.proofs.WholeSteps.{ended, ended_settled, request_leaves, Accepted, accepted_at}
+use Rattle.usb_pipe.proofs.WholeSteps.{ended, transacted_of, ended_settled, request_leaves, Accepted, accepted_at}
 use Rattle.usb_pipe.proofs.WholeWrites.{still_at, stage_then, over_status}
 
 -- The stage that a request begins: one that gives an address exactly where it asks for one
@@ -114,7 +114,7 @@ write_losses t request (Err why) old new same plain settled (inl x) sound single
     let set_up : Ended set_up_as (setup_attempt t (bytes_of request)) old (Err x.fault) new = ended (Unit {0}) why x.fault x.told sound x.set_up in
     spared_wider t request (SetupDone t (bytes_of request) (Err x.fault) old new) (LossesOf t request (Err why) old new)
     (λ j p s v y. not_set_up_at t request why old new (request_losses t request (Err x.fault) old new same plain settled set_up) j p s v) old new
-    (request_leaves t request (Err x.fault) old new same settled set_up single)
+    (request_leaves t request (Err x.fault) old new same settled (transacted_of (Err x.fault) set_up) single)
 write_losses t request (Err why) old new same plain settled (inr x) sound single =
     let status = ended (Unit {0}) why x.fault x.told sound x.status in
     over_status t request (LossesIn t (Err x.fault) x.mid new) (LossesOf t request (Err why) old new) (Err x.fault) old x.mid new

@@ -15,13 +15,14 @@ use Rattle.usb_device.specs.Rows.{State, accepted}
 use Rattle.usb_device.specs.Bulk.{tells_changes, rested}
 use Rattle.usb_device.specs.Tree.{row_of}
 use Rattle.usb_device.specs.Progress.{IsRead, StatusGiven, IsSink, SinkAt, IsSource, SourceAt, PollAt, NeverTold, OnlyControl, OnlyStage, OnlySink, OnlySource, OnlyChanges}
+use Rattle.usb_world.specs.declared.types.BusFault.{BusFault}
 use Rattle.usb_world.specs.Losses.{one_more}
 use Rattle.usb_world.specs.World.{World}
 use Rattle.usb_world.specs.Steps.{Step, attempt, root_call, event, report, Course}
 use Rattle.usb_transaction.specs.declared.target.Target.{Target}
 use Rattle.usb_transaction.specs.Over.{is_at, ToldIn, AcceptedAt}
 use Rattle.usb_transaction.specs.Trans.{in_attempt, out_attempt}
-use Rattle.usb_pipe.specs.declared.condition.Condition.TheVariants.{Ready, Halted}
+use Rattle.usb_pipe.specs.declared.condition.Condition.TheVariants.{Ready, Halted, Broken as BrokenPipe}
 use Rattle.usb_pipe.specs.Bulk.{Bulk, is_ready}
 use Rattle.usb_pipe.specs.Interrupt.{Interrupt}
 use Rattle.usb_pipe.specs.declared.fault.PipeFault.{PipeFault}
@@ -104,16 +105,19 @@ pub record EffectDone (t : Target) (request : Setup) (old new : World) (j : ℕ)
   pub given : StatusGiven address (accepted s row request) v
   pub rest : OnlyControl (accepted s row request) v
 
--- the device did what was asked, or did not hear of it
-pub data EffectOrNone (t : Target) (request : Setup) (old : World) (j : ℕ) (p : List ℕ) (s v : State) : Type 0 where
-  none : OnlyControl s v → v.registers ≡ s.registers → EffectOrNone t request old j p s v
+-- the device did what was asked, or did not hear of it; where the bus gave up, its status stage may have been given, too
+pub data EffectOrNone (t : Target) (request : Setup) (fault : PipeFault) (old : World) (j : ℕ) (p : List ℕ) (s v : State) : Type 0 where
+  none : OnlyControl s v → v.registers ≡ s.registers → EffectOrNone t request fault old j p s v
   some : (row : List PortState) (now : World) → AcceptedIn t request old now j p row s → OnlyControl (accepted s row request) v → v.registers ≡ (accepted s row request).registers
-      → EffectOrNone t request old j p s v
+      → EffectOrNone t request fault old j p s v
+  whole : (why : BusFault) → fault ≡ Bus why → (row : List PortState) (now : World) → AcceptedIn t request old now j p row s → OnlyControl (accepted s row request) v
+      → (address : Option ℕ) → first_stage row request.length (outcome s.spec s.registers request) ≡ ending address → StatusGiven address (accepted s row request) v
+      → EffectOrNone t request fault old j p s v
 
 -- a request without data
 pub record WriteLeaves (t : Target) (request : Setup) (result : Result (Unit {0}) PipeFault) (old new : World) (j : ℕ) (p : List ℕ) (s v : State) : Type 0 where
   pub others : is_at s t ≡ false → v ≡ s
-  pub failed : (fault : PipeFault) → result ≡ Err fault → EffectOrNone t request old j p s v
+  pub failed : (fault : PipeFault) → result ≡ Err fault → EffectOrNone t request fault old j p s v
   pub done : is_at s t ≡ true → (u : Unit {0}) → result ≡ Ok u → EffectDone t request old new j p s v
   pub refused : is_at s t ≡ true → result ≡ Err Stalled → WasRefused t request old new j p s
   pub could : is_at s t ≡ true → CanEnd s.spec result
@@ -144,6 +148,16 @@ pub record FitsSink (pipe : Bulk) (s : State) : Type 0 where
   pub level : pipe.condition ≡ Ready → s.bulk_out.toggle ≡ pipe.toggle
   pub halted : pipe.condition ≡ Halted → s.bulk_out.halted ≡ true
 
+-- what is known of a pipe: one at which the bus gave up is as good as broken
+abbrev pub known : {A : Type 0} → Result A PipeFault → Bulk → Bulk
+known (Ok x) pipe = pipe
+known (Err Stalled) pipe = pipe
+known (Err Busy) pipe = pipe
+known (Err NoAnswer) pipe = pipe
+known (Err Broken) pipe = pipe
+known (Err (Bus fault)) pipe = record pipe { condition = BrokenPipe }
+known (Err Memory) pipe = pipe
+
 -- a front of the bytes joined what the device took, once
 pub record FrontTaken (bytes : List ℕ) (s v : State) : Type 0 where
   pub front : List ℕ
@@ -160,7 +174,7 @@ pub record SendingLeaves (sent packet : List ℕ) (toggle : Toggle) (pipe : Bulk
 pub record SendLeaves (bytes : List ℕ) (pipe : Bulk) (result : Result (Unit {0}) PipeFault) (left : Bulk) (j : ℕ) (p : List ℕ) (s v : State) : Type 0 where
   pub others : is_at s pipe.target ≡ false → v ≡ s
   pub frame : IsSink pipe.ep pipe.max s → OnlySink s v
-  pub fits : is_at s pipe.target ≡ true → FitsSink pipe s → FitsSink left v
+  pub fits : is_at s pipe.target ≡ true → FitsSink pipe s → FitsSink (known result left) v
   pub done : is_at s pipe.target ≡ true → FitsSink pipe s → (u : Unit {0}) → result ≡ Ok u → v.sink ≡ s.sink ++ bytes
   pub failed : is_at s pipe.target ≡ true → FitsSink pipe s → (fault : PipeFault) → result ≡ Err fault → FrontTaken bytes s v
 
@@ -178,7 +192,7 @@ came_with (Err fault) = 0
 pub record ReceiveLeaves (pipe : Bulk) (result : Result (Vec ℕ) PipeFault) (left : Bulk) (j : ℕ) (p : List ℕ) (s v : State) : Type 0 where
   pub others : is_at s pipe.target ≡ false → v ≡ s
   pub frame : IsSource pipe.ep pipe.max s → OnlySource s v
-  pub fits : is_at s pipe.target ≡ true → (got : ℕ) → FitsSource pipe got s → FitsSource left (got + came_with result) v
+  pub fits : is_at s pipe.target ≡ true → (got : ℕ) → FitsSource pipe got s → FitsSource (known result left) (got + came_with result) v
   -- the bytes are the next ones of the source
   pub done : is_at s pipe.target ≡ true → (got : ℕ) → FitsSource pipe got s → (bytes : Vec ℕ) → result ≡ Ok bytes → bytes.items ≡ take (length bytes.items) (drop got s.spec.source)
 
@@ -195,9 +209,9 @@ BegunAgain pipe (Err fault) before after = (after ≡ before) ⊎ (after ≡ res
 -- a clear of a halt (9.4.5) moves no bytes, and both ends begin again together
 pub record ClearLeaves (pipe : Bulk) (result : Result (Unit {0}) PipeFault) (left : Bulk) (j : ℕ) (p : List ℕ) (s v : State) : Type 0 where
   pub others : is_at s pipe.target ≡ false → v ≡ s
-  pub sink : is_at s pipe.target ≡ true → pipe.is_in ≡ false → FitsSink pipe s → FitsSink left v × (v.sink ≡ s.sink) × BegunAgain pipe result s.bulk_out v.bulk_out
+  pub sink : is_at s pipe.target ≡ true → pipe.is_in ≡ false → FitsSink pipe s → FitsSink (known result left) v × (v.sink ≡ s.sink) × BegunAgain pipe result s.bulk_out v.bulk_out
   pub source : is_at s pipe.target ≡ true → pipe.is_in ≡ true → (got : ℕ) → FitsSource pipe got s
-      → FitsSource left (got_after pipe got result s) v × (v.place ≡ s.place) × BegunAgain pipe result s.bulk_in v.bulk_in
+      → FitsSource (known result left) (got_after pipe got result s) v × (v.place ≡ s.place) × BegunAgain pipe result s.bulk_in v.bulk_in
 
 -- A hub's status pipe (11.12.3)
 

@@ -81,13 +81,15 @@ impl BulkPipe {
     ///
     /// `Stalled`, `Busy` and `NoAnswer` where the transaction of a packet ended so: the packets
     /// before it were taken, and after `Busy` and `NoAnswer` perhaps it too. `Broken` where the
-    /// pipe is broken, also for no bytes. `Bus` where the bus makes no more steps. It never answers
-    /// `Memory`.
+    /// pipe is broken, also for no bytes. `Bus` where the bus makes no more steps: a front of the
+    /// bytes was taken, too. It never answers `Memory`.
     pub fn send<B: Bus>(&mut self, bus: &mut B, bytes: &[u8]) -> Result<(), PipeFault>
         requires writes { self.old.is_in ≡ false }
         ensures count { Spends (768 * div_ceil (length bytes.now) self.old.max) (B.world bus.old) (B.world bus.new) }
         ensures sends { Sends bytes.now self.old (B.world bus.old) result self.new (B.world bus.new) }
-        ensures what { IsNotOfBus result → (B.world bus.new).shared ≡ false → EachWas (SendLeaves bytes.now self.old result self.new) (B.world bus.old) (B.world bus.new) }
+        ensures what { (B.world bus.new).shared ≡ false
+            → EachWas (SendLeaves bytes.now self.old result self.new)
+            (B.world bus.old) (B.world bus.new) }
         ensures why { NoThreeDamaged (B.world bus.old) → IsNotOfBus result → (B.world bus.new).shared ≡ false → EachWas (WhySend self.old result) (B.world bus.old) (B.world bus.new) }
         ensures who { OnOk result (bytes.now ≢ [] → (B.world bus.new).shared ≡ false → Answerer self.old.target (B.world bus.old) (B.world bus.new)) }
     {
@@ -121,7 +123,8 @@ impl BulkPipe {
         requires reads { self.old.is_in ≡ true }
         ensures count { Spends (768 * packets) (B.world bus.old) (B.world bus.new) }
         ensures receives { Receives packets self.old (B.world bus.old) result self.new (B.world bus.new) }
-        ensures what { IsNotOfBus result → (B.world bus.new).shared ≡ false → EachWas (ReceiveLeaves self.old result self.new) (B.world bus.old) (B.world bus.new) }
+        ensures what { (B.world bus.new).shared ≡ false
+            → EachWas (ReceiveLeaves self.old result self.new) (B.world bus.old) (B.world bus.new) }
         ensures why { NoThreeDamaged (B.world bus.old) → IsNotOfBus result → (B.world bus.new).shared ≡ false → EachWas (WhyReceive packets self.old result) (B.world bus.old) (B.world bus.new) }
         ensures who { OnOk result (packets ≢ 0 → (B.world bus.new).shared ≡ false → Answerer self.old.target (B.world bus.old) (B.world bus.new)) }
     {
@@ -157,7 +160,8 @@ impl BulkPipe {
     pub fn clear_halt<B: Bus>(&mut self, bus: &mut B) -> Result<(), PipeFault>
         ensures count { Spends 1600 (B.world bus.old) (B.world bus.new) }
         ensures clears { Clears self.old (B.world bus.old) result self.new (B.world bus.new) }
-        ensures what { IsNotOfBus result → (B.world bus.new).shared ≡ false → EachWas (ClearLeaves self.old result self.new) (B.world bus.old) (B.world bus.new) }
+        ensures what { (B.world bus.new).shared ≡ false
+            → EachWas (ClearLeaves self.old result self.new) (B.world bus.old) (B.world bus.new) }
         ensures why { NoThreeDamaged (B.world bus.old) → IsNotOfBus result → (B.world bus.new).shared ≡ false → EachWas (WhyWrite self.old.target result) (B.world bus.old) (B.world bus.new) }
     {
         match self.condition {

@@ -48,7 +48,9 @@ pub fn control_in<B: Bus>(
     ensures ends { MatchResult result (λ _. Worked 3 (B.world bus.old) (B.world bus.new)) (λ fault. Faults 1 (B.world bus.old) fault (B.world bus.new)) }
     ensures stages { Reads target setup (B.world bus.old) result (B.world bus.new) }
     ensures settled { IsSettled (B.world bus.old).roots }
-    ensures what { IsNotOfBus result → (B.world bus.new).shared ≡ false → EachWas (ReadLeaves target setup result (B.world bus.old) (B.world bus.new)) (B.world bus.old) (B.world bus.new) }
+    ensures what { (B.world bus.new).shared ≡ false
+        → EachWas (ReadLeaves target setup result (B.world bus.old) (B.world bus.new))
+        (B.world bus.old) (B.world bus.new) }
     ensures why { NoThreeDamaged (B.world bus.old) → 8 ≤ target.max → IsNotOfBus result → (B.world bus.new).shared ≡ false → EachWas (WhyRead target setup result) (B.world bus.old) (B.world bus.new) }
     ensures who { OnOk result ((B.world bus.new).shared ≡ false → Answerer target (B.world bus.old) (B.world bus.new)) }
     ensures most { IfOk result (λ bytes. length bytes.items ≤ setup.length) }
@@ -80,7 +82,10 @@ pub fn control_none<B: Bus>(bus: &mut B, target: Target, setup: Setup) -> Result
     ensures ends { MatchResult result (λ _. Worked 2 (B.world bus.old) (B.world bus.new)) (λ fault. Faults 1 (B.world bus.old) fault (B.world bus.new)) }
     ensures stages { Writes target setup (B.world bus.old) result (B.world bus.new) }
     ensures settled { IsSettled (B.world bus.old).roots }
-    ensures what { IsNotOfBus result → (B.world bus.new).shared ≡ false → EachSpared target setup (WriteLeaves target setup result (B.world bus.old) (B.world bus.new)) (B.world bus.old) (B.world bus.new) }
+    ensures what { (B.world bus.new).shared ≡ false
+        → EachSpared target setup
+        (WriteLeaves target setup result (B.world bus.old) (B.world bus.new))
+        (B.world bus.old) (B.world bus.new) }
     ensures why { NoThreeDamaged (B.world bus.old) → IsNotOfBus result → (B.world bus.new).shared ≡ false → EachSpared target setup (WhyWrite target result) (B.world bus.old) (B.world bus.new) }
     ensures who { OnOk result ((is_harmless setup ≡ false → target.addr ≢ 0) → (B.world bus.new).shared ≡ false → Answerer target (B.world bus.old) (B.world bus.new)) }
     ensures losses { begins_no_stretch setup ≡ true → IsNotOfBus result → (B.world bus.new).shared ≡ false → EachSpared target setup (LossesOf target setup result (B.world bus.old) (B.world bus.new)) (B.world bus.old) (B.world bus.new) }

@@ -69,7 +69,9 @@ impl InterruptPipe {
         ensures count { Spends 768 (B.world bus.old) (B.world bus.new) }
         ensures polls { Polls self.old (B.world bus.old) result self.new (B.world bus.new) }
         ensures settled { IsSettled (B.world bus.old).roots }
-        ensures what { self.old.ep ≡ 1 → IsNotOfBus result → (B.world bus.new).shared ≡ false → EachWas (PollLeaves self.old (B.world bus.old) result self.new) (B.world bus.old) (B.world bus.new) }
+        ensures what { self.old.ep ≡ 1 → (B.world bus.new).shared ≡ false
+            → EachWas (PollLeaves self.old (B.world bus.old) result self.new)
+            (B.world bus.old) (B.world bus.new) }
         ensures why { self.old.ep ≡ 1 → NoThreeDamaged (B.world bus.old) → IsNotOfBus result → (B.world bus.new).shared ≡ false → EachWas (WhyPolling self.old result) (B.world bus.old) (B.world bus.new) }
         ensures who { OnOk result ((B.world bus.new).shared ≡ false → Answerer self.old.target (B.world bus.old) (B.world bus.new)) }
     {

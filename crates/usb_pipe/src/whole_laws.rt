@@ -1,8 +1,9 @@
 //! Laws of what a whole transfer leaves of each device, for those above.
 //!
-//! They hold where no address was ever held twice, which the last world tells, and where the bus did not give up. Each speaks of
-//! every device that is reachable in the end: it was so before the transfer. Each call does nothing; what it ensures is for proofs
-//! to cite.
+//! They hold where no address was ever held twice, which the last world tells; those of losses and
+//! of the attempts of a send, where the bus did not give up. Each speaks of every device that is
+//! reachable in the end: it was so before the transfer. Each call does nothing; what it ensures is
+//! for proofs to cite.
 ghost use Rattle.std.specs.Prelude.{◌≡◌, ◌≢◌, ◌≤◌, ℕ, List, [], Option, Result, Ok, false, true, take};
 ghost use Rattle.arrayvec.specs.ArrayVec.{ArrayVec};
 ghost use Rattle.std.specs.Global.{Vec as AVec};
@@ -30,7 +31,8 @@ ghost use Rattle.usb_pipe.specs.Whole.{IsNotOfBus, ReadLeaves, WriteLeaves, Loss
 /// answer is, nothing of any device changed but where its own transfer stands (8.5.3).
 pub fn what_a_read_leaves()
     ensures { (t : ATarget) (request : ARequest) (result : Result (AVec ℕ) AFault) (old new : World) → IsToHost request → 1 ≤ request.length → setup_of (bytes_of request) ≡ request
-        → IsSettled old.roots → Reads t request old result new → IsNotOfBus result → new.shared ≡ false → EachWas (ReadLeaves t request result old new) old new }
+        → IsSettled old.roots → Reads t request old result new
+        → new.shared ≡ false → EachWas (ReadLeaves t request result old new) old new }
 {}
 
 /// A request without data that is done had its effect in the device, as it was last accepted; SET_ADDRESS has it where the device saw
@@ -38,7 +40,8 @@ pub fn what_a_read_leaves()
 /// reached nothing is said.
 pub fn what_a_write_leaves()
     ensures { (t : ATarget) (request : ARequest) (result : Result (Unit {0}) AFault) (old new : World) → request.length ≡ 0 → setup_of (bytes_of request) ≡ request
-        → IsSettled old.roots → Writes t request old result new → IsNotOfBus result → new.shared ≡ false → EachSpared t request (WriteLeaves t request result old new) old new }
+        → IsSettled old.roots → Writes t request old result new
+        → new.shared ≡ false → EachSpared t request (WriteLeaves t request result old new) old new }
 {}
 
 /// A request without data counts an address loss exactly where it is done, asked for an address, and the device did not see the last ACK
@@ -74,7 +77,8 @@ pub fn who_answers_a_transfer()
 /// the endpoint still fit.
 pub fn what_a_send_leaves()
     ensures { (bytes : List ℕ) (pipe : ABulk) (result : Result (Unit {0}) AFault) (left : ABulk) (old new : World)
-        → Sends bytes pipe old result left new → IsNotOfBus result → new.shared ≡ false → EachWas (SendLeaves bytes pipe result left) old new }
+        → Sends bytes pipe old result left new
+        → new.shared ≡ false → EachWas (SendLeaves bytes pipe result left) old new }
 {}
 
 /// At each moment of a send the bytes before the packet that is on its way have joined what the device took, and that packet has or has not: the two
@@ -92,18 +96,21 @@ pub fn what_is_so_while_sending()
 /// still fit.
 pub fn what_a_receive_leaves()
     ensures { (wanted : ℕ) (pipe : ABulk) (result : Result (AVec ℕ) AFault) (left : ABulk) (old new : World) → 1 ≤ pipe.max
-        → Receives wanted pipe old result left new → IsNotOfBus result → new.shared ≡ false → EachWas (ReceiveLeaves pipe result left) old new }
+        → Receives wanted pipe old result left new
+        → new.shared ≡ false → EachWas (ReceiveLeaves pipe result left) old new }
 {}
 
 /// A clear of a halt moves no bytes (9.4.5). One that is done lets both ends begin again at DATA0, and a device that gives bytes goes on
 /// with the first that it has not seen acknowledged. The pipe and the endpoint still fit.
 pub fn what_a_clear_leaves()
     ensures { (pipe : ABulk) (result : Result (Unit {0}) AFault) (left : ABulk) (old new : World)
-        → Clears pipe old result left new → IsNotOfBus result → new.shared ≡ false → EachWas (ClearLeaves pipe result left) old new }
+        → Clears pipe old result left new
+        → new.shared ≡ false → EachWas (ClearLeaves pipe result left) old new }
 {}
 
 /// A byte of a poll is the bits of the hub's ports at a moment of it, and where there is none, no port told of a change then (11.12.3).
 pub fn what_a_poll_tells()
     ensures { (pipe : APipe) (result : Result (Option (ArrayVec ℕ)) AFault) (left : APipe) (old new : World) → pipe.ep ≡ 1 → 1 ≤ pipe.target.max → IsSettled old.roots
-        → Polls pipe old result left new → IsNotOfBus result → new.shared ≡ false → EachWas (PollLeaves pipe old result left) old new }
+        → Polls pipe old result left new
+        → new.shared ≡ false → EachWas (PollLeaves pipe old result left) old new }
 {}

@@ -1,5 +1,5 @@
 -- What the table's transfers do to the addresses that devices hold.
-use Rattle.std.proofs.Common.{◌≡◌, ◌≢◌, sym, subst, arith}
+use Rattle.std.proofs.Common.{◌≢◌, sym, subst, arith}
 use Rattle.std.specs.Prelude.{ℕ, ◌≤◌, List, Bool, true, false, ◌||◌, Option, Some, None, is_some, Result, Ok, Err}
 use Rattle.std.specs.Global.{Vec}
 use Rattle.arrayvec.specs.ArrayVec.{ArrayVec}

@@ -21,15 +21,17 @@ use Rattle.usb_world.specs.World.{World}
 use Rattle.usb_world.specs.Steps.{attempt, after, outcome_in}
 use Rattle.usb_world.specs.Devices.{EachWas, DidIn}
 use Rattle.usb_world.proofs.Devices.{each_wider, each_in}
+use Rattle.usb_world.specs.declared.types.BusFault.{BusFault}
 use Rattle.usb_transaction.specs.declared.target.Target.{Target}
 use Rattle.usb_transaction.specs.declared.heard.Heard.{Heard}
 use Rattle.usb_transaction.specs.declared.heard.Heard.TheVariants.{Moved, NotReady, Repeat, Refused, Lost}
 use Rattle.usb_transaction.specs.declared.fault.TransFault.{TransFault}
 use Rattle.usb_transaction.specs.declared.fault.TransFault.TheVariants.{Stalled, Busy, NoAnswer, Bus}
 use Rattle.usb_transaction.specs.Heard.{heard_as}
-use Rattle.usb_transaction.specs.Trail.{IsNoEnd, Ended}
+use Rattle.usb_transaction.specs.Trail.{IsNoEnd, Ended, CutOff}
 use Rattle.usb_transaction.specs.Trans.{packet_of, in_attempt}
-use Rattle.usb_transaction.specs.Over.{packet_in, is_at}
+use Rattle.usb_transaction.specs.Over.{packet_in, is_at, ReadCut, none_came, one_came}
+use Rattle.usb_transaction.proofs.Cuts.{each_cut}
 use Rattle.usb_transaction.proofs.Overs.{LastIs, each_ended, other_twice, mine}
 
 -- What the host hears, and what it takes
@@ -312,6 +314,7 @@ pub record OverControl (t : Target) (awaited : Toggle) (result : Result (List �
   pub frame : OnlyControl s v
   pub reading : is_at s t ≡ true → (answer : List ℕ) (wanted n : ℕ) → awaited ≡ toggle_at n → ReadingAt answer wanted n s → ReadOn answer wanted n s (packet_in result) v
   pub status : is_at s t ≡ true → awaited ≡ One → (a : Option ℕ) → s.stage ≡ ending a → StatusOn a s (packet_in result) v
+  pub rests : s.stage ≡ refused → v.registers ≡ s.registers
   pub refused : s.stage ≡ refused → (v.stage ≡ refused) × (is_at s t ≡ true → (bytes : List ℕ) → result ≡ Ok bytes → ⊥)
   pub failed : awaited ≡ One → (fault : TransFault) → result ≡ Err fault → v.registers ≡ s.registers
 
@@ -324,6 +327,7 @@ last_same t awaited result j p s none = record {
   reading = λ at answer wanted n e h. subst (λ x. ReadOn answer wanted n s x s) (sym (none at)) h;
   status = λ at e a h. none_given a s s (packet_in result) (none at) h refl;
   refused = λ h. (h, λ at bytes e. cc (ap packet_in (sym e) ∙ none at));
+  rests = λ h. refl;
   failed = λ e fault h. refl;
 }
 
@@ -337,6 +341,7 @@ last_asked t awaited result j p s row t1 t2 t3 at took =
       reading = λ a answer wanted n e h. reads_on awaited answer wanted n t.max s row t1 t2 t3 (packet_in result) e took h;
       status = λ x e a h. subst (λ y. StatusOn a s y (in_law s row 0 t.max t1 t2 t3).1) took (l.ends e a h);
       refused = λ h. ((l.refuses h).0, λ x bytes e. cc (ap packet_in (sym e) ∙ sym took ∙ (l.refuses h).2));
+      rests = λ h. (l.refuses h).1;
       failed = λ e fault h. l.fails e (took ∙ ap packet_in h);
     }
 
@@ -375,6 +380,7 @@ kept_then t awaited result j p s u v x y = record {
       reads_from answer wanted n s u v (packet_in result) (ap (λ z. z.spec) x.frame) (y.reading (at_from t s u r.1 at) answer wanted n e r.0);
   status = λ at e a h. status_from a s u v (packet_in result) (x.fails e) (y.status (at_from t s u (x.fails e) at) e a (x.ends e a h));
   refused = λ h. ((y.refused (x.refuses h).0).0, λ at. (y.refused (x.refuses h).0).1 (at_from t s u (x.refuses h).1 at));
+  rests = λ h. y.rests (x.refuses h).0 ∙ (x.refuses h).1;
   failed = λ e fault h. y.failed e fault h ∙ x.fails e;
 }
 
@@ -385,3 +391,69 @@ each_over_control t awaited result old new settled e single =
     (λ outcomes w trail made u c. each_wider (DidIn (in_attempt t 0) w) (Kept t awaited) (kept_did t awaited w c) w (after (attempt (in_attempt t 0)) w) (each_in (in_attempt t 0) w made (record { kind = refl; payload = refl }) u))
     (λ outcomes w trail made u c. each_wider (DidIn (in_attempt t 0) w) (OverControl t awaited result) (last_did t awaited result w c) w (after (attempt (in_attempt t 0)) w) (each_in (in_attempt t 0) w made (record { kind = refl; payload = refl }) u))
     settled e single
+
+-- The attempt that the bus gave up, whatever its outcome was
+
+pub record CutControl (t : Target) (awaited : Toggle) (j : ℕ) (p : List ℕ) (s v : State) : Type 0 where
+  pub others : is_at s t ≡ false → v ≡ s
+  pub frame : OnlyControl s v
+  pub reading : is_at s t ≡ true → (answer : List ℕ) (wanted n : ℕ) → awaited ≡ toggle_at n → ReadingAt answer wanted n s → ReadCut answer wanted n v
+  pub status : is_at s t ≡ true → awaited ≡ One → (a : Option ℕ) → s.stage ≡ ending a → StatusGiven a s v
+  pub rests : s.stage ≡ refused → v.registers ≡ s.registers
+  pub refused : s.stage ≡ refused → v.stage ≡ refused
+
+cut_read : (answer : List ℕ) (wanted n : ℕ) (s v : State) (o : Option (List ℕ)) → ReadOn answer wanted n s o v → ReadCut answer wanted n v
+cut_read answer wanted n s v None x = none_came x
+cut_read answer wanted n s v (Some bytes) x = one_came x.1
+
+cut_status : (a : Option ℕ) (s v : State) (o : Option (List ℕ)) → StatusOn a s o v → StatusGiven a s v
+cut_status a s v None x = unseen x.0 x.1
+cut_status a s v (Some bytes) x = x.1
+
+cut_same : (t : Target) (awaited : Toggle) (j : ℕ) (p : List ℕ) (s : State) → CutControl t awaited j p s s
+cut_same t awaited j p s = record {
+  others = λ h. refl;
+  frame = refl;
+  reading = λ at answer wanted n e h. none_came h;
+  status = λ at e a h. unseen h refl;
+  refused = λ h. h;
+  rests = λ h. refl;
+}
+
+cut_asked : (t : Target) (awaited : Toggle) (j : ℕ) (p : List ℕ) (s : State) (row : List PortState) (t1 t2 t3 : Way) → is_at s t ≡ true → CutControl t awaited j p s (in_law s row 0 t.max t1 t2 t3).1
+cut_asked t awaited j p s row t1 t2 t3 at =
+    let r : Reply = in_law s row 0 t.max t1 t2 t3 in
+    let l : Left awaited t.max s r = left_in awaited t.max s row t1 t2 t3 in
+    record {
+      others = λ h. mine t s at h;
+      frame = l.frame;
+      reading = λ x answer wanted n e h. cut_read answer wanted n s r.1 (taken_of awaited t.max r.0) (reads_on awaited answer wanted n t.max s row t1 t2 t3 (taken_of awaited t.max r.0) e refl h);
+      status = λ x e a h. cut_status a s r.1 (taken_of awaited t.max r.0) (l.ends e a h);
+      refused = λ h. (l.refuses h).0;
+      rests = λ h. (l.refuses h).1;
+    }
+
+cut_did : (t : Target) (awaited : Toggle) (w : World) (j : ℕ) (p : List ℕ) (s v : State) → DidIn (in_attempt t 0) w j p s v → CutControl t awaited j p s v
+cut_did t awaited w j p s v (DidIn.other d e) = subst (λ x. CutControl t awaited j p s x) (sym e) (cut_same t awaited j p s)
+cut_did t awaited w j p s v (DidIn.silent d q o e) = subst (λ x. CutControl t awaited j p s x) (sym e) (cut_same t awaited j p s)
+cut_did t awaited w j p s v (DidIn.asked d q b below h x o e) =
+    subst (λ y. CutControl t awaited j p s y) (sym e) (cut_asked t awaited j p s (row_of below) x.first x.second x.third d)
+
+kept_cut : (t : Target) (awaited : Toggle) (j : ℕ) (p : List ℕ) (s u v : State) → Kept t awaited j p s u → CutControl t awaited j p u v → CutControl t awaited j p s v
+kept_cut t awaited j p s u v x y = record {
+  others = other_twice t s u v x.others y.others;
+  frame = only_twice s u v x.frame y.frame;
+  reading = λ at answer wanted n e h. let r : _ = x.reads answer wanted n e h in y.reading (at_from t s u r.1 at) answer wanted n e r.0;
+  status = λ at e a h. given_from a s u v (x.fails e) (y.status (at_from t s u (x.fails e) at) e a (x.ends e a h));
+  refused = λ h. y.refused (x.refuses h).0;
+  rests = λ h. y.rests (x.refuses h).0 ∙ (x.refuses h).1;
+}
+
+pub each_cut_control : (t : Target) (awaited : Toggle) (fault : BusFault) (old new : World) → IsSettled old.roots
+    → CutOff (heard_as awaited) (in_attempt t 0) old fault new → new.shared ≡ false → EachWas (CutControl t awaited) old new
+each_cut_control t awaited fault old new settled c single =
+    each_cut (Kept t awaited) (CutControl t awaited) (CutControl t awaited) (kept_none t awaited) (kept_twice t awaited)
+    (λ j p s v x. kept_cut t awaited j p s v v x (cut_same t awaited j p v)) (kept_cut t awaited)
+    (λ outcomes w trail made u c. each_wider (DidIn (in_attempt t 0) w) (Kept t awaited) (kept_did t awaited w c) w (after (attempt (in_attempt t 0)) w) (each_in (in_attempt t 0) w made (record { kind = refl; payload = refl }) u))
+    (λ outcomes w trail made u c. each_wider (DidIn (in_attempt t 0) w) (CutControl t awaited) (cut_did t awaited w) w (after (attempt (in_attempt t 0)) w) (each_in (in_attempt t 0) w made (record { kind = refl; payload = refl }) u))
+    settled c single

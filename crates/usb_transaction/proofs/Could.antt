@@ -71,7 +71,7 @@ free_replies max s r calm spec naks = record { spec = spec; naks = naks; there =
 
 pub record Brings (t : Target) (o : Outcome) (s v : State) : Type 0 where
   spec : v.spec ≡ s.spec
-  naks : v.naks ≤ s.naks
+  pub naks : v.naks ≤ s.naks
   there : is_at s t ≡ true → (is_at v t ≡ true) ⊎ Free s.spec
   said : is_at s t ≡ true → Says s.spec o
 

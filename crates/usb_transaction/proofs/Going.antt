@@ -8,7 +8,7 @@ use Rattle.usb_world.specs.declared.types.Attempt.{Attempt}
 use Rattle.usb_world.specs.declared.types.BusFault.{BusFault}
 use Rattle.usb_world.specs.declared.types.Outcome.{Outcome}
 use Rattle.usb_world.specs.declared.types.Outcome.TheVariants.{Payload, Ack, Nak, Stall, Nothing}
-use Rattle.usb_world.specs.World.{World, Made, Attempted}
+use Rattle.usb_world.specs.World.{World, Made, Attempted, IsAttempt}
 use Rattle.usb_world.specs.Passes.{IsSettled}
 use Rattle.usb_world.specs.Steps.{attempt, after, outcome_in, AttemptFails}
 use Rattle.usb_transaction.specs.declared.heard.Heard.{Heard}
@@ -97,8 +97,8 @@ pub ended_moved : {hear : Outcome → Heard} {a : Attempt} {o : Outcome} (errors
     → Going hear a errors waits old mid → Once a mid o new → Moved bytes ≡ hear o → Ended hear a old (Ok bytes.items) new
 ended_moved errors waits bytes g one is = ended (Ok bytes.items) g one (sym is)
 
-pub cut_off : {hear : Outcome → Heard} {a b : Attempt} {fault : BusFault} (errors waits : ℕ) {old mid new : World} → b ≡ a → Going hear a errors waits old mid → Attempted b mid (Err fault) new → (mid.fault ≡ None → AttemptFails b mid (Err fault) new) → CutOff hear a old fault new
-cut_off {hear} {a} {b} {fault} errors waits {old} {mid} {new} is g made fails = record { outcomes = g.outcomes; mid = mid; trail = g.trail; onward = g.onward; refused = subst (λ x. Attempted x mid (Err fault) new) is made; fails = subst (λ x. mid.fault ≡ None → AttemptFails x mid (Err fault) new) is fails }
+pub cut_off : {hear : Outcome → Heard} {a b : Attempt} {fault : BusFault} (errors waits : ℕ) {old mid new : World} → b ≡ a → Going hear a errors waits old mid → IsAttempt b → Attempted b mid (Err fault) new → (mid.fault ≡ None → AttemptFails b mid (Err fault) new) → CutOff hear a old fault new
+cut_off {hear} {a} {b} {fault} errors waits {old} {mid} {new} is g fits made fails = record { fits = subst IsAttempt is fits; outcomes = g.outcomes; mid = mid; trail = g.trail; onward = g.onward; refused = subst (λ x. Attempted x mid (Err fault) new) is made; fails = subst (λ x. mid.fault ≡ None → AttemptFails x mid (Err fault) new) is fails }
 
 -- what an outcome is that is heard as STALL, or as the packet or its acknowledgement
 
@@ -332,8 +332,9 @@ pub poll_busy : {toggle : Toggle} {a : Attempt} {o : Outcome} (t u : Tries) {old
     → u ≡ record t { errors = 0; waits = t.waits + 1 } → u.waits ≡ 256 → PollEnded toggle a old (Err Busy) new
 poll_busy {toggle} {a} {o} t u s one heard is full = poll_ended (Err Busy) s.3 one (repeat_is_no_nak toggle o heard) (last_wait Repeat t.errors t.waits s.3.going heard (inr refl) (ap (λ x. x.waits) (sym is) ∙ full))
 
-pub poll_cut_off : {toggle : Toggle} {a b : Attempt} {fault : BusFault} (errors waits : ℕ) {old mid new : World} → b ≡ a → PollGoing toggle a errors waits old mid → Attempted b mid (Err fault) new → (mid.fault ≡ None → AttemptFails b mid (Err fault) new) → PollCutOff toggle a old fault new
-poll_cut_off {toggle} {a} {b} {fault} errors waits {old} {mid} {new} is g made fails = record {
+pub poll_cut_off : {toggle : Toggle} {a b : Attempt} {fault : BusFault} (errors waits : ℕ) {old mid new : World} → b ≡ a → PollGoing toggle a errors waits old mid → IsAttempt b → Attempted b mid (Err fault) new → (mid.fault ≡ None → AttemptFails b mid (Err fault) new) → PollCutOff toggle a old fault new
+poll_cut_off {toggle} {a} {b} {fault} errors waits {old} {mid} {new} is g fits made fails = record {
+  fits = subst IsAttempt is fits;
   outcomes = g.going.outcomes;
   mid = mid;
   trail = g.going.trail;

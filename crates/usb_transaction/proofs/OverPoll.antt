@@ -27,9 +27,11 @@ use Rattle.usb_transaction.specs.declared.target.Target.{Target}
 use Rattle.usb_transaction.specs.declared.fault.TransFault.{TransFault}
 use Rattle.usb_transaction.specs.declared.fault.TransFault.TheVariants.{Stalled, Busy, NoAnswer, Bus}
 use Rattle.usb_transaction.specs.Heard.{heard_as}
-use Rattle.usb_transaction.specs.Trail.{Trail, IsNoEnd, HasNoNak, Waiting, PollEnded}
+use Rattle.usb_transaction.specs.Trail.{Trail, IsNoEnd, HasNoNak, Waiting, PollEnded, PollCutOff}
 use Rattle.usb_transaction.specs.Trans.{packet_of, in_attempt}
-use Rattle.usb_transaction.specs.Over.{is_at, ToldIn, PollEnds, ChangesIn}
+use Rattle.usb_transaction.specs.Over.{is_at, ToldIn, PollCut, none_came, one_came, PollEnds, ChangesIn}
+use Rattle.usb_world.specs.declared.types.BusFault.{BusFault}
+use Rattle.usb_transaction.proofs.Cuts.{each_stopped}
 use Rattle.usb_transaction.proofs.Lasts.{read_last}
 use Rattle.usb_transaction.proofs.Meanings.{got_stall, got_payload}
 use Rattle.usb_transaction.proofs.Overs.{StepsSo, LastIs, last_is, none_ends_a_poll, each_then, other_twice}
@@ -120,6 +122,18 @@ module _ (Told : ℕ → Type 0) (bits : ℕ) (t : Toggle) (max : ℕ) (m : 1 �
           let byte : ToldByte Told t bytes.items v = on.0 h in
           elim (byte_ends t given bytes (nat_le (length bytes.items) max) h (byte_fits max byte.bits bytes.items m byte.came) e) [ ]
       pick (inr h) = on.1 h
+
+  -- whatever the outcome is
+  cut_on : (o : Option Answer) → PollOn Told bits t o v → PollCut Told t v
+  cut_on None on = none_came on
+  cut_on (Some answer.Ack) on = elim on [ ]
+  cut_on (Some answer.Nak) on = none_came (never_told Told t v on.1)
+  cut_on (Some answer.Stall) on = none_came on.0
+  cut_on (Some (answer.Data given bytes)) on = pick (decided (is_same t given))
+    where
+      pick : (is_same t given ≡ true) ⊎ (is_same t given ≡ false) → PollCut Told t v
+      pick (inl h) = one_came (on.0 h).between
+      pick (inr h) = none_came (on.1 h)
 
 -- the last outcome, by the answer
 abbrev PollLast : Toggle → Result (Option (List ℕ)) TransFault → Outcome → Type 0
@@ -224,6 +238,16 @@ module _ (t : Target) (toggle : Toggle) (old : World) where
       })
       w (after (attempt (in_attempt t 1)) w) (each_in (in_attempt t 1) w made (record { kind = refl; payload = refl }) u)
 
+  poll_cuts : 1 ≤ t.max → (fault : BusFault) → StepsSo (Last (Err (Bus fault))) (in_attempt t 1) old (λ o. Unit {0})
+  poll_cuts m fault outcomes w trail made u e =
+      each_wider (DidIn (in_attempt t 1) w) (Last (Err (Bus fault)))
+      (λ j p s v d. record {
+        others = did_others w j p s v d;
+        frame = did_frame w j p s v d;
+        poll = λ h k at. let g : Gave w j p v = did_give m w trail j p s v d h k at in cut_on (Told j p) g.bits toggle t.max m v g.gave_it g.on;
+      })
+      w (after (attempt (in_attempt t 1)) w) (each_in (in_attempt t 1) w made (record { kind = refl; payload = refl }) u)
+
   -- One after the other
 
   frame_joined : (s u v : State) → (tells_changes s.spec s.registers ≡ true → OnlyChanges s u) → (tells_changes u.spec u.registers ≡ true → OnlyChanges u v)
@@ -243,6 +267,9 @@ module _ (t : Target) (toggle : Toggle) (old : World) where
     frame = frame_joined s u v x.frame y.frame;
     poll = λ h k at. y.poll (still_at t s u (x.frame k) h) (still_tells s u (x.frame k) k) (x.poll h k (never_told (Told j p) toggle s at));
   }
+
+  stopped : (fault : BusFault) (j : ℕ) (p : List ℕ) (s v : State) → Poll j p s v → ChangesIn t toggle old (Err (Bus fault)) j p s v
+  stopped fault j p s v x = record { others = x.others; frame = x.frame; poll = λ h k at. none_came (x.poll h k (never_told (Told j p) toggle s at)) }
 
   unpolled : (j : ℕ) (p : List ℕ) (s : State) → Poll j p s s
   unpolled j p s = record { others = λ h. refl; frame = λ k. refl; poll = λ h k at. at }
@@ -278,3 +305,11 @@ poll_fails t toggle fault old new m settled e single =
     (GoesOnBy t toggle old) (PollLast toggle (Err fault)) (poll_steps t toggle old m) (poll_ends t toggle old m (Err fault)) settled e.trail
     (none_ends_a_poll (heard_as toggle) e.outcomes e.onward e.no_nak.1)
     (failed_last toggle fault e.last (last_is (heard_as toggle) (Err fault) e.last e.outcomes e.onward e.tells) e.no_nak.0) single
+
+-- and one that the bus cut off
+pub poll_cut : (t : Target) (toggle : Toggle) (fault : BusFault) (old new : World) → 1 ≤ t.max → IsSettled old.roots
+    → PollCutOff toggle (in_attempt t 1) old fault new → new.shared ≡ false → EachWas (ChangesIn t toggle old (Err (Bus fault))) old new
+poll_cut t toggle fault old new m settled c single =
+    each_stopped (Poll t toggle old) (Last t toggle old (Err (Bus fault))) (ChangesIn t toggle old (Err (Bus fault))) (unpolled t toggle old) (joined t toggle old) (stopped t toggle old fault)
+    (ended t toggle old (Err (Bus fault))) (GoesOnBy t toggle old) (poll_steps t toggle old m) (poll_cuts t toggle old m fault) settled c.trail
+    (none_ends_a_poll (heard_as toggle) c.outcomes c.onward c.no_nak) c.fits c.refused c.fails single

@@ -14,7 +14,9 @@ use Rattle.usb_device.specs.Request.{Outcome, stalled, answers, takes_address, t
 use Rattle.usb_device.specs.Rows.{State, Reply, with_endpoints, begun, accepted}
 use Rattle.usb_device.specs.Effect.{effect_of_request, asked_by_setup}
 use Rattle.usb_device.specs.Attempt.{Way, whole, broken, lost, is_whole, heard}
-use Rattle.usb_device.specs.Tree.{full, acted, row_of}
+use Rattle.usb_device.specs.Tree.{full, acted, row_of, reach_at, state_at}
+use Rattle.usb_world.specs.declared.types.Attempt.{Attempt}
+use Rattle.usb_world.specs.declared.types.BusFault.{BusFault}
 use Rattle.usb_world.specs.declared.types.Outcome as bus
 use Rattle.usb_world.specs.declared.types.Outcome.TheVariants as got_as
 use Rattle.usb_world.specs.Live.{address_of}
@@ -28,15 +30,16 @@ use Rattle.usb_transaction.specs.declared.target.Target.{Target}
 use Rattle.usb_transaction.specs.declared.fault.TransFault.{TransFault}
 use Rattle.usb_transaction.specs.declared.fault.TransFault.TheVariants.{Stalled, Busy, NoAnswer, Bus}
 use Rattle.usb_transaction.specs.Heard.{set_up_as}
-use Rattle.usb_transaction.specs.Trail.{Trail, Ended, Tells, waits_in}
+use Rattle.usb_transaction.specs.Trail.{Trail, Ended, CutOff, Transacted, Tells, waits_in}
 use Rattle.usb_transaction.specs.Trans.{packet_of, setup_attempt}
 use Rattle.usb_transaction.specs.Over.{is_at, CanAccept, AcceptedAt, AcceptedSince, SetupDone}
 use Rattle.usb_transaction.specs.Spared.{EachSpared}
 use Rattle.usb_transaction.proofs.Lasts.{set_up_last}
-use Rattle.usb_transaction.proofs.Meanings.{taken_up}
 use Rattle.usb_transaction.proofs.Overs.{LastIs, last_is, other_twice}
 use Rattle.usb_transaction.proofs.Accepting.{AcceptedNow, Accepts, accepting}
-use Rattle.usb_transaction.proofs.Spared.{spared_along_then}
+use Rattle.usb_transaction.proofs.Spared.{spared_along, spared_along_then, spared_wider, spared_joined, spared_chained}
+use Rattle.usb_transaction.proofs.Cuts.{Cut, unmade, made_whole, cut_or_same}
+use Rattle.usb_transaction.proofs.Trails.{trail_settled}
 
 -- A request asks the same once it was accepted
 
@@ -329,3 +332,43 @@ set_up_leaves t bytes result old new eight settled e single =
     (λ os w r made o j p s u v q d. joined t bytes old os w r j p s u v q d)
     (λ os w r made l j p s u v q d. ended t bytes old os w r j p s u v q d result (never_busy t bytes result old new e) l)
     (λ w j p s v d. did_others t bytes w j p s v d.0) (accepting t bytes eight) settled e.trail (last_is set_up_as result e.last e.outcomes e.onward e.tells) single
+
+-- one that the bus cut off
+
+spared_at : (t : Target) (request : Setup) (R : Relation) (old w v : World) → w.roots ≡ v.roots → EachSpared t request R old w → EachSpared t request R old v
+spared_at t request R old w v e x j p s on there = x j p s (ap (λ k. reach_at k j p) e ∙ on) (ap (λ k. state_at k j p) e ∙ there)
+
+stopped : (t : Target) (bytes : List ℕ) (fault : BusFault) (old new : World) (j : ℕ) (p : List ℕ) (s v : State) → SetUp t bytes old j p s v → SetupDone t bytes (Err (Bus fault)) old new j p s v
+stopped t bytes fault old new j p s v x = record { others = x.others; kept = x.kept; done = λ h got e. cc e; could = λ h. tt }
+
+set_up_cut : (t : Target) (bytes : List ℕ) (fault : BusFault) (old new : World) → length bytes ≡ 8 → IsSettled old.roots
+    → CutOff set_up_as (setup_attempt t bytes) old fault new → new.shared ≡ false → EachSpared t (setup_of bytes) (SetupDone t bytes (Err (Bus fault)) old new) old new
+set_up_cut t bytes fault old new eight settled c single =
+    spared_wider t (setup_of bytes) (SetUp t bytes old) (SetupDone t bytes (Err (Bus fault)) old new) (stopped t bytes fault old new) old new
+    (pick (cut_or_same a c.mid fault new c.fits (trail_settled c.trail settled) c.refused c.fails single))
+  where
+    a : Attempt
+    a = setup_attempt t bytes
+
+    before : c.mid.shared ≡ false → EachSpared t (setup_of bytes) (SetUp t bytes old) old c.mid
+    before h =
+        spared_along t (setup_of bytes) (λ os w. SetUp t bytes old) (Did t bytes) (λ j p s. record { others = λ h. refl; kept = inl refl })
+        (λ os w r made o j p s u v q d. joined t bytes old os w r j p s u v q d) (λ w j p s v d. did_others t bytes w j p s v d.0) (accepting t bytes eight) settled c.trail h
+
+    pick : Cut a c.mid new → EachSpared t (setup_of bytes) (SetUp t bytes old) old new
+    pick (unmade h each) =
+        spared_joined t (setup_of bytes) (SetUp t bytes old) (λ j p s v. v ≡ s) (SetUp t bytes old) (λ j p s v e d. e)
+        (λ j p s u v x e. subst (λ y. SetUp t bytes old j p s y) (sym e) x) old c.mid new (before h) each
+    pick (made_whole h m u r) =
+        spared_at t (setup_of bytes) (SetUp t bytes old) old (after (attempt a) c.mid) new r
+        (spared_chained t (setup_of bytes) (SetUp t bytes old) (Did t bytes c.mid) (SetUp t bytes old) (λ j p s v d. did_others t bytes c.mid j p s v d.0)
+        (λ j p s w v q d. joined t bytes old c.outcomes c.mid c.trail j p s w v q d) old c.mid (after (attempt a) c.mid) (before h) (accepting t bytes eight c.mid m u))
+
+-- whatever its answer is
+pub setup_leaves : (t : Target) (bytes : List ℕ) (result : Result (List ℕ) TransFault) (old new : World) → length bytes ≡ 8 → IsSettled old.roots
+    → Transacted set_up_as (setup_attempt t bytes) old result new → new.shared ≡ false → EachSpared t (setup_of bytes) (SetupDone t bytes result old new) old new
+setup_leaves t bytes (Ok got) old new eight settled x single = set_up_leaves t bytes (Ok got) old new eight settled x single
+setup_leaves t bytes (Err Stalled) old new eight settled x single = set_up_leaves t bytes (Err Stalled) old new eight settled x single
+setup_leaves t bytes (Err Busy) old new eight settled x single = set_up_leaves t bytes (Err Busy) old new eight settled x single
+setup_leaves t bytes (Err NoAnswer) old new eight settled x single = set_up_leaves t bytes (Err NoAnswer) old new eight settled x single
+setup_leaves t bytes (Err (Bus fault)) old new eight settled x single = set_up_cut t bytes fault old new eight settled x single

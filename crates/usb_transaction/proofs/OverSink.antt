@@ -18,7 +18,7 @@ use Rattle.usb_world.specs.Passes.{IsSettled}
 use Rattle.usb_world.specs.OneHolder.{IsMade, got}
 use Rattle.usb_world.specs.World.{World}
 use Rattle.usb_world.specs.Steps.{attempt, after, outcome_in}
-use Rattle.usb_world.specs.Devices.{Was, EachWas, DidOut}
+use Rattle.usb_world.specs.Devices.{Relation, Was, EachWas, DidOut}
 use Rattle.usb_world.proofs.Booleans.{no}
 use Rattle.usb_world.proofs.Between.{Rests, rests}
 use Rattle.usb_world.proofs.OneHolder.{remembers}
@@ -29,9 +29,11 @@ use Rattle.usb_transaction.specs.declared.heard.Heard.TheVariants.{Moved, NotRea
 use Rattle.usb_transaction.specs.declared.fault.TransFault.{TransFault}
 use Rattle.usb_transaction.specs.declared.fault.TransFault.TheVariants.{Stalled, Busy, NoAnswer, Bus}
 use Rattle.usb_transaction.specs.Heard.{sent_as}
-use Rattle.usb_transaction.specs.Trail.{IsNoEnd, Trail, GoesOn, Ended}
+use Rattle.usb_transaction.specs.Trail.{IsNoEnd, Trail, GoesOn, Ended, CutOff, Transacted}
 use Rattle.usb_transaction.specs.Trans.{packet_of, out_attempt}
 use Rattle.usb_transaction.specs.Over.{is_at, SinkEnds, SinkOut, SinkBetween}
+use Rattle.usb_world.specs.declared.types.BusFault.{BusFault}
+use Rattle.usb_transaction.proofs.Cuts.{each_cut}
 use Rattle.usb_transaction.proofs.Lasts.{sent_last}
 use Rattle.usb_transaction.proofs.Meanings.{got_ack}
 use Rattle.usb_transaction.proofs.Overs.{Composes, LastIs, each_ended, each_trail}
@@ -302,6 +304,48 @@ sink_over t ep toggle bytes result old new settled e single =
     each_step t ep toggle bytes (λ before x. SinkEnds before bytes toggle result x) (Oks result) w made one
     (λ before v. last_ends before bytes toggle result (outcome_in (out_attempt t ep toggle bytes) w) l v) (last_ack result (outcome_in (out_attempt t ep toggle bytes) w) l))
     settled e single
+
+-- The attempt that the bus gave up may have joined the packet, too
+
+any_end : (before bytes : List ℕ) (t : Toggle) (h : Heard) (v : State) → SinkHeard before bytes t h v → SinkAt before bytes t v
+any_end before bytes t (Moved b) v x = ahead x.sink x.toggle
+any_end before bytes t NotReady v x = x
+any_end before bytes t Repeat v x = x
+any_end before bytes t Refused v x = x.0
+any_end before bytes t Lost v x = x
+
+cut_step : (t : Target) (ep : ℕ) (toggle : Toggle) (bytes : List ℕ) (fault : BusFault) (j : ℕ) (p : List ℕ) (s v : State)
+    → SinkStep t ep toggle bytes (λ before x. SinkAt before bytes toggle x) ⊥ j p s v → SinkOut t ep toggle bytes (Err (Bus fault)) j p s v
+cut_step t ep toggle bytes fault j p s v x = record {
+  others = x.others;
+  frame = x.frame;
+  sink = λ h most before i fits at. x.sink h most before i at;
+  halted = λ h most i c. ((x.halted h most i c).0, λ done e. cc e);
+}
+
+sink_cut : (t : Target) (ep : ℕ) (toggle : Toggle) (bytes : List ℕ) (fault : BusFault) (old new : World) → IsSettled old.roots
+    → CutOff sent_as (out_attempt t ep toggle bytes) old fault new → new.shared ≡ false → EachWas (SinkOut t ep toggle bytes (Err (Bus fault))) old new
+sink_cut t ep toggle bytes fault old new settled c single =
+    let R : Relation = SinkStep t ep toggle bytes (λ before x. SinkAt before bytes toggle x) ⊥ in
+    each_cut R R (SinkOut t ep toggle bytes (Err (Bus fault)))
+    (λ j p s. unmoved t ep toggle bytes (λ before x. SinkAt before bytes toggle x) ⊥ j p s s (λ before at. at) (λ x. x) refl)
+    (steps_joined t ep toggle bytes (λ before x. SinkAt before bytes toggle x) ⊥ ⊥)
+    (cut_step t ep toggle bytes fault)
+    (λ j p s u v x y. cut_step t ep toggle bytes fault j p s v (steps_joined t ep toggle bytes (λ before z. SinkAt before bytes toggle z) ⊥ ⊥ j p s u v x y))
+    (λ outcomes w trail made one n.
+    each_step t ep toggle bytes (λ before x. SinkAt before bytes toggle x) ⊥ w made one (λ before v. goes_on before bytes toggle (sent_as (outcome_in (out_attempt t ep toggle bytes) w)) n v) (λ x. elim x [ ]))
+    (λ outcomes w trail made one n.
+    each_step t ep toggle bytes (λ before x. SinkAt before bytes toggle x) ⊥ w made one (λ before v. any_end before bytes toggle (sent_as (outcome_in (out_attempt t ep toggle bytes) w)) v) (λ x. elim x [ ]))
+    settled c single
+
+-- whatever its answer is
+pub sink_leaves : (t : Target) (ep : ℕ) (toggle : Toggle) (bytes : List ℕ) (result : Result (List ℕ) TransFault) (old new : World) → IsSettled old.roots
+    → Transacted sent_as (out_attempt t ep toggle bytes) old result new → new.shared ≡ false → EachWas (SinkOut t ep toggle bytes result) old new
+sink_leaves t ep toggle bytes (Ok done) old new settled x single = sink_over t ep toggle bytes (Ok done) old new settled x single
+sink_leaves t ep toggle bytes (Err Stalled) old new settled x single = sink_over t ep toggle bytes (Err Stalled) old new settled x single
+sink_leaves t ep toggle bytes (Err Busy) old new settled x single = sink_over t ep toggle bytes (Err Busy) old new settled x single
+sink_leaves t ep toggle bytes (Err NoAnswer) old new settled x single = sink_over t ep toggle bytes (Err NoAnswer) old new settled x single
+sink_leaves t ep toggle bytes (Err (Bus fault)) old new settled x single = sink_cut t ep toggle bytes fault old new settled x single
 
 -- Between two attempts
 

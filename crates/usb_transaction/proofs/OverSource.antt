@@ -13,6 +13,7 @@ use Rattle.usb_device.specs.Tree.{row_of}
 use Rattle.usb_device.specs.Progress.{taken_of, IsSource, SourceAt, SourceOn, OnlySource}
 use Rattle.usb_device.proofs.Attempts.{same_number}
 use Rattle.usb_device.proofs.BulkProgress.{source_on}
+use Rattle.usb_world.specs.declared.types.BusFault.{BusFault}
 use Rattle.usb_world.specs.declared.types.Outcome.{Outcome}
 use Rattle.usb_world.specs.declared.types.Outcome.TheVariants as outcome
 use Rattle.usb_world.specs.Passes.{IsSettled}
@@ -28,9 +29,10 @@ use Rattle.usb_transaction.specs.declared.heard.Heard.TheVariants.{Moved, NotRea
 use Rattle.usb_transaction.specs.declared.fault.TransFault.{TransFault}
 use Rattle.usb_transaction.specs.declared.fault.TransFault.TheVariants.{Stalled, Busy, NoAnswer, Bus}
 use Rattle.usb_transaction.specs.Heard.{heard_as}
-use Rattle.usb_transaction.specs.Trail.{IsNoEnd, Trail, GoesOn, Ended}
+use Rattle.usb_transaction.specs.Trail.{IsNoEnd, Trail, GoesOn, Ended, CutOff, Transacted}
 use Rattle.usb_transaction.specs.Trans.{in_attempt}
-use Rattle.usb_transaction.specs.Over.{packet_in, is_at, SourceIn, SourceBetween}
+use Rattle.usb_transaction.specs.Over.{packet_in, is_at, SourceCut, none_came, one_came, SourceEnds, SourceIn, SourceBetween}
+use Rattle.usb_transaction.proofs.Cuts.{each_cut}
 use Rattle.usb_transaction.proofs.Meanings.{got_stall}
 use Rattle.usb_transaction.proofs.Overs.{Composes, LastIs, each_ended, each_trail}
 
@@ -271,12 +273,19 @@ step_is t ep awaited came came' A B e f j p s v x = record {
   none = λ h most i c. sym e ∙ x.none h most i c;
 }
 
+ends_by : (most got : ℕ) (awaited : Toggle) (result : Result (List ℕ) TransFault) (s v : State) → SourceOn most got awaited s (packet_in result) v → SourceEnds most got awaited s result v
+ends_by most got awaited (Ok bytes) s v x = x
+ends_by most got awaited (Err Stalled) s v x = x
+ends_by most got awaited (Err Busy) s v x = x
+ends_by most got awaited (Err NoAnswer) s v x = x
+ends_by most got awaited (Err (Bus fault)) s v x = none_came x
+
 whole_step : (t : Target) (ep : ℕ) (awaited : Toggle) (result : Result (List ℕ) TransFault) (j : ℕ) (p : List ℕ) (s v : State)
     → SourceStep t ep awaited (packet_in result) (result ≡ Err Stalled) j p s v → SourceIn t ep awaited result j p s v
 whole_step t ep awaited result j p s v x = record {
   others = x.others;
   frame = x.frame;
-  source = x.source;
+  source = λ h most n i m at. ends_by most n awaited result s v (x.source h most n i m at);
   stalled = λ h most i e. let c : s.bulk_in.halted ≡ true = x.stalled h most i e in (c, x.still h most i c);
   halted = λ h most i c. (x.still h most i c, λ bytes e. cc (sym (ap (λ z. packet_in z) e) ∙ x.none h most i c));
 }
@@ -301,6 +310,50 @@ source_over t ep awaited result old new settled e single =
     (λ outcomes w trail made one l.
     each_step t ep awaited (packet_in result) (result ≡ Err Stalled) w made one (last_packet awaited result (outcome_in (in_attempt t ep) w) l) (last_stall awaited result (outcome_in (in_attempt t ep) w) l))
     settled e single
+
+-- The attempt that the bus gave up may have brought a packet, or none
+
+record AnyStep (t : Target) (ep : ℕ) (awaited : Toggle) (j : ℕ) (p : List ℕ) (s v : State) : Type 0 where
+  came : Option (List ℕ)
+  one : SourceStep t ep awaited came ⊥ j p s v
+
+cut_by : (most got : ℕ) (awaited : Toggle) (came : Option (List ℕ)) (s v : State) → SourceOn most got awaited s came v → SourceCut most got awaited s v
+cut_by most got awaited None s v x = none_came x
+cut_by most got awaited (Some bytes) s v x = one_came x.2
+
+cut_step : (t : Target) (ep : ℕ) (awaited : Toggle) (fault : BusFault) (came : Option (List ℕ)) (j : ℕ) (p : List ℕ) (s v : State)
+    → SourceStep t ep awaited came ⊥ j p s v → SourceIn t ep awaited (Err (Bus fault)) j p s v
+cut_step t ep awaited fault came j p s v x = record {
+  others = x.others;
+  frame = x.frame;
+  source = λ h most n i m at. cut_by most n awaited came s v (x.source h most n i m at);
+  stalled = λ h most i e. cc e;
+  halted = λ h most i c. (x.still h most i c, λ bytes e. cc e);
+}
+
+source_cut : (t : Target) (ep : ℕ) (awaited : Toggle) (fault : BusFault) (old new : World) → IsSettled old.roots
+    → CutOff (heard_as awaited) (in_attempt t ep) old fault new → new.shared ≡ false → EachWas (SourceIn t ep awaited (Err (Bus fault))) old new
+source_cut t ep awaited fault old new settled c single =
+    each_cut (SourceStep t ep awaited None ⊥) (AnyStep t ep awaited) (SourceIn t ep awaited (Err (Bus fault)))
+    (λ j p s. unmoved t ep awaited None ⊥ refl (λ x. x) j p s s refl)
+    (steps_joined t ep awaited None ⊥ ⊥)
+    (cut_step t ep awaited fault None)
+    (λ j p s u v x y. cut_step t ep awaited fault y.came j p s v (steps_joined t ep awaited y.came ⊥ ⊥ j p s u v x y.one))
+    (λ outcomes w trail made one n. each_step t ep awaited None ⊥ w made one (no_packet (heard_as awaited (outcome_in (in_attempt t ep) w)) n) (λ x. elim x [ ]))
+    (λ outcomes w trail made one n.
+    let came : Option (List ℕ) = packet_heard (heard_as awaited (outcome_in (in_attempt t ep) w)) in
+    each_wider (SourceStep t ep awaited came ⊥) (AnyStep t ep awaited) (λ j p s v x. record { came = came; one = x }) w (after (attempt (in_attempt t ep)) w)
+    (each_step t ep awaited came ⊥ w made one refl (λ x. elim x [ ])))
+    settled c single
+
+-- whatever its answer is
+pub source_leaves : (t : Target) (ep : ℕ) (awaited : Toggle) (result : Result (List ℕ) TransFault) (old new : World) → IsSettled old.roots
+    → Transacted (heard_as awaited) (in_attempt t ep) old result new → new.shared ≡ false → EachWas (SourceIn t ep awaited result) old new
+source_leaves t ep awaited (Ok bytes) old new settled x single = source_over t ep awaited (Ok bytes) old new settled x single
+source_leaves t ep awaited (Err Stalled) old new settled x single = source_over t ep awaited (Err Stalled) old new settled x single
+source_leaves t ep awaited (Err Busy) old new settled x single = source_over t ep awaited (Err Busy) old new settled x single
+source_leaves t ep awaited (Err NoAnswer) old new settled x single = source_over t ep awaited (Err NoAnswer) old new settled x single
+source_leaves t ep awaited (Err (Bus fault)) old new settled x single = source_cut t ep awaited fault old new settled x single
 
 -- Between two attempts
 

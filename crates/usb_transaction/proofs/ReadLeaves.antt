@@ -1,5 +1,5 @@
 -- What the status stage of a control read leaves of each device, with what its answer says of the device.
-use Rattle.std.proofs.Common.{◌≡◌, ◌≢◌, ℕ, List, [], ◌∷◌, Bool, true, false, ◌&&◌, if◌then◌else◌, Option, None, Result, Err, refl, sym, subst, ◌∙◌, arith}
+use Rattle.std.proofs.Common.{◌≡◌, ◌≢◌, ◌≤◌, ℕ, List, [], ◌∷◌, Bool, true, false, ◌&&◌, if◌then◌else◌, Option, None, Result, Ok, Err, refl, sym, subst, ◌∙◌, arith}
 use Rattle.usb_packet.specs.declared.Toggle.TheVariants.{One}
 use Rattle.usb_device.specs.declared.answer.Answer.{Answer}
 use Rattle.usb_device.specs.Transfer.{Stage, idle, refused, reading, read, ending}
@@ -7,6 +7,8 @@ use Rattle.usb_device.specs.Rows.{State, Reply, forgotten, is_busy, nak_row, out
 use Rattle.usb_device.specs.Attempt.{Way, is_whole, out_law}
 use Rattle.usb_world.specs.declared.types.Outcome.{Outcome}
 use Rattle.usb_world.specs.declared.types.Outcome.TheVariants.{Stall}
+use Rattle.usb_world.specs.declared.types.BusFault.{BusFault}
+use Rattle.usb_world.specs.OneHolder.{IsMade}
 use Rattle.usb_world.specs.Passes.{IsSettled}
 use Rattle.usb_world.specs.World.{World}
 use Rattle.usb_world.specs.Steps.{attempt, after, outcome_in}
@@ -14,15 +16,16 @@ use Rattle.usb_world.specs.Devices.{Relation, EachWas, DidOut}
 use Rattle.usb_world.proofs.Devices.{each_wider, each_out}
 use Rattle.usb_transaction.specs.declared.target.Target.{Target}
 use Rattle.usb_transaction.specs.declared.fault.TransFault.{TransFault}
-use Rattle.usb_transaction.specs.declared.fault.TransFault.TheVariants.{Stalled}
+use Rattle.usb_transaction.specs.declared.fault.TransFault.TheVariants.{Stalled, Busy, NoAnswer, Bus}
 use Rattle.usb_transaction.specs.Heard.{sent_as}
-use Rattle.usb_transaction.specs.Trail.{Ended}
+use Rattle.usb_transaction.specs.Trail.{Ended, CutOff, Transacted}
 use Rattle.usb_transaction.specs.Trans.{out_attempt}
 use Rattle.usb_transaction.specs.Over.{is_at, IsInRead, ReadStatus}
+use Rattle.usb_transaction.proofs.Cuts.{each_cut}
 use Rattle.usb_transaction.proofs.Could.{Replies, none_replies, nak_replies, free_replies, Brings, brings_other, brings_silent, brings_asked, Could, each_could, can_answer}
 use Rattle.usb_transaction.proofs.Meanings.{got_stall}
 use Rattle.usb_transaction.proofs.Overs.{LastIs, each_both, each_ended, mine}
-use Rattle.usb_transaction.proofs.ReadOver.{Heard_row, Kept, OverRead, kept_none, kept_twice, kept_did, same_at, each_over_read}
+use Rattle.usb_transaction.proofs.ReadOver.{Heard_row, Kept, OverRead, only_moved, kept_none, kept_twice, kept_did, same_at, each_over_read}
 use Rattle.usb_transaction.proofs.WhyCommon.{not_busy}
 use Rattle.usb_transaction.proofs.WhyReadStatus.{out_gives, still_in}
 
@@ -107,3 +110,41 @@ read_status_leaves t result old new settled e single =
     (each_both Says (NoStall t result) old new
     (each_could t a (DidOut a One []) (λ w made u. each_out a w One [] made (record { kind = refl; payload = refl }) u) (did_brings t) settled e.trail single)
     (each_no_stall t result old new settled e single)))
+
+-- one that the bus cut off
+
+abbrev KeptFewer : Target → Relation
+KeptFewer t j p s v = Kept t j p s v × (v.naks ≤ s.naks)
+
+cut_leaves : (t : Target) (fault : BusFault) (old new : World) → IsSettled old.roots
+    → CutOff sent_as (out_attempt t 0 One []) old fault new → new.shared ≡ false → EachWas (ReadStatus t (Err (Bus fault))) old new
+cut_leaves t fault old new settled c single =
+    each_wider (KeptFewer t) (ReadStatus t (Err (Bus fault)))
+    (λ j p s v x. record {
+      others = x.0.others;
+      frame = x.0.frame;
+      kept = only_moved s v x.0.moves;
+      done = λ at bytes e. cc e;
+      stalled = λ at h e. cc e;
+      could = λ at. tt;
+      naks = x.1;
+    }) old new
+    (each_cut (KeptFewer t) (KeptFewer t) (KeptFewer t) (λ j p s. (kept_none t j p s, omega arith)) twice (λ j p s v x. x) twice
+    (λ outcomes w trail made u n. falls w made u) (λ outcomes w trail made u n. falls w made u) settled c single)
+  where
+    twice : (j : ℕ) (p : List ℕ) (s u v : State) → KeptFewer t j p s u → KeptFewer t j p u v → KeptFewer t j p s v
+    twice j p s u v x y = (kept_twice t j p s u v x.0 y.0, omega (arith, x.1, y.1))
+
+    falls : (w : World) → IsMade (out_attempt t 0 One []) w → (after (attempt (out_attempt t 0 One [])) w).shared ≡ false → EachWas (KeptFewer t) w (after (attempt (out_attempt t 0 One [])) w)
+    falls w made u =
+        each_wider (DidOut (out_attempt t 0 One []) One [] w) (KeptFewer t) (λ j p s v d. (kept_did t w j p s v d, (did_brings t w j p s v d).naks)) w (after (attempt (out_attempt t 0 One [])) w)
+        (each_out (out_attempt t 0 One []) w One [] made (record { kind = refl; payload = refl }) u)
+
+-- whatever its answer is
+pub status_leaves : (t : Target) (result : Result (List ℕ) TransFault) (old new : World) → IsSettled old.roots
+    → Transacted sent_as (out_attempt t 0 One []) old result new → new.shared ≡ false → EachWas (ReadStatus t result) old new
+status_leaves t (Ok bytes) old new settled x single = read_status_leaves t (Ok bytes) old new settled x single
+status_leaves t (Err Stalled) old new settled x single = read_status_leaves t (Err Stalled) old new settled x single
+status_leaves t (Err Busy) old new settled x single = read_status_leaves t (Err Busy) old new settled x single
+status_leaves t (Err NoAnswer) old new settled x single = read_status_leaves t (Err NoAnswer) old new settled x single
+status_leaves t (Err (Bus fault)) old new settled x single = cut_leaves t fault old new settled x single

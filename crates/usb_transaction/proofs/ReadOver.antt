@@ -161,7 +161,7 @@ was_in : (s u : State) → Moves s u → IsInRead u → IsInRead s
 was_in s u (inl e) h = as_other s u e h
 was_in s u (inr x) h = x.1
 
-only_moved : (s v : State) → Moves s v → (v.stage ≡ s.stage) ⊎ IsRead v
+pub only_moved : (s v : State) → Moves s v → (v.stage ≡ s.stage) ⊎ IsRead v
 only_moved s v (inl e) = inl e
 only_moved s v (inr x) = inr x.0
 

@@ -43,16 +43,16 @@ trail_settled {a} (next w t made) h = subst (λ v. IsSettled v.roots) (sym (made
 
 -- No two reachable devices held one address
 
-due_shared : (events : List Event) (w : World) → (due_from events w).shared ≡ w.shared
+pub due_shared : (events : List Event) (w : World) → (due_from events w).shared ≡ w.shared
 unfolding due_from took
 due_shared [] w = refl
 due_shared (e ∷ events) w = elim (is_due e w) as (λ b. (if b then due_from events (took e events w) else w).shared ≡ w.shared) [ true ↦ due_shared events (took e events w) | false ↦ refl ]
 
-first_false : (x y : Bool) → x || y ≡ false → x ≡ false
+pub first_false : (x y : Bool) → x || y ≡ false → x ≡ false
 first_false true y e = cc
 first_false false y e = refl
 
-second_false : (x y : Bool) → x || y ≡ false → y ≡ false
+pub second_false : (x y : Bool) → x || y ≡ false → y ≡ false
 second_false true y e = cc
 second_false false y e = e
 

@@ -1,21 +1,12 @@
 -- What each call leaves of a device, and why it fails: of endpoint 0, or of a bulk endpoint.
-use Rattle.std.specs.Prelude.{◌≡◌, ℕ, List, [], Result, Ok, Err, ⊤}
+use Rattle.std.specs.Prelude.{◌≡◌, ℕ, List, [], Result}
 use Rattle.usb_packet.specs.declared.Toggle.{Toggle}
 use Rattle.usb_packet.specs.declared.Toggle.TheVariants.{One}
 use Rattle.usb_device.specs.Rows.{State}
 use Rattle.usb_transaction.specs.declared.target.Target.{Target}
 use Rattle.usb_transaction.specs.declared.fault.TransFault.{TransFault}
-use Rattle.usb_transaction.specs.declared.fault.TransFault.TheVariants.{Stalled, Busy, NoAnswer, Bus}
 use Rattle.usb_transaction.specs.Over.{ControlIn, ReadStatus, SourceIn, SinkOut}
 use Rattle.usb_transaction.specs.Why.{WhyControlIn, WhyReadStatus, WhySourceIn, WhySinkOut}
-
--- the call did not end because the bus gave up
-abbrev pub IsNotOfBus : {A : Type 0} → Result A TransFault → Type 0
-IsNotOfBus (Ok x) = ⊤
-IsNotOfBus (Err Stalled) = ⊤
-IsNotOfBus (Err Busy) = ⊤
-IsNotOfBus (Err NoAnswer) = ⊤
-IsNotOfBus (Err (Bus fault)) = ⊥
 
 -- IN
 pub record InLeaves (t : Target) (ep : ℕ) (awaited : Toggle) (result : Result (List ℕ) TransFault) (j : ℕ) (p : List ℕ) (s v : State) : Type 0 where

@@ -4,7 +4,7 @@ use Rattle.usb_world.specs.declared.types.Attempt.{Attempt}
 use Rattle.usb_world.specs.declared.types.BusFault.{BusFault}
 use Rattle.usb_world.specs.declared.types.Outcome.{Outcome}
 use Rattle.usb_world.specs.declared.types.Outcome.TheVariants.{Nak, Stall}
-use Rattle.usb_world.specs.World.{World, Made, Attempted}
+use Rattle.usb_world.specs.World.{World, Made, Attempted, IsAttempt}
 use Rattle.usb_world.specs.Steps.{attempt, after, outcome_in, AttemptFails}
 use Rattle.usb_packet.specs.declared.Toggle.{Toggle}
 use Rattle.usb_transaction.specs.declared.heard.Heard.{Heard}
@@ -80,6 +80,7 @@ pub record CutOff (hear : Outcome → Heard) (a : Attempt) (old : World) (fault 
   pub mid : World
   pub trail : Trail a old outcomes mid
   pub onward : GoesOn hear outcomes
+  pub fits : IsAttempt a
   pub refused : Attempted a mid (Err fault) new
   pub fails : mid.fault ≡ None → AttemptFails a mid (Err fault) new
 
@@ -120,6 +121,7 @@ pub record PollCutOff (toggle : Toggle) (a : Attempt) (old : World) (fault : Bus
   pub trail : Trail a old outcomes mid
   pub onward : GoesOn (heard_as toggle) outcomes
   pub no_nak : HasNoNak outcomes
+  pub fits : IsAttempt a
   pub refused : Attempted a mid (Err fault) new
   pub fails : mid.fault ≡ None → AttemptFails a mid (Err fault) new
 

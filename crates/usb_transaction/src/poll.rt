@@ -4,9 +4,8 @@ ghost use Rattle.usb_world.specs.World.{Spends};
 ghost use Rattle.usb_world.specs.Passes.{IsSettled};
 ghost use Rattle.usb_world.specs.Devices.{EachWas};
 ghost use Rattle.usb_transaction.specs.Answerer.{Answerer};
-ghost use Rattle.usb_transaction.specs.Call.{IsNotOfBus};
 ghost use Rattle.usb_transaction.specs.Heard.{toggle_after};
-ghost use Rattle.usb_transaction.specs.Over.{ChangesIn};
+ghost use Rattle.usb_transaction.specs.Over.{IsNotOfBus, ChangesIn};
 ghost use Rattle.usb_transaction.specs.Trail.{Polled};
 ghost use Rattle.usb_transaction.specs.Trans.{IsTarget, Ends, in_attempt};
 ghost use Rattle.usb_transaction.specs.Why.{NoThreeDamaged, WhyPoll};
@@ -41,7 +40,9 @@ pub fn poll_in<B: Bus>(
     ensures ends { Ends (B.world bus.old) result (B.world bus.new) }
     ensures heard { Polled toggle.old (in_attempt target ep) (B.world bus.old) result (B.world bus.new) }
     ensures settled { IsSettled (B.world bus.old).roots }
-    ensures what { ep ≡ 1 → IsNotOfBus result → (B.world bus.new).shared ≡ false → EachWas (ChangesIn target toggle.old (B.world bus.old) result) (B.world bus.old) (B.world bus.new) }
+    ensures what { ep ≡ 1 → (B.world bus.new).shared ≡ false
+        → EachWas (ChangesIn target toggle.old (B.world bus.old) result)
+        (B.world bus.old) (B.world bus.new) }
     ensures why { NoThreeDamaged (B.world bus.old) → ep ≡ 1 → IsNotOfBus result → (B.world bus.new).shared ≡ false → EachWas (WhyPoll target toggle.old result) (B.world bus.old) (B.world bus.new) }
     ensures who { OnOk result ((B.world bus.new).shared ≡ false → Answerer target (B.world bus.old) (B.world bus.new)) }
     ensures short { IfOk result (λ got. IfSome got (λ done. length done ≤ target.max)) }

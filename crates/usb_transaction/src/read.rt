@@ -4,8 +4,9 @@ ghost use Rattle.usb_world.specs.World.{Spends};
 ghost use Rattle.usb_world.specs.Passes.{IsSettled};
 ghost use Rattle.usb_world.specs.Devices.{EachWas};
 ghost use Rattle.usb_transaction.specs.Answerer.{Answerer};
-ghost use Rattle.usb_transaction.specs.Call.{IsNotOfBus, InLeaves, WhyIn};
+ghost use Rattle.usb_transaction.specs.Call.{InLeaves, WhyIn};
 ghost use Rattle.usb_transaction.specs.Heard.{flip, heard_as};
+ghost use Rattle.usb_transaction.specs.Over.{IsNotOfBus};
 ghost use Rattle.usb_transaction.specs.Trail.{Transacted};
 ghost use Rattle.usb_transaction.specs.Trans.{IsTarget, Ends, in_attempt};
 ghost use Rattle.usb_transaction.specs.Why.{NoThreeDamaged};
@@ -39,7 +40,8 @@ pub fn data_in<B: Bus>(
     ensures ends { Ends (B.world bus.old) result (B.world bus.new) }
     ensures heard { Transacted (heard_as toggle.old) (in_attempt target ep) (B.world bus.old) result (B.world bus.new) }
     ensures settled { IsSettled (B.world bus.old).roots }
-    ensures what { IsNotOfBus result → (B.world bus.new).shared ≡ false → EachWas (InLeaves target ep toggle.old result) (B.world bus.old) (B.world bus.new) }
+    ensures what { (B.world bus.new).shared ≡ false
+        → EachWas (InLeaves target ep toggle.old result) (B.world bus.old) (B.world bus.new) }
     ensures why { NoThreeDamaged (B.world bus.old) → IsNotOfBus result → (B.world bus.new).shared ≡ false → EachWas (WhyIn target ep toggle.old result) (B.world bus.old) (B.world bus.new) }
     ensures who { OnOk result ((B.world bus.new).shared ≡ false → Answerer target (B.world bus.old) (B.world bus.new)) }
     ensures short { IfOk result (λ done. length done ≤ target.max) }

@@ -5,9 +5,8 @@ ghost use Rattle.usb_world.specs.Passes.{IsSettled};
 ghost use Rattle.usb_world.specs.Courses.{is_harmless};
 ghost use Rattle.usb_request.specs.Layout.{setup_of};
 ghost use Rattle.usb_transaction.specs.Answerer.{Answerer};
-ghost use Rattle.usb_transaction.specs.Call.{IsNotOfBus};
 ghost use Rattle.usb_transaction.specs.Heard.{set_up_as};
-ghost use Rattle.usb_transaction.specs.Over.{SetupDone};
+ghost use Rattle.usb_transaction.specs.Over.{IsNotOfBus, SetupDone};
 ghost use Rattle.usb_transaction.specs.Spared.{EachSpared};
 ghost use Rattle.usb_transaction.specs.Trail.{Transacted};
 ghost use Rattle.usb_transaction.specs.Trans.{IsTarget, SetupEnds, setup_attempt};
@@ -33,7 +32,10 @@ pub fn setup<B: Bus>(bus: &mut B, target: Target, bytes: [u8; 8]) -> Result<Done
     ensures ends { SetupEnds (B.world bus.old) result (B.world bus.new) }
     ensures heard { Transacted set_up_as (setup_attempt target bytes) (B.world bus.old) result (B.world bus.new) }
     ensures settled { IsSettled (B.world bus.old).roots }
-    ensures what { IsNotOfBus result → (B.world bus.new).shared ≡ false → EachSpared target (setup_of bytes) (SetupDone target bytes result (B.world bus.old) (B.world bus.new)) (B.world bus.old) (B.world bus.new) }
+    ensures what { (B.world bus.new).shared ≡ false
+        → EachSpared target (setup_of bytes)
+        (SetupDone target bytes result (B.world bus.old) (B.world bus.new))
+        (B.world bus.old) (B.world bus.new) }
     ensures why { NoThreeDamaged (B.world bus.old) → IsNotOfBus result → (B.world bus.new).shared ≡ false → EachSpared target (setup_of bytes) (WhySetup target result) (B.world bus.old) (B.world bus.new) }
     ensures who { OnOk result ((is_harmless (setup_of bytes) ≡ false → target.addr ≢ 0) → (B.world bus.new).shared ≡ false → Answerer target (B.world bus.old) (B.world bus.new)) }
     ensures nothing { IfOk result (λ done. done ≡ []) }

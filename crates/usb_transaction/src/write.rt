@@ -4,8 +4,9 @@ ghost use Rattle.usb_world.specs.World.{Spends};
 ghost use Rattle.usb_world.specs.Passes.{IsSettled};
 ghost use Rattle.usb_world.specs.Devices.{EachWas};
 ghost use Rattle.usb_transaction.specs.Answerer.{Answerer};
-ghost use Rattle.usb_transaction.specs.Call.{IsNotOfBus, OutLeaves, WhyOut};
+ghost use Rattle.usb_transaction.specs.Call.{OutLeaves, WhyOut};
 ghost use Rattle.usb_transaction.specs.Heard.{flip, sent_as};
+ghost use Rattle.usb_transaction.specs.Over.{IsNotOfBus};
 ghost use Rattle.usb_transaction.specs.Trail.{Transacted};
 ghost use Rattle.usb_transaction.specs.Trans.{IsTarget, Ends, out_attempt};
 ghost use Rattle.usb_transaction.specs.Why.{NoThreeDamaged};
@@ -41,7 +42,9 @@ pub fn data_out<B: Bus>(
     ensures ends { Ends (B.world bus.old) result (B.world bus.new) }
     ensures heard { Transacted sent_as (out_attempt target ep toggle.old bytes.now) (B.world bus.old) result (B.world bus.new) }
     ensures settled { IsSettled (B.world bus.old).roots }
-    ensures what { IsNotOfBus result → (B.world bus.new).shared ≡ false → EachWas (OutLeaves target ep toggle.old bytes.now result) (B.world bus.old) (B.world bus.new) }
+    ensures what { (B.world bus.new).shared ≡ false
+        → EachWas (OutLeaves target ep toggle.old bytes.now result)
+        (B.world bus.old) (B.world bus.new) }
     ensures why { NoThreeDamaged (B.world bus.old) → IsNotOfBus result → (B.world bus.new).shared ≡ false → EachWas (WhyOut target ep toggle.old bytes.now result) (B.world bus.old) (B.world bus.new) }
     ensures who { OnOk result ((B.world bus.new).shared ≡ false → Answerer target (B.world bus.old) (B.world bus.new)) }
     ensures nothing { IfOk result (λ done. done ≡ []) }

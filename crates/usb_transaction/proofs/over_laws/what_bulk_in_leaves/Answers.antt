@@ -1,5 +1,5 @@
-use Rattle.usb_transaction.proofs.OverSource.{source_over}
+use Rattle.usb_transaction.proofs.OverSource.{source_leaves}
 use Rattle.usb_transaction.proofs.over_laws.what_bulk_in_leaves.Goals as goal
 
 pub returns : goal.returns
-returns c = source_over
+returns c = source_leaves

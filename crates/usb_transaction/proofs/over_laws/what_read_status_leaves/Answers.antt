@@ -1,5 +1,5 @@
-use Rattle.usb_transaction.proofs.ReadLeaves.{read_status_leaves}
+use Rattle.usb_transaction.proofs.ReadLeaves.{status_leaves}
 use Rattle.usb_transaction.proofs.over_laws.what_read_status_leaves.Goals as goal
 
 pub returns : goal.returns
-returns c = read_status_leaves
+returns c = status_leaves

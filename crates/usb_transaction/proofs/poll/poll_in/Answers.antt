@@ -1,8 +1,9 @@
-use Rattle.std.proofs.Common.{None, Some, refl, ap, ◌∙◌}
+use Rattle.std.proofs.Common.{None, Some, Err, refl, ap, ◌∙◌}
 use Rattle.std.proofs.lemmas.Result.{err_from_is_err_and}
 use Rattle.usb_transaction.specs.Heard.{heard_as}
+use Rattle.usb_transaction.specs.declared.fault.TransFault.TheVariants.{Bus}
 use Rattle.usb_transaction.proofs.Calls.{what_poll, why_poll, who_poll}
-use Rattle.usb_transaction.proofs.Going.{once, poll_new, poll_error, poll_repeat, poll_waiting, poll_moved, poll_stalled, poll_silent, poll_busy}
+use Rattle.usb_transaction.proofs.Going.{once, poll_cut_off, poll_new, poll_error, poll_repeat, poll_waiting, poll_moved, poll_stalled, poll_silent, poll_busy}
 use Rattle.usb_transaction.proofs.poll.poll_in.Goals as goal
 
 pub tries-init : goal.tries-init
@@ -89,3 +90,8 @@ returns-in_err-error-in-Lost-clause-what g c = what_poll c.args.target c.args.ep
 
 pub returns-in_err-error-in-Lost-clause-why : goal.returns-in_err-error-in-Lost-clause-why
 returns-in_err-error-in-Lost-clause-why g c = why_poll c.args.target c.args.ep c.args.toggle.now _ c.requires.target.max_least (c.tries.invariant.2 c.in-Ok.ensures.settled) _ (returns-in_err-error-in-Lost-clause-heard g c)
+
+pub returns-in-Err-clause-what : goal.returns-in-Err-clause-what
+returns-in-Err-clause-what g c =
+    let cut = poll_cut_off _ _ c.attempt_of_in-attempt.ensures.value c.tries.invariant.1.3 c.attempt_of_in-attempt.ensures.fits c.in-Err.ensures.counts c.in-Err.ensures.fails in
+    what_poll c.args.target c.args.ep c.args.toggle.now _ c.requires.target.max_least (c.tries.invariant.2 c.in-Err.ensures.settled) (Err (Bus c.in-Err.fault)) cut

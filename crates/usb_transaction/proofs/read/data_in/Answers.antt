@@ -1,8 +1,9 @@
-use Rattle.std.proofs.Common.{refl, ap, ◌∙◌}
+use Rattle.std.proofs.Common.{Err, refl, ap, ◌∙◌}
 use Rattle.std.proofs.lemmas.Result.{err_from_is_err_and}
 use Rattle.usb_transaction.specs.Heard.{heard_as}
+use Rattle.usb_transaction.specs.declared.fault.TransFault.TheVariants.{Bus}
 use Rattle.usb_transaction.proofs.Calls.{what_in, why_in, who_in}
-use Rattle.usb_transaction.proofs.Going.{once, stands_new, stands_error, stands_waited, ended_moved, ended_silent, ended_busy, read_stalled}
+use Rattle.usb_transaction.proofs.Going.{once, cut_off, stands_new, stands_error, stands_waited, ended_moved, ended_silent, ended_busy, read_stalled}
 use Rattle.usb_transaction.proofs.read.data_in.Goals as goal
 
 pub tries-init : goal.tries-init
@@ -74,3 +75,8 @@ returns-in_err-error-in-Lost-clause-what g c = what_in c.args.target c.args.ep c
 
 pub returns-in_err-error-in-Lost-clause-why : goal.returns-in_err-error-in-Lost-clause-why
 returns-in_err-error-in-Lost-clause-why g c = why_in c.args.target c.args.ep c.args.toggle.now _ _ (c.tries.invariant.2 c.in-Ok.ensures.settled) (returns-in_err-error-in-Lost-clause-heard g c)
+
+pub returns-in-Err-clause-what : goal.returns-in-Err-clause-what
+returns-in-Err-clause-what g c =
+    let cut = cut_off _ _ c.attempt_of_in-attempt.ensures.value c.tries.invariant.1.3 c.attempt_of_in-attempt.ensures.fits c.in-Err.ensures.counts c.in-Err.ensures.fails in
+    what_in c.args.target c.args.ep c.args.toggle.now (Err (Bus c.in-Err.fault)) _ (c.tries.invariant.2 c.in-Err.ensures.settled) cut

@@ -1,6 +1,7 @@
-use Rattle.std.proofs.Common.{◌≡◌, length, sym, ◌∙◌, arith, rules}
+use Rattle.std.proofs.Common.{◌≡◌, Err, length, sym, ◌∙◌, arith, rules}
+use Rattle.usb_transaction.specs.declared.fault.TransFault.TheVariants.{Bus}
 use Rattle.usb_transaction.proofs.Calls.{what_setup, why_setup, who_setup}
-use Rattle.usb_transaction.proofs.Going.{once, set_up_new, set_up_again, set_up_done}
+use Rattle.usb_transaction.proofs.Going.{once, cut_off, set_up_new, set_up_again, set_up_done}
 use Rattle.usb_transaction.proofs.set_up.setup.Goals as goal
 
 pub loop-error-init : goal.loop-error-init
@@ -43,3 +44,10 @@ returns-clause-why g c =
     let eight : length c.args.bytes ≡ 8 = search rules in
     let all : c.loop-error._error ≡ 3 = omega (arith, c.loop-error-test.false, c.loop-error.auto._error-end) in
     why_setup c.args.target c.args.bytes _ _ eight (c.loop-error.invariant.1.1 (omega (arith, all))) (c.loop-error.invariant.0.2 all)
+
+pub returns-in-Err-clause-what : goal.returns-in-Err-clause-what
+returns-in-Err-clause-what g c =
+    let eight : length c.args.bytes ≡ 8 = search rules in
+    let going = c.loop-error.invariant.0.1 c.loop-error-test.true in
+    let cut = cut_off _ _ c.attempt_of_setup-attempt.ensures.value going c.attempt_of_setup-attempt.ensures.fits c.in-Err.ensures.counts c.in-Err.ensures.fails in
+    what_setup c.args.target c.args.bytes (Err (Bus c.in-Err.fault)) _ eight (c.loop-error.invariant.1.0 c.in-Err.ensures.settled) cut

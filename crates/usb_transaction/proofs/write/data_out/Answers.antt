@@ -1,8 +1,9 @@
-use Rattle.std.proofs.Common.{refl}
+use Rattle.std.proofs.Common.{Err, refl}
 use Rattle.std.proofs.lemmas.Result.{err_from_is_err_and}
 use Rattle.usb_transaction.specs.Trans.{out_attempt}
+use Rattle.usb_transaction.specs.declared.fault.TransFault.TheVariants.{Bus}
 use Rattle.usb_transaction.proofs.Calls.{what_out, why_out, who_out}
-use Rattle.usb_transaction.proofs.Going.{once, stands_new, stands_error, stands_waited, ended_sent, ended_silent, ended_busy, sent_stalled}
+use Rattle.usb_transaction.proofs.Going.{once, cut_off, stands_new, stands_error, stands_waited, ended_sent, ended_silent, ended_busy, sent_stalled}
 use Rattle.usb_transaction.proofs.write.data_out.Goals as goal
 
 pub tries-init : goal.tries-init
@@ -68,3 +69,8 @@ returns-in_err-error-in-Lost-clause-what g c = what_out c.args.target c.args.ep 
 
 pub returns-in_err-error-in-Lost-clause-why : goal.returns-in_err-error-in-Lost-clause-why
 returns-in_err-error-in-Lost-clause-why g c = why_out c.args.target c.args.ep c.args.toggle.now c.args.bytes.now _ _ (c.tries.invariant.2 c.in-Ok.ensures.settled) (returns-in_err-error-in-Lost-clause-heard g c)
+
+pub returns-in-Err-clause-what : goal.returns-in-Err-clause-what
+returns-in-Err-clause-what g c =
+    let cut = cut_off _ _ c.attempt_of_out-attempt.ensures.value c.tries.invariant.1.3 c.attempt_of_out-attempt.ensures.fits c.in-Err.ensures.counts c.in-Err.ensures.fails in
+    what_out c.args.target c.args.ep c.args.toggle.now c.args.bytes.now (Err (Bus c.in-Err.fault)) _ (c.tries.invariant.2 c.in-Err.ensures.settled) cut
