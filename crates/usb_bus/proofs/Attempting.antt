@@ -80,9 +80,9 @@ pub left_at_line : {T : Type 0} (r : Result T BusFault) (a : Attempt) (w v : Wor
 left_at_line (Ok x) a w v is e = tt
 left_at_line (Err f) a w v is e = at_line is e
 
-pub fails_at : (r : Result Outcome BusFault) (a : Attempt) (w m : World) (f : Option BusFault) → f ≡ fault_of r → IfErr r (λ x. x ≢ LimitReached) → IfErr r (λ x. Left a w x (record m { fault = None }))
-    → AttemptFails a w r (record m { fault = f })
-fails_at (Ok o) a w m f is other left = tt
-fails_at (Err LimitReached) a w m f is other left = absurd (other refl)
-fails_at (Err Memory) a w m f is other left = record { left = record m { fault = None }; so_far = left; told = ap (λ x. record m { fault = x }) is }
-fails_at (Err TraceFailed) a w m f is other left = record { left = record m { fault = None }; so_far = left; told = ap (λ x. record m { fault = x }) is }
+pub fails_at : (r : Result Outcome BusFault) (a : Attempt) (w m : World) (f : Option BusFault) → f ≡ fault_of r → (w.attempts ≡ w.limit → ⊥) → IfErr r (λ x. x ≢ LimitReached)
+    → IfErr r (λ x. Left a w x (record m { fault = None })) → AttemptFails a w r (record m { fault = f })
+fails_at (Ok o) a w m f is below other left = tt
+fails_at (Err LimitReached) a w m f is below other left = absurd (other refl)
+fails_at (Err Memory) a w m f is below other left = record { below = below; left = record m { fault = None }; so_far = left; told = ap (λ x. record m { fault = x }) is }
+fails_at (Err TraceFailed) a w m f is below other left = record { below = below; left = record m { fault = None }; so_far = left; told = ap (λ x. record m { fault = x }) is }

@@ -14,7 +14,8 @@ pub trait Bus {
     /// The world that the bus stands for.
     ///
     /// As long as no fault was told, each port is sane: what is attached is what is plugged there, an enabled port is
-    /// powered and has something attached, and only a powered port tells of a change (11.5).
+    /// powered and has something attached, and only a powered port tells of a change (11.5); and each device that is
+    /// plugged is as the rules say.
     ghost world: { Self → World };
 
     /// Applies the events that are due, and then makes one attempt.

@@ -1,12 +1,13 @@
 //! A simulated bus: the devices that a plan's events plug at its root ports, and the trace of its attempts.
-ghost use Rattle.std.specs.Prelude.{◌≡◌, ◌+◌, ◌≤◌, length, IfOk, IfErr, None, Some, option_map, true};
+ghost use Rattle.std.specs.Prelude.{◌≡◌, ◌+◌, ◌≤◌, length, IfOk, IfErr, None, Some, option_map, true, All};
 ghost use Rattle.std.specs.List.{list_all};
 ghost use Rattle.usb_world.specs.PlanData.{can_come};
+ghost use Rattle.usb_device.specs.Spec.{IsSpec};
 ghost use Rattle.usb_device.specs.Tree.{new_ports, row_of};
 ghost use Rattle.usb_world.specs.Losses.{AreOfDamages};
 ghost use Rattle.usb_world.specs.Passes.{IsSettled};
 ghost use Rattle.usb_world.specs.Sane.{IsSane};
-ghost use Rattle.usb_world.specs.SaneProp.{IsSane-prop};
+ghost use Rattle.usb_world.specs.SaneProp.{IsSane-prop, IsSpec-prop, all_prop};
 ghost use Rattle.usb_world.specs.Steps.{opening, fault_of};
 ghost use Rattle.usb_world.specs.declared.types.BusFault.TheVariants.{LimitReached};
 
@@ -48,6 +49,7 @@ pub struct SimBus<W> {
     ghost few_roots: { length (row_of roots) ≤ 7 },
     ghost settled: { IsSettled roots },
     ghost sane: { fault ≡ None → IsSane roots } by { λ x y i none. IsSane-prop roots (x none) (y none) i },
+    ghost ruled: { All IsSpec devices.items } by { all_prop IsSpec-prop devices.items },
     ghost planned: { list_all (can_come (length devices.items)) left.items ≡ true },
     ghost few_events: { taken + length left.items ≤ 10000 },
     ghost counted: { attempts_then ≤ attempts },

@@ -1,5 +1,6 @@
 -- A device as a plan describes it.
-use Rattle.std.specs.Prelude.{◌≡◌, ◌≤◌, ℕ, List, [], ◌∷◌, length, take, slice_index, nat_lt, ◌==◌, Bool, true, false, ◌&&◌, not, Option, None, Some, Ok, Err}
+use Rattle.std.specs.Prelude.{◌≡◌, ◌≤◌, ℕ, List, [], ◌∷◌, length, take, slice_index, nat_lt, ◌==◌, Bool, true, false, ◌&&◌, not, Option, None, Some, Ok, Err, All}
+use Rattle.std.specs.Option.{IfSome}
 use Rattle.std.specs.List.{list_any}
 use Rattle.std.specs.Str.{bytes_eq}
 use Rattle.usb_descriptor.specs.Hub.{hub_of, port_count}
@@ -44,6 +45,22 @@ hub_fits low descriptor (Some hub) = not low && has_hub_class descriptor
 abbrev pub agrees : ℕ → List ℕ → Bool
 agrees ports bytes = elim (hub_of (take 9 bytes)) [ Ok hub ↦ port_count hub == ports | Err fault ↦ true ]
 
+-- the rules of a hub
+pub record IsHub (h : Hub) : Type 0 where
+  pub least : 1 ≤ h.ports
+  pub most : h.ports ≤ 7
+  pub agree : agrees h.ports h.descriptor ≡ true
+
+-- the rules of a device
+pub record IsSpec (s : Spec) : Type 0 where
+  pub naks : s.naks ≤ 200
+  pub fits : hub_fits s.low s.descriptor s.hub ≡ true
+  pub hub : IfSome s.hub IsHub
+  pub configs : length s.configs ≤ 8
+  pub texts : All (λ text. length text ≤ 65535) s.configs
+  pub strings : length s.strings ≤ 256
+  pub halt : IfSome s.halt_after (λ packets. 1 ≤ packets)
+
 -- a hub whose ports are switched one by one
 abbrev pub usual_hub : ℕ → Hub
 usual_hub ports = record { ports = ports; descriptor = 9 ∷ 0x29 ∷ ports ∷ 1 ∷ 0 ∷ 0 ∷ 0 ∷ 0 ∷ 0xff ∷ [] }
@@ -78,7 +95,8 @@ abbrev pub names_differ : List Spec → Bool
 names_differ [] = true
 names_differ (s ∷ specs) = not (is_named specs s.name) && names_differ specs
 
--- at most 127 devices, no two of one name
+-- at most 127 devices, no two of one name, each as the rules say
 pub record AreDevices (specs : List Spec) : Type 0 where
   pub count : length specs ≤ 127
   pub names : names_differ specs ≡ true
+  pub ruled : All IsSpec specs

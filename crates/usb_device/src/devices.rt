@@ -12,7 +12,7 @@ fn is_named(specs: &[DeviceSpec], name: &str) -> bool
     specs.iter().any(|spec| spec.name() == name)
 }
 
-/// At most 127 devices, no two of one name.
+/// At most 127 devices, no two of one name; each keeps the rules of a device.
 #[derive(Debug, Drop)]
 pub struct Devices {
     specs: Vec<DeviceSpec>,
@@ -64,6 +64,7 @@ impl Devices {
         ensures ok { OnOk result (self.new ≡ self.old ++ spec ∷ []) }
         ensures err { OnErr result (self.new ≡ self.old) }
     {
+        spec.keeps_rules();
         Ok(self.specs.push(spec)?)
     }
 }

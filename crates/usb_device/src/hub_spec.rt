@@ -81,6 +81,7 @@ impl HubSpec {
     pub fn descriptor(&self) -> &[u8]
         ensures value { result.now ≡ self.now.descriptor }
         ensures bound { length self.now.descriptor ≤ 255 }
+        ensures agree { agrees self.now.ports self.now.descriptor ≡ true }
     {
         self.descriptor.as_slice()
     }

@@ -114,17 +114,17 @@ pub struct Texts<const COUNT: usize, const MAX: usize> {
 }
 
 impl<const COUNT: usize, const MAX: usize> Model for Texts<COUNT, MAX> {
-    ghost use Rattle.std.specs.Prelude.{List, ℕ, ◌≤◌, length};
+    ghost use Rattle.std.specs.Prelude.{List, ℕ, ◌≤◌, length, All};
 
     ghost Value = { List (List ℕ) };
 
     ghost view = { λ t. t.texts.items };
 
-    ghost invariant = { λ t. length t.texts.items ≤ COUNT };
+    ghost invariant = { λ t. (length t.texts.items ≤ COUNT) × All (λ text. length text ≤ MAX) t.texts.items };
 }
 
 impl<const COUNT: usize, const MAX: usize> Texts<COUNT, MAX> {
-    ghost use Rattle.std.specs.Prelude.{◌<◌, ◌≤◌, [], ◌∷◌, ◌++◌, length, OnOk, OnErr};
+    ghost use Rattle.std.specs.Prelude.{◌<◌, ◌≤◌, [], ◌∷◌, ◌++◌, length, All, OnOk, OnErr};
 
     /// No texts.
     pub fn new(alloc: Global) -> Self
@@ -141,6 +141,7 @@ impl<const COUNT: usize, const MAX: usize> Texts<COUNT, MAX> {
         ensures ok { OnOk result (self.new ≡ self.old ++ text.entry ∷ []) }
         ensures err { OnErr result (self.new ≡ self.old) }
     {
+        text.as_slice();
         Ok(self.texts.push(text)?)
     }
 
@@ -148,6 +149,7 @@ impl<const COUNT: usize, const MAX: usize> Texts<COUNT, MAX> {
     pub fn as_slice(&self) -> &[Bytes<MAX>]
         ensures value { result.now ≡ self.now }
         ensures bound { length self.now ≤ COUNT }
+        ensures each { All (λ text. length text ≤ MAX) self.now }
     {
         self.texts.as_slice()
     }

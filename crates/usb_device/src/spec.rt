@@ -1,6 +1,6 @@
 //! What a plan says of a device.
 ghost use Rattle.std.specs.Prelude.{◌≡◌, ◌≤◌, Some, true, length, option_copied, IfOk};
-ghost use Rattle.usb_device.specs.Spec.{no_stalls, function, hub_fits};
+ghost use Rattle.usb_device.specs.Spec.{no_stalls, function, hub_fits, IsSpec};
 
 use crate::hub_spec::HubSpec;
 use crate::lists::{Bytes, ConfigTexts, Name, StringTexts};
@@ -317,6 +317,18 @@ impl DeviceSpec {
         ensures least { IfSome result (λ k. 1 ≤ k) }
     {
         self.halt_after
+    }
+
+    /// Does nothing; what it ensures is for `Devices` to cite: the rules of a device.
+    pub(crate) fn keeps_rules(&self)
+        ensures { IsSpec self.now }
+    {
+        self.configs.as_slice();
+        self.strings.as_slice();
+        if let Some(hub) = &self.hub {
+            hub.ports();
+            hub.descriptor();
+        }
     }
 
     ghost use Rattle.std.specs.Option.{IfSome};

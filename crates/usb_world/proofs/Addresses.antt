@@ -1,5 +1,5 @@
 -- IN and OUT change no address, where no device at theirs takes another.
-use Rattle.std.proofs.Common.{◌≡◌, ℕ, zero, suc, ◌+◌, ◌==◌, ◌&&◌, not, nat_lt, if◌then◌else◌, inl, inr, Bool, true, false, List, [], ◌∷◌, length, take, Option, None, Some, option_map, refl, ap, sym, subst, ◌∙◌}
+use Rattle.std.proofs.Common.{◌≡◌, ℕ, zero, suc, ◌+◌, ◌==◌, ◌&&◌, nat_lt, if◌then◌else◌, inl, inr, Bool, true, false, List, [], ◌∷◌, length, take, Option, None, Some, option_map, refl, ap, sym, subst, ◌∙◌}
 use Rattle.usb_packet.specs.declared.Packet.{Packet}
 use Rattle.usb_packet.specs.declared.Packet.TheVariants.{Token, Payload, Ack, Sof, Nak, Stall, Pre}
 use Rattle.usb_packet.specs.declared.Toggle.{Toggle}
@@ -36,7 +36,7 @@ use Rattle.usb_world.specs.Touched.{resets_at, reset_if}
 use Rattle.usb_world.specs.Passes.{passed, heard_state, deep_at, pass_resets, attempt_resets, IsDataOut, IfOut, IsSettled}
 use Rattle.usb_world.specs.World.{World}
 use Rattle.usb_world.specs.Steps.{is_due, took, took_first, event_taken, due_from, ready, damage_in, with_attempt, attempted, Step, attempt, root_call, event, report, after, Course, here, step}
-use Rattle.usb_world.specs.Courses.{resets, Own, Injective}
+use Rattle.usb_world.specs.Courses.{Own, Injective}
 use Rattle.usb_world.specs.Addresses.{is_setup, NoneTakes, MovesData, GivesNoAddress}
 use Rattle.usb_world.proofs.Booleans.{no, and_false}
 use Rattle.usb_world.proofs.PacketLaws.{packet_state}

@@ -11,7 +11,6 @@ use Rattle.usb_device.specs.Transfer.{Stage, ending}
 use Rattle.usb_device.specs.Rows.{State, Reply, forgotten, is_busy, nak_row, bulk_of, bulk_ack_row, rest_of, acknowledged, ends_with_address}
 use Rattle.usb_device.specs.Attempt.{Way, is_whole, heard, gave, in_law, in_stage_law, in_control_law, in_other_law, in_bulk_law, source_law, changes_law, held_law}
 use Rattle.usb_device.specs.Tree.{Ports, row_of, reach_at, state_at}
-use Rattle.usb_device.specs.Delivery.{held}
 use Rattle.usb_world.specs.declared.types.Attempt.{Attempt}
 use Rattle.usb_world.specs.Live.{address_of, same_number, same_path}
 use Rattle.usb_world.specs.Passes.{deep_at}

@@ -1,7 +1,7 @@
 -- What is so between two steps stays so.
 use Rattle.std.proofs.Common.{◌≡◌, ℕ, zero, suc, Bool, true, false, if◌then◌else◌, ◌&&◌, ◌==◌, List, [], ◌∷◌, refl, ap, sym}
 use Rattle.usb_port.specs.PortState.{is_attached}
-use Rattle.usb_device.specs.Spec.{Spec, Hub}
+use Rattle.usb_device.specs.Spec.{Spec, Hub, IsSpec}
 use Rattle.usb_device.specs.declared.calls.PortCall.{PortCall}
 use Rattle.usb_device.specs.declared.transfer.Memory.{Memory}
 use Rattle.usb_device.specs.declared.transfer.Memory.TheVariants.{Nothing}
@@ -16,7 +16,9 @@ use Rattle.usb_world.specs.declared.types.BusFault.{BusFault}
 use Rattle.usb_world.specs.declared.types.BusFault.TheVariants.{LimitReached}
 use Rattle.usb_world.specs.declared.event.Action.TheVariants.{Plug, Unplug, Show, Send, Receive, Clear}
 use Rattle.usb_world.specs.declared.types.Attempt.{Attempt}
-use Rattle.std.specs.Prelude.{Option, None, Some, slice_get, ⊤}
+use Rattle.std.proofs.lemmas.List.Elements.{All-head, All-tail}
+use Rattle.std.specs.Prelude.{Option, None, Some, slice_get, All, ⊤}
+use Rattle.std.specs.Option.{IfSome}
 use Rattle.usb_world.specs.Exchange.{ports_in, token_out, payload_out, reply_out}
 use Rattle.usb_world.specs.Passes.{IsSettled}
 use Rattle.usb_world.specs.Sane.{IsSane}
@@ -145,17 +147,22 @@ settled_ports a d k = attempt_settled (token_out a d) (payload_out a d) (reply_o
 
 -- Sane
 
-sane_with : (o : Option Spec) (p : List ℕ) (k : Ports) → IsSane k → IsSane (with_plugged o p k)
-sane_with None p k h = h
-sane_with (Some t) p k h = sane_path (replaced (Some t)) (sane_replaced (Some t)) k p h
+sane_with : (o : Option Spec) → IfSome o IsSpec → (p : List ℕ) (k : Ports) → IsSane k → IsSane (with_plugged o p k)
+sane_with None r p k h = h
+sane_with (Some t) r p k h = sane_path (replaced (Some t)) (sane_replaced (Some t) r) k p h
 
-pub sane_happened : (a : Action) (ds : List Spec) (k : Ports) → IsSane k → IsSane (happened a ds k)
-sane_happened (Plug p d) ds k h = sane_with (slice_get ds d) p k h
-sane_happened (Unplug p) ds k h = sane_path (replaced None) (sane_replaced None) k p h
-sane_happened Show ds k h = h
-sane_happened (Send p bytes) ds k h = h
-sane_happened (Receive p packets) ds k h = h
-sane_happened (Clear p) ds k h = h
+the_ruled : (ds : List Spec) (d : ℕ) → All IsSpec ds → IfSome (slice_get ds d) IsSpec
+the_ruled [] d r = tt
+the_ruled (s ∷ ds) zero r = All-head IsSpec s ds r
+the_ruled (s ∷ ds) (suc d) r = the_ruled ds d (All-tail IsSpec s ds r)
+
+pub sane_happened : (a : Action) (ds : List Spec) → All IsSpec ds → (k : Ports) → IsSane k → IsSane (happened a ds k)
+sane_happened (Plug p d) ds r k h = sane_with (slice_get ds d) (the_ruled ds d r) p k h
+sane_happened (Unplug p) ds r k h = sane_path (replaced None) (sane_replaced None tt) k p h
+sane_happened Show ds r k h = h
+sane_happened (Send p bytes) ds r k h = h
+sane_happened (Receive p packets) ds r k h = h
+sane_happened (Clear p) ds r k h = h
 
 pub sane_called_at : (c : PortCall) (k : Ports) (p : List ℕ) → IsSane k → IsSane (changed (called c) k p)
 sane_called_at c k p h = sane_path (called c) (sane_called c) k p h
@@ -166,12 +173,12 @@ sane_ports a d k h = attempt_sane (token_out a d) (payload_out a d) (reply_out a
 
 -- Worlds
 
-pub between_opening : (p : PlanData) → IsBetween (opening p)
-between_opening p = record { settled = settled_new p.roots; sane = sane_new_ports p.roots }
+pub between_opening : (p : PlanData) → All IsSpec p.devices → IsBetween (opening p)
+between_opening p r = record { settled = settled_new p.roots; sane = sane_new_ports p.roots; ruled = r }
 
 took_between : (e : Event) (events : List Event) (w : World) → IsBetween w → IsBetween (took e events w)
 unfolding took
-took_between e events w h = record { settled = settled_happened e.action w.devices w.roots h.settled; sane = sane_happened e.action w.devices w.roots h.sane }
+took_between e events w h = record { settled = settled_happened e.action w.devices w.roots h.settled; sane = sane_happened e.action w.devices h.ruled w.roots h.sane; ruled = h.ruled }
 
 first_between : (events : List Event) (w : World) → IsBetween w → IsBetween (took_first events w)
 first_between [] w h = h
@@ -192,14 +199,14 @@ between_ready w h = due_between w.left w h
 
 attempt_between : (a : Attempt) (w : World) → IsBetween w → IsBetween (with_attempt a w)
 unfolding with_attempt
-attempt_between a w h = record { settled = settled_ports a (damage_in w) w.roots; sane = sane_ports a (damage_in w) w.roots h.sane }
+attempt_between a w h = record { settled = settled_ports a (damage_in w) w.roots; sane = sane_ports a (damage_in w) w.roots h.sane; ruled = h.ruled }
 
 attempted_between : (a : Attempt) (f : Option BusFault) (w : World) → IsBetween w → IsBetween (attempted a f w)
 attempted_between a (Some f) w h = h
 attempted_between a None w h = split (w.attempts == w.limit)
   where
     split : (x : Bool) → IsBetween (if x then record w { fault = Some LimitReached } else with_attempt a (ready w))
-    split true = record { settled = h.settled; sane = h.sane }
+    split true = record { settled = h.settled; sane = h.sane; ruled = h.ruled }
     split false = attempt_between a (ready w) (between_ready w h)
 
 event_between : (f : Option BusFault) (w : World) → IsBetween w → IsBetween (event_taken f w)
@@ -209,7 +216,7 @@ event_between None w h = first_between w.left w h
 pub between_after : (s : Step) (w : World) → IsBetween w → IsBetween (after s w)
 unfolding after
 between_after (attempt a) w h = attempted_between a w.fault w h
-between_after (root_call c n) w h = record { settled = settled_called c w.roots (n ∷ []) h.settled; sane = sane_called_at c w.roots (n ∷ []) h.sane }
+between_after (root_call c n) w h = record { settled = settled_called c w.roots (n ∷ []) h.settled; sane = sane_called_at c w.roots (n ∷ []) h.sane; ruled = h.ruled }
 between_after event w h = event_between w.fault w h
 between_after (report line) w h = h
 

@@ -21,6 +21,7 @@ pub mod OneHolderWho
 pub mod OneHolderPlace
 pub mod OneHolderReach
 pub mod OneHolderExample
+pub mod OneAnswer
 pub mod Requests
 pub mod OwnLaws
 pub mod Addresses
@@ -38,6 +39,7 @@ pub mod RequestLawsHolder
 pub mod RequestLawsReset
 pub mod RequestLawsExample
 pub mod Devices
+pub mod Ways
 pub mod PluggedShapes
 pub mod PluggedPorts
 pub mod PluggedTrees
@@ -47,3 +49,4 @@ pub mod RefusedLawsPackets
 pub mod RefusedLawsCut
 pub mod RefusedLawsWorld
 pub mod RefusedLawsAlone
+pub mod Resting

@@ -346,13 +346,13 @@ quiet_of true y u v w = refl
 quiet_of false true u v w = refl
 quiet_of false false u v w = refl
 
-setup_quiet : (s : State) (row : List PortState) (n e : ℕ) (w : Way) → (through w s row (Token SetupTok n e)).0 ≡ None
+pub setup_quiet : (s : State) (row : List PortState) (n e : ℕ) (w : Way) → (through w s row (Token SetupTok n e)).0 ≡ None
 unfolding received
 setup_quiet s row n e whole = quiet_of s.spec.silent (n == s.registers.address) s (if e == 0 then record (forgotten s) { memory = memory.SetupSeen } else forgotten s) (forgotten s)
 setup_quiet s row n e broken = refl
 setup_quiet s row n e lost = refl
 
-out_quiet : (s : State) (row : List PortState) (n e : ℕ) (w : Way) → (through w s row (Token OutTok n e)).0 ≡ None
+pub out_quiet : (s : State) (row : List PortState) (n e : ℕ) (w : Way) → (through w s row (Token OutTok n e)).0 ≡ None
 unfolding received
 out_quiet s row n e whole = quiet_of s.spec.silent (n == s.registers.address) s (record (forgotten s) { memory = memory.OutSeen e }) (forgotten s)
 out_quiet s row n e broken = refl

@@ -1,12 +1,12 @@
 -- A function behind an enabled root port, at address 0, as the one holder: SET_ADDRESS is answered, and awaits its status stage.
-use Rattle.std.proofs.Common.{◌≡◌, ℕ, Bool, true, false, List, [], ◌∷◌, Option, None, Some, ◌==◌, refl, ap}
+use Rattle.std.proofs.Common.{◌≡◌, ℕ, true, false, List, [], ◌∷◌, None, Some, ◌==◌, refl, ap}
 use Rattle.usb_packet.specs.declared.TokenKind.TheVariants.{SetupTok}
 use Rattle.usb_packet.specs.declared.Toggle.TheVariants.{Zero}
 use Rattle.usb_port.specs.PortState.{PortState}
 use Rattle.usb_device.specs.declared.answer.Answer.TheVariants as answer
 use Rattle.usb_device.specs.Spec.{Spec, function}
-use Rattle.usb_device.specs.Tree.{Ports, ended, taken, reach_at, state_at, place_at, row_of}
-use Rattle.usb_device.specs.Rows.{State, fresh, accepted}
+use Rattle.usb_device.specs.Tree.{ended, taken, reach_at, place_at, row_of}
+use Rattle.usb_device.specs.Rows.{fresh, accepted}
 use Rattle.usb_device.specs.Delivery.{held, is_twice, all_forgotten}
 use Rattle.usb_request.specs.Layout.{setup_of}
 use Rattle.usb_world.specs.declared.types.Attempt.{Attempt}
@@ -14,8 +14,8 @@ use Rattle.usb_world.specs.declared.types.Outcome.TheVariants as outcome
 use Rattle.usb_world.specs.Wire.{damage_of}
 use Rattle.usb_world.specs.Losses.{no_losses}
 use Rattle.usb_world.specs.World.{World}
-use Rattle.usb_world.specs.Steps.{due_from, ready, with_attempt, outcome_in, attempt, after}
-use Rattle.usb_world.specs.OneHolder.{IsMade, HolderIn, ExchangedIn, IsSetup}
+use Rattle.usb_world.specs.Steps.{due_from, ready, with_attempt, outcome_in, after}
+use Rattle.usb_world.specs.OneHolder.{HolderIn, ExchangedIn}
 use Rattle.usb_world.proofs.Booleans.{no}
 use Rattle.usb_world.proofs.OneHolderMore.{setup_sound_in}
 

@@ -427,10 +427,19 @@ due_own : (f : List ℕ → Option ℕ) (w : World) → Own f w → Own f (ready
 unfolding ready
 due_own f w own p h = ap (option_map address_of) (due_state w.left w p h) ∙ own p (due_reach w.left w p refl h).0
 
-first_shared : (es : List Event) (w : World) → (took_first es w).shared ≡ w.shared
+pub first_shared : (es : List Event) (w : World) → (took_first es w).shared ≡ w.shared
 unfolding took
 first_shared [] w = refl
 first_shared (e ∷ es) w = refl
+
+-- neither a world before an attempt nor the attempt sets the mark
+pub ready_unshared : (f : List ℕ → Option ℕ) → Injective f → (w : World) → Own f w → w.shared ≡ false → ((ready w).shared || is_twice (held (ready w).roots)) ≡ false
+unfolding ready
+ready_unshared f inj w own h = neither_of (ready w).shared (is_twice (held (ready w).roots)) (due_shared w.left w ∙ h) (own_not_twice f inj (ready w) (due_own f w own))
+  where
+    neither_of : (x y : Bool) → x ≡ false → y ≡ false → (x || y) ≡ false
+    neither_of true y h g = no (sym h)
+    neither_of false y h g = g
 
 pub step_unshared : (f : List ℕ → Option ℕ) → Injective f → (s : Step) (w : World) → Own f w → w.shared ≡ false → (after s w).shared ≡ false
 unfolding after with_attempt ports_in ready

@@ -5,8 +5,10 @@ use Rattle.std.proofs.lemmas.List.Elements.{All-head, All-tail}
 use Rattle.std.proofs.lemmas.Option.{slice_get_cases}
 use Rattle.std.proofs.Math.Seq.{take-append_seam, drop-append_seam}
 use Rattle.usb_device.specs.Spec.{Spec}
-use Rattle.usb_device.specs.Tree.{Ports, replaced, changed}
-use Rattle.usb_device.specs.View.{state_there}
+use Rattle.usb_port.specs.PortState.{PortState}
+use Rattle.usb_device.specs.Rows.{State}
+use Rattle.usb_device.specs.Tree.{Ports, ended, vacant, taken, Place, empty, full, replaced, changed, port_at, place_at, row_of}
+use Rattle.usb_device.specs.View.{state_there, port_there}
 use Rattle.usb_world.specs.declared.event.Action.{Action}
 use Rattle.usb_world.specs.declared.event.Action.TheVariants.{Plug, Unplug, Show, Send, Receive, Clear}
 use Rattle.usb_world.specs.declared.event.Event.{Event}
@@ -14,12 +16,15 @@ use Rattle.usb_world.specs.declared.types.Attempt.{Attempt}
 use Rattle.usb_world.specs.declared.types.BusFault.{BusFault}
 use Rattle.usb_world.specs.declared.types.BusFault.TheVariants.{LimitReached}
 use Rattle.usb_world.specs.PlanData.{PlanData, IsPlan, is_taken, action_fits, event_fits, events_fit}
-use Rattle.usb_world.specs.Plugged.{Plugged, plugged, plugged_after, device_at, device_of, is_rooted, has_port}
+use Rattle.usb_world.specs.Plugged.{Plugged, hub_ports, plugged, plugged_after, device_at, device_of, is_rooted, has_port}
 use Rattle.usb_world.specs.PluggedAt.{IsAfter, AtPorts, PlugsAtPort, spec_of}
 use Rattle.usb_world.specs.World.{World}
-use Rattle.usb_world.specs.Steps.{happened, with_plugged, took, took_first, is_due, due_from, ready, damage_in, with_attempt, attempted, event_taken, Step, attempt, root_call, event, report, after, AnyStep, Course, here, step, opening}
+use Rattle.usb_world.specs.Courses.{NoneNames, Undisturbed}
+use Rattle.usb_world.specs.Steps.{names, way_of, happened, with_plugged, took, took_first, is_due, due_from, ready, damage_in, with_attempt, attempted, event_taken, Step, attempt, root_call, event, report, after, AnyStep, Course, here, step, opening}
+use Rattle.usb_world.specs.Live.{is_way}
 use Rattle.usb_world.proofs.Booleans.{no, both}
-use Rattle.usb_world.proofs.PluggedShapes.{Shape, Fits, spec_there, has_there, put_there, gaps, empty_gaps, fits_gaps, fits_there}
+use Rattle.usb_world.proofs.Ways.{undisturbed_on_way}
+use Rattle.usb_world.proofs.PluggedShapes.{Shape, Fits, spec_there, has_there, has_at, has_below, put_there, there_other, gaps, empty_gaps, fits_gaps, fits_there}
 use Rattle.usb_world.proofs.PluggedPorts.{shape, described_there, shape_root, shape_attempt, shape_new, shape_event}
 use Rattle.usb_world.proofs.PluggedTrees.{Told, told_of, Agrees, agrees_plug, agrees_unplug, port_stands}
 
@@ -220,3 +225,124 @@ devices_left plan is paths w c path =
     let all : Left_on plan w = what_is_left plan is paths w c in
     let came : take w.taken plan.events ≡ all.0 = ap (take w.taken) all.1.went.split ∙ ap (λ n. take n (all.0 ++ w.left)) all.1.went.count ∙ take-append_seam all.0 w.left in
     rw came (described_there w.roots path ∙ told_of plan.devices (spec_there (shape w.roots) path) (device_at (plugged [] all.0) path) (all.1.stands.agrees path))
+
+-- What no event named
+
+way_away : (o : Option Spec) (x : Shape) (e p : List ℕ) → way_of e p ≡ false → spec_there (put_there o x e) p ≡ spec_there x p
+way_away o x [] p h = refl
+way_away o x (m ∷ e) p h = there_other o x (m ∷ e) p h
+
+plug_away : (o : Option Spec) (e : List ℕ) (k : Ports) (p : List ℕ) → (is_some o && way_of e p) ≡ false → spec_there (shape (with_plugged o e k)) p ≡ spec_there (shape k) p
+plug_away None e k p h = refl
+plug_away (Some t) e k p h = ap (λ x. spec_there x p) (shape_event (Some t) k e) ∙ way_away (Some t) (shape k) e p h
+
+happened_away : (a : Action) (ds : List Spec) (k : Ports) (p : List ℕ) → names ds a p ≡ false → spec_there (shape (happened a ds k)) p ≡ spec_there (shape k) p
+happened_away (Plug e d) ds k p h = plug_away (slice_get ds d) e k p h
+happened_away (Unplug e) ds k p h = ap (λ x. spec_there x p) (shape_event None k e) ∙ way_away None (shape k) e p h
+happened_away Show ds k p h = refl
+happened_away (Send e bytes) ds k p h = refl
+happened_away (Receive e packets) ds k p h = refl
+happened_away (Clear e) ds k p h = refl
+
+none_parts : (ds : List Spec) (past : List Event) (e : Event) (p : List ℕ) → NoneNames ds (past ++ e ∷ []) p → NoneNames ds past p × (names ds e.action p ≡ false)
+none_parts ds [] e p h = (tt, h.0)
+none_parts ds (x ∷ past) e p h = let rest = none_parts ds past e p h.1 in ((h.0, rest.0), rest.1)
+
+record Unnamed (w : World) (p : List ℕ) (past : List Event) (u : World) : Type 0 where
+  split : w.left ≡ past ++ u.left
+  devices : u.devices ≡ w.devices
+  so : NoneNames w.devices past p → spec_there (shape u.roots) p ≡ spec_there (shape w.roots) p
+
+unnamed_next : (w : World) (p : List ℕ) (past : List Event) (e : Event) (events : List Event) (u : World) → u.left ≡ e ∷ events → Unnamed w p past u → Unnamed w p (past ++ e ∷ []) (took e events u)
+unfolding took
+unnamed_next w p past e events u s h = record {
+  split = h.split ∙ ap (λ l. past ++ l) s ∙ sym (append_assoc past (e ∷ []) events);
+  devices = h.devices;
+  so = λ n. let parts = none_parts w.devices past e p n in
+      happened_away e.action u.devices u.roots p (ap (λ ds. names ds e.action p) h.devices ∙ parts.1) ∙ h.so parts.0;
+}
+
+unnamed_rest : (w : World) (p : List ℕ) (past : List Event) (u v : World) → Alike u v → Unnamed w p past u → Unnamed w p past v
+unnamed_rest w p past u v a h = record {
+  split = h.split ∙ ap (λ l. past ++ l) (sym a.left);
+  devices = a.devices ∙ h.devices;
+  so = λ n. ap (λ x. spec_there x p) a.shape ∙ h.so n;
+}
+
+abbrev Unnamed_on : World → List ℕ → World → Type 0
+Unnamed_on w p u = (past : List Event) × Unnamed w p past u
+
+same_front : (xs ys zs : List Event) → xs ++ zs ≡ ys ++ zs → xs ≡ ys
+same_front xs ys zs h =
+    let size : length xs ≡ length ys = omega (arith, ap length h, length-append xs zs, length-append ys zs) in
+    sym (take-append_seam xs zs) ∙ ap (λ n. take n (xs ++ zs)) size ∙ ap (take (length ys)) h ∙ take-append_seam ys zs
+
+pub undisturbed_keeps : (p : List ℕ) (w v : World) → Course AnyStep w v → Undisturbed w v p → option_map spec_of (state_there v.roots p) ≡ option_map spec_of (state_there w.roots p)
+undisturbed_keeps p w v c u =
+    let all : Unnamed_on w p v = course_keeps (Unnamed_on w p) (λ e events x s h. (h.0 ++ e ∷ [], unnamed_next w p h.0 e events x s h.1)) (λ x y a h. (h.0, unnamed_rest w p h.0 x y a h.1)) c
+    ([], record { split = refl; devices = refl; so = λ n. refl }) in
+    let same : u.events ≡ all.0 = same_front u.events all.0 v.left (sym u.split ∙ all.1.split) in
+    described_there v.roots p ∙ all.1.so (subst (λ l. NoneNames w.devices l p) same u.silent) ∙ sym (described_there w.roots p)
+
+-- Each device has the ports that its description says
+
+port_stands_at : (k : Ports) (i : ℕ) (p : List ℕ) → is_some (port_at k i p) ≡ has_at (shape k) i p
+unfolding port_at has_at shape
+port_stands_at ended i p = refl
+port_stands_at (vacant b k) zero [] = refl
+port_stands_at (vacant b k) zero (n ∷ p) = refl
+port_stands_at (vacant b k) (suc i) p = port_stands_at k i p
+port_stands_at (taken b s a k) zero [] = refl
+port_stands_at (taken b s a k) zero (zero ∷ p) = refl
+port_stands_at (taken b s a k) zero (suc j ∷ p) = port_stands_at a j p
+port_stands_at (taken b s a k) (suc i) p = port_stands_at k i p
+
+pub ports_stand : (plan : PlanData) → IsPlan plan → AtPorts plan.events → (w : World) → Course AnyStep (opening plan) w → (i : ℕ) (p : List ℕ) (t : Spec) (m : ℕ)
+    → option_map spec_of (state_there w.roots (suc i ∷ p)) ≡ Some t → m < hub_ports t.hub → is_some (port_there w.roots (suc i ∷ (p ++ (suc m ∷ [])))) ≡ true
+ports_stand plan is paths w c i p t m e l =
+    let all : Left_on plan w = what_is_left plan is paths w c in
+    port_stands_at w.roots i (p ++ (suc m ∷ [])) ∙ has_below (shape w.roots) plan.roots i p t m all.1.stands.fits (sym (described_there w.roots (suc i ∷ p)) ∙ e) l
+
+fits_row : (k : Ports) (n : ℕ) → Fits (shape k) n → length (row_of k) ≡ n
+unfolding Fits shape row_of
+fits_row ended zero h = refl
+fits_row ended (suc n) h = elim h [ ]
+fits_row (vacant b k) zero h = elim h [ ]
+fits_row (vacant b k) (suc n) h = ap suc (fits_row k n h)
+fits_row (taken b s a k) zero h = elim h [ ]
+fits_row (taken b s a k) (suc n) h = ap suc (fits_row k n h.1)
+
+abbrev own_ports : Option Place → Ports
+own_ports None = ended
+own_ports (Some (empty b)) = ended
+own_ports (Some (full b s a)) = a
+
+abbrev own_count : Option Place → ℕ
+own_count None = 0
+own_count (Some (empty b)) = 0
+own_count (Some (full b s a)) = hub_ports s.spec.hub
+
+fits_own : (k : Ports) (n i : ℕ) (p : List ℕ) → Fits (shape k) n → length (row_of (own_ports (place_at k i p))) ≡ own_count (place_at k i p)
+unfolding Fits shape place_at row_of
+fits_own ended n i p h = refl
+fits_own (vacant b k) zero i p h = elim h [ ]
+fits_own (vacant b k) (suc n) zero [] h = refl
+fits_own (vacant b k) (suc n) zero (m ∷ p) h = refl
+fits_own (vacant b k) (suc n) (suc i) p h = fits_own k n i p h
+fits_own (taken b s a k) zero i p h = elim h [ ]
+fits_own (taken b s a k) (suc n) zero [] h = fits_row a (hub_ports s.spec.hub) h.0
+fits_own (taken b s a k) (suc n) zero (zero ∷ p) h = refl
+fits_own (taken b s a k) (suc n) zero (suc j ∷ p) h = fits_own a (hub_ports s.spec.hub) j p h.0
+fits_own (taken b s a k) (suc n) (suc i) p h = fits_own k n i p h.1
+
+pub ports_counted : (plan : PlanData) → IsPlan plan → AtPorts plan.events → (w : World) → Course AnyStep (opening plan) w → (i : ℕ) (p : List ℕ) (b : PortState) (s : State) (below : Ports)
+    → place_at w.roots i p ≡ Some (full b s below) → length (row_of below) ≡ hub_ports s.spec.hub
+unfolding row_of
+ports_counted plan is paths w c i p b s below e =
+    let all : Left_on plan w = what_is_left plan is paths w c in
+    sym (ap (λ o. length (row_of (own_ports o))) e) ∙ fits_own w.roots plan.roots i p all.1.stands.fits ∙ ap own_count e
+
+-- the same on the way
+pub undisturbed_way : (x p : List ℕ) (w v : World) → is_way x p ≡ true → Course AnyStep w v → Undisturbed w v p
+    → option_map spec_of (state_there v.roots x) ≡ option_map spec_of (state_there w.roots x)
+undisturbed_way x p w v on c u = undisturbed_keeps x w v c (undisturbed_on_way x p w v on u)

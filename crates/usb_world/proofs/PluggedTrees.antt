@@ -1,11 +1,11 @@
 -- What is plugged after an event, path by path, as a plan has it and as the ports have it.
-use Rattle.std.proofs.Common.{◌≡◌, ℕ, zero, suc, ◌-◌, ◌≤◌, ◌<◌, ◌==◌, ◌&&◌, not, cond, Bool, true, false, List, [], ◌∷◌, ◌++◌, length, take, Option, None, Some, is_some, slice_get, nat_eq, nat_le, All, refl, ap, ap₂, sym, subst, ◌∙◌, arith, ⊎_elim, Ordering, Less, Equal, Greater, is_eq}
+use Rattle.std.proofs.Common.{◌≡◌, ℕ, zero, suc, ◌-◌, ◌≤◌, ◌<◌, ◌==◌, not, cond, true, false, List, [], ◌∷◌, ◌++◌, length, take, Option, None, Some, is_some, slice_get, nat_eq, nat_le, All, refl, ap, sym, subst, ◌∙◌, arith, ⊎_elim, Ordering, Less, Equal, Greater, is_eq}
 use Rattle.std.specs.Prelude.{⊤}
 use Rattle.std.specs.Ordering.{match_ordering}
 use Rattle.std.specs.Cmp.Lexicographic.{bytes_decides}
 use Rattle.std.specs.List.{starts_with}
 use Rattle.std.specs.BTreeMap.{insert_entry}
-use Rattle.std.proofs.lemmas.Bool.{eqb-true, eq-eqb, leb-true, lt-ltb}
+use Rattle.std.proofs.lemmas.Bool.{eqb-true, leb-true, lt-ltb}
 use Rattle.std.proofs.lemmas.List.Elements.{All-head, All-tail}
 use Rattle.std.proofs.lemmas.Map.Entries.{lookup-filter-keys}
 use Rattle.std.proofs.lemmas.Map.Lookups.{exact_bytes}
@@ -14,10 +14,11 @@ use Rattle.usb_port.specs.Order.{path_cmp, parent_of, port_of}
 use Rattle.usb_port.specs.Path.{IsPath, IsPortNumber}
 use Rattle.usb_port.proofs.OrderLaws.{is_path, rejoined}
 use Rattle.usb_device.specs.Spec.{Spec}
-use Rattle.usb_world.specs.Live.{same_number, same_path, is_way}
+use Rattle.usb_world.specs.Live.{same_path, is_way}
 use Rattle.usb_world.specs.Plugged.{Plugged, device_at, device_of, unplugged, port_count, is_rooted, parent_has, has_port}
 use Rattle.usb_world.proofs.Booleans.{no, both, either_of, decided}
-use Rattle.usb_world.proofs.AddressesReset.{is_same, same_is, self_number, self_path}
+use Rattle.usb_world.proofs.AddressesReset.{same_is, self_path}
+use Rattle.usb_world.proofs.Ways.{way_starts}
 use Rattle.usb_world.proofs.PluggedShapes.{Shape, Fits, spec_at, spec_there, has_there, put_there, there_none, there_here, there_below, there_off, there_other, has_first, has_below}
 
 -- Paths
@@ -30,23 +31,6 @@ found_same q e h = (bytes_decides q e).0 (sym (is_eq-slice_cmp q e) ∙ h)
 
 not_found : (q e : List ℕ) → same_path e q ≡ false → is_eq (path_cmp q e) ≡ false
 not_found q e n = ⊎_elim (λ y. no (sym n ∙ ap (same_path e) (found_same q e y) ∙ self_path e)) (λ y. y) (decided (is_eq (path_cmp q e)))
-
-alike : (a b : Bool) → (a ≡ true → b ≡ true) → (b ≡ true → a ≡ true) → a ≡ b
-alike true b f g = sym (f refl)
-alike false true f g = g refl
-alike false false f g = refl
-
-number_tests : (m n : ℕ) → same_number m n ≡ nat_eq m n
-number_tests m n =
-    alike (same_number m n) (nat_eq m n)
-    (λ h. eq-eqb m n (sym (is_same m n h)))
-    (λ h. ap (same_number m) (sym (eqb-true m n h)) ∙ self_number m)
-
-way_starts : (e p : List ℕ) → is_way e p ≡ starts_with nat_eq p e
-unfolding is_way
-way_starts [] p = refl
-way_starts (m ∷ e) [] = refl
-way_starts (m ∷ e) (n ∷ p) = ap₂ (λ a b. a && b) (number_tests m n) (way_starts e p)
 
 -- What is plugged at a path
 

@@ -1,7 +1,8 @@
 -- Trees that differ in what their devices remember and in how far their transfers are, but not in more.
-use Rattle.std.proofs.Common.{◌≡◌, ℕ, zero, suc, ◌&&◌, List, [], ◌∷◌, Option, None, Some, option_map, refl, ap, ◌∙◌}
+use Rattle.std.proofs.Common.{◌≡◌, ℕ, zero, suc, ◌&&◌, List, [], ◌∷◌, Option, None, Some, option_map, refl, ap, sym, subst, ◌∙◌}
 use Rattle.std.proofs.lemmas.Option.{same_Some}
 use Rattle.usb_port.specs.PortState.{PortState}
+use Rattle.usb_device.specs.Spec.{IsSpec}
 use Rattle.usb_device.specs.Rows.{State, forgotten}
 use Rattle.usb_device.specs.Tree.{Ports, ended, vacant, taken, reach_at, state_at, port_at}
 use Rattle.usb_device.specs.Delivery.{all_forgotten}
@@ -48,7 +49,7 @@ alike_taken b s z a c k m own below h = record {
   port = port;
   reach = reach;
   selves = selves;
-  sane = λ g. (g.0, rw (ap (λ x. x.0.low) own) g.1, below.sane g.2, h.sane g.3);
+  sane = λ g. (g.0, rw (ap (λ x. x.0.low) own) g.1, below.sane g.2, h.sane g.3, subst IsSpec (sym (ap (λ x. x.0) own)) g.4);
 }
   where
     port : (i : ℕ) (e : List ℕ) → port_at (taken b z c m) i e ≡ port_at (taken b s a k) i e

@@ -1,5 +1,7 @@
 -- What an attempt that was refused memory leaves of the world.
 use Rattle.std.proofs.Common.{◌≡◌, ℕ, zero, suc, true, List, [], ◌∷◌, Option, None, Some, option_map, refl, sym, subst, ap, ◌∙◌}
+use Rattle.std.specs.Prelude.{All}
+use Rattle.usb_device.specs.Spec.{IsSpec}
 use Rattle.usb_device.specs.Rows.{State}
 use Rattle.usb_device.specs.Tree.{Ports, reach, state_at}
 use Rattle.usb_world.specs.declared.event.Event.{Event}
@@ -76,14 +78,14 @@ module _ (a : Attempt) (w : World) (is : IsAttempt a) (sound : w.fault ≡ None)
   left_own f v (at_packet k e c made) own = subst (Own f) (sym made) (alike_own f (ready w).roots k (packet_alike k c) (ready_own f w own))
   left_own f v (at_line e made) own = cc
 
-  left_sane : (v : World) → Left a w Memory v → IsSane w.roots → IsSane v.roots
-  left_sane v (at_event c) h = (came_keeps IsBetween (λ x g. between_after event x g) c sound (record { settled = settled; sane = h })).sane
-  left_sane v (at_packet k e c made) h =
-      subst (λ x. IsSane x.roots) (sym made) ((packet_alike k c).sane (between_ready w (record { settled = settled; sane = h })).sane)
-  left_sane v (at_line e made) h = cc
+  left_sane : (v : World) → Left a w Memory v → All IsSpec w.devices → IsSane w.roots → IsSane v.roots
+  left_sane v (at_event c) r h = (came_keeps IsBetween (λ x g. between_after event x g) c sound (record { settled = settled; sane = h; ruled = r })).sane
+  left_sane v (at_packet k e c made) r h =
+      subst (λ x. IsSane x.roots) (sym made) ((packet_alike k c).sane (between_ready w (record { settled = settled; sane = h; ruled = r })).sane)
+  left_sane v (at_line e made) r h = cc
 
 pub refused_own : (a : Attempt) (w v : World) → IsAttempt a → w.fault ≡ None → IsSettled w.roots → GaveUp a w Memory v → (f : List ℕ → Option ℕ) → Own f w → Own f v
 refused_own a w v is sound settled g f own = subst (Own f) (sym g.told) (left_own a w is sound settled f g.left g.so_far own)
 
-pub refused_sane : (a : Attempt) (w v : World) → IsAttempt a → w.fault ≡ None → IsSettled w.roots → GaveUp a w Memory v → IsSane w.roots → IsSane v.roots
-refused_sane a w v is sound settled g h = subst (λ x. IsSane x.roots) (sym g.told) (left_sane a w is sound settled g.left g.so_far h)
+pub refused_sane : (a : Attempt) (w v : World) → IsAttempt a → w.fault ≡ None → IsSettled w.roots → GaveUp a w Memory v → All IsSpec w.devices → IsSane w.roots → IsSane v.roots
+refused_sane a w v is sound settled g r h = subst (λ x. IsSane x.roots) (sym g.told) (left_sane a w is sound settled g.left g.so_far r h)

@@ -171,7 +171,7 @@ attempt_port n t d r is k j p h =
     ∙ pass_port d (passed t k) j p h
     ∙ pass_port t k j p (calm_leaves t (token_calm n t is.token) k j p)
 
-made_port : (a : Attempt) (w : World) (p : List ℕ) → made_leaves a w p ≡ true → port_there (with_attempt a w).roots p ≡ port_there w.roots p
+pub made_port : (a : Attempt) (w : World) (p : List ℕ) → made_leaves a w p ≡ true → port_there (with_attempt a w).roots p ≡ port_there w.roots p
 unfolding with_attempt ports_in
 made_port a w [] h = refl
 made_port a w (zero ∷ p) h = refl
@@ -251,7 +251,7 @@ call_apart c (taken b s a k) (suc i) zero (zero ∷ p) h = refl
 call_apart c (taken b s a k) (suc i) zero (suc n ∷ p) h = refl
 call_apart c (taken b s a k) (suc i) (suc j) p h = call_apart c k i j p h
 
-root_port : (c : PortCall) (m : ℕ) (k : Ports) (p : List ℕ) → root_leaves m p ≡ true → port_there (changed (called c) k (m ∷ [])) p ≡ port_there k p
+pub root_port : (c : PortCall) (m : ℕ) (k : Ports) (p : List ℕ) → root_leaves m p ≡ true → port_there (changed (called c) k (m ∷ [])) p ≡ port_there k p
 root_port c m k [] h = refl
 root_port c m k (zero ∷ p) h = refl
 root_port c zero k (suc j ∷ p) h = refl

@@ -1,5 +1,5 @@
 -- Why the laws of requests have their premises: what is not so without them.
-use Rattle.std.proofs.Common.{◌≡◌, ℕ, Bool, true, false, List, [], ◌∷◌, None, Some, refl}
+use Rattle.std.proofs.Common.{◌≡◌, true, false, [], ◌∷◌, None, Some, refl}
 use Rattle.usb_packet.specs.declared.TokenKind.TheVariants.{OutTok}
 use Rattle.usb_packet.specs.declared.Toggle.TheVariants.{Zero}
 use Rattle.usb_device.specs.declared.transfer.Memory.TheVariants.{SetupSeen}

@@ -1,5 +1,6 @@
 -- Ports stay sane.
-use Rattle.std.proofs.Common.{◌≡◌, ℕ, zero, suc, ◌&&◌, ◌||◌, if◌then◌else◌, Bool, true, false, List, [], ◌∷◌, Option, None, Some, refl, ap, sym, ◌∙◌}
+use Rattle.std.proofs.Common.{◌≡◌, ℕ, zero, suc, ◌&&◌, ◌||◌, if◌then◌else◌, Bool, true, false, List, [], ◌∷◌, Option, None, Some, refl, ap, sym, subst, ◌∙◌}
+use Rattle.std.specs.Option.{IfSome}
 use Rattle.usb_port.specs.PortState.{PortState, is_attached, speed_of, plugged, unplugged, powered_off}
 use Rattle.usb_device.specs.declared.calls.PortCall.{PortCall}
 use Rattle.usb_device.specs.declared.calls.PortCall.TheVariants.{SetPower, SetReset, ClearEnable, ClearPower, ClearConnectionChange, ClearEnableChange, ClearResetChange}
@@ -8,10 +9,10 @@ use Rattle.usb_device.specs.declared.effect.Effect.TheVariants.{Leaves, Calls, P
 use Rattle.usb_device.specs.declared.delivery.Sent.{Sent}
 use Rattle.usb_device.specs.declared.delivery.Content.{Content}
 use Rattle.usb_device.specs.declared.delivery.Content.TheVariants.{Whole, Broken}
-use Rattle.usb_device.specs.Spec.{Spec, Hub}
+use Rattle.usb_device.specs.Spec.{Spec, Hub, IsSpec}
 use Rattle.usb_device.specs.Rows.{State, fresh, reset_state, unread, forgotten}
 use Rattle.usb_device.specs.Calls.{called_port, is_reset}
-use Rattle.usb_device.specs.Tree.{Ports, ended, vacant, taken, Place, empty, full, before, all_off, new_ports, first_ports, called, reset_where, replaced, changed, changed_at, acted, reach_at, row_of}
+use Rattle.usb_device.specs.Tree.{Ports, ended, vacant, taken, Place, empty, full, before, all_off, new_ports, first_ports, called, reset_where, replaced, changed, changed_at, acted, reach_at, state_at, row_of}
 use Rattle.usb_device.specs.Delivery.{answer_of, effect_of, after_packet, all_forgotten, hears, reply_to}
 use Rattle.usb_device.proofs.Kept.{keeps-received}
 use Rattle.usb_world.specs.Live.{live_at}
@@ -84,7 +85,7 @@ pub sane_all_off : (k : Ports) → IsSane k → IsSane (all_off k)
 unfolding IsSane all_off
 sane_all_off ended h = h
 sane_all_off (vacant b k) h = (sane_off b, h.1, sane_all_off k h.2)
-sane_all_off (taken b s a k) h = (sane_off b, h.1, h.2, sane_all_off k h.3)
+sane_all_off (taken b s a k) h = (sane_off b, h.1, h.2, sane_all_off k h.3, h.4)
 
 pub sane_new_ports : (n : ℕ) → IsSane (new_ports n)
 unfolding IsSane new_ports
@@ -102,20 +103,20 @@ sane_called c (empty b) h = (sane_row c b h.0, row_attached c b ∙ h.1)
 sane_called c (full b s a) h = split (is_reset c && (b.power && is_attached b.attached))
   where
     split : (x : Bool) → IsSanePlace (reset_where x (called_port c b) s a)
-    split true = (sane_row c b h.0, row_attached c b ∙ h.1, sane_all_off a h.2)
-    split false = (sane_row c b h.0, row_attached c b ∙ h.1, h.2)
+    split true = (sane_row c b h.0, row_attached c b ∙ h.1, sane_all_off a h.2, h.3)
+    split false = (sane_row c b h.0, row_attached c b ∙ h.1, h.2, h.3)
 
-pub sane_replaced : (o : Option Spec) (q : Place) → IsSanePlace q → IsSanePlace (replaced o q)
+pub sane_replaced : (o : Option Spec) → IfSome o IsSpec → (q : Place) → IsSanePlace q → IsSanePlace (replaced o q)
 unfolding IsSanePlace fresh
-sane_replaced None (empty b) h = (sane_unplugged b h.0, refl)
-sane_replaced None (full b s a) h = (sane_unplugged b h.0, refl)
-sane_replaced (Some t) (empty b) h = (sane_plugged t.low b (sane_unplugged b h.0), refl, sane_first t.hub)
-sane_replaced (Some t) (full b s a) h = (sane_plugged t.low b (sane_unplugged b h.0), refl, sane_first t.hub)
+sane_replaced None r (empty b) h = (sane_unplugged b h.0, refl)
+sane_replaced None r (full b s a) h = (sane_unplugged b h.0, refl)
+sane_replaced (Some t) r (empty b) h = (sane_plugged t.low b (sane_unplugged b h.0), refl, sane_first t.hub, r)
+sane_replaced (Some t) r (full b s a) h = (sane_plugged t.low b (sane_unplugged b h.0), refl, sane_first t.hub, r)
 
 sane_before : (q : Place) (k : Ports) → IsSanePlace q → IsSane k → IsSane (before q k)
 unfolding IsSanePlace IsSane
 sane_before (empty b) k h g = (h.0, h.1, g)
-sane_before (full b s a) k h g = (h.0, h.1, h.2, g)
+sane_before (full b s a) k h g = (h.0, h.1, h.2, g, h.3)
 
 -- what keeps a port sane keeps the tree so
 pub sane_changed : (f : Place → Place) → ((q : Place) → IsSanePlace q → IsSanePlace (f q)) → (k : Ports) (i : ℕ) (p : List ℕ) → IsSane k → IsSane (changed_at f k i p)
@@ -124,10 +125,10 @@ sane_changed f c ended i p h = h
 sane_changed f c (vacant b k) zero [] h = sane_before (f (empty b)) k (c (empty b) (h.0, h.1)) h.2
 sane_changed f c (vacant b k) zero (n ∷ p) h = h
 sane_changed f c (vacant b k) (suc i) p h = (h.0, h.1, sane_changed f c k i p h.2)
-sane_changed f c (taken b s a k) zero [] h = sane_before (f (full b s a)) k (c (full b s a) (h.0, h.1, h.2)) h.3
+sane_changed f c (taken b s a k) zero [] h = sane_before (f (full b s a)) k (c (full b s a) (h.0, h.1, h.2, h.4)) h.3
 sane_changed f c (taken b s a k) zero (zero ∷ p) h = h
-sane_changed f c (taken b s a k) zero (suc j ∷ p) h = (h.0, h.1, sane_changed f c a j p h.2, h.3)
-sane_changed f c (taken b s a k) (suc i) p h = (h.0, h.1, h.2, sane_changed f c k i p h.3)
+sane_changed f c (taken b s a k) zero (suc j ∷ p) h = (h.0, h.1, sane_changed f c a j p h.2, h.3, h.4)
+sane_changed f c (taken b s a k) (suc i) p h = (h.0, h.1, h.2, sane_changed f c k i p h.3, h.4)
 
 pub sane_path : (f : Place → Place) → ((q : Place) → IsSanePlace q → IsSanePlace (f q)) → (k : Ports) (x : List ℕ) → IsSane k → IsSane (changed f k x)
 sane_path f c k [] h = h
@@ -164,14 +165,14 @@ sane_packet q deep (taken b s a k) h = split b.enable (sane_packet q true a h.2)
   where
     split : (x : Bool) → IsSane (after_packet q true a) → IsSane (after_packet q deep k)
         → IsSane (if x then taken b (answer_of q deep s a).1 (acted (effect_of q deep s) (after_packet q true a)) (after_packet q deep k) else taken b s a (after_packet q deep k))
-    split true g r = (h.0, h.1 ∙ ap (λ t. speed_of t.low) (sym (answer_spec q deep s a)), sane_acted (effect_of q deep s) (after_packet q true a) g, r)
-    split false g r = (h.0, h.1, h.2, r)
+    split true g r = (h.0, h.1 ∙ ap (λ t. speed_of t.low) (sym (answer_spec q deep s a)), sane_acted (effect_of q deep s) (after_packet q true a) g, r, subst IsSpec (sym (answer_spec q deep s a)) h.4)
+    split false g r = (h.0, h.1, h.2, r, h.4)
 
 pub sane_forgotten : (k : Ports) → IsSane k → IsSane (all_forgotten k)
 unfolding IsSane all_forgotten
 sane_forgotten ended h = h
 sane_forgotten (vacant b k) h = (h.0, h.1, sane_forgotten k h.2)
-sane_forgotten (taken b s a k) h = (h.0, h.1, sane_forgotten a h.2, sane_forgotten k h.3)
+sane_forgotten (taken b s a k) h = (h.0, h.1, sane_forgotten a h.2, sane_forgotten k h.3, h.4)
 
 -- a device is reached where its port and each on its way is powered, sees what is attached, and is enabled
 enabled_open : (b : PortState) → IsSanePort b → b.enable ≡ is_open b
@@ -202,3 +203,14 @@ reach_live (taken b s a k) zero (suc j ∷ p) h g =
     let on : _ = both b.enable (reach_at a j p) g in
     and_of b.power _ (both b.power (is_attached b.attached) (h.0.enabled on.0)).0 (reach_live a j p h.2 on.1)
 reach_live (taken b s a k) (suc i) p h g = reach_live k i p h.3 g
+
+-- each device is as the rules say
+pub sane_spec : (k : Ports) (i : ℕ) (p : List ℕ) (s : State) → IsSane k → state_at k i p ≡ Some s → IsSpec s.spec
+unfolding IsSane state_at
+sane_spec ended i p z h e = cc
+sane_spec (vacant b k) zero p z h e = cc
+sane_spec (vacant b k) (suc i) p z h e = sane_spec k i p z h.2 e
+sane_spec (taken b s a k) zero [] z h e = subst (λ o. IfSome o (λ x. IsSpec x.spec)) e h.4
+sane_spec (taken b s a k) zero (zero ∷ p) z h e = cc
+sane_spec (taken b s a k) zero (suc j ∷ p) z h e = sane_spec a j p z h.2 e
+sane_spec (taken b s a k) (suc i) p z h e = sane_spec k i p z h.3 e

@@ -102,7 +102,7 @@ happened_reach (Send x b) d k p h = (h, refl)
 happened_reach (Receive x n) d k p h = (h, refl)
 happened_reach (Clear x) d k p h = (h, refl)
 
-happened_pend : (a : Action) (d : List Spec) (k : Ports) (p : List ℕ) → pend k p ≡ true → pend (happened a d k) p ≡ true
+pub happened_pend : (a : Action) (d : List Spec) (k : Ports) (p : List ℕ) → pend k p ≡ true → pend (happened a d k) p ≡ true
 happened_pend (Plug x i) d k p h = plugged_pend (slice_get d i) k x p h
 happened_pend (Unplug x) d k p h = replaced_pend None k x p h
 happened_pend Show d k p h = h
@@ -110,7 +110,7 @@ happened_pend (Send x b) d k p h = h
 happened_pend (Receive x n) d k p h = h
 happened_pend (Clear x) d k p h = h
 
-happened_live : (a : Action) (d : List Spec) (k : Ports) (p : List ℕ) → live k p ≡ true → ((live (happened a d k) p ≡ true) × (names d a p ≡ false)) ⊎ (pend (happened a d k) p ≡ true)
+pub happened_live : (a : Action) (d : List Spec) (k : Ports) (p : List ℕ) → live k p ≡ true → ((live (happened a d k) p ≡ true) × (names d a p ≡ false)) ⊎ (pend (happened a d k) p ≡ true)
 happened_live (Plug x i) d k p h = plugged_live (slice_get d i) k x p h
 happened_live (Unplug x) d k p h = replaced_live None k x p h
 happened_live Show d k p h = inl (h, refl)
@@ -146,7 +146,7 @@ due_reach (e ∷ es) w p l h =
       | false ↦ λ h. (h, undisturbed_here w w p refl refl)
     ] h
 
-due_pend : (es : List Event) (w : World) (p : List ℕ) → pend w.roots p ≡ true → pend (due_from es w).roots p ≡ true
+pub due_pend : (es : List Event) (w : World) (p : List ℕ) → pend w.roots p ≡ true → pend (due_from es w).roots p ≡ true
 unfolding due_from took
 due_pend [] w p h = h
 due_pend (e ∷ es) w p h =
@@ -247,13 +247,13 @@ made_new a w [] f = no f
 made_new a w (zero ∷ p) f = no f
 made_new a w (suc j ∷ p) f = attempt_new a.addr (token_out a (damage_in w)) (payload_out a (damage_in w)) (reply_out a (damage_in w) w.roots) (goes a (damage_in w) w.roots) w.roots j p f
 
-made_pend : (a : Attempt) (w : World) (p : List ℕ) → made_spares a w p ≡ true → pend w.roots p ≡ true → pend (with_attempt a w).roots p ≡ true
+pub made_pend : (a : Attempt) (w : World) (p : List ℕ) → made_spares a w p ≡ true → pend w.roots p ≡ true → pend (with_attempt a w).roots p ≡ true
 unfolding with_attempt ports_in
 made_pend a w [] f h = no h
 made_pend a w (zero ∷ p) f h = no h
 made_pend a w (suc j ∷ p) f h = attempt_pend a.addr (token_out a (damage_in w)) (payload_out a (damage_in w)) (reply_out a (damage_in w) w.roots) (goes a (damage_in w) w.roots) w.roots j p f h
 
-made_live : (a : Attempt) (w : World) (p : List ℕ) → made_spares a w p ≡ true → live w.roots p ≡ true → live (with_attempt a w).roots p ≡ true
+pub made_live : (a : Attempt) (w : World) (p : List ℕ) → made_spares a w p ≡ true → live w.roots p ≡ true → live (with_attempt a w).roots p ≡ true
 unfolding with_attempt ports_in
 made_live a w [] f h = no h
 made_live a w (zero ∷ p) f h = no h
@@ -277,13 +277,13 @@ root_new c (suc i) k [] f = no f
 root_new c (suc i) k (zero ∷ p) f = no f
 root_new c (suc i) k (suc j ∷ p) f = call_new c k i j p f
 
-root_pend : (c : PortCall) (n : ℕ) (k : Ports) (p : List ℕ) → root_spares c n p ≡ true → pend k p ≡ true → pend (changed (called c) k (n ∷ [])) p ≡ true
+pub root_pend : (c : PortCall) (n : ℕ) (k : Ports) (p : List ℕ) → root_spares c n p ≡ true → pend k p ≡ true → pend (changed (called c) k (n ∷ [])) p ≡ true
 root_pend c n k [] g h = no h
 root_pend c n k (zero ∷ p) g h = no h
 root_pend c zero k (suc j ∷ p) g h = h
 root_pend c (suc i) k (suc j ∷ p) g h = call_pend c k i j p g h
 
-root_live : (c : PortCall) (n : ℕ) (k : Ports) (p : List ℕ) → root_spares c n p ≡ true → live k p ≡ true → live (changed (called c) k (n ∷ [])) p ≡ true
+pub root_live : (c : PortCall) (n : ℕ) (k : Ports) (p : List ℕ) → root_spares c n p ≡ true → live k p ≡ true → live (changed (called c) k (n ∷ [])) p ≡ true
 root_live c n k [] g h = no h
 root_live c n k (zero ∷ p) g h = no h
 root_live c zero k (suc j ∷ p) g h = h

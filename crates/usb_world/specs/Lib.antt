@@ -20,3 +20,4 @@ pub mod Requested
 pub mod Devices
 pub mod PluggedAt
 pub mod Refused
+pub mod Resting

@@ -1,6 +1,6 @@
 -- A plan as contracts see it, and the rules that it keeps.
 use Rattle.std.specs.Prelude.{◌≡◌, ◌≤◌, ℕ, List, [], ◌∷◌, length, Bool, true, ◌&&◌, not, ◌==◌, nat_le, nat_lt, slice_index, is_some}
-use Rattle.usb_device.specs.Spec.{Spec}
+use Rattle.usb_device.specs.Spec.{Spec, AreDevices}
 use Rattle.usb_world.specs.declared.event.Event.{Event}
 use Rattle.usb_world.specs.declared.event.Action.{Action}
 use Rattle.usb_world.specs.declared.event.Action.TheVariants.{Plug, Unplug, Show, Send, Receive, Clear}
@@ -60,6 +60,7 @@ pub record IsPlan (p : PlanData) : Type 0 where
   pub limit : p.limit ≤ 100000000000000
   pub some_root : 1 ≤ p.roots
   pub few_roots : p.roots ≤ 7
+  pub devices : AreDevices p.devices
   pub events : events_fit p.roots p.devices [] p.events ≡ true
   pub damages : damages_fit 0 p.damages ≡ true
 

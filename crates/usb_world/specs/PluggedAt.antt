@@ -1,5 +1,5 @@
 -- What the events that came have left of a plan.
-use Rattle.std.specs.Prelude.{◌≡◌, ◌≤◌, ℕ, List, length, drop, All, ⊤}
+use Rattle.std.specs.Prelude.{◌≡◌, ◌≤◌, List, length, drop, All, ⊤}
 use Rattle.usb_port.specs.Path.{IsPath}
 use Rattle.usb_device.specs.Spec.{Spec}
 use Rattle.usb_device.specs.Rows.{State}

@@ -1,9 +1,9 @@
 -- The steps of a world: attempts, root calls, events and lines of report.
-use Rattle.std.specs.Prelude.{◌≡◌, ℕ, ◌+◌, ◌-◌, ◌==◌, nat_le, Bool, true, false, ◌&&◌, ◌||◌, not, if◌then◌else◌, List, [], ◌∷◌, slice_get, slice_set, unwrap_or, Option, Some, None, is_some, Result, Ok, Err, ⊤}
+use Rattle.std.specs.Prelude.{◌≡◌, ◌≢◌, ℕ, ◌+◌, ◌-◌, ◌==◌, nat_le, Bool, true, false, ◌&&◌, ◌||◌, not, if◌then◌else◌, List, [], ◌∷◌, slice_get, slice_set, unwrap_or, Option, Some, None, is_some, Result, Ok, Err, All, ⊤}
 use Rattle.usb_port.specs.PortState.{set_row, clear_row}
 use Rattle.usb_device.specs.declared.calls.PortCall.{PortCall}
 use Rattle.usb_device.specs.declared.delivery.Sent.{Sent}
-use Rattle.usb_device.specs.Spec.{Spec}
+use Rattle.usb_device.specs.Spec.{Spec, IsSpec}
 use Rattle.usb_device.specs.Calls.{set_call, clear_call}
 use Rattle.usb_device.specs.Tree.{Ports, new_ports, called, replaced, changed}
 use Rattle.usb_device.specs.Delivery.{held, is_twice, all_forgotten, is_clearing}
@@ -171,6 +171,7 @@ pub data Left (a : Attempt) (old : World) (f : BusFault) (new : World) : Type 0 
 
 -- an attempt that the bus gave up, and not because of the limit
 pub record GaveUp (a : Attempt) (old : World) (f : BusFault) (new : World) : Type 0 where
+  pub below : old.attempts ≢ old.limit
   pub left : World
   pub so_far : Left a old f left
   pub told : new ≡ record left { fault = Some f }
@@ -189,10 +190,11 @@ pub data Course (K : Step → World → Type 0) : World → World → Type 0 whe
 abbrev pub AnyStep : Step → World → Type 0
 AnyStep s w = ⊤
 
--- between two steps no device remembers a packet, and what is so of every port is so
+-- between two steps no device remembers a packet, ports are sane, and the plan's devices are as the rules say
 pub record IsBetween (w : World) : Type 0 where
   pub settled : IsSettled w.roots
   pub sane : IsSane w.roots
+  pub ruled : All IsSpec w.devices
 
 -- a root call is its step, and one row of the port table at one root port (11.24.2)
 pub record SetsRoot (port feature : ℕ) (old new : World) : Type 0 where

@@ -16,6 +16,7 @@ mod plugged_laws;
 mod refused_laws;
 mod request_laws;
 mod types;
+mod way_laws;
 mod wire;
 mod world_laws;
 
@@ -29,19 +30,23 @@ pub use event::{Action, Due, Event, Events, SentBytes, event_copies};
 pub use exchange::{Exchange, Heard, make_exchange, outcome_of};
 pub use losses::Losses;
 pub use one_holder::{
-    in_with_one_holder, nobody_is_asked, one_device_answers, others_stay_or_are_reset,
-    out_with_one_holder, ports_of_the_holder, ports_of_the_holder_in_worlds, setup_with_one_holder,
-    silent_holder_answers_nothing, the_holder_stays_reachable, undamaged_attempts,
-    undamaged_attempts_in_worlds, what_is_heard_of_the_holder,
+    in_with_one_holder, nobody_is_asked, one_device_answers, one_device_at_most_answers,
+    others_stay_or_are_reset, out_with_one_holder, ports_of_the_holder,
+    ports_of_the_holder_in_worlds, setup_with_one_holder, silent_holder_answers_nothing,
+    the_holder_stays_reachable, undamaged_attempts, undamaged_attempts_in_worlds,
+    what_is_heard_of_the_holder,
 };
 pub use plan::Plan;
-pub use plugged_laws::plugged_is_what_the_events_left;
+pub use plugged_laws::{
+    devices_have_their_ports, plugged_is_what_the_events_left, undisturbed_keeps_what_is_plugged,
+};
 pub use refused_laws::refused_memory_keeps;
 pub use request_laws::{
-    change_bits_rest, hub_reset_gives_address_zero, pending_may_be_told_at_each_port,
-    port_requests_spare_the_rest, requests_that_ask_nothing,
+    a_port_rests_or_is_pending, change_bits_rest, hub_reset_gives_address_zero,
+    pending_may_be_told_at_each_port, port_requests_spare_the_rest, requests_that_ask_nothing,
 };
 pub use types::{Attempt, BusFault, Outcome};
+pub use way_laws::ways_of_paths;
 pub use wire::{Mark, Outgoing, damage_of};
 pub use world_laws::{
     attempt_at_laws, call_laws, event_laws, events_are_pending, harmless_requests, holder_laws,

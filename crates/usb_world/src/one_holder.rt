@@ -1,7 +1,7 @@
 //! Laws of an attempt where one reachable device holds its address, or none does, for those who make attempts.
 //!
 //! Each call does nothing; what it ensures is for proofs to cite.
-ghost use Rattle.std.specs.Prelude.{◌≡◌, ◌⊎◌, ℕ, suc, ◌&&◌, Bool, true, false, List, [], ◌∷◌, Option, None, Some};
+ghost use Rattle.std.specs.Prelude.{◌≡◌, ◌≤◌, ◌⊎◌, ℕ, suc, ◌&&◌, Bool, true, false, List, [], ◌∷◌, ◌++◌, length, Option, None, Some};
 ghost use Rattle.usb_packet.specs.declared.Toggle.{Toggle};
 ghost use Rattle.usb_port.specs.PortState.{PortState};
 ghost use Rattle.usb_request.specs.Layout.{setup_of};
@@ -9,16 +9,17 @@ ghost use Rattle.usb_device.specs.declared.answer.Answer.TheVariants.{Ack};
 ghost use Rattle.usb_device.specs.Rows.{State, accepted, data_row, forgotten};
 ghost use Rattle.usb_device.specs.Attempt.{whole, setup_law, out_law, in_law};
 ghost use Rattle.usb_device.specs.Tree.{Ports, full, acted, row_of, reach_at, state_at, place_at};
-ghost use Rattle.usb_device.specs.Delivery.{listed};
+ghost use Rattle.usb_device.specs.Delivery.{held, is_twice, listed};
 ghost use Rattle.usb_world.specs.declared.types.Attempt.{Attempt};
 ghost use Rattle.usb_world.specs.declared.types.Outcome.TheVariants.{Nothing};
 ghost use Rattle.usb_world.specs.declared.damage.Damage.{Damage};
+ghost use Rattle.usb_world.specs.declared.exchange.Heard.TheVariants.{Collision};
 ghost use Rattle.usb_world.specs.Exchange.{heard_all, heard_in, mark_in, outcome_of, ports_in, token_out, payload_out};
 ghost use Rattle.usb_world.specs.Live.{same_number, same_path};
 ghost use Rattle.usb_world.specs.Touched.{reset_if};
-ghost use Rattle.usb_world.specs.Passes.{IsSettled, NobodyHolds, deep_at, attempt_resets};
-ghost use Rattle.usb_world.specs.World.{World, Made};
-ghost use Rattle.usb_world.specs.Steps.{outcome_in, ready, damage_in, attempt, after};
+ghost use Rattle.usb_world.specs.Passes.{passed, told, IsSettled, NobodyHolds, deep_at, attempt_resets};
+ghost use Rattle.usb_world.specs.World.{World, Made, IsAttempt};
+ghost use Rattle.usb_world.specs.Steps.{outcome_in, made_in, ready, damage_in, attempt, after};
 ghost use Rattle.usb_world.specs.Courses.{resets};
 ghost use Rattle.usb_world.specs.OneHolder.{Holder, Exchanged, IsSetup, IsOut, IsIn, token_way, payload_way, setup_alone, out_alone, in_alone, setup_asked, hears_attempt, AllWhole, IsMade, HolderIn, ExchangedIn, SomeHolder, Answerer};
 
@@ -123,6 +124,17 @@ pub fn one_device_answers()
     ensures made { (a : Attempt) (w : World) → IsSettled w.roots → Made w (after (attempt a) w) → IsMade a w }
     ensures holder { (a : Attempt) (w : World) → IsMade a w → (after (attempt a) w).shared ≡ false → SomeHolder a w ⊎ NobodyHolds a.addr (ready w).roots }
     ensures answerer { (a : Attempt) (w : World) → IsMade a w → (after (attempt a) w).shared ≡ false → (outcome_in a w ≡ Nothing → ⊥) → Answerer a w }
+{}
+
+/// Where no address is held twice, at most one device answers an attempt, whatever is damaged; so no line of the trace
+/// tells of a collision.
+pub fn one_device_at_most_answers()
+    ensures answers { (a : Attempt) (d : Option Damage) (k : Ports) → IsAttempt a → IsSettled k → is_twice (held k) ≡ false
+        → length (told (token_out a d) k ++ told (payload_out a d) (passed (token_out a d) k)) ≤ 1 }
+    ensures heard { (a : Attempt) (d : Option Damage) (k : Ports) → IsAttempt a → IsSettled k → is_twice (held k) ≡ false
+        → heard_in a d k ≡ Collision → ⊥ }
+    ensures line { (a : Attempt) (w : World) → IsAttempt a → IsMade a w → (after (attempt a) w).shared ≡ false
+        → (made_in a (ready w)).answer ≡ Collision → ⊥ }
 {}
 
 /// The device that holds the address, with its ports: setup data that it accepts ask of them what the request says (11.24.2),

@@ -1,8 +1,9 @@
 //! Laws of an attempt that was refused memory while its packets went, for those who make attempts.
 //!
 //! Each call does nothing; what it ensures is for proofs to cite.
-ghost use Rattle.std.specs.Prelude.{◌≡◌, ℕ, false, List, Option, None};
+ghost use Rattle.std.specs.Prelude.{◌≡◌, ℕ, false, List, Option, None, All};
 ghost use Rattle.usb_device.specs.Delivery.{held, is_twice};
+ghost use Rattle.usb_device.specs.Spec.{IsSpec};
 ghost use Rattle.usb_device.specs.Tree.{Ports};
 ghost use Rattle.usb_world.specs.declared.damage.Damage.{Damage as Harmed};
 ghost use Rattle.usb_world.specs.declared.types.Attempt.{Attempt};
@@ -23,5 +24,5 @@ pub fn refused_memory_keeps()
     ensures own { (a : Attempt) (w v : World) → IsAttempt a → w.fault ≡ None → IsSettled w.roots → GaveUp a w Memory v
         → (f : List ℕ → Option ℕ) → Own f w → Own f v }
     ensures sane { (a : Attempt) (w v : World) → IsAttempt a → w.fault ≡ None → IsSettled w.roots → GaveUp a w Memory v
-        → IsSane w.roots → IsSane v.roots }
+        → All IsSpec w.devices → IsSane w.roots → IsSane v.roots }
 {}

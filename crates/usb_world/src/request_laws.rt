@@ -7,14 +7,15 @@ ghost use Rattle.usb_request.specs.Layout.{setup_of};
 ghost use Rattle.usb_device.specs.Rows.{State};
 ghost use Rattle.usb_device.specs.Tree.{Ports};
 ghost use Rattle.usb_device.specs.View.{port_there};
-ghost use Rattle.usb_world.specs.Live.{pend, is_way};
+ghost use Rattle.usb_world.specs.Live.{live, pend, is_way};
 ghost use Rattle.usb_world.specs.Sane.{IsSane};
 ghost use Rattle.usb_world.specs.Passes.{IsSettled};
 ghost use Rattle.usb_world.specs.World.{World};
 ghost use Rattle.usb_world.specs.Steps.{Course, attempt, after};
-ghost use Rattle.usb_world.specs.Courses.{Own, resets, spares_step};
+ghost use Rattle.usb_world.specs.Courses.{Own, Spares, resets, spares_step};
 ghost use Rattle.usb_world.specs.OneHolder.{IsSetup, HolderIn};
 ghost use Rattle.usb_world.specs.Addresses.{after_reset};
+ghost use Rattle.usb_world.specs.Resting.{AsksNothingOf, RestsOrPends, StandsOrPends};
 ghost use Rattle.usb_world.specs.declared.types.Attempt.{Attempt};
 ghost use Rattle.usb_world.specs.Requested.{told, plain_payload, plain_data, AsksNothing, LeavesPort, row_reached, StillSet, is_port_request, is_sparing, is_below};
 
@@ -38,6 +39,14 @@ pub fn requests_that_ask_nothing()
 pub fn change_bits_rest()
     ensures { (q : List ℕ) (n : ℕ) (w v : World) → Course (LeavesPort (q ++ (n ∷ []))) w v → row_reached v.roots q ≡ true
         → (b : PortState) → port_there w.roots (q ++ (n ∷ [])) ≡ Some b → StillSet b (port_there v.roots (q ++ (n ∷ []))) }
+{}
+
+/// A port that is powered on its whole way, and of which nothing is asked: it stands as it stood, with the same device or none, reached as it
+/// was; or a change of connection is pending on its way.
+pub fn a_port_rests_or_is_pending()
+    ensures rests { (p : List ℕ) (w v : World) → Course (AsksNothingOf p) w v → live w.roots p ≡ true → RestsOrPends w v p }
+    // Where something may be asked of the port itself, but nothing that is pending is cleared: the same device stands there, or none.
+    ensures itself { (p : List ℕ) (w v : World) → Course (Spares p) w v → live w.roots p ≡ true → StandsOrPends w v p }
 {}
 
 /// Where one reachable device holds the address of an attempt, only ports below it can be asked anything.

@@ -1,10 +1,11 @@
 //! Laws of the tree of devices and of the world that a bus stands for, for those who make attempts.
 //!
 //! Each call does nothing; what it ensures is for proofs to cite.
-ghost use Rattle.std.specs.Prelude.{◌≡◌, ◌⊎◌, ◌&&◌, ℕ, Bool, true, false, List, [], ◌∷◌, Option, None, Some, option_map};
+ghost use Rattle.std.specs.Prelude.{◌≡◌, ◌⊎◌, ◌&&◌, ℕ, Bool, true, false, List, [], ◌∷◌, Option, None, Some, option_map, All};
+ghost use Rattle.std.specs.Option.{IfSome};
 ghost use Rattle.usb_device.specs.declared.calls.PortCall.{PortCall};
 ghost use Rattle.usb_device.specs.declared.delivery.Sent.{Sent};
-ghost use Rattle.usb_device.specs.Spec.{Spec};
+ghost use Rattle.usb_device.specs.Spec.{Spec, IsSpec};
 ghost use Rattle.usb_device.specs.Rows.{State};
 ghost use Rattle.usb_device.specs.Tree.{Ports, Place, called, replaced, changed_at, reach_at, state_at, port_at, place_at, reach, place};
 ghost use Rattle.usb_device.specs.Delivery.{after_packet, all_forgotten, held, is_twice};
@@ -69,15 +70,16 @@ pub fn packet_laws()
 {}
 
 /// What is so of every port stays so; so a device is reached where each port on its way, and its own, is powered, has
-/// something attached, and is enabled (11.5).
+/// something attached, and is enabled (11.5), and each device that is plugged is as the rules say.
 pub fn sane_laws()
     ensures called { (c : PortCall) (q : Place) → IsSanePlace q → IsSanePlace (called c q) }
-    ensures replaced { (o : Option Spec) (q : Place) → IsSanePlace q → IsSanePlace (replaced o q) }
+    ensures replaced { (o : Option Spec) → IfSome o IsSpec → (q : Place) → IsSanePlace q → IsSanePlace (replaced o q) }
     ensures changed { (f : Place → Place) → ((q : Place) → IsSanePlace q → IsSanePlace (f q)) → (k : Ports) (i : ℕ) (p : List ℕ) → IsSane k → IsSane (changed_at f k i p) }
     ensures packet { (q : Sent) (deep : Bool) (k : Ports) → IsSane k → IsSane (after_packet q deep k) }
     ensures attempt { (t d r : Option Sent) (k : Ports) → IsSane k → IsSane (after_attempt t d r k) }
     ensures reach { (k : Ports) (i : ℕ) (p : List ℕ) → IsSane k → reach_at k i p ≡ open_at k i p }
     ensures live { (k : Ports) (i : ℕ) (p : List ℕ) → IsSane k → reach_at k i p ≡ true → live_at k i p ≡ true }
+    ensures ruled { (k : Ports) (i : ℕ) (p : List ℕ) (s : State) → IsSane k → state_at k i p ≡ Some s → IsSpec s.spec }
 {}
 
 /// Where no address is held twice, two reachable devices at one address are one; and where one is, two devices hold it.
@@ -136,9 +138,9 @@ pub fn events_are_pending()
     ensures { (p : List ℕ) (w v : World) → Course (Spares p) w v → live w.roots p ≡ true → Keeps w v p }
 {}
 
-/// Between two steps no device remembers a packet, and what is so of every port is so.
+/// Between two steps no device remembers a packet, ports are sane, and the plan's devices are as the rules say.
 pub fn steps_keep_what_is_between()
-    ensures opening { (p : PlanData) → IsBetween (opening p) }
+    ensures opening { (p : PlanData) → All IsSpec p.devices → IsBetween (opening p) }
     ensures step { (s : Step) (w : World) → IsBetween w → IsBetween (after s w) }
     ensures course { (w v : World) → Course AnyStep w v → IsBetween w → IsBetween v }
 {}

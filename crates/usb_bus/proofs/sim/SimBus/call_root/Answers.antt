@@ -22,6 +22,7 @@ invariant_of-self g c =
       few_roots = omega (arith, long, s.few_roots);
       settled = subst IsSettled (sym e) (settled_called call s.roots (port ∷ []) s.settled);
       sane = λ none. subst IsSane (sym e) (sane_called_at call s.roots (port ∷ []) (s.sane none));
+      ruled = s.ruled;
       planned = s.planned;
       few_events = s.few_events;
       counted = s.counted;

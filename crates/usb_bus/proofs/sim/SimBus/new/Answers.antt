@@ -1,4 +1,6 @@
 use Rattle.std.proofs.Common.{◌≡◌, length, arith, ap, sym, subst, ◌∙◌}
+use Rattle.std.specs.Prelude.{All}
+use Rattle.usb_device.specs.Spec.{IsSpec}
 use Rattle.usb_device.specs.Tree.{row_of}
 use Rattle.usb_world.specs.Passes.{IsSettled}
 use Rattle.usb_world.specs.Sane.{IsSane}
@@ -18,6 +20,9 @@ invariant_of-result-clause-settled g c = subst IsSettled (sym c.in-Ok.ensures.ro
 
 pub invariant_of-result-clause-sane : goal.invariant_of-result-clause-sane
 invariant_of-result-clause-sane g c = λ _. subst IsSane (sym c.in-Ok.ensures.roots) (sane_new_ports c.args.plan.now.roots)
+
+pub invariant_of-result-clause-ruled : goal.invariant_of-result-clause-ruled
+invariant_of-result-clause-ruled g c = subst (All IsSpec) (sym c.in-Ok.ensures.devices) c.limit.ensures.plan.devices.ruled
 
 pub invariant_of-result-clause-some_root : goal.invariant_of-result-clause-some_root
 invariant_of-result-clause-some_root g c =

@@ -1,5 +1,6 @@
 use Rattle.std.proofs.Common.{◌≡◌, refl, sym, subst, suc, true, length, arith, ◌∙◌, ap, ap₂, ◌∷◌, Bool, Some, List}
 use Rattle.std.proofs.lemmas.Bool.{and_parts}
+use Rattle.std.specs.Prelude.{All}
 use Rattle.std.specs.List.{list_all}
 use Rattle.usb_device.specs.Tree.{row_of}
 use Rattle.usb_world.specs.Passes.{IsSettled}
@@ -7,7 +8,7 @@ use Rattle.usb_world.specs.Sane.{IsSane}
 use Rattle.usb_world.specs.PlanData.{can_come}
 use Rattle.usb_world.proofs.Between.{settled_happened, sane_happened}
 use Rattle.usb_world.proofs.Counts.{happened_long, came_spends}
-use Rattle.usb_device.specs.Spec.{Spec}
+use Rattle.usb_device.specs.Spec.{Spec, IsSpec}
 use Rattle.usb_world.specs.declared.event.Event.{Event}
 use Rattle.usb_world.specs.declared.event.Action.{Action}
 use Rattle.usb_world.specs.Steps.{happened}
@@ -67,7 +68,8 @@ invariant_of-self-2 g c =
       some_root = omega (arith, long, s.some_root);
       few_roots = omega (arith, long, s.few_roots);
       settled = subst IsSettled (sym done) (settled_happened a c.deref.result.now s.roots s.settled);
-      sane = λ none. subst IsSane (sym done) (sane_happened a c.deref.result.now s.roots (s.sane none));
+      sane = λ none. subst IsSane (sym done) (sane_happened a c.deref.result.now (subst (All IsSpec) (sym c.deref.ensures.value) s.ruled) s.roots (s.sane none));
+      ruled = s.ruled;
       planned = (and_parts (can c.unwrap-event.result) (list_all can rest) all).1;
       few_events = omega (arith, size, s.few_events);
       counted = omega arith;

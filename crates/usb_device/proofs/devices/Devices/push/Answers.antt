@@ -1,6 +1,7 @@
 use Rattle.std.proofs.Common.{◌≡◌, ◌<◌, length, false, arith}
 use Rattle.std.proofs.lemmas.Grind.{common_steps}
-use Rattle.usb_device.specs.Spec.{is_named}
+use Rattle.std.proofs.lemmas.List.Elements.{All-push}
+use Rattle.usb_device.specs.Spec.{is_named, IsSpec}
 use Rattle.usb_device.proofs.Names.{names_differ-push}
 use Rattle.usb_device.proofs.devices.Devices.push.Goals as goal
 
@@ -11,4 +12,5 @@ invariant_of-self-2 c =
     rw c.in_ok-push.ensures.items (record {
       count = grind (arith, common_steps, room);
       names = names_differ-push c.self.inside.specs.items c.args.spec c.self.invariant.names new;
+      ruled = All-push IsSpec c.self.inside.specs.items c.args.spec c.self.invariant.ruled c.keeps_rules.ensures;
     })

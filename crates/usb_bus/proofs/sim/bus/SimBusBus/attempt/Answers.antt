@@ -20,4 +20,4 @@ returns-then-self-clause-fails g c = λ _. at_limit c.args.attempt.now (world_of
 pub returns-clause-fails : goal.returns-clause-fails
 returns-clause-fails g c = λ _.
     fails_at c.make_attempt-result.result c.args.attempt.now (world_of c.args.self.now) (world_of c.make_attempt-result.new.self) c.fault_of-self.result
-    c.fault_of-self.ensures c.make_attempt-result.ensures.other c.make_attempt-result.ensures.left
+    c.fault_of-self.ensures c.if-self.false c.make_attempt-result.ensures.other c.make_attempt-result.ensures.left
