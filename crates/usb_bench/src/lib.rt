@@ -1,8 +1,8 @@
 //! Simulated buses for tests: from a plan's text, with the port and the device made ready.
 #![tactic(auto)]
 
-ghost use Rattle.std.specs.Prelude.{◌≡◌, ◌++◌, codes, decimal, flat_map, string_bytes, IfOk, OnOk};
-ghost use Rattle.usb_bus.specs.Watch.{inner_of};
+ghost use Rattle.std.specs.Prelude.{◌≡◌, ◌++◌, codes, decimal, false, flat_map, string_bytes, IfOk, OnOk};
+ghost use Rattle.usb_bus.specs.Watch.{inner_of, has_failed};
 ghost use Rattle.usb_bus.specs.Sim.{world_of, writer_of};
 ghost use Rattle.usb_world.specs.Steps.{after, root_call};
 ghost use Rattle.usb_device.specs.Calls.{set_call, clear_call};
@@ -43,7 +43,7 @@ pub fn plan_text(alloc: Global, limit: u64, tables: &[&str]) -> Result<String, A
     Ok(text)
 }
 
-/// The bus of a plan's text, before anything came, with a writer for its trace.
+/// The bus of a plan's text, before anything came, with a writer for its trace that has not failed yet.
 ///
 /// # Errors
 /// Plan where the text is no plan, Memory where memory was refused.
@@ -52,6 +52,7 @@ pub fn bus_on<W: Write + Drop>(
     text: &str,
     writer: Watched<W>,
 ) -> Result<SimBus<W>, BenchFault>
+    requires { has_failed writer ≡ false }
     ensures world { IfOk result (λ bus. IsOpened text.now (world_of bus)) }
     ensures writer { IfOk result (λ bus. writer_of bus ≡ writer) }
 {

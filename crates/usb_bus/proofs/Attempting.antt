@@ -1,5 +1,5 @@
 -- How an attempt or an event ends that a fault may cut.
-use Rattle.std.proofs.Common.{◌≡◌, Bool, true, false, if◌then◌else◌, Option, Some, None, Result, Ok, Err, OnOk, IfErr, IsErrAnd, ◌≢◌, ◌||◌, refl, sym, subst, ap, ap₂, ◌∙◌}
+use Rattle.std.proofs.Common.{◌≡◌, Bool, true, false, if◌then◌else◌, Option, Some, None, Result, Ok, Err, OnOk, IfErr, IsErrAnd, ◌≢◌, ◌||◌, refl, sym, subst, ap, ◌∙◌}
 use Rattle.std.specs.Prelude.{◌==◌}
 use Rattle.std.proofs.lemmas.Bool.{eq-eqb}
 use Rattle.std.proofs.lemmas.Bool.Decides.{nat_tests}
@@ -42,29 +42,24 @@ made a w sound e = if_no (w.attempts == w.limit) (record w { fault = Some LimitR
 pub without_fault : (w v : World) (f : Option BusFault) → w ≡ v → w.fault ≡ None → f ≡ None → record w { fault = f } ≡ v
 without_fault w v f e sound is = ap (λ x. record w { fault = x }) (is ∙ sym sound) ∙ e
 
-pub made_exact : (r : Result Outcome BusFault) (a : Attempt) (w m : World) (f : Option BusFault) → f ≡ fault_of r → OnOk r (m.fault ≡ None) → w.fault ≡ None → (w.attempts ≡ w.limit → ⊥)
-    → OnOk r (m ≡ with_attempt a (ready w)) → OnOk r (record m { fault = f } ≡ after (attempt a) w)
-made_exact (Ok o) a w m f is still sound below e = without_fault m (after (attempt a) w) f (e ∙ made a w sound below) still is
-made_exact (Err x) a w m f is still sound below e = e
+pub made_exact : (r : Result Outcome BusFault) (a : Attempt) (w m : World) → w.fault ≡ None → (w.attempts ≡ w.limit → ⊥)
+    → OnOk r (m ≡ with_attempt a (ready w)) → OnOk r (m ≡ after (attempt a) w)
+made_exact (Ok o) a w m sound below e = e ∙ made a w sound below
+made_exact (Err x) a w m sound below e = e
 
-pub event_exact : (r : Result (Option Due) BusFault) (w m : World) (f : Option BusFault) → f ≡ fault_of r → m.fault ≡ w.fault → w.fault ≡ None
-    → OnOk r (m ≡ took_first w.left w) → OnOk r (record m { fault = f } ≡ after event w)
+pub event_exact : (r : Result (Option Due) BusFault) (w m : World) → w.fault ≡ None → OnOk r (m ≡ took_first w.left w) → OnOk r (m ≡ after event w)
 unfolding after
-event_exact (Ok o) w m f is still sound e = without_fault m (event_taken w.fault w) f (e ∙ ap (λ o. event_taken o w) (sym sound)) (still ∙ sound) is
-event_exact (Err x) w m f is still sound e = e
+event_exact (Ok o) w m sound e = e ∙ ap (λ o. event_taken o w) (sym sound)
+event_exact (Err x) w m sound e = e
 
-pub event_cut : (r : Result (Option Due) BusFault) (w m : World) (f : Option BusFault) → f ≡ fault_of r → w.fault ≡ None → r ≡ Err TraceFailed
-    → m ≡ took_first w.left w → record m { fault = f } ≡ record (after event w) { fault = Some TraceFailed }
+pub event_cut : (w m : World) → w.fault ≡ None → m ≡ record (took_first w.left w) { fault = Some TraceFailed } → m ≡ record (after event w) { fault = Some TraceFailed }
 unfolding after
-event_cut r w m f is sound cut e =
-    let told : f ≡ Some TraceFailed = is ∙ ap (λ x. fault_of x) cut in
-    let failed : Option BusFault → World → World = λ x v. record v { fault = x } in
-    ap₂ failed told (e ∙ ap (λ o. event_taken o w) (sym sound))
+event_cut w m sound e = e ∙ ap (λ o. record (event_taken o w) { fault = Some TraceFailed }) (sym sound)
 
 -- an event that was due could not come
-pub left_at_event : {T : Type 0} (r : Result T BusFault) (a : Attempt) (w m : World) → Coming w m → m.fault ≡ None → IfErr r (λ f. Left a w f (record m { fault = None }))
-left_at_event (Ok x) a w m c sound = tt
-left_at_event (Err f) a w m c sound = at_event (subst (λ v. Coming w v) (sym (without_fault m m None refl sound refl)) c)
+pub left_at_event : {T : Type 0} (r : Result T BusFault) (a : Attempt) (w m : World) → Coming w m → IfErr r (λ f. Left a w f m)
+left_at_event (Ok x) a w m c = tt
+left_at_event (Err f) a w m c = at_event c
 
 -- memory was refused while the host's data went
 pub left_at_packet : {T : Type 0} (r : Result T BusFault) (a : Attempt) (w m v : World) (k : Ports) → IsErrAnd r (λ f. f ≡ Memory) → m ≡ ready w → IsCut a (damage_in m) m.roots k
@@ -80,9 +75,9 @@ pub left_at_line : {T : Type 0} (r : Result T BusFault) (a : Attempt) (w v : Wor
 left_at_line (Ok x) a w v is e = tt
 left_at_line (Err f) a w v is e = at_line is e
 
-pub fails_at : (r : Result Outcome BusFault) (a : Attempt) (w m : World) (f : Option BusFault) → f ≡ fault_of r → (w.attempts ≡ w.limit → ⊥) → IfErr r (λ x. x ≢ LimitReached)
-    → IfErr r (λ x. Left a w x (record m { fault = None })) → AttemptFails a w r (record m { fault = f })
-fails_at (Ok o) a w m f is below other left = tt
-fails_at (Err LimitReached) a w m f is below other left = absurd (other refl)
-fails_at (Err Memory) a w m f is below other left = record { below = below; left = record m { fault = None }; so_far = left; told = ap (λ x. record m { fault = x }) is }
-fails_at (Err TraceFailed) a w m f is below other left = record { below = below; left = record m { fault = None }; so_far = left; told = ap (λ x. record m { fault = x }) is }
+pub fails_at : (r : Result Outcome BusFault) (a : Attempt) (w m : World) → m.fault ≡ fault_of r → (w.attempts ≡ w.limit → ⊥) → IfErr r (λ x. x ≢ LimitReached)
+    → IfErr r (λ x. Left a w x (record m { fault = None })) → AttemptFails a w r m
+fails_at (Ok o) a w m is below other left = tt
+fails_at (Err LimitReached) a w m is below other left = absurd (other refl)
+fails_at (Err Memory) a w m is below other left = record { below = below; left = record m { fault = None }; so_far = left; told = ap (λ x. record m { fault = x }) is }
+fails_at (Err TraceFailed) a w m is below other left = record { below = below; left = record m { fault = None }; so_far = left; told = ap (λ x. record m { fault = x }) is }

@@ -27,6 +27,26 @@ came w e events left roots split rest h =
     = λ r l. record w { roots = r; left = l; taken = w.taken + 1; attempts_then = w.attempts } in
     rw split (ap₂ made h rest)
 
+first_fault : (events : List Event) (w : World) → (took_first events w).fault ≡ w.fault
+unfolding took
+first_fault [] w = refl
+first_fault (e ∷ events) w = refl
+
+-- the same with a fault
+pub came_faulted : (w : World) (e : Event) (events left : List Event) (roots : Ports) (f : Option BusFault) → w.left ≡ e ∷ events → left ≡ events
+    → roots ≡ happened e.action w.devices w.roots
+    → record w { roots = roots; left = left; taken = w.taken + 1; attempts_then = w.attempts; fault = f } ≡ record (took_first w.left w) { fault = f }
+came_faulted w e events left roots f split rest h =
+    let faulted : World → World = λ x. record x { fault = f } in
+    ap faulted (came w e events left roots split rest h)
+
+pub came_sound : (w : World) (e : Event) (events left : List Event) (roots : Ports) → w.fault ≡ None → w.left ≡ e ∷ events → left ≡ events
+    → roots ≡ happened e.action w.devices w.roots
+    → record w { roots = roots; left = left; taken = w.taken + 1; attempts_then = w.attempts; fault = None } ≡ took_first w.left w
+came_sound w e events left roots sound split rest h =
+    let faulted : Option BusFault → World = λ o. record (took_first w.left w) { fault = o } in
+    came_faulted w e events left roots None split rest h ∙ ap faulted (sym (first_fault w.left w ∙ sound))
+
 pub line_next : (w : World) (e : Event) (events : List Event) → w.left ≡ e ∷ events → action_line e.action w.devices ≡ next_line w
 unfolding next_line
 line_next w e events split = rw split refl
@@ -101,13 +121,20 @@ due_goes_on first w v had has now d h e line =
 pub came_next : (first w v : World) → Coming first w → has_due w ≡ true → v ≡ took_first w.left w → Coming first v
 came_next first w v c h e = subst (Coming first) (sym e) (next_came c h)
 
+unfaulted : (w v : World) (f : BusFault) → w.fault ≡ None → v ≡ record w { fault = Some f } → record v { fault = None } ≡ w
+unfaulted w v f sound e =
+    let faulted : Option BusFault → World → World = λ o x. record x { fault = o } in
+    ap (faulted None) e ∙ ap (λ o. faulted o w) (sym sound)
+
 -- an event that was cut came, or it did not
-pub coming_cut : (r : Result (Option Due) BusFault) (f : BusFault) (first w v : World) → r ≡ Err f → Coming first w → has_due w ≡ true → IfErr r (λ x. x ≢ LimitReached)
-    → (r ≡ Err Memory → v ≡ w) → (r ≡ Err TraceFailed → v ≡ took_first w.left w) → Coming first v
-coming_cut (Ok x) f first w v is c h other kept cut = cc is
-coming_cut (Err LimitReached) f first w v is c h other kept cut = absurd (other refl)
-coming_cut (Err Memory) f first w v is c h other kept cut = subst (Coming first) (sym (kept refl)) c
-coming_cut (Err TraceFailed) f first w v is c h other kept cut = came_next first w v c h (cut refl)
+pub coming_cut : (r : Result (Option Due) BusFault) (f : BusFault) (first w v : World) → r ≡ Err f → Coming first w → has_due w ≡ true → w.fault ≡ None → IfErr r (λ x. x ≢ LimitReached)
+    → (r ≡ Err Memory → v ≡ record w { fault = Some Memory }) → (r ≡ Err TraceFailed → v ≡ record (took_first w.left w) { fault = Some TraceFailed })
+    → Coming first (record v { fault = None })
+coming_cut (Ok x) f first w v is c h sound other kept cut = cc is
+coming_cut (Err LimitReached) f first w v is c h sound other kept cut = absurd (other refl)
+coming_cut (Err Memory) f first w v is c h sound other kept cut = subst (Coming first) (sym (unfaulted w v Memory sound (kept refl))) c
+coming_cut (Err TraceFailed) f first w v is c h sound other kept cut =
+    came_next first w (record v { fault = None }) c h (unfaulted (took_first w.left w) v TraceFailed (first_fault w.left w ∙ sound) (cut refl))
 
 pub on_err : {A E : Type 0} {P : Type 0} (r : Result A E) → P → OnErr r P
 on_err (Ok x) h = tt

@@ -1,7 +1,9 @@
 -- What a failed write is, and what of a piece has gone out.
-use Rattle.std.specs.Prelude.{◌≡◌, ℕ, Bool, true, ◌&&◌, not, ◌==◌, List, ◌++◌, length, Result, Ok, Err, Option}
+use Rattle.std.specs.Prelude.{◌≡◌, ℕ, Bool, true, false, ◌&&◌, not, ◌==◌, List, ◌++◌, length, Result, Ok, Err, Option, None, Some}
 use Rattle.std.specs.Io.KnownBytes.{Appends}
 use Rattle.usb_bus.specs.declared.watched.Watched.{Watched}
+use Rattle.usb_world.specs.declared.types.BusFault.{BusFault}
+use Rattle.usb_world.specs.declared.types.BusFault.TheVariants.{LimitReached, Memory, TraceFailed}
 
 -- the reader or writer that is watched
 abbrev pub inner_of : {T : Type 0} → Watched T → T
@@ -24,3 +26,10 @@ pub record AppendsFront (old new : Option (List ℕ)) (piece : List ℕ) : Type 
   pub rest : List ℕ
   pub split : piece ≡ gone ++ rest
   pub appended : Appends old new gone
+
+-- the fault tells that the writer failed
+abbrev pub tells_failure : Option BusFault → Bool
+tells_failure None = false
+tells_failure (Some LimitReached) = false
+tells_failure (Some Memory) = false
+tells_failure (Some TraceFailed) = true

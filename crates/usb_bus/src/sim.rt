@@ -1,5 +1,5 @@
 //! A simulated bus: the devices that a plan's events plug at its root ports, and the trace of its attempts.
-ghost use Rattle.std.specs.Prelude.{◌≡◌, ◌+◌, ◌≤◌, length, IfOk, IfErr, None, Some, option_map, true, All};
+ghost use Rattle.std.specs.Prelude.{◌≡◌, ◌+◌, ◌≤◌, length, IfOk, IfErr, None, Some, option_map, false, true, All};
 ghost use Rattle.std.specs.List.{list_all};
 ghost use Rattle.usb_world.specs.PlanData.{can_come};
 ghost use Rattle.usb_device.specs.Spec.{IsSpec};
@@ -8,7 +8,8 @@ ghost use Rattle.usb_world.specs.Losses.{AreOfDamages};
 ghost use Rattle.usb_world.specs.Passes.{IsSettled};
 ghost use Rattle.usb_world.specs.Sane.{IsSane};
 ghost use Rattle.usb_world.specs.SaneProp.{IsSane-prop, IsSpec-prop, all_prop};
-ghost use Rattle.usb_world.specs.Steps.{opening, fault_of};
+ghost use Rattle.usb_world.specs.Steps.{opening};
+ghost use Rattle.usb_bus.specs.Watch.{has_failed, tells_failure};
 ghost use Rattle.usb_world.specs.declared.types.BusFault.TheVariants.{LimitReached};
 
 mod bus;
@@ -25,7 +26,8 @@ use usb_world::{Losses, event_copies};
 
 /// A bus that a plan describes. Each attempt, plug and unplug is a line of the trace, which goes to a writer at once.
 ///
-/// After a fault every later attempt, event and line of report tells the same fault again and changes nothing.
+/// After a fault every later attempt, event and line of report tells the same fault again and changes nothing. The writer
+/// has failed exactly where `TraceFailed` was told.
 #[derive(Drop)]
 pub struct SimBus<W> {
     alloc: Global,
@@ -58,6 +60,7 @@ pub struct SimBus<W> {
     ghost few_damages: { length damages.items ≤ 10000 },
     ghost lost: { AreOfDamages attempts damages.items losses },
     ghost at_limit: { fault ≡ Some LimitReached → attempts ≡ limit },
+    ghost marked: { has_failed writer ≡ tells_failure fault },
 }
 
 /// What a simulated bus keeps of a plan.
@@ -72,7 +75,7 @@ struct Stage {
 impl<W: Write> SimBus<W> {
     ghost use Rattle.usb_bus.specs.Sim.{world_of, writer_of, device_at, registers_of};
 
-    /// The bus of a plan, before anything came: all ports are off.
+    /// The bus of a plan, before anything came: all ports are off. The writer has not failed yet.
     ///
     /// An error: memory is refused; the writer is handed back.
     #[tactic(auto, using(usb_world::proofs::Wires::no_losses_yet))]
@@ -81,6 +84,7 @@ impl<W: Write> SimBus<W> {
         plan: &Plan,
         writer: Watched<W>,
     ) -> Result<SimBus<W>, (AllocError, Watched<W>)>
+        requires unfailed { has_failed writer ≡ false }
         ensures world { IfOk result (λ bus. world_of bus ≡ opening plan.now) }
         ensures writer { IfOk result (λ bus. writer_of bus ≡ writer) }
         ensures back { IfErr result (λ e. e.1 ≡ writer) }
@@ -105,9 +109,10 @@ impl<W: Write> SimBus<W> {
         }
     }
 
-    /// Hands the writer back.
+    /// Hands the writer back. It has failed exactly where this is the fault that was told.
     pub fn into_writer(self) -> Watched<W>
-        ensures { result ≡ writer_of self }
+        ensures writer { result ≡ writer_of self }
+        ensures failed { has_failed result ≡ tells_failure (world_of self).fault }
     {
         let SimBus { writer, .. } = self;
         writer
@@ -195,14 +200,4 @@ fn copies(alloc: Global, specs: &[DeviceSpec]) -> Result<Vec<DeviceSpec>, AllocE
         all.push(spec.try_clone(alloc)?)?;
     }
     Ok(all)
-}
-
-/// The fault that a call ends with.
-fn fault_of<T>(ended: &Result<T, BusFault>) -> Option<BusFault>
-    ensures { result ≡ fault_of ended.now }
-{
-    match ended {
-        Ok(_) => None,
-        Err(fault) => Some(*fault),
-    }
 }

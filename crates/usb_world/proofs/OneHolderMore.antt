@@ -197,7 +197,7 @@ made_is a w m = rw (m.sound, unequal w.attempts w.limit m.within) refl
 pub same_test : (n x : ℕ) → n ≡ x → (n == x) ≡ true
 same_test n x h = grind (arith, nat_tests)
 
-at_limit : (a : Attempt) (w : World) → w.fault ≡ None → w.attempts ≡ w.limit → (after (attempt a) w).fault ≡ Some LimitReached
+pub at_limit : (a : Attempt) (w : World) → w.fault ≡ None → w.attempts ≡ w.limit → (after (attempt a) w).fault ≡ Some LimitReached
 unfolding after
 at_limit a w s e = rw (s, same_test w.attempts w.limit e) refl
 

@@ -1,22 +1,25 @@
 -- What an attempt that was refused memory leaves of the world.
-use Rattle.std.proofs.Common.{◌≡◌, ℕ, zero, suc, true, List, [], ◌∷◌, Option, None, Some, option_map, refl, sym, subst, ap, ◌∙◌}
+use Rattle.std.proofs.Common.{◌≡◌, ℕ, zero, suc, true, List, [], ◌∷◌, Option, None, Some, is_some, option_map, Result, Ok, Err, OnOk, refl, sym, subst, ap, ◌∙◌}
 use Rattle.std.specs.Prelude.{All}
 use Rattle.usb_device.specs.Spec.{IsSpec}
 use Rattle.usb_device.specs.Rows.{State}
 use Rattle.usb_device.specs.Tree.{Ports, reach, state_at}
 use Rattle.usb_world.specs.declared.event.Event.{Event}
 use Rattle.usb_world.specs.declared.types.Attempt.{Attempt}
-use Rattle.usb_world.specs.declared.types.BusFault.TheVariants.{Memory}
+use Rattle.usb_world.specs.declared.types.BusFault.{BusFault}
+use Rattle.usb_world.specs.declared.types.BusFault.TheVariants.{LimitReached, Memory, TraceFailed}
+use Rattle.usb_world.specs.declared.types.Outcome.{Outcome}
 use Rattle.usb_world.specs.Live.{address_of}
 use Rattle.usb_world.specs.Passes.{IsSettled}
 use Rattle.usb_world.specs.Sane.{IsSane}
-use Rattle.usb_world.specs.World.{World, IsAttempt}
+use Rattle.usb_world.specs.World.{World, IsAttempt, Attempted}
 use Rattle.usb_world.specs.Courses.{address_at, Own}
-use Rattle.usb_world.specs.Steps.{took, took_first, event_taken, event, after, ready, damage_in, Coming, nothing_yet, next_came, Left, at_event, at_packet, at_line, GaveUp, IsBetween, IsCut}
+use Rattle.usb_world.specs.Steps.{took, took_first, event_taken, event, after, ready, damage_in, Coming, nothing_yet, next_came, Left, at_event, at_packet, at_line, GaveUp, AttemptFails, attempt, IsBetween, IsCut}
 use Rattle.usb_world.specs.Refused.{self_of}
 use Rattle.usb_world.proofs.Between.{between_ready, between_after}
 use Rattle.usb_world.proofs.OwnLaws.{due_state, step_own}
-use Rattle.usb_world.proofs.OneHolderMore.{ready_settled}
+use Rattle.usb_world.proofs.Booleans.{no}
+use Rattle.usb_world.proofs.OneHolderMore.{ready_settled, at_limit}
 use Rattle.usb_world.proofs.WorldLaws.{due_reach}
 use Rattle.usb_world.proofs.RefusedLaws.{Alike}
 use Rattle.usb_world.proofs.RefusedLawsCut.{cut_alike}
@@ -89,3 +92,12 @@ refused_own a w v is sound settled g f own = subst (Own f) (sym g.told) (left_ow
 
 pub refused_sane : (a : Attempt) (w v : World) → IsAttempt a → w.fault ≡ None → IsSettled w.roots → GaveUp a w Memory v → All IsSpec w.devices → IsSane w.roots → IsSane v.roots
 refused_sane a w v is sound settled g r h = subst (λ x. IsSane x.roots) (sym g.told) (left_sane a w is sound settled g.left g.so_far r h)
+
+-- Where the attempts equal the limit
+
+pub limit_told : (a : Attempt) (w v : World) (r : Result Outcome BusFault) → Attempted a w r v → OnOk r (v ≡ after (attempt a) w) → AttemptFails a w r v
+    → w.fault ≡ None → w.attempts ≡ w.limit → r ≡ Err LimitReached
+limit_told a w v (Ok o) made exact fails sound e = no (ap is_some (sym made.ends.still ∙ ap (λ x. x.fault) exact ∙ at_limit a w sound e))
+limit_told a w v (Err LimitReached) made exact fails sound e = refl
+limit_told a w v (Err Memory) made exact fails sound e = absurd (fails.below e)
+limit_told a w v (Err TraceFailed) made exact fails sound e = absurd (fails.below e)

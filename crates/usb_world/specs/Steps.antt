@@ -1,5 +1,5 @@
 -- The steps of a world: attempts, root calls, events and lines of report.
-use Rattle.std.specs.Prelude.{◌≡◌, ◌≢◌, ℕ, ◌+◌, ◌-◌, ◌==◌, nat_le, Bool, true, false, ◌&&◌, ◌||◌, not, if◌then◌else◌, List, [], ◌∷◌, slice_get, slice_set, unwrap_or, Option, Some, None, is_some, Result, Ok, Err, All, ⊤}
+use Rattle.std.specs.Prelude.{◌≡◌, ◌≢◌, ℕ, ◌+◌, ◌-◌, ◌==◌, nat_le, Bool, true, false, ◌&&◌, ◌||◌, not, if◌then◌else◌, List, [], ◌∷◌, slice_get, slice_set, unwrap_or, Option, Some, None, is_some, Result, Ok, Err, IfErr, All, ⊤}
 use Rattle.usb_port.specs.PortState.{set_row, clear_row}
 use Rattle.usb_device.specs.declared.calls.PortCall.{PortCall}
 use Rattle.usb_device.specs.declared.delivery.Sent.{Sent}
@@ -169,7 +169,7 @@ pub data Left (a : Attempt) (old : World) (f : BusFault) (new : World) : Type 0 
       → new ≡ record (ready old) { roots = k; shared = (ready old).shared || is_twice (held (ready old).roots) } → Left a old f new
   at_line : f ≡ TraceFailed → new ≡ with_attempt a (ready old) → Left a old f new
 
--- an attempt that the bus gave up, and not because of the limit
+-- an attempt within the limit that the bus gave up
 pub record GaveUp (a : Attempt) (old : World) (f : BusFault) (new : World) : Type 0 where
   pub below : old.attempts ≢ old.limit
   pub left : World
@@ -253,7 +253,8 @@ abbrev pub LineEnds : World → Result (Unit {0}) BusFault → World → Type 0
 LineEnds old (Ok _) new = (old.fault ≡ None) × (new ≡ old)
 LineEnds old (Err fault) new = new ≡ record old { fault = Some fault }
 
--- a report step changes nothing but the fault
+-- a report step changes nothing but the fault, and tells of itself only that the line was not written
 pub record PutLine (old : World) (result : Result (Unit {0}) BusFault) (new : World) : Type 0 where
+  pub told : old.fault ≡ None → IfErr result (λ f. f ≡ TraceFailed)
   pub ends : LineEnds old result new
   pub again : (fault : BusFault) → old.fault ≡ Some fault → (result ≡ Err fault) × (new ≡ old)

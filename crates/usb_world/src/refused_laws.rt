@@ -1,19 +1,21 @@
-//! Laws of an attempt that was refused memory while its packets went, for those who make attempts.
+//! Laws of an attempt that was not made, or was refused memory while its packets went, for those who make attempts.
 //!
 //! Each call does nothing; what it ensures is for proofs to cite.
-ghost use Rattle.std.specs.Prelude.{◌≡◌, ℕ, false, List, Option, None, All};
+ghost use Rattle.std.specs.Prelude.{◌≡◌, ℕ, false, List, Option, None, Result, Err, OnOk, All};
 ghost use Rattle.usb_device.specs.Delivery.{held, is_twice};
 ghost use Rattle.usb_device.specs.Spec.{IsSpec};
 ghost use Rattle.usb_device.specs.Tree.{Ports};
 ghost use Rattle.usb_world.specs.declared.damage.Damage.{Damage as Harmed};
 ghost use Rattle.usb_world.specs.declared.types.Attempt.{Attempt};
-ghost use Rattle.usb_world.specs.declared.types.BusFault.TheVariants.{Memory};
+ghost use Rattle.usb_world.specs.declared.types.BusFault.{BusFault as Fault};
+ghost use Rattle.usb_world.specs.declared.types.BusFault.TheVariants.{LimitReached, Memory};
+ghost use Rattle.usb_world.specs.declared.types.Outcome.{Outcome};
 ghost use Rattle.usb_world.specs.Courses.{Own};
 ghost use Rattle.usb_world.specs.Passes.{IsSettled};
 ghost use Rattle.usb_world.specs.Refused.{StandAlike};
 ghost use Rattle.usb_world.specs.Sane.{IsSane};
-ghost use Rattle.usb_world.specs.Steps.{IsCut, GaveUp};
-ghost use Rattle.usb_world.specs.World.{World, IsAttempt};
+ghost use Rattle.usb_world.specs.Steps.{IsCut, GaveUp, AttemptFails, attempt, after};
+ghost use Rattle.usb_world.specs.World.{World, IsAttempt, Attempted};
 
 /// An attempt that was refused memory moves no device, changes no port, and takes or gives no address.
 pub fn refused_memory_keeps()
@@ -25,4 +27,10 @@ pub fn refused_memory_keeps()
         → (f : List ℕ → Option ℕ) → Own f w → Own f v }
     ensures sane { (a : Attempt) (w v : World) → IsAttempt a → w.fault ≡ None → IsSettled w.roots → GaveUp a w Memory v
         → All IsSpec w.devices → IsSane w.roots → IsSane v.roots }
+{}
+
+/// Where the attempts equal the limit, a bus that is at work tells this and nothing else.
+pub fn the_limit_is_told()
+    ensures { (a : Attempt) (w v : World) (result : Result Outcome Fault) → Attempted a w result v → OnOk result (v ≡ after (attempt a) w)
+        → AttemptFails a w result v → w.fault ≡ None → w.attempts ≡ w.limit → result ≡ Err LimitReached }
 {}

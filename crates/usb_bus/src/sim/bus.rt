@@ -5,15 +5,15 @@ ghost use Rattle.usb_device.specs.Tree.{row_of};
 ghost use Rattle.usb_world.specs.World.{Attempted, Spends, AnswerFits, IsAttempt, IsRootPort, IsSetFeature, IsClearFeature};
 ghost use Rattle.std.specs.Io.KnownBytes.{Appends};
 ghost use Rattle.usb_device.specs.Delivery.{is_clearing};
-ghost use Rattle.usb_world.specs.Steps.{AttemptFails, Left, SetsRoot, ClearsRoot, after, attempt as attempt_step, root_call, with_attempt, ready, outcome_in};
+ghost use Rattle.usb_world.specs.Steps.{AttemptFails, Left, SetsRoot, ClearsRoot, after, attempt as attempt_step, root_call, with_attempt, ready, outcome_in, fault_of};
 ghost use Rattle.usb_world.specs.Passes.{IsSettled};
 ghost use Rattle.usb_world.specs.Sane.{IsSane};
 ghost use Rattle.usb_bus.specs.Lines.{attempted_lines};
 ghost use Rattle.usb_bus.specs.Watch.{inner_of, has_failed};
 ghost use Rattle.usb_world.specs.declared.types.BusFault.TheVariants.{LimitReached, TraceFailed};
 
+use super::SimBus;
 use super::lines::put_attempt;
-use super::{SimBus, fault_of};
 use crate::{Attempt, Bus, BusFault, Outcome};
 use std::io::Write;
 use usb_device::{PortCall, Ports};
@@ -44,9 +44,7 @@ impl<W: Write> Bus for SimBus<W> {
             self.fault = Some(BusFault::LimitReached);
             return Err(BusFault::LimitReached);
         }
-        let result = self.make_attempt(attempt);
-        self.fault = fault_of(&result);
-        result
+        self.make_attempt(attempt)
     }
 
     fn root_ports(&self) -> u8 {
@@ -98,7 +96,7 @@ impl<W: Write> SimBus<W> {
         ensures left { IfErr result (λ f. Left attempt.now (world_of self.old) f (record (world_of self.new) { fault = None })) }
         ensures outcome { IfOk result (λ outcome. outcome ≡ outcome_in attempt.now (world_of self.old)) }
         ensures lines { OnOk result (Appends (W.contents (inner_of (writer_of self.old))) (W.contents (inner_of (writer_of self.new))) (attempted_lines attempt.now (world_of self.old))) }
-        ensures fault { OnOk result ((world_of self.new).fault ≡ None) }
+        ensures fault { (world_of self.new).fault ≡ fault_of result }
         ensures other { IfErr result (λ f. f ≢ LimitReached) }
         ensures trace { result ≡ Err TraceFailed → has_failed (writer_of self.new) ≡ true }
     {
@@ -108,13 +106,15 @@ impl<W: Write> SimBus<W> {
         // Where memory is refused, some devices had the host's data and others had not: the fault stands before they go.
         self.fault = Some(BusFault::Memory);
         let exchange = make_exchange(&mut self.roots, attempt, damage)?;
-        self.fault = None;
+        // All went: only the line can fail.
+        self.fault = Some(BusFault::TraceFailed);
         self.attempts += 1;
         self.losses = self
             .losses
             .after_clearing(exchange.change_cleared)
             .counted(exchange.address_lost);
         put_attempt(&mut self.writer, self.attempts, attempt.pre, &exchange)?;
+        self.fault = None;
         Ok(outcome_of(exchange.answer, exchange.answer_mark, attempt.max))
     }
 }

@@ -3,14 +3,14 @@ ghost use Rattle.std.specs.Prelude.{◌≡◌, ◌≢◌, ◌+◌, ◌<◌, ◌�
 ghost use Rattle.std.specs.Io.KnownBytes.{Appends};
 ghost use Rattle.usb_device.specs.Tree.{row_of, changed, replaced};
 ghost use Rattle.usb_world.specs.World.{Spends, changes, to_come};
-ghost use Rattle.usb_world.specs.Steps.{TookEvent, Coming, after, event, happened, has_due, ready, took_first};
+ghost use Rattle.usb_world.specs.Steps.{TookEvent, Coming, after, event, happened, has_due, ready, took_first, fault_of};
 ghost use Rattle.usb_world.specs.PlanData.{can_be_done};
 ghost use Rattle.usb_bus.specs.Lines.{action_line, next_line, next_due, due_lines};
 ghost use Rattle.usb_bus.specs.Trace.{plug_line, unplug_line};
 ghost use Rattle.usb_bus.specs.Watch.{inner_of, has_failed, AppendsFront};
 ghost use Rattle.usb_world.specs.declared.types.BusFault.TheVariants.{LimitReached, Memory, TraceFailed};
 
-use super::{SimBus, fault_of};
+use super::SimBus;
 use crate::watched::put_pieces;
 use crate::{Action, BusFault, Due, Watched, WriteFailed};
 use std::alloc::{AllocError, Global};
@@ -40,17 +40,16 @@ impl<W: Write> SimBus<W> {
         if let Some(fault) = self.fault {
             return Err(fault);
         }
-        let result = self.take_event();
-        self.fault = fault_of(&result);
-        result
+        self.take_event()
     }
 
     /// Lets the events come that are due.
     pub(super) fn take_due_events(&mut self) -> Result<(), BusFault>
+        requires sound { (world_of self.old).fault ≡ None }
         ensures spends { Spends 0 (world_of self.old) (world_of self.new) }
-        ensures fault { (world_of self.new).fault ≡ (world_of self.old).fault }
+        ensures fault { (world_of self.new).fault ≡ fault_of result }
         ensures exact { OnOk result (world_of self.new ≡ ready (world_of self.old)) }
-        ensures cut { OnErr result (Coming (world_of self.old) (world_of self.new)) }
+        ensures cut { OnErr result (Coming (world_of self.old) (record (world_of self.new) { fault = None })) }
         ensures lines { OnOk result (Appends (W.contents (inner_of (writer_of self.old))) (W.contents (inner_of (writer_of self.new))) (due_lines (world_of self.old).left (world_of self.old))) }
         ensures other { IfErr result (λ f. f ≢ LimitReached) }
         ensures trace { result ≡ Err TraceFailed → has_failed (writer_of self.new) ≡ true }
@@ -79,27 +78,32 @@ impl<W: Write> SimBus<W> {
     /// The next event comes, if one is left.
     #[tactic(auto, using(crate::proofs::Comings::next_none, crate::proofs::Comings::due_none, crate::proofs::Comings::line_none))]
     fn take_event(&mut self) -> Result<Option<Due>, BusFault>
+        requires sound { (world_of self.old).fault ≡ None }
         ensures spends { Spends 0 (world_of self.old) (world_of self.new) }
-        ensures fault { (world_of self.new).fault ≡ (world_of self.old).fault }
+        ensures fault { (world_of self.new).fault ≡ fault_of result }
         ensures none { result ≡ Ok None → (to_come (world_of self.old) ≡ 0) × (self.new ≡ self.old) }
         ensures one { IfOk result (λ due. IsSome due → (world_of self.new).taken ≡ (world_of self.old).taken + 1) }
         ensures fewer { 0 < to_come (world_of self.old) → OnOk result (to_come (world_of self.new) < to_come (world_of self.old)) }
         ensures asked { IfOk result (λ due. due ≡ next_due (world_of self.old)) }
         ensures exact { OnOk result (world_of self.new ≡ took_first (world_of self.old).left (world_of self.old)) }
         ensures line { OnOk result (Appends (W.contents (inner_of (writer_of self.old))) (W.contents (inner_of (writer_of self.new))) (next_line (world_of self.old))) }
-        ensures kept { result ≡ Err Memory → (world_of self.new ≡ world_of self.old) × (writer_of self.new ≡ writer_of self.old) }
-        ensures cut { result ≡ Err TraceFailed → world_of self.new ≡ took_first (world_of self.old).left (world_of self.old) }
+        ensures kept { result ≡ Err Memory → (world_of self.new ≡ record (world_of self.old) { fault = Some Memory }) × (writer_of self.new ≡ writer_of self.old) }
+        ensures cut { result ≡ Err TraceFailed → world_of self.new ≡ record (took_first (world_of self.old).left (world_of self.old)) { fault = Some TraceFailed } }
         ensures other { IfErr result (λ f. f ≢ LimitReached) }
         ensures trace { result ≡ Err TraceFailed → has_failed (writer_of self.new) ≡ true }
     {
         let Some(event) = self.left.front() else {
             return Ok(None);
         };
+        self.fault = Some(BusFault::Memory);
         carry_out(self.alloc, &mut self.roots, &self.devices, &event.action)?;
         let event = self.left.pop_front().unwrap();
         self.taken += 1;
         self.attempts_then = self.attempts;
+        // The event came: only its line can fail.
+        self.fault = Some(BusFault::TraceFailed);
         put_action(&mut self.writer, &self.devices, &event.action)?;
+        self.fault = None;
         Ok(Some(Due::from(event.action)))
     }
 }
@@ -153,6 +157,7 @@ fn put_action<W: Write>(
     requires { can_be_done (length devices.now) action.now ≡ true }
     ensures front { AppendsFront (W.contents (inner_of writer.old)) (W.contents (inner_of writer.new)) (action_line action.now devices.now) }
     ensures ok { OnOk result (Appends (W.contents (inner_of writer.old)) (W.contents (inner_of writer.new)) (action_line action.now devices.now)) }
+    ensures unmarked { OnOk result (has_failed writer.new ≡ has_failed writer.old) }
     ensures marked { OnErr result (has_failed writer.new ≡ true) }
 {
     match action {
@@ -173,6 +178,7 @@ fn put_plug<W: Write>(
 ) -> Result<(), WriteFailed>
     ensures front { AppendsFront (W.contents (inner_of writer.old)) (W.contents (inner_of writer.new)) (plug_line path.now name.now ++ 10 ∷ []) }
     ensures ok { OnOk result (Appends (W.contents (inner_of writer.old)) (W.contents (inner_of writer.new)) (plug_line path.now name.now ++ 10 ∷ [])) }
+    ensures unmarked { OnOk result (has_failed writer.new ≡ has_failed writer.old) }
     ensures marked { OnErr result (has_failed writer.new ≡ true) }
 {
     put_pieces(
@@ -191,6 +197,7 @@ fn put_plug<W: Write>(
 fn put_unplug<W: Write>(writer: &mut Watched<W>, path: &PortPath) -> Result<(), WriteFailed>
     ensures front { AppendsFront (W.contents (inner_of writer.old)) (W.contents (inner_of writer.new)) (unplug_line path.now ++ 10 ∷ []) }
     ensures ok { OnOk result (Appends (W.contents (inner_of writer.old)) (W.contents (inner_of writer.new)) (unplug_line path.now ++ 10 ∷ [])) }
+    ensures unmarked { OnOk result (has_failed writer.new ≡ has_failed writer.old) }
     ensures marked { OnErr result (has_failed writer.new ≡ true) }
 {
     put_pieces(

@@ -46,6 +46,7 @@ pub(super) fn put_attempt<W: Write>(
 ) -> Result<(), WriteFailed>
     ensures front { AppendsFront (W.contents (inner_of writer.old)) (W.contents (inner_of writer.new)) (attempt_line number pre exchange.now ++ 10 ∷ []) }
     ensures ok { OnOk result (Appends (W.contents (inner_of writer.old)) (W.contents (inner_of writer.new)) (attempt_line number pre exchange.now ++ 10 ∷ [])) }
+    ensures unmarked { OnOk result (has_failed writer.new ≡ has_failed writer.old) }
     ensures marked { OnErr result (has_failed writer.new ≡ true) }
 {
     let line = attempt_line(number, pre, exchange);

@@ -1,4 +1,6 @@
 //! Buses whose trace goes to a writer that takes one byte at a time, or fails.
+ghost use Rattle.std.specs.Prelude.{◌≡◌, false};
+ghost use Rattle.usb_bus.specs.Watch.{has_failed};
 
 use super::hubs::{TO_LOW_DEVICE, TO_LOW_DEVICE_TRACE};
 use super::plans::{HUB, ONE_FUNCTION};
@@ -104,7 +106,9 @@ struct Ended {
 }
 
 /// A writer of one byte at a time, and so many bytes at most.
-fn frail(alloc: Global, writes_left: u64) -> Watched<Frail> {
+fn frail(alloc: Global, writes_left: u64) -> Watched<Frail>
+    ensures { has_failed result ≡ false }
+{
     Watched::new(Frail {
         taken: Vec::new(alloc),
         at_once: 1,

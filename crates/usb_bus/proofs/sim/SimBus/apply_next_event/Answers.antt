@@ -4,10 +4,8 @@ use Rattle.usb_bus.proofs.sim.SimBus.apply_next_event.Goals as goal
 
 pub returns-clause-exact : goal.returns-clause-exact
 returns-clause-exact g c =
-    event_exact c.take_event-result.result (world_of c.args.self.now) (world_of c.take_event-result.new.self) c.fault_of-self.result
-    c.fault_of-self.ensures c.take_event-result.ensures.fault c.in_default.is c.take_event-result.ensures.exact
+    event_exact c.take_event.result (world_of c.args.self.now) (world_of c.take_event.new.self) c.in_default.is c.take_event.ensures.exact
 
 pub returns-clause-cut : goal.returns-clause-cut
 returns-clause-cut g c = λ cut sound.
-    event_cut c.take_event-result.result (world_of c.args.self.now) (world_of c.take_event-result.new.self) c.fault_of-self.result
-    c.fault_of-self.ensures sound cut (c.take_event-result.ensures.cut cut)
+    event_cut (world_of c.args.self.now) (world_of c.take_event.new.self) sound (c.take_event.ensures.cut cut)

@@ -31,4 +31,5 @@ invariant_of-self g c =
       few_damages = s.few_damages;
       lost = subst P (sym c.after_clearing-self.ensures) (losses_cleared _ s.attempts s.damages.items s.losses s.lost);
       at_limit = s.at_limit;
+      marked = s.marked;
     }

@@ -9,6 +9,7 @@ use Rattle.usb_world.specs.Exchange.{exchange_in, ports_in, lost_in}
 use Rattle.usb_world.specs.Losses.{AreOfDamages, counted}
 use Rattle.usb_world.specs.World.{World}
 use Rattle.usb_bus.specs.Sim.{world_of}
+use Rattle.usb_bus.specs.Watch.{tells_failure}
 use Rattle.usb_world.specs.Sane.{IsSane}
 use Rattle.usb_world.specs.Steps.{made_in, IsCut}
 use Rattle.usb_bus.proofs.Attempting.{without_fault, left_at_event, left_at_packet, left_at_line}
@@ -53,6 +54,7 @@ invariant_of-self g c =
       few_damages = mid.few_damages;
       lost = mid.lost;
       at_limit = λ e. absurd (cc e);
+      marked = mid.marked ∙ ap tells_failure c.in_ok-take_due_events.ensures.fault;
     }
 
 pub invariant_of-self-2 : goal.invariant_of-self-2
@@ -70,7 +72,7 @@ invariant_of-self-2 g c =
       some_root = omega (arith, size, mid.some_root);
       few_roots = omega (arith, size, mid.few_roots);
       settled = c.in_ok-exchange.ensures.settled;
-      sane = λ _. subst IsSane (sym c.in_ok-exchange.ensures.ports) (sane_ports a c.damage_of-damage.result mid.roots (mid.sane (c.take_due_events.ensures.fault ∙ c.requires.sound)));
+      sane = λ _. subst IsSane (sym c.in_ok-exchange.ensures.ports) (sane_ports a c.damage_of-damage.result mid.roots (mid.sane (c.in_ok-take_due_events.ensures.fault)));
       ruled = mid.ruled;
       planned = mid.planned;
       few_events = mid.few_events;
@@ -81,6 +83,36 @@ invariant_of-self-2 g c =
       lost = subst P (sym (c.counted-self.ensures ∙ ap (counted x.address_lost) c.after_clearing.ensures))
           (losses_after mid.damages.items mid.attempts a mid.roots x.change_cleared x.address_lost mid.losses c.requires.attempt mid.settled lost mid.lost);
       at_limit = λ e. absurd (cc e);
+      marked = c.in_ok-put_attempt.ensures.unmarked ∙ mid.marked ∙ ap tells_failure c.in_ok-take_due_events.ensures.fault;
+    }
+
+pub invariant_of-self-in-Break-branch-3 : goal.invariant_of-self-in-Break-branch-3
+invariant_of-self-in-Break-branch-3 g c =
+    let mid = c.take_due_events.new.self in
+    let a = c.args.attempt.now in
+    let x = c.in_ok-exchange.exchange in
+    let spent = c.take_due_events.ensures.spends in
+    let size : length (row_of c.make_exchange.new.roots) ≡ length (row_of mid.roots) = ap length c.in_ok-exchange.ensures.row in
+    let damage = c.damage_of-damage.ensures ∙ ap (λ (l : List Damage). damage_of l (mid.attempts + 1)) c.deref.ensures.value in
+    let lost : x.address_lost ≡ lost_in a (damage_of mid.damages.items (mid.attempts + 1)) mid.roots =
+    ap (λ (y : Exchange). y.address_lost) c.in_ok-exchange.ensures.made ∙ lost_of a c.damage_of-damage.result mid.roots ∙ ap (λ (d : Option Damage). lost_in a d mid.roots) damage in
+    let P : Losses → Type 0 = λ l. AreOfDamages (mid.attempts + 1) mid.damages.items l in
+    record {
+      some_root = omega (arith, size, mid.some_root);
+      few_roots = omega (arith, size, mid.few_roots);
+      settled = c.in_ok-exchange.ensures.settled;
+      sane = λ none. absurd (cc none);
+      ruled = mid.ruled;
+      planned = mid.planned;
+      few_events = mid.few_events;
+      counted = omega (arith, mid.counted);
+      within = omega (arith, spent.most, spent.limit, c.requires.within);
+      few_attempts = mid.few_attempts;
+      few_damages = mid.few_damages;
+      lost = subst P (sym (c.counted-self.ensures ∙ ap (counted x.address_lost) c.after_clearing.ensures))
+          (losses_after mid.damages.items mid.attempts a mid.roots x.change_cleared x.address_lost mid.losses c.requires.attempt mid.settled lost mid.lost);
+      at_limit = λ e. absurd (cc e);
+      marked = c.in_err-put_attempt.ensures.marked;
     }
 
 pub returns-clause-exact : goal.returns-clause-exact
@@ -93,7 +125,7 @@ returns-clause-exact g c =
     let ports = c.in_ok-exchange.ensures.ports ∙ ap (λ (d : Option Damage). ports_in a d mid.roots) damage in
     let world : Losses → Bool → World
     = λ l s. record (world_of mid) { roots = c.make_exchange.new.roots; attempts = mid.attempts + 1; losses = l; shared = mid.shared || s } in
-    let sound = c.take_due_events.ensures.fault ∙ c.requires.sound in
+    let sound = c.in_ok-take_due_events.ensures.fault in
     without_fault (world c.counted-self.result c.has_shared_address.result) _ None
     (ap₂ world (c.counted-self.ensures ∙ ap (counted x.address_lost) c.after_clearing.ensures) c.has_shared_address.ensures
     ∙ attempt_made a (world_of c.args.self.now) (world_of mid) x c.make_exchange.new.roots c.in_ok-take_due_events.ensures.exact made ports)
@@ -127,7 +159,7 @@ returns-in_err-exchange-clause-left g c =
     let cut = subst (λ (d : Option Damage). IsCut a d mid.roots c.make_exchange.new.roots) damage c.in_err-exchange.ensures.cut in
     let world : Bool → World
     = λ s. record (world_of mid) { roots = c.make_exchange.new.roots; shared = mid.shared || s } in
-    let sound = c.take_due_events.ensures.fault ∙ c.requires.sound in
+    let sound = c.in_ok-take_due_events.ensures.fault in
     left_at_packet c.from_residual-in_err-exchange.result a (world_of c.args.self.now) (world_of mid) _ c.make_exchange.new.roots
     c.from_residual-in_err-exchange.ensures.1 c.in_ok-take_due_events.ensures.exact cut
     (without_fault (world c.has_shared_address.result) _ None (ap world c.has_shared_address.ensures) sound refl)
@@ -142,7 +174,7 @@ returns-in_err-put_attempt-clause-left g c =
     let ports = c.in_ok-exchange.ensures.ports ∙ ap (λ (d : Option Damage). ports_in a d mid.roots) damage in
     let world : Losses → Bool → World
     = λ l s. record (world_of mid) { roots = c.make_exchange.new.roots; attempts = mid.attempts + 1; losses = l; shared = mid.shared || s } in
-    let sound = c.take_due_events.ensures.fault ∙ c.requires.sound in
+    let sound = c.in_ok-take_due_events.ensures.fault in
     left_at_line c.from_residual-in_err-put_attempt.result a (world_of c.args.self.now) _ c.from_residual-in_err-put_attempt.ensures.1
     (without_fault (world c.counted-self.result c.has_shared_address.result) _ None
     (ap₂ world (c.counted-self.ensures ∙ ap (counted x.address_lost) c.after_clearing.ensures) c.has_shared_address.ensures
@@ -151,5 +183,5 @@ returns-in_err-put_attempt-clause-left g c =
 
 pub returns-in_err-take_due_events-clause-left : goal.returns-in_err-take_due_events-clause-left
 returns-in_err-take_due_events-clause-left g c =
-    left_at_event c.from_residual.result c.args.attempt.now (world_of c.args.self.now) (world_of c.take_due_events.new.self) c.in_err-take_due_events.ensures.cut
-    (c.take_due_events.ensures.fault ∙ c.requires.sound)
+    left_at_event c.from_residual.result c.args.attempt.now (world_of c.args.self.now) (record (world_of c.take_due_events.new.self) { fault = None })
+    c.in_err-take_due_events.ensures.cut

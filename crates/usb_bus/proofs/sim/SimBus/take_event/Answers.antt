@@ -12,8 +12,10 @@ use Rattle.usb_device.specs.Spec.{Spec, IsSpec}
 use Rattle.usb_world.specs.declared.event.Event.{Event}
 use Rattle.usb_world.specs.declared.event.Action.{Action}
 use Rattle.usb_world.specs.Steps.{happened}
+use Rattle.usb_world.specs.declared.types.BusFault.TheVariants.{TraceFailed}
+use Rattle.usb_bus.specs.Watch.{tells_failure}
 use Rattle.usb_bus.specs.Sim.{world_of}
-use Rattle.usb_bus.proofs.Comings.{came, line_next, due_next, popped, front_is}
+use Rattle.usb_bus.proofs.Comings.{came_sound, came_faulted, line_next, due_next, popped, front_is}
 use Rattle.usb_bus.proofs.sim.SimBus.take_event.Goals as goal
 
 pub returns-clause-exact : goal.returns-clause-exact
@@ -24,7 +26,7 @@ returns-clause-exact g c =
     let rest = c.pop_front.new.self.items in
     let split = popped s.left.items rest c.pop_front.result e c.pop_front.ensures.items c.unwrap-event.ensures in
     let same = front_is s.left.items rest e f split c.in-Some.ensures.lookup in
-    came (world_of s) e rest rest _ split refl
+    came_sound (world_of s) e rest rest _ c.requires.sound split refl
     (c.in_ok-carry_out.ensures.ok ∙ ap₂ (λ (d : List Spec) (a : Action). happened a d s.roots) c.deref.ensures.value (ap (λ (x : Event). x.action) same))
 
 pub returns-in_err-put_action-clause-cut : goal.returns-in_err-put_action-clause-cut
@@ -35,7 +37,7 @@ returns-in_err-put_action-clause-cut g c = λ _.
     let rest = c.pop_front.new.self.items in
     let split = popped s.left.items rest c.pop_front.result e c.pop_front.ensures.items c.unwrap-event.ensures in
     let same = front_is s.left.items rest e f split c.in-Some.ensures.lookup in
-    came (world_of s) e rest rest _ split refl
+    came_faulted (world_of s) e rest rest _ (Some TraceFailed) split refl
     (c.in_ok-carry_out.ensures.ok ∙ ap₂ (λ (d : List Spec) (a : Action). happened a d s.roots) c.deref.ensures.value (ap (λ (x : Event). x.action) same))
 
 pub returns-clause-asked : goal.returns-clause-asked
@@ -68,7 +70,7 @@ invariant_of-self-2 g c =
       some_root = omega (arith, long, s.some_root);
       few_roots = omega (arith, long, s.few_roots);
       settled = subst IsSettled (sym done) (settled_happened a c.deref.result.now s.roots s.settled);
-      sane = λ none. subst IsSane (sym done) (sane_happened a c.deref.result.now (subst (All IsSpec) (sym c.deref.ensures.value) s.ruled) s.roots (s.sane none));
+      sane = λ _. subst IsSane (sym done) (sane_happened a c.deref.result.now (subst (All IsSpec) (sym c.deref.ensures.value) s.ruled) s.roots (s.sane c.requires.sound));
       ruled = s.ruled;
       planned = (and_parts (can c.unwrap-event.result) (list_all can rest) all).1;
       few_events = omega (arith, size, s.few_events);
@@ -77,7 +79,37 @@ invariant_of-self-2 g c =
       few_attempts = s.few_attempts;
       few_damages = s.few_damages;
       lost = s.lost;
-      at_limit = s.at_limit;
+      at_limit = λ e. absurd (cc e);
+      marked = c.in_ok-put_action.ensures.unmarked ∙ s.marked ∙ ap tells_failure c.requires.sound;
+    }
+
+pub invariant_of-self-in-Break-branch-2 : goal.invariant_of-self-in-Break-branch-2
+invariant_of-self-in-Break-branch-2 g c =
+    let s = c.args.self.now in
+    let rest = c.pop_front.new.self.items in
+    let split = popped s.left.items rest c.pop_front.result c.unwrap-event.result c.pop_front.ensures.items c.unwrap-event.ensures in
+    let size : length s.left.items ≡ suc (length rest) = ap length split in
+    let a = c.in-Some.event.now.action in
+    let done = c.in_ok-carry_out.ensures.ok in
+    let long : length (row_of c.carry_out.new.roots) ≡ length (row_of s.roots) = ap (λ k. length (row_of k)) done ∙ happened_long a c.deref.result.now s.roots in
+    let can : Event → Bool = can_come (length s.devices.items) in
+    let P : List Event → Type 0 = λ l. list_all can l ≡ true in
+    let all : P (c.unwrap-event.result ∷ rest) = subst P split s.planned in
+    record {
+      some_root = omega (arith, long, s.some_root);
+      few_roots = omega (arith, long, s.few_roots);
+      settled = subst IsSettled (sym done) (settled_happened a c.deref.result.now s.roots s.settled);
+      sane = λ none. absurd (cc none);
+      ruled = s.ruled;
+      planned = (and_parts (can c.unwrap-event.result) (list_all can rest) all).1;
+      few_events = omega (arith, size, s.few_events);
+      counted = omega arith;
+      within = s.within;
+      few_attempts = s.few_attempts;
+      few_damages = s.few_damages;
+      lost = s.lost;
+      at_limit = λ e. absurd (cc e);
+      marked = c.in_err-put_action.ensures.marked;
     }
 
 pub returns-in_err-put_action-clause-spends : goal.returns-in_err-put_action-clause-spends

@@ -11,13 +11,13 @@ returns-then-self-clause-refused g c = λ _. (at_limit c.args.attempt.now (world
 
 pub returns-clause-exact : goal.returns-clause-exact
 returns-clause-exact g c =
-    made_exact c.make_attempt-result.result c.args.attempt.now (world_of c.args.self.now) (world_of c.make_attempt-result.new.self) c.fault_of-self.result
-    c.fault_of-self.ensures c.make_attempt-result.ensures.fault c.in_default.is c.if-self.false c.make_attempt-result.ensures.exact
+    made_exact c.make_attempt.result c.args.attempt.now (world_of c.args.self.now) (world_of c.make_attempt.new.self) c.in_default.is c.if-self.false
+    c.make_attempt.ensures.exact
 
 pub returns-then-self-clause-fails : goal.returns-then-self-clause-fails
 returns-then-self-clause-fails g c = λ _. at_limit c.args.attempt.now (world_of c.args.self.now) c.in_default.is c.if-self.true
 
 pub returns-clause-fails : goal.returns-clause-fails
 returns-clause-fails g c = λ _.
-    fails_at c.make_attempt-result.result c.args.attempt.now (world_of c.args.self.now) (world_of c.make_attempt-result.new.self) c.fault_of-self.result
-    c.fault_of-self.ensures c.if-self.false c.make_attempt-result.ensures.other c.make_attempt-result.ensures.left
+    fails_at c.make_attempt.result c.args.attempt.now (world_of c.args.self.now) (world_of c.make_attempt.new.self) c.make_attempt.ensures.fault c.if-self.false
+    c.make_attempt.ensures.other c.make_attempt.ensures.left
