@@ -1,5 +1,5 @@
 -- The stages behind a SETUP that was acknowledged, as a course of the world.
-use Rattle.std.proofs.Common.{◌≡◌, ◌⊎◌, inl, inr, ℕ, List, [], ◌∷◌, Result, refl}
+use Rattle.std.proofs.Common.{inl, inr, ℕ, List, [], Result, refl}
 use Rattle.usb_packet.specs.declared.Toggle.{Toggle}
 use Rattle.usb_packet.specs.declared.Toggle.TheVariants.{One}
 use Rattle.usb_world.specs.World.{World}

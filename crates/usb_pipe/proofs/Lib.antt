@@ -13,6 +13,7 @@ pub mod WholeWrites
 pub mod WholeSends
 pub mod WholeSending
 pub mod SendCourse
+pub mod Attempts
 pub mod WholePolls
 pub mod WholeReceives
 pub mod WhySends

@@ -1,6 +1,6 @@
 -- Who answered a transfer: a device that had the target's address all along, and is still reachable.
-use Rattle.std.proofs.Common.{◌≡◌, ◌≢◌, ◌⊎◌, inl, inr, refl, sym, ap, ◌∙◌, false, true}
-use Rattle.std.specs.Prelude.{ℕ, List, [], Option, None, Some, Ok}
+use Rattle.std.proofs.Common.{◌≡◌, ◌≢◌, ◌⊎◌, inl, inr, zero, suc, refl, sym, subst, ap, ◌∙◌, false, true}
+use Rattle.std.specs.Prelude.{ℕ, List, [], ◌∷◌, take, Option, None, Some, Ok, Err}
 use Rattle.std.specs.Global.{Vec}
 use Rattle.arrayvec.specs.ArrayVec.{ArrayVec}
 use Rattle.usb_packet.specs.declared.Toggle.{Toggle}
@@ -18,29 +18,36 @@ use Rattle.usb_world.proofs.Booleans.{decided}
 use Rattle.usb_world.proofs.Devices.{each_none, each_joined, each_wider}
 use Rattle.usb_world.proofs.OneHolderMore.{equal_same}
 use Rattle.usb_transaction.specs.declared.target.Target.{Target}
-use Rattle.usb_transaction.specs.Answerer.{Answerer}
+use Rattle.usb_transaction.specs.declared.fault.TransFault.{TransFault}
+use Rattle.usb_transaction.specs.declared.fault.TransFault.TheVariants as trans
+use Rattle.usb_transaction.specs.Answerer.{Answerer, HadOne, IsAnswer as TransIsAnswer}
 use Rattle.usb_transaction.specs.Heard.{heard_as, sent_as}
 use Rattle.usb_transaction.specs.Over.{is_at, ControlIn, SourceIn, SinkOut, SetupDone}
 use Rattle.usb_transaction.specs.Spared.{IsSpared, EachSpared}
-use Rattle.usb_transaction.specs.Trail.{Ended}
+use Rattle.usb_transaction.specs.Trail.{Ended, Transacted}
 use Rattle.usb_transaction.specs.Trans.{in_attempt, out_attempt}
-use Rattle.usb_transaction.proofs.Answering.{read_answered, write_answered, wait_answered, poll_answered}
+use Rattle.usb_transaction.proofs.Answering.{read_answered, write_answered, wait_answered, poll_answered, had_one, set_up_had, read_had, write_had, poll_had}
 use Rattle.usb_transaction.proofs.ControlLeaves.{control_in_leaves}
+use Rattle.usb_transaction.proofs.Cuts.{transacted_unshared}
 use Rattle.usb_transaction.proofs.OverSink.{sink_over}
 use Rattle.usb_transaction.proofs.OverSource.{source_over}
 use Rattle.usb_transaction.proofs.Overs.{other_twice, mine}
 use Rattle.usb_transaction.proofs.Spared.{spared_wider}
 use Rattle.usb_pipe.specs.declared.condition.Condition.TheVariants.{Broken}
+use Rattle.usb_pipe.specs.declared.fault.PipeFault.{PipeFault}
+use Rattle.usb_pipe.specs.declared.fault.PipeFault.TheVariants as pipe_fault
 use Rattle.usb_pipe.specs.Bulk.{Bulk, Sends, Receives}
+use Rattle.usb_pipe.specs.Control.{fault_of}
 use Rattle.usb_pipe.specs.End.{packet_target}
 use Rattle.usb_pipe.specs.Interrupt.{Interrupt, Polls}
-use Rattle.usb_pipe.specs.Moves.{Gave, Came}
+use Rattle.usb_pipe.specs.Moves.{Gave, Came, NotGone, NotCame, NoRoomLeft}
 use Rattle.usb_pipe.specs.Moves as moves
-use Rattle.usb_pipe.specs.Stages.{SetUp, Goes, Reads, Writes}
+use Rattle.usb_pipe.specs.Stages.{SetUp, Goes, DataLost, NoRoom, Reads, Writes}
 use Rattle.usb_pipe.specs.Stages as stages
 use Rattle.usb_pipe.specs.Toggles.{flips}
-use Rattle.usb_pipe.proofs.WholeSteps.{ended_settled, ended_unshared, request_leaves}
-use Rattle.usb_pipe.proofs.WholeReads.{read_request_leaves}
+use Rattle.usb_pipe.specs.Whole.{IsAnswer}
+use Rattle.usb_pipe.proofs.WholeSteps.{ended_settled, ended_unshared, eight_bytes, request_leaves}
+use Rattle.usb_pipe.proofs.WholeReads.{host_harmless, read_request_leaves}
 
 -- Transactions before the last one
 
@@ -180,3 +187,129 @@ pub who_polls : (pipe : Interrupt) (got : Option (ArrayVec ℕ)) (left : Interru
     → Polls pipe old (Ok got) left new → new.shared ≡ false → Answerer pipe.target old new
 who_polls pipe None left old new settled x single = wait_answered pipe.target pipe.ep pipe.toggle old new settled x.asked single
 who_polls pipe (Some packet) left old new settled x single = poll_answered pipe.target pipe.ep pipe.toggle packet.items old new settled x.asked single
+
+-- Faults that are answers
+
+-- the transaction's is one, too
+trans_answer : (why : PipeFault) (fault : TransFault) → why ≡ fault_of fault → IsAnswer why → TransIsAnswer fault
+trans_answer why trans.Stalled e y = tt
+trans_answer why trans.Busy e y = tt
+trans_answer why trans.NoAnswer e y = absurd (subst IsAnswer e y)
+trans_answer why (trans.Bus fault) e y = absurd (subst IsAnswer e y)
+
+-- what had the address later had it before
+had_before : {t : Target} {old mid : World} → Passed t old mid → IsSettled old.roots → mid.shared ≡ false → HadOne t mid → HadOne t old
+had_before {t} {old} {mid} x settled single h =
+    let was : Was (Untouched t) old h.j h.p h.state = x.others settled single h.j h.p h.state h.on h.stands in
+    record { j = h.j; p = h.p; state = was.before; on = was.on; stands = was.stands; at = had_address t was.before h.state was.so h.at }
+
+-- a last transaction that failed
+failed_had : {t : Target} (hear : _) (a : Attempt) {old mid : World} (new : World) (fault : TransFault) → Passed t old mid → IsSettled old.roots → Transacted hear a mid (Err fault) new → new.shared ≡ false
+    → (IsSettled mid.roots → HadOne t mid) → HadOne t old
+failed_had {t} hear a {old} {mid} new fault x settled lost single last =
+    let later : IsSettled mid.roots = x.settled settled in
+    had_before x settled (transacted_unshared hear a mid new (Err fault) lost later single) (last later)
+
+-- the device of the pipe
+had_of_device : (t : Target) (max : ℕ) {w : World} → HadOne (packet_target t max) w → HadOne t w
+had_of_device t max h = record { j = h.j; p = h.p; state = h.state; on = h.on; stands = h.stands; at = h.at }
+
+-- Control transfers
+
+no_set_up_had : (t : Target) (request : Setup) (why : PipeFault) (fault : TransFault) (old new : World) → setup_of (bytes_of request) ≡ request → (is_harmless request ≡ false → t.addr ≢ 0) → IsSettled old.roots
+    → why ≡ fault_of fault → IsAnswer why → SetUp t request old (Err fault) new → new.shared ≡ false → HadOne t old
+no_set_up_had t request why fault old new same addressed settled told y x single =
+    set_up_had t (bytes_of request) fault old new (eight_bytes request) (λ h. addressed (ap is_harmless (sym same) ∙ h)) settled (trans_answer why fault told y) x single
+
+module _ (t : Target) (request : Setup) (why : PipeFault) (old new : World) (host : IsToHost request) (same : setup_of (bytes_of request) ≡ request) (settled : IsSettled old.roots) (y : IsAnswer why)
+    (single : new.shared ≡ false) where
+  no_data_had : (mid : World) → Passed t old mid → DataLost t request.length mid why new ⊎ NoRoom t request.length mid why new → HadOne t old
+  no_data_had mid p (inl d) =
+      failed_had (heard_as (flips d.packets One)) (in_attempt t 0) new d.fault (passed_then p (goes_passed t d.before)) settled d.lost single
+      (λ h. read_had t 0 (flips d.packets One) d.fault d.mid new h (trans_answer why d.fault d.told y) d.lost single)
+  no_data_had mid p (inr d) =
+      had_one (answered (passed_then p (goes_passed t d.before)) settled (ended_unshared d.came single) (λ h. read_answered t 0 (flips d.packets One) d.last d.mid new h d.came single))
+
+  reads_had : Reads t request old (Err why) new → HadOne t old
+  reads_had (inl x) = no_set_up_had t request why x.fault old new same (λ h. absurd (cc (sym (host_harmless request host) ∙ h))) settled x.told y x.set_up single
+  reads_had (inr (inl x)) = no_data_had x.mid (set_up_passed t request host same x.set_up) x.data_stage
+  reads_had (inr (inr x)) =
+      let d = x.data_stage in
+      let set_up : Passed t old x.first = set_up_passed t request host same x.set_up in
+      let data_stage : Passed t x.first x.second = passed_then (goes_passed t d.before) (asked_passed t (flips d.packets One) d.last d.came) in
+      failed_had sent_as (out_attempt t 0 One []) new x.fault (passed_then set_up data_stage) settled x.status single (λ h. write_had t 0 One [] x.fault x.second new h (trans_answer why x.fault x.told y) x.status single)
+
+pub who_read_had : (t : Target) (request : Setup) (why : PipeFault) (old new : World) → IsToHost request → setup_of (bytes_of request) ≡ request
+    → IsSettled old.roots → IsAnswer why → Reads t request old (Err why) new → new.shared ≡ false → HadOne t old
+who_read_had t request why old new host same settled y x single = reads_had t request why old new host same settled y single x
+
+pub who_write_had : (t : Target) (request : Setup) (why : PipeFault) (old new : World) → setup_of (bytes_of request) ≡ request → (is_harmless request ≡ false → t.addr ≢ 0)
+    → IsSettled old.roots → IsAnswer why → Writes t request old (Err why) new → new.shared ≡ false → HadOne t old
+who_write_had t request why old new same addressed settled y (inl x) single = no_set_up_had t request why x.fault old new same addressed settled x.told y x.set_up single
+who_write_had t request why old new same addressed settled y (inr x) single =
+    let later : IsSettled x.mid.roots = ended_settled x.set_up settled in
+    let h : HadOne t x.mid = read_had t 0 One x.fault x.mid new later (trans_answer why x.fault x.told y) x.status single in
+    let others : EachSpared t request (Untouched t) old x.mid =
+    spared_wider t request (SetupDone t (bytes_of request) (Ok []) old x.mid) (Untouched t) (λ j p s v z. z.others) old x.mid
+    (request_leaves t request (Ok []) old x.mid same settled x.set_up (transacted_unshared (heard_as One) (in_attempt t 0) x.mid new (Err x.fault) x.status later single)) in
+    let was : Was (Untouched t) old h.j h.p h.state = others h.j h.p h.state h.on h.stands (spared_at t request h.state addressed h.at) in
+    record { j = h.j; p = h.p; state = was.before; on = was.on; stands = was.stands; at = had_address t was.before h.state was.so h.at }
+
+-- Bulk transfers
+
+module _ (pipe : Bulk) (why : PipeFault) (old new : World) (settled : IsSettled old.roots) (y : IsAnswer why) (single : new.shared ≡ false) where
+  abbrev Packets : Target
+  Packets = packet_target pipe.target pipe.max
+
+  not_gone_had : (total : List ℕ) → NotGone Packets pipe.ep pipe.toggle total old why new → HadOne pipe.target old
+  not_gone_had total x =
+      had_of_device pipe.target pipe.max
+      (failed_had sent_as (out_attempt Packets pipe.ep (flips x.packets pipe.toggle) (take pipe.max x.rest)) new x.fault (gave_passed Packets pipe.ep pipe.toggle x.before) settled x.lost single
+      (λ h. write_had Packets pipe.ep (flips x.packets pipe.toggle) (take pipe.max x.rest) x.fault x.mid new h (trans_answer why x.fault x.told y) x.lost single))
+
+  not_come_had : (wanted : ℕ) → NotCame Packets pipe.ep pipe.toggle wanted old why new ⊎ NoRoomLeft Packets pipe.ep pipe.toggle wanted old why new → HadOne pipe.target old
+  not_come_had wanted (inl x) =
+      had_of_device pipe.target pipe.max
+      (failed_had (heard_as (flips x.packets pipe.toggle)) (in_attempt Packets pipe.ep) new x.fault (came_passed Packets pipe.ep pipe.toggle x.before) settled x.lost single
+      (λ h. read_had Packets pipe.ep (flips x.packets pipe.toggle) x.fault x.mid new h (trans_answer why x.fault x.told y) x.lost single))
+  not_come_had wanted (inr x) =
+      had_of_device pipe.target pipe.max
+      (had_one (answered (came_passed Packets pipe.ep pipe.toggle x.before) settled (ended_unshared x.came single)
+      (λ h. read_answered Packets pipe.ep (flips x.packets pipe.toggle) x.last x.mid new h x.came single)))
+
+not_broken : (why : PipeFault) → IsAnswer why → ◌≢◌ {A = PipeFault} why pipe_fault.Broken
+not_broken why y e = subst IsAnswer e y
+
+pub who_send_had : (bytes : List ℕ) (pipe : Bulk) (why : PipeFault) (left : Bulk) (old new : World) → IsAnswer why
+    → Sends bytes pipe old (Err why) left new → new.shared ≡ false → HadOne pipe.target old
+who_send_had bytes pipe why left old new y x single = by bytes refl
+  where
+    works : pipe.condition ≢ Broken
+    works e = not_broken why y (cc (x.broken e).answer)
+
+    by : (some : List ℕ) → bytes ≡ some → HadOne pipe.target old
+    by [] none = cc (x.nothing works none).answer
+    by (b ∷ more) is =
+        let s = x.moved works (λ n. cc (sym is ∙ n)) in
+        not_gone_had pipe why old new s.settled y single bytes s.went
+
+pub who_receive_had : (wanted : ℕ) (pipe : Bulk) (why : PipeFault) (left : Bulk) (old new : World) → IsAnswer why
+    → Receives wanted pipe old (Err why) left new → new.shared ≡ false → HadOne pipe.target old
+who_receive_had wanted pipe why left old new y x single = by wanted refl
+  where
+    works : pipe.condition ≢ Broken
+    works e = not_broken why y (cc (x.broken e).0)
+
+    by : (n : ℕ) → wanted ≡ n → HadOne pipe.target old
+    by zero none = absurd (x.nothing works none).0
+    by (suc n) some =
+        let r = x.moved works (λ h. cc (sym some ∙ h)) in
+        not_come_had pipe why old new r.settled y single wanted r.came
+
+-- Polls
+
+pub who_poll_had : (pipe : Interrupt) (why : PipeFault) (left : Interrupt) (old new : World) → IsSettled old.roots → IsAnswer why
+    → Polls pipe old (Err why) left new → new.shared ≡ false → HadOne pipe.target old
+who_poll_had pipe why left old new settled y x single =
+    let n = x.asked in
+    poll_had pipe.target pipe.ep pipe.toggle n.fault old new settled (trans_answer why n.fault n.told y) n.polled single

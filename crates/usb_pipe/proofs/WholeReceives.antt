@@ -20,7 +20,6 @@ use Rattle.usb_transaction.specs.Over.{is_at, SourceIn}
 use Rattle.usb_transaction.specs.Trail.{Ended}
 use Rattle.usb_transaction.specs.Trans.{in_attempt}
 use Rattle.usb_transaction.proofs.Overs.{other_twice}
-use Rattle.usb_transaction.specs.declared.fault.TransFault.TheVariants as trans
 use Rattle.usb_transaction.proofs.Cuts.{transacted_unshared}
 use Rattle.usb_transaction.proofs.OverSource.{source_over, source_leaves}
 use Rattle.usb_pipe.specs.declared.condition.Condition.{Condition}

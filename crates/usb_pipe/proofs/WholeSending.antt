@@ -3,7 +3,7 @@ use Rattle.std.proofs.Common.{◌≡◌, false}
 use Rattle.std.specs.Prelude.{ℕ, List, ◌++◌, take}
 use Rattle.usb_packet.specs.declared.Toggle.{Toggle}
 use Rattle.usb_device.specs.Rows.{State}
-use Rattle.usb_device.specs.Progress.{SinkAt, level, OnlySink}
+use Rattle.usb_device.specs.Progress.{level, OnlySink}
 use Rattle.usb_world.specs.Passes.{IsSettled}
 use Rattle.usb_world.specs.World.{World}
 use Rattle.usb_world.specs.Devices.{EachWas}

@@ -67,7 +67,7 @@ transacted_of (Err (trans.Bus fault)) x = absurd x.tells
 
 -- Each transaction
 
-eight_bytes : (request : Setup) → length (bytes_of request) ≡ 8
+pub eight_bytes : (request : Setup) → length (bytes_of request) ≡ 8
 unfolding bytes_of
 eight_bytes request = refl
 

@@ -7,3 +7,4 @@ pub mod Stages
 pub mod Moves
 pub mod Whole
 pub mod WhyWhole
+pub mod Attempts

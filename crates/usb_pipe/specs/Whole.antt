@@ -38,6 +38,15 @@ IsNotOfBus (Err Broken) = ⊤
 IsNotOfBus (Err (Bus fault)) = ⊥
 IsNotOfBus (Err Memory) = ⊤
 
+-- a fault that only the answers of a device make: STALL, too many NAKs and repeats, or data for which there is no memory
+abbrev pub IsAnswer : PipeFault → Type 0
+IsAnswer Stalled = ⊤
+IsAnswer Busy = ⊤
+IsAnswer NoAnswer = ⊥
+IsAnswer Broken = ⊥
+IsAnswer (Bus fault) = ⊥
+IsAnswer Memory = ⊤
+
 -- a device of this description may end a control transfer so: it is neither silent nor always busy where the transfer is done, is refused, or finds
 -- no memory, and not silent where the host waited in vain
 abbrev pub CanEnd : {A : Type 0} → Spec → Result A PipeFault → Type 0

@@ -1,5 +1,5 @@
 -- One attempt of SETUP at a device that it may reach: the device is what it was, or accepted the setup data, with what they ask of its ports.
-use Rattle.std.proofs.Common.{◌≡◌, ◌⊎◌, inl, inr, ℕ, suc, ◌&&◌, ◌==◌, Bool, true, false, List, ◌∷◌, length, Option, None, Some, if◌then◌else◌, refl, sym, subst, ap, ap₂, ◌∙◌}
+use Rattle.std.proofs.Common.{◌≡◌, ◌⊎◌, inl, inr, ℕ, suc, ◌&&◌, Bool, true, false, List, ◌∷◌, length, None, Some, if◌then◌else◌, refl, sym, ap, ◌∙◌}
 use Rattle.std.proofs.lemmas.Option.{same_Some}
 use Rattle.usb_port.specs.PortState.{PortState}
 use Rattle.usb_request.specs.Layout.{setup_of}
@@ -26,7 +26,6 @@ use Rattle.usb_world.proofs.WorldLaws.{made_reach}
 use Rattle.usb_transaction.specs.declared.target.Target.{Target}
 use Rattle.usb_transaction.specs.Trans.{setup_attempt}
 use Rattle.usb_transaction.specs.Over.{is_at}
-use Rattle.usb_transaction.specs.Spared.{IsSpared}
 use Rattle.usb_transaction.proofs.Spared.{DoesSpared, spared_setup, spared_rests}
 
 -- the device accepted them in this attempt

@@ -1,5 +1,5 @@
 -- Who answered a transaction: a device that had the target's address all along, and is still reachable.
-use Rattle.std.proofs.Common.{◌≡◌, ◌≢◌, ◌⊎◌, inl, inr, ℕ, List, ◌∷◌, length, true, false, Some, Ok, refl, sym, ap, ◌∙◌}
+use Rattle.std.proofs.Common.{◌≡◌, ◌≢◌, ◌<◌, ◌⊎◌, inl, inr, ℕ, List, [], ◌∷◌, length, true, false, Some, Ok, Err, refl, sym, ap, ◌∙◌, arith}
 use Rattle.usb_packet.specs.declared.Toggle.{Toggle}
 use Rattle.usb_port.specs.PortState.{PortState}
 use Rattle.usb_request.specs.Layout.{setup_of}
@@ -23,9 +23,13 @@ use Rattle.usb_world.proofs.OneHolderMore.{made_of, made_is, equal_same, same_te
 use Rattle.usb_world.proofs.OneHolderReach.{stays_reachable_in}
 use Rattle.usb_world.proofs.OneHolderWho.{one_answers}
 use Rattle.usb_transaction.specs.declared.target.Target.{Target}
-use Rattle.usb_transaction.specs.Answerer.{Answerer}
+use Rattle.usb_transaction.specs.declared.fault.TransFault.{TransFault}
+use Rattle.usb_transaction.specs.declared.fault.TransFault.TheVariants.{Stalled, Busy, NoAnswer, Bus}
+use Rattle.usb_transaction.specs.declared.heard.Heard.{Heard}
+use Rattle.usb_transaction.specs.declared.heard.Heard.TheVariants.{Lost}
+use Rattle.usb_transaction.specs.Answerer.{Answerer, HadOne, IsAnswer}
 use Rattle.usb_transaction.specs.Heard.{heard_as, sent_as, set_up_as}
-use Rattle.usb_transaction.specs.Trail.{Trail, start, next, Ended, Waiting, PollEnded}
+use Rattle.usb_transaction.specs.Trail.{Trail, start, next, waits_with, waits_in, GoesOn, Ended, Transacted, Waiting, PollEnded, Polled}
 use Rattle.usb_transaction.specs.Trans.{packet_of, setup_attempt, in_attempt, out_attempt}
 use Rattle.usb_transaction.specs.Over.{is_at}
 use Rattle.usb_transaction.proofs.Lasts.{read_last, sent_last, set_up_last}
@@ -156,3 +160,55 @@ pub poll_answered : (t : Target) (ep : ℕ) (toggle : Toggle) (bytes : List ℕ)
 poll_answered t ep toggle bytes old new settled e single =
     let last : e.last ≡ outcome.Payload toggle (packet_of bytes) = read_last toggle e.last bytes e.tells in
     who t (in_attempt t ep) refl (in_keeps t ep) settled e.trail (λ x. cc (sym last ∙ x)) single
+
+-- The faults that are answers
+
+pub had_one : {t : Target} {old new : World} → Answerer t old new → HadOne t old
+had_one a = record { j = a.j; p = a.p; state = a.before; on = a.was_on; stands = a.stood; at = a.at }
+
+-- attempts over which a transaction goes on have fewer waits than end it
+few_waits : (hear : Outcome → Heard) (outcomes : List Outcome) → GoesOn hear outcomes → waits_in hear outcomes < 256
+unfolding GoesOn waits_in
+few_waits hear [] on = omega arith
+few_waits hear (o ∷ outcomes) on = on.2
+
+-- so the last of too many was heard
+waited_last : (hear : Outcome → Heard) → hear outcome.Nothing ≡ Lost → (last : Outcome) (outcomes : List Outcome) → GoesOn hear outcomes → waits_in hear (last ∷ outcomes) ≡ 256 → last ≡ outcome.Nothing → ⊥
+unfolding waits_in
+waited_last hear lost last outcomes on full nothing =
+    let few : waits_in hear outcomes < 256 = few_waits hear outcomes on in
+    let same : waits_in hear outcomes ≡ 256 = sym (ap (λ h. waits_with h (waits_in hear outcomes)) (ap hear nothing ∙ lost)) ∙ full in
+    omega (arith, few, same)
+
+module _ (t : Target) (a : Attempt) (its : a.addr ≡ t.addr) (keeps : KeepsAddress t a) (old new : World) (settled : IsSettled old.roots) (single : new.shared ≡ false) where
+  stall_had : {outcomes : List Outcome} {last : Outcome} → Trail a old (last ∷ outcomes) new → last ≡ outcome.Stall → HadOne t old
+  stall_had r stall = had_one (who t a its keeps settled r (λ n. cc (sym stall ∙ n)) single)
+
+  waits_had : (hear : Outcome → Heard) → hear outcome.Nothing ≡ Lost → {outcomes : List Outcome} {last : Outcome} → Trail a old (last ∷ outcomes) new → GoesOn hear outcomes → waits_in hear (last ∷ outcomes) ≡ 256 → HadOne t old
+  waits_had hear lost {outcomes} {last} r on full = had_one (who t a its keeps settled r (waited_last hear lost last outcomes on full) single)
+
+  fault_had : (hear : Outcome → Heard) → hear outcome.Nothing ≡ Lost → (fault : TransFault) → IsAnswer fault → Transacted hear a old (Err fault) new → HadOne t old
+  fault_had hear lost Stalled y e = stall_had e.trail e.tells
+  fault_had hear lost Busy y e = waits_had hear lost e.trail e.onward e.tells
+  fault_had hear lost NoAnswer y e = absurd y
+  fault_had hear lost (Bus fault) y e = absurd y
+
+pub set_up_had : (t : Target) (bytes : List ℕ) (fault : TransFault) (old new : World) → length bytes ≡ 8 → (is_harmless (setup_of bytes) ≡ false → t.addr ≢ 0) → IsSettled old.roots
+    → IsAnswer fault → Transacted set_up_as (setup_attempt t bytes) old (Err fault) new → new.shared ≡ false → HadOne t old
+set_up_had t bytes fault old new eight addressed settled y e single =
+    fault_had t (setup_attempt t bytes) refl (set_up_keeps t bytes eight addressed) old new settled single set_up_as refl fault y e
+
+pub read_had : (t : Target) (ep : ℕ) (awaited : Toggle) (fault : TransFault) (old new : World) → IsSettled old.roots
+    → IsAnswer fault → Transacted (heard_as awaited) (in_attempt t ep) old (Err fault) new → new.shared ≡ false → HadOne t old
+read_had t ep awaited fault old new settled y e single = fault_had t (in_attempt t ep) refl (in_keeps t ep) old new settled single (heard_as awaited) refl fault y e
+
+pub write_had : (t : Target) (ep : ℕ) (toggle : Toggle) (bytes : List ℕ) (fault : TransFault) (old new : World) → IsSettled old.roots
+    → IsAnswer fault → Transacted sent_as (out_attempt t ep toggle bytes) old (Err fault) new → new.shared ≡ false → HadOne t old
+write_had t ep toggle bytes fault old new settled y e single = fault_had t (out_attempt t ep toggle bytes) refl (out_keeps t ep toggle bytes) old new settled single sent_as refl fault y e
+
+pub poll_had : (t : Target) (ep : ℕ) (toggle : Toggle) (fault : TransFault) (old new : World) → IsSettled old.roots
+    → IsAnswer fault → Polled toggle (in_attempt t ep) old (Err fault) new → new.shared ≡ false → HadOne t old
+poll_had t ep toggle Stalled old new settled y e single = stall_had t (in_attempt t ep) refl (in_keeps t ep) old new settled single e.trail e.tells
+poll_had t ep toggle Busy old new settled y e single = waits_had t (in_attempt t ep) refl (in_keeps t ep) old new settled single (heard_as toggle) refl e.trail e.onward e.tells
+poll_had t ep toggle NoAnswer old new settled y e single = absurd y
+poll_had t ep toggle (Bus fault) old new settled y e single = absurd y

@@ -8,3 +8,4 @@ pub mod Losses
 pub mod Answerer
 pub mod Spared
 pub mod Call
+pub mod Attempts

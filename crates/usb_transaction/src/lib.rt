@@ -10,6 +10,7 @@
 
 mod answerer_laws;
 mod attempt;
+mod course_laws;
 mod done;
 mod fault;
 mod heard;
@@ -24,7 +25,8 @@ mod tries;
 mod why_laws;
 mod write;
 
-pub use answerer_laws::who_answers;
+pub use answerer_laws::{who_answers, who_had_the_address};
+pub use course_laws::what_a_transaction_attempts;
 pub use done::Done;
 pub use fault::TransFault;
 pub use loss_laws::address_losses_of_a_transaction;
