@@ -1,5 +1,5 @@
 -- Entries stand at ports that are known.
-use Rattle.std.proofs.Common.{◌≡◌, ◌∙◌, refl, sym, ap, subst, arith, append-nil, append_assoc, length-append, true, false, Bool, ℕ, ◌+◌, ◌<◌, ◌≤◌, cond, List, [], ◌∷◌, ◌++◌, length, not, Option, Some, None, ◌||◌}
+use Rattle.std.proofs.Common.{◌≡◌, ◌∙◌, refl, sym, ap, subst, arith, append-nil, append_assoc, length-append, true, false, Bool, ℕ, ◌+◌, cond, List, [], ◌∷◌, ◌++◌, length, not, Option, Some, None, ◌||◌}
 use Rattle.std.specs.Prelude.{nat_eq, IsSome}
 use Rattle.std.specs.Map.{lookup}
 use Rattle.std.specs.BTreeMap.{is_at, insert_entry}
@@ -50,7 +50,7 @@ hub_away_by q hub path is away false false same is_on = refl
 hub_away : (q hub path : List ℕ) → parent_of q ≡ Some hub → is_at_or_below q path ≡ false → is_at_or_below hub path ≡ false
 hub_away q hub path is away = hub_away_by q hub path is away (pointwise nat_eq hub path) (is_below hub path) refl refl
 
-lookup-without : (q path : List ℕ) (b : Bool) (es : Entries) → not (is_at_or_below q path) ≡ b → lookup (is_at (path_cmp q)) (without path es) ≡ cond b (lookup (is_at (path_cmp q)) es) None
+pub lookup-without : (q path : List ℕ) (b : Bool) (es : Entries) → not (is_at_or_below q path) ≡ b → lookup (is_at (path_cmp q)) (without path es) ≡ cond b (lookup (is_at (path_cmp q)) es) None
 lookup-without q path b es is =
     lookup-filter-keys (is_at (path_cmp q)) (λ k. not (is_at_or_below k path)) b
     (λ k tie. subst (λ (r : List ℕ). not (is_at_or_below r path) ≡ b) (same_path q k tie) is) es
@@ -84,7 +84,7 @@ elsewhere_step q path f e es apart more Equal is =
     rw other refl
 elsewhere_step q path f e es apart more Greater is = ap (λ found. cond (is_at (path_cmp q) e.0) (Some e.1) found) more
 
-lookup-insert_entry_elsewhere : (q path : List ℕ) (f : Finding) (es : Entries) → is_at (path_cmp q) path ≡ false → lookup (is_at (path_cmp q)) (insert_entry path_cmp es path f) ≡ lookup (is_at (path_cmp q)) es
+pub lookup-insert_entry_elsewhere : (q path : List ℕ) (f : Finding) (es : Entries) → is_at (path_cmp q) path ≡ false → lookup (is_at (path_cmp q)) (insert_entry path_cmp es path f) ≡ lookup (is_at (path_cmp q)) es
 lookup-insert_entry_elsewhere q path f [] apart = rw apart refl
 lookup-insert_entry_elsewhere q path f (e ∷ es) apart =
     elsewhere_step q path f e es apart (lookup-insert_entry_elsewhere q path f es apart) (path_cmp path e.0) refl

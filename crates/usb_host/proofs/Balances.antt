@@ -1,5 +1,5 @@
 -- How the entries and the taken addresses change together.
-use Rattle.std.proofs.Common.{◌≡◌, ◌≢◌, ◌∙◌, refl, sym, subst, ap, arith, inl, inr, true, false, Bool, ℕ, ◌+◌, cond, List, [], ◌∷◌, ◌||◌, Option, Some, Ok}
+use Rattle.std.proofs.Common.{◌≡◌, ◌≢◌, ◌∙◌, refl, sym, subst, ap, arith, inl, inr, true, false, Bool, ℕ, ◌+◌, ◌≤◌, cond, List, [], ◌∷◌, ◌||◌, Option, Some, Ok}
 use Rattle.std.specs.Prelude.{nat_eq}
 use Rattle.std.specs.List.{sum_by}
 use Rattle.std.specs.Map.{lookup, remove_entry}
@@ -12,10 +12,11 @@ use Rattle.std.specs.FinSet.{empty, contains, contains-empty}
 use Rattle.std.proofs.lemmas.Bool.{eq-eqb, ne_eqb, cases_order}
 use Rattle.std.proofs.lemmas.List.Sums.{sum_by-cons}
 use Rattle.usb_port.specs.Order.{path_cmp}
-use Rattle.usb_resources.specs.Pool.{Addresses, IsFull}
+use Rattle.usb_resources.specs.Pool.{Addresses, IsFull, IsTaken}
 use Rattle.usb_enum.specs.declared.finding.Finding.{Finding}
 use Rattle.usb_enum.specs.declared.finding.Finding.TheVariants.{Device, Refused}
 use Rattle.usb_table.specs.Findings.{has_address, HasNewAddress}
+use Rattle.usb_table.proofs.Paths.{path_tied}
 use Rattle.usb_host.specs.Accounts.{Accounts, Claims}
 use Rattle.usb_table.specs.Entries.{Entries, TakesOut, has_at, is_at_or_below}
 use Rattle.usb_enum.specs.Found.{TakesFor}
@@ -106,6 +107,57 @@ claimed (Device device) old new a h =
           let ne : a ≢ device.address = λ e. elim other [ inl less ↦ omega (arith, less, e) | inr more ↦ omega (arith, more, e) ] in
           rw (eq_no a device.address ne, h.others a ne) (omega arith)
     ]
+
+-- One entry alone has an address that is taken
+
+counted : (a : ℕ) (test : List ℕ → Bool) (f : Finding) (es : Entries) → has_address a f ≡ true → lookup test es ≡ Some f → 1 ≤ count a es
+unfolding one
+counted a test f es has found =
+    let here : one (has_address a f) ≡ 1 = ap one has in
+    omega (arith, here, count-remove a test f es found)
+
+twice : (a : ℕ) (test : List ℕ → Bool) (f g : Finding) (e : List ℕ × Finding) (es : Entries) → has_address a f ≡ true → has_address a g ≡ true → count a (e ∷ es) ≤ 1 → Some e.1 ≡ Some f → lookup test es ≡ Some g → ⊥
+unfolding one
+twice a test f g e es has also most is found =
+    let same : e.1 ≡ f = cc is in
+    let here : one (has_address a e.1) ≡ 1 = ap (λ d. one (has_address a d)) same ∙ ap one has in
+    omega (arith, here, most, count-cons a e es, counted a test g es also found)
+
+once_step : (a : ℕ) (p q : List ℕ) (f g : Finding) (e : List ℕ × Finding) (es : Entries) → has_address a f ≡ true → has_address a g ≡ true → count a (e ∷ es) ≤ 1
+    → (count a es ≤ 1 → lookup (is_at (path_cmp p)) es ≡ Some f → lookup (is_at (path_cmp q)) es ≡ Some g → p ≡ q)
+    → (b c : Bool) → is_at (path_cmp p) e.0 ≡ b → is_at (path_cmp q) e.0 ≡ c → cond b (Some e.1) (lookup (is_at (path_cmp p)) es) ≡ Some f → cond c (Some e.1) (lookup (is_at (path_cmp q)) es) ≡ Some g → p ≡ q
+once_step a p q f g e es has also most more true true at_p at_q is_f is_g = path_tied p e.0 at_p ∙ sym (path_tied q e.0 at_q)
+once_step a p q f g e es has also most more true false at_p at_q is_f is_g = absurd (twice a (is_at (path_cmp q)) f g e es has also most is_f is_g)
+once_step a p q f g e es has also most more false true at_p at_q is_f is_g = absurd (twice a (is_at (path_cmp p)) g f e es also has most is_g is_f)
+once_step a p q f g e es has also most more false false at_p at_q is_f is_g = more (omega (arith, most, count-cons a e es)) is_f is_g
+
+once : (a : ℕ) (p q : List ℕ) (f g : Finding) (es : Entries) → has_address a f ≡ true → has_address a g ≡ true → count a es ≤ 1 → lookup (is_at (path_cmp p)) es ≡ Some f → lookup (is_at (path_cmp q)) es ≡ Some g → p ≡ q
+once a p q f g [] has also most is_f is_g = absurd cc
+once a p q f g (e ∷ es) has also most is_f is_g =
+    once_step a p q f g e es has also most (once a p q f g es has also) (is_at (path_cmp p) e.0) (is_at (path_cmp q) e.0) refl refl is_f is_g
+
+one_most : (b : Bool) → one b ≤ 1
+unfolding one
+one_most true = omega arith
+one_most false = omega arith
+
+-- two entries with one address are the same
+pub accounts_once : (a : ℕ) (p q : List ℕ) (f g : Finding) (es : Entries) (addresses : Addresses) → Accounts es addresses → has_address a f ≡ true → has_address a g ≡ true → lookup (is_at (path_cmp p)) es ≡ Some f → lookup (is_at (path_cmp q)) es ≡ Some g → p ≡ q
+unfolding count one
+accounts_once a p q f g es addresses h has also is_f is_g =
+    let most : count a es ≤ 1 = subst (λ n. n ≤ 1) (sym (h.each a)) (one_most (contains addresses a)) in
+    once a p q f g es has also most is_f is_g
+
+some_one : (b : Bool) → 1 ≤ one b → b ≡ true
+unfolding one
+some_one true h = refl
+some_one false h = absurd (omega (arith, h))
+
+-- the address of an entry is taken
+pub accounts_taken : (a : ℕ) (p : List ℕ) (f : Finding) (es : Entries) (addresses : Addresses) → Accounts es addresses → has_address a f ≡ true → lookup (is_at (path_cmp p)) es ≡ Some f → IsTaken addresses a
+unfolding count one
+accounts_taken a p f es addresses h has found =
+    some_one (contains addresses a) (subst (λ n. 1 ≤ n) (h.each a) (counted a (is_at (path_cmp p)) f es has found))
 
 pub accounts_none : Accounts [] empty
 accounts_none = record { each = λ a. rw (contains-empty nat_cmp a) refl }

@@ -1,5 +1,5 @@
 -- The way up from a port.
-use Rattle.std.proofs.Common.{◌≡◌, ◌∙◌, ap, arith, length-append, ℕ, ◌+◌, ◌≤◌, List, [], ◌∷◌, length, Option, Some}
+use Rattle.std.proofs.Common.{◌≡◌, ◌∙◌, ap, arith, length-append, ℕ, ◌+◌, ◌≤◌, List, [], ◌∷◌, length, Some}
 use Rattle.usb_port.specs.Order.{parent_of, port_of}
 use Rattle.usb_port.proofs.OrderLaws.{rejoined}
 

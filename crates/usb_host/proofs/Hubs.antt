@@ -1,6 +1,7 @@
 -- A port below a hub is the hub's.
-use Rattle.std.proofs.Common.{◌≡◌, refl, subst, Bool, true, false, ℕ, ◌≤◌, List, [], ◌∷◌, ◌++◌, length, Option, Some, None}
+use Rattle.std.proofs.Common.{◌≡◌, refl, subst, arith, Bool, true, false, ℕ, ◌≤◌, List, [], ◌∷◌, ◌++◌, length, Option, Some, None}
 use Rattle.std.specs.Prelude.{nat_le, if◌then◌else◌}
+use Rattle.std.proofs.lemmas.List.Elements.{All-cons, All-nil}
 use Rattle.usb_world.specs.World.{World, IsRootPort}
 use Rattle.std.specs.Map.{lookup}
 use Rattle.std.specs.BTreeMap.{is_at}
@@ -49,4 +50,4 @@ below_due hub n es port w least e =
 -- a port of the root
 pub root_stands : (number : ℕ) (h : Hosting) → IsRootPort h.world number → IsPortNumber number → StandsAt (number ∷ []) (record { port = Root number; supply = supply_of true false }) h
 unfolding parent_of port_of
-root_stands number h there is = record { known = refl; there = there; askable = is }
+root_stands number h there is = record { is = (omega arith, omega arith, All-cons IsPortNumber number [] is (All-nil IsPortNumber)); known = refl; there = there; askable = is }

@@ -1,12 +1,17 @@
 pub mod Agreements
 pub mod Balances
+pub mod Claimed
 pub mod Climbs
 pub mod Looks
 pub mod Openings
+pub mod Owners
 pub mod Powers
 pub mod Quiets
 pub mod Enumerations
+pub mod Handlings
 pub mod Hubs
 pub mod Joins
 pub mod Ranks
+pub mod Stations
 pub mod Waits
+pub mod Ways

@@ -7,7 +7,6 @@ use Rattle.usb_port.specs.Order.{path_cmp}
 use Rattle.usb_resources.specs.Pool.{IsFull}
 use Rattle.usb_hub.specs.Port.{IsPort}
 use Rattle.usb_hub.proofs.Ports.{port_stays}
-use Rattle.usb_enum.specs.declared.cause.Cause.{Cause}
 use Rattle.usb_enum.specs.declared.cause.Cause.TheVariants as cause
 use Rattle.usb_enum.specs.declared.fault.EnumFault.{EnumFault}
 use Rattle.usb_enum.specs.declared.fault.EnumFault.TheVariants.{ParentLost, Bus, Memory}
@@ -95,6 +94,7 @@ pub stands_kept : (n : ℕ) (path : List ℕ) (port : KnownPort) (a b c : Hostin
 stands_kept n path port a b c g r others rest s =
     let left : c.entries ≡ without path a.entries = rest ∙ ap (λ (x : Hosting). without path x.entries) r in
     record {
+      is = s.is;
       known = ap (known_port path) left ∙ known_port-without path a.entries ∙ s.known;
       there = subst (λ w. IsPort w port.port) (sym (ap (λ (x : Hosting). x.world) others)) (port_stays n port.port a.world b.world g.spends s.there);
       askable = s.askable;

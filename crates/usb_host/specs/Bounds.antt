@@ -1,5 +1,5 @@
 -- How many attempts the parts of a round may take.
-use Rattle.std.specs.Prelude.{ℕ, ◌+◌, ◌*◌, ◌^◌}
+use Rattle.std.specs.Prelude.{ℕ, ◌+◌, ◌*◌}
 use Rattle.usb_enum.specs.Bounds.{widest_enumeration}
 
 -- a port's status, and an order to it

@@ -1,9 +1,10 @@
 -- What the host does at a port.
-use Rattle.std.specs.Prelude.{◌≡◌, ◌+◌, ◌<◌, ⊤, ℕ, List, Bool, true, Option, Some, Result, Ok, Err, MatchResult}
+use Rattle.std.specs.Prelude.{◌≡◌, ◌+◌, ◌<◌, ⊤, ℕ, List, true, None, Some, IsSome, Result, Ok, Err, MatchResult}
 use Rattle.std.specs.Map.{lookup}
 use Rattle.std.specs.BTreeMap.{is_at, insert_entry}
-use Rattle.usb_port.specs.Order.{path_cmp}
-use Rattle.usb_world.specs.World.{World, Failed, port_at}
+use Rattle.usb_port.specs.Order.{path_cmp, parent_of, port_of}
+use Rattle.usb_port.specs.Path.{IsPath}
+use Rattle.usb_world.specs.World.{World, Failed, port_at, roots_of}
 use Rattle.usb_hub.specs.declared.port.HubPort.{HubPort}
 use Rattle.usb_hub.specs.declared.port.HubPort.TheVariants.{Root, External}
 use Rattle.usb_hub.specs.Port.{IsPort}
@@ -23,9 +24,15 @@ use Rattle.usb_host.specs.Progress.{Advances}
 
 -- the port at a path, as the table knows it and the bus has it
 pub record StandsAt (path : List ℕ) (port : KnownPort) (h : Hosting) : Type 0 where
+  pub is : IsPath path
   pub known : known_port path h.entries ≡ Some port
   pub there : IsPort h.world port.port
   pub askable : IsAskable port.port
+
+-- a path that is not a root port's, or of one that the root has not
+pub record StandsNowhere (path : List ℕ) (h : Hosting) : Type 0 where
+  pub is : IsPath path
+  pub beyond : parent_of path ≡ None → roots_of h.world < port_of path
 
 -- a root port tells of a change; a hub has told of it
 abbrev pub IsDue : World → HubPort → Type 0
@@ -59,11 +66,11 @@ abbrev pub Shown : HubPort → Result PortStatus EnumFault → World → World �
 Shown (Root number) result old new = (result ≡ Ok (seen (port_at old number))) × (new ≡ old)
 Shown (External hub port) result old new = Gains result old new
 
--- the bus tells its fault
-abbrev pub Broke : EnumFault → World → Type 0
-Broke ParentLost w = ⊤
-Broke (Bus fault) w = Failed fault w
-Broke Memory w = ⊤
+-- the bus tells its fault, and the port has a hub that is lost
+abbrev pub Broke : List ℕ → EnumFault → World → Type 0
+Broke path ParentLost w = IsSome (parent_of path)
+Broke path (Bus fault) w = Failed fault w
+Broke path Memory w = ⊤
 
 -- an end after which the host goes on
 abbrev pub GoesOn : Result (Unit {0}) EnumFault → Type 0

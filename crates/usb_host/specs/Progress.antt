@@ -1,7 +1,7 @@
 -- That a round gets on.
 use Rattle.std.specs.Prelude.{◌≡◌, ℕ, ◌+◌, ◌*◌, ◌<◌, ◌≤◌}
 use Rattle.std.specs.List.{count_by}
-use Rattle.usb_world.specs.World.{Spends}
+use Rattle.usb_world.specs.World.{Spends, root_row, changes}
 use Rattle.usb_table.specs.Entries.{Entries}
 use Rattle.usb_table.specs.Findings.{is_waiting}
 use Rattle.usb_host.specs.Hosting.{Hosting, work}
@@ -41,3 +41,8 @@ Did Quiet old new = Rests old new
 abbrev pub either : Round → Round → Round
 either Worked other = Worked
 either Quiet other = other
+
+-- what a round did: it got on, or no port had changed
+pub record DidRound (round : Round) (old new : Hosting) : Type 0 where
+  pub worked : round ≡ Worked → Advances old new
+  pub quiet : round ≡ Quiet → Rests old new × (changes (root_row old.world) ≡ 0)

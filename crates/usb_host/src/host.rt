@@ -1,12 +1,13 @@
 //! The host of a bus, and what its callers may ask of it.
 ghost use Rattle.std.specs.Prelude.{◌≡◌, ◌≢◌, ◌≤◌, ◌<◌, ◌+◌, ◌*◌, ◌↔◌, true, false, length, IsTrue, IsErrOf, OnOk, IfOk, IfErr, IsErr, Ok, Err};
 ghost use Rattle.std.specs.Borrow.{Lends, sem};
-ghost use Rattle.usb_world.specs.World.{World, Spends, root_row, changes};
+ghost use Rattle.usb_world.specs.World.{World, Spends};
 ghost use Rattle.usb_table.specs.Entries.{Rises};
 ghost use Rattle.usb_host.specs.Agreement.{Agrees};
 ghost use Rattle.usb_host.specs.Bounds.{round_bound, clear_bound};
 ghost use Rattle.usb_host.specs.Hosting.{Hosting, opening};
-ghost use Rattle.usb_host.specs.Progress.{Advances, Rests};
+ghost use Rattle.usb_host.specs.Progress.{DidRound};
+ghost use Rattle.usb_host.specs.Owning.{Owning, IsUntouched};
 ghost use Rattle.usb_host.specs.Told.{RoundTold, TransferTold, StopsAsRound, StopsAsTransfer, host_told, is_final};
 
 use crate::{HostFault, Tree};
@@ -59,7 +60,8 @@ impl<B: Bus> Host<B> {
 
     /// The host of a bus, which knows of no device. Each root port is given power.
     pub fn new(alloc: Global, bus: B) -> Host<B>
-        ensures { result ≡ opening (B.world bus) }
+        ensures opens { result ≡ opening (B.world bus) }
+        ensures owning { IsUntouched (B.world bus) → Owning result }
     {
         let mut bus = bus;
         let roots = bus.root_ports();
@@ -134,8 +136,8 @@ impl<B: Bus> Host<B> {
         ensures stopped { StopsAsRound self.old result self.new }
         ensures spends { Spends round_bound self.old.world self.new.world }
         ensures told { IfErr result (λ fault. RoundTold fault self.new.world) }
-        ensures worked { result ≡ Ok Round.Worked → Advances self.old self.new }
-        ensures quiet { result ≡ Ok Round.Quiet → Rests self.old self.new × (changes (root_row self.old.world) ≡ 0) }
+        ensures did { IfOk result (λ round. DidRound round self.old self.new) }
+        ensures owning { Owning self.old → Owning self.new }
     {
         if self.stopped {
             return Err(HostFault::Stopped);
@@ -158,6 +160,7 @@ impl<B: Bus> Host<B> {
         ensures spends { Spends (768 * length bytes.now) self.old.world self.new.world }
         ensures told { IfErr result (λ fault. TransferTold fault self.new.world) }
         ensures kept { self.new.entries ≡ self.old.entries }
+        ensures owning { Owning self.old → Owning self.new }
     {
         if self.stopped {
             return Err(HostFault::Stopped);
@@ -178,6 +181,7 @@ impl<B: Bus> Host<B> {
         ensures spends { Spends (768 * packets) self.old.world self.new.world }
         ensures told { IfErr result (λ fault. TransferTold fault self.new.world) }
         ensures kept { self.new.entries ≡ self.old.entries }
+        ensures owning { Owning self.old → Owning self.new }
     {
         if self.stopped {
             return Err(HostFault::Stopped);
@@ -198,6 +202,7 @@ impl<B: Bus> Host<B> {
         ensures spends { Spends clear_bound self.old.world self.new.world }
         ensures told { IfErr result (λ fault. TransferTold fault self.new.world) }
         ensures kept { self.new.entries ≡ self.old.entries }
+        ensures owning { Owning self.old → Owning self.new }
     {
         if self.stopped {
             return Err(HostFault::Stopped);

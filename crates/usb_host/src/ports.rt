@@ -1,9 +1,10 @@
 //! What the host does at a port.
-ghost use Rattle.std.specs.Prelude.{◌≡◌, ◌⊎◌, ◌*◌, [], ◌∷◌, true, false, length, IsTrue, OnOk, IfOk, IfErr, IfSome, IsSome};
+ghost use Rattle.std.specs.Prelude.{◌≡◌, ◌⊎◌, ◌*◌, [], ◌∷◌, true, false, length, IsTrue, OnOk, IfOk, IfErr, IfSome, IfNone, IsSome};
 ghost use Rattle.std.specs.BTreeMap.{insert_entry};
 ghost use Rattle.usb_port.specs.Order.{path_cmp};
 ghost use Rattle.usb_port.specs.Path.{IsPath, IsPortNumber};
 ghost use Rattle.usb_world.specs.World.{IsRootPort, port_at};
+ghost use Rattle.usb_address.specs.Owned.{KeepsAddresses};
 ghost use Rattle.usb_hub.specs.Port.{IsPort};
 ghost use Rattle.usb_resources.specs.Pool.{IsFull};
 ghost use Rattle.usb_enum.specs.Bounds.{widest_enumeration};
@@ -11,7 +12,8 @@ ghost use Rattle.usb_enum.specs.Stop.{FaultAt};
 ghost use Rattle.usb_table.specs.Entries.{Replaced, has_at, without};
 ghost use Rattle.usb_table.specs.Known.{IsAskable, known_port};
 ghost use Rattle.usb_host.specs.Bounds.{clearing_bound, look_bound, drop_bound, handling_bound, status_most, order_most, serving_bound};
-ghost use Rattle.usb_host.specs.Ports.{StandsAt, IsDue, Waits, Served, Shown, Gains, Broke, GoesOn, Entered, HasLost};
+ghost use Rattle.usb_host.specs.Owning.{KeepsOwned, KeepsPort, BaresPort, FinishesPort, DropsHub, BaresUpward, KeepsDisabled};
+ghost use Rattle.usb_host.specs.Ports.{StandsAt, StandsNowhere, IsDue, Waits, Served, Shown, Gains, Broke, GoesOn, Entered, HasLost};
 ghost use Rattle.usb_host.specs.Progress.{Goes, Advances, Holds, Rests, Did};
 ghost use Rattle.usb_host.specs.Told.{Ended};
 
@@ -42,6 +44,7 @@ impl<B: Bus> Host<B> {
         ensures goes { Goes handling_bound self.old self.new }
         ensures told { IfErr result (λ fault. Ended fault self.new.world) }
         ensures advances { OnOk result ((port_at self.old.world number).connection_changed ≡ true → Advances self.old self.new) }
+        ensures owned { KeepsOwned self.old result self.new }
     {
         let port = KnownPort {
             port: HubPort::Root(number),
@@ -56,6 +59,7 @@ impl<B: Bus> Host<B> {
         ensures goes { Goes handling_bound self.old self.new }
         ensures told { IfErr result (λ fault. Ended fault self.new.world) }
         ensures did { IfOk result (λ round. Did round self.old self.new) }
+        ensures owned { KeepsOwned self.old result self.new }
     {
         let mut path = hub.duplicate();
         if !path.push(number) {
@@ -75,6 +79,7 @@ impl<B: Bus> Host<B> {
         ensures goes { Goes handling_bound self.old self.new }
         ensures told { IfErr result (λ fault. Ended fault self.new.world) }
         ensures did { IfOk result (λ round. Did round self.old self.new) }
+        ensures owned { KeepsOwned self.old result self.new }
     {
         let _numbers = path.numbers();
         let Some(port) = self.port_at(path) else {
@@ -87,8 +92,10 @@ impl<B: Bus> Host<B> {
 
     /// The port at a path, where it is one of the root or of a hub that is known.
     fn port_at(&self, path: &PortPath) -> Option<KnownPort>
-        ensures { IfSome result (λ port. StandsAt path.now port self.now) }
+        ensures some { IfSome result (λ port. StandsAt path.now port self.now) }
+        ensures none { IfNone result (StandsNowhere path.now self.now) }
     {
+        let _numbers = path.numbers();
         let known = self.table.port_at(path)?;
         match known.port {
             HubPort::Root(number) if number > self.bus.root_ports() => None,
@@ -102,6 +109,7 @@ impl<B: Bus> Host<B> {
         ensures goes { Goes handling_bound self.old self.new }
         ensures told { IfErr result (λ fault. Ended fault self.new.world) }
         ensures advances { OnOk result (IsDue self.old.world port.port → Advances self.old self.new) }
+        ensures owned { KeepsOwned self.old result self.new }
     {
         let served = self.serve(path, port);
         self.finish(path, served)
@@ -109,11 +117,12 @@ impl<B: Bus> Host<B> {
 
     /// Drops the hub of a port, where a request to it failed.
     fn finish(&mut self, path: &PortPath, served: Result<(), EnumFault>) -> Result<(), HostFault>
-        requires { IfErr served (λ fault. Broke fault self.old.world) }
+        requires { IfErr served (λ fault. Broke path.now fault self.old.world) }
         ensures goes { Goes drop_bound self.old self.new }
         ensures told { IfErr result (λ fault. Ended fault self.new.world) }
         ensures holds { Holds self.old self.new }
         ensures on { OnOk result (GoesOn served) }
+        ensures owned { FinishesPort path.now served self.old result self.new }
     {
         match served {
             Ok(()) => Ok(()),
@@ -134,6 +143,7 @@ impl<B: Bus> Host<B> {
         ensures goes { Goes serving_bound self.old self.new }
         ensures told { IfErr result (λ fault. FaultAt port.port fault self.new.world) }
         ensures served { IsDue self.old.world port.port → Served result self.old self.new }
+        ensures owned { KeepsPort path.now self.old result self.new }
     {
         let status = self.status(port.port)?;
         if status.connection_changed {
@@ -151,16 +161,19 @@ impl<B: Bus> Host<B> {
         ensures told { IfErr result (λ fault. FaultAt port fault self.new.world) }
         ensures rests { Rests self.old self.new }
         ensures shown { Shown port result self.old.world self.new.world }
+        ensures keeps { KeepsAddresses self.old.world self.new.world }
     {
         Ok(port_status(self.alloc, &mut self.bus, port)?)
     }
 
     /// Clears what an earlier reset or error left of a port whose connection has not changed.
+    #[tactic(auto, using(usb_address::proofs::Keeping::keeps_then))]
     fn tidy(&mut self, port: HubPort, status: PortStatus) -> Result<(), EnumFault>
         requires { IsPort self.old.world port }
         ensures goes { Goes (2 * order_most) self.old self.new }
         ensures told { IfErr result (λ fault. FaultAt port fault self.new.world) }
         ensures rests { Rests self.old self.new }
+        ensures keeps { KeepsAddresses self.old.world self.new.world }
     {
         if status.enable_changed {
             clear_port(&mut self.bus, port, C_PORT_ENABLE)?;
@@ -179,6 +192,7 @@ impl<B: Bus> Host<B> {
         ensures told { IfErr result (λ fault. FaultAt port.port fault self.new.world) }
         ensures served { IsDue self.old.world port.port ⊎ Waits path.now self.old → Served result self.old self.new }
         ensures renewed { OnOk result (Replaced path.now (without path.now self.old.entries) self.new.entries) }
+        ensures owned { KeepsPort path.now self.old result self.new }
     {
         let status = self.clear_change(port.port)?;
         self.forget(path);
@@ -196,6 +210,7 @@ impl<B: Bus> Host<B> {
         ensures told { IfErr result (λ fault. FaultAt port fault self.new.world) }
         ensures rests { Rests self.old self.new }
         ensures gains { IsDue self.old.world port → Gains result self.old.world self.new.world }
+        ensures bares { BaresPort port self.old.world result self.new.world }
     {
         clear_port(&mut self.bus, port, C_PORT_CONNECTION)?;
         let status = port_status(self.alloc, &mut self.bus, port)?;
@@ -212,6 +227,7 @@ impl<B: Bus> Host<B> {
         ensures goes { Goes widest_enumeration self.old self.new }
         ensures told { IfErr result (λ fault. FaultAt port.port fault self.new.world) }
         ensures entered { Entered path.now self.old result self.new }
+        ensures owned { KeepsPort path.now self.old result self.new }
     {
         let finding = enumerate(
             self.alloc,
@@ -231,6 +247,7 @@ impl<B: Bus> Host<B> {
         ensures told { IfErr result (λ fault. Ended fault self.new.world) }
         ensures holds { Holds self.old self.new }
         ensures lost { OnOk result (HasLost self.old.entries self.new.entries) }
+        ensures owned { DropsHub hub self.old result self.new }
     {
         let lost = self.disable_upward(hub)?;
         self.forget(&lost);
@@ -243,6 +260,7 @@ impl<B: Bus> Host<B> {
         ensures told { IfErr result (λ fault. Ended fault self.new.world) }
         ensures rests { Rests self.old self.new }
         ensures known { IfOk result (λ path. IsSome (known_port path self.old.entries)) }
+        ensures bares { BaresUpward first self.old result self.new }
     {
         // (a path's numbers say that it has at most seven)
         let _numbers = first.numbers();
@@ -264,6 +282,7 @@ impl<B: Bus> Host<B> {
         ensures told { IfErr result (λ fault. Ended fault self.new.world) }
         ensures rests { Rests self.old self.new }
         ensures known { IfOk result (λ done. IsTrue done → IsSome (known_port path.now self.old.entries)) }
+        ensures owned { KeepsDisabled path.now self.old result self.new }
     {
         let Some(port) = self.port_at(path) else {
             return Ok(false);

@@ -4,6 +4,7 @@ ghost use Rattle.usb_world.specs.World.{root_row, changes, IsRootPort};
 ghost use Rattle.usb_port.specs.Path.{IsPath};
 ghost use Rattle.usb_table.specs.Next.{IsAfter};
 ghost use Rattle.usb_host.specs.Bounds.{round_bound, roots_bound, hubs_bound, hub_bound, told_bound, looks_bound};
+ghost use Rattle.usb_host.specs.Owning.{KeepsOwned};
 ghost use Rattle.usb_host.specs.Ports.{Waits};
 ghost use Rattle.usb_host.specs.Progress.{Goes, Did, either};
 ghost use Rattle.usb_host.specs.Told.{Ended};
@@ -28,12 +29,13 @@ impl Round {
 
 impl<B: Bus> Host<B> {
     /// The root ports, the hubs, and the devices that wait.
-    #[tactic(auto, using(crate::proofs::Joins::goes_then, crate::proofs::Joins::goes_wider, crate::proofs::Joins::goes_none))]
+    #[tactic(auto, using(crate::proofs::Joins::goes_then, crate::proofs::Joins::goes_wider, crate::proofs::Joins::goes_none, crate::proofs::Owners::stays_none, crate::proofs::Owners::stays_then, crate::proofs::Owners::single_then))]
     pub(crate) fn parts(&mut self) -> Result<Round, HostFault>
         ensures goes { Goes round_bound self.old self.new }
         ensures told { IfErr result (λ fault. Ended fault self.new.world) }
         ensures did { IfOk result (λ round. Did round self.old self.new) }
         ensures none { result ≡ Ok Round.Quiet → changes (root_row self.old.world) ≡ 0 }
+        ensures owned { KeepsOwned self.old result self.new }
     {
         let roots = self.serve_roots()?;
         let hubs = self.serve_hubs()?;
@@ -42,12 +44,13 @@ impl<B: Bus> Host<B> {
     }
 
     /// Handles each root port whose connection has changed, by rising number.
-    #[tactic(auto, using(crate::proofs::Joins::goes_then, crate::proofs::Joins::goes_wider, crate::proofs::Joins::goes_none))]
+    #[tactic(auto, using(crate::proofs::Joins::goes_then, crate::proofs::Joins::goes_wider, crate::proofs::Joins::goes_none, crate::proofs::Owners::stays_none, crate::proofs::Owners::stays_then, crate::proofs::Owners::single_then))]
     fn serve_roots(&mut self) -> Result<Round, HostFault>
         ensures goes { Goes roots_bound self.old self.new }
         ensures told { IfErr result (λ fault. Ended fault self.new.world) }
         ensures did { IfOk result (λ round. Did round self.old self.new) }
         ensures none { result ≡ Ok Round.Quiet → changes (root_row self.old.world) ≡ 0 }
+        ensures owned { KeepsOwned self.old result self.new }
     {
         let mut round = Round::Quiet;
         let roots = self.bus.root_ports();
@@ -65,6 +68,7 @@ impl<B: Bus> Host<B> {
         ensures goes { Goes hubs_bound self.old self.new }
         ensures told { IfErr result (λ fault. Ended fault self.new.world) }
         ensures did { IfOk result (λ round. Did round self.old self.new) }
+        ensures owned { KeepsOwned self.old result self.new }
     {
         let mut round = Round::Quiet;
         let mut last: Option<PortPath> = None;
@@ -82,6 +86,7 @@ impl<B: Bus> Host<B> {
         ensures goes { Goes hub_bound self.old self.new }
         ensures told { IfErr result (λ fault. Ended fault self.new.world) }
         ensures did { IfOk result (λ round. Did round self.old self.new) }
+        ensures owned { KeepsOwned self.old result self.new }
     {
         let _numbers = hub.numbers();
         match self.table.poll(&mut self.bus, hub) {
@@ -96,12 +101,13 @@ impl<B: Bus> Host<B> {
     }
 
     /// Handles each port of a hub whose bit is set, by rising number, as long as the hub is known.
-    #[tactic(auto, using(crate::proofs::Joins::goes_then, crate::proofs::Joins::goes_wider, crate::proofs::Joins::goes_none))]
+    #[tactic(auto, using(crate::proofs::Joins::goes_then, crate::proofs::Joins::goes_wider, crate::proofs::Joins::goes_none, crate::proofs::Owners::stays_none, crate::proofs::Owners::stays_then, crate::proofs::Owners::single_then))]
     fn serve_told(&mut self, hub: &PortPath, bits: u8) -> Result<Round, HostFault>
         requires { IsPath hub.now }
         ensures goes { Goes told_bound self.old self.new }
         ensures told { IfErr result (λ fault. Ended fault self.new.world) }
         ensures did { IfOk result (λ round. Did round self.old self.new) }
+        ensures owned { KeepsOwned self.old result self.new }
     {
         let mut round = Round::Quiet;
         'ports: for number in 1..8u8 {
@@ -117,6 +123,7 @@ impl<B: Bus> Host<B> {
         ensures goes { Goes looks_bound self.old self.new }
         ensures told { IfErr result (λ fault. Ended fault self.new.world) }
         ensures did { IfOk result (λ round. Did round self.old self.new) }
+        ensures owned { KeepsOwned self.old result self.new }
     {
         let mut round = Round::Quiet;
         let mut last: Option<PortPath> = None;

@@ -4,8 +4,8 @@ use Rattle.usb_world.specs.World.{to_come}
 use Rattle.usb_host.specs.declared.host.Round.{Round}
 use Rattle.usb_host.specs.declared.host.Round.TheVariants.{Worked, Quiet}
 use Rattle.usb_host.specs.Hosting.{Hosting}
-use Rattle.usb_host.specs.Progress.{Advances, Rests, idle_work}
-use Rattle.usb_serve.specs.Run.{Goes, DidRound}
+use Rattle.usb_host.specs.Progress.{Advances, DidRound, Rests, idle_work}
+use Rattle.usb_serve.specs.Run.{Goes}
 
 -- what is left to do, and the attempts and the events that may still come
 abbrev pub rounds_left : Hosting → ℕ

@@ -1,13 +1,11 @@
 -- What runs leave of a bus's world.
-use Rattle.std.specs.Prelude.{◌≡◌, ℕ, ◌+◌, ⊤, Bool, false, Result, OnOk, IfErr, if◌then◌else◌}
+use Rattle.std.specs.Prelude.{◌≡◌, ℕ, ◌+◌, ⊤, Bool, false, Result, OnOk, IfOk, IfErr, if◌then◌else◌}
 use Rattle.usb_world.specs.PlanData.{PlanData}
-use Rattle.usb_world.specs.World.{World, Spends, root_row, to_come, changes}
+use Rattle.usb_world.specs.Steps.{opening}
+use Rattle.usb_world.specs.World.{World, Spends, to_come}
 use Rattle.usb_world.specs.declared.types.BusFault.{BusFault}
 use Rattle.usb_world.specs.declared.types.BusFault.TheVariants as bus
-use Rattle.usb_host.specs.declared.host.Round.{Round}
-use Rattle.usb_host.specs.declared.host.Round.TheVariants.{Worked, Quiet}
 use Rattle.usb_host.specs.Hosting.{Hosting}
-use Rattle.usb_host.specs.Progress.{Advances, Rests}
 use Rattle.usb_serve.specs.declared.runs.Item.{Item}
 use Rattle.usb_serve.specs.declared.runs.Item.TheVariants.{Listing, Sent, Received, Cleared}
 use Rattle.usb_serve.specs.declared.runs.Report.{Report}
@@ -36,11 +34,6 @@ IsCaused LimitReached w = w.attempts ≡ w.limit
 IsCaused Memory w = Unit {0}
 IsCaused TraceFailed w = Unit {0}
 
--- what a round did: it got on, or no port had changed
-pub record DidRound (round : Round) (old new : Hosting) : Type 0 where
-  pub worked : round ≡ Worked → Advances old new
-  pub quiet : round ≡ Quiet → Rests old new × (changes (root_row old.world) ≡ 0)
-
 -- a part of a run: its host goes on where no fault is told, and a fault has its cause
 pub record RunsOn {A : Type 0} (old : Hosting) (result : Result A RunFault) (new : Hosting) : Type 0 where
   pub goes : Goes old.world new.world
@@ -67,3 +60,10 @@ pub record Counts (report : Report) (w : World) : Type 0 where
   pub attempts : report.attempts ≡ w.attempts
   pub losses : report.address_losses ≡ w.losses.all
   pub worst : report.worst_address_run ≡ w.losses.worst
+
+-- the world that a run of a plan ends in, with or without a fault: at no attempt so far did two reachable devices hold one address
+pub record EndsWell (plan : PlanData) (result : Result Report RunFault) : Type 0 where
+  pub last : World
+  pub goes : Goes (opening plan) last
+  pub single : last.shared ≡ false
+  pub counts : IfOk result (λ report. Counts report last)

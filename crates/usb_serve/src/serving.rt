@@ -84,7 +84,7 @@ impl From<WriteFailed> for ServeFault {
     }
 }
 
-/// Reads a plan, runs it, and writes what the mode asks for. Hands the writer back.
+/// Reads a plan, runs it, and writes what the mode asks for to a writer that has not failed yet. Hands the writer back.
 ///
 /// # Errors
 /// Read where the reader failed, TooLong for a text over the limit, Plan for a text that is no plan,
@@ -95,6 +95,7 @@ pub fn serve<R: Read, W: Write>(
     reader: &mut Watched<R>,
     writer: Watched<W>,
 ) -> (Result<(), ServeFault>, Watched<W>)
+    requires unfailed { has_failed writer ≡ false }
     ensures calls { calls_of reader.new ≤ calls_of reader.old + 1048577 }
     ensures read { IsErrOf result.0 ServeFault.Read → has_failed reader.new ≡ true }
     ensures too_long { IsErrOf result.0 ServeFault.TooLong → IfSome (R.remaining (inner_of reader.old)) (λ text. 1048576 < length text) }
@@ -214,6 +215,7 @@ fn serve_run<W: Write>(
     plan: &Plan,
     writer: Watched<W>,
 ) -> (Result<(), ServeFault>, Watched<W>)
+    requires unfailed { has_failed writer ≡ false }
     ensures { IsOfRun result.0 }
 {
     match Runner::new(alloc, plan, writer) {
@@ -227,7 +229,6 @@ fn serve_run<W: Write>(
 
 /// Runs to the end, with the lines of each item put into the trace when it is made.
 fn trace_run<W: Write>(alloc: Global, runner: &mut Runner<W>) -> Result<(), ServeFault>
-    requires running { runner.old.over ≡ false → runner.old.host.stopped ≡ false }
     ensures { IsOfRun result }
 {
     let mut number = 0;
@@ -240,7 +241,6 @@ fn trace_run<W: Write>(alloc: Global, runner: &mut Runner<W>) -> Result<(), Serv
 
 fn put_lines<W: Write>(runner: &mut Runner<W>, lines: &[Vec<u8>]) -> Result<(), ServeFault>
     ensures world { OnOk result (runner.new.host.world ≡ runner.old.host.world) }
-    ensures running { runner.new.host.stopped ≡ runner.old.host.stopped }
     ensures over { runner.new.over ≡ runner.old.over }
     ensures reader { IsOfRun result }
 {

@@ -20,4 +20,4 @@ rounds-smaller g c =
       | else-eq-via-then-eq+else-events_taken-taken w ↦ λ _ e. w.if-events_taken-taken.false (w.events_taken.ensures ∙ ap taken w.bus-then-eq.ensures ∙ e ∙ sym (ap taken c.bus.ensures) ∙ sym c.events_taken-taken.ensures)
       | else-eq-via-else-eq w ↦ λ e. let same : sameb the_type round Quiet ≡ true = ap (λ (r : Round). sameb the_type r Quiet) e in cc
     ] in
-    rounds_fall old new round c.in_ok-round.ensures.goes within c.in_ok-round.ensures.did other
+    rounds_fall old new round c.in_ok-round.ensures.on.goes within c.in_ok-round.ensures.did other

@@ -1,4 +1,5 @@
 use Rattle.std.proofs.Common.{◌≡◌, false}
+use Rattle.usb_host.specs.Owning.{Owning}
 use Rattle.usb_serve.specs.Run.{Goes}
 use Rattle.usb_serve.proofs.Settling.{rounds_left}
 use Rattle.usb_serve.proofs.runs.settle.Given as goal
@@ -7,6 +8,7 @@ abbrev pub invariant-rounds : goal.invariant-rounds
 invariant-rounds g l = record {
   running : l.host.stopped ≡ false;
   goes : Goes l.fn.host.world l.host.world;
+  owning : Owning l.fn.host → Owning l.host;
 }
 
 -- what is left to do, and what may still come

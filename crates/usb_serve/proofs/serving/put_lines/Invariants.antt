@@ -4,6 +4,5 @@ use Rattle.usb_serve.proofs.serving.put_lines.Given as goal
 abbrev pub invariant-lines : goal.invariant-lines
 invariant-lines g l = record {
   world : l.runner.host.world ≡ l.fn.runner.host.world;
-  running : l.runner.host.stopped ≡ l.fn.runner.host.stopped;
   over : l.runner.over ≡ l.fn.runner.over;
 }

@@ -11,6 +11,7 @@ use Rattle.usb_host.specs.Hosting.{Hosting}
 use Rattle.usb_host.specs.Progress.{waiting}
 use Rattle.usb_host.proofs.Agreements.{nested_entered}
 use Rattle.usb_host.proofs.Balances.{accounts_entered}
+use Rattle.usb_host.proofs.Handlings.{drop_fails, drop_ends}
 use Rattle.usb_host.proofs.Joins.{dropped}
 use Rattle.usb_host.proofs.Waits.{waiting-entered_other}
 use Rattle.usb_host.proofs.host.Host.drop_hub.Goals as goal
@@ -49,3 +50,12 @@ returns-clause-lost g c =
     let left : c.self.inside.table ≡ without path c.args.self.now.entries =
     ap (λ (h : Hosting). h.entries) c.self.view_is ∙ c.forget.ensures.rest ∙ ap (λ (h : Hosting). without path h.entries) c.in_ok-lost.ensures.rests in
     record { path = path; entries = c.in_ok-insert.ensures.ok ∙ ap (λ (es : Entries). insert_entry path_cmp es path (Refused Lost)) left }
+
+pub returns-in_err-lost-clause-owned : goal.returns-in_err-lost-clause-owned
+returns-in_err-lost-clause-owned g c = drop_fails c.args.hub c.args.self.now c.from_residual.result c.disable_upward.new.self c.from_residual.ensures.0 c.in_err-lost.ensures.bares
+
+pub returns-clause-owned : goal.returns-clause-owned
+returns-clause-owned g c =
+    let here : g.B.Bus.world c.self.inside.bus ≡ c.forget.new.self.world = ap (λ (h : Hosting). h.world) c.self.view_is in
+    let entered = c.in_ok-insert.ensures.ok ∙ ap (λ (h : Hosting). insert_entry path_cmp h.entries c.in_ok-lost.lost (Refused Lost)) c.self.view_is in
+    drop_ends c.args.hub c.in_ok-lost.lost c.args.self.now c.disable_upward.new.self c.forget.new.self _ c.in_ok-lost.ensures.bares c.forget.ensures.others c.forget.ensures.rest c.forget.ensures.gone here entered

@@ -2,8 +2,6 @@ use Rattle.std.proofs.Common.{◌∙◌, sym, ap}
 use Rattle.usb_table.proofs.Removals.{none_apart}
 use Rattle.usb_table.specs.Entries.{without}
 use Rattle.usb_host.specs.Hosting.{Hosting}
-use Rattle.usb_host.specs.Agreement.{Agrees, Nested}
-use Rattle.usb_host.specs.Accounts.{Accounts}
 use Rattle.usb_host.proofs.Agreements.{nested_without}
 use Rattle.usb_host.proofs.host.Host.forget.Goals as goal
 

@@ -1,6 +1,15 @@
+use Rattle.usb_host.proofs.Handlings.{port_finished}
 use Rattle.usb_host.proofs.Looks.{handled}
+use Rattle.usb_host.proofs.Stations.{breaks}
 use Rattle.usb_host.proofs.host.Host.handle.Goals as goal
 
 pub returns-clause-advances : goal.returns-clause-advances
 returns-clause-advances g c =
     handled _ c.serve-served.result c.args.self.now c.serve-served.new.self c.finish.new.self c.finish.ensures.on c.finish.ensures.holds c.serve-served.ensures.served
+
+pub finish-requires : goal.finish-requires
+finish-requires g c = breaks c.args.path.now c.args.port c.args.self.now c.serve-served.result _ c.requires c.serve-served.ensures.told
+
+pub returns-clause-owned : goal.returns-clause-owned
+returns-clause-owned g c =
+    port_finished c.args.path.now c.serve-served.result c.args.self.now c.serve-served.new.self c.finish.result c.finish.new.self c.serve-served.ensures.owned c.finish.ensures.owned

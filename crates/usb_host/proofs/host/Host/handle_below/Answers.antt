@@ -6,5 +6,5 @@ use Rattle.usb_host.proofs.host.Host.handle_below.Goals as goal
 pub returns-clause-did : goal.returns-clause-did
 returns-clause-did g c =
     let path = c.push.ensures.yes c.if-not-push.false ∙ ap (λ hub. hub ++ c.args.number ∷ []) c.duplicate-path.ensures in
-    let known = subst (λ p. known_port p c.args.self.now.entries ≡ Some c.in-Some.port) path c.in-Some.ensures.known in
+    let known = subst (λ p. known_port p c.args.self.now.entries ≡ Some c.in-Some.port) path c.in-Some.ensures.some.known in
     c.in_ok-handle.ensures.advances (below_due c.args.hub.now c.args.number c.args.self.now.entries c.in-Some.port c.args.self.now.world c.requires.0 known)

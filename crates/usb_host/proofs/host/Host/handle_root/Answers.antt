@@ -1,4 +1,3 @@
-use Rattle.std.proofs.Common.{refl}
 use Rattle.usb_host.proofs.Hubs.{root_stands}
 use Rattle.usb_host.proofs.host.Host.handle_root.Goals as goal
 

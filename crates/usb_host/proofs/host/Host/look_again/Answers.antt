@@ -1,5 +1,6 @@
 use Rattle.std.proofs.Common.{arith}
 use Rattle.usb_host.specs.Bounds.{handling_bound}
+use Rattle.usb_host.proofs.Owners.{stays_then}
 use Rattle.usb_host.proofs.Joins.{did_then}
 use Rattle.usb_host.proofs.Ranks.{rank_goes, rank_within, rank_rises, rank_most, rank_after_most}
 use Rattle.usb_host.proofs.host.Host.look_again.Goals as goal
@@ -17,6 +18,7 @@ pub waiting-preserved : goal.waiting-preserved
 waiting-preserved g c = record {
   goes = rank_goes handling_bound c.waiting.last c.in-Some.path _ _ _ c.waiting.invariant.path c.look_once_more.ensures.path c.in-Some.ensures.1 c.waiting.invariant.goes c.look_once_more.ensures.goes;
   did = rw c.and-round.ensures (did_then _ _ c.waiting.round c.in_ok-look_once_more.field-0 c.args.self.now c.waiting.self c.look_once_more.new.self c.waiting.invariant.goes c.look_once_more.ensures.goes c.waiting.invariant.did c.in_ok-look_once_more.ensures.did);
+  owned = stays_then _ _ _ c.waiting.invariant.owned c.in_ok-look_once_more.ensures.owned;
   path = c.look_once_more.ensures.path;
 }
 

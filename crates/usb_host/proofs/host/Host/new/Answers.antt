@@ -1,9 +1,10 @@
-use Rattle.std.proofs.Common.{◌≡◌, ◌∙◌, ◌-◌, ◌+◌, ℕ, ap, arith}
+use Rattle.std.proofs.Common.{◌≡◌, ◌∙◌, ◌-◌, ◌+◌, ℕ, ap, arith, sym, subst}
 use Rattle.usb_world.specs.World.{World, roots_of}
 use Rattle.usb_host.proofs.Powers.{powered_none, powered_length, powers_one, powered_all, powered_world}
 use Rattle.usb_host.proofs.Agreements.{nested_none}
 use Rattle.usb_host.proofs.Balances.{accounts_none}
-use Rattle.usb_host.proofs.Openings.{opened}
+use Rattle.usb_host.proofs.Openings.{opened, owning_opening}
+use Rattle.usb_host.specs.Owning.{Owning}
 use Rattle.usb_host.proofs.host.Host.new.Goals as goal
 
 pub ports-init : goal.ports-init
@@ -21,11 +22,14 @@ ports-preserved g c =
     let back : port ≡ (port + 1) - 1 = omega arith in
     powers_one w0 _ _ port c.ports.auto.port c.ports.invariant c.root_set.ensures.call ∙ ap (λ k. powered_world k w0) back
 
-pub returns : goal.returns
-returns g c =
+pub returns-clause-opens : goal.returns-clause-opens
+returns-clause-opens g c =
     let w0 : World = g.B.Bus.world c.args.bus in
     let all : c.ports.port - 1 ≡ roots_of w0 = omega (arith, c.ports-test.false, c.ports.auto.port-end, c.root_ports-roots.ensures.count, c.root_ports-roots.ensures.least) in
     opened w0 _ _ _ (powered_all w0 _ (c.ports.port - 1) all c.ports.invariant) c.new-2.ensures c.new.ensures.empty
 
 pub invariant_of-result : goal.invariant_of-result
 invariant_of-result g c = rw (c.new-2.ensures, c.new.ensures.empty) (record { accounts = accounts_none; nested = nested_none })
+
+pub returns-clause-owning : goal.returns-clause-owning
+returns-clause-owning g c = λ untouched. subst Owning (sym (returns-clause-opens g c)) (owning_opening (g.B.Bus.world c.args.bus) untouched)

@@ -1,5 +1,6 @@
 use Rattle.std.proofs.Common.{arith}
 use Rattle.usb_host.specs.Bounds.{hub_bound}
+use Rattle.usb_host.proofs.Owners.{stays_then}
 use Rattle.usb_host.proofs.Joins.{did_then}
 use Rattle.usb_host.proofs.Ranks.{rank_goes, rank_within, rank_rises, rank_most, rank_after_most}
 use Rattle.usb_host.proofs.host.Host.serve_hubs.Goals as goal
@@ -17,6 +18,7 @@ pub hubs-preserved : goal.hubs-preserved
 hubs-preserved g c = record {
   goes = rank_goes hub_bound c.hubs.last c.in-Some.hub _ _ _ c.hubs.invariant.path c.serve_hub.ensures.path c.in-Some.ensures c.hubs.invariant.goes c.serve_hub.ensures.goes;
   did = rw c.and-round.ensures (did_then _ _ c.hubs.round c.in_ok-serve_hub.field-0 c.args.self.now c.hubs.self c.serve_hub.new.self c.hubs.invariant.goes c.serve_hub.ensures.goes c.hubs.invariant.did c.in_ok-serve_hub.ensures.did);
+  owned = stays_then _ _ _ c.hubs.invariant.owned c.in_ok-serve_hub.ensures.owned;
   path = c.serve_hub.ensures.path;
 }
 

@@ -2,6 +2,7 @@ use Rattle.std.proofs.Common.{◌-◌, ◌*◌}
 use Rattle.std.specs.Prelude.{IfSome}
 use Rattle.usb_port.specs.Path.{IsPath}
 use Rattle.usb_host.specs.Bounds.{hub_bound}
+use Rattle.usb_host.specs.Owning.{StaysOwned}
 use Rattle.usb_host.specs.Progress.{Goes, Did}
 use Rattle.usb_host.proofs.Ranks.{rank_after}
 use Rattle.usb_host.proofs.host.Host.serve_hubs.Given as goal
@@ -10,6 +11,7 @@ abbrev pub invariant-hubs : goal.invariant-hubs
 invariant-hubs g l = record {
   goes : Goes (rank_after l.last * hub_bound) l.initial.self l.self;
   did : Did l.round l.initial.self l.self;
+  owned : StaysOwned l.initial.self l.self;
   path : IfSome l.last IsPath;
 }
 

@@ -1,5 +1,6 @@
 use Rattle.std.proofs.Common.{◌-◌, ◌*◌}
 use Rattle.usb_host.specs.Bounds.{handling_bound}
+use Rattle.usb_host.specs.Owning.{StaysOwned}
 use Rattle.usb_host.specs.Progress.{Goes, Did}
 use Rattle.usb_host.proofs.host.Host.serve_told.Given as goal
 
@@ -7,4 +8,5 @@ abbrev pub invariant-ports : goal.invariant-ports
 invariant-ports g l = record {
   goes : Goes ((l.number - 1) * handling_bound) l.initial.self l.self;
   did : Did l.round l.initial.self l.self;
+  owned : StaysOwned l.initial.self l.self;
 }

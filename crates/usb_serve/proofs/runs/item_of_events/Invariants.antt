@@ -1,15 +1,16 @@
 use Rattle.std.proofs.Common.{◌≡◌, false}
 use Rattle.usb_world.specs.World.{to_come}
+use Rattle.usb_host.specs.Owning.{Owning}
 use Rattle.usb_serve.specs.Run.{Goes}
-use Rattle.usb_serve.proofs.runs.Runner.next_item.Given as goal
+use Rattle.usb_serve.proofs.runs.item_of_events.Given as goal
 
 abbrev pub invariant-events : goal.invariant-events
 invariant-events g l = record {
-  running : l.self.host.stopped ≡ false;
-  begun : l.self.over ≡ false;
-  goes : Goes l.fn.self.host.world l.self.host.world;
+  running : l.host.stopped ≡ false;
+  goes : Goes l.fn.host.world l.host.world;
+  owning : Owning l.fn.host → Owning l.host;
 }
 
 -- events to come
 abbrev pub decreases-events : goal.decreases-events
-decreases-events g l = to_come l.self.host.world
+decreases-events g l = to_come l.host.world

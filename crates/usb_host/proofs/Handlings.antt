@@ -1,0 +1,204 @@
+-- Devices keep the addresses that the table has for them while a port is handled.
+use Rattle.std.proofs.Common.{◌≡◌, ◌∙◌, refl, sym, ap, subst, true, false, ℕ, List, Option, None, Some, Result, Ok, Err}
+use Rattle.std.specs.Prelude.{IsErr, MatchResult}
+use Rattle.std.specs.BTreeMap.{insert_entry}
+use Rattle.usb_port.specs.Order.{path_cmp, parent_of, port_of}
+use Rattle.usb_world.specs.Live.{is_way}
+use Rattle.usb_world.specs.World.{World}
+use Rattle.usb_world.specs.Addresses.{after_taking}
+use Rattle.usb_resources.specs.Pool.{Addresses}
+use Rattle.usb_address.specs.Claims.{Claims, cleared}
+use Rattle.usb_address.specs.Owned.{Owned, OwnedBut, TillFault, KeepsAddresses}
+use Rattle.usb_address.proofs.Keeping.{keeps_none}
+use Rattle.usb_pipe.specs.declared.fault.PipeFault.{PipeFault}
+use Rattle.usb_hub.specs.Addresses.{Bares, KeepsCleared}
+use Rattle.usb_hub.specs.Port.{PortCleared}
+use Rattle.usb_hub.specs.declared.port.HubPort.{HubPort}
+use Rattle.usb_enum.specs.Addresses.{EndsOwned, KeepsEnumerated}
+use Rattle.usb_enum.specs.declared.cause.Cause.TheVariants.{Lost}
+use Rattle.usb_enum.specs.declared.fault.EnumFault.{EnumFault}
+use Rattle.usb_enum.specs.declared.fault.EnumFault.TheVariants.{ParentLost, Bus, Memory}
+use Rattle.usb_enum.specs.declared.finding.Finding.{Finding}
+use Rattle.usb_enum.specs.declared.finding.Finding.TheVariants.{Device, Refused}
+use Rattle.usb_table.specs.declared.known.KnownPort.{KnownPort}
+use Rattle.usb_table.specs.Entries.{Entries, has_at, without}
+use Rattle.usb_table.specs.Known.{root_port, port_below}
+use Rattle.usb_host.specs.Accounts.{Accounts}
+use Rattle.usb_host.specs.Hosting.{Hosting}
+use Rattle.usb_host.specs.Owning.{claims, IsOwned, IsOwnedBut, IsBare, StaysOwned, StaysSingle, KeepsOwned, PortOwned, KeepsPort, LeavesOwned, FinishesPort, DropsHub, BaresAbove, KeepsDisabled}
+use Rattle.usb_host.specs.Ports.{StandsAt, StandsNowhere}
+use Rattle.usb_host.specs.Progress.{Rests}
+use Rattle.usb_host.specs.declared.fault.HostFault.{HostFault}
+use Rattle.usb_host.proofs.Claimed.{claims_free, claims_taken, claims-device}
+use Rattle.usb_host.proofs.Owners.{till_as, but_all, but_kept, but_above, bare_port, bare_none, forgotten, refused}
+use Rattle.usb_host.proofs.Stations.{stands_at, nowhere_reached}
+use Rattle.usb_host.proofs.Ways.{way_parent}
+
+-- A call that failed
+
+pub match_err : {A E : Type 0} (result : Result A E) (P : A → Type 0) (Q : Type 0) → IsErr result → Q → MatchResult result P (λ _. Q)
+match_err (Ok x) P Q e q = absurd (cc e)
+match_err (Err x) P Q e q = q
+
+-- Only the world goes on
+
+pub owned_rests : (a b : Hosting) → Rests a b → KeepsAddresses a.world b.world → IsOwned a → IsOwned b
+owned_rests a b r k o = subst (λ (es : Entries). TillFault (Owned (claims es)) b.world) (sym (ap (λ (h : Hosting). h.entries) r)) (k.kept (claims a.entries) o)
+
+pub but_rests : (path : List ℕ) (a b : Hosting) → Rests a b → KeepsAddresses a.world b.world → TillFault (OwnedBut path (claims a.entries)) a.world → TillFault (OwnedBut path (claims b.entries)) b.world
+but_rests path a b r k o =
+    subst (λ (es : Entries). TillFault (OwnedBut path (claims es)) b.world) (sym (ap (λ (h : Hosting). h.entries) r)) (but_kept path (claims a.entries) a.world b.world k o)
+
+pub port_owned : (path : List ℕ) (result : Result (Unit {0}) EnumFault) (h : Hosting) → IsOwned h → PortOwned path result h
+port_owned path (Ok done) h o = o
+port_owned path (Err ParentLost) h o = but_all path (claims h.entries) h.world o
+port_owned path (Err (Bus fault)) h o = o.single
+port_owned path (Err Memory) h o = o.single
+
+pub port_rests : (path : List ℕ) (a : Hosting) (result : Result (Unit {0}) EnumFault) (b : Hosting) → Rests a b → KeepsAddresses a.world b.world → KeepsPort path a result b
+port_rests path a result b r k = record { ends = λ o. port_owned path result b (owned_rests a b r k o) }
+
+pub port_stays : (path : List ℕ) (a b : Hosting) → StaysOwned a b → KeepsPort path a (Ok tt) b
+port_stays path a b s = record { ends = s.stays }
+
+-- another part comes first
+pub port_then : (path : List ℕ) (a b : Hosting) (result : Result (Unit {0}) EnumFault) (c : Hosting) → StaysOwned a b → KeepsPort path b result c → KeepsPort path a result c
+port_then path a b result c s k = record { ends = λ o. k.ends (s.stays o) }
+
+pub stays_rests : (a b : Hosting) → Rests a b → KeepsAddresses a.world b.world → StaysOwned a b
+stays_rests a b r k = record { stays = owned_rests a b r k }
+
+-- A port is cleared, and what was there is forgotten
+
+pub bares_after : (port : HubPort) (a b c : World) → KeepsAddresses a b → Bares port b c → Bares port a c
+bares_after port a b c k x = record { bares = λ f p at o. x.bares f p at (k.kept f o) }
+
+pub bares_then : (port : HubPort) (a b c : World) → Bares port a b → KeepsAddresses b c → Bares port a c
+bares_then port a b c x k = record { bares = λ f p at o. k.kept (cleared f p) (x.bares f p at o) }
+
+pub stays_bare : (path : List ℕ) (port : KnownPort) (a b c : Hosting) → StandsAt path port a → Rests a b → Bares port.port a.world b.world
+    → c ≡ record b { entries = c.entries; addresses = c.addresses } → c.entries ≡ without path b.entries → StaysOwned a c
+stays_bare path port a b c s r bares others rest = record { stays = stays }
+  where
+    stays : IsOwned a → IsOwned c
+    stays o =
+        let bare : TillFault (Owned (cleared (claims a.entries) path)) b.world = bares.bares (claims a.entries) path (stands_at path port a s) o in
+        forgotten path b c others rest (subst (λ (es : Entries). TillFault (Owned (cleared (claims es) path)) b.world) (sym (ap (λ (h : Hosting). h.entries) r)) bare)
+
+-- What an enumeration leaves, and what is entered
+
+enumerated : (path : List ℕ) (port : KnownPort) (h : Hosting) (pool : Addresses) (result : Result Finding EnumFault) (w : World) → KeepsEnumerated port.port pool h.world result w → StandsAt path port h
+    → has_at path h.entries ≡ false → Accounts h.entries pool → IsOwned h → EndsOwned (claims h.entries) path result w
+enumerated path port h pool result w k s away accounts o =
+    k.ends (claims h.entries) path (stands_at path port h s) (claims_free path h.entries away) (claims_taken h.entries pool accounts) o
+
+found_single : (f : Claims) (p : List ℕ) (finding : Finding) (w : World) → EndsOwned f p (Ok finding) w → w.shared ≡ false
+found_single f p (Device device) w ends = ends.single
+found_single f p (Refused cause) w ends = ends.single
+
+found_entered : (path : List ℕ) (finding : Finding) (es new : Entries) (w : World) → has_at path es ≡ false → new ≡ insert_entry path_cmp es path finding → EndsOwned (claims es) path (Ok finding) w → TillFault (Owned (claims new)) w
+found_entered path (Device device) es new w away is ends =
+    till_as (after_taking (claims es) path device.address) (claims new) w (λ x. sym (ap (λ (l : Entries). claims l x) is ∙ claims-device path device es x)) ends
+found_entered path (Refused cause) es new w away is ends = refused path cause es new w away is ends
+
+found_none : (path : List ℕ) (fault : EnumFault) (h : Hosting) → EndsOwned (claims h.entries) path (Err fault) h.world → PortOwned path (Err fault) h
+found_none path ParentLost h ends = ends
+found_none path (Bus fault) h ends = ends
+found_none path Memory h ends = ends
+
+module _ (path : List ℕ) (port : KnownPort) (a b : Hosting) where
+  pub found_ends : (finding : Finding) (pool : Addresses) → KeepsEnumerated port.port pool a.world (Ok finding) b.world → StandsAt path port a → has_at path a.entries ≡ false → Accounts a.entries pool
+      → b.entries ≡ insert_entry path_cmp a.entries path finding → KeepsPort path a (Ok tt) b
+  found_ends finding pool k s away accounts is = record { ends = λ o. found_entered path finding a.entries b.entries b.world away is (enumerated path port a pool (Ok finding) b.world k s away accounts o) }
+
+  -- for what is found there is no memory
+  pub found_lost : (finding : Finding) (pool : Addresses) → KeepsEnumerated port.port pool a.world (Ok finding) b.world → StandsAt path port a → has_at path a.entries ≡ false → Accounts a.entries pool → KeepsPort path a (Err Memory) b
+  found_lost finding pool k s away accounts = record { ends = λ o. found_single (claims a.entries) path finding b.world (enumerated path port a pool (Ok finding) b.world k s away accounts o) }
+
+  pub found_fails : (fault : EnumFault) (pool : Addresses) → KeepsEnumerated port.port pool a.world (Err fault) b.world → StandsAt path port a → has_at path a.entries ≡ false → Accounts a.entries pool
+      → b.entries ≡ a.entries → KeepsPort path a (Err fault) b
+  found_fails fault pool k s away accounts same = record { ends = ends }
+    where
+      ends : IsOwned a → PortOwned path (Err fault) b
+      ends o = found_none path fault b (subst (λ (es : Entries). EndsOwned (claims es) path (Err fault) b.world) (sym same) (enumerated path port a pool (Err fault) b.world k s away accounts o))
+
+-- A port was served; where its hub is lost, that is dropped
+
+pub keeps_owned : (result : Result (Unit {0}) HostFault) (a c : Hosting) → (IsOwned a → LeavesOwned result c) → KeepsOwned a result c
+keeps_owned (Ok done) a c f = record { stays = f }
+keeps_owned (Err fault) a c f = record { single = f }
+
+pub port_finished : (path : List ℕ) (served : Result (Unit {0}) EnumFault) (a b : Hosting) (result : Result (Unit {0}) HostFault) (c : Hosting) → KeepsPort path a served b → FinishesPort path served b result c → KeepsOwned a result c
+port_finished path served a b result c k f = keeps_owned result a c (λ o. f.ends (k.ends o))
+
+pub hub_dropped : (path hub : List ℕ) (a : Hosting) (result : Result (Unit {0}) HostFault) (b : Hosting) → parent_of path ≡ Some hub → DropsHub hub a result b → FinishesPort path (Err ParentLost) a result b
+hub_dropped path hub a result b above d = record { ends = λ o. d.ends (but_above hub path (claims a.entries) a.world (way_parent path hub above) o) }
+
+-- The way up from a hub
+
+pub none_disabled : (path : List ℕ) (h : Hosting) → StandsNowhere path h → KeepsDisabled path h (Ok false) h
+none_disabled path h s = record {
+  keeps = keeps_none h.world;
+  done = λ e. absurd (cc e);
+  none = λ e root. record { bares = bare_none path (claims h.entries) h.world (nowhere_reached path h s root) };
+}
+
+bare_rests : (path : List ℕ) (a b : Hosting) → Rests a b → TillFault (Owned (cleared (claims a.entries) path)) b.world → IsBare path b
+bare_rests path a b r t = subst (λ (es : Entries). TillFault (Owned (cleared (claims es) path)) b.world) (sym (ap (λ (h : Hosting). h.entries) r)) t
+
+port_bared : (path : List ℕ) (port : KnownPort) (a b : Hosting) → StandsAt path port a → Rests a b → Bares port.port a.world b.world → BaresAbove path path a b
+port_bared path port a b s r bares = record { bares = λ o. bare_rests path a b r (bare_port port.port path (claims a.entries) a.world b.world bares (stands_at path port a s) o) }
+
+pub port_disabled : (path : List ℕ) (port : KnownPort) (a b : Hosting) → StandsAt path port a → Rests a b → KeepsCleared port.port 1 a.world (Ok tt) b.world → KeepsDisabled path a (Ok true) b
+port_disabled path port a b s r k = record {
+  keeps = k.keeps;
+  done = λ e. port_bared path port a b s r (k.bare refl refl);
+  none = λ e root. absurd (cc e);
+}
+
+-- a root port is a register, and never fails
+root_done : (path : List ℕ) (es : Entries) (port : KnownPort) (feature : ℕ) (old new : World) (fault : PipeFault) → (above : Option (List ℕ)) → parent_of path ≡ above → above ≡ None → port_below above (port_of path) es ≡ Some port
+    → PortCleared port.port feature old (Err fault) new → ⊥
+root_done path es port feature old new fault None above root e cleared =
+    let same : root_port (port_of path) ≡ port = cc e in
+    let done = subst (λ (p : KnownPort). PortCleared p.port feature old (Err fault) new) (sym same) cleared in
+    absurd (cc done.done)
+root_done path es port feature old new fault (Some hub) above root e cleared = absurd (cc root)
+
+pub port_failed : (path : List ℕ) (port : KnownPort) (a b : Hosting) (feature : ℕ) (fault : PipeFault) → StandsAt path port a → PortCleared port.port feature a.world (Err fault) b.world → KeepsAddresses a.world b.world → KeepsDisabled path a (Ok false) b
+port_failed path port a b feature fault s cleared k = record {
+  keeps = k;
+  done = λ e. absurd (cc e);
+  none = λ e root. absurd (root_done path a.entries port feature a.world b.world fault (parent_of path) refl root s.known cleared);
+}
+
+pub not_disabled : (path : List ℕ) (a b : Hosting) (fault : HostFault) → KeepsAddresses a.world b.world → KeepsDisabled path a (Err fault) b
+not_disabled path a b fault k = record { keeps = k; done = λ e. absurd (cc e); none = λ e root. absurd (cc e) }
+
+-- what was disabled stands above where the way up began
+pub bares_above : (first path : List ℕ) (a b c : Hosting) → is_way path first ≡ true → Rests a b → KeepsAddresses a.world b.world → BaresAbove path path b c → BaresAbove first path a c
+bares_above first path a b c on r k x = record { bares = λ o. x.bares (but_above path first (claims b.entries) b.world on (but_rests first a b r k o)) }
+
+-- A hub is dropped
+
+pub drop_fails : (hub : List ℕ) (a : Hosting) (result : Result (Unit {0}) HostFault) (b : Hosting) → IsErr result → KeepsAddresses a.world b.world → DropsHub hub a result b
+drop_fails hub a result b e k = record { ends = λ o. match_err result (λ _. IsOwned b) (b.world.shared ≡ false) e (but_kept hub (claims a.entries) a.world b.world k o).single }
+
+-- what is entered for it has no address
+pub drop_ends : (hub lost : List ℕ) (a b c d : Hosting) → BaresAbove hub lost a b → c ≡ record b { entries = c.entries; addresses = c.addresses } → c.entries ≡ without lost b.entries → has_at lost c.entries ≡ false
+    → d.world ≡ c.world → d.entries ≡ insert_entry path_cmp c.entries lost (Refused Lost) → DropsHub hub a (Ok tt) d
+drop_ends hub lost a b c d x others rest away same is = record { ends = ends }
+  where
+    ends : IsOwnedBut hub a → IsOwned d
+    ends o = subst (TillFault (Owned (claims d.entries))) (sym same) (refused lost Lost c.entries d.entries c.world away is (forgotten lost b c others rest (x.bares o)))
+
+-- a hub that is known does not answer
+
+pub hub_lost : (hub : List ℕ) (a b : Hosting) (result : Result (Unit {0}) HostFault) (c : Hosting) → StaysOwned a b → DropsHub hub b result c → KeepsOwned a result c
+hub_lost hub a b result c s d = keeps_owned result a c (λ o. d.ends (but_all hub (claims b.entries) b.world (s.stays o)))
+
+pub lost_single : (fault : HostFault) (result : Result (Unit {0}) HostFault) (a c : Hosting) → result ≡ Err fault → KeepsOwned a result c → StaysSingle a c
+lost_single fault result a c e k = subst (λ (r : Result (Unit {0}) HostFault). KeepsOwned a r c) e k
+
+pub lost_stays : (result : Result (Unit {0}) HostFault) (a c : Hosting) → result ≡ Ok tt → KeepsOwned a result c → StaysOwned a c
+lost_stays result a c e k = subst (λ (r : Result (Unit {0}) HostFault). KeepsOwned a r c) e k

@@ -1,0 +1,20 @@
+use Rattle.usb_host.proofs.Handlings.{match_err, hub_lost, lost_single, lost_stays}
+use Rattle.usb_host.proofs.Owners.{stays_kept, single_kept, keeps_after}
+use Rattle.usb_host.proofs.host.Host.serve_hub.Goals as goal
+
+pub returns-in_err-drop_hub-in-Err-clause-owned : goal.returns-in_err-drop_hub-in-Err-clause-owned
+returns-in_err-drop_hub-in-Err-clause-owned g c =
+    rw (← c.self.view_is) (match_err c.from_residual.result _ _ c.from_residual.ensures.0 (lost_single _ _ _ _ c.in_err-drop_hub-in-Err.was (hub_lost _ _ _ _ _ (stays_kept _ _ c.poll.ensures.same c.poll.ensures.keeps) c.drop_hub.ensures.owned)))
+
+pub returns-in-Ok-None-clause-owned : goal.returns-in-Ok-None-clause-owned
+returns-in-Ok-None-clause-owned g c = rw (← c.self.view_is) (stays_kept _ _ c.poll.ensures.same c.poll.ensures.keeps)
+
+pub returns-in-Ok-Some-clause-owned : goal.returns-in-Ok-Some-clause-owned
+returns-in-Ok-Some-clause-owned g c = rw (← c.self.view_is) (keeps_after c.serve_told.result _ _ _ (stays_kept _ _ c.poll.ensures.same c.poll.ensures.keeps) c.serve_told.ensures.owned)
+
+pub returns-in-Err-Bus-clause-owned : goal.returns-in-Err-Bus-clause-owned
+returns-in-Err-Bus-clause-owned g c = rw (← c.self.view_is) (single_kept _ _ c.poll.ensures.same c.poll.ensures.keeps)
+
+pub returns-in_ok-drop_hub-in-Err-clause-owned : goal.returns-in_ok-drop_hub-in-Err-clause-owned
+returns-in_ok-drop_hub-in-Err-clause-owned g c =
+    rw (← c.self.view_is) (lost_stays _ _ _ c.in_ok-drop_hub-in-Err.was (hub_lost _ _ _ _ _ (stays_kept _ _ c.poll.ensures.same c.poll.ensures.keeps) c.drop_hub.ensures.owned))
