@@ -20,7 +20,8 @@ pub trait Bus {
 
     /// Applies the events that are due, and then makes one attempt.
     ///
-    /// After an `Err` every later attempt tells the same fault again.
+    /// Where the attempts equal the limit it tells `LimitReached` and nothing else. After an `Err` every later attempt
+    /// tells the same fault again.
     fn attempt(&mut self, attempt: &Attempt) -> Result<Outcome, BusFault>
         requires { IsAttempt attempt.now }
         ensures counts { Attempted attempt.now (world self.old) result (world self.new) }

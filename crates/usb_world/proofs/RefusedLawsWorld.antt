@@ -1,5 +1,5 @@
 -- What an attempt that was refused memory leaves of the world.
-use Rattle.std.proofs.Common.{◌≡◌, ℕ, zero, suc, true, List, [], ◌∷◌, Option, None, Some, is_some, option_map, Result, Ok, Err, OnOk, refl, sym, subst, ap, ◌∙◌}
+use Rattle.std.proofs.Common.{◌≡◌, ℕ, zero, suc, true, false, List, [], ◌∷◌, Option, None, Some, is_some, option_map, Result, Ok, Err, OnOk, refl, sym, subst, ap, ◌∙◌}
 use Rattle.std.specs.Prelude.{All}
 use Rattle.usb_device.specs.Spec.{IsSpec}
 use Rattle.usb_device.specs.Rows.{State}
@@ -13,11 +13,11 @@ use Rattle.usb_world.specs.Live.{address_of}
 use Rattle.usb_world.specs.Passes.{IsSettled}
 use Rattle.usb_world.specs.Sane.{IsSane}
 use Rattle.usb_world.specs.World.{World, IsAttempt, Attempted}
-use Rattle.usb_world.specs.Courses.{address_at, Own}
-use Rattle.usb_world.specs.Steps.{took, took_first, event_taken, event, after, ready, damage_in, Coming, nothing_yet, next_came, Left, at_event, at_packet, at_line, GaveUp, AttemptFails, attempt, IsBetween, IsCut}
+use Rattle.usb_world.specs.Courses.{address_at, Own, Injective}
+use Rattle.usb_world.specs.Steps.{took, took_first, event_taken, event, after, ready, damage_in, with_attempt, Coming, nothing_yet, next_came, Left, at_event, at_packet, at_line, GaveUp, AttemptFails, attempt, IsBetween, IsCut}
 use Rattle.usb_world.specs.Refused.{self_of}
 use Rattle.usb_world.proofs.Between.{between_ready, between_after}
-use Rattle.usb_world.proofs.OwnLaws.{due_state, step_own}
+use Rattle.usb_world.proofs.OwnLaws.{due_state, step_own, first_shared, ready_unshared}
 use Rattle.usb_world.proofs.Booleans.{no}
 use Rattle.usb_world.proofs.OneHolderMore.{ready_settled, at_limit}
 use Rattle.usb_world.proofs.WorldLaws.{due_reach}
@@ -101,3 +101,18 @@ limit_told a w v (Ok o) made exact fails sound e = no (ap is_some (sym made.ends
 limit_told a w v (Err LimitReached) made exact fails sound e = refl
 limit_told a w v (Err Memory) made exact fails sound e = absurd (fails.below e)
 limit_told a w v (Err TraceFailed) made exact fails sound e = absurd (fails.below e)
+
+-- An attempt that the bus gave up sets no mark
+
+came_shared : {w v : World} → Coming w v → v.shared ≡ w.shared
+came_shared (nothing_yet w) = refl
+came_shared (next_came {w} {v} c due) = first_shared v.left v ∙ came_shared c
+
+left_shared : (a : Attempt) (w v : World) (m : BusFault) → Left a w m v → (f : List ℕ → Option ℕ) → Injective f → Own f w → w.shared ≡ false → v.shared ≡ false
+unfolding with_attempt
+left_shared a w v m (at_event c) f inj own h = came_shared c ∙ h
+left_shared a w v m (at_packet k e c made) f inj own h = ap (λ x. x.shared) made ∙ ready_unshared f inj w own h
+left_shared a w v m (at_line e made) f inj own h = ap (λ x. x.shared) made ∙ ready_unshared f inj w own h
+
+pub given_up_shared : (a : Attempt) (w v : World) (m : BusFault) → GaveUp a w m v → (f : List ℕ → Option ℕ) → Injective f → Own f w → w.shared ≡ false → v.shared ≡ false
+given_up_shared a w v m g f inj own h = ap (λ x. x.shared) g.told ∙ left_shared a w g.left m g.so_far f inj own h

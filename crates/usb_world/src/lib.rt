@@ -40,7 +40,7 @@ pub use plan::Plan;
 pub use plugged_laws::{
     devices_have_their_ports, plugged_is_what_the_events_left, undisturbed_keeps_what_is_plugged,
 };
-pub use refused_laws::{refused_memory_keeps, the_limit_is_told};
+pub use refused_laws::{a_fault_shares_no_address, refused_memory_keeps, the_limit_is_told};
 pub use request_laws::{
     a_port_rests_or_is_pending, change_bits_rest, hub_reset_gives_address_zero,
     pending_may_be_told_at_each_port, port_requests_spare_the_rest, requests_that_ask_nothing,

@@ -10,7 +10,7 @@ ghost use Rattle.usb_world.specs.declared.types.Attempt.{Attempt};
 ghost use Rattle.usb_world.specs.declared.types.BusFault.{BusFault as Fault};
 ghost use Rattle.usb_world.specs.declared.types.BusFault.TheVariants.{LimitReached, Memory};
 ghost use Rattle.usb_world.specs.declared.types.Outcome.{Outcome};
-ghost use Rattle.usb_world.specs.Courses.{Own};
+ghost use Rattle.usb_world.specs.Courses.{Own, Injective};
 ghost use Rattle.usb_world.specs.Passes.{IsSettled};
 ghost use Rattle.usb_world.specs.Refused.{StandAlike};
 ghost use Rattle.usb_world.specs.Sane.{IsSane};
@@ -33,4 +33,10 @@ pub fn refused_memory_keeps()
 pub fn the_limit_is_told()
     ensures { (a : Attempt) (w v : World) (result : Result Outcome Fault) → Attempted a w result v → OnOk result (v ≡ after (attempt a) w)
         → AttemptFails a w result v → w.fault ≡ None → w.attempts ≡ w.limit → result ≡ Err LimitReached }
+{}
+
+/// An attempt that the bus gave up finds no address held twice, where each reachable device has its own.
+pub fn a_fault_shares_no_address()
+    ensures { (a : Attempt) (w v : World) (m : Fault) → GaveUp a w m v → (f : List ℕ → Option ℕ) → Injective f → Own f w
+        → w.shared ≡ false → v.shared ≡ false }
 {}
