@@ -1,6 +1,7 @@
 -- How the device at a port that is being enumerated comes to hold its address, from one call to the next.
-use Rattle.std.proofs.Common.{◌≡◌, ◌⊎◌, ◌≤◌, ℕ, inl, Bool, true, false, List, [], ◌∷◌, ◌++◌, Option, None, Some, if◌then◌else◌, Result, Ok, Err, OnOk, refl, ap, sym, subst, ◌∙◌, arith}
+use Rattle.std.proofs.Common.{◌≡◌, ◌⊎◌, ◌≤◌, ℕ, inl, Bool, true, false, List, [], ◌∷◌, ◌++◌, Option, None, Some, if◌then◌else◌, Result, Ok, Err, refl, ap, sym, subst, ◌∙◌, arith}
 use Rattle.std.proofs.lemmas.Option.{same_Some}
+use Rattle.std.specs.Prelude.{IfOk}
 use Rattle.usb_world.specs.declared.types.BusFault.{BusFault}
 use Rattle.usb_world.specs.Addresses.{after_reset, after_taking}
 use Rattle.usb_world.specs.Live.{same_path, is_way}
@@ -12,8 +13,10 @@ use Rattle.usb_address.proofs.Resetting.{same_way}
 use Rattle.usb_address.proofs.States.{after_a_reset, after_an_address, at_zero, not_both}
 use Rattle.usb_hub.specs.declared.port.HubPort.{HubPort}
 use Rattle.usb_hub.specs.declared.port.HubPort.TheVariants.{Root, External}
-use Rattle.usb_hub.specs.Addresses.{IsAt, Answers, Resets, GivesAddress, KeepsSet}
+use Rattle.usb_hub.specs.Addresses.{IsAt, Answers, Resets, GivesAddress}
+use Rattle.usb_enum.specs.declared.finding.Accepted.{Accepted}
 use Rattle.usb_enum.specs.Addresses.{IsSpare, Within, Takes}
+use Rattle.usb_enum.specs.Found.{IsAccepted, IsWhole}
 
 -- Till a fault
 
@@ -64,9 +67,10 @@ takes_after port address a b c m n = record { took = λ f p spare t. n.took f p 
 pub takes_then : (port : HubPort) (address : ℕ) (a b c : World) → Takes port address a b → KeepsAddresses b c → Takes port address a c
 takes_then port address a b c m n = record { took = λ f p spare t. n.kept (after_taking f p address) (m.took f p spare t) }
 
-pub on_ok : {A E P : Type 0} (r : Result A E) → P → OnOk r P
-on_ok (Ok x) p = p
-on_ok (Err e) p = tt
+pub accepted : {E : Type 0} (port : HubPort) (address supply : ℕ) (old new : World) (result : Result Accepted E) → IfOk result (λ device. device.address ≡ address) → IfOk result (λ device. IsWhole supply device) → Takes port address old new
+    → IfOk result (IsAccepted port address supply old new)
+accepted port address supply old new (Ok device) same whole takes = record { address = same; whole = whole; takes = takes }
+accepted port address supply old new (Err why) same whole takes = tt
 
 -- What each call does
 
@@ -91,13 +95,6 @@ within_reset port address old new resets = record { stays = stays }
         let only : (x : List ℕ) → g x ≡ Some 0 → is_way p x ≡ true = λ x e. subst (λ y. is_way p y ≡ true) (sym (at_zero f p h.has x spare.none e)) (same_way p p (self_path p)) in
         till_weaker (λ w. Owned g w ⊎ Owned (after_reset g p) w) (Enumerating f p address) new (after_a_reset f p address h.has new spare.free h.is)
         (resets.resets g p (at_taking f port p h.has spare.at) only h.owned)
-
-pub within_set : (port : HubPort) (old new : World) → KeepsSet port 4 old new → (address : ℕ) → Within port address old new
-within_set port old new set address = within_reset port address old new (set.resets refl)
-
--- and what is asked or cleared after it
-pub within_set_then : (port : HubPort) (a b c : World) → KeepsSet port 4 a b → KeepsAddresses b c → (address : ℕ) → Within port address a c
-within_set_then port a b c set keeps address = within_on port address a b c (within_set port a b set address) keeps
 
 -- SET_ADDRESS, at address 0
 pub within_given : (port : HubPort) (target address : ℕ) (old new : World) → target ≡ 0 → 1 ≤ address → GivesAddress target address old new → Within port address old new

@@ -15,25 +15,14 @@ use Rattle.usb_enum.specs.declared.stop.Stop.{Stop}
 use Rattle.usb_enum.specs.declared.stop.Stop.TheVariants.{Refused, Fault}
 use Rattle.usb_enum.specs.Device.{is_hub, fits_tier}
 use Rattle.usb_enum.specs.Hub.{CountTold, IsPowered, Powered}
-use Rattle.usb_enum.specs.Stop.{FitsTier, IsPlain, ToldOfHub, ToldOfDevice, answered_or}
+use Rattle.usb_enum.specs.Stop.{ToldOfHub, ToldOfDevice, answered_or}
+use Rattle.usb_enum.proofs.Told.{plain_fits}
 
 -- what a port of a hub gives
 pub hub_supply : (self_powered : Bool) → (supply_of false self_powered ≡ 500) ⊎ (supply_of false self_powered ≡ 100)
 unfolding supply_of
 hub_supply true = inl refl
 hub_supply false = inr refl
-
-plain_fits : (tier : ℕ) (why : Cause) → IsPlain why → FitsTier tier why
-plain_fits tier cause.Silent plain = plain
-plain_fits tier cause.Busy plain = plain
-plain_fits tier (cause.Stalled request) plain = plain
-plain_fits tier cause.BadDevice plain = plain
-plain_fits tier cause.TooDeep plain = absurd plain
-plain_fits tier (cause.BadConfiguration index) plain = plain
-plain_fits tier cause.NoPower plain = plain
-plain_fits tier cause.BadHub plain = absurd plain
-plain_fits tier cause.Lost plain = plain
-plain_fits tier cause.NoAddress plain = plain
 
 not_last_by : (hub : Bool) (tier : ℕ) (done : Unit {0}) → hub ≡ true → (if hub && tier == 7 then Err (Refused cause.TooDeep) else Ok done) ≡ Ok done → tier ≢ 7
 not_last_by true tier done is fits e = let last = rw e at fits in absurd cc

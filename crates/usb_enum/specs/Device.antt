@@ -1,10 +1,11 @@
 -- Device descriptors, as they are read of a device.
-use Rattle.std.specs.Prelude.{◌≡◌, ◌⊎◌, ⊤, ℕ, ◌==◌, true, false, List, [], Bool, ◌&&◌, Option, Some, None, is_some, slice_index, slice_index_or, Result, Ok, Err, is_ok, if◌then◌else◌}
+use Rattle.std.specs.Prelude.{◌≡◌, ◌⊎◌, ◌≤◌, ⊤, ℕ, ◌==◌, true, false, List, [], Bool, ◌&&◌, Option, Some, None, is_some, slice_index, slice_index_or, Result, Ok, Err, is_ok, if◌then◌else◌}
 use Rattle.usb_hub.specs.declared.port.HubPort.{HubPort}
 use Rattle.usb_hub.specs.declared.port.HubPort.TheVariants.{Root, External}
 use Rattle.usb_world.specs.World.{World}
 use Rattle.usb_port.specs.Path.{IsPortNumber}
 use Rattle.usb_transaction.specs.declared.target.Target.{Target}
+use Rattle.usb_transaction.specs.Trans.{IsTarget}
 use Rattle.usb_descriptor.specs.Choice.{status_endpoint_of}
 use Rattle.usb_descriptor.specs.Device.{device_of, device_class, manufacturer_index, product_index, serial_index}
 use Rattle.usb_enum.specs.declared.cause.Cause.TheVariants.{BadDevice, TooDeep}
@@ -63,7 +64,25 @@ pub record AreFacts (facts : HubFacts) : Type 0 where
   pub ports : IsPortNumber facts.ports
   pub supply : (facts.supply ≡ 500) ⊎ (facts.supply ≡ 100)
 
+-- a hub with a status endpoint told its facts, and its ports were given power
+pub record StartsHub (hub : Target) (text : List ℕ) (old new : World) (told : HubFacts) : Type 0 where
+  pub facts : AreFacts told
+  pub status : is_some (status_endpoint_of text) ≡ true
+  pub started : Started hub old new told
+
 -- a hub, and nothing else, has facts and a status endpoint
 abbrev pub HasFacts : List ℕ → List ℕ → Option HubFacts → Type 0
 HasFacts bytes text (Some facts) = (is_hub bytes ≡ true) × AreFacts facts × (is_some (status_endpoint_of text) ≡ true)
 HasFacts bytes text None = is_hub bytes ≡ false
+
+-- what is known of the ports of the device with this address
+pub record IsKnown (address : ℕ) (bytes text : List ℕ) (told : Option HubFacts) : Type 0 where
+  pub facts : HasFacts bytes text told
+  pub served : IsServed address told
+
+-- endpoint 0 of a device at a port that was reset, before it has its address
+pub record IsUnaddressed (port : HubPort) (target : Target) : Type 0 where
+  pub fits : IsTarget target
+  pub zero : target.addr ≡ 0
+  pub max : 8 ≤ target.max
+  pub pre : target.pre ≡ (target.low && needs_pre port)

@@ -16,6 +16,7 @@ use Rattle.usb_enum.specs.declared.fault.EnumFault.{EnumFault}
 use Rattle.usb_enum.specs.declared.finding.Accepted.{Accepted}
 use Rattle.usb_enum.specs.declared.finding.Finding.{Finding}
 use Rattle.usb_enum.specs.declared.finding.Finding.TheVariants.{Device, Refused}
+use Rattle.usb_enum.specs.Addresses.{Takes as TakesAt}
 use Rattle.usb_enum.specs.Device.{is_device, configuration_of, HasFacts, IsServed}
 use Rattle.usb_enum.specs.Stop.{FaultAt, FitsTier}
 use Rattle.usb_enum.specs.Text.{ValuesDiffer, choice_of}
@@ -29,6 +30,12 @@ pub record IsWhole (supply : ℕ) (device : Accepted) : Type 0 where
   pub chosen : choice_of supply device.configs ≡ Some device.chosen
   pub hub : HasFacts device.bytes (configuration_of device) device.hub
   pub served : IsServed device.address device.hub
+
+-- the device that was read and configured has the address, and took it at the port
+pub record IsAccepted (port : HubPort) (given supply : ℕ) (old new : World) (device : Accepted) : Type 0 where
+  pub address : device.address ≡ given
+  pub whole : IsWhole supply device
+  pub takes : TakesAt port given old new
 
 -- the last request to a hub was to clear PORT_ENABLE, and it was done
 pub record LastDisabled (hub : Target) (port : ℕ) (w : World) : Type 0 where

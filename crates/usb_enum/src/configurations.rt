@@ -17,7 +17,6 @@ use usb_resources::choose;
 use usb_transaction::Target;
 
 /// wTotalLength of the configuration of an index, from its first nine bytes.
-#[tactic(auto, using(crate::proofs::Counts::read_spends))]
 fn total_length<B: Bus>(alloc: Global, bus: &mut B, target: Target, index: u8) -> Result<u16, Stop>
     requires target { IsTarget target }
     requires max { 8 ≤ target.max }
@@ -36,7 +35,6 @@ fn total_length<B: Bus>(alloc: Global, bus: &mut B, target: Target, index: u8) -
 }
 
 /// The configuration text of an index.
-#[tactic(auto, using(usb_address::proofs::Keeping::keeps_then))]
 fn read_text<B: Bus>(
     alloc: Global,
     bus: &mut B,
@@ -59,7 +57,7 @@ fn read_text<B: Bus>(
 }
 
 /// The configurations of a device that has so many. No two of them have the same value.
-#[tactic(auto, using(crate::proofs::Counts::spends_on, crate::proofs::Values::one_more, usb_address::proofs::Keeping::keeps_then))]
+#[tactic(auto, using(crate::proofs::Counts::spends_on))]
 pub(crate) fn read_configurations<B: Bus>(
     alloc: Global,
     bus: &mut B,

@@ -1,12 +1,12 @@
 //! The whole enumeration.
-ghost use Rattle.std.specs.Prelude.{◌≡◌, ℕ, IfOk, IfErr, true, OnOk};
+ghost use Rattle.std.specs.Prelude.{◌≡◌, ℕ, IfOk, IfErr, true};
 ghost use Rattle.usb_world.specs.World.{Spends};
 ghost use Rattle.usb_hub.specs.Port.{IsPort, order_bound};
 ghost use Rattle.usb_enum.specs.Bounds.{unaddressed_bound, examination_bound, enumeration_bound, configured_bound, hub_bound};
 ghost use Rattle.usb_enum.specs.Stop.{FaultAt, ToldIn, ToldOfDevice, ToldOfHub, ToldWithout};
-ghost use Rattle.usb_enum.specs.Found.{GivesUp, IsFound, IsWhole, TakesFor};
-ghost use Rattle.usb_enum.specs.Device.{HasFacts, IsServed, fits_tier, is_hub};
-ghost use Rattle.usb_enum.specs.Addresses.{Ends, KeepsEnumerated, Within, Takes};
+ghost use Rattle.usb_enum.specs.Found.{GivesUp, IsAccepted, IsFound, IsWhole, TakesFor};
+ghost use Rattle.usb_enum.specs.Device.{IsKnown, fits_tier, is_hub};
+ghost use Rattle.usb_enum.specs.Addresses.{Ends, KeepsEnumerated, Within};
 ghost use Rattle.usb_address.specs.Owned.{KeepsAddresses};
 
 use crate::addressed::Addressed;
@@ -109,17 +109,14 @@ fn examine<B: Bus>(
     requires port { IsPort (B.world bus.old) port }
     ensures spends { Spends (examination_bound port) (B.world bus.old) (B.world bus.new) }
     ensures told { IfErr result (λ stop. ToldIn port tier stop (B.world bus.new)) }
-    ensures address { IfOk result (λ device. device.address ≡ address) }
-    ensures whole { IfOk result (λ device. IsWhole supply device) }
     ensures within { Within port address (B.world bus.old) (B.world bus.new) }
-    ensures takes { OnOk result (Takes port address (B.world bus.old) (B.world bus.new)) }
+    ensures ok { IfOk result (IsAccepted port address supply (B.world bus.old) (B.world bus.new)) }
 {
     let device = passes(alloc, bus, port, address.number())?;
     configure(alloc, bus, address, device, tier, supply)
 }
 
 /// Reads and configures a device that has its address.
-#[tactic(auto, using(crate::proofs::Counts::spends_on, crate::proofs::Hubs::told_of_hub, usb_address::proofs::Keeping::keeps_none, usb_address::proofs::Keeping::keeps_then))]
 fn configure<B: Bus>(
     alloc: Global,
     bus: &mut B,
@@ -176,9 +173,8 @@ fn hub_facts<B: Bus>(
 ) -> Result<Option<HubFacts>, Stop>
     ensures spends { Spends hub_bound (B.world bus.old) (B.world bus.new) }
     ensures told { IfErr result (λ stop. ToldOfHub stop (B.world bus.new)) }
-    ensures facts { IfOk result (λ facts. HasFacts device.now.bytes text.now facts) }
     ensures hub { IfErr result (λ _. is_hub device.now.bytes ≡ true) }
-    ensures served { IfOk result (λ facts. IsServed device.now.target.addr facts) }
+    ensures known { IfOk result (IsKnown device.now.target.addr device.now.bytes text.now) }
     ensures keeps { KeepsAddresses (B.world bus.old) (B.world bus.new) }
 {
     if !device.is_hub() {

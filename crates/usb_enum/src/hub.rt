@@ -1,13 +1,12 @@
 //! What the host asks of a hub once it is configured, and the power of its ports (11.23, 11.24).
-ghost use Rattle.std.specs.Prelude.{◌≡◌, ◌⊎◌, ◌≤◌, ◌*◌, IfOk, IfErr, is_some, true};
+ghost use Rattle.std.specs.Prelude.{◌≡◌, ◌⊎◌, ◌≤◌, ◌*◌, IfOk, IfErr};
 ghost use Rattle.usb_world.specs.World.{Spends};
 ghost use Rattle.usb_port.specs.Path.{IsPortNumber};
 ghost use Rattle.usb_transaction.specs.Trans.{IsTarget};
-ghost use Rattle.usb_descriptor.specs.Choice.{status_endpoint_of};
 ghost use Rattle.usb_enum.specs.Bounds.{read_bound, none_bound, hub_bound};
 ghost use Rattle.usb_enum.specs.Stop.{ToldOfHub};
-ghost use Rattle.usb_enum.specs.Device.{AreFacts};
-ghost use Rattle.usb_enum.specs.Hub.{CountTold, SupplyTold, IsPowered, Powered, Started};
+ghost use Rattle.usb_enum.specs.Device.{StartsHub};
+ghost use Rattle.usb_enum.specs.Hub.{CountTold, SupplyTold, IsPowered, Powered};
 ghost use Rattle.usb_address.specs.Owned.{KeepsAddresses};
 
 use crate::stop::{Stop, answered_or};
@@ -30,7 +29,6 @@ pub struct HubFacts {
 }
 
 /// Reads what a configured hub says of its ports, and gives each of them power, by rising number.
-#[tactic(auto, using(crate::proofs::Counts::spends_on, usb_address::proofs::Keeping::keeps_none, usb_address::proofs::Keeping::keeps_then))]
 pub(crate) fn start_hub<B: Bus>(
     alloc: Global,
     bus: &mut B,
@@ -41,9 +39,7 @@ pub(crate) fn start_hub<B: Bus>(
     requires max { 8 ≤ target.max }
     ensures spends { Spends hub_bound (B.world bus.old) (B.world bus.new) }
     ensures told { IfErr result (λ stop. ToldOfHub stop (B.world bus.new)) }
-    ensures facts { IfOk result AreFacts }
-    ensures status { IfOk result (λ _. is_some (status_endpoint_of text.now) ≡ true) }
-    ensures started { IfOk result (Started target (B.world bus.old) (B.world bus.new)) }
+    ensures started { IfOk result (StartsHub target text.now (B.world bus.old) (B.world bus.new)) }
     ensures keeps { KeepsAddresses (B.world bus.old) (B.world bus.new) }
 {
     if text.status_endpoint().is_none() {

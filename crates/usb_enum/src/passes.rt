@@ -1,43 +1,73 @@
 //! The steps up to a device that has its address and has given its device descriptor.
-ghost use Rattle.std.specs.Prelude.{◌≡◌, ◌≤◌, ◌<◌, ◌*◌, IfOk, IfErr, IfSome, true, ◌&&◌, ℕ, OnOk};
+ghost use Rattle.std.specs.Prelude.{◌≡◌, ◌≤◌, ◌<◌, ◌*◌, IfOk, IfErr, IfSome, true, ℕ, OnOk};
 ghost use Rattle.usb_world.specs.World.{Spends};
-ghost use Rattle.usb_hub.specs.Port.{IsPort};
+ghost use Rattle.usb_hub.specs.Port.{IsPort, status_bound, order_bound};
 ghost use Rattle.usb_transaction.specs.Trans.{IsTarget};
 ghost use Rattle.usb_enum.specs.Bounds.{read_bound, reset_bound, unaddressed_bound, pass_bound};
-ghost use Rattle.usb_enum.specs.Stop.{Told, ToldAt};
-ghost use Rattle.usb_enum.specs.Device.{device_bytes, is_device, needs_pre};
+ghost use Rattle.usb_enum.specs.Stop.{FaultAt, Told, ToldAt};
+ghost use Rattle.usb_enum.specs.Device.{IsUnaddressed, device_bytes, is_device, needs_pre};
 ghost use Rattle.usb_address.specs.Owned.{KeepsAddresses};
-ghost use Rattle.usb_hub.specs.Addresses.{Answers};
+ghost use Rattle.usb_hub.specs.Addresses.{Answers, Resets};
 ghost use Rattle.usb_enum.specs.Addresses.{Within, Takes};
 
 use crate::addressed::Addressed;
 use crate::stop::{Stop, answered_or, at_port};
-use crate::{Cause, Request};
+use crate::{Cause, EnumFault, Request};
 use std::alloc::Global;
 use usb_bus::Bus;
 use usb_descriptor::{device_head, read_device};
-use usb_hub::{HubPort, clear_port, get_device, port_status, set_address, set_port};
+use usb_hub::{HubPort, PortStatus, clear_port, get_device, port_status, set_address, set_port};
 use usb_pipe::PipeFault;
 use usb_request::feature::{C_PORT_RESET, PORT_RESET};
 use usb_transaction::Target;
 
+/// Sets PORT_RESET.
+fn begin_reset<B: Bus>(bus: &mut B, port: HubPort) -> Result<(), EnumFault>
+    requires { IsPort (B.world bus.old) port }
+    ensures spends { Spends (order_bound port) (B.world bus.old) (B.world bus.new) }
+    ensures told { IfErr result (λ fault. FaultAt port fault (B.world bus.new)) }
+    ensures resets { Resets port (B.world bus.old) (B.world bus.new) }
+{
+    at_port(set_port(bus, port, PORT_RESET))
+}
+
+/// The status of the port.
+fn read_status<B: Bus>(alloc: Global, bus: &mut B, port: HubPort) -> Result<PortStatus, EnumFault>
+    requires { IsPort (B.world bus.old) port }
+    ensures spends { Spends (status_bound port) (B.world bus.old) (B.world bus.new) }
+    ensures told { IfErr result (λ fault. FaultAt port fault (B.world bus.new)) }
+    ensures keeps { KeepsAddresses (B.world bus.old) (B.world bus.new) }
+{
+    at_port(port_status(alloc, bus, port))
+}
+
 /// Resets the port (11.5.1.5), and tells whether a low-speed device is there.
-#[tactic(auto, using(crate::proofs::Enumerations::within_set, crate::proofs::Enumerations::within_set_then, usb_address::proofs::Keeping::keeps_then))]
 fn reset<B: Bus>(alloc: Global, bus: &mut B, port: HubPort) -> Result<bool, Stop>
     requires port { IsPort (B.world bus.old) port }
     ensures spends { Spends (reset_bound port) (B.world bus.old) (B.world bus.new) }
     ensures told { IfErr result (λ stop. ToldAt port stop (B.world bus.new)) }
     ensures within { (a : ℕ) → Within port a (B.world bus.old) (B.world bus.new) }
 {
-    at_port(set_port(bus, port, PORT_RESET))?;
-    let status = at_port(port_status(alloc, bus, port))?;
+    begin_reset(bus, port)?;
+    let status = read_status(alloc, bus, port)?;
     if !status.enabled {
         return Err(Stop::Refused(Cause::Lost));
     }
-    if status.reset_changed {
-        at_port(clear_port(bus, port, C_PORT_RESET))?;
-    }
+    settle(bus, port, status.reset_changed)?;
     Ok(status.low_speed)
+}
+
+/// Clears C_PORT_RESET where it is set.
+fn settle<B: Bus>(bus: &mut B, port: HubPort, changed: bool) -> Result<(), EnumFault>
+    requires { IsPort (B.world bus.old) port }
+    ensures spends { Spends (order_bound port) (B.world bus.old) (B.world bus.new) }
+    ensures told { IfErr result (λ fault. FaultAt port fault (B.world bus.new)) }
+    ensures keeps { KeepsAddresses (B.world bus.old) (B.world bus.new) }
+{
+    if !changed {
+        return Ok(());
+    }
+    at_port(clear_port(bus, port, C_PORT_RESET))
 }
 
 /// Whether PRE goes before packets to a low-speed device at the port (8.6.5).
@@ -51,7 +81,7 @@ fn needs_pre(port: HubPort) -> bool
 }
 
 /// The maximum packet of endpoint 0, from the first eight bytes of the device descriptor.
-#[tactic(auto, using(crate::proofs::Counts::read_spends), unfolding(usb_descriptor::specs::Device::device_head_of))]
+#[tactic(auto, unfolding(usb_descriptor::specs::Device::device_head_of))]
 fn first_maximum<B: Bus>(alloc: Global, bus: &mut B, unaddressed: Target) -> Result<u8, Stop>
     requires target { IsTarget unaddressed }
     requires max { unaddressed.max ≡ 8 }
@@ -70,7 +100,6 @@ fn first_maximum<B: Bus>(alloc: Global, bus: &mut B, unaddressed: Target) -> Res
 }
 
 /// The device descriptor, or `None` where the device gave no answer.
-#[tactic(auto, using(crate::proofs::Counts::read_spends))]
 fn descriptor<B: Bus>(alloc: Global, bus: &mut B, target: Target) -> Result<Option<[u8; 18]>, Stop>
     requires target { IsTarget target }
     requires max { 8 ≤ target.max }
@@ -108,10 +137,7 @@ pub(crate) fn unaddressed<B: Bus>(alloc: Global, bus: &mut B, port: HubPort) -> 
     requires port { IsPort (B.world bus.old) port }
     ensures spends { Spends (unaddressed_bound port) (B.world bus.old) (B.world bus.new) }
     ensures told { IfErr result (λ stop. ToldAt port stop (B.world bus.new)) }
-    ensures target { IfOk result (λ target. IsTarget target) }
-    ensures zero { IfOk result (λ target. target.addr ≡ 0) }
-    ensures max { IfOk result (λ target. 8 ≤ target.max) }
-    ensures pre { IfOk result (λ target. target.pre ≡ (target.low && needs_pre port)) }
+    ensures target { IfOk result (IsUnaddressed port) }
     ensures within { (a : ℕ) → Within port a (B.world bus.old) (B.world bus.new) }
 {
     let low = reset(alloc, bus, port)?;
@@ -137,7 +163,6 @@ pub(crate) fn unaddressed<B: Bus>(alloc: Global, bus: &mut B, port: HubPort) -> 
 
 /// One pass, from the port's reset to the device descriptor; `None` where the device gave no
 /// answer once it should have its address.
-#[tactic(auto, using(crate::proofs::Counts::spends_on))]
 fn pass<B: Bus>(
     alloc: Global,
     bus: &mut B,

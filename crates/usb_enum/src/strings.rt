@@ -75,7 +75,6 @@ fn units_of(alloc: Global, bytes: &[u8]) -> Result<Option<StringUnits>, AllocErr
 }
 
 /// The bytes of a string descriptor, or `None` where the device answered by STALL.
-#[tactic(auto, using(crate::proofs::Counts::read_spends))]
 fn string_bytes<B: Bus>(
     alloc: Global,
     bus: &mut B,
@@ -137,7 +136,6 @@ fn language<B: Bus>(alloc: Global, bus: &mut B, target: Target) -> Result<Option
 }
 
 /// The device's strings, each in its first language.
-#[tactic(auto, using(crate::proofs::Counts::spends_on, usb_world::proofs::Counts::spends_none, usb_address::proofs::Keeping::keeps_none, usb_address::proofs::Keeping::keeps_then))]
 pub(crate) fn read_strings<B: Bus>(
     alloc: Global,
     bus: &mut B,

@@ -17,3 +17,12 @@ loop-index-preserved g c =
       read = rw c.in_ok-push.ensures.ok (grind (arith, common_steps, c.loop-index.invariant.read));
       differ = rw c.in_ok-push.ensures.ok (one_more texts text c.loop-index.invariant.differ (subst P c.value.ensures (sym c.has_value.ensures ∙ c.if-has_value.false)));
     }
+
+pub returns-in_err-text-clause-keeps : goal.returns-in_err-text-clause-keeps
+returns-in_err-text-clause-keeps g c = keeps_then _ _ _ c.loop-index.invariant.kept c.read_text.ensures.keeps
+
+pub returns-then-has_value-clause-keeps : goal.returns-then-has_value-clause-keeps
+returns-then-has_value-clause-keeps g c = keeps_then _ _ _ c.loop-index.invariant.kept c.read_text.ensures.keeps
+
+pub returns-in_err-push-clause-keeps : goal.returns-in_err-push-clause-keeps
+returns-in_err-push-clause-keeps g c = keeps_then _ _ _ c.loop-index.invariant.kept c.read_text.ensures.keeps

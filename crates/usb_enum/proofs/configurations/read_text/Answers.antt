@@ -1,4 +1,9 @@
+use Rattle.std.proofs.Common.{◌∙◌, arith, sym}
+use Rattle.usb_world.proofs.Counts.{spends_wider}
+use Rattle.usb_address.proofs.Keeping.{keeps_then}
+use Rattle.usb_enum.specs.Stop.{Told}
 use Rattle.usb_enum.proofs.Counts.{text_spends}
+use Rattle.usb_enum.proofs.Told.{handed_on, refused_told}
 use Rattle.usb_enum.proofs.configurations.read_text.Goals as goal
 
 pub returns-in_err-bytes-clause-spends : goal.returns-in_err-bytes-clause-spends
@@ -12,3 +17,20 @@ returns-in-Some-clause-spends g c =
 pub returns-in-None-clause-spends : goal.returns-in-None-clause-spends
 returns-in-None-clause-spends g c =
     text_spends c.args.target.max c.in_ok-total.total _ _ _ c.requires.max c.in_ok-total.ensures.most c.total_length.ensures.spends c.get_config.ensures.count
+
+pub returns-in_err-total-clause-spends : goal.returns-in_err-total-clause-spends
+returns-in_err-total-clause-spends g c = spends_wider _ _ _ _ c.total_length.ensures.spends (omega arith)
+
+pub returns-in_err-bytes-clause-keeps : goal.returns-in_err-bytes-clause-keeps
+returns-in_err-bytes-clause-keeps g c = keeps_then _ _ _ c.total_length.ensures.keeps c.get_config.ensures.keeps
+
+pub returns-in-Some-clause-keeps : goal.returns-in-Some-clause-keeps
+returns-in-Some-clause-keeps g c = keeps_then _ _ _ c.total_length.ensures.keeps c.get_config.ensures.keeps
+
+pub returns-in-None-clause-keeps : goal.returns-in-None-clause-keeps
+returns-in-None-clause-keeps g c = keeps_then _ _ _ c.total_length.ensures.keeps c.get_config.ensures.keeps
+
+pub returns-in_err-bytes-clause-told : goal.returns-in_err-bytes-clause-told
+returns-in_err-bytes-clause-told g c =
+    handed_on c.from_residual-in_err-bytes.result (λ stop. Told stop (g.B.Bus.world c.get_config.new.bus)) c.in_err-bytes.field-0.0 c.from_residual-in_err-bytes.ensures.1
+    (refused_told _ 3 1 _ _ c.get_config.result _ (sym c.answered_or.ensures ∙ c.in_err-bytes.was) tt c.get_config.ensures.ends)

@@ -11,7 +11,7 @@ returns-in_default-clause-addresses g c =
 pub returns-in-Ok-clause-addresses : goal.returns-in-Ok-clause-addresses
 returns-in-Ok-clause-addresses g c =
     let taken = c.in-Some.ensures.some in
-    enumerated c.args.port c.args.pool.now c.in-Some.address (zero_before _ _ _ taken c.take.ensures.range) (free_untaken _ _ _ taken) _ _ _ c.in-Ok.ensures.address c.in-Ok.ensures.takes
+    enumerated c.args.port c.args.pool.now c.in-Some.address (zero_before _ _ _ taken c.take.ensures.range) (free_untaken _ _ _ taken) _ _ _ c.in-Ok.ensures.ok.address c.in-Ok.ensures.ok.takes
 
 pub returns-in-Err-clause-addresses : goal.returns-in-Err-clause-addresses
 returns-in-Err-clause-addresses g c =

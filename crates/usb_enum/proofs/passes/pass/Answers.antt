@@ -1,26 +1,51 @@
+use Rattle.std.proofs.Common.{◌∙◌, arith, sym}
+use Rattle.usb_world.proofs.Counts.{spends_then, spends_wider}
+use Rattle.usb_enum.specs.Stop.{ToldAt}
+use Rattle.usb_enum.proofs.Counts.{spends_on}
 use Rattle.usb_enum.proofs.Enumerations.{within_addressed, within_on, takes_after, takes_answered}
+use Rattle.usb_enum.proofs.Told.{handed_on, refused_told, told_at}
 use Rattle.usb_enum.proofs.passes.pass.Goals as goal
 
 pub returns-in_err-answered_or-clause-within : goal.returns-in_err-answered_or-clause-within
 returns-in_err-answered_or-clause-within g c =
-    within_addressed _ _ _ _ _ _ (c.unaddressed.ensures.within c.args.address) c.in_ok-target.ensures.zero c.requires.least c.set_address.ensures.gives
+    within_addressed _ _ _ _ _ _ (c.unaddressed.ensures.within c.args.address) c.in_ok-target.ensures.target.zero c.requires.least c.set_address.ensures.gives
 
 pub returns-in_err-bytes-clause-within : goal.returns-in_err-bytes-clause-within
 returns-in_err-bytes-clause-within g c =
-    let addressed = within_addressed _ _ _ _ _ _ (c.unaddressed.ensures.within c.args.address) c.in_ok-target.ensures.zero c.requires.least c.set_address.ensures.gives in
+    let addressed = within_addressed _ _ _ _ _ _ (c.unaddressed.ensures.within c.args.address) c.in_ok-target.ensures.target.zero c.requires.least c.set_address.ensures.gives in
     within_on _ _ _ _ _ addressed c.descriptor.ensures.keeps
 
 pub returns-in-Some-clause-within : goal.returns-in-Some-clause-within
 returns-in-Some-clause-within g c =
-    let addressed = within_addressed _ _ _ _ _ _ (c.unaddressed.ensures.within c.args.address) c.in_ok-target.ensures.zero c.requires.least c.set_address.ensures.gives in
+    let addressed = within_addressed _ _ _ _ _ _ (c.unaddressed.ensures.within c.args.address) c.in_ok-target.ensures.target.zero c.requires.least c.set_address.ensures.gives in
     within_on _ _ _ _ _ addressed c.descriptor.ensures.keeps
 
 pub returns-in-Some-clause-takes : goal.returns-in-Some-clause-takes
 returns-in-Some-clause-takes g c =
-    let addressed = within_addressed _ _ _ _ _ _ (c.unaddressed.ensures.within c.args.address) c.in_ok-target.ensures.zero c.requires.least c.set_address.ensures.gives in
+    let addressed = within_addressed _ _ _ _ _ _ (c.unaddressed.ensures.within c.args.address) c.in_ok-target.ensures.target.zero c.requires.least c.set_address.ensures.gives in
     takes_after _ _ _ _ _ addressed (takes_answered _ _ _ _ c.descriptor.ensures.keeps (rw c.in-Some.is at c.in_ok-bytes.ensures.who))
 
 pub returns-in-None-clause-within : goal.returns-in-None-clause-within
 returns-in-None-clause-within g c =
-    let addressed = within_addressed _ _ _ _ _ _ (c.unaddressed.ensures.within c.args.address) c.in_ok-target.ensures.zero c.requires.least c.set_address.ensures.gives in
+    let addressed = within_addressed _ _ _ _ _ _ (c.unaddressed.ensures.within c.args.address) c.in_ok-target.ensures.target.zero c.requires.least c.set_address.ensures.gives in
     within_on _ _ _ _ _ addressed c.descriptor.ensures.keeps
+
+pub returns-in_err-target-clause-spends : goal.returns-in_err-target-clause-spends
+returns-in_err-target-clause-spends g c = spends_wider _ _ _ _ c.unaddressed.ensures.spends (omega arith)
+
+pub returns-in_err-answered_or-clause-spends : goal.returns-in_err-answered_or-clause-spends
+returns-in_err-answered_or-clause-spends g c = spends_on _ _ _ _ _ _ c.unaddressed.ensures.spends c.set_address.ensures.count (omega arith)
+
+pub returns-in_err-bytes-clause-spends : goal.returns-in_err-bytes-clause-spends
+returns-in_err-bytes-clause-spends g c = spends_on _ _ _ _ _ _ (spends_then _ _ _ _ _ c.unaddressed.ensures.spends c.set_address.ensures.count) c.descriptor.ensures.spends (omega arith)
+
+pub returns-in-Some-clause-spends : goal.returns-in-Some-clause-spends
+returns-in-Some-clause-spends g c = spends_on _ _ _ _ _ _ (spends_then _ _ _ _ _ c.unaddressed.ensures.spends c.set_address.ensures.count) c.descriptor.ensures.spends (omega arith)
+
+pub returns-in-None-clause-spends : goal.returns-in-None-clause-spends
+returns-in-None-clause-spends g c = spends_on _ _ _ _ _ _ (spends_then _ _ _ _ _ c.unaddressed.ensures.spends c.set_address.ensures.count) c.descriptor.ensures.spends (omega arith)
+
+pub returns-in_err-answered_or-clause-told : goal.returns-in_err-answered_or-clause-told
+returns-in_err-answered_or-clause-told g c =
+    handed_on c.from_residual-in_err-answered_or.result (λ stop. ToldAt c.args.port stop (g.B.Bus.world c.set_address.new.bus)) c.in_err-answered_or.field-0.0 c.from_residual-in_err-answered_or.ensures.1
+    (told_at _ _ _ (refused_told _ 2 1 _ _ c.set_address.result _ (sym c.answered_or.ensures ∙ c.in_err-answered_or.was) tt c.set_address.ensures.ends))

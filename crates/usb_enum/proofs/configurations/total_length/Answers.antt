@@ -1,0 +1,19 @@
+use Rattle.std.proofs.Common.{◌∙◌, sym}
+use Rattle.usb_enum.specs.Stop.{Told}
+use Rattle.usb_enum.proofs.Counts.{read_spends}
+use Rattle.usb_enum.proofs.Told.{handed_on, refused_told}
+use Rattle.usb_enum.proofs.configurations.total_length.Goals as goal
+
+pub returns-in_err-head-clause-spends : goal.returns-in_err-head-clause-spends
+returns-in_err-head-clause-spends g c = read_spends c.args.target.max 9 _ _ c.requires.max c.get_config.ensures.count
+
+pub returns-in-Ok-clause-spends : goal.returns-in-Ok-clause-spends
+returns-in-Ok-clause-spends g c = read_spends c.args.target.max 9 _ _ c.requires.max c.get_config.ensures.count
+
+pub returns-clause-spends : goal.returns-clause-spends
+returns-clause-spends g c = read_spends c.args.target.max 9 _ _ c.requires.max c.get_config.ensures.count
+
+pub returns-in_err-head-clause-told : goal.returns-in_err-head-clause-told
+returns-in_err-head-clause-told g c =
+    handed_on c.from_residual.result (λ stop. Told stop (g.B.Bus.world c.get_config.new.bus)) c.in_err-head.field-0.0 c.from_residual.ensures.1
+    (refused_told _ 3 1 _ _ c.get_config.result _ (sym c.answered_or.ensures ∙ c.in_err-head.was) tt c.get_config.ensures.ends)

@@ -1,0 +1,17 @@
+use Rattle.std.proofs.Common.{Result, refl, subst, sym}
+use Rattle.std.specs.Prelude.{IfErr}
+use Rattle.usb_enum.specs.declared.fault.EnumFault.{EnumFault}
+use Rattle.usb_enum.specs.Stop.{FaultAt}
+use Rattle.usb_enum.proofs.Told.{port_told, set_fails}
+use Rattle.usb_enum.proofs.passes.begin_reset.Goals as goal
+
+pub returns-clause-spends : goal.returns-clause-spends
+returns-clause-spends g c = c.set_port.ensures.count refl
+
+pub returns-clause-told : goal.returns-clause-told
+returns-clause-told g c =
+    let P : Result (Unit {0}) EnumFault → Type 0 = λ r. IfErr r (λ fault. FaultAt c.args.port fault (g.B.Bus.world c.set_port.new.bus)) in
+    subst P (sym c.at_port.ensures) (port_told c.args.port 1 _ _ c.set_port.result (set_fails c.args.port 4 _ _ c.set_port.result c.set_port.ensures.effect) c.set_port.ensures.fault)
+
+pub returns-clause-resets : goal.returns-clause-resets
+returns-clause-resets g c = c.set_port.ensures.addresses.resets refl

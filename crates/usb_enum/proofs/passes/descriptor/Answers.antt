@@ -1,0 +1,59 @@
+use Rattle.usb_enum.proofs.Counts.{read_spends}
+use Rattle.std.proofs.Common.{◌≡◌, ◌∙◌, ℕ, true, List, Option, Result, subst, sym}
+use Rattle.std.specs.Prelude.{IfOk, IfErr, IfSome, OnOk}
+use Rattle.std.specs.Global.{Vec}
+use Rattle.usb_pipe.specs.declared.fault.PipeFault.{PipeFault}
+use Rattle.usb_hub.specs.Addresses.{Answers}
+use Rattle.usb_enum.specs.declared.stop.Stop.{Stop}
+use Rattle.usb_enum.specs.Device.{is_device}
+use Rattle.usb_enum.specs.Stop.{Told}
+use Rattle.usb_enum.proofs.Hubs.{answered_ok}
+use Rattle.usb_enum.proofs.Told.{handed_on, refused_told, device_told, device_good, device_so}
+use Rattle.usb_enum.proofs.passes.descriptor.Goals as goal
+
+pub returns-then-eq-clause-spends : goal.returns-then-eq-clause-spends
+returns-then-eq-clause-spends g c = read_spends c.args.target.max 18 _ _ c.requires.max c.get_device-outcome.ensures.count
+
+pub returns-then-eq-clause-keeps : goal.returns-then-eq-clause-keeps
+returns-then-eq-clause-keeps g c = c.get_device-outcome.ensures.addresses.keeps
+
+pub returns-in_err-bytes-clause-spends : goal.returns-in_err-bytes-clause-spends
+returns-in_err-bytes-clause-spends g c = read_spends c.args.target.max 18 _ _ c.requires.max c.get_device-outcome.ensures.count
+
+pub returns-in_err-bytes-clause-keeps : goal.returns-in_err-bytes-clause-keeps
+returns-in_err-bytes-clause-keeps g c = c.get_device-outcome.ensures.addresses.keeps
+
+pub returns-in-Some-clause-spends : goal.returns-in-Some-clause-spends
+returns-in-Some-clause-spends g c = read_spends c.args.target.max 18 _ _ c.requires.max c.get_device-outcome.ensures.count
+
+pub returns-in-Some-clause-keeps : goal.returns-in-Some-clause-keeps
+returns-in-Some-clause-keeps g c = c.get_device-outcome.ensures.addresses.keeps
+
+pub returns-clause-spends : goal.returns-clause-spends
+returns-clause-spends g c = read_spends c.args.target.max 18 _ _ c.requires.max c.get_device-outcome.ensures.count
+
+pub returns-clause-keeps : goal.returns-clause-keeps
+returns-clause-keeps g c = c.get_device-outcome.ensures.addresses.keeps
+
+pub returns-in_err-bytes-clause-told : goal.returns-in_err-bytes-clause-told
+returns-in_err-bytes-clause-told g c =
+    handed_on c.from_residual.result (λ stop. Told stop (g.B.Bus.world c.get_device-outcome.new.bus)) c.in_err-bytes.field-0.0 c.from_residual.ensures.1
+    (refused_told _ 3 1 _ _ c.get_device-outcome.result _ (sym c.answered_or.ensures ∙ c.in_err-bytes.was) tt c.get_device-outcome.ensures.ends)
+
+pub returns-in-Some-clause-told : goal.returns-in-Some-clause-told
+returns-in-Some-clause-told g c =
+    let P : Result (Option (List ℕ)) Stop → Type 0 = λ r. IfErr r (λ stop. Told stop (g.B.Bus.world c.get_device-outcome.new.bus)) in
+    subst P (sym c.device_bytes.ensures) (device_told c.args.target.low c.in-Some.bytes.now _)
+
+pub returns-in-Some-clause-device : goal.returns-in-Some-clause-device
+returns-in-Some-clause-device g c =
+    let P : Result (Option (List ℕ)) Stop → Type 0 = λ r. IfOk r (λ found. IfSome found (λ bytes. is_device c.args.target.low bytes ≡ true)) in
+    subst P (sym c.device_bytes.ensures) (device_good c.args.target.low c.in-Some.bytes.now)
+
+pub returns-in-Some-clause-who : goal.returns-in-Some-clause-who
+returns-in-Some-clause-who g c =
+    let A : Type 0 = Answers c.args.target.addr (g.B.Bus.world c.args.bus.now) in
+    let Q : Result (Vec ℕ) PipeFault → Type 0 = λ r. OnOk r A in
+    let P : Result (Option (List ℕ)) Stop → Type 0 = λ r. IfOk r (λ found. IfSome found (λ _. A)) in
+    let answered = answered_ok _ c.get_device-outcome.result c.in_ok-bytes.bytes (sym c.answered_or.ensures ∙ c.in_ok-bytes.was) in
+    subst P (sym c.device_bytes.ensures) (device_so c.args.target.low c.in-Some.bytes.now (subst Q answered c.get_device-outcome.ensures.addresses.who))

@@ -1,0 +1,28 @@
+use Rattle.std.proofs.Common.{◌∙◌, arith, sym}
+use Rattle.usb_enum.specs.Stop.{Told}
+use Rattle.usb_enum.proofs.Counts.{read_spends}
+use Rattle.usb_enum.proofs.Told.{handed_on, refused_told}
+use Rattle.usb_enum.proofs.passes.first_maximum.Goals as goal
+
+pub returns-in_err-bytes-clause-spends : goal.returns-in_err-bytes-clause-spends
+returns-in_err-bytes-clause-spends g c = read_spends c.args.unaddressed.max 8 _ _ (omega (arith, c.requires.max)) c.get_device.ensures.count
+
+pub returns-in_err-bytes-clause-keeps : goal.returns-in_err-bytes-clause-keeps
+returns-in_err-bytes-clause-keeps g c = c.get_device.ensures.addresses.keeps
+
+pub returns-in-Ok-clause-spends : goal.returns-in-Ok-clause-spends
+returns-in-Ok-clause-spends g c = read_spends c.args.unaddressed.max 8 _ _ (omega (arith, c.requires.max)) c.get_device.ensures.count
+
+pub returns-in-Ok-clause-keeps : goal.returns-in-Ok-clause-keeps
+returns-in-Ok-clause-keeps g c = c.get_device.ensures.addresses.keeps
+
+pub returns-clause-spends : goal.returns-clause-spends
+returns-clause-spends g c = read_spends c.args.unaddressed.max 8 _ _ (omega (arith, c.requires.max)) c.get_device.ensures.count
+
+pub returns-clause-keeps : goal.returns-clause-keeps
+returns-clause-keeps g c = c.get_device.ensures.addresses.keeps
+
+pub returns-in_err-bytes-clause-told : goal.returns-in_err-bytes-clause-told
+returns-in_err-bytes-clause-told g c =
+    handed_on c.from_residual.result (λ stop. Told stop (g.B.Bus.world c.get_device.new.bus)) c.in_err-bytes.field-0.0 c.from_residual.ensures.1
+    (refused_told _ 3 1 _ _ c.get_device.result _ (sym c.answered_or.ensures ∙ c.in_err-bytes.was) tt c.get_device.ensures.ends)

@@ -1,0 +1,18 @@
+use Rattle.std.proofs.Common.{Result, subst, sym}
+use Rattle.std.specs.Prelude.{IfErr}
+use Rattle.usb_enum.specs.declared.fault.EnumFault.{EnumFault}
+use Rattle.usb_enum.specs.Stop.{FaultAt}
+use Rattle.usb_port.specs.declared.status.PortStatus.{PortStatus}
+use Rattle.usb_enum.proofs.Told.{port_told, read_fails}
+use Rattle.usb_enum.proofs.passes.read_status.Goals as goal
+
+pub returns-clause-spends : goal.returns-clause-spends
+returns-clause-spends g c = c.port_status.ensures.count
+
+pub returns-clause-told : goal.returns-clause-told
+returns-clause-told g c =
+    let P : Result PortStatus EnumFault → Type 0 = λ r. IfErr r (λ fault. FaultAt c.args.port fault (g.B.Bus.world c.port_status.new.bus)) in
+    subst P (sym c.at_port.ensures) (port_told c.args.port 1 _ _ c.port_status.result (read_fails c.args.port _ _ c.port_status.result c.port_status.ensures.status) c.port_status.ensures.fault)
+
+pub returns-clause-keeps : goal.returns-clause-keeps
+returns-clause-keeps g c = c.port_status.ensures.addresses.keeps

@@ -1,0 +1,25 @@
+use Rattle.std.proofs.Common.{Result, arith, subst, sym}
+use Rattle.std.specs.Prelude.{IfErr}
+use Rattle.usb_enum.specs.declared.fault.EnumFault.{EnumFault}
+use Rattle.usb_enum.specs.Stop.{FaultAt}
+use Rattle.usb_world.proofs.Counts.{spends_none, spends_wider}
+use Rattle.usb_address.proofs.Keeping.{keeps_none}
+use Rattle.usb_enum.proofs.Told.{port_told, clear_fails}
+use Rattle.usb_enum.proofs.passes.settle.Goals as goal
+
+pub returns-then-not-changed-clause-spends : goal.returns-then-not-changed-clause-spends
+returns-then-not-changed-clause-spends g c = spends_wider 0 _ _ _ (spends_none _) (omega arith)
+
+pub returns-then-not-changed-clause-keeps : goal.returns-then-not-changed-clause-keeps
+returns-then-not-changed-clause-keeps g c = keeps_none _
+
+pub returns-clause-spends : goal.returns-clause-spends
+returns-clause-spends g c = c.clear_port.ensures.count
+
+pub returns-clause-told : goal.returns-clause-told
+returns-clause-told g c =
+    let P : Result (Unit {0}) EnumFault → Type 0 = λ r. IfErr r (λ fault. FaultAt c.args.port fault (g.B.Bus.world c.clear_port.new.bus)) in
+    subst P (sym c.at_port.ensures) (port_told c.args.port 1 _ _ c.clear_port.result (clear_fails c.args.port 20 _ _ c.clear_port.result c.clear_port.ensures.effect) c.clear_port.ensures.fault)
+
+pub returns-clause-keeps : goal.returns-clause-keeps
+returns-clause-keeps g c = c.clear_port.ensures.addresses.keeps
