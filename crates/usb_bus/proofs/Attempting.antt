@@ -2,7 +2,6 @@
 use Rattle.std.proofs.Common.{◌≡◌, Bool, true, false, if◌then◌else◌, Option, Some, None, Result, Ok, Err, OnOk, IfErr, IsErrAnd, ◌≢◌, ◌||◌, refl, sym, subst, ap, ◌∙◌}
 use Rattle.std.specs.Prelude.{◌==◌}
 use Rattle.std.proofs.lemmas.Bool.{eq-eqb}
-use Rattle.std.proofs.lemmas.Bool.Decides.{nat_tests}
 use Rattle.std.proofs.Common.{arith, ℕ}
 use Rattle.usb_world.specs.declared.event.Due.{Due}
 use Rattle.usb_world.specs.declared.types.Attempt.{Attempt}
@@ -12,6 +11,14 @@ use Rattle.usb_world.specs.declared.types.BusFault.TheVariants.{LimitReached, Me
 use Rattle.usb_world.specs.World.{World}
 use Rattle.usb_world.specs.Steps.{ready, with_attempt, attempted, attempt, event, event_taken, took_first, after, fault_of, Left, Coming, at_event, at_packet, at_line, AttemptFails, IsCut, damage_in}
 use Rattle.usb_device.specs.Tree.{Ports}
+use Rattle.std.specs.Prelude.{List, IfOk, ◌+◌}
+use Rattle.usb_world.specs.World.{AttemptEnds, AnswerFits, Spends}
+use Rattle.usb_world.specs.Steps.{outcome_in}
+use Rattle.usb_world.proofs.Counts.{spends_none, spends_wider}
+use Rattle.usb_bus.specs.Lines.{step_lines}
+use Rattle.usb_bus.specs.Watch.{Writes}
+use Rattle.usb_bus.specs.Traced.{Attempts}
+use Rattle.usb_bus.proofs.Comings.{not_same, writes_none, writes_alone}
 use Rattle.usb_device.specs.Delivery.{held, is_twice}
 
 pub after_fault : (a : Attempt) (w : World) (f : BusFault) → w.fault ≡ Some f → w ≡ after (attempt a) w
@@ -25,9 +32,6 @@ if_yes false x y h = cc
 if_no : {X : Type 0} (b : Bool) (x y : X) → b ≡ false → y ≡ (if b then x else y)
 if_no false x y h = refl
 if_no true x y h = cc
-
-not_same : (m n : ℕ) → (m ≡ n → ⊥) → (m == n) ≡ false
-not_same m n h = grind (arith, nat_tests, h)
 
 -- nothing is applied where the attempts equal the limit
 pub at_limit : (a : Attempt) (w : World) → w.fault ≡ None → w.attempts ≡ w.limit → record w { fault = Some LimitReached } ≡ after (attempt a) w
@@ -81,3 +85,77 @@ fails_at (Ok o) a w m is below other left = tt
 fails_at (Err LimitReached) a w m is below other left = absurd (other refl)
 fails_at (Err Memory) a w m is below other left = record { below = below; left = record m { fault = None }; so_far = left; told = ap (λ x. record m { fault = x }) is }
 fails_at (Err TraceFailed) a w m is below other left = record { below = below; left = record m { fault = None }; so_far = left; told = ap (λ x. record m { fault = x }) is }
+
+-- What an attempt is, at each of its ends
+
+abbrev faulted : BusFault → Result Outcome BusFault
+faulted f = Err f
+
+at_limit_spends : (w : World) → Spends 1 w (record w { fault = Some LimitReached })
+at_limit_spends w = record {
+  limit = refl;
+  roots = refl;
+  later = omega arith;
+  most = omega arith;
+  within = λ h. h;
+  events = refl;
+  onward = omega arith;
+  served = omega arith;
+}
+
+same_err : (f x : BusFault) → Some f ≡ Some x → faulted f ≡ faulted x
+same_err f x e = cc e
+
+nothing_written : (f : BusFault) (a : Attempt) (w v : World) (t : Option (List ℕ)) → v.taken ≡ w.taken → v.attempts ≡ w.attempts → Writes (faulted f) t t (step_lines a w v)
+nothing_written f a w v t e same = writes_alone (faulted f) a w v t t same (writes_none (faulted f) w v t e)
+
+-- a fault was told before
+pub again_attempts : (a : Attempt) (w : World) (t : Option (List ℕ)) (f : BusFault) → Some f ≡ w.fault → (w.fault ≡ Some LimitReached → w.attempts ≡ w.limit) → Attempts a w t (Err f) w t
+again_attempts a w t f told limit = record {
+  counts = record {
+    spends = spends_wider 0 1 w w (spends_none w) (omega arith);
+    ends = record { told = sym told; at_limit = λ e. limit (sym told ∙ ap Some e) };
+    fits = tt;
+    again = λ x e. (same_err f x (told ∙ e), refl);
+  };
+  exact = tt;
+  outcome = tt;
+  fails = λ none. absurd (cc (told, none));
+  text = nothing_written f a w w t refl refl;
+}
+
+-- the attempts equal the limit
+pub limit_attempts : (a : Attempt) (w : World) (t : Option (List ℕ)) → w.fault ≡ None → w.attempts ≡ w.limit → Attempts a w t (Err LimitReached) (record w { fault = Some LimitReached }) t
+limit_attempts a w t sound e = record {
+  counts = record {
+    spends = at_limit_spends w;
+    ends = record { told = refl; at_limit = λ x. e };
+    fits = tt;
+    again = λ x h. absurd (cc (sound, h));
+  };
+  exact = tt;
+  outcome = tt;
+  fails = λ none. at_limit a w sound e;
+  text = nothing_written LimitReached a w (record w { fault = Some LimitReached }) t refl refl;
+}
+
+ends_as : (r : Result Outcome BusFault) (w v : World) → w.fault ≡ None → OnOk r (v.attempts ≡ w.attempts + 1) → v.fault ≡ fault_of r → IfErr r (λ x. x ≢ LimitReached) → AttemptEnds w r v
+ends_as (Ok o) w v sound one told other = record { sound = sound; one = one; still = told }
+ends_as (Err f) w v sound one told other = record { told = told; at_limit = λ e. absurd (other e) }
+
+-- it was made, or given up
+pub made_attempts : (r : Result Outcome BusFault) (a : Attempt) (w v : World) (t s : Option (List ℕ)) → w.fault ≡ None → (w.attempts ≡ w.limit → ⊥) → Spends 1 w v → OnOk r (v.attempts ≡ w.attempts + 1) → AnswerFits a.max r
+    → OnOk r (v ≡ with_attempt a (ready w)) → IfErr r (λ f. Left a w f (record v { fault = None })) → IfOk r (λ o. o ≡ outcome_in a w) → v.fault ≡ fault_of r → IfErr r (λ x. x ≢ LimitReached)
+    → Writes r t s (step_lines a w v) → Attempts a w t r v s
+made_attempts r a w v t s sound below spends one fits exact left outcome told other text = record {
+  counts = record {
+    spends = spends;
+    ends = ends_as r w v sound one told other;
+    fits = fits;
+    again = λ x h. absurd (cc (sound, h));
+  };
+  exact = made_exact r a w v sound below exact;
+  outcome = outcome;
+  fails = λ none. fails_at r a w v told below other left;
+  text = text;
+}

@@ -1,13 +1,12 @@
 -- The lines of the trace that steps write, and what an event asks of the host.
-use Rattle.std.specs.Prelude.{ℕ, ◌+◌, if◌then◌else◌, List, [], ◌∷◌, ◌++◌, slice_get, Option, Some, None}
+use Rattle.std.specs.Prelude.{ℕ, ◌+◌, ◌-◌, ◌==◌, if◌then◌else◌, List, [], ◌∷◌, ◌++◌, take, flat_map, slice_get, Option, Some, None}
 use Rattle.usb_device.specs.Spec.{Spec}
-use Rattle.usb_world.specs.declared.event.Event.{Event}
 use Rattle.usb_world.specs.declared.event.Action.{Action}
 use Rattle.usb_world.specs.declared.event.Action.TheVariants.{Plug, Unplug, Show, Send, Receive, Clear}
 use Rattle.usb_world.specs.declared.event.Due.{Due}
 use Rattle.usb_world.specs.declared.types.Attempt.{Attempt}
 use Rattle.usb_world.specs.World.{World}
-use Rattle.usb_world.specs.Steps.{took, is_due, ready, made_in, due_of}
+use Rattle.usb_world.specs.Steps.{ready, made_in, due_of}
 use Rattle.usb_bus.specs.Trace.{plug_line, unplug_line, attempt_line}
 
 -- the line of an event
@@ -19,21 +18,17 @@ action_line (Send path bytes) devices = []
 action_line (Receive path packets) devices = []
 action_line (Clear path) devices = []
 
--- the next event
-unfoldable pub next_line : World → List ℕ
-next_line w = elim w.left [ [] ↦ [] | e ∷ events ↦ action_line e.action w.devices ]
-
 unfoldable pub next_due : World → Option Due
 next_due w = elim w.left [ [] ↦ None | e ∷ events ↦ Some (due_of e.action) ]
 
--- the lines of the events that are due
-unfoldable pub due_lines : List Event → World → List ℕ
-due_lines [] w = []
-due_lines (e ∷ events) w = if is_due e w then action_line e.action w.devices ++ due_lines events (took e events w) else []
+-- the lines of the events that came between two worlds
+unfoldable pub lines_between : World → World → List ℕ
+lines_between w v = flat_map (λ e. action_line e.action w.devices) (take (v.taken - w.taken) w.left)
 
 -- the line of the next attempt
 abbrev pub made_line : Attempt → World → List ℕ
 made_line a w = attempt_line (w.attempts + 1) a.pre (made_in a w) ++ 10 ∷ []
 
-unfoldable pub attempted_lines : Attempt → World → List ℕ
-attempted_lines a w = due_lines w.left w ++ made_line a (ready w)
+-- the lines of a step that may have made an attempt: those of the events that came, and the attempt's where it was made
+unfoldable pub step_lines : Attempt → World → World → List ℕ
+step_lines a w v = lines_between w v ++ (if v.attempts == w.attempts then [] else made_line a (ready w))

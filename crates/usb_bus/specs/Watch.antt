@@ -27,6 +27,13 @@ pub record AppendsFront (old new : Option (List ℕ)) (piece : List ℕ) : Type 
   pub split : piece ≡ gone ++ rest
   pub appended : Appends old new gone
 
+-- how a call ends that writes a text: all of it has gone out, or a front of it where the writer failed
+abbrev pub Writes : {A : Type 0} → Result A BusFault → Option (List ℕ) → Option (List ℕ) → List ℕ → Type 0
+Writes (Ok x) old new text = Appends old new text
+Writes (Err LimitReached) old new text = Appends old new text
+Writes (Err Memory) old new text = Appends old new text
+Writes (Err TraceFailed) old new text = AppendsFront old new text
+
 -- the fault tells that the writer failed
 abbrev pub tells_failure : Option BusFault → Bool
 tells_failure None = false

@@ -1,9 +1,10 @@
-ghost use Rattle.std.specs.Prelude.{◌≡◌, ◌≤◌, None, IfOk, OnOk};
+ghost use Rattle.std.specs.Prelude.{◌≡◌, ◌≤◌, ℕ, List, Option, None};
 ghost use Rattle.usb_port.specs.PortState.{status_of};
-ghost use Rattle.usb_world.specs.World.{World, Attempted, IsAttempt, IsRootPort, IsSetFeature, IsClearFeature, port_at, roots_of};
-ghost use Rattle.usb_world.specs.Steps.{AttemptFails, SetsRoot, ClearsRoot, after, attempt as attempt_step, outcome_in};
+ghost use Rattle.usb_world.specs.World.{World, IsAttempt, IsRootPort, IsSetFeature, IsClearFeature, port_at, roots_of};
+ghost use Rattle.usb_world.specs.Steps.{SetsRoot, ClearsRoot};
 ghost use Rattle.usb_world.specs.Passes.{IsSettled};
 ghost use Rattle.usb_world.specs.Sane.{IsSane};
+ghost use Rattle.usb_bus.specs.Traced.{Attempts};
 
 use crate::{Attempt, BusFault, Outcome};
 
@@ -18,16 +19,17 @@ pub trait Bus {
     /// plugged is as the rules say.
     ghost world: { Self → World };
 
+    /// The text that its trace has, where that is known. Each attempt that is made, and each plug and unplug that comes,
+    /// is a line; nothing else is written by these calls.
+    ghost trace: { Self → Option (List ℕ) };
+
     /// Applies the events that are due, and then makes one attempt.
     ///
     /// Where the attempts equal the limit it tells `LimitReached` and nothing else. After an `Err` every later attempt
     /// tells the same fault again.
     fn attempt(&mut self, attempt: &Attempt) -> Result<Outcome, BusFault>
         requires { IsAttempt attempt.now }
-        ensures counts { Attempted attempt.now (world self.old) result (world self.new) }
-        ensures exact { OnOk result (world self.new ≡ after (attempt_step attempt.now) (world self.old)) }
-        ensures outcome { IfOk result (λ outcome. outcome ≡ outcome_in attempt.now (world self.old)) }
-        ensures fails { (world self.old).fault ≡ None → AttemptFails attempt.now (world self.old) result (world self.new) }
+        ensures attempts { Attempts attempt.now (world self.old) (trace self.old) result (world self.new) (trace self.new) }
         ensures settled { IsSettled (world self.old).roots }
         ensures sane { (world self.old).fault ≡ None → IsSane (world self.old).roots };
 
@@ -47,6 +49,7 @@ pub trait Bus {
         requires port { IsRootPort (world self.old) port }
         requires named { IsSetFeature feature }
         ensures call { SetsRoot port feature (world self.old) (world self.new) }
+        ensures silent { trace self.new ≡ trace self.old }
         ensures sane { (world self.old).fault ≡ None → IsSane (world self.old).roots };
 
     /// Clears a feature of a root port (11.24.2.2).
@@ -54,5 +57,6 @@ pub trait Bus {
         requires port { IsRootPort (world self.old) port }
         requires named { IsClearFeature feature }
         ensures call { ClearsRoot port feature (world self.old) (world self.new) }
+        ensures silent { trace self.new ≡ trace self.old }
         ensures sane { (world self.old).fault ≡ None → IsSane (world self.old).roots };
 }

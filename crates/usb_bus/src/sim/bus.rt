@@ -3,13 +3,13 @@ ghost use Rattle.std.specs.Prelude.{◌≡◌, ◌≢◌, ◌+◌, ◌-◌, ◌<
 ghost use Rattle.usb_port.specs.PortState.{off, status_of};
 ghost use Rattle.usb_device.specs.Tree.{row_of};
 ghost use Rattle.usb_world.specs.World.{Attempted, Spends, AnswerFits, IsAttempt, IsRootPort, IsSetFeature, IsClearFeature};
-ghost use Rattle.std.specs.Io.KnownBytes.{Appends};
 ghost use Rattle.usb_device.specs.Delivery.{is_clearing};
 ghost use Rattle.usb_world.specs.Steps.{AttemptFails, Left, SetsRoot, ClearsRoot, after, attempt as attempt_step, root_call, with_attempt, ready, outcome_in, fault_of};
 ghost use Rattle.usb_world.specs.Passes.{IsSettled};
 ghost use Rattle.usb_world.specs.Sane.{IsSane};
-ghost use Rattle.usb_bus.specs.Lines.{attempted_lines};
-ghost use Rattle.usb_bus.specs.Watch.{inner_of, has_failed};
+ghost use Rattle.usb_bus.specs.Lines.{step_lines};
+ghost use Rattle.usb_bus.specs.Traced.{Attempts};
+ghost use Rattle.usb_bus.specs.Watch.{inner_of, has_failed, Writes};
 ghost use Rattle.usb_world.specs.declared.types.BusFault.TheVariants.{LimitReached, TraceFailed};
 
 use super::SimBus;
@@ -24,15 +24,13 @@ impl<W: Write> Bus for SimBus<W> {
 
     ghost world = { world_of };
 
+    ghost trace = { λ s. W.contents (inner_of (writer_of s)) };
+
     fn attempt(&mut self, attempt: &Attempt) -> Result<Outcome, BusFault>
         requires { IsAttempt attempt.now }
-        ensures counts { Attempted attempt.now (world_of self.old) result (world_of self.new) }
-        ensures exact { OnOk result (world_of self.new ≡ after (attempt_step attempt.now) (world_of self.old)) }
-        ensures outcome { IfOk result (λ outcome. outcome ≡ outcome_in attempt.now (world_of self.old)) }
+        ensures attempts { Attempts attempt.now (world_of self.old) (W.contents (inner_of (writer_of self.old))) result (world_of self.new) (W.contents (inner_of (writer_of self.new))) }
         ensures settled { IsSettled (world_of self.old).roots }
         ensures sane { (world_of self.old).fault ≡ None → IsSane (world_of self.old).roots }
-        ensures fails { (world_of self.old).fault ≡ None → AttemptFails attempt.now (world_of self.old) result (world_of self.new) }
-        ensures lines { OnOk result (Appends (W.contents (inner_of (writer_of self.old))) (W.contents (inner_of (writer_of self.new))) (attempted_lines attempt.now (world_of self.old))) }
         ensures trace { result ≡ Err TraceFailed → (world_of self.old).fault ≡ None → has_failed (writer_of self.new) ≡ true }
         ensures refused { result ≡ Err LimitReached → (world_of self.new ≡ after (attempt_step attempt.now) (world_of self.old)) × (writer_of self.new ≡ writer_of self.old) }
         ensures again { IsSome (world_of self.old).fault → self.new ≡ self.old }
@@ -77,14 +75,15 @@ impl<W: Write> SimBus<W> {
     /// A call at a root port.
     #[tactic(auto, unfolding(usb_world::specs::Steps::after))]
     fn call_root(&mut self, port: u8, call: PortCall)
-        ensures { world_of self.new ≡ after (root_call call port) (world_of self.old) }
+        ensures world { world_of self.new ≡ after (root_call call port) (world_of self.old) }
+        ensures writer { writer_of self.new ≡ writer_of self.old }
     {
         self.roots.call(port, call);
         self.losses = self.losses.after_clearing(clears_connection_change(call));
     }
 
     /// The events that are due, and then an attempt and its line.
-    #[tactic(auto, unfolding(usb_world::specs::Steps::ready, usb_world::specs::Steps::with_attempt, usb_world::specs::Steps::outcome_in, crate::specs::Lines::attempted_lines))]
+    #[tactic(auto, unfolding(usb_world::specs::Steps::ready, usb_world::specs::Steps::with_attempt, usb_world::specs::Steps::outcome_in, crate::specs::Lines::step_lines))]
     fn make_attempt(&mut self, attempt: &Attempt) -> Result<Outcome, BusFault>
         requires attempt { IsAttempt attempt.now }
         requires sound { (world_of self.old).fault ≡ None }
@@ -95,7 +94,7 @@ impl<W: Write> SimBus<W> {
         ensures exact { OnOk result (world_of self.new ≡ with_attempt attempt.now (ready (world_of self.old))) }
         ensures left { IfErr result (λ f. Left attempt.now (world_of self.old) f (record (world_of self.new) { fault = None })) }
         ensures outcome { IfOk result (λ outcome. outcome ≡ outcome_in attempt.now (world_of self.old)) }
-        ensures lines { OnOk result (Appends (W.contents (inner_of (writer_of self.old))) (W.contents (inner_of (writer_of self.new))) (attempted_lines attempt.now (world_of self.old))) }
+        ensures text { Writes result (W.contents (inner_of (writer_of self.old))) (W.contents (inner_of (writer_of self.new))) (step_lines attempt.now (world_of self.old) (world_of self.new)) }
         ensures fault { (world_of self.new).fault ≡ fault_of result }
         ensures other { IfErr result (λ f. f ≢ LimitReached) }
         ensures trace { result ≡ Err TraceFailed → has_failed (writer_of self.new) ≡ true }

@@ -5,9 +5,9 @@ ghost use Rattle.usb_device.specs.Tree.{row_of, changed, replaced};
 ghost use Rattle.usb_world.specs.World.{Spends, changes, to_come};
 ghost use Rattle.usb_world.specs.Steps.{TookEvent, Coming, after, event, happened, has_due, ready, took_first, fault_of};
 ghost use Rattle.usb_world.specs.PlanData.{can_be_done};
-ghost use Rattle.usb_bus.specs.Lines.{action_line, next_line, next_due, due_lines};
+ghost use Rattle.usb_bus.specs.Lines.{action_line, next_due, lines_between};
 ghost use Rattle.usb_bus.specs.Trace.{plug_line, unplug_line};
-ghost use Rattle.usb_bus.specs.Watch.{inner_of, has_failed, AppendsFront};
+ghost use Rattle.usb_bus.specs.Watch.{inner_of, has_failed, AppendsFront, Writes};
 ghost use Rattle.usb_world.specs.declared.types.BusFault.TheVariants.{LimitReached, Memory, TraceFailed};
 
 use super::SimBus;
@@ -30,7 +30,7 @@ impl<W: Write> SimBus<W> {
         ensures event { TookEvent (world_of self.old) result (world_of self.new) }
         ensures asked { IfOk result (λ due. due ≡ next_due (world_of self.old)) }
         ensures exact { OnOk result (world_of self.new ≡ after event (world_of self.old)) }
-        ensures line { OnOk result (Appends (W.contents (inner_of (writer_of self.old))) (W.contents (inner_of (writer_of self.new))) (next_line (world_of self.old))) }
+        ensures text { Writes result (W.contents (inner_of (writer_of self.old))) (W.contents (inner_of (writer_of self.new))) (lines_between (world_of self.old) (world_of self.new)) }
         ensures trace { result ≡ Err TraceFailed → (world_of self.old).fault ≡ None → has_failed (writer_of self.new) ≡ true }
         ensures kept { result ≡ Err Memory → (world_of self.old).fault ≡ None → (world_of self.new ≡ record (world_of self.old) { fault = Some Memory }) × (writer_of self.new ≡ writer_of self.old) }
         ensures cut { result ≡ Err TraceFailed → (world_of self.old).fault ≡ None → world_of self.new ≡ record (after event (world_of self.old)) { fault = Some TraceFailed } }
@@ -50,7 +50,7 @@ impl<W: Write> SimBus<W> {
         ensures fault { (world_of self.new).fault ≡ fault_of result }
         ensures exact { OnOk result (world_of self.new ≡ ready (world_of self.old)) }
         ensures cut { OnErr result (Coming (world_of self.old) (record (world_of self.new) { fault = None })) }
-        ensures lines { OnOk result (Appends (W.contents (inner_of (writer_of self.old))) (W.contents (inner_of (writer_of self.new))) (due_lines (world_of self.old).left (world_of self.old))) }
+        ensures text { Writes result (W.contents (inner_of (writer_of self.old))) (W.contents (inner_of (writer_of self.new))) (lines_between (world_of self.old) (world_of self.new)) }
         ensures other { IfErr result (λ f. f ≢ LimitReached) }
         ensures trace { result ≡ Err TraceFailed → has_failed (writer_of self.new) ≡ true }
     {
@@ -76,7 +76,7 @@ impl<W: Write> SimBus<W> {
     }
 
     /// The next event comes, if one is left.
-    #[tactic(auto, using(crate::proofs::Comings::next_none, crate::proofs::Comings::due_none, crate::proofs::Comings::line_none))]
+    #[tactic(auto, using(crate::proofs::Comings::next_none, crate::proofs::Comings::due_none))]
     fn take_event(&mut self) -> Result<Option<Due>, BusFault>
         requires sound { (world_of self.old).fault ≡ None }
         ensures spends { Spends 0 (world_of self.old) (world_of self.new) }
@@ -86,7 +86,7 @@ impl<W: Write> SimBus<W> {
         ensures fewer { 0 < to_come (world_of self.old) → OnOk result (to_come (world_of self.new) < to_come (world_of self.old)) }
         ensures asked { IfOk result (λ due. due ≡ next_due (world_of self.old)) }
         ensures exact { OnOk result (world_of self.new ≡ took_first (world_of self.old).left (world_of self.old)) }
-        ensures line { OnOk result (Appends (W.contents (inner_of (writer_of self.old))) (W.contents (inner_of (writer_of self.new))) (next_line (world_of self.old))) }
+        ensures text { Writes result (W.contents (inner_of (writer_of self.old))) (W.contents (inner_of (writer_of self.new))) (lines_between (world_of self.old) (world_of self.new)) }
         ensures kept { result ≡ Err Memory → (world_of self.new ≡ record (world_of self.old) { fault = Some Memory }) × (writer_of self.new ≡ writer_of self.old) }
         ensures cut { result ≡ Err TraceFailed → world_of self.new ≡ record (took_first (world_of self.old).left (world_of self.old)) { fault = Some TraceFailed } }
         ensures other { IfErr result (λ f. f ≢ LimitReached) }

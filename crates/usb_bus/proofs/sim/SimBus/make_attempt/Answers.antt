@@ -9,12 +9,16 @@ use Rattle.usb_world.specs.Exchange.{exchange_in, ports_in, lost_in}
 use Rattle.usb_world.specs.Losses.{AreOfDamages, counted}
 use Rattle.usb_world.specs.World.{World}
 use Rattle.usb_bus.specs.Sim.{world_of}
-use Rattle.usb_bus.specs.Watch.{tells_failure}
+use Rattle.usb_bus.specs.Lines.{lines_between, step_lines}
+use Rattle.usb_bus.specs.Watch.{tells_failure, AppendsFront}
 use Rattle.usb_world.specs.Sane.{IsSane}
 use Rattle.usb_world.specs.Steps.{made_in, IsCut}
 use Rattle.usb_bus.proofs.Attempting.{without_fault, left_at_event, left_at_packet, left_at_line}
 use Rattle.usb_world.proofs.Between.{sane_ports}
-use Rattle.usb_bus.proofs.Comings.{lines_of_attempt, attempt_made, outcome_made_in}
+use Rattle.usb_bus.proofs.Comings.{attempt_made, outcome_made_in, lines_made, lines_alone, writes_alone, writes_told, writes_line, writes_memory}
+use Rattle.usb_bus.proofs.Fronts.{front_after_first}
+use Rattle.std.specs.Io.KnownBytes.{Appends}
+use Rattle.std.proofs.KnownBytes.{Appends-trans}
 use Rattle.usb_world.proofs.Wires.{until_most, losses_after, losses_cleared}
 use Rattle.usb_bus.proofs.sim.SimBus.make_attempt.Goals as goal
 
@@ -140,16 +144,47 @@ returns-clause-outcome g c =
     let made : x ≡ made_in a (world_of mid) = c.in_ok-exchange.ensures.made ∙ ap (λ (d : Option Damage). exchange_in a d mid.roots) damage in
     c.outcome_of.ensures.value ∙ outcome_made_in a (world_of c.args.self.now) (world_of mid) x c.in_ok-take_due_events.ensures.exact made
 
-pub returns-clause-lines : goal.returns-clause-lines
-returns-clause-lines g c =
+pub returns-clause-text : goal.returns-clause-text
+unfolding step_lines lines_between
+returns-clause-text g c =
     let mid = c.take_due_events.new.self in
     let a = c.args.attempt.now in
     let x = c.in_ok-exchange.exchange in
     let damage = c.damage_of-damage.ensures ∙ ap (λ (l : List Damage). damage_of l (mid.attempts + 1)) c.deref.ensures.value in
     let made : x ≡ made_in a (world_of mid) = c.in_ok-exchange.ensures.made ∙ ap (λ (d : Option Damage). exchange_in a d mid.roots) damage in
-    lines_of_attempt a (world_of c.args.self.now) (world_of mid) (mid.attempts + 1) x _ _ _
-    c.in_ok-take_due_events.ensures.exact refl made
-    c.in_ok-take_due_events.ensures.lines c.in_ok-put_attempt.ensures.ok
+    let same : mid.attempts ≡ c.args.self.now.attempts = omega (arith, c.take_due_events.ensures.spends.later, c.take_due_events.ensures.spends.most) in
+    let one : mid.attempts + 1 ≡ c.args.self.now.attempts + 1 = omega (arith, same) in
+    let lines = lines_made a (world_of c.args.self.now) (world_of mid) (record (world_of mid) { attempts = mid.attempts + 1 }) (mid.attempts + 1) x c.in_ok-take_due_events.ensures.exact refl same one refl made in
+    subst (Appends _ _) lines (Appends-trans _ _ _ _ _ c.in_ok-take_due_events.ensures.text c.in_ok-put_attempt.ensures.ok)
+
+pub returns-in_err-put_attempt-clause-text : goal.returns-in_err-put_attempt-clause-text
+unfolding step_lines lines_between
+returns-in_err-put_attempt-clause-text g c =
+    let mid = c.take_due_events.new.self in
+    let a = c.args.attempt.now in
+    let x = c.in_ok-exchange.exchange in
+    let damage = c.damage_of-damage.ensures ∙ ap (λ (l : List Damage). damage_of l (mid.attempts + 1)) c.deref.ensures.value in
+    let made : x ≡ made_in a (world_of mid) = c.in_ok-exchange.ensures.made ∙ ap (λ (d : Option Damage). exchange_in a d mid.roots) damage in
+    let same : mid.attempts ≡ c.args.self.now.attempts = omega (arith, c.take_due_events.ensures.spends.later, c.take_due_events.ensures.spends.most) in
+    let one : mid.attempts + 1 ≡ c.args.self.now.attempts + 1 = omega (arith, same) in
+    let lines = lines_made a (world_of c.args.self.now) (world_of mid) (record (world_of mid) { attempts = mid.attempts + 1 }) (mid.attempts + 1) x c.in_ok-take_due_events.ensures.exact refl same one refl made in
+    writes_line c.from_residual-in_err-put_attempt.result _ _ _ c.from_residual-in_err-put_attempt.ensures.1
+    (subst (AppendsFront _ _) lines (front_after_first _ _ _ _ _ c.in_ok-take_due_events.ensures.text c.put_attempt.ensures.front))
+
+pub returns-in_err-exchange-clause-text : goal.returns-in_err-exchange-clause-text
+unfolding step_lines lines_between
+returns-in_err-exchange-clause-text g c =
+    let mid = c.take_due_events.new.self in
+    let same : mid.attempts ≡ c.args.self.now.attempts = omega (arith, c.take_due_events.ensures.spends.later, c.take_due_events.ensures.spends.most) in
+    writes_memory c.from_residual-in_err-exchange.result _ _ _ c.from_residual-in_err-exchange.ensures.1
+    (subst (Appends _ _) (lines_alone c.args.attempt.now (world_of c.args.self.now) (world_of mid) same) c.in_ok-take_due_events.ensures.text)
+
+pub returns-in_err-take_due_events-clause-text : goal.returns-in_err-take_due_events-clause-text
+returns-in_err-take_due_events-clause-text g c =
+    let mid = c.take_due_events.new.self in
+    let same : mid.attempts ≡ c.args.self.now.attempts = omega (arith, c.take_due_events.ensures.spends.later, c.take_due_events.ensures.spends.most) in
+    writes_alone c.from_residual.result c.args.attempt.now (world_of c.args.self.now) (world_of mid) _ _ same
+    (writes_told c.take_due_events.result c.from_residual.result _ _ _ _ c.in_err-take_due_events.was c.from_residual.ensures.1 c.take_due_events.ensures.text)
 
 pub returns-in_err-exchange-clause-left : goal.returns-in_err-exchange-clause-left
 returns-in_err-exchange-clause-left g c =

@@ -1,4 +1,4 @@
-use Rattle.std.proofs.Common.{◌≡◌, refl, sym, subst, suc, true, length, arith, ◌∙◌, ap, ap₂, ◌∷◌, Bool, Some, List}
+use Rattle.std.proofs.Common.{◌≡◌, refl, sym, subst, suc, true, length, arith, ◌∙◌, ap, ap₂, ◌∷◌, Bool, Some, None, Option, Ok, Result, List}
 use Rattle.std.proofs.lemmas.Bool.{and_parts}
 use Rattle.std.specs.Prelude.{All}
 use Rattle.std.specs.List.{list_all}
@@ -12,10 +12,12 @@ use Rattle.usb_device.specs.Spec.{Spec, IsSpec}
 use Rattle.usb_world.specs.declared.event.Event.{Event}
 use Rattle.usb_world.specs.declared.event.Action.{Action}
 use Rattle.usb_world.specs.Steps.{happened}
+use Rattle.usb_world.specs.declared.event.Due.{Due}
+use Rattle.usb_world.specs.declared.types.BusFault.{BusFault}
 use Rattle.usb_world.specs.declared.types.BusFault.TheVariants.{TraceFailed}
 use Rattle.usb_bus.specs.Watch.{tells_failure}
 use Rattle.usb_bus.specs.Sim.{world_of}
-use Rattle.usb_bus.proofs.Comings.{came_sound, came_faulted, line_next, due_next, popped, front_is}
+use Rattle.usb_bus.proofs.Comings.{came_sound, came_faulted, appends_event, writes_event, writes_none, due_next, popped, front_is}
 use Rattle.usb_bus.proofs.sim.SimBus.take_event.Goals as goal
 
 pub returns-clause-exact : goal.returns-clause-exact
@@ -47,12 +49,29 @@ returns-clause-asked g c =
     let split = popped s.left.items c.pop_front.new.self.items c.pop_front.result e c.pop_front.ensures.items c.unwrap-event.ensures in
     ap Some c.from.ensures ∙ due_next (world_of s) e _ split
 
-pub returns-clause-line : goal.returns-clause-line
-returns-clause-line g c =
+pub returns-clause-text : goal.returns-clause-text
+returns-clause-text g c =
     let s = c.args.self.now in
     let e = c.unwrap-event.result in
     let split = popped s.left.items c.pop_front.new.self.items c.pop_front.result e c.pop_front.ensures.items c.unwrap-event.ensures in
-    rw (← line_next (world_of s) e _ split) (rw c.deref-2.ensures.value at c.in_ok-put_action.ensures.ok)
+    appends_event (world_of s) _ e _ _ _ split refl (rw c.deref-2.ensures.value at c.in_ok-put_action.ensures.ok)
+
+pub returns-in_err-put_action-clause-text : goal.returns-in_err-put_action-clause-text
+returns-in_err-put_action-clause-text g c =
+    let s = c.args.self.now in
+    let e = c.unwrap-event.result in
+    let split = popped s.left.items c.pop_front.new.self.items c.pop_front.result e c.pop_front.ensures.items c.unwrap-event.ensures in
+    writes_event c.from_residual-in_err-put_action.result (world_of s) _ e _ _ _ split refl c.from_residual-in_err-put_action.ensures.1 (rw c.deref-2.ensures.value at c.put_action.ensures.front)
+
+pub returns-in_err-carry_out-clause-text : goal.returns-in_err-carry_out-clause-text
+returns-in_err-carry_out-clause-text g c = writes_none c.from_residual.result (world_of c.args.self.now) _ _ refl
+
+none_came : Result (Option Due) BusFault
+none_came = Ok None
+
+pub returns-in_default-clause-text : goal.returns-in_default-clause-text
+unfolding none_came
+returns-in_default-clause-text g c = writes_none none_came (world_of c.args.self.now) _ _ refl
 
 pub invariant_of-self-2 : goal.invariant_of-self-2
 invariant_of-self-2 g c =
