@@ -1,6 +1,6 @@
 -- What several attempts leave.
 use Rattle.std.proofs.Common.{◌≡◌, subst, arith}
-use Rattle.std.specs.Prelude.{ℕ, ◌+◌, ◌*◌, ◌<◌, ◌≤◌, length, None, Result, Ok}
+use Rattle.std.specs.Prelude.{ℕ, ◌+◌, ◌*◌, ◌<◌, ◌≤◌, length, List, Option, None, Result, Ok}
 use Rattle.arrayvec.specs.ArrayVec.{ArrayVec}
 use Rattle.usb_packet.specs.declared.Toggle.{Toggle}
 use Rattle.usb_packet.specs.declared.Toggle.TheVariants.{Zero, One}
@@ -8,7 +8,8 @@ use Rattle.usb_world.specs.declared.types.Attempt.{Attempt}
 use Rattle.usb_world.specs.declared.types.BusFault.{BusFault}
 use Rattle.usb_world.specs.declared.types.Outcome.{Outcome}
 use Rattle.usb_world.specs.declared.types.Outcome.TheVariants.{Payload, Ack, Nak, Stall, Nothing}
-use Rattle.usb_world.specs.World.{World, Spends, Attempted, FitsMaximum}
+use Rattle.usb_world.specs.World.{World, Spends, Attempted, IsAttempt, FitsMaximum}
+use Rattle.usb_bus.specs.Traced.{Attempts, Traced, attempted, WentOn}
 use Rattle.usb_world.proofs.Counts.{spends_none, spends_then, spends_wider}
 use Rattle.usb_transaction.specs.declared.heard.Heard.TheVariants.{Moved}
 use Rattle.usb_transaction.specs.Heard.{heard_as}
@@ -71,3 +72,12 @@ heard_moved t Nothing bytes e = cc
 
 pub read_fits : {a : Attempt} (toggle : Toggle) (o : Outcome) (bytes : ArrayVec ℕ) {mid new : World} → Moved bytes ≡ heard_as toggle o → Attempted a mid (Ok o) new → length bytes.items ≤ a.max
 read_fits {a} toggle o bytes e next = subst (λ x. FitsMaximum a.max x) (heard_moved toggle o bytes e) next.fits
+
+-- the last attempt, behind those of the tries
+pub went_most : {a : Attempt} {r : Result Outcome BusFault} (n errors waits : ℕ) {old mid new : World} {before t s : Option (List ℕ)} → 3 * waits + errors + 1 ≤ n → Tried errors waits old mid
+    → IsAttempt a → Traced old before mid t → Attempts a mid t r new s → WentOn n old before new s
+went_most {a} {r} n errors waits le t fits traced made = record { spends = tried_most n errors waits le t made.counts; traced = attempted a r fits traced made }
+
+-- all tries, and no more
+pub went_tried : (n errors waits : ℕ) {old now : World} {before s : Option (List ℕ)} → 3 * waits + errors ≤ n → Tried errors waits old now → Traced old before now s → WentOn n old before now s
+went_tried n errors waits {old} {now} le t traced = record { spends = spends_wider (3 * waits + errors) n old now t.spends le; traced = traced }

@@ -1,6 +1,6 @@
 //! IN.
 ghost use Rattle.std.specs.Prelude.{◌≡◌, ◌≤◌, ◌<◌, length, false, IfOk, OnOk, OnErr};
-ghost use Rattle.usb_world.specs.World.{Spends};
+ghost use Rattle.usb_bus.specs.Traced.{Went};
 ghost use Rattle.usb_world.specs.Passes.{IsSettled};
 ghost use Rattle.usb_world.specs.Devices.{EachWas};
 ghost use Rattle.usb_transaction.specs.Answerer.{Answerer};
@@ -36,7 +36,7 @@ pub fn data_in<B: Bus>(
 ) -> Result<Done, TransFault>
     requires target { IsTarget target }
     requires endpoint { ep < 16 }
-    ensures count { Spends 768 (B.world bus.old) (B.world bus.new) }
+    ensures went { Went B.world B.trace 768 bus.old bus.new }
     ensures ends { Ends (B.world bus.old) result (B.world bus.new) }
     ensures heard { Transacted (heard_as toggle.old) (in_attempt target ep) (B.world bus.old) result (B.world bus.new) }
     ensures settled { IsSettled (B.world bus.old).roots }

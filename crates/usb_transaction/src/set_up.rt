@@ -1,6 +1,6 @@
 //! SETUP.
 ghost use Rattle.std.specs.Prelude.{◌≡◌, ◌≢◌, [], false, IfOk, OnOk};
-ghost use Rattle.usb_world.specs.World.{Spends};
+ghost use Rattle.usb_bus.specs.Traced.{Went};
 ghost use Rattle.usb_world.specs.Passes.{IsSettled};
 ghost use Rattle.usb_world.specs.Courses.{is_harmless};
 ghost use Rattle.usb_request.specs.Layout.{setup_of};
@@ -28,7 +28,7 @@ use usb_bus::Bus;
 /// is an error. `Bus` where the bus makes no more steps. It never answers `Stalled` or `Busy`.
 pub fn setup<B: Bus>(bus: &mut B, target: Target, bytes: [u8; 8]) -> Result<Done, TransFault>
     requires { IsTarget target }
-    ensures count { Spends 3 (B.world bus.old) (B.world bus.new) }
+    ensures went { Went B.world B.trace 3 bus.old bus.new }
     ensures ends { SetupEnds (B.world bus.old) result (B.world bus.new) }
     ensures heard { Transacted set_up_as (setup_attempt target bytes) (B.world bus.old) result (B.world bus.new) }
     ensures settled { IsSettled (B.world bus.old).roots }

@@ -1,6 +1,6 @@
 //! OUT.
 ghost use Rattle.std.specs.Prelude.{◌≡◌, ◌≤◌, ◌<◌, [], length, false, IfOk, OnOk, OnErr};
-ghost use Rattle.usb_world.specs.World.{Spends};
+ghost use Rattle.usb_bus.specs.Traced.{Went};
 ghost use Rattle.usb_world.specs.Passes.{IsSettled};
 ghost use Rattle.usb_world.specs.Devices.{EachWas};
 ghost use Rattle.usb_transaction.specs.Answerer.{Answerer};
@@ -38,7 +38,7 @@ pub fn data_out<B: Bus>(
     requires target { IsTarget target }
     requires endpoint { ep < 16 }
     requires short { length bytes.now ≤ target.max }
-    ensures count { Spends 768 (B.world bus.old) (B.world bus.new) }
+    ensures went { Went B.world B.trace 768 bus.old bus.new }
     ensures ends { Ends (B.world bus.old) result (B.world bus.new) }
     ensures heard { Transacted sent_as (out_attempt target ep toggle.old bytes.now) (B.world bus.old) result (B.world bus.new) }
     ensures settled { IsSettled (B.world bus.old).roots }
