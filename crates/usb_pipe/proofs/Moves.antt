@@ -1,6 +1,6 @@
 -- How the packets of a bulk transfer join.
 use Rattle.std.proofs.Common.{◌≡◌, ◌∙◌, refl, sym, ap, add-one, arith, inl, inr}
-use Rattle.std.specs.Prelude.{ℕ, ◌+◌, ◌-◌, ◌*◌, ◌<◌, ◌≤◌, min, None}
+use Rattle.std.specs.Prelude.{ℕ, ◌+◌, ◌-◌, ◌*◌, ◌<◌, ◌≤◌, min, List, Option, None}
 use Rattle.std.specs.Int.{div_ceil}
 use Rattle.std.proofs.lemmas.Bool.{cases_lt}
 use Rattle.std.proofs.lemmas.Nat.{div-mul-add}
@@ -8,6 +8,8 @@ use Rattle.std.proofs.Math.Nat.{add-div_right, add-mod_right, div-eq_of_lt, mod-
 use Rattle.usb_packet.specs.declared.Toggle.{Toggle}
 use Rattle.usb_world.specs.World.{World, Spends}
 use Rattle.usb_world.proofs.Counts.{spends_none, spends_then, spends_wider}
+use Rattle.usb_bus.specs.Traced.{Traced, WentOn}
+use Rattle.usb_bus.proofs.Wents.{traced_then}
 use Rattle.usb_transaction.specs.Heard.{flip}
 use Rattle.usb_transaction.specs.Trans.{Worked}
 use Rattle.usb_pipe.specs.Bulk.{packets_of, Turned}
@@ -44,6 +46,17 @@ moved_more n m first toggle next {old} {mid} {new} is t spends worked e = rw is 
   still = λ _. worked.still;
   turned = flips_more n first toggle next t.turned e;
 })
+
+-- one packet more, whether it was moved or not
+pub moved_went : (n m : ℕ) {first toggle : Toggle} {old mid new : World} {t r s : Option (List ℕ)} → n < m → Moved n first toggle old mid → Traced old t mid r → WentOn 768 mid r new s → WentOn (768 * m) old t new s
+moved_went n m {first} {toggle} {old} {mid} {new} lt moved traced next = record {
+  spends = spends_wider (768 * n + 768) (768 * m) old new (spends_then (768 * n) 768 old mid new moved.spends next.spends) (omega (arith, lt));
+  traced = traced_then traced next.traced;
+}
+
+-- all that were moved
+pub moved_all : (n m : ℕ) {first toggle : Toggle} {old new : World} {t s : Option (List ℕ)} → n ≤ m → Moved n first toggle old new → Traced old t new s → WentOn (768 * m) old t new s
+moved_all n m {first} {toggle} {old} {new} le moved traced = record { spends = spends_wider (768 * n) (768 * m) old new moved.spends (omega (arith, le)); traced = traced }
 
 pub moved_worked : (n m : ℕ) {first toggle : Toggle} {old now : World} → 0 < n → m ≤ n → Moved n first toggle old now → Worked m old now
 moved_worked n m lt le t = record { sound = t.sound (t.still lt); least = omega (arith, t.least, le); still = t.still lt }

@@ -42,7 +42,7 @@ impl BulkPipe {
     ghost use Rattle.std.specs.Prelude.{◌≡◌, ◌≢◌, ◌*◌, ◌<◌, ◌≤◌, true, false, [], length, OnOk};
     ghost use Rattle.std.specs.Int.{div_ceil};
     ghost use Rattle.usb_packet.specs.declared.Toggle.TheVariants.{Zero};
-    ghost use Rattle.usb_world.specs.World.{Spends};
+    ghost use Rattle.usb_bus.specs.Traced.{Went};
     ghost use Rattle.usb_world.specs.Devices.{EachWas};
     ghost use Rattle.usb_transaction.specs.Trans.{IsTarget};
     ghost use Rattle.usb_transaction.specs.Why.{NoThreeDamaged};
@@ -85,7 +85,7 @@ impl BulkPipe {
     /// bytes was taken, too. It never answers `Memory`.
     pub fn send<B: Bus>(&mut self, bus: &mut B, bytes: &[u8]) -> Result<(), PipeFault>
         requires writes { self.old.is_in ≡ false }
-        ensures count { Spends (768 * div_ceil (length bytes.now) self.old.max) (B.world bus.old) (B.world bus.new) }
+        ensures went { Went B.world B.trace (768 * div_ceil (length bytes.now) self.old.max) bus.old bus.new }
         ensures sends { Sends bytes.now self.old (B.world bus.old) result self.new (B.world bus.new) }
         ensures what { (B.world bus.new).shared ≡ false
             → EachWas (SendLeaves bytes.now self.old result self.new)
@@ -121,7 +121,7 @@ impl BulkPipe {
         packets: u16,
     ) -> Result<Vec<u8>, PipeFault>
         requires reads { self.old.is_in ≡ true }
-        ensures count { Spends (768 * packets) (B.world bus.old) (B.world bus.new) }
+        ensures went { Went B.world B.trace (768 * packets) bus.old bus.new }
         ensures receives { Receives packets self.old (B.world bus.old) result self.new (B.world bus.new) }
         ensures what { (B.world bus.new).shared ≡ false
             → EachWas (ReceiveLeaves self.old result self.new) (B.world bus.old) (B.world bus.new) }
@@ -158,7 +158,7 @@ impl BulkPipe {
     /// the device may have cleared its halt; `Bus` where the bus makes no more steps. It never
     /// answers `Broken` or `Memory`.
     pub fn clear_halt<B: Bus>(&mut self, bus: &mut B) -> Result<(), PipeFault>
-        ensures count { Spends 1600 (B.world bus.old) (B.world bus.new) }
+        ensures went { Went B.world B.trace 1600 bus.old bus.new }
         ensures clears { Clears self.old (B.world bus.old) result self.new (B.world bus.new) }
         ensures what { (B.world bus.new).shared ≡ false
             → EachWas (ClearLeaves self.old result self.new) (B.world bus.old) (B.world bus.new) }
@@ -171,7 +171,7 @@ impl BulkPipe {
     }
 
     fn request_clear<B: Bus>(&mut self, bus: &mut B) -> Result<(), PipeFault>
-        ensures count { Spends 1600 (B.world bus.old) (B.world bus.new) }
+        ensures went { Went B.world B.trace 1600 bus.old bus.new }
         ensures clears { Cleared self.old (B.world bus.old) result self.new (B.world bus.new) }
     {
         let request = Setup::clear_endpoint_halt(halt_address(self.ep, self.is_in));

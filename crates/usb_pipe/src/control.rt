@@ -1,6 +1,6 @@
 //! Control transfers (8.5.3).
 ghost use Rattle.std.specs.Prelude.{◌≡◌, ◌≤◌, Err, ◌≢◌, length, false, true, OnOk, IfOk, MatchResult};
-ghost use Rattle.usb_world.specs.World.{Spends};
+ghost use Rattle.usb_bus.specs.Traced.{Went};
 ghost use Rattle.usb_world.specs.Passes.{IsSettled};
 ghost use Rattle.usb_world.specs.Courses.{is_harmless};
 ghost use Rattle.usb_world.specs.Devices.{EachWas};
@@ -44,7 +44,7 @@ pub fn control_in<B: Bus>(
     requires target { IsTarget target }
     requires reads { IsToHost setup }
     requires some { 1 ≤ setup.length }
-    ensures count { Spends (control_bound target.max setup.length) (B.world bus.old) (B.world bus.new) }
+    ensures went { Went B.world B.trace (control_bound target.max setup.length) bus.old bus.new }
     ensures ends { MatchResult result (λ _. Worked 3 (B.world bus.old) (B.world bus.new)) (λ fault. Faults 1 (B.world bus.old) fault (B.world bus.new)) }
     ensures stages { Reads target setup (B.world bus.old) result (B.world bus.new) }
     ensures settled { IsSettled (B.world bus.old).roots }
@@ -78,7 +78,7 @@ pub fn control_none<B: Bus>(bus: &mut B, target: Target, setup: Setup) -> Result
     requires target { IsTarget target }
     requires writes { IsToDevice setup }
     requires none { setup.length ≡ 0 }
-    ensures count { Spends 1600 (B.world bus.old) (B.world bus.new) }
+    ensures went { Went B.world B.trace 1600 bus.old bus.new }
     ensures ends { MatchResult result (λ _. Worked 2 (B.world bus.old) (B.world bus.new)) (λ fault. Faults 1 (B.world bus.old) fault (B.world bus.new)) }
     ensures stages { Writes target setup (B.world bus.old) result (B.world bus.new) }
     ensures settled { IsSettled (B.world bus.old).roots }

@@ -31,7 +31,7 @@ impl Model for InterruptPipe {
 impl InterruptPipe {
     ghost use Rattle.std.specs.Prelude.{◌≡◌, ◌<◌, ◌≤◌, false, OnOk};
     ghost use Rattle.usb_packet.specs.declared.Toggle.TheVariants.{Zero};
-    ghost use Rattle.usb_world.specs.World.{Spends};
+    ghost use Rattle.usb_bus.specs.Traced.{Went};
     ghost use Rattle.usb_world.specs.Passes.{IsSettled};
     ghost use Rattle.usb_world.specs.Devices.{EachWas};
     ghost use Rattle.usb_transaction.specs.Trans.{IsTarget};
@@ -66,7 +66,7 @@ impl InterruptPipe {
     /// `Stalled` at STALL, `Busy` at the 256th repeat, `NoAnswer` after three errors running, `Bus`
     /// where the bus makes no more steps. It never answers `Broken` or `Memory`.
     pub fn poll<B: Bus>(&mut self, bus: &mut B) -> Result<Option<ArrayVec<u8, 64>>, PipeFault>
-        ensures count { Spends 768 (B.world bus.old) (B.world bus.new) }
+        ensures went { Went B.world B.trace 768 bus.old bus.new }
         ensures polls { Polls self.old (B.world bus.old) result self.new (B.world bus.new) }
         ensures settled { IsSettled (B.world bus.old).roots }
         ensures what { self.old.ep ≡ 1 → (B.world bus.new).shared ≡ false

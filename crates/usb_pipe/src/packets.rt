@@ -1,7 +1,7 @@
 //! The packets of a bulk transfer (5.8.3).
 ghost use Rattle.std.specs.Prelude.{◌≡◌, ◌≢◌, ◌*◌, ◌<◌, ◌≤◌, length, Err, OnOk, IfOk, MatchResult};
 ghost use Rattle.std.specs.Int.{div_ceil};
-ghost use Rattle.usb_world.specs.World.{Spends};
+ghost use Rattle.usb_bus.specs.Traced.{Went};
 ghost use Rattle.usb_world.specs.Passes.{IsSettled};
 ghost use Rattle.usb_transaction.specs.Trans.{IsTarget, Worked};
 ghost use Rattle.usb_pipe.specs.Control.{Faults};
@@ -25,7 +25,7 @@ pub(crate) fn send_packets<B: Bus>(
     requires target { IsTarget target }
     requires endpoint { ep < 16 }
     requires some { 0 < length bytes.now }
-    ensures count { Spends (768 * div_ceil (length bytes.now) target.max) (B.world bus.old) (B.world bus.new) }
+    ensures went { Went B.world B.trace (768 * div_ceil (length bytes.now) target.max) bus.old bus.new }
     ensures ends { MatchResult result (λ _. Worked (div_ceil (length bytes.now) target.max) (B.world bus.old) (B.world bus.new)) (λ fault. Faults 0 (B.world bus.old) fault (B.world bus.new)) }
     ensures moves { SendEnds target ep toggle.old bytes.now (B.world bus.old) result (B.world bus.new) }
     ensures settled { IsSettled (B.world bus.old).roots }
@@ -54,7 +54,7 @@ pub(crate) fn receive_packets<B: Bus>(
     requires target { IsTarget target }
     requires endpoint { ep < 16 }
     requires some { 0 < wanted }
-    ensures count { Spends (768 * wanted) (B.world bus.old) (B.world bus.new) }
+    ensures went { Went B.world B.trace (768 * wanted) bus.old bus.new }
     ensures ends { MatchResult result (λ bytes. Worked (packets_of (length bytes.items) target.max wanted) (B.world bus.old) (B.world bus.new)) (λ fault. Faults 0 (B.world bus.old) fault (B.world bus.new)) }
     ensures moves { ReceiveEnds target ep toggle.old wanted (B.world bus.old) result (B.world bus.new) }
     ensures settled { IsSettled (B.world bus.old).roots }

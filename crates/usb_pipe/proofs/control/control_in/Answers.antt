@@ -1,3 +1,4 @@
+use Rattle.usb_pipe.proofs.Stages.{set_up_went, data_went, status_went}
 use Rattle.std.proofs.Common.{Ok}
 use Rattle.usb_pipe.specs.Stages.{Reads}
 use Rattle.usb_pipe.proofs.Controls.{read_at_setup, read_at_data, read_at_status, read_done, what_read}
@@ -76,3 +77,17 @@ pub returns-clause-who : goal.returns-clause-who
 returns-clause-who g c =
     let stages = done g (goal.at.returns-clause-who g c).In_ok-data_out in
     who_read c.args.target c.args.setup _ c.to_bytes-request.result c.in_ok-bytes.bytes c.requires.reads c.to_bytes-request.ensures.bytes c.to_bytes-request.ensures.fields c.setup.ensures.settled stages
+
+-- What went
+
+pub returns-in_err-setup-clause-went : goal.returns-in_err-setup-clause-went
+returns-in_err-setup-clause-went g c = set_up_went c.args.target.max c.args.setup.length c.setup.ensures.went
+
+pub returns-in_err-bytes-clause-went : goal.returns-in_err-bytes-clause-went
+returns-in_err-bytes-clause-went g c = data_went c.args.target.max c.args.setup.length c.setup.ensures.went c.data_stage.ensures.went
+
+pub returns-in_err-data_out-clause-went : goal.returns-in_err-data_out-clause-went
+returns-in_err-data_out-clause-went g c = status_went c.args.target.max c.args.setup.length c.setup.ensures.went c.data_stage.ensures.went c.data_out.ensures.went
+
+pub returns-clause-went : goal.returns-clause-went
+returns-clause-went g c = status_went c.args.target.max c.args.setup.length c.setup.ensures.went c.data_stage.ensures.went c.data_out.ensures.went

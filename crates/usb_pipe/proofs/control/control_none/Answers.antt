@@ -1,3 +1,5 @@
+use Rattle.std.proofs.Common.{arith}
+use Rattle.usb_bus.proofs.Wents.{went_then, went_wider}
 use Rattle.std.proofs.Common.{Ok}
 use Rattle.usb_pipe.specs.Stages.{Writes}
 use Rattle.usb_pipe.proofs.Controls.{write_at_setup, write_at_status, write_done, what_write}
@@ -75,3 +77,14 @@ pub returns-clause-losses : goal.returns-clause-losses
 returns-clause-losses g c =
     let stages = done g (goal.at.returns-clause-losses g c).In_ok-data_in in
     losses_write c.args.target c.args.setup _ c.to_bytes.result (Ok tt) c.to_bytes.ensures.bytes c.to_bytes.ensures.fields c.setup.ensures.settled stages
+
+-- What went
+
+pub returns-in_err-setup-clause-went : goal.returns-in_err-setup-clause-went
+returns-in_err-setup-clause-went g c = went_wider 3 1600 c.setup.ensures.went (omega arith)
+
+pub returns-in_err-data_in-clause-went : goal.returns-in_err-data_in-clause-went
+returns-in_err-data_in-clause-went g c = went_wider 771 1600 (went_then 3 768 c.setup.ensures.went c.data_in.ensures.went) (omega arith)
+
+pub returns-clause-went : goal.returns-clause-went
+returns-clause-went g c = went_wider 771 1600 (went_then 3 768 c.setup.ensures.went c.data_in.ensures.went) (omega arith)

@@ -1,9 +1,11 @@
+use Rattle.usb_bus.specs.Traced.{still}
+use Rattle.usb_bus.proofs.Wents.{traced_then}
 use Rattle.std.proofs.Common.{◌≡◌, ◌≢◌, ◌∙◌, sym, subst, Bool, nat_eq, ℕ, ◌<◌, ◌+◌, ◌-◌, length, arith, true, false}
 use Rattle.std.proofs.lemmas.Bool.{eqb-true, eqb-false}
 use Rattle.std.proofs.lemmas.List.{nil_from_length}
 use Rattle.std.specs.Prelude.{min}
 use Rattle.std.specs.Int.{div_ceil}
-use Rattle.usb_pipe.proofs.Moves.{Moved, moved_none, moved_more, moved_worked, moved_turned, packets_one, packets_none, packets_some}
+use Rattle.usb_pipe.proofs.Moves.{Moved, moved_went, moved_all, moved_none, moved_more, moved_worked, moved_turned, packets_one, packets_none, packets_some}
 use Rattle.usb_pipe.proofs.Gone.{going_none, going_more, all_gone, not_gone}
 use Rattle.usb_packet.specs.declared.Toggle.{Toggle}
 use Rattle.usb_world.specs.World.{World}
@@ -15,6 +17,7 @@ packets-init g c =
     let none : div_ceil (length c.args.bytes.now) c.args.target.max - div_ceil (length c.args.bytes.now) c.args.target.max ≡ 0 = omega arith in record {
       left = omega arith;
       moved = rw none (moved_none _ _);
+      traced = still;
       settled = since_now _ _ (omega arith);
       going = going_none c.args.target c.args.ep _ c.args.bytes.now _;
     }
@@ -38,7 +41,8 @@ packets-preserved g c =
     let parts : length c.packets.rest.now ≡ length c.split_at.result.0.now + length c.split_at.result.1.now = omega (arith, c.split_at.ensures.front_len, c.split_at.ensures.back_len, c.min.ensures) in
     let one = packets_one _ _ _ _ c.requires.target.max_least some size parts in record {
       left = omega (arith, one, c.packets.invariant.left);
-      moved = moved_more _ _ _ _ _ (omega (arith, one, c.packets.invariant.left)) c.packets.invariant.moved c.data_out.ensures.count c.in_ok-data_out.ensures.ends c.in_ok-data_out.ensures.toggle_ok;
+      moved = moved_more _ _ _ _ _ (omega (arith, one, c.packets.invariant.left)) c.packets.invariant.moved c.data_out.ensures.went.spends c.in_ok-data_out.ensures.ends c.in_ok-data_out.ensures.toggle_ok;
+      traced = traced_then c.packets.invariant.traced c.data_out.ensures.went.traced;
       settled = since_more _ _ _ c.packets.invariant.settled c.data_out.ensures.settled;
       going = going_more c.args.target c.args.ep _ c.args.bytes.now c.min.result c.requires.target.max_least some fits c.split_at.ensures.front c.split_at.ensures.back c.packets.invariant.going c.in_ok-data_out.ensures.heard c.in_ok-data_out.ensures.nothing c.in_ok-data_out.ensures.toggle_ok;
     }
@@ -47,8 +51,14 @@ packets-preserved g c =
 all_sent : (total left : ℕ) (first toggle : Toggle) (old now : World) → left ≡ 0 → Moved (total - left) first toggle old now → Moved total first toggle old now
 all_sent total left first toggle old now none t = subst (λ n. Moved n first toggle old now) (omega arith) t
 
-pub returns-clause-count : goal.returns-clause-count
-returns-clause-count g c = (all_sent _ _ _ _ _ _ (packets_none _ c.args.target.max (zero_is _ _ c.is_empty.ensures c.packets-test.false)) c.packets.invariant.moved).spends
+pub returns-clause-went : goal.returns-clause-went
+returns-clause-went g c =
+    moved_all _ _ (omega arith) (all_sent _ _ _ _ _ _ (packets_none _ c.args.target.max (zero_is _ _ c.is_empty.ensures c.packets-test.false)) c.packets.invariant.moved) c.packets.invariant.traced
+
+pub returns-in_err-data_out-clause-went : goal.returns-in_err-data_out-clause-went
+returns-in_err-data_out-clause-went g c =
+    let left = packets_some (length c.packets.rest.now) c.args.target.max c.requires.target.max_least (nonzero _ _ c.is_empty.ensures c.packets-test.true) in
+    moved_went _ _ (omega (arith, left, c.packets.invariant.left)) c.packets.invariant.moved c.packets.invariant.traced c.data_out.ensures.went
 
 pub returns-clause-ends : goal.returns-clause-ends
 returns-clause-ends g c =

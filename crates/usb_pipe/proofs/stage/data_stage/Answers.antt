@@ -1,7 +1,9 @@
+use Rattle.usb_bus.specs.Traced.{still}
+use Rattle.usb_bus.proofs.Wents.{traced_then}
 use Rattle.std.proofs.Common.{◌≡◌, ◌≤◌, ◌<◌, ◌+◌, ◌-◌, ◌++◌, take, length, arith, refl, sym, ap, ◌∙◌, true, false}
 use Rattle.usb_pipe.specs.Control.{is_last}
 use Rattle.usb_pipe.proofs.DataStages.{onward_none, onward_more, data_ends, lost_ends, no_room_ends}
-use Rattle.usb_pipe.proofs.Stages.{staged_none, staged_more, kept_full, GoesOn, goes_on}
+use Rattle.usb_pipe.proofs.Stages.{staged_none, staged_more, staged_went, kept_full, GoesOn, goes_on}
 use Rattle.usb_pipe.proofs.Settling.{since_now, since_more}
 use Rattle.usb_pipe.proofs.stage.data_stage.Goals as goal
 
@@ -9,6 +11,7 @@ pub packets-init : goal.packets-init
 packets-init g c = record {
   few = rw c.new-bytes.ensures.items c.requires.some;
   staged = staged_none c.args.target.max _ _ (ap length c.new-bytes.ensures.items);
+  traced = still;
   settled = since_now 0 _ refl;
   onward = onward_none c.args.target c.args.wanted _ _ c.new-bytes.ensures.items;
 }
@@ -25,7 +28,8 @@ packets-preserved g c =
     let len : c.len.result ≡ length c.keep.new.bytes.items = omega (arith, c.len.ensures) in
     let more_comes : is_last (length c.in_ok-packet.packet) c.args.target.max (length c.keep.new.bytes.items) c.args.wanted ≡ false = rw (sym c.bytes-in-packets.ensures.value, sym len) (sym c.last.ensures ∙ c.if-last.false) in record {
       few = more;
-      staged = staged_more _ _ _ _ _ _ c.requires.target.max_least grown c.packets.invariant.staged c.data_in.ensures.count c.in_ok-packet.ensures.ends;
+      staged = staged_more _ _ _ _ _ _ c.requires.target.max_least grown c.packets.invariant.staged c.data_in.ensures.went.spends c.in_ok-packet.ensures.ends;
+      traced = traced_then c.packets.invariant.traced c.data_in.ensures.went.traced;
       settled = since_more 0 0 _ c.packets.invariant.settled c.data_in.ensures.settled;
       onward = onward_more c.args.target c.args.wanted c.in_ok-packet.packet c.packets.invariant.onward c.in_ok-packet.ensures.heard kept more_comes c.in_ok-packet.ensures.toggle_ok;
     }
@@ -42,3 +46,12 @@ returns-in_err-packet-clause-packets g c = lost_ends c.args.target c.args.wanted
 
 pub returns-in_err-keep-clause-packets : goal.returns-in_err-keep-clause-packets
 returns-in_err-keep-clause-packets g c = no_room_ends c.args.target c.args.wanted c.in_ok-packet.packet c.from_residual-in_err-keep.result c.from_residual-in_err-keep.ensures.0 c.from_residual-in_err-keep.ensures.1 c.packets.invariant.onward c.in_ok-packet.ensures.heard
+
+pub returns-in_err-packet-clause-went : goal.returns-in_err-packet-clause-went
+returns-in_err-packet-clause-went g c = staged_went c.args.target.max _ c.args.wanted c.packets.invariant.few c.packets.invariant.staged c.packets.invariant.traced c.data_in.ensures.went
+
+pub returns-in_err-keep-clause-went : goal.returns-in_err-keep-clause-went
+returns-in_err-keep-clause-went g c = staged_went c.args.target.max _ c.args.wanted c.packets.invariant.few c.packets.invariant.staged c.packets.invariant.traced c.data_in.ensures.went
+
+pub returns-then-last-clause-went : goal.returns-then-last-clause-went
+returns-then-last-clause-went g c = staged_went c.args.target.max _ c.args.wanted c.packets.invariant.few c.packets.invariant.staged c.packets.invariant.traced c.data_in.ensures.went

@@ -1,3 +1,5 @@
+use Rattle.std.proofs.Common.{arith}
+use Rattle.usb_bus.proofs.Wents.{went_none, went_wider}
 use Rattle.std.proofs.Common.{ap}
 use Rattle.usb_pipe.specs.Bulk.{Clears}
 use Rattle.usb_pipe.proofs.WholeClears.{clear_leaves}
@@ -14,3 +16,6 @@ returns-in-Halted-clause-what g c = clear_leaves c.args.self.now c.request_clear
 
 pub returns-in-Halted-clause-why : goal.returns-in-Halted-clause-why
 returns-in-Halted-clause-why g c three = clear_why c.args.self.now c.request_clear.result c.request_clear.new.self _ _ three (clears g (goal.at.returns-in-Halted-clause-why g c).After-request_clear)
+
+pub returns-in-Ready-clause-went : goal.returns-in-Ready-clause-went
+returns-in-Ready-clause-went g c = went_wider 0 _ went_none (omega arith)

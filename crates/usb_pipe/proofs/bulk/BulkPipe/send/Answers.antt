@@ -1,3 +1,5 @@
+use Rattle.std.proofs.Common.{arith}
+use Rattle.usb_bus.proofs.Wents.{went_none, went_wider}
 use Rattle.usb_pipe.proofs.Bulks.{not_broken, some_bytes, what_sent, why_sent, who_sent}
 use Rattle.usb_pipe.proofs.bulk.BulkPipe.send.Goals as goal
 
@@ -24,3 +26,9 @@ returns-clause-who g c =
     (not_broken c.self.inside.condition c.is_broken.result c.is_broken.ensures c.if-is_broken.false)
     (some_bytes c.args.bytes.now c.is_empty.result c.is_empty.ensures c.if-is_empty.false) c.packet_target.ensures.value c.after_transfer-self-inside.ensures
     (record { ends = told.ends; moves = told.moves; settled = told.settled; room = told.room; turned = told.toggle; halted = told.halted })
+
+pub returns-then-is_broken-clause-went : goal.returns-then-is_broken-clause-went
+returns-then-is_broken-clause-went g c = went_wider 0 _ went_none (omega arith)
+
+pub returns-then-is_empty-clause-went : goal.returns-then-is_empty-clause-went
+returns-then-is_empty-clause-went g c = went_wider 0 _ went_none (omega arith)
