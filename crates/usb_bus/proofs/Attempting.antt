@@ -11,13 +11,13 @@ use Rattle.usb_world.specs.declared.types.BusFault.TheVariants.{LimitReached, Me
 use Rattle.usb_world.specs.World.{World}
 use Rattle.usb_world.specs.Steps.{ready, with_attempt, attempted, attempt, event, event_taken, took_first, after, fault_of, Left, Coming, at_event, at_packet, at_line, AttemptFails, IsCut, damage_in}
 use Rattle.usb_device.specs.Tree.{Ports}
-use Rattle.std.specs.Prelude.{List, IfOk, ◌+◌}
-use Rattle.usb_world.specs.World.{AttemptEnds, AnswerFits, Spends}
-use Rattle.usb_world.specs.Steps.{outcome_in}
+use Rattle.std.specs.Prelude.{List, IfOk, IsSome, is_some, ◌+◌}
+use Rattle.usb_world.specs.World.{AttemptEnds, AnswerFits, Spends, to_come}
+use Rattle.usb_world.specs.Steps.{EventEnds, outcome_in}
 use Rattle.usb_world.proofs.Counts.{spends_none, spends_wider}
-use Rattle.usb_bus.specs.Lines.{step_lines}
+use Rattle.usb_bus.specs.Lines.{lines_between, next_due, step_lines}
 use Rattle.usb_bus.specs.Watch.{Writes}
-use Rattle.usb_bus.specs.Traced.{Attempts}
+use Rattle.usb_bus.specs.Traced.{Attempts, Takes}
 use Rattle.usb_bus.proofs.Comings.{not_same, writes_none, writes_alone}
 use Rattle.usb_device.specs.Delivery.{held, is_twice}
 
@@ -157,5 +157,53 @@ made_attempts r a w v t s sound below spends one fits exact left outcome told ot
   exact = made_exact r a w v sound below exact;
   outcome = outcome;
   fails = λ none. fails_at r a w v told below other left;
+  text = text;
+}
+
+-- What an event is, at each of its ends
+
+abbrev untaken : BusFault → Result (Option Due) BusFault
+untaken f = Err f
+
+same_fault : (f x : BusFault) → Some f ≡ Some x → untaken f ≡ untaken x
+same_fault f x e = cc e
+
+err_is : (f : BusFault) → untaken f ≡ Err LimitReached → f ≡ LimitReached
+err_is f e = cc e
+
+pub again_takes : (w : World) (t : Option (List ℕ)) (f : BusFault) → Some f ≡ w.fault → (w.fault ≡ Some LimitReached → w.attempts ≡ w.limit) → Takes w t (Err f) w t
+again_takes w t f told limit = record {
+  took = record {
+    spends = spends_none w;
+    ends = record { told = sym told; at_limit = λ e. limit (sym told ∙ ap Some e) };
+    again = λ x e. (same_fault f x (told ∙ e), refl);
+  };
+  asked = tt;
+  exact = tt;
+  kept = λ e none. absurd (cc (told, none));
+  cut = λ e none. absurd (cc (told, none));
+  limit = λ e. ap is_some (sym told);
+  text = writes_none (untaken f) w w t refl;
+}
+
+event_ends : (r : Result (Option Due) BusFault) (w v : World) → w.fault ≡ None → v.fault ≡ fault_of r → (r ≡ Ok None → (to_come w ≡ 0) × (v ≡ w)) → IfOk r (λ due. IsSome due → v.taken ≡ w.taken + 1) → IfErr r (λ x. x ≢ LimitReached) → EventEnds w r v
+event_ends (Ok None) w v sound told none one other = record { sound = sound; none = (none refl).0; same = (none refl).1 }
+event_ends (Ok (Some due)) w v sound told none one other = record { sound = sound; one = one refl; still = told }
+event_ends (Err f) w v sound told none one other = record { told = told; at_limit = λ e. absurd (other e) }
+
+never_limit : (r : Result (Option Due) BusFault) {P : Type 0} → IfErr r (λ x. x ≢ LimitReached) → r ≡ Err LimitReached → P
+never_limit (Ok x) other e = cc e
+never_limit (Err f) other e = absurd (other (err_is f e))
+
+pub taken_takes : (r : Result (Option Due) BusFault) (w v : World) (t s : Option (List ℕ)) → w.fault ≡ None → Spends 0 w v → v.fault ≡ fault_of r → (r ≡ Ok None → (to_come w ≡ 0) × (v ≡ w))
+    → IfOk r (λ due. IsSome due → v.taken ≡ w.taken + 1) → IfOk r (λ due. due ≡ next_due w) → OnOk r (v ≡ took_first w.left w) → (r ≡ Err Memory → v ≡ record w { fault = Some Memory })
+    → (r ≡ Err TraceFailed → v ≡ record (took_first w.left w) { fault = Some TraceFailed }) → IfErr r (λ x. x ≢ LimitReached) → Writes r t s (lines_between w v) → Takes w t r v s
+taken_takes r w v t s sound spends told none one asked exact kept cut other text = record {
+  took = record { spends = spends; ends = event_ends r w v sound told none one other; again = λ x h. absurd (cc (sound, h)) };
+  asked = asked;
+  exact = event_exact r w v sound exact;
+  kept = λ e _. kept e;
+  cut = λ e sound. event_cut w v sound (cut e);
+  limit = λ e. never_limit r other e;
   text = text;
 }

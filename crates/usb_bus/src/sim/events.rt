@@ -3,10 +3,11 @@ ghost use Rattle.std.specs.Prelude.{◌≡◌, ◌≢◌, ◌+◌, ◌<◌, ◌�
 ghost use Rattle.std.specs.Io.KnownBytes.{Appends};
 ghost use Rattle.usb_device.specs.Tree.{row_of, changed, replaced};
 ghost use Rattle.usb_world.specs.World.{Spends, changes, to_come};
-ghost use Rattle.usb_world.specs.Steps.{TookEvent, Coming, after, event, happened, has_due, ready, took_first, fault_of};
+ghost use Rattle.usb_world.specs.Steps.{Coming, after, event, happened, has_due, ready, took_first, fault_of};
 ghost use Rattle.usb_world.specs.PlanData.{can_be_done};
 ghost use Rattle.usb_bus.specs.Lines.{action_line, next_due, lines_between};
 ghost use Rattle.usb_bus.specs.Trace.{plug_line, unplug_line};
+ghost use Rattle.usb_bus.specs.Traced.{Takes};
 ghost use Rattle.usb_bus.specs.Watch.{inner_of, has_failed, AppendsFront, Writes};
 ghost use Rattle.usb_world.specs.declared.types.BusFault.TheVariants.{LimitReached, Memory, TraceFailed};
 
@@ -27,15 +28,10 @@ impl<W: Write> SimBus<W> {
     /// Errors: the fault that was told before; `Memory` where the device could not be made, and the event did not
     /// come; `TraceFailed` where the writer failed in this call, and the event came.
     pub fn apply_next_event(&mut self) -> Result<Option<Due>, BusFault>
-        ensures event { TookEvent (world_of self.old) result (world_of self.new) }
-        ensures asked { IfOk result (λ due. due ≡ next_due (world_of self.old)) }
-        ensures exact { OnOk result (world_of self.new ≡ after event (world_of self.old)) }
-        ensures text { Writes result (W.contents (inner_of (writer_of self.old))) (W.contents (inner_of (writer_of self.new))) (lines_between (world_of self.old) (world_of self.new)) }
+        ensures takes { Takes (world_of self.old) (W.contents (inner_of (writer_of self.old))) result (world_of self.new) (W.contents (inner_of (writer_of self.new))) }
         ensures trace { result ≡ Err TraceFailed → (world_of self.old).fault ≡ None → has_failed (writer_of self.new) ≡ true }
-        ensures kept { result ≡ Err Memory → (world_of self.old).fault ≡ None → (world_of self.new ≡ record (world_of self.old) { fault = Some Memory }) × (writer_of self.new ≡ writer_of self.old) }
-        ensures cut { result ≡ Err TraceFailed → (world_of self.old).fault ≡ None → world_of self.new ≡ record (after event (world_of self.old)) { fault = Some TraceFailed } }
+        ensures kept { result ≡ Err Memory → writer_of self.new ≡ writer_of self.old }
         ensures again { IsSome (world_of self.old).fault → self.new ≡ self.old }
-        ensures limit { result ≡ Err LimitReached → IsSome (world_of self.old).fault }
     {
         if let Some(fault) = self.fault {
             return Err(fault);
