@@ -1,10 +1,8 @@
 -- What the calls on devices and ports do to the addresses that devices hold.
-use borrow.Enum.Total.{values_d}
 use Rattle.std.proofs.Common.{◌≡◌, ◌≢◌, ◌⊎◌, inl, inr, ◌∙◌, refl, sym, ap, subst, arith, true, false}
-use Rattle.std.specs.Prelude.{ℕ, ◌-◌, ◌==◌, ◌≤◌, Bool, List, [], ◌∷◌, length, Option, None, Some, slice_index_or, Result, Ok, Err, MatchResult, OnOk, if◌then◌else◌}
+use Rattle.std.specs.Prelude.{ℕ, ◌==◌, Bool, List, length, Some, Result, Ok, Err, OnOk, if◌then◌else◌}
 use Rattle.std.specs.Global.{Vec}
-use Rattle.usb_port.specs.PortState.{PortState, off}
-use Rattle.usb_port.specs.Path.{IsPortNumber}
+use Rattle.usb_port.specs.PortState.{off}
 use Rattle.usb_port.specs.Status.{seen, status_in}
 use Rattle.usb_port.specs.declared.status.PortStatus.{PortStatus}
 use Rattle.usb_request.specs.Layout.{IsToHost}
@@ -14,18 +12,16 @@ use Rattle.usb_device.specs.declared.calls.PortCall.{PortCall}
 use Rattle.usb_device.specs.declared.calls.PortCall.TheVariants.{SetPower, SetReset, ClearEnable, ClearPower, ClearConnectionChange, ClearEnableChange, ClearResetChange}
 use Rattle.usb_device.specs.Calls.{set_call, clear_call, is_reset}
 use Rattle.usb_device.specs.Request.{Is}
-use Rattle.usb_world.specs.World.{World, IsSetFeature, IsClearFeature, port_at}
+use Rattle.usb_world.specs.World.{World, IsClearFeature, port_at}
 use Rattle.usb_world.specs.Steps.{SetsRoot, ClearsRoot, root_call, after}
 use Rattle.usb_world.specs.Addresses.{after_reset, after_taking}
 use Rattle.usb_world.specs.Courses.{is_harmless}
 use Rattle.usb_world.specs.Live.{is_way}
 use Rattle.usb_transaction.specs.declared.target.Target.{Target}
 use Rattle.usb_transaction.specs.Answerer.{Answerer}
-use Rattle.usb_transaction.specs.Trans.{Worked}
 use Rattle.usb_pipe.specs.declared.fault.PipeFault.{PipeFault}
 use Rattle.usb_pipe.specs.declared.fault.PipeFault.TheVariants.{Stalled}
-use Rattle.usb_pipe.specs.Control.{Faults}
-use Rattle.usb_pipe.specs.Stages.{Reads, Writes}
+use Rattle.usb_pipe.specs.Stages.{Reads}
 use Rattle.usb_address.specs.Claims.{Claims, cleared}
 use Rattle.usb_address.specs.Owned.{Owned, TillFault, KeepsAddresses}
 use Rattle.usb_address.proofs.Answerers.{answerer_claims}
@@ -37,7 +33,7 @@ use Rattle.usb_address.proofs.Transfers.{gives_address}
 use Rattle.usb_hub.specs.declared.port.HubPort.{HubPort}
 use Rattle.usb_hub.specs.declared.port.HubPort.TheVariants.{Root, External}
 use Rattle.usb_hub.specs.Addresses.{IsBelow, Answers, Bares, Resets, GivesAddress, KeepsAnswered, KeepsAsked, KeepsSet, KeepsCleared}
-use Rattle.usb_hub.specs.Port.{PortRead, PortSet, PortCleared}
+use Rattle.usb_hub.specs.Port.{PortRead}
 use Rattle.usb_hub.specs.Requests.{Ends, Told, Ordered, said_in}
 
 told_same : (seen status : PortStatus) (result : Result PortStatus PipeFault) → result ≡ Ok seen → result ≡ Ok status → seen ≡ status

@@ -1,17 +1,13 @@
 -- What root calls leave, for whoever calls them as a hub's port.
-use borrow.Enum.Total.{values_d}
 use Rattle.std.proofs.Common.{◌≡◌, ◌∙◌, refl, sym, ap, subst, arith, true, false, length-set}
 use Rattle.std.specs.Prelude.{ℕ, ◌+◌, ◌-◌, ◌≤◌, Bool, length, Ok, if◌then◌else◌}
 use Rattle.usb_port.specs.PortState.{PortState}
-use Rattle.usb_port.specs.Status.{seen}
-use Rattle.usb_port.specs.declared.status.PortStatus.{PortStatus}
-use Rattle.usb_world.specs.World.{World, Spends, IsRootPort, IsSetFeature, IsClearFeature, root_row, change_of, changes, port_at}
+use Rattle.usb_world.specs.World.{World, Spends, IsRootPort, IsSetFeature, IsClearFeature, root_row, change_of, changes}
 use Rattle.usb_world.specs.Steps.{SetsRoot, ClearsRoot}
-use Rattle.usb_world.proofs.Counts.{RootCalled, root_set as root_set_called, root_cleared as root_cleared_called, spends_none, resets_spend, clears_spend, clears_change, changes-set}
-use Rattle.usb_hub.specs.contracts.port.HubPort as hub_port
+use Rattle.usb_world.proofs.Counts.{RootCalled, root_set as root_set_called, root_cleared as root_cleared_called, resets_spend, clears_spend, clears_change, changes-set}
 use Rattle.usb_hub.specs.declared.port.HubPort.{HubPort}
 use Rattle.usb_hub.specs.declared.port.HubPort.TheVariants.{Root, External}
-use Rattle.usb_hub.specs.Port.{IsPort, status_bound, order_bound, Quiet, RootSet, RootCleared, PortRead, PortSet, PortCleared}
+use Rattle.usb_hub.specs.Port.{IsPort, order_bound, Quiet, RootSet, RootCleared, PortSet, PortCleared}
 
 quiet : (number : ℕ) (p : PortState) (old new : World) → RootCalled number p old new → Quiet old new
 quiet number p old new c = record {

@@ -2,13 +2,13 @@
 use Rattle.std.specs.Prelude.{◌≡◌, ◌≢◌, ℕ, ◌≤◌, ◌==◌, if◌then◌else◌, List, length, slice_index, Result, Ok, Err, IfOk, MatchResult}
 use Rattle.std.specs.Global.{Vec}
 use Rattle.usb_request.specs.declared.setup.Setup.{Setup}
-use Rattle.usb_world.specs.World.{World, Spends}
+use Rattle.usb_world.specs.World.{World}
 use Rattle.usb_transaction.specs.declared.target.Target.{Target}
 use Rattle.usb_transaction.specs.Trans.{Worked}
 use Rattle.usb_port.specs.Status.{has_bit}
 use Rattle.usb_pipe.specs.declared.fault.PipeFault.{PipeFault}
 use Rattle.usb_pipe.specs.declared.fault.PipeFault.TheVariants.{Stalled, Memory}
-use Rattle.usb_pipe.specs.Control.{Faults, control_bound}
+use Rattle.usb_pipe.specs.Control.{Faults}
 use Rattle.usb_pipe.specs.Stages.{Reads, Writes}
 use Rattle.usb_hub.specs.declared.status.DeviceStatus.{DeviceStatus}
 
@@ -16,16 +16,14 @@ use Rattle.usb_hub.specs.declared.status.DeviceStatus.{DeviceStatus}
 abbrev pub Ends : {A : Type 0} → ℕ → World → Result A PipeFault → World → Type 0
 Ends least old result new = MatchResult result (λ done. Worked least old new) (λ fault. Faults 1 old fault new)
 
--- a target was asked for data: the attempts that were made, and which they were; no more bytes came than the request says
+-- a target was asked for data: how few attempts were made, and which they were; no more bytes came than the request says
 pub record Asked (target : Target) (request : Setup) (old : World) (answer : Result (Vec ℕ) PipeFault) (new : World) : Type 0 where
-  pub count : Spends (control_bound target.max request.length) old new
   pub ends : Ends 3 old answer new
   pub stages : Reads target request old answer new
   pub most : IfOk answer (λ bytes. length bytes.items ≤ request.length)
 
 -- a target was ordered to do what has no data
 pub record Ordered (target : Target) (request : Setup) (old : World) (result : Result (Unit {0}) PipeFault) (new : World) : Type 0 where
-  pub count : Spends 1600 old new
   pub ends : Ends 2 old result new
   pub stages : Writes target request old result new
   pub room : result ≢ Err Memory

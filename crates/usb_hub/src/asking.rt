@@ -2,6 +2,8 @@
 ghost use Rattle.std.specs.Prelude.{◌≡◌, ◌≤◌};
 ghost use Rattle.usb_transaction.specs.Trans.{IsTarget};
 ghost use Rattle.usb_request.specs.Layout.{IsToHost, IsToDevice};
+ghost use Rattle.usb_pipe.specs.Control.{control_bound};
+ghost use Rattle.usb_bus.specs.Traced.{Went};
 ghost use Rattle.usb_address.specs.Owned.{KeepsAddresses};
 ghost use Rattle.usb_hub.specs.Addresses.{KeepsAnswered};
 ghost use Rattle.usb_hub.specs.Requests.{Asked, Told, Ordered};
@@ -24,6 +26,7 @@ pub(crate) fn ask<B: Bus>(
     requires target { IsTarget target }
     requires reads { IsToHost setup }
     requires some { 1 ≤ setup.length }
+    ensures went { Went B.world B.trace (control_bound target.max setup.length) bus.old bus.new }
     ensures asked { Asked target setup (B.world bus.old) result (B.world bus.new) }
     ensures addresses { KeepsAnswered target.addr (B.world bus.old) result (B.world bus.new) }
 {
@@ -45,6 +48,7 @@ pub(crate) fn ask_all<B: Bus, const N: usize>(
     requires reads { IsToHost setup }
     requires some { 1 ≤ setup.length }
     requires size { setup.length ≡ N }
+    ensures went { Went B.world B.trace (control_bound target.max setup.length) bus.old bus.new }
     ensures told { Told (λ bytes. bytes) target setup (B.world bus.old) result (B.world bus.new) }
     ensures keeps { KeepsAddresses (B.world bus.old) (B.world bus.new) }
 {
@@ -64,7 +68,8 @@ pub(crate) fn order<B: Bus>(bus: &mut B, target: Target, setup: Setup) -> Result
     requires target { IsTarget target }
     requires writes { IsToDevice setup }
     requires none { setup.length ≡ 0 }
-    ensures { Ordered target setup (B.world bus.old) result (B.world bus.new) }
+    ensures went { Went B.world B.trace 1600 bus.old bus.new }
+    ensures ordered { Ordered target setup (B.world bus.old) result (B.world bus.new) }
 {
     control_none(bus, target, setup)
 }

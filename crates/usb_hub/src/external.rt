@@ -3,6 +3,8 @@ ghost use Rattle.std.specs.Prelude.{◌≢◌};
 ghost use Rattle.usb_transaction.specs.Trans.{IsTarget};
 ghost use Rattle.usb_port.specs.Status.{status_in};
 ghost use Rattle.usb_request.specs.Requests.{get_port_status, set_port_feature as set_feature, clear_port_feature as clear_feature};
+ghost use Rattle.usb_pipe.specs.Control.{control_bound};
+ghost use Rattle.usb_bus.specs.Traced.{Went};
 ghost use Rattle.usb_address.specs.Owned.{KeepsAddresses};
 ghost use Rattle.usb_hub.specs.Requests.{Told, Ordered};
 
@@ -23,6 +25,7 @@ pub fn hub_port_status<B: Bus>(
     port: u8,
 ) -> Result<PortStatus, PipeFault>
     requires { IsTarget hub }
+    ensures went { Went B.world B.trace (control_bound hub.max 4) bus.old bus.new }
     ensures told { Told status_in hub (get_port_status port) (B.world bus.old) result (B.world bus.new) }
     ensures keeps { KeepsAddresses (B.world bus.old) (B.world bus.new) }
 {
@@ -43,6 +46,7 @@ pub fn set_hub_port<B: Bus>(
     feature: u16,
 ) -> Result<(), PipeFault>
     requires { IsTarget hub }
+    ensures went { Went B.world B.trace 1600 bus.old bus.new }
     ensures ordered { Ordered hub (set_feature feature port) (B.world bus.old) result (B.world bus.new) }
     ensures keeps { feature ≢ 4 → KeepsAddresses (B.world bus.old) (B.world bus.new) }
 {
@@ -62,6 +66,7 @@ pub fn clear_hub_port<B: Bus>(
     feature: u16,
 ) -> Result<(), PipeFault>
     requires { IsTarget hub }
+    ensures went { Went B.world B.trace 1600 bus.old bus.new }
     ensures ordered { Ordered hub (clear_feature feature port) (B.world bus.old) result (B.world bus.new) }
     ensures keeps { KeepsAddresses (B.world bus.old) (B.world bus.new) }
 {

@@ -1,6 +1,7 @@
 //! The ports of hubs, the root's among them.
 ghost use Rattle.std.specs.Prelude.{◌≡◌, IfErr};
-ghost use Rattle.usb_world.specs.World.{Spends, IsSetFeature, IsClearFeature};
+ghost use Rattle.usb_world.specs.World.{IsSetFeature, IsClearFeature};
+ghost use Rattle.usb_bus.specs.Traced.{Traced, Went};
 ghost use Rattle.usb_pipe.specs.Control.{Faults};
 ghost use Rattle.usb_hub.specs.Addresses.{KeepsAsked, KeepsSet, KeepsCleared};
 ghost use Rattle.usb_hub.specs.Port.{IsPort, PortRead, PortSet, PortCleared, status_bound, order_bound};
@@ -31,7 +32,7 @@ pub fn port_status<B: Bus>(
     port: HubPort,
 ) -> Result<PortStatus, PipeFault>
     requires { IsPort (B.world bus.old) port }
-    ensures count { Spends (status_bound port) (B.world bus.old) (B.world bus.new) }
+    ensures went { Went B.world B.trace (status_bound port) bus.old bus.new }
     ensures fault { IfErr result (λ fault. Faults 1 (B.world bus.old) fault (B.world bus.new)) }
     ensures status { PortRead port (B.world bus.old) result (B.world bus.new) }
     ensures addresses { KeepsAsked port (B.world bus.old) result (B.world bus.new) }
@@ -53,7 +54,8 @@ pub fn set_port<B: Bus>(bus: &mut B, port: HubPort, feature: u16) -> Result<(), 
     requires port { IsPort (B.world bus.old) port }
     requires named { IsSetFeature feature }
     // PORT_POWER of a root port may set its C_PORT_CONNECTION.
-    ensures count { feature ≡ 4 → Spends (order_bound port) (B.world bus.old) (B.world bus.new) }
+    ensures went { feature ≡ 4 → Went B.world B.trace (order_bound port) bus.old bus.new }
+    ensures traced { Traced (B.world bus.old) (B.trace bus.old) (B.world bus.new) (B.trace bus.new) }
     ensures fault { IfErr result (λ fault. Faults 1 (B.world bus.old) fault (B.world bus.new)) }
     ensures effect { PortSet port feature (B.world bus.old) result (B.world bus.new) }
     ensures addresses { KeepsSet port feature (B.world bus.old) (B.world bus.new) }
@@ -77,7 +79,7 @@ pub fn set_port<B: Bus>(bus: &mut B, port: HubPort, feature: u16) -> Result<(), 
 pub fn clear_port<B: Bus>(bus: &mut B, port: HubPort, feature: u16) -> Result<(), PipeFault>
     requires port { IsPort (B.world bus.old) port }
     requires named { IsClearFeature feature }
-    ensures count { Spends (order_bound port) (B.world bus.old) (B.world bus.new) }
+    ensures went { Went B.world B.trace (order_bound port) bus.old bus.new }
     ensures fault { IfErr result (λ fault. Faults 1 (B.world bus.old) fault (B.world bus.new)) }
     ensures effect { PortCleared port feature (B.world bus.old) result (B.world bus.new) }
     ensures addresses { KeepsCleared port feature (B.world bus.old) result (B.world bus.new) }

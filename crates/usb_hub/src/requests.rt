@@ -1,6 +1,6 @@
 //! The standard's requests to a device (9.4).
 ghost use Rattle.std.specs.Prelude.{◌≡◌, ◌≢◌, ◌≤◌, vec_len, Err, IfOk, MatchResult};
-ghost use Rattle.usb_world.specs.World.{Spends};
+ghost use Rattle.usb_bus.specs.Traced.{Went};
 ghost use Rattle.usb_transaction.specs.Trans.{IsTarget, Worked};
 ghost use Rattle.usb_pipe.specs.Control.{Faults, control_bound};
 ghost use Rattle.usb_pipe.specs.Stages.{Reads, Writes};
@@ -27,7 +27,7 @@ pub fn get_device<B: Bus>(
 ) -> Result<Vec<u8>, PipeFault>
     requires target { IsTarget target }
     requires some { 1 ≤ length }
-    ensures count { Spends (control_bound target.max length) (B.world bus.old) (B.world bus.new) }
+    ensures went { Went B.world B.trace (control_bound target.max length) bus.old bus.new }
     ensures ends { MatchResult result (λ _. Worked 3 (B.world bus.old) (B.world bus.new)) (λ fault. Faults 1 (B.world bus.old) fault (B.world bus.new)) }
     ensures stages { Reads target (get_device_descriptor length) (B.world bus.old) result (B.world bus.new) }
     ensures most { IfOk result (λ bytes. vec_len bytes ≤ length) }
@@ -51,7 +51,7 @@ pub fn get_config<B: Bus>(
 ) -> Result<Vec<u8>, PipeFault>
     requires target { IsTarget target }
     requires some { 1 ≤ length }
-    ensures count { Spends (control_bound target.max length) (B.world bus.old) (B.world bus.new) }
+    ensures went { Went B.world B.trace (control_bound target.max length) bus.old bus.new }
     ensures ends { MatchResult result (λ _. Worked 3 (B.world bus.old) (B.world bus.new)) (λ fault. Faults 1 (B.world bus.old) fault (B.world bus.new)) }
     ensures stages { Reads target (get_configuration_descriptor index length) (B.world bus.old) result (B.world bus.new) }
     ensures most { IfOk result (λ bytes. vec_len bytes ≤ length) }
@@ -79,7 +79,7 @@ pub fn get_string<B: Bus>(
     language: u16,
 ) -> Result<Vec<u8>, PipeFault>
     requires target { IsTarget target }
-    ensures count { Spends (control_bound target.max 255) (B.world bus.old) (B.world bus.new) }
+    ensures went { Went B.world B.trace (control_bound target.max 255) bus.old bus.new }
     ensures ends { MatchResult result (λ _. Worked 3 (B.world bus.old) (B.world bus.new)) (λ fault. Faults 1 (B.world bus.old) fault (B.world bus.new)) }
     ensures stages { Reads target (get_string_descriptor index language) (B.world bus.old) result (B.world bus.new) }
     ensures most { IfOk result (λ bytes. vec_len bytes ≤ 255) }
@@ -104,6 +104,7 @@ pub fn hub_descriptor<B: Bus>(
     target: Target,
 ) -> Result<Vec<u8>, PipeFault>
     requires { IsTarget target }
+    ensures went { Went B.world B.trace (control_bound target.max 9) bus.old bus.new }
     ensures asked { Asked target get_hub_descriptor (B.world bus.old) result (B.world bus.new) }
     ensures keeps { KeepsAddresses (B.world bus.old) (B.world bus.new) }
 {
@@ -121,6 +122,7 @@ pub fn get_status<B: Bus>(
     target: Target,
 ) -> Result<DeviceStatus, PipeFault>
     requires { IsTarget target }
+    ensures went { Went B.world B.trace (control_bound target.max 2) bus.old bus.new }
     ensures told { Told device_status target status_request (B.world bus.old) result (B.world bus.new) }
     ensures keeps { KeepsAddresses (B.world bus.old) (B.world bus.new) }
 {
@@ -139,7 +141,7 @@ pub fn set_address<B: Bus>(bus: &mut B, target: Target, address: u8) -> Result<(
     requires target { IsTarget target }
     requires least { 1 ≤ address }
     requires most { address ≤ 127 }
-    ensures count { Spends 1600 (B.world bus.old) (B.world bus.new) }
+    ensures went { Went B.world B.trace 1600 bus.old bus.new }
     ensures ends { MatchResult result (λ _. Worked 2 (B.world bus.old) (B.world bus.new)) (λ fault. Faults 1 (B.world bus.old) fault (B.world bus.new)) }
     ensures stages { Writes target (address_request address) (B.world bus.old) result (B.world bus.new) }
     ensures room { result ≢ Err PipeFault.Memory }
@@ -157,7 +159,7 @@ pub fn set_address<B: Bus>(bus: &mut B, target: Target, address: u8) -> Result<(
 #[tactic(auto, using(crate::proofs::Keeping::configured))]
 pub fn set_configuration<B: Bus>(bus: &mut B, target: Target, value: u8) -> Result<(), PipeFault>
     requires target { IsTarget target }
-    ensures count { Spends 1600 (B.world bus.old) (B.world bus.new) }
+    ensures went { Went B.world B.trace 1600 bus.old bus.new }
     ensures ends { MatchResult result (λ _. Worked 2 (B.world bus.old) (B.world bus.new)) (λ fault. Faults 1 (B.world bus.old) fault (B.world bus.new)) }
     ensures stages { Writes target (configuration_request value) (B.world bus.old) result (B.world bus.new) }
     ensures room { result ≢ Err PipeFault.Memory }

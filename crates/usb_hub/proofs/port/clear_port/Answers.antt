@@ -1,3 +1,5 @@
+use Rattle.usb_bus.specs.Traced.{still}
+use Rattle.usb_bus.proofs.Wents.{traced_cleared}
 use Rattle.usb_hub.proofs.Keeping.{root_clear_keeps_port}
 use Rattle.usb_hub.proofs.Ports.{port_cleared-root, cleared_spends-root}
 use Rattle.usb_hub.proofs.port.clear_port.Goals as goal
@@ -5,8 +7,14 @@ use Rattle.usb_hub.proofs.port.clear_port.Goals as goal
 pub returns-in-Root-clause-effect : goal.returns-in-Root-clause-effect
 returns-in-Root-clause-effect g c = port_cleared-root c.args.port _ _ _ _ c.in-Root.is c.requires.port c.requires.named c.root_clear.ensures.call
 
-pub returns-in-Root-clause-count : goal.returns-in-Root-clause-count
-returns-in-Root-clause-count g c = cleared_spends-root c.args.port _ _ _ _ c.in-Root.is (returns-in-Root-clause-effect g c)
+pub returns-in-Root-clause-went : goal.returns-in-Root-clause-went
+returns-in-Root-clause-went g c = record {
+  spends = cleared_spends-root c.args.port _ _ _ _ c.in-Root.is (returns-in-Root-clause-effect g c);
+  traced = traced_cleared _ _ c.requires.named still c.root_clear.ensures.call c.root_clear.ensures.silent;
+}
+
+pub returns-in-External-clause-went : goal.returns-in-External-clause-went
+returns-in-External-clause-went g c = rw c.in-External.is c.clear_hub_port.ensures.went
 
 pub returns-in-Root-clause-addresses : goal.returns-in-Root-clause-addresses
 returns-in-Root-clause-addresses g c = root_clear_keeps_port c.args.port _ _ _ _ c.in-Root.is c.requires.named c.root_clear.ensures.call

@@ -1,11 +1,13 @@
 use Rattle.std.proofs.Common.{rules}
-use Rattle.usb_request.specs.Requests.{get_port_status}
+use Rattle.usb_bus.proofs.Wents.{went_none}
 use Rattle.usb_hub.proofs.Keeping.{status_keeps, hub_status_keeps}
 use Rattle.usb_hub.proofs.port.port_status.Goals as goal
 
-pub returns-in-External-clause-count : goal.returns-in-External-clause-count
-unfolding get_port_status
-returns-in-External-clause-count g c = rw c.in-External.is c.hub_port_status.ensures.told.asked.count
+pub returns-in-Root-clause-went : goal.returns-in-Root-clause-went
+returns-in-Root-clause-went g c = rw c.in-Root.is went_none
+
+pub returns-in-External-clause-went : goal.returns-in-External-clause-went
+returns-in-External-clause-went g c = rw c.in-External.is c.hub_port_status.ensures.went
 
 pub returns-in-Root-clause-status : goal.returns-in-Root-clause-status
 returns-in-Root-clause-status g c = search rules
