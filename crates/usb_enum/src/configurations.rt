@@ -1,6 +1,6 @@
 //! The configurations of a device: each is read, and one is chosen.
 ghost use Rattle.std.specs.Prelude.{◌≡◌, ◌≤◌, ◌<◌, ◌*◌, length, Some, IfOk, IfErr, IfSome};
-ghost use Rattle.usb_world.specs.World.{Spends};
+ghost use Rattle.usb_bus.specs.Traced.{Went};
 ghost use Rattle.usb_transaction.specs.Trans.{IsTarget};
 ghost use Rattle.usb_enum.specs.Bounds.{read_bound, configuration_bound};
 ghost use Rattle.usb_enum.specs.Stop.{Told};
@@ -20,7 +20,7 @@ use usb_transaction::Target;
 fn total_length<B: Bus>(alloc: Global, bus: &mut B, target: Target, index: u8) -> Result<u16, Stop>
     requires target { IsTarget target }
     requires max { 8 ≤ target.max }
-    ensures spends { Spends (read_bound 9) (B.world bus.old) (B.world bus.new) }
+    ensures went { Went B.world B.trace (read_bound 9) bus.old bus.new }
     ensures told { IfErr result (λ stop. Told stop (B.world bus.new)) }
     ensures least { IfOk result (λ total. 9 ≤ total) }
     ensures most { IfOk result (λ total. total ≤ 65535) }
@@ -43,7 +43,7 @@ fn read_text<B: Bus>(
 ) -> Result<ConfigText, Stop>
     requires target { IsTarget target }
     requires max { 8 ≤ target.max }
-    ensures spends { Spends configuration_bound (B.world bus.old) (B.world bus.new) }
+    ensures went { Went B.world B.trace configuration_bound bus.old bus.new }
     ensures told { IfErr result (λ stop. Told stop (B.world bus.new)) }
     ensures keeps { KeepsAddresses (B.world bus.old) (B.world bus.new) }
 {
@@ -57,7 +57,6 @@ fn read_text<B: Bus>(
 }
 
 /// The configurations of a device that has so many. No two of them have the same value.
-#[tactic(auto, using(crate::proofs::Counts::spends_on))]
 pub(crate) fn read_configurations<B: Bus>(
     alloc: Global,
     bus: &mut B,
@@ -66,7 +65,7 @@ pub(crate) fn read_configurations<B: Bus>(
 ) -> Result<ConfigTexts, Stop>
     requires target { IsTarget target }
     requires max { 8 ≤ target.max }
-    ensures spends { Spends (255 * configuration_bound) (B.world bus.old) (B.world bus.new) }
+    ensures went { Went B.world B.trace (255 * configuration_bound) bus.old bus.new }
     ensures told { IfErr result (λ stop. Told stop (B.world bus.new)) }
     ensures all { IfOk result (λ texts. length texts ≡ count) }
     ensures differ { IfOk result (λ texts. ValuesDiffer texts) }

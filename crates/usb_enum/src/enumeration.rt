@@ -1,6 +1,6 @@
 //! The whole enumeration.
 ghost use Rattle.std.specs.Prelude.{◌≡◌, ℕ, IfOk, IfErr, true};
-ghost use Rattle.usb_world.specs.World.{Spends};
+ghost use Rattle.usb_bus.specs.Traced.{Went};
 ghost use Rattle.usb_hub.specs.Port.{IsPort, order_bound};
 ghost use Rattle.usb_enum.specs.Bounds.{unaddressed_bound, examination_bound, enumeration_bound, configured_bound, hub_bound};
 ghost use Rattle.usb_enum.specs.Stop.{FaultAt, ToldIn, ToldOfDevice, ToldOfHub, ToldWithout};
@@ -36,7 +36,6 @@ const LAST_TIER: u8 = 7;
 /// `ParentLost` where a request to the hub that has the port failed; none to a root port does.
 /// `Bus` where the bus makes no more steps. `Memory` where memory was refused. The pool is then as
 /// it was.
-#[tactic(auto, using(crate::proofs::Counts::spends_on, usb_hub::proofs::Ports::port_stays))]
 pub fn enumerate<B: Bus>(
     alloc: Global,
     bus: &mut B,
@@ -46,7 +45,7 @@ pub fn enumerate<B: Bus>(
     supply: u16,
 ) -> Result<Finding, EnumFault>
     requires port { IsPort (B.world bus.old) port }
-    ensures spends { Spends (enumeration_bound port) (B.world bus.old) (B.world bus.new) }
+    ensures went { Went B.world B.trace (enumeration_bound port) bus.old bus.new }
     ensures told { IfErr result (λ fault. FaultAt port fault (B.world bus.new)) }
     ensures pool { TakesFor result pool.old pool.new }
     ensures found { IfOk result (λ finding. IsFound port pool.old tier supply finding (B.world bus.new)) }
@@ -69,7 +68,7 @@ pub fn enumerate<B: Bus>(
 /// Goes on as far as a device is given its address, where none is free.
 fn without_address<B: Bus>(alloc: Global, bus: &mut B, port: HubPort) -> Stop
     requires { IsPort (B.world bus.old) port }
-    ensures spends { Spends (unaddressed_bound port) (B.world bus.old) (B.world bus.new) }
+    ensures went { Went B.world B.trace (unaddressed_bound port) bus.old bus.new }
     ensures told { ToldWithout port result (B.world bus.new) }
     ensures within { Within port 0 (B.world bus.old) (B.world bus.new) }
 {
@@ -83,7 +82,7 @@ fn without_address<B: Bus>(alloc: Global, bus: &mut B, port: HubPort) -> Stop
 #[tactic(auto, using(crate::proofs::Ports::disabled))]
 fn give_up<B: Bus>(bus: &mut B, port: HubPort, stop: Stop) -> Result<Finding, EnumFault>
     requires { IsPort (B.world bus.old) port }
-    ensures spends { Spends (order_bound port) (B.world bus.old) (B.world bus.new) }
+    ensures went { Went B.world B.trace (order_bound port) bus.old bus.new }
     ensures left { GivesUp port stop (B.world bus.old) result (B.world bus.new) }
     ensures ends { (a : ℕ) → Ends port a (B.world bus.old) result (B.world bus.new) }
 {
@@ -97,7 +96,6 @@ fn give_up<B: Bus>(bus: &mut B, port: HubPort, stop: Stop) -> Result<Finding, En
 }
 
 /// Gives the device its address, and reads and configures it.
-#[tactic(auto, using(crate::proofs::Counts::spends_on))]
 fn examine<B: Bus>(
     alloc: Global,
     bus: &mut B,
@@ -107,7 +105,7 @@ fn examine<B: Bus>(
     supply: u16,
 ) -> Result<Accepted, Stop>
     requires port { IsPort (B.world bus.old) port }
-    ensures spends { Spends (examination_bound port) (B.world bus.old) (B.world bus.new) }
+    ensures went { Went B.world B.trace (examination_bound port) bus.old bus.new }
     ensures told { IfErr result (λ stop. ToldIn port tier stop (B.world bus.new)) }
     ensures within { Within port address (B.world bus.old) (B.world bus.new) }
     ensures ok { IfOk result (IsAccepted port address supply (B.world bus.old) (B.world bus.new)) }
@@ -126,7 +124,7 @@ fn configure<B: Bus>(
     supply: u16,
 ) -> Result<Accepted, Stop>
     requires { device.target.addr ≡ address }
-    ensures spends { Spends configured_bound (B.world bus.old) (B.world bus.new) }
+    ensures went { Went B.world B.trace configured_bound bus.old bus.new }
     ensures told { IfErr result (λ stop. ToldOfDevice tier stop (B.world bus.new)) }
     ensures address { IfOk result (λ accepted. accepted.address ≡ address) }
     ensures whole { IfOk result (λ accepted. IsWhole supply accepted) }
@@ -171,7 +169,7 @@ fn hub_facts<B: Bus>(
     device: &Addressed,
     text: &ConfigText,
 ) -> Result<Option<HubFacts>, Stop>
-    ensures spends { Spends hub_bound (B.world bus.old) (B.world bus.new) }
+    ensures went { Went B.world B.trace hub_bound bus.old bus.new }
     ensures told { IfErr result (λ stop. ToldOfHub stop (B.world bus.new)) }
     ensures hub { IfErr result (λ _. is_hub device.now.bytes ≡ true) }
     ensures known { IfOk result (IsKnown device.now.target.addr device.now.bytes text.now) }

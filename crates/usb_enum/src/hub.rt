@@ -1,6 +1,6 @@
 //! What the host asks of a hub once it is configured, and the power of its ports (11.23, 11.24).
 ghost use Rattle.std.specs.Prelude.{◌≡◌, ◌⊎◌, ◌≤◌, ◌*◌, IfOk, IfErr};
-ghost use Rattle.usb_world.specs.World.{Spends};
+ghost use Rattle.usb_bus.specs.Traced.{Went};
 ghost use Rattle.usb_port.specs.Path.{IsPortNumber};
 ghost use Rattle.usb_transaction.specs.Trans.{IsTarget};
 ghost use Rattle.usb_enum.specs.Bounds.{read_bound, none_bound, hub_bound};
@@ -37,7 +37,7 @@ pub(crate) fn start_hub<B: Bus>(
 ) -> Result<HubFacts, Stop>
     requires target { IsTarget target }
     requires max { 8 ≤ target.max }
-    ensures spends { Spends hub_bound (B.world bus.old) (B.world bus.new) }
+    ensures went { Went B.world B.trace hub_bound bus.old bus.new }
     ensures told { IfErr result (λ stop. ToldOfHub stop (B.world bus.new)) }
     ensures started { IfOk result (StartsHub target text.now (B.world bus.old) (B.world bus.new)) }
     ensures keeps { KeepsAddresses (B.world bus.old) (B.world bus.new) }
@@ -52,11 +52,10 @@ pub(crate) fn start_hub<B: Bus>(
 }
 
 /// bNbrPorts of the hub descriptor, 1 to 7.
-#[tactic(auto, using(crate::proofs::Counts::hub_read))]
 fn port_count<B: Bus>(alloc: Global, bus: &mut B, target: Target) -> Result<u8, Stop>
     requires target { IsTarget target }
     requires max { 8 ≤ target.max }
-    ensures spends { Spends (read_bound 9) (B.world bus.old) (B.world bus.new) }
+    ensures went { Went B.world B.trace (read_bound 9) bus.old bus.new }
     ensures told { IfErr result (λ stop. ToldOfHub stop (B.world bus.new)) }
     ensures number { IfOk result IsPortNumber }
     ensures count { IfOk result (CountTold target (B.world bus.old) (B.world bus.new)) }
@@ -74,7 +73,7 @@ fn port_count<B: Bus>(alloc: Global, bus: &mut B, target: Target) -> Result<u8, 
 fn port_supply<B: Bus>(alloc: Global, bus: &mut B, target: Target) -> Result<u16, Stop>
     requires target { IsTarget target }
     requires max { 8 ≤ target.max }
-    ensures spends { Spends (read_bound 2) (B.world bus.old) (B.world bus.new) }
+    ensures went { Went B.world B.trace (read_bound 2) bus.old bus.new }
     ensures told { IfErr result (λ stop. ToldOfHub stop (B.world bus.new)) }
     ensures supply { IfOk result (λ supply. (supply ≡ 500) ⊎ (supply ≡ 100)) }
     ensures said { IfOk result (SupplyTold target (B.world bus.old) (B.world bus.new)) }
@@ -85,10 +84,9 @@ fn port_supply<B: Bus>(alloc: Global, bus: &mut B, target: Target) -> Result<u16
 }
 
 /// Gives power to the first so many ports of a hub.
-#[tactic(auto, using(crate::proofs::Counts::spends_on, usb_address::proofs::Keeping::keeps_then))]
 fn power_ports<B: Bus>(bus: &mut B, target: Target, ports: u8) -> Result<(), Stop>
     requires { IsTarget target }
-    ensures spends { Spends (ports * none_bound) (B.world bus.old) (B.world bus.new) }
+    ensures went { Went B.world B.trace (ports * none_bound) bus.old bus.new }
     ensures told { IfErr result (λ stop. ToldOfHub stop (B.world bus.new)) }
     ensures powered { IfOk result (λ _. Powered target ports (B.world bus.old) (B.world bus.new)) }
     ensures keeps { KeepsAddresses (B.world bus.old) (B.world bus.new) }
@@ -102,7 +100,7 @@ fn power_ports<B: Bus>(bus: &mut B, target: Target, ports: u8) -> Result<(), Sto
 /// Gives power to a port of a hub.
 fn power_port<B: Bus>(bus: &mut B, target: Target, port: u8) -> Result<(), Stop>
     requires { IsTarget target }
-    ensures spends { Spends none_bound (B.world bus.old) (B.world bus.new) }
+    ensures went { Went B.world B.trace none_bound bus.old bus.new }
     ensures told { IfErr result (λ stop. ToldOfHub stop (B.world bus.new)) }
     ensures powered { IfOk result (λ _. IsPowered target port (B.world bus.old) (B.world bus.new)) }
     ensures keeps { KeepsAddresses (B.world bus.old) (B.world bus.new) }

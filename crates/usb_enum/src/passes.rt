@@ -1,6 +1,6 @@
 //! The steps up to a device that has its address and has given its device descriptor.
 ghost use Rattle.std.specs.Prelude.{◌≡◌, ◌≤◌, ◌<◌, ◌*◌, IfOk, IfErr, IfSome, true, ℕ, OnOk};
-ghost use Rattle.usb_world.specs.World.{Spends};
+ghost use Rattle.usb_bus.specs.Traced.{Went};
 ghost use Rattle.usb_hub.specs.Port.{IsPort, status_bound, order_bound};
 ghost use Rattle.usb_transaction.specs.Trans.{IsTarget};
 ghost use Rattle.usb_enum.specs.Bounds.{read_bound, reset_bound, unaddressed_bound, pass_bound};
@@ -24,7 +24,7 @@ use usb_transaction::Target;
 /// Sets PORT_RESET.
 fn begin_reset<B: Bus>(bus: &mut B, port: HubPort) -> Result<(), EnumFault>
     requires { IsPort (B.world bus.old) port }
-    ensures spends { Spends (order_bound port) (B.world bus.old) (B.world bus.new) }
+    ensures went { Went B.world B.trace (order_bound port) bus.old bus.new }
     ensures told { IfErr result (λ fault. FaultAt port fault (B.world bus.new)) }
     ensures resets { Resets port (B.world bus.old) (B.world bus.new) }
 {
@@ -34,7 +34,7 @@ fn begin_reset<B: Bus>(bus: &mut B, port: HubPort) -> Result<(), EnumFault>
 /// The status of the port.
 fn read_status<B: Bus>(alloc: Global, bus: &mut B, port: HubPort) -> Result<PortStatus, EnumFault>
     requires { IsPort (B.world bus.old) port }
-    ensures spends { Spends (status_bound port) (B.world bus.old) (B.world bus.new) }
+    ensures went { Went B.world B.trace (status_bound port) bus.old bus.new }
     ensures told { IfErr result (λ fault. FaultAt port fault (B.world bus.new)) }
     ensures keeps { KeepsAddresses (B.world bus.old) (B.world bus.new) }
 {
@@ -44,7 +44,7 @@ fn read_status<B: Bus>(alloc: Global, bus: &mut B, port: HubPort) -> Result<Port
 /// Resets the port (11.5.1.5), and tells whether a low-speed device is there.
 fn reset<B: Bus>(alloc: Global, bus: &mut B, port: HubPort) -> Result<bool, Stop>
     requires port { IsPort (B.world bus.old) port }
-    ensures spends { Spends (reset_bound port) (B.world bus.old) (B.world bus.new) }
+    ensures went { Went B.world B.trace (reset_bound port) bus.old bus.new }
     ensures told { IfErr result (λ stop. ToldAt port stop (B.world bus.new)) }
     ensures within { (a : ℕ) → Within port a (B.world bus.old) (B.world bus.new) }
 {
@@ -60,7 +60,7 @@ fn reset<B: Bus>(alloc: Global, bus: &mut B, port: HubPort) -> Result<bool, Stop
 /// Clears C_PORT_RESET where it is set.
 fn settle<B: Bus>(bus: &mut B, port: HubPort, changed: bool) -> Result<(), EnumFault>
     requires { IsPort (B.world bus.old) port }
-    ensures spends { Spends (order_bound port) (B.world bus.old) (B.world bus.new) }
+    ensures went { Went B.world B.trace (order_bound port) bus.old bus.new }
     ensures told { IfErr result (λ fault. FaultAt port fault (B.world bus.new)) }
     ensures keeps { KeepsAddresses (B.world bus.old) (B.world bus.new) }
 {
@@ -85,7 +85,7 @@ fn needs_pre(port: HubPort) -> bool
 fn first_maximum<B: Bus>(alloc: Global, bus: &mut B, unaddressed: Target) -> Result<u8, Stop>
     requires target { IsTarget unaddressed }
     requires max { unaddressed.max ≡ 8 }
-    ensures spends { Spends (read_bound 8) (B.world bus.old) (B.world bus.new) }
+    ensures went { Went B.world B.trace (read_bound 8) bus.old bus.new }
     ensures told { IfErr result (λ stop. Told stop (B.world bus.new)) }
     ensures least { IfOk result (λ max. 8 ≤ max) }
     ensures most { IfOk result (λ max. max ≤ 64) }
@@ -103,7 +103,7 @@ fn first_maximum<B: Bus>(alloc: Global, bus: &mut B, unaddressed: Target) -> Res
 fn descriptor<B: Bus>(alloc: Global, bus: &mut B, target: Target) -> Result<Option<[u8; 18]>, Stop>
     requires target { IsTarget target }
     requires max { 8 ≤ target.max }
-    ensures spends { Spends (read_bound 18) (B.world bus.old) (B.world bus.new) }
+    ensures went { Went B.world B.trace (read_bound 18) bus.old bus.new }
     ensures told { IfErr result (λ stop. Told stop (B.world bus.new)) }
     ensures device { IfOk result (λ found. IfSome found (λ bytes. is_device target.low bytes ≡ true)) }
     ensures keeps { KeepsAddresses (B.world bus.old) (B.world bus.new) }
@@ -132,10 +132,9 @@ fn device_bytes(bytes: &[u8; 18], low: bool) -> Result<Option<[u8; 18]>, Stop>
 }
 
 /// The device at address 0, once its port is reset and its maximum packet is known.
-#[tactic(auto, using(crate::proofs::Counts::spends_on))]
 pub(crate) fn unaddressed<B: Bus>(alloc: Global, bus: &mut B, port: HubPort) -> Result<Target, Stop>
     requires port { IsPort (B.world bus.old) port }
-    ensures spends { Spends (unaddressed_bound port) (B.world bus.old) (B.world bus.new) }
+    ensures went { Went B.world B.trace (unaddressed_bound port) bus.old bus.new }
     ensures told { IfErr result (λ stop. ToldAt port stop (B.world bus.new)) }
     ensures target { IfOk result (IsUnaddressed port) }
     ensures within { (a : ℕ) → Within port a (B.world bus.old) (B.world bus.new) }
@@ -172,7 +171,7 @@ fn pass<B: Bus>(
     requires port { IsPort (B.world bus.old) port }
     requires least { 1 ≤ address }
     requires most { address < 128 }
-    ensures spends { Spends (pass_bound port) (B.world bus.old) (B.world bus.new) }
+    ensures went { Went B.world B.trace (pass_bound port) bus.old bus.new }
     ensures told { IfErr result (λ stop. ToldAt port stop (B.world bus.new)) }
     ensures address { IfOk result (λ found. IfSome found (λ device. device.target.addr ≡ address)) }
     ensures within { Within port address (B.world bus.old) (B.world bus.new) }
@@ -193,7 +192,6 @@ fn pass<B: Bus>(
 
 /// At most three passes: a device that missed the end of SET_ADDRESS is reset, and given the same
 /// address again.
-#[tactic(auto, using(crate::proofs::Counts::spends_times, usb_hub::proofs::Ports::port_stays))]
 pub(crate) fn passes<B: Bus>(
     alloc: Global,
     bus: &mut B,
@@ -203,7 +201,7 @@ pub(crate) fn passes<B: Bus>(
     requires port { IsPort (B.world bus.old) port }
     requires least { 1 ≤ address }
     requires most { address < 128 }
-    ensures spends { Spends (3 * pass_bound port) (B.world bus.old) (B.world bus.new) }
+    ensures went { Went B.world B.trace (3 * pass_bound port) bus.old bus.new }
     ensures told { IfErr result (λ stop. ToldAt port stop (B.world bus.new)) }
     ensures address { IfOk result (λ device. device.target.addr ≡ address) }
     ensures within { Within port address (B.world bus.old) (B.world bus.new) }

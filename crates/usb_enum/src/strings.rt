@@ -1,6 +1,6 @@
 //! The strings of a device (9.6.7).
 ghost use Rattle.std.specs.Prelude.{◌≡◌, ◌≤◌, IfOk, IfErr};
-ghost use Rattle.usb_world.specs.World.{Spends};
+ghost use Rattle.usb_bus.specs.Traced.{Went};
 ghost use Rattle.usb_transaction.specs.Trans.{IsTarget};
 ghost use Rattle.usb_enum.specs.Bounds.{read_bound, strings_bound};
 ghost use Rattle.usb_enum.specs.Stop.{Told};
@@ -84,7 +84,7 @@ fn string_bytes<B: Bus>(
 ) -> Result<Option<Vec<u8>>, Stop>
     requires target { IsTarget target }
     requires max { 8 ≤ target.max }
-    ensures spends { Spends (read_bound 255) (B.world bus.old) (B.world bus.new) }
+    ensures went { Went B.world B.trace (read_bound 255) bus.old bus.new }
     ensures told { IfErr result (λ stop. Told stop (B.world bus.new)) }
     ensures keeps { KeepsAddresses (B.world bus.old) (B.world bus.new) }
 {
@@ -98,7 +98,6 @@ fn string_bytes<B: Bus>(
 }
 
 /// The string of an index; index 0 names none.
-#[tactic(auto, using(crate::proofs::Counts::spends_on, usb_world::proofs::Counts::spends_none, usb_address::proofs::Keeping::keeps_none))]
 fn read_one<B: Bus>(
     alloc: Global,
     bus: &mut B,
@@ -108,7 +107,7 @@ fn read_one<B: Bus>(
 ) -> Result<Option<StringUnits>, Stop>
     requires target { IsTarget target }
     requires max { 8 ≤ target.max }
-    ensures spends { Spends (read_bound 255) (B.world bus.old) (B.world bus.new) }
+    ensures went { Went B.world B.trace (read_bound 255) bus.old bus.new }
     ensures told { IfErr result (λ stop. Told stop (B.world bus.new)) }
     ensures keeps { KeepsAddresses (B.world bus.old) (B.world bus.new) }
 {
@@ -125,7 +124,7 @@ fn read_one<B: Bus>(
 fn language<B: Bus>(alloc: Global, bus: &mut B, target: Target) -> Result<Option<u16>, Stop>
     requires target { IsTarget target }
     requires max { 8 ≤ target.max }
-    ensures spends { Spends (read_bound 255) (B.world bus.old) (B.world bus.new) }
+    ensures went { Went B.world B.trace (read_bound 255) bus.old bus.new }
     ensures told { IfErr result (λ stop. Told stop (B.world bus.new)) }
     ensures keeps { KeepsAddresses (B.world bus.old) (B.world bus.new) }
 {
@@ -144,7 +143,7 @@ pub(crate) fn read_strings<B: Bus>(
 ) -> Result<Strings, Stop>
     requires target { IsTarget target }
     requires max { 8 ≤ target.max }
-    ensures spends { Spends strings_bound (B.world bus.old) (B.world bus.new) }
+    ensures went { Went B.world B.trace strings_bound bus.old bus.new }
     ensures told { IfErr result (λ stop. Told stop (B.world bus.new)) }
     ensures keeps { KeepsAddresses (B.world bus.old) (B.world bus.new) }
 {

@@ -1,25 +1,25 @@
 use Rattle.std.proofs.Common.{◌∙◌, arith, sym}
-use Rattle.usb_world.proofs.Counts.{spends_wider}
+use Rattle.usb_bus.proofs.Wents.{went_wider}
 use Rattle.usb_address.proofs.Keeping.{keeps_then}
 use Rattle.usb_enum.specs.Stop.{Told}
-use Rattle.usb_enum.proofs.Counts.{text_spends}
+use Rattle.usb_enum.proofs.Counts.{text_went}
 use Rattle.usb_enum.proofs.Told.{handed_on, refused_told}
 use Rattle.usb_enum.proofs.configurations.read_text.Goals as goal
 
-pub returns-in_err-bytes-clause-spends : goal.returns-in_err-bytes-clause-spends
-returns-in_err-bytes-clause-spends g c =
-    text_spends c.args.target.max c.in_ok-total.total _ _ _ c.requires.max c.in_ok-total.ensures.most c.total_length.ensures.spends c.get_config.ensures.count
+pub returns-in_err-bytes-clause-went : goal.returns-in_err-bytes-clause-went
+returns-in_err-bytes-clause-went g c =
+    text_went c.args.target.max c.in_ok-total.total _ _ _ c.requires.max c.in_ok-total.ensures.most c.total_length.ensures.went c.get_config.ensures.went
 
-pub returns-in-Some-clause-spends : goal.returns-in-Some-clause-spends
-returns-in-Some-clause-spends g c =
-    text_spends c.args.target.max c.in_ok-total.total _ _ _ c.requires.max c.in_ok-total.ensures.most c.total_length.ensures.spends c.get_config.ensures.count
+pub returns-in-Some-clause-went : goal.returns-in-Some-clause-went
+returns-in-Some-clause-went g c =
+    text_went c.args.target.max c.in_ok-total.total _ _ _ c.requires.max c.in_ok-total.ensures.most c.total_length.ensures.went c.get_config.ensures.went
 
-pub returns-in-None-clause-spends : goal.returns-in-None-clause-spends
-returns-in-None-clause-spends g c =
-    text_spends c.args.target.max c.in_ok-total.total _ _ _ c.requires.max c.in_ok-total.ensures.most c.total_length.ensures.spends c.get_config.ensures.count
+pub returns-in-None-clause-went : goal.returns-in-None-clause-went
+returns-in-None-clause-went g c =
+    text_went c.args.target.max c.in_ok-total.total _ _ _ c.requires.max c.in_ok-total.ensures.most c.total_length.ensures.went c.get_config.ensures.went
 
-pub returns-in_err-total-clause-spends : goal.returns-in_err-total-clause-spends
-returns-in_err-total-clause-spends g c = spends_wider _ _ _ _ c.total_length.ensures.spends (omega arith)
+pub returns-in_err-total-clause-went : goal.returns-in_err-total-clause-went
+returns-in_err-total-clause-went g c = went_wider _ _ c.total_length.ensures.went (omega arith)
 
 pub returns-in_err-bytes-clause-keeps : goal.returns-in_err-bytes-clause-keeps
 returns-in_err-bytes-clause-keeps g c = keeps_then _ _ _ c.total_length.ensures.keeps c.get_config.ensures.keeps

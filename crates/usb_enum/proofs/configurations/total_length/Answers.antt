@@ -1,17 +1,17 @@
 use Rattle.std.proofs.Common.{◌∙◌, sym}
 use Rattle.usb_enum.specs.Stop.{Told}
-use Rattle.usb_enum.proofs.Counts.{read_spends}
+use Rattle.usb_enum.proofs.Counts.{read_went}
 use Rattle.usb_enum.proofs.Told.{handed_on, refused_told}
 use Rattle.usb_enum.proofs.configurations.total_length.Goals as goal
 
-pub returns-in_err-head-clause-spends : goal.returns-in_err-head-clause-spends
-returns-in_err-head-clause-spends g c = read_spends c.args.target.max 9 _ _ c.requires.max c.get_config.ensures.count
+pub returns-in_err-head-clause-went : goal.returns-in_err-head-clause-went
+returns-in_err-head-clause-went g c = read_went c.args.target.max 9 _ _ c.requires.max c.get_config.ensures.went
 
-pub returns-in-Ok-clause-spends : goal.returns-in-Ok-clause-spends
-returns-in-Ok-clause-spends g c = read_spends c.args.target.max 9 _ _ c.requires.max c.get_config.ensures.count
+pub returns-in-Ok-clause-went : goal.returns-in-Ok-clause-went
+returns-in-Ok-clause-went g c = read_went c.args.target.max 9 _ _ c.requires.max c.get_config.ensures.went
 
-pub returns-clause-spends : goal.returns-clause-spends
-returns-clause-spends g c = read_spends c.args.target.max 9 _ _ c.requires.max c.get_config.ensures.count
+pub returns-clause-went : goal.returns-clause-went
+returns-clause-went g c = read_went c.args.target.max 9 _ _ c.requires.max c.get_config.ensures.went
 
 pub returns-in_err-head-clause-told : goal.returns-in_err-head-clause-told
 returns-in_err-head-clause-told g c =

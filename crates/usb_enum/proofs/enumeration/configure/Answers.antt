@@ -1,56 +1,56 @@
 use Rattle.std.proofs.Common.{◌∙◌, arith, sym}
-use Rattle.usb_world.proofs.Counts.{spends_none, spends_then, spends_wider}
+use Rattle.usb_bus.proofs.Wents.{went_none, went_then, went_wider}
 use Rattle.usb_address.proofs.Keeping.{keeps_none, keeps_then}
-use Rattle.usb_enum.proofs.Counts.{spends_on}
+use Rattle.usb_enum.proofs.Counts.{went_on}
 use Rattle.usb_enum.specs.Stop.{ToldOfDevice}
 use Rattle.usb_enum.proofs.Hubs.{told_of_hub}
 use Rattle.usb_enum.proofs.Told.{handed_on, refused_told, told_of_device}
 use Rattle.usb_enum.proofs.enumeration.configure.Goals as goal
 
-pub returns-in_err-fits_tier-clause-spends : goal.returns-in_err-fits_tier-clause-spends
-returns-in_err-fits_tier-clause-spends g c = spends_wider 0 _ _ _ (spends_none _) (omega arith)
+pub returns-in_err-fits_tier-clause-went : goal.returns-in_err-fits_tier-clause-went
+returns-in_err-fits_tier-clause-went g c = went_wider 0 _ went_none (omega arith)
 
 pub returns-in_err-fits_tier-clause-keeps : goal.returns-in_err-fits_tier-clause-keeps
 returns-in_err-fits_tier-clause-keeps g c = keeps_none _
 
-pub returns-in_err-configs-clause-spends : goal.returns-in_err-configs-clause-spends
-returns-in_err-configs-clause-spends g c = spends_wider _ _ _ _ c.read_configurations.ensures.spends (omega arith)
+pub returns-in_err-configs-clause-went : goal.returns-in_err-configs-clause-went
+returns-in_err-configs-clause-went g c = went_wider _ _ c.read_configurations.ensures.went (omega arith)
 
 pub returns-in_err-configs-clause-keeps : goal.returns-in_err-configs-clause-keeps
 returns-in_err-configs-clause-keeps g c = c.read_configurations.ensures.keeps
 
-pub returns-in_err-chosen-clause-spends : goal.returns-in_err-chosen-clause-spends
-returns-in_err-chosen-clause-spends g c = spends_wider _ _ _ _ c.read_configurations.ensures.spends (omega arith)
+pub returns-in_err-chosen-clause-went : goal.returns-in_err-chosen-clause-went
+returns-in_err-chosen-clause-went g c = went_wider _ _ c.read_configurations.ensures.went (omega arith)
 
 pub returns-in_err-chosen-clause-keeps : goal.returns-in_err-chosen-clause-keeps
 returns-in_err-chosen-clause-keeps g c = c.read_configurations.ensures.keeps
 
-pub returns-in_default-clause-spends : goal.returns-in_default-clause-spends
-returns-in_default-clause-spends g c = spends_wider _ _ _ _ c.read_configurations.ensures.spends (omega arith)
+pub returns-in_default-clause-went : goal.returns-in_default-clause-went
+returns-in_default-clause-went g c = went_wider _ _ c.read_configurations.ensures.went (omega arith)
 
 pub returns-in_default-clause-keeps : goal.returns-in_default-clause-keeps
 returns-in_default-clause-keeps g c = c.read_configurations.ensures.keeps
 
-pub returns-in_err-answered_or-clause-spends : goal.returns-in_err-answered_or-clause-spends
-returns-in_err-answered_or-clause-spends g c = spends_on _ _ _ _ _ _ c.read_configurations.ensures.spends c.set_configuration.ensures.count (omega arith)
+pub returns-in_err-answered_or-clause-went : goal.returns-in_err-answered_or-clause-went
+returns-in_err-answered_or-clause-went g c = went_on _ _ _ _ _ _ c.read_configurations.ensures.went c.set_configuration.ensures.went (omega arith)
 
 pub returns-in_err-answered_or-clause-keeps : goal.returns-in_err-answered_or-clause-keeps
 returns-in_err-answered_or-clause-keeps g c = keeps_then _ _ _ c.read_configurations.ensures.keeps c.set_configuration.ensures.keeps
 
-pub returns-in_err-hub-clause-spends : goal.returns-in_err-hub-clause-spends
-returns-in_err-hub-clause-spends g c = spends_on _ _ _ _ _ _ (spends_then _ _ _ _ _ c.read_configurations.ensures.spends c.set_configuration.ensures.count) c.hub_facts.ensures.spends (omega arith)
+pub returns-in_err-hub-clause-went : goal.returns-in_err-hub-clause-went
+returns-in_err-hub-clause-went g c = went_on _ _ _ _ _ _ (went_then _ _ c.read_configurations.ensures.went c.set_configuration.ensures.went) c.hub_facts.ensures.went (omega arith)
 
 pub returns-in_err-hub-clause-keeps : goal.returns-in_err-hub-clause-keeps
 returns-in_err-hub-clause-keeps g c = keeps_then _ _ _ (keeps_then _ _ _ c.read_configurations.ensures.keeps c.set_configuration.ensures.keeps) c.hub_facts.ensures.keeps
 
-pub returns-in_err-strings-clause-spends : goal.returns-in_err-strings-clause-spends
-returns-in_err-strings-clause-spends g c = spends_on _ _ _ _ _ _ (spends_then _ _ _ _ _ (spends_then _ _ _ _ _ c.read_configurations.ensures.spends c.set_configuration.ensures.count) c.hub_facts.ensures.spends) c.read_strings.ensures.spends (omega arith)
+pub returns-in_err-strings-clause-went : goal.returns-in_err-strings-clause-went
+returns-in_err-strings-clause-went g c = went_on _ _ _ _ _ _ (went_then _ _ (went_then _ _ c.read_configurations.ensures.went c.set_configuration.ensures.went) c.hub_facts.ensures.went) c.read_strings.ensures.went (omega arith)
 
 pub returns-in_err-strings-clause-keeps : goal.returns-in_err-strings-clause-keeps
 returns-in_err-strings-clause-keeps g c = keeps_then _ _ _ (keeps_then _ _ _ (keeps_then _ _ _ c.read_configurations.ensures.keeps c.set_configuration.ensures.keeps) c.hub_facts.ensures.keeps) c.read_strings.ensures.keeps
 
-pub returns-clause-spends : goal.returns-clause-spends
-returns-clause-spends g c = spends_on _ _ _ _ _ _ (spends_then _ _ _ _ _ (spends_then _ _ _ _ _ c.read_configurations.ensures.spends c.set_configuration.ensures.count) c.hub_facts.ensures.spends) c.read_strings.ensures.spends (omega arith)
+pub returns-clause-went : goal.returns-clause-went
+returns-clause-went g c = went_on _ _ _ _ _ _ (went_then _ _ (went_then _ _ c.read_configurations.ensures.went c.set_configuration.ensures.went) c.hub_facts.ensures.went) c.read_strings.ensures.went (omega arith)
 
 pub returns-clause-keeps : goal.returns-clause-keeps
 returns-clause-keeps g c = keeps_then _ _ _ (keeps_then _ _ _ (keeps_then _ _ _ c.read_configurations.ensures.keeps c.set_configuration.ensures.keeps) c.hub_facts.ensures.keeps) c.read_strings.ensures.keeps

@@ -1,4 +1,7 @@
-use Rattle.std.proofs.Common.{subst}
+use Rattle.std.proofs.Common.{arith, subst}
+use Rattle.usb_bus.proofs.Wents.{went_wider}
+use Rattle.usb_hub.proofs.Ports.{port_stays}
+use Rattle.usb_enum.proofs.Counts.{went_on}
 use Rattle.usb_resources.specs.Pool.{HasAddresses}
 use Rattle.usb_enum.proofs.Endings.{zero_untaken, zero_before, free_untaken, enumerated, given_up}
 use Rattle.usb_enum.proofs.enumeration.enumerate.Goals as goal
@@ -17,3 +20,18 @@ pub returns-in-Err-clause-addresses : goal.returns-in-Err-clause-addresses
 returns-in-Err-clause-addresses g c =
     let taken = c.in-Some.ensures.some in
     given_up c.args.port c.args.pool.now c.in-Some.address (zero_before _ _ _ taken c.take.ensures.range) (free_untaken _ _ _ taken) _ _ _ _ c.in-Err.ensures.within (c.give_up-finding.ensures.ends c.in-Some.address)
+
+pub give_up-requires : goal.give_up-requires
+give_up-requires g c = port_stays _ _ _ _ c.without_address-stop.ensures.went.spends c.requires.port
+
+pub give_up-finding-requires : goal.give_up-finding-requires
+give_up-finding-requires g c = port_stays _ _ _ _ c.examine.ensures.went.spends c.requires.port
+
+pub returns-in_default-clause-went : goal.returns-in_default-clause-went
+returns-in_default-clause-went g c = went_on _ _ _ _ _ _ c.without_address-stop.ensures.went c.give_up.ensures.went (omega arith)
+
+pub returns-in-Ok-clause-went : goal.returns-in-Ok-clause-went
+returns-in-Ok-clause-went g c = went_wider _ _ c.examine.ensures.went (omega arith)
+
+pub returns-in-Err-clause-went : goal.returns-in-Err-clause-went
+returns-in-Err-clause-went g c = went_on _ _ _ _ _ _ c.examine.ensures.went c.give_up-finding.ensures.went (omega arith)

@@ -1,5 +1,6 @@
 use Rattle.std.proofs.Common.{◌∙◌, sym}
 use Rattle.usb_enum.specs.declared.cause.Cause.TheVariants.{BadHub}
+use Rattle.usb_enum.proofs.Counts.{read_went}
 use Rattle.usb_enum.proofs.Hubs.{count_told}
 use Rattle.usb_enum.proofs.hub.port_count.Goals as goal
 
@@ -7,3 +8,12 @@ pub returns-in-Ok-clause-count : goal.returns-in-Ok-clause-count
 returns-in-Ok-clause-count g c =
     let told = count_told c.args.target BadHub c.hub_descriptor.result c.in_ok-bytes.bytes c.in-Ok.hub _ _ (sym c.answered_or.ensures ∙ c.in_ok-bytes.was) c.hub_descriptor.ensures.asked (cc) (c.in-Ok.ensures.view ∙ c.as_slice.ensures.value) in
     rw c.ports.ensures.value told
+
+pub returns-in_err-bytes-clause-went : goal.returns-in_err-bytes-clause-went
+returns-in_err-bytes-clause-went g c = read_went c.args.target.max 9 _ _ c.requires.max c.hub_descriptor.ensures.went
+
+pub returns-in-Ok-clause-went : goal.returns-in-Ok-clause-went
+returns-in-Ok-clause-went g c = read_went c.args.target.max 9 _ _ c.requires.max c.hub_descriptor.ensures.went
+
+pub returns-clause-went : goal.returns-clause-went
+returns-clause-went g c = read_went c.args.target.max 9 _ _ c.requires.max c.hub_descriptor.ensures.went

@@ -1,35 +1,35 @@
 use Rattle.std.proofs.Common.{arith, rules}
-use Rattle.usb_world.proofs.Counts.{spends_none, spends_then, spends_wider}
+use Rattle.usb_bus.proofs.Wents.{went_none, went_then, went_wider}
 use Rattle.usb_address.proofs.Keeping.{keeps_none, keeps_then}
-use Rattle.usb_enum.proofs.Counts.{spends_on}
+use Rattle.usb_enum.proofs.Counts.{went_on}
 use Rattle.usb_enum.proofs.hub.start_hub.Goals as goal
 
-pub returns-then-is_none-clause-spends : goal.returns-then-is_none-clause-spends
-returns-then-is_none-clause-spends g c = spends_wider 0 _ _ _ (spends_none _) (omega arith)
+pub returns-then-is_none-clause-went : goal.returns-then-is_none-clause-went
+returns-then-is_none-clause-went g c = went_wider 0 _ went_none (omega arith)
 
 pub returns-then-is_none-clause-keeps : goal.returns-then-is_none-clause-keeps
 returns-then-is_none-clause-keeps g c = keeps_none _
 
-pub returns-in_err-ports-clause-spends : goal.returns-in_err-ports-clause-spends
-returns-in_err-ports-clause-spends g c = spends_wider _ _ _ _ c.port_count.ensures.spends (omega arith)
+pub returns-in_err-ports-clause-went : goal.returns-in_err-ports-clause-went
+returns-in_err-ports-clause-went g c = went_wider _ _ c.port_count.ensures.went (omega arith)
 
 pub returns-in_err-ports-clause-keeps : goal.returns-in_err-ports-clause-keeps
 returns-in_err-ports-clause-keeps g c = c.port_count.ensures.keeps
 
-pub returns-in_err-supply-clause-spends : goal.returns-in_err-supply-clause-spends
-returns-in_err-supply-clause-spends g c = spends_on _ _ _ _ _ _ c.port_count.ensures.spends c.port_supply.ensures.spends (omega arith)
+pub returns-in_err-supply-clause-went : goal.returns-in_err-supply-clause-went
+returns-in_err-supply-clause-went g c = went_on _ _ _ _ _ _ c.port_count.ensures.went c.port_supply.ensures.went (omega arith)
 
 pub returns-in_err-supply-clause-keeps : goal.returns-in_err-supply-clause-keeps
 returns-in_err-supply-clause-keeps g c = keeps_then _ _ _ c.port_count.ensures.keeps c.port_supply.ensures.keeps
 
-pub returns-in_err-power_ports-clause-spends : goal.returns-in_err-power_ports-clause-spends
-returns-in_err-power_ports-clause-spends g c = spends_on _ _ _ _ _ _ (spends_then _ _ _ _ _ c.port_count.ensures.spends c.port_supply.ensures.spends) c.power_ports.ensures.spends (omega (arith, c.in_ok-ports.ensures.number.1))
+pub returns-in_err-power_ports-clause-went : goal.returns-in_err-power_ports-clause-went
+returns-in_err-power_ports-clause-went g c = went_on _ _ _ _ _ _ (went_then _ _ c.port_count.ensures.went c.port_supply.ensures.went) c.power_ports.ensures.went (omega (arith, c.in_ok-ports.ensures.number.1))
 
 pub returns-in_err-power_ports-clause-keeps : goal.returns-in_err-power_ports-clause-keeps
 returns-in_err-power_ports-clause-keeps g c = keeps_then _ _ _ (keeps_then _ _ _ c.port_count.ensures.keeps c.port_supply.ensures.keeps) c.power_ports.ensures.keeps
 
-pub returns-clause-spends : goal.returns-clause-spends
-returns-clause-spends g c = spends_on _ _ _ _ _ _ (spends_then _ _ _ _ _ c.port_count.ensures.spends c.port_supply.ensures.spends) c.power_ports.ensures.spends (omega (arith, c.in_ok-ports.ensures.number.1))
+pub returns-clause-went : goal.returns-clause-went
+returns-clause-went g c = went_on _ _ _ _ _ _ (went_then _ _ c.port_count.ensures.went c.port_supply.ensures.went) c.power_ports.ensures.went (omega (arith, c.in_ok-ports.ensures.number.1))
 
 pub returns-clause-started : goal.returns-clause-started
 returns-clause-started g c =

@@ -5,8 +5,8 @@ use Rattle.usb_enum.specs.Stop.{FaultAt}
 use Rattle.usb_enum.proofs.Told.{port_told, set_fails}
 use Rattle.usb_enum.proofs.passes.begin_reset.Goals as goal
 
-pub returns-clause-spends : goal.returns-clause-spends
-returns-clause-spends g c = c.set_port.ensures.count refl
+pub returns-clause-went : goal.returns-clause-went
+returns-clause-went g c = c.set_port.ensures.went refl
 
 pub returns-clause-told : goal.returns-clause-told
 returns-clause-told g c =

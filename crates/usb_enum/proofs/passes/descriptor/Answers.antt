@@ -1,4 +1,4 @@
-use Rattle.usb_enum.proofs.Counts.{read_spends}
+use Rattle.usb_enum.proofs.Counts.{read_went}
 use Rattle.std.proofs.Common.{◌≡◌, ◌∙◌, ℕ, true, List, Option, Result, subst, sym}
 use Rattle.std.specs.Prelude.{IfOk, IfErr, IfSome, OnOk}
 use Rattle.std.specs.Global.{Vec}
@@ -11,26 +11,26 @@ use Rattle.usb_enum.proofs.Hubs.{answered_ok}
 use Rattle.usb_enum.proofs.Told.{handed_on, refused_told, device_told, device_good, device_so}
 use Rattle.usb_enum.proofs.passes.descriptor.Goals as goal
 
-pub returns-then-eq-clause-spends : goal.returns-then-eq-clause-spends
-returns-then-eq-clause-spends g c = read_spends c.args.target.max 18 _ _ c.requires.max c.get_device-outcome.ensures.count
+pub returns-then-eq-clause-went : goal.returns-then-eq-clause-went
+returns-then-eq-clause-went g c = read_went c.args.target.max 18 _ _ c.requires.max c.get_device-outcome.ensures.went
 
 pub returns-then-eq-clause-keeps : goal.returns-then-eq-clause-keeps
 returns-then-eq-clause-keeps g c = c.get_device-outcome.ensures.addresses.keeps
 
-pub returns-in_err-bytes-clause-spends : goal.returns-in_err-bytes-clause-spends
-returns-in_err-bytes-clause-spends g c = read_spends c.args.target.max 18 _ _ c.requires.max c.get_device-outcome.ensures.count
+pub returns-in_err-bytes-clause-went : goal.returns-in_err-bytes-clause-went
+returns-in_err-bytes-clause-went g c = read_went c.args.target.max 18 _ _ c.requires.max c.get_device-outcome.ensures.went
 
 pub returns-in_err-bytes-clause-keeps : goal.returns-in_err-bytes-clause-keeps
 returns-in_err-bytes-clause-keeps g c = c.get_device-outcome.ensures.addresses.keeps
 
-pub returns-in-Some-clause-spends : goal.returns-in-Some-clause-spends
-returns-in-Some-clause-spends g c = read_spends c.args.target.max 18 _ _ c.requires.max c.get_device-outcome.ensures.count
+pub returns-in-Some-clause-went : goal.returns-in-Some-clause-went
+returns-in-Some-clause-went g c = read_went c.args.target.max 18 _ _ c.requires.max c.get_device-outcome.ensures.went
 
 pub returns-in-Some-clause-keeps : goal.returns-in-Some-clause-keeps
 returns-in-Some-clause-keeps g c = c.get_device-outcome.ensures.addresses.keeps
 
-pub returns-clause-spends : goal.returns-clause-spends
-returns-clause-spends g c = read_spends c.args.target.max 18 _ _ c.requires.max c.get_device-outcome.ensures.count
+pub returns-clause-went : goal.returns-clause-went
+returns-clause-went g c = read_went c.args.target.max 18 _ _ c.requires.max c.get_device-outcome.ensures.went
 
 pub returns-clause-keeps : goal.returns-clause-keeps
 returns-clause-keeps g c = c.get_device-outcome.ensures.addresses.keeps

@@ -1,23 +1,23 @@
 use Rattle.std.proofs.Common.{◌∙◌, arith, sym}
 use Rattle.usb_enum.specs.Stop.{Told}
-use Rattle.usb_enum.proofs.Counts.{read_spends}
+use Rattle.usb_enum.proofs.Counts.{read_went}
 use Rattle.usb_enum.proofs.Told.{handed_on, refused_told}
 use Rattle.usb_enum.proofs.passes.first_maximum.Goals as goal
 
-pub returns-in_err-bytes-clause-spends : goal.returns-in_err-bytes-clause-spends
-returns-in_err-bytes-clause-spends g c = read_spends c.args.unaddressed.max 8 _ _ (omega (arith, c.requires.max)) c.get_device.ensures.count
+pub returns-in_err-bytes-clause-went : goal.returns-in_err-bytes-clause-went
+returns-in_err-bytes-clause-went g c = read_went c.args.unaddressed.max 8 _ _ (omega (arith, c.requires.max)) c.get_device.ensures.went
 
 pub returns-in_err-bytes-clause-keeps : goal.returns-in_err-bytes-clause-keeps
 returns-in_err-bytes-clause-keeps g c = c.get_device.ensures.addresses.keeps
 
-pub returns-in-Ok-clause-spends : goal.returns-in-Ok-clause-spends
-returns-in-Ok-clause-spends g c = read_spends c.args.unaddressed.max 8 _ _ (omega (arith, c.requires.max)) c.get_device.ensures.count
+pub returns-in-Ok-clause-went : goal.returns-in-Ok-clause-went
+returns-in-Ok-clause-went g c = read_went c.args.unaddressed.max 8 _ _ (omega (arith, c.requires.max)) c.get_device.ensures.went
 
 pub returns-in-Ok-clause-keeps : goal.returns-in-Ok-clause-keeps
 returns-in-Ok-clause-keeps g c = c.get_device.ensures.addresses.keeps
 
-pub returns-clause-spends : goal.returns-clause-spends
-returns-clause-spends g c = read_spends c.args.unaddressed.max 8 _ _ (omega (arith, c.requires.max)) c.get_device.ensures.count
+pub returns-clause-went : goal.returns-clause-went
+returns-clause-went g c = read_went c.args.unaddressed.max 8 _ _ (omega (arith, c.requires.max)) c.get_device.ensures.went
 
 pub returns-clause-keeps : goal.returns-clause-keeps
 returns-clause-keeps g c = c.get_device.ensures.addresses.keeps

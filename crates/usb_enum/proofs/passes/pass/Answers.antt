@@ -1,7 +1,7 @@
 use Rattle.std.proofs.Common.{◌∙◌, arith, sym}
-use Rattle.usb_world.proofs.Counts.{spends_then, spends_wider}
+use Rattle.usb_bus.proofs.Wents.{went_then, went_wider}
 use Rattle.usb_enum.specs.Stop.{ToldAt}
-use Rattle.usb_enum.proofs.Counts.{spends_on}
+use Rattle.usb_enum.proofs.Counts.{went_on}
 use Rattle.usb_enum.proofs.Enumerations.{within_addressed, within_on, takes_after, takes_answered}
 use Rattle.usb_enum.proofs.Told.{handed_on, refused_told, told_at}
 use Rattle.usb_enum.proofs.passes.pass.Goals as goal
@@ -30,20 +30,20 @@ returns-in-None-clause-within g c =
     let addressed = within_addressed _ _ _ _ _ _ (c.unaddressed.ensures.within c.args.address) c.in_ok-target.ensures.target.zero c.requires.least c.set_address.ensures.gives in
     within_on _ _ _ _ _ addressed c.descriptor.ensures.keeps
 
-pub returns-in_err-target-clause-spends : goal.returns-in_err-target-clause-spends
-returns-in_err-target-clause-spends g c = spends_wider _ _ _ _ c.unaddressed.ensures.spends (omega arith)
+pub returns-in_err-target-clause-went : goal.returns-in_err-target-clause-went
+returns-in_err-target-clause-went g c = went_wider _ _ c.unaddressed.ensures.went (omega arith)
 
-pub returns-in_err-answered_or-clause-spends : goal.returns-in_err-answered_or-clause-spends
-returns-in_err-answered_or-clause-spends g c = spends_on _ _ _ _ _ _ c.unaddressed.ensures.spends c.set_address.ensures.count (omega arith)
+pub returns-in_err-answered_or-clause-went : goal.returns-in_err-answered_or-clause-went
+returns-in_err-answered_or-clause-went g c = went_on _ _ _ _ _ _ c.unaddressed.ensures.went c.set_address.ensures.went (omega arith)
 
-pub returns-in_err-bytes-clause-spends : goal.returns-in_err-bytes-clause-spends
-returns-in_err-bytes-clause-spends g c = spends_on _ _ _ _ _ _ (spends_then _ _ _ _ _ c.unaddressed.ensures.spends c.set_address.ensures.count) c.descriptor.ensures.spends (omega arith)
+pub returns-in_err-bytes-clause-went : goal.returns-in_err-bytes-clause-went
+returns-in_err-bytes-clause-went g c = went_on _ _ _ _ _ _ (went_then _ _ c.unaddressed.ensures.went c.set_address.ensures.went) c.descriptor.ensures.went (omega arith)
 
-pub returns-in-Some-clause-spends : goal.returns-in-Some-clause-spends
-returns-in-Some-clause-spends g c = spends_on _ _ _ _ _ _ (spends_then _ _ _ _ _ c.unaddressed.ensures.spends c.set_address.ensures.count) c.descriptor.ensures.spends (omega arith)
+pub returns-in-Some-clause-went : goal.returns-in-Some-clause-went
+returns-in-Some-clause-went g c = went_on _ _ _ _ _ _ (went_then _ _ c.unaddressed.ensures.went c.set_address.ensures.went) c.descriptor.ensures.went (omega arith)
 
-pub returns-in-None-clause-spends : goal.returns-in-None-clause-spends
-returns-in-None-clause-spends g c = spends_on _ _ _ _ _ _ (spends_then _ _ _ _ _ c.unaddressed.ensures.spends c.set_address.ensures.count) c.descriptor.ensures.spends (omega arith)
+pub returns-in-None-clause-went : goal.returns-in-None-clause-went
+returns-in-None-clause-went g c = went_on _ _ _ _ _ _ (went_then _ _ c.unaddressed.ensures.went c.set_address.ensures.went) c.descriptor.ensures.went (omega arith)
 
 pub returns-in_err-answered_or-clause-told : goal.returns-in_err-answered_or-clause-told
 returns-in_err-answered_or-clause-told g c =

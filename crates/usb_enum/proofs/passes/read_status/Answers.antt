@@ -6,8 +6,8 @@ use Rattle.usb_port.specs.declared.status.PortStatus.{PortStatus}
 use Rattle.usb_enum.proofs.Told.{port_told, read_fails}
 use Rattle.usb_enum.proofs.passes.read_status.Goals as goal
 
-pub returns-clause-spends : goal.returns-clause-spends
-returns-clause-spends g c = c.port_status.ensures.count
+pub returns-clause-went : goal.returns-clause-went
+returns-clause-went g c = c.port_status.ensures.went
 
 pub returns-clause-told : goal.returns-clause-told
 returns-clause-told g c =

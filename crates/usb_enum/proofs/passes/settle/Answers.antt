@@ -2,19 +2,19 @@ use Rattle.std.proofs.Common.{Result, arith, subst, sym}
 use Rattle.std.specs.Prelude.{IfErr}
 use Rattle.usb_enum.specs.declared.fault.EnumFault.{EnumFault}
 use Rattle.usb_enum.specs.Stop.{FaultAt}
-use Rattle.usb_world.proofs.Counts.{spends_none, spends_wider}
+use Rattle.usb_bus.proofs.Wents.{went_none, went_wider}
 use Rattle.usb_address.proofs.Keeping.{keeps_none}
 use Rattle.usb_enum.proofs.Told.{port_told, clear_fails}
 use Rattle.usb_enum.proofs.passes.settle.Goals as goal
 
-pub returns-then-not-changed-clause-spends : goal.returns-then-not-changed-clause-spends
-returns-then-not-changed-clause-spends g c = spends_wider 0 _ _ _ (spends_none _) (omega arith)
+pub returns-then-not-changed-clause-went : goal.returns-then-not-changed-clause-went
+returns-then-not-changed-clause-went g c = went_wider 0 _ went_none (omega arith)
 
 pub returns-then-not-changed-clause-keeps : goal.returns-then-not-changed-clause-keeps
 returns-then-not-changed-clause-keeps g c = keeps_none _
 
-pub returns-clause-spends : goal.returns-clause-spends
-returns-clause-spends g c = c.clear_port.ensures.count
+pub returns-clause-went : goal.returns-clause-went
+returns-clause-went g c = c.clear_port.ensures.went
 
 pub returns-clause-told : goal.returns-clause-told
 returns-clause-told g c =
