@@ -1,6 +1,6 @@
 //! What stands at a port, with the host's pipes to it.
 ghost use Rattle.std.specs.Prelude.{◌≡◌, Some};
-ghost use Rattle.usb_world.specs.World.{Spends};
+ghost use Rattle.usb_bus.specs.Traced.{Traced, Went};
 ghost use Rattle.usb_table.specs.Findings.{IsSound, device_of};
 ghost use Rattle.usb_table.specs.Transfers.{PollEnds, Polled, Sent, Received, Cleared};
 
@@ -63,7 +63,7 @@ impl Entry {
     /// Asks a hub's status endpoint once; `None` of anything else.
     pub fn poll<B: Bus>(&mut self, bus: &mut B) -> Result<Option<ArrayVec<u8, 64>>, PipeFault>
         ensures same { self.new ≡ self.old }
-        ensures count { Spends 768 (B.world bus.old) (B.world bus.new) }
+        ensures went { Went B.world B.trace 768 bus.old bus.new }
         ensures ends { PollEnds (B.world bus.old) result (B.world bus.new) }
         ensures polled { Polled (device_of (Some self.old)) (B.world bus.old) result (B.world bus.new) }
     {
@@ -76,6 +76,7 @@ impl Entry {
     /// Sends bytes to a function's bulk OUT endpoint.
     pub fn send<B: Bus>(&mut self, bus: &mut B, bytes: &[u8]) -> Result<(), EndpointFault>
         ensures same { self.new ≡ self.old }
+        ensures traced { Traced (B.world bus.old) (B.trace bus.old) (B.world bus.new) (B.trace bus.new) }
         ensures sent { Sent (device_of (Some self.old)) bytes.now (B.world bus.old) result (B.world bus.new) }
     {
         match &mut self.pipes {
@@ -93,6 +94,7 @@ impl Entry {
         packets: u16,
     ) -> Result<Vec<u8>, EndpointFault>
         ensures same { self.new ≡ self.old }
+        ensures traced { Traced (B.world bus.old) (B.trace bus.old) (B.world bus.new) (B.trace bus.new) }
         ensures received { Received (device_of (Some self.old)) packets (B.world bus.old) result (B.world bus.new) }
     {
         match &mut self.pipes {
@@ -105,7 +107,7 @@ impl Entry {
     /// Clears the halts of a function's bulk endpoints.
     pub fn clear_halt<B: Bus>(&mut self, bus: &mut B) -> Result<(), EndpointFault>
         ensures same { self.new ≡ self.old }
-        ensures count { Spends 3200 (B.world bus.old) (B.world bus.new) }
+        ensures went { Went B.world B.trace 3200 bus.old bus.new }
         ensures cleared { Cleared (device_of (Some self.old)) (B.world bus.old) result (B.world bus.new) }
     {
         match &mut self.pipes {

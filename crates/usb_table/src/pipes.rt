@@ -1,6 +1,6 @@
 //! The host's pipes to a device.
 ghost use Rattle.std.specs.Prelude.{◌≡◌, false, true, is_some, IfSome};
-ghost use Rattle.usb_world.specs.World.{Spends};
+ghost use Rattle.usb_bus.specs.Traced.{Traced, Went};
 ghost use Rattle.usb_descriptor.specs.Choice.{IsUsable};
 ghost use Rattle.usb_table.specs.Findings.{IsSoundDevice, at_full_speed};
 ghost use Rattle.usb_table.specs.Pipes.{ArePipesTo, IsPipe, IsStatusPipe};
@@ -80,7 +80,8 @@ pub(crate) fn send_through<B: Bus>(
     bytes: &[u8],
 ) -> Result<(), EndpointFault>
     requires { IfSome pipe.old (λ p. p.is_in ≡ false) }
-    ensures { SentBy pipe.old bytes.now (B.world bus.old) result pipe.new (B.world bus.new) }
+    ensures traced { Traced (B.world bus.old) (B.trace bus.old) (B.world bus.new) (B.trace bus.new) }
+    ensures sent { SentBy pipe.old bytes.now (B.world bus.old) result pipe.new (B.world bus.new) }
 {
     match pipe {
         Some(pipe) => Ok(pipe.send(bus, bytes)?),
@@ -96,7 +97,8 @@ pub(crate) fn receive_through<B: Bus>(
     packets: u16,
 ) -> Result<Vec<u8>, EndpointFault>
     requires { IfSome pipe.old (λ p. p.is_in ≡ true) }
-    ensures { ReceivedBy pipe.old packets (B.world bus.old) result pipe.new (B.world bus.new) }
+    ensures traced { Traced (B.world bus.old) (B.trace bus.old) (B.world bus.new) (B.trace bus.new) }
+    ensures received { ReceivedBy pipe.old packets (B.world bus.old) result pipe.new (B.world bus.new) }
 {
     match pipe {
         Some(pipe) => Ok(pipe.receive(alloc, bus, packets)?),
@@ -106,7 +108,7 @@ pub(crate) fn receive_through<B: Bus>(
 
 /// Clears the halt of a pipe's endpoint, if there is one.
 fn clear_through<B: Bus>(pipe: &mut Option<BulkPipe>, bus: &mut B) -> Result<(), PipeFault>
-    ensures count { Spends 1600 (B.world bus.old) (B.world bus.new) }
+    ensures went { Went B.world B.trace 1600 bus.old bus.new }
     ensures cleared { ClearedBy pipe.old (B.world bus.old) result pipe.new (B.world bus.new) }
 {
     match pipe {
@@ -117,9 +119,8 @@ fn clear_through<B: Bus>(pipe: &mut Option<BulkPipe>, bus: &mut B) -> Result<(),
 
 impl BulkPipes {
     /// Clears the halt of both endpoints, of the one that writes first.
-    #[tactic(auto, using(usb_world::proofs::Counts::spends_then, usb_world::proofs::Counts::spends_wider))]
     pub fn clear_halt<B: Bus>(&mut self, bus: &mut B) -> Result<(), EndpointFault>
-        ensures count { Spends 3200 (B.world bus.old) (B.world bus.new) }
+        ensures went { Went B.world B.trace 3200 bus.old bus.new }
         ensures cleared { ClearedInTurn self.old (B.world bus.old) result self.new (B.world bus.new) }
     {
         if self.out.is_none() && self.into.is_none() {

@@ -3,7 +3,7 @@ ghost use Rattle.std.specs.Prelude.{◌≡◌, ◌*◌, [], length, false, IfSom
 ghost use Rattle.std.specs.BTreeMap.{insert_entry, is_at};
 ghost use Rattle.std.specs.Map.{lookup};
 ghost use Rattle.usb_port.specs.Order.{path_cmp};
-ghost use Rattle.usb_world.specs.World.{Spends};
+ghost use Rattle.usb_bus.specs.Traced.{Went};
 ghost use Rattle.usb_address.specs.Owned.{KeepsAddresses};
 ghost use Rattle.usb_table.specs.Entries.{Entries, Rises, TakesOut, has_at};
 ghost use Rattle.usb_table.specs.Findings.{IsSound, HasNewAddress, HasDevice, HasNoDevice, is_hub, is_waiting, device_at};
@@ -181,7 +181,7 @@ impl DeviceTable {
         hub: &PortPath,
     ) -> Result<Option<ArrayVec<u8, 64>>, PipeFault>
         ensures same { self.new ≡ self.old }
-        ensures count { Spends 768 (B.world bus.old) (B.world bus.new) }
+        ensures went { Went B.world B.trace 768 bus.old bus.new }
         ensures ends { PollEnds (B.world bus.old) result (B.world bus.new) }
         ensures polled { Polled (device_at hub.now self.old) (B.world bus.old) result (B.world bus.new) }
         ensures keeps { KeepsAddresses (B.world bus.old) (B.world bus.new) }
@@ -206,7 +206,7 @@ impl DeviceTable {
         bytes: &[u8],
     ) -> Result<(), EndpointFault>
         ensures same { self.new ≡ self.old }
-        ensures count { Spends (768 * length bytes.now) (B.world bus.old) (B.world bus.new) }
+        ensures went { Went B.world B.trace (768 * length bytes.now) bus.old bus.new }
         ensures told { IfErr result (λ fault. FaultTold fault (B.world bus.new)) }
         ensures sent { Sent (device_at path.now self.old) bytes.now (B.world bus.old) result (B.world bus.new) }
         ensures keeps { KeepsAddresses (B.world bus.old) (B.world bus.new) }
@@ -233,7 +233,7 @@ impl DeviceTable {
         packets: u16,
     ) -> Result<Vec<u8>, EndpointFault>
         ensures same { self.new ≡ self.old }
-        ensures count { Spends (768 * packets) (B.world bus.old) (B.world bus.new) }
+        ensures went { Went B.world B.trace (768 * packets) bus.old bus.new }
         ensures told { IfErr result (λ fault. FaultTold fault (B.world bus.new)) }
         ensures received { Received (device_at path.now self.old) packets (B.world bus.old) result (B.world bus.new) }
         ensures keeps { KeepsAddresses (B.world bus.old) (B.world bus.new) }
@@ -254,7 +254,7 @@ impl DeviceTable {
     #[tactic(auto, using(crate::proofs::Keys::same_slot, crate::proofs::Keys::found_at, crate::proofs::Keys::none_at))]
     pub fn clear_halt<B: Bus>(&mut self, bus: &mut B, path: &PortPath) -> Result<(), EndpointFault>
         ensures same { self.new ≡ self.old }
-        ensures count { Spends 3200 (B.world bus.old) (B.world bus.new) }
+        ensures went { Went B.world B.trace 3200 bus.old bus.new }
         ensures told { IfErr result (λ fault. FaultTold fault (B.world bus.new)) }
         ensures cleared { Cleared (device_at path.now self.old) (B.world bus.old) result (B.world bus.new) }
         ensures keeps { KeepsAddresses (B.world bus.old) (B.world bus.new) }

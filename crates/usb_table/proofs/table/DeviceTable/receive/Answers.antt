@@ -1,12 +1,16 @@
 -- The entry shows the same when it is written back.
-use Rattle.std.proofs.Common.{◌∙◌, sym, ap, Some}
+use Rattle.std.proofs.Common.{◌*◌, ◌∙◌, sym, ap, Some, arith}
 use Rattle.slab.specs.Slab.{Slab, get}
+use Rattle.usb_bus.proofs.Wents.{went_none, went_wider}
 use Rattle.usb_enum.specs.declared.finding.Finding.{Finding}
 use Rattle.usb_table.specs.Findings.{device_of}
 use Rattle.usb_table.specs.Keys.{entries_of}
 use Rattle.usb_table.proofs.Keeping.{received_addresses}
 use Rattle.usb_table.proofs.Keys.{same_slot, found_at}
 use Rattle.usb_table.proofs.table.DeviceTable.receive.Goals as goal
+
+pub returns-in-None-clause-went : goal.returns-in-None-clause-went
+returns-in-None-clause-went g c = went_wider 0 (768 * c.args.packets) went_none (omega arith)
 
 pub returns-in-Some-clause-same : goal.returns-in-Some-clause-same
 returns-in-Some-clause-same g c =

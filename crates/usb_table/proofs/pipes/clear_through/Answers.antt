@@ -1,0 +1,6 @@
+use Rattle.std.proofs.Common.{arith}
+use Rattle.usb_bus.proofs.Wents.{went_none, went_wider}
+use Rattle.usb_table.proofs.pipes.clear_through.Goals as goal
+
+pub returns-in-None-clause-went : goal.returns-in-None-clause-went
+returns-in-None-clause-went g c = went_wider 0 1600 went_none (omega arith)
