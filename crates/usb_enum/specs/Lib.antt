@@ -1,5 +1,6 @@
 pub mod Addresses
 pub mod Bounds
+pub mod Described
 pub mod Device
 pub mod Found
 pub mod Hub
