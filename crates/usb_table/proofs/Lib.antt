@@ -5,6 +5,7 @@ pub mod Keeping
 pub mod Kept
 pub mod Keys
 pub mod Nexts
+pub mod OneListing
 pub mod Paths
 pub mod Ports
 pub mod Removals
