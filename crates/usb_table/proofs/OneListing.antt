@@ -1,16 +1,14 @@
 -- What is plugged has one right listing, but for addresses.
 use Rattle.std.proofs.Common.{◌≡◌, inl, inr, ◌≤◌, ◌<◌, ◌+◌, ℕ, zero, suc, List, length, Option, None, Some, refl, ap, sym, subst, ◌∙◌, arith}
-use Rattle.std.specs.Prelude.{IsSome, IsSomeAnd, option_and_then}
+use Rattle.std.specs.Prelude.{IsSome, IsSomeAnd}
 use Rattle.usb_port.specs.Order.{parent_of, port_of}
 use Rattle.usb_device.specs.Spec.{Spec}
-use Rattle.usb_enum.specs.declared.finding.Accepted.{Accepted}
 use Rattle.usb_enum.specs.declared.finding.Finding.{Finding}
 use Rattle.usb_enum.specs.declared.finding.Finding.TheVariants.{Device, Refused}
 use Rattle.usb_enum.specs.declared.hub.HubFacts.{HubFacts}
 use Rattle.usb_enum.specs.Described.{IsFindingOf}
 use Rattle.usb_table.specs.Entries.{Entries}
-use Rattle.usb_table.specs.Findings.{device_of}
-use Rattle.usb_table.specs.Listing.{Tree, finding_at, hub_at, IsPortBelow, IsListedPort, tier_of, supply_at, ListsEach, IsRight, Lists, NoneWaits, IsFoundLike, ListsLike}
+use Rattle.usb_table.specs.Listing.{Tree, finding_at, hub_in, hub_at, IsPortBelow, IsListedPort, tier_of, supply_at, ListsEach, IsRight, Lists, NoneWaits, IsFoundLike, ListsLike}
 use Rattle.usb_table.proofs.Ports.{parent_shorter}
 
 found_like : (spec : Spec) (tier supply : ℕ) (f g : Finding) → IsFindingOf spec tier supply f → IsFindingOf spec tier supply g → IsFoundLike f g
@@ -46,10 +44,7 @@ found_at roots tree entries l none path spec port t = pick (finding_at path entr
 
 -- Ports
 
-abbrev facts_in : Option Finding → Option HubFacts
-facts_in o = option_and_then (λ (device : Accepted). device.hub) (device_of o)
-
-same_facts : (f : Finding) (o : Option Finding) (hub : HubFacts) → IsSomeAnd o (IsFoundLike f) → facts_in (Some f) ≡ Some hub → facts_in o ≡ Some hub
+same_facts : (f : Finding) (o : Option Finding) (hub : HubFacts) → IsSomeAnd o (IsFoundLike f) → hub_in (Some f) ≡ Some hub → hub_in o ≡ Some hub
 same_facts f None hub like at = absurd like
 same_facts (Device d) (Some (Device e)) hub like at = sym like.hub ∙ at
 same_facts (Device d) (Some (Refused c)) hub like at = absurd like
@@ -59,7 +54,7 @@ same_facts (Refused c) o hub like at = absurd cc
 same_hub : (a b : Entries) (path : List ℕ) (hub : HubFacts) → ((f : Finding) → finding_at path a ≡ Some f → IsSomeAnd (finding_at path b) (IsFoundLike f)) → hub_at path a ≡ Some hub → hub_at path b ≡ Some hub
 same_hub a b path hub like at = pick (finding_at path a) refl at
   where
-    pick : (o : Option Finding) → finding_at path a ≡ o → facts_in o ≡ Some hub → hub_at path b ≡ Some hub
+    pick : (o : Option Finding) → finding_at path a ≡ o → hub_in o ≡ Some hub → hub_at path b ≡ Some hub
     pick None e at = absurd cc
     pick (Some f) e at = same_facts f (finding_at path b) hub (like f e) at
 

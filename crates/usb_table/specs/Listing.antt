@@ -8,7 +8,7 @@ use Rattle.usb_resources.specs.Power.{supply_of}
 use Rattle.usb_descriptor.specs.Config.{configuration_value}
 use Rattle.usb_device.specs.Spec.{Spec}
 use Rattle.usb_device.specs.Rows.{State}
-use Rattle.usb_device.specs.Tree.{reach}
+use Rattle.usb_device.specs.Tree.{Ports, reach}
 use Rattle.usb_device.specs.View.{state_there, port_there}
 use Rattle.usb_world.specs.PlanData.{PlanData}
 use Rattle.usb_world.specs.Plugged as left
@@ -24,7 +24,7 @@ use Rattle.usb_enum.specs.declared.hub.HubFacts.{HubFacts}
 use Rattle.usb_enum.specs.Described.{gives_head, IsFindingOf}
 use Rattle.usb_enum.specs.Device.{configuration_of}
 use Rattle.usb_table.specs.Entries.{Entries, Rises}
-use Rattle.usb_table.specs.Findings.{device_at}
+use Rattle.usb_table.specs.Findings.{device_of, device_at}
 use Rattle.usb_table.specs.Keys.{address_in}
 
 -- What is plugged: the description of the device at each path
@@ -50,9 +50,12 @@ finding_at path entries = lookup (is_at (path_cmp path)) entries
 abbrev pub address_at : List ℕ → Entries → Option ℕ
 address_at path entries = address_in (finding_at path entries)
 
--- the accepted hub at a path
+-- the accepted hub of a finding, and at a path
+abbrev pub hub_in : Option Finding → Option HubFacts
+hub_in found = option_and_then (λ (device : Accepted). device.hub) (device_of found)
+
 abbrev pub hub_at : List ℕ → Entries → Option HubFacts
-hub_at path entries = option_and_then (λ (device : Accepted). device.hub) (device_at path entries)
+hub_at path entries = hub_in (finding_at path entries)
 
 abbrev pub IsPortBelow : ℕ → Entries → Option (List ℕ) → ℕ → Type 0
 IsPortBelow roots entries None number = (1 ≤ number) × (number ≤ roots)
@@ -108,12 +111,16 @@ pub record IsSet (device : Accepted) (s : State) : Type 0 where
   pub address : s.registers.address ≡ device.address
   pub configuration : s.registers.configuration ≡ configuration_value (configuration_of device)
 
+-- the port at a path, where there is one, passes nothing on
+abbrev pub IsDisabledAt : Ports → List ℕ → Type 0
+IsDisabledAt k path = IfSome (port_there k path) (λ b. b.enable ≡ false)
+
 -- the listing is what is plugged in a world; each accepted device is reached and set as is listed, and the port of each refused one is disabled
 pub record Matches (w : World) (entries : Entries) : Type 0 where
   pub lists : Lists (roots_of w) (tree_in w) entries
   pub reached : (path : List ℕ) (device : Accepted) → device_at path entries ≡ Some device → reach w.roots path ≡ true
   pub set : (path : List ℕ) (device : Accepted) → device_at path entries ≡ Some device → IfSome (state_there w.roots path) (IsSet device)
-  pub disabled : (path : List ℕ) (cause : Cause) → finding_at path entries ≡ Some (Refused cause) → IfSome (port_there w.roots path) (λ b. b.enable ≡ false)
+  pub disabled : (path : List ℕ) (cause : Cause) → finding_at path entries ≡ Some (Refused cause) → IsDisabledAt w.roots path
 
 -- Two listings
 
