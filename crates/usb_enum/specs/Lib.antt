@@ -4,5 +4,6 @@ pub mod Described
 pub mod Device
 pub mod Found
 pub mod Hub
+pub mod Losses
 pub mod Stop
 pub mod Text

@@ -72,9 +72,3 @@ pub record Accounted (roots : ℕ) (entries : Entries) (addresses : Addresses) :
 pub record IsAtRest (w : World) (entries : Entries) : Type 0 where
   pub none_pending : (path : List ℕ) → IsListedPort (roots_of w) entries path → pend w.roots path ≡ false
   pub none_waiting : (path : List ℕ) → finding_at path entries ≡ Some (Refused NoAddress) → ListsEach entries
-
--- Premises
-
--- no enumeration lost its device's address three times
-abbrev pub FewLosses : World → Type 0
-FewLosses w = w.losses.worst ≤ 2

@@ -7,6 +7,7 @@ pub mod Keys
 pub mod Nexts
 pub mod OneListing
 pub mod Paths
+pub mod PlannedListing
 pub mod Ports
 pub mod Removals
 pub mod Sound

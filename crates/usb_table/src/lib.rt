@@ -15,5 +15,5 @@ mod target;
 pub use fault::EndpointFault;
 pub use found::address_of;
 pub use known::KnownPort;
-pub use listing_laws::one_listing;
+pub use listing_laws::{listed_is_what_the_events_left, one_listing};
 pub use table::DeviceTable;
