@@ -4,6 +4,7 @@ pub mod Goings
 pub mod Keeping
 pub mod Kept
 pub mod Keys
+pub mod ListingExample
 pub mod Nexts
 pub mod OneListing
 pub mod Paths
