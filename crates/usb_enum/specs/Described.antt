@@ -1,5 +1,5 @@
 -- What a host finds in a device of a description (9.1.2, 9.4, 9.6): the first row of a table that holds.
-use Rattle.std.specs.Prelude.{◌≡◌, ℕ, zero, suc, ◌==◌, ◌&&◌, ◌||◌, not, Bool, false, List, [], map, take, slice_get, slice_index_or, Option, None, Some, is_some, option_map, option_and_then, Result, Ok, Err, is_ok, if◌then◌else◌}
+use Rattle.std.specs.Prelude.{◌≡◌, ◌⊎◌, ℕ, zero, suc, ◌==◌, ◌&&◌, ◌||◌, not, Bool, true, false, List, [], map, take, slice_get, slice_index_or, Option, None, Some, is_some, option_map, option_and_then, Result, Ok, Err, is_ok, if◌then◌else◌}
 use Rattle.std.specs.Option.{option_or}
 use Rattle.usb_resources.specs.Power.{supply_of}
 use Rattle.usb_descriptor.specs.declared.fault.DescriptorFault.{DescriptorFault}
@@ -8,16 +8,17 @@ use Rattle.usb_descriptor.specs.Config.{config_head_of, config_of, configuration
 use Rattle.usb_descriptor.specs.Choice.{status_endpoint_of}
 use Rattle.usb_descriptor.specs.Hub.{hub_of}
 use Rattle.usb_device.specs.Spec.{Spec, Hub}
+use Rattle.usb_device.specs.Rows.{State}
 use Rattle.usb_world.specs.Plugged.{hub_ports}
 use Rattle.usb_enum.specs.declared.cause.Cause.{Cause}
-use Rattle.usb_enum.specs.declared.cause.Cause.TheVariants.{Silent, Busy, Stalled, BadDevice, TooDeep, BadConfiguration, NoPower, BadHub}
+use Rattle.usb_enum.specs.declared.cause.Cause.TheVariants.{Silent, Busy, Stalled, BadDevice, TooDeep, BadConfiguration, NoPower, BadHub, NoAddress}
 use Rattle.usb_enum.specs.declared.cause.Request.TheVariants as request
 use Rattle.usb_enum.specs.declared.strings.Strings.{Strings}
 use Rattle.usb_enum.specs.declared.finding.Accepted.{Accepted}
 use Rattle.usb_enum.specs.declared.finding.Finding.{Finding}
 use Rattle.usb_enum.specs.declared.finding.Finding.TheVariants.{Device, Refused}
 use Rattle.usb_enum.specs.declared.hub.HubFacts.{HubFacts}
-use Rattle.usb_enum.specs.Device.{is_device, is_hub}
+use Rattle.usb_enum.specs.Device.{is_device, is_hub, configuration_of}
 use Rattle.usb_enum.specs.Text.{has_value, choice_of, units_of, first_language_of}
 
 -- Configurations
@@ -137,3 +138,18 @@ pub record IsAs (spec : Spec) (device : Accepted) : Type 0 where
 abbrev pub IsFindingOf : Spec → ℕ → ℕ → Finding → Type 0
 IsFindingOf spec tier supply (Device device) = (verdict spec tier supply ≡ Ok device.chosen) × IsAs spec device
 IsFindingOf spec tier supply (Refused cause) = verdict spec tier supply ≡ Err cause
+
+-- a device that would have been given an address, where each is taken
+pub record IsWithout (full : Type 0) (spec : Spec) (finding : Finding) : Type 0 where
+  pub none : full
+  pub head : gives_head spec ≡ true
+  pub refused : finding ≡ Refused NoAddress
+
+-- what is found in a device: what its description says, or that no address is free
+abbrev pub IsRight : Type 0 → Spec → ℕ → ℕ → Finding → Type 0
+IsRight full spec tier supply finding = IsFindingOf spec tier supply finding ⊎ IsWithout full spec finding
+
+-- a device has the address and the configuration that are listed
+pub record IsSet (device : Accepted) (s : State) : Type 0 where
+  pub address : s.registers.address ≡ device.address
+  pub configuration : s.registers.configuration ≡ configuration_value (configuration_of device)

@@ -22,13 +22,13 @@ use Rattle.usb_enum.specs.declared.finding.Accepted.{Accepted}
 use Rattle.usb_enum.specs.declared.finding.Finding.{Finding}
 use Rattle.usb_enum.specs.declared.finding.Finding.TheVariants.{Device, Refused}
 use Rattle.usb_enum.specs.declared.hub.HubFacts.{HubFacts}
-use Rattle.usb_enum.specs.Described.{facts_of}
+use Rattle.usb_enum.specs.Described.{facts_of, IsRight}
 use Rattle.usb_enum.specs.Device.{is_hub}
 use Rattle.usb_table.specs.declared.known.KnownPort.{KnownPort}
 use Rattle.usb_table.specs.Entries.{Entries}
 use Rattle.usb_table.specs.Findings.{device_of}
 use Rattle.usb_table.specs.Known.{port_below, port_found, port_of_hub, is_below_hub}
-use Rattle.usb_table.specs.Listing.{tree_in, finding_at, address_at, hub_in, IsPortBelow, IsListedPort, tier_of, supply_below, supply_at, ListsEach, IsRight, Matches}
+use Rattle.usb_table.specs.Listing.{tree_in, finding_at, address_at, hub_in, IsPortBelow, IsListedPort, tier_of, supply_below, supply_at, ListsEach, Matches}
 use Rattle.usb_host.specs.Sound.{IsThere, IsKnownAs, Known, known_supply, Tells, Truthful, Causes, Accounted, IsAtRest}
 use Rattle.usb_host.proofs.Claimed.{claims_distinct, claims_taken}
 

@@ -13,12 +13,12 @@ use Rattle.usb_enum.specs.declared.cause.Cause.TheVariants.{NoAddress}
 use Rattle.usb_enum.specs.declared.finding.Accepted.{Accepted}
 use Rattle.usb_enum.specs.declared.finding.Finding.{Finding}
 use Rattle.usb_enum.specs.declared.finding.Finding.TheVariants.{Device, Refused}
-use Rattle.usb_enum.specs.Described.{IsFindingOf}
+use Rattle.usb_enum.specs.Described.{IsFindingOf, IsRight, IsSet}
 use Rattle.usb_table.specs.declared.known.KnownPort.{KnownPort}
 use Rattle.usb_table.specs.Entries.{Entries, Rises}
 use Rattle.usb_table.specs.Findings.{device_at}
 use Rattle.usb_table.specs.Known.{known_port}
-use Rattle.usb_table.specs.Listing.{finding_at, IsListedPort, tier_of, ListsEach, IsRight, IsSet, IsDisabledAt}
+use Rattle.usb_table.specs.Listing.{finding_at, IsListedPort, tier_of, ListsEach, IsDisabledAt}
 use Rattle.usb_host.specs.Agreement.{Agrees}
 
 -- Ports

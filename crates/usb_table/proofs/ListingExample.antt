@@ -12,11 +12,11 @@ use Rattle.usb_enum.specs.declared.cause.Cause.TheVariants.{Silent}
 use Rattle.usb_enum.specs.declared.finding.Accepted.{Accepted}
 use Rattle.usb_enum.specs.declared.finding.Finding.{Finding}
 use Rattle.usb_enum.specs.declared.finding.Finding.TheVariants.{Device, Refused}
-use Rattle.usb_enum.specs.Described.{texts_of, strings_of, facts_of}
+use Rattle.usb_enum.specs.Described.{texts_of, strings_of, facts_of, IsRight}
 use Rattle.usb_enum.proofs.VerdictExamples.{examples, small, two_ports}
 use Rattle.usb_enum.proofs.VerdictRows.{row_silent}
 use Rattle.usb_table.specs.Entries.{Entries, Rises}
-use Rattle.usb_table.specs.Listing.{Tree, finding_at, address_at, IsListedPort, tier_of, supply_at, ListsEach, IsRight, Lists}
+use Rattle.usb_table.specs.Listing.{Tree, finding_at, address_at, IsListedPort, tier_of, supply_at, ListsEach, Lists}
 use Rattle.usb_table.proofs.Paths.{path_tied}
 
 abbrev quiet : Spec

@@ -6,9 +6,9 @@ use Rattle.usb_device.specs.Spec.{Spec}
 use Rattle.usb_enum.specs.declared.finding.Finding.{Finding}
 use Rattle.usb_enum.specs.declared.finding.Finding.TheVariants.{Device, Refused}
 use Rattle.usb_enum.specs.declared.hub.HubFacts.{HubFacts}
-use Rattle.usb_enum.specs.Described.{IsFindingOf}
+use Rattle.usb_enum.specs.Described.{IsFindingOf, IsRight}
 use Rattle.usb_table.specs.Entries.{Entries}
-use Rattle.usb_table.specs.Listing.{Tree, finding_at, hub_in, hub_at, IsPortBelow, IsListedPort, tier_of, supply_at, ListsEach, IsRight, Lists, NoneWaits, IsFoundLike, ListsLike}
+use Rattle.usb_table.specs.Listing.{Tree, finding_at, hub_in, hub_at, IsPortBelow, IsListedPort, tier_of, supply_at, ListsEach, Lists, NoneWaits, IsFoundLike, ListsLike}
 use Rattle.usb_table.proofs.Ports.{parent_shorter}
 
 found_like : (spec : Spec) (tier supply : ℕ) (f g : Finding) → IsFindingOf spec tier supply f → IsFindingOf spec tier supply g → IsFoundLike f g

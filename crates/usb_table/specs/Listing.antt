@@ -1,13 +1,11 @@
 -- What a right listing of what is plugged is (4.1.1, 7.2.1).
-use Rattle.std.specs.Prelude.{◌≡◌, ◌≢◌, ◌⊎◌, ◌≤◌, ℕ, ◌+◌, List, [], length, take, Option, None, Some, IsSome, IfSome, IsSomeAnd, unwrap_or, option_map, option_and_then, true, false}
+use Rattle.std.specs.Prelude.{◌≡◌, ◌≢◌, ◌≤◌, ℕ, ◌+◌, List, [], length, take, Option, None, Some, IsSome, IfSome, IsSomeAnd, unwrap_or, option_map, option_and_then, true, false}
 use Rattle.std.specs.Map.{lookup}
 use Rattle.std.specs.BTreeMap.{is_at}
 use Rattle.usb_port.specs.Order.{path_cmp, parent_of, port_of}
 use Rattle.usb_resources.specs.Pool.{IsAddress}
 use Rattle.usb_resources.specs.Power.{supply_of}
-use Rattle.usb_descriptor.specs.Config.{configuration_value}
 use Rattle.usb_device.specs.Spec.{Spec}
-use Rattle.usb_device.specs.Rows.{State}
 use Rattle.usb_device.specs.Tree.{Ports, reach}
 use Rattle.usb_device.specs.View.{state_there, port_there}
 use Rattle.usb_world.specs.PlanData.{PlanData}
@@ -21,8 +19,7 @@ use Rattle.usb_enum.specs.declared.finding.Accepted.{Accepted}
 use Rattle.usb_enum.specs.declared.finding.Finding.{Finding}
 use Rattle.usb_enum.specs.declared.finding.Finding.TheVariants.{Device, Refused}
 use Rattle.usb_enum.specs.declared.hub.HubFacts.{HubFacts}
-use Rattle.usb_enum.specs.Described.{gives_head, IsFindingOf}
-use Rattle.usb_enum.specs.Device.{configuration_of}
+use Rattle.usb_enum.specs.Described.{IsRight, IsSet}
 use Rattle.usb_table.specs.Entries.{Entries, Rises}
 use Rattle.usb_table.specs.Findings.{device_of, device_at}
 use Rattle.usb_table.specs.Keys.{address_in}
@@ -57,6 +54,7 @@ hub_in found = option_and_then (λ (device : Accepted). device.hub) (device_of f
 abbrev pub hub_at : List ℕ → Entries → Option HubFacts
 hub_at path entries = hub_in (finding_at path entries)
 
+-- a number of a port of the root, or of the hub at a path
 abbrev pub IsPortBelow : ℕ → Entries → Option (List ℕ) → ℕ → Type 0
 IsPortBelow roots entries None number = (1 ≤ number) × (number ≤ roots)
 IsPortBelow roots entries (Some hub) number = IsSomeAnd (hub_at hub entries) (λ facts. (1 ≤ number) × (number ≤ facts.ports))
@@ -72,6 +70,7 @@ pub record IsListedPort (roots : ℕ) (entries : Entries) (path : List ℕ) : Ty
 abbrev pub tier_of : List ℕ → ℕ
 tier_of path = length path + 1
 
+-- what a port of the root gives, or one of the hub at a path
 abbrev pub supply_below : Tree → Option (List ℕ) → ℕ
 supply_below tree None = supply_of true false
 supply_below tree (Some hub) = supply_of false (unwrap_or (option_map (λ (spec : Spec). spec.self_powered) (tree hub)) false)
@@ -80,21 +79,11 @@ supply_below tree (Some hub) = supply_of false (unwrap_or (option_map (λ (spec 
 abbrev pub supply_at : Tree → List ℕ → ℕ
 supply_at tree path = supply_below tree (parent_of path)
 
--- What is right
+-- What is right in a listing
 
 -- each address is listed
 abbrev pub ListsEach : Entries → Type 0
 ListsEach entries = (address : ℕ) → IsAddress address → (path : List ℕ) × (address_at path entries ≡ Some address)
-
--- a device that would have been given an address, where each is taken
-pub record IsWithout (full : Type 0) (spec : Spec) (finding : Finding) : Type 0 where
-  pub none : full
-  pub head : gives_head spec ≡ true
-  pub refused : finding ≡ Refused NoAddress
-
--- what is found in a device: what its description says, or that no address is free
-abbrev pub IsRight : Type 0 → Spec → ℕ → ℕ → Finding → Type 0
-IsRight full spec tier supply finding = IsFindingOf spec tier supply finding ⊎ IsWithout full spec finding
 
 -- The listing is what is plugged. At each port of the root and of each listed hub the device that is plugged there is listed with its own
 -- descriptors and the first configuration within its port's power, or refused with its cause. Nothing else is listed. No two devices have one address.
@@ -105,11 +94,6 @@ pub record Lists (roots : ℕ) (tree : Tree) (entries : Entries) : Type 0 where
   pub nothing_else : (path : List ℕ) (finding : Finding) → finding_at path entries ≡ Some finding → IsListedPort roots entries path × IsSome (tree path)
   pub addresses : (path : List ℕ) (address : ℕ) → address_at path entries ≡ Some address → IsAddress address
   pub differ : (path other : List ℕ) (address : ℕ) → address_at path entries ≡ Some address → address_at other entries ≡ Some address → path ≡ other
-
--- a device has the address and the configuration that are listed
-pub record IsSet (device : Accepted) (s : State) : Type 0 where
-  pub address : s.registers.address ≡ device.address
-  pub configuration : s.registers.configuration ≡ configuration_value (configuration_of device)
 
 -- the port at a path, where there is one, passes nothing on
 abbrev pub IsDisabledAt : Ports → List ℕ → Type 0
@@ -137,6 +121,7 @@ pub record IsLike (d e : Accepted) : Type 0 where
   pub strings : d.strings ≡ e.strings
   pub hub : d.hub ≡ e.hub
 
+-- and so are two findings
 abbrev pub IsFoundLike : Finding → Finding → Type 0
 IsFoundLike (Device d) (Device e) = IsLike d e
 IsFoundLike (Device d) (Refused c) = ⊥
