@@ -15,3 +15,5 @@ pub mod Ranks
 pub mod Stations
 pub mod Waits
 pub mod Ways
+pub mod Settled
+pub mod Stays

@@ -5,4 +5,5 @@ pub mod Hosting
 pub mod Owning
 pub mod Ports
 pub mod Progress
+pub mod Sound
 pub mod Told

@@ -4,6 +4,7 @@
 
 mod fault;
 mod host;
+mod listing_laws;
 mod pool;
 mod ports;
 mod rounds;
@@ -11,4 +12,5 @@ mod tree;
 
 pub use fault::HostFault;
 pub use host::{Host, Round};
+pub use listing_laws::{known_stays, settled_matches};
 pub use tree::Tree;

@@ -4,8 +4,11 @@ pub mod Goings
 pub mod Keeping
 pub mod Kept
 pub mod Keys
+pub mod ListingExample
 pub mod Nexts
+pub mod OneListing
 pub mod Paths
+pub mod PlannedListing
 pub mod Ports
 pub mod Removals
 pub mod Sound

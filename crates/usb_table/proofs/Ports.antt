@@ -30,7 +30,7 @@ kept_hub path hub es shorter =
     lookup-filter-keys (is_at (path_cmp hub)) (λ q. not (is_at_or_below q path)) true
     (λ k tie. subst (λ (q : List ℕ). not (is_at_or_below q path) ≡ true) (path_tied hub k tie) (rw (apart hub path shorter) refl)) es
 
-parent_shorter : (path hub : List ℕ) → parent_of path ≡ Some hub → length hub < length path
+pub parent_shorter : (path hub : List ℕ) → parent_of path ≡ Some hub → length hub < length path
 parent_shorter path hub is =
     let e : length path ≡ length hub + 1 = ap length (rejoined path hub is) ∙ length-append hub (port_of path ∷ []) in
     omega (arith, e)

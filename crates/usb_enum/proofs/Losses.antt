@@ -1,0 +1,103 @@
+-- What steps keep of a world: its damages and how many root ports it has; the worst stretch of address losses only grows.
+use Rattle.std.proofs.Common.{◌≡◌, ◌≤◌, ◌==◌, Bool, true, false, if◌then◌else◌, List, [], ◌∷◌, length, Option, None, Some, refl, ap, sym, subst, ◌∙◌, arith}
+use Rattle.usb_device.proofs.Rows.{row_of-after, row_of-forgotten}
+use Rattle.usb_device.specs.declared.delivery.Sent.{Sent}
+use Rattle.usb_device.specs.Delivery.{is_clearing}
+use Rattle.usb_device.specs.Tree.{Ports, called, row_of}
+use Rattle.usb_world.specs.declared.damage.Damage.{Damage}
+use Rattle.usb_world.specs.declared.event.Event.{Event}
+use Rattle.usb_world.specs.declared.losses.Losses.{Losses}
+use Rattle.usb_world.specs.declared.types.Attempt.{Attempt}
+use Rattle.usb_world.specs.declared.types.BusFault.{BusFault}
+use Rattle.usb_world.specs.declared.types.BusFault.TheVariants.{LimitReached}
+use Rattle.usb_world.specs.Exchange.{lost_in, cleared_in, token_out, payload_out, reply_out, ports_in}
+use Rattle.usb_world.specs.Losses.{one_more, counted, after_clearing}
+use Rattle.usb_world.specs.Steps.{is_due, took, took_first, due_from, ready, damage_in, with_attempt, attempted, event_taken, Step, attempt, root_call, event, report, after, Course, here, step}
+use Rattle.usb_world.specs.Passes.{passed, after_attempt}
+use Rattle.usb_world.specs.World.{World, roots_of}
+use Rattle.usb_world.proofs.Counts.{happened_long, row_long}
+use Rattle.usb_enum.specs.Losses.{FewLosses}
+
+-- the same damages and number of root ports, and a worst stretch that is no shorter
+pub record IsLater (w v : World) : Type 0 where
+  pub damages : v.damages ≡ w.damages
+  pub roots : roots_of v ≡ roots_of w
+  pub worst : w.losses.worst ≤ v.losses.worst
+
+later_same : (w v : World) → v.damages ≡ w.damages → roots_of v ≡ roots_of w → v.losses ≡ w.losses → IsLater w v
+later_same w v d r l = record { damages = d; roots = r; worst = rw l (omega arith) }
+
+later_then : (w m v : World) → IsLater w m → IsLater m v → IsLater w v
+later_then w m v x y = let a = x.worst in let b = y.worst in record { damages = y.damages ∙ x.damages; roots = y.roots ∙ x.roots; worst = omega (arith, a, b) }
+
+took_later : (e : Event) (es : List Event) (w : World) → IsLater w (took e es w)
+unfolding took
+took_later e es w = later_same w (took e es w) refl (happened_long e.action w.devices w.roots) refl
+
+due_later : (es : List Event) (w : World) → IsLater w (due_from es w)
+unfolding due_from
+due_later [] w = later_same w w refl refl refl
+due_later (e ∷ es) w =
+    elim (is_due e w) as (λ b. IsLater w (if b then due_from es (took e es w) else w)) [
+      | true ↦ later_then w (took e es w) (due_from es (took e es w)) (took_later e es w) (due_later es (took e es w))
+      | false ↦ later_same w w refl refl refl
+    ]
+
+passed_row : (o : Option Sent) (k : Ports) → row_of (passed o k) ≡ row_of k
+passed_row None k = refl
+passed_row (Some q) k = row_of-after q false k
+
+attempt_row : (t d r : Option Sent) (k : Ports) → row_of (after_attempt t d r k) ≡ row_of k
+attempt_row t d r k = row_of-forgotten (passed r (passed d (passed t k))) ∙ passed_row r (passed d (passed t k)) ∙ passed_row d (passed t k) ∙ passed_row t k
+
+made_row : (a : Attempt) (damage : Option Damage) (k : Ports) → length (row_of (ports_in a damage k)) ≡ length (row_of k)
+unfolding ports_in
+made_row a damage k = ap length (attempt_row (token_out a damage) (payload_out a damage) (reply_out a damage k) k)
+
+cleared_worst : (b : Bool) (l : Losses) → (after_clearing b l).worst ≡ l.worst
+cleared_worst true l = refl
+cleared_worst false l = refl
+
+counted_worst : (b : Bool) (l : Losses) → l.worst ≤ (counted b l).worst
+unfolding one_more
+counted_worst true l = omega arith
+counted_worst false l = omega arith
+
+made_later : (a : Attempt) (w : World) → IsLater w (with_attempt a w)
+unfolding with_attempt
+made_later a w =
+    let cleared : Bool = cleared_in a (damage_in w) w.roots in
+    let lost : Bool = lost_in a (damage_in w) w.roots in
+    record { damages = refl; roots = made_row a (damage_in w) w.roots; worst = subst (λ x. x ≤ (counted lost (after_clearing cleared w.losses)).worst) (cleared_worst cleared w.losses) (counted_worst lost (after_clearing cleared w.losses)) }
+
+attempted_later : (a : Attempt) (f : Option BusFault) (w : World) → IsLater w (attempted a f w)
+unfolding ready
+attempted_later a (Some f) w = later_same w w refl refl refl
+attempted_later a None w =
+    elim (w.attempts == w.limit) as (λ b. IsLater w (if b then record w { fault = Some LimitReached } else with_attempt a (ready w))) [
+      | true ↦ later_same w (record w { fault = Some LimitReached }) refl refl refl
+      | false ↦ later_then w (ready w) (with_attempt a (ready w)) (due_later w.left w) (made_later a (ready w))
+    ]
+
+first_later : (es : List Event) (w : World) → IsLater w (took_first es w)
+first_later [] w = later_same w w refl refl refl
+first_later (e ∷ es) w = took_later e es w
+
+event_later : (f : Option BusFault) (w : World) → IsLater w (event_taken f w)
+event_later (Some f) w = later_same w w refl refl refl
+event_later None w = first_later w.left w
+
+pub step_later : (s : Step) (w : World) → IsLater w (after s w)
+unfolding after
+step_later (attempt a) w = attempted_later a w.fault w
+step_later (root_call c n) w = record { damages = refl; roots = row_long (called c) w.roots (n ∷ []); worst = subst (λ x. w.losses.worst ≤ x) (sym (cleared_worst (is_clearing c) w.losses)) (omega arith) }
+step_later event w = event_later w.fault w
+step_later (report line) w = later_same w w refl refl refl
+
+pub course_later : {K : Step → World → Type 0} {w v : World} → Course K w v → IsLater w v
+course_later (here w) = later_same w w refl refl refl
+course_later (step s {w} {v} k more) = later_then w (after s w) v (step_later s w) (course_later more)
+
+-- where few are lost in the end, few were lost before
+pub few_before : {K : Step → World → Type 0} {w v : World} → Course K w v → FewLosses v → FewLosses w
+few_before c few = let grew = (course_later c).worst in omega (arith, grew, few)

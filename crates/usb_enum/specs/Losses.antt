@@ -1,0 +1,7 @@
+-- How often the addresses of devices may be lost.
+use Rattle.std.specs.Prelude.{◌≤◌}
+use Rattle.usb_world.specs.World.{World}
+
+-- between two changes of connection that are cleared, no address is lost three times
+abbrev pub FewLosses : World → Type 0
+FewLosses w = w.losses.worst ≤ 2

@@ -1,0 +1,5 @@
+use Rattle.usb_host.proofs.Stays.{known_stays}
+use Rattle.usb_host.proofs.listing_laws.known_stays.Goals as goal
+
+pub returns : goal.returns
+returns c = known_stays

@@ -1,0 +1,5 @@
+use Rattle.usb_host.proofs.Settled.{settled_matches}
+use Rattle.usb_host.proofs.listing_laws.settled_matches.Goals as goal
+
+pub returns : goal.returns
+returns c = settled_matches

@@ -1,0 +1,109 @@
+-- A listing: a hub at a root port, and a device that is silent at the hub's second port.
+use Rattle.std.proofs.Common.{◌≡◌, inl, ℕ, Bool, true, false, List, [], ◌∷◌, take, None, Some, refl, sym, subst, ◌∙◌, arith}
+use Rattle.std.specs.Prelude.{IsSome, IsSomeAnd}
+use Rattle.std.specs.Map.{lookup}
+use Rattle.std.specs.BTreeMap.{is_at}
+use Rattle.std.specs.List.Sorted.{IsStrictlySortedBy}
+use Rattle.usb_port.specs.Order.{path_cmp, parent_of, port_of}
+use Rattle.usb_resources.specs.Pool.{IsAddress}
+use Rattle.usb_resources.specs.Power.{supply_of}
+use Rattle.usb_device.specs.Spec.{Spec}
+use Rattle.usb_enum.specs.declared.cause.Cause.TheVariants.{Silent}
+use Rattle.usb_enum.specs.declared.finding.Accepted.{Accepted}
+use Rattle.usb_enum.specs.declared.finding.Finding.{Finding}
+use Rattle.usb_enum.specs.declared.finding.Finding.TheVariants.{Device, Refused}
+use Rattle.usb_enum.specs.Described.{texts_of, strings_of, facts_of, IsRight}
+use Rattle.usb_enum.proofs.VerdictExamples.{examples, small, two_ports}
+use Rattle.usb_enum.proofs.VerdictRows.{row_silent}
+use Rattle.usb_table.specs.Entries.{Entries, Rises}
+use Rattle.usb_table.specs.Listing.{Tree, finding_at, address_at, IsListedPort, tier_of, supply_at, ListsEach, Lists}
+use Rattle.usb_table.proofs.Paths.{path_tied}
+
+abbrev quiet : Spec
+quiet = record small { silent = true }
+
+abbrev hub : Accepted
+hub = record {
+  address = 1;
+  low = false;
+  bytes = take 18 two_ports.descriptor;
+  configs = texts_of two_ports;
+  chosen = 0;
+  strings = strings_of two_ports;
+  hub = facts_of two_ports;
+  chosen_in = omega arith;
+}
+
+abbrev tree : Tree
+tree path = lookup (is_at (path_cmp path)) ((1 ∷ [], two_ports) ∷ (1 ∷ 2 ∷ [], quiet) ∷ [])
+
+abbrev entries : Entries
+entries = (1 ∷ [], Device hub) ∷ (1 ∷ 2 ∷ [], Refused Silent) ∷ []
+
+-- what is so at both paths, and where nothing is, is so
+by_path : (P : List ℕ → Type 0) → P (1 ∷ []) → P (1 ∷ 2 ∷ []) → ((path : List ℕ) → is_at (path_cmp path) (1 ∷ []) ≡ false → is_at (path_cmp path) (1 ∷ 2 ∷ []) ≡ false → P path) → (path : List ℕ) → P path
+by_path P first second none path = pick (is_at (path_cmp path) (1 ∷ [])) (is_at (path_cmp path) (1 ∷ 2 ∷ [])) refl refl
+  where
+    pick : (a b : Bool) → is_at (path_cmp path) (1 ∷ []) ≡ a → is_at (path_cmp path) (1 ∷ 2 ∷ []) ≡ b → P path
+    pick true b x y = subst P (sym (path_tied path (1 ∷ []) x)) first
+    pick false true x y = subst P (sym (path_tied path (1 ∷ 2 ∷ []) y)) second
+    pick false false x y = none path x y
+
+abbrev IsFoundAt : List ℕ → Type 0
+IsFoundAt path = (spec : Spec) → tree path ≡ Some spec → IsSomeAnd (finding_at path entries) (IsRight (ListsEach entries) spec (tier_of path) (supply_at tree path))
+
+found_first : IsFoundAt (1 ∷ [])
+unfolding parent_of supply_of
+found_first spec at =
+    let same : two_ports ≡ spec = cc at in
+    subst (λ s. IsRight (ListsEach entries) s 2 500 (Device hub)) same (inl (examples.hub, record { low = refl; bytes = refl; configs = refl; strings = refl; hub = refl }))
+
+found_second : IsFoundAt (1 ∷ 2 ∷ [])
+unfolding parent_of supply_of
+found_second spec at =
+    let same : quiet ≡ spec = cc at in
+    subst (λ s. IsRight (ListsEach entries) s 3 500 (Refused Silent)) same (inl (row_silent quiet 3 500 refl))
+
+found_none : (path : List ℕ) → is_at (path_cmp path) (1 ∷ []) ≡ false → is_at (path_cmp path) (1 ∷ 2 ∷ []) ≡ false → IsFoundAt path
+found_none path x y spec at = let none : tree path ≡ None = rw (x, y) refl in absurd (cc (none, at))
+
+abbrev IsAlone : List ℕ → Type 0
+IsAlone path = (finding : Finding) → finding_at path entries ≡ Some finding → IsListedPort 1 entries path × IsSome (tree path)
+
+alone_first : IsAlone (1 ∷ [])
+unfolding parent_of port_of
+alone_first finding at = (record { some = omega arith; port = (omega arith, omega arith) }, refl)
+
+alone_second : IsAlone (1 ∷ 2 ∷ [])
+unfolding parent_of port_of
+alone_second finding at = (record { some = omega arith; port = (omega arith, omega arith) }, refl)
+
+alone_none : (path : List ℕ) → is_at (path_cmp path) (1 ∷ []) ≡ false → is_at (path_cmp path) (1 ∷ 2 ∷ []) ≡ false → IsAlone path
+alone_none path x y finding at = let none : finding_at path entries ≡ None = rw (x, y) refl in absurd (cc (none, at))
+
+abbrev IsFirst : List ℕ → Type 0
+IsFirst path = (address : ℕ) → address_at path entries ≡ Some address → (path ≡ 1 ∷ []) × IsAddress address
+
+address_first : IsFirst (1 ∷ [])
+address_first address at = let same : 1 ≡ address = cc at in (refl, subst IsAddress same (omega arith, omega arith))
+
+address_second : IsFirst (1 ∷ 2 ∷ [])
+address_second address at = absurd (cc at)
+
+address_none : (path : List ℕ) → is_at (path_cmp path) (1 ∷ []) ≡ false → is_at (path_cmp path) (1 ∷ 2 ∷ []) ≡ false → IsFirst path
+address_none path x y address at = let none : address_at path entries ≡ None = rw (x, y) refl in absurd (cc (none, at))
+
+rising : Rises entries
+unfolding IsStrictlySortedBy
+rising = ((refl, tt), (tt, tt))
+
+pub listed : Lists 1 tree entries
+listed =
+    record {
+      rises = rising;
+      there = λ path spec port. by_path IsFoundAt found_first found_second found_none path spec;
+      nothing_else = by_path IsAlone alone_first alone_second alone_none;
+      addresses = λ path address at. (by_path IsFirst address_first address_second address_none path address at).1;
+      differ = λ path other address at same.
+          (by_path IsFirst address_first address_second address_none path address at).0 ∙ sym (by_path IsFirst address_first address_second address_none other address same).0;
+    }

@@ -1,0 +1,5 @@
+use Rattle.usb_table.proofs.OneListing.{one_listing}
+use Rattle.usb_table.proofs.listing_laws.one_listing.Goals as goal
+
+pub returns : goal.returns
+returns c = one_listing
