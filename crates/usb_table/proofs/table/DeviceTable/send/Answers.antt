@@ -25,6 +25,3 @@ returns-in-Some-clause-sent g c =
 
 pub returns-in-Some-clause-keeps : goal.returns-in-Some-clause-keeps
 returns-in-Some-clause-keeps g c = sent_addresses (device_of (Some c.index_mut.result.now)) c.args.bytes.now _ c.send.result _ c.send.ensures.sent
-
-pub returns-in-Some-clause-went : goal.returns-in-Some-clause-went
-returns-in-Some-clause-went g c = ?
