@@ -3,4 +3,7 @@ use Rattle.usb_host.proofs.Powers.{powered_world}
 use Rattle.usb_host.proofs.host.Host.new.Given as goal
 
 abbrev pub invariant-ports : goal.invariant-ports
-invariant-ports g l = g.B.Bus.world l.bus ≡ powered_world (l.port - 1) (g.B.Bus.world l.initial.bus)
+invariant-ports g l = record {
+  powered : g.B.Bus.world l.bus ≡ powered_world (l.port - 1) (g.B.Bus.world l.initial.bus);
+  silent : g.B.Bus.trace l.bus ≡ g.B.Bus.trace l.initial.bus;
+}
