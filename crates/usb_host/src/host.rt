@@ -2,6 +2,7 @@
 ghost use Rattle.std.specs.Prelude.{◌≡◌, ◌≢◌, ◌≤◌, ◌<◌, ◌+◌, ◌*◌, ◌↔◌, true, false, length, IsTrue, IsErrOf, OnOk, IfOk, IfErr, IsErr, Ok, Err};
 ghost use Rattle.std.specs.Borrow.{Lends, sem};
 ghost use Rattle.usb_world.specs.World.{World};
+ghost use Rattle.usb_bus.specs.Traced.{Traced};
 ghost use Rattle.usb_table.specs.Entries.{Rises};
 ghost use Rattle.usb_host.specs.Agreement.{Agrees};
 ghost use Rattle.usb_host.specs.Bounds.{round_bound, clear_bound};
@@ -61,6 +62,7 @@ impl<B: Bus> Host<B> {
     /// The host of a bus, which knows of no device. Each root port is given power.
     pub fn new(alloc: Global, bus: B) -> Host<B>
         ensures opens { result ≡ opening (B.world bus) (B.trace bus) }
+        ensures traced { Traced (B.world bus) (B.trace bus) result.world result.trace }
         ensures owning { IsUntouched (B.world bus) → Owning result }
     {
         let mut bus = bus;

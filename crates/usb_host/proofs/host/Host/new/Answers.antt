@@ -1,5 +1,7 @@
-use Rattle.std.proofs.Common.{◌≡◌, ◌∙◌, ◌-◌, ◌+◌, ℕ, ap, arith, refl, sym, subst}
+use Rattle.std.proofs.Common.{◌≡◌, ◌∙◌, ◌-◌, ◌+◌, ℕ, ap, arith, refl, sym, subst, inr}
 use Rattle.usb_world.specs.World.{World, roots_of}
+use Rattle.usb_bus.specs.Traced.{still}
+use Rattle.usb_bus.proofs.Wents.{traced_set}
 use Rattle.usb_host.proofs.Powers.{powered_none, powered_length, powers_one, powered_all, powered_world}
 use Rattle.usb_host.proofs.Agreements.{nested_none}
 use Rattle.usb_host.proofs.Balances.{accounts_none}
@@ -8,7 +10,7 @@ use Rattle.usb_host.specs.Owning.{Owning}
 use Rattle.usb_host.proofs.host.Host.new.Goals as goal
 
 pub ports-init : goal.ports-init
-ports-init g c = record { powered = powered_none _; silent = refl }
+ports-init g c = record { powered = powered_none _; traced = still; silent = refl }
 
 pub root_set-requires-clause-port : goal.root_set-requires-clause-port
 root_set-requires-clause-port g c =
@@ -22,6 +24,7 @@ ports-preserved g c =
     let back : port ≡ (port + 1) - 1 = omega arith in
     record {
       powered = powers_one w0 _ _ port c.ports.auto.port c.ports.invariant.powered c.root_set.ensures.call ∙ ap (λ k. powered_world k w0) back;
+      traced = traced_set c.ports.port 8 (inr refl) c.ports.invariant.traced c.root_set.ensures.call c.root_set.ensures.silent;
       silent = c.root_set.ensures.silent ∙ c.ports.invariant.silent;
     }
 
@@ -36,3 +39,6 @@ invariant_of-result g c = rw (c.new-2.ensures, c.new.ensures.empty) (record { ac
 
 pub returns-clause-owning : goal.returns-clause-owning
 returns-clause-owning g c = λ untouched. subst Owning (sym (returns-clause-opens g c)) (owning_opening (g.B.Bus.world c.args.bus) (g.B.Bus.trace c.args.bus) untouched)
+
+pub returns-clause-traced : goal.returns-clause-traced
+returns-clause-traced g c = c.ports.invariant.traced
