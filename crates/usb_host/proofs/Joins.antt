@@ -1,34 +1,38 @@
 -- How the parts of a round join.
-use Rattle.std.proofs.Common.{◌≡◌, ◌∙◌, refl, ap, arith, ℕ, ◌+◌, ◌≤◌, List}
-use Rattle.usb_world.specs.World.{World, Spends}
-use Rattle.usb_world.proofs.Counts.{spends_none, spends_then, spends_wider}
+use Rattle.std.proofs.Common.{◌≡◌, ◌∙◌, refl, sym, ap, subst, arith, ℕ, ◌+◌, ◌≤◌, List, Option}
+use Rattle.usb_world.specs.World.{World}
+use Rattle.usb_bus.proofs.Wents.{went_none, went_then, went_wider}
 use Rattle.usb_table.specs.Entries.{Entries, without}
 use Rattle.usb_host.specs.Hosting.{Hosting}
-use Rattle.usb_host.specs.Progress.{Goes, Advances, Holds, Rests, Did, either, waiting}
+use Rattle.usb_host.specs.Progress.{HostWent, Goes, Advances, Holds, Rests, Did, either, waiting}
 use Rattle.usb_host.proofs.Waits.{waiting-without}
 use Rattle.usb_host.specs.declared.host.Round.{Round}
 use Rattle.usb_host.specs.declared.host.Round.TheVariants.{Worked, Quiet}
 
-pub goes_none : (h : Hosting) → Goes 0 h h
-goes_none h = record { spends = spends_none h.world; going = refl }
+pub goes_none : (n : ℕ) (h : Hosting) → Goes n h h
+goes_none n h = record { went = went_wider 0 n went_none (omega arith); going = refl }
 
 pub goes_then : (k m n : ℕ) (a b c : Hosting) → Goes m a b → Goes n b c → m + n ≤ k → Goes k a c
 goes_then k m n a b c p q le = record {
-  spends = spends_wider (m + n) k a.world c.world (spends_then m n a.world b.world c.world p.spends q.spends) le;
+  went = went_wider (m + n) k (went_then m n p.went q.went) le;
   going = q.going ∙ p.going;
 }
 
 pub goes_wider : (m k : ℕ) (a b : Hosting) → Goes m a b → m ≤ k → Goes k a b
-goes_wider m k a b p le = record { spends = spends_wider m k a.world b.world p.spends le; going = p.going }
+goes_wider m k a b p le = record { went = went_wider m k p.went le; going = p.going }
+
+-- what is forgotten takes no attempt
+pub goes_forgotten : (n : ℕ) (a b c : Hosting) → Goes n a b → c ≡ record b { entries = c.entries; addresses = c.addresses } → Goes n a c
+goes_forgotten n a b c g others = subst (λ (x : Hosting). Goes n a x) (sym others) (record { went = g.went; going = g.going })
 
 pub rests_then : (a b c : Hosting) → Rests a b → Rests b c → Rests a c
-rests_then a b c p q = q ∙ ap (λ (h : Hosting). record h { world = c.world }) p
+rests_then a b c p q = q ∙ ap (λ (h : Hosting). record h { world = c.world; trace = c.trace }) p
 
 -- a part that changes nothing leaves no more to do
 pub rests_holds : (n : ℕ) (a b : Hosting) → Goes n a b → Rests a b → Holds a b
 rests_holds n a b g r =
     let same : waiting b.entries ≡ waiting a.entries = ap (λ (h : Hosting). waiting h.entries) r in
-    omega (arith, same, g.spends.served, g.spends.later)
+    omega (arith, same, g.went.spends.served, g.went.spends.later)
 
 pub advances_then : (a b c : Hosting) → Advances a b → Holds b c → Advances a c
 advances_then a b c p q = omega (arith, p, q)
@@ -53,14 +57,18 @@ did_then m n Quiet Worked a b c p q ab bc = advances_after a b c (rests_holds m 
 did_then m n Quiet Quiet a b c p q ab bc = rests_then a b c ab bc
 
 -- a call on the bus alone
-pub goes_by : (n k : ℕ) (a b : Hosting) → Spends n a.world b.world → n ≤ k → b.stopped ≡ a.stopped → Goes k a b
-goes_by n k a b s le e = record { spends = spends_wider n k a.world b.world s le; going = e }
+pub goes_by : (n k : ℕ) (a b : Hosting) → HostWent n a b → n ≤ k → b.stopped ≡ a.stopped → Goes k a b
+goes_by n k a b w le e = record { went = went_wider n k w le; going = e }
+
+-- a call on the bus, and then a part
+pub goes_after : (k m n : ℕ) (a b c : Hosting) → HostWent m a b → b.stopped ≡ a.stopped → Goes n b c → m + n ≤ k → Goes k a c
+goes_after k m n a b c w e q le = goes_then k m n a b c (record { went = w; going = e }) q le
 
 -- a hub whose port was disabled is forgotten, with what stood below it
-pub dropped : (n : ℕ) (path : List ℕ) (a b c : Hosting) (world : World) (entries : Entries) → Goes n a b → Rests a b → c ≡ record b { entries = c.entries; addresses = c.addresses } → c.entries ≡ without path b.entries
-    → world ≡ c.world → waiting entries ≤ waiting c.entries → Holds a (record c { world = world; entries = entries })
-dropped n path a b c world entries g r others rest same fewer =
+pub dropped : (n : ℕ) (path : List ℕ) (a b c : Hosting) (world : World) (trace : Option (List ℕ)) (entries : Entries) → Goes n a b → Rests a b → c ≡ record b { entries = c.entries; addresses = c.addresses } → c.entries ≡ without path b.entries
+    → world ≡ c.world → waiting entries ≤ waiting c.entries → Holds a (record c { world = world; trace = trace; entries = entries })
+dropped n path a b c world trace entries g r others rest same fewer =
     let there : world ≡ b.world = same ∙ ap (λ (h : Hosting). h.world) others in
     let before : waiting b.entries ≡ waiting a.entries = ap (λ (h : Hosting). waiting h.entries) r in
     let left : waiting c.entries ≡ waiting (without path b.entries) = ap waiting rest in
-    rw there (omega (arith, before, left, fewer, waiting-without path b.entries, g.spends.served, g.spends.later))
+    rw there (omega (arith, before, left, fewer, waiting-without path b.entries, g.went.spends.served, g.went.spends.later))

@@ -63,7 +63,7 @@ module _ (path : List ℕ) (m n : ℕ) (a b c d : Hosting) (g : Goes m a b) (r :
       let left : waiting c.entries ≡ waiting (without path b.entries) = ap waiting rest in
       let done : work c.world ≡ work b.world = ap work world_is in
       let made : c.world.attempts ≡ b.world.attempts = ap (λ (x : Hosting). x.world.attempts) others in
-      omega (arith, gained, few, same, left, done, made, waiting-without path b.entries, h.spends.served, h.spends.later)
+      omega (arith, gained, few, same, left, done, made, waiting-without path b.entries, h.went.spends.served, h.went.spends.later)
 
   looks_waits : Waits path a → waiting d.entries ≤ waiting c.entries → Advances a d
   looks_waits w fewer =
@@ -73,7 +73,7 @@ module _ (path : List ℕ) (m n : ℕ) (a b c d : Hosting) (g : Goes m a b) (r :
       let done : work c.world ≡ work b.world = ap work world_is in
       let made : c.world.attempts ≡ b.world.attempts = ap (λ (x : Hosting). x.world.attempts) others in
       let gone = waiting-without_one path (Refused cause.NoAddress) b.entries refl found in
-      omega (arith, fewer, same, left, done, made, gone, h.spends.served, h.spends.later, g.spends.served, g.spends.later)
+      omega (arith, fewer, same, left, done, made, gone, h.went.spends.served, h.went.spends.later, g.went.spends.served, g.went.spends.later)
 
   -- a change was to be served, or a device waits for an address and one is free
   pub looks : {Due : Type 0} → (Due → Gained a.world b.world) → (IsFull c.addresses → IsFull b.addresses) → waiting d.entries ≤ waiting c.entries + 1
@@ -96,7 +96,7 @@ stands_kept n path port a b c g r others rest s =
     record {
       is = s.is;
       known = ap (known_port path) left ∙ known_port-without path a.entries ∙ s.known;
-      there = subst (λ w. IsPort w port.port) (sym (ap (λ (x : Hosting). x.world) others)) (port_stays n port.port a.world b.world g.spends s.there);
+      there = subst (λ w. IsPort w port.port) (sym (ap (λ (x : Hosting). x.world) others)) (port_stays n port.port a.world b.world g.went.spends s.there);
       askable = s.askable;
     }
 

@@ -1,5 +1,5 @@
 -- A host that was just made.
-use Rattle.std.proofs.Common.{◌≡◌, ◌∙◌, refl, sym, ap, zero, suc, ℕ, List, ◌∷◌, Bool, true, ◌&&◌, ◌||◌, if◌then◌else◌}
+use Rattle.std.proofs.Common.{◌≡◌, ◌∙◌, refl, sym, ap, zero, suc, ℕ, List, Option, ◌∷◌, Bool, true, ◌&&◌, ◌||◌, if◌then◌else◌}
 use Rattle.std.specs.Prelude.{[], false}
 use Rattle.std.specs.FinSet as set
 use Rattle.usb_port.specs.PortState.{PortState, powered_on, is_attached}
@@ -13,12 +13,16 @@ use Rattle.usb_table.specs.Entries.{Entries}
 use Rattle.usb_host.specs.Hosting.{Hosting, opening, with_power}
 use Rattle.usb_host.specs.Owning.{Owning, IsUntouched}
 
-abbrev going : World → Entries → Addresses → Hosting
-going w entries addresses = record { world = w; entries = entries; addresses = addresses; stopped = false }
+abbrev going : World → Option (List ℕ) → Entries → Addresses → Hosting
+going w t entries addresses = record { world = w; trace = t; entries = entries; addresses = addresses; stopped = false }
 
-pub opened : (w0 w : World) (entries : Entries) (addresses : Addresses) → w ≡ (opening w0).world → entries ≡ [] → addresses ≡ set.empty → going w entries addresses ≡ opening w0
-opened w0 w entries addresses e f h =
-    ap (λ v. going v entries addresses) e ∙ ap (λ es. going (opening w0).world es addresses) f ∙ ap (λ s. going (opening w0).world [] s) h
+abbrev powered : World → World
+powered w = record w { roots = with_power w.roots }
+
+-- power is given in silence
+pub opened : (w0 w : World) (t0 t : Option (List ℕ)) (entries : Entries) (addresses : Addresses) → w ≡ powered w0 → t ≡ t0 → entries ≡ [] → addresses ≡ set.empty → going w t entries addresses ≡ opening w0 t0
+opened w0 w t0 t entries addresses e silent f h =
+    ap (λ v. going v t entries addresses) e ∙ ap (λ s. going (powered w0) s entries addresses) silent ∙ ap (λ es. going (powered w0) t0 es addresses) f ∙ ap (λ s. going (powered w0) t0 [] s) h
 
 -- Power moves no device
 
@@ -50,8 +54,8 @@ forgotten-with_power ended = refl
 forgotten-with_power (vacant b k) = ap (vacant (powered_on b)) (forgotten-with_power k)
 forgotten-with_power (taken b s a k) = ap (taken (powered_on b) (forgotten s) (all_forgotten a)) (forgotten-with_power k)
 
-pub owning_opening : (w : World) → IsUntouched w → Owning (opening w)
-owning_opening w u = record {
+pub owning_opening : (w : World) (t : Option (List ℕ)) → IsUntouched w → Owning (opening w t)
+owning_opening w t u = record {
   single = u.single;
   owned = λ going. record {
     so = λ none. record {

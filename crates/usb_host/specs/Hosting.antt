@@ -1,5 +1,5 @@
 -- A host, as its callers see it.
-use Rattle.std.specs.Prelude.{◌≡◌, ℕ, ◌+◌, Bool, false, []}
+use Rattle.std.specs.Prelude.{◌≡◌, ℕ, ◌+◌, Bool, false, List, [], Option}
 use Rattle.std.specs.FinSet as set
 use Rattle.usb_port.specs.PortState.{powered_on}
 use Rattle.usb_device.specs.Tree.{Ports, ended, vacant, taken}
@@ -11,6 +11,7 @@ use Rattle.usb_table.specs.Entries.{Entries}
 
 pub record Hosting : Type 0 where
   pub world : World  -- the bus's
+  pub trace : Option (List ℕ)  -- the text that the bus's trace has, where that is known
   pub entries : Entries
   pub addresses : Addresses  -- those that are taken
   pub stopped : Bool
@@ -22,8 +23,8 @@ with_power (vacant b k) = vacant (powered_on b) (with_power k)
 with_power (taken b s a k) = taken (powered_on b) s a (with_power k)
 
 -- the root ports have power, and no device is known
-abbrev pub opening : World → Hosting
-opening w = record { world = record w { roots = with_power w.roots }; entries = []; addresses = set.empty; stopped = false }
+abbrev pub opening : World → Option (List ℕ) → Hosting
+opening w t = record { world = record w { roots = with_power w.roots }; trace = t; entries = []; addresses = set.empty; stopped = false }
 
 -- the change bits that are set and the events to come
 abbrev pub work : World → ℕ

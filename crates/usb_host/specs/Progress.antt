@@ -1,7 +1,8 @@
 -- That a round gets on.
 use Rattle.std.specs.Prelude.{◌≡◌, ℕ, ◌+◌, ◌*◌, ◌<◌, ◌≤◌}
 use Rattle.std.specs.List.{count_by}
-use Rattle.usb_world.specs.World.{Spends, root_row, changes}
+use Rattle.usb_world.specs.World.{root_row, changes}
+use Rattle.usb_bus.specs.Traced.{WentOn}
 use Rattle.usb_table.specs.Entries.{Entries}
 use Rattle.usb_table.specs.Findings.{is_waiting}
 use Rattle.usb_host.specs.Hosting.{Hosting, work}
@@ -26,11 +27,15 @@ Advances old new = idle_work new + 2 * old.world.attempts < idle_work old + 2 * 
 
 -- nothing that is known has changed
 abbrev pub Rests : Hosting → Hosting → Type 0
-Rests old new = new ≡ record old { world = new.world }
+Rests old new = new ≡ record old { world = new.world; trace = new.trace }
 
--- at most so many attempts were made, and the host goes on
+-- at most so many attempts were made, and what was written is the text of the bus's steps
+abbrev pub HostWent : ℕ → Hosting → Hosting → Type 0
+HostWent most old new = WentOn most old.world old.trace new.world new.trace
+
+-- so it went, and the host goes on
 pub record Goes (most : ℕ) (old new : Hosting) : Type 0 where
-  pub spends : Spends most old.world new.world
+  pub went : HostWent most old new
   pub going : new.stopped ≡ old.stopped
 
 -- what a part of a round did

@@ -1,12 +1,13 @@
 //! The host of a bus, and what its callers may ask of it.
 ghost use Rattle.std.specs.Prelude.{◌≡◌, ◌≢◌, ◌≤◌, ◌<◌, ◌+◌, ◌*◌, ◌↔◌, true, false, length, IsTrue, IsErrOf, OnOk, IfOk, IfErr, IsErr, Ok, Err};
 ghost use Rattle.std.specs.Borrow.{Lends, sem};
-ghost use Rattle.usb_world.specs.World.{World, Spends};
+ghost use Rattle.usb_world.specs.World.{World};
+ghost use Rattle.usb_bus.specs.Traced.{Traced};
 ghost use Rattle.usb_table.specs.Entries.{Rises};
 ghost use Rattle.usb_host.specs.Agreement.{Agrees};
 ghost use Rattle.usb_host.specs.Bounds.{round_bound, clear_bound};
 ghost use Rattle.usb_host.specs.Hosting.{Hosting, opening};
-ghost use Rattle.usb_host.specs.Progress.{DidRound};
+ghost use Rattle.usb_host.specs.Progress.{DidRound, HostWent};
 ghost use Rattle.usb_host.specs.Owning.{Owning, IsUntouched};
 ghost use Rattle.usb_host.specs.Told.{RoundTold, TransferTold, StopsAsRound, StopsAsTransfer, host_told, is_final};
 
@@ -50,7 +51,7 @@ impl<B: Bus> Model for Host<B> {
 
     ghost Value = { Hosting };
 
-    ghost view = { λ h. record { world = B.world h.bus; entries = h.table; addresses = h.pool; stopped = h.stopped } };
+    ghost view = { λ h. record { world = B.world h.bus; trace = B.trace h.bus; entries = h.table; addresses = h.pool; stopped = h.stopped } };
 
     ghost invariant = { λ h. Agrees h.table h.pool };
 }
@@ -60,7 +61,8 @@ impl<B: Bus> Host<B> {
 
     /// The host of a bus, which knows of no device. Each root port is given power.
     pub fn new(alloc: Global, bus: B) -> Host<B>
-        ensures opens { result ≡ opening (B.world bus) }
+        ensures opens { result ≡ opening (B.world bus) (B.trace bus) }
+        ensures traced { Traced (B.world bus) (B.trace bus) result.world result.trace }
         ensures owning { IsUntouched (B.world bus) → Owning result }
     {
         let mut bus = bus;
@@ -79,22 +81,25 @@ impl<B: Bus> Host<B> {
 
     /// The bus.
     pub fn bus(&self) -> &B
-        ensures { B.world result.now ≡ self.now.world }
+        ensures world { B.world result.now ≡ self.now.world }
+        ensures trace { B.trace result.now ≡ self.now.trace }
     {
         &self.bus
     }
 
     /// The bus, to be changed by whoever runs the simulation.
     pub fn bus_mut(&mut self) -> &mut B
-        ensures value { B.world result.now ≡ self.old.world }
-        ensures* writes_back { sem 𝓛 (Lends (the_row B.row B.Bus) B.row self.entry result (λ b. record self.old { world = B.world b })) }
+        ensures world { B.world result.now ≡ self.old.world }
+        ensures trace { B.trace result.now ≡ self.old.trace }
+        ensures* writes_back { sem 𝓛 (Lends (the_row B.row B.Bus) B.row self.entry result (λ b. record self.old { world = B.world b; trace = B.trace b })) }
     {
         &mut self.bus
     }
 
     /// The bus, for good.
     pub fn into_bus(self) -> B
-        ensures { B.world result ≡ self.world }
+        ensures world { B.world result ≡ self.world }
+        ensures trace { B.trace result ≡ self.trace }
     {
         let Host {
             alloc: _,
@@ -134,7 +139,7 @@ impl<B: Bus> Host<B> {
     /// more steps and `Memory` where memory was refused; the host then stops.
     pub fn round(&mut self) -> Result<Round, HostFault>
         ensures stopped { StopsAsRound self.old result self.new }
-        ensures spends { Spends round_bound self.old.world self.new.world }
+        ensures went { HostWent round_bound self.old self.new }
         ensures told { IfErr result (λ fault. RoundTold fault self.new.world) }
         ensures did { IfOk result (λ round. DidRound round self.old self.new) }
         ensures owning { Owning self.old → Owning self.new }
@@ -157,7 +162,7 @@ impl<B: Bus> Host<B> {
     /// tells it. `Bus` where the bus makes no more steps; the host then stops.
     pub fn send(&mut self, path: &PortPath, bytes: &[u8]) -> Result<(), HostFault>
         ensures stopped { StopsAsTransfer self.old result self.new }
-        ensures spends { Spends (768 * length bytes.now) self.old.world self.new.world }
+        ensures went { HostWent (768 * length bytes.now) self.old self.new }
         ensures told { IfErr result (λ fault. TransferTold fault self.new.world) }
         ensures kept { self.new.entries ≡ self.old.entries }
         ensures owning { Owning self.old → Owning self.new }
@@ -178,7 +183,7 @@ impl<B: Bus> Host<B> {
     /// As those of `send`, and `Memory` where the bytes find no room; the host then stops.
     pub fn receive(&mut self, path: &PortPath, packets: u16) -> Result<Vec<u8>, HostFault>
         ensures stopped { StopsAsTransfer self.old result self.new }
-        ensures spends { Spends (768 * packets) self.old.world self.new.world }
+        ensures went { HostWent (768 * packets) self.old self.new }
         ensures told { IfErr result (λ fault. TransferTold fault self.new.world) }
         ensures kept { self.new.entries ≡ self.old.entries }
         ensures owning { Owning self.old → Owning self.new }
@@ -199,7 +204,7 @@ impl<B: Bus> Host<B> {
     /// As those of `send`; `NoEndpoint` where the device has neither endpoint.
     pub fn clear_halt(&mut self, path: &PortPath) -> Result<(), HostFault>
         ensures stopped { StopsAsTransfer self.old result self.new }
-        ensures spends { Spends clear_bound self.old.world self.new.world }
+        ensures went { HostWent clear_bound self.old self.new }
         ensures told { IfErr result (λ fault. TransferTold fault self.new.world) }
         ensures kept { self.new.entries ≡ self.old.entries }
         ensures owning { Owning self.old → Owning self.new }

@@ -29,7 +29,7 @@ impl Round {
 
 impl<B: Bus> Host<B> {
     /// The root ports, the hubs, and the devices that wait.
-    #[tactic(auto, using(crate::proofs::Joins::goes_then, crate::proofs::Joins::goes_wider, crate::proofs::Joins::goes_none, crate::proofs::Owners::stays_none, crate::proofs::Owners::stays_then, crate::proofs::Owners::single_then))]
+    #[tactic(auto, using(crate::proofs::Owners::stays_then, crate::proofs::Owners::single_then))]
     pub(crate) fn parts(&mut self) -> Result<Round, HostFault>
         ensures goes { Goes round_bound self.old self.new }
         ensures told { IfErr result (λ fault. Ended fault self.new.world) }
@@ -44,7 +44,7 @@ impl<B: Bus> Host<B> {
     }
 
     /// Handles each root port whose connection has changed, by rising number.
-    #[tactic(auto, using(crate::proofs::Joins::goes_then, crate::proofs::Joins::goes_wider, crate::proofs::Joins::goes_none, crate::proofs::Owners::stays_none, crate::proofs::Owners::stays_then, crate::proofs::Owners::single_then))]
+    #[tactic(auto, using(crate::proofs::Owners::single_then))]
     fn serve_roots(&mut self) -> Result<Round, HostFault>
         ensures goes { Goes roots_bound self.old self.new }
         ensures told { IfErr result (λ fault. Ended fault self.new.world) }
@@ -80,7 +80,6 @@ impl<B: Bus> Host<B> {
     }
 
     /// Polls a hub, and handles the ports of which it tells; where it does not answer, it is dropped.
-    #[tactic(auto, using(crate::proofs::Joins::goes_then, crate::proofs::Joins::goes_wider, crate::proofs::Joins::goes_none))]
     fn serve_hub(&mut self, hub: &PortPath) -> Result<Round, HostFault>
         ensures path { IsPath hub.now }
         ensures goes { Goes hub_bound self.old self.new }
@@ -101,7 +100,7 @@ impl<B: Bus> Host<B> {
     }
 
     /// Handles each port of a hub whose bit is set, by rising number, as long as the hub is known.
-    #[tactic(auto, using(crate::proofs::Joins::goes_then, crate::proofs::Joins::goes_wider, crate::proofs::Joins::goes_none, crate::proofs::Owners::stays_none, crate::proofs::Owners::stays_then, crate::proofs::Owners::single_then))]
+    #[tactic(auto, using(crate::proofs::Owners::single_then))]
     fn serve_told(&mut self, hub: &PortPath, bits: u8) -> Result<Round, HostFault>
         requires { IsPath hub.now }
         ensures goes { Goes told_bound self.old self.new }

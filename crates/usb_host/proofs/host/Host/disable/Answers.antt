@@ -1,11 +1,16 @@
 use Rattle.std.proofs.Common.{refl, sym, subst}
+use Rattle.usb_host.specs.Bounds.{order_most}
 use Rattle.usb_host.specs.Hosting.{Hosting}
 use Rattle.usb_hub.specs.Addresses.{KeepsCleared}
 use Rattle.usb_host.specs.declared.fault.HostFault.TheVariants.{Bus}
 use Rattle.usb_host.specs.Ports.{StandsAt}
 use Rattle.usb_host.proofs.Handlings.{none_disabled, port_disabled, port_failed, not_disabled}
+use Rattle.usb_host.proofs.Joins.{goes_none}
 use Rattle.usb_host.proofs.host.Host.disable.Goals as goal
 use Rattle.usb_host.proofs.host.Host.disable.Goals.{in-Ok, in-Err-Bus, in-Err}
+
+pub returns-in_default-clause-goes : goal.returns-in_default-clause-goes
+returns-in_default-clause-goes g c = goes_none order_most c.args.self.now
 
 pub returns-in_default-clause-owned : goal.returns-in_default-clause-owned
 returns-in_default-clause-owned g c = none_disabled c.args.path.now c.args.self.now c.in_default.ensures.none

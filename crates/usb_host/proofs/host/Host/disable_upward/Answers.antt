@@ -1,8 +1,8 @@
-use Rattle.std.proofs.Common.{◌∙◌, ap, arith, refl, rules, sym, Ok}
+use Rattle.std.proofs.Common.{◌∙◌, ap, arith, refl, sym, Ok}
 use Rattle.usb_address.proofs.Keeping.{keeps_none, keeps_then}
 use Rattle.usb_host.proofs.Ways.{way_itself, way_parent, way_trans}
 use Rattle.usb_host.proofs.Handlings.{match_err, bares_above}
-use Rattle.usb_host.proofs.Joins.{goes_then, rests_then}
+use Rattle.usb_host.proofs.Joins.{goes_none, goes_then, rests_then}
 use Rattle.usb_host.proofs.Climbs.{parent_length}
 use Rattle.usb_host.proofs.host.Host.disable_upward.Goals as goal
 
@@ -45,7 +45,7 @@ returns-in-None-clause-bares g c =
 
 pub up-init : goal.up-init
 up-init g c = record {
-  goes = search rules;
+  goes = goes_none _ _;
   rests = refl;
   keeps = keeps_none c.args.self.now.world;
   on = way_itself c.args.first;

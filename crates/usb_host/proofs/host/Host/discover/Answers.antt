@@ -12,13 +12,13 @@ use Rattle.usb_host.proofs.Enumerations.{enumerated}
 use Rattle.usb_host.proofs.host.Host.discover.Goals as goal
 
 pub returns-in_err-finding-clause-goes : goal.returns-in_err-finding-clause-goes
-returns-in_err-finding-clause-goes g c = rw (← c.self.view_is) (enumerated c.args.port.port _ _ c.requires.port.askable c.enumerate.ensures.spends refl)
+returns-in_err-finding-clause-goes g c = rw (← c.self.view_is) (enumerated c.args.port.port _ _ c.requires.port.askable c.enumerate.ensures.went refl)
 
 pub returns-in_err-enter-clause-goes : goal.returns-in_err-enter-clause-goes
-returns-in_err-enter-clause-goes g c = rw (← c.self.view_is) (enumerated c.args.port.port _ _ c.requires.port.askable c.enumerate.ensures.spends refl)
+returns-in_err-enter-clause-goes g c = rw (← c.self.view_is) (enumerated c.args.port.port _ _ c.requires.port.askable c.enumerate.ensures.went refl)
 
 pub returns-clause-goes : goal.returns-clause-goes
-returns-clause-goes g c = rw (← c.self.view_is) (enumerated c.args.port.port _ _ c.requires.port.askable c.enumerate.ensures.spends refl)
+returns-clause-goes g c = rw (← c.self.view_is) (enumerated c.args.port.port _ _ c.requires.port.askable c.enumerate.ensures.went refl)
 
 pub invariant_of-self-2 : goal.invariant_of-self-2
 invariant_of-self-2 g c =

@@ -20,7 +20,7 @@ pub returns-in_err-insert-clause-holds : goal.returns-in_err-insert-clause-holds
 returns-in_err-insert-clause-holds g c =
     let same = ap waiting (c.in_err-insert.ensures.err ∙ ap (λ (h : Hosting). h.entries) c.self.view_is) in
     let fewer : waiting c.insert.new.self ≤ waiting c.forget.new.self.entries = omega (arith, same) in
-    dropped _ c.in_ok-lost.lost c.args.self.now c.disable_upward.new.self c.forget.new.self (g.B.Bus.world c.self.inside.bus) c.insert.new.self c.disable_upward.ensures.goes c.in_ok-lost.ensures.rests
+    dropped _ c.in_ok-lost.lost c.args.self.now c.disable_upward.new.self c.forget.new.self (g.B.Bus.world c.self.inside.bus) (g.B.Bus.trace c.self.inside.bus) c.insert.new.self c.disable_upward.ensures.goes c.in_ok-lost.ensures.rests
     c.forget.ensures.others c.forget.ensures.rest (ap (λ (h : Hosting). h.world) c.self.view_is) fewer
 
 pub returns-clause-holds : goal.returns-clause-holds
@@ -29,7 +29,7 @@ returns-clause-holds g c =
     let more = waiting-entered_other c.in_ok-lost.lost (Refused Lost) c.self.inside.table refl in
     let entered = ap waiting c.in_ok-insert.ensures.ok in
     let fewer : waiting c.insert.new.self ≤ waiting c.forget.new.self.entries = omega (arith, table, more, entered) in
-    dropped _ c.in_ok-lost.lost c.args.self.now c.disable_upward.new.self c.forget.new.self (g.B.Bus.world c.self.inside.bus) c.insert.new.self c.disable_upward.ensures.goes c.in_ok-lost.ensures.rests
+    dropped _ c.in_ok-lost.lost c.args.self.now c.disable_upward.new.self c.forget.new.self (g.B.Bus.world c.self.inside.bus) (g.B.Bus.trace c.self.inside.bus) c.insert.new.self c.disable_upward.ensures.goes c.in_ok-lost.ensures.rests
     c.forget.ensures.others c.forget.ensures.rest (ap (λ (h : Hosting). h.world) c.self.view_is) fewer
 
 pub invariant_of-self-2 : goal.invariant_of-self-2

@@ -1,7 +1,12 @@
+use Rattle.std.proofs.Common.{arith}
 use Rattle.usb_host.proofs.Handlings.{port_finished}
 use Rattle.usb_host.proofs.Looks.{handled}
 use Rattle.usb_host.proofs.Stations.{breaks}
+use Rattle.usb_host.proofs.Joins.{goes_then}
 use Rattle.usb_host.proofs.host.Host.handle.Goals as goal
+
+pub returns-clause-goes : goal.returns-clause-goes
+returns-clause-goes g c = goes_then _ _ _ _ _ _ c.serve-served.ensures.goes c.finish.ensures.goes (omega arith)
 
 pub returns-clause-advances : goal.returns-clause-advances
 returns-clause-advances g c =

@@ -1,7 +1,14 @@
 use Rattle.std.proofs.Common.{◌≡◌, ◌∙◌, ap, subst, ◌++◌, ◌∷◌, [], Some}
 use Rattle.usb_table.specs.Known.{known_port}
 use Rattle.usb_host.proofs.Hubs.{below_due}
+use Rattle.usb_host.proofs.Joins.{goes_none}
 use Rattle.usb_host.proofs.host.Host.handle_below.Goals as goal
+
+pub returns-then-not-push-clause-goes : goal.returns-then-not-push-clause-goes
+returns-then-not-push-clause-goes g c = goes_none _ _
+
+pub returns-in_default-clause-goes : goal.returns-in_default-clause-goes
+returns-in_default-clause-goes g c = goes_none _ _
 
 pub returns-clause-did : goal.returns-clause-did
 returns-clause-did g c =

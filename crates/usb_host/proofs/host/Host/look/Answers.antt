@@ -1,11 +1,19 @@
 use Rattle.std.proofs.Common.{arith, ap, ◌≤◌, inl, subst, Ok, Err}
 use Rattle.std.proofs.lemmas.Result.{err_from_is_err_and}
 use Rattle.usb_host.specs.Progress.{waiting}
-use Rattle.usb_host.proofs.Joins.{goes_none}
+use Rattle.usb_host.proofs.Joins.{goes_none, goes_then, goes_forgotten}
 use Rattle.usb_host.specs.Owning.{KeepsPort}
 use Rattle.usb_host.proofs.Handlings.{port_rests, port_stays, port_then, stays_bare}
 use Rattle.usb_host.proofs.Looks.{looks, stands_kept, served_any, enters_few, enters_other, forgets, renews}
 use Rattle.usb_host.proofs.host.Host.look.Goals as goal
+
+pub returns-in_err-discover-clause-goes : goal.returns-in_err-discover-clause-goes
+returns-in_err-discover-clause-goes g c =
+    goes_then _ _ _ _ _ _ (goes_forgotten _ _ _ _ c.clear_change.ensures.goes c.forget.ensures.others) c.discover.ensures.goes (omega arith)
+
+pub returns-in_ok-discover-clause-goes : goal.returns-in_ok-discover-clause-goes
+returns-in_ok-discover-clause-goes g c =
+    goes_then _ _ _ _ _ _ (goes_forgotten _ _ _ _ c.clear_change.ensures.goes c.forget.ensures.others) c.discover.ensures.goes (omega arith)
 
 pub discover-requires-clause-port : goal.discover-requires-clause-port
 discover-requires-clause-port g c =
@@ -27,7 +35,7 @@ returns-in_ok-discover-clause-served g c = λ due.
 pub returns-else-status-clause-served : goal.returns-else-status-clause-served
 returns-else-status-clause-served g c = λ due.
     looks c.args.path.now _ 0 c.args.self.now c.clear_change.new.self c.forget.new.self c.forget.new.self c.clear_change.ensures.goes c.in_ok-status.ensures.rests
-    c.forget.ensures.others c.forget.ensures.rest (goes_none c.forget.new.self) c.in_ok-status.ensures.gains c.forget.ensures.freed (omega arith) (λ _. omega arith) due
+    c.forget.ensures.others c.forget.ensures.rest (goes_none 0 c.forget.new.self) c.in_ok-status.ensures.gains c.forget.ensures.freed (omega arith) (λ _. omega arith) due
 
 pub returns-in_ok-discover-clause-renewed : goal.returns-in_ok-discover-clause-renewed
 returns-in_ok-discover-clause-renewed g c =

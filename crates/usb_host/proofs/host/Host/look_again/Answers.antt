@@ -1,9 +1,12 @@
-use Rattle.std.proofs.Common.{arith}
+use Rattle.std.proofs.Common.{arith, refl}
 use Rattle.usb_host.specs.Bounds.{handling_bound}
-use Rattle.usb_host.proofs.Owners.{stays_then}
-use Rattle.usb_host.proofs.Joins.{did_then}
+use Rattle.usb_host.proofs.Owners.{stays_then, stays_none}
+use Rattle.usb_host.proofs.Joins.{did_then, goes_none}
 use Rattle.usb_host.proofs.Ranks.{rank_goes, rank_within, rank_rises, rank_most, rank_after_most}
 use Rattle.usb_host.proofs.host.Host.look_again.Goals as goal
+
+pub waiting-init : goal.waiting-init
+waiting-init g c = record { goes = goes_none 0 _; did = refl; owned = stays_none _; path = tt }
 
 pub returns-in_err-look_once_more-clause-goes : goal.returns-in_err-look_once_more-clause-goes
 returns-in_err-look_once_more-clause-goes g c =

@@ -1,7 +1,16 @@
-use Rattle.std.proofs.Common.{inr}
-use Rattle.usb_host.proofs.Joins.{advances_then}
+use Rattle.std.proofs.Common.{inr, arith}
+use Rattle.usb_host.proofs.Joins.{advances_then, goes_none, goes_then}
 use Rattle.usb_host.proofs.Looks.{served_on}
 use Rattle.usb_host.proofs.host.Host.look_once_more.Goals as goal
+
+pub returns-in_default-clause-goes : goal.returns-in_default-clause-goes
+returns-in_default-clause-goes g c = goes_none _ _
+
+pub returns-in_err-finish-clause-goes : goal.returns-in_err-finish-clause-goes
+returns-in_err-finish-clause-goes g c = goes_then _ _ _ _ _ _ c.look-looked.ensures.goes c.finish.ensures.goes (omega arith)
+
+pub returns-clause-goes : goal.returns-clause-goes
+returns-clause-goes g c = goes_then _ _ _ _ _ _ c.look-looked.ensures.goes c.finish.ensures.goes (omega arith)
 
 pub returns-clause-did : goal.returns-clause-did
 returns-clause-did g c =

@@ -1,5 +1,7 @@
-use Rattle.std.proofs.Common.{◌≡◌, ◌∙◌, ◌-◌, ◌+◌, ℕ, ap, arith, sym, subst}
+use Rattle.std.proofs.Common.{◌≡◌, ◌∙◌, ◌-◌, ◌+◌, ℕ, ap, arith, refl, sym, subst, inr}
 use Rattle.usb_world.specs.World.{World, roots_of}
+use Rattle.usb_bus.specs.Traced.{still}
+use Rattle.usb_bus.proofs.Wents.{traced_set}
 use Rattle.usb_host.proofs.Powers.{powered_none, powered_length, powers_one, powered_all, powered_world}
 use Rattle.usb_host.proofs.Agreements.{nested_none}
 use Rattle.usb_host.proofs.Balances.{accounts_none}
@@ -8,11 +10,11 @@ use Rattle.usb_host.specs.Owning.{Owning}
 use Rattle.usb_host.proofs.host.Host.new.Goals as goal
 
 pub ports-init : goal.ports-init
-ports-init g c = powered_none _
+ports-init g c = record { powered = powered_none _; traced = still; silent = refl }
 
 pub root_set-requires-clause-port : goal.root_set-requires-clause-port
 root_set-requires-clause-port g c =
-    let len = powered_length _ _ _ c.ports.invariant in
+    let len = powered_length _ _ _ c.ports.invariant.powered in
     (c.ports.auto.port, omega (arith, c.ports-test.true, c.root_ports-roots.ensures.count, len))
 
 pub ports-preserved : goal.ports-preserved
@@ -20,16 +22,23 @@ ports-preserved g c =
     let w0 : World = g.B.Bus.world c.args.bus in
     let port : ℕ = c.ports.port in
     let back : port ≡ (port + 1) - 1 = omega arith in
-    powers_one w0 _ _ port c.ports.auto.port c.ports.invariant c.root_set.ensures.call ∙ ap (λ k. powered_world k w0) back
+    record {
+      powered = powers_one w0 _ _ port c.ports.auto.port c.ports.invariant.powered c.root_set.ensures.call ∙ ap (λ k. powered_world k w0) back;
+      traced = traced_set c.ports.port 8 (inr refl) c.ports.invariant.traced c.root_set.ensures.call c.root_set.ensures.silent;
+      silent = c.root_set.ensures.silent ∙ c.ports.invariant.silent;
+    }
 
 pub returns-clause-opens : goal.returns-clause-opens
 returns-clause-opens g c =
     let w0 : World = g.B.Bus.world c.args.bus in
     let all : c.ports.port - 1 ≡ roots_of w0 = omega (arith, c.ports-test.false, c.ports.auto.port-end, c.root_ports-roots.ensures.count, c.root_ports-roots.ensures.least) in
-    opened w0 _ _ _ (powered_all w0 _ (c.ports.port - 1) all c.ports.invariant) c.new-2.ensures c.new.ensures.empty
+    opened w0 _ _ _ _ _ (powered_all w0 _ (c.ports.port - 1) all c.ports.invariant.powered) c.ports.invariant.silent c.new-2.ensures c.new.ensures.empty
 
 pub invariant_of-result : goal.invariant_of-result
 invariant_of-result g c = rw (c.new-2.ensures, c.new.ensures.empty) (record { accounts = accounts_none; nested = nested_none })
 
 pub returns-clause-owning : goal.returns-clause-owning
-returns-clause-owning g c = λ untouched. subst Owning (sym (returns-clause-opens g c)) (owning_opening (g.B.Bus.world c.args.bus) untouched)
+returns-clause-owning g c = λ untouched. subst Owning (sym (returns-clause-opens g c)) (owning_opening (g.B.Bus.world c.args.bus) (g.B.Bus.trace c.args.bus) untouched)
+
+pub returns-clause-traced : goal.returns-clause-traced
+returns-clause-traced g c = c.ports.invariant.traced

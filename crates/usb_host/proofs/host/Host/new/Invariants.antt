@@ -1,6 +1,11 @@
 use Rattle.std.proofs.Common.{◌≡◌, ◌-◌}
+use Rattle.usb_bus.specs.Traced.{Traced}
 use Rattle.usb_host.proofs.Powers.{powered_world}
 use Rattle.usb_host.proofs.host.Host.new.Given as goal
 
 abbrev pub invariant-ports : goal.invariant-ports
-invariant-ports g l = g.B.Bus.world l.bus ≡ powered_world (l.port - 1) (g.B.Bus.world l.initial.bus)
+invariant-ports g l = record {
+  powered : g.B.Bus.world l.bus ≡ powered_world (l.port - 1) (g.B.Bus.world l.initial.bus);
+  traced : Traced (g.B.Bus.world l.initial.bus) (g.B.Bus.trace l.initial.bus) (g.B.Bus.world l.bus) (g.B.Bus.trace l.bus);
+  silent : g.B.Bus.trace l.bus ≡ g.B.Bus.trace l.initial.bus;
+}

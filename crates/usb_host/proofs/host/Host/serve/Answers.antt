@@ -1,7 +1,14 @@
+use Rattle.std.proofs.Common.{arith}
 use Rattle.usb_address.proofs.Keeping.{keeps_then}
 use Rattle.usb_host.proofs.Handlings.{port_rests, port_then, stays_rests}
-use Rattle.usb_host.proofs.Joins.{rests_then}
+use Rattle.usb_host.proofs.Joins.{rests_then, goes_then}
 use Rattle.usb_host.proofs.host.Host.serve.Goals as goal
+
+pub returns-then-status-clause-goes : goal.returns-then-status-clause-goes
+returns-then-status-clause-goes g c = goes_then _ _ _ _ _ _ c.status.ensures.goes c.look.ensures.goes (omega arith)
+
+pub returns-else-status-clause-goes : goal.returns-else-status-clause-goes
+returns-else-status-clause-goes g c = goes_then _ _ _ _ _ _ c.status.ensures.goes c.tidy.ensures.goes (omega arith)
 
 pub returns-in_err-status-clause-owned : goal.returns-in_err-status-clause-owned
 returns-in_err-status-clause-owned g c = port_rests c.args.path.now c.args.self.now _ _ c.in_err-status.ensures.rests c.in_err-status.ensures.keeps

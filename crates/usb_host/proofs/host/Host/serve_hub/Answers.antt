@@ -1,6 +1,17 @@
+use Rattle.std.proofs.Common.{arith, refl}
 use Rattle.usb_host.proofs.Handlings.{match_err, hub_lost, lost_single, lost_stays}
 use Rattle.usb_host.proofs.Owners.{stays_kept, single_kept, keeps_after}
+use Rattle.usb_host.proofs.Joins.{goes_after}
 use Rattle.usb_host.proofs.host.Host.serve_hub.Goals as goal
+
+pub returns-in_err-drop_hub-in-Err-clause-goes : goal.returns-in_err-drop_hub-in-Err-clause-goes
+returns-in_err-drop_hub-in-Err-clause-goes g c = rw (← c.self.view_is) (goes_after _ _ _ _ _ _ c.poll.ensures.went refl c.drop_hub.ensures.goes (omega arith))
+
+pub returns-in-Ok-Some-clause-goes : goal.returns-in-Ok-Some-clause-goes
+returns-in-Ok-Some-clause-goes g c = rw (← c.self.view_is) (goes_after _ _ _ _ _ _ c.poll.ensures.went refl c.serve_told.ensures.goes (omega arith))
+
+pub returns-in_ok-drop_hub-in-Err-clause-goes : goal.returns-in_ok-drop_hub-in-Err-clause-goes
+returns-in_ok-drop_hub-in-Err-clause-goes g c = rw (← c.self.view_is) (goes_after _ _ _ _ _ _ c.poll.ensures.went refl c.drop_hub.ensures.goes (omega arith))
 
 pub returns-in_err-drop_hub-in-Err-clause-owned : goal.returns-in_err-drop_hub-in-Err-clause-owned
 returns-in_err-drop_hub-in-Err-clause-owned g c =

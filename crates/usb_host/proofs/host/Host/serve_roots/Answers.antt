@@ -1,9 +1,42 @@
-use Rattle.std.proofs.Common.{◌≡◌, ap, arith}
-use Rattle.usb_world.specs.World.{roots_of}
+use Rattle.std.proofs.Common.{◌≡◌, ◌∙◌, sym, ap, arith, below_more, refl, ℕ, ◌≤◌, false}
+use Rattle.usb_world.specs.World.{port_at, roots_of}
 use Rattle.usb_host.specs.Hosting.{Hosting}
 use Rattle.usb_host.specs.declared.host.Round.TheVariants.{Quiet}
+use Rattle.usb_host.proofs.Joins.{goes_none, goes_then, goes_wider, worked_after}
+use Rattle.usb_host.proofs.Owners.{stays_none, stays_then}
 use Rattle.usb_host.proofs.Quiets.{none_changed}
 use Rattle.usb_host.proofs.host.Host.serve_roots.Goals as goal
+use Rattle.usb_host.proofs.host.Host.serve_roots.Goals.{then-has_changed+in_ok-handle_root, else-has_changed}
+
+pub ports-init : goal.ports-init
+ports-init g c = record { goes = goes_none 0 _; did = refl; owned = stays_none _; same = λ _. refl; unchanged = λ _ n least below. absurd (omega (arith, least, below)) }
+
+pub returns-in_err-handle_root-clause-goes : goal.returns-in_err-handle_root-clause-goes
+returns-in_err-handle_root-clause-goes g c = goes_then _ _ _ _ _ _ c.ports.invariant.goes c.handle_root.ensures.goes (omega (arith, c.ports.auto.number, c.ports-test.true, c.root_ports-roots.ensures.most))
+
+pub ports-preserved : goal.ports-preserved
+ports-preserved g c = elim c.if-has_changed.branch [
+  | then-has_changed+in_ok-handle_root w ↦ rw (w.self-is, w.round-is) (record {
+    goes = goes_then _ _ _ _ _ _ c.ports.invariant.goes w.handle_root.ensures.goes (omega (arith, c.ports.auto.number));
+    did = worked_after _ c.ports.round c.args.self.now c.ports.self w.handle_root.new.self c.ports.invariant.goes c.ports.invariant.did (w.in_ok-handle_root.ensures.advances (sym c.has_changed.ensures ∙ w.if-has_changed.true));
+    owned = stays_then _ _ _ c.ports.invariant.owned w.in_ok-handle_root.ensures.owned;
+    same = λ quiet. absurd (cc quiet);
+    unchanged = λ quiet. absurd (cc quiet);
+  })
+  | else-has_changed w ↦ rw (w.self-is, w.round-is) (record {
+    goes = goes_wider _ _ _ _ c.ports.invariant.goes (omega (arith, c.ports.auto.number));
+    did = c.ports.invariant.did;
+    owned = c.ports.invariant.owned;
+    same = c.ports.invariant.same;
+    unchanged = λ quiet n least below.
+        let here = ap (λ (h : Hosting). (port_at h.world c.ports.number).connection_changed) (sym (c.ports.invariant.same quiet)) ∙ sym c.has_changed.ensures ∙ w.if-has_changed.false in
+        let P : ℕ → Type 0 = λ k. 1 ≤ k → (port_at c.args.self.now.world k).connection_changed ≡ false in
+        below_more P c.ports.number (λ k lt first. c.ports.invariant.unchanged quiet k first lt) (λ _. here) n below least;
+  })
+]
+
+pub returns-clause-goes : goal.returns-clause-goes
+returns-clause-goes g c = goes_wider _ _ _ _ c.ports.invariant.goes (omega (arith, c.ports.auto.number, c.ports.auto.number-end, c.root_ports-roots.ensures.most))
 
 pub returns-clause-none : goal.returns-clause-none
 returns-clause-none g c = λ is.
