@@ -3,3 +3,4 @@ pub mod Report
 pub mod Run
 pub mod Serving
 pub mod Transfers
+pub mod Ran

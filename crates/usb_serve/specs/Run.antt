@@ -1,21 +1,17 @@
 -- What runs leave of a bus's world.
-use Rattle.std.specs.Prelude.{◌≡◌, ℕ, ◌+◌, ⊤, Bool, false, Result, OnOk, IfOk, IfErr, if◌then◌else◌}
+use Rattle.std.specs.Prelude.{◌≡◌, ℕ, ◌+◌, ⊤, List, Option, Some, Bool, false, Result, OnOk, IfOk, IfErr, if◌then◌else◌}
 use Rattle.usb_world.specs.PlanData.{PlanData}
 use Rattle.usb_world.specs.Steps.{opening}
-use Rattle.usb_world.specs.World.{World, Spends, to_come}
+use Rattle.usb_world.specs.World.{World, to_come}
 use Rattle.usb_world.specs.declared.types.BusFault.{BusFault}
 use Rattle.usb_world.specs.declared.types.BusFault.TheVariants as bus
 use Rattle.usb_host.specs.Hosting.{Hosting}
+use Rattle.usb_serve.specs.Ran.{Goes, GoesOn}
 use Rattle.usb_serve.specs.declared.runs.Item.{Item}
 use Rattle.usb_serve.specs.declared.runs.Item.TheVariants.{Listing, Sent, Received, Cleared}
 use Rattle.usb_serve.specs.declared.runs.Report.{Report}
 use Rattle.usb_serve.specs.declared.runs.RunFault.{RunFault}
 use Rattle.usb_serve.specs.declared.runs.RunFault.TheVariants.{LimitReached, Memory, TraceFailed}
-
--- some attempts and events later, within the limit
-pub record Goes (old new : World) : Type 0 where
-  pub count : ℕ
-  pub spends : Spends count old new
 
 -- no attempt was made yet
 pub record IsBegun (plan : PlanData) (w : World) : Type 0 where
@@ -32,11 +28,11 @@ run_fault bus.TraceFailed = TraceFailed
 abbrev pub IsCaused : RunFault → World → Type 0
 IsCaused LimitReached w = w.attempts ≡ w.limit
 IsCaused Memory w = Unit {0}
-IsCaused TraceFailed w = Unit {0}
+IsCaused TraceFailed w = w.fault ≡ Some bus.TraceFailed
 
 -- a part of a run: its host goes on where no fault is told, and a fault has its cause
 pub record RunsOn {A : Type 0} (old : Hosting) (result : Result A RunFault) (new : Hosting) : Type 0 where
-  pub goes : Goes old.world new.world
+  pub goes : Goes old new
   pub running : OnOk result (new.stopped ≡ false)
   pub caused : IfErr result (λ fault. IsCaused fault new.world)
 
@@ -64,6 +60,8 @@ pub record Counts (report : Report) (w : World) : Type 0 where
 -- the world that a run of a plan ends in, with or without a fault: at no attempt so far did two reachable devices hold one address
 pub record EndsWell (plan : PlanData) (result : Result Report RunFault) : Type 0 where
   pub last : World
-  pub goes : Goes (opening plan) last
+  pub before : Option (List ℕ)
+  pub now : Option (List ℕ)
+  pub goes : GoesOn (opening plan) before last now
   pub single : last.shared ≡ false
   pub counts : IfOk result (λ report. Counts report last)

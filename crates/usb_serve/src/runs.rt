@@ -1,17 +1,19 @@
 //! Runs of a plan.
-ghost use Rattle.std.specs.Prelude.{◌≡◌, ◌≢◌, ◌≤◌, ◌<◌, false, true, None, Ok, Err, OnOk, OnErr, IfOk, IfErr, IfSome, IsSome};
+ghost use Rattle.std.specs.Prelude.{◌≡◌, ◌≢◌, ◌≤◌, ◌<◌, [], ◌∷◌, ◌++◌, false, true, None, Ok, Err, OnOk, OnErr, IfOk, IfErr, IfSome, IsSome};
 ghost use Rattle.std.proofs.Props.{props};
 ghost use Rattle.usb_device.specs.Stored.{ports_code};
-ghost use Rattle.usb_world.specs.World.{Spends, root_row, to_come, changes};
+ghost use Rattle.usb_world.specs.World.{root_row, to_come, changes};
 ghost use Rattle.usb_bus.specs.Sim.{world_of, writer_of};
-ghost use Rattle.usb_bus.specs.Watch.{has_failed};
+ghost use Rattle.std.specs.Io.KnownBytes.{Appends};
+ghost use Rattle.usb_bus.specs.Watch.{inner_of, has_failed, tells_failure, AppendsFront};
 ghost use Rattle.usb_world.specs.Steps.{opening, PutLine};
 ghost use Rattle.usb_host.specs.Hosting.{opening as host_opening};
 ghost use Rattle.usb_host.specs.Progress.{DidRound, Rests};
 ghost use Rattle.usb_host.specs.Owning.{Owning};
 ghost use Rattle.usb_serve.specs.declared.runs.RunFault.TheVariants.{Memory as NoMemory};
 ghost use Rattle.usb_serve.specs.Transfers.{IsItemOf};
-ghost use Rattle.usb_serve.specs.Run.{Counts, EndsWell, Goes, IsBegun, IsCaused, IsOfHost, RunsOn, run_fault, items_left, listing_of};
+ghost use Rattle.usb_serve.specs.Ran.{Goes, GoesOn};
+ghost use Rattle.usb_serve.specs.Run.{Counts, EndsWell, IsBegun, IsCaused, IsOfHost, RunsOn, run_fault, items_left, listing_of};
 
 use crate::transfer::{TransferFault, answered, counted};
 use std::alloc::{AllocError, AllocFailed, Global};
@@ -130,7 +132,6 @@ pub struct Report {
 ///
 /// # Errors
 /// LimitReached where the attempts made equal the plan's limit, Memory where memory was refused.
-#[tactic(auto, using(crate::proofs::Goings::goes_within))]
 pub fn run(alloc: Global, plan: &Plan) -> Result<Report, RunFault>
     ensures limit { IfOk result (λ report. report.attempts ≤ plan.now.limit) }
     // No two devices that could be reached held one address at any attempt.
@@ -167,7 +168,8 @@ impl<W: Write> Runner<W> {
         writer: Watched<W>,
     ) -> Result<Runner<W>, (AllocError, Watched<W>)>
         requires unfailed { has_failed writer ≡ false }
-        ensures opened { IfOk result (λ runner. runner.host ≡ host_opening (opening plan.now)) }
+        ensures opened { IfOk result (λ runner. runner.host ≡ host_opening (opening plan.now) (W.contents (inner_of writer))) }
+        ensures goes { IfOk result (λ runner. GoesOn (opening plan.now) (W.contents (inner_of writer)) runner.host.world runner.host.trace) }
         ensures begun { IfOk result (λ runner. IsBegun plan.now runner.host.world) }
         ensures going { IfOk result (λ runner. runner.over ≡ false) }
         ensures back { IfErr result (λ e. e.1 ≡ writer) }
@@ -185,7 +187,7 @@ impl<W: Write> Runner<W> {
     /// The fault of the bus, or Memory where memory was refused; the run is then over.
     #[tactic(auto, using(crate::proofs::Goings::goes_none))]
     pub fn next_item(&mut self) -> Result<Option<Item>, RunFault>
-        ensures goes { Goes self.old.host.world self.new.host.world }
+        ensures goes { Goes self.old.host self.new.host }
         ensures caused { IfErr result (λ fault. IsCaused fault self.new.host.world) }
         ensures item { IfOk result (λ item. IfSome item (λ made. IsOfHost made self.new.host)) }
         ensures fewer { IfOk result (λ item. IsSome item → items_left self.new.over self.new.host.world < items_left self.old.over self.old.host.world) }
@@ -208,7 +210,7 @@ impl<W: Write> Runner<W> {
     /// Those of `next_item`.
     #[tactic(auto, using(crate::proofs::Goings::goes_then, crate::proofs::Goings::goes_none))]
     pub fn finish(&mut self, alloc: Global) -> Result<Report, RunFault>
-        ensures goes { Goes self.old.host.world self.new.host.world }
+        ensures goes { Goes self.old.host self.new.host }
         ensures counts { IfOk result (λ report. Counts report self.new.host.world) }
     {
         let mut items = Vec::new(alloc);
@@ -230,6 +232,8 @@ impl<W: Write> Runner<W> {
     pub fn put_line(&mut self, line: &[u8]) -> Result<(), BusFault>
         ensures step { PutLine self.old.host.world result self.new.host.world }
         ensures rests { Rests self.old.host self.new.host }
+        ensures front { AppendsFront self.old.host.trace self.new.host.trace (line.now ++ 10 ∷ []) }
+        ensures ok { OnOk result (Appends self.old.host.trace self.new.host.trace (line.now ++ 10 ∷ [])) }
         ensures over { self.new.over ≡ self.old.over }
     {
         self.host.bus_mut().put_line(line)
@@ -265,7 +269,10 @@ impl<W: Write> Runner<W> {
     }
 
     /// Gives the writer back.
-    pub fn into_writer(self) -> Watched<W> {
+    pub fn into_writer(self) -> Watched<W>
+        ensures trace { W.contents (inner_of result) ≡ self.host.trace }
+        ensures failed { has_failed result ≡ tells_failure self.host.world.fault }
+    {
         let Runner { host, over: _ } = self;
         host.into_bus().into_writer()
     }
@@ -291,7 +298,6 @@ fn item_of_events<W: Write>(host: &mut Host<SimBus<W>>) -> Result<Option<Item>, 
 }
 
 /// Settles, and lets the next event come; None where none is left.
-#[tactic(auto, using(crate::proofs::Goings::goes_by))]
 fn next_due<W: Write>(host: &mut Host<SimBus<W>>) -> Result<Option<Due>, RunFault>
     requires running { host.old.stopped ≡ false }
     ensures on { RunsOn host.old result host.new }

@@ -1,5 +1,5 @@
 //! A plan's text in, the text of its run out.
-ghost use Rattle.std.specs.Prelude.{◌≡◌, ◌≢◌, ◌+◌, ◌<◌, ◌≤◌, Ok, Err, true, false, IsErrOf, IfErr, IfOk, IfSome, OnErr, OnOk, [], ◌∷◌, length};
+ghost use Rattle.std.specs.Prelude.{◌≡◌, ◌≢◌, ◌+◌, ◌<◌, ◌≤◌, Some, Ok, Err, true, false, IsErrOf, IfErr, IfOk, IfSome, OnErr, OnOk, [], ◌∷◌, length};
 ghost use Rattle.usb_bus.specs.Watch.{inner_of, has_failed, calls_of};
 ghost use Rattle.usb_serve.specs.declared.serving.ServeFault.TheVariants as serve;
 ghost use Rattle.usb_serve.specs.Serving.{IsOfRun, input_fault, item_lines, number_of, report_fault};
@@ -99,7 +99,7 @@ pub fn serve<R: Read, W: Write>(
     ensures calls { calls_of reader.new ≤ calls_of reader.old + 1048577 }
     ensures read { IsErrOf result.0 ServeFault.Read → has_failed reader.new ≡ true }
     ensures too_long { IsErrOf result.0 ServeFault.TooLong → IfSome (R.remaining (inner_of reader.old)) (λ text. 1048576 < length text) }
-    ensures write { mode ≡ Mode.Tree → IsErrOf result.0 ServeFault.Write → has_failed result.1 ≡ true }
+    ensures write { IsErrOf result.0 ServeFault.Write → has_failed result.1 ≡ true }
 {
     let plan = match plan_of(alloc, reader) {
         Ok(plan) => plan,
@@ -216,7 +216,8 @@ fn serve_run<W: Write>(
     writer: Watched<W>,
 ) -> (Result<(), ServeFault>, Watched<W>)
     requires unfailed { has_failed writer ≡ false }
-    ensures { IsOfRun result.0 }
+    ensures reader { IsOfRun result.0 }
+    ensures write { IsErrOf result.0 ServeFault.Write → has_failed result.1 ≡ true }
 {
     match Runner::new(alloc, plan, writer) {
         Ok(mut runner) => {
@@ -229,7 +230,8 @@ fn serve_run<W: Write>(
 
 /// Runs to the end, with the lines of each item put into the trace when it is made.
 fn trace_run<W: Write>(alloc: Global, runner: &mut Runner<W>) -> Result<(), ServeFault>
-    ensures { IsOfRun result }
+    ensures reader { IsOfRun result }
+    ensures write { IsErrOf result ServeFault.Write → runner.new.host.world.fault ≡ Some BusFault.TraceFailed }
 {
     let mut number = 0;
     'items: while let Some(item) = runner.next_item()? {
@@ -243,6 +245,7 @@ fn put_lines<W: Write>(runner: &mut Runner<W>, lines: &[Vec<u8>]) -> Result<(), 
     ensures world { OnOk result (runner.new.host.world ≡ runner.old.host.world) }
     ensures over { runner.new.over ≡ runner.old.over }
     ensures reader { IsOfRun result }
+    ensures write { IsErrOf result ServeFault.Write → runner.new.host.world.fault ≡ Some BusFault.TraceFailed }
 {
     'lines: for line in lines {
         if let Err(fault) = runner.put_line(without_newline(line.as_slice())) {

@@ -8,4 +8,4 @@ returns-in-Err-clause-ends c = ends_unopened c.args.plan.now Memory
 pub returns-clause-ends : goal.returns-clause-ends
 returns-clause-ends c =
     let after = c.finish.new.self in
-    ends_opened c.args.plan.now c.finish.result c.in-Ok.runner.host after.host.world c.in-Ok.ensures.opened c.finish.ensures.goes after.owning.single c.finish.ensures.counts
+    ends_opened c.args.plan.now c.finish.result c.in-Ok.ensures.goes c.finish.ensures.goes after.owning.single c.finish.ensures.counts

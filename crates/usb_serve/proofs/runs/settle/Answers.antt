@@ -14,10 +14,10 @@ rounds-smaller g c =
     let new = c.round_of.new.host in
     let round = c.in_ok-round.round in
     let taken = λ (w : World). w.taken in
-    let within : old.world.attempts ≤ old.world.limit = subst (λ (w : World). w.attempts ≤ w.limit) c.bus.ensures c.bus.result.now.within in
+    let within : old.world.attempts ≤ old.world.limit = subst (λ (w : World). w.attempts ≤ w.limit) c.bus.ensures.world c.bus.result.now.within in
     let other : round ≡ Quiet → new.world.taken ≢ old.world.taken =
     elim c.else-eq.branch [
-      | else-eq-via-then-eq+else-events_taken-taken w ↦ λ _ e. w.if-events_taken-taken.false (w.events_taken.ensures ∙ ap taken w.bus-then-eq.ensures ∙ e ∙ sym (ap taken c.bus.ensures) ∙ sym c.events_taken-taken.ensures)
+      | else-eq-via-then-eq+else-events_taken-taken w ↦ λ _ e. w.if-events_taken-taken.false (w.events_taken.ensures ∙ ap taken w.bus-then-eq.ensures.world ∙ e ∙ sym (ap taken c.bus.ensures.world) ∙ sym c.events_taken-taken.ensures)
       | else-eq-via-else-eq w ↦ λ e. let same : sameb the_type round Quiet ≡ true = ap (λ (r : Round). sameb the_type r Quiet) e in cc
     ] in
     rounds_fall old new round c.in_ok-round.ensures.on.goes within c.in_ok-round.ensures.did other

@@ -1,8 +1,9 @@
-use Rattle.usb_serve.specs.Run.{Goes, items_left}
+use Rattle.usb_serve.specs.Ran.{Goes}
+use Rattle.usb_serve.specs.Run.{items_left}
 use Rattle.usb_serve.proofs.runs.Runner.finish.Given as goal
 
 abbrev pub invariant-items : goal.invariant-items
-invariant-items g l = Goes l.fn.self.host.world l.self.host.world
+invariant-items g l = Goes l.fn.self.host l.self.host
 
 -- items to come
 abbrev pub decreases-items : goal.decreases-items
