@@ -1,46 +1,41 @@
 -- A hub's port that was disabled: nothing at it or below it is reached, whatever was lost.
-use Rattle.std.proofs.Common.{◌≡◌, ℕ, zero, suc, ◌-◌, ◌==◌, ◌&&◌, nat_le, not, ◌⊎◌, inl, inr, Bool, true, false, List, [], ◌∷◌, ◌++◌, Option, None, Some, is_some, option_map, if◌then◌else◌, Result, Ok, Err, refl, ap, sym, subst, ◌∙◌, arith}
+use Rattle.std.proofs.Common.{◌≡◌, ℕ, zero, suc, ◌-◌, ◌==◌, ◌&&◌, nat_le, not, ◌⊎◌, inl, inr, Bool, true, false, List, [], ◌∷◌, ◌++◌, Option, None, Some, option_map, if◌then◌else◌, Ok, refl, ap, sym, subst, ◌∙◌, arith}
 use Rattle.std.proofs.lemmas.Option.{same_Some}
 use Rattle.usb_packet.specs.declared.Toggle.TheVariants.{One}
 use Rattle.usb_port.specs.PortState.{PortState}
 use Rattle.usb_request.specs.Layout.{setup_of, bytes_of}
 use Rattle.usb_request.specs.Requests.{clear_port_feature}
 use Rattle.usb_request.specs.declared.setup.Setup.{Setup}
-use Rattle.usb_device.specs.declared.calls.PortCall.{PortCall}
 use Rattle.usb_device.specs.declared.calls.PortCall.TheVariants.{ClearEnable}
-use Rattle.usb_device.specs.declared.effect.Effect.{Effect}
 use Rattle.usb_device.specs.declared.effect.Effect.TheVariants.{Calls}
 use Rattle.usb_device.specs.declared.request.Registers.{Registers}
 use Rattle.usb_device.specs.Calls.{clear_call}
 use Rattle.usb_device.specs.Effect.{effect_of_request, asked_by_setup}
 use Rattle.usb_device.specs.Spec.{Spec, Hub}
-use Rattle.usb_device.specs.Request.{outcome, port_named, called_at, Is}
+use Rattle.usb_device.specs.Request.{outcome, port_named, called_at}
 use Rattle.usb_device.specs.Rows.{State}
 use Rattle.usb_device.specs.Transfer.{first_stage, ending}
 use Rattle.usb_device.specs.Tree.{Ports, ended, vacant, taken, Place, empty, full, called, changed_at, acted, place_at, reach, reach_at, state_at}
 use Rattle.usb_world.specs.declared.types.Attempt.{Attempt}
 use Rattle.usb_world.specs.declared.types.BusFault.{BusFault}
 use Rattle.usb_world.specs.declared.types.BusFault.TheVariants.{LimitReached}
-use Rattle.usb_world.specs.Live.{address_of, same_number, is_way}
+use Rattle.usb_world.specs.Live.{address_of}
 use Rattle.usb_world.specs.Passes.{IsSettled}
 use Rattle.usb_world.specs.World.{World}
-use Rattle.usb_world.specs.Steps.{Step, attempt, root_call, event, report, after, attempted, with_attempt, ready, damage_in, Course, here, step}
-use Rattle.usb_world.specs.Courses.{Own, Injective, NoReset, is_harmless}
-use Rattle.usb_world.specs.Devices.{Was, EachWas}
+use Rattle.usb_world.specs.Steps.{attempt, root_call, event, report, after, attempted, with_attempt, ready, damage_in, Course, here, step}
+use Rattle.usb_world.specs.Courses.{NoReset, is_harmless}
+use Rattle.usb_world.specs.Devices.{Was}
 use Rattle.usb_world.specs.Addresses.{is_setup}
 use Rattle.usb_world.proofs.Between.{settled_ports}
-use Rattle.usb_world.proofs.Booleans.{no, both, decided, and_false}
-use Rattle.usb_world.proofs.AddressesReset.{is_same, self_number}
-use Rattle.usb_world.proofs.OneDevice.{stands}
+use Rattle.usb_world.proofs.Booleans.{no, both, decided}
 use Rattle.usb_world.proofs.OneHolderMore.{same_test}
 use Rattle.usb_world.proofs.RequestLawsPlain.{data_asks_nothing}
 use Rattle.usb_world.proofs.WorldLaws.{same_device}
 use Rattle.usb_transaction.specs.declared.target.Target.{Target}
 use Rattle.usb_transaction.specs.Over.{is_at, AcceptedAt}
 use Rattle.usb_transaction.specs.Trans.{in_attempt, out_attempt}
-use Rattle.usb_pipe.specs.declared.fault.PipeFault.{PipeFault}
 use Rattle.usb_pipe.specs.Stages.{Writes}
-use Rattle.usb_pipe.specs.Whole.{IsBehind, Moment, AcceptedIn, EffectDone, WriteLeaves}
+use Rattle.usb_pipe.specs.Whole.{IsBehind, EffectDone, WriteLeaves}
 use Rattle.usb_pipe.proofs.WholeWrites.{write_leaves}
 use Rattle.usb_address.specs.Owned.{Owned}
 

@@ -1,9 +1,11 @@
 pub mod Answerers
 pub mod Asked
 pub mod Bare
+pub mod Claimed
 pub mod Endpoints
 pub mod Events
 pub mod Keeping
+pub mod Nobody
 pub mod Openings
 pub mod Polls
 pub mod Ports
@@ -17,3 +19,4 @@ pub mod Taking
 pub mod Told
 pub mod Trails
 pub mod Transfers
+pub mod Unpowered

@@ -1,5 +1,5 @@
 -- Endpoints other than 0 take no part in who has which address, whatever is lost.
-use Rattle.std.proofs.Common.{◌≡◌, ◌≢◌, ℕ, zero, suc, ◌+◌, ◌==◌, ◌&&◌, not, nat_lt, nat_le, if◌then◌else◌, ◌⊎◌, inl, inr, Bool, true, false, List, [], ◌∷◌, length, take, Option, None, Some, option_map, Result, Ok, Err, refl, ap, sym, subst, ◌∙◌}
+use Rattle.std.proofs.Common.{◌≡◌, ◌≢◌, ℕ, zero, suc, ◌==◌, ◌&&◌, nat_lt, nat_le, if◌then◌else◌, Bool, true, false, List, [], ◌∷◌, length, take, Option, None, Some, option_map, Result, Ok, Err, refl, ap, sym, subst, ◌∙◌}
 use Rattle.arrayvec.specs.ArrayVec.{ArrayVec}
 use Rattle.usb_packet.specs.declared.Toggle.{Toggle}
 use Rattle.usb_packet.specs.declared.Toggle.TheVariants.{Zero, One as Data1}
@@ -10,13 +10,13 @@ use Rattle.usb_device.specs.declared.transfer.Giver.TheVariants as by
 use Rattle.usb_device.specs.Bulk.{is_same, tells_changes, change_bits}
 use Rattle.usb_device.specs.Transfer.{Stage, idle, refused, reading, read, ending}
 use Rattle.usb_device.specs.Rows.{State, Reply, forgotten, is_busy, nak_row, unless_busy, out_row, status_row, sink_row, sunk, out_bulk_row, bulk_ack_row, bulk_of, rest_of, data_row, acknowledged}
-use Rattle.usb_device.specs.Attempt.{Way, is_whole, heard, gave, source_law, new_changes_law, held_law, changes_law, in_bulk_law, in_other_law, in_control_law, in_law, out_law}
+use Rattle.usb_device.specs.Attempt.{Way, is_whole, heard, gave, source_law, held_law, changes_law, in_bulk_law, in_other_law, in_control_law, in_law, out_law}
 use Rattle.usb_device.specs.Tree.{Ports, ended, vacant, taken, row_of, reach_at, state_at}
 use Rattle.usb_world.specs.declared.types.Attempt.{Attempt}
 use Rattle.usb_world.specs.declared.types.BusFault.{BusFault}
 use Rattle.usb_world.specs.declared.types.Outcome.{Outcome}
 use Rattle.usb_world.specs.Live.{address_of}
-use Rattle.usb_world.specs.World.{World, Made}
+use Rattle.usb_world.specs.World.{World}
 use Rattle.usb_world.specs.Steps.{attempt, after}
 use Rattle.usb_world.specs.Courses.{Own}
 use Rattle.usb_world.specs.Devices.{Was, EachWas, DidIn, DidOut}
@@ -27,11 +27,10 @@ use Rattle.usb_world.proofs.OneHolderMore.{made_of, unequal}
 use Rattle.usb_transaction.specs.declared.fault.TransFault.{TransFault}
 use Rattle.usb_transaction.specs.declared.fault.TransFault.TheVariants.{Stalled, Busy, NoAnswer, Bus}
 use Rattle.usb_transaction.specs.Trans.{in_attempt}
-use Rattle.usb_transaction.specs.Trail.{Trail, start, next, Ended, CutOff, Transacted, Polled, Waiting, PollEnded, PollCutOff}
+use Rattle.usb_transaction.specs.Trail.{Trail, start, next, Transacted, Polled, PollCutOff}
 use Rattle.usb_pipe.specs.declared.fault.PipeFault.{PipeFault}
-use Rattle.usb_pipe.specs.declared.fault.PipeFault.TheVariants as pipe
 use Rattle.usb_pipe.specs.Control.{fault_of}
-use Rattle.usb_pipe.specs.Interrupt.{Interrupt, NoPoll, Asked, Polls}
+use Rattle.usb_pipe.specs.Interrupt.{Interrupt, Asked, Polls}
 use Rattle.usb_address.specs.Leaves.{LeavesTrans, LeavesPipe}
 use Rattle.usb_address.specs.Owned.{Owned}
 use Rattle.usb_address.proofs.Steps.{settled_after, unshared_after, fails_unshared}

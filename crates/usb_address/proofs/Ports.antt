@@ -1,6 +1,6 @@
 -- What requests about a port of a hub do to the addresses that devices hold (11.24.2).
-use Rattle.std.proofs.Common.{◌≡◌, ℕ, zero, suc, ◌==◌, ◌&&◌, ◌⊎◌, inl, inr, Bool, true, false, List, [], ◌∷◌, ◌++◌, length, Option, None, Some, Result, Ok, Err, if◌then◌else◌, refl, ap, sym, subst, ◌∙◌, arith}
-use Rattle.std.specs.Prelude.{MatchResult, ◌≤◌}
+use Rattle.std.proofs.Common.{◌≡◌, ℕ, zero, suc, ◌⊎◌, true, false, List, [], ◌∷◌, ◌++◌, Some, Result, Ok, refl, ap, sym, ◌∙◌, arith}
+use Rattle.std.specs.Prelude.{MatchResult}
 use Rattle.std.specs.Global.{Vec}
 use Rattle.usb_port.specs.Path.{IsPath, IsPortNumber}
 use Rattle.usb_port.specs.Status.{status_in}
@@ -56,10 +56,10 @@ bare_way w j e i bare x h =
     let parts = way_split ((suc j ∷ e) ++ (suc i ∷ [])) x h in
     ap (reach w.roots) (parts.1 ∙ joined (suc j ∷ e) (suc i) parts.0) ∙ bare parts.0
 
-no_path : IsPath [] → ⊥
+pub no_path : IsPath [] → ⊥
 no_path is = omega (arith, is.0)
 
-no_root : (e : List ℕ) → IsPath (zero ∷ e) → ⊥
+pub no_root : (e : List ℕ) → IsPath (zero ∷ e) → ⊥
 no_root e is = omega (arith, (is.2 0 0 (omega arith)).0)
 
 -- The clear of PORT_ENABLE

@@ -1,12 +1,12 @@
 -- PORT_RESET of a hub's port: the device there has address 0, or everything is as it was, whatever is lost.
-use Rattle.std.proofs.Common.{◌≡◌, ℕ, zero, suc, ◌==◌, ◌⊎◌, inl, inr, Bool, true, false, List, [], ◌∷◌, ◌++◌, Option, None, Some, option_map, if◌then◌else◌, Result, Ok, Err, refl, ap, sym, subst, ◌∙◌}
+use Rattle.std.proofs.Common.{◌≡◌, ℕ, zero, suc, ◌⊎◌, inl, inr, Bool, true, false, List, [], ◌∷◌, ◌++◌, Option, None, Some, option_map, if◌then◌else◌, Result, Ok, Err, refl, ap, sym, subst, ◌∙◌}
 use Rattle.std.proofs.lemmas.Option.{same_Some}
 use Rattle.usb_packet.specs.declared.Toggle.TheVariants.{One}
 use Rattle.usb_request.specs.Layout.{setup_of, bytes_of}
 use Rattle.usb_request.specs.declared.setup.Setup.{Setup}
 use Rattle.usb_device.specs.Request.{outcome, Is}
 use Rattle.usb_device.specs.Rows.{State}
-use Rattle.usb_device.specs.Tree.{Place, empty, full, Ports, place, place_at, reach, reach_at, state_at}
+use Rattle.usb_device.specs.Tree.{Place, empty, full, place_at, reach, reach_at, state_at}
 use Rattle.usb_world.specs.declared.types.Attempt.{Attempt}
 use Rattle.usb_world.specs.declared.types.BusFault.{BusFault}
 use Rattle.usb_world.specs.declared.types.Outcome.{Outcome}
@@ -16,11 +16,11 @@ use Rattle.usb_world.specs.Passes.{NobodyHolds}
 use Rattle.usb_world.specs.Touched.{IsNew}
 use Rattle.usb_world.specs.World.{World, Made}
 use Rattle.usb_world.specs.Steps.{ready, attempt, after, outcome_in}
-use Rattle.usb_world.specs.Courses.{Own, Injective, resets, address_at}
+use Rattle.usb_world.specs.Courses.{Own, resets, address_at}
 use Rattle.usb_world.specs.OneHolder.{IsSetup, IsMade, SomeHolder}
 use Rattle.usb_world.specs.Addresses.{after_reset}
 use Rattle.usb_world.proofs.Booleans.{no, both, and_of, decided}
-use Rattle.usb_world.proofs.AddressesReset.{self_path, self_number, same_is, reset_distinct}
+use Rattle.usb_world.proofs.AddressesReset.{self_number, reset_distinct}
 use Rattle.usb_world.proofs.OneDevice.{stands, state_stands}
 use Rattle.usb_world.proofs.OneHolderMore.{made_of, nobody_in}
 use Rattle.usb_world.proofs.OneHolderWho.{holder_or_nobody}
@@ -29,11 +29,11 @@ use Rattle.usb_world.proofs.WorldLaws.{step_new}
 use Rattle.usb_transaction.specs.declared.target.Target.{Target}
 use Rattle.usb_transaction.specs.declared.fault.TransFault.{TransFault}
 use Rattle.usb_transaction.specs.declared.fault.TransFault.TheVariants.{Stalled, Busy, NoAnswer, Bus}
-use Rattle.usb_transaction.specs.Heard.{heard_as, set_up_as}
-use Rattle.usb_transaction.specs.Trans.{setup_attempt, in_attempt}
-use Rattle.usb_transaction.specs.Trail.{Trail, start, next, Ended, CutOff, Transacted}
+use Rattle.usb_transaction.specs.Heard.{set_up_as}
+use Rattle.usb_transaction.specs.Trans.{setup_attempt}
+use Rattle.usb_transaction.specs.Trail.{Trail, start, next, CutOff}
 use Rattle.usb_pipe.specs.declared.fault.PipeFault.{PipeFault}
-use Rattle.usb_pipe.specs.Stages.{SetUp, Asks, NoSetUp, Written, NoStatus, Writes}
+use Rattle.usb_pipe.specs.Stages.{SetUp, Asks, Writes}
 use Rattle.usb_address.specs.Aims.{Aims, AllAim, TakesOnly, Never}
 use Rattle.usb_address.specs.Leaves.{LeavesTrans, LeavesPipe}
 use Rattle.usb_address.specs.Owned.{Owned}
@@ -161,7 +161,7 @@ module _ (q : List ℕ) (n : ℕ) (t : Target) (request : Setup) (same : setup_o
     abbrev pub Resets : World → Type 0
     Resets w = Owned f w ⊎ Owned r w
 
-    step_on : (w : World) → Made w (after (attempt a) w) → Resets w → Resets (after (attempt a) w)
+    pub step_on : (w : World) → Made w (after (attempt a) w) → Resets w → Resets (after (attempt a) w)
     unfolding Step
     step_on w made (inl o) = one_step f fits w made o
     step_on w made (inr o) = again (one_step r (fits_reset f fits) w made o)

@@ -1,18 +1,18 @@
 -- What the calls at a root port do to the addresses that devices hold (11.24.2).
-use Rattle.std.proofs.Common.{◌≡◌, ℕ, zero, suc, ◌⊎◌, inl, inr, Bool, true, false, List, [], ◌∷◌, Option, None, Some, slice_index_or, refl, ap, sym, subst, ◌∙◌}
+use Rattle.std.proofs.Common.{◌≡◌, ℕ, zero, suc, ◌⊎◌, inl, inr, true, false, List, [], ◌∷◌, Some, slice_index_or, refl, sym, subst, ◌∙◌}
 use Rattle.usb_device.specs.declared.calls.PortCall.{PortCall}
 use Rattle.usb_device.specs.declared.calls.PortCall.TheVariants.{SetReset, ClearEnable}
 use Rattle.usb_device.specs.Calls.{is_reset}
 use Rattle.usb_port.specs.PortState.{off}
-use Rattle.usb_device.specs.Tree.{Ports, ended, vacant, taken, reach, reach_at, row_of, called, changed}
+use Rattle.usb_device.specs.Tree.{Ports, ended, vacant, taken, reach, reach_at, row_of}
 use Rattle.usb_world.specs.Addresses.{after_reset}
-use Rattle.usb_world.specs.Courses.{Own, Injective, resets}
+use Rattle.usb_world.specs.Courses.{resets}
 use Rattle.usb_world.specs.Live.{is_way, same_number}
 use Rattle.usb_world.specs.Steps.{root_call, after}
 use Rattle.usb_world.specs.World.{World, port_at}
 use Rattle.usb_world.proofs.Between.{settled_called}
 use Rattle.usb_world.proofs.Booleans.{no, both, decided}
-use Rattle.usb_world.proofs.OwnLaws.{step_own, step_unshared}
+use Rattle.usb_world.proofs.OwnLaws.{step_own}
 use Rattle.usb_world.proofs.AddressesReset.{is_same, reset_own, rest_own, reset_distinct}
 use Rattle.usb_address.specs.Claims.{Claims, cleared}
 use Rattle.usb_address.specs.Owned.{Owned, TillFault, KeepsAddresses}

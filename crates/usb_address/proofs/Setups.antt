@@ -1,5 +1,5 @@
 -- Requests, and the eight bytes that carry them.
-use Rattle.std.proofs.Common.{◌≡◌, ℕ, ◌+◌, ◌*◌, ◌/◌, ◌%◌, ◌≤◌, ◌==◌, ◌&&◌, not, false, true, refl, arith}
+use Rattle.std.proofs.Common.{◌≡◌, ℕ, ◌+◌, ◌*◌, ◌/◌, ◌%◌, ◌≤◌, ◌==◌, false, true, refl, arith}
 use Rattle.std.proofs.lemmas.Bool.Decides.{nat_tests}
 use Rattle.usb_request.specs.Layout.{setup_of, bytes_of, IsToHost}
 use Rattle.usb_request.specs.declared.setup.Setup.{Setup}

@@ -1,5 +1,5 @@
 -- A device's status stage after an attempt: the one it had, or none that ends with an address.
-use Rattle.std.proofs.Common.{◌≡◌, ℕ, zero, suc, ◌+◌, ◌==◌, ◌&&◌, not, nat_lt, nat_le, if◌then◌else◌, ◌⊎◌, inl, inr, Bool, true, false, List, [], ◌∷◌, length, take, Option, None, Some, is_some, refl, ap, sym, subst, ◌∙◌}
+use Rattle.std.proofs.Common.{◌≡◌, ℕ, ◌+◌, ◌==◌, ◌&&◌, nat_lt, nat_le, if◌then◌else◌, Bool, true, false, List, [], ◌∷◌, length, take, Option, None, Some, is_some, refl}
 use Rattle.usb_packet.specs.declared.Toggle.{Toggle}
 use Rattle.usb_packet.specs.declared.Toggle.TheVariants.{Zero, One as Data1}
 use Rattle.usb_port.specs.PortState.{PortState}
@@ -9,7 +9,7 @@ use Rattle.usb_device.specs.declared.transfer.Giver.TheVariants as by
 use Rattle.usb_device.specs.Bulk.{is_same, tells_changes, change_bits}
 use Rattle.usb_device.specs.Transfer.{Stage, idle, refused, reading, read, ending, max_packet, packet_at, toggle_at}
 use Rattle.usb_device.specs.Rows.{State, Reply, forgotten, is_busy, nak_row, unless_busy, out_row, status_row, ack_row, sink_row, sunk, out_bulk_row, bulk_ack_row, bulk_of, rest_of, data_row, acknowledged, ends_with_address}
-use Rattle.usb_device.specs.Attempt.{Way, is_whole, heard, gave, in_stage_law, source_law, new_changes_law, held_law, changes_law, in_bulk_law, in_other_law, in_control_law, in_law, out_law}
+use Rattle.usb_device.specs.Attempt.{Way, is_whole, heard, gave, in_stage_law, source_law, held_law, changes_law, in_bulk_law, in_other_law, in_control_law, in_law, out_law}
 use Rattle.usb_address.specs.Aims.{Aims, Never}
 
 pub none_takes : (g : Stage) → Aims Never g → ends_with_address g ≡ false

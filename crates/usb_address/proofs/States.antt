@@ -1,13 +1,13 @@
 -- What is so in the middle of an enumeration at a port: the device there, if one is reached, has address 0 or the one that is set aside for it.
-use Rattle.std.proofs.Common.{◌≡◌, ℕ, zero, suc, ◌⊎◌, inl, inr, Bool, true, false, List, [], ◌∷◌, Option, None, Some, option_map, if◌then◌else◌, refl, ap, sym, subst, ◌∙◌}
+use Rattle.std.proofs.Common.{◌≡◌, ℕ, zero, suc, ◌⊎◌, inl, inr, Bool, true, false, List, [], ◌∷◌, Option, None, Some, option_map, if◌then◌else◌, refl, ap, sym, ◌∙◌}
 use Rattle.std.proofs.lemmas.Option.{same_Some}
 use Rattle.usb_device.specs.Rows.{State as Device}
 use Rattle.usb_device.specs.Tree.{reach, state_at}
 use Rattle.usb_world.specs.Live.{same_path, is_way, address_of}
 use Rattle.usb_world.specs.World.{World}
-use Rattle.usb_world.specs.Courses.{Own, Injective, address_at}
+use Rattle.usb_world.specs.Courses.{Injective, address_at}
 use Rattle.usb_world.specs.Addresses.{after_reset, after_taking}
-use Rattle.usb_world.proofs.Booleans.{no, decided}
+use Rattle.usb_world.proofs.Booleans.{no}
 use Rattle.usb_world.proofs.AddressesReset.{self_path, same_is, taken_distinct}
 use Rattle.usb_address.specs.Claims.{Free, cleared, Unused}
 use Rattle.usb_address.specs.Owned.{Owned, Enumerating}

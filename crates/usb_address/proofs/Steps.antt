@@ -1,37 +1,34 @@
 -- What one attempt leaves of addresses.
-use Rattle.std.proofs.Common.{◌≡◌, ℕ, suc, ◌==◌, ◌&&◌, ◌||◌, if◌then◌else◌, ◌⊎◌, inl, inr, Bool, true, false, List, [], ◌∷◌, Option, None, Some, Result, Err, refl, ap, sym, subst, ◌∙◌}
+use Rattle.std.proofs.Common.{◌≡◌, ℕ, suc, ◌&&◌, ◌||◌, if◌then◌else◌, inr, Bool, true, false, List, [], ◌∷◌, Option, None, Some, Err, refl, ap, sym, subst, ◌∙◌}
 use Rattle.usb_packet.specs.declared.Toggle.{Toggle}
-use Rattle.usb_port.specs.PortState.{PortState}
 use Rattle.usb_request.specs.Layout.{setup_of}
-use Rattle.usb_request.specs.declared.setup.Setup.{Setup}
-use Rattle.usb_device.specs.Attempt.{Way, is_whole, heard, in_law, out_law, setup_law}
-use Rattle.usb_device.specs.declared.answer.Answer.{Answer}
+use Rattle.usb_device.specs.Attempt.{Way, is_whole, heard}
 use Rattle.usb_device.specs.declared.answer.Answer.TheVariants as answer
 use Rattle.usb_device.specs.Delivery.{held, is_twice}
 use Rattle.usb_device.specs.Request.{outcome}
 use Rattle.usb_device.specs.Rows.{State, Reply, accepted}
-use Rattle.usb_device.specs.Tree.{Ports, row_of, reach_at, state_at}
+use Rattle.usb_device.specs.Tree.{row_of, reach_at, state_at}
 use Rattle.usb_world.specs.declared.event.Event.{Event}
 use Rattle.usb_world.specs.declared.types.Attempt.{Attempt}
 use Rattle.usb_world.specs.declared.types.BusFault.{BusFault}
 use Rattle.usb_world.specs.declared.types.BusFault.TheVariants.{LimitReached, Memory, TraceFailed}
-use Rattle.usb_world.specs.declared.types.Outcome.TheVariants.{Ack, Nothing}
+use Rattle.usb_world.specs.declared.types.Outcome.TheVariants.{Ack}
 use Rattle.usb_world.specs.Live.{address_of}
 use Rattle.usb_world.specs.Passes.{IsSettled}
 use Rattle.usb_world.specs.World.{World, Made}
-use Rattle.usb_world.specs.Steps.{ready, due_from, took_first, took, attempt, after, outcome_in, Course, here, step, Coming, nothing_yet, next_came, Left, at_event, at_packet, at_line, GaveUp, AttemptFails, with_attempt, is_due}
-use Rattle.usb_world.specs.Courses.{Own, Injective, resets, is_quiet}
+use Rattle.usb_world.specs.Steps.{ready, due_from, took_first, took, attempt, after, outcome_in, here, step, Coming, nothing_yet, next_came, Left, at_event, at_packet, at_line, GaveUp, AttemptFails, with_attempt, is_due}
+use Rattle.usb_world.specs.Courses.{resets, is_quiet}
 use Rattle.usb_world.specs.OneHolder.{IsSetup, IsOut, IsIn, IsMade, got}
-use Rattle.usb_world.specs.Devices.{Was, EachWas, Ways, DidIn, DidOut, DidSetup}
-use Rattle.usb_world.specs.Addresses.{is_setup, NoneTakes, GivesNoAddress}
-use Rattle.usb_world.proofs.Booleans.{no, decided}
+use Rattle.usb_world.specs.Devices.{Was, DidIn, DidOut, DidSetup}
+use Rattle.usb_world.specs.Addresses.{is_setup, NoneTakes}
+use Rattle.usb_world.proofs.Booleans.{no}
 use Rattle.usb_world.proofs.WorldLaws.{due_reach}
-use Rattle.usb_world.proofs.OwnLaws.{due_state, own_not_twice, step_own, step_unshared, quiet_resets}
+use Rattle.usb_world.proofs.OwnLaws.{due_state, own_not_twice, step_own, step_unshared}
 use Rattle.usb_world.proofs.Addresses.{due_own, course_keeps}
 use Rattle.usb_world.proofs.Devices.{each_in, each_out, each_setup}
 use Rattle.usb_world.proofs.OneHolderMore.{equal_same, same_test}
 use Rattle.usb_transaction.proofs.Trails.{trail_settled}
-use Rattle.usb_transaction.specs.Trail.{Trail, start, next}
+use Rattle.usb_transaction.specs.Trail.{start, next}
 use Rattle.usb_address.specs.Aims.{Aims, AllAim, TakesOnly, Never}
 use Rattle.usb_address.specs.Owned.{Owned}
 use Rattle.usb_address.proofs.Stages.{none_takes, in_keeps, out_keeps}

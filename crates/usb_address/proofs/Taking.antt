@@ -1,19 +1,18 @@
 -- SET_ADDRESS: the one device at the target's address takes the new one, or none does, whatever is lost.
-use Rattle.std.proofs.Common.{◌≡◌, ℕ, zero, suc, ◌==◌, ◌⊎◌, inl, inr, Bool, true, false, List, [], ◌∷◌, Option, None, Some, option_map, if◌then◌else◌, Result, Ok, Err, refl, ap, sym, subst, ◌∙◌}
+use Rattle.std.proofs.Common.{◌≡◌, ℕ, zero, suc, ◌⊎◌, inl, inr, Bool, true, false, List, [], ◌∷◌, Option, None, Some, option_map, if◌then◌else◌, Result, Ok, Err, refl, ap, sym, subst, ◌∙◌}
 use Rattle.std.proofs.lemmas.Option.{same_Some}
-use Rattle.usb_port.specs.PortState.{PortState}
 use Rattle.usb_device.specs.Rows.{State, ends_with_address}
 use Rattle.usb_device.specs.Transfer.{Stage, idle, refused, reading, read, ending}
-use Rattle.usb_device.specs.Tree.{Ports, full, reach_at, state_at, place_at}
+use Rattle.usb_device.specs.Tree.{reach_at, state_at}
 use Rattle.usb_world.specs.declared.types.Attempt.{Attempt}
 use Rattle.usb_world.specs.declared.types.BusFault.{BusFault}
 use Rattle.usb_world.specs.declared.types.Outcome.{Outcome}
 use Rattle.usb_world.specs.Live.{address_of, same_path}
 use Rattle.usb_world.specs.Passes.{deep_at, NobodyHolds}
 use Rattle.usb_world.specs.World.{World, Made}
-use Rattle.usb_world.specs.Steps.{ready, due_from, damage_in, attempt, after}
-use Rattle.usb_world.specs.Courses.{Own, Injective}
-use Rattle.usb_world.specs.OneHolder.{IsIn, IsMade, HolderIn, SomeHolder}
+use Rattle.usb_world.specs.Steps.{ready, damage_in, attempt, after}
+use Rattle.usb_world.specs.Courses.{Own}
+use Rattle.usb_world.specs.OneHolder.{IsIn, IsMade, SomeHolder}
 use Rattle.usb_world.specs.Addresses.{is_setup, NoneTakes, after_taking, ends_status}
 use Rattle.usb_world.proofs.Booleans.{no, decided}
 use Rattle.usb_world.proofs.Addresses.{due_own, data_own}
@@ -24,11 +23,11 @@ use Rattle.usb_world.proofs.OneHolderMore.{same_test, made_of}
 use Rattle.usb_world.proofs.OneHolderWho.{holder_or_nobody}
 use Rattle.usb_transaction.specs.declared.fault.TransFault.{TransFault}
 use Rattle.usb_transaction.specs.declared.fault.TransFault.TheVariants.{Stalled, Busy, NoAnswer, Bus}
-use Rattle.usb_transaction.specs.Trail.{Trail, start, next, Ended, CutOff, Transacted}
+use Rattle.usb_transaction.specs.Trail.{Trail, start, next, CutOff, Transacted}
 use Rattle.usb_address.specs.Aims.{Aims, AllAim, Never}
 use Rattle.usb_address.specs.Leaves.{LeavesTrans}
 use Rattle.usb_address.specs.Owned.{Owned}
-use Rattle.usb_address.proofs.Steps.{aim_ready, in_aims, data_owned, settled_after, unshared_after, fails_unshared}
+use Rattle.usb_address.proofs.Steps.{aim_ready, in_aims, data_owned, settled_after, unshared_after}
 use Rattle.usb_address.proofs.Trails.{cut_off}
 
 ends_some : (g : Stage) → ends_with_address g ≡ true → (c : ℕ) × (g ≡ ending (Some c))

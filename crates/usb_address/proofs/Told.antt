@@ -1,9 +1,9 @@
 -- A hub's port that was told not enabled: nothing at it or below it is reached.
-use Rattle.std.proofs.Common.{◌≡◌, ℕ, zero, suc, ◌-◌, ◌≤◌, ◌==◌, ◌&&◌, nat_le, not, ◌⊎◌, inl, inr, Bool, true, false, List, [], ◌∷◌, ◌++◌, take, slice_get, Option, None, Some, option_map, if◌then◌else◌, Result, Ok, Err, refl, ap, sym, subst, ◌∙◌, arith}
+use Rattle.std.proofs.Common.{◌≡◌, ℕ, zero, suc, ◌-◌, ◌≤◌, ◌&&◌, ◌⊎◌, inl, inr, true, false, List, [], ◌∷◌, ◌++◌, take, slice_get, Option, None, Some, Ok, refl, ap, sym, subst, ◌∙◌, arith}
 use Rattle.std.specs.Global.{Vec}
 use Rattle.std.proofs.lemmas.Option.{same_Some}
 use Rattle.usb_port.specs.PortState.{PortState, status_of}
-use Rattle.usb_port.specs.Status.{status_in, seen}
+use Rattle.usb_port.specs.Status.{status_in}
 use Rattle.usb_port.proofs.StatusLaws.{status_seen}
 use Rattle.usb_request.specs.Layout.{setup_of, bytes_of, IsToHost}
 use Rattle.usb_request.specs.Requests.{get_port_status}
@@ -12,25 +12,22 @@ use Rattle.usb_device.specs.declared.effect.Effect.{Effect}
 use Rattle.usb_device.specs.declared.effect.Effect.TheVariants.{Leaves}
 use Rattle.usb_device.specs.declared.request.Registers.{Registers}
 use Rattle.usb_device.specs.Effect.{effect_of_request, asked_by_setup}
-use Rattle.usb_device.specs.Spec.{Spec, Hub}
-use Rattle.usb_device.specs.Request.{outcome, port_named, told_port, Is}
+use Rattle.usb_device.specs.Spec.{Spec}
+use Rattle.usb_device.specs.Request.{outcome, port_named, told_port}
 use Rattle.usb_device.specs.Rows.{State}
-use Rattle.usb_device.specs.Transfer.{Stage, reading, reads_port, first_stage}
-use Rattle.usb_device.specs.Tree.{Ports, ended, vacant, taken, Place, acted, place_at, row_of, reach, reach_at, state_at}
+use Rattle.usb_device.specs.Transfer.{reading, reads_port, first_stage}
+use Rattle.usb_device.specs.Tree.{Ports, ended, vacant, taken, acted, row_of, reach, reach_at, state_at}
 use Rattle.usb_world.specs.Live.{address_of}
 use Rattle.usb_world.specs.Passes.{IsSettled}
 use Rattle.usb_world.specs.World.{World}
-use Rattle.usb_world.specs.Steps.{attempt, after}
-use Rattle.usb_world.specs.Courses.{is_harmless}
 use Rattle.usb_world.specs.Devices.{Was}
-use Rattle.usb_world.proofs.Booleans.{no, decided}
+use Rattle.usb_world.proofs.Booleans.{decided}
 use Rattle.usb_world.proofs.OneHolderMore.{same_test}
 use Rattle.usb_world.proofs.WorldLaws.{same_device}
 use Rattle.usb_transaction.specs.declared.target.Target.{Target}
 use Rattle.usb_transaction.specs.Over.{is_at, AcceptedAt}
-use Rattle.usb_pipe.specs.declared.fault.PipeFault.{PipeFault}
 use Rattle.usb_pipe.specs.Stages.{Reads}
-use Rattle.usb_pipe.specs.Whole.{Moment, AcceptedIn, AnswerRead, ReadLeaves}
+use Rattle.usb_pipe.specs.Whole.{AnswerRead, ReadLeaves}
 use Rattle.usb_pipe.proofs.WholeReads.{read_leaves}
 use Rattle.usb_address.specs.Owned.{Owned}
 use Rattle.usb_address.proofs.Bare.{reach_front, reach_below, below_of, attempt_settled, behind_rests, held_of, named, less_one}

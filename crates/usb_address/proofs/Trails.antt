@@ -1,16 +1,15 @@
 -- What a transaction leaves of addresses, whatever is lost.
-use Rattle.std.proofs.Common.{◌≡◌, ℕ, suc, ◌⊎◌, inl, inr, Bool, true, false, List, [], ◌∷◌, Option, None, Some, Result, Ok, Err, refl, ap, sym, subst, ◌∙◌}
+use Rattle.std.proofs.Common.{◌≡◌, ℕ, suc, true, false, List, ◌∷◌, Option, None, Some, Result, Ok, Err, refl, ap, ◌∙◌}
 use Rattle.usb_packet.specs.declared.Toggle.{Toggle}
 use Rattle.usb_request.specs.Layout.{setup_of}
 use Rattle.usb_device.specs.Request.{outcome}
 use Rattle.usb_device.specs.Rows.{State}
-use Rattle.usb_device.specs.Tree.{reach_at, state_at}
 use Rattle.usb_world.specs.declared.types.Attempt.{Attempt}
 use Rattle.usb_world.specs.declared.types.BusFault.{BusFault}
 use Rattle.usb_world.specs.declared.types.Outcome.{Outcome}
 use Rattle.usb_world.specs.declared.types.Outcome.TheVariants.{Ack, Payload, Nak, Stall, Nothing}
-use Rattle.usb_world.specs.World.{World, Made}
-use Rattle.usb_world.specs.Steps.{attempt, after, outcome_in}
+use Rattle.usb_world.specs.World.{World}
+use Rattle.usb_world.specs.Steps.{attempt, after}
 use Rattle.usb_world.specs.Courses.{is_quiet}
 use Rattle.usb_world.specs.OneHolder.{IsSetup, IsOut, IsIn, IsMade}
 use Rattle.usb_world.specs.Addresses.{is_setup}
@@ -19,8 +18,8 @@ use Rattle.usb_world.proofs.OneHolderMore.{made_of}
 use Rattle.usb_transaction.specs.declared.fault.TransFault.{TransFault}
 use Rattle.usb_transaction.specs.declared.fault.TransFault.TheVariants.{Stalled, Busy, NoAnswer, Bus}
 use Rattle.usb_transaction.specs.Heard.{set_up_as}
-use Rattle.usb_transaction.specs.Trail.{Trail, start, next, Ended, CutOff, Transacted, Tells}
-use Rattle.usb_address.specs.Aims.{Aims, AllAim, TakesOnly, Never}
+use Rattle.usb_transaction.specs.Trail.{Trail, start, next, CutOff, Transacted, Tells}
+use Rattle.usb_address.specs.Aims.{AllAim, TakesOnly, Never}
 use Rattle.usb_address.specs.Leaves.{LeavesTrans}
 use Rattle.usb_address.specs.Owned.{Owned}
 use Rattle.usb_address.proofs.Steps.{in_aims, out_aims, set_up_aims, data_owned, quiet_owned, unshared_after, fails_unshared}

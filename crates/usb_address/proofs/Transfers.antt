@@ -1,26 +1,25 @@
 -- What a control transfer leaves of addresses, whatever is lost.
-use Rattle.std.proofs.Common.{◌≡◌, ℕ, suc, ◌==◌, ◌⊎◌, inl, inr, Bool, true, false, List, [], ◌∷◌, Option, None, Some, Result, Ok, Err, refl, ap, sym, subst, ◌∙◌}
+use Rattle.std.proofs.Common.{◌≡◌, ℕ, ◌⊎◌, inl, inr, true, false, List, [], Option, Some, Result, Ok, Err, refl, ap, sym, subst, ◌∙◌}
 use Rattle.std.specs.Global.{Vec}
 use Rattle.usb_packet.specs.declared.Toggle.{Toggle}
 use Rattle.usb_packet.specs.declared.Toggle.TheVariants.{One}
 use Rattle.usb_request.specs.Layout.{setup_of, bytes_of}
 use Rattle.usb_request.specs.declared.setup.Setup.{Setup}
 use Rattle.usb_device.specs.Request.{outcome, Is}
-use Rattle.usb_device.specs.Rows.{State}
 use Rattle.usb_world.specs.World.{World}
 use Rattle.usb_world.specs.Courses.{is_harmless}
-use Rattle.usb_world.specs.OneHolder.{IsSetup, IsOut, IsIn}
+use Rattle.usb_world.specs.OneHolder.{IsSetup}
 use Rattle.usb_transaction.specs.declared.target.Target.{Target}
 use Rattle.usb_transaction.specs.declared.fault.TransFault.{TransFault}
 use Rattle.usb_transaction.specs.declared.fault.TransFault.TheVariants.{Stalled as TransStalled, Busy as TransBusy, NoAnswer as TransNoAnswer, Bus as TransBus}
-use Rattle.usb_transaction.specs.Heard.{heard_as, sent_as, set_up_as}
-use Rattle.usb_transaction.specs.Trans.{setup_attempt, in_attempt, out_attempt, packet_of}
+use Rattle.usb_transaction.specs.Heard.{heard_as, sent_as}
+use Rattle.usb_transaction.specs.Trans.{setup_attempt, in_attempt, out_attempt}
 use Rattle.usb_pipe.specs.declared.fault.PipeFault.{PipeFault}
 use Rattle.usb_pipe.specs.declared.fault.PipeFault.TheVariants.{Stalled, Busy, NoAnswer, Broken, Bus, Memory}
 use Rattle.usb_pipe.specs.Control.{fault_of}
-use Rattle.usb_pipe.specs.Stages.{SetUp, Asks, Confirms, NoSetUp, Written, NoStatus, Writes, Goes, start, packet, DataStage, DataLost, NoRoom, DataEnds, WasRead, NoData, NotConfirmed, Reads}
+use Rattle.usb_pipe.specs.Stages.{SetUp, Asks, Confirms, NoSetUp, Writes, Goes, start, packet, DataStage, DataLost, NoRoom, Reads}
 use Rattle.usb_pipe.specs.Toggles.{flips}
-use Rattle.usb_address.specs.Aims.{Aims, AllAim, TakesOnly, Never}
+use Rattle.usb_address.specs.Aims.{AllAim, TakesOnly, Never}
 use Rattle.usb_address.specs.Leaves.{LeavesTrans, LeavesPipe}
 use Rattle.usb_address.specs.Owned.{Owned}
 use Rattle.usb_address.proofs.Asked.{outcome_only}

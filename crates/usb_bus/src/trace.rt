@@ -1,28 +1,29 @@
 //! The lines of the trace.
-ghost use Rattle.std.specs.Prelude.{◌≡◌, ◌+◌, ◌<◌, ◌≤◌, ◌++◌, length, decimal, encode_utf8};
+ghost use Rattle.std.specs.Prelude.{◌≡◌, ◌+◌, ◌<◌, ◌≤◌, [], ◌∷◌, ◌++◌, length, decimal, encode_utf8};
 ghost use Rattle.usb_bus.specs.Trace.{attempt_line, pre_text, mark_text, host_text, next_text, answer_text};
 
 use arrayvec::ArrayString;
-use usb_packet::packet_text;
+use usb_packet::push_packet;
 use usb_world::{Exchange, Heard, Mark, Outgoing};
 
 /// Room for the longest line of an attempt.
-type Line = ArrayString<700>;
+pub(crate) type Line = ArrayString<700>;
 
-/// An attempt's number and its packets. `pre` says that PRE stands before each of the host's packets.
-pub(crate) fn attempt_line(number: u64, pre: bool, exchange: &Exchange) -> ArrayString<700>
-    ensures { result.bytes ≡ attempt_line number pre exchange.now }
+/// An attempt's number and its packets, and the end of the line. `pre` says that PRE stands before each of the host's
+/// packets.
+pub(crate) fn push_attempt(line: &mut Line, number: u64, pre: bool, exchange: &Exchange)
+    requires { line.old.bytes ≡ [] }
+    ensures { line.new.bytes ≡ attempt_line number pre exchange.now ++ 10 ∷ [] }
 {
-    let mut line = ArrayString::new();
-    push_decimal(&mut line, number);
+    push_decimal(line, number);
     line.push(' ');
-    push_host(&mut line, pre, &exchange.token);
-    push_next(&mut line, pre, &exchange.payload);
+    push_host(line, pre, &exchange.token);
+    push_next(line, pre, &exchange.payload);
     line.push_str(" / ");
-    push_answer(&mut line, &exchange.answer);
-    push_mark(&mut line, exchange.answer_mark);
-    push_next(&mut line, pre, &exchange.reply);
-    line
+    push_answer(line, &exchange.answer);
+    push_mark(line, exchange.answer_mark);
+    push_next(line, pre, &exchange.reply);
+    line.push('\n');
 }
 
 fn pre_text(pre: bool) -> &'static str
@@ -39,7 +40,7 @@ fn push_host(line: &mut Line, pre: bool, packet: &Outgoing)
     ensures few { length line.new.bytes ≤ length line.old.bytes + 167 }
 {
     line.push_str(pre_text(pre));
-    line.push_str(packet_text(&packet.packet).as_str());
+    push_packet(line, &packet.packet);
     push_mark(line, packet.mark);
 }
 
@@ -64,7 +65,7 @@ fn push_answer(line: &mut Line, answer: &Heard)
     match answer {
         Heard::Nothing => line.push_str("none"),
         Heard::Collision => line.push_str("collision"),
-        Heard::One(packet) => line.push_str(packet_text(packet).as_str()),
+        Heard::One(packet) => push_packet(line, packet),
     }
 }
 

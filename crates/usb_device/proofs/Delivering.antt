@@ -7,10 +7,13 @@ use Rattle.usb_device.specs.declared.delivery.Heard.{Heard}
 use Rattle.usb_device.specs.declared.delivery.Heard.TheVariants.{NoAnswer, One, Collision}
 use Rattle.usb_device.specs.declared.ports.Place.{Place as Kept}
 use Rattle.usb_device.specs.Places.{ports_in}
-use Rattle.usb_device.specs.Rows.{State}
-use Rattle.usb_device.specs.Tree.{Ports, taken, Place, empty, full, before}
+use Rattle.usb_device.specs.Rows.{State, unread}
+use Rattle.usb_device.specs.Stray.{concerns}
+use Rattle.usb_device.specs.Tree.{Ports, taken, Plugged, Place, empty, full, before, row_of}
+use Rattle.usb_device.specs.declared.delivery.Content.{Content}
 use Rattle.usb_device.proofs.Rows.{row_of-after}
-use Rattle.usb_device.specs.Delivery.{answer_of, after_packet, answers, listed, heard_from, heard_of, both, delivered, delivered_device, delivered_place}
+use Rattle.usb_device.proofs.Strays.{reply-unread, asks-stray}
+use Rattle.usb_device.specs.Delivery.{answer_of, after_packet, answers, listed, heard_from, heard_of, both, joined, with_answer, taken_content, delivered, delivered_device, delivered_place}
 
 -- ---- a packet leaves the ports of a device as they are until the device itself asks something of them
 
@@ -20,7 +23,7 @@ answer_of-after q deep s a below = rw (row_of-after q below a) refl
 
 -- ---- two parts of the tree
 
-both-none : (h : Heard) → both h NoAnswer ≡ h
+pub both-none : (h : Heard) → both h NoAnswer ≡ h
 both-none NoAnswer = refl
 both-none (One x) = refl
 both-none Collision = refl
@@ -34,12 +37,17 @@ both-joined (One x) (One y) NoAnswer = refl
 both-joined (One x) (One y) (One z) = refl
 both-joined (One x) (One y) Collision = refl
 
+both-swapped : (h : Heard) (x : Answer) → both h (One x) ≡ both (One x) h
+both-swapped NoAnswer x = refl
+both-swapped (One y) x = refl
+both-swapped Collision x = refl
+
 heard-more : (x : Answer) (xs : List Answer) → heard_of (x ∷ xs) ≡ both (One x) (heard_of xs)
 heard-more x [] = refl
 heard-more x (y ∷ []) = refl
 heard-more x (y ∷ z ∷ more) = refl
 
-heard_of-append : (xs ys : List Answer) → heard_of (xs ++ ys) ≡ both (heard_of xs) (heard_of ys)
+pub heard_of-append : (xs ys : List Answer) → heard_of (xs ++ ys) ≡ both (heard_of xs) (heard_of ys)
 heard_of-append [] ys = refl
 heard_of-append (x ∷ xs) ys =
     heard-more x (xs ++ ys) ∙ ap (both (One x)) (heard_of-append xs ys)
@@ -48,6 +56,14 @@ heard_of-append (x ∷ xs) ys =
 heard-listed : (x : Option Answer) (xs : List Answer) → heard_of (listed x xs) ≡ both (heard_from x) (heard_of xs)
 heard-listed None xs = refl
 heard-listed (Some x) xs = heard-more x xs
+
+-- ---- a packet at a device that it is not for
+
+pub unheard : {A : Type 0} (h : Heard) (x : A) → with_answer h (None, x) ≡ (h, x)
+unheard h x = ap (λ g. (g, x)) (both-none h)
+
+pub taken-stray : (c : Content) (t : Plugged) → concerns c t.own ≡ false → taken_content c t ≡ (None, record t { own = unread t.own })
+taken-stray c t h = rw (reply-unread c t.own (row_of t.ports) h, asks-stray c t.own h) refl
 
 -- ---- a place, and those behind it
 
@@ -82,9 +98,25 @@ unfolding after_packet answers
 delivered-before q deep (empty b) k = refl
 delivered-before q deep (full b s a) k = by_enable q deep b s a k b.enable
 
+-- ---- what was heard before
+
+-- at a device: what is heard below it comes before its own answer
+pub joined-device : (h b : Heard) (x : Option Answer) → both (both h b) (heard_from x) ≡ both h (both (heard_from x) b)
+joined-device h b None = both-none (both h b)
+joined-device h b (Some x) = both-joined h b (One x) ∙ ap (both h) (both-swapped b x)
+
+-- along a row: the first place comes before those behind it
+pub joined-before : (q : Sent) (deep : Bool) (h : Heard) (p : Place) (k : Ports)
+    → joined h (delivered q deep (before p k)) ≡ (both (both h (delivered_place q deep p).0) (delivered q deep k).0, before (delivered_place q deep p).1 (delivered q deep k).1)
+joined-before q deep h p k =
+    ap (joined h) (delivered-before q deep p k)
+    ∙ ap (λ x. (x, before (delivered_place q deep p).1 (delivered q deep k).1)) (sym (both-joined h (delivered_place q deep p).0 (delivered q deep k).0))
+
 pub delivered-none : (q : Sent) (deep : Bool) (ps : List Kept) → length ps ≡ 0 → delivered q deep (ports_in ps) ≡ (NoAnswer, ports_in ps)
 unfolding after_packet answers
 delivered-none q deep [] h = refl
 delivered-none q deep (p ∷ ps) h = absurd (omega (arith, h))
 
-pub ruleset delivering = (delivered-before, delivered-none, answer_of-after)
+pub ruleset delivering = (joined-before, joined-device, both-none, delivered-none, answer_of-after)
+
+pub ruleset strays = (unheard, taken-stray)

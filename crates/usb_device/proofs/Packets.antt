@@ -27,6 +27,22 @@ none-parts : (c : Bool) (x : List ℕ) → ◌≡◌ {A = Option (List ℕ)} (if
 none-parts true x h = cc
 none-parts false x h = refl
 
+-- ---- whether there is one, by the length of the answer
+
+is_some-if : (c : Bool) (x : List ℕ) → is_some (if c then Some x else None) ≡ c
+is_some-if true x = refl
+is_some-if false x = refl
+
+has_packet-length : (max wanted k : ℕ) (answer : List ℕ) → is_some (packet_at max wanted answer k) ≡ nat_lt k (packet_count max wanted (min wanted (length answer)))
+has_packet-length max wanted k answer =
+    let bytes = take wanted answer in
+    is_some-if (nat_lt k (packet_count max wanted (length bytes))) (take max (drop (k * max) bytes)) ∙ ap (λ n. nat_lt k (packet_count max wanted n)) (length-take wanted answer)
+
+pub has_packet-of : (max wanted k len : ℕ) (answer : List ℕ) → length answer ≡ len → nat_lt k (packet_count max wanted (min wanted len)) ≡ is_some (packet_at max wanted answer k)
+has_packet-of max wanted k len answer is = ap (λ n. nat_lt k (packet_count max wanted (min wanted n))) (sym is) ∙ sym (has_packet-length max wanted k answer)
+
+pub ruleset has = (has_packet-of)
+
 -- ---- end to end
 
 joined-step : (max wanted k : ℕ) (w : List ℕ) → 0 < max → (c : Bool) → nat_lt k (packet_count max wanted (length w)) ≡ c
@@ -73,10 +89,6 @@ further-at max wanted len k pos most h =
     (λ le. let m = mul-le-mul_right max le in omega (arith, m))
     (λ le. mul-le-mul_right max le)
     (len % max == 0 && not (nat_lt len wanted)) refl h
-
-is_some-if : (c : Bool) (x : List ℕ) → is_some (if c then Some x else None) ≡ c
-is_some-if true x = refl
-is_some-if false x = refl
 
 pub packet-further : (max wanted : ℕ) (answer bytes : List ℕ) (k : ℕ) → 0 < max → packet_at max wanted answer k ≡ Some bytes
     → is_some (packet_at max wanted answer (k + 1)) ≡ (length bytes == max && nat_lt (length (joined max wanted answer (k + 1))) wanted)

@@ -2,7 +2,6 @@
 use Rattle.std.proofs.Common.{◌≡◌, Bool, true, Result, Ok, Err, OnErr, refl, ap, sym, subst, ◌∙◌}
 use Rattle.usb_port.specs.PortState.{PortState}
 use Rattle.usb_device.specs.declared.delivery.Sent.{Sent}
-use Rattle.usb_device.specs.declared.delivery.Heard.{Heard}
 use Rattle.usb_device.specs.Rows.{State}
 use Rattle.usb_device.specs.Tree.{Ports, taken, Plugged, Place, empty, full, before}
 use Rattle.usb_device.specs.Delivery.{after_packet, delivered_place}
@@ -32,14 +31,24 @@ behind_place : (q : Sent) (deep : Bool) (x : Place) (k m : Ports) → Stopped q 
 behind_place q deep (empty b) k m h = behind_empty b h
 behind_place q deep (full b s a) k m h = behind b s a h
 
-pub stopped_behind : (q : Sent) (deep : Bool) (x y : Place) (k m : Ports) (heard : Heard) → (heard, y) ≡ delivered_place q deep x → Stopped q deep k m → Stopped q deep (before x k) (before y m)
-stopped_behind q deep x y k m heard is h =
-    let P : Heard × Place → Type 0 = λ z. Stopped q deep (before x k) (before z.1 m) in
+stopped_behind : (q : Sent) (deep : Bool) (x y : Place) (k m : Ports) → y ≡ (delivered_place q deep x).1 → Stopped q deep k m → Stopped q deep (before x k) (before y m)
+stopped_behind q deep x y k m is h =
+    let P : Place → Type 0 = λ z. Stopped q deep (before x k) (before z m) in
     subst P (sym is) (behind_place q deep x k m h)
 
+pub stopped_further : {T E : Type 0} (r : Result T E) (q : Sent) (deep : Bool) (x y : Place) (k m : Ports) → y ≡ (delivered_place q deep x).1 → OnErr r (Stopped q deep k m)
+    → OnErr r (Stopped q deep (before x k) (before y m))
+stopped_further (Ok v) q deep x y k m is h = tt
+stopped_further (Err e) q deep x y k m is h = stopped_behind q deep x y k m is h
+
 -- the device itself, when those below it had the packet
-pub stopped_itself : (q : Sent) (deep : Bool) (t u : Plugged) (m : Ports) → m ≡ after_packet q true t.ports → u ≡ record t { ports = m } → IsRefused q deep t.own → StoppedDevice q deep t u
+stopped_itself : (q : Sent) (deep : Bool) (t u : Plugged) (m : Ports) → m ≡ after_packet q true t.ports → u ≡ record t { ports = m } → IsRefused q deep t.own → StoppedDevice q deep t u
 stopped_itself q deep t u m had is h = itself h.packet h.content h.heard h.grows (is ∙ ap (λ x. record t { ports = x }) had)
+
+pub stopped_at : {T E : Type 0} (r : Result T E) (q : Sent) (deep : Bool) (t u : Plugged) (m : Ports) → m ≡ after_packet q true t.ports → OnErr r (u ≡ record t { ports = m })
+    → OnErr r (IsRefused q deep t.own) → OnErr r (StoppedDevice q deep t u)
+stopped_at (Ok v) q deep t u m had is h = tt
+stopped_at (Err e) q deep t u m had is h = stopped_itself q deep t u m had is h
 
 -- the device on a port
 pub stopped_place : {T E : Type 0} (r : Result T E) (q : Sent) (deep : Bool) (b : PortState) (t u : Plugged) (x : Place) → x ≡ full b t.own t.ports → b.enable ≡ true → OnErr r (StoppedDevice q deep t u)

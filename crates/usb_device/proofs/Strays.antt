@@ -60,6 +60,17 @@ reply-stray : (c : Content) (s : State) (row : List PortState) → concerns c s 
 reply-stray (Whole p) s row h = received-stray s row p h
 reply-stray Broken s row h = (refl, forgotten-unread s)
 
+-- the same, exactly
+
+unless_silent : (s : State) (silent : Bool) (r : Reply) → r ≡ pair None (forgotten s) → (if silent then pair None s else r) ≡ pair None (if silent then s else forgotten s)
+unless_silent s true r h = refl
+unless_silent s false r h = h
+
+pub reply-unread : (c : Content) (s : State) (row : List PortState) → concerns c s ≡ false → reply_to c s row ≡ (None, unread s)
+unfolding received unread
+reply-unread (Whole p) s row h = unless_silent s s.spec.silent (answered (forgotten s) row s.memory p) (answered-stray (forgotten s) row s.memory p h)
+reply-unread Broken s row h = refl
+
 if-heard : (s : State) (heard : Bool) (r : Reply) → Forgets s r → Forgets s (if heard then r else pair None s)
 if-heard s true r h = h
 if-heard s false r h = (refl, refl)
@@ -91,7 +102,7 @@ unless-leaves : (b : Bool) (e : Effect) → e ≡ Leaves → (if b then Leaves e
 unless-leaves true e h = refl
 unless-leaves false e h = h
 
-asks-stray : (c : Content) (s : State) → concerns c s ≡ false → asked_by c s ≡ Leaves
+pub asks-stray : (c : Content) (s : State) → concerns c s ≡ false → asked_by c s ≡ Leaves
 unfolding asks
 asks-stray (Whole p) s h = unless-leaves s.spec.silent (asked_by_packet s p) (packet-asked s p h)
 asks-stray Broken s h = refl

@@ -101,6 +101,14 @@ both (One x) (One y) = Collision
 both (One x) Collision = Collision
 both Collision h = Collision
 
+-- what was heard before, and then something more
+abbrev pub joined : {A : Type 0} → Heard → Heard × A → Heard × A
+joined h x = (both h x.0, x.1)
+
+-- the same, where it is one device's answer
+abbrev pub with_answer : {A : Type 0} → Heard → Option Answer × A → Heard × A
+with_answer h x = (both h (heard_from x.0), x.1)
+
 -- what is heard of the answers: two collide
 abbrev pub heard_of : List Answer → Heard
 heard_of [] = NoAnswer

@@ -9,18 +9,22 @@ use crate::ports::{Place, Ports};
 impl Ports {
     /// The end of an attempt: every device forgets a token that waits for data and data that wait for an ACK.
     #[cycle(over)]
+    #[tactic(auto, using(crate::proofs::Betweens::betweens))]
     pub fn attempt_over(&mut self)
         ensures { self.new ≡ all_forgotten self.old }
     {
-        forget_all(self.places.as_mut_slice());
+        if !self.places.is_empty() {
+            forget_all(self.places.as_mut_slice());
+        }
     }
 
     /// Whether some device awaits the ACK that would end its SET_ADDRESS.
     #[cycle(losing)]
+    #[tactic(auto, using(crate::proofs::Betweens::betweens))]
     pub fn has_address_loss(&self) -> bool
         ensures { result ≡ has_loss self.now }
     {
-        any_loses(self.places.as_slice())
+        !self.places.is_empty() && any_loses(self.places.as_slice())
     }
 }
 

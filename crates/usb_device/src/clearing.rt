@@ -20,10 +20,11 @@ impl Ports {
     }
 
     #[cycle(clearing)]
+    #[tactic(auto, using(crate::proofs::Betweens::betweens))]
     fn clears(&self, sent: &Sent, deep: bool) -> bool
         ensures { result ≡ clears_change sent.now deep self.now }
     {
-        any_clears(self.places.as_slice(), sent, deep)
+        !self.places.is_empty() && any_clears(self.places.as_slice(), sent, deep)
     }
 }
 

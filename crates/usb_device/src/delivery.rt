@@ -1,9 +1,9 @@
 //! A packet on its way through the tree of devices (8.6.5, 11.8.4).
-ghost use Rattle.std.specs.Prelude.{◌≡◌, false, true, IfOk, OnErr};
+ghost use Rattle.std.specs.Prelude.{◌≡◌, false, true, IfOk, OnOk, OnErr};
 ghost use Rattle.usb_device.specs.Tree.{row_of};
 ghost use Rattle.usb_device.specs.Places.{ports_in, stood};
 ghost use Rattle.usb_device.specs.Stopped.{Stopped, StoppedDevice, StoppedPlace, IsRefused, IsRefusedContent};
-ghost use Rattle.usb_device.specs.Delivery.{Carries, is_heard, heard_from, both, delivered, taken_content, taken_sent, delivered_device, delivered_place, figure, figure_in, figure_of};
+ghost use Rattle.usb_device.specs.Delivery.{Carries, is_heard, heard_from, both, joined, with_answer, delivered, taken_content, taken_sent, delivered_device, delivered_place, figure, figure_in, figure_of};
 
 use crate::answer::Answer;
 use crate::device::Device;
@@ -54,23 +54,15 @@ pub enum Heard {
     Collision,
 }
 
-/// What is heard where two parts of the tree were heard.
-fn both(one: Heard, other: Heard) -> Heard
-    ensures { result ≡ both one other }
+/// An answer joins what was heard before it.
+fn join(heard: &mut Heard, answer: Option<Answer>)
+    ensures { heard.new ≡ both heard.old (heard_from answer) }
 {
-    match (one, other) {
-        (Heard::NoAnswer, other) => other,
-        (one, Heard::NoAnswer) => one,
-        _ => Heard::Collision,
-    }
-}
-
-fn heard_from(answer: Option<Answer>) -> Heard
-    ensures { result ≡ heard_from answer }
-{
-    match answer {
-        Some(answer) => Heard::One(answer),
-        None => Heard::NoAnswer,
+    if let Some(answer) = answer {
+        *heard = match heard {
+            Heard::NoAnswer => Heard::One(answer),
+            Heard::One(_) | Heard::Collision => Heard::Collision,
+        };
     }
 }
 
@@ -98,49 +90,69 @@ impl Ports {
         ensures row { OnErr result (row_of self.new ≡ row_of self.old) }
         ensures stopped { OnErr result (Stopped sent.now false self.old self.new) }
     {
-        self.pass(sent, false)
+        let mut heard = Heard::NoAnswer;
+        self.deliver_after(sent, &mut heard)?;
+        Ok(heard)
+    }
+
+    /// The same behind another packet, of which something may have been heard: what is heard of this one joins it.
+    pub fn deliver_after(&mut self, sent: &Sent, heard: &mut Heard) -> Result<(), AllocError>
+        ensures ok { OnOk result ((heard.new, self.new) ≡ joined heard.old (delivered sent.now false self.old)) }
+        ensures err { OnErr result (figure self.new ≡ figure self.old) }
+        ensures row { row_of self.new ≡ row_of self.old }
+        ensures stopped { OnErr result (Stopped sent.now false self.old self.new) }
+    {
+        self.pass(sent, false, heard)
     }
 
     #[cycle(deliver)]
-    fn pass(&mut self, sent: &Sent, deep: bool) -> Result<Heard, AllocError>
-        ensures ok { IfOk result (λ heard. (heard, self.new) ≡ delivered sent.now deep self.old) }
+    #[tactic(auto, using(crate::proofs::Delivering::delivering))]
+    fn pass(&mut self, sent: &Sent, deep: bool, heard: &mut Heard) -> Result<(), AllocError>
+        ensures ok { OnOk result ((heard.new, self.new) ≡ joined heard.old (delivered sent.now deep self.old)) }
         ensures err { OnErr result (figure self.new ≡ figure self.old) }
         ensures row { row_of self.new ≡ row_of self.old }
         ensures stopped { OnErr result (Stopped sent.now deep self.old self.new) }
     {
-        deliver_all(self.places.as_mut_slice(), sent, deep)
+        if self.places.is_empty() {
+            return Ok(());
+        }
+        deliver_all(self.places.as_mut_slice(), sent, deep, heard)
     }
 }
 
 #[cycle(deliver)]
 #[tactic(auto, using(crate::proofs::Delivering::delivering, crate::proofs::Figures::figures, crate::proofs::Rows::rows))]
-fn deliver_all(places: &mut [Place], sent: &Sent, deep: bool) -> Result<Heard, AllocError>
-    ensures ok { IfOk result (λ heard. (heard, ports_in places.new) ≡ delivered sent.now deep (ports_in places.old)) }
+fn deliver_all(
+    places: &mut [Place],
+    sent: &Sent,
+    deep: bool,
+    heard: &mut Heard,
+) -> Result<(), AllocError>
+    ensures ok { OnOk result ((heard.new, ports_in places.new) ≡ joined heard.old (delivered sent.now deep (ports_in places.old))) }
     ensures err { OnErr result (figure (ports_in places.new) ≡ figure (ports_in places.old)) }
     ensures row { row_of (ports_in places.new) ≡ row_of (ports_in places.old) }
     ensures stopped { OnErr result (Stopped sent.now deep (ports_in places.old) (ports_in places.new)) }
 {
     match places.split_first_mut() {
-        None => Ok(Heard::NoAnswer),
+        None => Ok(()),
         Some((place, rest)) => {
-            let here = place.deliver(sent, deep)?;
-            let further = deliver_all(rest, sent, deep)?;
-            Ok(both(here, further))
+            place.deliver(sent, deep, heard)?;
+            deliver_all(rest, sent, deep, heard)
         }
     }
 }
 
 impl Place {
     #[cycle(deliver)]
-    fn deliver(&mut self, sent: &Sent, deep: bool) -> Result<Heard, AllocError>
-        ensures ok { IfOk result (λ heard. (heard, stood self.new) ≡ delivered_place sent.now deep (stood self.old)) }
+    fn deliver(&mut self, sent: &Sent, deep: bool, heard: &mut Heard) -> Result<(), AllocError>
+        ensures ok { OnOk result ((heard.new, stood self.new) ≡ joined heard.old (delivered_place sent.now deep (stood self.old))) }
         ensures err { OnErr result (figure_in (stood self.new) ≡ figure_in (stood self.old)) }
         ensures port { self.new.port ≡ self.old.port }
         ensures stopped { OnErr result (StoppedPlace sent.now deep (stood self.old) (stood self.new)) }
     {
         match &mut self.device {
-            Some(device) if self.port.is_enabled() => device.deliver(sent, deep),
-            _ => Ok(Heard::NoAnswer),
+            Some(device) if self.port.is_enabled() => device.deliver(sent, deep, heard),
+            _ => Ok(()),
         }
     }
 }
@@ -149,40 +161,42 @@ impl Device {
     /// The devices below come first, by the enables as they stood, then the device itself, then what it asks of its ports.
     #[cycle(deliver)]
     #[tactic(auto, using(crate::proofs::Delivering::delivering, crate::proofs::Figures::figures))]
-    fn deliver(&mut self, sent: &Sent, deep: bool) -> Result<Heard, AllocError>
-        ensures ok { IfOk result (λ heard. (heard, self.new) ≡ delivered_device sent.now deep self.old) }
+    fn deliver(&mut self, sent: &Sent, deep: bool, heard: &mut Heard) -> Result<(), AllocError>
+        ensures ok { OnOk result ((heard.new, self.new) ≡ joined heard.old (delivered_device sent.now deep self.old)) }
         ensures err { OnErr result (figure_of self.new ≡ figure_of self.old) }
         ensures stopped { OnErr result (StoppedDevice sent.now deep self.old self.new) }
     {
-        let below = self.ports.pass(sent, true)?;
-        let here = self.take_sent(sent, deep)?;
-        Ok(both(heard_from(here), below))
+        self.ports.pass(sent, true, heard)?;
+        self.take_sent(sent, deep, heard)
     }
 
-    #[tactic(auto, unfolding(crate::specs::Delivery::answer_of, crate::specs::Delivery::effect_of))]
-    fn take_sent(&mut self, sent: &Sent, deep: bool) -> Result<Option<Answer>, AllocError>
-        ensures ok { IfOk result (λ answer. (answer, self.new) ≡ taken_sent sent.now deep self.old) }
+    #[tactic(auto, unfolding(crate::specs::Delivery::answer_of, crate::specs::Delivery::effect_of), using(crate::proofs::Delivering::strays))]
+    fn take_sent(&mut self, sent: &Sent, deep: bool, heard: &mut Heard) -> Result<(), AllocError>
+        ensures ok { OnOk result ((heard.new, self.new) ≡ with_answer heard.old (taken_sent sent.now deep self.old)) }
         ensures err { OnErr result (self.new ≡ self.old) }
         ensures refused { OnErr result (IsRefused sent.now deep self.old.own) }
     {
         if is_heard(sent, deep, self.is_low()) {
-            self.take_content(&sent.content)
+            self.take_content(&sent.content, heard)
         } else {
-            Ok(None)
+            Ok(())
         }
     }
 
-    fn take_content(&mut self, content: &Content) -> Result<Option<Answer>, AllocError>
-        ensures ok { IfOk result (λ answer. (answer, self.new) ≡ taken_content content.now self.old) }
+    /// A packet that is for another device, and one that cannot be read, only end what the device remembers.
+    #[tactic(auto, using(crate::proofs::Delivering::strays))]
+    fn take_content(&mut self, content: &Content, heard: &mut Heard) -> Result<(), AllocError>
+        ensures ok { OnOk result ((heard.new, self.new) ≡ with_answer heard.old (taken_content content.now self.old)) }
         ensures err { OnErr result (self.new ≡ self.old) }
         ensures refused { OnErr result (IsRefusedContent content.now self.old.own) }
     {
         match content {
-            Content::Whole(packet) => self.take(packet),
-            Content::Broken => {
-                self.own.unread();
-                Ok(None)
+            Content::Whole(packet) if self.own.is_for(packet) => {
+                let answer = self.take(packet)?;
+                join(heard, answer);
             }
+            Content::Whole(_) | Content::Broken => self.own.unread(),
         }
+        Ok(())
     }
 }

@@ -1,8 +1,9 @@
 //! A device without its ports: its transfers, packet by packet (8.5).
-ghost use Rattle.std.specs.Prelude.{◌≡◌, ◌≤◌, ◌==◌, None, if◌then◌else◌, option_map};
+ghost use Rattle.std.specs.Prelude.{◌≡◌, ◌≤◌, ◌==◌, None, if◌then◌else◌, is_some, length, option_map};
 ghost use Rattle.usb_device.specs.Spec.{Spec};
 ghost use Rattle.usb_device.specs.Code.{bytes_of, hub_text, text_at, meaning_of, stage_of};
 ghost use Rattle.usb_device.specs.Transfer.{max_packet, packet_at, reads, first_stage};
+ghost use Rattle.usb_device.specs.Stray.{awaits_data, awaits_ack};
 ghost use Rattle.usb_device.specs.Tree.{row_of};
 
 use crate::answer::Answer;
@@ -15,7 +16,7 @@ use crate::lists::Bytes;
 use crate::ports::Ports;
 use crate::request::{AT_RESET, Reaction, Registers, Source, react};
 use crate::spec::DeviceSpec;
-use crate::transfer::{Giver, Memory, Progress, packet_at, toggle_at};
+use crate::transfer::{Giver, Memory, Progress, has_packet, packet_at, toggle_at};
 use arrayvec::ArrayVec;
 use std::alloc::{AllocError, Global};
 use std::marker::Model;
@@ -113,7 +114,26 @@ fn first_progress(ports: &Ports, wanted: u16, reaction: Reaction) -> Progress
     }
 }
 
+fn awaits_data(memory: Memory) -> bool
+    ensures { result ≡ awaits_data memory }
+{
+    match memory {
+        Memory::Nothing | Memory::AckAwaited(_) => false,
+        Memory::SetupSeen | Memory::OutSeen(_) => true,
+    }
+}
+
+fn awaits_ack(memory: Memory) -> bool
+    ensures { result ≡ awaits_ack memory }
+{
+    match memory {
+        Memory::Nothing | Memory::SetupSeen | Memory::OutSeen(_) => false,
+        Memory::AckAwaited(_) => true,
+    }
+}
+
 impl Own {
+    ghost use Rattle.usb_device.specs.Stray.{is_for};
     ghost use Rattle.std.specs.Prelude.{IfOk, OnErr, true, false, [], ◌∷◌};
     ghost use Rattle.usb_device.specs.declared.transfer.Giver.TheVariants as by;
     ghost use Rattle.usb_device.specs.Effect.{asks, asked_by_data, asked_by_setup};
@@ -208,6 +228,25 @@ impl Own {
     {
         if !self.spec.is_silent() {
             self.attempt_over();
+        }
+    }
+
+    /// Whether a packet is for this device: a token with its address, data behind such a token, or the ACK that it awaits.
+    pub fn is_for(&self, packet: &Packet) -> bool
+        ensures { result ≡ is_for self.now self.now.memory packet.now }
+    {
+        match packet {
+            Packet::Token {
+                kind: _,
+                addr,
+                ep: _,
+            } => *addr == self.registers.address,
+            Packet::Payload {
+                toggle: _,
+                bytes: _,
+            } => awaits_data(self.memory),
+            Packet::Ack => awaits_ack(self.memory),
+            Packet::Sof(_) | Packet::Nak | Packet::Stall | Packet::Pre => false,
         }
     }
 
@@ -459,6 +498,29 @@ impl Own {
         }
     }
 
+    /// How many bytes the answer has.
+    fn length_of(&self, source: Source) -> usize
+        ensures { result ≡ length (bytes_of self.now.spec source) }
+    {
+        match source {
+            Source::Descriptor => self.spec.descriptor().len(),
+            Source::Config(i) => text_at(self.spec.configs(), i).len(),
+            Source::Text(i) => text_at(self.spec.strings(), i).len(),
+            Source::Hub => hub_text(&self.spec).len(),
+            Source::Status => 2,
+            Source::Configuration(_) => 1,
+            Source::Port(bytes) => bytes.len(),
+        }
+    }
+
+    /// Whether the answer has a packet `k`.
+    fn has_packet(&self, source: Source, wanted: u16, k: u32) -> bool
+        ensures { result ≡ is_some (packet_at (max_packet self.now.spec) wanted (bytes_of self.now.spec source) k) }
+    {
+        let max = usize::from(self.spec.max_packet());
+        has_packet(max, wanted, self.length_of(source), k)
+    }
+
     /// Data from the device, of which an ACK is awaited.
     fn give_data(&mut self, giver: Giver, toggle: Toggle, bytes: ArrayVec<u8, 64>) -> Option<Answer>
         ensures { (result, self.new) ≡ gives self.old giver toggle bytes.items }
@@ -522,7 +584,7 @@ impl Own {
                 wanted,
                 given,
             } => {
-                if self.packet_at(source, wanted, given).is_some() {
+                if self.has_packet(source, wanted, given) {
                     self.progress = Progress::Reading {
                         source,
                         wanted,

@@ -18,13 +18,18 @@ impl Ports {
 
     /// Marks the addresses of the devices that packets reach, and tells whether one was marked before.
     #[cycle(marking)]
+    #[tactic(auto, using(crate::proofs::Marking::marking))]
     fn mark(&self, seen: &mut [bool]) -> bool
         requires { length seen.old ≡ 256 }
         ensures met { result ≡ meets (held self.now) seen.old }
         ensures marks { seen.new ≡ marked (held self.now) seen.old }
         ensures bytes { AreBytes (held self.now) }
     {
-        mark_all(self.places.as_slice(), seen)
+        if self.places.is_empty() {
+            false
+        } else {
+            mark_all(self.places.as_slice(), seen)
+        }
     }
 }
 

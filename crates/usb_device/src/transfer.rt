@@ -1,5 +1,5 @@
 //! Where a control transfer stands, and the packets of an answer (8.5.3).
-ghost use Rattle.std.specs.Prelude.{◌≡◌, ◌≤◌, ◌<◌, option_map};
+ghost use Rattle.std.specs.Prelude.{◌≡◌, ◌≤◌, ◌<◌, ℕ, List, length, is_some, option_map};
 ghost use Rattle.usb_device.specs.Transfer.{packet_count, packet_at, toggle_at};
 
 use crate::request::Source;
@@ -80,6 +80,16 @@ pub fn packet_at(max: usize, wanted: u16, answer: &[u8], k: u32) -> Option<Array
     } else {
         None
     }
+}
+
+/// Whether an answer of `len` bytes has a packet `k`, counted from 0.
+#[tactic(auto, using(crate::proofs::Packets::has))]
+pub fn has_packet(max: usize, wanted: u16, len: usize, k: u32) -> bool
+    requires { 8 ≤ max }
+    ensures { (answer : List ℕ) → length answer ≡ len → result ≡ is_some (packet_at max wanted answer k) }
+{
+    let wanted = usize::from(wanted);
+    (k as usize) < packet_count(max, wanted, wanted.min(len))
 }
 
 /// The toggle of packet `k` of an answer.

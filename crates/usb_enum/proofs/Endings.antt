@@ -1,5 +1,5 @@
 -- How an enumeration ends: who holds which address then.
-use Rattle.std.proofs.Common.{◌≡◌, ◌≢◌, ℕ, Bool, true, false, List, None, Some, Result, Ok, Err, IsErr, if◌then◌else◌, refl, sym, ◌∙◌, arith}
+use Rattle.std.proofs.Common.{◌≡◌, ◌≢◌, ℕ, Bool, true, false, List, None, Some, Result, Ok, Err, IsErr, if◌then◌else◌, refl, sym, subst, ◌∙◌, arith}
 use Rattle.usb_world.specs.Addresses.{after_taking}
 use Rattle.usb_world.specs.Live.{same_path, is_way}
 use Rattle.usb_world.specs.World.{World}
@@ -19,7 +19,11 @@ use Rattle.usb_enum.specs.declared.fault.EnumFault.TheVariants as fault
 use Rattle.usb_enum.specs.declared.finding.Accepted.{Accepted}
 use Rattle.usb_enum.specs.declared.finding.Finding.{Finding}
 use Rattle.usb_enum.specs.declared.finding.Finding.TheVariants.{Device, Refused}
+use Rattle.usb_enum.specs.declared.stop.Stop.{Stop}
+use Rattle.usb_enum.specs.declared.stop.Stop.TheVariants as stop
 use Rattle.usb_enum.specs.Addresses.{IsSpare, Within, Takes, EndsOwned, Ends, KeepsEnumerated}
+use Rattle.usb_enum.specs.Found.{GivesUp, IsOwn, IsTruthful}
+use Rattle.usb_enum.specs.Present.{AtPath, Finds, IsInOrder}
 use Rattle.usb_enum.specs.Stop.{at_port}
 use Rattle.usb_enum.proofs.Enumerations.{till_weaker, having, at_taking}
 
@@ -73,6 +77,18 @@ pub port_done : (outcome : Result (Unit {0}) PipeFault) (done : Unit {0}) → at
 port_done (Ok tt) done e = refl
 port_done (Err why) done e = absurd cc
 
+-- then no device was found
+pub gives_none : (port : HubPort) (stop : Stop) (old new : World) (result : Result Finding EnumFault) (device : Accepted) → GivesUp port stop old result new → result ≡ Ok (Device device) → ⊥
+gives_none port (stop.Refused cause) old new (Ok finding) device gives e = let is = gives.0 in absurd cc
+gives_none port (stop.Refused cause) old new (Err why) device gives e = absurd cc
+gives_none port (stop.Fault why) old new result device gives e = let is = gives.0 in absurd cc
+
+pub none_true : (port : HubPort) (addresses : Addresses) (tier supply : ℕ) (stop : Stop) (old mid new : World) (result : Result Finding EnumFault) → GivesUp port stop mid result new → IsTruthful port addresses tier supply old result new
+none_true port addresses tier supply stop old mid new result gives = record { truth = λ f p at bare claimed t order device e. elim (gives_none port stop mid new result device gives e) [ ] }
+
+same_found : (a b : Accepted) → (let r : Result Finding EnumFault = Ok (Device a) in r ≡ Ok (Device b)) → a ≡ b
+same_found a b e = cc
+
 -- The addresses that are taken
 
 pub zero_untaken : (addresses : Addresses) → HasAddresses addresses → IsTaken addresses 0 → ⊥
@@ -116,3 +132,12 @@ module _ (port : HubPort) (addresses : Addresses) (address : ℕ) (zero_is : IsT
       ends f p at bare claimed t =
           let is = spare f p at bare claimed in
           ended.ends f p is (within.stays f p is (first f p old is t))
+
+  pub found_true : (tier supply : ℕ) (old new : World) (device : Accepted) → Finds (IsOwn tier supply device) port address old new → IsTruthful port addresses tier supply old (Ok (Device device)) new
+  found_true tier supply old new device finds = record { truth = truth }
+    where
+      truth : (f : Claims) (p : List ℕ) → IsAt f port p → Free f p → ((x : List ℕ) (a : ℕ) → f x ≡ Some a → IsTaken addresses a) → TillFault (Owned f) old → IsInOrder old
+          → (other : Accepted) → (let r : Result Finding EnumFault = Ok (Device device) in r ≡ Ok (Device other)) → AtPath (IsOwn tier supply other) p new
+      truth f p at bare claimed t order other e =
+          let is = spare f p at bare claimed in
+          subst (λ x. AtPath (IsOwn tier supply x) p new) (same_found device other e) (finds.found f p is (first f p old is t) order)

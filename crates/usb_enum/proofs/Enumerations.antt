@@ -1,7 +1,6 @@
 -- How the device at a port that is being enumerated comes to hold its address, from one call to the next.
-use Rattle.std.proofs.Common.{◌≡◌, ◌⊎◌, ◌≤◌, ℕ, inl, Bool, true, false, List, [], ◌∷◌, ◌++◌, Option, None, Some, if◌then◌else◌, Result, Ok, Err, refl, ap, sym, subst, ◌∙◌, arith}
+use Rattle.std.proofs.Common.{◌≡◌, ◌⊎◌, ◌≤◌, ℕ, inl, Bool, true, false, List, [], ◌∷◌, ◌++◌, Option, None, Some, if◌then◌else◌, refl, ap, sym, subst, ◌∙◌, arith}
 use Rattle.std.proofs.lemmas.Option.{same_Some}
-use Rattle.std.specs.Prelude.{IfOk}
 use Rattle.usb_world.specs.declared.types.BusFault.{BusFault}
 use Rattle.usb_world.specs.Addresses.{after_reset, after_taking}
 use Rattle.usb_world.specs.Live.{same_path, is_way}
@@ -14,9 +13,7 @@ use Rattle.usb_address.proofs.States.{after_a_reset, after_an_address, at_zero, 
 use Rattle.usb_hub.specs.declared.port.HubPort.{HubPort}
 use Rattle.usb_hub.specs.declared.port.HubPort.TheVariants.{Root, External}
 use Rattle.usb_hub.specs.Addresses.{IsAt, Answers, Resets, GivesAddress}
-use Rattle.usb_enum.specs.declared.finding.Accepted.{Accepted}
 use Rattle.usb_enum.specs.Addresses.{IsSpare, Within, Takes}
-use Rattle.usb_enum.specs.Found.{IsAccepted, IsWhole}
 
 -- Till a fault
 
@@ -66,11 +63,6 @@ takes_after port address a b c m n = record { took = λ f p spare t. n.took f p 
 
 pub takes_then : (port : HubPort) (address : ℕ) (a b c : World) → Takes port address a b → KeepsAddresses b c → Takes port address a c
 takes_then port address a b c m n = record { took = λ f p spare t. n.kept (after_taking f p address) (m.took f p spare t) }
-
-pub accepted : {E : Type 0} (port : HubPort) (address supply : ℕ) (old new : World) (result : Result Accepted E) → IfOk result (λ device. device.address ≡ address) → IfOk result (λ device. IsWhole supply device) → Takes port address old new
-    → IfOk result (IsAccepted port address supply old new)
-accepted port address supply old new (Ok device) same whole takes = record { address = same; whole = whole; takes = takes }
-accepted port address supply old new (Err why) same whole takes = tt
 
 -- What each call does
 

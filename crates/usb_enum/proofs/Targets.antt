@@ -22,7 +22,7 @@ head_ok false false true good n h = absurd cc
 head_ok false false false true n h = refl
 head_ok false false false false n h = absurd cc
 
-head_maximum : (low : Bool) (bytes : List ℕ) → is_ok (device_head_of low bytes) ≡ true → is_max_packet low (slice_index bytes 7) ≡ true
+pub head_maximum : (low : Bool) (bytes : List ℕ) → is_ok (device_head_of low bytes) ≡ true → is_max_packet low (slice_index bytes 7) ≡ true
 unfolding device_head_of
 head_maximum low bytes h = head_ok (nat_lt (length bytes) 8) (not (slice_index bytes 1 == 1)) (not (slice_index bytes 0 == 18)) (is_max_packet low (slice_index bytes 7)) (slice_index bytes 7) h
 

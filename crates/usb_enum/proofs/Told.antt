@@ -113,9 +113,9 @@ module _ (low : Bool) (bytes : List ℕ) where
       split true e = e
       split false e = tt
 
-  pub device_so : {P : Type 0} → P → IfOk (device_bytes low bytes) (λ found. IfSome found (λ _. P))
-  device_so {P} p = split (is_device low bytes)
+  pub device_so : (P : List ℕ → Type 0) → P bytes → IfOk (device_bytes low bytes) (λ found. IfSome found P)
+  device_so P p = split (is_device low bytes)
     where
-      split : (is : Bool) → IfOk (if is then Ok (Some bytes) else Err (Refused cause.BadDevice)) (λ found. IfSome found (λ _. P))
+      split : (is : Bool) → IfOk (if is then Ok (Some bytes) else Err (Refused cause.BadDevice)) (λ found. IfSome found P)
       split true = p
       split false = tt

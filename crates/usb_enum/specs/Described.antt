@@ -3,7 +3,7 @@ use Rattle.std.specs.Prelude.{◌≡◌, ◌⊎◌, ℕ, zero, suc, ◌==◌, �
 use Rattle.std.specs.Option.{option_or}
 use Rattle.usb_resources.specs.Power.{supply_of}
 use Rattle.usb_descriptor.specs.declared.fault.DescriptorFault.{DescriptorFault}
-use Rattle.usb_descriptor.specs.Device.{device_head_of, configuration_count, manufacturer_index, product_index, serial_index}
+use Rattle.usb_descriptor.specs.Device.{device_head_of, configuration_count}
 use Rattle.usb_descriptor.specs.Config.{config_head_of, config_of, configuration_value}
 use Rattle.usb_descriptor.specs.Choice.{status_endpoint_of}
 use Rattle.usb_descriptor.specs.Hub.{hub_of}
@@ -13,12 +13,13 @@ use Rattle.usb_world.specs.Plugged.{hub_ports}
 use Rattle.usb_enum.specs.declared.cause.Cause.{Cause}
 use Rattle.usb_enum.specs.declared.cause.Cause.TheVariants.{Silent, Busy, Stalled, BadDevice, TooDeep, BadConfiguration, NoPower, BadHub, NoAddress}
 use Rattle.usb_enum.specs.declared.cause.Request.TheVariants as request
+use Rattle.usb_enum.specs.declared.strings.StringIndexes.{StringIndexes}
 use Rattle.usb_enum.specs.declared.strings.Strings.{Strings}
 use Rattle.usb_enum.specs.declared.finding.Accepted.{Accepted}
 use Rattle.usb_enum.specs.declared.finding.Finding.{Finding}
 use Rattle.usb_enum.specs.declared.finding.Finding.TheVariants.{Device, Refused}
 use Rattle.usb_enum.specs.declared.hub.HubFacts.{HubFacts}
-use Rattle.usb_enum.specs.Device.{is_device, is_hub, configuration_of}
+use Rattle.usb_enum.specs.Device.{is_device, is_hub, string_indexes, configuration_of}
 use Rattle.usb_enum.specs.Text.{has_value, choice_of, units_of, first_language_of}
 
 -- Configurations
@@ -117,12 +118,15 @@ string_at spec index =
     if index == 0 || not (is_some (option_and_then first_language_of (string_read spec 0))) then None
     else option_and_then units_of (string_read spec index)
 
-abbrev pub strings_of : Spec → Strings
-strings_of spec = record {
-  manufacturer = string_at spec (manufacturer_index spec.descriptor);
-  product = string_at spec (product_index spec.descriptor);
-  serial_number = string_at spec (serial_index spec.descriptor);
+abbrev pub strings_by : Spec → StringIndexes → Strings
+strings_by spec indexes = record {
+  manufacturer = string_at spec indexes.manufacturer;
+  product = string_at spec indexes.product;
+  serial_number = string_at spec indexes.serial_number;
 }
+
+abbrev pub strings_of : Spec → Strings
+strings_of spec = strings_by spec (string_indexes spec.descriptor)
 
 -- The finding
 

@@ -4,6 +4,9 @@ pub mod Described
 pub mod Device
 pub mod Found
 pub mod Hub
+pub mod Learned
 pub mod Losses
+pub mod Present
+pub mod Readings
 pub mod Stop
 pub mod Text

@@ -3,6 +3,8 @@ ghost use Rattle.std.specs.Prelude.{◌≡◌, ◌≤◌, ◌<◌, ◌*◌, leng
 ghost use Rattle.usb_bus.specs.Traced.{Went};
 ghost use Rattle.usb_transaction.specs.Trans.{IsTarget};
 ghost use Rattle.usb_enum.specs.Bounds.{read_bound, configuration_bound};
+ghost use Rattle.usb_enum.specs.Learned.{Learns};
+ghost use Rattle.usb_enum.specs.Readings.{AtMaximum, HasTotal, HasConfiguration, HasConfigurations};
 ghost use Rattle.usb_enum.specs.Stop.{Told};
 ghost use Rattle.usb_enum.specs.Text.{ValuesDiffer, choice_of};
 ghost use Rattle.usb_address.specs.Owned.{KeepsAddresses};
@@ -22,8 +24,10 @@ fn total_length<B: Bus>(alloc: Global, bus: &mut B, target: Target, index: u8) -
     requires max { 8 ≤ target.max }
     ensures went { Went B.world B.trace (read_bound 9) bus.old bus.new }
     ensures told { IfErr result (λ stop. Told stop (B.world bus.new)) }
-    ensures least { IfOk result (λ total. 9 ≤ total) }
-    ensures most { IfOk result (λ total. total ≤ 65535) }
+    ensures fits { IfOk result (λ total. (9 ≤ total) × (total ≤ 65535)) }
+    ensures learned { IfOk result (λ total. Learns
+        (AtMaximum target (HasTotal index total)) target
+        (B.world bus.old) (B.world bus.new)) }
     ensures keeps { KeepsAddresses (B.world bus.old) (B.world bus.new) }
 {
     let stalled = Cause::Stalled(Request::Config);
@@ -45,6 +49,9 @@ fn read_text<B: Bus>(
     requires max { 8 ≤ target.max }
     ensures went { Went B.world B.trace configuration_bound bus.old bus.new }
     ensures told { IfErr result (λ stop. Told stop (B.world bus.new)) }
+    ensures learned { IfOk result (λ text. Learns
+        (AtMaximum target (HasConfiguration index text)) target
+        (B.world bus.old) (B.world bus.new)) }
     ensures keeps { KeepsAddresses (B.world bus.old) (B.world bus.new) }
 {
     let total = total_length(alloc, bus, target, index)?;
@@ -67,8 +74,10 @@ pub(crate) fn read_configurations<B: Bus>(
     requires max { 8 ≤ target.max }
     ensures went { Went B.world B.trace (255 * configuration_bound) bus.old bus.new }
     ensures told { IfErr result (λ stop. Told stop (B.world bus.new)) }
-    ensures all { IfOk result (λ texts. length texts ≡ count) }
-    ensures differ { IfOk result (λ texts. ValuesDiffer texts) }
+    ensures read { IfOk result (λ texts. (length texts ≡ count) × ValuesDiffer texts) }
+    ensures learned { IfOk result (λ texts. Learns
+        (AtMaximum target (HasConfigurations count texts)) target
+        (B.world bus.old) (B.world bus.new)) }
     ensures keeps { KeepsAddresses (B.world bus.old) (B.world bus.new) }
 {
     let mut texts = ConfigTexts::new(alloc);

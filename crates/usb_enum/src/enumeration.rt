@@ -4,9 +4,10 @@ ghost use Rattle.usb_bus.specs.Traced.{Went};
 ghost use Rattle.usb_hub.specs.Port.{IsPort, order_bound};
 ghost use Rattle.usb_enum.specs.Bounds.{unaddressed_bound, examination_bound, enumeration_bound, configured_bound, hub_bound};
 ghost use Rattle.usb_enum.specs.Stop.{FaultAt, ToldIn, ToldOfDevice, ToldOfHub, ToldWithout};
-ghost use Rattle.usb_enum.specs.Found.{GivesUp, IsAccepted, IsFound, IsWhole, TakesFor};
-ghost use Rattle.usb_enum.specs.Device.{IsKnown, fits_tier, is_hub};
-ghost use Rattle.usb_enum.specs.Addresses.{Ends, KeepsEnumerated, Within};
+ghost use Rattle.usb_enum.specs.Found.{Enumerates, GivesUp, IsAccepted, IsFound, IsListed, IsWhole, TakesFor};
+ghost use Rattle.usb_enum.specs.Device.{fits_tier, is_hub};
+ghost use Rattle.usb_enum.specs.Addresses.{Ends, Within};
+ghost use Rattle.usb_enum.specs.Present.{LearnsPorts};
 ghost use Rattle.usb_address.specs.Owned.{KeepsAddresses};
 
 use crate::addressed::Addressed;
@@ -48,8 +49,9 @@ pub fn enumerate<B: Bus>(
     ensures went { Went B.world B.trace (enumeration_bound port) bus.old bus.new }
     ensures told { IfErr result (λ fault. FaultAt port fault (B.world bus.new)) }
     ensures pool { TakesFor result pool.old pool.new }
-    ensures found { IfOk result (λ finding. IsFound port pool.old tier supply finding (B.world bus.new)) }
-    ensures addresses { KeepsEnumerated port pool.old (B.world bus.old) result (B.world bus.new) }
+    ensures found { IfOk result (λ finding. IsFound port pool.old tier supply finding
+        (B.world bus.new)) }
+    ensures ends { Enumerates port pool.old tier supply (B.world bus.old) result (B.world bus.new) }
 {
     let Some(address) = pool.take() else {
         let stop = without_address(alloc, bus, port);
@@ -108,7 +110,8 @@ fn examine<B: Bus>(
     ensures went { Went B.world B.trace (examination_bound port) bus.old bus.new }
     ensures told { IfErr result (λ stop. ToldIn port tier stop (B.world bus.new)) }
     ensures within { Within port address (B.world bus.old) (B.world bus.new) }
-    ensures ok { IfOk result (IsAccepted port address supply (B.world bus.old) (B.world bus.new)) }
+    ensures ok { IfOk result (IsAccepted port address tier supply (B.world bus.old)
+        (B.world bus.new)) }
 {
     let device = passes(alloc, bus, port, address.number())?;
     configure(alloc, bus, address, device, tier, supply)
@@ -126,8 +129,8 @@ fn configure<B: Bus>(
     requires { device.target.addr ≡ address }
     ensures went { Went B.world B.trace configured_bound bus.old bus.new }
     ensures told { IfErr result (λ stop. ToldOfDevice tier stop (B.world bus.new)) }
-    ensures address { IfOk result (λ accepted. accepted.address ≡ address) }
     ensures whole { IfOk result (λ accepted. IsWhole supply accepted) }
+    ensures listed { IfOk result (IsListed device tier (B.world bus.old) (B.world bus.new)) }
     ensures keeps { KeepsAddresses (B.world bus.old) (B.world bus.new) }
 {
     let target = device.target;
@@ -172,7 +175,8 @@ fn hub_facts<B: Bus>(
     ensures went { Went B.world B.trace hub_bound bus.old bus.new }
     ensures told { IfErr result (λ stop. ToldOfHub stop (B.world bus.new)) }
     ensures hub { IfErr result (λ _. is_hub device.now.bytes ≡ true) }
-    ensures known { IfOk result (IsKnown device.now.target.addr device.now.bytes text.now) }
+    ensures ports { IfOk result (LearnsPorts device.now text.now (B.world bus.old)
+        (B.world bus.new)) }
     ensures keeps { KeepsAddresses (B.world bus.old) (B.world bus.new) }
 {
     if !device.is_hub() {

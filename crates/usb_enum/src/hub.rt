@@ -4,10 +4,13 @@ ghost use Rattle.usb_bus.specs.Traced.{Went};
 ghost use Rattle.usb_port.specs.Path.{IsPortNumber};
 ghost use Rattle.usb_transaction.specs.Trans.{IsTarget};
 ghost use Rattle.usb_enum.specs.Bounds.{read_bound, none_bound, hub_bound};
+ghost use Rattle.usb_enum.specs.Learned.{Learns};
+ghost use Rattle.usb_enum.specs.Readings.{AtMaximum, Ruled, HasPorts, HasSupply, IsGoodHub};
 ghost use Rattle.usb_enum.specs.Stop.{ToldOfHub};
 ghost use Rattle.usb_enum.specs.Device.{StartsHub};
 ghost use Rattle.usb_enum.specs.Hub.{CountTold, SupplyTold, IsPowered, Powered};
 ghost use Rattle.usb_address.specs.Owned.{KeepsAddresses};
+ghost use Rattle.usb_hub.specs.Addresses.{KeepsDevices};
 
 use crate::stop::{Stop, answered_or};
 use crate::{Cause, ConfigText};
@@ -40,6 +43,9 @@ pub(crate) fn start_hub<B: Bus>(
     ensures went { Went B.world B.trace hub_bound bus.old bus.new }
     ensures told { IfErr result (λ stop. ToldOfHub stop (B.world bus.new)) }
     ensures started { IfOk result (StartsHub target text.now (B.world bus.old) (B.world bus.new)) }
+    ensures learned { IfOk result (λ facts. Learns
+        (AtMaximum target (Ruled (IsGoodHub text.now facts))) target
+        (B.world bus.old) (B.world bus.new)) }
     ensures keeps { KeepsAddresses (B.world bus.old) (B.world bus.new) }
 {
     if text.status_endpoint().is_none() {
@@ -57,8 +63,11 @@ fn port_count<B: Bus>(alloc: Global, bus: &mut B, target: Target) -> Result<u8, 
     requires max { 8 ≤ target.max }
     ensures went { Went B.world B.trace (read_bound 9) bus.old bus.new }
     ensures told { IfErr result (λ stop. ToldOfHub stop (B.world bus.new)) }
-    ensures number { IfOk result IsPortNumber }
-    ensures count { IfOk result (CountTold target (B.world bus.old) (B.world bus.new)) }
+    ensures count { IfOk result (λ ports. IsPortNumber ports
+        × CountTold target (B.world bus.old) (B.world bus.new) ports) }
+    ensures learned { IfOk result (λ ports. Learns
+        (AtMaximum target (HasPorts ports)) target
+        (B.world bus.old) (B.world bus.new)) }
     ensures keeps { KeepsAddresses (B.world bus.old) (B.world bus.new) }
 {
     let bytes = answered_or(Cause::BadHub, hub_descriptor(alloc, bus, target))?;
@@ -75,8 +84,10 @@ fn port_supply<B: Bus>(alloc: Global, bus: &mut B, target: Target) -> Result<u16
     requires max { 8 ≤ target.max }
     ensures went { Went B.world B.trace (read_bound 2) bus.old bus.new }
     ensures told { IfErr result (λ stop. ToldOfHub stop (B.world bus.new)) }
-    ensures supply { IfOk result (λ supply. (supply ≡ 500) ⊎ (supply ≡ 100)) }
-    ensures said { IfOk result (SupplyTold target (B.world bus.old) (B.world bus.new)) }
+    ensures said { IfOk result (λ supply. ((supply ≡ 500) ⊎ (supply ≡ 100))
+        × SupplyTold target (B.world bus.old) (B.world bus.new) supply) }
+    ensures learned { IfOk result (λ supply. Learns (HasSupply supply) target
+        (B.world bus.old) (B.world bus.new)) }
     ensures keeps { KeepsAddresses (B.world bus.old) (B.world bus.new) }
 {
     let status = answered_or(Cause::BadHub, get_status(alloc, bus, target))?;
@@ -90,6 +101,7 @@ fn power_ports<B: Bus>(bus: &mut B, target: Target, ports: u8) -> Result<(), Sto
     ensures told { IfErr result (λ stop. ToldOfHub stop (B.world bus.new)) }
     ensures powered { IfOk result (λ _. Powered target ports (B.world bus.old) (B.world bus.new)) }
     ensures keeps { KeepsAddresses (B.world bus.old) (B.world bus.new) }
+    ensures devices { KeepsDevices (B.world bus.old) (B.world bus.new) }
 {
     'ports: for before in 0..ports {
         power_port(bus, target, before + 1)?;
@@ -104,6 +116,7 @@ fn power_port<B: Bus>(bus: &mut B, target: Target, port: u8) -> Result<(), Stop>
     ensures told { IfErr result (λ stop. ToldOfHub stop (B.world bus.new)) }
     ensures powered { IfOk result (λ _. IsPowered target port (B.world bus.old) (B.world bus.new)) }
     ensures keeps { KeepsAddresses (B.world bus.old) (B.world bus.new) }
+    ensures devices { KeepsDevices (B.world bus.old) (B.world bus.new) }
 {
     answered_or(Cause::BadHub, set_hub_port(bus, target, port, PORT_POWER))
 }

@@ -1,5 +1,5 @@
 //! The steps up to a device that has its address and has given its device descriptor.
-ghost use Rattle.std.specs.Prelude.{◌≡◌, ◌≤◌, ◌<◌, ◌*◌, IfOk, IfErr, IfSome, true, ℕ, OnOk};
+ghost use Rattle.std.specs.Prelude.{◌≡◌, ◌≤◌, ◌<◌, ◌*◌, IfOk, IfErr, IfSome, true, ℕ, OnOk, Ok, None};
 ghost use Rattle.usb_bus.specs.Traced.{Went};
 ghost use Rattle.usb_hub.specs.Port.{IsPort, status_bound, order_bound};
 ghost use Rattle.usb_transaction.specs.Trans.{IsTarget};
@@ -7,8 +7,11 @@ ghost use Rattle.usb_enum.specs.Bounds.{read_bound, reset_bound, unaddressed_bou
 ghost use Rattle.usb_enum.specs.Stop.{FaultAt, Told, ToldAt};
 ghost use Rattle.usb_enum.specs.Device.{IsUnaddressed, device_bytes, is_device, needs_pre};
 ghost use Rattle.usb_address.specs.Owned.{KeepsAddresses};
-ghost use Rattle.usb_hub.specs.Addresses.{Answers, Resets};
-ghost use Rattle.usb_enum.specs.Addresses.{Within, Takes};
+ghost use Rattle.usb_hub.specs.Addresses.{KeepsDevices, Resets};
+ghost use Rattle.usb_hub.specs.Moments.{TellsPort};
+ghost use Rattle.usb_enum.specs.Addresses.{Within};
+ghost use Rattle.usb_enum.specs.Present.{AnswersSo, Finds, HasHead, HasDescriptor, HasSpeed, HasTaken, AwaitsAddress};
+ghost use Rattle.usb_enum.specs.Readings.{AtMaximum};
 
 use crate::addressed::Addressed;
 use crate::stop::{Stop, answered_or, at_port};
@@ -36,6 +39,8 @@ fn read_status<B: Bus>(alloc: Global, bus: &mut B, port: HubPort) -> Result<Port
     requires { IsPort (B.world bus.old) port }
     ensures went { Went B.world B.trace (status_bound port) bus.old bus.new }
     ensures told { IfErr result (λ fault. FaultAt port fault (B.world bus.new)) }
+    ensures tells { IfOk result (λ status. TellsPort port (B.world bus.old) (Ok status)
+        (B.world bus.new)) }
     ensures keeps { KeepsAddresses (B.world bus.old) (B.world bus.new) }
 {
     at_port(port_status(alloc, bus, port))
@@ -47,6 +52,8 @@ fn reset<B: Bus>(alloc: Global, bus: &mut B, port: HubPort) -> Result<bool, Stop
     ensures went { Went B.world B.trace (reset_bound port) bus.old bus.new }
     ensures told { IfErr result (λ stop. ToldAt port stop (B.world bus.new)) }
     ensures within { (a : ℕ) → Within port a (B.world bus.old) (B.world bus.new) }
+    ensures low { IfOk result (λ low. (a : ℕ) → (B.world bus.new).fault ≡ None
+        → Finds (HasSpeed low) port a (B.world bus.old) (B.world bus.new)) }
 {
     begin_reset(bus, port)?;
     let status = read_status(alloc, bus, port)?;
@@ -63,6 +70,7 @@ fn settle<B: Bus>(bus: &mut B, port: HubPort, changed: bool) -> Result<(), EnumF
     ensures went { Went B.world B.trace (order_bound port) bus.old bus.new }
     ensures told { IfErr result (λ fault. FaultAt port fault (B.world bus.new)) }
     ensures keeps { KeepsAddresses (B.world bus.old) (B.world bus.new) }
+    ensures devices { KeepsDevices (B.world bus.old) (B.world bus.new) }
 {
     if !changed {
         return Ok(());
@@ -87,8 +95,9 @@ fn first_maximum<B: Bus>(alloc: Global, bus: &mut B, unaddressed: Target) -> Res
     requires max { unaddressed.max ≡ 8 }
     ensures went { Went B.world B.trace (read_bound 8) bus.old bus.new }
     ensures told { IfErr result (λ stop. Told stop (B.world bus.new)) }
-    ensures least { IfOk result (λ max. 8 ≤ max) }
-    ensures most { IfOk result (λ max. max ≤ 64) }
+    ensures fits { IfOk result (λ max. (8 ≤ max) × (max ≤ 64)) }
+    ensures head { IfOk result (λ max. AnswersSo (HasHead unaddressed.low max) unaddressed
+        (B.world bus.old) (B.world bus.new)) }
     ensures keeps { KeepsAddresses (B.world bus.old) (B.world bus.new) }
 {
     let stalled = Cause::Stalled(Request::Device);
@@ -105,9 +114,12 @@ fn descriptor<B: Bus>(alloc: Global, bus: &mut B, target: Target) -> Result<Opti
     requires max { 8 ≤ target.max }
     ensures went { Went B.world B.trace (read_bound 18) bus.old bus.new }
     ensures told { IfErr result (λ stop. Told stop (B.world bus.new)) }
-    ensures device { IfOk result (λ found. IfSome found (λ bytes. is_device target.low bytes ≡ true)) }
+    ensures device { IfOk result (λ found. IfSome found (λ bytes.
+        is_device target.low bytes ≡ true)) }
+    ensures bytes { IfOk result (λ found. IfSome found (λ bytes. AnswersSo
+        (AtMaximum target (HasDescriptor bytes)) target
+        (B.world bus.old) (B.world bus.new))) }
     ensures keeps { KeepsAddresses (B.world bus.old) (B.world bus.new) }
-    ensures who { IfOk result (λ found. IfSome found (λ _. Answers target.addr (B.world bus.old))) }
 {
     let outcome = get_device(alloc, bus, target, 18);
     if outcome == Err(PipeFault::NoAnswer) {
@@ -138,6 +150,8 @@ pub(crate) fn unaddressed<B: Bus>(alloc: Global, bus: &mut B, port: HubPort) -> 
     ensures told { IfErr result (λ stop. ToldAt port stop (B.world bus.new)) }
     ensures target { IfOk result (IsUnaddressed port) }
     ensures within { (a : ℕ) → Within port a (B.world bus.old) (B.world bus.new) }
+    ensures device { IfOk result (λ target. (a : ℕ) → Finds (AwaitsAddress target) port a
+        (B.world bus.old) (B.world bus.new)) }
 {
     let low = reset(alloc, bus, port)?;
     let pre = low && needs_pre(port);
@@ -173,9 +187,9 @@ fn pass<B: Bus>(
     requires most { address < 128 }
     ensures went { Went B.world B.trace (pass_bound port) bus.old bus.new }
     ensures told { IfErr result (λ stop. ToldAt port stop (B.world bus.new)) }
-    ensures address { IfOk result (λ found. IfSome found (λ device. device.target.addr ≡ address)) }
     ensures within { Within port address (B.world bus.old) (B.world bus.new) }
-    ensures takes { IfOk result (λ found. IfSome found (λ _. Takes port address (B.world bus.old) (B.world bus.new))) }
+    ensures taken { IfOk result (λ found. IfSome found (HasTaken port address (B.world bus.old)
+        (B.world bus.new))) }
 {
     let target = unaddressed(alloc, bus, port)?;
     let stalled = Cause::Stalled(Request::Address);
@@ -203,9 +217,8 @@ pub(crate) fn passes<B: Bus>(
     requires most { address < 128 }
     ensures went { Went B.world B.trace (3 * pass_bound port) bus.old bus.new }
     ensures told { IfErr result (λ stop. ToldAt port stop (B.world bus.new)) }
-    ensures address { IfOk result (λ device. device.target.addr ≡ address) }
     ensures within { Within port address (B.world bus.old) (B.world bus.new) }
-    ensures takes { OnOk result (Takes port address (B.world bus.old) (B.world bus.new)) }
+    ensures taken { IfOk result (HasTaken port address (B.world bus.old) (B.world bus.new)) }
 {
     for _pass in 0..3u8 {
         if let Some(device) = pass(alloc, bus, port, address)? {

@@ -3,6 +3,9 @@ ghost use Rattle.std.specs.Prelude.{◌≡◌, ◌≤◌, IfOk, IfErr};
 ghost use Rattle.usb_bus.specs.Traced.{Went};
 ghost use Rattle.usb_transaction.specs.Trans.{IsTarget};
 ghost use Rattle.usb_enum.specs.Bounds.{read_bound, strings_bound};
+ghost use Rattle.usb_enum.specs.Described.{strings_by};
+ghost use Rattle.usb_enum.specs.Learned.{Learns};
+ghost use Rattle.usb_enum.specs.Readings.{AtMaximum, HasString, language_of, string_in, no_strings};
 ghost use Rattle.usb_enum.specs.Stop.{Told};
 ghost use Rattle.usb_enum.specs.Text.{first_language_of, units_of};
 ghost use Rattle.usb_address.specs.Owned.{KeepsAddresses};
@@ -86,6 +89,9 @@ fn string_bytes<B: Bus>(
     requires max { 8 ≤ target.max }
     ensures went { Went B.world B.trace (read_bound 255) bus.old bus.new }
     ensures told { IfErr result (λ stop. Told stop (B.world bus.new)) }
+    ensures learned { IfOk result (λ bytes. Learns
+        (AtMaximum target (HasString index bytes)) target
+        (B.world bus.old) (B.world bus.new)) }
     ensures keeps { KeepsAddresses (B.world bus.old) (B.world bus.new) }
 {
     match get_string(alloc, bus, target, index, language) {
@@ -109,6 +115,9 @@ fn read_one<B: Bus>(
     requires max { 8 ≤ target.max }
     ensures went { Went B.world B.trace (read_bound 255) bus.old bus.new }
     ensures told { IfErr result (λ stop. Told stop (B.world bus.new)) }
+    ensures learned { IfOk result (λ string. Learns
+        (AtMaximum target (λ spec. string ≡ string_in spec index)) target
+        (B.world bus.old) (B.world bus.new)) }
     ensures keeps { KeepsAddresses (B.world bus.old) (B.world bus.new) }
 {
     if index == 0 {
@@ -126,6 +135,9 @@ fn language<B: Bus>(alloc: Global, bus: &mut B, target: Target) -> Result<Option
     requires max { 8 ≤ target.max }
     ensures went { Went B.world B.trace (read_bound 255) bus.old bus.new }
     ensures told { IfErr result (λ stop. Told stop (B.world bus.new)) }
+    ensures learned { IfOk result (λ language. Learns
+        (AtMaximum target (λ spec. language ≡ language_of spec)) target
+        (B.world bus.old) (B.world bus.new)) }
     ensures keeps { KeepsAddresses (B.world bus.old) (B.world bus.new) }
 {
     match string_bytes(alloc, bus, target, 0, 0)? {
@@ -145,6 +157,9 @@ pub(crate) fn read_strings<B: Bus>(
     requires max { 8 ≤ target.max }
     ensures went { Went B.world B.trace strings_bound bus.old bus.new }
     ensures told { IfErr result (λ stop. Told stop (B.world bus.new)) }
+    ensures learned { IfOk result (λ strings. Learns
+        (AtMaximum target (λ spec. strings ≡ strings_by spec indexes)) target
+        (B.world bus.old) (B.world bus.new)) }
     ensures keeps { KeepsAddresses (B.world bus.old) (B.world bus.new) }
 {
     if indexes.manufacturer == 0 && indexes.product == 0 && indexes.serial_number == 0 {
@@ -163,7 +178,9 @@ pub(crate) fn read_strings<B: Bus>(
     })
 }
 
-fn no_strings() -> Strings {
+fn no_strings() -> Strings
+    ensures { result ≡ no_strings }
+{
     Strings {
         manufacturer: None,
         product: None,

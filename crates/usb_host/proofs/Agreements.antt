@@ -9,6 +9,7 @@ use Rattle.std.specs.declared.cmp.Ordering.{Ordering}
 use Rattle.std.specs.declared.cmp.Ordering.TheVariants.{Less, Equal, Greater}
 use Rattle.std.proofs.lemmas.Map.Entries.{lookup-filter-keys}
 use Rattle.usb_port.specs.Order.{path_cmp, is_below, parent_of, port_of}
+use Rattle.usb_port.specs.Path.{IsPath}
 use Rattle.usb_port.proofs.OrderLaws.{below, rejoined}
 use Rattle.usb_enum.specs.declared.finding.Finding.{Finding}
 use Rattle.usb_table.specs.Entries.{Entries, has_at, is_at_or_below, without}
@@ -24,7 +25,7 @@ first_false : (a b : Bool) → (a || b) ≡ false → a ≡ false
 first_false true b h = absurd cc
 first_false false b h = refl
 
-same_path : (q k : List ℕ) → is_at (path_cmp q) k ≡ true → q ≡ k
+pub same_path : (q k : List ℕ) → is_at (path_cmp q) k ≡ true → q ≡ k
 same_path q k tie = same_text q k (sym (texts_ties q k ∙ tie))
 
 -- what goes on from a path's hub goes on from the path too
@@ -60,7 +61,7 @@ known_away_by q path es away None is = refl
 known_away_by q path es away (Some hub) is =
     ap (λ found. port_found found (is_below_hub hub) (port_of q)) (lookup-without hub path true es (ap not (hub_away q hub path is away)))
 
-known_away : (q path : List ℕ) (es : Entries) → is_at_or_below q path ≡ false → known_port q (without path es) ≡ known_port q es
+pub known_away : (q path : List ℕ) (es : Entries) → is_at_or_below q path ≡ false → known_port q (without path es) ≡ known_port q es
 known_away q path es away = known_away_by q path es away (parent_of q) refl
 
 nested_kept : (path : List ℕ) (es : Entries) (q : List ℕ) (f : Finding) → Nested es → (b : Bool) → is_at_or_below q path ≡ b → lookup (is_at (path_cmp q)) (without path es) ≡ Some f → IsSome (known_port q (without path es))
@@ -71,8 +72,15 @@ nested_kept path es q f n false is found =
     let there = sym (lookup-without q path true es (ap not is)) ∙ found in
     rw (known_away q path es is) (n.each q f there)
 
+path_kept : (path : List ℕ) (es : Entries) (q : List ℕ) (f : Finding) → Nested es → (b : Bool) → is_at_or_below q path ≡ b → lookup (is_at (path_cmp q)) (without path es) ≡ Some f → IsPath q
+path_kept path es q f n true is found = absurd (cc (lookup-without q path false es (ap not is), found))
+path_kept path es q f n false is found = n.path q f (sym (lookup-without q path true es (ap not is)) ∙ found)
+
 pub nested_without : (path : List ℕ) (es : Entries) → Nested es → Nested (without path es)
-nested_without path es n = record { each = λ q f found. nested_kept path es q f n (is_at_or_below q path) refl found }
+nested_without path es n = record {
+  path = λ q f found. path_kept path es q f n (is_at_or_below q path) refl found;
+  each = λ q f found. nested_kept path es q f n (is_at_or_below q path) refl found;
+}
 
 elsewhere_step : (q path : List ℕ) (f : Finding) (e : List ℕ × Finding) (es : Entries) → is_at (path_cmp q) path ≡ false
     → lookup (is_at (path_cmp q)) (insert_entry path_cmp es path f) ≡ lookup (is_at (path_cmp q)) es → (o : Ordering) → path_cmp path e.0 ≡ o
@@ -114,7 +122,7 @@ known_entered_by q path f es apart None is = refl
 known_entered_by q path f es apart (Some hub) is =
     ap (λ found. port_found found (is_below_hub hub) (port_of q)) (lookup-insert_entry_elsewhere hub path f es (apart hub is))
 
-known_entered : (q path : List ℕ) (f : Finding) (es : Entries) → ((hub : List ℕ) → parent_of q ≡ Some hub → is_at (path_cmp hub) path ≡ false) → known_port q (insert_entry path_cmp es path f) ≡ known_port q es
+pub known_entered : (q path : List ℕ) (f : Finding) (es : Entries) → ((hub : List ℕ) → parent_of q ≡ Some hub → is_at (path_cmp hub) path ≡ false) → known_port q (insert_entry path_cmp es path f) ≡ known_port q es
 known_entered q path f es apart = known_entered_by q path f es apart (parent_of q) refl
 
 shorter_apart : (path hub : List ℕ) → parent_of path ≡ Some hub → (b : Bool) → is_at (path_cmp hub) path ≡ b → b ≡ false
@@ -134,11 +142,18 @@ entered_step path f es q g away known n false tie found =
     let apart = found_away q path g es away there in
     rw (known_entered q path f es (λ hub is. apart_by hub path (hub_away q hub path is apart) (is_at (path_cmp hub) path) refl)) (n.each q g there)
 
-pub nested_entered : (path : List ℕ) (f : Finding) (es : Entries) → has_at path es ≡ false → IsSome (known_port path es) → Nested es → Nested (insert_entry path_cmp es path f)
-nested_entered path f es away known n = record { each = λ q g found. entered_step path f es q g away known n (is_at (path_cmp q) path) refl found }
+path_entered : (path : List ℕ) (f : Finding) (es : Entries) (q : List ℕ) (g : Finding) → IsPath path → Nested es → (b : Bool) → is_at (path_cmp q) path ≡ b → lookup (is_at (path_cmp q)) (insert_entry path_cmp es path f) ≡ Some g → IsPath q
+path_entered path f es q g is n true tie found = subst IsPath (sym (same_path q path tie)) is
+path_entered path f es q g is n false tie found = n.path q g (sym (lookup-insert_entry_elsewhere q path f es tie) ∙ found)
+
+pub nested_entered : (path : List ℕ) (f : Finding) (es : Entries) → IsPath path → has_at path es ≡ false → IsSome (known_port path es) → Nested es → Nested (insert_entry path_cmp es path f)
+nested_entered path f es is away known n = record {
+  path = λ q g found. path_entered path f es q g is n (is_at (path_cmp q) path) refl found;
+  each = λ q g found. entered_step path f es q g away known n (is_at (path_cmp q) path) refl found;
+}
 
 pub nested_none : Nested []
-nested_none = record { each = λ path f found. absurd cc }
+nested_none = record { path = λ path f found. absurd cc; each = λ path f found. absurd cc }
 
 pub known_some : (path : List ℕ) (es : Entries) (port : KnownPort) → known_port path es ≡ Some port → IsSome (known_port path es)
 known_some path es port e = subst IsSome (sym e) refl

@@ -9,16 +9,17 @@ use Rattle.std.specs.Cmp.Lexicographic.{pointwise, texts_ties, nat_list_cmp_tota
 use Rattle.std.specs.declared.cmp.Ordering.{Ordering}
 use Rattle.std.specs.declared.cmp.Ordering.TheVariants.{Less, Equal, Greater}
 use Rattle.std.specs.FinSet.{empty, contains, contains-empty}
-use Rattle.std.proofs.lemmas.Bool.{eq-eqb, ne_eqb, cases_order}
+use Rattle.std.proofs.lemmas.Bool.{eq-eqb, ne_eqb, eqb-true, eqb-false, cases_order}
 use Rattle.std.proofs.lemmas.List.Sums.{sum_by-cons}
 use Rattle.usb_port.specs.Order.{path_cmp}
-use Rattle.usb_resources.specs.Pool.{Addresses, IsFull, IsTaken}
+use Rattle.usb_resources.specs.Pool.{Addresses, IsAddress, IsFull, IsTaken, HasAddresses}
 use Rattle.usb_enum.specs.declared.finding.Finding.{Finding}
 use Rattle.usb_enum.specs.declared.finding.Finding.TheVariants.{Device, Refused}
 use Rattle.usb_table.specs.Findings.{has_address, HasNewAddress}
 use Rattle.usb_table.proofs.Paths.{path_tied}
 use Rattle.usb_host.specs.Accounts.{Accounts, Claims}
-use Rattle.usb_table.specs.Entries.{Entries, TakesOut, has_at, is_at_or_below}
+use Rattle.usb_table.specs.Entries.{Entries, has_at, is_at_or_below}
+use Rattle.usb_table.specs.Table.{Table, TakesOut}
 use Rattle.usb_enum.specs.Found.{TakesFor}
 use Rattle.usb_host.specs.Hosting.{Frees}
 
@@ -163,11 +164,11 @@ pub accounts_none : Accounts [] empty
 accounts_none = record { each = λ a. rw (contains-empty nat_cmp a) refl }
 
 -- an entry goes, and its address is free
-pub accounts_freed : (path : List ℕ) (f : Finding) (es rest : Entries) (old new : Addresses) → Accounts es old → TakesOut path f es rest → Frees f old new → Accounts rest new
+pub accounts_freed : (path : List ℕ) (f : Finding) (before after : Table) (old new : Addresses) → Accounts before.entries old → TakesOut path f before after → Frees f old new → Accounts after.entries new
 unfolding count one
-accounts_freed path f es rest old new h t gone = record {
-  each = λ a. freed f old new a (count a rest) gone
-      (sym (subst (λ l. count a es ≡ one (has_address a f) + count a l) (sym t.rest) (count-remove a (is_at (path_cmp t.first)) f es t.found)) ∙ h.each a);
+accounts_freed path f before after old new h t gone = record {
+  each = λ a. freed f old new a (count a after.entries) gone
+      (sym (subst (λ (x : Table). count a before.entries ≡ one (has_address a f) + count a x.entries) (sym t.rest) (count-remove a (is_at (path_cmp t.first)) f before.entries t.found)) ∙ h.each a);
 }
 
 -- an entry comes, with the address that was taken for it
@@ -197,3 +198,20 @@ address_new (Refused cause) es old new h c = tt
 pub claims_found : (f : Finding) (old new : Addresses) → TakesFor (Ok f) old new → Claims f old new
 claims_found (Device device) old new takes = takes
 claims_found (Refused cause) old new same = same
+
+-- Nothing but addresses is taken
+
+pub range_none : HasAddresses empty
+range_none = λ a taken. absurd (cc (contains-empty nat_cmp a, taken))
+
+moved : (b a : ℕ) (old new : Addresses) → IsAddress a → ((b : ℕ) → b ≢ a → contains new b ≡ contains old b) → HasAddresses old → (same : Bool) → nat_eq b a ≡ same → IsTaken new b → IsAddress b
+moved b a old new is others range true same taken = subst IsAddress (sym (eqb-true b a same)) is
+moved b a old new is others range false same taken = range b (sym (others b (eqb-false b a same)) ∙ taken)
+
+pub range_claimed : (f : Finding) (old new : Addresses) → Claims f old new → HasAddresses old → HasAddresses new
+range_claimed (Device device) old new c range = λ b taken. moved b device.address old new c.free.0 c.others range (nat_eq b device.address) refl taken
+range_claimed (Refused cause) old new same range = subst HasAddresses (sym same) range
+
+pub range_freed : (f : Finding) (old new : Addresses) → Frees f old new → HasAddresses old → HasAddresses new
+range_freed (Device device) old new gone range = λ b taken. moved b device.address old new gone.free.0 gone.others range (nat_eq b device.address) refl taken
+range_freed (Refused cause) old new same range = subst HasAddresses (sym same) range

@@ -80,7 +80,7 @@ none_by path x e es away below more false tie = more (second_false (is_at_or_bel
     second_false true b h = absurd cc
     second_false false b h = h
 
-none_there : (path x : List ℕ) (es : Entries) → has_at path es ≡ false → is_at_or_below x path ≡ true → lookup (is_at (path_cmp x)) es ≡ None
+pub none_there : (path x : List ℕ) (es : Entries) → has_at path es ≡ false → is_at_or_below x path ≡ true → lookup (is_at (path_cmp x)) es ≡ None
 none_there path x [] away below = refl
 none_there path x (e ∷ es) away below = none_by path x e es away below (λ rest. none_there path x es rest below) (is_at (path_cmp x) e.0) refl
 
@@ -95,7 +95,7 @@ here_step path f e es more Less is = rw (path_itself path) refl
 here_step path f e es more Equal is = rw is refl
 here_step path f e es more Greater is = rw is more
 
-lookup-insert_entry_here : (path : List ℕ) (f : Finding) (es : Entries) → lookup (is_at (path_cmp path)) (insert_entry path_cmp es path f) ≡ Some f
+pub lookup-insert_entry_here : (path : List ℕ) (f : Finding) (es : Entries) → lookup (is_at (path_cmp path)) (insert_entry path_cmp es path f) ≡ Some f
 lookup-insert_entry_here path f [] = rw (path_itself path) refl
 lookup-insert_entry_here path f (e ∷ es) = here_step path f e es (lookup-insert_entry_here path f es) (path_cmp path e.0) refl
 

@@ -1,10 +1,11 @@
 -- Devices keep the addresses that the table has for them while a port is handled.
-use Rattle.std.proofs.Common.{◌≡◌, ◌∙◌, refl, sym, ap, subst, true, false, ℕ, List, Option, None, Some, Result, Ok, Err}
-use Rattle.std.specs.Prelude.{IsErr, MatchResult}
+use Rattle.std.proofs.Common.{◌≡◌, ◌∙◌, refl, sym, ap, subst, true, false, ℕ, ◌≤◌, List, Option, None, Some, Result, Ok, Err}
+use Rattle.std.specs.Prelude.{IsErr, IsSome, OnOk, MatchResult}
 use Rattle.std.specs.BTreeMap.{insert_entry}
 use Rattle.usb_port.specs.Order.{path_cmp, parent_of, port_of}
+use Rattle.usb_port.specs.Path.{IsPath}
 use Rattle.usb_world.specs.Live.{is_way}
-use Rattle.usb_world.specs.World.{World}
+use Rattle.usb_world.specs.World.{World, roots_of}
 use Rattle.usb_world.specs.Addresses.{after_taking}
 use Rattle.usb_resources.specs.Pool.{Addresses}
 use Rattle.usb_address.specs.Claims.{Claims, cleared}
@@ -23,16 +24,18 @@ use Rattle.usb_enum.specs.declared.finding.Finding.TheVariants.{Device, Refused}
 use Rattle.usb_table.specs.declared.known.KnownPort.{KnownPort}
 use Rattle.usb_table.specs.Entries.{Entries, has_at, without}
 use Rattle.usb_table.specs.Known.{root_port, port_below}
+use Rattle.usb_table.specs.Listing.{finding_at}
 use Rattle.usb_host.specs.Accounts.{Accounts}
 use Rattle.usb_host.specs.Hosting.{Hosting}
-use Rattle.usb_host.specs.Owning.{claims, IsOwned, IsOwnedBut, IsBare, StaysOwned, StaysSingle, KeepsOwned, PortOwned, KeepsPort, LeavesOwned, FinishesPort, DropsHub, BaresAbove, KeepsDisabled}
+use Rattle.usb_host.specs.Owning.{claims, IsOwned, IsOwnedBut, IsBare, IsRooted, root_of, StaysOwned, StaysSingle, KeepsOwned, PortOwned, KeepsPort, LeavesOwned, FinishesPort, DropsHub, BaresAbove, KeepsDisabled}
 use Rattle.usb_host.specs.Ports.{StandsAt, StandsNowhere}
 use Rattle.usb_host.specs.Progress.{Rests}
 use Rattle.usb_host.specs.declared.fault.HostFault.{HostFault}
 use Rattle.usb_host.proofs.Claimed.{claims_free, claims_taken, claims-device}
 use Rattle.usb_host.proofs.Owners.{till_as, but_all, but_kept, but_above, bare_port, bare_none, forgotten, refused}
 use Rattle.usb_host.proofs.Stations.{stands_at, nowhere_reached}
-use Rattle.usb_host.proofs.Ways.{way_parent}
+use Rattle.usb_host.proofs.Roots.{rooted_kept, rooted_dropped, rooted_came, rooted_stands, root_parent, root_way, on_failed}
+use Rattle.usb_host.proofs.Ways.{way_parent, way_itself}
 
 -- A call that failed
 
@@ -55,18 +58,21 @@ port_owned path (Err ParentLost) h o = but_all path (claims h.entries) h.world o
 port_owned path (Err (Bus fault)) h o = o.single
 port_owned path (Err Memory) h o = o.single
 
-pub port_rests : (path : List ℕ) (a : Hosting) (result : Result (Unit {0}) EnumFault) (b : Hosting) → Rests a b → KeepsAddresses a.world b.world → KeepsPort path a result b
-port_rests path a result b r k = record { ends = λ o. port_owned path result b (owned_rests a b r k o) }
+pub port_rests : (path : List ℕ) (a : Hosting) (result : Result (Unit {0}) EnumFault) (b : Hosting) → Rests a b → roots_of b.world ≡ roots_of a.world → KeepsAddresses a.world b.world → KeepsPort path a result b
+port_rests path a result b r roots k = record {
+  ends = λ o. port_owned path result b (owned_rests a b r k o);
+  rooted = rooted_kept a b (ap (λ (h : Hosting). h.entries) r) roots;
+}
 
 pub port_stays : (path : List ℕ) (a b : Hosting) → StaysOwned a b → KeepsPort path a (Ok tt) b
-port_stays path a b s = record { ends = s.stays }
+port_stays path a b s = record { ends = s.stays; rooted = s.rooted }
 
 -- another part comes first
 pub port_then : (path : List ℕ) (a b : Hosting) (result : Result (Unit {0}) EnumFault) (c : Hosting) → StaysOwned a b → KeepsPort path b result c → KeepsPort path a result c
-port_then path a b result c s k = record { ends = λ o. k.ends (s.stays o) }
+port_then path a b result c s k = record { ends = λ o. k.ends (s.stays o); rooted = λ r. k.rooted (s.rooted r) }
 
-pub stays_rests : (a b : Hosting) → Rests a b → KeepsAddresses a.world b.world → StaysOwned a b
-stays_rests a b r k = record { stays = owned_rests a b r k }
+pub stays_rests : (a b : Hosting) → Rests a b → roots_of b.world ≡ roots_of a.world → KeepsAddresses a.world b.world → StaysOwned a b
+stays_rests a b r roots k = record { stays = owned_rests a b r k; rooted = rooted_kept a b (ap (λ (h : Hosting). h.entries) r) roots }
 
 -- A port is cleared, and what was there is forgotten
 
@@ -76,9 +82,12 @@ bares_after port a b c k x = record { bares = λ f p at o. x.bares f p at (k.kep
 pub bares_then : (port : HubPort) (a b c : World) → Bares port a b → KeepsAddresses b c → Bares port a c
 bares_then port a b c x k = record { bares = λ f p at o. k.kept (cleared f p) (x.bares f p at o) }
 
-pub stays_bare : (path : List ℕ) (port : KnownPort) (a b c : Hosting) → StandsAt path port a → Rests a b → Bares port.port a.world b.world
-    → c ≡ record b { entries = c.entries; addresses = c.addresses } → c.entries ≡ without path b.entries → StaysOwned a c
-stays_bare path port a b c s r bares others rest = record { stays = stays }
+pub stays_bare : (path : List ℕ) (port : KnownPort) (a b c : Hosting) → StandsAt path port a → Rests a b → roots_of b.world ≡ roots_of a.world → Bares port.port a.world b.world
+    → c ≡ record b { entries = c.entries; pipes = c.pipes; addresses = c.addresses } → c.entries ≡ without path b.entries → StaysOwned a c
+stays_bare path port a b c s r roots bares others rest = record {
+  stays = stays;
+  rooted = rooted_dropped path a c (rest ∙ ap (λ (h : Hosting). without path h.entries) r) (ap (λ (h : Hosting). roots_of h.world) others ∙ roots);
+}
   where
     stays : IsOwned a → IsOwned c
     stays o =
@@ -108,31 +117,43 @@ found_none path Memory h ends = ends
 
 module _ (path : List ℕ) (port : KnownPort) (a b : Hosting) where
   pub found_ends : (finding : Finding) (pool : Addresses) → KeepsEnumerated port.port pool a.world (Ok finding) b.world → StandsAt path port a → has_at path a.entries ≡ false → Accounts a.entries pool
-      → b.entries ≡ insert_entry path_cmp a.entries path finding → KeepsPort path a (Ok tt) b
-  found_ends finding pool k s away accounts is = record { ends = λ o. found_entered path finding a.entries b.entries b.world away is (enumerated path port a pool (Ok finding) b.world k s away accounts o) }
+      → b.entries ≡ insert_entry path_cmp a.entries path finding → roots_of b.world ≡ roots_of a.world → KeepsPort path a (Ok tt) b
+  found_ends finding pool k s away accounts is roots = record {
+    ends = λ o. found_entered path finding a.entries b.entries b.world away is (enumerated path port a pool (Ok finding) b.world k s away accounts o);
+    rooted = λ r. rooted_came path finding a b is roots (rooted_stands path port a s r) r;
+  }
 
   -- for what is found there is no memory
-  pub found_lost : (finding : Finding) (pool : Addresses) → KeepsEnumerated port.port pool a.world (Ok finding) b.world → StandsAt path port a → has_at path a.entries ≡ false → Accounts a.entries pool → KeepsPort path a (Err Memory) b
-  found_lost finding pool k s away accounts = record { ends = λ o. found_single (claims a.entries) path finding b.world (enumerated path port a pool (Ok finding) b.world k s away accounts o) }
+  pub found_lost : (finding : Finding) (pool : Addresses) → KeepsEnumerated port.port pool a.world (Ok finding) b.world → StandsAt path port a → has_at path a.entries ≡ false → Accounts a.entries pool
+      → b.entries ≡ a.entries → roots_of b.world ≡ roots_of a.world → KeepsPort path a (Err Memory) b
+  found_lost finding pool k s away accounts same roots = record {
+    ends = λ o. found_single (claims a.entries) path finding b.world (enumerated path port a pool (Ok finding) b.world k s away accounts o);
+    rooted = rooted_kept a b same roots;
+  }
 
   pub found_fails : (fault : EnumFault) (pool : Addresses) → KeepsEnumerated port.port pool a.world (Err fault) b.world → StandsAt path port a → has_at path a.entries ≡ false → Accounts a.entries pool
-      → b.entries ≡ a.entries → KeepsPort path a (Err fault) b
-  found_fails fault pool k s away accounts same = record { ends = ends }
+      → b.entries ≡ a.entries → roots_of b.world ≡ roots_of a.world → KeepsPort path a (Err fault) b
+  found_fails fault pool k s away accounts same roots = record { ends = ends; rooted = rooted_kept a b same roots }
     where
       ends : IsOwned a → PortOwned path (Err fault) b
       ends o = found_none path fault b (subst (λ (es : Entries). EndsOwned (claims es) path (Err fault) b.world) (sym same) (enumerated path port a pool (Err fault) b.world k s away accounts o))
 
 -- A port was served; where its hub is lost, that is dropped
 
-pub keeps_owned : (result : Result (Unit {0}) HostFault) (a c : Hosting) → (IsOwned a → LeavesOwned result c) → KeepsOwned a result c
-keeps_owned (Ok done) a c f = record { stays = f }
-keeps_owned (Err fault) a c f = record { single = f }
+pub keeps_owned : (result : Result (Unit {0}) HostFault) (a c : Hosting) → (IsOwned a → LeavesOwned result c) → (IsRooted a → OnOk result (IsRooted c)) → KeepsOwned a result c
+keeps_owned (Ok done) a c f g = record { stays = f; rooted = g }
+keeps_owned (Err fault) a c f g = record { single = f }
 
-pub port_finished : (path : List ℕ) (served : Result (Unit {0}) EnumFault) (a b : Hosting) (result : Result (Unit {0}) HostFault) (c : Hosting) → KeepsPort path a served b → FinishesPort path served b result c → KeepsOwned a result c
-port_finished path served a b result c k f = keeps_owned result a c (λ o. f.ends (k.ends o))
+pub port_finished : (path : List ℕ) (port : KnownPort) (served : Result (Unit {0}) EnumFault) (a b : Hosting) (result : Result (Unit {0}) HostFault) (c : Hosting) → StandsAt path port a → roots_of b.world ≡ roots_of a.world
+    → KeepsPort path a served b → FinishesPort path served b result c → KeepsOwned a result c
+port_finished path port served a b result c s roots k f =
+    keeps_owned result a c (λ o. f.ends (k.ends o)) (λ r. f.rooted (k.rooted r) (λ lost. subst (λ n. root_of path ≤ n) (sym roots) (rooted_stands path port a s r)))
 
 pub hub_dropped : (path hub : List ℕ) (a : Hosting) (result : Result (Unit {0}) HostFault) (b : Hosting) → parent_of path ≡ Some hub → DropsHub hub a result b → FinishesPort path (Err ParentLost) a result b
-hub_dropped path hub a result b above d = record { ends = λ o. d.ends (but_above hub path (claims a.entries) a.world (way_parent path hub above) o) }
+hub_dropped path hub a result b above d = record {
+  ends = λ o. d.ends (but_above hub path (claims a.entries) a.world (way_parent path hub above) o);
+  rooted = λ r at. d.rooted r (subst (λ n. n ≤ roots_of a.world) (root_parent path hub above) (at refl));
+}
 
 -- The way up from a hub
 
@@ -140,14 +161,14 @@ pub none_disabled : (path : List ℕ) (h : Hosting) → StandsNowhere path h →
 none_disabled path h s = record {
   keeps = keeps_none h.world;
   done = λ e. absurd (cc e);
-  none = λ e root. record { bares = bare_none path (claims h.entries) h.world (nowhere_reached path h s root) };
+  none = λ e root. record { on = way_itself path; bares = bare_none path (claims h.entries) h.world (nowhere_reached path h s root) };
 }
 
 bare_rests : (path : List ℕ) (a b : Hosting) → Rests a b → TillFault (Owned (cleared (claims a.entries) path)) b.world → IsBare path b
 bare_rests path a b r t = subst (λ (es : Entries). TillFault (Owned (cleared (claims es) path)) b.world) (sym (ap (λ (h : Hosting). h.entries) r)) t
 
 port_bared : (path : List ℕ) (port : KnownPort) (a b : Hosting) → StandsAt path port a → Rests a b → Bares port.port a.world b.world → BaresAbove path path a b
-port_bared path port a b s r bares = record { bares = λ o. bare_rests path a b r (bare_port port.port path (claims a.entries) a.world b.world bares (stands_at path port a s) o) }
+port_bared path port a b s r bares = record { on = way_itself path; bares = λ o. bare_rests path a b r (bare_port port.port path (claims a.entries) a.world b.world bares (stands_at path port a s) o) }
 
 pub port_disabled : (path : List ℕ) (port : KnownPort) (a b : Hosting) → StandsAt path port a → Rests a b → KeepsCleared port.port 1 a.world (Ok tt) b.world → KeepsDisabled path a (Ok true) b
 port_disabled path port a b s r k = record {
@@ -177,25 +198,38 @@ not_disabled path a b fault k = record { keeps = k; done = λ e. absurd (cc e); 
 
 -- what was disabled stands above where the way up began
 pub bares_above : (first path : List ℕ) (a b c : Hosting) → is_way path first ≡ true → Rests a b → KeepsAddresses a.world b.world → BaresAbove path path b c → BaresAbove first path a c
-bares_above first path a b c on r k x = record { bares = λ o. x.bares (but_above path first (claims b.entries) b.world on (but_rests first a b r k o)) }
+bares_above first path a b c on r k x = record { on = on; bares = λ o. x.bares (but_above path first (claims b.entries) b.world on (but_rests first a b r k o)) }
 
 -- A hub is dropped
 
 pub drop_fails : (hub : List ℕ) (a : Hosting) (result : Result (Unit {0}) HostFault) (b : Hosting) → IsErr result → KeepsAddresses a.world b.world → DropsHub hub a result b
-drop_fails hub a result b e k = record { ends = λ o. match_err result (λ _. IsOwned b) (b.world.shared ≡ false) e (but_kept hub (claims a.entries) a.world b.world k o).single }
+drop_fails hub a result b e k = record {
+  ends = λ o. match_err result (λ _. IsOwned b) (b.world.shared ≡ false) e (but_kept hub (claims a.entries) a.world b.world k o).single;
+  rooted = λ r at. on_failed result (IsRooted b) e;
+}
 
 -- what is entered for it has no address
-pub drop_ends : (hub lost : List ℕ) (a b c d : Hosting) → BaresAbove hub lost a b → c ≡ record b { entries = c.entries; addresses = c.addresses } → c.entries ≡ without lost b.entries → has_at lost c.entries ≡ false
+pub drop_ends : (hub lost : List ℕ) (a b c d : Hosting) → IsPath lost → Rests a b → roots_of b.world ≡ roots_of a.world → BaresAbove hub lost a b → c ≡ record b { entries = c.entries; pipes = c.pipes; addresses = c.addresses } → c.entries ≡ without lost b.entries → has_at lost c.entries ≡ false
     → d.world ≡ c.world → d.entries ≡ insert_entry path_cmp c.entries lost (Refused Lost) → DropsHub hub a (Ok tt) d
-drop_ends hub lost a b c d x others rest away same is = record { ends = ends }
+drop_ends hub lost a b c d path r roots x others rest away same is = record { ends = ends; rooted = rooted }
   where
+    still : roots_of c.world ≡ roots_of a.world
+    still = ap (λ (h : Hosting). roots_of h.world) others ∙ roots
+
+    rooted : IsRooted a → root_of hub ≤ roots_of a.world → IsRooted d
+    rooted q at =
+        let here : root_of lost ≤ roots_of a.world = subst (λ n. n ≤ roots_of a.world) (root_way lost hub path.0 x.on) at in
+        rooted_came lost (Refused Lost) c d is (ap (λ (w : World). roots_of w) same) (subst (λ n. root_of lost ≤ n) (sym still) here)
+        (rooted_dropped lost a c (rest ∙ ap (λ (h : Hosting). without lost h.entries) r) still q)
+
     ends : IsOwnedBut hub a → IsOwned d
     ends o = subst (TillFault (Owned (claims d.entries))) (sym same) (refused lost Lost c.entries d.entries c.world away is (forgotten lost b c others rest (x.bares o)))
 
 -- a hub that is known does not answer
 
-pub hub_lost : (hub : List ℕ) (a b : Hosting) (result : Result (Unit {0}) HostFault) (c : Hosting) → StaysOwned a b → DropsHub hub b result c → KeepsOwned a result c
-hub_lost hub a b result c s d = keeps_owned result a c (λ o. d.ends (but_all hub (claims b.entries) b.world (s.stays o)))
+pub hub_lost : (hub : List ℕ) (a b : Hosting) (result : Result (Unit {0}) HostFault) (c : Hosting) → IsSome (finding_at hub b.entries) → StaysOwned a b → DropsHub hub b result c → KeepsOwned a result c
+hub_lost hub a b result c listed s d =
+    keeps_owned result a c (λ o. d.ends (but_all hub (claims b.entries) b.world (s.stays o))) (λ r. d.rooted (s.rooted r) (s.rooted r hub listed))
 
 pub lost_single : (fault : HostFault) (result : Result (Unit {0}) HostFault) (a c : Hosting) → result ≡ Err fault → KeepsOwned a result c → StaysSingle a c
 lost_single fault result a c e k = subst (λ (r : Result (Unit {0}) HostFault). KeepsOwned a r c) e k

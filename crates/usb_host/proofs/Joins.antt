@@ -4,7 +4,7 @@ use Rattle.usb_world.specs.World.{World}
 use Rattle.usb_bus.proofs.Wents.{went_none, went_then, went_wider}
 use Rattle.usb_table.specs.Entries.{Entries, without}
 use Rattle.usb_host.specs.Hosting.{Hosting}
-use Rattle.usb_host.specs.Progress.{HostWent, Goes, Advances, Holds, Rests, Did, either, waiting}
+use Rattle.usb_host.specs.Progress.{HostWent, Goes, Advances, Holds, Rests, Remains, Did, either, waiting}
 use Rattle.usb_host.proofs.Waits.{waiting-without}
 use Rattle.usb_host.specs.declared.host.Round.{Round}
 use Rattle.usb_host.specs.declared.host.Round.TheVariants.{Worked, Quiet}
@@ -22,11 +22,19 @@ pub goes_wider : (m k : ℕ) (a b : Hosting) → Goes m a b → m ≤ k → Goes
 goes_wider m k a b p le = record { went = went_wider m k p.went le; going = p.going }
 
 -- what is forgotten takes no attempt
-pub goes_forgotten : (n : ℕ) (a b c : Hosting) → Goes n a b → c ≡ record b { entries = c.entries; addresses = c.addresses } → Goes n a c
+pub goes_forgotten : (n : ℕ) (a b c : Hosting) → Goes n a b → c ≡ record b { entries = c.entries; pipes = c.pipes; addresses = c.addresses } → Goes n a c
 goes_forgotten n a b c g others = subst (λ (x : Hosting). Goes n a x) (sym others) (record { went = g.went; going = g.going })
 
 pub rests_then : (a b c : Hosting) → Rests a b → Rests b c → Rests a c
 rests_then a b c p q = q ∙ ap (λ (h : Hosting). record h { world = c.world; trace = c.trace }) p
+
+pub remains_then : (a b c : Hosting) → Remains a b → Remains b c → Remains a c
+remains_then a b c p q = q ∙ ap (λ (h : Hosting). record h { world = c.world; trace = c.trace; pipes = c.pipes }) p
+
+pub remains_holds : (n : ℕ) (a b : Hosting) → Goes n a b → Remains a b → Holds a b
+remains_holds n a b g r =
+    let same : waiting b.entries ≡ waiting a.entries = ap (λ (h : Hosting). waiting h.entries) r in
+    omega (arith, same, g.went.spends.served, g.went.spends.later)
 
 -- a part that changes nothing leaves no more to do
 pub rests_holds : (n : ℕ) (a b : Hosting) → Goes n a b → Rests a b → Holds a b
@@ -45,7 +53,7 @@ holds_then a b c p q = omega (arith, p, q)
 
 pub did_holds : (n : ℕ) (r : Round) (a b : Hosting) → Goes n a b → Did r a b → Holds a b
 did_holds n Worked a b g d = omega (arith, d)
-did_holds n Quiet a b g d = rests_holds n a b g d
+did_holds n Quiet a b g d = remains_holds n a b g d
 
 -- a part that worked comes after another part
 pub worked_after : (n : ℕ) (r : Round) (a b c : Hosting) → Goes n a b → Did r a b → Advances b c → Advances a c
@@ -53,8 +61,8 @@ worked_after n r a b c g d on = advances_after a b c (did_holds n r a b g d) on
 
 pub did_then : (m n : ℕ) (r s : Round) (a b c : Hosting) → Goes m a b → Goes n b c → Did r a b → Did s b c → Did (either r s) a c
 did_then m n Worked s a b c p q ab bc = advances_then a b c ab (did_holds n s b c q bc)
-did_then m n Quiet Worked a b c p q ab bc = advances_after a b c (rests_holds m a b p ab) bc
-did_then m n Quiet Quiet a b c p q ab bc = rests_then a b c ab bc
+did_then m n Quiet Worked a b c p q ab bc = advances_after a b c (remains_holds m a b p ab) bc
+did_then m n Quiet Quiet a b c p q ab bc = remains_then a b c ab bc
 
 -- a call on the bus alone
 pub goes_by : (n k : ℕ) (a b : Hosting) → HostWent n a b → n ≤ k → b.stopped ≡ a.stopped → Goes k a b
@@ -65,7 +73,7 @@ pub goes_after : (k m n : ℕ) (a b c : Hosting) → HostWent m a b → b.stoppe
 goes_after k m n a b c w e q le = goes_then k m n a b c (record { went = w; going = e }) q le
 
 -- a hub whose port was disabled is forgotten, with what stood below it
-pub dropped : (n : ℕ) (path : List ℕ) (a b c : Hosting) (world : World) (trace : Option (List ℕ)) (entries : Entries) → Goes n a b → Rests a b → c ≡ record b { entries = c.entries; addresses = c.addresses } → c.entries ≡ without path b.entries
+pub dropped : (n : ℕ) (path : List ℕ) (a b c : Hosting) (world : World) (trace : Option (List ℕ)) (entries : Entries) → Goes n a b → Rests a b → c ≡ record b { entries = c.entries; pipes = c.pipes; addresses = c.addresses } → c.entries ≡ without path b.entries
     → world ≡ c.world → waiting entries ≤ waiting c.entries → Holds a (record c { world = world; trace = trace; entries = entries })
 dropped n path a b c world trace entries g r others rest same fewer =
     let there : world ≡ b.world = same ∙ ap (λ (h : Hosting). h.world) others in

@@ -17,3 +17,7 @@ pub mod Waits
 pub mod Ways
 pub mod Settled
 pub mod Stays
+pub mod Risings
+pub mod Roots
+pub mod Events
+pub mod Places

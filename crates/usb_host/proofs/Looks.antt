@@ -19,7 +19,7 @@ use Rattle.usb_table.specs.Known.{known_port}
 use Rattle.usb_table.proofs.Ports.{known_port-without}
 use Rattle.usb_host.specs.Hosting.{Hosting, work}
 use Rattle.usb_host.specs.declared.fault.HostFault.{HostFault}
-use Rattle.usb_host.specs.Ports.{StandsAt, Waits, Gained, Served, GoesOn, EntersOne}
+use Rattle.usb_host.specs.Ports.{StandsAt, Waits, Gained, Served, EndsAs, EntersOne}
 use Rattle.usb_host.specs.Progress.{Goes, Rests, Holds, Advances, waiting}
 use Rattle.usb_host.proofs.Joins.{advances_then}
 use Rattle.usb_host.proofs.Waits.{waiting-without, waiting-without_one, waiting-entered, waiting-entered_other}
@@ -52,7 +52,7 @@ enters_few path c d e =
     let left = ap waiting e.entries in
     omega (arith, left, waiting-entered path e.finding c.entries)
 
-module _ (path : List ℕ) (m n : ℕ) (a b c d : Hosting) (g : Goes m a b) (r : Rests a b) (others : c ≡ record b { entries = c.entries; addresses = c.addresses })
+module _ (path : List ℕ) (m n : ℕ) (a b c d : Hosting) (g : Goes m a b) (r : Rests a b) (others : c ≡ record b { entries = c.entries; pipes = c.pipes; addresses = c.addresses })
     (rest : c.entries ≡ without path b.entries) (h : Goes n c d) where
   world_is : c.world ≡ b.world
   world_is = ap (λ (x : Hosting). x.world) others
@@ -89,7 +89,7 @@ served_any (Err (Bus fault)) a d on = tt
 served_any (Err Memory) a d on = tt
 
 -- the port stands where it stood, once what was on it is forgotten
-pub stands_kept : (n : ℕ) (path : List ℕ) (port : KnownPort) (a b c : Hosting) → Goes n a b → Rests a b → c ≡ record b { entries = c.entries; addresses = c.addresses } → c.entries ≡ without path b.entries
+pub stands_kept : (n : ℕ) (path : List ℕ) (port : KnownPort) (a b c : Hosting) → Goes n a b → Rests a b → c ≡ record b { entries = c.entries; pipes = c.pipes; addresses = c.addresses } → c.entries ≡ without path b.entries
     → StandsAt path port a → StandsAt path port c
 stands_kept n path port a b c g r others rest s =
     let left : c.entries ≡ without path a.entries = rest ∙ ap (λ (x : Hosting). without path x.entries) r in
@@ -100,16 +100,16 @@ stands_kept n path port a b c g r others rest s =
       askable = s.askable;
     }
 
-pub served_on : (served : Result (Unit {0}) EnumFault) (a b : Hosting) → GoesOn served → Served served a b → Advances a b
-served_on (Ok done) a b on s = s
-served_on (Err ParentLost) a b on s = s
-served_on (Err (Bus fault)) a b on s = absurd on
-served_on (Err Memory) a b on s = absurd on
+pub served_on : (served : Result (Unit {0}) EnumFault) (done : Unit {0}) (a b : Hosting) → EndsAs served (Ok done) → Served served a b → Advances a b
+served_on (Ok _) done a b ends s = s
+served_on (Err ParentLost) done a b ends s = s
+served_on (Err (Bus fault)) done a b ends s = absurd (cc ends)
+served_on (Err Memory) done a b ends s = absurd (cc ends)
 
 -- a port was served, and the rest of its handling took nothing back
-pub handled : {Due : Type 0} (result : Result (Unit {0}) HostFault) (served : Result (Unit {0}) EnumFault) (a b c : Hosting) → OnOk result (GoesOn served) → Holds b c → (Due → Served served a b) → OnOk result (Due → Advances a c)
-handled (Ok done) served a b c on holds s = λ due. advances_then a b c (served_on served a b on (s due)) holds
-handled (Err fault) served a b c on holds s = tt
+pub handled : {Due : Type 0} (result : Result (Unit {0}) HostFault) (served : Result (Unit {0}) EnumFault) (a b c : Hosting) → EndsAs served result → Holds b c → (Due → Served served a b) → OnOk result (Due → Advances a c)
+handled (Ok done) served a b c ends holds s = λ due. advances_then a b c (served_on served done a b ends (s due)) holds
+handled (Err fault) served a b c ends holds s = tt
 
 -- what stood at the port and below it is forgotten
 pub forgets : (path : List ℕ) (a b c : Hosting) → Rests a b → c.entries ≡ without path b.entries → c.entries ≡ without path a.entries

@@ -9,20 +9,20 @@ use Rattle.usb_device.specs.Delivery.{all_forgotten}
 use Rattle.usb_world.proofs.Booleans.{no}
 use Rattle.usb_world.specs.World.{World}
 use Rattle.usb_resources.specs.Pool.{Addresses}
-use Rattle.usb_table.specs.Entries.{Entries}
+use Rattle.usb_table.specs.Table.{Table, empty}
 use Rattle.usb_host.specs.Hosting.{Hosting, opening, with_power}
 use Rattle.usb_host.specs.Owning.{Owning, IsUntouched}
 
-abbrev going : World → Option (List ℕ) → Entries → Addresses → Hosting
-going w t entries addresses = record { world = w; trace = t; entries = entries; addresses = addresses; stopped = false }
+abbrev going : World → Option (List ℕ) → Table → Addresses → Hosting
+going w t table addresses = record { world = w; trace = t; entries = table.entries; pipes = table.pipes; addresses = addresses; stopped = false }
 
 abbrev powered : World → World
 powered w = record w { roots = with_power w.roots }
 
 -- power is given in silence
-pub opened : (w0 w : World) (t0 t : Option (List ℕ)) (entries : Entries) (addresses : Addresses) → w ≡ powered w0 → t ≡ t0 → entries ≡ [] → addresses ≡ set.empty → going w t entries addresses ≡ opening w0 t0
-opened w0 w t0 t entries addresses e silent f h =
-    ap (λ v. going v t entries addresses) e ∙ ap (λ s. going (powered w0) s entries addresses) silent ∙ ap (λ es. going (powered w0) t0 es addresses) f ∙ ap (λ s. going (powered w0) t0 [] s) h
+pub opened : (w0 w : World) (t0 t : Option (List ℕ)) (table : Table) (addresses : Addresses) → w ≡ powered w0 → t ≡ t0 → table ≡ empty → addresses ≡ set.empty → going w t table addresses ≡ opening w0 t0
+opened w0 w t0 t table addresses e silent f h =
+    ap (λ v. going v t table addresses) e ∙ ap (λ s. going (powered w0) s table addresses) silent ∙ ap (λ x. going (powered w0) t0 x addresses) f ∙ ap (λ s. going (powered w0) t0 empty s) h
 
 -- Power moves no device
 

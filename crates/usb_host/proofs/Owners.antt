@@ -3,7 +3,7 @@ use Rattle.std.proofs.Common.{◌≡◌, ◌∙◌, refl, sym, ap, subst, arith,
 use Rattle.usb_device.specs.Tree.{reach}
 use Rattle.usb_world.specs.declared.types.BusFault.{BusFault}
 use Rattle.usb_world.specs.Live.{is_way}
-use Rattle.usb_world.specs.World.{World}
+use Rattle.usb_world.specs.World.{World, roots_of}
 use Rattle.usb_address.specs.Claims.{Claims, cleared}
 use Rattle.usb_address.specs.Owned.{Owned, OwnedBut, TillFault, KeepsAddresses}
 use Rattle.usb_address.proofs.Resetting.{owned_as}
@@ -21,6 +21,7 @@ use Rattle.usb_host.specs.Owning.{claims, IsOwned, IsBare, Owning, StaysOwned, S
 use Rattle.usb_host.specs.declared.fault.HostFault.{HostFault}
 use Rattle.usb_host.specs.declared.host.Round.{Round}
 use Rattle.usb_host.proofs.Claimed.{claims-without, claims-refused}
+use Rattle.usb_host.proofs.Roots.{rooted_kept}
 use Rattle.usb_host.proofs.Ways.{way_apart, way_shorter}
 
 pub till_as : (f g : Claims) (w : World) → ((x : List ℕ) → f x ≡ g x) → TillFault (Owned f) w → TillFault (Owned g) w
@@ -88,7 +89,7 @@ bare_none p f w none t =
 
 -- The table follows
 
-pub forgotten : (path : List ℕ) (a b : Hosting) → b ≡ record a { entries = b.entries; addresses = b.addresses } → b.entries ≡ without path a.entries → IsBare path a → IsOwned b
+pub forgotten : (path : List ℕ) (a b : Hosting) → b ≡ record a { entries = b.entries; pipes = b.pipes; addresses = b.addresses } → b.entries ≡ without path a.entries → IsBare path a → IsOwned b
 forgotten path a b others rest bare =
     let here : TillFault (Owned (cleared (claims a.entries) path)) b.world = subst (TillFault (Owned (cleared (claims a.entries) path))) (sym (ap (λ (h : Hosting). h.world) others)) bare in
     till_as (cleared (claims a.entries) path) (claims b.entries) b.world (λ x. sym (ap (λ (es : Entries). claims es x) rest ∙ claims-without path a.entries x)) here
@@ -104,8 +105,11 @@ owning_kept a b going same k o =
     let t : IsOwned b = subst (λ (es : Entries). TillFault (Owned (claims es)) b.world) (sym same) (k.kept (claims a.entries) (o.owned going)) in
     record { single = t.single; owned = λ on. t }
 
-pub stays_kept : (a b : Hosting) → b.entries ≡ a.entries → KeepsAddresses a.world b.world → StaysOwned a b
-stays_kept a b same k = record { stays = λ o. subst (λ (es : Entries). TillFault (Owned (claims es)) b.world) (sym same) (k.kept (claims a.entries) o) }
+pub stays_kept : (a b : Hosting) → b.entries ≡ a.entries → roots_of b.world ≡ roots_of a.world → KeepsAddresses a.world b.world → StaysOwned a b
+stays_kept a b same roots k = record {
+  stays = λ o. subst (λ (es : Entries). TillFault (Owned (claims es)) b.world) (sym same) (k.kept (claims a.entries) o);
+  rooted = rooted_kept a b same roots;
+}
 
 pub single_kept : (a b : Hosting) → b.entries ≡ a.entries → KeepsAddresses a.world b.world → StaysSingle a b
 single_kept a b same k = record { single = λ o. (k.kept (claims a.entries) o).single }
@@ -113,10 +117,10 @@ single_kept a b same k = record { single = λ o. (k.kept (claims a.entries) o).s
 -- One part of a round after another
 
 pub stays_none : (h : Hosting) → StaysOwned h h
-stays_none h = record { stays = λ o. o }
+stays_none h = record { stays = λ o. o; rooted = λ r. r }
 
 pub stays_then : (a b c : Hosting) → StaysOwned a b → StaysOwned b c → StaysOwned a c
-stays_then a b c p q = record { stays = λ o. q.stays (p.stays o) }
+stays_then a b c p q = record { stays = λ o. q.stays (p.stays o); rooted = λ r. q.rooted (p.rooted r) }
 
 pub single_then : (a b c : Hosting) → StaysOwned a b → StaysSingle b c → StaysSingle a c
 single_then a b c p q = record { single = λ o. q.single (p.stays o) }

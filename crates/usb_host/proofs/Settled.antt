@@ -76,11 +76,11 @@ module _ (w : World) (entries : Entries) (addresses : Addresses) (accounted : Ac
   pub listed_port : (path : List ℕ) (f : Finding) → finding_at path entries ≡ Some f → IsListedPort (roots_of w) entries path
   listed_port path f at =
       let some : IsSome (finding_at path entries) = rw at refl in
-      let is = accounted.path path some in
+      let is = accounted.agrees.nested.path path f at in
       record { some = is.0; port = port_below_hub (roots_of w) entries (port_of path) (parent_of path) (port_number path is).0 (accounted.root path some) (accounted.agrees.nested.each path f at) }
 
   listed_address : (path : List ℕ) (address : ℕ) → address_at path entries ≡ Some address → IsAddress address
-  listed_address path address at = accounted.range address (claims_taken entries addresses accounted.agrees.accounts path address at)
+  listed_address path address at = accounted.agrees.range address (claims_taken entries addresses accounted.agrees.accounts path address at)
 
   listed_once : (path other : List ℕ) (address : ℕ) → address_at path entries ≡ Some address → address_at other entries ≡ Some address → path ≡ other
   listed_once path other address at same = sym (same_is path other (claims_distinct entries addresses accounted.agrees.accounts path other address at same))
@@ -202,7 +202,7 @@ module _ (w : World) (entries : Entries) (addresses : Addresses) (accounted : Ac
   settled_matches =
       record {
         lists = record {
-          rises = accounted.rises;
+          rises = accounted.agrees.rises;
           there = right_there;
           nothing_else = λ path f at. (listed_port w entries addresses accounted path f at, plugged_there path f at);
           addresses = listed_address w entries addresses accounted;

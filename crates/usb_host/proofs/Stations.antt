@@ -30,7 +30,7 @@ use Rattle.usb_host.specs.Owning.{claims}
 use Rattle.usb_host.specs.Ports.{StandsAt, StandsNowhere, Broke}
 use Rattle.usb_host.proofs.Ways.{way_rest}
 
-root_alone : (path : List ℕ) → IsPath path → parent_of path ≡ None → path ≡ port_of path ∷ []
+pub root_alone : (path : List ℕ) → IsPath path → parent_of path ≡ None → path ≡ port_of path ∷ []
 unfolding parent_of port_of
 root_alone [] is none = absurd (omega (arith, is.0))
 root_alone (n ∷ []) is none = refl

@@ -1,12 +1,12 @@
 -- Which ports stand on the way to a path.
-use Rattle.std.proofs.Common.{◌≡◌, ◌∙◌, refl, sym, ap, subst, arith, append-nil, append_assoc, length-append, ℕ, ◌+◌, ◌<◌, inl, inr, Bool, true, false, List, [], ◌∷◌, ◌++◌, length, Some}
+use Rattle.std.proofs.Common.{◌≡◌, ◌∙◌, refl, sym, ap, subst, arith, append-nil, append_assoc, length-append, ℕ, ◌+◌, ◌<◌, ◌≤◌, inl, inr, Bool, true, false, List, [], ◌∷◌, ◌++◌, length, Some}
 use Rattle.std.specs.Prelude.{nat_eq}
 use Rattle.std.specs.Cmp.Lexicographic.{pointwise, same_text, texts_ties}
 use Rattle.usb_port.specs.Order.{is_below, parent_of, port_of}
 use Rattle.usb_port.proofs.OrderLaws.{below, rejoined}
 use Rattle.usb_world.specs.Live.{is_way, same_number}
 use Rattle.usb_world.proofs.AddressesReset.{is_same, self_number}
-use Rattle.usb_world.proofs.Booleans.{no, both, or_left, or_right, either_of}
+use Rattle.usb_world.proofs.Booleans.{no, both, and_of, or_left, or_right, either_of}
 use Rattle.usb_table.proofs.Paths.{path_itself}
 use Rattle.usb_table.specs.Entries.{is_at_or_below}
 
@@ -78,6 +78,15 @@ way_parent path hub is = way_of_rest hub path (port_of path ∷ []) (rejoined pa
 apart_by : (p q x : List ℕ) → is_way p q ≡ true → is_way p x ≡ false → (b : Bool) → is_way q x ≡ b → b ≡ false
 apart_by p q x on away true h = no (sym away ∙ way_trans p q x on h)
 apart_by p q x on away false h = refl
+
+-- what is below a port, and longer, has its hub at the port or below it
+pub way_hub : (p hub : List ℕ) (n : ℕ) → length p ≤ length hub → is_way p (hub ++ n ∷ []) ≡ true → is_way p hub ≡ true
+unfolding is_way
+way_hub [] hub n le h = refl
+way_hub (m ∷ p) [] n le h = absurd (omega (arith, le))
+way_hub (m ∷ p) (k ∷ hub) n le h =
+    let parts = both (same_number m k) (is_way p (hub ++ n ∷ [])) h in
+    and_of (same_number m k) (is_way p hub) parts.0 (way_hub p hub n (omega (arith, le)) parts.1)
 
 -- what is not below a port is not below one that is
 pub way_apart : (p q x : List ℕ) → is_way p q ≡ true → is_way p x ≡ false → is_way q x ≡ false

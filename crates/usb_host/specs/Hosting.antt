@@ -7,12 +7,14 @@ use Rattle.usb_world.specs.World.{World, root_row, to_come, changes}
 use Rattle.usb_resources.specs.Pool.{Addresses, Releases}
 use Rattle.usb_enum.specs.declared.finding.Finding.{Finding}
 use Rattle.usb_enum.specs.declared.finding.Finding.TheVariants.{Device, Refused}
+use Rattle.usb_table.specs.declared.pipes.Pipes.{Pipes}
 use Rattle.usb_table.specs.Entries.{Entries}
 
 pub record Hosting : Type 0 where
   pub world : World  -- the bus's
   pub trace : Option (List ℕ)  -- the text that the bus's trace has, where that is known
   pub entries : Entries
+  pub pipes : List (List ℕ × Pipes)  -- to what was found, by path
   pub addresses : Addresses  -- those that are taken
   pub stopped : Bool
 
@@ -24,7 +26,7 @@ with_power (taken b s a k) = taken (powered_on b) s a (with_power k)
 
 -- the root ports have power, and no device is known
 abbrev pub opening : World → Option (List ℕ) → Hosting
-opening w t = record { world = record w { roots = with_power w.roots }; trace = t; entries = []; addresses = set.empty; stopped = false }
+opening w t = record { world = record w { roots = with_power w.roots }; trace = t; entries = []; pipes = []; addresses = set.empty; stopped = false }
 
 -- the change bits that are set and the events to come
 abbrev pub work : World → ℕ

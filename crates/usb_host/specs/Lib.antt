@@ -7,3 +7,4 @@ pub mod Ports
 pub mod Progress
 pub mod Sound
 pub mod Told
+pub mod Transfers

@@ -1,12 +1,13 @@
 -- That each reachable device holds the address that the host has for it.
-use Rattle.std.specs.Prelude.{◌≡◌, ℕ, List, Bool, false, true, None, Result, Ok, Err, MatchResult}
+use Rattle.std.specs.Prelude.{◌≡◌, ◌≤◌, ℕ, List, [], ◌∷◌, Bool, false, true, None, IsSome, Result, Ok, Err, OnOk, MatchResult}
 use Rattle.std.specs.BTreeMap.{is_at}
 use Rattle.std.specs.Map.{lookup}
 use Rattle.usb_port.specs.Order.{path_cmp, parent_of}
 use Rattle.usb_port.specs.declared.status.PortStatus.{PortStatus}
 use Rattle.usb_device.specs.Tree.{reach}
 use Rattle.usb_world.specs.Passes.{IsSettled}
-use Rattle.usb_world.specs.World.{World}
+use Rattle.usb_world.specs.Live.{is_way}
+use Rattle.usb_world.specs.World.{World, roots_of}
 use Rattle.usb_address.specs.Claims.{Claims, cleared}
 use Rattle.usb_address.specs.Owned.{Owned, OwnedBut, TillFault, KeepsAddresses}
 use Rattle.usb_hub.specs.declared.port.HubPort.{HubPort}
@@ -15,6 +16,7 @@ use Rattle.usb_enum.specs.declared.fault.EnumFault.{EnumFault}
 use Rattle.usb_enum.specs.declared.fault.EnumFault.TheVariants.{ParentLost, Bus, Memory}
 use Rattle.usb_table.specs.Entries.{Entries}
 use Rattle.usb_table.specs.Keys.{address_in}
+use Rattle.usb_table.specs.Listing.{finding_at}
 use Rattle.usb_host.specs.declared.fault.HostFault.{HostFault}
 use Rattle.usb_host.specs.Hosting.{Hosting}
 
@@ -37,10 +39,22 @@ pub record IsUntouched (w : World) : Type 0 where
   pub settled : IsSettled w.roots
   pub none : (path : List ℕ) → reach w.roots path ≡ false
 
+-- Entries stand below the ports of the root
+
+-- the number of the root port on the way to a path
+abbrev pub root_of : List ℕ → ℕ
+root_of [] = 0
+root_of (number ∷ path) = number
+
+-- each entry stands at a port that the root has, or below one
+abbrev pub IsRooted : Hosting → Type 0
+IsRooted h = (path : List ℕ) → IsSome (finding_at path h.entries) → root_of path ≤ roots_of h.world
+
 -- Parts of a round
 
 pub record StaysOwned (old new : Hosting) : Type 0 where
   pub stays : IsOwned old → IsOwned new
+  pub rooted : IsRooted old → IsRooted new
 
 -- of a call after which the host stops
 pub record StaysSingle (old new : Hosting) : Type 0 where
@@ -67,6 +81,7 @@ PortOwned path (Err Memory) new = new.world.shared ≡ false
 
 pub record KeepsPort (path : List ℕ) (old : Hosting) (result : Result (Unit {0}) EnumFault) (new : Hosting) : Type 0 where
   pub ends : IsOwned old → PortOwned path result new
+  pub rooted : IsRooted old → IsRooted new
 
 -- no device is reachable at the port or below it
 abbrev pub BaresPort : HubPort → World → Result PortStatus EnumFault → World → Type 0
@@ -79,12 +94,15 @@ LeavesOwned result new = MatchResult result (λ _. IsOwned new) (λ _. new.world
 
 pub record FinishesPort (path : List ℕ) (served : Result (Unit {0}) EnumFault) (old : Hosting) (result : Result (Unit {0}) HostFault) (new : Hosting) : Type 0 where
   pub ends : PortOwned path served old → LeavesOwned result new
+  pub rooted : IsRooted old → (served ≡ Err ParentLost → root_of path ≤ roots_of old.world) → OnOk result (IsRooted new)
 
 pub record DropsHub (hub : List ℕ) (old : Hosting) (result : Result (Unit {0}) HostFault) (new : Hosting) : Type 0 where
   pub ends : IsOwnedBut hub old → LeavesOwned result new
+  pub rooted : IsRooted old → root_of hub ≤ roots_of old.world → OnOk result (IsRooted new)
 
--- whatever is at the first path and below it, none is reachable at the other
+-- the other path is on the way to the first; whatever is at the first and below it, none is reachable at the other
 pub record BaresAbove (first path : List ℕ) (old new : Hosting) : Type 0 where
+  pub on : is_way path first ≡ true
   pub bares : IsOwnedBut first old → IsBare path new
 
 abbrev pub BaresUpward : List ℕ → Hosting → Result (List ℕ) HostFault → Hosting → Type 0

@@ -19,6 +19,8 @@ use Rattle.usb_table.specs.Entries.{Entries, without}
 use Rattle.usb_table.specs.Known.{known_port, IsAskable}
 use Rattle.usb_port.specs.Status.{seen}
 use Rattle.usb_port.specs.declared.status.PortStatus.{PortStatus}
+use Rattle.usb_host.specs.declared.fault.HostFault.{HostFault}
+use Rattle.usb_host.specs.declared.fault.HostFault.TheVariants as host
 use Rattle.usb_host.specs.Hosting.{Hosting, work}
 use Rattle.usb_host.specs.Progress.{Advances}
 
@@ -72,12 +74,12 @@ Broke path ParentLost w = IsSome (parent_of path)
 Broke path (Bus fault) w = Failed fault w
 Broke path Memory w = ⊤
 
--- an end after which the host goes on
-abbrev pub GoesOn : Result (Unit {0}) EnumFault → Type 0
-GoesOn (Ok done) = ⊤
-GoesOn (Err ParentLost) = ⊤
-GoesOn (Err (Bus fault)) = ⊥
-GoesOn (Err Memory) = ⊥
+-- how a call ends after a port was served: a fault of the bus and want of memory are told as they are
+abbrev pub EndsAs : Result (Unit {0}) EnumFault → Result (Unit {0}) HostFault → Type 0
+EndsAs (Ok done) result = result ≡ Ok tt
+EndsAs (Err ParentLost) result = ⊤
+EndsAs (Err (Bus fault)) result = result ≡ Err (host.Bus fault)
+EndsAs (Err Memory) result = result ≡ Err host.Memory
 
 -- a finding is entered; a device waits only where no address was free
 pub record EntersOne (path : List ℕ) (old new : Hosting) : Type 0 where

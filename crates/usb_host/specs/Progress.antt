@@ -6,6 +6,7 @@ use Rattle.usb_bus.specs.Traced.{WentOn}
 use Rattle.usb_table.specs.Entries.{Entries}
 use Rattle.usb_table.specs.Findings.{is_waiting}
 use Rattle.usb_host.specs.Hosting.{Hosting, work}
+use Rattle.usb_host.specs.Owning.{IsRooted}
 use Rattle.usb_host.specs.declared.host.Round.{Round}
 use Rattle.usb_host.specs.declared.host.Round.TheVariants.{Worked, Quiet}
 
@@ -25,9 +26,13 @@ Holds old new = idle_work new + 2 * old.world.attempts ≤ idle_work old + 2 * n
 abbrev pub Advances : Hosting → Hosting → Type 0
 Advances old new = idle_work new + 2 * old.world.attempts < idle_work old + 2 * new.world.attempts
 
--- nothing that is known has changed
+-- nothing that the host keeps has changed
 abbrev pub Rests : Hosting → Hosting → Type 0
 Rests old new = new ≡ record old { world = new.world; trace = new.trace }
+
+-- nothing that is known of the ports has changed; hubs may have been polled
+abbrev pub Remains : Hosting → Hosting → Type 0
+Remains old new = new ≡ record old { world = new.world; trace = new.trace; pipes = new.pipes }
 
 -- at most so many attempts were made, and what was written is the text of the bus's steps
 abbrev pub HostWent : ℕ → Hosting → Hosting → Type 0
@@ -41,13 +46,14 @@ pub record Goes (most : ℕ) (old new : Hosting) : Type 0 where
 -- what a part of a round did
 abbrev pub Did : Round → Hosting → Hosting → Type 0
 Did Worked old new = Advances old new
-Did Quiet old new = Rests old new
+Did Quiet old new = Remains old new
 
 abbrev pub either : Round → Round → Round
 either Worked other = Worked
 either Quiet other = other
 
--- what a round did: it got on, or no port had changed
+-- what a round did: it got on, or no port had changed; and entries still stand below the ports of the root
 pub record DidRound (round : Round) (old new : Hosting) : Type 0 where
   pub worked : round ≡ Worked → Advances old new
-  pub quiet : round ≡ Quiet → Rests old new × (changes (root_row old.world) ≡ 0)
+  pub quiet : round ≡ Quiet → Remains old new × (changes (root_row old.world) ≡ 0)
+  pub rooted : IsRooted old → IsRooted new

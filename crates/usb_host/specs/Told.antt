@@ -82,8 +82,9 @@ pub record StopsAsRound {A : Type 0} (old : Hosting) (result : Result A HostFaul
   pub nothing : IsTrue old.stopped → new ≡ old
   pub stops : IsTrue new.stopped ↔ IsErr result
 
--- a stopped host changes nothing and says so; another stops at a fault of the bus and for want of memory
+-- a stopped host changes nothing and says so; another stops at a fault of the bus and for want of memory. No entry changes
 pub record StopsAsTransfer {A : Type 0} (old : Hosting) (result : Result A HostFault) (new : Hosting) : Type 0 where
   pub said : IsErrOf result Stopped ↔ IsTrue old.stopped
   pub nothing : IsTrue old.stopped → new ≡ old
   pub stops : old.stopped ≡ false → new.stopped ≡ is_final result
+  pub kept : new.entries ≡ old.entries

@@ -3,13 +3,13 @@ ghost use Rattle.std.specs.Prelude.{◌≡◌, ◌≢◌, ◌≤◌, ◌<◌, �
 ghost use Rattle.std.specs.Borrow.{Lends, sem};
 ghost use Rattle.usb_world.specs.World.{World};
 ghost use Rattle.usb_bus.specs.Traced.{Traced};
-ghost use Rattle.usb_table.specs.Entries.{Rises};
 ghost use Rattle.usb_host.specs.Agreement.{Agrees};
 ghost use Rattle.usb_host.specs.Bounds.{round_bound, clear_bound};
 ghost use Rattle.usb_host.specs.Hosting.{Hosting, opening};
 ghost use Rattle.usb_host.specs.Progress.{DidRound, HostWent};
 ghost use Rattle.usb_host.specs.Owning.{Owning, IsUntouched};
 ghost use Rattle.usb_host.specs.Told.{RoundTold, TransferTold, StopsAsRound, StopsAsTransfer, host_told, is_final};
+ghost use Rattle.usb_host.specs.Transfers.{SentAt, ReceivedAt, ClearedAt};
 
 use crate::{HostFault, Tree};
 use std::alloc::Global;
@@ -51,9 +51,16 @@ impl<B: Bus> Model for Host<B> {
 
     ghost Value = { Hosting };
 
-    ghost view = { λ h. record { world = B.world h.bus; trace = B.trace h.bus; entries = h.table; addresses = h.pool; stopped = h.stopped } };
+    ghost view = { λ h. record {
+      world = B.world h.bus;
+      trace = B.trace h.bus;
+      entries = h.table.entries;
+      pipes = h.table.pipes;
+      addresses = h.pool;
+      stopped = h.stopped;
+    } };
 
-    ghost invariant = { λ h. Agrees h.table h.pool };
+    ghost invariant = { λ h. Agrees h.table.entries h.pool };
 }
 
 impl<B: Bus> Host<B> {
@@ -119,7 +126,6 @@ impl<B: Bus> Host<B> {
     pub fn tree(&self) -> Result<Tree, HostFault>
         ensures entries { IfOk result (λ tree. tree ≡ self.now.entries) }
         ensures memory { IfErr result (λ fault. fault ≡ HostFault.Memory) }
-        ensures rising { Rises self.now.entries }
         ensures agree { Agrees self.now.entries self.now.addresses }
     {
         Ok(Tree::new(self.table.entries(self.alloc)?))
@@ -164,7 +170,7 @@ impl<B: Bus> Host<B> {
         ensures stopped { StopsAsTransfer self.old result self.new }
         ensures went { HostWent (768 * length bytes.now) self.old self.new }
         ensures told { IfErr result (λ fault. TransferTold fault self.new.world) }
-        ensures kept { self.new.entries ≡ self.old.entries }
+        ensures sent { SentAt path.now bytes.now self.old result self.new }
         ensures owning { Owning self.old → Owning self.new }
     {
         if self.stopped {
@@ -185,7 +191,7 @@ impl<B: Bus> Host<B> {
         ensures stopped { StopsAsTransfer self.old result self.new }
         ensures went { HostWent (768 * packets) self.old self.new }
         ensures told { IfErr result (λ fault. TransferTold fault self.new.world) }
-        ensures kept { self.new.entries ≡ self.old.entries }
+        ensures received { ReceivedAt path.now packets self.old result self.new }
         ensures owning { Owning self.old → Owning self.new }
     {
         if self.stopped {
@@ -206,7 +212,7 @@ impl<B: Bus> Host<B> {
         ensures stopped { StopsAsTransfer self.old result self.new }
         ensures went { HostWent clear_bound self.old self.new }
         ensures told { IfErr result (λ fault. TransferTold fault self.new.world) }
-        ensures kept { self.new.entries ≡ self.old.entries }
+        ensures cleared { ClearedAt path.now self.old result self.new }
         ensures owning { Owning self.old → Owning self.new }
     {
         if self.stopped {

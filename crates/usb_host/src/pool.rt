@@ -1,8 +1,7 @@
 //! The table and the pool of addresses, changed together.
 ghost use Rattle.std.specs.Prelude.{◌≡◌, false, OnOk, OnErr};
-ghost use Rattle.std.specs.BTreeMap.{insert_entry};
-ghost use Rattle.usb_port.specs.Order.{path_cmp};
 ghost use Rattle.usb_table.specs.Entries.{has_at};
+ghost use Rattle.usb_table.specs.Table.{entered};
 ghost use Rattle.usb_table.specs.Findings.{IsSound, HasNewAddress, address_of};
 ghost use Rattle.usb_enum.specs.declared.finding.Finding.{Finding};
 ghost use Rattle.usb_host.specs.Hosting.{Frees};
@@ -20,10 +19,11 @@ pub(crate) fn enter(
     path: PortPath,
     finding: Finding,
 ) -> Result<(), AllocError>
-    requires away { has_at path table.old ≡ false }
+    requires away { has_at path table.old.entries ≡ false }
     requires sound { IsSound finding }
-    requires new { HasNewAddress finding table.old }
-    ensures ok { OnOk result ((table.new ≡ insert_entry path_cmp table.old path finding) × (pool.new ≡ pool.old)) }
+    requires new { HasNewAddress finding table.old.entries }
+    ensures ok { OnOk result
+        ((table.new ≡ entered path finding table.old) × (pool.new ≡ pool.old)) }
     ensures err { OnErr result ((table.new ≡ table.old) × Frees finding pool.old pool.new) }
 {
     let address = address_of(&finding);

@@ -11,9 +11,10 @@ ghost use Rattle.usb_enum.specs.Bounds.{widest_enumeration};
 ghost use Rattle.usb_enum.specs.Stop.{FaultAt};
 ghost use Rattle.usb_table.specs.Entries.{Replaced, has_at, without};
 ghost use Rattle.usb_table.specs.Known.{IsAskable, known_port};
+ghost use Rattle.usb_table.specs.Listing.{tier_of};
 ghost use Rattle.usb_host.specs.Bounds.{clearing_bound, look_bound, drop_bound, handling_bound, status_most, order_most, serving_bound};
 ghost use Rattle.usb_host.specs.Owning.{KeepsOwned, KeepsPort, BaresPort, FinishesPort, DropsHub, BaresUpward, KeepsDisabled};
-ghost use Rattle.usb_host.specs.Ports.{StandsAt, StandsNowhere, IsDue, Waits, Served, Shown, Gains, Broke, GoesOn, Entered, HasLost};
+ghost use Rattle.usb_host.specs.Ports.{StandsAt, StandsNowhere, IsDue, Waits, Served, Shown, Gains, Broke, EndsAs, Entered, HasLost};
 ghost use Rattle.usb_host.specs.Progress.{Goes, Advances, Holds, Rests, Did};
 ghost use Rattle.usb_host.specs.Told.{Ended};
 
@@ -121,7 +122,7 @@ impl<B: Bus> Host<B> {
         ensures goes { Goes drop_bound self.old self.new }
         ensures told { IfErr result (λ fault. Ended fault self.new.world) }
         ensures holds { Holds self.old self.new }
-        ensures on { OnOk result (GoesOn served) }
+        ensures ends { EndsAs served result }
         ensures owned { FinishesPort path.now served self.old result self.new }
     {
         match served {
@@ -250,6 +251,7 @@ impl<B: Bus> Host<B> {
         ensures owned { DropsHub hub self.old result self.new }
     {
         let lost = self.disable_upward(hub)?;
+        let _numbers = lost.numbers();
         self.forget(&lost);
         Ok(self.table.insert(lost, Finding::Refused(Cause::Lost))?)
     }
@@ -295,9 +297,13 @@ impl<B: Bus> Host<B> {
     }
 
     /// Takes out the entries at a path and below it, and releases their addresses.
-    #[tactic(auto, using(usb_table::proofs::Removals::takes_one, crate::proofs::Balances::accounts_freed, usb_table::proofs::Removals::taken_apart, crate::proofs::Balances::full_before))]
+    #[tactic(auto, using(usb_table::proofs::Removals::takes_one, crate::proofs::Balances::accounts_freed, crate::proofs::Balances::range_freed, usb_table::proofs::Removals::taken_apart, crate::proofs::Balances::full_before))]
     fn forget(&mut self, path: &PortPath)
-        ensures others { self.new ≡ record self.old { entries = self.new.entries; addresses = self.new.addresses } }
+        ensures others { self.new ≡ record self.old {
+          entries = self.new.entries;
+          pipes = self.new.pipes;
+          addresses = self.new.addresses;
+        } }
         ensures gone { has_at path.now self.new.entries ≡ false }
         ensures rest { self.new.entries ≡ without path.now self.old.entries }
         ensures freed { IsFull self.new.addresses → IsFull self.old.addresses }
@@ -309,7 +315,9 @@ impl<B: Bus> Host<B> {
 }
 
 /// The tier of a device at a path: the root hub is tier 1 (4.1.1).
-fn tier(path: &PortPath) -> u8 {
+fn tier(path: &PortPath) -> u8
+    ensures { result ≡ tier_of path.now }
+{
     path.numbers().len() as u8 + 1
 }
 

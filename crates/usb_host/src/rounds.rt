@@ -1,7 +1,8 @@
 //! The parts of a round.
-ghost use Rattle.std.specs.Prelude.{◌≡◌, ◌≢◌, ◌≤◌, ◌<◌, ◌+◌, ◌*◌, true, false, IfOk, IfErr, IfSome, Ok};
+ghost use Rattle.std.specs.Prelude.{◌≡◌, ◌≢◌, ◌≤◌, ◌<◌, ◌+◌, ◌*◌, true, false, IfOk, IfErr, IfSome, IsSome, Ok};
 ghost use Rattle.usb_world.specs.World.{root_row, changes, IsRootPort};
 ghost use Rattle.usb_port.specs.Path.{IsPath};
+ghost use Rattle.usb_table.specs.Listing.{finding_at};
 ghost use Rattle.usb_table.specs.Next.{IsAfter};
 ghost use Rattle.usb_host.specs.Bounds.{round_bound, roots_bound, hubs_bound, hub_bound, told_bound, looks_bound};
 ghost use Rattle.usb_host.specs.Owning.{KeepsOwned};
@@ -81,6 +82,7 @@ impl<B: Bus> Host<B> {
 
     /// Polls a hub, and handles the ports of which it tells; where it does not answer, it is dropped.
     fn serve_hub(&mut self, hub: &PortPath) -> Result<Round, HostFault>
+        requires { IsSome (finding_at hub.now self.old.entries) }
         ensures path { IsPath hub.now }
         ensures goes { Goes hub_bound self.old self.new }
         ensures told { IfErr result (λ fault. Ended fault self.new.world) }
@@ -135,7 +137,8 @@ impl<B: Bus> Host<B> {
 
     /// The next hub that is known.
     fn next_hub(&self, last: &Option<PortPath>) -> Option<PortPath>
-        ensures { IfSome result (λ hub. IsAfter last.now hub) }
+        ensures listed { IfSome result (λ hub. IsSome (finding_at hub self.now.entries)) }
+        ensures after { IfSome result (λ hub. IsAfter last.now hub) }
     {
         self.table.next_hub(last.as_ref())
     }

@@ -1,6 +1,6 @@
 -- What the calls on devices and ports do to the addresses that devices hold.
-use Rattle.std.proofs.Common.{◌≡◌, ◌≢◌, ◌⊎◌, inl, inr, ◌∙◌, refl, sym, ap, subst, arith, true, false}
-use Rattle.std.specs.Prelude.{ℕ, ◌==◌, Bool, List, length, Some, Result, Ok, Err, OnOk, if◌then◌else◌}
+use Rattle.std.proofs.Common.{◌≡◌, ◌≢◌, ◌⊎◌, inl, inr, ◌∙◌, refl, sym, ap, subst, true, false}
+use Rattle.std.specs.Prelude.{ℕ, List, Some, Result, Ok, Err, OnOk}
 use Rattle.std.specs.Global.{Vec}
 use Rattle.usb_port.specs.PortState.{off}
 use Rattle.usb_port.specs.Status.{seen, status_in}
@@ -20,7 +20,6 @@ use Rattle.usb_world.specs.Live.{is_way}
 use Rattle.usb_transaction.specs.declared.target.Target.{Target}
 use Rattle.usb_transaction.specs.Answerer.{Answerer}
 use Rattle.usb_pipe.specs.declared.fault.PipeFault.{PipeFault}
-use Rattle.usb_pipe.specs.declared.fault.PipeFault.TheVariants.{Stalled}
 use Rattle.usb_pipe.specs.Stages.{Reads}
 use Rattle.usb_address.specs.Claims.{Claims, cleared}
 use Rattle.usb_address.specs.Owned.{Owned, TillFault, KeepsAddresses}
@@ -32,9 +31,11 @@ use Rattle.usb_address.proofs.Setups.{same_setup, reads_harmless, reads_other}
 use Rattle.usb_address.proofs.Transfers.{gives_address}
 use Rattle.usb_hub.specs.declared.port.HubPort.{HubPort}
 use Rattle.usb_hub.specs.declared.port.HubPort.TheVariants.{Root, External}
-use Rattle.usb_hub.specs.Addresses.{IsBelow, Answers, Bares, Resets, GivesAddress, KeepsAnswered, KeepsAsked, KeepsSet, KeepsCleared}
+use Rattle.usb_hub.specs.Addresses.{KeepsDevices, IsBelow, Answers, Bares, Resets, GivesAddress, KeepsAnswered, KeepsAsked, KeepsSet, KeepsCleared}
 use Rattle.usb_hub.specs.Port.{PortRead}
-use Rattle.usb_hub.specs.Requests.{Ends, Told, Ordered, said_in}
+use Rattle.usb_hub.specs.Requests.{Ends, Told, Ordered}
+use Rattle.usb_hub.proofs.Devices.{not_reset, stays_none, told_stays, cleared_stays, set_stays, root_stays}
+use Rattle.usb_hub.proofs.Told.{said}
 
 told_same : (seen status : PortStatus) (result : Result PortStatus PipeFault) → result ≡ Ok seen → result ≡ Ok status → seen ≡ status
 told_same seen status result a b = cc (a, b)
@@ -73,29 +74,9 @@ pub cleared_keeps : (hub : Target) (feature port : ℕ) (old : World) (result : 
 unfolding clear_port_feature
 cleared_keeps hub feature port old result new = ordered_keeps hub (clear_port_feature feature port) old result new refl refl
 
-not_reset : (feature : ℕ) → feature ≢ 4 → (feature == 4) ≡ false
-not_reset feature other = grind (arith, other)
-
 pub set_keeps : (hub : Target) (feature port : ℕ) (old : World) (result : Result (Unit {0}) PipeFault) (new : World) → feature ≢ 4 → Ordered hub (set_port_feature feature port) old result new → KeepsAddresses old new
 unfolding set_port_feature
 set_keeps hub feature port old result new other = ordered_keeps hub (set_port_feature feature port) old result new (rw (not_reset feature other) refl) refl
-
-abbrev said_by : {A : Type 0} → (List ℕ → A) → Bool → Vec ℕ → Result A PipeFault
-said_by read b bytes = if b then Ok (read bytes.items) else Err Stalled
-
-record IsRead {A : Type 0} (read : List ℕ → A) (answer : Result (Vec ℕ) PipeFault) (x : A) : Type 0 where
-  bytes : Vec ℕ
-  is : answer ≡ Ok bytes
-  read_so : x ≡ read bytes.items
-
-said_if : {A : Type 0} (read : List ℕ → A) (b : Bool) (bytes : Vec ℕ) (x : A) → Ok x ≡ said_by read b bytes → IsRead read (Ok bytes) x
-said_if read true bytes x told = record { bytes = bytes; is = refl; read_so = cc }
-said_if read false bytes x told = absurd cc
-
--- what was told was read
-said : {A : Type 0} (read : List ℕ → A) (size : ℕ) (answer : Result (Vec ℕ) PipeFault) (x : A) → Ok x ≡ said_in read size answer → IsRead read answer x
-said read size (Ok bytes) x told = said_if read (length bytes.items == size) bytes x told
-said read size (Err fault) x told = absurd cc
 
 hub_bares : (hub : Target) (port : ℕ) (status : PortStatus) (old new : World) → Told status_in hub (get_port_status port) old (Ok status) new → status.enabled ≡ false → Bares (External hub port) old new
 hub_bares hub port status old new told off = record { bares = bares }
@@ -138,16 +119,28 @@ root_disables_is : (number feature : ℕ) (old new : World) → ClearsRoot numbe
 unfolding clear_call
 root_disables_is number feature old new clears e = (subst (λ n. ClearsRoot number n old new) e clears).step ClearEnable refl
 
-keeps_by : (c : PortCall) (number : ℕ) (old new : World) → is_reset c ≡ false → new ≡ after (root_call c number) old → KeepsAddresses old new
-keeps_by c number old new quiet e = subst (λ w. KeepsAddresses old w) (sym e) (root_keeps c number old quiet)
+-- a call that resets none
+pub record CalledQuietly (number : ℕ) (old new : World) : Type 0 where
+  pub call : PortCall
+  pub quiet : is_reset call ≡ false
+  pub is : new ≡ after (root_call call number) old
 
-root_clear_keeps : (number feature : ℕ) (old new : World) → IsClearFeature feature → ClearsRoot number feature old new → KeepsAddresses old new
+power_is_quiet : (number feature : ℕ) (old new : World) → SetsRoot number feature old new → feature ≡ 8 → CalledQuietly number old new
+power_is_quiet number feature old new sets e = record { call = SetPower; quiet = refl; is = root_set_is number feature old new sets e }
+
+clear_is_quiet : (number feature : ℕ) (old new : World) → IsClearFeature feature → ClearsRoot number feature old new → CalledQuietly number old new
 unfolding clear_call
-root_clear_keeps number feature old new (inl e) clears = keeps_by ClearEnable number old new refl ((subst (λ n. ClearsRoot number n old new) e clears).step ClearEnable refl)
-root_clear_keeps number feature old new (inr (inl e)) clears = keeps_by ClearPower number old new refl ((subst (λ n. ClearsRoot number n old new) e clears).step ClearPower refl)
-root_clear_keeps number feature old new (inr (inr (inl e))) clears = keeps_by ClearConnectionChange number old new refl ((subst (λ n. ClearsRoot number n old new) e clears).step ClearConnectionChange refl)
-root_clear_keeps number feature old new (inr (inr (inr (inl e)))) clears = keeps_by ClearEnableChange number old new refl ((subst (λ n. ClearsRoot number n old new) e clears).step ClearEnableChange refl)
-root_clear_keeps number feature old new (inr (inr (inr (inr e)))) clears = keeps_by ClearResetChange number old new refl ((subst (λ n. ClearsRoot number n old new) e clears).step ClearResetChange refl)
+clear_is_quiet number feature old new (inl e) clears = record { call = ClearEnable; quiet = refl; is = (subst (λ n. ClearsRoot number n old new) e clears).step ClearEnable refl }
+clear_is_quiet number feature old new (inr (inl e)) clears = record { call = ClearPower; quiet = refl; is = (subst (λ n. ClearsRoot number n old new) e clears).step ClearPower refl }
+clear_is_quiet number feature old new (inr (inr (inl e))) clears = record { call = ClearConnectionChange; quiet = refl; is = (subst (λ n. ClearsRoot number n old new) e clears).step ClearConnectionChange refl }
+clear_is_quiet number feature old new (inr (inr (inr (inl e)))) clears = record { call = ClearEnableChange; quiet = refl; is = (subst (λ n. ClearsRoot number n old new) e clears).step ClearEnableChange refl }
+clear_is_quiet number feature old new (inr (inr (inr (inr e)))) clears = record { call = ClearResetChange; quiet = refl; is = (subst (λ n. ClearsRoot number n old new) e clears).step ClearResetChange refl }
+
+keeps_quietly : (number : ℕ) (old new : World) → CalledQuietly number old new → KeepsAddresses old new
+keeps_quietly number old new x = subst (λ w. KeepsAddresses old w) (sym x.is) (root_keeps x.call number old x.quiet)
+
+stays_quietly : (number : ℕ) (old new : World) → CalledQuietly number old new → KeepsDevices old new
+stays_quietly number old new x = subst (λ w. KeepsDevices old w) (sym x.is) (root_stays x.call number old x.quiet)
 
 -- Any port
 
@@ -157,6 +150,7 @@ status_keeps port old result new number e read = rw e (root (rw e at read))
     root : PortRead (Root number) old result new → KeepsAsked (Root number) old result new
     root r = record {
       keeps = subst (λ w. KeepsAddresses old w) (sym r.same) (keeps_none old);
+      devices = subst (λ w. KeepsDevices old w) (sym r.same) (stays_none old);
       bare = λ status told off. record {
         bares = λ f p at o. subst (λ w. TillFault (Owned (cleared f p)) w) (sym r.same)
             (subst (λ p. TillFault (Owned (cleared f p)) old) (sym at) (root_shut f number old (ap (λ s. s.enabled) (told_same (seen (port_at old number)) status result r.status told) ∙ off) o));
@@ -166,12 +160,14 @@ status_keeps port old result new number e read = rw e (root (rw e at read))
 pub hub_status_keeps : (port : HubPort) (hub : Target) (number : ℕ) (old : World) (result : Result PortStatus PipeFault) (new : World) → port ≡ External hub number → Told status_in hub (get_port_status number) old result new → KeepsAddresses old new → KeepsAsked port old result new
 hub_status_keeps port hub number old result new e told keeps = rw e (record {
   keeps = keeps;
+  devices = told_stays hub number old result new told;
   bare = λ status is off. hub_bares hub number status old new (subst (λ r. Told status_in hub (get_port_status number) old r new) is told) off;
 })
 
 pub root_set_keeps : (port : HubPort) (number feature : ℕ) (old new : World) → port ≡ Root number → SetsRoot number feature old new → KeepsSet port feature old new
 root_set_keeps port number feature old new e sets = rw e (record {
-  keeps = λ is. keeps_by SetPower number old new refl (root_set_is number feature old new sets is);
+  keeps = λ is. keeps_quietly number old new (power_is_quiet number feature old new sets is);
+  devices = λ is. stays_quietly number old new (power_is_quiet number feature old new sets is);
   resets = λ is. record {
     resets = λ f p at only o.
         subst (λ w. TillFault (λ w. Owned f w ⊎ Owned (after_reset f p) w) w) (sym (root_reset_is number feature old new sets is))
@@ -184,12 +180,14 @@ pub hub_set_keeps : (port : HubPort) (hub : Target) (number feature : ℕ) (old 
     → Ordered hub (set_port_feature feature number) old result new → KeepsSet port feature old new
 hub_set_keeps port hub number feature old result new e ordered = rw e (record {
   keeps = λ is. set_keeps hub feature number old result new (λ four. absurd (cc (is, four))) ordered;
+  devices = λ is. set_stays hub feature number old result new (λ four. absurd (cc (is, four))) ordered;
   resets = λ is. hub_resets hub number old result new (subst (λ n. Ordered hub (set_port_feature n number) old result new) is ordered);
 })
 
 pub root_clear_keeps_port : (port : HubPort) (number feature : ℕ) (old new : World) → port ≡ Root number → IsClearFeature feature → ClearsRoot number feature old new → KeepsCleared port feature old (Ok tt) new
 root_clear_keeps_port port number feature old new e named clears = rw e (record {
-  keeps = root_clear_keeps number feature old new named clears;
+  keeps = keeps_quietly number old new (clear_is_quiet number feature old new named clears);
+  devices = stays_quietly number old new (clear_is_quiet number feature old new named clears);
   bare = λ is done. record {
     bares = λ f p at o.
         subst (λ w. TillFault (Owned (cleared f p)) w) (sym (root_disables_is number feature old new clears is))
@@ -201,6 +199,7 @@ pub hub_clear_keeps : (port : HubPort) (hub : Target) (number feature : ℕ) (ol
     → Ordered hub (clear_port_feature feature number) old result new → KeepsCleared port feature old result new
 hub_clear_keeps port hub number feature old result new e ordered = rw e (record {
   keeps = cleared_keeps hub feature number old result new ordered;
+  devices = cleared_stays hub feature number old result new ordered;
   bare = λ is done. hub_disables hub number old new
       (subst (λ r. Ordered hub (clear_port_feature 1 number) old r new) done (subst (λ n. Ordered hub (clear_port_feature n number) old result new) is ordered));
 })

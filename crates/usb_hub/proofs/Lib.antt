@@ -1,2 +1,14 @@
+pub mod Rests
+pub mod Acting
+pub mod Calls
+pub mod Devices
 pub mod Keeping
 pub mod Ports
+pub mod Asked
+pub mod Told
+pub mod Powering
+pub mod Settings
+pub mod Standing
+pub mod Statuses
+pub mod Moments
+pub mod Why

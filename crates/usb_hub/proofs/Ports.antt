@@ -1,13 +1,14 @@
 -- What root calls leave, for whoever calls them as a hub's port.
 use Rattle.std.proofs.Common.{◌≡◌, ◌∙◌, refl, sym, ap, subst, arith, true, false, length-set}
-use Rattle.std.specs.Prelude.{ℕ, ◌+◌, ◌-◌, ◌≤◌, Bool, length, Ok, if◌then◌else◌}
+use Rattle.std.specs.Prelude.{ℕ, ◌+◌, ◌-◌, ◌≤◌, Bool, length, List, Option, Ok, if◌then◌else◌}
 use Rattle.usb_port.specs.PortState.{PortState}
 use Rattle.usb_world.specs.World.{World, Spends, IsRootPort, IsSetFeature, IsClearFeature, root_row, change_of, changes}
 use Rattle.usb_world.specs.Steps.{SetsRoot, ClearsRoot}
 use Rattle.usb_world.proofs.Counts.{RootCalled, root_set as root_set_called, root_cleared as root_cleared_called, resets_spend, clears_spend, clears_change, changes-set}
+use Rattle.usb_bus.specs.Traced.{Traced, WentOn}
 use Rattle.usb_hub.specs.declared.port.HubPort.{HubPort}
 use Rattle.usb_hub.specs.declared.port.HubPort.TheVariants.{Root, External}
-use Rattle.usb_hub.specs.Port.{IsPort, order_bound, Quiet, RootSet, RootCleared, PortSet, PortCleared}
+use Rattle.usb_hub.specs.Port.{IsPort, order_bound, Quiet, RootSet, RootCleared, SetWent, PortSet, PortCleared}
 
 quiet : (number : ℕ) (p : PortState) (old new : World) → RootCalled number p old new → Quiet old new
 quiet number p old new c = record {
@@ -64,9 +65,14 @@ port_set-root port number feature old new e is named row = rw e (root_set number
 pub port_cleared-root : (port : HubPort) (number feature : ℕ) (old new : World) → port ≡ Root number → IsPort old port → IsClearFeature feature → ClearsRoot number feature old new → PortCleared port feature old (Ok tt) new
 port_cleared-root port number feature old new e is named row = rw e (root_cleared number feature old new (rw e at is) named row)
 
--- and the attempts that such a call makes
-pub set_spends-root : (port : HubPort) (number feature : ℕ) (old new : World) → port ≡ Root number → PortSet port feature old (Ok tt) new → feature ≡ 4 → Spends (order_bound port) old new
-set_spends-root port number feature old new e set reset = rw e ((rw e at set).resets reset)
+-- and the course that such a call is
+pub set_went-root : (port : HubPort) (number feature : ℕ) (old new : World) (before now : Option (List ℕ)) → port ≡ Root number → PortSet port feature old (Ok tt) new → Traced old before new now → SetWent port feature old before new now
+set_went-root port number feature old new before now e set traced = rw e (traced, (rw e at set).resets)
+
+-- PORT_RESET's attempts, at each port
+pub reset_went : (port : HubPort) {old new : World} {before now : Option (List ℕ)} → SetWent port 4 old before new now → WentOn (order_bound port) old before new now
+reset_went (Root number) p = record { spends = p.1 refl; traced = p.0 }
+reset_went (External hub port) p = p
 
 pub cleared_spends-root : (port : HubPort) (number feature : ℕ) (old new : World) → port ≡ Root number → PortCleared port feature old (Ok tt) new → Spends (order_bound port) old new
 cleared_spends-root port number feature old new e cleared = rw e ((rw e at cleared).count)

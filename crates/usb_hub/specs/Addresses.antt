@@ -1,8 +1,10 @@
--- What the calls on devices and ports do to the addresses that devices hold.
+-- What the calls on devices and ports leave of devices and of the addresses that they hold.
 use Rattle.std.specs.Prelude.{◌≡◌, ◌≢◌, ◌⊎◌, ℕ, List, [], ◌∷◌, ◌++◌, true, false, Some, Result, Ok, OnOk}
 use Rattle.usb_port.specs.Path.{IsPath, IsPortNumber}
 use Rattle.usb_port.specs.declared.status.PortStatus.{PortStatus}
+use Rattle.usb_device.specs.Rows.{State}
 use Rattle.usb_world.specs.Addresses.{after_reset, after_taking}
+use Rattle.usb_world.specs.Devices.{EachWas}
 use Rattle.usb_world.specs.Live.{is_way}
 use Rattle.usb_world.specs.World.{World}
 use Rattle.usb_pipe.specs.declared.fault.PipeFault.{PipeFault}
@@ -10,6 +12,14 @@ use Rattle.usb_address.specs.Claims.{Claims, cleared}
 use Rattle.usb_address.specs.Owned.{Owned, TillFault, KeepsAddresses}
 use Rattle.usb_hub.specs.declared.port.HubPort.{HubPort}
 use Rattle.usb_hub.specs.declared.port.HubPort.TheVariants.{Root, External}
+
+-- a device has the description and the registers that it had
+abbrev pub StaysAs : ℕ → List ℕ → State → State → Type 0
+StaysAs j p s v = (v.spec ≡ s.spec) × (v.registers ≡ s.registers)
+
+-- where no address was held twice, each device that is reachable was so before, and stays as it was
+pub record KeepsDevices (old new : World) : Type 0 where
+  pub stays : new.shared ≡ false → EachWas StaysAs old new
 
 -- the path of a port of the hub whose path claims the address
 pub record IsBelow (f : Claims) (address port : ℕ) (p : List ℕ) : Type 0 where
@@ -50,14 +60,17 @@ pub record KeepsAnswered {A : Type 0} (address : ℕ) (old : World) (result : Re
 -- a port that is told not enabled has none reachable
 pub record KeepsAsked (port : HubPort) (old : World) (result : Result PortStatus PipeFault) (new : World) : Type 0 where
   pub keeps : KeepsAddresses old new
+  pub devices : KeepsDevices old new
   pub bare : (status : PortStatus) → result ≡ Ok status → status.enabled ≡ false → Bares port old new
 
 -- PORT_POWER keeps them, PORT_RESET takes one
 pub record KeepsSet (port : HubPort) (feature : ℕ) (old new : World) : Type 0 where
   pub keeps : feature ≡ 8 → KeepsAddresses old new
+  pub devices : feature ≡ 8 → KeepsDevices old new
   pub resets : feature ≡ 4 → Resets port old new
 
 -- a port that is disabled has none reachable
 pub record KeepsCleared (port : HubPort) (feature : ℕ) (old : World) (result : Result (Unit {0}) PipeFault) (new : World) : Type 0 where
   pub keeps : KeepsAddresses old new
+  pub devices : KeepsDevices old new
   pub bare : feature ≡ 1 → result ≡ Ok tt → Bares port old new

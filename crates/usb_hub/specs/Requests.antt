@@ -1,7 +1,11 @@
 -- What a typed request leaves, and what its answer says.
-use Rattle.std.specs.Prelude.{◌≡◌, ◌≢◌, ℕ, ◌≤◌, ◌==◌, if◌then◌else◌, List, length, slice_index, Result, Ok, Err, IfOk, MatchResult}
+use Rattle.std.specs.Prelude.{◌≡◌, ◌≢◌, ℕ, ◌≤◌, ◌==◌, true, if◌then◌else◌, List, length, slice_index, Result, Ok, Err, IfOk, MatchResult}
 use Rattle.std.specs.Global.{Vec}
 use Rattle.usb_request.specs.declared.setup.Setup.{Setup}
+use Rattle.usb_world.specs.Passes.{IsSettled}
+use Rattle.usb_world.specs.Requested.{is_plain}
+use Rattle.usb_world.specs.Resting.{AsksNothingOf}
+use Rattle.usb_world.specs.Steps.{Course}
 use Rattle.usb_world.specs.World.{World}
 use Rattle.usb_transaction.specs.declared.target.Target.{Target}
 use Rattle.usb_transaction.specs.Trans.{Worked}
@@ -10,23 +14,34 @@ use Rattle.usb_pipe.specs.declared.fault.PipeFault.{PipeFault}
 use Rattle.usb_pipe.specs.declared.fault.PipeFault.TheVariants.{Stalled, Memory}
 use Rattle.usb_pipe.specs.Control.{Faults}
 use Rattle.usb_pipe.specs.Stages.{Reads, Writes}
+use Rattle.usb_pipe.specs.Whole.{IsNotOfBus}
 use Rattle.usb_hub.specs.declared.status.DeviceStatus.{DeviceStatus}
 
 -- how few attempts came before each end of a request that takes so many transactions at least
 abbrev pub Ends : {A : Type 0} → ℕ → World → Result A PipeFault → World → Type 0
 Ends least old result new = MatchResult result (λ done. Worked least old new) (λ fault. Faults 1 old fault new)
 
--- a target was asked for data: how few attempts were made, and which they were; no more bytes came than the request says
+-- over these steps nothing is asked of any port
+abbrev pub AllRest : World → World → Type 0
+AllRest w v = (x : List ℕ) → Course (AsksNothingOf x) w v
+
+-- a target was asked for data: how few attempts were made, and which they were; no more bytes came than the request says, and nothing
+-- was asked of any port
 pub record Asked (target : Target) (request : Setup) (old : World) (answer : Result (Vec ℕ) PipeFault) (new : World) : Type 0 where
+  pub settled : IsSettled old.roots
   pub ends : Ends 3 old answer new
   pub stages : Reads target request old answer new
   pub most : IfOk answer (λ bytes. length bytes.items ≤ request.length)
+  pub rests : IsNotOfBus answer → AllRest old new
 
 -- a target was ordered to do what has no data
 pub record Ordered (target : Target) (request : Setup) (old : World) (result : Result (Unit {0}) PipeFault) (new : World) : Type 0 where
+  pub settled : IsSettled old.roots
   pub ends : Ends 2 old result new
   pub stages : Writes target request old result new
   pub room : result ≢ Err Memory
+  -- a request that is not about ports asks nothing of any
+  pub rests : is_plain request ≡ true → IsNotOfBus result → AllRest old new
 
 -- what an answer says that is to have so many bytes: one of another length is told as a stall
 abbrev pub said_in : {A : Type 0} → (List ℕ → A) → ℕ → Result (Vec ℕ) PipeFault → Result A PipeFault

@@ -6,6 +6,7 @@ ghost use Rattle.usb_request.specs.Requests.{get_port_status, set_port_feature a
 ghost use Rattle.usb_pipe.specs.Control.{control_bound};
 ghost use Rattle.usb_bus.specs.Traced.{Went};
 ghost use Rattle.usb_address.specs.Owned.{KeepsAddresses};
+ghost use Rattle.usb_hub.specs.Addresses.{KeepsDevices};
 ghost use Rattle.usb_hub.specs.Requests.{Told, Ordered};
 
 use crate::PortStatus;
@@ -26,8 +27,10 @@ pub fn hub_port_status<B: Bus>(
 ) -> Result<PortStatus, PipeFault>
     requires { IsTarget hub }
     ensures went { Went B.world B.trace (control_bound hub.max 4) bus.old bus.new }
-    ensures told { Told status_in hub (get_port_status port) (B.world bus.old) result (B.world bus.new) }
+    ensures told { Told status_in hub (get_port_status port)
+        (B.world bus.old) result (B.world bus.new) }
     ensures keeps { KeepsAddresses (B.world bus.old) (B.world bus.new) }
+    ensures devices { KeepsDevices (B.world bus.old) (B.world bus.new) }
 {
     let bytes = ask_all(alloc, bus, hub, Setup::get_port_status(port))?;
     Ok(PortStatus::from_bytes(bytes))
@@ -38,7 +41,7 @@ pub fn hub_port_status<B: Bus>(
 /// # Errors
 ///
 /// Those of `control_none`; after `Busy` and `NoAnswer` the feature may be set.
-#[tactic(auto, using(crate::proofs::Keeping::set_keeps))]
+#[tactic(auto, using(crate::proofs::Keeping::set_keeps, crate::proofs::Devices::set_stays))]
 pub fn set_hub_port<B: Bus>(
     bus: &mut B,
     hub: Target,
@@ -47,8 +50,10 @@ pub fn set_hub_port<B: Bus>(
 ) -> Result<(), PipeFault>
     requires { IsTarget hub }
     ensures went { Went B.world B.trace 1600 bus.old bus.new }
-    ensures ordered { Ordered hub (set_feature feature port) (B.world bus.old) result (B.world bus.new) }
+    ensures ordered { Ordered hub (set_feature feature port)
+        (B.world bus.old) result (B.world bus.new) }
     ensures keeps { feature ≢ 4 → KeepsAddresses (B.world bus.old) (B.world bus.new) }
+    ensures devices { feature ≢ 4 → KeepsDevices (B.world bus.old) (B.world bus.new) }
 {
     order(bus, hub, Setup::set_port_feature(feature, port))
 }
@@ -58,7 +63,7 @@ pub fn set_hub_port<B: Bus>(
 /// # Errors
 ///
 /// Those of `control_none`; after `Busy` and `NoAnswer` the feature may be cleared.
-#[tactic(auto, using(crate::proofs::Keeping::cleared_keeps))]
+#[tactic(auto, using(crate::proofs::Keeping::cleared_keeps, crate::proofs::Devices::cleared_stays))]
 pub fn clear_hub_port<B: Bus>(
     bus: &mut B,
     hub: Target,
@@ -67,8 +72,10 @@ pub fn clear_hub_port<B: Bus>(
 ) -> Result<(), PipeFault>
     requires { IsTarget hub }
     ensures went { Went B.world B.trace 1600 bus.old bus.new }
-    ensures ordered { Ordered hub (clear_feature feature port) (B.world bus.old) result (B.world bus.new) }
+    ensures ordered { Ordered hub (clear_feature feature port)
+        (B.world bus.old) result (B.world bus.new) }
     ensures keeps { KeepsAddresses (B.world bus.old) (B.world bus.new) }
+    ensures devices { KeepsDevices (B.world bus.old) (B.world bus.new) }
 {
     order(bus, hub, Setup::clear_port_feature(feature, port))
 }

@@ -1,10 +1,12 @@
 //! The ports of hubs, the root's among them.
 ghost use Rattle.std.specs.Prelude.{◌≡◌, IfErr};
+ghost use Rattle.usb_device.specs.Calls.{set_call, clear_call};
 ghost use Rattle.usb_world.specs.World.{IsSetFeature, IsClearFeature};
-ghost use Rattle.usb_bus.specs.Traced.{Traced, Went};
+ghost use Rattle.usb_bus.specs.Traced.{Went};
 ghost use Rattle.usb_pipe.specs.Control.{Faults};
 ghost use Rattle.usb_hub.specs.Addresses.{KeepsAsked, KeepsSet, KeepsCleared};
-ghost use Rattle.usb_hub.specs.Port.{IsPort, PortRead, PortSet, PortCleared, status_bound, order_bound};
+ghost use Rattle.usb_hub.specs.Moments.{TellsPort, CallsPort};
+ghost use Rattle.usb_hub.specs.Port.{IsPort, PortRead, SetWent, PortSet, PortCleared, status_bound, order_bound};
 
 use crate::external::{clear_hub_port, hub_port_status, set_hub_port};
 use crate::{PipeFault, PortStatus};
@@ -35,6 +37,7 @@ pub fn port_status<B: Bus>(
     ensures went { Went B.world B.trace (status_bound port) bus.old bus.new }
     ensures fault { IfErr result (λ fault. Faults 1 (B.world bus.old) fault (B.world bus.new)) }
     ensures status { PortRead port (B.world bus.old) result (B.world bus.new) }
+    ensures told { TellsPort port (B.world bus.old) result (B.world bus.new) }
     ensures addresses { KeepsAsked port (B.world bus.old) result (B.world bus.new) }
 {
     match port {
@@ -54,11 +57,12 @@ pub fn set_port<B: Bus>(bus: &mut B, port: HubPort, feature: u16) -> Result<(), 
     requires port { IsPort (B.world bus.old) port }
     requires named { IsSetFeature feature }
     // PORT_POWER of a root port may set its C_PORT_CONNECTION.
-    ensures went { feature ≡ 4 → Went B.world B.trace (order_bound port) bus.old bus.new }
-    ensures traced { Traced (B.world bus.old) (B.trace bus.old) (B.world bus.new) (B.trace bus.new) }
+    ensures went { SetWent port feature (B.world bus.old) (B.trace bus.old)
+        (B.world bus.new) (B.trace bus.new) }
     ensures fault { IfErr result (λ fault. Faults 1 (B.world bus.old) fault (B.world bus.new)) }
     ensures effect { PortSet port feature (B.world bus.old) result (B.world bus.new) }
     ensures addresses { KeepsSet port feature (B.world bus.old) (B.world bus.new) }
+    ensures ports { CallsPort port (set_call feature) (B.world bus.old) result (B.world bus.new) }
 {
     match port {
         HubPort::Root(number) => {
@@ -83,6 +87,7 @@ pub fn clear_port<B: Bus>(bus: &mut B, port: HubPort, feature: u16) -> Result<()
     ensures fault { IfErr result (λ fault. Faults 1 (B.world bus.old) fault (B.world bus.new)) }
     ensures effect { PortCleared port feature (B.world bus.old) result (B.world bus.new) }
     ensures addresses { KeepsCleared port feature (B.world bus.old) result (B.world bus.new) }
+    ensures ports { CallsPort port (clear_call feature) (B.world bus.old) result (B.world bus.new) }
 {
     match port {
         HubPort::Root(number) => {

@@ -1,13 +1,17 @@
 //! The standard's requests to a device (9.4).
-ghost use Rattle.std.specs.Prelude.{◌≡◌, ◌≢◌, ◌≤◌, vec_len, Err, IfOk, MatchResult};
+ghost use Rattle.std.specs.Prelude.{◌≡◌, ◌≤◌, false};
 ghost use Rattle.usb_bus.specs.Traced.{Went};
-ghost use Rattle.usb_transaction.specs.Trans.{IsTarget, Worked};
-ghost use Rattle.usb_pipe.specs.Control.{Faults, control_bound};
-ghost use Rattle.usb_pipe.specs.Stages.{Reads, Writes};
+ghost use Rattle.usb_world.specs.Devices.{EachWas};
+ghost use Rattle.usb_transaction.specs.Trans.{IsTarget};
+ghost use Rattle.usb_transaction.specs.Why.{NoThreeDamaged};
+ghost use Rattle.usb_pipe.specs.Control.{control_bound};
+ghost use Rattle.usb_pipe.specs.WhyWhole.{WhyWrite};
 ghost use Rattle.usb_request.specs.Requests.{get_device_descriptor, get_configuration_descriptor, get_string_descriptor, get_hub_descriptor, get_status as status_request, set_address as address_request, set_configuration as configuration_request};
 ghost use Rattle.usb_address.specs.Owned.{KeepsAddresses};
 ghost use Rattle.usb_hub.specs.Addresses.{KeepsAnswered, GivesAddress};
-ghost use Rattle.usb_hub.specs.Requests.{Asked, Told, device_status};
+ghost use Rattle.usb_hub.specs.Asked.{DeviceAsked, ConfigAsked, StringAsked, HubAsked, StatusAsked, WhyAsked};
+ghost use Rattle.usb_hub.specs.Requests.{Asked, Told, Ordered, device_status};
+ghost use Rattle.usb_hub.specs.Settings.{AddressAsked, ConfigurationAsked};
 
 use crate::DeviceStatus;
 use crate::asking::{ask, ask_all, order};
@@ -28,9 +32,13 @@ pub fn get_device<B: Bus>(
     requires target { IsTarget target }
     requires some { 1 ≤ length }
     ensures went { Went B.world B.trace (control_bound target.max length) bus.old bus.new }
-    ensures ends { MatchResult result (λ _. Worked 3 (B.world bus.old) (B.world bus.new)) (λ fault. Faults 1 (B.world bus.old) fault (B.world bus.new)) }
-    ensures stages { Reads target (get_device_descriptor length) (B.world bus.old) result (B.world bus.new) }
-    ensures most { IfOk result (λ bytes. vec_len bytes ≤ length) }
+    ensures asked { Asked target (get_device_descriptor length)
+        (B.world bus.old) result (B.world bus.new) }
+    ensures what { (B.world bus.new).shared ≡ false
+        → EachWas (DeviceAsked target length result) (B.world bus.old) (B.world bus.new) }
+    ensures why { NoThreeDamaged (B.world bus.old) → 8 ≤ target.max
+        → (B.world bus.new).shared ≡ false
+        → EachWas (WhyAsked target length result) (B.world bus.old) (B.world bus.new) }
     ensures addresses { KeepsAnswered target.addr (B.world bus.old) result (B.world bus.new) }
 {
     ask(alloc, bus, target, Setup::get_device_descriptor(length))
@@ -52,9 +60,13 @@ pub fn get_config<B: Bus>(
     requires target { IsTarget target }
     requires some { 1 ≤ length }
     ensures went { Went B.world B.trace (control_bound target.max length) bus.old bus.new }
-    ensures ends { MatchResult result (λ _. Worked 3 (B.world bus.old) (B.world bus.new)) (λ fault. Faults 1 (B.world bus.old) fault (B.world bus.new)) }
-    ensures stages { Reads target (get_configuration_descriptor index length) (B.world bus.old) result (B.world bus.new) }
-    ensures most { IfOk result (λ bytes. vec_len bytes ≤ length) }
+    ensures asked { Asked target (get_configuration_descriptor index length)
+        (B.world bus.old) result (B.world bus.new) }
+    ensures what { (B.world bus.new).shared ≡ false
+        → EachWas (ConfigAsked target index length result) (B.world bus.old) (B.world bus.new) }
+    ensures why { NoThreeDamaged (B.world bus.old) → 8 ≤ target.max
+        → (B.world bus.new).shared ≡ false
+        → EachWas (WhyAsked target length result) (B.world bus.old) (B.world bus.new) }
     ensures keeps { KeepsAddresses (B.world bus.old) (B.world bus.new) }
 {
     ask(
@@ -80,9 +92,13 @@ pub fn get_string<B: Bus>(
 ) -> Result<Vec<u8>, PipeFault>
     requires target { IsTarget target }
     ensures went { Went B.world B.trace (control_bound target.max 255) bus.old bus.new }
-    ensures ends { MatchResult result (λ _. Worked 3 (B.world bus.old) (B.world bus.new)) (λ fault. Faults 1 (B.world bus.old) fault (B.world bus.new)) }
-    ensures stages { Reads target (get_string_descriptor index language) (B.world bus.old) result (B.world bus.new) }
-    ensures most { IfOk result (λ bytes. vec_len bytes ≤ 255) }
+    ensures asked { Asked target (get_string_descriptor index language)
+        (B.world bus.old) result (B.world bus.new) }
+    ensures what { (B.world bus.new).shared ≡ false
+        → EachWas (StringAsked target index result) (B.world bus.old) (B.world bus.new) }
+    ensures why { NoThreeDamaged (B.world bus.old) → 8 ≤ target.max
+        → (B.world bus.new).shared ≡ false
+        → EachWas (WhyAsked target 255 result) (B.world bus.old) (B.world bus.new) }
     ensures keeps { KeepsAddresses (B.world bus.old) (B.world bus.new) }
 {
     ask(
@@ -106,6 +122,11 @@ pub fn hub_descriptor<B: Bus>(
     requires { IsTarget target }
     ensures went { Went B.world B.trace (control_bound target.max 9) bus.old bus.new }
     ensures asked { Asked target get_hub_descriptor (B.world bus.old) result (B.world bus.new) }
+    ensures what { (B.world bus.new).shared ≡ false
+        → EachWas (HubAsked target result) (B.world bus.old) (B.world bus.new) }
+    ensures why { NoThreeDamaged (B.world bus.old) → 8 ≤ target.max
+        → (B.world bus.new).shared ≡ false
+        → EachWas (WhyAsked target 9 result) (B.world bus.old) (B.world bus.new) }
     ensures keeps { KeepsAddresses (B.world bus.old) (B.world bus.new) }
 {
     ask(alloc, bus, target, Setup::get_hub_descriptor())
@@ -123,7 +144,13 @@ pub fn get_status<B: Bus>(
 ) -> Result<DeviceStatus, PipeFault>
     requires { IsTarget target }
     ensures went { Went B.world B.trace (control_bound target.max 2) bus.old bus.new }
-    ensures told { Told device_status target status_request (B.world bus.old) result (B.world bus.new) }
+    ensures told { Told device_status target status_request
+        (B.world bus.old) result (B.world bus.new) }
+    ensures what { (B.world bus.new).shared ≡ false
+        → EachWas (StatusAsked target result) (B.world bus.old) (B.world bus.new) }
+    ensures why { NoThreeDamaged (B.world bus.old) → 8 ≤ target.max
+        → (B.world bus.new).shared ≡ false
+        → EachWas (WhyAsked target 2 result) (B.world bus.old) (B.world bus.new) }
     ensures keeps { KeepsAddresses (B.world bus.old) (B.world bus.new) }
 {
     let bytes = ask_all(alloc, bus, target, Setup::get_status())?;
@@ -142,9 +169,13 @@ pub fn set_address<B: Bus>(bus: &mut B, target: Target, address: u8) -> Result<(
     requires least { 1 ≤ address }
     requires most { address ≤ 127 }
     ensures went { Went B.world B.trace 1600 bus.old bus.new }
-    ensures ends { MatchResult result (λ _. Worked 2 (B.world bus.old) (B.world bus.new)) (λ fault. Faults 1 (B.world bus.old) fault (B.world bus.new)) }
-    ensures stages { Writes target (address_request address) (B.world bus.old) result (B.world bus.new) }
-    ensures room { result ≢ Err PipeFault.Memory }
+    ensures ordered { Ordered target (address_request address)
+        (B.world bus.old) result (B.world bus.new) }
+    ensures what { (B.world bus.new).shared ≡ false
+        → EachWas (AddressAsked target address result (B.world bus.old) (B.world bus.new))
+        (B.world bus.old) (B.world bus.new) }
+    ensures why { NoThreeDamaged (B.world bus.old) → (B.world bus.new).shared ≡ false
+        → EachWas (WhyWrite target result) (B.world bus.old) (B.world bus.new) }
     ensures gives { GivesAddress target.addr address (B.world bus.old) (B.world bus.new) }
 {
     order(bus, target, Setup::set_address(address))
@@ -160,9 +191,13 @@ pub fn set_address<B: Bus>(bus: &mut B, target: Target, address: u8) -> Result<(
 pub fn set_configuration<B: Bus>(bus: &mut B, target: Target, value: u8) -> Result<(), PipeFault>
     requires target { IsTarget target }
     ensures went { Went B.world B.trace 1600 bus.old bus.new }
-    ensures ends { MatchResult result (λ _. Worked 2 (B.world bus.old) (B.world bus.new)) (λ fault. Faults 1 (B.world bus.old) fault (B.world bus.new)) }
-    ensures stages { Writes target (configuration_request value) (B.world bus.old) result (B.world bus.new) }
-    ensures room { result ≢ Err PipeFault.Memory }
+    ensures ordered { Ordered target (configuration_request value)
+        (B.world bus.old) result (B.world bus.new) }
+    ensures what { (B.world bus.new).shared ≡ false
+        → EachWas (ConfigurationAsked target value result (B.world bus.new))
+        (B.world bus.old) (B.world bus.new) }
+    ensures why { NoThreeDamaged (B.world bus.old) → (B.world bus.new).shared ≡ false
+        → EachWas (WhyWrite target result) (B.world bus.old) (B.world bus.new) }
     ensures keeps { KeepsAddresses (B.world bus.old) (B.world bus.new) }
 {
     order(bus, target, Setup::set_configuration(value))

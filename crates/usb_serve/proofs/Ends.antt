@@ -1,6 +1,6 @@
 -- Where a plan's run ends.
-use Rattle.std.proofs.Common.{◌≡◌, ◌∙◌, refl, sym, ap, ap₂, subst, Ok, IsErrAnd, arith, ℕ, ◌+◌, zero, suc, length, List, Option, None, Result, Err, false}
-use Rattle.std.specs.Prelude.{IfOk, IfErr}
+use Rattle.std.proofs.Common.{◌≡◌, ◌∙◌, refl, sym, ap, ap₂, subst, Ok, IsErrAnd, arith, ℕ, ◌+◌, zero, suc, length, List, Option, Result, Err, false}
+use Rattle.std.specs.Prelude.{IfErr}
 use Rattle.usb_device.specs.Tree.{new_ports, row_of}
 use Rattle.usb_world.specs.PlanData.{PlanData}
 use Rattle.usb_world.specs.Steps.{opening}
@@ -8,7 +8,6 @@ use Rattle.usb_world.specs.declared.types.BusFault.{BusFault}
 use Rattle.usb_world.specs.declared.types.BusFault.TheVariants.{LimitReached, Memory, TraceFailed}
 use Rattle.usb_world.specs.World.{World, Failed, changes, change_of}
 use Rattle.usb_host.specs.Hosting.{Hosting, opening as host_opening, with_power}
-use Rattle.usb_serve.specs.declared.runs.Report.{Report}
 use Rattle.usb_serve.specs.declared.runs.RunFault.{RunFault}
 use Rattle.usb_serve.specs.declared.runs.RunFault.TheVariants.{Memory as NoMemory}
 use Rattle.usb_serve.specs.declared.transfer.TransferFault.{TransferFault}
@@ -18,10 +17,10 @@ use Rattle.usb_pipe.specs.declared.fault.PipeFault.TheVariants as pipe
 use Rattle.usb_host.specs.declared.fault.HostFault.{HostFault}
 use Rattle.usb_host.specs.declared.fault.HostFault.TheVariants as host
 use Rattle.usb_host.specs.Told.{IsOfPipe, TransferTold, is_final}
-use Rattle.usb_bus.specs.Traced.{Traced}
-use Rattle.usb_serve.specs.Ran.{Goes, GoesOn}
-use Rattle.usb_serve.specs.Run.{Counts, EndsWell, IsCaused, RunsOn, run_fault}
-use Rattle.usb_serve.proofs.Goings.{on_none, on_then, on_went}
+use Rattle.usb_bus.specs.Traced.{Traced, WentOn}
+use Rattle.usb_serve.specs.Ran.{Works}
+use Rattle.usb_serve.specs.Run.{IsCaused, RunsOn, WorksOn, run_fault}
+use Rattle.usb_serve.specs.Served.{unpowered}
 
 powered_length : (n : ℕ) → length (row_of (with_power (new_ports n))) ≡ length (row_of (new_ports n))
 unfolding new_ports row_of with_power
@@ -35,9 +34,9 @@ powered_changes zero = refl
 powered_changes (suc n) = ap (λ m. 0 + m) (powered_changes n)
 
 -- a plan's run begins with power at the root ports
-pub goes_opening : (plan : PlanData) {t s : Option (List ℕ)} → Traced (opening plan) t (record (opening plan) { roots = with_power (new_ports plan.roots) }) s
-    → GoesOn (opening plan) t (record (opening plan) { roots = with_power (new_ports plan.roots) }) s
-goes_opening plan traced = on_went 0 (record {
+powered_went : (plan : PlanData) {t s : Option (List ℕ)} → Traced (opening plan) t (record (opening plan) { roots = with_power (new_ports plan.roots) }) s
+    → WentOn 0 (opening plan) t (record (opening plan) { roots = with_power (new_ports plan.roots) }) s
+powered_went plan traced = record {
   spends = record {
     limit = refl;
     roots = powered_length plan.roots;
@@ -49,15 +48,7 @@ goes_opening plan traced = on_went 0 (record {
     served = omega (arith, powered_changes plan.roots);
   };
   traced = traced;
-})
-
--- where memory is refused for its bus
-pub ends_unopened : (plan : PlanData) (fault : RunFault) → EndsWell plan (Err fault)
-ends_unopened plan fault = record { last = opening plan; before = None; now = None; goes = on_none; single = refl; counts = tt }
-
-pub ends_opened : (plan : PlanData) (result : Result Report RunFault) {w v : World} {t r s : Option (List ℕ)} → GoesOn (opening plan) t w r → GoesOn w r v s → v.shared ≡ false
-    → IfOk result (λ report. Counts report v) → EndsWell plan result
-ends_opened plan result {w} {v} {t} {r} {s} opened goes single counts = record { last = v; before = t; now = s; goes = on_then opened goes; single = single; counts = counts }
+}
 
 -- a fault that a bus told has its cause
 pub caused_by : (fault : BusFault) (w : World) → Failed fault w → IsCaused (run_fault fault) w
@@ -66,12 +57,15 @@ caused_by Memory w failed = tt
 caused_by TraceFailed w failed = failed.told
 
 -- a part of a run that ends with a fault
-pub failed_on : {A : Type 0} {old new : Hosting} (result : Result A RunFault) (fault : RunFault) → IsErrAnd result (λ e. e ≡ fault) → Goes old new → IsCaused fault new.world → RunsOn old result new
+pub failed_on : {A : Type 0} {old new : Hosting} (result : Result A RunFault) (fault : RunFault) → IsErrAnd result (λ e. e ≡ fault) → Works old new → IsCaused fault new.world → RunsOn WorksOn old result new
 failed_on (Ok x) fault is goes caused = absurd is
 failed_on {A} {old} {new} (Err e) fault is goes caused = record { goes = goes; running = tt; caused = subst (λ f. IsCaused f new.world) (sym is) caused }
 
-pub told_on : {A : Type 0} {old new : Hosting} (result : Result A RunFault) (fault : BusFault) → IsErrAnd result (λ e. e ≡ run_fault fault) → Goes old new → IsCaused (run_fault fault) new.world → RunsOn old result new
-told_on result fault is goes caused = failed_on result (run_fault fault) is goes caused
+-- a part of a run with events that ends with a fault
+pub stopped_on : {A : Type 0} (Goes : Hosting → Result A RunFault → Hosting → Type 0) {old new : Hosting} (result : Result A RunFault) (fault : RunFault) → IsErrAnd result (λ e. e ≡ fault)
+    → ((e : RunFault) → Goes old (Err e) new) → IsCaused fault new.world → RunsOn Goes old result new
+stopped_on Goes (Ok x) fault is stops caused = absurd is
+stopped_on Goes {old} {new} (Err e) fault is stops caused = record { goes = stops e; running = tt; caused = subst (λ f. IsCaused f new.world) (sym is) caused }
 
 -- Transfers
 
@@ -110,12 +104,11 @@ answered_caused {A} (Err (host.Bus fault)) f w told e = subst (λ x. IsCaused x 
 answered_caused {A} (Err host.Memory) f w told e = subst (λ x. IsCaused x w) (err_same {A = A} NoMemory f e) tt
 
 -- a plan's run begins with a host of its bus
-pub goes_begun : (plan : PlanData) (w : World) (t : Option (List ℕ)) (h : Hosting) {before : Option (List ℕ)} → w ≡ opening plan → t ≡ before → h ≡ host_opening w t → Traced w t h.world h.trace
-    → GoesOn (opening plan) before h.world h.trace
-goes_begun plan w t h {before} same silent opens traced =
+pub works_powered : (plan : PlanData) (w : World) (t : Option (List ℕ)) (h : Hosting) {before : Option (List ℕ)} → w ≡ opening plan → t ≡ before → h ≡ host_opening w t → Traced w t h.world h.trace
+    → Works (unpowered plan before) h
+works_powered plan w t h {before} same silent opens traced =
     let is : h ≡ host_opening (opening plan) before = opens ∙ ap₂ host_opening same silent in
     let P : World → Type 0 = λ x. Traced x t h.world h.trace in
     let Q : Option (List ℕ) → Type 0 = λ x. Traced (opening plan) x h.world h.trace in
     let R : Hosting → Type 0 = λ k. Traced (opening plan) before k.world k.trace in
-    let S : Hosting → Type 0 = λ k. GoesOn (opening plan) before k.world k.trace in
-    subst S (sym is) (goes_opening plan (subst R is (subst Q silent (subst P same traced))))
+    subst (Works (unpowered plan before)) (sym is) (record { most = 0; went = powered_went plan (subst R is (subst Q silent (subst P same traced))) })

@@ -1,56 +1,104 @@
--- How the parts of a run join.
-use Rattle.std.proofs.Common.{◌≡◌, subst, arith, ℕ, ◌+◌, ◌≤◌, List, Option, Result}
+-- How the parts of a run join, and what they leave of the counts.
+use Rattle.std.proofs.Common.{◌≡◌, refl, subst, arith, ℕ, ◌+◌, ◌≤◌, List, Bool, Option, None, Some, Result, Ok, Err}
 use Rattle.usb_world.specs.declared.event.Due.{Due}
+use Rattle.usb_world.specs.declared.event.Due.TheVariants.{Changed, Show, Send, Receive, Clear}
 use Rattle.usb_world.specs.declared.types.BusFault.{BusFault}
-use Rattle.usb_world.specs.World.{World, to_come}
+use Rattle.usb_world.specs.World.{World, Spends, to_come}
 use Rattle.usb_world.proofs.Counts.{spends_none, spends_then}
-use Rattle.usb_bus.specs.Traced.{Takes, WentOn}
+use Rattle.usb_bus.specs.Traced.{Takes}
+use Rattle.usb_bus.proofs.Wents.{went_none, went_then}
 use Rattle.usb_host.specs.Hosting.{Hosting}
 use Rattle.usb_host.specs.Progress.{HostWent}
-use Rattle.usb_serve.specs.Ran.{Ran, idle, worked, took, GoesOn, Goes}
+use Rattle.usb_serve.specs.declared.runs.Item.{Item}
+use Rattle.usb_serve.specs.declared.runs.RunFault.{RunFault}
+use Rattle.usb_serve.specs.Ran.{Ran, idle, worked, changed, Reaches, Works}
+use Rattle.usb_serve.specs.Transcript.{Makes, asked, last, NextAsked, Stops, between, at_event}
+use Rattle.usb_serve.specs.Transfers.{IsItemOf}
 
-ran_then : {a b : World} {t r : Option (List ℕ)} {c : World} {s : Option (List ℕ)} → Ran a t b r → Ran b r c s → Ran a t c s
+pub works_none : (h : Hosting) → Works h h
+works_none h = record { most = 0; went = went_none }
+
+pub works_then : (a b c : Hosting) → Works a b → Works b c → Works a c
+works_then a b c v w = record { most = v.most + w.most; went = went_then v.most w.most v.went w.went }
+
+pub works_from : (n : ℕ) (a b : Hosting) → HostWent n a b → Works a b
+works_from n a b went = record { most = n; went = went }
+
+pub ran_then : {a b c : Hosting} → Ran a b → Ran b c → Ran a c
 ran_then x idle = x
-ran_then x (worked before traced) = worked (ran_then x before) traced
-ran_then x (took result before takes) = took result (ran_then x before) takes
+ran_then x (worked before works) = worked (ran_then x before) works
+ran_then x (changed {h} {k} before comes) = changed {h = h} {k = k} (ran_then x before) comes
 
-pub on_none : {w : World} {t : Option (List ℕ)} → GoesOn w t w t
-on_none {w} = record { count = 0; spends = spends_none w; ran = idle }
+-- an event that makes no item asked for nothing
+pub due_changed : (due : Due) (h : Hosting) → IsItemOf due None h → due ≡ Changed
+due_changed Changed h is = refl
+due_changed Show h is = cc is
+due_changed (Send path bytes) h is = cc is.1
+due_changed (Receive path packets) h is = cc is.1
+due_changed (Clear path) h is = cc is.1
 
-pub on_then : {a b c : World} {t r s : Option (List ℕ)} → GoesOn a t b r → GoesOn b r c s → GoesOn a t c s
-on_then {a} {b} {c} g h = record { count = g.count + h.count; spends = spends_then g.count h.count a b c g.spends h.spends; ran = ran_then g.ran h.ran }
+-- one event more that made no item
+pub ran_changed : {a b c : Hosting} (due : Due) (d : Hosting) → Ran a b → Reaches b (Ok (Some due)) c → Works c d → IsItemOf due None d → Ran a d
+ran_changed {a} {b} {c} due d before reaches works is =
+    let plain : Reaches b (Ok (Some Changed)) c = subst (λ x. Reaches b (Ok (Some x)) c) (due_changed due d is) reaches in
+    worked (changed {h = plain.mid} {k = c} (ran_then before plain.ran) plain.comes) works
 
--- what went between two states of a bus
-pub on_went : (n : ℕ) {a b : World} {t s : Option (List ℕ)} → WentOn n a t b s → GoesOn a t b s
-on_went n went = record { count = n; spends = went.spends; ran = worked idle went.traced }
+-- an event behind calls of the host, whose bus stands for its world
+pub reaches_taken : (old mid new : Hosting) (result : Result (Option Due) BusFault) {w : World} {t : Option (List ℕ)} → Works old mid → w ≡ mid.world → t ≡ mid.trace → Takes w t result new.world new.trace
+    → Reaches old result new
+reaches_taken old mid new result {w} {t} works same silent takes =
+    let P : World → Type 0 = λ x. Takes x mid.trace result new.world new.trace in
+    let Q : Option (List ℕ) → Type 0 = λ x. Takes w x result new.world new.trace in
+    record { mid = mid; ran = worked idle works; comes = subst P same (subst Q silent takes) }
 
--- an event
-pub on_taken : {result : Result (Option Due) BusFault} {a b : World} {t s : Option (List ℕ)} → Takes a t result b s → GoesOn a t b s
-on_taken {result} takes = record { count = 0; spends = takes.took.spends; ran = took result idle takes }
+-- what comes after calls of the host and events that asked nothing
+pub reaches_after : {a b c : Hosting} {result : Result (Option Due) BusFault} → Ran a b → Reaches b result c → Reaches a result c
+reaches_after before reaches = record { mid = reaches.mid; ran = ran_then before reaches.ran; comes = reaches.comes }
 
-pub goes_none : (h : Hosting) → Goes h h
-goes_none h = on_none
+pub stops_after : {a b c : Hosting} → Ran a b → Stops b c → Stops a c
+stops_after before (between ran) = between (ran_then before ran)
+stops_after before (at_event result reaches works) = at_event result (reaches_after before reaches) works
 
-pub goes_then : (a b c : Hosting) → Goes a b → Goes b c → Goes a c
-goes_then a b c g h = on_then g h
+-- Counts
 
-pub goes_thrice : (a b c d : Hosting) → Goes a b → Goes b c → Goes c d → Goes a d
-goes_thrice a b c d g h i = on_then (on_then g h) i
+abbrev pub Spent : Hosting → Hosting → Type 0
+Spent old new = (n : ℕ) × Spends n old.world new.world
 
-pub goes_from : (n : ℕ) (a b : Hosting) → HostWent n a b → Goes a b
-goes_from n a b went = on_went n went
+pub spent_then : (a b c : Hosting) → Spent a b → Spent b c → Spent a c
+spent_then a b c (m, s) (n, t) = (m + n, spends_then m n a.world b.world c.world s t)
 
--- what an event leaves of a host that has gone on
-pub goes_taken : {result : Result (Option Due) BusFault} {w v : World} {t s : Option (List ℕ)} (a b : Hosting) → Goes a b → w ≡ b.world → t ≡ b.trace → Takes w t result v s → GoesOn a.world a.trace v s
-goes_taken {result} {w} {v} {t} {s} a b g same silent takes =
-    let P : World → Type 0 = λ x. Takes x b.trace result v s in
-    let Q : Option (List ℕ) → Type 0 = λ x. Takes w x result v s in
-    on_then g (on_taken (subst P same (subst Q silent takes)))
+pub works_spent : {a b : Hosting} → Works a b → Spent a b
+works_spent works = (works.most, works.went.spends)
+
+pub ran_spent : {a b : Hosting} → Ran a b → Spent a b
+ran_spent {a} idle = (0, spends_none a.world)
+ran_spent {a} (worked {h} {k} before works) = spent_then a h k (ran_spent before) (works_spent works)
+ran_spent {a} (changed {h} {k} before comes) = spent_then a h k (ran_spent before) (0, comes.took.spends)
+
+pub reaches_spent : {a b : Hosting} {result : Result (Option Due) BusFault} → Reaches a result b → Spent a b
+reaches_spent {a} {b} reaches = spent_then a reaches.mid b (ran_spent reaches.ran) (0, reaches.comes.took.spends)
+
+pub makes_spent : {a b : Hosting} {item : Item} {over : Bool} → Makes a item over b → Spent a b
+makes_spent {a} (asked {mid = mid} {new = new} due reaches works is) = spent_then a mid new (reaches_spent reaches) (works_spent works)
+makes_spent (last reaches) = reaches_spent reaches
+
+pub stops_spent : {a b : Hosting} → Stops a b → Spent a b
+stops_spent (between ran) = ran_spent ran
+stops_spent {a} (at_event {mid} {new} result reaches works) = spent_then a mid new (reaches_spent reaches) (works_spent works)
+
+pub asked_spent : (a b : Hosting) (result : Result (Option Item) RunFault) → NextAsked a result b → Spent a b
+asked_spent a b (Ok None) reaches = reaches_spent reaches
+asked_spent a b (Ok (Some item)) makes = makes_spent makes
+asked_spent a b (Err fault) stops = stops_spent stops
 
 -- a run that began within its limit ends within it
-pub goes_within : {a b : World} {t s : Option (List ℕ)} → GoesOn a t b s → a.attempts ≤ a.limit → b.attempts ≤ a.limit
-goes_within {a} {b} g le = subst (λ n. b.attempts ≤ n) g.spends.limit (g.spends.within le)
+pub within_limit : (a b : Hosting) → Spent a b → a.world.attempts ≤ a.world.limit → b.world.attempts ≤ a.world.limit
+within_limit a b (n, s) le = subst (λ n. b.world.attempts ≤ n) s.limit (s.within le)
 
 -- as many events are to come, or fewer
-pub goes_left : {a b : World} {t s : Option (List ℕ)} → GoesOn a t b s → to_come b ≤ to_come a
-goes_left g = omega (arith, g.spends.events, g.spends.onward)
+pub no_more_events : (a b : Hosting) → Spent a b → to_come b.world ≤ to_come a.world
+no_more_events a b (n, s) = omega (arith, s.events, s.onward)
+
+-- no event is added
+pub few_events : (a b : Hosting) → Spent a b → a.world.taken + to_come a.world ≤ 10000 → b.world.taken + to_come b.world ≤ 10000
+few_events a b (n, s) le = omega (arith, s.events, le)

@@ -1,5 +1,9 @@
 pub mod Ends
 pub mod Goings
+pub mod LineEnds
 pub mod Ownings
 pub mod ReportLemmas
+pub mod Reportings
+pub mod Servings
 pub mod Settling
+pub mod Transcripts

@@ -4,3 +4,5 @@ pub mod Run
 pub mod Serving
 pub mod Transfers
 pub mod Ran
+pub mod Transcript
+pub mod Served

@@ -1,15 +1,13 @@
 -- What runs leave of a bus's world.
-use Rattle.std.specs.Prelude.{◌≡◌, ℕ, ◌+◌, ⊤, List, Option, Some, Bool, false, Result, OnOk, IfOk, IfErr, if◌then◌else◌}
+use Rattle.std.specs.Prelude.{◌≡◌, ℕ, ◌+◌, Some, Bool, false, Result, OnOk, IfErr, if◌then◌else◌}
 use Rattle.usb_world.specs.PlanData.{PlanData}
-use Rattle.usb_world.specs.Steps.{opening}
 use Rattle.usb_world.specs.World.{World, to_come}
 use Rattle.usb_world.specs.declared.types.BusFault.{BusFault}
 use Rattle.usb_world.specs.declared.types.BusFault.TheVariants as bus
 use Rattle.usb_host.specs.Hosting.{Hosting}
-use Rattle.usb_serve.specs.Ran.{Goes, GoesOn}
+use Rattle.usb_serve.specs.Ran.{Works}
 use Rattle.usb_serve.specs.declared.runs.Item.{Item}
-use Rattle.usb_serve.specs.declared.runs.Item.TheVariants.{Listing, Sent, Received, Cleared}
-use Rattle.usb_serve.specs.declared.runs.Report.{Report}
+use Rattle.usb_serve.specs.declared.runs.Item.TheVariants.{Listing}
 use Rattle.usb_serve.specs.declared.runs.RunFault.{RunFault}
 use Rattle.usb_serve.specs.declared.runs.RunFault.TheVariants.{LimitReached, Memory, TraceFailed}
 
@@ -30,11 +28,15 @@ IsCaused LimitReached w = w.attempts ≡ w.limit
 IsCaused Memory w = Unit {0}
 IsCaused TraceFailed w = w.fault ≡ Some bus.TraceFailed
 
--- a part of a run: its host goes on where no fault is told, and a fault has its cause
-pub record RunsOn {A : Type 0} (old : Hosting) (result : Result A RunFault) (new : Hosting) : Type 0 where
-  pub goes : Goes old new
+-- a part of a run that goes so: its host goes on where no fault is told, and a fault has its cause
+pub record RunsOn {A : Type 0} (Goes : Hosting → Result A RunFault → Hosting → Type 0) (old : Hosting) (result : Result A RunFault) (new : Hosting) : Type 0 where
+  pub goes : Goes old result new
   pub running : OnOk result (new.stopped ≡ false)
   pub caused : IfErr result (λ fault. IsCaused fault new.world)
+
+-- a part without an event
+abbrev pub WorksOn : {A : Type 0} → Hosting → Result A RunFault → Hosting → Type 0
+WorksOn old result new = Works old new
 
 -- how many items are to come at most
 abbrev pub items_left : Bool → World → ℕ
@@ -43,25 +45,3 @@ items_left over w = to_come w + (if over then 0 else 1)
 -- what the host has found, and how many events had come
 abbrev pub listing_of : Hosting → Item
 listing_of h = Listing h.entries h.world.taken
-
--- a listing is what the host has found
-abbrev pub IsOfHost : Item → Hosting → Type 0
-IsOfHost (Listing entries taken) h = Listing entries taken ≡ listing_of h
-IsOfHost (Sent path sent) h = ⊤
-IsOfHost (Received path received) h = ⊤
-IsOfHost (Cleared path cleared) h = ⊤
-
--- a report's counts are the world's
-pub record Counts (report : Report) (w : World) : Type 0 where
-  pub attempts : report.attempts ≡ w.attempts
-  pub losses : report.address_losses ≡ w.losses.all
-  pub worst : report.worst_address_run ≡ w.losses.worst
-
--- the world that a run of a plan ends in, with or without a fault: at no attempt so far did two reachable devices hold one address
-pub record EndsWell (plan : PlanData) (result : Result Report RunFault) : Type 0 where
-  pub last : World
-  pub before : Option (List ℕ)
-  pub now : Option (List ℕ)
-  pub goes : GoesOn (opening plan) before last now
-  pub single : last.shared ≡ false
-  pub counts : IfOk result (λ report. Counts report last)

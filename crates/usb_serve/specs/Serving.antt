@@ -1,5 +1,5 @@
 -- What serving a plan tells and writes.
-use Rattle.std.specs.Prelude.{ℕ, ◌+◌, List, [], ◌∷◌, Result, Ok, Err}
+use Rattle.std.specs.Prelude.{◌≡◌, ℕ, ◌+◌, List, [], ◌∷◌, ◌++◌, Result, Ok, Err}
 use Rattle.usb_world.specs.declared.types.BusFault.{BusFault}
 use Rattle.usb_world.specs.declared.types.BusFault.TheVariants as bus
 use Rattle.usb_serve.specs.declared.input.InputFault.{InputFault}
@@ -49,3 +49,7 @@ number_of (Listing entries taken) number = number + 1
 number_of (Sent path sent) number = number
 number_of (Received path received) number = number
 number_of (Cleared path cleared) number = number
+
+-- bytes that end in a newline
+abbrev pub IsLine : List ℕ → Type 0
+IsLine line = (front : List ℕ) × (line ≡ front ++ 10 ∷ [])

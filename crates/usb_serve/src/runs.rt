@@ -1,5 +1,5 @@
 //! Runs of a plan.
-ghost use Rattle.std.specs.Prelude.{◌≡◌, ◌≢◌, ◌≤◌, ◌<◌, [], ◌∷◌, ◌++◌, false, true, None, Ok, Err, OnOk, OnErr, IfOk, IfErr, IfSome, IsSome};
+ghost use Rattle.std.specs.Prelude.{◌≡◌, ◌≢◌, ◌+◌, ◌≤◌, ◌<◌, [], ◌∷◌, ◌++◌, false, true, None, Ok, Err, OnOk, OnErr, IfOk, IfErr, IsSome};
 ghost use Rattle.std.proofs.Props.{props};
 ghost use Rattle.usb_device.specs.Stored.{ports_code};
 ghost use Rattle.usb_world.specs.World.{root_row, to_come, changes};
@@ -11,9 +11,11 @@ ghost use Rattle.usb_host.specs.Hosting.{opening as host_opening};
 ghost use Rattle.usb_host.specs.Progress.{DidRound, Rests};
 ghost use Rattle.usb_host.specs.Owning.{Owning};
 ghost use Rattle.usb_serve.specs.declared.runs.RunFault.TheVariants.{Memory as NoMemory};
+ghost use Rattle.usb_serve.specs.Ran.{Works};
+ghost use Rattle.usb_serve.specs.Run.{IsBegun, IsCaused, RunsOn, WorksOn, run_fault, items_left, listing_of};
+ghost use Rattle.usb_serve.specs.Served.{EndsWell, Finishes, unpowered};
+ghost use Rattle.usb_serve.specs.Transcript.{Next, NextAsked, NextEvent};
 ghost use Rattle.usb_serve.specs.Transfers.{IsItemOf};
-ghost use Rattle.usb_serve.specs.Ran.{Goes, GoesOn};
-ghost use Rattle.usb_serve.specs.Run.{Counts, EndsWell, IsBegun, IsCaused, IsOfHost, RunsOn, run_fault, items_left, listing_of};
 
 use crate::transfer::{TransferFault, answered, counted};
 use std::alloc::{AllocError, AllocFailed, Global};
@@ -83,10 +85,10 @@ impl<T: Drop> From<AllocFailed<T>> for RunFault {
 ///
 /// # Errors
 /// The fault of the bus, or Memory where the host wanted memory.
-#[tactic(auto, using(crate::proofs::Goings::goes_then, crate::proofs::Goings::goes_none))]
+#[tactic(auto, using(crate::proofs::Goings::works_then, crate::proofs::Goings::works_none))]
 pub fn settle<W: Write>(host: &mut Host<SimBus<W>>) -> Result<(), RunFault>
     requires running { host.old.stopped ≡ false }
-    ensures on { RunsOn host.old result host.new }
+    ensures on { RunsOn WorksOn host.old result host.new }
     // No root port has its change of connection set.
     ensures settled { OnOk result (changes (root_row host.new.world) ≡ 0) }
     ensures owning { Owning host.old → Owning host.new }
@@ -101,10 +103,10 @@ pub fn settle<W: Write>(host: &mut Host<SimBus<W>>) -> Result<(), RunFault>
 }
 
 /// One round of a host that is not stopped.
-#[tactic(auto, using(crate::proofs::Goings::goes_from))]
+#[tactic(auto, using(crate::proofs::Goings::works_from))]
 fn round_of<W: Write>(host: &mut Host<SimBus<W>>) -> Result<Round, RunFault>
     requires running { host.old.stopped ≡ false }
-    ensures on { RunsOn host.old result host.new }
+    ensures on { RunsOn WorksOn host.old result host.new }
     ensures did { IfOk result (λ round. DidRound round host.old host.new) }
     ensures owning { Owning host.old → Owning host.new }
 {
@@ -155,6 +157,7 @@ pub struct Runner<W: Write> {
     over: bool,
     ghost running: { over ≡ false → host.stopped ≡ false },
     ghost owning: { Owning host } by { Prim.hlevel (props, ports_code) },
+    ghost few_events: { host.world.taken + to_come host.world ≤ 10000 },
 }
 
 impl<W: Write> Runner<W> {
@@ -168,8 +171,10 @@ impl<W: Write> Runner<W> {
         writer: Watched<W>,
     ) -> Result<Runner<W>, (AllocError, Watched<W>)>
         requires unfailed { has_failed writer ≡ false }
-        ensures opened { IfOk result (λ runner. runner.host ≡ host_opening (opening plan.now) (W.contents (inner_of writer))) }
-        ensures goes { IfOk result (λ runner. GoesOn (opening plan.now) (W.contents (inner_of writer)) runner.host.world runner.host.trace) }
+        ensures opened { IfOk result (λ runner.
+            runner.host ≡ host_opening (opening plan.now) (W.contents (inner_of writer))) }
+        ensures powered { IfOk result (λ runner.
+            Works (unpowered plan.now (W.contents (inner_of writer))) runner.host) }
         ensures begun { IfOk result (λ runner. IsBegun plan.now runner.host.world) }
         ensures going { IfOk result (λ runner. runner.over ≡ false) }
         ensures back { IfErr result (λ e. e.1 ≡ writer) }
@@ -185,33 +190,29 @@ impl<W: Write> Runner<W> {
     ///
     /// # Errors
     /// The fault of the bus, or Memory where memory was refused; the run is then over.
-    #[tactic(auto, using(crate::proofs::Goings::goes_none))]
     pub fn next_item(&mut self) -> Result<Option<Item>, RunFault>
-        ensures goes { Goes self.old.host self.new.host }
+        ensures next { Next self.old.over self.old.host result self.new.over self.new.host }
         ensures caused { IfErr result (λ fault. IsCaused fault self.new.host.world) }
-        ensures item { IfOk result (λ item. IfSome item (λ made. IsOfHost made self.new.host)) }
         ensures fewer { IfOk result (λ item. IsSome item → items_left self.new.over self.new.host.world < items_left self.old.over self.old.host.world) }
         ensures over { OnErr result (self.new.over ≡ true) }
     {
         if self.over {
             return Ok(None);
         }
-        let item = item_of_events(&mut self.host);
-        self.over = !matches!(item, Ok(Some(_)));
-        match item {
-            Ok(None) => Ok(Some(listing(&self.host)?)),
-            made => made,
+        self.over = true;
+        if let Some(item) = item_of_events(&mut self.host)? {
+            self.over = false;
+            return Ok(Some(item));
         }
+        Ok(Some(listing(&self.host)?))
     }
 
     /// Runs on to the end, and tells what was made.
     ///
     /// # Errors
     /// Those of `next_item`.
-    #[tactic(auto, using(crate::proofs::Goings::goes_then, crate::proofs::Goings::goes_none))]
     pub fn finish(&mut self, alloc: Global) -> Result<Report, RunFault>
-        ensures goes { Goes self.old.host self.new.host }
-        ensures counts { IfOk result (λ report. Counts report self.new.host.world) }
+        ensures finishes { Finishes self.old.over self.old.host result self.new.host }
     {
         let mut items = Vec::new(alloc);
         'items: while let Some(item) = self.next_item()? {
@@ -279,11 +280,9 @@ impl<W: Write> Runner<W> {
 }
 
 /// Lets events come up to one of which an item is made; None where none is left.
-#[tactic(auto, using(crate::proofs::Goings::goes_then, crate::proofs::Goings::goes_thrice, crate::proofs::Goings::goes_none))]
 fn item_of_events<W: Write>(host: &mut Host<SimBus<W>>) -> Result<Option<Item>, RunFault>
     requires running { host.old.stopped ≡ false }
-    ensures on { RunsOn host.old result host.new }
-    ensures item { IfOk result (λ item. IfSome item (λ made. IsOfHost made host.new)) }
+    ensures on { RunsOn NextAsked host.old result host.new }
     ensures fewer { IfOk result (λ item. IsSome item → to_come host.new.world < to_come host.old.world) }
     ensures owning { Owning host.old → Owning host.new }
 {
@@ -300,7 +299,7 @@ fn item_of_events<W: Write>(host: &mut Host<SimBus<W>>) -> Result<Option<Item>, 
 /// Settles, and lets the next event come; None where none is left.
 fn next_due<W: Write>(host: &mut Host<SimBus<W>>) -> Result<Option<Due>, RunFault>
     requires running { host.old.stopped ≡ false }
-    ensures on { RunsOn host.old result host.new }
+    ensures on { RunsOn NextEvent host.old result host.new }
     ensures fewer { IfOk result (λ due. IsSome due → to_come host.new.world < to_come host.old.world) }
     ensures owning { Owning host.old → Owning host.new }
 {
@@ -309,10 +308,10 @@ fn next_due<W: Write>(host: &mut Host<SimBus<W>>) -> Result<Option<Due>, RunFaul
 }
 
 /// What the run makes of an event: a listing where the host is to list, and the answer of a transfer.
-#[tactic(auto, using(crate::proofs::Goings::goes_none, crate::proofs::Goings::goes_from))]
+#[tactic(auto, using(crate::proofs::Goings::works_none))]
 fn item_of<W: Write>(host: &mut Host<SimBus<W>>, due: Due) -> Result<Option<Item>, RunFault>
     requires running { host.old.stopped ≡ false }
-    ensures on { RunsOn host.old result host.new }
+    ensures on { RunsOn WorksOn host.old result host.new }
     ensures item { IfOk result (λ item. IsItemOf due item host.new) }
     ensures owning { Owning host.old → Owning host.new }
 {
@@ -326,14 +325,14 @@ fn item_of<W: Write>(host: &mut Host<SimBus<W>>, due: Due) -> Result<Option<Item
 }
 
 /// Sends bytes to the device at a path.
-#[tactic(auto, using(crate::proofs::Goings::goes_from))]
+#[tactic(auto, using(crate::proofs::Goings::works_from))]
 fn send<W: Write>(
     host: &mut Host<SimBus<W>>,
     path: PortPath,
     bytes: &[u8],
 ) -> Result<Item, RunFault>
     requires running { host.old.stopped ≡ false }
-    ensures on { RunsOn host.old result host.new }
+    ensures on { RunsOn WorksOn host.old result host.new }
     ensures item { IfOk result (λ item. IsItemOf (Due.Send path bytes.now) (Some item) host.new) }
     ensures owning { Owning host.old → Owning host.new }
 {
@@ -342,14 +341,14 @@ fn send<W: Write>(
 }
 
 /// Receives at most so many packets from the device at a path.
-#[tactic(auto, using(crate::proofs::Goings::goes_from))]
+#[tactic(auto, using(crate::proofs::Goings::works_from))]
 fn receive<W: Write>(
     host: &mut Host<SimBus<W>>,
     path: PortPath,
     packets: u16,
 ) -> Result<Item, RunFault>
     requires running { host.old.stopped ≡ false }
-    ensures on { RunsOn host.old result host.new }
+    ensures on { RunsOn WorksOn host.old result host.new }
     ensures item { IfOk result (λ item. IsItemOf (Due.Receive path packets) (Some item) host.new) }
     ensures owning { Owning host.old → Owning host.new }
 {
@@ -358,10 +357,10 @@ fn receive<W: Write>(
 }
 
 /// Clears the halts of the device at a path.
-#[tactic(auto, using(crate::proofs::Goings::goes_from))]
+#[tactic(auto, using(crate::proofs::Goings::works_from))]
 fn clear<W: Write>(host: &mut Host<SimBus<W>>, path: PortPath) -> Result<Item, RunFault>
     requires running { host.old.stopped ≡ false }
-    ensures on { RunsOn host.old result host.new }
+    ensures on { RunsOn WorksOn host.old result host.new }
     ensures item { IfOk result (λ item. IsItemOf (Due.Clear path) (Some item) host.new) }
     ensures owning { Owning host.old → Owning host.new }
 {

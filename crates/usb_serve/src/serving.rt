@@ -1,8 +1,12 @@
 //! A plan's text in, the text of its run out.
-ghost use Rattle.std.specs.Prelude.{◌≡◌, ◌≢◌, ◌+◌, ◌<◌, ◌≤◌, Some, Ok, Err, true, false, IsErrOf, IfErr, IfOk, IfSome, OnErr, OnOk, [], ◌∷◌, length};
-ghost use Rattle.usb_bus.specs.Watch.{inner_of, has_failed, calls_of};
+ghost use Rattle.std.specs.Prelude.{◌≡◌, ◌+◌, ◌<◌, ◌≤◌, ◌++◌, Some, All, Ok, Err, true, false, IsErrOf, IfErr, IfOk, IfSome, OnErr, OnOk, [], ◌∷◌, length, flat_map};
+ghost use Rattle.std.specs.Io.KnownBytes.{Appends};
+ghost use Rattle.usb_bus.specs.Watch.{inner_of, has_failed, calls_of, AppendsFront};
+ghost use Rattle.usb_plan.specs.Plan.{spelled_plan};
 ghost use Rattle.usb_serve.specs.declared.serving.ServeFault.TheVariants as serve;
-ghost use Rattle.usb_serve.specs.Serving.{IsOfRun, input_fault, item_lines, number_of, report_fault};
+ghost use Rattle.usb_serve.specs.Served.{IsUnread, RunWritten, IsServed, TreeWritten};
+ghost use Rattle.usb_serve.specs.Serving.{IsLine, IsOfRun, input_fault, item_lines, number_of, report_fault};
+ghost use Rattle.usb_serve.specs.Transcript.{RunEnds, Prints};
 
 use crate::answers::{cleared_line, received_line, sent_line};
 use crate::input::{InputFault, read_text};
@@ -86,6 +90,11 @@ impl From<WriteFailed> for ServeFault {
 
 /// Reads a plan, runs it, and writes what the mode asks for to a writer that has not failed yet. Hands the writer back.
 ///
+/// In mode Run that is the text of a run of the plan: the line of each attempt and event in their order, and the lines
+/// of each listing and transfer behind the attempts that it took. In mode Tree it is the lines of the listings and
+/// transfers of a run, and the plan's bound behind them. Where the run ended early or the writer failed, it is a front
+/// of that. At no attempt of the run did two devices that could be reached hold one address.
+///
 /// # Errors
 /// Read where the reader failed, TooLong for a text over the limit, Plan for a text that is no plan,
 /// Run where the run ended early, Write where the writer failed in a line of report, Memory where memory was refused.
@@ -98,8 +107,11 @@ pub fn serve<R: Read, W: Write>(
     requires unfailed { has_failed writer ≡ false }
     ensures calls { calls_of reader.new ≤ calls_of reader.old + 1048577 }
     ensures read { IsErrOf result.0 ServeFault.Read → has_failed reader.new ≡ true }
-    ensures too_long { IsErrOf result.0 ServeFault.TooLong → IfSome (R.remaining (inner_of reader.old)) (λ text. 1048576 < length text) }
+    ensures too_long { IsErrOf result.0 ServeFault.TooLong →
+        IfSome (R.remaining (inner_of reader.old)) (λ text. 1048576 < length text) }
     ensures write { IsErrOf result.0 ServeFault.Write → has_failed result.1 ≡ true }
+    ensures served { IsServed mode (R.remaining (inner_of reader.old))
+        (W.contents (inner_of writer)) result.0 (W.contents (inner_of result.1)) }
 {
     let plan = match plan_of(alloc, reader) {
         Ok(plan) => plan,
@@ -115,8 +127,11 @@ pub fn serve<R: Read, W: Write>(
 fn plan_of<R: Read>(alloc: Global, reader: &mut Watched<R>) -> Result<Plan, ServeFault>
     ensures calls { calls_of reader.new ≤ calls_of reader.old + 1048577 }
     ensures read { IsErrOf result ServeFault.Read → has_failed reader.new ≡ true }
-    ensures too_long { IsErrOf result ServeFault.TooLong → IfSome (R.remaining (inner_of reader.old)) (λ text. 1048576 < length text) }
-    ensures others { result ≢ Err ServeFault.Write }
+    ensures too_long { IsErrOf result ServeFault.TooLong →
+        IfSome (R.remaining (inner_of reader.old)) (λ text. 1048576 < length text) }
+    ensures plan { IfOk result (λ plan. IfSome (R.remaining (inner_of reader.old))
+        (λ text. spelled_plan text ≡ Ok plan)) }
+    ensures unread { IfErr result (IsUnread (R.remaining (inner_of reader.old))) }
 {
     let text = read_text(alloc, reader)?;
     let Ok(text) = str::from_utf8(text.as_slice()) else {
@@ -135,6 +150,8 @@ fn serve_tree<W: Write>(
 ) -> (Result<(), ServeFault>, Watched<W>)
     ensures reader { IsOfRun result.0 }
     ensures write { IsErrOf result.0 ServeFault.Write → has_failed result.1 ≡ true }
+    ensures written { TreeWritten plan.now
+        (W.contents (inner_of writer)) result.0 (W.contents (inner_of result.1)) }
 {
     let mut writer = writer;
     let result = write_tree(alloc, plan, &mut writer);
@@ -149,6 +166,8 @@ fn write_tree<W: Write>(
 ) -> Result<(), ServeFault>
     ensures reader { IsOfRun result }
     ensures write { IsErrOf result ServeFault.Write → has_failed writer.new ≡ true }
+    ensures written { TreeWritten plan.now
+        (W.contents (inner_of writer.old)) result (W.contents (inner_of writer.new)) }
 {
     let mut runner = match Runner::new(alloc, plan, Watched::new(io::sink())) {
         Ok(runner) => runner,
@@ -193,6 +212,10 @@ fn one_line(alloc: Global, line: Vec<u8>) -> Result<Lines, AllocError>
 }
 
 fn write_lines<W: Write>(writer: &mut Watched<W>, lines: &[Vec<u8>]) -> Result<(), ServeFault>
+    ensures front { AppendsFront (W.contents (inner_of writer.old))
+        (W.contents (inner_of writer.new)) (flat_map (λ line. line.items) lines.now) }
+    ensures ok { OnOk result (Appends (W.contents (inner_of writer.old))
+        (W.contents (inner_of writer.new)) (flat_map (λ line. line.items) lines.now)) }
     ensures write { OnErr result (has_failed writer.new ≡ true) }
     ensures fault { IfErr result (λ fault. fault ≡ ServeFault.Write) }
 {
@@ -203,6 +226,10 @@ fn write_lines<W: Write>(writer: &mut Watched<W>, lines: &[Vec<u8>]) -> Result<(
 }
 
 fn write_line<W: Write>(writer: &mut Watched<W>, line: &[u8]) -> Result<(), ServeFault>
+    ensures front { AppendsFront (W.contents (inner_of writer.old))
+        (W.contents (inner_of writer.new)) line.now }
+    ensures ok { OnOk result (Appends (W.contents (inner_of writer.old))
+        (W.contents (inner_of writer.new)) line.now) }
     ensures write { OnErr result (has_failed writer.new ≡ true) }
     ensures fault { IfErr result (λ fault. fault ≡ ServeFault.Write) }
 {
@@ -218,6 +245,8 @@ fn serve_run<W: Write>(
     requires unfailed { has_failed writer ≡ false }
     ensures reader { IsOfRun result.0 }
     ensures write { IsErrOf result.0 ServeFault.Write → has_failed result.1 ≡ true }
+    ensures written { RunWritten plan.now
+        (W.contents (inner_of writer)) result.0 (W.contents (inner_of result.1)) }
 {
     match Runner::new(alloc, plan, writer) {
         Ok(mut runner) => {
@@ -231,7 +260,9 @@ fn serve_run<W: Write>(
 /// Runs to the end, with the lines of each item put into the trace when it is made.
 fn trace_run<W: Write>(alloc: Global, runner: &mut Runner<W>) -> Result<(), ServeFault>
     ensures reader { IsOfRun result }
-    ensures write { IsErrOf result ServeFault.Write → runner.new.host.world.fault ≡ Some BusFault.TraceFailed }
+    ensures write { IsErrOf result ServeFault.Write →
+        runner.new.host.world.fault ≡ Some BusFault.TraceFailed }
+    ensures ends { RunEnds Mode.Run runner.old.over runner.old.host result runner.new.host }
 {
     let mut number = 0;
     'items: while let Some(item) = runner.next_item()? {
@@ -242,10 +273,13 @@ fn trace_run<W: Write>(alloc: Global, runner: &mut Runner<W>) -> Result<(), Serv
 }
 
 fn put_lines<W: Write>(runner: &mut Runner<W>, lines: &[Vec<u8>]) -> Result<(), ServeFault>
-    ensures world { OnOk result (runner.new.host.world ≡ runner.old.host.world) }
+    requires lines { All (λ line. IsLine line.items) lines.now }
     ensures over { runner.new.over ≡ runner.old.over }
+    ensures prints { Prints (flat_map (λ line. line.items) lines.now)
+        runner.old.host result runner.new.host }
     ensures reader { IsOfRun result }
-    ensures write { IsErrOf result ServeFault.Write → runner.new.host.world.fault ≡ Some BusFault.TraceFailed }
+    ensures write { IsErrOf result ServeFault.Write →
+        runner.new.host.world.fault ≡ Some BusFault.TraceFailed }
 {
     'lines: for line in lines {
         if let Err(fault) = runner.put_line(without_newline(line.as_slice())) {
@@ -256,7 +290,9 @@ fn put_lines<W: Write>(runner: &mut Runner<W>, lines: &[Vec<u8>]) -> Result<(), 
 }
 
 /// A line as the trace takes it, which ends it itself.
-fn without_newline(line: &[u8]) -> &[u8] {
+fn without_newline(line: &[u8]) -> &[u8]
+    ensures { IsLine line.now → result.now ++ 10 ∷ [] ≡ line.now }
+{
     match line {
         [front @ .., b'\n'] => front,
         _ => line,

@@ -5,7 +5,7 @@ use Rattle.std.specs.Option.{option_map}
 use Rattle.usb_enum.specs.declared.finding.Finding.{Finding}
 use Rattle.usb_table.specs.Findings.{address_of, HasDevice, HasNoDevice}
 use Rattle.usb_table.specs.Keys.{Slots, PathKeys, AddressKeys, key_of_path, key_of_address, finding_under, entries_of, address_in, AreIndexes}
-use Rattle.usb_table.proofs.Keys.{entries-lookup, found_at, some_address, under}
+use Rattle.usb_table.proofs.Keys.{entries-lookup, found_at, some_address, finding_stands}
 
 pub addressed_stands : (found : Slots) (paths : PathKeys) (addresses : AddressKeys) (address key : ℕ) → AreIndexes found paths addresses → key_of_address addresses address ≡ Some key → IsSome (found key)
 addressed_stands found paths addresses address key are is = some_address (found key) address ((are.addressed address key).0 is)
@@ -27,7 +27,7 @@ no_device_by : (found : Slots) (paths : PathKeys) (addresses : AddressKeys) (add
 no_device_by found paths addresses address are none path finding None at is = absurd cc
 no_device_by found paths addresses address are none path finding (Some key) at is = λ has.
     let it = some_or (found key) (are.stands path key at) in
-    let same : it.0 ≡ finding = cc (is, under found key it.0 it.1) in
+    let same : it.0 ≡ finding = cc (is, finding_stands found key it.0 it.1) in
     let here : key_of_address addresses address ≡ Some key = (are.addressed address key).1 (ap address_in it.1 ∙ ap address_of same ∙ has) in
     absurd (cc (here, none))
 

@@ -1,21 +1,27 @@
 -- An entry comes under a key that was vacant.
 use Rattle.std.proofs.Common.{◌≡◌, ◌≢◌, ◌∙◌, refl, sym, ap, subst, inl, inr, true, false, Bool, ℕ, ◌+◌, cond, List, [], ◌∷◌, Option, Some, None, arith}
-use Rattle.std.specs.Prelude.{◌⊎◌, ◌||◌, nat_eq, IsSome, IfSome, is_some}
-use Rattle.std.specs.Map.{lookup}
+use Rattle.std.specs.Prelude.{◌⊎◌, ◌||◌, nat_eq, IsSome, IfSome, is_some, unwrap_or, option_map}
+use Rattle.std.specs.List.Sorted.{IsStrictlySortedBy}
+use Rattle.std.specs.Map.{lookup, keys_of}
 use Rattle.std.specs.BTreeMap.{is_at, insert_entry}
 use Rattle.std.specs.List.{list_any, count_by}
 use Rattle.std.specs.Ordering.{nat_cmp}
 use Rattle.std.specs.Cmp.Lexicographic.{pointwise, texts_ties}
 use Rattle.std.proofs.lemmas.Bool.{eq-eqb}
+use Rattle.std.proofs.lemmas.Option.{same_Some}
 use Rattle.std.proofs.lemmas.List.Sums.{sum_by-cons}
 use Rattle.usb_port.specs.Order.{path_cmp, is_below}
+use Rattle.usb_enum.specs.declared.cause.Cause.TheVariants.{Silent}
 use Rattle.usb_enum.specs.declared.finding.Finding.{Finding}
 use Rattle.usb_enum.specs.declared.finding.Finding.TheVariants.{Device, Refused}
 use Rattle.usb_table.specs.declared.indexes.Indexes.{Indexes}
+use Rattle.usb_table.specs.declared.pipes.Pipes.TheVariants.{Absent}
 use Rattle.usb_table.specs.Entries.{Entries, has_at, is_at_or_below}
 use Rattle.usb_table.specs.Findings.{address_of, has_address, HasNewAddress}
-use Rattle.usb_table.specs.Keys.{Slots, PathKeys, AddressKeys, key_of_path, key_of_address, finding_under, entries_of, address_in, AreIndexes, UpdatesAddress, Enters}
-use Rattle.usb_table.proofs.Keys.{number_tied, number_itself, same_or_not, found_at, entries-has_at, entries-insert, agree, some_address, none_or}
+use Rattle.usb_table.specs.Keys.{Standing, Standings, Slots, PathKeys, AddressKeys, key_of_path, key_of_address, findings, pipings, listed, entries_of, table_of, address_in, AreIndexes, ArePiped, UpdatesAddress, Enters}
+use Rattle.usb_table.specs.Known.{is_below_hub}
+use Rattle.usb_table.specs.Pipes.{ArePipesOf}
+use Rattle.usb_table.proofs.Keys.{number_tied, number_itself, same_or_not, found_at, entries-has_at, listed-insert, agree, some_address, none_or, found_in, same_table}
 use Rattle.usb_table.proofs.Paths.{path_tied, path_itself}
 
 module _ (old new : Slots) (before after : Indexes) (path : List ℕ) (key : ℕ) (finding : Finding)
@@ -103,12 +109,64 @@ module _ (old new : Slots) (before after : Indexes) (path : List ℕ) (key : ℕ
     addressed = λ a k. (to_address (address_of finding) refl enters.address_keys a k, λ h. from_by (address_of finding) refl enters.address_keys free a k h (same_or_not k key));
   }
 
-  pub come_entries : entries_of new after.by_path.entries ≡ insert_entry path_cmp (entries_of old before.by_path.entries) path finding
-  come_entries =
-      ap (entries_of new) enters.paths
-      ∙ entries-insert new path key before.by_path.entries
-      ∙ ap (insert_entry path_cmp (entries_of new before.by_path.entries) path) (ap (λ (f : Option Finding). finding_under (λ _. f) key) changed)
-      ∙ ap (λ (es : Entries). insert_entry path_cmp es path finding) (agree old new before.by_path.entries enters.rises (λ q k h. kept k (are.stands q k h)))
+  pub apart : (q : List ℕ) (k : ℕ) → key_of_path before.by_path.entries q ≡ Some k → k ≢ key
+  apart q k h = some_apart k (are.stands q k h)
+
+-- What is shown of the keys, with what came
+
+pub come_listed : {A : Type 0} (none : A) (old new : ℕ → Option A) (before after : PathKeys) (path : List ℕ) (key : ℕ) (value : A) → after ≡ insert_entry path_cmp before path key → IsStrictlySortedBy path_cmp (keys_of before)
+    → ((q : List ℕ) (k : ℕ) → key_of_path before q ≡ Some k → k ≢ key) → new key ≡ Some value → ((k : ℕ) → k ≢ key → new k ≡ old k)
+    → listed none new after ≡ insert_entry path_cmp (listed none old before) path value
+come_listed none old new before after path key value is rises apart changed others =
+    ap (listed none new) is
+    ∙ listed-insert none new path key before
+    ∙ ap (λ f. insert_entry path_cmp (listed none new before) path (unwrap_or f none)) changed
+    ∙ ap (λ es. insert_entry path_cmp es path value) (agree none old new before rises (λ q k h. others k (apart q k h)))
+
+came_at : (before : PathKeys) (path : List ℕ) (key : ℕ) (q : List ℕ) (k : ℕ) (b : Bool) → is_at (path_cmp path) q ≡ b → cond b (Some key) (key_of_path before q) ≡ Some k → ((q ≡ path) × (k ≡ key)) ⊎ (key_of_path before q ≡ Some k)
+came_at before path key q k true tie h = inl (sym (path_tied path q tie), cc h)
+came_at before path key q k false tie h = inr h
+
+pub come_piped : (old new : Standings) (before after : PathKeys) (path : List ℕ) (key : ℕ) (s : Standing) → ArePiped old before
+    → ((q : List ℕ) → key_of_path after q ≡ cond (is_at (path_cmp path) q) (Some key) (key_of_path before q))
+    → ((q : List ℕ) (k : ℕ) → key_of_path before q ≡ Some k → k ≢ key) → new key ≡ Some s → ((k : ℕ) → k ≢ key → new k ≡ old k)
+    → ArePipesOf s.finding (is_below_hub path) s.pipes → ArePiped new after
+come_piped old new before after path key s piped path_keys apart changed others fits q k t at stands = elim (came_at before path key q k (is_at (path_cmp path) q) refl (sym (path_keys q) ∙ at)) [
+  | inl here ↦
+      let same : s ≡ t = same_Some s t (sym changed ∙ ap new (sym here.1) ∙ stands) in
+      subst (λ (x : Standing). ArePipesOf x.finding (is_below_hub q) x.pipes) same (subst (λ (r : List ℕ). ArePipesOf s.finding (is_below_hub r) s.pipes) (sym here.0) fits)
+  | inr there ↦ piped q k t there (sym (others k (apart q k there)) ∙ stands)
+]
+
+-- An entry comes, with its pipes
+
+module _ (old new : Standings) (before after : Indexes) (path : List ℕ) (key : ℕ) (s : Standing)
+    (are : AreIndexes (findings old) before.by_path.entries before.by_address.entries) (piped : ArePiped old before.by_path.entries) (vacant : old key ≡ None)
+    (changed : new key ≡ Some s) (others : (k : ℕ) → k ≢ key → new k ≡ old k) (fits : ArePipesOf s.finding (is_below_hub path) s.pipes)
+    (away : key_of_path before.by_path.entries path ≡ None)
+    (free : IfSome (address_of s.finding) (λ a. key_of_address before.by_address.entries a ≡ None))
+    (enters : Enters path (address_of s.finding) key before after) where
+  finding_vacant : findings old key ≡ None
+  finding_vacant = ap (option_map (λ (t : Standing). t.finding)) vacant
+
+  finding_others : (k : ℕ) → k ≢ key → findings new k ≡ findings old k
+  finding_others k ne = ap (option_map (λ (t : Standing). t.finding)) (others k ne)
+
+  key_apart : (q : List ℕ) (k : ℕ) → key_of_path before.by_path.entries q ≡ Some k → k ≢ key
+  key_apart = apart (findings old) (findings new) before after path key s.finding are finding_vacant (found_in new key s changed) finding_others away free enters
+
+  pub came_indexes : AreIndexes (findings new) after.by_path.entries after.by_address.entries
+  came_indexes = come (findings old) (findings new) before after path key s.finding are finding_vacant (found_in new key s changed) finding_others away free enters
+
+  pub came_piped : ArePiped new after.by_path.entries
+  came_piped = come_piped old new before.by_path.entries after.by_path.entries path key s piped enters.path_keys key_apart changed others fits
+
+  pub came_table : table_of new after.by_path.entries
+      ≡ record { entries = insert_entry path_cmp (entries_of (findings old) before.by_path.entries) path s.finding; pipes = insert_entry path_cmp (listed Absent (pipings old) before.by_path.entries) path s.pipes }
+  came_table =
+      same_table _ _ _ _
+      (come_listed (Refused Silent) (findings old) (findings new) before.by_path.entries after.by_path.entries path key s.finding enters.paths enters.rises key_apart (found_in new key s changed) finding_others)
+      (come_listed Absent (pipings old) (pipings new) before.by_path.entries after.by_path.entries path key s.pipes enters.paths enters.rises key_apart (ap (option_map (λ (t : Standing). t.pipes)) changed) (λ k ne. ap (option_map (λ (t : Standing). t.pipes)) (others k ne)))
 
 -- What is told of the entries, as the keys have it
 

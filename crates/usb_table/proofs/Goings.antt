@@ -1,15 +1,19 @@
 -- An entry goes, and its key is vacant.
 use Rattle.std.proofs.Common.{◌≡◌, ◌≢◌, ◌∙◌, refl, sym, ap, subst, inl, inr, true, false, Bool, ℕ, cond, List, Option, Some, None}
-use Rattle.std.specs.Prelude.{◌⊎◌, IsSome, is_some}
+use Rattle.std.specs.Prelude.{◌⊎◌, IsSome, is_some, option_map}
 use Rattle.std.specs.Map.{keys_of, remove_entry}
 use Rattle.std.specs.BTreeMap.{is_at}
 use Rattle.std.specs.List.Sorted.{IsStrictlySortedBy}
 use Rattle.std.specs.Ordering.{nat_cmp}
 use Rattle.usb_port.specs.Order.{path_cmp}
+use Rattle.usb_enum.specs.declared.cause.Cause.TheVariants.{Silent}
 use Rattle.usb_enum.specs.declared.finding.Finding.{Finding}
+use Rattle.usb_enum.specs.declared.finding.Finding.TheVariants.{Refused}
+use Rattle.usb_table.specs.declared.pipes.Pipes.TheVariants.{Absent}
 use Rattle.usb_table.specs.Findings.{address_of}
-use Rattle.usb_table.specs.Keys.{Slots, PathKeys, AddressKeys, key_of_path, key_of_address, entries_of, address_in, AreIndexes, UpdatesAddress}
-use Rattle.usb_table.proofs.Keys.{number_tied, number_itself, same_or_not, entries-remove, agree}
+use Rattle.usb_table.specs.Keys.{Standing, Standings, Slots, PathKeys, AddressKeys, key_of_path, key_of_address, findings, pipings, listed, table_of, address_in, AreIndexes, ArePiped, UpdatesAddress}
+use Rattle.usb_table.specs.Table.{removed}
+use Rattle.usb_table.proofs.Keys.{number_tied, number_itself, same_or_not, listed-remove, agree, found_in, same_table}
 use Rattle.usb_table.proofs.Paths.{path_tied, path_itself}
 
 module _ (old new : Slots) (paths left : PathKeys) (addresses rest : AddressKeys) (first : List ℕ) (key : ℕ) (finding : Finding)
@@ -97,8 +101,47 @@ module _ (old new : Slots) (paths left : PathKeys) (addresses rest : AddressKeys
     addressed = λ a k. (to_address (address_of finding) refl address_keys a k, from_address (address_of finding) refl address_keys a k);
   }
 
-  pub go_entries : left ≡ remove_entry (is_at (path_cmp first)) paths → IsStrictlySortedBy path_cmp (keys_of left) → entries_of new left ≡ remove_entry (is_at (path_cmp first)) (entries_of old paths)
-  go_entries is rises =
-      agree old new left rises (λ q k h. others k (still q k h).apart)
-      ∙ ap (entries_of old) is
-      ∙ entries-remove old (is_at (path_cmp first)) paths
+  pub left_at : (q : List ℕ) (k : ℕ) → key_of_path left q ≡ Some k → (key_of_path paths q ≡ Some k) × (k ≢ key)
+  left_at q k h = let s = still q k h in (s.at, s.apart)
+
+-- What is shown of the keys, without what went
+
+module _ (paths left : PathKeys) (first : List ℕ) (key : ℕ) (left_at : (q : List ℕ) (k : ℕ) → key_of_path left q ≡ Some k → (key_of_path paths q ≡ Some k) × (k ≢ key)) where
+  pub go_listed : {A : Type 0} (none : A) (old new : ℕ → Option A) → left ≡ remove_entry (is_at (path_cmp first)) paths → IsStrictlySortedBy path_cmp (keys_of left) → ((k : ℕ) → k ≢ key → new k ≡ old k)
+      → listed none new left ≡ remove_entry (is_at (path_cmp first)) (listed none old paths)
+  go_listed none old new is rises others =
+      agree none old new left rises (λ q k h. others k (left_at q k h).1)
+      ∙ ap (listed none old) is
+      ∙ listed-remove none old (is_at (path_cmp first)) paths
+
+  pub go_piped : (old new : Standings) → ArePiped old paths → ((k : ℕ) → k ≢ key → new k ≡ old k) → ArePiped new left
+  go_piped old new piped others q k t h stands = let was = left_at q k h in piped q k t was.0 (sym (others k was.1) ∙ stands)
+
+-- An entry goes, with its pipes
+
+module _ (old new : Standings) (paths left : PathKeys) (addresses rest : AddressKeys) (first : List ℕ) (key : ℕ) (s : Standing)
+    (are : AreIndexes (findings old) paths addresses) (piped : ArePiped old paths) (held : old key ≡ Some s)
+    (gone : new key ≡ None) (others : (k : ℕ) → k ≢ key → new k ≡ old k)
+    (was : key_of_path paths first ≡ Some key)
+    (path_keys : (q : List ℕ) → key_of_path left q ≡ cond (is_at (path_cmp first) q) None (key_of_path paths q))
+    (address_keys : UpdatesAddress (address_of s.finding) None addresses rest) where
+  finding_gone : findings new key ≡ None
+  finding_gone = ap (option_map (λ (t : Standing). t.finding)) gone
+
+  finding_others : (k : ℕ) → k ≢ key → findings new k ≡ findings old k
+  finding_others k ne = ap (option_map (λ (t : Standing). t.finding)) (others k ne)
+
+  key_left : (q : List ℕ) (k : ℕ) → key_of_path left q ≡ Some k → (key_of_path paths q ≡ Some k) × (k ≢ key)
+  key_left = left_at (findings old) (findings new) paths left addresses rest first key s.finding are (found_in old key s held) finding_gone finding_others was path_keys address_keys
+
+  pub gone_indexes : AreIndexes (findings new) left rest
+  gone_indexes = go (findings old) (findings new) paths left addresses rest first key s.finding are (found_in old key s held) finding_gone finding_others was path_keys address_keys
+
+  pub gone_piped : ArePiped new left
+  gone_piped = go_piped paths left first key key_left old new piped others
+
+  pub gone_table : left ≡ remove_entry (is_at (path_cmp first)) paths → IsStrictlySortedBy path_cmp (keys_of left) → table_of new left ≡ removed first (table_of old paths)
+  gone_table is rises =
+      same_table _ _ _ _
+      (go_listed paths left first key key_left (Refused Silent) (findings old) (findings new) is rises finding_others)
+      (go_listed paths left first key key_left Absent (pipings old) (pipings new) is rises (λ k ne. ap (option_map (λ (t : Standing). t.pipes)) (others k ne)))

@@ -1,67 +1,149 @@
--- What the table's transfers do to the addresses that devices hold.
-use Rattle.std.proofs.Common.{◌≢◌, sym, subst, arith}
-use Rattle.std.specs.Prelude.{ℕ, ◌≤◌, List, Bool, true, false, ◌||◌, Option, Some, None, is_some, Result, Ok, Err}
+-- What the table's transfers leave of devices and ports.
+use Rattle.std.proofs.Common.{◌≡◌, ◌≢◌, sym, subst, arith, ap, inl, inr, ◌∙◌}
+use Rattle.std.specs.Prelude.{◌⊎◌, ℕ, ◌≤◌, List, Bool, true, false, ◌||◌, Option, Some, None, is_some, Result, Ok, Err}
 use Rattle.std.specs.Global.{Vec}
 use Rattle.arrayvec.specs.ArrayVec.{ArrayVec}
+use Rattle.usb_world.specs.Steps.{here}
 use Rattle.usb_world.specs.World.{World}
-use Rattle.usb_address.specs.Owned.{KeepsAddresses}
-use Rattle.usb_address.proofs.Endpoints.{same_keeps, polls_keep, sends_keep, receives_keep, clears_keep}
-use Rattle.usb_address.proofs.Keeping.{keeps_then}
+use Rattle.usb_world.proofs.WorldLaws.{course_joined}
+use Rattle.usb_address.proofs.Endpoints.{polls_keep, sends_keep, receives_keep, clears_keep}
+use Rattle.usb_address.proofs.Keeping.{keeps_none, keeps_then}
+use Rattle.usb_hub.proofs.Devices.{stays_none}
+use Rattle.usb_pipe.specs.Bulk.{Bulk}
 use Rattle.usb_pipe.specs.declared.fault.PipeFault.{PipeFault}
 use Rattle.usb_enum.specs.declared.finding.Accepted.{Accepted}
+use Rattle.usb_enum.specs.declared.finding.Finding.{Finding}
+use Rattle.usb_enum.specs.declared.finding.Finding.TheVariants.{Device, Refused}
 use Rattle.usb_table.specs.declared.fault.EndpointFault.{EndpointFault}
+use Rattle.usb_table.specs.declared.pipes.BulkPipes.{BulkPipes}
+use Rattle.usb_table.specs.declared.pipes.Pipes.{Pipes}
+use Rattle.usb_table.specs.declared.pipes.Pipes.TheVariants.{Hub, Function, Absent}
 use Rattle.usb_table.specs.Findings.{bulk_out, bulk_in}
-use Rattle.usb_table.specs.Transfers.{PolledIf, Polled, SentToEnd, Sent, ReceivedFromEnd, Received, ClearedEnd, ClearedEndAfter, ClearedEndsIf, Cleared}
+use Rattle.usb_table.specs.Pipes.{IsPipe, ArePipesTo, ArePipesOf}
+use Rattle.usb_table.specs.Transfers.{SentBy, ReceivedBy, ClearedBy, ClearedAfter, ClearedIf, Polled, Sent, Received, Cleared, Keeps}
+use Rattle.usb_table.proofs.Staying.{polls_stay, polls_rest, sends_stay, sends_rest, receives_stay, receives_rest, clears_stay, clears_rest, clears_single, each_then}
+use Rattle.usb_table.proofs.Kept.{ready_or_not}
+
+pub spares_none : (w : World) → Keeps w w
+spares_none w = record { addresses = keeps_none w; devices = stays_none w; rests = λ sound x. here w }
+
+same_spares : (old new : World) → new ≡ old → Keeps old new
+same_spares old new e = subst (Keeps old) (sym e) (spares_none old)
+
+-- two calls, between which the bus was at work
+spares_then : (old mid new : World) → Keeps old mid → Keeps mid new → mid.fault ≡ None → (new.shared ≡ false → mid.shared ≡ false) → Keeps old new
+spares_then old mid new x y sound single = record {
+  addresses = keeps_then old mid new x.addresses y.addresses;
+  devices = record { stays = λ s. each_then old mid new (x.devices.stays (single s)) (y.devices.stays s) };
+  rests = λ still p. course_joined (x.rests sound p) (y.rests still p);
+}
 
 other_end : (ep : ℕ) → 1 ≤ ep → ep ≢ 0
 other_end ep le = omega arith
 
 -- Polls
 
-polled_if : (is_hub : Bool) (device : Accepted) (old : World) (result : Result (Option (ArrayVec ℕ)) PipeFault) (new : World) → PolledIf is_hub device old result new → KeepsAddresses old new
-polled_if false device old result new x = same_keeps old new x.1
-polled_if true device old result new x = polls_keep x.pipe (other_end x.pipe.ep x.to.other) old result x.left new x.polls
+polled_to : (device : Accepted) (below_hub : Bool) (pipes left : Pipes) (old : World) (result : Result (Option (ArrayVec ℕ)) PipeFault) (new : World) → ArePipesTo device below_hub pipes → Polled pipes old result left new → Keeps old new
+polled_to device below_hub (Hub pipe) left old result new are x =
+    let far = other_end pipe.ep are.1.other in
+    record {
+      addresses = polls_keep pipe far old result x.0 new x.2.polls;
+      devices = polls_stay pipe far old result x.0 new x.2.settled x.2.polls;
+      rests = polls_rest pipe far old result x.0 new x.2.settled x.2.polls;
+    }
+polled_to device below_hub (Function pipes) left old result new are x = same_spares old new x.2
+polled_to device below_hub Absent left old result new are x = same_spares old new x.2
 
-pub polled_addresses : (device : Option Accepted) (old : World) (result : Result (Option (ArrayVec ℕ)) PipeFault) (new : World) → Polled device old result new → KeepsAddresses old new
-polled_addresses None old result new x = same_keeps old new x.1
-polled_addresses (Some device) old result new x = polled_if (is_some device.hub) device old result new x
+pub polled_spares : (finding : Finding) (below_hub : Bool) (pipes left : Pipes) (old : World) (result : Result (Option (ArrayVec ℕ)) PipeFault) (new : World) → ArePipesOf finding below_hub pipes → Polled pipes old result left new → Keeps old new
+polled_spares (Device device) below_hub pipes left old result new are x = polled_to device below_hub pipes left old result new are x
+polled_spares (Refused cause) below_hub pipes left old result new are x = same_spares old new (subst (λ (p : Pipes). Polled p old result left new) are x).2
 
 -- Bytes that are sent
 
-sent_to : (endpoint : Option (ℕ × ℕ)) (device : Accepted) (bytes : List ℕ) (old : World) (result : Result (Unit {0}) EndpointFault) (new : World) → SentToEnd endpoint device bytes old result new → KeepsAddresses old new
-sent_to None device bytes old result new x = same_keeps old new x.1
-sent_to (Some endpoint) device bytes old result new x = sends_keep bytes x.pipe old x.sent.answer x.left new x.sent.sends
+sent_by : (device : Accepted) (endpoint : Option (ℕ × ℕ)) (pipe : Option Bulk) (bytes : List ℕ) (old : World) (result : Result (Unit {0}) EndpointFault) (left : Option Bulk) (new : World) → IsPipe device false endpoint pipe → SentBy pipe bytes old result left new → Keeps old new
+sent_by device endpoint None bytes old result left new is x = same_spares old new x.2
+sent_by device endpoint (Some pipe) bytes old result None new is x = absurd x
+sent_by device None (Some pipe) bytes old result (Some left) new is x = absurd is
+sent_by device (Some endpoint) (Some pipe) bytes old result (Some left) new is x =
+    let far = other_end pipe.ep (subst (λ n. 1 ≤ n) (sym is.number) is.other) in
+    record {
+      addresses = sends_keep bytes pipe old x.answer left new x.sends;
+      devices = sends_stay bytes pipe far old x.answer left new x.sends;
+      rests = sends_rest bytes pipe far old x.answer left new x.sends;
+    }
 
-pub sent_addresses : (device : Option Accepted) (bytes : List ℕ) (old : World) (result : Result (Unit {0}) EndpointFault) (new : World) → Sent device bytes old result new → KeepsAddresses old new
-sent_addresses None bytes old result new x = same_keeps old new x.1
-sent_addresses (Some device) bytes old result new x = sent_to (bulk_out device) device bytes old result new x
+sent_to : (device : Accepted) (below_hub : Bool) (pipes left : Pipes) (bytes : List ℕ) (old : World) (result : Result (Unit {0}) EndpointFault) (new : World) → ArePipesTo device below_hub pipes → Sent pipes bytes old result left new → Keeps old new
+sent_to device below_hub (Hub pipe) left bytes old result new are x = same_spares old new x.2
+sent_to device below_hub (Function pipes) left bytes old result new are x = sent_by device (bulk_out device) pipes.out bytes old result x.0 new are.1 x.2
+sent_to device below_hub Absent left bytes old result new are x = same_spares old new x.2
+
+pub sent_spares : (finding : Finding) (below_hub : Bool) (pipes left : Pipes) (bytes : List ℕ) (old : World) (result : Result (Unit {0}) EndpointFault) (new : World) → ArePipesOf finding below_hub pipes → Sent pipes bytes old result left new → Keeps old new
+sent_spares (Device device) below_hub pipes left bytes old result new are x = sent_to device below_hub pipes left bytes old result new are x
+sent_spares (Refused cause) below_hub pipes left bytes old result new are x = same_spares old new (subst (λ (p : Pipes). Sent p bytes old result left new) are x).2
 
 -- Packets that are received
 
-received_from : (endpoint : Option (ℕ × ℕ)) (device : Accepted) (packets : ℕ) (old : World) (result : Result (Vec ℕ) EndpointFault) (new : World) → ReceivedFromEnd endpoint device packets old result new → KeepsAddresses old new
-received_from None device packets old result new x = same_keeps old new x.1
-received_from (Some endpoint) device packets old result new x =
-    receives_keep packets x.pipe (other_end x.pipe.ep (subst (λ n. 1 ≤ n) (sym x.to.number) x.to.other)) old x.received.answer x.left new x.received.receives
+received_by : (device : Accepted) (endpoint : Option (ℕ × ℕ)) (pipe : Option Bulk) (packets : ℕ) (old : World) (result : Result (Vec ℕ) EndpointFault) (left : Option Bulk) (new : World) → IsPipe device true endpoint pipe → ReceivedBy pipe packets old result left new → Keeps old new
+received_by device endpoint None packets old result left new is x = same_spares old new x.2
+received_by device endpoint (Some pipe) packets old result None new is x = absurd x
+received_by device None (Some pipe) packets old result (Some left) new is x = absurd is
+received_by device (Some endpoint) (Some pipe) packets old result (Some left) new is x =
+    let far = other_end pipe.ep (subst (λ n. 1 ≤ n) (sym is.number) is.other) in
+    record {
+      addresses = receives_keep packets pipe far old x.answer left new x.receives;
+      devices = receives_stay packets pipe far old x.answer left new x.receives;
+      rests = receives_rest packets pipe far old x.answer left new x.receives;
+    }
 
-pub received_addresses : (device : Option Accepted) (packets : ℕ) (old : World) (result : Result (Vec ℕ) EndpointFault) (new : World) → Received device packets old result new → KeepsAddresses old new
-received_addresses None packets old result new x = same_keeps old new x.1
-received_addresses (Some device) packets old result new x = received_from (bulk_in device) device packets old result new x
+received_to : (device : Accepted) (below_hub : Bool) (pipes left : Pipes) (packets : ℕ) (old : World) (result : Result (Vec ℕ) EndpointFault) (new : World) → ArePipesTo device below_hub pipes → Received pipes packets old result left new → Keeps old new
+received_to device below_hub (Hub pipe) left packets old result new are x = same_spares old new x.2
+received_to device below_hub (Function pipes) left packets old result new are x = received_by device (bulk_in device) pipes.into packets old result x.0 new are.2 x.2
+received_to device below_hub Absent left packets old result new are x = same_spares old new x.2
 
--- Halts that are cleared
+pub received_spares : (finding : Finding) (below_hub : Bool) (pipes left : Pipes) (packets : ℕ) (old : World) (result : Result (Vec ℕ) EndpointFault) (new : World) → ArePipesOf finding below_hub pipes → Received pipes packets old result left new → Keeps old new
+received_spares (Device device) below_hub pipes left packets old result new are x = received_to device below_hub pipes left packets old result new are x
+received_spares (Refused cause) below_hub pipes left packets old result new are x = same_spares old new (subst (λ (p : Pipes). Received p packets old result left new) are x).2
 
-cleared_end : (device : Accepted) (is_in : Bool) (endpoint : Option (ℕ × ℕ)) (old : World) (answer : Result (Unit {0}) PipeFault) (new : World) → ClearedEnd device is_in endpoint old answer new → KeepsAddresses old new
-cleared_end device is_in None old answer new x = same_keeps old new x.1
-cleared_end device is_in (Some endpoint) old answer new x = clears_keep x.pipe old answer x.left new x.cleared.clears
+-- Halts that are cleared, one and then the other
 
-cleared_after : (first : Result (Unit {0}) PipeFault) (device : Accepted) (mid : World) (result : Result (Unit {0}) EndpointFault) (new : World) → ClearedEndAfter first device mid result new → KeepsAddresses mid new
-cleared_after (Ok done) device mid result new x = cleared_end device true (bulk_in device) mid x.0 new x.2
-cleared_after (Err fault) device mid result new x = same_keeps mid new x.1
+cleared_by : (pipe left : Option Bulk) (old : World) (answer : Result (Unit {0}) PipeFault) (new : World) → ClearedBy pipe old answer left new → Keeps old new
+cleared_by None left old answer new x = same_spares old new x.2
+cleared_by (Some pipe) None old answer new x = absurd x
+cleared_by (Some pipe) (Some left) old answer new x = record {
+  addresses = clears_keep pipe old answer left new x.clears;
+  devices = clears_stay pipe old answer left new x.clears;
+  rests = clears_rest pipe old answer left new x.clears;
+}
 
-cleared_if : (has_end : Bool) (device : Accepted) (old : World) (result : Result (Unit {0}) EndpointFault) (new : World) → ClearedEndsIf has_end device old result new → KeepsAddresses old new
-cleared_if false device old result new x = same_keeps old new x.1
-cleared_if true device old result new x =
-    keeps_then old x.mid new (cleared_end device false (bulk_out device) old x.first x.mid x.out) (cleared_after x.first device x.mid result new x.into)
+-- one that is done made no attempt, or the bus is at work
+done_or_same : (pipe left : Option Bulk) (old : World) (done : Unit {0}) (new : World) → ClearedBy pipe old (Ok done) left new → (new ≡ old) ⊎ (new.fault ≡ None)
+done_or_same None left old done new x = inl x.2
+done_or_same (Some pipe) None old done new x = absurd x
+done_or_same (Some pipe) (Some left) old done new x = elim (ready_or_not pipe.condition) [
+  | inl ready ↦ inl (x.clears.ready ready).world_kept
+  | inr not ↦ inr (x.clears.sent not).ends.still
+]
 
-pub cleared_addresses : (device : Option Accepted) (old : World) (result : Result (Unit {0}) EndpointFault) (new : World) → Cleared device old result new → KeepsAddresses old new
-cleared_addresses None old result new x = same_keeps old new x.1
-cleared_addresses (Some device) old result new x = cleared_if (is_some (bulk_out device) || is_some (bulk_in device)) device old result new x
+cleared_single : (pipe left : Option Bulk) (old : World) (answer : Result (Unit {0}) PipeFault) (new : World) → ClearedBy pipe old answer left new → new.shared ≡ false → old.shared ≡ false
+cleared_single None left old answer new x single = ap (λ w. w.shared) (sym x.2) ∙ single
+cleared_single (Some pipe) None old answer new x single = absurd x
+cleared_single (Some pipe) (Some left) old answer new x single = clears_single pipe old answer left new x.clears single
+
+cleared_in_order : (first : Result (Unit {0}) PipeFault) (out out_left into into_left : Option Bulk) (old mid : World) (result : Result (Unit {0}) EndpointFault) (new : World)
+    → ClearedBy out old first out_left mid → ClearedAfter first into mid result into_left new → Keeps old new
+cleared_in_order (Ok done) out out_left into into_left old mid result new x y =
+    let second : Keeps mid new = cleared_by into into_left mid y.0 new y.2 in
+    elim (done_or_same out out_left old done mid x) [
+      | inl same ↦ subst (λ (w : World). Keeps w new) same second
+      | inr sound ↦ spares_then old mid new (cleared_by out out_left old (Ok done) mid x) second sound (cleared_single into into_left mid y.0 new y.2)
+    ]
+cleared_in_order (Err fault) out out_left into into_left old mid result new x y = subst (Keeps old) (sym y.2) (cleared_by out out_left old (Err fault) mid x)
+
+cleared_if : (some : Bool) (pipes left : BulkPipes) (old : World) (result : Result (Unit {0}) EndpointFault) (new : World) → ClearedIf some pipes old result left new → Keeps old new
+cleared_if false pipes left old result new x = same_spares old new x.2
+cleared_if true pipes left old result new x = cleared_in_order x.first pipes.out left.out pipes.into left.into old x.mid result new x.out x.into
+
+pub cleared_spares : (pipes left : Pipes) (old : World) (result : Result (Unit {0}) EndpointFault) (new : World) → Cleared pipes old result left new → Keeps old new
+cleared_spares (Hub pipe) left old result new x = same_spares old new x.2
+cleared_spares (Function pipes) left old result new x = cleared_if (is_some pipes.out || is_some pipes.into) pipes x.0 old result new x.2
+cleared_spares Absent left old result new x = same_spares old new x.2

@@ -1,5 +1,5 @@
 -- Entries that come and go under their keys.
-use Rattle.std.proofs.Common.{◌≡◌, ◌≢◌, ◌∙◌, refl, sym, ap, subst, inl, inr, true, false, Bool, ℕ, cond, List, [], ◌∷◌, Option, Some, None, All, set}
+use Rattle.std.proofs.Common.{◌≡◌, ◌≢◌, ◌∙◌, refl, sym, ap, subst, inl, inr, true, false, Bool, ℕ, cond, List, [], ◌∷◌, Option, Some, None, All}
 use Rattle.std.specs.Prelude.{◌⊎◌, ◌||◌, ◌==◌, IsSome, IfSome, unwrap_or}
 use Rattle.std.specs.Map.{lookup, keys_of, values_of, remove_entry}
 use Rattle.std.specs.BTreeMap.{is_at, insert_entry}
@@ -12,18 +12,18 @@ use Rattle.std.specs.Cmp.Lexicographic.{nat_list_cmp_total}
 use Rattle.std.specs.declared.cmp.Ordering.{Ordering}
 use Rattle.std.specs.declared.cmp.Ordering.TheVariants.{Less, Equal, Greater}
 use Rattle.std.proofs.lemmas.Bool.{eqb-true, eq-eqb}
-use Rattle.std.proofs.lemmas.List.{set-get_or}
 use Rattle.std.proofs.lemmas.List.Elements.{All-head, All-tail}
 use Rattle.std.proofs.lemmas.Map.Keys.{IsDistinct-from_sorted}
 use Rattle.std.proofs.lemmas.Map.Made.{lookup-map_values}
 use Rattle.std.proofs.lemmas.Map.Views.{All-values_from_lookup}
-use Rattle.slab.specs.Slab.{Slab, get, with_value}
 use Rattle.usb_port.specs.Order.{path_cmp}
 use Rattle.usb_enum.specs.declared.cause.Cause.TheVariants.{Silent}
 use Rattle.usb_enum.specs.declared.finding.Finding.{Finding}
 use Rattle.usb_enum.specs.declared.finding.Finding.TheVariants.{Refused}
+use Rattle.usb_table.specs.declared.pipes.Pipes.{Pipes}
+use Rattle.usb_table.specs.Table.{Table}
 use Rattle.usb_table.specs.Entries.{Entries, Rises, has_at, is_at_or_below}
-use Rattle.usb_table.specs.Keys.{Slots, PathKeys, AddressKeys, key_of_path, key_of_address, finding_under, entries_of, address_in, with_address, without_address}
+use Rattle.usb_table.specs.Keys.{Standing, Standings, Slots, PathKeys, AddressKeys, key_of_path, key_of_address, under, listed, findings, finding_under, entries_of, address_in, with_address, without_address}
 
 -- Tests of keys
 
@@ -40,24 +40,77 @@ same_or_not_by x y false e = inr (λ h. let t : (x == y) ≡ true = eq-eqb x y h
 pub same_or_not : (x y : ℕ) → (x ≡ y) ⊎ (x ≢ y)
 same_or_not x y = same_or_not_by x y (x == y) refl
 
--- A value written back under its key changes nothing
+-- What the lists show of the keys
 
-pub same_slot : {T : Type 0} (s : Slab T) (key : ℕ) (value : T) → get s key ≡ Some value → with_value s key value ≡ s
-same_slot s key value is = ap (λ slots. record s { slots = slots }) (ap (λ v. set s.slots key v) (sym is) ∙ set-get_or s.slots key None)
+module _ {A : Type 0} (none : A) (slots : ℕ → Option A) where
+  pub listed-lookup : (path : List ℕ) (paths : PathKeys) → lookup (is_at (path_cmp path)) (listed none slots paths) ≡ option_map (under none slots) (key_of_path paths path)
+  listed-lookup path paths = lookup-map_values (under none slots) (is_at (path_cmp path)) paths
+
+  pub listed_at : (path : List ℕ) (paths : PathKeys) (key : ℕ) (value : A) → key_of_path paths path ≡ Some key → slots key ≡ Some value → lookup (is_at (path_cmp path)) (listed none slots paths) ≡ Some value
+  listed_at path paths key value is stands = listed-lookup path paths ∙ ap (option_map (under none slots)) is ∙ ap (λ f. Some (unwrap_or f none)) stands
+
+  pub listed_none : (path : List ℕ) (paths : PathKeys) → key_of_path paths path ≡ None → lookup (is_at (path_cmp path)) (listed none slots paths) ≡ None
+  listed_none path paths is = listed-lookup path paths ∙ ap (option_map (under none slots)) is
+
+  pub listed-remove : (test : List ℕ → Bool) (paths : PathKeys) → listed none slots (remove_entry test paths) ≡ remove_entry test (listed none slots paths)
+  listed-remove test [] = refl
+  listed-remove test (e ∷ es) =
+      (elim (test e.0) as (λ b. listed none slots (cond b es (e ∷ remove_entry test es)) ≡ cond b (listed none slots es) ((e.0, under none slots e.1) ∷ remove_entry test (listed none slots es))) [
+        | true ↦ refl
+        | false ↦ ap (λ l. (e.0, under none slots e.1) ∷ l) (listed-remove test es)
+      ])
+
+  pub listed-insert : (path : List ℕ) (key : ℕ) (paths : PathKeys) → listed none slots (insert_entry path_cmp paths path key) ≡ insert_entry path_cmp (listed none slots paths) path (under none slots key)
+  listed-insert path key [] = refl
+  listed-insert path key (e ∷ es) =
+      (elim (path_cmp path e.0) as (λ o. listed none slots (match_ordering o ((path, key) ∷ e ∷ es) ((e.0, key) ∷ es) (e ∷ insert_entry path_cmp es path key)) ≡ match_ordering o ((path, under none slots key) ∷ (e.0, under none slots e.1) ∷ listed none slots es) ((e.0, under none slots key) ∷ listed none slots es) ((e.0, under none slots e.1) ∷ insert_entry path_cmp (listed none slots es) path (under none slots key))) [
+        | Less ↦ refl
+        | Equal ↦ refl
+        | Greater ↦ ap (λ l. (e.0, under none slots e.1) ∷ l) (listed-insert path key es)
+      ])
+
+-- slots that agree on the keys show the same
+
+if_some : {P : ℕ → Type 0} (slot : Option ℕ) → ((key : ℕ) → slot ≡ Some key → P key) → IfSome slot P
+if_some None each = tt
+if_some (Some key) each = each key refl
+
+module _ {A : Type 0} (none : A) (old new : ℕ → Option A) where
+  listed-agree : (paths : PathKeys) → All (λ k. new k ≡ old k) (values_of paths) → listed none new paths ≡ listed none old paths
+  listed-agree [] all = refl
+  listed-agree (e ∷ es) all =
+      let head : new e.1 ≡ old e.1 = All-head (λ k. new k ≡ old k) e.1 (values_of es) all in
+      let tail = listed-agree es (All-tail (λ k. new k ≡ old k) e.1 (values_of es) all) in
+      ap (λ f. (e.0, unwrap_or f none) ∷ listed none new es) head ∙ ap (λ l. (e.0, under none old e.1) ∷ l) tail
+
+  pub agree : (paths : PathKeys) → IsStrictlySortedBy path_cmp (keys_of paths) → ((path : List ℕ) (key : ℕ) → key_of_path paths path ≡ Some key → new key ≡ old key) → listed none new paths ≡ listed none old paths
+  agree paths rises each =
+      listed-agree paths
+      (All-values_from_lookup (eq_by_cmp_equiv nat_list_cmp_total) (λ k. new k ≡ old k) paths (IsDistinct-from_sorted path_cmp (keys_of paths) rises) (λ q. if_some (key_of_path paths q) (each q)))
 
 -- What the entries show of the keys
 
 pub entries-lookup : (found : Slots) (path : List ℕ) (paths : PathKeys) → lookup (is_at (path_cmp path)) (entries_of found paths) ≡ option_map (finding_under found) (key_of_path paths path)
-entries-lookup found path paths = lookup-map_values (finding_under found) (is_at (path_cmp path)) paths
+entries-lookup found = listed-lookup (Refused Silent) found
 
 pub found_at : (found : Slots) (path : List ℕ) (paths : PathKeys) (key : ℕ) (finding : Finding) → key_of_path paths path ≡ Some key → found key ≡ Some finding → lookup (is_at (path_cmp path)) (entries_of found paths) ≡ Some finding
-found_at found path paths key finding is stands = entries-lookup found path paths ∙ ap (option_map (finding_under found)) is ∙ ap (λ f. Some (unwrap_or f (Refused Silent))) stands
-
-pub under : (found : Slots) (key : ℕ) (finding : Finding) → found key ≡ Some finding → finding_under found key ≡ finding
-under found key finding stands = ap (λ f. unwrap_or f (Refused Silent)) stands
+found_at found = listed_at (Refused Silent) found
 
 pub none_at : (found : Slots) (path : List ℕ) (paths : PathKeys) → key_of_path paths path ≡ None → lookup (is_at (path_cmp path)) (entries_of found paths) ≡ None
-none_at found path paths is = entries-lookup found path paths ∙ ap (option_map (finding_under found)) is
+none_at found = listed_none (Refused Silent) found
+
+pub found_in : (standings : Standings) (key : ℕ) (s : Standing) → standings key ≡ Some s → findings standings key ≡ Some s.finding
+found_in standings key s stands = ap (option_map (λ (t : Standing). t.finding)) stands
+
+some_by : (o : Option Standing) → IsSome (option_map (λ (t : Standing). t.finding) o) → IsSome o
+some_by None h = absurd cc
+some_by (Some s) h = refl
+
+pub some_standing : (standings : Standings) (key : ℕ) → IsSome (findings standings key) → IsSome (standings key)
+some_standing standings key h = some_by (standings key) h
+
+pub finding_stands : (found : Slots) (key : ℕ) (finding : Finding) → found key ≡ Some finding → finding_under found key ≡ finding
+finding_stands found key finding stands = ap (λ f. unwrap_or f (Refused Silent)) stands
 
 pub entries-keys : (found : Slots) (paths : PathKeys) → keys_of (entries_of found paths) ≡ keys_of paths
 entries-keys found [] = refl
@@ -70,39 +123,10 @@ pub entries-has_at : (found : Slots) (path : List ℕ) (paths : PathKeys) → ha
 entries-has_at found path [] = refl
 entries-has_at found path (e ∷ es) = ap (λ b. is_at_or_below e.0 path || b) (entries-has_at found path es)
 
-pub entries-remove : (found : Slots) (test : List ℕ → Bool) (paths : PathKeys) → entries_of found (remove_entry test paths) ≡ remove_entry test (entries_of found paths)
-entries-remove found test [] = refl
-entries-remove found test (e ∷ es) =
-    (elim (test e.0) as (λ b. entries_of found (cond b es (e ∷ remove_entry test es)) ≡ cond b (entries_of found es) ((e.0, finding_under found e.1) ∷ remove_entry test (entries_of found es))) [
-      | true ↦ refl
-      | false ↦ ap (λ l. (e.0, finding_under found e.1) ∷ l) (entries-remove found test es)
-    ])
+-- The table is its two lists
 
-pub entries-insert : (found : Slots) (path : List ℕ) (key : ℕ) (paths : PathKeys) → entries_of found (insert_entry path_cmp paths path key) ≡ insert_entry path_cmp (entries_of found paths) path (finding_under found key)
-entries-insert found path key [] = refl
-entries-insert found path key (e ∷ es) =
-    (elim (path_cmp path e.0) as (λ o. entries_of found (match_ordering o ((path, key) ∷ e ∷ es) ((e.0, key) ∷ es) (e ∷ insert_entry path_cmp es path key)) ≡ match_ordering o ((path, finding_under found key) ∷ (e.0, finding_under found e.1) ∷ entries_of found es) ((e.0, finding_under found key) ∷ entries_of found es) ((e.0, finding_under found e.1) ∷ insert_entry path_cmp (entries_of found es) path (finding_under found key))) [
-      | Less ↦ refl
-      | Equal ↦ refl
-      | Greater ↦ ap (λ l. (e.0, finding_under found e.1) ∷ l) (entries-insert found path key es)
-    ])
-
--- slots that agree on the keys show the same entries
-entries-agree : (old new : Slots) (paths : PathKeys) → All (λ k. new k ≡ old k) (values_of paths) → entries_of new paths ≡ entries_of old paths
-entries-agree old new [] all = refl
-entries-agree old new (e ∷ es) all =
-    let head : new e.1 ≡ old e.1 = All-head (λ k. new k ≡ old k) e.1 (values_of es) all in
-    let tail = entries-agree old new es (All-tail (λ k. new k ≡ old k) e.1 (values_of es) all) in
-    ap (λ f. (e.0, unwrap_or f (Refused Silent)) ∷ entries_of new es) head ∙ ap (λ l. (e.0, finding_under old e.1) ∷ l) tail
-
-if_some : {P : ℕ → Type 0} (slot : Option ℕ) → ((key : ℕ) → slot ≡ Some key → P key) → IfSome slot P
-if_some None each = tt
-if_some (Some key) each = each key refl
-
-pub agree : (old new : Slots) (paths : PathKeys) → IsStrictlySortedBy path_cmp (keys_of paths) → ((path : List ℕ) (key : ℕ) → key_of_path paths path ≡ Some key → new key ≡ old key) → entries_of new paths ≡ entries_of old paths
-agree old new paths rises each =
-    entries-agree old new paths
-    (All-values_from_lookup (eq_by_cmp_equiv nat_list_cmp_total) (λ k. new k ≡ old k) paths (IsDistinct-from_sorted path_cmp (keys_of paths) rises) (λ q. if_some (key_of_path paths q) (each q)))
+pub same_table : (entries others : Entries) (pipes more : List (List ℕ × Pipes)) → entries ≡ others → pipes ≡ more → ◌≡◌ {A = Table} (record { entries = entries; pipes = pipes }) (record { entries = others; pipes = more })
+same_table entries others pipes more e f = ap (λ es. record { entries = es; pipes = pipes }) e ∙ ap (λ ps. record { entries = others; pipes = ps }) f
 
 -- What is entered can be taken back
 

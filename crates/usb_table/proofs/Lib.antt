@@ -12,4 +12,6 @@ pub mod PlannedListing
 pub mod Ports
 pub mod Removals
 pub mod Sound
+pub mod Staying
 pub mod Targets
+pub mod Throughs

@@ -7,7 +7,8 @@ use Rattle.std.specs.BTreeMap.{is_at}
 use Rattle.usb_port.specs.Order.{path_cmp}
 use Rattle.usb_enum.specs.declared.finding.Finding.{Finding}
 use Rattle.usb_table.proofs.Paths.{path_tied}
-use Rattle.usb_table.specs.Entries.{Entries, TakesOut, has_at, is_at_or_below, without}
+use Rattle.usb_table.specs.Entries.{Entries, has_at, is_at_or_below, without}
+use Rattle.usb_table.specs.Table.{Table, TakesOut}
 
 length_without : (test : List ℕ → Bool) (es : Entries) (v : Finding) → lookup test es ≡ Some v → length (remove_entry test es) + 1 ≡ length es
 length_without test [] v h = absurd cc
@@ -17,8 +18,9 @@ length_without test (e ∷ es) v h =
       | false ↦ λ k. omega (arith, length_without test es v k)
     ]) h
 
-pub takes_one : (path : List ℕ) (finding : Finding) (old new : Entries) → TakesOut path finding old new → length new + 1 ≡ length old
-takes_one path finding old new t = subst (λ es. length es + 1 ≡ length old) (sym t.rest) (length_without (is_at (path_cmp t.first)) old finding t.found)
+pub takes_one : (path : List ℕ) (finding : Finding) (old new : Table) → TakesOut path finding old new → length new.entries + 1 ≡ length old.entries
+takes_one path finding old new t =
+    subst (λ (left : Table). length left.entries + 1 ≡ length old.entries) (sym t.rest) (length_without (is_at (path_cmp t.first)) old.entries finding t.found)
 
 -- a taken entry stood at the path or below it, so that what stands elsewhere is as before
 kept_step : (keep : List ℕ → Bool) (e : List ℕ × Finding) (es rest : Entries) (b : Bool) → (b ≡ true → keep e.0 ≡ false) → filter (λ d. keep d.0) rest ≡ filter (λ d. keep d.0) es
@@ -30,11 +32,11 @@ kept_apart : (keep test : List ℕ → Bool) → ((q : List ℕ) → test q ≡ 
 kept_apart keep test goes [] = refl
 kept_apart keep test goes (e ∷ es) = kept_step keep e es (remove_entry test es) (test e.0) (goes e.0) (kept_apart keep test goes es)
 
-pub taken_apart : (path : List ℕ) (finding : Finding) (old new : Entries) → TakesOut path finding old new → without path new ≡ without path old
+pub taken_apart : (path : List ℕ) (finding : Finding) (old new : Table) → TakesOut path finding old new → without path new.entries ≡ without path old.entries
 taken_apart path finding old new t =
-    ap (without path) t.rest
+    ap (λ (left : Table). without path left.entries) t.rest
     ∙ kept_apart (λ q. not (is_at_or_below q path)) (is_at (path_cmp t.first))
-    (λ q tie. subst (λ r. not (is_at_or_below r path) ≡ false) (path_tied t.first q tie) (rw t.at refl)) old
+    (λ q tie. subst (λ r. not (is_at_or_below r path) ≡ false) (path_tied t.first q tie) (rw t.at refl)) old.entries
 
 rest_false : (b c : Bool) → (b || c) ≡ false → c ≡ false
 rest_false true c h = cc

@@ -1,10 +1,10 @@
 -- What is known of the ports: paths with what was found there, by rising path.
-use Rattle.std.specs.Prelude.{◌≡◌, ◌⊎◌, not, ℕ, List, Bool, true, ◌||◌, Some, nat_eq}
+use Rattle.std.specs.Prelude.{◌≡◌, ◌⊎◌, not, ℕ, List, Bool, ◌||◌, nat_eq}
 use Rattle.std.specs.Cmp.Lexicographic.{pointwise}
-use Rattle.std.specs.BTreeMap.{is_at, insert_entry}
+use Rattle.std.specs.BTreeMap.{insert_entry}
 use Rattle.std.specs.List.{list_any, filter}
 use Rattle.std.specs.List.Sorted.{IsStrictlySortedBy}
-use Rattle.std.specs.Map.{keys_of, lookup, remove_entry}
+use Rattle.std.specs.Map.{keys_of}
 use Rattle.usb_port.specs.Order.{path_cmp, is_below}
 use Rattle.usb_enum.specs.declared.finding.Finding.{Finding}
 
@@ -29,10 +29,3 @@ Replaced path old new = (new ≡ old) ⊎ ((finding : Finding) × (new ≡ inser
 -- the paths rise
 abbrev pub Rises : Entries → Type 0
 Rises entries = IsStrictlySortedBy path_cmp (keys_of entries)
-
--- an entry at the path or below it is taken out
-pub record TakesOut (path : List ℕ) (finding : Finding) (old new : Entries) : Type 0 where
-  pub first : List ℕ
-  pub at : is_at_or_below first path ≡ true
-  pub found : lookup (is_at (path_cmp first)) old ≡ Some finding
-  pub rest : new ≡ remove_entry (is_at (path_cmp first)) old

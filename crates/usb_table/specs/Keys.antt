@@ -1,5 +1,5 @@
 -- The keys under which entries are kept, and the two indexes of them.
-use Rattle.std.specs.Prelude.{◌≡◌, ◌↔◌, ℕ, List, map, Option, Some, None, IsSome, unwrap_or, if◌then◌else◌}
+use Rattle.std.specs.Prelude.{◌≡◌, ◌↔◌, ℕ, List, map, Option, Some, None, IsSome, unwrap_or, option_map, if◌then◌else◌}
 use Rattle.std.specs.BTreeMap.{is_at, insert_entry}
 use Rattle.std.specs.List.Sorted.{IsStrictlySortedBy}
 use Rattle.std.specs.Map.{keys_of, lookup, remove_entry}
@@ -9,12 +9,31 @@ use Rattle.usb_enum.specs.declared.cause.Cause.TheVariants.{Silent}
 use Rattle.usb_enum.specs.declared.finding.Finding.{Finding}
 use Rattle.usb_enum.specs.declared.finding.Finding.TheVariants.{Refused}
 use Rattle.usb_table.specs.declared.indexes.Indexes.{Indexes}
+use Rattle.usb_table.specs.declared.pipes.Pipes.{Pipes}
+use Rattle.usb_table.specs.declared.pipes.Pipes.TheVariants.{Absent}
 use Rattle.usb_table.specs.Entries.{Entries}
 use Rattle.usb_table.specs.Findings.{address_of}
+use Rattle.usb_table.specs.Known.{is_below_hub}
+use Rattle.usb_table.specs.Pipes.{ArePipesOf}
+use Rattle.usb_table.specs.Table.{Table}
+
+-- what stands at a port
+pub record Standing : Type 0 where
+  pub finding : Finding
+  pub pipes : Pipes
+
+abbrev pub Standings : Type 0
+Standings = ℕ → Option Standing
 
 -- what is found under each key
 abbrev pub Slots : Type 0
 Slots = ℕ → Option Finding
+
+abbrev pub findings : Standings → Slots
+findings standings key = option_map (λ s. s.finding) (standings key)
+
+abbrev pub pipings : Standings → ℕ → Option Pipes
+pipings standings key = option_map (λ s. s.pipes) (standings key)
 
 -- the keys by rising path, and by rising address
 abbrev pub PathKeys : Type 0
@@ -29,13 +48,22 @@ key_of_path paths path = lookup (is_at (path_cmp path)) paths
 abbrev pub key_of_address : AddressKeys → ℕ → Option ℕ
 key_of_address addresses address = lookup (is_at (nat_cmp address)) addresses
 
--- what stands under a key; under each key of a path something does
-abbrev pub finding_under : Slots → ℕ → Finding
-finding_under found key = unwrap_or (found key) (Refused Silent)
+-- what is under a key; under each key of a path something is
+abbrev pub under : {A : Type 0} → A → (ℕ → Option A) → ℕ → A
+under none slots key = unwrap_or (slots key) none
 
--- the entries, by rising path
+-- what is under the keys, by rising path
+abbrev pub listed : {A : Type 0} → A → (ℕ → Option A) → PathKeys → List (List ℕ × A)
+listed none slots paths = map (λ e. (e.0, under none slots e.1)) paths
+
+abbrev pub finding_under : Slots → ℕ → Finding
+finding_under found key = under (Refused Silent) found key
+
 abbrev pub entries_of : Slots → PathKeys → Entries
-entries_of found paths = map (λ e. (e.0, finding_under found e.1)) paths
+entries_of found paths = listed (Refused Silent) found paths
+
+abbrev pub table_of : Standings → PathKeys → Table
+table_of standings paths = record { entries = entries_of (findings standings) paths; pipes = listed Absent (pipings standings) paths }
 
 abbrev pub address_in : Option Finding → Option ℕ
 address_in None = None
@@ -47,6 +75,11 @@ pub record AreIndexes (found : Slots) (paths : PathKeys) (addresses : AddressKey
   pub once : (path other : List ℕ) (key : ℕ) → key_of_path paths path ≡ Some key → key_of_path paths other ≡ Some key → other ≡ path
   pub named : (key : ℕ) → IsSome (found key) → (path : List ℕ) × (key_of_path paths path ≡ Some key)
   pub addressed : (address key : ℕ) → (key_of_address addresses address ≡ Some key) ↔ (address_in (found key) ≡ Some address)
+
+-- under each path's key stand the pipes to what was found
+abbrev pub ArePiped : Standings → PathKeys → Type 0
+ArePiped standings paths =
+    (path : List ℕ) (key : ℕ) (s : Standing) → key_of_path paths path ≡ Some key → standings key ≡ Some s → ArePipesOf s.finding (is_below_hub path) s.pipes
 
 -- the keys of addresses, where one with a key comes or goes
 abbrev pub with_address : Option ℕ → ℕ → AddressKeys → AddressKeys

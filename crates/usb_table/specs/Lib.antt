@@ -6,4 +6,5 @@ pub mod Known
 pub mod Listing
 pub mod Next
 pub mod Pipes
+pub mod Table
 pub mod Transfers

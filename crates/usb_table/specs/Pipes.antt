@@ -1,9 +1,11 @@
 -- The pipes to a device.
-use Rattle.std.specs.Prelude.{◌≡◌, ⊤, ℕ, ◌≤◌, Bool, true, false, Option, Some, None, is_some}
+use Rattle.std.specs.Prelude.{◌≡◌, ⊤, ℕ, ◌≤◌, Bool, true, false, Option, Some, None, is_some, if◌then◌else◌}
 use Rattle.usb_descriptor.specs.Choice.{status_endpoint_of}
+use Rattle.usb_packet.specs.declared.Toggle.TheVariants.{Zero}
 use Rattle.usb_pipe.specs.Bulk.{Bulk}
 use Rattle.usb_pipe.specs.End.{packet_target}
 use Rattle.usb_pipe.specs.Interrupt.{Interrupt}
+use Rattle.usb_pipe.specs.declared.condition.Condition.TheVariants.{Ready}
 use Rattle.usb_enum.specs.declared.finding.Accepted.{Accepted}
 use Rattle.usb_enum.specs.declared.finding.Finding.{Finding}
 use Rattle.usb_enum.specs.declared.finding.Finding.TheVariants.{Device, Refused}
@@ -12,14 +14,13 @@ use Rattle.usb_table.specs.declared.pipes.Pipes.{Pipes}
 use Rattle.usb_table.specs.declared.pipes.Pipes.TheVariants.{Hub, Function, Absent}
 use Rattle.usb_table.specs.Findings.{bulk_out, bulk_in}
 
--- a pipe to the status endpoint of a hub
-pub record IsStatusPipe (device : Accepted) (pipe : Interrupt) : Type 0 where
-  pub below_hub : Bool
+-- a pipe to the status endpoint of a hub, which stands below another one or on the root
+pub record IsStatusPipe (device : Accepted) (below_hub : Bool) (pipe : Interrupt) : Type 0 where
   pub target : pipe.target ≡ packet_target (target_of device below_hub) pipe.target.max
   pub endpoint : status_endpoint_of (configuration_of device) ≡ Some (pipe.ep, pipe.target.max)
   pub other : 1 ≤ pipe.ep  -- not endpoint 0
 
--- a pipe to a bulk endpoint of a function
+-- a pipe to a bulk endpoint of a function, which is at full speed
 pub record IsBulkPipe (device : Accepted) (is_in : Bool) (endpoint : ℕ × ℕ) (pipe : Bulk) : Type 0 where
   pub target : pipe.target ≡ target_of device false
   pub number : pipe.ep ≡ endpoint.0
@@ -35,12 +36,36 @@ IsPipe device is_in None (Some pipe) = ⊥
 IsPipe device is_in (Some endpoint) None = ⊥
 IsPipe device is_in (Some endpoint) (Some pipe) = IsBulkPipe device is_in endpoint pipe
 
-abbrev pub ArePipesTo : Accepted → Pipes → Type 0
-ArePipesTo device (Hub pipe) = (is_some device.hub ≡ true) × IsStatusPipe device pipe
-ArePipesTo device (Function pipes) = (is_some device.hub ≡ false) × IsPipe device false (bulk_out device) pipes.out × IsPipe device true (bulk_in device) pipes.into
-ArePipesTo device Absent = ⊥
+abbrev pub ArePipesTo : Accepted → Bool → Pipes → Type 0
+ArePipesTo device below_hub (Hub pipe) = (is_some device.hub ≡ true) × IsStatusPipe device below_hub pipe
+ArePipesTo device below_hub (Function pipes) =
+    (is_some device.hub ≡ false) × IsPipe device false (bulk_out device) pipes.out × IsPipe device true (bulk_in device) pipes.into
+ArePipesTo device below_hub Absent = ⊥
 
 -- the pipes to what was found
-abbrev pub ArePipesOf : Finding → Pipes → Type 0
-ArePipesOf (Device device) pipes = ArePipesTo device pipes
-ArePipesOf (Refused cause) pipes = pipes ≡ Absent
+abbrev pub ArePipesOf : Finding → Bool → Pipes → Type 0
+ArePipesOf (Device device) below_hub pipes = ArePipesTo device below_hub pipes
+ArePipesOf (Refused cause) below_hub pipes = pipes ≡ Absent
+
+-- Pipes that were just made: none has moved a packet
+
+-- to a hub's status endpoint; each hub that is accepted has one
+abbrev pub new_status : Accepted → Bool → Option (ℕ × ℕ) → Pipes
+new_status device below_hub None = Absent
+new_status device below_hub (Some endpoint) =
+    Hub (record { target = packet_target (target_of device below_hub) endpoint.1; ep = endpoint.0; toggle = Zero })
+
+abbrev pub new_bulk : Accepted → Bool → Option (ℕ × ℕ) → Option Bulk
+new_bulk device is_in None = None
+new_bulk device is_in (Some endpoint) =
+    Some (record { target = target_of device false; ep = endpoint.0; max = endpoint.1; is_in = is_in; toggle = Zero; condition = Ready })
+
+abbrev pub new_pipes_to : Accepted → Bool → Pipes
+new_pipes_to device below_hub =
+    if is_some device.hub
+    then new_status device below_hub (status_endpoint_of (configuration_of device))
+    else Function (record { out = new_bulk device false (bulk_out device); into = new_bulk device true (bulk_in device) })
+
+abbrev pub new_pipes : Finding → Bool → Pipes
+new_pipes (Device device) below_hub = new_pipes_to device below_hub
+new_pipes (Refused cause) below_hub = Absent

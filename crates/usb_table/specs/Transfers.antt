@@ -3,6 +3,7 @@ use Rattle.std.specs.Prelude.{◌≡◌, ⊤, ℕ, ◌*◌, List, length, Bool, 
 use Rattle.std.specs.Global.{Vec}
 use Rattle.std.specs.Int.{div_ceil}
 use Rattle.arrayvec.specs.ArrayVec.{ArrayVec}
+use Rattle.usb_world.specs.Passes.{IsSettled}
 use Rattle.usb_world.specs.World.{World, Spends, Failed}
 use Rattle.usb_transaction.specs.Trans.{Worked}
 use Rattle.usb_pipe.specs.Control.{Faults}
@@ -10,21 +11,23 @@ use Rattle.usb_pipe.specs.Bulk.{Bulk, Sends, Receives, Clears}
 use Rattle.usb_pipe.specs.Interrupt.{Interrupt, Polls}
 use Rattle.usb_pipe.specs.declared.fault.PipeFault.{PipeFault}
 use Rattle.usb_pipe.specs.declared.fault.PipeFault.TheVariants as pipe
-use Rattle.usb_enum.specs.declared.finding.Accepted.{Accepted}
+use Rattle.usb_address.specs.Owned.{KeepsAddresses}
+use Rattle.usb_hub.specs.Addresses.{KeepsDevices}
+use Rattle.usb_hub.specs.Requests.{AllRest}
 use Rattle.usb_table.specs.declared.fault.EndpointFault.{EndpointFault}
 use Rattle.usb_table.specs.declared.fault.EndpointFault.TheVariants.{NoDevice, NoEndpoint, Pipe}
 use Rattle.usb_table.specs.declared.pipes.BulkPipes.{BulkPipes}
-use Rattle.usb_table.specs.Findings.{bulk_out, bulk_in}
-use Rattle.usb_table.specs.Pipes.{IsStatusPipe, IsBulkPipe}
+use Rattle.usb_table.specs.declared.pipes.Pipes.{Pipes}
+use Rattle.usb_table.specs.declared.pipes.Pipes.TheVariants.{Hub, Function, Absent}
 
 -- what a pipe answered
 abbrev pub through : {A : Type 0} → Result A PipeFault → Result A EndpointFault
 through (Ok answer) = Ok answer
 through (Err fault) = Err (Pipe fault)
 
--- nothing was tried
-abbrev pub NotTried : {A : Type 0} → EndpointFault → World → Result A EndpointFault → World → Type 0
-NotTried fault old result new = (result ≡ Err fault) × (new ≡ old)
+-- nothing was tried, and the pipe or the pipes are as they were
+abbrev pub NotTried : {A P : Type 0} → EndpointFault → P → World → Result A EndpointFault → P → World → Type 0
+NotTried fault pipe old result left new = (result ≡ Err fault) × (left ≡ pipe) × (new ≡ old)
 
 -- the bus tells its fault
 abbrev pub PipeTold : PipeFault → World → Type 0
@@ -53,7 +56,7 @@ pub record SentThrough (pipe : Bulk) (bytes : List ℕ) (old : World) (result : 
   pub sends : Sends bytes pipe old answer left new
 
 abbrev pub SentBy : Option Bulk → List ℕ → World → Result (Unit {0}) EndpointFault → Option Bulk → World → Type 0
-SentBy None bytes old result left new = NotTried NoEndpoint old result new × (left ≡ None)
+SentBy None bytes old result left new = NotTried NoEndpoint None old result left new
 SentBy (Some pipe) bytes old result None new = ⊥
 SentBy (Some pipe) bytes old result (Some left) new = SentThrough pipe bytes old result left new
 
@@ -64,7 +67,7 @@ pub record ReceivedThrough (pipe : Bulk) (packets : ℕ) (old : World) (result :
   pub receives : Receives packets pipe old answer left new
 
 abbrev pub ReceivedBy : Option Bulk → ℕ → World → Result (Vec ℕ) EndpointFault → Option Bulk → World → Type 0
-ReceivedBy None packets old result left new = NotTried NoEndpoint old result new × (left ≡ None)
+ReceivedBy None packets old result left new = NotTried NoEndpoint None old result left new
 ReceivedBy (Some pipe) packets old result None new = ⊥
 ReceivedBy (Some pipe) packets old result (Some left) new = ReceivedThrough pipe packets old result left new
 
@@ -74,7 +77,7 @@ pub record ClearedThrough (pipe : Bulk) (old : World) (answer : Result (Unit {0}
 
 -- no pipe needs no clearing
 abbrev pub ClearedBy : Option Bulk → World → Result (Unit {0}) PipeFault → Option Bulk → World → Type 0
-ClearedBy None old answer left new = (answer ≡ Ok tt) × (new ≡ old) × (left ≡ None)
+ClearedBy None old answer left new = (answer ≡ Ok tt) × (left ≡ None) × (new ≡ old)
 ClearedBy (Some pipe) old answer None new = ⊥
 ClearedBy (Some pipe) old answer (Some left) new = ClearedThrough pipe old answer left new
 
@@ -90,86 +93,52 @@ pub record ClearedInOrder (pipes : BulkPipes) (old : World) (result : Result (Un
   pub into : ClearedAfter first pipes.into mid result left.into new
 
 abbrev pub ClearedIf : Bool → BulkPipes → World → Result (Unit {0}) EndpointFault → BulkPipes → World → Type 0
-ClearedIf false pipes old result left new = NotTried NoEndpoint old result new × (left ≡ pipes)
+ClearedIf false pipes old result left new = NotTried NoEndpoint pipes old result left new
 ClearedIf true pipes old result left new = ClearedInOrder pipes old result left new
 
+-- the halt of the OUT endpoint, then of the IN endpoint; the first fault ends it
 abbrev pub ClearedInTurn : BulkPipes → World → Result (Unit {0}) EndpointFault → BulkPipes → World → Type 0
 ClearedInTurn pipes old result left new = ClearedIf (is_some pipes.out || is_some pipes.into) pipes old result left new
 
--- To what stands at a port
+-- Through the pipes to what stands at a port
 
--- the hub's status endpoint was asked by a pipe to it
-pub record PolledBy (device : Accepted) (old : World) (result : Result (Option (ArrayVec ℕ)) PipeFault) (new : World) : Type 0 where
-  pub pipe : Interrupt
-  pub to : IsStatusPipe device pipe
-  pub left : Interrupt
+-- so it is of whatever is no hub
+abbrev pub NotPolled : Pipes → World → Result (Option (ArrayVec ℕ)) PipeFault → Pipes → World → Type 0
+NotPolled pipes old result left new = (result ≡ Ok None) × (left ≡ pipes) × (new ≡ old)
+
+pub record PolledThrough (pipe : Interrupt) (old : World) (result : Result (Option (ArrayVec ℕ)) PipeFault) (left : Interrupt) (new : World) : Type 0 where
+  pub settled : IsSettled old.roots
   pub polls : Polls pipe old result left new
 
-abbrev pub PolledIf : Bool → Accepted → World → Result (Option (ArrayVec ℕ)) PipeFault → World → Type 0
-PolledIf false device old result new = (result ≡ Ok None) × (new ≡ old)
-PolledIf true device old result new = PolledBy device old result new
+-- a hub's status endpoint is asked, and nothing else
+abbrev pub Polled : Pipes → World → Result (Option (ArrayVec ℕ)) PipeFault → Pipes → World → Type 0
+Polled (Hub pipe) old result left new = (rest : Interrupt) × (left ≡ Hub rest) × PolledThrough pipe old result rest new
+Polled (Function pipes) old result left new = NotPolled (Function pipes) old result left new
+Polled Absent old result left new = NotPolled Absent old result left new
 
--- a hub is asked, and nothing else
-abbrev pub Polled : Option Accepted → World → Result (Option (ArrayVec ℕ)) PipeFault → World → Type 0
-Polled None old result new = (result ≡ Ok None) × (new ≡ old)
-Polled (Some device) old result new = PolledIf (is_some device.hub) device old result new
+-- bytes are sent to the bulk OUT endpoint of a function
+abbrev pub Sent : Pipes → List ℕ → World → Result (Unit {0}) EndpointFault → Pipes → World → Type 0
+Sent (Hub pipe) bytes old result left new = NotTried NoEndpoint (Hub pipe) old result left new
+Sent (Function pipes) bytes old result left new =
+    (out : Option Bulk) × (left ≡ Function (record pipes { out = out })) × SentBy pipes.out bytes old result out new
+Sent Absent bytes old result left new = NotTried NoDevice Absent old result left new
 
-pub record SentTo (device : Accepted) (endpoint : ℕ × ℕ) (bytes : List ℕ) (old : World) (result : Result (Unit {0}) EndpointFault) (new : World) : Type 0 where
-  pub pipe : Bulk
-  pub to : IsBulkPipe device false endpoint pipe
-  pub left : Bulk
-  pub sent : SentThrough pipe bytes old result left new
+-- packets are received from the bulk IN endpoint of a function
+abbrev pub Received : Pipes → ℕ → World → Result (Vec ℕ) EndpointFault → Pipes → World → Type 0
+Received (Hub pipe) packets old result left new = NotTried NoEndpoint (Hub pipe) old result left new
+Received (Function pipes) packets old result left new =
+    (into : Option Bulk) × (left ≡ Function (record pipes { into = into })) × ReceivedBy pipes.into packets old result into new
+Received Absent packets old result left new = NotTried NoDevice Absent old result left new
 
-abbrev pub SentToEnd : Option (ℕ × ℕ) → Accepted → List ℕ → World → Result (Unit {0}) EndpointFault → World → Type 0
-SentToEnd None device bytes old result new = NotTried NoEndpoint old result new
-SentToEnd (Some endpoint) device bytes old result new = SentTo device endpoint bytes old result new
+-- the halts of a function's bulk endpoints are cleared
+abbrev pub Cleared : Pipes → World → Result (Unit {0}) EndpointFault → Pipes → World → Type 0
+Cleared (Hub pipe) old result left new = NotTried NoEndpoint (Hub pipe) old result left new
+Cleared (Function pipes) old result left new = (rest : BulkPipes) × (left ≡ Function rest) × ClearedInTurn pipes old result rest new
+Cleared Absent old result left new = NotTried NoDevice Absent old result left new
 
--- bytes were sent to the bulk OUT endpoint of an accepted function
-abbrev pub Sent : Option Accepted → List ℕ → World → Result (Unit {0}) EndpointFault → World → Type 0
-Sent None bytes old result new = NotTried NoDevice old result new
-Sent (Some device) bytes old result new = SentToEnd (bulk_out device) device bytes old result new
-
-pub record ReceivedFrom (device : Accepted) (endpoint : ℕ × ℕ) (packets : ℕ) (old : World) (result : Result (Vec ℕ) EndpointFault) (new : World) : Type 0 where
-  pub pipe : Bulk
-  pub to : IsBulkPipe device true endpoint pipe
-  pub left : Bulk
-  pub received : ReceivedThrough pipe packets old result left new
-
-abbrev pub ReceivedFromEnd : Option (ℕ × ℕ) → Accepted → ℕ → World → Result (Vec ℕ) EndpointFault → World → Type 0
-ReceivedFromEnd None device packets old result new = NotTried NoEndpoint old result new
-ReceivedFromEnd (Some endpoint) device packets old result new = ReceivedFrom device endpoint packets old result new
-
--- packets were received from the bulk IN endpoint of an accepted function
-abbrev pub Received : Option Accepted → ℕ → World → Result (Vec ℕ) EndpointFault → World → Type 0
-Received None packets old result new = NotTried NoDevice old result new
-Received (Some device) packets old result new = ReceivedFromEnd (bulk_in device) device packets old result new
-
-pub record ClearedTo (device : Accepted) (is_in : Bool) (endpoint : ℕ × ℕ) (old : World) (answer : Result (Unit {0}) PipeFault) (new : World) : Type 0 where
-  pub pipe : Bulk
-  pub to : IsBulkPipe device is_in endpoint pipe
-  pub left : Bulk
-  pub cleared : ClearedThrough pipe old answer left new
-
-abbrev pub ClearedEnd : Accepted → Bool → Option (ℕ × ℕ) → World → Result (Unit {0}) PipeFault → World → Type 0
-ClearedEnd device is_in None old answer new = (answer ≡ Ok tt) × (new ≡ old)
-ClearedEnd device is_in (Some endpoint) old answer new = ClearedTo device is_in endpoint old answer new
-
-abbrev pub ClearedEndAfter : Result (Unit {0}) PipeFault → Accepted → World → Result (Unit {0}) EndpointFault → World → Type 0
-ClearedEndAfter (Ok done) device mid result new = (answer : Result (Unit {0}) PipeFault) × (result ≡ through answer) × ClearedEnd device true (bulk_in device) mid answer new
-ClearedEndAfter (Err fault) device mid result new = (result ≡ Err (Pipe fault)) × (new ≡ mid)
-
--- the bulk OUT endpoint, then the bulk IN endpoint; the first fault ends it
-pub record ClearedEnds (device : Accepted) (old : World) (result : Result (Unit {0}) EndpointFault) (new : World) : Type 0 where
-  pub first : Result (Unit {0}) PipeFault
-  pub mid : World
-  pub out : ClearedEnd device false (bulk_out device) old first mid
-  pub into : ClearedEndAfter first device mid result new
-
-abbrev pub ClearedEndsIf : Bool → Accepted → World → Result (Unit {0}) EndpointFault → World → Type 0
-ClearedEndsIf false device old result new = NotTried NoEndpoint old result new
-ClearedEndsIf true device old result new = ClearedEnds device old result new
-
--- the halts of an accepted function's bulk endpoints were cleared
-abbrev pub Cleared : Option Accepted → World → Result (Unit {0}) EndpointFault → World → Type 0
-Cleared None old result new = NotTried NoDevice old result new
-Cleared (Some device) old result new = ClearedEndsIf (is_some (bulk_out device) || is_some (bulk_in device)) device old result new
+-- What each leaves of the devices and ports: addresses, descriptions and registers are kept, and as long as the bus is at work, nothing is
+-- asked of any port
+pub record Keeps (old new : World) : Type 0 where
+  pub addresses : KeepsAddresses old new
+  pub devices : KeepsDevices old new
+  pub rests : new.fault ≡ None → AllRest old new

@@ -1,7 +1,8 @@
 //! What stands at a port, with the host's pipes to it.
-ghost use Rattle.std.specs.Prelude.{◌≡◌, Some};
+ghost use Rattle.std.specs.Prelude.{◌≡◌};
 ghost use Rattle.usb_bus.specs.Traced.{Traced, Went};
-ghost use Rattle.usb_table.specs.Findings.{IsSound, device_of};
+ghost use Rattle.usb_table.specs.Findings.{IsSound};
+ghost use Rattle.usb_table.specs.Pipes.{ArePipesOf, new_pipes};
 ghost use Rattle.usb_table.specs.Transfers.{PollEnds, Polled, Sent, Received, Cleared};
 
 use crate::EndpointFault;
@@ -21,23 +22,26 @@ pub(crate) struct Entry {
 }
 
 impl Model for Entry {
-    ghost use Rattle.usb_enum.specs.declared.finding.Finding.{Finding};
+    ghost use Rattle.usb_table.specs.Keys.{Standing};
 
-    ghost Value = { Finding };
+    ghost Value = { Standing };
 
+    ghost use Rattle.std.specs.Prelude.{Bool};
     ghost use Rattle.usb_table.specs.Findings.{IsSound};
     ghost use Rattle.usb_table.specs.Pipes.{ArePipesOf};
 
-    ghost view = { λ e. e.finding };
+    ghost view = { λ e. record { finding = e.finding; pipes = e.pipes } };
 
-    ghost invariant = { λ e. IsSound e.finding × ArePipesOf e.finding e.pipes };
+    ghost invariant = { λ e. IsSound e.finding
+        × ((below_hub : Bool) × ArePipesOf e.finding below_hub e.pipes) };
 }
 
 impl Entry {
     /// What was just found, with new pipes.
     pub fn new(finding: Finding, below_hub: bool) -> Entry
         requires { IsSound finding }
-        ensures { result ≡ finding }
+        ensures value { result ≡ record { finding = finding; pipes = new_pipes finding below_hub } }
+        ensures fits { ArePipesOf finding below_hub result.pipes }
     {
         let pipes = match &finding {
             Finding::Device(device) => pipes_to(device, below_hub),
@@ -47,14 +51,14 @@ impl Entry {
     }
 
     pub fn finding(&self) -> &Finding
-        ensures value { result.now ≡ self.now }
-        ensures sound { IsSound self.now }
+        ensures value { result.now ≡ self.now.finding }
+        ensures sound { IsSound self.now.finding }
     {
         &self.finding
     }
 
     pub fn into_finding(self) -> Finding
-        ensures { result ≡ self }
+        ensures { result ≡ self.finding }
     {
         let Entry { finding, pipes: _ } = self;
         finding
@@ -62,10 +66,11 @@ impl Entry {
 
     /// Asks a hub's status endpoint once; `None` of anything else.
     pub fn poll<B: Bus>(&mut self, bus: &mut B) -> Result<Option<ArrayVec<u8, 64>>, PipeFault>
-        ensures same { self.new ≡ self.old }
+        ensures same { self.new.finding ≡ self.old.finding }
         ensures went { Went B.world B.trace 768 bus.old bus.new }
         ensures ends { PollEnds (B.world bus.old) result (B.world bus.new) }
-        ensures polled { Polled (device_of (Some self.old)) (B.world bus.old) result (B.world bus.new) }
+        ensures polled { Polled self.old.pipes
+            (B.world bus.old) result self.new.pipes (B.world bus.new) }
     {
         match &mut self.pipes {
             Pipes::Hub(pipe) => pipe.poll(bus),
@@ -75,9 +80,11 @@ impl Entry {
 
     /// Sends bytes to a function's bulk OUT endpoint.
     pub fn send<B: Bus>(&mut self, bus: &mut B, bytes: &[u8]) -> Result<(), EndpointFault>
-        ensures same { self.new ≡ self.old }
-        ensures traced { Traced (B.world bus.old) (B.trace bus.old) (B.world bus.new) (B.trace bus.new) }
-        ensures sent { Sent (device_of (Some self.old)) bytes.now (B.world bus.old) result (B.world bus.new) }
+        ensures same { self.new.finding ≡ self.old.finding }
+        ensures traced { Traced
+            (B.world bus.old) (B.trace bus.old) (B.world bus.new) (B.trace bus.new) }
+        ensures sent { Sent self.old.pipes bytes.now
+            (B.world bus.old) result self.new.pipes (B.world bus.new) }
     {
         match &mut self.pipes {
             Pipes::Function(pipes) => send_through(&mut pipes.out, bus, bytes),
@@ -93,9 +100,11 @@ impl Entry {
         bus: &mut B,
         packets: u16,
     ) -> Result<Vec<u8>, EndpointFault>
-        ensures same { self.new ≡ self.old }
-        ensures traced { Traced (B.world bus.old) (B.trace bus.old) (B.world bus.new) (B.trace bus.new) }
-        ensures received { Received (device_of (Some self.old)) packets (B.world bus.old) result (B.world bus.new) }
+        ensures same { self.new.finding ≡ self.old.finding }
+        ensures traced { Traced
+            (B.world bus.old) (B.trace bus.old) (B.world bus.new) (B.trace bus.new) }
+        ensures received { Received self.old.pipes packets
+            (B.world bus.old) result self.new.pipes (B.world bus.new) }
     {
         match &mut self.pipes {
             Pipes::Function(pipes) => receive_through(&mut pipes.into, alloc, bus, packets),
@@ -106,9 +115,10 @@ impl Entry {
 
     /// Clears the halts of a function's bulk endpoints.
     pub fn clear_halt<B: Bus>(&mut self, bus: &mut B) -> Result<(), EndpointFault>
-        ensures same { self.new ≡ self.old }
+        ensures same { self.new.finding ≡ self.old.finding }
         ensures went { Went B.world B.trace 3200 bus.old bus.new }
-        ensures cleared { Cleared (device_of (Some self.old)) (B.world bus.old) result (B.world bus.new) }
+        ensures cleared { Cleared self.old.pipes
+            (B.world bus.old) result self.new.pipes (B.world bus.new) }
     {
         match &mut self.pipes {
             Pipes::Function(pipes) => pipes.clear_halt(bus),

@@ -1,8 +1,10 @@
 //! The keys under which entries are kept, by path and by address.
-ghost use Rattle.std.specs.Prelude.{◌≡◌, Some, None, IfSome, IfNone, IsSome, OnOk, OnErr, false, true};
+ghost use Rattle.std.specs.Prelude.{◌≡◌, Some, None, IfSome, IfNone, IsSome, OnOk, OnErr};
+ghost use Rattle.std.specs.Prelude.{false, true};
 ghost use Rattle.std.specs.List.{list_any};
 ghost use Rattle.usb_table.specs.Entries.{is_at_or_below};
-ghost use Rattle.usb_table.specs.Keys.{key_of_path, key_of_address, with_address, without_address, UpdatesAddress, Enters};
+ghost use Rattle.usb_table.specs.Keys.{key_of_path, key_of_address};
+ghost use Rattle.usb_table.specs.Keys.{with_address, without_address, UpdatesAddress, Enters};
 
 use std::alloc::{AllocError, Global};
 use std::collections::BTreeMap;
@@ -30,7 +32,8 @@ impl Indexes {
         requires { IfSome address (λ a. key_of_address self.old.by_address.entries a ≡ None) }
         ensures ok { OnOk result (Enters path address key self.old self.new) }
         ensures paths { OnErr result (self.new.by_path.entries ≡ self.old.by_path.entries) }
-        ensures addresses { OnErr result (self.new.by_address.entries ≡ self.old.by_address.entries) }
+        ensures addresses { OnErr result
+            (self.new.by_address.entries ≡ self.old.by_address.entries) }
     {
         self.insert_address(address, key)?;
         let inserted = self.by_path.insert(path, key);
@@ -43,8 +46,10 @@ impl Indexes {
 
     fn insert_address(&mut self, address: Option<u8>, key: usize) -> Result<(), AllocError>
         ensures paths { self.new.by_path ≡ self.old.by_path }
-        ensures ok { OnOk result (self.new.by_address.entries ≡ with_address address key self.old.by_address.entries) }
-        ensures keys { OnOk result (UpdatesAddress address (Some key) self.old.by_address.entries self.new.by_address.entries) }
+        ensures ok { OnOk result (self.new.by_address.entries
+            ≡ with_address address key self.old.by_address.entries) }
+        ensures keys { OnOk result (UpdatesAddress address (Some key)
+            self.old.by_address.entries self.new.by_address.entries) }
         ensures err { OnErr result (self.new.by_address.entries ≡ self.old.by_address.entries) }
     {
         if let Some(address) = address {
@@ -56,8 +61,10 @@ impl Indexes {
     /// Takes out the key of an address, where there is one.
     pub fn remove_address(&mut self, address: Option<u8>)
         ensures paths { self.new.by_path ≡ self.old.by_path }
-        ensures entries { self.new.by_address.entries ≡ without_address address self.old.by_address.entries }
-        ensures keys { UpdatesAddress address None self.old.by_address.entries self.new.by_address.entries }
+        ensures entries { self.new.by_address.entries
+            ≡ without_address address self.old.by_address.entries }
+        ensures keys { UpdatesAddress address None
+            self.old.by_address.entries self.new.by_address.entries }
     {
         if let Some(address) = address {
             self.by_address.remove(&address);
@@ -67,8 +74,10 @@ impl Indexes {
     /// The least path at or below a path that has a key.
     pub fn first_at(&self, path: &PortPath) -> Option<PortPath>
         ensures some { IfSome result (λ first. is_at_or_below first path.now ≡ true) }
-        ensures found { IfSome result (λ first. IsSome (key_of_path self.now.by_path.entries first)) }
-        ensures none { IfNone result (list_any (λ e. is_at_or_below e.0 path.now) self.now.by_path.entries ≡ false) }
+        ensures found { IfSome result
+            (λ first. IsSome (key_of_path self.now.by_path.entries first)) }
+        ensures none { IfNone result
+            (list_any (λ e. is_at_or_below e.0 path.now) self.now.by_path.entries ≡ false) }
     {
         'entries: for (entry, _) in self.by_path.iter() {
             if is_at_or_below(entry, path) {

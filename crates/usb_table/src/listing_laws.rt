@@ -9,14 +9,18 @@ ghost use Rattle.usb_world.specs.World.{World};
 ghost use Rattle.usb_table.specs.Entries.{Entries};
 ghost use Rattle.usb_table.specs.Listing.{Tree, tree_after, Lists, ListsLike, Matches, NoneWaits};
 
-/// Two right listings of what is plugged list the same findings at the same paths, but for the addresses, where no device
-/// waits for one.
+/// Two right listings of what is plugged list the same findings at the same paths, but for the
+/// addresses, where no device waits for one.
 pub fn one_listing()
-    ensures { (roots : ℕ) (tree : Tree) (a b : Entries) → Lists roots tree a → Lists roots tree b → NoneWaits a → NoneWaits b → ListsLike a b }
+    ensures { (roots : ℕ) (tree : Tree) (a b : Entries)
+        → Lists roots tree a → Lists roots tree b → NoneWaits a → NoneWaits b → ListsLike a b }
 {}
 
-/// A listing of what is plugged in a world of a plan's course is one of what the events that came have left plugged.
+/// A listing of what is plugged in a world of a plan's course is one of what the events that came
+/// have left plugged.
 pub fn listed_is_what_the_events_left()
-    ensures { (plan : PlanData) → IsPlan plan → AtPorts plan.events → (w : World) → Course AnyStep (opening plan) w
-        → (entries : Entries) → Matches w entries → Lists plan.roots (tree_after plan w.taken) entries }
+    ensures { (plan : PlanData) → IsPlan plan → AtPorts plan.events
+        → (w : World) → Course AnyStep (opening plan) w
+        → (entries : Entries) → Matches w entries
+        → Lists plan.roots (tree_after plan w.taken) entries }
 {}

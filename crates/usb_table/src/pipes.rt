@@ -1,9 +1,12 @@
 //! The host's pipes to a device.
 ghost use Rattle.std.specs.Prelude.{◌≡◌, false, true, is_some, IfSome};
 ghost use Rattle.usb_bus.specs.Traced.{Traced, Went};
-ghost use Rattle.usb_descriptor.specs.Choice.{IsUsable};
+ghost use Rattle.usb_descriptor.specs.Choice.{IsUsable, status_endpoint_of};
+ghost use Rattle.usb_enum.specs.Device.{configuration_of};
 ghost use Rattle.usb_table.specs.Findings.{IsSoundDevice, at_full_speed};
 ghost use Rattle.usb_table.specs.Pipes.{ArePipesTo, IsPipe, IsStatusPipe};
+ghost use Rattle.usb_table.specs.Pipes.{new_pipes_to, new_status, new_bulk};
+ghost use Rattle.usb_table.specs.declared.pipes.Pipes.TheVariants.{Hub};
 ghost use Rattle.usb_table.specs.Transfers.{SentBy, ReceivedBy, ClearedBy, ClearedInTurn};
 
 use crate::EndpointFault;
@@ -34,7 +37,8 @@ pub(crate) struct BulkPipes {
 /// The pipes to a device that was just configured.
 pub(crate) fn pipes_to(device: &Accepted, below_hub: bool) -> Pipes
     requires { IsSoundDevice device.now }
-    ensures { ArePipesTo device.now result }
+    ensures value { result ≡ new_pipes_to device.now below_hub }
+    ensures fits { ArePipesTo device.now below_hub result }
 {
     if device.hub.is_some() {
         return Pipes::Hub(status_pipe(device, below_hub));
@@ -50,7 +54,9 @@ pub(crate) fn pipes_to(device: &Accepted, below_hub: bool) -> Pipes
 fn status_pipe(device: &Accepted, below_hub: bool) -> InterruptPipe
     requires sound { IsSoundDevice device.now }
     requires hub { is_some device.now.hub ≡ true }
-    ensures { IsStatusPipe device.now result }
+    ensures value { Hub result ≡ new_status device.now below_hub
+        (status_endpoint_of (configuration_of device.now)) }
+    ensures fits { IsStatusPipe device.now below_hub result }
 {
     match device.configuration().status_endpoint() {
         Some((ep, max)) => InterruptPipe::new(target_to(device, below_hub), ep, max),
@@ -63,7 +69,8 @@ fn status_pipe(device: &Accepted, below_hub: bool) -> InterruptPipe
 fn bulk_pipe(device: &Accepted, endpoint: Option<(u8, u8)>, is_in: bool) -> Option<BulkPipe>
     requires sound { IsSoundDevice device.now }
     requires usable { IfSome endpoint IsUsable }
-    ensures { IsPipe device.now is_in (at_full_speed device.now.low endpoint) result }
+    ensures value { result ≡ new_bulk device.now is_in (at_full_speed device.now.low endpoint) }
+    ensures fits { IsPipe device.now is_in (at_full_speed device.now.low endpoint) result }
 {
     match endpoint {
         Some((ep, max)) if !device.low => {
@@ -80,8 +87,10 @@ pub(crate) fn send_through<B: Bus>(
     bytes: &[u8],
 ) -> Result<(), EndpointFault>
     requires { IfSome pipe.old (λ p. p.is_in ≡ false) }
-    ensures traced { Traced (B.world bus.old) (B.trace bus.old) (B.world bus.new) (B.trace bus.new) }
-    ensures sent { SentBy pipe.old bytes.now (B.world bus.old) result pipe.new (B.world bus.new) }
+    ensures traced { Traced
+        (B.world bus.old) (B.trace bus.old) (B.world bus.new) (B.trace bus.new) }
+    ensures sent { SentBy pipe.old bytes.now
+        (B.world bus.old) result pipe.new (B.world bus.new) }
 {
     match pipe {
         Some(pipe) => Ok(pipe.send(bus, bytes)?),
@@ -97,8 +106,10 @@ pub(crate) fn receive_through<B: Bus>(
     packets: u16,
 ) -> Result<Vec<u8>, EndpointFault>
     requires { IfSome pipe.old (λ p. p.is_in ≡ true) }
-    ensures traced { Traced (B.world bus.old) (B.trace bus.old) (B.world bus.new) (B.trace bus.new) }
-    ensures received { ReceivedBy pipe.old packets (B.world bus.old) result pipe.new (B.world bus.new) }
+    ensures traced { Traced
+        (B.world bus.old) (B.trace bus.old) (B.world bus.new) (B.trace bus.new) }
+    ensures received { ReceivedBy pipe.old packets
+        (B.world bus.old) result pipe.new (B.world bus.new) }
 {
     match pipe {
         Some(pipe) => Ok(pipe.receive(alloc, bus, packets)?),
@@ -121,7 +132,8 @@ impl BulkPipes {
     /// Clears the halt of both endpoints, of the one that writes first.
     pub fn clear_halt<B: Bus>(&mut self, bus: &mut B) -> Result<(), EndpointFault>
         ensures went { Went B.world B.trace 3200 bus.old bus.new }
-        ensures cleared { ClearedInTurn self.old (B.world bus.old) result self.new (B.world bus.new) }
+        ensures cleared { ClearedInTurn self.old
+            (B.world bus.old) result self.new (B.world bus.new) }
     {
         if self.out.is_none() && self.into.is_none() {
             return Err(EndpointFault::NoEndpoint);

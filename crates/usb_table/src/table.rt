@@ -1,16 +1,20 @@
 //! What stands at each port.
-ghost use Rattle.std.specs.Prelude.{◌≡◌, ◌*◌, [], length, false, IfSome, IfNone, IfOk, IfErr, OnOk, OnErr, option_copied};
-ghost use Rattle.std.specs.BTreeMap.{insert_entry, is_at};
+ghost use Rattle.std.specs.Prelude.{◌≡◌, ◌*◌, ℕ, List, length, false, option_copied};
+ghost use Rattle.std.specs.Prelude.{IfSome, IfNone, IfOk, IfErr, OnOk, OnErr};
+ghost use Rattle.std.specs.BTreeMap.{is_at};
 ghost use Rattle.std.specs.Map.{lookup};
 ghost use Rattle.usb_port.specs.Order.{path_cmp};
 ghost use Rattle.usb_bus.specs.Traced.{Went};
-ghost use Rattle.usb_address.specs.Owned.{KeepsAddresses};
-ghost use Rattle.usb_table.specs.Entries.{Entries, Rises, TakesOut, has_at};
-ghost use Rattle.usb_table.specs.Findings.{IsSound, HasNewAddress, HasDevice, HasNoDevice, is_hub, is_waiting, device_at};
+ghost use Rattle.usb_table.specs.Entries.{Rises, has_at};
+ghost use Rattle.usb_table.specs.Findings.{IsSound, is_hub, is_waiting};
+ghost use Rattle.usb_table.specs.Findings.{HasNewAddress, HasDevice, HasNoDevice};
 ghost use Rattle.usb_table.specs.Kinds.{fits};
 ghost use Rattle.usb_table.specs.Known.{IsAskable, known_port};
 ghost use Rattle.usb_table.specs.Next.{IsNext, IsLast};
-ghost use Rattle.usb_table.specs.Transfers.{PollEnds, FaultTold, Polled, Sent, Received, Cleared};
+ghost use Rattle.usb_table.specs.Table.{ArePipesAt, GoesThrough, TakesOut};
+ghost use Rattle.usb_table.specs.Table.{empty, entered, pipes_at};
+ghost use Rattle.usb_table.specs.Transfers.{PollEnds, FaultTold, Keeps};
+ghost use Rattle.usb_table.specs.Transfers.{Polled, Sent, Received, Cleared};
 
 use crate::entry::Entry;
 use crate::found::address_number;
@@ -38,21 +42,23 @@ pub struct DeviceTable {
 
 impl Model for DeviceTable {
     ghost use Rattle.slab.specs.Slab.{get};
-    ghost use Rattle.usb_table.specs.Entries.{Entries};
+    ghost use Rattle.usb_table.specs.Table.{Table};
 
-    ghost Value = { Entries };
+    ghost Value = { Table };
 
-    ghost use Rattle.usb_table.specs.Keys.{AreIndexes, entries_of};
+    ghost use Rattle.usb_table.specs.Keys.{AreIndexes, ArePiped, findings, table_of};
 
-    ghost view = { λ t. entries_of (get t.entries) t.indexes.by_path.entries };
+    ghost view = { λ t. table_of (get t.entries) t.indexes.by_path.entries };
 
-    ghost invariant = { λ t. AreIndexes (get t.entries) t.indexes.by_path.entries t.indexes.by_address.entries };
+    ghost invariant = { λ t. AreIndexes (findings (get t.entries))
+        t.indexes.by_path.entries t.indexes.by_address.entries
+        × ArePiped (get t.entries) t.indexes.by_path.entries };
 }
 
 impl DeviceTable {
     /// A table with no entry.
     pub fn new(alloc: Global) -> Self
-        ensures { result ≡ [] }
+        ensures { result ≡ empty }
     {
         DeviceTable {
             entries: Slab::new(alloc),
@@ -65,10 +71,10 @@ impl DeviceTable {
 
     /// Enters what was just found at a path, where nothing stands at it or below it.
     pub fn insert(&mut self, path: PortPath, finding: Finding) -> Result<(), AllocError>
-        requires away { has_at path self.old ≡ false }
+        requires away { has_at path self.old.entries ≡ false }
         requires sound { IsSound finding }
-        requires address { HasNewAddress finding self.old }
-        ensures ok { OnOk result (self.new ≡ insert_entry path_cmp self.old path finding) }
+        requires address { HasNewAddress finding self.old.entries }
+        ensures ok { OnOk result (self.new ≡ entered path finding self.old) }
         ensures err { OnErr result (self.new ≡ self.old) }
     {
         let address = address_number(&finding);
@@ -82,7 +88,7 @@ impl DeviceTable {
 
     /// What was found at a path.
     pub fn get(&self, path: &PortPath) -> Option<&Finding>
-        ensures value { option_copied result ≡ lookup (is_at (path_cmp path.now)) self.now }
+        ensures value { option_copied result ≡ lookup (is_at (path_cmp path.now)) self.now.entries }
         ensures sound { IfSome result (λ finding. IsSound finding.now) }
     {
         match self.indexes.by_path.get(path) {
@@ -93,8 +99,8 @@ impl DeviceTable {
 
     /// The device that has an address, if one was found.
     pub fn at_address(&self, address: Address) -> Option<&Finding>
-        ensures some { IfSome result (λ finding. HasDevice address finding.now self.now) }
-        ensures none { IfNone result (HasNoDevice address self.now) }
+        ensures some { IfSome result (λ finding. HasDevice address finding.now self.now.entries) }
+        ensures none { IfNone result (HasNoDevice address self.now.entries) }
     {
         match self.indexes.by_address.get(&address.number()) {
             Some(key) => Some(self.entries[*key].finding()),
@@ -105,7 +111,7 @@ impl DeviceTable {
     /// Takes out one entry at or below a path; `None` where there is none.
     pub fn take_at(&mut self, path: &PortPath) -> Option<Finding>
         ensures some { IfSome result (λ finding. TakesOut path.now finding self.old self.new) }
-        ensures none { IfNone result (has_at path.now self.old ≡ false) }
+        ensures none { IfNone result (has_at path.now self.old.entries ≡ false) }
         ensures same { IfNone result (self.new ≡ self.old) }
     {
         let first = self.indexes.first_at(path)?;
@@ -117,8 +123,9 @@ impl DeviceTable {
 
     /// A second table's worth of entries, by rising path.
     pub fn entries(&self, alloc: Global) -> Result<Vec<(PortPath, Finding)>, AllocError>
-        ensures value { IfOk result (λ entries. entries.items ≡ self.now) }
-        ensures rising { Rises self.now }
+        ensures value { IfOk result (λ entries. entries.items ≡ self.now.entries) }
+        ensures rising { Rises self.now.entries }
+        ensures pipes { (path : List ℕ) → ArePipesAt path self.now }
     {
         let mut entries = Vec::new(alloc);
         'entries: for (path, key) in self.indexes.by_path.iter() {
@@ -130,7 +137,7 @@ impl DeviceTable {
 
     /// The port at a path, and what it gives; `None` where no accepted hub has it.
     pub fn port_at(&self, path: &PortPath) -> Option<KnownPort>
-        ensures value { result ≡ known_port path.now self.now }
+        ensures value { result ≡ known_port path.now self.now.entries }
         ensures served { IfSome result (λ known. IsAskable known.port) }
     {
         let Some(hub) = path.parent() else {
@@ -142,8 +149,8 @@ impl DeviceTable {
 
     /// The least path of an accepted hub after the last one, or of all.
     pub fn next_hub(&self, last: Option<&PortPath>) -> Option<PortPath>
-        ensures some { IfSome result (IsNext is_hub (option_copied last.entry) self.now) }
-        ensures none { IfNone result (IsLast is_hub (option_copied last.entry) self.now) }
+        ensures some { IfSome result (IsNext is_hub (option_copied last.entry) self.now.entries) }
+        ensures none { IfNone result (IsLast is_hub (option_copied last.entry) self.now.entries) }
     {
         self.next_of(Kind::Hub, last)
     }
@@ -151,15 +158,19 @@ impl DeviceTable {
     /// The least path, after the last one or of all, of a device that was refused because no
     /// address was free.
     pub fn next_waiting(&self, last: Option<&PortPath>) -> Option<PortPath>
-        ensures some { IfSome result (IsNext is_waiting (option_copied last.entry) self.now) }
-        ensures none { IfNone result (IsLast is_waiting (option_copied last.entry) self.now) }
+        ensures some { IfSome result
+            (IsNext is_waiting (option_copied last.entry) self.now.entries) }
+        ensures none { IfNone result
+            (IsLast is_waiting (option_copied last.entry) self.now.entries) }
     {
         self.next_of(Kind::Waiting, last)
     }
 
     fn next_of(&self, kind: Kind, last: Option<&PortPath>) -> Option<PortPath>
-        ensures some { IfSome result (IsNext (fits kind) (option_copied last.entry) self.now) }
-        ensures none { IfNone result (IsLast (fits kind) (option_copied last.entry) self.now) }
+        ensures some { IfSome result
+            (IsNext (fits kind) (option_copied last.entry) self.now.entries) }
+        ensures none { IfNone result
+            (IsLast (fits kind) (option_copied last.entry) self.now.entries) }
     {
         'entries: for (path, key) in self.indexes.by_path.iter() {
             if is_after(last, path) && fits(kind, self.entries[*key].finding()) {
@@ -174,17 +185,17 @@ impl DeviceTable {
     /// # Errors
     ///
     /// Those of `InterruptPipe::poll`.
-    #[tactic(auto, using(crate::proofs::Keys::same_slot, crate::proofs::Keys::found_at, crate::proofs::Keys::none_at))]
     pub fn poll<B: Bus>(
         &mut self,
         bus: &mut B,
         hub: &PortPath,
     ) -> Result<Option<ArrayVec<u8, 64>>, PipeFault>
-        ensures same { self.new ≡ self.old }
+        ensures through { GoesThrough hub.now self.old self.new }
         ensures went { Went B.world B.trace 768 bus.old bus.new }
         ensures ends { PollEnds (B.world bus.old) result (B.world bus.new) }
-        ensures polled { Polled (device_at hub.now self.old) (B.world bus.old) result (B.world bus.new) }
-        ensures keeps { KeepsAddresses (B.world bus.old) (B.world bus.new) }
+        ensures polled { Polled (pipes_at hub.now self.old)
+            (B.world bus.old) result (pipes_at hub.now self.new) (B.world bus.new) }
+        ensures keeps { Keeps (B.world bus.old) (B.world bus.new) }
     {
         match self.indexes.by_path.get(hub) {
             Some(key) => self.entries[*key].poll(bus),
@@ -198,18 +209,18 @@ impl DeviceTable {
     ///
     /// `NoDevice` where no accepted device stands there, `NoEndpoint` where it is a hub, is at low
     /// speed or has no bulk OUT endpoint; `Pipe` with those of `BulkPipe::send`.
-    #[tactic(auto, using(crate::proofs::Keys::same_slot, crate::proofs::Keys::found_at, crate::proofs::Keys::none_at))]
     pub fn send<B: Bus>(
         &mut self,
         bus: &mut B,
         path: &PortPath,
         bytes: &[u8],
     ) -> Result<(), EndpointFault>
-        ensures same { self.new ≡ self.old }
+        ensures through { GoesThrough path.now self.old self.new }
         ensures went { Went B.world B.trace (768 * length bytes.now) bus.old bus.new }
         ensures told { IfErr result (λ fault. FaultTold fault (B.world bus.new)) }
-        ensures sent { Sent (device_at path.now self.old) bytes.now (B.world bus.old) result (B.world bus.new) }
-        ensures keeps { KeepsAddresses (B.world bus.old) (B.world bus.new) }
+        ensures sent { Sent (pipes_at path.now self.old) bytes.now
+            (B.world bus.old) result (pipes_at path.now self.new) (B.world bus.new) }
+        ensures keeps { Keeps (B.world bus.old) (B.world bus.new) }
     {
         match self.indexes.by_path.get(path) {
             Some(key) => self.entries[*key].send(bus, bytes),
@@ -224,7 +235,6 @@ impl DeviceTable {
     ///
     /// `NoDevice` where no accepted device stands there, `NoEndpoint` where it is a hub, is at low
     /// speed or has no bulk IN endpoint; `Pipe` with those of `BulkPipe::receive`.
-    #[tactic(auto, using(crate::proofs::Keys::same_slot, crate::proofs::Keys::found_at, crate::proofs::Keys::none_at))]
     pub fn receive<B: Bus>(
         &mut self,
         alloc: Global,
@@ -232,11 +242,12 @@ impl DeviceTable {
         path: &PortPath,
         packets: u16,
     ) -> Result<Vec<u8>, EndpointFault>
-        ensures same { self.new ≡ self.old }
+        ensures through { GoesThrough path.now self.old self.new }
         ensures went { Went B.world B.trace (768 * packets) bus.old bus.new }
         ensures told { IfErr result (λ fault. FaultTold fault (B.world bus.new)) }
-        ensures received { Received (device_at path.now self.old) packets (B.world bus.old) result (B.world bus.new) }
-        ensures keeps { KeepsAddresses (B.world bus.old) (B.world bus.new) }
+        ensures received { Received (pipes_at path.now self.old) packets
+            (B.world bus.old) result (pipes_at path.now self.new) (B.world bus.new) }
+        ensures keeps { Keeps (B.world bus.old) (B.world bus.new) }
     {
         match self.indexes.by_path.get(path) {
             Some(key) => self.entries[*key].receive(alloc, bus, packets),
@@ -251,13 +262,13 @@ impl DeviceTable {
     ///
     /// `NoDevice` where no accepted device stands there, `NoEndpoint` where it is a hub, is at low
     /// speed or has no bulk endpoint; `Pipe` with those of `BulkPipe::clear_halt`.
-    #[tactic(auto, using(crate::proofs::Keys::same_slot, crate::proofs::Keys::found_at, crate::proofs::Keys::none_at))]
     pub fn clear_halt<B: Bus>(&mut self, bus: &mut B, path: &PortPath) -> Result<(), EndpointFault>
-        ensures same { self.new ≡ self.old }
+        ensures through { GoesThrough path.now self.old self.new }
         ensures went { Went B.world B.trace 3200 bus.old bus.new }
         ensures told { IfErr result (λ fault. FaultTold fault (B.world bus.new)) }
-        ensures cleared { Cleared (device_at path.now self.old) (B.world bus.old) result (B.world bus.new) }
-        ensures keeps { KeepsAddresses (B.world bus.old) (B.world bus.new) }
+        ensures cleared { Cleared (pipes_at path.now self.old)
+            (B.world bus.old) result (pipes_at path.now self.new) (B.world bus.new) }
+        ensures keeps { Keeps (B.world bus.old) (B.world bus.new) }
     {
         match self.indexes.by_path.get(path) {
             Some(key) => self.entries[*key].clear_halt(bus),

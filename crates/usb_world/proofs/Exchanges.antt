@@ -1,18 +1,18 @@
 -- What the code of an attempt does, packet by packet, is the attempt.
-use Rattle.std.proofs.Common.{◌≡◌, ◌+◌, List, [], ◌∷◌, ◌++◌, false, Option, Some, None, Result, Ok, Err, OnOk, refl, sym, subst, ap, ap₂, ◌∙◌}
+use Rattle.std.proofs.Common.{◌≡◌, ◌+◌, List, [], ◌∷◌, ◌++◌, false, Option, Some, None, Result, Ok, Err, OnOk, OnErr, refl, sym, subst, ap, ap₂, ◌∙◌}
 use Rattle.usb_device.specs.declared.answer.Answer.{Answer}
 use Rattle.usb_device.specs.declared.delivery.Heard.{Heard as HeardBelow}
 use Rattle.usb_device.specs.declared.delivery.Sent.{Sent}
 use Rattle.usb_device.specs.Tree.{Ports, ended, vacant, taken, row_of}
-use Rattle.usb_device.specs.Delivery.{answers, all_forgotten, heard_of, delivered, figure}
+use Rattle.usb_device.specs.Delivery.{all_forgotten, heard_of, both, joined, delivered, figure}
 use Rattle.usb_device.proofs.Figures.{figure-after}
-use Rattle.usb_device.proofs.Rows.{row_of-after, row_of-forgotten}
+use Rattle.usb_device.proofs.Delivering.{heard_of-append}
+use Rattle.usb_device.proofs.Rows.{row_of-forgotten}
 use Rattle.usb_world.specs.declared.damage.Damage.{Damage}
 use Rattle.usb_world.specs.declared.exchange.Exchange.{Exchange}
-use Rattle.usb_world.specs.declared.exchange.Heard.{Heard}
 use Rattle.usb_world.specs.declared.types.Attempt.{Attempt}
 use Rattle.usb_world.specs.Wire.{harm_to, marked, marked_some}
-use Rattle.usb_world.specs.Answering.{joined, heard_from, heard_told}
+use Rattle.usb_world.specs.Answering.{heard_from}
 use Rattle.usb_world.specs.Passes.{IsSettled, passed, told}
 use Rattle.usb_world.proofs.PassLaws.{attempt_settled}
 use Rattle.usb_world.specs.Exchange.{token_of, payload_of, answer_place, answer_mark, reply_of, goes_out, heard_all, token_out, payload_out, heard_in, mark_in, reply_in, answered_in, is_lost, lost_in, clears_at, cleared_in, exchange_in, ended_in, ports_in}
@@ -21,23 +21,6 @@ heard_all_of : (xs : List Answer) → heard_from (heard_of xs) ≡ heard_all xs
 heard_all_of [] = refl
 heard_all_of (x ∷ []) = refl
 heard_all_of (x ∷ y ∷ more) = refl
-
-pub delivered_heard : (q : Sent) (k m : Ports) (h : HeardBelow) (r : Heard) → (h, m) ≡ delivered q false k → r ≡ heard_from h → r ≡ heard_told (Some q) k
-delivered_heard q k m h r e is = is ∙ ap (λ x. heard_from x.0) e ∙ heard_all_of (answers q false k)
-
-pub delivered_ports : (q : Sent) (k m : Ports) (h : HeardBelow) → (h, m) ≡ delivered q false k → m ≡ passed (Some q) k
-delivered_ports q k m h e = ap (λ x. x.1) e
-
-pub delivered_row : (q : Sent) (k m : Ports) (h : HeardBelow) → (h, m) ≡ delivered q false k → row_of m ≡ row_of k
-delivered_row q k m h e = ap (λ x. row_of x.1) e ∙ row_of-after q false k
-
--- the answers of two passes
-joined_all : (xs ys : List Answer) → joined (heard_all xs) (heard_all ys) ≡ heard_all (xs ++ ys)
-joined_all [] ys = refl
-joined_all (x ∷ []) [] = refl
-joined_all (x ∷ []) (y ∷ []) = refl
-joined_all (x ∷ []) (y ∷ z ∷ ys) = refl
-joined_all (x ∷ w ∷ xs) ys = refl
 
 pub over_row : (k m : Ports) → m ≡ all_forgotten k → row_of m ≡ row_of k
 over_row k m e = ap row_of e ∙ row_of-forgotten k
@@ -51,8 +34,12 @@ figure-forgotten (taken b s a k) = ap₂ (λ f g. Some (Some s.spec) ∷ (f ++ g
 pub over_figure : (k m : Ports) → m ≡ all_forgotten k → figure m ≡ figure k
 over_figure k m e = ap figure e ∙ figure-forgotten k
 
-pub delivered_figure : (q : Sent) (k m : Ports) (h : HeardBelow) → (h, m) ≡ delivered q false k → figure m ≡ figure k
-delivered_figure q k m h e = ap (λ x. figure x.1) e ∙ figure-after q false k
+delivered_figure : (q : Sent) (k m : Ports) (g h : HeardBelow) → (h, m) ≡ joined g (delivered q false k) → figure m ≡ figure k
+delivered_figure q k m g h e = ap (λ x. figure x.1) e ∙ figure-after q false k
+
+pub sent_figure : {A E : Type 0} (r : Result A E) (q : Sent) (k m : Ports) (g h : HeardBelow) → OnOk r ((h, m) ≡ joined g (delivered q false k)) → OnErr r (figure m ≡ figure k) → figure m ≡ figure k
+sent_figure (Ok x) q k m g h ok err = delivered_figure q k m g h ok
+sent_figure (Err x) q k m g h ok err = err
 
 pub over_settled : (k m : Ports) → m ≡ all_forgotten k → IsSettled m
 over_settled k m e = subst IsSettled (sym e) (attempt_settled None None None k)
@@ -67,16 +54,16 @@ pub record Makes (a : Attempt) (damage : Option Damage) (k : Ports) (x : Exchang
   pub first : Ports
   pub second : Ports
   pub third : Ports
-  pub to_token : Heard
-  pub to_payload : Heard
+  pub to_token : HeardBelow
+  pub to_both : HeardBelow
   pub token : x.token ≡ marked damage 1 a.pre (token_of a)
-  pub token_heard : to_token ≡ heard_told (goes_out a (Some x.token)) k
+  pub token_heard : to_token ≡ heard_of (told (goes_out a (Some x.token)) k)
   pub token_passed : first ≡ passed (goes_out a (Some x.token)) k
   pub payload : x.payload ≡ marked_some damage 2 a.pre (payload_of a)
   pub cleared : x.change_cleared ≡ clears_at (goes_out a x.payload) first
-  pub payload_heard : to_payload ≡ heard_told (goes_out a x.payload) first
+  pub payload_heard : to_both ≡ both to_token (heard_of (told (goes_out a x.payload) first))
   pub payload_passed : second ≡ passed (goes_out a x.payload) first
-  pub answer : x.answer ≡ joined to_token to_payload
+  pub answer : x.answer ≡ heard_from to_both
   pub answer_mark : x.answer_mark ≡ answer_mark (harm_to damage (answer_place x.payload)) x.answer
   pub reply : x.reply ≡ marked_some damage (answer_place x.payload + 1) a.pre (reply_of x.answer x.answer_mark a.max)
   pub lost : x.address_lost ≡ is_lost x.reply (goes_out a x.reply) second
@@ -91,9 +78,11 @@ module _ (a : Attempt) (damage : Option Damage) (k : Ports) (x : Exchange) (m : 
 
   answer_is : x.answer ≡ heard_in a damage k
   answer_is =
+      let to_token = m.token_heard ∙ ap (λ t. heard_of (told (goes_out a (Some t)) k)) m.token in
+      let to_payload = ap₂ (λ p r. heard_of (told (goes_out a p) r)) m.payload first_is in
       m.answer
-      ∙ ap₂ joined (m.token_heard ∙ ap (λ t. heard_told (goes_out a (Some t)) k) m.token) (m.payload_heard ∙ ap₂ (λ p r. heard_told (goes_out a p) r) m.payload first_is)
-      ∙ joined_all (told (token_out a damage) k) (told (payload_out a damage) (passed (token_out a damage) k))
+      ∙ ap heard_from (m.payload_heard ∙ ap₂ both to_token to_payload ∙ sym (heard_of-append (told (token_out a damage) k) (told (payload_out a damage) (passed (token_out a damage) k))))
+      ∙ heard_all_of (told (token_out a damage) k ++ told (payload_out a damage) (passed (token_out a damage) k))
 
   mark_is : x.answer_mark ≡ mark_in a damage k
   mark_is = m.answer_mark ∙ ap₂ (λ p h. answer_mark (harm_to damage (answer_place p)) h) m.payload answer_is

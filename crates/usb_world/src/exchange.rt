@@ -2,14 +2,14 @@
 ghost use Rattle.std.specs.Prelude.{◌≡◌, ◌≤◌, true, Some, IfOk, IfSome, OnOk, OnErr};
 ghost use Rattle.usb_packet.specs.Spelling.{HasFields};
 ghost use Rattle.usb_device.specs.Tree.{row_of};
-ghost use Rattle.usb_device.specs.Delivery.{figure};
+ghost use Rattle.usb_device.specs.Delivery.{figure, both, heard_of};
 ghost use Rattle.usb_world.specs.World.{IsAttempt, FitsMaximum};
 ghost use Rattle.usb_world.specs.Wire.{has_its_bit};
 ghost use Rattle.usb_world.specs.Exchange.{token_of, payload_of, answer_place, answer_mark, reply_of, outcome_of, exchange_in, ended_in, ports_in, goes_out, token_out, payload_out, sent_as, is_lost, clears_at};
 ghost use Rattle.usb_world.specs.Passes.{IsSettled, passed, told};
 ghost use Rattle.usb_world.specs.Cut.{IsStopped};
 ghost use Rattle.usb_world.specs.Steps.{IsCut};
-ghost use Rattle.usb_world.specs.Answering.{joined, heard_from, heard_told};
+ghost use Rattle.usb_world.specs.Answering.{heard_from};
 
 use crate::damage::{Damage, Harm};
 use crate::wire::{Mark, Outgoing, flipped, harm_to, mark_of, marked, marked_some};
@@ -26,18 +26,6 @@ pub enum Heard {
     One(Packet),
     /// Two answers at once: nobody can read them.
     Collision,
-}
-
-impl Heard {
-    fn joined(self, other: Heard) -> Self
-        ensures { result ≡ joined self other }
-    {
-        match (self, other) {
-            (Heard::Nothing, other) => other,
-            (heard, Heard::Nothing) => heard,
-            (_, _) => Heard::Collision,
-        }
-    }
 }
 
 impl From<usb_device::Heard> for Heard {
@@ -104,11 +92,13 @@ fn send_packets(
     ensures stopped { OnErr result (IsStopped (payload_out attempt.now damage) (passed (token_out attempt.now damage) roots.old) roots.new) }
 {
     let token = marked(damage, 1, attempt.pre, token_of(attempt));
-    let to_token = send(roots, attempt, &token)?;
+    let mut heard = usb_device::Heard::NoAnswer;
+    send(roots, &goes_out(attempt, &token), &mut heard)?;
     let payload = marked_some(damage, 2, attempt.pre, payload_of(attempt));
-    let change_cleared = clears_change(roots, attempt, &payload);
-    let to_payload = send_some(roots, attempt, &payload)?;
-    let answer = to_token.joined(to_payload);
+    let data = some_goes_out(attempt, &payload);
+    let change_cleared = clears_change(roots, &data);
+    send(roots, &data, &mut heard)?;
+    let answer = Heard::from(heard);
     let place = answer_place(&payload);
     let answer_mark = answer_mark(harm_to(damage, place), &answer);
     let reply = reply_of(&answer, answer_mark, attempt.max);
@@ -155,21 +145,21 @@ fn goes_out(attempt: &Attempt, packet: &Outgoing) -> Option<Sent>
     requires bit { has_its_bit packet.now.mark packet.now.packet ≡ true }
     ensures { result ≡ sent_as attempt.now.low attempt.now.pre packet.now.mark packet.now.packet }
 {
-    let bytes = encode(&packet.packet);
     match packet.mark {
         Mark::Whole => Some(Sent {
             low: attempt.low,
             pre: attempt.pre,
-            content: Content::of(bytes.as_slice()),
+            content: Content::Whole(copy_of(&packet.packet)),
         }),
         Mark::Lost => None,
         Mark::PreLost => Some(Sent {
             low: attempt.low,
             pre: false,
-            content: Content::of(bytes.as_slice()),
+            content: Content::Whole(copy_of(&packet.packet)),
         }),
         Mark::Flipped(bit) => {
             one_flipped_bit();
+            let bytes = encode(&packet.packet);
             Some(Sent {
                 low: attempt.low,
                 pre: attempt.pre,
@@ -179,53 +169,64 @@ fn goes_out(attempt: &Attempt, packet: &Outgoing) -> Option<Sent>
     }
 }
 
-/// Sends a packet of the host, as damage leaves it, and tells what is answered.
-fn send(roots: &mut Ports, attempt: &Attempt, packet: &Outgoing) -> Result<Heard, AllocError>
-    requires fields { HasFields packet.now.packet }
-    requires bit { has_its_bit packet.now.mark packet.now.packet ≡ true }
-    ensures row { row_of roots.new ≡ row_of roots.old }
-    ensures figure { figure roots.new ≡ figure roots.old }
-    ensures heard { IfOk result (λ heard. heard ≡ heard_told (goes_out attempt.now (Some packet.now)) roots.old) }
-    ensures ports { IfOk result (λ heard. roots.new ≡ passed (goes_out attempt.now (Some packet.now)) roots.old) }
-    ensures stopped { OnErr result (IsStopped (goes_out attempt.now (Some packet.now)) roots.old roots.new) }
-{
-    match goes_out(attempt, packet) {
-        None => Ok(Heard::Nothing),
-        Some(sent) => Ok(Heard::from(roots.deliver(&sent)?)),
-    }
-}
-
-fn send_some(
-    roots: &mut Ports,
-    attempt: &Attempt,
-    packet: &Option<Outgoing>,
-) -> Result<Heard, AllocError>
-    requires fields { IfSome packet.now (λ s. HasFields s.packet) }
-    requires bit { IfSome packet.now (λ s. has_its_bit s.mark s.packet ≡ true) }
-    ensures row { row_of roots.new ≡ row_of roots.old }
-    ensures figure { figure roots.new ≡ figure roots.old }
-    ensures heard { IfOk result (λ heard. heard ≡ heard_told (goes_out attempt.now packet.now) roots.old) }
-    ensures ports { IfOk result (λ heard. roots.new ≡ passed (goes_out attempt.now packet.now) roots.old) }
-    ensures stopped { OnErr result (IsStopped (goes_out attempt.now packet.now) roots.old roots.new) }
+fn copy_of(packet: &Packet) -> Packet
+    ensures { result ≡ packet.now }
 {
     match packet {
-        None => Ok(Heard::Nothing),
-        Some(packet) => send(roots, attempt, packet),
-    }
-}
-
-/// Whether a hub will clear a change of connection of one of its ports at the packet.
-fn clears_change(roots: &Ports, attempt: &Attempt, packet: &Option<Outgoing>) -> bool
-    requires fields { IfSome packet.now (λ s. HasFields s.packet) }
-    requires bit { IfSome packet.now (λ s. has_its_bit s.mark s.packet ≡ true) }
-    ensures { result ≡ clears_at (goes_out attempt.now packet.now) roots.now }
-{
-    match packet {
-        None => false,
-        Some(packet) => match goes_out(attempt, packet) {
-            None => false,
-            Some(sent) => roots.clears_change(&sent),
+        Packet::Token { kind, addr, ep } => Packet::Token {
+            kind: *kind,
+            addr: *addr,
+            ep: *ep,
         },
+        Packet::Sof(frame) => Packet::Sof(*frame),
+        Packet::Payload { toggle, bytes } => Packet::Payload {
+            toggle: *toggle,
+            bytes: copied(bytes),
+        },
+        Packet::Ack => Packet::Ack,
+        Packet::Nak => Packet::Nak,
+        Packet::Stall => Packet::Stall,
+        Packet::Pre => Packet::Pre,
+    }
+}
+
+/// The same, where there is a packet.
+fn some_goes_out(attempt: &Attempt, packet: &Option<Outgoing>) -> Option<Sent>
+    requires fields { IfSome packet.now (λ s. HasFields s.packet) }
+    requires bit { IfSome packet.now (λ s. has_its_bit s.mark s.packet ≡ true) }
+    ensures { result ≡ goes_out attempt.now packet.now }
+{
+    match packet {
+        None => None,
+        Some(packet) => goes_out(attempt, packet),
+    }
+}
+
+/// Sends what goes out; what is answered joins what was heard before.
+fn send(
+    roots: &mut Ports,
+    sent: &Option<Sent>,
+    heard: &mut usb_device::Heard,
+) -> Result<(), AllocError>
+    ensures row { row_of roots.new ≡ row_of roots.old }
+    ensures figure { figure roots.new ≡ figure roots.old }
+    ensures heard { OnOk result (heard.new ≡ both heard.old (heard_of (told sent.now roots.old))) }
+    ensures ports { OnOk result (roots.new ≡ passed sent.now roots.old) }
+    ensures stopped { OnErr result (IsStopped sent.now roots.old roots.new) }
+{
+    match sent {
+        None => Ok(()),
+        Some(sent) => roots.deliver_after(sent, heard),
+    }
+}
+
+/// Whether a hub will clear a change of connection of one of its ports at what goes out.
+fn clears_change(roots: &Ports, sent: &Option<Sent>) -> bool
+    ensures { result ≡ clears_at sent.now roots.now }
+{
+    match sent {
+        None => false,
+        Some(sent) => roots.clears_change(sent),
     }
 }
 
@@ -240,18 +241,22 @@ fn send_reply(
     ensures row { row_of roots.new ≡ row_of roots.old }
     ensures figure { figure roots.new ≡ figure roots.old }
     ensures lost { IfOk result (λ lost. lost ≡ is_lost reply.now (goes_out attempt.now reply.now) roots.old) }
-    ensures ports { IfOk result (λ lost. roots.new ≡ passed (goes_out attempt.now reply.now) roots.old) }
+    ensures ports { OnOk result (roots.new ≡ passed (goes_out attempt.now reply.now) roots.old) }
     ensures stopped { OnErr result (IsStopped (goes_out attempt.now reply.now) roots.old roots.new) }
 {
     let Some(packet) = reply else {
         return Ok(false);
     };
-    let awaited = roots.has_address_loss();
-    let _unanswered = send(roots, attempt, packet)?;
-    Ok(match packet.mark {
-        Mark::Flipped(_) => awaited,
-        _ => roots.has_address_loss(),
-    })
+    let sent = goes_out(attempt, packet);
+    let mut unanswered = usb_device::Heard::NoAnswer;
+    if let Mark::Flipped(_) = packet.mark {
+        let awaited = roots.has_address_loss();
+        send(roots, &sent, &mut unanswered)?;
+        Ok(awaited)
+    } else {
+        send(roots, &sent, &mut unanswered)?;
+        Ok(roots.has_address_loss())
+    }
 }
 
 #[tactic(auto, unfolding(crate::specs::Exchange::token_of))]

@@ -6,8 +6,8 @@ ghost use Rattle.usb_bus.specs.Trace.{attempt_line};
 ghost use Rattle.usb_bus.specs.Watch.{inner_of, has_failed, AppendsFront};
 
 use super::SimBus;
-use crate::trace::attempt_line;
-use crate::watched::put_pieces;
+use crate::trace::{Line, push_attempt};
+use crate::watched::{put_piece, put_pieces};
 use crate::{BusFault, Watched, WriteFailed};
 use std::io::Write;
 use usb_world::Exchange;
@@ -49,6 +49,7 @@ pub(super) fn put_attempt<W: Write>(
     ensures unmarked { OnOk result (has_failed writer.new ≡ has_failed writer.old) }
     ensures marked { OnErr result (has_failed writer.new ≡ true) }
 {
-    let line = attempt_line(number, pre, exchange);
-    put_pieces(writer, &[line.as_str().as_bytes(), b"\n"])
+    let mut line = Line::new();
+    push_attempt(&mut line, number, pre, exchange);
+    put_piece(writer, line.as_str().as_bytes())
 }

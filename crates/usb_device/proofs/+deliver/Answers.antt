@@ -1,27 +1,26 @@
-use Rattle.std.proofs.Common.{List, sym, subst, ap, ◌∙◌}
+use Rattle.std.proofs.Common.{List, OnErr, sym, subst, ap, ◌∙◌}
 use Rattle.usb_device.specs.declared.ports.Place.{Place as Kept}
 use Rattle.usb_device.specs.Tree.{Plugged, before}
 use Rattle.usb_device.specs.Places.{ports_in, stood, standing}
 use Rattle.usb_device.specs.Stopped.{Stopped, StoppedDevice}
-use Rattle.usb_device.proofs.Stopping.{on_err, stopped_first, stopped_behind, stopped_itself, stopped_place}
+use Rattle.usb_device.proofs.Stopping.{on_err, stopped_first, stopped_further, stopped_at, stopped_place}
 use Rattle.usb_device.proofs.+deliver.Goals as goal
 
-pub delivery::deliver_all-returns-in_err-here-in-Some-clause-stopped : goal.delivery::deliver_all-returns-in_err-here-in-Some-clause-stopped
-delivery::deliver_all-returns-in_err-here-in-Some-clause-stopped t c =
+pub delivery::deliver_all-returns-in_err-deliver-in-Some-clause-stopped : goal.delivery::deliver_all-returns-in_err-deliver-in-Some-clause-stopped
+delivery::deliver_all-returns-in_err-deliver-in-Some-clause-stopped t c =
     let P : List Kept → Type 0 = λ l. Stopped c.args.sent.now c.args.deep (ports_in l) (before (stood c.deliver.new.self) (ports_in c.in-Some.rest.now)) in
-    on_err c.from_residual.result (subst P (sym c.in-Some.ensures.cases.0) (stopped_first _ _ _ _ _ c.in_err-here-in-Some.ensures.stopped))
+    on_err c.from_residual.result (subst P (sym c.in-Some.ensures.cases.0) (stopped_first _ _ _ _ _ c.in_err-deliver-in-Some.ensures.stopped))
 
-pub delivery::deliver_all-returns-in_err-further-in-Some-clause-stopped : goal.delivery::deliver_all-returns-in_err-further-in-Some-clause-stopped
-delivery::deliver_all-returns-in_err-further-in-Some-clause-stopped t c =
-    let P : List Kept → Type 0 = λ l. Stopped c.args.sent.now c.args.deep (ports_in l) (before (stood c.deliver.new.self) (ports_in c.deliver_all.new.places)) in
-    on_err c.from_residual-in_err-further-in-Some.result
-    (subst P (sym c.in-Some.ensures.cases.0) (stopped_behind _ _ _ _ _ _ _ c.in_ok-here-in-Some.ensures.ok c.in_err-further-in-Some.ensures.stopped))
+pub delivery::deliver_all-returns-in_ok-deliver-in-Some-clause-stopped : goal.delivery::deliver_all-returns-in_ok-deliver-in-Some-clause-stopped
+delivery::deliver_all-returns-in_ok-deliver-in-Some-clause-stopped t c =
+    let P : List Kept → Type 0 = λ l. OnErr c.deliver_all.result (Stopped c.args.sent.now c.args.deep (ports_in l) (before (stood c.deliver.new.self) (ports_in c.deliver_all.new.places))) in
+    subst P (sym c.in-Some.ensures.cases.0)
+    (stopped_further c.deliver_all.result _ _ _ _ _ _ (ap (λ x. x.1) c.in_ok-deliver-in-Some.ensures.ok) c.deliver_all.ensures.stopped)
 
-pub device::Device::deliver-returns-in_err-here-clause-stopped : goal.device::Device::deliver-returns-in_err-here-clause-stopped
-device::Device::deliver-returns-in_err-here-clause-stopped t c =
-    let P : Plugged → Type 0 = λ x. StoppedDevice c.args.sent.now c.args.deep x c.take_sent.new.self in
-    on_err c.from_residual-in_err-here.result
-    (subst P c.self.view_is (stopped_itself _ _ _ c.take_sent.new.self c.pass.new.self (ap (λ x. x.1) c.in_ok-below.ensures.ok) c.in_err-here.ensures.err c.in_err-here.ensures.refused))
+pub device::Device::deliver-returns-clause-stopped : goal.device::Device::deliver-returns-clause-stopped
+device::Device::deliver-returns-clause-stopped t c =
+    let P : Plugged → Type 0 = λ x. OnErr c.take_sent.result (StoppedDevice c.args.sent.now c.args.deep x c.take_sent.new.self) in
+    subst P c.self.view_is (stopped_at c.take_sent.result _ _ _ c.take_sent.new.self c.pass.new.self (ap (λ x. x.1) c.in_ok-pass.ensures.ok) c.take_sent.ensures.err c.take_sent.ensures.refused)
 
 pub ports::Place::deliver-returns-in-Some-clause-stopped : goal.ports::Place::deliver-returns-in-Some-clause-stopped
 ports::Place::deliver-returns-in-Some-clause-stopped t c =

@@ -1,26 +1,40 @@
-use Rattle.std.proofs.Common.{◌≡◌, ◌∙◌, ℕ, false, ap, arith, length, subst, sym}
+use Rattle.std.proofs.Common.{◌≡◌, ◌∙◌, ℕ, [], false, ap, arith, length, subst, sym}
 use Rattle.std.proofs.lemmas.Grind.{common_steps}
 use Rattle.usb_enum.specs.Bounds.{configuration_bound}
+use Rattle.usb_enum.specs.Learned.{Learns}
+use Rattle.usb_enum.specs.Readings.{AtMaximum, HasConfigurations}
 use Rattle.usb_enum.specs.Text.{has_value}
 use Rattle.usb_bus.proofs.Wents.{went_none}
 use Rattle.usb_address.proofs.Keeping.{keeps_none, keeps_then}
 use Rattle.usb_enum.proofs.Counts.{went_again, went_times, went_more}
+use Rattle.usb_enum.proofs.Readings.{learns_none, configurations_none, configurations_learned}
 use Rattle.usb_enum.proofs.Values.{one_more}
 use Rattle.usb_enum.proofs.configurations.read_configurations.Goals as goal
 
 pub loop-index-init : goal.loop-index-init
-loop-index-init g c = record { went = went_none; kept = keeps_none _; read = ap length c.new-texts.ensures; differ = rw c.new-texts.ensures tt }
+loop-index-init g c = record {
+  went = went_none;
+  kept = keeps_none _;
+  read = ap length c.new-texts.ensures;
+  differ = rw c.new-texts.ensures tt;
+  learned = rw c.new-texts.ensures (learns_none (AtMaximum c.args.target (HasConfigurations 0 [])) c.args.target (g.B.Bus.world c.args.bus.now) (λ spec max. configurations_none spec));
+}
 
 pub loop-index-preserved : goal.loop-index-preserved
 loop-index-preserved g c =
     let texts = c.loop-index.texts in
     let text = c.in_ok-text.text in
     let P : ℕ → Type 0 = λ value. has_value value texts ≡ false in
+    let differs = subst P c.value.ensures (sym c.has_value.ensures ∙ c.if-has_value.false) in
     record {
       went = went_again _ configuration_bound _ _ _ c.loop-index.invariant.went c.read_text.ensures.went;
       kept = keeps_then _ _ _ c.loop-index.invariant.kept c.read_text.ensures.keeps;
       read = rw c.in_ok-push.ensures.ok (grind (arith, common_steps, c.loop-index.invariant.read));
-      differ = rw c.in_ok-push.ensures.ok (one_more texts text c.loop-index.invariant.differ (subst P c.value.ensures (sym c.has_value.ensures ∙ c.if-has_value.false)));
+      differ = rw c.in_ok-push.ensures.ok (one_more texts text c.loop-index.invariant.differ differs);
+      learned =
+          rw c.in_ok-push.ensures.ok
+          (configurations_learned c.args.target c.loop-index.index _ texts text (g.B.Bus.world c.args.bus.now) (g.B.Bus.world c.loop-index.bus) (g.B.Bus.world c.read_text.new.bus)
+          differs c.loop-index.invariant.learned c.read_text.ensures.went c.in_ok-text.ensures.learned);
     }
 
 pub returns-in_err-text-clause-went : goal.returns-in_err-text-clause-went
@@ -43,3 +57,9 @@ returns-in_err-push-clause-keeps g c = keeps_then _ _ _ c.loop-index.invariant.k
 
 pub returns-clause-went : goal.returns-clause-went
 returns-clause-went g c = went_times _ 255 configuration_bound _ _ c.loop-index.invariant.went (omega (arith, c.loop-index.auto.index-end, c.ranges.count.fits))
+
+pub returns-clause-learned : goal.returns-clause-learned
+returns-clause-learned g c =
+    let all : c.loop-index.index ≡ c.args.count = omega (arith, c.loop-index.auto.index-end, c.loop-index-test.false) in
+    let P : ℕ → Type 0 = λ n. Learns (AtMaximum c.args.target (HasConfigurations n c.loop-index.texts)) c.args.target (g.B.Bus.world c.args.bus.now) (g.B.Bus.world c.loop-index.bus) in
+    subst P all c.loop-index.invariant.learned

@@ -2,6 +2,8 @@ use Rattle.std.proofs.Common.{◌≡◌, ◌*◌, length}
 use Rattle.usb_bus.specs.Traced.{Went}
 use Rattle.usb_address.specs.Owned.{KeepsAddresses}
 use Rattle.usb_enum.specs.Bounds.{configuration_bound}
+use Rattle.usb_enum.specs.Learned.{Learns}
+use Rattle.usb_enum.specs.Readings.{AtMaximum, HasConfigurations}
 use Rattle.usb_enum.specs.Text.{ValuesDiffer}
 use Rattle.usb_enum.proofs.configurations.read_configurations.Given as goal
 
@@ -11,4 +13,5 @@ invariant-loop-index g l = record {
   kept : KeepsAddresses (g.B.Bus.world l.initial.bus) (g.B.Bus.world l.bus);
   read : length l.texts ≡ l.index;
   differ : ValuesDiffer l.texts;
+  learned : Learns (AtMaximum l.target (HasConfigurations l.index l.texts)) l.target (g.B.Bus.world l.initial.bus) (g.B.Bus.world l.bus);
 }

@@ -3,20 +3,21 @@ use Rattle.usb_bus.proofs.Wents.{went_wider}
 use Rattle.usb_address.proofs.Keeping.{keeps_then}
 use Rattle.usb_enum.specs.Stop.{Told}
 use Rattle.usb_enum.proofs.Counts.{text_went}
+use Rattle.usb_enum.proofs.Readings.{configuration_learned}
 use Rattle.usb_enum.proofs.Told.{handed_on, refused_told}
 use Rattle.usb_enum.proofs.configurations.read_text.Goals as goal
 
 pub returns-in_err-bytes-clause-went : goal.returns-in_err-bytes-clause-went
 returns-in_err-bytes-clause-went g c =
-    text_went c.args.target.max c.in_ok-total.total _ _ _ c.requires.max c.in_ok-total.ensures.most c.total_length.ensures.went c.get_config.ensures.went
+    text_went c.args.target.max c.in_ok-total.total _ _ _ c.requires.max c.in_ok-total.ensures.fits.1 c.total_length.ensures.went c.get_config.ensures.went
 
 pub returns-in-Some-clause-went : goal.returns-in-Some-clause-went
 returns-in-Some-clause-went g c =
-    text_went c.args.target.max c.in_ok-total.total _ _ _ c.requires.max c.in_ok-total.ensures.most c.total_length.ensures.went c.get_config.ensures.went
+    text_went c.args.target.max c.in_ok-total.total _ _ _ c.requires.max c.in_ok-total.ensures.fits.1 c.total_length.ensures.went c.get_config.ensures.went
 
 pub returns-in-None-clause-went : goal.returns-in-None-clause-went
 returns-in-None-clause-went g c =
-    text_went c.args.target.max c.in_ok-total.total _ _ _ c.requires.max c.in_ok-total.ensures.most c.total_length.ensures.went c.get_config.ensures.went
+    text_went c.args.target.max c.in_ok-total.total _ _ _ c.requires.max c.in_ok-total.ensures.fits.1 c.total_length.ensures.went c.get_config.ensures.went
 
 pub returns-in_err-total-clause-went : goal.returns-in_err-total-clause-went
 returns-in_err-total-clause-went g c = went_wider _ _ c.total_length.ensures.went (omega arith)
@@ -33,4 +34,11 @@ returns-in-None-clause-keeps g c = keeps_then _ _ _ c.total_length.ensures.keeps
 pub returns-in_err-bytes-clause-told : goal.returns-in_err-bytes-clause-told
 returns-in_err-bytes-clause-told g c =
     handed_on c.from_residual-in_err-bytes.result (λ stop. Told stop (g.B.Bus.world c.get_config.new.bus)) c.in_err-bytes.field-0.0 c.from_residual-in_err-bytes.ensures.1
-    (refused_told _ 3 1 _ _ c.get_config.result _ (sym c.answered_or.ensures ∙ c.in_err-bytes.was) tt c.get_config.ensures.ends)
+    (refused_told _ 3 1 _ _ c.get_config.result _ (sym c.answered_or.ensures ∙ c.in_err-bytes.was) tt c.get_config.ensures.asked.ends)
+
+pub returns-in-Some-clause-learned : goal.returns-in-Some-clause-learned
+returns-in-Some-clause-learned g c =
+    configuration_learned c.args.target _ c.args.index c.in_ok-total.total _ c.get_config.result c.in_ok-bytes.bytes c.in-Some.text
+    (g.B.Bus.world c.args.bus.now) (g.B.Bus.world c.total_length.new.bus) (g.B.Bus.world c.get_config.new.bus)
+    (sym c.answered_or.ensures ∙ c.in_ok-bytes.was) (sym c.in-Some.is ∙ c.new.ensures)
+    c.in_ok-total.ensures.learned c.get_config.ensures.went c.get_config.ensures.what

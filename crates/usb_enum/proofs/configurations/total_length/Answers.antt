@@ -1,6 +1,8 @@
-use Rattle.std.proofs.Common.{◌∙◌, sym}
+use Rattle.std.proofs.Common.{◌∙◌, ap, sym}
+use Rattle.usb_descriptor.specs.Config.{config_head_of}
 use Rattle.usb_enum.specs.Stop.{Told}
 use Rattle.usb_enum.proofs.Counts.{read_went}
+use Rattle.usb_enum.proofs.Readings.{total_learned}
 use Rattle.usb_enum.proofs.Told.{handed_on, refused_told}
 use Rattle.usb_enum.proofs.configurations.total_length.Goals as goal
 
@@ -16,4 +18,11 @@ returns-clause-went g c = read_went c.args.target.max 9 _ _ c.requires.max c.get
 pub returns-in_err-head-clause-told : goal.returns-in_err-head-clause-told
 returns-in_err-head-clause-told g c =
     handed_on c.from_residual.result (λ stop. Told stop (g.B.Bus.world c.get_config.new.bus)) c.in_err-head.field-0.0 c.from_residual.ensures.1
-    (refused_told _ 3 1 _ _ c.get_config.result _ (sym c.answered_or.ensures ∙ c.in_err-head.was) tt c.get_config.ensures.ends)
+    (refused_told _ 3 1 _ _ c.get_config.result _ (sym c.answered_or.ensures ∙ c.in_err-head.was) tt c.get_config.ensures.asked.ends)
+
+pub returns-in-Ok-clause-learned : goal.returns-in-Ok-clause-learned
+returns-in-Ok-clause-learned g c =
+    total_learned c.args.target _ c.args.index c.in-Ok.total c.get_config.result c.in_ok-head.head (g.B.Bus.world c.args.bus.now) (g.B.Bus.world c.get_config.new.bus)
+    (sym c.answered_or.ensures ∙ c.in_ok-head.was)
+    (ap config_head_of (sym c.as_slice.ensures.value) ∙ sym c.config_head.ensures.answer ∙ c.in-Ok.is)
+    c.get_config.ensures.what

@@ -1,6 +1,7 @@
-use Rattle.std.proofs.Common.{arith}
+use Rattle.std.proofs.Common.{◌∙◌, arith, refl, sym}
 use Rattle.usb_bus.proofs.Wents.{went_none, went_wider}
 use Rattle.usb_address.proofs.Keeping.{keeps_none}
+use Rattle.usb_enum.proofs.Readings.{learns_none}
 use Rattle.usb_enum.proofs.enumeration.hub_facts.Goals as goal
 
 pub returns-then-not-is_hub-clause-went : goal.returns-then-not-is_hub-clause-went
@@ -8,3 +9,17 @@ returns-then-not-is_hub-clause-went g c = went_wider 0 _ went_none (omega arith)
 
 pub returns-then-not-is_hub-clause-keeps : goal.returns-then-not-is_hub-clause-keeps
 returns-then-not-is_hub-clause-keeps g c = keeps_none _
+
+pub returns-then-not-is_hub-clause-ports : goal.returns-then-not-is_hub-clause-ports
+returns-then-not-is_hub-clause-ports g c = record { known = record { facts = sym c.is_hub.ensures ∙ c.if-not-is_hub.true; served = tt }; learned = learns_none _ _ _ (λ spec max. tt) }
+
+pub returns-clause-ports : goal.returns-clause-ports
+returns-clause-ports g c =
+    let started = c.in_ok-start_hub.ensures.started in
+    record {
+      known = record {
+        facts = (sym c.is_hub.ensures ∙ c.if-not-is_hub.false, started.facts, started.status);
+        served = record { hub = c.args.device.now.target; addressed = refl; before = _; after = _; started = started.started };
+      };
+      learned = c.in_ok-start_hub.ensures.learned;
+    }

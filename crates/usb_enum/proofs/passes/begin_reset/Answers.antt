@@ -1,12 +1,13 @@
 use Rattle.std.proofs.Common.{Result, refl, subst, sym}
 use Rattle.std.specs.Prelude.{IfErr}
 use Rattle.usb_enum.specs.declared.fault.EnumFault.{EnumFault}
+use Rattle.usb_hub.proofs.Ports.{reset_went}
 use Rattle.usb_enum.specs.Stop.{FaultAt}
 use Rattle.usb_enum.proofs.Told.{port_told, set_fails}
 use Rattle.usb_enum.proofs.passes.begin_reset.Goals as goal
 
 pub returns-clause-went : goal.returns-clause-went
-returns-clause-went g c = c.set_port.ensures.went refl
+returns-clause-went g c = reset_went c.args.port c.set_port.ensures.went
 
 pub returns-clause-told : goal.returns-clause-told
 returns-clause-told g c =

@@ -1,13 +1,12 @@
 use Rattle.usb_enum.proofs.Counts.{read_went}
-use Rattle.std.proofs.Common.{◌≡◌, ◌∙◌, ℕ, true, List, Option, Result, subst, sym}
-use Rattle.std.specs.Prelude.{IfOk, IfErr, IfSome, OnOk}
-use Rattle.std.specs.Global.{Vec}
-use Rattle.usb_pipe.specs.declared.fault.PipeFault.{PipeFault}
-use Rattle.usb_hub.specs.Addresses.{Answers}
+use Rattle.std.proofs.Common.{◌≡◌, ◌∙◌, ℕ, true, List, Option, Result, ap, subst, sym, take}
+use Rattle.std.specs.Prelude.{IfOk, IfErr, IfSome}
 use Rattle.usb_enum.specs.declared.stop.Stop.{Stop}
 use Rattle.usb_enum.specs.Device.{is_device}
 use Rattle.usb_enum.specs.Stop.{Told}
-use Rattle.usb_enum.proofs.Hubs.{answered_ok}
+use Rattle.usb_enum.specs.Present.{AnswersSo, HasDescriptor}
+use Rattle.usb_enum.specs.Readings.{AtMaximum}
+use Rattle.usb_enum.proofs.Heads.{bytes_answered}
 use Rattle.usb_enum.proofs.Told.{handed_on, refused_told, device_told, device_good, device_so}
 use Rattle.usb_enum.proofs.passes.descriptor.Goals as goal
 
@@ -38,7 +37,7 @@ returns-clause-keeps g c = c.get_device-outcome.ensures.addresses.keeps
 pub returns-in_err-bytes-clause-told : goal.returns-in_err-bytes-clause-told
 returns-in_err-bytes-clause-told g c =
     handed_on c.from_residual.result (λ stop. Told stop (g.B.Bus.world c.get_device-outcome.new.bus)) c.in_err-bytes.field-0.0 c.from_residual.ensures.1
-    (refused_told _ 3 1 _ _ c.get_device-outcome.result _ (sym c.answered_or.ensures ∙ c.in_err-bytes.was) tt c.get_device-outcome.ensures.ends)
+    (refused_told _ 3 1 _ _ c.get_device-outcome.result _ (sym c.answered_or.ensures ∙ c.in_err-bytes.was) tt c.get_device-outcome.ensures.asked.ends)
 
 pub returns-in-Some-clause-told : goal.returns-in-Some-clause-told
 returns-in-Some-clause-told g c =
@@ -50,10 +49,11 @@ returns-in-Some-clause-device g c =
     let P : Result (Option (List ℕ)) Stop → Type 0 = λ r. IfOk r (λ found. IfSome found (λ bytes. is_device c.args.target.low bytes ≡ true)) in
     subst P (sym c.device_bytes.ensures) (device_good c.args.target.low c.in-Some.bytes.now)
 
-pub returns-in-Some-clause-who : goal.returns-in-Some-clause-who
-returns-in-Some-clause-who g c =
-    let A : Type 0 = Answers c.args.target.addr (g.B.Bus.world c.args.bus.now) in
-    let Q : Result (Vec ℕ) PipeFault → Type 0 = λ r. OnOk r A in
-    let P : Result (Option (List ℕ)) Stop → Type 0 = λ r. IfOk r (λ found. IfSome found (λ _. A)) in
-    let answered = answered_ok _ c.get_device-outcome.result c.in_ok-bytes.bytes (sym c.answered_or.ensures ∙ c.in_ok-bytes.was) in
-    subst P (sym c.device_bytes.ensures) (device_so c.args.target.low c.in-Some.bytes.now (subst Q answered c.get_device-outcome.ensures.addresses.who))
+pub returns-in-Some-clause-bytes : goal.returns-in-Some-clause-bytes
+returns-in-Some-clause-bytes g c =
+    let has : List ℕ → Type 0 = λ bytes. AnswersSo (AtMaximum c.args.target (HasDescriptor bytes)) c.args.target (g.B.Bus.world c.args.bus.now) (g.B.Bus.world c.get_device-outcome.new.bus) in
+    let P : Result (Option (List ℕ)) Stop → Type 0 = λ r. IfOk r (λ found. IfSome found has) in
+    let front = c.in-Some.ensures.cases.same ∙ ap (take 18) c.as_slice.ensures.value in
+    subst P (sym c.device_bytes.ensures) (device_so c.args.target.low c.in-Some.bytes.now has
+    (bytes_answered c.args.target c.in_ok-bytes.bytes c.in-Some.bytes.now _ c.get_device-outcome.result _ _ (sym c.answered_or.ensures ∙ c.in_ok-bytes.was) front
+    c.get_device-outcome.ensures.asked.ends c.get_device-outcome.ensures.addresses c.get_device-outcome.ensures.what))

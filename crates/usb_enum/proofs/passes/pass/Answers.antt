@@ -1,4 +1,8 @@
-use Rattle.std.proofs.Common.{◌∙◌, arith, sym}
+use Rattle.std.proofs.Common.{◌≡◌, ◌∙◌, arith, false, refl, subst, sym}
+use Rattle.usb_world.specs.Devices.{EachWas}
+use Rattle.usb_hub.specs.Settings.{AddressAsked}
+use Rattle.usb_enum.proofs.Hubs.{answered_ok}
+use Rattle.usb_enum.proofs.Presence.{address_finds}
 use Rattle.usb_bus.proofs.Wents.{went_then, went_wider}
 use Rattle.usb_enum.specs.Stop.{ToldAt}
 use Rattle.usb_enum.proofs.Counts.{went_on}
@@ -20,10 +24,19 @@ returns-in-Some-clause-within g c =
     let addressed = within_addressed _ _ _ _ _ _ (c.unaddressed.ensures.within c.args.address) c.in_ok-target.ensures.target.zero c.requires.least c.set_address.ensures.gives in
     within_on _ _ _ _ _ addressed c.descriptor.ensures.keeps
 
-pub returns-in-Some-clause-takes : goal.returns-in-Some-clause-takes
-returns-in-Some-clause-takes g c =
+pub returns-in-Some-clause-taken : goal.returns-in-Some-clause-taken
+returns-in-Some-clause-taken g c =
     let addressed = within_addressed _ _ _ _ _ _ (c.unaddressed.ensures.within c.args.address) c.in_ok-target.ensures.target.zero c.requires.least c.set_address.ensures.gives in
-    takes_after _ _ _ _ _ addressed (takes_answered _ _ _ _ c.descriptor.ensures.keeps (rw c.in-Some.is at c.in_ok-bytes.ensures.who))
+    let answered = rw c.in-Some.is at c.in_ok-bytes.ensures.bytes in
+    let asked = subst (λ r. (g.B.Bus.world c.set_address.new.bus).shared ≡ false → EachWas (AddressAsked c.in_ok-target.target c.args.address r (g.B.Bus.world c.unaddressed.new.bus) (g.B.Bus.world c.set_address.new.bus)) (g.B.Bus.world c.unaddressed.new.bus) (g.B.Bus.world c.set_address.new.bus))
+    (answered_ok _ c.set_address.result tt (sym c.answered_or.ensures ∙ c.in_ok-answered_or.was)) c.set_address.ensures.what in
+    record {
+      address = refl;
+      takes = takes_after _ _ _ _ _ addressed (takes_answered _ _ _ _ c.descriptor.ensures.keeps answered.who);
+      still = answered.still;
+      found = address_finds c.in_ok-target.target _ _ c.args.address _ c.in_ok-target.ensures.target.zero refl (c.in_ok-target.ensures.device c.args.address)
+          asked addressed answered c.descriptor.ensures.went c.descriptor.ensures.keeps;
+    }
 
 pub returns-in-None-clause-within : goal.returns-in-None-clause-within
 returns-in-None-clause-within g c =
@@ -48,4 +61,4 @@ returns-in-None-clause-went g c = went_on _ _ _ _ _ _ (went_then _ _ c.unaddress
 pub returns-in_err-answered_or-clause-told : goal.returns-in_err-answered_or-clause-told
 returns-in_err-answered_or-clause-told g c =
     handed_on c.from_residual-in_err-answered_or.result (λ stop. ToldAt c.args.port stop (g.B.Bus.world c.set_address.new.bus)) c.in_err-answered_or.field-0.0 c.from_residual-in_err-answered_or.ensures.1
-    (told_at _ _ _ (refused_told _ 2 1 _ _ c.set_address.result _ (sym c.answered_or.ensures ∙ c.in_err-answered_or.was) tt c.set_address.ensures.ends))
+    (told_at _ _ _ (refused_told _ 2 1 _ _ c.set_address.result _ (sym c.answered_or.ensures ∙ c.in_err-answered_or.was) tt c.set_address.ensures.ordered.ends))

@@ -1,8 +1,10 @@
-use Rattle.std.proofs.Common.{Result, subst, sym}
-use Rattle.std.specs.Prelude.{IfErr}
+use Rattle.std.proofs.Common.{Ok, Result, subst, sym}
+use Rattle.std.specs.Prelude.{IfErr, IfOk}
 use Rattle.usb_enum.specs.declared.fault.EnumFault.{EnumFault}
 use Rattle.usb_enum.specs.Stop.{FaultAt}
 use Rattle.usb_port.specs.declared.status.PortStatus.{PortStatus}
+use Rattle.usb_hub.specs.Moments.{TellsPort}
+use Rattle.usb_enum.proofs.Presence.{port_tells}
 use Rattle.usb_enum.proofs.Told.{port_told, read_fails}
 use Rattle.usb_enum.proofs.passes.read_status.Goals as goal
 
@@ -16,3 +18,8 @@ returns-clause-told g c =
 
 pub returns-clause-keeps : goal.returns-clause-keeps
 returns-clause-keeps g c = c.port_status.ensures.addresses.keeps
+
+pub returns-clause-tells : goal.returns-clause-tells
+returns-clause-tells g c =
+    let P : Result PortStatus EnumFault → Type 0 = λ r. IfOk r (λ status. TellsPort c.args.port (g.B.Bus.world c.args.bus.now) (Ok status) (g.B.Bus.world c.port_status.new.bus)) in
+    subst P (sym c.at_port.ensures) (port_tells c.args.port _ _ c.port_status.result c.port_status.ensures.told)

@@ -4,6 +4,7 @@ use Rattle.usb_address.proofs.Keeping.{keeps_then}
 use Rattle.usb_hub.proofs.Ports.{port_stays}
 use Rattle.usb_enum.proofs.Counts.{went_on}
 use Rattle.usb_enum.proofs.Enumerations.{within_on, within_reset}
+use Rattle.usb_enum.proofs.Presence.{reset_finds}
 use Rattle.usb_enum.proofs.passes.reset.Goals as goal
 
 pub read_status-requires : goal.read_status-requires
@@ -41,3 +42,8 @@ returns-clause-went g c = went_on _ _ _ _ _ _ (went_then _ _ c.begin_reset.ensur
 
 pub returns-clause-within : goal.returns-clause-within
 returns-clause-within g c = λ a. within_on _ a _ _ _ (within_reset _ a _ _ c.begin_reset.ensures.resets) (keeps_then _ _ _ c.read_status.ensures.keeps c.settle.ensures.keeps)
+
+pub returns-clause-low : goal.returns-clause-low
+returns-clause-low g c = λ a none.
+    let within = within_on _ a _ _ _ (within_reset _ a _ _ c.begin_reset.ensures.resets) (keeps_then _ _ _ c.read_status.ensures.keeps c.settle.ensures.keeps) in
+    reset_finds _ a _ _ _ _ c.begin_reset.ensures.went c.read_status.ensures.went c.settle.ensures.went c.begin_reset.ensures.resets c.in_ok-status.ensures.tells c.settle.ensures.devices within none

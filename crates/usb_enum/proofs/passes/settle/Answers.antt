@@ -1,9 +1,11 @@
-use Rattle.std.proofs.Common.{Result, arith, subst, sym}
+use Rattle.std.proofs.Common.{Result, arith, refl, subst, sym}
 use Rattle.std.specs.Prelude.{IfErr}
+use Rattle.usb_world.proofs.Devices.{each_none}
 use Rattle.usb_enum.specs.declared.fault.EnumFault.{EnumFault}
-use Rattle.usb_enum.specs.Stop.{FaultAt}
 use Rattle.usb_bus.proofs.Wents.{went_none, went_wider}
 use Rattle.usb_address.proofs.Keeping.{keeps_none}
+use Rattle.usb_hub.specs.Addresses.{StaysAs}
+use Rattle.usb_enum.specs.Stop.{FaultAt}
 use Rattle.usb_enum.proofs.Told.{port_told, clear_fails}
 use Rattle.usb_enum.proofs.passes.settle.Goals as goal
 
@@ -12,6 +14,9 @@ returns-then-not-changed-clause-went g c = went_wider 0 _ went_none (omega arith
 
 pub returns-then-not-changed-clause-keeps : goal.returns-then-not-changed-clause-keeps
 returns-then-not-changed-clause-keeps g c = keeps_none _
+
+pub returns-then-not-changed-clause-devices : goal.returns-then-not-changed-clause-devices
+returns-then-not-changed-clause-devices g c = record { stays = λ single. each_none StaysAs (λ j p s. (refl, refl)) _ }
 
 pub returns-clause-went : goal.returns-clause-went
 returns-clause-went g c = c.clear_port.ensures.went
@@ -23,3 +28,6 @@ returns-clause-told g c =
 
 pub returns-clause-keeps : goal.returns-clause-keeps
 returns-clause-keeps g c = c.clear_port.ensures.addresses.keeps
+
+pub returns-clause-devices : goal.returns-clause-devices
+returns-clause-devices g c = c.clear_port.ensures.addresses.devices

@@ -2,6 +2,7 @@ use Rattle.std.proofs.Common.{arith}
 use Rattle.usb_bus.proofs.Wents.{went_wider}
 use Rattle.usb_enum.proofs.Counts.{went_on}
 use Rattle.usb_enum.proofs.Enumerations.{within_on}
+use Rattle.usb_enum.proofs.Presence.{unaddressed_finds}
 use Rattle.usb_enum.proofs.passes.unaddressed.Goals as goal
 
 pub returns-in_err-max-clause-within : goal.returns-in_err-max-clause-within
@@ -18,3 +19,7 @@ returns-in_err-max-clause-went g c = went_on _ _ _ _ _ _ c.reset.ensures.went c.
 
 pub returns-clause-went : goal.returns-clause-went
 returns-clause-went g c = went_on _ _ _ _ _ _ c.reset.ensures.went c.first_maximum.ensures.went (omega arith)
+
+pub returns-clause-device : goal.returns-clause-device
+returns-clause-device g c = λ a.
+    unaddressed_finds _ a _ c.in_ok-low.low _ _ (c.in_ok-low.ensures.low a) c.in_ok-max.ensures.head c.first_maximum.ensures.went (c.reset.ensures.within a) c.first_maximum.ensures.keeps

@@ -1,6 +1,8 @@
-use Rattle.std.proofs.Common.{arith}
+use Rattle.std.proofs.Common.{◌∙◌, ap, arith, option_and_then, sym}
 use Rattle.usb_bus.proofs.Wents.{went_none, went_wider}
 use Rattle.usb_address.proofs.Keeping.{keeps_none}
+use Rattle.usb_enum.specs.Text.{units_of}
+use Rattle.usb_enum.proofs.StringReadings.{items_in, units_learned, unnamed_learned}
 use Rattle.usb_enum.proofs.strings.read_one.Goals as goal
 
 pub returns-then-index-eq0-clause-went : goal.returns-then-index-eq0-clause-went
@@ -8,3 +10,18 @@ returns-then-index-eq0-clause-went g c = went_wider 0 _ went_none (omega arith)
 
 pub returns-then-index-eq0-clause-keeps : goal.returns-then-index-eq0-clause-keeps
 returns-then-index-eq0-clause-keeps g c = keeps_none _
+
+pub returns-then-index-eq0-clause-learned : goal.returns-then-index-eq0-clause-learned
+returns-then-index-eq0-clause-learned g c = unnamed_learned c.args.target c.args.index (g.B.Bus.world c.args.bus.now) c.if-index-eq0.true
+
+pub returns-in_ok-units_of-in-Some-clause-learned : goal.returns-in_ok-units_of-in-Some-clause-learned
+returns-in_ok-units_of-in-Some-clause-learned g c =
+    units_learned c.args.target c.args.index c.in_ok-bytes.field-0 c.in_ok-units_of-in-Some.field-0 (g.B.Bus.world c.args.bus.now) (g.B.Bus.world c.string_bytes.new.bus) c.if-index-eq0.false
+    (c.in_ok-units_of-in-Some.ensures ∙ ap units_of c.as_slice.ensures.value ∙ ap (λ o. option_and_then units_of (items_in o)) (sym c.in-Some.is))
+    c.in_ok-bytes.ensures.learned
+
+pub returns-in-None-clause-learned : goal.returns-in-None-clause-learned
+returns-in-None-clause-learned g c =
+    units_learned c.args.target c.args.index c.in_ok-bytes.field-0 _ (g.B.Bus.world c.args.bus.now) (g.B.Bus.world c.string_bytes.new.bus) c.if-index-eq0.false
+    (ap (λ o. option_and_then units_of (items_in o)) (sym c.in-None.is))
+    c.in_ok-bytes.ensures.learned

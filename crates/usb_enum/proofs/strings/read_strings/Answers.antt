@@ -1,7 +1,10 @@
-use Rattle.std.proofs.Common.{arith}
+use Rattle.std.proofs.Common.{ℕ, ◌≡◌, Option, arith, subst}
 use Rattle.usb_bus.proofs.Wents.{went_none, went_then, went_wider}
 use Rattle.usb_address.proofs.Keeping.{keeps_none, keeps_then}
+use Rattle.usb_enum.specs.Learned.{Learns}
+use Rattle.usb_enum.specs.Readings.{AtMaximum, language_of}
 use Rattle.usb_enum.proofs.Counts.{went_on}
+use Rattle.usb_enum.proofs.StringReadings.{unnamed_strings_learned, no_strings_learned, strings_learned}
 use Rattle.usb_enum.proofs.strings.read_strings.Goals as goal
 
 pub returns-then-indexes-eq0-3-clause-went : goal.returns-then-indexes-eq0-3-clause-went
@@ -45,3 +48,22 @@ returns-clause-went g c = went_on _ _ _ _ _ _ (went_then _ _ (went_then _ _ c.la
 
 pub returns-clause-keeps : goal.returns-clause-keeps
 returns-clause-keeps g c = keeps_then _ _ _ (keeps_then _ _ _ (keeps_then _ _ _ c.language.ensures.keeps c.read_one.ensures.keeps) c.read_one-2.ensures.keeps) c.read_one-3.ensures.keeps
+
+pub returns-then-indexes-eq0-3-clause-learned : goal.returns-then-indexes-eq0-3-clause-learned
+returns-then-indexes-eq0-3-clause-learned g c = rw c.no_strings.ensures (unnamed_strings_learned c.args.target c.args.indexes (g.B.Bus.world c.args.bus.now) c.if-indexes-eq0.true c.if-indexes-eq0-2.true c.if-indexes-eq0-3.true)
+
+pub returns-in_default-clause-learned : goal.returns-in_default-clause-learned
+returns-in_default-clause-learned g c =
+    let P : Option ℕ → Type 0 = λ o. Learns (AtMaximum c.args.target (λ spec. o ≡ language_of spec)) c.args.target (g.B.Bus.world c.args.bus.now) (g.B.Bus.world c.language.new.bus) in
+    rw c.no_strings-in_default.ensures
+    (no_strings_learned c.args.target c.args.indexes (g.B.Bus.world c.args.bus.now) (g.B.Bus.world c.language.new.bus) (subst P c.in_default.is c.in_ok-language.ensures.learned))
+
+pub returns-clause-learned : goal.returns-clause-learned
+returns-clause-learned g c =
+    let P : Option ℕ → Type 0 = λ o. Learns (AtMaximum c.args.target (λ spec. o ≡ language_of spec)) c.args.target (g.B.Bus.world c.args.bus.now) (g.B.Bus.world c.language.new.bus) in
+    strings_learned c.args.target c.args.indexes c.in-Some.language c.in_ok-manufacturer.manufacturer c.in_ok-product.product c.in_ok-serial_number.serial_number _ _ _
+    (g.B.Bus.world c.args.bus.now) (g.B.Bus.world c.language.new.bus) (g.B.Bus.world c.read_one.new.bus) (g.B.Bus.world c.read_one-2.new.bus) (g.B.Bus.world c.read_one-3.new.bus)
+    (subst P c.in-Some.is c.in_ok-language.ensures.learned)
+    c.read_one.ensures.went c.in_ok-manufacturer.ensures.learned
+    c.read_one-2.ensures.went c.in_ok-product.ensures.learned
+    c.read_one-3.ensures.went c.in_ok-serial_number.ensures.learned

@@ -1,5 +1,6 @@
 use Rattle.usb_bus.specs.Traced.{still}
 use Rattle.usb_bus.proofs.Wents.{traced_cleared}
+use Rattle.usb_hub.proofs.Calls.{root_clears, hub_clears}
 use Rattle.usb_hub.proofs.Keeping.{root_clear_keeps_port}
 use Rattle.usb_hub.proofs.Ports.{port_cleared-root, cleared_spends-root}
 use Rattle.usb_hub.proofs.port.clear_port.Goals as goal
@@ -18,3 +19,9 @@ returns-in-External-clause-went g c = rw c.in-External.is c.clear_hub_port.ensur
 
 pub returns-in-Root-clause-addresses : goal.returns-in-Root-clause-addresses
 returns-in-Root-clause-addresses g c = root_clear_keeps_port c.args.port _ _ _ _ c.in-Root.is c.requires.named c.root_clear.ensures.call
+
+pub returns-in-Root-clause-ports : goal.returns-in-Root-clause-ports
+returns-in-Root-clause-ports g c = root_clears c.args.port _ _ _ _ c.in-Root.is c.root_clear.ensures.call
+
+pub returns-in-External-clause-ports : goal.returns-in-External-clause-ports
+returns-in-External-clause-ports g c = hub_clears c.args.port _ _ _ _ _ _ c.in-External.is c.requires.named c.clear_hub_port.ensures.ordered

@@ -1,6 +1,7 @@
 use Rattle.std.proofs.Common.{rules}
 use Rattle.usb_bus.proofs.Wents.{went_none}
 use Rattle.usb_hub.proofs.Keeping.{status_keeps, hub_status_keeps}
+use Rattle.usb_hub.proofs.Moments.{root_tells, hub_tells}
 use Rattle.usb_hub.proofs.port.port_status.Goals as goal
 
 pub returns-in-Root-clause-went : goal.returns-in-Root-clause-went
@@ -17,3 +18,9 @@ returns-in-Root-clause-addresses g c = status_keeps c.args.port _ _ _ c.in-Root.
 
 pub returns-in-External-clause-addresses : goal.returns-in-External-clause-addresses
 returns-in-External-clause-addresses g c = hub_status_keeps c.args.port _ _ _ _ _ c.in-External.is c.hub_port_status.ensures.told c.hub_port_status.ensures.keeps
+
+pub returns-in-Root-clause-told : goal.returns-in-Root-clause-told
+returns-in-Root-clause-told g c = root_tells c.args.port c.in-Root.number _ _ _ c.in-Root.is c.requires (returns-in-Root-clause-status g c)
+
+pub returns-in-External-clause-told : goal.returns-in-External-clause-told
+returns-in-External-clause-told g c = hub_tells c.args.port _ _ _ _ _ c.in-External.is c.hub_port_status.ensures.told

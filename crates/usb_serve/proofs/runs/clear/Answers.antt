@@ -1,16 +1,16 @@
 use Rattle.std.proofs.Common.{◌∙◌, sym}
-use Rattle.usb_serve.proofs.Goings.{on_went}
+use Rattle.usb_serve.proofs.Goings.{works_from}
 use Rattle.usb_serve.proofs.Ends.{failed_on, answered_goes, answered_caused}
 use Rattle.usb_serve.proofs.runs.clear.Goals as goal
 
 pub returns-in_err-cleared-clause-on : goal.returns-in_err-cleared-clause-on
 returns-in_err-cleared-clause-on g c =
-    failed_on c.from_residual.result c.in_err-cleared.field-0.0 c.from_residual.ensures.1 (on_went _ c.clear_halt.ensures.went)
+    failed_on c.from_residual.result c.in_err-cleared.field-0.0 c.from_residual.ensures.1 (works_from _ _ _ c.clear_halt.ensures.went)
     (answered_caused c.clear_halt.result c.in_err-cleared.field-0.0 c.clear_halt.new.self.world c.clear_halt.ensures.told (sym c.answered.ensures ∙ c.in_err-cleared.was))
 
 pub returns-clause-on : goal.returns-clause-on
 returns-clause-on g c = record {
-  goes = on_went _ c.clear_halt.ensures.went;
+  goes = works_from _ _ _ c.clear_halt.ensures.went;
   running = c.clear_halt.ensures.stopped.stops c.requires.running ∙ answered_goes c.clear_halt.result _ (sym c.answered.ensures ∙ c.in_ok-cleared.was);
   caused = tt;
 }

@@ -1,13 +1,13 @@
 use Rattle.std.proofs.Common.{◌≡◌, false}
 use Rattle.usb_world.specs.World.{to_come}
 use Rattle.usb_host.specs.Owning.{Owning}
-use Rattle.usb_serve.specs.Ran.{Goes}
+use Rattle.usb_serve.specs.Ran.{Ran}
 use Rattle.usb_serve.proofs.runs.item_of_events.Given as goal
 
 abbrev pub invariant-events : goal.invariant-events
 invariant-events g l = record {
   running : l.host.stopped ≡ false;
-  goes : Goes l.fn.host l.host;
+  goes : Ran l.fn.host l.host;
   owning : Owning l.fn.host → Owning l.host;
 }
 

@@ -1,6 +1,9 @@
 use Rattle.usb_bus.specs.Sim.{world_of}
-use Rattle.usb_serve.proofs.Goings.{goes_taken}
-use Rattle.usb_serve.proofs.Ends.{caused_by, told_on}
+use Rattle.usb_serve.specs.Ran.{idle, worked}
+use Rattle.usb_serve.specs.Run.{run_fault}
+use Rattle.usb_serve.specs.Transcript.{NextEvent, at_event, between}
+use Rattle.usb_serve.proofs.Goings.{reaches_taken, works_none}
+use Rattle.usb_serve.proofs.Ends.{caused_by, stopped_on}
 use Rattle.usb_serve.proofs.Ownings.{owning_event}
 use Rattle.usb_serve.proofs.runs.next_due.Goals as goal
 
@@ -18,13 +21,17 @@ returns-clause-owning g c = λ o.
 
 pub returns-clause-on : goal.returns-clause-on
 returns-clause-on g c = record {
-  goes = goes_taken c.args.host.now c.settle.new.host c.settle.ensures.on.goes c.bus_mut.ensures.world c.bus_mut.ensures.trace c.apply_next_event.ensures.takes;
+  goes = reaches_taken c.args.host.now c.settle.new.host _ _ c.settle.ensures.on.goes c.bus_mut.ensures.world c.bus_mut.ensures.trace c.in_ok-apply_next_event.ensures.takes;
   running = c.in_ok-settle.ensures.on.running;
   caused = tt;
 }
 
 pub returns-in_err-apply_next_event-clause-on : goal.returns-in_err-apply_next_event-clause-on
 returns-in_err-apply_next_event-clause-on g c =
-    told_on c.from_residual-in_err-apply_next_event.result c.in_err-apply_next_event.field-0.0 c.from_residual-in_err-apply_next_event.ensures.1
-    (goes_taken c.args.host.now c.settle.new.host c.settle.ensures.on.goes c.bus_mut.ensures.world c.bus_mut.ensures.trace c.apply_next_event.ensures.takes)
-    (caused_by _ _ c.in_err-apply_next_event.ensures.takes.took.ends)
+    let reaches = reaches_taken c.args.host.now c.settle.new.host _ c.apply_next_event.result c.settle.ensures.on.goes c.bus_mut.ensures.world c.bus_mut.ensures.trace c.apply_next_event.ensures.takes in
+    stopped_on NextEvent c.from_residual-in_err-apply_next_event.result (run_fault c.in_err-apply_next_event.field-0.0) c.from_residual-in_err-apply_next_event.ensures.1
+    (λ e. at_event c.apply_next_event.result reaches (works_none _)) (caused_by _ _ c.in_err-apply_next_event.ensures.takes.took.ends)
+
+pub returns-in_err-settle-clause-on : goal.returns-in_err-settle-clause-on
+returns-in_err-settle-clause-on g c =
+    stopped_on NextEvent c.from_residual.result c.in_err-settle.field-0.0 c.from_residual.ensures.1 (λ e. between (worked idle c.in_err-settle.ensures.on.goes)) c.in_err-settle.ensures.on.caused

@@ -1,16 +1,16 @@
 use Rattle.std.proofs.Common.{◌∙◌, sym}
-use Rattle.usb_serve.proofs.Goings.{on_went}
+use Rattle.usb_serve.proofs.Goings.{works_from}
 use Rattle.usb_serve.proofs.Ends.{failed_on, answered_goes, answered_caused}
 use Rattle.usb_serve.proofs.runs.receive.Goals as goal
 
 pub returns-in_err-received-clause-on : goal.returns-in_err-received-clause-on
 returns-in_err-received-clause-on g c =
-    failed_on c.from_residual.result c.in_err-received.field-0.0 c.from_residual.ensures.1 (on_went _ c.receive.ensures.went)
+    failed_on c.from_residual.result c.in_err-received.field-0.0 c.from_residual.ensures.1 (works_from _ _ _ c.receive.ensures.went)
     (answered_caused c.receive.result c.in_err-received.field-0.0 c.receive.new.self.world c.receive.ensures.told (sym c.answered.ensures ∙ c.in_err-received.was))
 
 pub returns-clause-on : goal.returns-clause-on
 returns-clause-on g c = record {
-  goes = on_went _ c.receive.ensures.went;
+  goes = works_from _ _ _ c.receive.ensures.went;
   running = c.receive.ensures.stopped.stops c.requires.running ∙ answered_goes c.receive.result _ (sym c.answered.ensures ∙ c.in_ok-received.was);
   caused = tt;
 }

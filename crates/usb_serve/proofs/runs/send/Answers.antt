@@ -1,16 +1,16 @@
 use Rattle.std.proofs.Common.{◌∙◌, sym}
-use Rattle.usb_serve.proofs.Goings.{on_went}
+use Rattle.usb_serve.proofs.Goings.{works_from}
 use Rattle.usb_serve.proofs.Ends.{failed_on, answered_goes, answered_caused}
 use Rattle.usb_serve.proofs.runs.send.Goals as goal
 
 pub returns-in_err-sent-clause-on : goal.returns-in_err-sent-clause-on
 returns-in_err-sent-clause-on g c =
-    failed_on c.from_residual.result c.in_err-sent.field-0.0 c.from_residual.ensures.1 (on_went _ c.send.ensures.went)
+    failed_on c.from_residual.result c.in_err-sent.field-0.0 c.from_residual.ensures.1 (works_from _ _ _ c.send.ensures.went)
     (answered_caused c.send.result c.in_err-sent.field-0.0 c.send.new.self.world c.send.ensures.told (sym c.answered.ensures ∙ c.in_err-sent.was))
 
 pub returns-clause-on : goal.returns-clause-on
 returns-clause-on g c = record {
-  goes = on_went _ c.send.ensures.went;
+  goes = works_from _ _ _ c.send.ensures.went;
   running = c.send.ensures.stopped.stops c.requires.running ∙ answered_goes c.send.result _ (sym c.answered.ensures ∙ c.in_ok-sent.was);
   caused = tt;
 }

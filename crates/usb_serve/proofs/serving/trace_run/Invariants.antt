@@ -1,5 +1,10 @@
 use Rattle.usb_serve.specs.Run.{items_left}
+use Rattle.usb_serve.proofs.Servings.{RunSoFar}
 use Rattle.usb_serve.proofs.serving.trace_run.Given as goal
+
+-- the run so far, with the number of its last listing
+abbrev pub invariant-items : goal.invariant-items
+invariant-items g l = RunSoFar l.fn.runner.over l.fn.runner.host l.number l.runner.over l.runner.host
 
 -- items to come
 abbrev pub decreases-items : goal.decreases-items

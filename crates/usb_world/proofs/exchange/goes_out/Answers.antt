@@ -17,7 +17,7 @@ returns-in-Flipped c =
     let bytes = c.encode-bytes.result.items in
     let n = c.in-Flipped.bit in
     let within = flip_within bytes s n c.encode-bytes.ensures c.requires.bit c.in-Flipped.is in
-    let broken = c.of-in-Flipped.ensures.broken (λ p h. c.one_flipped_bit.ensures bytes s.packet p n c.encode-bytes.ensures within
-    (subst (λ (l : List ℕ). Spells l p) (c.as_slice-in-Flipped.ensures.value ∙ c.flipped.ensures) h)) in
+    let broken = c.of.ensures.broken (λ p h. c.one_flipped_bit.ensures bytes s.packet p n c.encode-bytes.ensures within
+    (subst (λ (l : List ℕ). Spells l p) (c.as_slice.ensures.value ∙ c.flipped.ensures) h)) in
     let made : Content → Sent = λ x. record { low = a.low; pre = a.pre; content = x } in
     ap (λ x. Some (made x)) broken ∙ ap (λ (m : Mark). sent_as a.low a.pre m s.packet) (sym c.in-Flipped.is)

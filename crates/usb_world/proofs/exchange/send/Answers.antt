@@ -1,8 +1,5 @@
-use Rattle.usb_world.proofs.Exchanges.{delivered_row, delivered_figure}
+use Rattle.usb_world.proofs.Exchanges.{sent_figure}
 use Rattle.usb_world.proofs.exchange.send.Goals as goal
 
-pub returns-in_ok-deliver-in-Some-clause-row : goal.returns-in_ok-deliver-in-Some-clause-row
-returns-in_ok-deliver-in-Some-clause-row c = delivered_row _ _ _ _ c.in_ok-deliver-in-Some.ensures.ok
-
-pub returns-in_ok-deliver-in-Some-clause-figure : goal.returns-in_ok-deliver-in-Some-clause-figure
-returns-in_ok-deliver-in-Some-clause-figure c = delivered_figure _ _ _ _ c.in_ok-deliver-in-Some.ensures.ok
+pub returns-in-Some-clause-figure : goal.returns-in-Some-clause-figure
+returns-in-Some-clause-figure c = sent_figure c.deliver_after.result _ _ _ _ _ c.deliver_after.ensures.ok c.deliver_after.ensures.err

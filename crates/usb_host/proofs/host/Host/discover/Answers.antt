@@ -1,12 +1,14 @@
-use Rattle.std.proofs.Common.{◌≡◌, refl, sym, subst, Some, false}
+use Rattle.std.proofs.Common.{◌≡◌, ap, refl, sym, subst, Some, false}
 use Rattle.std.proofs.lemmas.Result.{err_from_is_err_and}
 use Rattle.usb_table.specs.Entries.{has_at}
 use Rattle.usb_table.specs.Known.{known_port}
+use Rattle.usb_table.specs.Table.{Table}
 use Rattle.usb_enum.specs.Addresses.{KeepsEnumerated}
 use Rattle.usb_host.specs.Hosting.{Hosting}
 use Rattle.usb_host.specs.Ports.{StandsAt}
 use Rattle.usb_host.proofs.Agreements.{nested_entered, known_some}
-use Rattle.usb_host.proofs.Balances.{accounts_entered, claims_found}
+use Rattle.usb_host.proofs.Risings.{rises_entered}
+use Rattle.usb_host.proofs.Balances.{accounts_entered, claims_found, range_claimed}
 use Rattle.usb_host.proofs.Handlings.{found_ends, found_lost, found_fails}
 use Rattle.usb_host.proofs.Enumerations.{enumerated}
 use Rattle.usb_host.proofs.host.Host.discover.Goals as goal
@@ -28,8 +30,10 @@ invariant_of-self-2 g c =
     let known = subst (λ (h : Hosting). known_port path h.entries ≡ Some c.args.port) (sym c.self.view_is) c.requires.port.known in
     let claims = claims_found finding c.self.inside.pool c.enumerate.new.pool c.in_ok-finding.ensures.pool in
     rw (c.in_ok-enter.ensures.ok.0, c.duplicate.ensures, c.in_ok-enter.ensures.ok.1) (record {
-      accounts = accounts_entered path finding c.self.inside.table c.self.inside.pool c.enumerate.new.pool c.self.invariant.accounts away claims;
-      nested = nested_entered path finding c.self.inside.table away (known_some path c.self.inside.table c.args.port known) c.self.invariant.nested;
+      rises = rises_entered path finding c.self.inside.table.entries c.self.invariant.rises;
+      range = range_claimed finding c.self.inside.pool c.enumerate.new.pool claims c.self.invariant.range;
+      accounts = accounts_entered path finding c.self.inside.table.entries c.self.inside.pool c.enumerate.new.pool c.self.invariant.accounts away claims;
+      nested = nested_entered path finding c.self.inside.table.entries c.requires.port.is away (known_some path c.self.inside.table.entries c.args.port known) c.self.invariant.nested;
     })
 
 pub returns-in_err-finding-clause-owned : goal.returns-in_err-finding-clause-owned
@@ -37,20 +41,20 @@ returns-in_err-finding-clause-owned g c =
     let told = err_from_is_err_and c.from_residual.result c.from_residual.ensures.1 in
     let s = subst (λ (h : Hosting). StandsAt c.args.path.now c.args.port h) (sym c.self.view_is) c.requires.port in
     let away = subst (λ (h : Hosting). has_at c.args.path.now h.entries ≡ false) (sym c.self.view_is) c.requires.away in
-    let found = subst (λ r. KeepsEnumerated c.args.port.port c.self.inside.pool (g.B.Bus.world c.self.inside.bus) r (g.B.Bus.world c.enumerate.new.bus)) c.in_err-finding.was c.enumerate.ensures.addresses in
-    rw (← c.self.view_is, told.1, told.2) (found_fails c.args.path.now c.args.port _ _ c.in_err-finding.field-0.0 c.self.inside.pool found s away c.self.invariant.accounts refl)
+    let found = subst (λ r. KeepsEnumerated c.args.port.port c.self.inside.pool (g.B.Bus.world c.self.inside.bus) r (g.B.Bus.world c.enumerate.new.bus)) c.in_err-finding.was c.enumerate.ensures.ends.addresses in
+    rw (← c.self.view_is, told.1, told.2) (found_fails c.args.path.now c.args.port _ _ c.in_err-finding.field-0.0 c.self.inside.pool found s away c.self.invariant.accounts refl c.enumerate.ensures.went.spends.roots)
 
 pub returns-in_err-enter-clause-owned : goal.returns-in_err-enter-clause-owned
 returns-in_err-enter-clause-owned g c =
     let told = err_from_is_err_and c.from_residual-in_err-enter.result c.from_residual-in_err-enter.ensures.1 in
     let s = subst (λ (h : Hosting). StandsAt c.args.path.now c.args.port h) (sym c.self.view_is) c.requires.port in
     let away = subst (λ (h : Hosting). has_at c.args.path.now h.entries ≡ false) (sym c.self.view_is) c.requires.away in
-    let found = subst (λ r. KeepsEnumerated c.args.port.port c.self.inside.pool (g.B.Bus.world c.self.inside.bus) r (g.B.Bus.world c.enumerate.new.bus)) c.in_ok-finding.was c.enumerate.ensures.addresses in
-    rw (← c.self.view_is, told.1, told.2) (found_lost c.args.path.now c.args.port _ _ c.in_ok-finding.finding c.self.inside.pool found s away c.self.invariant.accounts)
+    let found = subst (λ r. KeepsEnumerated c.args.port.port c.self.inside.pool (g.B.Bus.world c.self.inside.bus) r (g.B.Bus.world c.enumerate.new.bus)) c.in_ok-finding.was c.enumerate.ensures.ends.addresses in
+    rw (← c.self.view_is, told.1, told.2) (found_lost c.args.path.now c.args.port _ _ c.in_ok-finding.finding c.self.inside.pool found s away c.self.invariant.accounts (ap (λ (t : Table). t.entries) c.in_err-enter.ensures.err.0) c.enumerate.ensures.went.spends.roots)
 
 pub returns-clause-owned : goal.returns-clause-owned
 returns-clause-owned g c =
     let s = subst (λ (h : Hosting). StandsAt c.args.path.now c.args.port h) (sym c.self.view_is) c.requires.port in
     let away = subst (λ (h : Hosting). has_at c.args.path.now h.entries ≡ false) (sym c.self.view_is) c.requires.away in
-    let found = subst (λ r. KeepsEnumerated c.args.port.port c.self.inside.pool (g.B.Bus.world c.self.inside.bus) r (g.B.Bus.world c.enumerate.new.bus)) c.in_ok-finding.was c.enumerate.ensures.addresses in
-    rw (← c.self.view_is) (found_ends c.args.path.now c.args.port _ _ c.in_ok-finding.finding c.self.inside.pool found s away c.self.invariant.accounts (rw c.duplicate.ensures at c.in_ok-enter.ensures.ok.0))
+    let found = subst (λ r. KeepsEnumerated c.args.port.port c.self.inside.pool (g.B.Bus.world c.self.inside.bus) r (g.B.Bus.world c.enumerate.new.bus)) c.in_ok-finding.was c.enumerate.ensures.ends.addresses in
+    rw (← c.self.view_is) (found_ends c.args.path.now c.args.port _ _ c.in_ok-finding.finding c.self.inside.pool found s away c.self.invariant.accounts (ap (λ (t : Table). t.entries) (rw c.duplicate.ensures at c.in_ok-enter.ensures.ok.0)) c.enumerate.ensures.went.spends.roots)

@@ -6,10 +6,12 @@ use Rattle.usb_enum.specs.declared.cause.Cause.TheVariants.{Lost}
 use Rattle.usb_enum.specs.declared.finding.Finding.TheVariants.{Refused}
 use Rattle.usb_table.specs.Entries.{Entries, has_at, without}
 use Rattle.usb_table.specs.Known.{known_port}
+use Rattle.usb_table.specs.Table.{Table}
 use Rattle.usb_table.proofs.Ports.{known_port-without}
 use Rattle.usb_host.specs.Hosting.{Hosting}
 use Rattle.usb_host.specs.Progress.{waiting}
 use Rattle.usb_host.proofs.Agreements.{nested_entered}
+use Rattle.usb_host.proofs.Risings.{rises_entered}
 use Rattle.usb_host.proofs.Balances.{accounts_entered}
 use Rattle.usb_host.proofs.Handlings.{drop_fails, drop_ends}
 use Rattle.usb_host.proofs.Joins.{dropped}
@@ -18,38 +20,40 @@ use Rattle.usb_host.proofs.host.Host.drop_hub.Goals as goal
 
 pub returns-in_err-insert-clause-holds : goal.returns-in_err-insert-clause-holds
 returns-in_err-insert-clause-holds g c =
-    let same = ap waiting (c.in_err-insert.ensures.err ∙ ap (λ (h : Hosting). h.entries) c.self.view_is) in
-    let fewer : waiting c.insert.new.self ≤ waiting c.forget.new.self.entries = omega (arith, same) in
-    dropped _ c.in_ok-lost.lost c.args.self.now c.disable_upward.new.self c.forget.new.self (g.B.Bus.world c.self.inside.bus) (g.B.Bus.trace c.self.inside.bus) c.insert.new.self c.disable_upward.ensures.goes c.in_ok-lost.ensures.rests
+    let same = ap waiting (ap (λ (t : Table). t.entries) c.in_err-insert.ensures.err ∙ ap (λ (h : Hosting). h.entries) c.self.view_is) in
+    let fewer : waiting c.insert.new.self.entries ≤ waiting c.forget.new.self.entries = omega (arith, same) in
+    dropped _ c.in_ok-lost.lost c.args.self.now c.disable_upward.new.self c.forget.new.self (g.B.Bus.world c.self.inside.bus) (g.B.Bus.trace c.self.inside.bus) c.insert.new.self.entries c.disable_upward.ensures.goes c.in_ok-lost.ensures.rests
     c.forget.ensures.others c.forget.ensures.rest (ap (λ (h : Hosting). h.world) c.self.view_is) fewer
 
 pub returns-clause-holds : goal.returns-clause-holds
 returns-clause-holds g c =
     let table = ap (λ (h : Hosting). waiting h.entries) c.self.view_is in
-    let more = waiting-entered_other c.in_ok-lost.lost (Refused Lost) c.self.inside.table refl in
-    let entered = ap waiting c.in_ok-insert.ensures.ok in
-    let fewer : waiting c.insert.new.self ≤ waiting c.forget.new.self.entries = omega (arith, table, more, entered) in
-    dropped _ c.in_ok-lost.lost c.args.self.now c.disable_upward.new.self c.forget.new.self (g.B.Bus.world c.self.inside.bus) (g.B.Bus.trace c.self.inside.bus) c.insert.new.self c.disable_upward.ensures.goes c.in_ok-lost.ensures.rests
+    let more = waiting-entered_other c.in_ok-lost.lost (Refused Lost) c.self.inside.table.entries refl in
+    let entered = ap (λ (t : Table). waiting t.entries) c.in_ok-insert.ensures.ok in
+    let fewer : waiting c.insert.new.self.entries ≤ waiting c.forget.new.self.entries = omega (arith, table, more, entered) in
+    dropped _ c.in_ok-lost.lost c.args.self.now c.disable_upward.new.self c.forget.new.self (g.B.Bus.world c.self.inside.bus) (g.B.Bus.trace c.self.inside.bus) c.insert.new.self.entries c.disable_upward.ensures.goes c.in_ok-lost.ensures.rests
     c.forget.ensures.others c.forget.ensures.rest (ap (λ (h : Hosting). h.world) c.self.view_is) fewer
 
 pub invariant_of-self-2 : goal.invariant_of-self-2
 invariant_of-self-2 g c =
     let path = c.in_ok-lost.lost in
     let away = subst (λ (h : Hosting). has_at path h.entries ≡ false) (sym c.self.view_is) c.forget.ensures.gone in
-    let left : c.self.inside.table ≡ without path c.args.self.now.entries =
+    let left : c.self.inside.table.entries ≡ without path c.args.self.now.entries =
     ap (λ (h : Hosting). h.entries) c.self.view_is ∙ c.forget.ensures.rest ∙ ap (λ (h : Hosting). without path h.entries) c.in_ok-lost.ensures.rests in
     let known = subst (λ (es : Entries). IsSome (known_port path es)) (sym left) (subst IsSome (sym (known_port-without path c.args.self.now.entries)) c.in_ok-lost.ensures.known) in
     rw c.in_ok-insert.ensures.ok (record {
-      accounts = accounts_entered path (Refused Lost) c.self.inside.table c.self.inside.pool c.self.inside.pool c.self.invariant.accounts away refl;
-      nested = nested_entered path (Refused Lost) c.self.inside.table away known c.self.invariant.nested;
+      rises = rises_entered path (Refused Lost) c.self.inside.table.entries c.self.invariant.rises;
+      range = c.self.invariant.range;
+      accounts = accounts_entered path (Refused Lost) c.self.inside.table.entries c.self.inside.pool c.self.inside.pool c.self.invariant.accounts away refl;
+      nested = nested_entered path (Refused Lost) c.self.inside.table.entries c.numbers-numbers.ensures.path away known c.self.invariant.nested;
     })
 
 pub returns-clause-lost : goal.returns-clause-lost
 returns-clause-lost g c =
     let path = c.in_ok-lost.lost in
-    let left : c.self.inside.table ≡ without path c.args.self.now.entries =
+    let left : c.self.inside.table.entries ≡ without path c.args.self.now.entries =
     ap (λ (h : Hosting). h.entries) c.self.view_is ∙ c.forget.ensures.rest ∙ ap (λ (h : Hosting). without path h.entries) c.in_ok-lost.ensures.rests in
-    record { path = path; entries = c.in_ok-insert.ensures.ok ∙ ap (λ (es : Entries). insert_entry path_cmp es path (Refused Lost)) left }
+    record { path = path; entries = ap (λ (t : Table). t.entries) c.in_ok-insert.ensures.ok ∙ ap (λ (es : Entries). insert_entry path_cmp es path (Refused Lost)) left }
 
 pub returns-in_err-lost-clause-owned : goal.returns-in_err-lost-clause-owned
 returns-in_err-lost-clause-owned g c = drop_fails c.args.hub c.args.self.now c.from_residual.result c.disable_upward.new.self c.from_residual.ensures.0 c.in_err-lost.ensures.bares
@@ -57,5 +61,5 @@ returns-in_err-lost-clause-owned g c = drop_fails c.args.hub c.args.self.now c.f
 pub returns-clause-owned : goal.returns-clause-owned
 returns-clause-owned g c =
     let here : g.B.Bus.world c.self.inside.bus ≡ c.forget.new.self.world = ap (λ (h : Hosting). h.world) c.self.view_is in
-    let entered = c.in_ok-insert.ensures.ok ∙ ap (λ (h : Hosting). insert_entry path_cmp h.entries c.in_ok-lost.lost (Refused Lost)) c.self.view_is in
-    drop_ends c.args.hub c.in_ok-lost.lost c.args.self.now c.disable_upward.new.self c.forget.new.self _ c.in_ok-lost.ensures.bares c.forget.ensures.others c.forget.ensures.rest c.forget.ensures.gone here entered
+    let entered = ap (λ (t : Table). t.entries) c.in_ok-insert.ensures.ok ∙ ap (λ (h : Hosting). insert_entry path_cmp h.entries c.in_ok-lost.lost (Refused Lost)) c.self.view_is in
+    drop_ends c.args.hub c.in_ok-lost.lost c.args.self.now c.disable_upward.new.self c.forget.new.self _ c.numbers-numbers.ensures.path c.in_ok-lost.ensures.rests c.disable_upward.ensures.goes.went.spends.roots c.in_ok-lost.ensures.bares c.forget.ensures.others c.forget.ensures.rest c.forget.ensures.gone here entered

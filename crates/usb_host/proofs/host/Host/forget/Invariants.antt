@@ -1,5 +1,5 @@
 use Rattle.std.proofs.Common.{◌≡◌, length}
-use Rattle.usb_resources.specs.Pool.{IsFull}
+use Rattle.usb_resources.specs.Pool.{IsFull, HasAddresses}
 use Rattle.usb_host.specs.Accounts.{Accounts}
 use Rattle.usb_table.specs.Entries.{without}
 use Rattle.usb_host.proofs.host.Host.forget.Given as goal
@@ -7,10 +7,11 @@ use Rattle.usb_host.proofs.host.Host.forget.Given as goal
 abbrev pub invariant-entries : goal.invariant-entries
 invariant-entries g l = record {
   others : l.self-inside ≡ record l.initial.self-inside { table = l.self-inside.table; pool = l.self-inside.pool };
-  rest : without l.path l.self-inside.table ≡ without l.path l.initial.self-inside.table;
-  accounts : Accounts l.self-inside.table l.self-inside.pool;
+  rest : without l.path l.self-inside.table.entries ≡ without l.path l.initial.self-inside.table.entries;
+  accounts : Accounts l.self-inside.table.entries l.self-inside.pool;
+  range : HasAddresses l.self-inside.pool;
   full : IsFull l.self-inside.pool → IsFull l.initial.self-inside.pool;
 }
 
 abbrev pub decreases-entries : goal.decreases-entries
-decreases-entries g l = length l.self-inside.table
+decreases-entries g l = length l.self-inside.table.entries

@@ -10,11 +10,11 @@ returns-clause-goes g c = goes_then _ _ _ _ _ _ c.serve-served.ensures.goes c.fi
 
 pub returns-clause-advances : goal.returns-clause-advances
 returns-clause-advances g c =
-    handled _ c.serve-served.result c.args.self.now c.serve-served.new.self c.finish.new.self c.finish.ensures.on c.finish.ensures.holds c.serve-served.ensures.served
+    handled _ c.serve-served.result c.args.self.now c.serve-served.new.self c.finish.new.self c.finish.ensures.ends c.finish.ensures.holds c.serve-served.ensures.served
 
 pub finish-requires : goal.finish-requires
 finish-requires g c = breaks c.args.path.now c.args.port c.args.self.now c.serve-served.result _ c.requires c.serve-served.ensures.told
 
 pub returns-clause-owned : goal.returns-clause-owned
 returns-clause-owned g c =
-    port_finished c.args.path.now c.serve-served.result c.args.self.now c.serve-served.new.self c.finish.result c.finish.new.self c.serve-served.ensures.owned c.finish.ensures.owned
+    port_finished c.args.path.now c.args.port c.serve-served.result c.args.self.now c.serve-served.new.self c.finish.result c.finish.new.self c.requires c.serve-served.ensures.goes.went.spends.roots c.serve-served.ensures.owned c.finish.ensures.owned

@@ -45,19 +45,19 @@ pub returns-else-status-clause-renewed : goal.returns-else-status-clause-renewed
 returns-else-status-clause-renewed g c = inl (forgets c.args.path.now c.args.self.now c.clear_change.new.self c.forget.new.self c.in_ok-status.ensures.rests c.forget.ensures.rest)
 
 pub returns-in_err-status-clause-owned : goal.returns-in_err-status-clause-owned
-returns-in_err-status-clause-owned g c = port_rests c.args.path.now c.args.self.now c.from_residual.result c.clear_change.new.self c.in_err-status.ensures.rests c.in_err-status.ensures.bares
+returns-in_err-status-clause-owned g c = port_rests c.args.path.now c.args.self.now c.from_residual.result c.clear_change.new.self c.in_err-status.ensures.rests c.clear_change.ensures.goes.went.spends.roots c.in_err-status.ensures.bares
 
 pub returns-in_err-discover-clause-owned : goal.returns-in_err-discover-clause-owned
 returns-in_err-discover-clause-owned g c =
     let told = err_from_is_err_and c.from_residual-in_err-discover.result c.from_residual-in_err-discover.ensures.1 in
-    let gone = stays_bare c.args.path.now c.args.port c.args.self.now c.clear_change.new.self c.forget.new.self c.requires c.in_ok-status.ensures.rests c.in_ok-status.ensures.bares c.forget.ensures.others c.forget.ensures.rest in
+    let gone = stays_bare c.args.path.now c.args.port c.args.self.now c.clear_change.new.self c.forget.new.self c.requires c.in_ok-status.ensures.rests c.clear_change.ensures.goes.went.spends.roots c.in_ok-status.ensures.bares c.forget.ensures.others c.forget.ensures.rest in
     rw (told.1, told.2) (port_then c.args.path.now c.args.self.now c.forget.new.self (Err c.in_err-discover.field-0.0) c.discover.new.self gone (subst (λ r. KeepsPort c.args.path.now c.forget.new.self r c.discover.new.self) c.in_err-discover.was c.discover.ensures.owned))
 
 pub returns-in_ok-discover-clause-owned : goal.returns-in_ok-discover-clause-owned
 returns-in_ok-discover-clause-owned g c =
-    let gone = stays_bare c.args.path.now c.args.port c.args.self.now c.clear_change.new.self c.forget.new.self c.requires c.in_ok-status.ensures.rests c.in_ok-status.ensures.bares c.forget.ensures.others c.forget.ensures.rest in
+    let gone = stays_bare c.args.path.now c.args.port c.args.self.now c.clear_change.new.self c.forget.new.self c.requires c.in_ok-status.ensures.rests c.clear_change.ensures.goes.went.spends.roots c.in_ok-status.ensures.bares c.forget.ensures.others c.forget.ensures.rest in
     port_then c.args.path.now c.args.self.now c.forget.new.self (Ok tt) c.discover.new.self gone (subst (λ r. KeepsPort c.args.path.now c.forget.new.self r c.discover.new.self) c.in_ok-discover.was c.discover.ensures.owned)
 
 pub returns-else-status-clause-owned : goal.returns-else-status-clause-owned
 returns-else-status-clause-owned g c =
-    port_stays c.args.path.now c.args.self.now c.forget.new.self (stays_bare c.args.path.now c.args.port c.args.self.now c.clear_change.new.self c.forget.new.self c.requires c.in_ok-status.ensures.rests c.in_ok-status.ensures.bares c.forget.ensures.others c.forget.ensures.rest)
+    port_stays c.args.path.now c.args.self.now c.forget.new.self (stays_bare c.args.path.now c.args.port c.args.self.now c.clear_change.new.self c.forget.new.self c.requires c.in_ok-status.ensures.rests c.clear_change.ensures.goes.went.spends.roots c.in_ok-status.ensures.bares c.forget.ensures.others c.forget.ensures.rest)

@@ -4,7 +4,8 @@ use Rattle.usb_bus.specs.Traced.{still}
 use Rattle.usb_bus.proofs.Wents.{traced_set}
 use Rattle.usb_host.proofs.Powers.{powered_none, powered_length, powers_one, powered_all, powered_world}
 use Rattle.usb_host.proofs.Agreements.{nested_none}
-use Rattle.usb_host.proofs.Balances.{accounts_none}
+use Rattle.usb_host.proofs.Risings.{rises_none}
+use Rattle.usb_host.proofs.Balances.{accounts_none, range_none}
 use Rattle.usb_host.proofs.Openings.{opened, owning_opening}
 use Rattle.usb_host.specs.Owning.{Owning}
 use Rattle.usb_host.proofs.host.Host.new.Goals as goal
@@ -35,7 +36,7 @@ returns-clause-opens g c =
     opened w0 _ _ _ _ _ (powered_all w0 _ (c.ports.port - 1) all c.ports.invariant.powered) c.ports.invariant.silent c.new-2.ensures c.new.ensures.empty
 
 pub invariant_of-result : goal.invariant_of-result
-invariant_of-result g c = rw (c.new-2.ensures, c.new.ensures.empty) (record { accounts = accounts_none; nested = nested_none })
+invariant_of-result g c = rw (c.new-2.ensures, c.new.ensures.empty) (record { rises = rises_none; range = range_none; accounts = accounts_none; nested = nested_none })
 
 pub returns-clause-owning : goal.returns-clause-owning
 returns-clause-owning g c = λ untouched. subst Owning (sym (returns-clause-opens g c)) (owning_opening (g.B.Bus.world c.args.bus) (g.B.Bus.trace c.args.bus) untouched)

@@ -1,9 +1,10 @@
-use Rattle.usb_serve.specs.Ran.{Goes}
 use Rattle.usb_serve.specs.Run.{items_left}
+use Rattle.usb_serve.proofs.Reportings.{ReportSoFar}
 use Rattle.usb_serve.proofs.runs.Runner.finish.Given as goal
 
+-- the run so far, and its items
 abbrev pub invariant-items : goal.invariant-items
-invariant-items g l = Goes l.fn.self.host l.self.host
+invariant-items g l = ReportSoFar l.fn.self.over l.fn.self.host l.items.items l.self.over l.self.host
 
 -- items to come
 abbrev pub decreases-items : goal.decreases-items

@@ -1,11 +1,15 @@
+use Rattle.std.proofs.Common.{refl}
 use Rattle.usb_bus.specs.Traced.{still}
-use Rattle.usb_table.proofs.Kept.{send_keeps}
+use Rattle.usb_table.specs.declared.pipes.Pipes.TheVariants.{Function}
+use Rattle.usb_table.proofs.Kept.{sent_keeps}
 use Rattle.usb_table.proofs.entry.Entry.send.Goals as goal
 use Rattle.usb_table.proofs.entry.Entry.send.Goals.{in-Function, in-Hub, in-Absent}
 
 pub invariant_of-self : goal.invariant_of-self
 invariant_of-self g c = elim c.match-self.branch [
-  | in-Function w ↦ rw w.self-inside-is (c.self.invariant.0, send_keeps c.self.inside.finding w.in-Function.pipes _ _ _ _ _ w.send_through.ensures.sent (rw w.in-Function.is at c.self.invariant.1))
+  | in-Function w ↦
+      let kept : _ = sent_keeps c.self.inside.finding c.args.bytes.now (Function w.in-Function.pipes) (Function (record w.in-Function.pipes { out = w.send_through.new.pipe })) _ _ _ (w.send_through.new.pipe, refl, w.send_through.ensures.sent) c.self.invariant.1.0 (rw w.in-Function.is at c.self.invariant.1.1) in
+      rw w.self-inside-is (c.self.invariant.0, (c.self.invariant.1.0, kept))
   | in-Hub w ↦ rw w.self-inside-is c.self.invariant
   | in-Absent w ↦ rw w.self-inside-is c.self.invariant
 ]

@@ -1,24 +1,42 @@
 -- The slab has what each key of a path names.
-use Rattle.std.proofs.Common.{◌≡◌, ◌∙◌, Some}
+use Rattle.std.proofs.Common.{◌≡◌, ◌∙◌, ap, subst, Some}
 use Rattle.std.specs.BTreeMap as tree
 use Rattle.std.specs.Map.Iter.{deref_pair}
 use Rattle.std.proofs.lemmas.Map.Views.{All-turn}
 use Rattle.slab.specs.Slab.{get}
 use Rattle.usb_port.specs.Order.{path_cmp}
-use Rattle.usb_table.proofs.Keys.{entries_rise}
+use Rattle.usb_table.specs.Keys.{findings}
+use Rattle.usb_table.specs.Table.{Table, ArePipesAt}
+use Rattle.usb_table.proofs.Keys.{entries_rise, some_standing}
+use Rattle.usb_table.proofs.Throughs.{are_pipes_at}
 use Rattle.usb_table.proofs.table.DeviceTable.entries.Goals as goal
 
 pub index-requires : goal.index-requires
 index-requires c =
     let paths = c.self.inside.indexes.by_path in
     let turn = All-turn deref_pair (λ e. tree.get path_cmp paths e.0 ≡ Some e.1) _ _ _ _ _ _ _ c.iter-path-items.ensures.found (c.into_iter-path-iterator.ensures.into_iter_gives ∙ c.iter-path-items.ensures.rest) c.entries.yielded_by c.in-Some.is c.next.ensures.steps in
-    c.self.invariant.stands c.in-Some.path.now c.in-Some.key.now turn
+    some_standing (get c.self.inside.entries) c.in-Some.key.now (c.self.invariant.0.stands c.in-Some.path.now c.in-Some.key.now turn)
 
 pub returns-in_err-try_clone-clause-rising : goal.returns-in_err-try_clone-clause-rising
-returns-in_err-try_clone-clause-rising c = entries_rise (get c.self.inside.entries) c.self.inside.indexes.by_path.entries c.args.self.now c.self.view_is c.iter-path-items.ensures.ordered
+returns-in_err-try_clone-clause-rising c = entries_rise (findings (get c.self.inside.entries)) c.self.inside.indexes.by_path.entries c.args.self.now.entries (ap (λ (t : Table). t.entries) c.self.view_is) c.iter-path-items.ensures.ordered
 
 pub returns-in_err-push-clause-rising : goal.returns-in_err-push-clause-rising
-returns-in_err-push-clause-rising c = entries_rise (get c.self.inside.entries) c.self.inside.indexes.by_path.entries c.args.self.now c.self.view_is c.iter-path-items.ensures.ordered
+returns-in_err-push-clause-rising c = entries_rise (findings (get c.self.inside.entries)) c.self.inside.indexes.by_path.entries c.args.self.now.entries (ap (λ (t : Table). t.entries) c.self.view_is) c.iter-path-items.ensures.ordered
 
 pub returns-clause-rising : goal.returns-clause-rising
-returns-clause-rising c = entries_rise (get c.self.inside.entries) c.self.inside.indexes.by_path.entries c.args.self.now c.self.view_is c.iter-path-items.ensures.ordered
+returns-clause-rising c = entries_rise (findings (get c.self.inside.entries)) c.self.inside.indexes.by_path.entries c.args.self.now.entries (ap (λ (t : Table). t.entries) c.self.view_is) c.iter-path-items.ensures.ordered
+
+pub returns-in_err-try_clone-clause-pipes : goal.returns-in_err-try_clone-clause-pipes
+returns-in_err-try_clone-clause-pipes c path =
+    let s = c.self.inside in
+    subst (ArePipesAt path) c.self.view_is (are_pipes_at (get s.entries) s.indexes.by_path.entries s.indexes.by_address.entries c.self.invariant.0 c.self.invariant.1 path)
+
+pub returns-in_err-push-clause-pipes : goal.returns-in_err-push-clause-pipes
+returns-in_err-push-clause-pipes c path =
+    let s = c.self.inside in
+    subst (ArePipesAt path) c.self.view_is (are_pipes_at (get s.entries) s.indexes.by_path.entries s.indexes.by_address.entries c.self.invariant.0 c.self.invariant.1 path)
+
+pub returns-clause-pipes : goal.returns-clause-pipes
+returns-clause-pipes c path =
+    let s = c.self.inside in
+    subst (ArePipesAt path) c.self.view_is (are_pipes_at (get s.entries) s.indexes.by_path.entries s.indexes.by_address.entries c.self.invariant.0 c.self.invariant.1 path)

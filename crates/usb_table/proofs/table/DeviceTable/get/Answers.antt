@@ -1,15 +1,18 @@
 -- The slab has what the path's key names.
 use Rattle.std.proofs.Common.{◌∙◌, sym, ap, Some}
 use Rattle.slab.specs.Slab.{get}
-use Rattle.usb_table.proofs.Keys.{found_at, none_at}
+use Rattle.usb_table.specs.Keys.{findings}
+use Rattle.usb_table.proofs.Keys.{found_at, none_at, found_in}
 use Rattle.usb_table.proofs.table.DeviceTable.get.Goals as goal
 
 pub returns-in-Some-clause-value : goal.returns-in-Some-clause-value
 returns-in-Some-clause-value c =
     let s = c.self.inside in
-    rw (← c.self.view_is) (ap Some c.finding.ensures.value ∙ sym (found_at (get s.entries) c.args.path.now s.indexes.by_path.entries c.in-Some.key.now c.index.result.now (sym c.in-Some.ensures.value) c.index.ensures))
+    rw (← c.self.view_is)
+    (ap Some c.finding.ensures.value
+    ∙ sym (found_at (findings (get s.entries)) c.args.path.now s.indexes.by_path.entries c.in-Some.key.now c.index.result.now.finding (sym c.in-Some.ensures.value) (found_in (get s.entries) c.in-Some.key.now c.index.result.now c.index.ensures)))
 
 pub returns-in-None-clause-value : goal.returns-in-None-clause-value
 returns-in-None-clause-value c =
     let s = c.self.inside in
-    rw (← c.self.view_is) (sym (none_at (get s.entries) c.args.path.now s.indexes.by_path.entries (sym c.in-None.ensures.value)))
+    rw (← c.self.view_is) (sym (none_at (findings (get s.entries)) c.args.path.now s.indexes.by_path.entries (sym c.in-None.ensures.value)))

@@ -1,10 +1,10 @@
 use Rattle.std.proofs.Common.{◌≡◌}
 use Rattle.std.specs.Prelude.{option_copied}
 use Rattle.slab.specs.Slab.{get}
-use Rattle.usb_table.specs.Keys.{entries_of}
+use Rattle.usb_table.specs.Keys.{entries_of, findings}
 use Rattle.usb_table.specs.Kinds.{fits}
 use Rattle.usb_table.proofs.Nexts.{first_from}
 use Rattle.usb_table.proofs.table.DeviceTable.next_of.Given as goal
 
 abbrev pub invariant-entries : goal.invariant-entries
-invariant-entries l = first_from (fits l.kind) (option_copied l.last) (entries_of (get l.self-inside.entries) l.path-iterator) ≡ first_from (fits l.kind) (option_copied l.last) l.self
+invariant-entries l = first_from (fits l.kind) (option_copied l.last) (entries_of (findings (get l.self-inside.entries)) l.path-iterator) ≡ first_from (fits l.kind) (option_copied l.last) l.self.entries

@@ -1,22 +1,57 @@
--- The entry shows the same when it is written back.
-use Rattle.std.proofs.Common.{◌∙◌, sym, ap, Some, arith}
-use Rattle.slab.specs.Slab.{Slab, get}
+use Rattle.std.proofs.Common.{◌≡◌, ◌∙◌, refl, sym, ap, subst, arith, Ok, None}
+use Rattle.slab.specs.Slab.{get, with_value}
 use Rattle.usb_bus.proofs.Wents.{went_none, went_wider}
-use Rattle.usb_enum.specs.declared.finding.Finding.{Finding}
-use Rattle.usb_table.specs.Findings.{device_of}
-use Rattle.usb_table.specs.Keys.{entries_of}
-use Rattle.usb_table.proofs.Keeping.{polled_addresses}
-use Rattle.usb_table.proofs.Keys.{same_slot}
+use Rattle.usb_table.specs.declared.pipes.Pipes.{Pipes}
+use Rattle.usb_table.specs.declared.pipes.Pipes.TheVariants.{Absent}
+use Rattle.usb_table.specs.Known.{is_below_hub}
+use Rattle.usb_table.specs.Keys.{table_of}
+use Rattle.usb_table.specs.Table.{Table, pipes_at, GoesThrough}
+use Rattle.usb_table.specs.Transfers.{Polled}
+use Rattle.usb_table.proofs.Keeping.{spares_none, polled_spares}
+use Rattle.usb_table.proofs.Kept.{polled_keeps}
+use Rattle.usb_table.proofs.Throughs.{Through, through_slot, through_none, pipes_none, told_at}
 use Rattle.usb_table.proofs.table.DeviceTable.poll.Goals as goal
+
+-- the entry is written back with the pipes that the call left
+passed : (g : _) (c : goal.After-self-1 g)
+    → Through c.args.hub.now (get c.self.inside.entries) (get (with_value c.self.inside.entries c.in-Some.key.now c.poll.new.self)) c.self.inside.indexes.by_path.entries c.self.inside.indexes.by_address.entries c.index_mut.result.now.pipes c.poll.new.self.pipes
+passed g c =
+    through_slot c.args.hub.now c.self.inside.entries c.self.inside.indexes.by_path.entries c.self.inside.indexes.by_address.entries c.in-Some.key.now c.index_mut.result.now c.poll.new.self
+    c.self.invariant (sym c.in-Some.ensures.value) c.index_mut.ensures.value c.poll.ensures.same
+    (polled_keeps c.index_mut.result.now.finding c.index_mut.result.now.pipes c.poll.new.self.pipes _ c.poll.result _ c.poll.ensures.polled)
+
+pub invariant_of-self : goal.invariant_of-self
+invariant_of-self g c = ((passed g c).indexes, (passed g c).piped)
+
+pub returns-in-Some-clause-through : goal.returns-in-Some-clause-through
+returns-in-Some-clause-through g c =
+    let left : Table = table_of (get (with_value c.self.inside.entries c.in-Some.key.now c.poll.new.self)) c.self.inside.indexes.by_path.entries in
+    subst (λ (t : Table). GoesThrough c.args.hub.now t left) c.self.view_is (passed g c).goes
+
+pub returns-in-Some-clause-polled : goal.returns-in-Some-clause-polled
+returns-in-Some-clause-polled g c =
+    told_at (λ p q. Polled p (g.B.Bus.world c.args.bus.now) c.poll.result q (g.B.Bus.world c.poll.new.bus))
+    c.index_mut.result.now.pipes c.poll.new.self.pipes _ _ (ap (pipes_at c.args.hub.now) (sym c.self.view_is) ∙ (passed g c).before) (passed g c).then c.poll.ensures.polled
+
+pub returns-in-Some-clause-keeps : goal.returns-in-Some-clause-keeps
+returns-in-Some-clause-keeps g c =
+    polled_spares c.index_mut.result.now.finding (is_below_hub c.args.hub.now) c.index_mut.result.now.pipes c.poll.new.self.pipes _ c.poll.result _
+    (c.self.invariant.1 c.args.hub.now c.in-Some.key.now c.index_mut.result.now (sym c.in-Some.ensures.value) c.index_mut.ensures.value)
+    c.poll.ensures.polled
+
+pub returns-in-None-clause-through : goal.returns-in-None-clause-through
+returns-in-None-clause-through g c =
+    let s = c.self.inside in
+    subst (λ (t : Table). GoesThrough c.args.hub.now t t) c.self.view_is (through_none c.args.hub.now (get s.entries) s.indexes.by_path.entries s.indexes.by_address.entries c.self.invariant.0 c.self.invariant.1)
 
 pub returns-in-None-clause-went : goal.returns-in-None-clause-went
 returns-in-None-clause-went g c = went_wider 0 768 went_none (omega arith)
 
-pub returns-in-Some-clause-same : goal.returns-in-Some-clause-same
-returns-in-Some-clause-same g c =
+pub returns-in-None-clause-polled : goal.returns-in-None-clause-polled
+returns-in-None-clause-polled g c =
     let s = c.self.inside in
-    ap (λ (t : Slab Finding). entries_of (get t) s.indexes.by_path.entries) (same_slot s.entries c.in-Some.key.now c.poll.new.self (c.index_mut.ensures.value ∙ ap Some (sym c.poll.ensures.same)))
-    ∙ c.self.view_is
+    let none : pipes_at c.args.hub.now c.args.self.now ≡ Absent = ap (pipes_at c.args.hub.now) (sym c.self.view_is) ∙ pipes_none (get s.entries) c.args.hub.now s.indexes.by_path.entries (sym c.in-None.ensures.value) in
+    subst (λ (p : Pipes). Polled p (g.B.Bus.world c.args.bus.now) (Ok None) p (g.B.Bus.world c.args.bus.now)) (sym none) (refl, refl, refl)
 
-pub returns-in-Some-clause-keeps : goal.returns-in-Some-clause-keeps
-returns-in-Some-clause-keeps g c = polled_addresses (device_of (Some c.index_mut.result.now)) _ c.poll.result _ c.poll.ensures.polled
+pub returns-in-None-clause-keeps : goal.returns-in-None-clause-keeps
+returns-in-None-clause-keeps g c = spares_none (g.B.Bus.world c.args.bus.now)

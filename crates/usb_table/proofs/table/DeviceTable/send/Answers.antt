@@ -1,27 +1,58 @@
--- The entry shows the same when it is written back.
-use Rattle.std.proofs.Common.{◌*◌, ◌∙◌, sym, ap, Some, arith, length}
-use Rattle.slab.specs.Slab.{Slab, get}
+use Rattle.std.proofs.Common.{◌≡◌, ◌∙◌, refl, sym, ap, subst, arith, ◌*◌, length, Err}
+use Rattle.slab.specs.Slab.{get, with_value}
 use Rattle.usb_bus.proofs.Wents.{went_none, went_wider}
-use Rattle.usb_enum.specs.declared.finding.Finding.{Finding}
-use Rattle.usb_table.specs.Findings.{device_of}
-use Rattle.usb_table.specs.Keys.{entries_of}
-use Rattle.usb_table.proofs.Keeping.{sent_addresses}
-use Rattle.usb_table.proofs.Keys.{same_slot, found_at}
+use Rattle.usb_table.specs.declared.pipes.Pipes.{Pipes}
+use Rattle.usb_table.specs.declared.pipes.Pipes.TheVariants.{Absent}
+use Rattle.usb_table.specs.declared.fault.EndpointFault.TheVariants.{NoDevice}
+use Rattle.usb_table.specs.Known.{is_below_hub}
+use Rattle.usb_table.specs.Keys.{table_of}
+use Rattle.usb_table.specs.Table.{Table, pipes_at, GoesThrough}
+use Rattle.usb_table.specs.Transfers.{Sent}
+use Rattle.usb_table.proofs.Keeping.{spares_none, sent_spares}
+use Rattle.usb_table.proofs.Kept.{sent_keeps}
+use Rattle.usb_table.proofs.Throughs.{Through, through_slot, through_none, pipes_none, told_at}
 use Rattle.usb_table.proofs.table.DeviceTable.send.Goals as goal
+
+-- the entry is written back with the pipes that the call left
+passed : (g : _) (c : goal.After-self-1 g)
+    → Through c.args.path.now (get c.self.inside.entries) (get (with_value c.self.inside.entries c.in-Some.key.now c.send.new.self)) c.self.inside.indexes.by_path.entries c.self.inside.indexes.by_address.entries c.index_mut.result.now.pipes c.send.new.self.pipes
+passed g c =
+    through_slot c.args.path.now c.self.inside.entries c.self.inside.indexes.by_path.entries c.self.inside.indexes.by_address.entries c.in-Some.key.now c.index_mut.result.now c.send.new.self
+    c.self.invariant (sym c.in-Some.ensures.value) c.index_mut.ensures.value c.send.ensures.same
+    (sent_keeps c.index_mut.result.now.finding c.args.bytes.now c.index_mut.result.now.pipes c.send.new.self.pipes _ c.send.result _ c.send.ensures.sent)
+
+pub invariant_of-self : goal.invariant_of-self
+invariant_of-self g c = ((passed g c).indexes, (passed g c).piped)
+
+pub returns-in-Some-clause-through : goal.returns-in-Some-clause-through
+returns-in-Some-clause-through g c =
+    let left : Table = table_of (get (with_value c.self.inside.entries c.in-Some.key.now c.send.new.self)) c.self.inside.indexes.by_path.entries in
+    subst (λ (t : Table). GoesThrough c.args.path.now t left) c.self.view_is (passed g c).goes
+
+pub returns-in-Some-clause-sent : goal.returns-in-Some-clause-sent
+returns-in-Some-clause-sent g c =
+    told_at (λ p q. Sent p c.args.bytes.now (g.B.Bus.world c.args.bus.now) c.send.result q (g.B.Bus.world c.send.new.bus))
+    c.index_mut.result.now.pipes c.send.new.self.pipes _ _ (ap (pipes_at c.args.path.now) (sym c.self.view_is) ∙ (passed g c).before) (passed g c).then c.send.ensures.sent
+
+pub returns-in-Some-clause-keeps : goal.returns-in-Some-clause-keeps
+returns-in-Some-clause-keeps g c =
+    sent_spares c.index_mut.result.now.finding (is_below_hub c.args.path.now) c.index_mut.result.now.pipes c.send.new.self.pipes c.args.bytes.now _ c.send.result _
+    (c.self.invariant.1 c.args.path.now c.in-Some.key.now c.index_mut.result.now (sym c.in-Some.ensures.value) c.index_mut.ensures.value)
+    c.send.ensures.sent
+
+pub returns-in-None-clause-through : goal.returns-in-None-clause-through
+returns-in-None-clause-through g c =
+    let s = c.self.inside in
+    subst (λ (t : Table). GoesThrough c.args.path.now t t) c.self.view_is (through_none c.args.path.now (get s.entries) s.indexes.by_path.entries s.indexes.by_address.entries c.self.invariant.0 c.self.invariant.1)
 
 pub returns-in-None-clause-went : goal.returns-in-None-clause-went
 returns-in-None-clause-went g c = went_wider 0 (768 * length c.args.bytes.now) went_none (omega arith)
 
-pub returns-in-Some-clause-same : goal.returns-in-Some-clause-same
-returns-in-Some-clause-same g c =
+pub returns-in-None-clause-sent : goal.returns-in-None-clause-sent
+returns-in-None-clause-sent g c =
     let s = c.self.inside in
-    ap (λ (t : Slab Finding). entries_of (get t) s.indexes.by_path.entries) (same_slot s.entries c.in-Some.key.now c.send.new.self (c.index_mut.ensures.value ∙ ap Some (sym c.send.ensures.same)))
-    ∙ c.self.view_is
+    let none : pipes_at c.args.path.now c.args.self.now ≡ Absent = ap (pipes_at c.args.path.now) (sym c.self.view_is) ∙ pipes_none (get s.entries) c.args.path.now s.indexes.by_path.entries (sym c.in-None.ensures.value) in
+    subst (λ (p : Pipes). Sent p c.args.bytes.now (g.B.Bus.world c.args.bus.now) (Err NoDevice) p (g.B.Bus.world c.args.bus.now)) (sym none) (refl, refl, refl)
 
-pub returns-in-Some-clause-sent : goal.returns-in-Some-clause-sent
-returns-in-Some-clause-sent g c =
-    let s = c.self.inside in
-    rw (← c.self.view_is, found_at (get s.entries) c.args.path.now s.indexes.by_path.entries c.in-Some.key.now c.index_mut.result.now (sym c.in-Some.ensures.value) c.index_mut.ensures.value) c.send.ensures.sent
-
-pub returns-in-Some-clause-keeps : goal.returns-in-Some-clause-keeps
-returns-in-Some-clause-keeps g c = sent_addresses (device_of (Some c.index_mut.result.now)) c.args.bytes.now _ c.send.result _ c.send.ensures.sent
+pub returns-in-None-clause-keeps : goal.returns-in-None-clause-keeps
+returns-in-None-clause-keeps g c = spares_none (g.B.Bus.world c.args.bus.now)

@@ -3,14 +3,14 @@ use Rattle.std.proofs.Common.{◌≡◌, ◌∙◌, sym, ap, subst, cond, ℕ, L
 use Rattle.std.specs.Prelude.{IfNone}
 use Rattle.std.specs.BTreeMap.{BTreeMap, is_at}
 use Rattle.std.specs.List.Sorted.{IsStrictlySortedBy}
-use Rattle.std.specs.Map.{keys_of, remove_entry}
+use Rattle.std.specs.Map.{keys_of}
 use Rattle.slab.specs.Slab.{get}
 use Rattle.usb_port.specs.Order.{path_cmp}
-use Rattle.usb_table.specs.Entries.{Entries}
 use Rattle.usb_table.specs.Findings.{address_of}
-use Rattle.usb_table.specs.Keys.{PathKeys, key_of_path, UpdatesAddress}
-use Rattle.usb_table.proofs.Keys.{found_at, entries-has_at}
-use Rattle.usb_table.proofs.Goings.{go, go_entries}
+use Rattle.usb_table.specs.Keys.{PathKeys, findings, key_of_path, UpdatesAddress}
+use Rattle.usb_table.specs.Table.{removed}
+use Rattle.usb_table.proofs.Keys.{found_at, found_in, entries-has_at}
+use Rattle.usb_table.proofs.Goings.{gone_indexes, gone_piped, gone_table}
 use Rattle.usb_table.proofs.table.DeviceTable.take_at.Goals as goal
 
 on_none : {A : Type 0} (r : Option A) (P : Type 0) → P → IfNone r P
@@ -20,13 +20,13 @@ on_none (Some x) P p = tt
 pub returns-in_err-first-clause-none : goal.returns-in_err-first-clause-none
 returns-in_err-first-clause-none c =
     let s = c.self.inside in
-    on_none c.from_residual.result _ (rw (← c.self.view_is) (entries-has_at (get s.entries) c.args.path.now s.indexes.by_path.entries ∙ c.in_err-first.ensures.none))
+    on_none c.from_residual.result _ (rw (← c.self.view_is) (entries-has_at (findings (get s.entries)) c.args.path.now s.indexes.by_path.entries ∙ c.in_err-first.ensures.none))
 
 -- the entry that went, for the lemmas
 record Gone (c : goal.After-into_finding) : Type 0 where
   was : key_of_path c.self.inside.indexes.by_path.entries c.in_ok-first.first ≡ Some c.in_ok-key.key
   path_keys : (q : List ℕ) → key_of_path c.remove_address.new.self.by_path.entries q ≡ cond (is_at (path_cmp c.in_ok-first.first) q) None (key_of_path c.self.inside.indexes.by_path.entries q)
-  address_keys : UpdatesAddress (address_of c.remove-entry.result) None c.self.inside.indexes.by_address.entries c.remove_address.new.self.by_address.entries
+  address_keys : UpdatesAddress (address_of c.remove-entry.result.finding) None c.self.inside.indexes.by_address.entries c.remove_address.new.self.by_address.entries
 
 went : (c : goal.After-into_finding) → Gone c
 went c = record {
@@ -38,10 +38,14 @@ went c = record {
 pub invariant_of-self-2 : goal.invariant_of-self-2
 invariant_of-self-2 c =
     let s = c.self.inside in
-    let h = went c in
-    go (get s.entries) (get c.remove-entry.new.self) s.indexes.by_path.entries c.remove_address.new.self.by_path.entries s.indexes.by_address.entries c.remove_address.new.self.by_address.entries
-    c.in_ok-first.first c.in_ok-key.key c.remove-entry.result c.self.invariant c.remove-entry.ensures.value c.remove-entry.ensures.updates.changed c.remove-entry.ensures.updates.others
-    h.was h.path_keys h.address_keys
+    let h = went c in (
+      gone_indexes (get s.entries) (get c.remove-entry.new.self) s.indexes.by_path.entries c.remove_address.new.self.by_path.entries s.indexes.by_address.entries c.remove_address.new.self.by_address.entries
+          c.in_ok-first.first c.in_ok-key.key c.remove-entry.result c.self.invariant.0 c.self.invariant.1 c.remove-entry.ensures.value c.remove-entry.ensures.updates.changed c.remove-entry.ensures.updates.others
+          h.was h.path_keys h.address_keys,
+      gone_piped (get s.entries) (get c.remove-entry.new.self) s.indexes.by_path.entries c.remove_address.new.self.by_path.entries s.indexes.by_address.entries c.remove_address.new.self.by_address.entries
+          c.in_ok-first.first c.in_ok-key.key c.remove-entry.result c.self.invariant.0 c.self.invariant.1 c.remove-entry.ensures.value c.remove-entry.ensures.updates.changed c.remove-entry.ensures.updates.others
+          h.was h.path_keys h.address_keys,
+    )
 
 pub returns-clause-some : goal.returns-clause-some
 returns-clause-some c =
@@ -51,10 +55,12 @@ returns-clause-some c =
     record {
       first = c.in_ok-first.first;
       at = c.in_ok-first.ensures.some;
-      found = rw (← c.self.view_is) (found_at (get s.entries) c.in_ok-first.first s.indexes.by_path.entries c.in_ok-key.key c.remove-entry.result h.was c.remove-entry.ensures.value ∙ ap Some (sym c.into_finding.ensures));
+      found = rw (← c.self.view_is)
+          (found_at (findings (get s.entries)) c.in_ok-first.first s.indexes.by_path.entries c.in_ok-key.key c.remove-entry.result.finding h.was (found_in (get s.entries) c.in_ok-key.key c.remove-entry.result c.remove-entry.ensures.value)
+          ∙ ap Some (sym c.into_finding.ensures));
       rest =
-          go_entries (get s.entries) (get c.remove-entry.new.self) s.indexes.by_path.entries c.remove_address.new.self.by_path.entries s.indexes.by_address.entries c.remove_address.new.self.by_address.entries
-          c.in_ok-first.first c.in_ok-key.key c.remove-entry.result c.self.invariant c.remove-entry.ensures.value c.remove-entry.ensures.updates.changed c.remove-entry.ensures.updates.others
+          gone_table (get s.entries) (get c.remove-entry.new.self) s.indexes.by_path.entries c.remove_address.new.self.by_path.entries s.indexes.by_address.entries c.remove_address.new.self.by_address.entries
+          c.in_ok-first.first c.in_ok-key.key c.remove-entry.result c.self.invariant.0 c.self.invariant.1 c.remove-entry.ensures.value c.remove-entry.ensures.updates.changed c.remove-entry.ensures.updates.others
           h.was h.path_keys h.address_keys (left ∙ c.in_ok-key.ensures.entries) (subst (λ (es : PathKeys). IsStrictlySortedBy path_cmp (keys_of es)) (sym left) c.in_ok-key.ensures.ordered)
-          ∙ ap (λ (es : Entries). remove_entry (is_at (path_cmp c.in_ok-first.first)) es) c.self.view_is;
+          ∙ ap (removed c.in_ok-first.first) c.self.view_is;
     }

@@ -1,0 +1,44 @@
+-- What went between two states of a bus that is at work, as a course of steps.
+use Rattle.std.proofs.Common.{◌≡◌, ℕ, List, Option, None, Some, Result, Ok, Err, refl, ap, sym, subst, ◌∙◌}
+use Rattle.usb_world.specs.declared.types.Attempt.{Attempt}
+use Rattle.usb_world.specs.declared.types.BusFault.{BusFault}
+use Rattle.usb_world.specs.declared.types.Outcome.{Outcome}
+use Rattle.usb_world.specs.Steps.{AnyStep, Course, here, attempt, root_call, after}
+use Rattle.usb_world.specs.World.{World}
+use Rattle.usb_world.proofs.Between.{between_course}
+use Rattle.usb_transaction.proofs.Trails.{course_then}
+use Rattle.usb_bus.specs.Traced.{Attempts, Traced, still, attempted, called, WentOn}
+use Rattle.usb_enum.specs.Present.{IsInOrder}
+
+-- the bus was at work, and these were its steps
+record AtWork (old new : World) : Type 0 where
+  sound : old.fault ≡ None
+  course : Course AnyStep old new
+
+-- a fault that was told is told again
+attempt_sound : {a : Attempt} {w v : World} {t s : Option (List ℕ)} (result : Result Outcome BusFault) → Attempts a w t result v s → v.fault ≡ None → w.fault ≡ None
+attempt_sound {a} {w} {v} result made h = split w.fault refl
+  where
+    split : (x : Option BusFault) → w.fault ≡ x → w.fault ≡ None
+    split None e = e
+    split (Some fault) e = ap (λ y. y.fault) (sym (made.counts.again fault e).1) ∙ h
+
+attempt_after : {a : Attempt} {w v : World} {t s : Option (List ℕ)} (result : Result Outcome BusFault) → Attempts a w t result v s → v.fault ≡ None → v ≡ after (attempt a) w
+attempt_after (Ok outcome) made h = made.exact
+attempt_after (Err fault) made h = absurd (cc (h, made.counts.ends.told))
+
+traced_course : {old : World} {t : Option (List ℕ)} {new : World} {s : Option (List ℕ)} → Traced old t new s → new.fault ≡ None → AtWork old new
+unfolding after
+traced_course {old} still h = record { sound = h; course = here old }
+traced_course {old} (attempted {w} {v} a result fits before made) h =
+    let work = traced_course before (attempt_sound result made h) in
+    record { sound = work.sound; course = subst (Course AnyStep old) (sym (attempt_after result made h)) (course_then (attempt a) work.course tt) }
+traced_course (called c port before) h =
+    let work = traced_course before h in
+    record { sound = work.sound; course = course_then (root_call c port) work.course tt }
+
+pub went_sound : (n : ℕ) (old new : World) {t s : Option (List ℕ)} → WentOn n old t new s → new.fault ≡ None → old.fault ≡ None
+went_sound n old new went h = (traced_course went.traced h).sound
+
+pub went_in_order : (n : ℕ) (old new : World) {t s : Option (List ℕ)} → WentOn n old t new s → IsInOrder old → IsInOrder new
+went_in_order n old new went order h = let work = traced_course went.traced h in between_course work.course (order work.sound)

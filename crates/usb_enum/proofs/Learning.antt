@@ -1,0 +1,25 @@
+-- How what is learned of a device joins, from one call to the next.
+use Rattle.std.proofs.Common.{◌≡◌, ℕ, List, false, ◌==◌, ap, subst, ◌∙◌}
+use Rattle.usb_device.specs.Spec.{Spec}
+use Rattle.usb_device.specs.Rows.{State}
+use Rattle.usb_world.specs.World.{World}
+use Rattle.usb_world.proofs.Devices.{each_joined, each_wider}
+use Rattle.usb_transaction.specs.declared.target.Target.{Target}
+use Rattle.usb_enum.specs.Learned.{Learned, Learns}
+
+pub learned_wider : (A B : Spec → Type 0) (t : Target) → ((x : Spec) → A x → B x) → (j : ℕ) (p : List ℕ) (s v : State) → Learned A t j p s v → Learned B t j p s v
+learned_wider A B t f j p s v l = record { spec = l.spec; registers = l.registers; so = λ at. f s.spec (l.so at) }
+
+pub learned_then : (A B : Spec → Type 0) (t : Target) (j : ℕ) (p : List ℕ) (s u v : State) → Learned A t j p s u → Learned B t j p u v → Learned (λ x. A x × B x) t j p s v
+learned_then A B t j p s u v a b = record {
+  spec = b.spec ∙ a.spec;
+  registers = b.registers ∙ a.registers;
+  so = λ at. (a.so at, subst B a.spec (b.so (ap (λ r. r.address == t.addr) a.registers ∙ at)));
+}
+
+pub learns_wider : (A B : Spec → Type 0) (t : Target) (old new : World) → ((x : Spec) → A x → B x) → Learns A t old new → Learns B t old new
+learns_wider A B t old new f l single = each_wider (Learned A t) (Learned B t) (learned_wider A B t f) old new (l single)
+
+pub learns_then : (A B : Spec → Type 0) (t : Target) (old mid new : World) → (new.shared ≡ false → mid.shared ≡ false) → Learns A t old mid → Learns B t mid new → Learns (λ x. A x × B x) t old new
+learns_then A B t old mid new before a b single =
+    each_joined (Learned A t) (Learned B t) (Learned (λ x. A x × B x) t) (learned_then A B t) old mid new (a (before single)) (b single)

@@ -1,0 +1,16 @@
+use Rattle.std.proofs.Common.{◌∙◌, ap, option_and_then, sym}
+use Rattle.usb_enum.specs.Text.{first_language_of}
+use Rattle.usb_enum.proofs.StringReadings.{items_in, language_learned}
+use Rattle.usb_enum.proofs.strings.language.Goals as goal
+
+pub returns-in-Some-clause-learned : goal.returns-in-Some-clause-learned
+returns-in-Some-clause-learned g c =
+    language_learned c.args.target c.in_ok-bytes.field-0 c.first_language.result (g.B.Bus.world c.args.bus.now) (g.B.Bus.world c.string_bytes.new.bus)
+    (c.first_language.ensures ∙ ap first_language_of c.as_slice.ensures.value ∙ ap (λ o. option_and_then first_language_of (items_in o)) (sym c.in-Some.is))
+    c.in_ok-bytes.ensures.learned
+
+pub returns-in-None-clause-learned : goal.returns-in-None-clause-learned
+returns-in-None-clause-learned g c =
+    language_learned c.args.target c.in_ok-bytes.field-0 _ (g.B.Bus.world c.args.bus.now) (g.B.Bus.world c.string_bytes.new.bus)
+    (ap (λ o. option_and_then first_language_of (items_in o)) (sym c.in-None.is))
+    c.in_ok-bytes.ensures.learned

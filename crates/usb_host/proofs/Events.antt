@@ -1,0 +1,75 @@
+-- What is known of ports and devices stays so as an event comes.
+use Rattle.std.proofs.Common.{◌≡◌, ◌-◌, List, [], ◌∷◌, ℕ, suc, Bool, true, false, not, if◌then◌else◌, arith, Option, None, Some, refl, ap, ◌∙◌, sym, subst}
+use Rattle.std.specs.Prelude.{nat_le}
+use Rattle.std.proofs.lemmas.Bool.{le-leb}
+use Rattle.usb_resources.specs.Pool.{Addresses}
+use Rattle.usb_device.specs.Tree.{reach}
+use Rattle.usb_device.specs.View.{state_there}
+use Rattle.usb_world.specs.declared.event.Action.{Action}
+use Rattle.usb_world.specs.declared.event.Action.TheVariants.{Plug, Unplug, Show, Send, Receive, Clear}
+use Rattle.usb_world.specs.declared.event.Event.{Event}
+use Rattle.usb_world.specs.declared.types.BusFault.{BusFault}
+use Rattle.usb_world.specs.Courses.{resets, spares_step}
+use Rattle.usb_world.specs.Requested.{leaves_step}
+use Rattle.usb_world.specs.Resting.{AsksNothingOf}
+use Rattle.usb_world.specs.Steps.{happened, waits, is_due, took, took_first, due_from, event_taken, event, after, Course, here, step}
+use Rattle.usb_world.specs.World.{World, roots_of}
+use Rattle.usb_world.proofs.Booleans.{and_of}
+use Rattle.usb_world.proofs.OwnLaws.{due_state}
+use Rattle.usb_world.proofs.WorldLaws.{course_wider, unreset_reach}
+use Rattle.usb_enum.proofs.Losses.{course_later}
+use Rattle.usb_table.specs.Entries.{Entries}
+use Rattle.usb_host.specs.Sound.{Known, Truthful, Causes, EachStill, Accounted}
+use Rattle.usb_host.proofs.Stays.{known_each, truthful_stays, causes_stay}
+
+-- an event asks nothing of any port
+event_calm : (path : List ℕ) (w : World) → Course (AsksNothingOf path) w (after event w)
+unfolding spares_step resets leaves_step
+event_calm path w = step event (record { spares = refl; rests = refl; leaves = refl }) (here (after event w))
+
+-- a device that is reached after it is as it was, whenever it was due
+plugs_still : (a : Action) (w : World) (p : List ℕ) → waits a ≡ false → reach (happened a w.devices w.roots) p ≡ true → state_there (happened a w.devices w.roots) p ≡ state_there w.roots p
+unfolding due_from took
+plugs_still a w p plugs =
+    let e : Event = record { after = 0; action = a } in
+    let due : is_due e w ≡ true = and_of (not (waits a)) (nat_le 0 (w.attempts - w.attempts_then)) (ap not plugs) (le-leb 0 (w.attempts - w.attempts_then) (omega arith)) in
+    subst (λ (b : Bool). reach (if b then took e [] w else w).roots p ≡ true → state_there (if b then took e [] w else w).roots p ≡ state_there w.roots p) due (due_state (e ∷ []) w p)
+
+happened_still : (a : Action) (w : World) (p : List ℕ) → reach (happened a w.devices w.roots) p ≡ true → state_there (happened a w.devices w.roots) p ≡ state_there w.roots p
+happened_still (Plug path device) w p on = plugs_still (Plug path device) w p refl on
+happened_still (Unplug path) w p on = plugs_still (Unplug path) w p refl on
+happened_still Show w p on = refl
+happened_still (Send path bytes) w p on = refl
+happened_still (Receive path packets) w p on = refl
+happened_still (Clear path) w p on = refl
+
+first_still : (es : List Event) (w : World) (p : List ℕ) → reach (took_first es w).roots p ≡ true → state_there (took_first es w).roots p ≡ state_there w.roots p
+unfolding took
+first_still [] w p on = refl
+first_still (e ∷ es) w p on = happened_still e.action w p on
+
+taken_still : (f : Option BusFault) (w : World) (p : List ℕ) → reach (event_taken f w).roots p ≡ true → state_there (event_taken f w).roots p ≡ state_there w.roots p
+taken_still (Some f) w p on = refl
+taken_still None w p on = first_still w.left w p on
+
+event_still : (w : World) → EachStill w (after event w)
+unfolding resets after
+event_still w j p s on stands = record {
+  before = s;
+  on = (unreset_reach event w (suc j ∷ p) refl on).0;
+  stands = sym (taken_still w.fault w (suc j ∷ p) on) ∙ stands;
+  so = (refl, refl);
+}
+
+pub known_event : (w : World) (entries : Entries) → Known w entries → Known (after event w) entries
+known_event w entries known = known_each w (after event w) entries (course_later (event_calm [] w)).roots (λ path port. event_calm path w) known
+
+pub truthful_event : (w : World) (entries : Entries) → Truthful w entries → Truthful (after event w) entries
+truthful_event w entries told = truthful_stays w (after event w) entries (event_still w) told
+
+pub causes_event : (w : World) (entries : Entries) (addresses : Addresses) → Accounted (roots_of w) entries addresses → Known w entries → Causes w entries → Causes (after event w) entries
+causes_event w entries addresses accounted known caused =
+    causes_stay w (after event w) entries addresses accounted known (λ path port. course_wider (λ s u x. x.spares) (event_calm path w)) caused
+
+pub accounted_event : (w : World) (entries : Entries) (addresses : Addresses) → Accounted (roots_of w) entries addresses → Accounted (roots_of (after event w)) entries addresses
+accounted_event w entries addresses accounted = subst (λ n. Accounted n entries addresses) (sym (course_later (event_calm [] w)).roots) accounted

@@ -1,0 +1,103 @@
+-- Entries stand below the ports of the root.
+use Rattle.std.proofs.Common.{◌≡◌, refl, sym, ap, subst, ℕ, ◌≤◌, Bool, true, false, not, List, [], ◌∷◌, ◌++◌, length, Option, None, Some, Result, Ok, Err, arith}
+use Rattle.std.specs.Prelude.{IsSome, OnOk, IsErr}
+use Rattle.std.specs.BTreeMap.{is_at, insert_entry}
+use Rattle.usb_port.specs.Order.{path_cmp, parent_of, port_of}
+use Rattle.usb_port.proofs.OrderLaws.{rejoined}
+use Rattle.usb_world.specs.Live.{is_way}
+use Rattle.usb_world.specs.World.{World, roots_of}
+use Rattle.usb_world.proofs.Booleans.{no}
+use Rattle.usb_hub.specs.declared.port.HubPort.TheVariants.{Root}
+use Rattle.usb_hub.specs.Port.{IsPort}
+use Rattle.usb_enum.specs.declared.finding.Finding.{Finding}
+use Rattle.usb_table.specs.declared.known.KnownPort.{KnownPort}
+use Rattle.usb_table.specs.Entries.{Entries, without, is_at_or_below}
+use Rattle.usb_table.specs.Known.{root_port, port_below, port_found, is_below_hub}
+use Rattle.usb_table.specs.Listing.{finding_at}
+use Rattle.usb_table.proofs.Paths.{path_tied}
+use Rattle.usb_host.specs.Agreement.{Agrees, Nested}
+use Rattle.usb_host.specs.Hosting.{Hosting, opening}
+use Rattle.usb_host.specs.Owning.{IsRooted, root_of}
+use Rattle.usb_host.specs.Ports.{StandsAt}
+use Rattle.usb_host.specs.Sound.{Accounted}
+use Rattle.usb_host.proofs.Agreements.{lookup-without, lookup-insert_entry_elsewhere}
+use Rattle.usb_host.proofs.Stations.{root_alone}
+use Rattle.usb_host.proofs.Ways.{way_rest}
+
+pub root_way : (path below : List ℕ) → 1 ≤ length path → is_way path below ≡ true → root_of below ≡ root_of path
+root_way [] below some way = absurd (omega (arith, some))
+root_way (n ∷ path) below some way = ap root_of (way_rest (n ∷ path) below way).1
+
+root_joined : (path hub : List ℕ) → path ≡ hub ++ port_of path ∷ [] → parent_of path ≡ Some hub → root_of path ≡ root_of hub
+unfolding parent_of
+root_joined path [] joined is =
+    let none : parent_of path ≡ None = ap parent_of joined in
+    absurd (cc (none, is))
+root_joined path (n ∷ hub) joined is = ap root_of joined
+
+pub root_parent : (path hub : List ℕ) → parent_of path ≡ Some hub → root_of path ≡ root_of hub
+root_parent path hub is = root_joined path hub (rejoined path hub is) is
+
+-- As entries stay, go and come
+
+pub rooted_kept : (a b : Hosting) → b.entries ≡ a.entries → roots_of b.world ≡ roots_of a.world → IsRooted a → IsRooted b
+rooted_kept a b same roots r path some = subst (λ n. root_of path ≤ n) (sym roots) (r path (subst (λ (es : Entries). IsSome (finding_at path es)) same some))
+
+kept_by : (first path : List ℕ) (es : Entries) → (b : Bool) → is_at_or_below path first ≡ b → IsSome (finding_at path (without first es)) → IsSome (finding_at path es)
+kept_by first path es true is some = no (subst IsSome (lookup-without path first false es (ap not is)) some)
+kept_by first path es false is some = subst IsSome (lookup-without path first true es (ap not is)) some
+
+pub rooted_dropped : (first : List ℕ) (a b : Hosting) → b.entries ≡ without first a.entries → roots_of b.world ≡ roots_of a.world → IsRooted a → IsRooted b
+rooted_dropped first a b rest roots r path some =
+    let was = kept_by first path a.entries (is_at_or_below path first) refl (subst (λ (es : Entries). IsSome (finding_at path es)) rest some) in
+    subst (λ n. root_of path ≤ n) (sym roots) (r path was)
+
+came_by : (first path : List ℕ) (f : Finding) (es : Entries) (n : ℕ) → root_of first ≤ n → (IsSome (finding_at path es) → root_of path ≤ n) → (b : Bool) → is_at (path_cmp path) first ≡ b
+    → IsSome (finding_at path (insert_entry path_cmp es first f)) → root_of path ≤ n
+came_by first path f es n here more true tie some = subst (λ (p : List ℕ). root_of p ≤ n) (sym (path_tied path first tie)) here
+came_by first path f es n here more false apart some = more (subst IsSome (lookup-insert_entry_elsewhere path first f es apart) some)
+
+pub rooted_came : (first : List ℕ) (f : Finding) (a b : Hosting) → b.entries ≡ insert_entry path_cmp a.entries first f → roots_of b.world ≡ roots_of a.world → root_of first ≤ roots_of a.world → IsRooted a → IsRooted b
+rooted_came first f a b is roots here r path some =
+    subst (λ n. root_of path ≤ n) (sym roots)
+    (came_by first path f a.entries (roots_of a.world) here (r path) (is_at (path_cmp path) first) refl (subst (λ (es : Entries). IsSome (finding_at path es)) is some))
+
+-- Where a port stands
+
+found_some : (o : Option Finding) (below : Bool) (n : ℕ) (port : KnownPort) → port_found o below n ≡ Some port → IsSome o
+found_some None below n port e = absurd (cc e)
+found_some (Some f) below n port e = refl
+
+stands_by : (path : List ℕ) (port : KnownPort) (h : Hosting) → StandsAt path port h → IsRooted h → (above : Option (List ℕ)) → parent_of path ≡ above → port_below above (port_of path) h.entries ≡ Some port
+    → root_of path ≤ roots_of h.world
+stands_by path port h s r None above e =
+    let same : root_port (port_of path) ≡ port = cc e in
+    let there : IsPort h.world (Root (port_of path)) = subst (λ (p : KnownPort). IsPort h.world p.port) (sym same) s.there in
+    subst (λ n. n ≤ roots_of h.world) (sym (ap root_of (root_alone path s.is above))) there.1
+stands_by path port h s r (Some hub) above e =
+    subst (λ n. n ≤ roots_of h.world) (sym (root_parent path hub above)) (r hub (found_some (finding_at hub h.entries) (is_below_hub hub) (port_of path) port e))
+
+pub rooted_stands : (path : List ℕ) (port : KnownPort) (h : Hosting) → StandsAt path port h → IsRooted h → root_of path ≤ roots_of h.world
+rooted_stands path port h s r = stands_by path port h s r (parent_of path) refl s.known
+
+-- A host
+
+pub rooted_opening : (w : World) (t : Option (List ℕ)) → IsRooted (opening w t)
+rooted_opening w t path some = no some
+
+port_by : (es : Entries) (roots : ℕ) (path : List ℕ) → Nested es → root_of path ≤ roots → parent_of path ≡ None → (o : Option Finding) → finding_at path es ≡ o → IsSome o → port_of path ≤ roots
+port_by es roots path n fits none None at some = no some
+port_by es roots path n fits none (Some f) at some = subst (λ k. k ≤ roots) (ap root_of (root_alone path (n.path path f at) none)) fits
+
+-- what a host's invariant says, and that entries stand below the ports of the root
+pub accounted : (h : Hosting) → Agrees h.entries h.addresses → IsRooted h → Accounted (roots_of h.world) h.entries h.addresses
+accounted h agrees rooted = record {
+  agrees = agrees;
+  root = λ path some none. port_by h.entries (roots_of h.world) path agrees.nested (rooted path some) none (finding_at path h.entries) refl some;
+}
+
+-- Of calls that failed
+
+pub on_failed : {A E : Type 0} (result : Result A E) (P : Type 0) → IsErr result → OnOk result P
+on_failed (Ok x) P e = absurd (cc e)
+on_failed (Err x) P e = tt

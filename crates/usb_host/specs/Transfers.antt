@@ -1,0 +1,35 @@
+-- What a transfer to the device at a path moved.
+use Rattle.std.specs.Prelude.{◌≡◌, ℕ, List, false, Result}
+use Rattle.std.specs.Global.{Vec}
+use Rattle.usb_world.specs.World.{World}
+use Rattle.usb_table.specs.declared.fault.EndpointFault.{EndpointFault}
+use Rattle.usb_table.specs.declared.pipes.Pipes.{Pipes}
+use Rattle.usb_table.specs.Table.{Table, GoesThrough, pipes_at}
+use Rattle.usb_table.specs.Transfers.{Sent, Received, Cleared, Keeps}
+use Rattle.usb_host.specs.declared.fault.HostFault.{HostFault}
+use Rattle.usb_host.specs.Hosting.{Hosting}
+use Rattle.usb_host.specs.Told.{host_told}
+
+-- what the host knows of the ports
+abbrev pub table_in : Hosting → Table
+table_in h = record { entries = h.entries; pipes = h.pipes }
+
+-- bytes moved through the pipes at the path, as the table says, and its answer is the host's
+pub record HandsOn {A : Type 0} (path : List ℕ) (moved : Pipes → World → Result A EndpointFault → Pipes → World → Type 0) (old : Hosting) (result : Result A HostFault) (new : Hosting) : Type 0 where
+  pub answer : Result A EndpointFault
+  pub told : result ≡ host_told answer
+  pub through : GoesThrough path (table_in old) (table_in new)
+  pub moves : moved (pipes_at path (table_in old)) old.world answer (pipes_at path (table_in new)) new.world
+  pub keeps : Keeps old.world new.world
+
+-- these bytes were sent to the device at the path, unless the host had stopped
+abbrev pub SentAt : List ℕ → List ℕ → Hosting → Result (Unit {0}) HostFault → Hosting → Type 0
+SentAt path bytes old result new = old.stopped ≡ false → HandsOn path (λ pipes. Sent pipes bytes) old result new
+
+-- so many packets were received from it
+abbrev pub ReceivedAt : List ℕ → ℕ → Hosting → Result (Vec ℕ) HostFault → Hosting → Type 0
+ReceivedAt path packets old result new = old.stopped ≡ false → HandsOn path (λ pipes. Received pipes packets) old result new
+
+-- the halts of its endpoints were cleared
+abbrev pub ClearedAt : List ℕ → Hosting → Result (Unit {0}) HostFault → Hosting → Type 0
+ClearedAt path old result new = old.stopped ≡ false → HandsOn path Cleared old result new

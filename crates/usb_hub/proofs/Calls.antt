@@ -1,0 +1,474 @@
+-- That a call at a port acts there where it is done, and what it asks of ports whatever its answer is.
+use Rattle.std.proofs.Common.{◌≡◌, ◌≢◌, ℕ, zero, suc, ◌⊎◌, inl, inr, true, false, List, [], ◌∷◌, ◌++◌, Option, None, Some, option_map, Result, Ok, Err, refl, ap, sym, subst, ◌∙◌, arith}
+use Rattle.std.proofs.lemmas.Option.{same_Some}
+use Rattle.std.specs.Prelude.{MatchResult}
+use Rattle.usb_port.specs.Path.{IsPath, IsPortNumber}
+use Rattle.usb_port.specs.PortState.{PortState}
+use Rattle.usb_request.specs.Layout.{setup_of, bytes_of}
+use Rattle.usb_request.specs.Requests.{set_port_feature, clear_port_feature}
+use Rattle.usb_request.specs.declared.setup.Setup.{Setup}
+use Rattle.usb_device.specs.declared.calls.PortCall.{PortCall}
+use Rattle.usb_device.specs.declared.calls.PortCall.TheVariants.{SetPower, SetReset, ClearEnable, ClearPower, ClearConnectionChange, ClearEnableChange, ClearResetChange}
+use Rattle.usb_device.specs.declared.effect.Effect.TheVariants.{Calls}
+use Rattle.usb_device.specs.Calls.{set_call, clear_call, is_reset}
+use Rattle.usb_device.specs.Effect.{effect_of_request, asked_by_setup}
+use Rattle.usb_device.specs.Request.{outcome, port_named, called_at}
+use Rattle.usb_device.specs.Rows.{State}
+use Rattle.usb_device.specs.Transfer.{first_stage, ending}
+use Rattle.usb_device.specs.Tree.{called, acted, place, place_at, reach, reach_at, state_at}
+use Rattle.usb_device.specs.View.{state_there}
+use Rattle.usb_world.specs.declared.types.Attempt.{Attempt}
+use Rattle.usb_world.specs.declared.types.BusFault.{BusFault}
+use Rattle.usb_world.specs.declared.types.Outcome.{Outcome}
+use Rattle.usb_world.specs.Courses.{Spares, is_harmless}
+use Rattle.usb_world.specs.Devices.{Was}
+use Rattle.usb_world.specs.Live.{address_of, is_way}
+use Rattle.usb_world.specs.Passes.{IsSettled}
+use Rattle.usb_world.specs.Requested.{is_sparing}
+use Rattle.usb_world.specs.Resting.{AsksNothingOf}
+use Rattle.usb_world.specs.Steps.{Step, attempt, root_call, after, ready, Course, here, step as step_then, AttemptFails, SetsRoot, ClearsRoot}
+use Rattle.usb_world.specs.Touched.{spares}
+use Rattle.usb_world.specs.World.{World, Attempted, IsSetFeature, IsClearFeature}
+use Rattle.usb_world.proofs.AddressesReset.{same_is}
+use Rattle.usb_world.proofs.Booleans.{no, decided}
+use Rattle.usb_world.proofs.OneHolderMore.{made_of, equal_same}
+use Rattle.usb_world.proofs.WorldLaws.{course_joined, course_wider}
+use Rattle.usb_transaction.specs.declared.target.Target.{Target}
+use Rattle.usb_transaction.specs.declared.fault.TransFault.{TransFault}
+use Rattle.usb_transaction.specs.declared.fault.TransFault.TheVariants as trans
+use Rattle.usb_transaction.specs.Answerer.{Answerer}
+use Rattle.usb_transaction.specs.Over.{is_at, AcceptedAt}
+use Rattle.usb_transaction.specs.Trail.{Trail, start, Transacted}
+use Rattle.usb_transaction.specs.Trans.{in_attempt, setup_attempt, Worked}
+use Rattle.usb_transaction.proofs.Trails.{trail_course}
+use Rattle.usb_pipe.specs.declared.fault.PipeFault.{PipeFault}
+use Rattle.usb_pipe.specs.declared.fault.PipeFault.TheVariants.{Stalled, Busy, NoAnswer, Broken, Bus, Memory}
+use Rattle.usb_pipe.specs.Control.{fault_of, Faults}
+use Rattle.usb_pipe.specs.Stages.{SetUp, Writes}
+use Rattle.usb_pipe.specs.Whole.{IsBehind, IsNotOfBus, EffectDone, WriteLeaves}
+use Rattle.usb_pipe.proofs.WhoAnswers.{who_writes}
+use Rattle.usb_pipe.proofs.WholeWrites.{write_leaves}
+use Rattle.usb_address.specs.Claims.{Claims}
+use Rattle.usb_address.specs.Leaves.{LeavesPipe}
+use Rattle.usb_address.specs.Owned.{Owned, TillFault}
+use Rattle.usb_address.proofs.Keeping.{trail_sound}
+use Rattle.usb_address.proofs.Bare.{below_of, attempt_settled, named, less_one, held_of}
+use Rattle.usb_address.proofs.Claimed.{ClaimedAt, Follows, claimed_path, trail_with, quiet_follows, reset_follows, some}
+use Rattle.usb_address.proofs.Resetting.{Fits, Resets, resets_leave}
+use Rattle.usb_address.proofs.Ports.{no_path, no_root}
+use Rattle.usb_address.proofs.Setups.{same_setup}
+use Rattle.usb_address.proofs.Transfers.{writes_leave}
+use Rattle.usb_hub.specs.Addresses.{IsBelow}
+use Rattle.usb_hub.specs.Moments.{IsAbout, UpToFault, ActsAt, PortDone, CallsPort}
+use Rattle.usb_hub.specs.Requests.{AllRest, Ordered}
+use Rattle.usb_hub.specs.Why.{Serves}
+use Rattle.usb_hub.specs.declared.port.HubPort.{HubPort}
+use Rattle.usb_hub.specs.declared.port.HubPort.TheVariants.{Root, External}
+use Rattle.usb_hub.proofs.Acting.{place_below, place_called, AsksFor, attempt_acts, root_acts, root_acted}
+use Rattle.usb_hub.proofs.Rests.{behind_rests, behind_asks_nothing}
+use Rattle.usb_hub.proofs.Why.{same_port, call_served}
+
+-- The attempts of a request without data: its setup data again and again, and what comes behind them
+
+record Sent (t : Target) (request : Setup) (old new : World) : Type 0 where
+  mid : World
+  outcomes : List Outcome
+  trail : Trail (setup_attempt t (bytes_of request)) old outcomes mid
+  behind : Course (IsBehind t) mid new
+
+sent_of : (t : Target) (request : Setup) (old : World) (result : Result (Unit {0}) PipeFault) (new : World) → IsNotOfBus result → Writes t request old result new → Sent t request old new
+sent_of t request old (Ok u) new n x = record { mid = x.mid; outcomes = x.set_up.last ∷ x.set_up.outcomes; trail = x.set_up.trail; behind = trail_course (λ w made. inl refl) x.status.trail }
+sent_of t request old (Err why) new n (inl x) = no_set_up x.fault x.told x.set_up
+  where
+    no_set_up : (fault : TransFault) → why ≡ fault_of fault → SetUp t request old (Err fault) new → Sent t request old new
+    no_set_up trans.Stalled e x = record { mid = new; outcomes = x.last ∷ x.outcomes; trail = x.trail; behind = here new }
+    no_set_up trans.Busy e x = record { mid = new; outcomes = x.last ∷ x.outcomes; trail = x.trail; behind = here new }
+    no_set_up trans.NoAnswer e x = record { mid = new; outcomes = x.last ∷ x.outcomes; trail = x.trail; behind = here new }
+    no_set_up (trans.Bus fault) e x = absurd (subst (λ y. IsNotOfBus {A = Unit {0}} (Err y)) e n)
+sent_of t request old (Err why) new n (inr x) = record { mid = x.mid; outcomes = x.set_up.last ∷ x.set_up.outcomes; trail = x.set_up.trail; behind = no_status _ x.fault x.told x.status }
+  where
+    no_status : (hear : _) (fault : TransFault) → why ≡ fault_of fault → Transacted hear (in_attempt t 0) x.mid (Err fault) new → Course (IsBehind t) x.mid new
+    no_status hear trans.Stalled e x = trail_course (λ w made. inl refl) x.trail
+    no_status hear trans.Busy e x = trail_course (λ w made. inl refl) x.trail
+    no_status hear trans.NoAnswer e x = trail_course (λ w made. inl refl) x.trail
+    no_status hear (trans.Bus fault) e x = absurd (subst (λ y. IsNotOfBus {A = Unit {0}} (Err y)) e n)
+
+-- where the bus gave up, up to the attempt that it refused
+record SentUpTo (t : Target) (request : Setup) (old : World) (fault : BusFault) (new : World) : Type 0 where
+  mid : World
+  outcomes : List Outcome
+  trail : Trail (setup_attempt t (bytes_of request)) old outcomes mid
+  cut : World
+  behind : Course (IsBehind t) mid cut
+  last : Attempt
+  refused : Attempted last cut (Err fault) new
+  fails : cut.fault ≡ None → AttemptFails last cut (Err fault) new
+
+same_fault : (f g : BusFault) → Bus f ≡ fault_of (trans.Bus g) → g ≡ f
+same_fault f g e = cc e
+
+sent_up_to : (t : Target) (request : Setup) (old : World) (fault : BusFault) (new : World) → Writes t request old (Err (Bus fault)) new → SentUpTo t request old fault new
+sent_up_to t request old fault new (inl x) = no_set_up x.fault x.told x.set_up
+  where
+    no_set_up : (f : TransFault) → Bus fault ≡ fault_of f → SetUp t request old (Err f) new → SentUpTo t request old fault new
+    no_set_up trans.Stalled e x = absurd (cc e)
+    no_set_up trans.Busy e x = absurd (cc e)
+    no_set_up trans.NoAnswer e x = absurd (cc e)
+    no_set_up (trans.Bus g) e x =
+        subst (λ f. SentUpTo t request old f new) (same_fault fault g e)
+        (record { mid = x.mid; outcomes = x.outcomes; trail = x.trail; cut = x.mid; behind = here x.mid; last = setup_attempt t (bytes_of request); refused = x.refused; fails = x.fails })
+sent_up_to t request old fault new (inr x) = no_status _ x.fault x.told x.status
+  where
+    no_status : (hear : _) (f : TransFault) → Bus fault ≡ fault_of f → Transacted hear (in_attempt t 0) x.mid (Err f) new → SentUpTo t request old fault new
+    no_status hear trans.Stalled e y = absurd (cc e)
+    no_status hear trans.Busy e y = absurd (cc e)
+    no_status hear trans.NoAnswer e y = absurd (cc e)
+    no_status hear (trans.Bus g) e y =
+        subst (λ f. SentUpTo t request old f new) (same_fault fault g e)
+        (record {
+          mid = x.mid;
+          outcomes = x.set_up.last ∷ x.set_up.outcomes;
+          trail = x.set_up.trail;
+          cut = y.mid;
+          behind = trail_course (λ w made. inl refl) y.trail;
+          last = in_attempt t 0;
+          refused = y.refused;
+          fails = y.fails;
+        })
+
+-- what comes behind is about each port
+behind_about : (t : Target) (p : List ℕ) (c : PortCall) {w v : World} → Course (IsBehind t) w v → IsSettled w.roots → Course (IsAbout p c) w v
+behind_about t p c (here w) h = here w
+behind_about t p c (step_then s {w} {v} k more) h =
+    step_then s (record { others = λ x d. (behind_rests t x s w k h).0; spares = λ y. (behind_rests t p s w k h).0.spares }) (behind_about t p c more (behind_rests t p s w k h).1)
+
+-- A call at a hub's port
+
+-- where something was done, a port was named
+port_is_named : (c : PortCall) (o : Option ℕ) (n : ℕ) (row : List PortState) (address : Option ℕ) → (o ≡ None) ⊎ (o ≡ Some n) → first_stage row 0 (called_at (Some c) o) ≡ ending address
+    → effect_of_request (called_at (Some c) o) ≡ Calls c n
+port_is_named c None n row address x h = absurd (cc h)
+port_is_named c (Some m) n row address (inl x) h = absurd (cc x)
+port_is_named c (Some m) n row address (inr x) h = ap (Calls c) (same_Some m n x)
+
+module _ (t : Target) (j : ℕ) (e : List ℕ) (i : ℕ) (request : Setup) (c : PortCall) (asked : AsksFor request c (suc i)) (P : World → Type 0) (follows : Follows t request (suc j ∷ e) P) where
+  abbrev a : Attempt
+  a = setup_attempt t (bytes_of request)
+
+  abbrev p : List ℕ
+  p = suc j ∷ (e ++ (suc i ∷ []))
+
+  acting : {old new : World} {outcomes : List Outcome} → Trail a old outcomes new → P old → P new × Course (ActsAt p c) old new
+  acting tr first =
+      trail_with P follows.onward (λ w made x. let k : ClaimedAt (suc j ∷ e) t.addr w = follows.claimed w x in attempt_acts t j e i request c asked w (made_of a w k.owned.settled made) k) tr first
+
+  module _ (old : World) (result : Result (Unit {0}) PipeFault) (new : World) (n : IsNotOfBus result) (stages : Writes t request old result new) (first : P old) where
+    sent : Sent t request old new
+    sent = sent_of t request old result new n stages
+
+    at_work : P sent.mid × Course (ActsAt p c) old sent.mid
+    at_work = acting sent.trail first
+
+    rests_behind : AllRest sent.mid new
+    rests_behind x = behind_asks_nothing t x sent.behind (follows.claimed sent.mid at_work.0).owned.settled
+
+    pub hub_rests : (x : List ℕ) → is_way p x ≡ false → Course (AsksNothingOf x) old new
+    hub_rests x d = course_joined (course_wider (λ s w k. k.about.others x d) at_work.1) (rests_behind x)
+
+    pub hub_spares : spares c [] ≡ true → Course (Spares p) old new
+    hub_spares h = course_joined (course_wider (λ s w k. k.about.spares h) at_work.1) (course_wider (λ s w k. k.spares) (rests_behind p))
+
+  pub hub_about : {old mid cut : World} {outcomes : List Outcome} → Trail a old outcomes mid → Course (IsBehind t) mid cut → P old → Course (IsAbout p c) old cut
+  hub_about {old} {mid} {cut} tr behind first =
+      let x : P mid × Course (ActsAt p c) old mid = acting tr first in
+      course_joined (course_wider (λ s w k. k.about) x.1) (behind_about t p c behind (follows.claimed mid x.0).owned.settled)
+
+  module _ (old new : World) (ordered : Ordered t request old (Ok tt) new) (first : P old) (last : P new) (addressed : is_harmless request ≡ false → t.addr ≢ 0) where
+    before : ClaimedAt (suc j ∷ e) t.addr old
+    before = follows.claimed old first
+
+    behind : ClaimedAt (suc j ∷ e) t.addr new
+    behind = follows.claimed new last
+
+    who : Answerer t old new
+    who = who_writes t request tt old new asked.same addressed ordered.settled ordered.stages behind.owned.single
+
+    path : suc who.j ∷ who.p ≡ suc j ∷ e
+    path = claimed_path (suc j ∷ e) t.addr old before who.j who.p who.before who.was_on who.stood (equal_same (address_of who.before) t.addr who.at)
+
+    on : reach_at new.roots j e ≡ true
+    on = subst (λ x. reach new.roots x ≡ true) path who.on
+
+    there : (v : State) × (state_at new.roots j e ≡ Some v) × (address_of v ≡ t.addr)
+    there = held_of (state_at new.roots j e) t.addr (behind.owned.own (suc j ∷ e) on ∙ behind.held)
+
+    was : Was (WriteLeaves t request (Ok tt) old new) old j e there.0
+    was =
+        write_leaves t request (Ok tt) old new asked.nothing asked.same ordered.settled ordered.stages behind.owned.single j e there.0 on there.1
+        (λ h. (addressed h, λ z. addressed h (sym there.2 ∙ z)))
+
+    asked_it : is_at was.before t ≡ true
+    asked_it = ap (λ s. is_at s t) (same_Some was.before who.before (sym was.stands ∙ subst (λ x. state_there old.roots x ≡ Some who.before) path who.stood)) ∙ who.at
+
+    done : EffectDone t request old new j e was.before there.0
+    done = was.so.done asked_it tt refl
+
+    abbrev now : World
+    now = done.moment.now
+
+    accepted_there : AcceptedAt t (bytes_of request) old now j e was.before done.moment.accepts.state
+    accepted_there = done.moment.accepts.at
+
+    abbrev mid : World
+    mid = accepted_there.mid
+
+    effect : asked_by_setup was.before (setup_of (bytes_of request)) ≡ Calls c i
+    effect =
+        ap effect_of_request outcome_is
+        ∙ port_is_named c (port_named was.before.spec.hub was.before.registers (suc i)) i done.row done.address
+        (subst (λ m. (port_named was.before.spec.hub was.before.registers (suc i) ≡ None) ⊎ (port_named was.before.spec.hub was.before.registers (suc i) ≡ Some m)) (less_one i) (named was.before.spec.hub was.before.registers (suc i)))
+        (subst (λ o. first_stage done.row 0 o ≡ ending done.address) (asked.calls was.before.spec was.before.registers)
+        (subst (λ n. first_stage done.row n (outcome was.before.spec was.before.registers request) ≡ ending done.address) asked.nothing done.is))
+      where
+        outcome_is : outcome was.before.spec was.before.registers (setup_of (bytes_of request)) ≡ called_at (Some c) (port_named was.before.spec.hub was.before.registers (suc i))
+        outcome_is = ap (outcome was.before.spec was.before.registers) asked.same ∙ asked.calls was.before.spec was.before.registers
+
+    repeated : P mid × Course (ActsAt p c) old mid
+    repeated = acting accepted_there.trail first
+
+    acted_there : place (after (attempt a) mid).roots p ≡ option_map (called c) (place (ready mid).roots p)
+    acted_there =
+        ap (λ w. place w.roots p) (sym accepted_there.last)
+        ∙ place_below now.roots j e i []
+        ∙ ap (λ o. place_at (below_of o) i []) accepted_there.left
+        ∙ ap (λ x. place_at (acted x accepted_there.below) i []) effect
+        ∙ place_called c accepted_there.below i
+        ∙ ap (option_map (called c)) (sym (place_below (ready mid).roots j e i [] ∙ ap (λ o. place_at (below_of o) i []) accepted_there.holder.stands))
+
+    pub hub_done : PortDone p c old new
+    hub_done = record {
+      before = mid;
+      repeats = repeated.1;
+      last = attempt a;
+      acts = attempt_acts t j e i request c asked mid accepted_there.holder.made (follows.claimed mid repeated.0);
+      done = acted_there;
+      since = λ x.
+          subst (λ w. Course (AsksNothingOf x) w new) accepted_there.last
+          (behind_asks_nothing t x done.moment.since (subst (λ w. IsSettled w.roots) (sym accepted_there.last) (attempt_settled a mid accepted_there.holder.made.settled)));
+      row = record { parent = suc j ∷ e; number = suc i; is = refl; reached = on };
+    }
+
+-- Which requests these are
+
+module _ (n : ℕ) (c : PortCall) where
+  set_sparing : (feature : ℕ) → IsSetFeature feature → is_sparing (set_port_feature feature n) ≡ true
+  unfolding set_port_feature
+  set_sparing feature (inl e) = rw e refl
+  set_sparing feature (inr e) = rw e refl
+
+  -- PORT_RESET alone resets
+  set_harmless : (feature : ℕ) → IsSetFeature feature → set_call feature ≡ Some c → is_reset c ≡ false → is_harmless (set_port_feature feature n) ≡ true
+  unfolding set_port_feature set_call
+  set_harmless feature (inl e) is quiet = no (sym quiet ∙ ap is_reset (same_Some c SetReset (sym is ∙ ap set_call e)))
+  set_harmless feature (inr e) is quiet = rw e refl
+
+  pub set_asks : (feature : ℕ) → IsSetFeature feature → set_call feature ≡ Some c → AsksFor (set_port_feature feature n) c n
+  unfolding set_port_feature outcome
+  set_asks feature named is = record {
+    names = refl;
+    nothing = refl;
+    same = same_setup (set_port_feature feature n);
+    asks = refl;
+    sparing = λ h. set_sparing feature named;
+    calls = λ spec g. ap (λ o. called_at o (port_named spec.hub g n)) is;
+    other = refl;
+    harmless = set_harmless feature named is;
+  }
+
+  clear_sparing : (feature : ℕ) → IsClearFeature feature → clear_call feature ≡ Some c → spares c [] ≡ true → is_sparing (clear_port_feature feature n) ≡ true
+  unfolding clear_port_feature clear_call
+  clear_sparing feature (inl e) is h = rw e refl
+  clear_sparing feature (inr (inl e)) is h = no (ap (λ d. spares d []) (same_Some ClearPower c (sym (ap clear_call e) ∙ is)) ∙ h)
+  clear_sparing feature (inr (inr (inl e))) is h = no (ap (λ d. spares d []) (same_Some ClearConnectionChange c (sym (ap clear_call e) ∙ is)) ∙ h)
+  clear_sparing feature (inr (inr (inr (inl e)))) is h = rw e refl
+  clear_sparing feature (inr (inr (inr (inr e)))) is h = rw e refl
+
+  pub clear_asks : (feature : ℕ) → IsClearFeature feature → clear_call feature ≡ Some c → AsksFor (clear_port_feature feature n) c n
+  unfolding clear_port_feature outcome
+  clear_asks feature named is = record {
+    names = refl;
+    nothing = refl;
+    same = same_setup (clear_port_feature feature n);
+    asks = refl;
+    sparing = clear_sparing feature named is;
+    calls = λ spec g. ap (λ o. called_at o (port_named spec.hub g n)) is;
+    other = refl;
+    harmless = λ quiet. refl;
+  }
+
+-- Who has the hub's address meanwhile
+
+record Route (t : Target) (request : Setup) (q : List ℕ) (old : World) : Type 1 where
+  P : World → Type 0
+  follows : Follows t request q P
+  first : P old
+  leaves : (result : Result (Unit {0}) PipeFault) (new : World) → Writes t request old result new → LeavesPipe P result new
+  addressed : is_harmless request ≡ false → t.addr ≢ 0
+
+route : (f : Claims) (t : Target) (q : List ℕ) (n : ℕ) (request : Setup) (c : PortCall) (asked : AsksFor request c n) (old : World) → f q ≡ Some t.addr
+    → (is_reset c ≡ true → (x : List ℕ) → f x ≡ Some 0 → is_way (q ++ (n ∷ [])) x ≡ true) → Owned f old → Route t request q old
+route f t q n request c asked old held alone own = pick (decided (is_reset c))
+  where
+    pick : (is_reset c ≡ true) ⊎ (is_reset c ≡ false) → Route t request q old
+    pick (inr quiet) = record {
+      P = Owned f;
+      follows = quiet_follows t request asked.same f q (asked.harmless quiet) held;
+      first = own;
+      leaves = λ result new writes. writes_leave f t request asked.same (asked.harmless quiet) asked.other old result new writes own;
+      addressed = λ h. no (sym h ∙ asked.harmless quiet);
+    }
+    pick (inl reset) =
+        let distinct : (x : List ℕ) → f x ≡ Some t.addr → x ≡ q = λ x h. same_is q x (own.distinct q x t.addr held h) in
+        let away : t.addr ≡ 0 → ⊥ = some t request asked.same f q n asked.names asked.other held distinct (alone reset) in
+        let fit : Fits q n t request asked.same asked.names away f = record { at = distinct; only = alone reset } in
+        record {
+          P = Resets q n t request asked.same asked.names away f fit asked.other;
+          follows = reset_follows t request asked.same f q n asked.names asked.other held distinct (alone reset);
+          first = inl own;
+          leaves = λ result new writes. resets_leave q n t request asked.same asked.names away f fit asked.other old result new writes own;
+          addressed = λ h. away;
+        }
+
+-- Any port of a hub
+
+sound_of : (k n : ℕ) (old new : World) (result : Result (Unit {0}) PipeFault) → IsNotOfBus result → MatchResult result (λ done. Worked k old new) (λ fault. Faults n old fault new) → old.fault ≡ None
+sound_of k n old new (Ok u) s x = x.sound
+sound_of k n old new (Err Stalled) s x = x.sound
+sound_of k n old new (Err Busy) s x = x.sound
+sound_of k n old new (Err NoAnswer) s x = x.sound
+sound_of k n old new (Err Broken) s x = elim x [ ]
+sound_of k n old new (Err (Bus fault)) s x = elim s [ ]
+sound_of k n old new (Err Memory) s x = x.sound
+
+module _ (t : Target) (c : PortCall) (request : Setup) (f : Claims) (old : World) (result : Result (Unit {0}) PipeFault) (new : World) (ordered : Ordered t request old result new) (own : Owned f old) where
+  -- what is so at the port's path, as it is at one that is written out
+  module _ (Q : List ℕ → Type 0) (there : (j : ℕ) (e : List ℕ) (i : ℕ) (asked : AsksFor request c (suc i)) → Route t request (suc j ∷ e) old → Q (suc j ∷ (e ++ (suc i ∷ [])))) where
+    at_path : (q : List ℕ) (n : ℕ) → AsksFor request c n → IsPath q → IsPortNumber n → f q ≡ Some t.addr → (is_reset c ≡ true → (x : List ℕ) → f x ≡ Some 0 → is_way (q ++ (n ∷ [])) x ≡ true) → Q (q ++ (n ∷ []))
+    at_path [] n asked is number held alone = absurd (no_path is)
+    at_path (zero ∷ e) n asked is number held alone = absurd (no_root e is)
+    at_path (suc j ∷ e) zero asked is number held alone = absurd (omega (arith, number.0))
+    at_path (suc j ∷ e) (suc i) asked is number held alone = there j e i asked (route f t (suc j ∷ e) (suc i) request c asked old held alone own)
+
+    below : (n : ℕ) → AsksFor request c n → (p : List ℕ) → IsBelow f t.addr n p → (is_reset c ≡ true → (x : List ℕ) → f x ≡ Some 0 → is_way p x ≡ true) → Q p
+    below n asked p at alone = subst Q (sym at.path) (at_path at.hub n asked at.is_path at.number at.held (λ h x z. subst (λ y. is_way y x ≡ true) at.path (alone h x z)))
+
+  pub done_below : (n : ℕ) → AsksFor request c n → (p : List ℕ) → IsBelow f t.addr n p → (is_reset c ≡ true → (x : List ℕ) → f x ≡ Some 0 → is_way p x ≡ true) → result ≡ Ok tt → PortDone p c old new
+  done_below n asked p at alone is = below (λ p. PortDone p c old new) there n asked p at alone
+    where
+      ordered_so : Ordered t request old (Ok tt) new
+      ordered_so = subst (λ r. Ordered t request old r new) is ordered
+
+      there : (j : ℕ) (e : List ℕ) (i : ℕ) (asked : AsksFor request c (suc i)) → Route t request (suc j ∷ e) old → PortDone (suc j ∷ (e ++ (suc i ∷ []))) c old new
+      there j e i asked r = hub_done t j e i request c asked r.P r.follows old new ordered_so r.first (r.leaves (Ok tt) new ordered_so.stages) r.addressed
+
+  pub rests_below : IsNotOfBus result → (n : ℕ) → AsksFor request c n → (p : List ℕ) → IsBelow f t.addr n p → (is_reset c ≡ true → (x : List ℕ) → f x ≡ Some 0 → is_way p x ≡ true)
+      → (x : List ℕ) → is_way p x ≡ false → Course (AsksNothingOf x) old new
+  rests_below sound n asked p at alone =
+      below (λ p. (x : List ℕ) → is_way p x ≡ false → Course (AsksNothingOf x) old new)
+      (λ j e i asked r. hub_rests t j e i request c asked r.P r.follows old result new sound ordered.stages r.first) n asked p at alone
+
+  pub spares_below : IsNotOfBus result → (n : ℕ) → AsksFor request c n → (p : List ℕ) → IsBelow f t.addr n p → (is_reset c ≡ true → (x : List ℕ) → f x ≡ Some 0 → is_way p x ≡ true)
+      → spares c [] ≡ true → Course (Spares p) old new
+  spares_below sound n asked p at alone =
+      below (λ p. spares c [] ≡ true → Course (Spares p) old new)
+      (λ j e i asked r. hub_spares t j e i request c asked r.P r.follows old result new sound ordered.stages r.first) n asked p at alone
+
+-- up to a fault of the bus
+module _ (t : Target) (c : PortCall) (request : Setup) (f : Claims) (old : World) (fault : BusFault) (new : World) (ordered : Ordered t request old (Err (Bus fault)) new) (till : TillFault (Owned f) old) where
+  cut_there : SentUpTo t request old fault new
+  cut_there = sent_up_to t request old fault new ordered.stages
+
+  about_below : (n : ℕ) → AsksFor request c n → (p : List ℕ) → IsBelow f t.addr n p → (is_reset c ≡ true → (x : List ℕ) → f x ≡ Some 0 → is_way p x ≡ true)
+      → (outcomes : List Outcome) (mid cut : World) → Trail (setup_attempt t (bytes_of request)) old outcomes mid → Course (IsBehind t) mid cut → Course (IsAbout p c) old cut
+  about_below n asked p at alone [] w cut start behind = behind_about t p c behind ordered.settled
+  about_below n asked p at alone (o ∷ outcomes) w cut tr behind =
+      below t c request f old (Err (Bus fault)) new ordered (till.so (trail_sound tr)) (λ p. Course (IsAbout p c) old cut)
+      (λ j e i asked r. hub_about t j e i request c asked r.P r.follows tr behind r.first) n asked p at alone
+
+  pub cut_below : (n : ℕ) → AsksFor request c n → (p : List ℕ) → IsBelow f t.addr n p → (is_reset c ≡ true → (x : List ℕ) → f x ≡ Some 0 → is_way p x ≡ true) → UpToFault (IsAbout p c) old fault new
+  cut_below n asked p at alone = record {
+    mid = cut_there.cut;
+    course = about_below n asked p at alone cut_there.outcomes cut_there.mid cut_there.cut cut_there.trail cut_there.behind;
+    last = cut_there.last;
+    refused = cut_there.refused;
+    fails = cut_there.fails;
+  }
+
+module _ (port : HubPort) (hub : Target) (number : ℕ) (call : Option PortCall) (request : Setup) (some_call : (c : PortCall) × (call ≡ Some c)) (asks : (c : PortCall) → call ≡ Some c → AsksFor request c number)
+    (old : World) (result : Result (Unit {0}) PipeFault) (new : World) (e : port ≡ External hub number) (ordered : Ordered hub request old result new) where
+  of_hub : CallsPort (External hub number) call old result new
+  of_hub = record {
+    done = λ f p c x is. done_below hub c request f old result new ordered (x.owned.so (sound_of 2 1 old new result (subst IsNotOfBus (sym is) tt) ordered.ends)) number (asks c x.is) p x.at x.alone is;
+    rests = λ f p c x sound. rests_below hub c request f old result new ordered (x.owned.so (sound_of 2 1 old new result sound ordered.ends)) sound number (asks c x.is) p x.at x.alone;
+    spares = λ f p c x sound. spares_below hub c request f old result new ordered (x.owned.so (sound_of 2 1 old new result sound ordered.ends)) sound number (asks c x.is) p x.at x.alone;
+    cut = λ f p c x fault is. cut_below hub c request f old fault new (subst (λ r. Ordered hub request old r new) is ordered) x.owned number (asks c x.is) p x.at x.alone;
+    why = λ t n same three single serves.
+        let ends : _ = same_port hub t number n same in
+        call_served hub number request some_call.0 (asks some_call.0 some_call.1) old new three single (subst (λ m. Serves hub m new) ends.1 (subst (λ t. Serves t n new) ends.0 serves)) result ordered;
+  }
+
+  hub_calls : CallsPort port call old result new
+  hub_calls = rw e of_hub
+
+set_called : (feature : ℕ) → IsSetFeature feature → (c : PortCall) × (set_call feature ≡ Some c)
+unfolding set_call
+set_called feature (inl e) = (SetReset, ap set_call e)
+set_called feature (inr e) = (SetPower, ap set_call e)
+
+clear_called : (feature : ℕ) → IsClearFeature feature → (c : PortCall) × (clear_call feature ≡ Some c)
+unfolding clear_call
+clear_called feature (inl e) = (ClearEnable, ap clear_call e)
+clear_called feature (inr (inl e)) = (ClearPower, ap clear_call e)
+clear_called feature (inr (inr (inl e))) = (ClearConnectionChange, ap clear_call e)
+clear_called feature (inr (inr (inr (inl e)))) = (ClearEnableChange, ap clear_call e)
+clear_called feature (inr (inr (inr (inr e)))) = (ClearResetChange, ap clear_call e)
+
+pub hub_sets : (port : HubPort) (hub : Target) (number feature : ℕ) (old : World) (result : Result (Unit {0}) PipeFault) (new : World) → port ≡ External hub number → IsSetFeature feature
+    → Ordered hub (set_port_feature feature number) old result new → CallsPort port (set_call feature) old result new
+hub_sets port hub number feature old result new e named = hub_calls port hub number (set_call feature) (set_port_feature feature number) (set_called feature named) (λ c is. set_asks number c feature named is) old result new e
+
+pub hub_clears : (port : HubPort) (hub : Target) (number feature : ℕ) (old : World) (result : Result (Unit {0}) PipeFault) (new : World) → port ≡ External hub number → IsClearFeature feature
+    → Ordered hub (clear_port_feature feature number) old result new → CallsPort port (clear_call feature) old result new
+hub_clears port hub number feature old result new e named = hub_calls port hub number (clear_call feature) (clear_port_feature feature number) (clear_called feature named) (λ c is. clear_asks number c feature named is) old result new e
+
+-- A root port
+
+module _ (port : HubPort) (number : ℕ) (call : Option PortCall) (old new : World) (e : port ≡ Root number) (step : (c : PortCall) → call ≡ Some c → new ≡ after (root_call c number) old) where
+  one_step : (K : Step → World → Type 0) (c : PortCall) → call ≡ Some c → K (root_call c number) old → Course K old new
+  one_step K c is k = subst (λ w. Course K old w) (sym (step c is)) (step_then (root_call c number) k (here (after (root_call c number) old)))
+
+  of_root : CallsPort (Root number) call old (Ok tt) new
+  of_root = record {
+    done = λ f p c x is. subst (λ p. PortDone p c old new) (sym x.at) (record {
+      before = old;
+      repeats = here old;
+      last = root_call c number;
+      acts = root_acts c number old;
+      done = root_acted c number old;
+      since = λ y. subst (λ w. Course (AsksNothingOf y) (after (root_call c number) old) w) (sym (step c x.is)) (here (after (root_call c number) old));
+      row = record { parent = []; number = number; is = refl; reached = refl };
+    });
+    rests = λ f p c x sound y d. one_step (AsksNothingOf y) c x.is ((root_acts c number old).about.others y (subst (λ p. is_way p y ≡ false) x.at d));
+    spares = λ f p c x sound h. subst (λ p. Course (Spares p) old new) (sym x.at) (one_step (Spares (number ∷ [])) c x.is ((root_acts c number old).about.spares h));
+    cut = λ f p c x fault is. absurd (cc is);
+    why = λ t n same. absurd (cc same);
+  }
+
+  root_calls : CallsPort port call old (Ok tt) new
+  root_calls = rw e of_root
+
+pub root_sets : (port : HubPort) (number feature : ℕ) (old new : World) → port ≡ Root number → SetsRoot number feature old new → CallsPort port (set_call feature) old (Ok tt) new
+root_sets port number feature old new e sets = root_calls port number (set_call feature) old new e sets.step
+
+pub root_clears : (port : HubPort) (number feature : ℕ) (old new : World) → port ≡ Root number → ClearsRoot number feature old new → CallsPort port (clear_call feature) old (Ok tt) new
+root_clears port number feature old new e clears = root_calls port number (clear_call feature) old new e clears.step

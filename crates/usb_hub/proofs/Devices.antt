@@ -1,0 +1,150 @@
+-- Calls on ports that leave each device as it was.
+use Rattle.std.proofs.Common.{◌≡◌, ◌≢◌, ◌==◌, ◌⊎◌, inl, inr, ℕ, zero, suc, true, false, List, [], ◌∷◌, Option, None, Some, option_map, Result, Ok, Err, refl, ap, sym, ◌∙◌, arith}
+use Rattle.usb_port.specs.PortState.{PortState}
+use Rattle.usb_port.specs.Status.{status_in}
+use Rattle.usb_port.specs.declared.status.PortStatus.{PortStatus}
+use Rattle.usb_request.specs.Requests.{get_port_status, set_port_feature, clear_port_feature}
+use Rattle.usb_request.specs.declared.setup.Setup.{Setup}
+use Rattle.usb_device.specs.declared.calls.PortCall.{PortCall}
+use Rattle.usb_device.specs.declared.request.Registers.{Registers}
+use Rattle.usb_device.specs.Calls.{is_reset}
+use Rattle.usb_device.specs.Progress.{OnlyControl, StatusGiven}
+use Rattle.usb_device.specs.Request.{Outcome, stalled, answers, takes_address, takes_configuration, halts, unhalts, tells_port, calls_port, called_at, outcome}
+use Rattle.usb_device.specs.Rows.{State, begun, accepted}
+use Rattle.usb_device.specs.Spec.{Spec}
+use Rattle.usb_device.specs.Transfer.{first_stage, ending}
+use Rattle.usb_device.specs.Tree.{Ports, state_at}
+use Rattle.usb_world.specs.Courses.{is_harmless}
+use Rattle.usb_world.specs.Devices.{EachWas}
+use Rattle.usb_world.specs.Steps.{root_call, after}
+use Rattle.usb_world.specs.Touched.{call_resets, reset_if}
+use Rattle.usb_world.specs.World.{World}
+use Rattle.usb_world.proofs.Booleans.{decided}
+use Rattle.usb_world.proofs.CallLaws.{call_reach, call_state}
+use Rattle.usb_world.proofs.Devices.{each_none, each_wider}
+use Rattle.usb_transaction.specs.declared.target.Target.{Target}
+use Rattle.usb_transaction.specs.Over.{is_at}
+use Rattle.usb_pipe.specs.declared.fault.PipeFault.{PipeFault}
+use Rattle.usb_pipe.specs.Whole.{ReadLeaves, WriteLeaves, EffectDone, EffectOrNone, none, some, whole}
+use Rattle.usb_pipe.proofs.WholeReads.{read_leaves}
+use Rattle.usb_address.proofs.Setups.{same_setup}
+use Rattle.usb_hub.specs.Addresses.{StaysAs, KeepsDevices}
+use Rattle.usb_hub.specs.Requests.{Told, Ordered}
+use Rattle.usb_hub.proofs.Settings.{each_leaves, given_none}
+
+pub stays_none : (w : World) → KeepsDevices w w
+stays_none w = record { stays = λ single. each_none StaysAs (λ j p s. (refl, refl)) w }
+
+-- Requests to a port of a hub
+
+-- what asks nothing of the device itself
+abbrev pub IsOfPort : Outcome → Type 0
+IsOfPort stalled = Unit {0}
+IsOfPort (answers bytes) = ⊥
+IsOfPort (takes_address a) = ⊥
+IsOfPort (takes_configuration c) = ⊥
+IsOfPort (halts x) = ⊥
+IsOfPort (unhalts x) = ⊥
+IsOfPort (tells_port i) = ⊥
+IsOfPort (calls_port c i) = Unit {0}
+
+pub called_of_port : (c : Option PortCall) (i : Option ℕ) → IsOfPort (called_at c i)
+called_of_port None i = tt
+called_of_port (Some c) None = tt
+called_of_port (Some c) (Some i) = tt
+
+begun_stays : (o : Outcome) → IsOfPort o → (s v : State) (row : List PortState) (n j : ℕ) (p : List ℕ) → OnlyControl (begun s row n o) v → v.registers ≡ (begun s row n o).registers → StaysAs j p s v
+begun_stays stalled is s v row n j p frame same = (ap (λ x. x.spec) frame, same)
+begun_stays (answers bytes) is s v row n j p frame same = elim is [ ]
+begun_stays (takes_address a) is s v row n j p frame same = elim is [ ]
+begun_stays (takes_configuration c) is s v row n j p frame same = elim is [ ]
+begun_stays (halts x) is s v row n j p frame same = elim is [ ]
+begun_stays (unhalts x) is s v row n j p frame same = elim is [ ]
+begun_stays (tells_port i) is s v row n j p frame same = elim is [ ]
+begun_stays (calls_port c i) is s v row n j p frame same = (ap (λ x. x.spec) frame, same)
+
+no_address : (o : Outcome) → IsOfPort o → (row : List PortState) (n : ℕ) (address : Option ℕ) → first_stage row n o ≡ ending address → address ≡ None
+no_address stalled is row n address e = absurd cc
+no_address (answers bytes) is row n address e = elim is [ ]
+no_address (takes_address a) is row n address e = elim is [ ]
+no_address (takes_configuration c) is row n address e = elim is [ ]
+no_address (halts x) is row n address e = elim is [ ]
+no_address (unhalts x) is row n address e = elim is [ ]
+no_address (tells_port i) is row n address e = elim is [ ]
+no_address (calls_port c i) is row n address e = cc
+
+module _ (t : Target) (request : Setup) (of_port : (spec : Spec) (g : Registers) → IsOfPort (outcome spec g request)) (old new : World) (j : ℕ) (p : List ℕ) (s v : State) where
+  accepted_stays : (row : List PortState) → OnlyControl (accepted s row request) v → v.registers ≡ (accepted s row request).registers → StaysAs j p s v
+  accepted_stays row frame same = begun_stays (outcome s.spec s.registers request) (of_port s.spec s.registers) s v row request.length j p frame same
+
+  given_stays : (row : List PortState) (address : Option ℕ) → first_stage row request.length (outcome s.spec s.registers request) ≡ ending address → OnlyControl (accepted s row request) v → StatusGiven address (accepted s row request) v → StaysAs j p s v
+  given_stays row address is frame given =
+      accepted_stays row frame (given_none address (accepted s row request) v (no_address (outcome s.spec s.registers request) (of_port s.spec s.registers) row request.length address is) given)
+
+  failed_stays : (fault : PipeFault) → EffectOrNone t request fault old j p s v → StaysAs j p s v
+  failed_stays fault (none frame same) = (ap (λ x. x.spec) frame, same)
+  failed_stays fault (some row now at frame same) = accepted_stays row frame same
+  failed_stays fault (whole why e row now at frame address is given) = given_stays row address is frame given
+
+  pub write_stays : (result : Result (Unit {0}) PipeFault) → WriteLeaves t request result old new j p s v → StaysAs j p s v
+  write_stays (Ok u) x = pick (decided (is_at s t))
+    where
+      pick : (is_at s t ≡ true) ⊎ (is_at s t ≡ false) → StaysAs j p s v
+      pick (inl at) = let d : EffectDone t request old new j p s v = x.done at u refl in given_stays d.row d.address d.is d.rest d.given
+      pick (inr at) = (ap (λ y. y.spec) (x.others at), ap (λ y. y.registers) (x.others at))
+  write_stays (Err fault) x = failed_stays fault (x.failed fault refl)
+
+ordered_stays : (t : Target) (request : Setup) → ((spec : Spec) (g : Registers) → IsOfPort (outcome spec g request)) → is_harmless request ≡ true → request.length ≡ 0
+    → (old : World) (result : Result (Unit {0}) PipeFault) (new : World) → Ordered t request old result new → KeepsDevices old new
+ordered_stays t request of_port harmless nothing old result new ordered = record {
+  stays = λ single.
+      each_wider (WriteLeaves t request result old new) StaysAs (λ j p s v. write_stays t request of_port old new j p s v result) old new
+      (each_leaves t request harmless nothing result old new ordered single);
+}
+
+pub cleared_stays : (hub : Target) (feature port : ℕ) (old : World) (result : Result (Unit {0}) PipeFault) (new : World) → Ordered hub (clear_port_feature feature port) old result new → KeepsDevices old new
+unfolding clear_port_feature outcome
+cleared_stays hub feature port old result new = ordered_stays hub (clear_port_feature feature port) (λ spec g. called_of_port _ _) refl refl old result new
+
+pub not_reset : (feature : ℕ) → feature ≢ 4 → (feature == 4) ≡ false
+not_reset feature other = grind (arith, other)
+
+pub set_stays : (hub : Target) (feature port : ℕ) (old : World) (result : Result (Unit {0}) PipeFault) (new : World) → feature ≢ 4 → Ordered hub (set_port_feature feature port) old result new → KeepsDevices old new
+unfolding set_port_feature outcome
+set_stays hub feature port old result new other = ordered_stays hub (set_port_feature feature port) (λ spec g. called_of_port _ _) (rw (not_reset feature other) refl) refl old result new
+
+-- the status of one
+pub told_stays : (hub : Target) (port : ℕ) (old : World) (result : Result PortStatus PipeFault) (new : World) → Told status_in hub (get_port_status port) old result new → KeepsDevices old new
+unfolding get_port_status
+told_stays hub port old result new told = record {
+  stays = λ single.
+      each_wider (ReadLeaves hub (get_port_status port) told.answer old new) StaysAs (λ j p s v x. (ap (λ y. y.spec) x.frame, ap (λ y. y.registers) x.frame)) old new
+      (read_leaves hub (get_port_status port) told.answer old new (omega arith) (omega arith) (same_setup (get_port_status port)) told.asked.settled told.asked.stages single);
+}
+
+-- Root ports
+
+kept_state : (o : Option State) (b : _) (s : State) → b ≡ false → option_map (reset_if b) o ≡ Some s → o ≡ Some s
+kept_state None true s e h = absurd cc
+kept_state None false s e h = absurd cc
+kept_state (Some v) true s e h = absurd cc
+kept_state (Some v) false s e h = h
+
+call_rests : (c : PortCall) (k : Ports) (i j : ℕ) (p : List ℕ) → is_reset c ≡ false → call_resets c k i j p ≡ false
+call_rests c k i j [] h = rw h refl
+call_rests c k i j (n ∷ p) h = refl
+
+root_each : (c : PortCall) (number : ℕ) (old : World) → is_reset c ≡ false → EachWas StaysAs old (after (root_call c number) old)
+unfolding after
+root_each c zero old quiet j p s on there = record { before = s; on = on; stands = there; so = (refl, refl) }
+root_each c (suc i) old quiet j p s on there =
+    let rests : call_resets c old.roots i j p ≡ false = call_rests c old.roots i j p quiet in
+    record {
+      before = s;
+      on = call_reach c old.roots i j p rests on;
+      stands = kept_state (state_at old.roots j p) (call_resets c old.roots i j p) s rests (sym (call_state c old.roots i j p) ∙ there);
+      so = (refl, refl);
+    }
+
+pub root_stays : (c : PortCall) (number : ℕ) (old : World) → is_reset c ≡ false → KeepsDevices old (after (root_call c number) old)
+root_stays c number old quiet = record { stays = λ single. root_each c number old quiet }

@@ -1,0 +1,208 @@
+-- What was so of a port at a moment of a call on it.
+use Rattle.std.proofs.Common.{◌≡◌, ℕ, zero, suc, ◌-◌, ◌≤◌, ◌==◌, inr, true, false, List, [], ◌∷◌, ◌++◌, take, slice_get, slice_index_or, Some, option_map, Result, Ok, refl, ap, sym, subst, ◌∙◌, arith}
+use Rattle.std.proofs.lemmas.Bool.Decides.{nat_tests}
+use Rattle.std.proofs.lemmas.Option.{same_Some, slice_get-get_or}
+use Rattle.std.specs.Global.{Vec}
+use Rattle.usb_port.specs.Path.{IsPath, IsPortNumber}
+use Rattle.usb_port.specs.PortState.{PortState, status_of, off}
+use Rattle.usb_port.specs.Status.{status_in, seen}
+use Rattle.usb_port.specs.declared.status.PortStatus.{PortStatus}
+use Rattle.usb_port.proofs.StatusLaws.{status_seen}
+use Rattle.usb_request.specs.Layout.{setup_of, bytes_of, IsToHost}
+use Rattle.usb_request.specs.declared.setup.Setup.{Setup}
+use Rattle.usb_request.specs.Requests.{get_port_status}
+use Rattle.usb_device.specs.declared.effect.Effect.TheVariants.{Leaves}
+use Rattle.usb_device.specs.Effect.{effect_of_request, asked_by_setup}
+use Rattle.usb_device.specs.Request.{outcome}
+use Rattle.usb_device.specs.Rows.{State}
+use Rattle.usb_device.specs.Transfer.{reading, first_stage}
+use Rattle.usb_device.specs.Tree.{acted, port_at, reach, reach_at, state_at}
+use Rattle.usb_device.specs.View.{port_there, state_there}
+use Rattle.usb_world.specs.Live.{address_of}
+use Rattle.usb_world.specs.Passes.{IsSettled}
+use Rattle.usb_world.specs.Requested.{is_plain}
+use Rattle.usb_world.specs.Resting.{AsksNothingOf}
+use Rattle.usb_world.specs.World.{World, IsRootPort, root_row, port_at as root_port}
+use Rattle.usb_world.specs.Steps.{Course, here}
+use Rattle.usb_world.specs.Devices.{Was}
+use Rattle.usb_world.proofs.AddressesReset.{same_is}
+use Rattle.usb_transaction.specs.declared.target.Target.{Target}
+use Rattle.usb_transaction.specs.Answerer.{Answerer}
+use Rattle.usb_transaction.specs.Over.{is_at, AcceptedAt}
+use Rattle.usb_transaction.specs.Why.{NoThreeDamaged}
+use Rattle.usb_pipe.specs.declared.fault.PipeFault.{PipeFault}
+use Rattle.usb_pipe.specs.Whole.{AnswerRead, ReadLeaves}
+use Rattle.usb_pipe.proofs.WhoAnswers.{who_reads}
+use Rattle.usb_pipe.proofs.WholeReads.{read_leaves}
+use Rattle.usb_address.specs.Claims.{Claims}
+use Rattle.usb_address.specs.Owned.{Owned, TillFault}
+use Rattle.usb_address.proofs.Bare.{below_of, attempt_settled, less_one}
+use Rattle.usb_address.proofs.Ports.{no_path, no_root}
+use Rattle.usb_address.proofs.Setups.{same_setup}
+use Rattle.usb_address.proofs.Transfers.{reads_leave}
+use Rattle.usb_hub.specs.Addresses.{IsBelow}
+use Rattle.usb_hub.specs.declared.port.HubPort.{HubPort}
+use Rattle.usb_hub.specs.declared.port.HubPort.TheVariants.{Root, External}
+use Rattle.usb_hub.specs.Moments.{PortTold, TellsPort}
+use Rattle.usb_hub.specs.Port.{IsPort, RootRead, PortRead}
+use Rattle.usb_hub.specs.Requests.{Asked, Told}
+use Rattle.usb_hub.specs.Why.{Serves, IsServed}
+use Rattle.usb_hub.proofs.Rests.{behind_asks_nothing, plain_course}
+use Rattle.usb_hub.proofs.Statuses.{port_below, row_port, StatusOf, status_outcome, whole_status}
+use Rattle.usb_hub.proofs.Told.{IsRead, said}
+use Rattle.usb_hub.proofs.Why.{same_port, status_served}
+
+-- Who answered
+
+same_address : (n m : ℕ) → (n == m) ≡ true → n ≡ m
+same_address n m h = grind (arith, nat_tests, h)
+
+-- a device that is reached in the end, and had the target's address before
+record Answered (t : Target) (old new : World) (j : ℕ) (e : List ℕ) : Type 0 where
+  now : State
+  on : reach_at new.roots j e ≡ true
+  stands : state_at new.roots j e ≡ Some now
+  before : State
+  stood : state_at old.roots j e ≡ Some before
+  at : is_at before t ≡ true
+
+-- it is at the path that claims the target's address
+answered_at : (f : Claims) (t : Target) (old new : World) (j : ℕ) (e : List ℕ) → Owned f old → f (suc j ∷ e) ≡ Some t.addr → Answerer t old new → Answered t old new j e
+answered_at f t old new j e o held a = record {
+  now = a.now;
+  on = subst (λ x. reach new.roots x ≡ true) same a.on;
+  stands = subst (λ x. state_there new.roots x ≡ Some a.now) same a.stands;
+  before = a.before;
+  stood = subst (λ x. state_there old.roots x ≡ Some a.before) same a.stood;
+  at = a.at;
+}
+  where
+    claims : f (suc a.j ∷ a.p) ≡ Some t.addr
+    claims = sym (o.own (suc a.j ∷ a.p) a.was_on) ∙ ap (option_map address_of) a.stood ∙ ap (λ n. Some n) (same_address (address_of a.before) t.addr a.at)
+
+    same : (suc a.j ∷ a.p) ≡ (suc j ∷ e)
+    same = same_is (suc j ∷ e) (suc a.j ∷ a.p) (o.distinct (suc j ∷ e) (suc a.j ∷ a.p) t.addr held claims)
+
+-- The status of a port of a hub
+
+module _ (t : Target) (j : ℕ) (e : List ℕ) (i : ℕ) (old new : World) (bytes : Vec ℕ) (told : Asked t (get_port_status (suc i)) old (Ok bytes) new) (single : new.shared ≡ false) (a : Answered t old new j e) where
+  abbrev request : Setup
+  request = get_port_status (suc i)
+
+  host : IsToHost request
+  unfolding get_port_status
+  host = omega arith
+
+  length_is : request.length ≡ 4
+  unfolding get_port_status
+  length_is = refl
+
+  plain : is_plain request ≡ true
+  unfolding get_port_status
+  plain = refl
+
+  was : Was (ReadLeaves t request (Ok bytes) old new) old j e a.now
+  was = read_leaves t request (Ok bytes) old new host (subst (λ n. 1 ≤ n) (sym length_is) (omega arith)) (same_setup request) told.settled told.stages single j e a.now a.on a.stands
+
+  asked_it : is_at was.before t ≡ true
+  asked_it = subst (λ s. is_at s t ≡ true) (same_Some a.before was.before (sym a.stood ∙ was.stands)) a.at
+
+  done : AnswerRead t request bytes.items old new j e was.before a.now
+  done = was.so.done asked_it bytes refl
+
+  abbrev now : World
+  now = done.moment.now
+
+  accepted_there : AcceptedAt t (bytes_of request) old now j e was.before done.moment.accepts.state
+  accepted_there = done.moment.accepts.at
+
+  status : StatusOf done.row (suc i - 1) done.answer (effect_of_request (outcome was.before.spec was.before.registers request))
+  status = status_outcome was.before.spec was.before.registers done.row (suc i) done.answer
+      (subst (λ n. first_stage done.row n (outcome was.before.spec was.before.registers request) ≡ reading done.answer n 0) length_is done.is)
+
+  effect : asked_by_setup was.before (setup_of (bytes_of request)) ≡ Leaves
+  effect = ap (asked_by_setup was.before) (same_setup request) ∙ status.nothing
+
+  came : bytes.items ≡ status_of status.port
+  came = done.came (inr (subst (λ n. n ≤ 8) (sym length_is) (omega arith))) ∙ ap (λ n. take n done.answer) length_is ∙ ap (take 4) status.told ∙ whole_status status.port
+
+  in_row : port_at accepted_there.below i [] ≡ Some status.port
+  unfolding accepted_there
+  in_row = row_port accepted_there.below i ∙ ap (λ x. slice_get x i) (sym done.moment.accepts.had) ∙ ap (slice_get done.row) (sym (less_one i)) ∙ status.stands
+
+  stood : port_at now.roots j (e ++ (suc i ∷ [])) ≡ Some status.port
+  stood = port_below now.roots j e i [] ∙ ap (λ x. port_at (below_of x) i []) accepted_there.left ∙ ap (λ x. port_at (acted x accepted_there.below) i []) effect ∙ in_row
+
+  told_there : PortTold ((suc j ∷ e) ++ (suc i ∷ [])) (status_in bytes.items) old new
+  told_there = record {
+    now = now;
+    port = status.port;
+    stood = stood;
+    is = ap status_in came ∙ status_seen status.port;
+    before = plain_course t request plain old now accepted_there;
+    since = λ x. behind_asks_nothing t x done.moment.since (subst (λ w. IsSettled w.roots) (sym accepted_there.last) (attempt_settled _ accepted_there.mid accepted_there.holder.made.settled));
+    row = record { parent = suc j ∷ e; number = suc i; is = refl; reached = a.on };
+  }
+
+at_hub : (t : Target) (f : Claims) (hub : List ℕ) (port : ℕ) (old new : World) (bytes : Vec ℕ) → IsPath hub → IsPortNumber port → f hub ≡ Some t.addr → Owned f old → Asked t (get_port_status port) old (Ok bytes) new
+    → PortTold (hub ++ (port ∷ [])) (status_in bytes.items) old new
+unfolding get_port_status
+at_hub t f [] port old new bytes is number held own told = absurd (no_path is)
+at_hub t f (zero ∷ e) port old new bytes is number held own told = absurd (no_root e is)
+at_hub t f (suc j ∷ e) zero old new bytes is number held own told = absurd (omega (arith, number.0))
+at_hub t f (suc j ∷ e) (suc i) old new bytes is number held own told =
+    told_there t j e i old new bytes told after.single
+    (answered_at f t old new j e own held (who_reads t (get_port_status (suc i)) bytes old new (omega arith) (same_setup (get_port_status (suc i))) told.settled told.stages after.single))
+  where
+    after : Owned f new
+    after = reads_leave f t (get_port_status (suc i)) (same_setup (get_port_status (suc i))) refl refl old (Ok bytes) new told.stages own
+
+-- why it is not told
+told_served : (t : Target) (n : ℕ) (old : World) (result : Result PortStatus PipeFault) (new : World) → Told status_in t (get_port_status n) old result new → NoThreeDamaged old → new.shared ≡ false → 8 ≤ t.max
+    → (x : Serves t n new) → (b : PortState) → port_there old.roots (suc x.j ∷ (x.p ++ (n ∷ []))) ≡ Some b → IsServed result
+told_served t zero old result new told three single most x b stood = absurd (omega (arith, x.has.least))
+told_served t (suc i) old result new told three single most x b stood = status_served t i old new three single most x b stood status_in result told
+
+status_why : (hub : Target) (port : ℕ) (old : World) (result : Result PortStatus PipeFault) (new : World) → Told status_in hub (get_port_status port) old result new
+    → (h : Target) (n : ℕ) → External hub port ≡ External h n → NoThreeDamaged old → new.shared ≡ false → 8 ≤ h.max → (x : Serves h n new)
+    → (b : PortState) → port_there old.roots (suc x.j ∷ (x.p ++ (n ∷ []))) ≡ Some b → IsServed result
+status_why hub port old result new told h n same =
+    let ends : _ = same_port hub h port n same in
+    told_served h n old result new (subst (λ t. Told status_in t (get_port_status n) old result new) (sym ends.0) (subst (λ m. Told status_in hub (get_port_status m) old result new) (sym ends.1) told))
+
+pub hub_tells : (hub_port : HubPort) (hub : Target) (port : ℕ) (old : World) (result : Result PortStatus PipeFault) (new : World) → hub_port ≡ External hub port → Told status_in hub (get_port_status port) old result new → TellsPort hub_port old result new
+hub_tells hub_port hub port old result new is told = rw is (record { tells = λ f p at o status e. tells f p at o status (subst (λ r. Told status_in hub (get_port_status port) old r new) e told); why = λ h n same three single most serves b stood. status_why hub port old result new told h n same three single most serves b stood })
+  where
+    tells : (f : Claims) (p : List ℕ) → IsBelow f hub.addr port p → TillFault (Owned f) old → (status : PortStatus) → Told status_in hub (get_port_status port) old (Ok status) new → PortTold p status old new
+    tells f p at o status told =
+        let read : IsRead status_in told.answer status = said status_in (get_port_status port).length told.answer status told.told in
+        subst (λ p. PortTold p status old new) (sym at.path)
+        (subst (λ s. PortTold (at.hub ++ (port ∷ [])) s old new) (sym read.read_so)
+        (at_hub hub f at.hub port old new read.bytes at.is_path at.number at.held (o.so told.ends.sound) (subst (λ r. Asked hub (get_port_status port) old r new) read.is told.asked)))
+
+-- The status of a root port
+
+root_stood : (number : ℕ) (w : World) → IsRootPort w number → port_there w.roots (number ∷ []) ≡ Some (root_port w number)
+unfolding root_port
+root_stood zero w is = absurd (omega (arith, is.0))
+root_stood (suc i) w is = row_port w.roots i ∙ slice_get-get_or (root_row w) i off (omega (arith, is.1)) ∙ ap (λ n. Some (slice_index_or (root_row w) n off)) (sym (less_one i))
+
+pub root_tells : (port : HubPort) (number : ℕ) (old : World) (result : Result PortStatus PipeFault) (new : World) → port ≡ Root number → IsPort old port → PortRead port old result new → TellsPort port old result new
+root_tells port number old result new e is read = rw e (root (rw e at is) (rw e at read))
+  where
+    root : IsRootPort old number → RootRead number old result new → TellsPort (Root number) old result new
+    root is r = record {
+      tells = λ f p at o status told. record {
+        now = old;
+        port = root_port old number;
+        stood = ap (port_there old.roots) at ∙ root_stood number old is;
+        is = same_status status (sym told ∙ r.status);
+        before = λ x. here old;
+        since = λ x. subst (λ w. Course (AsksNothingOf x) old w) (sym r.same) (here old);
+        row = record { parent = []; number = number; is = at; reached = refl };
+      };
+      why = λ hub n same. absurd (cc same);
+    }
+      where
+        same_status : (status : PortStatus) → (let a : Result PortStatus PipeFault = Ok status in a ≡ Ok (seen (root_port old number))) → status ≡ seen (root_port old number)
+        same_status status h = cc

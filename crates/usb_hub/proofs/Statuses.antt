@@ -1,0 +1,66 @@
+-- What a hub tells of its ports (11.24.2.7).
+use Rattle.std.proofs.Common.{◌≡◌, ℕ, zero, suc, ◌-◌, ◌⊎◌, inl, inr, List, [], ◌∷◌, ◌++◌, take, slice_get, Option, None, Some, refl, ap, sym, subst}
+use Rattle.std.proofs.lemmas.Option.{same_Some}
+use Rattle.usb_port.specs.PortState.{PortState, status_of}
+use Rattle.usb_request.specs.Requests.{get_port_status}
+use Rattle.usb_device.specs.declared.effect.Effect.{Effect}
+use Rattle.usb_device.specs.declared.effect.Effect.TheVariants.{Leaves}
+use Rattle.usb_device.specs.declared.request.Registers.{Registers}
+use Rattle.usb_device.specs.Effect.{effect_of_request}
+use Rattle.usb_device.specs.Request.{outcome, port_named, told_port}
+use Rattle.usb_device.specs.Spec.{Spec}
+use Rattle.usb_device.specs.Transfer.{reading, reads_port, first_stage}
+use Rattle.usb_device.specs.Tree.{Ports, ended, vacant, taken, place_at, port_at, row_of}
+use Rattle.usb_address.proofs.Bare.{below_of, named}
+
+-- Trees
+
+-- the port of a device's port row, by its number
+pub port_below : (k : Ports) (j : ℕ) (e : List ℕ) (m : ℕ) (r : List ℕ) → port_at k j (e ++ (suc m ∷ r)) ≡ port_at (below_of (place_at k j e)) m r
+unfolding port_at place_at
+port_below ended j e m r = refl
+port_below (vacant b k) zero [] m r = refl
+port_below (vacant b k) zero (n ∷ e) m r = refl
+port_below (vacant b k) (suc j) e m r = port_below k j e m r
+port_below (taken b s a k) zero [] m r = refl
+port_below (taken b s a k) zero (zero ∷ e) m r = refl
+port_below (taken b s a k) zero (suc i ∷ e) m r = port_below a i e m r
+port_below (taken b s a k) (suc j) e m r = port_below k j e m r
+
+pub row_port : (k : Ports) (i : ℕ) → port_at k i [] ≡ slice_get (row_of k) i
+unfolding port_at row_of
+row_port ended i = refl
+row_port (vacant b k) zero = refl
+row_port (vacant b k) (suc i) = row_port k i
+row_port (taken b s a k) zero = refl
+row_port (taken b s a k) (suc i) = row_port k i
+
+-- The status of a port
+
+-- what the hub told
+pub record StatusOf (row : List PortState) (i : ℕ) (answer : List ℕ) (o : Effect) : Type 0 where
+  pub port : PortState
+  pub stands : slice_get row i ≡ Some port
+  pub told : answer ≡ status_of port
+  pub nothing : o ≡ Leaves
+
+same_reading : (a b : List ℕ) (n m k l : ℕ) → reading a n k ≡ reading b m l → a ≡ b
+same_reading a b n m k l h = ap (λ g. elim g as (λ _. List ℕ) [ reading x y z ↦ x | _ ↦ [] ]) h
+
+pub status_outcome : (sp : Spec) (g : Registers) (row : List PortState) (n : ℕ) (answer : List ℕ) → first_stage row 4 (outcome sp g (get_port_status n)) ≡ reading answer 4 0
+    → StatusOf row (n - 1) answer (effect_of_request (outcome sp g (get_port_status n)))
+unfolding outcome get_port_status
+status_outcome sp g row n answer h = by_port (port_named sp.hub g n) (named sp.hub g n) h
+  where
+    by_row : (i : ℕ) (o : Option PortState) → slice_get row i ≡ o → reads_port 4 o ≡ reading answer 4 0 → StatusOf row i answer Leaves
+    by_row i None e h = absurd (cc h)
+    by_row i (Some b) e h = record { port = b; stands = e; told = sym (same_reading (status_of b) answer 4 4 0 0 h); nothing = refl }
+
+    by_port : (o : Option ℕ) → (o ≡ None) ⊎ (o ≡ Some (n - 1)) → first_stage row 4 (told_port o) ≡ reading answer 4 0 → StatusOf row (n - 1) answer (effect_of_request (told_port o))
+    by_port None x h = absurd (cc h)
+    by_port (Some i) (inl x) h = absurd (cc x)
+    by_port (Some i) (inr x) h = subst (λ i. StatusOf row i answer Leaves) (same_Some i (n - 1) x) (by_row i (slice_get row i) refl h)
+
+pub whole_status : (b : PortState) → take 4 (status_of b) ≡ status_of b
+unfolding status_of
+whole_status b = refl

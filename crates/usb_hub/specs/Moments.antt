@@ -1,0 +1,110 @@
+-- What was so of a port at a moment of a call on it (11.24.2), and what the call asked of ports.
+use Rattle.std.specs.Prelude.{◌≡◌, ◌⊎◌, ◌≤◌, ℕ, suc, List, [], ◌∷◌, ◌++◌, true, false, Option, None, Some, option_map, Result, Ok, Err}
+use Rattle.usb_port.specs.PortState.{PortState}
+use Rattle.usb_port.specs.Status.{seen}
+use Rattle.usb_port.specs.declared.status.PortStatus.{PortStatus}
+use Rattle.usb_device.specs.declared.calls.PortCall.{PortCall}
+use Rattle.usb_device.specs.Calls.{is_reset}
+use Rattle.usb_device.specs.Tree.{Ports, called, place}
+use Rattle.usb_device.specs.View.{port_there}
+use Rattle.usb_world.specs.declared.types.Attempt.{Attempt}
+use Rattle.usb_world.specs.declared.types.BusFault.{BusFault}
+use Rattle.usb_world.specs.Courses.{Spares, spares_step}
+use Rattle.usb_world.specs.Live.{is_way}
+use Rattle.usb_world.specs.Requested.{AsksNothing, row_reached}
+use Rattle.usb_world.specs.Resting.{AsksNothingOf}
+use Rattle.usb_world.specs.Steps.{Step, attempt, root_call, event, report, after, ready, Course, AttemptFails}
+use Rattle.usb_world.specs.Touched.{spares}
+use Rattle.usb_world.specs.World.{World, Attempted}
+use Rattle.usb_address.specs.Claims.{Claims}
+use Rattle.usb_address.specs.Owned.{Owned, TillFault}
+use Rattle.usb_transaction.specs.declared.target.Target.{Target}
+use Rattle.usb_transaction.specs.Why.{NoThreeDamaged}
+use Rattle.usb_pipe.specs.declared.fault.PipeFault.{PipeFault}
+use Rattle.usb_pipe.specs.declared.fault.PipeFault.TheVariants.{Bus}
+use Rattle.usb_pipe.specs.Whole.{IsNotOfBus}
+use Rattle.usb_hub.specs.Addresses.{IsAt}
+use Rattle.usb_hub.specs.Requests.{AllRest}
+use Rattle.usb_hub.specs.Why.{Serves, IsServed}
+use Rattle.usb_hub.specs.declared.port.HubPort.{HubPort}
+use Rattle.usb_hub.specs.declared.port.HubPort.TheVariants.{External}
+
+-- the port is the host's, or that of a device that is reached
+pub record OnReachedRow (w : World) (p : List ℕ) : Type 0 where
+  pub parent : List ℕ
+  pub number : ℕ
+  pub is : p ≡ parent ++ (number ∷ [])
+  pub reached : row_reached w.roots parent ≡ true
+
+-- The status of a port
+
+-- the status is the port's at a moment of the call, and the call asked nothing of any port
+pub record PortTold (p : List ℕ) (status : PortStatus) (old new : World) : Type 0 where
+  pub now : World
+  pub port : PortState
+  pub stood : port_there now.roots p ≡ Some port
+  pub is : status ≡ seen port
+  pub before : AllRest old now
+  pub since : AllRest now new
+  pub row : OnReachedRow new p
+
+-- So it is of the port at a path, which a hub's port is by what the hub's path claims. Where no three attempts running are damaged, and no address was
+-- held twice, a hub that is reached in the end and serves the port, which stood there, tells its status.
+pub record TellsPort (port : HubPort) (old : World) (result : Result PortStatus PipeFault) (new : World) : Type 0 where
+  pub tells : (f : Claims) (p : List ℕ) → IsAt f port p → TillFault (Owned f) old → (status : PortStatus) → result ≡ Ok status → PortTold p status old new
+  pub why : (hub : Target) (number : ℕ) → port ≡ External hub number → NoThreeDamaged old → new.shared ≡ false → 8 ≤ hub.max → (serves : Serves hub number new)
+      → (b : PortState) → port_there old.roots (suc serves.j ∷ (serves.p ++ (number ∷ []))) ≡ Some b → IsServed result
+
+-- A call at a port
+
+-- the ports that a step's own change comes to: the events that are due come before an attempt
+abbrev pub met_by : Step → World → Ports
+met_by (attempt a) w = (ready w).roots
+met_by (root_call c n) w = w.roots
+met_by event w = w.roots
+met_by (report line) w = w.roots
+
+-- a step that is about a port: it asks nothing of the ports that are not at or below it, and clears what is pending there only where the call does
+pub record IsAbout (p : List ℕ) (c : PortCall) (s : Step) (w : World) : Type 0 where
+  pub others : (x : List ℕ) → is_way p x ≡ false → AsksNothing s w x
+  pub spares : spares c [] ≡ true → spares_step s w p ≡ true
+
+-- besides, it leaves the port itself, or makes the call there
+pub record ActsAt (p : List ℕ) (c : PortCall) (s : Step) (w : World) : Type 0 where
+  pub port : (place (after s w).roots p ≡ place (met_by s w) p) ⊎ (place (after s w).roots p ≡ option_map (called c) (place (met_by s w) p))
+  pub about : IsAbout p c s w
+
+-- the port was called at a moment, with nothing before it but steps that are about this port; since then nothing was asked of any port
+pub record PortDone (p : List ℕ) (c : PortCall) (old new : World) : Type 0 where
+  pub before : World
+  pub repeats : Course (ActsAt p c) old before
+  pub last : Step
+  pub acts : ActsAt p c last before
+  pub done : place (after last before).roots p ≡ option_map (called c) (place (met_by last before) p)
+  pub since : AllRest (after last before) new
+  pub row : OnReachedRow new p
+
+-- where the bus gave up: these steps, and one more attempt, which it refused
+pub record UpToFault (K : Step → World → Type 0) (old : World) (fault : BusFault) (new : World) : Type 0 where
+  pub mid : World
+  pub course : Course K old mid
+  pub last : Attempt
+  pub refused : Attempted last mid (Err fault) new
+  pub fails : mid.fault ≡ None → AttemptFails last mid (Err fault) new
+
+-- a call at the port of a path; where it is PORT_RESET, no path but this and those below it claims address 0
+pub record IsCall (f : Claims) (port : HubPort) (p : List ℕ) (call : Option PortCall) (c : PortCall) (old : World) : Type 0 where
+  pub at : IsAt f port p
+  pub is : call ≡ Some c
+  pub alone : is_reset c ≡ true → (x : List ℕ) → f x ≡ Some 0 → is_way p x ≡ true
+  pub owned : TillFault (Owned f) old
+
+-- It acts where it is done. Whatever its answer is, it asks nothing of the ports that are not at or below its own, and what is pending there
+-- stays, where the call itself does not clear it. Where no three attempts running are damaged, and no address was held twice, it is done at a hub
+-- that is reached in the end and serves the port.
+pub record CallsPort (port : HubPort) (call : Option PortCall) (old : World) (result : Result (Unit {0}) PipeFault) (new : World) : Type 0 where
+  pub done : (f : Claims) (p : List ℕ) (c : PortCall) → IsCall f port p call c old → result ≡ Ok tt → PortDone p c old new
+  pub rests : (f : Claims) (p : List ℕ) (c : PortCall) → IsCall f port p call c old → IsNotOfBus result → (x : List ℕ) → is_way p x ≡ false → Course (AsksNothingOf x) old new
+  pub spares : (f : Claims) (p : List ℕ) (c : PortCall) → IsCall f port p call c old → IsNotOfBus result → spares c [] ≡ true → Course (Spares p) old new
+  pub cut : (f : Claims) (p : List ℕ) (c : PortCall) → IsCall f port p call c old → (fault : BusFault) → result ≡ Err (Bus fault) → UpToFault (IsAbout p c) old fault new
+  pub why : (hub : Target) (number : ℕ) → port ≡ External hub number → NoThreeDamaged old → new.shared ≡ false → Serves hub number new → IsServed result

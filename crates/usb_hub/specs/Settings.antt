@@ -1,0 +1,71 @@
+-- What a device makes of a new address and of a configuration (9.4.6, 9.4.7), seen from where it is reachable after them.
+use Rattle.std.specs.Prelude.{◌≡◌, ◌⊎◌, ℕ, ◌==◌, ◌&&◌, not, Bool, true, false, List, None, Some, Result, Ok, Err}
+use Rattle.usb_port.specs.PortState.{PortState}
+use Rattle.usb_device.specs.Request.{is_value}
+use Rattle.usb_device.specs.Rows.{State}
+use Rattle.usb_device.specs.Bulk.{rested}
+use Rattle.usb_device.specs.Progress.{OnlyControl}
+use Rattle.usb_device.specs.Tree.{Ports, full, all_off, place_at}
+use Rattle.usb_world.specs.World.{World}
+use Rattle.usb_world.specs.Steps.{Course}
+use Rattle.usb_world.specs.Resting.{AsksNothingOf}
+use Rattle.usb_transaction.specs.declared.target.Target.{Target}
+use Rattle.usb_transaction.specs.Over.{is_at}
+use Rattle.usb_pipe.specs.declared.fault.PipeFault.{PipeFault}
+use Rattle.usb_pipe.specs.declared.fault.PipeFault.TheVariants.{Stalled}
+use Rattle.usb_pipe.specs.Whole.{CanEnd, IsNotOfBus, TookOrLost}
+
+-- A device was asked to take an address: nothing of it changed but where its transfer stands, and its address to this one. Where that is done, it
+-- took it at the host's ACK, or one loss more is counted; where it failed, neither.
+pub record AddressAsked (t : Target) (address : ℕ) (result : Result (Unit {0}) PipeFault) (old new : World) (j : ℕ) (p : List ℕ) (s v : State) : Type 0 where
+  pub others : is_at s t ≡ false → v ≡ s
+  pub frame : OnlyControl s v
+  pub either : (v.registers ≡ s.registers) ⊎ (v.registers ≡ record s.registers { address = address })
+  pub done : is_at s t ≡ true → result ≡ Ok tt → (s.spec.stalls.address ≡ false) × TookOrLost address old new s v
+  pub stalled : is_at s t ≡ true → result ≡ Err Stalled → s.spec.stalls.address ≡ true
+  pub failed : is_at s t ≡ true → (why : PipeFault) → result ≡ Err why → IsNotOfBus result → (v.registers ≡ s.registers) × (new.losses ≡ old.losses)
+  pub could : is_at s t ≡ true → CanEnd s.spec result
+
+-- it has an address, and the value is 0 or that of one of its configurations
+abbrev pub takes_value : State → ℕ → Bool
+takes_value s value = not (s.registers.address == 0) && is_value s.spec.configs value
+
+-- it has this configuration, and its endpoints have begun again
+pub record IsConfigured (value : ℕ) (s v : State) : Type 0 where
+  pub registers : v.registers ≡ record s.registers { configuration = value }
+  pub out : v.bulk_out ≡ rested
+  pub into : v.bulk_in ≡ rested
+  pub changes : v.changes ≡ rested
+  pub held : v.held ≡ None
+
+-- at a moment of the call all ports of the device there were off, and nothing was asked of any port since
+pub record WentOff (new : World) (j : ℕ) (p : List ℕ) : Type 0 where
+  pub now : World
+  pub b : PortState
+  pub state : State
+  pub ports : Ports
+  pub off : place_at now.roots j p ≡ Some (full b state (all_off ports))
+  pub since : (x : List ℕ) → Course (AsksNothingOf x) now new
+
+-- where its transfer stands, its configuration and its endpoints: what a configuration may change
+abbrev pub OnlySet : State → State → Type 0
+OnlySet s v =
+    v ≡ record s {
+      memory = v.memory;
+      naks = v.naks;
+      stage = v.stage;
+      registers = record s.registers { configuration = v.registers.configuration };
+      bulk_out = v.bulk_out;
+      bulk_in = v.bulk_in;
+      changes = v.changes;
+      held = v.held;
+    }
+
+-- A device was asked to take a configuration. Where that is done, it has it, and its ports went off; where it failed, it has it or has what it had.
+pub record ConfigurationAsked (t : Target) (value : ℕ) (result : Result (Unit {0}) PipeFault) (new : World) (j : ℕ) (p : List ℕ) (s v : State) : Type 0 where
+  pub others : is_at s t ≡ false → v ≡ s
+  pub frame : OnlySet s v
+  pub either : (v.registers ≡ s.registers) ⊎ IsConfigured value s v
+  pub done : is_at s t ≡ true → result ≡ Ok tt → (s.spec.stalls.set_config ≡ false) × (takes_value s value ≡ true) × IsConfigured value s v × WentOff new j p
+  pub stalled : is_at s t ≡ true → result ≡ Err Stalled → (s.spec.stalls.set_config ≡ true) ⊎ (takes_value s value ≡ false)
+  pub could : is_at s t ≡ true → CanEnd s.spec result

@@ -1,0 +1,41 @@
+-- Why a call at a hub's port fails.
+use Rattle.std.specs.Prelude.{◌≡◌, ◌≢◌, ℕ, ◌≤◌, List, true, false, Some, Result, Ok, Err, ⊤}
+use Rattle.usb_device.specs.Rows.{State}
+use Rattle.usb_device.specs.Spec.{Spec, Hub, IsSpec}
+use Rattle.usb_device.specs.Tree.{reach_at, state_at}
+use Rattle.usb_world.specs.World.{World}
+use Rattle.usb_transaction.specs.declared.target.Target.{Target}
+use Rattle.usb_transaction.specs.Why.{Listens}
+use Rattle.usb_pipe.specs.declared.fault.PipeFault.{PipeFault}
+use Rattle.usb_pipe.specs.declared.fault.PipeFault.TheVariants.{Stalled, Busy, NoAnswer, Broken, Bus, Memory}
+
+-- the description is a hub's, which is not always busy, is as the rules say, and has the port
+pub record HasPort (spec : Spec) (number : ℕ) : Type 0 where
+  pub hub : Hub
+  pub is : spec.hub ≡ Some hub
+  pub least : 1 ≤ number
+  pub most : number ≤ hub.ports
+  pub idle : spec.busy ≡ false
+  pub ruled : IsSpec spec
+
+-- a configured hub with an address is reached, hears its target, and has the port
+pub record Serves (target : Target) (number : ℕ) (w : World) : Type 0 where
+  pub j : ℕ
+  pub p : List ℕ
+  pub state : State
+  pub on : reach_at w.roots j p ≡ true
+  pub stands : state_at w.roots j p ≡ Some state
+  pub listens : Listens target p state
+  pub addressed : target.addr ≢ 0
+  pub configured : state.registers.configuration ≢ 0
+  pub has : HasPort state.spec number
+
+-- no hub failed: the call is done, or the bus gave up, or there was no memory
+abbrev pub IsServed : {A : Type 0} → Result A PipeFault → Type 0
+IsServed (Ok x) = ⊤
+IsServed (Err Stalled) = ⊥
+IsServed (Err Busy) = ⊥
+IsServed (Err NoAnswer) = ⊥
+IsServed (Err Broken) = ⊥
+IsServed (Err (Bus fault)) = ⊤
+IsServed (Err Memory) = ⊤

@@ -1,0 +1,108 @@
+-- How a run's text goes on from item to item.
+use Rattle.std.proofs.Common.{◌≡◌, ◌∙◌, refl, sym, ap, subst, ℕ, List, [], ◌∷◌, ◌++◌, Bool, true, false, Option, None, Some, Result, Ok, Err, IsErrAnd, append-nil, append_assoc, flat_map, take, drop, get_or, length, zero, suc, arith, ◌<◌}
+use Rattle.std.specs.Global.{Vec}
+use Rattle.std.specs.Io.KnownBytes.{Appends}
+use Rattle.std.proofs.KnownBytes.{Appends-nil, Appends-trans}
+use Rattle.usb_bus.specs.Watch.{AppendsFront}
+use Rattle.usb_bus.proofs.Fronts.{front_after}
+use Rattle.usb_world.specs.World.{World}
+use Rattle.usb_world.specs.declared.types.BusFault.{BusFault}
+use Rattle.usb_world.specs.PlanData.{PlanData}
+use Rattle.usb_host.specs.Hosting.{Hosting}
+use Rattle.usb_host.specs.Progress.{Rests}
+use Rattle.usb_serve.specs.declared.runs.Item.{Item}
+use Rattle.usb_serve.specs.declared.runs.RunFault.{RunFault}
+use Rattle.usb_serve.specs.declared.serving.Mode.{Mode}
+use Rattle.usb_serve.specs.Ran.{Works, idle, worked}
+use Rattle.usb_serve.specs.Served.{unpowered}
+use Rattle.usb_serve.specs.Transcript.{CutsText, RunsTo, Next, PutsText, StoppedRun, Stops, Transcript, begun, ran, told, behind, on_the_way, in_text, shown}
+
+-- nothing is written
+pub puts_none : (h : Hosting) → PutsText [] h h
+puts_none h = record { all = Appends-nil h.trace; rest = refl }
+
+pub front_none : (t : Option (List ℕ)) (text : List ℕ) → AppendsFront t t text
+front_none t text = record { gone = []; rest = text; split = refl; appended = Appends-nil t }
+
+pub cuts_none : (text : List ℕ) (h : Hosting) → CutsText text h h
+cuts_none text h = record { front = front_none h.trace text; rest = refl }
+
+-- the next item
+
+pub told_next : {mode : Mode} {was : Bool} {old : Hosting} {items : List Item} {item : Item} {over on : Bool} {h k new : Hosting} → Transcript mode was old items over h → Next over h (Ok (Some item)) on k
+    → PutsText (shown mode items item) k new → Transcript mode was old (item ∷ items) on new
+told_next {mode} {was} {old} {items} {h = h} t (at_work, makes) puts = told (subst (λ o. Transcript mode was old items o h) at_work t) makes puts
+
+pub cut_next : {mode : Mode} {was : Bool} {old : Hosting} {items : List Item} {item : Item} {over on : Bool} {h k new : Hosting} → Transcript mode was old items over h → Next over h (Ok (Some item)) on k
+    → CutsText (shown mode items item) k new → StoppedRun mode was old (item ∷ items) new
+cut_next {mode} {was} {old} {items} {h = h} t (at_work, makes) cuts = in_text (subst (λ o. Transcript mode was old items o h) at_work t) makes cuts
+
+pub stopped_next : {mode : Mode} {was : Bool} {old : Hosting} {items : List Item} {over : Bool} {h k : Hosting} (on : Bool) (fault : RunFault) → Transcript mode was old items over h → Next over h (Err fault) on k
+    → StoppedRun mode was old items k
+stopped_next {mode} {was} {old} {items} {h = h} on fault t (at_work, stops) = on_the_way (subst (λ o. Transcript mode was old items o h) at_work t) stops
+
+pub over_next : {mode : Mode} {was : Bool} {old : Hosting} {items : List Item} {over on : Bool} (h k : Hosting) → Transcript mode was old items over h → Next over h (Ok None) on k → Transcript mode was old items true k
+over_next {mode} {was} {old} {items} h k t (done, still, same) = subst (λ x. Transcript mode was old items true x) (sym same) (subst (λ o. Transcript mode was old items o h) done t)
+
+pub next_failed : {was : Bool} {old new : Hosting} (over : Bool) (result : Result (Option Item) RunFault) (fault : RunFault) → IsErrAnd result (λ e. e ≡ fault) → was ≡ false → Stops old new → Next was old result over new
+next_failed over (Ok item) fault is at_work stops = absurd is
+next_failed over (Err e) fault is at_work stops = (at_work, stops)
+
+-- what is told of a run that stopped
+pub ends_failed : {A E : Type 0} {mode : Mode} {was : Bool} {old new : Hosting} {items : List Item} (result : Result A E) (fault : E) → IsErrAnd result (λ e. e ≡ fault) → StoppedRun mode was old items new → RunsTo mode was old items result new
+ends_failed (Ok done) fault is stopped = absurd is
+ends_failed (Err e) fault is stopped = stopped
+
+-- a run that goes on from where another has come without an item
+
+transcript_then : {mode : Mode} {was : Bool} {old h : Hosting} {items : List Item} {over : Bool} {new : Hosting} → Transcript mode was old [] false h → Transcript mode false h items over new → Transcript mode was old items over new
+transcript_then x begun = x
+transcript_then x (ran t r) = ran (transcript_then x t) r
+transcript_then x (told t makes puts) = told (transcript_then x t) makes puts
+
+stopped_then : {mode : Mode} {was : Bool} {old h : Hosting} {items : List Item} {new : Hosting} → Transcript mode was old [] false h → StoppedRun mode false h items new → StoppedRun mode was old items new
+stopped_then x (behind t) = behind (transcript_then x t)
+stopped_then x (on_the_way t stops) = on_the_way (transcript_then x t) stops
+stopped_then x (in_text t makes cuts) = in_text (transcript_then x t) makes cuts
+
+pub ends_then : {A E : Type 0} {mode : Mode} {was : Bool} {old h : Hosting} (items : List Item) (new : Hosting) (result : Result A E) → Transcript mode was old [] false h → RunsTo mode false h items result new
+    → RunsTo mode was old items result new
+ends_then items new (Ok done) x t = transcript_then x t
+ends_then items new (Err fault) x s = stopped_then x s
+
+-- a plan's run, from a host whose bus was just given power
+pub powered : (mode : Mode) (plan : PlanData) (before : Option (List ℕ)) (h : Hosting) → Works (unpowered plan before) h → Transcript mode false (unpowered plan before) [] false h
+powered mode plan before h works = ran begun (worked idle works)
+
+-- Lines
+
+-- the texts up to one, that one, and those behind it
+pub texts_split : (vs : List (Vec ℕ)) (i : ℕ) (v : Vec ℕ) → i < length vs → v ≡ get_or vs i v → flat_map (λ x. x.items) vs ≡ flat_map (λ x. x.items) (take i vs) ++ (v.items ++ flat_map (λ x. x.items) (drop (suc i) vs))
+texts_split [] i v lt is = absurd (omega (arith, lt))
+texts_split (x ∷ vs) zero v lt is = ap (λ (y : Vec ℕ). y.items ++ flat_map (λ x. x.items) vs) (sym is)
+texts_split (x ∷ vs) (suc i) v lt is =
+    let rest = flat_map (λ x. x.items) (drop (suc i) vs) in
+    ap (λ l. x.items ++ l) (texts_split vs i v (omega (arith, lt)) is) ∙ sym (append_assoc x.items (flat_map (λ x. x.items) (take i vs)) (v.items ++ rest))
+
+-- the texts with one more
+pub texts_more : (vs : List (Vec ℕ)) (i : ℕ) (v : Vec ℕ) → i < length vs → v ≡ get_or vs i v → flat_map (λ x. x.items) (take i vs) ++ v.items ≡ flat_map (λ x. x.items) (take (suc i) vs)
+texts_more [] i v lt is = absurd (omega (arith, lt))
+texts_more (x ∷ vs) zero v lt is = ap (λ (y : Vec ℕ). y.items) is ∙ sym (append-nil x.items)
+texts_more (x ∷ vs) (suc i) v lt is = append_assoc x.items (flat_map (λ x. x.items) (take i vs)) v.items ∙ ap (λ l. x.items ++ l) (texts_more vs i v (omega (arith, lt)) is)
+
+-- a text and a line behind it
+pub puts_line : {h k l : Hosting} (text line more : List ℕ) → PutsText text h k → Rests k l → l.world ≡ k.world → Appends k.trace l.trace line → text ++ line ≡ more → PutsText more h l
+puts_line {h} {k} {l} text line more puts rests same appends is = record {
+  all = subst (Appends h.trace l.trace) is (Appends-trans h.trace k.trace l.trace text line puts.all appends);
+  rest = rests ∙ ap (λ (w : World). record k { world = w; trace = l.trace }) same ∙ ap (λ (x : Hosting). record x { trace = l.trace }) puts.rest;
+}
+
+-- a text and a front of a line behind it
+pub cuts_line : {h k l : Hosting} (text line rest all : List ℕ) (fault : BusFault) → PutsText text h k → Rests k l → l.world ≡ record k.world { fault = Some fault } → AppendsFront k.trace l.trace line
+    → all ≡ text ++ (line ++ rest) → CutsText all h l
+cuts_line {h} {k} {l} text line rest all fault puts rests fails front is =
+    let kept : l.world ≡ record k.world { fault = l.world.fault } = fails ∙ ap (λ (f : Option BusFault). record k.world { fault = f }) (sym (ap (λ (w : World). w.fault) fails)) in
+    record {
+      front = front_after h.trace k.trace l.trace text line rest all is puts.all front;
+      rest = rests ∙ ap (λ (w : World). record k { world = w; trace = l.trace }) kept ∙ ap (λ (x : Hosting). record x { world = record x.world { fault = l.world.fault }; trace = l.trace }) puts.rest;
+    }

@@ -1,0 +1,19 @@
+use Rattle.std.proofs.Common.{refl, sym, subst}
+use Rattle.usb_bus.specs.Watch.{inner_of}
+use Rattle.usb_serve.specs.Served.{IsWritten, of_plan, unread}
+use Rattle.usb_serve.proofs.serving.serve.Goals as goal
+
+pub returns-in-Err-clause-served : goal.returns-in-Err-clause-served
+returns-in-Err-clause-served g c = unread c.in-Err.fault refl c.in-Err.ensures.unread refl
+
+pub returns-in-Tree-clause-served : goal.returns-in-Tree-clause-served
+returns-in-Tree-clause-served g c =
+    let before = g.W.Write.contents (inner_of c.args.writer) in
+    let now = g.W.Write.contents (inner_of c.serve_tree.result.1) in
+    of_plan c.in-Ok.plan c.in-Ok.ensures.plan (subst (λ m. IsWritten m c.in-Ok.plan before c.serve_tree.result.0 now) (sym c.in-Tree.is) c.serve_tree.ensures.written)
+
+pub returns-clause-served : goal.returns-clause-served
+returns-clause-served g c =
+    let before = g.W.Write.contents (inner_of c.args.writer) in
+    let now = g.W.Write.contents (inner_of c.serve_run.result.1) in
+    of_plan c.in-Ok.plan c.in-Ok.ensures.plan (subst (λ m. IsWritten m c.in-Ok.plan before c.serve_run.result.0 now) (sym c.in-Run.is) c.serve_run.ensures.written)

@@ -1,0 +1,13 @@
+use Rattle.std.proofs.Common.{ap}
+use Rattle.usb_bus.specs.declared.watched.Watched.{Watched}
+use Rattle.usb_bus.specs.Watch.{inner_of}
+use Rattle.usb_serve.proofs.Servings.{run_unopened, run_written}
+use Rattle.usb_serve.proofs.serving.serve_run.Goals as goal
+
+pub returns-in-Ok-clause-written : goal.returns-in-Ok-clause-written
+returns-in-Ok-clause-written g c =
+    run_written c.args.plan.now _ _ c.in-Ok.runner.host c.trace_run-result.new.runner.host c.trace_run-result.result _ c.in-Ok.ensures.powered c.in-Ok.ensures.going c.trace_run-result.ensures.ends c.trace_run-result.new.runner.owning.single
+    c.into_writer.ensures.trace
+
+pub returns-in-Err-clause-written : goal.returns-in-Err-clause-written
+returns-in-Err-clause-written g c = run_unopened c.args.plan.now _ _ _ (ap (λ (w : Watched g.row.W.Denot). g.W.Write.contents (inner_of w)) c.in-Err.ensures.back)

@@ -1,0 +1,502 @@
+-- Transfers through pipes leave each device with its description and registers, and ask nothing of ports.
+use Rattle.std.proofs.Common.{◌≡◌, ◌≢◌, ◌⊎◌, inl, inr, ℕ, ◌==◌, ◌&&◌, if◌then◌else◌, Bool, true, false, List, [], ◌∷◌, length, take, Option, None, Some, Result, Ok, Err, refl, ap, sym, subst, ◌∙◌}
+use Rattle.std.specs.Prelude.{nat_le, nat_lt}
+use Rattle.std.specs.Global.{Vec}
+use Rattle.arrayvec.specs.ArrayVec.{ArrayVec}
+use Rattle.usb_packet.specs.declared.Toggle.{Toggle}
+use Rattle.usb_packet.specs.declared.Toggle.TheVariants.{One}
+use Rattle.usb_port.specs.PortState.{PortState}
+use Rattle.usb_request.specs.Layout.{bytes_of}
+use Rattle.usb_request.specs.Requests.{clear_endpoint_halt}
+use Rattle.usb_request.specs.declared.setup.Setup.{Setup}
+use Rattle.usb_device.specs.declared.answer.Answer.TheVariants.{Ack, Nak, Stall}
+use Rattle.usb_device.specs.declared.bulk.Which.{Which}
+use Rattle.usb_device.specs.declared.bulk.Which.TheVariants.{BulkOut, BulkIn, Changes}
+use Rattle.usb_device.specs.declared.bulk.Pipe.{Pipe}
+use Rattle.usb_device.specs.declared.transfer.Giver.TheVariants as by
+use Rattle.usb_device.specs.Attempt.{Way, is_whole, heard, gave, source_law, held_law, changes_law, in_bulk_law, in_control_law, in_other_law, in_law, out_law}
+use Rattle.usb_device.specs.Bulk.{rested, turned, tells_changes, change_bits, is_same}
+use Rattle.usb_device.specs.Progress.{OnlyControl, StatusGiven}
+use Rattle.usb_device.specs.Request.{Outcome, stalled, answers, takes_address, takes_configuration, halts, unhalts, tells_port, calls_port, on_endpoint, outcome}
+use Rattle.usb_device.specs.Rows.{State, Reply, forgotten, rest_of, bulk_of, bulk_ack_row, sunk, sink_row, out_bulk_row, data_row, with_pipe, begun, accepted}
+use Rattle.usb_device.specs.Spec.{Spec}
+use Rattle.usb_device.specs.declared.request.Registers.{Registers}
+use Rattle.usb_device.specs.Transfer.{first_stage, ending}
+use Rattle.usb_device.specs.Tree.{reach_at, state_at}
+use Rattle.usb_world.specs.declared.types.Attempt.{Attempt}
+use Rattle.usb_world.specs.declared.types.BusFault.{BusFault}
+use Rattle.usb_world.specs.declared.types.BusFault.TheVariants.{LimitReached}
+use Rattle.usb_world.specs.Addresses.{is_setup}
+use Rattle.usb_world.specs.Courses.{is_harmless}
+use Rattle.usb_world.specs.Devices.{EachWas, DidIn, DidOut}
+use Rattle.usb_world.specs.OneHolder.{IsMade, IsIn, IsOut}
+use Rattle.usb_world.specs.Passes.{IsSettled}
+use Rattle.usb_world.specs.Requested.{is_plain}
+use Rattle.usb_world.specs.Resting.{AsksNothingOf}
+use Rattle.usb_world.specs.Steps.{Step, attempt, root_call, event, report, after, ready, with_attempt, Course, here, step}
+use Rattle.usb_world.specs.World.{World}
+use Rattle.usb_world.proofs.Booleans.{decided}
+use Rattle.usb_world.proofs.Devices.{each_none, each_joined, each_wider, each_in, each_out}
+use Rattle.usb_world.proofs.OneHolderMore.{made_is, same_test, unequal}
+use Rattle.usb_world.proofs.RequestLawsPlain.{data_asks_nothing}
+use Rattle.usb_transaction.specs.Attempts.{IsOnly, GivenUp}
+use Rattle.usb_transaction.specs.Heard.{heard_as, set_up_as}
+use Rattle.usb_transaction.specs.Over.{is_at}
+use Rattle.usb_transaction.specs.Trans.{in_attempt, setup_attempt}
+use Rattle.usb_transaction.specs.declared.target.Target.{Target}
+use Rattle.usb_transaction.proofs.Cuts.{Cut, unmade, made_whole, cut_or_same, transacted_unshared}
+use Rattle.usb_transaction.proofs.Trails.{due_shared, first_false, trail_settled, trail_unshared}
+use Rattle.usb_pipe.specs.declared.fault.PipeFault.{PipeFault}
+use Rattle.usb_pipe.specs.declared.fault.PipeFault.TheVariants as pipe
+use Rattle.usb_pipe.specs.Attempts.{Attempts}
+use Rattle.usb_pipe.specs.Bulk.{Bulk, Sends, Receives, Clears, Cleared, halt_address}
+use Rattle.usb_pipe.specs.End.{packet_target}
+use Rattle.usb_pipe.specs.Interrupt.{Interrupt, Polls}
+use Rattle.usb_pipe.specs.Moves.{SendsAt}
+use Rattle.usb_pipe.specs.Whole.{IsNotOfBus, WriteLeaves, EffectDone, EffectOrNone, none, some, whole}
+use Rattle.usb_pipe.specs.Stages.{Writes}
+use Rattle.usb_pipe.proofs.Attempts.{poll_attempts, receive_attempts}
+use Rattle.usb_pipe.proofs.SendCourse.{send_attempts}
+use Rattle.usb_address.proofs.Bare.{attempt_settled}
+use Rattle.usb_hub.specs.Addresses.{StaysAs, KeepsDevices}
+use Rattle.usb_hub.specs.Requests.{AllRest, Ends, Ordered}
+use Rattle.usb_hub.proofs.Devices.{stays_none}
+use Rattle.usb_hub.proofs.Rests.{write_rests}
+use Rattle.usb_hub.proofs.Settings.{each_leaves, given_none}
+use Rattle.usb_table.proofs.Kept.{broken_or_not, ready_or_not, empty_or_not, none_or_some}
+
+-- A device over an IN or an OUT of an endpoint other than 0
+
+abbrev Kept : State → State → Type 0
+Kept s v = (v.spec ≡ s.spec) × (v.registers ≡ s.registers)
+
+abbrev KeptIn : State → Reply → Type 0
+KeptIn s reply = Kept s reply.1
+
+bulk_acked : (o : Option (ℕ × ℕ)) (s : State) → Kept s (bulk_ack_row s o)
+bulk_acked None s = (refl, refl)
+bulk_acked (Some end) s = (refl, refl)
+
+module _ (s : State) where
+  bulk_given : (b : Bool) → Kept s (if b then forgotten (bulk_ack_row s (bulk_of s true)) else s)
+  bulk_given true = bulk_acked (bulk_of s true) s
+  bulk_given false = (refl, refl)
+
+  source_by : (most max : ℕ) (t2 t3 : Way) (b c : Bool) → Kept s (if b then (heard t2 (Some Stall), s) else if c then (heard t2 (Some Nak), s) else gave s by.Bulk max s.bulk_in.toggle (take most (rest_of s)) t2 t3).1
+  source_by most max t2 t3 true c = (refl, refl)
+  source_by most max t2 t3 false true = (refl, refl)
+  source_by most max t2 t3 false false = bulk_given (is_whole t2 && nat_le (length (take most (rest_of s))) max && is_whole t3)
+
+  in_bulk_by : (e most max : ℕ) (t2 t3 : Way) (b : Bool) → Kept s (if b then source_law s most max t2 t3 else (None, s)).1
+  in_bulk_by e most max t2 t3 true = source_by most max t2 t3 s.bulk_in.halted (length (rest_of s) == 0)
+  in_bulk_by e most max t2 t3 false = (refl, refl)
+
+  in_bulk : (e : ℕ) (o : Option (ℕ × ℕ)) (max : ℕ) (t2 t3 : Way) → Kept s (in_bulk_law s e o max t2 t3).1
+  in_bulk e None max t2 t3 = (refl, refl)
+  in_bulk e (Some end) max t2 t3 = in_bulk_by e end.1 max t2 t3 (end.0 == e)
+
+  told_by : (o : Option ℕ) (b : Bool) → Kept s (if b then forgotten (record s { changes = turned s.changes; held = None }) else record s { held = o })
+  told_by o true = (refl, refl)
+  told_by o false = (refl, refl)
+
+  new_changes_by : (bits max : ℕ) (t2 t3 : Way) (b : Bool) → Kept s (if b then (heard t2 (Some Nak), s) else gave (record s { held = Some bits }) by.Changes max s.changes.toggle (bits ∷ []) t2 t3).1
+  new_changes_by bits max t2 t3 true = (refl, refl)
+  new_changes_by bits max t2 t3 false = told_by (Some bits) (is_whole t2 && nat_le (length (bits ∷ [])) max && is_whole t3)
+
+  held_by : (row : List PortState) (o : Option ℕ) (max : ℕ) (t2 t3 : Way) → Kept s (held_law s row o max t2 t3).1
+  held_by row None max t2 t3 = new_changes_by (change_bits row) max t2 t3 (change_bits row == 0)
+  held_by row (Some bits) max t2 t3 = told_by s.held (is_whole t2 && nat_le (length (bits ∷ [])) max && is_whole t3)
+
+  changes_by : (row : List PortState) (max : ℕ) (t2 t3 : Way) (b : Bool) → Kept s (if b then (heard t2 (Some Stall), s) else held_law s row s.held max t2 t3).1
+  changes_by row max t2 t3 true = (refl, refl)
+  changes_by row max t2 t3 false = held_by row s.held max t2 t3
+
+  in_other : (row : List PortState) (e max : ℕ) (t2 t3 : Way) (b : Bool) → Kept s (if b then changes_law s row max t2 t3 else in_bulk_law s e (bulk_of s true) max t2 t3).1
+  in_other row e max t2 t3 true = changes_by row max t2 t3 s.changes.halted
+  in_other row e max t2 t3 false = in_bulk e (bulk_of s true) max t2 t3
+
+  in_by : (row : List PortState) (e max : ℕ) (t2 t3 : Way) (b z : Bool) → z ≡ false → Kept s (if b then (if z then in_control_law s max t2 t3 else in_other_law s row e max t2 t3) else (None, s)).1
+  in_by row e max t2 t3 true true far = cc
+  in_by row e max t2 t3 true false far = in_other row e max t2 t3 (e == 1 && tells_changes s.spec s.registers)
+  in_by row e max t2 t3 false z far = (refl, refl)
+
+  in_kept : (row : List PortState) (e max : ℕ) (t1 t2 t3 : Way) → (e == 0) ≡ false → Kept s (in_law s row e max t1 t2 t3).1
+  in_kept row e max t1 t2 t3 far = in_by row e max t2 t3 (is_whole t1) (e == 0) far
+
+  sink_by : (bytes : List ℕ) (b c d : Bool) → KeptIn s (if b then (Some Stall, s) else if c then (None, s) else if d then (Some Ack, sunk s bytes) else (Some Ack, s))
+  sink_by bytes true c d = (refl, refl)
+  sink_by bytes false true d = (refl, refl)
+  sink_by bytes false false true = (refl, refl)
+  sink_by bytes false false false = (refl, refl)
+
+  out_bulk_by : (most : ℕ) (t : Toggle) (bytes : List ℕ) (b : Bool) → Kept s (if b then sink_row s most t bytes else (None, s)).1
+  out_bulk_by most t bytes true = sink_by bytes s.bulk_out.halted (nat_lt most (length bytes)) (is_same t s.bulk_out.toggle)
+  out_bulk_by most t bytes false = (refl, refl)
+
+  out_bulk : (e : ℕ) (o : Option (ℕ × ℕ)) (t : Toggle) (bytes : List ℕ) → Kept s (out_bulk_row s e o t bytes).1
+  out_bulk e None t bytes = (refl, refl)
+  out_bulk e (Some end) t bytes = out_bulk_by end.1 t bytes (end.0 == e)
+
+  data_by : (e : ℕ) (t : Toggle) (bytes : List ℕ) → (e == 0) ≡ false → Kept s (data_row s e t bytes).1
+  data_by e t bytes far = rw far (out_bulk e (bulk_of s false) t bytes)
+
+  out_by : (e : ℕ) (t : Toggle) (bytes : List ℕ) (t3 : Way) (b : Bool) → (e == 0) ≡ false → KeptIn s (if b then (heard t3 (data_row s e t bytes).0, forgotten (data_row s e t bytes).1) else (None, s))
+  out_by e t bytes t3 true far = data_by e t bytes far
+  out_by e t bytes t3 false far = (refl, refl)
+
+  out_kept : (e : ℕ) (t : Toggle) (bytes : List ℕ) (t1 t2 t3 : Way) → (e == 0) ≡ false → Kept s (out_law s e t bytes t1 t2 t3).1
+  out_kept e t bytes t1 t2 t3 far = out_by e t bytes t3 (is_whole t1 && is_whole t2) far
+
+-- Each device over such an attempt
+
+data IsFar (a : Attempt) : Type 0 where
+  into : IsIn a → (a.ep == 0) ≡ false → IsFar a
+  out : (t : Toggle) (bytes : List ℕ) → IsOut a t bytes → (a.ep == 0) ≡ false → IsFar a
+
+far_kind : (a : Attempt) → IsFar a → is_setup a.kind ≡ false
+far_kind a (into i far) = ap is_setup i.kind
+far_kind a (out t bytes i far) = ap is_setup i.kind
+
+as_it_was : (s v : State) → v ≡ s → Kept s v
+as_it_was s v e = (ap (λ x. x.spec) e, ap (λ x. x.registers) e)
+
+kept_by : (s u v : State) → v ≡ u → Kept s u → Kept s v
+kept_by s u v e h = (ap (λ x. x.spec) e ∙ h.0, ap (λ x. x.registers) e ∙ h.1)
+
+did_in : (a : Attempt) (w : World) (j : ℕ) (p : List ℕ) (s v : State) → (a.ep == 0) ≡ false → DidIn a w j p s v → StaysAs j p s v
+did_in a w j p s v far (DidIn.other d e) = as_it_was s v e
+did_in a w j p s v far (DidIn.silent at y o e) = as_it_was s v e
+did_in a w j p s v far (DidIn.asked at y b below h x o e) = kept_by s _ v e (in_kept s _ a.ep a.max x.first x.second x.third far)
+
+did_out : (a : Attempt) (t : Toggle) (bytes : List ℕ) (w : World) (j : ℕ) (p : List ℕ) (s v : State) → (a.ep == 0) ≡ false → DidOut a t bytes w j p s v → StaysAs j p s v
+did_out a t bytes w j p s v far (DidOut.other d e) = as_it_was s v e
+did_out a t bytes w j p s v far (DidOut.silent at y o e) = as_it_was s v e
+did_out a t bytes w j p s v far (DidOut.asked at y x o e) = kept_by s _ v e (out_kept s a.ep t bytes x.first x.second x.third far)
+
+each_far : (a : Attempt) (w : World) → IsFar a → IsMade a w → (after (attempt a) w).shared ≡ false → EachWas StaysAs w (after (attempt a) w)
+each_far a w (into i far) m single = each_wider (DidIn a w) StaysAs (λ j p s v. did_in a w j p s v far) w (after (attempt a) w) (each_in a w m i single)
+each_far a w (out t bytes i far) m single = each_wider (DidOut a t bytes w) StaysAs (λ j p s v. did_out a t bytes w j p s v far) w (after (attempt a) w) (each_out a w t bytes m i single)
+
+each_itself : (w : World) → EachWas StaysAs w w
+each_itself w = each_none StaysAs (λ j p s. (refl, refl)) w
+
+pub each_then : (u w v : World) → EachWas StaysAs u w → EachWas StaysAs w v → EachWas StaysAs u v
+each_then u w v x y = each_joined StaysAs StaysAs StaysAs (λ j p s t v h k. (k.0 ∙ h.0, k.1 ∙ h.1)) u w v x y
+
+each_at : (u w v : World) → w.roots ≡ v.roots → EachWas StaysAs u w → EachWas StaysAs u v
+each_at u w v e x j p s on there = x j p s (ap (λ k. reach_at k j p) e ∙ on) (ap (λ k. state_at k j p) e ∙ there)
+
+-- no address was held twice before, and each device stays
+record Stayed (w v : World) : Type 0 where
+  before : w.shared ≡ false
+  each : EachWas StaysAs w v
+
+stopped_is : (a : Attempt) (w : World) (g : BusFault) → w.fault ≡ Some g → after (attempt a) w ≡ w
+unfolding after
+stopped_is a w g e = rw e refl
+
+limit_is : (a : Attempt) (w : World) → w.fault ≡ None → (w.attempts == w.limit) ≡ true → after (attempt a) w ≡ record w { fault = Some LimitReached }
+unfolding after
+limit_is a w sound e = rw (sound, e) refl
+
+made_single : (a : Attempt) (w : World) → IsMade a w → (after (attempt a) w).shared ≡ false → w.shared ≡ false
+unfolding with_attempt ready
+made_single a w m single = sym (due_shared w.left w) ∙ first_false _ _ (sym (ap (λ x. x.shared) (made_is a w m)) ∙ single)
+
+step_stays : (a : Attempt) (w : World) → IsFar a → IsSettled w.roots → (after (attempt a) w).shared ≡ false → Stayed w (after (attempt a) w)
+step_stays a w far settled single = pick w.fault refl
+  where
+    tried : w.fault ≡ None → ((w.attempts == w.limit) ≡ true) ⊎ ((w.attempts == w.limit) ≡ false) → Stayed w (after (attempt a) w)
+    tried sound (inl e) =
+        let is = limit_is a w sound e in
+        record { before = sym (ap (λ x. x.shared) is) ∙ single; each = each_at w w (after (attempt a) w) (sym (ap (λ x. x.roots) is)) (each_itself w) }
+    tried sound (inr e) =
+        let made : IsMade a w = record { sound = sound; within = λ l. cc (sym (same_test w.attempts w.limit l) ∙ e); settled = settled } in
+        record { before = made_single a w made single; each = each_far a w far made single }
+
+    pick : (o : Option BusFault) → w.fault ≡ o → Stayed w (after (attempt a) w)
+    pick None e = tried e (decided (w.attempts == w.limit))
+    pick (Some g) e =
+        let is = stopped_is a w g e in
+        record { before = sym (ap (λ x. x.shared) is) ∙ single; each = each_at w w (after (attempt a) w) (sym (ap (λ x. x.roots) is)) (each_itself w) }
+
+-- Over all attempts of a call
+
+abbrev IsFarStep : Step → Type 0
+IsFarStep (attempt a) = IsFar a
+IsFarStep (root_call c n) = ⊥
+IsFarStep event = ⊥
+IsFarStep (report line) = ⊥
+
+step_settled : (s : Step) (w : World) → IsFarStep s → IsSettled w.roots → IsSettled (after s w).roots
+step_settled (attempt a) w far settled = attempt_settled a w settled
+step_settled (root_call c n) w far settled = absurd far
+step_settled event w far settled = absurd far
+step_settled (report line) w far settled = absurd far
+
+any_stays : (s : Step) (w : World) → IsFarStep s → IsSettled w.roots → (after s w).shared ≡ false → Stayed w (after s w)
+any_stays (attempt a) w far settled single = step_stays a w far settled single
+any_stays (root_call c n) w far settled single = absurd far
+any_stays event w far settled single = absurd far
+any_stays (report line) w far settled single = absurd far
+
+any_rests : (s : Step) (w : World) (x : List ℕ) → IsFarStep s → IsSettled w.roots → AsksNothingOf x s w
+any_rests (attempt a) w x far settled = data_asks_nothing a w x (far_kind a far) settled
+any_rests (root_call c n) w x far settled = absurd far
+any_rests event w x far settled = absurd far
+any_rests (report line) w x far settled = absurd far
+
+module _ (K : Step → World → Type 0) (far : (s : Step) (w : World) → K s w → IsFarStep s) where
+  course_settled : {w v : World} → Course K w v → IsSettled w.roots → IsSettled v.roots
+  course_settled (here w) settled = settled
+  course_settled (step s {w} {v} k c) settled = course_settled c (step_settled s w (far s w k) settled)
+
+  course_stays : {w v : World} → Course K w v → IsSettled w.roots → v.shared ≡ false → Stayed w v
+  course_stays (here w) settled single = record { before = single; each = each_itself w }
+  course_stays (step s {w} {v} k c) settled single =
+      let rest = course_stays c (step_settled s w (far s w k) settled) single in
+      let first = any_stays s w (far s w k) settled rest.before in
+      record { before = first.before; each = each_then w (after s w) v first.each rest.each }
+
+  course_rests : (x : List ℕ) {w v : World} → Course K w v → IsSettled w.roots → Course (AsksNothingOf x) w v
+  course_rests x (here w) settled = here w
+  course_rests x (step s {w} {v} k c) settled = step s (any_rests s w x (far s w k) settled) (course_rests x c (step_settled s w (far s w k) settled))
+
+  cut_stays : (old : World) (fault : BusFault) (new : World) → GivenUp K old fault new → IsSettled old.roots → new.shared ≡ false → EachWas StaysAs old new
+  cut_stays old fault new g settled single =
+      pick (cut_or_same g.last g.mid fault new g.fits (course_settled g.course settled) g.refused g.fails single)
+    where
+      pick : Cut g.last g.mid new → EachWas StaysAs old new
+      pick (unmade h each) =
+          each_then old g.mid new (course_stays g.course settled h).each (each_wider (λ j p s x. x ≡ s) StaysAs (λ j p s v e. as_it_was s v e) g.mid new each)
+      pick (made_whole h m u r) =
+          each_then old g.mid new (course_stays g.course settled h).each (each_at g.mid (after (attempt g.last) g.mid) new r (each_far g.last g.mid (far (attempt g.last) g.mid g.is) m u))
+
+  module _ {A : Type 0} (old new : World) (settled : IsSettled old.roots) where
+    attempts_stay : (result : Result A PipeFault) → Attempts K old result new → KeepsDevices old new
+    attempts_stay result x = record { stays = λ single. by_result result x single }
+      where
+        by_result : (result : Result A PipeFault) → Attempts K old result new → new.shared ≡ false → EachWas StaysAs old new
+        by_result (Ok y) x single = (course_stays (x.whole tt) settled single).each
+        by_result (Err pipe.Stalled) x single = (course_stays (x.whole tt) settled single).each
+        by_result (Err pipe.Busy) x single = (course_stays (x.whole tt) settled single).each
+        by_result (Err pipe.NoAnswer) x single = (course_stays (x.whole tt) settled single).each
+        by_result (Err pipe.Broken) x single = (course_stays (x.whole tt) settled single).each
+        by_result (Err (pipe.Bus fault)) x single = cut_stays old fault new (x.cut fault refl) settled single
+        by_result (Err pipe.Memory) x single = (course_stays (x.whole tt) settled single).each
+
+    attempts_rest : (result : Result A PipeFault) → Attempts K old result new → new.fault ≡ None → AllRest old new
+    attempts_rest (Ok y) x sound p = course_rests p (x.whole tt) settled
+    attempts_rest (Err pipe.Stalled) x sound p = course_rests p (x.whole tt) settled
+    attempts_rest (Err pipe.Busy) x sound p = course_rests p (x.whole tt) settled
+    attempts_rest (Err pipe.NoAnswer) x sound p = course_rests p (x.whole tt) settled
+    attempts_rest (Err pipe.Broken) x sound p = course_rests p (x.whole tt) settled
+    attempts_rest (Err (pipe.Bus fault)) x sound p = let told = (x.cut fault refl).refused.ends.told in absurd (cc (told, sound))
+    attempts_rest (Err pipe.Memory) x sound p = course_rests p (x.whole tt) settled
+
+-- The calls of pipes
+
+far_number : (ep : ℕ) → ep ≢ 0 → (ep == 0) ≡ false
+far_number ep far = unequal ep 0 far
+
+only_far : (t : Target) (ep : ℕ) → ep ≢ 0 → (s : Step) (w : World) → IsOnly (in_attempt t ep) s w → IsFarStep s
+only_far t ep far s w e = subst IsFarStep (sym e) (into (record { kind = refl; payload = refl }) (far_number ep far))
+
+sends_far : (t : Target) (ep : ℕ) (first : Toggle) (bytes : List ℕ) (old : World) → ep ≢ 0 → (s : Step) (w : World) → SendsAt t ep first bytes old s w → IsFarStep s
+sends_far t ep first bytes old far s w x = subst IsFarStep (sym x.is) (out _ _ (record { kind = refl; payload = refl }) (far_number ep far))
+
+same_stays : (old new : World) → new ≡ old → KeepsDevices old new
+same_stays old new e = subst (KeepsDevices old) (sym e) (stays_none old)
+
+same_rests : (old new : World) → new ≡ old → AllRest old new
+same_rests old new e x = subst (λ v. Course (AsksNothingOf x) old v) (sym e) (here old)
+
+pub polls_stay : (pipe : Interrupt) → pipe.ep ≢ 0 → (old : World) (result : Result (Option (ArrayVec ℕ)) PipeFault) (left : Interrupt) (new : World) → IsSettled old.roots → Polls pipe old result left new → KeepsDevices old new
+polls_stay pipe far old result left new settled x =
+    attempts_stay (IsOnly (in_attempt pipe.target pipe.ep)) (only_far pipe.target pipe.ep far) old new settled result (poll_attempts pipe result left old new x)
+
+pub polls_rest : (pipe : Interrupt) → pipe.ep ≢ 0 → (old : World) (result : Result (Option (ArrayVec ℕ)) PipeFault) (left : Interrupt) (new : World) → IsSettled old.roots → Polls pipe old result left new → new.fault ≡ None → AllRest old new
+polls_rest pipe far old result left new settled x sound =
+    attempts_rest (IsOnly (in_attempt pipe.target pipe.ep)) (only_far pipe.target pipe.ep far) old new settled result (poll_attempts pipe result left old new x) sound
+
+-- a call that makes no attempt changes nothing; for another the ports are settled
+moved_or_same : (bytes : List ℕ) (pipe : Bulk) (old : World) (result : Result (Unit {0}) PipeFault) (left : Bulk) (new : World) → Sends bytes pipe old result left new → IsSettled old.roots ⊎ (new ≡ old)
+moved_or_same bytes pipe old result left new x = elim (broken_or_not pipe.condition) [
+  | inl broken ↦ inr (x.broken broken).world_kept
+  | inr works ↦ elim (empty_or_not bytes) [
+    | inl nothing ↦ inr (x.nothing works nothing).world_kept
+    | inr more ↦ inl (x.moved works more).settled
+  ]
+]
+
+came_or_same : (wanted : ℕ) (pipe : Bulk) (old : World) (result : Result (Vec ℕ) PipeFault) (left : Bulk) (new : World) → Receives wanted pipe old result left new → IsSettled old.roots ⊎ (new ≡ old)
+came_or_same wanted pipe old result left new x = elim (broken_or_not pipe.condition) [
+  | inl broken ↦ inr (x.broken broken).2
+  | inr works ↦ elim (none_or_some wanted) [
+    | inl nothing ↦ inr (x.nothing works nothing).2
+    | inr more ↦ inl (x.moved works more).settled
+  ]
+]
+
+pub sends_stay : (bytes : List ℕ) (pipe : Bulk) → pipe.ep ≢ 0 → (old : World) (result : Result (Unit {0}) PipeFault) (left : Bulk) (new : World) → Sends bytes pipe old result left new → KeepsDevices old new
+sends_stay bytes pipe far old result left new x = elim (moved_or_same bytes pipe old result left new x) [
+  | inl settled ↦
+      attempts_stay (SendsAt (packet_target pipe.target pipe.max) pipe.ep pipe.toggle bytes old) (sends_far (packet_target pipe.target pipe.max) pipe.ep pipe.toggle bytes old far) old new settled result
+      (send_attempts bytes pipe result left old new x)
+  | inr same ↦ same_stays old new same
+]
+
+pub sends_rest : (bytes : List ℕ) (pipe : Bulk) → pipe.ep ≢ 0 → (old : World) (result : Result (Unit {0}) PipeFault) (left : Bulk) (new : World) → Sends bytes pipe old result left new → new.fault ≡ None → AllRest old new
+sends_rest bytes pipe far old result left new x sound = elim (moved_or_same bytes pipe old result left new x) [
+  | inl settled ↦
+      attempts_rest (SendsAt (packet_target pipe.target pipe.max) pipe.ep pipe.toggle bytes old) (sends_far (packet_target pipe.target pipe.max) pipe.ep pipe.toggle bytes old far) old new settled result
+      (send_attempts bytes pipe result left old new x) sound
+  | inr same ↦ same_rests old new same
+]
+
+pub receives_stay : (wanted : ℕ) (pipe : Bulk) → pipe.ep ≢ 0 → (old : World) (result : Result (Vec ℕ) PipeFault) (left : Bulk) (new : World) → Receives wanted pipe old result left new → KeepsDevices old new
+receives_stay wanted pipe far old result left new x = elim (came_or_same wanted pipe old result left new x) [
+  | inl settled ↦
+      attempts_stay (IsOnly (in_attempt (packet_target pipe.target pipe.max) pipe.ep)) (only_far (packet_target pipe.target pipe.max) pipe.ep far) old new settled result (receive_attempts wanted pipe result left old new x)
+  | inr same ↦ same_stays old new same
+]
+
+pub receives_rest : (wanted : ℕ) (pipe : Bulk) → pipe.ep ≢ 0 → (old : World) (result : Result (Vec ℕ) PipeFault) (left : Bulk) (new : World) → Receives wanted pipe old result left new → new.fault ≡ None → AllRest old new
+receives_rest wanted pipe far old result left new x sound = elim (came_or_same wanted pipe old result left new x) [
+  | inl settled ↦
+      attempts_rest (IsOnly (in_attempt (packet_target pipe.target pipe.max) pipe.ep)) (only_far (packet_target pipe.target pipe.max) pipe.ep far) old new settled result (receive_attempts wanted pipe result left old new x) sound
+  | inr same ↦ same_rests old new same
+]
+
+-- CLEAR_FEATURE(ENDPOINT_HALT)
+
+-- an endpoint halts no more, or the request is refused
+abbrev IsOfEndpoint : Outcome → Type 0
+IsOfEndpoint stalled = Unit {0}
+IsOfEndpoint (answers bytes) = ⊥
+IsOfEndpoint (takes_address a) = ⊥
+IsOfEndpoint (takes_configuration c) = ⊥
+IsOfEndpoint (halts x) = ⊥
+IsOfEndpoint (unhalts x) = Unit {0}
+IsOfEndpoint (tells_port i) = ⊥
+IsOfEndpoint (calls_port c i) = ⊥
+
+of_endpoint : (which : Option Which) → IsOfEndpoint (on_endpoint unhalts which)
+of_endpoint None = tt
+of_endpoint (Some which) = tt
+
+clear_outcome : (endpoint : ℕ) (spec : Spec) (g : Registers) → IsOfEndpoint (outcome spec g (clear_endpoint_halt endpoint))
+unfolding clear_endpoint_halt outcome
+clear_outcome endpoint spec g = of_endpoint _
+
+pipe_spec : (s : State) (which : Which) (pipe : Pipe) → (with_pipe s which pipe).spec ≡ s.spec
+pipe_spec s BulkOut pipe = refl
+pipe_spec s BulkIn pipe = refl
+pipe_spec s Changes pipe = refl
+
+begun_stays : (s v : State) (row : List PortState) (n : ℕ) (o : Outcome) → IsOfEndpoint o → OnlyControl (begun s row n o) v → v.registers ≡ (begun s row n o).registers → Kept s v
+begun_stays s v row n stalled is frame same = (ap (λ x. x.spec) frame, same)
+begun_stays s v row n (answers bytes) is frame same = absurd is
+begun_stays s v row n (takes_address a) is frame same = absurd is
+begun_stays s v row n (takes_configuration c) is frame same = absurd is
+begun_stays s v row n (halts which) is frame same = absurd is
+begun_stays s v row n (unhalts which) is frame same = (ap (λ x. x.spec) frame ∙ pipe_spec s which rested, same)
+begun_stays s v row n (tells_port i) is frame same = absurd is
+begun_stays s v row n (calls_port c i) is frame same = absurd is
+
+no_address : (row : List PortState) (n : ℕ) (address : Option ℕ) (o : Outcome) → IsOfEndpoint o → first_stage row n o ≡ ending address → address ≡ None
+no_address row n address stalled is e = absurd cc
+no_address row n address (answers bytes) is e = absurd is
+no_address row n address (takes_address a) is e = absurd is
+no_address row n address (takes_configuration c) is e = absurd is
+no_address row n address (halts which) is e = absurd is
+no_address row n address (unhalts which) is e = cc
+no_address row n address (tells_port i) is e = absurd is
+no_address row n address (calls_port c i) is e = absurd is
+
+module _ (t : Target) (request : Setup) (of : (spec : Spec) (g : Registers) → IsOfEndpoint (outcome spec g request)) (old new : World) (j : ℕ) (p : List ℕ) (s v : State) where
+  given_stays : (row : List PortState) (address : Option ℕ) → first_stage row request.length (outcome s.spec s.registers request) ≡ ending address → OnlyControl (accepted s row request) v → StatusGiven address (accepted s row request) v → Kept s v
+  given_stays row address is frame given =
+      begun_stays s v row request.length (outcome s.spec s.registers request) (of s.spec s.registers) frame
+      (given_none address (accepted s row request) v (no_address row request.length address (outcome s.spec s.registers request) (of s.spec s.registers) is) given)
+
+  failed_stays : (fault : PipeFault) → EffectOrNone t request fault old j p s v → Kept s v
+  failed_stays fault (none frame same) = (ap (λ x. x.spec) frame, same)
+  failed_stays fault (some row now at frame same) = begun_stays s v row request.length (outcome s.spec s.registers request) (of s.spec s.registers) frame same
+  failed_stays fault (whole why e row now at frame address is given) = given_stays row address is frame given
+
+  write_stays : (result : Result (Unit {0}) PipeFault) → WriteLeaves t request result old new j p s v → Kept s v
+  write_stays (Ok u) x = pick (decided (is_at s t))
+    where
+      pick : (is_at s t ≡ true) ⊎ (is_at s t ≡ false) → Kept s v
+      pick (inl at) = let d : EffectDone t request old new j p s v = x.done at u refl in given_stays d.row d.address d.is d.rest d.given
+      pick (inr at) = as_it_was s v (x.others at)
+  write_stays (Err fault) x = failed_stays fault (x.failed fault refl)
+
+module _ (endpoint : ℕ) where
+  clear_harmless : is_harmless (clear_endpoint_halt endpoint) ≡ true
+  unfolding clear_endpoint_halt
+  clear_harmless = refl
+
+  clear_plain : is_plain (clear_endpoint_halt endpoint) ≡ true
+  unfolding clear_endpoint_halt
+  clear_plain = refl
+
+  clear_length : (clear_endpoint_halt endpoint).length ≡ 0
+  unfolding clear_endpoint_halt
+  clear_length = refl
+
+cleared_ordered : (pipe : Bulk) (old : World) (result : Result (Unit {0}) PipeFault) (left : Bulk) (new : World) → Cleared pipe old result left new → Ordered pipe.target (clear_endpoint_halt (halt_address pipe.ep pipe.is_in)) old result new
+cleared_ordered pipe old result left new x = record {
+  settled = x.settled;
+  ends = x.ends;
+  stages = x.stages;
+  room = x.room;
+  rests = λ plain sound. write_rests pipe.target (clear_endpoint_halt (halt_address pipe.ep pipe.is_in)) result old new x.settled x.stages plain sound;
+}
+
+cleared_stays : (pipe : Bulk) (old : World) (result : Result (Unit {0}) PipeFault) (left : Bulk) (new : World) → Cleared pipe old result left new → KeepsDevices old new
+cleared_stays pipe old result left new x = record {
+  stays = λ single.
+      let request : Setup = clear_endpoint_halt (halt_address pipe.ep pipe.is_in) in
+      each_wider (WriteLeaves pipe.target request result old new) StaysAs
+      (λ j p s v. write_stays pipe.target request (clear_outcome (halt_address pipe.ep pipe.is_in)) old new j p s v result) old new
+      (each_leaves pipe.target request (clear_harmless (halt_address pipe.ep pipe.is_in)) (clear_length (halt_address pipe.ep pipe.is_in)) result old new (cleared_ordered pipe old result left new x) single);
+}
+
+-- the bus that is at work told of no fault
+not_of_bus : (old : World) (result : Result (Unit {0}) PipeFault) (new : World) → Ends 2 old result new → new.fault ≡ None → IsNotOfBus result
+not_of_bus old (Ok done) new ends sound = tt
+not_of_bus old (Err pipe.Stalled) new ends sound = tt
+not_of_bus old (Err pipe.Busy) new ends sound = tt
+not_of_bus old (Err pipe.NoAnswer) new ends sound = tt
+not_of_bus old (Err pipe.Broken) new ends sound = tt
+not_of_bus old (Err (pipe.Bus fault)) new ends sound = let told = ends.told in absurd (cc (told, sound))
+not_of_bus old (Err pipe.Memory) new ends sound = tt
+
+pub clears_stay : (pipe : Bulk) (old : World) (result : Result (Unit {0}) PipeFault) (left : Bulk) (new : World) → Clears pipe old result left new → KeepsDevices old new
+clears_stay pipe old result left new x = elim (ready_or_not pipe.condition) [
+  | inl ready ↦ same_stays old new (x.ready ready).world_kept
+  | inr not ↦ cleared_stays pipe old result left new (x.sent not)
+]
+
+pub clears_rest : (pipe : Bulk) (old : World) (result : Result (Unit {0}) PipeFault) (left : Bulk) (new : World) → Clears pipe old result left new → new.fault ≡ None → AllRest old new
+clears_rest pipe old result left new x sound = elim (ready_or_not pipe.condition) [
+  | inl ready ↦ same_rests old new (x.ready ready).world_kept
+  | inr not ↦
+      (cleared_ordered pipe old result left new (x.sent not)).rests (clear_plain (halt_address pipe.ep pipe.is_in)) (not_of_bus old result new (x.sent not).ends sound)
+]
+
+-- no address was held twice before
+write_single : (t : Target) (request : Setup) (result : Result (Unit {0}) PipeFault) (old new : World) → IsSettled old.roots → Writes t request old result new → new.shared ≡ false → old.shared ≡ false
+write_single t request (Ok done) old new settled x single = trail_unshared x.set_up.trail (trail_unshared x.status.trail single)
+write_single t request (Err why) old new settled (inl x) single = transacted_unshared set_up_as (setup_attempt t (bytes_of request)) old new (Err x.fault) x.set_up settled single
+write_single t request (Err why) old new settled (inr x) single =
+    trail_unshared x.set_up.trail
+    (transacted_unshared (heard_as One) (in_attempt t 0) x.mid new (Err x.fault) x.status (trail_settled x.set_up.trail settled) single)
+
+pub clears_single : (pipe : Bulk) (old : World) (result : Result (Unit {0}) PipeFault) (left : Bulk) (new : World) → Clears pipe old result left new → new.shared ≡ false → old.shared ≡ false
+clears_single pipe old result left new x single = elim (ready_or_not pipe.condition) [
+  | inl ready ↦ ap (λ w. w.shared) (sym (x.ready ready).world_kept) ∙ single
+  | inr not ↦ write_single pipe.target (clear_endpoint_halt (halt_address pipe.ep pipe.is_in)) result old new (x.sent not).settled (x.sent not).stages single
+]
