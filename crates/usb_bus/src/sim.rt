@@ -4,6 +4,7 @@ ghost use Rattle.std.specs.List.{list_all};
 ghost use Rattle.usb_world.specs.PlanData.{can_come};
 ghost use Rattle.usb_device.specs.Spec.{IsSpec};
 ghost use Rattle.usb_device.specs.Tree.{new_ports, row_of};
+ghost use Rattle.usb_device.specs.Delivery.{held, is_twice};
 ghost use Rattle.usb_world.specs.Losses.{AreOfDamages};
 ghost use Rattle.usb_world.specs.Passes.{IsSettled};
 ghost use Rattle.usb_world.specs.Sane.{IsSane};
@@ -22,7 +23,7 @@ use std::collections::VecDeque;
 use std::io::Write;
 use usb_device::{DeviceSpec, Ports};
 use usb_port::PortPath;
-use usb_world::{Losses, event_copies};
+use usb_world::{Hints, Losses, event_copies};
 
 /// A bus that a plan describes. Each attempt, plug and unplug is a line of the trace, which goes to a writer at once.
 ///
@@ -47,6 +48,10 @@ pub struct SimBus<W> {
     shared: bool,
     fault: Option<BusFault>,
     writer: Watched<W>,
+    /// Where devices were found, by address.
+    hints: Hints,
+    /// No two reachable devices hold one address, as far as is known.
+    single: bool,
     ghost some_root: { 1 ≤ length (row_of roots) },
     ghost few_roots: { length (row_of roots) ≤ 7 },
     ghost settled: { IsSettled roots },
@@ -61,11 +66,13 @@ pub struct SimBus<W> {
     ghost lost: { AreOfDamages attempts damages.items losses },
     ghost at_limit: { fault ≡ Some LimitReached → attempts ≡ limit },
     ghost marked: { has_failed writer ≡ tells_failure fault },
+    ghost lone: { single ≡ true → is_twice (held roots) ≡ false },
 }
 
 /// What a simulated bus keeps of a plan.
 #[derive(Drop)]
 struct Stage {
+    hints: Hints,
     roots: Ports,
     devices: Vec<DeviceSpec>,
     left: VecDeque<Event>,
@@ -105,6 +112,8 @@ impl<W: Write> SimBus<W> {
                 shared: false,
                 fault: None,
                 writer,
+                hints: stage.hints,
+                single: false,
             }),
         }
     }
@@ -185,6 +194,7 @@ fn staged(alloc: Global, plan: &Plan) -> Result<Stage, AllocError>
     ensures few_damages { IfOk result (λ s. length s.damages.items ≤ 10000) }
 {
     Ok(Stage {
+        hints: Hints::new(alloc)?,
         roots: Ports::new(alloc, plan.roots())?,
         devices: copies(alloc, plan.devices())?,
         left: VecDeque::from(event_copies(alloc, plan.events())?),

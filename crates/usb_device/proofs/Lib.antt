@@ -18,3 +18,4 @@ pub mod ControlProgress
 pub mod BulkProgress
 pub mod ChangesProgress
 pub mod Stopping
+pub mod Routing

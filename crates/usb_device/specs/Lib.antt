@@ -19,3 +19,4 @@ pub mod Lending
 pub mod Stray
 pub mod Progress
 pub mod Stopped
+pub mod Route

@@ -61,7 +61,7 @@ impl Device {
 
     /// What the device itself asks of its ports at a packet.
     #[tactic(auto, unfolding(crate::specs::Delivery::effect_of))]
-    fn effect(&self, sent: &Sent, deep: bool) -> Effect
+    pub(crate) fn effect(&self, sent: &Sent, deep: bool) -> Effect
         ensures { result ≡ effect_of sent.now deep self.now.own }
     {
         match &sent.content {

@@ -171,7 +171,12 @@ impl Device {
     }
 
     #[tactic(auto, unfolding(crate::specs::Delivery::answer_of, crate::specs::Delivery::effect_of), using(crate::proofs::Delivering::strays))]
-    fn take_sent(&mut self, sent: &Sent, deep: bool, heard: &mut Heard) -> Result<(), AllocError>
+    pub(crate) fn take_sent(
+        &mut self,
+        sent: &Sent,
+        deep: bool,
+        heard: &mut Heard,
+    ) -> Result<(), AllocError>
         ensures ok { OnOk result ((heard.new, self.new) ≡ with_answer heard.old (taken_sent sent.now deep self.old)) }
         ensures err { OnErr result (self.new ≡ self.old) }
         ensures refused { OnErr result (IsRefused sent.now deep self.old.own) }

@@ -18,6 +18,7 @@ mod own;
 mod ports;
 mod progress_laws;
 mod request;
+mod route;
 mod shared;
 mod spec;
 mod transfer;

@@ -1,5 +1,5 @@
 //! A row of ports, those of a hub or of the root, with the devices on them (4.1.1, 11.24).
-ghost use Rattle.std.specs.Prelude.{◌≡◌, ◌≤◌, ◌==◌, ◌&&◌, [], None, Some, slice_get, IfOk, unwrap_or};
+ghost use Rattle.std.specs.Prelude.{◌≡◌, ◌≤◌, ◌==◌, ◌&&◌, [], None, Some, slice_get, IfOk, IsTrue, false, unwrap_or};
 ghost use Rattle.std.specs.Option.{option_copied};
 ghost use Rattle.usb_port.specs.PortState.{set_row, clear_row, is_attached};
 ghost use Rattle.usb_device.specs.Bulk.{changed_bit, change_bits};
@@ -119,31 +119,33 @@ impl Place {
     }
 
     /// Another device is plugged, or none stays there; what stood there before is unplugged first, and handed back.
-    fn put(&mut self, device: Option<Device>) -> Option<Device>
-        ensures before { result ≡ device_of (stood self.old) }
-        ensures after { stood self.new ≡ put device (stood self.old) }
+    fn put(&mut self, device: &mut Option<Device>)
+        ensures before { device.new ≡ device_of (stood self.old) }
+        ensures after { stood self.new ≡ put device.old (stood self.old) }
     {
         self.port.unplug();
-        if let Some(device) = &device {
+        if let Some(device) = device {
             self.port.plug(device.is_low());
         }
-        let before = self.device.take();
-        self.device = device;
-        before
+        std::mem::swap(&mut self.device, device);
     }
 
-    /// The same at the place, or below it where the path goes on.
+    /// The same at the place, or below it where the path goes on, and whether there is such a port.
     #[cycle(put)]
     #[tactic(auto, using(crate::proofs::Placing::paths))]
-    fn put_below(&mut self, path: &[u8], device: Option<Device>) -> Option<Device>
-        ensures before { result ≡ plugged_in (stood self.old) path.now }
-        ensures after { stood self.new ≡ changed_in (put device) (stood self.old) path.now }
+    fn put_below(&mut self, path: &[u8], device: &mut Option<Device>) -> bool
+        ensures before { IsTrue result → device.new ≡ plugged_in (stood self.old) path.now }
+        ensures none { result ≡ false → plugged_in (stood self.old) path.now ≡ None }
+        ensures after { stood self.new ≡ changed_in (put device.old) (stood self.old) path.now }
     {
         match path {
-            [] => self.put(device),
+            [] => {
+                self.put(device);
+                true
+            }
             [_, ..] => match &mut self.device {
-                Some(above) => above.ports.put(path, device),
-                None => None,
+                Some(above) => above.ports.put_at(path, device),
+                None => false,
             },
         }
     }
@@ -161,47 +163,6 @@ impl Place {
     }
 }
 
-#[cycle(call)]
-#[tactic(auto, using(crate::proofs::Placing::placing))]
-fn call_at(places: &mut [Place], i: usize, call: PortCall)
-    ensures { ports_in places.new ≡ changed_at (called call) (ports_in places.old) i [] }
-{
-    if let Some((place, rest)) = places.split_first_mut() {
-        if i == 0 {
-            place.call(call);
-        } else {
-            call_at(rest, i - 1, call);
-        }
-    }
-}
-
-#[cycle(put)]
-#[tactic(auto, using(crate::proofs::Placing::placing))]
-fn put_at(places: &mut [Place], i: usize, path: &[u8], device: Option<Device>) -> Option<Device>
-    ensures before { result ≡ plugged_at (ports_in places.old) i path.now }
-    ensures after { ports_in places.new ≡ changed_at (put device) (ports_in places.old) i path.now }
-{
-    let (place, rest) = places.split_first_mut()?;
-    if i == 0 {
-        place.put_below(path, device)
-    } else {
-        put_at(rest, i - 1, path, device)
-    }
-}
-
-#[cycle(device_at)]
-#[tactic(auto, using(crate::proofs::Placing::placing))]
-fn device_at<'a>(places: &'a [Place], i: usize, path: &[u8]) -> Option<&'a Device>
-    ensures { option_copied result ≡ plugged_at (ports_in places.now) i path.now }
-{
-    let (place, rest) = places.split_first()?;
-    if i == 0 {
-        place.device_below(path)
-    } else {
-        device_at(rest, i - 1, path)
-    }
-}
-
 #[cycle(turn_off)]
 #[tactic(auto, using(crate::proofs::Placing::placing), unfolding(usb_port::specs::PortState::clear_row))]
 fn turn_off(places: &mut [Place])
@@ -210,19 +171,6 @@ fn turn_off(places: &mut [Place])
     if let Some((place, rest)) = places.split_first_mut() {
         clear(&mut place.port, PORT_POWER);
         turn_off(rest);
-    }
-}
-
-#[cycle(port_in)]
-#[tactic(auto, using(crate::proofs::Placing::placing))]
-fn port_in(places: &[Place], i: usize) -> Option<&Port>
-    ensures { option_copied result ≡ slice_get (row_of (ports_in places.now)) i }
-{
-    let (place, rest) = places.split_first()?;
-    if i == 0 {
-        Some(&place.port)
-    } else {
-        port_in(rest, i - 1)
     }
 }
 
@@ -259,10 +207,15 @@ impl Ports {
     }
 
     /// A port, counted from 0.
+    #[tactic(auto, using(crate::proofs::Routing::indexing))]
     pub(crate) fn port_at(&self, i: usize) -> Option<&Port>
         ensures { option_copied result ≡ slice_get (row_of self.now) i }
     {
-        port_in(self.places.as_slice(), i)
+        if i < self.places.len() {
+            Some(&self.places[i].port)
+        } else {
+            None
+        }
     }
 
     /// A call at the port of a number, counted from 1. PORT_RESET of a powered port with a device resets the device, whose
@@ -277,10 +230,13 @@ impl Ports {
     }
 
     /// A call at a port, counted from 0.
+    #[tactic(auto, using(crate::proofs::Routing::indexing))]
     pub(crate) fn call_at(&mut self, i: usize, call: PortCall)
         ensures { self.new ≡ changed_at (called call) self.old i [] }
     {
-        call_at(self.places.as_mut_slice(), i, call);
+        if i < self.places.len() {
+            self.places[i].call(call);
+        }
     }
 
     /// No port has power any more.
@@ -306,36 +262,47 @@ impl Ports {
         self.put(path, None)
     }
 
-    #[cycle(put)]
-    #[tactic(auto, using(crate::proofs::Placing::paths))]
     fn put(&mut self, path: &[u8], device: Option<Device>) -> Option<Device>
         ensures before { result ≡ device_there self.old path.now }
         ensures after { self.new ≡ changed (put device) self.old path.now }
     {
-        let (number, rest) = path.split_first()?;
-        if *number == 0 {
-            None
+        let mut device = device;
+        if self.put_at(path, &mut device) {
+            device
         } else {
-            put_at(
-                self.places.as_mut_slice(),
-                usize::from(*number - 1),
-                rest,
-                device,
-            )
+            None
+        }
+    }
+
+    /// The same with a place for both, and whether there is such a port.
+    #[cycle(put)]
+    #[tactic(auto, using(crate::proofs::Routing::routing))]
+    fn put_at(&mut self, path: &[u8], device: &mut Option<Device>) -> bool
+        ensures before { IsTrue result → device.new ≡ device_there self.old path.now }
+        ensures none { result ≡ false → device_there self.old path.now ≡ None }
+        ensures after { self.new ≡ changed (put device.old) self.old path.now }
+    {
+        match path.split_first() {
+            None => false,
+            Some((number, rest)) => {
+                let i = usize::from(*number);
+                i != 0 && i <= self.places.len() && self.places[i - 1].put_below(rest, device)
+            }
         }
     }
 
     /// The device at the port of a path; None where there is none.
     #[cycle(device_at)]
-    #[tactic(auto, using(crate::proofs::Placing::paths))]
+    #[tactic(auto, using(crate::proofs::Routing::routing))]
     pub fn device_at(&self, path: &[u8]) -> Option<&Device>
         ensures { option_copied result ≡ device_there self.now path.now }
     {
         let (number, rest) = path.split_first()?;
-        if *number == 0 {
+        let i = usize::from(*number);
+        if i == 0 || i > self.places.len() {
             None
         } else {
-            device_at(self.places.as_slice(), usize::from(*number - 1), rest)
+            self.places[i - 1].device_below(rest)
         }
     }
 

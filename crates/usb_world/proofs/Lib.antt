@@ -50,3 +50,5 @@ pub mod RefusedLawsCut
 pub mod RefusedLawsWorld
 pub mod RefusedLawsAlone
 pub mod Resting
+pub mod Routes
+pub mod RoutesKept

@@ -18,6 +18,7 @@ use Rattle.usb_world.specs.Live.{address_of, same_number, same_path}
 use Rattle.usb_world.specs.Touched.{is_left, way_rests, resets_at, reset_if}
 use Rattle.usb_device.specs.View.{forgotten_place}
 use Rattle.usb_world.specs.Passes.{passed, told, told_at, answer_at, after_attempt, heard_place, passed_place, deep_at, calls_on, IsTokenFor, IsDataOut, IsAckOut, IfOut, IsAttemptAt, pass_resets, attempt_resets, IsSettled, NobodyHolds, OneHolds, OneActs, heard_state}
+use Rattle.usb_world.specs.Alone.{OthersForgot}
 use Rattle.usb_world.proofs.Booleans.{no, both, and_of, decided}
 use Rattle.usb_world.proofs.Holders.{one_path}
 use Rattle.usb_world.proofs.PacketLaws.{packet_state, true_deep}
@@ -150,7 +151,7 @@ token_calls n (Whole Stall) s h d = refl
 token_calls n (Whole Pre) s h d = refl
 token_calls n Broken s h d = refl
 
-payload_calls : (c : Content) (s : State) → IsDataOut c → calls_on c s ≡ false
+pub payload_calls : (c : Content) (s : State) → IsDataOut c → calls_on c s ≡ false
 payload_calls (Whole (Token kind a e)) s h = elim h [ ]
 payload_calls (Whole (Payload t b)) s h = refl
 payload_calls (Whole Ack) s h = refl
@@ -160,7 +161,7 @@ payload_calls (Whole Stall) s h = refl
 payload_calls (Whole Pre) s h = refl
 payload_calls Broken s h = refl
 
-ack_calls : (c : Content) (s : State) → IsAckOut c → calls_on c s ≡ false
+pub ack_calls : (c : Content) (s : State) → IsAckOut c → calls_on c s ≡ false
 ack_calls (Whole (Token kind a e)) s h = elim h [ ]
 ack_calls (Whole (Payload t b)) s h = refl
 ack_calls (Whole Ack) s h = refl
@@ -193,10 +194,6 @@ nobody_answers n t d r is k s c =
 
 -- One device holds the address
 
--- no other device remembers anything
-abbrev OthersForgot : Ports → ℕ → List ℕ → Type 0
-OthersForgot k j p = (i : ℕ) (e : List ℕ) (t : State) → (same_number i j && same_path e p) ≡ false → state_at k i e ≡ Some t → t.memory ≡ Nothing
-
 same_self : (i : ℕ) → same_number i i ≡ true
 same_self zero = refl
 same_self (suc i) = same_self i
@@ -205,7 +202,7 @@ path_self : (p : List ℕ) → same_path p p ≡ true
 path_self [] = refl
 path_self (n ∷ p) = and_of (same_number n n) _ (same_self n) (path_self p)
 
-equal_same : (n x : ℕ) → (n == x) ≡ true → n ≡ x
+pub equal_same : (n x : ℕ) → (n == x) ≡ true → n ≡ x
 equal_same n x h = grind (arith, nat_tests)
 
 pub other_address : (n : ℕ) (k : Ports) (j : ℕ) (p : List ℕ) → OneHolds n k j p → (i : ℕ) (e : List ℕ) (t : State) → (same_number i j && same_path e p) ≡ false → state_at k i e ≡ Some t → reach_at k i e ≡ true
@@ -258,12 +255,12 @@ reset_forgot true (Some s) t c h = ap (λ x. x.memory) (sym (same_Some (reset_st
 reset_forgot false (Some s) t c h = ap (λ x. x.memory) (sym (same_Some s t h)) ∙ c s refl
 
 -- what one packet does then
-record Pass (o : Option Sent) (k : Ports) (j : ℕ) (p : List ℕ) : Type 0 where
-  place : place_at (passed o k) j p ≡ option_map (passed_place o (deep_at false p)) (place_at k j p)
-  on : reach_at (passed o k) j p ≡ true
-  answer : told o k ≡ told_at o (deep_at false p) (place_at k j p)
-  forgot : OthersForgot (passed o k) j p
-  others : (i : ℕ) (e : List ℕ) → (same_number i j && same_path e p) ≡ false → state_at (passed o k) i e ≡ option_map (reset_if (pass_resets o k i e)) (state_at k i e)
+pub record Pass (o : Option Sent) (k : Ports) (j : ℕ) (p : List ℕ) : Type 0 where
+  pub place : place_at (passed o k) j p ≡ option_map (passed_place o (deep_at false p)) (place_at k j p)
+  pub on : reach_at (passed o k) j p ≡ true
+  pub answer : told o k ≡ told_at o (deep_at false p) (place_at k j p)
+  pub forgot : OthersForgot (passed o k) j p
+  pub others : (i : ℕ) (e : List ℕ) → (same_number i j && same_path e p) ≡ false → state_at (passed o k) i e ≡ option_map (reset_if (pass_resets o k i e)) (state_at k i e)
 
 unreset : (o : Option State) → o ≡ option_map (reset_if false) o
 unreset None = refl
@@ -273,7 +270,7 @@ unpassed : (x : Option Place) (d : Bool) → x ≡ option_map (passed_place None
 unpassed None d = refl
 unpassed (Some x) d = refl
 
-one_pass : (o : Option Sent) (k : Ports) (j : ℕ) (p : List ℕ) → reach_at k j p ≡ true → OthersForgot k j p
+pub one_pass : (o : Option Sent) (k : Ports) (j : ℕ) (p : List ℕ) → reach_at k j p ≡ true → OthersForgot k j p
     → ((q : Sent) → o ≡ Some q → (i : ℕ) (e : List ℕ) (t : State) → (same_number i j && same_path e p) ≡ false → state_at k i e ≡ Some t → reach_at k i e ≡ true → calls_on q.content t ≡ false)
     → Pass o k j p
 one_pass None k j p on f c = record { place = unpassed (place_at k j p) (deep_at false p); on = on; answer = refl; forgot = f; others = λ i e d. unreset (state_at k i e) }

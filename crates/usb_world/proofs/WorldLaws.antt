@@ -222,13 +222,16 @@ reply_acks (One packet.Nak) m max = tt
 reply_acks (One packet.Stall) m max = tt
 reply_acks (One packet.Pre) m max = tt
 
-ack_goes : (a : Attempt) (d : Option Damage) (k : Ports) → IfOut IsAckOut (reply_out a d k)
+pub reply_goes : (a : Attempt) (d : Option Damage) (n : ℕ) (h : Heard) (m : Mark) (max : ℕ) → IfOut IsAckOut (goes_out a (marked_some d n a.pre (reply_of h m max)))
 unfolding marked_some marked IsSomeAck
-ack_goes a d k = go (reply_of (heard_in a d k) (mark_in a d k) a.max) (reply_acks (heard_in a d k) (mark_in a d k) a.max)
+reply_goes a d n h m max = go (reply_of h m max) (reply_acks h m max)
   where
-    go : (o : Option Packet) → IsSomeAck o → IfOut IsAckOut (goes_out a (marked_some d (place_of_answer a d + 1) a.pre o))
+    go : (o : Option Packet) → IsSomeAck o → IfOut IsAckOut (goes_out a (marked_some d n a.pre o))
     go None h = tt
-    go (Some p) h = sent_ack a.low a.pre (mark_of (harm_to d (place_of_answer a d + 1)) a.pre p) p h
+    go (Some p) h = sent_ack a.low a.pre (mark_of (harm_to d n) a.pre p) p h
+
+ack_goes : (a : Attempt) (d : Option Damage) (k : Ports) → IfOut IsAckOut (reply_out a d k)
+ack_goes a d k = reply_goes a d (place_of_answer a d + 1) (heard_in a d k) (mark_in a d k) a.max
 
 pub goes : (a : Attempt) (d : Option Damage) (k : Ports) → IsAttemptAt a.addr (token_out a d) (payload_out a d) (reply_out a d k)
 goes a d k = record { token = token_goes a d; payload = payload_goes a d; reply = ack_goes a d k }

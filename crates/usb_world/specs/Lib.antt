@@ -21,3 +21,4 @@ pub mod Devices
 pub mod PluggedAt
 pub mod Refused
 pub mod Resting
+pub mod Alone

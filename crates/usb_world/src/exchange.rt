@@ -1,8 +1,9 @@
 //! One attempt: the host's packets go to the devices, and their answers come together.
-ghost use Rattle.std.specs.Prelude.{◌≡◌, ◌≤◌, true, Some, IfOk, IfSome, OnOk, OnErr};
+ghost use Rattle.std.specs.Prelude.{◌≡◌, ◌≤◌, [], true, None, Some, IfOk, IfSome, IsOk, IsSome, OnOk, OnErr};
 ghost use Rattle.usb_packet.specs.Spelling.{HasFields};
-ghost use Rattle.usb_device.specs.Tree.{row_of};
-ghost use Rattle.usb_device.specs.Delivery.{figure, both, heard_of};
+ghost use Rattle.usb_device.specs.Tree.{row_of, device_there};
+ghost use Rattle.usb_device.specs.Delivery.{figure, both, heard_of, all_forgotten, has_loss};
+ghost use Rattle.usb_device.specs.Route.{address_by};
 ghost use Rattle.usb_world.specs.World.{IsAttempt, FitsMaximum};
 ghost use Rattle.usb_world.specs.Wire.{has_its_bit};
 ghost use Rattle.usb_world.specs.Exchange.{token_of, payload_of, answer_place, answer_mark, reply_of, outcome_of, exchange_in, ended_in, ports_in, goes_out, token_out, payload_out, sent_as, is_lost, clears_at};
@@ -10,6 +11,7 @@ ghost use Rattle.usb_world.specs.Passes.{IsSettled, passed, told};
 ghost use Rattle.usb_world.specs.Cut.{IsStopped};
 ghost use Rattle.usb_world.specs.Steps.{IsCut};
 ghost use Rattle.usb_world.specs.Answering.{heard_from};
+ghost use Rattle.usb_world.specs.Alone.{AloneAt, IsQuiet, KeptAt, is_whole, is_deep};
 
 use crate::damage::{Damage, Harm};
 use crate::wire::{Mark, Outgoing, flipped, harm_to, mark_of, marked, marked_some};
@@ -60,7 +62,6 @@ pub struct Exchange {
 /// Makes an attempt: the token, then the data, one of them; then what the host says to the answer.
 /// After it no device remembers a packet, also where memory was refused. That happens to the host's data alone: no sink grows
 /// at a token or at an ACK.
-#[tactic(auto, using(crate::proofs::Exchanges::over_row, crate::proofs::Exchanges::over_figure, crate::proofs::Exchanges::over_settled, crate::proofs::Exchanges::over_ports, crate::proofs::Refusals::over_cut))]
 pub fn make_exchange(
     roots: &mut Ports,
     attempt: &Attempt,
@@ -74,36 +75,116 @@ pub fn make_exchange(
     ensures ports { OnOk result (roots.new ≡ ports_in attempt.now damage roots.old) }
     ensures cut { OnErr result (IsCut attempt.now damage roots.old roots.new) }
 {
-    let made = send_packets(roots, attempt, damage);
-    roots.attempt_over();
+    let mut kept = false;
+    exchange_along(roots, &[], attempt, damage, &mut kept)
+}
+
+/// The same straight to the device at a path, where no other reachable device holds the address: the others have nothing of
+/// it, so it costs the same in a large tree as in a small one. The empty path stands for the whole tree. `kept` tells whether
+/// all addresses are known to be as they were.
+#[tactic(auto, using(crate::proofs::Exchanges::over_row, crate::proofs::Exchanges::over_figure, crate::proofs::Exchanges::over_settled, crate::proofs::Exchanges::over_ports, crate::proofs::Refusals::over_cut))]
+pub(crate) fn exchange_along(
+    roots: &mut Ports,
+    path: &[u8],
+    attempt: &Attempt,
+    damage: Option<Damage>,
+    kept: &mut bool,
+) -> Result<Exchange, AllocError>
+    requires attempt { IsAttempt attempt.now }
+    requires alone { AloneAt (token_out attempt.now damage) roots.old path.now }
+    ensures row { row_of roots.new ≡ row_of roots.old }
+    ensures figure { figure roots.new ≡ figure roots.old }
+    ensures settled { IsSettled roots.new }
+    ensures made { IfOk result (λ made. made ≡ exchange_in attempt.now damage roots.old) }
+    ensures ports { OnOk result (roots.new ≡ ports_in attempt.now damage roots.old) }
+    ensures cut { OnErr result (IsCut attempt.now damage roots.old roots.new) }
+    ensures kept { kept.new ≡ true → KeptAt attempt.now.addr roots.old roots.new path.now }
+{
+    let mut quiet = false;
+    let made = send_packets(roots, path, attempt, damage, &mut quiet);
+    let address = end_attempt(roots, path);
+    *kept = is_kept(&made, quiet, address, attempt.addr);
     made
+}
+
+/// Whether an attempt was made at which the device there asked nothing of its ports, and it has the address still.
+fn is_kept(made: &Result<Exchange, AllocError>, quiet: bool, left: Option<u8>, address: u8) -> bool
+    ensures made { result ≡ true → IsOk made.now }
+    ensures quiet { result ≡ true → quiet ≡ true }
+    ensures left { result ≡ true → left ≡ Some address }
+{
+    match (made, left) {
+        (Ok(_), Some(left)) => quiet && left == address,
+        _ => false,
+    }
+}
+
+/// Every device forgets what it remembers: all of them, or the one at a path where no other remembers anything; then its
+/// address is told.
+fn end_attempt(roots: &mut Ports, path: &[u8]) -> Option<u8>
+    requires { AloneAt None roots.old path.now }
+    ensures over { roots.new ≡ all_forgotten roots.old }
+    ensures address { IsSome result → result ≡ address_by (device_there roots.old path.now) }
+{
+    if is_whole(path) {
+        roots.attempt_over();
+        None
+    } else {
+        roots.forget_at(path)
+    }
+}
+
+/// Whether a path stands for the whole tree.
+fn is_whole(path: &[u8]) -> bool
+    ensures { result ≡ is_whole path.now }
+{
+    match path {
+        [] => true,
+        [_, ..] => false,
+    }
+}
+
+/// Whether a path leads below a device.
+fn is_deep(path: &[u8]) -> bool
+    ensures { result ≡ is_deep path.now }
+{
+    match path {
+        [] => false,
+        [_] => false,
+        [_, _, ..] => true,
+    }
 }
 
 fn send_packets(
     roots: &mut Ports,
+    path: &[u8],
     attempt: &Attempt,
     damage: Option<Damage>,
+    quiet: &mut bool,
 ) -> Result<Exchange, AllocError>
-    requires { IsAttempt attempt.now }
+    requires attempt { IsAttempt attempt.now }
+    requires alone { AloneAt (token_out attempt.now damage) roots.old path.now }
     ensures row { row_of roots.new ≡ row_of roots.old }
     ensures figure { figure roots.new ≡ figure roots.old }
+    ensures quiet { OnOk result (quiet.new ≡ true → IsQuiet (payload_out attempt.now damage) (passed (token_out attempt.now damage) roots.old) path.now) }
     ensures made { IfOk result (λ made. made ≡ exchange_in attempt.now damage roots.old) }
     ensures ports { OnOk result (roots.new ≡ ended_in attempt.now damage roots.old) }
+    ensures alone { AloneAt None roots.new path.now }
     ensures stopped { OnErr result (IsStopped (payload_out attempt.now damage) (passed (token_out attempt.now damage) roots.old) roots.new) }
 {
     let token = marked(damage, 1, attempt.pre, token_of(attempt));
     let mut heard = usb_device::Heard::NoAnswer;
-    send(roots, &goes_out(attempt, &token), &mut heard)?;
+    send(roots, path, &goes_out(attempt, &token), &mut heard)?;
     let payload = marked_some(damage, 2, attempt.pre, payload_of(attempt));
     let data = some_goes_out(attempt, &payload);
-    let change_cleared = clears_change(roots, &data);
-    send(roots, &data, &mut heard)?;
+    let change_cleared = clears_change(roots, path, &data, quiet);
+    send(roots, path, &data, &mut heard)?;
     let answer = Heard::from(heard);
     let place = answer_place(&payload);
     let answer_mark = answer_mark(harm_to(damage, place), &answer);
     let reply = reply_of(&answer, answer_mark, attempt.max);
     let reply = marked_some(damage, place + 1, attempt.pre, reply);
-    let address_lost = send_reply(roots, attempt, &reply)?;
+    let address_lost = send_reply(roots, path, attempt, &reply)?;
     Ok(Exchange {
         token,
         payload,
@@ -202,46 +283,85 @@ fn some_goes_out(attempt: &Attempt, packet: &Option<Outgoing>) -> Option<Sent>
     }
 }
 
-/// Sends what goes out; what is answered joins what was heard before.
+/// Sends what goes out, down the tree or straight to the device at a path where it is for no other; what is answered joins
+/// what was heard before.
 fn send(
     roots: &mut Ports,
+    path: &[u8],
     sent: &Option<Sent>,
     heard: &mut usb_device::Heard,
 ) -> Result<(), AllocError>
+    requires { AloneAt sent.now roots.old path.now }
     ensures row { row_of roots.new ≡ row_of roots.old }
     ensures figure { figure roots.new ≡ figure roots.old }
     ensures heard { OnOk result (heard.new ≡ both heard.old (heard_of (told sent.now roots.old))) }
     ensures ports { OnOk result (roots.new ≡ passed sent.now roots.old) }
+    ensures alone { AloneAt None roots.new path.now }
     ensures stopped { OnErr result (IsStopped sent.now roots.old roots.new) }
 {
     match sent {
         None => Ok(()),
-        Some(sent) => roots.deliver_after(sent, heard),
+        Some(sent) if is_whole(path) => roots.deliver_after(sent, heard),
+        Some(sent) => roots.deliver_at(path, sent, is_deep(path), heard),
     }
 }
 
-/// Whether a hub will clear a change of connection of one of its ports at what goes out.
-fn clears_change(roots: &Ports, sent: &Option<Sent>) -> bool
-    ensures { result ≡ clears_at sent.now roots.now }
+/// Whether a hub will clear a change of connection of one of its ports at what goes out. `quiet` tells whether the device at
+/// the path is known to ask nothing of its ports.
+#[tactic(auto, using(crate::proofs::Routes::route_clears))]
+fn clears_change(roots: &Ports, path: &[u8], sent: &Option<Sent>, quiet: &mut bool) -> bool
+    requires { AloneAt sent.now roots.now path.now }
+    ensures clears { result ≡ clears_at sent.now roots.now }
+    ensures quiet { quiet.new ≡ true → IsQuiet sent.now roots.now path.now }
 {
+    *quiet = false;
     match sent {
+        None => {
+            *quiet = true;
+            false
+        }
+        Some(sent) if is_whole(path) => roots.clears_change(sent),
+        Some(sent) => match roots.call_at_path(path, sent, is_deep(path)) {
+            None => {
+                *quiet = true;
+                false
+            }
+            Some(clears) => clears,
+        },
+    }
+}
+
+/// Whether a device awaits the ACK that would end its SET_ADDRESS.
+#[tactic(auto, using(crate::proofs::Routes::route_loss))]
+fn has_loss(roots: &Ports, path: &[u8]) -> bool
+    requires { AloneAt None roots.now path.now }
+    ensures { result ≡ has_loss roots.now }
+{
+    if is_whole(path) {
+        return roots.has_address_loss();
+    }
+    match roots.device_at(path) {
         None => false,
-        Some(sent) => roots.clears_change(sent),
+        Some(device) => device.awaits_address(),
     }
 }
 
 /// Sends the host's ACK, where there is one, and tells whether a device did not read it that awaits it to take its address.
+#[tactic(auto, using(crate::proofs::Routes::alone_less))]
 fn send_reply(
     roots: &mut Ports,
+    path: &[u8],
     attempt: &Attempt,
     reply: &Option<Outgoing>,
 ) -> Result<bool, AllocError>
     requires fields { IfSome reply.now (λ s. HasFields s.packet) }
     requires bit { IfSome reply.now (λ s. has_its_bit s.mark s.packet ≡ true) }
+    requires alone { AloneAt (goes_out attempt.now reply.now) roots.old path.now }
     ensures row { row_of roots.new ≡ row_of roots.old }
     ensures figure { figure roots.new ≡ figure roots.old }
     ensures lost { IfOk result (λ lost. lost ≡ is_lost reply.now (goes_out attempt.now reply.now) roots.old) }
     ensures ports { OnOk result (roots.new ≡ passed (goes_out attempt.now reply.now) roots.old) }
+    ensures alone { AloneAt None roots.new path.now }
     ensures stopped { OnErr result (IsStopped (goes_out attempt.now reply.now) roots.old roots.new) }
 {
     let Some(packet) = reply else {
@@ -250,12 +370,12 @@ fn send_reply(
     let sent = goes_out(attempt, packet);
     let mut unanswered = usb_device::Heard::NoAnswer;
     if let Mark::Flipped(_) = packet.mark {
-        let awaited = roots.has_address_loss();
-        send(roots, &sent, &mut unanswered)?;
+        let awaited = has_loss(roots, path);
+        send(roots, path, &sent, &mut unanswered)?;
         Ok(awaited)
     } else {
-        send(roots, &sent, &mut unanswered)?;
-        Ok(roots.has_address_loss())
+        send(roots, path, &sent, &mut unanswered)?;
+        Ok(has_loss(roots, path))
     }
 }
 

@@ -15,6 +15,7 @@ mod plan;
 mod plugged_laws;
 mod refused_laws;
 mod request_laws;
+mod route;
 mod types;
 mod way_laws;
 mod wire;
@@ -45,6 +46,7 @@ pub use request_laws::{
     a_port_rests_or_is_pending, change_bits_rest, hub_reset_gives_address_zero,
     pending_may_be_told_at_each_port, port_requests_spare_the_rest, requests_that_ask_nothing,
 };
+pub use route::{Hints, make_exchange_by};
 pub use types::{Attempt, BusFault, Outcome};
 pub use way_laws::ways_of_paths;
 pub use wire::{Mark, Outgoing, damage_of};

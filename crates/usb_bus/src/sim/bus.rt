@@ -1,9 +1,9 @@
 //! The simulated bus as the host sees it.
-ghost use Rattle.std.specs.Prelude.{◌≡◌, ◌≢◌, ◌+◌, ◌-◌, ◌<◌, ◌≤◌, ◌∷◌, [], length, slice_index_or, true, None, IsSome, OnOk, IfOk, IfErr};
+ghost use Rattle.std.specs.Prelude.{◌≡◌, ◌≢◌, ◌+◌, ◌-◌, ◌<◌, ◌≤◌, ◌∷◌, [], length, slice_index_or, true, false, None, IsSome, OnOk, IfOk, IfErr};
 ghost use Rattle.usb_port.specs.PortState.{off, status_of};
 ghost use Rattle.usb_device.specs.Tree.{row_of};
 ghost use Rattle.usb_world.specs.World.{Attempted, Spends, AnswerFits, IsAttempt, IsRootPort, IsSetFeature, IsClearFeature};
-ghost use Rattle.usb_device.specs.Delivery.{is_clearing};
+ghost use Rattle.usb_device.specs.Delivery.{held, is_clearing, is_twice};
 ghost use Rattle.usb_world.specs.Steps.{AttemptFails, Left, SetsRoot, ClearsRoot, after, attempt as attempt_step, root_call, with_attempt, ready, outcome_in, fault_of};
 ghost use Rattle.usb_world.specs.Passes.{IsSettled};
 ghost use Rattle.usb_world.specs.Sane.{IsSane};
@@ -17,7 +17,7 @@ use super::lines::put_attempt;
 use crate::{Attempt, Bus, BusFault, Outcome};
 use std::io::Write;
 use usb_device::{PortCall, Ports};
-use usb_world::{damage_of, make_exchange, outcome_of};
+use usb_world::{damage_of, make_exchange_by, outcome_of};
 
 impl<W: Write> Bus for SimBus<W> {
     ghost use Rattle.usb_bus.specs.Sim.{world_of, writer_of};
@@ -78,6 +78,7 @@ impl<W: Write> SimBus<W> {
         ensures world { world_of self.new ≡ after (root_call call port) (world_of self.old) }
         ensures writer { writer_of self.new ≡ writer_of self.old }
     {
+        self.single = false;
         self.roots.call(port, call);
         self.losses = self.losses.after_clearing(clears_connection_change(call));
     }
@@ -100,11 +101,19 @@ impl<W: Write> SimBus<W> {
         ensures trace { result ≡ Err TraceFailed → has_failed (writer_of self.new) ≡ true }
     {
         self.take_due_events()?;
-        self.shared |= self.roots.has_shared_address();
+        let shared = is_shared(&self.roots, self.single);
+        self.shared |= shared;
+        self.single = !shared;
         let damage = damage_of(&self.damages, self.attempts + 1);
         // Where memory is refused, some devices had the host's data and others had not: the fault stands before they go.
         self.fault = Some(BusFault::Memory);
-        let exchange = make_exchange(&mut self.roots, attempt, damage)?;
+        let exchange = make_exchange_by(
+            &mut self.roots,
+            &mut self.hints,
+            &mut self.single,
+            attempt,
+            damage,
+        )?;
         // All went: only the line can fail.
         self.fault = Some(BusFault::TraceFailed);
         self.attempts += 1;
@@ -116,6 +125,14 @@ impl<W: Write> SimBus<W> {
         self.fault = None;
         Ok(outcome_of(exchange.answer, exchange.answer_mark, attempt.max))
     }
+}
+
+/// Whether two reachable devices hold one address, where it is not known that none do.
+fn is_shared(roots: &Ports, single: bool) -> bool
+    requires { single ≡ true → is_twice (held roots.now) ≡ false }
+    ensures { result ≡ is_twice (held roots.now) }
+{
+    !single && roots.has_shared_address()
 }
 
 /// The status of the port of a number, counted from 1.

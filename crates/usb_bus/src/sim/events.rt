@@ -92,6 +92,7 @@ impl<W: Write> SimBus<W> {
             return Ok(None);
         };
         self.fault = Some(BusFault::Memory);
+        self.single = false;
         carry_out(self.alloc, &mut self.roots, &self.devices, &event.action)?;
         let event = self.left.pop_front().unwrap();
         self.taken += 1;

@@ -1,12 +1,15 @@
-use Rattle.std.proofs.Common.{◌∙◌, ◌+◌, Option, subst, ap, ap₂}
+use Rattle.std.proofs.Common.{◌∙◌, ◌+◌, Option, sym, subst, ap, ap₂}
 use Rattle.usb_device.specs.declared.delivery.Sent.{Sent}
 use Rattle.usb_world.specs.Wire.{harm_to, marked, marked_some}
-use Rattle.usb_world.specs.Exchange.{answer_mark, clears_at}
+use Rattle.usb_world.specs.Exchange.{answer_mark, clears_at, goes_out}
 use Rattle.usb_device.specs.Delivery.{both, heard_of}
-use Rattle.usb_world.specs.Passes.{passed, told}
+use Rattle.usb_world.specs.declared.wire.Outgoing.{Outgoing}
+use Rattle.usb_world.specs.Passes.{passed, told, IfOut, IsDataOut, IsAckOut}
 use Rattle.usb_world.specs.Cut.{IsStopped}
 use Rattle.usb_world.proofs.Exchanges.{Makes, made_exchange, made_ports}
 use Rattle.usb_world.proofs.Refusals.{token_not_stopped, reply_not_stopped}
+use Rattle.usb_world.proofs.Routes.{alone_data, alone_ack}
+use Rattle.usb_world.proofs.WorldLaws.{goes, reply_goes}
 use Rattle.usb_world.proofs.exchange.send_packets.Goals as goal
 
 makes : (c : goal.In_ok-address_lost) → Makes c.args.attempt.now c.args.damage c.args.roots.now
@@ -32,7 +35,7 @@ makes c =
       token_heard = c.in_ok-send.ensures.heard ∙ ap (λ q. heard_of (told q c.args.roots.now)) c.goes_out.ensures;
       token_passed = c.in_ok-send.ensures.ports ∙ ap (λ q. passed q c.args.roots.now) c.goes_out.ensures;
       payload = c.marked_some-payload.ensures.value ∙ ap (marked_some damage 2 a.pre) c.payload_of.ensures.value;
-      cleared = c.clears_change-change_cleared.ensures ∙ ap (λ q. clears_at q c.send.new.roots) c.some_goes_out-data.ensures;
+      cleared = c.clears_change-change_cleared.ensures.clears ∙ ap (λ q. clears_at q c.send.new.roots) c.some_goes_out-data.ensures;
       payload_heard = c.in_ok-send-2.ensures.heard ∙ ap (λ q. both c.send.new.heard (heard_of (told q c.send.new.roots))) c.some_goes_out-data.ensures;
       payload_passed = c.in_ok-send-2.ensures.ports ∙ ap (λ q. passed q c.send.new.roots) c.some_goes_out-data.ensures;
       answer = c.from-answer.ensures;
@@ -69,3 +72,23 @@ returns-in_err-address_lost-clause-stopped c =
     let reply = c.marked_some-reply.ensures.value ∙ ap (λ o. marked_some c.args.damage n a.pre o) c.reply_of-reply.ensures.value in
     absurd (reply_not_stopped a c.args.damage n c.from-answer.result c.answer_mark-answer_mark.result a.max c.marked_some-reply.result c.send-2.new.roots c.send_reply.new.roots reply
     c.in_err-address_lost.ensures.stopped)
+
+pub clears_change-change_cleared-requires : goal.clears_change-change_cleared-requires
+clears_change-change_cleared-requires c =
+    let a = c.args.attempt.now in
+    let payload = c.marked_some-payload.ensures.value ∙ ap (marked_some c.args.damage 2 a.pre) c.payload_of.ensures.value in
+    alone_data _ _ _ c.send.ensures.alone (subst (IfOut IsDataOut) (sym (c.some_goes_out-data.ensures ∙ ap (goes_out a) payload)) (goes a c.args.damage c.args.roots.now).payload)
+
+pub send-requires-2 : goal.send-requires-2
+send-requires-2 c =
+    let a = c.args.attempt.now in
+    let payload = c.marked_some-payload.ensures.value ∙ ap (marked_some c.args.damage 2 a.pre) c.payload_of.ensures.value in
+    alone_data _ _ _ c.send.ensures.alone (subst (IfOut IsDataOut) (sym (c.some_goes_out-data.ensures ∙ ap (goes_out a) payload)) (goes a c.args.damage c.args.roots.now).payload)
+
+pub send_reply-requires-clause-alone : goal.send_reply-requires-clause-alone
+send_reply-requires-clause-alone c =
+    let a = c.args.attempt.now in
+    let n = c.answer_place-place.result + 1 in
+    let reply = c.marked_some-reply.ensures.value ∙ ap (λ o. marked_some c.args.damage n a.pre o) c.reply_of-reply.ensures.value in
+    let P : Option Outgoing → Type 0 = λ o. IfOut IsAckOut (goes_out a o) in
+    alone_ack _ _ _ c.send-2.ensures.alone (subst P (sym reply) (reply_goes a c.args.damage n c.from-answer.result c.answer_mark-answer_mark.result a.max))

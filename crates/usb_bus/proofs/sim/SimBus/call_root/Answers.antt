@@ -32,4 +32,5 @@ invariant_of-self g c =
       lost = subst P (sym c.after_clearing-self.ensures) (losses_cleared _ s.attempts s.damages.items s.losses s.lost);
       at_limit = s.at_limit;
       marked = s.marked;
+      lone = λ e. absurd (cc e);
     }

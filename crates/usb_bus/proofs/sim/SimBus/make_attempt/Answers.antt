@@ -43,11 +43,11 @@ counted-self-requires-clause-run g c =
 pub invariant_of-self : goal.invariant_of-self
 invariant_of-self g c =
     let mid = c.take_due_events.new.self in
-    let size : length (row_of c.make_exchange.new.roots) ≡ length (row_of mid.roots) = ap length c.make_exchange.ensures.row in
+    let size : length (row_of c.make_exchange_by.new.roots) ≡ length (row_of mid.roots) = ap length c.make_exchange_by.ensures.row in
     record {
       some_root = omega (arith, size, mid.some_root);
       few_roots = omega (arith, size, mid.few_roots);
-      settled = c.make_exchange.ensures.settled;
+      settled = c.make_exchange_by.ensures.settled;
       sane = λ none. absurd (cc none);
       ruled = mid.ruled;
       planned = mid.planned;
@@ -59,6 +59,7 @@ invariant_of-self g c =
       lost = mid.lost;
       at_limit = λ e. absurd (cc e);
       marked = mid.marked ∙ ap tells_failure c.in_ok-take_due_events.ensures.fault;
+      lone = c.make_exchange_by.ensures.single;
     }
 
 pub invariant_of-self-2 : goal.invariant_of-self-2
@@ -67,7 +68,7 @@ invariant_of-self-2 g c =
     let a = c.args.attempt.now in
     let x = c.in_ok-exchange.exchange in
     let spent = c.take_due_events.ensures.spends in
-    let size : length (row_of c.make_exchange.new.roots) ≡ length (row_of mid.roots) = ap length c.in_ok-exchange.ensures.row in
+    let size : length (row_of c.make_exchange_by.new.roots) ≡ length (row_of mid.roots) = ap length c.in_ok-exchange.ensures.row in
     let damage = c.damage_of-damage.ensures ∙ ap (λ (l : List Damage). damage_of l (mid.attempts + 1)) c.deref.ensures.value in
     let lost : x.address_lost ≡ lost_in a (damage_of mid.damages.items (mid.attempts + 1)) mid.roots =
     ap (λ (y : Exchange). y.address_lost) c.in_ok-exchange.ensures.made ∙ lost_of a c.damage_of-damage.result mid.roots ∙ ap (λ (d : Option Damage). lost_in a d mid.roots) damage in
@@ -88,6 +89,7 @@ invariant_of-self-2 g c =
           (losses_after mid.damages.items mid.attempts a mid.roots x.change_cleared x.address_lost mid.losses c.requires.attempt mid.settled lost mid.lost);
       at_limit = λ e. absurd (cc e);
       marked = c.in_ok-put_attempt.ensures.unmarked ∙ mid.marked ∙ ap tells_failure c.in_ok-take_due_events.ensures.fault;
+      lone = c.in_ok-exchange.ensures.single;
     }
 
 pub invariant_of-self-in-Break-branch-3 : goal.invariant_of-self-in-Break-branch-3
@@ -96,7 +98,7 @@ invariant_of-self-in-Break-branch-3 g c =
     let a = c.args.attempt.now in
     let x = c.in_ok-exchange.exchange in
     let spent = c.take_due_events.ensures.spends in
-    let size : length (row_of c.make_exchange.new.roots) ≡ length (row_of mid.roots) = ap length c.in_ok-exchange.ensures.row in
+    let size : length (row_of c.make_exchange_by.new.roots) ≡ length (row_of mid.roots) = ap length c.in_ok-exchange.ensures.row in
     let damage = c.damage_of-damage.ensures ∙ ap (λ (l : List Damage). damage_of l (mid.attempts + 1)) c.deref.ensures.value in
     let lost : x.address_lost ≡ lost_in a (damage_of mid.damages.items (mid.attempts + 1)) mid.roots =
     ap (λ (y : Exchange). y.address_lost) c.in_ok-exchange.ensures.made ∙ lost_of a c.damage_of-damage.result mid.roots ∙ ap (λ (d : Option Damage). lost_in a d mid.roots) damage in
@@ -117,6 +119,7 @@ invariant_of-self-in-Break-branch-3 g c =
           (losses_after mid.damages.items mid.attempts a mid.roots x.change_cleared x.address_lost mid.losses c.requires.attempt mid.settled lost mid.lost);
       at_limit = λ e. absurd (cc e);
       marked = c.in_err-put_attempt.ensures.marked;
+      lone = c.in_ok-exchange.ensures.single;
     }
 
 pub returns-clause-exact : goal.returns-clause-exact
@@ -128,11 +131,11 @@ returns-clause-exact g c =
     let made : x ≡ made_in a (world_of mid) = c.in_ok-exchange.ensures.made ∙ ap (λ (d : Option Damage). exchange_in a d mid.roots) damage in
     let ports = c.in_ok-exchange.ensures.ports ∙ ap (λ (d : Option Damage). ports_in a d mid.roots) damage in
     let world : Losses → Bool → World
-    = λ l s. record (world_of mid) { roots = c.make_exchange.new.roots; attempts = mid.attempts + 1; losses = l; shared = mid.shared || s } in
+    = λ l s. record (world_of mid) { roots = c.make_exchange_by.new.roots; attempts = mid.attempts + 1; losses = l; shared = mid.shared || s } in
     let sound = c.in_ok-take_due_events.ensures.fault in
-    without_fault (world c.counted-self.result c.has_shared_address.result) _ None
-    (ap₂ world (c.counted-self.ensures ∙ ap (counted x.address_lost) c.after_clearing.ensures) c.has_shared_address.ensures
-    ∙ attempt_made a (world_of c.args.self.now) (world_of mid) x c.make_exchange.new.roots c.in_ok-take_due_events.ensures.exact made ports)
+    without_fault (world c.counted-self.result c.is_shared-shared.result) _ None
+    (ap₂ world (c.counted-self.ensures ∙ ap (counted x.address_lost) c.after_clearing.ensures) c.is_shared-shared.ensures
+    ∙ attempt_made a (world_of c.args.self.now) (world_of mid) x c.make_exchange_by.new.roots c.in_ok-take_due_events.ensures.exact made ports)
     sound refl
 
 pub returns-clause-outcome : goal.returns-clause-outcome
@@ -191,13 +194,13 @@ returns-in_err-exchange-clause-left g c =
     let mid = c.take_due_events.new.self in
     let a = c.args.attempt.now in
     let damage = c.damage_of-damage.ensures ∙ ap (λ (l : List Damage). damage_of l (mid.attempts + 1)) c.deref.ensures.value in
-    let cut = subst (λ (d : Option Damage). IsCut a d mid.roots c.make_exchange.new.roots) damage c.in_err-exchange.ensures.cut in
+    let cut = subst (λ (d : Option Damage). IsCut a d mid.roots c.make_exchange_by.new.roots) damage c.in_err-exchange.ensures.cut in
     let world : Bool → World
-    = λ s. record (world_of mid) { roots = c.make_exchange.new.roots; shared = mid.shared || s } in
+    = λ s. record (world_of mid) { roots = c.make_exchange_by.new.roots; shared = mid.shared || s } in
     let sound = c.in_ok-take_due_events.ensures.fault in
-    left_at_packet c.from_residual-in_err-exchange.result a (world_of c.args.self.now) (world_of mid) _ c.make_exchange.new.roots
+    left_at_packet c.from_residual-in_err-exchange.result a (world_of c.args.self.now) (world_of mid) _ c.make_exchange_by.new.roots
     c.from_residual-in_err-exchange.ensures.1 c.in_ok-take_due_events.ensures.exact cut
-    (without_fault (world c.has_shared_address.result) _ None (ap world c.has_shared_address.ensures) sound refl)
+    (without_fault (world c.is_shared-shared.result) _ None (ap world c.is_shared-shared.ensures) sound refl)
 
 pub returns-in_err-put_attempt-clause-left : goal.returns-in_err-put_attempt-clause-left
 returns-in_err-put_attempt-clause-left g c =
@@ -208,12 +211,12 @@ returns-in_err-put_attempt-clause-left g c =
     let made : x ≡ made_in a (world_of mid) = c.in_ok-exchange.ensures.made ∙ ap (λ (d : Option Damage). exchange_in a d mid.roots) damage in
     let ports = c.in_ok-exchange.ensures.ports ∙ ap (λ (d : Option Damage). ports_in a d mid.roots) damage in
     let world : Losses → Bool → World
-    = λ l s. record (world_of mid) { roots = c.make_exchange.new.roots; attempts = mid.attempts + 1; losses = l; shared = mid.shared || s } in
+    = λ l s. record (world_of mid) { roots = c.make_exchange_by.new.roots; attempts = mid.attempts + 1; losses = l; shared = mid.shared || s } in
     let sound = c.in_ok-take_due_events.ensures.fault in
     left_at_line c.from_residual-in_err-put_attempt.result a (world_of c.args.self.now) _ c.from_residual-in_err-put_attempt.ensures.1
-    (without_fault (world c.counted-self.result c.has_shared_address.result) _ None
-    (ap₂ world (c.counted-self.ensures ∙ ap (counted x.address_lost) c.after_clearing.ensures) c.has_shared_address.ensures
-    ∙ attempt_made a (world_of c.args.self.now) (world_of mid) x c.make_exchange.new.roots c.in_ok-take_due_events.ensures.exact made ports)
+    (without_fault (world c.counted-self.result c.is_shared-shared.result) _ None
+    (ap₂ world (c.counted-self.ensures ∙ ap (counted x.address_lost) c.after_clearing.ensures) c.is_shared-shared.ensures
+    ∙ attempt_made a (world_of c.args.self.now) (world_of mid) x c.make_exchange_by.new.roots c.in_ok-take_due_events.ensures.exact made ports)
     sound refl)
 
 pub returns-in_err-take_due_events-clause-left : goal.returns-in_err-take_due_events-clause-left

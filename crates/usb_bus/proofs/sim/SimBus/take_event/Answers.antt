@@ -100,6 +100,7 @@ invariant_of-self-2 g c =
       lost = s.lost;
       at_limit = λ e. absurd (cc e);
       marked = c.in_ok-put_action.ensures.unmarked ∙ s.marked ∙ ap tells_failure c.requires.sound;
+      lone = λ e. absurd (cc e);
     }
 
 pub invariant_of-self-in-Break-branch-2 : goal.invariant_of-self-in-Break-branch-2
@@ -129,6 +130,7 @@ invariant_of-self-in-Break-branch-2 g c =
       lost = s.lost;
       at_limit = λ e. absurd (cc e);
       marked = c.in_err-put_action.ensures.marked;
+      lone = λ e. absurd (cc e);
     }
 
 pub returns-in_err-put_action-clause-spends : goal.returns-in_err-put_action-clause-spends

@@ -1,0 +1,186 @@
+//! A packet that goes straight to one device, by its path.
+ghost use Rattle.std.specs.Prelude.{◌≡◌, ◌&&◌, OnOk, OnErr};
+ghost use Rattle.usb_device.specs.Tree.{changed, changed_in, device_there, plugged_in};
+ghost use Rattle.usb_device.specs.Places.{stood};
+ghost use Rattle.usb_device.specs.View.{state_in, reach_in};
+ghost use Rattle.usb_device.specs.Delivery.{both, heard_from, effect_of};
+ghost use Rattle.usb_device.specs.Route.{sent_in, answer_by, RefusedBy, asked_call, call_by, forgotten_in, address_by, holds_by, is_held_at};
+
+use crate::calls::PortCall;
+use crate::delivery::{Heard, Sent};
+use crate::device::Device;
+use crate::effect::Effect;
+use crate::ports::{Place, Ports};
+use arrayvec::ArrayVec;
+use std::alloc::AllocError;
+
+impl Ports {
+    /// A packet at the device at a path alone, which is `deep` where it stands on a port of a hub; what is heard of its
+    /// answer joins what was heard before. An error: memory is refused, and nothing changes.
+    #[cycle(deliver_at)]
+    #[tactic(auto, using(crate::proofs::Routing::routing))]
+    pub fn deliver_at(
+        &mut self,
+        path: &[u8],
+        sent: &Sent,
+        deep: bool,
+        heard: &mut Heard,
+    ) -> Result<(), AllocError>
+        ensures heard { OnOk result (heard.new ≡ both heard.old (heard_from (answer_by sent.now deep (device_there self.old path.now)))) }
+        ensures ok { OnOk result (self.new ≡ changed (sent_in sent.now deep) self.old path.now) }
+        ensures err { OnErr result (self.new ≡ self.old) }
+        ensures refused { OnErr result (RefusedBy sent.now deep (device_there self.old path.now)) }
+    {
+        let Some((number, rest)) = path.split_first() else {
+            return Ok(());
+        };
+        let i = usize::from(*number);
+        if i == 0 || i > self.places.len() {
+            return Ok(());
+        }
+        self.places[i - 1].deliver_at(rest, sent, deep, heard)
+    }
+
+    /// What the device at a path asks of its ports at a packet: nothing, or a call, and then whether it clears a change of
+    /// connection (11.24.2.2). It is asked before the packet is delivered.
+    pub fn call_at_path(&self, path: &[u8], sent: &Sent, deep: bool) -> Option<bool>
+        ensures { result ≡ call_by sent.now deep (device_there self.now path.now) }
+    {
+        match self.device_at(path) {
+            None => None,
+            Some(device) => asked_call(device.effect(sent, deep)),
+        }
+    }
+
+    /// The device at a path forgets a token that waits for data and data that wait for an ACK, and its address is told.
+    #[cycle(forget_at)]
+    #[tactic(auto, using(crate::proofs::Routing::routing))]
+    pub fn forget_at(&mut self, path: &[u8]) -> Option<u8>
+        ensures address { result ≡ address_by (device_there self.old path.now) }
+        ensures after { self.new ≡ changed forgotten_in self.old path.now }
+    {
+        let (number, rest) = path.split_first()?;
+        let i = usize::from(*number);
+        if i == 0 || i > self.places.len() {
+            return None;
+        }
+        self.places[i - 1].forget_at(rest)
+    }
+
+    /// Whether packets reach a device at a path, and it holds the address.
+    #[cycle(is_held_at)]
+    #[tactic(auto, using(crate::proofs::Routing::routing))]
+    pub fn is_held_at(&self, path: &[u8], address: u8) -> bool
+        ensures { result ≡ is_held_at address self.now path.now }
+    {
+        match path.split_first() {
+            None => false,
+            Some((number, rest)) => {
+                let i = usize::from(*number);
+                i != 0 && i <= self.places.len() && self.places[i - 1].is_held_at(rest, address)
+            }
+        }
+    }
+
+    /// Looks for a device that packets reach and that holds the address, and puts its path behind `path`. It is a guess for
+    /// `is_held_at`: a path of more than eight numbers is not found.
+    #[cycle(find)]
+    pub fn find(&self, address: u8, path: &mut ArrayVec<u8, 8>) -> bool {
+        find_in(self.places.as_slice(), 1, address, path)
+    }
+}
+
+#[cycle(find)]
+fn find_in(places: &[Place], number: u8, address: u8, path: &mut ArrayVec<u8, 8>) -> bool {
+    match places.split_first() {
+        None => false,
+        Some((place, rest)) => {
+            place.find(number, address, path)
+                || find_in(rest, number.saturating_add(1), address, path)
+        }
+    }
+}
+
+impl Place {
+    #[cycle(deliver_at)]
+    #[tactic(auto, using(crate::proofs::Placing::paths))]
+    fn deliver_at(
+        &mut self,
+        path: &[u8],
+        sent: &Sent,
+        deep: bool,
+        heard: &mut Heard,
+    ) -> Result<(), AllocError>
+        ensures heard { OnOk result (heard.new ≡ both heard.old (heard_from (answer_by sent.now deep (plugged_in (stood self.old) path.now)))) }
+        ensures ok { OnOk result (stood self.new ≡ changed_in (sent_in sent.now deep) (stood self.old) path.now) }
+        ensures err { OnErr result (self.new ≡ self.old) }
+        ensures refused { OnErr result (RefusedBy sent.now deep (plugged_in (stood self.old) path.now)) }
+    {
+        match &mut self.device {
+            None => Ok(()),
+            Some(device) => match path {
+                [] => device.take_sent(sent, deep, heard),
+                [_, ..] => device.ports.deliver_at(path, sent, deep, heard),
+            },
+        }
+    }
+
+    #[cycle(forget_at)]
+    #[tactic(auto, using(crate::proofs::Placing::paths))]
+    fn forget_at(&mut self, path: &[u8]) -> Option<u8>
+        ensures address { result ≡ address_by (plugged_in (stood self.old) path.now) }
+        ensures after { stood self.new ≡ changed_in forgotten_in (stood self.old) path.now }
+    {
+        let device = self.device.as_mut()?;
+        match path {
+            [] => {
+                device.own.attempt_over();
+                Some(device.address())
+            }
+            [_, ..] => device.ports.forget_at(path),
+        }
+    }
+
+    #[cycle(is_held_at)]
+    fn is_held_at(&self, path: &[u8], address: u8) -> bool
+        ensures { result ≡ (reach_in (stood self.now) path.now && holds_by address (state_in (stood self.now) path.now)) }
+    {
+        match &self.device {
+            Some(device) if self.port.is_enabled() => match path {
+                [] => device.address() == address,
+                [_, ..] => device.ports.is_held_at(path, address),
+            },
+            _ => false,
+        }
+    }
+}
+
+impl Place {
+    #[cycle(find)]
+    fn find(&self, number: u8, address: u8, path: &mut ArrayVec<u8, 8>) -> bool {
+        match &self.device {
+            Some(device) if self.port.is_enabled() => {
+                if path.try_push(number).is_err() {
+                    return false;
+                }
+                if device.address() == address || device.ports.find(address, path) {
+                    return true;
+                }
+                let _ = path.pop();
+                false
+            }
+            _ => false,
+        }
+    }
+}
+
+fn asked_call(effect: Effect) -> Option<bool>
+    ensures { result ≡ asked_call effect }
+{
+    match effect {
+        Effect::Leaves => None,
+        Effect::Calls(PortCall::ClearConnectionChange, _) => Some(true),
+        Effect::Calls(_, _) => Some(false),
+        Effect::PortsOff => Some(false),
+    }
+}

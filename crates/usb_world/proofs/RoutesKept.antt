@@ -1,0 +1,237 @@
+-- An attempt that goes straight to one device: whose addresses stay.
+use Rattle.std.proofs.Common.{◌≡◌, ℕ, zero, suc, if◌then◌else◌, Bool, true, false, List, [], ◌∷◌, ◌++◌, Option, None, Some, is_some, option_map, Result, Ok, Err, IsOk, IsSome, OnOk, refl, ap, sym, subst, ◌∙◌}
+use Rattle.std.proofs.lemmas.Option.{same_Some}
+use Rattle.usb_port.specs.PortState.{PortState}
+use Rattle.usb_device.specs.declared.delivery.Sent.{Sent}
+use Rattle.usb_device.specs.declared.effect.Effect.{Effect}
+use Rattle.usb_device.specs.declared.effect.Effect.TheVariants.{Leaves, Calls, PortsOff}
+use Rattle.usb_device.specs.Rows.{State, forgotten}
+use Rattle.usb_device.specs.Tree.{Ports, ended, vacant, taken, Place, empty, full, before, acted, changed_at, plugged_at, device_there, reach_at, place_at}
+use Rattle.usb_device.specs.Delivery.{answer_of, effect_of, all_forgotten, held, is_twice}
+use Rattle.usb_device.specs.Route.{sent_in, asked_call, call_by, forgotten_in, address_by}
+use Rattle.usb_device.proofs.Placing.{changed_at-head}
+use Rattle.usb_world.specs.declared.types.Attempt.{Attempt}
+use Rattle.usb_world.specs.declared.damage.Damage.{Damage}
+use Rattle.usb_world.specs.Live.{address_of}
+use Rattle.usb_world.specs.Passes.{passed, deep_at, IsSettled, OneHolds}
+use Rattle.usb_world.specs.Exchange.{token_out, payload_out, reply_out, ended_in, ports_in}
+use Rattle.usb_world.specs.Alone.{Alone, IsWayTo, IsQuiet, KeptAt}
+use Rattle.usb_world.proofs.Booleans.{no, both}
+use Rattle.usb_world.proofs.PassLaws.{CalmOut, token_out as token_calm, ack_out as ack_calm}
+use Rattle.usb_world.proofs.OneDevice.{stands, state_stands}
+use Rattle.usb_world.proofs.OneHolderPlace.{asked_of}
+use Rattle.usb_world.proofs.Routes.{others_packet, others_rest, others_forget, plugged_on, plugged_place, alone_token, alone_data, alone_ack, alone_passed}
+use Rattle.usb_world.proofs.WorldLaws.{goes}
+
+-- ---- changes at one place
+
+changed_at-same : (k : Ports) (j : ℕ) (p : List ℕ) → changed_at (λ x. x) k j p ≡ k
+unfolding changed_at
+changed_at-same ended j p = refl
+changed_at-same (vacant b k) zero [] = refl
+changed_at-same (vacant b k) zero (n ∷ p) = refl
+changed_at-same (vacant b k) (suc j) p = ap (vacant b) (changed_at-same k j p)
+changed_at-same (taken b s a k) zero [] = refl
+changed_at-same (taken b s a k) zero (zero ∷ p) = refl
+changed_at-same (taken b s a k) zero (suc j ∷ p) = ap (λ x. taken b s x k) (changed_at-same a j p)
+changed_at-same (taken b s a k) (suc j) p = ap (taken b s a) (changed_at-same k j p)
+
+changed_at-twice : (f g : Place → Place) (k : Ports) (j : ℕ) (p : List ℕ) → changed_at f (changed_at g k j p) j p ≡ changed_at (λ x. f (g x)) k j p
+unfolding changed_at
+changed_at-twice f g ended j p = refl
+changed_at-twice f g (vacant b k) zero [] = changed_at-head f (g (empty b)) k []
+changed_at-twice f g (vacant b k) zero (n ∷ p) = refl
+changed_at-twice f g (vacant b k) (suc j) p = ap (vacant b) (changed_at-twice f g k j p)
+changed_at-twice f g (taken b s a k) zero [] = changed_at-head f (g (full b s a)) k []
+changed_at-twice f g (taken b s a k) zero (zero ∷ p) = refl
+changed_at-twice f g (taken b s a k) zero (suc j ∷ p) = ap (λ x. taken b s x k) (changed_at-twice f g a j p)
+changed_at-twice f g (taken b s a k) (suc j) p = ap (taken b s a) (changed_at-twice f g k j p)
+
+place_at-first : (q : Place) (k : Ports) → place_at (before q k) 0 [] ≡ Some q
+unfolding place_at
+place_at-first (empty b) k = refl
+place_at-first (full b s a) k = refl
+
+place_at-changed : (f : Place → Place) (k : Ports) (j : ℕ) (p : List ℕ) → place_at (changed_at f k j p) j p ≡ option_map f (place_at k j p)
+unfolding place_at changed_at
+place_at-changed f ended j p = refl
+place_at-changed f (vacant b k) zero [] = place_at-first (f (empty b)) k
+place_at-changed f (vacant b k) zero (n ∷ p) = refl
+place_at-changed f (vacant b k) (suc j) p = place_at-changed f k j p
+place_at-changed f (taken b s a k) zero [] = place_at-first (f (full b s a)) k
+place_at-changed f (taken b s a k) zero (zero ∷ p) = refl
+place_at-changed f (taken b s a k) zero (suc j ∷ p) = place_at-changed f a j p
+place_at-changed f (taken b s a k) (suc j) p = place_at-changed f k j p
+
+-- a device there with another state of the same address: all addresses are as they were
+address_same : (b : PortState) (s t : State) (a k : Ports) → t.registers.address ≡ s.registers.address → held (taken b t a k) ≡ held (taken b s a k)
+unfolding held
+address_same b s t a k e = ap (λ n. if b.enable then n ∷ (held a ++ held k) else held k) e
+
+held-changed : (f : Place → Place) (k : Ports) (j : ℕ) (p : List ℕ) (b : PortState) (s t : State) (a : Ports) → place_at k j p ≡ Some (full b s a) → f (full b s a) ≡ full b t a
+    → t.registers.address ≡ s.registers.address → held (changed_at f k j p) ≡ held k
+unfolding held place_at changed_at
+held-changed f ended j p b s t a h e w = no (ap is_some h)
+held-changed f (vacant c k) zero [] b s t a h e w = no (ap (λ x. is_some (stands x)) h)
+held-changed f (vacant c k) zero (n ∷ p) b s t a h e w = no (ap is_some h)
+held-changed f (vacant c k) (suc j) p b s t a h e w = held-changed f k j p b s t a h e w
+held-changed f (taken c u x k) zero [] b s t a h e w =
+    let same : full c u x ≡ full b s a = same_Some (full c u x) (full b s a) h in
+    ap (λ y. held (before (f y) k)) same ∙ ap (λ y. held (before y k)) e ∙ address_same b s t a k w ∙ ap (λ y. held (before y k)) (sym same)
+held-changed f (taken c u x k) zero (zero ∷ p) b s t a h e w = no (ap is_some h)
+held-changed f (taken c u x k) zero (suc j ∷ p) b s t a h e w =
+    ap (λ y. if c.enable then u.registers.address ∷ (y ++ held k) else held k) (held-changed f x j p b s t a h e w)
+held-changed f (taken c u x k) (suc j) p b s t a h e w =
+    ap (λ y. if c.enable then u.registers.address ∷ (held x ++ y) else y) (held-changed f k j p b s t a h e w)
+
+-- ---- one packet
+
+abbrev step_in : Option Sent → Bool → Place → Place
+step_in None = λ deep x. x
+step_in (Some q) = λ deep x. sent_in q deep x
+
+abbrev own_after : Option Sent → Bool → State → Ports → State
+own_after None deep s a = s
+own_after (Some q) deep s a = (answer_of q deep s a).1
+
+step_calm : (o : Option Sent) (deep : Bool) (b : PortState) (s : State) (a : Ports) → asked_of o deep s ≡ Leaves → step_in o deep (full b s a) ≡ full b (own_after o deep s a) a
+step_calm None deep b s a h = refl
+step_calm (Some q) deep b s a h = ap (λ e. full b (answer_of q deep s a).1 (acted e a)) h
+
+passed_one : (o : Option Sent) (k : Ports) (j : ℕ) (p : List ℕ) → Alone o k j p → passed o k ≡ changed_at (step_in o (deep_at false p)) k j p
+passed_one None k j p h = sym (changed_at-same k j p)
+passed_one (Some q) k j p h = others_packet q false k j p h.on (others_rest q k j p h)
+
+calm_asks : (o : Option Sent) → CalmOut o → (deep : Bool) (s : State) → asked_of o deep s ≡ Leaves
+calm_asks None c deep s = refl
+calm_asks (Some q) c deep s = c deep s
+
+leaves_of : (e : Effect) → asked_call e ≡ None → e ≡ Leaves
+leaves_of Leaves h = refl
+leaves_of (Calls c i) h = no (sym (ap is_some h))
+leaves_of PortsOff h = no (sym (ap is_some h))
+
+quiet_asks : (o : Option Sent) (k : Ports) (j : ℕ) (p : List ℕ) (b : PortState) (s : State) (a : Ports) → IsQuiet o k (suc j ∷ p) → place_at k j p ≡ Some (full b s a) → asked_of o (deep_at false p) s ≡ Leaves
+quiet_asks None k j p b s a h e = refl
+quiet_asks (Some q) k j p b s a h e =
+    leaves_of (effect_of q (deep_at false p) s) (sym (ap (λ x. call_by q (deep_at false p) (plugged_on x)) e) ∙ ap (call_by q (deep_at false p)) (plugged_place k j p) ∙ h)
+
+-- ---- an attempt
+
+pub record Stands (k : Ports) (j : ℕ) (p : List ℕ) : Type 0 where
+  pub port : PortState
+  pub own : State
+  pub below : Ports
+  pub at : place_at k j p ≡ Some (full port own below)
+
+reached_stands : (k : Ports) (j : ℕ) (p : List ℕ) → reach_at k j p ≡ true → Stands k j p
+unfolding reach_at place_at
+reached_stands ended j p h = no h
+reached_stands (vacant b k) zero p h = no h
+reached_stands (vacant b k) (suc j) p h = let x : _ = reached_stands k j p h in record { port = x.port; own = x.own; below = x.below; at = x.at }
+reached_stands (taken b s a k) zero [] h = record { port = b; own = s; below = a; at = refl }
+reached_stands (taken b s a k) zero (zero ∷ p) h = no h
+reached_stands (taken b s a k) zero (suc j ∷ p) h = let x : _ = reached_stands a j p (both b.enable (reach_at a j p) h).1 in record { port = x.port; own = x.own; below = x.below; at = x.at }
+reached_stands (taken b s a k) (suc j) p h = let x : _ = reached_stands k j p h in record { port = x.port; own = x.own; below = x.below; at = x.at }
+
+module _ (a : Attempt) (d : Option Damage) (k : Ports) (j : ℕ) (p : List ℕ) (settled : IsSettled k) (holds : OneHolds a.addr k j p) where
+  abbrev deep : Bool
+  deep = deep_at false p
+
+  abbrev t : Option Sent
+  t = token_out a d
+
+  abbrev q : Option Sent
+  q = payload_out a d
+
+  abbrev r : Option Sent
+  r = reply_out a d k
+
+  one : Alone t k j p
+  one = alone_token a d k (suc j ∷ p) settled holds
+
+  two : Alone q (passed t k) j p
+  two = alone_data q (passed t k) (suc j ∷ p) (alone_passed t k (suc j ∷ p) one) (goes a d k).payload
+
+  three : Alone r (passed q (passed t k)) j p
+  three = alone_ack r (passed q (passed t k)) (suc j ∷ p) (alone_passed q (passed t k) (suc j ∷ p) two) (goes a d k).reply
+
+  four : Alone None (ended_in a d k) j p
+  four = alone_passed r (passed q (passed t k)) (suc j ∷ p) three
+
+  abbrev till_data : Place → Place
+  till_data x = step_in q deep (step_in t deep x)
+
+  abbrev till_end : Place → Place
+  till_end x = step_in r deep (till_data x)
+
+  data_is : passed q (passed t k) ≡ changed_at till_data k j p
+  data_is = passed_one q (passed t k) j p two ∙ ap (λ x. changed_at (step_in q deep) x j p) (passed_one t k j p one) ∙ changed_at-twice (step_in q deep) (step_in t deep) k j p
+
+  end_is : ended_in a d k ≡ changed_at till_end k j p
+  end_is = passed_one r (passed q (passed t k)) j p three ∙ ap (λ x. changed_at (step_in r deep) x j p) data_is ∙ changed_at-twice (step_in r deep) till_data k j p
+
+  all_is : ports_in a d k ≡ changed_at (λ x. forgotten_in (till_end x)) k j p
+  unfolding ports_in
+  all_is = others_forget (ended_in a d k) j p four.on four.forgot ∙ ap (λ x. changed_at forgotten_in x j p) end_is ∙ changed_at-twice forgotten_in till_end k j p
+
+  here : Stands k j p
+  here = reached_stands k j p holds.on
+
+  abbrev first : State
+  first = own_after t deep here.own here.below
+
+  abbrev second : State
+  second = own_after q deep first here.below
+
+  abbrev third : State
+  third = own_after r deep second here.below
+
+  first_place : step_in t deep (full here.port here.own here.below) ≡ full here.port first here.below
+  first_place = step_calm t deep here.port here.own here.below (calm_asks t (token_calm a.addr t (goes a d k).token) deep here.own)
+
+  first_at : place_at (passed t k) j p ≡ Some (full here.port first here.below)
+  first_at =
+      ap (λ x. place_at x j p) (passed_one t k j p one) ∙ place_at-changed (step_in t deep) k j p ∙ ap (option_map (step_in t deep)) here.at ∙ ap (λ x. Some x) first_place
+
+  module _ (quiet : IsQuiet q (passed t k) (suc j ∷ p)) where
+    end_place : till_end (full here.port here.own here.below) ≡ full here.port third here.below
+    end_place =
+        ap (λ x. step_in r deep (step_in q deep x)) first_place
+        ∙ ap (step_in r deep) (step_calm q deep here.port first here.below (quiet_asks q (passed t k) j p here.port first here.below quiet first_at))
+        ∙ step_calm r deep here.port second here.below (calm_asks r (ack_calm r (goes a d k).reply) deep second)
+
+    end_at : place_at (ended_in a d k) j p ≡ Some (full here.port third here.below)
+    end_at = ap (λ x. place_at x j p) end_is ∙ place_at-changed till_end k j p ∙ ap (option_map till_end) here.at ∙ ap (λ x. Some x) end_place
+
+    here_address : here.own.registers.address ≡ a.addr
+    here_address = same_Some here.own.registers.address a.addr (sym (ap (option_map address_of) (sym (state_stands k j p) ∙ ap stands here.at)) ∙ holds.at)
+
+    addresses_stay : address_by (plugged_at (ended_in a d k) j p) ≡ Some a.addr → held (ports_in a d k) ≡ held k
+    addresses_stay e =
+        let address : third.registers.address ≡ a.addr =
+        same_Some third.registers.address a.addr (sym (ap (λ x. address_by (plugged_on x)) end_at) ∙ ap address_by (plugged_place (ended_in a d k) j p) ∙ e) in
+        ap held all_is
+        ∙ held-changed (λ x. forgotten_in (till_end x)) k j p here.port here.own (forgotten third) here.below here.at (ap forgotten_in end_place) (address ∙ sym here_address)
+
+-- where nothing was asked of ports, and the device has the address still
+held_still : (a : Attempt) (d : Option Damage) (k : Ports) (p : List ℕ) → IsQuiet (payload_out a d) (passed (token_out a d) k) p → address_by (device_there (ended_in a d k) p) ≡ Some a.addr
+    → KeptAt a.addr k (ports_in a d k) p
+held_still a d k [] q e = no (ap is_some e)
+held_still a d k (zero ∷ p) q e = no (ap is_some e)
+held_still a d k (suc j ∷ p) q e = λ settled o. addresses_stay a d k j p settled o q e
+
+-- the same, of what the code tells
+pub kept_at : {A E : Type 0} (r : Result A E) (a : Attempt) (d : Option Damage) (k m n : Ports) (p : List ℕ) (quiet : Bool) (left : Option ℕ) → IsOk r → quiet ≡ true → left ≡ Some a.addr
+    → OnOk r (quiet ≡ true → IsQuiet (payload_out a d) (passed (token_out a d) k) p) → OnOk r (m ≡ ended_in a d k) → n ≡ all_forgotten m → (IsSome left → left ≡ address_by (device_there m p))
+    → KeptAt a.addr k n p
+unfolding ports_in
+kept_at (Ok x) a d k m n p quiet left ok still own asks e over at =
+    let told : address_by (device_there m p) ≡ Some a.addr = sym (at (subst IsSome (sym own) refl)) ∙ own in
+    subst (λ y. KeptAt a.addr k y p) (sym (over ∙ ap all_forgotten e)) (held_still a d k p (asks still) (ap (λ x. address_by (device_there x p)) (sym e) ∙ told))
+kept_at (Err x) a d k m n p quiet left ok still own asks e over at = no ok
+
+pub single_still : (n : ℕ) (k m : Ports) (p : List ℕ) → IsSettled k → IsWayTo n k p → KeptAt n k m p → is_twice (held m) ≡ false
+single_still n k m [] s w kept = absurd kept
+single_still n k m (zero ∷ p) s w kept = absurd kept
+single_still n k m (suc j ∷ p) s w kept = ap is_twice (kept s w) ∙ w.single
