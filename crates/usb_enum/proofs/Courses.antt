@@ -3,12 +3,15 @@ use Rattle.std.proofs.Common.{◌≡◌, ℕ, List, Option, None, Some, Result, 
 use Rattle.usb_world.specs.declared.types.Attempt.{Attempt}
 use Rattle.usb_world.specs.declared.types.BusFault.{BusFault}
 use Rattle.usb_world.specs.declared.types.Outcome.{Outcome}
-use Rattle.usb_world.specs.Steps.{AnyStep, Course, here, attempt, root_call, after}
+use Rattle.usb_world.specs.PlanData.{PlanData, IsPlan}
+use Rattle.usb_world.specs.PluggedAt.{AtPorts}
+use Rattle.usb_world.specs.Steps.{Step, AnyStep, Course, here, attempt, root_call, after, opening}
 use Rattle.usb_world.specs.World.{World}
-use Rattle.usb_world.proofs.Between.{between_course}
+use Rattle.usb_world.proofs.Between.{between_course, between_opening}
+use Rattle.usb_world.proofs.WorldLaws.{course_joined, course_wider}
 use Rattle.usb_transaction.proofs.Trails.{course_then}
 use Rattle.usb_bus.specs.Traced.{Attempts, Traced, still, attempted, called, WentOn}
-use Rattle.usb_enum.specs.Present.{IsInOrder}
+use Rattle.usb_enum.specs.Present.{IsInOrder, IsOrderly, IsRegular}
 
 -- the bus was at work, and these were its steps
 record AtWork (old new : World) : Type 0 where
@@ -40,5 +43,29 @@ traced_course (called c port before) h =
 pub went_sound : (n : ℕ) (old new : World) {t s : Option (List ℕ)} → WentOn n old t new s → new.fault ≡ None → old.fault ≡ None
 went_sound n old new went h = (traced_course went.traced h).sound
 
+pub went_course : (n : ℕ) (old new : World) {t s : Option (List ℕ)} → WentOn n old t new s → new.fault ≡ None → Course AnyStep old new
+went_course n old new went h = (traced_course went.traced h).course
+
+-- what is in order stays so
+
+pub orderly_on : {K : Step → World → Type 0} {old new : World} → IsOrderly old → Course K old new → IsOrderly new
+orderly_on was course = (
+  between_course course was.0,
+  record { plan = was.1.plan; is = was.1.is; paths = was.1.paths; course = course_joined was.1.course (course_wider (λ s w k. tt) course) },
+)
+
+pub traced_in_order : {old : World} {t : Option (List ℕ)} {new : World} {s : Option (List ℕ)} → Traced old t new s → IsInOrder old → IsInOrder new
+traced_in_order traced order h = let work = traced_course traced h in orderly_on (order work.sound) work.course
+
 pub went_in_order : (n : ℕ) (old new : World) {t s : Option (List ℕ)} → WentOn n old t new s → IsInOrder old → IsInOrder new
-went_in_order n old new went order h = let work = traced_course went.traced h in between_course work.course (order work.sound)
+went_in_order n old new went = traced_in_order went.traced
+
+pub went_regular : (n : ℕ) (old new : World) {t s : Option (List ℕ)} → WentOn n old t new s → IsRegular old → IsRegular new
+went_regular n old new went regular h = let work = traced_course went.traced h in between_course work.course (regular work.sound)
+
+pub regular_order : {w : World} → IsInOrder w → IsRegular w
+regular_order order none = (order none).0
+
+-- as it was before anything came
+pub opening_in_order : (plan : PlanData) → IsPlan plan → AtPorts plan.events → IsInOrder (opening plan)
+opening_in_order plan is paths none = (between_opening plan is.devices.ruled, record { plan = plan; is = is; paths = paths; course = here (opening plan) })

@@ -1,15 +1,19 @@
 -- How an enumeration ends: who holds which address then.
-use Rattle.std.proofs.Common.{◌≡◌, ◌≢◌, ℕ, Bool, true, false, List, None, Some, Result, Ok, Err, IsErr, if◌then◌else◌, refl, sym, subst, ◌∙◌, arith}
+use Rattle.std.proofs.Common.{◌≡◌, ◌≢◌, ◌⊎◌, inl, inr, ℕ, Bool, true, false, List, Option, None, Some, Result, Ok, Err, IsErr, if◌then◌else◌, refl, ap, sym, subst, ◌∙◌, arith}
 use Rattle.usb_world.specs.Addresses.{after_taking}
-use Rattle.usb_world.specs.Live.{same_path, is_way}
+use Rattle.usb_device.specs.Rows.{State}
+use Rattle.usb_device.specs.Spec.{Spec}
+use Rattle.usb_device.specs.View.{state_there}
+use Rattle.usb_world.specs.Live.{is_way, pend}
 use Rattle.usb_world.specs.World.{World}
 use Rattle.usb_world.proofs.Booleans.{no}
+use Rattle.usb_bus.specs.Traced.{WentOn}
 use Rattle.usb_resources.specs.Pool as pool
-use Rattle.usb_resources.specs.Pool.{Addresses, IsTaken, HasAddresses}
+use Rattle.usb_resources.specs.Pool.{Addresses, IsFull, IsTaken, HasAddresses}
 use Rattle.usb_pipe.specs.declared.fault.PipeFault.{PipeFault}
 use Rattle.usb_address.specs.Claims.{Claims, Free, cleared}
 use Rattle.usb_address.specs.Owned.{Owned, OwnedBut, Enumerating, TillFault}
-use Rattle.usb_address.proofs.Resetting.{same_way, owned_as}
+use Rattle.usb_address.proofs.Resetting.{owned_as}
 use Rattle.usb_address.proofs.States.{begins}
 use Rattle.usb_hub.specs.declared.port.HubPort.{HubPort}
 use Rattle.usb_hub.specs.Addresses.{IsAt, Bares}
@@ -21,20 +25,21 @@ use Rattle.usb_enum.specs.declared.finding.Finding.{Finding}
 use Rattle.usb_enum.specs.declared.finding.Finding.TheVariants.{Device, Refused}
 use Rattle.usb_enum.specs.declared.stop.Stop.{Stop}
 use Rattle.usb_enum.specs.declared.stop.Stop.TheVariants as stop
-use Rattle.usb_enum.specs.Addresses.{IsSpare, Within, Takes, EndsOwned, Ends, KeepsEnumerated}
-use Rattle.usb_enum.specs.Found.{GivesUp, IsOwn, IsTruthful}
-use Rattle.usb_enum.specs.Present.{AtPath, Finds, IsInOrder}
+use Rattle.usb_enum.specs.Addresses.{IsSpare, Within, Takes, OnlyCalls, AtPort, EndsOwned, Ends, KeepsEnumerated}
+use Rattle.usb_enum.specs.Described.{IsRight}
+use Rattle.usb_enum.specs.Fair.{FaultsFor, HubPends, IsFairAt, PendsOr, Stops, StopsFor}
+use Rattle.usb_enum.specs.Frames.{OnlyAt}
+use Rattle.usb_enum.specs.Found.{Begins, Closes, Disables, GivesUp, IsFair, IsOwn, IsTruthful, Places, Warrants}
+use Rattle.usb_enum.specs.Places.{HasEmptyPorts, IsOccupied, IsPlaced}
+use Rattle.usb_enum.specs.Present.{AtPath, Finds, IsInOrder, IsRegular, Reaches}
 use Rattle.usb_enum.specs.Stop.{at_port}
 use Rattle.usb_enum.proofs.Enumerations.{till_weaker, having, at_taking}
+use Rattle.usb_enum.proofs.Courses.{went_sound}
+use Rattle.usb_enum.proofs.Fairness.{fair_before, fair_then, pends_on}
+use Rattle.usb_enum.proofs.Frames.{but_taken}
+use Rattle.usb_enum.proofs.Reaching.{occupied_on}
 
 -- Claims at the port
-
-but_taken : (f : Claims) (p : List ℕ) (a : ℕ) (x : List ℕ) → is_way p x ≡ false → after_taking f p a x ≡ f x
-but_taken f p a x off = split (same_path p x) refl
-  where
-    split : (same : Bool) → same_path p x ≡ same → (if same then Some a else f x) ≡ f x
-    split true e = no (sym off ∙ same_way p x e)
-    split false e = refl
 
 cleared_taken : (f : Claims) (p : List ℕ) (a : ℕ) → Free f p → (x : List ℕ) → cleared (after_taking f p a) p x ≡ f x
 cleared_taken f p a free x = split (is_way p x) refl
@@ -89,6 +94,9 @@ none_true port addresses tier supply stop old mid new result gives = record { tr
 same_found : (a b : Accepted) → (let r : Result Finding EnumFault = Ok (Device a) in r ≡ Ok (Device b)) → a ≡ b
 same_found a b e = cc
 
+device_same : (a b : Accepted) → Device a ≡ Device b → a ≡ b
+device_same a b e = cc
+
 -- The addresses that are taken
 
 pub zero_untaken : (addresses : Addresses) → HasAddresses addresses → IsTaken addresses 0 → ⊥
@@ -115,8 +123,8 @@ module _ (port : HubPort) (addresses : Addresses) (address : ℕ) (zero_is : IsT
   first : (f : Claims) (p : List ℕ) (w : World) → IsSpare f port p address → TillFault (Owned f) w → TillFault (Enumerating f p address) w
   first f p w is t = till_weaker (Owned f) (Enumerating f p address) w (begins f p address w is.free is.none) t
 
-  pub enumerated : (old new : World) (device : Accepted) → device.address ≡ address → Takes port address old new → KeepsEnumerated port addresses old (Ok (Device device)) new
-  enumerated old new device same takes = record { ends = ends }
+  pub enumerated : (old new : World) (device : Accepted) → device.address ≡ address → Takes port address old new → OnlyCalls port address old new → KeepsEnumerated port addresses old (Ok (Device device)) new
+  enumerated old new device same takes calls = record { ends = ends; only = only }
     where
       ends : (f : Claims) (p : List ℕ) → IsAt f port p → Free f p → ((x : List ℕ) (a : ℕ) → f x ≡ Some a → IsTaken addresses a) → TillFault (Owned f) old
           → TillFault (Owned (after_taking f p device.address)) new
@@ -124,8 +132,13 @@ module _ (port : HubPort) (addresses : Addresses) (address : ℕ) (zero_is : IsT
           let is = spare f p at bare claimed in
           rw same (takes.took f p is (first f p old is t))
 
-  pub given_up : (old mid new : World) (result : Result Finding EnumFault) → Within port address old mid → Ends port address mid result new → KeepsEnumerated port addresses old result new
-  given_up old mid new result within ended = record { ends = ends }
+      only : (f : Claims) (p : List ℕ) → IsAt f port p → Free f p → ((x : List ℕ) (a : ℕ) → f x ≡ Some a → IsTaken addresses a) → TillFault (Owned f) old → new.fault ≡ None → OnlyAt p old new
+      only f p there bare claimed t none =
+          let is = spare f p there bare claimed in
+          calls.at f p is (first f p old is t) none
+
+  pub given_up : (old mid new : World) (result : Result Finding EnumFault) → Within port address old mid → Ends port address mid result new → OnlyCalls port address old new → KeepsEnumerated port addresses old result new
+  given_up old mid new result within ended calls = record { ends = ends; only = only }
     where
       ends : (f : Claims) (p : List ℕ) → IsAt f port p → Free f p → ((x : List ℕ) (a : ℕ) → f x ≡ Some a → IsTaken addresses a) → TillFault (Owned f) old
           → EndsOwned f p result new
@@ -133,11 +146,103 @@ module _ (port : HubPort) (addresses : Addresses) (address : ℕ) (zero_is : IsT
           let is = spare f p at bare claimed in
           ended.ends f p is (within.stays f p is (first f p old is t))
 
+      only : (f : Claims) (p : List ℕ) → IsAt f port p → Free f p → ((x : List ℕ) (a : ℕ) → f x ≡ Some a → IsTaken addresses a) → TillFault (Owned f) old → new.fault ≡ None → OnlyAt p old new
+      only f p there bare claimed t none =
+          let is = spare f p there bare claimed in
+          calls.at f p is (first f p old is t) none
+
   pub found_true : (tier supply : ℕ) (old new : World) (device : Accepted) → Finds (IsOwn tier supply device) port address old new → IsTruthful port addresses tier supply old (Ok (Device device)) new
   found_true tier supply old new device finds = record { truth = truth }
     where
-      truth : (f : Claims) (p : List ℕ) → IsAt f port p → Free f p → ((x : List ℕ) (a : ℕ) → f x ≡ Some a → IsTaken addresses a) → TillFault (Owned f) old → IsInOrder old
+      truth : (f : Claims) (p : List ℕ) → IsAt f port p → Free f p → ((x : List ℕ) (a : ℕ) → f x ≡ Some a → IsTaken addresses a) → TillFault (Owned f) old → IsRegular old
           → (other : Accepted) → (let r : Result Finding EnumFault = Ok (Device device) in r ≡ Ok (Device other)) → AtPath (IsOwn tier supply other) p new
       truth f p at bare claimed t order other e =
           let is = spare f p at bare claimed in
           subst (λ x. AtPath (IsOwn tier supply x) p new) (same_found device other e) (finds.found f p is (first f p old is t) order)
+
+  -- What is found is there
+
+  pub device_placed : (old new : World) (device : Accepted) → Reaches port address old new
+      → ((f : Claims) (p : List ℕ) → IsSpare f port p address → TillFault (Enumerating f p address) old → IsInOrder old → IsOccupied old p → new.fault ≡ None → HasEmptyPorts p device.hub new)
+      → Places port addresses old (Ok (Device device)) new
+  device_placed old new device reaches ports = record { placed = placed }
+    where
+      same : (finding : Finding) → (let r : Result Finding EnumFault = Ok (Device device) in r ≡ Ok finding) → Device device ≡ finding
+      same finding e = cc
+
+      placed : (f : Claims) (p : List ℕ) → Begins f port p addresses old → IsOccupied old p → new.fault ≡ None → (finding : Finding)
+          → (let r : Result Finding EnumFault = Ok (Device device) in r ≡ Ok finding) → IsPlaced p finding new
+      placed f p start occupied none finding e =
+          let is = spare f p start.at start.free start.taken in
+          let t = first f p old is start.owned in
+          subst (λ x. IsPlaced p x new) (same finding e) (record {
+            there = reaches.reached f p is t start.order occupied none;
+            below = λ other found. subst (λ (d : Accepted). HasEmptyPorts p d.hub new) (device_same device other found) (ports f p is t start.order occupied none);
+          })
+
+  pub refused_placed : (last : Stop) (n : ℕ) (old mid new : World) (result : Result Finding EnumFault) {a b : Option (List ℕ)} → AtPort port address old mid → WentOn n mid a new b → Disables port address mid result new
+      → GivesUp port last mid result new → Places port addresses old result new
+  refused_placed last n old mid new result at went disables gives = record { placed = placed }
+    where
+      placed : (f : Claims) (p : List ℕ) → Begins f port p addresses old → IsOccupied old p → new.fault ≡ None → (finding : Finding) → result ≡ Ok finding → IsPlaced p finding new
+      placed f p start occupied none finding e =
+          let is = spare f p start.at start.free start.taken in
+          let t = first f p old is start.owned in
+          record {
+            there = disables.there f p is (at.within.stays f p is t) (occupied_on p (at.only.at f p is t (went_sound n mid new went none)).spares occupied) finding e;
+            below = λ device found. elim (gives_none port last mid new result device gives (e ∙ ap Ok found)) [ ];
+          }
+
+  -- What is found is warranted
+
+  fair_begun : (f : Claims) (p : List ℕ) (old new : World) → IsFair f port p addresses old new → IsFairAt f port p address old new
+  fair_begun f p old new fair =
+      let is = spare f p fair.begins.at fair.begins.free fair.begins.taken in
+      record { spare = is; held = first f p old is fair.begins.owned; order = fair.begins.order; occupied = fair.occupied; server = fair.server; few = fair.few; kept = fair.kept; working = fair.working }
+
+  zero_begun : (f : Claims) (p : List ℕ) (old new : World) → IsFair f port p addresses old new → TillFault (Enumerating f p 0) old
+  zero_begun f p old new fair =
+      let is = spare f p fair.begins.at fair.begins.free fair.begins.taken in
+      till_weaker (Owned f) (Enumerating f p 0) old (begins f p 0 old is.free is.none) fair.begins.owned
+
+  pub device_warranted : (tier supply : ℕ) (old new : World) (device : Accepted) → Warrants port addresses tier supply old (Ok (Device device)) new
+  device_warranted tier supply old new device = record { cause = λ f p fair cause s e. absurd cc; parent = λ f p fair e. absurd cc }
+
+  module _ (wrong : Spec → Option Cause) (tier supply m n : ℕ) (last : Stop) (old mid new : World) (result : Result Finding EnumFault) {a b c d : Option (List ℕ)} (sooner : WentOn m old a mid b) (later : WentOn n mid c new d)
+      (at : AtPort port address old mid) (stops : Stops wrong port address last old mid) (closes : Closes port address last mid result new) (gives : GivesUp port last mid result new)
+      (right : (spec : Spec) (cause : Cause) → wrong spec ≡ Some cause → IsRight (IsFull addresses) spec tier supply (Refused cause)) where
+    module _ (f : Claims) (p : List ℕ) (fair : IsFair f port p addresses old new) where
+      whole : IsFairAt f port p address old new
+      whole = fair_begun f p old new fair
+
+      here : IsFairAt f port p address mid new
+      here = fair_then f port p address m n sooner later whole at
+
+      why_stopped : StopsFor wrong f p old last mid
+      why_stopped = stops.why f p (fair_before f port p address m n sooner later whole)
+
+      caused : (why : Cause) → StopsFor wrong f p old (stop.Refused why) mid → (s : State) → state_there new.roots p ≡ Some s → (pend new.roots p ≡ true) ⊎ IsRight (IsFull addresses) s.spec tier supply (Refused why)
+      caused why so s there = pick (pends_on (λ spec. wrong spec ≡ Some why) p (closes.only.at f p here.spare here.held here.working).spares here.occupied (so (zero_begun f p old new fair)))
+        where
+          pick : PendsOr (λ spec. wrong spec ≡ Some why) p new → (pend new.roots p ≡ true) ⊎ IsRight (IsFull addresses) s.spec tier supply (Refused why)
+          pick (inl h) = inl h
+          pick (inr is) = inr (right s.spec why (is s there))
+
+    cause_of : (x : Stop) → last ≡ x → (f : Claims) (p : List ℕ) → IsFair f port p addresses old new → (cause : Cause) (s : State) → result ≡ Ok (Refused cause) → state_there new.roots p ≡ Some s
+        → (pend new.roots p ≡ true) ⊎ IsRight (IsFull addresses) s.spec tier supply (Refused cause)
+    cause_of (stop.Fault why) is f p fair cause s e there =
+        let g = subst (λ x. GivesUp port x mid result new) is gives in
+        absurd (cc (sym g.0 ∙ e))
+    cause_of (stop.Refused why) is f p fair cause s e there =
+        let g = subst (λ r. GivesUp port (stop.Refused why) mid r new) e (subst (λ x. GivesUp port x mid result new) is gives) in
+        subst (λ y. (pend new.roots p ≡ true) ⊎ IsRight (IsFull addresses) s.spec tier supply y) (sym g.0) (caused f p fair why (subst (λ x. StopsFor wrong f p old x mid) is (why_stopped f p fair)) s there)
+
+    parent_of_stop : (x : Stop) → last ≡ x → (f : Claims) (p : List ℕ) → IsFair f port p addresses old new → result ≡ Err fault.ParentLost → HubPends p new
+    parent_of_stop (stop.Fault why) is f p fair e =
+        let g = subst (λ x. GivesUp port x mid result new) is gives in
+        let lost : why ≡ fault.ParentLost = cc (sym g.0 ∙ e) in
+        subst (λ w. HubPends p w) (sym g.1) (subst (λ y. FaultsFor p y mid) lost (subst (λ x. StopsFor wrong f p old x mid) is (why_stopped f p fair)))
+    parent_of_stop (stop.Refused why) is f p fair e = (closes.lost why fault.ParentLost is e).why f p (here f p fair)
+
+    pub stopped_warranted : Warrants port addresses tier supply old result new
+    stopped_warranted = record { cause = cause_of last refl; parent = parent_of_stop last refl }

@@ -33,6 +33,7 @@ module _ (So : Spec → Type 0) (t : Target) (n : ℕ) (bytes : Vec ℕ)
   device_learned j p s v x = record {
     spec = ap (λ y. y.spec) x.frame;
     registers = ap (λ y. y.registers) x.frame;
+    frame = x.frame;
     so = λ at.
         let text : HasText (device_given s.spec) t n s bytes.items = x.done at bytes refl in
         let given = given_allows s.spec.stalls.device (Some s.spec.descriptor) text.text text.is in

@@ -19,7 +19,7 @@ use Rattle.usb_hub.specs.declared.status.DeviceStatus.{DeviceStatus}
 use Rattle.usb_hub.specs.Addresses.{KeepsDevices}
 use Rattle.usb_hub.specs.Asked.{hub_given, status_given, HubAsked, StatusAsked}
 use Rattle.usb_enum.specs.declared.cause.Cause.{Cause}
-use Rattle.usb_enum.specs.Described.{gives_hub}
+use Rattle.usb_enum.specs.Described.{gives_hub, facts_of}
 use Rattle.usb_enum.specs.Device.{is_hub}
 use Rattle.usb_enum.specs.Learned.{Learns}
 use Rattle.usb_enum.specs.Readings.{AtMaximum, Ruled, HasPorts, HasSupply, IsGoodHub}
@@ -72,15 +72,34 @@ hub_class spec hub is fits =
     let class = (and_parts (not spec.low) (has_hub_class spec.descriptor) (rw is at fits)).1 in
     (and_parts (nat_lt 4 (length spec.descriptor)) (slice_index spec.descriptor 4 == 9) class).1
 
+-- it has as many ports as its descriptor says
+pub record HadPorts (ports : ℕ) (spec : Spec) : Type 0 where
+  pub hub : Hub
+  pub is : spec.hub ≡ Some hub
+  pub count : ports ≡ hub.ports
+
+pub had_ports : (ports : ℕ) (spec : Spec) → HasPorts ports spec → IsSpec spec → HadPorts ports spec
+had_ports ports spec p ruled =
+    let g = was_given spec p.text p.given in
+    let hub : IsHub g.hub = subst (λ o. IfSome o IsHub) g.is ruled.hub in
+    record {
+      hub = g.hub;
+      is = g.is;
+      count = p.said ∙ ports_agree g.hub.ports p.text p.good (subst (λ x. agrees g.hub.ports x ≡ true) g.descriptor hub.agree);
+    }
+
+facts_are : (spec : Spec) (hub : Hub) (ports supply : ℕ) → spec.hub ≡ Some hub → is_hub spec.descriptor ≡ true → ports ≡ hub.ports → supply ≡ supply_of false spec.self_powered
+    → facts_of spec ≡ Some (record { ports = ports; supply = supply })
+facts_are spec hub ports supply is class count said = rw (class, is, count, said) refl
+
 good_hub : (text : List ℕ) (ports supply : ℕ) (spec : Spec) → is_some (status_endpoint_of text) ≡ true → HasPorts ports spec → HasSupply supply spec → IsSpec spec
     → IsGoodHub text (record { ports = ports; supply = supply }) spec
 good_hub text ports supply spec endpoint p s ruled =
     let g = was_given spec p.text p.given in
-    let hub : IsHub g.hub = subst (λ o. IfSome o IsHub) g.is ruled.hub in
-    let count : ports ≡ g.hub.ports = p.said ∙ ports_agree g.hub.ports p.text p.good (subst (λ x. agrees g.hub.ports x ≡ true) g.descriptor hub.agree) in
+    let had = had_ports ports spec p ruled in
     record {
       good = and_from (is_some (status_endpoint_of text)) (gives_hub spec spec.hub) endpoint (hub_gives spec p.text g s.given p.good);
-      told = rw (hub_class spec g.hub g.is ruled.fits, g.is, count, s.said) refl;
+      told = facts_are spec had.hub ports supply had.is (hub_class spec had.hub had.is ruled.fits) had.count s.said;
     }
 
 pub hub_learned : (t : Target) (text : List ℕ) (ports supply m n : ℕ) (old a b new : World) {q r s u : Option (List ℕ)} → is_some (status_endpoint_of text) ≡ true

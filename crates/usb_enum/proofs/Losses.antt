@@ -34,7 +34,7 @@ took_later : (e : Event) (es : List Event) (w : World) → IsLater w (took e es 
 unfolding took
 took_later e es w = later_same w (took e es w) refl (happened_long e.action w.devices w.roots) refl
 
-due_later : (es : List Event) (w : World) → IsLater w (due_from es w)
+pub due_later : (es : List Event) (w : World) → IsLater w (due_from es w)
 unfolding due_from
 due_later [] w = later_same w w refl refl refl
 due_later (e ∷ es) w =

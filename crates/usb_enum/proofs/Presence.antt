@@ -1,6 +1,5 @@
 -- What is so of the device at a port, from one call to the next.
-use Rattle.std.proofs.Common.{◌≡◌, ◌⊎◌, inl, inr, ℕ, zero, suc, ◌&&◌, Bool, true, false, List, [], ◌∷◌, Option, None, Some, option_map, Result, Ok, Err, if◌then◌else◌, refl, ap, sym, subst, ◌∙◌}
-use Rattle.std.specs.Prelude.{IfOk}
+use Rattle.std.proofs.Common.{◌≡◌, ◌⊎◌, inl, inr, ℕ, zero, suc, ◌&&◌, Bool, true, false, List, [], ◌∷◌, Option, None, Some, option_map, Ok, if◌then◌else◌, refl, ap, sym, subst, ◌∙◌}
 use Rattle.std.proofs.lemmas.Bool.{eq-eqb}
 use Rattle.std.proofs.lemmas.Option.{same_Some}
 use Rattle.usb_port.specs.PortState.{PortState, is_low, is_attached, speed_of}
@@ -27,20 +26,20 @@ use Rattle.usb_bus.specs.Traced.{WentOn}
 use Rattle.usb_transaction.specs.declared.target.Target.{Target}
 use Rattle.usb_address.specs.Claims.{Claims}
 use Rattle.usb_address.specs.Owned.{Owned, Enumerating, TillFault, KeepsAddresses}
-use Rattle.usb_pipe.specs.declared.fault.PipeFault.{PipeFault}
 use Rattle.usb_hub.specs.declared.port.HubPort.{HubPort}
 use Rattle.usb_hub.specs.Addresses.{Resets, StaysAs, KeepsDevices}
-use Rattle.usb_hub.specs.Moments.{PortTold, TellsPort}
+use Rattle.usb_hub.specs.Moments.{PortTold}
 use Rattle.usb_hub.specs.Settings.{AddressAsked}
 use Rattle.usb_enum.specs.declared.addressed.Addressed.{Addressed}
 use Rattle.usb_enum.specs.Addresses.{IsSpare, Within}
+use Rattle.usb_enum.specs.Calls.{StatusAt}
 use Rattle.usb_enum.specs.Learned.{Learned}
-use Rattle.usb_enum.specs.Present.{AnswersSo, IsInOrder, AtPath, Finds, HasDescriptor, HasHead, HasSpeed, IsAddressed, AwaitsAddress}
+use Rattle.usb_enum.specs.Present.{AnswersSo, IsRegular, AtPath, Finds, HasDescriptor, HasHead, HasSpeed, IsAddressed, AwaitsAddress}
 use Rattle.usb_enum.specs.Readings.{AtMaximum}
-use Rattle.usb_enum.specs.Stop.{at_port}
-use Rattle.usb_enum.proofs.Courses.{went_sound, went_in_order}
+use Rattle.usb_enum.proofs.Courses.{went_sound, went_regular}
 use Rattle.usb_enum.proofs.Enumerations.{having, at_taking, within_on, within_reset}
 use Rattle.usb_enum.proofs.Heads.{head_packet}
+use Rattle.usb_enum.proofs.Reaching.{done_at}
 
 -- Over calls that tell of each device
 
@@ -101,7 +100,7 @@ described None spec e = absurd cc
 described (Some s) spec e = (s, (refl, same_Some s.spec spec e))
 
 -- the status that was told is that of the port of the device that is reachable in the end
-pub told_speed : (p : List ℕ) (status : PortStatus) (old new : World) → PortTold p status old new → old.fault ≡ None → IsInOrder old → AtPath (HasSpeed status.low_speed) p new
+pub told_speed : (p : List ℕ) (status : PortStatus) (old new : World) → PortTold p status old new → old.fault ≡ None → IsRegular old → AtPath (HasSpeed status.low_speed) p new
 told_speed p status old new told none order v on there =
     let to_now : Course AnyStep old told.now = course_wider (λ s w x. tt) (told.before p) in
     let since : Course AnyStep told.now new = course_wider (λ s w x. tt) (told.since p) in
@@ -112,28 +111,24 @@ told_speed p status old new told none order v on there =
 
 -- PORT_RESET, its status and the clearing of C_PORT_RESET
 
-pub port_tells : (port : HubPort) (old new : World) (outcome : Result PortStatus PipeFault) → TellsPort port old outcome new → IfOk (at_port outcome) (λ status. TellsPort port old (Ok status) new)
-port_tells port old new (Ok status) told = told
-port_tells port old new (Err why) told = tt
-
 pub reset_finds : (port : HubPort) (address l m n : ℕ) (status : PortStatus) {old set told new : World} {a b c d : Option (List ℕ)} → WentOn l old a set b → WentOn m set b told c → WentOn n told c new d
-    → Resets port old set → TellsPort port set (Ok status) told → KeepsDevices told new → Within port address old new → new.fault ≡ None → Finds (HasSpeed status.low_speed) port address old new
-reset_finds port address l m n status {old} {set} {told} {new} first second third resets tells keeps within none = record { found = found }
+    → Resets port old set → StatusAt port set (Ok status) told → KeepsDevices told new → Within port address old new → new.fault ≡ None → Finds (HasSpeed status.low_speed) port address old new
+reset_finds port address l m n status {old} {set} {told} {new} first second third resets shown keeps within none = record { found = found }
   where
-    found : (f : Claims) (p : List ℕ) → IsSpare f port p address → TillFault (Enumerating f p address) old → IsInOrder old → AtPath (HasSpeed status.low_speed) p new
+    found : (f : Claims) (p : List ℕ) → IsSpare f port p address → TillFault (Enumerating f p address) old → IsRegular old → AtPath (HasSpeed status.low_speed) p new
     found f p spare t order =
         let none_told = went_sound n told new third none in
         let none_set = went_sound m set told second none_told in
         let h = having f p address set ((within_reset port address old set resets).stays f p spare t) in
-        let port_told = tells.tells (after_taking f p h.has) p (at_taking f port p h.has spare.at) h.owned status refl in
+        let port_told = shown.tells.tells (after_taking f p h.has) p (at_taking f port p h.has spare.at) h.owned status (done_at shown.outcome status shown.told) in
         let single = (within.stays f p spare t).single in
         path_on StaysAs (HasSpeed status.low_speed) (HasSpeed status.low_speed) (λ j e s v x low. ap (λ y. y.low) x.0 ∙ low) p told new (keeps.stays single)
-        (told_speed p status set told port_told none_set (went_in_order l old set first order))
+        (told_speed p status set told port_told none_set (went_regular l old set first order))
 
 -- Who holds which address
 
 -- whoever answered at address 0, or at the one that is set aside, is the device at the port
-answered_has : (f : Claims) (port : HubPort) (p : List ℕ) (address has n : ℕ) → IsSpare f port p address → (n ≡ 0) ⊎ (n ≡ address) → (q : List ℕ) × (after_taking f p has q ≡ Some n) → has ≡ n
+pub answered_has : (f : Claims) (port : HubPort) (p : List ℕ) (address has n : ℕ) → IsSpare f port p address → (n ≡ 0) ⊎ (n ≡ address) → (q : List ℕ) × (after_taking f p has q ≡ Some n) → has ≡ n
 answered_has f port p address has n spare is who = by_path (same_path p who.0) who.0 who.1
   where
     unclaimed : (n ≡ 0) ⊎ (n ≡ address) → (q : List ℕ) → f q ≡ Some n → ⊥
@@ -144,7 +139,7 @@ answered_has f port p address has n spare is who = by_path (same_path p who.0) w
     by_path true q e = same_Some has n e
     by_path false q e = elim (unclaimed is q e) [ ]
 
-held_at : (f : Claims) (p : List ℕ) (has : ℕ) (w : World) → Owned (after_taking f p has) w → AtPath (λ s. address_of s ≡ has) p w
+pub held_at : (f : Claims) (p : List ℕ) (has : ℕ) (w : World) → Owned (after_taking f p has) w → AtPath (λ s. address_of s ≡ has) p w
 held_at f p has w owned s on there =
     same_Some (address_of s) has (sym (ap (option_map address_of) there) ∙ owned.own p on ∙ ap (λ x. if x then Some has else f p) (self_path p))
 
@@ -153,7 +148,7 @@ pub answered_finds : (So : Spec → Type 0) (t : Target) (port : HubPort) (addre
     → Within port address old mid → KeepsAddresses mid new → Finds (λ s. So s.spec × (address_of s ≡ t.addr)) port address old new
 answered_finds So t port address n {old} {mid} {new} is answered went within keeps = record { found = found }
   where
-    found : (f : Claims) (p : List ℕ) → IsSpare f port p address → TillFault (Enumerating f p address) old → IsInOrder old → AtPath (λ s. So s.spec × (address_of s ≡ t.addr)) p new
+    found : (f : Claims) (p : List ℕ) → IsSpare f port p address → TillFault (Enumerating f p address) old → IsRegular old → AtPath (λ s. So s.spec × (address_of s ≡ t.addr)) p new
     found f p spare t0 order =
         let h = having f p address mid (within.stays f p spare t0) in
         let claims : Claims = after_taking f p h.has in
@@ -180,7 +175,7 @@ finds_both A B C port address old new f a b = record {
 -- after another call that leaves the port in the midst of its enumeration
 pub finds_after : (A : State → Type 0) (port : HubPort) (address n : ℕ) {old mid new : World} {b c : Option (List ℕ)} → WentOn n old b mid c → Within port address old mid → Finds A port address mid new → Finds A port address old new
 finds_after A port address n {old} {mid} {new} went within finds = record {
-  found = λ g p spare t order. finds.found g p spare (within.stays g p spare t) (went_in_order n old mid went order);
+  found = λ g p spare t order. finds.found g p spare (within.stays g p spare t) (went_regular n old mid went order);
 }
 
 -- The target of a device that has no address yet
@@ -195,7 +190,7 @@ pub unaddressed_finds : (port : HubPort) (address n : ℕ) (low pre : Bool) (max
 unaddressed_finds port address n low pre max {old} {mid} {new} speed answered went within keeps =
     let asked : Target = record { addr = 0; max = 8; low = low; pre = pre } in
     let target : Target = record { addr = 0; max = max; low = low; pre = pre } in
-    let stays : new.shared ≡ false → EachWas StaysAs mid new = λ single. each_wider (Learned (HasHead low max) asked) StaysAs (λ j e s v x. (x.spec, x.registers)) mid new (answered.learns single) in
+    let stays : new.shared ≡ false → EachWas StaysAs mid new = λ single. each_wider (Learned (HasHead low max) asked) StaysAs (λ j e s v x. (x.spec, x.registers, x.frame)) mid new (answered.learns single) in
     let later = finds_on StaysAs (HasSpeed low) (HasSpeed low) port address (λ j e s v x is. ap (λ y. y.low) x.0 ∙ is) stays (within_on port address old mid new within keeps) (speed (went_sound n mid new went answered.still)) in
     finds_both (HasSpeed low) (λ s. HasHead low max s.spec × (address_of s ≡ 0)) (AwaitsAddress target) port address old new (λ s is head. unnamed target s is head refl)
     later (answered_finds (HasHead low max) asked port address n (inl refl) answered went within keeps)
@@ -203,12 +198,12 @@ unaddressed_finds port address n low pre max {old} {mid} {new} speed answered we
 -- SET_ADDRESS
 
 -- it was allowed to take an address
-record Granted (low : Bool) (max : ℕ) (spec : Spec) : Type 0 where
-  speed : spec.low ≡ low
-  head : HasHead low max spec
-  allowed : spec.stalls.address ≡ false
+pub record Granted (low : Bool) (max : ℕ) (spec : Spec) : Type 0 where
+  pub speed : spec.low ≡ low
+  pub head : HasHead low max spec
+  pub allowed : spec.stalls.address ≡ false
 
-granted : (target : Target) (address : ℕ) (old new : World) → target.addr ≡ 0 → (j : ℕ) (e : List ℕ) (s v : State) → AddressAsked target address (Ok tt) old new j e s v → AwaitsAddress target s → Granted target.low target.max v.spec
+pub granted : (target : Target) (address : ℕ) (old new : World) → target.addr ≡ 0 → (j : ℕ) (e : List ℕ) (s v : State) → AddressAsked target address (Ok tt) old new j e s v → AwaitsAddress target s → Granted target.low target.max v.spec
 granted target address old new none j e s v x is =
     subst (Granted target.low target.max) (sym (ap (λ y. y.spec) x.frame))
     (record { speed = is.low; head = is.head; allowed = (x.done (eq-eqb (address_of s) target.addr (is.zero ∙ sym none)) refl).0 })

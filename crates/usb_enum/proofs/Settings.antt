@@ -3,6 +3,7 @@ use Rattle.std.proofs.Common.{◌≡◌, ℕ, ◌==◌, List, Option, Result, Ok
 use Rattle.usb_descriptor.specs.Config.{configuration_value}
 use Rattle.usb_descriptor.specs.Device.{configuration_count}
 use Rattle.usb_device.specs.Spec.{Spec}
+use Rattle.usb_device.specs.Progress.{OnlyStage}
 use Rattle.usb_device.specs.Rows.{State}
 use Rattle.usb_world.specs.Devices.{EachWas}
 use Rattle.usb_world.specs.World.{World}
@@ -10,7 +11,7 @@ use Rattle.usb_world.proofs.Devices.{each_joined, each_wider}
 use Rattle.usb_bus.specs.Traced.{WentOn}
 use Rattle.usb_transaction.specs.declared.target.Target.{Target}
 use Rattle.usb_pipe.specs.declared.fault.PipeFault.{PipeFault}
-use Rattle.usb_hub.specs.Settings.{ConfigurationAsked}
+use Rattle.usb_hub.specs.Settings.{ConfigurationAsked, IsFresh}
 use Rattle.usb_enum.specs.declared.finding.Accepted.{Accepted}
 use Rattle.usb_enum.specs.declared.strings.StringIndexes.{StringIndexes}
 use Rattle.usb_enum.specs.Described.{strings_by}
@@ -20,7 +21,17 @@ use Rattle.usb_enum.specs.Present.{HasReadings, LearnedSet, LearnsSet, TellsPort
 use Rattle.usb_enum.specs.Readings.{AtMaximum, HasConfigurations}
 use Rattle.usb_enum.proofs.Sharing.{went_unshared}
 
-abbrev Allowed : (Spec → Type 0) → Spec → Type 0
+-- where nothing changed but where its transfer stands
+fresh_on : (s v : State) → OnlyStage s v → IsFresh s → IsFresh v
+fresh_on s v frame fresh = record {
+  out = ap (λ y. y.bulk_out) frame ∙ fresh.out;
+  into = ap (λ y. y.bulk_in) frame ∙ fresh.into;
+  changes = ap (λ y. y.changes) frame ∙ fresh.changes;
+  held = ap (λ y. y.held) frame ∙ fresh.held;
+}
+
+-- it does not refuse to be configured
+abbrev pub Allowed : (Spec → Type 0) → Spec → Type 0
 Allowed So x = So x × (x.stalls.set_config ≡ false)
 
 set_after : (So : Spec → Type 0) (t : Target) (value : ℕ) (last : World) (j : ℕ) (p : List ℕ) (s u v : State) → Learned So t j p s u → ConfigurationAsked t value (Ok tt) last j p u v → LearnedSet (Allowed So) t value j p s v
@@ -29,7 +40,7 @@ set_after So t value last j p s u v a x = record {
   address = ap (λ y. y.registers.address) x.frame ∙ ap (λ r. r.address) a.registers;
   so = λ at.
       let set = x.done (ap (λ r. r.address == t.addr) a.registers ∙ at) refl in
-      ((a.so at, subst (λ y. y.stalls.set_config ≡ false) a.spec set.0), ap (λ r. r.configuration) set.2.registers);
+      ((a.so at, subst (λ y. y.stalls.set_config ≡ false) a.spec set.0), ap (λ r. r.configuration) set.2.registers, set.2.fresh);
 }
 
 learned_after : (A B : Spec → Type 0) (t : Target) (value : ℕ) (j : ℕ) (p : List ℕ) (s u v : State) → LearnedSet A t value j p s u → Learned B t j p u v → LearnedSet (λ x. A x × B x) t value j p s v
@@ -38,25 +49,32 @@ learned_after A B t value j p s u v a b = record {
   address = ap (λ r. r.address) b.registers ∙ a.address;
   so = λ at.
       let so = a.so at in
-      ((so.0, subst B a.spec (b.so (ap (λ n. n == t.addr) a.address ∙ at))), ap (λ r. r.configuration) b.registers ∙ so.1);
+      ((so.0, subst B a.spec (b.so (ap (λ n. n == t.addr) a.address ∙ at))), ap (λ r. r.configuration) b.registers ∙ so.1, fresh_on u v b.frame so.2);
 }
 
 learned_wider : (A B : Spec → Type 0) (t : Target) (value : ℕ) → ((x : Spec) → A x → B x) → (j : ℕ) (p : List ℕ) (s v : State) → LearnedSet A t value j p s v → LearnedSet B t value j p s v
-learned_wider A B t value f j p s v l = record { spec = l.spec; address = l.address; so = λ at. let so = l.so at in (f s.spec so.0, so.1) }
+learned_wider A B t value f j p s v l = record { spec = l.spec; address = l.address; so = λ at. let so = l.so at in (f s.spec so.0, so.1, so.2) }
+
+-- it was read, and then it was configured
+pub set_learned : (A : Spec → Type 0) (t : Target) (value l : ℕ) (outcome : Result (Unit {0}) PipeFault) (before given set : World) {b c : Option (List ℕ)} → Learns A t before given → WentOn l given b set c → outcome ≡ Ok tt
+    → (set.shared ≡ false → EachWas (ConfigurationAsked t value outcome set) given set) → LearnsSet (Allowed A) t value before set
+set_learned A t value l outcome before given set read went done asked single =
+    each_joined (Learned A t) (ConfigurationAsked t value (Ok tt) set) (LearnedSet (Allowed A) t value) (set_after A t value set) before given set (read (went_unshared l given set went single))
+    (subst (λ r. EachWas (ConfigurationAsked t value r set) given set) done (asked single))
+
+-- and then more was learned
+pub set_then : (A B : Spec → Type 0) (t : Target) (value m : ℕ) (before set told : World) {c d : Option (List ℕ)} → LearnsSet A t value before set → WentOn m set c told d → Learns B t set told → LearnsSet (λ x. A x × B x) t value before told
+set_then A B t value m before set told a went b single =
+    each_joined (LearnedSet A t value) (Learned B t) (LearnedSet (λ x. A x × B x) t value) (learned_after A B t value) before set told (a (went_unshared m set told went single)) (b single)
 
 -- its configurations were read, it was configured, and its ports and its strings were read
 pub learns_set : (A B C So : Spec → Type 0) (t : Target) (value l m n : ℕ) {before given set told new : World} {b c d e : Option (List ℕ)} → ((x : Spec) → A x → x.stalls.set_config ≡ false → B x → C x → So x)
     → Learns A t before given → WentOn l given b set c → (set.shared ≡ false → EachWas (ConfigurationAsked t value (Ok tt) set) given set) → WentOn m set c told d → Learns B t set told → WentOn n told d new e → Learns C t told new
     → LearnsSet So t value before new
 learns_set A B C So t value l m n {before} {given} {set} {told} {new} f configs went_set asked went_told ports went strings single =
-    let single_told = went_unshared n told new went single in
-    let single_set = went_unshared m set told went_told single_told in
-    let single_given = went_unshared l given set went_set single_set in
     each_wider (LearnedSet (λ x. (Allowed A x × B x) × C x) t value) (LearnedSet So t value) (learned_wider (λ x. (Allowed A x × B x) × C x) So t value (λ x y. f x y.0.0.0 y.0.0.1 y.0.1 y.1)) before new
-    (each_joined (LearnedSet (λ x. Allowed A x × B x) t value) (Learned C t) (LearnedSet (λ x. (Allowed A x × B x) × C x) t value) (learned_after (λ x. Allowed A x × B x) C t value) before told new
-    (each_joined (LearnedSet (Allowed A) t value) (Learned B t) (LearnedSet (λ x. Allowed A x × B x) t value) (learned_after (Allowed A) B t value) before set told
-    (each_joined (Learned A t) (ConfigurationAsked t value (Ok tt) set) (LearnedSet (Allowed A) t value) (set_after A t value set) before given set (configs single_given) (asked single_set))
-    (ports single_told)) (strings single))
+    (set_then (λ x. Allowed A x × B x) C t value n before told new
+    (set_then (Allowed A) B t value m before set told (set_learned A t value l (Ok tt) before given set configs went_set refl asked) went_told ports) went strings single)
 
 -- the same of what is listed
 pub listed_learns : (t : Target) (bytes : List ℕ) (device : Accepted) (count value l m n : ℕ) (text : List ℕ) (indexes : StringIndexes) (outcome : Result (Unit {0}) PipeFault) {before given set told new : World} {b c d e : Option (List ℕ)}

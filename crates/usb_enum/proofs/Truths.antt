@@ -11,10 +11,12 @@ use Rattle.usb_device.specs.View.{state_there}
 use Rattle.usb_device.specs.Spec.{Spec, IsSpec}
 use Rattle.usb_resources.specs.Power.{supply_of}
 use Rattle.usb_transaction.specs.declared.target.Target.{Target}
+use Rattle.usb_world.specs.Addresses.{after_taking}
 use Rattle.usb_world.specs.Live.{address_of}
 use Rattle.usb_world.specs.Plugged.{hub_ports}
 use Rattle.usb_world.specs.Sane.{IsSane}
 use Rattle.usb_world.specs.World.{World}
+use Rattle.usb_world.proofs.AddressesReset.{self_path}
 use Rattle.usb_world.proofs.SaneLaws.{sane_spec}
 use Rattle.usb_bus.specs.Traced.{WentOn}
 use Rattle.usb_address.specs.Owned.{KeepsAddresses}
@@ -28,14 +30,16 @@ use Rattle.usb_enum.specs.declared.stop.Stop.TheVariants.{Refused}
 use Rattle.usb_enum.specs.Addresses.{Within}
 use Rattle.usb_enum.specs.Described.{verdict, is_good_hub, facts_of, texts_below, texts_of, first_fault, strings_by, IsAs}
 use Rattle.usb_enum.specs.Device.{is_device, is_hub, fits_tier, string_indexes, configuration_of, HasFacts}
+use Rattle.usb_enum.specs.Frames.{OnlySets}
 use Rattle.usb_enum.specs.Found.{IsAccepted, IsListed, IsOwn, IsWhole}
 use Rattle.usb_enum.specs.Present.{Finds, HasHead, HasTaken, IsAddressed, HasReadings, LearnedSet, TellsPorts}
 use Rattle.usb_enum.specs.Readings.{AtMaximum, IsGoodHub}
 use Rattle.usb_enum.specs.Text.{choice_of}
-use Rattle.usb_enum.proofs.Courses.{went_in_order}
+use Rattle.usb_enum.proofs.Courses.{went_in_order, went_regular}
 use Rattle.usb_enum.proofs.Enumerations.{within_on, takes_then}
 use Rattle.usb_enum.proofs.Heads.{head_packet}
 use Rattle.usb_enum.proofs.Presence.{finds_on}
+use Rattle.usb_enum.proofs.Reaching.{reaches_set}
 use Rattle.usb_enum.proofs.VerdictRows.{GaveHead, GaveDevice, GaveTexts, row_accepted}
 
 -- What is read of the first 18 bytes of a descriptor
@@ -43,10 +47,10 @@ use Rattle.usb_enum.proofs.VerdictRows.{GaveHead, GaveDevice, GaveTexts, row_acc
 front_at : (d : List ℕ) (i : ℕ) → i < 18 → slice_index (take 18 d) i ≡ slice_index d i
 front_at d i below = get_or-take 18 d i 0 below
 
-front_count : (d : List ℕ) → configuration_count (take 18 d) ≡ configuration_count d
+pub front_count : (d : List ℕ) → configuration_count (take 18 d) ≡ configuration_count d
 front_count d = front_at d 17 (omega arith)
 
-front_hub : (d : List ℕ) → is_hub (take 18 d) ≡ is_hub d
+pub front_hub : (d : List ℕ) → is_hub (take 18 d) ≡ is_hub d
 front_hub d = ap (λ n. n == 9) (front_at d 4 (omega arith))
 
 front_indexes : (d : List ℕ) → string_indexes (take 18 d) ≡ string_indexes d
@@ -155,6 +159,7 @@ own tier supply addressed device j p s v whole is learned found ruled =
         own_listing s.spec tier supply device target addressed.bytes ruled found.low found.head found.allowed found.bytes is.low is.bytes is.fits whole read,
       ),
       record { address = learned.address ∙ found.address ∙ sym is.address; configuration = learned_of.1 },
+      learned_of.2,
     )
 
 ruled_there : (k : Ports) (p : List ℕ) (s : State) → IsSane k → state_there k p ≡ Some s → IsSpec s.spec
@@ -174,15 +179,18 @@ own_found port address tier supply n addressed device {old} {mid} {new} went wit
   where
     ruled : Finds (AddressedByRules addressed) port address old mid
     ruled = record {
-      found = λ f p spare t order s on there. (taken.found.found f p spare t order s on there, ruled_there mid.roots p s (went_in_order n old mid went order taken.still).sane there);
+      found = λ f p spare t order s on there. (taken.found.found f p spare t order s on there, ruled_there mid.roots p s (went_regular n old mid went order taken.still).sane there);
     }
 
-pub accepted : (port : HubPort) (address tier supply n : ℕ) (addressed : Addressed) (result : Result Accepted Stop) {old mid new : World} {a b : Option (List ℕ)} → WentOn n old a mid b → Within port address old mid → HasTaken port address old mid addressed
-    → KeepsAddresses mid new → IfOk result (λ device. IsWhole supply device) → IfOk result (IsListed addressed tier mid new) → IfOk result (IsAccepted port address tier supply old new)
-accepted port address tier supply n addressed (Ok device) {old} {mid} {new} went within taken keeps whole is = record {
+pub accepted : (port : HubPort) (address tier supply n m : ℕ) (addressed : Addressed) (result : Result Accepted Stop) {old mid new : World} {a b c d : Option (List ℕ)} → WentOn n old a mid b → Within port address old mid → HasTaken port address old mid addressed
+    → OnlySets address mid new → WentOn m mid c new d → IfOk result (λ device. IsWhole supply device) → IfOk result (IsListed addressed tier mid new) → IfOk result (IsAccepted port address tier supply old new)
+accepted port address tier supply n m addressed (Ok device) {old} {mid} {new} went within taken sets later whole is = record {
   address = is.address ∙ taken.address;
   whole = whole;
-  takes = takes_then port address old mid new taken.takes keeps;
-  own = own_found port address tier supply n addressed device went within taken keeps whole is;
+  takes = takes_then port address old mid new taken.takes sets.addresses;
+  own = own_found port address tier supply n addressed device went within taken sets.addresses whole is;
+  reaches = reaches_set port address m later taken.takes sets taken.reaches;
+  below = λ f p spare t order.
+      is.below.empty (after_taking f p address) p (ap (λ b. if b then Some address else f p) (self_path p) ∙ ap (λ a. Some a) (sym taken.address)) (taken.takes.took f p spare t) (went_in_order n old mid went order);
 }
-accepted port address tier supply n addressed (Err why) went within taken keeps whole is = tt
+accepted port address tier supply n m addressed (Err why) went within taken sets later whole is = tt

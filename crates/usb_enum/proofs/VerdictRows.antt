@@ -63,7 +63,7 @@ pub row_too_deep : (spec : Spec) (tier supply : ℕ) → GaveHead spec → spec.
 unfolding verdict
 row_too_deep spec tier supply h a b c = rw (h.loud, h.free, h.device, h.head, a, b, c) refl
 
-rows_after : (spec : Spec) (tier supply : ℕ) → GaveDevice spec tier → verdict spec tier supply ≡ read_verdict spec supply (first_fault spec (configuration_count spec.descriptor))
+pub rows_after : (spec : Spec) (tier supply : ℕ) → GaveDevice spec tier → verdict spec tier supply ≡ read_verdict spec supply (first_fault spec (configuration_count spec.descriptor))
 unfolding verdict
 rows_after spec tier supply h = rw (h.first.loud, h.first.free, h.first.device, h.first.head, h.address, h.whole, h.shallow) refl
 

@@ -1,5 +1,5 @@
 -- What an enumeration does to the addresses that devices hold.
-use Rattle.std.specs.Prelude.{◌≡◌, ℕ, List, false, Some, Result, Ok, Err}
+use Rattle.std.specs.Prelude.{◌≡◌, ℕ, List, false, None, Some, Result, Ok, Err}
 use Rattle.usb_world.specs.Addresses.{after_taking}
 use Rattle.usb_world.specs.World.{World}
 use Rattle.usb_resources.specs.Pool.{Addresses, IsTaken}
@@ -11,6 +11,7 @@ use Rattle.usb_enum.specs.declared.fault.EnumFault.{EnumFault}
 use Rattle.usb_enum.specs.declared.fault.EnumFault.TheVariants.{ParentLost, Bus, Memory}
 use Rattle.usb_enum.specs.declared.finding.Finding.{Finding}
 use Rattle.usb_enum.specs.declared.finding.Finding.TheVariants.{Device, Refused}
+use Rattle.usb_enum.specs.Frames.{OnlyAt}
 
 -- a port of which nothing is claimed, and an address that no path claims
 pub record IsSpare (f : Claims) (port : HubPort) (p : List ℕ) (address : ℕ) : Type 0 where
@@ -27,6 +28,15 @@ pub record Within (port : HubPort) (address : ℕ) (old new : World) : Type 0 wh
 pub record Takes (port : HubPort) (address : ℕ) (old new : World) : Type 0 where
   pub took : (f : Claims) (p : List ℕ) → IsSpare f port p address → TillFault (Enumerating f p address) old → TillFault (Owned (after_taking f p address)) new
 
+-- the calls were about the port alone, as long as the bus is at work
+pub record OnlyCalls (port : HubPort) (address : ℕ) (old new : World) : Type 0 where
+  pub at : (f : Claims) (p : List ℕ) → IsSpare f port p address → TillFault (Enumerating f p address) old → new.fault ≡ None → OnlyAt p old new
+
+-- the device at the port is in the midst of its enumeration, and no other was changed
+pub record AtPort (port : HubPort) (address : ℕ) (old new : World) : Type 0 where
+  pub within : Within port address old new
+  pub only : OnlyCalls port address old new
+
 -- what is so at each end; of a parent that is lost nothing is known at the port and below it
 abbrev pub EndsOwned : Claims → List ℕ → Result Finding EnumFault → World → Type 0
 EndsOwned f p (Ok (Device device)) w = TillFault (Owned (after_taking f p device.address)) w
@@ -42,3 +52,5 @@ pub record Ends (port : HubPort) (address : ℕ) (old : World) (result : Result 
 -- where nothing is claimed at the port, and only addresses that are taken are claimed
 pub record KeepsEnumerated (port : HubPort) (addresses : Addresses) (old : World) (result : Result Finding EnumFault) (new : World) : Type 0 where
   pub ends : (f : Claims) (p : List ℕ) → IsAt f port p → Free f p → ((x : List ℕ) (a : ℕ) → f x ≡ Some a → IsTaken addresses a) → TillFault (Owned f) old → EndsOwned f p result new
+  pub only : (f : Claims) (p : List ℕ) → IsAt f port p → Free f p → ((x : List ℕ) (a : ℕ) → f x ≡ Some a → IsTaken addresses a) → TillFault (Owned f) old
+      → new.fault ≡ None → OnlyAt p old new

@@ -1,12 +1,17 @@
 pub mod Addresses
 pub mod Bounds
+pub mod Calls
 pub mod Described
 pub mod Device
+pub mod Fair
 pub mod Found
+pub mod Frames
 pub mod Hub
 pub mod Learned
 pub mod Losses
+pub mod Places
 pub mod Present
 pub mod Readings
+pub mod Refusals
 pub mod Stop
 pub mod Text

@@ -5,3 +5,7 @@ use Rattle.usb_world.specs.World.{World}
 -- between two changes of connection that are cleared, no address is lost three times
 abbrev pub FewLosses : World → Type 0
 FewLosses w = w.losses.worst ≤ 2
+
+-- over these steps no other stretch of losses begins
+pub record GoesOn (old new : World) : Type 0 where
+  pub run : old.losses.run ≤ new.losses.run

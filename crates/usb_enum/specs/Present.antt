@@ -1,5 +1,5 @@
 -- What is so of the device at a port that is being enumerated, where one is reachable there.
-use Rattle.std.specs.Prelude.{◌≡◌, ℕ, List, Bool, true, false, take, Option, None, Some, Ok, ⊤}
+use Rattle.std.specs.Prelude.{◌≡◌, ◌&&◌, ℕ, List, Bool, true, false, take, Option, None, Some, Ok, ⊤}
 use Rattle.usb_device.specs.Spec.{Spec}
 use Rattle.usb_device.specs.Rows.{State}
 use Rattle.usb_device.specs.Tree.{reach}
@@ -7,7 +7,9 @@ use Rattle.usb_device.specs.View.{state_there}
 use Rattle.usb_descriptor.specs.Device.{device_head_of, configuration_count}
 use Rattle.usb_world.specs.Devices.{EachWas}
 use Rattle.usb_world.specs.Live.{address_of}
-use Rattle.usb_world.specs.Steps.{IsBetween}
+use Rattle.usb_world.specs.PlanData.{PlanData, IsPlan}
+use Rattle.usb_world.specs.PluggedAt.{AtPorts}
+use Rattle.usb_world.specs.Steps.{AnyStep, Course, IsBetween, opening}
 use Rattle.usb_world.specs.World.{World}
 use Rattle.usb_transaction.specs.declared.target.Target.{Target}
 use Rattle.usb_transaction.specs.Over.{is_at}
@@ -15,13 +17,17 @@ use Rattle.usb_address.specs.Claims.{Claims}
 use Rattle.usb_address.specs.Owned.{Enumerating, TillFault}
 use Rattle.usb_hub.specs.declared.port.HubPort.{HubPort}
 use Rattle.usb_hub.specs.Addresses.{Answers}
+use Rattle.usb_hub.specs.Settings.{IsFresh}
 use Rattle.usb_enum.specs.declared.addressed.Addressed.{Addressed}
 use Rattle.usb_enum.specs.declared.finding.Accepted.{Accepted}
 use Rattle.usb_enum.specs.declared.hub.HubFacts.{HubFacts}
 use Rattle.usb_enum.specs.Addresses.{IsSpare, Takes}
 use Rattle.usb_enum.specs.Described.{strings_by}
-use Rattle.usb_enum.specs.Device.{IsKnown, string_indexes, configuration_of}
+use Rattle.usb_enum.specs.Device.{IsKnown, string_indexes, configuration_of, needs_pre}
+use Rattle.usb_enum.specs.Hub.{Started}
 use Rattle.usb_enum.specs.Learned.{Learns}
+use Rattle.usb_enum.specs.Losses.{GoesOn}
+use Rattle.usb_enum.specs.Places.{IsOccupied, IsReachedAt}
 use Rattle.usb_enum.specs.Readings.{AtMaximum, HasConfigurations, IsGoodHub, Ruled}
 
 -- Of whoever answers
@@ -46,8 +52,23 @@ HasDescriptor bytes spec = bytes ≡ take 18 spec.descriptor
 -- Of the device at the port
 
 -- between steps ports are sane and devices as the rules say, as long as the bus is at work
+abbrev pub IsRegular : World → Type 0
+IsRegular w = w.fault ≡ None → IsBetween w
+
+-- the steps of a plan, whose events are at ports, led to it
+pub record IsPlanned (w : World) : Type 0 where
+  pub plan : PlanData
+  pub is : IsPlan plan
+  pub paths : AtPorts plan.events
+  pub course : Course AnyStep (opening plan) w
+
+-- between steps of a plan's course ports are sane and devices as the rules say
+abbrev pub IsOrderly : World → Type 0
+IsOrderly w = IsBetween w × IsPlanned w
+
+-- so it is as long as the bus is at work
 abbrev pub IsInOrder : World → Type 0
-IsInOrder w = w.fault ≡ None → IsBetween w
+IsInOrder w = w.fault ≡ None → IsOrderly w
 
 -- the device at a path, where one is reachable there, is so
 abbrev pub AtPath : (State → Type 0) → List ℕ → World → Type 0
@@ -55,17 +76,33 @@ AtPath So p w = (s : State) → reach w.roots p ≡ true → state_there w.roots
 
 -- where nothing is claimed at the port, and the address is spare, the device at the port, where one is reachable, is so in the end
 pub record Finds (So : State → Type 0) (port : HubPort) (address : ℕ) (old new : World) : Type 0 where
-  pub found : (f : Claims) (p : List ℕ) → IsSpare f port p address → TillFault (Enumerating f p address) old → IsInOrder old → AtPath So p new
+  pub found : (f : Claims) (p : List ℕ) → IsSpare f port p address → TillFault (Enumerating f p address) old → IsRegular old → AtPath So p new
+
+-- so it is where the port is occupied: as long as the bus is at work, the device there is reached in the end, or a change of connection is pending
+pub record Reaches (port : HubPort) (address : ℕ) (old new : World) : Type 0 where
+  pub reached : (f : Claims) (p : List ℕ) → IsSpare f port p address → TillFault (Enumerating f p address) old → IsInOrder old → IsOccupied old p → new.fault ≡ None → IsReachedAt new p
 
 -- it has this speed
 abbrev pub HasSpeed : Bool → State → Type 0
 HasSpeed low s = s.spec.low ≡ low
+
+-- the port was reset, and shows a device of this speed
+pub record WasReset (low : Bool) (port : HubPort) (address : ℕ) (old new : World) : Type 0 where
+  pub speed : new.fault ≡ None → Finds (HasSpeed low) port address old new
+  pub reaches : Reaches port address old new
+  pub goes : new.fault ≡ None → GoesOn old new
 
 -- it has the target's speed and maximum packet, and awaits an address
 pub record AwaitsAddress (target : Target) (s : State) : Type 0 where
   pub low : s.spec.low ≡ target.low
   pub head : HasHead target.low target.max s.spec
   pub zero : address_of s ≡ 0
+
+-- so it is of the device at the port
+pub record Awaits (target : Target) (port : HubPort) (address : ℕ) (old new : World) : Type 0 where
+  pub found : Finds (AwaitsAddress target) port address old new
+  pub reaches : Reaches port address old new
+  pub goes : new.fault ≡ None → GoesOn old new
 
 -- it is the device that has its address, as it was read
 pub record IsAddressed (device : Addressed) (s : State) : Type 0 where
@@ -78,9 +115,11 @@ pub record IsAddressed (device : Addressed) (s : State) : Type 0 where
 -- the device at the port, where one is reachable, took the address, and was read at it
 pub record HasTaken (port : HubPort) (given : ℕ) (old new : World) (device : Addressed) : Type 0 where
   pub address : device.target.addr ≡ given
+  pub pre : device.target.pre ≡ (device.target.low && needs_pre port)
   pub takes : Takes port given old new
   pub still : new.fault ≡ None
   pub found : Finds (IsAddressed device) port given old new
+  pub reaches : Reaches port given old new
 
 -- Of a device that is read and configured
 
@@ -89,10 +128,11 @@ abbrev pub TellsPorts : List ℕ → Option HubFacts → Spec → Type 0
 TellsPorts text (Some facts) spec = Ruled (IsGoodHub text facts) spec
 TellsPorts text None spec = ⊤
 
--- what is known of the ports of a device, and was learned of it
+-- what is known of the ports of a device, and was learned of it, and how they were given power
 pub record LearnsPorts (device : Addressed) (text : List ℕ) (old new : World) (told : Option HubFacts) : Type 0 where
   pub known : IsKnown device.target.addr device.bytes text told
   pub learned : Learns (AtMaximum device.target (TellsPorts text told)) device.target old new
+  pub started : (facts : HubFacts) → told ≡ Some facts → Started device.target old new facts
 
 -- what was read is the description's, by the bytes of its device descriptor
 pub record HasReadings (bytes : List ℕ) (device : Accepted) (spec : Spec) : Type 0 where
@@ -101,11 +141,11 @@ pub record HasReadings (bytes : List ℕ) (device : Accepted) (spec : Spec) : Ty
   pub ports : TellsPorts (configuration_of device) device.hub spec
   pub strings : device.strings ≡ strings_by spec (string_indexes bytes)
 
--- a device has the description and the address that it had; of the target's device this is so, and it has this configuration
+-- a device has the description and the address that it had; of the target's device this is so, it has this configuration, and its endpoints began again
 pub record LearnedSet (So : Spec → Type 0) (t : Target) (value : ℕ) (j : ℕ) (p : List ℕ) (s v : State) : Type 0 where
   pub spec : v.spec ≡ s.spec
   pub address : address_of v ≡ address_of s
-  pub so : is_at s t ≡ true → So s.spec × (v.registers.configuration ≡ value)
+  pub so : is_at s t ≡ true → So s.spec × (v.registers.configuration ≡ value) × IsFresh v
 
 abbrev pub LearnsSet : (Spec → Type 0) → Target → ℕ → World → World → Type 0
 LearnsSet So t value old new = new.shared ≡ false → EachWas (LearnedSet So t value) old new

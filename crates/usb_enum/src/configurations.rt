@@ -1,13 +1,15 @@
 //! The configurations of a device: each is read, and one is chosen.
-ghost use Rattle.std.specs.Prelude.{◌≡◌, ◌≤◌, ◌<◌, ◌*◌, length, Some, IfOk, IfErr, IfSome};
+ghost use Rattle.std.specs.Prelude.{◌≡◌, ◌≤◌, ◌<◌, ◌*◌, length, Some, IfOk, IfErr, IfSome, MatchResult};
 ghost use Rattle.usb_bus.specs.Traced.{Went};
 ghost use Rattle.usb_transaction.specs.Trans.{IsTarget};
 ghost use Rattle.usb_enum.specs.Bounds.{read_bound, configuration_bound};
-ghost use Rattle.usb_enum.specs.Learned.{Learns};
+ghost use Rattle.usb_enum.specs.Described.{config_fault, first_fault};
+ghost use Rattle.usb_enum.specs.Learned.{Learns, Explains};
 ghost use Rattle.usb_enum.specs.Readings.{AtMaximum, HasTotal, HasConfiguration, HasConfigurations};
+ghost use Rattle.usb_enum.specs.Refusals.{Refuses};
 ghost use Rattle.usb_enum.specs.Stop.{Told};
 ghost use Rattle.usb_enum.specs.Text.{ValuesDiffer, choice_of};
-ghost use Rattle.usb_address.specs.Owned.{KeepsAddresses};
+ghost use Rattle.usb_enum.specs.Frames.{OnlyAsks};
 
 use crate::stop::{Stop, answered_or};
 use crate::{Cause, ConfigText, ConfigTexts, Request};
@@ -25,10 +27,12 @@ fn total_length<B: Bus>(alloc: Global, bus: &mut B, target: Target, index: u8) -
     ensures went { Went B.world B.trace (read_bound 9) bus.old bus.new }
     ensures told { IfErr result (λ stop. Told stop (B.world bus.new)) }
     ensures fits { IfOk result (λ total. (9 ≤ total) × (total ≤ 65535)) }
-    ensures learned { IfOk result (λ total. Learns
-        (AtMaximum target (HasTotal index total)) target
+    ensures learned { MatchResult result
+        (λ total. Learns (AtMaximum target (HasTotal index total)) target
+        (B.world bus.old) (B.world bus.new))
+        (λ stop. Explains (Refuses target (λ spec. config_fault spec index) stop) target
         (B.world bus.old) (B.world bus.new)) }
-    ensures keeps { KeepsAddresses (B.world bus.old) (B.world bus.new) }
+    ensures keeps { OnlyAsks (B.world bus.old) (B.world bus.new) }
 {
     let stalled = Cause::Stalled(Request::Config);
     let head = answered_or(stalled, get_config(alloc, bus, target, index, 9))?;
@@ -49,10 +53,12 @@ fn read_text<B: Bus>(
     requires max { 8 ≤ target.max }
     ensures went { Went B.world B.trace configuration_bound bus.old bus.new }
     ensures told { IfErr result (λ stop. Told stop (B.world bus.new)) }
-    ensures learned { IfOk result (λ text. Learns
-        (AtMaximum target (HasConfiguration index text)) target
+    ensures learned { MatchResult result
+        (λ text. Learns (AtMaximum target (HasConfiguration index text)) target
+        (B.world bus.old) (B.world bus.new))
+        (λ stop. Explains (Refuses target (λ spec. config_fault spec index) stop) target
         (B.world bus.old) (B.world bus.new)) }
-    ensures keeps { KeepsAddresses (B.world bus.old) (B.world bus.new) }
+    ensures keeps { OnlyAsks (B.world bus.old) (B.world bus.new) }
 {
     let total = total_length(alloc, bus, target, index)?;
     let stalled = Cause::Stalled(Request::Config);
@@ -75,10 +81,12 @@ pub(crate) fn read_configurations<B: Bus>(
     ensures went { Went B.world B.trace (255 * configuration_bound) bus.old bus.new }
     ensures told { IfErr result (λ stop. Told stop (B.world bus.new)) }
     ensures read { IfOk result (λ texts. (length texts ≡ count) × ValuesDiffer texts) }
-    ensures learned { IfOk result (λ texts. Learns
-        (AtMaximum target (HasConfigurations count texts)) target
+    ensures learned { MatchResult result
+        (λ texts. Learns (AtMaximum target (HasConfigurations count texts)) target
+        (B.world bus.old) (B.world bus.new))
+        (λ stop. Explains (Refuses target (λ spec. first_fault spec count) stop) target
         (B.world bus.old) (B.world bus.new)) }
-    ensures keeps { KeepsAddresses (B.world bus.old) (B.world bus.new) }
+    ensures keeps { OnlyAsks (B.world bus.old) (B.world bus.new) }
 {
     let mut texts = ConfigTexts::new(alloc);
     for index in 0..count {

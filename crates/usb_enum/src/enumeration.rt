@@ -1,14 +1,17 @@
 //! The whole enumeration.
-ghost use Rattle.std.specs.Prelude.{◌≡◌, ℕ, IfOk, IfErr, true};
+ghost use Rattle.std.specs.Prelude.{◌≡◌, ℕ, IfOk, IfErr, MatchResult, true};
 ghost use Rattle.usb_bus.specs.Traced.{Went};
 ghost use Rattle.usb_hub.specs.Port.{IsPort, order_bound};
 ghost use Rattle.usb_enum.specs.Bounds.{unaddressed_bound, examination_bound, enumeration_bound, configured_bound, hub_bound};
 ghost use Rattle.usb_enum.specs.Stop.{FaultAt, ToldIn, ToldOfDevice, ToldOfHub, ToldWithout};
-ghost use Rattle.usb_enum.specs.Found.{Enumerates, GivesUp, IsAccepted, IsFound, IsListed, IsWhole, TakesFor};
+ghost use Rattle.usb_enum.specs.Found.{Closes, Enumerates, GivesUp, IsAccepted, IsFound, IsListed, IsWhole, TakesFor};
 ghost use Rattle.usb_enum.specs.Device.{fits_tier, is_hub};
-ghost use Rattle.usb_enum.specs.Addresses.{Ends, Within};
+ghost use Rattle.usb_enum.specs.Addresses.{AtPort};
+ghost use Rattle.usb_enum.specs.Fair.{Stops};
+ghost use Rattle.usb_enum.specs.Learned.{Explains, ExplainsSet};
 ghost use Rattle.usb_enum.specs.Present.{LearnsPorts};
-ghost use Rattle.usb_address.specs.Owned.{KeepsAddresses};
+ghost use Rattle.usb_enum.specs.Refusals.{Refuses, start_fault, configured_fault, unaddressed_fault, whole_fault};
+ghost use Rattle.usb_enum.specs.Frames.{OnlySets, OnlyTells};
 
 use crate::addressed::Addressed;
 use crate::configurations::{choose_configuration, read_configurations};
@@ -72,7 +75,8 @@ fn without_address<B: Bus>(alloc: Global, bus: &mut B, port: HubPort) -> Stop
     requires { IsPort (B.world bus.old) port }
     ensures went { Went B.world B.trace (unaddressed_bound port) bus.old bus.new }
     ensures told { ToldWithout port result (B.world bus.new) }
-    ensures within { Within port 0 (B.world bus.old) (B.world bus.new) }
+    ensures within { AtPort port 0 (B.world bus.old) (B.world bus.new) }
+    ensures why { Stops unaddressed_fault port 0 result (B.world bus.old) (B.world bus.new) }
 {
     match unaddressed(alloc, bus, port) {
         Ok(_) => Stop::Refused(Cause::NoAddress),
@@ -86,7 +90,7 @@ fn give_up<B: Bus>(bus: &mut B, port: HubPort, stop: Stop) -> Result<Finding, En
     requires { IsPort (B.world bus.old) port }
     ensures went { Went B.world B.trace (order_bound port) bus.old bus.new }
     ensures left { GivesUp port stop (B.world bus.old) result (B.world bus.new) }
-    ensures ends { (a : ℕ) → Ends port a (B.world bus.old) result (B.world bus.new) }
+    ensures closes { (a : ℕ) → Closes port a stop (B.world bus.old) result (B.world bus.new) }
 {
     match stop {
         Stop::Refused(cause) => {
@@ -109,9 +113,11 @@ fn examine<B: Bus>(
     requires port { IsPort (B.world bus.old) port }
     ensures went { Went B.world B.trace (examination_bound port) bus.old bus.new }
     ensures told { IfErr result (λ stop. ToldIn port tier stop (B.world bus.new)) }
-    ensures within { Within port address (B.world bus.old) (B.world bus.new) }
-    ensures ok { IfOk result (IsAccepted port address tier supply (B.world bus.old)
-        (B.world bus.new)) }
+    ensures within { AtPort port address (B.world bus.old) (B.world bus.new) }
+    ensures ok { MatchResult result
+        (IsAccepted port address tier supply (B.world bus.old) (B.world bus.new))
+        (λ stop. Stops (whole_fault tier supply) port address stop
+        (B.world bus.old) (B.world bus.new)) }
 {
     let device = passes(alloc, bus, port, address.number())?;
     configure(alloc, bus, address, device, tier, supply)
@@ -130,8 +136,11 @@ fn configure<B: Bus>(
     ensures went { Went B.world B.trace configured_bound bus.old bus.new }
     ensures told { IfErr result (λ stop. ToldOfDevice tier stop (B.world bus.new)) }
     ensures whole { IfOk result (λ accepted. IsWhole supply accepted) }
-    ensures listed { IfOk result (IsListed device tier (B.world bus.old) (B.world bus.new)) }
-    ensures keeps { KeepsAddresses (B.world bus.old) (B.world bus.new) }
+    ensures learned { MatchResult result
+        (IsListed device tier (B.world bus.old) (B.world bus.new))
+        (λ stop. Explains (Refuses device.target (configured_fault tier supply device.bytes) stop)
+        device.target (B.world bus.old) (B.world bus.new)) }
+    ensures keeps { OnlySets address (B.world bus.old) (B.world bus.new) }
 {
     let target = device.target;
     fits_tier(&device, tier)?;
@@ -175,9 +184,11 @@ fn hub_facts<B: Bus>(
     ensures went { Went B.world B.trace hub_bound bus.old bus.new }
     ensures told { IfErr result (λ stop. ToldOfHub stop (B.world bus.new)) }
     ensures hub { IfErr result (λ _. is_hub device.now.bytes ≡ true) }
-    ensures ports { IfOk result (LearnsPorts device.now text.now (B.world bus.old)
-        (B.world bus.new)) }
-    ensures keeps { KeepsAddresses (B.world bus.old) (B.world bus.new) }
+    ensures ports { MatchResult result
+        (LearnsPorts device.now text.now (B.world bus.old) (B.world bus.new))
+        (λ stop. ExplainsSet (Refuses device.now.target (start_fault text.now) stop)
+        device.now.target (B.world bus.old) (B.world bus.new)) }
+    ensures keeps { OnlyTells device.now.target.addr (B.world bus.old) (B.world bus.new) }
 {
     if !device.is_hub() {
         return Ok(None);

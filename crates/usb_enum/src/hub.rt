@@ -1,16 +1,16 @@
 //! What the host asks of a hub once it is configured, and the power of its ports (11.23, 11.24).
-ghost use Rattle.std.specs.Prelude.{◌≡◌, ◌⊎◌, ◌≤◌, ◌*◌, IfOk, IfErr};
+ghost use Rattle.std.specs.Prelude.{◌≡◌, ◌⊎◌, ◌≤◌, ◌*◌, IfOk, IfErr, MatchResult};
 ghost use Rattle.usb_bus.specs.Traced.{Went};
 ghost use Rattle.usb_port.specs.Path.{IsPortNumber};
 ghost use Rattle.usb_transaction.specs.Trans.{IsTarget};
 ghost use Rattle.usb_enum.specs.Bounds.{read_bound, none_bound, hub_bound};
-ghost use Rattle.usb_enum.specs.Learned.{Learns};
+ghost use Rattle.usb_enum.specs.Learned.{Learns, Explains, ExplainsSet};
 ghost use Rattle.usb_enum.specs.Readings.{AtMaximum, Ruled, HasPorts, HasSupply, IsGoodHub};
+ghost use Rattle.usb_enum.specs.Refusals.{Refuses, RefusesNoPort, hub_fault, start_fault};
 ghost use Rattle.usb_enum.specs.Stop.{ToldOfHub};
 ghost use Rattle.usb_enum.specs.Device.{StartsHub};
 ghost use Rattle.usb_enum.specs.Hub.{CountTold, SupplyTold, IsPowered, Powered};
-ghost use Rattle.usb_address.specs.Owned.{KeepsAddresses};
-ghost use Rattle.usb_hub.specs.Addresses.{KeepsDevices};
+ghost use Rattle.usb_enum.specs.Frames.{OnlyAsks, OnlyTells};
 
 use crate::stop::{Stop, answered_or};
 use crate::{Cause, ConfigText};
@@ -43,10 +43,12 @@ pub(crate) fn start_hub<B: Bus>(
     ensures went { Went B.world B.trace hub_bound bus.old bus.new }
     ensures told { IfErr result (λ stop. ToldOfHub stop (B.world bus.new)) }
     ensures started { IfOk result (StartsHub target text.now (B.world bus.old) (B.world bus.new)) }
-    ensures learned { IfOk result (λ facts. Learns
-        (AtMaximum target (Ruled (IsGoodHub text.now facts))) target
+    ensures learned { MatchResult result
+        (λ facts. Learns (AtMaximum target (Ruled (IsGoodHub text.now facts))) target
+        (B.world bus.old) (B.world bus.new))
+        (λ stop. ExplainsSet (Refuses target (start_fault text.now) stop) target
         (B.world bus.old) (B.world bus.new)) }
-    ensures keeps { KeepsAddresses (B.world bus.old) (B.world bus.new) }
+    ensures keeps { OnlyTells target.addr (B.world bus.old) (B.world bus.new) }
 {
     if text.status_endpoint().is_none() {
         return Err(Stop::Refused(Cause::BadHub));
@@ -65,10 +67,12 @@ fn port_count<B: Bus>(alloc: Global, bus: &mut B, target: Target) -> Result<u8, 
     ensures told { IfErr result (λ stop. ToldOfHub stop (B.world bus.new)) }
     ensures count { IfOk result (λ ports. IsPortNumber ports
         × CountTold target (B.world bus.old) (B.world bus.new) ports) }
-    ensures learned { IfOk result (λ ports. Learns
-        (AtMaximum target (HasPorts ports)) target
+    ensures learned { MatchResult result
+        (λ ports. Learns (AtMaximum target (HasPorts ports)) target
+        (B.world bus.old) (B.world bus.new))
+        (λ stop. Explains (Refuses target hub_fault stop) target
         (B.world bus.old) (B.world bus.new)) }
-    ensures keeps { KeepsAddresses (B.world bus.old) (B.world bus.new) }
+    ensures keeps { OnlyAsks (B.world bus.old) (B.world bus.new) }
 {
     let bytes = answered_or(Cause::BadHub, hub_descriptor(alloc, bus, target))?;
     match read_hub(bytes.as_slice()) {
@@ -86,9 +90,12 @@ fn port_supply<B: Bus>(alloc: Global, bus: &mut B, target: Target) -> Result<u16
     ensures told { IfErr result (λ stop. ToldOfHub stop (B.world bus.new)) }
     ensures said { IfOk result (λ supply. ((supply ≡ 500) ⊎ (supply ≡ 100))
         × SupplyTold target (B.world bus.old) (B.world bus.new) supply) }
-    ensures learned { IfOk result (λ supply. Learns (HasSupply supply) target
+    ensures learned { MatchResult result
+        (λ supply. Learns (HasSupply supply) target
+        (B.world bus.old) (B.world bus.new))
+        (λ stop. Explains (Refuses target hub_fault stop) target
         (B.world bus.old) (B.world bus.new)) }
-    ensures keeps { KeepsAddresses (B.world bus.old) (B.world bus.new) }
+    ensures keeps { OnlyAsks (B.world bus.old) (B.world bus.new) }
 {
     let status = answered_or(Cause::BadHub, get_status(alloc, bus, target))?;
     Ok(supply(false, status.self_powered))
@@ -100,8 +107,9 @@ fn power_ports<B: Bus>(bus: &mut B, target: Target, ports: u8) -> Result<(), Sto
     ensures went { Went B.world B.trace (ports * none_bound) bus.old bus.new }
     ensures told { IfErr result (λ stop. ToldOfHub stop (B.world bus.new)) }
     ensures powered { IfOk result (λ _. Powered target ports (B.world bus.old) (B.world bus.new)) }
-    ensures keeps { KeepsAddresses (B.world bus.old) (B.world bus.new) }
-    ensures devices { KeepsDevices (B.world bus.old) (B.world bus.new) }
+    ensures why { IfErr result (λ stop. ExplainsSet (RefusesNoPort target ports stop) target
+        (B.world bus.old) (B.world bus.new)) }
+    ensures keeps { OnlyTells target.addr (B.world bus.old) (B.world bus.new) }
 {
     'ports: for before in 0..ports {
         power_port(bus, target, before + 1)?;
@@ -115,8 +123,9 @@ fn power_port<B: Bus>(bus: &mut B, target: Target, port: u8) -> Result<(), Stop>
     ensures went { Went B.world B.trace none_bound bus.old bus.new }
     ensures told { IfErr result (λ stop. ToldOfHub stop (B.world bus.new)) }
     ensures powered { IfOk result (λ _. IsPowered target port (B.world bus.old) (B.world bus.new)) }
-    ensures keeps { KeepsAddresses (B.world bus.old) (B.world bus.new) }
-    ensures devices { KeepsDevices (B.world bus.old) (B.world bus.new) }
+    ensures why { IfErr result (λ stop. ExplainsSet (RefusesNoPort target port stop) target
+        (B.world bus.old) (B.world bus.new)) }
+    ensures keeps { OnlyTells target.addr (B.world bus.old) (B.world bus.new) }
 {
     answered_or(Cause::BadHub, set_hub_port(bus, target, port, PORT_POWER))
 }

@@ -1,17 +1,20 @@
 //! The steps up to a device that has its address and has given its device descriptor.
-ghost use Rattle.std.specs.Prelude.{◌≡◌, ◌≤◌, ◌<◌, ◌*◌, IfOk, IfErr, IfSome, true, ℕ, OnOk, Ok, None};
+ghost use Rattle.std.specs.Prelude.{◌≡◌, ◌≤◌, ◌<◌, ◌*◌, IfOk, IfErr, IfSome, true, ℕ, OnOk, Ok, None, MatchResult};
+ghost use Rattle.usb_device.specs.Calls.{set_call};
 ghost use Rattle.usb_bus.specs.Traced.{Went};
 ghost use Rattle.usb_hub.specs.Port.{IsPort, status_bound, order_bound};
 ghost use Rattle.usb_transaction.specs.Trans.{IsTarget};
 ghost use Rattle.usb_enum.specs.Bounds.{read_bound, reset_bound, unaddressed_bound, pass_bound};
 ghost use Rattle.usb_enum.specs.Stop.{FaultAt, Told, ToldAt};
 ghost use Rattle.usb_enum.specs.Device.{IsUnaddressed, device_bytes, is_device, needs_pre};
-ghost use Rattle.usb_address.specs.Owned.{KeepsAddresses};
 ghost use Rattle.usb_hub.specs.Addresses.{KeepsDevices, Resets};
-ghost use Rattle.usb_hub.specs.Moments.{TellsPort};
-ghost use Rattle.usb_enum.specs.Addresses.{Within};
-ghost use Rattle.usb_enum.specs.Present.{AnswersSo, Finds, HasHead, HasDescriptor, HasSpeed, HasTaken, AwaitsAddress};
-ghost use Rattle.usb_enum.specs.Readings.{AtMaximum};
+ghost use Rattle.usb_enum.specs.Addresses.{AtPort, OnlyCalls};
+ghost use Rattle.usb_enum.specs.Calls.{CalledAt, Settles, StatusAt};
+ghost use Rattle.usb_enum.specs.Fair.{PassEnds, Stops};
+ghost use Rattle.usb_enum.specs.Frames.{OnlyAsks};
+ghost use Rattle.usb_enum.specs.Learned.{Explains};
+ghost use Rattle.usb_enum.specs.Present.{Awaits, HasTaken, WasReset};
+ghost use Rattle.usb_enum.specs.Refusals.{IsRefusedFor, FindsHead, FindsDescriptor, RefusesDescriptor, no_fault, head_fault, early_fault, addressed_fault};
 
 use crate::addressed::Addressed;
 use crate::stop::{Stop, answered_or, at_port};
@@ -30,6 +33,8 @@ fn begin_reset<B: Bus>(bus: &mut B, port: HubPort) -> Result<(), EnumFault>
     ensures went { Went B.world B.trace (order_bound port) bus.old bus.new }
     ensures told { IfErr result (λ fault. FaultAt port fault (B.world bus.new)) }
     ensures resets { Resets port (B.world bus.old) (B.world bus.new) }
+    ensures only { (a : ℕ) → OnlyCalls port a (B.world bus.old) (B.world bus.new) }
+    ensures calls { CalledAt port (set_call 4) (B.world bus.old) result (B.world bus.new) }
 {
     at_port(set_port(bus, port, PORT_RESET))
 }
@@ -39,9 +44,8 @@ fn read_status<B: Bus>(alloc: Global, bus: &mut B, port: HubPort) -> Result<Port
     requires { IsPort (B.world bus.old) port }
     ensures went { Went B.world B.trace (status_bound port) bus.old bus.new }
     ensures told { IfErr result (λ fault. FaultAt port fault (B.world bus.new)) }
-    ensures tells { IfOk result (λ status. TellsPort port (B.world bus.old) (Ok status)
-        (B.world bus.new)) }
-    ensures keeps { KeepsAddresses (B.world bus.old) (B.world bus.new) }
+    ensures status { StatusAt port (B.world bus.old) result (B.world bus.new) }
+    ensures keeps { OnlyAsks (B.world bus.old) (B.world bus.new) }
 {
     at_port(port_status(alloc, bus, port))
 }
@@ -51,9 +55,10 @@ fn reset<B: Bus>(alloc: Global, bus: &mut B, port: HubPort) -> Result<bool, Stop
     requires port { IsPort (B.world bus.old) port }
     ensures went { Went B.world B.trace (reset_bound port) bus.old bus.new }
     ensures told { IfErr result (λ stop. ToldAt port stop (B.world bus.new)) }
-    ensures within { (a : ℕ) → Within port a (B.world bus.old) (B.world bus.new) }
-    ensures low { IfOk result (λ low. (a : ℕ) → (B.world bus.new).fault ≡ None
-        → Finds (HasSpeed low) port a (B.world bus.old) (B.world bus.new)) }
+    ensures within { (a : ℕ) → AtPort port a (B.world bus.old) (B.world bus.new) }
+    ensures found { MatchResult result
+        (λ low. (a : ℕ) → WasReset low port a (B.world bus.old) (B.world bus.new))
+        (λ stop. (a : ℕ) → Stops no_fault port a stop (B.world bus.old) (B.world bus.new)) }
 {
     begin_reset(bus, port)?;
     let status = read_status(alloc, bus, port)?;
@@ -69,8 +74,9 @@ fn settle<B: Bus>(bus: &mut B, port: HubPort, changed: bool) -> Result<(), EnumF
     requires { IsPort (B.world bus.old) port }
     ensures went { Went B.world B.trace (order_bound port) bus.old bus.new }
     ensures told { IfErr result (λ fault. FaultAt port fault (B.world bus.new)) }
-    ensures keeps { KeepsAddresses (B.world bus.old) (B.world bus.new) }
+    ensures within { (a : ℕ) → AtPort port a (B.world bus.old) (B.world bus.new) }
     ensures devices { KeepsDevices (B.world bus.old) (B.world bus.new) }
+    ensures calls { Settles port changed (B.world bus.old) result (B.world bus.new) }
 {
     if !changed {
         return Ok(());
@@ -96,9 +102,11 @@ fn first_maximum<B: Bus>(alloc: Global, bus: &mut B, unaddressed: Target) -> Res
     ensures went { Went B.world B.trace (read_bound 8) bus.old bus.new }
     ensures told { IfErr result (λ stop. Told stop (B.world bus.new)) }
     ensures fits { IfOk result (λ max. (8 ≤ max) × (max ≤ 64)) }
-    ensures head { IfOk result (λ max. AnswersSo (HasHead unaddressed.low max) unaddressed
+    ensures head { MatchResult result
+        (FindsHead unaddressed (B.world bus.old) (B.world bus.new))
+        (λ stop. Explains (IsRefusedFor (head_fault unaddressed.low) stop) unaddressed
         (B.world bus.old) (B.world bus.new)) }
-    ensures keeps { KeepsAddresses (B.world bus.old) (B.world bus.new) }
+    ensures keeps { OnlyAsks (B.world bus.old) (B.world bus.new) }
 {
     let stalled = Cause::Stalled(Request::Device);
     let bytes = answered_or(stalled, get_device(alloc, bus, unaddressed, 8))?;
@@ -116,10 +124,10 @@ fn descriptor<B: Bus>(alloc: Global, bus: &mut B, target: Target) -> Result<Opti
     ensures told { IfErr result (λ stop. Told stop (B.world bus.new)) }
     ensures device { IfOk result (λ found. IfSome found (λ bytes.
         is_device target.low bytes ≡ true)) }
-    ensures bytes { IfOk result (λ found. IfSome found (λ bytes. AnswersSo
-        (AtMaximum target (HasDescriptor bytes)) target
-        (B.world bus.old) (B.world bus.new))) }
-    ensures keeps { KeepsAddresses (B.world bus.old) (B.world bus.new) }
+    ensures bytes { MatchResult result
+        (FindsDescriptor target (B.world bus.old) (B.world bus.new))
+        (λ stop. RefusesDescriptor target stop (B.world bus.old) (B.world bus.new)) }
+    ensures keeps { OnlyAsks (B.world bus.old) (B.world bus.new) }
 {
     let outcome = get_device(alloc, bus, target, 18);
     if outcome == Err(PipeFault::NoAnswer) {
@@ -149,9 +157,10 @@ pub(crate) fn unaddressed<B: Bus>(alloc: Global, bus: &mut B, port: HubPort) -> 
     ensures went { Went B.world B.trace (unaddressed_bound port) bus.old bus.new }
     ensures told { IfErr result (λ stop. ToldAt port stop (B.world bus.new)) }
     ensures target { IfOk result (IsUnaddressed port) }
-    ensures within { (a : ℕ) → Within port a (B.world bus.old) (B.world bus.new) }
-    ensures device { IfOk result (λ target. (a : ℕ) → Finds (AwaitsAddress target) port a
-        (B.world bus.old) (B.world bus.new)) }
+    ensures within { (a : ℕ) → AtPort port a (B.world bus.old) (B.world bus.new) }
+    ensures device { MatchResult result
+        (λ target. (a : ℕ) → Awaits target port a (B.world bus.old) (B.world bus.new))
+        (λ stop. (a : ℕ) → Stops early_fault port a stop (B.world bus.old) (B.world bus.new)) }
 {
     let low = reset(alloc, bus, port)?;
     let pre = low && needs_pre(port);
@@ -187,9 +196,10 @@ fn pass<B: Bus>(
     requires most { address < 128 }
     ensures went { Went B.world B.trace (pass_bound port) bus.old bus.new }
     ensures told { IfErr result (λ stop. ToldAt port stop (B.world bus.new)) }
-    ensures within { Within port address (B.world bus.old) (B.world bus.new) }
-    ensures taken { IfOk result (λ found. IfSome found (HasTaken port address (B.world bus.old)
-        (B.world bus.new))) }
+    ensures within { AtPort port address (B.world bus.old) (B.world bus.new) }
+    ensures taken { MatchResult result
+        (PassEnds port address (B.world bus.old) (B.world bus.new))
+        (λ stop. Stops addressed_fault port address stop (B.world bus.old) (B.world bus.new)) }
 {
     let target = unaddressed(alloc, bus, port)?;
     let stalled = Cause::Stalled(Request::Address);
@@ -217,8 +227,10 @@ pub(crate) fn passes<B: Bus>(
     requires most { address < 128 }
     ensures went { Went B.world B.trace (3 * pass_bound port) bus.old bus.new }
     ensures told { IfErr result (λ stop. ToldAt port stop (B.world bus.new)) }
-    ensures within { Within port address (B.world bus.old) (B.world bus.new) }
-    ensures taken { IfOk result (HasTaken port address (B.world bus.old) (B.world bus.new)) }
+    ensures within { AtPort port address (B.world bus.old) (B.world bus.new) }
+    ensures taken { MatchResult result
+        (HasTaken port address (B.world bus.old) (B.world bus.new))
+        (λ stop. Stops addressed_fault port address stop (B.world bus.old) (B.world bus.new)) }
 {
     for _pass in 0..3u8 {
         if let Some(device) = pass(alloc, bus, port, address)? {

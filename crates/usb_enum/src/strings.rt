@@ -1,14 +1,15 @@
 //! The strings of a device (9.6.7).
-ghost use Rattle.std.specs.Prelude.{◌≡◌, ◌≤◌, IfOk, IfErr};
+ghost use Rattle.std.specs.Prelude.{◌≡◌, ◌≤◌, IfOk, IfErr, MatchResult};
 ghost use Rattle.usb_bus.specs.Traced.{Went};
 ghost use Rattle.usb_transaction.specs.Trans.{IsTarget};
 ghost use Rattle.usb_enum.specs.Bounds.{read_bound, strings_bound};
 ghost use Rattle.usb_enum.specs.Described.{strings_by};
-ghost use Rattle.usb_enum.specs.Learned.{Learns};
+ghost use Rattle.usb_enum.specs.Learned.{Learns, Explains};
 ghost use Rattle.usb_enum.specs.Readings.{AtMaximum, HasString, language_of, string_in, no_strings};
+ghost use Rattle.usb_enum.specs.Refusals.{Refuses, no_fault};
 ghost use Rattle.usb_enum.specs.Stop.{Told};
 ghost use Rattle.usb_enum.specs.Text.{first_language_of, units_of};
-ghost use Rattle.usb_address.specs.Owned.{KeepsAddresses};
+ghost use Rattle.usb_enum.specs.Frames.{OnlyAsks};
 
 use crate::StringUnits;
 use crate::stop::{Stop, stop_of};
@@ -89,10 +90,12 @@ fn string_bytes<B: Bus>(
     requires max { 8 ≤ target.max }
     ensures went { Went B.world B.trace (read_bound 255) bus.old bus.new }
     ensures told { IfErr result (λ stop. Told stop (B.world bus.new)) }
-    ensures learned { IfOk result (λ bytes. Learns
-        (AtMaximum target (HasString index bytes)) target
+    ensures learned { MatchResult result
+        (λ bytes. Learns (AtMaximum target (HasString index bytes)) target
+        (B.world bus.old) (B.world bus.new))
+        (λ stop. Explains (Refuses target no_fault stop) target
         (B.world bus.old) (B.world bus.new)) }
-    ensures keeps { KeepsAddresses (B.world bus.old) (B.world bus.new) }
+    ensures keeps { OnlyAsks (B.world bus.old) (B.world bus.new) }
 {
     match get_string(alloc, bus, target, index, language) {
         Ok(bytes) => Ok(Some(bytes)),
@@ -115,10 +118,12 @@ fn read_one<B: Bus>(
     requires max { 8 ≤ target.max }
     ensures went { Went B.world B.trace (read_bound 255) bus.old bus.new }
     ensures told { IfErr result (λ stop. Told stop (B.world bus.new)) }
-    ensures learned { IfOk result (λ string. Learns
-        (AtMaximum target (λ spec. string ≡ string_in spec index)) target
+    ensures learned { MatchResult result
+        (λ string. Learns (AtMaximum target (λ spec. string ≡ string_in spec index)) target
+        (B.world bus.old) (B.world bus.new))
+        (λ stop. Explains (Refuses target no_fault stop) target
         (B.world bus.old) (B.world bus.new)) }
-    ensures keeps { KeepsAddresses (B.world bus.old) (B.world bus.new) }
+    ensures keeps { OnlyAsks (B.world bus.old) (B.world bus.new) }
 {
     if index == 0 {
         return Ok(None);
@@ -135,10 +140,12 @@ fn language<B: Bus>(alloc: Global, bus: &mut B, target: Target) -> Result<Option
     requires max { 8 ≤ target.max }
     ensures went { Went B.world B.trace (read_bound 255) bus.old bus.new }
     ensures told { IfErr result (λ stop. Told stop (B.world bus.new)) }
-    ensures learned { IfOk result (λ language. Learns
-        (AtMaximum target (λ spec. language ≡ language_of spec)) target
+    ensures learned { MatchResult result
+        (λ language. Learns (AtMaximum target (λ spec. language ≡ language_of spec)) target
+        (B.world bus.old) (B.world bus.new))
+        (λ stop. Explains (Refuses target no_fault stop) target
         (B.world bus.old) (B.world bus.new)) }
-    ensures keeps { KeepsAddresses (B.world bus.old) (B.world bus.new) }
+    ensures keeps { OnlyAsks (B.world bus.old) (B.world bus.new) }
 {
     match string_bytes(alloc, bus, target, 0, 0)? {
         Some(bytes) => Ok(first_language(bytes.as_slice())),
@@ -157,10 +164,12 @@ pub(crate) fn read_strings<B: Bus>(
     requires max { 8 ≤ target.max }
     ensures went { Went B.world B.trace strings_bound bus.old bus.new }
     ensures told { IfErr result (λ stop. Told stop (B.world bus.new)) }
-    ensures learned { IfOk result (λ strings. Learns
-        (AtMaximum target (λ spec. strings ≡ strings_by spec indexes)) target
+    ensures learned { MatchResult result
+        (λ strings. Learns (AtMaximum target (λ spec. strings ≡ strings_by spec indexes)) target
+        (B.world bus.old) (B.world bus.new))
+        (λ stop. Explains (Refuses target no_fault stop) target
         (B.world bus.old) (B.world bus.new)) }
-    ensures keeps { KeepsAddresses (B.world bus.old) (B.world bus.new) }
+    ensures keeps { OnlyAsks (B.world bus.old) (B.world bus.new) }
 {
     if indexes.manufacturer == 0 && indexes.product == 0 && indexes.serial_number == 0 {
         return Ok(no_strings());

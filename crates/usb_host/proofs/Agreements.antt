@@ -125,7 +125,7 @@ known_entered_by q path f es apart (Some hub) is =
 pub known_entered : (q path : List ℕ) (f : Finding) (es : Entries) → ((hub : List ℕ) → parent_of q ≡ Some hub → is_at (path_cmp hub) path ≡ false) → known_port q (insert_entry path_cmp es path f) ≡ known_port q es
 known_entered q path f es apart = known_entered_by q path f es apart (parent_of q) refl
 
-shorter_apart : (path hub : List ℕ) → parent_of path ≡ Some hub → (b : Bool) → is_at (path_cmp hub) path ≡ b → b ≡ false
+pub shorter_apart : (path hub : List ℕ) → parent_of path ≡ Some hub → (b : Bool) → is_at (path_cmp hub) path ≡ b → b ≡ false
 shorter_apart path hub is true tie =
     let same = same_path hub path tie in
     let long : length path ≡ length hub + 1 = ap length (rejoined path hub is) ∙ length-append hub (port_of path ∷ []) in

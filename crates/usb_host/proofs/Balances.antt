@@ -1,8 +1,9 @@
 -- How the entries and the taken addresses change together.
 use Rattle.std.proofs.Common.{◌≡◌, ◌≢◌, ◌∙◌, refl, sym, subst, ap, arith, inl, inr, true, false, Bool, ℕ, ◌+◌, ◌≤◌, cond, List, [], ◌∷◌, ◌||◌, Option, Some, Ok}
 use Rattle.std.specs.Prelude.{nat_eq}
-use Rattle.std.specs.List.{sum_by}
-use Rattle.std.specs.Map.{lookup, remove_entry}
+use Rattle.std.specs.List.{sum_by, AllByRecursion}
+use Rattle.std.specs.List.Sorted.{IsStrictlySortedBy}
+use Rattle.std.specs.Map.{lookup, remove_entry, keys_of}
 use Rattle.std.specs.BTreeMap.{insert_entry, is_at}
 use Rattle.std.specs.Ordering.{nat_cmp, is_eq, ordering_reverse, match_ordering}
 use Rattle.std.specs.Cmp.Lexicographic.{pointwise, texts_ties, nat_list_cmp_total}
@@ -15,10 +16,12 @@ use Rattle.usb_port.specs.Order.{path_cmp}
 use Rattle.usb_resources.specs.Pool.{Addresses, IsAddress, IsFull, IsTaken, HasAddresses}
 use Rattle.usb_enum.specs.declared.finding.Finding.{Finding}
 use Rattle.usb_enum.specs.declared.finding.Finding.TheVariants.{Device, Refused}
-use Rattle.usb_table.specs.Findings.{has_address, HasNewAddress}
-use Rattle.usb_table.proofs.Paths.{path_tied}
+use Rattle.usb_table.specs.Findings.{has_address, address_of, HasNewAddress}
+use Rattle.usb_table.specs.Keys.{address_in}
+use Rattle.usb_table.specs.Listing.{address_at}
+use Rattle.usb_table.proofs.Paths.{path_tied, path_itself}
 use Rattle.usb_host.specs.Accounts.{Accounts, Claims}
-use Rattle.usb_table.specs.Entries.{Entries, has_at, is_at_or_below}
+use Rattle.usb_table.specs.Entries.{Entries, Rises, has_at, is_at_or_below}
 use Rattle.usb_table.specs.Table.{Table, TakesOut}
 use Rattle.usb_enum.specs.Found.{TakesFor}
 use Rattle.usb_host.specs.Hosting.{Frees}
@@ -159,6 +162,57 @@ pub accounts_taken : (a : ℕ) (p : List ℕ) (f : Finding) (es : Entries) (addr
 unfolding count one
 accounts_taken a p f es addresses h has found =
     some_one (contains addresses a) (subst (λ n. 1 ≤ n) (h.each a) (counted a (is_at (path_cmp p)) f es has found))
+
+-- each address that is taken is listed
+
+key_step : (P : List ℕ → Type 0) (path : List ℕ) (f : Finding) (e : List ℕ × Finding) (es : Entries) → P e.0 → (lookup (is_at (path_cmp path)) es ≡ Some f → P path) → (b : Bool) → is_at (path_cmp path) e.0 ≡ b
+    → cond b (Some e.1) (lookup (is_at (path_cmp path)) es) ≡ Some f → P path
+key_step P path f e es first more true tie h = subst P (sym (path_tied path e.0 tie)) first
+key_step P path f e es first more false tie h = more h
+
+key_so : (P : List ℕ → Type 0) (path : List ℕ) (f : Finding) (es : Entries) → AllByRecursion P (keys_of es) → lookup (is_at (path_cmp path)) es ≡ Some f → P path
+key_so P path f [] all found = absurd (cc found)
+key_so P path f (e ∷ es) all found = key_step P path f e es all.0 (key_so P path f es all.1) (is_at (path_cmp path) e.0) refl found
+
+-- an entry with the address
+record Lists (a : ℕ) (es : Entries) : Type 0 where
+  path : List ℕ
+  finding : Finding
+  found : lookup (is_at (path_cmp path)) es ≡ Some finding
+  has : has_address a finding ≡ true
+
+greater_apart : (first path : List ℕ) → path_cmp first path ≡ Less → is_at (path_cmp path) first ≡ false
+greater_apart first path less = ap is_eq (nat_list_cmp_total.antisymm path first ∙ ap ordering_reverse less)
+
+lists_later : (a : ℕ) (e : List ℕ × Finding) (es : Entries) → AllByRecursion (λ k. path_cmp e.0 k ≡ Less) (keys_of es) → Lists a es → Lists a (e ∷ es)
+lists_later a e es above x = record {
+  path = x.path;
+  finding = x.finding;
+  found = rw (greater_apart e.0 x.path (key_so (λ k. path_cmp e.0 k ≡ Less) x.path x.finding es above x.found)) x.found;
+  has = x.has;
+}
+
+lists_step : (a : ℕ) (e : List ℕ × Finding) (es : Entries) → AllByRecursion (λ k. path_cmp e.0 k ≡ Less) (keys_of es) → 1 ≤ count a (e ∷ es) → (1 ≤ count a es → Lists a es) → (b : Bool) → has_address a e.1 ≡ b → Lists a (e ∷ es)
+unfolding one
+lists_step a e es above some more true has = record { path = e.0; finding = e.1; found = rw (path_itself e.0) refl; has = has }
+lists_step a e es above some more false has = let none : one (has_address a e.1) ≡ 0 = ap one has in lists_later a e es above (more (omega (arith, some, none, count-cons a e es)))
+
+lists_by : (a : ℕ) (es : Entries) → Rises es → 1 ≤ count a es → Lists a es
+unfolding count IsStrictlySortedBy
+lists_by a [] rises some = absurd (omega (arith, some))
+lists_by a (e ∷ es) rises some = lists_step a e es rises.0 some (lists_by a es rises.1) (has_address a e.1) refl
+
+address_has : (a : ℕ) (f : Finding) → has_address a f ≡ true → address_of f ≡ Some a
+unfolding has_address
+address_has a (Device device) h = ap (λ n. Some n) (eqb-true device.address a h)
+address_has a (Refused cause) h = absurd (cc h)
+
+pub accounts_listed : (es : Entries) (addresses : Addresses) → Rises es → Accounts es addresses → (a : ℕ) → IsTaken addresses a → (path : List ℕ) × (address_at path es ≡ Some a)
+unfolding count one
+accounts_listed es addresses rises h a taken =
+    let some : 1 ≤ count a es = subst (λ n. 1 ≤ n) (sym (h.each a)) (subst (λ b. 1 ≤ one b) (sym taken) (omega arith)) in
+    let x = lists_by a es rises some in
+    (x.path, ap address_in x.found ∙ address_has a x.finding x.has)
 
 pub accounts_none : Accounts [] empty
 accounts_none = record { each = λ a. rw (contains-empty nat_cmp a) refl }

@@ -19,11 +19,13 @@ use Rattle.usb_world.proofs.OwnLaws.{due_state}
 use Rattle.usb_world.proofs.WorldLaws.{course_wider, unreset_reach}
 use Rattle.usb_enum.proofs.Losses.{course_later}
 use Rattle.usb_table.specs.Entries.{Entries}
+use Rattle.usb_table.specs.Levels.{AllLevel}
+use Rattle.usb_table.specs.Table.{Table}
 use Rattle.usb_host.specs.Sound.{Known, Truthful, Causes, EachStill, Accounted}
 use Rattle.usb_host.proofs.Stays.{known_each, truthful_stays, causes_stay}
 
 -- an event asks nothing of any port
-event_calm : (path : List ℕ) (w : World) → Course (AsksNothingOf path) w (after event w)
+pub event_calm : (path : List ℕ) (w : World) → Course (AsksNothingOf path) w (after event w)
 unfolding spares_step resets leaves_step
 event_calm path w = step event (record { spares = refl; rests = refl; leaves = refl }) (here (after event w))
 
@@ -59,6 +61,13 @@ event_still w j p s on stands = record {
   on = (unreset_reach event w (suc j ∷ p) refl on).0;
   stands = sym (taken_still w.fault w (suc j ∷ p) on) ∙ stands;
   so = (refl, refl);
+}
+
+-- so pipes are as far as they were
+pub level_event : (table : Table) (w : World) → AllLevel table w → AllLevel table (after event w)
+unfolding resets after
+level_event table w level path = record {
+  level = λ device s at on stands. (level path).level device s at (unreset_reach event w path refl on).0 (sym (taken_still w.fault w path on) ∙ stands);
 }
 
 pub known_event : (w : World) (entries : Entries) → Known w entries → Known (after event w) entries

@@ -27,7 +27,7 @@ use Rattle.usb_table.specs.Known.{root_port, port_below}
 use Rattle.usb_table.specs.Listing.{finding_at}
 use Rattle.usb_host.specs.Accounts.{Accounts}
 use Rattle.usb_host.specs.Hosting.{Hosting}
-use Rattle.usb_host.specs.Owning.{claims, IsOwned, IsOwnedBut, IsBare, IsRooted, root_of, StaysOwned, StaysSingle, KeepsOwned, PortOwned, KeepsPort, LeavesOwned, FinishesPort, DropsHub, BaresAbove, KeepsDisabled}
+use Rattle.usb_host.specs.Owning.{claims, IsOwned, IsOwnedBut, IsBare, IsRooted, root_of, StaysOwned, StaysSingle, KeepsOwned, PortOwned, KeepsPort, LeavesOwned, FinishesPort, HasLost, DropsHub, BaresAbove, KeepsDisabled}
 use Rattle.usb_host.specs.Ports.{StandsAt, StandsNowhere}
 use Rattle.usb_host.specs.Progress.{Rests}
 use Rattle.usb_host.specs.declared.fault.HostFault.{HostFault}
@@ -178,7 +178,7 @@ port_disabled path port a b s r k = record {
 }
 
 -- a root port is a register, and never fails
-root_done : (path : List ℕ) (es : Entries) (port : KnownPort) (feature : ℕ) (old new : World) (fault : PipeFault) → (above : Option (List ℕ)) → parent_of path ≡ above → above ≡ None → port_below above (port_of path) es ≡ Some port
+pub root_done : (path : List ℕ) (es : Entries) (port : KnownPort) (feature : ℕ) (old new : World) (fault : PipeFault) → (above : Option (List ℕ)) → parent_of path ≡ above → above ≡ None → port_below above (port_of path) es ≡ Some port
     → PortCleared port.port feature old (Err fault) new → ⊥
 root_done path es port feature old new fault None above root e cleared =
     let same : root_port (port_of path) ≡ port = cc e in
@@ -204,6 +204,7 @@ bares_above first path a b c on r k x = record { on = on; bares = λ o. x.bares 
 
 pub drop_fails : (hub : List ℕ) (a : Hosting) (result : Result (Unit {0}) HostFault) (b : Hosting) → IsErr result → KeepsAddresses a.world b.world → DropsHub hub a result b
 drop_fails hub a result b e k = record {
+  lost = on_failed result (HasLost a.entries b.entries) e;
   ends = λ o. match_err result (λ _. IsOwned b) (b.world.shared ≡ false) e (but_kept hub (claims a.entries) a.world b.world k o).single;
   rooted = λ r at. on_failed result (IsRooted b) e;
 }
@@ -211,7 +212,11 @@ drop_fails hub a result b e k = record {
 -- what is entered for it has no address
 pub drop_ends : (hub lost : List ℕ) (a b c d : Hosting) → IsPath lost → Rests a b → roots_of b.world ≡ roots_of a.world → BaresAbove hub lost a b → c ≡ record b { entries = c.entries; pipes = c.pipes; addresses = c.addresses } → c.entries ≡ without lost b.entries → has_at lost c.entries ≡ false
     → d.world ≡ c.world → d.entries ≡ insert_entry path_cmp c.entries lost (Refused Lost) → DropsHub hub a (Ok tt) d
-drop_ends hub lost a b c d path r roots x others rest away same is = record { ends = ends; rooted = rooted }
+drop_ends hub lost a b c d path r roots x others rest away same is = record {
+  lost = record { path = lost; entries = is ∙ ap (λ (es : Entries). insert_entry path_cmp es lost (Refused Lost)) (rest ∙ ap (λ (h : Hosting). without lost h.entries) r) };
+  ends = ends;
+  rooted = rooted;
+}
   where
     still : roots_of c.world ≡ roots_of a.world
     still = ap (λ (h : Hosting). roots_of h.world) others ∙ roots

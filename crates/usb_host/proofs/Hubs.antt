@@ -18,6 +18,7 @@ use Rattle.usb_table.specs.Entries.{Entries}
 use Rattle.usb_table.specs.Known.{known_port, is_below_hub, port_below, port_found, port_of_hub}
 use Rattle.usb_resources.specs.Power.{supply_of}
 use Rattle.usb_port.specs.Path.{IsPortNumber}
+use Rattle.usb_host.specs.Agreement.{Agrees}
 use Rattle.usb_host.specs.Hosting.{Hosting}
 use Rattle.usb_host.specs.Ports.{IsDue, StandsAt}
 
@@ -48,6 +49,6 @@ below_due hub n es port w least e =
     by_found (lookup (is_at (path_cmp hub)) es) (is_below_hub hub) (port_of (hub ++ n ∷ [])) port w (subst (λ (p : Option (List ℕ)). port_below p (port_of (hub ++ n ∷ [])) es ≡ Some port) (parent hub n least) e)
 
 -- a port of the root
-pub root_stands : (number : ℕ) (h : Hosting) → IsRootPort h.world number → IsPortNumber number → StandsAt (number ∷ []) (record { port = Root number; supply = supply_of true false }) h
+pub root_stands : (number : ℕ) (h : Hosting) → IsRootPort h.world number → IsPortNumber number → Agrees h.entries h.addresses → StandsAt (number ∷ []) (record { port = Root number; supply = supply_of true false }) h
 unfolding parent_of port_of
-root_stands number h there is = record { is = (omega arith, omega arith, All-cons IsPortNumber number [] is (All-nil IsPortNumber)); known = refl; there = there; askable = is }
+root_stands number h there is agrees = record { is = (omega arith, omega arith, All-cons IsPortNumber number [] is (All-nil IsPortNumber)); known = refl; there = there; askable = is; agrees = agrees }

@@ -17,6 +17,7 @@ use Rattle.usb_table.specs.Entries.{Entries, Replaced, without}
 use Rattle.usb_table.specs.Findings.{is_waiting}
 use Rattle.usb_table.specs.Known.{known_port}
 use Rattle.usb_table.proofs.Ports.{known_port-without}
+use Rattle.usb_host.specs.Agreement.{Agrees}
 use Rattle.usb_host.specs.Hosting.{Hosting, work}
 use Rattle.usb_host.specs.declared.fault.HostFault.{HostFault}
 use Rattle.usb_host.specs.Ports.{StandsAt, Waits, Gained, Served, EndsAs, EntersOne}
@@ -90,14 +91,15 @@ served_any (Err Memory) a d on = tt
 
 -- the port stands where it stood, once what was on it is forgotten
 pub stands_kept : (n : ℕ) (path : List ℕ) (port : KnownPort) (a b c : Hosting) → Goes n a b → Rests a b → c ≡ record b { entries = c.entries; pipes = c.pipes; addresses = c.addresses } → c.entries ≡ without path b.entries
-    → StandsAt path port a → StandsAt path port c
-stands_kept n path port a b c g r others rest s =
+    → Agrees c.entries c.addresses → StandsAt path port a → StandsAt path port c
+stands_kept n path port a b c g r others rest agrees s =
     let left : c.entries ≡ without path a.entries = rest ∙ ap (λ (x : Hosting). without path x.entries) r in
     record {
       is = s.is;
       known = ap (known_port path) left ∙ known_port-without path a.entries ∙ s.known;
       there = subst (λ w. IsPort w port.port) (sym (ap (λ (x : Hosting). x.world) others)) (port_stays n port.port a.world b.world g.went.spends s.there);
       askable = s.askable;
+      agrees = agrees;
     }
 
 pub served_on : (served : Result (Unit {0}) EnumFault) (done : Unit {0}) (a b : Hosting) → EndsAs served (Ok done) → Served served a b → Advances a b

@@ -1,17 +1,28 @@
 -- A host that was just made.
-use Rattle.std.proofs.Common.{◌≡◌, ◌∙◌, refl, sym, ap, zero, suc, ℕ, List, Option, ◌∷◌, Bool, true, ◌&&◌, ◌||◌, if◌then◌else◌}
-use Rattle.std.specs.Prelude.{[], false}
+use Rattle.usb_bus.specs.Traced.{Traced}
+use Rattle.usb_enum.proofs.Courses.{traced_in_order}
+use Rattle.std.proofs.Common.{◌≡◌, ◌⊎◌, ◌∙◌, ◌<◌, inl, inr, refl, sym, ap, arith, zero, suc, ℕ, List, Option, None, ◌∷◌, Bool, true, ◌&&◌, ◌||◌, if◌then◌else◌}
+use Rattle.std.specs.Prelude.{[], false, All, length, nat_lt}
 use Rattle.std.specs.FinSet as set
-use Rattle.usb_port.specs.PortState.{PortState, powered_on, is_attached}
+use Rattle.std.proofs.lemmas.Bool.{lt-ltb}
+use Rattle.std.proofs.lemmas.List.Elements.{All-head, All-tail}
+use Rattle.usb_port.specs.Order.{parent_of, port_of}
+use Rattle.usb_port.specs.PortState.{PortState, powered_on, is_attached, speed_of}
+use Rattle.usb_device.specs.declared.calls.PortCall.TheVariants.{SetPower}
 use Rattle.usb_device.specs.Rows.{forgotten}
-use Rattle.usb_device.specs.Tree.{Ports, ended, vacant, taken, reach, reach_at}
+use Rattle.usb_device.specs.Tree.{Ports, ended, vacant, taken, empty as empty_place, full, called, row_of, reach, reach_at, state_at}
 use Rattle.usb_device.specs.Delivery.{all_forgotten}
+use Rattle.usb_world.specs.Live.{live_at, pend_at}
+use Rattle.usb_world.specs.Sane.{IsSane, IsSanePlace}
 use Rattle.usb_world.proofs.Booleans.{no}
+use Rattle.usb_world.proofs.SaneLaws.{sane_called}
 use Rattle.usb_world.specs.World.{World}
 use Rattle.usb_resources.specs.Pool.{Addresses}
 use Rattle.usb_table.specs.Table.{Table, empty}
 use Rattle.usb_host.specs.Hosting.{Hosting, opening, with_power}
 use Rattle.usb_host.specs.Owning.{Owning, IsUntouched}
+use Rattle.usb_host.specs.Sound.{IsSound, IsUnpowered, Known}
+use Rattle.usb_host.proofs.Roots.{rooted_opening}
 
 abbrev going : World → Option (List ℕ) → Table → Addresses → Hosting
 going w t table addresses = record { world = w; trace = t; entries = table.entries; pipes = table.pipes; addresses = addresses; stopped = false }
@@ -66,4 +77,55 @@ owning_opening w t u = record {
     };
     single = u.single;
   };
+}
+
+-- What a new host knows is so
+
+sane-with_power : (k : Ports) → IsSane k → IsSane (with_power k)
+unfolding with_power IsSane IsSanePlace
+sane-with_power ended h = tt
+sane-with_power (vacant b k) h = let x : IsSanePlace (called SetPower (empty_place b)) = sane_called SetPower (empty_place b) (h.0, h.1) in (x.0, x.1, sane-with_power k h.2)
+sane-with_power (taken b s a k) h =
+    let x : IsSanePlace (called SetPower (full b s a)) = sane_called SetPower (full b s a) (h.0, h.1, h.2, h.4) in
+    (x.0, x.1, x.2, sane-with_power k h.3, x.3)
+
+power_given : (b : PortState) → (powered_on b).power ≡ true
+power_given b = pick b.power refl
+  where
+    pick : (p : Bool) → b.power ≡ p → (if p then b else record b { power = true; connection_changed = is_attached b.attached || b.connection_changed }).power ≡ true
+    pick true is = is
+    pick false is = refl
+
+-- a device that stood at a port without power is told of
+told_given : (b : PortState) (low : Bool) → b.power ≡ false → b.attached ≡ speed_of low → ((powered_on b).power && (powered_on b).connection_changed) ≡ true
+told_given b true dark at = rw (dark, at) refl
+told_given b false dark at = rw (dark, at) refl
+
+known-with_power : (k : Ports) (i : ℕ) → IsSane k → All (λ b. b.power ≡ false) (row_of k) → i < length (row_of (with_power k))
+    → (pend_at (with_power k) i [] ≡ true) ⊎ ((live_at (with_power k) i [] ≡ true) × (state_at (with_power k) i [] ≡ None))
+unfolding with_power IsSane row_of pend_at live_at state_at
+known-with_power ended i h dark lt = absurd (omega (arith, lt))
+known-with_power (vacant b k) zero h dark lt = inr (power_given b, refl)
+known-with_power (vacant b k) (suc i) h dark lt = known-with_power k i h.2 (All-tail (λ b. b.power ≡ false) b (row_of k) dark) (omega (arith, lt))
+known-with_power (taken b s a k) zero h dark lt = inl (told_given b s.spec.low (All-head (λ b. b.power ≡ false) b (row_of k) dark) h.1)
+known-with_power (taken b s a k) (suc i) h dark lt = known-with_power k i h.3 (All-tail (λ b. b.power ≡ false) b (row_of k) dark) (omega (arith, lt))
+
+known_opening : (w : World) → IsUnpowered w → Known (powered w) []
+unfolding parent_of port_of
+known_opening w u [] port = absurd (omega (arith, port.some))
+known_opening w u (zero ∷ []) port = absurd (omega (arith, port.port.0))
+known_opening w u (suc i ∷ []) port = known-with_power w.roots i u.order.0.sane u.off (omega (arith, port.port.1))
+known_opening w u (n ∷ m ∷ rest) port =
+    let long : nat_lt 1 (length (n ∷ m ∷ rest)) ≡ true = lt-ltb 1 (length (n ∷ m ∷ rest)) (omega arith) in
+    let wrong = rw long at port.port in
+    absurd wrong
+
+pub sound_opening : (w : World) (t : Option (List ℕ)) → Traced w t (opening w t).world (opening w t).trace → IsUntouched w → IsUnpowered w → IsSound (opening w t)
+sound_opening w t traced untouched u = record {
+  owned = (owning_opening w t untouched).owned refl;
+  rooted = rooted_opening w t;
+  order = traced_in_order traced (λ none. u.order);
+  known = λ still. known_opening w u;
+  truthful = λ still path device s at on stands. absurd (cc at);
+  level = λ still path. record { level = λ device s at on stands. absurd (cc at) };
 }

@@ -29,10 +29,10 @@ till_as f g w same t = record { so = λ none. owned_as f g w same (t.so none); s
 
 -- Of what is at a path and below it nothing is known
 
-record Opened (p : List ℕ) (f : Claims) (w : World) : Type 0 where
-  claims : Claims
-  owned : TillFault (Owned claims) w
-  others : (x : List ℕ) → is_way p x ≡ false → claims x ≡ f x
+pub record Opened (p : List ℕ) (f : Claims) (w : World) : Type 0 where
+  pub claims : Claims
+  pub owned : TillFault (Owned claims) w
+  pub others : (x : List ℕ) → is_way p x ≡ false → claims x ≡ f x
 
 opened_by : (p : List ℕ) (f : Claims) (w : World) → TillFault (OwnedBut p f) w → (fault : Option BusFault) → w.fault ≡ fault → Opened p f w
 opened_by p f w t None is =
@@ -40,7 +40,7 @@ opened_by p f w t None is =
     record { claims = o.claims; owned = record { so = λ none. o.owned; single = t.single }; others = o.others }
 opened_by p f w t (Some fault) is = record { claims = f; owned = record { so = λ none. absurd (cc (none, is)); single = t.single }; others = λ x away. refl }
 
-opened : (p : List ℕ) (f : Claims) (w : World) → TillFault (OwnedBut p f) w → Opened p f w
+pub opened : (p : List ℕ) (f : Claims) (w : World) → TillFault (OwnedBut p f) w → Opened p f w
 opened p f w t = opened_by p f w t w.fault refl
 
 closed : (p : List ℕ) (f : Claims) (w : World) → Opened p f w → TillFault (OwnedBut p f) w
@@ -70,7 +70,7 @@ bare_as : (p : List ℕ) (f : Claims) (old new : World) → (o : Opened p f old)
 bare_as p f old new o t = till_as (cleared o.claims p) (cleared f p) new (λ x. cleared_as p f o.claims o.others x (is_way p x) refl) t
 
 -- a port stands where its hub is, whatever is on it
-at_others : (f g : Claims) (port : HubPort) (p : List ℕ) → ((x : List ℕ) → is_way p x ≡ false → g x ≡ f x) → IsAt f port p → IsAt g port p
+pub at_others : (f g : Claims) (port : HubPort) (p : List ℕ) → ((x : List ℕ) → is_way p x ≡ false → g x ≡ f x) → IsAt f port p → IsAt g port p
 at_others f g (Root number) p others at = at
 at_others f g (External hub port) p others at =
     let long : length p ≡ length at.hub + 1 = ap length at.path ∙ length-append at.hub (port ∷ []) in

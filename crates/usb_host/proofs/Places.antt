@@ -16,7 +16,8 @@ use Rattle.usb_table.specs.Entries.{Entries, has_at, without}
 use Rattle.usb_table.specs.Findings.{device_of}
 use Rattle.usb_table.specs.Listing.{finding_at, hub_in, IsPortBelow, IsListedPort, tier_of}
 use Rattle.usb_table.proofs.Paths.{path_tied}
-use Rattle.usb_host.specs.Sound.{IsKnownAs, Known, known_supply, IsToldAt, Truthful, IsCausedAt, Causes, KnownBut, TruthfulBut, CausesBut}
+use Rattle.usb_enum.specs.Places.{IsKnownAs}
+use Rattle.usb_host.specs.Sound.{Known, known_supply, IsToldAt, Truthful, IsCausedAt, Causes, KnownBut, TruthfulBut, CausesBut}
 use Rattle.usb_host.proofs.Agreements.{lookup-without, lookup-insert_entry_elsewhere, known_away, known_entered}
 use Rattle.usb_host.proofs.Claimed.{none_there, lookup-insert_entry_here}
 use Rattle.usb_host.proofs.Ways.{way_rest, way_itself, way_trans, way_parent, way_hub, at_or_below_way}

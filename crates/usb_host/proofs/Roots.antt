@@ -9,16 +9,18 @@ use Rattle.usb_world.specs.World.{World, roots_of}
 use Rattle.usb_world.proofs.Booleans.{no}
 use Rattle.usb_hub.specs.declared.port.HubPort.TheVariants.{Root}
 use Rattle.usb_hub.specs.Port.{IsPort}
+use Rattle.usb_enum.specs.declared.cause.Cause.TheVariants.{NoAddress}
 use Rattle.usb_enum.specs.declared.finding.Finding.{Finding}
+use Rattle.usb_enum.specs.declared.finding.Finding.TheVariants.{Refused}
 use Rattle.usb_table.specs.declared.known.KnownPort.{KnownPort}
 use Rattle.usb_table.specs.Entries.{Entries, without, is_at_or_below}
-use Rattle.usb_table.specs.Known.{root_port, port_below, port_found, is_below_hub}
+use Rattle.usb_table.specs.Known.{known_port, root_port, port_below, port_found, is_below_hub}
 use Rattle.usb_table.specs.Listing.{finding_at}
 use Rattle.usb_table.proofs.Paths.{path_tied}
 use Rattle.usb_host.specs.Agreement.{Agrees, Nested}
 use Rattle.usb_host.specs.Hosting.{Hosting, opening}
 use Rattle.usb_host.specs.Owning.{IsRooted, root_of}
-use Rattle.usb_host.specs.Ports.{StandsAt}
+use Rattle.usb_host.specs.Ports.{StandsAt, StandsNowhere, Waits}
 use Rattle.usb_host.specs.Sound.{Accounted}
 use Rattle.usb_host.proofs.Agreements.{lookup-without, lookup-insert_entry_elsewhere}
 use Rattle.usb_host.proofs.Stations.{root_alone}
@@ -79,6 +81,22 @@ stands_by path port h s r (Some hub) above e =
 
 pub rooted_stands : (path : List ℕ) (port : KnownPort) (h : Hosting) → StandsAt path port h → IsRooted h → root_of path ≤ roots_of h.world
 rooted_stands path port h s r = stands_by path port h s r (parent_of path) refl s.known
+
+-- an entry stands at a port that is known
+alone_by : (path : List ℕ) (h : Hosting) → StandsNowhere path h → Waits path h → (o : Option (List ℕ)) → parent_of path ≡ o → o ≡ None
+alone_by path h s w None is = refl
+alone_by path h s w (Some hub) is =
+    let known : IsSome (known_port path h.entries) = s.agrees.nested.each path (Refused NoAddress) w.entry in
+    let none : known_port path h.entries ≡ None = s.unknown (rw is refl) in
+    absurd (cc (known, none))
+
+-- a path at which nothing stands has no device that waits, where entries stand below the ports of the root
+pub waits_somewhere : (path : List ℕ) (h : Hosting) → StandsNowhere path h → Waits path h → IsRooted h → ⊥
+waits_somewhere path h s w r =
+    let some : IsSome (finding_at path h.entries) = rw w.entry refl in
+    let none = alone_by path h s w (parent_of path) refl in
+    let here : root_of path ≡ port_of path = ap root_of (root_alone path s.is none) in
+    absurd (omega (arith, here, s.beyond none, r path some))
 
 -- A host
 

@@ -29,7 +29,8 @@ use Rattle.usb_table.specs.Entries.{Entries}
 use Rattle.usb_table.specs.Findings.{device_of}
 use Rattle.usb_table.specs.Known.{port_below, port_found, port_of_hub, is_below_hub}
 use Rattle.usb_table.specs.Listing.{tree_in, finding_at, address_at, hub_in, IsPortBelow, IsListedPort, tier_of, supply_below, supply_at, ListsEach, Matches}
-use Rattle.usb_host.specs.Sound.{IsThere, IsKnownAs, Known, known_supply, Tells, Truthful, Causes, Accounted, IsAtRest}
+use Rattle.usb_enum.specs.Places.{IsThere, IsKnownAs}
+use Rattle.usb_host.specs.Sound.{Known, known_supply, Tells, Truthful, Causes, Accounted, IsAtRest}
 use Rattle.usb_host.proofs.Claimed.{claims_distinct, claims_taken}
 
 -- A reachable device stands
@@ -51,7 +52,7 @@ reached_there k (suc i ∷ p) h = reached_at k i p h
 
 -- Entries stand at listed ports
 
-port_number : (path : List ℕ) → IsPath path → IsPortNumber (port_of path)
+pub port_number : (path : List ℕ) → IsPath path → IsPortNumber (port_of path)
 unfolding port_of
 port_number path is = let some = is.0 in All-get_or IsPortNumber path (length path - 1) 0 (omega (arith, some)) is.2
 
@@ -68,7 +69,7 @@ hub_port (Some (Device device)) below n least h = pick device.hub h
     pick None h = absurd cc
     pick (Some facts) h = (least, within facts n (nat_le n facts.ports) _ refl h)
 
-port_below_hub : (roots : ℕ) (entries : Entries) (n : ℕ) (o : Option (List ℕ)) → 1 ≤ n → (o ≡ None → n ≤ roots) → IsSome (port_below o n entries) → IsPortBelow roots entries o n
+pub port_below_hub : (roots : ℕ) (entries : Entries) (n : ℕ) (o : Option (List ℕ)) → 1 ≤ n → (o ≡ None → n ≤ roots) → IsSome (port_below o n entries) → IsPortBelow roots entries o n
 port_below_hub roots entries n None least most h = (least, most refl)
 port_below_hub roots entries n (Some hub) least most h = hub_port (finding_at hub entries) (is_below_hub hub) n least h
 
@@ -79,7 +80,7 @@ module _ (w : World) (entries : Entries) (addresses : Addresses) (accounted : Ac
       let is = accounted.agrees.nested.path path f at in
       record { some = is.0; port = port_below_hub (roots_of w) entries (port_of path) (parent_of path) (port_number path is).0 (accounted.root path some) (accounted.agrees.nested.each path f at) }
 
-  listed_address : (path : List ℕ) (address : ℕ) → address_at path entries ≡ Some address → IsAddress address
+  pub listed_address : (path : List ℕ) (address : ℕ) → address_at path entries ≡ Some address → IsAddress address
   listed_address path address at = accounted.agrees.range address (claims_taken entries addresses accounted.agrees.accounts path address at)
 
   listed_once : (path other : List ℕ) (address : ℕ) → address_at path entries ≡ Some address → address_at other entries ≡ Some address → path ≡ other

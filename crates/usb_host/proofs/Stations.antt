@@ -74,7 +74,7 @@ pub stands_at : (path : List ℕ) (port : KnownPort) (h : Hosting) → StandsAt 
 stands_at path port h s = at_known path h.entries port s.is s.askable (parent_of path) refl s.known
 
 -- a root port is a register, and never fails
-lost_above : (path : List ℕ) (es : Entries) (port : KnownPort) (w : World) → FaultAt port.port ParentLost w → (above : Option (List ℕ)) → parent_of path ≡ above → port_below above (port_of path) es ≡ Some port → IsSome above
+pub lost_above : (path : List ℕ) (es : Entries) (port : KnownPort) (w : World) → FaultAt port.port ParentLost w → (above : Option (List ℕ)) → parent_of path ≡ above → port_below above (port_of path) es ≡ Some port → IsSome above
 lost_above path es port w lost None above e =
     let same : root_port (port_of path) ≡ port = cc e in
     absurd (subst (λ (p : KnownPort). FaultAt p.port ParentLost w) (sym same) lost)

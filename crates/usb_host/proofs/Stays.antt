@@ -9,7 +9,7 @@ use Rattle.usb_device.specs.Tree.{reach_at, state_at}
 use Rattle.usb_device.specs.View.{state_there}
 use Rattle.usb_world.specs.Courses.{Spares}
 use Rattle.usb_world.specs.Devices.{Was}
-use Rattle.usb_world.specs.Live.{pend, is_way}
+use Rattle.usb_world.specs.Live.{live, pend}
 use Rattle.usb_world.specs.PluggedAt.{spec_of}
 use Rattle.usb_world.specs.Resting.{SameAt, AsksNothingOf, RestsOrPends, StandsOrPends}
 use Rattle.usb_world.specs.Steps.{Course}
@@ -24,14 +24,15 @@ use Rattle.usb_enum.specs.declared.finding.Finding.TheVariants.{Device, Refused}
 use Rattle.usb_enum.specs.Described.{IsFindingOf, IsRight}
 use Rattle.usb_table.specs.Entries.{Entries}
 use Rattle.usb_table.specs.Listing.{finding_at, IsListedPort, tier_of}
-use Rattle.usb_host.specs.Sound.{IsThere, IsKnownAs, Known, known_supply, Tells, IsToldAt, Truthful, IsCausedAt, Causes, Elsewhere, KnownBut, TruthfulBut, CausesBut, IsStill, EachStill, EachStillBut, Accounted}
+use Rattle.usb_enum.specs.Places.{IsThere, IsKnownAs}
+use Rattle.usb_host.specs.Sound.{Known, known_supply, Tells, IsToldAt, Truthful, IsCausedAt, Causes, Elsewhere, KnownBut, TruthfulBut, CausesBut, IsStill, EachStill, EachStillBut, Accounted}
 use Rattle.usb_host.proofs.Settled.{listed_port}
 
-none_same : (o u : Option State) → option_map spec_of u ≡ option_map spec_of o → o ≡ None → u ≡ None
+pub none_same : (o u : Option State) → option_map spec_of u ≡ option_map spec_of o → o ≡ None → u ≡ None
 none_same o None e h = refl
 none_same o (Some s) e h = absurd (cc (e, ap (option_map spec_of) h))
 
-some_same : (o u : Option State) → option_map spec_of u ≡ option_map spec_of o → IsSome o → IsSome u
+pub some_same : (o u : Option State) → option_map spec_of u ≡ option_map spec_of o → IsSome o → IsSome u
 some_same None u e h = absurd cc
 some_same (Some s) None e h = absurd cc
 some_same (Some s) (Some t) e h = refl
@@ -87,41 +88,40 @@ truthful_stays w v entries each told [] = λ device s at on stands. no on
 truthful_stays w v entries each told (zero ∷ p) = λ device s at on stands. no on
 truthful_stays w v entries each told (suc j ∷ p) = told_stays j p w v entries (each j p) (told (suc j ∷ p))
 
-still_there : (first : List ℕ) (w v : World) (j : ℕ) (p : List ℕ) → is_way first (suc j ∷ p) ≡ false → EachStillBut first w v
-    → (s : State) → reach_at v.roots j p ≡ true → state_at v.roots j p ≡ Some s → Was (λ _ _. IsStill) w j p s
-still_there first w v j p away each s on stands =
-    let x = each j p s on stands in
-    record { before = x.before; on = x.on; stands = x.stands; so = x.so away }
-
 pub truthful_but_stays : (first : List ℕ) (w v : World) (entries : Entries) → EachStillBut first w v → TruthfulBut first w entries → TruthfulBut first v entries
 truthful_but_stays first w v entries each told [] away = λ device s at on stands. no on
 truthful_but_stays first w v entries each told (zero ∷ p) away = λ device s at on stands. no on
-truthful_but_stays first w v entries each told (suc j ∷ p) away = told_stays j p w v entries (still_there first w v j p away each) (told (suc j ∷ p) away)
+truthful_but_stays first w v entries each told (suc j ∷ p) away = told_stays j p w v entries (λ s. each j p s away) (told (suc j ∷ p) away)
 
 -- Refused devices
 
-caused_by : (path : List ℕ) (entries : Entries) (w v : World) (cause : Cause) (s : State) → Course (Spares path) w v → IsCausedAt w entries path → finding_at path entries ≡ Some (Refused cause)
+caused_by : (path : List ℕ) (entries : Entries) (w v : World) (cause : Cause) (s : State) → (pend w.roots path ≡ true → pend v.roots path ≡ true) → IsCausedAt w entries path → finding_at path entries ≡ Some (Refused cause)
     → (o : Option State) → state_there w.roots path ≡ o → option_map spec_of (Some s) ≡ option_map spec_of o
     → (pend v.roots path ≡ true) ⊎ IsRight ⊤ s.spec (tier_of path) (known_supply path entries) (Refused cause)
-caused_by path entries w v cause s c caused at None is same = absurd (cc same)
-caused_by path entries w v cause s c caused at (Some t) is same = pick (caused cause t at is)
+caused_by path entries w v cause s pends caused at None is same = absurd (cc same)
+caused_by path entries w v cause s pends caused at (Some t) is same = pick (caused cause t at is)
   where
     pick : (pend w.roots path ≡ true) ⊎ IsRight ⊤ t.spec (tier_of path) (known_supply path entries) (Refused cause)
         → (pend v.roots path ≡ true) ⊎ IsRight ⊤ s.spec (tier_of path) (known_supply path entries) (Refused cause)
-    pick (inl pends) = inl (pending_persists path c pends)
+    pick (inl x) = inl (pends x)
     pick (inr right) = let alike : t.spec ≡ s.spec = cc same in inr (subst (λ (spec : Spec). IsRight ⊤ spec (tier_of path) (known_supply path entries) (Refused cause)) alike right)
+
+-- a cause stays so where what pends pends, and the port stands as it stood, or a change is pending
+pub cause_stands : (path : List ℕ) (entries : Entries) (w v : World) → (pend w.roots path ≡ true → pend v.roots path ≡ true) → (live w.roots path ≡ true → StandsOrPends w v path) → IsKnownAs w path (finding_at path entries)
+    → IsCausedAt w entries path → IsCausedAt v entries path
+cause_stands path entries w v pends stands known caused cause s at there = pick known
+  where
+    stood : StandsOrPends w v path → (pend v.roots path ≡ true) ⊎ IsRight ⊤ s.spec (tier_of path) (known_supply path entries) (Refused cause)
+    stood (inl x) = caused_by path entries w v cause s pends caused at (state_there w.roots path) refl (sym (ap (option_map spec_of) there) ∙ x.1)
+    stood (inr x) = inl x
+
+    pick : IsKnownAs w path (finding_at path entries) → (pend v.roots path ≡ true) ⊎ IsRight ⊤ s.spec (tier_of path) (known_supply path entries) (Refused cause)
+    pick (inl x) = inl (pends x)
+    pick (inr here) = stood (stands here.0)
 
 -- a cause stays so over a course that clears nothing that is pending there
 pub cause_stays : (path : List ℕ) (entries : Entries) (w v : World) → Course (Spares path) w v → IsKnownAs w path (finding_at path entries) → IsCausedAt w entries path → IsCausedAt v entries path
-cause_stays path entries w v c known caused cause s at stands = pick known
-  where
-    stood : StandsOrPends w v path → (pend v.roots path ≡ true) ⊎ IsRight ⊤ s.spec (tier_of path) (known_supply path entries) (Refused cause)
-    stood (inl there) = caused_by path entries w v cause s c caused at (state_there w.roots path) refl (sym (ap (option_map spec_of) stands) ∙ there.1)
-    stood (inr pends) = inl pends
-
-    pick : IsKnownAs w path (finding_at path entries) → (pend v.roots path ≡ true) ⊎ IsRight ⊤ s.spec (tier_of path) (known_supply path entries) (Refused cause)
-    pick (inl pends) = inl (pending_persists path c pends)
-    pick (inr here) = stood (stands_or_pends path c here.0)
+cause_stays path entries w v c = cause_stands path entries w v (pending_persists path c) (stands_or_pends path c)
 
 -- each refused device stands at a port that is known
 pub causes_stay : (w v : World) (entries : Entries) (addresses : Addresses) → Accounted (roots_of w) entries addresses → Known w entries

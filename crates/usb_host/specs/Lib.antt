@@ -1,6 +1,7 @@
 pub mod Accounts
 pub mod Agreement
 pub mod Bounds
+pub mod Handling
 pub mod Hosting
 pub mod Owning
 pub mod Ports

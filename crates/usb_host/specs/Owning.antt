@@ -1,6 +1,6 @@
 -- That each reachable device holds the address that the host has for it.
 use Rattle.std.specs.Prelude.{◌≡◌, ◌≤◌, ℕ, List, [], ◌∷◌, Bool, false, true, None, IsSome, Result, Ok, Err, OnOk, MatchResult}
-use Rattle.std.specs.BTreeMap.{is_at}
+use Rattle.std.specs.BTreeMap.{is_at, insert_entry}
 use Rattle.std.specs.Map.{lookup}
 use Rattle.usb_port.specs.Order.{path_cmp, parent_of}
 use Rattle.usb_port.specs.declared.status.PortStatus.{PortStatus}
@@ -12,9 +12,11 @@ use Rattle.usb_address.specs.Claims.{Claims, cleared}
 use Rattle.usb_address.specs.Owned.{Owned, OwnedBut, TillFault, KeepsAddresses}
 use Rattle.usb_hub.specs.declared.port.HubPort.{HubPort}
 use Rattle.usb_hub.specs.Addresses.{Bares}
+use Rattle.usb_enum.specs.declared.cause.Cause.TheVariants.{Lost}
 use Rattle.usb_enum.specs.declared.fault.EnumFault.{EnumFault}
 use Rattle.usb_enum.specs.declared.fault.EnumFault.TheVariants.{ParentLost, Bus, Memory}
-use Rattle.usb_table.specs.Entries.{Entries}
+use Rattle.usb_enum.specs.declared.finding.Finding.TheVariants.{Refused}
+use Rattle.usb_table.specs.Entries.{Entries, without}
 use Rattle.usb_table.specs.Keys.{address_in}
 use Rattle.usb_table.specs.Listing.{finding_at}
 use Rattle.usb_host.specs.declared.fault.HostFault.{HostFault}
@@ -96,7 +98,13 @@ pub record FinishesPort (path : List ℕ) (served : Result (Unit {0}) EnumFault)
   pub ends : PortOwned path served old → LeavesOwned result new
   pub rooted : IsRooted old → (served ≡ Err ParentLost → root_of path ≤ roots_of old.world) → OnOk result (IsRooted new)
 
+-- a hub is listed as lost, and nothing stands below it
+pub record HasLost (old new : Entries) : Type 0 where
+  pub path : List ℕ
+  pub entries : new ≡ insert_entry path_cmp (without path old) path (Refused Lost)
+
 pub record DropsHub (hub : List ℕ) (old : Hosting) (result : Result (Unit {0}) HostFault) (new : Hosting) : Type 0 where
+  pub lost : OnOk result (HasLost old.entries new.entries)
   pub ends : IsOwnedBut hub old → LeavesOwned result new
   pub rooted : IsRooted old → root_of hub ≤ roots_of old.world → OnOk result (IsRooted new)
 

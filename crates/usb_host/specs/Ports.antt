@@ -1,5 +1,5 @@
 -- What the host does at a port.
-use Rattle.std.specs.Prelude.{◌≡◌, ◌+◌, ◌<◌, ⊤, ℕ, List, true, None, Some, IsSome, Result, Ok, Err, MatchResult}
+use Rattle.std.specs.Prelude.{◌≡◌, ◌≢◌, ◌+◌, ◌<◌, ⊤, ℕ, List, true, false, None, Some, IsSome, Result, Ok, Err, MatchResult}
 use Rattle.std.specs.Map.{lookup}
 use Rattle.std.specs.BTreeMap.{is_at, insert_entry}
 use Rattle.usb_port.specs.Order.{path_cmp, parent_of, port_of}
@@ -9,32 +9,46 @@ use Rattle.usb_hub.specs.declared.port.HubPort.{HubPort}
 use Rattle.usb_hub.specs.declared.port.HubPort.TheVariants.{Root, External}
 use Rattle.usb_hub.specs.Port.{IsPort}
 use Rattle.usb_resources.specs.Pool.{IsFull}
-use Rattle.usb_enum.specs.declared.cause.Cause.TheVariants.{NoAddress, Lost}
+use Rattle.usb_enum.specs.declared.cause.Cause.TheVariants.{NoAddress}
 use Rattle.usb_enum.specs.declared.fault.EnumFault.{EnumFault}
 use Rattle.usb_enum.specs.declared.fault.EnumFault.TheVariants.{ParentLost, Bus, Memory}
 use Rattle.usb_enum.specs.declared.finding.Finding.{Finding}
 use Rattle.usb_enum.specs.declared.finding.Finding.TheVariants.{Refused}
 use Rattle.usb_table.specs.declared.known.KnownPort.{KnownPort}
-use Rattle.usb_table.specs.Entries.{Entries, without}
 use Rattle.usb_table.specs.Known.{known_port, IsAskable}
+use Rattle.usb_table.specs.Table.{pipes_at}
+use Rattle.usb_host.specs.Transfers.{table_in}
+use Rattle.usb_world.specs.Live.{is_way}
 use Rattle.usb_port.specs.Status.{seen}
 use Rattle.usb_port.specs.declared.status.PortStatus.{PortStatus}
 use Rattle.usb_host.specs.declared.fault.HostFault.{HostFault}
+use Rattle.usb_host.specs.Agreement.{Agrees}
 use Rattle.usb_host.specs.declared.fault.HostFault.TheVariants as host
 use Rattle.usb_host.specs.Hosting.{Hosting, work}
-use Rattle.usb_host.specs.Progress.{Advances}
+use Rattle.usb_host.specs.Owning.{IsRooted}
+use Rattle.usb_host.specs.Progress.{Advances, Did}
+use Rattle.usb_host.specs.declared.host.Round.{Round}
+use Rattle.usb_host.specs.declared.host.Round.TheVariants.{Quiet}
 
--- the port at a path, as the table knows it and the bus has it
+-- the port at a path, as the table knows it and the bus has it; the table agrees with the pool
 pub record StandsAt (path : List ℕ) (port : KnownPort) (h : Hosting) : Type 0 where
   pub is : IsPath path
   pub known : known_port path h.entries ≡ Some port
   pub there : IsPort h.world port.port
   pub askable : IsAskable port.port
+  pub agrees : Agrees h.entries h.addresses
 
--- a path that is not a root port's, or of one that the root has not
+-- a path of no port: of a hub that is not known to have it, or of a root port that the root has not; the table agrees with the pool
 pub record StandsNowhere (path : List ℕ) (h : Hosting) : Type 0 where
   pub is : IsPath path
   pub beyond : parent_of path ≡ None → roots_of h.world < port_of path
+  pub unknown : IsSome (parent_of path) → known_port path h.entries ≡ None
+  pub agrees : Agrees h.entries h.addresses
+
+-- what stood at a path and below it was forgotten: an address is free where one went, and the pipes to others are as they were
+pub record Forgets (path : List ℕ) (old new : Hosting) : Type 0 where
+  pub full : IsFull new.addresses → IsFull old.addresses
+  pub pipes : (other : List ℕ) → is_way path other ≡ false → pipes_at other (table_in new) ≡ pipes_at other (table_in old)
 
 -- a root port tells of a change; a hub has told of it
 abbrev pub IsDue : World → HubPort → Type 0
@@ -45,6 +59,11 @@ IsDue w (External hub port) = ⊤
 pub record Waits (path : List ℕ) (h : Hosting) : Type 0 where
   pub entry : lookup (is_at (path_cmp path)) h.entries ≡ Some (Refused NoAddress)
   pub free : IsFull h.addresses → ⊥
+
+-- what a second look did: it got on, where entries stand below the ports of the root
+pub record Looked (round : Round) (old new : Hosting) : Type 0 where
+  pub did : Did round old new
+  pub some : IsRooted old → round ≢ Quiet
 
 -- a port was served, or its hub is lost: either way the host got on
 abbrev pub Served : Result (Unit {0}) EnumFault → Hosting → Hosting → Type 0
@@ -89,8 +108,3 @@ pub record EntersOne (path : List ℕ) (old new : Hosting) : Type 0 where
 
 abbrev pub Entered : List ℕ → Hosting → Result (Unit {0}) EnumFault → Hosting → Type 0
 Entered path old result new = MatchResult result (λ _. EntersOne path old new) (λ _. new.entries ≡ old.entries)
-
--- a hub is listed as lost, and nothing stands below it
-pub record HasLost (old new : Entries) : Type 0 where
-  pub path : List ℕ
-  pub entries : new ≡ insert_entry path_cmp (without path old) path (Refused Lost)

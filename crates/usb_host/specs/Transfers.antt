@@ -5,7 +5,8 @@ use Rattle.usb_world.specs.World.{World}
 use Rattle.usb_table.specs.declared.fault.EndpointFault.{EndpointFault}
 use Rattle.usb_table.specs.declared.pipes.Pipes.{Pipes}
 use Rattle.usb_table.specs.Table.{Table, GoesThrough, pipes_at}
-use Rattle.usb_table.specs.Transfers.{Sent, Received, Cleared, Keeps}
+use Rattle.usb_table.specs.Levels.{KeepsMoved}
+use Rattle.usb_table.specs.Transfers.{Sent, Received, Cleared}
 use Rattle.usb_host.specs.declared.fault.HostFault.{HostFault}
 use Rattle.usb_host.specs.Hosting.{Hosting}
 use Rattle.usb_host.specs.Told.{host_told}
@@ -20,7 +21,7 @@ pub record HandsOn {A : Type 0} (path : List ℕ) (moved : Pipes → World → R
   pub told : result ≡ host_told answer
   pub through : GoesThrough path (table_in old) (table_in new)
   pub moves : moved (pipes_at path (table_in old)) old.world answer (pipes_at path (table_in new)) new.world
-  pub keeps : Keeps old.world new.world
+  pub keeps : KeepsMoved path (table_in old) old.world (table_in new) new.world
 
 -- these bytes were sent to the device at the path, unless the host had stopped
 abbrev pub SentAt : List ℕ → List ℕ → Hosting → Result (Unit {0}) HostFault → Hosting → Type 0

@@ -8,6 +8,7 @@ ghost use Rattle.usb_host.specs.Bounds.{round_bound, clear_bound};
 ghost use Rattle.usb_host.specs.Hosting.{Hosting, opening};
 ghost use Rattle.usb_host.specs.Progress.{DidRound, HostWent};
 ghost use Rattle.usb_host.specs.Owning.{Owning, IsUntouched};
+ghost use Rattle.usb_host.specs.Sound.{IsSound, IsUnpowered, RoundKeeps, TransferKeeps};
 ghost use Rattle.usb_host.specs.Told.{RoundTold, TransferTold, StopsAsRound, StopsAsTransfer, host_told, is_final};
 ghost use Rattle.usb_host.specs.Transfers.{SentAt, ReceivedAt, ClearedAt};
 
@@ -23,9 +24,9 @@ use usb_table::{DeviceTable, EndpointFault};
 /// Whether a round did anything.
 #[derive(Clone, Copy, Debug, PartialEq, Eq)]
 pub enum Round {
-    /// A port was handled, or a hub was dropped.
+    /// A port was handled, a hub told of a change, or one was dropped.
     Worked,
-    /// No port had changed, and every hub answered.
+    /// No root port had changed, and every hub answered that none of its ports had.
     Quiet,
 }
 
@@ -71,6 +72,7 @@ impl<B: Bus> Host<B> {
         ensures opens { result ≡ opening (B.world bus) (B.trace bus) }
         ensures traced { Traced (B.world bus) (B.trace bus) result.world result.trace }
         ensures owning { IsUntouched (B.world bus) → Owning result }
+        ensures sound { IsUntouched (B.world bus) → IsUnpowered (B.world bus) → IsSound result }
     {
         let mut bus = bus;
         let roots = bus.root_ports();
@@ -98,6 +100,7 @@ impl<B: Bus> Host<B> {
     pub fn bus_mut(&mut self) -> &mut B
         ensures world { B.world result.now ≡ self.old.world }
         ensures trace { B.trace result.now ≡ self.old.trace }
+        ensures agree { Agrees self.old.entries self.old.addresses }
         ensures* writes_back { sem 𝓛 (Lends (the_row B.row B.Bus) B.row self.entry result (λ b. record self.old { world = B.world b; trace = B.trace b })) }
     {
         &mut self.bus
@@ -148,7 +151,7 @@ impl<B: Bus> Host<B> {
         ensures went { HostWent round_bound self.old self.new }
         ensures told { IfErr result (λ fault. RoundTold fault self.new.world) }
         ensures did { IfOk result (λ round. DidRound round self.old self.new) }
-        ensures owning { Owning self.old → Owning self.new }
+        ensures keeps { RoundKeeps self.old result self.new }
     {
         if self.stopped {
             return Err(HostFault::Stopped);
@@ -171,7 +174,7 @@ impl<B: Bus> Host<B> {
         ensures went { HostWent (768 * length bytes.now) self.old self.new }
         ensures told { IfErr result (λ fault. TransferTold fault self.new.world) }
         ensures sent { SentAt path.now bytes.now self.old result self.new }
-        ensures owning { Owning self.old → Owning self.new }
+        ensures keeps { TransferKeeps self.old self.new }
     {
         if self.stopped {
             return Err(HostFault::Stopped);
@@ -192,7 +195,7 @@ impl<B: Bus> Host<B> {
         ensures went { HostWent (768 * packets) self.old self.new }
         ensures told { IfErr result (λ fault. TransferTold fault self.new.world) }
         ensures received { ReceivedAt path.now packets self.old result self.new }
-        ensures owning { Owning self.old → Owning self.new }
+        ensures keeps { TransferKeeps self.old self.new }
     {
         if self.stopped {
             return Err(HostFault::Stopped);
@@ -213,7 +216,7 @@ impl<B: Bus> Host<B> {
         ensures went { HostWent clear_bound self.old self.new }
         ensures told { IfErr result (λ fault. TransferTold fault self.new.world) }
         ensures cleared { ClearedAt path.now self.old result self.new }
-        ensures owning { Owning self.old → Owning self.new }
+        ensures keeps { TransferKeeps self.old self.new }
     {
         if self.stopped {
             return Err(HostFault::Stopped);

@@ -4,7 +4,6 @@ ghost use Rattle.std.specs.BTreeMap.{insert_entry};
 ghost use Rattle.usb_port.specs.Order.{path_cmp};
 ghost use Rattle.usb_port.specs.Path.{IsPath, IsPortNumber};
 ghost use Rattle.usb_world.specs.World.{IsRootPort, port_at};
-ghost use Rattle.usb_address.specs.Owned.{KeepsAddresses};
 ghost use Rattle.usb_hub.specs.Port.{IsPort};
 ghost use Rattle.usb_resources.specs.Pool.{IsFull};
 ghost use Rattle.usb_enum.specs.Bounds.{widest_enumeration};
@@ -13,9 +12,12 @@ ghost use Rattle.usb_table.specs.Entries.{Replaced, has_at, without};
 ghost use Rattle.usb_table.specs.Known.{IsAskable, known_port};
 ghost use Rattle.usb_table.specs.Listing.{tier_of};
 ghost use Rattle.usb_host.specs.Bounds.{clearing_bound, look_bound, drop_bound, handling_bound, status_most, order_most, serving_bound};
-ghost use Rattle.usb_host.specs.Owning.{KeepsOwned, KeepsPort, BaresPort, FinishesPort, DropsHub, BaresUpward, KeepsDisabled};
-ghost use Rattle.usb_host.specs.Ports.{StandsAt, StandsNowhere, IsDue, Waits, Served, Shown, Gains, Broke, EndsAs, Entered, HasLost};
+ghost use Rattle.usb_host.specs.Agreement.{Agrees};
+ghost use Rattle.usb_host.specs.Handling.{Watches, Tidies, Clears, ServesSound, Looks, FindsSound, Finishes, Disables, Climbs};
+ghost use Rattle.usb_host.specs.Owning.{KeepsOwned, KeepsPort, DropsHub};
+ghost use Rattle.usb_host.specs.Ports.{StandsAt, StandsNowhere, IsDue, Waits, Served, Shown, Gains, Broke, EndsAs, Entered, Forgets, Looked};
 ghost use Rattle.usb_host.specs.Progress.{Goes, Advances, Holds, Rests, Did};
+ghost use Rattle.usb_host.specs.Sound.{KeepsSound, DropsSound, PartKeeps};
 ghost use Rattle.usb_host.specs.Told.{Ended};
 
 use crate::HostFault;
@@ -46,7 +48,9 @@ impl<B: Bus> Host<B> {
         ensures told { IfErr result (λ fault. Ended fault self.new.world) }
         ensures advances { OnOk result ((port_at self.old.world number).connection_changed ≡ true → Advances self.old self.new) }
         ensures owned { KeepsOwned self.old result self.new }
+        ensures sound { KeepsSound self.old result self.new }
     {
+        let _table = &self.table;
         let port = KnownPort {
             port: HubPort::Root(number),
             supply: supply(true, false),
@@ -61,6 +65,7 @@ impl<B: Bus> Host<B> {
         ensures told { IfErr result (λ fault. Ended fault self.new.world) }
         ensures did { IfOk result (λ round. Did round self.old self.new) }
         ensures owned { KeepsOwned self.old result self.new }
+        ensures sound { KeepsSound self.old result self.new }
     {
         let mut path = hub.duplicate();
         if !path.push(number) {
@@ -79,8 +84,8 @@ impl<B: Bus> Host<B> {
         ensures path { IsPath path.now }
         ensures goes { Goes handling_bound self.old self.new }
         ensures told { IfErr result (λ fault. Ended fault self.new.world) }
-        ensures did { IfOk result (λ round. Did round self.old self.new) }
-        ensures owned { KeepsOwned self.old result self.new }
+        ensures did { IfOk result (λ round. Looked round self.old self.new) }
+        ensures keeps { PartKeeps self.old result self.new }
     {
         let _numbers = path.numbers();
         let Some(port) = self.port_at(path) else {
@@ -111,6 +116,7 @@ impl<B: Bus> Host<B> {
         ensures told { IfErr result (λ fault. Ended fault self.new.world) }
         ensures advances { OnOk result (IsDue self.old.world port.port → Advances self.old self.new) }
         ensures owned { KeepsOwned self.old result self.new }
+        ensures sound { KeepsSound self.old result self.new }
     {
         let served = self.serve(path, port);
         self.finish(path, served)
@@ -123,7 +129,7 @@ impl<B: Bus> Host<B> {
         ensures told { IfErr result (λ fault. Ended fault self.new.world) }
         ensures holds { Holds self.old self.new }
         ensures ends { EndsAs served result }
-        ensures owned { FinishesPort path.now served self.old result self.new }
+        ensures finishes { Finishes path.now served self.old result self.new }
     {
         match served {
             Ok(()) => Ok(()),
@@ -145,6 +151,7 @@ impl<B: Bus> Host<B> {
         ensures told { IfErr result (λ fault. FaultAt port.port fault self.new.world) }
         ensures served { IsDue self.old.world port.port → Served result self.old self.new }
         ensures owned { KeepsPort path.now self.old result self.new }
+        ensures sound { ServesSound path.now self.old result self.new }
     {
         let status = self.status(port.port)?;
         if status.connection_changed {
@@ -162,7 +169,7 @@ impl<B: Bus> Host<B> {
         ensures told { IfErr result (λ fault. FaultAt port fault self.new.world) }
         ensures rests { Rests self.old self.new }
         ensures shown { Shown port result self.old.world self.new.world }
-        ensures keeps { KeepsAddresses self.old.world self.new.world }
+        ensures watches { Watches port self.old.world result self.new.world }
     {
         Ok(port_status(self.alloc, &mut self.bus, port)?)
     }
@@ -174,7 +181,7 @@ impl<B: Bus> Host<B> {
         ensures goes { Goes (2 * order_most) self.old self.new }
         ensures told { IfErr result (λ fault. FaultAt port fault self.new.world) }
         ensures rests { Rests self.old self.new }
-        ensures keeps { KeepsAddresses self.old.world self.new.world }
+        ensures tidies { Tidies port self.old.world result self.new.world }
     {
         if status.enable_changed {
             clear_port(&mut self.bus, port, C_PORT_ENABLE)?;
@@ -193,7 +200,7 @@ impl<B: Bus> Host<B> {
         ensures told { IfErr result (λ fault. FaultAt port.port fault self.new.world) }
         ensures served { IsDue self.old.world port.port ⊎ Waits path.now self.old → Served result self.old self.new }
         ensures renewed { OnOk result (Replaced path.now (without path.now self.old.entries) self.new.entries) }
-        ensures owned { KeepsPort path.now self.old result self.new }
+        ensures looks { Looks path.now self.old result self.new }
     {
         let status = self.clear_change(port.port)?;
         self.forget(path);
@@ -211,7 +218,7 @@ impl<B: Bus> Host<B> {
         ensures told { IfErr result (λ fault. FaultAt port fault self.new.world) }
         ensures rests { Rests self.old self.new }
         ensures gains { IsDue self.old.world port → Gains result self.old.world self.new.world }
-        ensures bares { BaresPort port self.old.world result self.new.world }
+        ensures clears { Clears port self.old.world result self.new.world }
     {
         clear_port(&mut self.bus, port, C_PORT_CONNECTION)?;
         let status = port_status(self.alloc, &mut self.bus, port)?;
@@ -229,6 +236,7 @@ impl<B: Bus> Host<B> {
         ensures told { IfErr result (λ fault. FaultAt port.port fault self.new.world) }
         ensures entered { Entered path.now self.old result self.new }
         ensures owned { KeepsPort path.now self.old result self.new }
+        ensures sound { FindsSound path.now self.old result self.new }
     {
         let finding = enumerate(
             self.alloc,
@@ -247,8 +255,8 @@ impl<B: Bus> Host<B> {
         ensures goes { Goes drop_bound self.old self.new }
         ensures told { IfErr result (λ fault. Ended fault self.new.world) }
         ensures holds { Holds self.old self.new }
-        ensures lost { OnOk result (HasLost self.old.entries self.new.entries) }
         ensures owned { DropsHub hub self.old result self.new }
+        ensures sound { DropsSound hub self.old result self.new }
     {
         let lost = self.disable_upward(hub)?;
         let _numbers = lost.numbers();
@@ -262,7 +270,7 @@ impl<B: Bus> Host<B> {
         ensures told { IfErr result (λ fault. Ended fault self.new.world) }
         ensures rests { Rests self.old self.new }
         ensures known { IfOk result (λ path. IsSome (known_port path self.old.entries)) }
-        ensures bares { BaresUpward first self.old result self.new }
+        ensures climbs { Climbs first self.old result self.new }
     {
         // (a path's numbers say that it has at most seven)
         let _numbers = first.numbers();
@@ -284,7 +292,7 @@ impl<B: Bus> Host<B> {
         ensures told { IfErr result (λ fault. Ended fault self.new.world) }
         ensures rests { Rests self.old self.new }
         ensures known { IfOk result (λ done. IsTrue done → IsSome (known_port path.now self.old.entries)) }
-        ensures owned { KeepsDisabled path.now self.old result self.new }
+        ensures disables { Disables path.now self.old result self.new }
     {
         let Some(port) = self.port_at(path) else {
             return Ok(false);
@@ -297,7 +305,7 @@ impl<B: Bus> Host<B> {
     }
 
     /// Takes out the entries at a path and below it, and releases their addresses.
-    #[tactic(auto, using(usb_table::proofs::Removals::takes_one, crate::proofs::Balances::accounts_freed, crate::proofs::Balances::range_freed, usb_table::proofs::Removals::taken_apart, crate::proofs::Balances::full_before))]
+    #[tactic(auto, using(usb_table::proofs::Removals::takes_one, crate::proofs::Balances::accounts_freed, crate::proofs::Balances::range_freed, usb_table::proofs::Removals::taken_apart, crate::proofs::Balances::full_before, crate::proofs::Levelled::pipes_apart))]
     fn forget(&mut self, path: &PortPath)
         ensures others { self.new ≡ record self.old {
           entries = self.new.entries;
@@ -306,7 +314,8 @@ impl<B: Bus> Host<B> {
         } }
         ensures gone { has_at path.now self.new.entries ≡ false }
         ensures rest { self.new.entries ≡ without path.now self.old.entries }
-        ensures freed { IsFull self.new.addresses → IsFull self.old.addresses }
+        ensures freed { Forgets path.now self.old self.new }
+        ensures agrees { Agrees self.new.entries self.new.addresses }
     {
         'entries: while let Some(finding) = self.table.take_at(path) {
             release(&mut self.pool, address_of(&finding));

@@ -1,13 +1,16 @@
 //! The parts of a round.
-ghost use Rattle.std.specs.Prelude.{◌≡◌, ◌≢◌, ◌≤◌, ◌<◌, ◌+◌, ◌*◌, true, false, IfOk, IfErr, IfSome, IsSome, Ok};
+ghost use Rattle.std.specs.Prelude.{◌≡◌, ◌≢◌, ◌≤◌, ◌<◌, ◌+◌, ◌*◌, true, false, IfOk, IfErr, ◌⊎◌, IfSome, IfNone, IsSome, OnOk, Ok};
 ghost use Rattle.usb_world.specs.World.{root_row, changes, IsRootPort};
 ghost use Rattle.usb_port.specs.Path.{IsPath};
-ghost use Rattle.usb_table.specs.Listing.{finding_at};
-ghost use Rattle.usb_table.specs.Next.{IsAfter};
+ghost use Rattle.usb_table.specs.Listing.{hub_at};
+ghost use Rattle.usb_table.specs.Findings.{is_hub, is_waiting};
+ghost use Rattle.usb_table.specs.Next.{IsAfter, IsNext, IsLast};
+ghost use Rattle.usb_resources.specs.Pool.{IsFull};
+ghost use Rattle.usb_host.specs.Agreement.{Agrees};
 ghost use Rattle.usb_host.specs.Bounds.{round_bound, roots_bound, hubs_bound, hub_bound, told_bound, looks_bound};
-ghost use Rattle.usb_host.specs.Owning.{KeepsOwned};
+ghost use Rattle.usb_host.specs.Sound.{PartKeeps, PartsKeep, RootsRest, HubKeeps, HubsKeep, LooksKeep};
 ghost use Rattle.usb_host.specs.Ports.{Waits};
-ghost use Rattle.usb_host.specs.Progress.{Goes, Did, either};
+ghost use Rattle.usb_host.specs.Progress.{Goes, Did, Holds, either};
 ghost use Rattle.usb_host.specs.Told.{Ended};
 
 use crate::HostFault;
@@ -36,7 +39,7 @@ impl<B: Bus> Host<B> {
         ensures told { IfErr result (λ fault. Ended fault self.new.world) }
         ensures did { IfOk result (λ round. Did round self.old self.new) }
         ensures none { result ≡ Ok Round.Quiet → changes (root_row self.old.world) ≡ 0 }
-        ensures owned { KeepsOwned self.old result self.new }
+        ensures keeps { PartsKeep self.old result self.new }
     {
         let roots = self.serve_roots()?;
         let hubs = self.serve_hubs()?;
@@ -50,8 +53,8 @@ impl<B: Bus> Host<B> {
         ensures goes { Goes roots_bound self.old self.new }
         ensures told { IfErr result (λ fault. Ended fault self.new.world) }
         ensures did { IfOk result (λ round. Did round self.old self.new) }
-        ensures none { result ≡ Ok Round.Quiet → changes (root_row self.old.world) ≡ 0 }
-        ensures owned { KeepsOwned self.old result self.new }
+        ensures none { result ≡ Ok Round.Quiet → RootsRest self.old self.new }
+        ensures keeps { PartKeeps self.old result self.new }
     {
         let mut round = Round::Quiet;
         let roots = self.bus.root_ports();
@@ -69,7 +72,7 @@ impl<B: Bus> Host<B> {
         ensures goes { Goes hubs_bound self.old self.new }
         ensures told { IfErr result (λ fault. Ended fault self.new.world) }
         ensures did { IfOk result (λ round. Did round self.old self.new) }
-        ensures owned { KeepsOwned self.old result self.new }
+        ensures keeps { HubsKeep self.old result self.new }
     {
         let mut round = Round::Quiet;
         let mut last: Option<PortPath> = None;
@@ -82,17 +85,20 @@ impl<B: Bus> Host<B> {
 
     /// Polls a hub, and handles the ports of which it tells; where it does not answer, it is dropped.
     fn serve_hub(&mut self, hub: &PortPath) -> Result<Round, HostFault>
-        requires { IsSome (finding_at hub.now self.old.entries) }
+        requires { IsSome (hub_at hub.now self.old.entries) }
         ensures path { IsPath hub.now }
         ensures goes { Goes hub_bound self.old self.new }
         ensures told { IfErr result (λ fault. Ended fault self.new.world) }
         ensures did { IfOk result (λ round. Did round self.old self.new) }
-        ensures owned { KeepsOwned self.old result self.new }
+        ensures keeps { HubKeeps hub.now self.old result self.new }
     {
         let _numbers = hub.numbers();
         match self.table.poll(&mut self.bus, hub) {
             Ok(None) => Ok(Round::Quiet),
-            Ok(Some(bits)) => self.serve_told(hub, first_byte(bits.as_slice())),
+            Ok(Some(bits)) => {
+                self.serve_told(hub, first_byte(bits.as_slice()))?;
+                Ok(Round::Worked)
+            }
             Err(PipeFault::Bus(fault)) => Err(HostFault::Bus(fault)),
             Err(_) => {
                 self.drop_hub(hub.duplicate())?;
@@ -103,20 +109,19 @@ impl<B: Bus> Host<B> {
 
     /// Handles each port of a hub whose bit is set, by rising number, as long as the hub is known.
     #[tactic(auto, using(crate::proofs::Owners::single_then))]
-    fn serve_told(&mut self, hub: &PortPath, bits: u8) -> Result<Round, HostFault>
+    fn serve_told(&mut self, hub: &PortPath, bits: u8) -> Result<(), HostFault>
         requires { IsPath hub.now }
         ensures goes { Goes told_bound self.old self.new }
         ensures told { IfErr result (λ fault. Ended fault self.new.world) }
-        ensures did { IfOk result (λ round. Did round self.old self.new) }
-        ensures owned { KeepsOwned self.old result self.new }
+        ensures holds { OnOk result (Holds self.old self.new) }
+        ensures keeps { PartKeeps self.old result self.new }
     {
-        let mut round = Round::Quiet;
         'ports: for number in 1..8u8 {
             if bits >> number & 1 == 1 {
-                round = round.and(self.handle_below(hub, number)?);
+                self.handle_below(hub, number)?;
             }
         }
-        Ok(round)
+        Ok(())
     }
 
     /// Looks again at each device that waits for an address, by rising path, while one is free.
@@ -124,7 +129,7 @@ impl<B: Bus> Host<B> {
         ensures goes { Goes looks_bound self.old self.new }
         ensures told { IfErr result (λ fault. Ended fault self.new.world) }
         ensures did { IfOk result (λ round. Did round self.old self.new) }
-        ensures owned { KeepsOwned self.old result self.new }
+        ensures keeps { LooksKeep self.old result self.new }
     {
         let mut round = Round::Quiet;
         let mut last: Option<PortPath> = None;
@@ -137,15 +142,18 @@ impl<B: Bus> Host<B> {
 
     /// The next hub that is known.
     fn next_hub(&self, last: &Option<PortPath>) -> Option<PortPath>
-        ensures listed { IfSome result (λ hub. IsSome (finding_at hub self.now.entries)) }
-        ensures after { IfSome result (λ hub. IsAfter last.now hub) }
+        ensures some { IfSome result (IsNext is_hub last.now self.now.entries) }
+        ensures none { IfNone result (IsLast is_hub last.now self.now.entries) }
+        ensures agree { Agrees self.now.entries self.now.addresses }
     {
         self.table.next_hub(last.as_ref())
     }
 
     /// The next device that waits for an address; none where no address is free.
     fn next_waiting(&self, last: &Option<PortPath>) -> Option<PortPath>
-        ensures { IfSome result (λ path. Waits path self.now × IsAfter last.now path) }
+        ensures some { IfSome result (λ path. Waits path self.now × IsAfter last.now path) }
+        ensures none { IfNone result (IsFull self.now.addresses ⊎ IsLast is_waiting last.now self.now.entries) }
+        ensures agree { Agrees self.now.entries self.now.addresses }
     {
         if self.pool.is_full() {
             return None;

@@ -70,13 +70,13 @@ use Rattle.usb_hub.proofs.Why.{same_port, call_served}
 
 -- The attempts of a request without data: its setup data again and again, and what comes behind them
 
-record Sent (t : Target) (request : Setup) (old new : World) : Type 0 where
-  mid : World
-  outcomes : List Outcome
-  trail : Trail (setup_attempt t (bytes_of request)) old outcomes mid
-  behind : Course (IsBehind t) mid new
+pub record Sent (t : Target) (request : Setup) (old new : World) : Type 0 where
+  pub mid : World
+  pub outcomes : List Outcome
+  pub trail : Trail (setup_attempt t (bytes_of request)) old outcomes mid
+  pub behind : Course (IsBehind t) mid new
 
-sent_of : (t : Target) (request : Setup) (old : World) (result : Result (Unit {0}) PipeFault) (new : World) → IsNotOfBus result → Writes t request old result new → Sent t request old new
+pub sent_of : (t : Target) (request : Setup) (old : World) (result : Result (Unit {0}) PipeFault) (new : World) → IsNotOfBus result → Writes t request old result new → Sent t request old new
 sent_of t request old (Ok u) new n x = record { mid = x.mid; outcomes = x.set_up.last ∷ x.set_up.outcomes; trail = x.set_up.trail; behind = trail_course (λ w made. inl refl) x.status.trail }
 sent_of t request old (Err why) new n (inl x) = no_set_up x.fault x.told x.set_up
   where
@@ -145,11 +145,10 @@ behind_about t p c (step_then s {w} {v} k more) h =
 -- A call at a hub's port
 
 -- where something was done, a port was named
-port_is_named : (c : PortCall) (o : Option ℕ) (n : ℕ) (row : List PortState) (address : Option ℕ) → (o ≡ None) ⊎ (o ≡ Some n) → first_stage row 0 (called_at (Some c) o) ≡ ending address
-    → effect_of_request (called_at (Some c) o) ≡ Calls c n
+port_is_named : (c : PortCall) (o : Option ℕ) (n : ℕ) (row : List PortState) (address : Option ℕ) → (o ≡ None) ⊎ (o ≡ Some n) → first_stage row 0 (called_at (Some c) o) ≡ ending address → o ≡ Some n
 port_is_named c None n row address x h = absurd (cc h)
 port_is_named c (Some m) n row address (inl x) h = absurd (cc x)
-port_is_named c (Some m) n row address (inr x) h = ap (Calls c) (same_Some m n x)
+port_is_named c (Some m) n row address (inr x) h = x
 
 module _ (t : Target) (j : ℕ) (e : List ℕ) (i : ℕ) (request : Setup) (c : PortCall) (asked : AsksFor request c (suc i)) (P : World → Type 0) (follows : Follows t request (suc j ∷ e) P) where
   abbrev a : Attempt
@@ -222,13 +221,19 @@ module _ (t : Target) (j : ℕ) (e : List ℕ) (i : ℕ) (request : Setup) (c : 
     abbrev mid : World
     mid = accepted_there.mid
 
-    effect : asked_by_setup was.before (setup_of (bytes_of request)) ≡ Calls c i
-    effect =
-        ap effect_of_request outcome_is
-        ∙ port_is_named c (port_named was.before.spec.hub was.before.registers (suc i)) i done.row done.address
+    is_named : port_named was.before.spec.hub was.before.registers (suc i) ≡ Some i
+    is_named =
+        port_is_named c (port_named was.before.spec.hub was.before.registers (suc i)) i done.row done.address
         (subst (λ m. (port_named was.before.spec.hub was.before.registers (suc i) ≡ None) ⊎ (port_named was.before.spec.hub was.before.registers (suc i) ≡ Some m)) (less_one i) (named was.before.spec.hub was.before.registers (suc i)))
         (subst (λ o. first_stage done.row 0 o ≡ ending done.address) (asked.calls was.before.spec was.before.registers)
         (subst (λ n. first_stage done.row n (outcome was.before.spec was.before.registers request) ≡ ending done.address) asked.nothing done.is))
+
+    -- the hub, which stood there, has the port
+    pub hub_named : (s : State) × ((state_at old.roots j e ≡ Some s) × (port_named s.spec.hub s.registers (suc i) ≡ Some i))
+    hub_named = (was.before, (was.stands, is_named))
+
+    effect : asked_by_setup was.before (setup_of (bytes_of request)) ≡ Calls c i
+    effect = ap effect_of_request outcome_is ∙ ap (λ o. effect_of_request (called_at (Some c) o)) is_named
       where
         outcome_is : outcome was.before.spec was.before.registers (setup_of (bytes_of request)) ≡ called_at (Some c) (port_named was.before.spec.hub was.before.registers (suc i))
         outcome_is = ap (outcome was.before.spec was.before.registers) asked.same ∙ asked.calls was.before.spec was.before.registers

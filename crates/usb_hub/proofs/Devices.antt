@@ -1,5 +1,5 @@
 -- Calls on ports that leave each device as it was.
-use Rattle.std.proofs.Common.{◌≡◌, ◌≢◌, ◌==◌, ◌⊎◌, inl, inr, ℕ, zero, suc, true, false, List, [], ◌∷◌, Option, None, Some, option_map, Result, Ok, Err, refl, ap, sym, ◌∙◌, arith}
+use Rattle.std.proofs.Common.{◌≡◌, ◌≢◌, ◌==◌, ◌&&◌, ◌⊎◌, inl, inr, ℕ, zero, suc, Bool, true, false, List, [], ◌∷◌, Option, None, Some, option_map, Result, Ok, Err, refl, ap, sym, subst, ◌∙◌, arith}
 use Rattle.usb_port.specs.PortState.{PortState}
 use Rattle.usb_port.specs.Status.{status_in}
 use Rattle.usb_port.specs.declared.status.PortStatus.{PortStatus}
@@ -8,18 +8,19 @@ use Rattle.usb_request.specs.declared.setup.Setup.{Setup}
 use Rattle.usb_device.specs.declared.calls.PortCall.{PortCall}
 use Rattle.usb_device.specs.declared.request.Registers.{Registers}
 use Rattle.usb_device.specs.Calls.{is_reset}
-use Rattle.usb_device.specs.Progress.{OnlyControl, StatusGiven}
+use Rattle.usb_device.specs.Progress.{OnlyControl, OnlyStage, StatusGiven}
 use Rattle.usb_device.specs.Request.{Outcome, stalled, answers, takes_address, takes_configuration, halts, unhalts, tells_port, calls_port, called_at, outcome}
 use Rattle.usb_device.specs.Rows.{State, begun, accepted}
 use Rattle.usb_device.specs.Spec.{Spec}
 use Rattle.usb_device.specs.Transfer.{first_stage, ending}
-use Rattle.usb_device.specs.Tree.{Ports, state_at}
+use Rattle.usb_device.specs.Tree.{Ports, reach_at, state_at}
 use Rattle.usb_world.specs.Courses.{is_harmless}
-use Rattle.usb_world.specs.Devices.{EachWas}
+use Rattle.usb_world.specs.Devices.{Was, EachWas}
+use Rattle.usb_world.specs.Live.{address_of, is_way, same_number}
 use Rattle.usb_world.specs.Steps.{root_call, after}
 use Rattle.usb_world.specs.Touched.{call_resets, reset_if}
 use Rattle.usb_world.specs.World.{World}
-use Rattle.usb_world.proofs.Booleans.{decided}
+use Rattle.usb_world.proofs.Booleans.{no, decided, and_false}
 use Rattle.usb_world.proofs.CallLaws.{call_reach, call_state}
 use Rattle.usb_world.proofs.Devices.{each_none, each_wider}
 use Rattle.usb_transaction.specs.declared.target.Target.{Target}
@@ -27,13 +28,32 @@ use Rattle.usb_transaction.specs.Over.{is_at}
 use Rattle.usb_pipe.specs.declared.fault.PipeFault.{PipeFault}
 use Rattle.usb_pipe.specs.Whole.{ReadLeaves, WriteLeaves, EffectDone, EffectOrNone, none, some, whole}
 use Rattle.usb_pipe.proofs.WholeReads.{read_leaves}
+use Rattle.usb_pipe.proofs.WholeWrites.{write_leaves}
 use Rattle.usb_address.proofs.Setups.{same_setup}
-use Rattle.usb_hub.specs.Addresses.{StaysAs, KeepsDevices}
+use Rattle.usb_hub.specs.Addresses.{StaysAs, EachElsewhere, KeepsDevices}
 use Rattle.usb_hub.specs.Requests.{Told, Ordered}
 use Rattle.usb_hub.proofs.Settings.{each_leaves, given_none}
 
+pub stays_itself : (j : ℕ) (p : List ℕ) (s : State) → StaysAs j p s s
+stays_itself j p s = (refl, refl, refl)
+
+pub stays_joined : (j : ℕ) (p : List ℕ) (s t v : State) → StaysAs j p s t → StaysAs j p t v → StaysAs j p s v
+stays_joined j p s t v x y = (y.0 ∙ x.0, y.1 ∙ x.1, y.2 ∙ ap (λ (d : State). record d { memory = v.memory; naks = v.naks; stage = v.stage }) x.2)
+
+pub same_stays : (j : ℕ) (p : List ℕ) (s v : State) → v ≡ s → StaysAs j p s v
+same_stays j p s v e = subst (λ (d : State). StaysAs j p s d) (sym e) (refl, refl, refl)
+
+-- where nothing changed but where its transfer stands
+pub stage_stays : (j : ℕ) (p : List ℕ) (s v : State) → OnlyStage s v → StaysAs j p s v
+stage_stays j p s v frame = (ap (λ (d : State). d.spec) frame, ap (λ (d : State). d.registers) frame, frame)
+
+-- and its registers, which are the same
+pub control_stays : (j : ℕ) (p : List ℕ) (s v : State) → OnlyControl s v → v.registers ≡ s.registers → StaysAs j p s v
+control_stays j p s v frame same =
+    (ap (λ (d : State). d.spec) frame, same, frame ∙ ap (λ (g : Registers). record s { memory = v.memory; naks = v.naks; stage = v.stage; registers = g }) same)
+
 pub stays_none : (w : World) → KeepsDevices w w
-stays_none w = record { stays = λ single. each_none StaysAs (λ j p s. (refl, refl)) w }
+stays_none w = record { stays = λ single. each_none StaysAs stays_itself w }
 
 -- Requests to a port of a hub
 
@@ -54,14 +74,14 @@ called_of_port (Some c) None = tt
 called_of_port (Some c) (Some i) = tt
 
 begun_stays : (o : Outcome) → IsOfPort o → (s v : State) (row : List PortState) (n j : ℕ) (p : List ℕ) → OnlyControl (begun s row n o) v → v.registers ≡ (begun s row n o).registers → StaysAs j p s v
-begun_stays stalled is s v row n j p frame same = (ap (λ x. x.spec) frame, same)
+begun_stays stalled is s v row n j p frame same = control_stays j p s v frame same
 begun_stays (answers bytes) is s v row n j p frame same = elim is [ ]
 begun_stays (takes_address a) is s v row n j p frame same = elim is [ ]
 begun_stays (takes_configuration c) is s v row n j p frame same = elim is [ ]
 begun_stays (halts x) is s v row n j p frame same = elim is [ ]
 begun_stays (unhalts x) is s v row n j p frame same = elim is [ ]
 begun_stays (tells_port i) is s v row n j p frame same = elim is [ ]
-begun_stays (calls_port c i) is s v row n j p frame same = (ap (λ x. x.spec) frame, same)
+begun_stays (calls_port c i) is s v row n j p frame same = control_stays j p s v frame same
 
 no_address : (o : Outcome) → IsOfPort o → (row : List PortState) (n : ℕ) (address : Option ℕ) → first_stage row n o ≡ ending address → address ≡ None
 no_address stalled is row n address e = absurd cc
@@ -82,7 +102,7 @@ module _ (t : Target) (request : Setup) (of_port : (spec : Spec) (g : Registers)
       accepted_stays row frame (given_none address (accepted s row request) v (no_address (outcome s.spec s.registers request) (of_port s.spec s.registers) row request.length address is) given)
 
   failed_stays : (fault : PipeFault) → EffectOrNone t request fault old j p s v → StaysAs j p s v
-  failed_stays fault (none frame same) = (ap (λ x. x.spec) frame, same)
+  failed_stays fault (none frame same) = control_stays j p s v frame same
   failed_stays fault (some row now at frame same) = accepted_stays row frame same
   failed_stays fault (whole why e row now at frame address is given) = given_stays row address is frame given
 
@@ -91,7 +111,7 @@ module _ (t : Target) (request : Setup) (of_port : (spec : Spec) (g : Registers)
     where
       pick : (is_at s t ≡ true) ⊎ (is_at s t ≡ false) → StaysAs j p s v
       pick (inl at) = let d : EffectDone t request old new j p s v = x.done at u refl in given_stays d.row d.address d.is d.rest d.given
-      pick (inr at) = (ap (λ y. y.spec) (x.others at), ap (λ y. y.registers) (x.others at))
+      pick (inr at) = same_stays j p s v (x.others at)
   write_stays (Err fault) x = failed_stays fault (x.failed fault refl)
 
 ordered_stays : (t : Target) (request : Setup) → ((spec : Spec) (g : Registers) → IsOfPort (outcome spec g request)) → is_harmless request ≡ true → request.length ≡ 0
@@ -113,12 +133,21 @@ pub set_stays : (hub : Target) (feature port : ℕ) (old : World) (result : Resu
 unfolding set_port_feature outcome
 set_stays hub feature port old result new other = ordered_stays hub (set_port_feature feature port) (λ spec g. called_of_port _ _) (rw (not_reset feature other) refl) refl old result new
 
+-- PORT_RESET, of a device that has an address
+pub reset_stays : (hub : Target) (port : ℕ) (old : World) (result : Result (Unit {0}) PipeFault) (new : World) → hub.addr ≢ 0 → Ordered hub (set_port_feature 4 port) old result new → new.shared ≡ false
+    → (j : ℕ) (p : List ℕ) (s : State) → reach_at new.roots j p ≡ true → state_at new.roots j p ≡ Some s → address_of s ≢ 0 → Was StaysAs old j p s
+unfolding set_port_feature outcome
+reset_stays hub port old result new addressed ordered single j p s on there named =
+    let request : Setup = set_port_feature 4 port in
+    let was : Was (WriteLeaves hub request result old new) old j p s = write_leaves hub request result old new refl (same_setup request) ordered.settled ordered.stages single j p s on there (λ h. (addressed, named)) in
+    record { before = was.before; on = was.on; stands = was.stands; so = write_stays hub request (λ spec g. called_of_port _ _) old new j p was.before s result was.so }
+
 -- the status of one
 pub told_stays : (hub : Target) (port : ℕ) (old : World) (result : Result PortStatus PipeFault) (new : World) → Told status_in hub (get_port_status port) old result new → KeepsDevices old new
 unfolding get_port_status
 told_stays hub port old result new told = record {
   stays = λ single.
-      each_wider (ReadLeaves hub (get_port_status port) told.answer old new) StaysAs (λ j p s v x. (ap (λ y. y.spec) x.frame, ap (λ y. y.registers) x.frame)) old new
+      each_wider (ReadLeaves hub (get_port_status port) told.answer old new) StaysAs (λ j p s v x. stage_stays j p s v x.frame) old new
       (read_leaves hub (get_port_status port) told.answer old new (omega arith) (omega arith) (same_setup (get_port_status port)) told.asked.settled told.asked.stages single);
 }
 
@@ -134,17 +163,35 @@ call_rests : (c : PortCall) (k : Ports) (i j : ℕ) (p : List ℕ) → is_reset 
 call_rests c k i j [] h = rw h refl
 call_rests c k i j (n ∷ p) h = refl
 
+root_was : (c : PortCall) (i : ℕ) (old : World) (j : ℕ) (p : List ℕ) (s : State) → call_resets c old.roots i j p ≡ false
+    → reach_at (after (root_call c (suc i)) old).roots j p ≡ true → state_at (after (root_call c (suc i)) old).roots j p ≡ Some s → Was StaysAs old j p s
+unfolding after
+root_was c i old j p s rests on there = record {
+  before = s;
+  on = call_reach c old.roots i j p rests on;
+  stands = kept_state (state_at old.roots j p) (call_resets c old.roots i j p) s rests (sym (call_state c old.roots i j p) ∙ there);
+  so = (refl, refl, refl);
+}
+
 root_each : (c : PortCall) (number : ℕ) (old : World) → is_reset c ≡ false → EachWas StaysAs old (after (root_call c number) old)
 unfolding after
-root_each c zero old quiet j p s on there = record { before = s; on = on; stands = there; so = (refl, refl) }
-root_each c (suc i) old quiet j p s on there =
-    let rests : call_resets c old.roots i j p ≡ false = call_rests c old.roots i j p quiet in
-    record {
-      before = s;
-      on = call_reach c old.roots i j p rests on;
-      stands = kept_state (state_at old.roots j p) (call_resets c old.roots i j p) s rests (sym (call_state c old.roots i j p) ∙ there);
-      so = (refl, refl);
-    }
+root_each c zero old quiet j p s on there = record { before = s; on = on; stands = there; so = (refl, refl, refl) }
+root_each c (suc i) old quiet j p s on there = root_was c i old j p s (call_rests c old.roots i j p quiet) on there
+
+call_elsewhere : (c : PortCall) (k : Ports) (i j : ℕ) (p : List ℕ) → is_way (suc i ∷ []) (suc j ∷ p) ≡ false → call_resets c k i j p ≡ false
+unfolding is_way
+call_elsewhere c k i j [] apart = split (same_number i j) refl apart
+  where
+    split : (b : Bool) → same_number i j ≡ b → (b && true) ≡ false → call_resets c k i j [] ≡ false
+    split true e d = no (sym d)
+    split false e d = rw e (and_false (is_reset c))
+call_elsewhere c k i j (n ∷ p) apart = refl
+
+-- any call, of devices that are not at or below its port
+pub root_elsewhere : (c : PortCall) (number : ℕ) (old : World) → EachElsewhere (number ∷ []) StaysAs old (after (root_call c number) old)
+unfolding after
+root_elsewhere c zero old j p s apart on there = record { before = s; on = on; stands = there; so = (refl, refl, refl) }
+root_elsewhere c (suc i) old j p s apart on there = root_was c i old j p s (call_elsewhere c old.roots i j p apart) on there
 
 pub root_stays : (c : PortCall) (number : ℕ) (old : World) → is_reset c ≡ false → KeepsDevices old (after (root_call c number) old)
 root_stays c number old quiet = record { stays = λ single. root_each c number old quiet }

@@ -1,6 +1,6 @@
 -- What the calls on devices and ports do to the addresses that devices hold.
-use Rattle.std.proofs.Common.{◌≡◌, ◌≢◌, ◌⊎◌, inl, inr, ◌∙◌, refl, sym, ap, subst, true, false}
-use Rattle.std.specs.Prelude.{ℕ, List, Some, Result, Ok, Err, OnOk}
+use Rattle.std.proofs.Common.{◌≡◌, ◌≢◌, ◌⊎◌, inl, inr, ◌∙◌, refl, sym, ap, subst, Bool, true, false, if◌then◌else◌}
+use Rattle.std.specs.Prelude.{ℕ, suc, List, ◌∷◌, None, Some, option_map, Result, Ok, Err, OnOk}
 use Rattle.std.specs.Global.{Vec}
 use Rattle.usb_port.specs.PortState.{off}
 use Rattle.usb_port.specs.Status.{seen, status_in}
@@ -12,11 +12,14 @@ use Rattle.usb_device.specs.declared.calls.PortCall.{PortCall}
 use Rattle.usb_device.specs.declared.calls.PortCall.TheVariants.{SetPower, SetReset, ClearEnable, ClearPower, ClearConnectionChange, ClearEnableChange, ClearResetChange}
 use Rattle.usb_device.specs.Calls.{set_call, clear_call, is_reset}
 use Rattle.usb_device.specs.Request.{Is}
+use Rattle.usb_device.specs.Rows.{State}
+use Rattle.usb_device.specs.Tree.{reach_at, state_at}
 use Rattle.usb_world.specs.World.{World, IsClearFeature, port_at}
 use Rattle.usb_world.specs.Steps.{SetsRoot, ClearsRoot, root_call, after}
 use Rattle.usb_world.specs.Addresses.{after_reset, after_taking}
 use Rattle.usb_world.specs.Courses.{is_harmless}
-use Rattle.usb_world.specs.Live.{is_way}
+use Rattle.usb_world.specs.Live.{address_of, is_way, same_path}
+use Rattle.usb_world.proofs.Booleans.{no}
 use Rattle.usb_transaction.specs.declared.target.Target.{Target}
 use Rattle.usb_transaction.specs.Answerer.{Answerer}
 use Rattle.usb_pipe.specs.declared.fault.PipeFault.{PipeFault}
@@ -25,16 +28,17 @@ use Rattle.usb_address.specs.Claims.{Claims, cleared}
 use Rattle.usb_address.specs.Owned.{Owned, TillFault, KeepsAddresses}
 use Rattle.usb_address.proofs.Answerers.{answerer_claims}
 use Rattle.usb_address.proofs.Keeping.{keeps_none, read_keeps, write_keeps, write_till, either_alone}
-use Rattle.usb_address.proofs.Ports.{clear_bares, status_bares, reset_till}
+use Rattle.usb_address.proofs.Ports.{clear_bares, not_way, status_bares, reset_till}
+use Rattle.usb_address.proofs.Resetting.{same_way}
 use Rattle.usb_address.proofs.Roots.{root_keeps, root_resets, root_bares, root_shut}
 use Rattle.usb_address.proofs.Setups.{same_setup, reads_harmless, reads_other}
 use Rattle.usb_address.proofs.Transfers.{gives_address}
 use Rattle.usb_hub.specs.declared.port.HubPort.{HubPort}
 use Rattle.usb_hub.specs.declared.port.HubPort.TheVariants.{Root, External}
-use Rattle.usb_hub.specs.Addresses.{KeepsDevices, IsBelow, Answers, Bares, Resets, GivesAddress, KeepsAnswered, KeepsAsked, KeepsSet, KeepsCleared}
+use Rattle.usb_hub.specs.Addresses.{StaysAs, EachElsewhere, KeepsDevices, IsBelow, Answers, Bares, Resets, GivesAddress, KeepsAnswered, KeepsAsked, KeepsSet, KeepsCleared}
 use Rattle.usb_hub.specs.Port.{PortRead}
 use Rattle.usb_hub.specs.Requests.{Ends, Told, Ordered}
-use Rattle.usb_hub.proofs.Devices.{not_reset, stays_none, told_stays, cleared_stays, set_stays, root_stays}
+use Rattle.usb_hub.proofs.Devices.{not_reset, stays_none, told_stays, cleared_stays, set_stays, reset_stays, root_stays, root_elsewhere}
 use Rattle.usb_hub.proofs.Told.{said}
 
 told_same : (seen status : PortStatus) (result : Result PortStatus PipeFault) → result ≡ Ok seen → result ≡ Ok status → seen ≡ status
@@ -96,13 +100,32 @@ hub_disables hub port old new ordered = record { bares = bares }
         subst (λ p. TillFault (Owned (cleared f p)) new) (sym at.path)
         (clear_bares hub 2 1 old new f at.hub port at.is_path at.number at.held ordered.ends ordered.stages o)
 
+-- what is not at a path nor below it is not claimed at 0, where 0 is claimed there alone
+reset_elsewhere : (f : Claims) (p : List ℕ) (w : World) → ((x : List ℕ) → f x ≡ Some 0 → is_way p x ≡ true) → Owned f w ⊎ Owned (after_reset f p) w
+    → (j : ℕ) (q : List ℕ) (s : State) → is_way p (suc j ∷ q) ≡ false → reach_at w.roots j q ≡ true → state_at w.roots j q ≡ Some s → address_of s ≢ 0
+reset_elsewhere f p w only (inl o) j q s apart on there zero_is = no (sym apart ∙ only (suc j ∷ q) (sym (o.own (suc j ∷ q) on) ∙ ap (option_map address_of) there ∙ ap Some zero_is))
+reset_elsewhere f p w only (inr o) j q s apart on there zero_is = no (sym apart ∙ only (suc j ∷ q) (sym (claim (same_path p (suc j ∷ q)) refl) ∙ sym (o.own (suc j ∷ q) on) ∙ ap (option_map address_of) there ∙ ap Some zero_is))
+  where
+    claim : (b : Bool) → same_path p (suc j ∷ q) ≡ b → (if b then Some 0 else if is_way p (suc j ∷ q) then None else f (suc j ∷ q)) ≡ f (suc j ∷ q)
+    claim true e = no (sym apart ∙ same_way p (suc j ∷ q) e)
+    claim false e = ap (λ b. if b then None else f (suc j ∷ q)) apart
+
 hub_resets : (hub : Target) (port : ℕ) (old : World) (result : Result (Unit {0}) PipeFault) (new : World) → Ordered hub (set_port_feature 4 port) old result new → Resets (External hub port) old new
-hub_resets hub port old result new ordered = record { resets = resets }
+hub_resets hub port old result new ordered = record { resets = resets; others = others }
   where
     resets : (f : Claims) (p : List ℕ) → IsBelow f hub.addr port p → ((x : List ℕ) → f x ≡ Some 0 → is_way p x ≡ true) → TillFault (Owned f) old → TillFault (λ w. Owned f w ⊎ Owned (after_reset f p) w) new
     resets f p at only o =
         subst (λ p. TillFault (λ w. Owned f w ⊎ Owned (after_reset f p) w) new) (sym at.path)
         (reset_till hub 2 1 old new f at.hub port result at.held ordered.ends ordered.stages (λ x e. subst (λ p. is_way p x ≡ true) at.path (only x e)) o)
+
+    -- the hub is above its port
+    named : (f : Claims) (p : List ℕ) → IsBelow f hub.addr port p → ((x : List ℕ) → f x ≡ Some 0 → is_way p x ≡ true) → hub.addr ≢ 0
+    named f p at only zero_is = no (sym (not_way at.hub port) ∙ subst (λ y. is_way y at.hub ≡ true) at.path (only at.hub (at.held ∙ ap Some zero_is)))
+
+    others : (f : Claims) (p : List ℕ) → IsBelow f hub.addr port p → ((x : List ℕ) → f x ≡ Some 0 → is_way p x ≡ true) → TillFault (Owned f) old → new.fault ≡ None → EachElsewhere p StaysAs old new
+    others f p at only o none j q s apart on there =
+        let after_it = resets f p at only o in
+        reset_stays hub port old result new (named f p at only) ordered after_it.single j q s on there (reset_elsewhere f p new only (after_it.so none) j q s apart on there)
 
 -- Root ports
 
@@ -173,6 +196,9 @@ root_set_keeps port number feature old new e sets = rw e (record {
         subst (λ w. TillFault (λ w. Owned f w ⊎ Owned (after_reset f p) w) w) (sym (root_reset_is number feature old new sets is))
         (subst (λ p. TillFault (λ w. Owned f w ⊎ Owned (after_reset f p) w) (after (root_call SetReset number) old)) (sym at)
         (root_resets number old f (λ x h. subst (λ p. is_way p x ≡ true) at (only x h)) o));
+    others = λ f p at only o none.
+        subst (λ w. EachElsewhere p StaysAs old w) (sym (root_reset_is number feature old new sets is))
+        (subst (λ p. EachElsewhere p StaysAs old (after (root_call SetReset number) old)) (sym at) (root_elsewhere SetReset number old));
   };
 })
 

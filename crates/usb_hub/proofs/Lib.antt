@@ -3,6 +3,7 @@ pub mod Acting
 pub mod Calls
 pub mod Devices
 pub mod Keeping
+pub mod Orders
 pub mod Ports
 pub mod Asked
 pub mod Told

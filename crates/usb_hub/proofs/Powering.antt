@@ -92,7 +92,7 @@ live_there k (suc j ∷ e) n b sane on there h = deep_live k j e n b (reach_live
 
 -- Steps about the port
 
-none_of : (o v : Option State) → option_map spec_of o ≡ option_map spec_of v → v ≡ None → o ≡ None
+pub none_of : (o v : Option State) → option_map spec_of o ≡ option_map spec_of v → v ≡ None → o ≡ None
 none_of None v e h = refl
 none_of (Some s) None e h = absurd (cc e)
 none_of (Some s) (Some t) e h = absurd (cc h)

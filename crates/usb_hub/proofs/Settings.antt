@@ -294,10 +294,7 @@ set_frame true value row s v h r = (
   settings_frame s v rested rested rested None value h r,
   record {
     registers = r;
-    out = ap (λ y. y.bulk_out) h;
-    into = ap (λ y. y.bulk_in) h;
-    changes = ap (λ y. y.changes) h;
-    held = ap (λ y. y.held) h;
+    fresh = record { out = ap (λ y. y.bulk_out) h; into = ap (λ y. y.bulk_in) h; changes = ap (λ y. y.changes) h; held = ap (λ y. y.held) h };
   },
 )
 set_frame false value row s v h r = (settings_frame s v s.bulk_out s.bulk_in s.changes s.held s.registers.configuration h r, r)

@@ -44,7 +44,7 @@ use Rattle.usb_hub.specs.Requests.{Asked, Told, Ordered, said_in}
 use Rattle.usb_hub.specs.declared.port.HubPort.TheVariants.{External}
 use Rattle.usb_hub.specs.Why.{Serves, IsServed}
 use Rattle.usb_hub.proofs.Acting.{AsksFor}
-use Rattle.usb_hub.proofs.Devices.{write_stays, called_of_port, IsOfPort}
+use Rattle.usb_hub.proofs.Devices.{write_stays, stage_stays, called_of_port, IsOfPort}
 use Rattle.usb_hub.proofs.Statuses.{port_below, row_port, StatusOf, status_outcome, whole_status}
 use Rattle.usb_hub.proofs.Rests.{behind_asks_nothing, plain_course}
 
@@ -179,7 +179,7 @@ module _ (t : Target) (i : ℕ) (old new : World) (three : NoThreeDamaged old) (
     read = read_leaves t request answer old new host some_bytes (same_setup request) asked.settled asked.stages single x.j x.p x.state x.on x.stands
 
     read_stays : StaysAs x.j x.p read.before x.state
-    read_stays = (ap (λ s. s.spec) read.so.frame, ap (λ s. s.registers) read.so.frame)
+    read_stays = stage_stays x.j x.p read.before x.state read.so.frame
 
     read_heard : Listens t x.p read.before
     read_heard = listened t (suc i) new x read.before read_stays

@@ -1,10 +1,12 @@
 -- What the calls on devices and ports leave of devices and of the addresses that they hold.
-use Rattle.std.specs.Prelude.{◌≡◌, ◌≢◌, ◌⊎◌, ℕ, List, [], ◌∷◌, ◌++◌, true, false, Some, Result, Ok, OnOk}
+use Rattle.std.specs.Prelude.{◌≡◌, ◌≢◌, ◌⊎◌, ℕ, suc, List, [], ◌∷◌, ◌++◌, true, false, None, Some, Result, Ok, OnOk}
 use Rattle.usb_port.specs.Path.{IsPath, IsPortNumber}
 use Rattle.usb_port.specs.declared.status.PortStatus.{PortStatus}
+use Rattle.usb_device.specs.Progress.{OnlyStage}
 use Rattle.usb_device.specs.Rows.{State}
+use Rattle.usb_device.specs.Tree.{reach_at, state_at}
 use Rattle.usb_world.specs.Addresses.{after_reset, after_taking}
-use Rattle.usb_world.specs.Devices.{EachWas}
+use Rattle.usb_world.specs.Devices.{Relation, Was, EachWas}
 use Rattle.usb_world.specs.Live.{is_way}
 use Rattle.usb_world.specs.World.{World}
 use Rattle.usb_pipe.specs.declared.fault.PipeFault.{PipeFault}
@@ -13,9 +15,13 @@ use Rattle.usb_address.specs.Owned.{Owned, TillFault, KeepsAddresses}
 use Rattle.usb_hub.specs.declared.port.HubPort.{HubPort}
 use Rattle.usb_hub.specs.declared.port.HubPort.TheVariants.{Root, External}
 
--- a device has the description and the registers that it had
+-- a device has the description and the registers that it had; nothing of it changed but where its transfer stands, so its other endpoints are as they were
 abbrev pub StaysAs : ℕ → List ℕ → State → State → Type 0
-StaysAs j p s v = (v.spec ≡ s.spec) × (v.registers ≡ s.registers)
+StaysAs j p s v = (v.spec ≡ s.spec) × (v.registers ≡ s.registers) × OnlyStage s v
+
+-- so it is of each reachable device that is not at the path nor below it
+abbrev pub EachElsewhere : List ℕ → Relation → World → World → Type 0
+EachElsewhere x R old new = (j : ℕ) (p : List ℕ) (s : State) → is_way x (suc j ∷ p) ≡ false → reach_at new.roots j p ≡ true → state_at new.roots j p ≡ Some s → Was R old j p s
 
 -- where no address was held twice, each device that is reachable was so before, and stays as it was
 pub record KeepsDevices (old new : World) : Type 0 where
@@ -42,10 +48,13 @@ pub record Answers (address : ℕ) (old : World) : Type 0 where
 pub record Bares (port : HubPort) (old new : World) : Type 0 where
   pub bares : (f : Claims) (p : List ℕ) → IsAt f port p → TillFault (Owned f) old → TillFault (Owned (cleared f p)) new
 
--- where address 0 is claimed at the port or below it alone: the device there has address 0, and none below it is reachable; or all have what they had
+-- where address 0 is claimed at the port or below it alone: the device there has address 0, and none below it is reachable; or all have what they had.
+-- As long as the bus is at work, devices elsewhere stay as they were.
 pub record Resets (port : HubPort) (old new : World) : Type 0 where
   pub resets : (f : Claims) (p : List ℕ) → IsAt f port p → ((x : List ℕ) → f x ≡ Some 0 → is_way p x ≡ true) → TillFault (Owned f) old
       → TillFault (λ w. Owned f w ⊎ Owned (after_reset f p) w) new
+  pub others : (f : Claims) (p : List ℕ) → IsAt f port p → ((x : List ℕ) → f x ≡ Some 0 → is_way p x ≡ true) → TillFault (Owned f) old
+      → new.fault ≡ None → EachElsewhere p StaysAs old new
 
 -- where a path alone claims the target's address, and none claims the new one beside it: the device there has the new one, or all have what they had
 pub record GivesAddress (target address : ℕ) (old new : World) : Type 0 where

@@ -1,15 +1,18 @@
 -- What a typed request leaves, and what its answer says.
-use Rattle.std.specs.Prelude.{◌≡◌, ◌≢◌, ℕ, ◌≤◌, ◌==◌, true, if◌then◌else◌, List, length, slice_index, Result, Ok, Err, IfOk, MatchResult}
+use Rattle.std.specs.Prelude.{◌≡◌, ◌≢◌, ℕ, ◌≤◌, ◌==◌, true, false, if◌then◌else◌, List, length, slice_index, Some, Result, Ok, Err, IfOk, MatchResult}
 use Rattle.std.specs.Global.{Vec}
 use Rattle.usb_request.specs.declared.setup.Setup.{Setup}
 use Rattle.usb_world.specs.Passes.{IsSettled}
-use Rattle.usb_world.specs.Requested.{is_plain}
+use Rattle.usb_world.specs.Courses.{is_harmless}
+use Rattle.usb_world.specs.Requested.{is_plain, is_below}
 use Rattle.usb_world.specs.Resting.{AsksNothingOf}
 use Rattle.usb_world.specs.Steps.{Course}
 use Rattle.usb_world.specs.World.{World}
 use Rattle.usb_transaction.specs.declared.target.Target.{Target}
 use Rattle.usb_transaction.specs.Trans.{Worked}
 use Rattle.usb_port.specs.Status.{has_bit}
+use Rattle.usb_address.specs.Claims.{Claims}
+use Rattle.usb_address.specs.Owned.{Owned}
 use Rattle.usb_pipe.specs.declared.fault.PipeFault.{PipeFault}
 use Rattle.usb_pipe.specs.declared.fault.PipeFault.TheVariants.{Stalled, Memory}
 use Rattle.usb_pipe.specs.Control.{Faults}
@@ -24,6 +27,10 @@ Ends least old result new = MatchResult result (λ done. Worked least old new) (
 -- over these steps nothing is asked of any port
 abbrev pub AllRest : World → World → Type 0
 AllRest w v = (x : List ℕ) → Course (AsksNothingOf x) w v
+
+-- where a path claims the address, nothing is asked of the ports that are not below it
+abbrev pub RestBut : ℕ → World → World → Type 0
+RestBut address w v = (f : Claims) (q : List ℕ) → f q ≡ Some address → Owned f w → (x : List ℕ) → is_below q x ≡ false → Course (AsksNothingOf x) w v
 
 -- a target was asked for data: how few attempts were made, and which they were; no more bytes came than the request says, and nothing
 -- was asked of any port
@@ -42,6 +49,8 @@ pub record Ordered (target : Target) (request : Setup) (old : World) (result : R
   pub room : result ≢ Err Memory
   -- a request that is not about ports asks nothing of any
   pub rests : is_plain request ≡ true → IsNotOfBus result → AllRest old new
+  -- one that resets no port asks nothing but of ports below the target's device
+  pub elsewhere : is_harmless request ≡ true → IsNotOfBus result → RestBut target.addr old new
 
 -- what an answer says that is to have so many bytes: one of another length is told as a stall
 abbrev pub said_in : {A : Type 0} → (List ℕ → A) → ℕ → Result (Vec ℕ) PipeFault → Result A PipeFault

@@ -30,13 +30,17 @@ pub record AddressAsked (t : Target) (address : ℕ) (result : Result (Unit {0})
 abbrev pub takes_value : State → ℕ → Bool
 takes_value s value = not (s.registers.address == 0) && is_value s.spec.configs value
 
--- it has this configuration, and its endpoints have begun again
-pub record IsConfigured (value : ℕ) (s v : State) : Type 0 where
-  pub registers : v.registers ≡ record s.registers { configuration = value }
+-- its endpoints besides endpoint 0 have begun again, and nothing went over them since
+pub record IsFresh (v : State) : Type 0 where
   pub out : v.bulk_out ≡ rested
   pub into : v.bulk_in ≡ rested
   pub changes : v.changes ≡ rested
   pub held : v.held ≡ None
+
+-- it has this configuration, and its endpoints have begun again
+pub record IsConfigured (value : ℕ) (s v : State) : Type 0 where
+  pub registers : v.registers ≡ record s.registers { configuration = value }
+  pub fresh : IsFresh v
 
 -- at a moment of the call all ports of the device there were off, and nothing was asked of any port since
 pub record WentOff (new : World) (j : ℕ) (p : List ℕ) : Type 0 where

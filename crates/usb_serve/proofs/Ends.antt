@@ -1,13 +1,19 @@
 -- Where a plan's run ends.
 use Rattle.std.proofs.Common.{◌≡◌, ◌∙◌, refl, sym, ap, ap₂, subst, Ok, IsErrAnd, arith, ℕ, ◌+◌, zero, suc, length, List, Option, Result, Err, false}
-use Rattle.std.specs.Prelude.{IfErr}
+use Rattle.std.proofs.lemmas.List.Elements.{All-cons, All-nil}
+use Rattle.std.specs.Prelude.{All, IfErr}
 use Rattle.usb_device.specs.Tree.{new_ports, row_of}
-use Rattle.usb_world.specs.PlanData.{PlanData}
+use Rattle.usb_world.specs.PlanData.{PlanData, IsPlan}
+use Rattle.usb_world.specs.PluggedAt.{AtPorts}
 use Rattle.usb_world.specs.Steps.{opening}
+use Rattle.usb_enum.proofs.Courses.{opening_in_order}
 use Rattle.usb_world.specs.declared.types.BusFault.{BusFault}
 use Rattle.usb_world.specs.declared.types.BusFault.TheVariants.{LimitReached, Memory, TraceFailed}
 use Rattle.usb_world.specs.World.{World, Failed, changes, change_of}
 use Rattle.usb_host.specs.Hosting.{Hosting, opening as host_opening, with_power}
+use Rattle.usb_host.specs.Owning.{IsUntouched}
+use Rattle.usb_host.specs.Progress.{HostWent}
+use Rattle.usb_host.specs.Sound.{IsSound, IsUnpowered, Causes}
 use Rattle.usb_serve.specs.declared.runs.RunFault.{RunFault}
 use Rattle.usb_serve.specs.declared.runs.RunFault.TheVariants.{Memory as NoMemory}
 use Rattle.usb_serve.specs.declared.transfer.TransferFault.{TransferFault}
@@ -20,7 +26,10 @@ use Rattle.usb_host.specs.Told.{IsOfPipe, TransferTold, is_final}
 use Rattle.usb_bus.specs.Traced.{Traced, WentOn}
 use Rattle.usb_serve.specs.Ran.{Works}
 use Rattle.usb_serve.specs.Run.{IsCaused, RunsOn, WorksOn, run_fault}
-use Rattle.usb_serve.specs.Served.{unpowered}
+use Rattle.usb_serve.specs.Served.{Opens, unpowered}
+use Rattle.usb_serve.proofs.Moments.{SoFar}
+use Rattle.usb_serve.proofs.Onwards.{traced_onward}
+use Rattle.usb_serve.proofs.Ownings.{untouched}
 
 powered_length : (n : ℕ) → length (row_of (with_power (new_ports n))) ≡ length (row_of (new_ports n))
 unfolding new_ports row_of with_power
@@ -104,11 +113,39 @@ answered_caused {A} (Err (host.Bus fault)) f w told e = subst (λ x. IsCaused x 
 answered_caused {A} (Err host.Memory) f w told e = subst (λ x. IsCaused x w) (err_same {A = A} NoMemory f e) tt
 
 -- a plan's run begins with a host of its bus
-pub works_powered : (plan : PlanData) (w : World) (t : Option (List ℕ)) (h : Hosting) {before : Option (List ℕ)} → w ≡ opening plan → t ≡ before → h ≡ host_opening w t → Traced w t h.world h.trace
-    → Works (unpowered plan before) h
-works_powered plan w t h {before} same silent opens traced =
-    let is : h ≡ host_opening (opening plan) before = opens ∙ ap₂ host_opening same silent in
+
+-- no port has power yet
+off_new : (n : ℕ) → All (λ b. b.power ≡ false) (row_of (new_ports n))
+unfolding new_ports row_of
+off_new zero = All-nil (λ b. b.power ≡ false)
+off_new (suc n) = All-cons (λ b. b.power ≡ false) _ (row_of (new_ports n)) refl (off_new n)
+
+pub opens_with : (plan : PlanData) (w : World) (t : Option (List ℕ)) (h : Hosting) {before : Option (List ℕ)} → w ≡ opening plan → t ≡ before → h ≡ host_opening w t → Traced w t h.world h.trace
+    → (IsUntouched w → IsUnpowered w → IsSound h) → IsPlan plan → AtPorts plan.events → Opens plan before h
+opens_with plan w t h {before} same silent opens traced sound rules paths =
     let P : World → Type 0 = λ x. Traced x t h.world h.trace in
     let Q : Option (List ℕ) → Type 0 = λ x. Traced (opening plan) x h.world h.trace in
+    record {
+      is = opens ∙ ap₂ host_opening same silent;
+      traced = subst Q silent (subst P same traced);
+      sound = sound (subst IsUntouched (sym same) (untouched plan)) (subst IsUnpowered (sym same) (record { off = off_new plan.roots; order = opening_in_order plan rules paths refl }));
+      rules = rules;
+      paths = paths;
+    }
+
+-- it has refused none
+opened_causes : (plan : PlanData) (h : Hosting) {before : Option (List ℕ)} → Opens plan before h → Causes h.world h.entries
+opened_causes plan h opens = subst (Causes h.world) (sym (ap (λ (k : Hosting). k.entries) opens.is)) (λ path cause state at stands. absurd (cc at))
+
+pub works_powered : (plan : PlanData) (h : Hosting) {before : Option (List ℕ)} → Opens plan before h → Works (unpowered plan before) h
+works_powered plan h {before} opens =
     let R : Hosting → Type 0 = λ k. Traced (opening plan) before k.world k.trace in
-    subst (Works (unpowered plan before)) (sym is) (record { most = 0; went = powered_went plan (subst R is (subst Q silent (subst P same traced))) })
+    record {
+      running = refl;
+      most = 0;
+      went = subst (λ k. HostWent 0 (unpowered plan before) k) (sym opens.is) (powered_went plan (subst R opens.is opens.traced));
+      stays = λ on. record { sound = λ s. opens.sound; caused = λ s fair causes. opened_causes plan h opens };
+    }
+
+pub so_far_opened : (plan : PlanData) (h : Hosting) {before : Option (List ℕ)} → Opens plan before h → SoFar plan h
+so_far_opened plan h opens = record { onward = traced_onward opens.traced; sound = opens.sound; causes = λ fair. opened_causes plan h opens }

@@ -1,6 +1,10 @@
+pub mod Deliveries
 pub mod Ends
 pub mod Goings
+pub mod Knowing
 pub mod LineEnds
+pub mod Moments
+pub mod Onwards
 pub mod Ownings
 pub mod ReportLemmas
 pub mod Reportings

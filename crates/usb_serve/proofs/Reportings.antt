@@ -1,7 +1,10 @@
 -- How a report has the items of a run.
-use Rattle.std.proofs.Common.{◌≡◌, ◌∙◌, refl, sym, ap, subst, arith, ℕ, ◌≤◌, List, [], ◌∷◌, ◌++◌, reverse, Bool, false, Option, None, Some, Result, Ok, Err, IsErrAnd}
+use Rattle.std.proofs.Common.{◌≡◌, ◌∙◌, refl, sym, ap, subst, arith, ℕ, ◌-◌, ◌≤◌, ◌<◌, length, List, [], ◌∷◌, ◌++◌, reverse, Bool, false, Option, None, Some, Result, Ok, Err, IsErrAnd}
 use Rattle.std.proofs.lemmas.Grind.{reverse_onto}
-use Rattle.std.specs.Prelude.{IfOk}
+use Rattle.std.proofs.lemmas.List.{get_or-reverse, length-reverse}
+use Rattle.std.proofs.lemmas.List.Elements.{All-from_recursion}
+use Rattle.std.specs.List.{AllByRecursion}
+use Rattle.std.specs.Prelude.{All, IfOk}
 use Rattle.usb_world.specs.PlanData.{PlanData}
 use Rattle.usb_world.specs.World.{World, Spends}
 use Rattle.usb_world.proofs.Counts.{spends_none}
@@ -10,12 +13,21 @@ use Rattle.usb_serve.specs.declared.runs.Item.{Item}
 use Rattle.usb_serve.specs.declared.runs.Report.{Report}
 use Rattle.usb_serve.specs.declared.runs.RunFault.{RunFault}
 use Rattle.usb_serve.specs.declared.serving.Mode.TheVariants.{Tree}
-use Rattle.usb_serve.specs.Ran.{Works}
-use Rattle.usb_serve.specs.Served.{EndsWell, Finishes, Reports, unpowered}
+use Rattle.usb_serve.specs.Moments.{AtMostTwoRunning, IsListingOf, ListsPlugged}
+use Rattle.usb_serve.specs.Served.{EndsWell, Finishes, Opens, Reports, unpowered}
 use Rattle.usb_serve.specs.Transcript.{RunsTo, Next, PutsText, Transcript, begun, behind, ran, told}
 use Rattle.usb_serve.specs.declared.serving.Mode.{Mode}
+use Rattle.usb_serve.proofs.Ends.{so_far_opened, works_powered}
+use Rattle.usb_serve.proofs.Moments.{done_still, none_listed, run_lists_right}
 use Rattle.usb_serve.proofs.Goings.{Spent, makes_spent, ran_spent, spent_then, within_limit}
 use Rattle.usb_serve.proofs.Transcripts.{ends_failed, ends_then, powered, puts_none, stopped_next, told_next}
+
+-- what holds of each element holds of each in turn
+All-reverse : {X : Type 0} (P : X → Type 0) (xs : List X) → All P xs → All P (reverse xs)
+All-reverse P xs each k d lt =
+    let long : length (reverse xs) ≡ length xs = length-reverse xs in
+    let less : k < length xs = omega (arith, lt, long) in
+    subst P (sym (get_or-reverse xs k d less)) (each (length xs - 1 - k) d (omega (arith, less)))
 
 -- the run so far, and its items in order
 pub record ReportSoFar (was : Bool) (old : Hosting) (made : List Item) (over : Bool) (new : Hosting) : Type 0 where
@@ -70,17 +82,18 @@ reports_limit was old new (Ok report) limit finishes none is =
 reports_limit was old new (Err fault) limit finishes none is = tt
 
 -- a plan's run, from a host whose bus was just given power
-pub ends_opened : (plan : PlanData) (before : Option (List ℕ)) (over : Bool) (h k : Hosting) (result : Result Report RunFault) → Works (unpowered plan before) h → over ≡ false → Finishes over h result k → k.world.shared ≡ false
+pub ends_opened : (plan : PlanData) (before : Option (List ℕ)) (over : Bool) (h k : Hosting) (result : Result Report RunFault) → Opens plan before h → over ≡ false → Finishes over h result k → k.world.shared ≡ false
     → EndsWell plan result
-ends_opened plan before over h k result works at_work finishes single = record {
+ends_opened plan before over h k result opens at_work finishes single = record {
   before = before;
   last = k;
   finishes = record {
     items = finishes.items;
-    ends = ends_then finishes.items k result (powered Tree plan before h works) (subst (λ o. RunsTo Tree o h finishes.items result k) at_work finishes.ends);
+    ends = ends_then finishes.items k result (powered Tree plan before h (works_powered plan h opens)) (subst (λ o. RunsTo Tree o h finishes.items result k) at_work finishes.ends);
     report = finishes.report;
   };
   single = single;
+  lists = run_lists_right plan opens.rules opens.paths Tree over h finishes.items k result (so_far_opened plan h opens) finishes.ends;
 }
 
 -- where memory is refused for its bus
@@ -90,4 +103,17 @@ ends_unopened plan fault = record {
   last = unpowered plan None;
   finishes = record { items = []; ends = behind begun; report = tt };
   single = refl;
+  lists = none_listed plan (unpowered plan None).world;
 }
+
+-- What is told of it
+
+reported : (P : Item → Type 0) (made items : List Item) → made ≡ reverse items → AllByRecursion P items → All P made
+reported P made items is each = subst (All P) (sym is) (All-reverse P items (All-from_recursion P items each))
+
+pub ends_plugged : (plan : PlanData) (result : Result Report RunFault) → EndsWell plan result → AtMostTwoRunning plan.damages → IfOk result (ListsPlugged plan)
+ends_plugged plan (Ok report) ends few = λ worst.
+    let told = ends.finishes.report in
+    reported (IsListingOf plan) report.items.items ends.finishes.items told.items_made
+    (ends.lists.right (record { still = done_still ends.finishes.ends; few = few; kept = subst (λ n. n ≤ 2) told.worst worst }))
+ends_plugged plan (Err fault) ends few = tt

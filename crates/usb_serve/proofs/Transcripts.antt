@@ -25,7 +25,7 @@ pub front_none : (t : Option (List ℕ)) (text : List ℕ) → AppendsFront t t 
 front_none t text = record { gone = []; rest = text; split = refl; appended = Appends-nil t }
 
 pub cuts_none : (text : List ℕ) (h : Hosting) → CutsText text h h
-cuts_none text h = record { front = front_none h.trace text; rest = refl }
+cuts_none text h = record { front = front_none h.trace text; rest = refl; still = λ none. refl }
 
 -- the next item
 
@@ -105,4 +105,5 @@ cuts_line {h} {k} {l} text line rest all fault puts rests fails front is =
     record {
       front = front_after h.trace k.trace l.trace text line rest all is puts.all front;
       rest = rests ∙ ap (λ (w : World). record k { world = w; trace = l.trace }) kept ∙ ap (λ (x : Hosting). record x { world = record x.world { fault = l.world.fault }; trace = l.trace }) puts.rest;
+      still = λ none. absurd (cc (none, ap (λ (w : World). w.fault) fails));
     }

@@ -6,3 +6,5 @@ pub mod Transfers
 pub mod Ran
 pub mod Transcript
 pub mod Served
+pub mod Deliveries
+pub mod Moments

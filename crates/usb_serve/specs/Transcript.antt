@@ -36,7 +36,7 @@ shown Run items item = item_text items item
 
 -- how the next item is made: an event asks for it, and the host did what the event asks; the last one behind all events, and the run is over
 pub data Makes (old : Hosting) : Item → Bool → Hosting → Type 0 where
-  asked : {item : Item} {mid new : Hosting} (due : Due) → Reaches old (Ok (Some due)) mid → Works mid new → IsItemOf due (Some item) new → Makes old item false new
+  asked : {item : Item} {mid new : Hosting} (due : Due) → Reaches old (Ok (Some due)) mid → Works mid new → IsItemOf due (Some item) mid new → Makes old item false new
   last : {new : Hosting} → Reaches old (Ok None) new → Makes old (listing_of new) true new
 
 -- a run that stopped on the way to its next item: between events, or while the host did what one asks
@@ -66,10 +66,11 @@ pub record PutsText (text : List ℕ) (old new : Hosting) : Type 0 where
   pub all : Appends old.trace new.trace text
   pub rest : new ≡ record old { trace = new.trace }
 
--- a front of a text was written, and nothing else changed but the bus's fault
+-- a front of a text was written, and nothing else changed but the fault that the bus told
 pub record CutsText (text : List ℕ) (old new : Hosting) : Type 0 where
   pub front : AppendsFront old.trace new.trace text
   pub rest : new ≡ record old { world = record old.world { fault = new.world.fault }; trace = new.trace }
+  pub still : new.world.fault ≡ None → new.world ≡ old.world
 
 -- all of it, or a front where that failed
 pub record Prints {E : Type 0} (text : List ℕ) (old : Hosting) (result : Result (Unit {0}) E) (new : Hosting) : Type 0 where

@@ -8,6 +8,7 @@ use Rattle.usb_pipe.specs.declared.fault.PipeFault.TheVariants as pipe
 use Rattle.usb_host.specs.declared.fault.HostFault.{HostFault}
 use Rattle.usb_host.specs.declared.fault.HostFault.TheVariants as host
 use Rattle.usb_host.specs.Hosting.{Hosting}
+use Rattle.usb_host.specs.Transfers.{SentAt, ReceivedAt, ClearedAt}
 use Rattle.usb_serve.specs.declared.runs.Item.{Item}
 use Rattle.usb_serve.specs.declared.runs.Item.TheVariants.{Sent, Received, Cleared}
 use Rattle.usb_serve.specs.declared.runs.RunFault.{RunFault}
@@ -47,10 +48,17 @@ abbrev pub counted : ℕ → Result (Unit {0}) TransferFault → Result ℕ Tran
 counted count (Ok done) = Ok count
 counted count (Err fault) = Err fault
 
--- what a run makes of an event: a listing where the host is to list, and a transfer's answer at its path
-abbrev pub IsItemOf : Due → Option Item → Hosting → Type 0
-IsItemOf Changed item h = item ≡ None
-IsItemOf Show item h = item ≡ Some (listing_of h)
-IsItemOf (Send path bytes) item h = (sent : Result (Unit {0}) TransferFault) × (item ≡ Some (Sent path (counted (length bytes) sent)))
-IsItemOf (Receive path packets) item h = (received : Result (Vec ℕ) TransferFault) × (item ≡ Some (Received path received))
-IsItemOf (Clear path) item h = (cleared : Result (Unit {0}) TransferFault) × (item ≡ Some (Cleared path cleared))
+-- the host did a transfer, and this is told of it
+pub record Transfers {A : Type 0} (did : Hosting → Result A HostFault → Hosting → Type 0) (old : Hosting) (told : Result A TransferFault) (new : Hosting) : Type 0 where
+  pub answer : Result A HostFault
+  pub done : did old answer new
+  pub tells : answered answer ≡ Ok told
+
+-- what a run makes of an event: a listing at once where the host is to list, and of a transfer to the device at a path what it came to
+abbrev pub IsItemOf : Due → Option Item → Hosting → Hosting → Type 0
+IsItemOf Changed item old new = item ≡ None
+IsItemOf Show item old new = (item ≡ Some (listing_of new)) × (new ≡ old)
+IsItemOf (Send path bytes) item old new =
+    (sent : Result (Unit {0}) TransferFault) × (item ≡ Some (Sent path (counted (length bytes) sent))) × Transfers (SentAt path bytes) old sent new
+IsItemOf (Receive path packets) item old new = (received : Result (Vec ℕ) TransferFault) × (item ≡ Some (Received path received)) × Transfers (ReceivedAt path packets) old received new
+IsItemOf (Clear path) item old new = (cleared : Result (Unit {0}) TransferFault) × (item ≡ Some (Cleared path cleared)) × Transfers (ClearedAt path) old cleared new

@@ -6,14 +6,14 @@ ghost use Rattle.usb_world.specs.World.{root_row, to_come, changes};
 ghost use Rattle.usb_bus.specs.Sim.{world_of, writer_of};
 ghost use Rattle.std.specs.Io.KnownBytes.{Appends};
 ghost use Rattle.usb_bus.specs.Watch.{inner_of, has_failed, tells_failure, AppendsFront};
-ghost use Rattle.usb_world.specs.Steps.{opening, PutLine};
-ghost use Rattle.usb_host.specs.Hosting.{opening as host_opening};
+ghost use Rattle.usb_world.specs.Steps.{PutLine};
 ghost use Rattle.usb_host.specs.Progress.{DidRound, Rests};
 ghost use Rattle.usb_host.specs.Owning.{Owning};
 ghost use Rattle.usb_serve.specs.declared.runs.RunFault.TheVariants.{Memory as NoMemory};
-ghost use Rattle.usb_serve.specs.Ran.{Works};
+ghost use Rattle.usb_serve.specs.Moments.{AtMostTwoRunning, ListsPlugged};
+ghost use Rattle.usb_serve.specs.Ran.{Settles};
 ghost use Rattle.usb_serve.specs.Run.{IsBegun, IsCaused, RunsOn, WorksOn, run_fault, items_left, listing_of};
-ghost use Rattle.usb_serve.specs.Served.{EndsWell, Finishes, unpowered};
+ghost use Rattle.usb_serve.specs.Served.{EndsWell, Finishes, Opens};
 ghost use Rattle.usb_serve.specs.Transcript.{Next, NextAsked, NextEvent};
 ghost use Rattle.usb_serve.specs.Transfers.{IsItemOf};
 
@@ -91,6 +91,8 @@ pub fn settle<W: Write>(host: &mut Host<SimBus<W>>) -> Result<(), RunFault>
     ensures on { RunsOn WorksOn host.old result host.new }
     // No root port has its change of connection set.
     ensures settled { OnOk result (changes (root_row host.new.world) ≡ 0) }
+    // Where what the host knew is so, nothing is left to do.
+    ensures rests { OnOk result (Settles host.old host.new) }
     ensures owning { Owning host.old → Owning host.new }
 {
     'rounds: loop {
@@ -108,6 +110,8 @@ fn round_of<W: Write>(host: &mut Host<SimBus<W>>) -> Result<Round, RunFault>
     requires running { host.old.stopped ≡ false }
     ensures on { RunsOn WorksOn host.old result host.new }
     ensures did { IfOk result (λ round. DidRound round host.old host.new) }
+    ensures rests { result ≡ Ok Round.Quiet → host.new.world.taken ≡ host.old.world.taken
+        → Settles host.old host.new }
     ensures owning { Owning host.old → Owning host.new }
 {
     match host.round() {
@@ -138,6 +142,9 @@ pub fn run(alloc: Global, plan: &Plan) -> Result<Report, RunFault>
     ensures limit { IfOk result (λ report. report.attempts ≤ plan.now.limit) }
     // No two devices that could be reached held one address at any attempt.
     ensures ends { EndsWell plan.now result }
+    // Where no three attempts running are damaged, and no address was lost three times running,
+    // each listing is what is plugged when it is made.
+    ensures listings { AtMostTwoRunning plan.now.damages → IfOk result (ListsPlugged plan.now) }
 {
     let mut runner = match Runner::new(alloc, plan, Watched::new(io::sink())) {
         Ok(runner) => runner,
@@ -172,13 +179,12 @@ impl<W: Write> Runner<W> {
     ) -> Result<Runner<W>, (AllocError, Watched<W>)>
         requires unfailed { has_failed writer ≡ false }
         ensures opened { IfOk result (λ runner.
-            runner.host ≡ host_opening (opening plan.now) (W.contents (inner_of writer))) }
-        ensures powered { IfOk result (λ runner.
-            Works (unpowered plan.now (W.contents (inner_of writer))) runner.host) }
+            Opens plan.now (W.contents (inner_of writer)) runner.host) }
         ensures begun { IfOk result (λ runner. IsBegun plan.now runner.host.world) }
         ensures going { IfOk result (λ runner. runner.over ≡ false) }
         ensures back { IfErr result (λ e. e.1 ≡ writer) }
     {
+        let _events = plan.events();
         let bus = SimBus::new(alloc, plan, writer)?;
         Ok(Runner {
             host: Host::new(alloc, bus),
@@ -312,7 +318,7 @@ fn next_due<W: Write>(host: &mut Host<SimBus<W>>) -> Result<Option<Due>, RunFaul
 fn item_of<W: Write>(host: &mut Host<SimBus<W>>, due: Due) -> Result<Option<Item>, RunFault>
     requires running { host.old.stopped ≡ false }
     ensures on { RunsOn WorksOn host.old result host.new }
-    ensures item { IfOk result (λ item. IsItemOf due item host.new) }
+    ensures item { IfOk result (λ item. IsItemOf due item host.old host.new) }
     ensures owning { Owning host.old → Owning host.new }
 {
     match due {
@@ -333,7 +339,8 @@ fn send<W: Write>(
 ) -> Result<Item, RunFault>
     requires running { host.old.stopped ≡ false }
     ensures on { RunsOn WorksOn host.old result host.new }
-    ensures item { IfOk result (λ item. IsItemOf (Due.Send path bytes.now) (Some item) host.new) }
+    ensures item { IfOk result (λ item. IsItemOf (Due.Send path bytes.now) (Some item)
+        host.old host.new) }
     ensures owning { Owning host.old → Owning host.new }
 {
     let sent = answered(host.send(&path, bytes))?;
@@ -349,7 +356,8 @@ fn receive<W: Write>(
 ) -> Result<Item, RunFault>
     requires running { host.old.stopped ≡ false }
     ensures on { RunsOn WorksOn host.old result host.new }
-    ensures item { IfOk result (λ item. IsItemOf (Due.Receive path packets) (Some item) host.new) }
+    ensures item { IfOk result (λ item. IsItemOf (Due.Receive path packets) (Some item)
+        host.old host.new) }
     ensures owning { Owning host.old → Owning host.new }
 {
     let received = answered(host.receive(&path, packets))?;
@@ -361,7 +369,8 @@ fn receive<W: Write>(
 fn clear<W: Write>(host: &mut Host<SimBus<W>>, path: PortPath) -> Result<Item, RunFault>
     requires running { host.old.stopped ≡ false }
     ensures on { RunsOn WorksOn host.old result host.new }
-    ensures item { IfOk result (λ item. IsItemOf (Due.Clear path) (Some item) host.new) }
+    ensures item { IfOk result (λ item. IsItemOf (Due.Clear path) (Some item)
+        host.old host.new) }
     ensures owning { Owning host.old → Owning host.new }
 {
     let cleared = answered(host.clear_halt(&path))?;

@@ -8,7 +8,6 @@ use Rattle.usb_world.specs.World.{World}
 use Rattle.usb_world.proofs.WorldLaws.{course_joined}
 use Rattle.usb_address.proofs.Endpoints.{polls_keep, sends_keep, receives_keep, clears_keep}
 use Rattle.usb_address.proofs.Keeping.{keeps_none, keeps_then}
-use Rattle.usb_hub.proofs.Devices.{stays_none}
 use Rattle.usb_pipe.specs.Bulk.{Bulk}
 use Rattle.usb_pipe.specs.declared.fault.PipeFault.{PipeFault}
 use Rattle.usb_enum.specs.declared.finding.Accepted.{Accepted}
@@ -21,11 +20,11 @@ use Rattle.usb_table.specs.declared.pipes.Pipes.TheVariants.{Hub, Function, Abse
 use Rattle.usb_table.specs.Findings.{bulk_out, bulk_in}
 use Rattle.usb_table.specs.Pipes.{IsPipe, ArePipesTo, ArePipesOf}
 use Rattle.usb_table.specs.Transfers.{SentBy, ReceivedBy, ClearedBy, ClearedAfter, ClearedIf, Polled, Sent, Received, Cleared, Keeps}
-use Rattle.usb_table.proofs.Staying.{polls_stay, polls_rest, sends_stay, sends_rest, receives_stay, receives_rest, clears_stay, clears_rest, clears_single, each_then}
+use Rattle.usb_table.proofs.Staying.{polls_stay, polls_rest, sends_stay, sends_rest, receives_stay, receives_rest, clears_stay, clears_rest, clears_single, settings_none, settings_then}
 use Rattle.usb_table.proofs.Kept.{ready_or_not}
 
 pub spares_none : (w : World) → Keeps w w
-spares_none w = record { addresses = keeps_none w; devices = stays_none w; rests = λ sound x. here w }
+spares_none w = record { addresses = keeps_none w; devices = settings_none w; rests = λ sound x. here w }
 
 same_spares : (old new : World) → new ≡ old → Keeps old new
 same_spares old new e = subst (Keeps old) (sym e) (spares_none old)
@@ -34,7 +33,7 @@ same_spares old new e = subst (Keeps old) (sym e) (spares_none old)
 spares_then : (old mid new : World) → Keeps old mid → Keeps mid new → mid.fault ≡ None → (new.shared ≡ false → mid.shared ≡ false) → Keeps old new
 spares_then old mid new x y sound single = record {
   addresses = keeps_then old mid new x.addresses y.addresses;
-  devices = record { stays = λ s. each_then old mid new (x.devices.stays (single s)) (y.devices.stays s) };
+  devices = settings_then old mid new single x.devices y.devices;
   rests = λ still p. course_joined (x.rests sound p) (y.rests still p);
 }
 
@@ -124,7 +123,7 @@ done_or_same (Some pipe) (Some left) old done new x = elim (ready_or_not pipe.co
   | inr not ↦ inr (x.clears.sent not).ends.still
 ]
 
-cleared_single : (pipe left : Option Bulk) (old : World) (answer : Result (Unit {0}) PipeFault) (new : World) → ClearedBy pipe old answer left new → new.shared ≡ false → old.shared ≡ false
+pub cleared_single : (pipe left : Option Bulk) (old : World) (answer : Result (Unit {0}) PipeFault) (new : World) → ClearedBy pipe old answer left new → new.shared ≡ false → old.shared ≡ false
 cleared_single None left old answer new x single = ap (λ w. w.shared) (sym x.2) ∙ single
 cleared_single (Some pipe) None old answer new x single = absurd x
 cleared_single (Some pipe) (Some left) old answer new x single = clears_single pipe old answer left new x.clears single

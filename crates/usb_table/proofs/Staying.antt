@@ -58,96 +58,100 @@ use Rattle.usb_pipe.specs.Stages.{Writes}
 use Rattle.usb_pipe.proofs.Attempts.{poll_attempts, receive_attempts}
 use Rattle.usb_pipe.proofs.SendCourse.{send_attempts}
 use Rattle.usb_address.proofs.Bare.{attempt_settled}
-use Rattle.usb_hub.specs.Addresses.{StaysAs, KeepsDevices}
 use Rattle.usb_hub.specs.Requests.{AllRest, Ends, Ordered}
-use Rattle.usb_hub.proofs.Devices.{stays_none}
+use Rattle.usb_hub.proofs.Orders.{order_elsewhere}
 use Rattle.usb_hub.proofs.Rests.{write_rests}
 use Rattle.usb_hub.proofs.Settings.{each_leaves, given_none}
+use Rattle.usb_table.specs.Transfers.{SameSettings, KeepsSettings}
 use Rattle.usb_table.proofs.Kept.{broken_or_not, ready_or_not, empty_or_not, none_or_some}
 
 -- A device over an IN or an OUT of an endpoint other than 0
 
-abbrev Kept : State → State → Type 0
-Kept s v = (v.spec ≡ s.spec) × (v.registers ≡ s.registers)
+-- its description and its registers are the same, and a hub's status endpoint is halted where it was
+abbrev pub Ran : State → State → Type 0
+Ran s v = (v.spec ≡ s.spec) × (v.registers ≡ s.registers) × (v.changes.halted ≡ s.changes.halted)
 
-abbrev KeptIn : State → Reply → Type 0
-KeptIn s reply = Kept s reply.1
+abbrev RanIn : State → Reply → Type 0
+RanIn s reply = Ran s reply.1
 
-bulk_acked : (o : Option (ℕ × ℕ)) (s : State) → Kept s (bulk_ack_row s o)
-bulk_acked None s = (refl, refl)
-bulk_acked (Some end) s = (refl, refl)
+bulk_acked : (o : Option (ℕ × ℕ)) (s : State) → Ran s (bulk_ack_row s o)
+bulk_acked None s = (refl, refl, refl)
+bulk_acked (Some end) s = (refl, refl, refl)
 
 module _ (s : State) where
-  bulk_given : (b : Bool) → Kept s (if b then forgotten (bulk_ack_row s (bulk_of s true)) else s)
+  bulk_given : (b : Bool) → Ran s (if b then forgotten (bulk_ack_row s (bulk_of s true)) else s)
   bulk_given true = bulk_acked (bulk_of s true) s
-  bulk_given false = (refl, refl)
+  bulk_given false = (refl, refl, refl)
 
-  source_by : (most max : ℕ) (t2 t3 : Way) (b c : Bool) → Kept s (if b then (heard t2 (Some Stall), s) else if c then (heard t2 (Some Nak), s) else gave s by.Bulk max s.bulk_in.toggle (take most (rest_of s)) t2 t3).1
-  source_by most max t2 t3 true c = (refl, refl)
-  source_by most max t2 t3 false true = (refl, refl)
+  source_by : (most max : ℕ) (t2 t3 : Way) (b c : Bool) → Ran s (if b then (heard t2 (Some Stall), s) else if c then (heard t2 (Some Nak), s) else gave s by.Bulk max s.bulk_in.toggle (take most (rest_of s)) t2 t3).1
+  source_by most max t2 t3 true c = (refl, refl, refl)
+  source_by most max t2 t3 false true = (refl, refl, refl)
   source_by most max t2 t3 false false = bulk_given (is_whole t2 && nat_le (length (take most (rest_of s))) max && is_whole t3)
 
-  in_bulk_by : (e most max : ℕ) (t2 t3 : Way) (b : Bool) → Kept s (if b then source_law s most max t2 t3 else (None, s)).1
+  in_bulk_by : (e most max : ℕ) (t2 t3 : Way) (b : Bool) → Ran s (if b then source_law s most max t2 t3 else (None, s)).1
   in_bulk_by e most max t2 t3 true = source_by most max t2 t3 s.bulk_in.halted (length (rest_of s) == 0)
-  in_bulk_by e most max t2 t3 false = (refl, refl)
+  in_bulk_by e most max t2 t3 false = (refl, refl, refl)
 
-  in_bulk : (e : ℕ) (o : Option (ℕ × ℕ)) (max : ℕ) (t2 t3 : Way) → Kept s (in_bulk_law s e o max t2 t3).1
-  in_bulk e None max t2 t3 = (refl, refl)
+  in_bulk : (e : ℕ) (o : Option (ℕ × ℕ)) (max : ℕ) (t2 t3 : Way) → Ran s (in_bulk_law s e o max t2 t3).1
+  in_bulk e None max t2 t3 = (refl, refl, refl)
   in_bulk e (Some end) max t2 t3 = in_bulk_by e end.1 max t2 t3 (end.0 == e)
 
-  told_by : (o : Option ℕ) (b : Bool) → Kept s (if b then forgotten (record s { changes = turned s.changes; held = None }) else record s { held = o })
-  told_by o true = (refl, refl)
-  told_by o false = (refl, refl)
+  told_by : (o : Option ℕ) (b : Bool) → Ran s (if b then forgotten (record s { changes = turned s.changes; held = None }) else record s { held = o })
+  told_by o true = (refl, refl, refl)
+  told_by o false = (refl, refl, refl)
 
-  new_changes_by : (bits max : ℕ) (t2 t3 : Way) (b : Bool) → Kept s (if b then (heard t2 (Some Nak), s) else gave (record s { held = Some bits }) by.Changes max s.changes.toggle (bits ∷ []) t2 t3).1
-  new_changes_by bits max t2 t3 true = (refl, refl)
+  new_changes_by : (bits max : ℕ) (t2 t3 : Way) (b : Bool) → Ran s (if b then (heard t2 (Some Nak), s) else gave (record s { held = Some bits }) by.Changes max s.changes.toggle (bits ∷ []) t2 t3).1
+  new_changes_by bits max t2 t3 true = (refl, refl, refl)
   new_changes_by bits max t2 t3 false = told_by (Some bits) (is_whole t2 && nat_le (length (bits ∷ [])) max && is_whole t3)
 
-  held_by : (row : List PortState) (o : Option ℕ) (max : ℕ) (t2 t3 : Way) → Kept s (held_law s row o max t2 t3).1
+  held_by : (row : List PortState) (o : Option ℕ) (max : ℕ) (t2 t3 : Way) → Ran s (held_law s row o max t2 t3).1
   held_by row None max t2 t3 = new_changes_by (change_bits row) max t2 t3 (change_bits row == 0)
   held_by row (Some bits) max t2 t3 = told_by s.held (is_whole t2 && nat_le (length (bits ∷ [])) max && is_whole t3)
 
-  changes_by : (row : List PortState) (max : ℕ) (t2 t3 : Way) (b : Bool) → Kept s (if b then (heard t2 (Some Stall), s) else held_law s row s.held max t2 t3).1
-  changes_by row max t2 t3 true = (refl, refl)
+  changes_by : (row : List PortState) (max : ℕ) (t2 t3 : Way) (b : Bool) → Ran s (if b then (heard t2 (Some Stall), s) else held_law s row s.held max t2 t3).1
+  changes_by row max t2 t3 true = (refl, refl, refl)
   changes_by row max t2 t3 false = held_by row s.held max t2 t3
 
-  in_other : (row : List PortState) (e max : ℕ) (t2 t3 : Way) (b : Bool) → Kept s (if b then changes_law s row max t2 t3 else in_bulk_law s e (bulk_of s true) max t2 t3).1
+  in_other : (row : List PortState) (e max : ℕ) (t2 t3 : Way) (b : Bool) → Ran s (if b then changes_law s row max t2 t3 else in_bulk_law s e (bulk_of s true) max t2 t3).1
   in_other row e max t2 t3 true = changes_by row max t2 t3 s.changes.halted
   in_other row e max t2 t3 false = in_bulk e (bulk_of s true) max t2 t3
 
-  in_by : (row : List PortState) (e max : ℕ) (t2 t3 : Way) (b z : Bool) → z ≡ false → Kept s (if b then (if z then in_control_law s max t2 t3 else in_other_law s row e max t2 t3) else (None, s)).1
+  in_by : (row : List PortState) (e max : ℕ) (t2 t3 : Way) (b z : Bool) → z ≡ false → Ran s (if b then (if z then in_control_law s max t2 t3 else in_other_law s row e max t2 t3) else (None, s)).1
   in_by row e max t2 t3 true true far = cc
   in_by row e max t2 t3 true false far = in_other row e max t2 t3 (e == 1 && tells_changes s.spec s.registers)
-  in_by row e max t2 t3 false z far = (refl, refl)
+  in_by row e max t2 t3 false z far = (refl, refl, refl)
 
-  in_kept : (row : List PortState) (e max : ℕ) (t1 t2 t3 : Way) → (e == 0) ≡ false → Kept s (in_law s row e max t1 t2 t3).1
+  in_kept : (row : List PortState) (e max : ℕ) (t1 t2 t3 : Way) → (e == 0) ≡ false → Ran s (in_law s row e max t1 t2 t3).1
   in_kept row e max t1 t2 t3 far = in_by row e max t2 t3 (is_whole t1) (e == 0) far
 
-  sink_by : (bytes : List ℕ) (b c d : Bool) → KeptIn s (if b then (Some Stall, s) else if c then (None, s) else if d then (Some Ack, sunk s bytes) else (Some Ack, s))
-  sink_by bytes true c d = (refl, refl)
-  sink_by bytes false true d = (refl, refl)
-  sink_by bytes false false true = (refl, refl)
-  sink_by bytes false false false = (refl, refl)
+  sink_by : (bytes : List ℕ) (b c d : Bool) → RanIn s (if b then (Some Stall, s) else if c then (None, s) else if d then (Some Ack, sunk s bytes) else (Some Ack, s))
+  sink_by bytes true c d = (refl, refl, refl)
+  sink_by bytes false true d = (refl, refl, refl)
+  sink_by bytes false false true = (refl, refl, refl)
+  sink_by bytes false false false = (refl, refl, refl)
 
-  out_bulk_by : (most : ℕ) (t : Toggle) (bytes : List ℕ) (b : Bool) → Kept s (if b then sink_row s most t bytes else (None, s)).1
+  out_bulk_by : (most : ℕ) (t : Toggle) (bytes : List ℕ) (b : Bool) → Ran s (if b then sink_row s most t bytes else (None, s)).1
   out_bulk_by most t bytes true = sink_by bytes s.bulk_out.halted (nat_lt most (length bytes)) (is_same t s.bulk_out.toggle)
-  out_bulk_by most t bytes false = (refl, refl)
+  out_bulk_by most t bytes false = (refl, refl, refl)
 
-  out_bulk : (e : ℕ) (o : Option (ℕ × ℕ)) (t : Toggle) (bytes : List ℕ) → Kept s (out_bulk_row s e o t bytes).1
-  out_bulk e None t bytes = (refl, refl)
+  out_bulk : (e : ℕ) (o : Option (ℕ × ℕ)) (t : Toggle) (bytes : List ℕ) → Ran s (out_bulk_row s e o t bytes).1
+  out_bulk e None t bytes = (refl, refl, refl)
   out_bulk e (Some end) t bytes = out_bulk_by end.1 t bytes (end.0 == e)
 
-  data_by : (e : ℕ) (t : Toggle) (bytes : List ℕ) → (e == 0) ≡ false → Kept s (data_row s e t bytes).1
+  data_by : (e : ℕ) (t : Toggle) (bytes : List ℕ) → (e == 0) ≡ false → Ran s (data_row s e t bytes).1
   data_by e t bytes far = rw far (out_bulk e (bulk_of s false) t bytes)
 
-  out_by : (e : ℕ) (t : Toggle) (bytes : List ℕ) (t3 : Way) (b : Bool) → (e == 0) ≡ false → KeptIn s (if b then (heard t3 (data_row s e t bytes).0, forgotten (data_row s e t bytes).1) else (None, s))
+  out_by : (e : ℕ) (t : Toggle) (bytes : List ℕ) (t3 : Way) (b : Bool) → (e == 0) ≡ false → RanIn s (if b then (heard t3 (data_row s e t bytes).0, forgotten (data_row s e t bytes).1) else (None, s))
   out_by e t bytes t3 true far = data_by e t bytes far
-  out_by e t bytes t3 false far = (refl, refl)
+  out_by e t bytes t3 false far = (refl, refl, refl)
 
-  out_kept : (e : ℕ) (t : Toggle) (bytes : List ℕ) (t1 t2 t3 : Way) → (e == 0) ≡ false → Kept s (out_law s e t bytes t1 t2 t3).1
+  out_kept : (e : ℕ) (t : Toggle) (bytes : List ℕ) (t1 t2 t3 : Way) → (e == 0) ≡ false → Ran s (out_law s e t bytes t1 t2 t3).1
   out_kept e t bytes t1 t2 t3 far = out_by e t bytes t3 (is_whole t1 && is_whole t2) far
 
 -- Each device over such an attempt
+
+abbrev pub RanAs : ℕ → List ℕ → State → State → Type 0
+RanAs j p s v = Ran s v
 
 data IsFar (a : Attempt) : Type 0 where
   into : IsIn a → (a.ep == 0) ≡ false → IsFar a
@@ -157,39 +161,39 @@ far_kind : (a : Attempt) → IsFar a → is_setup a.kind ≡ false
 far_kind a (into i far) = ap is_setup i.kind
 far_kind a (out t bytes i far) = ap is_setup i.kind
 
-as_it_was : (s v : State) → v ≡ s → Kept s v
-as_it_was s v e = (ap (λ x. x.spec) e, ap (λ x. x.registers) e)
+as_it_was : (s v : State) → v ≡ s → Ran s v
+as_it_was s v e = (ap (λ x. x.spec) e, ap (λ x. x.registers) e, ap (λ x. x.changes.halted) e)
 
-kept_by : (s u v : State) → v ≡ u → Kept s u → Kept s v
-kept_by s u v e h = (ap (λ x. x.spec) e ∙ h.0, ap (λ x. x.registers) e ∙ h.1)
+kept_by : (s u v : State) → v ≡ u → Ran s u → Ran s v
+kept_by s u v e h = (ap (λ x. x.spec) e ∙ h.0, ap (λ x. x.registers) e ∙ h.1, ap (λ x. x.changes.halted) e ∙ h.2)
 
-did_in : (a : Attempt) (w : World) (j : ℕ) (p : List ℕ) (s v : State) → (a.ep == 0) ≡ false → DidIn a w j p s v → StaysAs j p s v
+did_in : (a : Attempt) (w : World) (j : ℕ) (p : List ℕ) (s v : State) → (a.ep == 0) ≡ false → DidIn a w j p s v → RanAs j p s v
 did_in a w j p s v far (DidIn.other d e) = as_it_was s v e
 did_in a w j p s v far (DidIn.silent at y o e) = as_it_was s v e
 did_in a w j p s v far (DidIn.asked at y b below h x o e) = kept_by s _ v e (in_kept s _ a.ep a.max x.first x.second x.third far)
 
-did_out : (a : Attempt) (t : Toggle) (bytes : List ℕ) (w : World) (j : ℕ) (p : List ℕ) (s v : State) → (a.ep == 0) ≡ false → DidOut a t bytes w j p s v → StaysAs j p s v
+did_out : (a : Attempt) (t : Toggle) (bytes : List ℕ) (w : World) (j : ℕ) (p : List ℕ) (s v : State) → (a.ep == 0) ≡ false → DidOut a t bytes w j p s v → RanAs j p s v
 did_out a t bytes w j p s v far (DidOut.other d e) = as_it_was s v e
 did_out a t bytes w j p s v far (DidOut.silent at y o e) = as_it_was s v e
 did_out a t bytes w j p s v far (DidOut.asked at y x o e) = kept_by s _ v e (out_kept s a.ep t bytes x.first x.second x.third far)
 
-each_far : (a : Attempt) (w : World) → IsFar a → IsMade a w → (after (attempt a) w).shared ≡ false → EachWas StaysAs w (after (attempt a) w)
-each_far a w (into i far) m single = each_wider (DidIn a w) StaysAs (λ j p s v. did_in a w j p s v far) w (after (attempt a) w) (each_in a w m i single)
-each_far a w (out t bytes i far) m single = each_wider (DidOut a t bytes w) StaysAs (λ j p s v. did_out a t bytes w j p s v far) w (after (attempt a) w) (each_out a w t bytes m i single)
+each_far : (a : Attempt) (w : World) → IsFar a → IsMade a w → (after (attempt a) w).shared ≡ false → EachWas RanAs w (after (attempt a) w)
+each_far a w (into i far) m single = each_wider (DidIn a w) RanAs (λ j p s v. did_in a w j p s v far) w (after (attempt a) w) (each_in a w m i single)
+each_far a w (out t bytes i far) m single = each_wider (DidOut a t bytes w) RanAs (λ j p s v. did_out a t bytes w j p s v far) w (after (attempt a) w) (each_out a w t bytes m i single)
 
-each_itself : (w : World) → EachWas StaysAs w w
-each_itself w = each_none StaysAs (λ j p s. (refl, refl)) w
+each_itself : (w : World) → EachWas RanAs w w
+each_itself w = each_none RanAs (λ j p s. (refl, refl, refl)) w
 
-pub each_then : (u w v : World) → EachWas StaysAs u w → EachWas StaysAs w v → EachWas StaysAs u v
-each_then u w v x y = each_joined StaysAs StaysAs StaysAs (λ j p s t v h k. (k.0 ∙ h.0, k.1 ∙ h.1)) u w v x y
+each_then : (u w v : World) → EachWas RanAs u w → EachWas RanAs w v → EachWas RanAs u v
+each_then u w v x y = each_joined RanAs RanAs RanAs (λ j p s t v h k. (k.0 ∙ h.0, k.1 ∙ h.1, k.2 ∙ h.2)) u w v x y
 
-each_at : (u w v : World) → w.roots ≡ v.roots → EachWas StaysAs u w → EachWas StaysAs u v
+each_at : (u w v : World) → w.roots ≡ v.roots → EachWas RanAs u w → EachWas RanAs u v
 each_at u w v e x j p s on there = x j p s (ap (λ k. reach_at k j p) e ∙ on) (ap (λ k. state_at k j p) e ∙ there)
 
 -- no address was held twice before, and each device stays
 record Stayed (w v : World) : Type 0 where
   before : w.shared ≡ false
-  each : EachWas StaysAs w v
+  each : EachWas RanAs w v
 
 stopped_is : (a : Attempt) (w : World) (g : BusFault) → w.fault ≡ Some g → after (attempt a) w ≡ w
 unfolding after
@@ -262,21 +266,21 @@ module _ (K : Step → World → Type 0) (far : (s : Step) (w : World) → K s w
   course_rests x (here w) settled = here w
   course_rests x (step s {w} {v} k c) settled = step s (any_rests s w x (far s w k) settled) (course_rests x c (step_settled s w (far s w k) settled))
 
-  cut_stays : (old : World) (fault : BusFault) (new : World) → GivenUp K old fault new → IsSettled old.roots → new.shared ≡ false → EachWas StaysAs old new
+  cut_stays : (old : World) (fault : BusFault) (new : World) → GivenUp K old fault new → IsSettled old.roots → new.shared ≡ false → EachWas RanAs old new
   cut_stays old fault new g settled single =
       pick (cut_or_same g.last g.mid fault new g.fits (course_settled g.course settled) g.refused g.fails single)
     where
-      pick : Cut g.last g.mid new → EachWas StaysAs old new
+      pick : Cut g.last g.mid new → EachWas RanAs old new
       pick (unmade h each) =
-          each_then old g.mid new (course_stays g.course settled h).each (each_wider (λ j p s x. x ≡ s) StaysAs (λ j p s v e. as_it_was s v e) g.mid new each)
+          each_then old g.mid new (course_stays g.course settled h).each (each_wider (λ j p s x. x ≡ s) RanAs (λ j p s v e. as_it_was s v e) g.mid new each)
       pick (made_whole h m u r) =
           each_then old g.mid new (course_stays g.course settled h).each (each_at g.mid (after (attempt g.last) g.mid) new r (each_far g.last g.mid (far (attempt g.last) g.mid g.is) m u))
 
   module _ {A : Type 0} (old new : World) (settled : IsSettled old.roots) where
-    attempts_stay : (result : Result A PipeFault) → Attempts K old result new → KeepsDevices old new
-    attempts_stay result x = record { stays = λ single. by_result result x single }
+    attempts_run : (result : Result A PipeFault) → Attempts K old result new → new.shared ≡ false → EachWas RanAs old new
+    attempts_run result x = by_result result x
       where
-        by_result : (result : Result A PipeFault) → Attempts K old result new → new.shared ≡ false → EachWas StaysAs old new
+        by_result : (result : Result A PipeFault) → Attempts K old result new → new.shared ≡ false → EachWas RanAs old new
         by_result (Ok y) x single = (course_stays (x.whole tt) settled single).each
         by_result (Err pipe.Stalled) x single = (course_stays (x.whole tt) settled single).each
         by_result (Err pipe.Busy) x single = (course_stays (x.whole tt) settled single).each
@@ -305,15 +309,30 @@ only_far t ep far s w e = subst IsFarStep (sym e) (into (record { kind = refl; p
 sends_far : (t : Target) (ep : ℕ) (first : Toggle) (bytes : List ℕ) (old : World) → ep ≢ 0 → (s : Step) (w : World) → SendsAt t ep first bytes old s w → IsFarStep s
 sends_far t ep first bytes old far s w x = subst IsFarStep (sym x.is) (out _ _ (record { kind = refl; payload = refl }) (far_number ep far))
 
-same_stays : (old new : World) → new ≡ old → KeepsDevices old new
-same_stays old new e = subst (KeepsDevices old) (sym e) (stays_none old)
+pub settings_none : (w : World) → KeepsSettings w w
+settings_none w = record { same = λ single. each_none SameSettings (λ j p s. (refl, refl)) w }
+
+pub settings_then : (old mid new : World) → (new.shared ≡ false → mid.shared ≡ false) → KeepsSettings old mid → KeepsSettings mid new → KeepsSettings old new
+settings_then old mid new before x y = record {
+  same = λ single. each_joined SameSettings SameSettings SameSettings (λ j p s t v h k. (k.0 ∙ h.0, k.1 ∙ h.1)) old mid new (x.same (before single)) (y.same single);
+}
+
+same_stays : (old new : World) → new ≡ old → KeepsSettings old new
+same_stays old new e = subst (KeepsSettings old) (sym e) (settings_none old)
+
+ran_stays : (old new : World) → (new.shared ≡ false → EachWas RanAs old new) → KeepsSettings old new
+ran_stays old new ran = record { same = λ single. each_wider RanAs SameSettings (λ j p s v k. (k.0, k.1)) old new (ran single) }
 
 same_rests : (old new : World) → new ≡ old → AllRest old new
 same_rests old new e x = subst (λ v. Course (AsksNothingOf x) old v) (sym e) (here old)
 
-pub polls_stay : (pipe : Interrupt) → pipe.ep ≢ 0 → (old : World) (result : Result (Option (ArrayVec ℕ)) PipeFault) (left : Interrupt) (new : World) → IsSettled old.roots → Polls pipe old result left new → KeepsDevices old new
-polls_stay pipe far old result left new settled x =
-    attempts_stay (IsOnly (in_attempt pipe.target pipe.ep)) (only_far pipe.target pipe.ep far) old new settled result (poll_attempts pipe result left old new x)
+pub polls_run : (pipe : Interrupt) → pipe.ep ≢ 0 → (old : World) (result : Result (Option (ArrayVec ℕ)) PipeFault) (left : Interrupt) (new : World) → IsSettled old.roots → Polls pipe old result left new → new.shared ≡ false
+    → EachWas RanAs old new
+polls_run pipe far old result left new settled x =
+    attempts_run (IsOnly (in_attempt pipe.target pipe.ep)) (only_far pipe.target pipe.ep far) old new settled result (poll_attempts pipe result left old new x)
+
+pub polls_stay : (pipe : Interrupt) → pipe.ep ≢ 0 → (old : World) (result : Result (Option (ArrayVec ℕ)) PipeFault) (left : Interrupt) (new : World) → IsSettled old.roots → Polls pipe old result left new → KeepsSettings old new
+polls_stay pipe far old result left new settled x = ran_stays old new (polls_run pipe far old result left new settled x)
 
 pub polls_rest : (pipe : Interrupt) → pipe.ep ≢ 0 → (old : World) (result : Result (Option (ArrayVec ℕ)) PipeFault) (left : Interrupt) (new : World) → IsSettled old.roots → Polls pipe old result left new → new.fault ≡ None → AllRest old new
 polls_rest pipe far old result left new settled x sound =
@@ -338,11 +357,12 @@ came_or_same wanted pipe old result left new x = elim (broken_or_not pipe.condit
   ]
 ]
 
-pub sends_stay : (bytes : List ℕ) (pipe : Bulk) → pipe.ep ≢ 0 → (old : World) (result : Result (Unit {0}) PipeFault) (left : Bulk) (new : World) → Sends bytes pipe old result left new → KeepsDevices old new
+pub sends_stay : (bytes : List ℕ) (pipe : Bulk) → pipe.ep ≢ 0 → (old : World) (result : Result (Unit {0}) PipeFault) (left : Bulk) (new : World) → Sends bytes pipe old result left new → KeepsSettings old new
 sends_stay bytes pipe far old result left new x = elim (moved_or_same bytes pipe old result left new x) [
   | inl settled ↦
-      attempts_stay (SendsAt (packet_target pipe.target pipe.max) pipe.ep pipe.toggle bytes old) (sends_far (packet_target pipe.target pipe.max) pipe.ep pipe.toggle bytes old far) old new settled result
-      (send_attempts bytes pipe result left old new x)
+      ran_stays old new
+      (attempts_run (SendsAt (packet_target pipe.target pipe.max) pipe.ep pipe.toggle bytes old) (sends_far (packet_target pipe.target pipe.max) pipe.ep pipe.toggle bytes old far) old new settled result
+      (send_attempts bytes pipe result left old new x))
   | inr same ↦ same_stays old new same
 ]
 
@@ -354,10 +374,11 @@ sends_rest bytes pipe far old result left new x sound = elim (moved_or_same byte
   | inr same ↦ same_rests old new same
 ]
 
-pub receives_stay : (wanted : ℕ) (pipe : Bulk) → pipe.ep ≢ 0 → (old : World) (result : Result (Vec ℕ) PipeFault) (left : Bulk) (new : World) → Receives wanted pipe old result left new → KeepsDevices old new
+pub receives_stay : (wanted : ℕ) (pipe : Bulk) → pipe.ep ≢ 0 → (old : World) (result : Result (Vec ℕ) PipeFault) (left : Bulk) (new : World) → Receives wanted pipe old result left new → KeepsSettings old new
 receives_stay wanted pipe far old result left new x = elim (came_or_same wanted pipe old result left new x) [
   | inl settled ↦
-      attempts_stay (IsOnly (in_attempt (packet_target pipe.target pipe.max) pipe.ep)) (only_far (packet_target pipe.target pipe.max) pipe.ep far) old new settled result (receive_attempts wanted pipe result left old new x)
+      ran_stays old new
+      (attempts_run (IsOnly (in_attempt (packet_target pipe.target pipe.max) pipe.ep)) (only_far (packet_target pipe.target pipe.max) pipe.ep far) old new settled result (receive_attempts wanted pipe result left old new x))
   | inr same ↦ same_stays old new same
 ]
 
@@ -369,6 +390,9 @@ receives_rest wanted pipe far old result left new x sound = elim (came_or_same w
 ]
 
 -- CLEAR_FEATURE(ENDPOINT_HALT)
+
+abbrev Kept : State → State → Type 0
+Kept s v = (v.spec ≡ s.spec) × (v.registers ≡ s.registers)
 
 -- an endpoint halts no more, or the request is refused
 abbrev IsOfEndpoint : Outcome → Type 0
@@ -430,11 +454,11 @@ module _ (t : Target) (request : Setup) (of : (spec : Spec) (g : Registers) → 
     where
       pick : (is_at s t ≡ true) ⊎ (is_at s t ≡ false) → Kept s v
       pick (inl at) = let d : EffectDone t request old new j p s v = x.done at u refl in given_stays d.row d.address d.is d.rest d.given
-      pick (inr at) = as_it_was s v (x.others at)
+      pick (inr at) = (ap (λ y. y.spec) (x.others at), ap (λ y. y.registers) (x.others at))
   write_stays (Err fault) x = failed_stays fault (x.failed fault refl)
 
 module _ (endpoint : ℕ) where
-  clear_harmless : is_harmless (clear_endpoint_halt endpoint) ≡ true
+  pub clear_harmless : is_harmless (clear_endpoint_halt endpoint) ≡ true
   unfolding clear_endpoint_halt
   clear_harmless = refl
 
@@ -442,24 +466,25 @@ module _ (endpoint : ℕ) where
   unfolding clear_endpoint_halt
   clear_plain = refl
 
-  clear_length : (clear_endpoint_halt endpoint).length ≡ 0
+  pub clear_length : (clear_endpoint_halt endpoint).length ≡ 0
   unfolding clear_endpoint_halt
   clear_length = refl
 
-cleared_ordered : (pipe : Bulk) (old : World) (result : Result (Unit {0}) PipeFault) (left : Bulk) (new : World) → Cleared pipe old result left new → Ordered pipe.target (clear_endpoint_halt (halt_address pipe.ep pipe.is_in)) old result new
+pub cleared_ordered : (pipe : Bulk) (old : World) (result : Result (Unit {0}) PipeFault) (left : Bulk) (new : World) → Cleared pipe old result left new → Ordered pipe.target (clear_endpoint_halt (halt_address pipe.ep pipe.is_in)) old result new
 cleared_ordered pipe old result left new x = record {
   settled = x.settled;
   ends = x.ends;
   stages = x.stages;
   room = x.room;
   rests = λ plain sound. write_rests pipe.target (clear_endpoint_halt (halt_address pipe.ep pipe.is_in)) result old new x.settled x.stages plain sound;
+  elsewhere = order_elsewhere pipe.target (clear_endpoint_halt (halt_address pipe.ep pipe.is_in)) result old new x.stages;
 }
 
-cleared_stays : (pipe : Bulk) (old : World) (result : Result (Unit {0}) PipeFault) (left : Bulk) (new : World) → Cleared pipe old result left new → KeepsDevices old new
+cleared_stays : (pipe : Bulk) (old : World) (result : Result (Unit {0}) PipeFault) (left : Bulk) (new : World) → Cleared pipe old result left new → KeepsSettings old new
 cleared_stays pipe old result left new x = record {
-  stays = λ single.
+  same = λ single.
       let request : Setup = clear_endpoint_halt (halt_address pipe.ep pipe.is_in) in
-      each_wider (WriteLeaves pipe.target request result old new) StaysAs
+      each_wider (WriteLeaves pipe.target request result old new) SameSettings
       (λ j p s v. write_stays pipe.target request (clear_outcome (halt_address pipe.ep pipe.is_in)) old new j p s v result) old new
       (each_leaves pipe.target request (clear_harmless (halt_address pipe.ep pipe.is_in)) (clear_length (halt_address pipe.ep pipe.is_in)) result old new (cleared_ordered pipe old result left new x) single);
 }
@@ -474,7 +499,7 @@ not_of_bus old (Err pipe.Broken) new ends sound = tt
 not_of_bus old (Err (pipe.Bus fault)) new ends sound = let told = ends.told in absurd (cc (told, sound))
 not_of_bus old (Err pipe.Memory) new ends sound = tt
 
-pub clears_stay : (pipe : Bulk) (old : World) (result : Result (Unit {0}) PipeFault) (left : Bulk) (new : World) → Clears pipe old result left new → KeepsDevices old new
+pub clears_stay : (pipe : Bulk) (old : World) (result : Result (Unit {0}) PipeFault) (left : Bulk) (new : World) → Clears pipe old result left new → KeepsSettings old new
 clears_stay pipe old result left new x = elim (ready_or_not pipe.condition) [
   | inl ready ↦ same_stays old new (x.ready ready).world_kept
   | inr not ↦ cleared_stays pipe old result left new (x.sent not)

@@ -14,10 +14,11 @@ use Rattle.usb_table.specs.declared.pipes.Pipes.{Pipes}
 use Rattle.usb_table.specs.declared.pipes.Pipes.TheVariants.{Absent}
 use Rattle.usb_table.specs.Keys.{Standing, Standings, PathKeys, AddressKeys, key_of_path, under, entries_of, findings, pipings, table_of, AreIndexes, ArePiped}
 use Rattle.usb_table.specs.Known.{is_below_hub}
+use Rattle.usb_table.specs.Listing.{finding_at}
 use Rattle.usb_table.specs.Pipes.{ArePipesOf}
 use Rattle.usb_table.specs.Table.{pipes_at, ArePipesAt, GoesThrough}
 use Rattle.usb_table.proofs.Kept.{Keep}
-use Rattle.usb_table.proofs.Keys.{same_or_not, entries-lookup, listed-lookup}
+use Rattle.usb_table.proofs.Keys.{same_or_not, entries-lookup, listed-lookup, found_at}
 use Rattle.usb_table.proofs.Paths.{path_itself}
 
 -- What the pipes at a path are
@@ -119,6 +120,10 @@ pub through_slot : (path : List ℕ) (slab : Slab Standing) (paths : PathKeys) (
 through_slot path slab paths addresses key s t are at held same keeps =
     let updates = Updates-with_value slab key t (ap is_some held) in
     through path (get slab) (get (with_value slab key t)) paths addresses key s t are.0 are.1 at held updates.changed updates.others same keeps
+
+-- what stands under its key was found there
+pub found_slot : (path : List ℕ) (slab : Slab Standing) (paths : PathKeys) (key : ℕ) (s : Standing) → key_of_path paths path ≡ Some key → get slab key ≡ Some s → finding_at path (table_of (get slab) paths).entries ≡ Some s.finding
+found_slot path slab paths key s at held = found_at (findings (get slab)) path paths key s.finding at (ap (option_map (λ (x : Standing). x.finding)) held)
 
 -- what is told of pipes is told of those at a path
 pub told_at : (R : Pipes → Pipes → Type 0) (pipes left p q : Pipes) → p ≡ pipes → q ≡ left → R pipes left → R p q

@@ -3,6 +3,7 @@ pub mod Findings
 pub mod Keys
 pub mod Kinds
 pub mod Known
+pub mod Levels
 pub mod Listing
 pub mod Next
 pub mod Pipes

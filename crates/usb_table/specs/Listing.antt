@@ -6,8 +6,8 @@ use Rattle.usb_port.specs.Order.{path_cmp, parent_of, port_of}
 use Rattle.usb_resources.specs.Pool.{IsAddress}
 use Rattle.usb_resources.specs.Power.{supply_of}
 use Rattle.usb_device.specs.Spec.{Spec}
-use Rattle.usb_device.specs.Tree.{Ports, reach}
-use Rattle.usb_device.specs.View.{state_there, port_there}
+use Rattle.usb_device.specs.Tree.{reach}
+use Rattle.usb_device.specs.View.{state_there}
 use Rattle.usb_world.specs.PlanData.{PlanData}
 use Rattle.usb_world.specs.Plugged as left
 use Rattle.usb_world.specs.Plugged.{plugged}
@@ -20,6 +20,7 @@ use Rattle.usb_enum.specs.declared.finding.Finding.{Finding}
 use Rattle.usb_enum.specs.declared.finding.Finding.TheVariants.{Device, Refused}
 use Rattle.usb_enum.specs.declared.hub.HubFacts.{HubFacts}
 use Rattle.usb_enum.specs.Described.{IsRight, IsSet}
+use Rattle.usb_enum.specs.Places.{IsDisabledAt}
 use Rattle.usb_table.specs.Entries.{Entries, Rises}
 use Rattle.usb_table.specs.Findings.{device_of, device_at}
 use Rattle.usb_table.specs.Keys.{address_in}
@@ -94,10 +95,6 @@ pub record Lists (roots : ℕ) (tree : Tree) (entries : Entries) : Type 0 where
   pub nothing_else : (path : List ℕ) (finding : Finding) → finding_at path entries ≡ Some finding → IsListedPort roots entries path × IsSome (tree path)
   pub addresses : (path : List ℕ) (address : ℕ) → address_at path entries ≡ Some address → IsAddress address
   pub differ : (path other : List ℕ) (address : ℕ) → address_at path entries ≡ Some address → address_at other entries ≡ Some address → path ≡ other
-
--- the port at a path, where there is one, passes nothing on
-abbrev pub IsDisabledAt : Ports → List ℕ → Type 0
-IsDisabledAt k path = IfSome (port_there k path) (λ b. b.enable ≡ false)
 
 -- the listing is what is plugged in a world; each accepted device is reached and set as is listed, and the port of each refused one is disabled
 pub record Matches (w : World) (entries : Entries) : Type 0 where

@@ -3,6 +3,8 @@ use Rattle.std.specs.Prelude.{◌≡◌, ⊤, ℕ, ◌*◌, List, length, Bool, 
 use Rattle.std.specs.Global.{Vec}
 use Rattle.std.specs.Int.{div_ceil}
 use Rattle.arrayvec.specs.ArrayVec.{ArrayVec}
+use Rattle.usb_device.specs.Rows.{State}
+use Rattle.usb_world.specs.Devices.{EachWas}
 use Rattle.usb_world.specs.Passes.{IsSettled}
 use Rattle.usb_world.specs.World.{World, Spends, Failed}
 use Rattle.usb_transaction.specs.Trans.{Worked}
@@ -12,7 +14,6 @@ use Rattle.usb_pipe.specs.Interrupt.{Interrupt, Polls}
 use Rattle.usb_pipe.specs.declared.fault.PipeFault.{PipeFault}
 use Rattle.usb_pipe.specs.declared.fault.PipeFault.TheVariants as pipe
 use Rattle.usb_address.specs.Owned.{KeepsAddresses}
-use Rattle.usb_hub.specs.Addresses.{KeepsDevices}
 use Rattle.usb_hub.specs.Requests.{AllRest}
 use Rattle.usb_table.specs.declared.fault.EndpointFault.{EndpointFault}
 use Rattle.usb_table.specs.declared.fault.EndpointFault.TheVariants.{NoDevice, NoEndpoint, Pipe}
@@ -136,9 +137,17 @@ Cleared (Hub pipe) old result left new = NotTried NoEndpoint (Hub pipe) old resu
 Cleared (Function pipes) old result left new = (rest : BulkPipes) × (left ≡ Function rest) × ClearedInTurn pipes old result rest new
 Cleared Absent old result left new = NotTried NoDevice Absent old result left new
 
+-- a device has the description and the registers that it had
+abbrev pub SameSettings : ℕ → List ℕ → State → State → Type 0
+SameSettings j p s v = (v.spec ≡ s.spec) × (v.registers ≡ s.registers)
+
+-- where no address was held twice, so it is of each device that is reachable, and each was reachable before
+pub record KeepsSettings (old new : World) : Type 0 where
+  pub same : new.shared ≡ false → EachWas SameSettings old new
+
 -- What each leaves of the devices and ports: addresses, descriptions and registers are kept, and as long as the bus is at work, nothing is
 -- asked of any port
 pub record Keeps (old new : World) : Type 0 where
   pub addresses : KeepsAddresses old new
-  pub devices : KeepsDevices old new
+  pub devices : KeepsSettings old new
   pub rests : new.fault ≡ None → AllRest old new

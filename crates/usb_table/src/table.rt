@@ -13,7 +13,8 @@ ghost use Rattle.usb_table.specs.Known.{IsAskable, known_port};
 ghost use Rattle.usb_table.specs.Next.{IsNext, IsLast};
 ghost use Rattle.usb_table.specs.Table.{ArePipesAt, GoesThrough, TakesOut};
 ghost use Rattle.usb_table.specs.Table.{empty, entered, pipes_at};
-ghost use Rattle.usb_table.specs.Transfers.{PollEnds, FaultTold, Keeps};
+ghost use Rattle.usb_table.specs.Levels.{KeepsPolled, KeepsMoved};
+ghost use Rattle.usb_table.specs.Transfers.{PollEnds, FaultTold};
 ghost use Rattle.usb_table.specs.Transfers.{Polled, Sent, Received, Cleared};
 
 use crate::entry::Entry;
@@ -195,7 +196,8 @@ impl DeviceTable {
         ensures ends { PollEnds (B.world bus.old) result (B.world bus.new) }
         ensures polled { Polled (pipes_at hub.now self.old)
             (B.world bus.old) result (pipes_at hub.now self.new) (B.world bus.new) }
-        ensures keeps { Keeps (B.world bus.old) (B.world bus.new) }
+        ensures keeps { KeepsPolled hub.now
+            self.old (B.world bus.old) result self.new (B.world bus.new) }
     {
         match self.indexes.by_path.get(hub) {
             Some(key) => self.entries[*key].poll(bus),
@@ -220,7 +222,8 @@ impl DeviceTable {
         ensures told { IfErr result (λ fault. FaultTold fault (B.world bus.new)) }
         ensures sent { Sent (pipes_at path.now self.old) bytes.now
             (B.world bus.old) result (pipes_at path.now self.new) (B.world bus.new) }
-        ensures keeps { Keeps (B.world bus.old) (B.world bus.new) }
+        ensures keeps { KeepsMoved path.now
+            self.old (B.world bus.old) self.new (B.world bus.new) }
     {
         match self.indexes.by_path.get(path) {
             Some(key) => self.entries[*key].send(bus, bytes),
@@ -247,7 +250,8 @@ impl DeviceTable {
         ensures told { IfErr result (λ fault. FaultTold fault (B.world bus.new)) }
         ensures received { Received (pipes_at path.now self.old) packets
             (B.world bus.old) result (pipes_at path.now self.new) (B.world bus.new) }
-        ensures keeps { Keeps (B.world bus.old) (B.world bus.new) }
+        ensures keeps { KeepsMoved path.now
+            self.old (B.world bus.old) self.new (B.world bus.new) }
     {
         match self.indexes.by_path.get(path) {
             Some(key) => self.entries[*key].receive(alloc, bus, packets),
@@ -268,7 +272,8 @@ impl DeviceTable {
         ensures told { IfErr result (λ fault. FaultTold fault (B.world bus.new)) }
         ensures cleared { Cleared (pipes_at path.now self.old)
             (B.world bus.old) result (pipes_at path.now self.new) (B.world bus.new) }
-        ensures keeps { Keeps (B.world bus.old) (B.world bus.new) }
+        ensures keeps { KeepsMoved path.now
+            self.old (B.world bus.old) self.new (B.world bus.new) }
     {
         match self.indexes.by_path.get(path) {
             Some(key) => self.entries[*key].clear_halt(bus),

@@ -1,20 +1,24 @@
-use Rattle.std.proofs.Common.{◌≡◌, ◌∙◌, ℕ, [], false, ap, arith, length, subst, sym}
+use Rattle.std.proofs.Common.{◌≡◌, ◌∙◌, ℕ, [], false, true, ap, arith, length, subst, sym}
 use Rattle.std.proofs.lemmas.Grind.{common_steps}
+use Rattle.usb_enum.specs.declared.fault.EnumFault.TheVariants.{Memory}
+use Rattle.usb_enum.specs.declared.stop.Stop.TheVariants.{Fault}
 use Rattle.usb_enum.specs.Bounds.{configuration_bound}
 use Rattle.usb_enum.specs.Learned.{Learns}
 use Rattle.usb_enum.specs.Readings.{AtMaximum, HasConfigurations}
 use Rattle.usb_enum.specs.Text.{has_value}
 use Rattle.usb_bus.proofs.Wents.{went_none}
-use Rattle.usb_address.proofs.Keeping.{keeps_none, keeps_then}
+use Rattle.usb_enum.proofs.Frames.{asks_none, asks_then}
 use Rattle.usb_enum.proofs.Counts.{went_again, went_times, went_more}
+use Rattle.usb_enum.proofs.ConfigRefusals.{reading_failed, reading_refused, repeated_refused}
 use Rattle.usb_enum.proofs.Readings.{learns_none, configurations_none, configurations_learned}
+use Rattle.usb_enum.proofs.Refusals.{handed_match}
 use Rattle.usb_enum.proofs.Values.{one_more}
 use Rattle.usb_enum.proofs.configurations.read_configurations.Goals as goal
 
 pub loop-index-init : goal.loop-index-init
 loop-index-init g c = record {
   went = went_none;
-  kept = keeps_none _;
+  kept = asks_none _;
   read = ap length c.new-texts.ensures;
   differ = rw c.new-texts.ensures tt;
   learned = rw c.new-texts.ensures (learns_none (AtMaximum c.args.target (HasConfigurations 0 [])) c.args.target (g.B.Bus.world c.args.bus.now) (λ spec max. configurations_none spec));
@@ -28,7 +32,7 @@ loop-index-preserved g c =
     let differs = subst P c.value.ensures (sym c.has_value.ensures ∙ c.if-has_value.false) in
     record {
       went = went_again _ configuration_bound _ _ _ c.loop-index.invariant.went c.read_text.ensures.went;
-      kept = keeps_then _ _ _ c.loop-index.invariant.kept c.read_text.ensures.keeps;
+      kept = asks_then _ _ _ _ c.loop-index.invariant.kept c.read_text.ensures.went c.read_text.ensures.keeps;
       read = rw c.in_ok-push.ensures.ok (grind (arith, common_steps, c.loop-index.invariant.read));
       differ = rw c.in_ok-push.ensures.ok (one_more texts text c.loop-index.invariant.differ differs);
       learned =
@@ -41,19 +45,19 @@ pub returns-in_err-text-clause-went : goal.returns-in_err-text-clause-went
 returns-in_err-text-clause-went g c = went_more _ 255 configuration_bound _ _ _ c.loop-index.invariant.went c.read_text.ensures.went (omega (arith, c.loop-index-test.true, c.ranges.count.fits))
 
 pub returns-in_err-text-clause-keeps : goal.returns-in_err-text-clause-keeps
-returns-in_err-text-clause-keeps g c = keeps_then _ _ _ c.loop-index.invariant.kept c.read_text.ensures.keeps
+returns-in_err-text-clause-keeps g c = asks_then _ _ _ _ c.loop-index.invariant.kept c.read_text.ensures.went c.read_text.ensures.keeps
 
 pub returns-then-has_value-clause-went : goal.returns-then-has_value-clause-went
 returns-then-has_value-clause-went g c = went_more _ 255 configuration_bound _ _ _ c.loop-index.invariant.went c.read_text.ensures.went (omega (arith, c.loop-index-test.true, c.ranges.count.fits))
 
 pub returns-then-has_value-clause-keeps : goal.returns-then-has_value-clause-keeps
-returns-then-has_value-clause-keeps g c = keeps_then _ _ _ c.loop-index.invariant.kept c.read_text.ensures.keeps
+returns-then-has_value-clause-keeps g c = asks_then _ _ _ _ c.loop-index.invariant.kept c.read_text.ensures.went c.read_text.ensures.keeps
 
 pub returns-in_err-push-clause-went : goal.returns-in_err-push-clause-went
 returns-in_err-push-clause-went g c = went_more _ 255 configuration_bound _ _ _ c.loop-index.invariant.went c.read_text.ensures.went (omega (arith, c.loop-index-test.true, c.ranges.count.fits))
 
 pub returns-in_err-push-clause-keeps : goal.returns-in_err-push-clause-keeps
-returns-in_err-push-clause-keeps g c = keeps_then _ _ _ c.loop-index.invariant.kept c.read_text.ensures.keeps
+returns-in_err-push-clause-keeps g c = asks_then _ _ _ _ c.loop-index.invariant.kept c.read_text.ensures.went c.read_text.ensures.keeps
 
 pub returns-clause-went : goal.returns-clause-went
 returns-clause-went g c = went_times _ 255 configuration_bound _ _ c.loop-index.invariant.went (omega (arith, c.loop-index.auto.index-end, c.ranges.count.fits))
@@ -63,3 +67,25 @@ returns-clause-learned g c =
     let all : c.loop-index.index ≡ c.args.count = omega (arith, c.loop-index.auto.index-end, c.loop-index-test.false) in
     let P : ℕ → Type 0 = λ n. Learns (AtMaximum c.args.target (HasConfigurations n c.loop-index.texts)) c.args.target (g.B.Bus.world c.args.bus.now) (g.B.Bus.world c.loop-index.bus) in
     subst P all c.loop-index.invariant.learned
+
+pub returns-in_err-text-clause-learned : goal.returns-in_err-text-clause-learned
+returns-in_err-text-clause-learned g c =
+    handed_match c.from_residual.result _ _ c.in_err-text.field-0.0 c.from_residual.ensures.1
+    (reading_refused c.args.target c.loop-index.index c.args.count _ _ c.loop-index.texts c.in_err-text.field-0.0
+    (g.B.Bus.world c.args.bus.now) (g.B.Bus.world c.loop-index.bus) (g.B.Bus.world c.read_text.new.bus)
+    c.loop-index-test.true c.loop-index.invariant.learned c.loop-index.invariant.went c.read_text.ensures.went c.in_err-text.ensures.learned)
+
+pub returns-then-has_value-clause-learned : goal.returns-then-has_value-clause-learned
+returns-then-has_value-clause-learned g c =
+    let P : ℕ → Type 0 = λ value. has_value value c.loop-index.texts ≡ true in
+    repeated_refused c.args.target c.loop-index.index c.args.count _ c.loop-index.texts c.in_ok-text.text
+    (g.B.Bus.world c.args.bus.now) (g.B.Bus.world c.loop-index.bus) (g.B.Bus.world c.read_text.new.bus)
+    c.loop-index-test.true (subst P c.value.ensures (sym c.has_value.ensures ∙ c.if-has_value.true))
+    c.loop-index.invariant.learned c.read_text.ensures.went c.in_ok-text.ensures.learned
+
+pub returns-in_err-push-clause-learned : goal.returns-in_err-push-clause-learned
+returns-in_err-push-clause-learned g c =
+    handed_match c.from_residual-in_err-push.result _ _ (Fault Memory) c.from_residual-in_err-push.ensures.1
+    (reading_failed c.args.target c.loop-index.index c.args.count _ c.in_ok-text.text c.loop-index.texts Memory
+    (g.B.Bus.world c.args.bus.now) (g.B.Bus.world c.loop-index.bus) (g.B.Bus.world c.read_text.new.bus)
+    c.loop-index.invariant.learned c.read_text.ensures.went c.in_ok-text.ensures.learned)

@@ -1,6 +1,6 @@
 use Rattle.std.proofs.Common.{◌≡◌, ◌*◌, length}
 use Rattle.usb_bus.specs.Traced.{Went}
-use Rattle.usb_address.specs.Owned.{KeepsAddresses}
+use Rattle.usb_enum.specs.Frames.{OnlyAsks}
 use Rattle.usb_enum.specs.Bounds.{configuration_bound}
 use Rattle.usb_enum.specs.Learned.{Learns}
 use Rattle.usb_enum.specs.Readings.{AtMaximum, HasConfigurations}
@@ -10,7 +10,7 @@ use Rattle.usb_enum.proofs.configurations.read_configurations.Given as goal
 abbrev pub invariant-loop-index : goal.invariant-loop-index
 invariant-loop-index g l = record {
   went : Went g.B.Bus.world g.B.Bus.trace (l.index * configuration_bound) l.initial.bus l.bus;
-  kept : KeepsAddresses (g.B.Bus.world l.initial.bus) (g.B.Bus.world l.bus);
+  kept : OnlyAsks (g.B.Bus.world l.initial.bus) (g.B.Bus.world l.bus);
   read : length l.texts ≡ l.index;
   differ : ValuesDiffer l.texts;
   learned : Learns (AtMaximum l.target (HasConfigurations l.index l.texts)) l.target (g.B.Bus.world l.initial.bus) (g.B.Bus.world l.bus);

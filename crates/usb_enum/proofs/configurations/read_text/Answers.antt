@@ -1,9 +1,15 @@
 use Rattle.std.proofs.Common.{◌∙◌, arith, sym}
 use Rattle.usb_bus.proofs.Wents.{went_wider}
-use Rattle.usb_address.proofs.Keeping.{keeps_then}
+use Rattle.usb_hub.specs.Asked.{config_given}
+use Rattle.usb_enum.proofs.Frames.{asks_then, text_asks}
 use Rattle.usb_enum.specs.Stop.{Told}
 use Rattle.usb_enum.proofs.Counts.{text_went}
+use Rattle.usb_enum.specs.Readings.{AtMaximum, HasTotal}
+use Rattle.usb_enum.specs.Described.{config_fault}
+use Rattle.usb_enum.specs.Refusals.{Refuses}
+use Rattle.usb_enum.proofs.ConfigRefusals.{config_refused, text_refused}
 use Rattle.usb_enum.proofs.Readings.{configuration_learned}
+use Rattle.usb_enum.proofs.Refusals.{handed_match, explains_on}
 use Rattle.usb_enum.proofs.Told.{handed_on, refused_told}
 use Rattle.usb_enum.proofs.configurations.read_text.Goals as goal
 
@@ -23,13 +29,16 @@ pub returns-in_err-total-clause-went : goal.returns-in_err-total-clause-went
 returns-in_err-total-clause-went g c = went_wider _ _ c.total_length.ensures.went (omega arith)
 
 pub returns-in_err-bytes-clause-keeps : goal.returns-in_err-bytes-clause-keeps
-returns-in_err-bytes-clause-keeps g c = keeps_then _ _ _ c.total_length.ensures.keeps c.get_config.ensures.keeps
+returns-in_err-bytes-clause-keeps g c = asks_then _ _ _ _ c.total_length.ensures.keeps c.get_config.ensures.went
+    (text_asks (config_given c.args.index) _ _ _ _ _ _ c.get_config.ensures.asked c.get_config.ensures.what c.get_config.ensures.keeps)
 
 pub returns-in-Some-clause-keeps : goal.returns-in-Some-clause-keeps
-returns-in-Some-clause-keeps g c = keeps_then _ _ _ c.total_length.ensures.keeps c.get_config.ensures.keeps
+returns-in-Some-clause-keeps g c = asks_then _ _ _ _ c.total_length.ensures.keeps c.get_config.ensures.went
+    (text_asks (config_given c.args.index) _ _ _ _ _ _ c.get_config.ensures.asked c.get_config.ensures.what c.get_config.ensures.keeps)
 
 pub returns-in-None-clause-keeps : goal.returns-in-None-clause-keeps
-returns-in-None-clause-keeps g c = keeps_then _ _ _ c.total_length.ensures.keeps c.get_config.ensures.keeps
+returns-in-None-clause-keeps g c = asks_then _ _ _ _ c.total_length.ensures.keeps c.get_config.ensures.went
+    (text_asks (config_given c.args.index) _ _ _ _ _ _ c.get_config.ensures.asked c.get_config.ensures.what c.get_config.ensures.keeps)
 
 pub returns-in_err-bytes-clause-told : goal.returns-in_err-bytes-clause-told
 returns-in_err-bytes-clause-told g c =
@@ -41,4 +50,24 @@ returns-in-Some-clause-learned g c =
     configuration_learned c.args.target _ c.args.index c.in_ok-total.total _ c.get_config.result c.in_ok-bytes.bytes c.in-Some.text
     (g.B.Bus.world c.args.bus.now) (g.B.Bus.world c.total_length.new.bus) (g.B.Bus.world c.get_config.new.bus)
     (sym c.answered_or.ensures ∙ c.in_ok-bytes.was) (sym c.in-Some.is ∙ c.new.ensures)
+    c.in_ok-total.ensures.learned c.get_config.ensures.went c.get_config.ensures.what
+
+pub returns-in_err-total-clause-learned : goal.returns-in_err-total-clause-learned
+returns-in_err-total-clause-learned g c = handed_match c.from_residual.result _ _ c.in_err-total.field-0.0 c.from_residual.ensures.1 c.in_err-total.ensures.learned
+
+pub returns-in_err-bytes-clause-learned : goal.returns-in_err-bytes-clause-learned
+returns-in_err-bytes-clause-learned g c =
+    let t = c.args.target in
+    handed_match c.from_residual-in_err-bytes.result _ _ c.in_err-bytes.field-0.0 c.from_residual-in_err-bytes.ensures.1
+    (explains_on (AtMaximum t (HasTotal c.args.index c.in_ok-total.total)) (Refuses t (λ spec. config_fault spec c.args.index) c.in_err-bytes.field-0.0) (Refuses t (λ spec. config_fault spec c.args.index) c.in_err-bytes.field-0.0)
+    t _ _ (g.B.Bus.world c.args.bus.now) (g.B.Bus.world c.total_length.new.bus) (g.B.Bus.world c.get_config.new.bus)
+    (λ spec a b. b) c.in_ok-total.ensures.learned c.total_length.ensures.went c.get_config.ensures.went
+    (config_refused t c.args.index c.in_ok-total.total c.get_config.result c.in_err-bytes.field-0.0 (g.B.Bus.world c.total_length.new.bus) (g.B.Bus.world c.get_config.new.bus)
+    (sym c.answered_or.ensures ∙ c.in_err-bytes.was) c.requires.max c.get_config.ensures.what c.get_config.ensures.why))
+
+pub returns-in-None-clause-learned : goal.returns-in-None-clause-learned
+returns-in-None-clause-learned g c =
+    text_refused c.args.target _ c.args.index c.in_ok-total.total _ c.get_config.result c.in_ok-bytes.bytes
+    (g.B.Bus.world c.args.bus.now) (g.B.Bus.world c.total_length.new.bus) (g.B.Bus.world c.get_config.new.bus)
+    (sym c.answered_or.ensures ∙ c.in_ok-bytes.was) (sym c.new.ensures ∙ c.in-None.is)
     c.in_ok-total.ensures.learned c.get_config.ensures.went c.get_config.ensures.what

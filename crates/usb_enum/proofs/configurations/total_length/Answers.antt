@@ -1,8 +1,12 @@
 use Rattle.std.proofs.Common.{◌∙◌, ap, sym}
 use Rattle.usb_descriptor.specs.Config.{config_head_of}
 use Rattle.usb_enum.specs.Stop.{Told}
+use Rattle.usb_hub.specs.Asked.{config_given}
+use Rattle.usb_enum.proofs.Frames.{text_asks}
 use Rattle.usb_enum.proofs.Counts.{read_went}
+use Rattle.usb_enum.proofs.ConfigRefusals.{config_refused, total_refused}
 use Rattle.usb_enum.proofs.Readings.{total_learned}
+use Rattle.usb_enum.proofs.Refusals.{handed_match}
 use Rattle.usb_enum.proofs.Told.{handed_on, refused_told}
 use Rattle.usb_enum.proofs.configurations.total_length.Goals as goal
 
@@ -25,4 +29,26 @@ returns-in-Ok-clause-learned g c =
     total_learned c.args.target _ c.args.index c.in-Ok.total c.get_config.result c.in_ok-head.head (g.B.Bus.world c.args.bus.now) (g.B.Bus.world c.get_config.new.bus)
     (sym c.answered_or.ensures ∙ c.in_ok-head.was)
     (ap config_head_of (sym c.as_slice.ensures.value) ∙ sym c.config_head.ensures.answer ∙ c.in-Ok.is)
+    c.get_config.ensures.what
+
+pub returns-in_err-head-clause-keeps : goal.returns-in_err-head-clause-keeps
+returns-in_err-head-clause-keeps g c = text_asks (config_given c.args.index) c.args.target _ _ _ _ _ c.get_config.ensures.asked c.get_config.ensures.what c.get_config.ensures.keeps
+
+pub returns-in-Ok-clause-keeps : goal.returns-in-Ok-clause-keeps
+returns-in-Ok-clause-keeps g c = text_asks (config_given c.args.index) c.args.target _ _ _ _ _ c.get_config.ensures.asked c.get_config.ensures.what c.get_config.ensures.keeps
+
+pub returns-clause-keeps : goal.returns-clause-keeps
+returns-clause-keeps g c = text_asks (config_given c.args.index) c.args.target _ _ _ _ _ c.get_config.ensures.asked c.get_config.ensures.what c.get_config.ensures.keeps
+
+pub returns-in_err-head-clause-learned : goal.returns-in_err-head-clause-learned
+returns-in_err-head-clause-learned g c =
+    handed_match c.from_residual.result _ _ c.in_err-head.field-0.0 c.from_residual.ensures.1
+    (config_refused c.args.target c.args.index 9 c.get_config.result _ (g.B.Bus.world c.args.bus.now) (g.B.Bus.world c.get_config.new.bus)
+    (sym c.answered_or.ensures ∙ c.in_err-head.was) c.requires.max c.get_config.ensures.what c.get_config.ensures.why)
+
+pub returns-clause-learned : goal.returns-clause-learned
+returns-clause-learned g c =
+    total_refused c.args.target _ c.args.index c.get_config.result c.in_ok-head.head c.in-Err.field-0 (g.B.Bus.world c.args.bus.now) (g.B.Bus.world c.get_config.new.bus)
+    (sym c.answered_or.ensures ∙ c.in_ok-head.was)
+    (ap config_head_of (sym c.as_slice.ensures.value) ∙ sym c.config_head.ensures.answer ∙ c.in-Err.is)
     c.get_config.ensures.what

@@ -1,12 +1,20 @@
-use Rattle.std.proofs.Common.{◌∙◌, [], ap, arith, refl, slice_index_or, sym}
+use Rattle.std.proofs.Common.{◌∙◌, [], ap, arith, refl, slice_index_or, subst, sym}
 use Rattle.std.proofs.lemmas.List.{get_or_read}
 use Rattle.usb_descriptor.specs.Config.{configuration_value}
-use Rattle.usb_enum.proofs.Settings.{listed_learns}
+use Rattle.usb_enum.specs.declared.fault.EnumFault.TheVariants.{Memory}
+use Rattle.usb_enum.specs.declared.stop.Stop.TheVariants.{Fault}
+use Rattle.usb_enum.specs.Learned.{Learns}
+use Rattle.usb_enum.specs.Readings.{AtMaximum, HasConfigurations}
+use Rattle.usb_enum.specs.Refusals.{configured_fault}
+use Rattle.usb_enum.proofs.Refusals.{fault_explains, handed_match}
+use Rattle.usb_enum.proofs.SettingRefusals.{deep_refused, read_refused, power_refused, set_refused, hub_refused, strings_refused}
+use Rattle.usb_enum.proofs.Settings.{listed_learns, set_learned, set_then}
 use Rattle.usb_bus.proofs.Wents.{went_none, went_then, went_wider}
-use Rattle.usb_address.proofs.Keeping.{keeps_none, keeps_then}
+use Rattle.usb_enum.proofs.Frames.{asks_none, sets_asked, sets_at, sets_told, sets_then, configuration_sets}
 use Rattle.usb_enum.proofs.Counts.{went_on}
 use Rattle.usb_enum.specs.Stop.{ToldOfDevice}
 use Rattle.usb_enum.proofs.Hubs.{answered_ok, told_of_hub}
+use Rattle.usb_enum.proofs.Powers.{empties_ports}
 use Rattle.usb_enum.proofs.Told.{handed_on, refused_told, told_of_device}
 use Rattle.usb_enum.proofs.enumeration.configure.Goals as goal
 
@@ -14,49 +22,49 @@ pub returns-in_err-fits_tier-clause-went : goal.returns-in_err-fits_tier-clause-
 returns-in_err-fits_tier-clause-went g c = went_wider 0 _ went_none (omega arith)
 
 pub returns-in_err-fits_tier-clause-keeps : goal.returns-in_err-fits_tier-clause-keeps
-returns-in_err-fits_tier-clause-keeps g c = keeps_none _
+returns-in_err-fits_tier-clause-keeps g c = sets_asked _ _ _ (asks_none _)
 
 pub returns-in_err-configs-clause-went : goal.returns-in_err-configs-clause-went
 returns-in_err-configs-clause-went g c = went_wider _ _ c.read_configurations.ensures.went (omega arith)
 
 pub returns-in_err-configs-clause-keeps : goal.returns-in_err-configs-clause-keeps
-returns-in_err-configs-clause-keeps g c = c.read_configurations.ensures.keeps
+returns-in_err-configs-clause-keeps g c = sets_asked _ _ _ c.read_configurations.ensures.keeps
 
 pub returns-in_err-chosen-clause-went : goal.returns-in_err-chosen-clause-went
 returns-in_err-chosen-clause-went g c = went_wider _ _ c.read_configurations.ensures.went (omega arith)
 
 pub returns-in_err-chosen-clause-keeps : goal.returns-in_err-chosen-clause-keeps
-returns-in_err-chosen-clause-keeps g c = c.read_configurations.ensures.keeps
+returns-in_err-chosen-clause-keeps g c = sets_asked _ _ _ c.read_configurations.ensures.keeps
 
 pub returns-in_default-clause-went : goal.returns-in_default-clause-went
 returns-in_default-clause-went g c = went_wider _ _ c.read_configurations.ensures.went (omega arith)
 
 pub returns-in_default-clause-keeps : goal.returns-in_default-clause-keeps
-returns-in_default-clause-keeps g c = c.read_configurations.ensures.keeps
+returns-in_default-clause-keeps g c = sets_asked _ _ _ c.read_configurations.ensures.keeps
 
 pub returns-in_err-answered_or-clause-went : goal.returns-in_err-answered_or-clause-went
 returns-in_err-answered_or-clause-went g c = went_on _ _ _ _ _ _ c.read_configurations.ensures.went c.set_configuration.ensures.went (omega arith)
 
 pub returns-in_err-answered_or-clause-keeps : goal.returns-in_err-answered_or-clause-keeps
-returns-in_err-answered_or-clause-keeps g c = keeps_then _ _ _ c.read_configurations.ensures.keeps c.set_configuration.ensures.keeps
+returns-in_err-answered_or-clause-keeps g c = sets_then _ _ _ _ _ (sets_asked _ _ _ c.read_configurations.ensures.keeps) c.set_configuration.ensures.went (sets_at _ _ _ _ c.requires (configuration_sets _ _ _ _ _ c.set_configuration.ensures.ordered c.set_configuration.ensures.what c.set_configuration.ensures.keeps))
 
 pub returns-in_err-hub-clause-went : goal.returns-in_err-hub-clause-went
 returns-in_err-hub-clause-went g c = went_on _ _ _ _ _ _ (went_then _ _ c.read_configurations.ensures.went c.set_configuration.ensures.went) c.hub_facts.ensures.went (omega arith)
 
 pub returns-in_err-hub-clause-keeps : goal.returns-in_err-hub-clause-keeps
-returns-in_err-hub-clause-keeps g c = keeps_then _ _ _ (keeps_then _ _ _ c.read_configurations.ensures.keeps c.set_configuration.ensures.keeps) c.hub_facts.ensures.keeps
+returns-in_err-hub-clause-keeps g c = sets_then _ _ _ _ _ (sets_then _ _ _ _ _ (sets_asked _ _ _ c.read_configurations.ensures.keeps) c.set_configuration.ensures.went (sets_at _ _ _ _ c.requires (configuration_sets _ _ _ _ _ c.set_configuration.ensures.ordered c.set_configuration.ensures.what c.set_configuration.ensures.keeps))) c.hub_facts.ensures.went (sets_at _ _ _ _ c.requires (sets_told _ _ _ c.hub_facts.ensures.keeps))
 
 pub returns-in_err-strings-clause-went : goal.returns-in_err-strings-clause-went
 returns-in_err-strings-clause-went g c = went_on _ _ _ _ _ _ (went_then _ _ (went_then _ _ c.read_configurations.ensures.went c.set_configuration.ensures.went) c.hub_facts.ensures.went) c.read_strings.ensures.went (omega arith)
 
 pub returns-in_err-strings-clause-keeps : goal.returns-in_err-strings-clause-keeps
-returns-in_err-strings-clause-keeps g c = keeps_then _ _ _ (keeps_then _ _ _ (keeps_then _ _ _ c.read_configurations.ensures.keeps c.set_configuration.ensures.keeps) c.hub_facts.ensures.keeps) c.read_strings.ensures.keeps
+returns-in_err-strings-clause-keeps g c = sets_then _ _ _ _ _ (sets_then _ _ _ _ _ (sets_then _ _ _ _ _ (sets_asked _ _ _ c.read_configurations.ensures.keeps) c.set_configuration.ensures.went (sets_at _ _ _ _ c.requires (configuration_sets _ _ _ _ _ c.set_configuration.ensures.ordered c.set_configuration.ensures.what c.set_configuration.ensures.keeps))) c.hub_facts.ensures.went (sets_at _ _ _ _ c.requires (sets_told _ _ _ c.hub_facts.ensures.keeps))) c.read_strings.ensures.went (sets_asked _ _ _ c.read_strings.ensures.keeps)
 
 pub returns-clause-went : goal.returns-clause-went
 returns-clause-went g c = went_on _ _ _ _ _ _ (went_then _ _ (went_then _ _ c.read_configurations.ensures.went c.set_configuration.ensures.went) c.hub_facts.ensures.went) c.read_strings.ensures.went (omega arith)
 
 pub returns-clause-keeps : goal.returns-clause-keeps
-returns-clause-keeps g c = keeps_then _ _ _ (keeps_then _ _ _ (keeps_then _ _ _ c.read_configurations.ensures.keeps c.set_configuration.ensures.keeps) c.hub_facts.ensures.keeps) c.read_strings.ensures.keeps
+returns-clause-keeps g c = sets_then _ _ _ _ _ (sets_then _ _ _ _ _ (sets_then _ _ _ _ _ (sets_asked _ _ _ c.read_configurations.ensures.keeps) c.set_configuration.ensures.went (sets_at _ _ _ _ c.requires (configuration_sets _ _ _ _ _ c.set_configuration.ensures.ordered c.set_configuration.ensures.what c.set_configuration.ensures.keeps))) c.hub_facts.ensures.went (sets_at _ _ _ _ c.requires (sets_told _ _ _ c.hub_facts.ensures.keeps))) c.read_strings.ensures.went (sets_asked _ _ _ c.read_strings.ensures.keeps)
 
 pub returns-in_err-configs-clause-told : goal.returns-in_err-configs-clause-told
 returns-in_err-configs-clause-told g c =
@@ -79,8 +87,8 @@ returns-in_err-hub-clause-told g c =
     handed_on c.from_residual-in_err-hub.result (λ stop. ToldOfDevice c.args.tier stop (g.B.Bus.world c.hub_facts.new.bus)) c.in_err-hub.field-0.0 c.from_residual-in_err-hub.ensures.1
     (told_of_hub c.args.tier c.args.device.bytes _ _ fits c.in_err-hub.ensures.hub c.in_err-hub.ensures.told)
 
-pub returns-clause-listed : goal.returns-clause-listed
-returns-clause-listed g c =
+pub returns-clause-learned : goal.returns-clause-learned
+returns-clause-learned g c =
     let configs = c.in_ok-configs.configs in
     let inside = rw c.in-Some.is at c.in_ok-chosen.ensures.inside in
     let chosen = get_or_read configs _ _ inside (c.index-as_slice-chosen.is ∙ ap (λ texts. slice_index_or texts c.in-Some.chosen c.index-as_slice-chosen.result) c.as_slice.ensures) [] in
@@ -95,4 +103,71 @@ returns-clause-listed g c =
           c.set_configuration.ensures.went same_value (answered_ok _ c.set_configuration.result tt (sym c.answered_or.ensures ∙ c.in_ok-answered_or.was)) c.set_configuration.ensures.what
           c.hub_facts.ensures.went same_text c.in_ok-hub.ensures.ports.learned
           c.read_strings.ensures.went c.string_indexes.ensures c.in_ok-strings.ensures.learned;
+      below = empties_ports _ _ _ _ _ c.set_configuration.result c.read_configurations.ensures.went c.read_configurations.ensures.keeps c.set_configuration.ensures.went
+          (answered_ok _ c.set_configuration.result tt (sym c.answered_or.ensures ∙ c.in_ok-answered_or.was)) c.set_configuration.ensures.ordered c.set_configuration.ensures.what c.set_configuration.ensures.keeps
+          c.in_ok-hub.ensures.ports.started c.read_strings.ensures.keeps;
     }
+
+pub returns-in_err-fits_tier-clause-learned : goal.returns-in_err-fits_tier-clause-learned
+returns-in_err-fits_tier-clause-learned g c =
+    handed_match c.from_residual.result _ _ c.in_err-fits_tier.field-0.0 c.from_residual.ensures.1
+    (deep_refused c.args.device.target c.args.tier c.args.supply c.args.device.bytes c.in_err-fits_tier.field-0.0 (g.B.Bus.world c.args.bus.now) (sym c.fits_tier.ensures ∙ c.in_err-fits_tier.was))
+
+pub returns-in_err-configs-clause-learned : goal.returns-in_err-configs-clause-learned
+returns-in_err-configs-clause-learned g c =
+    handed_match c.from_residual-in_err-configs.result _ _ c.in_err-configs.field-0.0 c.from_residual-in_err-configs.ensures.1
+    (read_refused c.args.device.target c.args.tier c.args.supply c.args.device.bytes (sym c.fits_tier.ensures ∙ c.in_ok-fits_tier.was) _ c.in_err-configs.field-0.0
+    (g.B.Bus.world c.args.bus.now) (g.B.Bus.world c.read_configurations.new.bus) c.configurations.ensures c.in_err-configs.ensures.learned)
+
+pub returns-in_err-chosen-clause-learned : goal.returns-in_err-chosen-clause-learned
+returns-in_err-chosen-clause-learned g c =
+    handed_match c.from_residual-in_err-chosen.result _ _ (Fault Memory) c.from_residual-in_err-chosen.ensures.1
+    (fault_explains _ c.args.device.target (configured_fault c.args.tier c.args.supply c.args.device.bytes) Memory
+    (g.B.Bus.world c.args.bus.now) (g.B.Bus.world c.read_configurations.new.bus) c.in_ok-configs.ensures.learned)
+
+pub returns-in_default-clause-learned : goal.returns-in_default-clause-learned
+returns-in_default-clause-learned g c =
+    let t = c.args.device.target in
+    let configs = c.in_ok-configs.configs in
+    power_refused t c.args.tier c.args.supply c.args.device.bytes (sym c.fits_tier.ensures ∙ c.in_ok-fits_tier.was) configs
+    (g.B.Bus.world c.args.bus.now) (g.B.Bus.world c.read_configurations.new.bus) (sym c.in_ok-chosen.ensures.chosen ∙ c.in_default.is)
+    (subst (λ n. Learns (AtMaximum t (HasConfigurations n configs)) t (g.B.Bus.world c.args.bus.now) (g.B.Bus.world c.read_configurations.new.bus)) c.configurations.ensures c.in_ok-configs.ensures.learned)
+
+pub returns-in_err-answered_or-clause-learned : goal.returns-in_err-answered_or-clause-learned
+returns-in_err-answered_or-clause-learned g c =
+    let t = c.args.device.target in
+    let configs = c.in_ok-configs.configs in
+    let inside = rw c.in-Some.is at c.in_ok-chosen.ensures.inside in
+    let chosen = get_or_read configs _ _ inside (c.index-as_slice-chosen.is ∙ ap (λ texts. slice_index_or texts c.in-Some.chosen c.index-as_slice-chosen.result) c.as_slice.ensures) [] in
+    handed_match c.from_residual-in_err-answered_or.result _ _ c.in_err-answered_or.field-0.0 c.from_residual-in_err-answered_or.ensures.1
+    (set_refused t c.args.tier c.args.supply c.args.device.bytes (sym c.fits_tier.ensures ∙ c.in_ok-fits_tier.was) configs c.in-Some.chosen (sym c.in_ok-chosen.ensures.chosen ∙ c.in-Some.is)
+    c.value-value.result _ _ c.set_configuration.result c.in_err-answered_or.field-0.0 (g.B.Bus.world c.args.bus.now) (g.B.Bus.world c.read_configurations.new.bus) (g.B.Bus.world c.set_configuration.new.bus)
+    (λ z. omega (arith, z, c.requires)) inside (c.value-value.ensures ∙ ap configuration_value chosen) (omega arith)
+    (subst (λ n. Learns (AtMaximum t (HasConfigurations n configs)) t (g.B.Bus.world c.args.bus.now) (g.B.Bus.world c.read_configurations.new.bus)) c.configurations.ensures c.in_ok-configs.ensures.learned)
+    c.read_configurations.ensures.went c.set_configuration.ensures.went (sym c.answered_or.ensures ∙ c.in_err-answered_or.was) c.set_configuration.ensures.what c.set_configuration.ensures.why)
+
+pub returns-in_err-hub-clause-learned : goal.returns-in_err-hub-clause-learned
+returns-in_err-hub-clause-learned g c =
+    let t = c.args.device.target in
+    let configs = c.in_ok-configs.configs in
+    let inside = rw c.in-Some.is at c.in_ok-chosen.ensures.inside in
+    let chosen = get_or_read configs _ _ inside (c.index-as_slice-chosen.is ∙ ap (λ texts. slice_index_or texts c.in-Some.chosen c.index-as_slice-chosen.result) c.as_slice.ensures) [] in
+    let same_text = get_or_read configs _ _ inside (c.index-as_slice-chosen-2.is ∙ ap (λ texts. slice_index_or texts c.in-Some.chosen c.index-as_slice-chosen-2.result) c.as_slice-2.ensures) [] in
+    let read = subst (λ n. Learns (AtMaximum t (HasConfigurations n configs)) t (g.B.Bus.world c.args.bus.now) (g.B.Bus.world c.read_configurations.new.bus)) c.configurations.ensures c.in_ok-configs.ensures.learned in
+    let set = set_learned _ t c.value-value.result _ c.set_configuration.result (g.B.Bus.world c.args.bus.now) (g.B.Bus.world c.read_configurations.new.bus) (g.B.Bus.world c.set_configuration.new.bus) read
+    c.set_configuration.ensures.went (answered_ok _ c.set_configuration.result tt (sym c.answered_or.ensures ∙ c.in_ok-answered_or.was)) c.set_configuration.ensures.what in
+    handed_match c.from_residual-in_err-hub.result _ _ c.in_err-hub.field-0.0 c.from_residual-in_err-hub.ensures.1
+    (hub_refused t c.args.tier c.args.supply c.args.device.bytes (sym c.fits_tier.ensures ∙ c.in_ok-fits_tier.was) configs c.in-Some.chosen (sym c.in_ok-chosen.ensures.chosen ∙ c.in-Some.is)
+    c.value-value.result _ _ _ c.in_err-hub.field-0.0 (g.B.Bus.world c.args.bus.now) (g.B.Bus.world c.set_configuration.new.bus) (g.B.Bus.world c.hub_facts.new.bus)
+    (λ z. omega (arith, z, c.requires)) c.in_err-hub.ensures.hub inside (c.value-value.ensures ∙ ap configuration_value chosen) (omega arith)
+    set (went_then _ _ c.read_configurations.ensures.went c.set_configuration.ensures.went) c.hub_facts.ensures.went same_text c.in_err-hub.ensures.ports)
+
+pub returns-in_err-strings-clause-learned : goal.returns-in_err-strings-clause-learned
+returns-in_err-strings-clause-learned g c =
+    let t = c.args.device.target in
+    let set = set_learned _ t c.value-value.result _ c.set_configuration.result (g.B.Bus.world c.args.bus.now) (g.B.Bus.world c.read_configurations.new.bus) (g.B.Bus.world c.set_configuration.new.bus) c.in_ok-configs.ensures.learned
+    c.set_configuration.ensures.went (answered_ok _ c.set_configuration.result tt (sym c.answered_or.ensures ∙ c.in_ok-answered_or.was)) c.set_configuration.ensures.what in
+    let told = set_then _ _ t c.value-value.result _ (g.B.Bus.world c.args.bus.now) (g.B.Bus.world c.set_configuration.new.bus) (g.B.Bus.world c.hub_facts.new.bus) set c.hub_facts.ensures.went c.in_ok-hub.ensures.ports.learned in
+    handed_match c.from_residual-in_err-strings.result _ _ c.in_err-strings.field-0.0 c.from_residual-in_err-strings.ensures.1
+    (strings_refused t c.args.tier c.args.supply c.args.device.bytes _ c.value-value.result _ _ c.in_err-strings.field-0.0 (g.B.Bus.world c.args.bus.now) (g.B.Bus.world c.hub_facts.new.bus) (g.B.Bus.world c.read_strings.new.bus)
+    told (went_then _ _ (went_then _ _ c.read_configurations.ensures.went c.set_configuration.ensures.went) c.hub_facts.ensures.went) c.read_strings.ensures.went c.in_err-strings.ensures.learned)

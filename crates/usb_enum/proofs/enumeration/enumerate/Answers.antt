@@ -2,32 +2,50 @@ use Rattle.std.proofs.Common.{arith, subst}
 use Rattle.usb_bus.proofs.Wents.{went_wider}
 use Rattle.usb_hub.proofs.Ports.{port_stays}
 use Rattle.usb_enum.proofs.Counts.{went_on}
-use Rattle.usb_resources.specs.Pool.{HasAddresses}
-use Rattle.usb_enum.proofs.Endings.{zero_untaken, zero_before, free_untaken, enumerated, given_up, none_true, found_true}
+use Rattle.usb_resources.specs.Pool.{HasAddresses, IsFull}
+use Rattle.usb_enum.proofs.Endings.{zero_untaken, zero_before, free_untaken, enumerated, given_up, none_true, found_true, device_placed, refused_placed, device_warranted, stopped_warranted}
+use Rattle.usb_enum.proofs.Frames.{calls_then}
+use Rattle.usb_enum.specs.Refusals.{unaddressed_fault, whole_fault}
+use Rattle.usb_enum.proofs.Warranting.{unaddressed_right, whole_right}
 use Rattle.usb_enum.proofs.enumeration.enumerate.Goals as goal
 
 pub returns-in_default-clause-ends : goal.returns-in_default-clause-ends
 returns-in_default-clause-ends g c =
     let zero = zero_untaken c.args.pool.now (subst HasAddresses c.in_default.ensures.none.1 c.take.ensures.range) in
     record {
-      addresses = given_up c.args.port c.args.pool.now 0 zero zero _ _ _ _ c.without_address-stop.ensures.within (c.give_up.ensures.ends 0);
+      addresses = given_up c.args.port c.args.pool.now 0 zero zero _ _ _ _ c.without_address-stop.ensures.within.within (c.give_up.ensures.closes 0).ends
+          (calls_then _ 0 _ _ _ _ c.without_address-stop.ensures.within c.give_up.ensures.went (c.give_up.ensures.closes 0).only);
       own = none_true _ _ _ _ _ _ _ _ _ c.give_up.ensures.left;
+      places = refused_placed c.args.port c.args.pool.now 0 zero zero _ _ _ _ _ _ c.without_address-stop.ensures.within c.give_up.ensures.went (c.give_up.ensures.closes 0).there c.give_up.ensures.left;
+      warrants =
+          stopped_warranted c.args.port c.args.pool.now 0 zero zero unaddressed_fault c.args.tier c.args.supply _ _ _ _ _ _ _ c.without_address-stop.ensures.went c.give_up.ensures.went c.without_address-stop.ensures.within
+          c.without_address-stop.ensures.why (c.give_up.ensures.closes 0) c.give_up.ensures.left (unaddressed_right (IsFull c.args.pool.now) c.in_default.ensures.none.0 c.args.tier c.args.supply);
     }
 
 pub returns-in-Ok-clause-ends : goal.returns-in-Ok-clause-ends
 returns-in-Ok-clause-ends g c =
     let taken = c.in-Some.ensures.some in
     record {
-      addresses = enumerated c.args.port c.args.pool.now c.in-Some.address (zero_before _ _ _ taken c.take.ensures.range) (free_untaken _ _ _ taken) _ _ _ c.in-Ok.ensures.ok.address c.in-Ok.ensures.ok.takes;
+      addresses = enumerated c.args.port c.args.pool.now c.in-Some.address (zero_before _ _ _ taken c.take.ensures.range) (free_untaken _ _ _ taken) _ _ _ c.in-Ok.ensures.ok.address c.in-Ok.ensures.ok.takes c.examine.ensures.within.only;
       own = found_true c.args.port c.args.pool.now c.in-Some.address (zero_before _ _ _ taken c.take.ensures.range) (free_untaken _ _ _ taken) _ _ _ _ _ c.in-Ok.ensures.ok.own;
+      places = device_placed c.args.port c.args.pool.now c.in-Some.address (zero_before _ _ _ taken c.take.ensures.range) (free_untaken _ _ _ taken) _ _ _ c.in-Ok.ensures.ok.reaches (λ f p is t order occupied none. c.in-Ok.ensures.ok.below f p is t order none);
+      warrants = device_warranted c.args.port c.args.pool.now c.in-Some.address (zero_before _ _ _ taken c.take.ensures.range) (free_untaken _ _ _ taken) _ _ _ _ _;
     }
 
 pub returns-in-Err-clause-ends : goal.returns-in-Err-clause-ends
 returns-in-Err-clause-ends g c =
     let taken = c.in-Some.ensures.some in
     record {
-      addresses = given_up c.args.port c.args.pool.now c.in-Some.address (zero_before _ _ _ taken c.take.ensures.range) (free_untaken _ _ _ taken) _ _ _ _ c.in-Err.ensures.within (c.give_up-finding.ensures.ends c.in-Some.address);
+      addresses = given_up c.args.port c.args.pool.now c.in-Some.address (zero_before _ _ _ taken c.take.ensures.range) (free_untaken _ _ _ taken) _ _ _ _ c.examine.ensures.within.within (c.give_up-finding.ensures.closes c.in-Some.address).ends
+          (calls_then _ c.in-Some.address _ _ _ _ c.examine.ensures.within c.give_up-finding.ensures.went (c.give_up-finding.ensures.closes c.in-Some.address).only);
       own = none_true _ _ _ _ _ _ _ _ _ c.give_up-finding.ensures.left;
+      places =
+          refused_placed c.args.port c.args.pool.now c.in-Some.address (zero_before _ _ _ taken c.take.ensures.range) (free_untaken _ _ _ taken) _ _ _ _ _ _ c.examine.ensures.within c.give_up-finding.ensures.went
+          (c.give_up-finding.ensures.closes c.in-Some.address).there c.give_up-finding.ensures.left;
+      warrants =
+          stopped_warranted c.args.port c.args.pool.now c.in-Some.address (zero_before _ _ _ taken c.take.ensures.range) (free_untaken _ _ _ taken) (whole_fault c.args.tier c.args.supply) c.args.tier c.args.supply _ _ _ _ _ _ _
+          c.examine.ensures.went c.give_up-finding.ensures.went c.examine.ensures.within c.in-Err.ensures.ok (c.give_up-finding.ensures.closes c.in-Some.address) c.give_up-finding.ensures.left
+          (whole_right (IsFull c.args.pool.now) c.args.tier c.args.supply);
     }
 
 pub give_up-requires : goal.give_up-requires

@@ -1,17 +1,30 @@
 use Rattle.std.proofs.Common.{arith}
 use Rattle.usb_bus.proofs.Wents.{went_wider}
 use Rattle.usb_enum.proofs.Counts.{went_on}
-use Rattle.usb_enum.proofs.Enumerations.{within_on}
+use Rattle.usb_enum.proofs.Frames.{at_configured}
+use Rattle.usb_enum.specs.Refusals.{addressed_fault, whole_fault}
+use Rattle.usb_enum.proofs.Fairness.{stops_wider}
+use Rattle.usb_enum.proofs.Refusals.{handed_match, matched_ok}
 use Rattle.usb_enum.proofs.Truths.{accepted}
+use Rattle.usb_enum.proofs.Warranting.{addressed_verdict, configured_err, matched}
 use Rattle.usb_enum.proofs.enumeration.examine.Goals as goal
 
 pub returns-clause-within : goal.returns-clause-within
-returns-clause-within g c = within_on _ _ _ _ _ (rw c.number.ensures.value at c.passes.ensures.within) c.configure.ensures.keeps
+returns-clause-within g c =
+    at_configured _ _ _ _ _ _ (rw c.number.ensures.value at c.passes.ensures.within) (rw c.number.ensures.value at c.in_ok-device.ensures.taken).takes c.configure.ensures.went c.configure.ensures.keeps
+
+pub returns-in_err-device-clause-ok : goal.returns-in_err-device-clause-ok
+returns-in_err-device-clause-ok g c =
+    handed_match c.from_residual.result _ _ c.in_err-device.field-0.0 c.from_residual.ensures.1
+    (stops_wider addressed_fault (whole_fault c.args.tier c.args.supply) _ _ _ _ _ (addressed_verdict c.args.tier c.args.supply) (rw c.number.ensures.value at c.in_err-device.ensures.taken))
 
 pub returns-clause-ok : goal.returns-clause-ok
 returns-clause-ok g c =
-    accepted _ _ _ _ _ _ c.configure.result c.passes.ensures.went (rw c.number.ensures.value at c.passes.ensures.within) (rw c.number.ensures.value at c.in_ok-device.ensures.taken)
-    c.configure.ensures.keeps c.configure.ensures.whole c.configure.ensures.listed
+    let within = rw c.number.ensures.value at c.passes.ensures.within in
+    let taken = rw c.number.ensures.value at c.in_ok-device.ensures.taken in
+    matched c.configure.result _ _
+    (accepted _ _ _ _ _ _ _ c.configure.result c.passes.ensures.went within.within taken c.configure.ensures.keeps c.configure.ensures.went c.configure.ensures.whole (matched_ok c.configure.result _ _ c.configure.ensures.learned))
+    (configured_err _ _ _ _ _ _ c.in_ok-device.device c.passes.ensures.went c.configure.ensures.went within taken c.configure.ensures.keeps c.in_ok-device.device.device c.configure.result _ c.configure.ensures.told c.configure.ensures.learned)
 
 pub returns-in_err-device-clause-went : goal.returns-in_err-device-clause-went
 returns-in_err-device-clause-went g c = went_wider _ _ c.passes.ensures.went (omega arith)

@@ -1,17 +1,37 @@
-use Rattle.std.proofs.Common.{◌∙◌, arith, refl, sym}
+use Rattle.std.proofs.Common.{◌∙◌, Result, Ok, Err, arith, refl, subst, sym}
+use Rattle.std.specs.Prelude.{IfErr}
+use Rattle.usb_device.specs.Calls.{clear_call}
+use Rattle.usb_device.specs.declared.calls.PortCall.TheVariants.{ClearEnable}
+use Rattle.usb_enum.specs.declared.fault.EnumFault.{EnumFault}
+use Rattle.usb_enum.specs.declared.finding.Finding.TheVariants.{Refused}
+use Rattle.usb_enum.specs.Found.{Closes}
+use Rattle.usb_enum.specs.Stop.{FaultAt}
+use Rattle.usb_enum.proofs.Stretches.{clear_goes}
+use Rattle.usb_enum.proofs.Told.{clear_fails, port_told}
 use Rattle.usb_bus.proofs.Wents.{went_none, went_wider}
-use Rattle.usb_enum.proofs.Endings.{ends_refused, ends_fault, ends_failed, port_done}
-use Rattle.usb_enum.proofs.Enumerations.{within_none, within_kept}
+use Rattle.usb_enum.proofs.Closings.{closed_fault, closed_handed, closed_lost, closed_refused}
+use Rattle.usb_enum.proofs.Endings.{port_done}
 use Rattle.usb_enum.proofs.enumeration.give_up.Goals as goal
 
-pub returns-in_err-at_port-in-Refused-clause-ends : goal.returns-in_err-at_port-in-Refused-clause-ends
-returns-in_err-at_port-in-Refused-clause-ends g c = λ a. ends_failed _ a _ _ _ c.from_residual.ensures.0 (within_kept _ a _ _ c.clear_port.ensures.addresses.keeps)
+pub returns-in_err-at_port-in-Refused-clause-closes : goal.returns-in_err-at_port-in-Refused-clause-closes
+unfolding clear_call
+returns-in_err-at_port-in-Refused-clause-closes g c = λ a.
+    let P : Result (Unit {0}) EnumFault → Type 0 = λ r. IfErr r (λ fault. FaultAt c.args.port fault (g.B.Bus.world c.clear_port.new.bus)) in
+    let told = sym c.in_err-at_port-in-Refused.was ∙ c.at_port.ensures in
+    subst (λ s. Closes c.args.port a s (g.B.Bus.world c.args.bus.now) c.from_residual.result (g.B.Bus.world c.clear_port.new.bus)) (sym c.in-Refused.is)
+    (closed_handed _ a _ _ c.from_residual.result c.in_err-at_port-in-Refused.field-0.0 _ c.from_residual.ensures.1
+    (closed_lost _ a _ _ _ _ c.clear_port.ensures.fault c.clear_port.ensures.ports c.clear_port.ensures.addresses _ c.in_err-at_port-in-Refused.field-0.0 c.clear_port.ensures.went told
+    (subst P (sym told) (port_told c.args.port 1 _ _ c.clear_port.result (clear_fails c.args.port 1 _ _ c.clear_port.result c.clear_port.ensures.effect) c.clear_port.ensures.fault))
+    (clear_goes c.args.port 1 ClearEnable _ _ _ refl refl refl c.clear_port.ensures.effect)))
 
-pub returns-in_ok-at_port-in-Refused-clause-ends : goal.returns-in_ok-at_port-in-Refused-clause-ends
-returns-in_ok-at_port-in-Refused-clause-ends g c = λ a. ends_refused _ a _ _ _ (c.clear_port.ensures.addresses.bare refl (port_done _ _ (sym c.at_port.ensures ∙ c.in_ok-at_port-in-Refused.was)))
+pub returns-in_ok-at_port-in-Refused-clause-closes : goal.returns-in_ok-at_port-in-Refused-clause-closes
+returns-in_ok-at_port-in-Refused-clause-closes g c = λ a.
+    subst (λ s. Closes c.args.port a s (g.B.Bus.world c.args.bus.now) (Ok (Refused c.in-Refused.cause)) (g.B.Bus.world c.clear_port.new.bus)) (sym c.in-Refused.is)
+    (closed_refused _ a _ _ _ _ c.clear_port.ensures.fault c.clear_port.ensures.ports c.clear_port.ensures.addresses (port_done _ _ (sym c.at_port.ensures ∙ c.in_ok-at_port-in-Refused.was)))
 
-pub returns-in-Fault-clause-ends : goal.returns-in-Fault-clause-ends
-returns-in-Fault-clause-ends g c = λ a. ends_fault _ a _ _ _ (within_none _ a _)
+pub returns-in-Fault-clause-closes : goal.returns-in-Fault-clause-closes
+returns-in-Fault-clause-closes g c = λ a.
+    subst (λ s. Closes c.args.port a s (g.B.Bus.world c.args.bus.now) (Err c.in-Fault.fault) (g.B.Bus.world c.args.bus.now)) (sym c.in-Fault.is) (closed_fault _ a _ _)
 
 pub returns-in-Fault-clause-went : goal.returns-in-Fault-clause-went
 returns-in-Fault-clause-went g c = went_wider 0 _ went_none (omega arith)

@@ -1,8 +1,13 @@
-use Rattle.std.proofs.Common.{◌∙◌, sym}
+use Rattle.std.proofs.Common.{◌∙◌, ap, sym}
+use Rattle.usb_descriptor.specs.Hub.{hub_of}
 use Rattle.usb_enum.specs.declared.cause.Cause.TheVariants.{BadHub}
+use Rattle.usb_hub.specs.Asked.{hub_given}
+use Rattle.usb_enum.proofs.Frames.{text_asks}
 use Rattle.usb_enum.proofs.Counts.{read_went}
 use Rattle.usb_enum.proofs.Hubs.{count_told}
 use Rattle.usb_enum.proofs.HubReadings.{ports_learned}
+use Rattle.usb_enum.proofs.HubRefusals.{count_unanswered, count_refused}
+use Rattle.usb_enum.proofs.Refusals.{handed_match}
 use Rattle.usb_enum.proofs.hub.port_count.Goals as goal
 
 pub returns-in-Ok-clause-count : goal.returns-in-Ok-clause-count
@@ -24,3 +29,25 @@ returns-in-Ok-clause-learned g c =
     rw c.ports.ensures.value
     (ports_learned c.args.target BadHub c.hub_descriptor.result c.in_ok-bytes.bytes c.in-Ok.hub (g.B.Bus.world c.args.bus.now) (g.B.Bus.world c.hub_descriptor.new.bus)
     (sym c.answered_or.ensures ∙ c.in_ok-bytes.was) (cc) (c.in-Ok.ensures.view ∙ c.as_slice.ensures.value) c.hub_descriptor.ensures.what)
+
+pub returns-in_err-bytes-clause-keeps : goal.returns-in_err-bytes-clause-keeps
+returns-in_err-bytes-clause-keeps g c = text_asks hub_given c.args.target _ _ _ _ _ c.hub_descriptor.ensures.asked c.hub_descriptor.ensures.what c.hub_descriptor.ensures.keeps
+
+pub returns-in-Ok-clause-keeps : goal.returns-in-Ok-clause-keeps
+returns-in-Ok-clause-keeps g c = text_asks hub_given c.args.target _ _ _ _ _ c.hub_descriptor.ensures.asked c.hub_descriptor.ensures.what c.hub_descriptor.ensures.keeps
+
+pub returns-clause-keeps : goal.returns-clause-keeps
+returns-clause-keeps g c = text_asks hub_given c.args.target _ _ _ _ _ c.hub_descriptor.ensures.asked c.hub_descriptor.ensures.what c.hub_descriptor.ensures.keeps
+
+pub returns-in_err-bytes-clause-learned : goal.returns-in_err-bytes-clause-learned
+returns-in_err-bytes-clause-learned g c =
+    handed_match c.from_residual.result _ _ c.in_err-bytes.field-0.0 c.from_residual.ensures.1
+    (count_unanswered c.args.target c.hub_descriptor.result c.in_err-bytes.field-0.0 (g.B.Bus.world c.args.bus.now) (g.B.Bus.world c.hub_descriptor.new.bus)
+    (sym c.answered_or.ensures ∙ c.in_err-bytes.was) c.requires.max c.hub_descriptor.ensures.what c.hub_descriptor.ensures.why)
+
+pub returns-clause-learned : goal.returns-clause-learned
+returns-clause-learned g c =
+    count_refused c.args.target BadHub c.hub_descriptor.result c.in_ok-bytes.bytes c.in-Err.field-0 (g.B.Bus.world c.args.bus.now) (g.B.Bus.world c.hub_descriptor.new.bus)
+    (sym c.answered_or.ensures ∙ c.in_ok-bytes.was)
+    (ap hub_of (sym c.as_slice.ensures.value) ∙ sym c.read_hub.ensures.answer ∙ c.in-Err.is)
+    c.hub_descriptor.ensures.what

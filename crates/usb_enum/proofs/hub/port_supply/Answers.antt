@@ -1,7 +1,11 @@
-use Rattle.std.proofs.Common.{◌∙◌, sym}
+use Rattle.std.proofs.Common.{◌≡◌, ◌∙◌, Some, sym}
 use Rattle.usb_enum.specs.declared.cause.Cause.TheVariants.{BadHub}
+use Rattle.usb_hub.specs.Asked.{status_given}
+use Rattle.usb_enum.proofs.Frames.{answer_asks}
 use Rattle.usb_enum.proofs.Counts.{read_went}
 use Rattle.usb_enum.proofs.HubReadings.{supply_learned}
+use Rattle.usb_enum.proofs.HubRefusals.{supply_unanswered}
+use Rattle.usb_enum.proofs.Refusals.{handed_match}
 use Rattle.usb_enum.proofs.hub.port_supply.Goals as goal
 
 pub returns-in_err-status-clause-went : goal.returns-in_err-status-clause-went
@@ -15,3 +19,15 @@ returns-clause-learned g c =
     rw c.supply.ensures
     (supply_learned c.args.target BadHub c.get_status.result c.in_ok-status.status (g.B.Bus.world c.args.bus.now) (g.B.Bus.world c.get_status.new.bus)
     (sym c.answered_or.ensures ∙ c.in_ok-status.was) c.get_status.ensures.what)
+
+pub returns-in_err-status-clause-keeps : goal.returns-in_err-status-clause-keeps
+returns-in_err-status-clause-keeps g c = answer_asks status_given (λ s status. status_given s.spec ≡ Some status) c.args.target _ c.get_status.result _ _ _ c.get_status.ensures.told.asked c.get_status.ensures.what c.get_status.ensures.keeps
+
+pub returns-clause-keeps : goal.returns-clause-keeps
+returns-clause-keeps g c = answer_asks status_given (λ s status. status_given s.spec ≡ Some status) c.args.target _ c.get_status.result _ _ _ c.get_status.ensures.told.asked c.get_status.ensures.what c.get_status.ensures.keeps
+
+pub returns-in_err-status-clause-learned : goal.returns-in_err-status-clause-learned
+returns-in_err-status-clause-learned g c =
+    handed_match c.from_residual.result _ _ c.in_err-status.field-0.0 c.from_residual.ensures.1
+    (supply_unanswered c.args.target c.get_status.result c.in_err-status.field-0.0 (g.B.Bus.world c.args.bus.now) (g.B.Bus.world c.get_status.new.bus)
+    (sym c.answered_or.ensures ∙ c.in_err-status.was) c.requires.max c.get_status.ensures.what c.get_status.ensures.why)

@@ -1,21 +1,22 @@
-use Rattle.std.proofs.Common.{refl}
+use Rattle.std.proofs.Common.{arith, refl}
 use Rattle.usb_bus.proofs.Wents.{went_none}
 use Rattle.usb_enum.specs.Bounds.{none_bound}
 use Rattle.usb_enum.proofs.Counts.{went_again, went_times, went_more}
 use Rattle.usb_enum.proofs.Hubs.{powered_more}
-use Rattle.usb_enum.proofs.Readings.{devices_then}
-use Rattle.usb_hub.proofs.Devices.{stays_none}
-use Rattle.usb_address.proofs.Keeping.{keeps_none, keeps_then}
+use Rattle.usb_enum.proofs.Frames.{tells_none, tells_then}
+use Rattle.usb_enum.specs.Learned.{ExplainsSet}
+use Rattle.usb_enum.specs.Refusals.{RefusesNoPort}
+use Rattle.usb_enum.proofs.PortRefusals.{powering_explains}
+use Rattle.usb_enum.proofs.Told.{handed_on}
 use Rattle.usb_enum.proofs.hub.power_ports.Goals as goal
 
 pub ports-init : goal.ports-init
-ports-init g c = record { went = went_none; kept = keeps_none _; devices = stays_none _; powered = refl }
+ports-init g c = record { went = went_none; kept = tells_none _ _; powered = refl }
 
 pub ports-preserved : goal.ports-preserved
 ports-preserved g c = record {
   went = went_again _ none_bound _ _ _ c.ports.invariant.went c.power_port.ensures.went;
-  kept = keeps_then _ _ _ c.ports.invariant.kept c.power_port.ensures.keeps;
-  devices = devices_then _ _ _ _ c.ports.invariant.devices c.power_port.ensures.went c.power_port.ensures.devices;
+  kept = tells_then _ _ _ _ _ c.ports.invariant.kept c.power_port.ensures.went c.power_port.ensures.keeps;
   powered = powered_more _ _ _ _ _ c.ports.invariant.powered c.in_ok-power_port.ensures.powered;
 }
 
@@ -23,10 +24,14 @@ pub returns-in_err-power_port-clause-went : goal.returns-in_err-power_port-claus
 returns-in_err-power_port-clause-went g c = went_more _ _ none_bound _ _ _ c.ports.invariant.went c.power_port.ensures.went c.ports-test.true
 
 pub returns-in_err-power_port-clause-keeps : goal.returns-in_err-power_port-clause-keeps
-returns-in_err-power_port-clause-keeps g c = keeps_then _ _ _ c.ports.invariant.kept c.power_port.ensures.keeps
+returns-in_err-power_port-clause-keeps g c = tells_then _ _ _ _ _ c.ports.invariant.kept c.power_port.ensures.went c.power_port.ensures.keeps
 
 pub returns-clause-went : goal.returns-clause-went
 returns-clause-went g c = went_times _ _ none_bound _ _ c.ports.invariant.went c.ports.auto.before-end
 
-pub returns-in_err-power_port-clause-devices : goal.returns-in_err-power_port-clause-devices
-returns-in_err-power_port-clause-devices g c = devices_then _ _ _ _ c.ports.invariant.devices c.power_port.ensures.went c.power_port.ensures.devices
+pub returns-in_err-power_port-clause-why : goal.returns-in_err-power_port-clause-why
+returns-in_err-power_port-clause-why g c =
+    let t = c.args.target in
+    handed_on c.from_residual.result (λ stop. ExplainsSet (RefusesNoPort t c.args.ports stop) t (g.B.Bus.world c.args.bus.now) (g.B.Bus.world c.power_port.new.bus)) c.in_err-power_port.field-0.0 c.from_residual.ensures.1
+    (powering_explains t c.ports.before c.args.ports _ _ c.in_err-power_port.field-0.0 (g.B.Bus.world c.args.bus.now) (g.B.Bus.world c.ports.bus) (g.B.Bus.world c.power_port.new.bus)
+    (omega (arith, c.ports-test.true)) c.ports.invariant.kept.devices c.ports.invariant.went c.power_port.ensures.went c.in_err-power_port.ensures.why)

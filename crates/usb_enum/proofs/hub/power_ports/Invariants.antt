@@ -1,7 +1,6 @@
 use Rattle.std.proofs.Common.{◌*◌}
 use Rattle.usb_bus.specs.Traced.{Went}
-use Rattle.usb_address.specs.Owned.{KeepsAddresses}
-use Rattle.usb_hub.specs.Addresses.{KeepsDevices}
+use Rattle.usb_enum.specs.Frames.{OnlyTells}
 use Rattle.usb_enum.specs.Bounds.{none_bound}
 use Rattle.usb_enum.specs.Hub.{Powered}
 use Rattle.usb_enum.proofs.hub.power_ports.Given as goal
@@ -9,7 +8,6 @@ use Rattle.usb_enum.proofs.hub.power_ports.Given as goal
 abbrev pub invariant-ports : goal.invariant-ports
 invariant-ports g l = record {
   went : Went g.B.Bus.world g.B.Bus.trace (l.before * none_bound) l.initial.bus l.bus;
-  kept : KeepsAddresses (g.B.Bus.world l.initial.bus) (g.B.Bus.world l.bus);
-  devices : KeepsDevices (g.B.Bus.world l.initial.bus) (g.B.Bus.world l.bus);
+  kept : OnlyTells l.target.addr (g.B.Bus.world l.initial.bus) (g.B.Bus.world l.bus);
   powered : Powered l.target l.before (g.B.Bus.world l.initial.bus) (g.B.Bus.world l.bus);
 }

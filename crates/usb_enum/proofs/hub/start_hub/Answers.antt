@@ -1,33 +1,35 @@
 use Rattle.std.proofs.Common.{arith, rules}
 use Rattle.usb_bus.proofs.Wents.{went_none, went_then, went_wider}
-use Rattle.usb_address.proofs.Keeping.{keeps_none, keeps_then}
+use Rattle.usb_enum.proofs.Frames.{asks_then, tells_asked, tells_none, tells_then}
 use Rattle.usb_enum.proofs.Counts.{went_on}
 use Rattle.usb_enum.proofs.HubReadings.{hub_learned}
+use Rattle.usb_enum.proofs.PortRefusals.{no_endpoint, asked_explains, supply_explains, powered_explains}
+use Rattle.usb_enum.proofs.Refusals.{explains_set_none, handed_match}
 use Rattle.usb_enum.proofs.hub.start_hub.Goals as goal
 
 pub returns-then-is_none-clause-went : goal.returns-then-is_none-clause-went
 returns-then-is_none-clause-went g c = went_wider 0 _ went_none (omega arith)
 
 pub returns-then-is_none-clause-keeps : goal.returns-then-is_none-clause-keeps
-returns-then-is_none-clause-keeps g c = keeps_none _
+returns-then-is_none-clause-keeps g c = tells_none _ _
 
 pub returns-in_err-ports-clause-went : goal.returns-in_err-ports-clause-went
 returns-in_err-ports-clause-went g c = went_wider _ _ c.port_count.ensures.went (omega arith)
 
 pub returns-in_err-ports-clause-keeps : goal.returns-in_err-ports-clause-keeps
-returns-in_err-ports-clause-keeps g c = c.port_count.ensures.keeps
+returns-in_err-ports-clause-keeps g c = tells_asked _ _ _ c.port_count.ensures.keeps
 
 pub returns-in_err-supply-clause-went : goal.returns-in_err-supply-clause-went
 returns-in_err-supply-clause-went g c = went_on _ _ _ _ _ _ c.port_count.ensures.went c.port_supply.ensures.went (omega arith)
 
 pub returns-in_err-supply-clause-keeps : goal.returns-in_err-supply-clause-keeps
-returns-in_err-supply-clause-keeps g c = keeps_then _ _ _ c.port_count.ensures.keeps c.port_supply.ensures.keeps
+returns-in_err-supply-clause-keeps g c = tells_asked _ _ _ (asks_then _ _ _ _ c.port_count.ensures.keeps c.port_supply.ensures.went c.port_supply.ensures.keeps)
 
 pub returns-in_err-power_ports-clause-went : goal.returns-in_err-power_ports-clause-went
 returns-in_err-power_ports-clause-went g c = went_on _ _ _ _ _ _ (went_then _ _ c.port_count.ensures.went c.port_supply.ensures.went) c.power_ports.ensures.went (omega (arith, c.in_ok-ports.ensures.count.0.1))
 
 pub returns-in_err-power_ports-clause-keeps : goal.returns-in_err-power_ports-clause-keeps
-returns-in_err-power_ports-clause-keeps g c = keeps_then _ _ _ (keeps_then _ _ _ c.port_count.ensures.keeps c.port_supply.ensures.keeps) c.power_ports.ensures.keeps
+returns-in_err-power_ports-clause-keeps g c = tells_then _ _ _ _ _ (tells_asked _ _ _ (asks_then _ _ _ _ c.port_count.ensures.keeps c.port_supply.ensures.went c.port_supply.ensures.keeps)) c.power_ports.ensures.went c.power_ports.ensures.keeps
 
 pub returns-clause-went : goal.returns-clause-went
 returns-clause-went g c = went_on _ _ _ _ _ _ (went_then _ _ c.port_count.ensures.went c.port_supply.ensures.went) c.power_ports.ensures.went (omega (arith, c.in_ok-ports.ensures.count.0.1))
@@ -47,11 +49,35 @@ returns-clause-started g c =
     }
 
 pub returns-clause-keeps : goal.returns-clause-keeps
-returns-clause-keeps g c = keeps_then _ _ _ (keeps_then _ _ _ c.port_count.ensures.keeps c.port_supply.ensures.keeps) c.power_ports.ensures.keeps
+returns-clause-keeps g c = tells_then _ _ _ _ _ (tells_asked _ _ _ (asks_then _ _ _ _ c.port_count.ensures.keeps c.port_supply.ensures.went c.port_supply.ensures.keeps)) c.power_ports.ensures.went c.power_ports.ensures.keeps
 
 pub returns-clause-learned : goal.returns-clause-learned
 returns-clause-learned g c =
     hub_learned c.args.target c.args.text.now c.in_ok-ports.ports c.in_ok-supply.supply _ _
     (g.B.Bus.world c.args.bus.now) (g.B.Bus.world c.port_count.new.bus) (g.B.Bus.world c.port_supply.new.bus) (g.B.Bus.world c.power_ports.new.bus)
     (returns-clause-started g c).status
-    c.in_ok-ports.ensures.learned c.port_supply.ensures.went c.in_ok-supply.ensures.learned c.power_ports.ensures.went c.power_ports.ensures.devices
+    c.in_ok-ports.ensures.learned c.port_supply.ensures.went c.in_ok-supply.ensures.learned c.power_ports.ensures.went c.power_ports.ensures.keeps.devices
+
+pub returns-then-is_none-clause-learned : goal.returns-then-is_none-clause-learned
+returns-then-is_none-clause-learned g c =
+    explains_set_none _ c.args.target (g.B.Bus.world c.args.bus.now) (λ spec. no_endpoint c.args.text.now c.args.target spec (search rules))
+
+pub returns-in_err-ports-clause-learned : goal.returns-in_err-ports-clause-learned
+returns-in_err-ports-clause-learned g c =
+    handed_match c.from_residual.result _ _ c.in_err-ports.field-0.0 c.from_residual.ensures.1
+    (asked_explains c.args.text.now c.args.target c.in_err-ports.field-0.0 (g.B.Bus.world c.args.bus.now) (g.B.Bus.world c.port_count.new.bus) c.in_err-ports.ensures.learned)
+
+pub returns-in_err-supply-clause-learned : goal.returns-in_err-supply-clause-learned
+returns-in_err-supply-clause-learned g c =
+    handed_match c.from_residual-in_err-supply.result _ _ c.in_err-supply.field-0.0 c.from_residual-in_err-supply.ensures.1
+    (supply_explains c.args.text.now c.args.target c.in_ok-ports.ports _ _ c.in_err-supply.field-0.0
+    (g.B.Bus.world c.args.bus.now) (g.B.Bus.world c.port_count.new.bus) (g.B.Bus.world c.port_supply.new.bus)
+    c.port_count.ensures.went c.in_ok-ports.ensures.learned c.port_supply.ensures.went c.in_err-supply.ensures.learned)
+
+pub returns-in_err-power_ports-clause-learned : goal.returns-in_err-power_ports-clause-learned
+returns-in_err-power_ports-clause-learned g c =
+    handed_match c.from_residual-in_err-power_ports.result _ _ c.in_err-power_ports.field-0.0 c.from_residual-in_err-power_ports.ensures.1
+    (powered_explains c.args.text.now c.args.target c.in_ok-ports.ports _ _ _ c.in_err-power_ports.field-0.0
+    (g.B.Bus.world c.args.bus.now) (g.B.Bus.world c.port_count.new.bus) (g.B.Bus.world c.port_supply.new.bus) (g.B.Bus.world c.power_ports.new.bus)
+    c.in_ok-ports.ensures.count.0 c.port_count.ensures.went c.in_ok-ports.ensures.learned c.port_supply.ensures.went c.port_supply.ensures.keeps.devices
+    c.power_ports.ensures.went c.in_err-power_ports.ensures.why)

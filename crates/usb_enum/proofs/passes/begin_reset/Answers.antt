@@ -3,6 +3,10 @@ use Rattle.std.specs.Prelude.{IfErr}
 use Rattle.usb_enum.specs.declared.fault.EnumFault.{EnumFault}
 use Rattle.usb_hub.proofs.Ports.{reset_went}
 use Rattle.usb_enum.specs.Stop.{FaultAt}
+use Rattle.usb_enum.proofs.Frames.{reset_calls}
+use Rattle.usb_device.specs.Calls.{set_call}
+use Rattle.usb_device.specs.declared.calls.PortCall.TheVariants.{SetReset}
+use Rattle.usb_enum.proofs.Stretches.{set_goes}
 use Rattle.usb_enum.proofs.Told.{port_told, set_fails}
 use Rattle.usb_enum.proofs.passes.begin_reset.Goals as goal
 
@@ -16,3 +20,10 @@ returns-clause-told g c =
 
 pub returns-clause-resets : goal.returns-clause-resets
 returns-clause-resets g c = c.set_port.ensures.addresses.resets refl
+
+pub returns-clause-only : goal.returns-clause-only
+returns-clause-only g c = λ a. reset_calls _ a _ _ _ c.set_port.ensures.fault c.set_port.ensures.ports (c.set_port.ensures.addresses.resets refl)
+
+pub returns-clause-calls : goal.returns-clause-calls
+unfolding set_call
+returns-clause-calls g c = record { outcome = c.set_port.result; told = c.at_port.ensures; calls = c.set_port.ensures.ports; goes = set_goes c.args.port 4 SetReset _ _ _ refl refl c.set_port.ensures.effect }

@@ -1,38 +1,43 @@
 use Rattle.usb_enum.proofs.Counts.{read_went}
-use Rattle.std.proofs.Common.{◌≡◌, ◌∙◌, ℕ, true, List, Option, Result, ap, subst, sym, take}
-use Rattle.std.specs.Prelude.{IfOk, IfErr, IfSome}
+use Rattle.std.proofs.Common.{◌≡◌, ◌<◌, ◌∙◌, ℕ, true, length, List, Err, Option, Result, ap, refl, subst, sym, take}
+use Rattle.std.specs.Prelude.{IfOk, IfErr, IfSome, MatchResult}
+use Rattle.usb_pipe.specs.declared.fault.PipeFault.TheVariants.{NoAnswer}
 use Rattle.usb_enum.specs.declared.stop.Stop.{Stop}
 use Rattle.usb_enum.specs.Device.{is_device}
 use Rattle.usb_enum.specs.Stop.{Told}
-use Rattle.usb_enum.specs.Present.{AnswersSo, HasDescriptor}
-use Rattle.usb_enum.specs.Readings.{AtMaximum}
+use Rattle.usb_enum.specs.Refusals.{FindsDescriptor, RefusesDescriptor}
+use Rattle.usb_enum.proofs.DeviceRefusals.{descriptor_unanswered, descriptor_none, descriptor_refused, descriptor_found, no_answer, some_answer, answered_who, refused_who, short_device}
 use Rattle.usb_enum.proofs.Heads.{bytes_answered}
-use Rattle.usb_enum.proofs.Told.{handed_on, refused_told, device_told, device_good, device_so}
+use Rattle.usb_hub.specs.Asked.{device_given}
+use Rattle.usb_enum.proofs.Frames.{text_asks}
+use Rattle.usb_enum.proofs.Told.{handed_on, refused_told, device_told, device_good}
+use Rattle.usb_enum.proofs.Refusals.{handed_match}
+use Rattle.usb_enum.proofs.Told.{handed_on, refused_told, device_told, device_good}
 use Rattle.usb_enum.proofs.passes.descriptor.Goals as goal
 
 pub returns-then-eq-clause-went : goal.returns-then-eq-clause-went
 returns-then-eq-clause-went g c = read_went c.args.target.max 18 _ _ c.requires.max c.get_device-outcome.ensures.went
 
 pub returns-then-eq-clause-keeps : goal.returns-then-eq-clause-keeps
-returns-then-eq-clause-keeps g c = c.get_device-outcome.ensures.addresses.keeps
+returns-then-eq-clause-keeps g c = text_asks device_given c.args.target _ _ _ _ _ c.get_device-outcome.ensures.asked c.get_device-outcome.ensures.what c.get_device-outcome.ensures.addresses.keeps
 
 pub returns-in_err-bytes-clause-went : goal.returns-in_err-bytes-clause-went
 returns-in_err-bytes-clause-went g c = read_went c.args.target.max 18 _ _ c.requires.max c.get_device-outcome.ensures.went
 
 pub returns-in_err-bytes-clause-keeps : goal.returns-in_err-bytes-clause-keeps
-returns-in_err-bytes-clause-keeps g c = c.get_device-outcome.ensures.addresses.keeps
+returns-in_err-bytes-clause-keeps g c = text_asks device_given c.args.target _ _ _ _ _ c.get_device-outcome.ensures.asked c.get_device-outcome.ensures.what c.get_device-outcome.ensures.addresses.keeps
 
 pub returns-in-Some-clause-went : goal.returns-in-Some-clause-went
 returns-in-Some-clause-went g c = read_went c.args.target.max 18 _ _ c.requires.max c.get_device-outcome.ensures.went
 
 pub returns-in-Some-clause-keeps : goal.returns-in-Some-clause-keeps
-returns-in-Some-clause-keeps g c = c.get_device-outcome.ensures.addresses.keeps
+returns-in-Some-clause-keeps g c = text_asks device_given c.args.target _ _ _ _ _ c.get_device-outcome.ensures.asked c.get_device-outcome.ensures.what c.get_device-outcome.ensures.addresses.keeps
 
 pub returns-clause-went : goal.returns-clause-went
 returns-clause-went g c = read_went c.args.target.max 18 _ _ c.requires.max c.get_device-outcome.ensures.went
 
 pub returns-clause-keeps : goal.returns-clause-keeps
-returns-clause-keeps g c = c.get_device-outcome.ensures.addresses.keeps
+returns-clause-keeps g c = text_asks device_given c.args.target _ _ _ _ _ c.get_device-outcome.ensures.asked c.get_device-outcome.ensures.what c.get_device-outcome.ensures.addresses.keeps
 
 pub returns-in_err-bytes-clause-told : goal.returns-in_err-bytes-clause-told
 returns-in_err-bytes-clause-told g c =
@@ -51,9 +56,41 @@ returns-in-Some-clause-device g c =
 
 pub returns-in-Some-clause-bytes : goal.returns-in-Some-clause-bytes
 returns-in-Some-clause-bytes g c =
-    let has : List ℕ → Type 0 = λ bytes. AnswersSo (AtMaximum c.args.target (HasDescriptor bytes)) c.args.target (g.B.Bus.world c.args.bus.now) (g.B.Bus.world c.get_device-outcome.new.bus) in
-    let P : Result (Option (List ℕ)) Stop → Type 0 = λ r. IfOk r (λ found. IfSome found has) in
+    let t = c.args.target in
+    let old = g.B.Bus.world c.args.bus.now in
+    let new = g.B.Bus.world c.get_device-outcome.new.bus in
+    let P : Result (Option (List ℕ)) Stop → Type 0 = λ r. MatchResult r (FindsDescriptor t old new) (λ stop. RefusesDescriptor t stop old new) in
     let front = c.in-Some.ensures.cases.same ∙ ap (take 18) c.as_slice.ensures.value in
-    subst P (sym c.device_bytes.ensures) (device_so c.args.target.low c.in-Some.bytes.now has
-    (bytes_answered c.args.target c.in_ok-bytes.bytes c.in-Some.bytes.now _ c.get_device-outcome.result _ _ (sym c.answered_or.ensures ∙ c.in_ok-bytes.was) front
-    c.get_device-outcome.ensures.asked.ends c.get_device-outcome.ensures.addresses c.get_device-outcome.ensures.what))
+    let read = sym c.answered_or.ensures ∙ c.in_ok-bytes.was in
+    subst P (sym c.device_bytes.ensures) (descriptor_found t c.in-Some.bytes.now old new
+    (bytes_answered t c.in_ok-bytes.bytes c.in-Some.bytes.now _ c.get_device-outcome.result _ _ read front
+    c.get_device-outcome.ensures.asked.ends c.get_device-outcome.ensures.addresses c.get_device-outcome.ensures.what)
+    (λ bad. record {
+      why = descriptor_refused t c.in_ok-bytes.bytes _ c.get_device-outcome.result old new read (ap (is_device t.low) (sym front) ∙ bad)
+          c.get_device-outcome.ensures.asked.ends c.get_device-outcome.ensures.addresses c.get_device-outcome.ensures.what;
+      who = λ cause e. answered_who t c.get_device-outcome.result old new c.get_device-outcome.ensures.asked c.get_device-outcome.ensures.addresses _ c.in_ok-bytes.bytes read;
+    }))
+
+pub returns-then-eq-clause-bytes : goal.returns-then-eq-clause-bytes
+returns-then-eq-clause-bytes g c =
+    let answered : c.get_device-outcome.result ≡ Err NoAnswer = no_answer _ _ c.get_device-outcome.result (sym c.eq.ensures ∙ c.if-eq.true) refl refl refl (λ why. refl) refl in
+    descriptor_none c.args.target c.get_device-outcome.result (g.B.Bus.world c.args.bus.now) (g.B.Bus.world c.get_device-outcome.new.bus) answered c.requires.max c.get_device-outcome.ensures.what c.get_device-outcome.ensures.why c.get_device-outcome.ensures.asked
+
+pub returns-clause-bytes : goal.returns-clause-bytes
+returns-clause-bytes g c =
+    let short : length c.in_ok-bytes.bytes.items < 18 = subst (λ xs. length xs < 18) c.as_slice.ensures.value c.in-None.ensures.cases in
+    record {
+      why = descriptor_refused c.args.target c.in_ok-bytes.bytes _ c.get_device-outcome.result (g.B.Bus.world c.args.bus.now) (g.B.Bus.world c.get_device-outcome.new.bus) (sym c.answered_or.ensures ∙ c.in_ok-bytes.was)
+          (short_device c.args.target.low c.in_ok-bytes.bytes.items short)
+          c.get_device-outcome.ensures.asked.ends c.get_device-outcome.ensures.addresses c.get_device-outcome.ensures.what;
+      who = λ cause e. answered_who c.args.target c.get_device-outcome.result _ _ c.get_device-outcome.ensures.asked c.get_device-outcome.ensures.addresses _ c.in_ok-bytes.bytes (sym c.answered_or.ensures ∙ c.in_ok-bytes.was);
+    }
+
+pub returns-in_err-bytes-clause-bytes : goal.returns-in_err-bytes-clause-bytes
+returns-in_err-bytes-clause-bytes g c =
+    handed_match c.from_residual.result _ _ c.in_err-bytes.field-0.0 c.from_residual.ensures.1
+    (record {
+      why = descriptor_unanswered c.args.target c.get_device-outcome.result c.in_err-bytes.field-0.0 (g.B.Bus.world c.args.bus.now) (g.B.Bus.world c.get_device-outcome.new.bus) (sym c.answered_or.ensures ∙ c.in_err-bytes.was) c.requires.max c.get_device-outcome.ensures.what c.get_device-outcome.ensures.why;
+      who = refused_who c.args.target c.get_device-outcome.result _ _ c.get_device-outcome.ensures.asked c.get_device-outcome.ensures.addresses c.in_err-bytes.field-0.0 (sym c.answered_or.ensures ∙ c.in_err-bytes.was)
+          (some_answer _ _ c.get_device-outcome.result (sym c.eq.ensures ∙ c.if-eq.false) refl);
+    })

@@ -3,45 +3,84 @@ use Rattle.usb_world.specs.Devices.{EachWas}
 use Rattle.usb_hub.specs.Settings.{AddressAsked}
 use Rattle.usb_enum.proofs.Hubs.{answered_ok}
 use Rattle.usb_enum.proofs.Presence.{address_finds}
+use Rattle.usb_enum.proofs.Reaching.{reaches_addressed, reaches_rest}
 use Rattle.usb_bus.proofs.Wents.{went_then, went_wider}
 use Rattle.usb_enum.specs.Stop.{ToldAt}
 use Rattle.usb_enum.proofs.Counts.{went_on}
-use Rattle.usb_enum.proofs.Enumerations.{within_addressed, within_on, takes_after, takes_answered}
+use Rattle.usb_enum.proofs.Enumerations.{takes_after, takes_answered}
+use Rattle.usb_enum.proofs.Frames.{at_addressed, at_asked, at_then}
+use Rattle.usb_enum.specs.Refusals.{addressed_fault, early_fault}
+use Rattle.usb_enum.proofs.Fairness.{stops_wider}
+use Rattle.usb_enum.proofs.Refusals.{handed_match}
+use Rattle.usb_enum.proofs.Stopping.{address_stops, addressed_early, descriptor_stops, pass_misses}
 use Rattle.usb_enum.proofs.Told.{handed_on, refused_told, told_at}
 use Rattle.usb_enum.proofs.passes.pass.Goals as goal
 
 pub returns-in_err-answered_or-clause-within : goal.returns-in_err-answered_or-clause-within
 returns-in_err-answered_or-clause-within g c =
-    within_addressed _ _ _ _ _ _ (c.unaddressed.ensures.within c.args.address) c.in_ok-target.ensures.target.zero c.requires.least c.set_address.ensures.gives
+    at_addressed _ c.args.address _ c.in_ok-target.target _ _ _ _ (c.unaddressed.ensures.within c.args.address) c.in_ok-target.ensures.target.zero c.requires.least c.set_address.ensures.went c.set_address.ensures.ordered c.set_address.ensures.what c.set_address.ensures.gives
 
 pub returns-in_err-bytes-clause-within : goal.returns-in_err-bytes-clause-within
 returns-in_err-bytes-clause-within g c =
-    let addressed = within_addressed _ _ _ _ _ _ (c.unaddressed.ensures.within c.args.address) c.in_ok-target.ensures.target.zero c.requires.least c.set_address.ensures.gives in
-    within_on _ _ _ _ _ addressed c.descriptor.ensures.keeps
+    let addressed = at_addressed _ c.args.address _ c.in_ok-target.target _ _ _ _ (c.unaddressed.ensures.within c.args.address) c.in_ok-target.ensures.target.zero c.requires.least c.set_address.ensures.went c.set_address.ensures.ordered c.set_address.ensures.what c.set_address.ensures.gives in
+    at_then _ _ _ _ _ _ addressed c.descriptor.ensures.went (at_asked _ _ _ _ c.descriptor.ensures.keeps)
 
 pub returns-in-Some-clause-within : goal.returns-in-Some-clause-within
 returns-in-Some-clause-within g c =
-    let addressed = within_addressed _ _ _ _ _ _ (c.unaddressed.ensures.within c.args.address) c.in_ok-target.ensures.target.zero c.requires.least c.set_address.ensures.gives in
-    within_on _ _ _ _ _ addressed c.descriptor.ensures.keeps
+    let addressed = at_addressed _ c.args.address _ c.in_ok-target.target _ _ _ _ (c.unaddressed.ensures.within c.args.address) c.in_ok-target.ensures.target.zero c.requires.least c.set_address.ensures.went c.set_address.ensures.ordered c.set_address.ensures.what c.set_address.ensures.gives in
+    at_then _ _ _ _ _ _ addressed c.descriptor.ensures.went (at_asked _ _ _ _ c.descriptor.ensures.keeps)
+
+pub returns-in_err-target-clause-taken : goal.returns-in_err-target-clause-taken
+returns-in_err-target-clause-taken g c =
+    handed_match c.from_residual.result _ _ c.in_err-target.field-0.0 c.from_residual.ensures.1
+    (stops_wider early_fault addressed_fault _ c.args.address _ _ _ addressed_early (c.in_err-target.ensures.device c.args.address))
+
+pub returns-in_err-answered_or-clause-taken : goal.returns-in_err-answered_or-clause-taken
+returns-in_err-answered_or-clause-taken g c =
+    handed_match c.from_residual-in_err-answered_or.result _ _ c.in_err-answered_or.field-0.0 c.from_residual-in_err-answered_or.ensures.1
+    (let addressed = at_addressed _ c.args.address _ c.in_ok-target.target _ _ _ _ (c.unaddressed.ensures.within c.args.address) c.in_ok-target.ensures.target.zero c.requires.least c.set_address.ensures.went c.set_address.ensures.ordered c.set_address.ensures.what c.set_address.ensures.gives in
+    address_stops c.args.port c.args.address _ _ c.in_ok-target.target c.set_address.result c.unaddressed.ensures.went c.set_address.ensures.went (c.unaddressed.ensures.within c.args.address) (c.unaddressed.ensures.within 0) addressed
+    c.in_ok-target.ensures.target (c.in_ok-target.ensures.device 0) c.set_address.ensures.ordered c.set_address.ensures.what c.set_address.ensures.why c.in_err-answered_or.field-0.0 (sym c.answered_or.ensures ∙ c.in_err-answered_or.was))
+
+pub returns-in_err-bytes-clause-taken : goal.returns-in_err-bytes-clause-taken
+returns-in_err-bytes-clause-taken g c =
+    handed_match c.from_residual-in_err-bytes.result _ _ c.in_err-bytes.field-0.0 c.from_residual-in_err-bytes.ensures.1
+    (let addressed = at_addressed _ c.args.address _ c.in_ok-target.target _ _ _ _ (c.unaddressed.ensures.within c.args.address) c.in_ok-target.ensures.target.zero c.requires.least c.set_address.ensures.went c.set_address.ensures.ordered c.set_address.ensures.what c.set_address.ensures.gives in
+    let done = answered_ok _ c.set_address.result tt (sym c.answered_or.ensures ∙ c.in_ok-answered_or.was) in
+    descriptor_stops c.args.port c.args.address _ _ _ c.in_ok-target.target c.unaddressed.ensures.went c.set_address.ensures.went c.descriptor.ensures.went (c.unaddressed.ensures.within c.args.address) (c.unaddressed.ensures.within 0) addressed
+    c.descriptor.ensures.keeps c.in_ok-target.ensures.target (c.in_ok-target.ensures.device 0) (rw done at c.set_address.ensures.ordered) (rw done at c.set_address.ensures.what)
+    c.in_err-bytes.field-0.0 c.in_err-bytes.ensures.told c.in_err-bytes.ensures.bytes)
 
 pub returns-in-Some-clause-taken : goal.returns-in-Some-clause-taken
 returns-in-Some-clause-taken g c =
-    let addressed = within_addressed _ _ _ _ _ _ (c.unaddressed.ensures.within c.args.address) c.in_ok-target.ensures.target.zero c.requires.least c.set_address.ensures.gives in
+    let addressed = at_addressed _ c.args.address _ c.in_ok-target.target _ _ _ _ (c.unaddressed.ensures.within c.args.address) c.in_ok-target.ensures.target.zero c.requires.least c.set_address.ensures.went c.set_address.ensures.ordered c.set_address.ensures.what c.set_address.ensures.gives in
     let answered = rw c.in-Some.is at c.in_ok-bytes.ensures.bytes in
     let asked = subst (λ r. (g.B.Bus.world c.set_address.new.bus).shared ≡ false → EachWas (AddressAsked c.in_ok-target.target c.args.address r (g.B.Bus.world c.unaddressed.new.bus) (g.B.Bus.world c.set_address.new.bus)) (g.B.Bus.world c.unaddressed.new.bus) (g.B.Bus.world c.set_address.new.bus))
     (answered_ok _ c.set_address.result tt (sym c.answered_or.ensures ∙ c.in_ok-answered_or.was)) c.set_address.ensures.what in
     record {
       address = refl;
-      takes = takes_after _ _ _ _ _ addressed (takes_answered _ _ _ _ c.descriptor.ensures.keeps answered.who);
+      pre = c.in_ok-target.ensures.target.pre;
+      takes = takes_after _ _ _ _ _ addressed.within (takes_answered _ _ _ _ c.descriptor.ensures.keeps.addresses answered.who);
       still = answered.still;
-      found = address_finds c.in_ok-target.target _ _ c.args.address _ c.in_ok-target.ensures.target.zero refl (c.in_ok-target.ensures.device c.args.address)
-          asked addressed answered c.descriptor.ensures.went c.descriptor.ensures.keeps;
+      found = address_finds c.in_ok-target.target _ _ c.args.address _ c.in_ok-target.ensures.target.zero refl (c.in_ok-target.ensures.device c.args.address).found
+          asked addressed.within answered c.descriptor.ensures.went c.descriptor.ensures.keeps.addresses;
+      reaches =
+          reaches_rest _ c.args.address _ c.descriptor.ensures.went c.descriptor.ensures.keeps.ports
+          (reaches_addressed _ c.args.address _ c.args.address c.in_ok-target.target _ _ _ c.set_address.ensures.went c.set_address.ensures.ordered (c.in_ok-target.ensures.device c.args.address).reaches);
     }
+
+pub returns-in-None-clause-taken : goal.returns-in-None-clause-taken
+returns-in-None-clause-taken g c =
+    let addressed = at_addressed _ c.args.address _ c.in_ok-target.target _ _ _ _ (c.unaddressed.ensures.within c.args.address) c.in_ok-target.ensures.target.zero c.requires.least c.set_address.ensures.went c.set_address.ensures.ordered c.set_address.ensures.what c.set_address.ensures.gives in
+    let done = answered_ok _ c.set_address.result tt (sym c.answered_or.ensures ∙ c.in_ok-answered_or.was) in
+    let none = rw c.in-None.is at c.in_ok-bytes.ensures.bytes in
+    pass_misses c.args.port c.args.address _ _ _ c.in_ok-target.target c.unaddressed.ensures.went c.set_address.ensures.went c.descriptor.ensures.went (c.unaddressed.ensures.within c.args.address) (c.unaddressed.ensures.within 0) addressed
+    c.descriptor.ensures.keeps c.in_ok-target.ensures.target (c.in_ok-target.ensures.device 0) (rw done at c.set_address.ensures.ordered) (rw done at c.set_address.ensures.what) none
 
 pub returns-in-None-clause-within : goal.returns-in-None-clause-within
 returns-in-None-clause-within g c =
-    let addressed = within_addressed _ _ _ _ _ _ (c.unaddressed.ensures.within c.args.address) c.in_ok-target.ensures.target.zero c.requires.least c.set_address.ensures.gives in
-    within_on _ _ _ _ _ addressed c.descriptor.ensures.keeps
+    let addressed = at_addressed _ c.args.address _ c.in_ok-target.target _ _ _ _ (c.unaddressed.ensures.within c.args.address) c.in_ok-target.ensures.target.zero c.requires.least c.set_address.ensures.went c.set_address.ensures.ordered c.set_address.ensures.what c.set_address.ensures.gives in
+    at_then _ _ _ _ _ _ addressed c.descriptor.ensures.went (at_asked _ _ _ _ c.descriptor.ensures.keeps)
 
 pub returns-in_err-target-clause-went : goal.returns-in_err-target-clause-went
 returns-in_err-target-clause-went g c = went_wider _ _ c.unaddressed.ensures.went (omega arith)

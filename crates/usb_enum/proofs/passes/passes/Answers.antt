@@ -1,14 +1,20 @@
-use Rattle.std.proofs.Common.{arith}
+use Rattle.std.proofs.Common.{◌≡◌, arith, subst}
 use Rattle.usb_bus.proofs.Wents.{went_none, went_wider}
 use Rattle.usb_hub.proofs.Ports.{port_stays}
 use Rattle.usb_enum.specs.Bounds.{pass_bound}
 use Rattle.usb_enum.proofs.Counts.{went_again, went_times, went_more}
-use Rattle.usb_enum.proofs.Enumerations.{within_none, within_then, takes_after}
+use Rattle.usb_enum.proofs.Enumerations.{takes_after}
+use Rattle.usb_enum.proofs.Frames.{at_none, at_then}
 use Rattle.usb_enum.proofs.Presence.{finds_after}
+use Rattle.usb_enum.proofs.Reaching.{reaches_after}
+use Rattle.usb_enum.specs.Fair.{Misses}
+use Rattle.usb_enum.specs.Refusals.{addressed_fault}
+use Rattle.usb_enum.proofs.Refusals.{handed_match}
+use Rattle.usb_enum.proofs.Stopping.{misses_none, misses_then, stops_then, thrice_missed}
 use Rattle.usb_enum.proofs.passes.passes.Goals as goal
 
 pub loop-pass-init : goal.loop-pass-init
-loop-pass-init g c = record { went = went_wider 0 _ went_none (omega arith); within = within_none _ _ _ }
+loop-pass-init g c = record { went = went_wider 0 _ went_none (omega arith); within = at_none _ _ _; missed = misses_none _ _ _ }
 
 pub pass-requires : goal.pass-requires
 pass-requires g c = record {
@@ -20,7 +26,8 @@ pass-requires g c = record {
 pub loop-pass-preserved : goal.loop-pass-preserved
 loop-pass-preserved g c = record {
   went = went_again _ (pass_bound c.args.port) _ _ _ c.loop-pass.invariant.went c.pass.ensures.went;
-  within = within_then _ _ _ _ _ c.loop-pass.invariant.within c.pass.ensures.within;
+  within = at_then _ _ _ _ _ _ c.loop-pass.invariant.within c.pass.ensures.went c.pass.ensures.within;
+  missed = misses_then _ _ _ _ _ c.loop-pass.invariant.went c.pass.ensures.went c.loop-pass.invariant.within c.pass.ensures.within c.loop-pass.invariant.missed (rw c.in_default.is at c.in_ok-device.ensures.taken);
 }
 
 pub returns-in_err-device-clause-went : goal.returns-in_err-device-clause-went
@@ -37,7 +44,25 @@ returns-in-Some-clause-taken g c =
     let one = rw c.in-Some.is at c.in_ok-device.ensures.taken in
     record {
       address = one.address;
-      takes = takes_after _ _ _ _ _ c.loop-pass.invariant.within one.takes;
+      pre = one.pre;
+      takes = takes_after _ _ _ _ _ c.loop-pass.invariant.within.within one.takes;
       still = one.still;
-      found = finds_after _ _ _ _ c.loop-pass.invariant.went c.loop-pass.invariant.within one.found;
+      found = finds_after _ _ _ _ c.loop-pass.invariant.went c.loop-pass.invariant.within.within one.found;
+      reaches = reaches_after _ _ _ _ c.loop-pass.invariant.went c.pass.ensures.went c.loop-pass.invariant.within one.reaches;
     }
+
+pub returns-in_err-device-clause-within : goal.returns-in_err-device-clause-within
+returns-in_err-device-clause-within g c = at_then _ _ _ _ _ _ c.loop-pass.invariant.within c.pass.ensures.went c.pass.ensures.within
+
+pub returns-in-Some-clause-within : goal.returns-in-Some-clause-within
+returns-in-Some-clause-within g c = at_then _ _ _ _ _ _ c.loop-pass.invariant.within c.pass.ensures.went c.pass.ensures.within
+
+pub returns-in_err-device-clause-taken : goal.returns-in_err-device-clause-taken
+returns-in_err-device-clause-taken g c =
+    handed_match c.from_residual.result _ _ c.in_err-device.field-0.0 c.from_residual.ensures.1
+    (stops_then _ _ _ _ _ c.loop-pass.invariant.went c.pass.ensures.went c.loop-pass.invariant.within c.pass.ensures.within c.loop-pass.invariant.missed addressed_fault c.in_err-device.field-0.0 c.in_err-device.ensures.taken)
+
+pub returns-clause-taken : goal.returns-clause-taken
+returns-clause-taken g c =
+    let three : c.loop-pass._pass ≡ 3 = omega (arith, c.loop-pass-test.false, c.loop-pass.auto._pass-end) in
+    thrice_missed addressed_fault _ _ _ _ _ (subst (λ k. Misses c.args.port c.args.address k (g.B.Bus.world c.args.bus.now) (g.B.Bus.world c.loop-pass.bus)) three c.loop-pass.invariant.missed)

@@ -1,10 +1,16 @@
 use Rattle.std.proofs.Common.{arith}
 use Rattle.usb_bus.proofs.Wents.{went_then, went_wider}
-use Rattle.usb_address.proofs.Keeping.{keeps_then}
 use Rattle.usb_hub.proofs.Ports.{port_stays}
 use Rattle.usb_enum.proofs.Counts.{went_on}
-use Rattle.usb_enum.proofs.Enumerations.{within_on, within_reset}
+use Rattle.usb_enum.proofs.Frames.{at_reset, at_asked, at_then}
 use Rattle.usb_enum.proofs.Presence.{reset_finds}
+use Rattle.usb_enum.proofs.Reaching.{reset_reaches}
+use Rattle.usb_device.specs.Calls.{set_call, clear_call}
+use Rattle.usb_enum.specs.Refusals.{no_fault}
+use Rattle.usb_enum.specs.declared.stop.Stop.TheVariants.{Fault}
+use Rattle.usb_enum.proofs.Fairness.{called_faulted, faulted_after, status_faulted, stops_faulted}
+use Rattle.usb_enum.proofs.Refusals.{handed_match}
+use Rattle.usb_enum.proofs.Stopping.{reset_goes, reset_lost, settle_failed, unfalse, untrue}
 use Rattle.usb_enum.proofs.passes.reset.Goals as goal
 
 pub read_status-requires : goal.read_status-requires
@@ -17,33 +23,73 @@ pub returns-in_err-begin_reset-clause-went : goal.returns-in_err-begin_reset-cla
 returns-in_err-begin_reset-clause-went g c = went_wider _ _ c.begin_reset.ensures.went (omega arith)
 
 pub returns-in_err-begin_reset-clause-within : goal.returns-in_err-begin_reset-clause-within
-returns-in_err-begin_reset-clause-within g c = λ a. within_reset _ a _ _ c.begin_reset.ensures.resets
+returns-in_err-begin_reset-clause-within g c = λ a. at_reset _ a _ _ c.begin_reset.ensures.resets (c.begin_reset.ensures.only a)
 
 pub returns-in_err-status-clause-went : goal.returns-in_err-status-clause-went
 returns-in_err-status-clause-went g c = went_on _ _ _ _ _ _ c.begin_reset.ensures.went c.read_status.ensures.went (omega arith)
 
 pub returns-in_err-status-clause-within : goal.returns-in_err-status-clause-within
-returns-in_err-status-clause-within g c = λ a. within_on _ a _ _ _ (within_reset _ a _ _ c.begin_reset.ensures.resets) c.read_status.ensures.keeps
+returns-in_err-status-clause-within g c = λ a. at_then _ a _ _ _ _ (at_reset _ a _ _ c.begin_reset.ensures.resets (c.begin_reset.ensures.only a)) c.read_status.ensures.went (at_asked _ a _ _ c.read_status.ensures.keeps)
 
 pub returns-then-not-status-clause-went : goal.returns-then-not-status-clause-went
 returns-then-not-status-clause-went g c = went_on _ _ _ _ _ _ c.begin_reset.ensures.went c.read_status.ensures.went (omega arith)
 
 pub returns-then-not-status-clause-within : goal.returns-then-not-status-clause-within
-returns-then-not-status-clause-within g c = λ a. within_on _ a _ _ _ (within_reset _ a _ _ c.begin_reset.ensures.resets) c.read_status.ensures.keeps
+returns-then-not-status-clause-within g c = λ a. at_then _ a _ _ _ _ (at_reset _ a _ _ c.begin_reset.ensures.resets (c.begin_reset.ensures.only a)) c.read_status.ensures.went (at_asked _ a _ _ c.read_status.ensures.keeps)
 
 pub returns-in_err-settle-clause-went : goal.returns-in_err-settle-clause-went
 returns-in_err-settle-clause-went g c = went_on _ _ _ _ _ _ (went_then _ _ c.begin_reset.ensures.went c.read_status.ensures.went) c.settle.ensures.went (omega arith)
 
 pub returns-in_err-settle-clause-within : goal.returns-in_err-settle-clause-within
-returns-in_err-settle-clause-within g c = λ a. within_on _ a _ _ _ (within_reset _ a _ _ c.begin_reset.ensures.resets) (keeps_then _ _ _ c.read_status.ensures.keeps c.settle.ensures.keeps)
+returns-in_err-settle-clause-within g c = λ a. at_then _ a _ _ _ _ (at_then _ a _ _ _ _ (at_reset _ a _ _ c.begin_reset.ensures.resets (c.begin_reset.ensures.only a)) c.read_status.ensures.went (at_asked _ a _ _ c.read_status.ensures.keeps)) c.settle.ensures.went (c.settle.ensures.within a)
 
 pub returns-clause-went : goal.returns-clause-went
 returns-clause-went g c = went_on _ _ _ _ _ _ (went_then _ _ c.begin_reset.ensures.went c.read_status.ensures.went) c.settle.ensures.went (omega arith)
 
 pub returns-clause-within : goal.returns-clause-within
-returns-clause-within g c = λ a. within_on _ a _ _ _ (within_reset _ a _ _ c.begin_reset.ensures.resets) (keeps_then _ _ _ c.read_status.ensures.keeps c.settle.ensures.keeps)
+returns-clause-within g c = λ a. at_then _ a _ _ _ _ (at_then _ a _ _ _ _ (at_reset _ a _ _ c.begin_reset.ensures.resets (c.begin_reset.ensures.only a)) c.read_status.ensures.went (at_asked _ a _ _ c.read_status.ensures.keeps)) c.settle.ensures.went (c.settle.ensures.within a)
 
-pub returns-clause-low : goal.returns-clause-low
-returns-clause-low g c = λ a none.
-    let within = within_on _ a _ _ _ (within_reset _ a _ _ c.begin_reset.ensures.resets) (keeps_then _ _ _ c.read_status.ensures.keeps c.settle.ensures.keeps) in
-    reset_finds _ a _ _ _ _ c.begin_reset.ensures.went c.read_status.ensures.went c.settle.ensures.went c.begin_reset.ensures.resets c.in_ok-status.ensures.tells c.settle.ensures.devices within none
+pub returns-in_err-begin_reset-clause-found : goal.returns-in_err-begin_reset-clause-found
+returns-in_err-begin_reset-clause-found g c =
+    handed_match c.from_residual.result _ _ (Fault c.in_err-begin_reset.field-0.0) c.from_residual.ensures.1
+    (λ a. stops_faulted no_fault c.args.port a c.in_err-begin_reset.field-0.0 _ _
+    (called_faulted c.args.port a _ (set_call 4) c.in_err-begin_reset.field-0.0 c.begin_reset.ensures.went (at_reset _ a _ _ c.begin_reset.ensures.resets (c.begin_reset.ensures.only a)) c.in_err-begin_reset.ensures.told c.in_err-begin_reset.ensures.calls))
+
+pub returns-in_err-status-clause-found : goal.returns-in_err-status-clause-found
+returns-in_err-status-clause-found g c =
+    handed_match c.from_residual-in_err-status.result _ _ (Fault c.in_err-status.field-0.0) c.from_residual-in_err-status.ensures.1
+    (λ a. stops_faulted no_fault c.args.port a c.in_err-status.field-0.0 _ _
+    (faulted_after c.args.port a _ _ c.in_err-status.field-0.0 c.begin_reset.ensures.went c.read_status.ensures.went (at_reset _ a _ _ c.begin_reset.ensures.resets (c.begin_reset.ensures.only a))
+    (status_faulted c.args.port a _ c.in_err-status.field-0.0 c.read_status.ensures.went (at_asked _ a _ _ c.read_status.ensures.keeps) c.in_err-status.ensures.told c.in_err-status.ensures.status)))
+
+pub returns-then-not-status-clause-found : goal.returns-then-not-status-clause-found
+returns-then-not-status-clause-found g c = λ a.
+    reset_lost _ a _ _ _ c.begin_reset.ensures.went c.read_status.ensures.went (at_reset _ a _ _ c.begin_reset.ensures.resets (c.begin_reset.ensures.only a)) c.read_status.ensures.keeps
+    (rw c.in_ok-begin_reset.was at c.begin_reset.ensures.calls) (rw c.in_ok-status.was at c.read_status.ensures.status) (untrue c.in_ok-status.status.enabled c.if-not-status.true)
+
+pub returns-in_err-settle-clause-found : goal.returns-in_err-settle-clause-found
+returns-in_err-settle-clause-found g c =
+    handed_match c.from_residual-in_err-settle.result _ _ (Fault c.in_err-settle.field-0.0) c.from_residual-in_err-settle.ensures.1
+    (λ a.
+    let begun = at_reset _ a _ _ c.begin_reset.ensures.resets (c.begin_reset.ensures.only a) in
+    let told = at_then _ a _ _ _ _ begun c.read_status.ensures.went (at_asked _ a _ _ c.read_status.ensures.keeps) in
+    stops_faulted no_fault c.args.port a c.in_err-settle.field-0.0 _ _
+    (faulted_after c.args.port a _ _ c.in_err-settle.field-0.0 (went_then _ _ c.begin_reset.ensures.went c.read_status.ensures.went) c.settle.ensures.went told
+    (called_faulted c.args.port a _ (clear_call 20) c.in_err-settle.field-0.0 c.settle.ensures.went (c.settle.ensures.within a) c.in_err-settle.ensures.told
+    (settle_failed c.args.port c.in_ok-status.status.reset_changed c.in_err-settle.field-0.0 _ _ c.in_err-settle.ensures.calls))))
+
+pub returns-clause-found : goal.returns-clause-found
+returns-clause-found g c = λ a.
+    let begun = at_reset _ a _ _ c.begin_reset.ensures.resets (c.begin_reset.ensures.only a) in
+    let told = at_then _ a _ _ _ _ begun c.read_status.ensures.went (at_asked _ a _ _ c.read_status.ensures.keeps) in
+    let called = rw c.in_ok-begin_reset.was at c.begin_reset.ensures.calls in
+    let shown = rw c.in_ok-status.was at c.read_status.ensures.status in
+    let settles = rw c.in_ok-settle.was at c.settle.ensures.calls in
+    record {
+      speed = λ none.
+          reset_finds _ a _ _ _ _ c.begin_reset.ensures.went c.read_status.ensures.went c.settle.ensures.went c.begin_reset.ensures.resets shown c.settle.ensures.devices
+          (at_then _ a _ _ _ _ told c.settle.ensures.went (c.settle.ensures.within a)).within none;
+      reaches =
+          reset_reaches _ a _ _ _ _ c.begin_reset.ensures.went c.read_status.ensures.went c.settle.ensures.went begun c.read_status.ensures.keeps told (c.settle.ensures.within a) shown (unfalse c.in_ok-status.status.enabled c.if-not-status.false) settles;
+      goes = reset_goes c.args.port _ _ _ _ _ _ c.begin_reset.ensures.went c.read_status.ensures.went c.settle.ensures.went called shown settles;
+    }

@@ -3,20 +3,23 @@ use Rattle.std.specs.Prelude.{IfErr}
 use Rattle.usb_world.proofs.Devices.{each_none}
 use Rattle.usb_enum.specs.declared.fault.EnumFault.{EnumFault}
 use Rattle.usb_bus.proofs.Wents.{went_none, went_wider}
-use Rattle.usb_address.proofs.Keeping.{keeps_none}
 use Rattle.usb_hub.specs.Addresses.{StaysAs}
 use Rattle.usb_enum.specs.Stop.{FaultAt}
+use Rattle.usb_enum.proofs.Frames.{at_none, at_reset_cleared}
+use Rattle.usb_device.specs.Calls.{clear_call}
+use Rattle.usb_device.specs.declared.calls.PortCall.TheVariants.{ClearResetChange}
+use Rattle.usb_enum.proofs.Stretches.{clear_goes}
 use Rattle.usb_enum.proofs.Told.{port_told, clear_fails}
 use Rattle.usb_enum.proofs.passes.settle.Goals as goal
 
 pub returns-then-not-changed-clause-went : goal.returns-then-not-changed-clause-went
 returns-then-not-changed-clause-went g c = went_wider 0 _ went_none (omega arith)
 
-pub returns-then-not-changed-clause-keeps : goal.returns-then-not-changed-clause-keeps
-returns-then-not-changed-clause-keeps g c = keeps_none _
+pub returns-then-not-changed-clause-within : goal.returns-then-not-changed-clause-within
+returns-then-not-changed-clause-within g c = λ a. at_none _ a _
 
 pub returns-then-not-changed-clause-devices : goal.returns-then-not-changed-clause-devices
-returns-then-not-changed-clause-devices g c = record { stays = λ single. each_none StaysAs (λ j p s. (refl, refl)) _ }
+returns-then-not-changed-clause-devices g c = record { stays = λ single. each_none StaysAs (λ j p s. (refl, refl, refl)) _ }
 
 pub returns-clause-went : goal.returns-clause-went
 returns-clause-went g c = c.clear_port.ensures.went
@@ -26,8 +29,18 @@ returns-clause-told g c =
     let P : Result (Unit {0}) EnumFault → Type 0 = λ r. IfErr r (λ fault. FaultAt c.args.port fault (g.B.Bus.world c.clear_port.new.bus)) in
     subst P (sym c.at_port.ensures) (port_told c.args.port 1 _ _ c.clear_port.result (clear_fails c.args.port 20 _ _ c.clear_port.result c.clear_port.ensures.effect) c.clear_port.ensures.fault)
 
-pub returns-clause-keeps : goal.returns-clause-keeps
-returns-clause-keeps g c = c.clear_port.ensures.addresses.keeps
+pub returns-clause-within : goal.returns-clause-within
+returns-clause-within g c = λ a. at_reset_cleared _ a _ _ _ c.clear_port.ensures.fault c.clear_port.ensures.ports c.clear_port.ensures.addresses
 
 pub returns-clause-devices : goal.returns-clause-devices
 returns-clause-devices g c = c.clear_port.ensures.addresses.devices
+
+pub returns-then-not-changed-clause-calls : goal.returns-then-not-changed-clause-calls
+returns-then-not-changed-clause-calls g c = record { unset = λ e. (refl, refl); set = λ e. absurd cc }
+
+pub returns-clause-calls : goal.returns-clause-calls
+unfolding clear_call
+returns-clause-calls g c = record {
+  unset = λ e. absurd cc;
+  set = λ e. record { outcome = c.clear_port.result; told = c.at_port.ensures; calls = c.clear_port.ensures.ports; goes = clear_goes c.args.port 20 ClearResetChange _ _ _ refl refl refl c.clear_port.ensures.effect };
+}

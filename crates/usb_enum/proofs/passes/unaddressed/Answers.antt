@@ -1,15 +1,24 @@
-use Rattle.std.proofs.Common.{arith}
+use Rattle.std.proofs.Common.{◌&&◌, ◌∙◌, ap, arith, sym}
 use Rattle.usb_bus.proofs.Wents.{went_wider}
 use Rattle.usb_enum.proofs.Counts.{went_on}
-use Rattle.usb_enum.proofs.Enumerations.{within_on}
+use Rattle.usb_enum.proofs.Frames.{at_asked, at_then}
 use Rattle.usb_enum.proofs.Presence.{unaddressed_finds}
+use Rattle.usb_enum.specs.Refusals.{early_fault, no_fault}
+use Rattle.usb_enum.proofs.Fairness.{stops_wider}
+use Rattle.usb_enum.proofs.Reaching.{reaches_rest}
+use Rattle.usb_enum.proofs.Refusals.{handed_match}
+use Rattle.usb_enum.proofs.Courses.{went_sound}
+use Rattle.usb_enum.proofs.Stopping.{head_stops}
+use Rattle.usb_enum.proofs.Stretches.{goes_then}
+use Rattle.usb_enum.specs.Device.{needs_pre}
 use Rattle.usb_enum.proofs.passes.unaddressed.Goals as goal
+use Rattle.usb_enum.proofs.passes.unaddressed.Goals.{then-low, else-low}
 
 pub returns-in_err-max-clause-within : goal.returns-in_err-max-clause-within
-returns-in_err-max-clause-within g c = λ a. within_on _ a _ _ _ (c.reset.ensures.within a) c.first_maximum.ensures.keeps
+returns-in_err-max-clause-within g c = λ a. at_then _ a _ _ _ _ (c.reset.ensures.within a) c.first_maximum.ensures.went (at_asked _ a _ _ c.first_maximum.ensures.keeps)
 
 pub returns-clause-within : goal.returns-clause-within
-returns-clause-within g c = λ a. within_on _ a _ _ _ (c.reset.ensures.within a) c.first_maximum.ensures.keeps
+returns-clause-within g c = λ a. at_then _ a _ _ _ _ (c.reset.ensures.within a) c.first_maximum.ensures.went (at_asked _ a _ _ c.first_maximum.ensures.keeps)
 
 pub returns-in_err-low-clause-went : goal.returns-in_err-low-clause-went
 returns-in_err-low-clause-went g c = went_wider _ _ c.reset.ensures.went (omega arith)
@@ -20,6 +29,26 @@ returns-in_err-max-clause-went g c = went_on _ _ _ _ _ _ c.reset.ensures.went c.
 pub returns-clause-went : goal.returns-clause-went
 returns-clause-went g c = went_on _ _ _ _ _ _ c.reset.ensures.went c.first_maximum.ensures.went (omega arith)
 
+pub returns-in_err-low-clause-device : goal.returns-in_err-low-clause-device
+returns-in_err-low-clause-device g c =
+    handed_match c.from_residual.result _ _ c.in_err-low.field-0.0 c.from_residual.ensures.1
+    (λ a. stops_wider no_fault early_fault _ a _ _ _ (λ spec cause e. absurd cc) (c.in_err-low.ensures.found a))
+
+pub returns-in_err-max-clause-device : goal.returns-in_err-max-clause-device
+returns-in_err-max-clause-device g c =
+    handed_match c.from_residual-in_err-max.result _ _ c.in_err-max.field-0.0 c.from_residual-in_err-max.ensures.1
+    (λ a. head_stops c.args.port a _ _ c.in_ok-low.low _ _ c.reset.ensures.went c.first_maximum.ensures.went (c.reset.ensures.within a) (c.reset.ensures.within 0) c.first_maximum.ensures.keeps (c.in_ok-low.ensures.found 0)
+    (elim c.if-low.branch [
+      | then-low w ↦ w.pre-is ∙ w.needs_pre-pre.ensures ∙ sym (ap (λ b. b && needs_pre c.args.port) w.if-low.true)
+      | else-low w ↦ w.pre-is ∙ w.if-low.false ∙ sym (ap (λ b. b && needs_pre c.args.port) w.if-low.false)
+    ])
+    c.in_err-max.ensures.told c.in_err-max.ensures.head)
+
 pub returns-clause-device : goal.returns-clause-device
 returns-clause-device g c = λ a.
-    unaddressed_finds _ a _ c.in_ok-low.low _ _ (c.in_ok-low.ensures.low a) c.in_ok-max.ensures.head c.first_maximum.ensures.went (c.reset.ensures.within a) c.first_maximum.ensures.keeps
+    let was = c.in_ok-low.ensures.found a in
+    record {
+      found = unaddressed_finds _ a _ c.in_ok-low.low _ _ was.speed c.in_ok-max.ensures.head.answers c.first_maximum.ensures.went (c.reset.ensures.within a).within c.first_maximum.ensures.keeps.addresses;
+      reaches = reaches_rest _ a _ c.first_maximum.ensures.went c.first_maximum.ensures.keeps.ports was.reaches;
+      goes = λ none. goes_then _ _ _ (was.goes (went_sound _ _ _ c.first_maximum.ensures.went none)) c.in_ok-max.ensures.head.goes;
+    }

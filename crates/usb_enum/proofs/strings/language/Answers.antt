@@ -1,5 +1,6 @@
 use Rattle.std.proofs.Common.{◌∙◌, ap, option_and_then, sym}
 use Rattle.usb_enum.specs.Text.{first_language_of}
+use Rattle.usb_enum.proofs.Refusals.{handed_match}
 use Rattle.usb_enum.proofs.StringReadings.{items_in, language_learned}
 use Rattle.usb_enum.proofs.strings.language.Goals as goal
 
@@ -14,3 +15,6 @@ returns-in-None-clause-learned g c =
     language_learned c.args.target c.in_ok-bytes.field-0 _ (g.B.Bus.world c.args.bus.now) (g.B.Bus.world c.string_bytes.new.bus)
     (ap (λ o. option_and_then first_language_of (items_in o)) (sym c.in-None.is))
     c.in_ok-bytes.ensures.learned
+
+pub returns-in_err-bytes-clause-learned : goal.returns-in_err-bytes-clause-learned
+returns-in_err-bytes-clause-learned g c = handed_match c.from_residual.result _ _ c.in_err-bytes.field-0.0 c.from_residual.ensures.1 c.in_err-bytes.ensures.learned

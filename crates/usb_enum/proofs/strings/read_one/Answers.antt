@@ -1,7 +1,12 @@
 use Rattle.std.proofs.Common.{◌∙◌, ap, arith, option_and_then, sym}
 use Rattle.usb_bus.proofs.Wents.{went_none, went_wider}
-use Rattle.usb_address.proofs.Keeping.{keeps_none}
+use Rattle.usb_enum.proofs.Frames.{asks_none}
+use Rattle.usb_enum.specs.declared.fault.EnumFault.TheVariants.{Memory}
+use Rattle.usb_enum.specs.declared.stop.Stop.TheVariants.{Fault}
+use Rattle.usb_enum.specs.Readings.{AtMaximum, HasString}
+use Rattle.usb_enum.specs.Refusals.{no_fault}
 use Rattle.usb_enum.specs.Text.{units_of}
+use Rattle.usb_enum.proofs.Refusals.{fault_explains, handed_match}
 use Rattle.usb_enum.proofs.StringReadings.{items_in, units_learned, unnamed_learned}
 use Rattle.usb_enum.proofs.strings.read_one.Goals as goal
 
@@ -9,7 +14,7 @@ pub returns-then-index-eq0-clause-went : goal.returns-then-index-eq0-clause-went
 returns-then-index-eq0-clause-went g c = went_wider 0 _ went_none (omega arith)
 
 pub returns-then-index-eq0-clause-keeps : goal.returns-then-index-eq0-clause-keeps
-returns-then-index-eq0-clause-keeps g c = keeps_none _
+returns-then-index-eq0-clause-keeps g c = asks_none _
 
 pub returns-then-index-eq0-clause-learned : goal.returns-then-index-eq0-clause-learned
 returns-then-index-eq0-clause-learned g c = unnamed_learned c.args.target c.args.index (g.B.Bus.world c.args.bus.now) c.if-index-eq0.true
@@ -25,3 +30,12 @@ returns-in-None-clause-learned g c =
     units_learned c.args.target c.args.index c.in_ok-bytes.field-0 _ (g.B.Bus.world c.args.bus.now) (g.B.Bus.world c.string_bytes.new.bus) c.if-index-eq0.false
     (ap (λ o. option_and_then units_of (items_in o)) (sym c.in-None.is))
     c.in_ok-bytes.ensures.learned
+
+pub returns-in_err-bytes-clause-learned : goal.returns-in_err-bytes-clause-learned
+returns-in_err-bytes-clause-learned g c = handed_match c.from_residual.result _ _ c.in_err-bytes.field-0.0 c.from_residual.ensures.1 c.in_err-bytes.ensures.learned
+
+pub returns-in_err-units_of-in-Some-clause-learned : goal.returns-in_err-units_of-in-Some-clause-learned
+returns-in_err-units_of-in-Some-clause-learned g c =
+    handed_match c.from_residual-in_err-units_of-in-Some.result _ _ (Fault Memory) c.from_residual-in_err-units_of-in-Some.ensures.1
+    (fault_explains (AtMaximum c.args.target (HasString c.args.index c.in_ok-bytes.field-0)) c.args.target no_fault Memory (g.B.Bus.world c.args.bus.now) (g.B.Bus.world c.string_bytes.new.bus)
+    c.in_ok-bytes.ensures.learned)

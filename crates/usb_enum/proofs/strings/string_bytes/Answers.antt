@@ -1,6 +1,9 @@
 use Rattle.std.proofs.Common.{◌∙◌, sym}
+use Rattle.usb_hub.specs.Asked.{string_given}
+use Rattle.usb_enum.proofs.Frames.{text_asks}
 use Rattle.usb_enum.proofs.Counts.{read_went}
 use Rattle.usb_enum.proofs.StringReadings.{string_learned, no_string_learned}
+use Rattle.usb_enum.proofs.StringRefusals.{string_unrefused}
 use Rattle.usb_enum.proofs.strings.string_bytes.Goals as goal
 
 pub returns-in-Ok-clause-went : goal.returns-in-Ok-clause-went
@@ -20,3 +23,17 @@ pub returns-in-None-clause-learned : goal.returns-in-None-clause-learned
 returns-in-None-clause-learned g c =
     no_string_learned c.args.target c.args.index c.get_string.result c.in-Err.fault (g.B.Bus.world c.args.bus.now) (g.B.Bus.world c.get_string.new.bus)
     c.in-Err.is (sym c.stop_of.ensures ∙ c.in-None.is) c.get_string.ensures.what
+
+pub returns-in-Ok-clause-keeps : goal.returns-in-Ok-clause-keeps
+returns-in-Ok-clause-keeps g c = text_asks (string_given c.args.index) c.args.target _ _ _ _ _ c.get_string.ensures.asked c.get_string.ensures.what c.get_string.ensures.keeps
+
+pub returns-in-Some-clause-keeps : goal.returns-in-Some-clause-keeps
+returns-in-Some-clause-keeps g c = text_asks (string_given c.args.index) c.args.target _ _ _ _ _ c.get_string.ensures.asked c.get_string.ensures.what c.get_string.ensures.keeps
+
+pub returns-in-None-clause-keeps : goal.returns-in-None-clause-keeps
+returns-in-None-clause-keeps g c = text_asks (string_given c.args.index) c.args.target _ _ _ _ _ c.get_string.ensures.asked c.get_string.ensures.what c.get_string.ensures.keeps
+
+pub returns-in-Some-clause-learned : goal.returns-in-Some-clause-learned
+returns-in-Some-clause-learned g c =
+    string_unrefused c.args.target c.args.index c.get_string.result c.in-Err.fault c.in-Some.stop (g.B.Bus.world c.args.bus.now) (g.B.Bus.world c.get_string.new.bus)
+    c.in-Err.is (sym c.stop_of.ensures ∙ c.in-Some.is) c.requires.max c.get_string.ensures.what c.get_string.ensures.why

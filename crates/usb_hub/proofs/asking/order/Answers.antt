@@ -1,3 +1,4 @@
+use Rattle.usb_hub.proofs.Orders.{order_elsewhere}
 use Rattle.usb_hub.proofs.Rests.{write_rests}
 use Rattle.usb_hub.proofs.asking.order.Goals as goal
 
@@ -8,4 +9,5 @@ returns-clause-ordered g c = record {
   stages = c.control_none.ensures.stages;
   room = c.control_none.ensures.room;
   rests = write_rests c.args.target c.args.setup c.control_none.result _ _ c.control_none.ensures.settled c.control_none.ensures.stages;
+  elsewhere = order_elsewhere c.args.target c.args.setup c.control_none.result _ _ c.control_none.ensures.stages;
 }

@@ -32,7 +32,7 @@ pub returns-in-Some-2-clause-on : goal.returns-in-Some-2-clause-on
 returns-in-Some-2-clause-on g c =
     let reaches = subst (λ x. Reaches c.events.host (Ok x) c.next_due.new.host) c.in-Some.is c.in_ok-due.ensures.on.goes in
     record {
-      goes = asked c.in-Some.due (reaches_after c.events.invariant.goes reaches) c.in_ok-item.ensures.on.goes (subst (λ x. IsItemOf c.in-Some.due x c.item_of.new.host) c.in-Some-2.is c.in_ok-item.ensures.item);
+      goes = asked c.in-Some.due (reaches_after c.events.invariant.goes reaches) c.in_ok-item.ensures.on.goes (subst (λ x. IsItemOf c.in-Some.due x c.next_due.new.host c.item_of.new.host) c.in-Some-2.is c.in_ok-item.ensures.item);
       running = c.in_ok-item.ensures.on.running;
       caused = tt;
     }
@@ -47,6 +47,6 @@ events-preserved g c =
     let reaches = subst (λ x. Reaches c.events.host (Ok x) c.next_due.new.host) c.in-Some.is c.in_ok-due.ensures.on.goes in
     record {
       running = c.in_ok-item.ensures.on.running;
-      goes = ran_changed c.in-Some.due c.item_of.new.host c.events.invariant.goes reaches c.in_ok-item.ensures.on.goes (subst (λ x. IsItemOf c.in-Some.due x c.item_of.new.host) c.in_default-2.is c.in_ok-item.ensures.item);
+      goes = ran_changed c.in-Some.due c.item_of.new.host c.events.invariant.goes reaches c.in_ok-item.ensures.on.goes (subst (λ x. IsItemOf c.in-Some.due x c.next_due.new.host c.item_of.new.host) c.in_default-2.is c.in_ok-item.ensures.item);
       owning = λ o. c.item_of.ensures.owning (c.next_due.ensures.owning (c.events.invariant.owning o));
     }

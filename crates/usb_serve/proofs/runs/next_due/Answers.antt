@@ -1,3 +1,4 @@
+use Rattle.std.proofs.Common.{refl}
 use Rattle.usb_bus.specs.Sim.{world_of}
 use Rattle.usb_serve.specs.Ran.{idle, worked}
 use Rattle.usb_serve.specs.Run.{run_fault}
@@ -21,16 +22,16 @@ returns-clause-owning g c = λ o.
 
 pub returns-clause-on : goal.returns-clause-on
 returns-clause-on g c = record {
-  goes = reaches_taken c.args.host.now c.settle.new.host _ _ c.settle.ensures.on.goes c.bus_mut.ensures.world c.bus_mut.ensures.trace c.in_ok-apply_next_event.ensures.takes;
+  goes = reaches_taken c.args.host.now c.settle.new.host _ _ c.settle.ensures.on.goes c.in_ok-settle.ensures.rests c.bus_mut.ensures.agree refl c.bus_mut.ensures.world c.bus_mut.ensures.trace c.in_ok-apply_next_event.ensures.takes;
   running = c.in_ok-settle.ensures.on.running;
   caused = tt;
 }
 
 pub returns-in_err-apply_next_event-clause-on : goal.returns-in_err-apply_next_event-clause-on
 returns-in_err-apply_next_event-clause-on g c =
-    let reaches = reaches_taken c.args.host.now c.settle.new.host _ c.apply_next_event.result c.settle.ensures.on.goes c.bus_mut.ensures.world c.bus_mut.ensures.trace c.apply_next_event.ensures.takes in
+    let reaches = reaches_taken c.args.host.now c.settle.new.host _ c.apply_next_event.result c.settle.ensures.on.goes c.in_ok-settle.ensures.rests c.bus_mut.ensures.agree refl c.bus_mut.ensures.world c.bus_mut.ensures.trace c.apply_next_event.ensures.takes in
     stopped_on NextEvent c.from_residual-in_err-apply_next_event.result (run_fault c.in_err-apply_next_event.field-0.0) c.from_residual-in_err-apply_next_event.ensures.1
-    (λ e. at_event c.apply_next_event.result reaches (works_none _)) (caused_by _ _ c.in_err-apply_next_event.ensures.takes.took.ends)
+    (λ e. at_event c.apply_next_event.result reaches (works_none _ c.in_ok-settle.ensures.on.running)) (caused_by _ _ c.in_err-apply_next_event.ensures.takes.took.ends)
 
 pub returns-in_err-settle-clause-on : goal.returns-in_err-settle-clause-on
 returns-in_err-settle-clause-on g c =

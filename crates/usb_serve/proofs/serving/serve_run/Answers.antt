@@ -6,7 +6,7 @@ use Rattle.usb_serve.proofs.serving.serve_run.Goals as goal
 
 pub returns-in-Ok-clause-written : goal.returns-in-Ok-clause-written
 returns-in-Ok-clause-written g c =
-    run_written c.args.plan.now _ _ c.in-Ok.runner.host c.trace_run-result.new.runner.host c.trace_run-result.result _ c.in-Ok.ensures.powered c.in-Ok.ensures.going c.trace_run-result.ensures.ends c.trace_run-result.new.runner.owning.single
+    run_written c.args.plan.now _ _ c.in-Ok.runner.host c.trace_run-result.new.runner.host c.trace_run-result.result _ c.in-Ok.ensures.opened c.in-Ok.ensures.going c.trace_run-result.ensures.ends c.trace_run-result.new.runner.owning.single
     c.into_writer.ensures.trace
 
 pub returns-in-Err-clause-written : goal.returns-in-Err-clause-written

@@ -14,7 +14,7 @@ pub returns-in-Err-clause-written : goal.returns-in-Err-clause-written
 returns-in-Err-clause-written g c = tree_unopened c.args.plan.now _ _
 
 pub items-init : goal.items-init
-items-init g c = tree_begun c.args.plan.now _ _ c.in-Ok.runner.over c.in-Ok.runner.host c.in-Ok.ensures.powered c.in-Ok.ensures.going c.in-Ok.runner.few_events
+items-init g c = tree_begun c.args.plan.now _ _ c.in-Ok.runner.over c.in-Ok.runner.host c.in-Ok.ensures.opened c.in-Ok.ensures.going c.in-Ok.runner.few_events
 
 pub returns-in_err-item-clause-written : goal.returns-in_err-item-clause-written
 returns-in_err-item-clause-written g c =

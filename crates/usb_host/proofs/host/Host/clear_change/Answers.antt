@@ -1,6 +1,13 @@
-use Rattle.std.proofs.Common.{refl}
-use Rattle.usb_address.proofs.Keeping.{keeps_then}
-use Rattle.usb_host.proofs.Handlings.{match_err, bares_after}
+use Rattle.std.proofs.Common.{refl, subst}
+use Rattle.std.proofs.lemmas.Result.{err_from_is_err_and}
+use Rattle.usb_device.specs.Calls.{clear_call}
+use Rattle.usb_bus.proofs.Wents.{went_then}
+use Rattle.usb_hub.specs.Addresses.{KeepsAsked, KeepsCleared}
+use Rattle.usb_hub.specs.Moments.{CallsPort, TellsPort}
+use Rattle.usb_hub.specs.Port.{PortRead}
+use Rattle.usb_enum.specs.Stop.{at_port}
+use Rattle.usb_host.specs.Handling.{Clears, Watches}
+use Rattle.usb_host.proofs.Requests.{watched, disabled_so, clears_after, clears_disabled, clears_failed, clears_untold, clears_told}
 use Rattle.usb_host.proofs.Enumerations.{cleared, cleared_twice}
 use Rattle.usb_host.proofs.host.Host.clear_change.Goals as goal
 
@@ -18,20 +25,69 @@ returns-in_ok-clear_port-2-clause-goes g c =
 pub returns-else-status-clause-goes : goal.returns-else-status-clause-goes
 returns-else-status-clause-goes g c = rw (← c.self.view_is) (cleared c.args.port _ _ c.requires.askable refl c.clear_port.ensures.went c.port_status.ensures.went)
 
-pub returns-in_err-status-clause-bares : goal.returns-in_err-status-clause-bares
-returns-in_err-status-clause-bares g c =
-    rw (← c.self.view_is) (match_err c.from_residual-in_err-status.result _ _ c.from_residual-in_err-status.ensures.0 (keeps_then _ _ _ c.clear_port.ensures.addresses.keeps c.port_status.ensures.addresses.keeps))
+pub returns-in_err-clear_port-clause-clears : goal.returns-in_err-clear_port-clause-clears
+returns-in_err-clear_port-clause-clears g c =
+    let told = err_from_is_err_and c.from_residual.result c.from_residual.ensures.1 in
+    let old = g.B.Bus.world c.self.inside.bus in
+    let mid = g.B.Bus.world c.clear_port.new.bus in
+    let calls = subst (λ r. CallsPort c.args.port (clear_call 16) old r mid) c.in_err-clear_port.was c.clear_port.ensures.ports in
+    let keeps = subst (λ r. KeepsCleared c.args.port 16 old r mid) c.in_err-clear_port.was c.clear_port.ensures.addresses in
+    rw (← c.self.view_is, told.1, told.2) (clears_failed c.args.port old c.in_err-clear_port.field-0.0 mid calls keeps)
 
-pub returns-in_err-clear_port-2-clause-bares : goal.returns-in_err-clear_port-2-clause-bares
-returns-in_err-clear_port-2-clause-bares g c =
-    let asked = keeps_then _ _ _ c.clear_port.ensures.addresses.keeps c.port_status.ensures.addresses.keeps in
-    rw (← c.self.view_is) (match_err c.from_residual-in_err-clear_port-2.result _ _ c.from_residual-in_err-clear_port-2.ensures.0 (keeps_then _ _ _ asked c.clear_port-then-status.ensures.addresses.keeps))
+pub returns-in_err-status-clause-clears : goal.returns-in_err-status-clause-clears
+returns-in_err-status-clause-clears g c =
+    let told = err_from_is_err_and c.from_residual-in_err-status.result c.from_residual-in_err-status.ensures.1 in
+    let old = g.B.Bus.world c.self.inside.bus in
+    let mid = g.B.Bus.world c.clear_port.new.bus in
+    let new = g.B.Bus.world c.port_status.new.bus in
+    let calls = subst (λ r. CallsPort c.args.port (clear_call 16) old r mid) c.in_ok-clear_port.was c.clear_port.ensures.ports in
+    let watches = subst (λ r. Watches c.args.port mid (at_port r) new) c.in_err-status.was (watched c.args.port mid c.port_status.result new c.port_status.ensures.status c.port_status.ensures.told c.port_status.ensures.addresses) in
+    rw (← c.self.view_is, told.1, told.2)
+    (clears_after c.args.port _ _ old mid new c.clear_port.ensures.went c.port_status.ensures.went _ calls c.clear_port.ensures.addresses.keeps c.clear_port.ensures.addresses.devices (clears_untold c.args.port mid _ new watches))
 
-pub returns-in_ok-clear_port-2-clause-bares : goal.returns-in_ok-clear_port-2-clause-bares
-returns-in_ok-clear_port-2-clause-bares g c =
-    let asked = keeps_then _ _ _ c.clear_port.ensures.addresses.keeps c.port_status.ensures.addresses.keeps in
-    rw (← c.self.view_is) (bares_after c.args.port _ _ _ asked (c.clear_port-then-status.ensures.addresses.bare refl c.in_ok-clear_port-2.was))
+pub returns-else-status-clause-clears : goal.returns-else-status-clause-clears
+returns-else-status-clause-clears g c =
+    let old = g.B.Bus.world c.self.inside.bus in
+    let mid = g.B.Bus.world c.clear_port.new.bus in
+    let new = g.B.Bus.world c.port_status.new.bus in
+    let status = c.in_ok-status.status in
+    let calls = subst (λ r. CallsPort c.args.port (clear_call 16) old r mid) c.in_ok-clear_port.was c.clear_port.ensures.ports in
+    let read = subst (λ r. PortRead c.args.port mid r new) c.in_ok-status.was c.port_status.ensures.status in
+    let tells = subst (λ r. TellsPort c.args.port mid r new) c.in_ok-status.was c.port_status.ensures.told in
+    let asked = subst (λ r. KeepsAsked c.args.port mid r new) c.in_ok-status.was c.port_status.ensures.addresses in
+    rw (← c.self.view_is)
+    (clears_after c.args.port _ _ old mid new c.clear_port.ensures.went c.port_status.ensures.went _ calls c.clear_port.ensures.addresses.keeps c.clear_port.ensures.addresses.devices
+    (clears_told c.args.port _ mid status new c.port_status.ensures.went c.if-status.false read tells asked))
 
-pub returns-else-status-clause-bares : goal.returns-else-status-clause-bares
-returns-else-status-clause-bares g c =
-    rw (← c.self.view_is) (bares_after c.args.port _ _ _ c.clear_port.ensures.addresses.keeps (c.port_status.ensures.addresses.bare c.in_ok-status.status c.in_ok-status.was c.if-status.false))
+pub returns-in_err-clear_port-2-clause-clears : goal.returns-in_err-clear_port-2-clause-clears
+returns-in_err-clear_port-2-clause-clears g c =
+    let told = err_from_is_err_and c.from_residual-in_err-clear_port-2.result c.from_residual-in_err-clear_port-2.ensures.1 in
+    let old = g.B.Bus.world c.self.inside.bus in
+    let mid = g.B.Bus.world c.clear_port.new.bus in
+    let asked_at = g.B.Bus.world c.port_status.new.bus in
+    let new = g.B.Bus.world c.clear_port-then-status.new.bus in
+    let status = c.in_ok-status.status in
+    let calls = subst (λ r. CallsPort c.args.port (clear_call 16) old r mid) c.in_ok-clear_port.was c.clear_port.ensures.ports in
+    let read = subst (λ r. PortRead c.args.port mid r asked_at) c.in_ok-status.was c.port_status.ensures.status in
+    let tells = subst (λ r. TellsPort c.args.port mid r asked_at) c.in_ok-status.was c.port_status.ensures.told in
+    let asked = subst (λ r. KeepsAsked c.args.port mid r asked_at) c.in_ok-status.was c.port_status.ensures.addresses in
+    let disabled = subst (λ r. Clears c.args.port mid (disabled_so status r) new) c.in_err-clear_port-2.was
+    (clears_disabled c.args.port _ _ mid asked_at new c.port_status.ensures.went c.clear_port-then-status.ensures.went status c.clear_port-then-status.result read tells asked c.clear_port-then-status.ensures.ports c.clear_port-then-status.ensures.addresses) in
+    rw (← c.self.view_is, told.1, told.2)
+    (clears_after c.args.port _ _ old mid new c.clear_port.ensures.went (went_then _ _ c.port_status.ensures.went c.clear_port-then-status.ensures.went) _ calls c.clear_port.ensures.addresses.keeps c.clear_port.ensures.addresses.devices disabled)
+
+pub returns-in_ok-clear_port-2-clause-clears : goal.returns-in_ok-clear_port-2-clause-clears
+returns-in_ok-clear_port-2-clause-clears g c =
+    let old = g.B.Bus.world c.self.inside.bus in
+    let mid = g.B.Bus.world c.clear_port.new.bus in
+    let asked_at = g.B.Bus.world c.port_status.new.bus in
+    let new = g.B.Bus.world c.clear_port-then-status.new.bus in
+    let status = c.in_ok-status.status in
+    let calls = subst (λ r. CallsPort c.args.port (clear_call 16) old r mid) c.in_ok-clear_port.was c.clear_port.ensures.ports in
+    let read = subst (λ r. PortRead c.args.port mid r asked_at) c.in_ok-status.was c.port_status.ensures.status in
+    let tells = subst (λ r. TellsPort c.args.port mid r asked_at) c.in_ok-status.was c.port_status.ensures.told in
+    let asked = subst (λ r. KeepsAsked c.args.port mid r asked_at) c.in_ok-status.was c.port_status.ensures.addresses in
+    let disabled = subst (λ r. Clears c.args.port mid (disabled_so status r) new) c.in_ok-clear_port-2.was
+    (clears_disabled c.args.port _ _ mid asked_at new c.port_status.ensures.went c.clear_port-then-status.ensures.went status c.clear_port-then-status.result read tells asked c.clear_port-then-status.ensures.ports c.clear_port-then-status.ensures.addresses) in
+    rw (← c.self.view_is)
+    (clears_after c.args.port _ _ old mid new c.clear_port.ensures.went (went_then _ _ c.port_status.ensures.went c.clear_port-then-status.ensures.went) _ calls c.clear_port.ensures.addresses.keeps c.clear_port.ensures.addresses.devices disabled)

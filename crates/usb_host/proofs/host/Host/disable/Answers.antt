@@ -1,10 +1,14 @@
 use Rattle.std.proofs.Common.{refl, sym, subst}
 use Rattle.usb_host.specs.Bounds.{order_most}
 use Rattle.usb_host.specs.Hosting.{Hosting}
+use Rattle.usb_device.specs.Calls.{clear_call}
 use Rattle.usb_hub.specs.Addresses.{KeepsCleared}
+use Rattle.usb_hub.specs.Moments.{CallsPort}
 use Rattle.usb_host.specs.declared.fault.HostFault.TheVariants.{Bus}
 use Rattle.usb_host.specs.Ports.{StandsAt}
 use Rattle.usb_host.proofs.Handlings.{none_disabled, port_disabled, port_failed, not_disabled}
+use Rattle.usb_host.proofs.Caused.{told_caused, untold_caused}
+use Rattle.usb_host.proofs.Dropped.{told_dropped, untold_droppable, nowhere_dropped}
 use Rattle.usb_host.proofs.Joins.{goes_none}
 use Rattle.usb_host.proofs.host.Host.disable.Goals as goal
 use Rattle.usb_host.proofs.host.Host.disable.Goals.{in-Ok, in-Err-Bus, in-Err}
@@ -12,14 +16,42 @@ use Rattle.usb_host.proofs.host.Host.disable.Goals.{in-Ok, in-Err-Bus, in-Err}
 pub returns-in_default-clause-goes : goal.returns-in_default-clause-goes
 returns-in_default-clause-goes g c = goes_none order_most c.args.self.now
 
-pub returns-in_default-clause-owned : goal.returns-in_default-clause-owned
-returns-in_default-clause-owned g c = none_disabled c.args.path.now c.args.self.now c.in_default.ensures.none
+pub returns-in_default-clause-disables : goal.returns-in_default-clause-disables
+returns-in_default-clause-disables g c =
+    let none = nowhere_dropped c.args.path.now c.args.self.now c.in_default.ensures.none in
+    record {
+      owned = none_disabled c.args.path.now c.args.self.now c.in_default.ensures.none;
+      done = λ d e. absurd (cc e);
+      failed = λ d e. absurd (none d);
+      caused = λ d fair pends caused. absurd (none d);
+    }
 
-pub returns-clause-owned : goal.returns-clause-owned
-returns-clause-owned g c =
+pub returns-clause-disables : goal.returns-clause-disables
+returns-clause-disables g c =
     let s = subst (λ (h : Hosting). StandsAt c.args.path.now c.in-Some.port h) (sym c.self.view_is) c.in-Some.ensures.some in
+    let old = g.B.Bus.world c.self.inside.bus in
+    let new = g.B.Bus.world c.clear_port.new.bus in
+    let port = c.in-Some.port.port in
+    let went = c.clear_port.ensures.went in
+    let keeps = c.clear_port.ensures.addresses.keeps in
+    let devices = c.clear_port.ensures.addresses.devices in
     rw (← c.self.view_is) (elim c.match-clear_port.branch [
-      | in-Ok w ↦ rw w.result-is (port_disabled c.args.path.now c.in-Some.port _ _ s refl (subst (λ r. KeepsCleared c.in-Some.port.port 1 (g.B.Bus.world c.self.inside.bus) r (g.B.Bus.world c.clear_port.new.bus)) w.in-Ok.is c.clear_port.ensures.addresses))
-      | in-Err-Bus w ↦ rw w.result-is (not_disabled c.args.path.now _ _ (Bus w.in-Err-Bus.fault) c.clear_port.ensures.addresses.keeps)
-      | in-Err w ↦ rw w.result-is (port_failed c.args.path.now c.in-Some.port _ _ 1 w.in-Err.field-0 s w.in-Err.ensures.effect c.clear_port.ensures.addresses.keeps)
+      | in-Ok w ↦ rw w.result-is (record {
+        owned = port_disabled c.args.path.now c.in-Some.port _ _ s refl (subst (λ r. KeepsCleared port 1 old r new) w.in-Ok.is c.clear_port.ensures.addresses);
+        done = λ d e. told_dropped _ c.args.path.now c.in-Some.port _ _ s refl went keeps devices d (subst (λ r. CallsPort port (clear_call 1) old r new) w.in-Ok.is c.clear_port.ensures.ports);
+        failed = λ d e. absurd (cc e);
+        caused = λ d fair pends caused. told_caused _ c.args.path.now c.in-Some.port _ _ s refl went keeps devices d fair (subst (λ r. CallsPort port (clear_call 1) old r new) w.in-Ok.is c.clear_port.ensures.ports) pends caused;
+      })
+      | in-Err-Bus w ↦ rw w.result-is (record {
+        owned = not_disabled c.args.path.now _ _ (Bus w.in-Err-Bus.fault) keeps;
+        done = λ d e. absurd (cc e);
+        failed = λ d e. absurd (cc e);
+        caused = λ d fair pends caused. tt;
+      })
+      | in-Err w ↦ rw w.result-is (record {
+        owned = port_failed c.args.path.now c.in-Some.port _ _ 1 w.in-Err.field-0 s w.in-Err.ensures.effect keeps;
+        done = λ d e. absurd (cc e);
+        failed = λ d e. untold_droppable _ c.args.path.now c.in-Some.port _ _ s refl went keeps devices d w.in-Err.field-0 (subst (λ r. CallsPort port (clear_call 1) old r new) w.in-Err.is c.clear_port.ensures.ports) w.in-Err.ensures.fault w.in-Err.ensures.effect;
+        caused = λ d fair pends caused. untold_caused _ c.args.path.now c.in-Some.port _ _ s refl went keeps devices d fair w.in-Err.field-0 (subst (λ r. CallsPort port (clear_call 1) old r new) w.in-Err.is c.clear_port.ensures.ports) w.in-Err.ensures.fault w.in-Err.ensures.effect caused;
+      })
     ])

@@ -1,9 +1,10 @@
-use Rattle.std.proofs.Common.{◌∙◌, ap, arith, refl, sym, Ok}
+use Rattle.std.proofs.Common.{arith, refl, sym}
 use Rattle.usb_address.proofs.Keeping.{keeps_none, keeps_then}
 use Rattle.usb_host.proofs.Ways.{way_itself, way_parent, way_trans}
 use Rattle.usb_host.proofs.Handlings.{match_err, bares_above}
 use Rattle.usb_host.proofs.Joins.{goes_none, goes_then, rests_then}
 use Rattle.usb_host.proofs.Climbs.{parent_length}
+use Rattle.usb_host.proofs.Dropped.{if_err, failed_by, climb_sound, climb_caused, done_caused, top_absurd}
 use Rattle.usb_host.proofs.host.Host.disable_upward.Goals as goal
 
 pub returns-in_err-disable-clause-goes : goal.returns-in_err-disable-clause-goes
@@ -26,22 +27,36 @@ up-preserved g c =
     record {
       goes = goes_then _ _ _ _ _ _ c.up.invariant.goes c.disable.ensures.goes (omega (arith, one, c.up.invariant.most));
       rests = rests_then c.args.self.now c.up.self _ c.up.invariant.rests c.disable.ensures.rests;
-      keeps = keeps_then _ _ _ c.up.invariant.keeps c.disable.ensures.owned.keeps;
+      keeps = keeps_then _ _ _ c.up.invariant.keeps c.disable.ensures.disables.owned.keeps;
       on = way_trans c.in-Some.above c.up.path c.args.first (way_parent c.up.path c.in-Some.above (sym c.in-Some.ensures)) c.up.invariant.on;
       least = omega (arith, one);
       most = omega (arith, one, c.up.invariant.most);
+      sound = λ d. climb_sound c.up.path c.in-Some.above _ _ _ (sym c.in-Some.ensures) c.disable.ensures.disables (failed_by c.in_ok-disable.was c.if-branch.false) (c.up.invariant.sound d);
+      caused = λ d fair pends caused. climb_caused c.up.path c.in-Some.above _ _ _ c.args.self.now.world c.up.invariant.goes.went c.disable.ensures.goes.went (sym c.in-Some.ensures) c.disable.ensures.disables (failed_by c.in_ok-disable.was c.if-branch.false) (c.up.invariant.sound d) fair
+          (λ before. c.up.invariant.caused d before pends caused);
     }
 
-pub returns-in_err-disable-clause-bares : goal.returns-in_err-disable-clause-bares
-returns-in_err-disable-clause-bares g c = match_err c.from_residual.result _ _ c.from_residual.ensures.0 (keeps_then _ _ _ c.up.invariant.keeps c.disable.ensures.owned.keeps)
+pub returns-in_err-disable-clause-climbs : goal.returns-in_err-disable-clause-climbs
+returns-in_err-disable-clause-climbs g c = record {
+  bares = match_err c.from_residual.result _ _ c.from_residual.ensures.0 (keeps_then _ _ _ c.up.invariant.keeps c.disable.ensures.disables.owned.keeps);
+  sound = λ d. if_err c.from_residual.result _ c.from_residual.ensures.0;
+  caused = λ d fair pends caused. if_err c.from_residual.result _ c.from_residual.ensures.0;
+}
 
-pub returns-then-branch-clause-bares : goal.returns-then-branch-clause-bares
-returns-then-branch-clause-bares g c =
-    bares_above c.args.first c.up.path c.args.self.now c.up.self c.disable.new.self c.up.invariant.on c.up.invariant.rests c.up.invariant.keeps (c.disable.ensures.owned.done (c.in_ok-disable.was ∙ ap (λ b. Ok b) c.if-branch.true))
+pub returns-then-branch-clause-climbs : goal.returns-then-branch-clause-climbs
+returns-then-branch-clause-climbs g c = record {
+  bares = bares_above c.args.first c.up.path c.args.self.now c.up.self c.disable.new.self c.up.invariant.on c.up.invariant.rests c.up.invariant.keeps (c.disable.ensures.disables.owned.done (failed_by c.in_ok-disable.was c.if-branch.true));
+  sound = λ d. c.disable.ensures.disables.done (c.up.invariant.sound d) (failed_by c.in_ok-disable.was c.if-branch.true);
+  caused = λ d fair pends caused. done_caused c.up.path _ _ _ c.args.self.now.world c.up.invariant.goes.went c.disable.ensures.goes.went c.disable.ensures.disables (failed_by c.in_ok-disable.was c.if-branch.true) (c.up.invariant.sound d) fair
+      (λ before. c.up.invariant.caused d before pends caused);
+}
 
-pub returns-in-None-clause-bares : goal.returns-in-None-clause-bares
-returns-in-None-clause-bares g c =
-    bares_above c.args.first c.up.path c.args.self.now c.up.self c.disable.new.self c.up.invariant.on c.up.invariant.rests c.up.invariant.keeps (c.disable.ensures.owned.none (c.in_ok-disable.was ∙ ap (λ b. Ok b) c.if-branch.false) (sym c.in-None.ensures))
+pub returns-in-None-clause-climbs : goal.returns-in-None-clause-climbs
+returns-in-None-clause-climbs g c = record {
+  bares = bares_above c.args.first c.up.path c.args.self.now c.up.self c.disable.new.self c.up.invariant.on c.up.invariant.rests c.up.invariant.keeps (c.disable.ensures.disables.owned.none (failed_by c.in_ok-disable.was c.if-branch.false) (sym c.in-None.ensures));
+  sound = λ d. absurd (top_absurd c.up.path _ _ _ (sym c.in-None.ensures) c.disable.ensures.disables (failed_by c.in_ok-disable.was c.if-branch.false) (c.up.invariant.sound d));
+  caused = λ d fair pends caused. absurd (top_absurd c.up.path _ _ _ (sym c.in-None.ensures) c.disable.ensures.disables (failed_by c.in_ok-disable.was c.if-branch.false) (c.up.invariant.sound d));
+}
 
 pub up-init : goal.up-init
 up-init g c = record {
@@ -51,4 +66,6 @@ up-init g c = record {
   on = way_itself c.args.first;
   least = omega arith;
   most = omega arith;
+  sound = λ d. d;
+  caused = λ d fair pends caused. (pends, caused);
 }

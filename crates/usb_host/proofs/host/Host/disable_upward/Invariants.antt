@@ -1,8 +1,9 @@
 use Rattle.std.proofs.Common.{◌≡◌, ◌-◌, ◌*◌, ◌≤◌, length, true}
-use Rattle.usb_world.specs.Live.{is_way}
+use Rattle.usb_world.specs.Live.{is_way, pend}
 use Rattle.usb_address.specs.Owned.{KeepsAddresses}
 use Rattle.usb_host.specs.Bounds.{order_most}
 use Rattle.usb_host.specs.Progress.{Goes, Rests}
+use Rattle.usb_host.specs.Sound.{IsDroppable, IsFairTo, CausesBut}
 use Rattle.usb_host.proofs.host.Host.disable_upward.Given as goal
 
 abbrev pub invariant-up : goal.invariant-up
@@ -13,6 +14,9 @@ invariant-up g l = record {
   on : is_way l.path l.initial.path ≡ true;
   least : 1 ≤ length l.path;
   most : length l.path ≤ 7;
+  sound : IsDroppable l.initial.path l.initial.self → IsDroppable l.path l.self;
+  caused : IsDroppable l.initial.path l.initial.self → IsFairTo l.initial.self.world l.self.world → pend l.initial.self.world.roots l.initial.path ≡ true → CausesBut l.initial.path l.initial.self.world l.initial.self.entries
+      → (pend l.self.world.roots l.path ≡ true) × CausesBut l.path l.self.world l.self.entries;
 }
 
 abbrev pub decreases-up : goal.decreases-up

@@ -1,9 +1,15 @@
-use Rattle.std.proofs.Common.{◌≡◌, ap, refl, sym, subst, Some, false}
+use Rattle.std.proofs.Common.{◌≡◌, ap, refl, sym, subst, Some, Ok, Err, Result, false}
 use Rattle.std.proofs.lemmas.Result.{err_from_is_err_and}
 use Rattle.usb_table.specs.Entries.{has_at}
 use Rattle.usb_table.specs.Known.{known_port}
 use Rattle.usb_table.specs.Table.{Table}
 use Rattle.usb_enum.specs.Addresses.{KeepsEnumerated}
+use Rattle.usb_enum.specs.declared.fault.EnumFault.{EnumFault}
+use Rattle.usb_enum.specs.declared.finding.Finding.{Finding}
+use Rattle.usb_enum.specs.Found.{Enumerates}
+use Rattle.usb_enum.specs.Stop.{FaultAt}
+use Rattle.std.specs.Prelude.{IfErr}
+use Rattle.usb_host.proofs.Caused.{entered_finds, unfound_finds}
 use Rattle.usb_host.specs.Hosting.{Hosting}
 use Rattle.usb_host.specs.Ports.{StandsAt}
 use Rattle.usb_host.proofs.Agreements.{nested_entered, known_some}
@@ -58,3 +64,30 @@ returns-clause-owned g c =
     let away = subst (λ (h : Hosting). has_at c.args.path.now h.entries ≡ false) (sym c.self.view_is) c.requires.away in
     let found = subst (λ r. KeepsEnumerated c.args.port.port c.self.inside.pool (g.B.Bus.world c.self.inside.bus) r (g.B.Bus.world c.enumerate.new.bus)) c.in_ok-finding.was c.enumerate.ensures.ends.addresses in
     rw (← c.self.view_is) (found_ends c.args.path.now c.args.port _ _ c.in_ok-finding.finding c.self.inside.pool found s away c.self.invariant.accounts (ap (λ (t : Table). t.entries) (rw c.duplicate.ensures at c.in_ok-enter.ensures.ok.0)) c.enumerate.ensures.went.spends.roots)
+
+pub returns-in_err-finding-clause-sound : goal.returns-in_err-finding-clause-sound
+returns-in_err-finding-clause-sound g c =
+    let told = err_from_is_err_and c.from_residual.result c.from_residual.ensures.1 in
+    let s = subst (λ (h : Hosting). StandsAt c.args.path.now c.args.port h) (sym c.self.view_is) c.requires.port in
+    let away = subst (λ (h : Hosting). has_at c.args.path.now h.entries ≡ false) (sym c.self.view_is) c.requires.away in
+    let tier = c.tier.ensures in
+    let kept = subst (λ r. KeepsEnumerated c.args.port.port c.self.inside.pool (g.B.Bus.world c.self.inside.bus) r (g.B.Bus.world c.enumerate.new.bus)) c.in_err-finding.was c.enumerate.ensures.ends.addresses in
+    let found = subst (λ m. Enumerates c.args.port.port c.self.inside.pool m c.args.port.supply (g.B.Bus.world c.self.inside.bus) (Err c.in_err-finding.field-0.0) (g.B.Bus.world c.enumerate.new.bus)) tier
+    (subst (λ r. Enumerates c.args.port.port c.self.inside.pool c.tier.result c.args.port.supply (g.B.Bus.world c.self.inside.bus) r (g.B.Bus.world c.enumerate.new.bus)) c.in_err-finding.was c.enumerate.ensures.ends) in
+    let fault = subst (λ (r : Result Finding EnumFault). IfErr r (λ fault. FaultAt c.args.port.port fault (g.B.Bus.world c.enumerate.new.bus))) c.in_err-finding.was c.enumerate.ensures.told in
+    rw (← c.self.view_is, told.1, told.2)
+    (unfound_finds _ c.args.path.now c.args.port _ _ s away c.self.invariant.accounts c.enumerate.ensures.went c.in_err-finding.field-0.0 found refl refl c.in_err-finding.ensures.pool fault
+    (found_fails c.args.path.now c.args.port _ _ c.in_err-finding.field-0.0 c.self.inside.pool kept s away c.self.invariant.accounts refl c.enumerate.ensures.went.spends.roots))
+
+pub returns-clause-sound : goal.returns-clause-sound
+returns-clause-sound g c =
+    let s = subst (λ (h : Hosting). StandsAt c.args.path.now c.args.port h) (sym c.self.view_is) c.requires.port in
+    let away = subst (λ (h : Hosting). has_at c.args.path.now h.entries ≡ false) (sym c.self.view_is) c.requires.away in
+    let tier = c.tier.ensures in
+    let kept = subst (λ r. KeepsEnumerated c.args.port.port c.self.inside.pool (g.B.Bus.world c.self.inside.bus) r (g.B.Bus.world c.enumerate.new.bus)) c.in_ok-finding.was c.enumerate.ensures.ends.addresses in
+    let found = subst (λ m. Enumerates c.args.port.port c.self.inside.pool m c.args.port.supply (g.B.Bus.world c.self.inside.bus) (Ok c.in_ok-finding.finding) (g.B.Bus.world c.enumerate.new.bus)) tier
+    (subst (λ r. Enumerates c.args.port.port c.self.inside.pool c.tier.result c.args.port.supply (g.B.Bus.world c.self.inside.bus) r (g.B.Bus.world c.enumerate.new.bus)) c.in_ok-finding.was c.enumerate.ensures.ends) in
+    let entered = ap (λ (t : Table). t.entries) (rw c.duplicate.ensures at c.in_ok-enter.ensures.ok.0) in
+    rw (← c.self.view_is)
+    (entered_finds _ c.args.path.now c.args.port _ _ s away c.self.invariant.accounts c.enumerate.ensures.went c.in_ok-finding.finding found (rw c.duplicate.ensures at c.in_ok-enter.ensures.ok.0)
+    (found_ends c.args.path.now c.args.port _ _ c.in_ok-finding.finding c.self.inside.pool kept s away c.self.invariant.accounts entered c.enumerate.ensures.went.spends.roots))

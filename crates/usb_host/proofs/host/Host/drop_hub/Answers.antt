@@ -6,14 +6,17 @@ use Rattle.usb_enum.specs.declared.cause.Cause.TheVariants.{Lost}
 use Rattle.usb_enum.specs.declared.finding.Finding.TheVariants.{Refused}
 use Rattle.usb_table.specs.Entries.{Entries, has_at, without}
 use Rattle.usb_table.specs.Known.{known_port}
-use Rattle.usb_table.specs.Table.{Table}
+use Rattle.usb_table.specs.Table.{Table, entered as with_entry}
 use Rattle.usb_table.proofs.Ports.{known_port-without}
 use Rattle.usb_host.specs.Hosting.{Hosting}
 use Rattle.usb_host.specs.Progress.{waiting}
+use Rattle.usb_host.specs.Transfers.{table_in}
 use Rattle.usb_host.proofs.Agreements.{nested_entered}
 use Rattle.usb_host.proofs.Risings.{rises_entered}
 use Rattle.usb_host.proofs.Balances.{accounts_entered}
 use Rattle.usb_host.proofs.Handlings.{drop_fails, drop_ends}
+use Rattle.usb_host.specs.Handling.{Climbs}
+use Rattle.usb_host.proofs.Caused.{lost_drops}
 use Rattle.usb_host.proofs.Joins.{dropped}
 use Rattle.usb_host.proofs.Waits.{waiting-entered_other}
 use Rattle.usb_host.proofs.host.Host.drop_hub.Goals as goal
@@ -48,18 +51,20 @@ invariant_of-self-2 g c =
       nested = nested_entered path (Refused Lost) c.self.inside.table.entries c.numbers-numbers.ensures.path away known c.self.invariant.nested;
     })
 
-pub returns-clause-lost : goal.returns-clause-lost
-returns-clause-lost g c =
-    let path = c.in_ok-lost.lost in
-    let left : c.self.inside.table.entries ≡ without path c.args.self.now.entries =
-    ap (λ (h : Hosting). h.entries) c.self.view_is ∙ c.forget.ensures.rest ∙ ap (λ (h : Hosting). without path h.entries) c.in_ok-lost.ensures.rests in
-    record { path = path; entries = ap (λ (t : Table). t.entries) c.in_ok-insert.ensures.ok ∙ ap (λ (es : Entries). insert_entry path_cmp es path (Refused Lost)) left }
-
 pub returns-in_err-lost-clause-owned : goal.returns-in_err-lost-clause-owned
-returns-in_err-lost-clause-owned g c = drop_fails c.args.hub c.args.self.now c.from_residual.result c.disable_upward.new.self c.from_residual.ensures.0 c.in_err-lost.ensures.bares
+returns-in_err-lost-clause-owned g c = drop_fails c.args.hub c.args.self.now c.from_residual.result c.disable_upward.new.self c.from_residual.ensures.0 c.in_err-lost.ensures.climbs.bares
 
 pub returns-clause-owned : goal.returns-clause-owned
 returns-clause-owned g c =
     let here : g.B.Bus.world c.self.inside.bus ≡ c.forget.new.self.world = ap (λ (h : Hosting). h.world) c.self.view_is in
     let entered = ap (λ (t : Table). t.entries) c.in_ok-insert.ensures.ok ∙ ap (λ (h : Hosting). insert_entry path_cmp h.entries c.in_ok-lost.lost (Refused Lost)) c.self.view_is in
-    drop_ends c.args.hub c.in_ok-lost.lost c.args.self.now c.disable_upward.new.self c.forget.new.self _ c.numbers-numbers.ensures.path c.in_ok-lost.ensures.rests c.disable_upward.ensures.goes.went.spends.roots c.in_ok-lost.ensures.bares c.forget.ensures.others c.forget.ensures.rest c.forget.ensures.gone here entered
+    drop_ends c.args.hub c.in_ok-lost.lost c.args.self.now c.disable_upward.new.self c.forget.new.self _ c.numbers-numbers.ensures.path c.in_ok-lost.ensures.rests c.disable_upward.ensures.goes.went.spends.roots c.in_ok-lost.ensures.climbs.bares c.forget.ensures.others c.forget.ensures.rest c.forget.ensures.gone here entered
+
+pub returns-clause-sound : goal.returns-clause-sound
+returns-clause-sound g c =
+    let here : g.B.Bus.world c.self.inside.bus ≡ c.forget.new.self.world = ap (λ (h : Hosting). h.world) c.self.view_is in
+    let entered = ap (λ (t : Table). t.entries) c.in_ok-insert.ensures.ok ∙ ap (λ (h : Hosting). insert_entry path_cmp h.entries c.in_ok-lost.lost (Refused Lost)) c.self.view_is in
+    let drops = drop_ends c.args.hub c.in_ok-lost.lost c.args.self.now c.disable_upward.new.self c.forget.new.self _ c.numbers-numbers.ensures.path c.in_ok-lost.ensures.rests c.disable_upward.ensures.goes.went.spends.roots c.in_ok-lost.ensures.climbs.bares c.forget.ensures.others c.forget.ensures.rest c.forget.ensures.gone here entered in
+    let table = c.in_ok-insert.ensures.ok ∙ ap (λ (h : Hosting). with_entry c.in_ok-lost.lost (Refused Lost) (table_in h)) c.self.view_is in
+    let climbs = subst (λ r. Climbs c.args.hub c.args.self.now r c.disable_upward.new.self) c.in_ok-lost.was c.disable_upward.ensures.climbs in
+    lost_drops c.in_ok-lost.lost c.disable_upward.new.self c.forget.new.self _ c.numbers-numbers.ensures.path.0 c.forget.ensures.others c.forget.ensures.rest c.forget.ensures.freed.pipes c.forget.ensures.gone here table c.args.hub c.args.self.now climbs drops

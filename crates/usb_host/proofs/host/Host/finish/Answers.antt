@@ -1,4 +1,8 @@
-use Rattle.std.proofs.Common.{◌≡◌, ◌∙◌, ap, sym, Err}
+use Rattle.std.proofs.Common.{◌≡◌, ◌∙◌, ap, sym, subst, true, Err, Some}
+use Rattle.std.specs.Prelude.{IsSomeAnd}
+use Rattle.usb_port.specs.Order.{parent_of}
+use Rattle.usb_world.specs.Live.{pend}
+use Rattle.usb_host.specs.Sound.{IsDroppable, CausesBut}
 use Rattle.usb_enum.specs.declared.fault.EnumFault.{EnumFault}
 use Rattle.usb_enum.specs.declared.fault.EnumFault.TheVariants.{ParentLost}
 use Rattle.usb_host.proofs.Handlings.{hub_dropped}
@@ -14,8 +18,16 @@ returns-in-Err-Bus-clause-goes g c = goes_none _ _
 pub returns-in-Err-Memory-clause-goes : goal.returns-in-Err-Memory-clause-goes
 returns-in-Err-Memory-clause-goes g c = goes_none _ _
 
-pub returns-in-Some-clause-owned : goal.returns-in-Some-clause-owned
-returns-in-Some-clause-owned g c =
+pub returns-in-Some-clause-finishes : goal.returns-in-Some-clause-finishes
+returns-in-Some-clause-finishes g c =
     let fault : c.in-Err-ParentLost.field-0 ≡ ParentLost = rw c.in-Err-ParentLost.is at c.in-Err-ParentLost.field-0-is in
     let lost : c.args.served ≡ Err ParentLost = c.in-Err-ParentLost.is ∙ ap (λ (f : EnumFault). Err f) fault in
-    rw lost (hub_dropped c.args.path.now c.in-Some.hub c.args.self.now _ _ (sym c.in-Some.ensures) c.drop_hub.ensures.owned)
+    let above : parent_of c.args.path.now ≡ Some c.in-Some.hub = sym c.in-Some.ensures in
+    rw lost (record {
+      owned = hub_dropped c.args.path.now c.in-Some.hub c.args.self.now _ _ above c.drop_hub.ensures.owned;
+      sound = λ p. c.drop_hub.ensures.sound.sound (subst (λ o. IsSomeAnd o (λ hub. IsDroppable hub c.args.self.now)) above p);
+      caused = λ p fair q.
+          let d = subst (λ o. IsSomeAnd o (λ hub. IsDroppable hub c.args.self.now)) above p in
+          let e = subst (λ o. IsSomeAnd o (λ hub. (pend c.args.self.now.world.roots hub ≡ true) × CausesBut hub c.args.self.now.world c.args.self.now.entries)) above q in
+          c.drop_hub.ensures.sound.caused d fair e.0 e.1;
+    })

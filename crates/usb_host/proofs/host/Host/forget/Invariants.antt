@@ -1,7 +1,8 @@
-use Rattle.std.proofs.Common.{◌≡◌, length}
+use Rattle.std.proofs.Common.{◌≡◌, length, ℕ, List, false}
 use Rattle.usb_resources.specs.Pool.{IsFull, HasAddresses}
 use Rattle.usb_host.specs.Accounts.{Accounts}
-use Rattle.usb_table.specs.Entries.{without}
+use Rattle.usb_table.specs.Entries.{is_at_or_below, without}
+use Rattle.usb_table.specs.Table.{pipes_at}
 use Rattle.usb_host.proofs.host.Host.forget.Given as goal
 
 abbrev pub invariant-entries : goal.invariant-entries
@@ -11,6 +12,7 @@ invariant-entries g l = record {
   accounts : Accounts l.self-inside.table.entries l.self-inside.pool;
   range : HasAddresses l.self-inside.pool;
   full : IsFull l.self-inside.pool → IsFull l.initial.self-inside.pool;
+  pipes : (q : List ℕ) → is_at_or_below q l.path ≡ false → pipes_at q l.self-inside.table ≡ pipes_at q l.initial.self-inside.table;
 }
 
 abbrev pub decreases-entries : goal.decreases-entries

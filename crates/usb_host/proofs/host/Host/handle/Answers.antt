@@ -1,5 +1,6 @@
 use Rattle.std.proofs.Common.{arith}
 use Rattle.usb_host.proofs.Handlings.{port_finished}
+use Rattle.usb_host.proofs.Finished.{finished_sound}
 use Rattle.usb_host.proofs.Looks.{handled}
 use Rattle.usb_host.proofs.Stations.{breaks}
 use Rattle.usb_host.proofs.Joins.{goes_then}
@@ -17,4 +18,8 @@ finish-requires g c = breaks c.args.path.now c.args.port c.args.self.now c.serve
 
 pub returns-clause-owned : goal.returns-clause-owned
 returns-clause-owned g c =
-    port_finished c.args.path.now c.args.port c.serve-served.result c.args.self.now c.serve-served.new.self c.finish.result c.finish.new.self c.requires c.serve-served.ensures.goes.went.spends.roots c.serve-served.ensures.owned c.finish.ensures.owned
+    port_finished c.args.path.now c.args.port c.serve-served.result c.args.self.now c.serve-served.new.self c.finish.result c.finish.new.self c.requires c.serve-served.ensures.goes.went.spends.roots c.serve-served.ensures.owned c.finish.ensures.finishes.owned
+
+pub returns-clause-sound : goal.returns-clause-sound
+returns-clause-sound g c =
+    finished_sound c.args.path.now _ _ c.serve-served.result c.finish.result c.args.self.now c.serve-served.new.self c.finish.new.self c.serve-served.ensures.goes.went c.finish.ensures.goes.went c.finish.ensures.ends c.serve-served.ensures.sound c.finish.ensures.finishes

@@ -1,5 +1,11 @@
 use Rattle.std.proofs.Common.{arith, ap, ◌≤◌, inl, subst, Ok, Err}
 use Rattle.std.proofs.lemmas.Result.{err_from_is_err_and}
+use Rattle.std.specs.Prelude.{IfErr}
+use Rattle.usb_enum.specs.Stop.{FaultAt}
+use Rattle.usb_host.specs.Handling.{Clears, FindsSound}
+use Rattle.usb_host.proofs.Caused.{cleared_caused, forgot_caused, still_same}
+use Rattle.usb_host.proofs.Fairness.{fair_before, fair_after}
+use Rattle.usb_host.proofs.Served.{cleared_lost, forgot_open, forgot_sound}
 use Rattle.usb_host.specs.Progress.{waiting}
 use Rattle.usb_host.proofs.Joins.{goes_none, goes_then, goes_forgotten}
 use Rattle.usb_host.specs.Owning.{KeepsPort}
@@ -17,25 +23,25 @@ returns-in_ok-discover-clause-goes g c =
 
 pub discover-requires-clause-port : goal.discover-requires-clause-port
 discover-requires-clause-port g c =
-    stands_kept _ c.args.path.now c.args.port c.args.self.now c.clear_change.new.self c.forget.new.self c.clear_change.ensures.goes c.in_ok-status.ensures.rests c.forget.ensures.others c.forget.ensures.rest c.requires
+    stands_kept _ c.args.path.now c.args.port c.args.self.now c.clear_change.new.self c.forget.new.self c.clear_change.ensures.goes c.in_ok-status.ensures.rests c.forget.ensures.others c.forget.ensures.rest c.forget.ensures.agrees c.requires
 
 pub returns-in_err-discover-clause-served : goal.returns-in_err-discover-clause-served
 returns-in_err-discover-clause-served g c = λ due.
     let same = ap waiting c.in_err-discover.ensures.entered in
     let fewer : waiting c.discover.new.self.entries ≤ waiting c.forget.new.self.entries = omega (arith, same) in
     served_any _ _ _ (looks c.args.path.now _ _ c.args.self.now c.clear_change.new.self c.forget.new.self c.discover.new.self c.clear_change.ensures.goes c.in_ok-status.ensures.rests
-    c.forget.ensures.others c.forget.ensures.rest c.discover.ensures.goes c.in_ok-status.ensures.gains c.forget.ensures.freed (omega (arith, fewer)) (λ _. fewer) due)
+    c.forget.ensures.others c.forget.ensures.rest c.discover.ensures.goes c.in_ok-status.ensures.gains c.forget.ensures.freed.full (omega (arith, fewer)) (λ _. fewer) due)
 
 pub returns-in_ok-discover-clause-served : goal.returns-in_ok-discover-clause-served
 returns-in_ok-discover-clause-served g c = λ due.
     let one = c.in_ok-discover.ensures.entered in
     looks c.args.path.now _ _ c.args.self.now c.clear_change.new.self c.forget.new.self c.discover.new.self c.clear_change.ensures.goes c.in_ok-status.ensures.rests
-    c.forget.ensures.others c.forget.ensures.rest c.discover.ensures.goes c.in_ok-status.ensures.gains c.forget.ensures.freed (enters_few c.args.path.now _ _ one) (enters_other c.args.path.now _ _ one) due
+    c.forget.ensures.others c.forget.ensures.rest c.discover.ensures.goes c.in_ok-status.ensures.gains c.forget.ensures.freed.full (enters_few c.args.path.now _ _ one) (enters_other c.args.path.now _ _ one) due
 
 pub returns-else-status-clause-served : goal.returns-else-status-clause-served
 returns-else-status-clause-served g c = λ due.
     looks c.args.path.now _ 0 c.args.self.now c.clear_change.new.self c.forget.new.self c.forget.new.self c.clear_change.ensures.goes c.in_ok-status.ensures.rests
-    c.forget.ensures.others c.forget.ensures.rest (goes_none 0 c.forget.new.self) c.in_ok-status.ensures.gains c.forget.ensures.freed (omega arith) (λ _. omega arith) due
+    c.forget.ensures.others c.forget.ensures.rest (goes_none 0 c.forget.new.self) c.in_ok-status.ensures.gains c.forget.ensures.freed.full (omega arith) (λ _. omega arith) due
 
 pub returns-in_ok-discover-clause-renewed : goal.returns-in_ok-discover-clause-renewed
 returns-in_ok-discover-clause-renewed g c =
@@ -44,20 +50,64 @@ returns-in_ok-discover-clause-renewed g c =
 pub returns-else-status-clause-renewed : goal.returns-else-status-clause-renewed
 returns-else-status-clause-renewed g c = inl (forgets c.args.path.now c.args.self.now c.clear_change.new.self c.forget.new.self c.in_ok-status.ensures.rests c.forget.ensures.rest)
 
-pub returns-in_err-status-clause-owned : goal.returns-in_err-status-clause-owned
-returns-in_err-status-clause-owned g c = port_rests c.args.path.now c.args.self.now c.from_residual.result c.clear_change.new.self c.in_err-status.ensures.rests c.clear_change.ensures.goes.went.spends.roots c.in_err-status.ensures.bares
+pub returns-in_err-status-clause-looks : goal.returns-in_err-status-clause-looks
+returns-in_err-status-clause-looks g c =
+    let told = err_from_is_err_and c.from_residual.result c.from_residual.ensures.1 in
+    let fault = subst (λ r. IfErr r (λ fault. FaultAt c.args.port.port fault c.clear_change.new.self.world)) c.in_err-status.was c.clear_change.ensures.told in
+    let clears = subst (λ r. Clears c.args.port.port c.args.self.now.world r c.clear_change.new.self.world) c.in_err-status.was c.clear_change.ensures.clears in
+    rw (told.1, told.2) (record {
+      owned = port_rests c.args.path.now c.args.self.now (Err c.in_err-status.field-0.0) c.clear_change.new.self c.in_err-status.ensures.rests c.clear_change.ensures.goes.went.spends.roots clears.bares;
+      sound = record {
+        sound = cleared_lost _ c.args.path.now c.args.port c.args.self.now c.clear_change.new.self c.requires c.in_err-status.ensures.rests c.clear_change.ensures.goes.went c.in_err-status.field-0.0 clears fault;
+        caused = cleared_caused _ c.args.path.now c.args.port c.args.self.now c.clear_change.new.self c.requires c.in_err-status.ensures.rests c.clear_change.ensures.goes.went c.in_err-status.field-0.0 clears fault;
+      };
+    })
 
-pub returns-in_err-discover-clause-owned : goal.returns-in_err-discover-clause-owned
-returns-in_err-discover-clause-owned g c =
+pub returns-in_err-discover-clause-looks : goal.returns-in_err-discover-clause-looks
+returns-in_err-discover-clause-looks g c =
     let told = err_from_is_err_and c.from_residual-in_err-discover.result c.from_residual-in_err-discover.ensures.1 in
-    let gone = stays_bare c.args.path.now c.args.port c.args.self.now c.clear_change.new.self c.forget.new.self c.requires c.in_ok-status.ensures.rests c.clear_change.ensures.goes.went.spends.roots c.in_ok-status.ensures.bares c.forget.ensures.others c.forget.ensures.rest in
-    rw (told.1, told.2) (port_then c.args.path.now c.args.self.now c.forget.new.self (Err c.in_err-discover.field-0.0) c.discover.new.self gone (subst (λ r. KeepsPort c.args.path.now c.forget.new.self r c.discover.new.self) c.in_err-discover.was c.discover.ensures.owned))
+    let clears = subst (λ r. Clears c.args.port.port c.args.self.now.world r c.clear_change.new.self.world) c.in_ok-status.was c.clear_change.ensures.clears in
+    let gone = stays_bare c.args.path.now c.args.port c.args.self.now c.clear_change.new.self c.forget.new.self c.requires c.in_ok-status.ensures.rests c.clear_change.ensures.goes.went.spends.roots clears.bares c.forget.ensures.others c.forget.ensures.rest in
+    let finds = subst (λ r. FindsSound c.args.path.now c.forget.new.self r c.discover.new.self) c.in_err-discover.was c.discover.ensures.sound in
+    rw (told.1, told.2) (record {
+      owned = port_then c.args.path.now c.args.self.now c.forget.new.self (Err c.in_err-discover.field-0.0) c.discover.new.self gone (subst (λ r. KeepsPort c.args.path.now c.forget.new.self r c.discover.new.self) c.in_err-discover.was c.discover.ensures.owned);
+      sound = record {
+        sound = λ i. finds.sound (forgot_open _ c.args.path.now c.args.port c.args.self.now c.clear_change.new.self c.forget.new.self c.in_ok-status.status c.requires c.in_ok-status.ensures.rests c.clear_change.ensures.goes.went clears c.forget.ensures.others c.forget.ensures.rest c.forget.ensures.freed.pipes c.forget.ensures.gone i c.if-status.true);
+        caused = λ i fair caused.
+            let half = fair_before _ c.args.self.now.world c.forget.new.self.world c.discover.new.self.world c.discover.ensures.goes.went fair in
+            let forgot = goes_forgotten _ _ _ _ c.clear_change.ensures.goes c.forget.ensures.others in
+            let opens = forgot_open _ c.args.path.now c.args.port c.args.self.now c.clear_change.new.self c.forget.new.self c.in_ok-status.status c.requires c.in_ok-status.ensures.rests c.clear_change.ensures.goes.went clears c.forget.ensures.others c.forget.ensures.rest c.forget.ensures.freed.pipes c.forget.ensures.gone i c.if-status.true in
+            let causes = forgot_caused _ c.args.path.now c.args.port c.args.self.now c.clear_change.new.self c.requires c.in_ok-status.ensures.rests c.clear_change.ensures.goes.went c.forget.new.self c.in_ok-status.status clears c.forget.ensures.others c.forget.ensures.rest i (still_same c.clear_change.new.self c.forget.new.self c.forget.ensures.others half.still) caused in
+            finds.caused opens (fair_after _ c.args.self.now.world c.forget.new.self.world c.discover.new.self.world forgot.went half.still fair) (λ x away. causes x);
+      };
+    })
 
-pub returns-in_ok-discover-clause-owned : goal.returns-in_ok-discover-clause-owned
-returns-in_ok-discover-clause-owned g c =
-    let gone = stays_bare c.args.path.now c.args.port c.args.self.now c.clear_change.new.self c.forget.new.self c.requires c.in_ok-status.ensures.rests c.clear_change.ensures.goes.went.spends.roots c.in_ok-status.ensures.bares c.forget.ensures.others c.forget.ensures.rest in
-    port_then c.args.path.now c.args.self.now c.forget.new.self (Ok tt) c.discover.new.self gone (subst (λ r. KeepsPort c.args.path.now c.forget.new.self r c.discover.new.self) c.in_ok-discover.was c.discover.ensures.owned)
+pub returns-in_ok-discover-clause-looks : goal.returns-in_ok-discover-clause-looks
+returns-in_ok-discover-clause-looks g c =
+    let clears = subst (λ r. Clears c.args.port.port c.args.self.now.world r c.clear_change.new.self.world) c.in_ok-status.was c.clear_change.ensures.clears in
+    let gone = stays_bare c.args.path.now c.args.port c.args.self.now c.clear_change.new.self c.forget.new.self c.requires c.in_ok-status.ensures.rests c.clear_change.ensures.goes.went.spends.roots clears.bares c.forget.ensures.others c.forget.ensures.rest in
+    let finds = subst (λ r. FindsSound c.args.path.now c.forget.new.self r c.discover.new.self) c.in_ok-discover.was c.discover.ensures.sound in
+    record {
+      owned = port_then c.args.path.now c.args.self.now c.forget.new.self (Ok tt) c.discover.new.self gone (subst (λ r. KeepsPort c.args.path.now c.forget.new.self r c.discover.new.self) c.in_ok-discover.was c.discover.ensures.owned);
+      sound = record {
+        sound = λ i. finds.sound (forgot_open _ c.args.path.now c.args.port c.args.self.now c.clear_change.new.self c.forget.new.self c.in_ok-status.status c.requires c.in_ok-status.ensures.rests c.clear_change.ensures.goes.went clears c.forget.ensures.others c.forget.ensures.rest c.forget.ensures.freed.pipes c.forget.ensures.gone i c.if-status.true);
+        caused = λ i fair caused.
+            let half = fair_before _ c.args.self.now.world c.forget.new.self.world c.discover.new.self.world c.discover.ensures.goes.went fair in
+            let forgot = goes_forgotten _ _ _ _ c.clear_change.ensures.goes c.forget.ensures.others in
+            let opens = forgot_open _ c.args.path.now c.args.port c.args.self.now c.clear_change.new.self c.forget.new.self c.in_ok-status.status c.requires c.in_ok-status.ensures.rests c.clear_change.ensures.goes.went clears c.forget.ensures.others c.forget.ensures.rest c.forget.ensures.freed.pipes c.forget.ensures.gone i c.if-status.true in
+            let causes = forgot_caused _ c.args.path.now c.args.port c.args.self.now c.clear_change.new.self c.requires c.in_ok-status.ensures.rests c.clear_change.ensures.goes.went c.forget.new.self c.in_ok-status.status clears c.forget.ensures.others c.forget.ensures.rest i (still_same c.clear_change.new.self c.forget.new.self c.forget.ensures.others half.still) caused in
+            finds.caused opens (fair_after _ c.args.self.now.world c.forget.new.self.world c.discover.new.self.world forgot.went half.still fair) (λ x away. causes x);
+      };
+    }
 
-pub returns-else-status-clause-owned : goal.returns-else-status-clause-owned
-returns-else-status-clause-owned g c =
-    port_stays c.args.path.now c.args.self.now c.forget.new.self (stays_bare c.args.path.now c.args.port c.args.self.now c.clear_change.new.self c.forget.new.self c.requires c.in_ok-status.ensures.rests c.clear_change.ensures.goes.went.spends.roots c.in_ok-status.ensures.bares c.forget.ensures.others c.forget.ensures.rest)
+pub returns-else-status-clause-looks : goal.returns-else-status-clause-looks
+returns-else-status-clause-looks g c =
+    let clears = subst (λ r. Clears c.args.port.port c.args.self.now.world r c.clear_change.new.self.world) c.in_ok-status.was c.clear_change.ensures.clears in
+    record {
+      owned = port_stays c.args.path.now c.args.self.now c.forget.new.self (stays_bare c.args.path.now c.args.port c.args.self.now c.clear_change.new.self c.forget.new.self c.requires c.in_ok-status.ensures.rests c.clear_change.ensures.goes.went.spends.roots clears.bares c.forget.ensures.others c.forget.ensures.rest);
+      sound = record {
+        sound = λ i. forgot_sound _ c.args.path.now c.args.port c.args.self.now c.clear_change.new.self c.forget.new.self c.in_ok-status.status c.requires c.in_ok-status.ensures.rests c.clear_change.ensures.goes.went clears c.forget.ensures.others c.forget.ensures.rest c.forget.ensures.freed.pipes c.forget.ensures.gone i c.if-status.false;
+        caused = λ i fair caused.
+            forgot_caused _ c.args.path.now c.args.port c.args.self.now c.clear_change.new.self c.requires c.in_ok-status.ensures.rests c.clear_change.ensures.goes.went c.forget.new.self c.in_ok-status.status clears c.forget.ensures.others c.forget.ensures.rest i (still_same c.clear_change.new.self c.forget.new.self c.forget.ensures.others fair.still) caused;
+      };
+    }

@@ -1,29 +1,50 @@
-use Rattle.std.proofs.Common.{arith, refl}
+use Rattle.std.proofs.Common.{arith, refl, sym, subst, ◌∙◌, ◌⊎◌}
+use Rattle.usb_resources.specs.Pool.{IsFull}
+use Rattle.usb_table.specs.Findings.{is_waiting}
+use Rattle.usb_table.specs.Next.{IsLast}
+use Rattle.usb_host.specs.declared.host.Round.TheVariants.{Quiet}
 use Rattle.usb_host.specs.Bounds.{handling_bound}
 use Rattle.usb_host.proofs.Owners.{stays_then, stays_none}
+use Rattle.usb_host.proofs.Parts.{looks_fail}
+use Rattle.usb_host.proofs.Restings.{ok_is, quiet_second, none_waits}
+use Rattle.usb_host.proofs.Soundness.{sound_none, sound_then}
 use Rattle.usb_host.proofs.Joins.{did_then, goes_none}
 use Rattle.usb_host.proofs.Ranks.{rank_goes, rank_within, rank_rises, rank_most, rank_after_most}
 use Rattle.usb_host.proofs.host.Host.look_again.Goals as goal
 
 pub waiting-init : goal.waiting-init
-waiting-init g c = record { goes = goes_none 0 _; did = refl; owned = stays_none _; path = tt }
+waiting-init g c = record { goes = goes_none 0 _; did = refl; owned = stays_none _; sound = sound_none _; none = λ r quiet. (refl, refl); path = tt }
 
 pub returns-in_err-look_once_more-clause-goes : goal.returns-in_err-look_once_more-clause-goes
 returns-in_err-look_once_more-clause-goes g c =
-    rank_within handling_bound _ _ (rank_goes handling_bound c.waiting.last c.in-Some.path _ _ _ c.waiting.invariant.path c.look_once_more.ensures.path c.in-Some.ensures.1 c.waiting.invariant.goes c.look_once_more.ensures.goes) (rank_most c.in-Some.path c.look_once_more.ensures.path)
+    rank_within handling_bound _ _ (rank_goes handling_bound c.waiting.last c.in-Some.path _ _ _ c.waiting.invariant.path c.look_once_more.ensures.path c.in-Some.ensures.some.1 c.waiting.invariant.goes c.look_once_more.ensures.goes) (rank_most c.in-Some.path c.look_once_more.ensures.path)
 
 pub waiting-smaller : goal.waiting-smaller
 waiting-smaller g c =
-    let rises = rank_rises c.waiting.last c.in-Some.path c.waiting.invariant.path c.look_once_more.ensures.path c.in-Some.ensures.1 in
+    let rises = rank_rises c.waiting.last c.in-Some.path c.waiting.invariant.path c.look_once_more.ensures.path c.in-Some.ensures.some.1 in
     omega (arith, rises, rank_most c.in-Some.path c.look_once_more.ensures.path)
 
 pub waiting-preserved : goal.waiting-preserved
 waiting-preserved g c = record {
-  goes = rank_goes handling_bound c.waiting.last c.in-Some.path _ _ _ c.waiting.invariant.path c.look_once_more.ensures.path c.in-Some.ensures.1 c.waiting.invariant.goes c.look_once_more.ensures.goes;
-  did = rw c.and-round.ensures (did_then _ _ c.waiting.round c.in_ok-look_once_more.field-0 c.args.self.now c.waiting.self c.look_once_more.new.self c.waiting.invariant.goes c.look_once_more.ensures.goes c.waiting.invariant.did c.in_ok-look_once_more.ensures.did);
-  owned = stays_then _ _ _ c.waiting.invariant.owned c.in_ok-look_once_more.ensures.owned;
+  goes = rank_goes handling_bound c.waiting.last c.in-Some.path _ _ _ c.waiting.invariant.path c.look_once_more.ensures.path c.in-Some.ensures.some.1 c.waiting.invariant.goes c.look_once_more.ensures.goes;
+  did = rw c.and-round.ensures (did_then _ _ c.waiting.round c.in_ok-look_once_more.field-0 c.args.self.now c.waiting.self c.look_once_more.new.self c.waiting.invariant.goes c.look_once_more.ensures.goes c.waiting.invariant.did c.in_ok-look_once_more.ensures.did.did);
+  owned = stays_then _ _ _ c.waiting.invariant.owned c.in_ok-look_once_more.ensures.keeps.owned;
+  sound = sound_then _ _ _ _ _ c.waiting.invariant.goes.went c.look_once_more.ensures.goes.went c.waiting.invariant.sound c.in_ok-look_once_more.ensures.keeps.sound;
+  none = λ r quiet. absurd (c.in_ok-look_once_more.ensures.did.some (c.waiting.invariant.owned.rooted r) (quiet_second c.waiting.round c.in_ok-look_once_more.field-0 (sym c.and-round.ensures ∙ quiet)));
   path = c.look_once_more.ensures.path;
 }
 
 pub returns-clause-goes : goal.returns-clause-goes
 returns-clause-goes g c = rank_within handling_bound _ _ c.waiting.invariant.goes (rank_after_most c.waiting.last c.waiting.invariant.path)
+
+pub returns-in_err-look_once_more-clause-keeps : goal.returns-in_err-look_once_more-clause-keeps
+returns-in_err-look_once_more-clause-keeps g c = looks_fail c.from_residual.result _ _ _ c.from_residual.ensures.0 c.waiting.invariant.owned c.in_err-look_once_more.ensures.keeps.owned
+
+pub returns-clause-keeps : goal.returns-clause-keeps
+returns-clause-keeps g c = record {
+  owned = c.waiting.invariant.owned;
+  sound = c.waiting.invariant.sound;
+  rest = λ r is.
+      let x = c.waiting.invariant.none r (ok_is c.waiting.round Quiet is) in
+      (x.0, none_waits c.waiting.self.entries c.waiting.self.addresses c.in_default.ensures.agree (subst (λ l. IsFull c.waiting.self.addresses ⊎ IsLast is_waiting l c.waiting.self.entries) x.1 c.in_default.ensures.none));
+}

@@ -1,9 +1,11 @@
-use Rattle.std.proofs.Common.{◌-◌, ◌*◌}
+use Rattle.std.proofs.Common.{◌≡◌, ◌-◌, ◌*◌, None}
 use Rattle.std.specs.Prelude.{IfSome}
 use Rattle.usb_port.specs.Path.{IsPath}
 use Rattle.usb_host.specs.Bounds.{handling_bound}
-use Rattle.usb_host.specs.Owning.{StaysOwned}
+use Rattle.usb_host.specs.Owning.{IsRooted, StaysOwned}
 use Rattle.usb_host.specs.Progress.{Goes, Did}
+use Rattle.usb_host.specs.Sound.{StaysSound}
+use Rattle.usb_host.specs.declared.host.Round.TheVariants.{Quiet}
 use Rattle.usb_host.proofs.Ranks.{rank_after}
 use Rattle.usb_host.proofs.host.Host.look_again.Given as goal
 
@@ -12,6 +14,8 @@ invariant-waiting g l = record {
   goes : Goes (rank_after l.last * handling_bound) l.initial.self l.self;
   did : Did l.round l.initial.self l.self;
   owned : StaysOwned l.initial.self l.self;
+  sound : StaysSound l.initial.self l.self;
+  none : IsRooted l.initial.self → l.round ≡ Quiet → (l.self ≡ l.initial.self) × (l.last ≡ None);
   path : IfSome l.last IsPath;
 }
 

@@ -1,13 +1,15 @@
 use Rattle.std.proofs.Common.{◌≡◌, ◌∙◌, ◌-◌, ◌+◌, ℕ, ap, arith, refl, sym, subst, inr}
 use Rattle.usb_world.specs.World.{World, roots_of}
-use Rattle.usb_bus.specs.Traced.{still}
+use Rattle.usb_bus.specs.Traced.{Traced, still}
 use Rattle.usb_bus.proofs.Wents.{traced_set}
 use Rattle.usb_host.proofs.Powers.{powered_none, powered_length, powers_one, powered_all, powered_world}
 use Rattle.usb_host.proofs.Agreements.{nested_none}
 use Rattle.usb_host.proofs.Risings.{rises_none}
 use Rattle.usb_host.proofs.Balances.{accounts_none, range_none}
-use Rattle.usb_host.proofs.Openings.{opened, owning_opening}
+use Rattle.usb_host.proofs.Openings.{opened, owning_opening, sound_opening}
+use Rattle.usb_host.specs.Hosting.{Hosting}
 use Rattle.usb_host.specs.Owning.{Owning}
+use Rattle.usb_host.specs.Sound.{IsSound}
 use Rattle.usb_host.proofs.host.Host.new.Goals as goal
 
 pub ports-init : goal.ports-init
@@ -43,3 +45,7 @@ returns-clause-owning g c = λ untouched. subst Owning (sym (returns-clause-open
 
 pub returns-clause-traced : goal.returns-clause-traced
 returns-clause-traced g c = c.ports.invariant.traced
+
+pub returns-clause-sound : goal.returns-clause-sound
+returns-clause-sound g c = λ untouched unpowered. subst IsSound (sym (returns-clause-opens g c)) (sound_opening (g.B.Bus.world c.args.bus) (g.B.Bus.trace c.args.bus)
+    (subst (λ (h : Hosting). Traced (g.B.Bus.world c.args.bus) (g.B.Bus.trace c.args.bus) h.world h.trace) (returns-clause-opens g c) c.ports.invariant.traced) untouched unpowered)

@@ -1,6 +1,8 @@
 use Rattle.std.proofs.Common.{arith, ◌+◌}
 use Rattle.usb_host.proofs.Joins.{goes_then}
-use Rattle.usb_host.specs.Bounds.{roots_bound, hubs_bound}
+use Rattle.usb_host.proofs.Owners.{stays_then, stays_none}
+use Rattle.usb_host.proofs.Parts.{parts_fail, parts_keep}
+use Rattle.usb_host.specs.Bounds.{roots_bound, hubs_bound, looks_bound}
 use Rattle.usb_host.proofs.host.Host.parts.Goals as goal
 
 pub returns-in_err-hubs-clause-goes : goal.returns-in_err-hubs-clause-goes
@@ -13,3 +15,19 @@ returns-in_err-looks-clause-goes g c =
 pub returns-clause-goes : goal.returns-clause-goes
 returns-clause-goes g c =
     goes_then _ (roots_bound + hubs_bound) _ _ _ _ (goes_then _ _ _ _ _ _ c.serve_roots.ensures.goes c.serve_hubs.ensures.goes (omega arith)) c.look_again.ensures.goes (omega arith)
+
+pub returns-in_err-roots-clause-keeps : goal.returns-in_err-roots-clause-keeps
+returns-in_err-roots-clause-keeps g c = parts_fail c.from_residual.result _ _ _ c.from_residual.ensures.0 (stays_none _) c.in_err-roots.ensures.keeps.owned
+
+pub returns-in_err-hubs-clause-keeps : goal.returns-in_err-hubs-clause-keeps
+returns-in_err-hubs-clause-keeps g c = parts_fail c.from_residual-in_err-hubs.result _ _ _ c.from_residual-in_err-hubs.ensures.0 c.in_ok-roots.ensures.keeps.owned c.in_err-hubs.ensures.keeps.owned
+
+pub returns-in_err-looks-clause-keeps : goal.returns-in_err-looks-clause-keeps
+returns-in_err-looks-clause-keeps g c =
+    parts_fail c.from_residual-in_err-looks.result _ _ _ c.from_residual-in_err-looks.ensures.0 (stays_then _ _ _ c.in_ok-roots.ensures.keeps.owned c.in_ok-hubs.ensures.keeps.owned) c.in_err-looks.ensures.keeps.owned
+
+pub returns-clause-keeps : goal.returns-clause-keeps
+returns-clause-keeps g c =
+    rw (c.and-2.ensures, c.and.ensures) (parts_keep roots_bound hubs_bound (roots_bound + hubs_bound) looks_bound c.in_ok-roots.roots c.in_ok-hubs.hubs c.in_ok-looks.looks c.args.self.now c.serve_roots.new.self c.serve_hubs.new.self c.look_again.new.self
+    c.serve_roots.ensures.goes c.serve_hubs.ensures.goes (goes_then _ _ _ _ _ _ c.serve_roots.ensures.goes c.serve_hubs.ensures.goes (omega arith)) c.look_again.ensures.goes
+    c.in_ok-roots.ensures.none c.in_ok-roots.ensures.keeps c.in_ok-hubs.ensures.keeps c.in_ok-looks.ensures.keeps)

@@ -1,6 +1,22 @@
+use Rattle.std.proofs.Common.{ap, sym, subst, ◌∙◌}
 use Rattle.usb_host.specs.Bounds.{round_bound}
+use Rattle.usb_host.specs.Hosting.{Hosting}
+use Rattle.usb_host.specs.Sound.{RoundsSound}
 use Rattle.usb_host.proofs.Joins.{goes_none}
+use Rattle.usb_host.proofs.Owners.{round_owning}
+use Rattle.usb_host.proofs.Soundness.{rounds_stopped}
 use Rattle.usb_host.proofs.host.Host.round.Goals as goal
 
 pub returns-then-self-clause-went : goal.returns-then-self-clause-went
 returns-then-self-clause-went g c = (goes_none round_bound c.args.self.now).went
+
+pub returns-then-self-clause-keeps : goal.returns-then-self-clause-keeps
+returns-then-self-clause-keeps g c = record { owning = λ o. o; sound = record { keeps = tt; rest = λ s is. absurd (cc is) } }
+
+pub returns-clause-keeps : goal.returns-clause-keeps
+returns-clause-keeps g c = record {
+  owning = round_owning c.parts-round.result c.args.self.now c.parts-round.new.self _ (ap (λ (h : Hosting). h.stopped) (sym c.self.view_is) ∙ c.if-self.false) (ap (λ (h : Hosting). h.world) c.self-2.view_is)
+      (ap (λ (h : Hosting). h.entries) c.self-2.view_is) c.is_err-self-inside.ensures.value c.parts-round.ensures.keeps.owned;
+  sound = rounds_stopped c.parts-round.result c.args.self.now _ c.is_err-self-inside.result
+      (subst (λ (h : Hosting). RoundsSound c.args.self.now c.parts-round.result h) (sym c.self-2.view_is) c.parts-round.ensures.keeps.sound);
+}

@@ -1,39 +1,52 @@
-use Rattle.std.proofs.Common.{ℕ, List, arith, refl, sym, subst}
+use Rattle.std.proofs.Common.{ℕ, List, arith, refl, sym, subst, Err}
 use Rattle.std.specs.Prelude.{IsSome}
 use Rattle.usb_table.specs.Entries.{Entries}
-use Rattle.usb_table.specs.Listing.{finding_at}
+use Rattle.usb_table.specs.Listing.{finding_at, hub_at}
 use Rattle.usb_host.specs.Hosting.{Hosting}
-use Rattle.usb_host.proofs.Handlings.{match_err, hub_lost, lost_single, lost_stays}
-use Rattle.usb_host.proofs.Owners.{stays_kept, single_kept, keeps_after}
+use Rattle.usb_host.proofs.Handlings.{hub_lost, lost_single}
+use Rattle.usb_host.proofs.Owners.{stays_none, stays_kept, single_kept}
 use Rattle.usb_host.proofs.Joins.{goes_after}
+use Rattle.usb_host.proofs.Parts.{hub_fails, hub_stopped, hub_quiet, hub_told, hub_gone, hub_listed, unserved}
 use Rattle.usb_host.proofs.host.Host.serve_hub.Goals as goal
 
 pub returns-in_err-drop_hub-in-Err-clause-goes : goal.returns-in_err-drop_hub-in-Err-clause-goes
 returns-in_err-drop_hub-in-Err-clause-goes g c = rw (← c.self.view_is) (goes_after _ _ _ _ _ _ c.poll.ensures.went refl c.drop_hub.ensures.goes (omega arith))
 
-pub returns-in-Ok-Some-clause-goes : goal.returns-in-Ok-Some-clause-goes
-returns-in-Ok-Some-clause-goes g c = rw (← c.self.view_is) (goes_after _ _ _ _ _ _ c.poll.ensures.went refl c.serve_told.ensures.goes (omega arith))
+pub returns-in_err-serve_told-in-Ok-Some-clause-goes : goal.returns-in_err-serve_told-in-Ok-Some-clause-goes
+returns-in_err-serve_told-in-Ok-Some-clause-goes g c = rw (← c.self.view_is) (goes_after _ _ _ _ _ _ c.poll.ensures.went refl c.serve_told.ensures.goes (omega arith))
+
+pub returns-in_ok-serve_told-in-Ok-Some-clause-goes : goal.returns-in_ok-serve_told-in-Ok-Some-clause-goes
+returns-in_ok-serve_told-in-Ok-Some-clause-goes g c = rw (← c.self.view_is) (goes_after _ _ _ _ _ _ c.poll.ensures.went refl c.serve_told.ensures.goes (omega arith))
 
 pub returns-in_ok-drop_hub-in-Err-clause-goes : goal.returns-in_ok-drop_hub-in-Err-clause-goes
 returns-in_ok-drop_hub-in-Err-clause-goes g c = rw (← c.self.view_is) (goes_after _ _ _ _ _ _ c.poll.ensures.went refl c.drop_hub.ensures.goes (omega arith))
 
-pub returns-in_err-drop_hub-in-Err-clause-owned : goal.returns-in_err-drop_hub-in-Err-clause-owned
-returns-in_err-drop_hub-in-Err-clause-owned g c =
-    let at = subst (λ (h : Hosting). IsSome (finding_at c.args.hub.now h.entries)) (sym c.self.view_is) c.requires in
+pub returns-in-Ok-None-clause-keeps : goal.returns-in-Ok-None-clause-keeps
+returns-in-Ok-None-clause-keeps g c =
+    rw (← c.self.view_is) (hub_quiet c.args.hub.now _ _ _ c.self.invariant c.poll.ensures.through.entries refl refl c.poll.ensures.went c.in-Ok-None.ensures.keeps _ _ refl c.poll.ensures.through.fits (rw c.in-Ok-None.field-0-is at c.in-Ok-None.ensures.polled))
+
+pub returns-in_ok-serve_told-in-Ok-Some-clause-keeps : goal.returns-in_ok-serve_told-in-Ok-Some-clause-keeps
+returns-in_ok-serve_told-in-Ok-Some-clause-keeps g c =
+    rw (← c.self.view_is) (hub_told c.args.hub.now _ _ _ c.self.invariant c.poll.ensures.through.entries refl refl c.poll.ensures.went c.in-Ok-Some.ensures.keeps _ _ refl c.serve_told.ensures.goes c.in_ok-serve_told-in-Ok-Some.ensures.keeps)
+
+pub returns-in_err-serve_told-in-Ok-Some-clause-keeps : goal.returns-in_err-serve_told-in-Ok-Some-clause-keeps
+returns-in_err-serve_told-in-Ok-Some-clause-keeps g c =
+    rw (← c.self.view_is) (hub_fails c.from_residual.result _ _ _ c.from_residual.ensures.0 (stays_kept _ _ c.poll.ensures.through.entries c.poll.ensures.went.spends.roots c.poll.ensures.keeps.levels.worlds.addresses)
+    c.in_err-serve_told-in-Ok-Some.ensures.keeps.owned c.args.hub.now)
+
+pub returns-in-Err-Bus-clause-keeps : goal.returns-in-Err-Bus-clause-keeps
+returns-in-Err-Bus-clause-keeps g c = rw (← c.self.view_is) (hub_stopped c.args.hub.now _ _ _ (single_kept _ _ c.poll.ensures.through.entries c.poll.ensures.keeps.levels.worlds.addresses))
+
+pub returns-in_err-drop_hub-in-Err-clause-keeps : goal.returns-in_err-drop_hub-in-Err-clause-keeps
+returns-in_err-drop_hub-in-Err-clause-keeps g c =
+    let at = hub_listed _ (subst (λ (h : Hosting). IsSome (hub_at c.args.hub.now h.entries)) (sym c.self.view_is) c.requires) in
     let listed = subst (λ (p : List ℕ). IsSome (finding_at p c.poll.new.self.entries)) (sym c.duplicate.ensures) (subst (λ (es : Entries). IsSome (finding_at c.args.hub.now es)) (sym c.poll.ensures.through.entries) at) in
-    rw (← c.self.view_is) (match_err c.from_residual.result _ _ c.from_residual.ensures.0 (lost_single _ _ _ _ c.in_err-drop_hub-in-Err.was (hub_lost _ _ _ _ _ listed (stays_kept _ _ c.poll.ensures.through.entries c.poll.ensures.went.spends.roots c.poll.ensures.keeps.addresses) c.drop_hub.ensures.owned)))
+    let polled = stays_kept _ _ c.poll.ensures.through.entries c.poll.ensures.went.spends.roots c.poll.ensures.keeps.levels.worlds.addresses in
+    rw (← c.self.view_is) (hub_fails c.from_residual-in_err-drop_hub-in-Err.result _ _ _ c.from_residual-in_err-drop_hub-in-Err.ensures.0 (stays_none _) (lost_single _ _ _ _ c.in_err-drop_hub-in-Err.was (hub_lost _ _ _ _ _ listed polled c.drop_hub.ensures.owned)) c.args.hub.now)
 
-pub returns-in-Ok-None-clause-owned : goal.returns-in-Ok-None-clause-owned
-returns-in-Ok-None-clause-owned g c = rw (← c.self.view_is) (stays_kept _ _ c.poll.ensures.through.entries c.poll.ensures.went.spends.roots c.poll.ensures.keeps.addresses)
-
-pub returns-in-Ok-Some-clause-owned : goal.returns-in-Ok-Some-clause-owned
-returns-in-Ok-Some-clause-owned g c = rw (← c.self.view_is) (keeps_after c.serve_told.result _ _ _ (stays_kept _ _ c.poll.ensures.through.entries c.poll.ensures.went.spends.roots c.poll.ensures.keeps.addresses) c.serve_told.ensures.owned)
-
-pub returns-in-Err-Bus-clause-owned : goal.returns-in-Err-Bus-clause-owned
-returns-in-Err-Bus-clause-owned g c = rw (← c.self.view_is) (single_kept _ _ c.poll.ensures.through.entries c.poll.ensures.keeps.addresses)
-
-pub returns-in_ok-drop_hub-in-Err-clause-owned : goal.returns-in_ok-drop_hub-in-Err-clause-owned
-returns-in_ok-drop_hub-in-Err-clause-owned g c =
-    let at = subst (λ (h : Hosting). IsSome (finding_at c.args.hub.now h.entries)) (sym c.self.view_is) c.requires in
-    let listed = subst (λ (p : List ℕ). IsSome (finding_at p c.poll.new.self.entries)) (sym c.duplicate.ensures) (subst (λ (es : Entries). IsSome (finding_at c.args.hub.now es)) (sym c.poll.ensures.through.entries) at) in
-    rw (← c.self.view_is) (lost_stays _ _ _ c.in_ok-drop_hub-in-Err.was (hub_lost _ _ _ _ _ listed (stays_kept _ _ c.poll.ensures.through.entries c.poll.ensures.went.spends.roots c.poll.ensures.keeps.addresses) c.drop_hub.ensures.owned))
+pub returns-in_ok-drop_hub-in-Err-clause-keeps : goal.returns-in_ok-drop_hub-in-Err-clause-keeps
+returns-in_ok-drop_hub-in-Err-clause-keeps g c =
+    let listed = subst (λ (h : Hosting). IsSome (hub_at c.args.hub.now h.entries)) (sym c.self.view_is) c.requires in
+    let failed = unserved _ _ c.in-Err.field-0 _ _ c.in-Err.ensures.polled in
+    rw (← c.self.view_is) (hub_gone c.args.hub.now (Err c.in-Err.field-0) _ _ c.self.invariant c.poll.ensures.through.entries refl refl c.poll.ensures.went c.in-Err.ensures.keeps _ _ failed listed c.drop_hub.ensures.goes
+    (rw c.duplicate.ensures at c.in_ok-drop_hub-in-Err.ensures.owned) (rw c.duplicate.ensures at c.in_ok-drop_hub-in-Err.ensures.sound))

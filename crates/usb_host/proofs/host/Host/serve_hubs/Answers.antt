@@ -1,29 +1,55 @@
-use Rattle.std.proofs.Common.{arith, refl}
+use Rattle.std.proofs.Common.{arith, refl, sym, ◌∙◌}
 use Rattle.usb_host.specs.Bounds.{hub_bound}
+use Rattle.usb_world.specs.Steps.{here}
 use Rattle.usb_host.proofs.Owners.{stays_then, stays_none}
+use Rattle.usb_host.proofs.Parts.{hubs_fail}
+use Rattle.usb_host.proofs.Restings.{ok_is, next_listed, calm_then, polled_then, polled_all}
+use Rattle.usb_host.specs.declared.host.Round.TheVariants.{Quiet}
+use Rattle.usb_host.proofs.Soundness.{sound_none, sound_then}
 use Rattle.usb_host.proofs.Joins.{did_then, goes_none}
 use Rattle.usb_host.proofs.Ranks.{rank_goes, rank_within, rank_rises, rank_most, rank_after_most}
 use Rattle.usb_host.proofs.host.Host.serve_hubs.Goals as goal
 
 pub hubs-init : goal.hubs-init
-hubs-init g c = record { goes = goes_none 0 _; did = refl; owned = stays_none _; path = tt }
+hubs-init g c = record { goes = goes_none 0 _; did = refl; owned = stays_none _; sound = sound_none _; calm = λ quiet still x. here _; polled = λ s quiet still taken hub first. absurd (first tt); path = tt }
 
 pub returns-in_err-serve_hub-clause-goes : goal.returns-in_err-serve_hub-clause-goes
 returns-in_err-serve_hub-clause-goes g c =
-    rank_within hub_bound _ _ (rank_goes hub_bound c.hubs.last c.in-Some.hub _ _ _ c.hubs.invariant.path c.serve_hub.ensures.path c.in-Some.ensures.after c.hubs.invariant.goes c.serve_hub.ensures.goes) (rank_most c.in-Some.hub c.serve_hub.ensures.path)
+    rank_within hub_bound _ _ (rank_goes hub_bound c.hubs.last c.in-Some.hub _ _ _ c.hubs.invariant.path c.serve_hub.ensures.path c.in-Some.ensures.some.stands.after c.hubs.invariant.goes c.serve_hub.ensures.goes) (rank_most c.in-Some.hub c.serve_hub.ensures.path)
+
+pub serve_hub-requires : goal.serve_hub-requires
+serve_hub-requires g c = next_listed c.hubs.last c.in-Some.hub c.hubs.self.entries c.in-Some.ensures.some
 
 pub hubs-smaller : goal.hubs-smaller
 hubs-smaller g c =
-    let rises = rank_rises c.hubs.last c.in-Some.hub c.hubs.invariant.path c.serve_hub.ensures.path c.in-Some.ensures.after in
+    let rises = rank_rises c.hubs.last c.in-Some.hub c.hubs.invariant.path c.serve_hub.ensures.path c.in-Some.ensures.some.stands.after in
     omega (arith, rises, rank_most c.in-Some.hub c.serve_hub.ensures.path)
 
 pub hubs-preserved : goal.hubs-preserved
 hubs-preserved g c = record {
-  goes = rank_goes hub_bound c.hubs.last c.in-Some.hub _ _ _ c.hubs.invariant.path c.serve_hub.ensures.path c.in-Some.ensures.after c.hubs.invariant.goes c.serve_hub.ensures.goes;
+  goes = rank_goes hub_bound c.hubs.last c.in-Some.hub _ _ _ c.hubs.invariant.path c.serve_hub.ensures.path c.in-Some.ensures.some.stands.after c.hubs.invariant.goes c.serve_hub.ensures.goes;
   did = rw c.and-round.ensures (did_then _ _ c.hubs.round c.in_ok-serve_hub.field-0 c.args.self.now c.hubs.self c.serve_hub.new.self c.hubs.invariant.goes c.serve_hub.ensures.goes c.hubs.invariant.did c.in_ok-serve_hub.ensures.did);
-  owned = stays_then _ _ _ c.hubs.invariant.owned c.in_ok-serve_hub.ensures.owned;
+  owned = stays_then _ _ _ c.hubs.invariant.owned c.in_ok-serve_hub.ensures.keeps.owned;
+  sound = sound_then _ _ _ _ _ c.hubs.invariant.goes.went c.serve_hub.ensures.goes.went c.hubs.invariant.sound c.in_ok-serve_hub.ensures.keeps.sound;
+  calm = λ quiet still.
+      calm_then _ _ c.hubs.round c.in_ok-serve_hub.field-0 c.args.self.now c.hubs.self c.serve_hub.new.self c.hubs.invariant.goes c.serve_hub.ensures.goes (sym c.and-round.ensures ∙ quiet) still c.hubs.invariant.calm c.in_ok-serve_hub.ensures.keeps.calm;
+  polled = λ s quiet still taken.
+      polled_then _ _ c.hubs.round c.in_ok-serve_hub.field-0 c.args.self.now c.hubs.self c.serve_hub.new.self c.hubs.invariant.goes c.serve_hub.ensures.goes (sym c.and-round.ensures ∙ quiet) still c.hubs.last c.in-Some.hub c.in-Some.ensures.some taken s
+      c.hubs.invariant.sound c.in_ok-serve_hub.ensures.did c.hubs.invariant.polled c.in_ok-serve_hub.ensures.keeps;
   path = c.serve_hub.ensures.path;
 }
 
 pub returns-clause-goes : goal.returns-clause-goes
 returns-clause-goes g c = rank_within hub_bound _ _ c.hubs.invariant.goes (rank_after_most c.hubs.last c.hubs.invariant.path)
+
+pub returns-in_err-serve_hub-clause-keeps : goal.returns-in_err-serve_hub-clause-keeps
+returns-in_err-serve_hub-clause-keeps g c = hubs_fail c.from_residual.result _ _ _ c.from_residual.ensures.0 c.hubs.invariant.owned c.in_err-serve_hub.ensures.keeps.owned
+
+pub returns-clause-keeps : goal.returns-clause-keeps
+returns-clause-keeps g c = record {
+  owned = c.hubs.invariant.owned;
+  sound = c.hubs.invariant.sound;
+  calm = λ is still. c.hubs.invariant.calm (ok_is c.hubs.round Quiet is) still;
+  silent = λ s is still taken. polled_all c.hubs.last c.hubs.self c.in_default.ensures.none (c.hubs.invariant.polled s (ok_is c.hubs.round Quiet is) still taken);
+  agrees = c.in_default.ensures.agree;
+}

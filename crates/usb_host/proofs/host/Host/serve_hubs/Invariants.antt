@@ -1,10 +1,14 @@
-use Rattle.std.proofs.Common.{◌-◌, ◌*◌}
+use Rattle.std.proofs.Common.{◌≡◌, ◌-◌, ◌*◌, None}
 use Rattle.std.specs.Prelude.{IfSome}
 use Rattle.usb_port.specs.Path.{IsPath}
+use Rattle.usb_hub.specs.Requests.{AllRest}
 use Rattle.usb_host.specs.Bounds.{hub_bound}
 use Rattle.usb_host.specs.Owning.{StaysOwned}
 use Rattle.usb_host.specs.Progress.{Goes, Did}
+use Rattle.usb_host.specs.Sound.{IsSound, StaysSound}
+use Rattle.usb_host.specs.declared.host.Round.TheVariants.{Quiet}
 use Rattle.usb_host.proofs.Ranks.{rank_after}
+use Rattle.usb_host.proofs.Restings.{Polled}
 use Rattle.usb_host.proofs.host.Host.serve_hubs.Given as goal
 
 abbrev pub invariant-hubs : goal.invariant-hubs
@@ -12,6 +16,9 @@ invariant-hubs g l = record {
   goes : Goes (rank_after l.last * hub_bound) l.initial.self l.self;
   did : Did l.round l.initial.self l.self;
   owned : StaysOwned l.initial.self l.self;
+  sound : StaysSound l.initial.self l.self;
+  calm : l.round ≡ Quiet → l.self.world.fault ≡ None → AllRest l.initial.self.world l.self.world;
+  polled : IsSound l.initial.self → l.round ≡ Quiet → l.self.world.fault ≡ None → l.self.world.taken ≡ l.initial.self.world.taken → Polled l.last l.self;
   path : IfSome l.last IsPath;
 }
 

@@ -4,12 +4,14 @@ use Rattle.usb_host.specs.Hosting.{Hosting}
 use Rattle.usb_host.specs.declared.host.Round.TheVariants.{Quiet}
 use Rattle.usb_host.proofs.Joins.{goes_none, goes_then, goes_wider, worked_after}
 use Rattle.usb_host.proofs.Owners.{stays_none, stays_then}
+use Rattle.usb_host.proofs.Parts.{part_fails}
 use Rattle.usb_host.proofs.Quiets.{none_changed}
+use Rattle.usb_host.proofs.Soundness.{sound_none, sound_then}
 use Rattle.usb_host.proofs.host.Host.serve_roots.Goals as goal
 use Rattle.usb_host.proofs.host.Host.serve_roots.Goals.{then-has_changed+in_ok-handle_root, else-has_changed}
 
 pub ports-init : goal.ports-init
-ports-init g c = record { goes = goes_none 0 _; did = refl; owned = stays_none _; same = λ _. refl; unchanged = λ _ n least below. absurd (omega (arith, least, below)) }
+ports-init g c = record { goes = goes_none 0 _; did = refl; owned = stays_none _; sound = sound_none _; same = λ _. refl; unchanged = λ _ n least below. absurd (omega (arith, least, below)) }
 
 pub returns-in_err-handle_root-clause-goes : goal.returns-in_err-handle_root-clause-goes
 returns-in_err-handle_root-clause-goes g c = goes_then _ _ _ _ _ _ c.ports.invariant.goes c.handle_root.ensures.goes (omega (arith, c.ports.auto.number, c.ports-test.true, c.root_ports-roots.ensures.most))
@@ -20,6 +22,7 @@ ports-preserved g c = elim c.if-has_changed.branch [
     goes = goes_then _ _ _ _ _ _ c.ports.invariant.goes w.handle_root.ensures.goes (omega (arith, c.ports.auto.number));
     did = worked_after _ c.ports.round c.args.self.now c.ports.self w.handle_root.new.self c.ports.invariant.goes c.ports.invariant.did (w.in_ok-handle_root.ensures.advances (sym c.has_changed.ensures ∙ w.if-has_changed.true));
     owned = stays_then _ _ _ c.ports.invariant.owned w.in_ok-handle_root.ensures.owned;
+    sound = sound_then _ _ _ _ _ c.ports.invariant.goes.went w.handle_root.ensures.goes.went c.ports.invariant.sound w.in_ok-handle_root.ensures.sound;
     same = λ quiet. absurd (cc quiet);
     unchanged = λ quiet. absurd (cc quiet);
   })
@@ -27,6 +30,7 @@ ports-preserved g c = elim c.if-has_changed.branch [
     goes = goes_wider _ _ _ _ c.ports.invariant.goes (omega (arith, c.ports.auto.number));
     did = c.ports.invariant.did;
     owned = c.ports.invariant.owned;
+    sound = c.ports.invariant.sound;
     same = c.ports.invariant.same;
     unchanged = λ quiet n least below.
         let here = ap (λ (h : Hosting). (port_at h.world c.ports.number).connection_changed) (sym (c.ports.invariant.same quiet)) ∙ sym c.has_changed.ensures ∙ w.if-has_changed.false in
@@ -42,4 +46,13 @@ pub returns-clause-none : goal.returns-clause-none
 returns-clause-none g c = λ is.
     let quiet : c.ports.round ≡ Quiet = cc is in
     let roots = ap (λ (h : Hosting). roots_of h.world) c.self.view_is in
-    none_changed c.args.self.now.world c.ports.number (omega (arith, c.ports-test.false, c.root_ports-roots.ensures.count, roots)) (c.ports.invariant.unchanged quiet)
+    record {
+      same = c.ports.invariant.same quiet;
+      none = none_changed c.args.self.now.world c.ports.number (omega (arith, c.ports-test.false, c.root_ports-roots.ensures.count, roots)) (c.ports.invariant.unchanged quiet);
+    }
+
+pub returns-in_err-handle_root-clause-keeps : goal.returns-in_err-handle_root-clause-keeps
+returns-in_err-handle_root-clause-keeps g c = part_fails c.from_residual.result _ _ _ c.from_residual.ensures.0 c.ports.invariant.owned c.in_err-handle_root.ensures.owned
+
+pub returns-clause-keeps : goal.returns-clause-keeps
+returns-clause-keeps g c = record { owned = c.ports.invariant.owned; sound = c.ports.invariant.sound }

@@ -1,12 +1,14 @@
 use Rattle.std.proofs.Common.{◌-◌, ◌*◌}
 use Rattle.usb_host.specs.Bounds.{handling_bound}
 use Rattle.usb_host.specs.Owning.{StaysOwned}
-use Rattle.usb_host.specs.Progress.{Goes, Did}
+use Rattle.usb_host.specs.Progress.{Goes, Holds}
+use Rattle.usb_host.specs.Sound.{StaysSound}
 use Rattle.usb_host.proofs.host.Host.serve_told.Given as goal
 
 abbrev pub invariant-ports : goal.invariant-ports
 invariant-ports g l = record {
   goes : Goes ((l.number - 1) * handling_bound) l.initial.self l.self;
-  did : Did l.round l.initial.self l.self;
+  holds : Holds l.initial.self l.self;
   owned : StaysOwned l.initial.self l.self;
+  sound : StaysSound l.initial.self l.self;
 }

@@ -40,7 +40,7 @@ returns-in_err-listing-clause-next g c =
     let old = c.args.self.now.host in
     let new = c.item_of_events.new.host in
     let reaches : Reaches old (Ok None) new = subst (λ x. NextAsked old (Ok x) new) c.in_default.is c.in_ok-item.ensures.on.goes in
-    next_failed _ c.from_residual-in_err-listing.result c.in_err-listing.field-0.0 c.from_residual-in_err-listing.ensures.1 c.if-self.false (at_event (Ok None) reaches (works_none new))
+    next_failed _ c.from_residual-in_err-listing.result c.in_err-listing.field-0.0 c.from_residual-in_err-listing.ensures.1 c.if-self.false (at_event (Ok None) reaches (works_none new c.in_ok-item.ensures.on.running))
 
 pub returns-clause-next : goal.returns-clause-next
 returns-clause-next g c =

@@ -1,15 +1,19 @@
-use Rattle.std.proofs.Common.{◌≡◌, ◌∙◌, refl, sym, ap, subst, arith, Err}
+use Rattle.std.proofs.Common.{None, ◌≡◌, ◌∙◌, refl, sym, ap, subst, arith, Err}
+use Rattle.usb_world.specs.World.{World}
 use Rattle.slab.specs.Slab.{get, with_value}
 use Rattle.usb_bus.proofs.Wents.{went_none, went_wider}
 use Rattle.usb_table.specs.declared.pipes.Pipes.{Pipes}
 use Rattle.usb_table.specs.declared.pipes.Pipes.TheVariants.{Absent}
 use Rattle.usb_table.specs.declared.fault.EndpointFault.TheVariants.{NoDevice}
 use Rattle.usb_table.specs.Keys.{table_of}
+use Rattle.usb_table.specs.Levels.{KeepsMoved}
 use Rattle.usb_table.specs.Table.{Table, pipes_at, GoesThrough}
-use Rattle.usb_table.specs.Transfers.{Cleared}
+use Rattle.usb_table.specs.Transfers.{Cleared, Keeps}
 use Rattle.usb_table.proofs.Keeping.{spares_none, cleared_spares}
 use Rattle.usb_table.proofs.Kept.{cleared_keeps}
-use Rattle.usb_table.proofs.Throughs.{Through, through_slot, through_none, pipes_none, told_at}
+use Rattle.usb_table.proofs.Moved.{cleared_levels}
+use Rattle.usb_table.proofs.Levels.{still_levels}
+use Rattle.usb_table.proofs.Throughs.{Through, through_slot, found_slot, through_none, pipes_none, told_at}
 use Rattle.usb_table.proofs.table.DeviceTable.clear_halt.Goals as goal
 
 -- the entry is written back with the pipes that the call left
@@ -35,7 +39,17 @@ returns-in-Some-clause-cleared g c =
 
 pub returns-in-Some-clause-keeps : goal.returns-in-Some-clause-keeps
 returns-in-Some-clause-keeps g c =
-    cleared_spares c.index_mut.result.now.pipes c.clear_halt.new.self.pipes _ c.clear_halt.result _ c.clear_halt.ensures.cleared
+    let s = c.self.inside in
+    let w : World = g.B.Bus.world c.args.bus.now in
+    let v : World = g.B.Bus.world c.clear_halt.new.bus in
+    let was : Table = table_of (get s.entries) s.indexes.by_path.entries in
+    let left : Table = table_of (get (with_value s.entries c.in-Some.key.now c.clear_halt.new.self)) s.indexes.by_path.entries in
+    let keeps : Keeps w v = cleared_spares c.index_mut.result.now.pipes c.clear_halt.new.self.pipes _ c.clear_halt.result _ c.clear_halt.ensures.cleared in
+    subst (λ (t : Table). KeepsMoved c.args.path.now t w left v) c.self.view_is
+    (cleared_levels c.args.path.now was left w v (passed g c).goes keeps c.clear_halt.result c.index_mut.result.now.finding
+    (found_slot c.args.path.now s.entries s.indexes.by_path.entries c.in-Some.key.now c.index_mut.result.now (sym c.in-Some.ensures.value) c.index_mut.ensures.value)
+    (told_at (λ p q. Cleared p (g.B.Bus.world c.args.bus.now) c.clear_halt.result q (g.B.Bus.world c.clear_halt.new.bus))
+    c.index_mut.result.now.pipes c.clear_halt.new.self.pipes _ _ (passed g c).before (passed g c).then c.clear_halt.ensures.cleared))
 
 pub returns-in-None-clause-through : goal.returns-in-None-clause-through
 returns-in-None-clause-through g c =
@@ -52,4 +66,9 @@ returns-in-None-clause-cleared g c =
     subst (λ (p : Pipes). Cleared p (g.B.Bus.world c.args.bus.now) (Err NoDevice) p (g.B.Bus.world c.args.bus.now)) (sym none) (refl, refl, refl)
 
 pub returns-in-None-clause-keeps : goal.returns-in-None-clause-keeps
-returns-in-None-clause-keeps g c = spares_none (g.B.Bus.world c.args.bus.now)
+returns-in-None-clause-keeps g c =
+    let s = c.self.inside in
+    let w : World = g.B.Bus.world c.args.bus.now in
+    let was : Table = table_of (get s.entries) s.indexes.by_path.entries in
+    subst (λ (t : Table). KeepsMoved c.args.path.now t w t w) c.self.view_is
+    (still_levels c.args.path.now (w.fault ≡ None) was was w w (through_none c.args.path.now (get s.entries) s.indexes.by_path.entries s.indexes.by_address.entries c.self.invariant.0 c.self.invariant.1) refl refl (spares_none w))

@@ -1,0 +1,350 @@
+-- What stays fair in an enumeration from one call to the next, and when a hub is lost.
+use Rattle.std.proofs.Common.{◌≡◌, ◌⊎◌, inl, inr, ◌≤◌, ◌&&◌, ◌||◌, not, if◌then◌else◌, ◌==◌, ℕ, zero, suc, Bool, true, false, List, [], ◌∷◌, ◌++◌, Option, None, Some, is_some, option_map, Result, Ok, Err, refl, ap, sym, subst, ◌∙◌}
+use Rattle.std.specs.Prelude.{IsSome, IsSomeAnd}
+use Rattle.std.proofs.lemmas.Option.{same_Some}
+use Rattle.usb_port.specs.Order.{parent_of}
+use Rattle.usb_port.specs.PortState.{PortState}
+use Rattle.usb_port.proofs.OrderLaws.{parent}
+use Rattle.usb_device.specs.declared.calls.PortCall.{PortCall}
+use Rattle.usb_device.specs.Rows.{State}
+use Rattle.usb_device.specs.Tree.{Ports, ended, vacant, taken, reach, reach_at, state_at, port_at}
+use Rattle.usb_device.specs.View.{state_there, port_there}
+use Rattle.usb_world.specs.Courses.{Spares}
+use Rattle.usb_world.specs.Devices.{Was}
+use Rattle.usb_world.specs.Live.{is_way, live, pend, pend_at}
+use Rattle.usb_world.specs.Passes.{deep_at}
+use Rattle.usb_world.specs.PluggedAt.{spec_of}
+use Rattle.usb_world.specs.Resting.{AsksNothingOf, SameAt, RestsOrPends, StandsOrPends}
+use Rattle.usb_world.specs.Sane.{IsSane}
+use Rattle.usb_world.specs.Steps.{Course}
+use Rattle.usb_world.specs.World.{World}
+use Rattle.usb_world.proofs.AddressesReset.{self_number}
+use Rattle.usb_world.proofs.Booleans.{no}
+use Rattle.usb_world.proofs.Resting.{rests_or_pends, stands_or_pends}
+use Rattle.usb_world.proofs.SaneLaws.{reach_live}
+use Rattle.usb_world.proofs.WorldLaws.{course_wider, pending_persists}
+use Rattle.usb_bus.specs.Traced.{WentOn}
+use Rattle.usb_transaction.specs.declared.target.Target.{Target}
+use Rattle.usb_address.specs.Claims.{Claims}
+use Rattle.usb_address.specs.Owned.{Enumerating, TillFault}
+use Rattle.usb_pipe.specs.declared.fault.PipeFault.{PipeFault}
+use Rattle.usb_pipe.specs.declared.fault.PipeFault.TheVariants as pipe
+use Rattle.usb_hub.specs.declared.port.HubPort.{HubPort}
+use Rattle.usb_hub.specs.declared.port.HubPort.TheVariants.{Root, External}
+use Rattle.usb_hub.specs.Addresses.{IsAt, IsBelow, StaysAs}
+use Rattle.usb_hub.specs.Why.{HasPort, Serves, IsServed}
+use Rattle.usb_enum.specs.declared.cause.Cause.{Cause}
+use Rattle.usb_enum.specs.declared.fault.EnumFault.{EnumFault}
+use Rattle.usb_enum.specs.declared.fault.EnumFault.TheVariants as fault
+use Rattle.usb_enum.specs.declared.stop.Stop.{Stop}
+use Rattle.usb_enum.specs.declared.stop.Stop.TheVariants.{Refused, Fault}
+use Rattle.usb_device.specs.Spec.{Spec}
+use Rattle.usb_enum.specs.Addresses.{IsSpare, AtPort}
+use Rattle.usb_enum.specs.Calls.{CalledAt, StatusAt}
+use Rattle.usb_enum.specs.Fair.{ServesAt, HasServer, HubPends, IsFairAt, PendsOr, FaultsFor, StopsFor, Stops, Faulted}
+use Rattle.usb_enum.specs.Frames.{OnlyAt}
+use Rattle.usb_enum.specs.Places.{IsOccupied, IsReachedAt}
+use Rattle.usb_enum.specs.Present.{AtPath}
+use Rattle.usb_enum.specs.Stop.{at_port, FaultAt, FaultTold}
+use Rattle.usb_enum.proofs.Courses.{went_sound, went_in_order, went_course}
+use Rattle.usb_enum.proofs.Damages.{went_three}
+use Rattle.usb_enum.proofs.Enumerations.{till_weaker}
+use Rattle.usb_enum.proofs.Losses.{few_before}
+use Rattle.usb_enum.proofs.Reaching.{some_of, standing, occupied_on}
+
+-- The hub of a port
+
+above : (q : List ℕ) (n : ℕ) → is_way (q ++ (n ∷ [])) q ≡ false
+unfolding is_way
+above [] n = refl
+above (m ∷ q) n = rw (self_number m) (above q n)
+
+module _ (f : Claims) (hub : Target) (n : ℕ) (p : List ℕ) (at : IsBelow f hub.addr n p) where
+  pub parent_is : parent_of p ≡ Some at.hub
+  parent_is = ap parent_of at.path ∙ parent at.hub n at.is_path.0
+
+  apart : is_way p at.hub ≡ false
+  apart = ap (λ x. is_way x at.hub) at.path ∙ above at.hub n
+
+  module _ (old new : World) (only : OnlyAt p old new) where
+    hub_asks : Course (AsksNothingOf at.hub) old new
+    hub_asks = only.others at.hub apart
+
+    hub_pends_on : pend old.roots at.hub ≡ true → pend new.roots at.hub ≡ true
+    hub_pends_on h = pending_persists at.hub (course_wider (λ s w k. k.spares) hub_asks) h
+
+    module _ (sane : IsSane old.roots) (was : ServesAt hub n at.hub old) where
+      abbrev j : ℕ
+      j = was.serves.j
+
+      abbrev e : List ℕ
+      e = was.serves.p
+
+      hub_live : live old.roots at.hub ≡ true
+      hub_live = subst (λ q. live old.roots q ≡ true) (sym was.there) (reach_live old.roots j e sane was.serves.on)
+
+      hub_served : (v : State) → reach_at new.roots j e ≡ true → state_at new.roots j e ≡ Some v → ServesAt hub n at.hub new
+      hub_served v on there =
+          let before : Was StaysAs old j e v = only.devices j e v (subst (λ q. is_way p q ≡ false) was.there apart) on there in
+          let is : before.before ≡ was.serves.state = same_Some before.before was.serves.state (sym before.stands ∙ was.serves.stands) in
+          let spec : v.spec ≡ was.serves.state.spec = before.so.0 ∙ ap (λ s. s.spec) is in
+          let registers : v.registers ≡ was.serves.state.registers = before.so.1 ∙ ap (λ s. s.registers) is in
+          record {
+            serves = record {
+              j = j;
+              p = e;
+              state = v;
+              on = on;
+              stands = there;
+              listens = record {
+                at = ap (λ r. r.address == hub.addr) registers ∙ was.serves.listens.at;
+                loud = ap (λ x. x.silent) spec ∙ was.serves.listens.loud;
+                hears = ap (λ (x : Spec). if hub.low then x.low && (not (deep_at false e) || hub.pre) else not x.low) spec ∙ was.serves.listens.hears;
+              };
+              addressed = was.serves.addressed;
+              configured = λ z. was.serves.configured (sym (ap (λ r. r.configuration) registers) ∙ z);
+              has = subst (λ x. HasPort x n) (sym spec) was.serves.has;
+            };
+            there = was.there;
+            wide = was.wide;
+          }
+
+      hub_same : SameAt old.roots new.roots at.hub → ServesAt hub n at.hub new
+      hub_same same =
+          let on : reach_at new.roots j e ≡ true = subst (λ q. reach new.roots q ≡ reach old.roots q) was.there same.on ∙ was.serves.on in
+          let what = subst (λ q. option_map spec_of (state_there new.roots q) ≡ option_map spec_of (state_there old.roots q)) was.there same.what in
+          let v = standing (state_at new.roots j e) (some_of (state_at old.roots j e) (state_at new.roots j e) what (ap is_some was.serves.stands)) in
+          hub_served v.0 on v.1
+
+      serves_on : (pend new.roots at.hub ≡ true) ⊎ ServesAt hub n at.hub new
+      serves_on = pick (rests_or_pends at.hub hub_asks hub_live)
+        where
+          pick : RestsOrPends old new at.hub → (pend new.roots at.hub ≡ true) ⊎ ServesAt hub n at.hub new
+          pick (inl y) = inr (hub_same y.1)
+          pick (inr y) = inl y
+
+pub server_on : (f : Claims) (port : HubPort) (p : List ℕ) → IsAt f port p → (old new : World) → IsSane old.roots → OnlyAt p old new → HasServer port p old → HasServer port p new
+server_on f (Root n) p at old new sane only server = tt
+server_on f (External hub n) p at old new sane only server =
+    let P : World → List ℕ → Type 0 = λ w q. (pend w.roots q ≡ true) ⊎ ServesAt hub n q w in
+    subst (λ o. IsSomeAnd o (P new)) (sym (parent_is f hub n p at)) (pick (subst (λ o. IsSomeAnd o (P old)) (parent_is f hub n p at) server))
+  where
+    pick : (pend old.roots at.hub ≡ true) ⊎ ServesAt hub n at.hub old → (pend new.roots at.hub ≡ true) ⊎ ServesAt hub n at.hub new
+    pick (inl h) = inl (hub_pends_on f hub n p at old new only h)
+    pick (inr h) = serves_on f hub n p at old new only sane h
+
+-- where a change of connection is pending at the hub, it stays so
+pub hub_pends_then : (f : Claims) (port : HubPort) (p : List ℕ) → IsAt f port p → (old new : World) → OnlyAt p old new → FaultAt port fault.ParentLost new → HubPends p old → HubPends p new
+hub_pends_then f (Root n) p at old new only can pends = absurd can
+hub_pends_then f (External hub n) p at old new only can pends =
+    subst (λ o. IsSomeAnd o (λ q. pend new.roots q ≡ true)) (sym (parent_is f hub n p at))
+    (hub_pends_on f hub n p at old new only (subst (λ o. IsSomeAnd o (λ q. pend old.roots q ≡ true)) (parent_is f hub n p at) pends))
+
+-- a hub that serves its port is not lost
+pub hub_lost : (f : Claims) (port : HubPort) (p : List ℕ) → IsAt f port p → (why : EnumFault) (new : World) → FaultAt port why new → HasServer port p new
+    → ((hub : Target) (n : ℕ) → port ≡ External hub n → why ≡ fault.ParentLost → (serves : Serves hub n new) → p ≡ suc serves.j ∷ (serves.p ++ (n ∷ [])) → 8 ≤ hub.max → pend new.roots (suc serves.j ∷ serves.p) ≡ true) → FaultsFor p why new
+hub_lost f port p at (fault.Bus why) new told server denies = tt
+hub_lost f port p at fault.Memory new told server denies = tt
+hub_lost f (Root n) p at fault.ParentLost new told server denies = absurd told
+hub_lost f (External hub n) p at fault.ParentLost new told server denies =
+    let P : List ℕ → Type 0 = λ q. (pend new.roots q ≡ true) ⊎ ServesAt hub n q new in
+    subst (λ o. IsSomeAnd o (λ q. pend new.roots q ≡ true)) (sym (parent_is f hub n p at)) (pick (subst (λ o. IsSomeAnd o P) (parent_is f hub n p at) server))
+  where
+    pick : (pend new.roots at.hub ≡ true) ⊎ ServesAt hub n at.hub new → pend new.roots at.hub ≡ true
+    pick (inl h) = h
+    pick (inr h) = subst (λ q. pend new.roots q ≡ true) (sym h.there) (denies hub n refl refl h.serves (at.path ∙ ap (λ q. q ++ (n ∷ [])) h.there) h.wide)
+
+-- a served call loses no hub
+pub unserved : {A : Type 0} (outcome : Result A PipeFault) (why : EnumFault) → Err why ≡ at_port outcome → why ≡ fault.ParentLost → IsServed outcome → ⊥
+unserved (Ok x) why told lost served = cc
+unserved (Err pipe.Stalled) why told lost served = served
+unserved (Err pipe.Busy) why told lost served = served
+unserved (Err pipe.NoAnswer) why told lost served = served
+unserved (Err pipe.Broken) why told lost served = served
+unserved (Err (pipe.Bus f)) why told lost served = cc
+unserved (Err pipe.Memory) why told lost served = cc
+
+-- What is fair
+
+-- no device at the port has taken its address yet
+pub held_spare : (f : Claims) (port : HubPort) (p : List ℕ) (address : ℕ) → IsSpare f port p address → IsSpare f port p 0
+held_spare f port p address spare = record { at = spare.at; free = spare.free; none = spare.none; spare = spare.none }
+
+pub held_wider : (f : Claims) (p : List ℕ) (address : ℕ) (w : World) → TillFault (Enumerating f p 0) w → TillFault (Enumerating f p address) w
+held_wider f p address w t = till_weaker (Enumerating f p 0) (Enumerating f p address) w (λ e. record { has = e.has; is = none e.is; owned = e.owned }) t
+  where
+    none : {n : ℕ} → (n ≡ 0) ⊎ (n ≡ 0) → (n ≡ 0) ⊎ (n ≡ address)
+    none (inl e) = inl e
+    none (inr e) = inl e
+
+module _ (f : Claims) (port : HubPort) (p : List ℕ) (address m n : ℕ) {old mid new : World} {a b c d : Option (List ℕ)} (first : WentOn m old a mid b) (second : WentOn n mid c new d) (fair : IsFairAt f port p address old new) where
+  pub fair_sound : mid.fault ≡ None
+  fair_sound = went_sound n mid new second fair.working
+
+  fair_start : old.fault ≡ None
+  fair_start = went_sound m old mid first fair_sound
+
+  pub fair_before : IsFairAt f port p address old mid
+  fair_before = record {
+    spare = fair.spare;
+    held = fair.held;
+    order = fair.order;
+    occupied = fair.occupied;
+    server = fair.server;
+    few = fair.few;
+    kept = few_before (went_course n mid new second fair.working) fair.kept;
+    working = fair_sound;
+  }
+
+  pub fair_then : AtPort port address old mid → IsFairAt f port p address mid new
+  fair_then at =
+      let only = at.only.at f p fair.spare fair.held fair_sound in
+      record {
+        spare = fair.spare;
+        held = at.within.stays f p fair.spare fair.held;
+        order = went_in_order m old mid first fair.order;
+        occupied = occupied_on p only.spares fair.occupied;
+        server = server_on f port p fair.spare.at old mid (fair.order fair_start).0.sane only fair.server;
+        few = went_three m old mid first fair.few;
+        kept = fair.kept;
+        working = fair.working;
+      }
+
+-- what calls at the port keep
+pub fair_only : (f : Claims) (port : HubPort) (p : List ℕ) (address : ℕ) {old new : World} → IsFairAt f port p address old new → AtPort port address old new → OnlyAt p old new
+fair_only f port p address fair at = at.only.at f p fair.spare fair.held fair.working
+
+pub fair_single : (f : Claims) (port : HubPort) (p : List ℕ) (address : ℕ) {old new : World} → IsFairAt f port p address old new → AtPort port address old new → new.shared ≡ false
+fair_single f port p address fair at = (at.within.stays f p fair.spare fair.held).single
+
+-- Calls at the port
+
+pub called_faulted : (port : HubPort) (address n : ℕ) (call : Option PortCall) (why : EnumFault) {old new : World} {a b : Option (List ℕ)} → WentOn n old a new b → AtPort port address old new → FaultAt port why new → CalledAt port call old (Err why) new
+    → Faulted port address why old new
+called_faulted port address n call why {old} {new} went at told called = record { why = lost }
+  where
+    lost : (f : Claims) (p : List ℕ) → IsFairAt f port p address old new → FaultsFor p why new
+    lost f p fair =
+        hub_lost f port p fair.spare.at why new told (server_on f port p fair.spare.at old new (fair.order (went_sound n old new went fair.working)).0.sane (fair_only f port p address fair at) fair.server)
+        (λ hub i is parent serves there wide. absurd (unserved called.outcome why called.told parent (called.calls.why hub i is fair.few (fair_single f port p address fair at) serves)))
+
+-- a port stands where its change of connection is pending and that of its hub is not, and where a device stands
+
+pend_row : (k : Ports) (m : ℕ) → pend_at k m [] ≡ true → IsSome (port_at k m [])
+unfolding pend_at port_at
+pend_row ended m h = no h
+pend_row (vacant b k) zero h = refl
+pend_row (vacant b k) (suc m) h = pend_row k m h
+pend_row (taken b s a k) zero h = refl
+pend_row (taken b s a k) (suc m) h = pend_row k m h
+
+pend_below : (k : Ports) (j : ℕ) (e : List ℕ) (n : ℕ) → pend_at k j (e ++ (n ∷ [])) ≡ true → (pend_at k j e ≡ true) ⊎ IsSome (port_at k j (e ++ (n ∷ [])))
+unfolding pend_at port_at
+pend_below ended j e n h = no h
+pend_below (vacant b k) zero e n h = inl h
+pend_below (vacant b k) (suc j) e n h = pend_below k j e n h
+pend_below (taken b s a k) zero [] zero h = inl h
+pend_below (taken b s a k) zero [] (suc m) h = split b.power b.connection_changed h
+  where
+    split : (power changed : Bool) → (power && (changed || pend_at a m [])) ≡ true → ((power && changed) ≡ true) ⊎ IsSome (port_at a m [])
+    split false changed g = no g
+    split true true g = inl refl
+    split true false g = inr (pend_row a m g)
+pend_below (taken b s a k) zero (zero ∷ e) n h = inl h
+pend_below (taken b s a k) zero (suc i ∷ e) n h = split b.power b.connection_changed h (pend_below a i e n)
+  where
+    split : (power changed : Bool) → (power && (changed || pend_at a i (e ++ (n ∷ [])))) ≡ true
+        → (pend_at a i (e ++ (n ∷ [])) ≡ true → (pend_at a i e ≡ true) ⊎ IsSome (port_at a i (e ++ (n ∷ []))))
+        → ((power && (changed || pend_at a i e)) ≡ true) ⊎ IsSome (port_at a i (e ++ (n ∷ [])))
+    split false changed g below = no g
+    split true true g below = inl refl
+    split true false g below = below g
+pend_below (taken b s a k) (suc j) e n h = pend_below k j e n h
+
+port_below : (k : Ports) (j : ℕ) (p : List ℕ) → IsSome (state_at k j p) → IsSome (port_at k j p)
+unfolding state_at port_at
+port_below ended j p h = no h
+port_below (vacant b k) zero p h = no h
+port_below (vacant b k) (suc j) p h = port_below k j p h
+port_below (taken b s a k) zero [] h = refl
+port_below (taken b s a k) zero (zero ∷ p) h = no h
+port_below (taken b s a k) zero (suc i ∷ p) h = port_below a i p h
+port_below (taken b s a k) (suc j) p h = port_below k j p h
+
+stands_at : (o : Option PortState) → IsSome o → (b : PortState) × (o ≡ Some b)
+stands_at None some = no some
+stands_at (Some b) some = (b, refl)
+
+pub port_stands : (k : Ports) (p : List ℕ) → IsSome (state_there k p) → (b : PortState) × (port_there k p ≡ Some b)
+port_stands k [] some = no some
+port_stands k (zero ∷ p) some = no some
+port_stands k (suc j ∷ p) some = stands_at (port_at k j p) (port_below k j p some)
+
+-- where no change is pending at its hub
+hub_port : (w : World) (j : ℕ) (e : List ℕ) (n : ℕ) → IsOccupied w (suc j ∷ (e ++ (n ∷ []))) → (pend w.roots (suc j ∷ e) ≡ true) ⊎ IsSome (port_there w.roots (suc j ∷ (e ++ (n ∷ []))))
+hub_port w j e n (inl h) = pend_below w.roots j e n h
+hub_port w j e n (inr h) = inr (port_below w.roots j (e ++ (n ∷ [])) h.1)
+
+module _ (port : HubPort) (address n : ℕ) (why : EnumFault) {old new : World} {a b : Option (List ℕ)} (went : WentOn n old a new b) (at : AtPort port address old new) (told : FaultAt port why new) (shown : StatusAt port old (Err why) new) where
+  status_denies : (f : Claims) (p : List ℕ) → IsFairAt f port p address old new → (hub : Target) (i : ℕ) → port ≡ External hub i → why ≡ fault.ParentLost → (serves : Serves hub i new) → p ≡ suc serves.j ∷ (serves.p ++ (i ∷ [])) → 8 ≤ hub.max
+      → pend new.roots (suc serves.j ∷ serves.p) ≡ true
+  status_denies f p fair hub i is parent serves there wide = pick (hub_port old serves.j serves.p i (subst (IsOccupied old) there fair.occupied))
+    where
+      off : is_way p (suc serves.j ∷ serves.p) ≡ false
+      off = ap (λ x. is_way x (suc serves.j ∷ serves.p)) there ∙ above (suc serves.j ∷ serves.p) i
+
+      pick : (pend old.roots (suc serves.j ∷ serves.p) ≡ true) ⊎ IsSome (port_there old.roots (suc serves.j ∷ (serves.p ++ (i ∷ [])))) → pend new.roots (suc serves.j ∷ serves.p) ≡ true
+      pick (inl h) = pending_persists (suc serves.j ∷ serves.p) (course_wider (λ s w k. k.spares) ((fair_only f port p address fair at).others (suc serves.j ∷ serves.p) off)) h
+      pick (inr h) =
+          let b = stands_at (port_there old.roots (suc serves.j ∷ (serves.p ++ (i ∷ [])))) h in
+          absurd (unserved shown.outcome why shown.told parent (shown.tells.why hub i is fair.few (fair_single f port p address fair at) wide serves b.0 b.1))
+
+  pub status_faulted : Faulted port address why old new
+  status_faulted = record {
+    why = λ f p fair.
+        hub_lost f port p fair.spare.at why new told
+        (server_on f port p fair.spare.at old new (fair.order (went_sound n old new went fair.working)).0.sane (fair_only f port p address fair at) fair.server)
+        (status_denies f p fair);
+  }
+
+-- What ends an enumeration
+
+pub pends_on : (So : Spec → Type 0) (p : List ℕ) {old new : World} → Course (Spares p) old new → IsOccupied old p → PendsOr So p old → PendsOr So p new
+pends_on So p c (inl pending) so = inl (pending_persists p c pending)
+pends_on So p c (inr is) (inl pending) = inl (pending_persists p c pending)
+pends_on So p {old} {new} c (inr is) (inr so) = pick (stands_or_pends p c is.0)
+  where
+    pick : StandsOrPends old new p → PendsOr So p new
+    pick (inr y) = inl y
+    pick (inl y) =
+        let s = standing (state_there old.roots p) is.1 in
+        inr (λ v there.
+        subst So (same_Some s.0.spec v.spec (sym (ap (option_map spec_of) s.1) ∙ sym y.1 ∙ ap (option_map spec_of) there)) (so s.0 s.1))
+
+pub pends_wider : (A B : Spec → Type 0) (p : List ℕ) (w : World) → ((spec : Spec) → A spec → B spec) → PendsOr A p w → PendsOr B p w
+pends_wider A B p w f (inl pending) = inl pending
+pends_wider A B p w f (inr so) = inr (λ s there. f s.spec (so s there))
+
+-- what is so of the device that is reached is so of the one that stands there
+pub pends_reached : (So : Spec → Type 0) (p : List ℕ) (w : World) → IsReachedAt w p → AtPath (λ s. So s.spec) p w → PendsOr So p w
+pends_reached So p w (inl pending) so = inl pending
+pends_reached So p w (inr is) so = inr (λ s there. so s is.1 there)
+
+stop_wider : (A B : Spec → Option Cause) (f : Claims) (p : List ℕ) (old new : World) → ((spec : Spec) (cause : Cause) → A spec ≡ Some cause → B spec ≡ Some cause) → (stop : Stop) → StopsFor A f p old stop new → StopsFor B f p old stop new
+stop_wider A B f p old new more (Refused cause) stops = λ held. pends_wider (λ spec. A spec ≡ Some cause) (λ spec. B spec ≡ Some cause) p new (λ spec. more spec cause) (stops held)
+stop_wider A B f p old new more (Fault why) stops = stops
+
+pub stops_wider : (A B : Spec → Option Cause) (port : HubPort) (address : ℕ) (stop : Stop) (old new : World) → ((spec : Spec) (cause : Cause) → A spec ≡ Some cause → B spec ≡ Some cause) → Stops A port address stop old new → Stops B port address stop old new
+stops_wider A B port address stop old new more stops = record { why = λ f p fair. stop_wider A B f p old new more stop (stops.why f p fair) }
+
+pub stops_faulted : (wrong : Spec → Option Cause) (port : HubPort) (address : ℕ) (why : EnumFault) (old new : World) → Faulted port address why old new → Stops wrong port address (Fault why) old new
+stops_faulted wrong port address why old new faulted = record { why = faulted.why }
+
+pub faulted_after : (port : HubPort) (address m n : ℕ) (why : EnumFault) {old mid new : World} {a b c d : Option (List ℕ)} → WentOn m old a mid b → WentOn n mid c new d → AtPort port address old mid → Faulted port address why mid new → Faulted port address why old new
+faulted_after port address m n why first second at faulted = record { why = λ f p fair. faulted.why f p (fair_then f port p address m n first second fair at) }
+
+-- no port was asked
+pub none_lost : (p : List ℕ) (why : EnumFault) (w : World) → FaultTold why w → FaultsFor p why w
+none_lost p fault.ParentLost w told = absurd told
+none_lost p (fault.Bus why) w told = tt
+none_lost p fault.Memory w told = tt

@@ -1,0 +1,286 @@
+-- The ports of a hub that was configured, while they are given power one by one: those that have none, and those that have it.
+use Rattle.std.proofs.Common.{◌≡◌, ◌≤◌, ◌<◌, ◌-◌, ◌==◌, ◌&&◌, ◌⊎◌, inl, inr, not, nat_le, ℕ, zero, suc, Bool, true, false, List, [], ◌∷◌, ◌++◌, Option, None, Some, is_some, option_map, Result, Ok, if◌then◌else◌, refl, ap, sym, subst, ◌∙◌, arith}
+use Rattle.std.proofs.lemmas.Bool.Decides.{nat_tests}
+use Rattle.std.proofs.lemmas.Option.{same_Some}
+use Rattle.std.specs.Global.{Vec}
+use Rattle.usb_port.specs.PortState.{PortState, powered_off}
+use Rattle.usb_request.specs.Requests.{set_port_feature, set_configuration, get_hub_descriptor, get_status}
+use Rattle.usb_request.specs.declared.setup.Setup.{Setup}
+use Rattle.usb_device.specs.declared.calls.PortCall.TheVariants.{SetPower}
+use Rattle.usb_device.specs.Calls.{set_call}
+use Rattle.usb_device.specs.declared.request.Registers.{Registers}
+use Rattle.usb_device.specs.Request.{Is, port_named}
+use Rattle.usb_device.specs.Rows.{State}
+use Rattle.usb_device.specs.Spec.{Hub}
+use Rattle.usb_device.specs.Tree.{Ports, ended, vacant, taken, port_of, all_off, place_at, state_at}
+use Rattle.usb_device.specs.View.{port_there, state_there}
+use Rattle.usb_world.specs.Courses.{is_harmless}
+use Rattle.usb_world.specs.Devices.{Was, EachWas}
+use Rattle.usb_world.specs.Live.{address_of, is_way, same_number}
+use Rattle.usb_world.specs.Plugged.{hub_ports}
+use Rattle.usb_world.specs.PluggedAt.{spec_of}
+use Rattle.usb_world.specs.Resting.{AsksNothingOf, RestsOrPends}
+use Rattle.usb_world.specs.Steps.{AnyStep, Course, step}
+use Rattle.usb_world.specs.World.{World}
+use Rattle.usb_world.proofs.Booleans.{no, and_false}
+use Rattle.usb_world.proofs.OneHolderMore.{equal_same}
+use Rattle.usb_world.proofs.PluggedLaws.{ports_stand}
+use Rattle.usb_world.proofs.Resting.{rests_or_pends}
+use Rattle.usb_world.proofs.WorldLaws.{course_joined, course_wider, pending_persists}
+use Rattle.usb_bus.specs.Traced.{WentOn}
+use Rattle.usb_transaction.specs.declared.target.Target.{Target}
+use Rattle.usb_transaction.specs.Answerer.{Answerer}
+use Rattle.usb_transaction.specs.Over.{is_at}
+use Rattle.usb_pipe.specs.declared.fault.PipeFault.{PipeFault}
+use Rattle.usb_pipe.proofs.WhoAnswers.{who_writes}
+use Rattle.usb_address.specs.Claims.{Claims}
+use Rattle.usb_address.specs.Owned.{Owned, TillFault, KeepsAddresses}
+use Rattle.usb_address.proofs.Bare.{below_of}
+use Rattle.usb_address.proofs.Claimed.{Follows, claimed_path, quiet_follows}
+use Rattle.usb_address.proofs.Keeping.{read_keeps}
+use Rattle.usb_address.proofs.Setups.{same_setup}
+use Rattle.usb_address.proofs.Unpowered.{NoPower, stays_unpowered}
+use Rattle.usb_hub.specs.Moments.{PortDone}
+use Rattle.usb_hub.specs.Requests.{AllRest, Asked, Ordered}
+use Rattle.usb_hub.specs.Settings.{ConfigurationAsked, WentOff}
+use Rattle.usb_hub.proofs.Acting.{AsksFor, place_below}
+use Rattle.usb_hub.proofs.Calls.{hub_done, hub_named, hub_rests, set_asks}
+use Rattle.usb_hub.proofs.Keeping.{set_keeps}
+use Rattle.usb_hub.proofs.Powering.{none_of, powered_stands}
+use Rattle.usb_hub.proofs.Standing.{port_of_place}
+use Rattle.usb_enum.specs.declared.hub.HubFacts.{HubFacts}
+use Rattle.usb_enum.specs.Found.{EmptiesPorts}
+use Rattle.usb_enum.specs.Frames.{OnlyAsks}
+use Rattle.usb_enum.specs.Hub.{IsPowered, Powered, Started}
+use Rattle.usb_enum.specs.Places.{IsKnownAs, HasEmptyPorts}
+use Rattle.usb_enum.specs.Present.{IsInOrder, IsOrderly}
+use Rattle.usb_enum.proofs.Courses.{orderly_on, went_in_order}
+use Rattle.usb_enum.proofs.Frames.{ended as sound_end}
+
+-- Numbers
+
+self_number : (n : ℕ) → same_number n n ≡ true
+self_number zero = refl
+self_number (suc n) = self_number n
+
+apart_less : (n i : ℕ) → i < n → same_number n i ≡ false
+apart_less zero i h = absurd (omega (arith, h))
+apart_less (suc n) zero h = refl
+apart_less (suc n) (suc i) h = apart_less n i (omega (arith, h))
+
+apart_more : (n i : ℕ) → n < i → same_number n i ≡ false
+apart_more n zero h = absurd (omega (arith, h))
+apart_more zero (suc i) h = refl
+apart_more (suc n) (suc i) h = apart_more n i (omega (arith, h))
+
+less_or : (i n : ℕ) → i < suc n → (i < n) ⊎ (n ≡ i)
+less_or zero zero h = inr refl
+less_or zero (suc n) h = inl (omega arith)
+less_or (suc i) zero h = absurd (omega (arith, h))
+less_or (suc i) (suc n) h = pick (less_or i n (omega (arith, h)))
+  where
+    pick : (i < n) ⊎ (n ≡ i) → (suc i < suc n) ⊎ (suc n ≡ suc i)
+    pick (inl x) = inl (omega (arith, x))
+    pick (inr x) = inr (ap suc x)
+
+-- two ports of one device
+siblings : (e : List ℕ) (n i : ℕ) → same_number n i ≡ false → is_way (e ++ (suc n ∷ [])) (e ++ (suc i ∷ [])) ≡ false
+unfolding is_way
+siblings [] n i h = ap (λ b. b && true) h
+siblings (m ∷ e) n i h = ap (λ b. same_number m m && b) (siblings e n i h) ∙ and_false (same_number m m)
+
+-- A port that went off
+
+all_off_power : (a : Ports) (i : ℕ) → NoPower (option_map port_of (place_at (all_off a) i []))
+unfolding all_off place_at
+all_off_power ended i b h = absurd (cc h)
+all_off_power (vacant c k) zero b h = ap (λ o. o.power) (sym (same_Some (powered_off c) b h))
+all_off_power (vacant c k) (suc i) b h = all_off_power k i b h
+all_off_power (taken c s a k) zero b h = ap (λ o. o.power) (sym (same_Some (powered_off c) b h))
+all_off_power (taken c s a k) (suc i) b h = all_off_power k i b h
+
+pub off_unpowered : (new : World) (j : ℕ) (e : List ℕ) → WentOff new j e → (i : ℕ) → NoPower (port_there new.roots (suc j ∷ (e ++ (suc i ∷ []))))
+off_unpowered new j e off i = stays_unpowered (suc j ∷ (e ++ (suc i ∷ []))) (course_wider (λ s w k. k.leaves) (off.since (suc j ∷ (e ++ (suc i ∷ []))))) then_off
+  where
+    then_off : NoPower (port_there off.now.roots (suc j ∷ (e ++ (suc i ∷ []))))
+    then_off =
+        subst NoPower
+        (sym (port_of_place off.now.roots (suc j ∷ (e ++ (suc i ∷ []))) ∙ ap (option_map port_of) (place_below off.now.roots j e i [] ∙ ap (λ o. place_at (below_of o) i []) off.off)))
+        (all_off_power off.ports i)
+
+-- A port that the hub has stands there
+
+port_within : (h : Option Hub) (g : Registers) (i : ℕ) → port_named h g (suc i) ≡ Some i → i < hub_ports h
+port_within None g i h = absurd (cc h)
+port_within (Some hub) g i h = within (split (not (g.configuration == 0)) (nat_le 1 (suc i)) (nat_le (suc i) hub.ports) h)
+  where
+    split : (x y z : Bool) → (if x && y && z then Some (suc i - 1) else None) ≡ Some i → z ≡ true
+    split true true true e = refl
+    split true true false e = absurd (cc e)
+    split true false z e = absurd (cc e)
+    split false y z e = absurd (cc e)
+
+    within : nat_le (suc i) hub.ports ≡ true → i < hub.ports
+    within e = grind (arith, nat_tests, e)
+
+there_is : (o : Option PortState) → is_some o ≡ true → (b : PortState) × (o ≡ Some b)
+there_is None h = no h
+there_is (Some b) h = (b, refl)
+
+-- Ports of a hub at a path
+
+-- a port that is known as empty, and of which nothing is asked
+pub vacant_on : (p : List ℕ) {old new : World} → Course (AsksNothingOf p) old new → IsKnownAs old p None → IsKnownAs new p None
+vacant_on p {old} {new} c (inl x) = inl (pending_persists p (course_wider (λ s w k. k.spares) c) x)
+vacant_on p {old} {new} c (inr x) = pick (rests_or_pends p c x.0)
+  where
+    pick : RestsOrPends old new p → IsKnownAs new p None
+    pick (inl y) = inr (y.0, none_of (state_there new.roots p) (state_there old.roots p) y.1.what x.1)
+    pick (inr y) = inl y
+
+done_course : {p : List ℕ} {old new : World} → PortDone p SetPower old new → Course AnyStep old new
+done_course {p} x = course_joined (course_wider (λ s w k. tt) x.repeats) (step x.last tt (course_wider (λ s w k. tt) (x.since p)))
+
+module _ (t : Target) (f : Claims) (j : ℕ) (e : List ℕ) (held : f (suc j ∷ e) ≡ Some t.addr) where
+  abbrev port : ℕ → List ℕ
+  port i = suc j ∷ (e ++ (suc i ∷ []))
+
+  -- the first so many ports were given power, and the others have none
+  pub record Given (n : ℕ) (w : World) : Type 0 where
+    pub sound : w.fault ≡ None
+    pub owned : Owned f w
+    pub order : IsOrderly w
+    pub powered : (i : ℕ) → i < n → IsKnownAs w (port i) None
+    pub off : (i : ℕ) → n ≤ i → NoPower (port_there w.roots (port i))
+
+  module _ (n : ℕ) (old new : World) (ordered : IsPowered t (suc n) old new) (was : Given n old) where
+    asked : AsksFor (set_port_feature 8 (suc n)) SetPower (suc n)
+    unfolding set_call
+    asked = set_asks (suc n) SetPower 8 (inr refl) refl
+
+    follows : Follows t (set_port_feature 8 (suc n)) (suc j ∷ e) (Owned f)
+    follows = quiet_follows t (set_port_feature 8 (suc n)) asked.same f (suc j ∷ e) (asked.harmless refl) held
+
+    owned : Owned f new
+    owned = ((set_keeps t 8 (suc n) old (Ok tt) new (λ h. absurd cc) ordered).kept f (record { so = λ h. was.owned; single = was.owned.single })).so ordered.ends.still
+
+    done : PortDone (port n) SetPower old new
+    done = hub_done t j e n (set_port_feature 8 (suc n)) SetPower asked (Owned f) follows old new ordered was.owned owned (λ h. no (sym h ∙ asked.harmless refl))
+
+    has : (s : State) × ((state_at old.roots j e ≡ Some s) × (port_named s.spec.hub s.registers (suc n) ≡ Some n))
+    has = hub_named t j e n (set_port_feature 8 (suc n)) SetPower asked (Owned f) follows old new ordered was.owned owned (λ h. no (sym h ∙ asked.harmless refl))
+
+    stood : (b : PortState) × (port_there old.roots (port n) ≡ Some b)
+    stood =
+        there_is (port_there old.roots (port n))
+        (ports_stand was.order.1.plan was.order.1.is was.order.1.paths old was.order.1.course j e has.0.spec n (ap (option_map spec_of) has.1.0) (port_within has.0.spec.hub has.0.registers n has.1.1))
+
+    now_powered : IsKnownAs new (port n) None
+    now_powered = powered_stands (port n) old new done was.order.0 stood.0 stood.1 (was.off n (omega arith) stood.0 stood.1)
+
+    rests : (i : ℕ) → same_number n i ≡ false → Course (AsksNothingOf (port i)) old new
+    rests i apart =
+        hub_rests t j e n (set_port_feature 8 (suc n)) SetPower asked (Owned f) follows old (Ok tt) new tt ordered.stages was.owned (port i) (siblings (suc j ∷ e) n i apart)
+
+    one_more : Given (suc n) new
+    one_more = record {
+      sound = ordered.ends.still;
+      owned = owned;
+      order = orderly_on was.order (done_course done);
+      powered = λ i below. by_number i (less_or i n below);
+      off = λ i above. stays_unpowered (port i) (course_wider (λ s w k. k.leaves) (rests i (apart_more n i (omega (arith, above))))) (was.off i (omega (arith, above)));
+    }
+      where
+        by_number : (i : ℕ) → (i < n) ⊎ (n ≡ i) → IsKnownAs new (port i) None
+        by_number i (inl below) = vacant_on (port i) (rests i (apart_less n i below)) (was.powered i below)
+        by_number i (inr same) = subst (λ i. IsKnownAs new (port i) None) same now_powered
+
+  pub all_given : (n : ℕ) (old new : World) → Powered t n old new → Given 0 old → Given n new
+  all_given zero old new same was = subst (Given 0) (sym same) was
+  all_given (suc n) old new x was = one_more n x.0 new x.1.1 (all_given n old x.0 x.1.0 was)
+
+-- The reads of a hub's descriptor and status
+
+asked_keeps : (t : Target) (request : Setup) (old : World) (answer : Result (Vec ℕ) PipeFault) (new : World) → is_harmless request ≡ true → Is request 0x00 5 ≡ false → Asked t request old answer new → KeepsAddresses old new
+asked_keeps t request old answer new harmless other asked = read_keeps t request (same_setup request) harmless other 3 1 old new answer asked.ends asked.stages
+
+module _ (t : Target) (f : Claims) (j : ℕ) (e : List ℕ) (held : f (suc j ∷ e) ≡ Some t.addr) where
+  asked_on : (request : Setup) (old : World) (answer : Result (Vec ℕ) PipeFault) (new : World) → is_harmless request ≡ true → Is request 0x00 5 ≡ false → new.fault ≡ None → Asked t request old answer new → Given t f j e held 0 old → Given t f j e held 0 new
+  asked_on request old answer new harmless other none asked was = record {
+    sound = none;
+    owned = ((asked_keeps t request old answer new harmless other asked).kept f (record { so = λ h. was.owned; single = was.owned.single })).so none;
+    order = orderly_on was.order (rests []);
+    powered = λ i below. absurd (omega (arith, below));
+    off = λ i above. stays_unpowered (suc j ∷ (e ++ (suc i ∷ []))) (course_wider (λ s w k. k.leaves) (rests (suc j ∷ (e ++ (suc i ∷ []))))) (was.off i above);
+  }
+    where
+      rests : AllRest old new
+      rests = asked.rests (sound_end 3 answer old new asked.ends none)
+
+  started_given : (old new : World) (facts : HubFacts) → Started t old new facts → Given t f j e held 0 old → Given t f j e held facts.ports new
+  unfolding get_hub_descriptor get_status
+  started_given old new facts s was =
+      let counted = asked_on get_hub_descriptor old (Ok s.count.bytes) s.counted refl refl s.count.asked.ends.still s.count.asked was in
+      let told = asked_on get_status s.counted s.supply.told.answer s.asked refl refl s.supply.told.ends.still s.supply.told.asked counted in
+      all_given t f j e held facts.ports s.asked new s.powered told
+
+  -- what is known in the end, also after the reading of strings
+  given_below : (started new : World) (facts : HubFacts) → Given t f j e held facts.ports started → new.fault ≡ None → OnlyAsks started new → (number : ℕ) → 1 ≤ number → number ≤ facts.ports
+      → IsKnownAs new ((suc j ∷ e) ++ (number ∷ [])) None
+  given_below started new facts given working asks zero least most = absurd (omega (arith, least))
+  given_below started new facts given working asks (suc i) least most =
+      vacant_on (suc j ∷ (e ++ (suc i ∷ []))) (asks.ports working (suc j ∷ (e ++ (suc i ∷ [])))) (given.powered i (omega (arith, most)))
+
+-- The configuring of a hub
+
+module _ (t : Target) (value l m : ℕ) (told : Option HubFacts) {before given set started new : World} {a b c d : Option (List ℕ)} (went_given : WentOn l before a given b) (keeps_given : KeepsAddresses before given)
+    (went_set : WentOn m given c set d) (ordered : Ordered t (set_configuration value) given (Ok tt) set) (what : set.shared ≡ false → EachWas (ConfigurationAsked t value (Ok tt) set) given set) (keeps_set : KeepsAddresses given set)
+    (starts : (facts : HubFacts) → told ≡ Some facts → Started t set started facts) (asks : OnlyAsks started new)
+    (f : Claims) (p : List ℕ) (held : f p ≡ Some t.addr) (till : TillFault (Owned f) before) (order : IsInOrder before) (working : new.fault ≡ None) where
+  own_given : TillFault (Owned f) given
+  own_given = keeps_given.kept f till
+
+  own_set : TillFault (Owned f) set
+  own_set = keeps_set.kept f own_given
+
+  who : Answerer t given set
+  unfolding set_configuration
+  who = who_writes t (set_configuration value) tt given set (same_setup (set_configuration value)) (λ h. no (sym h)) ordered.settled ordered.stages own_set.single
+
+  path : suc who.j ∷ who.p ≡ p
+  path =
+      claimed_path p t.addr given (record { claims = f; owned = own_given.so ordered.ends.sound; held = held }) who.j who.p who.before who.was_on who.stood
+      (equal_same (address_of who.before) t.addr who.at)
+
+  was : Was (ConfigurationAsked t value (Ok tt) set) given who.j who.p who.now
+  was = what own_set.single who.j who.p who.now who.on who.stands
+
+  went_off : WentOff set who.j who.p
+  went_off = (was.so.done (ap (λ s. is_at s t) (same_Some was.before who.before (sym was.stands ∙ who.stood)) ∙ who.at) refl).3
+
+  held_there : f (suc who.j ∷ who.p) ≡ Some t.addr
+  held_there = ap f path ∙ held
+
+  all_off_set : Given t f who.j who.p held_there 0 set
+  all_off_set = record {
+    sound = ordered.ends.still;
+    owned = own_set.so ordered.ends.still;
+    order = went_in_order m given set went_set (went_in_order l before given went_given order) ordered.ends.still;
+    powered = λ i below. absurd (omega (arith, below));
+    off = λ i above. off_unpowered set who.j who.p went_off i;
+  }
+
+  configured_below : HasEmptyPorts p told new
+  configured_below facts number is least most =
+      subst (λ q. IsKnownAs new (q ++ (number ∷ [])) None) path
+      (given_below t f who.j who.p held_there started new facts (started_given t f who.j who.p held_there set started facts (starts facts is) all_off_set) working asks number least most)
+
+-- the same of what a call answered
+pub empties_ports : (t : Target) (value l m : ℕ) (told : Option HubFacts) (outcome : Result (Unit {0}) PipeFault) {before given set started new : World} {a b c d : Option (List ℕ)} → WentOn l before a given b → OnlyAsks before given
+    → WentOn m given c set d → outcome ≡ Ok tt → Ordered t (set_configuration value) given outcome set → (set.shared ≡ false → EachWas (ConfigurationAsked t value outcome set) given set) → KeepsAddresses given set
+    → ((facts : HubFacts) → told ≡ Some facts → Started t set started facts) → OnlyAsks started new
+    → EmptiesPorts t.addr told before new
+empties_ports t value l m told outcome {before} {given} {set} {started} {new} went_given asks_given went_set done ordered what keeps starts asks = record {
+  empty = configured_below t value l m told went_given asks_given.addresses went_set (subst (λ r. Ordered t (set_configuration value) given r set) done ordered)
+      (subst (λ r. set.shared ≡ false → EachWas (ConfigurationAsked t value r set) given set) done what) keeps starts asks;
+}

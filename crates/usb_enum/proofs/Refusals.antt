@@ -1,0 +1,180 @@
+-- How what a refusal tells of a device joins, and why a request for data fails.
+use Rattle.std.proofs.Common.{◌≡◌, ◌⊎◌, inl, ◌≤◌, ℕ, ◌==◌, ◌&&◌, ◌||◌, not, Bool, true, false, List, if◌then◌else◌, Option, None, Some, Result, Ok, Err, refl, ap, sym, subst, ◌∙◌}
+use Rattle.std.specs.Prelude.{unwrap_or, IfOk, IfErr, IsErrAnd, MatchResult, ⊤}
+use Rattle.std.proofs.lemmas.Option.{same_Some}
+use Rattle.usb_device.specs.Spec.{Spec, IsSpec}
+use Rattle.usb_device.specs.Rows.{State}
+use Rattle.usb_device.specs.declared.request.Registers.{Registers}
+use Rattle.usb_device.specs.Transfer.{max_packet}
+use Rattle.usb_world.specs.Devices.{Relation, Was, EachWas}
+use Rattle.usb_world.specs.Live.{address_of}
+use Rattle.usb_world.specs.Passes.{deep_at}
+use Rattle.usb_world.specs.World.{World}
+use Rattle.usb_world.proofs.Booleans.{no}
+use Rattle.usb_world.proofs.Devices.{each_none, each_joined, each_wider}
+use Rattle.usb_transaction.specs.declared.target.Target.{Target}
+use Rattle.usb_transaction.specs.Over.{is_at}
+use Rattle.usb_transaction.specs.Why.{NoThreeDamaged}
+use Rattle.usb_bus.specs.Traced.{WentOn}
+use Rattle.usb_pipe.specs.declared.fault.PipeFault.{PipeFault}
+use Rattle.usb_pipe.specs.declared.fault.PipeFault.TheVariants as pipe
+use Rattle.usb_pipe.specs.Whole.{IsMaximum}
+use Rattle.usb_hub.specs.Asked.{ReadAsked, WhyAsked}
+use Rattle.usb_enum.specs.declared.cause.Cause.{Cause}
+use Rattle.usb_enum.specs.declared.fault.EnumFault.{EnumFault}
+use Rattle.usb_enum.specs.declared.stop.Stop.{Stop}
+use Rattle.usb_enum.specs.declared.stop.Stop.TheVariants.{Refused, Fault}
+use Rattle.usb_enum.specs.Learned.{Learned, Learns, Hears, HearsSet, Explained, Explains, ExplainsSet}
+use Rattle.usb_enum.specs.Refusals.{IsResponsive, IsRefusedFor, Refuses}
+use Rattle.usb_enum.specs.Stop.{stop_of, answered_or}
+use Rattle.usb_enum.proofs.Damages.{went_three}
+use Rattle.usb_enum.proofs.Sharing.{went_unshared}
+
+-- two things of each device in one call
+pub each_both : (R S T : Relation) → ((j : ℕ) (p : List ℕ) (s v : State) → R j p s v → S j p s v → T j p s v) → (old new : World) → EachWas R old new → EachWas S old new → EachWas T old new
+each_both R S T f old new x y j p v on there =
+    let a : Was R old j p v = x j p v on there in
+    let b : Was S old j p v = y j p v on there in
+    record { before = a.before; on = a.on; stands = a.stands; so = f j p a.before v a.so (subst (λ s. S j p s v) (same_Some b.before a.before (sym b.stands ∙ a.stands)) b.so) }
+
+-- from one call to the next
+
+pub hears_on : (t : Target) (p : List ℕ) (s u : State) → u.spec ≡ s.spec → address_of u ≡ address_of s → Hears t p s → Hears t p u
+hears_on t p s u spec address h = record {
+  at = ap (λ n. n == t.addr) address ∙ h.at;
+  hears = ap (λ (x : Spec). if t.low then x.low && (not (deep_at false p) || t.pre) else not x.low) spec ∙ h.hears;
+}
+
+hears_still : (t : Target) (p : List ℕ) (s u : State) → u.spec ≡ s.spec → u.registers ≡ s.registers → Hears t p s → Hears t p u
+hears_still t p s u spec registers h = hears_on t p s u spec (ap (λ (r : Registers). r.address) registers) h
+
+set_still : (t : Target) (p : List ℕ) (s u : State) → u.spec ≡ s.spec → u.registers ≡ s.registers → HearsSet t p s → HearsSet t p u
+set_still t p s u spec registers h = record {
+  hears = hears_still t p s u spec registers h.hears;
+  addressed = h.addressed;
+  configured = λ z. h.configured (sym (ap (λ (r : Registers). r.configuration) registers) ∙ z);
+}
+
+-- what was learned explains as well
+pub learned_explains : (A B : Spec → Type 0) (t : Target) (old new : World) → ((spec : Spec) → A spec → B spec) → Learns A t old new → Explains B t old new
+learned_explains A B t old new f x three single =
+    each_wider (Learned A t) (Explained Hears B t)
+    (λ j p s v l. record { spec = l.spec; address = ap (λ (r : Registers). r.address) l.registers; so = λ h ruled. f s.spec (l.so h.at) }) old new (x single)
+
+-- a fault is no refusal
+pub fault_explains : (A : Spec → Type 0) (t : Target) (wrong : Spec → Option Cause) (fault : EnumFault) (old new : World) → Learns A t old new → Explains (Refuses t wrong (Fault fault)) t old new
+fault_explains A t wrong fault old new = learned_explains A (Refuses t wrong (Fault fault)) t old new (λ spec a r. tt)
+
+-- where nothing went, what is so of every description
+pub explains_none : (So : Spec → Type 0) (t : Target) (w : World) → ((spec : Spec) → So spec) → Explains So t w w
+explains_none So t w all three single = each_none (Explained Hears So t) (λ j p s. record { spec = refl; address = refl; so = λ h ruled. all s.spec }) w
+
+pub explains_set_none : (So : Spec → Type 0) (t : Target) (w : World) → ((spec : Spec) → So spec) → ExplainsSet So t w w
+explains_set_none So t w all three single = each_none (Explained HearsSet So t) (λ j p s. record { spec = refl; address = refl; so = λ h ruled. all s.spec }) w
+
+pub explains_wider : (A B : Spec → Type 0) (t : Target) (old new : World) → ((spec : Spec) → A spec → B spec) → Explains A t old new → Explains B t old new
+explains_wider A B t old new f x three single =
+    each_wider (Explained Hears A t) (Explained Hears B t) (λ j p s v e. record { spec = e.spec; address = e.address; so = λ h ruled. f s.spec (e.so h ruled) }) old new (x three single)
+
+-- of a device that is configured as of any
+pub explains_set : (A B : Spec → Type 0) (t : Target) (old new : World) → ((spec : Spec) → A spec → B spec) → Explains A t old new → ExplainsSet B t old new
+explains_set A B t old new f x three single =
+    each_wider (Explained Hears A t) (Explained HearsSet B t) (λ j p s v e. record { spec = e.spec; address = e.address; so = λ h ruled. f s.spec (e.so h.hears ruled) }) old new (x three single)
+
+-- after what was learned
+module _ (Heard : Target → List ℕ → State → Type 0) (at : (t : Target) (p : List ℕ) (s : State) → Heard t p s → is_at s t ≡ true)
+    (on : (t : Target) (p : List ℕ) (s u : State) → u.spec ≡ s.spec → u.registers ≡ s.registers → Heard t p s → Heard t p u) where
+  explained_on : (A B C : Spec → Type 0) (t : Target) (m n : ℕ) (old mid new : World) {q r s u : Option (List ℕ)} → ((spec : Spec) → IsSpec spec → A spec → B spec → C spec)
+      → Learns A t old mid → WentOn m old q mid r → WentOn n mid s new u → (NoThreeDamaged mid → new.shared ≡ false → EachWas (Explained Heard B t) mid new)
+      → NoThreeDamaged old → new.shared ≡ false → EachWas (Explained Heard C t) old new
+  explained_on A B C t m n old mid new f a first next b three single =
+      each_joined (Learned A t) (Explained Heard B t) (Explained Heard C t)
+      (λ j p s u v x y. record {
+        spec = y.spec ∙ x.spec;
+        address = y.address ∙ ap (λ (r : Registers). r.address) x.registers;
+        so = λ h ruled. f s.spec ruled (x.so (at t p s h)) (subst B x.spec (y.so (on t p s u x.spec x.registers h) (subst IsSpec (sym x.spec) ruled)));
+      })
+      old mid new (a (went_unshared n mid new next single)) (b (went_three m old mid first three) single)
+
+pub explains_on : (A B C : Spec → Type 0) (t : Target) (m n : ℕ) (old mid new : World) {q r s u : Option (List ℕ)} → ((spec : Spec) → A spec → B spec → C spec)
+    → Learns A t old mid → WentOn m old q mid r → WentOn n mid s new u → Explains B t mid new → Explains C t old new
+explains_on A B C t m n old mid new f = explained_on Hears (λ t p s h. h.at) hears_still A B C t m n old mid new (λ spec ruled. f spec)
+
+pub explains_set_on : (A B C : Spec → Type 0) (t : Target) (m n : ℕ) (old mid new : World) {q r s u : Option (List ℕ)} → ((spec : Spec) → IsSpec spec → A spec → B spec → C spec)
+    → Learns A t old mid → WentOn m old q mid r → WentOn n mid s new u → ExplainsSet B t mid new → ExplainsSet C t old new
+explains_set_on A B C t m n old mid new f = explained_on HearsSet (λ t p s h. h.hears.at) set_still A B C t m n old mid new f
+
+-- an error that is handed on
+pub handed_match : {A E : Type 0} (r : Result A E) (P : A → Type 0) (Q : E → Type 0) (why : E) → IsErrAnd r (λ e. e ≡ why) → Q why → MatchResult r P Q
+handed_match (Ok x) P Q why same q = absurd same
+handed_match (Err e) P Q why same q = subst Q (sym same) q
+
+pub matched_ok : {A E : Type 0} (r : Result A E) (P : A → Type 0) (Q : E → Type 0) → MatchResult r P Q → IfOk r P
+matched_ok (Ok x) P Q h = h
+matched_ok (Err why) P Q h = tt
+
+-- what is so of each error
+pub by_error : {A E : Type 0} (r : Result A E) (P : E → Type 0) → ((why : E) → r ≡ Err why → P why) → IfErr r P
+by_error (Ok x) P f = tt
+by_error (Err why) P f = f why refl
+
+-- Why a request for data fails
+
+-- of this description
+abbrev pub Fails : {X : Type 0} → (Spec → Option X) → PipeFault → Spec → Type 0
+Fails given pipe.Stalled spec = (spec.silent ≡ false) × (spec.busy ≡ false) × (given spec ≡ None)
+Fails given pipe.Busy spec = (spec.silent ≡ false) × (spec.busy ≡ true)
+Fails given pipe.NoAnswer spec = spec.silent ≡ true
+Fails given pipe.Broken spec = ⊥
+Fails given (pipe.Bus fault) spec = ⊤
+Fails given pipe.Memory spec = ⊤
+
+-- only a STALL refuses a responsive device
+responsive_stop : {X : Type 0} (given : Spec → Option X) (t : Target) (wrong : Spec → Option Cause) (stalled : Cause) (spec : Spec) → IsResponsive t spec → (given spec ≡ None → wrong spec ≡ Some stalled) → (fault : PipeFault) → Fails given fault spec
+    → IsRefusedFor wrong (unwrap_or (stop_of fault) (Refused stalled)) spec
+responsive_stop given t wrong stalled spec r f pipe.Stalled why = f why.2
+responsive_stop given t wrong stalled spec r f pipe.Busy why = no (sym r.free ∙ why.1)
+responsive_stop given t wrong stalled spec r f pipe.NoAnswer why = no (sym r.loud ∙ why)
+responsive_stop given t wrong stalled spec r f pipe.Broken why = absurd why
+responsive_stop given t wrong stalled spec r f (pipe.Bus fault) why = tt
+responsive_stop given t wrong stalled spec r f pipe.Memory why = tt
+
+pub answered_err : {A : Type 0} (stalled : Cause) (outcome : Result A PipeFault) (stop : Stop) → answered_or stalled outcome ≡ Err stop → (fault : PipeFault) × (outcome ≡ Err fault) × (unwrap_or (stop_of fault) (Refused stalled) ≡ stop)
+answered_err stalled (Ok given) stop is = absurd cc
+answered_err stalled (Err fault) stop is = (fault, refl, cc)
+
+module _ {A X : Type 0} (given : Spec → Option X) (Has : State → A → Type 0) (t : Target) (wanted : ℕ) where
+  read_fails : (fault : PipeFault) (j : ℕ) (p : List ℕ) (s v : State) → ReadAsked given Has t (Err fault) j p s v → WhyAsked {A = A} t wanted (Err fault) j p s v → Hears t p s → IsSpec s.spec → IsMaximum t wanted s
+      → Fails given fault s.spec
+  read_fails pipe.Stalled j p s v x y h ruled max = ((x.could h.at).0, (x.could h.at).1, x.stalled h.at refl)
+  read_fails pipe.Busy j p s v x y h ruled max = (x.could h.at, pick s.spec.busy refl)
+    where
+      pick : (b : Bool) → s.spec.busy ≡ b → b ≡ true
+      pick true e = refl
+      pick false e = absurd (y.waited (record { at = h.at; loud = x.could h.at; hears = h.hears }) max e ruled.naks refl)
+  read_fails pipe.NoAnswer j p s v x y h ruled max = pick s.spec.silent refl
+    where
+      pick : (b : Bool) → s.spec.silent ≡ b → b ≡ true
+      pick true e = refl
+      pick false e = absurd (y.answered (record { at = h.at; loud = e; hears = h.hears }) max refl)
+  read_fails pipe.Broken j p s v x y h ruled max = x.could h.at
+  read_fails (pipe.Bus fault) j p s v x y h ruled max = tt
+  read_fails pipe.Memory j p s v x y h ruled max = tt
+
+  module _ (outcome : Result A PipeFault) (old new : World) (what : new.shared ≡ false → EachWas (ReadAsked given Has t outcome) old new) (least : 8 ≤ t.max)
+      (why : NoThreeDamaged old → 8 ≤ t.max → new.shared ≡ false → EachWas (WhyAsked t wanted outcome) old new) where
+    pub failure_explains : (So : Spec → Type 0) (fault : PipeFault) → outcome ≡ Err fault → ((spec : Spec) → (((max_packet spec ≡ t.max) ⊎ (wanted ≤ 8)) → Fails given fault spec) → So spec) → Explains So t old new
+    failure_explains So fault is f three single =
+        each_both (ReadAsked given Has t (Err fault)) (WhyAsked {A = A} t wanted (Err fault)) (Explained Hears So t)
+        (λ j p s v x y. record { spec = ap (λ z. z.spec) x.frame; address = ap (λ z. z.registers.address) x.frame; so = λ h ruled. f s.spec (read_fails fault j p s v x y h ruled) })
+        old new (subst (λ r. EachWas (ReadAsked given Has t r) old new) is (what single)) (subst (λ r. EachWas (WhyAsked t wanted r) old new) is (why three least single))
+
+    -- by its answer to the host
+    pub stop_explains : (So : Stop → Spec → Type 0) (stalled : Cause) (stop : Stop) → answered_or stalled outcome ≡ Err stop
+        → ((spec : Spec) (fault : PipeFault) → (((max_packet spec ≡ t.max) ⊎ (wanted ≤ 8)) → Fails given fault spec) → So (unwrap_or (stop_of fault) (Refused stalled)) spec) → Explains (So stop) t old new
+    stop_explains So stalled stop is f =
+        let failed = answered_err stalled outcome stop is in
+        failure_explains (So stop) failed.0 failed.1 (λ spec why. subst (λ x. So x spec) failed.2 (f spec failed.0 why))
+
+    pub request_refused : (wrong : Spec → Option Cause) (stalled : Cause) (stop : Stop) → answered_or stalled outcome ≡ Err stop → ((spec : Spec) → given spec ≡ None → wrong spec ≡ Some stalled) → Explains (Refuses t wrong stop) t old new
+    request_refused wrong stalled stop is f = stop_explains (Refuses t wrong) stalled stop is (λ spec fault why r. responsive_stop given t wrong stalled spec r (f spec) fault (why (inl r.max)))

@@ -1,0 +1,45 @@
+-- A device is never refused for a string.
+use Rattle.std.proofs.Common.{◌≡◌, ◌≤◌, ℕ, inl, false, List, Option, Some, Result, Err, sym, subst, ◌∙◌}
+use Rattle.std.specs.Prelude.{⊤}
+use Rattle.std.proofs.lemmas.Option.{same_Some}
+use Rattle.std.specs.Global.{Vec}
+use Rattle.usb_device.specs.Spec.{Spec}
+use Rattle.usb_world.specs.Devices.{EachWas}
+use Rattle.usb_world.specs.World.{World}
+use Rattle.usb_world.proofs.Booleans.{no}
+use Rattle.usb_transaction.specs.declared.target.Target.{Target}
+use Rattle.usb_transaction.specs.Why.{NoThreeDamaged}
+use Rattle.usb_bus.specs.Traced.{WentOn}
+use Rattle.usb_pipe.specs.declared.fault.PipeFault.{PipeFault}
+use Rattle.usb_pipe.specs.declared.fault.PipeFault.TheVariants as pipe
+use Rattle.usb_hub.specs.Asked.{string_given, HasText, StringAsked, WhyAsked}
+use Rattle.usb_enum.specs.declared.stop.Stop.{Stop}
+use Rattle.usb_enum.specs.Learned.{Learns, Explains}
+use Rattle.usb_enum.specs.Refusals.{IsResponsive, IsRefusedFor, Refuses, no_fault}
+use Rattle.usb_enum.specs.Stop.{stop_of}
+use Rattle.usb_enum.proofs.Readings.{learns_on}
+use Rattle.usb_enum.proofs.Refusals.{Fails, explains_on, failure_explains}
+
+never_stop : (t : Target) (index : ℕ) (spec : Spec) → IsResponsive t spec → (fault : PipeFault) (stop : Stop) → stop_of fault ≡ Some stop → Fails (string_given index) fault spec → IsRefusedFor no_fault stop spec
+never_stop t index spec r pipe.Stalled stop is why = absurd cc
+never_stop t index spec r pipe.Busy stop is why = no (sym r.free ∙ why.1)
+never_stop t index spec r pipe.NoAnswer stop is why = no (sym r.loud ∙ why)
+never_stop t index spec r pipe.Broken stop is why = absurd why
+never_stop t index spec r (pipe.Bus fault) stop is why = subst (λ s. IsRefusedFor no_fault s spec) (same_Some _ _ is) tt
+never_stop t index spec r pipe.Memory stop is why = subst (λ s. IsRefusedFor no_fault s spec) (same_Some _ _ is) tt
+
+pub string_unrefused : (t : Target) (index : ℕ) (outcome : Result (Vec ℕ) PipeFault) (fault : PipeFault) (stop : Stop) (old new : World) → outcome ≡ Err fault → stop_of fault ≡ Some stop → 8 ≤ t.max
+    → (new.shared ≡ false → EachWas (StringAsked t index outcome) old new)
+    → (NoThreeDamaged old → 8 ≤ t.max → new.shared ≡ false → EachWas (WhyAsked t 255 outcome) old new) → Explains (Refuses t no_fault stop) t old new
+string_unrefused t index outcome fault stop old new is told least what why =
+    failure_explains (string_given index) (λ s bytes. HasText (string_given index s.spec) t 255 s bytes.items) t 255 outcome old new what least why
+    (Refuses t no_fault stop) fault is (λ spec fails r. never_stop t index spec r fault stop told (fails (inl r.max)))
+
+-- after other strings
+pub string_after : (A : Spec → Type 0) (t : Target) (m n : ℕ) (stop : Stop) (old mid new : World) {q r s u : Option (List ℕ)} → Learns A t old mid → WentOn m old q mid r → WentOn n mid s new u → Explains (Refuses t no_fault stop) t mid new
+    → Explains (Refuses t no_fault stop) t old new
+string_after A t m n stop old mid new = explains_on A (Refuses t no_fault stop) (Refuses t no_fault stop) t m n old mid new (λ spec a b. b)
+
+-- that each was read
+pub strings_read : (A B : Spec → Type 0) (t : Target) (n : ℕ) (old mid new : World) {r s : Option (List ℕ)} → Learns A t old mid → WentOn n mid r new s → Learns B t mid new → Learns (λ spec. ⊤) t old new
+strings_read A B t n old mid new = learns_on A B (λ spec. ⊤) t n old mid new (λ spec a b. tt)

@@ -1,0 +1,46 @@
+-- What calls on devices and at ports leave of all other devices and ports.
+use Rattle.std.specs.Prelude.{◌≡◌, ◌==◌, ℕ, List, false, None}
+use Rattle.usb_device.specs.Rows.{State}
+use Rattle.usb_world.specs.Courses.{Spares}
+use Rattle.usb_world.specs.Devices.{EachWas}
+use Rattle.usb_world.specs.Live.{address_of, is_way}
+use Rattle.usb_world.specs.Resting.{AsksNothingOf}
+use Rattle.usb_world.specs.Steps.{Course}
+use Rattle.usb_world.specs.World.{World}
+use Rattle.usb_address.specs.Owned.{KeepsAddresses}
+use Rattle.usb_hub.specs.Addresses.{StaysAs, EachElsewhere, KeepsDevices}
+use Rattle.usb_hub.specs.Requests.{AllRest, RestBut}
+
+-- On a device
+
+-- a device was asked for data: each device stays as it was, and as long as the bus is at work nothing was asked of any port
+pub record OnlyAsks (old new : World) : Type 0 where
+  pub addresses : KeepsAddresses old new
+  pub devices : KeepsDevices old new
+  pub ports : new.fault ≡ None → AllRest old new
+
+-- a hub at an address was told about its ports: nothing was asked of the ports that are not below it
+pub record OnlyTells (address : ℕ) (old new : World) : Type 0 where
+  pub addresses : KeepsAddresses old new
+  pub devices : KeepsDevices old new
+  pub ports : new.fault ≡ None → RestBut address old new
+
+-- a device has the description and the address that it had, and elsewhere than at this address it stays as it was
+pub record StaysBut (address j : ℕ) (p : List ℕ) (s v : State) : Type 0 where
+  pub spec : v.spec ≡ s.spec
+  pub same : address_of v ≡ address_of s
+  pub stays : (address_of s == address) ≡ false → StaysAs j p s v
+
+-- a device at an address was configured: nothing was asked of the ports that are not below it
+pub record OnlySets (address : ℕ) (old new : World) : Type 0 where
+  pub addresses : KeepsAddresses old new
+  pub devices : new.shared ≡ false → EachWas (StaysBut address) old new
+  pub ports : new.fault ≡ None → RestBut address old new
+
+-- At a port
+
+-- nothing was asked of the ports that are not at a path nor below it, what is pending there stays, and devices elsewhere stay as they were
+pub record OnlyAt (p : List ℕ) (old new : World) : Type 0 where
+  pub others : (x : List ℕ) → is_way p x ≡ false → Course (AsksNothingOf x) old new
+  pub spares : Course (Spares p) old new
+  pub devices : EachElsewhere p StaysAs old new

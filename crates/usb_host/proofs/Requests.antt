@@ -1,0 +1,276 @@
+-- What requests to a port keep, as the host tells of them.
+use Rattle.std.proofs.Common.{◌≡◌, inl, inr, refl, sym, ap, subst, ◌∙◌, ℕ, suc, true, false, List, [], ◌∷◌, ◌++◌, Option, None, Some, Result, Ok, Err}
+use Rattle.std.specs.Prelude.{IfOk}
+use Rattle.std.specs.Global.{Vec}
+use Rattle.usb_port.specs.declared.status.PortStatus.{PortStatus}
+use Rattle.usb_port.specs.Status.{status_in}
+use Rattle.usb_device.specs.declared.calls.PortCall.{PortCall}
+use Rattle.usb_device.specs.declared.calls.PortCall.TheVariants.{ClearEnable, ClearConnectionChange}
+use Rattle.usb_device.specs.Calls.{clear_call, is_reset}
+use Rattle.usb_device.specs.View.{port_there}
+use Rattle.usb_world.specs.Live.{pend}
+use Rattle.usb_world.specs.Steps.{here}
+use Rattle.usb_world.specs.World.{World}
+use Rattle.usb_world.proofs.WorldLaws.{pending_persists, course_wider, course_joined}
+use Rattle.usb_bus.specs.Traced.{WentOn}
+use Rattle.usb_address.specs.Claims.{Claims}
+use Rattle.usb_address.specs.Owned.{Owned, TillFault, KeepsAddresses}
+use Rattle.usb_address.proofs.Keeping.{keeps_none, keeps_then}
+use Rattle.usb_transaction.specs.Why.{NoThreeDamaged}
+use Rattle.usb_pipe.specs.declared.fault.PipeFault.{PipeFault}
+use Rattle.usb_pipe.specs.declared.fault.PipeFault.TheVariants as pipe
+use Rattle.usb_pipe.specs.Whole.{IsNotOfBus}
+use Rattle.usb_hub.specs.declared.port.HubPort.{HubPort}
+use Rattle.usb_hub.specs.declared.port.HubPort.TheVariants.{Root, External}
+use Rattle.usb_hub.specs.Addresses.{IsAt, StaysAs, KeepsDevices, KeepsAsked, KeepsCleared}
+use Rattle.usb_hub.specs.Moments.{TellsPort, CallsPort, IsCall}
+use Rattle.usb_hub.specs.Port.{PortRead}
+use Rattle.usb_hub.specs.Requests.{AllRest, said_in}
+use Rattle.usb_hub.specs.Why.{IsServed}
+use Rattle.usb_hub.proofs.Devices.{stays_none, stays_joined}
+use Rattle.usb_enum.specs.declared.fault.EnumFault.{EnumFault}
+use Rattle.usb_enum.specs.declared.fault.EnumFault.TheVariants.{ParentLost}
+use Rattle.usb_enum.specs.Stop.{fault_at_port, at_port}
+use Rattle.usb_enum.specs.Present.{IsInOrder}
+use Rattle.usb_enum.proofs.Courses.{went_sound, went_in_order}
+use Rattle.usb_enum.proofs.Sharing.{went_unshared}
+use Rattle.usb_world.proofs.Devices.{each_joined}
+use Rattle.usb_host.specs.Handling.{GoesOn, RestElsewhere, HasWay, IsLost, Watches, Tidies, Clears, Decides}
+use Rattle.usb_host.specs.Owning.{BaresPort}
+use Rattle.usb_host.proofs.Clearings.{cleared_way, told_decides, decided_stays}
+use Rattle.usb_host.proofs.Fairness.{went_later, undamaged_later}
+use Rattle.usb_host.proofs.Handlings.{bares_after}
+use Rattle.usb_host.proofs.Tidied.{Tidy, enable, reset, tidy_call, holds_then, holds_same, tidied_holds}
+use Rattle.usb_host.proofs.Trees.{live_port}
+
+-- How a fault is told
+
+pub goes_sound : (A B : Type 0) (fault : PipeFault) → GoesOn {A = A} (Err (fault_at_port fault)) → IsNotOfBus {A = B} (Err fault)
+goes_sound A B pipe.Stalled h = tt
+goes_sound A B pipe.Busy h = tt
+goes_sound A B pipe.NoAnswer h = tt
+goes_sound A B pipe.Broken h = tt
+goes_sound A B (pipe.Bus fault) h = absurd h
+goes_sound A B pipe.Memory h = tt
+
+pub sound_by : {A : Type 0} (result : Result A PipeFault) → GoesOn (at_port result) → IsNotOfBus result
+sound_by (Ok x) h = tt
+sound_by {A = A} (Err fault) h = goes_sound A A fault h
+
+pub lost_goes : {A : Type 0} (result : Result A PipeFault) → at_port result ≡ Err ParentLost → GoesOn (at_port result)
+lost_goes result e = subst GoesOn (sym e) tt
+
+unserved_by : (A B : Type 0) (fault : PipeFault) → fault_at_port fault ≡ ParentLost → IsServed {A = B} (Err fault) → ⊥
+unserved_by A B pipe.Stalled e h = h
+unserved_by A B pipe.Busy e h = h
+unserved_by A B pipe.NoAnswer e h = h
+unserved_by A B pipe.Broken e h = h
+unserved_by A B (pipe.Bus fault) e h = absurd (cc e)
+unserved_by A B pipe.Memory e h = absurd (cc e)
+
+pub lost_unserved : {A : Type 0} (result : Result A PipeFault) → at_port result ≡ Err ParentLost → IsServed result → ⊥
+lost_unserved (Ok x) e h = absurd (cc e)
+lost_unserved {A = A} (Err fault) e h = unserved_by A A fault (cc e) h
+
+-- A status
+
+said_sound : {A : Type 0} (read : List ℕ → A) (size : ℕ) (answer : Result (Vec ℕ) PipeFault) → IsNotOfBus (said_in read size answer) → IsNotOfBus answer
+said_sound read size (Ok bytes) h = tt
+said_sound read size (Err pipe.Stalled) h = tt
+said_sound read size (Err pipe.Busy) h = tt
+said_sound read size (Err pipe.NoAnswer) h = tt
+said_sound read size (Err pipe.Broken) h = tt
+said_sound read size (Err (pipe.Bus fault)) h = h
+said_sound read size (Err pipe.Memory) h = tt
+
+pub read_rests : (port : HubPort) (old : World) (result : Result PortStatus PipeFault) (new : World) → PortRead port old result new → IsNotOfBus result → AllRest old new
+read_rests (Root number) old result new read sound = subst (AllRest old) (sym read.same) (λ x. here old)
+read_rests (External hub number) old result new read sound = read.asked.rests (said_sound status_in _ read.answer (subst IsNotOfBus read.told sound))
+
+-- the hub of a path that is joined twice
+pub last_same : (q r : List ℕ) (m n : ℕ) → q ++ m ∷ [] ≡ r ++ n ∷ [] → q ≡ r
+last_same [] [] m n e = refl
+last_same [] (i ∷ []) m n e = absurd (cc e)
+last_same [] (i ∷ j ∷ r) m n e = absurd (cc e)
+last_same (i ∷ []) [] m n e = absurd (cc e)
+last_same (i ∷ j ∷ q) [] m n e = absurd (cc e)
+last_same (i ∷ q) (j ∷ r) m n e =
+    let tails : q ++ m ∷ [] ≡ r ++ n ∷ [] = cc e in
+    let heads : i ≡ j = cc e in
+    ap (λ l. i ∷ l) (last_same q r m n tails) ∙ ap (λ k. k ∷ r) heads
+
+pub watched : (port : HubPort) (old : World) (result : Result PortStatus PipeFault) (new : World) → PortRead port old result new → TellsPort port old result new → KeepsAsked port old result new → Watches port old (at_port result) new
+watched port old result new read tells asked = record {
+  addresses = asked.keeps;
+  devices = asked.devices;
+  rests = λ goes. read_rests port old result new read (sound_by result goes);
+  lost = lost;
+}
+  where
+    lost : (p : List ℕ) → HasWay old p → NoThreeDamaged old → new.fault ≡ None → new.shared ≡ false → at_port result ≡ Err ParentLost → IsLost port p new
+    lost p (inl on) few still single e hub number is most serves path =
+        let b : _ = live_port old.roots p on in
+        absurd (lost_unserved result e (tells.why hub number is few single most serves b.0 (subst (λ l. port_there old.roots l ≡ Some b.0) path b.1)))
+    lost p (inr x) few still single e hub number is most serves path =
+        let same = last_same x.0 (suc serves.j ∷ serves.p) x.1 number (sym x.2 ∙ path) in
+        subst (λ l. pend new.roots l ≡ true) same
+        (pending_persists x.0 (course_wider (λ s w k. k.spares) (read_rests port old result new read (sound_by result (lost_goes result e)) x.0)) x.3)
+
+-- A clearing of a change bit of enable or reset
+
+tidy_reset : (t : Tidy) → is_reset (tidy_call t) ≡ true → ⊥
+tidy_reset enable e = absurd (cc e)
+tidy_reset reset e = absurd (cc e)
+
+module _ (port : HubPort) (feature : ℕ) (c : PortCall) (is : clear_call feature ≡ Some c) (old : World) (result : Result (Unit {0}) PipeFault) (new : World) (calls : CallsPort port (clear_call feature) old result new) where
+  pub call_of : (is_reset c ≡ true → ⊥) → (f : Claims) (p : List ℕ) → IsAt f port p → TillFault (Owned f) old → IsCall f port p (clear_call feature) c old
+  call_of other f p at owned = record { at = at; is = is; alone = λ resets. absurd (other resets); owned = owned }
+
+  -- a hub that serves the port does it
+  pub call_lost : (p : List ℕ) → NoThreeDamaged old → new.fault ≡ None → new.shared ≡ false → at_port result ≡ Err ParentLost → IsLost port p new
+  call_lost p few still single e hub number at most serves path = absurd (lost_unserved result e (calls.why hub number at few single serves))
+
+pub call_tidies : (port : HubPort) (feature : ℕ) (tidy : Tidy) → clear_call feature ≡ Some (tidy_call tidy) → (old : World) (result : Result (Unit {0}) PipeFault) (new : World) → CallsPort port (clear_call feature) old result new
+    → KeepsCleared port feature old result new → Tidies port old (at_port result) new
+call_tidies port feature tidy is old result new calls keeps = record {
+  addresses = keeps.keeps;
+  devices = keeps.devices;
+  others = λ f p at owned goes. calls.rests f p (tidy_call tidy) (call f p at owned) (sound_by result goes);
+  stays = λ f p at owned done x way. tidied_holds tidy p old new (calls.done f p (tidy_call tidy) (call f p at owned) (done_by result done)) x way;
+  lost = call_lost port feature (tidy_call tidy) is old result new calls;
+}
+  where
+    call : (f : Claims) (p : List ℕ) → IsAt f port p → TillFault (Owned f) old → IsCall f port p (clear_call feature) (tidy_call tidy) old
+    call = call_of port feature (tidy_call tidy) is old result new calls (tidy_reset tidy)
+
+    done_by : (r : Result (Unit {0}) PipeFault) → at_port r ≡ Ok tt → r ≡ Ok tt
+    done_by (Ok tt) e = refl
+    done_by (Err fault) e = absurd (cc e)
+
+pub clears_enable_change : clear_call 17 ≡ Some (tidy_call enable)
+unfolding clear_call
+clears_enable_change = refl
+
+pub clears_reset_change : clear_call 20 ≡ Some (tidy_call reset)
+unfolding clear_call
+clears_reset_change = refl
+
+pub tidies_none : (port : HubPort) (w : World) → Tidies port w (Ok tt) w
+tidies_none port w = record {
+  addresses = keeps_none w;
+  devices = stays_none w;
+  others = λ f p at owned goes x away. here w;
+  stays = λ f p at owned done x way. holds_same x w w refl;
+  lost = λ p few still single e. absurd (cc e);
+}
+
+-- the status, where the port was told to pass nothing on
+abbrev pub disabled_so : PortStatus → Result (Unit {0}) PipeFault → Result PortStatus EnumFault
+disabled_so status (Ok done) = Ok status
+disabled_so status (Err fault) = Err (fault_at_port fault)
+
+-- Calls one after another
+
+pub devices_then : (u w v : World) → (v.shared ≡ false → w.shared ≡ false) → KeepsDevices u w → KeepsDevices w v → KeepsDevices u v
+devices_then u w v single x y = record { stays = λ alone. each_joined StaysAs StaysAs StaysAs stays_joined u w v (x.stays (single alone)) (y.stays alone) }
+
+pub elsewhere_then : (p : List ℕ) (u w v : World) → RestElsewhere p u w → RestElsewhere p w v → RestElsewhere p u v
+elsewhere_then p u w v x y z away = course_joined (x z away) (y z away)
+
+module _ (port : HubPort) (m n : ℕ) (old mid new : World) {t s r q : Option (List ℕ)} (before : WentOn m old t mid s) (went : WentOn n mid r new q) where
+  pub tidies_then : (result : Result (Unit {0}) EnumFault) → Tidies port old (Ok tt) mid → Tidies port mid result new → Tidies port old result new
+  tidies_then result x y = record {
+    addresses = keeps_then old mid new x.addresses y.addresses;
+    devices = devices_then old mid new (went_unshared n mid new went) x.devices y.devices;
+    others = λ f p at owned goes. elsewhere_then p old mid new (x.others f p at owned tt) (y.others f p at (x.addresses.kept f owned) goes);
+    stays = λ f p at owned done z way. holds_then z old mid new (x.stays f p at owned refl z way) (y.stays f p at (x.addresses.kept f owned) done z way);
+    lost = λ p few still alone e. y.lost p (undamaged_later old mid (went_later m old mid before (went_sound n mid new went still)).damages few) still alone e;
+  }
+
+  -- the change of connection was cleared before
+  pub clears_after : (result : Result PortStatus EnumFault) → CallsPort port (clear_call 16) old (Ok tt) mid → KeepsAddresses old mid → KeepsDevices old mid → Clears port mid result new → Clears port old result new
+  unfolding clear_call
+  clears_after result calls k d x = record {
+    bares = bares_kept result x.bares;
+    devices = devices_then old mid new (went_unshared n mid new went) d x.devices;
+    others = λ f p at owned goes. elsewhere_then p old mid new (calls.rests f p ClearConnectionChange (call f p at owned) tt) (x.others f p at (k.kept f owned) goes);
+    decides = λ f p at owned way order still. x.decides f p at (k.kept f owned) (cleared_way p old mid (calls.done f p ClearConnectionChange (call f p at owned) refl) way) (went_in_order m old mid before order) still;
+    lost = λ f p at owned way few still alone e. x.lost f p at (k.kept f owned) (cleared_way p old mid (calls.done f p ClearConnectionChange (call f p at owned) refl) way)
+        (undamaged_later old mid (went_later m old mid before (went_sound n mid new went still)).damages few) still alone e;
+  }
+    where
+      call : (f : Claims) (p : List ℕ) → IsAt f port p → TillFault (Owned f) old → IsCall f port p (clear_call 16) ClearConnectionChange old
+      call f p at owned = record { at = at; is = refl; alone = λ resets. absurd (cc resets); owned = owned }
+
+      bares_kept : (result : Result PortStatus EnumFault) → BaresPort port mid result new → BaresPort port old result new
+      bares_kept (Ok status) b = bares_after port old mid new k b
+      bares_kept (Err fault) b = keeps_then old mid new k b
+
+  -- the status was told, and then the port was told to pass nothing on
+  pub clears_disabled : (status : PortStatus) (result : Result (Unit {0}) PipeFault) → PortRead port old (Ok status) mid → TellsPort port old (Ok status) mid → KeepsAsked port old (Ok status) mid
+      → CallsPort port (clear_call 1) mid result new → KeepsCleared port 1 mid result new → Clears port old (disabled_so status result) new
+  unfolding clear_call
+  clears_disabled status result read tells asked calls keeps = record {
+    bares = bares result keeps;
+    devices = devices_then old mid new (went_unshared n mid new went) asked.devices keeps.devices;
+    others = λ f p at owned goes. elsewhere_then p old mid new (λ x away. read_rests port old (Ok status) mid read tt x) (calls.rests f p ClearEnable (call f p at owned) (goes_by result goes));
+    decides = λ f p at owned way order still. decided result f p at owned way order still calls;
+    lost = λ f p at owned way few still alone e. lost result f p at owned few still alone e calls;
+  }
+    where
+      call : (f : Claims) (p : List ℕ) → IsAt f port p → TillFault (Owned f) old → IsCall f port p (clear_call 1) ClearEnable mid
+      call f p at owned = record { at = at; is = refl; alone = λ resets. absurd (cc resets); owned = asked.keeps.kept f owned }
+
+      goes_by : (result : Result (Unit {0}) PipeFault) → GoesOn (disabled_so status result) → IsNotOfBus result
+      goes_by (Ok done) h = tt
+      goes_by (Err fault) h = goes_sound PortStatus (Unit {0}) fault h
+
+      bares : (result : Result (Unit {0}) PipeFault) → KeepsCleared port 1 mid result new → BaresPort port old (disabled_so status result) new
+      bares (Ok tt) keeps = bares_after port old mid new asked.keeps (keeps.bare refl refl)
+      bares (Err fault) keeps = keeps_then old mid new asked.keeps keeps.keeps
+
+      decided : (result : Result (Unit {0}) PipeFault) (f : Claims) (p : List ℕ) → IsAt f port p → TillFault (Owned f) old → HasWay old p → IsInOrder old → new.fault ≡ None → CallsPort port (clear_call 1) mid result new
+          → IfOk (disabled_so status result) (λ status. Decides status.connected new p)
+      decided (Ok tt) f p at owned way order still calls =
+          let sane = (went_in_order m old mid before order (went_sound n mid new went still)).0.sane in
+          let told = told_decides p status old mid (tells.tells f p at owned status refl) sane way in
+          decided_stays status.connected p mid new (calls.done f p ClearEnable (call f p at owned) refl) told
+      decided (Err fault) f p at owned way order still calls = tt
+
+      lost : (result : Result (Unit {0}) PipeFault) (f : Claims) (p : List ℕ) → IsAt f port p → TillFault (Owned f) old → NoThreeDamaged old → new.fault ≡ None → new.shared ≡ false → disabled_so status result ≡ Err ParentLost
+          → CallsPort port (clear_call 1) mid result new → IsLost port p new
+      lost (Ok done) f p at owned few still alone e calls = absurd (cc e)
+      lost (Err fault) f p at owned few still alone e calls =
+          call_lost port 1 ClearEnable refl mid (Err fault) new calls p (undamaged_later old mid (went_later m old mid before (went_sound n mid new went still)).damages few) still alone (ap Err (cc e))
+
+-- The clearing of a change of connection
+
+pub clears_failed : (port : HubPort) (old : World) (fault : PipeFault) (new : World) → CallsPort port (clear_call 16) old (Err fault) new → KeepsCleared port 16 old (Err fault) new → Clears port old (Err (fault_at_port fault)) new
+unfolding clear_call
+clears_failed port old fault new calls keeps = record {
+  bares = keeps.keeps;
+  devices = keeps.devices;
+  others = λ f p at owned goes. calls.rests f p ClearConnectionChange (record { at = at; is = refl; alone = λ resets. absurd (cc resets); owned = owned }) (goes_sound PortStatus (Unit {0}) fault goes);
+  decides = λ f p at owned way order still. tt;
+  lost = λ f p at owned way few still alone e. call_lost port 16 ClearConnectionChange refl old (Err fault) new calls p few still alone (ap Err (cc e));
+}
+
+-- the status after it failed, or was told
+pub clears_untold : (port : HubPort) (old : World) (fault : EnumFault) (new : World) → Watches port old (Err fault) new → Clears port old (Err fault) new
+clears_untold port old fault new x = record {
+  bares = x.addresses;
+  devices = x.devices;
+  others = λ f p at owned goes y away. x.rests goes y;
+  decides = λ f p at owned way order still. tt;
+  lost = λ f p at owned way few still alone e. x.lost p way few still alone e;
+}
+
+pub clears_told : (port : HubPort) (n : ℕ) (old : World) (status : PortStatus) (new : World) {t s : Option (List ℕ)} → WentOn n old t new s → status.enabled ≡ false → PortRead port old (Ok status) new → TellsPort port old (Ok status) new → KeepsAsked port old (Ok status) new
+    → Clears port old (Ok status) new
+clears_told port n old status new went off read tells asked = record {
+  bares = asked.bare status refl off;
+  devices = asked.devices;
+  others = λ f p at owned goes x away. read_rests port old (Ok status) new read tt x;
+  decides = λ f p at owned way order still. told_decides p status old new (tells.tells f p at owned status refl) (went_in_order n old new went order still).0.sane way;
+  lost = λ f p at owned way few still alone e. absurd (cc e);
+}

@@ -1,0 +1,145 @@
+-- The hub of a port that is known serves the port, or a change of connection is pending at the hub.
+use Rattle.std.proofs.Common.{◌≡◌, ◌⊎◌, inl, inr, ◌≤◌, ◌&&◌, ◌||◌, not, arith, if◌then◌else◌, ℕ, zero, suc, Bool, true, false, List, [], ◌∷◌, length, Option, None, Some, refl, ap, sym, subst, ◌∙◌, length-append}
+use Rattle.std.specs.Prelude.{IsSomeAnd, nat_le, slice_index_or}
+use Rattle.std.proofs.lemmas.Bool.{eq-eqb, lt-ltb, leb-true}
+use Rattle.usb_port.specs.Order.{parent_of, port_of}
+use Rattle.usb_port.proofs.OrderLaws.{rejoined}
+use Rattle.usb_resources.specs.Pool.{IsAddress}
+use Rattle.usb_resources.specs.Power.{supply_of}
+use Rattle.usb_descriptor.specs.Config.{configuration_value}
+use Rattle.usb_device.specs.Spec.{Spec, Hub}
+use Rattle.usb_device.specs.Tree.{reach}
+use Rattle.usb_world.specs.Live.{address_of, is_way, pend}
+use Rattle.usb_world.specs.Passes.{deep_at}
+use Rattle.usb_world.specs.Plugged.{hub_ports}
+use Rattle.usb_world.specs.Steps.{IsBetween}
+use Rattle.usb_world.specs.World.{World}
+use Rattle.usb_world.proofs.Booleans.{no, and_of}
+use Rattle.usb_world.proofs.SaneLaws.{sane_spec}
+use Rattle.usb_hub.specs.declared.port.HubPort.TheVariants.{External}
+use Rattle.usb_enum.specs.declared.finding.Accepted.{Accepted}
+use Rattle.usb_enum.specs.declared.finding.Finding.{Finding}
+use Rattle.usb_enum.specs.declared.finding.Finding.TheVariants.{Device, Refused}
+use Rattle.usb_enum.specs.declared.hub.HubFacts.{HubFacts}
+use Rattle.usb_enum.specs.Described.{facts_of}
+use Rattle.usb_enum.specs.Device.{is_hub, target_of, configuration_of}
+use Rattle.usb_enum.specs.Fair.{HasServer, ServesAt}
+use Rattle.usb_enum.specs.Places.{IsKnownAs}
+use Rattle.usb_table.specs.declared.known.KnownPort.{KnownPort}
+use Rattle.usb_table.specs.Entries.{Entries}
+use Rattle.usb_table.specs.Findings.{device_of}
+use Rattle.usb_table.specs.Keys.{address_in}
+use Rattle.usb_table.specs.Known.{IsAskable, root_port, port_below, port_found, port_of_hub, is_below_hub}
+use Rattle.usb_table.specs.Listing.{finding_at, tier_of}
+use Rattle.usb_host.specs.Hosting.{Hosting}
+use Rattle.usb_host.specs.Ports.{StandsAt}
+use Rattle.usb_host.specs.Sound.{IsToldAt, known_supply, IsSoundBut}
+use Rattle.usb_host.proofs.Accepted.{accepted_loud, accepted_free, accepted_value}
+use Rattle.usb_host.proofs.Roots.{accounted}
+use Rattle.usb_host.proofs.Settled.{listed_port, listed_address, port_number, reached_there}
+use Rattle.usb_host.proofs.Ways.{way_shorter}
+
+-- A hub that is accepted hears its target
+
+pub hears_by : (low own deep pre : Bool) → low ≡ own → (low ≡ true → deep ≡ true → pre ≡ true) → (if low then own && (not deep || pre) else not own) ≡ true
+hears_by true own deep pre e f = subst (λ x. (x && (not deep || pre)) ≡ true) e (by_deep deep (f refl))
+  where
+    by_deep : (d : Bool) → (d ≡ true → pre ≡ true) → (true && (not d || pre)) ≡ true
+    by_deep true g = g refl
+    by_deep false g = refl
+hears_by false own deep pre e f = subst (λ x. not x ≡ true) e refl
+
+pub below_of : (j : ℕ) (p : List ℕ) → deep_at false p ≡ true → is_below_hub (suc j ∷ p) ≡ true
+below_of j [] h = no h
+below_of j (n ∷ p) h = lt-ltb 1 (length (suc j ∷ n ∷ p)) (omega arith)
+
+facts_port : (spec : Spec) (facts : HubFacts) (n : ℕ) → facts_of spec ≡ Some facts → 1 ≤ n → n ≤ facts.ports → (hub : Hub) × (spec.hub ≡ Some hub) × (n ≤ hub.ports)
+facts_port spec facts n e least most = pick (is_hub spec.descriptor) e
+  where
+    by_hub : (o : Option Hub) → spec.hub ≡ o → facts.ports ≡ hub_ports o → (hub : Hub) × (spec.hub ≡ Some hub) × (n ≤ hub.ports)
+    by_hub None is ports = absurd (omega (arith, least, most, ports))
+    by_hub (Some hub) is ports = (hub, is, omega (arith, most, ports))
+
+    pick : (b : Bool) → (if b then Some (record { ports = hub_ports spec.hub; supply = supply_of false spec.self_powered }) else None) ≡ Some facts → (hub : Hub) × (spec.hub ≡ Some hub) × (n ≤ hub.ports)
+    pick true h = let same : record { ports = hub_ports spec.hub; supply = supply_of false spec.self_powered } ≡ facts = cc h in by_hub spec.hub refl (ap (λ (f : HubFacts). f.ports) (sym same))
+    pick false h = absurd (cc h)
+
+module _ (w : World) (entries : Entries) (device : Accepted) (facts : HubFacts) (n : ℕ) (told : device.hub ≡ Some facts) (least : 1 ≤ n) (most : n ≤ facts.ports) (address : IsAddress device.address) (between : IsBetween w) where
+  hub_serves : (hub : List ℕ) → finding_at hub entries ≡ Some (Device device) → reach w.roots hub ≡ true → IsToldAt w entries hub → 8 ≤ (target_of device (is_below_hub hub)).max → ServesAt (target_of device (is_below_hub hub)) n hub w
+  hub_serves [] at on knows wide = no on
+  hub_serves (zero ∷ p) at on knows wide = no on
+  hub_serves (suc j ∷ p) at on knows wide =
+      let s : _ = reached_there w.roots (suc j ∷ p) on in
+      let t = knows device s.0 (ap device_of at) on s.1 in
+      let port : _ = facts_port s.0.spec facts n (sym t.found.1.hub ∙ told) least most in
+      let tier = tier_of (suc j ∷ p) in
+      let supply = known_supply (suc j ∷ p) entries in
+      let value : 1 ≤ configuration_value (configuration_of device) = subst (λ (texts : List (List ℕ)). 1 ≤ configuration_value (slice_index_or texts device.chosen [])) (sym t.found.1.configs) (accepted_value s.0.spec tier supply device.chosen t.found.0) in
+      record {
+        serves = record {
+          j = j;
+          p = p;
+          state = s.0;
+          on = on;
+          stands = s.1;
+          listens = record {
+            at = eq-eqb (address_of s.0) device.address t.set.address;
+            loud = accepted_loud s.0.spec tier supply device.chosen t.found.0;
+            hears = hears_by device.low s.0.spec.low (deep_at false p) (device.low && is_below_hub (suc j ∷ p)) t.found.1.low (λ low deep. and_of device.low (is_below_hub (suc j ∷ p)) low (below_of j p deep));
+          };
+          addressed = λ e. absurd (omega (arith, e, address.0));
+          configured = λ e. absurd (omega (arith, e, value, t.set.configuration));
+          has = record {
+            hub = port.0;
+            is = port.1;
+            least = least;
+            most = port.2;
+            idle = accepted_free s.0.spec tier supply device.chosen t.found.0;
+            ruled = sane_spec w.roots j p s.0 between.sane s.1;
+          };
+        };
+        there = refl;
+        wide = wide;
+      }
+
+-- The port's hub
+
+module _ (path : List ℕ) (port : KnownPort) (h : Hosting) (s : StandsAt path port h) (i : IsSoundBut path h) (still : h.world.fault ≡ None) where
+  server_of : (hub : List ℕ) (device : Accepted) (facts : HubFacts) → parent_of path ≡ Some hub → finding_at hub h.entries ≡ Some (Device device) → device.hub ≡ Some facts → port_of path ≤ facts.ports → 8 ≤ (target_of device (is_below_hub hub)).max → HasServer (External (target_of device (is_below_hub hub)) (port_of path)) path h.world
+  server_of hub device facts above at told most wide = subst (λ o. IsSomeAnd o (λ q. (pend h.world.roots q ≡ true) ⊎ ServesAt (target_of device (is_below_hub hub)) (port_of path) q h.world)) (sym above) (pick known)
+    where
+      away : is_way path hub ≡ false
+      away = way_shorter path hub (omega (arith, ap length (rejoined path hub above) ∙ length-append hub (port_of path ∷ [])))
+
+      known : IsKnownAs h.world hub (Some (Device device))
+      known = subst (IsKnownAs h.world hub) at (i.known still hub away (listed_port h.world h.entries h.addresses (accounted h s.agrees i.rooted) hub (Device device) at))
+
+      address : IsAddress device.address
+      address = listed_address h.world h.entries h.addresses (accounted h s.agrees i.rooted) hub device.address (ap address_in at)
+
+      pick : IsKnownAs h.world hub (Some (Device device)) → (pend h.world.roots hub ≡ true) ⊎ ServesAt (target_of device (is_below_hub hub)) (port_of path) hub h.world
+      pick (inl x) = inl x
+      pick (inr x) = inr (hub_serves h.world h.entries device facts (port_of path) told (port_number path s.is).0 most address (i.order still).0 hub at x.1 (i.truthful still hub away) wide)
+
+  by_fit : (hub : List ℕ) (device : Accepted) (facts : HubFacts) → parent_of path ≡ Some hub → finding_at hub h.entries ≡ Some (Device device) → device.hub ≡ Some facts → (b : Bool) → nat_le (port_of path) facts.ports ≡ b
+      → (if b then Some (record { port = External (target_of device (is_below_hub hub)) (port_of path); supply = facts.supply }) else None) ≡ Some port → HasServer port.port path h.world
+  by_fit hub device facts above at told true fits e =
+      let same : record { port = External (target_of device (is_below_hub hub)) (port_of path); supply = facts.supply } ≡ port = cc e in
+      subst (λ (p : KnownPort). HasServer p.port path h.world) same (server_of hub device facts above at told (leb-true (port_of path) facts.ports fits) (subst (λ (p : KnownPort). IsAskable p.port) (sym same) s.askable).wide)
+  by_fit hub device facts above at told false fits e = absurd (cc e)
+
+  by_hub : (hub : List ℕ) (device : Accepted) (o : Option HubFacts) → parent_of path ≡ Some hub → finding_at hub h.entries ≡ Some (Device device) → device.hub ≡ o → port_of_hub device o (is_below_hub hub) (port_of path) ≡ Some port → HasServer port.port path h.world
+  by_hub hub device None above at told e = absurd (cc e)
+  by_hub hub device (Some facts) above at told e = by_fit hub device facts above at told (nat_le (port_of path) facts.ports) refl e
+
+  by_found : (hub : List ℕ) (o : Option Finding) → parent_of path ≡ Some hub → finding_at hub h.entries ≡ o → port_found o (is_below_hub hub) (port_of path) ≡ Some port → HasServer port.port path h.world
+  by_found hub None above at e = absurd (cc e)
+  by_found hub (Some (Refused cause)) above at e = absurd (cc e)
+  by_found hub (Some (Device device)) above at e = by_hub hub device device.hub above at refl e
+
+  by_parent : (o : Option (List ℕ)) → parent_of path ≡ o → port_below o (port_of path) h.entries ≡ Some port → HasServer port.port path h.world
+  by_parent None above e = let same : root_port (port_of path) ≡ port = cc e in subst (λ (p : KnownPort). HasServer p.port path h.world) same tt
+  by_parent (Some hub) above e = by_found hub (finding_at hub h.entries) above refl e
+
+  pub hub_server : HasServer port.port path h.world
+  hub_server = by_parent (parent_of path) refl s.known

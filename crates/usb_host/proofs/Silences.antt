@@ -1,0 +1,182 @@
+-- A hub that answers a poll with NAK has no port whose change bits are set.
+use Rattle.std.proofs.Common.{◌≡◌, ◌≤◌, ◌<◌, ◌==◌, ◌&&◌, ◌+◌, ◌-◌, ◌∙◌, if◌then◌else◌, ℕ, zero, suc, nat_le, Bool, true, false, List, [], ◌∷◌, ◌++◌, length, take, Option, None, Some, refl, ap, sym, subst, arith, slice_get}
+use Rattle.std.specs.Prelude.{IfSome}
+use Rattle.std.proofs.lemmas.Bool.{eqb-true}
+use Rattle.usb_port.specs.PortState.{PortState, has_change}
+use Rattle.usb_device.specs.declared.answer.Answer.{Answer}
+use Rattle.usb_device.specs.declared.answer.Answer.TheVariants as answer
+use Rattle.usb_device.specs.declared.transfer.Giver.TheVariants as by
+use Rattle.usb_device.specs.Attempt.{Way, whole, broken, lost, is_whole, heard, gave, source_law, held_law, changes_law, in_bulk_law, in_law}
+use Rattle.usb_device.specs.Bulk.{tells_changes, change_bits}
+use Rattle.usb_device.specs.Rows.{State, Reply, forgotten, rest_of, bulk_of, bulk_ack_row}
+use Rattle.usb_device.specs.Tree.{Ports, ended, vacant, taken, full, row_of, place_at, port_at, reach_at, state_at}
+use Rattle.usb_device.specs.View.{port_there}
+use Rattle.usb_world.specs.declared.types.Outcome.{Outcome}
+use Rattle.usb_world.specs.declared.types.Outcome.TheVariants as outcome
+use Rattle.usb_world.specs.Devices.{Was, DidIn}
+use Rattle.usb_world.specs.OneHolder.{IsMade, got}
+use Rattle.usb_world.specs.Passes.{IsSettled}
+use Rattle.usb_world.specs.Requested.{leaves_step}
+use Rattle.usb_world.specs.Steps.{attempt, after, ready, outcome_in}
+use Rattle.usb_world.specs.World.{World}
+use Rattle.usb_world.proofs.Booleans.{no}
+use Rattle.usb_world.proofs.Devices.{each_in}
+use Rattle.usb_world.proofs.OneHolderMore.{made_of, made_is}
+use Rattle.usb_world.proofs.RequestLawsBits.{made_port}
+use Rattle.usb_world.proofs.RequestLawsPlain.{data_asks_nothing}
+use Rattle.usb_transaction.specs.declared.target.Target.{Target}
+use Rattle.usb_transaction.specs.Over.{is_at}
+use Rattle.usb_transaction.specs.Trail.{Trail, next}
+use Rattle.usb_transaction.specs.Trans.{in_attempt}
+use Rattle.usb_transaction.proofs.OverPoll.{law_is, only_changes}
+use Rattle.usb_transaction.proofs.Trails.{trail_settled}
+use Rattle.usb_hub.proofs.Statuses.{row_port}
+
+-- IN of an endpoint other than 0 keeps a device's description and its registers
+
+abbrev Ran : State → State → Type 0
+Ran s v = (v.spec ≡ s.spec) × (v.registers ≡ s.registers)
+
+module _ (s : State) where
+  bulk_acked : (o : Option (ℕ × ℕ)) → Ran s (bulk_ack_row s o)
+  bulk_acked None = (refl, refl)
+  bulk_acked (Some end) = (refl, refl)
+
+  bulk_given : (b : Bool) → Ran s (if b then forgotten (bulk_ack_row s (bulk_of s true)) else s)
+  bulk_given true = bulk_acked (bulk_of s true)
+  bulk_given false = (refl, refl)
+
+  source_by : (most max : ℕ) (t2 t3 : Way) (b c : Bool) → Ran s (if b then (heard t2 (Some answer.Stall), s) else if c then (heard t2 (Some answer.Nak), s) else gave s by.Bulk max s.bulk_in.toggle (take most (rest_of s)) t2 t3).1
+  source_by most max t2 t3 true c = (refl, refl)
+  source_by most max t2 t3 false true = (refl, refl)
+  source_by most max t2 t3 false false = bulk_given (is_whole t2 && nat_le (length (take most (rest_of s))) max && is_whole t3)
+
+  in_bulk_by : (e most max : ℕ) (t2 t3 : Way) (b : Bool) → Ran s (if b then source_law s most max t2 t3 else (None, s)).1
+  in_bulk_by e most max t2 t3 true = source_by most max t2 t3 s.bulk_in.halted (length (rest_of s) == 0)
+  in_bulk_by e most max t2 t3 false = (refl, refl)
+
+  in_bulk : (e : ℕ) (o : Option (ℕ × ℕ)) (max : ℕ) (t2 t3 : Way) → Ran s (in_bulk_law s e o max t2 t3).1
+  in_bulk e None max t2 t3 = (refl, refl)
+  in_bulk e (Some end) max t2 t3 = in_bulk_by e end.1 max t2 t3 (end.0 == e)
+
+  in_one : (row : List PortState) (max : ℕ) (t1 t2 t3 : Way) → Ran s (in_law s row 1 max t1 t2 t3).1
+  in_one row max broken t2 t3 = (refl, refl)
+  in_one row max lost t2 t3 = (refl, refl)
+  in_one row max whole t2 t3 = pick (tells_changes s.spec s.registers) refl
+    where
+      pick : (b : Bool) → tells_changes s.spec s.registers ≡ b → Ran s (in_law s row 1 max whole t2 t3).1
+      pick true is = let only = only_changes s row max whole t2 t3 is in (ap (λ (d : State). d.spec) only, ap (λ (d : State). d.registers) only)
+      pick false is =
+          subst (λ (r : Reply). Ran s r.1) (sym (ap (λ (z : Bool). if z then changes_law s row max t2 t3 else in_bulk_law s 1 (bulk_of s true) max t2 t3) is))
+          (in_bulk 1 (bulk_of s true) max t2 t3)
+
+-- What NAK tells
+
+heard_nak : (t2 : Way) (o : Answer) → heard t2 (Some o) ≡ Some answer.Nak → o ≡ answer.Nak
+heard_nak whole o e = cc e
+heard_nak broken o e = absurd (cc e)
+heard_nak lost o e = absurd (cc e)
+
+got_nak : (max : ℕ) (o : Option Answer) → got max o ≡ outcome.Nak → o ≡ Some answer.Nak
+got_nak max None e = absurd (cc e)
+got_nak max (Some answer.Ack) e = absurd (cc e)
+got_nak max (Some answer.Nak) e = refl
+got_nak max (Some answer.Stall) e = absurd (cc e)
+got_nak max (Some (answer.Data u b)) e = fits (nat_le (length b.items) max) e
+  where
+    fits : (x : Bool) → (if x then outcome.Payload u b else outcome.Nothing) ≡ outcome.Nak → Some (answer.Data u b) ≡ Some answer.Nak
+    fits true h = absurd (cc h)
+    fits false h = absurd (cc h)
+
+module _ (s : State) (row : List PortState) (max : ℕ) (t2 t3 : Way) where
+  nak_new : (b : Bool) → (change_bits row == 0) ≡ b
+      → (if b then (heard t2 (Some answer.Nak), s) else gave (record s { held = Some (change_bits row) }) by.Changes max s.changes.toggle (change_bits row ∷ []) t2 t3).0 ≡ Some answer.Nak → change_bits row ≡ 0
+  nak_new true is e = eqb-true (change_bits row) 0 is
+  nak_new false is e = absurd (cc (heard_nak t2 _ e))
+
+  nak_held : (held : Option ℕ) → (held_law s row held max t2 t3).0 ≡ Some answer.Nak → change_bits row ≡ 0
+  nak_held None e = nak_new (change_bits row == 0) refl e
+  nak_held (Some bits) e = absurd (cc (heard_nak t2 _ e))
+
+  nak_halt : (halted : Bool) → (if halted then (heard t2 (Some answer.Stall), s) else held_law s row s.held max t2 t3).0 ≡ Some answer.Nak → change_bits row ≡ 0
+  nak_halt true e = absurd (cc (heard_nak t2 answer.Stall e))
+  nak_halt false e = nak_held s.held e
+
+nak_bits : (s : State) (row : List PortState) (max : ℕ) (t1 t2 t3 : Way) → tells_changes s.spec s.registers ≡ true → (in_law s row 1 max t1 t2 t3).0 ≡ Some answer.Nak → change_bits row ≡ 0
+nak_bits s row max whole t2 t3 tells e = nak_halt s row max t2 t3 s.changes.halted (ap (λ (r : Reply). r.0) (sym (law_is s tells row max t2 t3)) ∙ e)
+nak_bits s row max broken t2 t3 tells e = absurd (cc e)
+nak_bits s row max lost t2 t3 tells e = absurd (cc e)
+
+-- no bit is set, so no port has a change
+
+abbrev bit_of : Option PortState → ℕ → ℕ
+bit_of o weight = elim o [ None ↦ 0 | Some p ↦ if has_change p then weight else 0 ]
+
+bit_by : (o : Option PortState) (weight : ℕ) → bit_of o (suc weight) ≡ 0 → IfSome o (λ b. has_change b ≡ false)
+bit_by None weight h = tt
+bit_by (Some p) weight h = pick (has_change p) h
+  where
+    pick : (b : Bool) → (if b then suc weight else 0) ≡ 0 → b ≡ false
+    pick true h = absurd (cc h)
+    pick false h = refl
+
+bits_clear : (row : List PortState) → change_bits row ≡ 0 → (i : ℕ) → i < 7 → IfSome (slice_get row i) (λ b. has_change b ≡ false)
+unfolding change_bits
+bits_clear row h zero lt = bit_by (slice_get row 0) 1 (omega (arith, h))
+bits_clear row h (suc zero) lt = bit_by (slice_get row 1) 3 (omega (arith, h))
+bits_clear row h (suc (suc zero)) lt = bit_by (slice_get row 2) 7 (omega (arith, h))
+bits_clear row h (suc (suc (suc zero))) lt = bit_by (slice_get row 3) 15 (omega (arith, h))
+bits_clear row h (suc (suc (suc (suc zero)))) lt = bit_by (slice_get row 4) 31 (omega (arith, h))
+bits_clear row h (suc (suc (suc (suc (suc zero))))) lt = bit_by (slice_get row 5) 63 (omega (arith, h))
+bits_clear row h (suc (suc (suc (suc (suc (suc zero)))))) lt = bit_by (slice_get row 6) 127 (omega (arith, h))
+bits_clear row h (suc (suc (suc (suc (suc (suc (suc i))))))) lt = absurd (omega (arith, lt))
+
+-- The ports of the device
+
+-- the port of a number below a device
+port_of_row : (k : Ports) (j : ℕ) (p : List ℕ) (b : PortState) (s : State) (below : Ports) (i : ℕ) → place_at k j p ≡ Some (full b s below) → port_at k j (p ++ (suc i ∷ [])) ≡ slice_get (row_of below) i
+unfolding place_at port_at
+port_of_row ended j p b s below i h = absurd (cc h)
+port_of_row (vacant c k) zero [] b s below i h = absurd (cc h)
+port_of_row (vacant c k) zero (n ∷ p) b s below i h = absurd (cc h)
+port_of_row (vacant c k) (suc j) p b s below i h = port_of_row k j p b s below i h
+port_of_row (taken c t a k) zero [] b s below i h = let same : a ≡ below = cc h in ap (λ (x : Ports). port_at x i []) same ∙ row_port below i
+port_of_row (taken c t a k) zero (zero ∷ p) b s below i h = absurd (cc h)
+port_of_row (taken c t a k) zero (suc m ∷ p) b s below i h = port_of_row a m p b s below i h
+port_of_row (taken c t a k) (suc j) p b s below i h = port_of_row k j p b s below i h
+
+-- no port of the device there has a change bit set
+abbrev pub AreClear : World → ℕ → List ℕ → Type 0
+AreClear w j p = (n : ℕ) → 1 ≤ n → n ≤ 7 → IfSome (port_there w.roots (suc j ∷ (p ++ (n ∷ [])))) (λ b. has_change b ≡ false)
+
+module _ (t : Target) (w : World) (made : IsMade (in_attempt t 1) w) (j : ℕ) (p : List ℕ) where
+  abbrev now : World
+  now = after (attempt (in_attempt t 1)) w
+
+  -- the attempt leaves each port as it found it
+  left_as : (n : ℕ) → port_there now.roots (suc j ∷ (p ++ (n ∷ []))) ≡ port_there (ready w).roots (suc j ∷ (p ++ (n ∷ [])))
+  unfolding leaves_step
+  left_as n = ap (λ (x : World). port_there x.roots (suc j ∷ (p ++ (n ∷ [])))) (made_is (in_attempt t 1) w made) ∙ made_port (in_attempt t 1) (ready w) (suc j ∷ (p ++ (n ∷ []))) (data_asks_nothing (in_attempt t 1) w (suc j ∷ (p ++ (n ∷ []))) refl made.settled).leaves
+
+  clear : (b : PortState) (s : State) (below : Ports) → place_at (ready w).roots j p ≡ Some (full b s below) → change_bits (row_of below) ≡ 0 → AreClear now j p
+  clear b s below stood none zero least most = absurd (omega (arith, least))
+  clear b s below stood none (suc i) least most =
+      subst (λ (o : Option PortState). IfSome o (λ b. has_change b ≡ false)) (sym (left_as (suc i) ∙ port_of_row (ready w).roots j p b s below i stood))
+      (bits_clear (row_of below) none i (omega (arith, most)))
+
+  did_clear : (s v : State) → DidIn (in_attempt t 1) w j p s v → outcome_in (in_attempt t 1) w ≡ outcome.Nak → is_at v t ≡ true → tells_changes v.spec v.registers ≡ true → AreClear now j p
+  did_clear s v (DidIn.other d e) nak at tells = no (sym (ap (λ (x : State). is_at x t) e ∙ d) ∙ at)
+  did_clear s v (DidIn.silent d q o e) nak at tells = absurd (cc (o, nak))
+  did_clear s v (DidIn.asked d q b below stood x o e) nak at tells =
+      let ran = in_one s (row_of below) t.max x.first x.second x.third in
+      let same : tells_changes v.spec v.registers ≡ tells_changes s.spec s.registers = ap (λ (d : State). tells_changes d.spec d.registers) e ∙ cc (ran.0, ran.1) in
+      let heard = got_nak t.max (in_law s (row_of below) 1 t.max x.first x.second x.third).0 (sym o ∙ nak) in
+      clear b s below stood (nak_bits s (row_of below) t.max x.first x.second x.third (sym same ∙ tells) heard)
+
+-- the last attempt of a poll was answered NAK by the hub that has the address
+pub nak_clears : (t : Target) {old new : World} {last : Outcome} {outcomes : List Outcome} → Trail (in_attempt t 1) old (last ∷ outcomes) new → last ≡ outcome.Nak → IsSettled old.roots → new.shared ≡ false
+    → (j : ℕ) (p : List ℕ) (v : State) → reach_at new.roots j p ≡ true → state_at new.roots j p ≡ Some v → is_at v t ≡ true → tells_changes v.spec v.registers ≡ true → AreClear new j p
+nak_clears t (next w trail step) nak settled single j p v on stands at tells =
+    let made : IsMade (in_attempt t 1) w = made_of (in_attempt t 1) w (trail_settled trail settled) step in
+    let was : Was (DidIn (in_attempt t 1) w) w j p v = each_in (in_attempt t 1) w made (record { kind = refl; payload = refl }) single j p v on stands in
+    did_clear t w made j p was.before v was.so nak at tells

@@ -1,0 +1,199 @@
+-- What a host knows stays so over the parts of a round, transfers and events.
+use Rattle.std.proofs.Common.{◌≡◌, ◌∙◌, inl, inr, refl, sym, ap, subst, arith, ℕ, List, [], ◌∷◌, Bool, true, false, Option, None, Some, Result, Ok, Err}
+use Rattle.std.specs.Prelude.{OnOk, IsSome}
+use Rattle.std.specs.BTreeMap.{is_at}
+use Rattle.usb_port.specs.Order.{path_cmp}
+use Rattle.usb_world.specs.declared.event.Event.{Event}
+use Rattle.usb_world.specs.declared.types.BusFault.{BusFault}
+use Rattle.usb_world.specs.Live.{pend, is_way}
+use Rattle.usb_world.specs.Steps.{took, took_first, event_taken, event, after, step, here as no_more, AnyStep}
+use Rattle.usb_world.specs.World.{World, roots_of}
+use Rattle.usb_world.proofs.Booleans.{no}
+use Rattle.usb_world.proofs.WorldLaws.{course_wider}
+use Rattle.usb_transaction.specs.Why.{NoThreeDamaged}
+use Rattle.usb_address.specs.Owned.{KeepsAddresses}
+use Rattle.usb_enum.specs.declared.finding.Finding.{Finding}
+use Rattle.usb_enum.specs.declared.finding.Finding.TheVariants.{Device, Refused}
+use Rattle.usb_enum.specs.Places.{IsKnownAs, IsOccupied}
+use Rattle.usb_enum.specs.Present.{IsInOrder}
+use Rattle.usb_enum.proofs.Courses.{orderly_on, went_in_order, went_sound}
+use Rattle.usb_enum.proofs.Losses.{step_later}
+use Rattle.usb_table.specs.Entries.{Entries}
+use Rattle.usb_table.specs.Listing.{finding_at}
+use Rattle.usb_table.specs.Levels.{AllLevel, IsHeld, KeepsLevel}
+use Rattle.usb_table.specs.Table.{Table}
+use Rattle.usb_table.proofs.Levels.{all_kept}
+use Rattle.usb_table.proofs.Paths.{path_tied}
+use Rattle.usb_host.specs.declared.fault.HostFault.{HostFault}
+use Rattle.usb_host.specs.declared.host.Round.{Round}
+use Rattle.usb_host.specs.Agreement.{Agrees}
+use Rattle.usb_host.specs.Hosting.{Hosting}
+use Rattle.usb_host.specs.Owning.{claims, IsOwned, StaysOwned}
+use Rattle.usb_host.specs.Transfers.{table_in}
+use Rattle.usb_host.specs.Progress.{HostWent, Goes}
+use Rattle.usb_host.specs.Sound.{Known, Truthful, Accounted, Causes, IsSound, IsSoundBut, IsFairTo, StaysSound, KeepsSound, IsDroppable, DropsSound, RoundsSound}
+use Rattle.usb_host.proofs.Events.{known_event, truthful_event, causes_event, level_event}
+use Rattle.usb_host.proofs.Fairness.{fair_before, fair_after}
+use Rattle.usb_host.proofs.Owners.{but_all, stays_kept}
+use Rattle.usb_host.proofs.Roots.{accounted}
+use Rattle.usb_host.proofs.Settled.{listed_port, reached_there}
+use Rattle.usb_host.proofs.Stays.{known_each, truthful_stays, causes_stay}
+use Rattle.usb_host.proofs.Ways.{way_itself}
+
+-- One part after another
+
+pub sound_none : (h : Hosting) → StaysSound h h
+sound_none h = record { sound = λ s. s; caused = λ s fair caused. caused }
+
+pub sound_then : (m n : ℕ) (a b c : Hosting) → HostWent m a b → HostWent n b c → StaysSound a b → StaysSound b c → StaysSound a c
+sound_then m n a b c first second x y = record {
+  sound = λ s. y.sound (x.sound s);
+  caused = λ s fair caused.
+      let before = fair_before n a.world b.world c.world second fair in
+      y.caused (x.sound s) (fair_after m a.world b.world c.world first before.still fair) (x.caused s before caused);
+}
+
+-- A device that was found stands at its port, or a change is pending there
+
+occupied_by : (w : World) (path : List ℕ) (f : Finding) → IsKnownAs w path (Some f) → IsOccupied w path
+occupied_by w path f (inl pends) = inl pends
+occupied_by w path (Device device) (inr here) = let there : _ = reached_there w.roots path here.1 in inr (here.0, rw there.1 refl)
+occupied_by w path (Refused cause) (inr here) = inr (here.0, here.1.0)
+
+occupied_at : (path : List ℕ) (h : Hosting) → Accounted (roots_of h.world) h.entries h.addresses → Known h.world h.entries → (o : Option Finding) → finding_at path h.entries ≡ o → IsSome o → IsOccupied h.world path
+occupied_at path h fits known None at some = absurd (cc some)
+occupied_at path h fits known (Some f) at some = occupied_by h.world path f (subst (IsKnownAs h.world path) at (known path (listed_port h.world h.entries h.addresses fits path f at)))
+
+apart : (path other : List ℕ) → is_way path other ≡ false → is_at (path_cmp path) other ≡ false
+apart path other away = pick (is_at (path_cmp path) other) refl
+  where
+    pick : (b : Bool) → is_at (path_cmp path) other ≡ b → b ≡ false
+    pick true tie = no (sym away ∙ ap (is_way path) (sym (path_tied path other tie)) ∙ way_itself path)
+    pick false tie = refl
+
+-- A call through the pipes at a path: it changes no entry and asks nothing of any port
+
+module _ (n : ℕ) (path : List ℕ) (ends : Type 0) (a b : Hosting) (agrees : Agrees a.entries a.addresses) (same : b.entries ≡ a.entries) (went : HostWent n a b)
+    (k : KeepsLevel path ends (table_in a) a.world (table_in b) b.world) where
+  before : b.world.fault ≡ None → a.world.fault ≡ None
+  before still = went_sound n a.world b.world went still
+
+  owned : StaysOwned a b
+  owned = stays_kept a b same went.spends.roots k.worlds.addresses
+
+  held : IsSound a → b.world.fault ≡ None → IsHeld (table_in a) a.world
+  held s still = s.owned.so (before still)
+
+  pub known_kept : IsSound a → b.world.fault ≡ None → Known b.world b.entries
+  known_kept s still = subst (Known b.world) (sym same) (known_each a.world b.world a.entries went.spends.roots (λ path port. k.worlds.rests still path) (s.known (before still)))
+
+  pub truthful_kept : IsSound a → b.world.fault ≡ None → Truthful b.world b.entries
+  truthful_kept s still = subst (Truthful b.world) (sym same) (truthful_stays a.world b.world a.entries (k.worlds.devices.same (owned.stays s.owned).single) (s.truthful (before still)))
+
+  -- each cause stays so, wherever it ends
+  pub caused_kept : IsSound a → IsFairTo a.world b.world → Causes a.world a.entries → Causes b.world b.entries
+  caused_kept s fair causes =
+      subst (Causes b.world) (sym same)
+      (causes_stay a.world b.world a.entries a.addresses (accounted a agrees s.rooted) (s.known (before fair.still)) (λ path port. course_wider (λ s u x. x.spares) (k.worlds.rests fair.still path)) causes)
+
+  -- where it ends well
+  pub sound_kept : (b.world.fault ≡ None → ends) → StaysSound a b
+  sound_kept well = record {
+    sound = λ s. record {
+      owned = owned.stays s.owned;
+      rooted = owned.rooted s.rooted;
+      order = went_in_order n a.world b.world went s.order;
+      known = known_kept s;
+      truthful = truthful_kept s;
+      level = λ still. all_kept path ends (table_in a) (table_in b) a.world b.world k (held s still) (well still) (s.level (before still));
+    };
+    caused = caused_kept;
+  }
+
+  -- where it does not, the device at the path may be dropped
+  pub but_kept : IsSound a → IsSoundBut path b
+  but_kept s = record {
+    owned = but_all path (claims b.entries) b.world (owned.stays s.owned);
+    rooted = owned.rooted s.rooted;
+    order = went_in_order n a.world b.world went s.order;
+    known = λ still other away. known_kept s still other;
+    truthful = λ still other away. truthful_kept s still other;
+    level = λ still other away. k.others (held s still) other (apart path other away) (s.level (before still) other);
+  }
+
+  pub occupied_kept : IsSound a → IsSome (finding_at path b.entries) → b.world.fault ≡ None → Agrees b.entries b.addresses → IsOccupied b.world path
+  occupied_kept s listed still agrees_on = occupied_at path b (accounted b agrees_on (owned.rooted s.rooted)) (known_kept s still) (finding_at path b.entries) refl listed
+
+-- A hub is dropped
+
+-- where a change was pending at it, as it did not answer
+pub sound_dropped : (result : Result (Unit {0}) HostFault) (hub : List ℕ) (m n : ℕ) (a b c : Hosting) → Goes m a b → Goes n b c → (IsSound a → IsDroppable hub b) → (IsSound a → IsFairTo a.world b.world → Causes a.world a.entries → Causes b.world b.entries)
+    → DropsSound hub b result c → (IsSound a → b.world.fault ≡ None → NoThreeDamaged a.world → pend b.world.roots hub ≡ true) → KeepsSound a result c
+sound_dropped (Ok done) hub m n a b c p q drops causes d pends = record {
+  sound = λ s. d.sound (drops s);
+  caused = λ s fair caused.
+      let before : IsFairTo a.world b.world = fair_before n a.world b.world c.world q.went fair in
+      d.caused (drops s) (fair_after m a.world b.world c.world p.went before.still fair) (pends s before.still fair.few) (λ path away. causes s before caused path);
+}
+sound_dropped (Err fault) hub m n a b c p q drops causes d pends = tt
+
+-- An event comes
+
+first_sound : (es : List Event) (w : World) → (took_first es w).fault ≡ w.fault
+unfolding took
+first_sound [] w = refl
+first_sound (e ∷ es) w = refl
+
+taken_sound : (f : Option BusFault) (w : World) → w.fault ≡ f → (event_taken f w).fault ≡ w.fault
+taken_sound (Some f) w is = refl
+taken_sound None w is = first_sound w.left w
+
+event_sound : (w : World) → (after event w).fault ≡ None → w.fault ≡ None
+unfolding after
+event_sound w sound = sym (taken_sound w.fault w refl) ∙ sound
+
+pub sound_event : (a b : Hosting) → Agrees a.entries a.addresses → b.entries ≡ a.entries → b.pipes ≡ a.pipes → b.world ≡ after event a.world → KeepsAddresses a.world b.world → StaysSound a b
+sound_event a b agrees same pipes is k = record { sound = sound; caused = caused }
+  where
+    roots : roots_of b.world ≡ roots_of a.world
+    roots = ap (λ (w : World). roots_of w) is ∙ (step_later event a.world).roots
+
+    owned : StaysOwned a b
+    owned = stays_kept a b same roots k
+
+    table : table_in b ≡ table_in a
+    table = ap (λ (es : Entries). record { entries = es; pipes = b.pipes }) same ∙ ap (λ ps. record { entries = a.entries; pipes = ps }) pipes
+
+    before : b.world.fault ≡ None → a.world.fault ≡ None
+    before still = event_sound a.world (ap (λ (w : World). w.fault) (sym is) ∙ still)
+
+    ordered : IsInOrder a.world → IsInOrder (after event a.world)
+    ordered order sound = orderly_on {K = AnyStep} (order (event_sound a.world sound)) (step event tt (no_more (after event a.world)))
+
+    sound : IsSound a → IsSound b
+    sound s = record {
+      owned = owned.stays s.owned;
+      rooted = owned.rooted s.rooted;
+      order = subst IsInOrder (sym is) (ordered s.order);
+      known = λ still. subst (Known b.world) (sym same) (subst (λ (w : World). Known w a.entries) (sym is) (known_event a.world a.entries (s.known (before still))));
+      truthful = λ still. subst (Truthful b.world) (sym same) (subst (λ (w : World). Truthful w a.entries) (sym is) (truthful_event a.world a.entries (s.truthful (before still))));
+      level = λ still.
+          subst (λ (t : Table). AllLevel t b.world) (sym table) (subst (AllLevel (table_in a)) (sym is) (level_event (table_in a) a.world (s.level (before still))));
+    }
+
+    caused : IsSound a → IsFairTo a.world b.world → Causes a.world a.entries → Causes b.world b.entries
+    caused s fair causes =
+        subst (Causes b.world) (sym same)
+        (subst (λ (w : World). Causes w a.entries) (sym is) (causes_event a.world a.entries a.addresses (accounted a agrees s.rooted) (s.known (before fair.still)) causes))
+
+-- A whole round: only the host's own stop is new after its parts
+
+sound_stopped : (b : Hosting) (stopped : Bool) → IsSound b → IsSound (record b { stopped = stopped })
+sound_stopped b stopped s = record { owned = s.owned; rooted = s.rooted; order = s.order; known = s.known; truthful = s.truthful; level = s.level }
+
+stays_stopped : (a b : Hosting) (stopped : Bool) → StaysSound a b → StaysSound a (record b { stopped = stopped })
+stays_stopped a b stopped x = record { sound = λ s. sound_stopped b stopped (x.sound s); caused = x.caused }
+
+pub rounds_stopped : (result : Result Round HostFault) (a b : Hosting) (stopped : Bool) → RoundsSound a result b → RoundsSound a result (record b { stopped = stopped })
+rounds_stopped (Ok round) a b stopped x = record { keeps = stays_stopped a b stopped x.keeps; rest = x.rest }
+rounds_stopped (Err fault) a b stopped x = record { keeps = tt; rest = λ s is. absurd (cc is) }

@@ -1,0 +1,111 @@
+-- That the pipes to a device are as far as the endpoints at their other ends.
+use Rattle.std.specs.Prelude.{◌≡◌, ⊤, ℕ, suc, List, ◌∷◌, true, false, Option, Some, None, is_some, Result, IsOk}
+use Rattle.std.specs.BTreeMap.{is_at}
+use Rattle.arrayvec.specs.ArrayVec.{ArrayVec}
+use Rattle.usb_port.specs.Order.{path_cmp}
+use Rattle.usb_port.specs.PortState.{PortState}
+use Rattle.usb_device.specs.Bulk.{tells_changes, change_bits}
+use Rattle.usb_device.specs.Progress.{PollAt, NeverTold}
+use Rattle.usb_device.specs.Rows.{State}
+use Rattle.usb_device.specs.Tree.{Ports, full, row_of, place, reach, reach_at, state_at}
+use Rattle.usb_device.specs.View.{state_there}
+use Rattle.usb_world.specs.Steps.{ready}
+use Rattle.usb_world.specs.World.{World}
+use Rattle.usb_transaction.specs.Why.{NoThreeDamaged, Listens}
+use Rattle.usb_pipe.specs.Bulk.{Bulk}
+use Rattle.usb_pipe.specs.Interrupt.{Interrupt}
+use Rattle.usb_pipe.specs.Whole.{FitsSink, FitsSource, PollTells}
+use Rattle.usb_pipe.specs.declared.fault.PipeFault.{PipeFault}
+use Rattle.usb_address.specs.Owned.{Owned}
+use Rattle.usb_hub.specs.Requests.{AllRest}
+use Rattle.usb_hub.specs.Why.{IsServed}
+use Rattle.usb_enum.specs.declared.finding.Accepted.{Accepted}
+use Rattle.usb_enum.specs.Device.{target_of}
+use Rattle.usb_table.specs.declared.pipes.Pipes.{Pipes}
+use Rattle.usb_table.specs.declared.pipes.Pipes.TheVariants.{Hub, Function, Absent}
+use Rattle.usb_table.specs.Findings.{device_at}
+use Rattle.usb_table.specs.Known.{is_below_hub}
+use Rattle.usb_table.specs.Listing.{address_at}
+use Rattle.usb_table.specs.Table.{Table, pipes_at}
+use Rattle.usb_table.specs.Transfers.{Keeps}
+
+-- The pipes to one device
+
+-- a hub's status pipe, of which no poll failed: the endpoint tells of changes, awaits the pipe's toggle, and is not halted
+pub record FitsStatus (pipe : Interrupt) (s : State) : Type 0 where
+  pub tells : tells_changes s.spec s.registers ≡ true
+  pub level : PollAt NeverTold pipe.toggle s
+  pub runs : s.changes.halted ≡ false
+
+-- a bulk OUT pipe, if there is one
+abbrev pub FitsOut : Option Bulk → State → Type 0
+FitsOut None s = ⊤
+FitsOut (Some pipe) s = FitsSink pipe s
+
+-- a bulk IN pipe, if there is one, that has got some number of bytes
+abbrev pub FitsIn : Option Bulk → State → Type 0
+FitsIn None s = ⊤
+FitsIn (Some pipe) s = (got : ℕ) × FitsSource pipe got s
+
+abbrev pub AreLevel : Pipes → State → Type 0
+AreLevel (Hub pipe) s = FitsStatus pipe s
+AreLevel (Function pipes) s = FitsOut pipes.out s × FitsIn pipes.into s
+AreLevel Absent s = ⊤
+
+-- The pipes of a table
+
+-- those to the accepted device at a path, where that is reachable
+pub record LevelAt (path : List ℕ) (table : Table) (w : World) : Type 0 where
+  pub level : (device : Accepted) (s : State) → device_at path table.entries ≡ Some device → reach w.roots path ≡ true → state_there w.roots path ≡ Some s → AreLevel (pipes_at path table) s
+
+-- all pipes
+abbrev pub AllLevel : Table → World → Type 0
+AllLevel table w = (path : List ℕ) → LevelAt path table w
+
+-- each reachable device holds the address that the table has for its path
+abbrev pub IsHeld : Table → World → Type 0
+IsHeld table w = Owned (λ path. address_at path table.entries) w
+
+-- What a call through the pipes at a path leaves: those to other devices stay level in any case, and those at the path where it ends so
+pub record KeepsLevel (path : List ℕ) (ends : Type 0) (old : Table) (before : World) (new : Table) (after : World) : Type 0 where
+  pub worlds : Keeps before after
+  pub others : IsHeld old before → (x : List ℕ) → is_at (path_cmp path) x ≡ false → LevelAt x old before → LevelAt x new after
+  pub itself : IsHeld old before → ends → LevelAt path old before → LevelAt path new after
+
+-- as long as the bus is at work
+abbrev pub KeepsMoved : List ℕ → Table → World → Table → World → Type 0
+KeepsMoved path old before new after = KeepsLevel path (after.fault ≡ None) old before new after
+
+-- A poll of the hub at a path
+
+-- the ports of the device at the path told these bits when an attempt was made, before which nothing was asked of any port
+pub record BitsOf (path : List ℕ) (old : World) (bits : ℕ) : Type 0 where
+  pub mid : World
+  pub rests : AllRest old mid
+  pub port : PortState
+  pub state : State
+  pub ports : Ports
+  pub stood : place (ready mid).roots path ≡ Some (full port state ports)
+  pub told : bits ≡ change_bits (row_of ports)
+
+-- the hub is reached in the end, and its ports told what came
+pub record HubTold (path : List ℕ) (old : World) (result : Result (Option (ArrayVec ℕ)) PipeFault) (new : World) : Type 0 where
+  pub reached : reach new.roots path ≡ true
+  pub tells : PollTells (BitsOf path old) result
+
+-- a device at the path is reached, and hears what is sent to it
+pub record Heard (path : List ℕ) (device : Accepted) (w : World) : Type 0 where
+  pub j : ℕ
+  pub p : List ℕ
+  pub state : State
+  pub is : path ≡ suc j ∷ p
+  pub on : reach_at w.roots j p ≡ true
+  pub stands : state_at w.roots j p ≡ Some state
+  pub listens : Listens (target_of device (is_below_hub path)) p state
+
+-- A poll that is done leaves the hub's pipe level, and tells of its ports. Where no three attempts running are damaged, a hub that is reached in the
+-- end is polled.
+pub record KeepsPolled (path : List ℕ) (old : Table) (before : World) (result : Result (Option (ArrayVec ℕ)) PipeFault) (new : Table) (after : World) : Type 0 where
+  pub levels : KeepsLevel path (IsOk result) old before new after
+  pub told : IsHeld old before → LevelAt path old before → (device : Accepted) → device_at path old.entries ≡ Some device → is_some device.hub ≡ true → IsOk result → HubTold path before result after
+  pub why : IsHeld old before → LevelAt path old before → NoThreeDamaged before → (device : Accepted) → device_at path old.entries ≡ Some device → is_some device.hub ≡ true → Heard path device after → IsServed result
