@@ -1,16 +1,13 @@
 -- Who answered claims the address that was asked.
-use Rattle.std.proofs.Common.{◌≡◌, ℕ, suc, ◌==◌, List, ◌∷◌, true, Some, option_map, sym, ap, ◌∙◌, arith}
-use Rattle.std.proofs.lemmas.Bool.Decides.{nat_tests}
-use Rattle.usb_world.specs.Live.{address_of}
+use Rattle.std.proofs.Common.{◌≡◌, ℕ, suc, List, ◌∷◌, Some, option_map, sym, ap, ◌∙◌}
+use Rattle.usb_world.specs.Paths.{address_of}
 use Rattle.usb_world.specs.World.{World}
 use Rattle.usb_transaction.specs.declared.target.Target.{Target}
 use Rattle.usb_transaction.specs.Answerer.{Answerer}
 use Rattle.usb_address.specs.Claims.{Claims}
 use Rattle.usb_address.specs.Owned.{Owned}
-
-same_address : (n m : ℕ) → (n == m) ≡ true → n ≡ m
-same_address n m h = grind (arith, nat_tests, h)
+use Rattle.usb_world.proofs.Interface.{equal_same}
 
 pub answerer_claims : (f : Claims) (t : Target) (old new : World) → Owned f old → Answerer t old new → (p : List ℕ) × (f p ≡ Some t.addr)
 answerer_claims f t old new o a =
-    (suc a.j ∷ a.p, sym (o.own (suc a.j ∷ a.p) a.was_on) ∙ ap (option_map address_of) a.stood ∙ ap (λ n. Some n) (same_address (address_of a.before) t.addr a.at))
+    (suc a.j ∷ a.p, sym (o.own (suc a.j ∷ a.p) a.was_on) ∙ ap (option_map address_of) a.stood ∙ ap (λ n. Some n) (equal_same (address_of a.before) t.addr a.at))

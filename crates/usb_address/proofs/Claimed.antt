@@ -9,23 +9,20 @@ use Rattle.usb_world.specs.declared.types.Attempt.{Attempt}
 use Rattle.usb_world.specs.declared.types.Outcome.{Outcome}
 use Rattle.usb_world.specs.Addresses.{after_reset}
 use Rattle.usb_world.specs.Courses.{is_harmless}
-use Rattle.usb_world.specs.Live.{address_of, same_path, is_way}
+use Rattle.usb_world.specs.Paths.{address_of, same_path, is_way}
 use Rattle.usb_world.specs.OneHolder.{SomeHolder}
 use Rattle.usb_world.specs.Steps.{Step, ready, attempt, after, Course, here}
 use Rattle.usb_world.specs.World.{World, Made}
-use Rattle.usb_world.proofs.AddressesReset.{same_is}
-use Rattle.usb_world.proofs.Booleans.{no}
-use Rattle.usb_world.proofs.OneDevice.{stands, state_stands}
+use Rattle.usb_world.proofs.Interface.{no, ready_own, same_is, stands, state_stands}
 use Rattle.usb_transaction.specs.declared.target.Target.{Target}
 use Rattle.usb_transaction.specs.Trail.{Trail, start, next}
-use Rattle.usb_transaction.specs.Trans.{setup_attempt}
-use Rattle.usb_transaction.proofs.Trails.{course_then}
+use Rattle.usb_transaction.specs.Transactions.{setup_attempt}
+use Rattle.usb_transaction.proofs.Interface.{course_then}
 use Rattle.usb_address.specs.Claims.{Claims}
 use Rattle.usb_address.specs.Owned.{Owned}
 use Rattle.usb_address.proofs.Ports.{not_way}
 use Rattle.usb_address.proofs.Resetting.{Fits, Resets, step_on, same_way}
 use Rattle.usb_address.proofs.Steps.{quiet_owned}
-use Rattle.usb_address.proofs.Taking.{own_ready}
 
 -- a path claims an address
 pub record ClaimedAt (q : List ℕ) (address : ℕ) (w : World) : Type 0 where
@@ -45,7 +42,7 @@ module _ (q : List ℕ) (address : ℕ) (w : World) (c : ClaimedAt q address w) 
   claimed_holder a is x =
       same_is q (suc x.j ∷ x.p)
       (c.owned.distinct q (suc x.j ∷ x.p) address c.held
-      (sym (own_ready c.claims w c.owned.own (suc x.j ∷ x.p) x.holder.on) ∙ ap (option_map address_of) there ∙ ap (λ n. Some n) (x.holder.at ∙ is)))
+      (sym (ready_own c.claims w c.owned.own (suc x.j ∷ x.p) x.holder.on) ∙ ap (option_map address_of) there ∙ ap (λ n. Some n) (x.holder.at ∙ is)))
     where
       there : state_at (ready w).roots x.j x.p ≡ Some x.s
       there = sym (state_stands (ready w).roots x.j x.p) ∙ ap stands x.holder.stands

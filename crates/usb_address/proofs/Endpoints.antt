@@ -1,5 +1,5 @@
 -- Polls, bulk transfers and clears of halts keep addresses, whatever their answers are and whatever was lost.
-use Rattle.std.proofs.Common.{◌≡◌, ◌≢◌, ℕ, zero, suc, ◌⊎◌, inl, inr, true, false, List, [], ◌∷◌, length, take, Option, None, Some, Result, Ok, Err, refl, ap, sym, subst, ◌∙◌, arith}
+use Rattle.std.proofs.Common.{◌≡◌, ◌≢◌, ℕ, zero, suc, ◌⊎◌, inl, inr, false, List, [], ◌∷◌, length, take, Option, None, Some, Result, Ok, Err, refl, ap, sym, subst, ◌∙◌, arith}
 use Rattle.std.specs.Prelude.{MatchResult}
 use Rattle.std.specs.Global.{Vec}
 use Rattle.arrayvec.specs.ArrayVec.{ArrayVec}
@@ -10,13 +10,11 @@ use Rattle.usb_world.specs.declared.types.Attempt.{Attempt}
 use Rattle.usb_world.specs.declared.types.BusFault.{BusFault}
 use Rattle.usb_world.specs.declared.types.Outcome.{Outcome}
 use Rattle.usb_world.specs.World.{World}
-use Rattle.usb_world.specs.Courses.{is_harmless}
-use Rattle.usb_world.proofs.OneHolderMore.{unequal}
 use Rattle.usb_transaction.specs.declared.target.Target.{Target}
 use Rattle.usb_transaction.specs.declared.fault.TransFault.{TransFault}
 use Rattle.usb_transaction.specs.declared.fault.TransFault.TheVariants as trans
 use Rattle.usb_transaction.specs.Heard.{heard_as, sent_as}
-use Rattle.usb_transaction.specs.Trans.{in_attempt, out_attempt, Worked}
+use Rattle.usb_transaction.specs.Transactions.{in_attempt, out_attempt, Worked}
 use Rattle.usb_transaction.specs.Trail.{Trail, start, Transacted, Polled}
 use Rattle.usb_pipe.specs.declared.condition.Condition.{Condition}
 use Rattle.usb_pipe.specs.declared.condition.Condition.TheVariants as condition
@@ -25,10 +23,11 @@ use Rattle.usb_pipe.specs.declared.fault.PipeFault.TheVariants.{Stalled, Busy, N
 use Rattle.usb_pipe.specs.Bulk.{Bulk, halt_address, packets_of, Sends, Receives, Cleared, Clears}
 use Rattle.usb_pipe.specs.Control.{Faults}
 use Rattle.usb_pipe.specs.End.{packet_target}
-use Rattle.usb_pipe.specs.Interrupt.{Interrupt, Asked, Polls}
+use Rattle.usb_pipe.specs.Interrupt.{Interrupt, PollAsked, Polls}
 use Rattle.usb_pipe.specs.Moves.{Gave, Came, Puts, Fetches, SendEnds, NotCame, NoRoomLeft, ReceiveEnds}
 use Rattle.usb_pipe.specs.Moves as moves
 use Rattle.usb_pipe.specs.Toggles.{flips}
+use Rattle.usb_pipe.proofs.Interface.{harmless}
 use Rattle.usb_address.specs.Claims.{Claims}
 use Rattle.usb_address.specs.Leaves.{LeavesTrans, LeavesPipe}
 use Rattle.usb_address.specs.Owned.{Owned, TillFault, KeepsAddresses}
@@ -36,6 +35,7 @@ use Rattle.usb_address.proofs.Keeping.{keeps_none, trail_sound, till, still, own
 use Rattle.usb_address.proofs.Polls.{into, out, far_transacted, polls_leave}
 use Rattle.usb_address.proofs.Setups.{same_setup}
 use Rattle.usb_address.proofs.Transfers.{of_fault}
+use Rattle.usb_world.proofs.Interface.{unequal}
 
 -- A bus that has given up makes no attempt
 
@@ -90,7 +90,7 @@ same_keeps old new same = subst (λ w. KeepsAddresses old w) (sym same) (keeps_n
 -- Polls
 
 module _ (pipe : Interrupt) (old new : World) where
-  none_asked : (result : Result (Option (ArrayVec ℕ)) PipeFault) → Asked pipe old result new → (g : BusFault) → old.fault ≡ Some g → new ≡ old
+  none_asked : (result : Result (Option (ArrayVec ℕ)) PipeFault) → PollAsked pipe old result new → (g : BusFault) → old.fault ≡ Some g → new ≡ old
   none_asked (Ok None) x g e = absurd (cc (e, trail_sound x.trail))
   none_asked (Ok (Some packet)) x g e = absurd (cc (e, trail_sound x.trail))
   none_asked (Err why) x g e = none_polled g pipe.toggle (in_attempt pipe.target pipe.ep) old e x.fault new x.polled
@@ -201,10 +201,6 @@ receives_keep wanted pipe far old result left new x = split pipe.condition refl
 -- The clear of a halt: a request that neither resets a port nor gives an address
 
 module _ (endpoint : ℕ) where
-  clear_harmless : is_harmless (clear_endpoint_halt endpoint) ≡ true
-  unfolding clear_endpoint_halt
-  clear_harmless = refl
-
   clear_other : Is (clear_endpoint_halt endpoint) 0x00 5 ≡ false
   unfolding clear_endpoint_halt
   clear_other = refl
@@ -215,7 +211,7 @@ clears_keep pipe old result left new x = split pipe.condition refl
     asked : Cleared pipe old result left new → KeepsAddresses old new
     asked y =
         let endpoint : ℕ = halt_address pipe.ep pipe.is_in in
-        write_keeps pipe.target (clear_endpoint_halt endpoint) (same_setup (clear_endpoint_halt endpoint)) (clear_harmless endpoint) (clear_other endpoint) 2 1 old new result y.ends y.stages
+        write_keeps pipe.target (clear_endpoint_halt endpoint) (same_setup (clear_endpoint_halt endpoint)) (harmless endpoint) (clear_other endpoint) 2 1 old new result y.ends y.stages
 
     split : (c : Condition) → pipe.condition ≡ c → KeepsAddresses old new
     split condition.Ready e = same_keeps old new (x.ready e).world_kept

@@ -1,4 +1,4 @@
--- What events and lines of report do to the addresses that devices hold.
+-- What events do to the addresses that devices hold.
 use Rattle.std.proofs.Common.{◌≡◌, false, List, [], ◌∷◌, Option, None, Some, Result, Ok, Err, refl, ap, ◌∙◌}
 use Rattle.std.specs.Prelude.{OnOk}
 use Rattle.usb_world.specs.declared.event.Due.{Due}
@@ -6,10 +6,9 @@ use Rattle.usb_world.specs.declared.event.Event.{Event}
 use Rattle.usb_world.specs.declared.types.BusFault.{BusFault}
 use Rattle.usb_world.specs.declared.types.BusFault.TheVariants.{LimitReached, Memory, TraceFailed}
 use Rattle.usb_world.specs.Passes.{IsSettled}
-use Rattle.usb_world.specs.Steps.{took, took_first, event_taken, event, after, TookEvent, LineEnds, PutLine}
+use Rattle.usb_world.specs.Steps.{took, took_first, event_taken, event, after, TookEvent}
 use Rattle.usb_world.specs.World.{World}
-use Rattle.usb_world.proofs.Between.{settled_happened}
-use Rattle.usb_world.proofs.OwnLaws.{step_own, step_unshared}
+use Rattle.usb_world.proofs.Interface.{settled_happened, step_own, step_unshared}
 use Rattle.usb_address.specs.Claims.{Claims}
 use Rattle.usb_address.specs.Owned.{Owned, TillFault, KeepsAddresses}
 use Rattle.usb_address.proofs.Endpoints.{same_keeps}
@@ -21,18 +20,9 @@ unfolding took
 first_settled [] w h = h
 first_settled (e ∷ events) w h = settled_happened e.action w.devices w.roots h
 
-first_fault : (events : List Event) (w : World) → (took_first events w).fault ≡ w.fault
-unfolding took
-first_fault [] w = refl
-first_fault (e ∷ events) w = refl
-
 taken_settled : (fault : Option BusFault) (w : World) → IsSettled w.roots → IsSettled (event_taken fault w).roots
 taken_settled (Some fault) w h = h
 taken_settled None w h = first_settled w.left w h
-
-taken_fault : (fault : Option BusFault) (w : World) → (event_taken fault w).fault ≡ w.fault
-taken_fault (Some fault) w = refl
-taken_fault None w = first_fault w.left w
 
 event_owned : (f : Claims) (w : World) → Owned f w → Owned f (after event w)
 unfolding after
@@ -67,12 +57,3 @@ event_keeps old result new took_it exact refused cut other = split old.fault ref
     split : (x : Option BusFault) → old.fault ≡ x → KeepsAddresses old new
     split None e = sound result refl exact e
     split (Some fault) e = same_keeps old new (took_it.again fault e).1
-
--- Lines of report
-
-pub line_keeps : (old : World) (result : Result (Unit {0}) BusFault) (new : World) → PutLine old result new → KeepsAddresses old new
-line_keeps old result new put = split result put.ends
-  where
-    split : (r : Result (Unit {0}) BusFault) → LineEnds old r new → KeepsAddresses old new
-    split (Ok done) ends = same_keeps old new ends.1
-    split (Err fault) ends = record { kept = λ f o. gave_up (Owned f) fault old new ends o.single }

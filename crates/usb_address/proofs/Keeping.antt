@@ -13,7 +13,7 @@ use Rattle.usb_world.specs.Courses.{is_harmless}
 use Rattle.usb_transaction.specs.declared.target.Target.{Target}
 use Rattle.usb_transaction.specs.declared.fault.TransFault.{TransFault}
 use Rattle.usb_transaction.specs.declared.fault.TransFault.TheVariants as trans
-use Rattle.usb_transaction.specs.Trans.{setup_attempt, Worked}
+use Rattle.usb_transaction.specs.Transactions.{setup_attempt, Worked}
 use Rattle.usb_transaction.specs.Trail.{Trail, start, next}
 use Rattle.usb_pipe.specs.declared.fault.PipeFault.{PipeFault}
 use Rattle.usb_pipe.specs.declared.fault.PipeFault.TheVariants.{Stalled, Busy, NoAnswer, Broken, Bus, Memory}

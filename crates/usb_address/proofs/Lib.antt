@@ -1,9 +1,10 @@
 pub mod Answerers
 pub mod Asked
-pub mod Bare
 pub mod Claimed
 pub mod Endpoints
 pub mod Events
+pub mod HubPorts
+pub mod Interface
 pub mod Keeping
 pub mod Nobody
 pub mod Openings
@@ -11,12 +12,13 @@ pub mod Polls
 pub mod Ports
 pub mod Resetting
 pub mod Roots
+pub mod Running
 pub mod Setups
 pub mod Stages
 pub mod States
 pub mod Steps
 pub mod Taking
-pub mod Told
 pub mod Trails
 pub mod Transfers
+pub mod Trees
 pub mod Unpowered

@@ -8,21 +8,11 @@ use Rattle.usb_device.specs.Tree.{Ports, state_at}
 use Rattle.usb_world.specs.declared.types.Attempt.{Attempt}
 use Rattle.usb_world.specs.Exchange.{token_out, payload_out}
 use Rattle.usb_world.specs.Passes.{passed, IfOut, IsTokenFor, IsSettled, NobodyHolds}
-use Rattle.usb_world.specs.Requested.{AsksNothing}
+use Rattle.usb_world.specs.PortRequests.{AsksNothing}
 use Rattle.usb_world.specs.Steps.{ready, damage_in, attempt}
-use Rattle.usb_world.specs.Touched.{resets_at, reset_if}
+use Rattle.usb_world.specs.WayEffects.{resets_at, reset_if}
 use Rattle.usb_world.specs.World.{World}
-use Rattle.usb_world.proofs.Booleans.{no}
-use Rattle.usb_world.proofs.OneDevice.{settled_memory, rest_state, rested_effect, token_calls}
-use Rattle.usb_world.proofs.OneHolderMore.{ready_settled}
-use Rattle.usb_world.proofs.PassLaws.{calm_pass, token_out as token_calm}
-use Rattle.usb_world.proofs.RequestLawsWay.{NoneAsks, nothing_asked}
-use Rattle.usb_world.proofs.WorldLaws.{goes}
-
-unreset : (b : Bool) (o : Option State) → b ≡ false → option_map (reset_if b) o ≡ o
-unreset true o h = no (sym h)
-unreset false None h = refl
-unreset false (Some s) h = refl
+use Rattle.usb_world.proofs.Interface.{NoneAsks, calm_pass, goes, no, nothing_asked, ready_settled, rest_state, rested_effect, settled_memory, token_calls, token_out as token_calm, unreset}
 
 -- after its token no device remembers anything
 none_remembers : (n : ℕ) (t : Option Sent) → IfOut (IsTokenFor n) t → (k : Ports) → IsSettled k → NobodyHolds n k

@@ -46,6 +46,3 @@ opening_settled plan = vacant_settled (new_ports plan.roots) (opening_vacant pla
 
 pub opening_reach : (plan : PlanData) (p : List ℕ) → reach (opening plan).roots p ≡ false
 opening_reach plan = vacant_reach (new_ports plan.roots) (opening_vacant plan)
-
-pub opening_single : (plan : PlanData) → (opening plan).shared ≡ false
-opening_single plan = refl

@@ -1,40 +1,38 @@
 -- Endpoints other than 0 take no part in who has which address, whatever is lost.
-use Rattle.std.proofs.Common.{◌≡◌, ◌≢◌, ℕ, zero, suc, ◌==◌, ◌&&◌, nat_lt, nat_le, if◌then◌else◌, Bool, true, false, List, [], ◌∷◌, length, take, Option, None, Some, option_map, Result, Ok, Err, refl, ap, sym, subst, ◌∙◌}
+use Rattle.std.proofs.Common.{◌≡◌, ◌≢◌, ℕ, zero, suc, ◌==◌, ◌&&◌, nat_lt, if◌then◌else◌, Bool, true, false, List, [], ◌∷◌, length, Option, None, Some, option_map, Result, Ok, Err, refl, ap, sym, subst, ◌∙◌}
 use Rattle.arrayvec.specs.ArrayVec.{ArrayVec}
 use Rattle.usb_packet.specs.declared.Toggle.{Toggle}
 use Rattle.usb_packet.specs.declared.Toggle.TheVariants.{Zero, One as Data1}
 use Rattle.usb_port.specs.PortState.{PortState}
 use Rattle.usb_device.specs.declared.answer.Answer.TheVariants as answer
-use Rattle.usb_device.specs.declared.transfer.Giver.{Giver}
-use Rattle.usb_device.specs.declared.transfer.Giver.TheVariants as by
-use Rattle.usb_device.specs.Bulk.{is_same, tells_changes, change_bits}
+use Rattle.usb_device.specs.Bulk.{is_same}
 use Rattle.usb_device.specs.Transfer.{Stage, idle, refused, reading, read, ending}
-use Rattle.usb_device.specs.Rows.{State, Reply, forgotten, is_busy, nak_row, unless_busy, out_row, status_row, sink_row, sunk, out_bulk_row, bulk_ack_row, bulk_of, rest_of, data_row, acknowledged}
-use Rattle.usb_device.specs.Attempt.{Way, is_whole, heard, gave, source_law, held_law, changes_law, in_bulk_law, in_other_law, in_control_law, in_law, out_law}
+use Rattle.usb_device.specs.Rows.{State, Reply, forgotten, is_busy, nak_row, unless_busy, out_row, status_row, sink_row, sunk, out_bulk_row, bulk_of, data_row}
+use Rattle.usb_device.specs.Attempt.{Way, is_whole, heard, in_law, out_law}
 use Rattle.usb_device.specs.Tree.{Ports, ended, vacant, taken, row_of, reach_at, state_at}
+use Rattle.usb_device.specs.declared.request.Registers.{Registers}
 use Rattle.usb_world.specs.declared.types.Attempt.{Attempt}
 use Rattle.usb_world.specs.declared.types.BusFault.{BusFault}
 use Rattle.usb_world.specs.declared.types.Outcome.{Outcome}
-use Rattle.usb_world.specs.Live.{address_of}
+use Rattle.usb_world.specs.Paths.{address_of}
 use Rattle.usb_world.specs.World.{World}
 use Rattle.usb_world.specs.Steps.{attempt, after}
 use Rattle.usb_world.specs.Courses.{Own}
 use Rattle.usb_world.specs.Devices.{Was, EachWas, DidIn, DidOut}
 use Rattle.usb_world.specs.OneHolder.{IsOut, IsIn, IsMade}
-use Rattle.usb_world.proofs.Booleans.{no, both}
-use Rattle.usb_world.proofs.Devices.{each_in, each_out}
-use Rattle.usb_world.proofs.OneHolderMore.{made_of, unequal}
+use Rattle.usb_world.proofs.Interface.{both, each_in, each_out, made_of, no, unequal}
 use Rattle.usb_transaction.specs.declared.fault.TransFault.{TransFault}
 use Rattle.usb_transaction.specs.declared.fault.TransFault.TheVariants.{Stalled, Busy, NoAnswer, Bus}
-use Rattle.usb_transaction.specs.Trans.{in_attempt}
+use Rattle.usb_transaction.specs.Transactions.{in_attempt}
 use Rattle.usb_transaction.specs.Trail.{Trail, start, next, Transacted, Polled, PollCutOff}
 use Rattle.usb_pipe.specs.declared.fault.PipeFault.{PipeFault}
 use Rattle.usb_pipe.specs.Control.{fault_of}
-use Rattle.usb_pipe.specs.Interrupt.{Interrupt, Asked, Polls}
+use Rattle.usb_pipe.specs.Interrupt.{Interrupt, PollAsked, Polls}
 use Rattle.usb_address.specs.Leaves.{LeavesTrans, LeavesPipe}
 use Rattle.usb_address.specs.Owned.{Owned}
 use Rattle.usb_address.proofs.Steps.{settled_after, unshared_after, fails_unshared}
 use Rattle.usb_address.proofs.Trails.{cut_off}
+use Rattle.usb_address.proofs.Running.{in_kept}
 
 module _ (s : State) where
   abbrev Kept : Reply → Type 0
@@ -44,44 +42,8 @@ module _ (s : State) where
   kept_if true x y h g = h
   kept_if false x y h g = g
 
-  bulk_acked : (o : Option (ℕ × ℕ)) → address_of (bulk_ack_row s o) ≡ address_of s
-  bulk_acked None = refl
-  bulk_acked (Some end) = refl
-
-  gives : (d : State) (giver : Giver) (max : ℕ) (t : Toggle) (bytes : List ℕ) (x y : Way) → address_of d ≡ address_of s → address_of (acknowledged d giver) ≡ address_of s → Kept (gave d giver max t bytes x y)
-  gives d giver max t bytes x y h g = split (is_whole x && nat_le (length bytes) max && is_whole y)
-    where
-      split : (b : Bool) → address_of (if b then forgotten (acknowledged d giver) else d) ≡ address_of s
-      split true = g
-      split false = h
-
-  module _ (max : ℕ) (x y : Way) where
-    source_keeps : (most : ℕ) → Kept (source_law s most max x y)
-    source_keeps most =
-        kept_if s.bulk_in.halted (heard x (Some answer.Stall), s) _ refl
-        (kept_if (length (rest_of s) == 0) (heard x (Some answer.Nak), s) (gave s by.Bulk max s.bulk_in.toggle (take most (rest_of s)) x y) refl
-        (gives s by.Bulk max s.bulk_in.toggle (take most (rest_of s)) x y refl (bulk_acked (bulk_of s true))))
-
-    bulk_keeps : (e : ℕ) (o : Option (ℕ × ℕ)) → Kept (in_bulk_law s e o max x y)
-    bulk_keeps e None = refl
-    bulk_keeps e (Some end) = kept_if (end.0 == e) (source_law s end.1 max x y) (None, s) (source_keeps end.1) refl
-
-    held_keeps : (row : List PortState) (h : Option ℕ) → Kept (held_law s row h max x y)
-    held_keeps row None =
-        kept_if (change_bits row == 0) (heard x (Some answer.Nak), s) (gave (record s { held = Some (change_bits row) }) by.Changes max s.changes.toggle (change_bits row ∷ []) x y) refl
-        (gives (record s { held = Some (change_bits row) }) by.Changes max s.changes.toggle (change_bits row ∷ []) x y refl refl)
-    held_keeps row (Some bits) = gives s by.Changes max s.changes.toggle (bits ∷ []) x y refl refl
-
-    other_keeps : (row : List PortState) (e : ℕ) → Kept (in_other_law s row e max x y)
-    other_keeps row e =
-        kept_if (e == 1 && tells_changes s.spec s.registers) (changes_law s row max x y) (in_bulk_law s e (bulk_of s true) max x y)
-        (kept_if s.changes.halted (heard x (Some answer.Stall), s) (held_law s row s.held max x y) refl (held_keeps row s.held))
-        (bulk_keeps e (bulk_of s true))
-
   in_far : (row : List PortState) (e max : ℕ) (z x y : Way) → (e == 0) ≡ false → Kept (in_law s row e max z x y)
-  in_far row e max z x y far =
-      kept_if (is_whole z) (if e == 0 then in_control_law s max x y else in_other_law s row e max x y) (None, s)
-      (subst (λ b. Kept (if b then in_control_law s max x y else in_other_law s row e max x y)) (sym far) (other_keeps max x y row e)) refl
+  in_far row e max z x y far = ap (λ (g : Registers). g.address) (in_kept s row e max z x y far).1
 
   module _ (t : Toggle) (bytes : List ℕ) where
     status_keeps : (t : Toggle) (bytes : List ℕ) → Kept (status_row s t bytes)
@@ -199,7 +161,7 @@ module _ (f : List ℕ → Option ℕ) (p : Interrupt) (far : p.ep ≢ 0) where
   told NoAnswer why new e h = subst (λ x. LeavesPipe {A = Option (ArrayVec ℕ)} (Owned f) (Err x) new) (sym e) h
   told (Bus fault) why new e h = subst (λ x. LeavesPipe {A = Option (ArrayVec ℕ)} (Owned f) (Err x) new) (sym e) h
 
-  asked : (old : World) (result : Result (Option (ArrayVec ℕ)) PipeFault) (new : World) → Asked p old result new → Owned f old → LeavesPipe (Owned f) result new
+  asked : (old : World) (result : Result (Option (ArrayVec ℕ)) PipeFault) (new : World) → PollAsked p old result new → Owned f old → LeavesPipe (Owned f) result new
   asked old (Ok None) new x o = trail_far f ask is_far x.trail o
   asked old (Ok (Some packet)) new x o = trail_far f ask is_far x.trail o
   asked old (Err why) new x o = told x.fault why new x.told (failed old x.fault new x.polled o)

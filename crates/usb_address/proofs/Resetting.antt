@@ -11,26 +11,20 @@ use Rattle.usb_world.specs.declared.types.Attempt.{Attempt}
 use Rattle.usb_world.specs.declared.types.BusFault.{BusFault}
 use Rattle.usb_world.specs.declared.types.Outcome.{Outcome}
 use Rattle.usb_world.specs.declared.types.Outcome.TheVariants.{Ack}
-use Rattle.usb_world.specs.Live.{address_of, same_path, same_number, is_way}
+use Rattle.usb_world.specs.Paths.{address_of, same_path, same_number, is_way}
 use Rattle.usb_world.specs.Passes.{NobodyHolds}
-use Rattle.usb_world.specs.Touched.{IsNew}
+use Rattle.usb_world.specs.WayEffects.{IsNew}
 use Rattle.usb_world.specs.World.{World, Made}
 use Rattle.usb_world.specs.Steps.{ready, attempt, after, outcome_in}
 use Rattle.usb_world.specs.Courses.{Own, resets, address_at}
 use Rattle.usb_world.specs.OneHolder.{IsSetup, IsMade, SomeHolder}
 use Rattle.usb_world.specs.Addresses.{after_reset}
-use Rattle.usb_world.proofs.Booleans.{no, both, and_of, decided}
-use Rattle.usb_world.proofs.AddressesReset.{self_number, reset_distinct}
-use Rattle.usb_world.proofs.OneDevice.{stands, state_stands}
-use Rattle.usb_world.proofs.OneHolderMore.{made_of, nobody_in}
-use Rattle.usb_world.proofs.OneHolderWho.{holder_or_nobody}
-use Rattle.usb_world.proofs.RequestLawsReset.{hub_reset, hub_rest}
-use Rattle.usb_world.proofs.WorldLaws.{step_new}
+use Rattle.usb_world.proofs.Interface.{and_of, both, decided, holder_or_nobody, hub_reset, hub_rest, made_of, no, nobody_in, ready_own, reset_distinct, stands, state_stands, step_new}
 use Rattle.usb_transaction.specs.declared.target.Target.{Target}
 use Rattle.usb_transaction.specs.declared.fault.TransFault.{TransFault}
 use Rattle.usb_transaction.specs.declared.fault.TransFault.TheVariants.{Stalled, Busy, NoAnswer, Bus}
 use Rattle.usb_transaction.specs.Heard.{set_up_as}
-use Rattle.usb_transaction.specs.Trans.{setup_attempt}
+use Rattle.usb_transaction.specs.Transactions.{setup_attempt}
 use Rattle.usb_transaction.specs.Trail.{Trail, start, next, CutOff}
 use Rattle.usb_pipe.specs.declared.fault.PipeFault.{PipeFault}
 use Rattle.usb_pipe.specs.Stages.{SetUp, Asks, Writes}
@@ -39,16 +33,10 @@ use Rattle.usb_address.specs.Leaves.{LeavesTrans, LeavesPipe}
 use Rattle.usb_address.specs.Owned.{Owned}
 use Rattle.usb_address.proofs.Asked.{outcome_only}
 use Rattle.usb_address.proofs.Steps.{set_up_aims, settled_after, unshared_after}
-use Rattle.usb_address.proofs.Taking.{own_ready}
 use Rattle.usb_address.proofs.Trails.{cut_off, acked}
 use Rattle.usb_address.proofs.Transfers.{asks_leaves, Calm, FaultLeaves, of_fault}
 
 -- Paths
-
-way_short : (q : List ℕ) (n : ℕ) → is_way (q ++ (n ∷ [])) q ≡ false
-unfolding is_way
-way_short [] n = refl
-way_short (m ∷ q) n = rw (self_number m, way_short q n) refl
 
 pub same_way : (p x : List ℕ) → same_path p x ≡ true → is_way p x ≡ true
 unfolding is_way
@@ -135,7 +123,7 @@ module _ (q : List ℕ) (n : ℕ) (t : Target) (request : Setup) (same : setup_o
       moves own = inr (record { distinct = reset_distinct h p o.distinct y.only; own = own; single = u; settled = settled_after a w made o.settled })
 
       nobody : NobodyHolds a.addr (ready w).roots → Own h (after (attempt a) w)
-      nobody x path on = ap (λ k. address_at k path) (nobody_in a w m x).1 ∙ own_ready h w o.own path (ap (λ k. reach k path) (sym (nobody_in a w m x).1) ∙ on)
+      nobody x path on = ap (λ k. address_at k path) (nobody_in a w m x).1 ∙ ready_own h w o.own path (ap (λ k. reach k path) (sym (nobody_in a w m x).1) ∙ on)
 
       held : SomeHolder a w → Step h (after (attempt a) w)
       held x = reset_or (decided (resets (attempt a) w (suc x.j ∷ (x.p ++ (n ∷ [])))))
@@ -144,7 +132,7 @@ module _ (q : List ℕ) (n : ℕ) (t : Target) (request : Setup) (same : setup_o
           there = sym (state_stands (ready w).roots x.j x.p) ∙ ap stands x.holder.stands
 
           path : suc x.j ∷ x.p ≡ q
-          path = y.at (suc x.j ∷ x.p) (sym (own_ready h w o.own (suc x.j ∷ x.p) x.holder.on) ∙ ap (option_map address_of) there ∙ ap (λ z. Some z) x.holder.at)
+          path = y.at (suc x.j ∷ x.p) (sym (ready_own h w o.own (suc x.j ∷ x.p) x.holder.on) ∙ ap (option_map address_of) there ∙ ap (λ z. Some z) x.holder.at)
 
           reset_or : (resets (attempt a) w (suc x.j ∷ (x.p ++ (n ∷ []))) ≡ true) ⊎ (resets (attempt a) w (suc x.j ∷ (x.p ++ (n ∷ []))) ≡ false) → Step h (after (attempt a) w)
           reset_or (inl z) = moves (subst (λ r. Own (after_reset h (r ++ (n ∷ []))) (after (attempt a) w)) path (hub_reset a w x.j x.p x.b x.s x.below x.holder (bytes_of request) is n (ap (λ r. r.index) same ∙ names) h z o.own))

@@ -1,22 +1,19 @@
 -- What the calls at a root port do to the addresses that devices hold (11.24.2).
 use Rattle.std.proofs.Common.{◌≡◌, ℕ, zero, suc, ◌⊎◌, inl, inr, true, false, List, [], ◌∷◌, Some, slice_index_or, refl, sym, subst, ◌∙◌}
 use Rattle.usb_device.specs.declared.calls.PortCall.{PortCall}
-use Rattle.usb_device.specs.declared.calls.PortCall.TheVariants.{SetReset, ClearEnable}
+use Rattle.usb_device.specs.declared.calls.PortCall.TheVariants.{SetReset}
 use Rattle.usb_device.specs.Calls.{is_reset}
 use Rattle.usb_port.specs.PortState.{off}
 use Rattle.usb_device.specs.Tree.{Ports, ended, vacant, taken, reach, reach_at, row_of}
 use Rattle.usb_world.specs.Addresses.{after_reset}
 use Rattle.usb_world.specs.Courses.{resets}
-use Rattle.usb_world.specs.Live.{is_way, same_number}
+use Rattle.usb_world.specs.Paths.{is_way, same_number}
 use Rattle.usb_world.specs.Steps.{root_call, after}
-use Rattle.usb_world.specs.World.{World, port_at}
-use Rattle.usb_world.proofs.Between.{settled_called}
-use Rattle.usb_world.proofs.Booleans.{no, both, decided}
-use Rattle.usb_world.proofs.OwnLaws.{step_own}
-use Rattle.usb_world.proofs.AddressesReset.{is_same, reset_own, rest_own, reset_distinct}
-use Rattle.usb_address.specs.Claims.{Claims, cleared}
+use Rattle.usb_world.specs.World.{World, root_port_at}
+use Rattle.usb_world.proofs.Interface.{both, decided, is_same, no, reset_distinct, reset_own, rest_own, settled_called, step_own}
+use Rattle.usb_address.specs.Claims.{Claims, claims_apart}
 use Rattle.usb_address.specs.Owned.{Owned, TillFault, KeepsAddresses}
-use Rattle.usb_address.proofs.Bare.{closed, less_one}
+use Rattle.usb_address.proofs.HubPorts.{less_one}
 use Rattle.usb_address.proofs.States.{bared}
 
 module _ (c : PortCall) (n : ℕ) (w : World) where
@@ -70,19 +67,6 @@ module _ (n : ℕ) (w : World) where
   unfolding after
   root_resets f only o = record { so = λ e. reset_owned f only (o.so e); single = o.single }
 
--- the clear of PORT_ENABLE
-bare_at : (n : ℕ) (w : World) (x : List ℕ) → is_way (n ∷ []) x ≡ true → reach (after (root_call ClearEnable n) w).roots x ≡ false
-unfolding after is_way
-bare_at n w [] h = refl
-bare_at n w (zero ∷ r) h = refl
-bare_at zero w (suc i ∷ r) h = no h
-bare_at (suc j) w (suc i ∷ r) h = rw (is_same j i (both (same_number j i) true h).0) (closed w.roots j r)
-
-pub root_bares : (f : Claims) (n : ℕ) (w : World) → TillFault (Owned f) w → TillFault (Owned (cleared f (n ∷ []))) (after (root_call ClearEnable n) w)
-root_bares f n w o =
-    let kept = (root_keeps ClearEnable n w refl).kept f o in
-    record { so = λ e. bared f (n ∷ []) _ (bare_at n w) (kept.so e); single = kept.single }
-
 -- a port that is not enabled passes nothing on
 shut_index : (k : Ports) (i : ℕ) (r : List ℕ) → (slice_index_or (row_of k) i off).enable ≡ false → reach_at k i r ≡ false
 unfolding row_of reach_at
@@ -94,12 +78,12 @@ shut_index (taken b s a k) zero (zero ∷ r) h = refl
 shut_index (taken b s a k) zero (suc m ∷ r) h = rw h refl
 shut_index (taken b s a k) (suc i) r h = shut_index k i r h
 
-shut_at : (n : ℕ) (w : World) → (port_at w n).enable ≡ false → (x : List ℕ) → is_way (n ∷ []) x ≡ true → reach w.roots x ≡ false
-unfolding port_at is_way
+shut_at : (n : ℕ) (w : World) → (root_port_at w n).enable ≡ false → (x : List ℕ) → is_way (n ∷ []) x ≡ true → reach w.roots x ≡ false
+unfolding root_port_at is_way
 shut_at n w h [] way = refl
 shut_at n w h (zero ∷ r) way = refl
 shut_at zero w h (suc i ∷ r) way = no way
 shut_at (suc j) w h (suc i ∷ r) way = rw (is_same j i (both (same_number j i) true way).0) (shut_index w.roots j r (subst (λ k. (slice_index_or (row_of w.roots) k off).enable ≡ false) (less_one j) h))
 
-pub root_shut : (f : Claims) (n : ℕ) (w : World) → (port_at w n).enable ≡ false → TillFault (Owned f) w → TillFault (Owned (cleared f (n ∷ []))) w
+pub root_shut : (f : Claims) (n : ℕ) (w : World) → (root_port_at w n).enable ≡ false → TillFault (Owned f) w → TillFault (Owned (claims_apart f (n ∷ []))) w
 root_shut f n w off o = record { so = λ e. bared f (n ∷ []) w (shut_at n w off) (o.so e); single = o.single }

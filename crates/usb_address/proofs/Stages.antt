@@ -20,14 +20,6 @@ none_takes read h = refl
 none_takes (ending None) h = refl
 none_takes (ending (Some a)) h = elim h [ ]
 
-pub aims_wider : (P Q : ℕ → Type 0) → ((a : ℕ) → P a → Q a) → (g : Stage) → Aims P g → Aims Q g
-aims_wider P Q f idle h = tt
-aims_wider P Q f refused h = tt
-aims_wider P Q f (reading a w k) h = tt
-aims_wider P Q f read h = tt
-aims_wider P Q f (ending None) h = tt
-aims_wider P Q f (ending (Some a)) h = f a h
-
 module _ (Q : ℕ → Type 0) where
   abbrev Keeps : Reply → Type 0
   Keeps r = Aims Q r.1.stage

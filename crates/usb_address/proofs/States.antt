@@ -3,22 +3,15 @@ use Rattle.std.proofs.Common.{◌≡◌, ℕ, zero, suc, ◌⊎◌, inl, inr, Bo
 use Rattle.std.proofs.lemmas.Option.{same_Some}
 use Rattle.usb_device.specs.Rows.{State as Device}
 use Rattle.usb_device.specs.Tree.{reach, state_at}
-use Rattle.usb_world.specs.Live.{same_path, is_way, address_of}
+use Rattle.usb_world.specs.Paths.{same_path, is_way, address_of}
 use Rattle.usb_world.specs.World.{World}
 use Rattle.usb_world.specs.Courses.{Injective, address_at}
 use Rattle.usb_world.specs.Addresses.{after_reset, after_taking}
-use Rattle.usb_world.proofs.Booleans.{no}
-use Rattle.usb_world.proofs.AddressesReset.{self_path, same_is, taken_distinct}
-use Rattle.usb_address.specs.Claims.{Free, cleared, Unused}
+use Rattle.usb_world.proofs.Interface.{no, same_is, taken_distinct, way_itself}
+use Rattle.usb_address.specs.Claims.{Free, claims_apart, Unused}
 use Rattle.usb_address.specs.Owned.{Owned, Enumerating}
 use Rattle.usb_address.proofs.Polls.{reach_stands}
-use Rattle.usb_address.proofs.Resetting.{owned_as, same_way}
-
-none_some : (n : ℕ) → None ≡ Some n → ⊥
-none_some n h = cc h
-
-self_way : (p : List ℕ) → is_way p p ≡ true
-self_way p = same_way p p (self_path p)
+use Rattle.usb_address.proofs.Resetting.{owned_as}
 
 -- where a device is reached there is an address
 stands : (w : World) (q : List ℕ) → reach w.roots q ≡ true → address_at w.roots q ≡ None → ⊥
@@ -50,20 +43,20 @@ weaken f p n w free unused o = record {
         split false e = o.own q on
 
 -- where nothing is reached at a path or below it, its claims may go
-pub bared : (f : List ℕ → Option ℕ) (p : List ℕ) (w : World) → ((x : List ℕ) → is_way p x ≡ true → reach w.roots x ≡ false) → Owned f w → Owned (cleared f p) w
+pub bared : (f : List ℕ → Option ℕ) (p : List ℕ) (w : World) → ((x : List ℕ) → is_way p x ≡ true → reach w.roots x ≡ false) → Owned f w → Owned (claims_apart f p) w
 bared f p w bare o = record { distinct = distinct; own = own; single = o.single; settled = o.settled }
   where
-    of_cleared : (x : List ℕ) (a : ℕ) → cleared f p x ≡ Some a → f x ≡ Some a
+    of_cleared : (x : List ℕ) (a : ℕ) → claims_apart f p x ≡ Some a → f x ≡ Some a
     of_cleared x a h = split (is_way p x) h
       where
         split : (b : Bool) → (if b then None else f x) ≡ Some a → f x ≡ Some a
         split true h = cc h
         split false h = h
 
-    distinct : Injective (cleared f p)
+    distinct : Injective (claims_apart f p)
     distinct x y a h k = o.distinct x y a (of_cleared x a h) (of_cleared y a k)
 
-    own : (q : List ℕ) → reach w.roots q ≡ true → address_at w.roots q ≡ cleared f p q
+    own : (q : List ℕ) → reach w.roots q ≡ true → address_at w.roots q ≡ claims_apart f p q
     own q on = split (is_way p q) refl
       where
         split : (b : Bool) → is_way p q ≡ b → address_at w.roots q ≡ (if b then None else f q)
@@ -73,7 +66,7 @@ bared f p w bare o = record { distinct = distinct; own = own; single = o.single;
 -- The state
 
 pub begins : (f : List ℕ → Option ℕ) (p : List ℕ) (a : ℕ) (w : World) → Free f p → Unused f 0 → Owned f w → Enumerating f p a w
-begins f p a w free unused o = record { has = 0; is = inl refl; owned = weaken f p 0 w (free p (self_way p)) unused o }
+begins f p a w free unused o = record { has = 0; is = inl refl; owned = weaken f p 0 w (free p (way_itself p)) unused o }
 
 -- PORT_RESET leaves it so
 pub after_a_reset : (f : List ℕ → Option ℕ) (p : List ℕ) (a c : ℕ) (w : World) → Free f p → (c ≡ 0) ⊎ (c ≡ a) → Owned (after_taking f p c) w ⊎ Owned (after_reset (after_taking f p c) p) w → Enumerating f p a w
@@ -99,18 +92,6 @@ after_an_address f p a c w is (inr o) = record { has = a; is = inr refl; owned =
         split : (y : Bool) → (if y then Some a else (if y then Some c else f x)) ≡ (if y then Some a else f x)
         split true = refl
         split false = refl
-
--- a refused device's port is disabled
-pub ends : (f : List ℕ → Option ℕ) (p : List ℕ) (a : ℕ) (w : World) → Free f p → ((x : List ℕ) → is_way p x ≡ true → reach w.roots x ≡ false) → Enumerating f p a w → Owned f w
-ends f p a w free bare s = owned_as (cleared (after_taking f p s.has) p) f w same (bared (after_taking f p s.has) p w bare s.owned)
-  where
-    same : (x : List ℕ) → cleared (after_taking f p s.has) p x ≡ f x
-    same x = split (same_path p x) (is_way p x) refl refl
-      where
-        split : (y z : Bool) → same_path p x ≡ y → is_way p x ≡ z → (if z then None else (if y then Some s.has else f x)) ≡ f x
-        split y true d e = sym (free x e)
-        split true false d e = no (sym e ∙ same_way p x d)
-        split false false d e = refl
 
 -- what SET_ADDRESS at address 0 asks of it
 pub at_zero : (f : List ℕ → Option ℕ) (p : List ℕ) (c : ℕ) (q : List ℕ) → Unused f 0 → after_taking f p c q ≡ Some 0 → q ≡ p

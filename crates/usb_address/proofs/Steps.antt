@@ -1,5 +1,5 @@
 -- What one attempt leaves of addresses.
-use Rattle.std.proofs.Common.{◌≡◌, ℕ, suc, ◌&&◌, ◌||◌, if◌then◌else◌, inr, Bool, true, false, List, [], ◌∷◌, Option, None, Some, Err, refl, ap, sym, subst, ◌∙◌}
+use Rattle.std.proofs.Common.{◌≡◌, ℕ, suc, ◌&&◌, ◌||◌, if◌then◌else◌, inr, Bool, true, false, List, [], ◌∷◌, Option, None, Some, Err, refl, ap, sym, subst, ◌∙◌, ◌==◌}
 use Rattle.usb_packet.specs.declared.Toggle.{Toggle}
 use Rattle.usb_request.specs.Layout.{setup_of}
 use Rattle.usb_device.specs.Attempt.{Way, is_whole, heard}
@@ -13,21 +13,16 @@ use Rattle.usb_world.specs.declared.types.Attempt.{Attempt}
 use Rattle.usb_world.specs.declared.types.BusFault.{BusFault}
 use Rattle.usb_world.specs.declared.types.BusFault.TheVariants.{LimitReached, Memory, TraceFailed}
 use Rattle.usb_world.specs.declared.types.Outcome.TheVariants.{Ack}
-use Rattle.usb_world.specs.Live.{address_of}
+use Rattle.usb_world.specs.Paths.{address_of}
 use Rattle.usb_world.specs.Passes.{IsSettled}
 use Rattle.usb_world.specs.World.{World, Made}
-use Rattle.usb_world.specs.Steps.{ready, due_from, took_first, took, attempt, after, outcome_in, here, step, Coming, nothing_yet, next_came, Left, at_event, at_packet, at_line, GaveUp, AttemptFails, with_attempt, is_due}
+use Rattle.usb_world.specs.Steps.{ready, took_first, took, attempt, after, outcome_in, here, step, Coming, nothing_yet, next_came, Left, at_event, at_packet, at_line, GaveUp, AttemptFails, with_attempt, attempted, damage_in}
 use Rattle.usb_world.specs.Courses.{resets, is_quiet}
 use Rattle.usb_world.specs.OneHolder.{IsSetup, IsOut, IsIn, IsMade, got}
 use Rattle.usb_world.specs.Devices.{Was, DidIn, DidOut, DidSetup}
 use Rattle.usb_world.specs.Addresses.{is_setup, NoneTakes}
-use Rattle.usb_world.proofs.Booleans.{no}
-use Rattle.usb_world.proofs.WorldLaws.{due_reach}
-use Rattle.usb_world.proofs.OwnLaws.{due_state, own_not_twice, step_own, step_unshared}
-use Rattle.usb_world.proofs.Addresses.{due_own, course_keeps}
-use Rattle.usb_world.proofs.Devices.{each_in, each_out, each_setup}
-use Rattle.usb_world.proofs.OneHolderMore.{equal_same, same_test}
-use Rattle.usb_transaction.proofs.Trails.{trail_settled}
+use Rattle.usb_world.proofs.Interface.{came_shared, course_keeps, due_own, due_reach, due_shared, due_state, each_in, each_out, each_setup, equal_same, neither_of, no, own_not_twice, same_equal, settled_ports, step_own, step_unshared}
+use Rattle.usb_transaction.proofs.Interface.{trail_settled}
 use Rattle.usb_transaction.specs.Trail.{start, next}
 use Rattle.usb_address.specs.Aims.{Aims, AllAim, TakesOnly, Never}
 use Rattle.usb_address.specs.Owned.{Owned}
@@ -91,7 +86,7 @@ module _ (Q : ℕ → Type 0) where
 
   set_up_place : (a : Attempt) (bytes : List ℕ) (w : World) (i : ℕ) (e : List ℕ) (s v : State) → ((s : State) → TakesOnly Q (outcome s.spec s.registers (setup_of bytes)))
       → DidSetup a bytes w i e s v → outcome_in a w ≡ Ack → address_of v ≡ a.addr → Aims Q v.stage
-  set_up_place a bytes w i e s v c (DidSetup.other d same) h at = no (sym d ∙ same_test (address_of s) a.addr (ap address_of (sym same) ∙ at))
+  set_up_place a bytes w i e s v c (DidSetup.other d same) h at = no (sym d ∙ same_equal (address_of s) a.addr (ap address_of (sym same) ∙ at))
   set_up_place a bytes w i e s v c (DidSetup.silent d q o same) h at = absurd (cc (o, h))
   set_up_place a bytes w i e s v c (DidSetup.asked d q b below p x o same) h at =
       subst (λ x. Aims Q x.stage)
@@ -106,6 +101,19 @@ module _ (Q : ℕ → Type 0) where
       set_up_place a bytes w i e x.before v c x.so h at
 
 -- Addresses
+
+-- an attempt leaves the ports settled, whether it is made or not
+pub attempt_settled : (a : Attempt) (w : World) → IsSettled w.roots → IsSettled (after (attempt a) w).roots
+unfolding after with_attempt
+attempt_settled a w h = tried w.fault
+  where
+    tried : (x : Option BusFault) → IsSettled (attempted a x w).roots
+    tried (Some x) = h
+    tried None = made (w.attempts == w.limit)
+      where
+        made : (x : Bool) → IsSettled (if x then record w { fault = Some LimitReached } else with_attempt a (ready w)).roots
+        made true = h
+        made false = settled_ports a (damage_in (ready w)) (ready w).roots
 
 pub settled_after : (a : Attempt) (w : World) → Made w (after (attempt a) w) → IsSettled w.roots → IsSettled (after (attempt a) w).roots
 settled_after a w made h = trail_settled (next w start made) h
@@ -123,31 +131,13 @@ quiet_owned f a w q made o = record { distinct = o.distinct; own = step_own f (a
 
 -- An attempt that the bus gave up: no address was held twice at it
 
-coming_shared : {w v : World} → Coming w v → v.shared ≡ w.shared
-unfolding took
-coming_shared (nothing_yet w) = refl
-coming_shared {w} (next_came {v} c due) = first v.left ∙ coming_shared c
-  where
-    first : (es : List Event) → (took_first es v).shared ≡ v.shared
-    first [] = refl
-    first (e ∷ es) = refl
-
-due_shared : (es : List Event) (w : World) → (due_from es w).shared ≡ w.shared
-unfolding due_from took
-due_shared [] w = refl
-due_shared (e ∷ es) w = elim (is_due e w) as (λ b. (if b then due_from es (took e es w) else w).shared ≡ w.shared) [ true ↦ due_shared es (took e es w) | false ↦ refl ]
-
-or_false : (x y : Bool) → x ≡ false → y ≡ false → (x || y) ≡ false
-or_false true y h g = no (sym h)
-or_false false y h g = g
-
 made_unshared : (f : List ℕ → Option ℕ) (w : World) → Owned f w → ((ready w).shared || is_twice (held (ready w).roots)) ≡ false
 unfolding ready
-made_unshared f w o = or_false (ready w).shared (is_twice (held (ready w).roots)) (due_shared w.left w ∙ o.single) (own_not_twice f o.distinct (ready w) (due_own f w.left w o.own))
+made_unshared f w o = neither_of (ready w).shared (is_twice (held (ready w).roots)) (due_shared w.left w ∙ o.single) (own_not_twice f o.distinct (ready w) (due_own f w.left w o.own))
 
 left_unshared : (f : List ℕ → Option ℕ) (a : Attempt) (w v : World) (fault : BusFault) → Owned f w → Left a w fault v → v.shared ≡ false
 unfolding with_attempt
-left_unshared f a w v fault o (at_event c) = coming_shared c ∙ o.single
+left_unshared f a w v fault o (at_event c) = came_shared c ∙ o.single
 left_unshared f a w v fault o (at_packet k e cut is) = ap (λ x. x.shared) is ∙ made_unshared f w o
 left_unshared f a w v fault o (at_line e is) = ap (λ x. x.shared) is ∙ made_unshared f w o
 

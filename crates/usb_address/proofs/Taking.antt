@@ -7,20 +7,14 @@ use Rattle.usb_device.specs.Tree.{reach_at, state_at}
 use Rattle.usb_world.specs.declared.types.Attempt.{Attempt}
 use Rattle.usb_world.specs.declared.types.BusFault.{BusFault}
 use Rattle.usb_world.specs.declared.types.Outcome.{Outcome}
-use Rattle.usb_world.specs.Live.{address_of, same_path}
+use Rattle.usb_world.specs.Paths.{address_of, same_path}
 use Rattle.usb_world.specs.Passes.{deep_at, NobodyHolds}
 use Rattle.usb_world.specs.World.{World, Made}
 use Rattle.usb_world.specs.Steps.{ready, damage_in, attempt, after}
 use Rattle.usb_world.specs.Courses.{Own}
 use Rattle.usb_world.specs.OneHolder.{IsIn, IsMade, SomeHolder}
 use Rattle.usb_world.specs.Addresses.{is_setup, NoneTakes, after_taking, ends_status}
-use Rattle.usb_world.proofs.Booleans.{no, decided}
-use Rattle.usb_world.proofs.Addresses.{due_own, data_own}
-use Rattle.usb_world.proofs.AddressesReset.{self_path, taken_distinct}
-use Rattle.usb_world.proofs.AddressesTaken.{seen, unseen}
-use Rattle.usb_world.proofs.OneDevice.{stands, state_stands}
-use Rattle.usb_world.proofs.OneHolderMore.{same_test, made_of}
-use Rattle.usb_world.proofs.OneHolderWho.{holder_or_nobody}
+use Rattle.usb_world.proofs.Interface.{data_own, decided, due_own, holder_or_nobody, made_of, no, ready_own, same_equal, seen, self_path, stands, state_stands, taken_distinct, unseen}
 use Rattle.usb_transaction.specs.declared.fault.TransFault.{TransFault}
 use Rattle.usb_transaction.specs.declared.fault.TransFault.TheVariants.{Stalled, Busy, NoAnswer, Bus}
 use Rattle.usb_transaction.specs.Trail.{Trail, start, next, CutOff, Transacted}
@@ -37,10 +31,6 @@ ends_some (reading a w k) h = no h
 ends_some read h = no h
 ends_some (ending None) h = no h
 ends_some (ending (Some c)) h = (c, refl)
-
-pub own_ready : (f : List ℕ → Option ℕ) (w : World) → Own f w → Own f (ready w)
-unfolding ready
-own_ready f w own = due_own f w.left w own
 
 module _ (f : List ℕ → Option ℕ) (p : List ℕ) (b : ℕ) (a : Attempt) (is : IsIn a) (at : (q : List ℕ) → f q ≡ Some a.addr → q ≡ p) (free : (q r : List ℕ) → f q ≡ Some b → f r ≡ Some a.addr → ⊥) (differ : a.addr ≡ b → ⊥) where
   abbrev n : ℕ
@@ -95,10 +85,10 @@ module _ (f : List ℕ → Option ℕ) (p : List ℕ) (b : ℕ) (a : Attempt) (i
           there = sym (state_stands (ready w).roots x.j x.p) ∙ ap stands x.holder.stands
 
           path : suc x.j ∷ x.p ≡ p
-          path = is_there (ready w) (own_ready f w o.own) x.j x.p x.s x.holder.on there x.holder.at
+          path = is_there (ready w) (ready_own f w o.own) x.j x.p x.s x.holder.on there x.holder.at
 
           only : (i : ℕ) (e : List ℕ) (t : State) → reach_at (ready w).roots i e ≡ true → state_at (ready w).roots i e ≡ Some t → address_of t ≡ n → t ≡ x.s
-          only i e t on stood y = same_Some t x.s (sym stood ∙ moved (path ∙ sym (is_there (ready w) (own_ready f w o.own) i e t on stood y)) ∙ there)
+          only i e t on stood y = same_Some t x.s (sym stood ∙ moved (path ∙ sym (is_there (ready w) (ready_own f w o.own) i e t on stood y)) ∙ there)
             where
               moved : suc x.j ∷ x.p ≡ suc i ∷ e → state_at (ready w).roots i e ≡ state_at (ready w).roots x.j x.p
               moved z = ap (λ q. elim q as (λ _. Option State) [ [] ↦ None | k ∷ r ↦ elim k as (λ _. Option State) [ zero ↦ None | suc u ↦ state_at (ready w).roots u r ] ]) (sym z)
@@ -113,7 +103,7 @@ module _ (f : List ℕ → Option ℕ) (p : List ℕ) (b : ℕ) (a : Attempt) (i
               goal = subst (Aims Target) e (aim_ready Target n w h x.j x.p x.s x.holder.on there x.holder.at)
 
               end : (ends_status a (damage_in (ready w)) (ready w).roots (deep_at false x.p) x.s ≡ true) ⊎ (ends_status a (damage_in (ready w)) (ready w).roots (deep_at false x.p) x.s ≡ false) → Taking (after (attempt a) w)
-              end (inl y) = took w (suc x.j ∷ x.p) (sym (own_ready f w o.own (suc x.j ∷ x.p) x.holder.on) ∙ ap (option_map address_of) there ∙ ap (λ y. Some y) x.holder.at) made o (subst (λ z. Own (after_taking f p z) (after (attempt a) w)) goal (subst (λ z. Own (after_taking f z c) (after (attempt a) w)) path (seen a w x.j x.p x.b x.s x.below x.holder is c e f o.own y)))
+              end (inl y) = took w (suc x.j ∷ x.p) (sym (ready_own f w o.own (suc x.j ∷ x.p) x.holder.on) ∙ ap (option_map address_of) there ∙ ap (λ y. Some y) x.holder.at) made o (subst (λ z. Own (after_taking f p z) (after (attempt a) w)) goal (subst (λ z. Own (after_taking f z c) (after (attempt a) w)) path (seen a w x.j x.p x.b x.s x.below x.holder is c e f o.own y)))
               end (inr y) = kept w made m o h (unseen a w x.j x.p x.b x.s x.below x.holder is c e f o.own y)
 
           stage : (ends_with_address x.s.stage ≡ true) ⊎ (ends_with_address x.s.stage ≡ false) → Taking (after (attempt a) w)
@@ -121,7 +111,7 @@ module _ (f : List ℕ → Option ℕ) (p : List ℕ) (b : ℕ) (a : Attempt) (i
           stage (inr y) = calm y
 
       nobody : NobodyHolds n (ready w).roots → Own f (after (attempt a) w)
-      nobody x = moved_own w o (λ i e t on stood y. no (sym (x i e t stood on) ∙ same_test n (address_of t) (sym y)))
+      nobody x = moved_own w o (λ i e t on stood y. no (sym (x i e t stood on) ∙ same_equal n (address_of t) (sym y)))
 
       pick : SomeHolder a w ⊎ NobodyHolds n (ready w).roots → Taking (after (attempt a) w)
       pick (inl x) = held x

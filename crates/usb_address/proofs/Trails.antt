@@ -13,8 +13,7 @@ use Rattle.usb_world.specs.Steps.{attempt, after}
 use Rattle.usb_world.specs.Courses.{is_quiet}
 use Rattle.usb_world.specs.OneHolder.{IsSetup, IsOut, IsIn, IsMade}
 use Rattle.usb_world.specs.Addresses.{is_setup}
-use Rattle.usb_world.proofs.OwnLaws.{quiet_resets}
-use Rattle.usb_world.proofs.OneHolderMore.{made_of}
+use Rattle.usb_world.proofs.Interface.{made_of, quiet_resets}
 use Rattle.usb_transaction.specs.declared.fault.TransFault.{TransFault}
 use Rattle.usb_transaction.specs.declared.fault.TransFault.TheVariants.{Stalled, Busy, NoAnswer, Bus}
 use Rattle.usb_transaction.specs.Heard.{set_up_as}

@@ -13,7 +13,7 @@ use Rattle.usb_transaction.specs.declared.target.Target.{Target}
 use Rattle.usb_transaction.specs.declared.fault.TransFault.{TransFault}
 use Rattle.usb_transaction.specs.declared.fault.TransFault.TheVariants.{Stalled as TransStalled, Busy as TransBusy, NoAnswer as TransNoAnswer, Bus as TransBus}
 use Rattle.usb_transaction.specs.Heard.{heard_as, sent_as}
-use Rattle.usb_transaction.specs.Trans.{setup_attempt, in_attempt, out_attempt}
+use Rattle.usb_transaction.specs.Transactions.{setup_attempt, in_attempt, out_attempt}
 use Rattle.usb_pipe.specs.declared.fault.PipeFault.{PipeFault}
 use Rattle.usb_pipe.specs.declared.fault.PipeFault.TheVariants.{Stalled, Busy, NoAnswer, Broken, Bus, Memory}
 use Rattle.usb_pipe.specs.Control.{fault_of}

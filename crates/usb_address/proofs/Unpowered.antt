@@ -1,5 +1,5 @@
 -- A port without power, of which nothing is asked, stays without power, whatever is plugged or unplugged.
-use Rattle.std.proofs.Common.{◌≡◌, ℕ, zero, suc, ◌==◌, if◌then◌else◌, Bool, true, false, List, [], ◌∷◌, Option, None, Some, slice_get, ap, sym, subst, ◌∙◌, refl}
+use Rattle.std.proofs.Common.{◌≡◌, ℕ, zero, suc, ◌==◌, if◌then◌else◌, true, false, List, [], ◌∷◌, Option, None, Some, slice_get, ap, sym, subst, ◌∙◌, refl}
 use Rattle.std.proofs.lemmas.Option.{same_Some}
 use Rattle.usb_port.specs.PortState.{PortState, plugged, unplugged, off}
 use Rattle.usb_device.specs.Rows.{fresh}
@@ -12,10 +12,10 @@ use Rattle.usb_world.specs.declared.event.Event.{Event}
 use Rattle.usb_world.specs.declared.types.Attempt.{Attempt}
 use Rattle.usb_world.specs.declared.types.BusFault.{BusFault}
 use Rattle.usb_world.specs.declared.types.BusFault.TheVariants.{LimitReached}
-use Rattle.usb_world.specs.Requested.{made_leaves, leaves_step, LeavesPort}
+use Rattle.usb_world.specs.PortRequests.{made_leaves, leaves_step, LeavesPort}
 use Rattle.usb_world.specs.Steps.{with_plugged, happened, is_due, took, took_first, due_from, ready, with_attempt, attempted, event_taken, Step, attempt, root_call, event, report, after, Course, here, step}
 use Rattle.usb_world.specs.World.{World}
-use Rattle.usb_world.proofs.RequestLawsBits.{made_port, root_port}
+use Rattle.usb_world.proofs.Interface.{made_port, root_port}
 
 -- the port that stands there, if any, has no power
 abbrev pub NoPower : Option PortState → Type 0

@@ -1,6 +1,6 @@
 -- Which path claims which address.
 use Rattle.std.specs.Prelude.{◌≡◌, ℕ, List, true, Option, None, Some, if◌then◌else◌}
-use Rattle.usb_world.specs.Live.{is_way}
+use Rattle.usb_world.specs.Paths.{is_way}
 
 abbrev pub Claims : Type 0
 Claims = List ℕ → Option ℕ
@@ -14,5 +14,5 @@ abbrev pub Unused : Claims → ℕ → Type 0
 Unused f n = (x : List ℕ) → f x ≡ Some n → ⊥
 
 -- the claims that are neither at the path nor below it
-abbrev pub cleared : Claims → List ℕ → Claims
-cleared f p x = if is_way p x then None else f x
+abbrev pub claims_apart : Claims → List ℕ → Claims
+claims_apart f p x = if is_way p x then None else f x

@@ -3,6 +3,5 @@
 //!
 //! A map from paths to addresses says what each path claims. As long as each reachable device holds what its path claims,
 //! and no two paths claim one address, no attempt finds two devices at one address. The lemmas say what each transfer,
-//! each call at a port, each event and each line of report does to that, whatever is damaged and whatever is plugged or
-//! unplugged meanwhile.
+//! each call at a port and each event does to that, whatever is damaged and whatever is plugged or unplugged meanwhile.
 #![tactic(auto)]

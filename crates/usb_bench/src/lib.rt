@@ -1,17 +1,18 @@
 //! Simulated buses for tests: from a plan's text, with the port and the device made ready.
 #![tactic(auto)]
 
-ghost use Rattle.std.specs.Prelude.{◌≡◌, ◌++◌, codes, decimal, false, flat_map, string_bytes, IfOk, OnOk};
+ghost use Rattle.std.specs.Prelude.{◌≡◌, ◌++◌, codes, decimal, false, flat_map, string_bytes, IfOk, None, Ok, OnOk};
 ghost use Rattle.usb_bus.specs.Watch.{inner_of, has_failed};
 ghost use Rattle.usb_bus.specs.Sim.{world_of, writer_of};
 ghost use Rattle.usb_world.specs.Steps.{after, root_call};
 ghost use Rattle.usb_device.specs.Calls.{set_call, clear_call};
+ghost use Rattle.usb_plan.specs.Plan.{spelled_plan};
 ghost use Rattle.usb_bench.specs.Bench.{IsOpened, IsReady, made_ready, port_called};
 
 use std::alloc::{AllocError, Global};
 use std::io::Write;
 use thiserror::Error;
-use usb_bus::{Bus, BusFault, SimBus, Watched};
+use usb_bus::{Bus, BusFault, Plan, SimBus, Watched};
 use usb_device::PortCall;
 use usb_plan::{PlanFault, read_plan};
 use usb_request::feature::{
@@ -34,7 +35,9 @@ pub enum BenchFault {
 
 /// The text of a plan with one root port: so many attempts at most, and these tables behind each other.
 pub fn plan_text(alloc: Global, limit: u64, tables: &[&str]) -> Result<String, AllocError>
-    ensures { IfOk result (λ s. string_bytes s ≡ codes "limit = " ++ decimal limit ++ codes "\nroots = 1\n" ++ flat_map (λ t. t.now) tables.now) }
+    ensures { IfOk result (λ s. string_bytes s
+        ≡ codes "limit = " ++ decimal limit ++ codes "\nroots = 1\n"
+        ++ flat_map (λ t. t.now) tables.now) }
 {
     let mut text = format!(in alloc; "limit = {limit}\nroots = 1\n")?;
     'tables: for table in tables {
@@ -56,13 +59,40 @@ pub fn bus_on<W: Write + Drop>(
     ensures world { IfOk result (λ bus. IsOpened text.now (world_of bus)) }
     ensures writer { IfOk result (λ bus. writer_of bus ≡ writer) }
 {
-    let plan = match read_plan(alloc, text) {
-        Ok(plan) => plan,
-        Err(fault) => return Err(BenchFault::Plan(fault)),
-    };
+    let plan = plan_of(alloc, text)?;
     match SimBus::new(alloc, &plan, writer) {
         Ok(bus) => Ok(bus),
         Err((_, _)) => Err(BenchFault::Memory),
+    }
+}
+
+/// The bus of a plan's text, before anything came, that makes no line of its trace; nothing is known of its writer.
+///
+/// # Errors
+/// As `bus_on`.
+pub fn untraced_on<W: Write + Drop>(
+    alloc: Global,
+    text: &str,
+    writer: Watched<W>,
+) -> Result<SimBus<W>, BenchFault>
+    requires unfailed { has_failed writer ≡ false }
+    requires unknown { W.contents (inner_of writer) ≡ None }
+    ensures world { IfOk result (λ bus. IsOpened text.now (world_of bus)) }
+    ensures writer { IfOk result (λ bus. writer_of bus ≡ writer) }
+{
+    let plan = plan_of(alloc, text)?;
+    match SimBus::untraced(alloc, &plan, writer) {
+        Ok(bus) => Ok(bus),
+        Err((_, _)) => Err(BenchFault::Memory),
+    }
+}
+
+fn plan_of(alloc: Global, text: &str) -> Result<Plan, BenchFault>
+    ensures { IfOk result (λ plan. spelled_plan text.now ≡ Ok plan) }
+{
+    match read_plan(alloc, text) {
+        Ok(plan) => Ok(plan),
+        Err(fault) => Err(BenchFault::Plan(fault)),
     }
 }
 

@@ -9,7 +9,7 @@ use Rattle.usb_world.specs.declared.types.Outcome.{Outcome}
 use Rattle.usb_world.specs.World.{World, IsAttempt, Attempted, Spends}
 use Rattle.usb_world.specs.Steps.{AttemptFails, TookEvent, after, attempt, event, outcome_in, root_call}
 use Rattle.usb_bus.specs.Lines.{lines_between, next_due, step_lines}
-use Rattle.usb_bus.specs.Watch.{Writes}
+use Rattle.usb_bus.specs.Watch.{WritesText}
 
 -- an attempt was made, or the bus gave it up: what is so of the world then, what the host got, and what was written
 pub record Attempts (a : Attempt) (old : World) (before : Option (List ℕ)) (result : Result Outcome BusFault) (new : World) (now : Option (List ℕ)) : Type 0 where
@@ -17,17 +17,17 @@ pub record Attempts (a : Attempt) (old : World) (before : Option (List ℕ)) (re
   pub exact : OnOk result (new ≡ after (attempt a) old)
   pub outcome : IfOk result (λ outcome. outcome ≡ outcome_in a old)
   pub fails : old.fault ≡ None → AttemptFails a old result new
-  pub text : Writes result before now (step_lines a old new)
+  pub text : WritesText result before now (step_lines a old new)
 
 -- the next event came at once, or the bus told its fault: what is so of the world then, and what was written
-pub record Takes (old : World) (before : Option (List ℕ)) (result : Result (Option Due) BusFault) (new : World) (now : Option (List ℕ)) : Type 0 where
+pub record TakesEvent (old : World) (before : Option (List ℕ)) (result : Result (Option Due) BusFault) (new : World) (now : Option (List ℕ)) : Type 0 where
   pub took : TookEvent old result new
   pub asked : IfOk result (λ due. due ≡ next_due old)
   pub exact : OnOk result (new ≡ after event old)
   pub kept : result ≡ Err Memory → old.fault ≡ None → new ≡ record old { fault = Some Memory }
   pub cut : result ≡ Err TraceFailed → old.fault ≡ None → new ≡ record (after event old) { fault = Some TraceFailed }
   pub limit : result ≡ Err LimitReached → IsSome old.fault
-  pub text : Writes result before now (lines_between old new)
+  pub text : WritesText result before now (lines_between old new)
 
 -- attempts and root calls, one after the other, and no line but theirs was written
 pub data Traced (old : World) (before : Option (List ℕ)) : World → Option (List ℕ) → Type 0 where

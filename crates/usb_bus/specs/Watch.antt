@@ -1,5 +1,5 @@
 -- What a failed write is, and what of a piece has gone out.
-use Rattle.std.specs.Prelude.{◌≡◌, ℕ, Bool, true, false, ◌&&◌, not, ◌==◌, List, ◌++◌, length, Result, Ok, Err, Option, None, Some}
+use Rattle.std.specs.Prelude.{◌≡◌, ℕ, Bool, true, false, ◌&&◌, not, ◌==◌, List, ◌++◌, length, Result, Ok, Err, Option, None, Some, OnOk, OnErr}
 use Rattle.std.specs.Io.KnownBytes.{Appends}
 use Rattle.usb_bus.specs.declared.watched.Watched.{Watched}
 use Rattle.usb_world.specs.declared.types.BusFault.{BusFault}
@@ -27,12 +27,19 @@ pub record AppendsFront (old new : Option (List ℕ)) (piece : List ℕ) : Type 
   pub split : piece ≡ gone ++ rest
   pub appended : Appends old new gone
 
+-- a call wrote a text: all of it has gone out, or a front of it where the writer failed in the call
+pub record PutsText {W A E : Type 0} (contents : W → Option (List ℕ)) (old : Watched W) (result : Result A E) (new : Watched W) (text : List ℕ) : Type 0 where
+  pub front : AppendsFront (contents (inner_of old)) (contents (inner_of new)) text
+  pub ok : OnOk result (Appends (contents (inner_of old)) (contents (inner_of new)) text)
+  pub unmarked : OnOk result (has_failed new ≡ has_failed old)
+  pub marked : OnErr result (has_failed new ≡ true)
+
 -- how a call ends that writes a text: all of it has gone out, or a front of it where the writer failed
-abbrev pub Writes : {A : Type 0} → Result A BusFault → Option (List ℕ) → Option (List ℕ) → List ℕ → Type 0
-Writes (Ok x) old new text = Appends old new text
-Writes (Err LimitReached) old new text = Appends old new text
-Writes (Err Memory) old new text = Appends old new text
-Writes (Err TraceFailed) old new text = AppendsFront old new text
+abbrev pub WritesText : {A : Type 0} → Result A BusFault → Option (List ℕ) → Option (List ℕ) → List ℕ → Type 0
+WritesText (Ok x) old new text = Appends old new text
+WritesText (Err LimitReached) old new text = Appends old new text
+WritesText (Err Memory) old new text = Appends old new text
+WritesText (Err TraceFailed) old new text = AppendsFront old new text
 
 -- the fault tells that the writer failed
 abbrev pub tells_failure : Option BusFault → Bool

@@ -1,9 +1,9 @@
 ghost use Rattle.std.specs.Prelude.{◌≡◌, ◌≤◌, ℕ, List, Option, None};
 ghost use Rattle.usb_port.specs.PortState.{status_of};
-ghost use Rattle.usb_world.specs.World.{World, IsAttempt, IsRootPort, IsSetFeature, IsClearFeature, port_at, roots_of};
+ghost use Rattle.usb_world.specs.World.{World, IsAttempt, IsRootPort, IsSetFeature, IsClearFeature, root_port_at, roots_of};
 ghost use Rattle.usb_world.specs.Steps.{SetsRoot, ClearsRoot};
 ghost use Rattle.usb_world.specs.Passes.{IsSettled};
-ghost use Rattle.usb_world.specs.Sane.{IsSane};
+ghost use Rattle.usb_world.specs.SanePorts.{IsSane};
 ghost use Rattle.usb_bus.specs.Traced.{Attempts};
 
 use crate::{Attempt, BusFault, Outcome};
@@ -29,7 +29,8 @@ pub trait Bus {
     /// tells the same fault again.
     fn attempt(&mut self, attempt: &Attempt) -> Result<Outcome, BusFault>
         requires { IsAttempt attempt.now }
-        ensures attempts { Attempts attempt.now (world self.old) (trace self.old) result (world self.new) (trace self.new) }
+        ensures attempts { Attempts attempt.now (world self.old) (trace self.old) result
+            (world self.new) (trace self.new) }
         ensures settled { IsSettled (world self.old).roots }
         ensures sane { (world self.old).fault ≡ None → IsSane (world self.old).roots };
 
@@ -42,7 +43,7 @@ pub trait Bus {
     /// The status of a root port: wPortStatus and wPortChange (11.24.2.7).
     fn root_status(&self, port: u8) -> [u8; 4]
         requires { IsRootPort (world self.now) port }
-        ensures { result ≡ status_of (port_at (world self.now) port) };
+        ensures { result ≡ status_of (root_port_at (world self.now) port) };
 
     /// Sets a feature of a root port (11.24.2.13).
     fn root_set(&mut self, port: u8, feature: u16)

@@ -4,6 +4,7 @@
 mod bus;
 mod sim;
 mod trace;
+mod tracer;
 mod watched;
 
 pub use bus::Bus;

@@ -7,30 +7,32 @@ ghost use Rattle.usb_device.specs.Tree.{new_ports, row_of};
 ghost use Rattle.usb_device.specs.Delivery.{held, is_twice};
 ghost use Rattle.usb_world.specs.Losses.{AreOfDamages};
 ghost use Rattle.usb_world.specs.Passes.{IsSettled};
-ghost use Rattle.usb_world.specs.Sane.{IsSane};
-ghost use Rattle.usb_world.specs.SaneProp.{IsSane-prop, IsSpec-prop, all_prop};
+ghost use Rattle.usb_world.specs.SanePorts.{IsSane};
+ghost use Rattle.usb_world.specs.SaneProofs.{IsSane-prop, IsSpec-prop, all_prop};
 ghost use Rattle.usb_world.specs.Steps.{opening};
-ghost use Rattle.usb_bus.specs.Watch.{has_failed, tells_failure};
+ghost use Rattle.usb_bus.specs.Tracer.{writer_in};
+ghost use Rattle.usb_bus.specs.Watch.{inner_of, has_failed, tells_failure};
 ghost use Rattle.usb_world.specs.declared.types.BusFault.TheVariants.{LimitReached};
 
 mod bus;
 mod events;
 mod lines;
 
+use crate::tracer::Tracer;
 use crate::{BusFault, Damage, Event, Plan, Watched};
 use std::alloc::{AllocError, Global};
 use std::collections::VecDeque;
 use std::io::Write;
 use usb_device::{DeviceSpec, Ports};
 use usb_port::PortPath;
-use usb_world::{Hints, Losses, event_copies};
+use usb_world::{Exchange, Hints, Losses, event_copies};
 
 /// A bus that a plan describes. Each attempt, plug and unplug is a line of the trace, which goes to a writer at once.
 ///
 /// After a fault every later attempt, event and line of report tells the same fault again and changes nothing. The writer
 /// has failed exactly where `TraceFailed` was told.
 #[derive(Drop)]
-pub struct SimBus<W> {
+pub struct SimBus<W: Write> {
     alloc: Global,
     roots: Ports,
     devices: Vec<DeviceSpec>,
@@ -47,11 +49,13 @@ pub struct SimBus<W> {
     /// At some attempt two reachable devices held one address.
     shared: bool,
     fault: Option<BusFault>,
-    writer: Watched<W>,
+    tracer: Tracer<W>,
     /// Where devices were found, by address.
     hints: Hints,
     /// No two reachable devices hold one address, as far as is known.
     single: bool,
+    /// The packets of the last attempt.
+    exchange: Exchange,
     ghost some_root: { 1 ≤ length (row_of roots) },
     ghost few_roots: { length (row_of roots) ≤ 7 },
     ghost settled: { IsSettled roots },
@@ -65,7 +69,7 @@ pub struct SimBus<W> {
     ghost few_damages: { length damages.items ≤ 10000 },
     ghost lost: { AreOfDamages attempts damages.items losses },
     ghost at_limit: { fault ≡ Some LimitReached → attempts ≡ limit },
-    ghost marked: { has_failed writer ≡ tells_failure fault },
+    ghost marked: { has_failed (writer_in tracer) ≡ tells_failure fault },
     ghost lone: { single ≡ true → is_twice (held roots) ≡ false },
 }
 
@@ -85,7 +89,6 @@ impl<W: Write> SimBus<W> {
     /// The bus of a plan, before anything came: all ports are off. The writer has not failed yet.
     ///
     /// An error: memory is refused; the writer is handed back.
-    #[tactic(auto, using(usb_world::proofs::Wires::no_losses_yet))]
     pub fn new(
         alloc: Global,
         plan: &Plan,
@@ -96,8 +99,40 @@ impl<W: Write> SimBus<W> {
         ensures writer { IfOk result (λ bus. writer_of bus ≡ writer) }
         ensures back { IfErr result (λ e. e.1 ≡ writer) }
     {
+        SimBus::with_tracer(alloc, plan, Tracer::new(writer))
+    }
+
+    /// The same bus, which makes no line of its trace: for a writer of which nothing is known, as `io::sink()`. It leaves
+    /// the writer as it is, and never tells `TraceFailed`.
+    ///
+    /// An error: memory is refused; the writer is handed back.
+    pub fn untraced(
+        alloc: Global,
+        plan: &Plan,
+        writer: Watched<W>,
+    ) -> Result<SimBus<W>, (AllocError, Watched<W>)>
+        requires unfailed { has_failed writer ≡ false }
+        requires unknown { W.contents (inner_of writer) ≡ None }
+        ensures world { IfOk result (λ bus. world_of bus ≡ opening plan.now) }
+        ensures writer { IfOk result (λ bus. writer_of bus ≡ writer) }
+        ensures back { IfErr result (λ e. e.1 ≡ writer) }
+    {
+        SimBus::with_tracer(alloc, plan, Tracer::silent(writer))
+    }
+
+    #[tactic(auto, using(usb_world::proofs::Interface::no_losses_yet))]
+    fn with_tracer(
+        alloc: Global,
+        plan: &Plan,
+        tracer: Tracer<W>,
+    ) -> Result<SimBus<W>, (AllocError, Watched<W>)>
+        requires unfailed { has_failed (writer_in tracer) ≡ false }
+        ensures world { IfOk result (λ bus. world_of bus ≡ opening plan.now) }
+        ensures writer { IfOk result (λ bus. writer_of bus ≡ writer_in tracer) }
+        ensures back { IfErr result (λ e. e.1 ≡ writer_in tracer) }
+    {
         match staged(alloc, plan) {
-            Err(error) => Err((error, writer)),
+            Err(error) => Err((error, tracer.into_writer())),
             Ok(stage) => Ok(SimBus {
                 alloc,
                 roots: stage.roots,
@@ -111,9 +146,10 @@ impl<W: Write> SimBus<W> {
                 losses: Losses::none(),
                 shared: false,
                 fault: None,
-                writer,
+                tracer,
                 hints: stage.hints,
                 single: false,
+                exchange: Exchange::blank(),
             }),
         }
     }
@@ -123,8 +159,8 @@ impl<W: Write> SimBus<W> {
         ensures writer { result ≡ writer_of self }
         ensures failed { has_failed result ≡ tells_failure (world_of self).fault }
     {
-        let SimBus { writer, .. } = self;
-        writer
+        let SimBus { tracer, .. } = self;
+        tracer.into_writer()
     }
 
     /// How many events came.
@@ -176,7 +212,8 @@ impl<W: Write> SimBus<W> {
 
     /// All bytes that the bulk OUT endpoint of the device at the path has taken since its plug; None where none is there.
     pub fn sink(&self, path: &PortPath) -> Option<&[u8]>
-        ensures { option_map (λ s. s.now) result ≡ option_map (λ d. d.own.sink) (device_at self.now path.now) }
+        ensures { option_map (λ s. s.now) result
+            ≡ option_map (λ d. d.own.sink) (device_at self.now path.now) }
     {
         match self.roots.device_at(path.numbers()) {
             None => None,
@@ -190,8 +227,8 @@ fn staged(alloc: Global, plan: &Plan) -> Result<Stage, AllocError>
     ensures devices { IfOk result (λ s. s.devices.items ≡ plan.now.devices) }
     ensures events { IfOk result (λ s. s.left.items ≡ plan.now.events) }
     ensures damages { IfOk result (λ s. s.damages.items ≡ plan.now.damages) }
-    ensures few_events { IfOk result (λ s. length s.left.items ≤ 10000) }
-    ensures few_damages { IfOk result (λ s. length s.damages.items ≤ 10000) }
+    ensures few { IfOk result (λ s. (length s.left.items ≤ 10000)
+        × (length s.damages.items ≤ 10000)) }
 {
     Ok(Stage {
         hints: Hints::new(alloc)?,

@@ -1,9 +1,9 @@
 //! The lines of the trace.
-ghost use Rattle.std.specs.Prelude.{◌≡◌, ◌+◌, ◌<◌, ◌≤◌, [], ◌∷◌, ◌++◌, length, decimal, encode_utf8};
+ghost use Rattle.std.specs.Prelude.{◌≡◌, ◌+◌, ◌≤◌, [], ◌∷◌, ◌++◌, length};
 ghost use Rattle.usb_bus.specs.Trace.{attempt_line, pre_text, mark_text, host_text, next_text, answer_text};
 
 use arrayvec::ArrayString;
-use usb_packet::push_packet;
+use usb_packet::{push_decimal, push_packet};
 use usb_world::{Exchange, Heard, Mark, Outgoing};
 
 /// Room for the longest line of an attempt.
@@ -85,33 +85,4 @@ fn push_mark(line: &mut Line, mark: Mark)
             line.push(']');
         }
     }
-}
-
-fn push_decimal(line: &mut Line, n: u64)
-    requires { length line.old.bytes ≤ 680 }
-    ensures text { line.new.bytes ≡ line.old.bytes ++ decimal n }
-    ensures few { length line.new.bytes ≤ length line.old.bytes + 20 }
-{
-    push_digits(line, n);
-}
-
-fn push_digits(line: &mut Line, n: u64)
-    requires { length line.old.bytes + length (decimal n) ≤ 700 }
-    ensures { line.new.bytes ≡ line.old.bytes ++ decimal n }
-{
-    if n < 10 {
-        line.push(digit(n));
-        return;
-    }
-    push_digits(line, n / 10);
-    line.push(digit(n % 10));
-}
-
-/// The digit of a number below 10.
-fn digit(n: u64) -> char
-    requires { n < 10 }
-    ensures value { result ≡ 48 + n }
-    ensures one { length (encode_utf8 result) ≡ 1 }
-{
-    char::from(b'0' + n as u8)
 }

@@ -2,7 +2,7 @@
 ghost use Rattle.std.specs.Prelude.{◌≡◌, ◌+◌, ◌≤◌, ◌||◌, false, true, flat_map, is_err, OnOk, OnErr, IfSome};
 ghost use Rattle.std.specs.Io.{ReadsAtMost, WritesAtMost};
 ghost use Rattle.std.specs.Io.KnownBytes.{Keeps, Appends, ReadConsumes, WriteAppends};
-ghost use Rattle.usb_bus.specs.Watch.{inner_of, has_failed, calls_of, write_fails, AppendsFront};
+ghost use Rattle.usb_bus.specs.Watch.{inner_of, has_failed, calls_of, write_fails, AppendsFront, PutsText};
 ghost use Rattle.usb_world.specs.declared.types.BusFault.TheVariants.{TraceFailed as trace_failed};
 
 use arrayvec::ArrayVec;
@@ -71,7 +71,8 @@ impl<T: Read> Read for Watched<T> {
 
     fn read(&mut self, buf: &mut [u8]) -> io::Result<usize>
         ensures bound { ReadsAtMost result buf.new }
-        ensures bytes { ReadConsumes (T.remaining (inner_of self.old)) (T.remaining (inner_of self.new)) result buf.new }
+        ensures bytes { ReadConsumes (T.remaining (inner_of self.old))
+            (T.remaining (inner_of self.new)) result buf.new }
         ensures mark { has_failed self.new ≡ (has_failed self.old || is_err result) }
         ensures calls { calls_of self.new ≤ calls_of self.old + 1 }
     {
@@ -89,7 +90,8 @@ impl<T: Write> Write for Watched<T> {
 
     fn write(&mut self, buf: &[u8]) -> io::Result<usize>
         ensures bound { WritesAtMost result buf.now }
-        ensures bytes { WriteAppends (T.contents (inner_of self.old)) (T.contents (inner_of self.new)) result buf.now }
+        ensures bytes { WriteAppends (T.contents (inner_of self.old))
+            (T.contents (inner_of self.new)) result buf.now }
         ensures mark { has_failed self.new ≡ (has_failed self.old || write_fails result buf.now) }
         ensures calls { calls_of self.new ≤ calls_of self.old + 1 }
     {
@@ -131,8 +133,10 @@ impl From<WriteFailed> for BusFault {
 /// After an error the writer is marked, and what went out is a front of the piece.
 #[tactic(auto, using(crate::proofs::Fronts::front_kept))]
 pub fn put_piece<W: Write>(writer: &mut Watched<W>, piece: &[u8]) -> Result<(), WriteFailed>
-    ensures front { AppendsFront (W.contents (inner_of writer.old)) (W.contents (inner_of writer.new)) piece.now }
-    ensures ok { OnOk result (Appends (W.contents (inner_of writer.old)) (W.contents (inner_of writer.new)) piece.now) }
+    ensures front { AppendsFront (W.contents (inner_of writer.old))
+        (W.contents (inner_of writer.new)) piece.now }
+    ensures ok { OnOk result (Appends (W.contents (inner_of writer.old))
+        (W.contents (inner_of writer.new)) piece.now) }
     ensures unmarked { OnOk result (has_failed writer.new ≡ has_failed writer.old) }
     ensures marked { OnErr result (has_failed writer.new ≡ true) }
 {
@@ -154,10 +158,7 @@ pub(crate) fn put_pieces<W: Write>(
     writer: &mut Watched<W>,
     pieces: &[&[u8]],
 ) -> Result<(), WriteFailed>
-    ensures front { AppendsFront (W.contents (inner_of writer.old)) (W.contents (inner_of writer.new)) (flat_map (λ p. p.now) pieces.now) }
-    ensures ok { OnOk result (Appends (W.contents (inner_of writer.old)) (W.contents (inner_of writer.new)) (flat_map (λ p. p.now) pieces.now)) }
-    ensures unmarked { OnOk result (has_failed writer.new ≡ has_failed writer.old) }
-    ensures marked { OnErr result (has_failed writer.new ≡ true) }
+    ensures { PutsText W.contents writer.old result writer.new (flat_map (λ p. p.now) pieces.now) }
 {
     match joined(pieces) {
         Some(line) => put_piece(writer, line.as_slice()),
@@ -179,12 +180,9 @@ fn joined(pieces: &[&[u8]]) -> Option<ArrayVec<u8, LINE_ROOM>>
 }
 
 /// Writes one piece after the other.
-#[tactic(auto, using(crate::proofs::Fronts::first_front, crate::proofs::Fronts::front_after_first))]
+#[tactic(auto, using(crate::proofs::Fronts::first_front))]
 fn put_each<W: Write>(writer: &mut Watched<W>, pieces: &[&[u8]]) -> Result<(), WriteFailed>
-    ensures front { AppendsFront (W.contents (inner_of writer.old)) (W.contents (inner_of writer.new)) (flat_map (λ p. p.now) pieces.now) }
-    ensures ok { OnOk result (Appends (W.contents (inner_of writer.old)) (W.contents (inner_of writer.new)) (flat_map (λ p. p.now) pieces.now)) }
-    ensures unmarked { OnOk result (has_failed writer.new ≡ has_failed writer.old) }
-    ensures marked { OnErr result (has_failed writer.new ≡ true) }
+    ensures { PutsText W.contents writer.old result writer.new (flat_map (λ p. p.now) pieces.now) }
 {
     let Some((piece, rest)) = pieces.split_first() else {
         return Ok(());

@@ -1,7 +1,6 @@
 -- A whole attempt with one device.
 use Rattle.std.proofs.Common.{◌≡◌, ℕ, ◌==◌, nat_le, if◌then◌else◌, ◌&&◌, Bool, true, false, List, [], ◌∷◌, length, Option, None, Some, take, refl, ap, ◌∙◌, arith}
 use Rattle.std.proofs.lemmas.Bool.Decides.{nat_tests}
-use Rattle.usb_packet.specs.declared.TokenKind.{TokenKind}
 use Rattle.usb_packet.specs.declared.TokenKind.TheVariants.{OutTok, InTok, SetupTok}
 use Rattle.usb_packet.specs.declared.Toggle.{Toggle}
 use Rattle.usb_packet.specs.declared.Toggle.TheVariants.{Zero, One}
@@ -66,11 +65,6 @@ rested-row d row packet.Pre h = refl
 pub rested : (d : State) (row : List PortState) (p : Packet) → is_own d p ≡ false → received (forgotten d) row p ≡ (None, forgotten d)
 unfolding received
 rested d row p h = either d d.spec.silent (answered (forgotten d) row Nothing p) (rested-row d row p h)
-
-pub others : (d : State) (row : List PortState) (kind : TokenKind) (a e : ℕ) → is_own d (Token kind a e) ≡ false → received d row (Token kind a e) ≡ (None, unread d)
-unfolding received unread
-others d row kind a e h =
-    elim d.spec.silent as (λ s. ◌≡◌ {A = Reply} (if s then (None, d) else answered (forgotten d) row d.memory (Token kind a e)) (None, if s then d else forgotten d)) [ true ↦ refl | false ↦ rw h refl ]
 
 -- ---- SETUP
 
@@ -268,5 +262,3 @@ in_is d row e max loud broken t2 t3 = ap (λ x. acked row max t2 t3 (pair None x
 in_is d row e max loud lost t2 t3 = unanswered row max t2 t3 (forgotten d)
 
 pub ruleset attempts = (setup_is, out_is, in_is)
-
-pub ruleset strangers = (others, rested, unread-rested, silent-stays, silent-unread)

@@ -43,8 +43,8 @@ some_taken most xs m h e =
     let n : length (take most xs) ≡ 0 = ap length e in
     grind (arith, nat_tests, length-take)
 
-law_is : (e most : ℕ) (s : State) → IsSource e most s → (row : List PortState) (max : ℕ) (t2 t3 : Way) → in_law s row e max whole t2 t3 ≡ source_law s most max t2 t3
-law_is e most s i row max t2 t3 =
+pub bulk_law_is : (e most : ℕ) (s : State) → IsSource e most s → (row : List PortState) (max : ℕ) (t2 t3 : Way) → in_law s row e max whole t2 t3 ≡ source_law s most max t2 t3
+bulk_law_is e most s i row max t2 t3 =
     ap (λ z. if z then in_control_law s max t2 t3 else in_other_law s row e max t2 t3) i.not_zero
     ∙ ap (λ z. if z then changes_law s row max t2 t3 else in_bulk_law s e (bulk_of s true) max t2 t3) i.alone
     ∙ ap (λ o. in_bulk_law s e o max t2 t3) i.endpoint
@@ -118,7 +118,7 @@ source_on e most got t s i m at row max broken t2 t3 = at
 source_on e most got t s i m at row max lost t2 t3 = at
 source_on e most got t s i m at row max whole t2 t3 =
     let given = gave s by.Bulk max s.bulk_in.toggle (take most (rest_of s)) t2 t3 in
-    subst (On most got t s max) (sym (law_is e most s i row max t2 t3))
+    subst (On most got t s max) (sym (bulk_law_is e most s i row max t2 t3))
     (by_rest most got t s at max t2 given s.bulk_in.halted (length (rest_of s) == 0) (gave_on e most got t s i m at max t2 t3))
 
 pub ruleset sources = source_on

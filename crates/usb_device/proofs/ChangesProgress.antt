@@ -9,21 +9,18 @@ use Rattle.usb_device.specs.declared.transfer.Giver.TheVariants as by
 use Rattle.usb_device.specs.Bulk.{other, is_same, tells_changes, change_bits}
 use Rattle.usb_device.specs.Rows.{State, Reply, forgotten, payload, acknowledged, bulk_of}
 use Rattle.usb_device.specs.Attempt.{Way, whole, broken, lost, is_whole, heard, gave, held_law, changes_law, in_bulk_law, in_law}
-use Rattle.usb_device.specs.Progress.{PollAt, Passes, level, told, ahead, NeverTold, PollOn}
+use Rattle.usb_device.specs.Progress.{PollAt, level, told, ahead, NeverTold, PollOn}
 use Rattle.usb_device.proofs.BulkProgress.{other_twice}
+use Rattle.usb_device.proofs.ControlProgress.{itself}
 
-same_toggle : (t : Toggle) → is_same t t ≡ true
-same_toggle Zero = refl
-same_toggle One = refl
-
-other_toggle : (t : Toggle) → is_same t (other t) ≡ false
+pub other_toggle : (t : Toggle) → is_same t (other t) ≡ false
 other_toggle Zero = refl
 other_toggle One = refl
 
 no : {A : Type 0} (b : Bool) → b ≡ true → b ≡ false → A
 no b h k = absurd cc
 
-law_is : (s : State) → tells_changes s.spec s.registers ≡ true → (row : List PortState) (max : ℕ) (t2 t3 : Way) → in_law s row 1 max whole t2 t3 ≡ changes_law s row max t2 t3
+pub law_is : (s : State) → tells_changes s.spec s.registers ≡ true → (row : List PortState) (max : ℕ) (t2 t3 : Way) → in_law s row 1 max whole t2 t3 ≡ changes_law s row max t2 t3
 law_is s h row max t2 t3 = ap (λ z. if z then changes_law s row max t2 t3 else in_bulk_law s 1 (bulk_of s true) max t2 t3) h
 
 -- what is so of a reply
@@ -44,7 +41,7 @@ gave_awaited : (Told : ℕ → Type 0) (bits b : ℕ) (t : Toggle) (s : State) �
     → (heard fits came : Bool) → PollOn Told bits t (if heard then Some (payload s.changes.toggle (b ∷ [])) else None) (after_byte s (heard && fits && came))
 gave_awaited Told bits b t s so h q false fits came = told b so h q
 gave_awaited Told bits b t s so h q true fits came =
-    (λ e. record { bits = b; so = so; came = refl; between = between b t s h q (fits && came) }, λ e. no (is_same t s.changes.toggle) (ap (is_same t) q ∙ same_toggle t) e)
+    (λ e. record { bits = b; so = so; came = refl; between = between b t s h q (fits && came) }, λ e. no (is_same t s.changes.toggle) (ap (is_same t) q ∙ itself t) e)
 
 -- ---- a byte with the other one
 
@@ -99,8 +96,3 @@ poll_on Told t s h row so at max m lost t2 t3 = at
 poll_on Told t s h row so at max m whole t2 t3 =
     subst (On Told (change_bits row) t) (sym (law_is s h row max t2 t3))
     (by_halt Told (change_bits row) t s at t2 (held_law s row s.held max t2 t3) (by_held Told t s row so at max t2 t3 s.held refl) s.changes.halted refl)
-
--- of what a test is true of
-pub tested_on : (test : ℕ → Bool) (t : Toggle) (s : State) → tells_changes s.spec s.registers ≡ true → (row : List PortState) → test (change_bits row) ≡ true → PollAt (Passes test) t s
-    → (max : ℕ) → 1 ≤ max → (t1 t2 t3 : Way) → PollOn (Passes test) (change_bits row) t (in_law s row 1 max t1 t2 t3).0 (in_law s row 1 max t1 t2 t3).1
-tested_on test = poll_on (Passes test)

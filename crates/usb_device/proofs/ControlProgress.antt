@@ -1,5 +1,5 @@
 -- How far a control transfer is after one more attempt.
-use Rattle.std.proofs.Common.{◌≡◌, ◌⊎◌, inl, inr, ℕ, ◌+◌, ◌%◌, ◌==◌, nat_le, if◌then◌else◌, ◌&&◌, not, Bool, true, false, List, [], length, Option, None, Some, is_some, refl, ap, sym, subst, ◌∙◌, arith}
+use Rattle.std.proofs.Common.{◌≡◌, ◌⊎◌, inl, inr, ℕ, ◌+◌, ◌%◌, ◌==◌, nat_le, if◌then◌else◌, ◌&&◌, not, Bool, true, false, List, length, Option, None, Some, is_some, refl, ap, sym, subst, ◌∙◌, arith}
 use Rattle.std.proofs.lemmas.Bool.Decides.{nat_tests}
 use Rattle.usb_packet.specs.declared.Toggle.{Toggle}
 use Rattle.usb_packet.specs.declared.Toggle.TheVariants.{Zero, One}
@@ -9,9 +9,9 @@ use Rattle.usb_device.specs.declared.transfer.Giver.TheVariants as by
 use Rattle.usb_port.specs.PortState.{PortState}
 use Rattle.usb_device.specs.Bulk.{is_same}
 use Rattle.usb_device.specs.Transfer.{Stage, reading, max_packet, packet_at, toggle_at}
-use Rattle.usb_device.specs.Rows.{State, Reply, forgotten, is_busy, nak_row, status_row, ack_row}
-use Rattle.usb_device.specs.Attempt.{Way, whole, broken, lost, is_whole, heard, gave, in_stage_law, in_law, out_law}
-use Rattle.usb_device.specs.Progress.{taken_of, ReadingAt, ReadOn, IsRead}
+use Rattle.usb_device.specs.Rows.{State, Reply, forgotten, is_busy, nak_row, ack_row}
+use Rattle.usb_device.specs.Attempt.{Way, whole, broken, lost, is_whole, heard, gave, in_stage_law, in_law}
+use Rattle.usb_device.specs.Progress.{taken_of, ReadingAt, ReadOn}
 
 abbrev at_stage : State → Stage → State
 at_stage d s = record d { stage = s }
@@ -36,7 +36,7 @@ alternate false false h = cc
 turns : (n k : ℕ) → n ≡ k + 1 → is_same (toggle_at n) (toggle_at k) ≡ false
 turns n k e = ap (λ m. is_same (toggle_at m) (toggle_at k)) e ∙ alternate ((k + 1) % 2 == 0) (k % 2 == 0) (opposite k)
 
-itself : (t : Toggle) → is_same t t ≡ true
+pub itself : (t : Toggle) → is_same t t ≡ true
 itself Zero = refl
 itself One = refl
 
@@ -125,25 +125,3 @@ pub control_read : (answer : List ℕ) (wanted n : ℕ) (s : State) → ReadingA
 control_read answer wanted n s at row max t1 t2 t3 =
     standing (λ x. Goes answer wanted n max x (in_law x row 0 max t1 t2 t3)) s (reading answer wanted at.known) at.stage
     (read_in answer wanted n at.known s at.near row max t1 t2 t3)
-
--- ---- the status stage of a control read
-
-abbrev Over : List ℕ → ℕ → ℕ → State → Type 0
-Over answer wanted n s = ReadingAt answer wanted n s ⊎ IsRead s
-
-over_if : (answer : List ℕ) (wanted n k : ℕ) (s : State) → Near answer wanted n k s → (busy : Bool)
-    → Over answer wanted n (forgotten (if busy then nak_row (at_stage s (reading answer wanted k)) else status_row (at_stage s (reading answer wanted k)) One []).1)
-over_if answer wanted n k s near true = inl (stays answer wanted n k (forgotten (nak_row s).1) near)
-over_if answer wanted n k s near false = inr refl
-
-over_out : (answer : List ℕ) (wanted n k : ℕ) (s : State) → Near answer wanted n k s → (through : Bool) (t3 : Way) (reply : Reply) → Over answer wanted n (forgotten reply.1)
-    → Over answer wanted n (if through then pair (heard t3 reply.0) (forgotten reply.1) else pair None (at_stage s (reading answer wanted k))).1
-over_out answer wanted n k s near true t3 reply h = h
-over_out answer wanted n k s near false t3 reply h = inl (stays answer wanted n k s near)
-
-pub read_status : (answer : List ℕ) (wanted n : ℕ) (s : State) → ReadingAt answer wanted n s → (t1 t2 t3 : Way)
-    → ReadingAt answer wanted n (out_law s 0 One [] t1 t2 t3).1 ⊎ IsRead (out_law s 0 One [] t1 t2 t3).1
-read_status answer wanted n s at t1 t2 t3 =
-    let d = at_stage s (reading answer wanted at.known) in
-    standing (λ x. Over answer wanted n (out_law x 0 One [] t1 t2 t3).1) s (reading answer wanted at.known) at.stage
-    (over_out answer wanted n at.known s at.near (is_whole t1 && is_whole t2) t3 (if is_busy s then nak_row d else status_row d One []) (over_if answer wanted n at.known s at.near (is_busy s)))

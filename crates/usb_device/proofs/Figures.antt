@@ -65,7 +65,7 @@ if-spec : (b : Bool) (s : State) (r : Reply) → r.1.spec ≡ s.spec → (if b t
 if-spec true s r h = h
 if-spec false s r h = refl
 
-answer-spec : (q : Sent) (deep : Bool) (s : State) (a : Ports) → (answer_of q deep s a).1.spec ≡ s.spec
+pub answer-spec : (q : Sent) (deep : Bool) (s : State) (a : Ports) → (answer_of q deep s a).1.spec ≡ s.spec
 unfolding answer_of
 answer-spec q deep s a = if-spec (hears q deep s) s (reply_to q.content s (row_of a)) (reply-spec q.content s (row_of a))
 

@@ -3,11 +3,9 @@ use Rattle.std.proofs.Common.{◌≡◌, ◌≤◌, ℕ, [], ◌∷◌, true, �
 use Rattle.std.proofs.lemmas.Bool.Decides.{nat_tests}
 use Rattle.usb_descriptor.specs.Hub.{hub_of}
 use Rattle.usb_device.specs.Spec.{agrees, usual_hub}
+use Rattle.usb_device.proofs.Attempts.{same_number}
 
-same_number : (n : ℕ) → (n == n) ≡ true
-same_number n = grind (arith, nat_tests)
-
-at_least_one : (n : ℕ) → 1 ≤ n → nat_le 1 n ≡ true
+pub at_least_one : (n : ℕ) → 1 ≤ n → nat_le 1 n ≡ true
 at_least_one n h = grind (arith, nat_tests, h)
 
 at_most_seven : (n : ℕ) → n ≤ 7 → nat_le n 7 ≡ true

@@ -168,5 +168,3 @@ unfolding received
 keeps-received d row p =
     let k = keeps-answered (forgotten d) row d.memory p in
     keeps-if p d d.spec.silent (None, d) (answered (forgotten d) row d.memory p) (same p d) (record { spec = k.spec; address = k.address; configuration = k.configuration; sink = k.sink; place = k.place })
-
-pub ruleset keepings = keeps-received

@@ -1,3 +1,4 @@
+pub mod Interface
 pub mod Names
 pub mod Hubs
 pub mod Endpoints
@@ -11,7 +12,6 @@ pub mod Betweens
 pub mod Nodes
 pub mod Marking
 pub mod Figures
-pub mod Views
 pub mod Lent
 pub mod Strays
 pub mod ControlProgress

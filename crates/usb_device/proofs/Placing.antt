@@ -8,7 +8,7 @@ use Rattle.usb_device.proofs.Rows.{row_of-before}
 
 -- ---- a number that is not 0
 
-one_less : (i : ℕ) → (i ≡ 0 → ⊥) → i ≡ suc (i - 1)
+pub one_less : (i : ℕ) → (i ≡ 0 → ⊥) → i ≡ suc (i - 1)
 one_less i h = omega (arith, h)
 
 -- ---- the place at the head, and those behind it

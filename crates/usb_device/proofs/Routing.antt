@@ -5,7 +5,7 @@ use Rattle.usb_device.specs.Tree.{Ports, Place, empty, full, before, changed_at,
 use Rattle.usb_device.specs.Places.{stood, ports_in}
 use Rattle.usb_device.specs.View.{state_in, reach_in}
 use Rattle.usb_device.specs.Route.{holds_by, is_held_at}
-use Rattle.usb_device.proofs.Placing.{changed_at-head, changed_at-tail, changed-path, plugged_at-head, plugged_at-tail, device-path}
+use Rattle.usb_device.proofs.Placing.{changed-path, changed_at-head, changed_at-tail, device-path, one_less, plugged_at-head, plugged_at-tail}
 use Rattle.usb_device.proofs.Rows.{row_of-before}
 use Rattle.usb_device.proofs.Delivering.{both-none}
 
@@ -92,9 +92,6 @@ port_at-out (q ∷ ps) (suc i) h = ap (λ r. slice_get r (suc i)) (row_of-before
 pub ruleset indexing = (changed_at-index, changed_at-out, port_at-index, port_at-out)
 
 -- ---- a number counted from 1
-
-one_less : (n : ℕ) → (n ≡ 0 → ⊥) → n ≡ suc (n - 1)
-one_less n h = omega (arith, h)
 
 pub changed-number : (f : Place → Place) (ps : List Kept) (n : ℕ) (p : List ℕ) (x y : Kept) → (n ≡ 0 → ⊥) → n ≤ length ps → x ≡ slice_index_or ps (n - 1) x → stood y ≡ changed_in f (stood x) p
     → ports_in (slice_set ps (n - 1) y) ≡ changed f (ports_in ps) (n ∷ p)

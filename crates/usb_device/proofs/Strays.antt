@@ -157,7 +157,7 @@ answers-stray q deep (taken b s a k) h = answers-step q deep s a k b.enable h (a
 
 -- ---- a token
 
-or-joined : (x y z : Bool) → (x || (y || z)) ≡ ((x || y) || z)
+pub or-joined : (x y z : Bool) → (x || (y || z)) ≡ ((x || y) || z)
 or-joined true y z = refl
 or-joined false y z = refl
 

@@ -1,7 +1,7 @@
 -- The endpoints of a device besides endpoint 0: which ones there are, their toggles and their halts (5.8, 8.6, 11.12).
 use Rattle.std.specs.Prelude.{ℕ, ◌+◌, ◌-◌, ◌*◌, ◌==◌, nat_lt, nat_le, min, if◌then◌else◌, ◌||◌, ◌&&◌, Bool, true, false, List, [], ◌∷◌, length, take, slice_index, slice_get, not, Option, None, Some, is_some}
-use Rattle.usb_packet.specs.declared.Toggle.{Toggle}
-use Rattle.usb_packet.specs.declared.Toggle.TheVariants.{Zero, One}
+pub use Rattle.usb_packet.specs.Toggles.{other, is_same}
+use Rattle.usb_packet.specs.declared.Toggle.TheVariants.{Zero}
 use Rattle.usb_descriptor.specs.Choice.{bulk_out_of, bulk_in_of}
 use Rattle.usb_device.specs.declared.bulk.Pipe.{Pipe}
 use Rattle.usb_device.specs.declared.bulk.Which.{Which}
@@ -13,16 +13,6 @@ use Rattle.usb_device.specs.Spec.{Spec}
 -- an endpoint as a configuration leaves it
 abbrev pub rested : Pipe
 rested = record { toggle = Zero; halted = false }
-
-abbrev pub other : Toggle → Toggle
-other Zero = One
-other One = Zero
-
-abbrev pub is_same : Toggle → Toggle → Bool
-is_same Zero Zero = true
-is_same One One = true
-is_same Zero One = false
-is_same One Zero = false
 
 -- after a packet that moved
 abbrev pub turned : Pipe → Pipe

@@ -1,6 +1,6 @@
 -- What the host can ask of a port of a hub (11.24), and what is then so of the port.
 use Rattle.std.specs.Prelude.{ℕ, Bool, true, false, ◌==◌, if◌then◌else◌, Option, None, Some}
-use Rattle.usb_port.specs.PortState.{PortState, powered_on, powered_off, reset}
+use Rattle.usb_port.specs.PortState.{PortState, powered_on, reset, disabled, powered_off, connection_cleared, enable_cleared, reset_cleared}
 use Rattle.usb_device.specs.declared.calls.PortCall.{PortCall}
 use Rattle.usb_device.specs.declared.calls.PortCall.TheVariants.{SetPower, SetReset, ClearEnable, ClearPower, ClearConnectionChange, ClearEnableChange, ClearResetChange}
 
@@ -22,11 +22,11 @@ clear_call feature =
 abbrev pub called_port : PortCall → PortState → PortState
 called_port SetPower p = powered_on p
 called_port SetReset p = reset p
-called_port ClearEnable p = record p { enable = false }
+called_port ClearEnable p = disabled p
 called_port ClearPower p = powered_off p
-called_port ClearConnectionChange p = record p { connection_changed = false }
-called_port ClearEnableChange p = record p { enable_changed = false }
-called_port ClearResetChange p = record p { reset_changed = false }
+called_port ClearConnectionChange p = connection_cleared p
+called_port ClearEnableChange p = enable_cleared p
+called_port ClearResetChange p = reset_cleared p
 
 abbrev pub is_reset : PortCall → Bool
 is_reset SetReset = true

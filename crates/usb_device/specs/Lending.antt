@@ -24,9 +24,6 @@ with_device_on t n d = record t { ports = changed (holding d) t.ports (n ∷ [])
 abbrev pub LendsPlace : MutBor Ports → ℕ → MutBor (Option Plugged) → Fml
 LendsPlace k i r = Lends ports_row (option_row device_row) k r (with_device k.now i)
 
-abbrev pub LendsPlaceOf : MutBor Plugged → ℕ → MutBor (Option Plugged) → Fml
-LendsPlaceOf t n r = Lends device_row (option_row device_row) t r (with_device_on t.now n)
-
 -- a place ends with what was last written behind r
 abbrev pub LendsInner : MutBor (Option Plugged) → MutBor Plugged → Fml
 LendsInner d r = option_follows_value device_row d r

@@ -7,6 +7,7 @@ pub mod Rows
 pub mod Effect
 pub mod Tree
 pub mod Stored
+pub mod Passing
 pub mod Places
 pub mod Delivery
 pub mod Marks

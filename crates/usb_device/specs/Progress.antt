@@ -1,6 +1,6 @@
 -- How far a transfer is, as the host's end and the device's end see it: level, or the host one packet ahead where the device did
 -- not see its last ACK, or the device one ahead where the host did not see its own (8.6).
-use Rattle.std.specs.Prelude.{◌≡◌, ◌≢◌, ◌⊎◌, ℕ, ◌+◌, ◌<◌, ◌==◌, nat_le, ◌&&◌, Bool, true, false, if◌then◌else◌, List, [], ◌∷◌, ◌++◌, length, take, drop, Option, None, Some, is_some}
+use Rattle.std.specs.Prelude.{◌≡◌, ◌≢◌, ◌⊎◌, ℕ, ◌+◌, ◌<◌, ◌==◌, nat_le, ◌&&◌, true, false, if◌then◌else◌, List, [], ◌∷◌, ◌++◌, length, take, drop, Option, None, Some, is_some}
 use Rattle.usb_packet.specs.declared.Toggle.{Toggle}
 use Rattle.usb_device.specs.declared.answer.Answer.{Answer}
 use Rattle.usb_device.specs.declared.answer.Answer.TheVariants.{Ack, Nak, Stall, Data}
@@ -96,10 +96,6 @@ pub data PollAt (Told : ℕ → Type 0) (t : Toggle) (s : State) : Type 0 where
   level : s.held ≡ None → s.changes.toggle ≡ t → PollAt Told t s
   told : (bits : ℕ) → Told bits → s.held ≡ Some bits → s.changes.toggle ≡ t → PollAt Told t s
   ahead : (bits : ℕ) → s.held ≡ Some bits → s.changes.toggle ≡ other t → PollAt Told t s
-
--- what a test is true of
-abbrev pub Passes : (ℕ → Bool) → ℕ → Type 0
-Passes test bits = test bits ≡ true
 
 -- between two polls of which none failed
 abbrev pub NeverTold : ℕ → Type 0

@@ -7,7 +7,8 @@ use crate::device::Device;
 use crate::ports::{Place, Ports};
 
 impl Ports {
-    /// The end of an attempt: every device forgets a token that waits for data and data that wait for an ACK.
+    /// The end of an attempt: every device forgets a token that waits for data and data that wait
+    /// for an ACK.
     #[cycle(over)]
     #[tactic(auto, using(crate::proofs::Betweens::betweens))]
     pub fn attempt_over(&mut self)
@@ -63,8 +64,8 @@ fn loses_at(place: &Place) -> bool
 }
 
 impl Device {
-    /// The end of an attempt, for the device and all below it: a token that waits for data and data that wait for an ACK
-    /// are forgotten.
+    /// The end of an attempt, for the device and all below it: a token that waits for data and data
+    /// that wait for an ACK are forgotten.
     #[cycle(over)]
     pub fn attempt_over(&mut self)
         ensures { self.new ≡ forgotten_whole self.old }

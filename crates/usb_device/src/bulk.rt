@@ -1,8 +1,8 @@
-//! The endpoints of a device besides endpoint 0 (5.8, 11.12): which ones there are, their toggles and their halts.
+//! The endpoints of a device besides endpoint 0 (5.8, 11.12): which ones there are, their toggles
+//! and their halts.
 ghost use Rattle.std.specs.Prelude.{◌≡◌, ◌≤◌, length};
 ghost use Rattle.std.specs.Option.{IfSome};
 ghost use Rattle.usb_descriptor.specs.Choice.{IsUsable};
-ghost use Rattle.usb_device.specs.Spec.{Spec};
 ghost use Rattle.usb_device.specs.Bulk.{other, is_same, turned, halted, count_down, is_last, text_with, total_of, bulk_in, bulk_at, is_end, served, advanced, tells_changes};
 
 use crate::lists::Bytes;
@@ -34,22 +34,10 @@ pub enum Which {
     Changes,
 }
 
-fn other(toggle: Toggle) -> Toggle
-    ensures { result ≡ other toggle }
-{
-    match toggle {
-        Toggle::Zero => Toggle::One,
-        Toggle::One => Toggle::Zero,
-    }
-}
-
 pub fn is_same(a: Toggle, b: Toggle) -> bool
     ensures { result ≡ is_same a b }
 {
-    match (a, b) {
-        (Toggle::Zero, Toggle::Zero) | (Toggle::One, Toggle::One) => true,
-        (Toggle::Zero, Toggle::One) | (Toggle::One, Toggle::Zero) => false,
-    }
+    a.is_same(b)
 }
 
 /// The endpoint after a packet that moved.
@@ -57,7 +45,7 @@ pub fn turned(pipe: Pipe) -> Pipe
     ensures { result ≡ turned pipe }
 {
     Pipe {
-        toggle: other(pipe.toggle),
+        toggle: pipe.toggle.other(),
         halted: pipe.halted,
     }
 }

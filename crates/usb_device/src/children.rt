@@ -11,7 +11,8 @@ use crate::device::Device;
 use crate::ports::Ports;
 
 impl Ports {
-    /// What is on a port, counted from 0, to write to. The port keeps its bits, whatever is written.
+    /// What is on a port, counted from 0, to write to. The port keeps its bits, whatever is
+    /// written.
     fn place_mut(&mut self, i: usize) -> &mut Option<Device>
         requires { i < length (row_of self.old) }
         ensures* lends { sem 𝓛 (LendsPlace self.entry i result) }
@@ -43,25 +44,29 @@ pub trait Parent {
     fn has_child(&self, port: u8) -> bool
         ensures { result ≡ is_some (child_on self.now port) };
 
-    /// What is on a port where a device is, to write to. The port keeps its bits, whatever is written.
+    /// What is on a port where a device is, to write to. The port keeps its bits, whatever is
+    /// written.
     fn place_of(&mut self, port: u8) -> &mut Option<Device>
         requires { IsSome (child_on self.old port) }
-        ensures* lends { sem 𝓛 (Lends Self.row (option_row device_row) self.entry result (with_on self.old port)) }
+        ensures* lends { sem 𝓛 (Lends Self.row (option_row device_row) self.entry result
+            (with_on self.old port)) }
         ensures value { result.now ≡ child_on self.old port };
 
     /// The device on a port where one is, to write to.
     final fn taken_mut(&mut self, port: u8) -> &mut Device
         requires { IsSome (child_on self.old port) }
-        ensures* lends { sem 𝓛 (Lends Self.row device_row self.entry result (λ w. with_on self.old port (Some w))) }
+        ensures* lends { sem 𝓛 (Lends Self.row device_row self.entry result
+            (λ w. with_on self.old port (Some w))) }
         ensures value { child_on self.old port ≡ Some result.now }
     {
         taken(self.place_of(port))
     }
 
-    /// The device on a port, by its number, counted from 1, to write to; None where nothing is. The port keeps its bits,
-    /// whatever is written.
+    /// The device on a port, by its number, counted from 1, to write to; None where nothing is. The
+    /// port keeps its bits, whatever is written.
     final fn child_mut(&mut self, port: u8) -> Option<&mut Device>
-        ensures* lends { sem 𝓛 (LendsIf Self.row device_row self.entry result (λ w. with_on self.old port (Some w)) self.old) }
+        ensures* lends { sem 𝓛 (LendsIf Self.row device_row self.entry result
+            (λ w. with_on self.old port (Some w)) self.old) }
         ensures value { option_copied_mut result ≡ child_on self.old port }
     {
         if self.has_child(port) {

@@ -4,16 +4,17 @@ ghost use Rattle.usb_device.specs.Places.{ports_in};
 ghost use Rattle.usb_device.specs.Delivery.{effect_of, is_clearing, asks_clearing, clears_change, clears_whole, clears_in};
 
 use crate::calls::PortCall;
-use crate::delivery::{Content, Sent, is_heard};
+use crate::delivery::is_heard;
 use crate::device::Device;
 use crate::effect::Effect;
+use crate::passing::Passing;
 use crate::ports::{Place, Ports};
 
 impl Ports {
-    /// Whether a device that a packet reaches clears a change of connection at one of its ports (11.24.2.2): it has heard
-    /// the SETUP token, and the packet is the data of ClearPortFeature of C_PORT_CONNECTION. It is asked before the packet
-    /// is delivered.
-    pub fn clears_change(&self, sent: &Sent) -> bool
+    /// Whether a device that a packet reaches clears a change of connection at one of its ports
+    /// (11.24.2.2): it has heard the SETUP token, and the packet is the data of ClearPortFeature of
+    /// C_PORT_CONNECTION. It is asked before the packet is delivered.
+    pub fn clears_change(&self, sent: &Passing<'_>) -> bool
         ensures { result ≡ clears_change sent.now false self.now }
     {
         self.clears(sent, false)
@@ -21,7 +22,7 @@ impl Ports {
 
     #[cycle(clearing)]
     #[tactic(auto, using(crate::proofs::Betweens::betweens))]
-    fn clears(&self, sent: &Sent, deep: bool) -> bool
+    fn clears(&self, sent: &Passing<'_>, deep: bool) -> bool
         ensures { result ≡ clears_change sent.now deep self.now }
     {
         !self.places.is_empty() && any_clears(self.places.as_slice(), sent, deep)
@@ -30,7 +31,7 @@ impl Ports {
 
 #[cycle(clearing)]
 #[tactic(auto, using(crate::proofs::Betweens::betweens))]
-fn any_clears(places: &[Place], sent: &Sent, deep: bool) -> bool
+fn any_clears(places: &[Place], sent: &Passing<'_>, deep: bool) -> bool
     ensures { result ≡ clears_change sent.now deep (ports_in places.now) }
 {
     match places.split_first() {
@@ -41,7 +42,7 @@ fn any_clears(places: &[Place], sent: &Sent, deep: bool) -> bool
 
 impl Place {
     #[cycle(clearing)]
-    fn clears(&self, sent: &Sent, deep: bool) -> bool
+    fn clears(&self, sent: &Passing<'_>, deep: bool) -> bool
         ensures { result ≡ clears_in sent.now deep self.now.port self.now.device }
     {
         match &self.device {
@@ -53,7 +54,7 @@ impl Place {
 
 impl Device {
     #[cycle(clearing)]
-    fn clears(&self, sent: &Sent, deep: bool) -> bool
+    fn clears(&self, sent: &Passing<'_>, deep: bool) -> bool
         ensures { result ≡ clears_whole sent.now deep self.now }
     {
         is_clearing(self.effect(sent, deep)) || self.ports.clears(sent, true)
@@ -61,11 +62,11 @@ impl Device {
 
     /// What the device itself asks of its ports at a packet.
     #[tactic(auto, unfolding(crate::specs::Delivery::effect_of))]
-    pub(crate) fn effect(&self, sent: &Sent, deep: bool) -> Effect
+    pub(crate) fn effect(&self, sent: &Passing<'_>, deep: bool) -> Effect
         ensures { result ≡ effect_of sent.now deep self.now.own }
     {
-        match &sent.content {
-            Content::Whole(packet) if is_heard(sent, deep, self.is_low()) => self.own.asks(packet),
+        match sent.packet() {
+            Some(packet) if is_heard(sent, deep, self.is_low()) => self.own.asks(packet),
             _ => Effect::Leaves,
         }
     }

@@ -1,5 +1,7 @@
 //! A packet on its way through the tree of devices (8.6.5, 11.8.4).
 ghost use Rattle.std.specs.Prelude.{◌≡◌, false, true, IfOk, OnOk, OnErr};
+ghost use Rattle.std.specs.Option.{option_copied};
+ghost use Rattle.usb_device.specs.Passing.{content_of};
 ghost use Rattle.usb_device.specs.Tree.{row_of};
 ghost use Rattle.usb_device.specs.Places.{ports_in, stood};
 ghost use Rattle.usb_device.specs.Stopped.{Stopped, StoppedDevice, StoppedPlace, IsRefused, IsRefusedContent};
@@ -7,6 +9,7 @@ ghost use Rattle.usb_device.specs.Delivery.{Carries, is_heard, heard_from, both,
 
 use crate::answer::Answer;
 use crate::device::Device;
+use crate::passing::Passing;
 use crate::ports::{Place, Ports};
 use std::alloc::AllocError;
 use usb_packet::{Packet, decode};
@@ -59,31 +62,33 @@ fn join(heard: &mut Heard, answer: Option<Answer>)
     ensures { heard.new ≡ both heard.old (heard_from answer) }
 {
     if let Some(answer) = answer {
-        *heard = match heard {
-            Heard::NoAnswer => Heard::One(answer),
-            Heard::One(_) | Heard::Collision => Heard::Collision,
-        };
+        match heard {
+            Heard::NoAnswer => *heard = Heard::One(answer),
+            Heard::One(_) | Heard::Collision => *heard = Heard::Collision,
+        }
     }
 }
 
-/// Whether a device of a speed hears a packet, which is `deep` where it stands on a port of a hub: there it hears
-/// low-speed packets only with PRE.
-pub(crate) fn is_heard(sent: &Sent, deep: bool, low: bool) -> bool
+/// Whether a device of a speed hears a packet, which is `deep` where it stands on a port of a hub:
+/// there it hears low-speed packets only with PRE.
+pub(crate) fn is_heard(sent: &Passing<'_>, deep: bool, low: bool) -> bool
     ensures { result ≡ is_heard sent.now deep low }
 {
-    if sent.low {
-        low && (!deep || sent.pre)
+    if sent.is_low() {
+        low && (!deep || sent.has_pre())
     } else {
         !low
     }
 }
 
 impl Ports {
-    /// A packet goes down the tree, through the enabled ports, and what is heard of the answers comes back. A device on one
-    /// of these ports hears low-speed packets; one below hears them only with PRE.
+    /// A packet goes down the tree, through the enabled ports, and what is heard of the answers
+    /// comes back. A device on one of these ports hears low-speed packets; one below hears them
+    /// only with PRE.
     ///
-    /// An error: memory is refused for a sink that was to grow. The devices in front of it and below it had the packet; it
-    /// and those behind it had not. The same devices stand at the same ports, and the ports of the row itself are as they were.
+    /// An error: memory is refused for a sink that was to grow. The devices in front of it and
+    /// below it had the packet; it and those behind it had not. The same devices stand at the same
+    /// ports, and the ports of the row itself are as they were.
     pub fn deliver(&mut self, sent: &Sent) -> Result<Heard, AllocError>
         ensures ok { IfOk result (λ heard. (heard, self.new) ≡ delivered sent.now false self.old) }
         ensures err { OnErr result (figure self.new ≡ figure self.old) }
@@ -91,13 +96,15 @@ impl Ports {
         ensures stopped { OnErr result (Stopped sent.now false self.old self.new) }
     {
         let mut heard = Heard::NoAnswer;
-        self.deliver_after(sent, &mut heard)?;
+        self.deliver_after(&Passing::of(sent), &mut heard)?;
         Ok(heard)
     }
 
-    /// The same behind another packet, of which something may have been heard: what is heard of this one joins it.
-    pub fn deliver_after(&mut self, sent: &Sent, heard: &mut Heard) -> Result<(), AllocError>
-        ensures ok { OnOk result ((heard.new, self.new) ≡ joined heard.old (delivered sent.now false self.old)) }
+    /// The same behind another packet, of which something may have been heard: what is heard of
+    /// this one joins it.
+    pub fn deliver_after(&mut self, sent: &Passing<'_>, heard: &mut Heard) -> Result<(), AllocError>
+        ensures ok { OnOk result ((heard.new, self.new)
+            ≡ joined heard.old (delivered sent.now false self.old)) }
         ensures err { OnErr result (figure self.new ≡ figure self.old) }
         ensures row { row_of self.new ≡ row_of self.old }
         ensures stopped { OnErr result (Stopped sent.now false self.old self.new) }
@@ -107,8 +114,9 @@ impl Ports {
 
     #[cycle(deliver)]
     #[tactic(auto, using(crate::proofs::Delivering::delivering))]
-    fn pass(&mut self, sent: &Sent, deep: bool, heard: &mut Heard) -> Result<(), AllocError>
-        ensures ok { OnOk result ((heard.new, self.new) ≡ joined heard.old (delivered sent.now deep self.old)) }
+    fn pass(&mut self, sent: &Passing<'_>, deep: bool, heard: &mut Heard) -> Result<(), AllocError>
+        ensures ok { OnOk result ((heard.new, self.new)
+            ≡ joined heard.old (delivered sent.now deep self.old)) }
         ensures err { OnErr result (figure self.new ≡ figure self.old) }
         ensures row { row_of self.new ≡ row_of self.old }
         ensures stopped { OnErr result (Stopped sent.now deep self.old self.new) }
@@ -124,14 +132,16 @@ impl Ports {
 #[tactic(auto, using(crate::proofs::Delivering::delivering, crate::proofs::Figures::figures, crate::proofs::Rows::rows))]
 fn deliver_all(
     places: &mut [Place],
-    sent: &Sent,
+    sent: &Passing<'_>,
     deep: bool,
     heard: &mut Heard,
 ) -> Result<(), AllocError>
-    ensures ok { OnOk result ((heard.new, ports_in places.new) ≡ joined heard.old (delivered sent.now deep (ports_in places.old))) }
+    ensures ok { OnOk result ((heard.new, ports_in places.new)
+        ≡ joined heard.old (delivered sent.now deep (ports_in places.old))) }
     ensures err { OnErr result (figure (ports_in places.new) ≡ figure (ports_in places.old)) }
     ensures row { row_of (ports_in places.new) ≡ row_of (ports_in places.old) }
-    ensures stopped { OnErr result (Stopped sent.now deep (ports_in places.old) (ports_in places.new)) }
+    ensures stopped { OnErr result
+        (Stopped sent.now deep (ports_in places.old) (ports_in places.new)) }
 {
     match places.split_first_mut() {
         None => Ok(()),
@@ -144,11 +154,18 @@ fn deliver_all(
 
 impl Place {
     #[cycle(deliver)]
-    fn deliver(&mut self, sent: &Sent, deep: bool, heard: &mut Heard) -> Result<(), AllocError>
-        ensures ok { OnOk result ((heard.new, stood self.new) ≡ joined heard.old (delivered_place sent.now deep (stood self.old))) }
+    fn deliver(
+        &mut self,
+        sent: &Passing<'_>,
+        deep: bool,
+        heard: &mut Heard,
+    ) -> Result<(), AllocError>
+        ensures ok { OnOk result ((heard.new, stood self.new)
+            ≡ joined heard.old (delivered_place sent.now deep (stood self.old))) }
         ensures err { OnErr result (figure_in (stood self.new) ≡ figure_in (stood self.old)) }
         ensures port { self.new.port ≡ self.old.port }
-        ensures stopped { OnErr result (StoppedPlace sent.now deep (stood self.old) (stood self.new)) }
+        ensures stopped { OnErr result
+            (StoppedPlace sent.now deep (stood self.old) (stood self.new)) }
     {
         match &mut self.device {
             Some(device) if self.port.is_enabled() => device.deliver(sent, deep, heard),
@@ -158,11 +175,18 @@ impl Place {
 }
 
 impl Device {
-    /// The devices below come first, by the enables as they stood, then the device itself, then what it asks of its ports.
+    /// The devices below come first, by the enables as they stood, then the device itself, then
+    /// what it asks of its ports.
     #[cycle(deliver)]
     #[tactic(auto, using(crate::proofs::Delivering::delivering, crate::proofs::Figures::figures))]
-    fn deliver(&mut self, sent: &Sent, deep: bool, heard: &mut Heard) -> Result<(), AllocError>
-        ensures ok { OnOk result ((heard.new, self.new) ≡ joined heard.old (delivered_device sent.now deep self.old)) }
+    fn deliver(
+        &mut self,
+        sent: &Passing<'_>,
+        deep: bool,
+        heard: &mut Heard,
+    ) -> Result<(), AllocError>
+        ensures ok { OnOk result ((heard.new, self.new)
+            ≡ joined heard.old (delivered_device sent.now deep self.old)) }
         ensures err { OnErr result (figure_of self.new ≡ figure_of self.old) }
         ensures stopped { OnErr result (StoppedDevice sent.now deep self.old self.new) }
     {
@@ -173,34 +197,39 @@ impl Device {
     #[tactic(auto, unfolding(crate::specs::Delivery::answer_of, crate::specs::Delivery::effect_of), using(crate::proofs::Delivering::strays))]
     pub(crate) fn take_sent(
         &mut self,
-        sent: &Sent,
+        sent: &Passing<'_>,
         deep: bool,
         heard: &mut Heard,
     ) -> Result<(), AllocError>
-        ensures ok { OnOk result ((heard.new, self.new) ≡ with_answer heard.old (taken_sent sent.now deep self.old)) }
+        ensures ok { OnOk result ((heard.new, self.new)
+            ≡ with_answer heard.old (taken_sent sent.now deep self.old)) }
         ensures err { OnErr result (self.new ≡ self.old) }
         ensures refused { OnErr result (IsRefused sent.now deep self.old.own) }
     {
         if is_heard(sent, deep, self.is_low()) {
-            self.take_content(&sent.content, heard)
+            self.take_read(sent.packet(), heard)
         } else {
             Ok(())
         }
     }
 
-    /// A packet that is for another device, and one that cannot be read, only end what the device remembers.
+    /// A packet that is for another device, and one that cannot be read, only end what the device
+    /// remembers.
     #[tactic(auto, using(crate::proofs::Delivering::strays))]
-    fn take_content(&mut self, content: &Content, heard: &mut Heard) -> Result<(), AllocError>
-        ensures ok { OnOk result ((heard.new, self.new) ≡ with_answer heard.old (taken_content content.now self.old)) }
+    fn take_read(&mut self, packet: Option<&Packet>, heard: &mut Heard) -> Result<(), AllocError>
+        ensures ok { OnOk result ((heard.new, self.new) ≡ with_answer heard.old
+            (taken_content (content_of (option_copied packet.entry)) self.old)) }
         ensures err { OnErr result (self.new ≡ self.old) }
-        ensures refused { OnErr result (IsRefusedContent content.now self.old.own) }
+        ensures refused { OnErr result
+            (IsRefusedContent (content_of (option_copied packet.entry)) self.old.own) }
     {
-        match content {
-            Content::Whole(packet) if self.own.is_for(packet) => {
-                let answer = self.take(packet)?;
+        match packet {
+            Some(packet) if self.own.is_for(packet) => {
+                let mut answer = None;
+                self.take(packet, &mut answer)?;
                 join(heard, answer);
             }
-            Content::Whole(_) | Content::Broken => self.own.unread(),
+            _ => self.own.unread(),
         }
         Ok(())
     }

@@ -1,5 +1,5 @@
 //! A plugged device with all that is plugged below it.
-ghost use Rattle.std.specs.Prelude.{◌≡◌, ◌≤◌, length, None, IfOk, OnErr, true, is_some, option_map};
+ghost use Rattle.std.specs.Prelude.{◌≡◌, ◌≤◌, length, None, IfOk, OnOk, OnErr, true, is_some, option_map};
 ghost use Rattle.std.specs.Option.{option_copied};
 ghost use Rattle.usb_port.specs.PortState.{status_of};
 ghost use Rattle.usb_device.specs.Rows.{sink_grows, awaits_address};
@@ -16,7 +16,8 @@ use std::alloc::{AllocError, Global};
 use std::marker::Model;
 use usb_packet::{Packet, decode};
 
-/// A plugged device, with the devices on its ports: it takes one packet after the other, and answers some of them (8.5).
+/// A plugged device, with the devices on its ports: it takes one packet after the other, and
+/// answers some of them (8.5).
 #[cycle(tree)]
 #[derive(Drop)]
 pub struct Device {
@@ -51,7 +52,8 @@ fn first_ports(alloc: Global, spec: &DeviceSpec) -> Result<Ports, AllocError>
 }
 
 impl Device {
-    /// A device that was just plugged, with a copy of its description; its ports are off. An error: memory is refused.
+    /// A device that was just plugged, with a copy of its description; its ports are off. An error:
+    /// memory is refused.
     pub fn new(alloc: Global, spec: &DeviceSpec) -> Result<Self, AllocError>
         ensures { IfOk result (λ d. d ≡ new_device spec.now) }
     {
@@ -82,7 +84,8 @@ impl Device {
         self.own.sink()
     }
 
-    /// Whether it gave the status stage of SET_ADDRESS, and takes its address at the host's ACK (9.4.6).
+    /// Whether it gave the status stage of SET_ADDRESS, and takes its address at the host's ACK
+    /// (9.4.6).
     pub fn awaits_address(&self) -> bool
         ensures { result ≡ awaits_address self.now.own }
     {
@@ -96,8 +99,9 @@ impl Device {
         self.own.is_low()
     }
 
-    /// A bus reset (9.1.1.3): the device has no address, no configuration and no transfer, and all its ports are off. What
-    /// its bulk OUT endpoint has taken stays, and so do its place in its source and the count until it halts.
+    /// A bus reset (9.1.1.3): the device has no address, no configuration and no transfer, and all
+    /// its ports are off. What its bulk OUT endpoint has taken stays, and so do its place in its
+    /// source and the count until it halts.
     pub fn reset(&mut self)
         ensures { self.new ≡ reset_whole self.old }
     {
@@ -105,15 +109,20 @@ impl Device {
         self.ports.turn_off();
     }
 
-    /// One packet in, its answer out (8.5.3), if there is one; the devices below do not get it. Bytes that spell no packet
-    /// have no answer. It wants memory only where a packet joins the sink. An error: memory is refused, and nothing changes.
+    /// One packet in, its answer out (8.5.3), if there is one; the devices below do not get it.
+    /// Bytes that spell no packet have no answer. It wants memory only where a packet joins the
+    /// sink. An error: memory is refused, and nothing changes.
     pub fn receive(&mut self, bytes: &[u8]) -> Result<Option<ArrayVec<u8, 67>>, AllocError>
         ensures answer { IfOk result (λ answer. Receives bytes.now self.old answer self.new) }
         ensures refused { OnErr result (self.new ≡ self.old) }
         ensures grows { OnErr result (GrowsBy bytes.now self.old) }
     {
         match decode(bytes) {
-            Ok(packet) => Ok(spelled(self.take(&packet)?)),
+            Ok(packet) => {
+                let mut answer = None;
+                self.take(&packet, &mut answer)?;
+                Ok(spelled(answer))
+            }
             Err(_) => {
                 self.own.unread();
                 Ok(None)
@@ -121,16 +130,20 @@ impl Device {
         }
     }
 
-    /// A packet at the device itself.
-    pub(crate) fn take(&mut self, packet: &Packet) -> Result<Option<Answer>, AllocError>
-        ensures answer { IfOk result (λ answer. (answer, self.new) ≡ received_by self.old packet.now) }
+    /// A packet at the device itself; what it answers is put into `answer`.
+    pub(crate) fn take(
+        &mut self,
+        packet: &Packet,
+        answer: &mut Option<Answer>,
+    ) -> Result<(), AllocError>
+        ensures answer { OnOk result ((answer.new, self.new) ≡ received_by self.old packet.now) }
         ensures refused { OnErr result (self.new ≡ self.old) }
         ensures grows { OnErr result (sink_grows self.old.own packet.now ≡ true) }
     {
         let effect = self.own.asks(packet);
-        let answer = self.own.received(&self.ports, packet)?;
+        self.own.received(&self.ports, packet, answer)?;
         self.act(effect);
-        Ok(answer)
+        Ok(())
     }
 
     fn act(&mut self, effect: Effect)
@@ -143,9 +156,11 @@ impl Device {
         }
     }
 
-    /// The status and the changes of a port (11.24.2.7), by its number, counted from 1; None where there is none.
+    /// The status and the changes of a port (11.24.2.7), by its number, counted from 1; None where
+    /// there is none.
     pub fn port_bytes(&self, port: u8) -> Option<[u8; 4]>
-        ensures { option_map (λ bytes. bytes) result ≡ option_map status_of (numbered (row_of self.now.ports) port) }
+        ensures { option_map (λ bytes. bytes) result
+            ≡ option_map status_of (numbered (row_of self.now.ports) port) }
     {
         match self.ports.port(port) {
             Some(port) => Some(port.status()),

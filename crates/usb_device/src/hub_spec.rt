@@ -14,8 +14,8 @@ pub fn has_hub_class(descriptor: &[u8]) -> bool
     descriptor.get(4) == Some(&9)
 }
 
-/// The ports of a hub, 1 to 7, and its hub descriptor (11.23.2.1), which can be any bytes; but where its first 9 bytes
-/// are the descriptor of a hub, that hub has so many ports.
+/// The ports of a hub, 1 to 7, and its hub descriptor (11.23.2.1), which can be any bytes; but
+/// where its first 9 bytes are the descriptor of a hub, that hub has so many ports.
 #[derive(Debug, Drop)]
 pub struct HubSpec {
     ports: u8,
@@ -34,8 +34,8 @@ impl Model for HubSpec {
 }
 
 impl HubSpec {
-    /// Whether a hub with so many ports can have this hub descriptor: its first 9 bytes are no descriptor of a hub, or of
-    /// one with so many ports.
+    /// Whether a hub with so many ports can have this hub descriptor: its first 9 bytes are no
+    /// descriptor of a hub, or of one with so many ports.
     pub fn agrees(ports: u8, descriptor: &[u8]) -> bool
         ensures { result ≡ agrees ports descriptor.now }
     {
@@ -56,8 +56,8 @@ impl HubSpec {
         HubSpec { ports, descriptor }
     }
 
-    /// A hub with 1 to 7 ports that are switched one by one, and the hub descriptor that says so. An error: memory is
-    /// refused.
+    /// A hub with 1 to 7 ports that are switched one by one, and the hub descriptor that says so.
+    /// An error: memory is refused.
     #[tactic(auto, using(crate::proofs::Hubs::usual))]
     pub fn usual(alloc: Global, ports: u8) -> Result<Self, AllocError>
         requires least { 1 ≤ ports }

@@ -120,7 +120,8 @@ impl<const COUNT: usize, const MAX: usize> Model for Texts<COUNT, MAX> {
 
     ghost view = { λ t. t.texts.items };
 
-    ghost invariant = { λ t. (length t.texts.items ≤ COUNT) × All (λ text. length text ≤ MAX) t.texts.items };
+    ghost invariant = { λ t. (length t.texts.items ≤ COUNT)
+        × All (λ text. length text ≤ MAX) t.texts.items };
 }
 
 impl<const COUNT: usize, const MAX: usize> Texts<COUNT, MAX> {
@@ -180,7 +181,8 @@ impl<const COUNT: usize, const MAX: usize> Texts<COUNT, MAX> {
     }
 }
 
-/// The texts of the configurations of a device (9.6.3), by their index: at most 8 of at most 65,535 bytes.
+/// The texts of the configurations of a device (9.6.3), by their index: at most 8 of at most 65,535
+/// bytes.
 pub type ConfigTexts = Texts<8, 65535>;
 
 /// The string descriptors of a device (9.6.7), by their index: at most 256 of at most 255 bytes.

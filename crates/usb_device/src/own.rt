@@ -23,8 +23,9 @@ use std::marker::Model;
 use usb_packet::{Packet, Toggle, TokenKind};
 use usb_request::Setup;
 
-/// A plugged device, without its ports: it takes one packet after the other, and answers some of them (8.5). It has
-/// endpoint 0, a bulk endpoint for each direction where its configuration describes one, and IN 1 where it is a hub.
+/// A plugged device, without its ports: it takes one packet after the other, and answers some of
+/// them (8.5). It has endpoint 0, a bulk endpoint for each direction where its configuration
+/// describes one, and IN 1 where it is a hub.
 #[derive(Drop)]
 pub struct Own {
     spec: DeviceSpec,
@@ -97,7 +98,8 @@ fn reading(source: Source, wanted: u16) -> Progress
 
 /// Where a transfer stands that a request begins.
 fn first_progress(ports: &Ports, wanted: u16, reaction: Reaction) -> Progress
-    ensures { (s : Spec) → stage_of s result ≡ first_stage (row_of ports.now) wanted (meaning_of s reaction) }
+    ensures { (s : Spec) → stage_of s result
+        ≡ first_stage (row_of ports.now) wanted (meaning_of s reaction) }
 {
     match reaction {
         Reaction::Refuse => Progress::Refused,
@@ -134,7 +136,7 @@ fn awaits_ack(memory: Memory) -> bool
 
 impl Own {
     ghost use Rattle.usb_device.specs.Stray.{is_for};
-    ghost use Rattle.std.specs.Prelude.{IfOk, OnErr, true, false, [], ◌∷◌};
+    ghost use Rattle.std.specs.Prelude.{IfOk, OnOk, OnErr, true, false, [], ◌∷◌};
     ghost use Rattle.usb_device.specs.declared.transfer.Giver.TheVariants as by;
     ghost use Rattle.usb_device.specs.Effect.{asks, asked_by_data, asked_by_setup};
     ghost use Rattle.usb_device.specs.Rows.{State, received, unread, forgotten, awaits_address, fresh, reset_state, accepted, begun, is_busy, nak_row, gives, in_row, status_row, out_row, ack_row, token_row, setup_row, payload_row, answered, unless_busy, pipe_of, with_pipe, bulk_of, rest_of, source_row, bulk_ack_row, acknowledged, sink_row, sinks, in_bulk_row, out_bulk_row, bulk_sinks, data_row, payload_sinks, sink_grows, is_other_out, after_memory, with_endpoints, in_other_row, changes_row, new_changes_row};
@@ -188,7 +190,8 @@ impl Own {
         self.spec.is_low()
     }
 
-    /// Whether it gave the status stage of SET_ADDRESS, and takes its address at the host's ACK (9.4.6).
+    /// Whether it gave the status stage of SET_ADDRESS, and takes its address at the host's ACK
+    /// (9.4.6).
     #[tactic(auto, unfolding(crate::specs::Rows::awaits_address))]
     pub fn awaits_address(&self) -> bool
         ensures { result ≡ awaits_address self.now }
@@ -202,8 +205,9 @@ impl Own {
         )
     }
 
-    /// A bus reset (9.1.1.3): the device has no address, no configuration and no transfer. What its bulk OUT endpoint has
-    /// taken stays, and so do its place in its source and the count until it halts.
+    /// A bus reset (9.1.1.3): the device has no address, no configuration and no transfer. What its
+    /// bulk OUT endpoint has taken stays, and so do its place in its source and the count until it
+    /// halts.
     #[tactic(auto, unfolding(crate::specs::Rows::reset_state))]
     pub fn reset(&mut self)
         ensures { self.new ≡ reset_state self.old }
@@ -215,7 +219,8 @@ impl Own {
         self.held = None;
     }
 
-    /// The end of an attempt: a token that waits for data and data that wait for an ACK are forgotten.
+    /// The end of an attempt: a token that waits for data and data that wait for an ACK are
+    /// forgotten.
     pub fn attempt_over(&mut self)
         ensures { self.new ≡ forgotten self.old }
     {
@@ -250,37 +255,42 @@ impl Own {
         }
     }
 
-    /// A packet at the device, by what its ports tell. An error: memory is refused for a packet that joins the sink, and
-    /// nothing changes.
+    /// A packet at the device, by what its ports tell; what it answers is put into `answer`. An error: memory is refused for
+    /// a packet that joins the sink, and the device is as it was.
     #[tactic(auto, unfolding(crate::specs::Rows::received))]
-    pub fn received(&mut self, ports: &Ports, packet: &Packet) -> Result<Option<Answer>, AllocError>
-        ensures answer { IfOk result (λ answer. (answer, self.new) ≡ received self.old (row_of ports.now) packet.now) }
+    pub fn received(
+        &mut self,
+        ports: &Ports,
+        packet: &Packet,
+        answer: &mut Option<Answer>,
+    ) -> Result<(), AllocError>
+        ensures answer { OnOk result ((answer.new, self.new)
+            ≡ received self.old (row_of ports.now) packet.now) }
         ensures refused { OnErr result (self.new ≡ self.old) }
         ensures grows { OnErr result (sink_grows self.old packet.now ≡ true) }
     {
+        *answer = None;
         if self.spec.is_silent() {
-            return Ok(None);
+            return Ok(());
         }
         match packet {
-            Packet::Payload { toggle, bytes } => self.payload(ports, *toggle, bytes.as_slice()),
+            Packet::Payload { toggle, bytes } => {
+                *answer = self.payload(ports, *toggle, bytes.as_slice())?;
+            }
             Packet::Token { kind, addr, ep } => {
                 self.attempt_over();
-                Ok(self.token(ports, *kind, *addr, *ep))
+                *answer = self.token(ports, *kind, *addr, *ep);
             }
-            Packet::Ack => {
-                self.acknowledged();
-                Ok(None)
-            }
-            Packet::Sof(_) | Packet::Nak | Packet::Stall | Packet::Pre => {
-                self.attempt_over();
-                Ok(None)
-            }
+            Packet::Ack => self.acknowledged(),
+            Packet::Sof(_) | Packet::Nak | Packet::Stall | Packet::Pre => self.attempt_over(),
         }
+        Ok(())
     }
 
     /// A token, which is for this device where it has its address.
     fn token(&mut self, ports: &Ports, kind: TokenKind, addr: u8, ep: u8) -> Option<Answer>
-        ensures { (result, self.new) ≡ (if addr == self.old.registers.address then token_row self.old (row_of ports.now) kind ep else (None, self.old)) }
+        ensures { (result, self.new) ≡ (if addr == self.old.registers.address
+            then token_row self.old (row_of ports.now) kind ep else (None, self.old)) }
     {
         if addr != self.registers.address {
             return None;
@@ -308,9 +318,12 @@ impl Own {
         toggle: Toggle,
         bytes: &[u8],
     ) -> Result<Option<Answer>, AllocError>
-        ensures answer { IfOk result (λ answer. (answer, self.new) ≡ payload_row (forgotten self.old) (row_of ports.now) self.old.memory toggle bytes.now) }
+        ensures answer { IfOk result (λ answer. (answer, self.new)
+            ≡ payload_row (forgotten self.old) (row_of ports.now) self.old.memory toggle
+            bytes.now) }
         ensures refused { OnErr result (self.new ≡ self.old) }
-        ensures grows { OnErr result (payload_sinks self.old self.old.memory toggle bytes.now ≡ true) }
+        ensures grows { OnErr result
+            (payload_sinks self.old self.old.memory toggle bytes.now ≡ true) }
     {
         match self.memory {
             Memory::OutSeen(ep) if ep != 0 => self.take_bulk(ep, toggle, bytes),
@@ -330,7 +343,8 @@ impl Own {
         bytes: &[u8],
     ) -> Option<Answer>
         requires { is_other_out memory ≡ false }
-        ensures { (result, self.new) ≡ payload_row self.old (row_of ports.now) memory toggle bytes.now }
+        ensures { (result, self.new)
+            ≡ payload_row self.old (row_of ports.now) memory toggle bytes.now }
     {
         match (memory, toggle) {
             (Memory::SetupSeen, Toggle::Zero) => self.take_setup(ports, bytes),
@@ -380,7 +394,8 @@ impl Own {
     }
 
     fn take_unless_busy(&mut self, toggle: Toggle, bytes: &[u8]) -> Option<Answer>
-        ensures { (result, self.new) ≡ unless_busy self.old (out_row self.old self.old.stage toggle bytes.now) }
+        ensures { (result, self.new)
+            ≡ unless_busy self.old (out_row self.old self.old.stage toggle bytes.now) }
     {
         if self.is_busy() {
             self.nak()
@@ -411,7 +426,8 @@ impl Own {
 
     /// A request begins a transfer.
     fn begin(&mut self, ports: &Ports, wanted: u16, reaction: Reaction)
-        ensures { self.new ≡ begun self.old (row_of ports.now) wanted (meaning_of self.old.spec reaction) }
+        ensures { self.new
+            ≡ begun self.old (row_of ports.now) wanted (meaning_of self.old.spec reaction) }
     {
         self.set_endpoints(reaction);
         if let Reaction::TakeConfiguration(value) = reaction {
@@ -479,7 +495,8 @@ impl Own {
 
     /// A packet of the answer that the host reads.
     fn packet_at(&self, source: Source, wanted: u16, k: u32) -> Option<ArrayVec<u8, 64>>
-        ensures { option_map (λ v. v.items) result ≡ packet_at (max_packet self.now.spec) wanted (bytes_of self.now.spec source) k }
+        ensures { option_map (λ v. v.items) result
+            ≡ packet_at (max_packet self.now.spec) wanted (bytes_of self.now.spec source) k }
     {
         let max = usize::from(self.spec.max_packet());
         match source {
@@ -515,7 +532,9 @@ impl Own {
 
     /// Whether the answer has a packet `k`.
     fn has_packet(&self, source: Source, wanted: u16, k: u32) -> bool
-        ensures { result ≡ is_some (packet_at (max_packet self.now.spec) wanted (bytes_of self.now.spec source) k) }
+        ensures { result
+            ≡ is_some (packet_at (max_packet self.now.spec) wanted (bytes_of self.now.spec source)
+            k) }
     {
         let max = usize::from(self.spec.max_packet());
         has_packet(max, wanted, self.length_of(source), k)
@@ -658,7 +677,8 @@ impl Own {
     }
 
     fn give_bits(&mut self, bits: u8) -> Option<Answer>
-        ensures { (result, self.new) ≡ gives self.old by.Changes self.old.changes.toggle (bits ∷ []) }
+        ensures { (result, self.new)
+            ≡ gives self.old by.Changes self.old.changes.toggle (bits ∷ []) }
     {
         self.give_data(Giver::Changes, self.changes.toggle, carried(&[bits]))
     }
@@ -724,9 +744,11 @@ impl Own {
         toggle: Toggle,
         bytes: &[u8],
     ) -> Result<Option<Answer>, AllocError>
-        ensures answer { IfOk result (λ answer. (answer, self.new) ≡ out_bulk_row (forgotten self.old) ep (bulk_of self.old false) toggle bytes.now) }
+        ensures answer { IfOk result (λ answer. (answer, self.new)
+            ≡ out_bulk_row (forgotten self.old) ep (bulk_of self.old false) toggle bytes.now) }
         ensures refused { OnErr result (self.new ≡ self.old) }
-        ensures grows { OnErr result (bulk_sinks self.old ep (bulk_of self.old false) toggle bytes.now ≡ true) }
+        ensures grows { OnErr result
+            (bulk_sinks self.old ep (bulk_of self.old false) toggle bytes.now ≡ true) }
     {
         match bulk_at(&self.spec, self.registers, false) {
             Some((number, max)) if number == ep => self.take_data(max, toggle, bytes),
@@ -744,7 +766,8 @@ impl Own {
         toggle: Toggle,
         bytes: &[u8],
     ) -> Result<Option<Answer>, AllocError>
-        ensures answer { IfOk result (λ answer. (answer, self.new) ≡ sink_row (forgotten self.old) max toggle bytes.now) }
+        ensures answer { IfOk result (λ answer. (answer, self.new)
+            ≡ sink_row (forgotten self.old) max toggle bytes.now) }
         ensures refused { OnErr result (self.new ≡ self.old) }
         ensures grows { OnErr result (sinks self.old max toggle bytes.now ≡ true) }
     {

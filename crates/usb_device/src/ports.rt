@@ -1,10 +1,10 @@
 //! A row of ports, those of a hub or of the root, with the devices on them (4.1.1, 11.24).
-ghost use Rattle.std.specs.Prelude.{◌≡◌, ◌≤◌, ◌==◌, ◌&&◌, [], None, Some, slice_get, IfOk, IsTrue, false, unwrap_or};
+ghost use Rattle.std.specs.Prelude.{◌≡◌, ◌≤◌, ◌==◌, ◌&&◌, [], None, Some, slice_get, IfOk, IsTrue, false};
 ghost use Rattle.std.specs.Option.{option_copied};
-ghost use Rattle.usb_port.specs.PortState.{set_row, clear_row, is_attached};
+ghost use Rattle.usb_port.specs.PortState.{is_attached};
 ghost use Rattle.usb_device.specs.Bulk.{changed_bit, change_bits};
 ghost use Rattle.usb_device.specs.Calls.{called_port, is_reset};
-ghost use Rattle.usb_device.specs.Tree.{new_ports, called, put, changed_at, changed_in, plugged_at, plugged_in, all_off, row_of, device_of};
+ghost use Rattle.usb_device.specs.Tree.{new_ports, called, put, changed_at, changed_in, plugged_in, all_off, row_of, device_of};
 ghost use Rattle.usb_device.specs.Places.{ports_in, stood};
 
 use crate::calls::PortCall;
@@ -12,9 +12,6 @@ use crate::device::Device;
 use std::alloc::{AllocError, Global};
 use std::marker::Model;
 use usb_port::Port;
-use usb_request::feature::{
-    C_PORT_CONNECTION, C_PORT_ENABLE, C_PORT_RESET, PORT_ENABLE, PORT_POWER, PORT_RESET,
-};
 
 /// A port, and the device on it.
 #[cycle(tree)]
@@ -64,36 +61,22 @@ fn empty_places(alloc: Global, count: u8) -> Result<Vec<Place>, AllocError>
     Ok(places)
 }
 
-/// SetPortFeature of a feature; of one that the port table does not name, nothing comes.
-fn set(port: &mut Port, feature: u16)
-    ensures { port.new ≡ unwrap_or (set_row feature port.old) port.old }
-{
-    let _ = port.set_feature(feature);
-}
-
-/// ClearPortFeature of a feature; of one that the port table does not name, nothing comes.
-fn clear(port: &mut Port, feature: u16)
-    ensures { port.new ≡ unwrap_or (clear_row feature port.old) port.old }
-{
-    let _ = port.clear_feature(feature);
-}
-
-#[tactic(auto, unfolding(usb_port::specs::PortState::set_row, usb_port::specs::PortState::clear_row))]
 fn call_port(port: &mut Port, call: PortCall)
     ensures { port.new ≡ called_port call port.old }
 {
     match call {
-        PortCall::SetPower => set(port, PORT_POWER),
-        PortCall::SetReset => set(port, PORT_RESET),
-        PortCall::ClearEnable => clear(port, PORT_ENABLE),
-        PortCall::ClearPower => clear(port, PORT_POWER),
-        PortCall::ClearConnectionChange => clear(port, C_PORT_CONNECTION),
-        PortCall::ClearEnableChange => clear(port, C_PORT_ENABLE),
-        PortCall::ClearResetChange => clear(port, C_PORT_RESET),
+        PortCall::SetPower => port.power_on(),
+        PortCall::SetReset => port.reset(),
+        PortCall::ClearEnable => port.disable(),
+        PortCall::ClearPower => port.power_off(),
+        PortCall::ClearConnectionChange => port.clear_connection_change(),
+        PortCall::ClearEnableChange => port.clear_enable_change(),
+        PortCall::ClearResetChange => port.clear_reset_change(),
     }
 }
 
-/// Whether a call resets the device on the port: PORT_RESET of a powered port with something attached.
+/// Whether a call resets the device on the port: PORT_RESET of a powered port with something
+/// attached.
 fn resets(call: PortCall, port: &Port) -> bool
     ensures { result ≡ (is_reset call && (port.now.power && is_attached port.now.attached)) }
 {
@@ -118,7 +101,8 @@ impl Place {
         }
     }
 
-    /// Another device is plugged, or none stays there; what stood there before is unplugged first, and handed back.
+    /// Another device is plugged, or none stays there; what stood there before is unplugged first,
+    /// and handed back.
     fn put(&mut self, device: &mut Option<Device>)
         ensures before { device.new ≡ device_of (stood self.old) }
         ensures after { stood self.new ≡ put device.old (stood self.old) }
@@ -164,12 +148,12 @@ impl Place {
 }
 
 #[cycle(turn_off)]
-#[tactic(auto, using(crate::proofs::Placing::placing), unfolding(usb_port::specs::PortState::clear_row))]
+#[tactic(auto, using(crate::proofs::Placing::placing))]
 fn turn_off(places: &mut [Place])
     ensures { ports_in places.new ≡ all_off (ports_in places.old) }
 {
     if let Some((place, rest)) = places.split_first_mut() {
-        clear(&mut place.port, PORT_POWER);
+        place.port.power_off();
         turn_off(rest);
     }
 }
@@ -218,8 +202,9 @@ impl Ports {
         }
     }
 
-    /// A call at the port of a number, counted from 1. PORT_RESET of a powered port with a device resets the device, whose
-    /// own ports are then off. Where there is no such port, nothing changes.
+    /// A call at the port of a number, counted from 1. PORT_RESET of a powered port with a device
+    /// resets the device, whose own ports are then off. Where there is no such port, nothing
+    /// changes.
     #[tactic(auto, using(crate::proofs::Placing::paths))]
     pub fn call(&mut self, number: u8, call: PortCall)
         ensures { self.new ≡ changed (called call) self.old (number ∷ []) }
@@ -246,15 +231,16 @@ impl Ports {
         turn_off(self.places.as_mut_slice());
     }
 
-    /// A device is plugged at the port of a path. What stood there is unplugged first, with all that was below it. Where
-    /// there is no such port, nothing changes.
+    /// A device is plugged at the port of a path. What stood there is unplugged first, with all
+    /// that was below it. Where there is no such port, nothing changes.
     pub fn plug(&mut self, path: &[u8], device: Device)
         ensures { self.new ≡ changed (put (Some device)) self.old path.now }
     {
         let _ = self.put(path, Some(device));
     }
 
-    /// The port of a path is left empty, and what stood there is handed back. Where there is no such port, nothing changes.
+    /// The port of a path is left empty, and what stood there is handed back. Where there is no
+    /// such port, nothing changes.
     pub fn unplug(&mut self, path: &[u8]) -> Option<Device>
         ensures before { result ≡ device_there self.old path.now }
         ensures after { self.new ≡ changed (put None) self.old path.now }

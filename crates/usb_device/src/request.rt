@@ -2,9 +2,9 @@
 ghost use Rattle.std.specs.Prelude.{◌≡◌};
 ghost use Rattle.std.specs.List.{list_any};
 ghost use Rattle.usb_device.specs.Spec.{Spec};
-ghost use Rattle.usb_device.specs.Request.{outcome, unless, text_asked, get_descriptor, get_status, set_address, is_value, set_configuration, endpoint_of, on_endpoint, halts, unhalts, get_hub_descriptor, port_named, told_port, called_at, get_port_status, port_feature};
+ghost use Rattle.usb_device.specs.Request.{outcome, unless, get_descriptor, get_status, set_address, is_value, set_configuration, endpoint_of, on_endpoint, halts, unhalts, get_hub_descriptor, port_named, called_at, get_port_status, port_feature};
 ghost use Rattle.usb_device.specs.Bulk.{has_value};
-ghost use Rattle.usb_device.specs.Code.{bytes_of, text_at, meaning_of};
+ghost use Rattle.usb_device.specs.Code.{meaning_of};
 
 use crate::bulk::{Which, served};
 use crate::calls::PortCall;

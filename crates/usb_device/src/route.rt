@@ -7,26 +7,29 @@ ghost use Rattle.usb_device.specs.Delivery.{both, heard_from, effect_of};
 ghost use Rattle.usb_device.specs.Route.{sent_in, answer_by, RefusedBy, asked_call, call_by, forgotten_in, address_by, holds_by, is_held_at};
 
 use crate::calls::PortCall;
-use crate::delivery::{Heard, Sent};
+use crate::delivery::Heard;
 use crate::device::Device;
 use crate::effect::Effect;
+use crate::passing::Passing;
 use crate::ports::{Place, Ports};
 use arrayvec::ArrayVec;
 use std::alloc::AllocError;
 
 impl Ports {
-    /// A packet at the device at a path alone, which is `deep` where it stands on a port of a hub; what is heard of its
-    /// answer joins what was heard before. An error: memory is refused, and nothing changes.
+    /// A packet at the device at a path alone, which is `deep` where it stands on a port of a hub;
+    /// what is heard of its answer joins what was heard before. An error: memory is refused, and
+    /// nothing changes.
     #[cycle(deliver_at)]
     #[tactic(auto, using(crate::proofs::Routing::routing))]
     pub fn deliver_at(
         &mut self,
         path: &[u8],
-        sent: &Sent,
+        sent: &Passing<'_>,
         deep: bool,
         heard: &mut Heard,
     ) -> Result<(), AllocError>
-        ensures heard { OnOk result (heard.new ≡ both heard.old (heard_from (answer_by sent.now deep (device_there self.old path.now)))) }
+        ensures heard { OnOk result (heard.new ≡ both heard.old
+            (heard_from (answer_by sent.now deep (device_there self.old path.now)))) }
         ensures ok { OnOk result (self.new ≡ changed (sent_in sent.now deep) self.old path.now) }
         ensures err { OnErr result (self.new ≡ self.old) }
         ensures refused { OnErr result (RefusedBy sent.now deep (device_there self.old path.now)) }
@@ -41,9 +44,10 @@ impl Ports {
         self.places[i - 1].deliver_at(rest, sent, deep, heard)
     }
 
-    /// What the device at a path asks of its ports at a packet: nothing, or a call, and then whether it clears a change of
-    /// connection (11.24.2.2). It is asked before the packet is delivered.
-    pub fn call_at_path(&self, path: &[u8], sent: &Sent, deep: bool) -> Option<bool>
+    /// What the device at a path asks of its ports at a packet: nothing, or a call, and then
+    /// whether it clears a change of connection (11.24.2.2). It is asked before the packet is
+    /// delivered.
+    pub fn call_at_path(&self, path: &[u8], sent: &Passing<'_>, deep: bool) -> Option<bool>
         ensures { result ≡ call_by sent.now deep (device_there self.now path.now) }
     {
         match self.device_at(path) {
@@ -52,7 +56,8 @@ impl Ports {
         }
     }
 
-    /// The device at a path forgets a token that waits for data and data that wait for an ACK, and its address is told.
+    /// The device at a path forgets a token that waits for data and data that wait for an ACK, and
+    /// its address is told.
     #[cycle(forget_at)]
     #[tactic(auto, using(crate::proofs::Routing::routing))]
     pub fn forget_at(&mut self, path: &[u8]) -> Option<u8>
@@ -82,8 +87,8 @@ impl Ports {
         }
     }
 
-    /// Looks for a device that packets reach and that holds the address, and puts its path behind `path`. It is a guess for
-    /// `is_held_at`: a path of more than eight numbers is not found.
+    /// Looks for a device that packets reach and that holds the address, and puts its path behind
+    /// `path`. It is a guess for `is_held_at`: a path of more than eight numbers is not found.
     #[cycle(find)]
     pub fn find(&self, address: u8, path: &mut ArrayVec<u8, 8>) -> bool {
         find_in(self.places.as_slice(), 1, address, path)
@@ -107,14 +112,17 @@ impl Place {
     fn deliver_at(
         &mut self,
         path: &[u8],
-        sent: &Sent,
+        sent: &Passing<'_>,
         deep: bool,
         heard: &mut Heard,
     ) -> Result<(), AllocError>
-        ensures heard { OnOk result (heard.new ≡ both heard.old (heard_from (answer_by sent.now deep (plugged_in (stood self.old) path.now)))) }
-        ensures ok { OnOk result (stood self.new ≡ changed_in (sent_in sent.now deep) (stood self.old) path.now) }
+        ensures heard { OnOk result (heard.new ≡ both heard.old
+            (heard_from (answer_by sent.now deep (plugged_in (stood self.old) path.now)))) }
+        ensures ok { OnOk result (stood self.new
+            ≡ changed_in (sent_in sent.now deep) (stood self.old) path.now) }
         ensures err { OnErr result (self.new ≡ self.old) }
-        ensures refused { OnErr result (RefusedBy sent.now deep (plugged_in (stood self.old) path.now)) }
+        ensures refused { OnErr result
+            (RefusedBy sent.now deep (plugged_in (stood self.old) path.now)) }
     {
         match &mut self.device {
             None => Ok(()),
@@ -143,7 +151,8 @@ impl Place {
 
     #[cycle(is_held_at)]
     fn is_held_at(&self, path: &[u8], address: u8) -> bool
-        ensures { result ≡ (reach_in (stood self.now) path.now && holds_by address (state_in (stood self.now) path.now)) }
+        ensures { result ≡ (reach_in (stood self.now) path.now
+            && holds_by address (state_in (stood self.now) path.now)) }
     {
         match &self.device {
             Some(device) if self.port.is_enabled() => match path {

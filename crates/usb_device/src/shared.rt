@@ -16,7 +16,8 @@ impl Ports {
         self.mark(&mut seen)
     }
 
-    /// Marks the addresses of the devices that packets reach, and tells whether one was marked before.
+    /// Marks the addresses of the devices that packets reach, and tells whether one was marked
+    /// before.
     #[cycle(marking)]
     #[tactic(auto, using(crate::proofs::Marking::marking))]
     fn mark(&self, seen: &mut [bool]) -> bool

@@ -43,6 +43,16 @@ impl Stalls {
     }
 }
 
+/// The same ports and descriptor of a hub, if it is one, in memory of their own.
+fn copied_hub(alloc: Global, hub: &Option<HubSpec>) -> Result<Option<HubSpec>, AllocError>
+    ensures { IfOk result (λ h. h ≡ hub.now) }
+{
+    match hub {
+        Some(hub) => Ok(Some(hub.try_clone(alloc)?)),
+        None => Ok(None),
+    }
+}
+
 /// A device as a plan describes it.
 #[derive(Debug, Drop)]
 pub struct DeviceSpec {
@@ -84,12 +94,15 @@ impl Model for DeviceSpec {
       halt_after = s.halt_after;
     } };
 
-    ghost invariant = { λ s. (s.naks ≤ 200) × (hub_fits s.low s.descriptor s.hub ≡ true) × IfSome s.halt_after (λ k. 1 ≤ k) };
+    ghost invariant = { λ s. (s.naks ≤ 200)
+        × (hub_fits s.low s.descriptor s.hub ≡ true)
+        × IfSome s.halt_after (λ k. 1 ≤ k) };
 }
 
 impl DeviceSpec {
-    /// A full-speed function without strings that does nothing special: no request is refused, no NAK is given,
-    /// its bulk IN has nothing to give, its bulk OUT never halts, and it has its power from the bus. Its device descriptor (9.6.1) and the texts of its configurations
+    /// A full-speed function without strings that does nothing special: no request is refused, no
+    /// NAK is given, its bulk IN has nothing to give, its bulk OUT never halts, and it has its
+    /// power from the bus. Its device descriptor (9.6.1) and the texts of its configurations
     /// (9.6.3) are any bytes.
     pub fn function(name: Name, descriptor: Bytes<255>, configs: ConfigTexts) -> Self
         ensures { result ≡ function name descriptor configs }
@@ -188,7 +201,8 @@ impl DeviceSpec {
         self
     }
 
-    /// The same device, whose bulk OUT endpoint halts once, when it has taken so many packets since the plug.
+    /// The same device, whose bulk OUT endpoint halts once, when it has taken so many packets since
+    /// the plug.
     pub fn with_halt_after(mut self, packets: u16) -> Self
         requires { 1 ≤ packets }
         ensures { result ≡ record self { halt_after = Some packets } }
@@ -212,10 +226,7 @@ impl DeviceSpec {
             silent: self.silent,
             naks: self.naks,
             stalls: self.stalls,
-            hub: match &self.hub {
-                Some(hub) => Some(hub.try_clone(alloc)?),
-                None => None,
-            },
+            hub: copied_hub(alloc, &self.hub)?,
             source: self.source.try_clone(alloc)?,
             halt_after: self.halt_after,
         })

@@ -44,7 +44,8 @@ pub enum Progress {
     },
     /// A control read is over.
     Read,
-    /// The status stage of a transfer without a data stage, and the address that is taken at its end.
+    /// The status stage of a transfer without a data stage, and the address that is taken at its
+    /// end.
     Ending(Option<u8>),
 }
 
@@ -86,7 +87,8 @@ pub fn packet_at(max: usize, wanted: u16, answer: &[u8], k: u32) -> Option<Array
 #[tactic(auto, using(crate::proofs::Packets::has))]
 pub fn has_packet(max: usize, wanted: u16, len: usize, k: u32) -> bool
     requires { 8 ≤ max }
-    ensures { (answer : List ℕ) → length answer ≡ len → result ≡ is_some (packet_at max wanted answer k) }
+    ensures { (answer : List ℕ)
+        → length answer ≡ len → result ≡ is_some (packet_at max wanted answer k) }
 {
     let wanted = usize::from(wanted);
     (k as usize) < packet_count(max, wanted, wanted.min(len))

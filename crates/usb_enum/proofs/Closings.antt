@@ -18,7 +18,7 @@ use Rattle.usb_enum.specs.declared.stop.Stop.TheVariants.{Refused, Fault}
 use Rattle.usb_enum.specs.Addresses.{AtPort, OnlyCalls, Within}
 use Rattle.usb_enum.specs.Found.{Closes}
 use Rattle.usb_enum.specs.Fair.{Faulted}
-use Rattle.usb_enum.specs.Losses.{GoesOn}
+use Rattle.usb_enum.specs.Losses.{NoNewStretch}
 use Rattle.usb_enum.specs.Stop.{at_port, FaultAt}
 use Rattle.usb_enum.proofs.Endings.{ends_refused, ends_fault}
 use Rattle.usb_enum.proofs.Enumerations.{within_none, within_kept}
@@ -45,7 +45,7 @@ module _ (port : HubPort) (address : ℕ) (cause : Cause) (old : World) (outcome
     lost = λ other why is e. absurd cc;
   }
 
-  pub closed_lost : (n : ℕ) (why : EnumFault) {a b : Option (List ℕ)} → WentOn n old a new b → Err why ≡ at_port outcome → FaultAt port why new → (new.fault ≡ None → GoesOn old new) → Closes port address (Refused cause) old (Err why) new
+  pub closed_lost : (n : ℕ) (why : EnumFault) {a b : Option (List ℕ)} → WentOn n old a new b → Err why ≡ at_port outcome → FaultAt port why new → (new.fault ≡ None → NoNewStretch old new) → Closes port address (Refused cause) old (Err why) new
   closed_lost n why went told fault goes = record {
     ends = ends_fault port address old new why within;
     only = only;

@@ -4,10 +4,10 @@ use Rattle.std.proofs.Math.Nat.{mul-le-mul_right, suc-mul}
 use Rattle.std.specs.Prelude.{ℕ, ◌+◌, ◌*◌, ◌<◌, ◌≤◌, List, Option}
 use Rattle.usb_world.specs.World.{World}
 use Rattle.usb_bus.specs.Traced.{WentOn}
-use Rattle.usb_bus.proofs.Wents.{went_then, went_wider}
+use Rattle.usb_bus.proofs.Interface.{went_then, went_wider}
 use Rattle.usb_pipe.specs.Control.{control_bound}
 use Rattle.usb_enum.specs.Bounds.{read_bound, configuration_bound}
-use Rattle.usb_pipe.proofs.Bounds.{bound_wide}
+use Rattle.usb_pipe.proofs.Interface.{bound_wide}
 
 pub went_on : (k m n : ℕ) (a b c : World) {t r s : Option (List ℕ)} → WentOn m a t b r → WentOn n b r c s → m + n ≤ k → WentOn k a t c s
 went_on k m n a b c p q le = went_wider (m + n) k (went_then m n p q) le

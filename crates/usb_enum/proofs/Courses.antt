@@ -4,12 +4,11 @@ use Rattle.usb_world.specs.declared.types.Attempt.{Attempt}
 use Rattle.usb_world.specs.declared.types.BusFault.{BusFault}
 use Rattle.usb_world.specs.declared.types.Outcome.{Outcome}
 use Rattle.usb_world.specs.PlanData.{PlanData, IsPlan}
-use Rattle.usb_world.specs.PluggedAt.{AtPorts}
+use Rattle.usb_world.specs.PlanCourses.{AtPorts}
 use Rattle.usb_world.specs.Steps.{Step, AnyStep, Course, here, attempt, root_call, after, opening}
 use Rattle.usb_world.specs.World.{World}
-use Rattle.usb_world.proofs.Between.{between_course, between_opening}
-use Rattle.usb_world.proofs.WorldLaws.{course_joined, course_wider}
-use Rattle.usb_transaction.proofs.Trails.{course_then}
+use Rattle.usb_world.proofs.Interface.{between_course, between_opening, course_joined, course_wider}
+use Rattle.usb_transaction.proofs.Interface.{course_then}
 use Rattle.usb_bus.specs.Traced.{Attempts, Traced, still, attempted, called, WentOn}
 use Rattle.usb_enum.specs.Present.{IsInOrder, IsOrderly, IsRegular}
 
@@ -19,14 +18,14 @@ record AtWork (old new : World) : Type 0 where
   course : Course AnyStep old new
 
 -- a fault that was told is told again
-attempt_sound : {a : Attempt} {w v : World} {t s : Option (List ℕ)} (result : Result Outcome BusFault) → Attempts a w t result v s → v.fault ≡ None → w.fault ≡ None
+pub attempt_sound : {a : Attempt} {w v : World} {t s : Option (List ℕ)} (result : Result Outcome BusFault) → Attempts a w t result v s → v.fault ≡ None → w.fault ≡ None
 attempt_sound {a} {w} {v} result made h = split w.fault refl
   where
     split : (x : Option BusFault) → w.fault ≡ x → w.fault ≡ None
     split None e = e
     split (Some fault) e = ap (λ y. y.fault) (sym (made.counts.again fault e).1) ∙ h
 
-attempt_after : {a : Attempt} {w v : World} {t s : Option (List ℕ)} (result : Result Outcome BusFault) → Attempts a w t result v s → v.fault ≡ None → v ≡ after (attempt a) w
+pub attempt_after : {a : Attempt} {w v : World} {t s : Option (List ℕ)} (result : Result Outcome BusFault) → Attempts a w t result v s → v.fault ≡ None → v ≡ after (attempt a) w
 attempt_after (Ok outcome) made h = made.exact
 attempt_after (Err fault) made h = absurd (cc (h, made.counts.ends.told))
 

@@ -7,8 +7,8 @@ use Rattle.usb_world.specs.declared.types.BusFault.TheVariants.{LimitReached, Me
 use Rattle.usb_world.specs.declared.types.Outcome.{Outcome}
 use Rattle.usb_world.specs.Steps.{Coming, nothing_yet, next_came, took, took_first, Left, at_event, at_packet, at_line, GaveUp, attempt, root_call, with_attempt, ready}
 use Rattle.usb_world.specs.World.{World}
-use Rattle.usb_transaction.specs.Why.{NoThreeDamaged}
-use Rattle.usb_pipe.proofs.WhySends.{never_three}
+use Rattle.usb_transaction.specs.Failures.{NoThreeDamaged}
+use Rattle.usb_pipe.proofs.Interface.{never_three}
 use Rattle.usb_bus.specs.Traced.{Attempts, Traced, still, attempted, called, WentOn}
 use Rattle.usb_enum.proofs.Losses.{due_later, step_later}
 

@@ -12,25 +12,24 @@ use Rattle.usb_descriptor.specs.Device.{device_head_of, device_of, device_after}
 use Rattle.usb_device.specs.Spec.{Spec}
 use Rattle.usb_world.specs.declared.types.BusFault.{BusFault}
 use Rattle.usb_world.specs.Devices.{EachWas}
-use Rattle.usb_world.specs.Live.{address_of}
+use Rattle.usb_world.specs.Paths.{address_of}
 use Rattle.usb_world.specs.World.{World}
-use Rattle.usb_world.proofs.Booleans.{no}
-use Rattle.usb_world.proofs.OneHolderMore.{equal_same}
+use Rattle.usb_world.proofs.Interface.{equal_same, no}
 use Rattle.usb_transaction.specs.declared.target.Target.{Target}
 use Rattle.usb_transaction.specs.Answerer.{HadOne}
-use Rattle.usb_transaction.specs.Why.{NoThreeDamaged}
+use Rattle.usb_transaction.specs.Failures.{NoThreeDamaged}
 use Rattle.usb_address.specs.Claims.{Claims}
 use Rattle.usb_address.specs.Owned.{Owned}
-use Rattle.usb_address.proofs.Setups.{same_setup}
+use Rattle.usb_address.proofs.Interface.{same_setup}
 use Rattle.usb_pipe.specs.Control.{Faults}
 use Rattle.usb_pipe.specs.Stages.{Reads}
-use Rattle.usb_pipe.specs.Whole.{IsAnswer}
-use Rattle.usb_pipe.proofs.WhoAnswers.{who_read_had}
+use Rattle.usb_pipe.specs.Leaves.{IsTransferAnswer}
+use Rattle.usb_pipe.proofs.Interface.{who_read_had}
 use Rattle.usb_pipe.specs.declared.fault.PipeFault.{PipeFault}
 use Rattle.usb_pipe.specs.declared.fault.PipeFault.TheVariants as pipe
 use Rattle.usb_hub.specs.Asked.{unless_refused, device_given, HasText, DeviceAsked, WhyAsked}
-use Rattle.usb_hub.specs.Addresses.{Answers, KeepsAnswered}
-use Rattle.usb_hub.specs.Requests.{Asked, Ends}
+use Rattle.usb_hub.specs.Addresses.{IsClaimed, KeepsAnswered}
+use Rattle.usb_hub.specs.Requests.{AskedData, EndsAfter}
 use Rattle.usb_enum.specs.declared.cause.Cause.{Cause}
 use Rattle.usb_enum.specs.declared.cause.Cause.TheVariants.{Stalled, BadDevice}
 use Rattle.usb_enum.specs.declared.cause.Request.TheVariants as request
@@ -74,7 +73,7 @@ head_unanswered t outcome stop old new is least what why =
     (IsRefusedFor (head_fault t.low)) (Stalled request.Device) stop is (λ spec fault fails. head_failed t.low spec fault (fails (inr (omega arith))))
 
 pub head_refused : (t : Target) (bytes : Vec ℕ) (fault : DescriptorFault) (stalled : Cause) (outcome : Result (Vec ℕ) PipeFault) (old new : World) → answered_or stalled outcome ≡ Ok bytes → device_head_of t.low bytes.items ≡ Err fault
-    → Ends 3 old outcome new → KeepsAnswered t.addr old outcome new → (new.shared ≡ false → EachWas (DeviceAsked t 8 outcome) old new) → Explains (IsRefusedFor (head_fault t.low) (Refused BadDevice)) t old new
+    → EndsAfter 3 old outcome new → KeepsAnswered t.addr old outcome new → (new.shared ≡ false → EachWas (DeviceAsked t 8 outcome) old new) → Explains (IsRefusedFor (head_fault t.low) (Refused BadDevice)) t old new
 head_refused t bytes fault stalled outcome old new e bad ends addresses what =
     let So : Spec → Type 0 = IsRefusedFor (head_fault t.low) (Refused BadDevice) in
     learned_explains So So t old new (λ spec x. x)
@@ -102,7 +101,7 @@ descriptor_unanswered t outcome stop old new is least what why =
 -- a responsive device gives an answer
 pub descriptor_none : (t : Target) (outcome : Result (Vec ℕ) PipeFault) (old new : World) → outcome ≡ Err pipe.NoAnswer → 8 ≤ t.max
     → (new.shared ≡ false → EachWas (DeviceAsked t 18 outcome) old new)
-    → (NoThreeDamaged old → 8 ≤ t.max → new.shared ≡ false → EachWas (WhyAsked t 18 outcome) old new) → Asked t (get_device_descriptor 18) old outcome new → FindsDescriptor t old new None
+    → (NoThreeDamaged old → 8 ≤ t.max → new.shared ≡ false → EachWas (WhyAsked t 18 outcome) old new) → AskedData t (get_device_descriptor 18) old outcome new → FindsDescriptor t old new None
 descriptor_none t outcome old new is least what why asked = record {
   goes = device_goes t 18 outcome old new asked;
   why =
@@ -118,8 +117,8 @@ had_claims f t w owned h = (
   sym (owned.own (suc h.j ∷ h.p) h.on) ∙ ap (option_map address_of) h.stands ∙ ap (λ n. Some n) (equal_same (address_of h.state) t.addr h.at),
 )
 
-module _ (t : Target) (outcome : Result (Vec ℕ) PipeFault) (old new : World) (asked : Asked t (get_device_descriptor 18) old outcome new) (addresses : KeepsAnswered t.addr old outcome new) where
-  failed_who : (fault : PipeFault) → outcome ≡ Err fault → IsAnswer fault → old.fault ≡ None → Answers t.addr old
+module _ (t : Target) (outcome : Result (Vec ℕ) PipeFault) (old new : World) (asked : AskedData t (get_device_descriptor 18) old outcome new) (addresses : KeepsAnswered t.addr old outcome new) where
+  failed_who : (fault : PipeFault) → outcome ≡ Err fault → IsTransferAnswer fault → old.fault ≡ None → IsClaimed t.addr old
   unfolding get_device_descriptor
   failed_who fault e is sound = record {
     held = λ f o.
@@ -128,13 +127,13 @@ module _ (t : Target) (outcome : Result (Vec ℕ) PipeFault) (old new : World) (
         (subst (λ r. Reads t (get_device_descriptor 18) old r new) e asked.stages) (addresses.keeps.kept f o).single);
   }
 
-  pub refused_who : (stop : Stop) → answered_or (Stalled request.Device) outcome ≡ Err stop → (outcome ≡ Err pipe.NoAnswer → ⊥) → (cause : Cause) → stop ≡ Refused cause → Answers t.addr old
+  pub refused_who : (stop : Stop) → answered_or (Stalled request.Device) outcome ≡ Err stop → (outcome ≡ Err pipe.NoAnswer → ⊥) → (cause : Cause) → stop ≡ Refused cause → IsClaimed t.addr old
   refused_who stop told some cause is = let failed = answered_err (Stalled request.Device) outcome stop told in by_fault failed.0 failed.1 (failed.2 ∙ is)
     where
       ends : (fault : PipeFault) → outcome ≡ Err fault → Faults 1 old fault new
-      ends fault e = subst (λ r. Ends 3 old r new) e asked.ends
+      ends fault e = subst (λ r. EndsAfter 3 old r new) e asked.ends
 
-      by_fault : (fault : PipeFault) → outcome ≡ Err fault → unwrap_or (stop_of fault) (Refused (Stalled request.Device)) ≡ Refused cause → Answers t.addr old
+      by_fault : (fault : PipeFault) → outcome ≡ Err fault → unwrap_or (stop_of fault) (Refused (Stalled request.Device)) ≡ Refused cause → IsClaimed t.addr old
       by_fault pipe.Stalled e k = failed_who pipe.Stalled e tt (ends pipe.Stalled e).sound
       by_fault pipe.Busy e k = failed_who pipe.Busy e tt (ends pipe.Busy e).sound
       by_fault pipe.NoAnswer e k = absurd (some e)
@@ -142,11 +141,11 @@ module _ (t : Target) (outcome : Result (Vec ℕ) PipeFault) (old new : World) (
       by_fault (pipe.Bus why) e k = absurd cc
       by_fault pipe.Memory e k = absurd cc
 
-  pub answered_who : (stalled : Cause) (bytes : Vec ℕ) → answered_or stalled outcome ≡ Ok bytes → Answers t.addr old
+  pub answered_who : (stalled : Cause) (bytes : Vec ℕ) → answered_or stalled outcome ≡ Ok bytes → IsClaimed t.addr old
   answered_who stalled bytes told = (subst (λ r. KeepsAnswered t.addr old r new) (answered_ok stalled outcome bytes told) addresses).who
 
 pub descriptor_refused : (t : Target) (bytes : Vec ℕ) (stalled : Cause) (outcome : Result (Vec ℕ) PipeFault) (old new : World) → answered_or stalled outcome ≡ Ok bytes → is_device t.low (take 18 bytes.items) ≡ false
-    → Ends 3 old outcome new → KeepsAnswered t.addr old outcome new → (new.shared ≡ false → EachWas (DeviceAsked t 18 outcome) old new) → Explains (Refuses t (device_fault t.low) (Refused BadDevice)) t old new
+    → EndsAfter 3 old outcome new → KeepsAnswered t.addr old outcome new → (new.shared ≡ false → EachWas (DeviceAsked t 18 outcome) old new) → Explains (Refuses t (device_fault t.low) (Refused BadDevice)) t old new
 descriptor_refused t bytes stalled outcome old new e bad ends addresses what =
     let So : Spec → Type 0 = AtMaximum t (λ spec. device_fault t.low spec ≡ Some BadDevice) in
     learned_explains So (Refuses t (device_fault t.low) (Refused BadDevice)) t old new (λ spec x r. x r.max)

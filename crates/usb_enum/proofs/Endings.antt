@@ -1,20 +1,19 @@
 -- How an enumeration ends: who holds which address then.
-use Rattle.std.proofs.Common.{◌≡◌, ◌≢◌, ◌⊎◌, inl, inr, ℕ, Bool, true, false, List, Option, None, Some, Result, Ok, Err, IsErr, if◌then◌else◌, refl, ap, sym, subst, ◌∙◌, arith}
+use Rattle.std.proofs.Common.{◌≡◌, ◌≢◌, ◌⊎◌, inl, inr, ℕ, Bool, true, false, List, Option, None, Some, Result, Ok, Err, if◌then◌else◌, refl, ap, sym, subst, ◌∙◌, arith}
 use Rattle.usb_world.specs.Addresses.{after_taking}
 use Rattle.usb_device.specs.Rows.{State}
 use Rattle.usb_device.specs.Spec.{Spec}
 use Rattle.usb_device.specs.View.{state_there}
-use Rattle.usb_world.specs.Live.{is_way, pend}
+use Rattle.usb_world.specs.Paths.{is_way, pend}
 use Rattle.usb_world.specs.World.{World}
-use Rattle.usb_world.proofs.Booleans.{no}
+use Rattle.usb_world.proofs.Interface.{no}
 use Rattle.usb_bus.specs.Traced.{WentOn}
 use Rattle.usb_resources.specs.Pool as pool
 use Rattle.usb_resources.specs.Pool.{Addresses, IsFull, IsTaken, HasAddresses}
 use Rattle.usb_pipe.specs.declared.fault.PipeFault.{PipeFault}
-use Rattle.usb_address.specs.Claims.{Claims, Free, cleared}
+use Rattle.usb_address.specs.Claims.{Claims, Free, claims_apart}
 use Rattle.usb_address.specs.Owned.{Owned, OwnedBut, Enumerating, TillFault}
-use Rattle.usb_address.proofs.Resetting.{owned_as}
-use Rattle.usb_address.proofs.States.{begins}
+use Rattle.usb_address.proofs.Interface.{begins, owned_as}
 use Rattle.usb_hub.specs.declared.port.HubPort.{HubPort}
 use Rattle.usb_hub.specs.Addresses.{IsAt, Bares}
 use Rattle.usb_enum.specs.declared.cause.Cause.{Cause}
@@ -25,13 +24,13 @@ use Rattle.usb_enum.specs.declared.finding.Finding.{Finding}
 use Rattle.usb_enum.specs.declared.finding.Finding.TheVariants.{Device, Refused}
 use Rattle.usb_enum.specs.declared.stop.Stop.{Stop}
 use Rattle.usb_enum.specs.declared.stop.Stop.TheVariants as stop
-use Rattle.usb_enum.specs.Addresses.{IsSpare, Within, Takes, OnlyCalls, AtPort, EndsOwned, Ends, KeepsEnumerated}
+use Rattle.usb_enum.specs.Addresses.{IsSpare, Within, TakesAddress, OnlyCalls, AtPort, EndsOwned, EndsEnumeration, KeepsEnumerated}
 use Rattle.usb_enum.specs.Described.{IsRight}
-use Rattle.usb_enum.specs.Fair.{FaultsFor, HubPends, IsFairAt, PendsOr, Stops, StopsFor}
+use Rattle.usb_enum.specs.Fair.{FaultsFor, HubPends, IsFairAt, PendsOr, StopsFairly, StopsFor}
 use Rattle.usb_enum.specs.Frames.{OnlyAt}
 use Rattle.usb_enum.specs.Found.{Begins, Closes, Disables, GivesUp, IsFair, IsOwn, IsTruthful, Places, Warrants}
 use Rattle.usb_enum.specs.Places.{HasEmptyPorts, IsOccupied, IsPlaced}
-use Rattle.usb_enum.specs.Present.{AtPath, Finds, IsInOrder, IsRegular, Reaches}
+use Rattle.usb_enum.specs.Present.{AtPath, Finds, IsInOrder, IsRegular, ReachesDevice}
 use Rattle.usb_enum.specs.Stop.{at_port}
 use Rattle.usb_enum.proofs.Enumerations.{till_weaker, having, at_taking}
 use Rattle.usb_enum.proofs.Courses.{went_sound}
@@ -41,7 +40,7 @@ use Rattle.usb_enum.proofs.Reaching.{occupied_on}
 
 -- Claims at the port
 
-cleared_taken : (f : Claims) (p : List ℕ) (a : ℕ) → Free f p → (x : List ℕ) → cleared (after_taking f p a) p x ≡ f x
+cleared_taken : (f : Claims) (p : List ℕ) (a : ℕ) → Free f p → (x : List ℕ) → claims_apart (after_taking f p a) p x ≡ f x
 cleared_taken f p a free x = split (is_way p x) refl
   where
     split : (way : Bool) → is_way p x ≡ way → (if way then None else after_taking f p a x) ≡ f x
@@ -51,31 +50,27 @@ cleared_taken f p a free x = split (is_way p x) refl
 -- Given up
 
 -- the port is disabled
-pub ends_refused : (port : HubPort) (address : ℕ) (old new : World) (cause : Cause) → Bares port old new → Ends port address old (Ok (Refused cause)) new
+pub ends_refused : (port : HubPort) (address : ℕ) (old new : World) (cause : Cause) → Bares port old new → EndsEnumeration port address old (Ok (Refused cause)) new
 ends_refused port address old new cause bares = record { ends = ends }
   where
     ends : (f : Claims) (p : List ℕ) → IsSpare f port p address → TillFault (Enumerating f p address) old → TillFault (Owned f) new
     ends f p spare t =
         let h = having f p address old t in
         let g : Claims = after_taking f p h.has in
-        till_weaker (Owned (cleared g p)) (Owned f) new (owned_as (cleared g p) f new (cleared_taken f p h.has spare.free))
+        till_weaker (Owned (claims_apart g p)) (Owned f) new (owned_as (claims_apart g p) f new (cleared_taken f p h.has spare.free))
         (bares.bares g p (at_taking f port p h.has spare.at) h.owned)
 
 owned_but : (f : Claims) (p : List ℕ) (address : ℕ) (w : World) → Enumerating f p address w → OwnedBut p f w
 owned_but f p address w e = record { claims = after_taking f p e.has; owned = e.owned; others = but_taken f p e.has }
 
 -- there is no finding
-pub ends_fault : (port : HubPort) (address : ℕ) (old new : World) (why : EnumFault) → Within port address old new → Ends port address old (Err why) new
+pub ends_fault : (port : HubPort) (address : ℕ) (old new : World) (why : EnumFault) → Within port address old new → EndsEnumeration port address old (Err why) new
 ends_fault port address old new why within = record { ends = λ f p spare t. by_fault f p why (within.stays f p spare t) }
   where
     by_fault : (f : Claims) (p : List ℕ) (why : EnumFault) → TillFault (Enumerating f p address) new → EndsOwned f p (Err why) new
     by_fault f p fault.ParentLost t = till_weaker (Enumerating f p address) (OwnedBut p f) new (owned_but f p address new) t
     by_fault f p (fault.Bus why) t = t.single
     by_fault f p fault.Memory t = t.single
-
-pub ends_failed : (port : HubPort) (address : ℕ) (old new : World) (result : Result Finding EnumFault) → IsErr result → Within port address old new → Ends port address old result new
-ends_failed port address old new (Ok finding) failed within = absurd cc
-ends_failed port address old new (Err why) failed within = ends_fault port address old new why within
 
 -- where a request to the port was answered
 pub port_done : (outcome : Result (Unit {0}) PipeFault) (done : Unit {0}) → at_port outcome ≡ Ok done → outcome ≡ Ok tt
@@ -123,7 +118,7 @@ module _ (port : HubPort) (addresses : Addresses) (address : ℕ) (zero_is : IsT
   first : (f : Claims) (p : List ℕ) (w : World) → IsSpare f port p address → TillFault (Owned f) w → TillFault (Enumerating f p address) w
   first f p w is t = till_weaker (Owned f) (Enumerating f p address) w (begins f p address w is.free is.none) t
 
-  pub enumerated : (old new : World) (device : Accepted) → device.address ≡ address → Takes port address old new → OnlyCalls port address old new → KeepsEnumerated port addresses old (Ok (Device device)) new
+  pub enumerated : (old new : World) (device : Accepted) → device.address ≡ address → TakesAddress port address old new → OnlyCalls port address old new → KeepsEnumerated port addresses old (Ok (Device device)) new
   enumerated old new device same takes calls = record { ends = ends; only = only }
     where
       ends : (f : Claims) (p : List ℕ) → IsAt f port p → Free f p → ((x : List ℕ) (a : ℕ) → f x ≡ Some a → IsTaken addresses a) → TillFault (Owned f) old
@@ -137,7 +132,7 @@ module _ (port : HubPort) (addresses : Addresses) (address : ℕ) (zero_is : IsT
           let is = spare f p there bare claimed in
           calls.at f p is (first f p old is t) none
 
-  pub given_up : (old mid new : World) (result : Result Finding EnumFault) → Within port address old mid → Ends port address mid result new → OnlyCalls port address old new → KeepsEnumerated port addresses old result new
+  pub given_up : (old mid new : World) (result : Result Finding EnumFault) → Within port address old mid → EndsEnumeration port address mid result new → OnlyCalls port address old new → KeepsEnumerated port addresses old result new
   given_up old mid new result within ended calls = record { ends = ends; only = only }
     where
       ends : (f : Claims) (p : List ℕ) → IsAt f port p → Free f p → ((x : List ℕ) (a : ℕ) → f x ≡ Some a → IsTaken addresses a) → TillFault (Owned f) old
@@ -162,7 +157,7 @@ module _ (port : HubPort) (addresses : Addresses) (address : ℕ) (zero_is : IsT
 
   -- What is found is there
 
-  pub device_placed : (old new : World) (device : Accepted) → Reaches port address old new
+  pub device_placed : (old new : World) (device : Accepted) → ReachesDevice port address old new
       → ((f : Claims) (p : List ℕ) → IsSpare f port p address → TillFault (Enumerating f p address) old → IsInOrder old → IsOccupied old p → new.fault ≡ None → HasEmptyPorts p device.hub new)
       → Places port addresses old (Ok (Device device)) new
   device_placed old new device reaches ports = record { placed = placed }
@@ -209,7 +204,7 @@ module _ (port : HubPort) (addresses : Addresses) (address : ℕ) (zero_is : IsT
   device_warranted tier supply old new device = record { cause = λ f p fair cause s e. absurd cc; parent = λ f p fair e. absurd cc }
 
   module _ (wrong : Spec → Option Cause) (tier supply m n : ℕ) (last : Stop) (old mid new : World) (result : Result Finding EnumFault) {a b c d : Option (List ℕ)} (sooner : WentOn m old a mid b) (later : WentOn n mid c new d)
-      (at : AtPort port address old mid) (stops : Stops wrong port address last old mid) (closes : Closes port address last mid result new) (gives : GivesUp port last mid result new)
+      (at : AtPort port address old mid) (stops : StopsFairly wrong port address last old mid) (closes : Closes port address last mid result new) (gives : GivesUp port last mid result new)
       (right : (spec : Spec) (cause : Cause) → wrong spec ≡ Some cause → IsRight (IsFull addresses) spec tier supply (Refused cause)) where
     module _ (f : Claims) (p : List ℕ) (fair : IsFair f port p addresses old new) where
       whole : IsFairAt f port p address old new

@@ -3,17 +3,16 @@ use Rattle.std.proofs.Common.{◌≡◌, ◌⊎◌, ◌≤◌, ℕ, inl, Bool, t
 use Rattle.std.proofs.lemmas.Option.{same_Some}
 use Rattle.usb_world.specs.declared.types.BusFault.{BusFault}
 use Rattle.usb_world.specs.Addresses.{after_reset, after_taking}
-use Rattle.usb_world.specs.Live.{same_path, is_way}
+use Rattle.usb_world.specs.Paths.{same_path, is_way}
 use Rattle.usb_world.specs.World.{World}
-use Rattle.usb_world.proofs.AddressesReset.{self_path, self_number}
 use Rattle.usb_address.specs.Claims.{Claims}
 use Rattle.usb_address.specs.Owned.{Owned, Enumerating, TillFault, KeepsAddresses}
-use Rattle.usb_address.proofs.Resetting.{same_way}
-use Rattle.usb_address.proofs.States.{after_a_reset, after_an_address, at_zero, not_both}
+use Rattle.usb_address.proofs.Interface.{after_a_reset, after_an_address, at_zero, not_both, same_way}
 use Rattle.usb_hub.specs.declared.port.HubPort.{HubPort}
 use Rattle.usb_hub.specs.declared.port.HubPort.TheVariants.{Root, External}
-use Rattle.usb_hub.specs.Addresses.{IsAt, Answers, Resets, GivesAddress}
-use Rattle.usb_enum.specs.Addresses.{IsSpare, Within, Takes}
+use Rattle.usb_hub.specs.Addresses.{IsAt, IsClaimed, Resets, GivesAddress}
+use Rattle.usb_enum.specs.Addresses.{IsSpare, Within, TakesAddress}
+use Rattle.usb_world.proofs.Interface.{self_number, self_path}
 
 -- Till a fault
 
@@ -58,10 +57,10 @@ within_none port address w = record { stays = λ f p spare t. t }
 pub within_then : (port : HubPort) (address : ℕ) (a b c : World) → Within port address a b → Within port address b c → Within port address a c
 within_then port address a b c m n = record { stays = λ f p spare t. n.stays f p spare (m.stays f p spare t) }
 
-pub takes_after : (port : HubPort) (address : ℕ) (a b c : World) → Within port address a b → Takes port address b c → Takes port address a c
+pub takes_after : (port : HubPort) (address : ℕ) (a b c : World) → Within port address a b → TakesAddress port address b c → TakesAddress port address a c
 takes_after port address a b c m n = record { took = λ f p spare t. n.took f p spare (m.stays f p spare t) }
 
-pub takes_then : (port : HubPort) (address : ℕ) (a b c : World) → Takes port address a b → KeepsAddresses b c → Takes port address a c
+pub takes_then : (port : HubPort) (address : ℕ) (a b c : World) → TakesAddress port address a b → KeepsAddresses b c → TakesAddress port address a c
 takes_then port address a b c m n = record { took = λ f p spare t. n.kept (after_taking f p address) (m.took f p spare t) }
 
 -- What each call does
@@ -107,11 +106,8 @@ within_given port target address old new zero_is least gives = record { stays = 
         (λ e. other (sym e ∙ zero_is))
         h.owned)
 
-pub within_addressed : (port : HubPort) (target address : ℕ) (a b c : World) → Within port address a b → target ≡ 0 → 1 ≤ address → GivesAddress target address b c → Within port address a c
-within_addressed port target address a b c within zero_is least gives = within_then port address a b c within (within_given port target address b c zero_is least gives)
-
 -- whoever answered at the address stands at the port
-pub takes_answered : (port : HubPort) (address : ℕ) (old new : World) → KeepsAddresses old new → Answers address old → Takes port address old new
+pub takes_answered : (port : HubPort) (address : ℕ) (old new : World) → KeepsAddresses old new → IsClaimed address old → TakesAddress port address old new
 takes_answered port address old new keeps answers = record { took = took }
   where
     took : (f : Claims) (p : List ℕ) → IsSpare f port p address → TillFault (Enumerating f p address) old → TillFault (Owned (after_taking f p address)) new

@@ -1,38 +1,35 @@
 -- What stays fair in an enumeration from one call to the next, and when a hub is lost.
-use Rattle.std.proofs.Common.{◌≡◌, ◌⊎◌, inl, inr, ◌≤◌, ◌&&◌, ◌||◌, not, if◌then◌else◌, ◌==◌, ℕ, zero, suc, Bool, true, false, List, [], ◌∷◌, ◌++◌, Option, None, Some, is_some, option_map, Result, Ok, Err, refl, ap, sym, subst, ◌∙◌}
+use Rattle.std.proofs.Common.{◌≡◌, ◌⊎◌, inl, inr, ◌≤◌, ◌&&◌, ◌||◌, not, if◌then◌else◌, ◌==◌, ℕ, zero, suc, true, false, List, [], ◌∷◌, ◌++◌, Option, None, Some, is_some, option_map, Result, Ok, Err, refl, ap, sym, subst, ◌∙◌}
 use Rattle.std.specs.Prelude.{IsSome, IsSomeAnd}
 use Rattle.std.proofs.lemmas.Option.{same_Some}
 use Rattle.usb_port.specs.Order.{parent_of}
 use Rattle.usb_port.specs.PortState.{PortState}
-use Rattle.usb_port.proofs.OrderLaws.{parent}
+use Rattle.usb_port.proofs.Interface.{parent}
 use Rattle.usb_device.specs.declared.calls.PortCall.{PortCall}
 use Rattle.usb_device.specs.Rows.{State}
 use Rattle.usb_device.specs.Tree.{Ports, ended, vacant, taken, reach, reach_at, state_at, port_at}
 use Rattle.usb_device.specs.View.{state_there, port_there}
 use Rattle.usb_world.specs.Courses.{Spares}
 use Rattle.usb_world.specs.Devices.{Was}
-use Rattle.usb_world.specs.Live.{is_way, live, pend, pend_at}
+use Rattle.usb_world.specs.Paths.{is_way, live, pend}
 use Rattle.usb_world.specs.Passes.{deep_at}
-use Rattle.usb_world.specs.PluggedAt.{spec_of}
-use Rattle.usb_world.specs.Resting.{AsksNothingOf, SameAt, RestsOrPends, StandsOrPends}
-use Rattle.usb_world.specs.Sane.{IsSane}
+use Rattle.usb_world.specs.PlanCourses.{spec_of}
+use Rattle.usb_world.specs.RestingPorts.{AsksNothingOf, SameAt, RestsOrPends, StandsOrPends}
+use Rattle.usb_world.specs.SanePorts.{IsSane}
 use Rattle.usb_world.specs.Steps.{Course}
 use Rattle.usb_world.specs.World.{World}
-use Rattle.usb_world.proofs.AddressesReset.{self_number}
-use Rattle.usb_world.proofs.Booleans.{no}
-use Rattle.usb_world.proofs.Resting.{rests_or_pends, stands_or_pends}
-use Rattle.usb_world.proofs.SaneLaws.{reach_live}
-use Rattle.usb_world.proofs.WorldLaws.{course_wider, pending_persists}
+use Rattle.usb_world.proofs.Interface.{course_wider, no, pending_persists, reach_live, rests_or_pends, stands_or_pends}
 use Rattle.usb_bus.specs.Traced.{WentOn}
 use Rattle.usb_transaction.specs.declared.target.Target.{Target}
 use Rattle.usb_address.specs.Claims.{Claims}
-use Rattle.usb_address.specs.Owned.{Enumerating, TillFault}
+use Rattle.usb_address.proofs.Interface.{live_port, not_way, pend_or_live}
 use Rattle.usb_pipe.specs.declared.fault.PipeFault.{PipeFault}
 use Rattle.usb_pipe.specs.declared.fault.PipeFault.TheVariants as pipe
 use Rattle.usb_hub.specs.declared.port.HubPort.{HubPort}
 use Rattle.usb_hub.specs.declared.port.HubPort.TheVariants.{Root, External}
 use Rattle.usb_hub.specs.Addresses.{IsAt, IsBelow, StaysAs}
-use Rattle.usb_hub.specs.Why.{HasPort, Serves, IsServed}
+use Rattle.usb_hub.specs.Why.{HasPort, Serves, NoHubFailed}
+use Rattle.usb_hub.proofs.Interface.{stays-registers, stays-spec}
 use Rattle.usb_enum.specs.declared.cause.Cause.{Cause}
 use Rattle.usb_enum.specs.declared.fault.EnumFault.{EnumFault}
 use Rattle.usb_enum.specs.declared.fault.EnumFault.TheVariants as fault
@@ -41,30 +38,24 @@ use Rattle.usb_enum.specs.declared.stop.Stop.TheVariants.{Refused, Fault}
 use Rattle.usb_device.specs.Spec.{Spec}
 use Rattle.usb_enum.specs.Addresses.{IsSpare, AtPort}
 use Rattle.usb_enum.specs.Calls.{CalledAt, StatusAt}
-use Rattle.usb_enum.specs.Fair.{ServesAt, HasServer, HubPends, IsFairAt, PendsOr, FaultsFor, StopsFor, Stops, Faulted}
+use Rattle.usb_enum.specs.Fair.{ServesAt, HasServer, IsFairAt, PendsOr, FaultsFor, StopsFor, StopsFairly, Faulted}
 use Rattle.usb_enum.specs.Frames.{OnlyAt}
 use Rattle.usb_enum.specs.Places.{IsOccupied, IsReachedAt}
 use Rattle.usb_enum.specs.Present.{AtPath}
 use Rattle.usb_enum.specs.Stop.{at_port, FaultAt, FaultTold}
 use Rattle.usb_enum.proofs.Courses.{went_sound, went_in_order, went_course}
 use Rattle.usb_enum.proofs.Damages.{went_three}
-use Rattle.usb_enum.proofs.Enumerations.{till_weaker}
 use Rattle.usb_enum.proofs.Losses.{few_before}
 use Rattle.usb_enum.proofs.Reaching.{some_of, standing, occupied_on}
 
 -- The hub of a port
-
-above : (q : List ℕ) (n : ℕ) → is_way (q ++ (n ∷ [])) q ≡ false
-unfolding is_way
-above [] n = refl
-above (m ∷ q) n = rw (self_number m) (above q n)
 
 module _ (f : Claims) (hub : Target) (n : ℕ) (p : List ℕ) (at : IsBelow f hub.addr n p) where
   pub parent_is : parent_of p ≡ Some at.hub
   parent_is = ap parent_of at.path ∙ parent at.hub n at.is_path.0
 
   apart : is_way p at.hub ≡ false
-  apart = ap (λ x. is_way x at.hub) at.path ∙ above at.hub n
+  apart = ap (λ x. is_way x at.hub) at.path ∙ not_way at.hub n
 
   module _ (old new : World) (only : OnlyAt p old new) where
     hub_asks : Course (AsksNothingOf at.hub) old new
@@ -87,8 +78,8 @@ module _ (f : Claims) (hub : Target) (n : ℕ) (p : List ℕ) (at : IsBelow f hu
       hub_served v on there =
           let before : Was StaysAs old j e v = only.devices j e v (subst (λ q. is_way p q ≡ false) was.there apart) on there in
           let is : before.before ≡ was.serves.state = same_Some before.before was.serves.state (sym before.stands ∙ was.serves.stands) in
-          let spec : v.spec ≡ was.serves.state.spec = before.so.0 ∙ ap (λ s. s.spec) is in
-          let registers : v.registers ≡ was.serves.state.registers = before.so.1 ∙ ap (λ s. s.registers) is in
+          let spec : v.spec ≡ was.serves.state.spec = stays-spec before.before v before.so ∙ ap (λ s. s.spec) is in
+          let registers : v.registers ≡ was.serves.state.registers = stays-registers before.before v before.so ∙ ap (λ s. s.registers) is in
           record {
             serves = record {
               j = j;
@@ -133,13 +124,6 @@ server_on f (External hub n) p at old new sane only server =
     pick (inl h) = inl (hub_pends_on f hub n p at old new only h)
     pick (inr h) = serves_on f hub n p at old new only sane h
 
--- where a change of connection is pending at the hub, it stays so
-pub hub_pends_then : (f : Claims) (port : HubPort) (p : List ℕ) → IsAt f port p → (old new : World) → OnlyAt p old new → FaultAt port fault.ParentLost new → HubPends p old → HubPends p new
-hub_pends_then f (Root n) p at old new only can pends = absurd can
-hub_pends_then f (External hub n) p at old new only can pends =
-    subst (λ o. IsSomeAnd o (λ q. pend new.roots q ≡ true)) (sym (parent_is f hub n p at))
-    (hub_pends_on f hub n p at old new only (subst (λ o. IsSomeAnd o (λ q. pend old.roots q ≡ true)) (parent_is f hub n p at) pends))
-
 -- a hub that serves its port is not lost
 pub hub_lost : (f : Claims) (port : HubPort) (p : List ℕ) → IsAt f port p → (why : EnumFault) (new : World) → FaultAt port why new → HasServer port p new
     → ((hub : Target) (n : ℕ) → port ≡ External hub n → why ≡ fault.ParentLost → (serves : Serves hub n new) → p ≡ suc serves.j ∷ (serves.p ++ (n ∷ [])) → 8 ≤ hub.max → pend new.roots (suc serves.j ∷ serves.p) ≡ true) → FaultsFor p why new
@@ -155,7 +139,7 @@ hub_lost f (External hub n) p at fault.ParentLost new told server denies =
     pick (inr h) = subst (λ q. pend new.roots q ≡ true) (sym h.there) (denies hub n refl refl h.serves (at.path ∙ ap (λ q. q ++ (n ∷ [])) h.there) h.wide)
 
 -- a served call loses no hub
-pub unserved : {A : Type 0} (outcome : Result A PipeFault) (why : EnumFault) → Err why ≡ at_port outcome → why ≡ fault.ParentLost → IsServed outcome → ⊥
+pub unserved : {A : Type 0} (outcome : Result A PipeFault) (why : EnumFault) → Err why ≡ at_port outcome → why ≡ fault.ParentLost → NoHubFailed outcome → ⊥
 unserved (Ok x) why told lost served = cc
 unserved (Err pipe.Stalled) why told lost served = served
 unserved (Err pipe.Busy) why told lost served = served
@@ -169,13 +153,6 @@ unserved (Err pipe.Memory) why told lost served = cc
 -- no device at the port has taken its address yet
 pub held_spare : (f : Claims) (port : HubPort) (p : List ℕ) (address : ℕ) → IsSpare f port p address → IsSpare f port p 0
 held_spare f port p address spare = record { at = spare.at; free = spare.free; none = spare.none; spare = spare.none }
-
-pub held_wider : (f : Claims) (p : List ℕ) (address : ℕ) (w : World) → TillFault (Enumerating f p 0) w → TillFault (Enumerating f p address) w
-held_wider f p address w t = till_weaker (Enumerating f p 0) (Enumerating f p address) w (λ e. record { has = e.has; is = none e.is; owned = e.owned }) t
-  where
-    none : {n : ℕ} → (n ≡ 0) ⊎ (n ≡ 0) → (n ≡ 0) ⊎ (n ≡ address)
-    none (inl e) = inl e
-    none (inr e) = inl e
 
 module _ (f : Claims) (port : HubPort) (p : List ℕ) (address m n : ℕ) {old mid new : World} {a b c d : Option (List ℕ)} (first : WentOn m old a mid b) (second : WentOn n mid c new d) (fair : IsFairAt f port p address old new) where
   pub fair_sound : mid.fault ≡ None
@@ -230,46 +207,15 @@ called_faulted port address n call why {old} {new} went at told called = record 
 
 -- a port stands where its change of connection is pending and that of its hub is not, and where a device stands
 
-pend_row : (k : Ports) (m : ℕ) → pend_at k m [] ≡ true → IsSome (port_at k m [])
-unfolding pend_at port_at
-pend_row ended m h = no h
-pend_row (vacant b k) zero h = refl
-pend_row (vacant b k) (suc m) h = pend_row k m h
-pend_row (taken b s a k) zero h = refl
-pend_row (taken b s a k) (suc m) h = pend_row k m h
-
-pend_below : (k : Ports) (j : ℕ) (e : List ℕ) (n : ℕ) → pend_at k j (e ++ (n ∷ [])) ≡ true → (pend_at k j e ≡ true) ⊎ IsSome (port_at k j (e ++ (n ∷ [])))
-unfolding pend_at port_at
-pend_below ended j e n h = no h
-pend_below (vacant b k) zero e n h = inl h
-pend_below (vacant b k) (suc j) e n h = pend_below k j e n h
-pend_below (taken b s a k) zero [] zero h = inl h
-pend_below (taken b s a k) zero [] (suc m) h = split b.power b.connection_changed h
-  where
-    split : (power changed : Bool) → (power && (changed || pend_at a m [])) ≡ true → ((power && changed) ≡ true) ⊎ IsSome (port_at a m [])
-    split false changed g = no g
-    split true true g = inl refl
-    split true false g = inr (pend_row a m g)
-pend_below (taken b s a k) zero (zero ∷ e) n h = inl h
-pend_below (taken b s a k) zero (suc i ∷ e) n h = split b.power b.connection_changed h (pend_below a i e n)
-  where
-    split : (power changed : Bool) → (power && (changed || pend_at a i (e ++ (n ∷ [])))) ≡ true
-        → (pend_at a i (e ++ (n ∷ [])) ≡ true → (pend_at a i e ≡ true) ⊎ IsSome (port_at a i (e ++ (n ∷ []))))
-        → ((power && (changed || pend_at a i e)) ≡ true) ⊎ IsSome (port_at a i (e ++ (n ∷ [])))
-    split false changed g below = no g
-    split true true g below = inl refl
-    split true false g below = below g
-pend_below (taken b s a k) (suc j) e n h = pend_below k j e n h
-
-port_below : (k : Ports) (j : ℕ) (p : List ℕ) → IsSome (state_at k j p) → IsSome (port_at k j p)
+state_port : (k : Ports) (j : ℕ) (p : List ℕ) → IsSome (state_at k j p) → IsSome (port_at k j p)
 unfolding state_at port_at
-port_below ended j p h = no h
-port_below (vacant b k) zero p h = no h
-port_below (vacant b k) (suc j) p h = port_below k j p h
-port_below (taken b s a k) zero [] h = refl
-port_below (taken b s a k) zero (zero ∷ p) h = no h
-port_below (taken b s a k) zero (suc i ∷ p) h = port_below a i p h
-port_below (taken b s a k) (suc j) p h = port_below k j p h
+state_port ended j p h = no h
+state_port (vacant b k) zero p h = no h
+state_port (vacant b k) (suc j) p h = state_port k j p h
+state_port (taken b s a k) zero [] h = refl
+state_port (taken b s a k) zero (zero ∷ p) h = no h
+state_port (taken b s a k) zero (suc i ∷ p) h = state_port a i p h
+state_port (taken b s a k) (suc j) p h = state_port k j p h
 
 stands_at : (o : Option PortState) → IsSome o → (b : PortState) × (o ≡ Some b)
 stands_at None some = no some
@@ -278,12 +224,16 @@ stands_at (Some b) some = (b, refl)
 pub port_stands : (k : Ports) (p : List ℕ) → IsSome (state_there k p) → (b : PortState) × (port_there k p ≡ Some b)
 port_stands k [] some = no some
 port_stands k (zero ∷ p) some = no some
-port_stands k (suc j ∷ p) some = stands_at (port_at k j p) (port_below k j p some)
+port_stands k (suc j ∷ p) some = stands_at (port_at k j p) (state_port k j p some)
 
 -- where no change is pending at its hub
 hub_port : (w : World) (j : ℕ) (e : List ℕ) (n : ℕ) → IsOccupied w (suc j ∷ (e ++ (n ∷ []))) → (pend w.roots (suc j ∷ e) ≡ true) ⊎ IsSome (port_there w.roots (suc j ∷ (e ++ (n ∷ []))))
-hub_port w j e n (inl h) = pend_below w.roots j e n h
-hub_port w j e n (inr h) = inr (port_below w.roots j (e ++ (n ∷ [])) h.1)
+hub_port w j e n (inl h) = pick (pend_or_live w.roots (suc j ∷ e) n h)
+  where
+    pick : (live w.roots (suc j ∷ (e ++ (n ∷ []))) ≡ true) ⊎ (pend w.roots (suc j ∷ e) ≡ true) → (pend w.roots (suc j ∷ e) ≡ true) ⊎ IsSome (port_there w.roots (suc j ∷ (e ++ (n ∷ []))))
+    pick (inl on) = inr (subst IsSome (sym (live_port w.roots (suc j ∷ (e ++ (n ∷ []))) on).1) refl)
+    pick (inr above) = inl above
+hub_port w j e n (inr h) = inr (state_port w.roots j (e ++ (n ∷ [])) h.1)
 
 module _ (port : HubPort) (address n : ℕ) (why : EnumFault) {old new : World} {a b : Option (List ℕ)} (went : WentOn n old a new b) (at : AtPort port address old new) (told : FaultAt port why new) (shown : StatusAt port old (Err why) new) where
   status_denies : (f : Claims) (p : List ℕ) → IsFairAt f port p address old new → (hub : Target) (i : ℕ) → port ≡ External hub i → why ≡ fault.ParentLost → (serves : Serves hub i new) → p ≡ suc serves.j ∷ (serves.p ++ (i ∷ [])) → 8 ≤ hub.max
@@ -291,7 +241,7 @@ module _ (port : HubPort) (address n : ℕ) (why : EnumFault) {old new : World} 
   status_denies f p fair hub i is parent serves there wide = pick (hub_port old serves.j serves.p i (subst (IsOccupied old) there fair.occupied))
     where
       off : is_way p (suc serves.j ∷ serves.p) ≡ false
-      off = ap (λ x. is_way x (suc serves.j ∷ serves.p)) there ∙ above (suc serves.j ∷ serves.p) i
+      off = ap (λ x. is_way x (suc serves.j ∷ serves.p)) there ∙ not_way (suc serves.j ∷ serves.p) i
 
       pick : (pend old.roots (suc serves.j ∷ serves.p) ≡ true) ⊎ IsSome (port_there old.roots (suc serves.j ∷ (serves.p ++ (i ∷ [])))) → pend new.roots (suc serves.j ∷ serves.p) ≡ true
       pick (inl h) = pending_persists (suc serves.j ∷ serves.p) (course_wider (λ s w k. k.spares) ((fair_only f port p address fair at).others (suc serves.j ∷ serves.p) off)) h
@@ -334,10 +284,10 @@ stop_wider : (A B : Spec → Option Cause) (f : Claims) (p : List ℕ) (old new 
 stop_wider A B f p old new more (Refused cause) stops = λ held. pends_wider (λ spec. A spec ≡ Some cause) (λ spec. B spec ≡ Some cause) p new (λ spec. more spec cause) (stops held)
 stop_wider A B f p old new more (Fault why) stops = stops
 
-pub stops_wider : (A B : Spec → Option Cause) (port : HubPort) (address : ℕ) (stop : Stop) (old new : World) → ((spec : Spec) (cause : Cause) → A spec ≡ Some cause → B spec ≡ Some cause) → Stops A port address stop old new → Stops B port address stop old new
+pub stops_wider : (A B : Spec → Option Cause) (port : HubPort) (address : ℕ) (stop : Stop) (old new : World) → ((spec : Spec) (cause : Cause) → A spec ≡ Some cause → B spec ≡ Some cause) → StopsFairly A port address stop old new → StopsFairly B port address stop old new
 stops_wider A B port address stop old new more stops = record { why = λ f p fair. stop_wider A B f p old new more stop (stops.why f p fair) }
 
-pub stops_faulted : (wrong : Spec → Option Cause) (port : HubPort) (address : ℕ) (why : EnumFault) (old new : World) → Faulted port address why old new → Stops wrong port address (Fault why) old new
+pub stops_faulted : (wrong : Spec → Option Cause) (port : HubPort) (address : ℕ) (why : EnumFault) (old new : World) → Faulted port address why old new → StopsFairly wrong port address (Fault why) old new
 stops_faulted wrong port address why old new faulted = record { why = faulted.why }
 
 pub faulted_after : (port : HubPort) (address m n : ℕ) (why : EnumFault) {old mid new : World} {a b c d : Option (List ℕ)} → WentOn m old a mid b → WentOn n mid c new d → AtPort port address old mid → Faulted port address why mid new → Faulted port address why old new

@@ -12,28 +12,22 @@ use Rattle.usb_device.specs.declared.calls.PortCall.TheVariants.{SetReset, Clear
 use Rattle.usb_device.specs.Calls.{set_call, clear_call}
 use Rattle.usb_world.specs.Addresses.{after_taking}
 use Rattle.usb_world.specs.Devices.{Relation, Was, EachWas}
-use Rattle.usb_world.specs.Live.{address_of, is_way, same_path}
-use Rattle.usb_world.specs.Requested.{is_below}
-use Rattle.usb_world.specs.Resting.{AsksNothingOf}
+use Rattle.usb_world.specs.Paths.{address_of, is_way, same_path}
+use Rattle.usb_world.specs.PortRequests.{is_above}
+use Rattle.usb_world.specs.RestingPorts.{AsksNothingOf}
 use Rattle.usb_world.specs.Steps.{Course, here}
-use Rattle.usb_world.specs.Touched.{spares}
+use Rattle.usb_world.specs.WayEffects.{spares}
 use Rattle.usb_world.specs.World.{World}
-use Rattle.usb_world.proofs.AddressesReset.{self_path}
-use Rattle.usb_world.proofs.Booleans.{no, decided, and_false}
-use Rattle.usb_world.proofs.OneHolderMore.{equal_same}
-use Rattle.usb_world.proofs.Devices.{each_none, each_joined, each_wider}
-use Rattle.usb_world.proofs.WorldLaws.{course_joined, course_wider}
+use Rattle.usb_world.proofs.Interface.{and_false, course_joined, course_wider, decided, each_joined, each_none, each_wider, equal_same, no, self_path}
 use Rattle.usb_bus.specs.Traced.{WentOn}
 use Rattle.usb_transaction.specs.declared.target.Target.{Target}
 use Rattle.usb_address.specs.Claims.{Claims, Unused}
 use Rattle.usb_address.specs.Owned.{Owned, Enumerating, TillFault, KeepsAddresses}
-use Rattle.usb_address.proofs.Keeping.{keeps_none, keeps_then}
-use Rattle.usb_address.proofs.Resetting.{same_way}
-use Rattle.usb_address.proofs.States.{at_zero}
+use Rattle.usb_address.proofs.Interface.{at_zero, keeps_none, keeps_then, same_way}
 use Rattle.usb_pipe.specs.declared.fault.PipeFault.{PipeFault}
 use Rattle.usb_pipe.specs.declared.fault.PipeFault.TheVariants.{Stalled, Busy, NoAnswer, Broken, Bus, Memory}
 use Rattle.usb_pipe.specs.Control.{Faults}
-use Rattle.usb_pipe.specs.Whole.{IsNotOfBus}
+use Rattle.usb_pipe.specs.Leaves.{IsNotOfBus}
 use Rattle.usb_hub.specs.declared.port.HubPort.{HubPort}
 use Rattle.usb_hub.specs.declared.port.HubPort.TheVariants.{Root, External}
 use Rattle.usb_hub.specs.Addresses.{StaysAs, EachElsewhere, KeepsDevices, KeepsAsked, KeepsCleared, Resets, GivesAddress}
@@ -41,10 +35,10 @@ use Rattle.usb_port.specs.declared.status.PortStatus.{PortStatus}
 use Rattle.usb_hub.specs.Asked.{ReadAsked, TextAsked, HasText}
 use Rattle.usb_hub.specs.Moments.{IsCall, CallsPort}
 use Rattle.usb_hub.specs.Port.{PortRead}
-use Rattle.usb_hub.specs.Requests.{AllRest, RestBut, Ends, Asked, Ordered}
+use Rattle.usb_hub.specs.Requests.{AllRest, RestBut, EndsAfter, AskedData, Ordered}
 use Rattle.usb_hub.specs.Settings.{AddressAsked, ConfigurationAsked}
-use Rattle.usb_hub.proofs.Devices.{stays_none, stays_itself, stays_joined, same_stays, stage_stays}
-use Rattle.usb_enum.specs.Addresses.{IsSpare, Within, Takes, OnlyCalls, AtPort}
+use Rattle.usb_hub.proofs.Interface.{same_stays, stays-registers, stays-spec, stays_itself, stays_joined, stays_none}
+use Rattle.usb_enum.specs.Addresses.{IsSpare, Within, TakesAddress, OnlyCalls, AtPort}
 use Rattle.usb_enum.specs.Frames.{OnlyAsks, OnlyTells, StaysBut, OnlySets, OnlyAt}
 use Rattle.usb_enum.proofs.Courses.{went_sound}
 use Rattle.usb_enum.proofs.Enumerations.{Having, having, at_taking, within_none, within_then, within_on, within_kept, within_reset, within_given}
@@ -62,7 +56,7 @@ not_of_bus (Err Broken) old new ends none = tt
 not_of_bus (Err (Bus fault)) old new ends none = absurd (cc (none, ends.told))
 not_of_bus (Err Memory) old new ends none = tt
 
-pub ended : {A : Type 0} (least : ℕ) (result : Result A PipeFault) (old new : World) → Ends least old result new → new.fault ≡ None → IsNotOfBus result
+pub ended : {A : Type 0} (least : ℕ) (result : Result A PipeFault) (old new : World) → EndsAfter least old result new → new.fault ≡ None → IsNotOfBus result
 ended least (Ok x) old new ends none = tt
 ended {A} least (Err why) old new ends none = not_of_bus {A = A} (Err why) old new ends none
 
@@ -79,15 +73,15 @@ asks_then n old mid new a went b = record {
 }
 
 pub answer_asks : {A X : Type 0} (given : Spec → Option X) (Has : State → A → Type 0) (t : Target) (request : Setup) (outcome : Result A PipeFault) (answer : Result (Vec ℕ) PipeFault) (old new : World)
-    → Asked t request old answer new → (new.shared ≡ false → EachWas (ReadAsked given Has t outcome) old new) → KeepsAddresses old new → OnlyAsks old new
+    → AskedData t request old answer new → (new.shared ≡ false → EachWas (ReadAsked given Has t outcome) old new) → KeepsAddresses old new → OnlyAsks old new
 answer_asks given Has t request outcome answer old new asked what keeps = record {
   addresses = keeps;
-  devices = record { stays = λ single. each_wider (ReadAsked given Has t outcome) StaysAs (λ j p s v x. stage_stays j p s v x.frame) old new (what single) };
+  devices = record { stays = λ single. each_wider (ReadAsked given Has t outcome) StaysAs (λ j p s v x. x.frame) old new (what single) };
   ports = λ none. asked.rests (ended 3 answer old new asked.ends none);
 }
 
 pub text_asks : (given : Spec → Option (List ℕ)) (t : Target) (request : Setup) (wanted : ℕ) (outcome : Result (Vec ℕ) PipeFault) (old new : World)
-    → Asked t request old outcome new → (new.shared ≡ false → EachWas (TextAsked given t wanted outcome) old new) → KeepsAddresses old new → OnlyAsks old new
+    → AskedData t request old outcome new → (new.shared ≡ false → EachWas (TextAsked given t wanted outcome) old new) → KeepsAddresses old new → OnlyAsks old new
 text_asks given t request wanted outcome old new = answer_asks given (λ s bytes. HasText (given s.spec) t wanted s bytes.items) t request outcome outcome old new
 
 -- a port's status; that of a root port is a register
@@ -140,7 +134,7 @@ power_tells hub port old result new ordered keeps devices = record {
 -- SET_CONFIGURATION, and what goes before and after it
 
 stays_but : (address j : ℕ) (p : List ℕ) (s v : State) → StaysAs j p s v → StaysBut address j p s v
-stays_but address j p s v x = record { spec = x.0; same = ap (λ r. r.address) x.1; stays = λ apart. x }
+stays_but address j p s v x = record { spec = stays-spec s v x; same = ap (λ r. r.address) (stays-registers s v x); stays = λ apart. x }
 
 pub sets_told : (address : ℕ) (old new : World) → OnlyTells address old new → OnlySets address old new
 sets_told address old new a = record {
@@ -339,11 +333,11 @@ at_addressed port address m target result old mid new at zero_is least went orde
 pub held_there : (f : Claims) (p : List ℕ) (address : ℕ) → after_taking f p address p ≡ Some address
 held_there f p address = ap (λ b. if b then Some address else f p) (self_path p)
 
-pub not_below : (p : List ℕ) → is_below p p ≡ false
+pub not_below : (p : List ℕ) → is_above p p ≡ false
 not_below p = ap (λ b. is_way p p && not b) (self_path p) ∙ and_false (is_way p p)
 
 -- what comes after the device has its address
-pub at_configured : (port : HubPort) (address n : ℕ) (old mid new : World) {r s : Option (List ℕ)} → AtPort port address old mid → Takes port address old mid → WentOn n mid r new s → OnlySets address mid new → AtPort port address old new
+pub at_configured : (port : HubPort) (address n : ℕ) (old mid new : World) {r s : Option (List ℕ)} → AtPort port address old mid → TakesAddress port address old mid → WentOn n mid r new s → OnlySets address mid new → AtPort port address old new
 at_configured port address n old mid new at takes went sets = record { within = within_on port address old mid new at.within sets.addresses; only = record { at = only } }
   where
     only : (f : Claims) (p : List ℕ) → IsSpare f port p address → TillFault (Enumerating f p address) old → new.fault ≡ None → OnlyAt p old new

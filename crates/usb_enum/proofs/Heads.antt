@@ -11,13 +11,13 @@ use Rattle.usb_device.specs.Rows.{State}
 use Rattle.usb_device.specs.Transfer.{max_packet}
 use Rattle.usb_world.specs.World.{World}
 use Rattle.usb_world.specs.Devices.{EachWas}
-use Rattle.usb_world.proofs.Devices.{each_wider}
+use Rattle.usb_world.proofs.Interface.{each_wider}
 use Rattle.usb_transaction.specs.declared.target.Target.{Target}
 use Rattle.usb_pipe.specs.declared.fault.PipeFault.{PipeFault}
-use Rattle.usb_pipe.specs.Whole.{IsMaximum}
+use Rattle.usb_pipe.specs.Leaves.{IsMaximum}
 use Rattle.usb_hub.specs.Asked.{device_given, HasText, DeviceAsked}
 use Rattle.usb_hub.specs.Addresses.{KeepsAnswered}
-use Rattle.usb_hub.specs.Requests.{Ends}
+use Rattle.usb_hub.specs.Requests.{EndsAfter}
 use Rattle.usb_enum.specs.declared.cause.Cause.{Cause}
 use Rattle.usb_enum.specs.Learned.{Learned}
 use Rattle.usb_enum.specs.Present.{AnswersSo, HasHead, HasDescriptor}
@@ -31,8 +31,6 @@ module _ (So : Spec → Type 0) (t : Target) (n : ℕ) (bytes : Vec ℕ)
     (so : (s : State) → s.spec.silent ≡ false → s.spec.busy ≡ false → s.spec.stalls.device ≡ false → (IsMaximum t n s → bytes.items ≡ take n s.spec.descriptor) → So s.spec) where
   device_learned : (j : ℕ) (p : List ℕ) (s v : State) → DeviceAsked t n (Ok bytes) j p s v → Learned So t j p s v
   device_learned j p s v x = record {
-    spec = ap (λ y. y.spec) x.frame;
-    registers = ap (λ y. y.registers) x.frame;
     frame = x.frame;
     so = λ at.
         let text : HasText (device_given s.spec) t n s bytes.items = x.done at bytes refl in
@@ -40,7 +38,7 @@ module _ (So : Spec → Type 0) (t : Target) (n : ℕ) (bytes : Vec ℕ)
         so s (x.could at).0 (x.could at).1 given.0 (λ m. text.first m ∙ ap (take n) (sym (same_Some s.spec.descriptor text.text given.1)));
   }
 
-  pub answered : (stalled : Cause) (outcome : Result (Vec ℕ) PipeFault) (old new : World) → answered_or stalled outcome ≡ Ok bytes → Ends 3 old outcome new → KeepsAnswered t.addr old outcome new
+  pub answered : (stalled : Cause) (outcome : Result (Vec ℕ) PipeFault) (old new : World) → answered_or stalled outcome ≡ Ok bytes → EndsAfter 3 old outcome new → KeepsAnswered t.addr old outcome new
       → (new.shared ≡ false → EachWas (DeviceAsked t n outcome) old new) → AnswersSo So t old new
   answered stalled outcome old new e ends addresses what =
       let is = answered_ok stalled outcome bytes e in
@@ -48,19 +46,19 @@ module _ (So : Spec → Type 0) (t : Target) (n : ℕ) (bytes : Vec ℕ)
       let asked = subst (λ r. new.shared ≡ false → EachWas (DeviceAsked t n r) old new) is what in
       record {
         who = keeps.who;
-        still = (subst (λ r. Ends 3 old r new) is ends).still;
+        still = (subst (λ r. EndsAfter 3 old r new) is ends).still;
         learns = λ single. each_wider (DeviceAsked t n (Ok bytes)) (Learned So t) device_learned old new (asked single);
       }
 
 pub head_answered : (t : Target) (max : ℕ) (bytes : Vec ℕ) (stalled : Cause) (outcome : Result (Vec ℕ) PipeFault) (old new : World) → answered_or stalled outcome ≡ Ok bytes → device_head_of t.low bytes.items ≡ Ok max
-    → Ends 3 old outcome new → KeepsAnswered t.addr old outcome new → (new.shared ≡ false → EachWas (DeviceAsked t 8 outcome) old new) → AnswersSo (HasHead t.low max) t old new
+    → EndsAfter 3 old outcome new → KeepsAnswered t.addr old outcome new → (new.shared ≡ false → EachWas (DeviceAsked t 8 outcome) old new) → AnswersSo (HasHead t.low max) t old new
 head_answered t max bytes stalled outcome old new e good =
     answered (HasHead t.low max) t 8 bytes
     (λ s loud free device first. record { loud = loud; free = free; device = device; head = ap (device_head_of t.low) (sym (first (inr (omega arith)))) ∙ good })
     stalled outcome old new e
 
 pub bytes_answered : (t : Target) (bytes : Vec ℕ) (front : List ℕ) (stalled : Cause) (outcome : Result (Vec ℕ) PipeFault) (old new : World) → answered_or stalled outcome ≡ Ok bytes → front ≡ take 18 bytes.items
-    → Ends 3 old outcome new → KeepsAnswered t.addr old outcome new → (new.shared ≡ false → EachWas (DeviceAsked t 18 outcome) old new) → AnswersSo (AtMaximum t (HasDescriptor front)) t old new
+    → EndsAfter 3 old outcome new → KeepsAnswered t.addr old outcome new → (new.shared ≡ false → EachWas (DeviceAsked t 18 outcome) old new) → AnswersSo (AtMaximum t (HasDescriptor front)) t old new
 bytes_answered t bytes front stalled outcome old new e is =
     answered (AtMaximum t (HasDescriptor front)) t 18 bytes
     (λ s loud free device first max. is ∙ ap (take 18) (first (inl max)) ∙ take-take 18 18 s.spec.descriptor (omega arith))

@@ -6,7 +6,7 @@ use Rattle.usb_transaction.specs.declared.target.Target.{Target}
 use Rattle.usb_pipe.specs.declared.fault.PipeFault.{PipeFault}
 use Rattle.std.specs.Global.{Vec}
 use Rattle.usb_request.specs.Requests.{get_hub_descriptor}
-use Rattle.usb_hub.specs.Requests.{Asked}
+use Rattle.usb_hub.specs.Requests.{AskedData}
 use Rattle.usb_descriptor.specs.Hub.{hub_of, port_count}
 use Rattle.usb_resources.specs.Power.{supply_of}
 use Rattle.usb_enum.specs.declared.cause.Cause.{Cause}
@@ -43,7 +43,7 @@ answered_ok stalled (Ok given) answer is = cc
 answered_ok stalled (Err fault) answer is = absurd cc
 
 -- the descriptor that a hub told
-pub count_told : (hub : Target) (stalled : Cause) (outcome : Result (Vec ℕ) PipeFault) (bytes : Vec ℕ) (view : List ℕ) (old new : World) → answered_or stalled outcome ≡ Ok bytes → Asked hub get_hub_descriptor old outcome new → Ok view ≡ hub_of bytes.items → view ≡ bytes.items → CountTold hub old new (port_count view)
+pub count_told : (hub : Target) (stalled : Cause) (outcome : Result (Vec ℕ) PipeFault) (bytes : Vec ℕ) (view : List ℕ) (old new : World) → answered_or stalled outcome ≡ Ok bytes → AskedData hub get_hub_descriptor old outcome new → Ok view ≡ hub_of bytes.items → view ≡ bytes.items → CountTold hub old new (port_count view)
 count_told hub stalled outcome bytes view old new answered asked good same = record {
   bytes = bytes;
   asked = rw (answered_ok stalled outcome bytes answered) at asked;

@@ -3,20 +3,18 @@ use Rattle.std.proofs.Common.{◌≡◌, ℕ, List, false, ◌==◌, ap, subst, 
 use Rattle.usb_device.specs.Spec.{Spec}
 use Rattle.usb_device.specs.Rows.{State}
 use Rattle.usb_world.specs.World.{World}
-use Rattle.usb_world.proofs.Devices.{each_joined, each_wider}
+use Rattle.usb_world.proofs.Interface.{each_joined, each_wider}
 use Rattle.usb_transaction.specs.declared.target.Target.{Target}
-use Rattle.usb_hub.proofs.Devices.{stays_joined}
+use Rattle.usb_hub.proofs.Interface.{stays-registers, stays-spec, stays_joined}
 use Rattle.usb_enum.specs.Learned.{Learned, Learns}
 
 pub learned_wider : (A B : Spec → Type 0) (t : Target) → ((x : Spec) → A x → B x) → (j : ℕ) (p : List ℕ) (s v : State) → Learned A t j p s v → Learned B t j p s v
-learned_wider A B t f j p s v l = record { spec = l.spec; registers = l.registers; frame = l.frame; so = λ at. f s.spec (l.so at) }
+learned_wider A B t f j p s v l = record { frame = l.frame; so = λ at. f s.spec (l.so at) }
 
 pub learned_then : (A B : Spec → Type 0) (t : Target) (j : ℕ) (p : List ℕ) (s u v : State) → Learned A t j p s u → Learned B t j p u v → Learned (λ x. A x × B x) t j p s v
 learned_then A B t j p s u v a b = record {
-  spec = b.spec ∙ a.spec;
-  registers = b.registers ∙ a.registers;
-  frame = (stays_joined j p s u v (a.spec, a.registers, a.frame) (b.spec, b.registers, b.frame)).2;
-  so = λ at. (a.so at, subst B a.spec (b.so (ap (λ r. r.address == t.addr) a.registers ∙ at)));
+  frame = stays_joined j p s u v a.frame b.frame;
+  so = λ at. (a.so at, subst B (stays-spec s u a.frame) (b.so (ap (λ r. r.address == t.addr) (stays-registers s u a.frame) ∙ at)));
 }
 
 pub learns_wider : (A B : Spec → Type 0) (t : Target) (old new : World) → ((x : Spec) → A x → B x) → Learns A t old new → Learns B t old new

@@ -1,6 +1,6 @@
 -- What steps keep of a world: its damages and how many root ports it has; the worst stretch of address losses only grows.
 use Rattle.std.proofs.Common.{◌≡◌, ◌≤◌, ◌==◌, Bool, true, false, if◌then◌else◌, List, [], ◌∷◌, length, Option, None, Some, refl, ap, sym, subst, ◌∙◌, arith}
-use Rattle.usb_device.proofs.Rows.{row_of-after, row_of-forgotten}
+use Rattle.usb_device.proofs.Interface.{row_of-after, row_of-forgotten}
 use Rattle.usb_device.specs.declared.delivery.Sent.{Sent}
 use Rattle.usb_device.specs.Delivery.{is_clearing}
 use Rattle.usb_device.specs.Tree.{Ports, called, row_of}
@@ -15,7 +15,7 @@ use Rattle.usb_world.specs.Losses.{one_more, counted, after_clearing}
 use Rattle.usb_world.specs.Steps.{is_due, took, took_first, due_from, ready, damage_in, with_attempt, attempted, event_taken, Step, attempt, root_call, event, report, after, Course, here, step}
 use Rattle.usb_world.specs.Passes.{passed, after_attempt}
 use Rattle.usb_world.specs.World.{World, roots_of}
-use Rattle.usb_world.proofs.Counts.{happened_long, row_long}
+use Rattle.usb_world.proofs.Interface.{happened_long, row_long}
 use Rattle.usb_enum.specs.Losses.{FewLosses}
 
 -- the same damages and number of root ports, and a worst stretch that is no shorter

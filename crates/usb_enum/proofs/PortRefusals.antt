@@ -10,18 +10,18 @@ use Rattle.usb_device.specs.Tree.{reach_at, state_at}
 use Rattle.usb_world.specs.Devices.{Was}
 use Rattle.usb_world.specs.Passes.{deep_at}
 use Rattle.usb_world.specs.World.{World}
-use Rattle.usb_world.proofs.Devices.{each_wider}
+use Rattle.usb_world.proofs.Interface.{each_wider}
 use Rattle.usb_transaction.specs.declared.target.Target.{Target}
 use Rattle.usb_bus.specs.Traced.{WentOn}
-use Rattle.usb_bus.proofs.Wents.{went_then}
+use Rattle.usb_bus.proofs.Interface.{went_then}
 use Rattle.usb_request.specs.Requests.{set_port_feature}
 use Rattle.usb_pipe.specs.declared.fault.PipeFault.{PipeFault}
 use Rattle.usb_pipe.specs.declared.fault.PipeFault.TheVariants as pipe
 use Rattle.usb_hub.specs.declared.port.HubPort.TheVariants.{External}
 use Rattle.usb_hub.specs.Addresses.{StaysAs, KeepsDevices}
 use Rattle.usb_hub.specs.Requests.{Ordered}
-use Rattle.usb_hub.specs.Why.{HasPort, Serves, IsServed}
-use Rattle.usb_hub.proofs.Calls.{hub_sets}
+use Rattle.usb_hub.specs.Why.{HasPort, Serves, NoHubFailed}
+use Rattle.usb_hub.proofs.Interface.{hub_sets, stays-registers, stays-spec}
 use Rattle.usb_enum.specs.declared.cause.Cause.{Cause}
 use Rattle.usb_enum.specs.declared.cause.Cause.TheVariants.{BadHub}
 use Rattle.usb_enum.specs.declared.stop.Stop.{Stop}
@@ -36,7 +36,7 @@ use Rattle.usb_enum.proofs.Refusals.{answered_err, explains_set, explains_set_on
 
 -- One port
 
-served_stop : (spec : Spec) (fault : PipeFault) → IsServed {A = Unit {0}} (Err fault) → IsRefusedFor no_fault (unwrap_or (stop_of fault) (Refused BadHub)) spec
+served_stop : (spec : Spec) (fault : PipeFault) → NoHubFailed {A = Unit {0}} (Err fault) → IsRefusedFor no_fault (unwrap_or (stop_of fault) (Refused BadHub)) spec
 served_stop spec pipe.Stalled served = absurd served
 served_stop spec pipe.Busy served = absurd served
 served_stop spec pipe.NoAnswer served = absurd served
@@ -74,12 +74,12 @@ power_explains t port outcome stop old new ordered is keeps three single j p v o
       on = was.on;
       stands = was.stands;
       so = record {
-        spec = was.so.0;
-        address = ap (λ (g : Registers). g.address) was.so.1;
+        spec = stays-spec was.before v was.so;
+        address = ap (λ (g : Registers). g.address) (stays-registers was.before v was.so);
         so = λ h ruled r has.
-            let served : IsServed outcome = (hub_sets (External t port) t port 8 old outcome new refl (inr refl) ordered).why t port refl three single
-            (serves_port t port new j p was.before v was.so.0 was.so.1 on there h r has) in
-            subst (λ x. IsRefusedFor no_fault x was.before.spec) failed.2 (served_stop was.before.spec failed.0 (subst IsServed failed.1 served));
+            let served : NoHubFailed outcome = (hub_sets (External t port) t port 8 old outcome new refl (inr refl) ordered).why t port refl three single
+            (serves_port t port new j p was.before v (stays-spec was.before v was.so) (stays-registers was.before v was.so) on there h r has) in
+            subst (λ x. IsRefusedFor no_fault x was.before.spec) failed.2 (served_stop was.before.spec failed.0 (subst NoHubFailed failed.1 served));
       };
     }
 
@@ -87,7 +87,7 @@ power_explains t port outcome stop old new ordered is keeps three single j p v o
 
 -- where each device stays as it was, nothing more is learned
 learns_stays : (t : Target) (old new : World) → KeepsDevices old new → Learns (λ spec. ⊤) t old new
-learns_stays t old new keeps single = each_wider StaysAs (Learned (λ spec. ⊤) t) (λ j p s v x. record { spec = x.0; registers = x.1; frame = x.2; so = λ at. tt }) old new (keeps.stays single)
+learns_stays t old new keeps single = each_wider StaysAs (Learned (λ spec. ⊤) t) (λ j p s v x. record { frame = x; so = λ at. tt }) old new (keeps.stays single)
 
 has_earlier : (spec : Spec) (m n : ℕ) → 1 ≤ m → m ≤ n → HasPort spec n → HasPort spec m
 has_earlier spec m n least fewer h = record { hub = h.hub; is = h.is; least = least; most = omega (arith, fewer, h.most); idle = h.idle; ruled = h.ruled }

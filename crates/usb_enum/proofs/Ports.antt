@@ -3,7 +3,7 @@ use Rattle.std.proofs.Common.{◌≡◌, refl, sym, subst, arith}
 use Rattle.std.specs.Prelude.{◌-◌, List, Result, Ok, Err, false, slice_index_or}
 use Rattle.std.proofs.Common.{get_or-set_same}
 use Rattle.usb_port.specs.PortState.{PortState, off, clear_row}
-use Rattle.usb_world.specs.World.{World, root_row, port_at}
+use Rattle.usb_world.specs.World.{World, root_row, root_port_at}
 use Rattle.usb_pipe.specs.declared.fault.PipeFault.{PipeFault}
 use Rattle.usb_hub.specs.declared.port.HubPort.{HubPort}
 use Rattle.usb_hub.specs.declared.port.HubPort.TheVariants.{Root, External}
@@ -13,7 +13,7 @@ use Rattle.usb_enum.specs.Stop.{at_port}
 
 -- where the call worked
 pub disabled : (port : HubPort) (old new : World) (result : Result (Unit {0}) PipeFault) (done : Unit {0}) → at_port result ≡ Ok done → IsPort old port → PortCleared port 1 old result new → IsDisabled port new
-unfolding clear_row port_at
+unfolding clear_row root_port_at
 disabled (Root number) old new result done worked is cleared =
     let P : List PortState → Type 0 = λ row. (slice_index_or row (number - 1) off).enable ≡ false in
     let Q : PortState → Type 0 = λ p. p.enable ≡ false in

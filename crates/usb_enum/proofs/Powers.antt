@@ -16,38 +16,26 @@ use Rattle.usb_device.specs.Tree.{Ports, ended, vacant, taken, port_of, all_off,
 use Rattle.usb_device.specs.View.{port_there, state_there}
 use Rattle.usb_world.specs.Courses.{is_harmless}
 use Rattle.usb_world.specs.Devices.{Was, EachWas}
-use Rattle.usb_world.specs.Live.{address_of, is_way, same_number}
-use Rattle.usb_world.specs.Plugged.{hub_ports}
-use Rattle.usb_world.specs.PluggedAt.{spec_of}
-use Rattle.usb_world.specs.Resting.{AsksNothingOf, RestsOrPends}
+use Rattle.usb_world.specs.Paths.{address_of, is_way, same_number}
+use Rattle.usb_world.specs.PluggedDevices.{hub_ports}
+use Rattle.usb_world.specs.PlanCourses.{spec_of}
+use Rattle.usb_world.specs.RestingPorts.{AsksNothingOf, RestsOrPends}
 use Rattle.usb_world.specs.Steps.{AnyStep, Course, step}
 use Rattle.usb_world.specs.World.{World}
-use Rattle.usb_world.proofs.Booleans.{no, and_false}
-use Rattle.usb_world.proofs.OneHolderMore.{equal_same}
-use Rattle.usb_world.proofs.PluggedLaws.{ports_stand}
-use Rattle.usb_world.proofs.Resting.{rests_or_pends}
-use Rattle.usb_world.proofs.WorldLaws.{course_joined, course_wider, pending_persists}
+use Rattle.usb_world.proofs.Interface.{and_false, course_joined, course_wider, equal_same, no, pending_persists, ports_stand, rests_or_pends}
 use Rattle.usb_bus.specs.Traced.{WentOn}
 use Rattle.usb_transaction.specs.declared.target.Target.{Target}
 use Rattle.usb_transaction.specs.Answerer.{Answerer}
-use Rattle.usb_transaction.specs.Over.{is_at}
+use Rattle.usb_transaction.specs.Leaves.{is_at}
 use Rattle.usb_pipe.specs.declared.fault.PipeFault.{PipeFault}
-use Rattle.usb_pipe.proofs.WhoAnswers.{who_writes}
+use Rattle.usb_pipe.proofs.Interface.{who_writes}
 use Rattle.usb_address.specs.Claims.{Claims}
 use Rattle.usb_address.specs.Owned.{Owned, TillFault, KeepsAddresses}
-use Rattle.usb_address.proofs.Bare.{below_of}
-use Rattle.usb_address.proofs.Claimed.{Follows, claimed_path, quiet_follows}
-use Rattle.usb_address.proofs.Keeping.{read_keeps}
-use Rattle.usb_address.proofs.Setups.{same_setup}
-use Rattle.usb_address.proofs.Unpowered.{NoPower, stays_unpowered}
+use Rattle.usb_address.proofs.Interface.{Follows, NoPower, below_of, claimed_path, quiet_follows, read_keeps, same_setup, stays_unpowered}
 use Rattle.usb_hub.specs.Moments.{PortDone}
-use Rattle.usb_hub.specs.Requests.{AllRest, Asked, Ordered}
+use Rattle.usb_hub.specs.Requests.{AllRest, AskedData, Ordered}
 use Rattle.usb_hub.specs.Settings.{ConfigurationAsked, WentOff}
-use Rattle.usb_hub.proofs.Acting.{AsksFor, place_below}
-use Rattle.usb_hub.proofs.Calls.{hub_done, hub_named, hub_rests, set_asks}
-use Rattle.usb_hub.proofs.Keeping.{set_keeps}
-use Rattle.usb_hub.proofs.Powering.{none_of, powered_stands}
-use Rattle.usb_hub.proofs.Standing.{port_of_place}
+use Rattle.usb_hub.proofs.Interface.{AsksFor, hub_done, hub_named, hub_rests, none_of, place_below, port_of_place, powered_stands, set_asks, set_keeps}
 use Rattle.usb_enum.specs.declared.hub.HubFacts.{HubFacts}
 use Rattle.usb_enum.specs.Found.{EmptiesPorts}
 use Rattle.usb_enum.specs.Frames.{OnlyAsks}
@@ -58,10 +46,6 @@ use Rattle.usb_enum.proofs.Courses.{orderly_on, went_in_order}
 use Rattle.usb_enum.proofs.Frames.{ended as sound_end}
 
 -- Numbers
-
-self_number : (n : ℕ) → same_number n n ≡ true
-self_number zero = refl
-self_number (suc n) = self_number n
 
 apart_less : (n i : ℕ) → i < n → same_number n i ≡ false
 apart_less zero i h = absurd (omega (arith, h))
@@ -201,11 +185,11 @@ module _ (t : Target) (f : Claims) (j : ℕ) (e : List ℕ) (held : f (suc j ∷
 
 -- The reads of a hub's descriptor and status
 
-asked_keeps : (t : Target) (request : Setup) (old : World) (answer : Result (Vec ℕ) PipeFault) (new : World) → is_harmless request ≡ true → Is request 0x00 5 ≡ false → Asked t request old answer new → KeepsAddresses old new
+asked_keeps : (t : Target) (request : Setup) (old : World) (answer : Result (Vec ℕ) PipeFault) (new : World) → is_harmless request ≡ true → Is request 0x00 5 ≡ false → AskedData t request old answer new → KeepsAddresses old new
 asked_keeps t request old answer new harmless other asked = read_keeps t request (same_setup request) harmless other 3 1 old new answer asked.ends asked.stages
 
 module _ (t : Target) (f : Claims) (j : ℕ) (e : List ℕ) (held : f (suc j ∷ e) ≡ Some t.addr) where
-  asked_on : (request : Setup) (old : World) (answer : Result (Vec ℕ) PipeFault) (new : World) → is_harmless request ≡ true → Is request 0x00 5 ≡ false → new.fault ≡ None → Asked t request old answer new → Given t f j e held 0 old → Given t f j e held 0 new
+  asked_on : (request : Setup) (old : World) (answer : Result (Vec ℕ) PipeFault) (new : World) → is_harmless request ≡ true → Is request 0x00 5 ≡ false → new.fault ≡ None → AskedData t request old answer new → Given t f j e held 0 old → Given t f j e held 0 new
   asked_on request old answer new harmless other none asked was = record {
     sound = none;
     owned = ((asked_keeps t request old answer new harmless other asked).kept f (record { so = λ h. was.owned; single = was.owned.single })).so none;

@@ -10,18 +10,13 @@ use Rattle.usb_device.specs.Spec.{Spec}
 use Rattle.usb_device.specs.Tree.{Ports, ended, vacant, taken, reach, reach_at, state_at, port_at}
 use Rattle.usb_device.specs.View.{state_there, port_there}
 use Rattle.usb_world.specs.Addresses.{after_taking}
-use Rattle.usb_world.specs.Live.{address_of, same_path}
+use Rattle.usb_world.specs.Paths.{address_of, same_path}
 use Rattle.usb_world.specs.Devices.{Relation, Was, EachWas}
-use Rattle.usb_world.specs.PluggedAt.{spec_of}
-use Rattle.usb_world.specs.Sane.{IsSanePort, IsSane}
+use Rattle.usb_world.specs.PlanCourses.{spec_of}
+use Rattle.usb_world.specs.SanePorts.{IsSanePort, IsSane}
 use Rattle.usb_world.specs.Steps.{AnyStep, Course}
 use Rattle.usb_world.specs.World.{World}
-use Rattle.usb_world.proofs.AddressesReset.{self_path}
-use Rattle.usb_world.proofs.Between.{between_course}
-use Rattle.usb_world.proofs.Booleans.{no, both}
-use Rattle.usb_world.proofs.Devices.{each_wider}
-use Rattle.usb_world.proofs.PluggedLaws.{undisturbed_keeps}
-use Rattle.usb_world.proofs.WorldLaws.{same_device, course_wider}
+use Rattle.usb_world.proofs.Interface.{between_course, both, course_wider, each_wider, no, same_device, self_path, undisturbed_keeps}
 use Rattle.usb_bus.specs.Traced.{WentOn}
 use Rattle.usb_transaction.specs.declared.target.Target.{Target}
 use Rattle.usb_address.specs.Claims.{Claims}
@@ -30,6 +25,7 @@ use Rattle.usb_hub.specs.declared.port.HubPort.{HubPort}
 use Rattle.usb_hub.specs.Addresses.{Resets, StaysAs, KeepsDevices}
 use Rattle.usb_hub.specs.Moments.{PortTold}
 use Rattle.usb_hub.specs.Settings.{AddressAsked}
+use Rattle.usb_hub.proofs.Interface.{stays-registers, stays-spec}
 use Rattle.usb_enum.specs.declared.addressed.Addressed.{Addressed}
 use Rattle.usb_enum.specs.Addresses.{IsSpare, Within}
 use Rattle.usb_enum.specs.Calls.{StatusAt}
@@ -122,7 +118,7 @@ reset_finds port address l m n status {old} {set} {told} {new} first second thir
         let h = having f p address set ((within_reset port address old set resets).stays f p spare t) in
         let port_told = shown.tells.tells (after_taking f p h.has) p (at_taking f port p h.has spare.at) h.owned status (done_at shown.outcome status shown.told) in
         let single = (within.stays f p spare t).single in
-        path_on StaysAs (HasSpeed status.low_speed) (HasSpeed status.low_speed) (λ j e s v x low. ap (λ y. y.low) x.0 ∙ low) p told new (keeps.stays single)
+        path_on StaysAs (HasSpeed status.low_speed) (HasSpeed status.low_speed) (λ j e s v x low. ap (λ y. y.low) (stays-spec s v x) ∙ low) p told new (keeps.stays single)
         (told_speed p status set told port_told none_set (went_regular l old set first order))
 
 -- Who holds which address
@@ -155,7 +151,7 @@ answered_finds So t port address n {old} {mid} {new} is answered went within kee
         let has = answered_has f port p address h.has t.addr spare is (answered.who.held claims h.owned) in
         let single = (keeps.kept claims h.owned).single in
         path_on (Learned So t) (λ s. address_of s ≡ h.has) (λ s. So s.spec × (address_of s ≡ t.addr))
-        (λ j e s v x at. (subst So (sym x.spec) (x.so (eq-eqb (address_of s) t.addr (at ∙ has))), ap (λ r. r.address) x.registers ∙ at ∙ has))
+        (λ j e s v x at. (subst So (sym (stays-spec s v x.frame)) (x.so (eq-eqb (address_of s) t.addr (at ∙ has))), ap (λ r. r.address) (stays-registers s v x.frame) ∙ at ∙ has))
         p mid new (answered.learns single) (held_at f p h.has mid (h.owned.so (went_sound n mid new went answered.still)))
 
 -- Over calls that come later
@@ -190,8 +186,8 @@ pub unaddressed_finds : (port : HubPort) (address n : ℕ) (low pre : Bool) (max
 unaddressed_finds port address n low pre max {old} {mid} {new} speed answered went within keeps =
     let asked : Target = record { addr = 0; max = 8; low = low; pre = pre } in
     let target : Target = record { addr = 0; max = max; low = low; pre = pre } in
-    let stays : new.shared ≡ false → EachWas StaysAs mid new = λ single. each_wider (Learned (HasHead low max) asked) StaysAs (λ j e s v x. (x.spec, x.registers, x.frame)) mid new (answered.learns single) in
-    let later = finds_on StaysAs (HasSpeed low) (HasSpeed low) port address (λ j e s v x is. ap (λ y. y.low) x.0 ∙ is) stays (within_on port address old mid new within keeps) (speed (went_sound n mid new went answered.still)) in
+    let stays : new.shared ≡ false → EachWas StaysAs mid new = λ single. each_wider (Learned (HasHead low max) asked) StaysAs (λ j e s v x. x.frame) mid new (answered.learns single) in
+    let later = finds_on StaysAs (HasSpeed low) (HasSpeed low) port address (λ j e s v x is. ap (λ y. y.low) (stays-spec s v x) ∙ is) stays (within_on port address old mid new within keeps) (speed (went_sound n mid new went answered.still)) in
     finds_both (HasSpeed low) (λ s. HasHead low max s.spec × (address_of s ≡ 0)) (AwaitsAddress target) port address old new (λ s is head. unnamed target s is head refl)
     later (answered_finds (HasHead low max) asked port address n (inl refl) answered went within keeps)
 
@@ -228,6 +224,6 @@ address_finds target device port address n {old} {mid} {given} {new} none is unn
     subst (λ t. Finds (λ s. Granted t.low t.max s.spec) port address old given) (sym is)
     (finds_on (AddressAsked target address (Ok tt) mid given) (AwaitsAddress target) (λ s. Granted target.low target.max s.spec) port address (granted target address mid given none) asked within unnamed) in
     let later : Finds Is port address old new =
-    finds_on (Learned So device.target) Is Is port address (λ j e s v x g. subst (Granted device.target.low device.target.max) (sym x.spec) g) answered.learns (within_on port address old given new within keeps) allowed in
+    finds_on (Learned So device.target) Is Is port address (λ j e s v x g. subst (Granted device.target.low device.target.max) (sym (stays-spec s v x.frame)) g) answered.learns (within_on port address old given new within keeps) allowed in
     finds_both Is (λ s. So s.spec × (address_of s ≡ device.target.addr)) (IsAddressed device) port address old new (addressed device)
     later (answered_finds So device.target port address n (inr (ap (λ t. t.addr) is)) answered went within keeps)

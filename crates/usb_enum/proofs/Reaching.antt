@@ -9,36 +9,35 @@ use Rattle.usb_device.specs.Calls.{clear_call, called_port}
 use Rattle.usb_device.specs.Rows.{State}
 use Rattle.usb_device.specs.Tree.{Ports, ended as no_more, vacant, taken, reach_at, state_at}
 use Rattle.usb_device.specs.View.{state_there, port_there}
+use Rattle.usb_device.specs.declared.calls.PortCall.{PortCall}
 use Rattle.usb_world.specs.Addresses.{after_taking}
 use Rattle.usb_world.specs.Courses.{Spares}
-use Rattle.usb_world.specs.Live.{live, pend}
-use Rattle.usb_world.specs.PluggedAt.{spec_of}
-use Rattle.usb_world.specs.Resting.{AsksNothingOf, RestsOrPends, StandsOrPends}
+use Rattle.usb_world.specs.Paths.{live, pend}
+use Rattle.usb_world.specs.PlanCourses.{spec_of}
+use Rattle.usb_world.specs.RestingPorts.{AsksNothingOf, RestsOrPends, StandsOrPends}
 use Rattle.usb_world.specs.Steps.{Course}
 use Rattle.usb_world.specs.World.{World}
-use Rattle.usb_world.proofs.Booleans.{no, both, decided}
-use Rattle.usb_world.proofs.Resting.{rests_or_pends, stands_or_pends}
-use Rattle.usb_world.proofs.WorldLaws.{course_wider, pending_persists}
+use Rattle.usb_world.proofs.Interface.{both, course_wider, decided, no, pending_persists, rests_or_pends, stands_or_pends, step_pend}
+use Rattle.usb_world.specs.WayEffects.{spares}
 use Rattle.usb_bus.specs.Traced.{WentOn}
 use Rattle.usb_address.specs.Claims.{Claims}
 use Rattle.usb_address.specs.Owned.{Enumerating, TillFault}
 use Rattle.usb_transaction.specs.declared.target.Target.{Target}
 use Rattle.usb_pipe.specs.declared.fault.PipeFault.{PipeFault}
-use Rattle.usb_pipe.specs.Whole.{IsNotOfBus}
 use Rattle.usb_hub.specs.declared.port.HubPort.{HubPort}
 use Rattle.usb_hub.specs.Moments.{OnReachedRow, PortTold, IsCall, CallsPort, PortDone}
 use Rattle.usb_hub.specs.Requests.{AllRest, Ordered}
-use Rattle.usb_hub.proofs.Standing.{StandsSo, Called, StandsTold, done_stands, told_stands, enabled_reach}
+use Rattle.usb_hub.proofs.Interface.{Called, StandsSo, StandsTold, disabled_port, done_stands, enabled_reach, told_stands}
 use Rattle.usb_enum.specs.declared.cause.Cause.{Cause}
 use Rattle.usb_enum.specs.declared.fault.EnumFault.{EnumFault}
 use Rattle.usb_enum.specs.declared.finding.Finding.{Finding}
 use Rattle.usb_enum.specs.declared.finding.Finding.TheVariants.{Refused}
-use Rattle.usb_enum.specs.Addresses.{IsSpare, Takes, AtPort}
-use Rattle.usb_enum.specs.Calls.{CalledAt, StatusAt, Settles}
+use Rattle.usb_enum.specs.Addresses.{IsSpare, TakesAddress, AtPort}
+use Rattle.usb_enum.specs.Calls.{CalledAt, StatusAt, SettlesReset}
 use Rattle.usb_enum.specs.Found.{Disables}
 use Rattle.usb_enum.specs.Frames.{OnlyAsks, OnlySets}
 use Rattle.usb_enum.specs.Places.{IsKnownAs, IsOccupied, IsReachedAt}
-use Rattle.usb_enum.specs.Present.{IsInOrder, Reaches}
+use Rattle.usb_enum.specs.Present.{IsInOrder, ReachesDevice}
 use Rattle.usb_enum.specs.Stop.{at_port}
 use Rattle.usb_enum.proofs.Courses.{went_sound, went_in_order}
 use Rattle.usb_enum.proofs.Enumerations.{having, at_taking}
@@ -100,7 +99,7 @@ enabled_at p w b on row there enabled some =
 
 pub reset_reaches : (port : HubPort) (address l m n : ℕ) (status : PortStatus) {old set told new : World} {a b c d : Option (List ℕ)} → WentOn l old a set b → WentOn m set b told c → WentOn n told c new d
     → AtPort port address old set → OnlyAsks set told → AtPort port address old told → AtPort port address told new → StatusAt port set (Ok status) told → status.enabled ≡ true
-    → Settles port status.reset_changed told (Ok tt) new → Reaches port address old new
+    → SettlesReset port status.reset_changed told (Ok tt) new → ReachesDevice port address old new
 unfolding clear_call
 reset_reaches port address l m n status {old} {set} {told} {new} first second third at_set asks at_told at_settle shown enabled settles = record { reached = reached }
   where
@@ -159,19 +158,19 @@ reset_reaches port address l m n status {old} {set} {told} {new} first second th
 -- Over calls that come later
 
 -- where nothing is asked of any port
-pub reaches_rest : (port : HubPort) (address n : ℕ) {old mid new : World} {b c : Option (List ℕ)} → WentOn n mid b new c → (new.fault ≡ None → AllRest mid new) → Reaches port address old mid → Reaches port address old new
+pub reaches_rest : (port : HubPort) (address n : ℕ) {old mid new : World} {b c : Option (List ℕ)} → WentOn n mid b new c → (new.fault ≡ None → AllRest mid new) → ReachesDevice port address old mid → ReachesDevice port address old new
 reaches_rest port address n {old} {mid} {new} went rest reaches = record {
   reached = λ f p spare t order occupied none. reached_on p (rest none p) (reaches.reached f p spare t order occupied (went_sound n mid new went none));
 }
 
 -- SET_ADDRESS
 pub reaches_addressed : (port : HubPort) (address n given : ℕ) (target : Target) (result : Result (Unit {0}) PipeFault) {old : World} (mid new : World) {b c : Option (List ℕ)} → WentOn n mid b new c → Ordered target (set_address given) mid result new
-    → Reaches port address old mid → Reaches port address old new
+    → ReachesDevice port address old mid → ReachesDevice port address old new
 unfolding set_address
 reaches_addressed port address n given target result mid new went ordered reaches = reaches_rest port address n went (λ none. ordered.rests refl (ended 2 result mid new ordered.ends none)) reaches
 
 -- after calls at the port
-pub reaches_after : (port : HubPort) (address m n : ℕ) {old mid new : World} {a b c d : Option (List ℕ)} → WentOn m old a mid b → WentOn n mid c new d → AtPort port address old mid → Reaches port address mid new → Reaches port address old new
+pub reaches_after : (port : HubPort) (address m n : ℕ) {old mid new : World} {a b c d : Option (List ℕ)} → WentOn m old a mid b → WentOn n mid c new d → AtPort port address old mid → ReachesDevice port address mid new → ReachesDevice port address old new
 reaches_after port address m n {old} {mid} {new} sooner later at reaches = record {
   reached = λ f p spare t order occupied none.
       reaches.reached f p spare (at.within.stays f p spare t) (went_in_order m old mid sooner order)
@@ -179,7 +178,7 @@ reaches_after port address m n {old} {mid} {new} sooner later at reaches = recor
 }
 
 -- where the device that took the address is configured
-pub reaches_set : (port : HubPort) (address n : ℕ) {old mid new : World} {b c : Option (List ℕ)} → WentOn n mid b new c → Takes port address old mid → OnlySets address mid new → Reaches port address old mid → Reaches port address old new
+pub reaches_set : (port : HubPort) (address n : ℕ) {old mid new : World} {b c : Option (List ℕ)} → WentOn n mid b new c → TakesAddress port address old mid → OnlySets address mid new → ReachesDevice port address old mid → ReachesDevice port address old new
 reaches_set port address n {old} {mid} {new} went takes sets reaches = record { reached = reached }
   where
     reached : (f : Claims) (p : List ℕ) → IsSpare f port p address → TillFault (Enumerating f p address) old → IsInOrder old → IsOccupied old p → new.fault ≡ None → IsReachedAt new p
@@ -190,44 +189,39 @@ reaches_set port address n {old} {mid} {new} went takes sets reaches = record { 
 
 -- The clearing of PORT_ENABLE
 
-not_enabled : (o : Option PortState) → IfSome (option_map (called_port ClearEnable) o) (λ b. b.enable ≡ false)
-not_enabled None = tt
-not_enabled (Some b) = refl
+-- what is pending at the port pends after a call that clears nothing that is
+pub pends_there : (p : List ℕ) (c : PortCall) (old new : World) → spares c [] ≡ true → PortDone p c old new → pend old.roots p ≡ true → pend new.roots p ≡ true
+pends_there p c old new keeps d h =
+    let before = pending_persists p (course_wider (λ s w k. k.about.spares keeps) d.repeats) h in
+    let called = step_pend d.last d.before p (d.acts.about.spares keeps) before in
+    pending_persists p (course_wider (λ s w k. k.spares) (d.since p)) called
+
+-- an occupied port passes nothing on then
+pub disabled_known : (p : List ℕ) (cause : Cause) (old new : World) → PortDone p ClearEnable old new → IsOccupied old p → IsKnownAs new p (Some (Refused cause))
+disabled_known p cause old new d (inl x) = inl (pends_there p ClearEnable old new refl d x)
+disabled_known p cause old new d (inr x) = pick (done_stands p ClearEnable refl old new d x.0)
+  where
+    pick : StandsSo p ClearEnable (Called p ClearEnable) old new → IsKnownAs new p (Some (Refused cause))
+    pick (inl y) =
+        inr (
+          y.0,
+          (
+            some_of (state_there old.roots p) (state_there new.roots p) y.2 x.1,
+            subst (λ o. IfSome o (λ b. b.enable ≡ false)) (sym y.1) (disabled_port (port_there old.roots p)),
+          ),
+        )
+    pick (inr y) = inl y
 
 pub port_disabled : (port : HubPort) (address : ℕ) (cause : Cause) (old : World) (result : Result (Unit {0}) PipeFault) (new : World) → CallsPort port (clear_call 1) old result new → result ≡ Ok tt → Disables port address old (Ok (Refused cause)) new
 unfolding clear_call
-port_disabled port address cause old result new calls ok = record { there = there }
+port_disabled port address cause old result new calls ok = record {
+  there = λ f p spare t occupied finding e.
+      let call_is : IsCall (after_taking f p (having f p address old t).has) port p (clear_call 1) ClearEnable old = called_is f port p address old spare (having f p address old t) (clear_call 1) ClearEnable refl in
+      subst (λ x. IsKnownAs new p (Some x)) (same finding e) (disabled_known p cause old new (calls.done (after_taking f p (having f p address old t).has) p ClearEnable call_is ok) occupied);
+}
   where
     same : (finding : Finding) → (let r : Result Finding EnumFault = Ok (Refused cause) in r ≡ Ok finding) → Refused cause ≡ finding
     same finding e = cc
-
-    there : (f : Claims) (p : List ℕ) → IsSpare f port p address → TillFault (Enumerating f p address) old → IsOccupied old p → (finding : Finding)
-        → (let r : Result Finding EnumFault = Ok (Refused cause) in r ≡ Ok finding) → IsKnownAs new p (Some finding)
-    there f p spare t occupied finding e = subst (λ x. IsKnownAs new p (Some x)) (same finding e) (by_port occupied)
-      where
-        call_is : IsCall (after_taking f p (having f p address old t).has) port p (clear_call 1) ClearEnable old
-        call_is = called_is f port p address old spare (having f p address old t) (clear_call 1) ClearEnable refl
-
-        done : PortDone p ClearEnable old new
-        done = calls.done (after_taking f p (having f p address old t).has) p ClearEnable call_is ok
-
-        spares : Course (Spares p) old new
-        spares = calls.spares (after_taking f p (having f p address old t).has) p ClearEnable call_is (subst (λ r. IsNotOfBus r) (sym ok) tt) refl
-
-        pick : IsSome (state_there old.roots p) → StandsSo p ClearEnable (Called p ClearEnable) old new → IsKnownAs new p (Some (Refused cause))
-        pick some (inl y) =
-            inr (
-              y.0,
-              (
-                some_of (state_there old.roots p) (state_there new.roots p) y.2 some,
-                subst (λ o. IfSome o (λ b. b.enable ≡ false)) (sym y.1) (not_enabled (port_there old.roots p)),
-              ),
-            )
-        pick some (inr y) = inl y
-
-        by_port : IsOccupied old p → IsKnownAs new p (Some (Refused cause))
-        by_port (inl pending) = inl (pending_persists p spares pending)
-        by_port (inr is) = pick is.1 (done_stands p ClearEnable refl old new done is.0)
 
 -- where there is no finding
 pub disables_none : (port : HubPort) (address : ℕ) (old : World) (why : EnumFault) (new : World) → Disables port address old (Err why) new

@@ -8,14 +8,14 @@ use Rattle.usb_device.specs.Spec.{Spec}
 use Rattle.usb_device.specs.Rows.{State}
 use Rattle.usb_world.specs.Devices.{EachWas}
 use Rattle.usb_world.specs.World.{World}
-use Rattle.usb_world.proofs.Devices.{each_none, each_joined, each_wider}
+use Rattle.usb_world.proofs.Interface.{each_joined, each_none, each_wider}
 use Rattle.usb_transaction.specs.declared.target.Target.{Target}
 use Rattle.usb_bus.specs.Traced.{WentOn}
 use Rattle.usb_pipe.specs.declared.fault.PipeFault.{PipeFault}
 use Rattle.usb_pipe.specs.declared.fault.PipeFault.TheVariants.{Stalled}
 use Rattle.usb_hub.specs.Addresses.{StaysAs, KeepsDevices}
 use Rattle.usb_hub.specs.Asked.{unless_refused, config_given, HasText, ReadAsked, TextAsked, ConfigAsked}
-use Rattle.usb_hub.proofs.Devices.{stays_joined}
+use Rattle.usb_hub.proofs.Interface.{stays_joined}
 use Rattle.usb_enum.specs.declared.cause.Cause.{Cause}
 use Rattle.usb_enum.specs.Described.{text_read, total_in, is_good_text, texts_below, config_fault, first_fault, text_fault}
 use Rattle.usb_enum.specs.Learned.{Learned, Learns}
@@ -29,7 +29,7 @@ use Rattle.usb_enum.proofs.VerdictRows.{first_none}
 
 -- where nothing went, what is so of every description
 pub learns_none : (So : Spec → Type 0) (t : Target) (w : World) → ((spec : Spec) → So spec) → Learns So t w w
-learns_none So t w all single = each_none (Learned So t) (λ j p s. record { spec = refl; registers = refl; frame = refl; so = λ at. all s.spec }) w
+learns_none So t w all single = each_none (Learned So t) (λ j p s. record { frame = refl; so = λ at. all s.spec }) w
 
 -- what is learned before a call and in it
 pub learns_on : (A B C : Spec → Type 0) (t : Target) (n : ℕ) (old mid new : World) {r s : Option (List ℕ)} → ((spec : Spec) → A spec → B spec → C spec) → Learns A t old mid → WentOn n mid r new s → Learns B t mid new
@@ -47,7 +47,7 @@ devices_then n old mid new a went b = record {
 
 pub learns_kept : (So : Spec → Type 0) (t : Target) (n : ℕ) (old mid new : World) {r s : Option (List ℕ)} → Learns So t old mid → WentOn n mid r new s → KeepsDevices mid new → Learns So t old new
 learns_kept So t n old mid new a went keeps single =
-    each_joined (Learned So t) StaysAs (Learned So t) (λ j p s u v x y. let all = stays_joined j p s u v (x.spec, x.registers, x.frame) y in record { spec = all.0; registers = all.1; frame = all.2; so = x.so }) old mid new
+    each_joined (Learned So t) StaysAs (Learned So t) (λ j p s u v x y. record { frame = stays_joined j p s u v x.frame y; so = x.so }) old mid new
     (a (went_unshared n mid new went single)) (keeps.stays single)
 
 module _ {A X : Type 0} (given : Spec → Option X) (Has : State → A → Type 0) (t : Target) (outcome : Result A PipeFault) (old new : World) where
@@ -55,14 +55,14 @@ module _ {A X : Type 0} (given : Spec → Option X) (Has : State → A → Type 
   pub answer_learned : (So : Spec → Type 0) (answer : A) → outcome ≡ Ok answer → ((s : State) → Has s answer → So s.spec) → (new.shared ≡ false → EachWas (ReadAsked given Has t outcome) old new) → Learns So t old new
   answer_learned So answer is f what single =
       each_wider (ReadAsked given Has t outcome) (Learned So t)
-      (λ j p s v x. record { spec = ap (λ y. y.spec) x.frame; registers = ap (λ y. y.registers) x.frame; frame = x.frame; so = λ at. f s (x.done at answer is) })
+      (λ j p s v x. record { frame = x.frame; so = λ at. f s (x.done at answer is) })
       old new (what single)
 
   -- by a refusal
   pub refusal_learned : (So : Spec → Type 0) → outcome ≡ Err Stalled → ((spec : Spec) → given spec ≡ None → So spec) → (new.shared ≡ false → EachWas (ReadAsked given Has t outcome) old new) → Learns So t old new
   refusal_learned So is f what single =
       each_wider (ReadAsked given Has t outcome) (Learned So t)
-      (λ j p s v x. record { spec = ap (λ y. y.spec) x.frame; registers = ap (λ y. y.registers) x.frame; frame = x.frame; so = λ at. f s.spec (x.stalled at is) })
+      (λ j p s v x. record { frame = x.frame; so = λ at. f s.spec (x.stalled at is) })
       old new (what single)
 
 -- by a text, at the device's maximum packet

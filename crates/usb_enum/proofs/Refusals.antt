@@ -1,25 +1,25 @@
 -- How what a refusal tells of a device joins, and why a request for data fails.
 use Rattle.std.proofs.Common.{◌≡◌, ◌⊎◌, inl, ◌≤◌, ℕ, ◌==◌, ◌&&◌, ◌||◌, not, Bool, true, false, List, if◌then◌else◌, Option, None, Some, Result, Ok, Err, refl, ap, sym, subst, ◌∙◌}
 use Rattle.std.specs.Prelude.{unwrap_or, IfOk, IfErr, IsErrAnd, MatchResult, ⊤}
-use Rattle.std.proofs.lemmas.Option.{same_Some}
 use Rattle.usb_device.specs.Spec.{Spec, IsSpec}
 use Rattle.usb_device.specs.Rows.{State}
 use Rattle.usb_device.specs.declared.request.Registers.{Registers}
 use Rattle.usb_device.specs.Transfer.{max_packet}
-use Rattle.usb_world.specs.Devices.{Relation, Was, EachWas}
-use Rattle.usb_world.specs.Live.{address_of}
+use Rattle.usb_world.specs.Devices.{Relation, EachWas}
+use Rattle.usb_world.specs.Paths.{address_of}
 use Rattle.usb_world.specs.Passes.{deep_at}
 use Rattle.usb_world.specs.World.{World}
-use Rattle.usb_world.proofs.Booleans.{no}
-use Rattle.usb_world.proofs.Devices.{each_none, each_joined, each_wider}
+use Rattle.usb_world.proofs.Interface.{each_joined, each_none, each_wider, no}
 use Rattle.usb_transaction.specs.declared.target.Target.{Target}
-use Rattle.usb_transaction.specs.Over.{is_at}
-use Rattle.usb_transaction.specs.Why.{NoThreeDamaged}
+use Rattle.usb_transaction.specs.Leaves.{is_at}
+use Rattle.usb_transaction.specs.Failures.{NoThreeDamaged}
+use Rattle.usb_transaction.proofs.Interface.{each_both}
 use Rattle.usb_bus.specs.Traced.{WentOn}
 use Rattle.usb_pipe.specs.declared.fault.PipeFault.{PipeFault}
 use Rattle.usb_pipe.specs.declared.fault.PipeFault.TheVariants as pipe
-use Rattle.usb_pipe.specs.Whole.{IsMaximum}
+use Rattle.usb_pipe.specs.Leaves.{IsMaximum}
 use Rattle.usb_hub.specs.Asked.{ReadAsked, WhyAsked}
+use Rattle.usb_hub.proofs.Interface.{stays-registers, stays-spec}
 use Rattle.usb_enum.specs.declared.cause.Cause.{Cause}
 use Rattle.usb_enum.specs.declared.fault.EnumFault.{EnumFault}
 use Rattle.usb_enum.specs.declared.stop.Stop.{Stop}
@@ -31,11 +31,8 @@ use Rattle.usb_enum.proofs.Damages.{went_three}
 use Rattle.usb_enum.proofs.Sharing.{went_unshared}
 
 -- two things of each device in one call
-pub each_both : (R S T : Relation) → ((j : ℕ) (p : List ℕ) (s v : State) → R j p s v → S j p s v → T j p s v) → (old new : World) → EachWas R old new → EachWas S old new → EachWas T old new
-each_both R S T f old new x y j p v on there =
-    let a : Was R old j p v = x j p v on there in
-    let b : Was S old j p v = y j p v on there in
-    record { before = a.before; on = a.on; stands = a.stands; so = f j p a.before v a.so (subst (λ s. S j p s v) (same_Some b.before a.before (sym b.stands ∙ a.stands)) b.so) }
+pub each_joint : (R S T : Relation) → ((j : ℕ) (p : List ℕ) (s v : State) → R j p s v → S j p s v → T j p s v) → (old new : World) → EachWas R old new → EachWas S old new → EachWas T old new
+each_joint R S T f old new x y = each_wider (λ j p s v. R j p s v × S j p s v) T (λ j p s v k. f j p s v k.0 k.1) old new (each_both R S old new x y)
 
 -- from one call to the next
 
@@ -59,7 +56,7 @@ set_still t p s u spec registers h = record {
 pub learned_explains : (A B : Spec → Type 0) (t : Target) (old new : World) → ((spec : Spec) → A spec → B spec) → Learns A t old new → Explains B t old new
 learned_explains A B t old new f x three single =
     each_wider (Learned A t) (Explained Hears B t)
-    (λ j p s v l. record { spec = l.spec; address = ap (λ (r : Registers). r.address) l.registers; so = λ h ruled. f s.spec (l.so h.at) }) old new (x single)
+    (λ j p s v l. record { spec = stays-spec s v l.frame; address = ap (λ (r : Registers). r.address) (stays-registers s v l.frame); so = λ h ruled. f s.spec (l.so h.at) }) old new (x single)
 
 -- a fault is no refusal
 pub fault_explains : (A : Spec → Type 0) (t : Target) (wrong : Spec → Option Cause) (fault : EnumFault) (old new : World) → Learns A t old new → Explains (Refuses t wrong (Fault fault)) t old new
@@ -90,9 +87,11 @@ module _ (Heard : Target → List ℕ → State → Type 0) (at : (t : Target) (
   explained_on A B C t m n old mid new f a first next b three single =
       each_joined (Learned A t) (Explained Heard B t) (Explained Heard C t)
       (λ j p s u v x y. record {
-        spec = y.spec ∙ x.spec;
-        address = y.address ∙ ap (λ (r : Registers). r.address) x.registers;
-        so = λ h ruled. f s.spec ruled (x.so (at t p s h)) (subst B x.spec (y.so (on t p s u x.spec x.registers h) (subst IsSpec (sym x.spec) ruled)));
+        spec = y.spec ∙ stays-spec s u x.frame;
+        address = y.address ∙ ap (λ (r : Registers). r.address) (stays-registers s u x.frame);
+        so = λ h ruled.
+            f s.spec ruled (x.so (at t p s h))
+            (subst B (stays-spec s u x.frame) (y.so (on t p s u (stays-spec s u x.frame) (stays-registers s u x.frame) h) (subst IsSpec (sym (stays-spec s u x.frame)) ruled)));
       })
       old mid new (a (went_unshared n mid new next single)) (b (went_three m old mid first three) single)
 
@@ -165,7 +164,7 @@ module _ {A X : Type 0} (given : Spec → Option X) (Has : State → A → Type 
       (why : NoThreeDamaged old → 8 ≤ t.max → new.shared ≡ false → EachWas (WhyAsked t wanted outcome) old new) where
     pub failure_explains : (So : Spec → Type 0) (fault : PipeFault) → outcome ≡ Err fault → ((spec : Spec) → (((max_packet spec ≡ t.max) ⊎ (wanted ≤ 8)) → Fails given fault spec) → So spec) → Explains So t old new
     failure_explains So fault is f three single =
-        each_both (ReadAsked given Has t (Err fault)) (WhyAsked {A = A} t wanted (Err fault)) (Explained Hears So t)
+        each_joint (ReadAsked given Has t (Err fault)) (WhyAsked {A = A} t wanted (Err fault)) (Explained Hears So t)
         (λ j p s v x y. record { spec = ap (λ z. z.spec) x.frame; address = ap (λ z. z.registers.address) x.frame; so = λ h ruled. f s.spec (read_fails fault j p s v x y h ruled) })
         old new (subst (λ r. EachWas (ReadAsked given Has t r) old new) is (what single)) (subst (λ r. EachWas (WhyAsked t wanted r) old new) is (why three least single))
 

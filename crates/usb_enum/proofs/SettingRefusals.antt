@@ -8,17 +8,15 @@ use Rattle.usb_device.specs.Request.{is_value}
 use Rattle.usb_device.specs.Rows.{State}
 use Rattle.usb_device.specs.Spec.{Spec, IsSpec}
 use Rattle.usb_world.specs.Devices.{EachWas}
-use Rattle.usb_world.specs.Live.{address_of}
+use Rattle.usb_world.specs.Paths.{address_of}
 use Rattle.usb_world.specs.World.{World}
-use Rattle.usb_world.proofs.Booleans.{no, and_of}
-use Rattle.usb_world.proofs.Devices.{each_joined}
-use Rattle.usb_world.proofs.OneHolderMore.{equal_same, unequal}
+use Rattle.usb_world.proofs.Interface.{and_of, each_joined, equal_same, no, unequal}
 use Rattle.usb_transaction.specs.declared.target.Target.{Target}
-use Rattle.usb_transaction.specs.Why.{NoThreeDamaged}
+use Rattle.usb_transaction.specs.Failures.{NoThreeDamaged}
 use Rattle.usb_bus.specs.Traced.{WentOn}
 use Rattle.usb_pipe.specs.declared.fault.PipeFault.{PipeFault}
 use Rattle.usb_pipe.specs.declared.fault.PipeFault.TheVariants as pipe
-use Rattle.usb_pipe.specs.WhyWhole.{WhyWrite}
+use Rattle.usb_pipe.specs.Failures.{WhyWrite}
 use Rattle.usb_hub.specs.Settings.{ConfigurationAsked, takes_value}
 use Rattle.usb_enum.specs.declared.cause.Cause.{Cause}
 use Rattle.usb_enum.specs.declared.cause.Cause.TheVariants.{Stalled, TooDeep, NoPower}
@@ -34,7 +32,7 @@ use Rattle.usb_enum.specs.Refusals.{IsResponsive, IsRefusedFor, Refuses, no_faul
 use Rattle.usb_enum.specs.Stop.{stop_of, answered_or}
 use Rattle.usb_enum.specs.Text.{choice_of}
 use Rattle.usb_enum.proofs.Damages.{went_three}
-use Rattle.usb_enum.proofs.Refusals.{answered_err, each_both, hears_on, explains_none, explains_wider, explains_on, learned_explains}
+use Rattle.usb_enum.proofs.Refusals.{answered_err, each_joint, hears_on, explains_none, explains_wider, explains_on, learned_explains}
 use Rattle.usb_enum.proofs.Settings.{Allowed}
 use Rattle.usb_enum.proofs.SettingValues.{chosen_value}
 use Rattle.usb_enum.proofs.Sharing.{went_unshared}
@@ -99,7 +97,7 @@ setting_refused : (t : Target) (value : ℕ) (outcome : Result (Unit {0}) PipeFa
     → (NoThreeDamaged old → new.shared ≡ false → EachWas (WhyWrite t outcome) old new) → Explains (RefusesValue t value stop) t old new
 setting_refused t value outcome stop old new some is what why three single =
     let failed = answered_err (Stalled request.SetConfig) outcome stop is in
-    each_both (ConfigurationAsked t value (Err failed.0) new) (WhyWrite t (Err failed.0)) (Explained Hears (RefusesValue t value stop) t)
+    each_joint (ConfigurationAsked t value (Err failed.0) new) (WhyWrite t (Err failed.0)) (Explained Hears (RefusesValue t value stop) t)
     (λ j p s v x y. record {
       spec = ap (λ z. z.spec) x.frame;
       address = ap (λ z. z.registers.address) x.frame;

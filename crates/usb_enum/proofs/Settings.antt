@@ -7,11 +7,12 @@ use Rattle.usb_device.specs.Progress.{OnlyStage}
 use Rattle.usb_device.specs.Rows.{State}
 use Rattle.usb_world.specs.Devices.{EachWas}
 use Rattle.usb_world.specs.World.{World}
-use Rattle.usb_world.proofs.Devices.{each_joined, each_wider}
+use Rattle.usb_world.proofs.Interface.{each_joined, each_wider}
 use Rattle.usb_bus.specs.Traced.{WentOn}
 use Rattle.usb_transaction.specs.declared.target.Target.{Target}
 use Rattle.usb_pipe.specs.declared.fault.PipeFault.{PipeFault}
 use Rattle.usb_hub.specs.Settings.{ConfigurationAsked, IsFresh}
+use Rattle.usb_hub.proofs.Interface.{stays-registers, stays-spec}
 use Rattle.usb_enum.specs.declared.finding.Accepted.{Accepted}
 use Rattle.usb_enum.specs.declared.strings.StringIndexes.{StringIndexes}
 use Rattle.usb_enum.specs.Described.{strings_by}
@@ -36,20 +37,20 @@ Allowed So x = So x × (x.stalls.set_config ≡ false)
 
 set_after : (So : Spec → Type 0) (t : Target) (value : ℕ) (last : World) (j : ℕ) (p : List ℕ) (s u v : State) → Learned So t j p s u → ConfigurationAsked t value (Ok tt) last j p u v → LearnedSet (Allowed So) t value j p s v
 set_after So t value last j p s u v a x = record {
-  spec = ap (λ y. y.spec) x.frame ∙ a.spec;
-  address = ap (λ y. y.registers.address) x.frame ∙ ap (λ r. r.address) a.registers;
+  spec = ap (λ y. y.spec) x.frame ∙ stays-spec s u a.frame;
+  address = ap (λ y. y.registers.address) x.frame ∙ ap (λ r. r.address) (stays-registers s u a.frame);
   so = λ at.
-      let set = x.done (ap (λ r. r.address == t.addr) a.registers ∙ at) refl in
-      ((a.so at, subst (λ y. y.stalls.set_config ≡ false) a.spec set.0), ap (λ r. r.configuration) set.2.registers, set.2.fresh);
+      let set = x.done (ap (λ r. r.address == t.addr) (stays-registers s u a.frame) ∙ at) refl in
+      ((a.so at, subst (λ y. y.stalls.set_config ≡ false) (stays-spec s u a.frame) set.0), ap (λ r. r.configuration) set.2.registers, set.2.fresh);
 }
 
 learned_after : (A B : Spec → Type 0) (t : Target) (value : ℕ) (j : ℕ) (p : List ℕ) (s u v : State) → LearnedSet A t value j p s u → Learned B t j p u v → LearnedSet (λ x. A x × B x) t value j p s v
 learned_after A B t value j p s u v a b = record {
-  spec = b.spec ∙ a.spec;
-  address = ap (λ r. r.address) b.registers ∙ a.address;
+  spec = stays-spec u v b.frame ∙ a.spec;
+  address = ap (λ r. r.address) (stays-registers u v b.frame) ∙ a.address;
   so = λ at.
       let so = a.so at in
-      ((so.0, subst B a.spec (b.so (ap (λ n. n == t.addr) a.address ∙ at))), ap (λ r. r.configuration) b.registers ∙ so.1, fresh_on u v b.frame so.2);
+      ((so.0, subst B a.spec (b.so (ap (λ n. n == t.addr) a.address ∙ at))), ap (λ r. r.configuration) (stays-registers u v b.frame) ∙ so.1, fresh_on u v b.frame so.2);
 }
 
 learned_wider : (A B : Spec → Type 0) (t : Target) (value : ℕ) → ((x : Spec) → A x → B x) → (j : ℕ) (p : List ℕ) (s v : State) → LearnedSet A t value j p s v → LearnedSet B t value j p s v

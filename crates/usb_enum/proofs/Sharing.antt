@@ -7,8 +7,8 @@ use Rattle.usb_world.specs.declared.types.BusFault.TheVariants.{LimitReached, Me
 use Rattle.usb_world.specs.declared.types.Outcome.{Outcome}
 use Rattle.usb_world.specs.Steps.{Coming, nothing_yet, next_came, Left, at_event, at_packet, at_line, GaveUp, attempt, after, attempted as tried, with_attempt, ready}
 use Rattle.usb_world.specs.World.{World}
-use Rattle.usb_world.proofs.OwnLaws.{first_shared}
-use Rattle.usb_transaction.proofs.Trails.{due_shared, first_false}
+use Rattle.usb_world.proofs.Interface.{due_shared, first_shared}
+use Rattle.usb_transaction.proofs.Interface.{first_false}
 use Rattle.usb_bus.specs.Traced.{Attempts, Traced, still, attempted, called, WentOn}
 
 ready_back : (w : World) → ((ready w).shared || is_twice (held (ready w).roots)) ≡ false → w.shared ≡ false

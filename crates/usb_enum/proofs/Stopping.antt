@@ -16,22 +16,20 @@ use Rattle.usb_device.specs.Tree.{Ports, ended, vacant, taken, reach, reach_at, 
 use Rattle.usb_device.specs.View.{state_there, port_there}
 use Rattle.usb_world.specs.Addresses.{after_taking}
 use Rattle.usb_world.specs.Devices.{Relation, Was, EachWas}
-use Rattle.usb_world.specs.Live.{address_of, live, live_at, pend}
+use Rattle.usb_world.specs.Paths.{address_of, live, live_at, pend}
 use Rattle.usb_world.specs.Losses.{one_more}
 use Rattle.usb_world.specs.Passes.{deep_at}
-use Rattle.usb_world.specs.Resting.{RestsOrPends}
-use Rattle.usb_world.specs.Sane.{IsSane}
+use Rattle.usb_world.specs.RestingPorts.{RestsOrPends}
+use Rattle.usb_world.specs.SanePorts.{IsSane}
 use Rattle.usb_world.specs.World.{World}
-use Rattle.usb_world.proofs.Booleans.{no, both, decided}
-use Rattle.usb_world.proofs.Resting.{rests_or_pends}
-use Rattle.usb_world.proofs.SaneLaws.{sane_spec}
-use Rattle.usb_world.proofs.WorldLaws.{course_wider, pending_persists}
+use Rattle.usb_world.proofs.Interface.{both, course_wider, decided, no, pending_persists, rests_or_pends, sane_spec}
 use Rattle.usb_bus.specs.Traced.{WentOn}
-use Rattle.usb_bus.proofs.Wents.{went_then}
+use Rattle.usb_bus.proofs.Interface.{went_then}
 use Rattle.usb_transaction.specs.declared.target.Target.{Target}
-use Rattle.usb_transaction.specs.Why.{Listens, NoThreeDamaged}
+use Rattle.usb_transaction.specs.Failures.{Listens, NoThreeDamaged}
 use Rattle.usb_address.specs.Claims.{Claims}
 use Rattle.usb_address.specs.Owned.{Enumerating, TillFault}
+use Rattle.usb_address.proofs.Interface.{speed_attached}
 use Rattle.usb_pipe.specs.declared.fault.PipeFault.{PipeFault}
 use Rattle.usb_pipe.specs.declared.fault.PipeFault.TheVariants as pipe
 use Rattle.usb_hub.specs.declared.port.HubPort.{HubPort}
@@ -40,9 +38,9 @@ use Rattle.usb_hub.specs.Addresses.{IsAt}
 use Rattle.usb_hub.specs.Moments.{PortDone, PortTold}
 use Rattle.usb_hub.specs.Requests.{Ordered}
 use Rattle.usb_hub.specs.Settings.{AddressAsked}
-use Rattle.usb_hub.proofs.Standing.{StandsSo, Called, done_stands}
-use Rattle.usb_pipe.specs.WhyWhole.{WhyWrite}
-use Rattle.usb_pipe.specs.Whole.{CanEnd, TookOrLost, took, lost}
+use Rattle.usb_hub.proofs.Interface.{Called, StandsSo, done_stands}
+use Rattle.usb_pipe.specs.Failures.{WhyWrite}
+use Rattle.usb_pipe.specs.Leaves.{CanEnd, TookItOrLost, took, lost}
 use Rattle.usb_enum.specs.declared.cause.Cause.{Cause}
 use Rattle.usb_enum.specs.declared.cause.Cause.TheVariants.{Lost, Stalled}
 use Rattle.usb_enum.specs.declared.cause.Request.TheVariants as request
@@ -50,26 +48,26 @@ use Rattle.usb_enum.specs.declared.fault.EnumFault.{EnumFault}
 use Rattle.usb_enum.specs.declared.stop.Stop.{Stop}
 use Rattle.usb_enum.specs.declared.stop.Stop.TheVariants.{Refused, Fault}
 use Rattle.usb_enum.specs.Addresses.{IsSpare, AtPort}
-use Rattle.usb_enum.specs.Calls.{CalledAt, Settles, StatusAt}
+use Rattle.usb_enum.specs.Calls.{CalledAt, SettlesReset, StatusAt}
 use Rattle.usb_enum.specs.Device.{IsUnaddressed, needs_pre}
-use Rattle.usb_enum.specs.Fair.{IsFairAt, PendsOr, StopsFor, Stops, Missed, Misses}
+use Rattle.usb_enum.specs.Fair.{IsFairAt, PendsOr, StopsFor, StopsFairly, Missed, Misses}
 use Rattle.usb_enum.specs.Frames.{OnlyAsks}
 use Rattle.usb_enum.specs.Learned.{Hears, Explained, Explains}
-use Rattle.usb_enum.specs.Losses.{GoesOn}
+use Rattle.usb_enum.specs.Losses.{NoNewStretch}
 use Rattle.usb_enum.specs.Places.{IsOccupied, IsReachedAt}
 use Rattle.usb_enum.specs.Present.{AtPath, HasHead, AwaitsAddress, Awaits, WasReset}
 use Rattle.usb_enum.specs.Refusals.{IsResponsive, IsRefusedFor, Refuses, no_fault, head_fault, early_fault, address_fault, device_fault, addressed_fault, NoDescriptor, RefusesDescriptor}
-use Rattle.usb_enum.specs.Stop.{stop_of, answered_or, Told}
+use Rattle.usb_enum.specs.Stop.{stop_of, answered_or, StopTold}
 use Rattle.usb_enum.proofs.Courses.{regular_order, went_course, went_sound}
 use Rattle.usb_enum.proofs.Enumerations.{having, at_taking, within_kept}
-use Rattle.usb_enum.proofs.Fairness.{fair_before, fair_then, fair_single, none_lost, pends_reached, port_stands}
+use Rattle.usb_enum.proofs.Fairness.{fair_before, fair_then, fair_single, none_lost, pends_reached, port_stands, held_spare}
 use Rattle.usb_enum.proofs.Frames.{called_is, ended as ended_call}
 use Rattle.usb_enum.proofs.Heads.{head_packet}
 use Rattle.usb_enum.proofs.Losses.{course_later}
 use Rattle.usb_enum.proofs.Presence.{Granted, granted, held_at, path_on, answered_has}
 use Rattle.usb_enum.proofs.Reaching.{done_at, reached_on, reached_stands, standing}
 use Rattle.usb_enum.proofs.Stretches.{goes_none, goes_then}
-use Rattle.usb_enum.proofs.Refusals.{answered_err, each_both}
+use Rattle.usb_enum.proofs.Refusals.{answered_err, each_joint}
 
 -- A reset enables the port of a device
 
@@ -94,10 +92,6 @@ sane_attached (taken c z a k) zero (zero ∷ p) b s sane at there = absurd cc
 sane_attached (taken c z a k) zero (suc i ∷ p) b s sane at there = sane_attached a i p b s sane.2 at there
 sane_attached (taken c z a k) (suc j) p b s sane at there = sane_attached k j p b s sane.3 at there
 
-speed_attached : (low : Bool) → is_attached (speed_of low) ≡ true
-speed_attached true = refl
-speed_attached false = refl
-
 reset_enables : (k : Ports) (p : List ℕ) (b : PortState) (s : State) → IsSane k → live k p ≡ true → port_there k p ≡ Some b → state_there k p ≡ Some s → (reset b).enable ≡ true
 reset_enables k [] b s sane on at there = no on
 reset_enables k (zero ∷ p) b s sane on at there = no on
@@ -107,7 +101,7 @@ reset_enables k (suc j ∷ p) b s sane on at there =
     rw (power, attached) refl
 
 pub reset_lost : (port : HubPort) (address m n : ℕ) (status : PortStatus) {old set told : World} {a b c d : Option (List ℕ)} → WentOn m old a set b → WentOn n set c told d → AtPort port address old set → OnlyAsks set told
-    → CalledAt port (set_call 4) old (Ok tt) set → StatusAt port set (Ok status) told → status.enabled ≡ false → Stops no_fault port address (Refused Lost) old told
+    → CalledAt port (set_call 4) old (Ok tt) set → StatusAt port set (Ok status) told → status.enabled ≡ false → StopsFairly no_fault port address (Refused Lost) old told
 unfolding set_call
 reset_lost port address m n status {old} {set} {told} first second at_set asks called shown off = record { why = λ f p fair held. inl (pends f p fair) }
   where
@@ -149,31 +143,27 @@ reset_lost port address m n status {old} {set} {told} first second at_set asks c
             let b = port_stands old.roots p is.1 in
             by_set is.0 s.0 s.1 b.0 b.1 (done_stands p SetReset refl old set done is.0)
 
-pub settle_failed : (port : HubPort) (changed : Bool) (why : EnumFault) (old new : World) → Settles port changed old (Err why) new → CalledAt port (clear_call 20) old (Err why) new
+pub settle_failed : (port : HubPort) (changed : Bool) (why : EnumFault) (old new : World) → SettlesReset port changed old (Err why) new → CalledAt port (clear_call 20) old (Err why) new
 settle_failed port changed why old new settles = pick (decided changed)
   where
     pick : (changed ≡ true) ⊎ (changed ≡ false) → CalledAt port (clear_call 20) old (Err why) new
     pick (inl e) = settles.set e
     pick (inr e) = let done = (settles.unset e).0 in absurd cc
 
-pub untrue : (b : Bool) → not b ≡ true → b ≡ false
-untrue true h = no h
-untrue false h = refl
-
 pub unfalse : (b : Bool) → not b ≡ false → b ≡ true
 unfalse true h = refl
 unfalse false h = no (sym h)
 
 pub reset_goes : (port : HubPort) (l m n : ℕ) (status : PortStatus) (old set : World) {told new : World} {a b c d e h : Option (List ℕ)} → WentOn l old a set b → WentOn m set c told d → WentOn n told e new h
-    → CalledAt port (set_call 4) old (Ok tt) set → StatusAt port set (Ok status) told → Settles port status.reset_changed told (Ok tt) new → new.fault ≡ None → GoesOn old new
+    → CalledAt port (set_call 4) old (Ok tt) set → StatusAt port set (Ok status) told → SettlesReset port status.reset_changed told (Ok tt) new → new.fault ≡ None → NoNewStretch old new
 reset_goes port l m n status old set {told} {new} first second third called shown settles none =
     let none_told = went_sound n told new third none in
     let none_set = went_sound m set told second none_told in
     goes_then old set new (called.goes none_set) (goes_then set told new (shown.goes none_told) (pick (decided status.reset_changed)))
   where
-    pick : (status.reset_changed ≡ true) ⊎ (status.reset_changed ≡ false) → GoesOn told new
+    pick : (status.reset_changed ≡ true) ⊎ (status.reset_changed ≡ false) → NoNewStretch told new
     pick (inl e) = (settles.set e).goes none
-    pick (inr e) = subst (GoesOn told) (sym (settles.unset e).1) (goes_none told)
+    pick (inr e) = subst (NoNewStretch told) (sym (settles.unset e).1) (goes_none told)
 
 -- The device at the port hears its target
 
@@ -248,14 +238,11 @@ zero_held f p w none t s on there = let e = t.so none in held_at f p e.has w e.o
     pick (inl e) = e
     pick (inr e) = e
 
-held_spare : (f : Claims) (port : HubPort) (p : List ℕ) (address : ℕ) → IsSpare f port p address → IsSpare f port p 0
-held_spare f port p address spare = record { at = spare.at; free = spare.free; none = spare.none; spare = spare.none }
-
 -- Its head
 
 pub head_stops : (port : HubPort) (address m n : ℕ) (low pre : Bool) (stop : Stop) {old mid new : World} {a b c d : Option (List ℕ)} → WentOn m old a mid b → WentOn n mid c new d → AtPort port address old mid → AtPort port 0 old mid → OnlyAsks mid new
-    → WasReset low port 0 old mid → pre ≡ (low && needs_pre port) → Told stop new
-    → (let t : Target = record { addr = 0; max = 8; low = low; pre = pre } in Explains (IsRefusedFor (head_fault low) stop) t mid new) → Stops early_fault port address stop old new
+    → WasReset low port 0 old mid → pre ≡ (low && needs_pre port) → StopTold stop new
+    → (let t : Target = record { addr = 0; max = 8; low = low; pre = pre } in Explains (IsRefusedFor (head_fault low) stop) t mid new) → StopsFairly early_fault port address stop old new
 head_stops port address m n low pre (Fault why) first second at at_zero asks was is told explains = record { why = λ f p fair. none_lost p why _ told }
 head_stops port address m n low pre (Refused cause) {old} {mid} {new} first second at at_zero asks was is told explains = record { why = why }
   where
@@ -329,7 +316,7 @@ module _ (port : HubPort) (address m n : ℕ) (target : Target) (outcome : Resul
         single = fair_single f port p address fair at_new
 
         each : EachWas Both mid new
-        each = each_both (AddressAsked target address outcome mid new) (WhyWrite target outcome) Both (λ j e s v x y. (x, y)) mid new (what single) (why here.few single)
+        each = each_joint (AddressAsked target address outcome mid new) (WhyWrite target outcome) Both (λ j e s v x y. (x, y)) mid new (what single) (why here.few single)
 
         at_state : (v : State) → StoodAt p mid (λ j e s. Both j e s v) → addressed_fault v.spec ≡ Some cause
         at_state v s =
@@ -338,7 +325,7 @@ module _ (port : HubPort) (address m n : ℕ) (target : Target) (outcome : Resul
             subst (λ x. addressed_fault x ≡ Some cause) (sym (ap (λ y. y.spec) s.so.0.frame))
             (so s.j s.e s.before v s.so (record { at = heard.at; loud = waits.head.loud; hears = heard.hears }) (sane_spec mid.roots s.j s.e s.before (here.order sound).0.sane s.stands) waits)
 
-    pub address_stops : (stop : Stop) → answered_or (Stalled request.Address) outcome ≡ Err stop → Stops addressed_fault port address stop old new
+    pub address_stops : (stop : Stop) → answered_or (Stalled request.Address) outcome ≡ Err stop → StopsFairly addressed_fault port address stop old new
     address_stops stop told = record { why = λ f p fair. let failed = answered_err (Stalled request.Address) outcome stop told in subst (λ x. StopsFor addressed_fault f p old x new) failed.2 (by_fault f p fair failed.0 failed.1) }
       where
         by_fault : (f : Claims) (p : List ℕ) → IsFairAt f port p address old new → (fault : PipeFault) → outcome ≡ Err fault → StopsFor addressed_fault f p old (unwrap_or (stop_of fault) (Refused (Stalled request.Address))) new
@@ -412,7 +399,7 @@ module _ (port : HubPort) (address l m n : ℕ) (target : Target) {old mid given
             so = g;
           }
 
-  pub descriptor_stops : (stop : Stop) → Told stop new → RefusesDescriptor named stop given new → Stops addressed_fault port address stop old new
+  pub descriptor_stops : (stop : Stop) → StopTold stop new → RefusesDescriptor named stop given new → StopsFairly addressed_fault port address stop old new
   descriptor_stops (Fault why) told refuses = record { why = λ f p fair. none_lost p why new told }
   descriptor_stops (Refused cause) told refuses = record { why = descriptor_refused_for cause refuses }
 
@@ -428,7 +415,7 @@ module _ (port : HubPort) (address l m n : ℕ) (target : Target) {old mid given
         let g = subst (λ x. AtPath (λ s. Granted target.low target.max s.spec) x given) path (granted_there f p fair held) w.before w.on w.stands in
         by_end w g u.before waits.zero (u.so.done (eq-eqb (address_of u.before) target.addr (waits.zero ∙ sym is.zero)) refl).1
       where
-        by_end : (w : Was (Explained Hears (λ spec. IsResponsive named spec → ⊥) named) given j q v) → Granted target.low target.max w.before.spec → (s : State) → address_of s ≡ 0 → TookOrLost address mid given s w.before
+        by_end : (w : Was (Explained Hears (λ spec. IsResponsive named spec → ⊥) named) given j q v) → Granted target.low target.max w.before.spec → (s : State) → address_of s ≡ 0 → TookItOrLost address mid given s w.before
             → TillFault (Enumerating f p 0) new × (given.losses ≡ one_more mid.losses)
         by_end w g s none_yet (took registers losses) =
             absurd (w.so.so (hears_there f port j q named w.before (subst (IsAt f port) path fair.spare.at) is.pre g.speed (ap (λ r. r.address) registers))
@@ -440,7 +427,7 @@ module _ (port : HubPort) (address l m n : ℕ) (target : Target) {old mid given
             let at_zero : TillFault (Enumerating f p 0) given = record { so = λ x. record { has = own.has; is = inl has; owned = own.owned }; single = t.single } in
             ((within_kept port 0 given new asks.addresses).stays f p (held_spare f port p address fair.spare) at_zero, losses)
 
-    counted_more : given.losses ≡ one_more mid.losses → GoesOn old mid → GoesOn given new → given.losses.worst ≤ new.losses.worst → Missed 1 old new
+    counted_more : given.losses ≡ one_more mid.losses → NoNewStretch old mid → NoNewStretch given new → given.losses.worst ≤ new.losses.worst → Missed 1 old new
     unfolding one_more
     counted_more losses before after worst =
         let x = before.run in
@@ -500,7 +487,7 @@ module _ (port : HubPort) (address k m n : ℕ) {old mid new : World} {a b c d :
           pick (inl h) = inl (pends_later f p fair h)
           pick (inr x) = more x.1 (next.missed f p (fair_then f port p address m n first second fair at) x.0)
 
-  pub stops_then : (wrong : Spec → Option Cause) (stop : Stop) → Stops wrong port address stop mid new → Stops wrong port address stop old new
+  pub stops_then : (wrong : Spec → Option Cause) (stop : Stop) → StopsFairly wrong port address stop mid new → StopsFairly wrong port address stop old new
   stops_then wrong (Fault why) stops = record { why = λ f p fair. stops.why f p (fair_then f port p address m n first second fair at) }
   stops_then wrong (Refused cause) stops = record { why = λ f p fair held. pick f p fair (before.missed f p (fair_before f port p address m n first second fair) held) }
     where
@@ -508,7 +495,7 @@ module _ (port : HubPort) (address k m n : ℕ) {old mid new : World} {a b c d :
       pick f p fair (inl h) = inl (pends_later f p fair h)
       pick f p fair (inr x) = stops.why f p (fair_then f port p address m n first second fair at) x.0
 
-pub thrice_missed : (wrong : Spec → Option Cause) (port : HubPort) (address : ℕ) (cause : Cause) (old new : World) → Misses port address 3 old new → Stops wrong port address (Refused cause) old new
+pub thrice_missed : (wrong : Spec → Option Cause) (port : HubPort) (address : ℕ) (cause : Cause) (old new : World) → Misses port address 3 old new → StopsFairly wrong port address (Refused cause) old new
 thrice_missed wrong port address cause old new misses = record { why = λ f p fair held. pick f p fair (misses.missed f p fair held) }
   where
     pick : (f : Claims) (p : List ℕ) → IsFairAt f port p address old new → (pend new.roots p ≡ true) ⊎ (TillFault (Enumerating f p 0) new × Missed 3 old new) → PendsOr (λ spec. wrong spec ≡ Some cause) p new

@@ -4,7 +4,7 @@ use Rattle.std.specs.Global.{Vec}
 use Rattle.usb_port.specs.declared.status.PortStatus.{PortStatus}
 use Rattle.usb_request.specs.declared.setup.Setup.{Setup}
 use Rattle.usb_request.specs.Layout.{bytes_of}
-use Rattle.usb_request.specs.Requests.{clear_port_feature, get_device_descriptor, get_port_status, set_address, set_port_feature}
+use Rattle.usb_request.specs.Requests.{clear_port_feature, get_device_descriptor, get_port_status, set_port_feature}
 use Rattle.usb_device.specs.declared.calls.PortCall.{PortCall}
 use Rattle.usb_device.specs.Calls.{set_call, clear_call}
 use Rattle.usb_device.specs.Delivery.{is_clearing}
@@ -18,34 +18,31 @@ use Rattle.usb_world.specs.OneHolder.{IsMade}
 use Rattle.usb_world.specs.Passes.{IsSettled}
 use Rattle.usb_world.specs.Steps.{Step, attempt, root_call, event, report, after, with_attempt, ready, due_from, took, is_due, Course, here, step}
 use Rattle.usb_world.specs.World.{World, Made}
-use Rattle.usb_world.proofs.Booleans.{no}
-use Rattle.usb_world.proofs.OneHolderMore.{made_is, same_test}
+use Rattle.usb_world.proofs.Interface.{made_is, no, same_equal}
 use Rattle.usb_transaction.specs.declared.target.Target.{Target}
 use Rattle.usb_transaction.specs.Losses.{begins_no_stretch}
 use Rattle.usb_transaction.specs.Trail.{start, next}
-use Rattle.usb_transaction.specs.Trans.{in_attempt, out_attempt, setup_attempt}
-use Rattle.usb_transaction.proofs.LossStatus.{in_clears}
-use Rattle.usb_transaction.proofs.LossSteps.{loses, losses_as, out_losses, set_up_losses}
-use Rattle.usb_address.proofs.Bare.{attempt_settled}
-use Rattle.usb_address.proofs.Setups.{same_setup}
+use Rattle.usb_transaction.specs.Transactions.{in_attempt, out_attempt, setup_attempt}
+use Rattle.usb_transaction.proofs.Interface.{in_clears, loses, losses_as, out_losses, set_up_losses}
+use Rattle.usb_address.proofs.Interface.{attempt_settled, same_setup}
 use Rattle.usb_pipe.specs.declared.fault.PipeFault.{PipeFault}
 use Rattle.usb_pipe.specs.Attempts.{IsOfTransfer}
-use Rattle.usb_pipe.specs.Whole.{IsBehind}
-use Rattle.usb_pipe.proofs.Attempts.{read_attempts, write_attempts}
+use Rattle.usb_pipe.specs.Leaves.{IsBehind}
+use Rattle.usb_pipe.proofs.Interface.{read_attempts, write_attempts}
 use Rattle.usb_hub.specs.declared.port.HubPort.{HubPort}
 use Rattle.usb_hub.specs.declared.port.HubPort.TheVariants.{Root, External}
 use Rattle.usb_hub.specs.Port.{PortRead, PortSet, PortCleared}
-use Rattle.usb_hub.specs.Requests.{Asked, Ordered}
-use Rattle.usb_enum.specs.Losses.{GoesOn}
+use Rattle.usb_hub.specs.Requests.{AskedData, Ordered}
+use Rattle.usb_enum.specs.Losses.{NoNewStretch}
 use Rattle.usb_enum.proofs.Frames.{ended}
 
-pub goes_none : (w : World) → GoesOn w w
+pub goes_none : (w : World) → NoNewStretch w w
 goes_none w = record { run = omega arith }
 
-pub goes_then : (w m v : World) → GoesOn w m → GoesOn m v → GoesOn w v
+pub goes_then : (w m v : World) → NoNewStretch w m → NoNewStretch m v → NoNewStretch w v
 goes_then w m v a b = let x = a.run in let y = b.run in record { run = omega (arith, x, y) }
 
-goes_same : (w v : World) → v.losses ≡ w.losses → GoesOn w v
+goes_same : (w v : World) → v.losses ≡ w.losses → NoNewStretch w v
 goes_same w v same = record { run = rw same (omega arith) }
 
 -- Attempts
@@ -67,23 +64,23 @@ made_by a w m = record {
   still = ap (λ v. v.fault) (made_is a w m) ∙ (due_made w.left w).1 ∙ m.sound;
 }
 
-limited : (a : Attempt) (w : World) → w.fault ≡ None → (w.attempts == w.limit) ≡ true → after (attempt a) w ≡ record w { fault = Some LimitReached }
+pub limited : (a : Attempt) (w : World) → w.fault ≡ None → (w.attempts == w.limit) ≡ true → after (attempt a) w ≡ record w { fault = Some LimitReached }
 unfolding after
 limited a w sound full = rw (sound, full) refl
 
-faulted : (a : Attempt) (w : World) (fault : BusFault) → w.fault ≡ Some fault → after (attempt a) w ≡ w
+pub faulted : (a : Attempt) (w : World) (fault : BusFault) → w.fault ≡ Some fault → after (attempt a) w ≡ w
 unfolding after
 faulted a w fault e = rw e refl
 
 -- where it is made
-attempt_goes : (a : Attempt) (w : World) → IsSettled w.roots → (IsMade a w → GoesOn w (after (attempt a) w)) → GoesOn w (after (attempt a) w)
+attempt_goes : (a : Attempt) (w : World) → IsSettled w.roots → (IsMade a w → NoNewStretch w (after (attempt a) w)) → NoNewStretch w (after (attempt a) w)
 attempt_goes a w settled made = by_fault w.fault refl
   where
-    by_limit : w.fault ≡ None → (b : Bool) → (w.attempts == w.limit) ≡ b → GoesOn w (after (attempt a) w)
+    by_limit : w.fault ≡ None → (b : Bool) → (w.attempts == w.limit) ≡ b → NoNewStretch w (after (attempt a) w)
     by_limit sound true e = goes_same w (after (attempt a) w) (ap (λ v. v.losses) (limited a w sound e))
-    by_limit sound false e = made (record { sound = sound; within = λ k. no (sym e ∙ same_test w.attempts w.limit k); settled = settled })
+    by_limit sound false e = made (record { sound = sound; within = λ k. no (sym e ∙ same_equal w.attempts w.limit k); settled = settled })
 
-    by_fault : (x : Option BusFault) → w.fault ≡ x → GoesOn w (after (attempt a) w)
+    by_fault : (x : Option BusFault) → w.fault ≡ x → NoNewStretch w (after (attempt a) w)
     by_fault None e = by_limit e (w.attempts == w.limit) refl
     by_fault (Some fault) e = goes_same w (after (attempt a) w) (ap (λ v. v.losses) (faulted a w fault e))
 
@@ -92,27 +89,27 @@ unfolding one_more
 counted_run true l = omega arith
 counted_run false l = omega arith
 
-in_goes : (t : Target) (w : World) → IsMade (in_attempt t 0) w → GoesOn w (after (attempt (in_attempt t 0)) w)
+in_goes : (t : Target) (w : World) → IsMade (in_attempt t 0) w → NoNewStretch w (after (attempt (in_attempt t 0)) w)
 in_goes t w m = record {
   run = subst (λ l. w.losses.run ≤ l.run) (sym (losses_as (in_attempt t 0) w (loses (in_attempt t 0) w) false m refl (in_clears t 0 w))) (counted_run (loses (in_attempt t 0) w) w.losses);
 }
 
-out_goes : (t : Target) {toggle : _} (a : Attempt) → a ≡ out_attempt t 0 toggle [] → (w : World) → IsMade a w → GoesOn w (after (attempt a) w)
+out_goes : (t : Target) {toggle : _} (a : Attempt) → a ≡ out_attempt t 0 toggle [] → (w : World) → IsMade a w → NoNewStretch w (after (attempt a) w)
 out_goes t {toggle} a e w =
-    subst (λ x. IsMade x w → GoesOn w (after (attempt x) w)) (sym e)
+    subst (λ x. IsMade x w → NoNewStretch w (after (attempt x) w)) (sym e)
     (λ m. goes_same w _ (out_losses t 0 toggle [] w _ m.settled (next w start (made_by (out_attempt t 0 toggle []) w m))))
 
 -- Transfers of a request that clears no change of connection
 
 module _ (t : Target) (request : Setup) (none : begins_no_stretch request ≡ true) where
-  set_up_goes : (w : World) → IsMade (setup_attempt t (bytes_of request)) w → GoesOn w (after (attempt (setup_attempt t (bytes_of request))) w)
+  set_up_goes : (w : World) → IsMade (setup_attempt t (bytes_of request)) w → NoNewStretch w (after (attempt (setup_attempt t (bytes_of request))) w)
   set_up_goes w m =
       goes_same w _ (set_up_losses t (bytes_of request) w _ (ap begins_no_stretch (same_setup request) ∙ none) m.settled (next w start (made_by (setup_attempt t (bytes_of request)) w m)))
 
   abbrev Goes : Step → World → Type 0
-  Goes s w = GoesOn w (after s w) × IsSettled (after s w).roots
+  Goes s w = NoNewStretch w (after s w) × IsSettled (after s w).roots
 
-  made_goes : (a : Attempt) (w : World) → IsSettled w.roots → (IsMade a w → GoesOn w (after (attempt a) w)) → Goes (attempt a) w
+  made_goes : (a : Attempt) (w : World) → IsSettled w.roots → (IsMade a w → NoNewStretch w (after (attempt a) w)) → Goes (attempt a) w
   made_goes a w settled made = (attempt_goes a w settled made, attempt_settled a w settled)
 
   behind_goes : (s : Step) (w : World) → IsBehind t s w → IsSettled w.roots → Goes s w
@@ -126,42 +123,38 @@ module _ (t : Target) (request : Setup) (none : begins_no_stretch request ≡ tr
   step_goes s w (inl e) settled = subst (λ x. Goes x w) (sym e) (made_goes (setup_attempt t (bytes_of request)) w settled (set_up_goes w))
   step_goes s w (inr k) settled = behind_goes s w k settled
 
-  transfer_goes : {w v : World} → Course (IsOfTransfer t request) w v → IsSettled w.roots → GoesOn w v
+  transfer_goes : {w v : World} → Course (IsOfTransfer t request) w v → IsSettled w.roots → NoNewStretch w v
   transfer_goes (here w) settled = goes_none w
   transfer_goes (step s {w} {v} k more) settled = let x : Goes s w = step_goes s w k settled in goes_then w (after s w) v x.0 (transfer_goes more x.1)
 
-  pub asked_goes : (answer : Result (Vec ℕ) PipeFault) (old new : World) → Asked t request old answer new → new.fault ≡ None → GoesOn old new
+  pub asked_goes : (answer : Result (Vec ℕ) PipeFault) (old new : World) → AskedData t request old answer new → new.fault ≡ None → NoNewStretch old new
   asked_goes answer old new asked still = transfer_goes ((read_attempts t request answer old new asked.stages).whole (ended 3 answer old new asked.ends still)) asked.settled
 
-  pub ordered_goes : (result : Result (Unit {0}) PipeFault) (old new : World) → Ordered t request old result new → new.fault ≡ None → GoesOn old new
+  pub ordered_goes : (result : Result (Unit {0}) PipeFault) (old new : World) → Ordered t request old result new → new.fault ≡ None → NoNewStretch old new
   ordered_goes result old new ordered still = transfer_goes ((write_attempts t request result old new ordered.stages).whole (ended 2 result old new ordered.ends still)) ordered.settled
 
-pub device_goes : (t : Target) (length : ℕ) (answer : Result (Vec ℕ) PipeFault) (old new : World) → Asked t (get_device_descriptor length) old answer new → new.fault ≡ None → GoesOn old new
+pub device_goes : (t : Target) (length : ℕ) (answer : Result (Vec ℕ) PipeFault) (old new : World) → AskedData t (get_device_descriptor length) old answer new → new.fault ≡ None → NoNewStretch old new
 unfolding get_device_descriptor
 device_goes t length answer old new asked still = asked_goes t (get_device_descriptor length) refl answer old new asked still
 
-pub address_goes : (t : Target) (address : ℕ) (result : Result (Unit {0}) PipeFault) (old new : World) → Ordered t (set_address address) old result new → new.fault ≡ None → GoesOn old new
-unfolding set_address
-address_goes t address result old new ordered still = ordered_goes t (set_address address) refl result old new ordered still
-
 -- Calls at ports
 
-cleared_none : (c : PortCall) (n : ℕ) (old new : World) → is_clearing c ≡ false → new ≡ after (root_call c n) old → GoesOn old new
+cleared_none : (c : PortCall) (n : ℕ) (old new : World) → is_clearing c ≡ false → new ≡ after (root_call c n) old → NoNewStretch old new
 unfolding after
 cleared_none c n old new e is = goes_same old new (ap (λ v. v.losses) is ∙ ap (λ b. after_clearing b old.losses) e)
 
-pub status_goes : (port : HubPort) (outcome : Result PortStatus PipeFault) (old new : World) → PortRead port old outcome new → new.fault ≡ None → GoesOn old new
+pub status_goes : (port : HubPort) (outcome : Result PortStatus PipeFault) (old new : World) → PortRead port old outcome new → new.fault ≡ None → NoNewStretch old new
 unfolding get_port_status
-status_goes (Root n) outcome old new read still = subst (GoesOn old) (sym read.same) (goes_none old)
+status_goes (Root n) outcome old new read still = subst (NoNewStretch old) (sym read.same) (goes_none old)
 status_goes (External hub n) outcome old new told still = asked_goes hub (get_port_status n) refl told.answer old new told.asked still
 
-pub set_goes : (port : HubPort) (feature : ℕ) (c : PortCall) (outcome : Result (Unit {0}) PipeFault) (old new : World) → set_call feature ≡ Some c → is_clearing c ≡ false → PortSet port feature old outcome new → new.fault ≡ None → GoesOn old new
+pub set_goes : (port : HubPort) (feature : ℕ) (c : PortCall) (outcome : Result (Unit {0}) PipeFault) (old new : World) → set_call feature ≡ Some c → is_clearing c ≡ false → PortSet port feature old outcome new → new.fault ≡ None → NoNewStretch old new
 unfolding set_port_feature
 set_goes (Root n) feature c outcome old new is none set still = cleared_none c n old new none (set.row.step c is)
 set_goes (External hub n) feature c outcome old new is none ordered still = ordered_goes hub (set_port_feature feature n) refl outcome old new ordered still
 
 pub clear_goes : (port : HubPort) (feature : ℕ) (c : PortCall) (outcome : Result (Unit {0}) PipeFault) (old new : World) → clear_call feature ≡ Some c → is_clearing c ≡ false → (feature == 16) ≡ false → PortCleared port feature old outcome new
-    → new.fault ≡ None → GoesOn old new
+    → new.fault ≡ None → NoNewStretch old new
 unfolding clear_port_feature
 clear_goes (Root n) feature c outcome old new is none other cleared still = cleared_none c n old new none (cleared.row.step c is)
 clear_goes (External hub n) feature c outcome old new is none other ordered still = ordered_goes hub (clear_port_feature feature n) (rw other refl) outcome old new ordered still

@@ -2,14 +2,14 @@
 use Rattle.std.proofs.Common.{◌≡◌, refl, arith}
 use Rattle.std.proofs.lemmas.Bool.Decides.{nat_tests}
 use Rattle.std.specs.Prelude.{ℕ, ◌≤◌, ◌==◌, List, length, nat_lt, Bool, true, false, ◌&&◌, not, Result, Ok, Err, is_ok, if◌then◌else◌, slice_index}
-use Rattle.usb_transaction.specs.Trans.{IsTarget}
+use Rattle.usb_transaction.specs.Transactions.{IsTarget}
 use Rattle.usb_descriptor.specs.declared.fault.DescriptorFault.{DescriptorFault}
 use Rattle.usb_descriptor.specs.declared.fault.DescriptorFault.TheVariants.{Short, WrongType, Length, MaxPacket}
 use Rattle.usb_descriptor.specs.Device.{is_max_packet, device_after, device_head_of, device_of}
 use Rattle.usb_hub.specs.declared.port.HubPort.{HubPort}
 use Rattle.usb_hub.specs.declared.port.HubPort.TheVariants.{Root, External}
 use Rattle.usb_hub.specs.Port.{status_bound, order_bound}
-use Rattle.usb_pipe.proofs.Bounds.{bound_wide}
+use Rattle.usb_pipe.proofs.Interface.{bound_wide}
 use Rattle.usb_enum.specs.declared.finding.Accepted.{Accepted}
 use Rattle.usb_enum.specs.Bounds.{IsWide, read_bound, none_bound, enumeration_bound, widest_enumeration}
 use Rattle.usb_enum.specs.Device.{is_device, target_of}

@@ -12,12 +12,11 @@ use Rattle.usb_device.specs.Spec.{Spec, IsSpec}
 use Rattle.usb_resources.specs.Power.{supply_of}
 use Rattle.usb_transaction.specs.declared.target.Target.{Target}
 use Rattle.usb_world.specs.Addresses.{after_taking}
-use Rattle.usb_world.specs.Live.{address_of}
-use Rattle.usb_world.specs.Plugged.{hub_ports}
-use Rattle.usb_world.specs.Sane.{IsSane}
+use Rattle.usb_world.specs.Paths.{address_of}
+use Rattle.usb_world.specs.PluggedDevices.{hub_ports}
+use Rattle.usb_world.specs.SanePorts.{IsSane}
 use Rattle.usb_world.specs.World.{World}
-use Rattle.usb_world.proofs.AddressesReset.{self_path}
-use Rattle.usb_world.proofs.SaneLaws.{sane_spec}
+use Rattle.usb_world.proofs.Interface.{sane_spec, self_path}
 use Rattle.usb_bus.specs.Traced.{WentOn}
 use Rattle.usb_address.specs.Owned.{KeepsAddresses}
 use Rattle.usb_hub.specs.declared.port.HubPort.{HubPort}
@@ -162,7 +161,7 @@ own tier supply addressed device j p s v whole is learned found ruled =
       learned_of.2,
     )
 
-ruled_there : (k : Ports) (p : List ℕ) (s : State) → IsSane k → state_there k p ≡ Some s → IsSpec s.spec
+pub ruled_there : (k : Ports) (p : List ℕ) (s : State) → IsSane k → state_there k p ≡ Some s → IsSpec s.spec
 ruled_there k [] s sane there = absurd cc
 ruled_there k (zero ∷ p) s sane there = absurd cc
 ruled_there k (suc i ∷ p) s sane there = sane_spec k i p s sane there

@@ -1,24 +1,18 @@
 -- Texts whose values differ, one by one.
 use Rattle.std.proofs.Common.{◌≡◌, refl, arith}
-use Rattle.std.specs.Prelude.{ℕ, List, [], ◌∷◌, ◌++◌, Bool, true, false, ◌||◌, ◌==◌}
+use Rattle.std.specs.Prelude.{ℕ, List, [], ◌∷◌, ◌++◌, false, ◌==◌}
 use Rattle.usb_descriptor.specs.Config.{configuration_value}
+use Rattle.usb_world.proofs.Interface.{neither, swapped}
 use Rattle.usb_enum.specs.Text.{has_value, ValuesDiffer}
-
-either_false : (a b : Bool) → a || b ≡ false → (a ≡ false) × (b ≡ false)
-either_false true b h = absurd cc
-either_false false b h = (refl, h)
-
-same_turned : (m n : ℕ) → (m == n) ≡ false → (n == m) ≡ false
-same_turned m n h = grind (arith, h)
 
 has_one_more : (value : ℕ) (texts : List (List ℕ)) (text : List ℕ) → has_value value texts ≡ false → (configuration_value text == value) ≡ false → has_value value (texts ++ text ∷ []) ≡ false
 has_one_more value [] text h k = rw k refl
 has_one_more value (t ∷ texts) text h k =
-    let parts = either_false (configuration_value t == value) (has_value value texts) h in
+    let parts = neither (configuration_value t == value) (has_value value texts) h in
     rw parts.0 (has_one_more value texts text parts.1 k)
 
 pub one_more : (texts : List (List ℕ)) (text : List ℕ) → ValuesDiffer texts → has_value (configuration_value text) texts ≡ false → ValuesDiffer (texts ++ text ∷ [])
 one_more [] text d h = (refl, tt)
 one_more (t ∷ texts) text d h =
-    let parts = either_false (configuration_value t == configuration_value text) (has_value (configuration_value text) texts) h in
-    (has_one_more (configuration_value t) texts text d.0 (same_turned _ _ parts.0), one_more texts text d.1 parts.1)
+    let parts = neither (configuration_value t == configuration_value text) (has_value (configuration_value text) texts) h in
+    (has_one_more (configuration_value t) texts text d.0 (swapped _ _ parts.0), one_more texts text d.1 parts.1)

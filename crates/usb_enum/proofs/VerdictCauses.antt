@@ -1,22 +1,17 @@
 -- What is wrong with a device behind its device descriptor is the verdict on it, where the rows before do not hold.
-use Rattle.std.proofs.Common.{◌≡◌, ◌⊎◌, inl, inr, ℕ, ◌==◌, ◌&&◌, not, Bool, true, false, List, [], take, slice_index_or, if◌then◌else◌, Option, None, Some, Ok, Err, is_ok, refl, ap, sym, ◌∙◌}
+use Rattle.std.proofs.Common.{◌≡◌, ◌⊎◌, inl, inr, ℕ, ◌==◌, ◌&&◌, not, Bool, true, false, List, [], take, slice_index_or, if◌then◌else◌, Option, None, Some, Ok, Err, refl, ap, sym, ◌∙◌}
 use Rattle.std.specs.Option.{option_or}
 use Rattle.std.proofs.lemmas.Option.{same_Some}
-use Rattle.usb_descriptor.specs.Device.{device_head_of, configuration_count}
-use Rattle.usb_device.specs.Rows.{State}
+use Rattle.usb_descriptor.specs.Device.{configuration_count}
 use Rattle.usb_device.specs.Spec.{Spec}
-use Rattle.usb_world.proofs.Booleans.{decided}
-use Rattle.usb_enum.specs.declared.addressed.Addressed.{Addressed}
+use Rattle.usb_world.proofs.Interface.{decided}
 use Rattle.usb_enum.specs.declared.cause.Cause.{Cause}
 use Rattle.usb_enum.specs.declared.cause.Cause.TheVariants.{Stalled, TooDeep, NoPower, BadHub}
 use Rattle.usb_enum.specs.declared.cause.Request.TheVariants as request
-use Rattle.usb_enum.specs.declared.stop.Stop.TheVariants.{Refused}
 use Rattle.usb_enum.specs.Described.{verdict, is_good_hub, texts_below, texts_of, first_fault, read_verdict, set_verdict}
 use Rattle.usb_enum.specs.Device.{is_device, is_hub}
-use Rattle.usb_enum.specs.Present.{IsAddressed}
-use Rattle.usb_enum.specs.Refusals.{Refuses, chosen_fault, configured_fault}
+use Rattle.usb_enum.specs.Refusals.{chosen_fault, configured_fault}
 use Rattle.usb_enum.specs.Text.{choice_of}
-use Rattle.usb_enum.proofs.Heads.{head_packet}
 use Rattle.usb_enum.proofs.Truths.{front_count, front_hub}
 use Rattle.usb_enum.proofs.VerdictRows.{GaveHead, GaveDevice, rows_after, row_too_deep}
 
@@ -68,15 +63,3 @@ module _ (spec : Spec) (tier supply : ℕ) where
       pick (inr shallow) =
           let gave : GaveDevice spec tier = record { first = head; address = address; whole = whole; shallow = shallow } in
           rows_after spec tier supply gave ∙ read_is spec supply (first_fault spec (configuration_count spec.descriptor)) cause (sym (ap (λ b. if b then Some TooDeep else rest) shallow) ∙ is)
-
--- of a device that has its address, as it was read
-pub addressed_refused : (device : Addressed) (s : State) (tier supply : ℕ) (cause : Cause) → is_device device.target.low device.bytes ≡ true → IsAddressed device s
-    → Refuses device.target (configured_fault tier supply device.bytes) (Refused cause) s.spec → verdict s.spec tier supply ≡ Err cause
-addressed_refused device s tier supply cause good is refused =
-    let t = device.target in
-    verdict_refused s.spec tier supply device.bytes cause
-    (record { loud = is.head.loud; free = is.head.free; device = is.head.device; head = ap (λ l. is_ok (device_head_of l (take 8 s.spec.descriptor))) is.low ∙ ap is_ok is.head.head })
-    is.allowed
-    (ap (λ l. is_device l (take 18 s.spec.descriptor)) is.low ∙ ap (is_device t.low) (sym is.bytes) ∙ good)
-    is.bytes
-    (refused (record { loud = is.head.loud; free = is.head.free; max = head_packet s.spec t.low t.max is.low is.head }))

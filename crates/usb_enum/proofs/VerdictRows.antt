@@ -5,8 +5,7 @@ use Rattle.std.proofs.lemmas.Bool.{cases_order}
 use Rattle.usb_descriptor.specs.Device.{device_head_of, configuration_count}
 use Rattle.usb_device.specs.Spec.{Spec}
 use Rattle.usb_enum.specs.declared.cause.Cause.{Cause}
-use Rattle.usb_enum.specs.declared.cause.Cause.TheVariants.{Silent, Busy, Stalled, BadDevice, TooDeep, NoPower, BadHub}
-use Rattle.usb_enum.specs.declared.cause.Request.TheVariants as request
+use Rattle.usb_enum.specs.declared.cause.Cause.TheVariants.{Silent, TooDeep}
 use Rattle.usb_enum.specs.Device.{is_device, is_hub}
 use Rattle.usb_enum.specs.Text.{choice_of}
 use Rattle.usb_enum.specs.Described.{verdict, is_good_hub, texts_of, config_fault, first_fault, read_verdict, set_verdict}
@@ -37,27 +36,6 @@ pub row_silent : (spec : Spec) (tier supply : ℕ) → spec.silent ≡ true → 
 unfolding verdict
 row_silent spec tier supply a = rw a refl
 
-pub row_busy : (spec : Spec) (tier supply : ℕ) → spec.silent ≡ false → spec.busy ≡ true → verdict spec tier supply ≡ Err Busy
-unfolding verdict
-row_busy spec tier supply a b = rw (a, b) refl
-
-pub row_stalled_device : (spec : Spec) (tier supply : ℕ) → spec.silent ≡ false → spec.busy ≡ false → spec.stalls.device ≡ true → verdict spec tier supply ≡ Err (Stalled request.Device)
-unfolding verdict
-row_stalled_device spec tier supply a b c = rw (a, b, c) refl
-
-pub row_bad_head : (spec : Spec) (tier supply : ℕ) → spec.silent ≡ false → spec.busy ≡ false → spec.stalls.device ≡ false → is_ok (device_head_of spec.low (take 8 spec.descriptor)) ≡ false
-    → verdict spec tier supply ≡ Err BadDevice
-unfolding verdict
-row_bad_head spec tier supply a b c d = rw (a, b, c, d) refl
-
-pub row_stalled_address : (spec : Spec) (tier supply : ℕ) → GaveHead spec → spec.stalls.address ≡ true → verdict spec tier supply ≡ Err (Stalled request.Address)
-unfolding verdict
-row_stalled_address spec tier supply h a = rw (h.loud, h.free, h.device, h.head, a) refl
-
-pub row_bad_device : (spec : Spec) (tier supply : ℕ) → GaveHead spec → spec.stalls.address ≡ false → is_device spec.low (take 18 spec.descriptor) ≡ false → verdict spec tier supply ≡ Err BadDevice
-unfolding verdict
-row_bad_device spec tier supply h a b = rw (h.loud, h.free, h.device, h.head, a, b) refl
-
 pub row_too_deep : (spec : Spec) (tier supply : ℕ) → GaveHead spec → spec.stalls.address ≡ false → is_device spec.low (take 18 spec.descriptor) ≡ true → (is_hub spec.descriptor && tier == 7) ≡ true
     → verdict spec tier supply ≡ Err TooDeep
 unfolding verdict
@@ -84,30 +62,14 @@ first_is spec i (suc n) cause l h k = pick (cases_order i n) (λ m. first_is spe
     pick (inr (inl m)) on = ap (λ o. option_or o (config_fault spec n)) (on m)
     pick (inr (inr m)) on = absurd (omega (arith, l, m))
 
-pub row_bad_configuration : (spec : Spec) (tier supply i : ℕ) (cause : Cause) → GaveDevice spec tier → i < configuration_count spec.descriptor → first_fault spec i ≡ None → config_fault spec i ≡ Some cause
-    → verdict spec tier supply ≡ Err cause
-row_bad_configuration spec tier supply i cause h below good bad =
-    rows_after spec tier supply h ∙ ap (read_verdict spec supply) (first_is spec i (configuration_count spec.descriptor) cause below good bad)
-
 rows_read : (spec : Spec) (tier supply : ℕ) → GaveDevice spec tier → first_fault spec (configuration_count spec.descriptor) ≡ None
     → verdict spec tier supply ≡ set_verdict spec (texts_of spec) (choice_of supply (texts_of spec))
 rows_read spec tier supply h good = rows_after spec tier supply h ∙ ap (read_verdict spec supply) good
-
-pub row_no_power : (spec : Spec) (tier supply : ℕ) → GaveDevice spec tier → first_fault spec (configuration_count spec.descriptor) ≡ None → choice_of supply (texts_of spec) ≡ None
-    → verdict spec tier supply ≡ Err NoPower
-row_no_power spec tier supply h good a = rows_read spec tier supply h good ∙ ap (set_verdict spec (texts_of spec)) a
 
 -- With a configuration
 
 rows_chosen : (spec : Spec) (tier supply chosen : ℕ) → GaveTexts spec tier supply chosen → verdict spec tier supply ≡ set_verdict spec (texts_of spec) (Some chosen)
 rows_chosen spec tier supply chosen h = rows_read spec tier supply h.device h.good ∙ ap (set_verdict spec (texts_of spec)) h.within
-
-pub row_stalled_set : (spec : Spec) (tier supply chosen : ℕ) → GaveTexts spec tier supply chosen → spec.stalls.set_config ≡ true → verdict spec tier supply ≡ Err (Stalled request.SetConfig)
-row_stalled_set spec tier supply chosen h a = rows_chosen spec tier supply chosen h ∙ rw a refl
-
-pub row_bad_hub : (spec : Spec) (tier supply chosen : ℕ) → GaveTexts spec tier supply chosen → spec.stalls.set_config ≡ false
-    → (is_hub spec.descriptor && not (is_good_hub spec (slice_index_or (texts_of spec) chosen []))) ≡ true → verdict spec tier supply ≡ Err BadHub
-row_bad_hub spec tier supply chosen h a b = rows_chosen spec tier supply chosen h ∙ rw (a, b) refl
 
 pub row_accepted : (spec : Spec) (tier supply chosen : ℕ) → GaveTexts spec tier supply chosen → spec.stalls.set_config ≡ false
     → (is_hub spec.descriptor && not (is_good_hub spec (slice_index_or (texts_of spec) chosen []))) ≡ false → verdict spec tier supply ≡ Ok chosen

@@ -22,7 +22,7 @@ use Rattle.usb_enum.specs.declared.stop.Stop.TheVariants.{Refused, Fault}
 use Rattle.usb_enum.specs.Addresses.{AtPort}
 use Rattle.usb_enum.specs.Described.{verdict, gives_head, IsRight}
 use Rattle.usb_enum.specs.Device.{is_device}
-use Rattle.usb_enum.specs.Fair.{IsFairAt, PendsOr, Stops}
+use Rattle.usb_enum.specs.Fair.{IsFairAt, PendsOr, StopsFairly}
 use Rattle.usb_enum.specs.Frames.{OnlySets}
 use Rattle.usb_enum.specs.Learned.{Explains}
 use Rattle.usb_enum.specs.Present.{AtPath, Awaits, HasHead, HasTaken}
@@ -98,7 +98,7 @@ unaddressed_right full none tier supply spec cause h = split (early_fault spec) 
 pub unaddressed_early : (spec : Spec) (cause : Cause) → early_fault spec ≡ Some cause → unaddressed_fault spec ≡ Some cause
 unaddressed_early spec cause e = ap (λ o. option_or o (Some NoAddress)) e
 
-pub none_free : (port : HubPort) (target : Target) (old new : World) → Awaits target port 0 old new → Stops unaddressed_fault port 0 (Refused NoAddress) old new
+pub none_free : (port : HubPort) (target : Target) (old new : World) → Awaits target port 0 old new → StopsFairly unaddressed_fault port 0 (Refused NoAddress) old new
 none_free port target old new awaits = record { why = why }
   where
     why : (f : Claims) (p : List ℕ) → IsFairAt f port p 0 old new → TillFault (Enumerating f p 0) old → PendsOr (λ spec. unaddressed_fault spec ≡ Some NoAddress) p new
@@ -155,12 +155,12 @@ module _ (port : HubPort) (address tier supply m n : ℕ) (device : Addressed) {
           let is = taken.found.found f p fair.spare fair.held (regular_order fair.order) s on there in
           record { low = is.low; address = is.address; so = record { granted = record { speed = is.low; head = is.head; allowed = is.allowed }; bytes = is.bytes } }
 
-  pub configured_stops : (stop : Stop) → ToldOfDevice tier stop new → Explains (Refuses device.target wrong stop) device.target mid new → Stops (whole_fault tier supply) port address stop old new
+  pub configured_stops : (stop : Stop) → ToldOfDevice tier stop new → Explains (Refuses device.target wrong stop) device.target mid new → StopsFairly (whole_fault tier supply) port address stop old new
   configured_stops (Fault why) told explains = record { why = λ f p fair. none_lost p why new told }
   configured_stops (Refused cause) told explains = record { why = λ f p fair held. configured_refused cause explains f p fair }
 
   pub configured_err : {A : Type 0} (result : Result A Stop) (P : A → Type 0) → IfErr result (λ stop. ToldOfDevice tier stop new) → MatchResult result P (λ stop. Explains (Refuses device.target wrong stop) device.target mid new)
-      → IfErr result (λ stop. Stops (whole_fault tier supply) port address stop old new)
+      → IfErr result (λ stop. StopsFairly (whole_fault tier supply) port address stop old new)
   configured_err (Ok x) P told why = tt
   configured_err (Err stop) P told why = configured_stops stop told why
 

@@ -25,7 +25,7 @@ pub record Within (port : HubPort) (address : ℕ) (old new : World) : Type 0 wh
   pub stays : (f : Claims) (p : List ℕ) → IsSpare f port p address → TillFault (Enumerating f p address) old → TillFault (Enumerating f p address) new
 
 -- the device at the port, where one is reachable, took the address
-pub record Takes (port : HubPort) (address : ℕ) (old new : World) : Type 0 where
+pub record TakesAddress (port : HubPort) (address : ℕ) (old new : World) : Type 0 where
   pub took : (f : Claims) (p : List ℕ) → IsSpare f port p address → TillFault (Enumerating f p address) old → TillFault (Owned (after_taking f p address)) new
 
 -- the calls were about the port alone, as long as the bus is at work
@@ -46,7 +46,7 @@ EndsOwned f p (Err (Bus fault)) w = w.shared ≡ false
 EndsOwned f p (Err Memory) w = w.shared ≡ false
 
 -- where the device at the port, if one is reachable, has address 0 or the one that is set aside for it
-pub record Ends (port : HubPort) (address : ℕ) (old : World) (result : Result Finding EnumFault) (new : World) : Type 0 where
+pub record EndsEnumeration (port : HubPort) (address : ℕ) (old : World) (result : Result Finding EnumFault) (new : World) : Type 0 where
   pub ends : (f : Claims) (p : List ℕ) → IsSpare f port p address → TillFault (Enumerating f p address) old → EndsOwned f p result new
 
 -- where nothing is claimed at the port, and only addresses that are taken are claimed

@@ -8,7 +8,7 @@ use Rattle.usb_pipe.specs.declared.fault.PipeFault.{PipeFault}
 use Rattle.usb_hub.specs.declared.port.HubPort.{HubPort}
 use Rattle.usb_hub.specs.Moments.{CallsPort, TellsPort}
 use Rattle.usb_enum.specs.declared.fault.EnumFault.{EnumFault}
-use Rattle.usb_enum.specs.Losses.{GoesOn}
+use Rattle.usb_enum.specs.Losses.{NoNewStretch}
 use Rattle.usb_enum.specs.Stop.{at_port}
 
 -- a call at the port, and what its outcome is told as
@@ -16,16 +16,16 @@ pub record CalledAt (port : HubPort) (call : Option PortCall) (old : World) (res
   pub outcome : Result (Unit {0}) PipeFault
   pub told : result ≡ at_port outcome
   pub calls : CallsPort port call old outcome new
-  pub goes : new.fault ≡ None → GoesOn old new
+  pub goes : new.fault ≡ None → NoNewStretch old new
 
 -- the same of its status
 pub record StatusAt (port : HubPort) (old : World) (result : Result PortStatus EnumFault) (new : World) : Type 0 where
   pub outcome : Result PortStatus PipeFault
   pub told : result ≡ at_port outcome
   pub tells : TellsPort port old outcome new
-  pub goes : new.fault ≡ None → GoesOn old new
+  pub goes : new.fault ≡ None → NoNewStretch old new
 
 -- C_PORT_RESET was cleared, where it was told set
-pub record Settles (port : HubPort) (changed : Bool) (old : World) (result : Result (Unit {0}) EnumFault) (new : World) : Type 0 where
+pub record SettlesReset (port : HubPort) (changed : Bool) (old : World) (result : Result (Unit {0}) EnumFault) (new : World) : Type 0 where
   pub unset : changed ≡ false → (result ≡ Ok tt) × (new ≡ old)
   pub set : changed ≡ true → CalledAt port (clear_call 20) old result new

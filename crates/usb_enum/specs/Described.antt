@@ -9,7 +9,7 @@ use Rattle.usb_descriptor.specs.Choice.{status_endpoint_of}
 use Rattle.usb_descriptor.specs.Hub.{hub_of}
 use Rattle.usb_device.specs.Spec.{Spec, Hub}
 use Rattle.usb_device.specs.Rows.{State}
-use Rattle.usb_world.specs.Plugged.{hub_ports}
+use Rattle.usb_world.specs.PluggedDevices.{hub_ports}
 use Rattle.usb_enum.specs.declared.cause.Cause.{Cause}
 use Rattle.usb_enum.specs.declared.cause.Cause.TheVariants.{Silent, Busy, Stalled, BadDevice, TooDeep, BadConfiguration, NoPower, BadHub, NoAddress}
 use Rattle.usb_enum.specs.declared.cause.Request.TheVariants as request

@@ -5,7 +5,7 @@ use Rattle.usb_hub.specs.declared.port.HubPort.TheVariants.{Root, External}
 use Rattle.usb_world.specs.World.{World}
 use Rattle.usb_port.specs.Path.{IsPortNumber}
 use Rattle.usb_transaction.specs.declared.target.Target.{Target}
-use Rattle.usb_transaction.specs.Trans.{IsTarget}
+use Rattle.usb_transaction.specs.Transactions.{IsTarget}
 use Rattle.usb_descriptor.specs.Choice.{status_endpoint_of}
 use Rattle.usb_descriptor.specs.Device.{device_of, device_class, manufacturer_index, product_index, serial_index}
 use Rattle.usb_enum.specs.declared.cause.Cause.TheVariants.{BadDevice, TooDeep}
@@ -55,9 +55,9 @@ pub record HasStarted (address : ℕ) (facts : HubFacts) : Type 0 where
   pub after : World
   pub started : Started hub before after facts
 
-abbrev pub IsServed : ℕ → Option HubFacts → Type 0
-IsServed address (Some facts) = HasStarted address facts
-IsServed address None = ⊤
+abbrev pub IsStarted : ℕ → Option HubFacts → Type 0
+IsStarted address (Some facts) = HasStarted address facts
+IsStarted address None = ⊤
 
 -- one to seven ports, which give what a hub's ports may
 pub record AreFacts (facts : HubFacts) : Type 0 where
@@ -78,7 +78,7 @@ HasFacts bytes text None = is_hub bytes ≡ false
 -- what is known of the ports of the device with this address
 pub record IsKnown (address : ℕ) (bytes text : List ℕ) (told : Option HubFacts) : Type 0 where
   pub facts : HasFacts bytes text told
-  pub served : IsServed address told
+  pub served : IsStarted address told
 
 -- endpoint 0 of a device at a port that was reset, before it has its address
 pub record IsUnaddressed (port : HubPort) (target : Target) : Type 0 where

@@ -4,10 +4,10 @@ use Rattle.usb_port.specs.Order.{parent_of}
 use Rattle.usb_device.specs.Spec.{Spec}
 use Rattle.usb_device.specs.Rows.{State}
 use Rattle.usb_device.specs.View.{state_there}
-use Rattle.usb_world.specs.Live.{pend}
+use Rattle.usb_world.specs.Paths.{pend}
 use Rattle.usb_world.specs.World.{World}
 use Rattle.usb_transaction.specs.declared.target.Target.{Target}
-use Rattle.usb_transaction.specs.Why.{NoThreeDamaged}
+use Rattle.usb_transaction.specs.Failures.{NoThreeDamaged}
 use Rattle.usb_address.specs.Claims.{Claims}
 use Rattle.usb_address.specs.Owned.{Enumerating, TillFault}
 use Rattle.usb_hub.specs.declared.port.HubPort.{HubPort}
@@ -75,7 +75,7 @@ StopsFor wrong f p old (Fault why) new = FaultsFor p why new
 pub record Faulted (port : HubPort) (address : ℕ) (fault : EnumFault) (old new : World) : Type 0 where
   pub why : (f : Claims) (p : List ℕ) → IsFairAt f port p address old new → FaultsFor p fault new
 
-pub record Stops (wrong : Spec → Option Cause) (port : HubPort) (address : ℕ) (stop : Stop) (old new : World) : Type 0 where
+pub record StopsFairly (wrong : Spec → Option Cause) (port : HubPort) (address : ℕ) (stop : Stop) (old new : World) : Type 0 where
   pub why : (f : Claims) (p : List ℕ) → IsFairAt f port p address old new → StopsFor wrong f p old stop new
 
 -- An address that was not taken

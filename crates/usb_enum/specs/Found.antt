@@ -1,9 +1,9 @@
 -- What an enumeration finds, and what it leaves.
 use Rattle.std.specs.Prelude.{◌≡◌, ◌⊎◌, ℕ, List, true, false, Option, None, Some, Result, Ok, Err, MatchResult, length}
 use Rattle.usb_device.specs.View.{state_there}
-use Rattle.usb_world.specs.Live.{pend}
-use Rattle.usb_world.specs.World.{World, port_at}
-use Rattle.usb_transaction.specs.Why.{NoThreeDamaged}
+use Rattle.usb_world.specs.Paths.{pend}
+use Rattle.usb_world.specs.World.{World, root_port_at}
+use Rattle.usb_transaction.specs.Failures.{NoThreeDamaged}
 use Rattle.usb_hub.specs.declared.port.HubPort.{HubPort}
 use Rattle.usb_hub.specs.declared.port.HubPort.TheVariants.{Root, External}
 use Rattle.usb_hub.specs.Addresses.{IsAt}
@@ -28,13 +28,13 @@ use Rattle.usb_enum.specs.declared.finding.Accepted.{Accepted}
 use Rattle.usb_enum.specs.declared.finding.Finding.{Finding}
 use Rattle.usb_enum.specs.declared.finding.Finding.TheVariants.{Device, Refused}
 use Rattle.usb_enum.specs.declared.hub.HubFacts.{HubFacts}
-use Rattle.usb_enum.specs.Addresses.{IsSpare, Ends, KeepsEnumerated, OnlyCalls, Takes as TakesAt}
+use Rattle.usb_enum.specs.Addresses.{IsSpare, EndsEnumeration, KeepsEnumerated, OnlyCalls, TakesAddress as TakesAt}
 use Rattle.usb_enum.specs.Described.{IsFindingOf, IsRight, IsSet}
-use Rattle.usb_enum.specs.Device.{is_device, configuration_of, fits_tier, HasFacts, IsServed}
+use Rattle.usb_enum.specs.Device.{is_device, configuration_of, fits_tier, HasFacts, IsStarted}
 use Rattle.usb_enum.specs.Fair.{Faulted, HasServer, HubPends}
 use Rattle.usb_enum.specs.Losses.{FewLosses}
 use Rattle.usb_enum.specs.Places.{HasEmptyPorts, IsKnownAs, IsOccupied, IsPlaced}
-use Rattle.usb_enum.specs.Present.{AtPath, Finds, IsInOrder, IsRegular, HasReadings, LearnsSet, Reaches}
+use Rattle.usb_enum.specs.Present.{AtPath, Finds, IsInOrder, IsRegular, HasReadings, LearnsSet, ReachesDevice}
 use Rattle.usb_enum.specs.Readings.{AtMaximum}
 use Rattle.usb_enum.specs.Stop.{FaultAt, FitsTier}
 use Rattle.usb_enum.specs.Text.{ValuesDiffer, choice_of}
@@ -47,7 +47,7 @@ pub record IsWhole (supply : ℕ) (device : Accepted) : Type 0 where
   pub differ : ValuesDiffer device.configs
   pub chosen : choice_of supply device.configs ≡ Some device.chosen
   pub hub : HasFacts device.bytes (configuration_of device) device.hub
-  pub served : IsServed device.address device.hub
+  pub served : IsStarted device.address device.hub
 
 -- where a path claims the address, and as long as the bus is at work, the ports of the hub that was found there are empty, or a change is pending
 pub record EmptiesPorts (address : ℕ) (told : Option HubFacts) (old new : World) : Type 0 where
@@ -72,7 +72,7 @@ pub record IsAccepted (port : HubPort) (given tier supply : ℕ) (old new : Worl
   pub whole : IsWhole supply device
   pub takes : TakesAt port given old new
   pub own : Finds (IsOwn tier supply device) port given old new
-  pub reaches : Reaches port given old new
+  pub reaches : ReachesDevice port given old new
   pub below : (f : Claims) (p : List ℕ) → IsSpare f port p given → TillFault (Enumerating f p given) old → IsInOrder old → new.fault ≡ None → HasEmptyPorts p device.hub new
 
 -- the last request to a hub was to clear PORT_ENABLE, and it was done
@@ -82,7 +82,7 @@ pub record LastDisabled (hub : Target) (port : ℕ) (w : World) : Type 0 where
 
 -- the port was told to pass nothing on
 abbrev pub IsDisabled : HubPort → World → Type 0
-IsDisabled (Root number) w = (port_at w number).enable ≡ false
+IsDisabled (Root number) w = (root_port_at w number).enable ≡ false
 IsDisabled (External hub port) w = LastDisabled hub port w
 
 -- what is left after an enumeration that was given up: a refused device's port is disabled, or its parent is lost
@@ -98,7 +98,7 @@ pub record Disables (port : HubPort) (address : ℕ) (old : World) (result : Res
 -- who holds which address at the end of an enumeration that is given up, and that its calls were about the port alone; that a refused device stands
 -- there; and why its hub is lost
 pub record Closes (port : HubPort) (address : ℕ) (stop : Stop) (old : World) (result : Result Finding EnumFault) (new : World) : Type 0 where
-  pub ends : Ends port address old result new
+  pub ends : EndsEnumeration port address old result new
   pub only : OnlyCalls port address old new
   pub there : Disables port address old result new
   pub lost : (cause : Cause) (why : EnumFault) → stop ≡ stops.Refused cause → result ≡ Err why → Faulted port address why old new

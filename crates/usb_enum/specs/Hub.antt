@@ -7,13 +7,13 @@ use Rattle.usb_descriptor.specs.Hub.{hub_of, port_count}
 use Rattle.usb_resources.specs.Power.{supply_of}
 use Rattle.usb_request.specs.Requests.{get_hub_descriptor, get_status, set_port_feature}
 use Rattle.usb_hub.specs.declared.status.DeviceStatus.{DeviceStatus}
-use Rattle.usb_hub.specs.Requests.{Asked, Told, Ordered, device_status}
+use Rattle.usb_hub.specs.Requests.{AskedData, Told, Ordered, device_status}
 use Rattle.usb_enum.specs.declared.hub.HubFacts.{HubFacts}
 
 -- its descriptor, which is good and says how many ports it has
 pub record CountTold (hub : Target) (old new : World) (count : ℕ) : Type 0 where
   pub bytes : Vec ℕ
-  pub asked : Asked hub get_hub_descriptor old (Ok bytes) new
+  pub asked : AskedData hub get_hub_descriptor old (Ok bytes) new
   pub good : hub_of bytes.items ≡ Ok bytes.items
   pub said : count ≡ port_count bytes.items
 

@@ -4,20 +4,17 @@ use Rattle.usb_device.specs.Spec.{Spec, IsSpec}
 use Rattle.usb_device.specs.Progress.{OnlyStage}
 use Rattle.usb_device.specs.Rows.{State}
 use Rattle.usb_world.specs.Devices.{EachWas}
-use Rattle.usb_world.specs.Live.{address_of}
+use Rattle.usb_world.specs.Paths.{address_of}
 use Rattle.usb_world.specs.OneHolder.{hears_attempt}
 use Rattle.usb_world.specs.Passes.{deep_at}
 use Rattle.usb_world.specs.World.{World}
 use Rattle.usb_transaction.specs.declared.target.Target.{Target}
-use Rattle.usb_transaction.specs.Over.{is_at}
-use Rattle.usb_transaction.specs.Trans.{in_attempt}
-use Rattle.usb_transaction.specs.Why.{NoThreeDamaged}
+use Rattle.usb_transaction.specs.Leaves.{is_at}
+use Rattle.usb_transaction.specs.Transactions.{in_attempt}
+use Rattle.usb_transaction.specs.Failures.{NoThreeDamaged}
 
--- a device has the description, the address and the configuration that it had, and nothing of it changed but where its transfer stands; of the
--- target's device this is so
+-- nothing of a device changed but where its transfer stands; of the target's device this is so
 pub record Learned (So : Spec → Type 0) (t : Target) (j : ℕ) (p : List ℕ) (s v : State) : Type 0 where
-  pub spec : v.spec ≡ s.spec
-  pub registers : v.registers ≡ s.registers
   pub frame : OnlyStage s v
   pub so : is_at s t ≡ true → So s.spec
 

@@ -7,5 +7,5 @@ abbrev pub FewLosses : World → Type 0
 FewLosses w = w.losses.worst ≤ 2
 
 -- over these steps no other stretch of losses begins
-pub record GoesOn (old new : World) : Type 0 where
+pub record NoNewStretch (old new : World) : Type 0 where
   pub run : old.losses.run ≤ new.losses.run

@@ -6,27 +6,27 @@ use Rattle.usb_device.specs.Tree.{reach}
 use Rattle.usb_device.specs.View.{state_there}
 use Rattle.usb_descriptor.specs.Device.{device_head_of, configuration_count}
 use Rattle.usb_world.specs.Devices.{EachWas}
-use Rattle.usb_world.specs.Live.{address_of}
+use Rattle.usb_world.specs.Paths.{address_of}
 use Rattle.usb_world.specs.PlanData.{PlanData, IsPlan}
-use Rattle.usb_world.specs.PluggedAt.{AtPorts}
+use Rattle.usb_world.specs.PlanCourses.{AtPorts}
 use Rattle.usb_world.specs.Steps.{AnyStep, Course, IsBetween, opening}
 use Rattle.usb_world.specs.World.{World}
 use Rattle.usb_transaction.specs.declared.target.Target.{Target}
-use Rattle.usb_transaction.specs.Over.{is_at}
+use Rattle.usb_transaction.specs.Leaves.{is_at}
 use Rattle.usb_address.specs.Claims.{Claims}
 use Rattle.usb_address.specs.Owned.{Enumerating, TillFault}
 use Rattle.usb_hub.specs.declared.port.HubPort.{HubPort}
-use Rattle.usb_hub.specs.Addresses.{Answers}
+use Rattle.usb_hub.specs.Addresses.{IsClaimed}
 use Rattle.usb_hub.specs.Settings.{IsFresh}
 use Rattle.usb_enum.specs.declared.addressed.Addressed.{Addressed}
 use Rattle.usb_enum.specs.declared.finding.Accepted.{Accepted}
 use Rattle.usb_enum.specs.declared.hub.HubFacts.{HubFacts}
-use Rattle.usb_enum.specs.Addresses.{IsSpare, Takes}
+use Rattle.usb_enum.specs.Addresses.{IsSpare, TakesAddress}
 use Rattle.usb_enum.specs.Described.{strings_by}
 use Rattle.usb_enum.specs.Device.{IsKnown, string_indexes, configuration_of, needs_pre}
 use Rattle.usb_enum.specs.Hub.{Started}
 use Rattle.usb_enum.specs.Learned.{Learns}
-use Rattle.usb_enum.specs.Losses.{GoesOn}
+use Rattle.usb_enum.specs.Losses.{NoNewStretch}
 use Rattle.usb_enum.specs.Places.{IsOccupied, IsReachedAt}
 use Rattle.usb_enum.specs.Readings.{AtMaximum, HasConfigurations, IsGoodHub, Ruled}
 
@@ -34,7 +34,7 @@ use Rattle.usb_enum.specs.Readings.{AtMaximum, HasConfigurations, IsGoodHub, Rul
 
 -- the target answered, so it was there and the bus is at work, and of the device that has its address this was learned
 pub record AnswersSo (So : Spec → Type 0) (t : Target) (old new : World) : Type 0 where
-  pub who : Answers t.addr old
+  pub who : IsClaimed t.addr old
   pub still : new.fault ≡ None
   pub learns : Learns So t old new
 
@@ -79,7 +79,7 @@ pub record Finds (So : State → Type 0) (port : HubPort) (address : ℕ) (old n
   pub found : (f : Claims) (p : List ℕ) → IsSpare f port p address → TillFault (Enumerating f p address) old → IsRegular old → AtPath So p new
 
 -- so it is where the port is occupied: as long as the bus is at work, the device there is reached in the end, or a change of connection is pending
-pub record Reaches (port : HubPort) (address : ℕ) (old new : World) : Type 0 where
+pub record ReachesDevice (port : HubPort) (address : ℕ) (old new : World) : Type 0 where
   pub reached : (f : Claims) (p : List ℕ) → IsSpare f port p address → TillFault (Enumerating f p address) old → IsInOrder old → IsOccupied old p → new.fault ≡ None → IsReachedAt new p
 
 -- it has this speed
@@ -89,8 +89,8 @@ HasSpeed low s = s.spec.low ≡ low
 -- the port was reset, and shows a device of this speed
 pub record WasReset (low : Bool) (port : HubPort) (address : ℕ) (old new : World) : Type 0 where
   pub speed : new.fault ≡ None → Finds (HasSpeed low) port address old new
-  pub reaches : Reaches port address old new
-  pub goes : new.fault ≡ None → GoesOn old new
+  pub reaches : ReachesDevice port address old new
+  pub goes : new.fault ≡ None → NoNewStretch old new
 
 -- it has the target's speed and maximum packet, and awaits an address
 pub record AwaitsAddress (target : Target) (s : State) : Type 0 where
@@ -101,8 +101,8 @@ pub record AwaitsAddress (target : Target) (s : State) : Type 0 where
 -- so it is of the device at the port
 pub record Awaits (target : Target) (port : HubPort) (address : ℕ) (old new : World) : Type 0 where
   pub found : Finds (AwaitsAddress target) port address old new
-  pub reaches : Reaches port address old new
-  pub goes : new.fault ≡ None → GoesOn old new
+  pub reaches : ReachesDevice port address old new
+  pub goes : new.fault ≡ None → NoNewStretch old new
 
 -- it is the device that has its address, as it was read
 pub record IsAddressed (device : Addressed) (s : State) : Type 0 where
@@ -116,10 +116,10 @@ pub record IsAddressed (device : Addressed) (s : State) : Type 0 where
 pub record HasTaken (port : HubPort) (given : ℕ) (old new : World) (device : Addressed) : Type 0 where
   pub address : device.target.addr ≡ given
   pub pre : device.target.pre ≡ (device.target.low && needs_pre port)
-  pub takes : Takes port given old new
+  pub takes : TakesAddress port given old new
   pub still : new.fault ≡ None
   pub found : Finds (IsAddressed device) port given old new
-  pub reaches : Reaches port given old new
+  pub reaches : ReachesDevice port given old new
 
 -- Of a device that is read and configured
 

@@ -6,7 +6,7 @@ use Rattle.usb_device.specs.Spec.{Spec}
 use Rattle.usb_device.specs.Transfer.{max_packet}
 use Rattle.usb_world.specs.World.{World}
 use Rattle.usb_transaction.specs.declared.target.Target.{Target}
-use Rattle.usb_hub.specs.Addresses.{Answers}
+use Rattle.usb_hub.specs.Addresses.{IsClaimed}
 use Rattle.usb_hub.specs.Why.{HasPort}
 use Rattle.usb_enum.specs.declared.cause.Cause.{Cause}
 use Rattle.usb_enum.specs.declared.cause.Cause.TheVariants.{Silent, Busy, Stalled, BadDevice, TooDeep, NoPower, BadHub, NoAddress}
@@ -16,7 +16,7 @@ use Rattle.usb_enum.specs.declared.stop.Stop.TheVariants.{Refused, Fault}
 use Rattle.usb_enum.specs.Described.{gives_hub, is_good_hub, texts_below, first_fault, verdict}
 use Rattle.usb_enum.specs.Device.{is_device, is_hub}
 use Rattle.usb_enum.specs.Learned.{Explains}
-use Rattle.usb_enum.specs.Losses.{GoesOn}
+use Rattle.usb_enum.specs.Losses.{NoNewStretch}
 use Rattle.usb_enum.specs.Present.{AnswersSo, HasDescriptor, HasHead}
 use Rattle.usb_enum.specs.Readings.{AtMaximum}
 use Rattle.usb_enum.specs.Text.{choice_of}
@@ -113,14 +113,14 @@ configured_fault tier supply bytes spec =
 -- it gives one with this maximum packet
 pub record FindsHead (t : Target) (old new : World) (max : ℕ) : Type 0 where
   pub answers : AnswersSo (HasHead t.low max) t old new
-  pub goes : GoesOn old new
+  pub goes : NoNewStretch old new
 
 -- Of the device descriptor that is read at an address
 
 -- none was answered, as it is by each responsive device
 pub record NoDescriptor (t : Target) (old new : World) : Type 0 where
   pub why : Explains (λ spec. IsResponsive t spec → ⊥) t old new
-  pub goes : new.fault ≡ None → GoesOn old new
+  pub goes : new.fault ≡ None → NoNewStretch old new
 
 -- its bytes, or none
 abbrev pub FindsDescriptor : Target → World → World → Option (List ℕ) → Type 0
@@ -130,7 +130,7 @@ FindsDescriptor t old new None = NoDescriptor t old new
 -- whoever is refused for it answered, and it is bad or not given
 pub record RefusesDescriptor (t : Target) (stop : Stop) (old new : World) : Type 0 where
   pub why : Explains (Refuses t (device_fault t.low) stop) t old new
-  pub who : (cause : Cause) → stop ≡ Refused cause → Answers t.addr old
+  pub who : (cause : Cause) → stop ≡ Refused cause → IsClaimed t.addr old
 
 -- Of the ports of a hub
 

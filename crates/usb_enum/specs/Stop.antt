@@ -81,13 +81,13 @@ IsPlain cause.BadHub = ⊥
 IsPlain cause.Lost = ⊤
 IsPlain cause.NoAddress = ⊥
 
-abbrev pub Told : Stop → World → Type 0
-Told (Refused cause) w = IsPlain cause
-Told (Fault f) w = FaultTold f w
+abbrev pub StopTold : Stop → World → Type 0
+StopTold (Refused cause) w = IsPlain cause
+StopTold (Fault f) w = FaultTold f w
 
-abbrev pub ToldAt : HubPort → Stop → World → Type 0
-ToldAt port (Refused cause) w = IsPlain cause
-ToldAt port (Fault f) w = FaultAt port f w
+abbrev pub StopToldAt : HubPort → Stop → World → Type 0
+StopToldAt port (Refused cause) w = IsPlain cause
+StopToldAt port (Fault f) w = FaultAt port f w
 
 -- of a hub that is configured
 abbrev pub ToldOfHub : Stop → World → Type 0
@@ -98,11 +98,11 @@ abbrev pub ToldOfDevice : ℕ → Stop → World → Type 0
 ToldOfDevice tier (Refused cause) w = FitsTier tier cause
 ToldOfDevice tier (Fault f) w = FaultTold f w
 
-abbrev pub ToldIn : HubPort → ℕ → Stop → World → Type 0
-ToldIn port tier (Refused cause) w = FitsTier tier cause
-ToldIn port tier (Fault f) w = FaultAt port f w
+abbrev pub StopToldIn : HubPort → ℕ → Stop → World → Type 0
+StopToldIn port tier (Refused cause) w = FitsTier tier cause
+StopToldIn port tier (Fault f) w = FaultAt port f w
 
 -- where no address was free
-abbrev pub ToldWithout : HubPort → Stop → World → Type 0
-ToldWithout port (Refused why) w = (why ≡ cause.NoAddress) ⊎ IsPlain why
-ToldWithout port (Fault f) w = FaultAt port f w
+abbrev pub StopToldWithout : HubPort → Stop → World → Type 0
+StopToldWithout port (Refused why) w = (why ≡ cause.NoAddress) ⊎ IsPlain why
+StopToldWithout port (Fault f) w = FaultAt port f w

@@ -1,6 +1,6 @@
 //! A device that has its address.
 ghost use Rattle.std.specs.Prelude.{◌≡◌, ◌≤◌, ◌==◌, true};
-ghost use Rattle.usb_transaction.specs.Trans.{IsTarget};
+ghost use Rattle.usb_transaction.specs.Transactions.{IsTarget};
 ghost use Rattle.usb_descriptor.specs.Device.{device_class, configuration_count};
 ghost use Rattle.usb_enum.specs.Device.{is_device, string_indexes};
 

@@ -3,11 +3,11 @@ ghost use Rattle.std.specs.Prelude.{◌≡◌, ℕ, IfOk, IfErr, MatchResult, tr
 ghost use Rattle.usb_bus.specs.Traced.{Went};
 ghost use Rattle.usb_hub.specs.Port.{IsPort, order_bound};
 ghost use Rattle.usb_enum.specs.Bounds.{unaddressed_bound, examination_bound, enumeration_bound, configured_bound, hub_bound};
-ghost use Rattle.usb_enum.specs.Stop.{FaultAt, ToldIn, ToldOfDevice, ToldOfHub, ToldWithout};
+ghost use Rattle.usb_enum.specs.Stop.{FaultAt, StopToldIn, ToldOfDevice, ToldOfHub, StopToldWithout};
 ghost use Rattle.usb_enum.specs.Found.{Closes, Enumerates, GivesUp, IsAccepted, IsFound, IsListed, IsWhole, TakesFor};
 ghost use Rattle.usb_enum.specs.Device.{fits_tier, is_hub};
 ghost use Rattle.usb_enum.specs.Addresses.{AtPort};
-ghost use Rattle.usb_enum.specs.Fair.{Stops};
+ghost use Rattle.usb_enum.specs.Fair.{StopsFairly};
 ghost use Rattle.usb_enum.specs.Learned.{Explains, ExplainsSet};
 ghost use Rattle.usb_enum.specs.Present.{LearnsPorts};
 ghost use Rattle.usb_enum.specs.Refusals.{Refuses, start_fault, configured_fault, unaddressed_fault, whole_fault};
@@ -74,9 +74,9 @@ pub fn enumerate<B: Bus>(
 fn without_address<B: Bus>(alloc: Global, bus: &mut B, port: HubPort) -> Stop
     requires { IsPort (B.world bus.old) port }
     ensures went { Went B.world B.trace (unaddressed_bound port) bus.old bus.new }
-    ensures told { ToldWithout port result (B.world bus.new) }
+    ensures told { StopToldWithout port result (B.world bus.new) }
     ensures within { AtPort port 0 (B.world bus.old) (B.world bus.new) }
-    ensures why { Stops unaddressed_fault port 0 result (B.world bus.old) (B.world bus.new) }
+    ensures why { StopsFairly unaddressed_fault port 0 result (B.world bus.old) (B.world bus.new) }
 {
     match unaddressed(alloc, bus, port) {
         Ok(_) => Stop::Refused(Cause::NoAddress),
@@ -112,11 +112,11 @@ fn examine<B: Bus>(
 ) -> Result<Accepted, Stop>
     requires port { IsPort (B.world bus.old) port }
     ensures went { Went B.world B.trace (examination_bound port) bus.old bus.new }
-    ensures told { IfErr result (λ stop. ToldIn port tier stop (B.world bus.new)) }
+    ensures told { IfErr result (λ stop. StopToldIn port tier stop (B.world bus.new)) }
     ensures within { AtPort port address (B.world bus.old) (B.world bus.new) }
     ensures ok { MatchResult result
         (IsAccepted port address tier supply (B.world bus.old) (B.world bus.new))
-        (λ stop. Stops (whole_fault tier supply) port address stop
+        (λ stop. StopsFairly (whole_fault tier supply) port address stop
         (B.world bus.old) (B.world bus.new)) }
 {
     let device = passes(alloc, bus, port, address.number())?;

@@ -2,7 +2,7 @@
 ghost use Rattle.std.specs.Prelude.{◌≡◌, ◌⊎◌, ◌≤◌, ◌*◌, IfOk, IfErr, MatchResult};
 ghost use Rattle.usb_bus.specs.Traced.{Went};
 ghost use Rattle.usb_port.specs.Path.{IsPortNumber};
-ghost use Rattle.usb_transaction.specs.Trans.{IsTarget};
+ghost use Rattle.usb_transaction.specs.Transactions.{IsTarget};
 ghost use Rattle.usb_enum.specs.Bounds.{read_bound, none_bound, hub_bound};
 ghost use Rattle.usb_enum.specs.Learned.{Learns, Explains, ExplainsSet};
 ghost use Rattle.usb_enum.specs.Readings.{AtMaximum, Ruled, HasPorts, HasSupply, IsGoodHub};

@@ -3,14 +3,14 @@ ghost use Rattle.std.specs.Prelude.{◌≡◌, ◌≤◌, ◌<◌, ◌*◌, IfOk
 ghost use Rattle.usb_device.specs.Calls.{set_call};
 ghost use Rattle.usb_bus.specs.Traced.{Went};
 ghost use Rattle.usb_hub.specs.Port.{IsPort, status_bound, order_bound};
-ghost use Rattle.usb_transaction.specs.Trans.{IsTarget};
+ghost use Rattle.usb_transaction.specs.Transactions.{IsTarget};
 ghost use Rattle.usb_enum.specs.Bounds.{read_bound, reset_bound, unaddressed_bound, pass_bound};
-ghost use Rattle.usb_enum.specs.Stop.{FaultAt, Told, ToldAt};
+ghost use Rattle.usb_enum.specs.Stop.{FaultAt, StopTold, StopToldAt};
 ghost use Rattle.usb_enum.specs.Device.{IsUnaddressed, device_bytes, is_device, needs_pre};
 ghost use Rattle.usb_hub.specs.Addresses.{KeepsDevices, Resets};
 ghost use Rattle.usb_enum.specs.Addresses.{AtPort, OnlyCalls};
-ghost use Rattle.usb_enum.specs.Calls.{CalledAt, Settles, StatusAt};
-ghost use Rattle.usb_enum.specs.Fair.{PassEnds, Stops};
+ghost use Rattle.usb_enum.specs.Calls.{CalledAt, SettlesReset, StatusAt};
+ghost use Rattle.usb_enum.specs.Fair.{PassEnds, StopsFairly};
 ghost use Rattle.usb_enum.specs.Frames.{OnlyAsks};
 ghost use Rattle.usb_enum.specs.Learned.{Explains};
 ghost use Rattle.usb_enum.specs.Present.{Awaits, HasTaken, WasReset};
@@ -54,11 +54,11 @@ fn read_status<B: Bus>(alloc: Global, bus: &mut B, port: HubPort) -> Result<Port
 fn reset<B: Bus>(alloc: Global, bus: &mut B, port: HubPort) -> Result<bool, Stop>
     requires port { IsPort (B.world bus.old) port }
     ensures went { Went B.world B.trace (reset_bound port) bus.old bus.new }
-    ensures told { IfErr result (λ stop. ToldAt port stop (B.world bus.new)) }
+    ensures told { IfErr result (λ stop. StopToldAt port stop (B.world bus.new)) }
     ensures within { (a : ℕ) → AtPort port a (B.world bus.old) (B.world bus.new) }
     ensures found { MatchResult result
         (λ low. (a : ℕ) → WasReset low port a (B.world bus.old) (B.world bus.new))
-        (λ stop. (a : ℕ) → Stops no_fault port a stop (B.world bus.old) (B.world bus.new)) }
+        (λ stop. (a : ℕ) → StopsFairly no_fault port a stop (B.world bus.old) (B.world bus.new)) }
 {
     begin_reset(bus, port)?;
     let status = read_status(alloc, bus, port)?;
@@ -76,7 +76,7 @@ fn settle<B: Bus>(bus: &mut B, port: HubPort, changed: bool) -> Result<(), EnumF
     ensures told { IfErr result (λ fault. FaultAt port fault (B.world bus.new)) }
     ensures within { (a : ℕ) → AtPort port a (B.world bus.old) (B.world bus.new) }
     ensures devices { KeepsDevices (B.world bus.old) (B.world bus.new) }
-    ensures calls { Settles port changed (B.world bus.old) result (B.world bus.new) }
+    ensures calls { SettlesReset port changed (B.world bus.old) result (B.world bus.new) }
 {
     if !changed {
         return Ok(());
@@ -100,7 +100,7 @@ fn first_maximum<B: Bus>(alloc: Global, bus: &mut B, unaddressed: Target) -> Res
     requires target { IsTarget unaddressed }
     requires max { unaddressed.max ≡ 8 }
     ensures went { Went B.world B.trace (read_bound 8) bus.old bus.new }
-    ensures told { IfErr result (λ stop. Told stop (B.world bus.new)) }
+    ensures told { IfErr result (λ stop. StopTold stop (B.world bus.new)) }
     ensures fits { IfOk result (λ max. (8 ≤ max) × (max ≤ 64)) }
     ensures head { MatchResult result
         (FindsHead unaddressed (B.world bus.old) (B.world bus.new))
@@ -121,7 +121,7 @@ fn descriptor<B: Bus>(alloc: Global, bus: &mut B, target: Target) -> Result<Opti
     requires target { IsTarget target }
     requires max { 8 ≤ target.max }
     ensures went { Went B.world B.trace (read_bound 18) bus.old bus.new }
-    ensures told { IfErr result (λ stop. Told stop (B.world bus.new)) }
+    ensures told { IfErr result (λ stop. StopTold stop (B.world bus.new)) }
     ensures device { IfOk result (λ found. IfSome found (λ bytes.
         is_device target.low bytes ≡ true)) }
     ensures bytes { MatchResult result
@@ -155,12 +155,12 @@ fn device_bytes(bytes: &[u8; 18], low: bool) -> Result<Option<[u8; 18]>, Stop>
 pub(crate) fn unaddressed<B: Bus>(alloc: Global, bus: &mut B, port: HubPort) -> Result<Target, Stop>
     requires port { IsPort (B.world bus.old) port }
     ensures went { Went B.world B.trace (unaddressed_bound port) bus.old bus.new }
-    ensures told { IfErr result (λ stop. ToldAt port stop (B.world bus.new)) }
+    ensures told { IfErr result (λ stop. StopToldAt port stop (B.world bus.new)) }
     ensures target { IfOk result (IsUnaddressed port) }
     ensures within { (a : ℕ) → AtPort port a (B.world bus.old) (B.world bus.new) }
     ensures device { MatchResult result
         (λ target. (a : ℕ) → Awaits target port a (B.world bus.old) (B.world bus.new))
-        (λ stop. (a : ℕ) → Stops early_fault port a stop (B.world bus.old) (B.world bus.new)) }
+        (λ stop. (a : ℕ) → StopsFairly early_fault port a stop (B.world bus.old) (B.world bus.new)) }
 {
     let low = reset(alloc, bus, port)?;
     let pre = low && needs_pre(port);
@@ -195,11 +195,11 @@ fn pass<B: Bus>(
     requires least { 1 ≤ address }
     requires most { address < 128 }
     ensures went { Went B.world B.trace (pass_bound port) bus.old bus.new }
-    ensures told { IfErr result (λ stop. ToldAt port stop (B.world bus.new)) }
+    ensures told { IfErr result (λ stop. StopToldAt port stop (B.world bus.new)) }
     ensures within { AtPort port address (B.world bus.old) (B.world bus.new) }
     ensures taken { MatchResult result
         (PassEnds port address (B.world bus.old) (B.world bus.new))
-        (λ stop. Stops addressed_fault port address stop (B.world bus.old) (B.world bus.new)) }
+        (λ stop. StopsFairly addressed_fault port address stop (B.world bus.old) (B.world bus.new)) }
 {
     let target = unaddressed(alloc, bus, port)?;
     let stalled = Cause::Stalled(Request::Address);
@@ -226,11 +226,11 @@ pub(crate) fn passes<B: Bus>(
     requires least { 1 ≤ address }
     requires most { address < 128 }
     ensures went { Went B.world B.trace (3 * pass_bound port) bus.old bus.new }
-    ensures told { IfErr result (λ stop. ToldAt port stop (B.world bus.new)) }
+    ensures told { IfErr result (λ stop. StopToldAt port stop (B.world bus.new)) }
     ensures within { AtPort port address (B.world bus.old) (B.world bus.new) }
     ensures taken { MatchResult result
         (HasTaken port address (B.world bus.old) (B.world bus.new))
-        (λ stop. Stops addressed_fault port address stop (B.world bus.old) (B.world bus.new)) }
+        (λ stop. StopsFairly addressed_fault port address stop (B.world bus.old) (B.world bus.new)) }
 {
     for _pass in 0..3u8 {
         if let Some(device) = pass(alloc, bus, port, address)? {

@@ -1,13 +1,13 @@
 //! The strings of a device (9.6.7).
 ghost use Rattle.std.specs.Prelude.{◌≡◌, ◌≤◌, IfOk, IfErr, MatchResult};
 ghost use Rattle.usb_bus.specs.Traced.{Went};
-ghost use Rattle.usb_transaction.specs.Trans.{IsTarget};
+ghost use Rattle.usb_transaction.specs.Transactions.{IsTarget};
 ghost use Rattle.usb_enum.specs.Bounds.{read_bound, strings_bound};
 ghost use Rattle.usb_enum.specs.Described.{strings_by};
 ghost use Rattle.usb_enum.specs.Learned.{Learns, Explains};
 ghost use Rattle.usb_enum.specs.Readings.{AtMaximum, HasString, language_of, string_in, no_strings};
 ghost use Rattle.usb_enum.specs.Refusals.{Refuses, no_fault};
-ghost use Rattle.usb_enum.specs.Stop.{Told};
+ghost use Rattle.usb_enum.specs.Stop.{StopTold};
 ghost use Rattle.usb_enum.specs.Text.{first_language_of, units_of};
 ghost use Rattle.usb_enum.specs.Frames.{OnlyAsks};
 
@@ -89,7 +89,7 @@ fn string_bytes<B: Bus>(
     requires target { IsTarget target }
     requires max { 8 ≤ target.max }
     ensures went { Went B.world B.trace (read_bound 255) bus.old bus.new }
-    ensures told { IfErr result (λ stop. Told stop (B.world bus.new)) }
+    ensures told { IfErr result (λ stop. StopTold stop (B.world bus.new)) }
     ensures learned { MatchResult result
         (λ bytes. Learns (AtMaximum target (HasString index bytes)) target
         (B.world bus.old) (B.world bus.new))
@@ -117,7 +117,7 @@ fn read_one<B: Bus>(
     requires target { IsTarget target }
     requires max { 8 ≤ target.max }
     ensures went { Went B.world B.trace (read_bound 255) bus.old bus.new }
-    ensures told { IfErr result (λ stop. Told stop (B.world bus.new)) }
+    ensures told { IfErr result (λ stop. StopTold stop (B.world bus.new)) }
     ensures learned { MatchResult result
         (λ string. Learns (AtMaximum target (λ spec. string ≡ string_in spec index)) target
         (B.world bus.old) (B.world bus.new))
@@ -139,7 +139,7 @@ fn language<B: Bus>(alloc: Global, bus: &mut B, target: Target) -> Result<Option
     requires target { IsTarget target }
     requires max { 8 ≤ target.max }
     ensures went { Went B.world B.trace (read_bound 255) bus.old bus.new }
-    ensures told { IfErr result (λ stop. Told stop (B.world bus.new)) }
+    ensures told { IfErr result (λ stop. StopTold stop (B.world bus.new)) }
     ensures learned { MatchResult result
         (λ language. Learns (AtMaximum target (λ spec. language ≡ language_of spec)) target
         (B.world bus.old) (B.world bus.new))
@@ -163,7 +163,7 @@ pub(crate) fn read_strings<B: Bus>(
     requires target { IsTarget target }
     requires max { 8 ≤ target.max }
     ensures went { Went B.world B.trace strings_bound bus.old bus.new }
-    ensures told { IfErr result (λ stop. Told stop (B.world bus.new)) }
+    ensures told { IfErr result (λ stop. StopTold stop (B.world bus.new)) }
     ensures learned { MatchResult result
         (λ strings. Learns (AtMaximum target (λ spec. strings ≡ strings_by spec indexes)) target
         (B.world bus.old) (B.world bus.new))

@@ -45,7 +45,7 @@ impl ConfigText {
     }
 
     /// bConfigurationValue, by which SET_CONFIGURATION names the configuration.
-    #[tactic(auto, using(usb_descriptor::proofs::Texts::header_of))]
+    #[tactic(auto, using(usb_descriptor::proofs::Interface::header_of))]
     pub fn value(&self) -> u8
         ensures { result ≡ configuration_value self.now }
     {
@@ -53,7 +53,7 @@ impl ConfigText {
     }
 
     /// What the configuration needs, in mA: twice bMaxPower.
-    #[tactic(auto, using(usb_descriptor::proofs::Texts::header_of))]
+    #[tactic(auto, using(usb_descriptor::proofs::Interface::header_of))]
     pub fn need(&self) -> u16
         ensures { result ≡ need_of self.now }
     {

@@ -10,23 +10,14 @@ use Rattle.std.specs.declared.cmp.Ordering.TheVariants.{Less, Equal, Greater}
 use Rattle.std.proofs.lemmas.Map.Entries.{lookup-filter-keys}
 use Rattle.usb_port.specs.Order.{path_cmp, is_below, parent_of, port_of}
 use Rattle.usb_port.specs.Path.{IsPath}
-use Rattle.usb_port.proofs.OrderLaws.{below, rejoined}
+use Rattle.usb_port.proofs.Interface.{below, rejoined}
 use Rattle.usb_enum.specs.declared.finding.Finding.{Finding}
 use Rattle.usb_table.specs.Entries.{Entries, has_at, is_at_or_below, without}
 use Rattle.usb_table.specs.declared.known.KnownPort.{KnownPort}
 use Rattle.usb_table.specs.Known.{known_port, port_below, port_found, is_below_hub}
+use Rattle.usb_table.proofs.Interface.{path_tied}
+use Rattle.usb_world.proofs.Interface.{neither}
 use Rattle.usb_host.specs.Agreement.{Nested}
-
-second_false : (a b : Bool) → (a || b) ≡ false → b ≡ false
-second_false true b h = absurd cc
-second_false false b h = h
-
-first_false : (a b : Bool) → (a || b) ≡ false → a ≡ false
-first_false true b h = absurd cc
-first_false false b h = refl
-
-pub same_path : (q k : List ℕ) → is_at (path_cmp q) k ≡ true → q ≡ k
-same_path q k tie = same_text q k (sym (texts_ties q k ∙ tie))
 
 -- what goes on from a path's hub goes on from the path too
 under : (q hub path rest : List ℕ) → parent_of q ≡ Some hub → hub ≡ path ++ rest → is_below q path ≡ true
@@ -40,11 +31,11 @@ under q hub path rest is on =
 hub_away_by : (q hub path : List ℕ) → parent_of q ≡ Some hub → is_at_or_below q path ≡ false → (same on : Bool) → pointwise nat_eq hub path ≡ same → is_below hub path ≡ on → (same || on) ≡ false
 hub_away_by q hub path is away true on same is_on =
     let goes_on = under q hub path [] is (same_text hub path (sym same) ∙ sym (append-nil path)) in
-    absurd (cc (goes_on, second_false (pointwise nat_eq q path) (is_below q path) away))
+    absurd (cc (goes_on, (neither (pointwise nat_eq q path) (is_below q path) away).1))
 hub_away_by q hub path is away false true same is_on =
     let rest = (below hub path).0 is_on in
     let goes_on = under q hub path rest.0 is rest.1 in
-    absurd (cc (goes_on, second_false (pointwise nat_eq q path) (is_below q path) away))
+    absurd (cc (goes_on, (neither (pointwise nat_eq q path) (is_below q path) away).1))
 hub_away_by q hub path is away false false same is_on = refl
 
 -- the hub of a path that stands elsewhere stands elsewhere
@@ -54,7 +45,7 @@ hub_away q hub path is away = hub_away_by q hub path is away (pointwise nat_eq h
 pub lookup-without : (q path : List ℕ) (b : Bool) (es : Entries) → not (is_at_or_below q path) ≡ b → lookup (is_at (path_cmp q)) (without path es) ≡ cond b (lookup (is_at (path_cmp q)) es) None
 lookup-without q path b es is =
     lookup-filter-keys (is_at (path_cmp q)) (λ k. not (is_at_or_below k path)) b
-    (λ k tie. subst (λ (r : List ℕ). not (is_at_or_below r path) ≡ b) (same_path q k tie) is) es
+    (λ k tie. subst (λ (r : List ℕ). not (is_at_or_below r path) ≡ b) (path_tied q k tie) is) es
 
 known_away_by : (q path : List ℕ) (es : Entries) → is_at_or_below q path ≡ false → (hub : Option (List ℕ)) → parent_of q ≡ hub → port_below hub (port_of q) (without path es) ≡ port_below hub (port_of q) es
 known_away_by q path es away None is = refl
@@ -88,7 +79,7 @@ elsewhere_step : (q path : List ℕ) (f : Finding) (e : List ℕ × Finding) (es
 elsewhere_step q path f e es apart more Less is = rw apart refl
 elsewhere_step q path f e es apart more Equal is =
     let tie : is_at (path_cmp path) e.0 ≡ true = rw is refl in
-    let other : is_at (path_cmp q) e.0 ≡ false = subst (λ (r : List ℕ). is_at (path_cmp q) r ≡ false) (same_path path e.0 tie) apart in
+    let other : is_at (path_cmp q) e.0 ≡ false = subst (λ (r : List ℕ). is_at (path_cmp q) r ≡ false) (path_tied path e.0 tie) apart in
     rw other refl
 elsewhere_step q path f e es apart more Greater is = ap (λ found. cond (is_at (path_cmp q) e.0) (Some e.1) found) more
 
@@ -100,19 +91,19 @@ lookup-insert_entry_elsewhere q path f (e ∷ es) apart =
 -- where no entry is at a path or below it, one that is found is not
 found_away_by : (q path : List ℕ) (f : Finding) (e : List ℕ × Finding) (es : Entries) → is_at_or_below e.0 path ≡ false → (lookup (is_at (path_cmp q)) es ≡ Some f → is_at_or_below q path ≡ false)
     → (b : Bool) → is_at (path_cmp q) e.0 ≡ b → cond b (Some e.1) (lookup (is_at (path_cmp q)) es) ≡ Some f → is_at_or_below q path ≡ false
-found_away_by q path f e es away more true tie found = subst (λ (r : List ℕ). is_at_or_below r path ≡ false) (sym (same_path q e.0 tie)) away
+found_away_by q path f e es away more true tie found = subst (λ (r : List ℕ). is_at_or_below r path ≡ false) (sym (path_tied q e.0 tie)) away
 found_away_by q path f e es away more false tie found = more found
 
 found_away : (q path : List ℕ) (f : Finding) (es : Entries) → has_at path es ≡ false → lookup (is_at (path_cmp q)) es ≡ Some f → is_at_or_below q path ≡ false
 found_away q path f [] away found = absurd cc
 found_away q path f (e ∷ es) away found =
-    found_away_by q path f e es (first_false (is_at_or_below e.0 path) (has_at path es) away)
-    (found_away q path f es (second_false (is_at_or_below e.0 path) (has_at path es) away)) (is_at (path_cmp q) e.0) refl found
+    found_away_by q path f e es (neither (is_at_or_below e.0 path) (has_at path es) away).0
+    (found_away q path f es (neither (is_at_or_below e.0 path) (has_at path es) away).1) (is_at (path_cmp q) e.0) refl found
 
 apart_by : (hub path : List ℕ) → is_at_or_below hub path ≡ false → (b : Bool) → is_at (path_cmp hub) path ≡ b → b ≡ false
 apart_by hub path away true tie =
     let same : pointwise nat_eq hub path ≡ true = texts_ties hub path ∙ tie in
-    absurd (cc (same, first_false (pointwise nat_eq hub path) (is_below hub path) away))
+    absurd (cc (same, (neither (pointwise nat_eq hub path) (is_below hub path) away).0))
 apart_by hub path away false tie = refl
 
 -- a port of a hub that stands elsewhere is known as before
@@ -127,7 +118,7 @@ known_entered q path f es apart = known_entered_by q path f es apart (parent_of 
 
 pub shorter_apart : (path hub : List ℕ) → parent_of path ≡ Some hub → (b : Bool) → is_at (path_cmp hub) path ≡ b → b ≡ false
 shorter_apart path hub is true tie =
-    let same = same_path hub path tie in
+    let same = path_tied hub path tie in
     let long : length path ≡ length hub + 1 = ap length (rejoined path hub is) ∙ length-append hub (port_of path ∷ []) in
     absurd (omega (arith, long, ap length same))
 shorter_apart path hub is false tie = refl
@@ -135,7 +126,7 @@ shorter_apart path hub is false tie = refl
 entered_step : (path : List ℕ) (f : Finding) (es : Entries) (q : List ℕ) (g : Finding) → has_at path es ≡ false → IsSome (known_port path es) → Nested es → (b : Bool) → is_at (path_cmp q) path ≡ b
     → lookup (is_at (path_cmp q)) (insert_entry path_cmp es path f) ≡ Some g → IsSome (known_port q (insert_entry path_cmp es path f))
 entered_step path f es q g away known n true tie found =
-    subst (λ (r : List ℕ). IsSome (known_port r (insert_entry path_cmp es path f))) (sym (same_path q path tie))
+    subst (λ (r : List ℕ). IsSome (known_port r (insert_entry path_cmp es path f))) (sym (path_tied q path tie))
     (rw (known_entered path path f es (λ hub is. shorter_apart path hub is (is_at (path_cmp hub) path) refl)) known)
 entered_step path f es q g away known n false tie found =
     let there = sym (lookup-insert_entry_elsewhere q path f es tie) ∙ found in
@@ -143,7 +134,7 @@ entered_step path f es q g away known n false tie found =
     rw (known_entered q path f es (λ hub is. apart_by hub path (hub_away q hub path is apart) (is_at (path_cmp hub) path) refl)) (n.each q g there)
 
 path_entered : (path : List ℕ) (f : Finding) (es : Entries) (q : List ℕ) (g : Finding) → IsPath path → Nested es → (b : Bool) → is_at (path_cmp q) path ≡ b → lookup (is_at (path_cmp q)) (insert_entry path_cmp es path f) ≡ Some g → IsPath q
-path_entered path f es q g is n true tie found = subst IsPath (sym (same_path q path tie)) is
+path_entered path f es q g is n true tie found = subst IsPath (sym (path_tied q path tie)) is
 path_entered path f es q g is n false tie found = n.path q g (sym (lookup-insert_entry_elsewhere q path f es tie) ∙ found)
 
 pub nested_entered : (path : List ℕ) (f : Finding) (es : Entries) → IsPath path → has_at path es ≡ false → IsSome (known_port path es) → Nested es → Nested (insert_entry path_cmp es path f)

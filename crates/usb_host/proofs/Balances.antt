@@ -1,5 +1,5 @@
 -- How the entries and the taken addresses change together.
-use Rattle.std.proofs.Common.{◌≡◌, ◌≢◌, ◌∙◌, refl, sym, subst, ap, arith, inl, inr, true, false, Bool, ℕ, ◌+◌, ◌≤◌, cond, List, [], ◌∷◌, ◌||◌, Option, Some, Ok}
+use Rattle.std.proofs.Common.{◌≡◌, ◌≢◌, ◌∙◌, refl, sym, subst, ap, arith, inl, inr, true, false, Bool, ℕ, ◌+◌, ◌≤◌, cond, List, [], ◌∷◌, Option, Some, Ok}
 use Rattle.std.specs.Prelude.{nat_eq}
 use Rattle.std.specs.List.{sum_by, AllByRecursion}
 use Rattle.std.specs.List.Sorted.{IsStrictlySortedBy}
@@ -16,17 +16,18 @@ use Rattle.usb_port.specs.Order.{path_cmp}
 use Rattle.usb_resources.specs.Pool.{Addresses, IsAddress, IsFull, IsTaken, HasAddresses}
 use Rattle.usb_enum.specs.declared.finding.Finding.{Finding}
 use Rattle.usb_enum.specs.declared.finding.Finding.TheVariants.{Device, Refused}
-use Rattle.usb_table.specs.Findings.{has_address, address_of, HasNewAddress}
+use Rattle.usb_table.specs.Findings.{has_address, address_of}
 use Rattle.usb_table.specs.Keys.{address_in}
-use Rattle.usb_table.specs.Listing.{address_at}
-use Rattle.usb_table.proofs.Paths.{path_tied, path_itself}
-use Rattle.usb_host.specs.Accounts.{Accounts, Claims}
+use Rattle.usb_table.specs.Listing.{entry_address}
+use Rattle.usb_table.proofs.Interface.{path_itself, path_tied}
+use Rattle.usb_world.proofs.Interface.{neither}
+use Rattle.usb_host.specs.Accounts.{Accounts}
 use Rattle.usb_table.specs.Entries.{Entries, Rises, has_at, is_at_or_below}
 use Rattle.usb_table.specs.Table.{Table, TakesOut}
 use Rattle.usb_enum.specs.Found.{TakesFor}
 use Rattle.usb_host.specs.Hosting.{Frees}
 
-one : Bool → ℕ
+unfoldable pub one : Bool → ℕ
 one b = cond b 1 0
 
 count : ℕ → Entries → ℕ
@@ -35,10 +36,6 @@ count a es = sum_by (λ e. cond (has_address a e.1) 1 0) es
 count-cons : (a : ℕ) (e : List ℕ × Finding) (es : Entries) → count a (e ∷ es) ≡ one (has_address a e.1) + count a es
 unfolding count one
 count-cons a e es = sum_by-cons (λ d. cond (has_address a d.1) 1 0) e es
-
-neither : (a b : Bool) → (a || b) ≡ false → (a ≡ false) × (b ≡ false)
-neither true b h = cc
-neither false b h = (refl, h)
 
 tied_back : (o : Ordering) → ordering_reverse o ≡ Equal → is_eq o ≡ true
 tied_back Less h = cc
@@ -101,7 +98,7 @@ freed (Device device) old new a r gone h =
     none_left true e = omega (arith, e)
     none_left false e = omega (arith, e)
 
-claimed : (f : Finding) (old new : Addresses) (a : ℕ) → Claims f old new → one (contains new a) ≡ one (has_address a f) + one (contains old a)
+claimed : (f : Finding) (old new : Addresses) (a : ℕ) → TakesFor (Ok f) old new → one (contains new a) ≡ one (has_address a f) + one (contains old a)
 unfolding has_address one
 claimed (Refused cause) old new a h = let e : one (contains new a) ≡ one (contains old a) = ap (λ pool. one (contains pool a)) h in omega (arith, e)
 claimed (Device device) old new a h =
@@ -140,7 +137,7 @@ once a p q f g [] has also most is_f is_g = absurd cc
 once a p q f g (e ∷ es) has also most is_f is_g =
     once_step a p q f g e es has also most (once a p q f g es has also) (is_at (path_cmp p) e.0) (is_at (path_cmp q) e.0) refl refl is_f is_g
 
-one_most : (b : Bool) → one b ≤ 1
+pub one_most : (b : Bool) → one b ≤ 1
 unfolding one
 one_most true = omega arith
 one_most false = omega arith
@@ -207,7 +204,7 @@ unfolding has_address
 address_has a (Device device) h = ap (λ n. Some n) (eqb-true device.address a h)
 address_has a (Refused cause) h = absurd (cc h)
 
-pub accounts_listed : (es : Entries) (addresses : Addresses) → Rises es → Accounts es addresses → (a : ℕ) → IsTaken addresses a → (path : List ℕ) × (address_at path es ≡ Some a)
+pub accounts_listed : (es : Entries) (addresses : Addresses) → Rises es → Accounts es addresses → (a : ℕ) → IsTaken addresses a → (path : List ℕ) × (entry_address path es ≡ Some a)
 unfolding count one
 accounts_listed es addresses rises h a taken =
     let some : 1 ≤ count a es = subst (λ n. 1 ≤ n) (sym (h.each a)) (subst (λ b. 1 ≤ one b) (sym taken) (omega arith)) in
@@ -226,32 +223,16 @@ accounts_freed path f before after old new h t gone = record {
 }
 
 -- an entry comes, with the address that was taken for it
-pub accounts_entered : (path : List ℕ) (f : Finding) (es : Entries) (old new : Addresses) → Accounts es old → has_at path es ≡ false → Claims f old new → Accounts (insert_entry path_cmp es path f) new
+pub accounts_entered : (path : List ℕ) (f : Finding) (es : Entries) (old new : Addresses) → Accounts es old → has_at path es ≡ false → TakesFor (Ok f) old new → Accounts (insert_entry path_cmp es path f) new
 unfolding count one
 accounts_entered path f es old new h away c = record {
   each = λ a. count-insert a path f es away ∙ ap (λ n. one (has_address a f) + n) (h.each a) ∙ sym (claimed f old new a c);
-}
-
--- an entry could not be made, and its address is free again
-pub accounts_back : (f : Finding) (es : Entries) (old mid new : Addresses) → Accounts es old → Claims f old mid → Frees f mid new → Accounts es new
-unfolding count one
-accounts_back f es old mid new h c gone = record {
-  each = λ a. freed f mid new a (count a es) gone (ap (λ n. one (has_address a f) + n) (h.each a) ∙ sym (claimed f old mid a c));
 }
 
 -- no address is free that was not, where one more is
 pub full_before : (f : Finding) (old new : Addresses) → Frees f old new → IsFull new → IsFull old
 full_before (Device device) old new gone full = absurd (cc (full device.address gone.free.0, gone.free.1))
 full_before (Refused cause) old new same full = subst IsFull same full
-
--- the address that was taken for a finding is no entry's yet
-pub address_new : (f : Finding) (es : Entries) (old new : Addresses) → Accounts es old → Claims f old new → HasNewAddress f es
-address_new (Device device) es old new h c = h.each device.address ∙ ap (λ b. cond b 1 0) c.free.1
-address_new (Refused cause) es old new h c = tt
-
-pub claims_found : (f : Finding) (old new : Addresses) → TakesFor (Ok f) old new → Claims f old new
-claims_found (Device device) old new takes = takes
-claims_found (Refused cause) old new same = same
 
 -- Nothing but addresses is taken
 
@@ -262,7 +243,7 @@ moved : (b a : ℕ) (old new : Addresses) → IsAddress a → ((b : ℕ) → b �
 moved b a old new is others range true same taken = subst IsAddress (sym (eqb-true b a same)) is
 moved b a old new is others range false same taken = range b (sym (others b (eqb-false b a same)) ∙ taken)
 
-pub range_claimed : (f : Finding) (old new : Addresses) → Claims f old new → HasAddresses old → HasAddresses new
+pub range_claimed : (f : Finding) (old new : Addresses) → TakesFor (Ok f) old new → HasAddresses old → HasAddresses new
 range_claimed (Device device) old new c range = λ b taken. moved b device.address old new c.free.0 c.others range (nat_eq b device.address) refl taken
 range_claimed (Refused cause) old new same range = subst HasAddresses (sym same) range
 

@@ -1,18 +1,19 @@
 -- Where no event comes and nothing is asked of a port, it is as it was.
-use Rattle.std.proofs.Common.{◌≡◌, ◌≤◌, ◌==◌, ◌&&◌, ◌||◌, ◌∙◌, if◌then◌else◌, ℕ, zero, suc, Bool, true, false, List, [], ◌∷◌, ◌++◌, Option, None, Some, refl, ap, arith}
+use Rattle.std.proofs.Common.{◌≡◌, ◌≤◌, ◌==◌, ◌&&◌, ◌||◌, ◌∙◌, if◌then◌else◌, ℕ, zero, suc, Bool, true, false, List, [], ◌∷◌, ◌++◌, Option, None, Some, refl, ap, arith, subst}
 use Rattle.std.specs.Prelude.{IfSome}
-use Rattle.usb_device.specs.Tree.{Ports, ended, vacant, taken, port_at}
+use Rattle.usb_device.specs.Tree.{Ports, ended, vacant, taken, port_at, place}
 use Rattle.usb_device.specs.View.{port_there}
 use Rattle.usb_world.specs.declared.event.Event.{Event}
 use Rattle.usb_world.specs.declared.types.Attempt.{Attempt}
 use Rattle.usb_world.specs.declared.types.BusFault.{BusFault}
 use Rattle.usb_world.specs.declared.types.BusFault.TheVariants.{LimitReached}
-use Rattle.usb_world.specs.Live.{pend, pend_at}
-use Rattle.usb_world.specs.Requested.{leaves_step, made_leaves}
-use Rattle.usb_world.specs.Resting.{AsksNothingOf}
+use Rattle.usb_world.specs.Paths.{pend, pend_at, live}
+use Rattle.usb_world.specs.PortRequests.{leaves_step, made_leaves}
+use Rattle.usb_world.specs.RestingPorts.{AsksNothingOf}
 use Rattle.usb_world.specs.Steps.{is_due, took, took_first, due_from, ready, with_attempt, attempted, event_taken, Step, attempt, root_call, event, report, after, Course, here, step}
 use Rattle.usb_world.specs.World.{World}
-use Rattle.usb_world.proofs.RequestLawsBits.{made_port, root_port}
+use Rattle.usb_world.proofs.Interface.{and_false, and_none, made_port, root_port}
+use Rattle.usb_address.proofs.Interface.{below_of, pend_below as pend_under, port_below}
 
 -- Events are counted
 
@@ -97,42 +98,22 @@ calm_port p (step s {w} {v} k more) same =
 
 -- Where nothing is pending at a hub, and no change of connection is told at its port, none is pending there
 
-told_none : (power told below : Bool) → (power && told) ≡ false → (told ≡ false → below ≡ false) → (power && (told || below)) ≡ false
-told_none true true below none none_below = none
-told_none true false below none none_below = none_below refl
-told_none false told below none none_below = refl
-
-power_none : (power told : Bool) → told ≡ false → (power && told) ≡ false
-power_none true told none = none
-power_none false told none = refl
-
 pend_row : (k : Ports) (i : ℕ) → IfSome (port_at k i []) (λ b. b.connection_changed ≡ false) → pend_at k i [] ≡ false
 unfolding pend_at port_at
 pend_row ended i none = refl
-pend_row (vacant b k) zero none = power_none b.power b.connection_changed none
+pend_row (vacant b k) zero none = and_none b.power b.connection_changed none
 pend_row (vacant b k) (suc i) none = pend_row k i none
-pend_row (taken b s a k) zero none = power_none b.power b.connection_changed none
+pend_row (taken b s a k) zero none = and_none b.power b.connection_changed none
 pend_row (taken b s a k) (suc i) none = pend_row k i none
 
-on_step : (power told hub port : Bool) → (power && (told || hub)) ≡ false → (hub ≡ false → port ≡ false) → (power && (told || port)) ≡ false
-on_step true true hub port h more = h
-on_step true false hub port h more = more h
-on_step false told hub port h more = refl
-
-pend_on : (k : Ports) (j : ℕ) (q : List ℕ) (i : ℕ) → pend_at k j q ≡ false → IfSome (port_at k j (q ++ (suc i ∷ []))) (λ b. b.connection_changed ≡ false) → pend_at k j (q ++ (suc i ∷ [])) ≡ false
-unfolding pend_at port_at
-pend_on ended j q i none told = refl
-pend_on (vacant b k) zero [] i none told = none
-pend_on (vacant b k) zero (n ∷ q) i none told = none
-pend_on (vacant b k) (suc j) q i none told = pend_on k j q i none told
-pend_on (taken b s a k) zero [] i none told = told_none b.power b.connection_changed (pend_at a i []) none (λ _. pend_row a i told)
-pend_on (taken b s a k) zero (zero ∷ q) i none told = none
-pend_on (taken b s a k) zero (suc m ∷ q) i none told = on_step b.power b.connection_changed (pend_at a m q) (pend_at a m (q ++ (suc i ∷ []))) none (λ h. pend_on a m q i h told)
-pend_on (taken b s a k) (suc j) q i none told = pend_on k j q i none told
+row_calm : (k : Ports) (n : ℕ) → IfSome (port_there k (n ∷ [])) (λ b. b.connection_changed ≡ false) → pend k (n ∷ []) ≡ false
+row_calm k zero told = refl
+row_calm k (suc i) told = pend_row k i told
 
 pub pend_below : (k : Ports) (q : List ℕ) (n : ℕ) → 1 ≤ n → pend k q ≡ false → IfSome (port_there k (q ++ (n ∷ []))) (λ b. b.connection_changed ≡ false) → pend k (q ++ (n ∷ [])) ≡ false
-pend_below k [] zero least none told = absurd (omega (arith, least))
-pend_below k [] (suc i) least none told = pend_row k i told
-pend_below k (zero ∷ q) n least none told = refl
-pend_below k (suc j ∷ q) zero least none told = absurd (omega (arith, least))
-pend_below k (suc j ∷ q) (suc i) least none told = pend_on k j q i none told
+pend_below k [] n least none told = row_calm k n told
+pend_below k (m ∷ q) n least none told =
+    pend_under k m q n []
+    ∙ ap (λ x. x || (live k (m ∷ q) && pend (below_of (place k (m ∷ q))) (n ∷ []))) none
+    ∙ ap (λ x. live k (m ∷ q) && x) (row_calm (below_of (place k (m ∷ q))) n (subst (λ o. IfSome o (λ b. b.connection_changed ≡ false)) (port_below k m q n []) told))
+    ∙ and_false (live k (m ∷ q))

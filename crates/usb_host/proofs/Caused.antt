@@ -3,21 +3,20 @@ use Rattle.std.proofs.Common.{◌≡◌, ◌⊎◌, inl, inr, ◌≤◌, refl, s
 use Rattle.std.specs.Prelude.{⊤, IsSomeAnd, IfErr}
 use Rattle.std.specs.BTreeMap.{insert_entry}
 use Rattle.usb_port.specs.Order.{path_cmp, parent_of, port_of}
-use Rattle.usb_port.proofs.OrderLaws.{rejoined}
+use Rattle.usb_port.proofs.Interface.{rejoined}
 use Rattle.usb_port.specs.declared.status.PortStatus.{PortStatus}
 use Rattle.usb_device.specs.Spec.{Spec}
 use Rattle.usb_device.specs.declared.calls.PortCall.TheVariants.{ClearEnable}
 use Rattle.usb_device.specs.Calls.{clear_call}
-use Rattle.usb_world.specs.Live.{is_way, pend}
+use Rattle.usb_world.specs.Paths.{is_way, pend}
 use Rattle.usb_world.specs.World.{World}
-use Rattle.usb_world.proofs.Booleans.{decided}
-use Rattle.usb_world.proofs.WorldLaws.{course_wider}
+use Rattle.usb_world.proofs.Interface.{course_wider, decided, way_apart, way_parent}
 use Rattle.usb_address.specs.Owned.{KeepsAddresses}
 use Rattle.usb_pipe.specs.declared.fault.PipeFault.{PipeFault}
 use Rattle.usb_pipe.specs.declared.fault.PipeFault.TheVariants as pipe
 use Rattle.usb_pipe.specs.Control.{Faults}
-use Rattle.usb_pipe.specs.Whole.{IsNotOfBus}
-use Rattle.usb_hub.specs.Why.{IsServed}
+use Rattle.usb_pipe.specs.Leaves.{IsNotOfBus}
+use Rattle.usb_hub.specs.Why.{NoHubFailed}
 use Rattle.usb_transaction.specs.declared.target.Target.{Target}
 use Rattle.usb_hub.specs.declared.port.HubPort.{HubPort}
 use Rattle.usb_hub.specs.declared.port.HubPort.TheVariants.{Root, External}
@@ -36,7 +35,7 @@ use Rattle.usb_enum.specs.Fair.{HasServer, ServesAt}
 use Rattle.usb_enum.specs.Found.{Enumerates, IsFair}
 use Rattle.usb_enum.specs.Places.{IsKnownAs}
 use Rattle.usb_enum.specs.Stop.{FaultAt}
-use Rattle.usb_enum.proofs.Courses.{went_sound}
+use Rattle.usb_enum.proofs.Interface.{pends_there, went_sound}
 use Rattle.usb_table.specs.declared.known.KnownPort.{KnownPort}
 use Rattle.usb_table.specs.Entries.{Entries, has_at, without}
 use Rattle.usb_table.specs.Table.{Table, entered, pipes_at}
@@ -44,14 +43,13 @@ use Rattle.usb_table.specs.Known.{port_below, IsAskable}
 use Rattle.usb_table.specs.Listing.{finding_at, tier_of}
 use Rattle.usb_host.specs.Accounts.{Accounts}
 use Rattle.usb_host.specs.Agreement.{Agrees}
-use Rattle.usb_host.specs.Handling.{RestElsewhere, IsLost, HoldsAt, Watches, Tidies, Clears, IsOpen, PortCaused, FindsSound, Disabled, Climbs}
+use Rattle.usb_host.specs.Handling.{RestElsewhere, IsLost, HoldsAt, Watches, Tidies, ClearsChange, IsOpen, PortCaused, FindsSound, Disabled, Climbs}
 use Rattle.usb_host.specs.Hosting.{Hosting}
 use Rattle.usb_host.specs.Owning.{claims, KeepsPort, DropsHub}
 use Rattle.usb_host.specs.Ports.{StandsAt}
 use Rattle.usb_host.specs.Progress.{HostWent, Rests}
 use Rattle.usb_host.specs.Transfers.{table_in}
 use Rattle.usb_host.specs.Sound.{known_supply, Causes, CausesBut, IsCausedAt, IsFairTo, IsSound, IsSoundBut, IsDroppable, DropsSound}
-use Rattle.usb_host.proofs.Clearings.{pends_there}
 use Rattle.usb_host.proofs.Claimed.{lookup-insert_entry_here}
 use Rattle.usb_host.proofs.Dropped.{still_sound, claimed, is_call, lost_sound_there}
 use Rattle.usb_host.proofs.Found.{begins, found_only, supply_found, entered_sound, unfound_sound}
@@ -65,7 +63,6 @@ use Rattle.usb_host.proofs.Servers.{hub_server}
 use Rattle.usb_host.proofs.Settled.{listed_port}
 use Rattle.usb_host.proofs.Stations.{stands_at, lost_above}
 use Rattle.usb_host.proofs.Stays.{causes_stay, causes_but_stay, cause_stays, cause_stands}
-use Rattle.usb_host.proofs.Ways.{way_apart, way_parent}
 
 -- Causes elsewhere
 
@@ -175,7 +172,7 @@ module _ (n : ℕ) (path : List ℕ) (port : KnownPort) (a b : Hosting) (s : Sta
   tidied_caused (Err Memory) t told i fair caused = tt
 
   -- its change was not cleared
-  pub cleared_caused : (fault : EnumFault) → Clears port.port a.world (Err fault) b.world → FaultAt port.port fault b.world → IsSound a → IsFairTo a.world b.world → Causes a.world a.entries → PortCaused path (Err fault) b
+  pub cleared_caused : (fault : EnumFault) → ClearsChange port.port a.world (Err fault) b.world → FaultAt port.port fault b.world → IsSound a → IsFairTo a.world b.world → Causes a.world a.entries → PortCaused path (Err fault) b
   cleared_caused ParentLost x told i fair caused =
       let rests = x.others (claims a.entries) path (stands_at path port a s) i.owned tt in
       let known = i.known (went_sound n a.world b.world went fair.still) in
@@ -187,7 +184,7 @@ module _ (n : ℕ) (path : List ℕ) (port : KnownPort) (a b : Hosting) (s : Sta
   cleared_caused Memory x told i fair caused = tt
 
   -- it was cleared, and what was there is forgotten
-  pub forgot_caused : (c : Hosting) (status : PortStatus) → Clears port.port a.world (Ok status) b.world → c ≡ record b { entries = c.entries; pipes = c.pipes; addresses = c.addresses } → c.entries ≡ without path b.entries → IsSound a → b.world.fault ≡ None
+  pub forgot_caused : (c : Hosting) (status : PortStatus) → ClearsChange port.port a.world (Ok status) b.world → c ≡ record b { entries = c.entries; pipes = c.pipes; addresses = c.addresses } → c.entries ≡ without path b.entries → IsSound a → b.world.fault ≡ None
       → Causes a.world a.entries → Causes c.world c.entries
   forgot_caused c status x others rest i still caused =
       let rests = x.others (claims a.entries) path (stands_at path port a s) i.owned tt in
@@ -287,7 +284,7 @@ module _ (n : ℕ) (path : List ℕ) (port : KnownPort) (a b : Hosting) (s : Sta
       but : IsSoundBut path b
       but = sound_rests_but n a b r went addresses path devices (λ still. rests) d.but
 
-      unserved : (hub : Target) (number : ℕ) → port.port ≡ External hub number → (f : PipeFault) → f ≡ fault → IsServed {A = Unit {0}} (Err f) → ⊥
+      unserved : (hub : Target) (number : ℕ) → port.port ≡ External hub number → (f : PipeFault) → f ≡ fault → NoHubFailed {A = Unit {0}} (Err f) → ⊥
       unserved hub number is pipe.Stalled e h = h
       unserved hub number is pipe.Busy e h = h
       unserved hub number is pipe.NoAnswer e h = h

@@ -5,14 +5,13 @@ use Rattle.std.specs.BTreeMap.{is_at, insert_entry}
 use Rattle.std.specs.Ordering.{match_ordering}
 use Rattle.std.specs.declared.cmp.Ordering.{Ordering}
 use Rattle.std.specs.declared.cmp.Ordering.TheVariants.{Less, Equal, Greater}
-use Rattle.std.proofs.lemmas.Bool.{eq-eqb}
 use Rattle.usb_port.specs.Order.{path_cmp}
 use Rattle.usb_resources.specs.Pool.{Addresses, IsTaken}
 use Rattle.usb_world.specs.Addresses.{after_taking}
 use Rattle.usb_world.specs.Courses.{Injective}
-use Rattle.usb_world.specs.Live.{is_way, same_path}
-use Rattle.usb_world.proofs.AddressesReset.{self_path, same_is}
-use Rattle.usb_address.specs.Claims.{Free, cleared}
+use Rattle.usb_world.specs.Paths.{is_way, same_path}
+use Rattle.usb_world.proofs.Interface.{at_or_below_way, same_is, self_path, way_itself}
+use Rattle.usb_address.specs.Claims.{Free, claims_apart}
 use Rattle.usb_enum.specs.declared.cause.Cause.{Cause}
 use Rattle.usb_enum.specs.declared.finding.Accepted.{Accepted}
 use Rattle.usb_enum.specs.declared.finding.Finding.{Finding}
@@ -20,12 +19,11 @@ use Rattle.usb_enum.specs.declared.finding.Finding.TheVariants.{Device, Refused}
 use Rattle.usb_table.specs.Entries.{Entries, has_at, is_at_or_below, without}
 use Rattle.usb_table.specs.Findings.{address_of, has_address}
 use Rattle.usb_table.specs.Keys.{address_in}
-use Rattle.usb_table.proofs.Paths.{path_tied, path_itself}
+use Rattle.usb_table.proofs.Interface.{has_its, path_itself, path_tied}
 use Rattle.usb_host.specs.Accounts.{Accounts}
 use Rattle.usb_host.specs.Owning.{claims}
 use Rattle.usb_host.proofs.Agreements.{lookup-without, lookup-insert_entry_elsewhere}
 use Rattle.usb_host.proofs.Balances.{accounts_once, accounts_taken}
-use Rattle.usb_host.proofs.Ways.{at_or_below_way, way_itself}
 
 -- Each address is claimed once, and is taken
 
@@ -33,11 +31,6 @@ record IsClaim (o : Option Finding) (a : ℕ) : Type 0 where
   finding : Finding
   found : o ≡ Some finding
   has : has_address a finding ≡ true
-
-has_its : (f : Finding) (a : ℕ) → address_of f ≡ Some a → has_address a f ≡ true
-unfolding has_address
-has_its (Device device) a h = let same : device.address ≡ a = cc h in eq-eqb device.address a same
-has_its (Refused cause) a h = absurd cc
 
 claim_of : (o : Option Finding) (a : ℕ) → address_in o ≡ Some a → IsClaim o a
 claim_of None a h = absurd cc
@@ -60,7 +53,7 @@ cleared_by : (path : List ℕ) (es : Entries) (x : List ℕ) (b : Bool) → is_w
 cleared_by path es x true way = ap address_in (lookup-without x path false es (ap not (at_or_below_way x path ∙ way)))
 cleared_by path es x false way = ap address_in (lookup-without x path true es (ap not (at_or_below_way x path ∙ way)))
 
-pub claims-without : (path : List ℕ) (es : Entries) (x : List ℕ) → claims (without path es) x ≡ cleared (claims es) path x
+pub claims-without : (path : List ℕ) (es : Entries) (x : List ℕ) → claims (without path es) x ≡ claims_apart (claims es) path x
 claims-without path es x = cleared_by path es x (is_way path x) refl
 
 -- Where nothing was found nothing is claimed

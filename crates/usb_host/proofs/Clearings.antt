@@ -1,6 +1,6 @@
 -- What a port is after its change of connection was cleared and its status read, and after it was told to pass nothing on.
-use Rattle.std.proofs.Common.{◌≡◌, ◌⊎◌, inl, inr, ◌==◌, ◌&&◌, arith, length-append, ℕ, Bool, true, false, List, [], ◌∷◌, ◌++◌, Option, None, Some, is_some, option_map, refl, ap, sym, subst, ◌∙◌}
-use Rattle.std.specs.Prelude.{IsSome, IfSome}
+use Rattle.std.proofs.Common.{◌≡◌, ◌⊎◌, inl, inr, ◌==◌, ◌&&◌, ℕ, Bool, true, false, List, [], ◌∷◌, ◌++◌, Option, None, Some, is_some, option_map, refl, ap, sym, subst, ◌∙◌}
+use Rattle.std.specs.Prelude.{IsSome}
 use Rattle.std.proofs.lemmas.Option.{same_Some}
 use Rattle.usb_port.specs.PortState.{PortState, is_attached}
 use Rattle.usb_port.specs.declared.status.PortStatus.{PortStatus}
@@ -13,30 +13,22 @@ use Rattle.usb_device.specs.View.{port_there, state_there}
 use Rattle.usb_world.specs.declared.types.Attempt.{Attempt}
 use Rattle.usb_world.specs.declared.types.BusFault.{BusFault}
 use Rattle.usb_world.specs.Courses.{spares_step}
-use Rattle.usb_world.specs.Live.{live, pend, is_way}
-use Rattle.usb_world.specs.Requested.{AsksNothing}
-use Rattle.usb_world.specs.Resting.{RestsOrPends}
-use Rattle.usb_world.specs.Sane.{IsSane}
+use Rattle.usb_world.specs.Paths.{live, pend, is_way}
+use Rattle.usb_world.specs.PortRequests.{AsksNothing}
+use Rattle.usb_world.specs.RestingPorts.{RestsOrPends}
+use Rattle.usb_world.specs.SanePorts.{IsSane}
 use Rattle.usb_world.specs.Steps.{Step, attempt, root_call, event, report, after, with_attempt, ready, Course, here, step}
-use Rattle.usb_world.specs.Touched.{spares}
 use Rattle.usb_world.specs.World.{World}
-use Rattle.usb_world.proofs.Resting.{rests_or_pends}
-use Rattle.usb_world.proofs.WorldLaws.{pending_persists, course_wider, made_pend, step_pend}
+use Rattle.usb_world.proofs.Interface.{course_wider, made_pend, pending_persists, rests_or_pends, step_pend}
 use Rattle.usb_hub.specs.Moments.{PortTold, PortDone, ActsAt, met_by}
 use Rattle.usb_hub.specs.Requests.{AllRest}
-use Rattle.usb_hub.proofs.Standing.{port_of_place, due_course, done_stands, told_stands, StandsSo, StandsTold}
-use Rattle.usb_enum.specs.declared.cause.Cause.{Cause}
+use Rattle.usb_hub.proofs.Interface.{StandsSo, StandsTold, done_stands, due_course, port_of_place, told_stands}
 use Rattle.usb_enum.specs.declared.finding.Finding.{Finding}
-use Rattle.usb_enum.specs.declared.finding.Finding.TheVariants.{Refused}
-use Rattle.usb_enum.specs.Places.{IsKnownAs, IsOccupied}
+use Rattle.usb_enum.specs.Places.{IsKnownAs}
+use Rattle.usb_enum.proofs.Interface.{pends_there, some_of}
+use Rattle.usb_address.proofs.Interface.{IsUp, attached_there, live_of_up, live_port, not_way, pend_down, pend_or_live, up_of_live}
 use Rattle.usb_host.specs.Handling.{HasWay, Decides}
-use Rattle.usb_host.proofs.Stays.{none_same, some_same}
-use Rattle.usb_host.proofs.Trees.{IsUp, up_of_live, live_of_up, live_port, pend_or_live, pend_down, attached_there}
-use Rattle.usb_host.proofs.Ways.{way_shorter}
-
--- a port's hub is neither at the port nor below it
-pub hub_apart : (q : List ℕ) (n : ℕ) → is_way (q ++ n ∷ []) q ≡ false
-hub_apart q n = way_shorter (q ++ n ∷ []) q (omega (arith, length-append q (n ∷ [])))
+use Rattle.usb_host.proofs.Stays.{none_same}
 
 -- The port's power stays, and what is pending above it
 
@@ -101,7 +93,7 @@ module _ (q : List ℕ) (n : ℕ) where
 
   -- its hub's port has power on its whole way still, or a change is pending there
   above_step : (s : Step) (w : World) → ActsAt p ClearConnectionChange s w → IsUp w.roots q → IsUp (after s w).roots q ⊎ (pend (after s w).roots q ≡ true)
-  above_step s w k up = by_row q (λ x. k.about.others q (hub_apart q n)) up
+  above_step s w k up = by_row q (λ x. k.about.others q (not_way q n)) up
     where
       by_row : (e : List ℕ) → (Unit {0} → AsksNothing s w e) → IsUp w.roots e → IsUp (after s w).roots e ⊎ (pend (after s w).roots e ≡ true)
       by_row [] asks up = inl tt
@@ -126,8 +118,8 @@ module _ (q : List ℕ) (n : ℕ) where
           (d.0, port_of_place (after s w).roots p ∙ ap (option_map port_of) e ∙ d.1, d.2 ∙ power)
 
   up_step : (s : Step) (w : World) → ActsAt p ClearConnectionChange s w → Up w → Up (after s w)
-  up_step s w k (inr x) = inr (step_pend s w q (k.about.others q (hub_apart q n)).spares x)
-  up_step s w k (inl on) = by_meets (step_meets s w (k.about.others q (hub_apart q n)).spares on)
+  up_step s w k (inr x) = inr (step_pend s w q (k.about.others q (not_way q n)).spares x)
+  up_step s w k (inl on) = by_meets (step_meets s w (k.about.others q (not_way q n)).spares on)
     where
       joined : (d : PortState) → port_there (after s w).roots p ≡ Some d → d.power ≡ true → IsUp (after s w).roots q ⊎ (pend (after s w).roots q ≡ true) → Up (after s w)
       joined d there power (inl up) = inl (live_of_up (after s w).roots q n d up there power)
@@ -154,16 +146,9 @@ pends_elsewhere p c old new d x away h =
     let called = step_pend d.last d.before x (d.acts.about.others x away).spares before in
     pending_persists x (course_wider (λ s w k. k.spares) (d.since x)) called
 
--- and at the port itself, where the call clears nothing that is pending
-pub pends_there : (p : List ℕ) (c : PortCall) (old new : World) → spares c [] ≡ true → PortDone p c old new → pend old.roots p ≡ true → pend new.roots p ≡ true
-pends_there p c old new keeps d h =
-    let before = pending_persists p (course_wider (λ s w k. k.about.spares keeps) d.repeats) h in
-    let called = step_pend d.last d.before p (d.acts.about.spares keeps) before in
-    pending_persists p (course_wider (λ s w k. k.spares) (d.since p)) called
-
 pub cleared_way : (p : List ℕ) (old new : World) → PortDone p ClearConnectionChange old new → HasWay old p → HasWay new p
 cleared_way p old new d (inr x) =
-    let away : is_way p x.0 ≡ false = subst (λ l. is_way l x.0 ≡ false) (sym x.2) (hub_apart x.0 x.1) in
+    let away : is_way p x.0 ≡ false = subst (λ l. is_way l x.0 ≡ false) (sym x.2) (not_way x.0 x.1) in
     inr (x.0, x.1, x.2, pends_elsewhere p ClearConnectionChange old new d x.0 away x.3)
 cleared_way p old new d (inl on) = pick (up_done d.row.parent d.row.number old new (subst (λ l. PortDone l ClearConnectionChange old new) d.row.is d) (inl (subst (λ l. live old.roots l ≡ true) d.row.is on)))
   where
@@ -230,25 +215,11 @@ decided_stays true p old new d (inl x) = inl (pends_there p ClearEnable old new 
 decided_stays true p old new d (inr x) = pick (done_stands p ClearEnable refl old new d x.0)
   where
     pick : StandsSo p ClearEnable (λ w v. port_there v.roots p ≡ option_map (called_port ClearEnable) (port_there w.roots p)) old new → Decides true new p
-    pick (inl y) = inr (y.0, some_same (state_there old.roots p) (state_there new.roots p) y.2 x.1)
+    pick (inl y) = inr (y.0, some_of (state_there old.roots p) (state_there new.roots p) y.2 x.1)
     pick (inr y) = inl y
 decided_stays false p old new d (inl x) = inl (pends_there p ClearEnable old new refl d x)
 decided_stays false p old new d (inr x) = pick (done_stands p ClearEnable refl old new d x.0)
   where
     pick : StandsSo p ClearEnable (λ w v. port_there v.roots p ≡ option_map (called_port ClearEnable) (port_there w.roots p)) old new → Decides false new p
     pick (inl y) = inr (y.0, none_same (state_there old.roots p) (state_there new.roots p) y.2 x.1)
-    pick (inr y) = inl y
-
--- A port that was told to pass nothing on
-
-disabled_as : (o v : Option PortState) → v ≡ option_map (called_port ClearEnable) o → IfSome v (λ b. b.enable ≡ false)
-disabled_as None v e = subst (λ x. IfSome x (λ b. b.enable ≡ false)) (sym e) tt
-disabled_as (Some c) v e = subst (λ x. IfSome x (λ b. b.enable ≡ false)) (sym e) refl
-
-pub disabled_known : (p : List ℕ) (cause : Cause) (old new : World) → PortDone p ClearEnable old new → IsOccupied old p → IsKnownAs new p (Some (Refused cause))
-disabled_known p cause old new d (inl x) = inl (pends_there p ClearEnable old new refl d x)
-disabled_known p cause old new d (inr x) = pick (done_stands p ClearEnable refl old new d x.0)
-  where
-    pick : StandsSo p ClearEnable (λ w v. port_there v.roots p ≡ option_map (called_port ClearEnable) (port_there w.roots p)) old new → IsKnownAs new p (Some (Refused cause))
-    pick (inl y) = inr (y.0, (some_same (state_there old.roots p) (state_there new.roots p) y.2 x.1, disabled_as (port_there old.roots p) (port_there new.roots p) y.1))
     pick (inr y) = inl y

@@ -1,7 +1,7 @@
 -- The way up from a port.
 use Rattle.std.proofs.Common.{◌≡◌, ◌∙◌, ap, arith, length-append, ℕ, ◌+◌, ◌≤◌, List, [], ◌∷◌, length, Some}
 use Rattle.usb_port.specs.Order.{parent_of, port_of}
-use Rattle.usb_port.proofs.OrderLaws.{rejoined}
+use Rattle.usb_port.proofs.Interface.{rejoined}
 
 long : (path hub : List ℕ) → parent_of path ≡ Some hub → 2 ≤ length path
 unfolding parent_of

@@ -5,7 +5,7 @@ use Rattle.std.specs.BTreeMap.{insert_entry}
 use Rattle.usb_port.specs.Order.{path_cmp, parent_of, port_of}
 use Rattle.usb_device.specs.declared.calls.PortCall.TheVariants.{ClearEnable}
 use Rattle.usb_device.specs.Calls.{clear_call}
-use Rattle.usb_world.specs.Live.{is_way, pend}
+use Rattle.usb_world.specs.Paths.{is_way, pend}
 use Rattle.usb_enum.specs.Present.{IsOrderly}
 use Rattle.usb_world.specs.World.{World, roots_of}
 use Rattle.usb_bus.specs.Traced.{WentOn}
@@ -13,27 +13,26 @@ use Rattle.usb_address.specs.Owned.{KeepsAddresses}
 use Rattle.usb_pipe.specs.declared.fault.PipeFault.{PipeFault}
 use Rattle.usb_pipe.specs.declared.fault.PipeFault.TheVariants as pipe
 use Rattle.usb_pipe.specs.Control.{Faults}
-use Rattle.usb_pipe.specs.Whole.{IsNotOfBus}
+use Rattle.usb_pipe.specs.Leaves.{IsNotOfBus}
 use Rattle.usb_hub.specs.Addresses.{KeepsDevices}
 use Rattle.usb_hub.specs.Moments.{CallsPort, IsCall}
 use Rattle.usb_hub.specs.Port.{PortCleared}
 use Rattle.usb_enum.specs.declared.cause.Cause.TheVariants.{Lost}
 use Rattle.usb_enum.specs.declared.finding.Finding.{Finding}
 use Rattle.usb_enum.specs.declared.finding.Finding.TheVariants.{Refused}
-use Rattle.usb_enum.proofs.Courses.{went_sound}
+use Rattle.usb_enum.proofs.Interface.{disabled_known, went_sound}
 use Rattle.usb_table.specs.declared.known.KnownPort.{KnownPort}
 use Rattle.usb_table.specs.Entries.{has_at, without}
-use Rattle.usb_table.specs.Findings.{device_of}
+use Rattle.usb_table.specs.Findings.{accepted_device_of}
 use Rattle.usb_table.specs.Known.{known_port, port_below}
 use Rattle.usb_table.specs.Listing.{finding_at}
-use Rattle.usb_host.specs.Handling.{IsDroppedAt, Disabled, Disables}
+use Rattle.usb_host.specs.Handling.{IsDroppedAt, Disabled, DisablesOnWay}
 use Rattle.usb_host.specs.Hosting.{Hosting}
 use Rattle.usb_host.specs.Owning.{claims, DropsHub, root_of}
 use Rattle.usb_host.specs.Ports.{StandsAt, StandsNowhere}
 use Rattle.usb_host.specs.Progress.{HostWent, Rests}
 use Rattle.usb_host.specs.Sound.{IsSound, IsSoundBut, IsDroppable, IsFairTo, CausesBut, Known, KnownBut, Truthful}
 use Rattle.usb_host.specs.declared.fault.HostFault.{HostFault}
-use Rattle.usb_host.proofs.Clearings.{disabled_known}
 use Rattle.usb_host.proofs.Claimed.{lookup-insert_entry_here}
 use Rattle.usb_host.proofs.Fairness.{fair_before, fair_after}
 use Rattle.usb_host.proofs.Handlings.{root_done}
@@ -102,7 +101,7 @@ nowhere_dropped path h s d = by_parent (parent_of path) refl
 
     by_parent : (o : Option (List ℕ)) → parent_of path ≡ o → ⊥
     by_parent None above =
-        let most = subst (λ m. m ≤ roots_of h.world) (ap root_of (root_alone path s.is above)) (d.but.rooted path d.listed) in
+        let most = subst (λ m. m ≤ roots_of h.world) (ap root_of (root_alone path s.is.0 above)) (d.but.rooted path d.listed) in
         let least = s.beyond above in
         absurd (omega (arith, most, least))
     by_parent (Some hub) above =
@@ -133,7 +132,7 @@ module _ (hub lost : List ℕ) (a b c d : Hosting) (least : 1 ≤ length lost) (
       let dropped : Truthful b.world c.entries = subst (Truthful b.world) (sym rest) (truthful_dropped lost b.world b.entries (x.but.truthful (still_there still))) in
       subst (λ w. Truthful w d.entries) (sym world_is)
       (subst (Truthful b.world) (sym is)
-      (truthful_found lost (Refused Lost) c.entries least gone b.world dropped (λ device s at on stands. absurd (cc (ap device_of (lookup-insert_entry_here lost (Refused Lost) c.entries), at)))))
+      (truthful_found lost (Refused Lost) c.entries least gone b.world dropped (λ device s at on stands. absurd (cc (ap accepted_device_of (lookup-insert_entry_here lost (Refused Lost) c.entries), at)))))
 
   lost_level : d.world.fault ≡ None → AllLevel (table_in d) d.world
   lost_level still =
@@ -159,25 +158,25 @@ if_err (Err x) P e = tt
 pub failed_by : {E : Type 0} {result : Result Bool E} {b c : Bool} → result ≡ Ok b → b ≡ c → result ≡ Ok c
 failed_by was is = was ∙ ap (λ b. Ok b) is
 
-pub climb_sound : (path above : List ℕ) (a : Hosting) (result : Result Bool HostFault) (b : Hosting) → parent_of path ≡ Some above → Disables path a result b → result ≡ Ok false → IsDroppable path a → IsDroppable above b
+pub climb_sound : (path above : List ℕ) (a : Hosting) (result : Result Bool HostFault) (b : Hosting) → parent_of path ≡ Some above → DisablesOnWay path a result b → result ≡ Ok false → IsDroppable path a → IsDroppable above b
 climb_sound path above a result b is x failed d = subst (λ o. IsSomeAnd o (λ hub. IsDroppable hub b)) is (x.failed d failed)
 
-pub top_absurd : (path : List ℕ) (a : Hosting) (result : Result Bool HostFault) (b : Hosting) → parent_of path ≡ None → Disables path a result b → result ≡ Ok false → IsDroppable path a → ⊥
+pub top_absurd : (path : List ℕ) (a : Hosting) (result : Result Bool HostFault) (b : Hosting) → parent_of path ≡ None → DisablesOnWay path a result b → result ≡ Ok false → IsDroppable path a → ⊥
 top_absurd path a result b is x failed d = absurd (subst (λ o. IsSomeAnd o (λ hub. IsDroppable hub b)) is (x.failed d failed))
 
 module _ {m n : ℕ} (path : List ℕ) where
-  done_caused_by : (flag : Bool) (a : Hosting) (result : Result Bool HostFault) (b : Hosting) (first : World) {t : Option (List ℕ)} → WentOn m first t a.world a.trace → HostWent n a b → Disables path a result b → result ≡ Ok flag → IsDroppable path a → IsFairTo first b.world
+  done_caused_by : (flag : Bool) (a : Hosting) (result : Result Bool HostFault) (b : Hosting) (first : World) {t : Option (List ℕ)} → WentOn m first t a.world a.trace → HostWent n a b → DisablesOnWay path a result b → result ≡ Ok flag → IsDroppable path a → IsFairTo first b.world
       → (IsFairTo first a.world → (pend a.world.roots path ≡ true) × CausesBut path a.world a.entries) → Disabled flag path b
   done_caused_by flag a result b first before went x done d fair so_far =
       let half = fair_before n first a.world b.world went fair in
       let so = so_far half in
-      subst (λ r. IfOk r (λ flag. Disabled flag path b)) done (x.caused d (fair_after m first a.world b.world before half.still fair) so.0 so.1)
+      subst (λ r. IfOk r (λ flag. Disabled flag path b)) done (x.caused d (fair_after m first a.world b.world before fair) so.0 so.1)
 
-pub done_caused : {m n : ℕ} (path : List ℕ) (a : Hosting) (result : Result Bool HostFault) (b : Hosting) (first : World) {t : Option (List ℕ)} → WentOn m first t a.world a.trace → HostWent n a b → Disables path a result b → result ≡ Ok true → IsDroppable path a
+pub done_caused : {m n : ℕ} (path : List ℕ) (a : Hosting) (result : Result Bool HostFault) (b : Hosting) (first : World) {t : Option (List ℕ)} → WentOn m first t a.world a.trace → HostWent n a b → DisablesOnWay path a result b → result ≡ Ok true → IsDroppable path a
     → IsFairTo first b.world → (IsFairTo first a.world → (pend a.world.roots path ≡ true) × CausesBut path a.world a.entries) → (pend b.world.roots path ≡ true) × CausesBut path b.world b.entries
 done_caused path a result b first before went x done d fair so_far = done_caused_by path true a result b first before went x done d fair so_far
 
-pub climb_caused : {m n : ℕ} (path above : List ℕ) (a : Hosting) (result : Result Bool HostFault) (b : Hosting) (first : World) {t : Option (List ℕ)} → WentOn m first t a.world a.trace → HostWent n a b → parent_of path ≡ Some above → Disables path a result b → result ≡ Ok false
+pub climb_caused : {m n : ℕ} (path above : List ℕ) (a : Hosting) (result : Result Bool HostFault) (b : Hosting) (first : World) {t : Option (List ℕ)} → WentOn m first t a.world a.trace → HostWent n a b → parent_of path ≡ Some above → DisablesOnWay path a result b → result ≡ Ok false
     → IsDroppable path a → IsFairTo first b.world → (IsFairTo first a.world → (pend a.world.roots path ≡ true) × CausesBut path a.world a.entries) → (pend b.world.roots above ≡ true) × CausesBut above b.world b.entries
 climb_caused path above a result b first before went is x failed d fair so_far =
     subst (λ o. IsSomeAnd o (λ hub. (pend b.world.roots hub ≡ true) × CausesBut hub b.world b.entries)) is (done_caused_by path false a result b first before went x failed d fair so_far)

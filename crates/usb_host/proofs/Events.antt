@@ -10,14 +10,12 @@ use Rattle.usb_world.specs.declared.event.Action.TheVariants.{Plug, Unplug, Show
 use Rattle.usb_world.specs.declared.event.Event.{Event}
 use Rattle.usb_world.specs.declared.types.BusFault.{BusFault}
 use Rattle.usb_world.specs.Courses.{resets, spares_step}
-use Rattle.usb_world.specs.Requested.{leaves_step}
-use Rattle.usb_world.specs.Resting.{AsksNothingOf}
+use Rattle.usb_world.specs.PortRequests.{leaves_step}
+use Rattle.usb_world.specs.RestingPorts.{AsksNothingOf}
 use Rattle.usb_world.specs.Steps.{happened, waits, is_due, took, took_first, due_from, event_taken, event, after, Course, here, step}
 use Rattle.usb_world.specs.World.{World, roots_of}
-use Rattle.usb_world.proofs.Booleans.{and_of}
-use Rattle.usb_world.proofs.OwnLaws.{due_state}
-use Rattle.usb_world.proofs.WorldLaws.{course_wider, unreset_reach}
-use Rattle.usb_enum.proofs.Losses.{course_later}
+use Rattle.usb_world.proofs.Interface.{and_of, course_wider, due_state, first_state, taken_state, unreset_reach}
+use Rattle.usb_enum.proofs.Interface.{course_later}
 use Rattle.usb_table.specs.Entries.{Entries}
 use Rattle.usb_table.specs.Levels.{AllLevel}
 use Rattle.usb_table.specs.Table.{Table}
@@ -45,21 +43,12 @@ happened_still (Send path bytes) w p on = refl
 happened_still (Receive path packets) w p on = refl
 happened_still (Clear path) w p on = refl
 
-first_still : (es : List Event) (w : World) (p : List ℕ) → reach (took_first es w).roots p ≡ true → state_there (took_first es w).roots p ≡ state_there w.roots p
-unfolding took
-first_still [] w p on = refl
-first_still (e ∷ es) w p on = happened_still e.action w p on
-
-taken_still : (f : Option BusFault) (w : World) (p : List ℕ) → reach (event_taken f w).roots p ≡ true → state_there (event_taken f w).roots p ≡ state_there w.roots p
-taken_still (Some f) w p on = refl
-taken_still None w p on = first_still w.left w p on
-
 event_still : (w : World) → EachStill w (after event w)
 unfolding resets after
 event_still w j p s on stands = record {
   before = s;
   on = (unreset_reach event w (suc j ∷ p) refl on).0;
-  stands = sym (taken_still w.fault w (suc j ∷ p) on) ∙ stands;
+  stands = sym (taken_state w.fault w (suc j ∷ p) on) ∙ stands;
   so = (refl, refl);
 }
 
@@ -67,7 +56,7 @@ event_still w j p s on stands = record {
 pub level_event : (table : Table) (w : World) → AllLevel table w → AllLevel table (after event w)
 unfolding resets after
 level_event table w level path = record {
-  level = λ device s at on stands. (level path).level device s at (unreset_reach event w path refl on).0 (sym (taken_still w.fault w path on) ∙ stands);
+  level = λ device s at on stands. (level path).level device s at (unreset_reach event w path refl on).0 (sym (taken_state w.fault w path on) ∙ stands);
 }
 
 pub known_event : (w : World) (entries : Entries) → Known w entries → Known (after event w) entries
@@ -79,6 +68,3 @@ truthful_event w entries told = truthful_stays w (after event w) entries (event_
 pub causes_event : (w : World) (entries : Entries) (addresses : Addresses) → Accounted (roots_of w) entries addresses → Known w entries → Causes w entries → Causes (after event w) entries
 causes_event w entries addresses accounted known caused =
     causes_stay w (after event w) entries addresses accounted known (λ path port. course_wider (λ s u x. x.spares) (event_calm path w)) caused
-
-pub accounted_event : (w : World) (entries : Entries) (addresses : Addresses) → Accounted (roots_of w) entries addresses → Accounted (roots_of (after event w)) entries addresses
-accounted_event w entries addresses accounted = subst (λ n. Accounted n entries addresses) (sym (course_later (event_calm [] w)).roots) accounted

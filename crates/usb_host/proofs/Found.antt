@@ -3,9 +3,9 @@ use Rattle.std.proofs.Common.{◌≡◌, ◌≤◌, ◌⊎◌, inl, inr, refl, s
 use Rattle.std.specs.Prelude.{IsSome, IsSomeAnd, option_map, unwrap_or}
 use Rattle.std.specs.BTreeMap.{insert_entry}
 use Rattle.usb_port.specs.Order.{path_cmp}
-use Rattle.usb_world.specs.Live.{is_way}
+use Rattle.usb_world.specs.Paths.{is_way}
 use Rattle.usb_world.specs.World.{World}
-use Rattle.usb_world.proofs.Booleans.{decided}
+use Rattle.usb_world.proofs.Interface.{decided}
 use Rattle.usb_resources.specs.Pool.{Addresses, IsTaken}
 use Rattle.usb_enum.specs.declared.fault.EnumFault.{EnumFault}
 use Rattle.usb_enum.specs.declared.fault.EnumFault.TheVariants.{ParentLost, Bus, Memory}
@@ -18,12 +18,12 @@ use Rattle.usb_enum.specs.Found.{Begins, Enumerates, IsOwn}
 use Rattle.usb_enum.specs.Frames.{OnlyAt}
 use Rattle.usb_enum.specs.Places.{IsPlaced}
 use Rattle.usb_enum.specs.Stop.{FaultAt}
-use Rattle.usb_enum.proofs.Courses.{regular_order, went_sound, went_in_order}
+use Rattle.usb_enum.proofs.Interface.{regular_order, went_in_order, went_sound}
 use Rattle.usb_table.specs.declared.known.KnownPort.{KnownPort}
 use Rattle.usb_table.specs.Entries.{Entries, has_at}
-use Rattle.usb_table.specs.Findings.{device_of}
+use Rattle.usb_table.specs.Findings.{accepted_device_of}
 use Rattle.usb_table.specs.Known.{known_port}
-use Rattle.usb_table.specs.Listing.{hub_in, tier_of}
+use Rattle.usb_table.specs.Listing.{hub_facts_in, tier_of}
 use Rattle.usb_host.specs.Accounts.{Accounts}
 use Rattle.usb_host.specs.Handling.{IsOpen, PortSound}
 use Rattle.usb_host.specs.Hosting.{Hosting}
@@ -48,10 +48,10 @@ truthful_gone : (path : List ℕ) (w : World) (es : Entries) → has_at path es 
 truthful_gone path w es gone told x = pick (decided (is_way path x))
   where
     pick : (is_way path x ≡ true) ⊎ (is_way path x ≡ false) → IsToldAt w es x
-    pick (inl way) = λ device s at on stands. absurd (cc (ap device_of (finding-none path x es gone way), at))
+    pick (inl way) = λ device s at on stands. absurd (cc (ap accepted_device_of (finding-none path x es gone way), at))
     pick (inr away) = told x away
 
-device_found : (f : Finding) (device : Accepted) → device_of (Some f) ≡ Some device → f ≡ Device device
+device_found : (f : Finding) (device : Accepted) → accepted_device_of (Some f) ≡ Some device → f ≡ Device device
 device_found (Device d) device e = ap Device (cc e)
 device_found (Refused cause) device e = absurd (cc e)
 
@@ -60,7 +60,7 @@ supply_found path port f es known =
     ap (λ (o : Option KnownPort). unwrap_or (option_map (λ (known : KnownPort). known.supply) o) 0)
     (known_entered path path f es (λ hub is. shorter_apart path hub is _ refl) ∙ known)
 
-hub_device : (f : Finding) (n : ℕ) → IsSomeAnd (hub_in (Some f)) (λ facts. (1 ≤ n) × (n ≤ facts.ports)) → (device : Accepted) × (facts : HubFacts) × (f ≡ Device device) × (device.hub ≡ Some facts) × (1 ≤ n) × (n ≤ facts.ports)
+hub_device : (f : Finding) (n : ℕ) → IsSomeAnd (hub_facts_in (Some f)) (λ facts. (1 ≤ n) × (n ≤ facts.ports)) → (device : Accepted) × (facts : HubFacts) × (f ≡ Device device) × (device.hub ≡ Some facts) × (1 ≤ n) × (n ≤ facts.ports)
 hub_device (Refused cause) n h = absurd h
 hub_device (Device device) n h = pick device.hub refl h
   where
@@ -102,7 +102,7 @@ module _ (n : ℕ) (path : List ℕ) (port : KnownPort) (pool : Addresses) (a b 
 
     told_here : b.world.fault ≡ None → IsToldAt b.world (insert_entry path_cmp a.entries path f) path
     told_here still device t at on stands =
-        let found : f ≡ Device device = device_found f device (sym (ap device_of (lookup-insert_entry_here path f a.entries)) ∙ at) in
+        let found : f ≡ Device device = device_found f device (sym (ap accepted_device_of (lookup-insert_entry_here path f a.entries)) ∙ at) in
         let own : IsOwn (tier_of path) port.supply device t = e.own.truth (claims a.entries) path begins.at begins.free begins.taken begins.owned (regular_order begins.order) device (ap Ok found) t on stands in
         record { found = subst (λ m. IsFindingOf t.spec (tier_of path) m (Device device)) (sym (supply_found path port f a.entries s.known)) own.0; set = own.1 }
 

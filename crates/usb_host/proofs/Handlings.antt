@@ -4,13 +4,14 @@ use Rattle.std.specs.Prelude.{IsErr, IsSome, OnOk, MatchResult}
 use Rattle.std.specs.BTreeMap.{insert_entry}
 use Rattle.usb_port.specs.Order.{path_cmp, parent_of, port_of}
 use Rattle.usb_port.specs.Path.{IsPath}
-use Rattle.usb_world.specs.Live.{is_way}
+use Rattle.usb_world.specs.Paths.{is_way}
 use Rattle.usb_world.specs.World.{World, roots_of}
 use Rattle.usb_world.specs.Addresses.{after_taking}
+use Rattle.usb_world.proofs.Interface.{way_itself, way_parent}
 use Rattle.usb_resources.specs.Pool.{Addresses}
-use Rattle.usb_address.specs.Claims.{Claims, cleared}
+use Rattle.usb_address.specs.Claims.{Claims, claims_apart}
 use Rattle.usb_address.specs.Owned.{Owned, OwnedBut, TillFault, KeepsAddresses}
-use Rattle.usb_address.proofs.Keeping.{keeps_none}
+use Rattle.usb_address.proofs.Interface.{keeps_none}
 use Rattle.usb_pipe.specs.declared.fault.PipeFault.{PipeFault}
 use Rattle.usb_hub.specs.Addresses.{Bares, KeepsCleared}
 use Rattle.usb_hub.specs.Port.{PortCleared}
@@ -35,7 +36,6 @@ use Rattle.usb_host.proofs.Claimed.{claims_free, claims_taken, claims-device}
 use Rattle.usb_host.proofs.Owners.{till_as, but_all, but_kept, but_above, bare_port, bare_none, forgotten, refused}
 use Rattle.usb_host.proofs.Stations.{stands_at, nowhere_reached}
 use Rattle.usb_host.proofs.Roots.{rooted_kept, rooted_dropped, rooted_came, rooted_stands, root_parent, root_way, on_failed}
-use Rattle.usb_host.proofs.Ways.{way_parent, way_itself}
 
 -- A call that failed
 
@@ -79,9 +79,6 @@ stays_rests a b r roots k = record { stays = owned_rests a b r k; rooted = roote
 pub bares_after : (port : HubPort) (a b c : World) → KeepsAddresses a b → Bares port b c → Bares port a c
 bares_after port a b c k x = record { bares = λ f p at o. x.bares f p at (k.kept f o) }
 
-pub bares_then : (port : HubPort) (a b c : World) → Bares port a b → KeepsAddresses b c → Bares port a c
-bares_then port a b c x k = record { bares = λ f p at o. k.kept (cleared f p) (x.bares f p at o) }
-
 pub stays_bare : (path : List ℕ) (port : KnownPort) (a b c : Hosting) → StandsAt path port a → Rests a b → roots_of b.world ≡ roots_of a.world → Bares port.port a.world b.world
     → c ≡ record b { entries = c.entries; pipes = c.pipes; addresses = c.addresses } → c.entries ≡ without path b.entries → StaysOwned a c
 stays_bare path port a b c s r roots bares others rest = record {
@@ -91,8 +88,8 @@ stays_bare path port a b c s r roots bares others rest = record {
   where
     stays : IsOwned a → IsOwned c
     stays o =
-        let bare : TillFault (Owned (cleared (claims a.entries) path)) b.world = bares.bares (claims a.entries) path (stands_at path port a s) o in
-        forgotten path b c others rest (subst (λ (es : Entries). TillFault (Owned (cleared (claims es) path)) b.world) (sym (ap (λ (h : Hosting). h.entries) r)) bare)
+        let bare : TillFault (Owned (claims_apart (claims a.entries) path)) b.world = bares.bares (claims a.entries) path (stands_at path port a s) o in
+        forgotten path b c others rest (subst (λ (es : Entries). TillFault (Owned (claims_apart (claims es) path)) b.world) (sym (ap (λ (h : Hosting). h.entries) r)) bare)
 
 -- What an enumeration leaves, and what is entered
 
@@ -164,8 +161,8 @@ none_disabled path h s = record {
   none = λ e root. record { on = way_itself path; bares = bare_none path (claims h.entries) h.world (nowhere_reached path h s root) };
 }
 
-bare_rests : (path : List ℕ) (a b : Hosting) → Rests a b → TillFault (Owned (cleared (claims a.entries) path)) b.world → IsBare path b
-bare_rests path a b r t = subst (λ (es : Entries). TillFault (Owned (cleared (claims es) path)) b.world) (sym (ap (λ (h : Hosting). h.entries) r)) t
+bare_rests : (path : List ℕ) (a b : Hosting) → Rests a b → TillFault (Owned (claims_apart (claims a.entries) path)) b.world → IsBare path b
+bare_rests path a b r t = subst (λ (es : Entries). TillFault (Owned (claims_apart (claims es) path)) b.world) (sym (ap (λ (h : Hosting). h.entries) r)) t
 
 port_bared : (path : List ℕ) (port : KnownPort) (a b : Hosting) → StandsAt path port a → Rests a b → Bares port.port a.world b.world → BaresAbove path path a b
 port_bared path port a b s r bares = record { on = way_itself path; bares = λ o. bare_rests path a b r (bare_port port.port path (claims a.entries) a.world b.world bares (stands_at path port a s) o) }
@@ -180,17 +177,17 @@ port_disabled path port a b s r k = record {
 -- a root port is a register, and never fails
 pub root_done : (path : List ℕ) (es : Entries) (port : KnownPort) (feature : ℕ) (old new : World) (fault : PipeFault) → (above : Option (List ℕ)) → parent_of path ≡ above → above ≡ None → port_below above (port_of path) es ≡ Some port
     → PortCleared port.port feature old (Err fault) new → ⊥
-root_done path es port feature old new fault None above root e cleared =
+root_done path es port feature old new fault None above root e clears =
     let same : root_port (port_of path) ≡ port = cc e in
-    let done = subst (λ (p : KnownPort). PortCleared p.port feature old (Err fault) new) (sym same) cleared in
+    let done = subst (λ (p : KnownPort). PortCleared p.port feature old (Err fault) new) (sym same) clears in
     absurd (cc done.done)
-root_done path es port feature old new fault (Some hub) above root e cleared = absurd (cc root)
+root_done path es port feature old new fault (Some hub) above root e clears = absurd (cc root)
 
 pub port_failed : (path : List ℕ) (port : KnownPort) (a b : Hosting) (feature : ℕ) (fault : PipeFault) → StandsAt path port a → PortCleared port.port feature a.world (Err fault) b.world → KeepsAddresses a.world b.world → KeepsDisabled path a (Ok false) b
-port_failed path port a b feature fault s cleared k = record {
+port_failed path port a b feature fault s clears k = record {
   keeps = k;
   done = λ e. absurd (cc e);
-  none = λ e root. absurd (root_done path a.entries port feature a.world b.world fault (parent_of path) refl root s.known cleared);
+  none = λ e root. absurd (root_done path a.entries port feature a.world b.world fault (parent_of path) refl root s.known clears);
 }
 
 pub not_disabled : (path : List ℕ) (a b : Hosting) (fault : HostFault) → KeepsAddresses a.world b.world → KeepsDisabled path a (Err fault) b

@@ -1,29 +1,29 @@
 -- How the parts of a round join.
 use Rattle.std.proofs.Common.{◌≡◌, ◌∙◌, refl, sym, ap, subst, arith, ℕ, ◌+◌, ◌≤◌, List, Option}
 use Rattle.usb_world.specs.World.{World}
-use Rattle.usb_bus.proofs.Wents.{went_none, went_then, went_wider}
+use Rattle.usb_bus.proofs.Interface.{went_none, went_then, went_wider}
 use Rattle.usb_table.specs.Entries.{Entries, without}
 use Rattle.usb_host.specs.Hosting.{Hosting}
-use Rattle.usb_host.specs.Progress.{HostWent, Goes, Advances, Holds, Rests, Remains, Did, either, waiting}
+use Rattle.usb_host.specs.Progress.{HostWent, HostGoes, Advances, AddsNoWork, Rests, Remains, Did, either, waiting}
 use Rattle.usb_host.proofs.Waits.{waiting-without}
 use Rattle.usb_host.specs.declared.host.Round.{Round}
 use Rattle.usb_host.specs.declared.host.Round.TheVariants.{Worked, Quiet}
 
-pub goes_none : (n : ℕ) (h : Hosting) → Goes n h h
+pub goes_none : (n : ℕ) (h : Hosting) → HostGoes n h h
 goes_none n h = record { went = went_wider 0 n went_none (omega arith); going = refl }
 
-pub goes_then : (k m n : ℕ) (a b c : Hosting) → Goes m a b → Goes n b c → m + n ≤ k → Goes k a c
+pub goes_then : (k m n : ℕ) (a b c : Hosting) → HostGoes m a b → HostGoes n b c → m + n ≤ k → HostGoes k a c
 goes_then k m n a b c p q le = record {
   went = went_wider (m + n) k (went_then m n p.went q.went) le;
   going = q.going ∙ p.going;
 }
 
-pub goes_wider : (m k : ℕ) (a b : Hosting) → Goes m a b → m ≤ k → Goes k a b
+pub goes_wider : (m k : ℕ) (a b : Hosting) → HostGoes m a b → m ≤ k → HostGoes k a b
 goes_wider m k a b p le = record { went = went_wider m k p.went le; going = p.going }
 
 -- what is forgotten takes no attempt
-pub goes_forgotten : (n : ℕ) (a b c : Hosting) → Goes n a b → c ≡ record b { entries = c.entries; pipes = c.pipes; addresses = c.addresses } → Goes n a c
-goes_forgotten n a b c g others = subst (λ (x : Hosting). Goes n a x) (sym others) (record { went = g.went; going = g.going })
+pub goes_forgotten : (n : ℕ) (a b c : Hosting) → HostGoes n a b → c ≡ record b { entries = c.entries; pipes = c.pipes; addresses = c.addresses } → HostGoes n a c
+goes_forgotten n a b c g others = subst (λ (x : Hosting). HostGoes n a x) (sym others) (record { went = g.went; going = g.going })
 
 pub rests_then : (a b c : Hosting) → Rests a b → Rests b c → Rests a c
 rests_then a b c p q = q ∙ ap (λ (h : Hosting). record h { world = c.world; trace = c.trace }) p
@@ -31,50 +31,44 @@ rests_then a b c p q = q ∙ ap (λ (h : Hosting). record h { world = c.world; t
 pub remains_then : (a b c : Hosting) → Remains a b → Remains b c → Remains a c
 remains_then a b c p q = q ∙ ap (λ (h : Hosting). record h { world = c.world; trace = c.trace; pipes = c.pipes }) p
 
-pub remains_holds : (n : ℕ) (a b : Hosting) → Goes n a b → Remains a b → Holds a b
+pub remains_holds : (n : ℕ) (a b : Hosting) → HostGoes n a b → Remains a b → AddsNoWork a b
 remains_holds n a b g r =
     let same : waiting b.entries ≡ waiting a.entries = ap (λ (h : Hosting). waiting h.entries) r in
     omega (arith, same, g.went.spends.served, g.went.spends.later)
 
--- a part that changes nothing leaves no more to do
-pub rests_holds : (n : ℕ) (a b : Hosting) → Goes n a b → Rests a b → Holds a b
-rests_holds n a b g r =
-    let same : waiting b.entries ≡ waiting a.entries = ap (λ (h : Hosting). waiting h.entries) r in
-    omega (arith, same, g.went.spends.served, g.went.spends.later)
-
-pub advances_then : (a b c : Hosting) → Advances a b → Holds b c → Advances a c
+pub advances_then : (a b c : Hosting) → Advances a b → AddsNoWork b c → Advances a c
 advances_then a b c p q = omega (arith, p, q)
 
-pub advances_after : (a b c : Hosting) → Holds a b → Advances b c → Advances a c
+pub advances_after : (a b c : Hosting) → AddsNoWork a b → Advances b c → Advances a c
 advances_after a b c p q = omega (arith, p, q)
 
-pub holds_then : (a b c : Hosting) → Holds a b → Holds b c → Holds a c
+pub holds_then : (a b c : Hosting) → AddsNoWork a b → AddsNoWork b c → AddsNoWork a c
 holds_then a b c p q = omega (arith, p, q)
 
-pub did_holds : (n : ℕ) (r : Round) (a b : Hosting) → Goes n a b → Did r a b → Holds a b
+pub did_holds : (n : ℕ) (r : Round) (a b : Hosting) → HostGoes n a b → Did r a b → AddsNoWork a b
 did_holds n Worked a b g d = omega (arith, d)
 did_holds n Quiet a b g d = remains_holds n a b g d
 
 -- a part that worked comes after another part
-pub worked_after : (n : ℕ) (r : Round) (a b c : Hosting) → Goes n a b → Did r a b → Advances b c → Advances a c
+pub worked_after : (n : ℕ) (r : Round) (a b c : Hosting) → HostGoes n a b → Did r a b → Advances b c → Advances a c
 worked_after n r a b c g d on = advances_after a b c (did_holds n r a b g d) on
 
-pub did_then : (m n : ℕ) (r s : Round) (a b c : Hosting) → Goes m a b → Goes n b c → Did r a b → Did s b c → Did (either r s) a c
+pub did_then : (m n : ℕ) (r s : Round) (a b c : Hosting) → HostGoes m a b → HostGoes n b c → Did r a b → Did s b c → Did (either r s) a c
 did_then m n Worked s a b c p q ab bc = advances_then a b c ab (did_holds n s b c q bc)
 did_then m n Quiet Worked a b c p q ab bc = advances_after a b c (remains_holds m a b p ab) bc
 did_then m n Quiet Quiet a b c p q ab bc = remains_then a b c ab bc
 
 -- a call on the bus alone
-pub goes_by : (n k : ℕ) (a b : Hosting) → HostWent n a b → n ≤ k → b.stopped ≡ a.stopped → Goes k a b
+pub goes_by : (n k : ℕ) (a b : Hosting) → HostWent n a b → n ≤ k → b.stopped ≡ a.stopped → HostGoes k a b
 goes_by n k a b w le e = record { went = went_wider n k w le; going = e }
 
 -- a call on the bus, and then a part
-pub goes_after : (k m n : ℕ) (a b c : Hosting) → HostWent m a b → b.stopped ≡ a.stopped → Goes n b c → m + n ≤ k → Goes k a c
+pub goes_after : (k m n : ℕ) (a b c : Hosting) → HostWent m a b → b.stopped ≡ a.stopped → HostGoes n b c → m + n ≤ k → HostGoes k a c
 goes_after k m n a b c w e q le = goes_then k m n a b c (record { went = w; going = e }) q le
 
 -- a hub whose port was disabled is forgotten, with what stood below it
-pub dropped : (n : ℕ) (path : List ℕ) (a b c : Hosting) (world : World) (trace : Option (List ℕ)) (entries : Entries) → Goes n a b → Rests a b → c ≡ record b { entries = c.entries; pipes = c.pipes; addresses = c.addresses } → c.entries ≡ without path b.entries
-    → world ≡ c.world → waiting entries ≤ waiting c.entries → Holds a (record c { world = world; trace = trace; entries = entries })
+pub dropped : (n : ℕ) (path : List ℕ) (a b c : Hosting) (world : World) (trace : Option (List ℕ)) (entries : Entries) → HostGoes n a b → Rests a b → c ≡ record b { entries = c.entries; pipes = c.pipes; addresses = c.addresses } → c.entries ≡ without path b.entries
+    → world ≡ c.world → waiting entries ≤ waiting c.entries → AddsNoWork a (record c { world = world; trace = trace; entries = entries })
 dropped n path a b c world trace entries g r others rest same fewer =
     let there : world ≡ b.world = same ∙ ap (λ (h : Hosting). h.world) others in
     let before : waiting b.entries ≡ waiting a.entries = ap (λ (h : Hosting). waiting h.entries) r in

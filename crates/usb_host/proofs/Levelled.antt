@@ -1,40 +1,36 @@
 -- Pipes stay as far as the endpoints at their other ends over what a host does at a port.
-use Rattle.std.proofs.Common.{◌≡◌, ◌⊎◌, inl, inr, refl, sym, ap, subst, ◌∙◌, ℕ, zero, suc, cond, not, Bool, true, false, List, [], ◌∷◌, Option, None, Some}
+use Rattle.std.proofs.Common.{◌≡◌, ◌⊎◌, inl, inr, refl, sym, ap, subst, ◌∙◌, ℕ, cond, not, Bool, true, false, List, [], ◌∷◌, Option, None, Some}
 use Rattle.std.specs.Prelude.{unwrap_or}
 use Rattle.std.specs.Map.{lookup, remove_entry}
 use Rattle.std.specs.BTreeMap.{is_at}
 use Rattle.usb_port.specs.Order.{path_cmp}
 use Rattle.usb_device.specs.Rows.{State}
-use Rattle.usb_device.specs.Spec.{IsSpec}
-use Rattle.usb_device.specs.Tree.{Ports, reach}
+use Rattle.usb_device.specs.Tree.{reach}
 use Rattle.usb_device.specs.View.{state_there}
-use Rattle.usb_world.specs.Live.{is_way}
-use Rattle.usb_world.specs.Sane.{IsSane}
+use Rattle.usb_world.specs.Paths.{is_way}
+use Rattle.usb_world.specs.SanePorts.{IsSane}
 use Rattle.usb_world.specs.World.{World}
-use Rattle.usb_world.proofs.Booleans.{no, decided}
-use Rattle.usb_world.proofs.SaneLaws.{sane_spec}
+use Rattle.usb_world.proofs.Interface.{at_or_below_way, decided, no}
 use Rattle.usb_hub.specs.Addresses.{StaysAs, EachElsewhere, KeepsDevices}
 use Rattle.usb_enum.specs.declared.cause.Cause.{Cause}
 use Rattle.usb_enum.specs.declared.finding.Accepted.{Accepted}
 use Rattle.usb_enum.specs.declared.finding.Finding.{Finding}
 use Rattle.usb_enum.specs.declared.finding.Finding.TheVariants.{Device, Refused}
 use Rattle.usb_enum.specs.Found.{IsOwn}
+use Rattle.usb_enum.proofs.Interface.{ruled_there}
 use Rattle.usb_table.specs.declared.pipes.Pipes.{Pipes}
 use Rattle.usb_table.specs.declared.pipes.Pipes.TheVariants.{Absent}
 use Rattle.usb_table.specs.Entries.{Entries, has_at, is_at_or_below, without}
-use Rattle.usb_table.specs.Findings.{device_of}
+use Rattle.usb_table.specs.Findings.{accepted_device_of}
 use Rattle.usb_table.specs.Levels.{AllLevel, AreLevel, LevelAt}
 use Rattle.usb_table.specs.Listing.{finding_at}
 use Rattle.usb_table.specs.Table.{Table, TakesOut, entered, pipes_at}
-use Rattle.usb_table.proofs.Entering.{level_entered, level_beside}
-use Rattle.usb_table.proofs.Levels.{level_stays, level_elsewhere}
-use Rattle.usb_table.proofs.Paths.{path_tied}
+use Rattle.usb_table.proofs.Interface.{level_beside, level_elsewhere, level_entered, level_stays, path_tied}
 use Rattle.usb_host.specs.Hosting.{Hosting}
 use Rattle.usb_host.specs.Progress.{Rests}
 use Rattle.usb_host.specs.Transfers.{table_in}
 use Rattle.usb_host.proofs.Agreements.{lookup-without}
 use Rattle.usb_host.proofs.Places.{finding-none}
-use Rattle.usb_host.proofs.Ways.{at_or_below_way}
 
 -- Only the world goes on, and devices stay as they were
 
@@ -69,7 +65,7 @@ pipes_apart q path finding old new t away =
 -- Of what is not listed nothing is to be level
 
 none_level : (path : List ℕ) (t : Table) (w : World) → finding_at path t.entries ≡ None → LevelAt path t w
-none_level path t w none = record { level = λ device s at on stands. absurd (cc (ap device_of none, at)) }
+none_level path t w none = record { level = λ device s at on stands. absurd (cc (ap accepted_device_of none, at)) }
 
 -- what stood at a path is forgotten
 pub level_forgotten : (first : List ℕ) (b c : Hosting) → c.world ≡ b.world → c.entries ≡ without first b.entries → has_at first c.entries ≡ false
@@ -81,7 +77,7 @@ level_forgotten first b c same rest gone pipes level x = pick (decided (is_way f
     pick (inr away) =
         let found : finding_at x c.entries ≡ finding_at x b.entries = ap (λ (es : Entries). finding_at x es) rest ∙ lookup-without x first true b.entries (ap not (at_or_below_way x first ∙ away)) in
         subst (LevelAt x (table_in c)) (sym same) (record {
-          level = λ device s at on stands. subst (λ (p : Pipes). AreLevel p s) (sym (pipes x away)) ((level x away).level device s (sym (ap device_of found) ∙ at) on stands);
+          level = λ device s at on stands. subst (λ (p : Pipes). AreLevel p s) (sym (pipes x away)) ((level x away).level device s (sym (ap accepted_device_of found) ∙ at) on stands);
         })
 
 -- What is entered
@@ -98,16 +94,11 @@ level_came path f t u w is here others x = subst (λ (v : Table). LevelAt x v w)
 pub level_refused : (path : List ℕ) (cause : Cause) (t u : Table) (w : World) → u ≡ entered path (Refused cause) t → AllLevel t w → AllLevel u w
 level_refused path cause t u w is others = level_came path (Refused cause) t u w is (level_entered path (Refused cause) t w 0 0 (λ device s found. absurd (cc found))) others
 
-spec_there : (k : Ports) (path : List ℕ) (s : State) → IsSane k → state_there k path ≡ Some s → IsSpec s.spec
-spec_there k [] s sane at = absurd (cc at)
-spec_there k (zero ∷ p) s sane at = absurd (cc at)
-spec_there k (suc j ∷ p) s sane at = sane_spec k j p s sane at
-
 -- those to a device whose finding is its own are new, as its endpoints are
 pub level_found : (path : List ℕ) (f : Finding) (tier supply : ℕ) (t u : Table) (w : World) → u ≡ entered path f t → IsSane w.roots
     → ((device : Accepted) (s : State) → f ≡ Device device → reach w.roots path ≡ true → state_there w.roots path ≡ Some s → IsOwn tier supply device s) → AllLevel t w → AllLevel u w
 level_found path f tier supply t u w is sane own others =
-    level_came path f t u w is (level_entered path f t w tier supply (λ device s found on stands. (spec_there w.roots path s sane stands, own device s found on stands))) others
+    level_came path f t u w is (level_entered path f t w tier supply (λ device s found on stands. (ruled_there w.roots path s sane stands, own device s found on stands))) others
 
 -- Elsewhere
 

@@ -2,6 +2,7 @@ pub mod Agreements
 pub mod Balances
 pub mod Claimed
 pub mod Climbs
+pub mod Interface
 pub mod Looks
 pub mod Openings
 pub mod Owners
@@ -21,14 +22,12 @@ pub mod Joins
 pub mod Ranks
 pub mod Stations
 pub mod Waits
-pub mod Ways
 pub mod Settled
 pub mod Stays
 pub mod Risings
 pub mod Roots
 pub mod Events
 pub mod Places
-pub mod Trees
 pub mod Clearings
 pub mod Tidied
 pub mod Rested
@@ -37,7 +36,6 @@ pub mod Found
 pub mod Dropped
 pub mod Requests
 pub mod Finished
-pub mod Accepted
 pub mod Levelled
 pub mod Servers
 pub mod Caused

@@ -6,7 +6,7 @@ use Rattle.std.specs.Map.{lookup}
 use Rattle.usb_port.specs.Order.{path_cmp}
 use Rattle.usb_resources.specs.Pool.{IsFull}
 use Rattle.usb_hub.specs.Port.{IsPort}
-use Rattle.usb_hub.proofs.Ports.{port_stays}
+use Rattle.usb_hub.proofs.Interface.{port_stays}
 use Rattle.usb_enum.specs.declared.cause.Cause.TheVariants as cause
 use Rattle.usb_enum.specs.declared.fault.EnumFault.{EnumFault}
 use Rattle.usb_enum.specs.declared.fault.EnumFault.TheVariants.{ParentLost, Bus, Memory}
@@ -16,12 +16,12 @@ use Rattle.usb_table.specs.declared.known.KnownPort.{KnownPort}
 use Rattle.usb_table.specs.Entries.{Entries, Replaced, without}
 use Rattle.usb_table.specs.Findings.{is_waiting}
 use Rattle.usb_table.specs.Known.{known_port}
-use Rattle.usb_table.proofs.Ports.{known_port-without}
+use Rattle.usb_table.proofs.Interface.{known_port-without}
 use Rattle.usb_host.specs.Agreement.{Agrees}
 use Rattle.usb_host.specs.Hosting.{Hosting, work}
 use Rattle.usb_host.specs.declared.fault.HostFault.{HostFault}
 use Rattle.usb_host.specs.Ports.{StandsAt, Waits, Gained, Served, EndsAs, EntersOne}
-use Rattle.usb_host.specs.Progress.{Goes, Rests, Holds, Advances, waiting}
+use Rattle.usb_host.specs.Progress.{HostGoes, Rests, AddsNoWork, Advances, waiting}
 use Rattle.usb_host.proofs.Joins.{advances_then}
 use Rattle.usb_host.proofs.Waits.{waiting-without, waiting-without_one, waiting-entered, waiting-entered_other}
 
@@ -53,8 +53,8 @@ enters_few path c d e =
     let left = ap waiting e.entries in
     omega (arith, left, waiting-entered path e.finding c.entries)
 
-module _ (path : List ℕ) (m n : ℕ) (a b c d : Hosting) (g : Goes m a b) (r : Rests a b) (others : c ≡ record b { entries = c.entries; pipes = c.pipes; addresses = c.addresses })
-    (rest : c.entries ≡ without path b.entries) (h : Goes n c d) where
+module _ (path : List ℕ) (m n : ℕ) (a b c d : Hosting) (g : HostGoes m a b) (r : Rests a b) (others : c ≡ record b { entries = c.entries; pipes = c.pipes; addresses = c.addresses })
+    (rest : c.entries ≡ without path b.entries) (h : HostGoes n c d) where
   world_is : c.world ≡ b.world
   world_is = ap (λ (x : Hosting). x.world) others
 
@@ -90,7 +90,7 @@ served_any (Err (Bus fault)) a d on = tt
 served_any (Err Memory) a d on = tt
 
 -- the port stands where it stood, once what was on it is forgotten
-pub stands_kept : (n : ℕ) (path : List ℕ) (port : KnownPort) (a b c : Hosting) → Goes n a b → Rests a b → c ≡ record b { entries = c.entries; pipes = c.pipes; addresses = c.addresses } → c.entries ≡ without path b.entries
+pub stands_kept : (n : ℕ) (path : List ℕ) (port : KnownPort) (a b c : Hosting) → HostGoes n a b → Rests a b → c ≡ record b { entries = c.entries; pipes = c.pipes; addresses = c.addresses } → c.entries ≡ without path b.entries
     → Agrees c.entries c.addresses → StandsAt path port a → StandsAt path port c
 stands_kept n path port a b c g r others rest agrees s =
     let left : c.entries ≡ without path a.entries = rest ∙ ap (λ (x : Hosting). without path x.entries) r in
@@ -109,7 +109,7 @@ served_on (Err (Bus fault)) done a b ends s = absurd (cc ends)
 served_on (Err Memory) done a b ends s = absurd (cc ends)
 
 -- a port was served, and the rest of its handling took nothing back
-pub handled : {Due : Type 0} (result : Result (Unit {0}) HostFault) (served : Result (Unit {0}) EnumFault) (a b c : Hosting) → EndsAs served result → Holds b c → (Due → Served served a b) → OnOk result (Due → Advances a c)
+pub handled : {Due : Type 0} (result : Result (Unit {0}) HostFault) (served : Result (Unit {0}) EnumFault) (a b c : Hosting) → EndsAs served result → AddsNoWork b c → (Due → Served served a b) → OnOk result (Due → Advances a c)
 handled (Ok done) served a b c ends holds s = λ due. advances_then a b c (served_on served done a b ends (s due)) holds
 handled (Err fault) served a b c ends holds s = tt
 

@@ -1,6 +1,6 @@
 -- A host that was just made.
 use Rattle.usb_bus.specs.Traced.{Traced}
-use Rattle.usb_enum.proofs.Courses.{traced_in_order}
+use Rattle.usb_enum.proofs.Interface.{traced_in_order}
 use Rattle.std.proofs.Common.{◌≡◌, ◌⊎◌, ◌∙◌, ◌<◌, inl, inr, refl, sym, ap, arith, zero, suc, ℕ, List, Option, None, ◌∷◌, Bool, true, ◌&&◌, ◌||◌, if◌then◌else◌}
 use Rattle.std.specs.Prelude.{[], false, All, length, nat_lt}
 use Rattle.std.specs.FinSet as set
@@ -8,18 +8,16 @@ use Rattle.std.proofs.lemmas.Bool.{lt-ltb}
 use Rattle.std.proofs.lemmas.List.Elements.{All-head, All-tail}
 use Rattle.usb_port.specs.Order.{parent_of, port_of}
 use Rattle.usb_port.specs.PortState.{PortState, powered_on, is_attached, speed_of}
-use Rattle.usb_device.specs.declared.calls.PortCall.TheVariants.{SetPower}
 use Rattle.usb_device.specs.Rows.{forgotten}
-use Rattle.usb_device.specs.Tree.{Ports, ended, vacant, taken, empty as empty_place, full, called, row_of, reach, reach_at, state_at}
+use Rattle.usb_device.specs.Tree.{Ports, ended, vacant, taken, row_of, reach, reach_at, state_at}
 use Rattle.usb_device.specs.Delivery.{all_forgotten}
-use Rattle.usb_world.specs.Live.{live_at, pend_at}
-use Rattle.usb_world.specs.Sane.{IsSane, IsSanePlace}
-use Rattle.usb_world.proofs.Booleans.{no}
-use Rattle.usb_world.proofs.SaneLaws.{sane_called}
+use Rattle.usb_world.specs.Paths.{live_at, pend_at}
+use Rattle.usb_world.specs.SanePorts.{IsSane}
+use Rattle.usb_world.proofs.Interface.{no}
 use Rattle.usb_world.specs.World.{World}
 use Rattle.usb_resources.specs.Pool.{Addresses}
 use Rattle.usb_table.specs.Table.{Table, empty}
-use Rattle.usb_host.specs.Hosting.{Hosting, opening, with_power}
+use Rattle.usb_host.specs.Hosting.{Hosting, opening_host, with_power}
 use Rattle.usb_host.specs.Owning.{Owning, IsUntouched}
 use Rattle.usb_host.specs.Sound.{IsSound, IsUnpowered, Known}
 use Rattle.usb_host.proofs.Roots.{rooted_opening}
@@ -31,7 +29,7 @@ abbrev powered : World → World
 powered w = record w { roots = with_power w.roots }
 
 -- power is given in silence
-pub opened : (w0 w : World) (t0 t : Option (List ℕ)) (table : Table) (addresses : Addresses) → w ≡ powered w0 → t ≡ t0 → table ≡ empty → addresses ≡ set.empty → going w t table addresses ≡ opening w0 t0
+pub opened : (w0 w : World) (t0 t : Option (List ℕ)) (table : Table) (addresses : Addresses) → w ≡ powered w0 → t ≡ t0 → table ≡ empty → addresses ≡ set.empty → going w t table addresses ≡ opening_host w0 t0
 opened w0 w t0 t table addresses e silent f h =
     ap (λ v. going v t table addresses) e ∙ ap (λ s. going (powered w0) s table addresses) silent ∙ ap (λ x. going (powered w0) t0 x addresses) f ∙ ap (λ s. going (powered w0) t0 empty s) h
 
@@ -65,7 +63,7 @@ forgotten-with_power ended = refl
 forgotten-with_power (vacant b k) = ap (vacant (powered_on b)) (forgotten-with_power k)
 forgotten-with_power (taken b s a k) = ap (taken (powered_on b) (forgotten s) (all_forgotten a)) (forgotten-with_power k)
 
-pub owning_opening : (w : World) (t : Option (List ℕ)) → IsUntouched w → Owning (opening w t)
+pub owning_opening : (w : World) (t : Option (List ℕ)) → IsUntouched w → Owning (opening_host w t)
 owning_opening w t u = record {
   single = u.single;
   owned = λ going. record {
@@ -80,14 +78,6 @@ owning_opening w t u = record {
 }
 
 -- What a new host knows is so
-
-sane-with_power : (k : Ports) → IsSane k → IsSane (with_power k)
-unfolding with_power IsSane IsSanePlace
-sane-with_power ended h = tt
-sane-with_power (vacant b k) h = let x : IsSanePlace (called SetPower (empty_place b)) = sane_called SetPower (empty_place b) (h.0, h.1) in (x.0, x.1, sane-with_power k h.2)
-sane-with_power (taken b s a k) h =
-    let x : IsSanePlace (called SetPower (full b s a)) = sane_called SetPower (full b s a) (h.0, h.1, h.2, h.4) in
-    (x.0, x.1, x.2, sane-with_power k h.3, x.3)
 
 power_given : (b : PortState) → (powered_on b).power ≡ true
 power_given b = pick b.power refl
@@ -120,7 +110,7 @@ known_opening w u (n ∷ m ∷ rest) port =
     let wrong = rw long at port.port in
     absurd wrong
 
-pub sound_opening : (w : World) (t : Option (List ℕ)) → Traced w t (opening w t).world (opening w t).trace → IsUntouched w → IsUnpowered w → IsSound (opening w t)
+pub sound_opening : (w : World) (t : Option (List ℕ)) → Traced w t (opening_host w t).world (opening_host w t).trace → IsUntouched w → IsUnpowered w → IsSound (opening_host w t)
 sound_opening w t traced untouched u = record {
   owned = (owning_opening w t untouched).owned refl;
   rooted = rooted_opening w t;

@@ -2,12 +2,12 @@
 use Rattle.std.proofs.Common.{◌≡◌, ◌∙◌, refl, sym, ap, subst, arith, length-append, Bool, true, false, ℕ, ◌+◌, List, [], ◌∷◌, length, Option, None, Some, Result, Ok, Err, is_err, if◌then◌else◌}
 use Rattle.usb_device.specs.Tree.{reach}
 use Rattle.usb_world.specs.declared.types.BusFault.{BusFault}
-use Rattle.usb_world.specs.Live.{is_way}
+use Rattle.usb_world.specs.Paths.{is_way}
 use Rattle.usb_world.specs.World.{World, roots_of}
-use Rattle.usb_address.specs.Claims.{Claims, cleared}
+use Rattle.usb_world.proofs.Interface.{way_apart, way_shorter}
+use Rattle.usb_address.specs.Claims.{Claims, claims_apart}
 use Rattle.usb_address.specs.Owned.{Owned, OwnedBut, TillFault, KeepsAddresses}
-use Rattle.usb_address.proofs.Resetting.{owned_as}
-use Rattle.usb_address.proofs.States.{bared}
+use Rattle.usb_address.proofs.Interface.{bared, owned_as}
 use Rattle.usb_hub.specs.declared.port.HubPort.{HubPort}
 use Rattle.usb_hub.specs.declared.port.HubPort.TheVariants.{Root, External}
 use Rattle.usb_hub.specs.Addresses.{IsAt, Bares}
@@ -22,7 +22,6 @@ use Rattle.usb_host.specs.declared.fault.HostFault.{HostFault}
 use Rattle.usb_host.specs.declared.host.Round.{Round}
 use Rattle.usb_host.proofs.Claimed.{claims-without, claims-refused}
 use Rattle.usb_host.proofs.Roots.{rooted_kept}
-use Rattle.usb_host.proofs.Ways.{way_apart, way_shorter}
 
 pub till_as : (f g : Claims) (w : World) → ((x : List ℕ) → f x ≡ g x) → TillFault (Owned f) w → TillFault (Owned g) w
 till_as f g w same t = record { so = λ none. owned_as f g w same (t.so none); single = t.single }
@@ -66,8 +65,8 @@ cleared_as : (p : List ℕ) (f g : Claims) → ((x : List ℕ) → is_way p x �
 cleared_as p f g others x true way = refl
 cleared_as p f g others x false away = others x away
 
-bare_as : (p : List ℕ) (f : Claims) (old new : World) → (o : Opened p f old) → TillFault (Owned (cleared o.claims p)) new → TillFault (Owned (cleared f p)) new
-bare_as p f old new o t = till_as (cleared o.claims p) (cleared f p) new (λ x. cleared_as p f o.claims o.others x (is_way p x) refl) t
+bare_as : (p : List ℕ) (f : Claims) (old new : World) → (o : Opened p f old) → TillFault (Owned (claims_apart o.claims p)) new → TillFault (Owned (claims_apart f p)) new
+bare_as p f old new o t = till_as (claims_apart o.claims p) (claims_apart f p) new (λ x. cleared_as p f o.claims o.others x (is_way p x) refl) t
 
 -- a port stands where its hub is, whatever is on it
 pub at_others : (f g : Claims) (port : HubPort) (p : List ℕ) → ((x : List ℕ) → is_way p x ≡ false → g x ≡ f x) → IsAt f port p → IsAt g port p
@@ -77,12 +76,12 @@ at_others f g (External hub port) p others at =
     let away : is_way p at.hub ≡ false = way_shorter p at.hub (omega (arith, long)) in
     record { hub = at.hub; is_path = at.is_path; number = at.number; path = at.path; held = others at.hub away ∙ at.held }
 
-pub bare_port : (port : HubPort) (p : List ℕ) (f : Claims) (old new : World) → Bares port old new → IsAt f port p → TillFault (OwnedBut p f) old → TillFault (Owned (cleared f p)) new
+pub bare_port : (port : HubPort) (p : List ℕ) (f : Claims) (old new : World) → Bares port old new → IsAt f port p → TillFault (OwnedBut p f) old → TillFault (Owned (claims_apart f p)) new
 bare_port port p f old new b at t =
     let o = opened p f old t in
     bare_as p f old new o (b.bares o.claims p (at_others f o.claims port p o.others at) o.owned)
 
-pub bare_none : (p : List ℕ) (f : Claims) (w : World) → ((x : List ℕ) → is_way p x ≡ true → reach w.roots x ≡ false) → TillFault (OwnedBut p f) w → TillFault (Owned (cleared f p)) w
+pub bare_none : (p : List ℕ) (f : Claims) (w : World) → ((x : List ℕ) → is_way p x ≡ true → reach w.roots x ≡ false) → TillFault (OwnedBut p f) w → TillFault (Owned (claims_apart f p)) w
 bare_none p f w none t =
     let o = opened p f w t in
     bare_as p f w w o (record { so = λ h. bared o.claims p w none (o.owned.so h); single = t.single })
@@ -91,8 +90,8 @@ bare_none p f w none t =
 
 pub forgotten : (path : List ℕ) (a b : Hosting) → b ≡ record a { entries = b.entries; pipes = b.pipes; addresses = b.addresses } → b.entries ≡ without path a.entries → IsBare path a → IsOwned b
 forgotten path a b others rest bare =
-    let here : TillFault (Owned (cleared (claims a.entries) path)) b.world = subst (TillFault (Owned (cleared (claims a.entries) path))) (sym (ap (λ (h : Hosting). h.world) others)) bare in
-    till_as (cleared (claims a.entries) path) (claims b.entries) b.world (λ x. sym (ap (λ (es : Entries). claims es x) rest ∙ claims-without path a.entries x)) here
+    let here : TillFault (Owned (claims_apart (claims a.entries) path)) b.world = subst (TillFault (Owned (claims_apart (claims a.entries) path))) (sym (ap (λ (h : Hosting). h.world) others)) bare in
+    till_as (claims_apart (claims a.entries) path) (claims b.entries) b.world (λ x. sym (ap (λ (es : Entries). claims es x) rest ∙ claims-without path a.entries x)) here
 
 pub refused : (path : List ℕ) (cause : Cause) (es new : Entries) (w : World) → has_at path es ≡ false → new ≡ insert_entry path_cmp es path (Refused cause) → TillFault (Owned (claims es)) w → TillFault (Owned (claims new)) w
 refused path cause es new w away is t =
@@ -124,10 +123,6 @@ stays_then a b c p q = record { stays = λ o. q.stays (p.stays o); rooted = λ r
 
 pub single_then : (a b c : Hosting) → StaysOwned a b → StaysSingle b c → StaysSingle a c
 single_then a b c p q = record { single = λ o. q.single (p.stays o) }
-
-pub keeps_after : {A : Type 0} (result : Result A HostFault) (a b c : Hosting) → StaysOwned a b → KeepsOwned b result c → KeepsOwned a result c
-keeps_after (Ok done) a b c p q = stays_then a b c p q
-keeps_after (Err fault) a b c p q = single_then a b c p q
 
 -- A whole round
 

@@ -2,13 +2,13 @@
 use Rattle.std.proofs.Common.{◌≡◌, ◌∙◌, refl, sym, ap, subst, ℕ, Bool, true, false, List, Option, None, Some, is_some, Result, Ok, Err}
 use Rattle.std.specs.Prelude.{IsErr, IsOk, IsSome}
 use Rattle.arrayvec.specs.ArrayVec.{ArrayVec}
-use Rattle.usb_world.specs.Live.{pend}
+use Rattle.usb_world.specs.Paths.{pend}
 use Rattle.usb_world.specs.World.{World}
-use Rattle.usb_transaction.specs.Why.{NoThreeDamaged}
+use Rattle.usb_transaction.specs.Failures.{NoThreeDamaged}
 use Rattle.usb_pipe.specs.declared.fault.PipeFault.{PipeFault}
 use Rattle.usb_pipe.specs.declared.fault.PipeFault.TheVariants.{Stalled, Busy, NoAnswer, Broken, Bus, Memory}
-use Rattle.usb_hub.specs.Why.{IsServed}
-use Rattle.usb_enum.proofs.Courses.{went_sound}
+use Rattle.usb_hub.specs.Why.{NoHubFailed}
+use Rattle.usb_enum.proofs.Interface.{went_sound}
 use Rattle.usb_enum.specs.declared.finding.Finding.{Finding}
 use Rattle.usb_enum.specs.declared.finding.Finding.TheVariants.{Device}
 use Rattle.usb_enum.specs.declared.hub.HubFacts.{HubFacts}
@@ -16,16 +16,16 @@ use Rattle.usb_table.specs.declared.pipes.Pipes.{Pipes}
 use Rattle.usb_table.specs.declared.pipes.Pipes.TheVariants.{Hub as HubPipe, Function, Absent}
 use Rattle.usb_table.specs.Entries.{Entries}
 use Rattle.usb_table.specs.Known.{is_below_hub}
-use Rattle.usb_table.specs.Findings.{device_of}
+use Rattle.usb_table.specs.Findings.{accepted_device_of}
 use Rattle.usb_table.specs.Levels.{IsHeld, KeepsPolled}
-use Rattle.usb_table.specs.Listing.{finding_at, hub_in, hub_at}
+use Rattle.usb_table.specs.Listing.{finding_at, hub_facts_in, hub_facts_at}
 use Rattle.usb_table.specs.Pipes.{ArePipesOf}
-use Rattle.usb_table.specs.Transfers.{Polled}
+use Rattle.usb_table.specs.Transfers.{PipesPolled}
 use Rattle.usb_host.specs.Agreement.{Agrees}
 use Rattle.usb_host.specs.Hosting.{Hosting}
 use Rattle.usb_host.specs.Owning.{StaysOwned, StaysSingle, KeepsOwned, DropsHub}
 use Rattle.usb_host.specs.Transfers.{table_in}
-use Rattle.usb_host.specs.Progress.{HostWent, Goes, either}
+use Rattle.usb_host.specs.Progress.{HostWent, HostGoes, either}
 use Rattle.usb_host.specs.Sound.{IsSound, StaysSound, DropsSound, PartKeeps, PartsKeep, RootsRest, HubKeeps, HubsKeep, LooksKeep}
 use Rattle.usb_host.specs.declared.fault.HostFault.{HostFault}
 use Rattle.usb_host.specs.declared.host.Round.{Round}
@@ -72,7 +72,7 @@ module _ (result : Result Round HostFault) (a b c : Hosting) (e : IsErr result) 
 -- A hub is polled
 
 -- where the bus is at work, a poll that failed was not answered
-pub unserved : (pipes left : Pipes) (fault : PipeFault) (old new : World) → Polled pipes old (Err fault) left new → new.fault ≡ None → IsServed {A = Option (ArrayVec ℕ)} (Err fault) → ⊥
+pub unserved : (pipes left : Pipes) (fault : PipeFault) (old new : World) → PipesPolled pipes old (Err fault) left new → new.fault ≡ None → NoHubFailed {A = Option (ArrayVec ℕ)} (Err fault) → ⊥
 unserved pipes left Stalled old new x still served = served
 unserved pipes left Busy old new x still served = served
 unserved pipes left NoAnswer old new x still served = served
@@ -84,7 +84,7 @@ unserved (HubPipe pipe) left Memory old new x still served = x.2.polls.room refl
 unserved (Function pipes) left Memory old new x still served = cc (x.0)
 unserved Absent left Memory old new x still served = cc (x.0)
 
-pub hub_listed : (o : Option Finding) → IsSome (hub_in o) → IsSome o
+pub hub_listed : (o : Option Finding) → IsSome (hub_facts_in o) → IsSome o
 hub_listed None some = absurd (cc some)
 hub_listed (Some f) some = refl
 
@@ -96,14 +96,14 @@ module _ (hub : List ℕ) (answer : Result (Option (ArrayVec ℕ)) PipeFault) (a
   polled : StaysOwned a b
   polled = stays_kept a b same went.spends.roots keeps.levels.worlds.addresses
 
-  goes : Goes 768 a b
+  goes : HostGoes 768 a b
   goes = record { went = went; going = stopped }
 
   sound : IsOk answer → StaysSound a b
   sound ok = sound_kept 768 hub (IsOk answer) a b agrees same went keeps.levels (λ still. ok)
 
   -- it has nothing to tell
-  pub hub_quiet : (pipes left : Pipes) → IsOk answer → ((finding : Finding) → finding_at hub a.entries ≡ Some finding → ArePipesOf finding (is_below_hub hub) pipes) → Polled pipes a.world (Ok None) left b.world → HubKeeps hub a (Ok Quiet) b
+  pub hub_quiet : (pipes left : Pipes) → IsOk answer → ((finding : Finding) → finding_at hub a.entries ≡ Some finding → ArePipesOf finding (is_below_hub hub) pipes) → PipesPolled pipes a.world (Ok None) left b.world → HubKeeps hub a (Ok Quiet) b
   hub_quiet pipes left ok are asked = record {
     owned = polled;
     sound = sound ok;
@@ -113,7 +113,7 @@ module _ (hub : List ℕ) (answer : Result (Option (ArrayVec ℕ)) PipeFault) (a
   }
 
   -- it told of changes, and its ports were handled
-  pub hub_told : (n : ℕ) (c : Hosting) → IsOk answer → Goes n b c → PartKeeps {A = Unit {0}} b (Ok tt) c → HubKeeps hub a (Ok Worked) c
+  pub hub_told : (n : ℕ) (c : Hosting) → IsOk answer → HostGoes n b c → PartKeeps {A = Unit {0}} b (Ok tt) c → HubKeeps hub a (Ok Worked) c
   hub_told n c ok q told = record {
     owned = stays_then a b c polled told.owned;
     sound = sound_then 768 n a b c goes.went q.went (sound ok) told.sound;
@@ -122,8 +122,8 @@ module _ (hub : List ℕ) (answer : Result (Option (ArrayVec ℕ)) PipeFault) (a
   }
 
   -- a hub that does not answer is not reached, or a change is pending on the way to it
-  pends : (b.world.fault ≡ None → IsServed answer → ⊥) → IsSome (hub_at hub a.entries) → IsSound a → b.world.fault ≡ None → NoThreeDamaged a.world → pend b.world.roots hub ≡ true
-  pends failed listed s still few = pick (hub_at hub a.entries) refl listed (pend b.world.roots hub) refl
+  pends : (b.world.fault ≡ None → NoHubFailed answer → ⊥) → IsSome (hub_facts_at hub a.entries) → IsSound a → b.world.fault ≡ None → NoThreeDamaged a.world → pend b.world.roots hub ≡ true
+  pends failed listed s still few = pick (hub_facts_at hub a.entries) refl listed (pend b.world.roots hub) refl
     where
       held : IsHeld (table_in a) a.world
       held = s.owned.so (went_sound 768 a.world b.world went still)
@@ -135,16 +135,16 @@ module _ (hub : List ℕ) (answer : Result (Option (ArrayVec ℕ)) PipeFault) (a
           let known = known_kept 768 hub (IsOk answer) a b agrees same went keeps.levels s still in
           let truthful = truthful_kept 768 hub (IsOk answer) a b agrees same went keeps.levels s still in
           let on = reached_at b.world b.entries b.addresses (accounted b agrees_on rooted) known truthful hub there.device found none in
-          failed still (keeps.why held (s.level (went_sound 768 a.world b.world went still) hub) few there.device (ap device_of there.found) (ap is_some there.told)
+          failed still (keeps.why held (s.level (went_sound 768 a.world b.world went still) hub) few there.device (ap accepted_device_of there.found) (ap is_some there.told)
           (heard_at b.world b.entries b.addresses (accounted b agrees_on rooted) known truthful hub there.device found on))
 
-      pick : (o : Option HubFacts) → hub_at hub a.entries ≡ o → IsSome o → (p : Bool) → pend b.world.roots hub ≡ p → p ≡ true
+      pick : (o : Option HubFacts) → hub_facts_at hub a.entries ≡ o → IsSome o → (p : Bool) → pend b.world.roots hub ≡ p → p ≡ true
       pick None at some p is = absurd (cc some)
       pick (Some facts) at some true is = refl
       pick (Some facts) at some false is = absurd (heard facts (hub_there hub a.entries facts at) is)
 
   -- it did not answer, and was dropped
-  pub hub_gone : (n : ℕ) (c : Hosting) → (b.world.fault ≡ None → IsServed answer → ⊥) → IsSome (hub_at hub a.entries) → Goes n b c → DropsHub hub b (Ok tt) c → DropsSound hub b (Ok tt) c → HubKeeps hub a (Ok Worked) c
+  pub hub_gone : (n : ℕ) (c : Hosting) → (b.world.fault ≡ None → NoHubFailed answer → ⊥) → IsSome (hub_facts_at hub a.entries) → HostGoes n b c → DropsHub hub b (Ok tt) c → DropsSound hub b (Ok tt) c → HubKeeps hub a (Ok Worked) c
   hub_gone n c failed listed q drops dropped =
       let there : IsSome (finding_at hub b.entries) = subst (λ (es : Entries). IsSome (finding_at hub es)) (sym same) (hub_listed (finding_at hub a.entries) listed) in
       record {
@@ -162,7 +162,7 @@ hub_stopped hub fault a b y = record { owned = y; sound = tt; calm = λ is. absu
 
 -- All parts
 
-pub parts_keep : (k l m n : ℕ) (roots hubs looks : Round) (a b c d : Hosting) → Goes k a b → Goes l b c → Goes m a c → Goes n c d → (done roots ≡ done Quiet → RootsRest a b) → PartKeeps a (Ok roots) b → HubsKeep b (Ok hubs) c → LooksKeep c (Ok looks) d
+pub parts_keep : (k l m n : ℕ) (roots hubs looks : Round) (a b c d : Hosting) → HostGoes k a b → HostGoes l b c → HostGoes m a c → HostGoes n c d → (done roots ≡ done Quiet → RootsRest a b) → PartKeeps a (Ok roots) b → HubsKeep b (Ok hubs) c → LooksKeep c (Ok looks) d
     → PartsKeep a (Ok (either (either roots hubs) looks)) d
 parts_keep k l m n roots hubs looks a b c d ab bc ac cd none x y z = record {
   owned = stays_then a c d (stays_then a b c x.owned y.owned) z.owned;

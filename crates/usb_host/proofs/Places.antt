@@ -4,23 +4,31 @@ use Rattle.std.specs.Prelude.{⊤, IsSomeAnd, unwrap_or, option_map}
 use Rattle.std.proofs.lemmas.Bool.{lt-ltb}
 use Rattle.std.specs.BTreeMap.{is_at, insert_entry}
 use Rattle.usb_port.specs.Order.{path_cmp, parent_of, port_of}
-use Rattle.usb_port.proofs.OrderLaws.{rejoined}
-use Rattle.usb_world.specs.Live.{is_way, pend}
+use Rattle.usb_port.proofs.Interface.{rejoined}
+use Rattle.usb_world.specs.Paths.{is_way, pend, same_number}
 use Rattle.usb_world.specs.World.{World, roots_of}
-use Rattle.usb_world.proofs.Booleans.{no, decided}
+use Rattle.usb_world.proofs.Interface.{and_of, at_or_below_way, both, decided, no, way_itself, way_parent, way_rest, way_trans}
 use Rattle.usb_enum.specs.declared.finding.Finding.{Finding}
 use Rattle.usb_enum.specs.declared.finding.Finding.TheVariants.{Device, Refused}
 use Rattle.usb_enum.specs.Described.{IsFindingOf, IsRight}
 use Rattle.usb_table.specs.declared.known.KnownPort.{KnownPort}
 use Rattle.usb_table.specs.Entries.{Entries, has_at, without}
-use Rattle.usb_table.specs.Findings.{device_of}
-use Rattle.usb_table.specs.Listing.{finding_at, hub_in, IsPortBelow, IsListedPort, tier_of}
-use Rattle.usb_table.proofs.Paths.{path_tied}
+use Rattle.usb_table.specs.Findings.{accepted_device_of}
+use Rattle.usb_table.specs.Listing.{finding_at, hub_facts_in, IsPortBelow, IsListedPort, tier_of}
+use Rattle.usb_table.proofs.Interface.{path_tied}
 use Rattle.usb_enum.specs.Places.{IsKnownAs}
 use Rattle.usb_host.specs.Sound.{Known, known_supply, IsToldAt, Truthful, IsCausedAt, Causes, KnownBut, TruthfulBut, CausesBut}
 use Rattle.usb_host.proofs.Agreements.{lookup-without, lookup-insert_entry_elsewhere, known_away, known_entered}
 use Rattle.usb_host.proofs.Claimed.{none_there, lookup-insert_entry_here}
-use Rattle.usb_host.proofs.Ways.{way_rest, way_itself, way_trans, way_parent, way_hub, at_or_below_way}
+
+-- what is below a port, and longer, has its hub at the port or below it
+way_hub : (p hub : List ℕ) (n : ℕ) → length p ≤ length hub → is_way p (hub ++ n ∷ []) ≡ true → is_way p hub ≡ true
+unfolding is_way
+way_hub [] hub n le h = refl
+way_hub (m ∷ p) [] n le h = absurd (omega (arith, le))
+way_hub (m ∷ p) (k ∷ hub) n le h =
+    let parts = both (same_number m k) (is_way p (hub ++ n ∷ [])) h in
+    and_of (same_number m k) (is_way p hub) parts.0 (way_hub p hub n (omega (arith, le)) parts.1)
 
 -- What is listed elsewhere
 
@@ -50,7 +58,7 @@ hub_elsewhere first path hub is away = hub_by first path hub is away (is_way fir
 
 port_as : (roots : ℕ) (es fs : Entries) (n : ℕ) (o : Option (List ℕ)) → ((hub : List ℕ) → o ≡ Some hub → finding_at hub es ≡ finding_at hub fs) → IsPortBelow roots es o n → IsPortBelow roots fs o n
 port_as roots es fs n None same h = h
-port_as roots es fs n (Some hub) same h = subst (λ (f : Option Finding). IsSomeAnd (hub_in f) (λ facts. (1 ≤ n) × (n ≤ facts.ports))) (same hub refl) h
+port_as roots es fs n (Some hub) same h = subst (λ (f : Option Finding). IsSomeAnd (hub_facts_in f) (λ facts. (1 ≤ n) × (n ≤ facts.ports))) (same hub refl) h
 
 -- a port is listed as long as its hub is
 pub listed_as : (roots : ℕ) (es fs : Entries) (path : List ℕ) → ((hub : List ℕ) → parent_of path ≡ Some hub → finding_at hub es ≡ finding_at hub fs) → IsListedPort roots es path → IsListedPort roots fs path
@@ -95,7 +103,7 @@ known_whole first w es some others here below path port = pick (decided (is_way 
 none_below : (roots : ℕ) (es : Entries) (path hub : List ℕ) → parent_of path ≡ Some hub → finding_at hub es ≡ None → IsListedPort roots es path → ⊥
 none_below roots es path hub is none port =
     let below : IsPortBelow roots es (Some hub) (port_of path) = subst (λ o. IsPortBelow roots es o (port_of path)) is port.port in
-    subst (λ (f : Option Finding). IsSomeAnd (hub_in f) (λ facts. (1 ≤ port_of path) × (port_of path ≤ facts.ports))) none below
+    subst (λ (f : Option Finding). IsSomeAnd (hub_facts_in f) (λ facts. (1 ≤ port_of path) × (port_of path ≤ facts.ports))) none below
 
 pub known_dropped : (first : List ℕ) (w : World) (es : Entries) → KnownBut first w es → KnownBut first w (without first es)
 known_dropped first w es known path away port =
@@ -110,7 +118,7 @@ known_vacant first w es some gone known here =
 
 told_as : (w : World) (es fs : Entries) (path : List ℕ) → finding_at path fs ≡ finding_at path es → known_supply path fs ≡ known_supply path es → IsToldAt w es path → IsToldAt w fs path
 told_as w es fs path same supply told device s at on stands =
-    let t = told device s (ap device_of (sym same) ∙ at) on stands in
+    let t = told device s (ap accepted_device_of (sym same) ∙ at) on stands in
     record { found = subst (λ n. IsFindingOf s.spec (tier_of path) n (Device device)) (sym supply) t.found; set = t.set }
 
 caused_as : (w : World) (es fs : Entries) (path : List ℕ) → finding_at path fs ≡ finding_at path es → known_supply path fs ≡ known_supply path es → IsCausedAt w es path → IsCausedAt w fs path
@@ -130,7 +138,7 @@ pub truthful_dropped : (first : List ℕ) (w : World) (es : Entries) → Truthfu
 truthful_dropped first w es told path = pick (decided (is_way first path))
   where
     pick : (is_way first path ≡ true) ⊎ (is_way first path ≡ false) → IsToldAt w (without first es) path
-    pick (inl way) = λ device s at on stands. absurd (cc (ap device_of (finding-dropped first path es way), at))
+    pick (inl way) = λ device s at on stands. absurd (cc (ap accepted_device_of (finding-dropped first path es way), at))
     pick (inr away) = told_as w es (without first es) path (finding-kept first path es away) (supply-kept first path es away) (told path away)
 
 pub causes_dropped : (first : List ℕ) (w : World) (es : Entries) → CausesBut first w es → Causes w (without first es)
@@ -172,7 +180,7 @@ module _ (first : List ℕ) (f : Finding) (es : Entries) (some : 1 ≤ length fi
 
   -- and each port of what was found, where that is a hub, is vacant or pending
   pub known_found : (w : World) → KnownBut first w es → IsKnownAs w first (Some f)
-      → ((n : ℕ) → IsSomeAnd (hub_in (Some f)) (λ facts. (1 ≤ n) × (n ≤ facts.ports)) → IsKnownAs w (first ++ n ∷ []) None) → Known w entered
+      → ((n : ℕ) → IsSomeAnd (hub_facts_in (Some f)) (λ facts. (1 ≤ n) × (n ≤ facts.ports)) → IsKnownAs w (first ++ n ∷ []) None) → Known w entered
   known_found w known here ports =
       known_whole first w entered some (known_but_entered w known) (subst (IsKnownAs w first) (sym (lookup-insert_entry_here first f es)) here)
       (λ path hub is way port. subst (IsKnownAs w path) (sym (finding-below path hub is way)) (below path hub is way port (is_at (path_cmp hub) first) refl))
@@ -180,8 +188,8 @@ module _ (first : List ℕ) (f : Finding) (es : Entries) (some : 1 ≤ length fi
       below : (path hub : List ℕ) → parent_of path ≡ Some hub → is_way first hub ≡ true → IsListedPort (roots_of w) entered path → (b : Bool) → is_at (path_cmp hub) first ≡ b → IsKnownAs w path None
       below path hub is way port true tie =
           let at : IsPortBelow (roots_of w) entered (Some first) (port_of path) = subst (λ h. IsPortBelow (roots_of w) entered (Some h) (port_of path)) (path_tied hub first tie) (subst (λ o. IsPortBelow (roots_of w) entered o (port_of path)) is port.port) in
-          let own : IsSomeAnd (hub_in (Some f)) (λ facts. (1 ≤ port_of path) × (port_of path ≤ facts.ports)) =
-          subst (λ (x : Option Finding). IsSomeAnd (hub_in x) (λ facts. (1 ≤ port_of path) × (port_of path ≤ facts.ports))) (lookup-insert_entry_here first f es) at in
+          let own : IsSomeAnd (hub_facts_in (Some f)) (λ facts. (1 ≤ port_of path) × (port_of path ≤ facts.ports)) =
+          subst (λ (x : Option Finding). IsSomeAnd (hub_facts_in x) (λ facts. (1 ≤ port_of path) × (port_of path ≤ facts.ports))) (lookup-insert_entry_here first f es) at in
           let joined : path ≡ first ++ port_of path ∷ [] = rejoined path hub is ∙ ap (λ (l : List ℕ). l ++ port_of path ∷ []) (path_tied hub first tie) in
           subst (λ p. IsKnownAs w p None) (sym joined) (ports (port_of path) own)
       below path hub is way port false apart =
@@ -192,7 +200,7 @@ module _ (first : List ℕ) (f : Finding) (es : Entries) (some : 1 ≤ length fi
     where
       pick : (b : Bool) → is_at (path_cmp path) first ≡ b → (is_way first path ≡ true) ⊎ (is_way first path ≡ false) → IsToldAt w entered path
       pick true tie on = subst (IsToldAt w entered) (sym (path_tied path first tie)) here
-      pick false apart (inl way) = λ device s at on stands. absurd (cc (ap device_of (finding-entered path apart ∙ finding-none first path es gone way), at))
+      pick false apart (inl way) = λ device s at on stands. absurd (cc (ap accepted_device_of (finding-entered path apart ∙ finding-none first path es gone way), at))
       pick false apart (inr away) = told_as w es entered path (finding-entered path apart) (supply-entered path away) (told path)
 
   pub causes_found : (w : World) → Causes w es → IsCausedAt w entered first → Causes w entered

@@ -9,21 +9,20 @@ use Rattle.usb_descriptor.specs.declared.item.Item.TheVariants.{Interface, Endpo
 use Rattle.usb_descriptor.specs.Choice.{status_endpoint_of, status_at, first_counting, first_from, picked, or_else, counts_after, in_config, packet_size}
 use Rattle.usb_descriptor.specs.Config.{config_of, config_after, config_head_of, configuration_value}
 use Rattle.usb_descriptor.specs.Item.{items_of}
-use Rattle.usb_descriptor.proofs.Texts.{header_of}
+use Rattle.usb_descriptor.proofs.Interface.{header_of}
 use Rattle.usb_device.specs.declared.request.Registers.{Registers}
 use Rattle.usb_device.specs.Bulk.{tells_changes}
 use Rattle.usb_device.specs.Rows.{State}
 use Rattle.usb_device.specs.Spec.{Spec, Hub, IsSpec, IsHub}
 use Rattle.usb_device.specs.Tree.{reach, reach_at, state_at}
 use Rattle.usb_device.specs.View.{port_there}
-use Rattle.usb_world.specs.Live.{address_of, pend}
-use Rattle.usb_world.specs.Plugged.{hub_ports}
+use Rattle.usb_world.specs.Paths.{address_of, pend}
+use Rattle.usb_world.specs.PluggedDevices.{hub_ports}
 use Rattle.usb_world.specs.World.{World, roots_of}
-use Rattle.usb_world.proofs.Booleans.{no, neither, and_of}
-use Rattle.usb_world.proofs.SaneLaws.{sane_spec}
+use Rattle.usb_world.proofs.Interface.{and_of, neither, no, sane_spec}
 use Rattle.usb_transaction.specs.declared.target.Target.{Target}
-use Rattle.usb_transaction.specs.Over.{is_at as has_address}
-use Rattle.usb_transaction.specs.Trans.{in_attempt}
+use Rattle.usb_transaction.specs.Leaves.{is_at as has_address}
+use Rattle.usb_transaction.specs.Transactions.{in_attempt}
 use Rattle.usb_transaction.specs.Trail.{Trail, Waiting}
 use Rattle.usb_world.specs.declared.types.Outcome.TheVariants.{Nak}
 use Rattle.usb_world.specs.Passes.{IsSettled, deep_at}
@@ -40,17 +39,17 @@ use Rattle.usb_enum.specs.Places.{IsKnownAs}
 use Rattle.usb_table.specs.declared.pipes.Pipes.{Pipes}
 use Rattle.usb_table.specs.declared.pipes.Pipes.TheVariants.{Hub as HubPipe, Function, Absent}
 use Rattle.usb_table.specs.Entries.{Entries}
-use Rattle.usb_table.specs.Findings.{device_of}
+use Rattle.usb_table.specs.Findings.{accepted_device_of}
 use Rattle.usb_table.specs.Known.{is_below_hub}
 use Rattle.usb_table.specs.Levels.{Heard}
-use Rattle.usb_table.specs.Listing.{finding_at, hub_in, hub_at, tier_of}
+use Rattle.usb_table.specs.Listing.{finding_at, hub_facts_in, hub_facts_at, tier_of}
 use Rattle.usb_table.specs.Pipes.{IsStatusPipe, ArePipesTo, ArePipesOf}
-use Rattle.usb_table.specs.Transfers.{Polled, PolledThrough}
+use Rattle.usb_table.specs.Transfers.{PipesPolled, PolledThrough}
 use Rattle.usb_host.specs.Agreement.{Agrees}
 use Rattle.usb_host.specs.Hosting.{Hosting}
-use Rattle.usb_host.specs.Sound.{Accounted, IsSound, IsSilent, Known, Tells, Truthful, known_supply}
+use Rattle.usb_host.specs.Sound.{Accounted, IsSound, IsSilent, Known, IsTruthOf, Truthful, known_supply}
 use Rattle.usb_host.proofs.Roots.{accounted}
-use Rattle.usb_host.proofs.Accepted.{accepted_loud}
+use Rattle.usb_enum.proofs.Interface.{accepts}
 use Rattle.usb_host.proofs.Servers.{hears_by, below_of}
 use Rattle.usb_host.proofs.Settled.{listed_port, reached_there}
 use Rattle.usb_host.proofs.Silences.{AreClear, nak_clears}
@@ -105,12 +104,12 @@ pub record HubThere (path : List ℕ) (entries : Entries) (facts : HubFacts) : T
   pub found : finding_at path entries ≡ Some (Device device)
   pub told : device.hub ≡ Some facts
 
-hub_by : (o : Option Finding) (facts : HubFacts) → hub_in o ≡ Some facts → (device : Accepted) × (o ≡ Some (Device device)) × (device.hub ≡ Some facts)
+hub_by : (o : Option Finding) (facts : HubFacts) → hub_facts_in o ≡ Some facts → (device : Accepted) × (o ≡ Some (Device device)) × (device.hub ≡ Some facts)
 hub_by None facts h = absurd (cc h)
 hub_by (Some (Refused cause)) facts h = absurd (cc h)
 hub_by (Some (Device device)) facts h = (device, refl, h)
 
-pub hub_there : (path : List ℕ) (entries : Entries) (facts : HubFacts) → hub_at path entries ≡ Some facts → HubThere path entries facts
+pub hub_there : (path : List ℕ) (entries : Entries) (facts : HubFacts) → hub_facts_at path entries ≡ Some facts → HubThere path entries facts
 hub_there path entries facts h = let x = hub_by (finding_at path entries) facts h in record { device = x.0; found = x.1; told = x.2 }
 
 -- its description has as many ports
@@ -156,7 +155,7 @@ record ReachedAt (w : World) (entries : Entries) (j : ℕ) (p : List ℕ) (devic
   state : State
   on : reach_at w.roots j p ≡ true
   stands : state_at w.roots j p ≡ Some state
-  tells : Tells entries (suc j ∷ p) device state
+  tells : IsTruthOf entries (suc j ∷ p) device state
 
 module _ (w : World) (entries : Entries) (addresses : Addresses) (fits : Accounted (roots_of w) entries addresses) (known : Known w entries) (truthful : Truthful w entries) where
   pub reached_at : (path : List ℕ) (device : Accepted) → finding_at path entries ≡ Some (Device device) → pend w.roots path ≡ false → reach w.roots path ≡ true
@@ -167,7 +166,7 @@ module _ (w : World) (entries : Entries) (addresses : Addresses) (fits : Account
   stands_at : (j : ℕ) (p : List ℕ) (device : Accepted) → finding_at (suc j ∷ p) entries ≡ Some (Device device) → reach w.roots (suc j ∷ p) ≡ true → ReachedAt w entries j p device
   stands_at j p device found on =
       let there : _ = reached_there w.roots (suc j ∷ p) on in
-      record { state = there.0; on = on; stands = there.1; tells = truthful (suc j ∷ p) device there.0 (ap device_of found) on there.1 }
+      record { state = there.0; on = on; stands = there.1; tells = truthful (suc j ∷ p) device there.0 (ap accepted_device_of found) on there.1 }
 
   heard_by : (j : ℕ) (p : List ℕ) (device : Accepted) → ReachedAt w entries j p device → Heard (suc j ∷ p) device w
   heard_by j p device r = record {
@@ -179,7 +178,7 @@ module _ (w : World) (entries : Entries) (addresses : Addresses) (fits : Account
     stands = r.stands;
     listens = record {
       at = eq-eqb (address_of r.state) device.address r.tells.set.address;
-      loud = accepted_loud r.state.spec (tier_of (suc j ∷ p)) (known_supply (suc j ∷ p) entries) device.chosen r.tells.found.0;
+      loud = (accepts r.state.spec (tier_of (suc j ∷ p)) (known_supply (suc j ∷ p) entries) device.chosen r.tells.found.0).loud;
       hears = hears_by device.low r.state.spec.low (deep_at false p) (device.low && is_below_hub (suc j ∷ p)) r.tells.found.1.low (λ low deep. and_of device.low (is_below_hub (suc j ∷ p)) low (below_of j p deep));
     };
   }
@@ -216,10 +215,10 @@ module _ (h : Hosting) (agrees : Agrees h.entries h.addresses) (s : IsSound h) (
 
   -- the poll answered that there is nothing to tell
   pub poll_silent : (path : List ℕ) (pipes left : Pipes) (old : World) → ((finding : Finding) → finding_at path h.entries ≡ Some finding → ArePipesOf finding (is_below_hub path) pipes)
-      → Polled pipes old (Ok None) left h.world → pend h.world.roots path ≡ false → IsSilent path h
+      → PipesPolled pipes old (Ok None) left h.world → pend h.world.roots path ≡ false → IsSilent path h
   poll_silent path pipes left old are polled none facts number at least most =
       let there = hub_there path h.entries facts at in
       let pipe : _ = status_pipe there.device facts (is_below_hub path) pipes there.told (are (Device there.device) there.found) in
-      let through : (rest : Interrupt) × (left ≡ HubPipe rest) × PolledThrough pipe.0 old (Ok None) rest h.world = subst (λ (x : Pipes). Polled x old (Ok None) left h.world) pipe.1 polled in
+      let through : (rest : Interrupt) × (left ≡ HubPipe rest) × PolledThrough pipe.0 old (Ok None) rest h.world = subst (λ (x : Pipes). PipesPolled x old (Ok None) left h.world) pipe.1 polled in
       let on = reached_at h.world h.entries h.addresses (accounted h agrees s.rooted) (s.known still) (s.truthful still) path there.device there.found none in
       silent_by facts number least most path pipe.0 through.0 old there pipe.2 through.2 on

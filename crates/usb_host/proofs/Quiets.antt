@@ -2,7 +2,7 @@
 use Rattle.std.proofs.Common.{◌≡◌, refl, arith, subst, suc, zero, false}
 use Rattle.std.specs.Prelude.{ℕ, ◌+◌, ◌-◌, ◌<◌, ◌≤◌, List, [], ◌∷◌, length, slice_index_or}
 use Rattle.usb_port.specs.PortState.{PortState, off}
-use Rattle.usb_world.specs.World.{World, root_row, roots_of, port_at, change_of, changes}
+use Rattle.usb_world.specs.World.{World, root_row, roots_of, root_port_at, change_of, changes}
 
 no_change : (p : PortState) → p.connection_changed ≡ false → change_of p ≡ 0
 unfolding change_of
@@ -13,8 +13,8 @@ unfolding changes
 no_changes [] h = refl
 no_changes (p ∷ ps) h = omega (arith, no_change p (h zero (omega arith)), no_changes ps (λ i lt. h (suc i) (omega (arith, lt))))
 
-pub none_changed : (w : World) (n : ℕ) → roots_of w < n → ((k : ℕ) → 1 ≤ k → k < n → (port_at w k).connection_changed ≡ false) → changes (root_row w) ≡ 0
-unfolding port_at
+pub none_changed : (w : World) (n : ℕ) → roots_of w < n → ((k : ℕ) → 1 ≤ k → k < n → (root_port_at w k).connection_changed ≡ false) → changes (root_row w) ≡ 0
+unfolding root_port_at
 none_changed w n lt h =
     no_changes (root_row w) (λ i inside.
     let back : (i + 1) - 1 ≡ i = omega arith in

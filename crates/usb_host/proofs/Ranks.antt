@@ -5,10 +5,10 @@ use Rattle.std.proofs.Math.Nat.{mul-le-mul_right}
 use Rattle.std.proofs.lemmas.Nat.{row_fits}
 use Rattle.usb_port.specs.Path.{IsPath}
 use Rattle.usb_port.specs.Order.{rank_of}
-use Rattle.usb_port.proofs.OrderLaws.{bound, rises}
-use Rattle.usb_table.specs.Next.{IsAfter}
+use Rattle.usb_port.proofs.Interface.{bound, rises}
+use Rattle.usb_table.specs.Next.{ComesAfter}
 use Rattle.usb_host.specs.Hosting.{Hosting}
-use Rattle.usb_host.specs.Progress.{Goes}
+use Rattle.usb_host.specs.Progress.{HostGoes}
 use Rattle.usb_host.proofs.Joins.{goes_then, goes_wider}
 
 -- how many paths are at most as far as the last one
@@ -22,7 +22,7 @@ eight = refl
 pub rank_most : (path : List ℕ) → IsPath path → rank_after (Some path) ≤ 2097152
 rank_most path is = omega (arith, bound path is, eight)
 
-pub rank_rises : (last : Option (List ℕ)) (path : List ℕ) → IfSome last IsPath → IsPath path → IsAfter last path → rank_after last < rank_after (Some path)
+pub rank_rises : (last : Option (List ℕ)) (path : List ℕ) → IfSome last IsPath → IsPath path → ComesAfter last path → rank_after last < rank_after (Some path)
 rank_rises None path before is after = omega arith
 rank_rises (Some last) path before is after = omega (arith, rises last path before is after)
 
@@ -33,9 +33,9 @@ rank_after_most (Some path) is = rank_most path is
 times_more : (k r s : ℕ) → r < s → r * k + k ≤ s * k
 times_more k r s lt = row_fits r k s k lt (omega arith)
 
-pub rank_goes : (k : ℕ) (last : Option (List ℕ)) (path : List ℕ) (a b c : Hosting) → IfSome last IsPath → IsPath path → IsAfter last path → Goes (rank_after last * k) a b → Goes k b c → Goes (rank_after (Some path) * k) a c
+pub rank_goes : (k : ℕ) (last : Option (List ℕ)) (path : List ℕ) (a b c : Hosting) → IfSome last IsPath → IsPath path → ComesAfter last path → HostGoes (rank_after last * k) a b → HostGoes k b c → HostGoes (rank_after (Some path) * k) a c
 rank_goes k last path a b c before is after p q =
     goes_then (rank_after (Some path) * k) (rank_after last * k) k a b c p q (times_more k (rank_after last) (rank_after (Some path)) (rank_rises last path before is after))
 
-pub rank_within : (k : ℕ) {r : ℕ} (a b : Hosting) → Goes (r * k) a b → r ≤ 2097152 → Goes (2097152 * k) a b
+pub rank_within : (k : ℕ) {r : ℕ} (a b : Hosting) → HostGoes (r * k) a b → r ≤ 2097152 → HostGoes (2097152 * k) a b
 rank_within k {r} a b p le = goes_wider (r * k) (2097152 * k) a b p (mul-le-mul_right k le)

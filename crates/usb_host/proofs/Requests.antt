@@ -8,44 +8,40 @@ use Rattle.usb_device.specs.declared.calls.PortCall.{PortCall}
 use Rattle.usb_device.specs.declared.calls.PortCall.TheVariants.{ClearEnable, ClearConnectionChange}
 use Rattle.usb_device.specs.Calls.{clear_call, is_reset}
 use Rattle.usb_device.specs.View.{port_there}
-use Rattle.usb_world.specs.Live.{pend}
+use Rattle.usb_world.specs.Paths.{pend}
 use Rattle.usb_world.specs.Steps.{here}
 use Rattle.usb_world.specs.World.{World}
-use Rattle.usb_world.proofs.WorldLaws.{pending_persists, course_wider, course_joined}
+use Rattle.usb_world.proofs.Interface.{course_joined, course_wider, pending_persists}
 use Rattle.usb_bus.specs.Traced.{WentOn}
 use Rattle.usb_address.specs.Claims.{Claims}
 use Rattle.usb_address.specs.Owned.{Owned, TillFault, KeepsAddresses}
-use Rattle.usb_address.proofs.Keeping.{keeps_none, keeps_then}
-use Rattle.usb_transaction.specs.Why.{NoThreeDamaged}
+use Rattle.usb_address.proofs.Interface.{keeps_none, keeps_then, live_port}
+use Rattle.usb_transaction.specs.Failures.{NoThreeDamaged}
 use Rattle.usb_pipe.specs.declared.fault.PipeFault.{PipeFault}
 use Rattle.usb_pipe.specs.declared.fault.PipeFault.TheVariants as pipe
-use Rattle.usb_pipe.specs.Whole.{IsNotOfBus}
+use Rattle.usb_pipe.specs.Leaves.{IsNotOfBus}
 use Rattle.usb_hub.specs.declared.port.HubPort.{HubPort}
 use Rattle.usb_hub.specs.declared.port.HubPort.TheVariants.{Root, External}
-use Rattle.usb_hub.specs.Addresses.{IsAt, StaysAs, KeepsDevices, KeepsAsked, KeepsCleared}
+use Rattle.usb_hub.specs.Addresses.{IsAt, KeepsDevices, KeepsAsked, KeepsCleared}
 use Rattle.usb_hub.specs.Moments.{TellsPort, CallsPort, IsCall}
 use Rattle.usb_hub.specs.Port.{PortRead}
 use Rattle.usb_hub.specs.Requests.{AllRest, said_in}
-use Rattle.usb_hub.specs.Why.{IsServed}
-use Rattle.usb_hub.proofs.Devices.{stays_none, stays_joined}
+use Rattle.usb_hub.specs.Why.{NoHubFailed}
+use Rattle.usb_hub.proofs.Interface.{stays_none}
 use Rattle.usb_enum.specs.declared.fault.EnumFault.{EnumFault}
 use Rattle.usb_enum.specs.declared.fault.EnumFault.TheVariants.{ParentLost}
 use Rattle.usb_enum.specs.Stop.{fault_at_port, at_port}
 use Rattle.usb_enum.specs.Present.{IsInOrder}
-use Rattle.usb_enum.proofs.Courses.{went_sound, went_in_order}
-use Rattle.usb_enum.proofs.Sharing.{went_unshared}
-use Rattle.usb_world.proofs.Devices.{each_joined}
-use Rattle.usb_host.specs.Handling.{GoesOn, RestElsewhere, HasWay, IsLost, Watches, Tidies, Clears, Decides}
+use Rattle.usb_enum.proofs.Interface.{devices_then, went_in_order, went_sound, went_three}
+use Rattle.usb_host.specs.Handling.{LetsGoOn, RestElsewhere, HasWay, IsLost, Watches, Tidies, ClearsChange, Decides}
 use Rattle.usb_host.specs.Owning.{BaresPort}
 use Rattle.usb_host.proofs.Clearings.{cleared_way, told_decides, decided_stays}
-use Rattle.usb_host.proofs.Fairness.{went_later, undamaged_later}
 use Rattle.usb_host.proofs.Handlings.{bares_after}
 use Rattle.usb_host.proofs.Tidied.{Tidy, enable, reset, tidy_call, holds_then, holds_same, tidied_holds}
-use Rattle.usb_host.proofs.Trees.{live_port}
 
 -- How a fault is told
 
-pub goes_sound : (A B : Type 0) (fault : PipeFault) → GoesOn {A = A} (Err (fault_at_port fault)) → IsNotOfBus {A = B} (Err fault)
+pub goes_sound : (A B : Type 0) (fault : PipeFault) → LetsGoOn {A = A} (Err (fault_at_port fault)) → IsNotOfBus {A = B} (Err fault)
 goes_sound A B pipe.Stalled h = tt
 goes_sound A B pipe.Busy h = tt
 goes_sound A B pipe.NoAnswer h = tt
@@ -53,14 +49,14 @@ goes_sound A B pipe.Broken h = tt
 goes_sound A B (pipe.Bus fault) h = absurd h
 goes_sound A B pipe.Memory h = tt
 
-pub sound_by : {A : Type 0} (result : Result A PipeFault) → GoesOn (at_port result) → IsNotOfBus result
+pub sound_by : {A : Type 0} (result : Result A PipeFault) → LetsGoOn (at_port result) → IsNotOfBus result
 sound_by (Ok x) h = tt
 sound_by {A = A} (Err fault) h = goes_sound A A fault h
 
-pub lost_goes : {A : Type 0} (result : Result A PipeFault) → at_port result ≡ Err ParentLost → GoesOn (at_port result)
-lost_goes result e = subst GoesOn (sym e) tt
+pub lost_goes : {A : Type 0} (result : Result A PipeFault) → at_port result ≡ Err ParentLost → LetsGoOn (at_port result)
+lost_goes result e = subst LetsGoOn (sym e) tt
 
-unserved_by : (A B : Type 0) (fault : PipeFault) → fault_at_port fault ≡ ParentLost → IsServed {A = B} (Err fault) → ⊥
+unserved_by : (A B : Type 0) (fault : PipeFault) → fault_at_port fault ≡ ParentLost → NoHubFailed {A = B} (Err fault) → ⊥
 unserved_by A B pipe.Stalled e h = h
 unserved_by A B pipe.Busy e h = h
 unserved_by A B pipe.NoAnswer e h = h
@@ -68,7 +64,7 @@ unserved_by A B pipe.Broken e h = h
 unserved_by A B (pipe.Bus fault) e h = absurd (cc e)
 unserved_by A B pipe.Memory e h = absurd (cc e)
 
-pub lost_unserved : {A : Type 0} (result : Result A PipeFault) → at_port result ≡ Err ParentLost → IsServed result → ⊥
+pub lost_unserved : {A : Type 0} (result : Result A PipeFault) → at_port result ≡ Err ParentLost → NoHubFailed result → ⊥
 lost_unserved (Ok x) e h = absurd (cc e)
 lost_unserved {A = A} (Err fault) e h = unserved_by A A fault (cc e) h
 
@@ -171,9 +167,6 @@ disabled_so status (Err fault) = Err (fault_at_port fault)
 
 -- Calls one after another
 
-pub devices_then : (u w v : World) → (v.shared ≡ false → w.shared ≡ false) → KeepsDevices u w → KeepsDevices w v → KeepsDevices u v
-devices_then u w v single x y = record { stays = λ alone. each_joined StaysAs StaysAs StaysAs stays_joined u w v (x.stays (single alone)) (y.stays alone) }
-
 pub elsewhere_then : (p : List ℕ) (u w v : World) → RestElsewhere p u w → RestElsewhere p w v → RestElsewhere p u v
 elsewhere_then p u w v x y z away = course_joined (x z away) (y z away)
 
@@ -181,22 +174,22 @@ module _ (port : HubPort) (m n : ℕ) (old mid new : World) {t s r q : Option (L
   pub tidies_then : (result : Result (Unit {0}) EnumFault) → Tidies port old (Ok tt) mid → Tidies port mid result new → Tidies port old result new
   tidies_then result x y = record {
     addresses = keeps_then old mid new x.addresses y.addresses;
-    devices = devices_then old mid new (went_unshared n mid new went) x.devices y.devices;
+    devices = devices_then n old mid new x.devices went y.devices;
     others = λ f p at owned goes. elsewhere_then p old mid new (x.others f p at owned tt) (y.others f p at (x.addresses.kept f owned) goes);
     stays = λ f p at owned done z way. holds_then z old mid new (x.stays f p at owned refl z way) (y.stays f p at (x.addresses.kept f owned) done z way);
-    lost = λ p few still alone e. y.lost p (undamaged_later old mid (went_later m old mid before (went_sound n mid new went still)).damages few) still alone e;
+    lost = λ p few still alone e. y.lost p (went_three m old mid before few) still alone e;
   }
 
   -- the change of connection was cleared before
-  pub clears_after : (result : Result PortStatus EnumFault) → CallsPort port (clear_call 16) old (Ok tt) mid → KeepsAddresses old mid → KeepsDevices old mid → Clears port mid result new → Clears port old result new
+  pub clears_after : (result : Result PortStatus EnumFault) → CallsPort port (clear_call 16) old (Ok tt) mid → KeepsAddresses old mid → KeepsDevices old mid → ClearsChange port mid result new → ClearsChange port old result new
   unfolding clear_call
   clears_after result calls k d x = record {
     bares = bares_kept result x.bares;
-    devices = devices_then old mid new (went_unshared n mid new went) d x.devices;
+    devices = devices_then n old mid new d went x.devices;
     others = λ f p at owned goes. elsewhere_then p old mid new (calls.rests f p ClearConnectionChange (call f p at owned) tt) (x.others f p at (k.kept f owned) goes);
     decides = λ f p at owned way order still. x.decides f p at (k.kept f owned) (cleared_way p old mid (calls.done f p ClearConnectionChange (call f p at owned) refl) way) (went_in_order m old mid before order) still;
     lost = λ f p at owned way few still alone e. x.lost f p at (k.kept f owned) (cleared_way p old mid (calls.done f p ClearConnectionChange (call f p at owned) refl) way)
-        (undamaged_later old mid (went_later m old mid before (went_sound n mid new went still)).damages few) still alone e;
+        (went_three m old mid before few) still alone e;
   }
     where
       call : (f : Claims) (p : List ℕ) → IsAt f port p → TillFault (Owned f) old → IsCall f port p (clear_call 16) ClearConnectionChange old
@@ -208,11 +201,11 @@ module _ (port : HubPort) (m n : ℕ) (old mid new : World) {t s r q : Option (L
 
   -- the status was told, and then the port was told to pass nothing on
   pub clears_disabled : (status : PortStatus) (result : Result (Unit {0}) PipeFault) → PortRead port old (Ok status) mid → TellsPort port old (Ok status) mid → KeepsAsked port old (Ok status) mid
-      → CallsPort port (clear_call 1) mid result new → KeepsCleared port 1 mid result new → Clears port old (disabled_so status result) new
+      → CallsPort port (clear_call 1) mid result new → KeepsCleared port 1 mid result new → ClearsChange port old (disabled_so status result) new
   unfolding clear_call
   clears_disabled status result read tells asked calls keeps = record {
     bares = bares result keeps;
-    devices = devices_then old mid new (went_unshared n mid new went) asked.devices keeps.devices;
+    devices = devices_then n old mid new asked.devices went keeps.devices;
     others = λ f p at owned goes. elsewhere_then p old mid new (λ x away. read_rests port old (Ok status) mid read tt x) (calls.rests f p ClearEnable (call f p at owned) (goes_by result goes));
     decides = λ f p at owned way order still. decided result f p at owned way order still calls;
     lost = λ f p at owned way few still alone e. lost result f p at owned few still alone e calls;
@@ -221,7 +214,7 @@ module _ (port : HubPort) (m n : ℕ) (old mid new : World) {t s r q : Option (L
       call : (f : Claims) (p : List ℕ) → IsAt f port p → TillFault (Owned f) old → IsCall f port p (clear_call 1) ClearEnable mid
       call f p at owned = record { at = at; is = refl; alone = λ resets. absurd (cc resets); owned = asked.keeps.kept f owned }
 
-      goes_by : (result : Result (Unit {0}) PipeFault) → GoesOn (disabled_so status result) → IsNotOfBus result
+      goes_by : (result : Result (Unit {0}) PipeFault) → LetsGoOn (disabled_so status result) → IsNotOfBus result
       goes_by (Ok done) h = tt
       goes_by (Err fault) h = goes_sound PortStatus (Unit {0}) fault h
 
@@ -241,11 +234,11 @@ module _ (port : HubPort) (m n : ℕ) (old mid new : World) {t s r q : Option (L
           → CallsPort port (clear_call 1) mid result new → IsLost port p new
       lost (Ok done) f p at owned few still alone e calls = absurd (cc e)
       lost (Err fault) f p at owned few still alone e calls =
-          call_lost port 1 ClearEnable refl mid (Err fault) new calls p (undamaged_later old mid (went_later m old mid before (went_sound n mid new went still)).damages few) still alone (ap Err (cc e))
+          call_lost port 1 ClearEnable refl mid (Err fault) new calls p (went_three m old mid before few) still alone (ap Err (cc e))
 
 -- The clearing of a change of connection
 
-pub clears_failed : (port : HubPort) (old : World) (fault : PipeFault) (new : World) → CallsPort port (clear_call 16) old (Err fault) new → KeepsCleared port 16 old (Err fault) new → Clears port old (Err (fault_at_port fault)) new
+pub clears_failed : (port : HubPort) (old : World) (fault : PipeFault) (new : World) → CallsPort port (clear_call 16) old (Err fault) new → KeepsCleared port 16 old (Err fault) new → ClearsChange port old (Err (fault_at_port fault)) new
 unfolding clear_call
 clears_failed port old fault new calls keeps = record {
   bares = keeps.keeps;
@@ -256,7 +249,7 @@ clears_failed port old fault new calls keeps = record {
 }
 
 -- the status after it failed, or was told
-pub clears_untold : (port : HubPort) (old : World) (fault : EnumFault) (new : World) → Watches port old (Err fault) new → Clears port old (Err fault) new
+pub clears_untold : (port : HubPort) (old : World) (fault : EnumFault) (new : World) → Watches port old (Err fault) new → ClearsChange port old (Err fault) new
 clears_untold port old fault new x = record {
   bares = x.addresses;
   devices = x.devices;
@@ -266,7 +259,7 @@ clears_untold port old fault new x = record {
 }
 
 pub clears_told : (port : HubPort) (n : ℕ) (old : World) (status : PortStatus) (new : World) {t s : Option (List ℕ)} → WentOn n old t new s → status.enabled ≡ false → PortRead port old (Ok status) new → TellsPort port old (Ok status) new → KeepsAsked port old (Ok status) new
-    → Clears port old (Ok status) new
+    → ClearsChange port old (Ok status) new
 clears_told port n old status new went off read tells asked = record {
   bares = asked.bare status refl off;
   devices = asked.devices;

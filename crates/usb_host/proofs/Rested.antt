@@ -2,30 +2,33 @@
 use Rattle.std.proofs.Common.{◌≡◌, inl, inr, refl, sym, ap, subst, ◌∙◌, arith, length-append, ℕ, Bool, true, false, List, [], ◌∷◌, length, Option, None, Some, Err}
 use Rattle.std.specs.Prelude.{IsSome, IsSomeAnd}
 use Rattle.usb_port.specs.Order.{parent_of, port_of}
-use Rattle.usb_port.proofs.OrderLaws.{rejoined}
+use Rattle.usb_port.proofs.Interface.{rejoined}
 use Rattle.usb_device.specs.Rows.{State}
 use Rattle.usb_world.specs.Devices.{Was}
-use Rattle.usb_world.specs.Live.{is_way}
+use Rattle.usb_world.specs.Paths.{is_way}
 use Rattle.usb_world.specs.World.{World}
+use Rattle.usb_world.proofs.Interface.{way_apart, way_parent, way_shorter}
 use Rattle.usb_address.specs.Owned.{KeepsAddresses}
 use Rattle.usb_hub.specs.Addresses.{StaysAs, EachElsewhere, KeepsDevices}
 use Rattle.usb_hub.specs.Requests.{AllRest}
+use Rattle.usb_hub.proofs.Interface.{stays-registers, stays-spec}
 use Rattle.usb_enum.specs.declared.fault.EnumFault.{EnumFault}
 use Rattle.usb_enum.specs.declared.fault.EnumFault.TheVariants.{ParentLost, Bus, Memory}
 use Rattle.usb_enum.specs.declared.finding.Finding.{Finding}
 use Rattle.usb_enum.specs.declared.finding.Finding.TheVariants.{Device, Refused}
 use Rattle.usb_enum.specs.Places.{IsKnownAs, IsOccupied}
 use Rattle.usb_enum.specs.Stop.{FaultAt}
-use Rattle.usb_enum.proofs.Courses.{went_sound, went_in_order}
+use Rattle.usb_enum.proofs.Interface.{went_in_order, went_sound}
 use Rattle.usb_table.specs.declared.known.KnownPort.{KnownPort}
 use Rattle.usb_table.specs.Known.{known_port, port_below, port_found, is_below_hub}
 use Rattle.usb_table.specs.Listing.{finding_at}
+use Rattle.usb_table.specs.Transfers.{SameSettings}
 use Rattle.usb_host.specs.Agreement.{Agrees}
-use Rattle.usb_host.specs.Handling.{GoesOn, RestElsewhere, PortSound}
+use Rattle.usb_host.specs.Handling.{LetsGoOn, RestElsewhere, PortSound}
 use Rattle.usb_host.specs.Hosting.{Hosting}
 use Rattle.usb_host.specs.Ports.{StandsAt}
 use Rattle.usb_host.specs.Progress.{HostWent, Rests}
-use Rattle.usb_host.specs.Sound.{Known, KnownBut, Truthful, TruthfulBut, IsSound, IsSoundBut, IsDroppable, IsStill, EachStill, EachStillBut}
+use Rattle.usb_host.specs.Sound.{Known, KnownBut, Truthful, TruthfulBut, IsSound, IsSoundBut, IsDroppable, EachStill, EachStillBut}
 use Rattle.usb_host.proofs.Handlings.{owned_rests, but_rests}
 use Rattle.usb_host.proofs.Levelled.{level_rests}
 use Rattle.usb_host.proofs.Owners.{but_all, but_above}
@@ -33,12 +36,11 @@ use Rattle.usb_host.proofs.Roots.{rooted_kept, accounted}
 use Rattle.usb_host.proofs.Settled.{listed_port, reached_there}
 use Rattle.usb_host.proofs.Stations.{lost_above}
 use Rattle.usb_host.proofs.Stays.{known_each, known_but_each, truthful_stays, truthful_but_stays}
-use Rattle.usb_host.proofs.Ways.{way_apart, way_parent, way_shorter}
 
 -- Devices
 
-still_was : (w : World) (j : ℕ) (p : List ℕ) (s : State) → Was StaysAs w j p s → Was (λ _ _. IsStill) w j p s
-still_was w j p s x = record { before = x.before; on = x.on; stands = x.stands; so = (x.so.0, x.so.1) }
+still_was : (w : World) (j : ℕ) (p : List ℕ) (s : State) → Was StaysAs w j p s → Was SameSettings w j p s
+still_was w j p s x = record { before = x.before; on = x.on; stands = x.stands; so = (stays-spec x.before s x.so, stays-registers x.before s x.so) }
 
 pub each_still : (w v : World) → KeepsDevices w v → v.shared ≡ false → EachStill w v
 each_still w v k single j p s on at = still_was w j p s (k.stays single j p s on at)
@@ -107,7 +109,7 @@ hub_some : (o : Option Finding) (below : Bool) (n : ℕ) → IsSome (port_found 
 hub_some None below n h = absurd (cc h)
 hub_some (Some f) below n h = (f, refl)
 
-occupied_by : (w : World) (path : List ℕ) (f : Finding) → IsKnownAs w path (Some f) → IsOccupied w path
+pub occupied_by : (w : World) (path : List ℕ) (f : Finding) → IsKnownAs w path (Some f) → IsOccupied w path
 occupied_by w path f (inl x) = inl x
 occupied_by w path (Device device) (inr x) = let s : _ = reached_there w.roots path x.1 in inr (x.0, subst IsSome (sym s.1) refl)
 occupied_by w path (Refused cause) (inr x) = inr (x.0, x.1.0)
@@ -130,7 +132,7 @@ droppable_above path hub h above known agrees s = record { listed = subst IsSome
 -- A request at a port failed
 
 pub lost_sound : (path : List ℕ) (port : KnownPort) (a b : Hosting) (fault : EnumFault) → StandsAt path port a → FaultAt port.port fault b.world → IsSome (known_port path b.entries) → Agrees b.entries b.addresses
-    → (GoesOn {A = Unit {0}} (Err fault) → IsSoundBut path b) → PortSound path (Err fault) b
+    → (LetsGoOn {A = Unit {0}} (Err fault) → IsSoundBut path b) → PortSound path (Err fault) b
 lost_sound path port a b ParentLost s told known agrees but = by_parent (parent_of path) refl
   where
     by_parent : (o : Option (List ℕ)) → parent_of path ≡ o → IsSomeAnd o (λ hub. IsDroppable hub b)

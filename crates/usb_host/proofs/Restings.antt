@@ -1,38 +1,34 @@
 -- Where a round was quiet and no event came, nothing is left to do.
 use Rattle.std.proofs.Common.{◌≡◌, ◌≤◌, ◌⊎◌, ◌∙◌, inl, inr, refl, sym, ap, subst, arith, zero, suc, ℕ, ◌+◌, length-append, Bool, true, false, List, [], ◌∷◌, ◌++◌, length, Option, None, Some, Result, Ok, slice_get, is_some, if◌then◌else◌}
-use Rattle.std.specs.Prelude.{IfSome, IfNone, IsSome, IsSomeAnd, nat_lt}
-use Rattle.std.proofs.lemmas.Bool.{lt-ltb}
-use Rattle.std.specs.Cmp.Lexicographic.{nat_list_cmp_total}
-use Rattle.std.specs.Ordering.{ordering_reverse, is_eq}
+use Rattle.std.specs.Prelude.{IfSome, IfNone, IsSome, IsSomeAnd}
+use Rattle.std.specs.Ordering.{is_eq}
 use Rattle.std.specs.declared.cmp.Ordering.{Ordering}
 use Rattle.std.specs.declared.cmp.Ordering.TheVariants.{Less, Equal, Greater}
 use Rattle.usb_port.specs.Order.{path_cmp, parent_of, port_of}
 use Rattle.usb_port.specs.PortState.{PortState}
-use Rattle.usb_port.proofs.OrderLaws.{rejoined}
+use Rattle.usb_port.proofs.Interface.{rejoined}
 use Rattle.usb_resources.specs.Pool.{Addresses, IsFull}
 use Rattle.usb_device.specs.Tree.{row_of, port_at}
 use Rattle.usb_device.specs.View.{port_there}
-use Rattle.usb_world.specs.Live.{pend}
-use Rattle.usb_world.specs.Steps.{here}
+use Rattle.usb_world.specs.Paths.{pend}
 use Rattle.usb_world.specs.World.{World, root_row, roots_of, change_of, changes}
-use Rattle.usb_world.proofs.Booleans.{no}
-use Rattle.usb_world.proofs.WorldLaws.{pending_persists, course_wider, course_joined}
+use Rattle.usb_world.proofs.Interface.{course_joined, course_wider, no, pending_persists}
 use Rattle.usb_hub.specs.Requests.{AllRest}
-use Rattle.usb_hub.proofs.Statuses.{row_port}
-use Rattle.usb_enum.proofs.Courses.{went_sound}
+use Rattle.usb_hub.proofs.Interface.{row_port}
+use Rattle.usb_enum.proofs.Interface.{went_sound}
 use Rattle.usb_enum.specs.declared.cause.Cause.TheVariants.{NoAddress}
 use Rattle.usb_enum.specs.declared.finding.Finding.{Finding}
 use Rattle.usb_enum.specs.declared.finding.Finding.TheVariants.{Device, Refused}
 use Rattle.usb_enum.specs.declared.hub.HubFacts.{HubFacts}
 use Rattle.usb_table.specs.Entries.{Entries}
 use Rattle.usb_table.specs.Findings.{is_hub, is_waiting}
-use Rattle.usb_table.specs.Listing.{hub_in, hub_at, IsListedPort, IsPortBelow, ListsEach}
-use Rattle.usb_table.specs.Next.{IsAfter, Stands, IsNext, IsLast}
-use Rattle.usb_table.proofs.Paths.{path_tied}
+use Rattle.usb_table.specs.Listing.{hub_facts_in, hub_facts_at, IsListedPort, IsPortBelow, ListsEach}
+use Rattle.usb_table.specs.Next.{ComesAfter, Stands, IsNext, IsLast}
+use Rattle.usb_table.proofs.Interface.{path_tied}
 use Rattle.usb_host.specs.Agreement.{Agrees}
 use Rattle.usb_host.specs.Hosting.{Hosting}
 use Rattle.usb_host.specs.Owning.{IsRooted}
-use Rattle.usb_host.specs.Progress.{Goes, Did, Remains, either}
+use Rattle.usb_host.specs.Progress.{HostGoes, Did, Remains, either}
 use Rattle.usb_host.specs.declared.fault.HostFault.{HostFault}
 use Rattle.usb_host.specs.Sound.{IsSound, IsSilent, IsAtRest, NoneWaiting, StaysSound, RootsRest, HubKeeps, HubsKeep, LooksKeep}
 use Rattle.usb_host.specs.declared.host.Round.{Round}
@@ -42,6 +38,8 @@ use Rattle.usb_host.proofs.Calm.{calm_port, pend_below}
 use Rattle.usb_host.proofs.Polls.{hub_there}
 use Rattle.usb_host.proofs.Roots.{accounted}
 use Rattle.usb_host.proofs.Settled.{listed_port}
+use Rattle.usb_host.proofs.Risings.{turned}
+use Rattle.usb_host.proofs.Stations.{root_alone}
 
 -- Rounds that are quiet
 
@@ -70,7 +68,7 @@ none_told o u e h = subst (λ (x : Option PortState). IfSome x (λ b. b.connecti
 pub silent_stays : (hub : List ℕ) (b c : Hosting) → c.entries ≡ b.entries → AllRest b.world c.world → c.world.taken ≡ b.world.taken → IsSilent hub b → IsSilent hub c
 silent_stays hub b c same rests taken silent facts number at least most =
     none_told (port_there b.world.roots (hub ++ (number ∷ []))) (port_there c.world.roots (hub ++ (number ∷ []))) (calm_port (hub ++ (number ∷ [])) (rests (hub ++ (number ∷ []))) taken)
-    (silent facts number (ap (λ (es : Entries). hub_at hub es) (sym same) ∙ at) least most)
+    (silent facts number (ap (λ (es : Entries). hub_facts_at hub es) (sym same) ∙ at) least most)
 
 -- what does not pend now did not before
 pub pended : (path : List ℕ) (w v : World) → AllRest w v → pend v.roots path ≡ false → pend w.roots path ≡ false
@@ -84,25 +82,22 @@ pended path w v rests none = pick (pend w.roots path) refl
 
 -- a hub that does not come after the last one was polled
 abbrev pub Polled : Option (List ℕ) → Hosting → Type 0
-Polled last h = (hub : List ℕ) → (IsAfter last hub → ⊥) → pend h.world.roots hub ≡ false → IsSilent hub h
+Polled last h = (hub : List ℕ) → (ComesAfter last hub → ⊥) → pend h.world.roots hub ≡ false → IsSilent hub h
 
-stands_hub : (last : Option (List ℕ)) (hub : List ℕ) (es : Entries) (facts : HubFacts) → hub_at hub es ≡ Some facts → IsAfter last hub → Stands is_hub last es hub
+stands_hub : (last : Option (List ℕ)) (hub : List ℕ) (es : Entries) (facts : HubFacts) → hub_facts_at hub es ≡ Some facts → ComesAfter last hub → Stands is_hub last es hub
 stands_hub last hub es facts at after =
     let there = hub_there hub es facts at in
     record { finding = Device there.device; found = there.found; fits = ap is_some there.told; after = after }
 
-hub_some : (f : Finding) → is_hub f ≡ true → IsSome (hub_in (Some f))
+hub_some : (f : Finding) → is_hub f ≡ true → IsSome (hub_facts_in (Some f))
 hub_some (Device device) h = h
 hub_some (Refused cause) h = absurd (cc h)
 
 -- the next hub is listed
-pub next_listed : (last : Option (List ℕ)) (hub : List ℕ) (es : Entries) → IsNext is_hub last es hub → IsSome (hub_at hub es)
-next_listed last hub es is = subst (λ o. IsSome (hub_in o)) (sym is.stands.found) (hub_some is.stands.finding is.stands.fits)
+pub next_listed : (last : Option (List ℕ)) (hub : List ℕ) (es : Entries) → IsNext is_hub last es hub → IsSome (hub_facts_at hub es)
+next_listed last hub es is = subst (λ o. IsSome (hub_facts_in o)) (sym is.stands.found) (hub_some is.stands.finding is.stands.fits)
 
-turned : (path first : List ℕ) → path_cmp path first ≡ Greater → path_cmp first path ≡ Less
-turned path first is = nat_list_cmp_total.antisymm first path ∙ ap ordering_reverse is
-
-after_or_not : (last : Option (List ℕ)) (hub : List ℕ) → IsAfter last hub ⊎ (IsAfter last hub → ⊥)
+after_or_not : (last : Option (List ℕ)) (hub : List ℕ) → ComesAfter last hub ⊎ (ComesAfter last hub → ⊥)
 after_or_not None hub = inl tt
 after_or_not (Some last) hub = pick (path_cmp last hub) refl
   where
@@ -116,10 +111,10 @@ module _ (last : Option (List ℕ)) (next : List ℕ) (b c : Hosting) (is : IsNe
   pub polled_next : Polled (Some next) c
   polled_next hub not none facts number at least most = pick (path_cmp next hub) refl
     where
-      was : hub_at hub b.entries ≡ Some facts
-      was = ap (λ (es : Entries). hub_at hub es) (sym same) ∙ at
+      was : hub_facts_at hub b.entries ≡ Some facts
+      was = ap (λ (es : Entries). hub_facts_at hub es) (sym same) ∙ at
 
-      earlier : (IsAfter last hub → ⊥) → IfSome (port_there c.world.roots (hub ++ (number ∷ []))) (λ b. b.connection_changed ≡ false)
+      earlier : (ComesAfter last hub → ⊥) → IfSome (port_there c.world.roots (hub ++ (number ∷ []))) (λ b. b.connection_changed ≡ false)
       earlier before_last = silent_stays hub b c same rests taken (before hub before_last (pended hub b.world c.world rests none)) facts number at least most
 
       pick : (o : Ordering) → path_cmp next hub ≡ o → IfSome (port_there c.world.roots (hub ++ (number ∷ []))) (λ b. b.connection_changed ≡ false)
@@ -134,7 +129,7 @@ module _ (last : Option (List ℕ)) (next : List ℕ) (b c : Hosting) (is : IsNe
       ]
 
 -- two parts, of which the second polled the next hub
-module _ (m n : ℕ) (r s : Round) (a b c : Hosting) (p : Goes m a b) (q : Goes n b c) (quiet : either r s ≡ Quiet) (still : c.world.fault ≡ None) where
+module _ (m n : ℕ) (r s : Round) (a b c : Hosting) (p : HostGoes m a b) (q : HostGoes n b c) (quiet : either r s ≡ Quiet) (still : c.world.fault ≡ None) where
   pub calm_then : (r ≡ Quiet → b.world.fault ≡ None → AllRest a.world b.world) → (done s ≡ done Quiet → c.world.fault ≡ None → AllRest b.world c.world) → AllRest a.world c.world
   calm_then x y = rests_then a.world b.world c.world (x (quiet_first r s quiet) (went_sound n b.world c.world q.went still)) (y (ap done (quiet_second r s quiet)) still)
 
@@ -182,15 +177,6 @@ root_clear : (w : World) (n : ℕ) → 1 ≤ n → changes (root_row w) ≡ 0 �
 root_clear w zero least none = absurd (omega (arith, least))
 root_clear w (suc i) least none = none_told (slice_get (row_of w.roots) i) (port_at w.roots i []) (row_port w.roots i) (changes_clear (row_of w.roots) i none)
 
-alone : (path : List ℕ) → 1 ≤ length path → parent_of path ≡ None → path ≡ port_of path ∷ []
-unfolding parent_of port_of
-alone [] some none = absurd (omega (arith, some))
-alone (n ∷ []) some none = refl
-alone (n ∷ m ∷ rest) some none =
-    let long : nat_lt 1 (length (n ∷ m ∷ rest)) ≡ true = lt-ltb 1 (length (n ∷ m ∷ rest)) (omega arith) in
-    let wrong = rw long at none in
-    absurd (cc wrong)
-
 module _ (a c : Hosting) (agrees : Agrees c.entries c.addresses) (rooted : IsRooted c) (rests : AllRest a.world c.world) (taken : c.world.taken ≡ a.world.taken)
     (none : changes (root_row a.world) ≡ 0) (silent : (hub : List ℕ) → pend c.world.roots hub ≡ false → IsSilent hub c) where
   root_rests : (n : ℕ) → 1 ≤ n → pend c.world.roots (n ∷ []) ≡ false
@@ -198,11 +184,11 @@ module _ (a c : Hosting) (agrees : Agrees c.entries c.addresses) (rooted : IsRoo
       pend_below c.world.roots [] n least refl
       (none_told (port_there a.world.roots (n ∷ [])) (port_there c.world.roots (n ∷ [])) (calm_port (n ∷ []) (rests (n ∷ [])) taken) (root_clear a.world n least none))
 
-  below_rests : (hub : List ℕ) (n : ℕ) → (IsListedPort (roots_of c.world) c.entries hub → pend c.world.roots hub ≡ false) → IsSomeAnd (hub_at hub c.entries) (λ facts. (1 ≤ n) × (n ≤ facts.ports))
+  below_rests : (hub : List ℕ) (n : ℕ) → (IsListedPort (roots_of c.world) c.entries hub → pend c.world.roots hub ≡ false) → IsSomeAnd (hub_facts_at hub c.entries) (λ facts. (1 ≤ n) × (n ≤ facts.ports))
       → pend c.world.roots (hub ++ (n ∷ [])) ≡ false
-  below_rests hub n above port = pick (hub_at hub c.entries) refl port
+  below_rests hub n above port = pick (hub_facts_at hub c.entries) refl port
     where
-      pick : (o : Option HubFacts) → hub_at hub c.entries ≡ o → IsSomeAnd o (λ facts. (1 ≤ n) × (n ≤ facts.ports)) → pend c.world.roots (hub ++ (n ∷ [])) ≡ false
+      pick : (o : Option HubFacts) → hub_facts_at hub c.entries ≡ o → IsSomeAnd o (λ facts. (1 ≤ n) × (n ≤ facts.ports)) → pend c.world.roots (hub ++ (n ∷ [])) ≡ false
       pick None at h = absurd h
       pick (Some facts) at h =
           let there = hub_there hub c.entries facts at in
@@ -211,7 +197,7 @@ module _ (a c : Hosting) (agrees : Agrees c.entries c.addresses) (rooted : IsRoo
 
   pends_step : (fuel : ℕ) (path : List ℕ) → length path ≤ suc fuel → ((hub : List ℕ) → length hub ≤ fuel → IsListedPort (roots_of c.world) c.entries hub → pend c.world.roots hub ≡ false) → 1 ≤ length path
       → (o : Option (List ℕ)) → parent_of path ≡ o → IsPortBelow (roots_of c.world) c.entries o (port_of path) → pend c.world.roots path ≡ false
-  pends_step fuel path short above some None is h = subst (λ (p : List ℕ). pend c.world.roots p ≡ false) (sym (alone path some is)) (root_rests (port_of path) h.0)
+  pends_step fuel path short above some None is h = subst (λ (p : List ℕ). pend c.world.roots p ≡ false) (sym (root_alone path some is)) (root_rests (port_of path) h.0)
   pends_step fuel path short above some (Some hub) is h =
       let joined : path ≡ hub ++ (port_of path ∷ []) = rejoined path hub is in
       let long : length path ≡ length hub + 1 = ap length joined ∙ length-append hub (port_of path ∷ []) in

@@ -24,7 +24,7 @@ above_all : (path first : List ℕ) (ks : List (List ℕ)) → path_cmp path fir
 above_all path first [] less h = tt
 above_all path first (k ∷ ks) less h = (nat_list_cmp_total.trans path first k less h.0, above_all path first ks less h.1)
 
-turned : (path first : List ℕ) → path_cmp path first ≡ Greater → path_cmp first path ≡ Less
+pub turned : (path first : List ℕ) → path_cmp path first ≡ Greater → path_cmp first path ≡ Less
 turned path first is = nat_list_cmp_total.antisymm first path ∙ ap ordering_reverse is
 
 rises_step : (path : List ℕ) (f : Finding) (e : List ℕ × Finding) (es : Entries) → Rises (e ∷ es) → Rises (insert_entry path_cmp es path f) → (o : Ordering) → path_cmp path e.0 ≡ o

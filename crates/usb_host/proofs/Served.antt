@@ -3,23 +3,23 @@ use Rattle.std.proofs.Common.{◌≡◌, ◌≤◌, ◌⊎◌, inl, inr, refl, s
 use Rattle.std.specs.Prelude.{IsSome, IfErr}
 use Rattle.usb_port.specs.Order.{parent_of, port_of}
 use Rattle.usb_port.specs.declared.status.PortStatus.{PortStatus}
-use Rattle.usb_world.specs.Live.{is_way}
+use Rattle.usb_world.specs.Paths.{is_way}
 use Rattle.usb_enum.specs.Present.{IsOrderly}
 use Rattle.usb_world.specs.World.{World, roots_of}
-use Rattle.usb_world.proofs.Booleans.{decided}
+use Rattle.usb_world.proofs.Interface.{decided}
 use Rattle.usb_hub.specs.declared.port.HubPort.TheVariants.{Root}
 use Rattle.usb_hub.specs.Port.{IsPort}
-use Rattle.usb_hub.proofs.Ports.{port_stays}
+use Rattle.usb_hub.proofs.Interface.{port_stays}
 use Rattle.usb_enum.specs.declared.fault.EnumFault.{EnumFault}
 use Rattle.usb_enum.specs.Places.{IsKnownAs}
 use Rattle.usb_enum.specs.Stop.{FaultAt}
-use Rattle.usb_enum.proofs.Courses.{went_sound, went_in_order}
+use Rattle.usb_enum.proofs.Interface.{went_in_order, went_sound}
 use Rattle.usb_table.specs.declared.known.KnownPort.{KnownPort}
 use Rattle.usb_table.specs.Entries.{has_at, without}
 use Rattle.usb_table.specs.Known.{known_port, root_port, port_below}
 use Rattle.usb_table.specs.Listing.{finding_at, IsListedPort}
 use Rattle.usb_host.specs.Agreement.{Agrees}
-use Rattle.usb_host.specs.Handling.{HasWay, Watches, Tidies, Clears, Decides, IsOpen, PortSound}
+use Rattle.usb_host.specs.Handling.{HasWay, Watches, Tidies, ClearsChange, Decides, IsOpen, PortSound}
 use Rattle.usb_host.specs.Hosting.{Hosting}
 use Rattle.usb_host.specs.Owning.{claims, StaysOwned}
 use Rattle.usb_host.specs.Ports.{StandsAt}
@@ -122,14 +122,14 @@ module _ (n : ℕ) (path : List ℕ) (port : KnownPort) (a b : Hosting) (s : Sta
   }
 
   -- the clearing failed
-  pub cleared_lost : (fault : EnumFault) → Clears port.port a.world (Err fault) b.world → FaultAt port.port fault b.world → IsSound a → PortSound path (Err fault) b
+  pub cleared_lost : (fault : EnumFault) → ClearsChange port.port a.world (Err fault) b.world → FaultAt port.port fault b.world → IsSound a → PortSound path (Err fault) b
   cleared_lost fault x told i =
       lost_sound path port a b fault s told (rests_known path port a b r s) (rests_agrees path port a b r s)
       (λ goes. sound_rests_but n a b r went x.bares path x.devices (λ still. x.others (claims a.entries) path (stands_at path port a s) i.owned goes) (but_of_sound path a i))
 
 -- Cleared, and forgotten
 
-module _ (n : ℕ) (path : List ℕ) (port : KnownPort) (a b c : Hosting) (status : PortStatus) (s : StandsAt path port a) (r : Rests a b) (went : HostWent n a b) (x : Clears port.port a.world (Ok status) b.world)
+module _ (n : ℕ) (path : List ℕ) (port : KnownPort) (a b c : Hosting) (status : PortStatus) (s : StandsAt path port a) (r : Rests a b) (went : HostWent n a b) (x : ClearsChange port.port a.world (Ok status) b.world)
     (others : c ≡ record b { entries = c.entries; pipes = c.pipes; addresses = c.addresses }) (rest : c.entries ≡ without path b.entries) (pipes : (y : List ℕ) → is_way path y ≡ false → pipes_at y (table_in c) ≡ pipes_at y (table_in b)) (gone : has_at path c.entries ≡ false) (i : IsSound a) where
   world_is : c.world ≡ b.world
   world_is = ap (λ (h : Hosting). h.world) others

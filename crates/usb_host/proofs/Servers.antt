@@ -1,25 +1,23 @@
 -- The hub of a port that is known serves the port, or a change of connection is pending at the hub.
 use Rattle.std.proofs.Common.{◌≡◌, ◌⊎◌, inl, inr, ◌≤◌, ◌&&◌, ◌||◌, not, arith, if◌then◌else◌, ℕ, zero, suc, Bool, true, false, List, [], ◌∷◌, length, Option, None, Some, refl, ap, sym, subst, ◌∙◌, length-append}
-use Rattle.std.specs.Prelude.{IsSomeAnd, nat_le, slice_index_or}
-use Rattle.std.proofs.lemmas.Bool.{eq-eqb, lt-ltb, leb-true}
+use Rattle.std.specs.Prelude.{IsSomeAnd, slice_index_or}
+use Rattle.std.proofs.lemmas.Bool.{eq-eqb, lt-ltb}
 use Rattle.usb_port.specs.Order.{parent_of, port_of}
-use Rattle.usb_port.proofs.OrderLaws.{rejoined}
+use Rattle.usb_port.proofs.Interface.{rejoined}
 use Rattle.usb_resources.specs.Pool.{IsAddress}
 use Rattle.usb_resources.specs.Power.{supply_of}
 use Rattle.usb_descriptor.specs.Config.{configuration_value}
 use Rattle.usb_device.specs.Spec.{Spec, Hub}
 use Rattle.usb_device.specs.Tree.{reach}
-use Rattle.usb_world.specs.Live.{address_of, is_way, pend}
+use Rattle.usb_world.specs.Paths.{address_of, is_way, pend}
 use Rattle.usb_world.specs.Passes.{deep_at}
-use Rattle.usb_world.specs.Plugged.{hub_ports}
+use Rattle.usb_world.specs.PluggedDevices.{hub_ports}
 use Rattle.usb_world.specs.Steps.{IsBetween}
 use Rattle.usb_world.specs.World.{World}
-use Rattle.usb_world.proofs.Booleans.{no, and_of}
-use Rattle.usb_world.proofs.SaneLaws.{sane_spec}
+use Rattle.usb_world.proofs.Interface.{and_of, no, sane_spec, way_shorter}
 use Rattle.usb_hub.specs.declared.port.HubPort.TheVariants.{External}
 use Rattle.usb_enum.specs.declared.finding.Accepted.{Accepted}
-use Rattle.usb_enum.specs.declared.finding.Finding.{Finding}
-use Rattle.usb_enum.specs.declared.finding.Finding.TheVariants.{Device, Refused}
+use Rattle.usb_enum.specs.declared.finding.Finding.TheVariants.{Device}
 use Rattle.usb_enum.specs.declared.hub.HubFacts.{HubFacts}
 use Rattle.usb_enum.specs.Described.{facts_of}
 use Rattle.usb_enum.specs.Device.{is_hub, target_of, configuration_of}
@@ -27,17 +25,17 @@ use Rattle.usb_enum.specs.Fair.{HasServer, ServesAt}
 use Rattle.usb_enum.specs.Places.{IsKnownAs}
 use Rattle.usb_table.specs.declared.known.KnownPort.{KnownPort}
 use Rattle.usb_table.specs.Entries.{Entries}
-use Rattle.usb_table.specs.Findings.{device_of}
+use Rattle.usb_table.specs.Findings.{accepted_device_of}
 use Rattle.usb_table.specs.Keys.{address_in}
-use Rattle.usb_table.specs.Known.{IsAskable, root_port, port_below, port_found, port_of_hub, is_below_hub}
+use Rattle.usb_table.specs.Known.{IsAskable, root_port, port_below, is_below_hub}
 use Rattle.usb_table.specs.Listing.{finding_at, tier_of}
+use Rattle.usb_table.proofs.Interface.{FoundPort, port_found-some}
 use Rattle.usb_host.specs.Hosting.{Hosting}
 use Rattle.usb_host.specs.Ports.{StandsAt}
 use Rattle.usb_host.specs.Sound.{IsToldAt, known_supply, IsSoundBut}
-use Rattle.usb_host.proofs.Accepted.{accepted_loud, accepted_free, accepted_value}
+use Rattle.usb_enum.proofs.Interface.{Accepts, accepts, chosen_some, has_chosen}
 use Rattle.usb_host.proofs.Roots.{accounted}
 use Rattle.usb_host.proofs.Settled.{listed_port, listed_address, port_number, reached_there}
-use Rattle.usb_host.proofs.Ways.{way_shorter}
 
 -- A hub that is accepted hears its target
 
@@ -70,11 +68,12 @@ module _ (w : World) (entries : Entries) (device : Accepted) (facts : HubFacts) 
   hub_serves (zero ∷ p) at on knows wide = no on
   hub_serves (suc j ∷ p) at on knows wide =
       let s : _ = reached_there w.roots (suc j ∷ p) on in
-      let t = knows device s.0 (ap device_of at) on s.1 in
+      let t = knows device s.0 (ap accepted_device_of at) on s.1 in
       let port : _ = facts_port s.0.spec facts n (sym t.found.1.hub ∙ told) least most in
       let tier = tier_of (suc j ∷ p) in
       let supply = known_supply (suc j ∷ p) entries in
-      let value : 1 ≤ configuration_value (configuration_of device) = subst (λ (texts : List (List ℕ)). 1 ≤ configuration_value (slice_index_or texts device.chosen [])) (sym t.found.1.configs) (accepted_value s.0.spec tier supply device.chosen t.found.0) in
+      let is : Accepts s.0.spec supply device.chosen = accepts s.0.spec tier supply device.chosen t.found.0 in
+      let value : 1 ≤ configuration_value (configuration_of device) = subst (λ (texts : List (List ℕ)). 1 ≤ configuration_value (slice_index_or texts device.chosen [])) (sym t.found.1.configs) (chosen_some s.0.spec device.chosen (has_chosen s.0.spec supply device.chosen is)) in
       record {
         serves = record {
           j = j;
@@ -84,7 +83,7 @@ module _ (w : World) (entries : Entries) (device : Accepted) (facts : HubFacts) 
           stands = s.1;
           listens = record {
             at = eq-eqb (address_of s.0) device.address t.set.address;
-            loud = accepted_loud s.0.spec tier supply device.chosen t.found.0;
+            loud = is.loud;
             hears = hears_by device.low s.0.spec.low (deep_at false p) (device.low && is_below_hub (suc j ∷ p)) t.found.1.low (λ low deep. and_of device.low (is_below_hub (suc j ∷ p)) low (below_of j p deep));
           };
           addressed = λ e. absurd (omega (arith, e, address.0));
@@ -94,7 +93,7 @@ module _ (w : World) (entries : Entries) (device : Accepted) (facts : HubFacts) 
             is = port.1;
             least = least;
             most = port.2;
-            idle = accepted_free s.0.spec tier supply device.chosen t.found.0;
+            idle = is.free;
             ruled = sane_spec w.roots j p s.0 between.sane s.1;
           };
         };
@@ -121,25 +120,11 @@ module _ (path : List ℕ) (port : KnownPort) (h : Hosting) (s : StandsAt path p
       pick (inl x) = inl x
       pick (inr x) = inr (hub_serves h.world h.entries device facts (port_of path) told (port_number path s.is).0 most address (i.order still).0 hub at x.1 (i.truthful still hub away) wide)
 
-  by_fit : (hub : List ℕ) (device : Accepted) (facts : HubFacts) → parent_of path ≡ Some hub → finding_at hub h.entries ≡ Some (Device device) → device.hub ≡ Some facts → (b : Bool) → nat_le (port_of path) facts.ports ≡ b
-      → (if b then Some (record { port = External (target_of device (is_below_hub hub)) (port_of path); supply = facts.supply }) else None) ≡ Some port → HasServer port.port path h.world
-  by_fit hub device facts above at told true fits e =
-      let same : record { port = External (target_of device (is_below_hub hub)) (port_of path); supply = facts.supply } ≡ port = cc e in
-      subst (λ (p : KnownPort). HasServer p.port path h.world) same (server_of hub device facts above at told (leb-true (port_of path) facts.ports fits) (subst (λ (p : KnownPort). IsAskable p.port) (sym same) s.askable).wide)
-  by_fit hub device facts above at told false fits e = absurd (cc e)
-
-  by_hub : (hub : List ℕ) (device : Accepted) (o : Option HubFacts) → parent_of path ≡ Some hub → finding_at hub h.entries ≡ Some (Device device) → device.hub ≡ o → port_of_hub device o (is_below_hub hub) (port_of path) ≡ Some port → HasServer port.port path h.world
-  by_hub hub device None above at told e = absurd (cc e)
-  by_hub hub device (Some facts) above at told e = by_fit hub device facts above at told (nat_le (port_of path) facts.ports) refl e
-
-  by_found : (hub : List ℕ) (o : Option Finding) → parent_of path ≡ Some hub → finding_at hub h.entries ≡ o → port_found o (is_below_hub hub) (port_of path) ≡ Some port → HasServer port.port path h.world
-  by_found hub None above at e = absurd (cc e)
-  by_found hub (Some (Refused cause)) above at e = absurd (cc e)
-  by_found hub (Some (Device device)) above at e = by_hub hub device device.hub above at refl e
-
   by_parent : (o : Option (List ℕ)) → parent_of path ≡ o → port_below o (port_of path) h.entries ≡ Some port → HasServer port.port path h.world
   by_parent None above e = let same : root_port (port_of path) ≡ port = cc e in subst (λ (p : KnownPort). HasServer p.port path h.world) same tt
-  by_parent (Some hub) above e = by_found hub (finding_at hub h.entries) above refl e
+  by_parent (Some hub) above e =
+      let x : FoundPort (finding_at hub h.entries) (is_below_hub hub) (port_of path) port = port_found-some (finding_at hub h.entries) (is_below_hub hub) (port_of path) port e in
+      subst (λ (p : KnownPort). HasServer p.port path h.world) (sym x.is) (server_of hub x.device x.facts above x.stands x.told x.most (subst (λ (p : KnownPort). IsAskable p.port) x.is s.askable).wide)
 
   pub hub_server : HasServer port.port path h.world
   hub_server = by_parent (parent_of path) refl s.known

@@ -1,7 +1,7 @@
 -- Where nothing is left to do, a host that knows its ports lists what is plugged.
 use Rattle.std.proofs.Common.{◌≡◌, ◌⊎◌, inl, inr, ◌≤◌, ◌-◌, ℕ, zero, suc, Bool, true, false, List, [], ◌∷◌, length, Option, None, Some, option_map, if◌then◌else◌, refl, ap, sym, subst, ◌∙◌, arith}
 use Rattle.std.specs.Prelude.{⊤, IsSome, IsSomeAnd, unwrap_or, nat_le}
-use Rattle.std.proofs.lemmas.Bool.{leb-true, le-leb}
+use Rattle.std.proofs.lemmas.Bool.{le-leb}
 use Rattle.std.proofs.lemmas.List.Elements.{All-get_or}
 use Rattle.usb_port.specs.Order.{parent_of, port_of}
 use Rattle.usb_port.specs.Path.{IsPath, IsPortNumber}
@@ -11,12 +11,11 @@ use Rattle.usb_device.specs.Rows.{State}
 use Rattle.usb_device.specs.Spec.{Spec}
 use Rattle.usb_device.specs.Tree.{Ports, ended, vacant, taken, reach, reach_at, state_at}
 use Rattle.usb_device.specs.View.{state_there}
-use Rattle.usb_world.specs.Live.{pend}
-use Rattle.usb_world.specs.PluggedAt.{spec_of}
-use Rattle.usb_world.specs.Plugged.{hub_ports}
+use Rattle.usb_world.specs.Paths.{pend}
+use Rattle.usb_world.specs.PlanCourses.{spec_of}
+use Rattle.usb_world.specs.PluggedDevices.{hub_ports}
 use Rattle.usb_world.specs.World.{World, roots_of}
-use Rattle.usb_world.proofs.AddressesReset.{same_is}
-use Rattle.usb_world.proofs.Booleans.{no, both}
+use Rattle.usb_world.proofs.Interface.{both, no, same_is}
 use Rattle.usb_enum.specs.declared.cause.Cause.{Cause}
 use Rattle.usb_enum.specs.declared.finding.Accepted.{Accepted}
 use Rattle.usb_enum.specs.declared.finding.Finding.{Finding}
@@ -26,11 +25,12 @@ use Rattle.usb_enum.specs.Described.{facts_of, IsRight}
 use Rattle.usb_enum.specs.Device.{is_hub}
 use Rattle.usb_table.specs.declared.known.KnownPort.{KnownPort}
 use Rattle.usb_table.specs.Entries.{Entries}
-use Rattle.usb_table.specs.Findings.{device_of}
+use Rattle.usb_table.specs.Findings.{accepted_device_of}
 use Rattle.usb_table.specs.Known.{port_below, port_found, port_of_hub, is_below_hub}
-use Rattle.usb_table.specs.Listing.{tree_in, finding_at, address_at, hub_in, IsPortBelow, IsListedPort, tier_of, supply_below, supply_at, ListsEach, Matches}
+use Rattle.usb_table.specs.Listing.{tree_in, finding_at, entry_address, hub_facts_in, IsPortBelow, IsListedPort, tier_of, supply_below, supply_at, ListsEach, Matches}
+use Rattle.usb_table.proofs.Interface.{FoundPort, port_found-some}
 use Rattle.usb_enum.specs.Places.{IsThere, IsKnownAs}
-use Rattle.usb_host.specs.Sound.{Known, known_supply, Tells, Truthful, Causes, Accounted, IsAtRest}
+use Rattle.usb_host.specs.Sound.{Known, known_supply, IsTruthOf, Truthful, Causes, Accounted, IsAtRest}
 use Rattle.usb_host.proofs.Claimed.{claims_distinct, claims_taken}
 
 -- A reachable device stands
@@ -56,18 +56,14 @@ pub port_number : (path : List ℕ) → IsPath path → IsPortNumber (port_of pa
 unfolding port_of
 port_number path is = let some = is.0 in All-get_or IsPortNumber path (length path - 1) 0 (omega (arith, some)) is.2
 
-within : (facts : HubFacts) (n : ℕ) (b : Bool) (port : KnownPort) → nat_le n facts.ports ≡ b → IsSome (if b then Some port else None) → n ≤ facts.ports
-within facts n true port e h = leb-true n facts.ports e
-within facts n false port e h = absurd cc
-
-hub_port : (o : Option Finding) (below : Bool) (n : ℕ) → 1 ≤ n → IsSome (port_found o below n) → IsSomeAnd (hub_in o) (λ facts. (1 ≤ n) × (n ≤ facts.ports))
-hub_port None below n least h = absurd cc
-hub_port (Some (Refused cause)) below n least h = absurd cc
-hub_port (Some (Device device)) below n least h = pick device.hub h
+hub_port : (o : Option Finding) (below : Bool) (n : ℕ) → 1 ≤ n → IsSome (port_found o below n) → IsSomeAnd (hub_facts_in o) (λ facts. (1 ≤ n) × (n ≤ facts.ports))
+hub_port o below n least h = pick (port_found o below n) refl h
   where
-    pick : (o : Option HubFacts) → IsSome (port_of_hub device o below n) → IsSomeAnd o (λ facts. (1 ≤ n) × (n ≤ facts.ports))
-    pick None h = absurd cc
-    pick (Some facts) h = (least, within facts n (nat_le n facts.ports) _ refl h)
+    pick : (found : Option KnownPort) → port_found o below n ≡ found → IsSome found → IsSomeAnd (hub_facts_in o) (λ facts. (1 ≤ n) × (n ≤ facts.ports))
+    pick None e h = absurd cc
+    pick (Some port) e h =
+        let x : FoundPort o below n port = port_found-some o below n port e in
+        subst (λ f. IsSomeAnd f (λ facts. (1 ≤ n) × (n ≤ facts.ports))) (sym (ap hub_facts_in x.stands ∙ x.told)) (least, x.most)
 
 pub port_below_hub : (roots : ℕ) (entries : Entries) (n : ℕ) (o : Option (List ℕ)) → 1 ≤ n → (o ≡ None → n ≤ roots) → IsSome (port_below o n entries) → IsPortBelow roots entries o n
 port_below_hub roots entries n None least most h = (least, most refl)
@@ -80,15 +76,15 @@ module _ (w : World) (entries : Entries) (addresses : Addresses) (accounted : Ac
       let is = accounted.agrees.nested.path path f at in
       record { some = is.0; port = port_below_hub (roots_of w) entries (port_of path) (parent_of path) (port_number path is).0 (accounted.root path some) (accounted.agrees.nested.each path f at) }
 
-  pub listed_address : (path : List ℕ) (address : ℕ) → address_at path entries ≡ Some address → IsAddress address
+  pub listed_address : (path : List ℕ) (address : ℕ) → entry_address path entries ≡ Some address → IsAddress address
   listed_address path address at = accounted.agrees.range address (claims_taken entries addresses accounted.agrees.accounts path address at)
 
-  listed_once : (path other : List ℕ) (address : ℕ) → address_at path entries ≡ Some address → address_at other entries ≡ Some address → path ≡ other
+  listed_once : (path other : List ℕ) (address : ℕ) → entry_address path entries ≡ Some address → entry_address other entries ≡ Some address → path ≡ other
   listed_once path other address at same = sym (same_is path other (claims_distinct entries addresses accounted.agrees.accounts path other address at same))
 
 -- What is known where nothing is pending
 
-device_is : (o : Option Finding) (device : Accepted) → device_of o ≡ Some device → o ≡ Some (Device device)
+device_is : (o : Option Finding) (device : Accepted) → accepted_device_of o ≡ Some device → o ≡ Some (Device device)
 device_is None device h = absurd cc
 device_is (Some (Device d)) device h = cc h
 device_is (Some (Refused cause)) device h = absurd cc
@@ -115,7 +111,7 @@ record IsHubAt (o : Option Finding) (below : Bool) (n : ℕ) : Type 0 where
   told : device.hub ≡ Some facts
   gives : unwrap_or (option_map (λ (known : KnownPort). known.supply) (port_found o below n)) 0 ≡ facts.supply
 
-hub_found : (o : Option Finding) (below : Bool) (n : ℕ) → IsSomeAnd (hub_in o) (λ facts. (1 ≤ n) × (n ≤ facts.ports)) → IsHubAt o below n
+hub_found : (o : Option Finding) (below : Bool) (n : ℕ) → IsSomeAnd (hub_facts_in o) (λ facts. (1 ≤ n) × (n ≤ facts.ports)) → IsHubAt o below n
 hub_found None below n h = absurd h
 hub_found (Some (Refused cause)) below n h = absurd h
 hub_found (Some (Device d)) below n h = let x : _ = supply_of_hub d below n d.hub h in record { device = d; facts = x.0; found = refl; told = x.1; gives = x.2 }
@@ -141,11 +137,11 @@ module _ (w : World) (entries : Entries) (addresses : Addresses) (accounted : Ac
   reached path device at = subst (IsThere w path) at (there_at path (listed_port w entries addresses accounted path (Device device) at))
 
   -- an accepted device stands, and what is known of it is so
-  told : (path : List ℕ) (device : Accepted) → finding_at path entries ≡ Some (Device device) → (s : State) × (state_there w.roots path ≡ Some s) × Tells entries path device s
+  told : (path : List ℕ) (device : Accepted) → finding_at path entries ≡ Some (Device device) → (s : State) × (state_there w.roots path ≡ Some s) × IsTruthOf entries path device s
   told path device at =
       let on = reached path device at in
       let s : _ = reached_there w.roots path on in
-      (s.0, s.1, truthful path device s.0 (ap device_of at) on s.1)
+      (s.0, s.1, truthful path device s.0 (ap accepted_device_of at) on s.1)
 
   supply_known : (o : Option (List ℕ)) (n : ℕ) → IsPortBelow (roots_of w) entries o n
       → unwrap_or (option_map (λ (known : KnownPort). known.supply) (port_below o n entries)) 0 ≡ supply_below (tree_in w) o

@@ -1,14 +1,14 @@
 -- A hub that answers a poll with NAK has no port whose change bits are set.
-use Rattle.std.proofs.Common.{◌≡◌, ◌≤◌, ◌<◌, ◌==◌, ◌&&◌, ◌+◌, ◌-◌, ◌∙◌, if◌then◌else◌, ℕ, zero, suc, nat_le, Bool, true, false, List, [], ◌∷◌, ◌++◌, length, take, Option, None, Some, refl, ap, sym, subst, arith, slice_get}
+use Rattle.std.proofs.Common.{◌≡◌, ◌≤◌, ◌<◌, ◌==◌, ◌∙◌, if◌then◌else◌, ℕ, zero, suc, nat_le, Bool, true, false, List, [], ◌∷◌, ◌++◌, length, Option, None, Some, refl, ap, sym, subst, arith, slice_get}
 use Rattle.std.specs.Prelude.{IfSome}
 use Rattle.std.proofs.lemmas.Bool.{eqb-true}
 use Rattle.usb_port.specs.PortState.{PortState, has_change}
 use Rattle.usb_device.specs.declared.answer.Answer.{Answer}
 use Rattle.usb_device.specs.declared.answer.Answer.TheVariants as answer
 use Rattle.usb_device.specs.declared.transfer.Giver.TheVariants as by
-use Rattle.usb_device.specs.Attempt.{Way, whole, broken, lost, is_whole, heard, gave, source_law, held_law, changes_law, in_bulk_law, in_law}
+use Rattle.usb_device.specs.Attempt.{Way, whole, broken, lost, heard, gave, held_law, in_law}
 use Rattle.usb_device.specs.Bulk.{tells_changes, change_bits}
-use Rattle.usb_device.specs.Rows.{State, Reply, forgotten, rest_of, bulk_of, bulk_ack_row}
+use Rattle.usb_device.specs.Rows.{State, Reply}
 use Rattle.usb_device.specs.Tree.{Ports, ended, vacant, taken, full, row_of, place_at, port_at, reach_at, state_at}
 use Rattle.usb_device.specs.View.{port_there}
 use Rattle.usb_world.specs.declared.types.Outcome.{Outcome}
@@ -16,59 +16,18 @@ use Rattle.usb_world.specs.declared.types.Outcome.TheVariants as outcome
 use Rattle.usb_world.specs.Devices.{Was, DidIn}
 use Rattle.usb_world.specs.OneHolder.{IsMade, got}
 use Rattle.usb_world.specs.Passes.{IsSettled}
-use Rattle.usb_world.specs.Requested.{leaves_step}
+use Rattle.usb_world.specs.PortRequests.{leaves_step}
 use Rattle.usb_world.specs.Steps.{attempt, after, ready, outcome_in}
 use Rattle.usb_world.specs.World.{World}
-use Rattle.usb_world.proofs.Booleans.{no}
-use Rattle.usb_world.proofs.Devices.{each_in}
-use Rattle.usb_world.proofs.OneHolderMore.{made_of, made_is}
-use Rattle.usb_world.proofs.RequestLawsBits.{made_port}
-use Rattle.usb_world.proofs.RequestLawsPlain.{data_asks_nothing}
+use Rattle.usb_world.proofs.Interface.{data_asks_nothing, each_in, made_is, made_of, made_port, no}
 use Rattle.usb_transaction.specs.declared.target.Target.{Target}
-use Rattle.usb_transaction.specs.Over.{is_at}
+use Rattle.usb_transaction.specs.Leaves.{is_at}
 use Rattle.usb_transaction.specs.Trail.{Trail, next}
-use Rattle.usb_transaction.specs.Trans.{in_attempt}
-use Rattle.usb_transaction.proofs.OverPoll.{law_is, only_changes}
-use Rattle.usb_transaction.proofs.Trails.{trail_settled}
-use Rattle.usb_hub.proofs.Statuses.{row_port}
-
--- IN of an endpoint other than 0 keeps a device's description and its registers
-
-abbrev Ran : State → State → Type 0
-Ran s v = (v.spec ≡ s.spec) × (v.registers ≡ s.registers)
-
-module _ (s : State) where
-  bulk_acked : (o : Option (ℕ × ℕ)) → Ran s (bulk_ack_row s o)
-  bulk_acked None = (refl, refl)
-  bulk_acked (Some end) = (refl, refl)
-
-  bulk_given : (b : Bool) → Ran s (if b then forgotten (bulk_ack_row s (bulk_of s true)) else s)
-  bulk_given true = bulk_acked (bulk_of s true)
-  bulk_given false = (refl, refl)
-
-  source_by : (most max : ℕ) (t2 t3 : Way) (b c : Bool) → Ran s (if b then (heard t2 (Some answer.Stall), s) else if c then (heard t2 (Some answer.Nak), s) else gave s by.Bulk max s.bulk_in.toggle (take most (rest_of s)) t2 t3).1
-  source_by most max t2 t3 true c = (refl, refl)
-  source_by most max t2 t3 false true = (refl, refl)
-  source_by most max t2 t3 false false = bulk_given (is_whole t2 && nat_le (length (take most (rest_of s))) max && is_whole t3)
-
-  in_bulk_by : (e most max : ℕ) (t2 t3 : Way) (b : Bool) → Ran s (if b then source_law s most max t2 t3 else (None, s)).1
-  in_bulk_by e most max t2 t3 true = source_by most max t2 t3 s.bulk_in.halted (length (rest_of s) == 0)
-  in_bulk_by e most max t2 t3 false = (refl, refl)
-
-  in_bulk : (e : ℕ) (o : Option (ℕ × ℕ)) (max : ℕ) (t2 t3 : Way) → Ran s (in_bulk_law s e o max t2 t3).1
-  in_bulk e None max t2 t3 = (refl, refl)
-  in_bulk e (Some end) max t2 t3 = in_bulk_by e end.1 max t2 t3 (end.0 == e)
-
-  in_one : (row : List PortState) (max : ℕ) (t1 t2 t3 : Way) → Ran s (in_law s row 1 max t1 t2 t3).1
-  in_one row max broken t2 t3 = (refl, refl)
-  in_one row max lost t2 t3 = (refl, refl)
-  in_one row max whole t2 t3 = pick (tells_changes s.spec s.registers) refl
-    where
-      pick : (b : Bool) → tells_changes s.spec s.registers ≡ b → Ran s (in_law s row 1 max whole t2 t3).1
-      pick true is = let only = only_changes s row max whole t2 t3 is in (ap (λ (d : State). d.spec) only, ap (λ (d : State). d.registers) only)
-      pick false is =
-          subst (λ (r : Reply). Ran s r.1) (sym (ap (λ (z : Bool). if z then changes_law s row max t2 t3 else in_bulk_law s 1 (bulk_of s true) max t2 t3) is))
-          (in_bulk 1 (bulk_of s true) max t2 t3)
+use Rattle.usb_transaction.specs.Transactions.{in_attempt}
+use Rattle.usb_transaction.proofs.Interface.{got_nak, trail_settled}
+use Rattle.usb_hub.proofs.Interface.{row_port}
+use Rattle.usb_address.proofs.Interface.{in_kept}
+use Rattle.usb_device.proofs.Interface.{law_is}
 
 -- What NAK tells
 
@@ -76,17 +35,6 @@ heard_nak : (t2 : Way) (o : Answer) → heard t2 (Some o) ≡ Some answer.Nak �
 heard_nak whole o e = cc e
 heard_nak broken o e = absurd (cc e)
 heard_nak lost o e = absurd (cc e)
-
-got_nak : (max : ℕ) (o : Option Answer) → got max o ≡ outcome.Nak → o ≡ Some answer.Nak
-got_nak max None e = absurd (cc e)
-got_nak max (Some answer.Ack) e = absurd (cc e)
-got_nak max (Some answer.Nak) e = refl
-got_nak max (Some answer.Stall) e = absurd (cc e)
-got_nak max (Some (answer.Data u b)) e = fits (nat_le (length b.items) max) e
-  where
-    fits : (x : Bool) → (if x then outcome.Payload u b else outcome.Nothing) ≡ outcome.Nak → Some (answer.Data u b) ≡ Some answer.Nak
-    fits true h = absurd (cc h)
-    fits false h = absurd (cc h)
 
 module _ (s : State) (row : List PortState) (max : ℕ) (t2 t3 : Way) where
   nak_new : (b : Bool) → (change_bits row == 0) ≡ b
@@ -168,7 +116,7 @@ module _ (t : Target) (w : World) (made : IsMade (in_attempt t 1) w) (j : ℕ) (
   did_clear s v (DidIn.other d e) nak at tells = no (sym (ap (λ (x : State). is_at x t) e ∙ d) ∙ at)
   did_clear s v (DidIn.silent d q o e) nak at tells = absurd (cc (o, nak))
   did_clear s v (DidIn.asked d q b below stood x o e) nak at tells =
-      let ran = in_one s (row_of below) t.max x.first x.second x.third in
+      let ran = in_kept s (row_of below) 1 t.max x.first x.second x.third refl in
       let same : tells_changes v.spec v.registers ≡ tells_changes s.spec s.registers = ap (λ (d : State). tells_changes d.spec d.registers) e ∙ cc (ran.0, ran.1) in
       let heard = got_nak t.max (in_law s (row_of below) 1 t.max x.first x.second x.third).0 (sym o ∙ nak) in
       clear b s below stood (nak_bits s (row_of below) t.max x.first x.second x.third (sym same ∙ tells) heard)

@@ -1,44 +1,40 @@
 -- What a host knows stays so over the parts of a round, transfers and events.
-use Rattle.std.proofs.Common.{◌≡◌, ◌∙◌, inl, inr, refl, sym, ap, subst, arith, ℕ, List, [], ◌∷◌, Bool, true, false, Option, None, Some, Result, Ok, Err}
-use Rattle.std.specs.Prelude.{OnOk, IsSome}
+use Rattle.std.proofs.Common.{◌≡◌, ◌∙◌, refl, sym, ap, subst, ℕ, List, [], ◌∷◌, Bool, true, false, Option, None, Some, Result, Ok, Err}
+use Rattle.std.specs.Prelude.{IsSome}
 use Rattle.std.specs.BTreeMap.{is_at}
 use Rattle.usb_port.specs.Order.{path_cmp}
 use Rattle.usb_world.specs.declared.event.Event.{Event}
 use Rattle.usb_world.specs.declared.types.BusFault.{BusFault}
-use Rattle.usb_world.specs.Live.{pend, is_way}
+use Rattle.usb_world.specs.Paths.{pend, is_way}
 use Rattle.usb_world.specs.Steps.{took, took_first, event_taken, event, after, step, here as no_more, AnyStep}
 use Rattle.usb_world.specs.World.{World, roots_of}
-use Rattle.usb_world.proofs.Booleans.{no}
-use Rattle.usb_world.proofs.WorldLaws.{course_wider}
-use Rattle.usb_transaction.specs.Why.{NoThreeDamaged}
+use Rattle.usb_world.proofs.Interface.{course_wider, first_fault, no, way_itself}
+use Rattle.usb_transaction.specs.Failures.{NoThreeDamaged}
 use Rattle.usb_address.specs.Owned.{KeepsAddresses}
 use Rattle.usb_enum.specs.declared.finding.Finding.{Finding}
-use Rattle.usb_enum.specs.declared.finding.Finding.TheVariants.{Device, Refused}
 use Rattle.usb_enum.specs.Places.{IsKnownAs, IsOccupied}
 use Rattle.usb_enum.specs.Present.{IsInOrder}
-use Rattle.usb_enum.proofs.Courses.{orderly_on, went_in_order, went_sound}
-use Rattle.usb_enum.proofs.Losses.{step_later}
+use Rattle.usb_enum.proofs.Interface.{orderly_on, step_later, went_in_order, went_sound}
 use Rattle.usb_table.specs.Entries.{Entries}
 use Rattle.usb_table.specs.Listing.{finding_at}
 use Rattle.usb_table.specs.Levels.{AllLevel, IsHeld, KeepsLevel}
 use Rattle.usb_table.specs.Table.{Table}
-use Rattle.usb_table.proofs.Levels.{all_kept}
-use Rattle.usb_table.proofs.Paths.{path_tied}
+use Rattle.usb_table.proofs.Interface.{all_kept, path_tied}
 use Rattle.usb_host.specs.declared.fault.HostFault.{HostFault}
 use Rattle.usb_host.specs.declared.host.Round.{Round}
 use Rattle.usb_host.specs.Agreement.{Agrees}
 use Rattle.usb_host.specs.Hosting.{Hosting}
-use Rattle.usb_host.specs.Owning.{claims, IsOwned, StaysOwned}
+use Rattle.usb_host.specs.Owning.{claims, StaysOwned}
 use Rattle.usb_host.specs.Transfers.{table_in}
-use Rattle.usb_host.specs.Progress.{HostWent, Goes}
+use Rattle.usb_host.specs.Progress.{HostWent, HostGoes}
 use Rattle.usb_host.specs.Sound.{Known, Truthful, Accounted, Causes, IsSound, IsSoundBut, IsFairTo, StaysSound, KeepsSound, IsDroppable, DropsSound, RoundsSound}
 use Rattle.usb_host.proofs.Events.{known_event, truthful_event, causes_event, level_event}
 use Rattle.usb_host.proofs.Fairness.{fair_before, fair_after}
 use Rattle.usb_host.proofs.Owners.{but_all, stays_kept}
 use Rattle.usb_host.proofs.Roots.{accounted}
-use Rattle.usb_host.proofs.Settled.{listed_port, reached_there}
+use Rattle.usb_host.proofs.Settled.{listed_port}
 use Rattle.usb_host.proofs.Stays.{known_each, truthful_stays, causes_stay}
-use Rattle.usb_host.proofs.Ways.{way_itself}
+use Rattle.usb_host.proofs.Rested.{occupied_by}
 
 -- One part after another
 
@@ -50,15 +46,10 @@ sound_then m n a b c first second x y = record {
   sound = λ s. y.sound (x.sound s);
   caused = λ s fair caused.
       let before = fair_before n a.world b.world c.world second fair in
-      y.caused (x.sound s) (fair_after m a.world b.world c.world first before.still fair) (x.caused s before caused);
+      y.caused (x.sound s) (fair_after m a.world b.world c.world first fair) (x.caused s before caused);
 }
 
 -- A device that was found stands at its port, or a change is pending there
-
-occupied_by : (w : World) (path : List ℕ) (f : Finding) → IsKnownAs w path (Some f) → IsOccupied w path
-occupied_by w path f (inl pends) = inl pends
-occupied_by w path (Device device) (inr here) = let there : _ = reached_there w.roots path here.1 in inr (here.0, rw there.1 refl)
-occupied_by w path (Refused cause) (inr here) = inr (here.0, here.1.0)
 
 occupied_at : (path : List ℕ) (h : Hosting) → Accounted (roots_of h.world) h.entries h.addresses → Known h.world h.entries → (o : Option Finding) → finding_at path h.entries ≡ o → IsSome o → IsOccupied h.world path
 occupied_at path h fits known None at some = absurd (cc some)
@@ -127,26 +118,21 @@ module _ (n : ℕ) (path : List ℕ) (ends : Type 0) (a b : Hosting) (agrees : A
 -- A hub is dropped
 
 -- where a change was pending at it, as it did not answer
-pub sound_dropped : (result : Result (Unit {0}) HostFault) (hub : List ℕ) (m n : ℕ) (a b c : Hosting) → Goes m a b → Goes n b c → (IsSound a → IsDroppable hub b) → (IsSound a → IsFairTo a.world b.world → Causes a.world a.entries → Causes b.world b.entries)
+pub sound_dropped : (result : Result (Unit {0}) HostFault) (hub : List ℕ) (m n : ℕ) (a b c : Hosting) → HostGoes m a b → HostGoes n b c → (IsSound a → IsDroppable hub b) → (IsSound a → IsFairTo a.world b.world → Causes a.world a.entries → Causes b.world b.entries)
     → DropsSound hub b result c → (IsSound a → b.world.fault ≡ None → NoThreeDamaged a.world → pend b.world.roots hub ≡ true) → KeepsSound a result c
 sound_dropped (Ok done) hub m n a b c p q drops causes d pends = record {
   sound = λ s. d.sound (drops s);
   caused = λ s fair caused.
       let before : IsFairTo a.world b.world = fair_before n a.world b.world c.world q.went fair in
-      d.caused (drops s) (fair_after m a.world b.world c.world p.went before.still fair) (pends s before.still fair.few) (λ path away. causes s before caused path);
+      d.caused (drops s) (fair_after m a.world b.world c.world p.went fair) (pends s before.still fair.few) (λ path away. causes s before caused path);
 }
 sound_dropped (Err fault) hub m n a b c p q drops causes d pends = tt
 
 -- An event comes
 
-first_sound : (es : List Event) (w : World) → (took_first es w).fault ≡ w.fault
-unfolding took
-first_sound [] w = refl
-first_sound (e ∷ es) w = refl
-
 taken_sound : (f : Option BusFault) (w : World) → w.fault ≡ f → (event_taken f w).fault ≡ w.fault
 taken_sound (Some f) w is = refl
-taken_sound None w is = first_sound w.left w
+taken_sound None w is = first_fault w.left w
 
 event_sound : (w : World) → (after event w).fault ≡ None → w.fault ≡ None
 unfolding after

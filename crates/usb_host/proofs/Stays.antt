@@ -1,6 +1,6 @@
 -- What is known of ports and devices stays so where nothing is asked of them.
 use Rattle.std.proofs.Common.{◌≡◌, ◌⊎◌, inl, inr, List, [], ◌∷◌, ℕ, zero, suc, true, false, Option, None, Some, option_map, refl, ap, sym, subst, ◌∙◌}
-use Rattle.std.specs.Prelude.{⊤, IsSome, IfSome}
+use Rattle.std.specs.Prelude.{⊤, IfSome}
 use Rattle.usb_resources.specs.Pool.{Addresses}
 use Rattle.usb_device.specs.Rows.{State}
 use Rattle.usb_device.specs.Spec.{Spec}
@@ -9,14 +9,12 @@ use Rattle.usb_device.specs.Tree.{reach_at, state_at}
 use Rattle.usb_device.specs.View.{state_there}
 use Rattle.usb_world.specs.Courses.{Spares}
 use Rattle.usb_world.specs.Devices.{Was}
-use Rattle.usb_world.specs.Live.{live, pend}
-use Rattle.usb_world.specs.PluggedAt.{spec_of}
-use Rattle.usb_world.specs.Resting.{SameAt, AsksNothingOf, RestsOrPends, StandsOrPends}
+use Rattle.usb_world.specs.Paths.{live, pend}
+use Rattle.usb_world.specs.PlanCourses.{spec_of}
+use Rattle.usb_world.specs.RestingPorts.{SameAt, AsksNothingOf, RestsOrPends, StandsOrPends}
 use Rattle.usb_world.specs.Steps.{Course}
 use Rattle.usb_world.specs.World.{World, roots_of}
-use Rattle.usb_world.proofs.Booleans.{no}
-use Rattle.usb_world.proofs.Resting.{rests_or_pends, stands_or_pends}
-use Rattle.usb_world.proofs.WorldLaws.{pending_persists, course_wider}
+use Rattle.usb_world.proofs.Interface.{course_wider, no, pending_persists, rests_or_pends, stands_or_pends}
 use Rattle.usb_enum.specs.declared.cause.Cause.{Cause}
 use Rattle.usb_enum.specs.declared.finding.Accepted.{Accepted}
 use Rattle.usb_enum.specs.declared.finding.Finding.{Finding}
@@ -24,24 +22,21 @@ use Rattle.usb_enum.specs.declared.finding.Finding.TheVariants.{Device, Refused}
 use Rattle.usb_enum.specs.Described.{IsFindingOf, IsRight}
 use Rattle.usb_table.specs.Entries.{Entries}
 use Rattle.usb_table.specs.Listing.{finding_at, IsListedPort, tier_of}
+use Rattle.usb_table.specs.Transfers.{SameSettings}
 use Rattle.usb_enum.specs.Places.{IsThere, IsKnownAs}
-use Rattle.usb_host.specs.Sound.{Known, known_supply, Tells, IsToldAt, Truthful, IsCausedAt, Causes, Elsewhere, KnownBut, TruthfulBut, CausesBut, IsStill, EachStill, EachStillBut, Accounted}
+use Rattle.usb_enum.proofs.Interface.{some_of}
+use Rattle.usb_host.specs.Sound.{Known, known_supply, IsTruthOf, IsToldAt, Truthful, IsCausedAt, Causes, Elsewhere, KnownBut, TruthfulBut, CausesBut, EachStill, EachStillBut, Accounted}
 use Rattle.usb_host.proofs.Settled.{listed_port}
 
 pub none_same : (o u : Option State) → option_map spec_of u ≡ option_map spec_of o → o ≡ None → u ≡ None
 none_same o None e h = refl
 none_same o (Some s) e h = absurd (cc (e, ap (option_map spec_of) h))
 
-pub some_same : (o u : Option State) → option_map spec_of u ≡ option_map spec_of o → IsSome o → IsSome u
-some_same None u e h = absurd cc
-some_same (Some s) None e h = absurd cc
-some_same (Some s) (Some t) e h = refl
-
 there_same : (w v : World) (path : List ℕ) (o : Option Finding) → SameAt w.roots v.roots path → IsThere w path o → IsThere v path o
 there_same w v path None same h = none_same (state_there w.roots path) (state_there v.roots path) same.what h
 there_same w v path (Some (Device device)) same h = same.on ∙ h
 there_same w v path (Some (Refused cause)) same h =
-    (some_same (state_there w.roots path) (state_there v.roots path) same.what h.0, subst (λ o. IfSome o (λ b. b.enable ≡ false)) (sym same.port) h.1)
+    (some_of (state_there w.roots path) (state_there v.roots path) same.what h.0, subst (λ o. IfSome o (λ b. b.enable ≡ false)) (sym same.port) h.1)
 
 -- a port that is known as something is so after a course that asks nothing of it
 pub known_stays : (path : List ℕ) (o : Option Finding) (w v : World) → Course (AsksNothingOf path) w v → IsKnownAs w path o → IsKnownAs v path o
@@ -68,8 +63,8 @@ known_but_each first w v entries roots calm known path away port =
 
 -- Accepted devices
 
-tells_still : (entries : Entries) (path : List ℕ) (device : Accepted) (s v : State) → IsStill s v → Tells entries path device s → Tells entries path device v
-tells_still entries path device s v still t = record {
+tells_still : (entries : Entries) (path : List ℕ) (device : Accepted) (j : ℕ) (p : List ℕ) (s v : State) → SameSettings j p s v → IsTruthOf entries path device s → IsTruthOf entries path device v
+tells_still entries path device j p s v still t = record {
   found = subst (λ (spec : Spec). IsFindingOf spec (tier_of path) (known_supply path entries) (Device device)) (sym still.0) t.found;
   set = record {
     address = ap (λ (r : Registers). r.address) still.1 ∙ t.set.address;
@@ -77,11 +72,11 @@ tells_still entries path device s v still t = record {
   };
 }
 
-told_stays : (j : ℕ) (p : List ℕ) (w v : World) (entries : Entries) → ((s : State) → reach_at v.roots j p ≡ true → state_at v.roots j p ≡ Some s → Was (λ _ _. IsStill) w j p s)
+told_stays : (j : ℕ) (p : List ℕ) (w v : World) (entries : Entries) → ((s : State) → reach_at v.roots j p ≡ true → state_at v.roots j p ≡ Some s → Was SameSettings w j p s)
     → IsToldAt w entries (suc j ∷ p) → IsToldAt v entries (suc j ∷ p)
 told_stays j p w v entries was told device s at on stands =
-    let x : Was (λ _ _. IsStill) w j p s = was s on stands in
-    tells_still entries (suc j ∷ p) device x.before s x.so (told device x.before at x.on x.stands)
+    let x : Was SameSettings w j p s = was s on stands in
+    tells_still entries (suc j ∷ p) device j p x.before s x.so (told device x.before at x.on x.stands)
 
 pub truthful_stays : (w v : World) (entries : Entries) → EachStill w v → Truthful w entries → Truthful v entries
 truthful_stays w v entries each told [] = λ device s at on stands. no on

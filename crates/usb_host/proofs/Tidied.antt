@@ -6,32 +6,28 @@ use Rattle.usb_device.specs.declared.calls.PortCall.{PortCall}
 use Rattle.usb_device.specs.declared.calls.PortCall.TheVariants.{ClearEnableChange, ClearResetChange}
 use Rattle.usb_device.specs.Calls.{called_port}
 use Rattle.usb_device.specs.Rows.{State}
-use Rattle.usb_device.specs.Tree.{Ports, ended, vacant, taken, Place, empty, full, port_of, state_of, called, place, place_at, reach, reach_at, state_at, port_at}
+use Rattle.usb_device.specs.Tree.{Ports, ended, vacant, taken, Place, empty, full, port_of, called, place, reach, reach_at, state_at, port_at}
 use Rattle.usb_device.specs.View.{port_there, state_there}
 use Rattle.usb_world.specs.declared.types.Attempt.{Attempt}
 use Rattle.usb_world.specs.declared.types.BusFault.{BusFault}
-use Rattle.usb_world.specs.Courses.{spares_step, resets}
-use Rattle.usb_world.specs.Live.{live, pend, is_way}
-use Rattle.usb_world.specs.Requested.{row_reached}
-use Rattle.usb_world.specs.PluggedAt.{spec_of}
-use Rattle.usb_world.specs.Resting.{AsksNothingOf, StandsOrPends}
+use Rattle.usb_world.specs.Courses.{spares_step}
+use Rattle.usb_world.specs.Paths.{live, pend, is_way}
+use Rattle.usb_world.specs.PortRequests.{row_reached}
+use Rattle.usb_world.specs.PlanCourses.{spec_of}
+use Rattle.usb_world.specs.RestingPorts.{AsksNothingOf, StandsOrPends}
 use Rattle.usb_world.specs.Steps.{Step, attempt, root_call, event, report, after, with_attempt, ready, Course, here, step}
-use Rattle.usb_world.specs.Touched.{spares}
+use Rattle.usb_world.specs.WayEffects.{spares}
 use Rattle.usb_world.specs.World.{World}
-use Rattle.usb_world.proofs.Booleans.{no, both, and_of, or_left, or_right, either_of}
-use Rattle.usb_world.proofs.WorldLaws.{course_wider, pending_persists, same_device, made_pend, made_live, root_pend, root_live}
-use Rattle.usb_world.proofs.Resting.{stands_or_pends}
+use Rattle.usb_world.proofs.Interface.{and_of, both, course_wider, either_of, made_live, made_pend, no, or_left, or_right, pending_persists, root_live, root_pend, stands, stands_or_pends, way_rest}
 use Rattle.usb_hub.specs.Moments.{PortDone, ActsAt}
-use Rattle.usb_hub.proofs.Standing.{port_of_place, due_course, enabled_reach}
+use Rattle.usb_hub.proofs.Interface.{due_course, enabled_reach, port_of_place, row_reached-back, state_of_place}
 use Rattle.usb_enum.specs.declared.finding.Finding.{Finding}
 use Rattle.usb_enum.specs.declared.finding.Finding.TheVariants.{Device, Refused}
 use Rattle.usb_enum.specs.Places.{IsKnownAs}
+use Rattle.usb_address.proofs.Interface.{below_of, live_below, not_way, pend_below, port_below, reach_below, state_below}
 use Rattle.usb_host.specs.Handling.{HoldsAt}
-use Rattle.usb_host.proofs.Clearings.{hub_apart}
 use Rattle.usb_host.proofs.Events.{event_calm}
 use Rattle.usb_host.proofs.Stays.{known_stays}
-use Rattle.usb_host.proofs.Trees.{under, state_below, port_below, reach_below, live_below, pend_below}
-use Rattle.usb_host.proofs.Ways.{way_rest}
 
 -- the calls that clear a change bit of enable or reset
 pub data Tidy : Type 0 where
@@ -56,10 +52,6 @@ called_port_as reset None = refl
 called_port_as reset (Some (empty b)) = refl
 called_port_as reset (Some (full b s a)) = refl
 
-abbrev stands : Option Place → Option State
-stands None = None
-stands (Some q) = state_of q
-
 called_stands : (t : Tidy) → (o : Option Place) → stands (option_map (called (tidy_call t)) o) ≡ stands o
 called_stands enable None = refl
 called_stands enable (Some (empty b)) = refl
@@ -68,7 +60,7 @@ called_stands reset None = refl
 called_stands reset (Some (empty b)) = refl
 called_stands reset (Some (full b s a)) = refl
 
-called_under : (t : Tidy) → (o : Option Place) → under (option_map (called (tidy_call t)) o) ≡ under o
+called_under : (t : Tidy) → (o : Option Place) → below_of (option_map (called (tidy_call t)) o) ≡ below_of o
 called_under enable None = refl
 called_under enable (Some (empty b)) = refl
 called_under enable (Some (full b s a)) = refl
@@ -79,22 +71,6 @@ called_under reset (Some (full b s a)) = refl
 called_enable : (t : Tidy) → (b : PortState) → (called_port (tidy_call t) b).enable ≡ b.enable
 called_enable enable b = refl
 called_enable reset b = refl
-
-state_stands : (k : Ports) (j : ℕ) (p : List ℕ) → state_at k j p ≡ stands (place_at k j p)
-unfolding state_at place_at
-state_stands ended j p = refl
-state_stands (vacant b k) zero [] = refl
-state_stands (vacant b k) zero (n ∷ p) = refl
-state_stands (vacant b k) (suc j) p = state_stands k j p
-state_stands (taken b s a k) zero [] = refl
-state_stands (taken b s a k) zero (zero ∷ p) = refl
-state_stands (taken b s a k) zero (suc i ∷ p) = state_stands a i p
-state_stands (taken b s a k) (suc j) p = state_stands k j p
-
-state_of_place : (k : Ports) (p : List ℕ) → state_there k p ≡ stands (place k p)
-state_of_place k [] = refl
-state_of_place k (zero ∷ p) = refl
-state_of_place k (suc j ∷ p) = state_stands k j p
 
 -- a device that is reached stands on an enabled port
 reached_port_at : (k : Ports) (j : ℕ) (p : List ℕ) → reach_at k j p ≡ true → (b : PortState) × (s : State) × (port_at k j p ≡ Some b) × (state_at k j p ≡ Some s) × (b.enable ≡ true)
@@ -152,7 +128,7 @@ module _ (t : Tidy) (p : List ℕ) where
     reach_on : reach w.roots p ≡ true → reach v.roots p ≡ true
     state : state_there v.roots p ≡ state_there w.roots p
     port : (port_there v.roots p ≡ port_there w.roots p) ⊎ (port_there v.roots p ≡ option_map (called_port (tidy_call t)) (port_there w.roots p))
-    below : under (place v.roots p) ≡ under (place w.roots p)
+    below : below_of (place v.roots p) ≡ below_of (place w.roots p)
 
   kept_disabled : (o u : Option PortState) → (u ≡ o) ⊎ (u ≡ option_map (called_port (tidy_call t)) o) → IfSome o (λ b. b.enable ≡ false) → IfSome u (λ b. b.enable ≡ false)
   kept_disabled o u (inl e) h = subst (λ x. IfSome x (λ b. b.enable ≡ false)) (sym e) h
@@ -173,33 +149,33 @@ module _ (t : Tidy) (p : List ℕ) where
     abbrev x : List ℕ
     x = (m ∷ l) ++ i ∷ r
 
-    sub_same : (w v : World) → Alike w v → under (place v.roots (m ∷ l)) ≡ under (place w.roots (m ∷ l))
-    sub_same w v a = subst (λ e. under (place v.roots e) ≡ under (place w.roots e)) is a.below
+    sub_same : (w v : World) → Alike w v → below_of (place v.roots (m ∷ l)) ≡ below_of (place w.roots (m ∷ l))
+    sub_same w v a = subst (λ e. below_of (place v.roots e) ≡ below_of (place w.roots e)) is a.below
 
     pend_x : (w v : World) → Alike w v → pend w.roots x ≡ true → pend v.roots x ≡ true
-    pend_x w v a h = pend_below v.roots m l i r ∙ pick (either_of (pend w.roots (m ∷ l)) (live w.roots (m ∷ l) && pend (under (place w.roots (m ∷ l))) (i ∷ r)) (sym (pend_below w.roots m l i r) ∙ h))
+    pend_x w v a h = pend_below v.roots m l i r ∙ pick (either_of (pend w.roots (m ∷ l)) (live w.roots (m ∷ l) && pend (below_of (place w.roots (m ∷ l))) (i ∷ r)) (sym (pend_below w.roots m l i r) ∙ h))
       where
-        pick : (pend w.roots (m ∷ l) ≡ true) ⊎ ((live w.roots (m ∷ l) && pend (under (place w.roots (m ∷ l))) (i ∷ r)) ≡ true)
-            → (pend v.roots (m ∷ l) || (live v.roots (m ∷ l) && pend (under (place v.roots (m ∷ l))) (i ∷ r))) ≡ true
-        pick (inl y) = or_left (pend v.roots (m ∷ l)) (live v.roots (m ∷ l) && pend (under (place v.roots (m ∷ l))) (i ∷ r)) (subst (λ e. pend w.roots e ≡ true → pend v.roots e ≡ true) is a.pend_on y)
+        pick : (pend w.roots (m ∷ l) ≡ true) ⊎ ((live w.roots (m ∷ l) && pend (below_of (place w.roots (m ∷ l))) (i ∷ r)) ≡ true)
+            → (pend v.roots (m ∷ l) || (live v.roots (m ∷ l) && pend (below_of (place v.roots (m ∷ l))) (i ∷ r))) ≡ true
+        pick (inl y) = or_left (pend v.roots (m ∷ l)) (live v.roots (m ∷ l) && pend (below_of (place v.roots (m ∷ l))) (i ∷ r)) (subst (λ e. pend w.roots e ≡ true → pend v.roots e ≡ true) is a.pend_on y)
         pick (inr y) =
-            let parts = both (live w.roots (m ∷ l)) (pend (under (place w.roots (m ∷ l))) (i ∷ r)) y in
-            or_right (pend v.roots (m ∷ l)) (live v.roots (m ∷ l) && pend (under (place v.roots (m ∷ l))) (i ∷ r))
-            (and_of (live v.roots (m ∷ l)) (pend (under (place v.roots (m ∷ l))) (i ∷ r)) (subst (λ e. live w.roots e ≡ true → live v.roots e ≡ true) is a.live_on parts.0)
+            let parts = both (live w.roots (m ∷ l)) (pend (below_of (place w.roots (m ∷ l))) (i ∷ r)) y in
+            or_right (pend v.roots (m ∷ l)) (live v.roots (m ∷ l) && pend (below_of (place v.roots (m ∷ l))) (i ∷ r))
+            (and_of (live v.roots (m ∷ l)) (pend (below_of (place v.roots (m ∷ l))) (i ∷ r)) (subst (λ e. live w.roots e ≡ true → live v.roots e ≡ true) is a.live_on parts.0)
             (ap (λ k. pend k (i ∷ r)) (sub_same w v a) ∙ parts.1))
 
     live_x : (w v : World) → Alike w v → live w.roots x ≡ true → live v.roots x ≡ true
     live_x w v a h =
-        let parts = both (live w.roots (m ∷ l)) (live (under (place w.roots (m ∷ l))) (i ∷ r)) (sym (live_below w.roots m l i r) ∙ h) in
+        let parts = both (live w.roots (m ∷ l)) (live (below_of (place w.roots (m ∷ l))) (i ∷ r)) (sym (live_below w.roots m l i r) ∙ h) in
         live_below v.roots m l i r
-        ∙ and_of (live v.roots (m ∷ l)) (live (under (place v.roots (m ∷ l))) (i ∷ r)) (subst (λ e. live w.roots e ≡ true → live v.roots e ≡ true) is a.live_on parts.0)
+        ∙ and_of (live v.roots (m ∷ l)) (live (below_of (place v.roots (m ∷ l))) (i ∷ r)) (subst (λ e. live w.roots e ≡ true → live v.roots e ≡ true) is a.live_on parts.0)
         (ap (λ k. live k (i ∷ r)) (sub_same w v a) ∙ parts.1)
 
     reach_x : (w v : World) → Alike w v → reach w.roots x ≡ true → reach v.roots x ≡ true
     reach_x w v a h =
-        let parts = both (reach w.roots (m ∷ l)) (reach (under (place w.roots (m ∷ l))) (i ∷ r)) (sym (reach_below w.roots m l i r) ∙ h) in
+        let parts = both (reach w.roots (m ∷ l)) (reach (below_of (place w.roots (m ∷ l))) (i ∷ r)) (sym (reach_below w.roots m l i r) ∙ h) in
         reach_below v.roots m l i r
-        ∙ and_of (reach v.roots (m ∷ l)) (reach (under (place v.roots (m ∷ l))) (i ∷ r)) (subst (λ e. reach w.roots e ≡ true → reach v.roots e ≡ true) is a.reach_on parts.0)
+        ∙ and_of (reach v.roots (m ∷ l)) (reach (below_of (place v.roots (m ∷ l))) (i ∷ r)) (subst (λ e. reach w.roots e ≡ true → reach v.roots e ≡ true) is a.reach_on parts.0)
         (ap (λ k. reach k (i ∷ r)) (sub_same w v a) ∙ parts.1)
 
     state_x : (w v : World) → Alike w v → state_there v.roots x ≡ state_there w.roots x
@@ -230,11 +206,7 @@ module _ (t : Tidy) (q : List ℕ) (n : ℕ) where
   p = q ++ n ∷ []
 
   row_back : {w v : World} → Course (ActsAt p (tidy_call t)) w v → row_reached v.roots q ≡ true → row_reached w.roots q ≡ true
-  row_back course on = by_row q (λ s w k. (k.about.others q (hub_apart q n)).rests) course on
-    where
-      by_row : (e : List ℕ) → ((s : Step) (w : World) → ActsAt p (tidy_call t) s w → resets s w e ≡ false) → {w v : World} → Course (ActsAt p (tidy_call t)) w v → row_reached v.roots e ≡ true → row_reached w.roots e ≡ true
-      by_row [] rests course on = refl
-      by_row (m ∷ e) rests course on = (same_device (m ∷ e) (course_wider rests course) on).0
+  row_back course on = row_reached-back q (course_wider (λ s w k. (k.about.others q (not_way q n)).rests) course) on
 
   -- how the place of the port is after a step's own change
   place_port : (k v : Ports) → (place v p ≡ place k p) ⊎ (place v p ≡ option_map (called (tidy_call t)) (place k p)) → (port_there v p ≡ port_there k p) ⊎ (port_there v p ≡ option_map (called_port (tidy_call t)) (port_there k p))
@@ -245,9 +217,9 @@ module _ (t : Tidy) (q : List ℕ) (n : ℕ) where
   place_state k v (inl e) = state_of_place v p ∙ ap stands e ∙ sym (state_of_place k p)
   place_state k v (inr e) = state_of_place v p ∙ ap stands e ∙ called_stands t (place k p) ∙ sym (state_of_place k p)
 
-  place_under : (k v : Ports) → (place v p ≡ place k p) ⊎ (place v p ≡ option_map (called (tidy_call t)) (place k p)) → under (place v p) ≡ under (place k p)
-  place_under k v (inl e) = ap under e
-  place_under k v (inr e) = ap under e ∙ called_under t (place k p)
+  place_under : (k v : Ports) → (place v p ≡ place k p) ⊎ (place v p ≡ option_map (called (tidy_call t)) (place k p)) → below_of (place v p) ≡ below_of (place k p)
+  place_under k v (inl e) = ap below_of e
+  place_under k v (inr e) = ap below_of e ∙ called_under t (place k p)
 
   still_enabled : (o u : Option PortState) (b : PortState) → (u ≡ o) ⊎ (u ≡ option_map (called_port (tidy_call t)) o) → o ≡ Some b → b.enable ≡ true → (d : PortState) × (u ≡ Some d) × (d.enable ≡ true)
   still_enabled o u b (inl e) is on = (b, e ∙ is, on)
@@ -317,14 +289,10 @@ module _ (t : Tidy) (q : List ℕ) (n : ℕ) where
 
   done_holds : (old new : World) → PortDone p (tidy_call t) old new → row_reached new.roots q ≡ true → (r : List ℕ) → HoldsAt (p ++ r) old new
   done_holds old new d row r =
-      let now = row_since q (λ e. d.since e) row in
+      let now = row_reached-back q (course_wider (λ s w k. k.rests) (d.since q)) row in
       let before = row_back (step d.last d.acts (here (after d.last d.before))) now in
       let there = holds_then (p ++ r) old d.before (after d.last d.before) (course_holds d.repeats before r) (step_holds d.last d.before d.acts now r) in
       holds_then (p ++ r) old (after d.last d.before) new there (holds_rests (p ++ r) (after d.last d.before) new (d.since (p ++ r)))
-    where
-      row_since : (e : List ℕ) → ((x : List ℕ) → Course (AsksNothingOf x) (after d.last d.before) new) → row_reached new.roots e ≡ true → row_reached (after d.last d.before).roots e ≡ true
-      row_since [] since on = refl
-      row_since (m ∷ e) since on = (same_device (m ∷ e) (course_wider (λ s w k. k.rests) (since (m ∷ e))) on).0
 
 pub tidied_holds : (t : Tidy) → (p : List ℕ) (old new : World) → PortDone p (tidy_call t) old new → (x : List ℕ) → is_way p x ≡ true → HoldsAt x old new
 tidied_holds t p old new d x way =

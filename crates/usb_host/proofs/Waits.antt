@@ -13,14 +13,7 @@ use Rattle.usb_enum.specs.declared.finding.Finding.{Finding}
 use Rattle.usb_table.specs.Entries.{Entries, is_at_or_below, without}
 use Rattle.usb_table.specs.Findings.{is_waiting}
 use Rattle.usb_host.specs.Progress.{waiting}
-
-one : Bool → ℕ
-one b = cond b 1 0
-
-one_most : (b : Bool) → one b ≤ 1
-unfolding one
-one_most true = omega arith
-one_most false = omega arith
+use Rattle.usb_host.proofs.Balances.{one_most, one}
 
 waiting-cons : (e : List ℕ × Finding) (es : Entries) → waiting (e ∷ es) ≡ one (is_waiting e.1) + waiting es
 unfolding one

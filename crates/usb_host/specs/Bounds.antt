@@ -36,12 +36,12 @@ abbrev pub told_bound : ℕ
 told_bound = 7 * handling_bound
 
 -- a poll, and what it tells
-abbrev pub hub_bound : ℕ
-hub_bound = 768 + drop_bound + told_bound
+abbrev pub hub_poll_bound : ℕ
+hub_poll_bound = 768 + drop_bound + told_bound
 
 -- there are fewer than 8 ^ 7 paths, and each is polled at most once, and looked at again at most once
 abbrev pub hubs_bound : ℕ
-hubs_bound = 2097152 * hub_bound
+hubs_bound = 2097152 * hub_poll_bound
 
 abbrev pub looks_bound : ℕ
 looks_bound = 2097152 * handling_bound

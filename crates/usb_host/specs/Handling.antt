@@ -2,14 +2,14 @@
 use Rattle.std.specs.Prelude.{◌≡◌, ◌⊎◌, ◌≤◌, ⊤, ℕ, suc, List, [], ◌∷◌, ◌++◌, Bool, true, false, None, Some, IsSomeAnd, Result, Ok, Err, Option, OnOk, IfOk}
 use Rattle.usb_port.specs.Order.{parent_of}
 use Rattle.usb_port.specs.declared.status.PortStatus.{PortStatus}
-use Rattle.usb_world.specs.Live.{live, pend, is_way}
-use Rattle.usb_world.specs.Resting.{AsksNothingOf, StandsOrPends}
+use Rattle.usb_world.specs.Paths.{live, pend, is_way}
+use Rattle.usb_world.specs.RestingPorts.{AsksNothingOf, StandsOrPends}
 use Rattle.usb_world.specs.Steps.{Course}
 use Rattle.usb_world.specs.World.{World}
 use Rattle.usb_address.specs.Claims.{Claims}
 use Rattle.usb_address.specs.Owned.{Owned, TillFault, KeepsAddresses}
 use Rattle.usb_transaction.specs.declared.target.Target.{Target}
-use Rattle.usb_transaction.specs.Why.{NoThreeDamaged}
+use Rattle.usb_transaction.specs.Failures.{NoThreeDamaged}
 use Rattle.usb_hub.specs.declared.port.HubPort.{HubPort}
 use Rattle.usb_hub.specs.declared.port.HubPort.TheVariants.{External}
 use Rattle.usb_hub.specs.Why.{Serves}
@@ -30,11 +30,11 @@ use Rattle.usb_host.specs.declared.fault.HostFault.{HostFault}
 -- Requests to a port
 
 -- the host goes on after it
-abbrev pub GoesOn : {A : Type 0} → Result A EnumFault → Type 0
-GoesOn (Ok done) = ⊤
-GoesOn (Err ParentLost) = ⊤
-GoesOn (Err (Bus fault)) = ⊥
-GoesOn (Err Memory) = ⊥
+abbrev pub LetsGoOn : {A : Type 0} → Result A EnumFault → Type 0
+LetsGoOn (Ok done) = ⊤
+LetsGoOn (Err ParentLost) = ⊤
+LetsGoOn (Err (Bus fault)) = ⊥
+LetsGoOn (Err Memory) = ⊥
 
 -- nothing is asked of the ports that are not at a path nor below it
 abbrev pub RestElsewhere : List ℕ → World → World → Type 0
@@ -53,7 +53,7 @@ IsLost port p w = (hub : Target) (number : ℕ) → port ≡ External hub number
 pub record Watches (port : HubPort) (old : World) (result : Result PortStatus EnumFault) (new : World) : Type 0 where
   pub addresses : KeepsAddresses old new
   pub devices : KeepsDevices old new
-  pub rests : GoesOn result → AllRest old new
+  pub rests : LetsGoOn result → AllRest old new
   pub lost : (p : List ℕ) → HasWay old p → NoThreeDamaged old → new.fault ≡ None → new.shared ≡ false → result ≡ Err ParentLost → IsLost port p new
 
 -- what is known of a port stays so; what pends there pends; and where it is powered on its whole way, it stands as it stood, or a change is pending
@@ -66,7 +66,7 @@ pub record HoldsAt (x : List ℕ) (w v : World) : Type 0 where
 pub record Tidies (port : HubPort) (old : World) (result : Result (Unit {0}) EnumFault) (new : World) : Type 0 where
   pub addresses : KeepsAddresses old new
   pub devices : KeepsDevices old new
-  pub others : (f : Claims) (p : List ℕ) → IsAt f port p → TillFault (Owned f) old → GoesOn result → RestElsewhere p old new
+  pub others : (f : Claims) (p : List ℕ) → IsAt f port p → TillFault (Owned f) old → LetsGoOn result → RestElsewhere p old new
   pub stays : (f : Claims) (p : List ℕ) → IsAt f port p → TillFault (Owned f) old → result ≡ Ok tt
       → (x : List ℕ) → is_way p x ≡ true → HoldsAt x old new
   pub lost : (p : List ℕ) → NoThreeDamaged old → new.fault ≡ None → new.shared ≡ false → result ≡ Err ParentLost → IsLost port p new
@@ -77,10 +77,10 @@ Decides true w p = IsOccupied w p
 Decides false w p = IsKnownAs w p None
 
 -- the change of a port is cleared, and its status read: that decides, where ports are in order
-pub record Clears (port : HubPort) (old : World) (result : Result PortStatus EnumFault) (new : World) : Type 0 where
+pub record ClearsChange (port : HubPort) (old : World) (result : Result PortStatus EnumFault) (new : World) : Type 0 where
   pub bares : BaresPort port old result new
   pub devices : KeepsDevices old new
-  pub others : (f : Claims) (p : List ℕ) → IsAt f port p → TillFault (Owned f) old → GoesOn result → RestElsewhere p old new
+  pub others : (f : Claims) (p : List ℕ) → IsAt f port p → TillFault (Owned f) old → LetsGoOn result → RestElsewhere p old new
   pub decides : (f : Claims) (p : List ℕ) → IsAt f port p → TillFault (Owned f) old → HasWay old p → IsInOrder old → new.fault ≡ None
       → IfOk result (λ status. Decides status.connected new p)
   pub lost : (f : Claims) (p : List ℕ) → IsAt f port p → TillFault (Owned f) old → HasWay old p → NoThreeDamaged old → new.fault ≡ None → new.shared ≡ false → result ≡ Err ParentLost → IsLost port p new
@@ -123,7 +123,7 @@ pub record FindsSound (path : List ℕ) (old : Hosting) (result : Result (Unit {
   pub caused : IsOpen path old → IsFairTo old.world new.world → CausesBut path old.world old.entries → PortCaused path result new
 
 -- the hub of a port that was served is dropped, where it is lost
-pub record Finishes (path : List ℕ) (served : Result (Unit {0}) EnumFault) (old : Hosting) (result : Result (Unit {0}) HostFault) (new : Hosting) : Type 0 where
+pub record DropsLost (path : List ℕ) (served : Result (Unit {0}) EnumFault) (old : Hosting) (result : Result (Unit {0}) HostFault) (new : Hosting) : Type 0 where
   pub owned : FinishesPort path served old result new
   pub sound : PortSound path served old → OnOk result (IsSound new)
   pub caused : PortSound path served old → IsFairTo old.world new.world → PortCaused path served old → OnOk result (Causes new.world new.entries)
@@ -141,7 +141,7 @@ Disabled true path new = (pend new.world.roots path ≡ true) × CausesBut path 
 Disabled false path new = IsSomeAnd (parent_of path) (λ hub. (pend new.world.roots hub ≡ true) × CausesBut hub new.world new.entries)
 
 -- a port on the way is told to pass nothing on: it does; or, where it could not be told, the hub above it may be dropped
-pub record Disables (path : List ℕ) (old : Hosting) (result : Result Bool HostFault) (new : Hosting) : Type 0 where
+pub record DisablesOnWay (path : List ℕ) (old : Hosting) (result : Result Bool HostFault) (new : Hosting) : Type 0 where
   pub owned : KeepsDisabled path old result new
   pub done : IsDroppable path old → result ≡ Ok true → IsDroppedAt path new
   pub failed : IsDroppable path old → result ≡ Ok false → IsSomeAnd (parent_of path) (λ hub. IsDroppable hub new)

@@ -6,9 +6,9 @@ use Rattle.usb_port.specs.Order.{path_cmp, parent_of}
 use Rattle.usb_port.specs.declared.status.PortStatus.{PortStatus}
 use Rattle.usb_device.specs.Tree.{reach}
 use Rattle.usb_world.specs.Passes.{IsSettled}
-use Rattle.usb_world.specs.Live.{is_way}
+use Rattle.usb_world.specs.Paths.{is_way}
 use Rattle.usb_world.specs.World.{World, roots_of}
-use Rattle.usb_address.specs.Claims.{Claims, cleared}
+use Rattle.usb_address.specs.Claims.{Claims, claims_apart}
 use Rattle.usb_address.specs.Owned.{Owned, OwnedBut, TillFault, KeepsAddresses}
 use Rattle.usb_hub.specs.declared.port.HubPort.{HubPort}
 use Rattle.usb_hub.specs.Addresses.{Bares}
@@ -71,7 +71,7 @@ IsOwnedBut path h = TillFault (OwnedBut path (claims h.entries)) h.world
 
 -- no device is reachable at the path or below it, and every other holds the address that it has in the table
 abbrev pub IsBare : List ℕ → Hosting → Type 0
-IsBare path h = TillFault (Owned (cleared (claims h.entries) path)) h.world
+IsBare path h = TillFault (Owned (claims_apart (claims h.entries) path)) h.world
 
 -- At a port whose hub may be lost
 

@@ -4,7 +4,7 @@ use Rattle.std.specs.Map.{lookup}
 use Rattle.std.specs.BTreeMap.{is_at, insert_entry}
 use Rattle.usb_port.specs.Order.{path_cmp, parent_of, port_of}
 use Rattle.usb_port.specs.Path.{IsPath}
-use Rattle.usb_world.specs.World.{World, Failed, port_at, roots_of}
+use Rattle.usb_world.specs.World.{World, Failed, root_port_at, roots_of}
 use Rattle.usb_hub.specs.declared.port.HubPort.{HubPort}
 use Rattle.usb_hub.specs.declared.port.HubPort.TheVariants.{Root, External}
 use Rattle.usb_hub.specs.Port.{IsPort}
@@ -18,7 +18,7 @@ use Rattle.usb_table.specs.declared.known.KnownPort.{KnownPort}
 use Rattle.usb_table.specs.Known.{known_port, IsAskable}
 use Rattle.usb_table.specs.Table.{pipes_at}
 use Rattle.usb_host.specs.Transfers.{table_in}
-use Rattle.usb_world.specs.Live.{is_way}
+use Rattle.usb_world.specs.Paths.{is_way}
 use Rattle.usb_port.specs.Status.{seen}
 use Rattle.usb_port.specs.declared.status.PortStatus.{PortStatus}
 use Rattle.usb_host.specs.declared.fault.HostFault.{HostFault}
@@ -52,7 +52,7 @@ pub record Forgets (path : List ℕ) (old new : Hosting) : Type 0 where
 
 -- a root port tells of a change; a hub has told of it
 abbrev pub IsDue : World → HubPort → Type 0
-IsDue w (Root number) = (port_at w number).connection_changed ≡ true
+IsDue w (Root number) = (root_port_at w number).connection_changed ≡ true
 IsDue w (External hub port) = ⊤
 
 -- a device waits there for an address, and one is free
@@ -84,7 +84,7 @@ Gains (Err Memory) old new = ⊤
 
 -- a root port shows what it is; a hub is asked
 abbrev pub Shown : HubPort → Result PortStatus EnumFault → World → World → Type 0
-Shown (Root number) result old new = (result ≡ Ok (seen (port_at old number))) × (new ≡ old)
+Shown (Root number) result old new = (result ≡ Ok (seen (root_port_at old number))) × (new ≡ old)
 Shown (External hub port) result old new = Gains result old new
 
 -- the bus tells its fault, and the port has a hub that is lost

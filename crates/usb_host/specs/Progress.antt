@@ -19,8 +19,8 @@ abbrev pub idle_work : Hosting → ℕ
 idle_work h = 2 * work h.world + waiting h.entries
 
 -- no more is left to do than before, but by attempts: each attempt may leave two things more
-abbrev pub Holds : Hosting → Hosting → Type 0
-Holds old new = idle_work new + 2 * old.world.attempts ≤ idle_work old + 2 * new.world.attempts
+abbrev pub AddsNoWork : Hosting → Hosting → Type 0
+AddsNoWork old new = idle_work new + 2 * old.world.attempts ≤ idle_work old + 2 * new.world.attempts
 
 -- the same, and something was done: an attempt was made, or less is left to do
 abbrev pub Advances : Hosting → Hosting → Type 0
@@ -39,7 +39,7 @@ abbrev pub HostWent : ℕ → Hosting → Hosting → Type 0
 HostWent most old new = WentOn most old.world old.trace new.world new.trace
 
 -- so it went, and the host goes on
-pub record Goes (most : ℕ) (old new : Hosting) : Type 0 where
+pub record HostGoes (most : ℕ) (old new : Hosting) : Type 0 where
   pub went : HostWent most old new
   pub going : new.stopped ≡ old.stopped
 

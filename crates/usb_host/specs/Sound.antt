@@ -1,18 +1,17 @@
 -- When what a host knows of its ports is so.
-use Rattle.std.specs.Prelude.{◌≡◌, ◌⊎◌, ◌≤◌, ℕ, suc, List, [], ◌∷◌, ◌++◌, Option, None, Some, IsSome, IfSome, unwrap_or, option_map, true, false, ⊤, Result, Ok, OnOk, All}
+use Rattle.std.specs.Prelude.{◌≡◌, ◌⊎◌, ◌≤◌, ℕ, List, [], ◌∷◌, ◌++◌, None, Some, IsSome, IfSome, unwrap_or, option_map, true, false, ⊤, Result, Ok, OnOk, All}
 use Rattle.usb_port.specs.Order.{parent_of, port_of}
 use Rattle.usb_resources.specs.Pool.{Addresses}
 use Rattle.usb_device.specs.Rows.{State}
 use Rattle.usb_device.specs.Tree.{reach}
 use Rattle.usb_device.specs.View.{state_there, port_there}
 use Rattle.usb_world.specs.Devices.{EachWas}
-use Rattle.usb_world.specs.Live.{pend, is_way}
+use Rattle.usb_world.specs.Paths.{pend, is_way}
 use Rattle.usb_world.specs.World.{World, root_row, roots_of, changes}
 use Rattle.usb_hub.specs.Addresses.{EachElsewhere}
 use Rattle.usb_enum.specs.declared.cause.Cause.{Cause}
 use Rattle.usb_enum.specs.declared.cause.Cause.TheVariants.{NoAddress}
 use Rattle.usb_enum.specs.declared.finding.Accepted.{Accepted}
-use Rattle.usb_enum.specs.declared.finding.Finding.{Finding}
 use Rattle.usb_enum.specs.declared.finding.Finding.TheVariants.{Device, Refused}
 use Rattle.usb_enum.specs.declared.hub.HubFacts.{HubFacts}
 use Rattle.usb_hub.specs.Requests.{AllRest}
@@ -20,11 +19,12 @@ use Rattle.usb_enum.specs.Described.{IsFindingOf, IsRight, IsSet}
 use Rattle.usb_enum.specs.Places.{IsKnownAs, IsOccupied}
 use Rattle.usb_table.specs.declared.known.KnownPort.{KnownPort}
 use Rattle.usb_table.specs.Entries.{Entries}
-use Rattle.usb_table.specs.Findings.{device_at}
+use Rattle.usb_table.specs.Findings.{accepted_device_at}
 use Rattle.usb_table.specs.Known.{known_port}
 use Rattle.usb_table.specs.Levels.{AllLevel, LevelAt}
-use Rattle.usb_table.specs.Listing.{finding_at, hub_at, IsListedPort, tier_of, ListsEach}
-use Rattle.usb_transaction.specs.Why.{NoThreeDamaged}
+use Rattle.usb_table.specs.Listing.{finding_at, hub_facts_at, IsListedPort, tier_of, ListsEach}
+use Rattle.usb_table.specs.Transfers.{SameSettings}
+use Rattle.usb_transaction.specs.Failures.{NoThreeDamaged}
 use Rattle.usb_enum.specs.Losses.{FewLosses}
 use Rattle.usb_enum.specs.Present.{IsInOrder, IsOrderly}
 use Rattle.usb_host.specs.Agreement.{Agrees}
@@ -48,14 +48,14 @@ abbrev pub known_supply : List ℕ → Entries → ℕ
 known_supply path entries = unwrap_or (option_map (λ (known : KnownPort). known.supply) (known_port path entries)) 0
 
 -- what is known of an accepted device is so
-pub record Tells (entries : Entries) (path : List ℕ) (device : Accepted) (s : State) : Type 0 where
+pub record IsTruthOf (entries : Entries) (path : List ℕ) (device : Accepted) (s : State) : Type 0 where
   pub found : IsFindingOf s.spec (tier_of path) (known_supply path entries) (Device device)
   pub set : IsSet device s
 
 -- what is known of the accepted device at a path is so where it is reached, whatever is damaged or pending
 abbrev pub IsToldAt : World → Entries → List ℕ → Type 0
-IsToldAt w entries path = (device : Accepted) (s : State) → device_at path entries ≡ Some device → reach w.roots path ≡ true → state_there w.roots path ≡ Some s
-    → Tells entries path device s
+IsToldAt w entries path = (device : Accepted) (s : State) → accepted_device_at path entries ≡ Some device → reach w.roots path ≡ true → state_there w.roots path ≡ Some s
+    → IsTruthOf entries path device s
 
 -- so it is of each
 abbrev pub Truthful : World → Entries → Type 0
@@ -86,16 +86,12 @@ CausesBut path w entries = Elsewhere path (IsCausedAt w entries)
 
 -- Between two worlds
 
--- a device keeps its description and its registers
-abbrev pub IsStill : State → State → Type 0
-IsStill s v = (v.spec ≡ s.spec) × (v.registers ≡ s.registers)
-
--- so does each device that is reached, and each that is reached elsewhere
+-- each device that is reached keeps its description and its registers, and each that is reached elsewhere
 abbrev pub EachStill : World → World → Type 0
-EachStill = EachWas (λ j p. IsStill)
+EachStill = EachWas SameSettings
 
 abbrev pub EachStillBut : List ℕ → World → World → Type 0
-EachStillBut path = EachElsewhere path (λ j p. IsStill)
+EachStillBut path = EachElsewhere path SameSettings
 
 -- Entries
 
@@ -178,7 +174,7 @@ pub record RootsRest (old new : Hosting) : Type 0 where
 
 -- no port of the hub that is listed at a path tells of a change of connection
 abbrev pub IsSilent : List ℕ → Hosting → Type 0
-IsSilent hub h = (facts : HubFacts) (number : ℕ) → hub_at hub h.entries ≡ Some facts → 1 ≤ number → number ≤ facts.ports
+IsSilent hub h = (facts : HubFacts) (number : ℕ) → hub_facts_at hub h.entries ≡ Some facts → 1 ≤ number → number ≤ facts.ports
     → IfSome (port_there h.world.roots (hub ++ (number ∷ []))) (λ b. b.connection_changed ≡ false)
 
 -- a hub was polled; where it told of no change, nothing was asked of any port, and where no change is pending at it, none was told at its ports

@@ -28,13 +28,13 @@ host_told (Ok done) = Ok done
 host_told (Err fault) = Err (endpoint_fault fault)
 
 -- a fault that ends a part of a round: of the bus, which tells it, or of memory
-abbrev pub Ended : HostFault → World → Type 0
-Ended Stopped w = ⊥
-Ended NoDevice w = ⊥
-Ended NoEndpoint w = ⊥
-Ended (Pipe fault) w = ⊥
-Ended (Bus fault) w = Failed fault w
-Ended Memory w = ⊤
+abbrev pub PartTold : HostFault → World → Type 0
+PartTold Stopped w = ⊥
+PartTold NoDevice w = ⊥
+PartTold NoEndpoint w = ⊥
+PartTold (Pipe fault) w = ⊥
+PartTold (Bus fault) w = Failed fault w
+PartTold Memory w = ⊤
 
 -- a fault of a whole round
 abbrev pub RoundTold : HostFault → World → Type 0
@@ -64,17 +64,17 @@ TransferTold (Bus fault) w = Failed fault w
 TransferTold Memory w = ⊤
 
 -- after these the host makes no more attempts
-abbrev pub is_last : HostFault → Bool
-is_last Stopped = false
-is_last NoDevice = false
-is_last NoEndpoint = false
-is_last (Pipe fault) = false
-is_last (Bus fault) = true
-is_last Memory = true
+abbrev pub is_last_fault : HostFault → Bool
+is_last_fault Stopped = false
+is_last_fault NoDevice = false
+is_last_fault NoEndpoint = false
+is_last_fault (Pipe fault) = false
+is_last_fault (Bus fault) = true
+is_last_fault Memory = true
 
 abbrev pub is_final : {A : Type 0} → Result A HostFault → Bool
 is_final (Ok done) = false
-is_final (Err fault) = is_last fault
+is_final (Err fault) = is_last_fault fault
 
 -- a stopped host changes nothing and says so; another stops where the round fails
 pub record StopsAsRound {A : Type 0} (old : Hosting) (result : Result A HostFault) (new : Hosting) : Type 0 where

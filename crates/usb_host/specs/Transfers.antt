@@ -6,7 +6,7 @@ use Rattle.usb_table.specs.declared.fault.EndpointFault.{EndpointFault}
 use Rattle.usb_table.specs.declared.pipes.Pipes.{Pipes}
 use Rattle.usb_table.specs.Table.{Table, GoesThrough, pipes_at}
 use Rattle.usb_table.specs.Levels.{KeepsMoved}
-use Rattle.usb_table.specs.Transfers.{Sent, Received, Cleared}
+use Rattle.usb_table.specs.Transfers.{PipesSent, PipesReceived, PipesCleared}
 use Rattle.usb_host.specs.declared.fault.HostFault.{HostFault}
 use Rattle.usb_host.specs.Hosting.{Hosting}
 use Rattle.usb_host.specs.Told.{host_told}
@@ -25,12 +25,12 @@ pub record HandsOn {A : Type 0} (path : List ℕ) (moved : Pipes → World → R
 
 -- these bytes were sent to the device at the path, unless the host had stopped
 abbrev pub SentAt : List ℕ → List ℕ → Hosting → Result (Unit {0}) HostFault → Hosting → Type 0
-SentAt path bytes old result new = old.stopped ≡ false → HandsOn path (λ pipes. Sent pipes bytes) old result new
+SentAt path bytes old result new = old.stopped ≡ false → HandsOn path (λ pipes. PipesSent pipes bytes) old result new
 
 -- so many packets were received from it
 abbrev pub ReceivedAt : List ℕ → ℕ → Hosting → Result (Vec ℕ) HostFault → Hosting → Type 0
-ReceivedAt path packets old result new = old.stopped ≡ false → HandsOn path (λ pipes. Received pipes packets) old result new
+ReceivedAt path packets old result new = old.stopped ≡ false → HandsOn path (λ pipes. PipesReceived pipes packets) old result new
 
 -- the halts of its endpoints were cleared
 abbrev pub ClearedAt : List ℕ → Hosting → Result (Unit {0}) HostFault → Hosting → Type 0
-ClearedAt path old result new = old.stopped ≡ false → HandsOn path Cleared old result new
+ClearedAt path old result new = old.stopped ≡ false → HandsOn path PipesCleared old result new

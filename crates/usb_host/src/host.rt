@@ -5,7 +5,7 @@ ghost use Rattle.usb_world.specs.World.{World};
 ghost use Rattle.usb_bus.specs.Traced.{Traced};
 ghost use Rattle.usb_host.specs.Agreement.{Agrees};
 ghost use Rattle.usb_host.specs.Bounds.{round_bound, clear_bound};
-ghost use Rattle.usb_host.specs.Hosting.{Hosting, opening};
+ghost use Rattle.usb_host.specs.Hosting.{Hosting, opening_host};
 ghost use Rattle.usb_host.specs.Progress.{DidRound, HostWent};
 ghost use Rattle.usb_host.specs.Owning.{Owning, IsUntouched};
 ghost use Rattle.usb_host.specs.Sound.{IsSound, IsUnpowered, RoundKeeps, TransferKeeps};
@@ -69,7 +69,7 @@ impl<B: Bus> Host<B> {
 
     /// The host of a bus, which knows of no device. Each root port is given power.
     pub fn new(alloc: Global, bus: B) -> Host<B>
-        ensures opens { result ≡ opening (B.world bus) (B.trace bus) }
+        ensures opens { result ≡ opening_host (B.world bus) (B.trace bus) }
         ensures traced { Traced (B.world bus) (B.trace bus) result.world result.trace }
         ensures owning { IsUntouched (B.world bus) → Owning result }
         ensures sound { IsUntouched (B.world bus) → IsUnpowered (B.world bus) → IsSound result }
@@ -101,7 +101,8 @@ impl<B: Bus> Host<B> {
         ensures world { B.world result.now ≡ self.old.world }
         ensures trace { B.trace result.now ≡ self.old.trace }
         ensures agree { Agrees self.old.entries self.old.addresses }
-        ensures* writes_back { sem 𝓛 (Lends (the_row B.row B.Bus) B.row self.entry result (λ b. record self.old { world = B.world b; trace = B.trace b })) }
+        ensures* writes_back { sem 𝓛 (Lends (the_row B.row B.Bus) B.row self.entry result
+            (λ b. record self.old { world = B.world b; trace = B.trace b })) }
     {
         &mut self.bus
     }

@@ -2,7 +2,7 @@
 ghost use Rattle.std.specs.Prelude.{◌≡◌, false, OnOk, OnErr};
 ghost use Rattle.usb_table.specs.Entries.{has_at};
 ghost use Rattle.usb_table.specs.Table.{entered};
-ghost use Rattle.usb_table.specs.Findings.{IsSound, HasNewAddress, address_of};
+ghost use Rattle.usb_table.specs.Findings.{IsSoundFinding, HasNewAddress, address_of};
 ghost use Rattle.usb_enum.specs.declared.finding.Finding.{Finding};
 ghost use Rattle.usb_host.specs.Hosting.{Frees};
 
@@ -20,7 +20,7 @@ pub(crate) fn enter(
     finding: Finding,
 ) -> Result<(), AllocError>
     requires away { has_at path table.old.entries ≡ false }
-    requires sound { IsSound finding }
+    requires sound { IsSoundFinding finding }
     requires new { HasNewAddress finding table.old.entries }
     ensures ok { OnOk result
         ((table.new ≡ entered path finding table.old) × (pool.new ≡ pool.old)) }

@@ -3,7 +3,7 @@ ghost use Rattle.std.specs.Prelude.{◌≡◌, ◌⊎◌, ◌*◌, [], ◌∷◌
 ghost use Rattle.std.specs.BTreeMap.{insert_entry};
 ghost use Rattle.usb_port.specs.Order.{path_cmp};
 ghost use Rattle.usb_port.specs.Path.{IsPath, IsPortNumber};
-ghost use Rattle.usb_world.specs.World.{IsRootPort, port_at};
+ghost use Rattle.usb_world.specs.World.{IsRootPort, root_port_at};
 ghost use Rattle.usb_hub.specs.Port.{IsPort};
 ghost use Rattle.usb_resources.specs.Pool.{IsFull};
 ghost use Rattle.usb_enum.specs.Bounds.{widest_enumeration};
@@ -13,12 +13,12 @@ ghost use Rattle.usb_table.specs.Known.{IsAskable, known_port};
 ghost use Rattle.usb_table.specs.Listing.{tier_of};
 ghost use Rattle.usb_host.specs.Bounds.{clearing_bound, look_bound, drop_bound, handling_bound, status_most, order_most, serving_bound};
 ghost use Rattle.usb_host.specs.Agreement.{Agrees};
-ghost use Rattle.usb_host.specs.Handling.{Watches, Tidies, Clears, ServesSound, Looks, FindsSound, Finishes, Disables, Climbs};
+ghost use Rattle.usb_host.specs.Handling.{Watches, Tidies, ClearsChange, ServesSound, Looks, FindsSound, DropsLost, DisablesOnWay, Climbs};
 ghost use Rattle.usb_host.specs.Owning.{KeepsOwned, KeepsPort, DropsHub};
 ghost use Rattle.usb_host.specs.Ports.{StandsAt, StandsNowhere, IsDue, Waits, Served, Shown, Gains, Broke, EndsAs, Entered, Forgets, Looked};
-ghost use Rattle.usb_host.specs.Progress.{Goes, Advances, Holds, Rests, Did};
+ghost use Rattle.usb_host.specs.Progress.{HostGoes, Advances, AddsNoWork, Rests, Did};
 ghost use Rattle.usb_host.specs.Sound.{KeepsSound, DropsSound, PartKeeps};
-ghost use Rattle.usb_host.specs.Told.{Ended};
+ghost use Rattle.usb_host.specs.Told.{PartTold};
 
 use crate::HostFault;
 use crate::host::{Host, Round};
@@ -35,7 +35,7 @@ impl<B: Bus> Host<B> {
     /// Whether the connection of a root port has changed.
     pub(crate) fn has_changed(&self, number: u8) -> bool
         requires { IsRootPort self.now.world number }
-        ensures { result ≡ (port_at self.now.world number).connection_changed }
+        ensures { result ≡ (root_port_at self.now.world number).connection_changed }
     {
         PortStatus::from_bytes(self.bus.root_status(number)).connection_changed
     }
@@ -44,9 +44,11 @@ impl<B: Bus> Host<B> {
     pub(crate) fn handle_root(&mut self, number: u8) -> Result<(), HostFault>
         requires port { IsRootPort self.old.world number }
         requires number { IsPortNumber number }
-        ensures goes { Goes handling_bound self.old self.new }
-        ensures told { IfErr result (λ fault. Ended fault self.new.world) }
-        ensures advances { OnOk result ((port_at self.old.world number).connection_changed ≡ true → Advances self.old self.new) }
+        ensures goes { HostGoes handling_bound self.old self.new }
+        ensures told { IfErr result (λ fault. PartTold fault self.new.world) }
+        ensures advances { OnOk result
+            ((root_port_at self.old.world number).connection_changed ≡ true
+            → Advances self.old self.new) }
         ensures owned { KeepsOwned self.old result self.new }
         ensures sound { KeepsSound self.old result self.new }
     {
@@ -61,8 +63,8 @@ impl<B: Bus> Host<B> {
     /// Handles a port of a hub, where that is known and has the port.
     pub(crate) fn handle_below(&mut self, hub: &PortPath, number: u8) -> Result<Round, HostFault>
         requires { IsPath hub.now }
-        ensures goes { Goes handling_bound self.old self.new }
-        ensures told { IfErr result (λ fault. Ended fault self.new.world) }
+        ensures goes { HostGoes handling_bound self.old self.new }
+        ensures told { IfErr result (λ fault. PartTold fault self.new.world) }
         ensures did { IfOk result (λ round. Did round self.old self.new) }
         ensures owned { KeepsOwned self.old result self.new }
         ensures sound { KeepsSound self.old result self.new }
@@ -82,8 +84,8 @@ impl<B: Bus> Host<B> {
     pub(crate) fn look_once_more(&mut self, path: &PortPath) -> Result<Round, HostFault>
         requires { Waits path.now self.old }
         ensures path { IsPath path.now }
-        ensures goes { Goes handling_bound self.old self.new }
-        ensures told { IfErr result (λ fault. Ended fault self.new.world) }
+        ensures goes { HostGoes handling_bound self.old self.new }
+        ensures told { IfErr result (λ fault. PartTold fault self.new.world) }
         ensures did { IfOk result (λ round. Looked round self.old self.new) }
         ensures keeps { PartKeeps self.old result self.new }
     {
@@ -112,9 +114,10 @@ impl<B: Bus> Host<B> {
     /// Handles a port. Where a request to its hub fails, that hub is dropped.
     fn handle(&mut self, path: &PortPath, port: KnownPort) -> Result<(), HostFault>
         requires { StandsAt path.now port self.old }
-        ensures goes { Goes handling_bound self.old self.new }
-        ensures told { IfErr result (λ fault. Ended fault self.new.world) }
-        ensures advances { OnOk result (IsDue self.old.world port.port → Advances self.old self.new) }
+        ensures goes { HostGoes handling_bound self.old self.new }
+        ensures told { IfErr result (λ fault. PartTold fault self.new.world) }
+        ensures advances { OnOk result (IsDue self.old.world port.port
+            → Advances self.old self.new) }
         ensures owned { KeepsOwned self.old result self.new }
         ensures sound { KeepsSound self.old result self.new }
     {
@@ -125,11 +128,11 @@ impl<B: Bus> Host<B> {
     /// Drops the hub of a port, where a request to it failed.
     fn finish(&mut self, path: &PortPath, served: Result<(), EnumFault>) -> Result<(), HostFault>
         requires { IfErr served (λ fault. Broke path.now fault self.old.world) }
-        ensures goes { Goes drop_bound self.old self.new }
-        ensures told { IfErr result (λ fault. Ended fault self.new.world) }
-        ensures holds { Holds self.old self.new }
+        ensures goes { HostGoes drop_bound self.old self.new }
+        ensures told { IfErr result (λ fault. PartTold fault self.new.world) }
+        ensures holds { AddsNoWork self.old self.new }
         ensures ends { EndsAs served result }
-        ensures finishes { Finishes path.now served self.old result self.new }
+        ensures finishes { DropsLost path.now served self.old result self.new }
     {
         match served {
             Ok(()) => Ok(()),
@@ -147,7 +150,7 @@ impl<B: Bus> Host<B> {
     /// what an earlier reset or error left is cleared.
     fn serve(&mut self, path: &PortPath, port: KnownPort) -> Result<(), EnumFault>
         requires { StandsAt path.now port self.old }
-        ensures goes { Goes serving_bound self.old self.new }
+        ensures goes { HostGoes serving_bound self.old self.new }
         ensures told { IfErr result (λ fault. FaultAt port.port fault self.new.world) }
         ensures served { IsDue self.old.world port.port → Served result self.old self.new }
         ensures owned { KeepsPort path.now self.old result self.new }
@@ -165,7 +168,7 @@ impl<B: Bus> Host<B> {
     fn status(&mut self, port: HubPort) -> Result<PortStatus, EnumFault>
         requires port { IsPort self.old.world port }
         requires askable { IsAskable port }
-        ensures goes { Goes status_most self.old self.new }
+        ensures goes { HostGoes status_most self.old self.new }
         ensures told { IfErr result (λ fault. FaultAt port fault self.new.world) }
         ensures rests { Rests self.old self.new }
         ensures shown { Shown port result self.old.world self.new.world }
@@ -175,10 +178,10 @@ impl<B: Bus> Host<B> {
     }
 
     /// Clears what an earlier reset or error left of a port whose connection has not changed.
-    #[tactic(auto, using(usb_address::proofs::Keeping::keeps_then))]
+    #[tactic(auto, using(usb_address::proofs::Interface::keeps_then))]
     fn tidy(&mut self, port: HubPort, status: PortStatus) -> Result<(), EnumFault>
         requires { IsPort self.old.world port }
-        ensures goes { Goes (2 * order_most) self.old self.new }
+        ensures goes { HostGoes (2 * order_most) self.old self.new }
         ensures told { IfErr result (λ fault. FaultAt port fault self.new.world) }
         ensures rests { Rests self.old self.new }
         ensures tidies { Tidies port self.old.world result self.new.world }
@@ -196,10 +199,12 @@ impl<B: Bus> Host<B> {
     /// the status is read, so that no later change is lost.
     fn look(&mut self, path: &PortPath, port: KnownPort) -> Result<(), EnumFault>
         requires { StandsAt path.now port self.old }
-        ensures goes { Goes look_bound self.old self.new }
+        ensures goes { HostGoes look_bound self.old self.new }
         ensures told { IfErr result (λ fault. FaultAt port.port fault self.new.world) }
-        ensures served { IsDue self.old.world port.port ⊎ Waits path.now self.old → Served result self.old self.new }
-        ensures renewed { OnOk result (Replaced path.now (without path.now self.old.entries) self.new.entries) }
+        ensures served { IsDue self.old.world port.port ⊎ Waits path.now self.old
+            → Served result self.old self.new }
+        ensures renewed { OnOk result
+            (Replaced path.now (without path.now self.old.entries) self.new.entries) }
         ensures looks { Looks path.now self.old result self.new }
     {
         let status = self.clear_change(port.port)?;
@@ -214,11 +219,11 @@ impl<B: Bus> Host<B> {
     fn clear_change(&mut self, port: HubPort) -> Result<PortStatus, EnumFault>
         requires port { IsPort self.old.world port }
         requires askable { IsAskable port }
-        ensures goes { Goes clearing_bound self.old self.new }
+        ensures goes { HostGoes clearing_bound self.old self.new }
         ensures told { IfErr result (λ fault. FaultAt port fault self.new.world) }
         ensures rests { Rests self.old self.new }
         ensures gains { IsDue self.old.world port → Gains result self.old.world self.new.world }
-        ensures clears { Clears port self.old.world result self.new.world }
+        ensures clears { ClearsChange port self.old.world result self.new.world }
     {
         clear_port(&mut self.bus, port, C_PORT_CONNECTION)?;
         let status = port_status(self.alloc, &mut self.bus, port)?;
@@ -232,7 +237,7 @@ impl<B: Bus> Host<B> {
     fn discover(&mut self, path: &PortPath, port: KnownPort) -> Result<(), EnumFault>
         requires port { StandsAt path.now port self.old }
         requires away { has_at path.now self.old.entries ≡ false }
-        ensures goes { Goes widest_enumeration self.old self.new }
+        ensures goes { HostGoes widest_enumeration self.old self.new }
         ensures told { IfErr result (λ fault. FaultAt port.port fault self.new.world) }
         ensures entered { Entered path.now self.old result self.new }
         ensures owned { KeepsPort path.now self.old result self.new }
@@ -252,9 +257,9 @@ impl<B: Bus> Host<B> {
     /// Drops a hub that failed: its port is disabled, what stood there and below is forgotten, and
     /// it is listed as lost. Where its port cannot be disabled, its own hub is dropped in its place.
     pub(crate) fn drop_hub(&mut self, hub: PortPath) -> Result<(), HostFault>
-        ensures goes { Goes drop_bound self.old self.new }
-        ensures told { IfErr result (λ fault. Ended fault self.new.world) }
-        ensures holds { Holds self.old self.new }
+        ensures goes { HostGoes drop_bound self.old self.new }
+        ensures told { IfErr result (λ fault. PartTold fault self.new.world) }
+        ensures holds { AddsNoWork self.old self.new }
         ensures owned { DropsHub hub self.old result self.new }
         ensures sound { DropsSound hub self.old result self.new }
     {
@@ -266,8 +271,8 @@ impl<B: Bus> Host<B> {
 
     /// Disables the port at a path, or the nearest one above it that can be disabled.
     fn disable_upward(&mut self, first: PortPath) -> Result<PortPath, HostFault>
-        ensures goes { Goes drop_bound self.old self.new }
-        ensures told { IfErr result (λ fault. Ended fault self.new.world) }
+        ensures goes { HostGoes drop_bound self.old self.new }
+        ensures told { IfErr result (λ fault. PartTold fault self.new.world) }
         ensures rests { Rests self.old self.new }
         ensures known { IfOk result (λ path. IsSome (known_port path self.old.entries)) }
         ensures climbs { Climbs first self.old result self.new }
@@ -288,11 +293,12 @@ impl<B: Bus> Host<B> {
 
     /// Disables the port at a path, and says whether it could.
     fn disable(&mut self, path: &PortPath) -> Result<bool, HostFault>
-        ensures goes { Goes order_most self.old self.new }
-        ensures told { IfErr result (λ fault. Ended fault self.new.world) }
+        ensures goes { HostGoes order_most self.old self.new }
+        ensures told { IfErr result (λ fault. PartTold fault self.new.world) }
         ensures rests { Rests self.old self.new }
-        ensures known { IfOk result (λ done. IsTrue done → IsSome (known_port path.now self.old.entries)) }
-        ensures disables { Disables path.now self.old result self.new }
+        ensures known { IfOk result (λ done. IsTrue done
+            → IsSome (known_port path.now self.old.entries)) }
+        ensures disables { DisablesOnWay path.now self.old result self.new }
     {
         let Some(port) = self.port_at(path) else {
             return Ok(false);
@@ -305,7 +311,7 @@ impl<B: Bus> Host<B> {
     }
 
     /// Takes out the entries at a path and below it, and releases their addresses.
-    #[tactic(auto, using(usb_table::proofs::Removals::takes_one, crate::proofs::Balances::accounts_freed, crate::proofs::Balances::range_freed, usb_table::proofs::Removals::taken_apart, crate::proofs::Balances::full_before, crate::proofs::Levelled::pipes_apart))]
+    #[tactic(auto, using(usb_table::proofs::Interface::takes_one, crate::proofs::Balances::accounts_freed, crate::proofs::Balances::range_freed, usb_table::proofs::Interface::taken_apart, crate::proofs::Balances::full_before, crate::proofs::Levelled::pipes_apart))]
     fn forget(&mut self, path: &PortPath)
         ensures others { self.new ≡ record self.old {
           entries = self.new.entries;

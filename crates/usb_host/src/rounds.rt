@@ -2,16 +2,16 @@
 ghost use Rattle.std.specs.Prelude.{◌≡◌, ◌≢◌, ◌≤◌, ◌<◌, ◌+◌, ◌*◌, true, false, IfOk, IfErr, ◌⊎◌, IfSome, IfNone, IsSome, OnOk, Ok};
 ghost use Rattle.usb_world.specs.World.{root_row, changes, IsRootPort};
 ghost use Rattle.usb_port.specs.Path.{IsPath};
-ghost use Rattle.usb_table.specs.Listing.{hub_at};
+ghost use Rattle.usb_table.specs.Listing.{hub_facts_at};
 ghost use Rattle.usb_table.specs.Findings.{is_hub, is_waiting};
-ghost use Rattle.usb_table.specs.Next.{IsAfter, IsNext, IsLast};
+ghost use Rattle.usb_table.specs.Next.{ComesAfter, IsNext, IsLast};
 ghost use Rattle.usb_resources.specs.Pool.{IsFull};
 ghost use Rattle.usb_host.specs.Agreement.{Agrees};
-ghost use Rattle.usb_host.specs.Bounds.{round_bound, roots_bound, hubs_bound, hub_bound, told_bound, looks_bound};
+ghost use Rattle.usb_host.specs.Bounds.{round_bound, roots_bound, hubs_bound, hub_poll_bound, told_bound, looks_bound};
 ghost use Rattle.usb_host.specs.Sound.{PartKeeps, PartsKeep, RootsRest, HubKeeps, HubsKeep, LooksKeep};
 ghost use Rattle.usb_host.specs.Ports.{Waits};
-ghost use Rattle.usb_host.specs.Progress.{Goes, Did, Holds, either};
-ghost use Rattle.usb_host.specs.Told.{Ended};
+ghost use Rattle.usb_host.specs.Progress.{HostGoes, Did, AddsNoWork, either};
+ghost use Rattle.usb_host.specs.Told.{PartTold};
 
 use crate::HostFault;
 use crate::host::{Host, Round};
@@ -35,8 +35,8 @@ impl<B: Bus> Host<B> {
     /// The root ports, the hubs, and the devices that wait.
     #[tactic(auto, using(crate::proofs::Owners::stays_then, crate::proofs::Owners::single_then))]
     pub(crate) fn parts(&mut self) -> Result<Round, HostFault>
-        ensures goes { Goes round_bound self.old self.new }
-        ensures told { IfErr result (λ fault. Ended fault self.new.world) }
+        ensures goes { HostGoes round_bound self.old self.new }
+        ensures told { IfErr result (λ fault. PartTold fault self.new.world) }
         ensures did { IfOk result (λ round. Did round self.old self.new) }
         ensures none { result ≡ Ok Round.Quiet → changes (root_row self.old.world) ≡ 0 }
         ensures keeps { PartsKeep self.old result self.new }
@@ -50,8 +50,8 @@ impl<B: Bus> Host<B> {
     /// Handles each root port whose connection has changed, by rising number.
     #[tactic(auto, using(crate::proofs::Owners::single_then))]
     fn serve_roots(&mut self) -> Result<Round, HostFault>
-        ensures goes { Goes roots_bound self.old self.new }
-        ensures told { IfErr result (λ fault. Ended fault self.new.world) }
+        ensures goes { HostGoes roots_bound self.old self.new }
+        ensures told { IfErr result (λ fault. PartTold fault self.new.world) }
         ensures did { IfOk result (λ round. Did round self.old self.new) }
         ensures none { result ≡ Ok Round.Quiet → RootsRest self.old self.new }
         ensures keeps { PartKeeps self.old result self.new }
@@ -69,8 +69,8 @@ impl<B: Bus> Host<B> {
 
     /// Polls each hub that is known, by rising path, and handles the ports of which it tells.
     fn serve_hubs(&mut self) -> Result<Round, HostFault>
-        ensures goes { Goes hubs_bound self.old self.new }
-        ensures told { IfErr result (λ fault. Ended fault self.new.world) }
+        ensures goes { HostGoes hubs_bound self.old self.new }
+        ensures told { IfErr result (λ fault. PartTold fault self.new.world) }
         ensures did { IfOk result (λ round. Did round self.old self.new) }
         ensures keeps { HubsKeep self.old result self.new }
     {
@@ -85,10 +85,10 @@ impl<B: Bus> Host<B> {
 
     /// Polls a hub, and handles the ports of which it tells; where it does not answer, it is dropped.
     fn serve_hub(&mut self, hub: &PortPath) -> Result<Round, HostFault>
-        requires { IsSome (hub_at hub.now self.old.entries) }
+        requires { IsSome (hub_facts_at hub.now self.old.entries) }
         ensures path { IsPath hub.now }
-        ensures goes { Goes hub_bound self.old self.new }
-        ensures told { IfErr result (λ fault. Ended fault self.new.world) }
+        ensures goes { HostGoes hub_poll_bound self.old self.new }
+        ensures told { IfErr result (λ fault. PartTold fault self.new.world) }
         ensures did { IfOk result (λ round. Did round self.old self.new) }
         ensures keeps { HubKeeps hub.now self.old result self.new }
     {
@@ -111,9 +111,9 @@ impl<B: Bus> Host<B> {
     #[tactic(auto, using(crate::proofs::Owners::single_then))]
     fn serve_told(&mut self, hub: &PortPath, bits: u8) -> Result<(), HostFault>
         requires { IsPath hub.now }
-        ensures goes { Goes told_bound self.old self.new }
-        ensures told { IfErr result (λ fault. Ended fault self.new.world) }
-        ensures holds { OnOk result (Holds self.old self.new) }
+        ensures goes { HostGoes told_bound self.old self.new }
+        ensures told { IfErr result (λ fault. PartTold fault self.new.world) }
+        ensures holds { OnOk result (AddsNoWork self.old self.new) }
         ensures keeps { PartKeeps self.old result self.new }
     {
         'ports: for number in 1..8u8 {
@@ -126,8 +126,8 @@ impl<B: Bus> Host<B> {
 
     /// Looks again at each device that waits for an address, by rising path, while one is free.
     fn look_again(&mut self) -> Result<Round, HostFault>
-        ensures goes { Goes looks_bound self.old self.new }
-        ensures told { IfErr result (λ fault. Ended fault self.new.world) }
+        ensures goes { HostGoes looks_bound self.old self.new }
+        ensures told { IfErr result (λ fault. PartTold fault self.new.world) }
         ensures did { IfOk result (λ round. Did round self.old self.new) }
         ensures keeps { LooksKeep self.old result self.new }
     {
@@ -151,8 +151,9 @@ impl<B: Bus> Host<B> {
 
     /// The next device that waits for an address; none where no address is free.
     fn next_waiting(&self, last: &Option<PortPath>) -> Option<PortPath>
-        ensures some { IfSome result (λ path. Waits path self.now × IsAfter last.now path) }
-        ensures none { IfNone result (IsFull self.now.addresses ⊎ IsLast is_waiting last.now self.now.entries) }
+        ensures some { IfSome result (λ path. Waits path self.now × ComesAfter last.now path) }
+        ensures none { IfNone result
+            (IsFull self.now.addresses ⊎ IsLast is_waiting last.now self.now.entries) }
         ensures agree { Agrees self.now.entries self.now.addresses }
     {
         if self.pool.is_full() {

@@ -16,24 +16,17 @@ use Rattle.usb_device.specs.Spec.{Spec}
 use Rattle.usb_device.specs.Tree.{Ports, ended, vacant, taken, before, reset_where, called, changed_at, acted, place, place_at}
 use Rattle.usb_world.specs.declared.types.Attempt.{Attempt}
 use Rattle.usb_world.specs.Courses.{is_harmless, resets, spares_step}
-use Rattle.usb_world.specs.Live.{is_way, same_number}
+use Rattle.usb_world.specs.Paths.{is_way, same_number}
 use Rattle.usb_world.specs.OneHolder.{IsMade, IsSetup, HolderIn, SomeHolder, setup_asked, token_way, payload_way}
 use Rattle.usb_world.specs.Passes.{NobodyHolds, deep_at}
-use Rattle.usb_world.specs.Requested.{AsksNothing, is_port_request, is_sparing, leaves_step}
+use Rattle.usb_world.specs.PortRequests.{AsksNothing, is_port_request, is_sparing, leaves_step}
 use Rattle.usb_world.specs.Steps.{attempt, root_call, after, ready, damage_in}
-use Rattle.usb_world.specs.Touched.{spares}
+use Rattle.usb_world.specs.WayEffects.{spares}
 use Rattle.usb_world.specs.World.{World}
-use Rattle.usb_world.proofs.Booleans.{no, or_right, and_false, decided}
-use Rattle.usb_world.proofs.OneHolderMore.{nobody_in}
-use Rattle.usb_world.proofs.OneHolderPlace.{setup_place_in, silent_place_in}
-use Rattle.usb_world.proofs.OneHolderWho.{holder_or_nobody}
-use Rattle.usb_world.proofs.RequestLawsHolder.{others_asked_nothing, self_asked}
+use Rattle.usb_world.proofs.Interface.{and_false, decided, holder_or_nobody, no, nobody_in, or_right, others_asked_nothing, self_asked, setup_place_in, silent_place_in}
 use Rattle.usb_transaction.specs.declared.target.Target.{Target}
-use Rattle.usb_transaction.specs.Trans.{setup_attempt}
-use Rattle.usb_address.proofs.Bare.{below_of, named, less_one}
-use Rattle.usb_address.proofs.Claimed.{ClaimedAt, claimed_holder}
-use Rattle.usb_address.proofs.Nobody.{nobody_asks_nothing}
-use Rattle.usb_address.proofs.Steps.{unshared_after}
+use Rattle.usb_transaction.specs.Transactions.{setup_attempt}
+use Rattle.usb_address.proofs.Interface.{ClaimedAt, below_of, claimed_holder, less_one, named, nobody_asks_nothing, unshared_after}
 use Rattle.usb_hub.specs.Moments.{ActsAt}
 
 -- Trees

@@ -13,18 +13,17 @@ use Rattle.usb_device.specs.Request.{Outcome, stalled, answers, unless, text_ask
 use Rattle.usb_device.specs.Transfer.{refused, reading, ending, first_stage}
 use Rattle.usb_world.specs.World.{World}
 use Rattle.usb_world.specs.Devices.{EachWas}
-use Rattle.usb_world.proofs.Devices.{each_wider}
+use Rattle.usb_world.proofs.Interface.{each_wider}
 use Rattle.usb_transaction.specs.declared.target.Target.{Target}
-use Rattle.usb_transaction.specs.Why.{NoThreeDamaged}
+use Rattle.usb_transaction.specs.Failures.{NoThreeDamaged}
 use Rattle.usb_pipe.specs.declared.fault.PipeFault.{PipeFault}
 use Rattle.usb_pipe.specs.declared.fault.PipeFault.TheVariants.{Stalled, Busy, NoAnswer, Broken, Bus, Memory}
-use Rattle.usb_pipe.specs.Whole.{ReadLeaves, AnswerRead, WasRefused, IsNotOfBus}
-use Rattle.usb_pipe.specs.WhyWhole.{WhyRead}
-use Rattle.usb_pipe.proofs.WholeReads.{read_leaves}
-use Rattle.usb_pipe.proofs.WhyReads.{read_why}
-use Rattle.usb_address.proofs.Setups.{same_setup}
+use Rattle.usb_pipe.specs.Leaves.{ReadLeaves, AnswerRead, WasRefused, IsNotOfBus}
+use Rattle.usb_pipe.specs.Failures.{WhyRead}
+use Rattle.usb_pipe.proofs.Interface.{is_some_byte, read_leaves, read_why}
+use Rattle.usb_address.proofs.Interface.{same_setup}
 use Rattle.usb_hub.specs.Asked.{unless_refused, device_given, config_given, string_given, hub_given, HasText, TextAsked, DeviceAsked, ConfigAsked, StringAsked, HubAsked, WhyAsked}
-use Rattle.usb_hub.specs.Requests.{Asked}
+use Rattle.usb_hub.specs.Requests.{AskedData}
 
 -- The outcome of each request
 
@@ -91,12 +90,9 @@ stages_differ d n h = cc
 same_answer : (d a : List ℕ) (n : ℕ) → reading d n 0 ≡ reading a n 0 → d ≡ a
 same_answer d a n h = cc
 
-some_byte : (n : ℕ) → 1 ≤ n → (n == 0) ≡ false
-some_byte n h = grind (arith, nat_tests, h)
-
 -- the stage that an answer begins
 reads_text : (text : List ℕ) (n : ℕ) (row : List PortState) → 1 ≤ n → first_stage row n (answers text) ≡ reading text n 0
-reads_text text n row h = ap (λ b. if b then ending None else reading text n 0) (some_byte n h)
+reads_text text n row h = ap (λ b. if b then ending None else reading text n 0) (is_some_byte n h)
 
 -- a read that an answer came of was given it
 read_of : (o : Option (List ℕ)) (answer : List ℕ) (n : ℕ) (row : List PortState) → 1 ≤ n → first_stage row n (answer_of o) ≡ reading answer n 0 → o ≡ Some answer
@@ -128,24 +124,24 @@ module _ (given : Spec → Option (List ℕ)) (t : Target) (request : Setup) (gi
   }
 
   -- what was read by a request whose answer is a text of the description
-  pub text_asked_of : IsToHost request → Asked t request old result new → new.shared ≡ false → EachWas (TextAsked given t request.length result) old new
+  pub text_asked_of : IsToHost request → AskedData t request old result new → new.shared ≡ false → EachWas (TextAsked given t request.length result) old new
   text_asked_of host asked single =
       each_wider (ReadLeaves t request result old new) (TextAsked given t request.length result) text_leaves old new
       (read_leaves t request result old new host some (same_setup request) asked.settled asked.stages single)
 
   -- why nothing was: where the bus gave up, nothing is claimed of it
-  pub why_asked_of : IsToHost request → Asked t request old result new → NoThreeDamaged old → 8 ≤ t.max → new.shared ≡ false → EachWas (WhyAsked t request.length result) old new
+  pub why_asked_of : IsToHost request → AskedData t request old result new → NoThreeDamaged old → 8 ≤ t.max → new.shared ≡ false → EachWas (WhyAsked t request.length result) old new
   why_asked_of host asked three least single = split result asked
     where
       why_leaves : (result : Result (Vec ℕ) PipeFault) (j : ℕ) (p : List ℕ) (s v : State) → WhyRead t request result j p s v → WhyAsked t request.length result j p s v
       why_leaves result j p s v x = record { answered = x.answered; waited = x.waited }
 
-      sound : (result : Result (Vec ℕ) PipeFault) → IsNotOfBus result → Asked t request old result new → EachWas (WhyAsked t request.length result) old new
+      sound : (result : Result (Vec ℕ) PipeFault) → IsNotOfBus result → AskedData t request old result new → EachWas (WhyAsked t request.length result) old new
       sound result n asked =
           each_wider (WhyRead t request result) (WhyAsked t request.length result) (why_leaves result) old new
           (read_why t request result old new least host some (same_setup request) asked.settled three asked.stages n single)
 
-      split : (result : Result (Vec ℕ) PipeFault) → Asked t request old result new → EachWas (WhyAsked t request.length result) old new
+      split : (result : Result (Vec ℕ) PipeFault) → AskedData t request old result new → EachWas (WhyAsked t request.length result) old new
       split (Ok bytes) asked = sound (Ok bytes) tt asked
       split (Err Stalled) asked = sound (Err Stalled) tt asked
       split (Err Busy) asked = sound (Err Busy) tt asked
@@ -158,34 +154,34 @@ module _ (given : Spec → Option (List ℕ)) (t : Target) (request : Setup) (gi
 
 -- The requests
 
-pub device_asked : (t : Target) (n : ℕ) (result : Result (Vec ℕ) PipeFault) (old new : World) → 1 ≤ n → Asked t (get_device_descriptor n) old result new → new.shared ≡ false → EachWas (DeviceAsked t n result) old new
+pub device_asked : (t : Target) (n : ℕ) (result : Result (Vec ℕ) PipeFault) (old new : World) → 1 ≤ n → AskedData t (get_device_descriptor n) old result new → new.shared ≡ false → EachWas (DeviceAsked t n result) old new
 unfolding get_device_descriptor
 device_asked t n result old new some asked = text_asked_of device_given t (get_device_descriptor n) (device_outcome n) some result old new (omega arith) asked
 
-pub config_asked : (t : Target) (i n : ℕ) (result : Result (Vec ℕ) PipeFault) (old new : World) → i < 256 → 1 ≤ n → Asked t (get_configuration_descriptor i n) old result new → new.shared ≡ false → EachWas (ConfigAsked t i n result) old new
+pub config_asked : (t : Target) (i n : ℕ) (result : Result (Vec ℕ) PipeFault) (old new : World) → i < 256 → 1 ≤ n → AskedData t (get_configuration_descriptor i n) old result new → new.shared ≡ false → EachWas (ConfigAsked t i n result) old new
 unfolding get_configuration_descriptor
 config_asked t i n result old new byte some asked = text_asked_of (config_given i) t (get_configuration_descriptor i n) (config_outcome i n byte) some result old new (omega arith) asked
 
-pub string_asked : (t : Target) (i l : ℕ) (result : Result (Vec ℕ) PipeFault) (old new : World) → i < 256 → Asked t (get_string_descriptor i l) old result new → new.shared ≡ false → EachWas (StringAsked t i result) old new
+pub string_asked : (t : Target) (i l : ℕ) (result : Result (Vec ℕ) PipeFault) (old new : World) → i < 256 → AskedData t (get_string_descriptor i l) old result new → new.shared ≡ false → EachWas (StringAsked t i result) old new
 unfolding get_string_descriptor
 string_asked t i l result old new byte asked = text_asked_of (string_given i) t (get_string_descriptor i l) (string_outcome i l byte) (omega arith) result old new (omega arith) asked
 
-pub hub_asked : (t : Target) (result : Result (Vec ℕ) PipeFault) (old new : World) → Asked t get_hub_descriptor old result new → new.shared ≡ false → EachWas (HubAsked t result) old new
+pub hub_asked : (t : Target) (result : Result (Vec ℕ) PipeFault) (old new : World) → AskedData t get_hub_descriptor old result new → new.shared ≡ false → EachWas (HubAsked t result) old new
 unfolding get_hub_descriptor
 hub_asked t result old new asked = text_asked_of hub_given t get_hub_descriptor hub_outcome (omega arith) result old new (omega arith) asked
 
-pub device_why : (t : Target) (n : ℕ) (result : Result (Vec ℕ) PipeFault) (old new : World) → 1 ≤ n → Asked t (get_device_descriptor n) old result new → NoThreeDamaged old → 8 ≤ t.max → new.shared ≡ false → EachWas (WhyAsked t n result) old new
+pub device_why : (t : Target) (n : ℕ) (result : Result (Vec ℕ) PipeFault) (old new : World) → 1 ≤ n → AskedData t (get_device_descriptor n) old result new → NoThreeDamaged old → 8 ≤ t.max → new.shared ≡ false → EachWas (WhyAsked t n result) old new
 unfolding get_device_descriptor
 device_why t n result old new some asked = why_asked_of device_given t (get_device_descriptor n) (device_outcome n) some result old new (omega arith) asked
 
-pub config_why : (t : Target) (i n : ℕ) (result : Result (Vec ℕ) PipeFault) (old new : World) → i < 256 → 1 ≤ n → Asked t (get_configuration_descriptor i n) old result new → NoThreeDamaged old → 8 ≤ t.max → new.shared ≡ false → EachWas (WhyAsked t n result) old new
+pub config_why : (t : Target) (i n : ℕ) (result : Result (Vec ℕ) PipeFault) (old new : World) → i < 256 → 1 ≤ n → AskedData t (get_configuration_descriptor i n) old result new → NoThreeDamaged old → 8 ≤ t.max → new.shared ≡ false → EachWas (WhyAsked t n result) old new
 unfolding get_configuration_descriptor
 config_why t i n result old new byte some asked = why_asked_of (config_given i) t (get_configuration_descriptor i n) (config_outcome i n byte) some result old new (omega arith) asked
 
-pub string_why : (t : Target) (i l : ℕ) (result : Result (Vec ℕ) PipeFault) (old new : World) → i < 256 → Asked t (get_string_descriptor i l) old result new → NoThreeDamaged old → 8 ≤ t.max → new.shared ≡ false → EachWas (WhyAsked t 255 result) old new
+pub string_why : (t : Target) (i l : ℕ) (result : Result (Vec ℕ) PipeFault) (old new : World) → i < 256 → AskedData t (get_string_descriptor i l) old result new → NoThreeDamaged old → 8 ≤ t.max → new.shared ≡ false → EachWas (WhyAsked t 255 result) old new
 unfolding get_string_descriptor
 string_why t i l result old new byte asked = why_asked_of (string_given i) t (get_string_descriptor i l) (string_outcome i l byte) (omega arith) result old new (omega arith) asked
 
-pub hub_why : (t : Target) (result : Result (Vec ℕ) PipeFault) (old new : World) → Asked t get_hub_descriptor old result new → NoThreeDamaged old → 8 ≤ t.max → new.shared ≡ false → EachWas (WhyAsked t 9 result) old new
+pub hub_why : (t : Target) (result : Result (Vec ℕ) PipeFault) (old new : World) → AskedData t get_hub_descriptor old result new → NoThreeDamaged old → 8 ≤ t.max → new.shared ≡ false → EachWas (WhyAsked t 9 result) old new
 unfolding get_hub_descriptor
 hub_why t result old new asked = why_asked_of hub_given t get_hub_descriptor hub_outcome (omega arith) result old new (omega arith) asked

@@ -22,42 +22,32 @@ use Rattle.usb_world.specs.declared.types.BusFault.{BusFault}
 use Rattle.usb_world.specs.declared.types.Outcome.{Outcome}
 use Rattle.usb_world.specs.Courses.{Spares, is_harmless}
 use Rattle.usb_world.specs.Devices.{Was}
-use Rattle.usb_world.specs.Live.{address_of, is_way}
+use Rattle.usb_world.specs.Paths.{address_of, is_way}
 use Rattle.usb_world.specs.Passes.{IsSettled}
-use Rattle.usb_world.specs.Requested.{is_sparing}
-use Rattle.usb_world.specs.Resting.{AsksNothingOf}
+use Rattle.usb_world.specs.PortRequests.{is_sparing}
+use Rattle.usb_world.specs.RestingPorts.{AsksNothingOf}
 use Rattle.usb_world.specs.Steps.{Step, attempt, root_call, after, ready, Course, here, step as step_then, AttemptFails, SetsRoot, ClearsRoot}
-use Rattle.usb_world.specs.Touched.{spares}
+use Rattle.usb_world.specs.WayEffects.{spares}
 use Rattle.usb_world.specs.World.{World, Attempted, IsSetFeature, IsClearFeature}
-use Rattle.usb_world.proofs.AddressesReset.{same_is}
-use Rattle.usb_world.proofs.Booleans.{no, decided}
-use Rattle.usb_world.proofs.OneHolderMore.{made_of, equal_same}
-use Rattle.usb_world.proofs.WorldLaws.{course_joined, course_wider}
+use Rattle.usb_world.proofs.Interface.{course_joined, course_wider, decided, equal_same, made_of, no, same_is}
 use Rattle.usb_transaction.specs.declared.target.Target.{Target}
 use Rattle.usb_transaction.specs.declared.fault.TransFault.{TransFault}
 use Rattle.usb_transaction.specs.declared.fault.TransFault.TheVariants as trans
 use Rattle.usb_transaction.specs.Answerer.{Answerer}
-use Rattle.usb_transaction.specs.Over.{is_at, AcceptedAt}
+use Rattle.usb_transaction.specs.Leaves.{is_at, AcceptedAt}
 use Rattle.usb_transaction.specs.Trail.{Trail, start, Transacted}
-use Rattle.usb_transaction.specs.Trans.{in_attempt, setup_attempt, Worked}
-use Rattle.usb_transaction.proofs.Trails.{trail_course}
+use Rattle.usb_transaction.specs.Transactions.{in_attempt, setup_attempt, Worked}
+use Rattle.usb_transaction.proofs.Interface.{trail_course}
 use Rattle.usb_pipe.specs.declared.fault.PipeFault.{PipeFault}
 use Rattle.usb_pipe.specs.declared.fault.PipeFault.TheVariants.{Stalled, Busy, NoAnswer, Broken, Bus, Memory}
 use Rattle.usb_pipe.specs.Control.{fault_of, Faults}
 use Rattle.usb_pipe.specs.Stages.{SetUp, Writes}
-use Rattle.usb_pipe.specs.Whole.{IsBehind, IsNotOfBus, EffectDone, WriteLeaves}
-use Rattle.usb_pipe.proofs.WhoAnswers.{who_writes}
-use Rattle.usb_pipe.proofs.WholeWrites.{write_leaves}
+use Rattle.usb_pipe.specs.Leaves.{IsBehind, IsNotOfBus, EffectDone, WriteLeaves}
+use Rattle.usb_pipe.proofs.Interface.{who_writes, write_leaves}
 use Rattle.usb_address.specs.Claims.{Claims}
 use Rattle.usb_address.specs.Leaves.{LeavesPipe}
 use Rattle.usb_address.specs.Owned.{Owned, TillFault}
-use Rattle.usb_address.proofs.Keeping.{trail_sound}
-use Rattle.usb_address.proofs.Bare.{below_of, attempt_settled, named, less_one, held_of}
-use Rattle.usb_address.proofs.Claimed.{ClaimedAt, Follows, claimed_path, trail_with, quiet_follows, reset_follows, some}
-use Rattle.usb_address.proofs.Resetting.{Fits, Resets, resets_leave}
-use Rattle.usb_address.proofs.Ports.{no_path, no_root}
-use Rattle.usb_address.proofs.Setups.{same_setup}
-use Rattle.usb_address.proofs.Transfers.{writes_leave}
+use Rattle.usb_address.proofs.Interface.{ClaimedAt, Fits, Follows, Resets, attempt_settled, below_of, claimed_path, held_of, less_one, named, no_path, no_root, quiet_follows, reset_follows, resets_leave, same_setup, some, trail_sound, trail_with, writes_leave}
 use Rattle.usb_hub.specs.Addresses.{IsBelow}
 use Rattle.usb_hub.specs.Moments.{IsAbout, UpToFault, ActsAt, PortDone, CallsPort}
 use Rattle.usb_hub.specs.Requests.{AllRest, Ordered}
@@ -67,6 +57,7 @@ use Rattle.usb_hub.specs.declared.port.HubPort.TheVariants.{Root, External}
 use Rattle.usb_hub.proofs.Acting.{place_below, place_called, AsksFor, attempt_acts, root_acts, root_acted}
 use Rattle.usb_hub.proofs.Rests.{behind_rests, behind_asks_nothing}
 use Rattle.usb_hub.proofs.Why.{same_port, call_served}
+use Rattle.usb_bus.proofs.Interface.{clear_found, set_found}
 
 -- The attempts of a request without data: its setup data again and again, and what comes behind them
 
@@ -425,26 +416,13 @@ module _ (port : HubPort) (hub : Target) (number : ℕ) (call : Option PortCall)
   hub_calls : CallsPort port call old result new
   hub_calls = rw e of_hub
 
-set_called : (feature : ℕ) → IsSetFeature feature → (c : PortCall) × (set_call feature ≡ Some c)
-unfolding set_call
-set_called feature (inl e) = (SetReset, ap set_call e)
-set_called feature (inr e) = (SetPower, ap set_call e)
-
-clear_called : (feature : ℕ) → IsClearFeature feature → (c : PortCall) × (clear_call feature ≡ Some c)
-unfolding clear_call
-clear_called feature (inl e) = (ClearEnable, ap clear_call e)
-clear_called feature (inr (inl e)) = (ClearPower, ap clear_call e)
-clear_called feature (inr (inr (inl e))) = (ClearConnectionChange, ap clear_call e)
-clear_called feature (inr (inr (inr (inl e)))) = (ClearEnableChange, ap clear_call e)
-clear_called feature (inr (inr (inr (inr e)))) = (ClearResetChange, ap clear_call e)
-
 pub hub_sets : (port : HubPort) (hub : Target) (number feature : ℕ) (old : World) (result : Result (Unit {0}) PipeFault) (new : World) → port ≡ External hub number → IsSetFeature feature
     → Ordered hub (set_port_feature feature number) old result new → CallsPort port (set_call feature) old result new
-hub_sets port hub number feature old result new e named = hub_calls port hub number (set_call feature) (set_port_feature feature number) (set_called feature named) (λ c is. set_asks number c feature named is) old result new e
+hub_sets port hub number feature old result new e named = hub_calls port hub number (set_call feature) (set_port_feature feature number) (set_found feature named) (λ c is. set_asks number c feature named is) old result new e
 
 pub hub_clears : (port : HubPort) (hub : Target) (number feature : ℕ) (old : World) (result : Result (Unit {0}) PipeFault) (new : World) → port ≡ External hub number → IsClearFeature feature
     → Ordered hub (clear_port_feature feature number) old result new → CallsPort port (clear_call feature) old result new
-hub_clears port hub number feature old result new e named = hub_calls port hub number (clear_call feature) (clear_port_feature feature number) (clear_called feature named) (λ c is. clear_asks number c feature named is) old result new e
+hub_clears port hub number feature old result new e named = hub_calls port hub number (clear_call feature) (clear_port_feature feature number) (clear_found feature named) (λ c is. clear_asks number c feature named is) old result new e
 
 -- A root port
 

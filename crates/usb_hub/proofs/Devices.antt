@@ -1,5 +1,5 @@
 -- Calls on ports that leave each device as it was.
-use Rattle.std.proofs.Common.{◌≡◌, ◌≢◌, ◌==◌, ◌&&◌, ◌⊎◌, inl, inr, ℕ, zero, suc, Bool, true, false, List, [], ◌∷◌, Option, None, Some, option_map, Result, Ok, Err, refl, ap, sym, subst, ◌∙◌, arith}
+use Rattle.std.proofs.Common.{◌≡◌, ◌≢◌, ◌==◌, ◌&&◌, ℕ, zero, suc, Bool, true, false, List, [], ◌∷◌, Option, None, Some, option_map, Result, refl, ap, sym, subst, ◌∙◌, arith}
 use Rattle.usb_port.specs.PortState.{PortState}
 use Rattle.usb_port.specs.Status.{status_in}
 use Rattle.usb_port.specs.declared.status.PortStatus.{PortStatus}
@@ -8,7 +8,7 @@ use Rattle.usb_request.specs.declared.setup.Setup.{Setup}
 use Rattle.usb_device.specs.declared.calls.PortCall.{PortCall}
 use Rattle.usb_device.specs.declared.request.Registers.{Registers}
 use Rattle.usb_device.specs.Calls.{is_reset}
-use Rattle.usb_device.specs.Progress.{OnlyControl, OnlyStage, StatusGiven}
+use Rattle.usb_device.specs.Progress.{OnlyControl, OnlyStage}
 use Rattle.usb_device.specs.Request.{Outcome, stalled, answers, takes_address, takes_configuration, halts, unhalts, tells_port, calls_port, called_at, outcome}
 use Rattle.usb_device.specs.Rows.{State, begun, accepted}
 use Rattle.usb_device.specs.Spec.{Spec}
@@ -16,41 +16,40 @@ use Rattle.usb_device.specs.Transfer.{first_stage, ending}
 use Rattle.usb_device.specs.Tree.{Ports, reach_at, state_at}
 use Rattle.usb_world.specs.Courses.{is_harmless}
 use Rattle.usb_world.specs.Devices.{Was, EachWas}
-use Rattle.usb_world.specs.Live.{address_of, is_way, same_number}
+use Rattle.usb_world.specs.Paths.{address_of, is_way, same_number}
 use Rattle.usb_world.specs.Steps.{root_call, after}
-use Rattle.usb_world.specs.Touched.{call_resets, reset_if}
+use Rattle.usb_world.specs.WayEffects.{call_resets, reset_if}
 use Rattle.usb_world.specs.World.{World}
-use Rattle.usb_world.proofs.Booleans.{no, decided, and_false}
-use Rattle.usb_world.proofs.CallLaws.{call_reach, call_state}
-use Rattle.usb_world.proofs.Devices.{each_none, each_wider}
+use Rattle.usb_world.proofs.Interface.{and_false, call_reach, call_state, each_none, each_wider, no}
 use Rattle.usb_transaction.specs.declared.target.Target.{Target}
-use Rattle.usb_transaction.specs.Over.{is_at}
 use Rattle.usb_pipe.specs.declared.fault.PipeFault.{PipeFault}
-use Rattle.usb_pipe.specs.Whole.{ReadLeaves, WriteLeaves, EffectDone, EffectOrNone, none, some, whole}
-use Rattle.usb_pipe.proofs.WholeReads.{read_leaves}
-use Rattle.usb_pipe.proofs.WholeWrites.{write_leaves}
-use Rattle.usb_address.proofs.Setups.{same_setup}
+use Rattle.usb_pipe.specs.Leaves.{ReadLeaves, WriteLeaves}
+use Rattle.usb_pipe.proofs.Interface.{read_leaves, write_leaves}
+use Rattle.usb_address.proofs.Interface.{same_setup}
 use Rattle.usb_hub.specs.Addresses.{StaysAs, EachElsewhere, KeepsDevices}
 use Rattle.usb_hub.specs.Requests.{Told, Ordered}
-use Rattle.usb_hub.proofs.Settings.{each_leaves, given_none}
+use Rattle.usb_hub.proofs.Settings.{each_leaves, given_none, write_so}
 
 pub stays_itself : (j : ℕ) (p : List ℕ) (s : State) → StaysAs j p s s
-stays_itself j p s = (refl, refl, refl)
+stays_itself j p s = refl
+
+-- it has the description that it had
+pub stays-spec : (s v : State) → OnlyStage s v → v.spec ≡ s.spec
+stays-spec s v stays = ap (λ (d : State). d.spec) stays
+
+-- and the registers
+pub stays-registers : (s v : State) → OnlyStage s v → v.registers ≡ s.registers
+stays-registers s v stays = ap (λ (d : State). d.registers) stays
 
 pub stays_joined : (j : ℕ) (p : List ℕ) (s t v : State) → StaysAs j p s t → StaysAs j p t v → StaysAs j p s v
-stays_joined j p s t v x y = (y.0 ∙ x.0, y.1 ∙ x.1, y.2 ∙ ap (λ (d : State). record d { memory = v.memory; naks = v.naks; stage = v.stage }) x.2)
+stays_joined j p s t v x y = y ∙ ap (λ (d : State). record d { memory = v.memory; naks = v.naks; stage = v.stage }) x
 
 pub same_stays : (j : ℕ) (p : List ℕ) (s v : State) → v ≡ s → StaysAs j p s v
-same_stays j p s v e = subst (λ (d : State). StaysAs j p s d) (sym e) (refl, refl, refl)
+same_stays j p s v e = subst (λ (d : State). StaysAs j p s d) (sym e) refl
 
--- where nothing changed but where its transfer stands
-pub stage_stays : (j : ℕ) (p : List ℕ) (s v : State) → OnlyStage s v → StaysAs j p s v
-stage_stays j p s v frame = (ap (λ (d : State). d.spec) frame, ap (λ (d : State). d.registers) frame, frame)
-
--- and its registers, which are the same
+-- where its registers may have changed too, and are the same
 pub control_stays : (j : ℕ) (p : List ℕ) (s v : State) → OnlyControl s v → v.registers ≡ s.registers → StaysAs j p s v
-control_stays j p s v frame same =
-    (ap (λ (d : State). d.spec) frame, same, frame ∙ ap (λ (g : Registers). record s { memory = v.memory; naks = v.naks; stage = v.stage; registers = g }) same)
+control_stays j p s v frame same = frame ∙ ap (λ (g : Registers). record s { memory = v.memory; naks = v.naks; stage = v.stage; registers = g }) same
 
 pub stays_none : (w : World) → KeepsDevices w w
 stays_none w = record { stays = λ single. each_none StaysAs stays_itself w }
@@ -97,22 +96,11 @@ module _ (t : Target) (request : Setup) (of_port : (spec : Spec) (g : Registers)
   accepted_stays : (row : List PortState) → OnlyControl (accepted s row request) v → v.registers ≡ (accepted s row request).registers → StaysAs j p s v
   accepted_stays row frame same = begun_stays (outcome s.spec s.registers request) (of_port s.spec s.registers) s v row request.length j p frame same
 
-  given_stays : (row : List PortState) (address : Option ℕ) → first_stage row request.length (outcome s.spec s.registers request) ≡ ending address → OnlyControl (accepted s row request) v → StatusGiven address (accepted s row request) v → StaysAs j p s v
-  given_stays row address is frame given =
-      accepted_stays row frame (given_none address (accepted s row request) v (no_address (outcome s.spec s.registers request) (of_port s.spec s.registers) row request.length address is) given)
-
-  failed_stays : (fault : PipeFault) → EffectOrNone t request fault old j p s v → StaysAs j p s v
-  failed_stays fault (none frame same) = control_stays j p s v frame same
-  failed_stays fault (some row now at frame same) = accepted_stays row frame same
-  failed_stays fault (whole why e row now at frame address is given) = given_stays row address is frame given
-
   pub write_stays : (result : Result (Unit {0}) PipeFault) → WriteLeaves t request result old new j p s v → StaysAs j p s v
-  write_stays (Ok u) x = pick (decided (is_at s t))
-    where
-      pick : (is_at s t ≡ true) ⊎ (is_at s t ≡ false) → StaysAs j p s v
-      pick (inl at) = let d : EffectDone t request old new j p s v = x.done at u refl in given_stays d.row d.address d.is d.rest d.given
-      pick (inr at) = same_stays j p s v (x.others at)
-  write_stays (Err fault) x = failed_stays fault (x.failed fault refl)
+  write_stays =
+      write_so t request old new j p s v (StaysAs j p s v) accepted_stays
+      (λ row address is frame given. accepted_stays row frame (given_none address (accepted s row request) v (no_address (outcome s.spec s.registers request) (of_port s.spec s.registers) row request.length address is) given))
+      (λ frame same. control_stays j p s v frame same)
 
 ordered_stays : (t : Target) (request : Setup) → ((spec : Spec) (g : Registers) → IsOfPort (outcome spec g request)) → is_harmless request ≡ true → request.length ≡ 0
     → (old : World) (result : Result (Unit {0}) PipeFault) (new : World) → Ordered t request old result new → KeepsDevices old new
@@ -147,7 +135,7 @@ pub told_stays : (hub : Target) (port : ℕ) (old : World) (result : Result Port
 unfolding get_port_status
 told_stays hub port old result new told = record {
   stays = λ single.
-      each_wider (ReadLeaves hub (get_port_status port) told.answer old new) StaysAs (λ j p s v x. stage_stays j p s v x.frame) old new
+      each_wider (ReadLeaves hub (get_port_status port) told.answer old new) StaysAs (λ j p s v x. x.frame) old new
       (read_leaves hub (get_port_status port) told.answer old new (omega arith) (omega arith) (same_setup (get_port_status port)) told.asked.settled told.asked.stages single);
 }
 
@@ -170,12 +158,12 @@ root_was c i old j p s rests on there = record {
   before = s;
   on = call_reach c old.roots i j p rests on;
   stands = kept_state (state_at old.roots j p) (call_resets c old.roots i j p) s rests (sym (call_state c old.roots i j p) ∙ there);
-  so = (refl, refl, refl);
+  so = refl;
 }
 
 root_each : (c : PortCall) (number : ℕ) (old : World) → is_reset c ≡ false → EachWas StaysAs old (after (root_call c number) old)
 unfolding after
-root_each c zero old quiet j p s on there = record { before = s; on = on; stands = there; so = (refl, refl, refl) }
+root_each c zero old quiet j p s on there = record { before = s; on = on; stands = there; so = refl }
 root_each c (suc i) old quiet j p s on there = root_was c i old j p s (call_rests c old.roots i j p quiet) on there
 
 call_elsewhere : (c : PortCall) (k : Ports) (i j : ℕ) (p : List ℕ) → is_way (suc i ∷ []) (suc j ∷ p) ≡ false → call_resets c k i j p ≡ false
@@ -190,7 +178,7 @@ call_elsewhere c k i j (n ∷ p) apart = refl
 -- any call, of devices that are not at or below its port
 pub root_elsewhere : (c : PortCall) (number : ℕ) (old : World) → EachElsewhere (number ∷ []) StaysAs old (after (root_call c number) old)
 unfolding after
-root_elsewhere c zero old j p s apart on there = record { before = s; on = on; stands = there; so = (refl, refl, refl) }
+root_elsewhere c zero old j p s apart on there = record { before = s; on = on; stands = there; so = refl }
 root_elsewhere c (suc i) old j p s apart on there = root_was c i old j p s (call_elsewhere c old.roots i j p apart) on there
 
 pub root_stays : (c : PortCall) (number : ℕ) (old : World) → is_reset c ≡ false → KeepsDevices old (after (root_call c number) old)

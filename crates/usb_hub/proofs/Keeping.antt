@@ -2,7 +2,6 @@
 use Rattle.std.proofs.Common.{◌≡◌, ◌≢◌, ◌⊎◌, inl, inr, ◌∙◌, refl, sym, ap, subst, Bool, true, false, if◌then◌else◌}
 use Rattle.std.specs.Prelude.{ℕ, suc, List, ◌∷◌, None, Some, option_map, Result, Ok, Err, OnOk}
 use Rattle.std.specs.Global.{Vec}
-use Rattle.usb_port.specs.PortState.{off}
 use Rattle.usb_port.specs.Status.{seen, status_in}
 use Rattle.usb_port.specs.declared.status.PortStatus.{PortStatus}
 use Rattle.usb_request.specs.Layout.{IsToHost}
@@ -14,45 +13,42 @@ use Rattle.usb_device.specs.Calls.{set_call, clear_call, is_reset}
 use Rattle.usb_device.specs.Request.{Is}
 use Rattle.usb_device.specs.Rows.{State}
 use Rattle.usb_device.specs.Tree.{reach_at, state_at}
-use Rattle.usb_world.specs.World.{World, IsClearFeature, port_at}
+use Rattle.usb_world.specs.World.{World, IsClearFeature, root_port_at}
 use Rattle.usb_world.specs.Steps.{SetsRoot, ClearsRoot, root_call, after}
 use Rattle.usb_world.specs.Addresses.{after_reset, after_taking}
 use Rattle.usb_world.specs.Courses.{is_harmless}
-use Rattle.usb_world.specs.Live.{address_of, is_way, same_path}
-use Rattle.usb_world.proofs.Booleans.{no}
+use Rattle.usb_world.specs.Paths.{address_of, is_way, same_path}
+use Rattle.usb_world.proofs.Interface.{no}
 use Rattle.usb_transaction.specs.declared.target.Target.{Target}
 use Rattle.usb_transaction.specs.Answerer.{Answerer}
 use Rattle.usb_pipe.specs.declared.fault.PipeFault.{PipeFault}
 use Rattle.usb_pipe.specs.Stages.{Reads}
-use Rattle.usb_address.specs.Claims.{Claims, cleared}
+use Rattle.usb_pipe.proofs.Interface.{host_harmless}
+use Rattle.usb_address.specs.Claims.{Claims, claims_apart}
 use Rattle.usb_address.specs.Owned.{Owned, TillFault, KeepsAddresses}
-use Rattle.usb_address.proofs.Answerers.{answerer_claims}
-use Rattle.usb_address.proofs.Keeping.{keeps_none, read_keeps, write_keeps, write_till, either_alone}
-use Rattle.usb_address.proofs.Ports.{clear_bares, not_way, status_bares, reset_till}
-use Rattle.usb_address.proofs.Resetting.{same_way}
-use Rattle.usb_address.proofs.Roots.{root_keeps, root_resets, root_bares, root_shut}
-use Rattle.usb_address.proofs.Setups.{same_setup, reads_harmless, reads_other}
-use Rattle.usb_address.proofs.Transfers.{gives_address}
+use Rattle.usb_address.proofs.Interface.{answerer_claims, either_alone, gives_address, keeps_none, not_way, read_keeps, reads_other, reset_till, root_keeps, root_resets, root_shut, same_setup, same_way, write_keeps, write_till}
 use Rattle.usb_hub.specs.declared.port.HubPort.{HubPort}
 use Rattle.usb_hub.specs.declared.port.HubPort.TheVariants.{Root, External}
-use Rattle.usb_hub.specs.Addresses.{StaysAs, EachElsewhere, KeepsDevices, IsBelow, Answers, Bares, Resets, GivesAddress, KeepsAnswered, KeepsAsked, KeepsSet, KeepsCleared}
+use Rattle.usb_hub.specs.Addresses.{StaysAs, EachElsewhere, KeepsDevices, IsBelow, IsClaimed, Resets, GivesAddress, KeepsAnswered, KeepsAsked, KeepsSet, KeepsCleared}
 use Rattle.usb_hub.specs.Port.{PortRead}
-use Rattle.usb_hub.specs.Requests.{Ends, Told, Ordered}
+use Rattle.usb_hub.specs.Requests.{EndsAfter, Told, Ordered}
 use Rattle.usb_hub.proofs.Devices.{not_reset, stays_none, told_stays, cleared_stays, set_stays, reset_stays, root_stays, root_elsewhere}
-use Rattle.usb_hub.proofs.Told.{said}
+use Rattle.usb_hub.proofs.Baring.{told_bares, done_bares}
+use Rattle.usb_hub.proofs.Calls.{hub_clears, root_clears}
+use Rattle.usb_hub.proofs.Moments.{hub_tells}
 
 told_same : (seen status : PortStatus) (result : Result PortStatus PipeFault) → result ≡ Ok seen → result ≡ Ok status → seen ≡ status
 told_same seen status result a b = cc (a, b)
 
 -- Requests to a device
 
-pub answered : (target : Target) (request : Setup) (old : World) (result : Result (Vec ℕ) PipeFault) (new : World) → IsToHost request → Ends 3 old result new → Reads target request old result new
+pub answered : (target : Target) (request : Setup) (old : World) (result : Result (Vec ℕ) PipeFault) (new : World) → IsToHost request → EndsAfter 3 old result new → Reads target request old result new
     → OnOk result (new.shared ≡ false → Answerer target old new) → KeepsAnswered target.addr old result new
 answered target request old result new reads ends stages who =
-    let keeps = read_keeps target request (same_setup request) (reads_harmless request reads) (reads_other request reads) 3 1 old new result ends stages in
+    let keeps = read_keeps target request (same_setup request) (host_harmless request reads) (reads_other request reads) 3 1 old new result ends stages in
     record { keeps = keeps; who = told result ends who keeps }
   where
-    told : (result : Result (Vec ℕ) PipeFault) → Ends 3 old result new → OnOk result (new.shared ≡ false → Answerer target old new) → KeepsAddresses old new → OnOk result (Answers target.addr old)
+    told : (result : Result (Vec ℕ) PipeFault) → EndsAfter 3 old result new → OnOk result (new.shared ≡ false → Answerer target old new) → KeepsAddresses old new → OnOk result (IsClaimed target.addr old)
     told (Ok bytes) ends who keeps = record { held = λ f o. answerer_claims f target old new (o.so ends.sound) (who (keeps.kept f o).single) }
     told (Err fault) ends who keeps = tt
 
@@ -81,24 +77,6 @@ cleared_keeps hub feature port old result new = ordered_keeps hub (clear_port_fe
 pub set_keeps : (hub : Target) (feature port : ℕ) (old : World) (result : Result (Unit {0}) PipeFault) (new : World) → feature ≢ 4 → Ordered hub (set_port_feature feature port) old result new → KeepsAddresses old new
 unfolding set_port_feature
 set_keeps hub feature port old result new other = ordered_keeps hub (set_port_feature feature port) old result new (rw (not_reset feature other) refl) refl
-
-hub_bares : (hub : Target) (port : ℕ) (status : PortStatus) (old new : World) → Told status_in hub (get_port_status port) old (Ok status) new → status.enabled ≡ false → Bares (External hub port) old new
-hub_bares hub port status old new told off = record { bares = bares }
-  where
-    bares : (f : Claims) (p : List ℕ) → IsBelow f hub.addr port p → TillFault (Owned f) old → TillFault (Owned (cleared f p)) new
-    bares f p at o =
-        let read = said status_in (get_port_status port).length told.answer status told.told in
-        subst (λ p. TillFault (Owned (cleared f p)) new) (sym at.path)
-        (status_bares hub 3 1 old new f at.hub port read.bytes at.is_path at.number at.held told.ends
-        (subst (λ a. Reads hub (get_port_status port) old a new) read.is told.asked.stages) (ap (λ s. s.enabled) (sym read.read_so) ∙ off) o)
-
-hub_disables : (hub : Target) (port : ℕ) (old new : World) → Ordered hub (clear_port_feature 1 port) old (Ok tt) new → Bares (External hub port) old new
-hub_disables hub port old new ordered = record { bares = bares }
-  where
-    bares : (f : Claims) (p : List ℕ) → IsBelow f hub.addr port p → TillFault (Owned f) old → TillFault (Owned (cleared f p)) new
-    bares f p at o =
-        subst (λ p. TillFault (Owned (cleared f p)) new) (sym at.path)
-        (clear_bares hub 2 1 old new f at.hub port at.is_path at.number at.held ordered.ends ordered.stages o)
 
 -- what is not at a path nor below it is not claimed at 0, where 0 is claimed there alone
 reset_elsewhere : (f : Claims) (p : List ℕ) (w : World) → ((x : List ℕ) → f x ≡ Some 0 → is_way p x ≡ true) → Owned f w ⊎ Owned (after_reset f p) w
@@ -138,10 +116,6 @@ root_reset_is : (number feature : ℕ) (old new : World) → SetsRoot number fea
 unfolding set_call
 root_reset_is number feature old new sets e = (subst (λ n. SetsRoot number n old new) e sets).step SetReset refl
 
-root_disables_is : (number feature : ℕ) (old new : World) → ClearsRoot number feature old new → feature ≡ 1 → new ≡ after (root_call ClearEnable number) old
-unfolding clear_call
-root_disables_is number feature old new clears e = (subst (λ n. ClearsRoot number n old new) e clears).step ClearEnable refl
-
 -- a call that resets none
 pub record CalledQuietly (number : ℕ) (old new : World) : Type 0 where
   pub call : PortCall
@@ -175,8 +149,8 @@ status_keeps port old result new number e read = rw e (root (rw e at read))
       keeps = subst (λ w. KeepsAddresses old w) (sym r.same) (keeps_none old);
       devices = subst (λ w. KeepsDevices old w) (sym r.same) (stays_none old);
       bare = λ status told off. record {
-        bares = λ f p at o. subst (λ w. TillFault (Owned (cleared f p)) w) (sym r.same)
-            (subst (λ p. TillFault (Owned (cleared f p)) old) (sym at) (root_shut f number old (ap (λ s. s.enabled) (told_same (seen (port_at old number)) status result r.status told) ∙ off) o));
+        bares = λ f p at o. subst (λ w. TillFault (Owned (claims_apart f p)) w) (sym r.same)
+            (subst (λ p. TillFault (Owned (claims_apart f p)) old) (sym at) (root_shut f number old (ap (λ s. s.enabled) (told_same (seen (root_port_at old number)) status result r.status told) ∙ off) o));
       };
     }
 
@@ -184,7 +158,9 @@ pub hub_status_keeps : (port : HubPort) (hub : Target) (number : ℕ) (old : Wor
 hub_status_keeps port hub number old result new e told keeps = rw e (record {
   keeps = keeps;
   devices = told_stays hub number old result new told;
-  bare = λ status is off. hub_bares hub number status old new (subst (λ r. Told status_in hub (get_port_status number) old r new) is told) off;
+  bare = λ status is off.
+      told_bares (External hub number) status old new keeps
+      (hub_tells (External hub number) hub number old (Ok status) new refl (subst (λ r. Told status_in hub (get_port_status number) old r new) is told)) off;
 })
 
 pub root_set_keeps : (port : HubPort) (number feature : ℕ) (old new : World) → port ≡ Root number → SetsRoot number feature old new → KeepsSet port feature old new
@@ -214,11 +190,9 @@ pub root_clear_keeps_port : (port : HubPort) (number feature : ℕ) (old new : W
 root_clear_keeps_port port number feature old new e named clears = rw e (record {
   keeps = keeps_quietly number old new (clear_is_quiet number feature old new named clears);
   devices = stays_quietly number old new (clear_is_quiet number feature old new named clears);
-  bare = λ is done. record {
-    bares = λ f p at o.
-        subst (λ w. TillFault (Owned (cleared f p)) w) (sym (root_disables_is number feature old new clears is))
-        (subst (λ p. TillFault (Owned (cleared f p)) (after (root_call ClearEnable number) old)) (sym at) (root_bares f number old o));
-  };
+  bare = λ is done.
+      done_bares (Root number) old new (keeps_quietly number old new (clear_is_quiet number feature old new named clears))
+      (root_clears (Root number) number 1 old new refl (subst (λ n. ClearsRoot number n old new) is clears));
 })
 
 pub hub_clear_keeps : (port : HubPort) (hub : Target) (number feature : ℕ) (old : World) (result : Result (Unit {0}) PipeFault) (new : World) → port ≡ External hub number
@@ -226,6 +200,8 @@ pub hub_clear_keeps : (port : HubPort) (hub : Target) (number feature : ℕ) (ol
 hub_clear_keeps port hub number feature old result new e ordered = rw e (record {
   keeps = cleared_keeps hub feature number old result new ordered;
   devices = cleared_stays hub feature number old result new ordered;
-  bare = λ is done. hub_disables hub number old new
-      (subst (λ r. Ordered hub (clear_port_feature 1 number) old r new) done (subst (λ n. Ordered hub (clear_port_feature n number) old result new) is ordered));
+  bare = λ is done.
+      done_bares (External hub number) old new (cleared_keeps hub feature number old result new ordered)
+      (hub_clears (External hub number) hub number 1 old (Ok tt) new refl (inl refl)
+      (subst (λ r. Ordered hub (clear_port_feature 1 number) old r new) done (subst (λ n. Ordered hub (clear_port_feature n number) old result new) is ordered)));
 })

@@ -1,3 +1,4 @@
+pub mod Interface
 pub mod Rests
 pub mod Acting
 pub mod Calls
@@ -6,6 +7,7 @@ pub mod Keeping
 pub mod Orders
 pub mod Ports
 pub mod Asked
+pub mod Baring
 pub mod Told
 pub mod Powering
 pub mod Settings

@@ -1,13 +1,12 @@
 -- What was so of a port at a moment of a call on it.
-use Rattle.std.proofs.Common.{◌≡◌, ℕ, zero, suc, ◌-◌, ◌≤◌, ◌==◌, inr, true, false, List, [], ◌∷◌, ◌++◌, take, slice_get, slice_index_or, Some, option_map, Result, Ok, refl, ap, sym, subst, ◌∙◌, arith}
-use Rattle.std.proofs.lemmas.Bool.Decides.{nat_tests}
+use Rattle.std.proofs.Common.{◌≡◌, ℕ, zero, suc, ◌-◌, ◌≤◌, inr, true, false, List, [], ◌∷◌, ◌++◌, take, slice_get, slice_index_or, Some, option_map, Result, Ok, refl, ap, sym, subst, ◌∙◌, arith}
 use Rattle.std.proofs.lemmas.Option.{same_Some, slice_get-get_or}
 use Rattle.std.specs.Global.{Vec}
 use Rattle.usb_port.specs.Path.{IsPath, IsPortNumber}
 use Rattle.usb_port.specs.PortState.{PortState, status_of, off}
 use Rattle.usb_port.specs.Status.{status_in, seen}
 use Rattle.usb_port.specs.declared.status.PortStatus.{PortStatus}
-use Rattle.usb_port.proofs.StatusLaws.{status_seen}
+use Rattle.usb_port.proofs.Interface.{status_seen}
 use Rattle.usb_request.specs.Layout.{setup_of, bytes_of, IsToHost}
 use Rattle.usb_request.specs.declared.setup.Setup.{Setup}
 use Rattle.usb_request.specs.Requests.{get_port_status}
@@ -18,44 +17,37 @@ use Rattle.usb_device.specs.Rows.{State}
 use Rattle.usb_device.specs.Transfer.{reading, first_stage}
 use Rattle.usb_device.specs.Tree.{acted, port_at, reach, reach_at, state_at}
 use Rattle.usb_device.specs.View.{port_there, state_there}
-use Rattle.usb_world.specs.Live.{address_of}
+use Rattle.usb_world.specs.Paths.{address_of}
 use Rattle.usb_world.specs.Passes.{IsSettled}
-use Rattle.usb_world.specs.Requested.{is_plain}
-use Rattle.usb_world.specs.Resting.{AsksNothingOf}
-use Rattle.usb_world.specs.World.{World, IsRootPort, root_row, port_at as root_port}
+use Rattle.usb_world.specs.PortRequests.{is_plain}
+use Rattle.usb_world.specs.RestingPorts.{AsksNothingOf}
+use Rattle.usb_world.specs.World.{World, IsRootPort, root_row, root_port_at as root_port}
 use Rattle.usb_world.specs.Steps.{Course, here}
 use Rattle.usb_world.specs.Devices.{Was}
-use Rattle.usb_world.proofs.AddressesReset.{same_is}
+use Rattle.usb_world.proofs.Interface.{equal_same, same_is}
 use Rattle.usb_transaction.specs.declared.target.Target.{Target}
 use Rattle.usb_transaction.specs.Answerer.{Answerer}
-use Rattle.usb_transaction.specs.Over.{is_at, AcceptedAt}
-use Rattle.usb_transaction.specs.Why.{NoThreeDamaged}
+use Rattle.usb_transaction.specs.Leaves.{is_at, AcceptedAt}
+use Rattle.usb_transaction.specs.Failures.{NoThreeDamaged}
 use Rattle.usb_pipe.specs.declared.fault.PipeFault.{PipeFault}
-use Rattle.usb_pipe.specs.Whole.{AnswerRead, ReadLeaves}
-use Rattle.usb_pipe.proofs.WhoAnswers.{who_reads}
-use Rattle.usb_pipe.proofs.WholeReads.{read_leaves}
+use Rattle.usb_pipe.specs.Leaves.{AnswerRead, ReadLeaves}
+use Rattle.usb_pipe.proofs.Interface.{read_leaves, who_reads}
 use Rattle.usb_address.specs.Claims.{Claims}
 use Rattle.usb_address.specs.Owned.{Owned, TillFault}
-use Rattle.usb_address.proofs.Bare.{below_of, attempt_settled, less_one}
-use Rattle.usb_address.proofs.Ports.{no_path, no_root}
-use Rattle.usb_address.proofs.Setups.{same_setup}
-use Rattle.usb_address.proofs.Transfers.{reads_leave}
+use Rattle.usb_address.proofs.Interface.{attempt_settled, below_of, less_one, no_path, no_root, port_below_at, reads_leave, same_setup}
 use Rattle.usb_hub.specs.Addresses.{IsBelow}
 use Rattle.usb_hub.specs.declared.port.HubPort.{HubPort}
 use Rattle.usb_hub.specs.declared.port.HubPort.TheVariants.{Root, External}
 use Rattle.usb_hub.specs.Moments.{PortTold, TellsPort}
 use Rattle.usb_hub.specs.Port.{IsPort, RootRead, PortRead}
-use Rattle.usb_hub.specs.Requests.{Asked, Told}
-use Rattle.usb_hub.specs.Why.{Serves, IsServed}
+use Rattle.usb_hub.specs.Requests.{AskedData, Told}
+use Rattle.usb_hub.specs.Why.{Serves, NoHubFailed}
 use Rattle.usb_hub.proofs.Rests.{behind_asks_nothing, plain_course}
-use Rattle.usb_hub.proofs.Statuses.{port_below, row_port, StatusOf, status_outcome, whole_status}
+use Rattle.usb_hub.proofs.Statuses.{row_port, StatusOf, status_outcome, whole_status}
 use Rattle.usb_hub.proofs.Told.{IsRead, said}
 use Rattle.usb_hub.proofs.Why.{same_port, status_served}
 
 -- Who answered
-
-same_address : (n m : ℕ) → (n == m) ≡ true → n ≡ m
-same_address n m h = grind (arith, nat_tests, h)
 
 -- a device that is reached in the end, and had the target's address before
 record Answered (t : Target) (old new : World) (j : ℕ) (e : List ℕ) : Type 0 where
@@ -78,14 +70,14 @@ answered_at f t old new j e o held a = record {
 }
   where
     claims : f (suc a.j ∷ a.p) ≡ Some t.addr
-    claims = sym (o.own (suc a.j ∷ a.p) a.was_on) ∙ ap (option_map address_of) a.stood ∙ ap (λ n. Some n) (same_address (address_of a.before) t.addr a.at)
+    claims = sym (o.own (suc a.j ∷ a.p) a.was_on) ∙ ap (option_map address_of) a.stood ∙ ap (λ n. Some n) (equal_same (address_of a.before) t.addr a.at)
 
     same : (suc a.j ∷ a.p) ≡ (suc j ∷ e)
     same = same_is (suc j ∷ e) (suc a.j ∷ a.p) (o.distinct (suc j ∷ e) (suc a.j ∷ a.p) t.addr held claims)
 
 -- The status of a port of a hub
 
-module _ (t : Target) (j : ℕ) (e : List ℕ) (i : ℕ) (old new : World) (bytes : Vec ℕ) (told : Asked t (get_port_status (suc i)) old (Ok bytes) new) (single : new.shared ≡ false) (a : Answered t old new j e) where
+module _ (t : Target) (j : ℕ) (e : List ℕ) (i : ℕ) (old new : World) (bytes : Vec ℕ) (told : AskedData t (get_port_status (suc i)) old (Ok bytes) new) (single : new.shared ≡ false) (a : Answered t old new j e) where
   abbrev request : Setup
   request = get_port_status (suc i)
 
@@ -131,7 +123,7 @@ module _ (t : Target) (j : ℕ) (e : List ℕ) (i : ℕ) (old new : World) (byte
   in_row = row_port accepted_there.below i ∙ ap (λ x. slice_get x i) (sym done.moment.accepts.had) ∙ ap (slice_get done.row) (sym (less_one i)) ∙ status.stands
 
   stood : port_at now.roots j (e ++ (suc i ∷ [])) ≡ Some status.port
-  stood = port_below now.roots j e i [] ∙ ap (λ x. port_at (below_of x) i []) accepted_there.left ∙ ap (λ x. port_at (acted x accepted_there.below) i []) effect ∙ in_row
+  stood = port_below_at now.roots j e (suc i) [] ∙ ap (λ x. port_at (below_of x) i []) accepted_there.left ∙ ap (λ x. port_at (acted x accepted_there.below) i []) effect ∙ in_row
 
   told_there : PortTold ((suc j ∷ e) ++ (suc i ∷ [])) (status_in bytes.items) old new
   told_there = record {
@@ -144,7 +136,7 @@ module _ (t : Target) (j : ℕ) (e : List ℕ) (i : ℕ) (old new : World) (byte
     row = record { parent = suc j ∷ e; number = suc i; is = refl; reached = a.on };
   }
 
-at_hub : (t : Target) (f : Claims) (hub : List ℕ) (port : ℕ) (old new : World) (bytes : Vec ℕ) → IsPath hub → IsPortNumber port → f hub ≡ Some t.addr → Owned f old → Asked t (get_port_status port) old (Ok bytes) new
+at_hub : (t : Target) (f : Claims) (hub : List ℕ) (port : ℕ) (old new : World) (bytes : Vec ℕ) → IsPath hub → IsPortNumber port → f hub ≡ Some t.addr → Owned f old → AskedData t (get_port_status port) old (Ok bytes) new
     → PortTold (hub ++ (port ∷ [])) (status_in bytes.items) old new
 unfolding get_port_status
 at_hub t f [] port old new bytes is number held own told = absurd (no_path is)
@@ -159,13 +151,13 @@ at_hub t f (suc j ∷ e) (suc i) old new bytes is number held own told =
 
 -- why it is not told
 told_served : (t : Target) (n : ℕ) (old : World) (result : Result PortStatus PipeFault) (new : World) → Told status_in t (get_port_status n) old result new → NoThreeDamaged old → new.shared ≡ false → 8 ≤ t.max
-    → (x : Serves t n new) → (b : PortState) → port_there old.roots (suc x.j ∷ (x.p ++ (n ∷ []))) ≡ Some b → IsServed result
+    → (x : Serves t n new) → (b : PortState) → port_there old.roots (suc x.j ∷ (x.p ++ (n ∷ []))) ≡ Some b → NoHubFailed result
 told_served t zero old result new told three single most x b stood = absurd (omega (arith, x.has.least))
 told_served t (suc i) old result new told three single most x b stood = status_served t i old new three single most x b stood status_in result told
 
 status_why : (hub : Target) (port : ℕ) (old : World) (result : Result PortStatus PipeFault) (new : World) → Told status_in hub (get_port_status port) old result new
     → (h : Target) (n : ℕ) → External hub port ≡ External h n → NoThreeDamaged old → new.shared ≡ false → 8 ≤ h.max → (x : Serves h n new)
-    → (b : PortState) → port_there old.roots (suc x.j ∷ (x.p ++ (n ∷ []))) ≡ Some b → IsServed result
+    → (b : PortState) → port_there old.roots (suc x.j ∷ (x.p ++ (n ∷ []))) ≡ Some b → NoHubFailed result
 status_why hub port old result new told h n same =
     let ends : _ = same_port hub h port n same in
     told_served h n old result new (subst (λ t. Told status_in t (get_port_status n) old result new) (sym ends.0) (subst (λ m. Told status_in hub (get_port_status m) old result new) (sym ends.1) told))
@@ -178,7 +170,7 @@ hub_tells hub_port hub port old result new is told = rw is (record { tells = λ 
         let read : IsRead status_in told.answer status = said status_in (get_port_status port).length told.answer status told.told in
         subst (λ p. PortTold p status old new) (sym at.path)
         (subst (λ s. PortTold (at.hub ++ (port ∷ [])) s old new) (sym read.read_so)
-        (at_hub hub f at.hub port old new read.bytes at.is_path at.number at.held (o.so told.ends.sound) (subst (λ r. Asked hub (get_port_status port) old r new) read.is told.asked)))
+        (at_hub hub f at.hub port old new read.bytes at.is_path at.number at.held (o.so told.ends.sound) (subst (λ r. AskedData hub (get_port_status port) old r new) read.is told.asked)))
 
 -- The status of a root port
 

@@ -4,13 +4,13 @@ use Rattle.std.specs.Prelude.{ℕ, ◌+◌, ◌-◌, ◌≤◌, Bool, length, Li
 use Rattle.usb_port.specs.PortState.{PortState}
 use Rattle.usb_world.specs.World.{World, Spends, IsRootPort, IsSetFeature, IsClearFeature, root_row, change_of, changes}
 use Rattle.usb_world.specs.Steps.{SetsRoot, ClearsRoot}
-use Rattle.usb_world.proofs.Counts.{RootCalled, root_set as root_set_called, root_cleared as root_cleared_called, resets_spend, clears_spend, clears_change, changes-set}
+use Rattle.usb_world.proofs.Interface.{RootCalled, change_most, changes-set, clears_change, clears_spend, resets_spend, root_cleared as root_cleared_called, root_set as root_set_called}
 use Rattle.usb_bus.specs.Traced.{Traced, WentOn}
 use Rattle.usb_hub.specs.declared.port.HubPort.{HubPort}
 use Rattle.usb_hub.specs.declared.port.HubPort.TheVariants.{Root, External}
-use Rattle.usb_hub.specs.Port.{IsPort, order_bound, Quiet, RootSet, RootCleared, SetWent, PortSet, PortCleared}
+use Rattle.usb_hub.specs.Port.{IsPort, order_bound, TakesNoTime, RootSet, RootCleared, SetWent, PortSet, PortCleared}
 
-quiet : (number : ℕ) (p : PortState) (old new : World) → RootCalled number p old new → Quiet old new
+quiet : (number : ℕ) (p : PortState) (old new : World) → RootCalled number p old new → TakesNoTime old new
 quiet number p old new c = record {
   attempts = c.attempts;
   limit = c.limit;
@@ -24,14 +24,10 @@ one_most : (b : Bool) → (if b then 1 else 0) ≤ 1
 one_most true = omega arith
 one_most false = omega arith
 
-change_of_most : (p : PortState) → change_of p ≤ 1
-unfolding change_of
-change_of_most p = one_most p.connection_changed
-
 changes_written : (number : ℕ) (p : PortState) (old new : World) → IsRootPort old number → RootCalled number p old new → changes (root_row new) ≤ changes (root_row old) + 1
 changes_written number p old new is c =
     subst (λ row. changes row ≤ changes (root_row old) + 1) (sym c.row)
-    (omega (arith, changes-set (root_row old) (number - 1) p (omega (arith, is.0, is.1)), change_of_most p))
+    (omega (arith, changes-set (root_row old) (number - 1) p (omega (arith, is.0, is.1)), change_most p))
 
 pub root_set : (number feature : ℕ) (old new : World) → IsRootPort old number → IsSetFeature feature → SetsRoot number feature old new → RootSet number feature old (Ok tt) new
 root_set number feature old new is named row =

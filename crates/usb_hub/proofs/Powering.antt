@@ -1,30 +1,23 @@
 -- A port that had no power, after a call that powered it: a change of connection is pending, or nothing is plugged there.
-use Rattle.std.proofs.Common.{◌≡◌, ℕ, zero, suc, ◌==◌, ◌&&◌, ◌||◌, ◌⊎◌, inl, inr, Bool, true, false, List, [], ◌∷◌, ◌++◌, Option, None, Some, option_map, refl, ap, sym, subst, ◌∙◌}
+use Rattle.std.proofs.Common.{◌≡◌, ℕ, zero, suc, ◌==◌, ◌&&◌, ◌⊎◌, inl, inr, Bool, true, false, List, [], ◌∷◌, ◌++◌, Option, None, Some, option_map, refl, ap, sym, subst, ◌∙◌}
 use Rattle.std.proofs.lemmas.Option.{same_Some}
 use Rattle.usb_port.specs.PortState.{PortState, is_attached, speed_of, powered_on}
 use Rattle.usb_device.specs.declared.calls.PortCall.TheVariants.{SetPower}
 use Rattle.usb_device.specs.Rows.{State}
-use Rattle.usb_device.specs.Tree.{Ports, ended, vacant, taken, Place, empty, full, port_of, called, place, place_at, port_at}
+use Rattle.usb_device.specs.Tree.{Ports, ended, vacant, taken, Place, empty, full, port_of, called, place, place_at}
 use Rattle.usb_device.specs.View.{port_there, state_there}
 use Rattle.usb_world.specs.declared.types.Attempt.{Attempt}
 use Rattle.usb_world.specs.declared.types.BusFault.{BusFault}
 use Rattle.usb_world.specs.Courses.{NoReset, is_made, made_resets, resets}
-use Rattle.usb_world.specs.Live.{live, live_at, pend, pend_at}
-use Rattle.usb_world.specs.PluggedAt.{spec_of}
-use Rattle.usb_world.specs.Requested.{row_reached, StillSet}
-use Rattle.usb_world.specs.Resting.{RestsOrPends, StandsOrPends}
-use Rattle.usb_world.specs.Sane.{IsSane, IsSanePlace}
+use Rattle.usb_world.specs.Paths.{live, pend}
+use Rattle.usb_world.specs.PlanCourses.{spec_of}
+use Rattle.usb_world.specs.PortRequests.{row_reached, StillSet}
+use Rattle.usb_world.specs.RestingPorts.{RestsOrPends, StandsOrPends}
+use Rattle.usb_world.specs.SanePorts.{IsSane, IsSanePlace}
 use Rattle.usb_world.specs.Steps.{Step, attempt, root_call, event, report, after, with_attempt, ready, Course, here, step, IsBetween}
 use Rattle.usb_world.specs.World.{World}
-use Rattle.usb_world.proofs.Between.{between_ready, between_after, between_course}
-use Rattle.usb_world.proofs.Booleans.{no, both, and_of, or_right}
-use Rattle.usb_world.proofs.OneDevice.{stands, state_stands}
-use Rattle.usb_world.proofs.RequestLawsBits.{course_bits}
-use Rattle.usb_world.proofs.Resting.{rests_or_pends, stands_or_pends}
-use Rattle.usb_world.proofs.SaneLaws.{reach_live}
-use Rattle.usb_world.proofs.WorldLaws.{course_wider, made_reach, pending_persists, same_device, step_pend}
-use Rattle.usb_address.proofs.Ports.{not_way}
-use Rattle.usb_address.proofs.Unpowered.{NoPower, ready_unpowered}
+use Rattle.usb_world.proofs.Interface.{between_after, between_course, between_ready, course_bits, course_wider, made_reach, no, pending_persists, reach_live, rests_or_pends, same_device, stands, stands_or_pends, state_stands, step_pend}
+use Rattle.usb_address.proofs.Interface.{IsUp, NoPower, live_of_up, not_way, pend_of_up, ready_unpowered}
 use Rattle.usb_hub.specs.Moments.{met_by, ActsAt, PortDone}
 use Rattle.usb_hub.proofs.Standing.{port_of_place, due_course}
 
@@ -46,49 +39,21 @@ sane_there k [] x h e = absurd (cc e)
 sane_there k (zero ∷ p) x h e = absurd (cc e)
 sane_there k (suc j ∷ p) x h e = sane_place k j p x h e
 
-state_of_place : (k : Ports) (p : List ℕ) → state_there k p ≡ stands (place k p)
+pub state_of_place : (k : Ports) (p : List ℕ) → state_there k p ≡ stands (place k p)
 state_of_place k [] = refl
 state_of_place k (zero ∷ p) = refl
 state_of_place k (suc j ∷ p) = sym (state_stands k j p)
 
 -- a powered port of a row that is live is live, and its change of connection is pending
 
-row_live : (k : Ports) (m : ℕ) (b : PortState) → port_at k m [] ≡ Some b → (live_at k m [] ≡ b.power) × (pend_at k m [] ≡ (b.power && b.connection_changed))
-unfolding port_at live_at pend_at
-row_live ended m b e = absurd (cc e)
-row_live (vacant c k) zero b e = let same : c ≡ b = same_Some c b e in (ap (λ x. x.power) same, ap (λ x. x.power && x.connection_changed) same)
-row_live (vacant c k) (suc m) b e = row_live k m b e
-row_live (taken c s a k) zero b e = let same : c ≡ b = same_Some c b e in (ap (λ x. x.power) same, ap (λ x. x.power && x.connection_changed) same)
-row_live (taken c s a k) (suc m) b e = row_live k m b e
-
-deep_live : (k : Ports) (j : ℕ) (e : List ℕ) (n : ℕ) (b : PortState) → live_at k j e ≡ true → port_at k j (e ++ (n ∷ [])) ≡ Some b → b.power ≡ true
-    → (live_at k j (e ++ (n ∷ [])) ≡ true) × (b.connection_changed ≡ true → pend_at k j (e ++ (n ∷ [])) ≡ true)
-unfolding port_at live_at pend_at
-deep_live ended j e n b on there h = no on
-deep_live (vacant c k) zero [] n b on there h = absurd (cc there)
-deep_live (vacant c k) zero (m ∷ e) n b on there h = no on
-deep_live (vacant c k) (suc j) e n b on there h = deep_live k j e n b on there h
-deep_live (taken c s a k) zero [] zero b on there h = absurd (cc there)
-deep_live (taken c s a k) zero [] (suc m) b on there h =
-    let x : _ = row_live a m b there in (
-      and_of c.power (live_at a m []) on (x.0 ∙ h),
-      λ g. and_of c.power (c.connection_changed || pend_at a m []) on (or_right c.connection_changed (pend_at a m []) (x.1 ∙ and_of b.power b.connection_changed h g)),
-    )
-deep_live (taken c s a k) zero (zero ∷ e) n b on there h = no on
-deep_live (taken c s a k) zero (suc i ∷ e) n b on there h =
-    let parts : _ = both c.power (live_at a i e) on in
-    let x : _ = deep_live a i e n b parts.1 there h in (
-      and_of c.power (live_at a i (e ++ (n ∷ []))) parts.0 x.0,
-      λ g. and_of c.power (c.connection_changed || pend_at a i (e ++ (n ∷ []))) parts.0 (or_right c.connection_changed (pend_at a i (e ++ (n ∷ []))) (x.1 g)),
-    )
-deep_live (taken c s a k) (suc j) e n b on there h = deep_live k j e n b on there h
-
 live_there : (k : Ports) (q : List ℕ) (n : ℕ) (b : PortState) → IsSane k → row_reached k q ≡ true → port_there k (q ++ (n ∷ [])) ≡ Some b → b.power ≡ true
     → (live k (q ++ (n ∷ [])) ≡ true) × (b.connection_changed ≡ true → pend k (q ++ (n ∷ [])) ≡ true)
-live_there k [] zero b sane on there h = absurd (cc there)
-live_there k [] (suc i) b sane on there h = let x : _ = row_live k i b there in (x.0 ∙ h, λ g. x.1 ∙ and_of b.power b.connection_changed h g)
-live_there k (zero ∷ e) n b sane on there h = no on
-live_there k (suc j ∷ e) n b sane on there h = deep_live k j e n b (reach_live k j e sane on) there h
+live_there k q n b sane on there h = (live_of_up k q n b (up q on) there h, λ changed. pend_of_up k q n b (up q on) there h changed)
+  where
+    up : (q : List ℕ) → row_reached k q ≡ true → IsUp k q
+    up [] on = tt
+    up (zero ∷ e) on = no on
+    up (suc j ∷ e) on = reach_live k j e sane on
 
 -- Steps about the port
 
@@ -96,6 +61,11 @@ pub none_of : (o v : Option State) → option_map spec_of o ≡ option_map spec_
 none_of None v e h = refl
 none_of (Some s) None e h = absurd (cc e)
 none_of (Some s) (Some t) e h = absurd (cc h)
+
+-- a row of ports that is reached was so before, where nothing on its way was reset
+pub row_reached-back : (q : List ℕ) {w v : World} → Course (NoReset q) w v → row_reached v.roots q ≡ true → row_reached w.roots q ≡ true
+row_reached-back [] c on = refl
+row_reached-back (m ∷ e) c on = (same_device (m ∷ e) c on).0
 
 module _ (q : List ℕ) (n : ℕ) where
   abbrev p : List ℕ
@@ -113,13 +83,6 @@ module _ (q : List ℕ) (n : ℕ) where
 
   abbrev SoFar : World → Type 0
   SoFar w = Off w.roots ⊎ PendsOrVacant w
-
-  row_back : {w v : World} → Course (NoReset q) w v → row_reached v.roots q ≡ true → row_reached w.roots q ≡ true
-  row_back c on = by_row q c on
-    where
-      by_row : (q : List ℕ) {w v : World} → Course (NoReset q) w v → row_reached v.roots q ≡ true → row_reached w.roots q ≡ true
-      by_row [] c on = refl
-      by_row (m ∷ e) c on = (same_device (m ∷ e) c on).0
 
   -- a port that is powered now
   powers : (m : Ports) (v : World) → IsSane m → Off m → place v.roots p ≡ option_map (called SetPower) (place m p) → IsSane v.roots → row_reached v.roots q ≡ true → PendsOrVacant v
@@ -248,7 +211,7 @@ module _ (q : List ℕ) (n : ℕ) where
       pick (inr y) = inl y
 
   acts_row : {w v : World} → Course (ActsAt p SetPower) w v → row_reached v.roots q ≡ true → row_reached w.roots q ≡ true
-  acts_row c on = row_back (course_wider (λ s w k. no_reset s w k) c) on
+  acts_row c on = row_reached-back q (course_wider (λ s w k. no_reset s w k) c) on
 
   so_far : {w v : World} → Course (ActsAt p SetPower) w v → IsBetween w → row_reached v.roots q ≡ true → SoFar w → SoFar v
   so_far (here w) between on x = x
@@ -257,10 +220,10 @@ module _ (q : List ℕ) (n : ℕ) where
 
   module _ (old new : World) (x : PortDone p SetPower old new) (between : IsBetween old) (on : row_reached new.roots q ≡ true) (o : Off old.roots) where
     row_now : row_reached (after x.last x.before).roots q ≡ true
-    row_now = row_back (course_wider (λ s w k. k.rests) (x.since q)) on
+    row_now = row_reached-back q (course_wider (λ s w k. k.rests) (x.since q)) on
 
     row_before : row_reached x.before.roots q ≡ true
-    row_before = row_back (step x.last (no_reset x.last x.before x.acts) (here (after x.last x.before))) row_now
+    row_before = row_reached-back q (step x.last (no_reset x.last x.before x.acts) (here (after x.last x.before))) row_now
 
     now_vacant : PendsOrVacant (after x.last x.before)
     now_vacant = pick (so_far x.repeats between row_before (inl o))

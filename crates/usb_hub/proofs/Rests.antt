@@ -8,22 +8,21 @@ use Rattle.usb_device.specs.Rows.{State}
 use Rattle.usb_world.specs.declared.types.Attempt.{Attempt}
 use Rattle.usb_world.specs.Addresses.{is_setup}
 use Rattle.usb_world.specs.Passes.{IsSettled}
-use Rattle.usb_world.specs.Requested.{is_plain}
-use Rattle.usb_world.specs.Resting.{AsksNothingOf}
+use Rattle.usb_world.specs.PortRequests.{is_plain}
+use Rattle.usb_world.specs.RestingPorts.{AsksNothingOf}
 use Rattle.usb_world.specs.World.{World}
 use Rattle.usb_world.specs.Steps.{Step, after, attempt, root_call, event, report, Course, here, step}
-use Rattle.usb_world.proofs.RequestLawsPlain.{plain_asks_nothing, data_asks_nothing}
+use Rattle.usb_world.proofs.Interface.{data_asks_nothing, plain_asks_nothing}
 use Rattle.usb_transaction.specs.declared.target.Target.{Target}
-use Rattle.usb_transaction.specs.Over.{AcceptedAt}
-use Rattle.usb_transaction.specs.Trans.{setup_attempt}
-use Rattle.usb_transaction.proofs.Trails.{trail_course, course_then}
+use Rattle.usb_transaction.specs.Leaves.{AcceptedAt}
+use Rattle.usb_transaction.specs.Transactions.{setup_attempt}
+use Rattle.usb_transaction.proofs.Interface.{course_then, trail_course}
 use Rattle.usb_pipe.specs.declared.fault.PipeFault.{PipeFault}
 use Rattle.usb_pipe.specs.Attempts.{IsOfTransfer}
 use Rattle.usb_pipe.specs.Stages.{Reads, Writes}
-use Rattle.usb_pipe.specs.Whole.{IsBehind, IsNotOfBus}
-use Rattle.usb_pipe.proofs.Attempts.{read_attempts, write_attempts}
-use Rattle.usb_address.proofs.Bare.{attempt_settled}
-use Rattle.usb_address.proofs.Setups.{same_setup}
+use Rattle.usb_pipe.specs.Leaves.{IsBehind, IsNotOfBus}
+use Rattle.usb_pipe.proofs.Interface.{read_attempts, write_attempts}
+use Rattle.usb_address.proofs.Interface.{attempt_settled, same_setup}
 use Rattle.usb_hub.specs.Requests.{AllRest}
 
 -- a step behind a SETUP asks nothing of any port, and no device remembers a packet after it

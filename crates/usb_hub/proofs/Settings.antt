@@ -13,22 +13,19 @@ use Rattle.usb_device.specs.Progress.{StatusGiven, seen, unseen, address_then, O
 use Rattle.usb_world.specs.World.{World}
 use Rattle.usb_world.specs.Courses.{is_harmless}
 use Rattle.usb_world.specs.Devices.{Relation, EachWas}
-use Rattle.usb_world.proofs.Booleans.{decided}
-use Rattle.usb_world.proofs.Devices.{each_wider}
+use Rattle.usb_world.proofs.Interface.{decided, each_wider}
 use Rattle.usb_transaction.specs.declared.target.Target.{Target}
-use Rattle.usb_transaction.specs.Over.{is_at, AcceptedAt}
+use Rattle.usb_transaction.specs.Leaves.{is_at, AcceptedAt}
 use Rattle.usb_transaction.specs.Losses.{begins_no_stretch}
-use Rattle.usb_transaction.specs.Spared.{EachSpared}
-use Rattle.usb_transaction.specs.Why.{NoThreeDamaged}
-use Rattle.usb_transaction.proofs.Overs.{each_both}
+use Rattle.usb_transaction.specs.SparedDevices.{EachSpared}
+use Rattle.usb_transaction.specs.Failures.{NoThreeDamaged}
+use Rattle.usb_transaction.proofs.Interface.{each_both}
 use Rattle.usb_pipe.specs.declared.fault.PipeFault.{PipeFault}
 use Rattle.usb_pipe.specs.declared.fault.PipeFault.TheVariants.{Stalled, Busy, NoAnswer, Broken, Bus, Memory}
-use Rattle.usb_pipe.specs.Whole.{IsNotOfBus, WasRefused, EffectDone, EffectOrNone, none, some, whole, WriteLeaves, LossesOf, TookOrLost}
-use Rattle.usb_pipe.specs.WhyWhole.{WhyWrite}
-use Rattle.usb_pipe.proofs.WholeWrites.{write_leaves}
-use Rattle.usb_pipe.proofs.WhyWrites.{write_why}
-use Rattle.usb_pipe.proofs.WriteLosses.{write_losses}
-use Rattle.usb_address.proofs.Setups.{same_setup}
+use Rattle.usb_pipe.specs.Leaves.{IsNotOfBus, WasRefused, EffectDone, EffectOrNone, none, some, whole, WriteLeaves, LossesOf, TookItOrLost}
+use Rattle.usb_pipe.specs.Failures.{WhyWrite}
+use Rattle.usb_pipe.proofs.Interface.{write_leaves, write_losses, write_why}
+use Rattle.usb_address.proofs.Interface.{attempt_settled, same_setup}
 use Rattle.usb_request.specs.Layout.{setup_of, bytes_of}
 use Rattle.usb_device.specs.declared.effect.Effect.TheVariants.{PortsOff}
 use Rattle.usb_device.specs.declared.bulk.Pipe.{Pipe}
@@ -36,7 +33,6 @@ use Rattle.usb_device.specs.Bulk.{rested}
 use Rattle.usb_device.specs.Effect.{asked_by_setup, effect_of_request}
 use Rattle.usb_device.specs.Tree.{full, acted, place_at}
 use Rattle.usb_world.specs.Passes.{IsSettled}
-use Rattle.usb_address.proofs.Bare.{attempt_settled}
 use Rattle.usb_hub.specs.Requests.{Ordered}
 use Rattle.usb_hub.proofs.Rests.{behind_asks_nothing}
 use Rattle.usb_hub.specs.Settings.{AddressAsked, takes_value, OnlySet, IsConfigured, WentOff, ConfigurationAsked}
@@ -50,6 +46,24 @@ module _ (t : Target) (request : Setup) (harmless : is_harmless request ≡ true
     (single : new.shared ≡ false) where
   pub each_leaves : EachWas (WriteLeaves t request result old new) old new
   each_leaves = all_spared t request (WriteLeaves t request result old new) old new harmless (write_leaves t request result old new nothing (same_setup request) ordered.settled ordered.stages single)
+
+-- what is so of a device after it: where it accepted the request, where it was given the status stage, and where it saw nothing of it
+module _ (t : Target) (request : Setup) (old new : World) (j : ℕ) (p : List ℕ) (s v : State) (Q : Type 0)
+    (accepts : (row : List PortState) → OnlyControl (accepted s row request) v → v.registers ≡ (accepted s row request).registers → Q)
+    (ends : (row : List PortState) (address : Option ℕ) → first_stage row request.length (outcome s.spec s.registers request) ≡ ending address → OnlyControl (accepted s row request) v → StatusGiven address (accepted s row request) v → Q)
+    (rests : OnlyControl s v → v.registers ≡ s.registers → Q) where
+  failed_so : (fault : PipeFault) → EffectOrNone t request fault old j p s v → Q
+  failed_so fault (none frame same) = rests frame same
+  failed_so fault (some row now at frame same) = accepts row frame same
+  failed_so fault (whole why e row now at frame address is given) = ends row address is frame given
+
+  pub write_so : (result : Result (Unit {0}) PipeFault) → WriteLeaves t request result old new j p s v → Q
+  write_so (Ok u) x = pick (decided (is_at s t))
+    where
+      pick : (is_at s t ≡ true) ⊎ (is_at s t ≡ false) → Q
+      pick (inl at) = let d : EffectDone t request old new j p s v = x.done at u refl in ends d.row d.address d.is d.rest d.given
+      pick (inr at) = rests (subst (OnlyControl s) (sym (x.others at)) refl) (ap (λ y. y.registers) (x.others at))
+  write_so (Err fault) x = failed_so fault (x.failed fault refl)
 
 -- what is said where the bus did not give up, and holds of a device where it did
 module _ (t : Target) (request : Setup) (R : Result (Unit {0}) PipeFault → Relation) (old new : World) (single : new.shared ≡ false) where
@@ -154,43 +168,21 @@ module _ (t : Target) (a : ℕ) (most : a ≤ 127) (old new : World) where
       (ends.0, given_either s.spec.stalls.address a row address s v ends.1 (subst (λ y. StatusGiven address y v) (begun_is s row) x))
 
   module _ (j : ℕ) (p : List ℕ) (s v : State) where
-    failed_frame : (fault : PipeFault) → EffectOrNone t request fault old j p s v → OnlyControl s v
-    failed_frame fault (none frame same) = frame
-    failed_frame fault (some row now at frame same) = frame_of s v row frame
-    failed_frame fault (whole why e row now at frame address ends given) = frame_of s v row frame
-
-    failed_either : (fault : PipeFault) → EffectOrNone t request fault old j p s v → Either a s v
-    failed_either fault (none frame same) = inl same
-    failed_either fault (some row now at frame same) = inl (registers_of s v row same)
-    failed_either fault (whole why e row now at frame address ends given) = (ended_of s v row address ends given).1
-
     failed_same : (fault : PipeFault) → IsNotOfBus {A = Unit {0}} (Err fault) → EffectOrNone t request fault old j p s v → v.registers ≡ s.registers
     failed_same fault n (none frame same) = same
     failed_same fault n (some row now at frame same) = registers_of s v row same
     failed_same fault n (whole why e row now at frame address ends given) = absurd (subst (λ x. IsNotOfBus {A = Unit {0}} (Err x)) e n)
 
-    -- whether it did something is asked of one that has the target's address
-    by_address : (Q : Type 0) → ((is_at s t ≡ true) → Q) → ((is_at s t ≡ false) → Q) → Q
-    by_address Q asked other = pick (decided (is_at s t))
-      where
-        pick : (is_at s t ≡ true) ⊎ (is_at s t ≡ false) → Q
-        pick (inl h) = asked h
-        pick (inr h) = other h
-
     address_frame : (result : Result (Unit {0}) PipeFault) → WriteLeaves t request result old new j p s v → OnlyControl s v
-    address_frame (Ok u) x =
-        by_address (OnlyControl s v) (λ at. let d : EffectDone t request old new j p s v = x.done at u refl in frame_of s v d.row d.rest)
-        (λ at. subst (OnlyControl s) (sym (x.others at)) refl)
-    address_frame (Err fault) x = failed_frame fault (x.failed fault refl)
+    address_frame = write_so t request old new j p s v (OnlyControl s v) (λ row frame same. frame_of s v row frame) (λ row address is frame given. frame_of s v row frame) (λ frame same. frame)
 
     address_either : (result : Result (Unit {0}) PipeFault) → WriteLeaves t request result old new j p s v → Either a s v
-    address_either (Ok u) x =
-        by_address (Either a s v) (λ at. let d : EffectDone t request old new j p s v = x.done at u refl in (ended_of s v d.row d.address d.is d.given).1)
-        (λ at. inl (ap (λ y. y.registers) (x.others at)))
-    address_either (Err fault) x = failed_either fault (x.failed fault refl)
+    address_either =
+        write_so t request old new j p s v (Either a s v) (λ row frame same. inl (registers_of s v row same))
+        (λ row address is frame given. (ended_of s v row address is given).1) (λ frame same. inl same)
 
     address_done : (result : Result (Unit {0}) PipeFault) → WriteLeaves t request result old new j p s v → Loses t request old new result j p s v → is_at s t ≡ true → result ≡ Ok tt
-        → (s.spec.stalls.address ≡ false) × TookOrLost a old new s v
+        → (s.spec.stalls.address ≡ false) × TookItOrLost a old new s v
     address_done (Ok u) x y at e =
         let d : EffectDone t request old new j p s v = x.done at u refl in
         let free : s.spec.stalls.address ≡ false = (ended_of s v d.row d.address d.is d.given).0 in
@@ -334,11 +326,6 @@ module _ (t : Target) (value : ℕ) (old new : World) where
         let parts : _ = set_of s v row h (given_none address (accepted s row order) v ends.1 given) in
         (ends.0, parts.0, subst (λ b. Set b value s v) ends.0 parts.1)
 
-    failed_set : (fault : PipeFault) → EffectOrNone t order fault old j p s v → OnlySet s v × ((v.registers ≡ s.registers) ⊎ IsConfigured value s v)
-    failed_set fault (none h r) = (none_set h r, inl r)
-    failed_set fault (some row now at h r) = let parts : _ = set_of s v row h r in (parts.0, set_either (takes_it s value) value s v parts.1)
-    failed_set fault (whole why e row now at h address ends given) = let parts : _ = whole_set row address ends h given in (parts.1, inr parts.2)
-
     done_set : EffectDone t order old new j p s v → (takes_it s value ≡ true) × OnlySet s v × IsConfigured value s v
     done_set d = whole_set d.row d.address d.is d.rest d.given
 
@@ -360,12 +347,10 @@ module _ (t : Target) (value : ℕ) (old new : World) where
         effect = ap (asked_by_setup s) (same_setup order) ∙ ap effect_of_request (configuration_outcome s value) ∙ ap (λ b. effect_of_request (set_to b value)) (done_set d).0
 
     set_parts : (result : Result (Unit {0}) PipeFault) → WriteLeaves t order result old new j p s v → OnlySet s v × ((v.registers ≡ s.registers) ⊎ IsConfigured value s v)
-    set_parts (Ok u) x = pick (decided (is_at s t))
-      where
-        pick : (is_at s t ≡ true) ⊎ (is_at s t ≡ false) → OnlySet s v × ((v.registers ≡ s.registers) ⊎ IsConfigured value s v)
-        pick (inl at) = let parts : _ = done_set (x.done at u refl) in (parts.1, inr parts.2)
-        pick (inr at) = (subst (OnlySet s) (sym (x.others at)) refl, inl (ap (λ y. y.registers) (x.others at)))
-    set_parts (Err fault) x = failed_set fault (x.failed fault refl)
+    set_parts =
+        write_so t order old new j p s v (OnlySet s v × ((v.registers ≡ s.registers) ⊎ IsConfigured value s v))
+        (λ row h r. let parts : _ = set_of s v row h r in (parts.0, set_either (takes_it s value) value s v parts.1))
+        (λ row address is h given. let parts : _ = whole_set row address is h given in (parts.1, inr parts.2)) (λ h r. (none_set h r, inl r))
 
     configuration_leaves : (result : Result (Unit {0}) PipeFault) → WriteLeaves t order result old new j p s v → ConfigurationAsked t value result new j p s v
     configuration_leaves result x = record {

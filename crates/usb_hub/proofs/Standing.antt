@@ -13,16 +13,14 @@ use Rattle.usb_world.specs.declared.event.Event.{Event}
 use Rattle.usb_world.specs.declared.types.Attempt.{Attempt}
 use Rattle.usb_world.specs.declared.types.BusFault.{BusFault}
 use Rattle.usb_world.specs.Courses.{spares_step, resets}
-use Rattle.usb_world.specs.Live.{live, pend}
-use Rattle.usb_world.specs.PluggedAt.{spec_of}
-use Rattle.usb_world.specs.Requested.{AsksNothing, leaves_step, row_reached}
-use Rattle.usb_world.specs.Resting.{AsksNothingOf, SameAt, RestsOrPends, StandsOrPends}
+use Rattle.usb_world.specs.Paths.{live, pend}
+use Rattle.usb_world.specs.PlanCourses.{spec_of}
+use Rattle.usb_world.specs.PortRequests.{AsksNothing, leaves_step, row_reached}
+use Rattle.usb_world.specs.RestingPorts.{AsksNothingOf, SameAt, RestsOrPends, StandsOrPends}
 use Rattle.usb_world.specs.Steps.{Step, attempt, root_call, event, report, after, with_attempt, ready, due_from, took, is_due, Course, here, step}
-use Rattle.usb_world.specs.Touched.{spares}
+use Rattle.usb_world.specs.WayEffects.{spares}
 use Rattle.usb_world.specs.World.{World}
-use Rattle.usb_world.proofs.Booleans.{no, both, and_of}
-use Rattle.usb_world.proofs.Resting.{rests_or_pends, stands_or_pends}
-use Rattle.usb_world.proofs.WorldLaws.{pending_persists, course_wider, made_pend}
+use Rattle.usb_world.proofs.Interface.{and_of, both, course_wider, made_pend, no, pending_persists, rests_or_pends, stands_or_pends}
 use Rattle.usb_hub.specs.Moments.{OnReachedRow, PortTold, met_by, ActsAt, PortDone}
 
 -- The port of a place
@@ -43,7 +41,7 @@ port_of_place k [] = refl
 port_of_place k (zero ∷ p) = refl
 port_of_place k (suc j ∷ p) = port_at_place k j p
 
-port_of_called : (c : PortCall) (o : Option Place) → option_map port_of (option_map (called c) o) ≡ option_map (called_port c) (option_map port_of o)
+pub port_of_called : (c : PortCall) (o : Option Place) → option_map port_of (option_map (called c) o) ≡ option_map (called_port c) (option_map port_of o)
 port_of_called c None = refl
 port_of_called c (Some (empty b)) = refl
 port_of_called c (Some (full b s a)) = split (is_reset c && (b.power && is_attached b.attached))

@@ -1,5 +1,5 @@
 -- What a hub tells of its ports (11.24.2.7).
-use Rattle.std.proofs.Common.{◌≡◌, ℕ, zero, suc, ◌-◌, ◌⊎◌, inl, inr, List, [], ◌∷◌, ◌++◌, take, slice_get, Option, None, Some, refl, ap, sym, subst}
+use Rattle.std.proofs.Common.{◌≡◌, ℕ, zero, suc, ◌-◌, ◌⊎◌, inl, inr, List, [], slice_get, Option, None, Some, refl, sym, subst, take, ap}
 use Rattle.std.proofs.lemmas.Option.{same_Some}
 use Rattle.usb_port.specs.PortState.{PortState, status_of}
 use Rattle.usb_request.specs.Requests.{get_port_status}
@@ -10,22 +10,17 @@ use Rattle.usb_device.specs.Effect.{effect_of_request}
 use Rattle.usb_device.specs.Request.{outcome, port_named, told_port}
 use Rattle.usb_device.specs.Spec.{Spec}
 use Rattle.usb_device.specs.Transfer.{reading, reads_port, first_stage}
-use Rattle.usb_device.specs.Tree.{Ports, ended, vacant, taken, place_at, port_at, row_of}
-use Rattle.usb_address.proofs.Bare.{below_of, named}
+use Rattle.usb_device.specs.Tree.{Ports, ended, vacant, taken, port_at, row_of}
+use Rattle.usb_address.proofs.Interface.{named}
+
+same_reading : (a b : List ℕ) (n m k l : ℕ) → reading a n k ≡ reading b m l → a ≡ b
+same_reading a b n m k l h = ap (λ g. elim g as (λ _. List ℕ) [ reading x y z ↦ x | _ ↦ [] ]) h
+
+pub whole_status : (b : PortState) → take 4 (status_of b) ≡ status_of b
+unfolding status_of
+whole_status b = refl
 
 -- Trees
-
--- the port of a device's port row, by its number
-pub port_below : (k : Ports) (j : ℕ) (e : List ℕ) (m : ℕ) (r : List ℕ) → port_at k j (e ++ (suc m ∷ r)) ≡ port_at (below_of (place_at k j e)) m r
-unfolding port_at place_at
-port_below ended j e m r = refl
-port_below (vacant b k) zero [] m r = refl
-port_below (vacant b k) zero (n ∷ e) m r = refl
-port_below (vacant b k) (suc j) e m r = port_below k j e m r
-port_below (taken b s a k) zero [] m r = refl
-port_below (taken b s a k) zero (zero ∷ e) m r = refl
-port_below (taken b s a k) zero (suc i ∷ e) m r = port_below a i e m r
-port_below (taken b s a k) (suc j) e m r = port_below k j e m r
 
 pub row_port : (k : Ports) (i : ℕ) → port_at k i [] ≡ slice_get (row_of k) i
 unfolding port_at row_of
@@ -44,9 +39,6 @@ pub record StatusOf (row : List PortState) (i : ℕ) (answer : List ℕ) (o : Ef
   pub told : answer ≡ status_of port
   pub nothing : o ≡ Leaves
 
-same_reading : (a b : List ℕ) (n m k l : ℕ) → reading a n k ≡ reading b m l → a ≡ b
-same_reading a b n m k l h = ap (λ g. elim g as (λ _. List ℕ) [ reading x y z ↦ x | _ ↦ [] ]) h
-
 pub status_outcome : (sp : Spec) (g : Registers) (row : List PortState) (n : ℕ) (answer : List ℕ) → first_stage row 4 (outcome sp g (get_port_status n)) ≡ reading answer 4 0
     → StatusOf row (n - 1) answer (effect_of_request (outcome sp g (get_port_status n)))
 unfolding outcome get_port_status
@@ -60,7 +52,3 @@ status_outcome sp g row n answer h = by_port (port_named sp.hub g n) (named sp.h
     by_port None x h = absurd (cc h)
     by_port (Some i) (inl x) h = absurd (cc x)
     by_port (Some i) (inr x) h = subst (λ i. StatusOf row i answer Leaves) (same_Some i (n - 1) x) (by_row i (slice_get row i) refl h)
-
-pub whole_status : (b : PortState) → take 4 (status_of b) ≡ status_of b
-unfolding status_of
-whole_status b = refl

@@ -9,13 +9,13 @@ use Rattle.usb_device.specs.Rows.{State}
 use Rattle.usb_device.specs.Request.{unless, answers, status_bytes, outcome}
 use Rattle.usb_world.specs.World.{World}
 use Rattle.usb_world.specs.Devices.{EachWas}
-use Rattle.usb_world.proofs.Devices.{each_wider}
+use Rattle.usb_world.proofs.Interface.{each_wider}
 use Rattle.usb_transaction.specs.declared.target.Target.{Target}
-use Rattle.usb_transaction.specs.Over.{is_at}
-use Rattle.usb_transaction.specs.Why.{Listens, NoThreeDamaged}
+use Rattle.usb_transaction.specs.Leaves.{is_at}
+use Rattle.usb_transaction.specs.Failures.{Listens, NoThreeDamaged}
 use Rattle.usb_pipe.specs.declared.fault.PipeFault.{PipeFault}
 use Rattle.usb_pipe.specs.declared.fault.PipeFault.TheVariants.{Stalled, Busy, NoAnswer, Broken, Bus, Memory}
-use Rattle.usb_pipe.specs.Whole.{CanEnd, IsMaximum}
+use Rattle.usb_pipe.specs.Leaves.{CanEnd, IsMaximum}
 use Rattle.usb_hub.specs.declared.status.DeviceStatus.{DeviceStatus}
 use Rattle.usb_hub.specs.Asked.{unless_refused, status_given, HasText, TextAsked, StatusAsked, WhyAsked}
 use Rattle.usb_hub.specs.Requests.{Told, said_in, device_status}

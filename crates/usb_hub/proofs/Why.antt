@@ -19,33 +19,27 @@ use Rattle.usb_device.specs.Tree.{acted, port_at, reach_at}
 use Rattle.usb_device.specs.View.{port_there}
 use Rattle.usb_world.specs.Courses.{is_harmless}
 use Rattle.usb_world.specs.Devices.{Was}
-use Rattle.usb_world.specs.Live.{address_of}
+use Rattle.usb_world.specs.Paths.{address_of}
 use Rattle.usb_world.specs.Passes.{IsSettled, deep_at}
-use Rattle.usb_world.specs.Requested.{is_plain, StillSet}
+use Rattle.usb_world.specs.PortRequests.{is_plain, StillSet}
 use Rattle.usb_world.specs.World.{World}
-use Rattle.usb_world.proofs.OneHolderMore.{equal_same}
-use Rattle.usb_world.proofs.RequestLawsBits.{course_bits}
-use Rattle.usb_world.proofs.WorldLaws.{course_wider, same_device}
+use Rattle.usb_world.proofs.Interface.{course_bits, course_wider, equal_same, same_device}
 use Rattle.usb_transaction.specs.declared.target.Target.{Target}
-use Rattle.usb_transaction.specs.Over.{AcceptedAt}
-use Rattle.usb_transaction.specs.Why.{Listens, NoThreeDamaged}
+use Rattle.usb_transaction.specs.Leaves.{AcceptedAt}
+use Rattle.usb_transaction.specs.Failures.{Listens, NoThreeDamaged}
 use Rattle.usb_pipe.specs.declared.fault.PipeFault.{PipeFault}
 use Rattle.usb_pipe.specs.declared.fault.PipeFault.TheVariants.{Stalled, Busy, NoAnswer, Broken, Bus, Memory}
-use Rattle.usb_pipe.specs.Whole.{IsNotOfBus, AnswerRead, WasRefused, ReadLeaves, WriteLeaves}
-use Rattle.usb_pipe.specs.WhyWhole.{WhyRead, WhyWrite}
-use Rattle.usb_pipe.proofs.WholeReads.{read_leaves}
-use Rattle.usb_pipe.proofs.WholeWrites.{write_leaves}
-use Rattle.usb_pipe.proofs.WhyReads.{read_why}
-use Rattle.usb_pipe.proofs.WhyWrites.{write_why}
-use Rattle.usb_address.proofs.Bare.{below_of, attempt_settled, less_one}
-use Rattle.usb_address.proofs.Setups.{same_setup}
+use Rattle.usb_pipe.specs.Leaves.{IsNotOfBus, AnswerRead, WasRefused, ReadLeaves, WriteLeaves}
+use Rattle.usb_pipe.specs.Failures.{WhyRead, WhyWrite}
+use Rattle.usb_pipe.proofs.Interface.{read_leaves, read_why, write_leaves, write_why}
+use Rattle.usb_address.proofs.Interface.{attempt_settled, below_of, less_one, port_below_at, same_setup}
 use Rattle.usb_hub.specs.Addresses.{StaysAs}
-use Rattle.usb_hub.specs.Requests.{Asked, Told, Ordered, said_in}
+use Rattle.usb_hub.specs.Requests.{AskedData, Told, Ordered, said_in}
 use Rattle.usb_hub.specs.declared.port.HubPort.TheVariants.{External}
-use Rattle.usb_hub.specs.Why.{Serves, IsServed}
+use Rattle.usb_hub.specs.Why.{Serves, NoHubFailed}
 use Rattle.usb_hub.proofs.Acting.{AsksFor}
-use Rattle.usb_hub.proofs.Devices.{write_stays, stage_stays, called_of_port, IsOfPort}
-use Rattle.usb_hub.proofs.Statuses.{port_below, row_port, StatusOf, status_outcome, whole_status}
+use Rattle.usb_hub.proofs.Devices.{write_stays, stays-spec, stays-registers, called_of_port, IsOfPort}
+use Rattle.usb_hub.proofs.Statuses.{row_port, StatusOf, status_outcome, whole_status}
 use Rattle.usb_hub.proofs.Rests.{behind_asks_nothing, plain_course}
 
 pub same_port : (a b : Target) (m n : ℕ) → External a m ≡ External b n → (b ≡ a) × (n ≡ m)
@@ -65,10 +59,10 @@ served_port h g n least most some = rw (first g.configuration some, second 1 n l
 -- what is so of the device before, which had the same description and registers
 module _ (t : Target) (number : ℕ) (new : World) (x : Serves t number new) (s : State) (stays : StaysAs x.j x.p s x.state) where
   same_spec : x.state.spec ≡ s.spec
-  same_spec = stays.0
+  same_spec = stays-spec s x.state stays
 
   same_registers : x.state.registers ≡ s.registers
-  same_registers = stays.1
+  same_registers = stays-registers s x.state stays
 
   listened : Listens t x.p s
   listened = record {
@@ -125,7 +119,7 @@ module _ (t : Target) (number : ℕ) (request : Setup) (c : PortCall) (asked : A
         (subst (λ o. first_stage r.row request.length (called_at (Some c) o) ≡ refused) (was_named t number new x left.before stayed)
         (subst (λ o. first_stage r.row request.length o ≡ refused) (asked.calls left.before.spec left.before.registers) r.is))
 
-  pub call_served : (result : Result (Unit {0}) PipeFault) → Ordered t request old result new → IsServed result
+  pub call_served : (result : Result (Unit {0}) PipeFault) → Ordered t request old result new → NoHubFailed result
   call_served (Ok u) ordered = tt
   call_served (Err Stalled) ordered = not_refused (Err Stalled) ordered refl
   call_served (Err Busy) ordered = (why_left (Err Busy) ordered tt).waited (heard (Err Busy) ordered) (was_idle t number new x (left (Err Busy) ordered).before (stayed (Err Busy) ordered))
@@ -174,12 +168,12 @@ module _ (t : Target) (i : ℕ) (old new : World) (three : NoThreeDamaged old) (
   unfolding get_port_status outcome
   asks_status spec g = refl
 
-  module _ (answer : Result (Vec ℕ) PipeFault) (asked : Asked t request old answer new) where
+  module _ (answer : Result (Vec ℕ) PipeFault) (asked : AskedData t request old answer new) where
     read : Was (ReadLeaves t request answer old new) old x.j x.p x.state
     read = read_leaves t request answer old new host some_bytes (same_setup request) asked.settled asked.stages single x.j x.p x.state x.on x.stands
 
     read_stays : StaysAs x.j x.p read.before x.state
-    read_stays = stage_stays x.j x.p read.before x.state read.so.frame
+    read_stays = read.so.frame
 
     read_heard : Listens t x.p read.before
     read_heard = listened t (suc i) new x read.before read_stays
@@ -218,7 +212,7 @@ module _ (t : Target) (i : ℕ) (old new : World) (three : NoThreeDamaged old) (
 
         none : port_there now.roots (suc x.j ∷ (x.p ++ (suc i ∷ []))) ≡ None
         none =
-            port_below now.roots x.j x.p i []
+            port_below_at now.roots x.j x.p (suc i) []
             ∙ ap (λ o. port_at (below_of o) i []) accepted_there.left
             ∙ ap (λ y. port_at (acted y accepted_there.below) i []) effect
             ∙ row_port accepted_there.below i
@@ -234,7 +228,7 @@ module _ (t : Target) (i : ℕ) (old new : World) (three : NoThreeDamaged old) (
         still : StillSet b (port_there now.roots ((suc x.j ∷ x.p) ++ (suc i ∷ [])))
         still = course_bits (suc x.j ∷ x.p) (suc i) (course_wider (λ s w k. k.leaves) (plain_course t request plain old now accepted_there ((suc x.j ∷ x.p) ++ (suc i ∷ [])))) now_on b stood
 
-  told_status : (bytes : Vec ℕ) → Asked t request old (Ok bytes) new → length bytes.items ≡ 4
+  told_status : (bytes : Vec ℕ) → AskedData t request old (Ok bytes) new → length bytes.items ≡ 4
   told_status bytes asked = ap length came ∙ four_bytes status.port
     where
       done : AnswerRead t request bytes.items old new x.j x.p (read (Ok bytes) asked).before x.state
@@ -249,7 +243,7 @@ module _ (t : Target) (i : ℕ) (old new : World) (three : NoThreeDamaged old) (
   same_four : (n : ℕ) → n ≡ 4 → (n == 4) ≡ true
   same_four n e = grind (arith, nat_tests, e)
 
-  answer_served : {A : Type 0} (says : List ℕ → A) (answer : Result (Vec ℕ) PipeFault) → Asked t request old answer new → IsServed (said_in says 4 answer)
+  answer_served : {A : Type 0} (says : List ℕ → A) (answer : Result (Vec ℕ) PipeFault) → AskedData t request old answer new → NoHubFailed (said_in says 4 answer)
   answer_served says (Ok bytes) asked = rw (same_four (length bytes.items) (told_status bytes asked)) tt
   answer_served says (Err Stalled) asked = row_stands (Err Stalled) asked refl
   answer_served says (Err Busy) asked =
@@ -260,5 +254,5 @@ module _ (t : Target) (i : ℕ) (old new : World) (three : NoThreeDamaged old) (
   answer_served says (Err (Bus fault)) asked = tt
   answer_served says (Err Memory) asked = tt
 
-  pub status_served : {A : Type 0} (says : List ℕ → A) (result : Result A PipeFault) → Told says t request old result new → IsServed result
-  status_served says result told = subst IsServed (sym told.told) (subst (λ n. IsServed (said_in says n told.answer)) (sym length_is) (answer_served says told.answer told.asked))
+  pub status_served : {A : Type 0} (says : List ℕ → A) (result : Result A PipeFault) → Told says t request old result new → NoHubFailed result
+  status_served says result told = subst NoHubFailed (sym told.told) (subst (λ n. NoHubFailed (said_in says n told.answer)) (sym length_is) (answer_served says told.answer told.asked))

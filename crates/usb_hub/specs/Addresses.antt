@@ -7,17 +7,17 @@ use Rattle.usb_device.specs.Rows.{State}
 use Rattle.usb_device.specs.Tree.{reach_at, state_at}
 use Rattle.usb_world.specs.Addresses.{after_reset, after_taking}
 use Rattle.usb_world.specs.Devices.{Relation, Was, EachWas}
-use Rattle.usb_world.specs.Live.{is_way}
+use Rattle.usb_world.specs.Paths.{is_way}
 use Rattle.usb_world.specs.World.{World}
 use Rattle.usb_pipe.specs.declared.fault.PipeFault.{PipeFault}
-use Rattle.usb_address.specs.Claims.{Claims, cleared}
+use Rattle.usb_address.specs.Claims.{Claims, claims_apart}
 use Rattle.usb_address.specs.Owned.{Owned, TillFault, KeepsAddresses}
 use Rattle.usb_hub.specs.declared.port.HubPort.{HubPort}
 use Rattle.usb_hub.specs.declared.port.HubPort.TheVariants.{Root, External}
 
--- a device has the description and the registers that it had; nothing of it changed but where its transfer stands, so its other endpoints are as they were
+-- nothing of a device changed but where its transfer stands: its description, its registers and its other endpoints are as they were
 abbrev pub StaysAs : ℕ → List ℕ → State → State → Type 0
-StaysAs j p s v = (v.spec ≡ s.spec) × (v.registers ≡ s.registers) × OnlyStage s v
+StaysAs j p s v = OnlyStage s v
 
 -- so it is of each reachable device that is not at the path nor below it
 abbrev pub EachElsewhere : List ℕ → Relation → World → World → Type 0
@@ -41,12 +41,12 @@ IsAt f (Root number) p = p ≡ number ∷ []
 IsAt f (External hub port) p = IsBelow f hub.addr port p
 
 -- some path claims the address
-pub record Answers (address : ℕ) (old : World) : Type 0 where
+pub record IsClaimed (address : ℕ) (old : World) : Type 0 where
   pub held : (f : Claims) → TillFault (Owned f) old → (p : List ℕ) × (f p ≡ Some address)
 
 -- no device is reachable at the port or below it
 pub record Bares (port : HubPort) (old new : World) : Type 0 where
-  pub bares : (f : Claims) (p : List ℕ) → IsAt f port p → TillFault (Owned f) old → TillFault (Owned (cleared f p)) new
+  pub bares : (f : Claims) (p : List ℕ) → IsAt f port p → TillFault (Owned f) old → TillFault (Owned (claims_apart f p)) new
 
 -- where address 0 is claimed at the port or below it alone: the device there has address 0, and none below it is reachable; or all have what they had.
 -- As long as the bus is at work, devices elsewhere stay as they were.
@@ -64,7 +64,7 @@ pub record GivesAddress (target address : ℕ) (old new : World) : Type 0 where
 -- whoever answered had the target's address
 pub record KeepsAnswered {A : Type 0} (address : ℕ) (old : World) (result : Result A PipeFault) (new : World) : Type 0 where
   pub keeps : KeepsAddresses old new
-  pub who : OnOk result (Answers address old)
+  pub who : OnOk result (IsClaimed address old)
 
 -- a port that is told not enabled has none reachable
 pub record KeepsAsked (port : HubPort) (old : World) (result : Result PortStatus PipeFault) (new : World) : Type 0 where

@@ -5,11 +5,11 @@ use Rattle.usb_device.specs.Spec.{Spec, Hub}
 use Rattle.usb_device.specs.Rows.{State}
 use Rattle.usb_device.specs.Progress.{OnlyStage}
 use Rattle.usb_transaction.specs.declared.target.Target.{Target}
-use Rattle.usb_transaction.specs.Over.{is_at}
-use Rattle.usb_transaction.specs.Why.{Listens}
+use Rattle.usb_transaction.specs.Leaves.{is_at}
+use Rattle.usb_transaction.specs.Failures.{Listens}
 use Rattle.usb_pipe.specs.declared.fault.PipeFault.{PipeFault}
 use Rattle.usb_pipe.specs.declared.fault.PipeFault.TheVariants.{Stalled, Busy, NoAnswer}
-use Rattle.usb_pipe.specs.Whole.{CanEnd, IsMaximum}
+use Rattle.usb_pipe.specs.Leaves.{CanEnd, IsMaximum}
 use Rattle.usb_hub.specs.declared.status.DeviceStatus.{DeviceStatus}
 
 -- What a description has for each request: None where the device refuses it

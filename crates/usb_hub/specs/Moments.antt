@@ -10,22 +10,22 @@ use Rattle.usb_device.specs.View.{port_there}
 use Rattle.usb_world.specs.declared.types.Attempt.{Attempt}
 use Rattle.usb_world.specs.declared.types.BusFault.{BusFault}
 use Rattle.usb_world.specs.Courses.{Spares, spares_step}
-use Rattle.usb_world.specs.Live.{is_way}
-use Rattle.usb_world.specs.Requested.{AsksNothing, row_reached}
-use Rattle.usb_world.specs.Resting.{AsksNothingOf}
+use Rattle.usb_world.specs.Paths.{is_way}
+use Rattle.usb_world.specs.PortRequests.{AsksNothing, row_reached}
+use Rattle.usb_world.specs.RestingPorts.{AsksNothingOf}
 use Rattle.usb_world.specs.Steps.{Step, attempt, root_call, event, report, after, ready, Course, AttemptFails}
-use Rattle.usb_world.specs.Touched.{spares}
+use Rattle.usb_world.specs.WayEffects.{spares}
 use Rattle.usb_world.specs.World.{World, Attempted}
 use Rattle.usb_address.specs.Claims.{Claims}
 use Rattle.usb_address.specs.Owned.{Owned, TillFault}
 use Rattle.usb_transaction.specs.declared.target.Target.{Target}
-use Rattle.usb_transaction.specs.Why.{NoThreeDamaged}
+use Rattle.usb_transaction.specs.Failures.{NoThreeDamaged}
 use Rattle.usb_pipe.specs.declared.fault.PipeFault.{PipeFault}
 use Rattle.usb_pipe.specs.declared.fault.PipeFault.TheVariants.{Bus}
-use Rattle.usb_pipe.specs.Whole.{IsNotOfBus}
+use Rattle.usb_pipe.specs.Leaves.{IsNotOfBus}
 use Rattle.usb_hub.specs.Addresses.{IsAt}
 use Rattle.usb_hub.specs.Requests.{AllRest}
-use Rattle.usb_hub.specs.Why.{Serves, IsServed}
+use Rattle.usb_hub.specs.Why.{Serves, NoHubFailed}
 use Rattle.usb_hub.specs.declared.port.HubPort.{HubPort}
 use Rattle.usb_hub.specs.declared.port.HubPort.TheVariants.{External}
 
@@ -53,7 +53,7 @@ pub record PortTold (p : List ℕ) (status : PortStatus) (old new : World) : Typ
 pub record TellsPort (port : HubPort) (old : World) (result : Result PortStatus PipeFault) (new : World) : Type 0 where
   pub tells : (f : Claims) (p : List ℕ) → IsAt f port p → TillFault (Owned f) old → (status : PortStatus) → result ≡ Ok status → PortTold p status old new
   pub why : (hub : Target) (number : ℕ) → port ≡ External hub number → NoThreeDamaged old → new.shared ≡ false → 8 ≤ hub.max → (serves : Serves hub number new)
-      → (b : PortState) → port_there old.roots (suc serves.j ∷ (serves.p ++ (number ∷ []))) ≡ Some b → IsServed result
+      → (b : PortState) → port_there old.roots (suc serves.j ∷ (serves.p ++ (number ∷ []))) ≡ Some b → NoHubFailed result
 
 -- A call at a port
 
@@ -107,4 +107,4 @@ pub record CallsPort (port : HubPort) (call : Option PortCall) (old : World) (re
   pub rests : (f : Claims) (p : List ℕ) (c : PortCall) → IsCall f port p call c old → IsNotOfBus result → (x : List ℕ) → is_way p x ≡ false → Course (AsksNothingOf x) old new
   pub spares : (f : Claims) (p : List ℕ) (c : PortCall) → IsCall f port p call c old → IsNotOfBus result → spares c [] ≡ true → Course (Spares p) old new
   pub cut : (f : Claims) (p : List ℕ) (c : PortCall) → IsCall f port p call c old → (fault : BusFault) → result ≡ Err (Bus fault) → UpToFault (IsAbout p c) old fault new
-  pub why : (hub : Target) (number : ℕ) → port ≡ External hub number → NoThreeDamaged old → new.shared ≡ false → Serves hub number new → IsServed result
+  pub why : (hub : Target) (number : ℕ) → port ≡ External hub number → NoThreeDamaged old → new.shared ≡ false → Serves hub number new → NoHubFailed result

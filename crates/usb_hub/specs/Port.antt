@@ -3,11 +3,11 @@ use Rattle.std.specs.Prelude.{◌≡◌, ℕ, ◌+◌, ◌≤◌, List, Option, 
 use Rattle.usb_port.specs.Path.{IsPortNumber}
 use Rattle.usb_port.specs.Status.{seen, status_in}
 use Rattle.usb_port.specs.declared.status.PortStatus.{PortStatus}
-use Rattle.usb_world.specs.World.{World, IsRootPort, Spends, root_row, roots_of, to_come, port_at, changes}
+use Rattle.usb_world.specs.World.{World, IsRootPort, Spends, root_row, roots_of, to_come, root_port_at, changes}
 use Rattle.usb_world.specs.Steps.{SetsRoot, ClearsRoot}
 use Rattle.usb_bus.specs.Traced.{Traced, WentOn}
 use Rattle.usb_request.specs.Requests.{get_port_status, set_port_feature, clear_port_feature}
-use Rattle.usb_transaction.specs.Trans.{IsTarget}
+use Rattle.usb_transaction.specs.Transactions.{IsTarget}
 use Rattle.usb_pipe.specs.declared.fault.PipeFault.{PipeFault}
 use Rattle.usb_pipe.specs.Control.{control_bound}
 use Rattle.usb_hub.specs.declared.port.HubPort.{HubPort}
@@ -30,11 +30,11 @@ order_bound (External hub port) = 1600
 
 -- the answer is what the port's status says of it, and nothing has changed
 pub record RootRead (number : ℕ) (old : World) (result : Result PortStatus PipeFault) (new : World) : Type 0 where
-  pub status : result ≡ Ok (seen (port_at old number))
+  pub status : result ≡ Ok (seen (root_port_at old number))
   pub same : new ≡ old
 
 -- no attempt was made and no event applied
-pub record Quiet (old new : World) : Type 0 where
+pub record TakesNoTime (old new : World) : Type 0 where
   pub attempts : new.attempts ≡ old.attempts
   pub limit : new.limit ≡ old.limit
   pub taken : new.taken ≡ old.taken
@@ -45,7 +45,7 @@ pub record Quiet (old new : World) : Type 0 where
 pub record RootSet (number feature : ℕ) (old : World) (result : Result (Unit {0}) PipeFault) (new : World) : Type 0 where
   pub done : IsOk result
   pub row : SetsRoot number feature old new
-  pub quiet : Quiet old new
+  pub quiet : TakesNoTime old new
   -- PORT_RESET sets no C_PORT_CONNECTION, PORT_POWER at most this port's
   pub resets : feature ≡ 4 → Spends 0 old new
   pub powers : changes (root_row new) ≤ changes (root_row old) + 1
@@ -53,10 +53,10 @@ pub record RootSet (number feature : ℕ) (old : World) (result : Result (Unit {
 pub record RootCleared (number feature : ℕ) (old : World) (result : Result (Unit {0}) PipeFault) (new : World) : Type 0 where
   pub done : IsOk result
   pub row : ClearsRoot number feature old new
-  pub quiet : Quiet old new
+  pub quiet : TakesNoTime old new
   pub count : Spends 0 old new
   -- a set C_PORT_CONNECTION that is cleared is one less
-  pub served : feature ≡ 16 → (port_at old number).connection_changed ≡ true → changes (root_row new) + to_come new + 1 ≡ changes (root_row old) + to_come old
+  pub served : feature ≡ 16 → (root_port_at old number).connection_changed ≡ true → changes (root_row new) + to_come new + 1 ≡ changes (root_row old) + to_come old
 
 -- the set of a port's feature as a course of the bus: PORT_RESET sets no C_PORT_CONNECTION of the root, PORT_POWER may
 abbrev pub SetWent : HubPort → ℕ → World → Option (List ℕ) → World → Option (List ℕ) → Type 0

@@ -4,12 +4,12 @@ use Rattle.std.specs.Global.{Vec}
 use Rattle.usb_request.specs.declared.setup.Setup.{Setup}
 use Rattle.usb_world.specs.Passes.{IsSettled}
 use Rattle.usb_world.specs.Courses.{is_harmless}
-use Rattle.usb_world.specs.Requested.{is_plain, is_below}
-use Rattle.usb_world.specs.Resting.{AsksNothingOf}
+use Rattle.usb_world.specs.PortRequests.{is_plain, is_above}
+use Rattle.usb_world.specs.RestingPorts.{AsksNothingOf}
 use Rattle.usb_world.specs.Steps.{Course}
 use Rattle.usb_world.specs.World.{World}
 use Rattle.usb_transaction.specs.declared.target.Target.{Target}
-use Rattle.usb_transaction.specs.Trans.{Worked}
+use Rattle.usb_transaction.specs.Transactions.{Worked}
 use Rattle.usb_port.specs.Status.{has_bit}
 use Rattle.usb_address.specs.Claims.{Claims}
 use Rattle.usb_address.specs.Owned.{Owned}
@@ -17,12 +17,12 @@ use Rattle.usb_pipe.specs.declared.fault.PipeFault.{PipeFault}
 use Rattle.usb_pipe.specs.declared.fault.PipeFault.TheVariants.{Stalled, Memory}
 use Rattle.usb_pipe.specs.Control.{Faults}
 use Rattle.usb_pipe.specs.Stages.{Reads, Writes}
-use Rattle.usb_pipe.specs.Whole.{IsNotOfBus}
+use Rattle.usb_pipe.specs.Leaves.{IsNotOfBus}
 use Rattle.usb_hub.specs.declared.status.DeviceStatus.{DeviceStatus}
 
 -- how few attempts came before each end of a request that takes so many transactions at least
-abbrev pub Ends : {A : Type 0} → ℕ → World → Result A PipeFault → World → Type 0
-Ends least old result new = MatchResult result (λ done. Worked least old new) (λ fault. Faults 1 old fault new)
+abbrev pub EndsAfter : {A : Type 0} → ℕ → World → Result A PipeFault → World → Type 0
+EndsAfter least old result new = MatchResult result (λ done. Worked least old new) (λ fault. Faults 1 old fault new)
 
 -- over these steps nothing is asked of any port
 abbrev pub AllRest : World → World → Type 0
@@ -30,13 +30,13 @@ AllRest w v = (x : List ℕ) → Course (AsksNothingOf x) w v
 
 -- where a path claims the address, nothing is asked of the ports that are not below it
 abbrev pub RestBut : ℕ → World → World → Type 0
-RestBut address w v = (f : Claims) (q : List ℕ) → f q ≡ Some address → Owned f w → (x : List ℕ) → is_below q x ≡ false → Course (AsksNothingOf x) w v
+RestBut address w v = (f : Claims) (q : List ℕ) → f q ≡ Some address → Owned f w → (x : List ℕ) → is_above q x ≡ false → Course (AsksNothingOf x) w v
 
 -- a target was asked for data: how few attempts were made, and which they were; no more bytes came than the request says, and nothing
 -- was asked of any port
-pub record Asked (target : Target) (request : Setup) (old : World) (answer : Result (Vec ℕ) PipeFault) (new : World) : Type 0 where
+pub record AskedData (target : Target) (request : Setup) (old : World) (answer : Result (Vec ℕ) PipeFault) (new : World) : Type 0 where
   pub settled : IsSettled old.roots
-  pub ends : Ends 3 old answer new
+  pub ends : EndsAfter 3 old answer new
   pub stages : Reads target request old answer new
   pub most : IfOk answer (λ bytes. length bytes.items ≤ request.length)
   pub rests : IsNotOfBus answer → AllRest old new
@@ -44,7 +44,7 @@ pub record Asked (target : Target) (request : Setup) (old : World) (answer : Res
 -- a target was ordered to do what has no data
 pub record Ordered (target : Target) (request : Setup) (old : World) (result : Result (Unit {0}) PipeFault) (new : World) : Type 0 where
   pub settled : IsSettled old.roots
-  pub ends : Ends 2 old result new
+  pub ends : EndsAfter 2 old result new
   pub stages : Writes target request old result new
   pub room : result ≢ Err Memory
   -- a request that is not about ports asks nothing of any
@@ -60,9 +60,9 @@ said_in read size (Err fault) = Err fault
 -- a target was asked for data of just so many bytes as the request says, and what is told is what they say
 pub record Told {A : Type 0} (read : List ℕ → A) (target : Target) (request : Setup) (old : World) (result : Result A PipeFault) (new : World) : Type 0 where
   pub answer : Result (Vec ℕ) PipeFault
-  pub asked : Asked target request old answer new
+  pub asked : AskedData target request old answer new
   pub told : result ≡ said_in read request.length answer
-  pub ends : Ends 3 old result new
+  pub ends : EndsAfter 3 old result new
 
 -- a device's status: two bytes, of which the second is 0 (9.4.5)
 abbrev pub device_status : List ℕ → DeviceStatus

@@ -8,12 +8,12 @@ use Rattle.usb_device.specs.Progress.{OnlyControl}
 use Rattle.usb_device.specs.Tree.{Ports, full, all_off, place_at}
 use Rattle.usb_world.specs.World.{World}
 use Rattle.usb_world.specs.Steps.{Course}
-use Rattle.usb_world.specs.Resting.{AsksNothingOf}
+use Rattle.usb_world.specs.RestingPorts.{AsksNothingOf}
 use Rattle.usb_transaction.specs.declared.target.Target.{Target}
-use Rattle.usb_transaction.specs.Over.{is_at}
+use Rattle.usb_transaction.specs.Leaves.{is_at}
 use Rattle.usb_pipe.specs.declared.fault.PipeFault.{PipeFault}
 use Rattle.usb_pipe.specs.declared.fault.PipeFault.TheVariants.{Stalled}
-use Rattle.usb_pipe.specs.Whole.{CanEnd, IsNotOfBus, TookOrLost}
+use Rattle.usb_pipe.specs.Leaves.{CanEnd, IsNotOfBus, TookItOrLost}
 
 -- A device was asked to take an address: nothing of it changed but where its transfer stands, and its address to this one. Where that is done, it
 -- took it at the host's ACK, or one loss more is counted; where it failed, neither.
@@ -21,7 +21,7 @@ pub record AddressAsked (t : Target) (address : ℕ) (result : Result (Unit {0})
   pub others : is_at s t ≡ false → v ≡ s
   pub frame : OnlyControl s v
   pub either : (v.registers ≡ s.registers) ⊎ (v.registers ≡ record s.registers { address = address })
-  pub done : is_at s t ≡ true → result ≡ Ok tt → (s.spec.stalls.address ≡ false) × TookOrLost address old new s v
+  pub done : is_at s t ≡ true → result ≡ Ok tt → (s.spec.stalls.address ≡ false) × TookItOrLost address old new s v
   pub stalled : is_at s t ≡ true → result ≡ Err Stalled → s.spec.stalls.address ≡ true
   pub failed : is_at s t ≡ true → (why : PipeFault) → result ≡ Err why → IsNotOfBus result → (v.registers ≡ s.registers) × (new.losses ≡ old.losses)
   pub could : is_at s t ≡ true → CanEnd s.spec result

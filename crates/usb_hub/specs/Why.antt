@@ -5,7 +5,7 @@ use Rattle.usb_device.specs.Spec.{Spec, Hub, IsSpec}
 use Rattle.usb_device.specs.Tree.{reach_at, state_at}
 use Rattle.usb_world.specs.World.{World}
 use Rattle.usb_transaction.specs.declared.target.Target.{Target}
-use Rattle.usb_transaction.specs.Why.{Listens}
+use Rattle.usb_transaction.specs.Failures.{Listens}
 use Rattle.usb_pipe.specs.declared.fault.PipeFault.{PipeFault}
 use Rattle.usb_pipe.specs.declared.fault.PipeFault.TheVariants.{Stalled, Busy, NoAnswer, Broken, Bus, Memory}
 
@@ -31,11 +31,11 @@ pub record Serves (target : Target) (number : ℕ) (w : World) : Type 0 where
   pub has : HasPort state.spec number
 
 -- no hub failed: the call is done, or the bus gave up, or there was no memory
-abbrev pub IsServed : {A : Type 0} → Result A PipeFault → Type 0
-IsServed (Ok x) = ⊤
-IsServed (Err Stalled) = ⊥
-IsServed (Err Busy) = ⊥
-IsServed (Err NoAnswer) = ⊥
-IsServed (Err Broken) = ⊥
-IsServed (Err (Bus fault)) = ⊤
-IsServed (Err Memory) = ⊤
+abbrev pub NoHubFailed : {A : Type 0} → Result A PipeFault → Type 0
+NoHubFailed (Ok x) = ⊤
+NoHubFailed (Err Stalled) = ⊥
+NoHubFailed (Err Busy) = ⊥
+NoHubFailed (Err NoAnswer) = ⊥
+NoHubFailed (Err Broken) = ⊥
+NoHubFailed (Err (Bus fault)) = ⊤
+NoHubFailed (Err Memory) = ⊤

@@ -1,12 +1,12 @@
 //! The two shapes of a request: one that is answered with data, and one without.
 ghost use Rattle.std.specs.Prelude.{◌≡◌, ◌≤◌};
-ghost use Rattle.usb_transaction.specs.Trans.{IsTarget};
+ghost use Rattle.usb_transaction.specs.Transactions.{IsTarget};
 ghost use Rattle.usb_request.specs.Layout.{IsToHost, IsToDevice};
 ghost use Rattle.usb_pipe.specs.Control.{control_bound};
 ghost use Rattle.usb_bus.specs.Traced.{Went};
 ghost use Rattle.usb_address.specs.Owned.{KeepsAddresses};
 ghost use Rattle.usb_hub.specs.Addresses.{KeepsAnswered};
-ghost use Rattle.usb_hub.specs.Requests.{Asked, Told, Ordered};
+ghost use Rattle.usb_hub.specs.Requests.{AskedData, Told, Ordered};
 
 use std::alloc::Global;
 use usb_pipe::{Bus, PipeFault, Setup, Target, control_in, control_none};
@@ -27,7 +27,7 @@ pub(crate) fn ask<B: Bus>(
     requires reads { IsToHost setup }
     requires some { 1 ≤ setup.length }
     ensures went { Went B.world B.trace (control_bound target.max setup.length) bus.old bus.new }
-    ensures asked { Asked target setup (B.world bus.old) result (B.world bus.new) }
+    ensures asked { AskedData target setup (B.world bus.old) result (B.world bus.new) }
     ensures addresses { KeepsAnswered target.addr (B.world bus.old) result (B.world bus.new) }
 {
     control_in(alloc, bus, target, setup)

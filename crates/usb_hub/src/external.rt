@@ -1,6 +1,6 @@
 //! The ports of a hub, asked of the hub (11.24.2).
 ghost use Rattle.std.specs.Prelude.{◌≢◌};
-ghost use Rattle.usb_transaction.specs.Trans.{IsTarget};
+ghost use Rattle.usb_transaction.specs.Transactions.{IsTarget};
 ghost use Rattle.usb_port.specs.Status.{status_in};
 ghost use Rattle.usb_request.specs.Requests.{get_port_status, set_port_feature as set_feature, clear_port_feature as clear_feature};
 ghost use Rattle.usb_pipe.specs.Control.{control_bound};

@@ -2,15 +2,15 @@
 ghost use Rattle.std.specs.Prelude.{◌≡◌, ◌≤◌, false};
 ghost use Rattle.usb_bus.specs.Traced.{Went};
 ghost use Rattle.usb_world.specs.Devices.{EachWas};
-ghost use Rattle.usb_transaction.specs.Trans.{IsTarget};
-ghost use Rattle.usb_transaction.specs.Why.{NoThreeDamaged};
+ghost use Rattle.usb_transaction.specs.Transactions.{IsTarget};
+ghost use Rattle.usb_transaction.specs.Failures.{NoThreeDamaged};
 ghost use Rattle.usb_pipe.specs.Control.{control_bound};
-ghost use Rattle.usb_pipe.specs.WhyWhole.{WhyWrite};
+ghost use Rattle.usb_pipe.specs.Failures.{WhyWrite};
 ghost use Rattle.usb_request.specs.Requests.{get_device_descriptor, get_configuration_descriptor, get_string_descriptor, get_hub_descriptor, get_status as status_request, set_address as address_request, set_configuration as configuration_request};
 ghost use Rattle.usb_address.specs.Owned.{KeepsAddresses};
 ghost use Rattle.usb_hub.specs.Addresses.{KeepsAnswered, GivesAddress};
 ghost use Rattle.usb_hub.specs.Asked.{DeviceAsked, ConfigAsked, StringAsked, HubAsked, StatusAsked, WhyAsked};
-ghost use Rattle.usb_hub.specs.Requests.{Asked, Told, Ordered, device_status};
+ghost use Rattle.usb_hub.specs.Requests.{AskedData, Told, Ordered, device_status};
 ghost use Rattle.usb_hub.specs.Settings.{AddressAsked, ConfigurationAsked};
 
 use crate::DeviceStatus;
@@ -32,7 +32,7 @@ pub fn get_device<B: Bus>(
     requires target { IsTarget target }
     requires some { 1 ≤ length }
     ensures went { Went B.world B.trace (control_bound target.max length) bus.old bus.new }
-    ensures asked { Asked target (get_device_descriptor length)
+    ensures asked { AskedData target (get_device_descriptor length)
         (B.world bus.old) result (B.world bus.new) }
     ensures what { (B.world bus.new).shared ≡ false
         → EachWas (DeviceAsked target length result) (B.world bus.old) (B.world bus.new) }
@@ -60,7 +60,7 @@ pub fn get_config<B: Bus>(
     requires target { IsTarget target }
     requires some { 1 ≤ length }
     ensures went { Went B.world B.trace (control_bound target.max length) bus.old bus.new }
-    ensures asked { Asked target (get_configuration_descriptor index length)
+    ensures asked { AskedData target (get_configuration_descriptor index length)
         (B.world bus.old) result (B.world bus.new) }
     ensures what { (B.world bus.new).shared ≡ false
         → EachWas (ConfigAsked target index length result) (B.world bus.old) (B.world bus.new) }
@@ -92,7 +92,7 @@ pub fn get_string<B: Bus>(
 ) -> Result<Vec<u8>, PipeFault>
     requires target { IsTarget target }
     ensures went { Went B.world B.trace (control_bound target.max 255) bus.old bus.new }
-    ensures asked { Asked target (get_string_descriptor index language)
+    ensures asked { AskedData target (get_string_descriptor index language)
         (B.world bus.old) result (B.world bus.new) }
     ensures what { (B.world bus.new).shared ≡ false
         → EachWas (StringAsked target index result) (B.world bus.old) (B.world bus.new) }
@@ -121,7 +121,7 @@ pub fn hub_descriptor<B: Bus>(
 ) -> Result<Vec<u8>, PipeFault>
     requires { IsTarget target }
     ensures went { Went B.world B.trace (control_bound target.max 9) bus.old bus.new }
-    ensures asked { Asked target get_hub_descriptor (B.world bus.old) result (B.world bus.new) }
+    ensures asked { AskedData target get_hub_descriptor (B.world bus.old) result (B.world bus.new) }
     ensures what { (B.world bus.new).shared ≡ false
         → EachWas (HubAsked target result) (B.world bus.old) (B.world bus.new) }
     ensures why { NoThreeDamaged (B.world bus.old) → 8 ≤ target.max

@@ -1,6 +1,6 @@
 -- The address losses that a transfer with data counts: none, seen from a device that it asked.
 use Rattle.std.proofs.Common.{◌≡◌, ◌≢◌, ◌⊎◌, inl, inr, refl, sym, ap, subst, ◌∙◌, arith, not, ◌&&◌, ◌==◌, true, false}
-use Rattle.std.specs.Prelude.{ℕ, zero, suc, ◌+◌, ◌≤◌, List, [], ◌∷◌, ◌++◌, take, Option, None, Some, Result, Ok, Err}
+use Rattle.std.specs.Prelude.{ℕ, ◌+◌, ◌≤◌, List, [], ◌++◌, take, Option, None, Some, Result, Ok, Err}
 use Rattle.std.specs.Global.{Vec}
 use Rattle.arrayvec.specs.ArrayVec.{ArrayVec}
 use Rattle.usb_packet.specs.declared.Toggle.{Toggle}
@@ -12,38 +12,33 @@ use Rattle.usb_device.specs.Rows.{State}
 use Rattle.usb_world.specs.Devices.{Relation, EachWas}
 use Rattle.usb_world.specs.Passes.{IsSettled}
 use Rattle.usb_world.specs.World.{World}
-use Rattle.usb_world.proofs.Devices.{each_none, each_joined, each_wider}
+use Rattle.usb_world.proofs.Interface.{each_joined, each_none, each_wider}
 use Rattle.usb_transaction.specs.declared.target.Target.{Target}
 use Rattle.usb_transaction.specs.declared.fault.TransFault.{TransFault}
 use Rattle.usb_transaction.specs.declared.fault.TransFault.TheVariants as trans
 use Rattle.usb_transaction.specs.Heard.{heard_as, set_up_as, sent_as}
 use Rattle.usb_transaction.specs.Losses.{begins_no_stretch, LosesNone}
-use Rattle.usb_transaction.specs.Over.{is_at, ReadStatus, SetupDone}
+use Rattle.usb_transaction.specs.Leaves.{is_at, ReadStatus, SetupDone}
 use Rattle.usb_transaction.specs.Trail.{Ended, Polled}
-use Rattle.usb_transaction.specs.Trans.{setup_attempt, in_attempt, out_attempt}
-use Rattle.usb_transaction.proofs.LossOther.{other_losses}
-use Rattle.usb_transaction.proofs.LossReads.{read_losses as in_losses}
-use Rattle.usb_transaction.proofs.LossSteps.{set_up_losses, out_losses}
-use Rattle.usb_transaction.proofs.Overs.{each_both}
-use Rattle.usb_transaction.proofs.ReadLeaves.{read_status_leaves}
-use Rattle.usb_pipe.specs.declared.condition.Condition.{Condition}
-use Rattle.usb_pipe.specs.declared.condition.Condition.TheVariants.{Ready, Halted, Broken}
+use Rattle.usb_transaction.specs.Transactions.{setup_attempt, in_attempt, out_attempt}
+use Rattle.usb_transaction.proofs.Interface.{at_from, each_both, other_losses, out_losses, read_losses as in_losses, read_status_leaves, set_up_losses}
 use Rattle.usb_pipe.specs.declared.fault.PipeFault.{PipeFault}
 use Rattle.usb_pipe.specs.Bulk.{Bulk, Sends, Receives}
 use Rattle.usb_pipe.specs.Control.{fault_of}
 use Rattle.usb_pipe.specs.End.{packet_target}
-use Rattle.usb_pipe.specs.Interrupt.{Interrupt, Asked, Polls}
+use Rattle.usb_pipe.specs.Interrupt.{Interrupt, PollAsked, Polls}
 use Rattle.usb_pipe.specs.Moves.{Gave, Came, SendEnds, ReceiveEnds}
 use Rattle.usb_pipe.specs.Moves as moves
 use Rattle.usb_pipe.specs.Stages.{SetUp, Goes, DataStage, Reads}
 use Rattle.usb_pipe.specs.Stages as stages
 use Rattle.usb_pipe.specs.Toggles.{flips}
-use Rattle.usb_pipe.specs.Whole.{IsNotOfBus, LossesKept}
-use Rattle.usb_pipe.proofs.WholeReads.{other_type, read_request_leaves, Begun, refuses, answered, Along, along_none, along_more, along_rests, begun_then, goes_settled, unshared_stage, settled_stage}
-use Rattle.usb_pipe.proofs.WholeReads as reads
-use Rattle.usb_pipe.proofs.WholeReceives.{came_settled}
-use Rattle.usb_pipe.proofs.WholeSends.{gave_settled}
-use Rattle.usb_pipe.proofs.WholeSteps.{ended, transacted_of, ended_settled, ended_unshared, AskedLeaves, asked_leaves, at_from}
+use Rattle.usb_pipe.specs.Leaves.{IsNotOfBus, LossesKept}
+use Rattle.usb_pipe.proofs.BulkCalls.{send_by, receive_by}
+use Rattle.usb_pipe.proofs.ControlReads.{other_type, read_request_leaves, Begun, refuses, answered, Along, along_none, along_more, along_rests, begun_then, goes_settled, unshared_stage, settled_stage}
+use Rattle.usb_pipe.proofs.ControlReads as reads
+use Rattle.usb_pipe.proofs.BulkReceives.{came_settled}
+use Rattle.usb_pipe.proofs.BulkSends.{gave_settled}
+use Rattle.usb_pipe.proofs.ControlSteps.{ended, transacted_of, ended_settled, ended_unshared, AskedLeaves, asked_leaves}
 
 -- The data stage of a control read
 
@@ -124,7 +119,7 @@ module _ (t : Target) (request : Setup) (host : IsToHost request) (some : 1 ≤ 
     where
       at_device : (j : ℕ) (p : List ℕ) (s u v : State) → SetupDone t (bytes_of request) (Ok []) old mid j p s u → LosesNoneSince t request.length mid new j p u v → LossesKept t old new j p s v
       at_device j p s u v y f at =
-          let k : reads.Asked t request old mid j p s u = begun_then t request host some same s u j p y at in
+          let k : reads.AcceptedRead t request old mid j p s u = begun_then t request host some same s u j p y at in
           f (at_from t s u (ap (λ d. d.registers) k.frame) at) k.begun ∙ request_kept (Ok []) mid x
 
   each_read_kept : (result : Result (Vec ℕ) PipeFault) → IsNotOfBus result → Reads t request old result new → EachWas (LossesKept t old new) old new
@@ -170,21 +165,10 @@ sent_losses t ep first total (Err why) old new settled x sound =
 unchanged : {old new : World} → new ≡ old → new.losses ≡ old.losses
 unchanged e = ap (λ w. w.losses) e
 
--- by whether there are some
-working_sends : (bytes : List ℕ) (pipe : Bulk) (result : Result (Unit {0}) PipeFault) (left : Bulk) (old new : World) → pipe.condition ≢ Broken
-    → Sends bytes pipe old result left new → IsNotOfBus result → new.losses ≡ old.losses
-working_sends [] pipe result left old new works x sound = unchanged (x.nothing works refl).world_kept
-working_sends (b ∷ bytes) pipe result left old new works x sound =
-    let s = x.moved works (λ e. cc e) in
-    sent_losses (packet_target pipe.target pipe.max) pipe.ep pipe.toggle (b ∷ bytes) result old new s.settled s.went sound
-
 pub send_losses : (bytes : List ℕ) (pipe : Bulk) (result : Result (Unit {0}) PipeFault) (left : Bulk) (old new : World) → Sends bytes pipe old result left new → IsNotOfBus result → new.losses ≡ old.losses
-send_losses bytes pipe result left old new x sound = pick pipe.condition refl
-  where
-    pick : (c : Condition) → pipe.condition ≡ c → new.losses ≡ old.losses
-    pick Ready e = working_sends bytes pipe result left old new (λ h. cc (sym e ∙ h)) x sound
-    pick Halted e = working_sends bytes pipe result left old new (λ h. cc (sym e ∙ h)) x sound
-    pick Broken e = unchanged (x.broken e).world_kept
+send_losses bytes pipe result left old new x sound =
+    send_by (new.losses ≡ old.losses) (λ i. unchanged i.world_kept) (λ none i. unchanged i.world_kept)
+    (λ works some y. sent_losses (packet_target pipe.target pipe.max) pipe.ep pipe.toggle bytes result old new y.settled y.went sound) x
 
 -- Bulk transfers to the host
 
@@ -203,22 +187,11 @@ received_losses t ep first wanted (Err why) old new other settled (inl x) sound 
 received_losses t ep first wanted (Err why) old new other settled (inr x) sound =
     other_losses t ep x.mid new other (came_settled x.before settled) x.came.trail ∙ came_losses t ep first other settled x.before
 
--- by whether some are wanted
-working_receives : (wanted : ℕ) (pipe : Bulk) (result : Result (Vec ℕ) PipeFault) (left : Bulk) (old new : World) → pipe.ep ≢ 0 → pipe.condition ≢ Broken
-    → Receives wanted pipe old result left new → IsNotOfBus result → new.losses ≡ old.losses
-working_receives zero pipe result left old new other works x sound = unchanged (x.nothing works refl).2
-working_receives (suc k) pipe result left old new other works x sound =
-    let r = x.moved works (λ e. cc e) in
-    received_losses (packet_target pipe.target pipe.max) pipe.ep pipe.toggle (suc k) result old new other r.settled r.came sound
-
 pub receive_losses : (wanted : ℕ) (pipe : Bulk) (result : Result (Vec ℕ) PipeFault) (left : Bulk) (old new : World) → pipe.ep ≢ 0
     → Receives wanted pipe old result left new → IsNotOfBus result → new.losses ≡ old.losses
-receive_losses wanted pipe result left old new other x sound = pick pipe.condition refl
-  where
-    pick : (c : Condition) → pipe.condition ≡ c → new.losses ≡ old.losses
-    pick Ready e = working_receives wanted pipe result left old new other (λ h. cc (sym e ∙ h)) x sound
-    pick Halted e = working_receives wanted pipe result left old new other (λ h. cc (sym e ∙ h)) x sound
-    pick Broken e = unchanged (x.broken e).2
+receive_losses wanted pipe result left old new other x sound =
+    receive_by (new.losses ≡ old.losses) (λ broken kept same. unchanged same) (λ bytes is none kept same. unchanged same)
+    (λ works some y. received_losses (packet_target pipe.target pipe.max) pipe.ep pipe.toggle wanted result old new other y.settled y.came sound) x
 
 -- Polls
 
@@ -230,7 +203,7 @@ failed_losses pipe old new why trans.Busy e sound other settled x = other_losses
 failed_losses pipe old new why trans.NoAnswer e sound other settled x = other_losses pipe.target pipe.ep old new other settled x.trail
 failed_losses pipe old new why (trans.Bus fault) e sound other settled x = absurd (subst (λ y. IsNotOfBus {A = Option (ArrayVec ℕ)} (Err y)) e sound)
 
-asked_losses : (pipe : Interrupt) (result : Result (Option (ArrayVec ℕ)) PipeFault) (old new : World) → pipe.ep ≢ 0 → IsSettled old.roots → Asked pipe old result new → IsNotOfBus result → new.losses ≡ old.losses
+asked_losses : (pipe : Interrupt) (result : Result (Option (ArrayVec ℕ)) PipeFault) (old new : World) → pipe.ep ≢ 0 → IsSettled old.roots → PollAsked pipe old result new → IsNotOfBus result → new.losses ≡ old.losses
 asked_losses pipe (Ok None) old new other settled x sound = other_losses pipe.target pipe.ep old new other settled x.trail
 asked_losses pipe (Ok (Some packet)) old new other settled x sound = other_losses pipe.target pipe.ep old new other settled x.trail
 asked_losses pipe (Err why) old new other settled x sound = failed_losses pipe old new why x.fault x.told sound other settled x.polled

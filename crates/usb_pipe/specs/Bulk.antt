@@ -7,7 +7,7 @@ use Rattle.usb_packet.specs.declared.Toggle.TheVariants.{Zero}
 use Rattle.usb_world.specs.World.{World}
 use Rattle.usb_world.specs.Passes.{IsSettled}
 use Rattle.usb_transaction.specs.declared.target.Target.{Target}
-use Rattle.usb_transaction.specs.Trans.{Worked}
+use Rattle.usb_transaction.specs.Transactions.{Worked}
 use Rattle.usb_pipe.specs.declared.condition.Condition.{Condition}
 use Rattle.usb_pipe.specs.declared.condition.Condition.TheVariants.{Ready, Halted, Broken}
 use Rattle.usb_pipe.specs.declared.fault.PipeFault.{PipeFault}

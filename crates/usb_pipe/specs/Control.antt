@@ -3,7 +3,7 @@ use Rattle.std.specs.Prelude.{ℕ, ◌+◌, ◌*◌, Bool, ◌||◌, nat_lt, nat
 use Rattle.usb_world.specs.World.{World, Failed}
 use Rattle.usb_transaction.specs.declared.fault.TransFault.{TransFault}
 use Rattle.usb_transaction.specs.declared.fault.TransFault.TheVariants.{Stalled as TransStalled, Busy as TransBusy, NoAnswer as TransNoAnswer, Bus as TransBus}
-use Rattle.usb_transaction.specs.Trans.{Worked}
+use Rattle.usb_transaction.specs.Transactions.{Worked}
 use Rattle.usb_pipe.specs.declared.fault.PipeFault.{PipeFault}
 use Rattle.usb_pipe.specs.declared.fault.PipeFault.TheVariants.{Stalled, Busy, NoAnswer, Broken, Bus, Memory}
 
@@ -24,8 +24,8 @@ Faults n old (Bus fault) new = Failed fault new
 Faults n old Memory new = Worked (n + 1) old new
 
 -- a packet of this size ends a data stage, where with it `got` of the `wanted` bytes have come
-abbrev pub is_last : ℕ → ℕ → ℕ → ℕ → Bool
-is_last size max got wanted = nat_lt size max || nat_le wanted got
+abbrev pub ends_stage : ℕ → ℕ → ℕ → ℕ → Bool
+ends_stage size max got wanted = nat_lt size max || nat_le wanted got
 
 -- the most attempts for each byte of a data stage
 unfoldable pub byte_bound : ℕ → ℕ

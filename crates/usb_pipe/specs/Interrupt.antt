@@ -5,7 +5,7 @@ use Rattle.usb_packet.specs.declared.Toggle.{Toggle}
 use Rattle.usb_world.specs.World.{World}
 use Rattle.usb_transaction.specs.declared.target.Target.{Target}
 use Rattle.usb_transaction.specs.Heard.{toggle_after}
-use Rattle.usb_transaction.specs.Trans.{Worked, in_attempt}
+use Rattle.usb_transaction.specs.Transactions.{Worked, in_attempt}
 use Rattle.usb_transaction.specs.Trail.{Polled}
 use Rattle.usb_transaction.specs.declared.fault.TransFault.{TransFault}
 use Rattle.usb_pipe.specs.declared.fault.PipeFault.{PipeFault}
@@ -24,15 +24,15 @@ pub record NoPoll (pipe : Interrupt) (old : World) (why : PipeFault) (new : Worl
   pub polled : Polled pipe.toggle (in_attempt pipe.target pipe.ep) old (Err fault) new
 
 -- what the attempts of a poll were, all INs of the endpoint, and what was heard of them
-abbrev pub Asked : Interrupt → World → Result (Option (ArrayVec ℕ)) PipeFault → World → Type 0
-Asked pipe old (Ok None) new = Polled pipe.toggle (in_attempt pipe.target pipe.ep) old (Ok None) new
-Asked pipe old (Ok (Some packet)) new = Polled pipe.toggle (in_attempt pipe.target pipe.ep) old (Ok (Some packet.items)) new
-Asked pipe old (Err why) new = NoPoll pipe old why new
+abbrev pub PollAsked : Interrupt → World → Result (Option (ArrayVec ℕ)) PipeFault → World → Type 0
+PollAsked pipe old (Ok None) new = Polled pipe.toggle (in_attempt pipe.target pipe.ep) old (Ok None) new
+PollAsked pipe old (Ok (Some packet)) new = Polled pipe.toggle (in_attempt pipe.target pipe.ep) old (Ok (Some packet.items)) new
+PollAsked pipe old (Err why) new = NoPoll pipe old why new
 
 -- what a poll answers and leaves
 pub record Polls (pipe : Interrupt) (old : World) (result : Result (Option (ArrayVec ℕ)) PipeFault) (left : Interrupt) (new : World) : Type 0 where
   pub ends : MatchResult result (λ _. Worked 1 old new) (λ fault. Faults 0 old fault new)
-  pub asked : Asked pipe old result new
+  pub asked : PollAsked pipe old result new
   pub room : result ≢ Err Memory
   pub most : IfOk result (λ got. IfSome got (λ packet. length packet.items ≤ pipe.target.max))
   pub pipe_left : left ≡ record pipe { toggle = toggle_after pipe.toggle result }

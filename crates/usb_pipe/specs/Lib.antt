@@ -5,6 +5,8 @@ pub mod Interrupt
 pub mod Bulk
 pub mod Stages
 pub mod Moves
-pub mod Whole
-pub mod WhyWhole
+pub mod Packets
+pub mod Leaves
+pub mod Failures
 pub mod Attempts
+pub mod Transfers

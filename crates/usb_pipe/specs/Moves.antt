@@ -8,7 +8,7 @@ use Rattle.usb_world.specs.Steps.{Step, attempt}
 use Rattle.usb_transaction.specs.declared.target.Target.{Target}
 use Rattle.usb_transaction.specs.declared.fault.TransFault.{TransFault}
 use Rattle.usb_transaction.specs.Heard.{heard_as, sent_as}
-use Rattle.usb_transaction.specs.Trans.{in_attempt, out_attempt}
+use Rattle.usb_transaction.specs.Transactions.{in_attempt, out_attempt}
 use Rattle.usb_transaction.specs.Trail.{Trail, GoesOn, Transacted}
 use Rattle.usb_pipe.specs.declared.fault.PipeFault.{PipeFault}
 use Rattle.usb_pipe.specs.declared.fault.PipeFault.TheVariants.{Memory}

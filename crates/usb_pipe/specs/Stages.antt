@@ -9,11 +9,11 @@ use Rattle.usb_world.specs.World.{World}
 use Rattle.usb_transaction.specs.declared.target.Target.{Target}
 use Rattle.usb_transaction.specs.declared.fault.TransFault.{TransFault}
 use Rattle.usb_transaction.specs.Heard.{heard_as, sent_as, set_up_as}
-use Rattle.usb_transaction.specs.Trans.{setup_attempt, in_attempt, out_attempt}
+use Rattle.usb_transaction.specs.Transactions.{setup_attempt, in_attempt, out_attempt}
 use Rattle.usb_transaction.specs.Trail.{Transacted}
 use Rattle.usb_pipe.specs.declared.fault.PipeFault.{PipeFault}
 use Rattle.usb_pipe.specs.declared.fault.PipeFault.TheVariants.{Memory}
-use Rattle.usb_pipe.specs.Control.{fault_of, is_last}
+use Rattle.usb_pipe.specs.Control.{fault_of, ends_stage}
 use Rattle.usb_pipe.specs.Toggles.{flips}
 
 -- Transactions of endpoint 0
@@ -65,7 +65,7 @@ Writes t request old (Err why) new = NoSetUp t request old why new ⊎ NoStatus 
 pub data Goes (t : Target) (wanted : ℕ) (old : World) : ℕ → List ℕ → World → Type 0 where
   start : Goes t wanted old 0 [] old
   packet : {n : ℕ} {got : List ℕ} {mid new : World} (bytes : List ℕ) → Goes t wanted old n got mid → Asks t (flips n One) mid (Ok bytes) new
-      → is_last (length bytes) t.max (length (got ++ bytes)) wanted ≡ false → Goes t wanted old (n + 1) (got ++ bytes) new
+      → ends_stage (length bytes) t.max (length (got ++ bytes)) wanted ≡ false → Goes t wanted old (n + 1) (got ++ bytes) new
 
 -- it ended with a packet that was short, or with all that was wanted; what came past that is dropped
 pub record DataStage (t : Target) (wanted : ℕ) (old : World) (bytes : List ℕ) (new : World) : Type 0 where
@@ -76,7 +76,7 @@ pub record DataStage (t : Target) (wanted : ℕ) (old : World) (bytes : List ℕ
   pub last : List ℕ
   pub came : Asks t (flips packets One) mid (Ok last) new
   pub kept : bytes ≡ take wanted (got ++ last)
-  pub ends : is_last (length last) t.max (length bytes) wanted ≡ true
+  pub ends : ends_stage (length last) t.max (length bytes) wanted ≡ true
 
 -- it ended with a packet that did not come
 pub record DataLost (t : Target) (wanted : ℕ) (old : World) (why : PipeFault) (new : World) : Type 0 where

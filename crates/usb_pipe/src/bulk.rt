@@ -39,19 +39,15 @@ impl Model for BulkPipe {
 }
 
 impl BulkPipe {
-    ghost use Rattle.std.specs.Prelude.{◌≡◌, ◌≢◌, ◌*◌, ◌<◌, ◌≤◌, true, false, [], length, OnOk};
+    ghost use Rattle.std.specs.Prelude.{◌≡◌, ◌*◌, ◌<◌, ◌≤◌, true, false, length};
     ghost use Rattle.std.specs.Int.{div_ceil};
     ghost use Rattle.usb_packet.specs.declared.Toggle.TheVariants.{Zero};
     ghost use Rattle.usb_bus.specs.Traced.{Went};
-    ghost use Rattle.usb_world.specs.Devices.{EachWas};
-    ghost use Rattle.usb_transaction.specs.Trans.{IsTarget};
-    ghost use Rattle.usb_transaction.specs.Why.{NoThreeDamaged};
-    ghost use Rattle.usb_transaction.specs.Answerer.{Answerer};
-    ghost use Rattle.usb_pipe.specs.Whole.{IsNotOfBus, SendLeaves, ReceiveLeaves, ClearLeaves};
-    ghost use Rattle.usb_pipe.specs.WhyWhole.{WhyWrite, WhySend, WhyReceive};
+    ghost use Rattle.usb_transaction.specs.Transactions.{IsTarget};
     ghost use Rattle.usb_pipe.specs.declared.condition.Condition.TheVariants.{Ready};
-    ghost use Rattle.usb_pipe.specs.Bulk.{Bulk, Sends, Receives, Clears, Cleared};
+    ghost use Rattle.usb_pipe.specs.Bulk.{Bulk, Cleared};
     ghost use Rattle.usb_pipe.specs.End.{packet_target};
+    ghost use Rattle.usb_pipe.specs.Transfers.{BulkSend, BulkReceive, BulkClear};
 
     /// A pipe to an endpoint, 1 to 15, with its maximum packet, 1 to 64 bytes. It reads if `is_in`,
     /// and else writes.
@@ -62,7 +58,14 @@ impl BulkPipe {
         requires endpoint { ep < 16 }
         requires least { 1 ≤ max }
         requires most { max ≤ 64 }
-        ensures { result ≡ record { target = target; ep = ep; max = max; is_in = is_in; toggle = Zero; condition = Ready } }
+        ensures { result ≡ record {
+          target = target;
+          ep = ep;
+          max = max;
+          is_in = is_in;
+          toggle = Zero;
+          condition = Ready;
+        } }
     {
         BulkPipe {
             target,
@@ -85,13 +88,10 @@ impl BulkPipe {
     /// bytes was taken, too. It never answers `Memory`.
     pub fn send<B: Bus>(&mut self, bus: &mut B, bytes: &[u8]) -> Result<(), PipeFault>
         requires writes { self.old.is_in ≡ false }
-        ensures went { Went B.world B.trace (768 * div_ceil (length bytes.now) self.old.max) bus.old bus.new }
-        ensures sends { Sends bytes.now self.old (B.world bus.old) result self.new (B.world bus.new) }
-        ensures what { (B.world bus.new).shared ≡ false
-            → EachWas (SendLeaves bytes.now self.old result self.new)
-            (B.world bus.old) (B.world bus.new) }
-        ensures why { NoThreeDamaged (B.world bus.old) → IsNotOfBus result → (B.world bus.new).shared ≡ false → EachWas (WhySend self.old result) (B.world bus.old) (B.world bus.new) }
-        ensures who { OnOk result (bytes.now ≢ [] → (B.world bus.new).shared ≡ false → Answerer self.old.target (B.world bus.old) (B.world bus.new)) }
+        ensures went { Went B.world B.trace
+            (768 * div_ceil (length bytes.now) self.old.max) bus.old bus.new }
+        ensures transfer { BulkSend bytes.now self.old
+            (B.world bus.old) result self.new (B.world bus.new) }
     {
         if self.condition.is_broken() {
             return Err(PipeFault::Broken);
@@ -122,11 +122,8 @@ impl BulkPipe {
     ) -> Result<Vec<u8>, PipeFault>
         requires reads { self.old.is_in ≡ true }
         ensures went { Went B.world B.trace (768 * packets) bus.old bus.new }
-        ensures receives { Receives packets self.old (B.world bus.old) result self.new (B.world bus.new) }
-        ensures what { (B.world bus.new).shared ≡ false
-            → EachWas (ReceiveLeaves self.old result self.new) (B.world bus.old) (B.world bus.new) }
-        ensures why { NoThreeDamaged (B.world bus.old) → IsNotOfBus result → (B.world bus.new).shared ≡ false → EachWas (WhyReceive packets self.old result) (B.world bus.old) (B.world bus.new) }
-        ensures who { OnOk result (packets ≢ 0 → (B.world bus.new).shared ≡ false → Answerer self.old.target (B.world bus.old) (B.world bus.new)) }
+        ensures transfer { BulkReceive packets self.old
+            (B.world bus.old) result self.new (B.world bus.new) }
     {
         if self.condition.is_broken() {
             return Err(PipeFault::Broken);
@@ -159,10 +156,8 @@ impl BulkPipe {
     /// answers `Broken` or `Memory`.
     pub fn clear_halt<B: Bus>(&mut self, bus: &mut B) -> Result<(), PipeFault>
         ensures went { Went B.world B.trace 1600 bus.old bus.new }
-        ensures clears { Clears self.old (B.world bus.old) result self.new (B.world bus.new) }
-        ensures what { (B.world bus.new).shared ≡ false
-            → EachWas (ClearLeaves self.old result self.new) (B.world bus.old) (B.world bus.new) }
-        ensures why { NoThreeDamaged (B.world bus.old) → IsNotOfBus result → (B.world bus.new).shared ≡ false → EachWas (WhyWrite self.old.target result) (B.world bus.old) (B.world bus.new) }
+        ensures transfer { BulkClear self.old
+            (B.world bus.old) result self.new (B.world bus.new) }
     {
         match self.condition {
             Condition::Ready => Ok(()),

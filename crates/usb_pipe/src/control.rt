@@ -1,19 +1,10 @@
 //! Control transfers (8.5.3).
-ghost use Rattle.std.specs.Prelude.{◌≡◌, ◌≤◌, Err, ◌≢◌, length, false, true, OnOk, IfOk, MatchResult};
+ghost use Rattle.std.specs.Prelude.{◌≡◌, ◌≤◌};
 ghost use Rattle.usb_bus.specs.Traced.{Went};
-ghost use Rattle.usb_world.specs.Passes.{IsSettled};
-ghost use Rattle.usb_world.specs.Courses.{is_harmless};
-ghost use Rattle.usb_world.specs.Devices.{EachWas};
 ghost use Rattle.usb_request.specs.Layout.{IsToHost, IsToDevice};
-ghost use Rattle.usb_transaction.specs.Trans.{IsTarget, Worked};
-ghost use Rattle.usb_transaction.specs.Why.{NoThreeDamaged};
-ghost use Rattle.usb_transaction.specs.Answerer.{Answerer};
-ghost use Rattle.usb_transaction.specs.Losses.{begins_no_stretch};
-ghost use Rattle.usb_transaction.specs.Spared.{EachSpared};
-ghost use Rattle.usb_pipe.specs.Control.{Faults, control_bound};
-ghost use Rattle.usb_pipe.specs.Stages.{Reads, Writes};
-ghost use Rattle.usb_pipe.specs.Whole.{IsNotOfBus, ReadLeaves, WriteLeaves, LossesOf};
-ghost use Rattle.usb_pipe.specs.WhyWhole.{WhyRead, WhyWrite};
+ghost use Rattle.usb_transaction.specs.Transactions.{IsTarget};
+ghost use Rattle.usb_pipe.specs.Control.{control_bound};
+ghost use Rattle.usb_pipe.specs.Transfers.{ControlRead, ControlWrite};
 
 use crate::PipeFault;
 use crate::stage::data_stage;
@@ -45,15 +36,8 @@ pub fn control_in<B: Bus>(
     requires reads { IsToHost setup }
     requires some { 1 ≤ setup.length }
     ensures went { Went B.world B.trace (control_bound target.max setup.length) bus.old bus.new }
-    ensures ends { MatchResult result (λ _. Worked 3 (B.world bus.old) (B.world bus.new)) (λ fault. Faults 1 (B.world bus.old) fault (B.world bus.new)) }
-    ensures stages { Reads target setup (B.world bus.old) result (B.world bus.new) }
-    ensures settled { IsSettled (B.world bus.old).roots }
-    ensures what { (B.world bus.new).shared ≡ false
-        → EachWas (ReadLeaves target setup result (B.world bus.old) (B.world bus.new))
-        (B.world bus.old) (B.world bus.new) }
-    ensures why { NoThreeDamaged (B.world bus.old) → 8 ≤ target.max → IsNotOfBus result → (B.world bus.new).shared ≡ false → EachWas (WhyRead target setup result) (B.world bus.old) (B.world bus.new) }
-    ensures who { OnOk result ((B.world bus.new).shared ≡ false → Answerer target (B.world bus.old) (B.world bus.new)) }
-    ensures most { IfOk result (λ bytes. length bytes.items ≤ setup.length) }
+    ensures transfer { ControlRead target setup
+        (B.world bus.old) result (B.world bus.new) }
 {
     let request = setup.to_bytes();
     send_setup(bus, target, request)?;
@@ -79,17 +63,8 @@ pub fn control_none<B: Bus>(bus: &mut B, target: Target, setup: Setup) -> Result
     requires writes { IsToDevice setup }
     requires none { setup.length ≡ 0 }
     ensures went { Went B.world B.trace 1600 bus.old bus.new }
-    ensures ends { MatchResult result (λ _. Worked 2 (B.world bus.old) (B.world bus.new)) (λ fault. Faults 1 (B.world bus.old) fault (B.world bus.new)) }
-    ensures stages { Writes target setup (B.world bus.old) result (B.world bus.new) }
-    ensures settled { IsSettled (B.world bus.old).roots }
-    ensures what { (B.world bus.new).shared ≡ false
-        → EachSpared target setup
-        (WriteLeaves target setup result (B.world bus.old) (B.world bus.new))
-        (B.world bus.old) (B.world bus.new) }
-    ensures why { NoThreeDamaged (B.world bus.old) → IsNotOfBus result → (B.world bus.new).shared ≡ false → EachSpared target setup (WhyWrite target result) (B.world bus.old) (B.world bus.new) }
-    ensures who { OnOk result ((is_harmless setup ≡ false → target.addr ≢ 0) → (B.world bus.new).shared ≡ false → Answerer target (B.world bus.old) (B.world bus.new)) }
-    ensures losses { begins_no_stretch setup ≡ true → IsNotOfBus result → (B.world bus.new).shared ≡ false → EachSpared target setup (LossesOf target setup result (B.world bus.old) (B.world bus.new)) (B.world bus.old) (B.world bus.new) }
-    ensures room { result ≢ Err PipeFault.Memory }
+    ensures transfer { ControlWrite target setup
+        (B.world bus.old) result (B.world bus.new) }
 {
     send_setup(bus, target, setup.to_bytes())?;
     let mut toggle = Toggle::One;

@@ -29,18 +29,13 @@ impl Model for InterruptPipe {
 }
 
 impl InterruptPipe {
-    ghost use Rattle.std.specs.Prelude.{◌≡◌, ◌<◌, ◌≤◌, false, OnOk};
+    ghost use Rattle.std.specs.Prelude.{◌≡◌, ◌<◌, ◌≤◌};
     ghost use Rattle.usb_packet.specs.declared.Toggle.TheVariants.{Zero};
     ghost use Rattle.usb_bus.specs.Traced.{Went};
-    ghost use Rattle.usb_world.specs.Passes.{IsSettled};
-    ghost use Rattle.usb_world.specs.Devices.{EachWas};
-    ghost use Rattle.usb_transaction.specs.Trans.{IsTarget};
-    ghost use Rattle.usb_pipe.specs.Interrupt.{Interrupt, Polls};
-    ghost use Rattle.usb_transaction.specs.Why.{NoThreeDamaged};
-    ghost use Rattle.usb_transaction.specs.Answerer.{Answerer};
-    ghost use Rattle.usb_pipe.specs.Whole.{IsNotOfBus, PollLeaves};
-    ghost use Rattle.usb_pipe.specs.WhyWhole.{WhyPolling};
+    ghost use Rattle.usb_transaction.specs.Transactions.{IsTarget};
     ghost use Rattle.usb_pipe.specs.End.{packet_target};
+    ghost use Rattle.usb_pipe.specs.Interrupt.{Interrupt};
+    ghost use Rattle.usb_pipe.specs.Transfers.{InterruptPoll};
 
     /// A pipe to an endpoint, 1 to 15, with its maximum packet, 1 to 64 bytes.
     pub fn new(target: Target, ep: u8, max: u8) -> Self
@@ -67,13 +62,8 @@ impl InterruptPipe {
     /// where the bus makes no more steps. It never answers `Broken` or `Memory`.
     pub fn poll<B: Bus>(&mut self, bus: &mut B) -> Result<Option<ArrayVec<u8, 64>>, PipeFault>
         ensures went { Went B.world B.trace 768 bus.old bus.new }
-        ensures polls { Polls self.old (B.world bus.old) result self.new (B.world bus.new) }
-        ensures settled { IsSettled (B.world bus.old).roots }
-        ensures what { self.old.ep ≡ 1 → (B.world bus.new).shared ≡ false
-            → EachWas (PollLeaves self.old (B.world bus.old) result self.new)
-            (B.world bus.old) (B.world bus.new) }
-        ensures why { self.old.ep ≡ 1 → NoThreeDamaged (B.world bus.old) → IsNotOfBus result → (B.world bus.new).shared ≡ false → EachWas (WhyPolling self.old result) (B.world bus.old) (B.world bus.new) }
-        ensures who { OnOk result ((B.world bus.new).shared ≡ false → Answerer self.old.target (B.world bus.old) (B.world bus.new)) }
+        ensures transfer { InterruptPoll self.old
+            (B.world bus.old) result self.new (B.world bus.new) }
     {
         let mut toggle = self.toggle;
         let polled = poll_in(bus, self.target, self.ep, &mut toggle);

@@ -2,8 +2,8 @@
 ghost use Rattle.std.specs.Prelude.{◌≡◌, ◌-◌, ◌+◌, ◌*◌, ◌<◌, ◌≤◌, ◌++◌, take, length, OnOk, IfOk, MatchResult};
 ghost use Rattle.usb_bus.specs.Traced.{Went};
 ghost use Rattle.usb_world.specs.Passes.{IsSettled};
-ghost use Rattle.usb_transaction.specs.Trans.{IsTarget, Worked};
-ghost use Rattle.usb_pipe.specs.Control.{Faults, byte_bound, is_last};
+ghost use Rattle.usb_transaction.specs.Transactions.{IsTarget, Worked};
+ghost use Rattle.usb_pipe.specs.Control.{Faults, byte_bound, ends_stage};
 ghost use Rattle.usb_pipe.specs.Stages.{DataEnds};
 
 use crate::PipeFault;
@@ -22,7 +22,8 @@ pub(crate) fn data_stage<B: Bus>(
     requires target { IsTarget target }
     requires some { 0 < wanted }
     ensures went { Went B.world B.trace (768 + byte_bound target.max * wanted) bus.old bus.new }
-    ensures ends { MatchResult result (λ _. Worked 1 (B.world bus.old) (B.world bus.new)) (λ fault. Faults 0 (B.world bus.old) fault (B.world bus.new)) }
+    ensures ends { MatchResult result (λ _. Worked 1 (B.world bus.old) (B.world bus.new))
+        (λ fault. Faults 0 (B.world bus.old) fault (B.world bus.new)) }
     ensures packets { DataEnds target wanted (B.world bus.old) result (B.world bus.new) }
     ensures settled { IsSettled (B.world bus.old).roots }
     ensures most { IfOk result (λ bytes. length bytes.items ≤ wanted) }
@@ -41,7 +42,8 @@ pub(crate) fn data_stage<B: Bus>(
 /// Adds what is still wanted of a packet.
 fn keep(bytes: &mut Vec<u8>, packet: &[u8], wanted: u16) -> Result<(), AllocError>
     requires { length bytes.old.items ≤ wanted }
-    ensures { OnOk result (bytes.new.items ≡ bytes.old.items ++ take (wanted - length bytes.old.items) packet.now) }
+    ensures { OnOk result (bytes.new.items
+        ≡ bytes.old.items ++ take (wanted - length bytes.old.items) packet.now) }
 {
     let room = wanted as usize - bytes.len();
     bytes.extend_from_slice(&packet[..packet.len().min(room)])
@@ -49,7 +51,7 @@ fn keep(bytes: &mut Vec<u8>, packet: &[u8], wanted: u16) -> Result<(), AllocErro
 
 /// Whether a packet of this size ends the data stage, where `got` bytes have come with it.
 fn last(size: usize, max: u8, got: usize, wanted: u16) -> bool
-    ensures { result ≡ is_last size max got wanted }
+    ensures { result ≡ ends_stage size max got wanted }
 {
     size < max as usize || wanted as usize <= got
 }

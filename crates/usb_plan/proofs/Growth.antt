@@ -12,21 +12,15 @@ use Rattle.usb_world.specs.declared.event.Event.{Event}
 use Rattle.usb_plan.specs.Kind.{placed}
 use Rattle.usb_device.specs.Spec.{Spec}
 use Rattle.usb_world.specs.declared.damage.Damage.{Damage}
-use Rattle.usb_world.specs.Plugged.{Plugged, plugged, plugged_after}
+use Rattle.usb_world.specs.PluggedDevices.{PluggedMap, plugged_by, plugged_after}
 use Rattle.usb_world.specs.PlanData.{event_fits, events_fit, damage_fits, damages_fit}
 use Rattle.usb_plan.specs.Device.{device_in, devices_from}
 use Rattle.usb_plan.specs.Event.{event_in, events_from}
 use Rattle.usb_plan.specs.Damage.{damage_in, last_from, damages_from}
 use Rattle.usb_plan.proofs.Steps.{view_drop}
 
--- one event more
-pub plugged-push : (tree : Plugged) (events : List Event) (e : Event) → plugged tree (events ++ e ∷ []) ≡ plugged_after e.action (plugged tree events)
-unfolding plugged
-plugged-push tree [] e = refl
-plugged-push tree (x ∷ events) e = plugged-push (plugged_after x.action tree) events e
-
-pub events_fit-push : (roots : ℕ) (devices : List Spec) (tree : Plugged) (events : List Event) (e : Event) → events_fit roots devices tree events ≡ true → event_fits roots devices (plugged tree events) e ≡ true → events_fit roots devices tree (events ++ e ∷ []) ≡ true
-unfolding plugged
+pub events_fit-push : (roots : ℕ) (devices : List Spec) (tree : PluggedMap) (events : List Event) (e : Event) → events_fit roots devices tree events ≡ true → event_fits roots devices (plugged_by tree events) e ≡ true → events_fit roots devices tree (events ++ e ∷ []) ≡ true
+unfolding plugged_by
 events_fit-push roots devices tree [] e h new = rw new
 events_fit-push roots devices tree (x ∷ events) e h new =
     let parts = and_parts (event_fits roots devices tree x) (events_fit roots devices (plugged_after x.action tree) events) h in
@@ -65,19 +59,19 @@ pub devices_from-end : (n : ℕ) (done : List Spec) (vs : List Value) (i : ℕ) 
 unfolding devices_from
 devices_from-end n done vs i le = rw (drop_all i vs le)
 
-pub events_from-step : (roots : ℕ) (specs : List Spec) (done : List Event) (vs : List Value) (i : ℕ) (v : Value) (r : Result Event Kind) (s : Event) (total : Result (List Event) PlanFault) → i < length vs → v ≡ get_or vs i v → r ≡ event_in roots specs (plugged [] done) (length done) (as_table (view v)) → placed (place.Event (i + 1)) r ≡ Ok s
+pub events_from-step : (roots : ℕ) (specs : List Spec) (done : List Event) (vs : List Value) (i : ℕ) (v : Value) (r : Result Event Kind) (s : Event) (total : Result (List Event) PlanFault) → i < length vs → v ≡ get_or vs i v → r ≡ event_in roots specs (plugged_by [] done) (length done) (as_table (view v)) → placed (place.Event (i + 1)) r ≡ Ok s
     → events_from roots specs (i + 1) done (map view (drop i vs)) ≡ total → events_from roots specs (i + 1 + 1) (done ++ s ∷ []) (map view (drop (i + 1) vs)) ≡ total
 unfolding events_from
 events_from-step roots specs done vs i v r s total lt is e ok so_far =
-    let good : placed (place.Event (i + 1)) (event_in roots specs (plugged [] done) (length done) (as_table (view v))) ≡ Ok s = rw (← e) ok in
+    let good : placed (place.Event (i + 1)) (event_in roots specs (plugged_by [] done) (length done) (as_table (view v))) ≡ Ok s = rw (← e) ok in
     let one : events_from roots specs (i + 1) done (map view (drop i vs)) ≡ events_from roots specs (i + 1 + 1) (done ++ s ∷ []) (map view (drop (i + 1) vs)) = rw (view_drop vs i v lt is, good) refl in
     sym one ∙ so_far
 
-pub events_from-fault : (roots : ℕ) (specs : List Spec) (done : List Event) (vs : List Value) (i : ℕ) (v : Value) (r : Result Event Kind) (f : PlanFault) (total : Result (List Event) PlanFault) → i < length vs → v ≡ get_or vs i v → r ≡ event_in roots specs (plugged [] done) (length done) (as_table (view v)) → placed (place.Event (i + 1)) r ≡ Err f
+pub events_from-fault : (roots : ℕ) (specs : List Spec) (done : List Event) (vs : List Value) (i : ℕ) (v : Value) (r : Result Event Kind) (f : PlanFault) (total : Result (List Event) PlanFault) → i < length vs → v ≡ get_or vs i v → r ≡ event_in roots specs (plugged_by [] done) (length done) (as_table (view v)) → placed (place.Event (i + 1)) r ≡ Err f
     → events_from roots specs (i + 1) done (map view (drop i vs)) ≡ total → Err f ≡ total
 unfolding events_from
 events_from-fault roots specs done vs i v r f total lt is e err so_far =
-    let bad : placed (place.Event (i + 1)) (event_in roots specs (plugged [] done) (length done) (as_table (view v))) ≡ Err f = rw (← e) err in
+    let bad : placed (place.Event (i + 1)) (event_in roots specs (plugged_by [] done) (length done) (as_table (view v))) ≡ Err f = rw (← e) err in
     let one : events_from roots specs (i + 1) done (map view (drop i vs)) ≡ Err f = rw (view_drop vs i v lt is, bad) refl in
     sym one ∙ so_far
 

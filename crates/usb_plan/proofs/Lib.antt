@@ -1,6 +1,7 @@
 mod Entries
 mod Steps
 mod Parts
+mod Unless
 mod Growth
 mod Totals
 mod Places

@@ -1,12 +1,18 @@
 -- What follows where the parts of an entry are good.
-use Rattle.std.proofs.Common.{◌≡◌, ◌+◌, ℕ, ℤ, pos, negsuc, ◌<◌, ◌≤◌, List, [], length, Bool, true, false, ◌&&◌, ◌||◌, cond, Option, Some, None, Result, Ok, Err, refl, ap, sym, ◌∙◌, not, IfOk, IfSome, arith, codes, nat_le, nat_lt, ◌==◌, position, inl, inr, ◌⊎◌}
+use Rattle.std.proofs.Common.{◌≡◌, ◌+◌, ℕ, ℤ, pos, negsuc, ◌<◌, ◌≤◌, List, [], ◌∷◌, length, Bool, true, false, ◌&&◌, ◌||◌, cond, Option, Some, None, Result, Ok, Err, refl, ap, sym, ◌∙◌, not, IfOk, IfSome, arith, codes, nat_le, nat_lt, ◌==◌, position, inl, inr, ◌⊎◌}
 use Rattle.std.proofs.lemmas.Bool.{and_parts, or_parts, leb-true, ltb-true, lt-ltb, le-leb}
 use Rattle.std.proofs.lemmas.List.Quantifiers.{position-Some}
+use Rattle.std.specs.List.{AllByRecursion}
 use Rattle.std.specs.Str.{bytes_eq}
 use Rattle.toml.specs.Data.{Data, Members, get_member, as_str, as_integer}
 use Rattle.usb_port.specs.Path.{path_of}
 use Rattle.usb_plan.specs.declared.kind.Kind.{Kind}
 use Rattle.usb_plan.specs.declared.kind.Kind.TheVariants.{BadValue, BadPath, PortTaken, PortEmpty}
+use Rattle.usb_plan.specs.declared.plan.Top.{Top}
+use Rattle.usb_plan.specs.declared.device.Identity.{Identity}
+use Rattle.usb_plan.specs.declared.device.Content.{Content}
+use Rattle.usb_plan.specs.declared.quirks.Quirks.{Quirks}
+use Rattle.usb_plan.specs.declared.bulk.Bulk.{Bulk}
 use Rattle.usb_plan.specs.declared.fault.Place.{Place}
 use Rattle.usb_world.specs.declared.event.Event.{Event}
 use Rattle.usb_world.specs.declared.event.Action.{Action}
@@ -14,37 +20,51 @@ use Rattle.usb_world.specs.declared.event.Action.TheVariants.{Plug, Unplug, Show
 use Rattle.usb_world.specs.declared.damage.Damage.{Damage}
 use Rattle.usb_world.specs.declared.damage.Harm.{Harm}
 use Rattle.usb_world.specs.declared.damage.Harm.TheVariants.{Lose, LosePre, Flip}
-use Rattle.usb_world.specs.Plugged.{Plugged, is_rooted, has_port}
+use Rattle.usb_world.specs.PluggedDevices.{PluggedMap, is_rooted, has_port}
 use Rattle.usb_plan.specs.declared.verb.Verb.{Verb}
 use Rattle.usb_plan.specs.declared.verb.Verb.TheVariants as verb
 use Rattle.usb_plan.specs.declared.damage.Way.{Way}
 use Rattle.usb_plan.specs.declared.damage.Way.TheVariants as way
-use Rattle.usb_plan.specs.Kind.{both, placed}
-use Rattle.usb_plan.specs.Keys.{keys_at}
+use Rattle.usb_plan.specs.Kind.{fault_of, sooner, told, placed, ◌>>=◌}
 use Rattle.usb_plan.specs.Value.{number_in, number_at, number_or}
 use Rattle.usb_device.specs.Spec.{Spec, Hub, hub_fits, has_hub_class, function, is_named}
 use Rattle.usb_plan.specs.Hub.{class_at, hub_at, no_hub, is_low, is_other}
-use Rattle.usb_plan.specs.Quirks.{Quirks, quirks_of, flag_at, naks_at}
-use Rattle.usb_plan.specs.Bulk.{Bulk, bulk_of, source_at, halt_at, halt_in, some_in}
+use Rattle.usb_device.specs.declared.spec.Stalls.{Stalls}
+use Rattle.usb_plan.specs.Quirks.{quirks_with, quirks_of, naks_at}
+use Rattle.usb_plan.specs.Bulk.{bulk_with, bulk_of, halt_at, halt_in}
 use Rattle.usb_world.specs.PlanData.{is_taken, action_fits, event_fits, harm_fits, damage_fits}
 use Rattle.usb_plan.specs.Device as device
-use Rattle.usb_plan.specs.Device.{name_in, name_at, speed_at, descriptor_at, configs_at, strings_at, device_keys, with_quirks, with_halt, with_hub, named_device, PartsFit, device_from, made, parts_of, device_of, device_in}
+use Rattle.usb_plan.specs.Device.{name_in, name_at, speed_at, descriptor_at, with_quirks, with_halt, with_hub, named_device, HubFits, FewNaks, HaltsLater, identity_with, identity_of, made, device_with, device_of, device_in}
 use Rattle.usb_plan.specs.Path.{rooted, path_in, path_at, free, taken}
 use Rattle.usb_plan.specs.Verb.{verb_at}
 use Rattle.usb_plan.specs.Action as action
 use Rattle.usb_plan.specs.Action.{known, device_named, device_at, bytes_at, packets_at, plug_of, unplug_of, send_of, receive_of, clear_of, action_of, keys_of}
-use Rattle.usb_plan.specs.Event as event
-use Rattle.usb_plan.specs.Event.{after_at, room, whole, event_of, event_by, event_in}
+use Rattle.usb_plan.specs.Event.{after_at, room, event_with, event_of, event_in}
 use Rattle.usb_plan.specs.Damage as damage
-use Rattle.usb_plan.specs.Damage.{attempt_at, packet_at, way_at, no_bit, flip, flipped, harm_of, harm_by, damage_keys, damage_of, damage_in, last_from}
-use Rattle.usb_plan.specs.Plan.{limit_at, roots_at, top_of, TopFits, TopParts}
+use Rattle.usb_plan.specs.Damage.{attempt_at, packet_at, way_at, no_bit, flipped, harm_of, harm_by, damage_with, damage_of, damage_in}
+use Rattle.usb_plan.specs.Plan.{limit_at, roots_at, top_with, top_of, TopFits}
 
-pub both_ok : {A B : Type 0} (a : Result A Kind) (b : Result B Kind) (x : A × B) → both a b ≡ Ok x → (a ≡ Ok x.0) × (b ≡ Ok x.1)
-unfolding both
-both_ok (Ok a) (Ok b) x h = let e : (a, b) ≡ x = cc in (ap (λ y. Ok y.0) e, ap (λ y. Ok y.1) e)
-both_ok (Ok a) (Err k) x h = cc
-both_ok (Err k) (Ok b) x h = cc
-both_ok (Err k) (Err l) x h = cc
+-- what was good before the rest was asked for
+pub bind_ok : {A B E : Type 0} (r : Result A E) (f : A → Result B E) (y : B) → r >>= f ≡ Ok y → (x : A) × (r ≡ Ok x) × (f x ≡ Ok y)
+bind_ok (Ok x) f y h = (x, refl, h)
+bind_ok (Err e) f y h = cc
+
+no_fault : {A : Type 0} (r : Result A Kind) → fault_of r ≡ None → (x : A) × (r ≡ Ok x)
+unfolding fault_of
+no_fault (Ok x) h = (x, refl)
+no_fault (Err k) h = cc
+
+sooner_ok : (f : Option Kind) (others : Result (Unit {0}) Kind) (u : Unit {0}) → sooner f others ≡ Ok u → (f ≡ None) × (others ≡ Ok u)
+unfolding sooner
+sooner_ok None others u h = (refl, h)
+sooner_ok (Some k) (Ok v) u h = cc
+sooner_ok (Some k) (Err l) u h = cc
+
+-- where nothing is told, no part has a fault
+pub told_ok : (fs : List (Option Kind)) (u : Unit {0}) → told fs ≡ Ok u → AllByRecursion (λ f. f ≡ None) fs
+unfolding told
+told_ok [] u h = tt
+told_ok (f ∷ fs) u h = let parts = sooner_ok f (told fs) u h in (parts.0, told_ok fs u parts.1)
 
 pub placed_ok : {A : Type 0} (p : Place) (r : Result A Kind) (x : A) → placed p r ≡ Ok x → r ≡ Ok x
 unfolding placed
@@ -111,15 +131,9 @@ unfolding with_halt
 halt_name None s = refl
 halt_name (Some packets) s = refl
 
-from_name : (x : device.Parts) → (device_from x).name ≡ x.0
-unfolding device_from with_quirks
-from_name x =
-    halt_name x.1.1.1.1.1.1.1.1.0.1 _ ∙ hub_name x.1.1.1.1.1.1.0 (named_device x.0 x.1.0 x.1.1.0 x.1.1.1.0)
-
-made_ok : (r : Result device.Parts Kind) (s : Spec) → made r ≡ Ok s → (x : device.Parts) × (r ≡ Ok x) × (x.0 ≡ s.name)
-unfolding made
-made_ok (Ok x) s h = (x, refl, let e : device_from x ≡ s = cc in sym (from_name x) ∙ ap (λ t. t.name) e)
-made_ok (Err k) s h = cc
+made_name : (i : Identity) (c : Content) (q : Quirks) (b : Bulk) → (made i c q b).name ≡ i.name
+unfolding made with_quirks
+made_name i c q b = halt_name b.halt_after _ ∙ hub_name i.hub (named_device i c)
 
 -- the device may stand after the earlier ones
 pub record Joins (earlier : List Spec) (s : Spec) : Type 0 where
@@ -130,33 +144,47 @@ naks_at_ok : (o : Option Data) (n : ℕ) → naks_at o ≡ Ok n → n ≤ 200
 unfolding naks_at
 naks_at_ok o n h = number_or_ok 0 0 200 o n (omega arith) h
 
-quirks_of_ok : (ms : Members) (q : Quirks) → quirks_of ms ≡ Ok q → q.1.1.1.0 ≤ 200
-unfolding quirks_of
-quirks_of_ok ms q h =
-    let first = both_ok (flag_at (get_member (codes "self_powered") ms)) _ q h in
-    let second = both_ok (flag_at (get_member (codes "busy") ms)) _ q.1 first.1 in
-    let third = both_ok (flag_at (get_member (codes "silent") ms)) _ q.1.1 second.1 in
-    let fourth = both_ok (naks_at (get_member (codes "naks") ms)) _ q.1.1.1 third.1 in
-    naks_at_ok (get_member (codes "naks") ms) q.1.1.1.0 fourth.0
+quirks_with_ok : (a b c : Result Bool Kind) (n : Result ℕ Kind) (s : Result Stalls Kind) (q : Quirks) → quirks_with a b c n s ≡ Ok q → n ≡ Ok q.naks
+unfolding quirks_with
+quirks_with_ok a b c n s q h =
+    let e0 = bind_ok (told _) _ q h in
+    let e1 = bind_ok a _ q e0.2 in
+    let e2 = bind_ok b _ q e1.2 in
+    let e3 = bind_ok c _ q e2.2 in
+    let e4 = bind_ok n _ q e3.2 in
+    let e5 = bind_ok s _ q e4.2 in
+    let same : e4.0 ≡ q.naks = cc e5.2 in
+    e4.1 ∙ ap Ok same
 
-some_in_ok : (r : Result ℕ Kind) (h : Option ℕ) → some_in r ≡ Ok h → IfOk r (λ n. 1 ≤ n) → IfSome h (λ n. 1 ≤ n)
-some_in_ok (Ok n) h e one = let same : Some n ≡ h = cc in rw (← same) one
-some_in_ok (Err k) h e one = cc
+pub quirks_of_ok : (ms : Members) (q : Quirks) → quirks_of ms ≡ Ok q → FewNaks q
+unfolding quirks_of
+quirks_of_ok ms q h = naks_at_ok (get_member (codes "naks") ms) q.naks (quirks_with_ok _ _ _ _ _ q h)
 
 number_in_least : (low high : ℕ) (r : Result ℕ Kind) (o : Option ℤ) → r ≡ number_in low high o → IfOk r (λ n. low ≤ n)
 number_in_least low high (Ok n) o h = (number_in_ok low high o n (sym h)).0
 number_in_least low high (Err k) o h = tt
 
+halt_in_ok : (r : Result ℕ Kind) (h : Option ℕ) → r >>= (λ n. Ok (Some n)) ≡ Ok h → IfOk r (λ n. 1 ≤ n) → IfSome h (λ n. 1 ≤ n)
+halt_in_ok (Ok n) h e one = let same : Some n ≡ h = cc in rw (← same) one
+halt_in_ok (Err k) h e one = cc
+
 halt_at_ok : (o : Option Data) (h : Option ℕ) → halt_at o ≡ Ok h → IfSome h (λ n. 1 ≤ n)
 unfolding halt_at halt_in
 halt_at_ok None h e = let same : None ≡ h = cc in rw (← same) tt
-halt_at_ok (Some d) h e = some_in_ok (number_in 1 65535 (as_integer d)) h e (number_in_least 1 65535 _ (as_integer d) refl)
+halt_at_ok (Some d) h e = halt_in_ok (number_in 1 65535 (as_integer d)) h e (number_in_least 1 65535 _ (as_integer d) refl)
 
-bulk_of_ok : (ms : Members) (b : Bulk) → bulk_of ms ≡ Ok b → IfSome b.1 (λ n. 1 ≤ n)
+bulk_with_ok : (s : Result (List ℕ) Kind) (p : Result (Option ℕ) Kind) (b : Bulk) → bulk_with s p ≡ Ok b → p ≡ Ok b.halt_after
+unfolding bulk_with
+bulk_with_ok s p b h =
+    let e0 = bind_ok (told _) _ b h in
+    let e1 = bind_ok s _ b e0.2 in
+    let e2 = bind_ok p _ b e1.2 in
+    let same : e2.0 ≡ b.halt_after = cc e2.2 in
+    e2.1 ∙ ap Ok same
+
+pub bulk_of_ok : (ms : Members) (b : Bulk) → bulk_of ms ≡ Ok b → HaltsLater b
 unfolding bulk_of
-bulk_of_ok ms b h =
-    let parts = both_ok (source_at (get_member (codes "source") ms)) _ b h in
-    halt_at_ok (get_member (codes "halt_after") ms) b.1 parts.1
+bulk_of_ok ms b h = halt_at_ok (get_member (codes "halt_after") ms) b.halt_after (bulk_with_ok _ _ b h)
 
 class_at_ok : (ports descriptor : Option Data) (low : Bool) (bytes : List ℕ) (u : Unit {0}) (hub : Option Hub) → class_at ports (Ok low) (Ok bytes) ≡ Ok u → hub_at ports descriptor ≡ Ok hub → hub_fits low bytes hub ≡ true
 unfolding class_at hub_at no_hub is_low is_other
@@ -172,43 +200,63 @@ class_at_ok (Some p) descriptor low bytes u (Some hub) c h =
     fits false false e = cc
     fits true b e = cc
 
--- what the parts of a device keep
-pub record AreParts (earlier : List Spec) (x : device.Parts) : Type 0 where
-  pub room : length earlier < 127
-  pub new : is_named earlier x.0 ≡ false
-  pub fit : PartsFit x
+record IdentityIs (name : Result (List ℕ) Kind) (low : Result Bool Kind) (descriptor : Result (List ℕ) Kind) (class : Result (Unit {0}) Kind) (hub : Result (Option Hub) Kind) (i : Identity) : Type 0 where
+  name_is : name ≡ Ok i.name
+  low_is : low ≡ Ok i.low
+  descriptor_is : descriptor ≡ Ok i.descriptor
+  class_is : fault_of class ≡ None
+  hub_is : hub ≡ Ok i.hub
 
-pub parts_of_ok : (earlier : List Spec) (ms : Members) (x : device.Parts) → parts_of earlier ms ≡ Ok x → AreParts earlier x
-unfolding parts_of
-parts_of_ok earlier ms x h =
-    let ports = get_member (codes "ports") ms in
-    let first = both_ok (name_at earlier (get_member (codes "name") ms)) _ x h in
-    let second = both_ok (speed_at (get_member (codes "speed") ms)) _ x.1 first.1 in
-    let third = both_ok (descriptor_at (get_member (codes "descriptor") ms)) _ x.1.1 second.1 in
-    let fourth = both_ok (configs_at (get_member (codes "configs") ms)) _ x.1.1.1 third.1 in
-    let fifth = both_ok (strings_at (get_member (codes "strings") ms)) _ x.1.1.1.1 fourth.1 in
-    let sixth = both_ok (class_at ports (speed_at (get_member (codes "speed") ms)) (descriptor_at (get_member (codes "descriptor") ms))) _ x.1.1.1.1.1 fifth.1 in
-    let seventh = both_ok (hub_at ports (get_member (codes "hub_descriptor") ms)) _ x.1.1.1.1.1.1 sixth.1 in
-    let eighth = both_ok (quirks_of ms) _ x.1.1.1.1.1.1.1 seventh.1 in
-    let ninth = both_ok (bulk_of ms) _ x.1.1.1.1.1.1.1.1 eighth.1 in
-    let last = both_ok (keys_at device_keys ms) (device.room earlier) x.1.1.1.1.1.1.1.1.1 ninth.1 in
-    let class : class_at ports (Ok x.1.0) (Ok x.1.1.0) ≡ Ok x.1.1.1.1.1.0 = rw (← second.0, ← third.0) sixth.0 in
+identity_with_ok : (name : Result (List ℕ) Kind) (low : Result Bool Kind) (descriptor : Result (List ℕ) Kind) (class : Result (Unit {0}) Kind) (hub : Result (Option Hub) Kind) (i : Identity) → identity_with name low descriptor class hub ≡ Ok i → IdentityIs name low descriptor class hub i
+unfolding identity_with
+identity_with_ok name low descriptor class hub i h =
+    let e0 = bind_ok (told _) _ i h in
+    let e1 = bind_ok name _ i e0.2 in
+    let e2 = bind_ok low _ i e1.2 in
+    let e3 = bind_ok descriptor _ i e2.2 in
+    let e4 = bind_ok hub _ i e3.2 in
+    let none = told_ok _ e0.0 e0.1 in
     record {
-      room = device_room_ok earlier x.1.1.1.1.1.1.1.1.1.1 last.1;
-      new = name_at_ok earlier (get_member (codes "name") ms) x.0 first.0;
-      fit = record {
-        hub = class_at_ok ports (get_member (codes "hub_descriptor") ms) x.1.0 x.1.1.0 x.1.1.1.1.1.0 x.1.1.1.1.1.1.0 class seventh.0;
-        naks = quirks_of_ok ms x.1.1.1.1.1.1.1.0 eighth.0;
-        halt = bulk_of_ok ms x.1.1.1.1.1.1.1.1.0 ninth.0;
-      };
+      name_is = e1.1 ∙ (let same : e1.0 ≡ i.name = cc e4.2 in ap Ok same);
+      low_is = e2.1 ∙ (let same : e2.0 ≡ i.low = cc e4.2 in ap Ok same);
+      descriptor_is = e3.1 ∙ (let same : e3.0 ≡ i.descriptor = cc e4.2 in ap Ok same);
+      class_is = none.1.1.1.0;
+      hub_is = e4.1 ∙ (let same : e4.0 ≡ i.hub = cc e4.2 in ap Ok same);
+    }
+
+identity_is : (earlier : List Spec) (ms : Members) (i : Identity) → identity_of earlier ms ≡ Ok i → IdentityIs (name_at earlier (get_member (codes "name") ms)) (speed_at (get_member (codes "speed") ms)) (descriptor_at (get_member (codes "descriptor") ms)) (class_at (get_member (codes "ports") ms) (speed_at (get_member (codes "speed") ms)) (descriptor_at (get_member (codes "descriptor") ms))) (hub_at (get_member (codes "ports") ms) (get_member (codes "hub_descriptor") ms)) i
+unfolding identity_of
+identity_is earlier ms i h = identity_with_ok _ _ _ _ _ i h
+
+pub identity_of_ok : (earlier : List Spec) (ms : Members) (i : Identity) → identity_of earlier ms ≡ Ok i → HubFits i
+identity_of_ok earlier ms i h =
+    let is = identity_is earlier ms i h in
+    let ports = get_member (codes "ports") ms in
+    let class = no_fault _ is.class_is in
+    let good : class_at ports (Ok i.low) (Ok i.descriptor) ≡ Ok class.0 = rw (← is.low_is, ← is.descriptor_is) class.1 in
+    class_at_ok ports (get_member (codes "hub_descriptor") ms) i.low i.descriptor class.0 i.hub good is.hub_is
+
+device_with_ok : (earlier : List Spec) (ms : Members) (i : Result Identity Kind) (c : Result Content Kind) (q : Result Quirks Kind) (b : Result Bulk Kind) (keys left : Result (Unit {0}) Kind) (s : Spec) → i ≡ identity_of earlier ms → left ≡ device.room earlier → device_with i c q b keys left ≡ Ok s → Joins earlier s
+unfolding device_with
+device_with_ok earlier ms i c q b keys left s i_is room_is h =
+    let e0 = bind_ok (told _) _ s h in
+    let e1 = bind_ok i _ s e0.2 in
+    let e2 = bind_ok c _ s e1.2 in
+    let e3 = bind_ok q _ s e2.2 in
+    let e4 = bind_ok b _ s e3.2 in
+    let none = told_ok _ e0.0 e0.1 in
+    let free = no_fault left none.1.1.1.1.1.0 in
+    let is = identity_is earlier ms e1.0 (sym i_is ∙ e1.1) in
+    let same : made e1.0 e2.0 e3.0 e4.0 ≡ s = cc e4.2 in
+    let name : e1.0.name ≡ s.name = sym (made_name e1.0 e2.0 e3.0 e4.0) ∙ ap (λ t. t.name) same in
+    record {
+      room = device_room_ok earlier free.0 (sym room_is ∙ free.1);
+      new = rw (← name) (name_at_ok earlier (get_member (codes "name") ms) e1.0.name is.name_is);
     }
 
 device_of_ok : (earlier : List Spec) (ms : Members) (s : Spec) → device_of earlier ms ≡ Ok s → Joins earlier s
 unfolding device_of
-device_of_ok earlier ms s h =
-    let parts = made_ok _ s h in
-    let are = parts_of_ok earlier ms parts.0 parts.1 in
-    record { room = are.room; new = rw (← parts.2) are.new }
+device_of_ok earlier ms s h = device_with_ok earlier ms _ _ _ _ _ _ s refl refl h
 
 pub device_in_ok : (earlier : List Spec) (o : Option Members) (s : Spec) → device_in earlier o ≡ Ok s → Joins earlier s
 unfolding device_in
@@ -233,11 +281,11 @@ unfolding path_at
 path_at_ok roots None p h = cc
 path_at_ok roots (Some d) p h = path_in_ok roots (as_str d) p h
 
-record FreePath (roots : ℕ) (devices : List Spec) (tree : Plugged) (p : List ℕ) : Type 0 where
+record FreePath (roots : ℕ) (devices : List Spec) (tree : PluggedMap) (p : List ℕ) : Type 0 where
   port : has_port roots devices tree p ≡ true
   free : is_taken tree p ≡ false
 
-free_ok : (roots : ℕ) (devices : List Spec) (tree : Plugged) (r : Result (List ℕ) Kind) (p : List ℕ) → free roots devices tree r ≡ Ok p → FreePath roots devices tree p
+free_ok : (roots : ℕ) (devices : List Spec) (tree : PluggedMap) (r : Result (List ℕ) Kind) (p : List ℕ) → free roots devices tree r ≡ Ok p → FreePath roots devices tree p
 unfolding free
 free_ok roots devices tree (Err k) p h = cc
 free_ok roots devices tree (Ok path) p h =
@@ -246,7 +294,7 @@ free_ok roots devices tree (Ok path) p h =
     let same : path ≡ p = cc empty.1 in
     rw (← same) (record { port = test.0; free = empty.0 })
 
-taken_ok : (tree : Plugged) (r : Result (List ℕ) Kind) (p : List ℕ) → taken tree r ≡ Ok p → (r ≡ Ok p) × (is_taken tree p ≡ true)
+taken_ok : (tree : PluggedMap) (r : Result (List ℕ) Kind) (p : List ℕ) → taken tree r ≡ Ok p → (r ≡ Ok p) × (is_taken tree p ≡ true)
 unfolding taken
 taken_ok tree (Err k) p h = cc
 taken_ok tree (Ok path) p h =
@@ -284,76 +332,73 @@ unfolding packets_at
 packets_at_ok o n h = (number_at_ok 0 1000 o n h).1
 
 -- the action may come where so much is plugged
-abbrev pub Fits : ℕ → List Spec → Plugged → Action → Type 0
+abbrev pub Fits : ℕ → List Spec → PluggedMap → Action → Type 0
 Fits roots devices tree a = action_fits roots devices tree a ≡ true
 
-plug_made : (r : Result (List ℕ × ℕ) Kind) (a : Action) → action.plug r ≡ Ok a → (x : List ℕ × ℕ) × (r ≡ Ok x) × (Plug x.0 x.1 ≡ a)
+plug_ok : (path : Result (List ℕ) Kind) (device : Result ℕ Kind) (a : Action) → action.plug path device ≡ Ok a → (p : List ℕ) × (d : ℕ) × (path ≡ Ok p) × (device ≡ Ok d) × (Plug p d ≡ a)
 unfolding action.plug
-plug_made (Ok x) a h = (x, refl, cc)
-plug_made (Err k) a h = cc
+plug_ok path device a h =
+    let e0 = bind_ok (told _) _ a h in
+    let e1 = bind_ok path _ a e0.2 in
+    let e2 = bind_ok device _ a e1.2 in
+    (e1.0, e2.0, e1.1, e2.1, cc e2.2)
 
-unplug_made : (r : Result (List ℕ) Kind) (a : Action) → action.unplug r ≡ Ok a → (p : List ℕ) × (r ≡ Ok p) × (Unplug p ≡ a)
-unfolding action.unplug
-unplug_made (Ok p) a h = (p, refl, cc)
-unplug_made (Err k) a h = cc
-
-send_made : (r : Result (List ℕ × List ℕ) Kind) (a : Action) → action.send r ≡ Ok a → (x : List ℕ × List ℕ) × (r ≡ Ok x) × (Send x.0 x.1 ≡ a)
-unfolding action.send
-send_made (Ok x) a h = (x, refl, cc)
-send_made (Err k) a h = cc
-
-receive_made : (r : Result (List ℕ × ℕ) Kind) (a : Action) → action.receive r ≡ Ok a → (x : List ℕ × ℕ) × (r ≡ Ok x) × (Receive x.0 x.1 ≡ a)
-unfolding action.receive
-receive_made (Ok x) a h = (x, refl, cc)
-receive_made (Err k) a h = cc
-
-clear_made : (r : Result (List ℕ) Kind) (a : Action) → action.clear r ≡ Ok a → (p : List ℕ) × (r ≡ Ok p) × (Clear p ≡ a)
-unfolding action.clear
-clear_made (Ok p) a h = (p, refl, cc)
-clear_made (Err k) a h = cc
-
-plug_of_ok : (roots : ℕ) (specs : List Spec) (tree : Plugged) (ms : Members) (a : Action) → plug_of roots specs tree ms ≡ Ok a → Fits roots specs tree a
+plug_of_ok : (roots : ℕ) (specs : List Spec) (tree : PluggedMap) (ms : Members) (a : Action) → plug_of roots specs tree ms ≡ Ok a → Fits roots specs tree a
 unfolding plug_of
 plug_of_ok roots specs tree ms a h =
-    let made = plug_made _ a h in
-    let x = made.0 in
-    let parts = both_ok (free roots specs tree (path_at roots (get_member (codes "path") ms))) (device_at specs (get_member (codes "device") ms)) x made.1 in
-    let path = free_ok roots specs tree (path_at roots (get_member (codes "path") ms)) x.0 parts.0 in
-    let device = lt-ltb x.1 (length specs) (device_at_ok specs (get_member (codes "device") ms) x.1 parts.1) in
-    rw (← made.2) (rw (path.port, path.free, device))
+    let made = plug_ok (free roots specs tree (path_at roots (get_member (codes "path") ms))) (device_at specs (get_member (codes "device") ms)) a h in
+    let p = made.0 in
+    let d = made.1 in
+    let path = free_ok roots specs tree (path_at roots (get_member (codes "path") ms)) p made.2 in
+    let device = lt-ltb d (length specs) (device_at_ok specs (get_member (codes "device") ms) d made.3) in
+    rw (← made.4) (rw (path.port, path.free, device))
 
-unplug_of_ok : (roots : ℕ) (specs : List Spec) (tree : Plugged) (ms : Members) (a : Action) → unplug_of roots tree ms ≡ Ok a → Fits roots specs tree a
+unplug_of_ok : (roots : ℕ) (specs : List Spec) (tree : PluggedMap) (ms : Members) (a : Action) → unplug_of roots tree ms ≡ Ok a → Fits roots specs tree a
 unfolding unplug_of
 unplug_of_ok roots specs tree ms a h =
-    let made = unplug_made _ a h in
+    let made = bind_ok (taken tree (path_at roots (get_member (codes "path") ms))) _ a h in
     let p = made.0 in
+    let same : Unplug p ≡ a = cc made.2 in
     let held = taken_ok tree (path_at roots (get_member (codes "path") ms)) p made.1 in
-    rw (← made.2) (rw (path_at_ok roots (get_member (codes "path") ms) p held.0, held.1))
+    rw (← same) (rw (path_at_ok roots (get_member (codes "path") ms) p held.0, held.1))
 
-send_of_ok : (roots : ℕ) (specs : List Spec) (tree : Plugged) (ms : Members) (a : Action) → send_of roots ms ≡ Ok a → Fits roots specs tree a
+send_ok : (path bytes : Result (List ℕ) Kind) (a : Action) → action.send path bytes ≡ Ok a → (p b : List ℕ) × (path ≡ Ok p) × (Send p b ≡ a)
+unfolding action.send
+send_ok path bytes a h =
+    let e0 = bind_ok (told _) _ a h in
+    let e1 = bind_ok path _ a e0.2 in
+    let e2 = bind_ok bytes _ a e1.2 in
+    (e1.0, e2.0, e1.1, cc e2.2)
+
+send_of_ok : (roots : ℕ) (specs : List Spec) (tree : PluggedMap) (ms : Members) (a : Action) → send_of roots ms ≡ Ok a → Fits roots specs tree a
 unfolding send_of
 send_of_ok roots specs tree ms a h =
-    let made = send_made _ a h in
-    let x = made.0 in
-    let parts = both_ok (path_at roots (get_member (codes "path") ms)) (bytes_at (get_member (codes "bytes") ms)) x made.1 in
-    rw (← made.2) (path_at_ok roots (get_member (codes "path") ms) x.0 parts.0)
+    let made = send_ok (path_at roots (get_member (codes "path") ms)) (bytes_at (get_member (codes "bytes") ms)) a h in
+    rw (← made.3) (path_at_ok roots (get_member (codes "path") ms) made.0 made.2)
 
-receive_of_ok : (roots : ℕ) (specs : List Spec) (tree : Plugged) (ms : Members) (a : Action) → receive_of roots ms ≡ Ok a → Fits roots specs tree a
+receive_ok : (path : Result (List ℕ) Kind) (packets : Result ℕ Kind) (a : Action) → action.receive path packets ≡ Ok a → (p : List ℕ) × (n : ℕ) × (path ≡ Ok p) × (packets ≡ Ok n) × (Receive p n ≡ a)
+unfolding action.receive
+receive_ok path packets a h =
+    let e0 = bind_ok (told _) _ a h in
+    let e1 = bind_ok path _ a e0.2 in
+    let e2 = bind_ok packets _ a e1.2 in
+    (e1.0, e2.0, e1.1, e2.1, cc e2.2)
+
+receive_of_ok : (roots : ℕ) (specs : List Spec) (tree : PluggedMap) (ms : Members) (a : Action) → receive_of roots ms ≡ Ok a → Fits roots specs tree a
 unfolding receive_of
 receive_of_ok roots specs tree ms a h =
-    let made = receive_made _ a h in
-    let x = made.0 in
-    let parts = both_ok (path_at roots (get_member (codes "path") ms)) (packets_at (get_member (codes "packets") ms)) x made.1 in
-    let few = le-leb x.1 1000 (packets_at_ok (get_member (codes "packets") ms) x.1 parts.1) in
-    rw (← made.2) (rw (path_at_ok roots (get_member (codes "path") ms) x.0 parts.0, few))
+    let made = receive_ok (path_at roots (get_member (codes "path") ms)) (packets_at (get_member (codes "packets") ms)) a h in
+    let few = le-leb made.1 1000 (packets_at_ok (get_member (codes "packets") ms) made.1 made.3) in
+    rw (← made.4) (rw (path_at_ok roots (get_member (codes "path") ms) made.0 made.2, few))
 
-clear_of_ok : (roots : ℕ) (specs : List Spec) (tree : Plugged) (ms : Members) (a : Action) → clear_of roots ms ≡ Ok a → Fits roots specs tree a
+clear_of_ok : (roots : ℕ) (specs : List Spec) (tree : PluggedMap) (ms : Members) (a : Action) → clear_of roots ms ≡ Ok a → Fits roots specs tree a
 unfolding clear_of
 clear_of_ok roots specs tree ms a h =
-    let made = clear_made _ a h in
-    rw (← made.2) (path_at_ok roots (get_member (codes "path") ms) made.0 made.1)
+    let made = bind_ok (path_at roots (get_member (codes "path") ms)) _ a h in
+    let same : Clear made.0 ≡ a = cc made.2 in
+    rw (← same) (path_at_ok roots (get_member (codes "path") ms) made.0 made.1)
 
-action_of_ok : (v : Verb) (roots : ℕ) (specs : List Spec) (tree : Plugged) (ms : Members) (a : Action) → action_of v roots specs tree ms ≡ Ok a → Fits roots specs tree a
+action_of_ok : (v : Verb) (roots : ℕ) (specs : List Spec) (tree : PluggedMap) (ms : Members) (a : Action) → action_of v roots specs tree ms ≡ Ok a → Fits roots specs tree a
 unfolding action_of
 action_of_ok verb.Plug roots specs tree ms a h = plug_of_ok roots specs tree ms a h
 action_of_ok verb.Unplug roots specs tree ms a h = unplug_of_ok roots specs tree ms a h
@@ -362,39 +407,46 @@ action_of_ok verb.Send roots specs tree ms a h = send_of_ok roots specs tree ms 
 action_of_ok verb.Receive roots specs tree ms a h = receive_of_ok roots specs tree ms a h
 action_of_ok verb.Clear roots specs tree ms a h = clear_of_ok roots specs tree ms a h
 
-whole_ok : (r : Result event.Parts Kind) (e : Event) → whole r ≡ Ok e → (x : event.Parts) × (r ≡ Ok x) × (record { after = x.1.0; action = x.0 } ≡ e)
-unfolding whole
-whole_ok (Ok x) e h = (x, refl, cc)
-whole_ok (Err k) e h = cc
+record EventIs (action : Result Action Kind) (after : Result ℕ Kind) (room : Result (Unit {0}) Kind) (e : Event) : Type 0 where
+  action_is : action ≡ Ok e.action
+  after_is : after ≡ Ok e.after
+  room_is : fault_of room ≡ None
+
+event_with_ok : (action : Result Action Kind) (after : Result ℕ Kind) (keys left : Result (Unit {0}) Kind) (e : Event) → event_with action after keys left ≡ Ok e → EventIs action after left e
+unfolding event_with
+event_with_ok action after keys left e h =
+    let e0 = bind_ok (told _) _ e h in
+    let e1 = bind_ok after _ e e0.2 in
+    let e2 = bind_ok action _ e e1.2 in
+    let none = told_ok _ e0.0 e0.1 in
+    record {
+      action_is = e2.1 ∙ (let same : e2.0 ≡ e.action = cc e2.2 in ap Ok same);
+      after_is = e1.1 ∙ (let same : e1.0 ≡ e.after = cc e2.2 in ap Ok same);
+      room_is = none.1.1.1.0;
+    }
 
 -- the event may come where so much is plugged, and there is room for it
-pub record Follows (roots : ℕ) (devices : List Spec) (tree : Plugged) (count : ℕ) (e : Event) : Type 0 where
+pub record Follows (roots : ℕ) (devices : List Spec) (tree : PluggedMap) (count : ℕ) (e : Event) : Type 0 where
   pub room : count < 10000
   pub fits : event_fits roots devices tree e ≡ true
 
-event_of_ok : (v : Verb) (roots : ℕ) (specs : List Spec) (tree : Plugged) (count : ℕ) (ms : Members) (e : Event) → event_of v roots specs tree count ms ≡ Ok e → Follows roots specs tree count e
+event_of_ok : (v : Verb) (roots : ℕ) (specs : List Spec) (tree : PluggedMap) (count : ℕ) (ms : Members) (e : Event) → event_of v roots specs tree count ms ≡ Ok e → Follows roots specs tree count e
 unfolding event_of
 event_of_ok v roots specs tree count ms e h =
-    let made = whole_ok _ e h in
-    let x = made.0 in
-    let first = both_ok (action_of v roots specs tree ms) _ x made.1 in
-    let second = both_ok (after_at (get_member (codes "after") ms)) _ x.1 first.1 in
-    let last = both_ok (keys_of v ms) (room count) x.1.1 second.1 in
-    let after = le-leb x.1.0 1000000000 (after_at_ok (get_member (codes "after") ms) x.1.0 second.0) in
+    let is = event_with_ok (action_of v roots specs tree ms) (after_at (get_member (codes "after") ms)) (keys_of v ms) (room count) e h in
+    let free = no_fault (room count) is.room_is in
+    let after = le-leb e.after 1000000000 (after_at_ok (get_member (codes "after") ms) e.after is.after_is) in
     record {
-      room = room_ok count x.1.1.1 last.1;
-      fits = rw (← made.2) (rw (after, action_of_ok v roots specs tree ms x.0 first.0));
+      room = room_ok count free.0 free.1;
+      fits = rw (after, action_of_ok v roots specs tree ms e.action is.action_is);
     }
 
-event_by_ok : (r : Result Verb Kind) (roots : ℕ) (specs : List Spec) (tree : Plugged) (count : ℕ) (ms : Members) (e : Event) → event_by r roots specs tree count ms ≡ Ok e → Follows roots specs tree count e
-unfolding event_by
-event_by_ok (Err k) roots specs tree count ms e h = cc
-event_by_ok (Ok v) roots specs tree count ms e h = event_of_ok v roots specs tree count ms e h
-
-pub event_in_ok : (roots : ℕ) (specs : List Spec) (tree : Plugged) (count : ℕ) (o : Option Members) (e : Event) → event_in roots specs tree count o ≡ Ok e → Follows roots specs tree count e
+pub event_in_ok : (roots : ℕ) (specs : List Spec) (tree : PluggedMap) (count : ℕ) (o : Option Members) (e : Event) → event_in roots specs tree count o ≡ Ok e → Follows roots specs tree count e
 unfolding event_in
 event_in_ok roots specs tree count None e h = cc
-event_in_ok roots specs tree count (Some ms) e h = event_by_ok (verb_at (get_member (codes "do") ms)) roots specs tree count ms e h
+event_in_ok roots specs tree count (Some ms) e h =
+    let verb = bind_ok (verb_at (get_member (codes "do") ms)) _ e h in
+    event_of_ok verb.0 roots specs tree count ms e verb.2
 
 attempt_at_ok : (last : ℕ) (o : Option Data) (n : ℕ) → attempt_at last o ≡ Ok n → (last < n) × (n ≤ 9223372036854775807)
 unfolding attempt_at
@@ -409,15 +461,12 @@ unfolding no_bit
 no_bit_ok harm None x fits h = let same : harm ≡ x = cc h in rw (← same) fits
 no_bit_ok harm (Some d) x fits h = cc h
 
-flip_ok : (r : Result ℕ Kind) (x : Harm) → flip r ≡ Ok x → (n : ℕ) × (r ≡ Ok n) × (Flip n ≡ x)
-flip_ok (Ok n) x h = (n, refl, cc)
-flip_ok (Err k) x h = cc
-
 flipped_ok : (o : Option Data) (x : Harm) → flipped o ≡ Ok x → harm_fits x ≡ true
 unfolding flipped
 flipped_ok o x h =
-    let made = flip_ok (number_at 0 535 o) x h in
-    rw (← made.2) (le-leb made.0 535 (number_at_ok 0 535 o made.0 made.1).1)
+    let made = bind_ok (number_at 0 535 o) _ x h in
+    let same : Flip made.0 ≡ x = cc made.2 in
+    rw (← same) (le-leb made.0 535 (number_at_ok 0 535 o made.0 made.1).1)
 
 harm_of_ok : (w : Way) (o : Option Data) (x : Harm) → harm_of w o ≡ Ok x → harm_fits x ≡ true
 unfolding harm_of
@@ -427,17 +476,32 @@ harm_of_ok way.Flip o x h = flipped_ok o x h
 
 harm_by_ok : (r : Result Way Kind) (o : Option Data) (x : Harm) → harm_by r o ≡ Ok x → harm_fits x ≡ true
 unfolding harm_by
-harm_by_ok (Err k) o x h = cc
-harm_by_ok (Ok w) o x h = harm_of_ok w o x h
+harm_by_ok r o x h = let way = bind_ok r _ x h in harm_of_ok way.0 o x way.2
 
 damage_room_ok : (count : ℕ) (u : Unit {0}) → damage.room count ≡ Ok u → count < 10000
 unfolding damage.room
 damage_room_ok count u h = ltb-true count 10000 (ok_if (nat_lt count 10000) (Ok tt) BadValue u h).0
 
-damage_whole_ok : (r : Result damage.Parts Kind) (d : Damage) → damage.whole r ≡ Ok d → (x : damage.Parts) × (r ≡ Ok x) × (record { attempt = x.0; packet = x.1.0; harm = x.1.1.0 } ≡ d)
-unfolding damage.whole
-damage_whole_ok (Ok x) d h = (x, refl, cc)
-damage_whole_ok (Err k) d h = cc
+record DamageIs (attempt packet : Result ℕ Kind) (harm : Result Harm Kind) (room : Result (Unit {0}) Kind) (d : Damage) : Type 0 where
+  attempt_is : attempt ≡ Ok d.attempt
+  packet_is : packet ≡ Ok d.packet
+  harm_is : harm ≡ Ok d.harm
+  room_is : fault_of room ≡ None
+
+damage_with_ok : (attempt packet : Result ℕ Kind) (harm : Result Harm Kind) (keys left : Result (Unit {0}) Kind) (d : Damage) → damage_with attempt packet harm keys left ≡ Ok d → DamageIs attempt packet harm left d
+unfolding damage_with
+damage_with_ok attempt packet harm keys left d h =
+    let e0 = bind_ok (told _) _ d h in
+    let e1 = bind_ok attempt _ d e0.2 in
+    let e2 = bind_ok packet _ d e1.2 in
+    let e3 = bind_ok harm _ d e2.2 in
+    let none = told_ok _ e0.0 e0.1 in
+    record {
+      attempt_is = e1.1 ∙ (let same : e1.0 ≡ d.attempt = cc e3.2 in ap Ok same);
+      packet_is = e2.1 ∙ (let same : e2.0 ≡ d.packet = cc e3.2 in ap Ok same);
+      harm_is = e3.1 ∙ (let same : e3.0 ≡ d.harm = cc e3.2 in ap Ok same);
+      room_is = none.1.1.1.1.0;
+    }
 
 -- the damage may stand after that attempt, and there is room for it
 pub record Comes (last count : ℕ) (d : Damage) : Type 0 where
@@ -448,19 +512,15 @@ pub record Comes (last count : ℕ) (d : Damage) : Type 0 where
 damage_of_ok : (last count : ℕ) (ms : Members) (d : Damage) → damage_of last count ms ≡ Ok d → Comes last count d
 unfolding damage_of
 damage_of_ok last count ms d h =
-    let made = damage_whole_ok _ d h in
-    let x = made.0 in
-    let first = both_ok (attempt_at last (get_member (codes "attempt") ms)) _ x made.1 in
-    let second = both_ok (packet_at (get_member (codes "packet") ms)) _ x.1 first.1 in
-    let third = both_ok (harm_by (way_at (get_member (codes "how") ms)) (get_member (codes "bit") ms)) _ x.1.1 second.1 in
-    let end = both_ok (keys_at damage_keys ms) (damage.room count) x.1.1.1 third.1 in
-    let attempt = attempt_at_ok last (get_member (codes "attempt") ms) x.0 first.0 in
-    let packet = packet_at_ok (get_member (codes "packet") ms) x.1.0 second.0 in
-    let harm = harm_by_ok (way_at (get_member (codes "how") ms)) (get_member (codes "bit") ms) x.1.1.0 third.0 in
+    let is = damage_with_ok _ _ _ _ (damage.room count) d h in
+    let free = no_fault (damage.room count) is.room_is in
+    let attempt = attempt_at_ok last (get_member (codes "attempt") ms) d.attempt is.attempt_is in
+    let packet = packet_at_ok (get_member (codes "packet") ms) d.packet is.packet_is in
+    let harm = harm_by_ok (way_at (get_member (codes "how") ms)) (get_member (codes "bit") ms) d.harm is.harm_is in
     record {
-      room = damage_room_ok count x.1.1.1.1 end.1;
-      fits = rw (← made.2) (rw (lt-ltb last x.0 attempt.0, le-leb 1 x.1.0 packet.0, le-leb x.1.0 3 packet.1, harm));
-      most = rw (← made.2) attempt.1;
+      room = damage_room_ok count free.0 free.1;
+      fits = rw (lt-ltb last d.attempt attempt.0, le-leb 1 d.packet packet.0, le-leb d.packet 3 packet.1, harm);
+      most = attempt.1;
     }
 
 pub damage_in_ok : (last count : ℕ) (o : Option Members) (d : Damage) → damage_in last count o ≡ Ok d → Comes last count d
@@ -476,10 +536,19 @@ roots_at_ok : (o : Option Data) (n : ℕ) → roots_at o ≡ Ok n → (1 ≤ n) 
 unfolding roots_at
 roots_at_ok o n h = number_at_ok 1 7 o n h
 
-pub top_of_ok : (ms : Members) (x : TopParts) → top_of ms ≡ Ok x → TopFits x.0 x.1.0
+top_with_ok : (limit roots : Result ℕ Kind) (devices events damages keys : Result (Unit {0}) Kind) (top : Top) → top_with limit roots devices events damages keys ≡ Ok top → (limit ≡ Ok top.limit) × (roots ≡ Ok top.roots)
+unfolding top_with
+top_with_ok limit roots devices events damages keys top h =
+    let e0 = bind_ok (told _) _ top h in
+    let e1 = bind_ok limit _ top e0.2 in
+    let e2 = bind_ok roots _ top e1.2 in
+    let same_limit : e1.0 ≡ top.limit = cc e2.2 in
+    let same_roots : e2.0 ≡ top.roots = cc e2.2 in
+    (e1.1 ∙ ap Ok same_limit, e2.1 ∙ ap Ok same_roots)
+
+pub top_of_ok : (ms : Members) (top : Top) → top_of ms ≡ Ok top → TopFits top
 unfolding top_of
-top_of_ok ms x h =
-    let first = both_ok (limit_at (get_member (codes "limit") ms)) _ x h in
-    let second = both_ok (roots_at (get_member (codes "roots") ms)) _ x.1 first.1 in
-    let roots = roots_at_ok (get_member (codes "roots") ms) x.1.0 second.0 in
-    record { limit = limit_at_ok (get_member (codes "limit") ms) x.0 first.0; some_root = roots.0; few_roots = roots.1 }
+top_of_ok ms top h =
+    let is = top_with_ok _ _ _ _ _ _ top h in
+    let roots = roots_at_ok (get_member (codes "roots") ms) top.roots is.1 in
+    record { limit = limit_at_ok (get_member (codes "limit") ms) top.limit is.0; some_root = roots.0; few_roots = roots.1 }

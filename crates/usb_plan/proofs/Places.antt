@@ -14,8 +14,9 @@ use Rattle.std.specs.Cmp.{nat_cmp_is}
 use Rattle.std.specs.Cmp.Lexicographic.{same_text}
 use Rattle.std.proofs.lemmas.Map.Text.{is_eq-slice_cmp}
 use Rattle.usb_port.specs.Order.{path_cmp}
-use Rattle.usb_world.specs.Plugged.{Plugged, unplugged}
+use Rattle.usb_world.specs.PluggedDevices.{PluggedMap, unplugged}
 use Rattle.usb_plan.specs.Tree.{first_through}
+use Rattle.usb_world.proofs.Interface.{found_same, self_found}
 
 abbrev through : List ℕ → List ℕ → Bool
 through path place = starts_with nat_eq place path
@@ -55,7 +56,7 @@ abbrev AllAfter : List ℕ → List (List ℕ) → Type 0
 AllAfter middle = AllByRecursion (λ place. path_cmp middle place ≡ Less)
 
 -- after a place that is not below the path, none is
-none_after : (path middle : List ℕ) (tree : Plugged) → is_le (path_cmp path middle) ≡ true → through path middle ≡ false → AllAfter middle (keys_of tree) → first_through path tree ≡ None
+none_after : (path middle : List ℕ) (tree : PluggedMap) → is_le (path_cmp path middle) ≡ true → through path middle ≡ false → AllAfter middle (keys_of tree) → first_through path tree ≡ None
 unfolding first_through
 none_after path middle [] le off all = refl
 none_after path middle (place ∷ tree) le off all = by (cases_Bool (through path place.0)) (none_after path middle tree le off all.1)
@@ -65,14 +66,14 @@ none_after path middle (place ∷ tree) le off all = by (cases_Bool (through pat
     by (inr h) rest = rw h rest
 
 -- the first of the places from the path on, where that is at the path or below it
-abbrev pub first_of : List ℕ → Plugged → Option (List ℕ)
+abbrev pub first_of : List ℕ → PluggedMap → Option (List ℕ)
 first_of path [] = None
 first_of path (place ∷ tree) = cond (through path place.0) (Some place.0) None
 
-abbrev from_on : List ℕ → Plugged → Plugged
+abbrev from_on : List ℕ → PluggedMap → PluggedMap
 from_on path tree = entries_between path_cmp (Included path) Unbounded tree
 
-first_in_range : (path : List ℕ) (tree : Plugged) → IsStrictlySortedBy path_cmp (keys_of tree) → first_of path (from_on path tree) ≡ first_through path tree
+first_in_range : (path : List ℕ) (tree : PluggedMap) → IsStrictlySortedBy path_cmp (keys_of tree) → first_of path (from_on path tree) ≡ first_through path tree
 unfolding first_through IsStrictlySortedBy
 first_in_range path [] sorted = refl
 first_in_range path (place ∷ tree) sorted = by (cases_Bool (is_le (path_cmp path place.0))) (cases_Bool (through path place.0)) (first_in_range path tree sorted.1)
@@ -85,11 +86,11 @@ first_in_range path (place ∷ tree) sorted = by (cases_Bool (is_le (path_cmp pa
     by (inr gt) (inr h) rest = rw (gt, h) rest
 
 -- the first place through a path is looked for from the path on alone
-pub first_found : (path start : List ℕ) (places tree range : Plugged) → start ≡ path → places ≡ tree → IsStrictlySortedBy path_cmp (keys_of places) → range ≡ entries_between path_cmp (Included start) Unbounded places → first_of path range ≡ first_through path tree
+pub first_found : (path start : List ℕ) (places tree range : PluggedMap) → start ≡ path → places ≡ tree → IsStrictlySortedBy path_cmp (keys_of places) → range ≡ entries_between path_cmp (Included start) Unbounded places → first_of path range ≡ first_through path tree
 first_found path start places tree range same is sorted r = rw (r, same) (first_in_range path places sorted ∙ ap (first_through path) is)
 
 -- where no place goes through the path, nothing is unplugged
-pub none_unplugged : (path : List ℕ) (tree : Plugged) → first_through path tree ≡ None → unplugged path tree ≡ tree
+pub none_unplugged : (path : List ℕ) (tree : PluggedMap) → first_through path tree ≡ None → unplugged path tree ≡ tree
 unfolding first_through unplugged
 none_unplugged path [] h = refl
 none_unplugged path (place ∷ tree) h = by (cases_Bool (through path place.0)) (none_unplugged path tree)
@@ -98,10 +99,7 @@ none_unplugged path (place ∷ tree) h = by (cases_Bool (through path place.0)) 
     by (inl below) rest = let bad = rw below at h in cc
     by (inr off) rest = let none = rw off at h in rw off (ap (λ places. place ∷ places) (rest none))
 
-same_path : (p q : List ℕ) → is_eq (path_cmp p q) ≡ true → p ≡ q
-same_path p q h = same_text p q (sym h ∙ is_eq-slice_cmp p q)
-
-found_through : (path place : List ℕ) (tree : Plugged) → first_through path tree ≡ Some place → through path place ≡ true
+found_through : (path place : List ℕ) (tree : PluggedMap) → first_through path tree ≡ Some place → through path place ≡ true
 unfolding first_through
 found_through path place [] h = cc
 found_through path place (first ∷ tree) h = by (cases_Bool (through path first.0)) (found_through path place tree)
@@ -111,7 +109,7 @@ found_through path place (first ∷ tree) h = by (cases_Bool (through path first
     by (inr off) rest = rest (rw off at h)
 
 -- a place through the path may go first
-through_removed : (path place : List ℕ) (tree : Plugged) → through path place ≡ true → unplugged path (remove_entry (is_at (path_cmp place)) tree) ≡ unplugged path tree
+through_removed : (path place : List ℕ) (tree : PluggedMap) → through path place ≡ true → unplugged path (remove_entry (is_at (path_cmp place)) tree) ≡ unplugged path tree
 unfolding unplugged
 through_removed path place [] h = refl
 through_removed path place (first ∷ tree) h = by (cases_Bool (is_eq (path_cmp place first.0))) (cases_Bool (through path first.0)) (through_removed path place tree h)
@@ -120,19 +118,15 @@ through_removed path place (first ∷ tree) h = by (cases_Bool (is_eq (path_cmp 
         → unplugged path (remove_entry (is_at (path_cmp place)) tree) ≡ unplugged path tree
         → unplugged path (remove_entry (is_at (path_cmp place)) (first ∷ tree)) ≡ unplugged path (first ∷ tree)
     by (inl at) (inl below) rest = rw (at, below) refl
-    by (inl at) (inr off) rest = let bad = sym h ∙ (ap (through path) (same_path place first.0 at) ∙ off) in cc
+    by (inl at) (inr off) rest = let bad = sym h ∙ (ap (through path) (found_same place first.0 at) ∙ off) in cc
     by (inr apart) (inl below) rest = rw (apart, below) rest
     by (inr apart) (inr off) rest = rw (apart, off) (ap (λ places. first ∷ places) rest)
 
-pub one_unplugged : (path place : List ℕ) (tree : Plugged) → Some place ≡ first_through path tree → unplugged path (remove_entry (is_at (path_cmp place)) tree) ≡ unplugged path tree
+pub one_unplugged : (path place : List ℕ) (tree : PluggedMap) → Some place ≡ first_through path tree → unplugged path (remove_entry (is_at (path_cmp place)) tree) ≡ unplugged path tree
 one_unplugged path place tree h = through_removed path place tree (found_through path place tree (sym h))
 
-at_itself : (path : List ℕ) → is_eq (path_cmp path path) ≡ true
-at_itself [] = refl
-at_itself (a ∷ path) = rw (sym (nat_cmp_is a a Equal refl)) (at_itself path)
-
 -- a place that is found is there
-pub one_there : (path place : List ℕ) (tree : Plugged) → Some place ≡ first_through path tree → is_some (lookup (is_at (path_cmp place)) tree) ≡ true
+pub one_there : (path place : List ℕ) (tree : PluggedMap) → Some place ≡ first_through path tree → is_some (lookup (is_at (path_cmp place)) tree) ≡ true
 unfolding first_through
 one_there path place [] h = cc
 one_there path place (first ∷ tree) h = by (cases_Bool (through path first.0)) (cases_Bool (is_eq (path_cmp place first.0))) (one_there path place tree)
@@ -144,5 +138,5 @@ one_there path place (first ∷ tree) h = by (cases_Bool (through path first.0))
     by (inl below) (inr apart) rest =
         let some = rw below at h in
         let same : place ≡ first.0 = cc some in
-        let bad = sym (at_itself place) ∙ (ap (λ p. is_eq (path_cmp place p)) same ∙ apart) in cc
+        let bad = sym (self_found place) ∙ (ap (λ p. is_eq (path_cmp place p)) same ∙ apart) in cc
     by (inr off) (inr apart) rest = rw apart (rest (rw off at h))

@@ -5,10 +5,10 @@ use Rattle.std.proofs.lemmas.Bool.{le-leb, lt-leb}
 use Rattle.std.proofs.lemmas.List.Folds.{list_all-map}
 use Rattle.std.specs.List.{list_all, list_any}
 use Rattle.usb_plan.specs.Plan.{is_table}
-use Rattle.usb_plan.specs.declared.kind.Kind.TheVariants.{BadValue}
+use Rattle.usb_plan.specs.declared.kind.Kind.TheVariants.{BadValue, Memory}
 use Rattle.toml.specs.Data.{as_str}
 use Rattle.usb_plan.specs.declared.kind.Kind.{Kind}
-use Rattle.usb_plan.specs.Kind.{both}
+use Rattle.usb_plan.specs.Kind.{fault_of, sooner, told, EqualUnless}
 use Rattle.usb_plan.specs.Value.{hex_in, data_list}
 use Rattle.toml.specs.declared.value.Value.{Value}
 use Rattle.toml.specs.View.{view, items_view}
@@ -19,19 +19,20 @@ use Rattle.usb_plan.specs.Quirks.{names, is_stall}
 abbrev pub AtMost : ℕ → Result (List (List ℕ)) Kind → Type 0
 AtMost n texts = IfOk texts (λ xs. length xs ≤ n)
 
-pub AtMost-pushed : (n : ℕ) (texts : Result (List (List ℕ)) Kind) (text : Result (List ℕ) Kind) → AtMost n texts → AtMost (n + 1) (pushed (both texts text))
-unfolding pushed both
+pub AtMost-pushed : (n : ℕ) (texts : Result (List (List ℕ)) Kind) (text : Result (List ℕ) Kind) → AtMost n texts → AtMost (n + 1) (pushed texts text)
+unfolding pushed told sooner fault_of
 AtMost-pushed n (Ok xs) (Ok x) h = rw length_push (omega arith)
 AtMost-pushed n (Ok xs) (Err k) h = tt
 AtMost-pushed n (Err k) (Ok x) h = tt
 AtMost-pushed n (Err k) (Err l) h = tt
 
-pub AtMost-both : (n count : ℕ) (texts : Result (List (List ℕ)) Kind) (text : Result (List ℕ) Kind) → AtMost n texts → n < count → IfOk (both texts text) (λ x. length x.0 < count)
-unfolding both
-AtMost-both n count (Ok xs) (Ok x) h lt = omega arith
-AtMost-both n count (Ok xs) (Err k) h lt = tt
-AtMost-both n count (Err k) (Ok x) h lt = tt
-AtMost-both n count (Err k) (Err l) h lt = tt
+-- refused memory is no text
+pub AtMost-unless : (n : ℕ) (read texts : Result (List (List ℕ)) Kind) → EqualUnless Memory read texts → AtMost n texts → AtMost n read
+AtMost-unless n (Ok xs) texts same h = rw same at h
+AtMost-unless n (Err k) texts same h = tt
+
+pub AtMost-room : (n count : ℕ) (texts : Result (List (List ℕ)) Kind) (xs : List (List ℕ)) → AtMost n texts → n < count → texts ≡ Ok xs → length xs < count
+AtMost-room n count texts xs h lt is = let few : length xs ≤ n = rw is at h in omega arith
 
 -- the data of the values from a place on
 pub view_drop : (vs : List Value) (i : ℕ) (v : Value) → i < length vs → v ≡ get_or vs i v → map view (drop i vs) ≡ view v ∷ map view (drop (i + 1) vs)
@@ -45,7 +46,7 @@ pub are_tables_view : (vs : List Value) → list_all is_table (data_list (items_
 are_tables_view vs = ap (list_all is_table) (data_list_view vs) ∙ list_all-map is_table view vs
 
 pub texts_from-step : (most : ℕ) (texts : Result (List (List ℕ)) Kind) (vs : List Value) (i : ℕ) (v : Value) (text : Result (List ℕ) Kind) (total : Result (List (List ℕ)) Kind) → i < length vs → v ≡ get_or vs i v → text ≡ hex_in most (as_str (view v))
-    → texts_from most texts (map view (drop i vs)) ≡ total → texts_from most (pushed (both texts text)) (map view (drop (i + 1) vs)) ≡ total
+    → texts_from most texts (map view (drop i vs)) ≡ total → texts_from most (pushed texts text) (map view (drop (i + 1) vs)) ≡ total
 unfolding texts_from
 texts_from-step most texts vs i v text total lt is e so_far = rw e (sym (ap (texts_from most texts) (view_drop vs i v lt is)) ∙ so_far)
 

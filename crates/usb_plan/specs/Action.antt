@@ -6,14 +6,14 @@ use Rattle.usb_plan.specs.declared.kind.Kind.{Kind}
 use Rattle.usb_plan.specs.declared.kind.Kind.TheVariants.{MissingKey, BadValue, UnknownDevice}
 use Rattle.usb_plan.specs.declared.verb.Verb.{Verb}
 use Rattle.usb_plan.specs.declared.verb.Verb.TheVariants as verb
-use Rattle.usb_plan.specs.Kind.{both}
+use Rattle.usb_plan.specs.Kind.{fault_of, told, ◌>>=◌}
 use Rattle.usb_plan.specs.Keys.{keys_at}
 use Rattle.usb_plan.specs.Value.{number_at, sent_in}
 use Rattle.usb_plan.specs.Path.{path_at, free, taken}
 use Rattle.usb_device.specs.Spec.{Spec}
 use Rattle.usb_world.specs.declared.event.Action.{Action}
 use Rattle.usb_world.specs.declared.event.Action.TheVariants.{Plug, Unplug, Show, Send, Receive, Clear}
-use Rattle.usb_world.specs.Plugged.{Plugged}
+use Rattle.usb_world.specs.PluggedDevices.{PluggedMap}
 
 unfoldable pub known : Option ℕ → Result ℕ Kind
 known None = Err UnknownDevice
@@ -37,46 +37,50 @@ bytes_at (Some d) = sent_in (as_str d)
 unfoldable pub packets_at : Option Data → Result ℕ Kind
 packets_at d = number_at 0 1000 d
 
-unfoldable pub plug : Result (List ℕ × ℕ) Kind → Result Action Kind
-plug (Ok x) = Ok (Plug x.0 x.1)
-plug (Err k) = Err k
+unfoldable pub plug : Result (List ℕ) Kind → Result ℕ Kind → Result Action Kind
+plug path device = do
+  u ← told (fault_of path ∷ fault_of device ∷ [])
+  p ← path
+  d ← device
+  Ok (Plug p d)
 
-unfoldable pub unplug : Result (List ℕ) Kind → Result Action Kind
-unplug (Ok path) = Ok (Unplug path)
-unplug (Err k) = Err k
+unfoldable pub send : Result (List ℕ) Kind → Result (List ℕ) Kind → Result Action Kind
+send path bytes = do
+  u ← told (fault_of path ∷ fault_of bytes ∷ [])
+  p ← path
+  b ← bytes
+  Ok (Send p b)
 
-unfoldable pub send : Result (List ℕ × List ℕ) Kind → Result Action Kind
-send (Ok x) = Ok (Send x.0 x.1)
-send (Err k) = Err k
+unfoldable pub receive : Result (List ℕ) Kind → Result ℕ Kind → Result Action Kind
+receive path packets = do
+  u ← told (fault_of path ∷ fault_of packets ∷ [])
+  p ← path
+  n ← packets
+  Ok (Receive p n)
 
-unfoldable pub receive : Result (List ℕ × ℕ) Kind → Result Action Kind
-receive (Ok x) = Ok (Receive x.0 x.1)
-receive (Err k) = Err k
-
-unfoldable pub clear : Result (List ℕ) Kind → Result Action Kind
-clear (Ok path) = Ok (Clear path)
-clear (Err k) = Err k
-
-unfoldable pub plug_of : ℕ → List Spec → Plugged → Members → Result Action Kind
+unfoldable pub plug_of : ℕ → List Spec → PluggedMap → Members → Result Action Kind
 plug_of roots devices tree ms =
-    plug (both (free roots devices tree (path_at roots (get_member (codes "path") ms)))
-    (device_at devices (get_member (codes "device") ms)))
+    plug (free roots devices tree (path_at roots (get_member (codes "path") ms)))
+    (device_at devices (get_member (codes "device") ms))
 
-unfoldable pub unplug_of : ℕ → Plugged → Members → Result Action Kind
-unplug_of roots tree ms = unplug (taken tree (path_at roots (get_member (codes "path") ms)))
+unfoldable pub unplug_of : ℕ → PluggedMap → Members → Result Action Kind
+unplug_of roots tree ms =
+    taken tree (path_at roots (get_member (codes "path") ms)) >>= λ path. Ok (Unplug path)
 
 unfoldable pub send_of : ℕ → Members → Result Action Kind
-send_of roots ms = send (both (path_at roots (get_member (codes "path") ms)) (bytes_at (get_member (codes "bytes") ms)))
+send_of roots ms =
+    send (path_at roots (get_member (codes "path") ms)) (bytes_at (get_member (codes "bytes") ms))
 
 unfoldable pub receive_of : ℕ → Members → Result Action Kind
 receive_of roots ms =
-    receive (both (path_at roots (get_member (codes "path") ms)) (packets_at (get_member (codes "packets") ms)))
+    receive (path_at roots (get_member (codes "path") ms))
+    (packets_at (get_member (codes "packets") ms))
 
 unfoldable pub clear_of : ℕ → Members → Result Action Kind
-clear_of roots ms = clear (path_at roots (get_member (codes "path") ms))
+clear_of roots ms = path_at roots (get_member (codes "path") ms) >>= λ path. Ok (Clear path)
 
 -- what the event of a table does, where so much is plugged
-unfoldable pub action_of : Verb → ℕ → List Spec → Plugged → Members → Result Action Kind
+unfoldable pub action_of : Verb → ℕ → List Spec → PluggedMap → Members → Result Action Kind
 action_of verb.Plug roots devices tree ms = plug_of roots devices tree ms
 action_of verb.Unplug roots devices tree ms = unplug_of roots tree ms
 action_of verb.Show roots devices tree ms = Ok Show

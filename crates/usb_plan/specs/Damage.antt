@@ -8,7 +8,7 @@ use Rattle.usb_plan.specs.declared.damage.Way.{Way}
 use Rattle.usb_plan.specs.declared.damage.Way.TheVariants as way
 use Rattle.usb_plan.specs.declared.fault.Place.TheVariants as place
 use Rattle.usb_plan.specs.declared.fault.PlanFault.{PlanFault}
-use Rattle.usb_plan.specs.Kind.{both, placed, ◌>>=◌}
+use Rattle.usb_plan.specs.Kind.{fault_of, told, placed, ◌>>=◌}
 use Rattle.usb_plan.specs.Keys.{keys_at}
 use Rattle.usb_plan.specs.Value.{number_at}
 use Rattle.usb_world.specs.declared.damage.Damage.{Damage}
@@ -44,13 +44,9 @@ unfoldable pub no_bit : Harm → Option Data → Result Harm Kind
 no_bit harm None = Ok harm
 no_bit harm (Some d) = Err BadValue
 
-abbrev pub flip : Result ℕ Kind → Result Harm Kind
-flip (Ok bit) = Ok (Flip bit)
-flip (Err k) = Err k
-
 -- the key `bit`
 unfoldable pub flipped : Option Data → Result Harm Kind
-flipped d = flip (number_at 0 535 d)
+flipped d = number_at 0 535 d >>= λ bit. Ok (Flip bit)
 
 unfoldable pub harm_of : Way → Option Data → Result Harm Kind
 harm_of way.Lose bit = no_bit Lose bit
@@ -59,19 +55,21 @@ harm_of way.Flip bit = flipped bit
 
 -- the keys `how` and `bit`
 unfoldable pub harm_by : Result Way Kind → Option Data → Result Harm Kind
-harm_by (Err k) bit = Err k
-harm_by (Ok way) bit = harm_of way bit
+harm_by way bit = way >>= λ w. harm_of w bit
 
 -- at most 10,000 damages
 unfoldable pub room : ℕ → Result (Unit {0}) Kind
 room count = if nat_lt count 10000 then Ok tt else Err BadValue
 
-abbrev pub Parts : Type 0
-Parts = ℕ × (ℕ × (Harm × (Unit {0} × Unit {0})))
-
-unfoldable pub whole : Result Parts Kind → Result Damage Kind
-whole (Ok x) = Ok (record { attempt = x.0; packet = x.1.0; harm = x.1.1.0 })
-whole (Err k) = Err k
+unfoldable pub damage_with :
+    Result ℕ Kind → Result ℕ Kind → Result Harm Kind → Result (Unit {0}) Kind
+    → Result (Unit {0}) Kind → Result Damage Kind
+damage_with attempt packet harm keys room = do
+  u ← told (fault_of attempt ∷ fault_of packet ∷ fault_of harm ∷ fault_of keys ∷ fault_of room ∷ [])
+  n ← attempt
+  p ← packet
+  h ← harm
+  Ok (record { attempt = n; packet = p; harm = h })
 
 abbrev pub damage_keys : List (List ℕ)
 damage_keys = codes "attempt" ∷ codes "packet" ∷ codes "how" ∷ codes "bit" ∷ []
@@ -79,10 +77,11 @@ damage_keys = codes "attempt" ∷ codes "packet" ∷ codes "how" ∷ codes "bit"
 -- the damage that a table describes, after that attempt and so many others
 unfoldable pub damage_of : ℕ → ℕ → Members → Result Damage Kind
 damage_of last count ms =
-    whole (both (attempt_at last (get_member (codes "attempt") ms))
-    (both (packet_at (get_member (codes "packet") ms))
-    (both (harm_by (way_at (get_member (codes "how") ms)) (get_member (codes "bit") ms))
-    (both (keys_at damage_keys ms) (room count)))))
+    damage_with (attempt_at last (get_member (codes "attempt") ms))
+    (packet_at (get_member (codes "packet") ms))
+    (harm_by (way_at (get_member (codes "how") ms)) (get_member (codes "bit") ms))
+    (keys_at damage_keys ms)
+    (room count)
 
 unfoldable pub damage_in : ℕ → ℕ → Option Members → Result Damage Kind
 damage_in last count None = Err BadValue

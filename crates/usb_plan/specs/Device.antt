@@ -5,13 +5,17 @@ use Rattle.usb_plan.specs.declared.kind.Kind.{Kind}
 use Rattle.usb_plan.specs.declared.kind.Kind.TheVariants.{MissingKey, BadValue}
 use Rattle.usb_plan.specs.declared.fault.Place.TheVariants as place
 use Rattle.usb_plan.specs.declared.fault.PlanFault.{PlanFault}
-use Rattle.usb_plan.specs.Kind.{both, placed, ◌>>=◌}
+use Rattle.usb_plan.specs.declared.device.Identity.{Identity}
+use Rattle.usb_plan.specs.declared.device.Content.{Content}
+use Rattle.usb_plan.specs.declared.quirks.Quirks.{Quirks}
+use Rattle.usb_plan.specs.declared.bulk.Bulk.{Bulk}
+use Rattle.usb_plan.specs.Kind.{fault_of, told, placed, ◌>>=◌}
 use Rattle.usb_plan.specs.Keys.{keys_at}
 use Rattle.usb_plan.specs.Value.{is_word, hex_in}
 use Rattle.usb_plan.specs.Texts.{texts_in}
 use Rattle.usb_plan.specs.Hub.{class_at, hub_at}
-use Rattle.usb_plan.specs.Quirks.{Quirks, quirks_of}
-use Rattle.usb_plan.specs.Bulk.{Bulk, bulk_of}
+use Rattle.usb_plan.specs.Quirks.{quirks_of}
+use Rattle.usb_plan.specs.Bulk.{bulk_of}
 use Rattle.usb_device.specs.Spec.{Spec, Hub, hub_fits, function, is_named}
 
 unfoldable pub name_in : List Spec → Option (List ℕ) → Result (List ℕ) Kind
@@ -58,12 +62,14 @@ room earlier = if nat_lt (length earlier) 127 then Ok tt else Err BadValue
 abbrev pub Texts : Type 0
 Texts = List (List ℕ)
 
--- name, low speed, descriptor, configs, strings, hub, quirks, bulk
-abbrev pub Parts : Type 0
-Parts = List ℕ × (Bool × (List ℕ × (Texts × (Texts × (Unit {0} × (Option Hub × (Quirks × (Bulk × (Unit {0} × Unit {0})))))))))
-
 unfoldable pub with_quirks : Quirks → Spec → Spec
-with_quirks q s = record s { self_powered = q.0; busy = q.1.0; silent = q.1.1.0; naks = q.1.1.1.0; stalls = q.1.1.1.1 }
+with_quirks q s = record s {
+  self_powered = q.self_powered;
+  busy = q.busy;
+  silent = q.silent;
+  naks = q.naks;
+  stalls = q.stalls;
+}
 
 unfoldable pub with_halt : Option ℕ → Spec → Spec
 with_halt None s = s
@@ -74,41 +80,77 @@ with_hub None s = s
 with_hub (Some hub) s = record s { hub = Some hub }
 
 -- what the type of a device asks of its parts
-pub record PartsFit (x : Parts) : Type 0 where
-  pub hub : hub_fits x.1.0 x.1.1.0 x.1.1.1.1.1.1.0 ≡ true
-  pub naks : x.1.1.1.1.1.1.1.0.1.1.1.0 ≤ 200
-  pub halt : IfSome x.1.1.1.1.1.1.1.1.0.1 (λ n. 1 ≤ n)
+abbrev pub HubFits : Identity → Type 0
+HubFits identity = hub_fits identity.low identity.descriptor identity.hub ≡ true
 
-abbrev pub named_device : List ℕ → Bool → List ℕ → Texts → Spec
-named_device name low descriptor configs = record (function name descriptor configs) { low = low }
+abbrev pub FewNaks : Quirks → Type 0
+FewNaks quirks = quirks.naks ≤ 200
 
-abbrev pub outer_of : Texts → Bulk → Spec → Spec
-outer_of strings bulk s = record s { strings = strings; source = bulk.0 }
+abbrev pub HaltsLater : Bulk → Type 0
+HaltsLater bulk = IfSome bulk.halt_after (λ n. 1 ≤ n)
 
-unfoldable pub device_from : Parts → Spec
-device_from x =
-    with_halt x.1.1.1.1.1.1.1.1.0.1 (with_quirks x.1.1.1.1.1.1.1.0
-    (outer_of x.1.1.1.1.0 x.1.1.1.1.1.1.1.1.0 (with_hub x.1.1.1.1.1.1.0 (named_device x.0 x.1.0 x.1.1.0 x.1.1.1.0))))
+unfoldable pub identity_with :
+    Result (List ℕ) Kind → Result Bool Kind → Result (List ℕ) Kind → Result (Unit {0}) Kind
+    → Result (Option Hub) Kind → Result Identity Kind
+identity_with name low descriptor class hub = do
+  u ← told (fault_of name ∷ fault_of low ∷ fault_of descriptor ∷ fault_of class ∷ fault_of hub ∷ [])
+  n ← name
+  l ← low
+  d ← descriptor
+  h ← hub
+  Ok (record { name = n; low = l; descriptor = d; hub = h })
 
-unfoldable pub made : Result Parts Kind → Result Spec Kind
-made (Ok x) = Ok (device_from x)
-made (Err k) = Err k
+-- the keys of what a device is, beside the earlier ones
+unfoldable pub identity_of : List Spec → Members → Result Identity Kind
+identity_of earlier ms =
+    identity_with (name_at earlier (get_member (codes "name") ms))
+    (speed_at (get_member (codes "speed") ms))
+    (descriptor_at (get_member (codes "descriptor") ms))
+    (class_at (get_member (codes "ports") ms) (speed_at (get_member (codes "speed") ms))
+    (descriptor_at (get_member (codes "descriptor") ms)))
+    (hub_at (get_member (codes "ports") ms) (get_member (codes "hub_descriptor") ms))
 
--- the parts of the device that a table describes, beside the earlier ones
-unfoldable pub parts_of : List Spec → Members → Result Parts Kind
-parts_of earlier ms =
-    both (name_at earlier (get_member (codes "name") ms))
-    (both (speed_at (get_member (codes "speed") ms))
-    (both (descriptor_at (get_member (codes "descriptor") ms))
-    (both (configs_at (get_member (codes "configs") ms))
-    (both (strings_at (get_member (codes "strings") ms))
-    (both (class_at (get_member (codes "ports") ms) (speed_at (get_member (codes "speed") ms)) (descriptor_at (get_member (codes "descriptor") ms)))
-    (both (hub_at (get_member (codes "ports") ms) (get_member (codes "hub_descriptor") ms))
-    (both (quirks_of ms) (both (bulk_of ms) (both (keys_at device_keys ms) (room earlier))))))))))
+unfoldable pub content_with : Result Texts Kind → Result Texts Kind → Result Content Kind
+content_with configs strings = do
+  u ← told (fault_of configs ∷ fault_of strings ∷ [])
+  c ← configs
+  s ← strings
+  Ok (record { configs = c; strings = s })
+
+-- the keys of the texts that a device gives
+unfoldable pub content_of : Members → Result Content Kind
+content_of ms =
+    content_with (configs_at (get_member (codes "configs") ms))
+    (strings_at (get_member (codes "strings") ms))
+
+abbrev pub named_device : Identity → Content → Spec
+named_device i c = record (function i.name i.descriptor c.configs) { low = i.low }
+
+abbrev pub outer_of : Texts → List ℕ → Spec → Spec
+outer_of strings source s = record s { strings = strings; source = source }
+
+unfoldable pub made : Identity → Content → Quirks → Bulk → Spec
+made identity content quirks bulk =
+    with_halt bulk.halt_after (with_quirks quirks
+    (outer_of content.strings bulk.source (with_hub identity.hub (named_device identity content))))
+
+unfoldable pub device_with :
+    Result Identity Kind → Result Content Kind → Result Quirks Kind → Result Bulk Kind
+    → Result (Unit {0}) Kind → Result (Unit {0}) Kind → Result Spec Kind
+device_with identity content quirks bulk keys room = do
+  u ← told (fault_of identity ∷ fault_of content ∷ fault_of quirks ∷ fault_of bulk
+      ∷ fault_of keys ∷ fault_of room ∷ [])
+  i ← identity
+  c ← content
+  q ← quirks
+  b ← bulk
+  Ok (made i c q b)
 
 -- the device that a table describes, beside the earlier ones
 unfoldable pub device_of : List Spec → Members → Result Spec Kind
-device_of earlier ms = made (parts_of earlier ms)
+device_of earlier ms =
+    device_with (identity_of earlier ms) (content_of ms) (quirks_of ms) (bulk_of ms)
+    (keys_at device_keys ms) (room earlier)
 
 unfoldable pub device_in : List Spec → Option Members → Result Spec Kind
 device_in earlier None = Err BadValue

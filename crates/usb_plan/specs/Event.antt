@@ -6,14 +6,14 @@ use Rattle.usb_plan.specs.declared.kind.Kind.TheVariants.{BadValue}
 use Rattle.usb_plan.specs.declared.verb.Verb.{Verb}
 use Rattle.usb_plan.specs.declared.fault.Place.TheVariants as place
 use Rattle.usb_plan.specs.declared.fault.PlanFault.{PlanFault}
-use Rattle.usb_plan.specs.Kind.{both, placed, ◌>>=◌}
+use Rattle.usb_plan.specs.Kind.{fault_of, told, placed, ◌>>=◌}
 use Rattle.usb_plan.specs.Value.{number_or}
 use Rattle.usb_plan.specs.Verb.{verb_at}
 use Rattle.usb_plan.specs.Action.{action_of, keys_of}
 use Rattle.usb_device.specs.Spec.{Spec}
 use Rattle.usb_world.specs.declared.event.Action.{Action}
 use Rattle.usb_world.specs.declared.event.Event.{Event}
-use Rattle.usb_world.specs.Plugged.{Plugged, plugged}
+use Rattle.usb_world.specs.PluggedDevices.{PluggedMap, plugged_by}
 
 -- the key `after`
 unfoldable pub after_at : Option Data → Result ℕ Kind
@@ -23,32 +23,30 @@ after_at d = number_or 0 0 1000000000 d
 unfoldable pub room : ℕ → Result (Unit {0}) Kind
 room count = if nat_lt count 10000 then Ok tt else Err BadValue
 
-abbrev pub Parts : Type 0
-Parts = Action × (ℕ × (Unit {0} × Unit {0}))
-
-unfoldable pub whole : Result Parts Kind → Result Event Kind
-whole (Ok x) = Ok (record { after = x.1.0; action = x.0 })
-whole (Err k) = Err k
+unfoldable pub event_with :
+    Result Action Kind → Result ℕ Kind → Result (Unit {0}) Kind → Result (Unit {0}) Kind
+    → Result Event Kind
+event_with action after keys room = do
+  u ← told (fault_of action ∷ fault_of after ∷ fault_of keys ∷ fault_of room ∷ [])
+  n ← after
+  a ← action
+  Ok (record { after = n; action = a })
 
 -- the event of a table whose `do` is that verb, where so much is plugged, after so many others
-unfoldable pub event_of : Verb → ℕ → List Spec → Plugged → ℕ → Members → Result Event Kind
+unfoldable pub event_of : Verb → ℕ → List Spec → PluggedMap → ℕ → Members → Result Event Kind
 event_of verb roots devices tree count ms =
-    whole (both (action_of verb roots devices tree ms)
-    (both (after_at (get_member (codes "after") ms))
-    (both (keys_of verb ms) (room count))))
+    event_with (action_of verb roots devices tree ms) (after_at (get_member (codes "after") ms))
+    (keys_of verb ms) (room count)
 
 -- nothing else of an event is looked at where its `do` is absent or unknown
-unfoldable pub event_by : Result Verb Kind → ℕ → List Spec → Plugged → ℕ → Members → Result Event Kind
-event_by (Err k) roots devices tree count ms = Err k
-event_by (Ok verb) roots devices tree count ms = event_of verb roots devices tree count ms
-
-unfoldable pub event_in : ℕ → List Spec → Plugged → ℕ → Option Members → Result Event Kind
+unfoldable pub event_in : ℕ → List Spec → PluggedMap → ℕ → Option Members → Result Event Kind
 event_in roots devices tree count None = Err BadValue
-event_in roots devices tree count (Some ms) = event_by (verb_at (get_member (codes "do") ms)) roots devices tree count ms
+event_in roots devices tree count (Some ms) =
+    verb_at (get_member (codes "do") ms) >>= λ verb. event_of verb roots devices tree count ms
 
 -- the events so far and those of the values; the first is number n
 unfoldable pub events_from : ℕ → List Spec → ℕ → List Event → List Data → Result (List Event) PlanFault
 events_from roots devices n done [] = Ok done
 events_from roots devices n done (d ∷ ds) =
-    placed (place.Event n) (event_in roots devices (plugged [] done) (length done) (as_table d))
+    placed (place.Event n) (event_in roots devices (plugged_by [] done) (length done) (as_table d))
     >>= λ e. events_from roots devices (n + 1) (done ++ e ∷ []) ds

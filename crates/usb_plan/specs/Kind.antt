@@ -1,13 +1,14 @@
 -- The fault of an entry is the one of least number.
-use Rattle.std.specs.Prelude.{ℕ, Result, Ok, Err, nat_le, if◌then◌else◌}
+use Rattle.std.specs.Prelude.{◌≡◌, ◌≢◌, ℕ, List, [], ◌∷◌, Option, Some, None, Result, Ok, Err, nat_le, if◌then◌else◌}
 use Rattle.usb_plan.specs.declared.fault.Place.{Place}
 use Rattle.usb_plan.specs.declared.fault.PlanFault.{PlanFault}
 use Rattle.usb_plan.specs.declared.fault.PlanFault.TheVariants as fault
 use Rattle.usb_plan.specs.declared.kind.Kind.{Kind}
-use Rattle.usb_plan.specs.declared.kind.Kind.TheVariants.{MissingKey, BadValue, BadHex, UnknownDevice, BadPath, PortTaken, PortEmpty}
+use Rattle.usb_plan.specs.declared.kind.Kind.TheVariants.{Memory, MissingKey, BadValue, BadHex, UnknownDevice, BadPath, PortTaken, PortEmpty}
 
--- the number of a fault
+-- the number of a fault; refused memory comes before all
 abbrev pub rank : Kind → ℕ
+rank Memory = 0
 rank MissingKey = 2
 rank BadValue = 3
 rank BadHex = 4
@@ -19,14 +20,24 @@ rank PortEmpty = 8
 unfoldable pub least : Kind → Kind → Kind
 least a b = if nat_le (rank a) (rank b) then a else b
 
--- both parts of an entry, or the fault of least number
-unfoldable pub both : {A B : Type 0} → Result A Kind → Result B Kind → Result (A × B) Kind
-both (Ok a) (Ok b) = Ok (a, b)
-both (Ok a) (Err k) = Err k
-both (Err k) (Ok b) = Err k
-both (Err k) (Err l) = Err (least k l)
+-- the fault of a part
+unfoldable pub fault_of : {A : Type 0} → Result A Kind → Option Kind
+fault_of (Ok a) = None
+fault_of (Err k) = Some k
+
+-- a fault beside what is told of others
+unfoldable pub sooner : Option Kind → Result (Unit {0}) Kind → Result (Unit {0}) Kind
+sooner None others = others
+sooner (Some k) (Ok u) = Err k
+sooner (Some k) (Err l) = Err (least k l)
+
+-- of these faults the one of least number is told
+unfoldable pub told : List (Option Kind) → Result (Unit {0}) Kind
+told [] = Ok tt
+told (fault ∷ faults) = sooner fault (told faults)
 
 unfoldable pub at : Place → Kind → PlanFault
+at place Memory = fault.Memory
 at place MissingKey = fault.MissingKey place
 at place BadValue = fault.BadValue place
 at place BadHex = fault.BadHex place
@@ -41,6 +52,11 @@ placed place (Ok a) = Ok a
 placed place (Err k) = Err (at place k)
 
 infixl 10 ◌>>=◌
-abbrev pub ◌>>=◌ : {A B : Type 0} → Result A PlanFault → (A → Result B PlanFault) → Result B PlanFault
+abbrev pub ◌>>=◌ : {A B E : Type 0} → Result A E → (A → Result B E) → Result B E
 (Ok x) >>= f = f x
 (Err e) >>= f = Err e
+
+-- what was read is what is spelled, but where this error says that memory was refused
+abbrev pub EqualUnless : {A E : Type 0} → E → Result A E → Result A E → Type 0
+EqualUnless memory (Ok x) spelled = spelled ≡ Ok x
+EqualUnless memory (Err e) spelled = e ≢ memory → spelled ≡ Err e

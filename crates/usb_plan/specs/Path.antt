@@ -5,7 +5,7 @@ use Rattle.usb_port.specs.Path.{path_of}
 use Rattle.usb_plan.specs.declared.kind.Kind.{Kind}
 use Rattle.usb_plan.specs.declared.kind.Kind.TheVariants.{MissingKey, BadValue, BadPath, PortTaken, PortEmpty}
 use Rattle.usb_device.specs.Spec.{Spec}
-use Rattle.usb_world.specs.Plugged.{Plugged, is_rooted, has_port}
+use Rattle.usb_world.specs.PluggedDevices.{PluggedMap, is_rooted, has_port}
 use Rattle.usb_world.specs.PlanData.{is_taken}
 
 unfoldable pub rooted : ℕ → Option (List ℕ) → Result (List ℕ) Kind
@@ -22,12 +22,12 @@ path_at roots None = Err MissingKey
 path_at roots (Some d) = path_in roots (as_str d)
 
 -- a path where there is a port, and nothing is plugged
-unfoldable pub free : ℕ → List Spec → Plugged → Result (List ℕ) Kind → Result (List ℕ) Kind
+unfoldable pub free : ℕ → List Spec → PluggedMap → Result (List ℕ) Kind → Result (List ℕ) Kind
 free roots devices tree (Err k) = Err k
 free roots devices tree (Ok path) =
     if has_port roots devices tree path then (if is_taken tree path then Err PortTaken else Ok path) else Err BadPath
 
 -- a path where something is plugged
-unfoldable pub taken : Plugged → Result (List ℕ) Kind → Result (List ℕ) Kind
+unfoldable pub taken : PluggedMap → Result (List ℕ) Kind → Result (List ℕ) Kind
 taken tree (Err k) = Err k
 taken tree (Ok path) = if is_taken tree path then Ok path else Err PortEmpty

@@ -5,10 +5,11 @@ use Rattle.toml.specs.Data.{Data, Items, Members, get_member, as_array, as_table
 use Rattle.toml.specs.Parse.{parse_document}
 use Rattle.usb_plan.specs.declared.kind.Kind.{Kind}
 use Rattle.usb_plan.specs.declared.kind.Kind.TheVariants.{BadValue}
-use Rattle.usb_plan.specs.declared.fault.Place.TheVariants.{Top}
+use Rattle.usb_plan.specs.declared.fault.Place.TheVariants as place
 use Rattle.usb_plan.specs.declared.fault.PlanFault.{PlanFault}
 use Rattle.usb_plan.specs.declared.fault.PlanFault.TheVariants as fault
-use Rattle.usb_plan.specs.Kind.{both, placed, ◌>>=◌}
+use Rattle.usb_plan.specs.declared.plan.Top.{Top}
+use Rattle.usb_plan.specs.Kind.{fault_of, told, placed, ◌>>=◌}
 use Rattle.usb_plan.specs.Keys.{keys_at}
 use Rattle.usb_plan.specs.Value.{number_at, data_list}
 use Rattle.usb_plan.specs.Device.{devices_from}
@@ -48,36 +49,47 @@ values_at (Some d) = values_in (as_array d)
 abbrev pub top_keys : List (List ℕ)
 top_keys = codes "limit" ∷ codes "roots" ∷ codes "device" ∷ codes "event" ∷ codes "damage" ∷ []
 
-abbrev pub TopParts : Type 0
-TopParts = ℕ × (ℕ × (Unit {0} × (Unit {0} × (Unit {0} × Unit {0}))))
-
-unfoldable pub top_of : Members → Result TopParts Kind
-top_of ms =
-    both (limit_at (get_member (codes "limit") ms))
-    (both (roots_at (get_member (codes "roots") ms))
-    (both (entries_at (get_member (codes "device") ms))
-    (both (entries_at (get_member (codes "event") ms))
-    (both (entries_at (get_member (codes "damage") ms)) (keys_at top_keys ms)))))
+unfoldable pub top_with :
+    Result ℕ Kind → Result ℕ Kind → Result (Unit {0}) Kind → Result (Unit {0}) Kind
+    → Result (Unit {0}) Kind → Result (Unit {0}) Kind → Result Top Kind
+top_with limit roots devices events damages keys = do
+  u ← told (fault_of limit ∷ fault_of roots ∷ fault_of devices ∷ fault_of events
+      ∷ fault_of damages ∷ fault_of keys ∷ [])
+  l ← limit
+  r ← roots
+  Ok (record { limit = l; roots = r })
 
 -- the numbers at the top
-pub record TopFits (l r : ℕ) : Type 0 where
-  pub limit : l ≤ 100000000000000
-  pub some_root : 1 ≤ r
-  pub few_roots : r ≤ 7
+unfoldable pub top_of : Members → Result Top Kind
+top_of ms =
+    top_with (limit_at (get_member (codes "limit") ms))
+    (roots_at (get_member (codes "roots") ms))
+    (entries_at (get_member (codes "device") ms))
+    (entries_at (get_member (codes "event") ms))
+    (entries_at (get_member (codes "damage") ms))
+    (keys_at top_keys ms)
+
+-- what the type of a plan asks of them
+pub record TopFits (top : Top) : Type 0 where
+  pub limit : top.limit ≤ 100000000000000
+  pub some_root : 1 ≤ top.roots
+  pub few_roots : top.roots ≤ 7
 
 -- devices come first, then events, then damages
-unfoldable pub plan_with : ℕ → ℕ → List Data → List Data → List Data → Result PlanData PlanFault
-plan_with limit roots devices events damages = do
+unfoldable pub plan_with : Top → List Data → List Data → List Data → Result PlanData PlanFault
+plan_with top devices events damages = do
   specs ← devices_from 1 [] devices
-  done ← events_from roots specs 1 [] events
+  done ← events_from top.roots specs 1 [] events
   harms ← damages_from 1 [] damages
-  Ok (record { limit = limit; roots = roots; devices = specs; events = done; damages = harms })
+  Ok (record { limit = top.limit; roots = top.roots; devices = specs; events = done; damages = harms })
 
 -- the plan that a table describes: top, devices, events, damages
 unfoldable pub plan_of : Members → Result PlanData PlanFault
 plan_of ms =
-    placed Top (top_of ms)
-    >>= λ top. plan_with top.0 top.1.0 (values_at (get_member (codes "device") ms)) (values_at (get_member (codes "event") ms)) (values_at (get_member (codes "damage") ms))
+    placed place.Top (top_of ms)
+    >>= λ top. plan_with top (values_at (get_member (codes "device") ms))
+    (values_at (get_member (codes "event") ms))
+    (values_at (get_member (codes "damage") ms))
 
 unfoldable pub read : Option Members → Result PlanData PlanFault
 read None = Err fault.Syntax

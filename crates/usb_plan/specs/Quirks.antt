@@ -1,10 +1,11 @@
 -- The keys of what a device does otherwise than others.
-use Rattle.std.specs.Prelude.{ℕ, codes, List, Bool, false, ◌||◌, Option, Some, None, Result, Ok, Err, if◌then◌else◌}
+use Rattle.std.specs.Prelude.{ℕ, codes, List, [], ◌∷◌, Bool, false, ◌||◌, Option, Some, None, Result, Ok, Err, if◌then◌else◌}
 use Rattle.std.specs.List.{list_any, list_all}
 use Rattle.toml.specs.Data.{Data, Items, Members, get_member, as_bool, as_str, as_array}
 use Rattle.usb_plan.specs.declared.kind.Kind.{Kind}
 use Rattle.usb_plan.specs.declared.kind.Kind.TheVariants.{BadValue}
-use Rattle.usb_plan.specs.Kind.{both}
+use Rattle.usb_plan.specs.declared.quirks.Quirks.{Quirks}
+use Rattle.usb_plan.specs.Kind.{fault_of, told, ◌>>=◌}
 use Rattle.usb_plan.specs.Value.{number_or, data_list, is_word}
 use Rattle.usb_device.specs.Spec.{no_stalls}
 use Rattle.usb_device.specs.declared.spec.Stalls.{Stalls}
@@ -52,12 +53,24 @@ unfoldable pub stalls_at : Option Data → Result Stalls Kind
 stalls_at None = Ok no_stalls
 stalls_at (Some d) = stalls_in (as_array d)
 
-abbrev pub Quirks : Type 0
-Quirks = Bool × (Bool × (Bool × (ℕ × Stalls)))
+unfoldable pub quirks_with :
+    Result Bool Kind → Result Bool Kind → Result Bool Kind → Result ℕ Kind → Result Stalls Kind
+    → Result Quirks Kind
+quirks_with self_powered busy silent naks stalls = do
+  u ← told (fault_of self_powered ∷ fault_of busy ∷ fault_of silent ∷ fault_of naks
+      ∷ fault_of stalls ∷ [])
+  powered ← self_powered
+  is_busy ← busy
+  is_silent ← silent
+  count ← naks
+  refused ← stalls
+  Ok (record { self_powered = powered; busy = is_busy; silent = is_silent; naks = count; stalls = refused })
 
+-- the keys of what a device does otherwise than others
 unfoldable pub quirks_of : Members → Result Quirks Kind
 quirks_of ms =
-    both (flag_at (get_member (codes "self_powered") ms))
-    (both (flag_at (get_member (codes "busy") ms))
-    (both (flag_at (get_member (codes "silent") ms))
-    (both (naks_at (get_member (codes "naks") ms)) (stalls_at (get_member (codes "stalls") ms)))))
+    quirks_with (flag_at (get_member (codes "self_powered") ms))
+    (flag_at (get_member (codes "busy") ms))
+    (flag_at (get_member (codes "silent") ms))
+    (naks_at (get_member (codes "naks") ms))
+    (stalls_at (get_member (codes "stalls") ms))

@@ -1,17 +1,19 @@
 //! What an event does, by the keys that go with its `do`.
 
-ghost use Rattle.std.specs.Prelude.{◌≡◌, ◌≤◌, IfOk, option_map, position};
+ghost use Rattle.std.specs.Prelude.{◌≡◌, ◌≤◌, option_map, position};
 ghost use Rattle.std.specs.Str.{bytes_eq};
 ghost use Rattle.toml.specs.View.{view, table_view};
-ghost use Rattle.usb_plan.specs.Action.{known, device_named, device_at, bytes_at, packets_at, plug, unplug, send, receive, clear, plug_of, unplug_of, send_of, receive_of, clear_of, action_of, keys_of};
+ghost use Rattle.usb_plan.specs.Action.{known, device_named, device_at, bytes_at, packets_at, plug, send, receive, plug_of, unplug_of, send_of, receive_of, clear_of, action_of, keys_of};
+ghost use Rattle.usb_plan.specs.Kind.{EqualUnless};
+ghost use Rattle.usb_plan.specs.declared.kind.Kind.TheVariants.{Memory};
 
 use crate::keys::keys_at;
-use crate::kind::{Kind, both};
+use crate::kind::{Kind, fault_of, told};
 use crate::path::{free, path_at, taken};
 use crate::tree::Tree;
 use crate::value::{number_at, sent_in, value_at};
 use crate::verb::Verb;
-use std::alloc::{AllocError, Global};
+use std::alloc::Global;
 use toml::{Table, Value};
 use usb_device::DeviceSpec;
 use usb_port::PortPath;
@@ -21,10 +23,7 @@ use usb_world::{Action, SentBytes};
 fn known(index: Option<usize>) -> Result<usize, Kind>
     ensures { result ≡ known index }
 {
-    match index {
-        None => Err(Kind::UnknownDevice),
-        Some(index) => Ok(index),
-    }
+    index.ok_or(Kind::UnknownDevice)
 }
 
 /// The index of the device of a name.
@@ -57,11 +56,11 @@ fn device_at(devices: &[DeviceSpec], value: Option<&Value>) -> Result<usize, Kin
 
 /// The key `bytes`.
 #[tactic(auto, unfolding(crate::specs::Action::bytes_at))]
-fn bytes_at(alloc: Global, value: Option<&Value>) -> Result<Result<SentBytes, Kind>, AllocError>
-    ensures { IfOk result (λ r. r ≡ bytes_at (option_map (λ v. view v.now) value.entry)) }
+fn bytes_at(alloc: Global, value: Option<&Value>) -> Result<SentBytes, Kind>
+    ensures { EqualUnless Memory result (bytes_at (option_map (λ v. view v.now) value.entry)) }
 {
     match value {
-        None => Ok(Err(Kind::MissingKey)),
+        None => Err(Kind::MissingKey),
         Some(value) => sent_in(alloc, value),
     }
 }
@@ -71,60 +70,32 @@ fn bytes_at(alloc: Global, value: Option<&Value>) -> Result<Result<SentBytes, Ki
 fn packets_at(value: Option<&Value>) -> Result<u16, Kind>
     ensures { result ≡ packets_at (option_map (λ v. view v.now) value.entry) }
 {
-    match number_at(0, 1000, value) {
-        Ok(packets) => Ok(packets as u16),
-        Err(kind) => Err(kind),
-    }
+    let packets = number_at(0, 1000, value)?;
+    Ok(packets as u16)
 }
 
 #[tactic(auto, unfolding(crate::specs::Action::plug))]
-fn plug(parts: Result<(PortPath, usize), Kind>) -> Result<Action, Kind>
-    ensures { result ≡ plug parts }
+fn plug(path: Result<PortPath, Kind>, device: Result<usize, Kind>) -> Result<Action, Kind>
+    ensures { result ≡ plug path device }
 {
-    match parts {
-        Ok((path, device)) => Ok(Action::Plug(path, device)),
-        Err(kind) => Err(kind),
-    }
-}
-
-#[tactic(auto, unfolding(crate::specs::Action::unplug))]
-fn unplug(path: Result<PortPath, Kind>) -> Result<Action, Kind>
-    ensures { result ≡ unplug path }
-{
-    match path {
-        Ok(path) => Ok(Action::Unplug(path)),
-        Err(kind) => Err(kind),
-    }
+    told(&[fault_of(&path), fault_of(&device)])?;
+    Ok(Action::Plug(path?, device?))
 }
 
 #[tactic(auto, unfolding(crate::specs::Action::send))]
-fn send(parts: Result<(PortPath, SentBytes), Kind>) -> Result<Action, Kind>
-    ensures { result ≡ send parts }
+fn send(path: Result<PortPath, Kind>, bytes: Result<SentBytes, Kind>) -> Result<Action, Kind>
+    ensures { result ≡ send path bytes }
 {
-    match parts {
-        Ok((path, bytes)) => Ok(Action::Send(path, bytes)),
-        Err(kind) => Err(kind),
-    }
+    told(&[fault_of(&path), fault_of(&bytes)])?;
+    Ok(Action::Send(path?, bytes?))
 }
 
 #[tactic(auto, unfolding(crate::specs::Action::receive))]
-fn receive(parts: Result<(PortPath, u16), Kind>) -> Result<Action, Kind>
-    ensures { result ≡ receive parts }
+fn receive(path: Result<PortPath, Kind>, packets: Result<u16, Kind>) -> Result<Action, Kind>
+    ensures { result ≡ receive path packets }
 {
-    match parts {
-        Ok((path, packets)) => Ok(Action::Receive(path, packets)),
-        Err(kind) => Err(kind),
-    }
-}
-
-#[tactic(auto, unfolding(crate::specs::Action::clear))]
-fn clear(path: Result<PortPath, Kind>) -> Result<Action, Kind>
-    ensures { result ≡ clear path }
-{
-    match path {
-        Ok(path) => Ok(Action::Clear(path)),
-        Err(kind) => Err(kind),
-    }
+    told(&[fault_of(&path), fault_of(&packets)])?;
+    Ok(Action::Receive(path?, packets?))
 }
 
 #[tactic(auto, unfolding(crate::specs::Action::plug_of))]
@@ -133,23 +104,24 @@ fn plug_of(roots: u8, devices: &[DeviceSpec], tree: &Tree, table: &Table) -> Res
 {
     let path = path_at(roots, value_at(table, "path"));
     let device = device_at(devices, value_at(table, "device"));
-    plug(both(free(roots, devices, tree, path), device))
+    plug(free(roots, devices, tree, path), device)
 }
 
 #[tactic(auto, unfolding(crate::specs::Action::unplug_of))]
 fn unplug_of(roots: u8, tree: &Tree, table: &Table) -> Result<Action, Kind>
     ensures { result ≡ unplug_of roots tree.now (table_view table.now) }
 {
-    unplug(taken(tree, path_at(roots, value_at(table, "path"))))
+    let path = taken(tree, path_at(roots, value_at(table, "path")))?;
+    Ok(Action::Unplug(path))
 }
 
-#[tactic(auto, unfolding(crate::specs::Action::send_of))]
-fn send_of(alloc: Global, roots: u8, table: &Table) -> Result<Result<Action, Kind>, AllocError>
-    ensures { IfOk result (λ r. r ≡ send_of roots (table_view table.now)) }
+#[tactic(auto, using(crate::proofs::Unless::send_unless), unfolding(crate::specs::Action::send_of))]
+fn send_of(alloc: Global, roots: u8, table: &Table) -> Result<Action, Kind>
+    ensures { EqualUnless Memory result (send_of roots (table_view table.now)) }
 {
     let path = path_at(roots, value_at(table, "path"));
-    let bytes = bytes_at(alloc, value_at(table, "bytes"))?;
-    Ok(send(both(path, bytes)))
+    let bytes = bytes_at(alloc, value_at(table, "bytes"));
+    send(path, bytes)
 }
 
 #[tactic(auto, unfolding(crate::specs::Action::receive_of))]
@@ -158,14 +130,15 @@ fn receive_of(roots: u8, table: &Table) -> Result<Action, Kind>
 {
     let path = path_at(roots, value_at(table, "path"));
     let packets = packets_at(value_at(table, "packets"));
-    receive(both(path, packets))
+    receive(path, packets)
 }
 
 #[tactic(auto, unfolding(crate::specs::Action::clear_of))]
 fn clear_of(roots: u8, table: &Table) -> Result<Action, Kind>
     ensures { result ≡ clear_of roots (table_view table.now) }
 {
-    clear(path_at(roots, value_at(table, "path")))
+    let path = path_at(roots, value_at(table, "path"))?;
+    Ok(Action::Clear(path))
 }
 
 /// What the event of a table does, where so much is plugged.
@@ -177,18 +150,18 @@ pub(crate) fn action_of(
     devices: &[DeviceSpec],
     tree: &Tree,
     table: &Table,
-) -> Result<Result<Action, Kind>, AllocError>
-    ensures { IfOk result
-        (λ r. r ≡ action_of verb roots devices.now tree.now (table_view table.now)) }
+) -> Result<Action, Kind>
+    ensures { EqualUnless Memory result
+        (action_of verb roots devices.now tree.now (table_view table.now)) }
 {
-    Ok(match verb {
+    match verb {
         Verb::Plug => plug_of(roots, devices, tree, table),
         Verb::Unplug => unplug_of(roots, tree, table),
         Verb::Show => Ok(Action::Show),
-        Verb::Send => send_of(alloc, roots, table)?,
+        Verb::Send => send_of(alloc, roots, table),
         Verb::Receive => receive_of(roots, table),
         Verb::Clear => clear_of(roots, table),
-    })
+    }
 }
 
 /// Refuses a table with a key that does not go with its `do`.

@@ -1,22 +1,24 @@
 //! The keys of a device's bulk endpoints.
 
-ghost use Rattle.std.specs.Prelude.{◌≡◌, ◌≤◌, IfOk, option_map};
+ghost use Rattle.std.specs.Prelude.{◌≡◌, ◌≤◌, option_map};
 ghost use Rattle.toml.specs.View.{view, table_view};
-ghost use Rattle.usb_plan.specs.Bulk.{source_at, halt_in, halt_at, bulk_of};
+ghost use Rattle.usb_plan.specs.Kind.{EqualUnless};
+ghost use Rattle.usb_plan.specs.Bulk.{source_at, halt_in, halt_at, bulk_with, bulk_of};
+ghost use Rattle.usb_plan.specs.declared.kind.Kind.TheVariants.{Memory};
 
-use crate::kind::{Kind, both};
+use crate::kind::{Kind, fault_of, told};
 use crate::value::{hex_in, number_in, value_at};
-use std::alloc::{AllocError, Global};
+use std::alloc::Global;
 use toml::{Table, Value};
 use usb_device::Bytes;
 
 /// The key `source`, which may be absent.
 #[tactic(auto, unfolding(crate::specs::Bulk::source_at))]
-fn source_at(alloc: Global, value: Option<&Value>) -> Result<Result<Bytes<65535>, Kind>, AllocError>
-    ensures { IfOk result (λ r. r ≡ source_at (option_map (λ v. view v.now) value.entry)) }
+fn source_at(alloc: Global, value: Option<&Value>) -> Result<Bytes<65535>, Kind>
+    ensures { EqualUnless Memory result (source_at (option_map (λ v. view v.now) value.entry)) }
 {
     match value {
-        None => Ok(Ok(Bytes::new(Vec::new(alloc)))),
+        None => Ok(Bytes::new(Vec::new(alloc))),
         Some(value) => hex_in::<65535>(alloc, value),
     }
 }
@@ -25,10 +27,8 @@ fn source_at(alloc: Global, value: Option<&Value>) -> Result<Result<Bytes<65535>
 fn halt_in(number: Option<i64>) -> Result<Option<u16>, Kind>
     ensures { result ≡ halt_in number }
 {
-    match number_in(1, 65535, number) {
-        Ok(packets) => Ok(Some(packets as u16)),
-        Err(kind) => Err(kind),
-    }
+    let packets = number_in(1, 65535, number)?;
+    Ok(Some(packets as u16))
 }
 
 /// The key `halt_after`, which may be absent.
@@ -42,14 +42,35 @@ fn halt_at(value: Option<&Value>) -> Result<Option<u16>, Kind>
     }
 }
 
-/// What bulk IN gives, and after how many packets bulk OUT halts.
-pub(crate) type Bulk = (Bytes<65535>, Option<u16>);
+/// What a device's bulk endpoints do.
+#[derive(Drop)]
+pub(crate) struct Bulk {
+    /// What bulk IN gives.
+    pub(crate) source: Bytes<65535>,
+    /// After how many packets bulk OUT halts.
+    pub(crate) halt_after: Option<u16>,
+}
 
-#[tactic(auto, unfolding(crate::specs::Bulk::bulk_of))]
-pub(crate) fn bulk_of(alloc: Global, table: &Table) -> Result<Result<Bulk, Kind>, AllocError>
-    ensures { IfOk result (λ r. r ≡ bulk_of (table_view table.now)) }
+#[tactic(auto, unfolding(crate::specs::Bulk::bulk_with))]
+fn bulk_with(
+    source: Result<Bytes<65535>, Kind>,
+    halt_after: Result<Option<u16>, Kind>,
+) -> Result<Bulk, Kind>
+    ensures { result ≡ bulk_with source halt_after }
 {
-    let source = source_at(alloc, value_at(table, "source"))?;
+    told(&[fault_of(&source), fault_of(&halt_after)])?;
+    Ok(Bulk {
+        source: source?,
+        halt_after: halt_after?,
+    })
+}
+
+/// The keys of bulk endpoints.
+#[tactic(auto, using(crate::proofs::Unless::bulk_unless), unfolding(crate::specs::Bulk::bulk_of))]
+pub(crate) fn bulk_of(alloc: Global, table: &Table) -> Result<Bulk, Kind>
+    ensures { EqualUnless Memory result (bulk_of (table_view table.now)) }
+{
+    let source = source_at(alloc, value_at(table, "source"));
     let halt_after = halt_at(value_at(table, "halt_after"));
-    Ok(both(source, halt_after))
+    bulk_with(source, halt_after)
 }

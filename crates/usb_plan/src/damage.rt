@@ -3,13 +3,15 @@
 ghost use Rattle.std.specs.Prelude.{◌≡◌, ◌≤◌, ◌<◌, IfOk, option_map, map, Ok, [], true, length};
 ghost use Rattle.toml.specs.View.{view, table_view};
 ghost use Rattle.usb_world.specs.PlanData.{damages_fit};
-ghost use Rattle.usb_plan.specs.Damage.{attempt_at, packet_at, way_named, way_in, way_at, no_bit, flipped, harm_of, harm_by, room, whole, damage_of, damage_in, damages_from};
+ghost use Rattle.usb_plan.specs.Kind.{EqualUnless};
+ghost use Rattle.usb_plan.specs.declared.fault.PlanFault.TheVariants.{Memory as NoMemory};
+ghost use Rattle.usb_plan.specs.Damage.{attempt_at, packet_at, way_named, way_in, way_at, no_bit, flipped, harm_of, harm_by, room, damage_with, damage_of, damage_in, damages_from};
 
 use crate::fault::{Place, PlanFault};
 use crate::keys::keys_at;
-use crate::kind::{Kind, both, placed};
+use crate::kind::{Kind, fault_of, placed, told};
 use crate::value::{number_at, value_at};
-use std::alloc::{AllocError, Global};
+use std::alloc::Global;
 use toml::{Table, Value};
 use usb_world::{Damage, Damages, Harm};
 
@@ -27,10 +29,8 @@ fn attempt_at(last: u64, value: Option<&Value>) -> Result<u64, Kind>
 fn packet_at(value: Option<&Value>) -> Result<u8, Kind>
     ensures { result ≡ packet_at (option_map (λ v. view v.now) value.entry) }
 {
-    match number_at(1, 3, value) {
-        Ok(packet) => Ok(packet as u8),
-        Err(kind) => Err(kind),
-    }
+    let packet = number_at(1, 3, value)?;
+    Ok(packet as u8)
 }
 
 /// How a packet is damaged.
@@ -93,10 +93,8 @@ fn no_bit(harm: Harm, bit: Option<&Value>) -> Result<Harm, Kind>
 fn flipped(bit: Option<&Value>) -> Result<Harm, Kind>
     ensures { result ≡ flipped (option_map (λ v. view v.now) bit.entry) }
 {
-    match number_at(0, 535, bit) {
-        Ok(bit) => Ok(Harm::Flip(bit as u16)),
-        Err(kind) => Err(kind),
-    }
+    let bit = number_at(0, 535, bit)?;
+    Ok(Harm::Flip(bit as u16))
 }
 
 #[tactic(auto, unfolding(crate::specs::Damage::harm_of))]
@@ -115,10 +113,7 @@ fn harm_of(way: Way, bit: Option<&Value>) -> Result<Harm, Kind>
 fn harm_by(way: Result<Way, Kind>, bit: Option<&Value>) -> Result<Harm, Kind>
     ensures { result ≡ harm_by way (option_map (λ v. view v.now) bit.entry) }
 {
-    match way {
-        Err(kind) => Err(kind),
-        Ok(way) => harm_of(way, bit),
-    }
+    harm_of(way?, bit)
 }
 
 /// Refuses an entry after the most that a plan may have.
@@ -133,20 +128,28 @@ fn room(count: usize) -> Result<(), Kind>
     }
 }
 
-type Parts = (u64, (u8, (Harm, ((), ()))));
-
-#[tactic(auto, unfolding(crate::specs::Damage::whole))]
-fn whole(parts: Result<Parts, Kind>) -> Result<Damage, Kind>
-    ensures { result ≡ whole parts }
+#[tactic(auto, unfolding(crate::specs::Damage::damage_with))]
+fn damage_with(
+    attempt: Result<u64, Kind>,
+    packet: Result<u8, Kind>,
+    harm: Result<Harm, Kind>,
+    keys: Result<(), Kind>,
+    room: Result<(), Kind>,
+) -> Result<Damage, Kind>
+    ensures { result ≡ damage_with attempt packet harm keys room }
 {
-    match parts {
-        Ok((attempt, (packet, (harm, _)))) => Ok(Damage {
-            attempt,
-            packet,
-            harm,
-        }),
-        Err(kind) => Err(kind),
-    }
+    told(&[
+        fault_of(&attempt),
+        fault_of(&packet),
+        fault_of(&harm),
+        fault_of(&keys),
+        fault_of(&room),
+    ])?;
+    Ok(Damage {
+        attempt: attempt?,
+        packet: packet?,
+        harm: harm?,
+    })
 }
 
 /// The damage that a table describes, after so many others.
@@ -159,7 +162,7 @@ fn damage_of(last: u64, count: usize, table: &Table) -> Result<Damage, Kind>
     let packet = packet_at(value_at(table, "packet"));
     let harm = harm_by(way_at(value_at(table, "how")), value_at(table, "bit"));
     let keys = keys_at(table, &["attempt", "packet", "how", "bit"]);
-    whole(both(attempt, both(packet, both(harm, both(keys, room(count))))))
+    damage_with(attempt, packet, harm, keys, room(count))
 }
 
 #[tactic(auto, unfolding(crate::specs::Damage::damage_in))]
@@ -174,24 +177,17 @@ fn damage_in(last: u64, count: usize, table: Option<&Table>) -> Result<Damage, K
 }
 
 /// The damages that the values describe, or the first fault.
-pub(crate) fn damages_of(
-    alloc: Global,
-    values: &[Value],
-) -> Result<Result<Damages, PlanFault>, AllocError>
-    ensures value { IfOk result (λ r. r ≡ damages_from 1 [] (map view values.now)) }
-    ensures fit { IfOk result (λ r. IfOk r (λ damages. damages_fit 0 damages ≡ true)) }
+pub(crate) fn damages_of(alloc: Global, values: &[Value]) -> Result<Damages, PlanFault>
+    ensures value { EqualUnless NoMemory result (damages_from 1 [] (map view values.now)) }
+    ensures fit { IfOk result (λ damages. damages_fit 0 damages ≡ true) }
 {
     let mut done = Damages::new(alloc);
     let mut last: u64 = 0;
     for (i, value) in values.iter().enumerate() {
-        let damage = damage_in(last, done.as_slice().len(), value.as_table());
-        match placed(Place::Damage(i + 1), damage) {
-            Err(fault) => return Ok(Err(fault)),
-            Ok(damage) => {
-                last = damage.attempt;
-                done.push(damage)?;
-            }
-        }
+        let read = damage_in(last, done.as_slice().len(), value.as_table());
+        let damage = placed(Place::Damage(i + 1), read)?;
+        last = damage.attempt;
+        done.push(damage)?;
     }
-    Ok(Ok(done))
+    Ok(done)
 }

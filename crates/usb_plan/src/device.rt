@@ -1,55 +1,51 @@
 //! The `device` entries of the document.
 
-ghost use Rattle.std.specs.Prelude.{◌≡◌, ◌<◌, ◌≤◌, codes, ◌∷◌, [], Ok, IfOk, IfSome, OnOk, option_map, map, length, true};
+ghost use Rattle.std.specs.Prelude.{◌≡◌, ◌<◌, ◌≤◌, codes, ◌∷◌, [], IfSome, OnOk, option_map, map, length, true};
 ghost use Rattle.std.specs.Result.{ForOk};
 ghost use Rattle.toml.specs.Data.{get_member, as_str, as_array};
 ghost use Rattle.toml.specs.View.{view, table_view, array_view};
 ghost use Rattle.usb_device.specs.Spec.{hub_fits};
-ghost use Rattle.usb_plan.specs.Device.{name_in, name_at, speed_in, speed_at, descriptor_at, configs_at, strings_at, room, with_quirks, with_halt, with_hub, PartsFit, device_from, made, parts_of, device_of, device_in, devices_from};
+ghost use Rattle.usb_plan.specs.Kind.{EqualUnless};
+ghost use Rattle.usb_plan.specs.declared.kind.Kind.TheVariants.{Memory};
+ghost use Rattle.usb_plan.specs.declared.fault.PlanFault.TheVariants.{Memory as NoMemory};
+ghost use Rattle.usb_plan.specs.Device.{name_in, name_at, speed_in, speed_at, descriptor_at, configs_at, strings_at, room, with_quirks, with_halt, with_hub, HubFits, FewNaks, HaltsLater, identity_with, identity_of, content_with, content_of, made, device_with, device_of, device_in, devices_from};
 
 use crate::bulk::{Bulk, bulk_of};
 use crate::fault::{Place, PlanFault};
 use crate::hub::{class_at, hub_at};
 use crate::keys::keys_at;
-use crate::kind::{Kind, both, placed};
+use crate::kind::{Kind, fault_of, placed, told};
 use crate::quirks::{Quirks, quirks_of};
 use crate::texts::texts_in;
 use crate::value::{hex_in, is_word, value_at};
-use std::alloc::{AllocError, Global};
+use std::alloc::Global;
 use toml::{Table, Value};
 use usb_device::{Bytes, ConfigTexts, DeviceSpec, Devices, HubSpec, Name, StringTexts};
 
 /// A name that is not empty and that no earlier device has.
 #[tactic(auto, unfolding(crate::specs::Device::name_in))]
-fn name_in(
-    alloc: Global,
-    earlier: &Devices,
-    text: Option<&str>,
-) -> Result<Result<Name, Kind>, AllocError>
-    ensures { IfOk result (λ r. r ≡ name_in earlier.now (option_map (λ t. t.now) text.entry)) }
+fn name_in(alloc: Global, earlier: &Devices, text: Option<&str>) -> Result<Name, Kind>
+    ensures { EqualUnless Memory result (name_in earlier.now (option_map (λ t. t.now) text.entry)) }
 {
     match text {
-        None => Ok(Err(Kind::BadValue)),
+        None => Err(Kind::BadValue),
         Some(text) => {
             if text.is_empty() || earlier.is_named(text) {
-                return Ok(Err(Kind::BadValue));
+                return Err(Kind::BadValue);
             }
-            Ok(Ok(Name::new(String::from_str(alloc, text)?)))
+            Ok(Name::new(String::from_str(alloc, text)?))
         }
     }
 }
 
 /// The key `name`.
 #[tactic(auto, unfolding(crate::specs::Device::name_at))]
-fn name_at(
-    alloc: Global,
-    earlier: &Devices,
-    value: Option<&Value>,
-) -> Result<Result<Name, Kind>, AllocError>
-    ensures { IfOk result (λ r. r ≡ name_at earlier.now (option_map (λ v. view v.now) value.entry)) }
+fn name_at(alloc: Global, earlier: &Devices, value: Option<&Value>) -> Result<Name, Kind>
+    ensures { EqualUnless Memory result
+        (name_at earlier.now (option_map (λ v. view v.now) value.entry)) }
 {
     match value {
-        None => Ok(Err(Kind::MissingKey)),
+        None => Err(Kind::MissingKey),
         Some(value) => name_in(alloc, earlier, value.as_str()),
     }
 }
@@ -80,36 +76,33 @@ fn speed_at(value: Option<&Value>) -> Result<bool, Kind>
 
 /// The key `descriptor`.
 #[tactic(auto, unfolding(crate::specs::Device::descriptor_at))]
-fn descriptor_at(
-    alloc: Global,
-    value: Option<&Value>,
-) -> Result<Result<Bytes<255>, Kind>, AllocError>
-    ensures { IfOk result (λ r. r ≡ descriptor_at (option_map (λ v. view v.now) value.entry)) }
+fn descriptor_at(alloc: Global, value: Option<&Value>) -> Result<Bytes<255>, Kind>
+    ensures { EqualUnless Memory result (descriptor_at (option_map (λ v. view v.now) value.entry)) }
 {
     match value {
-        None => Ok(Err(Kind::MissingKey)),
+        None => Err(Kind::MissingKey),
         Some(value) => hex_in::<255>(alloc, value),
     }
 }
 
 /// The key `configs`.
 #[tactic(auto, unfolding(crate::specs::Device::configs_at))]
-fn configs_at(alloc: Global, value: Option<&Value>) -> Result<Result<ConfigTexts, Kind>, AllocError>
-    ensures { IfOk result (λ r. r ≡ configs_at (option_map (λ v. view v.now) value.entry)) }
+fn configs_at(alloc: Global, value: Option<&Value>) -> Result<ConfigTexts, Kind>
+    ensures { EqualUnless Memory result (configs_at (option_map (λ v. view v.now) value.entry)) }
 {
     match value {
-        None => Ok(Err(Kind::MissingKey)),
+        None => Err(Kind::MissingKey),
         Some(value) => texts_in::<8, 65535>(alloc, value.as_array()),
     }
 }
 
 /// The key `strings`, which may be absent.
 #[tactic(auto, unfolding(crate::specs::Device::strings_at))]
-fn strings_at(alloc: Global, value: Option<&Value>) -> Result<Result<StringTexts, Kind>, AllocError>
-    ensures { IfOk result (λ r. r ≡ strings_at (option_map (λ v. view v.now) value.entry)) }
+fn strings_at(alloc: Global, value: Option<&Value>) -> Result<StringTexts, Kind>
+    ensures { EqualUnless Memory result (strings_at (option_map (λ v. view v.now) value.entry)) }
 {
     match value {
-        None => Ok(Ok(StringTexts::new(alloc))),
+        None => Ok(StringTexts::new(alloc)),
         Some(value) => texts_in::<256, 255>(alloc, value.as_array()),
     }
 }
@@ -128,16 +121,15 @@ fn room(earlier: &Devices) -> Result<(), Kind>
 
 #[tactic(auto, unfolding(crate::specs::Device::with_quirks))]
 fn with_quirks(device: DeviceSpec, quirks: Quirks) -> DeviceSpec
-    requires { quirks.1.1.1.0 ≤ 200 }
+    requires { FewNaks quirks }
     ensures { result ≡ with_quirks quirks device }
 {
-    let (self_powered, (busy, (silent, (naks, stalls)))) = quirks;
     device
-        .with_self_powered(self_powered)
-        .with_busy(busy)
-        .with_silent(silent)
-        .with_naks(naks)
-        .with_stalls(stalls)
+        .with_self_powered(quirks.self_powered)
+        .with_busy(quirks.busy)
+        .with_silent(quirks.silent)
+        .with_naks(quirks.naks)
+        .with_stalls(quirks.stalls)
 }
 
 #[tactic(auto, unfolding(crate::specs::Device::with_halt))]
@@ -162,46 +154,128 @@ fn with_hub(device: DeviceSpec, hub: Option<HubSpec>) -> DeviceSpec
     }
 }
 
-type Parts = (
-    Name,
-    (
-        bool,
-        (
-            Bytes<255>,
-            (
-                ConfigTexts,
-                (
-                    StringTexts,
-                    ((), (Option<HubSpec>, (Quirks, (Bulk, ((), ()))))),
-                ),
-            ),
-        ),
-    ),
-);
+/// What a device is.
+#[derive(Drop)]
+struct Identity {
+    name: Name,
+    /// It is of low speed.
+    low: bool,
+    descriptor: Bytes<255>,
+    /// The ports that it has, where it is a hub.
+    hub: Option<HubSpec>,
+}
 
-#[tactic(auto, unfolding(crate::specs::Device::device_from))]
-fn device_from(parts: Parts) -> DeviceSpec
-    requires { PartsFit parts }
-    ensures { result ≡ device_from parts }
+#[tactic(auto, unfolding(crate::specs::Device::identity_with))]
+fn identity_with(
+    name: Result<Name, Kind>,
+    low: Result<bool, Kind>,
+    descriptor: Result<Bytes<255>, Kind>,
+    class: Result<(), Kind>,
+    hub: Result<Option<HubSpec>, Kind>,
+) -> Result<Identity, Kind>
+    ensures { result ≡ identity_with name low descriptor class hub }
 {
-    let (name, (low, (descriptor, (configs, (strings, (_, (hub, (quirks, (bulk, _))))))))) = parts;
-    let (source, halt_after) = bulk;
-    let device = DeviceSpec::function(name, descriptor, configs).with_low_speed(low);
-    let device = with_hub(device, hub)
-        .with_strings(strings)
-        .with_source(source);
-    with_halt(with_quirks(device, quirks), halt_after)
+    told(&[
+        fault_of(&name),
+        fault_of(&low),
+        fault_of(&descriptor),
+        fault_of(&class),
+        fault_of(&hub),
+    ])?;
+    Ok(Identity {
+        name: name?,
+        low: low?,
+        descriptor: descriptor?,
+        hub: hub?,
+    })
+}
+
+/// The keys of what a device is.
+#[tactic(auto, using(crate::proofs::Unless::identity_unless), unfolding(crate::specs::Device::identity_of))]
+fn identity_of(alloc: Global, earlier: &Devices, table: &Table) -> Result<Identity, Kind>
+    ensures { EqualUnless Memory result (identity_of earlier.now (table_view table.now)) }
+{
+    let ports = value_at(table, "ports");
+    let name = name_at(alloc, earlier, value_at(table, "name"));
+    let low = speed_at(value_at(table, "speed"));
+    let descriptor = descriptor_at(alloc, value_at(table, "descriptor"));
+    let class = class_at(ports, &low, &descriptor);
+    let hub = hub_at(alloc, ports, value_at(table, "hub_descriptor"));
+    identity_with(name, low, descriptor, class, hub)
+}
+
+/// The texts that a device gives.
+#[derive(Drop)]
+struct Content {
+    configs: ConfigTexts,
+    strings: StringTexts,
+}
+
+#[tactic(auto, unfolding(crate::specs::Device::content_with))]
+fn content_with(
+    configs: Result<ConfigTexts, Kind>,
+    strings: Result<StringTexts, Kind>,
+) -> Result<Content, Kind>
+    ensures { result ≡ content_with configs strings }
+{
+    told(&[fault_of(&configs), fault_of(&strings)])?;
+    Ok(Content {
+        configs: configs?,
+        strings: strings?,
+    })
+}
+
+/// The keys of the texts that a device gives.
+#[tactic(auto, using(crate::proofs::Unless::content_unless), unfolding(crate::specs::Device::content_of))]
+fn content_of(alloc: Global, table: &Table) -> Result<Content, Kind>
+    ensures { EqualUnless Memory result (content_of (table_view table.now)) }
+{
+    let configs = configs_at(alloc, value_at(table, "configs"));
+    let strings = strings_at(alloc, value_at(table, "strings"));
+    content_with(configs, strings)
 }
 
 #[tactic(auto, unfolding(crate::specs::Device::made))]
-fn made(parts: Result<Parts, Kind>) -> Result<DeviceSpec, Kind>
-    requires { ForOk parts PartsFit }
-    ensures { result ≡ made parts }
+fn made(identity: Identity, content: Content, quirks: Quirks, bulk: Bulk) -> DeviceSpec
+    requires hub { HubFits identity }
+    requires naks { FewNaks quirks }
+    requires halt { HaltsLater bulk }
+    ensures { result ≡ made identity content quirks bulk }
 {
-    match parts {
-        Ok(parts) => Ok(device_from(parts)),
-        Err(kind) => Err(kind),
-    }
+    let device = DeviceSpec::function(
+        identity.name,
+        identity.descriptor,
+        content.configs,
+    ).with_low_speed(identity.low);
+    let device = with_hub(device, identity.hub)
+        .with_strings(content.strings)
+        .with_source(bulk.source);
+    with_halt(with_quirks(device, quirks), bulk.halt_after)
+}
+
+#[tactic(auto, unfolding(crate::specs::Device::device_with))]
+fn device_with(
+    identity: Result<Identity, Kind>,
+    content: Result<Content, Kind>,
+    quirks: Result<Quirks, Kind>,
+    bulk: Result<Bulk, Kind>,
+    keys: Result<(), Kind>,
+    room: Result<(), Kind>,
+) -> Result<DeviceSpec, Kind>
+    requires hub { ForOk identity HubFits }
+    requires naks { ForOk quirks FewNaks }
+    requires halt { ForOk bulk HaltsLater }
+    ensures { result ≡ device_with identity content quirks bulk keys room }
+{
+    told(&[
+        fault_of(&identity),
+        fault_of(&content),
+        fault_of(&quirks),
+        fault_of(&bulk),
+        fault_of(&keys),
+        fault_of(&room),
+    ])?;
+    Ok(made(identity?, content?, quirks?, bulk?))
 }
 
 const KEYS: [&str; 14] = [
@@ -221,74 +295,39 @@ const KEYS: [&str; 14] = [
     "halt_after",
 ];
 
-/// The parts of the device that a table describes, beside the earlier ones.
-#[tactic(auto, unfolding(crate::specs::Device::parts_of))]
-fn parts_of(
-    alloc: Global,
-    earlier: &Devices,
-    table: &Table,
-) -> Result<Result<Parts, Kind>, AllocError>
-    ensures { IfOk result (λ r. r ≡ parts_of earlier.now (table_view table.now)) }
-{
-    let name = name_at(alloc, earlier, value_at(table, "name"))?;
-    let low = speed_at(value_at(table, "speed"));
-    let descriptor = descriptor_at(alloc, value_at(table, "descriptor"))?;
-    let configs = configs_at(alloc, value_at(table, "configs"))?;
-    let strings = strings_at(alloc, value_at(table, "strings"))?;
-    let ports = value_at(table, "ports");
-    let class = class_at(ports, &low, &descriptor);
-    let hub = hub_at(alloc, ports, value_at(table, "hub_descriptor"))?;
-    let quirks = quirks_of(table);
-    let bulk = bulk_of(alloc, table)?;
-    let rest = both(
-        quirks,
-        both(bulk, both(keys_at(table, &KEYS), room(earlier))),
-    );
-    let texts = both(configs, both(strings, both(class, both(hub, rest))));
-    Ok(both(name, both(low, both(descriptor, texts))))
-}
-
 /// The device that a table describes, beside the earlier ones.
 #[tactic(auto, unfolding(crate::specs::Device::device_of))]
-fn device_of(
-    alloc: Global,
-    earlier: &Devices,
-    table: &Table,
-) -> Result<Result<DeviceSpec, Kind>, AllocError>
-    ensures { IfOk result (λ r. r ≡ device_of earlier.now (table_view table.now)) }
+fn device_of(alloc: Global, earlier: &Devices, table: &Table) -> Result<DeviceSpec, Kind>
+    ensures { EqualUnless Memory result (device_of earlier.now (table_view table.now)) }
 {
-    Ok(made(parts_of(alloc, earlier, table)?))
+    let identity = identity_of(alloc, earlier, table);
+    let content = content_of(alloc, table);
+    let quirks = quirks_of(table);
+    let bulk = bulk_of(alloc, table);
+    let keys = keys_at(table, &KEYS);
+    device_with(identity, content, quirks, bulk, keys, room(earlier))
 }
 
 #[tactic(auto, unfolding(crate::specs::Device::device_in))]
-fn device_in(
-    alloc: Global,
-    earlier: &Devices,
-    table: Option<&Table>,
-) -> Result<Result<DeviceSpec, Kind>, AllocError>
-    ensures { IfOk result
-        (λ r. r ≡ device_in earlier.now (option_map (λ t. table_view t.now) table.entry)) }
+fn device_in(alloc: Global, earlier: &Devices, table: Option<&Table>) -> Result<DeviceSpec, Kind>
+    ensures { EqualUnless Memory result
+        (device_in earlier.now (option_map (λ t. table_view t.now) table.entry)) }
 {
     match table {
-        None => Ok(Err(Kind::BadValue)),
+        None => Err(Kind::BadValue),
         Some(table) => device_of(alloc, earlier, table),
     }
 }
 
 /// The devices that the values describe, or the first fault.
-pub(crate) fn devices_of(
-    alloc: Global,
-    values: &[Value],
-) -> Result<Result<Devices, PlanFault>, AllocError>
-    ensures { IfOk result (λ r. r ≡ devices_from 1 [] (map view values.now)) }
+pub(crate) fn devices_of(alloc: Global, values: &[Value]) -> Result<Devices, PlanFault>
+    ensures { EqualUnless NoMemory result (devices_from 1 [] (map view values.now)) }
 {
     let mut done = Devices::new(alloc);
     for (i, value) in values.iter().enumerate() {
-        let device = device_in(alloc, &done, value.as_table())?;
-        match placed(Place::Device(i + 1), device) {
-            Err(fault) => return Ok(Err(fault)),
-            Ok(spec) => done.push(spec)?,
-        }
+        let read = device_in(alloc, &done, value.as_table());
+        let device = placed(Place::Device(i + 1), read)?;
+        done.push(device)?;
     }
-    Ok(Ok(done))
+    Ok(done)
 }

@@ -1,5 +1,9 @@
 //! Why a text is no plan.
 
+ghost use Rattle.std.specs.Prelude.{◌≡◌};
+ghost use Rattle.usb_plan.specs.declared.fault.PlanFault.TheVariants.{Memory as NoMemory};
+
+use std::alloc::AllocError;
 use std::fmt;
 use thiserror::Error;
 
@@ -64,4 +68,12 @@ pub enum PlanFault {
     /// Memory was refused.
     #[error("out of memory")]
     Memory,
+}
+
+impl From<AllocError> for PlanFault {
+    ghost from_gives = { λ _ fault. fault ≡ NoMemory };
+
+    fn from(_: AllocError) -> PlanFault {
+        PlanFault::Memory
+    }
 }

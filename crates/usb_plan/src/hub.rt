@@ -1,12 +1,14 @@
 //! The keys `ports` and `hub_descriptor` of a device.
 
-ghost use Rattle.std.specs.Prelude.{◌≡◌, ◌≤◌, IfOk, option_map};
+ghost use Rattle.std.specs.Prelude.{◌≡◌, ◌≤◌, option_map};
 ghost use Rattle.toml.specs.View.{view};
+ghost use Rattle.usb_plan.specs.Kind.{EqualUnless};
+ghost use Rattle.usb_plan.specs.declared.kind.Kind.TheVariants.{Memory};
 ghost use Rattle.usb_plan.specs.Hub.{no_hub, described, hub_of, hub_in, hub_at, is_low, is_other, class_at};
 
 use crate::kind::Kind;
 use crate::value::{hex_in, number_in};
-use std::alloc::{AllocError, Global};
+use std::alloc::Global;
 use toml::Value;
 use usb_device::{Bytes, HubSpec, has_hub_class};
 
@@ -28,32 +30,24 @@ fn described(ports: u8, descriptor: Result<Bytes<255>, Kind>) -> Result<Option<H
     requires most { ports ≤ 7 }
     ensures { result ≡ described ports descriptor }
 {
-    match descriptor {
-        Err(kind) => Err(kind),
-        Ok(bytes) => {
-            if HubSpec::agrees(ports, bytes.as_slice()) {
-                Ok(Some(HubSpec::new(ports, bytes)))
-            } else {
-                Err(Kind::BadValue)
-            }
-        }
+    let bytes = descriptor?;
+    if HubSpec::agrees(ports, bytes.as_slice()) {
+        Ok(Some(HubSpec::new(ports, bytes)))
+    } else {
+        Err(Kind::BadValue)
     }
 }
 
-#[tactic(auto, unfolding(crate::specs::Hub::hub_of))]
-fn hub_of(
-    alloc: Global,
-    ports: u8,
-    descriptor: Option<&Value>,
-) -> Result<Result<Option<HubSpec>, Kind>, AllocError>
+#[tactic(auto, using(crate::proofs::Unless::described_unless), unfolding(crate::specs::Hub::hub_of))]
+fn hub_of(alloc: Global, ports: u8, descriptor: Option<&Value>) -> Result<Option<HubSpec>, Kind>
     requires least { 1 ≤ ports }
     requires most { ports ≤ 7 }
-    ensures { IfOk result
-        (λ r. r ≡ hub_of ports (option_map (λ v. view v.now) descriptor.entry)) }
+    ensures { EqualUnless Memory result
+        (hub_of ports (option_map (λ v. view v.now) descriptor.entry)) }
 {
     match descriptor {
-        None => Ok(Ok(Some(HubSpec::usual(alloc, ports)?))),
-        Some(value) => Ok(described(ports, hex_in::<255>(alloc, value)?)),
+        None => Ok(Some(HubSpec::usual(alloc, ports)?)),
+        Some(value) => described(ports, hex_in::<255>(alloc, value)),
     }
 }
 
@@ -62,14 +56,12 @@ fn hub_in(
     alloc: Global,
     ports: Option<i64>,
     descriptor: Option<&Value>,
-) -> Result<Result<Option<HubSpec>, Kind>, AllocError>
-    ensures { IfOk result
-        (λ r. r ≡ hub_in ports (option_map (λ v. view v.now) descriptor.entry)) }
+) -> Result<Option<HubSpec>, Kind>
+    ensures { EqualUnless Memory result
+        (hub_in ports (option_map (λ v. view v.now) descriptor.entry)) }
 {
-    match number_in(1, 7, ports) {
-        Err(kind) => Ok(Err(kind)),
-        Ok(ports) => hub_of(alloc, ports as u8, descriptor),
-    }
+    let ports = number_in(1, 7, ports)?;
+    hub_of(alloc, ports as u8, descriptor)
 }
 
 /// The keys `ports` and `hub_descriptor`, which may be absent.
@@ -78,12 +70,13 @@ pub(crate) fn hub_at(
     alloc: Global,
     ports: Option<&Value>,
     descriptor: Option<&Value>,
-) -> Result<Result<Option<HubSpec>, Kind>, AllocError>
-    ensures { IfOk result (λ r. r ≡ hub_at (option_map (λ v. view v.now) ports.entry)
+) -> Result<Option<HubSpec>, Kind>
+    ensures { EqualUnless Memory result
+        (hub_at (option_map (λ v. view v.now) ports.entry)
         (option_map (λ v. view v.now) descriptor.entry)) }
 {
     match ports {
-        None => Ok(no_hub(descriptor)),
+        None => no_hub(descriptor),
         Some(ports) => hub_in(alloc, ports.as_integer(), descriptor),
     }
 }

@@ -1,13 +1,16 @@
-//! The kinds of fault of one entry, and which of two is told.
+//! The kinds of fault of one entry, and which of several is told.
 
-ghost use Rattle.std.specs.Prelude.{◌≡◌};
-ghost use Rattle.usb_plan.specs.Kind.{both, placed};
+ghost use Rattle.std.specs.Prelude.{◌≡◌, Some};
+ghost use Rattle.usb_plan.specs.Kind.{fault_of, sooner, told, placed};
+ghost use Rattle.usb_plan.specs.declared.kind.Kind.TheVariants.{Memory};
 
 use crate::fault::{Place, PlanFault};
+use std::alloc::AllocError;
 
-/// What is wrong with an entry.
+/// What is wrong with an entry, or that memory was refused.
 #[derive(Clone, Copy, Debug, PartialEq, Eq)]
 pub(crate) enum Kind {
+    Memory,
     MissingKey,
     BadValue,
     BadHex,
@@ -20,11 +23,12 @@ pub(crate) enum Kind {
 impl Kind {
     ghost use Rattle.usb_plan.specs.Kind.{rank, least, at};
 
-    /// The place in the order of telling; Syntax is 1.
+    /// The place in the order of telling; Syntax is 1. Where memory was refused, nothing else is told.
     fn rank(self) -> u8
         ensures { result ≡ rank self }
     {
         match self {
+            Kind::Memory => 0,
             Kind::MissingKey => 2,
             Kind::BadValue => 3,
             Kind::BadHex => 4,
@@ -53,6 +57,7 @@ impl Kind {
         ensures { result ≡ at place self }
     {
         match self {
+            Kind::Memory => PlanFault::Memory,
             Kind::MissingKey => PlanFault::MissingKey(place),
             Kind::BadValue => PlanFault::BadValue(place),
             Kind::BadHex => PlanFault::BadHex(place),
@@ -64,16 +69,45 @@ impl Kind {
     }
 }
 
-/// Two parts of one entry: both, or the fault that is told first.
-#[tactic(auto, unfolding(crate::specs::Kind::both))]
-pub(crate) fn both<A: Drop, B: Drop>(a: Result<A, Kind>, b: Result<B, Kind>) -> Result<(A, B), Kind>
-    ensures { result ≡ both a b }
+impl From<AllocError> for Kind {
+    ghost from_gives = { λ _ kind. kind ≡ Memory };
+
+    fn from(_: AllocError) -> Kind {
+        Kind::Memory
+    }
+}
+
+/// The fault of a part, if it has one.
+#[tactic(auto, unfolding(crate::specs::Kind::fault_of))]
+pub(crate) fn fault_of<A>(part: &Result<A, Kind>) -> Option<Kind>
+    ensures { result ≡ fault_of part.now }
 {
-    match (a, b) {
-        (Ok(a), Ok(b)) => Ok((a, b)),
-        (Ok(_), Err(kind)) => Err(kind),
-        (Err(kind), Ok(_)) => Err(kind),
-        (Err(kind), Err(other)) => Err(kind.least(other)),
+    match part {
+        Ok(_) => None,
+        Err(kind) => Some(*kind),
+    }
+}
+
+/// A fault beside what is told of the parts after it.
+#[tactic(auto, unfolding(crate::specs::Kind::sooner))]
+fn sooner(kind: Kind, others: Result<(), Kind>) -> Result<(), Kind>
+    ensures { result ≡ sooner (Some kind) others }
+{
+    match others {
+        Ok(()) => Err(kind),
+        Err(other) => Err(kind.least(other)),
+    }
+}
+
+/// Refuses an entry with faults in its parts, and tells the first in order.
+#[tactic(auto, unfolding(crate::specs::Kind::told, crate::specs::Kind::sooner))]
+pub(crate) fn told(faults: &[Option<Kind>]) -> Result<(), Kind>
+    ensures { result ≡ told faults.now }
+{
+    match faults.split_first() {
+        None => Ok(()),
+        Some((None, rest)) => told(rest),
+        Some((Some(kind), rest)) => sooner(*kind, told(rest)),
     }
 }
 

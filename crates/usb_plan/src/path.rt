@@ -57,17 +57,13 @@ pub(crate) fn free(
 ) -> Result<PortPath, Kind>
     ensures { result ≡ free roots devices.now tree.now path }
 {
-    match path {
-        Err(kind) => Err(kind),
-        Ok(path) => {
-            if !tree.has_port(roots, devices, &path) {
-                Err(Kind::BadPath)
-            } else if tree.is_taken(&path) {
-                Err(Kind::PortTaken)
-            } else {
-                Ok(path)
-            }
-        }
+    let path = path?;
+    if !tree.has_port(roots, devices, &path) {
+        Err(Kind::BadPath)
+    } else if tree.is_taken(&path) {
+        Err(Kind::PortTaken)
+    } else {
+        Ok(path)
     }
 }
 
@@ -76,14 +72,10 @@ pub(crate) fn free(
 pub(crate) fn taken(tree: &Tree, path: Result<PortPath, Kind>) -> Result<PortPath, Kind>
     ensures { result ≡ taken tree.now path }
 {
-    match path {
-        Err(kind) => Err(kind),
-        Ok(path) => {
-            if tree.is_taken(&path) {
-                Ok(path)
-            } else {
-                Err(Kind::PortEmpty)
-            }
-        }
+    let path = path?;
+    if tree.is_taken(&path) {
+        Ok(path)
+    } else {
+        Err(Kind::PortEmpty)
     }
 }

@@ -5,16 +5,17 @@ ghost use Rattle.std.specs.List.{list_all};
 ghost use Rattle.toml.specs.Data.{get_member};
 ghost use Rattle.toml.specs.View.{view, table_view, array_view};
 ghost use Rattle.usb_plan.specs.declared.fault.PlanFault.TheVariants.{Memory};
-ghost use Rattle.usb_plan.specs.Plan.{limit_at, roots_at, is_table, entries_in, entries_at, values_at, top_of, plan_with, plan_of, spelled_plan, TopFits};
+ghost use Rattle.usb_plan.specs.Kind.{EqualUnless};
+ghost use Rattle.usb_plan.specs.Plan.{limit_at, roots_at, is_table, entries_in, entries_at, values_at, top_with, top_of, plan_with, plan_of, spelled_plan, TopFits};
 
 use crate::damage::damages_of;
 use crate::device::devices_of;
 use crate::event::events_of;
 use crate::fault::{Place, PlanFault};
 use crate::keys::keys_at;
-use crate::kind::{Kind, both, placed};
+use crate::kind::{Kind, fault_of, placed, told};
 use crate::value::{number_at, value_at};
-use std::alloc::{AllocError, Global};
+use std::alloc::Global;
 use toml::value::Array;
 use toml::{Table, Value};
 use usb_world::Plan;
@@ -32,10 +33,8 @@ fn limit_at(value: Option<&Value>) -> Result<u64, Kind>
 fn roots_at(value: Option<&Value>) -> Result<u8, Kind>
     ensures { result ≡ roots_at (option_map (λ v. view v.now) value.entry) }
 {
-    match number_at(1, 7, value) {
-        Ok(roots) => Ok(roots as u8),
-        Err(kind) => Err(kind),
-    }
+    let roots = number_at(1, 7, value)?;
+    Ok(roots as u8)
 }
 
 fn is_table(value: &Value) -> bool
@@ -91,7 +90,39 @@ fn values_at<'a>(value: Option<&'a Value>) -> &'a [Value]
     }
 }
 
-type Top = (u64, (u8, ((), ((), ((), ())))));
+/// The numbers at the top.
+#[derive(Drop)]
+struct Top {
+    /// The most attempts that a run may make.
+    limit: u64,
+    /// How many root ports there are.
+    roots: u8,
+}
+
+#[tactic(auto, unfolding(crate::specs::Plan::top_with))]
+fn top_with(
+    limit: Result<u64, Kind>,
+    roots: Result<u8, Kind>,
+    devices: Result<(), Kind>,
+    events: Result<(), Kind>,
+    damages: Result<(), Kind>,
+    keys: Result<(), Kind>,
+) -> Result<Top, Kind>
+    ensures { result ≡ top_with limit roots devices events damages keys }
+{
+    told(&[
+        fault_of(&limit),
+        fault_of(&roots),
+        fault_of(&devices),
+        fault_of(&events),
+        fault_of(&damages),
+        fault_of(&keys),
+    ])?;
+    Ok(Top {
+        limit: limit?,
+        roots: roots?,
+    })
+}
 
 /// The numbers at the top. The arrays are read after them.
 #[tactic(auto, unfolding(crate::specs::Plan::top_of))]
@@ -104,54 +135,38 @@ fn top_of(table: &Table) -> Result<Top, Kind>
     let events = entries_at(value_at(table, "event"));
     let damages = entries_at(value_at(table, "damage"));
     let keys = keys_at(table, &["limit", "roots", "device", "event", "damage"]);
-    let arrays = both(devices, both(events, both(damages, keys)));
-    both(limit, both(roots, arrays))
+    top_with(limit, roots, devices, events, damages, keys)
 }
 
 /// The plan with these numbers, of the devices, events and damages that the values describe.
 #[tactic(auto, unfolding(crate::specs::Plan::plan_with))]
 fn plan_with(
     alloc: Global,
-    limit: u64,
-    roots: u8,
+    top: Top,
     devices: &[Value],
     events: &[Value],
     damages: &[Value],
-) -> Result<Result<Plan, PlanFault>, AllocError>
-    requires { TopFits limit roots }
-    ensures { IfOk result
-        (λ r. r ≡ plan_with limit roots (map view devices.now) (map view events.now) (map view damages.now)) }
+) -> Result<Plan, PlanFault>
+    requires { TopFits top }
+    ensures { EqualUnless Memory result
+        (plan_with top (map view devices.now) (map view events.now) (map view damages.now)) }
 {
-    let devices = match devices_of(alloc, devices)? {
-        Err(fault) => return Ok(Err(fault)),
-        Ok(devices) => devices,
-    };
-    let events = match events_of(alloc, roots, devices.as_slice(), events)? {
-        Err(fault) => return Ok(Err(fault)),
-        Ok(events) => events,
-    };
-    match damages_of(alloc, damages)? {
-        Err(fault) => Ok(Err(fault)),
-        Ok(damages) => Ok(Ok(Plan::new(limit, roots, devices, events, damages))),
-    }
+    let devices = devices_of(alloc, devices)?;
+    let events = events_of(alloc, top.roots, devices.as_slice(), events)?;
+    let damages = damages_of(alloc, damages)?;
+    Ok(Plan::new(top.limit, top.roots, devices, events, damages))
 }
 
 /// The plan that a table describes, or its first fault.
 #[tactic(auto, unfolding(crate::specs::Plan::plan_of))]
-fn plan_of(alloc: Global, table: &Table) -> Result<Result<Plan, PlanFault>, AllocError>
-    ensures { IfOk result (λ r. r ≡ plan_of (table_view table.now)) }
+fn plan_of(alloc: Global, table: &Table) -> Result<Plan, PlanFault>
+    ensures { EqualUnless Memory result (plan_of (table_view table.now)) }
 {
-    match placed(Place::Top, top_of(table)) {
-        Err(fault) => Ok(Err(fault)),
-        Ok((limit, (roots, _))) => plan_with(
-            alloc,
-            limit,
-            roots,
-            values_at(value_at(table, "device")),
-            values_at(value_at(table, "event")),
-            values_at(value_at(table, "damage")),
-        ),
-    }
+    let top = placed(Place::Top, top_of(table))?;
+    let devices = values_at(value_at(table, "device"));
+    let events = values_at(value_at(table, "event"));
+    let damages = values_at(value_at(table, "damage"));
+    plan_with(alloc, top, devices, events, damages)
 }
 
 /// Reads the plan that a TOML text spells.
@@ -175,8 +190,5 @@ pub fn read_plan(alloc: Global, text: &str) -> Result<Plan, PlanFault>
             });
         }
     };
-    match plan_of(alloc, &table) {
-        Err(_) => Err(PlanFault::Memory),
-        Ok(plan) => plan,
-    }
+    plan_of(alloc, &table)
 }

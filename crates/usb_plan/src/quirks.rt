@@ -3,9 +3,9 @@
 ghost use Rattle.std.specs.Prelude.{◌≡◌, ◌≤◌, map, option_map};
 ghost use Rattle.std.specs.List.{list_any, list_all};
 ghost use Rattle.toml.specs.View.{view, array_view, table_view};
-ghost use Rattle.usb_plan.specs.Quirks.{flag_in, flag_at, naks_at, names, is_stall, stalls_named, stalls_in, stalls_at, quirks_of};
+ghost use Rattle.usb_plan.specs.Quirks.{flag_in, flag_at, naks_at, names, is_stall, stalls_named, stalls_in, stalls_at, quirks_with, quirks_of};
 
-use crate::kind::{Kind, both};
+use crate::kind::{Kind, fault_of, told};
 use crate::value::{is_word, number_or, value_at};
 use toml::value::Array;
 use toml::{Table, Value};
@@ -15,10 +15,7 @@ use usb_device::Stalls;
 fn flag_in(flag: Option<bool>) -> Result<bool, Kind>
     ensures { result ≡ flag_in flag }
 {
-    match flag {
-        None => Err(Kind::BadValue),
-        Some(flag) => Ok(flag),
-    }
+    flag.ok_or(Kind::BadValue)
 }
 
 /// A key that is true or false; absent it is false.
@@ -37,10 +34,8 @@ fn flag_at(value: Option<&Value>) -> Result<bool, Kind>
 fn naks_at(value: Option<&Value>) -> Result<u8, Kind>
     ensures { result ≡ naks_at (option_map (λ v. view v.now) value.entry) }
 {
-    match number_or(0, 0, 200, value) {
-        Ok(naks) => Ok(naks as u8),
-        Err(kind) => Err(kind),
-    }
+    let naks = number_or(0, 0, 200, value)?;
+    Ok(naks as u8)
 }
 
 #[tactic(auto, unfolding(crate::specs::Quirks::names))]
@@ -120,9 +115,48 @@ fn stalls_at(value: Option<&Value>) -> Result<Stalls, Kind>
     }
 }
 
-/// Whether the device has its own power, is busy, is silent, how many NAKs it gives, and what it refuses.
-pub(crate) type Quirks = (bool, (bool, (bool, (u8, Stalls))));
+/// What a device does otherwise than others.
+#[derive(Drop)]
+pub(crate) struct Quirks {
+    /// It has its own power.
+    pub(crate) self_powered: bool,
+    /// It answers NAK without end.
+    pub(crate) busy: bool,
+    /// It answers nothing.
+    pub(crate) silent: bool,
+    /// How many NAKs it gives.
+    pub(crate) naks: u8,
+    /// The requests that it refuses.
+    pub(crate) stalls: Stalls,
+}
 
+#[tactic(auto, unfolding(crate::specs::Quirks::quirks_with))]
+fn quirks_with(
+    self_powered: Result<bool, Kind>,
+    busy: Result<bool, Kind>,
+    silent: Result<bool, Kind>,
+    naks: Result<u8, Kind>,
+    stalls: Result<Stalls, Kind>,
+) -> Result<Quirks, Kind>
+    ensures { result ≡ quirks_with self_powered busy silent naks stalls }
+{
+    told(&[
+        fault_of(&self_powered),
+        fault_of(&busy),
+        fault_of(&silent),
+        fault_of(&naks),
+        fault_of(&stalls),
+    ])?;
+    Ok(Quirks {
+        self_powered: self_powered?,
+        busy: busy?,
+        silent: silent?,
+        naks: naks?,
+        stalls: stalls?,
+    })
+}
+
+/// The keys of what the device does otherwise than others.
 #[tactic(auto, unfolding(crate::specs::Quirks::quirks_of))]
 pub(crate) fn quirks_of(table: &Table) -> Result<Quirks, Kind>
     ensures { result ≡ quirks_of (table_view table.now) }
@@ -132,5 +166,5 @@ pub(crate) fn quirks_of(table: &Table) -> Result<Quirks, Kind>
     let silent = flag_at(value_at(table, "silent"));
     let naks = naks_at(value_at(table, "naks"));
     let stalls = stalls_at(value_at(table, "stalls"));
-    both(self_powered, both(busy, both(silent, both(naks, stalls))))
+    quirks_with(self_powered, busy, silent, naks, stalls)
 }

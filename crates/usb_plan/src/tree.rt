@@ -1,7 +1,7 @@
 //! What is plugged where, while the events of a plan are read.
 ghost use Rattle.std.specs.Prelude.{◌≡◌, nat_eq, option_map};
 ghost use Rattle.std.specs.List.{starts_with};
-ghost use Rattle.usb_world.specs.Plugged.{is_rooted, device_of, port_count};
+ghost use Rattle.usb_world.specs.PluggedDevices.{is_rooted, device_indexed, port_count};
 
 use std::alloc::{AllocError, Global};
 use std::collections::BTreeMap;
@@ -17,16 +17,16 @@ pub(crate) struct Tree {
 }
 
 impl Model for Tree {
-    ghost use Rattle.usb_world.specs.Plugged.{Plugged};
+    ghost use Rattle.usb_world.specs.PluggedDevices.{PluggedMap};
 
-    ghost Value = { Plugged };
+    ghost Value = { PluggedMap };
 
     ghost view = { λ t. t.places.entries };
 }
 
 impl Tree {
     ghost use Rattle.std.specs.Prelude.{◌≡◌, [], OnOk, is_some};
-    ghost use Rattle.usb_world.specs.Plugged.{device_at, unplugged, plugged_after, has_port, parent_has};
+    ghost use Rattle.usb_world.specs.PluggedDevices.{index_at, unplugged, plugged_after, has_port, parent_has};
     ghost use Rattle.usb_world.specs.PlanData.{is_taken};
     ghost use Rattle.usb_plan.specs.Tree.{first_through};
 
@@ -41,7 +41,7 @@ impl Tree {
 
     /// The device plugged at the path.
     fn device_at(&self, path: &PortPath) -> Option<usize>
-        ensures { result ≡ device_at self.now path.now }
+        ensures { result ≡ index_at self.now path.now }
     {
         self.places.get(path).copied()
     }
@@ -53,7 +53,7 @@ impl Tree {
         self.device_at(path).is_some()
     }
 
-    #[tactic(auto, unfolding(usb_world::specs::Plugged::parent_has))]
+    #[tactic(auto, unfolding(usb_world::specs::PluggedDevices::parent_has))]
     fn parent_has(&self, devices: &[DeviceSpec], parent: Option<PortPath>, port: u8) -> bool
         ensures { result ≡ parent_has devices.now self.now parent port }
     {
@@ -123,7 +123,7 @@ fn goes_through(place: &PortPath, path: &PortPath) -> bool
 }
 
 fn device_of(devices: &[DeviceSpec], index: Option<usize>) -> Option<&DeviceSpec>
-    ensures { option_map (λ d. d.now) result ≡ device_of devices.now index }
+    ensures { option_map (λ d. d.now) result ≡ device_indexed devices.now index }
 {
     match index {
         None => None,
@@ -132,7 +132,7 @@ fn device_of(devices: &[DeviceSpec], index: Option<usize>) -> Option<&DeviceSpec
 }
 
 /// How many ports the device has.
-#[tactic(auto, unfolding(usb_world::specs::Plugged::port_count))]
+#[tactic(auto, unfolding(usb_world::specs::PluggedDevices::port_count))]
 fn port_count(device: Option<&DeviceSpec>) -> u8
     ensures { result ≡ port_count (option_map (λ d. d.now) device.entry) }
 {

@@ -3,10 +3,12 @@
 ghost use Rattle.std.specs.Prelude.{◌≡◌, ◌≤◌, IfOk, option_map};
 ghost use Rattle.toml.specs.Data.{get_member, as_integer, as_str};
 ghost use Rattle.toml.specs.View.{view, table_view};
+ghost use Rattle.usb_plan.specs.Kind.{EqualUnless};
 ghost use Rattle.usb_plan.specs.Value.{is_word, number_in, number_at, number_or, hex_in, sent_in};
+ghost use Rattle.usb_plan.specs.declared.kind.Kind.TheVariants.{Memory};
 
 use crate::kind::Kind;
-use std::alloc::{AllocError, Global};
+use std::alloc::Global;
 use toml::{Table, Value};
 use usb_device::Bytes;
 use usb_world::SentBytes;
@@ -78,41 +80,38 @@ pub(crate) fn number_or(
 
 /// The bytes of a hex text.
 #[tactic(auto, unfolding(crate::specs::Value::hex_in, crate::specs::Value::bounded))]
-pub(crate) fn hex_in<const MAX: usize>(
-    alloc: Global,
-    value: &Value,
-) -> Result<Result<Bytes<MAX>, Kind>, AllocError>
-    ensures { IfOk result (λ r. r ≡ hex_in MAX (as_str (view value.now))) }
+pub(crate) fn hex_in<const MAX: usize>(alloc: Global, value: &Value) -> Result<Bytes<MAX>, Kind>
+    ensures { EqualUnless Memory result (hex_in MAX (as_str (view value.now))) }
 {
     let text = match value.as_str() {
-        None => return Ok(Err(Kind::BadValue)),
+        None => return Err(Kind::BadValue),
         Some(text) => text,
     };
     match hex::decode(alloc, text) {
         Ok(bytes) => {
             if bytes.len() <= MAX {
-                Ok(Ok(Bytes::new(bytes)))
+                Ok(Bytes::new(bytes))
             } else {
-                Ok(Err(Kind::BadValue))
+                Err(Kind::BadValue)
             }
         }
-        Err(hex::FromHexError::OutOfMemory) => Err(AllocError),
-        Err(_) => Ok(Err(Kind::BadHex)),
+        Err(hex::FromHexError::OutOfMemory) => Err(Kind::Memory),
+        Err(_) => Err(Kind::BadHex),
     }
 }
 
 /// The bytes of a hex text, however many.
 #[tactic(auto, unfolding(crate::specs::Value::sent_in, crate::specs::Value::any_of))]
-pub(crate) fn sent_in(alloc: Global, value: &Value) -> Result<Result<SentBytes, Kind>, AllocError>
-    ensures { IfOk result (λ r. r ≡ sent_in (as_str (view value.now))) }
+pub(crate) fn sent_in(alloc: Global, value: &Value) -> Result<SentBytes, Kind>
+    ensures { EqualUnless Memory result (sent_in (as_str (view value.now))) }
 {
     let text = match value.as_str() {
-        None => return Ok(Err(Kind::BadValue)),
+        None => return Err(Kind::BadValue),
         Some(text) => text,
     };
     match hex::decode(alloc, text) {
-        Ok(bytes) => Ok(Ok(SentBytes::new(bytes))),
-        Err(hex::FromHexError::OutOfMemory) => Err(AllocError),
-        Err(_) => Ok(Err(Kind::BadHex)),
+        Ok(bytes) => Ok(SentBytes::new(bytes)),
+        Err(hex::FromHexError::OutOfMemory) => Err(Kind::Memory),
+        Err(_) => Err(Kind::BadHex),
     }
 }

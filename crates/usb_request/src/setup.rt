@@ -72,5 +72,6 @@ impl Setup {
 #[tactic(auto, unfolding(crate::specs::Layout::bytes_of, crate::specs::Layout::setup_of))]
 pub fn setup_laws()
     ensures fields_back { (s : ASetup) → setup_of (bytes_of s) ≡ s }
-    ensures bytes_back { (bytes : List ℕ) → length bytes ≡ 8 → All (λ b. b < 256) bytes → bytes_of (setup_of bytes) ≡ bytes }
+    ensures bytes_back { (bytes : List ℕ) → length bytes ≡ 8 → All (λ b. b < 256) bytes
+        → bytes_of (setup_of bytes) ≡ bytes }
 {}

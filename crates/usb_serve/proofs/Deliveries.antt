@@ -5,30 +5,28 @@ use Rattle.usb_device.specs.Rows.{State}
 use Rattle.usb_device.specs.Tree.{reach, reach_at, state_at}
 use Rattle.usb_device.specs.View.{state_there}
 use Rattle.usb_world.specs.Devices.{Was, EachWas}
-use Rattle.usb_world.specs.Live.{address_of}
+use Rattle.usb_world.specs.Paths.{address_of}
 use Rattle.usb_world.specs.World.{World}
-use Rattle.usb_world.proofs.Devices.{each_none}
-use Rattle.usb_world.proofs.OneHolderMore.{equal_same}
+use Rattle.usb_world.proofs.Interface.{each_none, equal_same}
 use Rattle.usb_pipe.specs.declared.fault.PipeFault.{PipeFault}
 use Rattle.usb_pipe.specs.Bulk.{Bulk, Sends}
-use Rattle.usb_pipe.specs.Whole.{FitsSink, SendLeaves}
-use Rattle.usb_pipe.proofs.WhoAnswers.{who_sends}
-use Rattle.usb_pipe.proofs.WholeSends.{send_leaves}
+use Rattle.usb_pipe.specs.Leaves.{FitsSink, SendLeaves}
+use Rattle.usb_pipe.proofs.Interface.{send_leaves, who_sends}
 use Rattle.usb_enum.specs.declared.finding.Accepted.{Accepted}
 use Rattle.usb_enum.specs.declared.finding.Finding.{Finding}
 use Rattle.usb_enum.specs.declared.finding.Finding.TheVariants.{Device, Refused}
 use Rattle.usb_table.specs.declared.fault.EndpointFault.{EndpointFault}
 use Rattle.usb_table.specs.declared.pipes.Pipes.{Pipes}
 use Rattle.usb_table.specs.declared.pipes.Pipes.TheVariants.{Hub, Function, Absent}
-use Rattle.usb_table.specs.Findings.{bulk_out, device_of, device_at}
+use Rattle.usb_table.specs.Findings.{out_endpoint, accepted_device_of, accepted_device_at}
 use Rattle.usb_table.specs.Keys.{address_in}
 use Rattle.usb_table.specs.Known.{is_below_hub}
 use Rattle.usb_table.specs.Levels.{AllLevel, AreLevel, FitsOut, IsHeld}
-use Rattle.usb_table.specs.Listing.{finding_at, address_at}
+use Rattle.usb_table.specs.Listing.{finding_at, entry_address}
 use Rattle.usb_table.specs.Pipes.{IsPipe, ArePipesTo}
 use Rattle.usb_table.specs.Table.{Table, pipes_at, ArePipesAt}
-use Rattle.usb_table.specs.Transfers.{SameSettings, SentBy, Sent, through}
-use Rattle.usb_table.proofs.Levels.{address_found, held_address, one_path}
+use Rattle.usb_table.specs.Transfers.{SameSettings, SentBy, PipesSent, endpoint_answer}
+use Rattle.usb_table.proofs.Interface.{address_found, held_address, one_path}
 use Rattle.usb_host.specs.declared.fault.HostFault.{HostFault}
 use Rattle.usb_host.specs.Hosting.{Hosting}
 use Rattle.usb_host.specs.Owning.{claims}
@@ -37,7 +35,7 @@ use Rattle.usb_host.specs.Told.{host_told}
 use Rattle.usb_host.specs.Transfers.{SentAt, HandsOn, table_in}
 use Rattle.usb_serve.specs.declared.runs.RunFault.{RunFault}
 use Rattle.usb_serve.specs.declared.transfer.TransferFault.{TransferFault}
-use Rattle.usb_serve.specs.Deliveries.{Took, TookAt, StaysApart, Delivered}
+use Rattle.usb_serve.specs.Deliveries.{TookBytes, TookAt, StaysApart, Delivered}
 use Rattle.usb_serve.specs.Transfers.{Transfers, answer_of, answered, failed}
 
 by_decision : (b : Bool) → (b ≡ true → ⊥) → b ≡ false
@@ -46,7 +44,7 @@ by_decision false f = refl
 
 -- The answers of a pipe, of the table, of the host and of a run are done alike
 
-done_through : (answer : Result (Unit {0}) PipeFault) (result : Result (Unit {0}) EndpointFault) → result ≡ through answer → is_ok answer ≡ is_ok result
+done_through : (answer : Result (Unit {0}) PipeFault) (result : Result (Unit {0}) EndpointFault) → result ≡ endpoint_answer answer → is_ok answer ≡ is_ok result
 done_through (Ok u) result e = sym (ap is_ok e)
 done_through (Err why) result e = sym (ap is_ok e)
 
@@ -64,7 +62,7 @@ done_told (Err fault) told e = not_done (answer_of fault) told e
 
 -- Nothing was sent
 
-none_taken : (bytes : List ℕ) (s : State) → Took false bytes s s
+none_taken : (bytes : List ℕ) (s : State) → TookBytes false bytes s s
 none_taken bytes s = record { front = []; rest = bytes; split = refl; sink = sym (append-nil s.sink) }
 
 none_delivered : (path bytes : List ℕ) (table : Table) (w : World) → Delivered path false bytes table.entries w w
@@ -80,12 +78,12 @@ not_tried path bytes table old new result fault e same =
 
 module _ (path bytes : List ℕ) (table : Table) (old new : World) (held : IsHeld table old) (single : new.shared ≡ false) where
   -- who is reached holds the address that his path has in the table
-  entry_of : (j : ℕ) (p : List ℕ) (s : State) → reach_at old.roots j p ≡ true → state_at old.roots j p ≡ Some s → address_at (suc j ∷ p) table.entries ≡ Some (address_of s)
+  entry_of : (j : ℕ) (p : List ℕ) (s : State) → reach_at old.roots j p ≡ true → state_at old.roots j p ≡ Some s → entry_address (suc j ∷ p) table.entries ≡ Some (address_of s)
   entry_of j p s on there = sym (held.own (suc j ∷ p) on) ∙ ap (option_map address_of) there
 
   -- Where no device is known at the path, none is reached there
 
-  unknown : (done : Bool) → address_at path table.entries ≡ None → device_at path table.entries ≡ None → EachWas SameSettings old new → Delivered path done bytes table.entries old new
+  unknown : (done : Bool) → entry_address path table.entries ≡ None → accepted_device_at path table.entries ≡ None → EachWas SameSettings old new → Delivered path done bytes table.entries old new
   unknown done none no_device each = record { took = took; known = λ some. absurd (cc (some, no_device)) }
     where
       took : EachWas (TookAt path done bytes) old new
@@ -95,7 +93,7 @@ module _ (path bytes : List ℕ) (table : Table) (old new : World) (held : IsHel
 
   -- Through a pipe to the device that is known there
 
-  module _ (device : Accepted) (pipe : Bulk) (found : device_at path table.entries ≡ Some device) (target : pipe.target.addr ≡ device.address)
+  module _ (device : Accepted) (pipe : Bulk) (found : accepted_device_at path table.entries ≡ Some device) (target : pipe.target.addr ≡ device.address)
       (fits : (s : State) → reach old.roots path ≡ true → state_there old.roots path ≡ Some s → FitsSink pipe s) where
     -- who has the pipe's address stands at the path
     stands_there : (j : ℕ) (p : List ℕ) (s : State) → reach_at old.roots j p ≡ true → state_at old.roots j p ≡ Some s → (address_of s == pipe.target.addr) ≡ true → path ≡ suc j ∷ p
@@ -103,7 +101,7 @@ module _ (path bytes : List ℕ) (table : Table) (old new : World) (held : IsHel
         let same : address_of s ≡ device.address = equal_same (address_of s) pipe.target.addr at ∙ target in
         sym (one_path table old (suc j ∷ p) path device.address held (entry_of j p s on there ∙ ap Some same) (address_found path table.entries device found))
 
-    taken : (answer : Result (Unit {0}) PipeFault) (left : Bulk) (j : ℕ) (p : List ℕ) (s v : State) → SendLeaves bytes pipe answer left j p s v → (address_of s == pipe.target.addr) ≡ true → FitsSink pipe s → Took (is_ok answer) bytes s v
+    taken : (answer : Result (Unit {0}) PipeFault) (left : Bulk) (j : ℕ) (p : List ℕ) (s v : State) → SendLeaves bytes pipe answer left j p s v → (address_of s == pipe.target.addr) ≡ true → FitsSink pipe s → TookBytes (is_ok answer) bytes s v
     taken (Ok u) left j p s v x at fit = x.done at fit u refl
     taken (Err why) left j p s v x at fit = x.failed at fit why refl
 
@@ -144,7 +142,7 @@ module _ (path bytes : List ℕ) (table : Table) (old new : World) (held : IsHel
 
   -- Through the pipes to it
 
-  module _ (device : Accepted) (found : device_at path table.entries ≡ Some device) (result : Result (Unit {0}) EndpointFault) where
+  module _ (device : Accepted) (found : accepted_device_at path table.entries ≡ Some device) (result : Result (Unit {0}) EndpointFault) where
     by_pipe : (endpoint : Option (ℕ × ℕ)) (out left : Option Bulk) → IsPipe device false endpoint out → ((s : State) → reach old.roots path ≡ true → state_there old.roots path ≡ Some s → FitsOut out s)
         → SentBy out bytes old result left new → Delivered path (is_ok result) bytes table.entries old new
     by_pipe endpoint None left is fits x = not_tried path bytes table old new result _ x.0 x.2
@@ -155,22 +153,22 @@ module _ (path bytes : List ℕ) (table : Table) (old new : World) (held : IsHel
         (through_pipe device pipe found (ap (λ t. t.addr) is.target) fits x.answer left x.sends)
 
     by_pipes : (below_hub : Bool) (pipes left : Pipes) → ArePipesTo device below_hub pipes → ((s : State) → reach old.roots path ≡ true → state_there old.roots path ≡ Some s → AreLevel pipes s)
-        → Sent pipes bytes old result left new → Delivered path (is_ok result) bytes table.entries old new
+        → PipesSent pipes bytes old result left new → Delivered path (is_ok result) bytes table.entries old new
     by_pipes below_hub (Hub pipe) left are level x = not_tried path bytes table old new result _ x.0 x.2
-    by_pipes below_hub (Function pipes) left are level x = by_pipe (bulk_out device) pipes.out x.0 are.1 (λ s on there. (level s on there).0) x.2
+    by_pipes below_hub (Function pipes) left are level x = by_pipe (out_endpoint device) pipes.out x.0 are.1 (λ s on there. (level s on there).0) x.2
     by_pipes below_hub Absent left are level x = absurd are
 
   at_path : (found : Option Finding) (result : Result (Unit {0}) EndpointFault) (left : Pipes) → finding_at path table.entries ≡ found → ArePipesAt path table → AllLevel table old → EachWas SameSettings old new
-      → Sent (pipes_at path table) bytes old result left new → Delivered path (is_ok result) bytes table.entries old new
-  at_path None result left e fits level each x = unknown (is_ok result) (ap address_in e) (ap device_of e) each
-  at_path (Some (Refused cause)) result left e fits level each x = unknown (is_ok result) (ap address_in e) (ap device_of e) each
+      → PipesSent (pipes_at path table) bytes old result left new → Delivered path (is_ok result) bytes table.entries old new
+  at_path None result left e fits level each x = unknown (is_ok result) (ap address_in e) (ap accepted_device_of e) each
+  at_path (Some (Refused cause)) result left e fits level each x = unknown (is_ok result) (ap address_in e) (ap accepted_device_of e) each
   at_path (Some (Device device)) result left e fits level each x =
-      let found : device_at path table.entries ≡ Some device = ap device_of e in
+      let found : accepted_device_at path table.entries ≡ Some device = ap accepted_device_of e in
       by_pipes device found result (is_below_hub path) (pipes_at path table) left (fits (Device device) e) (λ s on there. (level path).level device s found on there) x
 
 -- By a host that goes on, and whose bus is at work
 
-sent_delivers : (path bytes : List ℕ) (old new : Hosting) (result : Result (Unit {0}) HostFault) → IsSound old → old.world.fault ≡ None → HandsOn path (λ pipes. Sent pipes bytes) old result new
+sent_delivers : (path bytes : List ℕ) (old new : Hosting) (result : Result (Unit {0}) HostFault) → IsSound old → old.world.fault ≡ None → HandsOn path (λ pipes. PipesSent pipes bytes) old result new
     → Delivered path (is_ok result) bytes old.entries old.world new.world
 sent_delivers path bytes old new result sound still x =
     let worlds = x.keeps.worlds in

@@ -4,13 +4,13 @@ use Rattle.std.proofs.lemmas.List.Elements.{All-cons, All-nil}
 use Rattle.std.specs.Prelude.{All, IfErr}
 use Rattle.usb_device.specs.Tree.{new_ports, row_of}
 use Rattle.usb_world.specs.PlanData.{PlanData, IsPlan}
-use Rattle.usb_world.specs.PluggedAt.{AtPorts}
+use Rattle.usb_world.specs.PlanCourses.{AtPorts}
 use Rattle.usb_world.specs.Steps.{opening}
-use Rattle.usb_enum.proofs.Courses.{opening_in_order}
+use Rattle.usb_enum.proofs.Interface.{opening_in_order}
 use Rattle.usb_world.specs.declared.types.BusFault.{BusFault}
 use Rattle.usb_world.specs.declared.types.BusFault.TheVariants.{LimitReached, Memory, TraceFailed}
 use Rattle.usb_world.specs.World.{World, Failed, changes, change_of}
-use Rattle.usb_host.specs.Hosting.{Hosting, opening as host_opening, with_power}
+use Rattle.usb_host.specs.Hosting.{Hosting, opening_host as host_opening, with_power}
 use Rattle.usb_host.specs.Owning.{IsUntouched}
 use Rattle.usb_host.specs.Progress.{HostWent}
 use Rattle.usb_host.specs.Sound.{IsSound, IsUnpowered, Causes}

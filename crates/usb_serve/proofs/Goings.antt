@@ -4,9 +4,9 @@ use Rattle.usb_world.specs.declared.event.Due.{Due}
 use Rattle.usb_world.specs.declared.event.Due.TheVariants.{Changed, Show, Send, Receive, Clear}
 use Rattle.usb_world.specs.declared.types.BusFault.{BusFault}
 use Rattle.usb_world.specs.World.{World, Spends, to_come}
-use Rattle.usb_world.proofs.Counts.{spends_none, spends_then}
-use Rattle.usb_bus.specs.Traced.{Takes}
-use Rattle.usb_bus.proofs.Wents.{went_none, went_then}
+use Rattle.usb_world.proofs.Interface.{spends_none, spends_then}
+use Rattle.usb_bus.specs.Traced.{TakesEvent}
+use Rattle.usb_bus.proofs.Interface.{went_none, went_then}
 use Rattle.usb_host.specs.Agreement.{Agrees}
 use Rattle.usb_host.specs.Hosting.{Hosting}
 use Rattle.usb_host.specs.Progress.{HostWent, Rests}
@@ -14,7 +14,7 @@ use Rattle.usb_host.specs.Sound.{RoundKeeps, StaysSound}
 use Rattle.usb_host.specs.Told.{StopsAsRound}
 use Rattle.usb_host.specs.declared.fault.HostFault.{HostFault}
 use Rattle.usb_host.specs.declared.host.Round.{Round}
-use Rattle.usb_host.proofs.Soundness.{sound_none}
+use Rattle.usb_host.proofs.Interface.{sound_none}
 use Rattle.usb_serve.specs.declared.runs.Item.{Item}
 use Rattle.usb_serve.specs.declared.runs.RunFault.{RunFault}
 use Rattle.usb_serve.specs.Ran.{Ran, idle, worked, changed, Reaches, Settles, Works}
@@ -67,10 +67,10 @@ ran_changed {a} {b} {c} due d before reaches works is =
 
 -- an event behind calls of the host, whose bus stands for its world
 pub reaches_taken : (old mid new : Hosting) (result : Result (Option Due) BusFault) {w : World} {t : Option (List ℕ)} → Works old mid → Settles old mid → Agrees mid.entries mid.addresses → Rests mid new
-    → w ≡ mid.world → t ≡ mid.trace → Takes w t result new.world new.trace → Reaches old result new
+    → w ≡ mid.world → t ≡ mid.trace → TakesEvent w t result new.world new.trace → Reaches old result new
 reaches_taken old mid new result {w} {t} works settles agrees rests same silent takes =
-    let P : World → Type 0 = λ x. Takes x mid.trace result new.world new.trace in
-    let Q : Option (List ℕ) → Type 0 = λ x. Takes w x result new.world new.trace in
+    let P : World → Type 0 = λ x. TakesEvent x mid.trace result new.world new.trace in
+    let Q : Option (List ℕ) → Type 0 = λ x. TakesEvent w x result new.world new.trace in
     record { mid = mid; ran = worked idle works; settles = settles; comes = record { takes = subst P same (subst Q silent takes); rests = rests; agrees = agrees } }
 
 -- what comes after calls of the host and events that asked nothing

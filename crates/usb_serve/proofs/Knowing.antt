@@ -3,11 +3,11 @@ use Rattle.std.proofs.Common.{◌≡◌, ◌∙◌, sym, ap, false, Option, None
 use Rattle.std.specs.Prelude.{is_some}
 use Rattle.usb_world.specs.declared.event.Due.{Due}
 use Rattle.usb_world.specs.World.{World}
-use Rattle.usb_address.proofs.Events.{event_keeps}
-use Rattle.usb_enum.proofs.Losses.{course_later, few_before}
+use Rattle.usb_address.proofs.Interface.{event_keeps}
+use Rattle.usb_enum.proofs.Interface.{course_later, few_before}
 use Rattle.usb_host.specs.Hosting.{Hosting}
 use Rattle.usb_host.specs.Sound.{IsSound, IsFairTo, StaysSound}
-use Rattle.usb_host.proofs.Soundness.{sound_event}
+use Rattle.usb_host.proofs.Interface.{sound_event}
 use Rattle.usb_serve.specs.Ran.{Ran, idle, worked, changed, Comes}
 use Rattle.usb_serve.proofs.Onwards.{Onward}
 

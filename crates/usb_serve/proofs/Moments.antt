@@ -9,23 +9,22 @@ use Rattle.usb_world.specs.declared.event.Due.TheVariants.{Changed, Show, Send, 
 use Rattle.usb_world.specs.declared.event.Event.{Event}
 use Rattle.usb_world.specs.declared.types.BusFault.{BusFault}
 use Rattle.usb_device.specs.Spec.{Spec}
-use Rattle.usb_world.specs.Live.{pend}
+use Rattle.usb_world.specs.Paths.{pend}
 use Rattle.usb_world.specs.PlanData.{PlanData, IsPlan}
-use Rattle.usb_world.specs.PluggedAt.{AtPorts}
+use Rattle.usb_world.specs.PlanCourses.{AtPorts}
 use Rattle.usb_world.specs.Steps.{EventEnds, after, due_of, event, event_taken, happened, opening, took, took_first}
 use Rattle.usb_world.specs.World.{World, roots_of}
-use Rattle.usb_world.proofs.WorldLaws.{course_joined}
+use Rattle.usb_world.proofs.Interface.{course_joined}
 use Rattle.usb_bus.specs.Lines.{next_due}
-use Rattle.usb_enum.proofs.Losses.{few_before}
+use Rattle.usb_enum.proofs.Interface.{few_before}
 use Rattle.usb_table.specs.Entries.{Entries}
 use Rattle.usb_table.specs.Listing.{IsListedPort, Lists, Matches, tree_after}
-use Rattle.usb_table.proofs.PlannedListing.{lists_of_plan}
+use Rattle.usb_table.proofs.Interface.{lists_of_plan}
 use Rattle.usb_host.specs.Agreement.{Agrees}
 use Rattle.usb_host.specs.Hosting.{Hosting}
 use Rattle.usb_host.specs.Transfers.{SentAt}
 use Rattle.usb_host.specs.Sound.{IsSound, IsAtRest, Causes, IsFairTo, StaysSound}
-use Rattle.usb_host.proofs.Roots.{accounted}
-use Rattle.usb_host.proofs.Settled.{settled_matches}
+use Rattle.usb_host.proofs.Interface.{accounted, settled_matches}
 use Rattle.usb_serve.specs.declared.runs.Item.{Item}
 use Rattle.usb_serve.specs.declared.runs.Item.TheVariants as item
 use Rattle.usb_serve.specs.declared.serving.Mode.{Mode}

@@ -6,8 +6,8 @@ use Rattle.usb_world.specs.declared.types.BusFault.{BusFault}
 use Rattle.usb_world.specs.declared.types.Outcome.{Outcome}
 use Rattle.usb_world.specs.Steps.{AnyStep, Course, here, step, attempt, root_call, event, after}
 use Rattle.usb_world.specs.World.{World}
-use Rattle.usb_world.proofs.WorldLaws.{course_joined}
-use Rattle.usb_bus.specs.Traced.{Attempts, Takes, Traced, still, attempted, called}
+use Rattle.usb_world.proofs.Interface.{course_joined}
+use Rattle.usb_bus.specs.Traced.{Attempts, TakesEvent, Traced, still, attempted, called}
 use Rattle.usb_host.specs.Hosting.{Hosting}
 use Rattle.usb_serve.specs.declared.runs.Item.{Item}
 use Rattle.usb_serve.specs.Ran.{Ran, idle, worked, changed, Reaches, Works, Comes}
@@ -49,7 +49,7 @@ traced_onward {w} (called {w = m} c port before) h =
     let work = traced_onward before h in
     record { sound = work.sound; course = course_joined work.course (step (root_call c port) tt (here (after (root_call c port) m))) }
 
-pub takes_onward : (w v : World) (result : Result (Option Due) BusFault) {t s : Option (List ℕ)} → Takes w t result v s → Onward w v
+pub takes_onward : (w v : World) (result : Result (Option Due) BusFault) {t s : Option (List ℕ)} → TakesEvent w t result v s → Onward w v
 takes_onward w v (Ok due) takes h =
     record { sound = sound_before w v (Ok due) h takes.took.again; course = subst (Course AnyStep w) (sym takes.exact) (step event tt (here (after event w))) }
 takes_onward w v (Err fault) takes h = absurd (cc (h, takes.took.ends.told))

@@ -8,8 +8,7 @@ use Rattle.usb_world.specs.PlanData.{PlanData}
 use Rattle.usb_world.specs.Steps.{TookEvent, after, event, opening}
 use Rattle.usb_world.specs.World.{World}
 use Rattle.usb_address.specs.Owned.{Owned, TillFault}
-use Rattle.usb_address.proofs.Events.{event_keeps}
-use Rattle.usb_address.proofs.Openings.{opening_reach, opening_settled}
+use Rattle.usb_address.proofs.Interface.{event_keeps, opening_reach, opening_settled}
 use Rattle.usb_host.specs.Hosting.{Hosting}
 use Rattle.usb_host.specs.Owning.{IsUntouched, Owning, claims}
 

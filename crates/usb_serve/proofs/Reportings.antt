@@ -7,7 +7,7 @@ use Rattle.std.specs.List.{AllByRecursion}
 use Rattle.std.specs.Prelude.{All, IfOk}
 use Rattle.usb_world.specs.PlanData.{PlanData}
 use Rattle.usb_world.specs.World.{World, Spends}
-use Rattle.usb_world.proofs.Counts.{spends_none}
+use Rattle.usb_world.proofs.Interface.{spends_none}
 use Rattle.usb_host.specs.Hosting.{Hosting}
 use Rattle.usb_serve.specs.declared.runs.Item.{Item}
 use Rattle.usb_serve.specs.declared.runs.Report.{Report}

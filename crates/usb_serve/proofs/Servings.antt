@@ -6,7 +6,7 @@ use Rattle.std.specs.Prelude.{OnOk}
 use Rattle.std.specs.Io.KnownBytes.{Appends}
 use Rattle.std.proofs.KnownBytes.{Appends-nil, Appends-trans}
 use Rattle.usb_bus.specs.Watch.{AppendsFront}
-use Rattle.usb_bus.proofs.Fronts.{front_after, front_after_first, front_of}
+use Rattle.usb_bus.proofs.Interface.{front_after, front_after_first, front_of}
 use Rattle.usb_world.specs.PlanData.{PlanData}
 use Rattle.usb_world.specs.Steps.{opening}
 use Rattle.usb_world.specs.World.{World, to_come}

@@ -4,7 +4,7 @@ use Rattle.std.specs.Global.{Vec}
 use Rattle.std.specs.Io.KnownBytes.{Appends}
 use Rattle.std.proofs.KnownBytes.{Appends-nil, Appends-trans}
 use Rattle.usb_bus.specs.Watch.{AppendsFront}
-use Rattle.usb_bus.proofs.Fronts.{front_after}
+use Rattle.usb_bus.proofs.Interface.{front_after}
 use Rattle.usb_world.specs.World.{World}
 use Rattle.usb_world.specs.declared.types.BusFault.{BusFault}
 use Rattle.usb_world.specs.PlanData.{PlanData}

@@ -4,18 +4,18 @@ use Rattle.usb_device.specs.Rows.{State}
 use Rattle.usb_device.specs.Tree.{reach}
 use Rattle.usb_world.specs.Devices.{EachWas}
 use Rattle.usb_world.specs.World.{World}
-use Rattle.usb_pipe.specs.Whole.{FrontTaken}
+use Rattle.usb_pipe.specs.Leaves.{FrontTaken}
 use Rattle.usb_table.specs.Entries.{Entries}
-use Rattle.usb_table.specs.Findings.{device_at}
+use Rattle.usb_table.specs.Findings.{accepted_device_at}
 
 -- a device took just these bytes, once and behind what it had taken; where the transfer failed, a front of them
-abbrev pub Took : Bool → List ℕ → State → State → Type 0
-Took true bytes s v = v.sink ≡ s.sink ++ bytes
-Took false bytes s v = FrontTaken bytes s v
+abbrev pub TookBytes : Bool → List ℕ → State → State → Type 0
+TookBytes true bytes s v = v.sink ≡ s.sink ++ bytes
+TookBytes false bytes s v = FrontTaken bytes s v
 
 -- so did the device at the path
 abbrev pub TookAt : List ℕ → Bool → List ℕ → ℕ → List ℕ → State → State → Type 0
-TookAt path done bytes j p s v = path ≡ suc j ∷ p → Took done bytes s v
+TookAt path done bytes j p s v = path ≡ suc j ∷ p → TookBytes done bytes s v
 
 -- no other changed
 abbrev pub StaysApart : List ℕ → ℕ → List ℕ → State → State → Type 0
@@ -29,4 +29,4 @@ pub record DeliveredTo (path : List ℕ) (done : Bool) (bytes : List ℕ) (old n
 -- Bytes were sent to the path: the device that is reached there took them. So much is so of one that was known there
 pub record Delivered (path : List ℕ) (done : Bool) (bytes : List ℕ) (entries : Entries) (old new : World) : Type 0 where
   pub took : EachWas (TookAt path done bytes) old new
-  pub known : IsSome (device_at path entries) → DeliveredTo path done bytes old new
+  pub known : IsSome (accepted_device_at path entries) → DeliveredTo path done bytes old new

@@ -3,7 +3,7 @@ use Rattle.std.specs.Prelude.{◌≡◌, ℕ, false, Option, None, Some, Result,
 use Rattle.usb_world.specs.declared.event.Due.{Due}
 use Rattle.usb_world.specs.declared.event.Due.TheVariants.{Changed}
 use Rattle.usb_world.specs.declared.types.BusFault.{BusFault}
-use Rattle.usb_bus.specs.Traced.{Takes}
+use Rattle.usb_bus.specs.Traced.{TakesEvent}
 use Rattle.usb_host.specs.Agreement.{Agrees}
 use Rattle.usb_host.specs.Hosting.{Hosting}
 use Rattle.usb_host.specs.Progress.{HostWent, Rests}
@@ -18,7 +18,7 @@ pub record Works (old new : Hosting) : Type 0 where
 
 -- the next event came, or none was left, or the bus told its fault; no line but the event's was written, and the host keeps what it had
 pub record Comes (old : Hosting) (result : Result (Option Due) BusFault) (new : Hosting) : Type 0 where
-  pub takes : Takes old.world old.trace result new.world new.trace
+  pub takes : TakesEvent old.world old.trace result new.world new.trace
   pub rests : Rests old new
   pub agrees : Agrees old.entries old.addresses
 

@@ -3,12 +3,12 @@ use Rattle.std.specs.Prelude.{◌≡◌, ◌≢◌, ⊤, ℕ, List, [], ◌++◌
 use Rattle.std.specs.FinSet as set
 use Rattle.std.specs.Io.KnownBytes.{Appends}
 use Rattle.usb_world.specs.PlanData.{PlanData, IsPlan}
-use Rattle.usb_world.specs.PluggedAt.{AtPorts}
+use Rattle.usb_world.specs.PlanCourses.{AtPorts}
 use Rattle.usb_world.specs.Steps.{opening}
 use Rattle.usb_world.specs.World.{World}
 use Rattle.usb_bus.specs.Traced.{Traced}
 use Rattle.usb_bus.specs.Watch.{AppendsFront}
-use Rattle.usb_host.specs.Hosting.{Hosting, opening as host_opening}
+use Rattle.usb_host.specs.Hosting.{Hosting, opening_host as host_opening}
 use Rattle.usb_host.specs.Sound.{IsSound}
 use Rattle.usb_plan.specs.declared.fault.PlanFault.TheVariants as plan
 use Rattle.usb_plan.specs.Attempts.{bound_of}

@@ -39,11 +39,13 @@ impl From<AllocError> for InputFault {
 /// # Errors
 /// Read where the reader failed, TooLong where there are more than the limit's bytes.
 pub fn read_text<R: Read>(alloc: Global, reader: &mut Watched<R>) -> Result<Vec<u8>, InputFault>
-    ensures ok { IfOk result (λ text. IfSome (R.remaining (inner_of reader.old)) (λ xs. text.items ≡ xs)) }
-    ensures length { IfOk result (λ text. length text.items ≤ 1048576) }
-    ensures too_long { IsErrOf result InputFault.TooLong → IfSome (R.remaining (inner_of reader.old)) (λ xs. 1048576 < length xs) }
+    ensures ok { IfOk result (λ text. (length text.items ≤ 1048576)
+        × IfSome (R.remaining (inner_of reader.old)) (λ xs. text.items ≡ xs)) }
+    ensures too_long { IsErrOf result InputFault.TooLong
+        → IfSome (R.remaining (inner_of reader.old)) (λ xs. 1048576 < length xs) }
     ensures read { IsErrOf result InputFault.Read → has_failed reader.new ≡ true }
-    ensures unmarked { (result ≢ Err InputFault.Read) → has_failed reader.new ≡ has_failed reader.old }
+    ensures unmarked { (result ≢ Err InputFault.Read)
+        → has_failed reader.new ≡ has_failed reader.old }
     ensures calls { calls_of reader.new ≤ calls_of reader.old + 1048577 }
 {
     let mut text = Vec::new(alloc);

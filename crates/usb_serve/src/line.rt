@@ -47,7 +47,8 @@ pub fn packet_line(alloc: Global, text: &str) -> Result<String, LineFault>
 }
 
 fn two_lines(alloc: Global, text: &str, bytes: &[u8]) -> Result<String, AllocError>
-    ensures { IfOk result (λ s. string_bytes s ≡ text.now ++ 10 ∷ [] ++ encode_upper bytes.now ++ 10 ∷ []) }
+    ensures { IfOk result (λ s. string_bytes s
+        ≡ text.now ++ 10 ∷ [] ++ encode_upper bytes.now ++ 10 ∷ []) }
 {
     let mut lines = String::from_str(alloc, text)?;
     lines.push('\n')?;

@@ -36,7 +36,8 @@ pub fn bound_line(alloc: Global, bound: u64) -> Result<Vec<u8>, AllocError>
 /// `PATH address A full|low HEX`.
 #[tactic(auto, unfolding(crate::specs::Report::address_line))]
 fn address_line(alloc: Global, path: &PortPath, device: &Accepted) -> Result<Vec<u8>, AllocError>
-    ensures { IfOk result (λ line. line.items ≡ address_line path.now device.now.address device.now.low device.now.bytes) }
+    ensures { IfOk result (λ line. line.items
+        ≡ address_line path.now device.now.address device.now.low device.now.bytes) }
 {
     let mut line = Vec::new(alloc);
     push_path(&mut line, path)?;

@@ -3,10 +3,10 @@ ghost use Rattle.std.specs.Prelude.{◌≡◌, ◌≢◌, ◌+◌, ◌≤◌, �
 ghost use Rattle.std.proofs.Props.{props};
 ghost use Rattle.usb_device.specs.Stored.{ports_code};
 ghost use Rattle.usb_world.specs.World.{root_row, to_come, changes};
-ghost use Rattle.usb_bus.specs.Sim.{world_of, writer_of};
+ghost use Rattle.usb_bus.specs.Sim.{world_of, trace_of};
 ghost use Rattle.std.specs.Io.KnownBytes.{Appends};
 ghost use Rattle.usb_bus.specs.Watch.{inner_of, has_failed, tells_failure, AppendsFront};
-ghost use Rattle.usb_world.specs.Steps.{PutLine};
+ghost use Rattle.usb_world.specs.Steps.{PutLine, opening};
 ghost use Rattle.usb_host.specs.Progress.{DidRound, Rests};
 ghost use Rattle.usb_host.specs.Owning.{Owning};
 ghost use Rattle.usb_serve.specs.declared.runs.RunFault.TheVariants.{Memory as NoMemory};
@@ -146,7 +146,7 @@ pub fn run(alloc: Global, plan: &Plan) -> Result<Report, RunFault>
     // each listing is what is plugged when it is made.
     ensures listings { AtMostTwoRunning plan.now.damages → IfOk result (ListsPlugged plan.now) }
 {
-    let mut runner = match Runner::new(alloc, plan, Watched::new(io::sink())) {
+    let mut runner = match Runner::untraced(alloc, plan, Watched::new(io::sink())) {
         Ok(runner) => runner,
         Err(_) => return Err(RunFault::Memory),
     };
@@ -184,12 +184,43 @@ impl<W: Write> Runner<W> {
         ensures going { IfOk result (λ runner. runner.over ≡ false) }
         ensures back { IfErr result (λ e. e.1 ≡ writer) }
     {
-        let _events = plan.events();
         let bus = SimBus::new(alloc, plan, writer)?;
-        Ok(Runner {
+        Ok(Runner::with_bus(alloc, plan, bus))
+    }
+
+    /// The same run, with no line of its trace made: for a writer of which nothing is known, as `io::sink()`.
+    ///
+    /// # Errors
+    /// Memory is refused; the writer is handed back.
+    pub fn untraced(
+        alloc: Global,
+        plan: &Plan,
+        writer: Watched<W>,
+    ) -> Result<Runner<W>, (AllocError, Watched<W>)>
+        requires unfailed { has_failed writer ≡ false }
+        requires unknown { W.contents (inner_of writer) ≡ None }
+        ensures opened { IfOk result (λ runner.
+            Opens plan.now (W.contents (inner_of writer)) runner.host) }
+        ensures begun { IfOk result (λ runner. IsBegun plan.now runner.host.world) }
+        ensures going { IfOk result (λ runner. runner.over ≡ false) }
+        ensures back { IfErr result (λ e. e.1 ≡ writer) }
+    {
+        let bus = SimBus::untraced(alloc, plan, writer)?;
+        Ok(Runner::with_bus(alloc, plan, bus))
+    }
+
+    /// The run of a plan before its first attempt, over the plan's bus.
+    fn with_bus(alloc: Global, plan: &Plan, bus: SimBus<W>) -> Runner<W>
+        requires { world_of bus ≡ opening plan.now }
+        ensures opened { Opens plan.now (trace_of bus) result.host }
+        ensures begun { IsBegun plan.now result.host.world }
+        ensures going { result.over ≡ false }
+    {
+        let _events = plan.events();
+        Runner {
             host: Host::new(alloc, bus),
             over: false,
-        })
+        }
     }
 
     /// Runs on to the next item, or answers None where the run is over: behind its last listing, or behind a fault.
@@ -199,7 +230,9 @@ impl<W: Write> Runner<W> {
     pub fn next_item(&mut self) -> Result<Option<Item>, RunFault>
         ensures next { Next self.old.over self.old.host result self.new.over self.new.host }
         ensures caused { IfErr result (λ fault. IsCaused fault self.new.host.world) }
-        ensures fewer { IfOk result (λ item. IsSome item → items_left self.new.over self.new.host.world < items_left self.old.over self.old.host.world) }
+        ensures fewer { IfOk result (λ item. IsSome item
+            → items_left self.new.over self.new.host.world
+            < items_left self.old.over self.old.host.world) }
         ensures over { OnErr result (self.new.over ≡ true) }
     {
         if self.over {
@@ -239,8 +272,10 @@ impl<W: Write> Runner<W> {
     pub fn put_line(&mut self, line: &[u8]) -> Result<(), BusFault>
         ensures step { PutLine self.old.host.world result self.new.host.world }
         ensures rests { Rests self.old.host self.new.host }
-        ensures front { AppendsFront self.old.host.trace self.new.host.trace (line.now ++ 10 ∷ []) }
-        ensures ok { OnOk result (Appends self.old.host.trace self.new.host.trace (line.now ++ 10 ∷ [])) }
+        ensures front { AppendsFront self.old.host.trace self.new.host.trace
+            (line.now ++ 10 ∷ []) }
+        ensures ok { OnOk result (Appends self.old.host.trace self.new.host.trace
+            (line.now ++ 10 ∷ [])) }
         ensures over { self.new.over ≡ self.old.over }
     {
         self.host.bus_mut().put_line(line)
@@ -289,7 +324,8 @@ impl<W: Write> Runner<W> {
 fn item_of_events<W: Write>(host: &mut Host<SimBus<W>>) -> Result<Option<Item>, RunFault>
     requires running { host.old.stopped ≡ false }
     ensures on { RunsOn NextAsked host.old result host.new }
-    ensures fewer { IfOk result (λ item. IsSome item → to_come host.new.world < to_come host.old.world) }
+    ensures fewer { IfOk result (λ item. IsSome item
+        → to_come host.new.world < to_come host.old.world) }
     ensures owning { Owning host.old → Owning host.new }
 {
     'events: loop {
@@ -306,7 +342,8 @@ fn item_of_events<W: Write>(host: &mut Host<SimBus<W>>) -> Result<Option<Item>, 
 fn next_due<W: Write>(host: &mut Host<SimBus<W>>) -> Result<Option<Due>, RunFault>
     requires running { host.old.stopped ≡ false }
     ensures on { RunsOn NextEvent host.old result host.new }
-    ensures fewer { IfOk result (λ due. IsSome due → to_come host.new.world < to_come host.old.world) }
+    ensures fewer { IfOk result (λ due. IsSome due
+        → to_come host.new.world < to_come host.old.world) }
     ensures owning { Owning host.old → Owning host.new }
 {
     settle(host)?;

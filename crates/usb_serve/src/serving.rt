@@ -169,7 +169,7 @@ fn write_tree<W: Write>(
     ensures written { TreeWritten plan.now
         (W.contents (inner_of writer.old)) result (W.contents (inner_of writer.new)) }
 {
-    let mut runner = match Runner::new(alloc, plan, Watched::new(io::sink())) {
+    let mut runner = match Runner::untraced(alloc, plan, Watched::new(io::sink())) {
         Ok(runner) => runner,
         Err(_) => return Err(ServeFault::Run(RunFault::Memory)),
     };

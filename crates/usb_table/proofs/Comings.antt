@@ -1,6 +1,6 @@
 -- An entry comes under a key that was vacant.
 use Rattle.std.proofs.Common.{◌≡◌, ◌≢◌, ◌∙◌, refl, sym, ap, subst, inl, inr, true, false, Bool, ℕ, ◌+◌, cond, List, [], ◌∷◌, Option, Some, None, arith}
-use Rattle.std.specs.Prelude.{◌⊎◌, ◌||◌, nat_eq, IsSome, IfSome, is_some, unwrap_or, option_map}
+use Rattle.std.specs.Prelude.{◌⊎◌, nat_eq, IsSome, IfSome, is_some, unwrap_or, option_map}
 use Rattle.std.specs.List.Sorted.{IsStrictlySortedBy}
 use Rattle.std.specs.Map.{lookup, keys_of}
 use Rattle.std.specs.BTreeMap.{is_at, insert_entry}
@@ -14,14 +14,15 @@ use Rattle.usb_port.specs.Order.{path_cmp, is_below}
 use Rattle.usb_enum.specs.declared.cause.Cause.TheVariants.{Silent}
 use Rattle.usb_enum.specs.declared.finding.Finding.{Finding}
 use Rattle.usb_enum.specs.declared.finding.Finding.TheVariants.{Device, Refused}
+use Rattle.usb_world.proofs.Interface.{neither}
 use Rattle.usb_table.specs.declared.indexes.Indexes.{Indexes}
 use Rattle.usb_table.specs.declared.pipes.Pipes.TheVariants.{Absent}
 use Rattle.usb_table.specs.Entries.{Entries, has_at, is_at_or_below}
 use Rattle.usb_table.specs.Findings.{address_of, has_address, HasNewAddress}
-use Rattle.usb_table.specs.Keys.{Standing, Standings, Slots, PathKeys, AddressKeys, key_of_path, key_of_address, findings, pipings, listed, entries_of, table_of, address_in, AreIndexes, ArePiped, UpdatesAddress, Enters}
+use Rattle.usb_table.specs.Keys.{Standing, Standings, Slots, PathKeys, AddressKeys, key_of_path, key_of_address, findings, pipings, values_by_path, entries_of, table_of, address_in, AreIndexes, ArePiped, UpdatesAddress, Enters}
 use Rattle.usb_table.specs.Known.{is_below_hub}
 use Rattle.usb_table.specs.Pipes.{ArePipesOf}
-use Rattle.usb_table.proofs.Keys.{number_tied, number_itself, same_or_not, found_at, entries-has_at, listed-insert, agree, some_address, none_or, found_in, same_table}
+use Rattle.usb_table.proofs.Keys.{number_tied, number_itself, same_or_not, found_at, entries-has_at, values_by_path-insert, agree, some_address, none_or, found_in, same_table}
 use Rattle.usb_table.proofs.Paths.{path_tied, path_itself}
 
 module _ (old new : Slots) (before after : Indexes) (path : List ℕ) (key : ℕ) (finding : Finding)
@@ -116,11 +117,11 @@ module _ (old new : Slots) (before after : Indexes) (path : List ℕ) (key : ℕ
 
 pub come_listed : {A : Type 0} (none : A) (old new : ℕ → Option A) (before after : PathKeys) (path : List ℕ) (key : ℕ) (value : A) → after ≡ insert_entry path_cmp before path key → IsStrictlySortedBy path_cmp (keys_of before)
     → ((q : List ℕ) (k : ℕ) → key_of_path before q ≡ Some k → k ≢ key) → new key ≡ Some value → ((k : ℕ) → k ≢ key → new k ≡ old k)
-    → listed none new after ≡ insert_entry path_cmp (listed none old before) path value
+    → values_by_path none new after ≡ insert_entry path_cmp (values_by_path none old before) path value
 come_listed none old new before after path key value is rises apart changed others =
-    ap (listed none new) is
-    ∙ listed-insert none new path key before
-    ∙ ap (λ f. insert_entry path_cmp (listed none new before) path (unwrap_or f none)) changed
+    ap (values_by_path none new) is
+    ∙ values_by_path-insert none new path key before
+    ∙ ap (λ f. insert_entry path_cmp (values_by_path none new before) path (unwrap_or f none)) changed
     ∙ ap (λ es. insert_entry path_cmp es path value) (agree none old new before rises (λ q k h. others k (apart q k h)))
 
 came_at : (before : PathKeys) (path : List ℕ) (key : ℕ) (q : List ℕ) (k : ℕ) (b : Bool) → is_at (path_cmp path) q ≡ b → cond b (Some key) (key_of_path before q) ≡ Some k → ((q ≡ path) × (k ≡ key)) ⊎ (key_of_path before q ≡ Some k)
@@ -162,17 +163,13 @@ module _ (old new : Standings) (before after : Indexes) (path : List ℕ) (key :
   came_piped = come_piped old new before.by_path.entries after.by_path.entries path key s piped enters.path_keys key_apart changed others fits
 
   pub came_table : table_of new after.by_path.entries
-      ≡ record { entries = insert_entry path_cmp (entries_of (findings old) before.by_path.entries) path s.finding; pipes = insert_entry path_cmp (listed Absent (pipings old) before.by_path.entries) path s.pipes }
+      ≡ record { entries = insert_entry path_cmp (entries_of (findings old) before.by_path.entries) path s.finding; pipes = insert_entry path_cmp (values_by_path Absent (pipings old) before.by_path.entries) path s.pipes }
   came_table =
       same_table _ _ _ _
       (come_listed (Refused Silent) (findings old) (findings new) before.by_path.entries after.by_path.entries path key s.finding enters.paths enters.rises key_apart (found_in new key s changed) finding_others)
       (come_listed Absent (pipings old) (pipings new) before.by_path.entries after.by_path.entries path key s.pipes enters.paths enters.rises key_apart (ap (option_map (λ (t : Standing). t.pipes)) changed) (λ k ne. ap (option_map (λ (t : Standing). t.pipes)) (others k ne)))
 
 -- What is told of the entries, as the keys have it
-
-neither : (a b : Bool) → (a || b) ≡ false → (a ≡ false) × (b ≡ false)
-neither true b h = absurd cc
-neither false b h = (refl, h)
 
 not_tied : (path q : List ℕ) → is_at_or_below q path ≡ false → (b : Bool) → is_at (path_cmp path) q ≡ b → b ≡ false
 not_tied path q apart true tie =
@@ -207,7 +204,7 @@ counted a path (e ∷ es) f is has none =
       | false ↦ λ h. counted a path es f h has rest
     ]) is
 
-has_its : (f : Finding) (a : ℕ) → address_of f ≡ Some a → has_address a f ≡ true
+pub has_its : (f : Finding) (a : ℕ) → address_of f ≡ Some a → has_address a f ≡ true
 unfolding has_address
 has_its (Device device) a is = eq-eqb device.address a (cc is)
 has_its (Refused cause) a is = absurd cc

@@ -18,7 +18,7 @@ use Rattle.usb_enum.specs.declared.finding.Finding.TheVariants.{Device, Refused}
 use Rattle.usb_enum.specs.Found.{IsOwn}
 use Rattle.usb_table.specs.declared.pipes.Pipes.{Pipes}
 use Rattle.usb_table.specs.declared.pipes.Pipes.TheVariants.{Absent}
-use Rattle.usb_table.specs.Findings.{device_of, device_at}
+use Rattle.usb_table.specs.Findings.{accepted_device_of, accepted_device_at}
 use Rattle.usb_table.specs.Known.{is_below_hub}
 use Rattle.usb_table.specs.Levels.{AreLevel, LevelAt}
 use Rattle.usb_table.specs.Pipes.{new_pipes}
@@ -64,17 +64,17 @@ module _ (path : List ℕ) (finding : Finding) (table : Table) (w : World) where
       same : pipes_at path (entered path finding table) ≡ new_pipes finding (is_below_hub path)
       same = ap (λ o. unwrap_or o Absent) (lookup-inserted path (new_pipes finding (is_below_hub path)) table.pipes)
 
-      by_finding : (f : Finding) → finding ≡ f → (device : Accepted) (s : State) → device_at path (entered path finding table).entries ≡ Some device → reach w.roots path ≡ true → state_there w.roots path ≡ Some s
+      by_finding : (f : Finding) → finding ≡ f → (device : Accepted) (s : State) → accepted_device_at path (entered path finding table).entries ≡ Some device → reach w.roots path ≡ true → state_there w.roots path ≡ Some s
           → AreLevel (pipes_at path (entered path finding table)) s
       by_finding (Device d) is device s e on there =
           let so = own d s is on there in
           subst (λ (q : Pipes). AreLevel q s) (sym (same ∙ ap (λ f. new_pipes f (is_below_hub path)) is)) (new_level tier supply d (is_below_hub path) s so.0 so.1)
-      by_finding (Refused cause) is device s e on there = absurd (cc (sym (ap device_of (lookup-inserted path finding table.entries ∙ ap Some is)) ∙ e))
+      by_finding (Refused cause) is device s e on there = absurd (cc (sym (ap accepted_device_of (lookup-inserted path finding table.entries ∙ ap Some is)) ∙ e))
 
   -- to others
   pub level_beside : (x : List ℕ) → is_at (path_cmp x) path ≡ false → LevelAt x table w → LevelAt x (entered path finding table) w
   level_beside x apart l = record {
     level = λ device s e on there.
         subst (λ (q : Pipes). AreLevel q s) (ap (λ o. unwrap_or o Absent) (sym (lookup-inserted_elsewhere path (new_pipes finding (is_below_hub path)) x table.pipes apart)))
-        (l.level device s (sym (ap device_of (lookup-inserted_elsewhere path finding x table.entries apart)) ∙ e) on there);
+        (l.level device s (sym (ap accepted_device_of (lookup-inserted_elsewhere path finding x table.entries apart)) ∙ e) on there);
   }

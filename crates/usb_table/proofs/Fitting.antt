@@ -10,12 +10,12 @@ use Rattle.usb_device.specs.Bulk.{advanced, bulk_at, tells_changes}
 use Rattle.usb_device.specs.Progress.{SourceAt, PollAt, NeverTold, OnlyStage, OnlySink, OnlySource}
 use Rattle.usb_device.specs.Rows.{State}
 use Rattle.usb_device.specs.Spec.{Spec}
-use Rattle.usb_world.specs.Live.{address_of}
+use Rattle.usb_world.specs.Paths.{address_of}
 use Rattle.usb_world.specs.World.{World}
 use Rattle.usb_pipe.specs.declared.fault.PipeFault.{PipeFault}
 use Rattle.usb_pipe.specs.Bulk.{Bulk}
 use Rattle.usb_pipe.specs.Interrupt.{Interrupt}
-use Rattle.usb_pipe.specs.Whole.{FitsSink, FitsSource, known, came_with, got_after, SendLeaves, ReceiveLeaves, ClearLeaves, PollLeaves}
+use Rattle.usb_pipe.specs.Leaves.{FitsSink, FitsSource, known, came_with, got_after, SendLeaves, ReceiveLeaves, ClearLeaves, PollLeaves}
 use Rattle.usb_table.specs.declared.pipes.Pipes.{Pipes}
 use Rattle.usb_table.specs.declared.pipes.Pipes.TheVariants.{Hub, Function, Absent}
 use Rattle.usb_table.specs.Levels.{FitsStatus, FitsOut, FitsIn, AreLevel}

@@ -11,9 +11,9 @@ use Rattle.usb_enum.specs.declared.finding.Finding.{Finding}
 use Rattle.usb_enum.specs.declared.finding.Finding.TheVariants.{Refused}
 use Rattle.usb_table.specs.declared.pipes.Pipes.TheVariants.{Absent}
 use Rattle.usb_table.specs.Findings.{address_of}
-use Rattle.usb_table.specs.Keys.{Standing, Standings, Slots, PathKeys, AddressKeys, key_of_path, key_of_address, findings, pipings, listed, table_of, address_in, AreIndexes, ArePiped, UpdatesAddress}
+use Rattle.usb_table.specs.Keys.{Standing, Standings, Slots, PathKeys, AddressKeys, key_of_path, key_of_address, findings, pipings, values_by_path, table_of, address_in, AreIndexes, ArePiped, UpdatesAddress}
 use Rattle.usb_table.specs.Table.{removed}
-use Rattle.usb_table.proofs.Keys.{number_tied, number_itself, same_or_not, listed-remove, agree, found_in, same_table}
+use Rattle.usb_table.proofs.Keys.{number_tied, number_itself, same_or_not, values_by_path-remove, agree, found_in, same_table}
 use Rattle.usb_table.proofs.Paths.{path_tied, path_itself}
 
 module _ (old new : Slots) (paths left : PathKeys) (addresses rest : AddressKeys) (first : List ℕ) (key : ℕ) (finding : Finding)
@@ -108,11 +108,11 @@ module _ (old new : Slots) (paths left : PathKeys) (addresses rest : AddressKeys
 
 module _ (paths left : PathKeys) (first : List ℕ) (key : ℕ) (left_at : (q : List ℕ) (k : ℕ) → key_of_path left q ≡ Some k → (key_of_path paths q ≡ Some k) × (k ≢ key)) where
   pub go_listed : {A : Type 0} (none : A) (old new : ℕ → Option A) → left ≡ remove_entry (is_at (path_cmp first)) paths → IsStrictlySortedBy path_cmp (keys_of left) → ((k : ℕ) → k ≢ key → new k ≡ old k)
-      → listed none new left ≡ remove_entry (is_at (path_cmp first)) (listed none old paths)
+      → values_by_path none new left ≡ remove_entry (is_at (path_cmp first)) (values_by_path none old paths)
   go_listed none old new is rises others =
       agree none old new left rises (λ q k h. others k (left_at q k h).1)
-      ∙ ap (listed none old) is
-      ∙ listed-remove none old (is_at (path_cmp first)) paths
+      ∙ ap (values_by_path none old) is
+      ∙ values_by_path-remove none old (is_at (path_cmp first)) paths
 
   pub go_piped : (old new : Standings) → ArePiped old paths → ((k : ℕ) → k ≢ key → new k ≡ old k) → ArePiped new left
   go_piped old new piped others q k t h stands = let was = left_at q k h in piped q k t was.0 (sym (others k was.1) ∙ stands)

@@ -16,9 +16,9 @@ use Rattle.usb_table.specs.declared.fault.EndpointFault.{EndpointFault}
 use Rattle.usb_table.specs.declared.pipes.BulkPipes.{BulkPipes}
 use Rattle.usb_table.specs.declared.pipes.Pipes.{Pipes}
 use Rattle.usb_table.specs.declared.pipes.Pipes.TheVariants.{Hub, Function, Absent}
-use Rattle.usb_table.specs.Findings.{bulk_out, bulk_in}
+use Rattle.usb_table.specs.Findings.{out_endpoint, in_endpoint}
 use Rattle.usb_table.specs.Pipes.{IsStatusPipe, IsPipe, ArePipesTo, ArePipesOf}
-use Rattle.usb_table.specs.Transfers.{SentBy, ReceivedBy, ClearedBy, ClearedAfter, ClearedIf, Polled, Sent, Received, Cleared}
+use Rattle.usb_table.specs.Transfers.{SentBy, ReceivedBy, ClearedBy, ClearedAfter, ClearedIf, PipesPolled, PipesSent, PipesReceived, PipesCleared}
 
 pub broken_or_not : (c : Condition) → (c ≡ Broken) ⊎ (c ≢ Broken)
 broken_or_not Ready = inr (λ h. cc)
@@ -146,27 +146,27 @@ module _ (below_hub : Bool) where
   both_are : (device : Accepted) (pipes rest : BulkPipes) (left : Pipes) → left ≡ Function rest → SameBoth pipes rest → ArePipesTo device below_hub (Function pipes) → ArePipesTo device below_hub left
   both_are device pipes rest left e same are =
       subst (ArePipesTo device below_hub) (sym e)
-      (are.0, pipe_kept device false (bulk_out device) pipes.out rest.out same.out are.1, pipe_kept device true (bulk_in device) pipes.into rest.into same.into are.2)
+      (are.0, pipe_kept device false (out_endpoint device) pipes.out rest.out same.out are.1, pipe_kept device true (in_endpoint device) pipes.into rest.into same.into are.2)
 
-  polled_to : (pipes left : Pipes) (old : World) (result : Result (Option (ArrayVec ℕ)) PipeFault) (new : World) → Polled pipes old result left new → (device : Accepted) → ArePipesTo device below_hub pipes → ArePipesTo device below_hub left
+  polled_to : (pipes left : Pipes) (old : World) (result : Result (Option (ArrayVec ℕ)) PipeFault) (new : World) → PipesPolled pipes old result left new → (device : Accepted) → ArePipesTo device below_hub pipes → ArePipesTo device below_hub left
   polled_to (Hub pipe) left old result new x device are =
       subst (ArePipesTo device below_hub) (sym x.1) (are.0, status_kept device below_hub pipe x.0 _ x.2.polls.pipe_left are.1)
   polled_to (Function pipes) left old result new x device are = subst (ArePipesTo device below_hub) (sym x.1) are
   polled_to Absent left old result new x device are = absurd are
 
-  sent_to : (bytes : List ℕ) (pipes left : Pipes) (old : World) (result : Result (Unit {0}) EndpointFault) (new : World) → Sent pipes bytes old result left new → (device : Accepted) → ArePipesTo device below_hub pipes → ArePipesTo device below_hub left
+  sent_to : (bytes : List ℕ) (pipes left : Pipes) (old : World) (result : Result (Unit {0}) EndpointFault) (new : World) → PipesSent pipes bytes old result left new → (device : Accepted) → ArePipesTo device below_hub pipes → ArePipesTo device below_hub left
   sent_to bytes (Hub pipe) left old result new x device are = hub_is device pipe left x.1 are
   sent_to bytes (Function pipes) left old result new x device are =
       both_are device pipes (record pipes { out = x.0 }) left x.1 (record { out = sent_by bytes pipes.out x.0 old result new x.2; into = itself pipes.into }) are
   sent_to bytes Absent left old result new x device are = absurd are
 
-  received_to : (packets : ℕ) (pipes left : Pipes) (old : World) (result : Result (Vec ℕ) EndpointFault) (new : World) → Received pipes packets old result left new → (device : Accepted) → ArePipesTo device below_hub pipes → ArePipesTo device below_hub left
+  received_to : (packets : ℕ) (pipes left : Pipes) (old : World) (result : Result (Vec ℕ) EndpointFault) (new : World) → PipesReceived pipes packets old result left new → (device : Accepted) → ArePipesTo device below_hub pipes → ArePipesTo device below_hub left
   received_to packets (Hub pipe) left old result new x device are = hub_is device pipe left x.1 are
   received_to packets (Function pipes) left old result new x device are =
       both_are device pipes (record pipes { into = x.0 }) left x.1 (record { out = itself pipes.out; into = received_by packets pipes.into x.0 old result new x.2 }) are
   received_to packets Absent left old result new x device are = absurd are
 
-  cleared_to : (pipes left : Pipes) (old : World) (result : Result (Unit {0}) EndpointFault) (new : World) → Cleared pipes old result left new → (device : Accepted) → ArePipesTo device below_hub pipes → ArePipesTo device below_hub left
+  cleared_to : (pipes left : Pipes) (old : World) (result : Result (Unit {0}) EndpointFault) (new : World) → PipesCleared pipes old result left new → (device : Accepted) → ArePipesTo device below_hub pipes → ArePipesTo device below_hub left
   cleared_to (Hub pipe) left old result new x device are = hub_is device pipe left x.1 are
   cleared_to (Function pipes) left old result new x device are = both_are device pipes x.0 left x.1 (cleared_both (is_some pipes.out || is_some pipes.into) pipes x.0 old result new x.2) are
   cleared_to Absent left old result new x device are = absurd are
@@ -176,18 +176,18 @@ module _ (below_hub : Bool) where
 abbrev pub Keep : Finding → Pipes → Pipes → Type 0
 Keep finding pipes left = (below_hub : Bool) → ArePipesOf finding below_hub pipes → ArePipesOf finding below_hub left
 
-pub polled_keeps : (finding : Finding) (pipes left : Pipes) (old : World) (result : Result (Option (ArrayVec ℕ)) PipeFault) (new : World) → Polled pipes old result left new → Keep finding pipes left
+pub polled_keeps : (finding : Finding) (pipes left : Pipes) (old : World) (result : Result (Option (ArrayVec ℕ)) PipeFault) (new : World) → PipesPolled pipes old result left new → Keep finding pipes left
 polled_keeps finding pipes left old result new x below_hub =
-    of_device finding below_hub pipes left (polled_to below_hub pipes left old result new x) (λ none. (subst (λ (p : Pipes). Polled p old result left new) none x).1)
+    of_device finding below_hub pipes left (polled_to below_hub pipes left old result new x) (λ none. (subst (λ (p : Pipes). PipesPolled p old result left new) none x).1)
 
-pub sent_keeps : (finding : Finding) (bytes : List ℕ) (pipes left : Pipes) (old : World) (result : Result (Unit {0}) EndpointFault) (new : World) → Sent pipes bytes old result left new → Keep finding pipes left
+pub sent_keeps : (finding : Finding) (bytes : List ℕ) (pipes left : Pipes) (old : World) (result : Result (Unit {0}) EndpointFault) (new : World) → PipesSent pipes bytes old result left new → Keep finding pipes left
 sent_keeps finding bytes pipes left old result new x below_hub =
-    of_device finding below_hub pipes left (sent_to below_hub bytes pipes left old result new x) (λ none. (subst (λ (p : Pipes). Sent p bytes old result left new) none x).1)
+    of_device finding below_hub pipes left (sent_to below_hub bytes pipes left old result new x) (λ none. (subst (λ (p : Pipes). PipesSent p bytes old result left new) none x).1)
 
-pub received_keeps : (finding : Finding) (packets : ℕ) (pipes left : Pipes) (old : World) (result : Result (Vec ℕ) EndpointFault) (new : World) → Received pipes packets old result left new → Keep finding pipes left
+pub received_keeps : (finding : Finding) (packets : ℕ) (pipes left : Pipes) (old : World) (result : Result (Vec ℕ) EndpointFault) (new : World) → PipesReceived pipes packets old result left new → Keep finding pipes left
 received_keeps finding packets pipes left old result new x below_hub =
-    of_device finding below_hub pipes left (received_to below_hub packets pipes left old result new x) (λ none. (subst (λ (p : Pipes). Received p packets old result left new) none x).1)
+    of_device finding below_hub pipes left (received_to below_hub packets pipes left old result new x) (λ none. (subst (λ (p : Pipes). PipesReceived p packets old result left new) none x).1)
 
-pub cleared_keeps : (finding : Finding) (pipes left : Pipes) (old : World) (result : Result (Unit {0}) EndpointFault) (new : World) → Cleared pipes old result left new → Keep finding pipes left
+pub cleared_keeps : (finding : Finding) (pipes left : Pipes) (old : World) (result : Result (Unit {0}) EndpointFault) (new : World) → PipesCleared pipes old result left new → Keep finding pipes left
 cleared_keeps finding pipes left old result new x below_hub =
-    of_device finding below_hub pipes left (cleared_to below_hub pipes left old result new x) (λ none. (subst (λ (p : Pipes). Cleared p old result left new) none x).1)
+    of_device finding below_hub pipes left (cleared_to below_hub pipes left old result new x) (λ none. (subst (λ (p : Pipes). PipesCleared p old result left new) none x).1)

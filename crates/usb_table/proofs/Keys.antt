@@ -23,7 +23,7 @@ use Rattle.usb_enum.specs.declared.finding.Finding.TheVariants.{Refused}
 use Rattle.usb_table.specs.declared.pipes.Pipes.{Pipes}
 use Rattle.usb_table.specs.Table.{Table}
 use Rattle.usb_table.specs.Entries.{Entries, Rises, has_at, is_at_or_below}
-use Rattle.usb_table.specs.Keys.{Standing, Standings, Slots, PathKeys, AddressKeys, key_of_path, key_of_address, under, listed, findings, finding_under, entries_of, address_in, with_address, without_address}
+use Rattle.usb_table.specs.Keys.{Standing, Standings, Slots, PathKeys, AddressKeys, key_of_path, key_of_address, under, values_by_path, findings, finding_under, entries_of, address_in, with_address, without_address}
 
 -- Tests of keys
 
@@ -43,30 +43,30 @@ same_or_not x y = same_or_not_by x y (x == y) refl
 -- What the lists show of the keys
 
 module _ {A : Type 0} (none : A) (slots : ℕ → Option A) where
-  pub listed-lookup : (path : List ℕ) (paths : PathKeys) → lookup (is_at (path_cmp path)) (listed none slots paths) ≡ option_map (under none slots) (key_of_path paths path)
-  listed-lookup path paths = lookup-map_values (under none slots) (is_at (path_cmp path)) paths
+  pub values_by_path-lookup : (path : List ℕ) (paths : PathKeys) → lookup (is_at (path_cmp path)) (values_by_path none slots paths) ≡ option_map (under none slots) (key_of_path paths path)
+  values_by_path-lookup path paths = lookup-map_values (under none slots) (is_at (path_cmp path)) paths
 
-  pub listed_at : (path : List ℕ) (paths : PathKeys) (key : ℕ) (value : A) → key_of_path paths path ≡ Some key → slots key ≡ Some value → lookup (is_at (path_cmp path)) (listed none slots paths) ≡ Some value
-  listed_at path paths key value is stands = listed-lookup path paths ∙ ap (option_map (under none slots)) is ∙ ap (λ f. Some (unwrap_or f none)) stands
+  pub listed_at : (path : List ℕ) (paths : PathKeys) (key : ℕ) (value : A) → key_of_path paths path ≡ Some key → slots key ≡ Some value → lookup (is_at (path_cmp path)) (values_by_path none slots paths) ≡ Some value
+  listed_at path paths key value is stands = values_by_path-lookup path paths ∙ ap (option_map (under none slots)) is ∙ ap (λ f. Some (unwrap_or f none)) stands
 
-  pub listed_none : (path : List ℕ) (paths : PathKeys) → key_of_path paths path ≡ None → lookup (is_at (path_cmp path)) (listed none slots paths) ≡ None
-  listed_none path paths is = listed-lookup path paths ∙ ap (option_map (under none slots)) is
+  pub listed_none : (path : List ℕ) (paths : PathKeys) → key_of_path paths path ≡ None → lookup (is_at (path_cmp path)) (values_by_path none slots paths) ≡ None
+  listed_none path paths is = values_by_path-lookup path paths ∙ ap (option_map (under none slots)) is
 
-  pub listed-remove : (test : List ℕ → Bool) (paths : PathKeys) → listed none slots (remove_entry test paths) ≡ remove_entry test (listed none slots paths)
-  listed-remove test [] = refl
-  listed-remove test (e ∷ es) =
-      (elim (test e.0) as (λ b. listed none slots (cond b es (e ∷ remove_entry test es)) ≡ cond b (listed none slots es) ((e.0, under none slots e.1) ∷ remove_entry test (listed none slots es))) [
+  pub values_by_path-remove : (test : List ℕ → Bool) (paths : PathKeys) → values_by_path none slots (remove_entry test paths) ≡ remove_entry test (values_by_path none slots paths)
+  values_by_path-remove test [] = refl
+  values_by_path-remove test (e ∷ es) =
+      (elim (test e.0) as (λ b. values_by_path none slots (cond b es (e ∷ remove_entry test es)) ≡ cond b (values_by_path none slots es) ((e.0, under none slots e.1) ∷ remove_entry test (values_by_path none slots es))) [
         | true ↦ refl
-        | false ↦ ap (λ l. (e.0, under none slots e.1) ∷ l) (listed-remove test es)
+        | false ↦ ap (λ l. (e.0, under none slots e.1) ∷ l) (values_by_path-remove test es)
       ])
 
-  pub listed-insert : (path : List ℕ) (key : ℕ) (paths : PathKeys) → listed none slots (insert_entry path_cmp paths path key) ≡ insert_entry path_cmp (listed none slots paths) path (under none slots key)
-  listed-insert path key [] = refl
-  listed-insert path key (e ∷ es) =
-      (elim (path_cmp path e.0) as (λ o. listed none slots (match_ordering o ((path, key) ∷ e ∷ es) ((e.0, key) ∷ es) (e ∷ insert_entry path_cmp es path key)) ≡ match_ordering o ((path, under none slots key) ∷ (e.0, under none slots e.1) ∷ listed none slots es) ((e.0, under none slots key) ∷ listed none slots es) ((e.0, under none slots e.1) ∷ insert_entry path_cmp (listed none slots es) path (under none slots key))) [
+  pub values_by_path-insert : (path : List ℕ) (key : ℕ) (paths : PathKeys) → values_by_path none slots (insert_entry path_cmp paths path key) ≡ insert_entry path_cmp (values_by_path none slots paths) path (under none slots key)
+  values_by_path-insert path key [] = refl
+  values_by_path-insert path key (e ∷ es) =
+      (elim (path_cmp path e.0) as (λ o. values_by_path none slots (match_ordering o ((path, key) ∷ e ∷ es) ((e.0, key) ∷ es) (e ∷ insert_entry path_cmp es path key)) ≡ match_ordering o ((path, under none slots key) ∷ (e.0, under none slots e.1) ∷ values_by_path none slots es) ((e.0, under none slots key) ∷ values_by_path none slots es) ((e.0, under none slots e.1) ∷ insert_entry path_cmp (values_by_path none slots es) path (under none slots key))) [
         | Less ↦ refl
         | Equal ↦ refl
-        | Greater ↦ ap (λ l. (e.0, under none slots e.1) ∷ l) (listed-insert path key es)
+        | Greater ↦ ap (λ l. (e.0, under none slots e.1) ∷ l) (values_by_path-insert path key es)
       ])
 
 -- slots that agree on the keys show the same
@@ -76,22 +76,22 @@ if_some None each = tt
 if_some (Some key) each = each key refl
 
 module _ {A : Type 0} (none : A) (old new : ℕ → Option A) where
-  listed-agree : (paths : PathKeys) → All (λ k. new k ≡ old k) (values_of paths) → listed none new paths ≡ listed none old paths
-  listed-agree [] all = refl
-  listed-agree (e ∷ es) all =
+  values_by_path-agree : (paths : PathKeys) → All (λ k. new k ≡ old k) (values_of paths) → values_by_path none new paths ≡ values_by_path none old paths
+  values_by_path-agree [] all = refl
+  values_by_path-agree (e ∷ es) all =
       let head : new e.1 ≡ old e.1 = All-head (λ k. new k ≡ old k) e.1 (values_of es) all in
-      let tail = listed-agree es (All-tail (λ k. new k ≡ old k) e.1 (values_of es) all) in
-      ap (λ f. (e.0, unwrap_or f none) ∷ listed none new es) head ∙ ap (λ l. (e.0, under none old e.1) ∷ l) tail
+      let tail = values_by_path-agree es (All-tail (λ k. new k ≡ old k) e.1 (values_of es) all) in
+      ap (λ f. (e.0, unwrap_or f none) ∷ values_by_path none new es) head ∙ ap (λ l. (e.0, under none old e.1) ∷ l) tail
 
-  pub agree : (paths : PathKeys) → IsStrictlySortedBy path_cmp (keys_of paths) → ((path : List ℕ) (key : ℕ) → key_of_path paths path ≡ Some key → new key ≡ old key) → listed none new paths ≡ listed none old paths
+  pub agree : (paths : PathKeys) → IsStrictlySortedBy path_cmp (keys_of paths) → ((path : List ℕ) (key : ℕ) → key_of_path paths path ≡ Some key → new key ≡ old key) → values_by_path none new paths ≡ values_by_path none old paths
   agree paths rises each =
-      listed-agree paths
+      values_by_path-agree paths
       (All-values_from_lookup (eq_by_cmp_equiv nat_list_cmp_total) (λ k. new k ≡ old k) paths (IsDistinct-from_sorted path_cmp (keys_of paths) rises) (λ q. if_some (key_of_path paths q) (each q)))
 
 -- What the entries show of the keys
 
 pub entries-lookup : (found : Slots) (path : List ℕ) (paths : PathKeys) → lookup (is_at (path_cmp path)) (entries_of found paths) ≡ option_map (finding_under found) (key_of_path paths path)
-entries-lookup found = listed-lookup (Refused Silent) found
+entries-lookup found = values_by_path-lookup (Refused Silent) found
 
 pub found_at : (found : Slots) (path : List ℕ) (paths : PathKeys) (key : ℕ) (finding : Finding) → key_of_path paths path ≡ Some key → found key ≡ Some finding → lookup (is_at (path_cmp path)) (entries_of found paths) ≡ Some finding
 found_at found = listed_at (Refused Silent) found

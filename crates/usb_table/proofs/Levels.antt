@@ -8,74 +8,72 @@ use Rattle.usb_device.specs.Rows.{State}
 use Rattle.usb_device.specs.Tree.{reach, reach_at, state_at}
 use Rattle.usb_device.specs.View.{state_there}
 use Rattle.usb_world.specs.Devices.{Was, EachWas}
-use Rattle.usb_world.specs.Live.{address_of, is_way}
+use Rattle.usb_world.specs.Paths.{address_of, is_way}
 use Rattle.usb_world.specs.World.{World}
-use Rattle.usb_world.proofs.AddressesReset.{same_is}
-use Rattle.usb_world.proofs.Booleans.{no}
-use Rattle.usb_world.proofs.OneHolderMore.{equal_same}
+use Rattle.usb_world.proofs.Interface.{equal_same, no, same_is}
 use Rattle.usb_hub.specs.Addresses.{StaysAs, EachElsewhere}
 use Rattle.usb_enum.specs.declared.finding.Accepted.{Accepted}
 use Rattle.usb_enum.specs.declared.finding.Finding.{Finding}
 use Rattle.usb_enum.specs.declared.finding.Finding.TheVariants.{Device, Refused}
 use Rattle.usb_table.specs.declared.pipes.Pipes.{Pipes}
 use Rattle.usb_table.specs.Entries.{Entries}
-use Rattle.usb_table.specs.Findings.{device_of, device_at}
+use Rattle.usb_table.specs.Findings.{accepted_device_of, accepted_device_at}
 use Rattle.usb_table.specs.Keys.{address_in}
 use Rattle.usb_table.specs.Levels.{AreLevel, LevelAt, AllLevel, IsHeld, KeepsLevel}
-use Rattle.usb_table.specs.Listing.{finding_at, address_at}
+use Rattle.usb_table.specs.Listing.{finding_at, entry_address}
 use Rattle.usb_table.specs.Table.{Table, pipes_at, GoesThrough}
-use Rattle.usb_table.specs.Transfers.{Keeps}
+use Rattle.usb_table.specs.Transfers.{OnlyTransfers}
 use Rattle.usb_table.proofs.Fitting.{Moves, still_level}
 use Rattle.usb_table.proofs.Paths.{path_itself, path_tied}
 
 -- the address of an accepted device is that of its path
-device_address : (found : Option Finding) (device : Accepted) → device_of found ≡ Some device → address_in found ≡ Some device.address
+device_address : (found : Option Finding) (device : Accepted) → accepted_device_of found ≡ Some device → address_in found ≡ Some device.address
 device_address None device e = absurd (cc e)
 device_address (Some (Device d)) device e = ap (λ (x : Option Accepted). option_map (λ (y : Accepted). y.address) x) e
 device_address (Some (Refused cause)) device e = absurd (cc e)
 
-pub address_found : (path : List ℕ) (entries : Entries) (device : Accepted) → device_at path entries ≡ Some device → address_at path entries ≡ Some device.address
+pub address_found : (path : List ℕ) (entries : Entries) (device : Accepted) → accepted_device_at path entries ≡ Some device → entry_address path entries ≡ Some device.address
 address_found path entries device e = device_address (finding_at path entries) device e
 
 -- a path is none that starts at no port of the root
 at_some_port : (table : Table) (w : World) (path : List ℕ)
-    → ((j : ℕ) (p : List ℕ) → path ≡ suc j ∷ p → (device : Accepted) (s : State) → device_at path table.entries ≡ Some device → reach_at w.roots j p ≡ true → state_at w.roots j p ≡ Some s → AreLevel (pipes_at path table) s)
+    → ((j : ℕ) (p : List ℕ) → path ≡ suc j ∷ p → (device : Accepted) (s : State) → accepted_device_at path table.entries ≡ Some device → reach_at w.roots j p ≡ true → state_at w.roots j p ≡ Some s → AreLevel (pipes_at path table) s)
     → LevelAt path table w
 at_some_port table w [] f = record { level = λ device s e on there. no on }
 at_some_port table w (zero ∷ p) f = record { level = λ device s e on there. no on }
 at_some_port table w (suc j ∷ p) f = record { level = λ device s e on there. f j p refl device s e on there }
 
 -- what is reached at a path holds the address of the path's entry
-pub held_address : (table : Table) (w : World) (path : List ℕ) (device : Accepted) (s : State) → IsHeld table w → device_at path table.entries ≡ Some device → reach w.roots path ≡ true → state_there w.roots path ≡ Some s
+pub held_address : (table : Table) (w : World) (path : List ℕ) (device : Accepted) (s : State) → IsHeld table w → accepted_device_at path table.entries ≡ Some device → reach w.roots path ≡ true → state_there w.roots path ≡ Some s
     → address_of s ≡ device.address
 held_address table w path device s held e on there =
     same_Some (address_of s) device.address (sym (ap (option_map address_of) there) ∙ held.own path on ∙ address_found path table.entries device e)
 
 -- two paths of one address are one
-pub one_path : (table : Table) (w : World) (x path : List ℕ) (a : ℕ) → IsHeld table w → address_at x table.entries ≡ Some a → address_at path table.entries ≡ Some a → x ≡ path
+pub one_path : (table : Table) (w : World) (x path : List ℕ) (a : ℕ) → IsHeld table w → entry_address x table.entries ≡ Some a → entry_address path table.entries ≡ Some a → x ≡ path
 one_path table w x path a held e f = same_is path x (held.distinct path x a f e)
 
 apart_or : (path x : List ℕ) → is_at (path_cmp path) x ≡ false → x ≢ path
 apart_or path x apart e = no (sym apart ∙ subst (λ y. is_at (path_cmp path) y ≡ true) (sym e) (path_itself path))
 
-module _ (path : List ℕ) (device : Accepted) (ends : Type 0) (pipes left : Pipes) (old new : Table) (before after : World) (stands : device_at path old.entries ≡ Some device)
-    (goes : GoesThrough path old new) (was : pipes_at path old ≡ pipes) (is : pipes_at path new ≡ left) (keeps : Keeps before after)
+module _ (path : List ℕ) (device : Accepted) (ends : Type 0) (pipes left : Pipes) (old new : Table) (before after : World) (stands : accepted_device_at path old.entries ≡ Some device)
+    (goes : GoesThrough path old new) (was : pipes_at path old ≡ pipes) (is : pipes_at path new ≡ left) (keeps : OnlyTransfers before after)
     (moves : after.shared ≡ false → EachWas (Moves device.address ends pipes left) before after) where
   pub single : IsHeld old before → after.shared ≡ false
-  single held = (keeps.addresses.kept (λ x. address_at x old.entries) (record { so = λ h. held; single = held.single })).single
+  single held = (keeps.addresses.kept (λ x. entry_address x old.entries) (record { so = λ h. held; single = held.single })).single
 
-  same_device : (x : List ℕ) (d : Accepted) → device_at x new.entries ≡ Some d → device_at x old.entries ≡ Some d
-  same_device x d e = ap (device_at x) (sym goes.entries) ∙ e
+  same_device : (x : List ℕ) (d : Accepted) → accepted_device_at x new.entries ≡ Some d → accepted_device_at x old.entries ≡ Some d
+  same_device x d e = ap (accepted_device_at x) (sym goes.entries) ∙ e
 
   others : IsHeld old before → (x : List ℕ) → is_at (path_cmp path) x ≡ false → LevelAt x old before → LevelAt x new after
   others held x apart l = at_some_port new after x at
     where
-      at : (j : ℕ) (p : List ℕ) → x ≡ suc j ∷ p → (d : Accepted) (s : State) → device_at x new.entries ≡ Some d → reach_at after.roots j p ≡ true → state_at after.roots j p ≡ Some s → AreLevel (pipes_at x new) s
+      at : (j : ℕ) (p : List ℕ) → x ≡ suc j ∷ p → (d : Accepted) (s : State) → accepted_device_at x new.entries ≡ Some d → reach_at after.roots j p ≡ true → state_at after.roots j p ≡ Some s → AreLevel (pipes_at x new) s
       at j p e d s found on there =
           let w : Was (Moves device.address ends pipes left) before j p s = moves (single held) j p s on there in
           let reached : reach before.roots x ≡ true = ap (reach before.roots) e ∙ w.on in
           let stood : state_there before.roots x ≡ Some w.before = ap (state_there before.roots) e ∙ w.stands in
-          let d_old : device_at x old.entries ≡ Some d = same_device x d found in
+          let d_old : accepted_device_at x old.entries ≡ Some d = same_device x d found in
           let has : address_of w.before ≡ d.address = held_address old before x d w.before held d_old reached stood in
           let same : (address_of w.before == device.address) ≡ true → x ≡ path = λ at.
           one_path old before x path device.address held (address_found x old.entries d d_old ∙ ap Some (sym has ∙ equal_same (address_of w.before) device.address at)) (address_found path old.entries device stands) in
@@ -89,7 +87,7 @@ module _ (path : List ℕ) (device : Accepted) (ends : Type 0) (pipes left : Pip
   itself : IsHeld old before → ends → LevelAt path old before → LevelAt path new after
   itself held e l = at_some_port new after path at
     where
-      at : (j : ℕ) (p : List ℕ) → path ≡ suc j ∷ p → (d : Accepted) (s : State) → device_at path new.entries ≡ Some d → reach_at after.roots j p ≡ true → state_at after.roots j p ≡ Some s → AreLevel (pipes_at path new) s
+      at : (j : ℕ) (p : List ℕ) → path ≡ suc j ∷ p → (d : Accepted) (s : State) → accepted_device_at path new.entries ≡ Some d → reach_at after.roots j p ≡ true → state_at after.roots j p ≡ Some s → AreLevel (pipes_at path new) s
       at j p x d s found on there =
           let w : Was (Moves device.address ends pipes left) before j p s = moves (single held) j p s on there in
           let reached : reach before.roots path ≡ true = ap (reach before.roots) x ∙ w.on in
@@ -105,10 +103,10 @@ module _ (path : List ℕ) (device : Accepted) (ends : Type 0) (pipes left : Pip
 
 same_at : (x : List ℕ) (old new : Table) (w : World) → new.entries ≡ old.entries → pipes_at x new ≡ pipes_at x old → LevelAt x old w → LevelAt x new w
 same_at x old new w e same l = record {
-  level = λ device s found on there. subst (λ (q : Pipes). AreLevel q s) (sym same) (l.level device s (ap (device_at x) (sym e) ∙ found) on there);
+  level = λ device s found on there. subst (λ (q : Pipes). AreLevel q s) (sym same) (l.level device s (ap (accepted_device_at x) (sym e) ∙ found) on there);
 }
 
-pub still_levels : (path : List ℕ) (ends : Type 0) (old new : Table) (before after : World) → GoesThrough path old new → pipes_at path new ≡ pipes_at path old → after ≡ before → Keeps before after → KeepsLevel path ends old before new after
+pub still_levels : (path : List ℕ) (ends : Type 0) (old new : Table) (before after : World) → GoesThrough path old new → pipes_at path new ≡ pipes_at path old → after ≡ before → OnlyTransfers before after → KeepsLevel path ends old before new after
 still_levels path ends old new before after goes same none keeps = record {
   worlds = keeps;
   others = λ held x apart l. subst (LevelAt x new) (sym none) (same_at x old new before goes.entries (goes.others x apart) l);
@@ -129,10 +127,10 @@ module _ (table : Table) (old new : World) where
   level_if : (x : List ℕ) → ((j : ℕ) (p : List ℕ) → x ≡ suc j ∷ p → (s : State) → reach_at new.roots j p ≡ true → state_at new.roots j p ≡ Some s → Was StaysAs old j p s) → LevelAt x table old → LevelAt x table new
   level_if x was l = at_some_port table new x at
     where
-      at : (j : ℕ) (p : List ℕ) → x ≡ suc j ∷ p → (d : Accepted) (s : State) → device_at x table.entries ≡ Some d → reach_at new.roots j p ≡ true → state_at new.roots j p ≡ Some s → AreLevel (pipes_at x table) s
+      at : (j : ℕ) (p : List ℕ) → x ≡ suc j ∷ p → (d : Accepted) (s : State) → accepted_device_at x table.entries ≡ Some d → reach_at new.roots j p ≡ true → state_at new.roots j p ≡ Some s → AreLevel (pipes_at x table) s
       at j p e d s found on there =
           let w : Was StaysAs old j p s = was j p e s on there in
-          still_level (pipes_at x table) w.before s w.so.2 (l.level d w.before found (ap (reach old.roots) e ∙ w.on) (ap (state_there old.roots) e ∙ w.stands))
+          still_level (pipes_at x table) w.before s w.so (l.level d w.before found (ap (reach old.roots) e ∙ w.on) (ap (state_there old.roots) e ∙ w.stands))
 
   -- where each device stays as it was
   pub level_stays : EachWas StaysAs old new → (x : List ℕ) → LevelAt x table old → LevelAt x table new

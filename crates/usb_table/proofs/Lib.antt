@@ -1,11 +1,11 @@
 pub mod Addresses
-pub mod Chosen
 pub mod Clearing
 pub mod Comings
 pub mod Endpoints
 pub mod Entering
 pub mod Fitting
 pub mod Goings
+pub mod Interface
 pub mod Keeping
 pub mod Kept
 pub mod Keys
@@ -20,7 +20,6 @@ pub mod PlannedListing
 pub mod Polling
 pub mod Ports
 pub mod Removals
-pub mod Sound
 pub mod Staying
 pub mod Targets
 pub mod Throughs

@@ -13,10 +13,9 @@ use Rattle.usb_enum.specs.declared.finding.Accepted.{Accepted}
 use Rattle.usb_enum.specs.declared.finding.Finding.{Finding}
 use Rattle.usb_enum.specs.declared.finding.Finding.TheVariants.{Device, Refused}
 use Rattle.usb_enum.specs.Described.{texts_of, strings_of, facts_of, IsRight}
-use Rattle.usb_enum.proofs.VerdictExamples.{examples, small, two_ports}
-use Rattle.usb_enum.proofs.VerdictRows.{row_silent}
+use Rattle.usb_enum.proofs.Interface.{examples, row_silent, small, two_ports}
 use Rattle.usb_table.specs.Entries.{Entries, Rises}
-use Rattle.usb_table.specs.Listing.{Tree, finding_at, address_at, IsListedPort, tier_of, supply_at, ListsEach, Lists}
+use Rattle.usb_table.specs.Listing.{Tree, finding_at, entry_address, IsListedPort, tier_of, supply_at, ListsEach, Lists}
 use Rattle.usb_table.proofs.Paths.{path_tied}
 
 abbrev quiet : Spec
@@ -82,7 +81,7 @@ alone_none : (path : List ℕ) → is_at (path_cmp path) (1 ∷ []) ≡ false �
 alone_none path x y finding at = let none : finding_at path entries ≡ None = rw (x, y) refl in absurd (cc (none, at))
 
 abbrev IsFirst : List ℕ → Type 0
-IsFirst path = (address : ℕ) → address_at path entries ≡ Some address → (path ≡ 1 ∷ []) × IsAddress address
+IsFirst path = (address : ℕ) → entry_address path entries ≡ Some address → (path ≡ 1 ∷ []) × IsAddress address
 
 address_first : IsFirst (1 ∷ [])
 address_first address at = let same : 1 ≡ address = cc at in (refl, subst IsAddress same (omega arith, omega arith))
@@ -91,7 +90,7 @@ address_second : IsFirst (1 ∷ 2 ∷ [])
 address_second address at = absurd (cc at)
 
 address_none : (path : List ℕ) → is_at (path_cmp path) (1 ∷ []) ≡ false → is_at (path_cmp path) (1 ∷ 2 ∷ []) ≡ false → IsFirst path
-address_none path x y address at = let none : address_at path entries ≡ None = rw (x, y) refl in absurd (cc (none, at))
+address_none path x y address at = let none : entry_address path entries ≡ None = rw (x, y) refl in absurd (cc (none, at))
 
 rising : Rises entries
 unfolding IsStrictlySortedBy

@@ -6,32 +6,31 @@ use Rattle.usb_world.specs.declared.types.BusFault.{BusFault}
 use Rattle.usb_device.specs.Rows.{State}
 use Rattle.usb_world.specs.Devices.{Relation, EachWas}
 use Rattle.usb_world.specs.World.{World}
-use Rattle.usb_world.proofs.Devices.{each_joined, each_none, each_wider}
+use Rattle.usb_world.proofs.Interface.{each_joined, each_none}
 use Rattle.usb_transaction.specs.declared.target.Target.{Target}
-use Rattle.usb_transaction.proofs.Overs.{each_both}
+use Rattle.usb_transaction.proofs.Interface.{each_both}
 use Rattle.usb_pipe.specs.declared.fault.PipeFault.{PipeFault}
 use Rattle.usb_pipe.specs.declared.fault.PipeFault.TheVariants as pipe
 use Rattle.usb_pipe.specs.Bulk.{Bulk, Sends, Receives, Clears}
 use Rattle.usb_pipe.specs.Control.{Faults}
-use Rattle.usb_pipe.specs.Whole.{known, SendLeaves, ReceiveLeaves, ClearLeaves}
-use Rattle.usb_pipe.proofs.WholeClears.{clear_leaves}
-use Rattle.usb_pipe.proofs.WholeReceives.{receive_leaves}
-use Rattle.usb_pipe.proofs.WholeSends.{send_leaves}
+use Rattle.usb_pipe.specs.Leaves.{known, SendLeaves, ReceiveLeaves, ClearLeaves}
+use Rattle.usb_pipe.proofs.Interface.{clear_leaves, receive_leaves, send_leaves}
 use Rattle.usb_enum.specs.declared.finding.Accepted.{Accepted}
 use Rattle.usb_enum.specs.declared.finding.Finding.{Finding}
 use Rattle.usb_enum.specs.declared.finding.Finding.TheVariants.{Device, Refused}
 use Rattle.usb_enum.specs.Device.{target_of}
+use Rattle.usb_enum.proofs.Interface.{each_joint}
 use Rattle.usb_table.specs.declared.fault.EndpointFault.{EndpointFault}
 use Rattle.usb_table.specs.declared.pipes.BulkPipes.{BulkPipes}
 use Rattle.usb_table.specs.declared.pipes.Pipes.{Pipes}
 use Rattle.usb_table.specs.declared.pipes.Pipes.TheVariants.{Hub, Function, Absent}
-use Rattle.usb_table.specs.Findings.{bulk_out, bulk_in, device_of, device_at}
+use Rattle.usb_table.specs.Findings.{out_endpoint, in_endpoint, accepted_device_of, accepted_device_at}
 use Rattle.usb_table.specs.Known.{is_below_hub}
 use Rattle.usb_table.specs.Levels.{KeepsMoved}
 use Rattle.usb_table.specs.Listing.{finding_at}
 use Rattle.usb_table.specs.Pipes.{IsBulkPipe, IsPipe, ArePipesTo}
 use Rattle.usb_table.specs.Table.{Table, pipes_at, GoesThrough}
-use Rattle.usb_table.specs.Transfers.{SameSettings, SentBy, ReceivedBy, ClearedBy, ClearedAfter, ClearedIf, Sent, Received, Cleared, Keeps}
+use Rattle.usb_table.specs.Transfers.{SameSettings, SentBy, ReceivedBy, ClearedBy, ClearedAfter, ClearedIf, PipesSent, PipesReceived, PipesCleared, OnlyTransfers}
 use Rattle.usb_table.proofs.Clearing.{ClearSpares, cleared_apart}
 use Rattle.usb_table.proofs.Fitting.{Moves, moves_none, moves_then, send_moves, receive_moves, clear_out_moves, clear_in_moves}
 use Rattle.usb_table.proofs.Keeping.{cleared_single}
@@ -48,9 +47,6 @@ each_still address ends pipes w single = each_none (Moves address ends pipes pip
 
 same_moves : (address : ℕ) (ends : Type 0) (pipes left : Pipes) (old new : World) → left ≡ pipes → new ≡ old → EachMoves address ends pipes left old new
 same_moves address ends pipes left old new e same = subst (λ l. EachMoves address ends pipes l old new) (sym e) (subst (EachMoves address ends pipes pipes old) (sym same) (each_still address ends pipes old))
-
-pub each_joint : (R S T : Relation) → ((j : ℕ) (p : List ℕ) (s v : State) → R j p s v → S j p s v → T j p s v) → (old new : World) → EachWas R old new → EachWas S old new → EachWas T old new
-each_joint R S T f old new x y = each_wider (λ j p s v. R j p s v × S j p s v) T (λ j p s v k. f j p s v k.0 k.1) old new (each_both R S old new x y)
 
 -- Where the bus is at work, the answer is not its own
 
@@ -191,29 +187,29 @@ module _ (device : Accepted) where
 
   -- one and then the other
   cleared_in_turn : (pipes left : BulkPipes) (first : Result (Unit {0}) PipeFault) (old mid : World) (result : Result (Unit {0}) EndpointFault) (new : World)
-      → IsPipe device false (bulk_out device) pipes.out → IsPipe device true (bulk_in device) pipes.into → ClearedBy pipes.out old first left.out mid → ClearedAfter first pipes.into mid result left.into new
+      → IsPipe device false (out_endpoint device) pipes.out → IsPipe device true (in_endpoint device) pipes.into → ClearedBy pipes.out old first left.out mid → ClearedAfter first pipes.into mid result left.into new
       → EachMoves device.address (new.fault ≡ None) (Function pipes) (Function left) old new
   cleared_in_turn pipes left (Ok done) old mid result new out into x y single =
       each_joined (Moves device.address (new.fault ≡ None) (Function pipes) (Function (record pipes { out = left.out })))
       (Moves device.address (new.fault ≡ None) (Function (record pipes { out = left.out })) (Function left)) (Moves device.address (new.fault ≡ None) (Function pipes) (Function left))
       (moves_then device.address (new.fault ≡ None) (Function pipes) (Function (record pipes { out = left.out })) (Function left)) old mid new
-      (cleared_out (new.fault ≡ None) (bulk_out device) pipes.out pipes.into old (Ok done) left.out mid (λ sound l told. refl) out x (cleared_single pipes.into left.into mid y.0 new y.2 single))
-      (cleared_in (new.fault ≡ None) (bulk_in device) left.out pipes.into mid y.0 left.into new (λ sound l told. sound_known y.0 l new told sound) into y.2 single)
+      (cleared_out (new.fault ≡ None) (out_endpoint device) pipes.out pipes.into old (Ok done) left.out mid (λ sound l told. refl) out x (cleared_single pipes.into left.into mid y.0 new y.2 single))
+      (cleared_in (new.fault ≡ None) (in_endpoint device) left.out pipes.into mid y.0 left.into new (λ sound l told. sound_known y.0 l new told sound) into y.2 single)
   cleared_in_turn pipes left (Err fault) old mid result new out into x y single =
       subst (λ (o : Option Bulk). EachMoves device.address (new.fault ≡ None) (Function pipes) (Function (record { out = left.out; into = o })) old new) (sym y.1)
-      (cleared_out (new.fault ≡ None) (bulk_out device) pipes.out pipes.into old (Err fault) left.out new (λ sound l told. sound_known {A = Unit {0}} (Err fault) l new told sound) out (subst (ClearedBy pipes.out old (Err fault) left.out) (sym y.2) x)) single
+      (cleared_out (new.fault ≡ None) (out_endpoint device) pipes.out pipes.into old (Err fault) left.out new (λ sound l told. sound_known {A = Unit {0}} (Err fault) l new told sound) out (subst (ClearedBy pipes.out old (Err fault) left.out) (sym y.2) x)) single
 
-  cleared_if : (some : Bool) (pipes left : BulkPipes) (old : World) (result : Result (Unit {0}) EndpointFault) (new : World) → IsPipe device false (bulk_out device) pipes.out → IsPipe device true (bulk_in device) pipes.into
+  cleared_if : (some : Bool) (pipes left : BulkPipes) (old : World) (result : Result (Unit {0}) EndpointFault) (new : World) → IsPipe device false (out_endpoint device) pipes.out → IsPipe device true (in_endpoint device) pipes.into
       → ClearedIf some pipes old result left new → EachMoves device.address (new.fault ≡ None) (Function pipes) (Function left) old new
   cleared_if false pipes left old result new out into x = same_moves _ _ _ _ old new (ap Function x.1) x.2
   cleared_if true pipes left old result new out into x = cleared_in_turn pipes left x.first old x.mid result new out into x.out x.into
 
 -- Through the pipes to what stands at a path
 
-device_found : (path : List ℕ) (table : Table) (device : Accepted) → finding_at path table.entries ≡ Some (Device device) → device_at path table.entries ≡ Some device
-device_found path table device e = ap device_of e
+device_found : (path : List ℕ) (table : Table) (device : Accepted) → finding_at path table.entries ≡ Some (Device device) → accepted_device_at path table.entries ≡ Some device
+device_found path table device e = ap accepted_device_of e
 
-module _ (path : List ℕ) (old new : Table) (before after : World) (goes : GoesThrough path old new) (keeps : Keeps before after) where
+module _ (path : List ℕ) (old new : Table) (before after : World) (goes : GoesThrough path old new) (keeps : OnlyTransfers before after) where
   -- nothing was tried
   untried : (pipes left : Pipes) → pipes_at path old ≡ pipes → pipes_at path new ≡ left → left ≡ pipes → after ≡ before → KeepsMoved path old before new after
   untried pipes left was is same none = still_levels path (after.fault ≡ None) old new before after goes (is ∙ same ∙ sym was) none keeps
@@ -224,48 +220,48 @@ module _ (path : List ℕ) (old new : Table) (before after : World) (goes : Goes
 
   module _ (bytes : List ℕ) (result : Result (Unit {0}) EndpointFault) where
     sent_to : (device : Accepted) (below_hub : Bool) (pipes left : Pipes) → finding_at path old.entries ≡ Some (Device device) → pipes_at path old ≡ pipes → pipes_at path new ≡ left → ArePipesTo device below_hub pipes
-        → Sent pipes bytes before result left after → KeepsMoved path old before new after
+        → PipesSent pipes bytes before result left after → KeepsMoved path old before new after
     sent_to device below_hub (Hub pipe) left e was is are x = untried (Hub pipe) left was is x.1 x.2
     sent_to device below_hub (Function pipes) left e was is are x =
         tried device (Function pipes) left e was is
-        (subst (λ l. EachMoves device.address (after.fault ≡ None) (Function pipes) l before after) (sym x.1) (sent_by device (bulk_out device) pipes.out pipes.into bytes before result x.0 after are.1 x.2))
+        (subst (λ l. EachMoves device.address (after.fault ≡ None) (Function pipes) l before after) (sym x.1) (sent_by device (out_endpoint device) pipes.out pipes.into bytes before result x.0 after are.1 x.2))
     sent_to device below_hub Absent left e was is are x = untried Absent left was is x.1 x.2
 
-    pub sent_levels : (finding : Finding) → finding_at path old.entries ≡ Some finding → Sent (pipes_at path old) bytes before result (pipes_at path new) after → KeepsMoved path old before new after
+    pub sent_levels : (finding : Finding) → finding_at path old.entries ≡ Some finding → PipesSent (pipes_at path old) bytes before result (pipes_at path new) after → KeepsMoved path old before new after
     sent_levels (Device device) e x = sent_to device (is_below_hub path) (pipes_at path old) (pipes_at path new) e refl refl (goes.fits (Device device) e) x
     sent_levels (Refused cause) e x =
         let none : pipes_at path old ≡ Absent = goes.fits (Refused cause) e in
-        let y = subst (λ (p : Pipes). Sent p bytes before result (pipes_at path new) after) none x in
+        let y = subst (λ (p : Pipes). PipesSent p bytes before result (pipes_at path new) after) none x in
         untried Absent (pipes_at path new) none refl y.1 y.2
 
   module _ (packets : ℕ) (result : Result (Vec ℕ) EndpointFault) where
     received_to : (device : Accepted) (below_hub : Bool) (pipes left : Pipes) → finding_at path old.entries ≡ Some (Device device) → pipes_at path old ≡ pipes → pipes_at path new ≡ left → ArePipesTo device below_hub pipes
-        → Received pipes packets before result left after → KeepsMoved path old before new after
+        → PipesReceived pipes packets before result left after → KeepsMoved path old before new after
     received_to device below_hub (Hub pipe) left e was is are x = untried (Hub pipe) left was is x.1 x.2
     received_to device below_hub (Function pipes) left e was is are x =
         tried device (Function pipes) left e was is
-        (subst (λ l. EachMoves device.address (after.fault ≡ None) (Function pipes) l before after) (sym x.1) (received_by device (bulk_in device) pipes.out pipes.into packets before result x.0 after are.2 x.2))
+        (subst (λ l. EachMoves device.address (after.fault ≡ None) (Function pipes) l before after) (sym x.1) (received_by device (in_endpoint device) pipes.out pipes.into packets before result x.0 after are.2 x.2))
     received_to device below_hub Absent left e was is are x = untried Absent left was is x.1 x.2
 
-    pub received_levels : (finding : Finding) → finding_at path old.entries ≡ Some finding → Received (pipes_at path old) packets before result (pipes_at path new) after → KeepsMoved path old before new after
+    pub received_levels : (finding : Finding) → finding_at path old.entries ≡ Some finding → PipesReceived (pipes_at path old) packets before result (pipes_at path new) after → KeepsMoved path old before new after
     received_levels (Device device) e x = received_to device (is_below_hub path) (pipes_at path old) (pipes_at path new) e refl refl (goes.fits (Device device) e) x
     received_levels (Refused cause) e x =
         let none : pipes_at path old ≡ Absent = goes.fits (Refused cause) e in
-        let y = subst (λ (p : Pipes). Received p packets before result (pipes_at path new) after) none x in
+        let y = subst (λ (p : Pipes). PipesReceived p packets before result (pipes_at path new) after) none x in
         untried Absent (pipes_at path new) none refl y.1 y.2
 
   module _ (result : Result (Unit {0}) EndpointFault) where
     cleared_to : (device : Accepted) (below_hub : Bool) (pipes left : Pipes) → finding_at path old.entries ≡ Some (Device device) → pipes_at path old ≡ pipes → pipes_at path new ≡ left → ArePipesTo device below_hub pipes
-        → Cleared pipes before result left after → KeepsMoved path old before new after
+        → PipesCleared pipes before result left after → KeepsMoved path old before new after
     cleared_to device below_hub (Hub pipe) left e was is are x = untried (Hub pipe) left was is x.1 x.2
     cleared_to device below_hub (Function pipes) left e was is are x =
         tried device (Function pipes) left e was is
         (subst (λ l. EachMoves device.address (after.fault ≡ None) (Function pipes) l before after) (sym x.1) (cleared_if device (is_some pipes.out || is_some pipes.into) pipes x.0 before result after are.1 are.2 x.2))
     cleared_to device below_hub Absent left e was is are x = untried Absent left was is x.1 x.2
 
-    pub cleared_levels : (finding : Finding) → finding_at path old.entries ≡ Some finding → Cleared (pipes_at path old) before result (pipes_at path new) after → KeepsMoved path old before new after
+    pub cleared_levels : (finding : Finding) → finding_at path old.entries ≡ Some finding → PipesCleared (pipes_at path old) before result (pipes_at path new) after → KeepsMoved path old before new after
     cleared_levels (Device device) e x = cleared_to device (is_below_hub path) (pipes_at path old) (pipes_at path new) e refl refl (goes.fits (Device device) e) x
     cleared_levels (Refused cause) e x =
         let none : pipes_at path old ≡ Absent = goes.fits (Refused cause) e in
-        let y = subst (λ (p : Pipes). Cleared p before result (pipes_at path new) after) none x in
+        let y = subst (λ (p : Pipes). PipesCleared p before result (pipes_at path new) after) none x in
         untried Absent (pipes_at path new) none refl y.1 y.2

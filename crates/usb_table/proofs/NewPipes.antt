@@ -8,7 +8,7 @@ use Rattle.usb_device.specs.Bulk.{tells_changes, bulk_in as bulk_of_text}
 use Rattle.usb_device.specs.Progress.{PollAt, SourceAt}
 use Rattle.usb_device.specs.Rows.{State, bulk_of}
 use Rattle.usb_device.specs.Spec.{Hub as HubSpec, IsSpec, has_hub_class, hub_fits}
-use Rattle.usb_world.proofs.Booleans.{and_false}
+use Rattle.usb_world.proofs.Interface.{and_false}
 use Rattle.usb_hub.specs.Settings.{IsFresh}
 use Rattle.usb_enum.specs.declared.finding.Accepted.{Accepted}
 use Rattle.usb_enum.specs.declared.finding.Finding.TheVariants.{Device}
@@ -20,8 +20,9 @@ use Rattle.usb_table.specs.declared.pipes.Pipes.TheVariants.{Function}
 use Rattle.usb_table.specs.Findings.{at_full_speed}
 use Rattle.usb_table.specs.Levels.{FitsOut, FitsIn, AreLevel}
 use Rattle.usb_table.specs.Pipes.{new_status, new_bulk, new_pipes}
-use Rattle.usb_table.proofs.Chosen.{Accepts, accepts, HasChosen, has_chosen, chosen_bulk}
+use Rattle.usb_enum.proofs.Interface.{Accepts, HasChosen, accepts, chosen_bulk, has_chosen}
 use Rattle.usb_table.proofs.Endpoints.{bulk_out_end, bulk_in_end}
+use Rattle.usb_pipe.proofs.Interface.{is_some_byte}
 
 module _ (tier supply : ℕ) (device : Accepted) (below_hub : Bool) (s : State) (ruled : IsSpec s.spec) (own : IsOwn tier supply device s) where
   listed : IsAs s.spec device
@@ -43,7 +44,7 @@ module _ (tier supply : ℕ) (device : Accepted) (below_hub : Bool) (s : State) 
   configured = own.1.configuration ∙ ap (λ t. slice_index t 5) (text_is ∙ chosen.is) ∙ chosen.read.value
 
   some_value : not (s.registers.configuration == 0) ≡ true
-  some_value = ap (λ n. not (n == 0)) configured ∙ ap not chosen.read.some
+  some_value = ap (λ n. not (n == 0)) configured ∙ ap not (is_some_byte (slice_index chosen.text 5) chosen.read.some)
 
   -- A hub
 
@@ -63,9 +64,6 @@ module _ (tier supply : ℕ) (device : Accepted) (below_hub : Bool) (s : State) 
         by_test : (b : Bool) → not b ≡ false → b ≡ true
         by_test true e = refl
         by_test false e = absurd (cc e)
-
-    some_endpoint : is_some (status_endpoint_of (configuration_of device)) ≡ true
-    some_endpoint = (and_parts (is_some (status_endpoint_of (configuration_of device))) (gives_hub s.spec s.spec.hub) good).0
 
     has_ports : is_some s.spec.hub ≡ true
     has_ports = by_hub s.spec.hub (and_parts (is_some (status_endpoint_of (configuration_of device))) (gives_hub s.spec s.spec.hub) good).1

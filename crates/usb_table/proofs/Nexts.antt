@@ -16,7 +16,7 @@ use Rattle.usb_enum.specs.declared.finding.Finding.{Finding}
 use Rattle.usb_table.proofs.Paths.{path_tied, path_itself}
 use Rattle.usb_table.specs.Entries.{Entries, Rises}
 use Rattle.usb_table.specs.Kinds.{is_after}
-use Rattle.usb_table.specs.Next.{IsAfter, Stands, IsNext, IsLast}
+use Rattle.usb_table.specs.Next.{ComesAfter, Stands, IsNext, IsLast}
 
 -- the path of the first entry of the kind after the last path
 abbrev pub first_from : (Finding → Bool) → Option (List ℕ) → Entries → Option (List ℕ)
@@ -28,11 +28,11 @@ less_is Less h = refl
 less_is Equal h = absurd cc
 less_is Greater h = absurd cc
 
-after_if : (last : Option (List ℕ)) (path : List ℕ) → is_after last path ≡ true → IsAfter last path
+after_if : (last : Option (List ℕ)) (path : List ℕ) → is_after last path ≡ true → ComesAfter last path
 after_if None path h = tt
 after_if (Some l) path h = less_is (path_cmp l path) h
 
-if_after : (last : Option (List ℕ)) (path : List ℕ) → IsAfter last path → is_after last path ≡ true
+if_after : (last : Option (List ℕ)) (path : List ℕ) → ComesAfter last path → is_after last path ≡ true
 if_after None path h = refl
 if_after (Some l) path h = rw h refl
 
@@ -66,7 +66,7 @@ module _ (kind : Finding → Bool) (last : Option (List ℕ)) (e : List ℕ × F
       let same = path_tied q e.0 tie in
       let found : Some e.1 ≡ Some s.finding = sym (lookup_head (is_at (path_cmp q)) e es tie) ∙ s.found in
       let kind_is : kind e.1 ≡ true = subst (λ (f : Finding). kind f ≡ true) (cc found) s.fits in
-      let after_is : is_after last e.0 ≡ true = if_after last e.0 (subst (λ (p : List ℕ). IsAfter last p) same s.after) in
+      let after_is : is_after last e.0 ≡ true = if_after last e.0 (subst (λ (p : List ℕ). ComesAfter last p) same s.after) in
       absurd (cc (and_from (is_after last e.0) (kind e.1) after_is kind_is, fails))
   in_tail_by q fails s false tie =
       record { finding = s.finding; found = sym (lookup_tail (is_at (path_cmp q)) e es tie) ∙ s.found; fits = s.fits; after = s.after }

@@ -8,7 +8,7 @@ use Rattle.usb_enum.specs.declared.finding.Finding.TheVariants.{Device, Refused}
 use Rattle.usb_enum.specs.declared.hub.HubFacts.{HubFacts}
 use Rattle.usb_enum.specs.Described.{IsFindingOf, IsRight}
 use Rattle.usb_table.specs.Entries.{Entries}
-use Rattle.usb_table.specs.Listing.{Tree, finding_at, hub_in, hub_at, IsPortBelow, IsListedPort, tier_of, supply_at, ListsEach, Lists, NoneWaits, IsFoundLike, ListsLike}
+use Rattle.usb_table.specs.Listing.{Tree, finding_at, hub_facts_in, hub_facts_at, IsPortBelow, IsListedPort, tier_of, supply_at, ListsEach, Lists, NoneWaits, IsFoundLike, ListsLike}
 use Rattle.usb_table.proofs.Ports.{parent_shorter}
 
 found_like : (spec : Spec) (tier supply : ℕ) (f g : Finding) → IsFindingOf spec tier supply f → IsFindingOf spec tier supply g → IsFoundLike f g
@@ -44,17 +44,17 @@ found_at roots tree entries l none path spec port t = pick (finding_at path entr
 
 -- Ports
 
-same_facts : (f : Finding) (o : Option Finding) (hub : HubFacts) → IsSomeAnd o (IsFoundLike f) → hub_in (Some f) ≡ Some hub → hub_in o ≡ Some hub
+same_facts : (f : Finding) (o : Option Finding) (hub : HubFacts) → IsSomeAnd o (IsFoundLike f) → hub_facts_in (Some f) ≡ Some hub → hub_facts_in o ≡ Some hub
 same_facts f None hub like at = absurd like
 same_facts (Device d) (Some (Device e)) hub like at = sym like.hub ∙ at
 same_facts (Device d) (Some (Refused c)) hub like at = absurd like
 same_facts (Refused c) o hub like at = absurd cc
 
 -- a listed hub is listed by the other too
-same_hub : (a b : Entries) (path : List ℕ) (hub : HubFacts) → ((f : Finding) → finding_at path a ≡ Some f → IsSomeAnd (finding_at path b) (IsFoundLike f)) → hub_at path a ≡ Some hub → hub_at path b ≡ Some hub
+same_hub : (a b : Entries) (path : List ℕ) (hub : HubFacts) → ((f : Finding) → finding_at path a ≡ Some f → IsSomeAnd (finding_at path b) (IsFoundLike f)) → hub_facts_at path a ≡ Some hub → hub_facts_at path b ≡ Some hub
 same_hub a b path hub like at = pick (finding_at path a) refl at
   where
-    pick : (o : Option Finding) → finding_at path a ≡ o → hub_in o ≡ Some hub → hub_at path b ≡ Some hub
+    pick : (o : Option Finding) → finding_at path a ≡ o → hub_facts_in o ≡ Some hub → hub_facts_at path b ≡ Some hub
     pick None e at = absurd cc
     pick (Some f) e at = same_facts f (finding_at path b) hub (like f e) at
 
@@ -69,7 +69,7 @@ port_moved roots a b path like h = record { some = h.some; port = pick (parent_o
   where
     pick : (o : Option (List ℕ)) → parent_of path ≡ o → IsPortBelow roots a o (port_of path) → IsPortBelow roots b o (port_of path)
     pick None e h = h
-    pick (Some p) e h = moved (hub_at p a) (hub_at p b) (λ facts. (1 ≤ port_of path) × (port_of path ≤ facts.ports)) (λ hub at. same_hub a b p hub (like p (parent_shorter path p e)) at) h
+    pick (Some p) e h = moved (hub_facts_at p a) (hub_facts_at p b) (λ facts. (1 ≤ port_of path) × (port_of path ≤ facts.ports)) (λ hub at. same_hub a b p hub (like p (parent_shorter path p e)) at) h
 
 same_here : (roots : ℕ) (tree : Tree) (a b : Entries) → Lists roots tree a → Lists roots tree b → NoneWaits a → NoneWaits b → (path : List ℕ) (f : Finding) → finding_at path a ≡ Some f
     → (IsListedPort roots a path → IsListedPort roots b path) → IsSomeAnd (finding_at path b) (IsFoundLike f)

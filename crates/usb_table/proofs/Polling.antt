@@ -11,45 +11,43 @@ use Rattle.usb_world.specs.declared.types.Attempt.{Attempt}
 use Rattle.usb_world.specs.declared.types.Outcome.{Outcome}
 use Rattle.usb_world.specs.Addresses.{is_setup}
 use Rattle.usb_world.specs.Devices.{Was, EachWas}
-use Rattle.usb_world.specs.Live.{address_of}
+use Rattle.usb_world.specs.Paths.{address_of}
 use Rattle.usb_world.specs.Passes.{IsSettled, deep_at}
-use Rattle.usb_world.specs.Resting.{AsksNothingOf}
+use Rattle.usb_world.specs.RestingPorts.{AsksNothingOf}
 use Rattle.usb_world.specs.Steps.{Course, here, attempt, ready}
 use Rattle.usb_world.specs.World.{World}
-use Rattle.usb_world.proofs.OneHolderMore.{equal_same}
-use Rattle.usb_world.proofs.RequestLawsPlain.{data_asks_nothing}
+use Rattle.usb_world.proofs.Interface.{data_asks_nothing, equal_same}
 use Rattle.usb_transaction.specs.declared.target.Target.{Target}
 use Rattle.usb_transaction.specs.Answerer.{Answerer}
-use Rattle.usb_transaction.specs.Over.{is_at}
+use Rattle.usb_transaction.specs.Leaves.{is_at}
 use Rattle.usb_transaction.specs.Trail.{Trail}
-use Rattle.usb_transaction.specs.Why.{NoThreeDamaged, Listens}
-use Rattle.usb_transaction.proofs.Trails.{course_then, trail_settled}
+use Rattle.usb_transaction.specs.Failures.{NoThreeDamaged, Listens}
+use Rattle.usb_transaction.proofs.Interface.{course_then, trail_settled}
 use Rattle.usb_pipe.specs.declared.fault.PipeFault.{PipeFault}
 use Rattle.usb_pipe.specs.declared.fault.PipeFault.TheVariants as why
 use Rattle.usb_pipe.specs.Interrupt.{Interrupt, Polls}
-use Rattle.usb_pipe.specs.Whole.{IsNotOfBus, PollLeaves, PollTells, ToldOf}
-use Rattle.usb_pipe.specs.WhyWhole.{WhyPolling}
-use Rattle.usb_pipe.proofs.WhoAnswers.{who_polls}
-use Rattle.usb_pipe.proofs.WholePolls.{poll_tells}
-use Rattle.usb_pipe.proofs.WhyPolls.{polling_why}
-use Rattle.usb_hub.specs.Why.{IsServed}
+use Rattle.usb_pipe.specs.Leaves.{IsNotOfBus, PollLeaves, PollTells, ToldOf}
+use Rattle.usb_pipe.specs.Failures.{WhyPolling}
+use Rattle.usb_pipe.proofs.Interface.{poll_tells, polling_why, who_polls}
+use Rattle.usb_hub.specs.Why.{NoHubFailed}
 use Rattle.usb_enum.specs.declared.finding.Accepted.{Accepted}
 use Rattle.usb_enum.specs.declared.finding.Finding.{Finding}
 use Rattle.usb_enum.specs.declared.finding.Finding.TheVariants.{Device, Refused}
 use Rattle.usb_enum.specs.Device.{configuration_of}
+use Rattle.usb_enum.proofs.Interface.{each_joint}
 use Rattle.usb_table.specs.declared.pipes.Pipes.{Pipes}
 use Rattle.usb_table.specs.declared.pipes.Pipes.TheVariants.{Hub, Function, Absent}
-use Rattle.usb_table.specs.Findings.{device_of, device_at}
+use Rattle.usb_table.specs.Findings.{accepted_device_of, accepted_device_at}
 use Rattle.usb_table.specs.Known.{is_below_hub}
 use Rattle.usb_table.specs.Levels.{FitsStatus, AreLevel, LevelAt, IsHeld, KeepsLevel, BitsOf, HubTold, Heard, KeepsPolled}
-use Rattle.usb_table.specs.Listing.{finding_at, address_at}
+use Rattle.usb_table.specs.Listing.{finding_at, entry_address}
 use Rattle.usb_table.specs.Pipes.{IsStatusPipe, ArePipesTo}
 use Rattle.usb_table.specs.Table.{Table, pipes_at, GoesThrough}
-use Rattle.usb_table.specs.Transfers.{Polled, PolledThrough, Keeps}
+use Rattle.usb_table.specs.Transfers.{PipesPolled, PolledThrough, OnlyTransfers}
 use Rattle.usb_table.proofs.Endpoints.{status_end}
 use Rattle.usb_table.proofs.Fitting.{Moves, poll_moves}
 use Rattle.usb_table.proofs.Levels.{address_found, held_address, one_path, moved_levels, single, still_levels}
-use Rattle.usb_table.proofs.Moved.{EachMoves, each_joint}
+use Rattle.usb_table.proofs.Moved.{EachMoves}
 use Rattle.usb_table.proofs.Staying.{RanAs, polls_run}
 
 -- INs ask nothing of any port
@@ -61,10 +59,10 @@ trail_rests x {a} kind (Trail.next w t m) settled = course_then (attempt a) (tra
 -- A poll of the hub at a path
 
 module _ (path : List ℕ) (device : Accepted) (pipe rest : Interrupt) (old new : Table) (before after : World) (result : Result (Option (ArrayVec ℕ)) PipeFault)
-    (goes : GoesThrough path old new) (keeps : Keeps before after) (found : finding_at path old.entries ≡ Some (Device device)) (was : pipes_at path old ≡ Hub pipe) (left : pipes_at path new ≡ Hub rest)
+    (goes : GoesThrough path old new) (keeps : OnlyTransfers before after) (found : finding_at path old.entries ≡ Some (Device device)) (was : pipes_at path old ≡ Hub pipe) (left : pipes_at path new ≡ Hub rest)
     (are : IsStatusPipe device (is_below_hub path) pipe) (x : PolledThrough pipe before result rest after) where
-  stands : device_at path old.entries ≡ Some device
-  stands = ap device_of found
+  stands : accepted_device_at path old.entries ≡ Some device
+  stands = ap accepted_device_of found
 
   endpoint : (pipe.ep ≡ 1) × (1 ≤ pipe.target.max)
   endpoint = subst (λ o. IfSome o (λ e. (e.0 ≡ 1) × (1 ≤ e.1))) are.endpoint (status_end (configuration_of device))
@@ -123,7 +121,7 @@ module _ (path : List ℕ) (device : Accepted) (pipe rest : Interrupt) (old new 
       who : Answerer pipe.target before after
       who = who_polls pipe got rest before after x.settled (subst (λ r. Polls pipe before r rest after) e x.polls) (unshared held)
 
-      has : address_at (suc who.j ∷ who.p) old.entries ≡ Some device.address
+      has : entry_address (suc who.j ∷ who.p) old.entries ≡ Some device.address
       has = sym (held.own (suc who.j ∷ who.p) who.was_on) ∙ ap (option_map address_of) who.stood ∙ ap Some (equal_same (address_of who.before) pipe.target.addr who.at ∙ addressed)
 
       is : path ≡ suc who.j ∷ who.p
@@ -169,7 +167,7 @@ module _ (path : List ℕ) (device : Accepted) (pipe rest : Interrupt) (old new 
         answered_at : WhyPolling pipe result heard.j heard.p before_it.before heard.state
         answered_at = subst (λ s. WhyPolling pipe result heard.j heard.p s heard.state) (same_Some cause.before before_it.before (sym cause.stands ∙ before_it.stands)) cause.so
 
-    served_by : (r : Result (Option (ArrayVec ℕ)) PipeFault) → result ≡ r → IsServed r
+    served_by : (r : Result (Option (ArrayVec ℕ)) PipeFault) → result ≡ r → NoHubFailed r
     served_by (Ok got) e = tt
     served_by (Err why.Stalled) e = never why.Stalled tt e
     served_by (Err why.Busy) e = never why.Busy tt e
@@ -178,14 +176,14 @@ module _ (path : List ℕ) (device : Accepted) (pipe rest : Interrupt) (old new 
     served_by (Err (why.Bus fault)) e = tt
     served_by (Err why.Memory) e = tt
 
-    hub_served : IsServed result
+    hub_served : NoHubFailed result
     hub_served = served_by result refl
 
   ok_got : (r : Result (Option (ArrayVec ℕ)) PipeFault) → IsOk r → (got : Option (ArrayVec ℕ)) × (r ≡ Ok got)
   ok_got (Ok got) ok = (got, refl)
   ok_got (Err fault) ok = absurd (cc ok)
 
-  same_one : (d : Accepted) → device_at path old.entries ≡ Some d → device ≡ d
+  same_one : (d : Accepted) → accepted_device_at path old.entries ≡ Some d → device ≡ d
   same_one d e = same_Some device d (sym stands ∙ e)
 
   pub hub_polled : KeepsPolled path old before result new after
@@ -198,7 +196,7 @@ module _ (path : List ℕ) (device : Accepted) (pipe rest : Interrupt) (old new 
 -- Whatever stands there
 
 -- no hub stands there
-none_polled : (path : List ℕ) (old new : Table) (before after : World) (result : Result (Option (ArrayVec ℕ)) PipeFault) → GoesThrough path old new → Keeps before after → ((device : Accepted) → device_at path old.entries ≡ Some device → is_some device.hub ≡ true → ⊥)
+none_polled : (path : List ℕ) (old new : Table) (before after : World) (result : Result (Option (ArrayVec ℕ)) PipeFault) → GoesThrough path old new → OnlyTransfers before after → ((device : Accepted) → accepted_device_at path old.entries ≡ Some device → is_some device.hub ≡ true → ⊥)
     → pipes_at path new ≡ pipes_at path old → after ≡ before → KeepsPolled path old before result new after
 none_polled path old new before after result goes keeps none same still = record {
   levels = still_levels path (IsOk result) old new before after goes same still keeps;
@@ -206,21 +204,21 @@ none_polled path old new before after result goes keeps none same still = record
   why = λ held level three d e hub heard. absurd (none d e hub);
 }
 
-module _ (path : List ℕ) (old new : Table) (before after : World) (result : Result (Option (ArrayVec ℕ)) PipeFault) (goes : GoesThrough path old new) (keeps : Keeps before after) where
-  polled_to : (device : Accepted) (pipes left : Pipes) → finding_at path old.entries ≡ Some (Device device) → pipes_at path old ≡ pipes → pipes_at path new ≡ left → ArePipesTo device (is_below_hub path) pipes → Polled pipes before result left after
+module _ (path : List ℕ) (old new : Table) (before after : World) (result : Result (Option (ArrayVec ℕ)) PipeFault) (goes : GoesThrough path old new) (keeps : OnlyTransfers before after) where
+  polled_to : (device : Accepted) (pipes left : Pipes) → finding_at path old.entries ≡ Some (Device device) → pipes_at path old ≡ pipes → pipes_at path new ≡ left → ArePipesTo device (is_below_hub path) pipes → PipesPolled pipes before result left after
       → KeepsPolled path old before result new after
   polled_to device (Hub pipe) left e was is are x = hub_polled path device pipe x.0 old new before after result goes keeps e was (is ∙ x.1) are.1 x.2
   polled_to device (Function pipes) left e was is are x =
-      none_polled path old new before after result goes keeps (λ d f hub. absurd (cc (same_Some device d (sym (ap device_of e) ∙ f), hub, are.0))) (is ∙ x.1 ∙ sym was) x.2
+      none_polled path old new before after result goes keeps (λ d f hub. absurd (cc (same_Some device d (sym (ap accepted_device_of e) ∙ f), hub, are.0))) (is ∙ x.1 ∙ sym was) x.2
   polled_to device Absent left e was is are x = absurd are
 
-  pub polled_levels : (finding : Finding) → finding_at path old.entries ≡ Some finding → Polled (pipes_at path old) before result (pipes_at path new) after → KeepsPolled path old before result new after
+  pub polled_levels : (finding : Finding) → finding_at path old.entries ≡ Some finding → PipesPolled (pipes_at path old) before result (pipes_at path new) after → KeepsPolled path old before result new after
   polled_levels (Device device) e x = polled_to device (pipes_at path old) (pipes_at path new) e refl refl (goes.fits (Device device) e) x
   polled_levels (Refused cause) e x =
       let none : pipes_at path old ≡ Absent = goes.fits (Refused cause) e in
-      let y = subst (λ (p : Pipes). Polled p before result (pipes_at path new) after) none x in
-      none_polled path old new before after result goes keeps (λ d f hub. absurd (cc (sym (ap device_of e) ∙ f))) (y.1 ∙ sym none) y.2
+      let y = subst (λ (p : Pipes). PipesPolled p before result (pipes_at path new) after) none x in
+      none_polled path old new before after result goes keeps (λ d f hub. absurd (cc (sym (ap accepted_device_of e) ∙ f))) (y.1 ∙ sym none) y.2
 
   -- where nothing stands
   pub unpolled : finding_at path old.entries ≡ None → pipes_at path new ≡ pipes_at path old → after ≡ before → KeepsPolled path old before result new after
-  unpolled e same still = none_polled path old new before after result goes keeps (λ d f hub. absurd (cc (sym (ap device_of e) ∙ f))) same still
+  unpolled e same still = none_polled path old new before after result goes keeps (λ d f hub. absurd (cc (sym (ap accepted_device_of e) ∙ f))) same still

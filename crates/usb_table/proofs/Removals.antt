@@ -1,11 +1,12 @@
 -- Entries that are taken out.
 use Rattle.std.proofs.Common.{◌≡◌, ◌∙◌, refl, ap, arith, subst, sym}
-use Rattle.std.specs.Prelude.{ℕ, ◌+◌, List, [], ◌∷◌, length, Bool, true, false, cond, not, ◌||◌, Some}
+use Rattle.std.specs.Prelude.{ℕ, ◌+◌, List, [], ◌∷◌, length, Bool, true, false, cond, not, Some}
 use Rattle.std.specs.List.{filter}
 use Rattle.std.specs.Map.{lookup, remove_entry}
 use Rattle.std.specs.BTreeMap.{is_at}
 use Rattle.usb_port.specs.Order.{path_cmp}
 use Rattle.usb_enum.specs.declared.finding.Finding.{Finding}
+use Rattle.usb_world.proofs.Interface.{neither}
 use Rattle.usb_table.proofs.Paths.{path_tied}
 use Rattle.usb_table.specs.Entries.{Entries, has_at, is_at_or_below, without}
 use Rattle.usb_table.specs.Table.{Table, TakesOut}
@@ -38,15 +39,8 @@ taken_apart path finding old new t =
     ∙ kept_apart (λ q. not (is_at_or_below q path)) (is_at (path_cmp t.first))
     (λ q tie. subst (λ r. not (is_at_or_below r path) ≡ false) (path_tied t.first q tie) (rw t.at refl)) old.entries
 
-rest_false : (b c : Bool) → (b || c) ≡ false → c ≡ false
-rest_false true c h = cc
-rest_false false c h = h
-
-first_false : (b c : Bool) → (b || c) ≡ false → b ≡ false
-first_false true c h = cc
-first_false false c h = refl
-
 pub none_apart : (path : List ℕ) (es : Entries) → has_at path es ≡ false → without path es ≡ es
 none_apart path [] h = refl
 none_apart path (e ∷ es) h =
-    rw (first_false (is_at_or_below e.0 path) (has_at path es) h) (ap (λ l. e ∷ l) (none_apart path es (rest_false (is_at_or_below e.0 path) (has_at path es) h)))
+    let parts = neither (is_at_or_below e.0 path) (has_at path es) h in
+    rw parts.0 (ap (λ l. e ∷ l) (none_apart path es parts.1))

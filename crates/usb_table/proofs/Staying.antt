@@ -1,6 +1,5 @@
 -- Transfers through pipes leave each device with its description and registers, and ask nothing of ports.
-use Rattle.std.proofs.Common.{◌≡◌, ◌≢◌, ◌⊎◌, inl, inr, ℕ, ◌==◌, ◌&&◌, if◌then◌else◌, Bool, true, false, List, [], ◌∷◌, length, take, Option, None, Some, Result, Ok, Err, refl, ap, sym, subst, ◌∙◌}
-use Rattle.std.specs.Prelude.{nat_le, nat_lt}
+use Rattle.std.proofs.Common.{◌≡◌, ◌≢◌, ◌⊎◌, inl, inr, ℕ, ◌==◌, true, false, List, Option, None, Some, Result, Ok, Err, refl, ap, sym, subst, ◌∙◌}
 use Rattle.std.specs.Global.{Vec}
 use Rattle.arrayvec.specs.ArrayVec.{ArrayVec}
 use Rattle.usb_packet.specs.declared.Toggle.{Toggle}
@@ -9,144 +8,49 @@ use Rattle.usb_port.specs.PortState.{PortState}
 use Rattle.usb_request.specs.Layout.{bytes_of}
 use Rattle.usb_request.specs.Requests.{clear_endpoint_halt}
 use Rattle.usb_request.specs.declared.setup.Setup.{Setup}
-use Rattle.usb_device.specs.declared.answer.Answer.TheVariants.{Ack, Nak, Stall}
 use Rattle.usb_device.specs.declared.bulk.Which.{Which}
 use Rattle.usb_device.specs.declared.bulk.Which.TheVariants.{BulkOut, BulkIn, Changes}
 use Rattle.usb_device.specs.declared.bulk.Pipe.{Pipe}
-use Rattle.usb_device.specs.declared.transfer.Giver.TheVariants as by
-use Rattle.usb_device.specs.Attempt.{Way, is_whole, heard, gave, source_law, held_law, changes_law, in_bulk_law, in_control_law, in_other_law, in_law, out_law}
-use Rattle.usb_device.specs.Bulk.{rested, turned, tells_changes, change_bits, is_same}
-use Rattle.usb_device.specs.Progress.{OnlyControl, StatusGiven}
+use Rattle.usb_device.specs.Bulk.{rested}
+use Rattle.usb_device.specs.Progress.{OnlyControl}
 use Rattle.usb_device.specs.Request.{Outcome, stalled, answers, takes_address, takes_configuration, halts, unhalts, tells_port, calls_port, on_endpoint, outcome}
-use Rattle.usb_device.specs.Rows.{State, Reply, forgotten, rest_of, bulk_of, bulk_ack_row, sunk, sink_row, out_bulk_row, data_row, with_pipe, begun, accepted}
+use Rattle.usb_device.specs.Rows.{State, with_pipe, begun, accepted}
 use Rattle.usb_device.specs.Spec.{Spec}
 use Rattle.usb_device.specs.declared.request.Registers.{Registers}
 use Rattle.usb_device.specs.Transfer.{first_stage, ending}
 use Rattle.usb_device.specs.Tree.{reach_at, state_at}
 use Rattle.usb_world.specs.declared.types.Attempt.{Attempt}
 use Rattle.usb_world.specs.declared.types.BusFault.{BusFault}
-use Rattle.usb_world.specs.declared.types.BusFault.TheVariants.{LimitReached}
 use Rattle.usb_world.specs.Addresses.{is_setup}
-use Rattle.usb_world.specs.Courses.{is_harmless}
 use Rattle.usb_world.specs.Devices.{EachWas, DidIn, DidOut}
 use Rattle.usb_world.specs.OneHolder.{IsMade, IsIn, IsOut}
 use Rattle.usb_world.specs.Passes.{IsSettled}
-use Rattle.usb_world.specs.Requested.{is_plain}
-use Rattle.usb_world.specs.Resting.{AsksNothingOf}
+use Rattle.usb_world.specs.PortRequests.{is_plain}
+use Rattle.usb_world.specs.RestingPorts.{AsksNothingOf}
 use Rattle.usb_world.specs.Steps.{Step, attempt, root_call, event, report, after, ready, with_attempt, Course, here, step}
 use Rattle.usb_world.specs.World.{World}
-use Rattle.usb_world.proofs.Booleans.{decided}
-use Rattle.usb_world.proofs.Devices.{each_none, each_joined, each_wider, each_in, each_out}
-use Rattle.usb_world.proofs.OneHolderMore.{made_is, same_test, unequal}
-use Rattle.usb_world.proofs.RequestLawsPlain.{data_asks_nothing}
+use Rattle.usb_world.proofs.Interface.{data_asks_nothing, decided, due_shared, each_in, each_joined, each_none, each_out, each_wider, made_is, same_equal, unequal}
 use Rattle.usb_transaction.specs.Attempts.{IsOnly, GivenUp}
 use Rattle.usb_transaction.specs.Heard.{heard_as, set_up_as}
-use Rattle.usb_transaction.specs.Over.{is_at}
-use Rattle.usb_transaction.specs.Trans.{in_attempt, setup_attempt}
+use Rattle.usb_transaction.specs.Transactions.{in_attempt, setup_attempt}
 use Rattle.usb_transaction.specs.declared.target.Target.{Target}
-use Rattle.usb_transaction.proofs.Cuts.{Cut, unmade, made_whole, cut_or_same, transacted_unshared}
-use Rattle.usb_transaction.proofs.Trails.{due_shared, first_false, trail_settled, trail_unshared}
+use Rattle.usb_transaction.proofs.Interface.{Cut, cut_or_same, first_false, made_whole, trail_settled, trail_unshared, transacted_unshared, unmade}
 use Rattle.usb_pipe.specs.declared.fault.PipeFault.{PipeFault}
 use Rattle.usb_pipe.specs.declared.fault.PipeFault.TheVariants as pipe
-use Rattle.usb_pipe.specs.Attempts.{Attempts}
+use Rattle.usb_pipe.specs.Attempts.{TransferAttempts}
 use Rattle.usb_pipe.specs.Bulk.{Bulk, Sends, Receives, Clears, Cleared, halt_address}
 use Rattle.usb_pipe.specs.End.{packet_target}
 use Rattle.usb_pipe.specs.Interrupt.{Interrupt, Polls}
 use Rattle.usb_pipe.specs.Moves.{SendsAt}
-use Rattle.usb_pipe.specs.Whole.{IsNotOfBus, WriteLeaves, EffectDone, EffectOrNone, none, some, whole}
+use Rattle.usb_pipe.specs.Leaves.{WriteLeaves}
 use Rattle.usb_pipe.specs.Stages.{Writes}
-use Rattle.usb_pipe.proofs.Attempts.{poll_attempts, receive_attempts}
-use Rattle.usb_pipe.proofs.SendCourse.{send_attempts}
-use Rattle.usb_address.proofs.Bare.{attempt_settled}
-use Rattle.usb_hub.specs.Requests.{AllRest, Ends, Ordered}
-use Rattle.usb_hub.proofs.Orders.{order_elsewhere}
-use Rattle.usb_hub.proofs.Rests.{write_rests}
-use Rattle.usb_hub.proofs.Settings.{each_leaves, given_none}
+use Rattle.usb_pipe.proofs.Interface.{harmless, poll_attempts, receive_attempts, send_attempts}
+use Rattle.usb_address.proofs.Interface.{Ran, attempt_settled, in_kept, out_kept}
+use Rattle.usb_hub.specs.Requests.{AllRest, Ordered}
+use Rattle.usb_hub.proofs.Interface.{each_leaves, given_none, order_elsewhere, write_rests, write_so}
+use Rattle.usb_enum.proofs.Interface.{ended, faulted, limited}
 use Rattle.usb_table.specs.Transfers.{SameSettings, KeepsSettings}
 use Rattle.usb_table.proofs.Kept.{broken_or_not, ready_or_not, empty_or_not, none_or_some}
-
--- A device over an IN or an OUT of an endpoint other than 0
-
--- its description and its registers are the same, and a hub's status endpoint is halted where it was
-abbrev pub Ran : State → State → Type 0
-Ran s v = (v.spec ≡ s.spec) × (v.registers ≡ s.registers) × (v.changes.halted ≡ s.changes.halted)
-
-abbrev RanIn : State → Reply → Type 0
-RanIn s reply = Ran s reply.1
-
-bulk_acked : (o : Option (ℕ × ℕ)) (s : State) → Ran s (bulk_ack_row s o)
-bulk_acked None s = (refl, refl, refl)
-bulk_acked (Some end) s = (refl, refl, refl)
-
-module _ (s : State) where
-  bulk_given : (b : Bool) → Ran s (if b then forgotten (bulk_ack_row s (bulk_of s true)) else s)
-  bulk_given true = bulk_acked (bulk_of s true) s
-  bulk_given false = (refl, refl, refl)
-
-  source_by : (most max : ℕ) (t2 t3 : Way) (b c : Bool) → Ran s (if b then (heard t2 (Some Stall), s) else if c then (heard t2 (Some Nak), s) else gave s by.Bulk max s.bulk_in.toggle (take most (rest_of s)) t2 t3).1
-  source_by most max t2 t3 true c = (refl, refl, refl)
-  source_by most max t2 t3 false true = (refl, refl, refl)
-  source_by most max t2 t3 false false = bulk_given (is_whole t2 && nat_le (length (take most (rest_of s))) max && is_whole t3)
-
-  in_bulk_by : (e most max : ℕ) (t2 t3 : Way) (b : Bool) → Ran s (if b then source_law s most max t2 t3 else (None, s)).1
-  in_bulk_by e most max t2 t3 true = source_by most max t2 t3 s.bulk_in.halted (length (rest_of s) == 0)
-  in_bulk_by e most max t2 t3 false = (refl, refl, refl)
-
-  in_bulk : (e : ℕ) (o : Option (ℕ × ℕ)) (max : ℕ) (t2 t3 : Way) → Ran s (in_bulk_law s e o max t2 t3).1
-  in_bulk e None max t2 t3 = (refl, refl, refl)
-  in_bulk e (Some end) max t2 t3 = in_bulk_by e end.1 max t2 t3 (end.0 == e)
-
-  told_by : (o : Option ℕ) (b : Bool) → Ran s (if b then forgotten (record s { changes = turned s.changes; held = None }) else record s { held = o })
-  told_by o true = (refl, refl, refl)
-  told_by o false = (refl, refl, refl)
-
-  new_changes_by : (bits max : ℕ) (t2 t3 : Way) (b : Bool) → Ran s (if b then (heard t2 (Some Nak), s) else gave (record s { held = Some bits }) by.Changes max s.changes.toggle (bits ∷ []) t2 t3).1
-  new_changes_by bits max t2 t3 true = (refl, refl, refl)
-  new_changes_by bits max t2 t3 false = told_by (Some bits) (is_whole t2 && nat_le (length (bits ∷ [])) max && is_whole t3)
-
-  held_by : (row : List PortState) (o : Option ℕ) (max : ℕ) (t2 t3 : Way) → Ran s (held_law s row o max t2 t3).1
-  held_by row None max t2 t3 = new_changes_by (change_bits row) max t2 t3 (change_bits row == 0)
-  held_by row (Some bits) max t2 t3 = told_by s.held (is_whole t2 && nat_le (length (bits ∷ [])) max && is_whole t3)
-
-  changes_by : (row : List PortState) (max : ℕ) (t2 t3 : Way) (b : Bool) → Ran s (if b then (heard t2 (Some Stall), s) else held_law s row s.held max t2 t3).1
-  changes_by row max t2 t3 true = (refl, refl, refl)
-  changes_by row max t2 t3 false = held_by row s.held max t2 t3
-
-  in_other : (row : List PortState) (e max : ℕ) (t2 t3 : Way) (b : Bool) → Ran s (if b then changes_law s row max t2 t3 else in_bulk_law s e (bulk_of s true) max t2 t3).1
-  in_other row e max t2 t3 true = changes_by row max t2 t3 s.changes.halted
-  in_other row e max t2 t3 false = in_bulk e (bulk_of s true) max t2 t3
-
-  in_by : (row : List PortState) (e max : ℕ) (t2 t3 : Way) (b z : Bool) → z ≡ false → Ran s (if b then (if z then in_control_law s max t2 t3 else in_other_law s row e max t2 t3) else (None, s)).1
-  in_by row e max t2 t3 true true far = cc
-  in_by row e max t2 t3 true false far = in_other row e max t2 t3 (e == 1 && tells_changes s.spec s.registers)
-  in_by row e max t2 t3 false z far = (refl, refl, refl)
-
-  in_kept : (row : List PortState) (e max : ℕ) (t1 t2 t3 : Way) → (e == 0) ≡ false → Ran s (in_law s row e max t1 t2 t3).1
-  in_kept row e max t1 t2 t3 far = in_by row e max t2 t3 (is_whole t1) (e == 0) far
-
-  sink_by : (bytes : List ℕ) (b c d : Bool) → RanIn s (if b then (Some Stall, s) else if c then (None, s) else if d then (Some Ack, sunk s bytes) else (Some Ack, s))
-  sink_by bytes true c d = (refl, refl, refl)
-  sink_by bytes false true d = (refl, refl, refl)
-  sink_by bytes false false true = (refl, refl, refl)
-  sink_by bytes false false false = (refl, refl, refl)
-
-  out_bulk_by : (most : ℕ) (t : Toggle) (bytes : List ℕ) (b : Bool) → Ran s (if b then sink_row s most t bytes else (None, s)).1
-  out_bulk_by most t bytes true = sink_by bytes s.bulk_out.halted (nat_lt most (length bytes)) (is_same t s.bulk_out.toggle)
-  out_bulk_by most t bytes false = (refl, refl, refl)
-
-  out_bulk : (e : ℕ) (o : Option (ℕ × ℕ)) (t : Toggle) (bytes : List ℕ) → Ran s (out_bulk_row s e o t bytes).1
-  out_bulk e None t bytes = (refl, refl, refl)
-  out_bulk e (Some end) t bytes = out_bulk_by end.1 t bytes (end.0 == e)
-
-  data_by : (e : ℕ) (t : Toggle) (bytes : List ℕ) → (e == 0) ≡ false → Ran s (data_row s e t bytes).1
-  data_by e t bytes far = rw far (out_bulk e (bulk_of s false) t bytes)
-
-  out_by : (e : ℕ) (t : Toggle) (bytes : List ℕ) (t3 : Way) (b : Bool) → (e == 0) ≡ false → RanIn s (if b then (heard t3 (data_row s e t bytes).0, forgotten (data_row s e t bytes).1) else (None, s))
-  out_by e t bytes t3 true far = data_by e t bytes far
-  out_by e t bytes t3 false far = (refl, refl, refl)
-
-  out_kept : (e : ℕ) (t : Toggle) (bytes : List ℕ) (t1 t2 t3 : Way) → (e == 0) ≡ false → Ran s (out_law s e t bytes t1 t2 t3).1
-  out_kept e t bytes t1 t2 t3 far = out_by e t bytes t3 (is_whole t1 && is_whole t2) far
 
 -- Each device over such an attempt
 
@@ -195,14 +99,6 @@ record Stayed (w v : World) : Type 0 where
   before : w.shared ≡ false
   each : EachWas RanAs w v
 
-stopped_is : (a : Attempt) (w : World) (g : BusFault) → w.fault ≡ Some g → after (attempt a) w ≡ w
-unfolding after
-stopped_is a w g e = rw e refl
-
-limit_is : (a : Attempt) (w : World) → w.fault ≡ None → (w.attempts == w.limit) ≡ true → after (attempt a) w ≡ record w { fault = Some LimitReached }
-unfolding after
-limit_is a w sound e = rw (sound, e) refl
-
 made_single : (a : Attempt) (w : World) → IsMade a w → (after (attempt a) w).shared ≡ false → w.shared ≡ false
 unfolding with_attempt ready
 made_single a w m single = sym (due_shared w.left w) ∙ first_false _ _ (sym (ap (λ x. x.shared) (made_is a w m)) ∙ single)
@@ -212,16 +108,16 @@ step_stays a w far settled single = pick w.fault refl
   where
     tried : w.fault ≡ None → ((w.attempts == w.limit) ≡ true) ⊎ ((w.attempts == w.limit) ≡ false) → Stayed w (after (attempt a) w)
     tried sound (inl e) =
-        let is = limit_is a w sound e in
+        let is = limited a w sound e in
         record { before = sym (ap (λ x. x.shared) is) ∙ single; each = each_at w w (after (attempt a) w) (sym (ap (λ x. x.roots) is)) (each_itself w) }
     tried sound (inr e) =
-        let made : IsMade a w = record { sound = sound; within = λ l. cc (sym (same_test w.attempts w.limit l) ∙ e); settled = settled } in
+        let made : IsMade a w = record { sound = sound; within = λ l. cc (sym (same_equal w.attempts w.limit l) ∙ e); settled = settled } in
         record { before = made_single a w made single; each = each_far a w far made single }
 
     pick : (o : Option BusFault) → w.fault ≡ o → Stayed w (after (attempt a) w)
     pick None e = tried e (decided (w.attempts == w.limit))
     pick (Some g) e =
-        let is = stopped_is a w g e in
+        let is = faulted a w g e in
         record { before = sym (ap (λ x. x.shared) is) ∙ single; each = each_at w w (after (attempt a) w) (sym (ap (λ x. x.roots) is)) (each_itself w) }
 
 -- Over all attempts of a call
@@ -277,10 +173,10 @@ module _ (K : Step → World → Type 0) (far : (s : Step) (w : World) → K s w
           each_then old g.mid new (course_stays g.course settled h).each (each_at g.mid (after (attempt g.last) g.mid) new r (each_far g.last g.mid (far (attempt g.last) g.mid g.is) m u))
 
   module _ {A : Type 0} (old new : World) (settled : IsSettled old.roots) where
-    attempts_run : (result : Result A PipeFault) → Attempts K old result new → new.shared ≡ false → EachWas RanAs old new
+    attempts_run : (result : Result A PipeFault) → TransferAttempts K old result new → new.shared ≡ false → EachWas RanAs old new
     attempts_run result x = by_result result x
       where
-        by_result : (result : Result A PipeFault) → Attempts K old result new → new.shared ≡ false → EachWas RanAs old new
+        by_result : (result : Result A PipeFault) → TransferAttempts K old result new → new.shared ≡ false → EachWas RanAs old new
         by_result (Ok y) x single = (course_stays (x.whole tt) settled single).each
         by_result (Err pipe.Stalled) x single = (course_stays (x.whole tt) settled single).each
         by_result (Err pipe.Busy) x single = (course_stays (x.whole tt) settled single).each
@@ -289,7 +185,7 @@ module _ (K : Step → World → Type 0) (far : (s : Step) (w : World) → K s w
         by_result (Err (pipe.Bus fault)) x single = cut_stays old fault new (x.cut fault refl) settled single
         by_result (Err pipe.Memory) x single = (course_stays (x.whole tt) settled single).each
 
-    attempts_rest : (result : Result A PipeFault) → Attempts K old result new → new.fault ≡ None → AllRest old new
+    attempts_rest : (result : Result A PipeFault) → TransferAttempts K old result new → new.fault ≡ None → AllRest old new
     attempts_rest (Ok y) x sound p = course_rests p (x.whole tt) settled
     attempts_rest (Err pipe.Stalled) x sound p = course_rests p (x.whole tt) settled
     attempts_rest (Err pipe.Busy) x sound p = course_rests p (x.whole tt) settled
@@ -391,9 +287,6 @@ receives_rest wanted pipe far old result left new x sound = elim (came_or_same w
 
 -- CLEAR_FEATURE(ENDPOINT_HALT)
 
-abbrev Kept : State → State → Type 0
-Kept s v = (v.spec ≡ s.spec) × (v.registers ≡ s.registers)
-
 -- an endpoint halts no more, or the request is refused
 abbrev IsOfEndpoint : Outcome → Type 0
 IsOfEndpoint stalled = Unit {0}
@@ -418,7 +311,7 @@ pipe_spec s BulkOut pipe = refl
 pipe_spec s BulkIn pipe = refl
 pipe_spec s Changes pipe = refl
 
-begun_stays : (s v : State) (row : List PortState) (n : ℕ) (o : Outcome) → IsOfEndpoint o → OnlyControl (begun s row n o) v → v.registers ≡ (begun s row n o).registers → Kept s v
+begun_stays : (s v : State) (row : List PortState) (n : ℕ) (o : Outcome) → IsOfEndpoint o → OnlyControl (begun s row n o) v → v.registers ≡ (begun s row n o).registers → (v.spec ≡ s.spec) × (v.registers ≡ s.registers)
 begun_stays s v row n stalled is frame same = (ap (λ x. x.spec) frame, same)
 begun_stays s v row n (answers bytes) is frame same = absurd is
 begun_stays s v row n (takes_address a) is frame same = absurd is
@@ -439,29 +332,16 @@ no_address row n address (tells_port i) is e = absurd is
 no_address row n address (calls_port c i) is e = absurd is
 
 module _ (t : Target) (request : Setup) (of : (spec : Spec) (g : Registers) → IsOfEndpoint (outcome spec g request)) (old new : World) (j : ℕ) (p : List ℕ) (s v : State) where
-  given_stays : (row : List PortState) (address : Option ℕ) → first_stage row request.length (outcome s.spec s.registers request) ≡ ending address → OnlyControl (accepted s row request) v → StatusGiven address (accepted s row request) v → Kept s v
-  given_stays row address is frame given =
-      begun_stays s v row request.length (outcome s.spec s.registers request) (of s.spec s.registers) frame
-      (given_none address (accepted s row request) v (no_address row request.length address (outcome s.spec s.registers request) (of s.spec s.registers) is) given)
+  accepted_stays : (row : List PortState) → OnlyControl (accepted s row request) v → v.registers ≡ (accepted s row request).registers → SameSettings j p s v
+  accepted_stays row frame same = begun_stays s v row request.length (outcome s.spec s.registers request) (of s.spec s.registers) frame same
 
-  failed_stays : (fault : PipeFault) → EffectOrNone t request fault old j p s v → Kept s v
-  failed_stays fault (none frame same) = (ap (λ x. x.spec) frame, same)
-  failed_stays fault (some row now at frame same) = begun_stays s v row request.length (outcome s.spec s.registers request) (of s.spec s.registers) frame same
-  failed_stays fault (whole why e row now at frame address is given) = given_stays row address is frame given
-
-  write_stays : (result : Result (Unit {0}) PipeFault) → WriteLeaves t request result old new j p s v → Kept s v
-  write_stays (Ok u) x = pick (decided (is_at s t))
-    where
-      pick : (is_at s t ≡ true) ⊎ (is_at s t ≡ false) → Kept s v
-      pick (inl at) = let d : EffectDone t request old new j p s v = x.done at u refl in given_stays d.row d.address d.is d.rest d.given
-      pick (inr at) = (ap (λ y. y.spec) (x.others at), ap (λ y. y.registers) (x.others at))
-  write_stays (Err fault) x = failed_stays fault (x.failed fault refl)
+  write_stays : (result : Result (Unit {0}) PipeFault) → WriteLeaves t request result old new j p s v → SameSettings j p s v
+  write_stays =
+      write_so t request old new j p s v (SameSettings j p s v) accepted_stays
+      (λ row address is frame given. accepted_stays row frame (given_none address (accepted s row request) v (no_address row request.length address (outcome s.spec s.registers request) (of s.spec s.registers) is) given))
+      (λ frame same. (ap (λ x. x.spec) frame, same))
 
 module _ (endpoint : ℕ) where
-  pub clear_harmless : is_harmless (clear_endpoint_halt endpoint) ≡ true
-  unfolding clear_endpoint_halt
-  clear_harmless = refl
-
   clear_plain : is_plain (clear_endpoint_halt endpoint) ≡ true
   unfolding clear_endpoint_halt
   clear_plain = refl
@@ -486,18 +366,8 @@ cleared_stays pipe old result left new x = record {
       let request : Setup = clear_endpoint_halt (halt_address pipe.ep pipe.is_in) in
       each_wider (WriteLeaves pipe.target request result old new) SameSettings
       (λ j p s v. write_stays pipe.target request (clear_outcome (halt_address pipe.ep pipe.is_in)) old new j p s v result) old new
-      (each_leaves pipe.target request (clear_harmless (halt_address pipe.ep pipe.is_in)) (clear_length (halt_address pipe.ep pipe.is_in)) result old new (cleared_ordered pipe old result left new x) single);
+      (each_leaves pipe.target request (harmless (halt_address pipe.ep pipe.is_in)) (clear_length (halt_address pipe.ep pipe.is_in)) result old new (cleared_ordered pipe old result left new x) single);
 }
-
--- the bus that is at work told of no fault
-not_of_bus : (old : World) (result : Result (Unit {0}) PipeFault) (new : World) → Ends 2 old result new → new.fault ≡ None → IsNotOfBus result
-not_of_bus old (Ok done) new ends sound = tt
-not_of_bus old (Err pipe.Stalled) new ends sound = tt
-not_of_bus old (Err pipe.Busy) new ends sound = tt
-not_of_bus old (Err pipe.NoAnswer) new ends sound = tt
-not_of_bus old (Err pipe.Broken) new ends sound = tt
-not_of_bus old (Err (pipe.Bus fault)) new ends sound = let told = ends.told in absurd (cc (told, sound))
-not_of_bus old (Err pipe.Memory) new ends sound = tt
 
 pub clears_stay : (pipe : Bulk) (old : World) (result : Result (Unit {0}) PipeFault) (left : Bulk) (new : World) → Clears pipe old result left new → KeepsSettings old new
 clears_stay pipe old result left new x = elim (ready_or_not pipe.condition) [
@@ -509,7 +379,7 @@ pub clears_rest : (pipe : Bulk) (old : World) (result : Result (Unit {0}) PipeFa
 clears_rest pipe old result left new x sound = elim (ready_or_not pipe.condition) [
   | inl ready ↦ same_rests old new (x.ready ready).world_kept
   | inr not ↦
-      (cleared_ordered pipe old result left new (x.sent not)).rests (clear_plain (halt_address pipe.ep pipe.is_in)) (not_of_bus old result new (x.sent not).ends sound)
+      (cleared_ordered pipe old result left new (x.sent not)).rests (clear_plain (halt_address pipe.ep pipe.is_in)) (ended 2 result old new (x.sent not).ends sound)
 ]
 
 -- no address was held twice before

@@ -2,10 +2,10 @@
 use Rattle.std.proofs.Common.{arith}
 use Rattle.std.specs.Prelude.{◌≤◌, ◌<◌, Bool}
 use Rattle.std.proofs.lemmas.Bool.{and_parts}
-use Rattle.usb_transaction.specs.Trans.{IsTarget}
+use Rattle.usb_transaction.specs.Transactions.{IsTarget}
 use Rattle.usb_enum.specs.declared.finding.Accepted.{Accepted}
 use Rattle.usb_enum.specs.Device.{target_of}
-use Rattle.usb_enum.proofs.Targets.{device_fits}
+use Rattle.usb_enum.proofs.Interface.{device_fits}
 use Rattle.usb_table.specs.Findings.{IsSoundDevice}
 
 pub target_fits : (device : Accepted) (below_hub : Bool) → IsSoundDevice device → device.address < 128 → IsTarget (target_of device below_hub)

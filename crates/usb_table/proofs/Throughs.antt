@@ -18,13 +18,13 @@ use Rattle.usb_table.specs.Listing.{finding_at}
 use Rattle.usb_table.specs.Pipes.{ArePipesOf}
 use Rattle.usb_table.specs.Table.{pipes_at, ArePipesAt, GoesThrough}
 use Rattle.usb_table.proofs.Kept.{Keep}
-use Rattle.usb_table.proofs.Keys.{same_or_not, entries-lookup, listed-lookup, found_at}
+use Rattle.usb_table.proofs.Keys.{same_or_not, entries-lookup, values_by_path-lookup, found_at}
 use Rattle.usb_table.proofs.Paths.{path_itself}
 
 -- What the pipes at a path are
 
 pipes_by : (standings : Standings) (path : List ℕ) (paths : PathKeys) (key : Option ℕ) → key_of_path paths path ≡ key → pipes_at path (table_of standings paths) ≡ unwrap_or (option_map (under Absent (pipings standings)) key) Absent
-pipes_by standings path paths key at = ap (λ o. unwrap_or o Absent) (listed-lookup Absent (pipings standings) path paths ∙ ap (option_map (under Absent (pipings standings))) at)
+pipes_by standings path paths key at = ap (λ o. unwrap_or o Absent) (values_by_path-lookup Absent (pipings standings) path paths ∙ ap (option_map (under Absent (pipings standings))) at)
 
 pub pipes_found : (standings : Standings) (path : List ℕ) (paths : PathKeys) (key : ℕ) (s : Standing) → key_of_path paths path ≡ Some key → standings key ≡ Some s → pipes_at path (table_of standings paths) ≡ s.pipes
 pipes_found standings path paths key s at stands = pipes_by standings path paths (Some key) at ∙ ap (λ o. unwrap_or (option_map (λ (t : Standing). t.pipes) o) Absent) stands

@@ -19,9 +19,9 @@ pub record IsSoundDevice (device : Accepted) : Type 0 where
   pub hub : HasFacts device.bytes (configuration_of device) device.hub
 
 -- such as an enumeration gives
-abbrev pub IsSound : Finding → Type 0
-IsSound (Device device) = IsSoundDevice device
-IsSound (Refused cause) = ⊤
+abbrev pub IsSoundFinding : Finding → Type 0
+IsSoundFinding (Device device) = IsSoundDevice device
+IsSoundFinding (Refused cause) = ⊤
 
 abbrev pub address_of : Finding → Option ℕ
 address_of (Device device) = Some device.address
@@ -70,22 +70,22 @@ is_waiting (Device device) = false
 is_waiting (Refused cause) = is_no_address cause
 
 -- the accepted device of a finding, if there is one
-abbrev pub device_of : Option Finding → Option Accepted
-device_of None = None
-device_of (Some (Device device)) = Some device
-device_of (Some (Refused cause)) = None
+abbrev pub accepted_device_of : Option Finding → Option Accepted
+accepted_device_of None = None
+accepted_device_of (Some (Device device)) = Some device
+accepted_device_of (Some (Refused cause)) = None
 
 -- bulk endpoints are used at full speed alone
 abbrev pub at_full_speed : Bool → Option (ℕ × ℕ) → Option (ℕ × ℕ)
 at_full_speed low endpoint = if low then None else endpoint
 
 -- number and maximum of the bulk endpoints of a function
-abbrev pub bulk_out : Accepted → Option (ℕ × ℕ)
-bulk_out device = if is_some device.hub then None else at_full_speed device.low (bulk_out_of (configuration_of device))
+abbrev pub out_endpoint : Accepted → Option (ℕ × ℕ)
+out_endpoint device = if is_some device.hub then None else at_full_speed device.low (bulk_out_of (configuration_of device))
 
-abbrev pub bulk_in : Accepted → Option (ℕ × ℕ)
-bulk_in device = if is_some device.hub then None else at_full_speed device.low (bulk_in_of (configuration_of device))
+abbrev pub in_endpoint : Accepted → Option (ℕ × ℕ)
+in_endpoint device = if is_some device.hub then None else at_full_speed device.low (bulk_in_of (configuration_of device))
 
 -- the accepted device at a path, if there is one
-abbrev pub device_at : List ℕ → Entries → Option Accepted
-device_at path entries = device_of (lookup (is_at (path_cmp path)) entries)
+abbrev pub accepted_device_at : List ℕ → Entries → Option Accepted
+accepted_device_at path entries = accepted_device_of (lookup (is_at (path_cmp path)) entries)

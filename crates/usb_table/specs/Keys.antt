@@ -53,17 +53,17 @@ abbrev pub under : {A : Type 0} → A → (ℕ → Option A) → ℕ → A
 under none slots key = unwrap_or (slots key) none
 
 -- what is under the keys, by rising path
-abbrev pub listed : {A : Type 0} → A → (ℕ → Option A) → PathKeys → List (List ℕ × A)
-listed none slots paths = map (λ e. (e.0, under none slots e.1)) paths
+abbrev pub values_by_path : {A : Type 0} → A → (ℕ → Option A) → PathKeys → List (List ℕ × A)
+values_by_path none slots paths = map (λ e. (e.0, under none slots e.1)) paths
 
 abbrev pub finding_under : Slots → ℕ → Finding
 finding_under found key = under (Refused Silent) found key
 
 abbrev pub entries_of : Slots → PathKeys → Entries
-entries_of found paths = listed (Refused Silent) found paths
+entries_of found paths = values_by_path (Refused Silent) found paths
 
 abbrev pub table_of : Standings → PathKeys → Table
-table_of standings paths = record { entries = entries_of (findings standings) paths; pipes = listed Absent (pipings standings) paths }
+table_of standings paths = record { entries = entries_of (findings standings) paths; pipes = values_by_path Absent (pipings standings) paths }
 
 abbrev pub address_in : Option Finding → Option ℕ
 address_in None = None

@@ -6,7 +6,7 @@ use Rattle.usb_port.specs.Order.{path_cmp, parent_of, port_of}
 use Rattle.usb_port.specs.Path.{IsPortNumber}
 use Rattle.usb_resources.specs.Power.{supply_of}
 use Rattle.usb_transaction.specs.declared.target.Target.{Target}
-use Rattle.usb_transaction.specs.Trans.{IsTarget}
+use Rattle.usb_transaction.specs.Transactions.{IsTarget}
 use Rattle.usb_hub.specs.declared.port.HubPort.{HubPort}
 use Rattle.usb_hub.specs.declared.port.HubPort.TheVariants.{Root, External}
 use Rattle.usb_enum.specs.declared.finding.Accepted.{Accepted}

@@ -11,23 +11,23 @@ use Rattle.usb_device.specs.Tree.{Ports, full, row_of, place, reach, reach_at, s
 use Rattle.usb_device.specs.View.{state_there}
 use Rattle.usb_world.specs.Steps.{ready}
 use Rattle.usb_world.specs.World.{World}
-use Rattle.usb_transaction.specs.Why.{NoThreeDamaged, Listens}
+use Rattle.usb_transaction.specs.Failures.{NoThreeDamaged, Listens}
 use Rattle.usb_pipe.specs.Bulk.{Bulk}
 use Rattle.usb_pipe.specs.Interrupt.{Interrupt}
-use Rattle.usb_pipe.specs.Whole.{FitsSink, FitsSource, PollTells}
+use Rattle.usb_pipe.specs.Leaves.{FitsSink, FitsSource, PollTells}
 use Rattle.usb_pipe.specs.declared.fault.PipeFault.{PipeFault}
 use Rattle.usb_address.specs.Owned.{Owned}
 use Rattle.usb_hub.specs.Requests.{AllRest}
-use Rattle.usb_hub.specs.Why.{IsServed}
+use Rattle.usb_hub.specs.Why.{NoHubFailed}
 use Rattle.usb_enum.specs.declared.finding.Accepted.{Accepted}
 use Rattle.usb_enum.specs.Device.{target_of}
 use Rattle.usb_table.specs.declared.pipes.Pipes.{Pipes}
 use Rattle.usb_table.specs.declared.pipes.Pipes.TheVariants.{Hub, Function, Absent}
-use Rattle.usb_table.specs.Findings.{device_at}
+use Rattle.usb_table.specs.Findings.{accepted_device_at}
 use Rattle.usb_table.specs.Known.{is_below_hub}
-use Rattle.usb_table.specs.Listing.{address_at}
+use Rattle.usb_table.specs.Listing.{entry_address}
 use Rattle.usb_table.specs.Table.{Table, pipes_at}
-use Rattle.usb_table.specs.Transfers.{Keeps}
+use Rattle.usb_table.specs.Transfers.{OnlyTransfers}
 
 -- The pipes to one device
 
@@ -56,7 +56,7 @@ AreLevel Absent s = ⊤
 
 -- those to the accepted device at a path, where that is reachable
 pub record LevelAt (path : List ℕ) (table : Table) (w : World) : Type 0 where
-  pub level : (device : Accepted) (s : State) → device_at path table.entries ≡ Some device → reach w.roots path ≡ true → state_there w.roots path ≡ Some s → AreLevel (pipes_at path table) s
+  pub level : (device : Accepted) (s : State) → accepted_device_at path table.entries ≡ Some device → reach w.roots path ≡ true → state_there w.roots path ≡ Some s → AreLevel (pipes_at path table) s
 
 -- all pipes
 abbrev pub AllLevel : Table → World → Type 0
@@ -64,11 +64,11 @@ AllLevel table w = (path : List ℕ) → LevelAt path table w
 
 -- each reachable device holds the address that the table has for its path
 abbrev pub IsHeld : Table → World → Type 0
-IsHeld table w = Owned (λ path. address_at path table.entries) w
+IsHeld table w = Owned (λ path. entry_address path table.entries) w
 
 -- What a call through the pipes at a path leaves: those to other devices stay level in any case, and those at the path where it ends so
 pub record KeepsLevel (path : List ℕ) (ends : Type 0) (old : Table) (before : World) (new : Table) (after : World) : Type 0 where
-  pub worlds : Keeps before after
+  pub worlds : OnlyTransfers before after
   pub others : IsHeld old before → (x : List ℕ) → is_at (path_cmp path) x ≡ false → LevelAt x old before → LevelAt x new after
   pub itself : IsHeld old before → ends → LevelAt path old before → LevelAt path new after
 
@@ -107,5 +107,5 @@ pub record Heard (path : List ℕ) (device : Accepted) (w : World) : Type 0 wher
 -- end is polled.
 pub record KeepsPolled (path : List ℕ) (old : Table) (before : World) (result : Result (Option (ArrayVec ℕ)) PipeFault) (new : Table) (after : World) : Type 0 where
   pub levels : KeepsLevel path (IsOk result) old before new after
-  pub told : IsHeld old before → LevelAt path old before → (device : Accepted) → device_at path old.entries ≡ Some device → is_some device.hub ≡ true → IsOk result → HubTold path before result after
-  pub why : IsHeld old before → LevelAt path old before → NoThreeDamaged before → (device : Accepted) → device_at path old.entries ≡ Some device → is_some device.hub ≡ true → Heard path device after → IsServed result
+  pub told : IsHeld old before → LevelAt path old before → (device : Accepted) → accepted_device_at path old.entries ≡ Some device → is_some device.hub ≡ true → IsOk result → HubTold path before result after
+  pub why : IsHeld old before → LevelAt path old before → NoThreeDamaged before → (device : Accepted) → accepted_device_at path old.entries ≡ Some device → is_some device.hub ≡ true → Heard path device after → NoHubFailed result

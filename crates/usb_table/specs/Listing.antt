@@ -9,9 +9,8 @@ use Rattle.usb_device.specs.Spec.{Spec}
 use Rattle.usb_device.specs.Tree.{reach}
 use Rattle.usb_device.specs.View.{state_there}
 use Rattle.usb_world.specs.PlanData.{PlanData}
-use Rattle.usb_world.specs.Plugged as left
-use Rattle.usb_world.specs.Plugged.{plugged}
-use Rattle.usb_world.specs.PluggedAt.{spec_of}
+use Rattle.usb_world.specs.PluggedDevices.{device_indexed, index_at, plugged_by}
+use Rattle.usb_world.specs.PlanCourses.{spec_of}
 use Rattle.usb_world.specs.World.{World, roots_of}
 use Rattle.usb_enum.specs.declared.cause.Cause.{Cause}
 use Rattle.usb_enum.specs.declared.cause.Cause.TheVariants.{NoAddress}
@@ -22,7 +21,7 @@ use Rattle.usb_enum.specs.declared.hub.HubFacts.{HubFacts}
 use Rattle.usb_enum.specs.Described.{IsRight, IsSet}
 use Rattle.usb_enum.specs.Places.{IsDisabledAt}
 use Rattle.usb_table.specs.Entries.{Entries, Rises}
-use Rattle.usb_table.specs.Findings.{device_of, device_at}
+use Rattle.usb_table.specs.Findings.{accepted_device_of, accepted_device_at}
 use Rattle.usb_table.specs.Keys.{address_in}
 
 -- What is plugged: the description of the device at each path
@@ -32,7 +31,7 @@ Tree = List ℕ → Option Spec
 
 -- what a plan's first events leave plugged
 abbrev pub tree_after : PlanData → ℕ → Tree
-tree_after plan taken path = left.device_of plan.devices (left.device_at (plugged [] (take taken plan.events)) path)
+tree_after plan taken path = device_indexed plan.devices (index_at (plugged_by [] (take taken plan.events)) path)
 
 -- what is plugged in a world
 abbrev pub tree_in : World → Tree
@@ -45,20 +44,20 @@ abbrev pub finding_at : List ℕ → Entries → Option Finding
 finding_at path entries = lookup (is_at (path_cmp path)) entries
 
 -- the address of the accepted device at a path
-abbrev pub address_at : List ℕ → Entries → Option ℕ
-address_at path entries = address_in (finding_at path entries)
+abbrev pub entry_address : List ℕ → Entries → Option ℕ
+entry_address path entries = address_in (finding_at path entries)
 
 -- the accepted hub of a finding, and at a path
-abbrev pub hub_in : Option Finding → Option HubFacts
-hub_in found = option_and_then (λ (device : Accepted). device.hub) (device_of found)
+abbrev pub hub_facts_in : Option Finding → Option HubFacts
+hub_facts_in found = option_and_then (λ (device : Accepted). device.hub) (accepted_device_of found)
 
-abbrev pub hub_at : List ℕ → Entries → Option HubFacts
-hub_at path entries = hub_in (finding_at path entries)
+abbrev pub hub_facts_at : List ℕ → Entries → Option HubFacts
+hub_facts_at path entries = hub_facts_in (finding_at path entries)
 
 -- a number of a port of the root, or of the hub at a path
 abbrev pub IsPortBelow : ℕ → Entries → Option (List ℕ) → ℕ → Type 0
 IsPortBelow roots entries None number = (1 ≤ number) × (number ≤ roots)
-IsPortBelow roots entries (Some hub) number = IsSomeAnd (hub_at hub entries) (λ facts. (1 ≤ number) × (number ≤ facts.ports))
+IsPortBelow roots entries (Some hub) number = IsSomeAnd (hub_facts_at hub entries) (λ facts. (1 ≤ number) × (number ≤ facts.ports))
 
 -- a path of a port of the root, or of a hub that is listed
 pub record IsListedPort (roots : ℕ) (entries : Entries) (path : List ℕ) : Type 0 where
@@ -84,7 +83,7 @@ supply_at tree path = supply_below tree (parent_of path)
 
 -- each address is listed
 abbrev pub ListsEach : Entries → Type 0
-ListsEach entries = (address : ℕ) → IsAddress address → (path : List ℕ) × (address_at path entries ≡ Some address)
+ListsEach entries = (address : ℕ) → IsAddress address → (path : List ℕ) × (entry_address path entries ≡ Some address)
 
 -- The listing is what is plugged. At each port of the root and of each listed hub the device that is plugged there is listed with its own
 -- descriptors and the first configuration within its port's power, or refused with its cause. Nothing else is listed. No two devices have one address.
@@ -93,14 +92,14 @@ pub record Lists (roots : ℕ) (tree : Tree) (entries : Entries) : Type 0 where
   pub there : (path : List ℕ) (spec : Spec) → IsListedPort roots entries path → tree path ≡ Some spec
       → IsSomeAnd (finding_at path entries) (IsRight (ListsEach entries) spec (tier_of path) (supply_at tree path))
   pub nothing_else : (path : List ℕ) (finding : Finding) → finding_at path entries ≡ Some finding → IsListedPort roots entries path × IsSome (tree path)
-  pub addresses : (path : List ℕ) (address : ℕ) → address_at path entries ≡ Some address → IsAddress address
-  pub differ : (path other : List ℕ) (address : ℕ) → address_at path entries ≡ Some address → address_at other entries ≡ Some address → path ≡ other
+  pub addresses : (path : List ℕ) (address : ℕ) → entry_address path entries ≡ Some address → IsAddress address
+  pub differ : (path other : List ℕ) (address : ℕ) → entry_address path entries ≡ Some address → entry_address other entries ≡ Some address → path ≡ other
 
 -- the listing is what is plugged in a world; each accepted device is reached and set as is listed, and the port of each refused one is disabled
 pub record Matches (w : World) (entries : Entries) : Type 0 where
   pub lists : Lists (roots_of w) (tree_in w) entries
-  pub reached : (path : List ℕ) (device : Accepted) → device_at path entries ≡ Some device → reach w.roots path ≡ true
-  pub set : (path : List ℕ) (device : Accepted) → device_at path entries ≡ Some device → IfSome (state_there w.roots path) (IsSet device)
+  pub reached : (path : List ℕ) (device : Accepted) → accepted_device_at path entries ≡ Some device → reach w.roots path ≡ true
+  pub set : (path : List ℕ) (device : Accepted) → accepted_device_at path entries ≡ Some device → IfSome (state_there w.roots path) (IsSet device)
   pub disabled : (path : List ℕ) (cause : Cause) → finding_at path entries ≡ Some (Refused cause) → IsDisabledAt w.roots path
 
 -- Two listings

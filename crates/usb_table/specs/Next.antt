@@ -8,16 +8,16 @@ use Rattle.usb_enum.specs.declared.finding.Finding.{Finding}
 use Rattle.usb_table.specs.Entries.{Entries}
 
 -- the path comes after the last one, where there is one
-abbrev pub IsAfter : Option (List ℕ) → List ℕ → Type 0
-IsAfter None path = ⊤
-IsAfter (Some last) path = path_cmp last path ≡ Less
+abbrev pub ComesAfter : Option (List ℕ) → List ℕ → Type 0
+ComesAfter None path = ⊤
+ComesAfter (Some last) path = path_cmp last path ≡ Less
 
 -- a finding of the kind stands at the path, which comes after the last one
 pub record Stands (kind : Finding → Bool) (last : Option (List ℕ)) (entries : Entries) (path : List ℕ) : Type 0 where
   pub finding : Finding
   pub found : lookup (is_at (path_cmp path)) entries ≡ Some finding
   pub fits : kind finding ≡ true
-  pub after : IsAfter last path
+  pub after : ComesAfter last path
 
 -- and at no such path before it
 pub record IsNext (kind : Finding → Bool) (last : Option (List ℕ)) (entries : Entries) (path : List ℕ) : Type 0 where

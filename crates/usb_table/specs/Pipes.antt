@@ -12,7 +12,7 @@ use Rattle.usb_enum.specs.declared.finding.Finding.TheVariants.{Device, Refused}
 use Rattle.usb_enum.specs.Device.{target_of, configuration_of}
 use Rattle.usb_table.specs.declared.pipes.Pipes.{Pipes}
 use Rattle.usb_table.specs.declared.pipes.Pipes.TheVariants.{Hub, Function, Absent}
-use Rattle.usb_table.specs.Findings.{bulk_out, bulk_in}
+use Rattle.usb_table.specs.Findings.{out_endpoint, in_endpoint}
 
 -- a pipe to the status endpoint of a hub, which stands below another one or on the root
 pub record IsStatusPipe (device : Accepted) (below_hub : Bool) (pipe : Interrupt) : Type 0 where
@@ -39,7 +39,7 @@ IsPipe device is_in (Some endpoint) (Some pipe) = IsBulkPipe device is_in endpoi
 abbrev pub ArePipesTo : Accepted → Bool → Pipes → Type 0
 ArePipesTo device below_hub (Hub pipe) = (is_some device.hub ≡ true) × IsStatusPipe device below_hub pipe
 ArePipesTo device below_hub (Function pipes) =
-    (is_some device.hub ≡ false) × IsPipe device false (bulk_out device) pipes.out × IsPipe device true (bulk_in device) pipes.into
+    (is_some device.hub ≡ false) × IsPipe device false (out_endpoint device) pipes.out × IsPipe device true (in_endpoint device) pipes.into
 ArePipesTo device below_hub Absent = ⊥
 
 -- the pipes to what was found
@@ -64,7 +64,7 @@ abbrev pub new_pipes_to : Accepted → Bool → Pipes
 new_pipes_to device below_hub =
     if is_some device.hub
     then new_status device below_hub (status_endpoint_of (configuration_of device))
-    else Function (record { out = new_bulk device false (bulk_out device); into = new_bulk device true (bulk_in device) })
+    else Function (record { out = new_bulk device false (out_endpoint device); into = new_bulk device true (in_endpoint device) })
 
 abbrev pub new_pipes : Finding → Bool → Pipes
 new_pipes (Device device) below_hub = new_pipes_to device below_hub

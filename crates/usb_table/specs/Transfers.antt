@@ -7,7 +7,7 @@ use Rattle.usb_device.specs.Rows.{State}
 use Rattle.usb_world.specs.Devices.{EachWas}
 use Rattle.usb_world.specs.Passes.{IsSettled}
 use Rattle.usb_world.specs.World.{World, Spends, Failed}
-use Rattle.usb_transaction.specs.Trans.{Worked}
+use Rattle.usb_transaction.specs.Transactions.{Worked}
 use Rattle.usb_pipe.specs.Control.{Faults}
 use Rattle.usb_pipe.specs.Bulk.{Bulk, Sends, Receives, Clears}
 use Rattle.usb_pipe.specs.Interrupt.{Interrupt, Polls}
@@ -22,9 +22,9 @@ use Rattle.usb_table.specs.declared.pipes.Pipes.{Pipes}
 use Rattle.usb_table.specs.declared.pipes.Pipes.TheVariants.{Hub, Function, Absent}
 
 -- what a pipe answered
-abbrev pub through : {A : Type 0} → Result A PipeFault → Result A EndpointFault
-through (Ok answer) = Ok answer
-through (Err fault) = Err (Pipe fault)
+abbrev pub endpoint_answer : {A : Type 0} → Result A PipeFault → Result A EndpointFault
+endpoint_answer (Ok answer) = Ok answer
+endpoint_answer (Err fault) = Err (Pipe fault)
 
 -- nothing was tried, and the pipe or the pipes are as they were
 abbrev pub NotTried : {A P : Type 0} → EndpointFault → P → World → Result A EndpointFault → P → World → Type 0
@@ -39,20 +39,20 @@ PipeTold pipe.Broken w = ⊤
 PipeTold (pipe.Bus fault) w = Failed fault w
 PipeTold pipe.Memory w = ⊤
 
-abbrev pub FaultTold : EndpointFault → World → Type 0
-FaultTold NoDevice w = ⊤
-FaultTold NoEndpoint w = ⊤
-FaultTold (Pipe fault) w = PipeTold fault w
+abbrev pub EndpointTold : EndpointFault → World → Type 0
+EndpointTold NoDevice w = ⊤
+EndpointTold NoEndpoint w = ⊤
+EndpointTold (Pipe fault) w = PipeTold fault w
 
 -- a packet that came took an attempt, and so did each fault but the bus's own
-abbrev pub PollEnds : World → Result (Option (ArrayVec ℕ)) PipeFault → World → Type 0
-PollEnds old result new = MatchResult result (λ got. IfSome got (λ packet. Worked 1 old new)) (λ fault. Faults 0 old fault new)
+abbrev pub PollTook : World → Result (Option (ArrayVec ℕ)) PipeFault → World → Type 0
+PollTook old result new = MatchResult result (λ got. IfSome got (λ packet. Worked 1 old new)) (λ fault. Faults 0 old fault new)
 
 -- Through a pipe, if there is one
 
 pub record SentThrough (pipe : Bulk) (bytes : List ℕ) (old : World) (result : Result (Unit {0}) EndpointFault) (left : Bulk) (new : World) : Type 0 where
   pub answer : Result (Unit {0}) PipeFault
-  pub told : result ≡ through answer
+  pub told : result ≡ endpoint_answer answer
   pub count : Spends (768 * div_ceil (length bytes) pipe.max) old new
   pub sends : Sends bytes pipe old answer left new
 
@@ -63,7 +63,7 @@ SentBy (Some pipe) bytes old result (Some left) new = SentThrough pipe bytes old
 
 pub record ReceivedThrough (pipe : Bulk) (packets : ℕ) (old : World) (result : Result (Vec ℕ) EndpointFault) (left : Bulk) (new : World) : Type 0 where
   pub answer : Result (Vec ℕ) PipeFault
-  pub told : result ≡ through answer
+  pub told : result ≡ endpoint_answer answer
   pub count : Spends (768 * packets) old new
   pub receives : Receives packets pipe old answer left new
 
@@ -84,7 +84,7 @@ ClearedBy (Some pipe) old answer (Some left) new = ClearedThrough pipe old answe
 
 -- the second pipe is cleared where the first one was
 abbrev pub ClearedAfter : Result (Unit {0}) PipeFault → Option Bulk → World → Result (Unit {0}) EndpointFault → Option Bulk → World → Type 0
-ClearedAfter (Ok done) pipe mid result left new = (answer : Result (Unit {0}) PipeFault) × (result ≡ through answer) × ClearedBy pipe mid answer left new
+ClearedAfter (Ok done) pipe mid result left new = (answer : Result (Unit {0}) PipeFault) × (result ≡ endpoint_answer answer) × ClearedBy pipe mid answer left new
 ClearedAfter (Err fault) pipe mid result left new = (result ≡ Err (Pipe fault)) × (left ≡ pipe) × (new ≡ mid)
 
 pub record ClearedInOrder (pipes : BulkPipes) (old : World) (result : Result (Unit {0}) EndpointFault) (left : BulkPipes) (new : World) : Type 0 where
@@ -112,30 +112,30 @@ pub record PolledThrough (pipe : Interrupt) (old : World) (result : Result (Opti
   pub polls : Polls pipe old result left new
 
 -- a hub's status endpoint is asked, and nothing else
-abbrev pub Polled : Pipes → World → Result (Option (ArrayVec ℕ)) PipeFault → Pipes → World → Type 0
-Polled (Hub pipe) old result left new = (rest : Interrupt) × (left ≡ Hub rest) × PolledThrough pipe old result rest new
-Polled (Function pipes) old result left new = NotPolled (Function pipes) old result left new
-Polled Absent old result left new = NotPolled Absent old result left new
+abbrev pub PipesPolled : Pipes → World → Result (Option (ArrayVec ℕ)) PipeFault → Pipes → World → Type 0
+PipesPolled (Hub pipe) old result left new = (rest : Interrupt) × (left ≡ Hub rest) × PolledThrough pipe old result rest new
+PipesPolled (Function pipes) old result left new = NotPolled (Function pipes) old result left new
+PipesPolled Absent old result left new = NotPolled Absent old result left new
 
 -- bytes are sent to the bulk OUT endpoint of a function
-abbrev pub Sent : Pipes → List ℕ → World → Result (Unit {0}) EndpointFault → Pipes → World → Type 0
-Sent (Hub pipe) bytes old result left new = NotTried NoEndpoint (Hub pipe) old result left new
-Sent (Function pipes) bytes old result left new =
+abbrev pub PipesSent : Pipes → List ℕ → World → Result (Unit {0}) EndpointFault → Pipes → World → Type 0
+PipesSent (Hub pipe) bytes old result left new = NotTried NoEndpoint (Hub pipe) old result left new
+PipesSent (Function pipes) bytes old result left new =
     (out : Option Bulk) × (left ≡ Function (record pipes { out = out })) × SentBy pipes.out bytes old result out new
-Sent Absent bytes old result left new = NotTried NoDevice Absent old result left new
+PipesSent Absent bytes old result left new = NotTried NoDevice Absent old result left new
 
 -- packets are received from the bulk IN endpoint of a function
-abbrev pub Received : Pipes → ℕ → World → Result (Vec ℕ) EndpointFault → Pipes → World → Type 0
-Received (Hub pipe) packets old result left new = NotTried NoEndpoint (Hub pipe) old result left new
-Received (Function pipes) packets old result left new =
+abbrev pub PipesReceived : Pipes → ℕ → World → Result (Vec ℕ) EndpointFault → Pipes → World → Type 0
+PipesReceived (Hub pipe) packets old result left new = NotTried NoEndpoint (Hub pipe) old result left new
+PipesReceived (Function pipes) packets old result left new =
     (into : Option Bulk) × (left ≡ Function (record pipes { into = into })) × ReceivedBy pipes.into packets old result into new
-Received Absent packets old result left new = NotTried NoDevice Absent old result left new
+PipesReceived Absent packets old result left new = NotTried NoDevice Absent old result left new
 
 -- the halts of a function's bulk endpoints are cleared
-abbrev pub Cleared : Pipes → World → Result (Unit {0}) EndpointFault → Pipes → World → Type 0
-Cleared (Hub pipe) old result left new = NotTried NoEndpoint (Hub pipe) old result left new
-Cleared (Function pipes) old result left new = (rest : BulkPipes) × (left ≡ Function rest) × ClearedInTurn pipes old result rest new
-Cleared Absent old result left new = NotTried NoDevice Absent old result left new
+abbrev pub PipesCleared : Pipes → World → Result (Unit {0}) EndpointFault → Pipes → World → Type 0
+PipesCleared (Hub pipe) old result left new = NotTried NoEndpoint (Hub pipe) old result left new
+PipesCleared (Function pipes) old result left new = (rest : BulkPipes) × (left ≡ Function rest) × ClearedInTurn pipes old result rest new
+PipesCleared Absent old result left new = NotTried NoDevice Absent old result left new
 
 -- a device has the description and the registers that it had
 abbrev pub SameSettings : ℕ → List ℕ → State → State → Type 0
@@ -147,7 +147,7 @@ pub record KeepsSettings (old new : World) : Type 0 where
 
 -- What each leaves of the devices and ports: addresses, descriptions and registers are kept, and as long as the bus is at work, nothing is
 -- asked of any port
-pub record Keeps (old new : World) : Type 0 where
+pub record OnlyTransfers (old new : World) : Type 0 where
   pub addresses : KeepsAddresses old new
   pub devices : KeepsSettings old new
   pub rests : new.fault ≡ None → AllRest old new

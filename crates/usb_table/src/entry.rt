@@ -1,9 +1,9 @@
 //! What stands at a port, with the host's pipes to it.
 ghost use Rattle.std.specs.Prelude.{◌≡◌};
 ghost use Rattle.usb_bus.specs.Traced.{Traced, Went};
-ghost use Rattle.usb_table.specs.Findings.{IsSound};
+ghost use Rattle.usb_table.specs.Findings.{IsSoundFinding};
 ghost use Rattle.usb_table.specs.Pipes.{ArePipesOf, new_pipes};
-ghost use Rattle.usb_table.specs.Transfers.{PollEnds, Polled, Sent, Received, Cleared};
+ghost use Rattle.usb_table.specs.Transfers.{PollTook, PipesPolled, PipesSent, PipesReceived, PipesCleared};
 
 use crate::EndpointFault;
 use crate::pipes::{Pipes, pipes_to, receive_through, send_through};
@@ -27,19 +27,19 @@ impl Model for Entry {
     ghost Value = { Standing };
 
     ghost use Rattle.std.specs.Prelude.{Bool};
-    ghost use Rattle.usb_table.specs.Findings.{IsSound};
+    ghost use Rattle.usb_table.specs.Findings.{IsSoundFinding};
     ghost use Rattle.usb_table.specs.Pipes.{ArePipesOf};
 
     ghost view = { λ e. record { finding = e.finding; pipes = e.pipes } };
 
-    ghost invariant = { λ e. IsSound e.finding
+    ghost invariant = { λ e. IsSoundFinding e.finding
         × ((below_hub : Bool) × ArePipesOf e.finding below_hub e.pipes) };
 }
 
 impl Entry {
     /// What was just found, with new pipes.
     pub fn new(finding: Finding, below_hub: bool) -> Entry
-        requires { IsSound finding }
+        requires { IsSoundFinding finding }
         ensures value { result ≡ record { finding = finding; pipes = new_pipes finding below_hub } }
         ensures fits { ArePipesOf finding below_hub result.pipes }
     {
@@ -52,7 +52,7 @@ impl Entry {
 
     pub fn finding(&self) -> &Finding
         ensures value { result.now ≡ self.now.finding }
-        ensures sound { IsSound self.now.finding }
+        ensures sound { IsSoundFinding self.now.finding }
     {
         &self.finding
     }
@@ -68,8 +68,8 @@ impl Entry {
     pub fn poll<B: Bus>(&mut self, bus: &mut B) -> Result<Option<ArrayVec<u8, 64>>, PipeFault>
         ensures same { self.new.finding ≡ self.old.finding }
         ensures went { Went B.world B.trace 768 bus.old bus.new }
-        ensures ends { PollEnds (B.world bus.old) result (B.world bus.new) }
-        ensures polled { Polled self.old.pipes
+        ensures ends { PollTook (B.world bus.old) result (B.world bus.new) }
+        ensures polled { PipesPolled self.old.pipes
             (B.world bus.old) result self.new.pipes (B.world bus.new) }
     {
         match &mut self.pipes {
@@ -83,7 +83,7 @@ impl Entry {
         ensures same { self.new.finding ≡ self.old.finding }
         ensures traced { Traced
             (B.world bus.old) (B.trace bus.old) (B.world bus.new) (B.trace bus.new) }
-        ensures sent { Sent self.old.pipes bytes.now
+        ensures sent { PipesSent self.old.pipes bytes.now
             (B.world bus.old) result self.new.pipes (B.world bus.new) }
     {
         match &mut self.pipes {
@@ -103,7 +103,7 @@ impl Entry {
         ensures same { self.new.finding ≡ self.old.finding }
         ensures traced { Traced
             (B.world bus.old) (B.trace bus.old) (B.world bus.new) (B.trace bus.new) }
-        ensures received { Received self.old.pipes packets
+        ensures received { PipesReceived self.old.pipes packets
             (B.world bus.old) result self.new.pipes (B.world bus.new) }
     {
         match &mut self.pipes {
@@ -117,7 +117,7 @@ impl Entry {
     pub fn clear_halt<B: Bus>(&mut self, bus: &mut B) -> Result<(), EndpointFault>
         ensures same { self.new.finding ≡ self.old.finding }
         ensures went { Went B.world B.trace 3200 bus.old bus.new }
-        ensures cleared { Cleared self.old.pipes
+        ensures cleared { PipesCleared self.old.pipes
             (B.world bus.old) result self.new.pipes (B.world bus.new) }
     {
         match &mut self.pipes {

@@ -1,7 +1,7 @@
 //! A port of which the table knows how it is asked.
 ghost use Rattle.std.specs.Prelude.{◌≡◌, ◌<◌, IfSome};
 ghost use Rattle.usb_port.specs.Path.{IsPortNumber};
-ghost use Rattle.usb_table.specs.Findings.{IsSound};
+ghost use Rattle.usb_table.specs.Findings.{IsSoundFinding};
 ghost use Rattle.usb_table.specs.Known.{root_port, is_below_hub, port_of_finding, IsAskable};
 
 use crate::target::target_to;
@@ -36,7 +36,7 @@ pub(crate) fn root_port(number: u8) -> KnownPort
 
 /// A port of a hub, by its number from 1; `None` where it is no accepted hub with so many ports.
 pub(crate) fn port_of_finding(finding: &Finding, below_hub: bool, number: u8) -> Option<KnownPort>
-    requires sound { IsSound finding.now }
+    requires sound { IsSoundFinding finding.now }
     requires number { IsPortNumber number }
     ensures value { result ≡ port_of_finding finding.now below_hub number }
     ensures served { IfSome result (λ known. IsAskable known.port) }

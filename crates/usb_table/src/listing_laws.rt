@@ -3,7 +3,7 @@
 //! Each call does nothing; what it ensures is for proofs to cite.
 ghost use Rattle.std.specs.Prelude.{ℕ};
 ghost use Rattle.usb_world.specs.PlanData.{PlanData, IsPlan};
-ghost use Rattle.usb_world.specs.PluggedAt.{AtPorts};
+ghost use Rattle.usb_world.specs.PlanCourses.{AtPorts};
 ghost use Rattle.usb_world.specs.Steps.{AnyStep, Course, opening};
 ghost use Rattle.usb_world.specs.World.{World};
 ghost use Rattle.usb_table.specs.Entries.{Entries};

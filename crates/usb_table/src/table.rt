@@ -6,7 +6,7 @@ ghost use Rattle.std.specs.Map.{lookup};
 ghost use Rattle.usb_port.specs.Order.{path_cmp};
 ghost use Rattle.usb_bus.specs.Traced.{Went};
 ghost use Rattle.usb_table.specs.Entries.{Rises, has_at};
-ghost use Rattle.usb_table.specs.Findings.{IsSound, is_hub, is_waiting};
+ghost use Rattle.usb_table.specs.Findings.{IsSoundFinding, is_hub, is_waiting};
 ghost use Rattle.usb_table.specs.Findings.{HasNewAddress, HasDevice, HasNoDevice};
 ghost use Rattle.usb_table.specs.Kinds.{fits};
 ghost use Rattle.usb_table.specs.Known.{IsAskable, known_port};
@@ -14,8 +14,8 @@ ghost use Rattle.usb_table.specs.Next.{IsNext, IsLast};
 ghost use Rattle.usb_table.specs.Table.{ArePipesAt, GoesThrough, TakesOut};
 ghost use Rattle.usb_table.specs.Table.{empty, entered, pipes_at};
 ghost use Rattle.usb_table.specs.Levels.{KeepsPolled, KeepsMoved};
-ghost use Rattle.usb_table.specs.Transfers.{PollEnds, FaultTold};
-ghost use Rattle.usb_table.specs.Transfers.{Polled, Sent, Received, Cleared};
+ghost use Rattle.usb_table.specs.Transfers.{PollTook, EndpointTold};
+ghost use Rattle.usb_table.specs.Transfers.{PipesPolled, PipesSent, PipesReceived, PipesCleared};
 
 use crate::entry::Entry;
 use crate::found::address_number;
@@ -73,7 +73,7 @@ impl DeviceTable {
     /// Enters what was just found at a path, where nothing stands at it or below it.
     pub fn insert(&mut self, path: PortPath, finding: Finding) -> Result<(), AllocError>
         requires away { has_at path self.old.entries ≡ false }
-        requires sound { IsSound finding }
+        requires sound { IsSoundFinding finding }
         requires address { HasNewAddress finding self.old.entries }
         ensures ok { OnOk result (self.new ≡ entered path finding self.old) }
         ensures err { OnErr result (self.new ≡ self.old) }
@@ -90,7 +90,7 @@ impl DeviceTable {
     /// What was found at a path.
     pub fn get(&self, path: &PortPath) -> Option<&Finding>
         ensures value { option_copied result ≡ lookup (is_at (path_cmp path.now)) self.now.entries }
-        ensures sound { IfSome result (λ finding. IsSound finding.now) }
+        ensures sound { IfSome result (λ finding. IsSoundFinding finding.now) }
     {
         match self.indexes.by_path.get(path) {
             Some(key) => Some(self.entries[*key].finding()),
@@ -193,8 +193,8 @@ impl DeviceTable {
     ) -> Result<Option<ArrayVec<u8, 64>>, PipeFault>
         ensures through { GoesThrough hub.now self.old self.new }
         ensures went { Went B.world B.trace 768 bus.old bus.new }
-        ensures ends { PollEnds (B.world bus.old) result (B.world bus.new) }
-        ensures polled { Polled (pipes_at hub.now self.old)
+        ensures ends { PollTook (B.world bus.old) result (B.world bus.new) }
+        ensures polled { PipesPolled (pipes_at hub.now self.old)
             (B.world bus.old) result (pipes_at hub.now self.new) (B.world bus.new) }
         ensures keeps { KeepsPolled hub.now
             self.old (B.world bus.old) result self.new (B.world bus.new) }
@@ -219,8 +219,8 @@ impl DeviceTable {
     ) -> Result<(), EndpointFault>
         ensures through { GoesThrough path.now self.old self.new }
         ensures went { Went B.world B.trace (768 * length bytes.now) bus.old bus.new }
-        ensures told { IfErr result (λ fault. FaultTold fault (B.world bus.new)) }
-        ensures sent { Sent (pipes_at path.now self.old) bytes.now
+        ensures told { IfErr result (λ fault. EndpointTold fault (B.world bus.new)) }
+        ensures sent { PipesSent (pipes_at path.now self.old) bytes.now
             (B.world bus.old) result (pipes_at path.now self.new) (B.world bus.new) }
         ensures keeps { KeepsMoved path.now
             self.old (B.world bus.old) self.new (B.world bus.new) }
@@ -247,8 +247,8 @@ impl DeviceTable {
     ) -> Result<Vec<u8>, EndpointFault>
         ensures through { GoesThrough path.now self.old self.new }
         ensures went { Went B.world B.trace (768 * packets) bus.old bus.new }
-        ensures told { IfErr result (λ fault. FaultTold fault (B.world bus.new)) }
-        ensures received { Received (pipes_at path.now self.old) packets
+        ensures told { IfErr result (λ fault. EndpointTold fault (B.world bus.new)) }
+        ensures received { PipesReceived (pipes_at path.now self.old) packets
             (B.world bus.old) result (pipes_at path.now self.new) (B.world bus.new) }
         ensures keeps { KeepsMoved path.now
             self.old (B.world bus.old) self.new (B.world bus.new) }
@@ -269,8 +269,8 @@ impl DeviceTable {
     pub fn clear_halt<B: Bus>(&mut self, bus: &mut B, path: &PortPath) -> Result<(), EndpointFault>
         ensures through { GoesThrough path.now self.old self.new }
         ensures went { Went B.world B.trace 3200 bus.old bus.new }
-        ensures told { IfErr result (λ fault. FaultTold fault (B.world bus.new)) }
-        ensures cleared { Cleared (pipes_at path.now self.old)
+        ensures told { IfErr result (λ fault. EndpointTold fault (B.world bus.new)) }
+        ensures cleared { PipesCleared (pipes_at path.now self.old)
             (B.world bus.old) result (pipes_at path.now self.new) (B.world bus.new) }
         ensures keeps { KeepsMoved path.now
             self.old (B.world bus.old) self.new (B.world bus.new) }

@@ -1,6 +1,6 @@
 //! Endpoint 0 of a device that was accepted.
 ghost use Rattle.std.specs.Prelude.{◌≡◌, ◌≤◌};
-ghost use Rattle.usb_transaction.specs.Trans.{IsTarget};
+ghost use Rattle.usb_transaction.specs.Transactions.{IsTarget};
 ghost use Rattle.usb_enum.specs.Device.{target_of};
 ghost use Rattle.usb_table.specs.Findings.{IsSoundDevice};
 

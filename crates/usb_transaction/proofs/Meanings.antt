@@ -12,21 +12,18 @@ use Rattle.usb_world.specs.declared.types.Attempt.{Attempt}
 use Rattle.usb_world.specs.declared.types.Outcome.{Outcome}
 use Rattle.usb_world.specs.declared.types.Outcome.TheVariants as outcome
 use Rattle.usb_world.specs.Passes.{IsSettled, deep_at}
-use Rattle.usb_world.specs.OneHolder.{IsMade, Answerer, IsSetup, got, hears_attempt, token_way, payload_way, answer_way}
+use Rattle.usb_world.specs.OneHolder.{IsMade, AttemptAnswerer, IsSetup, got, hears_attempt, token_way, payload_way, answer_way}
 use Rattle.usb_world.specs.World.{World}
 use Rattle.usb_world.specs.Steps.{ready, damage_in, outcome_in, attempt, after, Course, here}
-use Rattle.usb_world.proofs.Booleans.{decided}
-use Rattle.usb_world.proofs.OneHolderMore.{made_of, setup_in, in_in, out_in, setup_sound_in}
-use Rattle.usb_world.proofs.OneHolderReach.{stays_reachable_in}
-use Rattle.usb_world.proofs.OneHolderWho.{one_answers}
+use Rattle.usb_world.proofs.Interface.{decided, in_in, made_of, one_answers, out_in, setup_in, setup_sound_in, stays_reachable_in}
 use Rattle.usb_transaction.specs.declared.target.Target.{Target}
 use Rattle.usb_transaction.specs.declared.fault.TransFault.TheVariants.{Stalled, NoAnswer}
 use Rattle.usb_transaction.specs.Heard.{heard_as, sent_as, set_up_as}
 use Rattle.usb_transaction.specs.Trail.{Trail, start, next, IsNoEnd, GoesOn, Transacted}
 use Rattle.usb_transaction.specs.declared.heard.Heard.TheVariants.{Lost}
-use Rattle.usb_transaction.specs.Trans.{packet_of, setup_attempt, in_attempt, out_attempt}
-use Rattle.usb_transaction.specs.Meaning.{Asked, Accepted, Answered, Took, IsUnheard}
-use Rattle.usb_transaction.proofs.Lasts.{read_last, sent_last, set_up_last, errors_last}
+use Rattle.usb_transaction.specs.Transactions.{packet_of, setup_attempt, in_attempt, out_attempt}
+use Rattle.usb_transaction.specs.Meaning.{AskedLast, Accepted, Answered, Took, IsUnheard}
+use Rattle.usb_transaction.proofs.LastOutcomes.{read_last, sent_last, set_up_last, errors_last}
 use Rattle.usb_transaction.proofs.Trails.{trail_settled, course_then}
 
 -- the last attempt of a trail, with what the host got of it
@@ -43,10 +40,10 @@ last_attempt : {a : Attempt} {old new : World} {last : Outcome} {outcomes : List
 last_attempt {a} {old} settled (next {outcomes = os} w t made) h =
     record { outcomes = os; mid = w; before = t; is_last = refl; came = refl; made = made_of a w (trail_settled t settled) made; single = h }
 
-answerer : {a : Attempt} {old new : World} {last : Outcome} (l : LastAttempt a old new last) → (last ≡ outcome.Nothing → ⊥) → Answerer a l.mid
+answerer : {a : Attempt} {old new : World} {last : Outcome} (l : LastAttempt a old new last) → (last ≡ outcome.Nothing → ⊥) → AttemptAnswerer a l.mid
 answerer {a} l c = one_answers a l.mid l.made l.single (λ e. c (sym l.came ∙ e))
 
-abbrev asked_at : {a : Attempt} {old new : World} {last : Outcome} (l : LastAttempt a old new last) → Answerer a l.mid → Asked a old new
+abbrev asked_at : {a : Attempt} {old new : World} {last : Outcome} (l : LastAttempt a old new last) → AttemptAnswerer a l.mid → AskedLast a old new
 asked_at l y = record {
   outcomes = l.outcomes;
   mid = l.mid;
@@ -62,7 +59,7 @@ asked_at l y = record {
 }
 
 -- the device that was asked is still reachable
-still_on : {a : Attempt} {old new : World} (q : Asked a old new) → reach_at new.roots q.j q.p ≡ true
+still_on : {a : Attempt} {old new : World} (q : AskedLast a old new) → reach_at new.roots q.j q.p ≡ true
 still_on {a} q = ap (λ w. reach_at w.roots q.j q.p) q.last ∙ stays_reachable_in a q.mid q.j q.p q.b q.s q.below q.holder
 
 -- what the host got tells what was answered
@@ -120,7 +117,7 @@ set_up_done t bytes got_bytes old new eight settled e h =
     let a = setup_attempt t bytes in
     let last : e.last ≡ outcome.Ack = set_up_last e.last (packet_of got_bytes) e.tells in
     let l : LastAttempt a old new e.last = last_attempt settled e.trail h in
-    let y : Answerer a l.mid = answerer l (λ x. no_ack (sym last ∙ x)) in
+    let y : AttemptAnswerer a l.mid = answerer l (λ x. no_ack (sym last ∙ x)) in
     let q = y.held in
     let k = (ready l.mid).roots in
     let d = damage_in (ready l.mid) in
@@ -139,7 +136,7 @@ read_done t ep toggle bytes old new settled e h =
     let a = in_attempt t ep in
     let last : e.last ≡ outcome.Payload toggle (packet_of bytes) = read_last toggle e.last bytes e.tells in
     let l : LastAttempt a old new e.last = last_attempt settled e.trail h in
-    let y : Answerer a l.mid = answerer l (λ x. no_payload toggle (packet_of bytes) (sym last ∙ x)) in
+    let y : AttemptAnswerer a l.mid = answerer l (λ x. no_payload toggle (packet_of bytes) (sym last ∙ x)) in
     let q = y.held in
     let x = in_in a l.mid q.j q.p q.b q.s q.below q.holder y.loud (record { kind = refl; payload = refl }) in
     record {
@@ -155,7 +152,7 @@ read_stalled t ep toggle old new settled e h =
     let a = in_attempt t ep in
     let last : e.last ≡ outcome.Stall = e.tells in
     let l : LastAttempt a old new e.last = last_attempt settled e.trail h in
-    let y : Answerer a l.mid = answerer l (λ x. no_stall (sym last ∙ x)) in
+    let y : AttemptAnswerer a l.mid = answerer l (λ x. no_stall (sym last ∙ x)) in
     let q = y.held in
     let x = in_in a l.mid q.j q.p q.b q.s q.below q.holder y.loud (record { kind = refl; payload = refl }) in
     record {
@@ -171,7 +168,7 @@ write_done t ep toggle bytes got_bytes old new settled e h =
     let a = out_attempt t ep toggle bytes in
     let last : e.last ≡ outcome.Ack = sent_last e.last (packet_of got_bytes) e.tells in
     let l : LastAttempt a old new e.last = last_attempt settled e.trail h in
-    let y : Answerer a l.mid = answerer l (λ x. no_ack (sym last ∙ x)) in
+    let y : AttemptAnswerer a l.mid = answerer l (λ x. no_ack (sym last ∙ x)) in
     let q = y.held in
     let x = out_in a l.mid q.j q.p q.b q.s q.below q.holder y.loud toggle bytes (record { kind = refl; payload = refl }) in
     record {
@@ -187,7 +184,7 @@ write_stalled t ep toggle bytes old new settled e h =
     let a = out_attempt t ep toggle bytes in
     let last : e.last ≡ outcome.Stall = e.tells in
     let l : LastAttempt a old new e.last = last_attempt settled e.trail h in
-    let y : Answerer a l.mid = answerer l (λ x. no_stall (sym last ∙ x)) in
+    let y : AttemptAnswerer a l.mid = answerer l (λ x. no_stall (sym last ∙ x)) in
     let q = y.held in
     let x = out_in a l.mid q.j q.p q.b q.s q.below q.holder y.loud toggle bytes (record { kind = refl; payload = refl }) in
     record {

@@ -8,8 +8,8 @@ use Rattle.usb_world.specs.declared.types.BusFault.TheVariants.{LimitReached}
 use Rattle.usb_world.specs.declared.types.Outcome.{Outcome}
 use Rattle.usb_world.specs.Passes.{IsSettled}
 use Rattle.usb_world.specs.World.{World, Made}
-use Rattle.usb_world.specs.Steps.{Step, attempt, after, attempted, with_attempt, ready, due_from, took, is_due, Course, here, step, AnyStep, IsBetween, damage_in}
-use Rattle.usb_world.proofs.Between.{between_course, settled_ports}
+use Rattle.usb_world.specs.Steps.{Step, attempt, after, attempted, with_attempt, ready, due_from, took, is_due, Course, here, step, damage_in}
+use Rattle.usb_world.proofs.Interface.{due_shared, settled_ports}
 use Rattle.usb_transaction.specs.Trail.{Trail, start, next}
 
 -- an attempt that was made is its packets, after the events that were due
@@ -33,20 +33,12 @@ pub trail_course : {K : Step → World → Type 0} {a : Attempt} {old new : Worl
 trail_course {K} {a} {old} each start = here old
 trail_course {K} {a} each (next w t made) = course_then (attempt a) (trail_course each t) (each w made)
 
-pub trail_between : {a : Attempt} {old new : World} {outcomes : List Outcome} → Trail a old outcomes new → IsBetween old → IsBetween new
-trail_between t h = between_course (trail_course {K = AnyStep} (λ w made. tt) t) h
-
 pub trail_settled : {a : Attempt} {old new : World} {outcomes : List Outcome} → Trail a old outcomes new → IsSettled old.roots → IsSettled new.roots
 unfolding with_attempt
 trail_settled start h = h
 trail_settled {a} (next w t made) h = subst (λ v. IsSettled v.roots) (sym (made_step a w made)) (settled_ports a (damage_in (ready w)) (ready w).roots)
 
 -- No two reachable devices held one address
-
-pub due_shared : (events : List Event) (w : World) → (due_from events w).shared ≡ w.shared
-unfolding due_from took
-due_shared [] w = refl
-due_shared (e ∷ events) w = elim (is_due e w) as (λ b. (if b then due_from events (took e events w) else w).shared ≡ w.shared) [ true ↦ due_shared events (took e events w) | false ↦ refl ]
 
 pub first_false : (x y : Bool) → x || y ≡ false → x ≡ false
 first_false true y e = cc

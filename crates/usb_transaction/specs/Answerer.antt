@@ -6,7 +6,7 @@ use Rattle.usb_world.specs.World.{World}
 use Rattle.usb_transaction.specs.declared.target.Target.{Target}
 use Rattle.usb_transaction.specs.declared.fault.TransFault.{TransFault}
 use Rattle.usb_transaction.specs.declared.fault.TransFault.TheVariants.{Stalled, Busy, NoAnswer, Bus}
-use Rattle.usb_transaction.specs.Over.{is_at}
+use Rattle.usb_transaction.specs.Leaves.{is_at}
 
 -- a device that is reachable now, and was before: then the target's address was its own
 pub record Answerer (t : Target) (old new : World) : Type 0 where

@@ -6,7 +6,7 @@ use Rattle.usb_world.specs.World.{World, Attempted, IsAttempt}
 use Rattle.usb_world.specs.Steps.{Step, attempt, Course, AttemptFails}
 use Rattle.usb_transaction.specs.declared.fault.TransFault.{TransFault}
 use Rattle.usb_transaction.specs.declared.fault.TransFault.TheVariants.{Bus}
-use Rattle.usb_transaction.specs.Over.{IsNotOfBus}
+use Rattle.usb_transaction.specs.Leaves.{IsNotOfBus}
 
 -- just this attempt
 abbrev pub IsOnly : Attempt → Step → World → Type 0
@@ -23,6 +23,6 @@ pub record GivenUp (K : Step → World → Type 0) (old : World) (fault : BusFau
   pub fails : mid.fault ≡ None → AttemptFails last mid (Err fault) new
 
 -- each attempt of a transaction is of a kind; where the bus gave up, so is the one that it refused
-pub record Attempts {A : Type 0} (K : Step → World → Type 0) (old : World) (result : Result A TransFault) (new : World) : Type 0 where
+pub record TransactionAttempts {A : Type 0} (K : Step → World → Type 0) (old : World) (result : Result A TransFault) (new : World) : Type 0 where
   pub whole : IsNotOfBus result → Course K old new
   pub cut : (fault : BusFault) → result ≡ Err (Bus fault) → GivenUp K old fault new

@@ -1,11 +1,11 @@
 pub mod Heard
-pub mod Trans
+pub mod Transactions
 pub mod Trail
 pub mod Meaning
-pub mod Over
-pub mod Why
+pub mod Leaves
+pub mod Failures
 pub mod Losses
 pub mod Answerer
-pub mod Spared
-pub mod Call
+pub mod SparedDevices
+pub mod Calls
 pub mod Attempts

@@ -8,7 +8,7 @@ use Rattle.usb_world.specs.Losses.{one_more}
 use Rattle.usb_world.specs.World.{World}
 use Rattle.usb_transaction.specs.declared.target.Target.{Target}
 use Rattle.usb_transaction.specs.declared.fault.TransFault.{TransFault}
-use Rattle.usb_transaction.specs.Over.{is_at}
+use Rattle.usb_transaction.specs.Leaves.{is_at}
 
 -- the request clears no change of connection (11.24.2.2), at which the losses of another stretch begin
 abbrev pub begins_no_stretch : Setup → Bool

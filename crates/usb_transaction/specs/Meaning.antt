@@ -14,10 +14,10 @@ use Rattle.usb_world.specs.World.{World}
 use Rattle.usb_world.specs.Steps.{ready, damage_in, Step, attempt, root_call, event, report, after}
 use Rattle.usb_transaction.specs.declared.target.Target.{Target}
 use Rattle.usb_transaction.specs.Trail.{Trail}
-use Rattle.usb_transaction.specs.Trans.{setup_attempt, in_attempt, out_attempt}
+use Rattle.usb_transaction.specs.Transactions.{setup_attempt, in_attempt, out_attempt}
 
 -- the last attempt of a transaction, and the one device that held its address then: it is not silent
-pub record Asked (a : Attempt) (old new : World) : Type 0 where
+pub record AskedLast (a : Attempt) (old new : World) : Type 0 where
   pub outcomes : List Outcome
   pub mid : World
   pub before : Trail a old outcomes mid
@@ -32,20 +32,20 @@ pub record Asked (a : Attempt) (old new : World) : Type 0 where
 
 -- the device accepted the setup data, and is still reachable
 pub record Accepted (t : Target) (bytes : List ℕ) (old new : World) : Type 0 where
-  pub asked : Asked (setup_attempt t bytes) old new
+  pub asked : AskedLast (setup_attempt t bytes) old new
   pub on : reach_at new.roots asked.j asked.p ≡ true
   pub state : state_at new.roots asked.j asked.p ≡ Some (accepted asked.s (row_of asked.below) (setup_of bytes))
 
 -- the device gave this answer to IN, and is what its row says, still reachable
 pub record Answered (t : Target) (ep : ℕ) (got : Answer) (old new : World) : Type 0 where
-  pub asked : Asked (in_attempt t ep) old new
+  pub asked : AskedLast (in_attempt t ep) old new
   pub gave : (in_alone (in_attempt t ep) (damage_in (ready asked.mid)) (ready asked.mid).roots (deep_at false asked.p) asked.s (row_of asked.below)).0 ≡ Some got
   pub on : reach_at new.roots asked.j asked.p ≡ true
   pub state : state_at new.roots asked.j asked.p ≡ Some (in_alone (in_attempt t ep) (damage_in (ready asked.mid)) (ready asked.mid).roots (deep_at false asked.p) asked.s (row_of asked.below)).1
 
 -- the device gave this answer to OUT with these data, and is what its row says, still reachable
 pub record Took (t : Target) (ep : ℕ) (toggle : Toggle) (bytes : List ℕ) (got : Answer) (old new : World) : Type 0 where
-  pub asked : Asked (out_attempt t ep toggle bytes) old new
+  pub asked : AskedLast (out_attempt t ep toggle bytes) old new
   pub gave : (out_alone (out_attempt t ep toggle bytes) (damage_in (ready asked.mid)) (ready asked.mid).roots (deep_at false asked.p) asked.s toggle bytes).0 ≡ Some got
   pub on : reach_at new.roots asked.j asked.p ≡ true
   pub state : state_at new.roots asked.j asked.p ≡ Some (out_alone (out_attempt t ep toggle bytes) (damage_in (ready asked.mid)) (ready asked.mid).roots (deep_at false asked.p) asked.s toggle bytes).1

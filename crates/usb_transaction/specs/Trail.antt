@@ -12,7 +12,7 @@ use Rattle.usb_transaction.specs.declared.heard.Heard.TheVariants.{Moved, NotRea
 use Rattle.usb_transaction.specs.declared.fault.TransFault.{TransFault}
 use Rattle.usb_transaction.specs.declared.fault.TransFault.TheVariants.{Stalled, Busy, NoAnswer, Bus}
 use Rattle.usb_transaction.specs.Heard.{heard_as}
-use Rattle.usb_transaction.specs.Trans.{packet_of}
+use Rattle.usb_transaction.specs.Transactions.{packet_of}
 
 -- the same attempt was made again and again, and this is what the host got, the last of it first
 pub data Trail (a : Attempt) (old : World) : List Outcome → World → Type 0 where

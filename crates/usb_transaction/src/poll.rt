@@ -1,14 +1,9 @@
 //! IN, where NAK is an answer.
-ghost use Rattle.std.specs.Prelude.{◌≡◌, ◌≤◌, ◌<◌, length, false, IfOk, OnOk, IfSome};
+ghost use Rattle.std.specs.Prelude.{◌≡◌, ◌<◌};
 ghost use Rattle.usb_bus.specs.Traced.{Went};
-ghost use Rattle.usb_world.specs.Passes.{IsSettled};
-ghost use Rattle.usb_world.specs.Devices.{EachWas};
-ghost use Rattle.usb_transaction.specs.Answerer.{Answerer};
+ghost use Rattle.usb_transaction.specs.Calls.{PollsIn};
 ghost use Rattle.usb_transaction.specs.Heard.{toggle_after};
-ghost use Rattle.usb_transaction.specs.Over.{IsNotOfBus, ChangesIn};
-ghost use Rattle.usb_transaction.specs.Trail.{Polled};
-ghost use Rattle.usb_transaction.specs.Trans.{IsTarget, Ends, in_attempt};
-ghost use Rattle.usb_transaction.specs.Why.{NoThreeDamaged, WhyPoll};
+ghost use Rattle.usb_transaction.specs.Transactions.{IsTarget};
 
 use crate::attempt::attempt_of_in;
 use crate::heard::{Heard, flipped, judged};
@@ -21,8 +16,8 @@ use usb_packet::Toggle;
 ///
 /// It asks again after an error or a packet of the other toggle, which is a repeat and discarded.
 /// The toggle changes exactly where a packet came. Where no address was ever held twice, and no
-/// earlier poll failed, a hub's byte is what its ports told at one of the attempts, and at None they
-/// told of nothing.
+/// earlier poll failed, a hub's byte is what its ports told at one of the attempts, and at None
+/// they told of nothing.
 ///
 /// # Errors
 ///
@@ -37,15 +32,7 @@ pub fn poll_in<B: Bus>(
     requires target { IsTarget target }
     requires endpoint { ep < 16 }
     ensures went { Went B.world B.trace 768 bus.old bus.new }
-    ensures ends { Ends (B.world bus.old) result (B.world bus.new) }
-    ensures heard { Polled toggle.old (in_attempt target ep) (B.world bus.old) result (B.world bus.new) }
-    ensures settled { IsSettled (B.world bus.old).roots }
-    ensures what { ep ≡ 1 → (B.world bus.new).shared ≡ false
-        → EachWas (ChangesIn target toggle.old (B.world bus.old) result)
-        (B.world bus.old) (B.world bus.new) }
-    ensures why { NoThreeDamaged (B.world bus.old) → ep ≡ 1 → IsNotOfBus result → (B.world bus.new).shared ≡ false → EachWas (WhyPoll target toggle.old result) (B.world bus.old) (B.world bus.new) }
-    ensures who { OnOk result ((B.world bus.new).shared ≡ false → Answerer target (B.world bus.old) (B.world bus.new)) }
-    ensures short { IfOk result (λ got. IfSome got (λ done. length done ≤ target.max)) }
+    ensures polls { PollsIn target ep toggle.old (B.world bus.old) result (B.world bus.new) }
     ensures toggle { toggle.new ≡ toggle_after toggle.old result }
 {
     let attempt = attempt_of_in(target, ep);

@@ -1,15 +1,9 @@
 //! IN.
-ghost use Rattle.std.specs.Prelude.{◌≡◌, ◌≤◌, ◌<◌, length, false, IfOk, OnOk, OnErr};
+ghost use Rattle.std.specs.Prelude.{◌≡◌, ◌<◌, MatchResult};
 ghost use Rattle.usb_bus.specs.Traced.{Went};
-ghost use Rattle.usb_world.specs.Passes.{IsSettled};
-ghost use Rattle.usb_world.specs.Devices.{EachWas};
-ghost use Rattle.usb_transaction.specs.Answerer.{Answerer};
-ghost use Rattle.usb_transaction.specs.Call.{InLeaves, WhyIn};
-ghost use Rattle.usb_transaction.specs.Heard.{flip, heard_as};
-ghost use Rattle.usb_transaction.specs.Over.{IsNotOfBus};
-ghost use Rattle.usb_transaction.specs.Trail.{Transacted};
-ghost use Rattle.usb_transaction.specs.Trans.{IsTarget, Ends, in_attempt};
-ghost use Rattle.usb_transaction.specs.Why.{NoThreeDamaged};
+ghost use Rattle.usb_transaction.specs.Calls.{AsksIn};
+ghost use Rattle.usb_transaction.specs.Heard.{flip};
+ghost use Rattle.usb_transaction.specs.Transactions.{IsTarget};
 
 use crate::attempt::attempt_of_in;
 use crate::heard::{Heard, flipped, judged};
@@ -21,8 +15,8 @@ use usb_packet::Toggle;
 /// Asks an endpoint, 0 to 15, for one data packet (8.5), until one of the awaited toggle comes.
 ///
 /// A packet of the other toggle is a repeat: it is discarded. The toggle changes exactly where the
-/// call is done. Where no address was ever held twice, the packet is the next one that the device at
-/// the target's address has for the endpoint: each comes once.
+/// call is done. Where no address was ever held twice, the packet is the next one that the device
+/// at the target's address has for the endpoint: each comes once.
 ///
 /// # Errors
 ///
@@ -37,16 +31,9 @@ pub fn data_in<B: Bus>(
     requires target { IsTarget target }
     requires endpoint { ep < 16 }
     ensures went { Went B.world B.trace 768 bus.old bus.new }
-    ensures ends { Ends (B.world bus.old) result (B.world bus.new) }
-    ensures heard { Transacted (heard_as toggle.old) (in_attempt target ep) (B.world bus.old) result (B.world bus.new) }
-    ensures settled { IsSettled (B.world bus.old).roots }
-    ensures what { (B.world bus.new).shared ≡ false
-        → EachWas (InLeaves target ep toggle.old result) (B.world bus.old) (B.world bus.new) }
-    ensures why { NoThreeDamaged (B.world bus.old) → IsNotOfBus result → (B.world bus.new).shared ≡ false → EachWas (WhyIn target ep toggle.old result) (B.world bus.old) (B.world bus.new) }
-    ensures who { OnOk result ((B.world bus.new).shared ≡ false → Answerer target (B.world bus.old) (B.world bus.new)) }
-    ensures short { IfOk result (λ done. length done ≤ target.max) }
-    ensures toggle_ok { OnOk result (toggle.new ≡ flip toggle.old) }
-    ensures toggle_err { OnErr result (toggle.new ≡ toggle.old) }
+    ensures asks { AsksIn target ep toggle.old (B.world bus.old) result (B.world bus.new) }
+    ensures toggle { MatchResult result (λ _. toggle.new ≡ flip toggle.old)
+        (λ _. toggle.new ≡ toggle.old) }
 {
     let attempt = attempt_of_in(target, ep);
     let mut tries = Tries::new();

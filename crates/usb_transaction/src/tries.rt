@@ -25,7 +25,8 @@ impl Tries {
     pub(crate) fn error(&mut self) -> Result<(), TransFault>
         requires { self.old.errors < 3 }
         ensures count { self.new ≡ record self.old { errors = self.old.errors + 1 } }
-        ensures end { MatchResult result (λ _. self.new.errors < 3) (λ fault. (fault ≡ NoAnswer) × (self.new.errors ≡ 3)) }
+        ensures end { MatchResult result (λ _. self.new.errors < 3)
+            (λ fault. (fault ≡ NoAnswer) × (self.new.errors ≡ 3)) }
     {
         self.errors += 1;
         if self.errors == 3 {
@@ -39,7 +40,8 @@ impl Tries {
     pub(crate) fn wait(&mut self) -> Result<(), TransFault>
         requires { self.old.waits < 256 }
         ensures count { self.new ≡ record self.old { errors = 0; waits = self.old.waits + 1 } }
-        ensures end { MatchResult result (λ _. self.new.waits < 256) (λ fault. (fault ≡ Busy) × (self.new.waits ≡ 256)) }
+        ensures end { MatchResult result (λ _. self.new.waits < 256)
+            (λ fault. (fault ≡ Busy) × (self.new.waits ≡ 256)) }
     {
         self.errors = 0;
         self.waits += 1;

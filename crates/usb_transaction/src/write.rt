@@ -1,15 +1,9 @@
 //! OUT.
-ghost use Rattle.std.specs.Prelude.{◌≡◌, ◌≤◌, ◌<◌, [], length, false, IfOk, OnOk, OnErr};
+ghost use Rattle.std.specs.Prelude.{◌≡◌, ◌≤◌, ◌<◌, length, MatchResult};
 ghost use Rattle.usb_bus.specs.Traced.{Went};
-ghost use Rattle.usb_world.specs.Passes.{IsSettled};
-ghost use Rattle.usb_world.specs.Devices.{EachWas};
-ghost use Rattle.usb_transaction.specs.Answerer.{Answerer};
-ghost use Rattle.usb_transaction.specs.Call.{OutLeaves, WhyOut};
-ghost use Rattle.usb_transaction.specs.Heard.{flip, sent_as};
-ghost use Rattle.usb_transaction.specs.Over.{IsNotOfBus};
-ghost use Rattle.usb_transaction.specs.Trail.{Transacted};
-ghost use Rattle.usb_transaction.specs.Trans.{IsTarget, Ends, out_attempt};
-ghost use Rattle.usb_transaction.specs.Why.{NoThreeDamaged};
+ghost use Rattle.usb_transaction.specs.Calls.{SendsOut};
+ghost use Rattle.usb_transaction.specs.Heard.{flip};
+ghost use Rattle.usb_transaction.specs.Transactions.{IsTarget};
 
 use crate::attempt::attempt_of_out;
 use crate::heard::{Heard, flipped, judged_sent};
@@ -39,17 +33,10 @@ pub fn data_out<B: Bus>(
     requires endpoint { ep < 16 }
     requires short { length bytes.now ≤ target.max }
     ensures went { Went B.world B.trace 768 bus.old bus.new }
-    ensures ends { Ends (B.world bus.old) result (B.world bus.new) }
-    ensures heard { Transacted sent_as (out_attempt target ep toggle.old bytes.now) (B.world bus.old) result (B.world bus.new) }
-    ensures settled { IsSettled (B.world bus.old).roots }
-    ensures what { (B.world bus.new).shared ≡ false
-        → EachWas (OutLeaves target ep toggle.old bytes.now result)
-        (B.world bus.old) (B.world bus.new) }
-    ensures why { NoThreeDamaged (B.world bus.old) → IsNotOfBus result → (B.world bus.new).shared ≡ false → EachWas (WhyOut target ep toggle.old bytes.now result) (B.world bus.old) (B.world bus.new) }
-    ensures who { OnOk result ((B.world bus.new).shared ≡ false → Answerer target (B.world bus.old) (B.world bus.new)) }
-    ensures nothing { IfOk result (λ done. done ≡ []) }
-    ensures toggle_ok { OnOk result (toggle.new ≡ flip toggle.old) }
-    ensures toggle_err { OnErr result (toggle.new ≡ toggle.old) }
+    ensures sends { SendsOut target ep toggle.old bytes.now
+        (B.world bus.old) result (B.world bus.new) }
+    ensures toggle { MatchResult result (λ _. toggle.new ≡ flip toggle.old)
+        (λ _. toggle.new ≡ toggle.old) }
 {
     let attempt = attempt_of_out(target, ep, *toggle, bytes);
     let mut tries = Tries::new();

@@ -1,7 +1,7 @@
 //! Transactions over a simulated bus with one function, of which packets are damaged.
 
 ghost use Rattle.std.specs.Prelude.{◌≡◌, ◌<◌};
-ghost use Rattle.usb_transaction.specs.Trans.{IsTarget};
+ghost use Rattle.usb_transaction.specs.Transactions.{IsTarget};
 
 mod rows;
 

@@ -77,7 +77,8 @@ fn no_command(alloc: Global) -> WordFault {
 }
 
 fn matches_of<'a>(alloc: Global, words: &'a [&'a str]) -> Result<ArgMatches<'a>, Error>
-    ensures { IfOk result (λ m. subcommand_rows_of m ≡ subcommand_of program_app (map (λ s. s.now) words.entry.now)) }
+    ensures { IfOk result (λ m. subcommand_rows_of m
+        ≡ subcommand_of program_app (map (λ s. s.now) words.entry.now)) }
 {
     program(alloc)?.try_get_matches_from(words)
 }
@@ -127,7 +128,8 @@ fn plain_program<'a>(alloc: Global) -> Result<Command<'a>, AllocError>
 /// The program with one more command.
 fn with_command<'a>(program: Command<'a>, command: Command<'a>) -> Result<Command<'a>, AllocError>
     requires { (app_of command).top.is_plain ≡ true }
-    ensures { IfOk result (λ c. app_of c ≡ with_subcommand (app_of program.entry) (app_of command.entry).top) }
+    ensures { IfOk result (λ c. app_of c
+        ≡ with_subcommand (app_of program.entry) (app_of command.entry).top) }
 {
     let whole = program.subcommand(command)?;
     Ok(whole)

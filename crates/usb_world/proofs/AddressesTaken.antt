@@ -8,11 +8,11 @@ use Rattle.usb_device.specs.declared.transfer.Giver.{Giver}
 use Rattle.usb_device.specs.declared.transfer.Giver.TheVariants as by
 use Rattle.usb_device.specs.Bulk.{tells_changes, change_bits}
 use Rattle.usb_device.specs.Transfer.{Stage, ending}
-use Rattle.usb_device.specs.Rows.{State, Reply, forgotten, is_busy, nak_row, bulk_of, bulk_ack_row, rest_of, acknowledged, ends_with_address}
+use Rattle.usb_device.specs.Rows.{State, Reply, forgotten, is_busy, nak_row, bulk_of, rest_of, acknowledged, ends_with_address}
 use Rattle.usb_device.specs.Attempt.{Way, is_whole, heard, gave, in_law, in_stage_law, in_control_law, in_other_law, in_bulk_law, source_law, changes_law, held_law}
 use Rattle.usb_device.specs.Tree.{Ports, row_of, reach_at, state_at}
 use Rattle.usb_world.specs.declared.types.Attempt.{Attempt}
-use Rattle.usb_world.specs.Live.{address_of, same_number, same_path}
+use Rattle.usb_world.specs.Paths.{address_of, same_number, same_path}
 use Rattle.usb_world.specs.Passes.{deep_at}
 use Rattle.usb_world.specs.World.{World}
 use Rattle.usb_world.specs.Steps.{ready, damage_in, with_attempt, attempt, after}
@@ -21,10 +21,11 @@ use Rattle.usb_world.specs.OneHolder.{token_way, answer_way, reply_way, IsIn, Ho
 use Rattle.usb_world.specs.Addresses.{is_setup, after_taking, ends_status}
 use Rattle.usb_world.proofs.Booleans.{no, decided}
 use Rattle.usb_world.proofs.Holders.{one_path}
-use Rattle.usb_world.proofs.WorldLaws.{made_reach}
-use Rattle.usb_world.proofs.OneHolderMore.{made_is, holder_in, in_in, silent_in}
-use Rattle.usb_world.proofs.Addresses.{due_own, data_calm, ports_address}
-use Rattle.usb_world.proofs.AddressesReset.{self_number, self_path, same_is}
+use Rattle.usb_world.proofs.Courses.{made_reach}
+use Rattle.usb_world.proofs.OneHolderAttempts.{made_is, holder_in, in_in, silent_in}
+use Rattle.usb_world.proofs.AddressesInTransfers.{due_own, data_calm, ports_address, bulk_acked}
+use Rattle.usb_world.proofs.RootResets.{same_is}
+use Rattle.usb_world.proofs.Equality.{self_number, self_path}
 
 -- The address after IN
 
@@ -34,10 +35,6 @@ Kept s r = address_of r.1 ≡ address_of s
 kept_if : (s : State) (b : Bool) (x y : Reply) → Kept s x → Kept s y → Kept s (if b then x else y)
 kept_if s true x y h g = h
 kept_if s false x y h g = g
-
-bulk_keeps : (s : State) (o : Option (ℕ × ℕ)) → address_of (bulk_ack_row s o) ≡ address_of s
-bulk_keeps s None = refl
-bulk_keeps s (Some end) = refl
 
 -- data that is given, where what gave it changes no address
 gave_keeps : (s d : State) (giver : Giver) (max : ℕ) (t : Toggle) (bytes : List ℕ) (x y : Way) → address_of d ≡ address_of s → address_of (acknowledged d giver) ≡ address_of s → Kept s (gave d giver max t bytes x y)
@@ -55,7 +52,7 @@ module _ (s : State) (max : ℕ) (x y : Way) where
   source_keeps most =
       kept_if s s.bulk_in.halted (heard x (Some answer.Stall), s) (if length (rest_of s) == 0 then (heard x (Some answer.Nak), s) else gave s by.Bulk max s.bulk_in.toggle (take most (rest_of s)) x y) refl
       (kept_if s (length (rest_of s) == 0) (heard x (Some answer.Nak), s) (gave s by.Bulk max s.bulk_in.toggle (take most (rest_of s)) x y) refl
-      (gave_keeps s s by.Bulk max s.bulk_in.toggle (take most (rest_of s)) x y refl (bulk_keeps s (bulk_of s true))))
+      (gave_keeps s s by.Bulk max s.bulk_in.toggle (take most (rest_of s)) x y refl (bulk_acked s (bulk_of s true))))
 
   bulk_law_keeps : (e : ℕ) (o : Option (ℕ × ℕ)) → Kept s (in_bulk_law s e o max x y)
   bulk_law_keeps e None = refl

@@ -1,5 +1,5 @@
 -- Tests that are joined.
-use Rattle.std.proofs.Common.{◌≡◌, ◌&&◌, ◌||◌, ◌⊎◌, inl, inr, Bool, true, false, refl, sym}
+use Rattle.std.proofs.Common.{◌≡◌, ◌&&◌, ◌||◌, ◌⊎◌, inl, inr, Bool, true, false, not, if◌then◌else◌, refl, sym}
 use Rattle.std.proofs.lemmas.Bool.{false≢true}
 
 pub no : {A : Type 0} → false ≡ true → A
@@ -16,10 +16,6 @@ and_of false b h g = h
 pub and_false : (a : Bool) → (a && false) ≡ false
 and_false true = refl
 and_false false = refl
-
-pub or_true : (a : Bool) → (a || true) ≡ true
-or_true true = refl
-or_true false = refl
 
 pub or_left : (a b : Bool) → a ≡ true → (a || b) ≡ true
 or_left true b h = refl
@@ -53,3 +49,32 @@ neither false b h = (refl, h)
 pub decided : (a : Bool) → (a ≡ true) ⊎ (a ≡ false)
 decided true = inl refl
 decided false = inr refl
+
+pub not_true : (a : Bool) → not a ≡ true → a ≡ false
+not_true true h = no h
+not_true false h = refl
+
+pub neither_of : (a b : Bool) → a ≡ false → b ≡ false → (a || b) ≡ false
+neither_of true b h g = h
+neither_of false b h g = g
+
+pub and_none : (a b : Bool) → b ≡ false → (a && b) ≡ false
+and_none true b h = h
+and_none false b h = refl
+
+pub or_nothing : (a : Bool) → (a || false) ≡ a
+or_nothing true = refl
+or_nothing false = refl
+
+pub same_bools : (a b : Bool) → (a ≡ true → b ≡ true) → (b ≡ true → a ≡ true) → a ≡ b
+same_bools true b f g = sym (f refl)
+same_bools false true f g = g refl
+same_bools false false f g = refl
+
+pub if_yes : {A : Type 0} (a : Bool) (x y : A) → a ≡ true → (if a then x else y) ≡ x
+if_yes true x y h = refl
+if_yes false x y h = no h
+
+pub if_no : {A : Type 0} (a : Bool) (x y : A) → a ≡ false → (if a then x else y) ≡ y
+if_no false x y h = refl
+if_no true x y h = no (sym h)

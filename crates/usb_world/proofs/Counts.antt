@@ -9,7 +9,7 @@ use Rattle.usb_device.specs.declared.calls.PortCall.TheVariants.{SetPower, SetRe
 use Rattle.usb_device.specs.Calls.{called_port, is_reset, set_call, clear_call}
 use Rattle.usb_device.specs.Rows.{State}
 use Rattle.usb_device.specs.Tree.{Ports, ended, vacant, taken, new_ports, Place, empty, full, before, reset_where, called, replaced, changed, changed_at, row_of}
-use Rattle.usb_world.specs.World.{World, roots_of, root_row, to_come, change_of, Spends, IsRootPort, IsSetFeature, IsClearFeature, changes, port_at}
+use Rattle.usb_world.specs.World.{World, roots_of, root_row, to_come, change_of, Spends, IsRootPort, IsSetFeature, IsClearFeature, changes, root_port_at}
 use Rattle.usb_device.specs.Spec.{Spec}
 use Rattle.usb_world.specs.declared.event.Action.{Action}
 use Rattle.usb_world.specs.declared.event.Action.TheVariants.{Plug, Unplug, Show, Send, Receive, Clear}
@@ -87,8 +87,8 @@ pub record RootCalled (port : ℕ) (p : PortState) (old new : World) : Type 0 wh
 before_next : (i : ℕ) → i ≡ suc i - 1
 before_next i = omega arith
 
-called_root : (port : ℕ) (c : PortCall) (w : World) → IsRootPort w port → RootCalled port (called_port c (port_at w port)) w (after (root_call c port) w)
-unfolding after port_at
+called_root : (port : ℕ) (c : PortCall) (w : World) → IsRootPort w port → RootCalled port (called_port c (root_port_at w port)) w (after (root_call c port) w)
+unfolding after root_port_at
 called_root zero c w is = absurd (omega (arith, is.0))
 called_root (suc i) c w is = record { row = subst (λ j. row_of (changed_at (called c) w.roots i []) ≡ slice_set (row_of w.roots) j (called_port c (slice_index_or (row_of w.roots) j off))) (before_next i) (row_called c w.roots i); attempts = refl; limit = refl; taken = refl; left = refl; fault = refl }
 
@@ -106,22 +106,22 @@ clear_is feature p (inr (inr (inl e))) = rw e (ClearConnectionChange, refl, refl
 clear_is feature p (inr (inr (inr (inl e)))) = rw e (ClearEnableChange, refl, refl)
 clear_is feature p (inr (inr (inr (inr e)))) = rw e (ClearResetChange, refl, refl)
 
-pub root_set : (port feature : ℕ) (old new : World) → IsRootPort old port → IsSetFeature feature → SetsRoot port feature old new → RootCalled port (unwrap_or (set_row feature (port_at old port)) (port_at old port)) old new
+pub root_set : (port feature : ℕ) (old new : World) → IsRootPort old port → IsSetFeature feature → SetsRoot port feature old new → RootCalled port (unwrap_or (set_row feature (root_port_at old port)) (root_port_at old port)) old new
 root_set port feature old new is named s =
-    let (c, found, same) = set_is feature (port_at old port) named in
+    let (c, found, same) = set_is feature (root_port_at old port) named in
     let P : PortState → Type 0 = λ p. RootCalled port p old (after (root_call c port) old) in
-    subst (λ w. RootCalled port (unwrap_or (set_row feature (port_at old port)) (port_at old port)) old w) (sym (s.step c found)) (subst P (sym same) (called_root port c old is))
+    subst (λ w. RootCalled port (unwrap_or (set_row feature (root_port_at old port)) (root_port_at old port)) old w) (sym (s.step c found)) (subst P (sym same) (called_root port c old is))
 
-pub root_cleared : (port feature : ℕ) (old new : World) → IsRootPort old port → IsClearFeature feature → ClearsRoot port feature old new → RootCalled port (unwrap_or (clear_row feature (port_at old port)) (port_at old port)) old new
+pub root_cleared : (port feature : ℕ) (old new : World) → IsRootPort old port → IsClearFeature feature → ClearsRoot port feature old new → RootCalled port (unwrap_or (clear_row feature (root_port_at old port)) (root_port_at old port)) old new
 root_cleared port feature old new is named s =
-    let (c, found, same) = clear_is feature (port_at old port) named in
+    let (c, found, same) = clear_is feature (root_port_at old port) named in
     let P : PortState → Type 0 = λ p. RootCalled port p old (after (root_call c port) old) in
-    subst (λ w. RootCalled port (unwrap_or (clear_row feature (port_at old port)) (port_at old port)) old w) (sym (s.step c found)) (subst P (sym same) (called_root port c old is))
+    subst (λ w. RootCalled port (unwrap_or (clear_row feature (root_port_at old port)) (root_port_at old port)) old w) (sym (s.step c found)) (subst P (sym same) (called_root port c old is))
 
 -- a step is a root call of its feature
 pub set_step : (port feature : ℕ) (old new : World) → IsRootPort old port → IsSetFeature feature → ((c : PortCall) → set_call feature ≡ Some c → new ≡ after (root_call c port) old) → SetsRoot port feature old new
 set_step port feature old new is named step =
-    let (c, found, same) = set_is feature (port_at old port) named in
+    let (c, found, same) = set_is feature (root_port_at old port) named in
     record {
       step = step;
       row = ap (λ w. root_row w) (step c found) ∙ (called_root port c old is).row ∙ ap (λ p. slice_set (root_row old) (port - 1) p) (sym same);
@@ -129,7 +129,7 @@ set_step port feature old new is named step =
 
 pub clear_step : (port feature : ℕ) (old new : World) → IsRootPort old port → IsClearFeature feature → ((c : PortCall) → clear_call feature ≡ Some c → new ≡ after (root_call c port) old) → ClearsRoot port feature old new
 clear_step port feature old new is named step =
-    let (c, found, same) = clear_is feature (port_at old port) named in
+    let (c, found, same) = clear_is feature (root_port_at old port) named in
     record {
       step = step;
       row = ap (λ w. root_row w) (step c found) ∙ (called_root port c old is).row ∙ ap (λ p. slice_set (root_row old) (port - 1) p) (sym same);
@@ -171,7 +171,7 @@ happened_long (Receive path packets) ds k = refl
 happened_long (Clear path) ds k = refl
 
 -- what is written at one place sets at most one change bit of a row
-change_most : (p : PortState) → change_of p ≤ 1
+pub change_most : (p : PortState) → change_of p ≤ 1
 unfolding change_of
 change_most p = elim p.connection_changed as (λ b. (if b then 1 else 0) ≤ 1) [ true ↦ omega arith | false ↦ omega arith ]
 
@@ -227,20 +227,6 @@ came_spends old new a ds e came left attempts limit =
     event_spends old new (subst (λ k. changes (row_of k) ≤ changes (root_row old) + 1) (sym e) (happened_changes a ds old.roots))
     (ap (λ k. length (row_of k)) e ∙ happened_long a ds old.roots) came left attempts limit
 
--- the row stands as it was, and so do the events
-pub attempt_spends : (old new : World) → root_row new ≡ root_row old → new.left ≡ old.left → new.taken ≡ old.taken → new.attempts ≡ old.attempts + 1 → new.limit ≡ old.limit
-    → old.attempts < old.limit → Spends 1 old new
-attempt_spends old new row left came attempts limit within = record {
-  limit = limit;
-  roots = ap length row;
-  later = omega (arith, attempts);
-  most = omega (arith, attempts);
-  within = λ h. omega (arith, attempts, limit, within);
-  events = ap (λ l. new.taken + length l) left ∙ ap (λ n. n + to_come old) came;
-  onward = omega (arith, came);
-  served = subst (λ n. n ≤ changes (root_row old) + to_come old) (sym (ap (λ r. changes r + to_come new) row ∙ ap (λ l. changes (root_row old) + length l) left)) (omega arith);
-}
-
 pub set_ends : (port feature : ℕ) (old new : World) (c : PortCall) → IsRootPort old port → IsSetFeature feature → Some c ≡ set_call feature → new ≡ after (root_call c port) old → SetsRoot port feature old new
 set_ends port feature old new c is named found e = set_step port feature old new is named (λ d other. subst (λ x. new ≡ after (root_call x port) old) (same_Some c d (found ∙ other)) e)
 
@@ -254,8 +240,8 @@ pub clear_none : {A : Type 0} (feature : ℕ) → IsClearFeature feature → Non
 clear_none feature named e = let (c, found, same) = clear_is feature off named in absurd (none_some c (e ∙ found))
 
 -- a root call that leaves C_PORT_CONNECTION as it was, or clears it, makes no attempt and no event
-pub writes_spend : (port : ℕ) (p : PortState) (old new : World) → IsRootPort old port → change_of p ≤ change_of (port_at old port) → RootCalled port p old new → Spends 0 old new
-unfolding port_at
+pub writes_spend : (port : ℕ) (p : PortState) (old new : World) → IsRootPort old port → change_of p ≤ change_of (root_port_at old port) → RootCalled port p old new → Spends 0 old new
+unfolding root_port_at
 writes_spend port p old new is le c = record {
   limit = c.limit;
   roots = ap length c.row ∙ length-set (root_row old) (port - 1) p;
@@ -294,24 +280,24 @@ change_of-clear feature p =
 
 -- setting PORT_RESET of a root port
 pub resets_spend : (port : ℕ) (old new : World) → IsRootPort old port → SetsRoot port 4 old new → Spends 0 old new
-resets_spend port old new is s = writes_spend port _ old new is (change_of-reset (port_at old port)) (root_set port 4 old new is (inl refl) s)
+resets_spend port old new is s = writes_spend port _ old new is (change_of-reset (root_port_at old port)) (root_set port 4 old new is (inl refl) s)
 
 -- clearing a feature of a root port
 pub clears_spend : (port feature : ℕ) (old new : World) → IsRootPort old port → IsClearFeature feature → ClearsRoot port feature old new → Spends 0 old new
 unfolding Leaves
-clears_spend port feature old new is named c = writes_spend port _ old new is (change_of-clear feature (port_at old port)) (root_cleared port feature old new is named c)
+clears_spend port feature old new is named c = writes_spend port _ old new is (change_of-clear feature (root_port_at old port)) (root_cleared port feature old new is named c)
 
 one_change : (p : PortState) → p.connection_changed ≡ true → change_of p ≡ change_of (unwrap_or (clear_row 16 p) p) + 1
 unfolding change_of clear_row
 one_change p set = rw set refl
 
 -- clearing a set C_PORT_CONNECTION
-pub clears_change : (port : ℕ) (old new : World) → IsRootPort old port → (port_at old port).connection_changed ≡ true → ClearsRoot port 16 old new → changes (root_row new) + to_come new + 1 ≡ changes (root_row old) + to_come old
-unfolding port_at
+pub clears_change : (port : ℕ) (old new : World) → IsRootPort old port → (root_port_at old port).connection_changed ≡ true → ClearsRoot port 16 old new → changes (root_row new) + to_come new + 1 ≡ changes (root_row old) + to_come old
+unfolding root_port_at
 clears_change port old new is set c =
-    let p = unwrap_or (clear_row 16 (port_at old port)) (port_at old port) in
+    let p = unwrap_or (clear_row 16 (root_port_at old port)) (root_port_at old port) in
     let called = root_cleared port 16 old new is (inr (inr (inl refl))) c in
-    let one = one_change (port_at old port) set in
+    let one = one_change (root_port_at old port) set in
     let all = changes-set (root_row old) (port - 1) p (omega (arith, is.0, is.1)) in
     ap (λ r. changes r + to_come new + 1) called.row ∙ ap (λ l. changes (slice_set (root_row old) (port - 1) p) + length l + 1) called.left
     ∙ omega (arith, one, all)

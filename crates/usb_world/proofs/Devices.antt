@@ -8,8 +8,8 @@ use Rattle.usb_device.specs.Attempt.{Way, whole}
 use Rattle.usb_device.specs.Tree.{Ports, ended, vacant, taken, reach_at, state_at}
 use Rattle.usb_world.specs.declared.types.Attempt.{Attempt}
 use Rattle.usb_world.specs.declared.damage.Damage.{Damage}
-use Rattle.usb_world.specs.Live.{address_of, same_number, same_path}
-use Rattle.usb_world.specs.Touched.{reset_if}
+use Rattle.usb_world.specs.Paths.{address_of, same_number, same_path}
+use Rattle.usb_world.specs.WayEffects.{reset_if}
 use Rattle.usb_world.specs.Passes.{deep_at, NobodyHolds}
 use Rattle.usb_world.specs.World.{World}
 use Rattle.usb_world.specs.Steps.{ready, damage_in, attempt, after}
@@ -18,13 +18,14 @@ use Rattle.usb_world.specs.Addresses.{is_setup}
 use Rattle.usb_world.specs.OneHolder.{token_way, payload_way, answer_way, reply_way, IsSetup, IsOut, IsIn, hears_attempt, IsMade, HolderIn, ExchangedIn, SomeHolder}
 use Rattle.usb_world.specs.Devices.{Relation, Was, EachWas, Ways, DidIn, DidOut, DidSetup}
 use Rattle.usb_world.proofs.Booleans.{no, both, decided}
-use Rattle.usb_world.proofs.WorldLaws.{due_reach, made_reach}
-use Rattle.usb_world.proofs.OwnLaws.{due_state}
-use Rattle.usb_world.proofs.Addresses.{data_calm}
-use Rattle.usb_world.proofs.AddressesReset.{is_same, same_is}
+use Rattle.usb_world.proofs.Courses.{due_reach, made_reach}
+use Rattle.usb_world.proofs.AddressesKept.{due_state}
+use Rattle.usb_world.proofs.AddressesInTransfers.{data_calm}
+use Rattle.usb_world.proofs.RootResets.{is_same, same_is}
 use Rattle.usb_world.proofs.OneDevice.{other_address, stands, state_stands}
-use Rattle.usb_world.proofs.OneHolderMore.{unequal, same_test, ready_settled, made_is, made_true, nobody_in, holder_in, silent_in, others_in, setup_in, out_in, in_in, setup_sound_in, out_sound_in, in_sound_in}
-use Rattle.usb_world.proofs.OneHolderWho.{holder_or_nobody}
+use Rattle.usb_world.proofs.OneHolderAttempts.{ready_settled, made_is, made_true, nobody_in, holder_in, silent_in, others_in, setup_in, out_in, in_in, setup_sound_in, out_sound_in, in_sound_in}
+use Rattle.usb_world.proofs.HolderOfAttempt.{holder_or_nobody}
+use Rattle.usb_world.proofs.Equality.{same_equal, swapped}
 
 -- Over courses
 
@@ -54,9 +55,6 @@ reached_stands (taken b s a k) zero [] h = refl
 reached_stands (taken b s a k) zero (zero ∷ p) h = no h
 reached_stands (taken b s a k) zero (suc j ∷ p) h = reached_stands a j p (both b.enable (reach_at a j p) h).1
 reached_stands (taken b s a k) (suc j) p h = reached_stands k j p h
-
-swapped : (m n : ℕ) → (m == n) ≡ false → (n == m) ≡ false
-swapped m n h = unequal n m (λ e. no (sym h ∙ same_test m n (sym e)))
 
 unmoved : (b : Bool) (s : State) → b ≡ false → Some (reset_if b s) ≡ Some s
 unmoved true s h = no (sym h)
@@ -158,7 +156,7 @@ module _ (a : Attempt) (w : World) (j : ℕ) (p : List ℕ) (v : State) (there :
   reply = reply_way a (damage_in (ready w)) (ready w).roots deep s
 
   its_own : (address_of s == a.addr) ≡ true
-  its_own = same_test (address_of s) a.addr h.at
+  its_own = same_equal (address_of s) a.addr h.at
 
   then_is : (r : Reply) → ExchangedIn a w j p r → v ≡ r.1
   then_is r x = same_Some v r.1 (sym there ∙ x.state)

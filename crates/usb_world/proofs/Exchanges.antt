@@ -5,16 +5,15 @@ use Rattle.usb_device.specs.declared.delivery.Heard.{Heard as HeardBelow}
 use Rattle.usb_device.specs.declared.delivery.Sent.{Sent}
 use Rattle.usb_device.specs.Tree.{Ports, ended, vacant, taken, row_of}
 use Rattle.usb_device.specs.Delivery.{all_forgotten, heard_of, both, joined, delivered, figure}
-use Rattle.usb_device.proofs.Figures.{figure-after}
-use Rattle.usb_device.proofs.Delivering.{heard_of-append}
-use Rattle.usb_device.proofs.Rows.{row_of-forgotten}
+use Rattle.usb_device.proofs.Interface.{figure-after, heard_of-append, row_of-forgotten}
 use Rattle.usb_world.specs.declared.damage.Damage.{Damage}
 use Rattle.usb_world.specs.declared.exchange.Exchange.{Exchange}
 use Rattle.usb_world.specs.declared.types.Attempt.{Attempt}
 use Rattle.usb_world.specs.Wire.{harm_to, marked, marked_some}
 use Rattle.usb_world.specs.Answering.{heard_from}
 use Rattle.usb_world.specs.Passes.{IsSettled, passed, told}
-use Rattle.usb_world.proofs.PassLaws.{attempt_settled}
+use Rattle.usb_world.proofs.AttemptPackets.{attempt_settled}
+use Rattle.usb_world.specs.Exchanged.{StaysPlugged, PacketWent, PacketsWent, Exchanged}
 use Rattle.usb_world.specs.Exchange.{token_of, payload_of, answer_place, answer_mark, reply_of, goes_out, heard_all, token_out, payload_out, heard_in, mark_in, reply_in, answered_in, is_lost, lost_in, clears_at, cleared_in, exchange_in, ended_in, ports_in}
 
 heard_all_of : (xs : List Answer) → heard_from (heard_of xs) ≡ heard_all xs
@@ -22,32 +21,57 @@ heard_all_of [] = refl
 heard_all_of (x ∷ []) = refl
 heard_all_of (x ∷ y ∷ more) = refl
 
-pub over_row : (k m : Ports) → m ≡ all_forgotten k → row_of m ≡ row_of k
-over_row k m e = ap row_of e ∙ row_of-forgotten k
-
 figure-forgotten : (k : Ports) → figure (all_forgotten k) ≡ figure k
 unfolding figure all_forgotten
 figure-forgotten ended = refl
 figure-forgotten (vacant b k) = ap (λ f. Some None ∷ f) (figure-forgotten k)
 figure-forgotten (taken b s a k) = ap₂ (λ f g. Some (Some s.spec) ∷ (f ++ g)) (figure-forgotten a) (figure-forgotten k)
 
-pub over_figure : (k m : Ports) → m ≡ all_forgotten k → figure m ≡ figure k
-over_figure k m e = ap figure e ∙ figure-forgotten k
+pub plugged_further : (k j m : Ports) → StaysPlugged k j → StaysPlugged j m → StaysPlugged k m
+plugged_further k j m x y = record { row = y.row ∙ x.row; figure = y.figure ∙ x.figure }
 
-delivered_figure : (q : Sent) (k m : Ports) (g h : HeardBelow) → (h, m) ≡ joined g (delivered q false k) → figure m ≡ figure k
-delivered_figure q k m g h e = ap (λ x. figure x.1) e ∙ figure-after q false k
+-- a packet at the whole tree
+pub sent_plugged : {A E : Type 0} (r : Result A E) (q : Sent) (k m : Ports) (g h : HeardBelow)
+    → OnOk r ((h, m) ≡ joined g (delivered q false k)) → OnErr r (figure m ≡ figure k) → row_of m ≡ row_of k → StaysPlugged k m
+sent_plugged (Ok x) q k m g h ok err row = record { row = row; figure = ap (λ y. figure y.1) ok ∙ figure-after q false k }
+sent_plugged (Err x) q k m g h ok err row = record { row = row; figure = err }
 
-pub sent_figure : {A E : Type 0} (r : Result A E) (q : Sent) (k m : Ports) (g h : HeardBelow) → OnOk r ((h, m) ≡ joined g (delivered q false k)) → OnErr r (figure m ≡ figure k) → figure m ≡ figure k
-sent_figure (Ok x) q k m g h ok err = delivered_figure q k m g h ok
-sent_figure (Err x) q k m g h ok err = err
+pub sent_went : {A E : Type 0} (r : Result A E) (o : Option Sent) (q : Sent) (k m : Ports) (g h : HeardBelow)
+    → o ≡ Some q → OnOk r ((h, m) ≡ joined g (delivered q false k)) → OnOk r (PacketWent o k m g h)
+sent_went (Ok x) o q k m g h is e = record {
+  heard = ap (λ y. y.0) e ∙ ap (λ y. both g (heard_of (told y k))) (sym is);
+  ports = ap (λ y. y.1) e ∙ ap (λ y. passed y k) (sym is);
+}
+sent_went (Err x) o q k m g h is e = e
+
+-- a packet at one device
+pub went_to : {A E : Type 0} (r : Result A E) (o : Option Sent) (k m : Ports) (g h : HeardBelow)
+    → OnOk r (h ≡ both g (heard_of (told o k))) → OnOk r (m ≡ passed o k) → OnOk r (PacketWent o k m g h)
+went_to (Ok x) o k m g h heard ports = record { heard = heard; ports = ports }
+went_to (Err x) o k m g h heard ports = heard
+
+-- the end of an attempt
+pub over_plugged : (k j m : Ports) → m ≡ all_forgotten j → StaysPlugged k j → StaysPlugged k m
+over_plugged k j m e x = record {
+  row = ap row_of e ∙ row_of-forgotten j ∙ x.row;
+  figure = ap figure e ∙ figure-forgotten j ∙ x.figure;
+}
 
 pub over_settled : (k m : Ports) → m ≡ all_forgotten k → IsSettled m
 over_settled k m e = subst IsSettled (sym e) (attempt_settled None None None k)
 
-pub over_ports : {A E : Type 0} (a : Attempt) (d : Option Damage) (k j m : Ports) (r : Result A E) → m ≡ all_forgotten j → OnOk r (j ≡ ended_in a d k) → OnOk r (m ≡ ports_in a d k)
+pub over_made : {A E : Type 0} (r : Result A E) (a : Attempt) (d : Option Damage) (k j m : Ports) (x : Exchange)
+    → m ≡ all_forgotten j → OnOk r (PacketsWent a d k j x) → OnOk r (Exchanged a d k m x)
 unfolding ports_in
-over_ports a d k j m (Ok x) e h = e ∙ ap all_forgotten h
-over_ports a d k j m (Err x) e h = h
+over_made (Ok y) a d k j m x e h = record { made = h.made; ports = e ∙ ap all_forgotten h.ports }
+over_made (Err y) a d k j m x e h = h
+
+pub ended_ports : {A E : Type 0} (r : Result A E) (a : Attempt) (d : Option Damage) (k m : Ports) (x : Exchange)
+    → OnOk r (PacketsWent a d k m x) → OnOk r (m ≡ ended_in a d k)
+ended_ports (Ok y) a d k m x h = h.ports
+ended_ports (Err y) a d k m x h = h
+
+pub ruleset attempt_ends = (over_settled, over_made)
 
 -- what the code makes, one packet after the other
 pub record Makes (a : Attempt) (damage : Option Damage) (k : Ports) (x : Exchange) : Type 0 where

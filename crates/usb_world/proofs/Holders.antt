@@ -1,13 +1,14 @@
 -- One holder: where no address is held twice, each address leads to one path.
 use Rattle.std.proofs.Common.{◌≡◌, ℕ, zero, suc, ◌+◌, ◌≤◌, ◌==◌, if◌then◌else◌, ◌⊎◌, inl, inr, Bool, true, false, List, [], ◌∷◌, ◌++◌, Some, option_map, refl, ap, sym, subst, ◌∙◌, arith}
 use Rattle.std.proofs.lemmas.Option.{same_Some}
-use Rattle.std.proofs.lemmas.Bool.Decides.{nat_tests}
 use Rattle.usb_port.specs.PortState.{PortState}
 use Rattle.usb_device.specs.Rows.{State}
 use Rattle.usb_device.specs.Tree.{Ports, ended, vacant, taken, reach_at, state_at}
 use Rattle.usb_device.specs.Delivery.{held, has, is_twice}
-use Rattle.usb_world.specs.Live.{address_of, Holds, Two}
+use Rattle.usb_world.specs.Paths.{address_of, HoldsAddress, Two}
 use Rattle.usb_world.proofs.Booleans.{no, both, neither, and_of, or_left, or_right, either_of}
+use Rattle.usb_world.proofs.Equality.{equal_same}
+use Rattle.usb_device.proofs.Interface.{same_number}
 
 -- how often a number stands in a list
 abbrev pub one_if : Bool → ℕ
@@ -18,13 +19,10 @@ unfoldable pub occurs : ℕ → List ℕ → ℕ
 occurs a [] = 0
 occurs a (x ∷ xs) = one_if (a == x) + occurs a xs
 
-occurs_append : (a : ℕ) (xs ys : List ℕ) → occurs a (xs ++ ys) ≡ occurs a xs + occurs a ys
+pub occurs_append : (a : ℕ) (xs ys : List ℕ) → occurs a (xs ++ ys) ≡ occurs a xs + occurs a ys
 unfolding occurs
 occurs_append a [] ys = omega arith
 occurs_append a (x ∷ xs) ys = omega (arith, occurs_append a xs ys)
-
-same_equal : (a : ℕ) → (a == a) ≡ true
-same_equal a = grind (arith, nat_tests)
 
 held_on : (b : PortState) (s : State) (a k : Ports) → b.enable ≡ true → held (taken b s a k) ≡ address_of s ∷ (held a ++ held k)
 unfolding held
@@ -47,7 +45,7 @@ unfolding held
 occurs_vacant n b k = refl
 
 here_is : (m n : ℕ) → m ≡ n → one_if (n == m) ≡ 1
-here_is m n h = rw h (ap one_if (same_equal n))
+here_is m n h = rw h (ap one_if (same_number n))
 
 -- who is reachable is counted
 pub counted : (k : Ports) (j : ℕ) (p : List ℕ) (n : ℕ) → reach_at k j p ≡ true → option_map address_of (state_at k j p) ≡ Some n → 1 ≤ occurs n (held k)
@@ -116,9 +114,6 @@ has_not n (x ∷ xs) h =
     let on : _ = neither (n == x) (has n xs) h in
     rw on.0 (omega (arith, has_not n xs on.1))
 
-equal_same : (n x : ℕ) → (n == x) ≡ true → n ≡ x
-equal_same n x h = grind (arith, nat_tests)
-
 pub not_twice : (n : ℕ) (xs : List ℕ) → is_twice xs ≡ false → occurs n xs ≤ 1
 unfolding is_twice occurs
 not_twice n [] h = omega arith
@@ -151,38 +146,38 @@ has_append n (x ∷ xs) ys h = pick (either_of (n == x) (has n (xs ++ ys)) h) (h
     pick (inl y) f = inl (or_left (n == x) _ y)
     pick (inr y) f = on (f y)
 
-further : (b : PortState) (s : State) (a k : Ports) (n : ℕ) → Holds k n → Holds (taken b s a k) n
+further : (b : PortState) (s : State) (a k : Ports) (n : ℕ) → HoldsAddress k n → HoldsAddress (taken b s a k) n
 unfolding reach_at state_at
 further b s a k n h = record { i = suc h.i; p = h.p; on = h.on; at = h.at }
 
-beyond : (b : PortState) (k : Ports) (n : ℕ) → Holds k n → Holds (vacant b k) n
+beyond : (b : PortState) (k : Ports) (n : ℕ) → HoldsAddress k n → HoldsAddress (vacant b k) n
 unfolding reach_at state_at
 beyond b k n h = record { i = suc h.i; p = h.p; on = h.on; at = h.at }
 
-below : (b : PortState) (s : State) (a k : Ports) (n : ℕ) → b.enable ≡ true → Holds a n → Holds (taken b s a k) n
+below : (b : PortState) (s : State) (a k : Ports) (n : ℕ) → b.enable ≡ true → HoldsAddress a n → HoldsAddress (taken b s a k) n
 unfolding reach_at state_at
 below b s a k n e h = record { i = zero; p = suc h.i ∷ h.p; on = and_of b.enable _ e h.on; at = h.at }
 
-at_it : (b : PortState) (s : State) (a k : Ports) → b.enable ≡ true → Holds (taken b s a k) (address_of s)
+at_it : (b : PortState) (s : State) (a k : Ports) → b.enable ≡ true → HoldsAddress (taken b s a k) (address_of s)
 unfolding reach_at state_at
 at_it b s a k e = record { i = zero; p = []; on = e; at = refl }
 
-holder_of : (k : Ports) (n : ℕ) → has n (held k) ≡ true → Holds k n
+holder_of : (k : Ports) (n : ℕ) → has n (held k) ≡ true → HoldsAddress k n
 unfolding held reach_at state_at
 holder_of ended n h = no h
 holder_of (vacant b k) n h =
     let x : _ = holder_of k n h in record { i = suc x.i; p = x.p; on = x.on; at = x.at }
 holder_of (taken b s a k) n h = split b.enable refl h (holder_of a n) (holder_of k n)
   where
-    split : (x : Bool) → b.enable ≡ x → has n (if x then address_of s ∷ (held a ++ held k) else held k) ≡ true → (has n (held a) ≡ true → Holds a n) → (has n (held k) ≡ true → Holds k n) → Holds (taken b s a k) n
+    split : (x : Bool) → b.enable ≡ x → has n (if x then address_of s ∷ (held a ++ held k) else held k) ≡ true → (has n (held a) ≡ true → HoldsAddress a n) → (has n (held k) ≡ true → HoldsAddress k n) → HoldsAddress (taken b s a k) n
     split true e h in_a in_k = first (either_of (n == address_of s) (has n (held a ++ held k)) h)
       where
-        second : (has n (held a) ≡ true) ⊎ (has n (held k) ≡ true) → Holds (taken b s a k) n
+        second : (has n (held a) ≡ true) ⊎ (has n (held k) ≡ true) → HoldsAddress (taken b s a k) n
         second (inl y) = below b s a k n e (in_a y)
         second (inr y) = further b s a k n (in_k y)
 
-        first : ((n == address_of s) ≡ true) ⊎ (has n (held a ++ held k) ≡ true) → Holds (taken b s a k) n
-        first (inl y) = subst (λ m. Holds (taken b s a k) m) (sym (equal_same n (address_of s) y)) (at_it b s a k e)
+        first : ((n == address_of s) ≡ true) ⊎ (has n (held a ++ held k) ≡ true) → HoldsAddress (taken b s a k) n
+        first (inl y) = subst (λ m. HoldsAddress (taken b s a k) m) (sym (equal_same n (address_of s) y)) (at_it b s a k e)
         first (inr y) = second (has_append n (held a) (held k) y)
     split false e h in_a in_k = further b s a k n (in_k h)
 
@@ -196,7 +191,7 @@ twice_append (x ∷ xs) ys h = pick (either_of (has x (xs ++ ys)) (is_twice (xs 
   where
     head : (has x xs ≡ true) ⊎ (has x ys ≡ true) → (is_twice (x ∷ xs) ≡ true) ⊎ ((is_twice ys ≡ true) ⊎ Both (x ∷ xs) ys)
     head (inl y) = inl (or_left (has x xs) _ y)
-    head (inr y) = inr (inr (x, or_left (x == x) _ (same_equal x), y))
+    head (inr y) = inr (inr (x, or_left (x == x) _ (same_number x), y))
 
     tail : (is_twice xs ≡ true) ⊎ ((is_twice ys ≡ true) ⊎ Both xs ys) → (is_twice (x ∷ xs) ≡ true) ⊎ ((is_twice ys ≡ true) ⊎ Both (x ∷ xs) ys)
     tail (inl y) = inl (or_right (has x xs) _ y)

@@ -14,19 +14,19 @@ use Rattle.usb_device.specs.Delivery.{held, is_twice, listed}
 use Rattle.usb_world.specs.declared.types.Attempt.{Attempt}
 use Rattle.usb_world.specs.declared.damage.Damage.{Damage}
 use Rattle.usb_world.specs.declared.exchange.Heard.TheVariants.{Collision}
-use Rattle.usb_world.specs.Live.{address_of}
+use Rattle.usb_world.specs.Paths.{address_of}
 use Rattle.usb_world.specs.Exchange.{heard_all, heard_in, token_out, payload_out, reply_out, exchange_in}
-use Rattle.usb_world.specs.Holding.{Found}
+use Rattle.usb_world.specs.FoundHolder.{Found}
 use Rattle.usb_world.specs.OneHolder.{Holder, IsMade}
 use Rattle.usb_world.specs.Passes.{passed, told, IsSettled, NobodyHolds}
 use Rattle.usb_world.specs.Steps.{ready, damage_in, made_in, with_attempt, attempt, after}
-use Rattle.usb_world.specs.World.{World, IsAttempt, sends}
+use Rattle.usb_world.specs.World.{World, IsAttempt, sends_data}
 use Rattle.usb_world.proofs.Booleans.{no, neither}
 use Rattle.usb_world.proofs.OneDevice.{nobody_answers, stands, state_stands}
 use Rattle.usb_world.proofs.OneHolder.{sent_heard, asked_heard, token_is, data_is, none_is, setup_quiet, out_quiet}
-use Rattle.usb_world.proofs.OneHolderMore.{ready_settled, made_is}
-use Rattle.usb_world.proofs.WhoHolds.{who_holds}
-use Rattle.usb_world.proofs.WorldLaws.{goes}
+use Rattle.usb_world.proofs.OneHolderAttempts.{ready_settled, made_is}
+use Rattle.usb_world.proofs.HolderOfAddress.{who_holds}
+use Rattle.usb_world.proofs.Courses.{goes}
 
 alone : (o : Option Answer) → heard_all (listed o []) ≡ Collision → ⊥
 alone None h = cc
@@ -41,7 +41,7 @@ module _ (a : Attempt) (d : Option Damage) (k : Ports) (is : IsAttempt a) where
   of_holder : (j : ℕ) (p : List ℕ) (b : PortState) (s : State) (below : Ports) → Holder a.addr k j p b s below → heard_in a d k ≡ Collision → ⊥
   of_holder j p b s below h = split a.kind refl a.payload refl is.payload_sent
     where
-      split : (t : TokenKind) → a.kind ≡ t → (o : Option (Toggle × ArrayVec ℕ)) → a.payload ≡ o → is_some o ≡ sends t → heard_in a d k ≡ Collision → ⊥
+      split : (t : TokenKind) → a.kind ≡ t → (o : Option (Toggle × ArrayVec ℕ)) → a.payload ≡ o → is_some o ≡ sends_data t → heard_in a d k ≡ Collision → ⊥
       split SetupTok kind None load sent c = no sent
       split SetupTok kind (Some x) load sent c =
           alone _

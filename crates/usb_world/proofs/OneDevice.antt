@@ -1,7 +1,6 @@
 -- Between attempts nothing is remembered: so an attempt concerns the device at its address alone.
-use Rattle.std.proofs.Common.{◌≡◌, ℕ, zero, suc, ◌==◌, ◌&&◌, ◌||◌, not, if◌then◌else◌, ◌⊎◌, inl, inr, Bool, true, false, List, [], ◌∷◌, ◌++◌, Option, None, Some, option_map, is_some, refl, ap, sym, subst, ◌∙◌, arith}
+use Rattle.std.proofs.Common.{◌≡◌, ℕ, zero, suc, ◌==◌, ◌&&◌, ◌||◌, not, if◌then◌else◌, ◌⊎◌, inl, inr, Bool, true, false, List, [], ◌∷◌, ◌++◌, Option, None, Some, option_map, is_some, refl, ap, sym, subst, ◌∙◌}
 use Rattle.std.proofs.lemmas.Option.{same_Some}
-use Rattle.std.proofs.lemmas.Bool.Decides.{nat_tests}
 use Rattle.usb_packet.specs.declared.Packet.{Packet}
 use Rattle.usb_packet.specs.declared.Packet.TheVariants.{Token, Payload, Ack, Sof, Nak, Stall, Pre}
 use Rattle.usb_device.specs.declared.answer.Answer.{Answer}
@@ -14,16 +13,18 @@ use Rattle.usb_device.specs.Rows.{State, forgotten, reset_state}
 use Rattle.usb_device.specs.Effect.{asks, asked_by_packet}
 use Rattle.usb_device.specs.Tree.{Ports, ended, vacant, taken, Place, empty, full, acted, reach_at, state_at, place_at}
 use Rattle.usb_device.specs.Delivery.{hears, asked_by, answer_of, effect_of, after_packet, answers, listed, all_forgotten}
-use Rattle.usb_world.specs.Live.{address_of, same_number, same_path}
-use Rattle.usb_world.specs.Touched.{is_left, way_rests, resets_at, reset_if}
+use Rattle.usb_world.specs.Paths.{address_of, same_number, same_path}
+use Rattle.usb_world.specs.WayEffects.{is_left, way_rests, resets_at, reset_if}
 use Rattle.usb_device.specs.View.{forgotten_place}
 use Rattle.usb_world.specs.Passes.{passed, told, told_at, answer_at, after_attempt, heard_place, passed_place, deep_at, calls_on, IsTokenFor, IsDataOut, IsAckOut, IfOut, IsAttemptAt, pass_resets, attempt_resets, IsSettled, NobodyHolds, OneHolds, OneActs, heard_state}
 use Rattle.usb_world.specs.Alone.{OthersForgot}
 use Rattle.usb_world.proofs.Booleans.{no, both, and_of, decided}
 use Rattle.usb_world.proofs.Holders.{one_path}
-use Rattle.usb_world.proofs.PacketLaws.{packet_state, true_deep}
-use Rattle.usb_world.proofs.PassLaws.{token_out, ack_out, calm_pass, rested_answer, forgotten_state}
-use Rattle.usb_world.proofs.PlaceLaws.{way_place, way_reach}
+use Rattle.usb_world.proofs.PacketEffects.{packet_state, true_deep}
+use Rattle.usb_world.proofs.AttemptPackets.{token_out, ack_out, calm_pass, rested_answer, forgotten_state, ack_calls}
+use Rattle.usb_world.proofs.PacketPlaces.{way_place, way_reach}
+use Rattle.usb_world.proofs.Equality.{equal_same, self_number, self_path}
+use Rattle.usb_world.proofs.States.{kept_state}
 
 -- Between attempts
 
@@ -108,7 +109,7 @@ others_way q deep (taken b s a k) zero (suc j ∷ p) c =
     split false on below = refl
 others_way q deep (taken b s a k) (suc j) p c = others_way q deep k j p (λ i e. c (suc i) e)
 
-append_nil : (xs : List Answer) → xs ++ [] ≡ xs
+pub append_nil : (xs : List Answer) → xs ++ [] ≡ xs
 append_nil [] = refl
 append_nil (x ∷ xs) = ap (λ y. x ∷ y) (append_nil xs)
 
@@ -161,16 +162,6 @@ payload_calls (Whole Stall) s h = refl
 payload_calls (Whole Pre) s h = refl
 payload_calls Broken s h = refl
 
-pub ack_calls : (c : Content) (s : State) → IsAckOut c → calls_on c s ≡ false
-ack_calls (Whole (Token kind a e)) s h = elim h [ ]
-ack_calls (Whole (Payload t b)) s h = refl
-ack_calls (Whole Ack) s h = refl
-ack_calls (Whole (Sof f)) s h = refl
-ack_calls (Whole Nak) s h = refl
-ack_calls (Whole Stall) s h = refl
-ack_calls (Whole Pre) s h = refl
-ack_calls Broken s h = refl
-
 -- Nobody holds the address: an attempt changes nothing, and nothing is answered
 
 pass_nobody : (o : Option Sent) (k : Ports) → IsSettled k → ((q : Sent) → o ≡ Some q → (t : State) → ((i : ℕ) × (e : List ℕ) × (state_at k i e ≡ Some t) × (reach_at k i e ≡ true)) → calls_on q.content t ≡ false)
@@ -194,23 +185,12 @@ nobody_answers n t d r is k s c =
 
 -- One device holds the address
 
-same_self : (i : ℕ) → same_number i i ≡ true
-same_self zero = refl
-same_self (suc i) = same_self i
-
-path_self : (p : List ℕ) → same_path p p ≡ true
-path_self [] = refl
-path_self (n ∷ p) = and_of (same_number n n) _ (same_self n) (path_self p)
-
-pub equal_same : (n x : ℕ) → (n == x) ≡ true → n ≡ x
-equal_same n x h = grind (arith, nat_tests)
-
 pub other_address : (n : ℕ) (k : Ports) (j : ℕ) (p : List ℕ) → OneHolds n k j p → (i : ℕ) (e : List ℕ) (t : State) → (same_number i j && same_path e p) ≡ false → state_at k i e ≡ Some t → reach_at k i e ≡ true
     → (n == address_of t) ≡ false
 other_address n k j p o i e t d h on = pick (decided (n == address_of t))
   where
     same_place : (i ≡ j) × (e ≡ p) → (same_number i j && same_path e p) ≡ true
-    same_place w = rw (w.0, w.1) (and_of (same_number j j) _ (same_self j) (path_self p))
+    same_place w = rw (w.0, w.1) (and_of (same_number j j) _ (self_number j) (self_path p))
 
     pick : ((n == address_of t) ≡ true) ⊎ ((n == address_of t) ≡ false) → (n == address_of t) ≡ false
     pick (inl y) = no (sym d ∙ same_place (one_path k i e j p n o.single on (ap (option_map address_of) h ∙ ap (λ x. Some x) (sym (equal_same n (address_of t) y))) o.on o.at))
@@ -262,10 +242,6 @@ pub record Pass (o : Option Sent) (k : Ports) (j : ℕ) (p : List ℕ) : Type 0 
   pub forgot : OthersForgot (passed o k) j p
   pub others : (i : ℕ) (e : List ℕ) → (same_number i j && same_path e p) ≡ false → state_at (passed o k) i e ≡ option_map (reset_if (pass_resets o k i e)) (state_at k i e)
 
-unreset : (o : Option State) → o ≡ option_map (reset_if false) o
-unreset None = refl
-unreset (Some s) = refl
-
 unpassed : (x : Option Place) (d : Bool) → x ≡ option_map (passed_place None d) x
 unpassed None d = refl
 unpassed (Some x) d = refl
@@ -273,7 +249,7 @@ unpassed (Some x) d = refl
 pub one_pass : (o : Option Sent) (k : Ports) (j : ℕ) (p : List ℕ) → reach_at k j p ≡ true → OthersForgot k j p
     → ((q : Sent) → o ≡ Some q → (i : ℕ) (e : List ℕ) (t : State) → (same_number i j && same_path e p) ≡ false → state_at k i e ≡ Some t → reach_at k i e ≡ true → calls_on q.content t ≡ false)
     → Pass o k j p
-one_pass None k j p on f c = record { place = unpassed (place_at k j p) (deep_at false p); on = on; answer = refl; forgot = f; others = λ i e d. unreset (state_at k i e) }
+one_pass None k j p on f c = record { place = unpassed (place_at k j p) (deep_at false p); on = on; answer = refl; forgot = f; others = λ i e d. kept_state (state_at k i e) }
 one_pass (Some q) k j p on f c = record {
   place = way_place q false k j p way ∙ ap (λ x. option_map (heard_place q (deep_at false p) x) (place_at k j p)) on;
   on = way_reach q false k j p way ∙ on;
@@ -291,7 +267,7 @@ one_pass (Some q) k j p on f c = record {
     others : (i : ℕ) (e : List ℕ) → (same_number i j && same_path e p) ≡ false → state_at (after_packet q false k) i e ≡ option_map (reset_if (resets_at q false k i e)) (state_at k i e)
     others i e d = rest_state q false k i e (λ t. rest i e t d)
 
-forgotten_at : (k : Ports) (j : ℕ) (p : List ℕ) → place_at (all_forgotten k) j p ≡ option_map forgotten_place (place_at k j p)
+pub forgotten_at : (k : Ports) (j : ℕ) (p : List ℕ) → place_at (all_forgotten k) j p ≡ option_map forgotten_place (place_at k j p)
 unfolding all_forgotten place_at
 forgotten_at ended j p = refl
 forgotten_at (vacant b k) zero [] = refl
@@ -317,8 +293,8 @@ one_device n t d r is k j p s o = record {
   on = z.on;
   others = λ i e v w h.
       forgotten_state (passed r (passed d (passed t k))) i e
-      ∙ ap (option_map forgotten) (z.others i e w ∙ ap (λ b. option_map (reset_if b) (state_at (passed d (passed t k)) i e)) (calm_pass r (ack_out r is.reply) (passed d (passed t k)) i e) ∙ sym (unreset (state_at (passed d (passed t k)) i e))
-      ∙ y.others i e w ∙ ap (option_map (reset_if (attempt_resets t d k i e))) (x.others i e w ∙ ap (λ b. option_map (reset_if b) (state_at k i e)) (calm_pass t (token_out n t is.token) k i e) ∙ sym (unreset (state_at k i e)) ∙ h))
+      ∙ ap (option_map forgotten) (z.others i e w ∙ ap (λ b. option_map (reset_if b) (state_at (passed d (passed t k)) i e)) (calm_pass r (ack_out r is.reply) (passed d (passed t k)) i e) ∙ sym (kept_state (state_at (passed d (passed t k)) i e))
+      ∙ y.others i e w ∙ ap (option_map (reset_if (attempt_resets t d k i e))) (x.others i e w ∙ ap (λ b. option_map (reset_if b) (state_at k i e)) (calm_pass t (token_out n t is.token) k i e) ∙ sym (kept_state (state_at k i e)) ∙ h))
       ∙ ap (λ u. Some u) (forgot_reset (attempt_resets t d k i e) v (settled_memory k i e v s h));
 }
   where

@@ -22,9 +22,7 @@ use Rattle.usb_device.specs.Rows.{State, Reply, received, unread, forgotten, acc
 use Rattle.usb_device.specs.Attempt.{Way, whole, broken, lost, is_whole, through, heard, is_good, sends, acked, setup_attempt, out_attempt, in_attempt, setup_law, out_law, in_law}
 use Rattle.usb_device.specs.Tree.{Ports, full, acted, row_of, state_at, place_at}
 use Rattle.usb_device.specs.Delivery.{is_heard, answer_of, effect_of, after_packet, listed}
-use Rattle.usb_device.proofs.Kept.{keeps-received}
-use Rattle.usb_device.proofs.Rows.{row_of-after}
-use Rattle.usb_device.proofs.Attempts.{setup_is, out_is, in_is}
+use Rattle.usb_device.proofs.Interface.{in_is, keeps-received, out_is, row_of-after, setup_is}
 use Rattle.usb_world.specs.declared.types.Attempt.{Attempt}
 use Rattle.usb_world.specs.declared.types.Outcome.TheVariants as outcome
 use Rattle.usb_world.specs.declared.damage.Damage.{Damage}
@@ -33,15 +31,15 @@ use Rattle.usb_world.specs.declared.exchange.Heard.TheVariants.{Nothing}
 use Rattle.usb_world.specs.declared.wire.Mark.{Mark}
 use Rattle.usb_world.specs.declared.wire.Mark.TheVariants as mark
 use Rattle.usb_world.specs.Wire.{is_read, mark_of, harm_to, marked, marked_some}
-use Rattle.usb_world.specs.Live.{address_of}
+use Rattle.usb_world.specs.Paths.{address_of}
 use Rattle.usb_device.specs.View.{forgotten_place}
 use Rattle.usb_world.specs.Exchange.{token_of, payload_of, reply_of, outcome_heard, outcome_of, sent_as, goes_out, heard_all, token_out, payload_out, reply_out, heard_in, mark_in, place_of_answer, ports_in}
 use Rattle.usb_world.specs.Passes.{passed, told, told_at, heard_by, passed_place, place_after, deep_at, IsSettled, NobodyHolds, OneActs}
-use Rattle.usb_world.specs.OneHolder.{content_way, way_to, way_back, got, token_way, payload_way, answer_way, reply_way, setup_alone, out_alone, in_alone, IsSetup, IsOut, IsIn, Holder, Exchanged}
+use Rattle.usb_world.specs.OneHolder.{content_way, way_to, way_back, got, token_way, payload_way, answer_way, reply_way, setup_alone, out_alone, in_alone, IsSetup, IsOut, IsIn, Holder, ExchangedWithHolder}
 use Rattle.usb_world.proofs.Booleans.{no}
-use Rattle.usb_world.proofs.PassLaws.{CalmOut, token_out as token_calm}
-use Rattle.usb_world.proofs.OneDevice.{settled_memory, nobody_answers, one_device, stands, state_stands}
-use Rattle.usb_world.proofs.WorldLaws.{goes}
+use Rattle.usb_world.proofs.AttemptPackets.{CalmOut, token_out as token_calm}
+use Rattle.usb_world.proofs.OneDevice.{settled_memory, nobody_answers, one_device, stands, state_stands, append_nil}
+use Rattle.usb_world.proofs.Courses.{goes}
 
 -- What the host gets
 
@@ -174,10 +172,6 @@ reply_told (Some (answer.Data t bytes)) mark.Lost max = refl
 reply_told (Some (answer.Data t bytes)) mark.PreLost max = refl
 reply_told (Some (answer.Data t bytes)) (mark.Flipped bit) max = refl
 
-no_more : (xs : List Answer) → xs ++ [] ≡ xs
-no_more [] = refl
-no_more (x ∷ xs) = ap (λ y. x ∷ y) (no_more xs)
-
 -- the answer is no data
 abbrev no_data : Option Answer → Bool
 no_data (Some (answer.Data t bytes)) = false
@@ -283,7 +277,7 @@ module _ (a : Attempt) (d : Option Damage) (k : Ports) (j : ℕ) (p : List ℕ) 
     sent_third : no_data to_data.0 ≡ true → third.1 ≡ second.1
     sent_third n = reply_comes a d (place_of_answer a d + 1) (reply_of (heard_in a d k) (mark_in a d k) a.max) false is_deep second.1 (row_of second_below) (sent_reply n)
 
-    pub sent : no_data to_data.0 ≡ true → Exchanged a d k j p (sends s own_row T X (token_way a d is_deep s) (payload_way a d is_deep s) (answer_way a d k))
+    pub sent : no_data to_data.0 ≡ true → ExchangedWithHolder a d k j p (sends s own_row T X (token_way a d is_deep s) (payload_way a d is_deep s) (answer_way a d k))
     sent n = record {
       outcome = ap (λ x. outcome_of x (mark_in a d k) a.max) sent_heard ∙ outcome_got to_data.0 (mark_in a d k) a.max;
       state = is_state ∙ ap (λ x. Some (forgotten x)) (sent_third n ∙ ap (λ r. r.1) second_sent);
@@ -307,7 +301,7 @@ module _ (a : Attempt) (d : Option Damage) (k : Ports) (j : ℕ) (p : List ℕ) 
     below_asked = ap (λ o. row_of (ports_by is_deep b o first.1 first_below)) (no_payload a d none) ∙ first_row
 
     pub asked_heard : heard_in a d k ≡ heard_all (listed to_in.0 [])
-    asked_heard = is_heard_in ∙ ap₂ (λ x y. heard_all (listed x.0 [] ++ listed y.0 [])) first_asked second_asked ∙ ap heard_all (no_more (listed to_in.0 []))
+    asked_heard = is_heard_in ∙ ap₂ (λ x y. heard_all (listed x.0 [] ++ listed y.0 [])) first_asked second_asked ∙ ap heard_all (append_nil (listed to_in.0 []))
 
     pub asked_reply : reply_of (heard_in a d k) (mark_in a d k) a.max ≡ (if good then Some packet.Ack else None)
     asked_reply = ap (λ x. reply_of x (mark_in a d k) a.max) asked_heard ∙ reply_told to_in.0 (mark_in a d k) a.max
@@ -318,7 +312,7 @@ module _ (a : Attempt) (d : Option Damage) (k : Ports) (j : ℕ) (p : List ℕ) 
         ∙ reply_comes a d (place_of_answer a d + 1) (reply_of (heard_in a d k) (mark_in a d k) a.max) good is_deep to_in.1 own_row asked_reply
         ∙ ap (λ w. if good then (through w to_in.1 own_row packet.Ack).1 else to_in.1) (way_same is_deep (reply_out a d k) s to_in.1 (through_spec (token_way a d is_deep s) s own_row T))
 
-    pub asked : Exchanged a d k j p (acked own_row a.max (answer_way a d k) (reply_way a d k is_deep s) (through (token_way a d is_deep s) s own_row T))
+    pub asked : ExchangedWithHolder a d k j p (acked own_row a.max (answer_way a d k) (reply_way a d k is_deep s) (through (token_way a d is_deep s) s own_row T))
     asked = record {
       outcome = ap (λ x. outcome_of x (mark_in a d k) a.max) asked_heard ∙ outcome_got to_in.0 (mark_in a d k) a.max;
       state = is_state ∙ ap (λ x. Some (forgotten x)) asked_third;
@@ -424,25 +418,25 @@ module _ (a : Attempt) (d : Option Damage) (k : Ports) (j : ℕ) (p : List ℕ) 
     in_same e max x y z =
         subst (λ u. in_attempt u (row_of below) s.registers.address e max x y z ≡ in_law u (row_of below) e max x y z) itself (in_is s (row_of below) e max loud x y z)
 
-    pub setup_one : (bytes : List ℕ) → IsSetup a bytes → Exchanged a d k j p (setup_alone a d k (deep_at false p) s (row_of below) bytes)
+    pub setup_one : (bytes : List ℕ) → IsSetup a bytes → ExchangedWithHolder a d k j p (setup_alone a d k (deep_at false p) s (row_of below) bytes)
     setup_one bytes i =
-        subst (Exchanged a d k j p) (setup_same bytes i.whole t1 t2 t3)
+        subst (ExchangedWithHolder a d k j p) (setup_same bytes i.whole t1 t2 t3)
         (sent a d k j p b s below h (Token SetupTok s.registers.address 0) (packet.Payload Zero (record { items = bytes }))
         (token_is a SetupTok s.registers.address 0 i.kind (sym its_address) i.ep) (data_is a Zero (record { items = bytes }) i.payload) (setup_quiet s (row_of below) s.registers.address 0)
         (ap (λ r. no_data r.0) (setup_same bytes i.whole t1 t2 whole)
         ∙ if_no_data (is_whole t1 && is_whole t2) (replied (Some answer.Ack) (accepted s (row_of below) (setup_of bytes))) (replied None s) refl refl))
 
-    pub out_one : (t : Toggle) (bytes : List ℕ) → IsOut a t bytes → Exchanged a d k j p (out_alone a d k (deep_at false p) s t bytes)
+    pub out_one : (t : Toggle) (bytes : List ℕ) → IsOut a t bytes → ExchangedWithHolder a d k j p (out_alone a d k (deep_at false p) s t bytes)
     out_one t bytes i =
-        subst (Exchanged a d k j p) (out_same a.ep t bytes t1 t2 t3)
+        subst (ExchangedWithHolder a d k j p) (out_same a.ep t bytes t1 t2 t3)
         (sent a d k j p b s below h (Token OutTok s.registers.address a.ep) (packet.Payload t (record { items = bytes }))
         (token_is a OutTok s.registers.address a.ep i.kind (sym its_address) refl) (data_is a t (record { items = bytes }) i.payload) (out_quiet s (row_of below) s.registers.address a.ep)
         (ap (λ r. no_data r.0) (out_same a.ep t bytes t1 t2 whole)
         ∙ if_no_data (is_whole t1 && is_whole t2) (replied (data_row s a.ep t bytes).0 (forgotten (data_row s a.ep t bytes).1)) (replied None s) (data_no_data s a.ep t bytes) refl))
 
-    pub in_one : IsIn a → Exchanged a d k j p (in_alone a d k (deep_at false p) s (row_of below))
+    pub in_one : IsIn a → ExchangedWithHolder a d k j p (in_alone a d k (deep_at false p) s (row_of below))
     in_one i =
-        subst (Exchanged a d k j p) (in_same a.ep a.max t1 t3 t4)
+        subst (ExchangedWithHolder a d k j p) (in_same a.ep a.max t1 t3 t4)
         (asked a d k j p b s below h (Token InTok s.registers.address a.ep) (token_is a InTok s.registers.address a.ep i.kind (sym its_address) refl) (none_is a i.payload))
 
     -- what is heard of the device

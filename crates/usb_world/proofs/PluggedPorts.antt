@@ -15,10 +15,10 @@ use Rattle.usb_world.specs.declared.damage.Damage.{Damage}
 use Rattle.usb_world.specs.declared.types.Attempt.{Attempt}
 use Rattle.usb_world.specs.Exchange.{ports_in, token_out, payload_out, reply_out}
 use Rattle.usb_world.specs.Passes.{passed, after_attempt}
-use Rattle.usb_world.specs.Plugged.{hub_ports}
-use Rattle.usb_world.specs.PluggedAt.{spec_of}
-use Rattle.usb_world.proofs.SaneLaws.{answer_spec}
+use Rattle.usb_world.specs.PluggedDevices.{hub_ports}
+use Rattle.usb_world.specs.PlanCourses.{spec_of}
 use Rattle.usb_world.proofs.PluggedShapes.{Shape, bare, gap, stands, spec_at, spec_there, gaps, put_first, put_at, put_there}
+use Rattle.usb_device.proofs.Interface.{answer-spec}
 
 unfoldable pub shape : Ports → Shape
 shape ended = bare
@@ -98,7 +98,7 @@ shape_packet q deep (taken b s a k) = split b.enable (shape_packet q true a) (sh
         → shape (if x then taken b (answer_of q deep s a).1 (acted (effect_of q deep s) (after_packet q true a)) (after_packet q deep k) else taken b s a (after_packet q deep k))
         ≡ stands s.spec (shape a) (shape k)
     split true g r =
-        ap (λ t. stands t (shape (acted (effect_of q deep s) (after_packet q true a))) (shape (after_packet q deep k))) (answer_spec q deep s a)
+        ap (λ t. stands t (shape (acted (effect_of q deep s) (after_packet q true a))) (shape (after_packet q deep k))) (answer-spec q deep s a)
         ∙ ap₂ (stands s.spec) (shape_acted (effect_of q deep s) (after_packet q true a) ∙ g) r
     split false g r = ap (stands s.spec (shape a)) r
 

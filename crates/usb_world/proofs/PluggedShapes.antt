@@ -2,8 +2,8 @@
 use Rattle.std.proofs.Common.{◌≡◌, ℕ, zero, suc, ◌&&◌, Bool, true, false, List, [], ◌∷◌, ◌++◌, Option, None, Some, ◌<◌, refl, ap, sym, arith}
 use Rattle.std.specs.Prelude.{⊤}
 use Rattle.usb_device.specs.Spec.{Spec}
-use Rattle.usb_world.specs.Live.{same_number, same_path, is_way, on_way}
-use Rattle.usb_world.specs.Plugged.{hub_ports}
+use Rattle.usb_world.specs.Paths.{same_number, same_path, is_way, on_way}
+use Rattle.usb_world.specs.PluggedDevices.{hub_ports}
 use Rattle.usb_world.proofs.Booleans.{no}
 
 -- a row of ports: no port more, an empty port, or a port with a device and that device's ports

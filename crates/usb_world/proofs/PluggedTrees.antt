@@ -12,21 +12,22 @@ use Rattle.std.proofs.lemmas.Map.Lookups.{exact_bytes}
 use Rattle.std.proofs.lemmas.Map.Text.{is_eq-slice_cmp}
 use Rattle.usb_port.specs.Order.{path_cmp, parent_of, port_of}
 use Rattle.usb_port.specs.Path.{IsPath, IsPortNumber}
-use Rattle.usb_port.proofs.OrderLaws.{is_path, rejoined}
+use Rattle.usb_port.proofs.Interface.{is_path, rejoined}
 use Rattle.usb_device.specs.Spec.{Spec}
-use Rattle.usb_world.specs.Live.{same_path, is_way}
-use Rattle.usb_world.specs.Plugged.{Plugged, device_at, device_of, unplugged, port_count, is_rooted, parent_has, has_port}
+use Rattle.usb_world.specs.Paths.{same_path, is_way}
+use Rattle.usb_world.specs.PluggedDevices.{PluggedMap, index_at, device_indexed, unplugged, port_count, is_rooted, parent_has, has_port}
 use Rattle.usb_world.proofs.Booleans.{no, both, either_of, decided}
-use Rattle.usb_world.proofs.AddressesReset.{same_is, self_path}
+use Rattle.usb_world.proofs.RootResets.{same_is}
 use Rattle.usb_world.proofs.Ways.{way_starts}
 use Rattle.usb_world.proofs.PluggedShapes.{Shape, Fits, spec_at, spec_there, has_there, put_there, there_none, there_here, there_below, there_off, there_other, has_first, has_below}
+use Rattle.usb_world.proofs.Equality.{self_path}
 
 -- Paths
 
-self_found : (e : List ℕ) → is_eq (path_cmp e e) ≡ true
+pub self_found : (e : List ℕ) → is_eq (path_cmp e e) ≡ true
 self_found e = is_eq-slice_cmp e e ∙ (bytes_decides e e).1 refl
 
-found_same : (q e : List ℕ) → is_eq (path_cmp q e) ≡ true → q ≡ e
+pub found_same : (q e : List ℕ) → is_eq (path_cmp q e) ≡ true → q ≡ e
 found_same q e h = (bytes_decides q e).0 (sym (is_eq-slice_cmp q e) ∙ h)
 
 not_found : (q e : List ℕ) → same_path e q ≡ false → is_eq (path_cmp q e) ≡ false
@@ -34,27 +35,27 @@ not_found q e n = ⊎_elim (λ y. no (sym n ∙ ap (same_path e) (found_same q e
 
 -- What is plugged at a path
 
-insert_here : (tree : Plugged) (e : List ℕ) (d : ℕ) → device_at (insert_entry path_cmp tree e d) e ≡ Some d
+insert_here : (tree : PluggedMap) (e : List ℕ) (d : ℕ) → index_at (insert_entry path_cmp tree e d) e ≡ Some d
 insert_here [] e d = rw (self_found e) refl
 insert_here (x ∷ tree) e d = split (path_cmp e x.0) refl (insert_here tree e d)
   where
-    split : (r : Ordering) → path_cmp e x.0 ≡ r → device_at (insert_entry path_cmp tree e d) e ≡ Some d
-        → device_at (match_ordering r ((e, d) ∷ x ∷ tree) ((x.0, d) ∷ tree) (x ∷ insert_entry path_cmp tree e d)) e ≡ Some d
+    split : (r : Ordering) → path_cmp e x.0 ≡ r → index_at (insert_entry path_cmp tree e d) e ≡ Some d
+        → index_at (match_ordering r ((e, d) ∷ x ∷ tree) ((x.0, d) ∷ tree) (x ∷ insert_entry path_cmp tree e d)) e ≡ Some d
     split Less h ih = rw (self_found e) refl
     split Equal h ih = rw h refl
     split Greater h ih = rw h ih
 
-insert_other : (tree : Plugged) (e : List ℕ) (d : ℕ) (q : List ℕ) → is_eq (path_cmp q e) ≡ false → device_at (insert_entry path_cmp tree e d) q ≡ device_at tree q
+insert_other : (tree : PluggedMap) (e : List ℕ) (d : ℕ) (q : List ℕ) → is_eq (path_cmp q e) ≡ false → index_at (insert_entry path_cmp tree e d) q ≡ index_at tree q
 insert_other [] e d q n = rw n refl
 insert_other (x ∷ tree) e d q n = split (path_cmp e x.0) refl (insert_other tree e d q n)
   where
-    split : (r : Ordering) → path_cmp e x.0 ≡ r → device_at (insert_entry path_cmp tree e d) q ≡ device_at tree q
-        → device_at (match_ordering r ((e, d) ∷ x ∷ tree) ((x.0, d) ∷ tree) (x ∷ insert_entry path_cmp tree e d)) q ≡ device_at (x ∷ tree) q
+    split : (r : Ordering) → path_cmp e x.0 ≡ r → index_at (insert_entry path_cmp tree e d) q ≡ index_at tree q
+        → index_at (match_ordering r ((e, d) ∷ x ∷ tree) ((x.0, d) ∷ tree) (x ∷ insert_entry path_cmp tree e d)) q ≡ index_at (x ∷ tree) q
     split Less h ih = rw n refl
     split Equal h ih = let m : is_eq (path_cmp q x.0) ≡ false = ap (λ y. is_eq (path_cmp q y)) (sym (exact_bytes e x.0 h)) ∙ n in rw m refl
     split Greater h ih = ap (cond (is_eq (path_cmp q x.0)) (Some x.1)) ih
 
-unplugged_at : (tree : Plugged) (e q : List ℕ) → device_at (unplugged e tree) q ≡ cond (not (is_way e q)) (device_at tree q) None
+unplugged_at : (tree : PluggedMap) (e q : List ℕ) → index_at (unplugged e tree) q ≡ cond (not (is_way e q)) (index_at tree q) None
 unfolding unplugged
 unplugged_at tree e q =
     lookup-filter-keys (λ p. is_eq (path_cmp q p)) (λ p. not (starts_with nat_eq p e)) (not (is_way e q))
@@ -67,41 +68,41 @@ Told ds None (Some d) = ⊥
 Told ds (Some t) None = ⊥
 Told ds (Some t) (Some d) = slice_get ds d ≡ Some t
 
-pub told_of : (ds : List Spec) (o : Option Spec) (d : Option ℕ) → Told ds o d → o ≡ device_of ds d
+pub told_of : (ds : List Spec) (o : Option Spec) (d : Option ℕ) → Told ds o d → o ≡ device_indexed ds d
 told_of ds None None h = refl
 told_of ds None (Some d) h = elim h [ ]
 told_of ds (Some t) None h = elim h [ ]
 told_of ds (Some t) (Some d) h = sym h
 
 told_none : (ds : List Spec) (o : Option Spec) (d : Option ℕ) → Told ds o d → d ≡ None → o ≡ None
-told_none ds o d h e = told_of ds o d h ∙ ap (device_of ds) e
+told_none ds o d h e = told_of ds o d h ∙ ap (device_indexed ds) e
 
 told_by : (ds : List Spec) (o p : Option Spec) (d c : Option ℕ) → o ≡ p → d ≡ c → Told ds p c → Told ds o d
 told_by ds o p d c x y h = rw (x, y) h
 
-abbrev pub Agrees : List Spec → Shape → Plugged → Type 0
-Agrees ds x tree = (q : List ℕ) → Told ds (spec_there x q) (device_at tree q)
+abbrev pub Agrees : List Spec → Shape → PluggedMap → Type 0
+Agrees ds x tree = (q : List ℕ) → Told ds (spec_there x q) (index_at tree q)
 
-pub agrees_plug : (ds : List Spec) (x : Shape) (tree : Plugged) (e : List ℕ) (d : ℕ) (t : Spec) → slice_get ds d ≡ Some t → has_there x e ≡ true → device_at tree e ≡ None
+pub agrees_plug : (ds : List Spec) (x : Shape) (tree : PluggedMap) (e : List ℕ) (d : ℕ) (t : Spec) → slice_get ds d ≡ Some t → has_there x e ≡ true → index_at tree e ≡ None
     → Agrees ds x tree → Agrees ds (put_there (Some t) x e) (insert_entry path_cmp tree e d)
 agrees_plug ds x tree e d t is port free a q = ⊎_elim here (λ n. ⊎_elim (below n) (away n) (decided (is_way e q))) (decided (same_path e q))
   where
-    here : same_path e q ≡ true → Told ds (spec_there (put_there (Some t) x e) q) (device_at (insert_entry path_cmp tree e d) q)
-    here s = subst (λ p. Told ds (spec_there (put_there (Some t) x e) p) (device_at (insert_entry path_cmp tree e d) p)) (sym (same_is e q s)) (told_by ds _ (Some t) _ (Some d) (there_here t x e port) (insert_here tree e d) is)
+    here : same_path e q ≡ true → Told ds (spec_there (put_there (Some t) x e) q) (index_at (insert_entry path_cmp tree e d) q)
+    here s = subst (λ p. Told ds (spec_there (put_there (Some t) x e) p) (index_at (insert_entry path_cmp tree e d) p)) (sym (same_is e q s)) (told_by ds _ (Some t) _ (Some d) (there_here t x e port) (insert_here tree e d) is)
 
     some : e ≡ [] → ⊥
     some z = no (ap (has_there x) (sym z) ∙ port)
 
-    below : same_path e q ≡ false → is_way e q ≡ true → Told ds (spec_there (put_there (Some t) x e) q) (device_at (insert_entry path_cmp tree e d) q)
+    below : same_path e q ≡ false → is_way e q ≡ true → Told ds (spec_there (put_there (Some t) x e) q) (index_at (insert_entry path_cmp tree e d) q)
     below n w =
-        let none : spec_there x q ≡ None = there_none x e q w some (told_none ds (spec_there x e) (device_at tree e) (a e) free) in
-        told_by ds _ None _ (device_at tree q) (there_below t x e q port w n) (insert_other tree e d q (not_found q e n))
-        (subst (λ o. Told ds o (device_at tree q)) none (a q))
+        let none : spec_there x q ≡ None = there_none x e q w some (told_none ds (spec_there x e) (index_at tree e) (a e) free) in
+        told_by ds _ None _ (index_at tree q) (there_below t x e q port w n) (insert_other tree e d q (not_found q e n))
+        (subst (λ o. Told ds o (index_at tree q)) none (a q))
 
-    away : same_path e q ≡ false → is_way e q ≡ false → Told ds (spec_there (put_there (Some t) x e) q) (device_at (insert_entry path_cmp tree e d) q)
-    away n w = told_by ds _ (spec_there x q) _ (device_at tree q) (there_other (Some t) x e q w) (insert_other tree e d q (not_found q e n)) (a q)
+    away : same_path e q ≡ false → is_way e q ≡ false → Told ds (spec_there (put_there (Some t) x e) q) (index_at (insert_entry path_cmp tree e d) q)
+    away n w = told_by ds _ (spec_there x q) _ (index_at tree q) (there_other (Some t) x e q w) (insert_other tree e d q (not_found q e n)) (a q)
 
-pub agrees_unplug : (ds : List Spec) (x : Shape) (tree : Plugged) (e : List ℕ) → is_some (device_at tree e) ≡ true → Agrees ds x tree → Agrees ds (put_there None x e) (unplugged e tree)
+pub agrees_unplug : (ds : List Spec) (x : Shape) (tree : PluggedMap) (e : List ℕ) → is_some (index_at tree e) ≡ true → Agrees ds x tree → Agrees ds (put_there None x e) (unplugged e tree)
 agrees_unplug ds x tree e is a q = ⊎_elim below away (decided (is_way e q))
   where
     found : (d : Option ℕ) → Told ds None d → is_some d ≡ true → ⊥
@@ -109,13 +110,13 @@ agrees_unplug ds x tree e is a q = ⊎_elim below away (decided (is_way e q))
     found (Some d) h y = h
 
     some : e ≡ [] → ⊥
-    some z = found (device_at tree []) (a []) (ap (λ p. is_some (device_at tree p)) (sym z) ∙ is)
+    some z = found (index_at tree []) (a []) (ap (λ p. is_some (index_at tree p)) (sym z) ∙ is)
 
-    below : is_way e q ≡ true → Told ds (spec_there (put_there None x e) q) (device_at (unplugged e tree) q)
-    below w = told_by ds _ None _ None (there_off x e q some w) (unplugged_at tree e q ∙ ap (λ b. cond (not b) (device_at tree q) None) w) tt
+    below : is_way e q ≡ true → Told ds (spec_there (put_there None x e) q) (index_at (unplugged e tree) q)
+    below w = told_by ds _ None _ None (there_off x e q some w) (unplugged_at tree e q ∙ ap (λ b. cond (not b) (index_at tree q) None) w) tt
 
-    away : is_way e q ≡ false → Told ds (spec_there (put_there None x e) q) (device_at (unplugged e tree) q)
-    away w = told_by ds _ (spec_there x q) _ (device_at tree q) (there_other None x e q w) (unplugged_at tree e q ∙ ap (λ b. cond (not b) (device_at tree q) None) w) (a q)
+    away : is_way e q ≡ false → Told ds (spec_there (put_there None x e) q) (index_at (unplugged e tree) q)
+    away w = told_by ds _ (spec_there x q) _ (index_at tree q) (there_other None x e q w) (unplugged_at tree e q ∙ ap (λ b. cond (not b) (index_at tree q) None) w) (a q)
 
 -- Where a plan has a port, one stands
 
@@ -134,20 +135,20 @@ port_below x n (suc i ∷ p) (suc m) fits is some h = split (spec_at x i p) refl
     split None e h = absurd (omega (arith, h))
     split (Some t) e h = has_below x n i p t m fits e (omega (arith, h))
 
-port_of_parent : (ds : List Spec) (x : Shape) (n : ℕ) (tree : Plugged) (e p : List ℕ) → Fits x n → Agrees ds x tree → IsPath e → parent_of e ≡ Some p
+port_of_parent : (ds : List Spec) (x : Shape) (n : ℕ) (tree : PluggedMap) (e p : List ℕ) → Fits x n → Agrees ds x tree → IsPath e → parent_of e ≡ Some p
     → parent_has ds tree (Some p) (port_of e) ≡ true → has_there x e ≡ true
 unfolding parent_has
 port_of_parent ds x n tree e p fits a is up h =
     let whole = rejoined e p up in
     let last : IsPortNumber (port_of e) = last_of p (port_of e) (subst (All IsPortNumber) whole is.2) in
-    let count : nat_le (port_of e) (port_count (spec_there x p)) ≡ true = ap (λ o. nat_le (port_of e) (port_count o)) (told_of ds (spec_there x p) (device_at tree p) (a p)) ∙ h in
+    let count : nat_le (port_of e) (port_count (spec_there x p)) ≡ true = ap (λ o. nat_le (port_of e) (port_count o)) (told_of ds (spec_there x p) (index_at tree p) (a p)) ∙ h in
     ap (has_there x) whole ∙ port_below x n p (port_of e) fits (is_path e p is up) last.0 (leb-true (port_of e) (port_count (spec_there x p)) count)
 
 long_parent : (e : List ℕ) → 1 < length e → parent_of e ≡ Some (take (length e - 1) e)
 unfolding parent_of
 long_parent e h = rw (lt-ltb 1 (length e) h) refl
 
-pub port_stands : (ds : List Spec) (x : Shape) (n : ℕ) (tree : Plugged) (e : List ℕ) → Fits x n → Agrees ds x tree → IsPath e → has_port n ds tree e ≡ true → has_there x e ≡ true
+pub port_stands : (ds : List Spec) (x : Shape) (n : ℕ) (tree : PluggedMap) (e : List ℕ) → Fits x n → Agrees ds x tree → IsPath e → has_port n ds tree e ≡ true → has_there x e ≡ true
 port_stands ds x n tree [] fits a is h = absurd (omega (arith, is.0))
 port_stands ds x n tree (zero ∷ e) fits a is h = absurd (omega (arith, (All-head IsPortNumber zero e is.2).0))
 port_stands ds x n tree (suc i ∷ []) fits a is h = has_first x n i fits (omega (arith, leb-true (suc i) n (both (nat_le (suc i) n) _ h).0))

@@ -8,25 +8,28 @@ use Rattle.usb_device.specs.declared.delivery.Sent.{Sent}
 use Rattle.usb_device.specs.declared.effect.Effect.{Effect}
 use Rattle.usb_device.specs.declared.effect.Effect.TheVariants.{Leaves, Calls, PortsOff}
 use Rattle.usb_device.specs.declared.transfer.Memory.TheVariants.{Nothing}
-use Rattle.usb_device.specs.Rows.{State, forgotten, awaits_address, awaits_control, ends_with_address}
+use Rattle.usb_device.specs.Rows.{State, awaits_address, awaits_control, ends_with_address}
 use Rattle.usb_device.specs.Stopped.{Stopped, behind_empty, behind, below, here}
 use Rattle.usb_device.specs.Tree.{Ports, ended, vacant, taken, Plugged, Place, empty, full, before, acted, changed_at, changed, plugged_at, device_there, reach_at, state_at, place_at, row_of}
 use Rattle.usb_device.specs.Delivery.{listed, held, is_twice, answer_of, effect_of, after_packet, delivered_place, delivered_device, on_port, heard_of, heard_from, both, all_forgotten, has_loss, asks_clearing, clears_change, figure}
 use Rattle.usb_device.specs.Route.{sent_in, answer_by, RefusedBy, asked_call, call_by, forgotten_in, holds_by, is_held_at}
-use Rattle.usb_device.proofs.Figures.{figure-after}
-use Rattle.usb_device.proofs.Rows.{row_of-after}
+use Rattle.usb_device.proofs.Interface.{figure-after, row_of-after}
 use Rattle.usb_world.specs.declared.types.Attempt.{Attempt}
 use Rattle.usb_world.specs.declared.damage.Damage.{Damage}
-use Rattle.usb_world.specs.Live.{address_of}
+use Rattle.usb_world.specs.Paths.{address_of}
 use Rattle.usb_world.specs.Passes.{passed, told, answer_at, deep_at, IfOut, IsTokenFor, IsDataOut, IsAckOut, IsSettled}
 use Rattle.usb_world.specs.Exchange.{token_out, clears_at}
 use Rattle.usb_world.specs.Cut.{IsStopped}
+use Rattle.usb_world.specs.declared.route.Hints.{Hints}
+use Rattle.usb_world.specs.Hinted.{path_in, way_in}
 use Rattle.usb_world.specs.Alone.{OthersForgot, Alone, AloneAt, IsWayTo, is_whole, is_deep}
-use Rattle.usb_world.proofs.Booleans.{no, both as both_true, and_of}
-use Rattle.usb_world.proofs.PacketLaws.{true_deep}
-use Rattle.usb_world.proofs.PassLaws.{rested_answer}
-use Rattle.usb_world.proofs.OneDevice.{IsRested, OthersRest, Pass, one_pass, rest_packet, rested_effect, others_answer, settled_memory, other_address, equal_same, token_calls, payload_calls, ack_calls}
-use Rattle.usb_world.proofs.WorldLaws.{goes}
+use Rattle.usb_world.proofs.Booleans.{no, both as both_true, and_of, or_nothing}
+use Rattle.usb_world.proofs.PacketEffects.{true_deep}
+use Rattle.usb_world.proofs.AttemptPackets.{rested_answer, ack_calls}
+use Rattle.usb_world.proofs.OneDevice.{IsRested, OthersRest, Pass, one_pass, rest_packet, rested_effect, others_answer, settled_memory, other_address, token_calls, payload_calls}
+use Rattle.usb_world.proofs.Courses.{goes}
+use Rattle.usb_world.proofs.Equality.{equal_same}
+use Rattle.usb_world.proofs.States.{forgets}
 
 -- ---- the tree after the packet
 
@@ -103,10 +106,6 @@ rest_clears q deep (taken b s a k) c =
     nothing true = refl
     nothing false = refl
 
-or_nothing : (x : Bool) → (x || false) ≡ x
-or_nothing true = refl
-or_nothing false = refl
-
 others_clear : (q : Sent) (deep : Bool) (k : Ports) (j : ℕ) (p : List ℕ) → reach_at k j p ≡ true → OthersForgot k j p → clears_change q deep k ≡ clears_by (call_by q (deep_at deep p) (plugged_at k j p))
 unfolding clears_change state_at reach_at plugged_at
 others_clear q deep ended j p h c = no h
@@ -132,14 +131,11 @@ others_clear q deep (taken b s a k) (suc j) p h c =
 
 -- ---- what is forgotten, and who awaits an ACK
 
-remembers : (s : State) → s.memory ≡ Nothing → forgotten s ≡ s
-remembers s m = ap (λ x. record s { memory = x }) (sym m)
-
 rest_forget : (k : Ports) → ((i : ℕ) (e : List ℕ) (t : State) → state_at k i e ≡ Some t → t.memory ≡ Nothing) → all_forgotten k ≡ k
 unfolding all_forgotten state_at
 rest_forget ended c = refl
 rest_forget (vacant b k) c = ap (vacant b) (rest_forget k (λ i e. c (suc i) e))
-rest_forget (taken b s a k) c = rw (remembers s (c zero [] s refl), rest_forget a (λ i e. c zero (suc i ∷ e)), rest_forget k (λ i e. c (suc i) e)) refl
+rest_forget (taken b s a k) c = rw (forgets s (c zero [] s refl), rest_forget a (λ i e. c zero (suc i ∷ e)), rest_forget k (λ i e. c (suc i) e)) refl
 
 pub others_forget : (k : Ports) (j : ℕ) (p : List ℕ) → reach_at k j p ≡ true → OthersForgot k j p → all_forgotten k ≡ changed_at forgotten_in k j p
 unfolding all_forgotten state_at reach_at changed_at
@@ -150,11 +146,11 @@ others_forget (taken b s a k) zero [] h c = rw (rest_forget a (λ i e t f. c zer
 others_forget (taken b s a k) zero (zero ∷ p) h c = no h
 others_forget (taken b s a k) zero (suc j ∷ p) h c =
     let on : _ = both_true b.enable (reach_at a j p) h in
-    rw (remembers s (c zero [] s refl refl), others_forget a j p on.1 (λ i e t d f. c zero (suc i ∷ e) t d f), rest_forget k (λ i e t f. c (suc i) e t refl f)) refl
+    rw (forgets s (c zero [] s refl refl), others_forget a j p on.1 (λ i e t d f. c zero (suc i ∷ e) t d f), rest_forget k (λ i e t f. c (suc i) e t refl f)) refl
 others_forget (taken b s a k) (suc j) p h c =
-    rw (remembers s (c zero [] s refl refl), rest_forget a (λ i e t f. c zero (suc i ∷ e) t refl f), others_forget k j p h (λ i e. c (suc i) e)) refl
+    rw (forgets s (c zero [] s refl refl), rest_forget a (λ i e t f. c zero (suc i ∷ e) t refl f), others_forget k j p h (λ i e. c (suc i) e)) refl
 
-rest_awaits : (s : State) → s.memory ≡ Nothing → awaits_address s ≡ false
+pub rest_awaits : (s : State) → s.memory ≡ Nothing → awaits_address s ≡ false
 unfolding awaits_address
 rest_awaits s m = ap (λ x. awaits_control x && ends_with_address s.stage) m
 
@@ -329,3 +325,8 @@ one_at n k (suc j ∷ p) s h =
     address_is : (o : Option State) → holds_by n o ≡ true → option_map address_of o ≡ Some n
     address_is None h = no h
     address_is (Some t) h = ap (λ x. Some x) (equal_same (address_of t) n h)
+
+-- the way that is taken: the known one, or the whole tree's
+pub way_to : (n : ℕ) (k : Ports) (h : Hints) (known : Bool) (p : List ℕ) → p ≡ way_in h known n → (known ≡ true → IsWayTo n k (path_in h n)) → IsWayTo n k p
+way_to n k h true p e w = subst (IsWayTo n k) (sym e) (w refl)
+way_to n k h false p e w = subst (IsWayTo n k) (sym e) tt

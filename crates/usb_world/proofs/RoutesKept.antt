@@ -9,19 +9,19 @@ use Rattle.usb_device.specs.Rows.{State, forgotten}
 use Rattle.usb_device.specs.Tree.{Ports, ended, vacant, taken, Place, empty, full, before, acted, changed_at, plugged_at, device_there, reach_at, place_at}
 use Rattle.usb_device.specs.Delivery.{answer_of, effect_of, all_forgotten, held, is_twice}
 use Rattle.usb_device.specs.Route.{sent_in, asked_call, call_by, forgotten_in, address_by}
-use Rattle.usb_device.proofs.Placing.{changed_at-head}
+use Rattle.usb_device.proofs.Interface.{changed_at-head}
 use Rattle.usb_world.specs.declared.types.Attempt.{Attempt}
 use Rattle.usb_world.specs.declared.damage.Damage.{Damage}
-use Rattle.usb_world.specs.Live.{address_of}
+use Rattle.usb_world.specs.Paths.{address_of}
 use Rattle.usb_world.specs.Passes.{passed, deep_at, IsSettled, OneHolds}
 use Rattle.usb_world.specs.Exchange.{token_out, payload_out, reply_out, ended_in, ports_in}
 use Rattle.usb_world.specs.Alone.{Alone, IsWayTo, IsQuiet, KeptAt}
 use Rattle.usb_world.proofs.Booleans.{no, both}
-use Rattle.usb_world.proofs.PassLaws.{CalmOut, token_out as token_calm, ack_out as ack_calm}
+use Rattle.usb_world.proofs.AttemptPackets.{token_out as token_calm, ack_out as ack_calm}
 use Rattle.usb_world.proofs.OneDevice.{stands, state_stands}
-use Rattle.usb_world.proofs.OneHolderPlace.{asked_of}
+use Rattle.usb_world.proofs.OneHolderPorts.{asked_of, calm_asked}
 use Rattle.usb_world.proofs.Routes.{others_packet, others_rest, others_forget, plugged_on, plugged_place, alone_token, alone_data, alone_ack, alone_passed}
-use Rattle.usb_world.proofs.WorldLaws.{goes}
+use Rattle.usb_world.proofs.Courses.{goes}
 
 -- ---- changes at one place
 
@@ -101,10 +101,6 @@ step_calm (Some q) deep b s a h = ap (λ e. full b (answer_of q deep s a).1 (act
 passed_one : (o : Option Sent) (k : Ports) (j : ℕ) (p : List ℕ) → Alone o k j p → passed o k ≡ changed_at (step_in o (deep_at false p)) k j p
 passed_one None k j p h = sym (changed_at-same k j p)
 passed_one (Some q) k j p h = others_packet q false k j p h.on (others_rest q k j p h)
-
-calm_asks : (o : Option Sent) → CalmOut o → (deep : Bool) (s : State) → asked_of o deep s ≡ Leaves
-calm_asks None c deep s = refl
-calm_asks (Some q) c deep s = c deep s
 
 leaves_of : (e : Effect) → asked_call e ≡ None → e ≡ Leaves
 leaves_of Leaves h = refl
@@ -188,7 +184,7 @@ module _ (a : Attempt) (d : Option Damage) (k : Ports) (j : ℕ) (p : List ℕ) 
   third = own_after r deep second here.below
 
   first_place : step_in t deep (full here.port here.own here.below) ≡ full here.port first here.below
-  first_place = step_calm t deep here.port here.own here.below (calm_asks t (token_calm a.addr t (goes a d k).token) deep here.own)
+  first_place = step_calm t deep here.port here.own here.below (calm_asked t (token_calm a.addr t (goes a d k).token) deep here.own)
 
   first_at : place_at (passed t k) j p ≡ Some (full here.port first here.below)
   first_at =
@@ -199,7 +195,7 @@ module _ (a : Attempt) (d : Option Damage) (k : Ports) (j : ℕ) (p : List ℕ) 
     end_place =
         ap (λ x. step_in r deep (step_in q deep x)) first_place
         ∙ ap (step_in r deep) (step_calm q deep here.port first here.below (quiet_asks q (passed t k) j p here.port first here.below quiet first_at))
-        ∙ step_calm r deep here.port second here.below (calm_asks r (ack_calm r (goes a d k).reply) deep second)
+        ∙ step_calm r deep here.port second here.below (calm_asked r (ack_calm r (goes a d k).reply) deep second)
 
     end_at : place_at (ended_in a d k) j p ≡ Some (full here.port third here.below)
     end_at = ap (λ x. place_at x j p) end_is ∙ place_at-changed till_end k j p ∙ ap (option_map till_end) here.at ∙ ap (λ x. Some x) end_place

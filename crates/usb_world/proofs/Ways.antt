@@ -4,19 +4,20 @@ use Rattle.std.specs.Cmp.Lexicographic.{pointwise, same_text, bytes_decides}
 use Rattle.std.specs.List.{starts_with}
 use Rattle.std.proofs.lemmas.Bool.{eqb-true, eq-eqb}
 use Rattle.usb_port.specs.Order.{is_below as is_port_below, parent_of, port_of}
-use Rattle.usb_port.proofs.OrderLaws.{below, rejoined}
+use Rattle.usb_port.proofs.Interface.{below, rejoined}
 use Rattle.usb_device.specs.Spec.{Spec}
 use Rattle.usb_device.specs.Tree.{Ports, ended, vacant, taken, reach, reach_at}
 use Rattle.usb_world.specs.declared.event.Action.{Action}
 use Rattle.usb_world.specs.declared.event.Action.TheVariants.{Plug, Unplug, Show, Send, Receive, Clear}
 use Rattle.usb_world.specs.declared.event.Event.{Event}
 use Rattle.usb_world.specs.Courses.{NoneNames, Undisturbed}
-use Rattle.usb_world.specs.Live.{is_way, on_way, same_path, same_number}
-use Rattle.usb_world.specs.Requested.{is_below}
-use Rattle.usb_world.specs.Steps.{names, way_of}
+use Rattle.usb_world.specs.Paths.{is_way, on_way, same_path, same_number}
+use Rattle.usb_world.specs.PortRequests.{is_above}
+use Rattle.usb_world.specs.Steps.{names_path, way_of}
 use Rattle.usb_world.specs.World.{World}
-use Rattle.usb_world.proofs.AddressesReset.{is_same, same_is, self_number, self_path}
-use Rattle.usb_world.proofs.Booleans.{no, both, and_of, or_left, or_right, either_of}
+use Rattle.usb_world.proofs.RootResets.{is_same, same_is}
+use Rattle.usb_world.proofs.Booleans.{no, both, and_of, or_left, or_right, either_of, same_bools}
+use Rattle.usb_world.proofs.Equality.{self_number, self_path}
 
 -- a way goes on to the path
 pub way_rest : (p x : List ℕ) → is_way p x ≡ true → (rest : List ℕ) × (x ≡ p ++ rest)
@@ -46,11 +47,6 @@ way_trans p q x pq qx =
     way_of_rest p x (first.0 ++ second.0) (second.1 ∙ ap (λ (l : List ℕ). l ++ second.0) first.1 ∙ append_assoc p first.0 second.0)
 
 -- Other words for it
-
-same_bools : (a b : Bool) → (a ≡ true → b ≡ true) → (b ≡ true → a ≡ true) → a ≡ b
-same_bools true b f g = sym (f refl)
-same_bools false true f g = g refl
-same_bools false false f g = refl
 
 number_tests : (m n : ℕ) → same_number m n ≡ nat_eq m n
 number_tests m n =
@@ -99,15 +95,15 @@ further x p [] e h = no (sym (ap (λ (l : List ℕ). not (same_path p l)) (e ∙
 further x p (n ∷ rest) e h = (below x p).1 (n ∷ rest, e, omega arith)
 
 -- a path stands below another that leads to it, and beyond
-pub below_way : (x p : List ℕ) → is_port_below x p ≡ is_below p x
+pub below_way : (x p : List ℕ) → is_port_below x p ≡ is_above p x
 below_way x p =
-    same_bools (is_port_below x p) (is_below p x)
+    same_bools (is_port_below x p) (is_above p x)
     (λ h. is_apart (is_way p x) (same_path p x) (below_rest x p (or_right (pointwise nat_eq x p) (is_port_below x p) h)) (long_rest x p h (same_path p x) refl))
     (λ h. let parts = both (is_way p x) (not (same_path p x)) h in let rest = way_rest p x parts.0 in further x p rest.0 rest.1 parts.1)
 
 -- Above
 
-shorter_by : (p x : List ℕ) → length x < length p → (b : Bool) → is_way p x ≡ b → b ≡ false
+pub shorter_by : (p x : List ℕ) → length x < length p → (b : Bool) → is_way p x ≡ b → b ≡ false
 shorter_by p x shorter true h =
     let rest = way_rest p x h in
     let long : length x ≡ length p + length rest.0 = ap length rest.1 ∙ length-append p rest.0 in
@@ -169,7 +165,7 @@ plugs_above : (b c d : Bool) → (d ≡ false → c ≡ false) → (b && d) ≡ 
 plugs_above true c d f h = f h
 plugs_above false c d f h = refl
 
-names_above : (d : List Spec) (a : Action) (x p : List ℕ) → is_way x p ≡ true → names d a p ≡ false → names d a x ≡ false
+names_above : (d : List Spec) (a : Action) (x p : List ℕ) → is_way x p ≡ true → names_path d a p ≡ false → names_path d a x ≡ false
 names_above d (Plug e i) x p on h = plugs_above (is_some (slice_get d i)) (way_of e x) (way_of e p) (way_of_above e x p on) h
 names_above d (Unplug e) x p on h = way_of_above e x p on h
 names_above d Show x p on h = refl

@@ -7,10 +7,10 @@ use Rattle.usb_device.specs.Attempt.{is_whole}
 use Rattle.usb_device.specs.Tree.{Ports, reach_at, state_at}
 use Rattle.usb_world.specs.declared.damage.Damage.{Damage}
 use Rattle.usb_world.specs.declared.types.Attempt.{Attempt}
-use Rattle.usb_world.specs.Live.{address_of, same_path, is_way}
+use Rattle.usb_world.specs.Paths.{address_of, same_path, is_way}
 use Rattle.usb_world.specs.World.{World}
 use Rattle.usb_world.specs.Steps.{ready, Step, attempt, root_call, event, report}
-use Rattle.usb_world.specs.Courses.{Quiet}
+use Rattle.usb_world.specs.Courses.{QuietStep}
 use Rattle.usb_world.specs.OneHolder.{token_way, answer_way, reply_way}
 
 -- an attempt that sends setup data
@@ -32,7 +32,7 @@ MovesData (report line) w = ⊥
 
 -- a step that gives no device an address
 abbrev pub GivesNoAddress : Step → World → Type 0
-GivesNoAddress s w = Quiet s w ⊎ MovesData s w
+GivesNoAddress s w = QuietStep s w ⊎ MovesData s w
 
 -- addresses after PORT_RESET at a path: the device there has address 0, none below it is reached, the others keep theirs
 abbrev pub after_reset : (List ℕ → Option ℕ) → List ℕ → List ℕ → Option ℕ

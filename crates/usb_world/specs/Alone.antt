@@ -5,7 +5,7 @@ use Rattle.usb_device.specs.declared.transfer.Memory.TheVariants.{Nothing}
 use Rattle.usb_device.specs.Rows.{State}
 use Rattle.usb_device.specs.Tree.{Ports, device_there, state_at, reach_at}
 use Rattle.usb_device.specs.Route.{call_by}
-use Rattle.usb_world.specs.Live.{same_number, same_path}
+use Rattle.usb_world.specs.Paths.{same_number, same_path}
 use Rattle.usb_world.specs.Passes.{deep_at, calls_on, IsSettled, OneHolds}
 use Rattle.usb_device.specs.Delivery.{held}
 

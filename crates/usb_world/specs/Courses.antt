@@ -18,17 +18,17 @@ use Rattle.usb_world.specs.declared.event.Event.{Event}
 use Rattle.usb_world.specs.declared.types.Attempt.{Attempt}
 use Rattle.usb_world.specs.declared.types.BusFault.{BusFault}
 use Rattle.usb_device.specs.View.{state_there}
-use Rattle.usb_world.specs.Live.{live, pend, address_of, same_path}
-use Rattle.usb_world.specs.Touched.{IsNew, call_resets, call_spares}
+use Rattle.usb_world.specs.Paths.{live, pend, address_of, same_path}
+use Rattle.usb_world.specs.WayEffects.{IsNew, call_resets, call_spares}
 use Rattle.usb_world.specs.Passes.{attempt_resets, attempt_spares}
 use Rattle.usb_world.specs.World.{World}
 use Rattle.usb_world.specs.Exchange.{token_out, payload_out}
-use Rattle.usb_world.specs.Steps.{names, ready, damage_in, Step, attempt, root_call, event, report}
+use Rattle.usb_world.specs.Steps.{names_path, ready, damage_in, Step, attempt, root_call, event, report}
 
 -- no event of these is at the path or at a port on its way
 abbrev pub NoneNames : List Spec → List Event → List ℕ → Type 0
 NoneNames devices [] p = ⊤
-NoneNames devices (e ∷ events) p = (names devices e.action p ≡ false) × NoneNames devices events p
+NoneNames devices (e ∷ events) p = (names_path devices e.action p ≡ false) × NoneNames devices events p
 
 -- no event between two worlds was at the path or on its way: the same device, or none, stood there throughout
 pub record Undisturbed (w v : World) (p : List ℕ) : Type 0 where
@@ -81,8 +81,8 @@ abbrev pub Reached : World → World → List ℕ → Bool → Type 0
 Reached w v p was_reset = ((was_reset ≡ false) × (reach w.roots p ≡ true) × Undisturbed w v p) ⊎ ((was_reset ≡ true) × IsNew (place v.roots p))
 
 -- powered on its whole way and not disturbed, or pending
-abbrev pub Keeps : World → World → List ℕ → Type 0
-Keeps w v p = ((live v.roots p ≡ true) × Undisturbed w v p) ⊎ (pend v.roots p ≡ true)
+abbrev pub UndisturbedOrPends : World → World → List ℕ → Type 0
+UndisturbedOrPends w v p = ((live v.roots p ≡ true) × Undisturbed w v p) ⊎ (pend v.roots p ≡ true)
 
 abbrev pub NoReset : List ℕ → Step → World → Type 0
 NoReset p s w = resets s w p ≡ false
@@ -125,5 +125,5 @@ is_quiet (attempt a) = quiet_data a.kind a.payload
 is_quiet (root_call c n) = not (is_reset c)
 is_quiet s = true
 
-abbrev pub Quiet : Step → World → Type 0
-Quiet s w = is_quiet s ≡ true
+abbrev pub QuietStep : Step → World → Type 0
+QuietStep s w = is_quiet s ≡ true

@@ -7,7 +7,7 @@ use Rattle.usb_device.specs.Attempt.{Way, whole, setup_law, out_law, in_law}
 use Rattle.usb_device.specs.Tree.{Ports, full, row_of, reach_at, state_at, place_at}
 use Rattle.usb_world.specs.declared.types.Attempt.{Attempt}
 use Rattle.usb_world.specs.declared.types.Outcome.TheVariants.{Nothing}
-use Rattle.usb_world.specs.Live.{address_of}
+use Rattle.usb_world.specs.Paths.{address_of}
 use Rattle.usb_world.specs.Passes.{deep_at}
 use Rattle.usb_world.specs.OneHolder.{got, hears_attempt}
 use Rattle.usb_world.specs.World.{World}

@@ -23,6 +23,18 @@ use Rattle.usb_world.specs.declared.wire.Outgoing.{Outgoing}
 use Rattle.usb_world.specs.Wire.{harm_to, mark_of, is_read, marked, marked_some}
 use Rattle.usb_world.specs.Passes.{passed, told, after_attempt}
 
+-- of no attempt yet
+abbrev pub blank : Exchange
+blank = record {
+  token = record { packet = Pre; mark = Lost };
+  payload = None;
+  answer = Nothing;
+  answer_mark = Whole;
+  reply = None;
+  address_lost = false;
+  change_cleared = false;
+}
+
 unfoldable pub token_of : Attempt → Packet
 token_of a = Token a.kind a.addr a.ep
 
@@ -40,6 +52,10 @@ unfoldable pub answer_mark : Option Harm → Heard → Mark
 answer_mark harm Nothing = Whole
 answer_mark harm Collision = Whole
 answer_mark harm (One p) = mark_of harm false p
+
+-- the host's ACK, where it answers
+abbrev pub ack_if : Bool → Option Packet
+ack_if acknowledged = if acknowledged then Some Ack else None
 
 -- data of at most `max` bytes that the host reads are answered by ACK
 unfoldable pub reply_of : Heard → Mark → ℕ → Option Packet

@@ -23,7 +23,7 @@ use Rattle.usb_world.specs.declared.types.Outcome.TheVariants as outcome
 use Rattle.usb_world.specs.declared.damage.Damage.{Damage}
 use Rattle.usb_world.specs.declared.wire.Mark.{Mark}
 use Rattle.usb_world.specs.declared.wire.Mark.TheVariants as mark
-use Rattle.usb_world.specs.Live.{address_of}
+use Rattle.usb_world.specs.Paths.{address_of}
 use Rattle.usb_world.specs.Exchange.{token_out, payload_out, reply_in, reply_out, heard_in, mark_in, outcome_of, ports_in}
 use Rattle.usb_world.specs.Passes.{IsSettled, OneHolds}
 use Rattle.usb_world.specs.World.{World}
@@ -98,7 +98,7 @@ pub record Holder (n : ℕ) (k : Ports) (j : ℕ) (p : List ℕ) (b : PortState)
   pub stands : place_at k j p ≡ Some (full b s below)
 
 -- the host gets what the device answers, and the device is what it is then
-pub record Exchanged (a : Attempt) (damage : Option Damage) (k : Ports) (j : ℕ) (p : List ℕ) (r : Reply) : Type 0 where
+pub record ExchangedWithHolder (a : Attempt) (damage : Option Damage) (k : Ports) (j : ℕ) (p : List ℕ) (r : Reply) : Type 0 where
   pub outcome : outcome_of (heard_in a damage k) (mark_in a damage k) a.max ≡ got a.max r.0
   pub state : state_at (ports_in a damage k) j p ≡ Some r.1
 
@@ -143,7 +143,7 @@ pub record SomeHolder (a : Attempt) (w : World) : Type 0 where
   pub holder : HolderIn a w j p b s below
 
 -- one that is not silent
-pub record Answerer (a : Attempt) (w : World) : Type 0 where
+pub record AttemptAnswerer (a : Attempt) (w : World) : Type 0 where
   pub held : SomeHolder a w
   pub loud : held.s.spec.silent ≡ false
 

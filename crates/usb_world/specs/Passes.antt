@@ -11,8 +11,8 @@ use Rattle.usb_device.specs.Attempt.{is_own}
 use Rattle.usb_device.specs.Tree.{Ports, Place, empty, full, acted, reach_at, state_at, place_at}
 use Rattle.usb_device.specs.Delivery.{answer_of, effect_of, listed, after_packet, answers, all_forgotten, held, is_twice, hears, reply_to}
 pub use Rattle.usb_device.specs.View.{forgotten_place}
-use Rattle.usb_world.specs.Touched.{resets_at, packet_spares, reset_if}
-use Rattle.usb_world.specs.Live.{address_of, same_number, same_path}
+use Rattle.usb_world.specs.WayEffects.{resets_at, packet_spares, reset_if}
+use Rattle.usb_world.specs.Paths.{address_of, same_number, same_path}
 
 -- the ports after a packet, which goes out or does not
 abbrev pub passed : Option Sent → Ports → Ports

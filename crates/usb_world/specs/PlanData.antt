@@ -1,5 +1,5 @@
 -- A plan as contracts see it, and the rules that it keeps.
-use Rattle.std.specs.Prelude.{◌≡◌, ◌≤◌, ℕ, List, [], ◌∷◌, length, Bool, true, ◌&&◌, not, ◌==◌, nat_le, nat_lt, slice_index, is_some}
+use Rattle.std.specs.Prelude.{◌≡◌, ◌≤◌, ℕ, List, [], ◌∷◌, length, Bool, true, ◌&&◌, not, nat_le, nat_lt, is_some}
 use Rattle.usb_device.specs.Spec.{Spec, AreDevices}
 use Rattle.usb_world.specs.declared.event.Event.{Event}
 use Rattle.usb_world.specs.declared.event.Action.{Action}
@@ -7,18 +7,14 @@ use Rattle.usb_world.specs.declared.event.Action.TheVariants.{Plug, Unplug, Show
 use Rattle.usb_world.specs.declared.damage.Damage.{Damage}
 use Rattle.usb_world.specs.declared.damage.Harm.{Harm}
 use Rattle.usb_world.specs.declared.damage.Harm.TheVariants.{Lose, LosePre, Flip}
-use Rattle.usb_world.specs.Plugged.{Plugged, device_at, plugged_after, is_rooted, has_port}
-
--- the path of a root port
-abbrev pub is_root_path : ℕ → List ℕ → Bool
-is_root_path roots path = length path == 1 && nat_le (slice_index path 0) roots
+use Rattle.usb_world.specs.PluggedDevices.{PluggedMap, index_at, plugged_after, is_rooted, has_port}
 
 -- something is plugged at the path
-abbrev pub is_taken : Plugged → List ℕ → Bool
-is_taken tree path = is_some (device_at tree path)
+abbrev pub is_taken : PluggedMap → List ℕ → Bool
+is_taken tree path = is_some (index_at tree path)
 
 -- the action may come where so much is plugged
-abbrev pub action_fits : ℕ → List Spec → Plugged → Action → Bool
+abbrev pub action_fits : ℕ → List Spec → PluggedMap → Action → Bool
 action_fits roots devices tree (Plug path device) = has_port roots devices tree path && not (is_taken tree path) && nat_lt device (length devices)
 action_fits roots devices tree (Unplug path) = is_rooted roots path && is_taken tree path
 action_fits roots devices tree Show = true
@@ -26,11 +22,11 @@ action_fits roots devices tree (Send path bytes) = is_rooted roots path
 action_fits roots devices tree (Receive path packets) = is_rooted roots path && nat_le packets 1000
 action_fits roots devices tree (Clear path) = is_rooted roots path
 
-abbrev pub event_fits : ℕ → List Spec → Plugged → Event → Bool
+abbrev pub event_fits : ℕ → List Spec → PluggedMap → Event → Bool
 event_fits roots devices tree e = nat_le e.after 1000000000 && action_fits roots devices tree e.action
 
 -- each event fits what is plugged before it
-abbrev pub events_fit : ℕ → List Spec → Plugged → List Event → Bool
+abbrev pub events_fit : ℕ → List Spec → PluggedMap → List Event → Bool
 events_fit roots devices tree [] = true
 events_fit roots devices tree (e ∷ events) = event_fits roots devices tree e && events_fit roots devices (plugged_after e.action tree) events
 
@@ -54,6 +50,9 @@ pub record PlanData : Type 0 where
   pub devices : List Spec
   pub events : List Event
   pub damages : List Damage
+
+abbrev pub plan_data : ℕ → ℕ → List Spec → List Event → List Damage → PlanData
+plan_data limit roots devices events damages = record { limit = limit; roots = roots; devices = devices; events = events; damages = damages }
 
 -- the rules of a plan
 pub record IsPlan (p : PlanData) : Type 0 where

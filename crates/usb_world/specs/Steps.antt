@@ -22,11 +22,11 @@ use Rattle.usb_world.specs.declared.types.BusFault.TheVariants.{LimitReached, Me
 use Rattle.usb_world.specs.Wire.{damage_of}
 use Rattle.usb_world.specs.Exchange.{heard_in, mark_in, lost_in, cleared_in, exchange_in, ports_in, outcome_of, token_out, payload_out}
 use Rattle.usb_world.specs.Losses.{no_losses, counted, after_clearing}
-use Rattle.usb_world.specs.Live.{is_way}
-use Rattle.usb_world.specs.Sane.{IsSane}
+use Rattle.usb_world.specs.Paths.{is_way}
+use Rattle.usb_world.specs.SanePorts.{IsSane}
 use Rattle.usb_world.specs.Passes.{IsSettled, passed}
 use Rattle.usb_world.specs.PlanData.{PlanData}
-use Rattle.usb_world.specs.World.{World, root_row, port_at, to_come, Spends, Failed}
+use Rattle.usb_world.specs.World.{World, root_row, root_port_at, to_come, Spends, Failed}
 
 -- Events
 
@@ -50,13 +50,13 @@ way_of [] p = false
 way_of (m ∷ x) p = is_way (m ∷ x) p
 
 -- whether an action plugs or unplugs at a path, or at a port on its way
-abbrev pub names : List Spec → Action → List ℕ → Bool
-names devices (Plug path device) p = is_some (slice_get devices device) && way_of path p
-names devices (Unplug path) p = way_of path p
-names devices Show p = false
-names devices (Send path bytes) p = false
-names devices (Receive path packets) p = false
-names devices (Clear path) p = false
+abbrev pub names_path : List Spec → Action → List ℕ → Bool
+names_path devices (Plug path device) p = is_some (slice_get devices device) && way_of path p
+names_path devices (Unplug path) p = way_of path p
+names_path devices Show p = false
+names_path devices (Send path bytes) p = false
+names_path devices (Receive path packets) p = false
+names_path devices (Clear path) p = false
 
 -- what an action asks of the host
 unfoldable pub due_of : Action → Due
@@ -199,11 +199,11 @@ pub record IsBetween (w : World) : Type 0 where
 -- a root call is its step, and one row of the port table at one root port (11.24.2)
 pub record SetsRoot (port feature : ℕ) (old new : World) : Type 0 where
   pub step : (c : PortCall) → set_call feature ≡ Some c → new ≡ after (root_call c port) old
-  pub row : root_row new ≡ slice_set (root_row old) (port - 1) (unwrap_or (set_row feature (port_at old port)) (port_at old port))
+  pub row : root_row new ≡ slice_set (root_row old) (port - 1) (unwrap_or (set_row feature (root_port_at old port)) (root_port_at old port))
 
 pub record ClearsRoot (port feature : ℕ) (old new : World) : Type 0 where
   pub step : (c : PortCall) → clear_call feature ≡ Some c → new ≡ after (root_call c port) old
-  pub row : root_row new ≡ slice_set (root_row old) (port - 1) (unwrap_or (clear_row feature (port_at old port)) (port_at old port))
+  pub row : root_row new ≡ slice_set (root_row old) (port - 1) (unwrap_or (clear_row feature (root_port_at old port)) (root_port_at old port))
 
 -- a plan's world before anything came
 abbrev pub opening : PlanData → World
@@ -228,7 +228,7 @@ fault_of (Ok x) = None
 fault_of (Err fault) = Some fault
 
 -- an event that came, no event that was left, or a fault that stays
-pub record Came (old new : World) : Type 0 where
+pub record EventCame (old new : World) : Type 0 where
   pub sound : old.fault ≡ None
   pub one : new.taken ≡ old.taken + 1
   pub still : new.fault ≡ None
@@ -240,7 +240,7 @@ pub record NoneLeft (old new : World) : Type 0 where
 
 abbrev pub EventEnds : World → Result (Option Due) BusFault → World → Type 0
 EventEnds old (Ok None) new = NoneLeft old new
-EventEnds old (Ok (Some due)) new = Came old new
+EventEnds old (Ok (Some due)) new = EventCame old new
 EventEnds old (Err fault) new = Failed fault new
 
 -- an event step: no attempt is made

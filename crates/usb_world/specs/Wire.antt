@@ -1,6 +1,5 @@
 -- Packets on their way, and what damage does to them.
 use Rattle.std.specs.Prelude.{ℕ, ◌+◌, ◌*◌, ◌==◌, nat_lt, nat_le, Bool, true, false, if◌then◌else◌, List, [], ◌∷◌, length, Option, None, Some}
-use Rattle.usb_packet.specs.Spelling.{Spells}
 use Rattle.usb_packet.specs.declared.Packet.{Packet}
 use Rattle.usb_packet.specs.declared.Packet.TheVariants.{Token, Sof, Payload, Ack, Nak, Stall, Pre}
 use Rattle.usb_world.specs.declared.damage.Damage.{Damage}
@@ -63,8 +62,3 @@ marked damage place pre p = record { packet = p; mark = mark_of (harm_to damage 
 unfoldable pub marked_some : Option Damage → ℕ → Bool → Option Packet → Option Outgoing
 marked_some damage place pre None = None
 marked_some damage place pre (Some p) = Some (marked damage place pre p)
-
--- what a listener reads from bytes: the packet that they spell, or nothing
-abbrev pub Reads : List ℕ → Option Packet → Type 0
-Reads bytes None = (p : Packet) → Spells bytes p → ⊥
-Reads bytes (Some p) = Spells bytes p

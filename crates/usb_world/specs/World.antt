@@ -42,8 +42,8 @@ abbrev pub IsRootPort : World → ℕ → Type 0
 IsRootPort w port = (1 ≤ port) × (port ≤ length (root_row w))
 
 -- the port of a number from 1
-unfoldable pub port_at : World → ℕ → PortState
-port_at w port = slice_index_or (root_row w) (port - 1) off
+unfoldable pub root_port_at : World → ℕ → PortState
+root_port_at w port = slice_index_or (root_row w) (port - 1) off
 
 -- PORT_RESET and PORT_POWER can be set; PORT_ENABLE, PORT_POWER and the change bits can be cleared
 abbrev pub IsSetFeature : ℕ → Type 0
@@ -53,10 +53,10 @@ abbrev pub IsClearFeature : ℕ → Type 0
 IsClearFeature feature = (feature ≡ 1) ⊎ (feature ≡ 8) ⊎ (feature ≡ 16) ⊎ (feature ≡ 17) ⊎ (feature ≡ 20)
 
 -- SETUP and OUT send data, IN does not
-abbrev pub sends : TokenKind → Bool
-sends OutTok = true
-sends SetupTok = true
-sends InTok = false
+abbrev pub sends_data : TokenKind → Bool
+sends_data OutTok = true
+sends_data SetupTok = true
+sends_data InTok = false
 
 pub record IsAttempt (a : Attempt) : Type 0 where
   pub addr_fits : a.addr < 128
@@ -64,7 +64,7 @@ pub record IsAttempt (a : Attempt) : Type 0 where
   pub max_least : 1 ≤ a.max
   pub max_most : a.max ≤ 64
   pub pre_low : a.pre ≡ true → a.low ≡ true
-  pub payload_sent : is_some a.payload ≡ sends a.kind
+  pub payload_sent : is_some a.payload ≡ sends_data a.kind
 
 -- 1 where C_PORT_CONNECTION is set
 unfoldable pub change_of : PortState → ℕ

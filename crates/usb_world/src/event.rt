@@ -1,6 +1,6 @@
 //! The events of a plan.
 ghost use Rattle.std.specs.Prelude.{◌≡◌, IfOk};
-ghost use Rattle.usb_world.specs.PluggedAt.{PlugsAtPort};
+ghost use Rattle.usb_world.specs.PlanCourses.{PlugsAtPort};
 ghost use Rattle.usb_world.specs.Steps.{waits, due_of};
 
 use std::alloc::{AllocError, Global};
@@ -127,7 +127,7 @@ pub struct Events {
 impl Model for Events {
     ghost use Rattle.std.specs.Prelude.{List, ◌≤◌, length};
     ghost use Rattle.usb_world.specs.declared.event.Event.{Event};
-    ghost use Rattle.usb_world.specs.PluggedAt.{AtPorts};
+    ghost use Rattle.usb_world.specs.PlanCourses.{AtPorts};
 
     ghost Value = { List Event };
 
@@ -138,7 +138,7 @@ impl Model for Events {
 
 impl Events {
     ghost use Rattle.std.specs.Prelude.{◌≡◌, ◌<◌, ◌≤◌, [], ◌∷◌, ◌++◌, length, IfOk, OnOk, OnErr};
-    ghost use Rattle.usb_world.specs.PluggedAt.{AtPorts};
+    ghost use Rattle.usb_world.specs.PlanCourses.{AtPorts};
 
     /// No events.
     pub fn new(alloc: Global) -> Self

@@ -1,24 +1,27 @@
 //! One attempt: the host's packets go to the devices, and their answers come together.
 ghost use Rattle.std.specs.Prelude.{◌≡◌, ◌≤◌, [], true, None, Some, IfOk, IfSome, IsOk, IsSome, OnOk, OnErr};
 ghost use Rattle.usb_packet.specs.Spelling.{HasFields};
-ghost use Rattle.usb_device.specs.Tree.{row_of, device_there};
-ghost use Rattle.usb_device.specs.Delivery.{figure, both, heard_of, all_forgotten, has_loss};
+ghost use Rattle.usb_device.specs.Passing.{broken};
+ghost use Rattle.usb_device.specs.Tree.{device_there};
+ghost use Rattle.usb_device.specs.Delivery.{all_forgotten, has_loss};
 ghost use Rattle.usb_device.specs.Route.{address_by};
 ghost use Rattle.usb_world.specs.World.{IsAttempt, FitsMaximum};
-ghost use Rattle.usb_world.specs.Wire.{has_its_bit};
-ghost use Rattle.usb_world.specs.Exchange.{token_of, payload_of, answer_place, answer_mark, reply_of, outcome_of, exchange_in, ended_in, ports_in, goes_out, token_out, payload_out, sent_as, is_lost, clears_at};
-ghost use Rattle.usb_world.specs.Passes.{IsSettled, passed, told};
+ghost use Rattle.usb_world.specs.Wire.{has_its_bit, marked, marked_some};
+ghost use Rattle.usb_world.specs.declared.wire.Mark.TheVariants.{Flipped};
+ghost use Rattle.usb_world.specs.Exchange.{ack_if, blank, token_of, payload_of, answer_place, answer_mark, reply_of, outcome_of, goes_out, token_out, payload_out, sent_as, is_lost, clears_at};
+ghost use Rattle.usb_world.specs.Passes.{IsSettled, passed};
+ghost use Rattle.usb_world.specs.Exchanged.{StaysPlugged, PacketWent, PacketsWent, Exchanged};
 ghost use Rattle.usb_world.specs.Cut.{IsStopped};
 ghost use Rattle.usb_world.specs.Steps.{IsCut};
 ghost use Rattle.usb_world.specs.Answering.{heard_from};
 ghost use Rattle.usb_world.specs.Alone.{AloneAt, IsQuiet, KeptAt, is_whole, is_deep};
 
 use crate::damage::{Damage, Harm};
-use crate::wire::{Mark, Outgoing, flipped, harm_to, mark_of, marked, marked_some};
+use crate::wire::{Mark, Outgoing, flipped, harm_to, mark_of, marked};
 use crate::{Attempt, Outcome};
 use arrayvec::ArrayVec;
 use std::alloc::AllocError;
-use usb_device::{Content, Ports, Sent};
+use usb_device::{Answer, Content, Passing, Ports};
 use usb_packet::{Packet, encode, one_flipped_bit};
 
 /// What the devices' answers are together.
@@ -30,14 +33,19 @@ pub enum Heard {
     Collision,
 }
 
-impl From<usb_device::Heard> for Heard {
-    ghost from_gives = { λ heard result. result ≡ heard_from heard };
-
-    fn from(heard: usb_device::Heard) -> Heard {
-        match heard {
-            usb_device::Heard::NoAnswer => Heard::Nothing,
-            usb_device::Heard::One(answer) => Heard::One(answer.into_packet()),
-            usb_device::Heard::Collision => Heard::Collision,
+/// What was heard of the devices, as packets.
+#[tactic(auto, unfolding(crate::specs::Answering::heard_from))]
+fn put_answer(heard: usb_device::Heard, answer: &mut Heard)
+    ensures { answer.new ≡ heard_from heard }
+{
+    match heard {
+        usb_device::Heard::NoAnswer => *answer = Heard::Nothing,
+        usb_device::Heard::Collision => *answer = Heard::Collision,
+        usb_device::Heard::One(Answer::Ack) => *answer = Heard::One(Packet::Ack),
+        usb_device::Heard::One(Answer::Nak) => *answer = Heard::One(Packet::Nak),
+        usb_device::Heard::One(Answer::Stall) => *answer = Heard::One(Packet::Stall),
+        usb_device::Heard::One(Answer::Data { toggle, bytes }) => {
+            *answer = Heard::One(Packet::Payload { toggle, bytes });
         }
     }
 }
@@ -59,56 +67,75 @@ pub struct Exchange {
     pub change_cleared: bool,
 }
 
+impl Exchange {
+    /// Of no attempt yet: a place for the packets of one.
+    pub fn blank() -> Self
+        ensures { result ≡ blank }
+    {
+        Exchange {
+            token: Outgoing {
+                packet: Packet::Pre,
+                mark: Mark::Lost,
+            },
+            payload: None,
+            answer: Heard::Nothing,
+            answer_mark: Mark::Whole,
+            reply: None,
+            address_lost: false,
+            change_cleared: false,
+        }
+    }
+}
+
 /// Makes an attempt: the token, then the data, one of them; then what the host says to the answer.
-/// After it no device remembers a packet, also where memory was refused. That happens to the host's data alone: no sink grows
-/// at a token or at an ACK.
+/// After it no device remembers a packet, also where memory was refused. That happens to the host's
+/// data alone: no sink grows at a token or at an ACK.
 pub fn make_exchange(
     roots: &mut Ports,
     attempt: &Attempt,
     damage: Option<Damage>,
-) -> Result<Exchange, AllocError>
+    exchange: &mut Exchange,
+) -> Result<(), AllocError>
     requires { IsAttempt attempt.now }
-    ensures row { row_of roots.new ≡ row_of roots.old }
-    ensures figure { figure roots.new ≡ figure roots.old }
+    ensures plugged { StaysPlugged roots.old roots.new }
     ensures settled { IsSettled roots.new }
-    ensures made { IfOk result (λ made. made ≡ exchange_in attempt.now damage roots.old) }
-    ensures ports { OnOk result (roots.new ≡ ports_in attempt.now damage roots.old) }
+    ensures made { OnOk result (Exchanged attempt.now damage roots.old roots.new exchange.new) }
     ensures cut { OnErr result (IsCut attempt.now damage roots.old roots.new) }
 {
     let mut kept = false;
-    exchange_along(roots, &[], attempt, damage, &mut kept)
+    exchange_along(roots, &[], attempt, damage, &mut kept, exchange)
 }
 
-/// The same straight to the device at a path, where no other reachable device holds the address: the others have nothing of
-/// it, so it costs the same in a large tree as in a small one. The empty path stands for the whole tree. `kept` tells whether
-/// all addresses are known to be as they were.
-#[tactic(auto, using(crate::proofs::Exchanges::over_row, crate::proofs::Exchanges::over_figure, crate::proofs::Exchanges::over_settled, crate::proofs::Exchanges::over_ports, crate::proofs::Refusals::over_cut))]
+/// The same straight to the device at a path, where no other reachable device holds the address:
+/// the others have nothing of it, so it costs the same in a large tree as in a small one. The empty
+/// path stands for the whole tree. `kept` tells whether all addresses are known to be as they were.
+#[tactic(auto, using(crate::proofs::Exchanges::attempt_ends, crate::proofs::Refusals::over_cut))]
 pub(crate) fn exchange_along(
     roots: &mut Ports,
     path: &[u8],
     attempt: &Attempt,
     damage: Option<Damage>,
     kept: &mut bool,
-) -> Result<Exchange, AllocError>
+    exchange: &mut Exchange,
+) -> Result<(), AllocError>
     requires attempt { IsAttempt attempt.now }
     requires alone { AloneAt (token_out attempt.now damage) roots.old path.now }
-    ensures row { row_of roots.new ≡ row_of roots.old }
-    ensures figure { figure roots.new ≡ figure roots.old }
+    ensures plugged { StaysPlugged roots.old roots.new }
     ensures settled { IsSettled roots.new }
-    ensures made { IfOk result (λ made. made ≡ exchange_in attempt.now damage roots.old) }
-    ensures ports { OnOk result (roots.new ≡ ports_in attempt.now damage roots.old) }
+    ensures made { OnOk result (Exchanged attempt.now damage roots.old roots.new exchange.new) }
     ensures cut { OnErr result (IsCut attempt.now damage roots.old roots.new) }
     ensures kept { kept.new ≡ true → KeptAt attempt.now.addr roots.old roots.new path.now }
 {
     let mut quiet = false;
-    let made = send_packets(roots, path, attempt, damage, &mut quiet);
+    let made = send_packets(roots, path, attempt, damage, &mut quiet, exchange);
     let address = end_attempt(roots, path);
     *kept = is_kept(&made, quiet, address, attempt.addr);
     made
 }
 
-/// Whether an attempt was made at which the device there asked nothing of its ports, and it has the address still.
-fn is_kept(made: &Result<Exchange, AllocError>, quiet: bool, left: Option<u8>, address: u8) -> bool
+/// Whether an attempt was made at which the device there asked nothing of its ports, and it has the
+/// address still.
+fn is_kept(made: &Result<(), AllocError>, quiet: bool, left: Option<u8>, address: u8) -> bool
     ensures made { result ≡ true → IsOk made.now }
     ensures quiet { result ≡ true → quiet ≡ true }
     ensures left { result ≡ true → left ≡ Some address }
@@ -119,8 +146,8 @@ fn is_kept(made: &Result<Exchange, AllocError>, quiet: bool, left: Option<u8>, a
     }
 }
 
-/// Every device forgets what it remembers: all of them, or the one at a path where no other remembers anything; then its
-/// address is told.
+/// Every device forgets what it remembers: all of them, or the one at a path where no other
+/// remembers anything; then its address is told.
 fn end_attempt(roots: &mut Ports, path: &[u8]) -> Option<u8>
     requires { AloneAt None roots.old path.now }
     ensures over { roots.new ≡ all_forgotten roots.old }
@@ -161,39 +188,39 @@ fn send_packets(
     attempt: &Attempt,
     damage: Option<Damage>,
     quiet: &mut bool,
-) -> Result<Exchange, AllocError>
+    exchange: &mut Exchange,
+) -> Result<(), AllocError>
     requires attempt { IsAttempt attempt.now }
     requires alone { AloneAt (token_out attempt.now damage) roots.old path.now }
-    ensures row { row_of roots.new ≡ row_of roots.old }
-    ensures figure { figure roots.new ≡ figure roots.old }
-    ensures quiet { OnOk result (quiet.new ≡ true → IsQuiet (payload_out attempt.now damage) (passed (token_out attempt.now damage) roots.old) path.now) }
-    ensures made { IfOk result (λ made. made ≡ exchange_in attempt.now damage roots.old) }
-    ensures ports { OnOk result (roots.new ≡ ended_in attempt.now damage roots.old) }
+    ensures plugged { StaysPlugged roots.old roots.new }
+    ensures quiet { OnOk result (quiet.new ≡ true → IsQuiet (payload_out attempt.now damage)
+        (passed (token_out attempt.now damage) roots.old) path.now) }
+    ensures made { OnOk result (PacketsWent attempt.now damage roots.old roots.new exchange.new) }
     ensures alone { AloneAt None roots.new path.now }
-    ensures stopped { OnErr result (IsStopped (payload_out attempt.now damage) (passed (token_out attempt.now damage) roots.old) roots.new) }
+    ensures stopped { OnErr result (IsStopped (payload_out attempt.now damage)
+        (passed (token_out attempt.now damage) roots.old) roots.new) }
 {
-    let token = marked(damage, 1, attempt.pre, token_of(attempt));
+    put_token(attempt, damage, &mut exchange.token);
     let mut heard = usb_device::Heard::NoAnswer;
-    send(roots, path, &goes_out(attempt, &token), &mut heard)?;
-    let payload = marked_some(damage, 2, attempt.pre, payload_of(attempt));
-    let data = some_goes_out(attempt, &payload);
-    let change_cleared = clears_change(roots, path, &data, quiet);
+    send(roots, path, &goes_out(attempt, &exchange.token), &mut heard)?;
+    put_payload(attempt, damage, &mut exchange.payload);
+    let data = some_goes_out(attempt, &exchange.payload);
+    exchange.change_cleared = clears_change(roots, path, &data, quiet);
     send(roots, path, &data, &mut heard)?;
-    let answer = Heard::from(heard);
-    let place = answer_place(&payload);
-    let answer_mark = answer_mark(harm_to(damage, place), &answer);
-    let reply = reply_of(&answer, answer_mark, attempt.max);
-    let reply = marked_some(damage, place + 1, attempt.pre, reply);
-    let address_lost = send_reply(roots, path, attempt, &reply)?;
-    Ok(Exchange {
-        token,
-        payload,
-        answer,
-        answer_mark,
-        reply,
-        address_lost,
-        change_cleared,
-    })
+    put_answer(heard, &mut exchange.answer);
+    let place = answer_place(&exchange.payload);
+    exchange.answer_mark = answer_mark(harm_to(damage, place), &exchange.answer);
+    let acknowledged = is_acknowledged(&exchange.answer, exchange.answer_mark, attempt.max);
+    put_reply(
+        attempt,
+        damage,
+        place + 1,
+        acknowledged,
+        &mut exchange.reply,
+    );
+    let address_lost = send_reply(roots, path, attempt, &exchange.reply)?;
+    exchange.address_lost = address_lost;
+    Ok(())
 }
 
 /// The place of the devices' answer among the packets of an attempt, counted from 1.
@@ -221,58 +248,36 @@ fn answer_mark(harm: Option<Harm>, answer: &Heard) -> Mark
 }
 
 /// A packet as damage leaves it, on its way to the devices; None where it is lost.
-fn goes_out(attempt: &Attempt, packet: &Outgoing) -> Option<Sent>
+fn goes_out<'a>(attempt: &Attempt, packet: &'a Outgoing) -> Option<Passing<'a>>
     requires fields { HasFields packet.now.packet }
     requires bit { has_its_bit packet.now.mark packet.now.packet ≡ true }
     ensures { result ≡ sent_as attempt.now.low attempt.now.pre packet.now.mark packet.now.packet }
 {
     match packet.mark {
-        Mark::Whole => Some(Sent {
-            low: attempt.low,
-            pre: attempt.pre,
-            content: Content::Whole(copy_of(&packet.packet)),
-        }),
+        Mark::Whole => Some(Passing::whole(attempt.low, attempt.pre, &packet.packet)),
         Mark::Lost => None,
-        Mark::PreLost => Some(Sent {
-            low: attempt.low,
-            pre: false,
-            content: Content::Whole(copy_of(&packet.packet)),
-        }),
-        Mark::Flipped(bit) => {
-            one_flipped_bit();
-            let bytes = encode(&packet.packet);
-            Some(Sent {
-                low: attempt.low,
-                pre: attempt.pre,
-                content: Content::of(flipped(bytes, bit).as_slice()),
-            })
-        }
+        Mark::PreLost => Some(Passing::whole(attempt.low, false, &packet.packet)),
+        Mark::Flipped(bit) => Some(broken(attempt, &packet.packet, bit)),
     }
 }
 
-fn copy_of(packet: &Packet) -> Packet
-    ensures { result ≡ packet.now }
+/// A packet with one bit flipped: it spells no packet (8.3.1 and 8.3.5).
+#[inline(never)]
+fn broken<'a>(attempt: &Attempt, packet: &Packet, bit: u16) -> Passing<'a>
+    requires fields { HasFields packet.now }
+    requires bit { has_its_bit (Flipped bit) packet.now ≡ true }
+    ensures { result ≡ broken attempt.now.low attempt.now.pre }
 {
-    match packet {
-        Packet::Token { kind, addr, ep } => Packet::Token {
-            kind: *kind,
-            addr: *addr,
-            ep: *ep,
-        },
-        Packet::Sof(frame) => Packet::Sof(*frame),
-        Packet::Payload { toggle, bytes } => Packet::Payload {
-            toggle: *toggle,
-            bytes: copied(bytes),
-        },
-        Packet::Ack => Packet::Ack,
-        Packet::Nak => Packet::Nak,
-        Packet::Stall => Packet::Stall,
-        Packet::Pre => Packet::Pre,
+    one_flipped_bit();
+    let bytes = encode(packet);
+    match Content::of(flipped(bytes, bit).as_slice()) {
+        Content::Broken => Passing::broken(attempt.low, attempt.pre),
+        Content::Whole(_) => unreachable!(),
     }
 }
 
 /// The same, where there is a packet.
-fn some_goes_out(attempt: &Attempt, packet: &Option<Outgoing>) -> Option<Sent>
+fn some_goes_out<'a>(attempt: &Attempt, packet: &'a Option<Outgoing>) -> Option<Passing<'a>>
     requires fields { IfSome packet.now (λ s. HasFields s.packet) }
     requires bit { IfSome packet.now (λ s. has_its_bit s.mark s.packet ≡ true) }
     ensures { result ≡ goes_out attempt.now packet.now }
@@ -283,19 +288,17 @@ fn some_goes_out(attempt: &Attempt, packet: &Option<Outgoing>) -> Option<Sent>
     }
 }
 
-/// Sends what goes out, down the tree or straight to the device at a path where it is for no other; what is answered joins
-/// what was heard before.
+/// Sends what goes out, down the tree or straight to the device at a path where it is for no other;
+/// what is answered joins what was heard before.
 fn send(
     roots: &mut Ports,
     path: &[u8],
-    sent: &Option<Sent>,
+    sent: &Option<Passing<'_>>,
     heard: &mut usb_device::Heard,
 ) -> Result<(), AllocError>
     requires { AloneAt sent.now roots.old path.now }
-    ensures row { row_of roots.new ≡ row_of roots.old }
-    ensures figure { figure roots.new ≡ figure roots.old }
-    ensures heard { OnOk result (heard.new ≡ both heard.old (heard_of (told sent.now roots.old))) }
-    ensures ports { OnOk result (roots.new ≡ passed sent.now roots.old) }
+    ensures plugged { StaysPlugged roots.old roots.new }
+    ensures went { OnOk result (PacketWent sent.now roots.old roots.new heard.old heard.new) }
     ensures alone { AloneAt None roots.new path.now }
     ensures stopped { OnErr result (IsStopped sent.now roots.old roots.new) }
 {
@@ -306,10 +309,10 @@ fn send(
     }
 }
 
-/// Whether a hub will clear a change of connection of one of its ports at what goes out. `quiet` tells whether the device at
-/// the path is known to ask nothing of its ports.
+/// Whether a hub will clear a change of connection of one of its ports at what goes out. `quiet`
+/// tells whether the device at the path is known to ask nothing of its ports.
 #[tactic(auto, using(crate::proofs::Routes::route_clears))]
-fn clears_change(roots: &Ports, path: &[u8], sent: &Option<Sent>, quiet: &mut bool) -> bool
+fn clears_change(roots: &Ports, path: &[u8], sent: &Option<Passing<'_>>, quiet: &mut bool) -> bool
     requires { AloneAt sent.now roots.now path.now }
     ensures clears { result ≡ clears_at sent.now roots.now }
     ensures quiet { quiet.new ≡ true → IsQuiet sent.now roots.now path.now }
@@ -346,7 +349,8 @@ fn has_loss(roots: &Ports, path: &[u8]) -> bool
     }
 }
 
-/// Sends the host's ACK, where there is one, and tells whether a device did not read it that awaits it to take its address.
+/// Sends the host's ACK, where there is one, and tells whether a device did not read it that awaits
+/// it to take its address.
 #[tactic(auto, using(crate::proofs::Routes::alone_less))]
 fn send_reply(
     roots: &mut Ports,
@@ -357,16 +361,39 @@ fn send_reply(
     requires fields { IfSome reply.now (λ s. HasFields s.packet) }
     requires bit { IfSome reply.now (λ s. has_its_bit s.mark s.packet ≡ true) }
     requires alone { AloneAt (goes_out attempt.now reply.now) roots.old path.now }
-    ensures row { row_of roots.new ≡ row_of roots.old }
-    ensures figure { figure roots.new ≡ figure roots.old }
-    ensures lost { IfOk result (λ lost. lost ≡ is_lost reply.now (goes_out attempt.now reply.now) roots.old) }
+    ensures plugged { StaysPlugged roots.old roots.new }
+    ensures lost { IfOk result (λ lost. lost
+        ≡ is_lost reply.now (goes_out attempt.now reply.now) roots.old) }
     ensures ports { OnOk result (roots.new ≡ passed (goes_out attempt.now reply.now) roots.old) }
     ensures alone { AloneAt None roots.new path.now }
-    ensures stopped { OnErr result (IsStopped (goes_out attempt.now reply.now) roots.old roots.new) }
+    ensures stopped { OnErr result
+        (IsStopped (goes_out attempt.now reply.now) roots.old roots.new) }
 {
-    let Some(packet) = reply else {
-        return Ok(false);
-    };
+    match reply {
+        None => Ok(false),
+        Some(packet) => acknowledge(roots, path, attempt, packet),
+    }
+}
+
+/// The same, where there is one.
+fn acknowledge(
+    roots: &mut Ports,
+    path: &[u8],
+    attempt: &Attempt,
+    packet: &Outgoing,
+) -> Result<bool, AllocError>
+    requires fields { HasFields packet.now.packet }
+    requires bit { has_its_bit packet.now.mark packet.now.packet ≡ true }
+    requires alone { AloneAt (goes_out attempt.now (Some packet.now)) roots.old path.now }
+    ensures plugged { StaysPlugged roots.old roots.new }
+    ensures lost { IfOk result (λ lost. lost
+        ≡ is_lost (Some packet.now) (goes_out attempt.now (Some packet.now)) roots.old) }
+    ensures ports { OnOk result (roots.new
+        ≡ passed (goes_out attempt.now (Some packet.now)) roots.old) }
+    ensures alone { AloneAt None roots.new path.now }
+    ensures stopped { OnErr result
+        (IsStopped (goes_out attempt.now (Some packet.now)) roots.old roots.new) }
+{
     let sent = goes_out(attempt, packet);
     let mut unanswered = usb_device::Heard::NoAnswer;
     if let Mark::Flipped(_) = packet.mark {
@@ -379,30 +406,38 @@ fn send_reply(
     }
 }
 
-#[tactic(auto, unfolding(crate::specs::Exchange::token_of))]
-fn token_of(attempt: &Attempt) -> Packet
+/// The token as damage leaves it.
+#[tactic(auto, unfolding(crate::specs::Exchange::token_of, crate::specs::Wire::marked))]
+fn put_token(attempt: &Attempt, damage: Option<Damage>, token: &mut Outgoing)
     requires { IsAttempt attempt.now }
-    ensures value { result ≡ token_of attempt.now }
-    ensures fields { HasFields result }
+    ensures value { token.new ≡ marked damage 1 attempt.now.pre (token_of attempt.now) }
+    ensures fields { HasFields token.new.packet }
+    ensures bit { has_its_bit token.new.mark token.new.packet ≡ true }
 {
-    Packet::Token {
+    token.packet = Packet::Token {
         kind: attempt.kind,
         addr: attempt.addr,
         ep: attempt.ep,
-    }
+    };
+    token.mark = mark_of(harm_to(damage, 1), attempt.pre, &token.packet);
 }
 
-#[tactic(auto, unfolding(crate::specs::Exchange::payload_of))]
-fn payload_of(attempt: &Attempt) -> Option<Packet>
-    ensures value { result ≡ payload_of attempt.now }
-    ensures fields { IfSome result HasFields }
+/// The host's data as damage leaves them, where it sends some.
+#[tactic(auto, unfolding(crate::specs::Exchange::payload_of, crate::specs::Wire::marked_some))]
+fn put_payload(attempt: &Attempt, damage: Option<Damage>, payload: &mut Option<Outgoing>)
+    ensures value { payload.new ≡ marked_some damage 2 attempt.now.pre (payload_of attempt.now) }
+    ensures fields { IfSome payload.new (λ s. HasFields s.packet) }
+    ensures bit { IfSome payload.new (λ s. has_its_bit s.mark s.packet ≡ true) }
 {
     match &attempt.payload {
-        None => None,
-        Some((toggle, bytes)) => Some(Packet::Payload {
-            toggle: *toggle,
-            bytes: copied(bytes),
-        }),
+        None => *payload = None,
+        Some((toggle, bytes)) => {
+            let packet = Packet::Payload {
+                toggle: *toggle,
+                bytes: copied(bytes),
+            };
+            *payload = Some(marked(damage, 2, attempt.pre, packet));
+        }
     }
 }
 
@@ -414,28 +449,44 @@ fn copied(bytes: &ArrayVec<u8, 64>) -> ArrayVec<u8, 64>
     copy
 }
 
-/// The host's ACK, where it reads data of at most `max` bytes.
+/// Whether the host reads data of at most `max` bytes, and so answers by ACK.
 #[tactic(auto, unfolding(crate::specs::Exchange::reply_of))]
-fn reply_of(answer: &Heard, mark: Mark, max: u8) -> Option<Packet>
-    ensures value { result ≡ reply_of answer.now mark max }
-    ensures fields { IfSome result HasFields }
+fn is_acknowledged(answer: &Heard, mark: Mark, max: u8) -> bool
+    ensures { ack_if result ≡ reply_of answer.now mark max }
 {
     match answer {
         Heard::One(Packet::Payload { toggle: _, bytes }) => {
-            if mark.is_read() && bytes.len() <= usize::from(max) {
-                Some(Packet::Ack)
-            } else {
-                None
-            }
+            mark.is_read() && bytes.len() <= usize::from(max)
         }
-        _ => None,
+        _ => false,
     }
 }
 
-/// What an attempt gives the host: data of at most `max` bytes, or a handshake, where it reads the answer.
+/// The host's ACK as damage leaves it, where it answers by one.
+#[tactic(auto, unfolding(crate::specs::Wire::marked_some))]
+fn put_reply(
+    attempt: &Attempt,
+    damage: Option<Damage>,
+    place: u8,
+    acknowledged: bool,
+    reply: &mut Option<Outgoing>,
+)
+    ensures value { reply.new ≡ marked_some damage place attempt.now.pre (ack_if acknowledged) }
+    ensures fields { IfSome reply.new (λ s. HasFields s.packet) }
+    ensures bit { IfSome reply.new (λ s. has_its_bit s.mark s.packet ≡ true) }
+{
+    if acknowledged {
+        *reply = Some(marked(damage, place, attempt.pre, Packet::Ack));
+    } else {
+        *reply = None;
+    }
+}
+
+/// What an attempt gives the host: data of at most `max` bytes, or a handshake, where it reads the
+/// answer.
 #[tactic(auto, unfolding(crate::specs::Exchange::outcome_of))]
-pub fn outcome_of(answer: Heard, mark: Mark, max: u8) -> Outcome
-    ensures value { result ≡ outcome_of answer mark max }
+pub fn outcome_of(answer: &Heard, mark: Mark, max: u8) -> Outcome
+    ensures value { result ≡ outcome_of answer.now mark max }
     ensures fits { FitsMaximum max result }
 {
     if !mark.is_read() {
@@ -444,7 +495,7 @@ pub fn outcome_of(answer: Heard, mark: Mark, max: u8) -> Outcome
     match answer {
         Heard::One(Packet::Payload { toggle, bytes }) => {
             if bytes.len() <= usize::from(max) {
-                Outcome::Payload(toggle, bytes)
+                Outcome::Payload(*toggle, copied(bytes))
             } else {
                 Outcome::Nothing
             }

@@ -22,24 +22,24 @@ pub struct Plan {
 }
 
 impl Model for Plan {
-    ghost use Rattle.usb_world.specs.PlanData.{PlanData, IsPlan};
+    ghost use Rattle.usb_world.specs.PlanData.{PlanData, IsPlan, plan_data};
 
     ghost Value = { PlanData };
 
-    ghost view = { λ p. record { limit = p.limit; roots = p.roots; devices = p.devices; events = p.events; damages = p.damages } };
+    ghost view = { λ p. plan_data p.limit p.roots p.devices p.events p.damages };
 
-    ghost invariant = { λ p. IsPlan (record { limit = p.limit; roots = p.roots; devices = p.devices; events = p.events; damages = p.damages }) };
+    ghost invariant = { λ p. IsPlan (plan_data p.limit p.roots p.devices p.events p.damages) };
 }
 
 impl Plan {
     ghost use Rattle.std.specs.Prelude.{◌≡◌, ◌≤◌, length};
-    ghost use Rattle.usb_world.specs.PlanData.{PlanData, IsPlan};
-    ghost use Rattle.usb_world.specs.PluggedAt.{AtPorts};
+    ghost use Rattle.usb_world.specs.PlanData.{PlanData, IsPlan, plan_data};
+    ghost use Rattle.usb_world.specs.PlanCourses.{AtPorts};
 
     /// The plan of these parts.
     pub fn new(limit: u64, roots: u8, devices: Devices, events: Events, damages: Damages) -> Self
-        requires { IsPlan (record { limit = limit; roots = roots; devices = devices; events = events; damages = damages }) }
-        ensures { result ≡ record { limit = limit; roots = roots; devices = devices; events = events; damages = damages } }
+        requires { IsPlan (plan_data limit roots devices events damages) }
+        ensures { result ≡ plan_data limit roots devices events damages }
     {
         Plan {
             limit,

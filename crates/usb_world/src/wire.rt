@@ -1,7 +1,7 @@
 //! Packets on their way, and what damage does to them.
-ghost use Rattle.std.specs.Prelude.{◌≡◌, ◌*◌, ◌<◌, length, true, IfSome};
+ghost use Rattle.std.specs.Prelude.{◌≡◌, ◌*◌, ◌<◌, length, true};
 ghost use Rattle.usb_packet.specs.Spelling.{HasFields, flipped};
-ghost use Rattle.usb_world.specs.Wire.{damage_of, harm_to, bit_count, mark_of, is_read, has_its_bit, marked, marked_some};
+ghost use Rattle.usb_world.specs.Wire.{damage_of, harm_to, bit_count, mark_of, is_read, has_its_bit, marked};
 
 use crate::damage::{Damage, Harm};
 use arrayvec::ArrayVec;
@@ -21,7 +21,8 @@ pub enum Mark {
 }
 
 impl Mark {
-    /// Whether a listener reads the packet: it is not lost, and no bit of it is wrong (8.3.1 and 8.3.5).
+    /// Whether a listener reads the packet: it is not lost, and no bit of it is wrong (8.3.1 and
+    /// 8.3.5).
     #[tactic(auto, unfolding(crate::specs::Wire::is_read))]
     pub fn is_read(self) -> bool
         ensures { result ≡ is_read self }
@@ -113,24 +114,6 @@ pub(crate) fn marked(damage: Option<Damage>, place: u8, pre: bool, packet: Packe
 {
     let mark = mark_of(harm_to(damage, place), pre, &packet);
     Outgoing { packet, mark }
-}
-
-#[tactic(auto, unfolding(crate::specs::Wire::marked_some))]
-pub(crate) fn marked_some(
-    damage: Option<Damage>,
-    place: u8,
-    pre: bool,
-    packet: Option<Packet>,
-) -> Option<Outgoing>
-    requires { IfSome packet HasFields }
-    ensures value { result ≡ marked_some damage place pre packet }
-    ensures fields { IfSome result (λ s. HasFields s.packet) }
-    ensures bit { IfSome result (λ s. has_its_bit s.mark s.packet ≡ true) }
-{
-    match packet {
-        None => None,
-        Some(packet) => Some(marked(damage, place, pre, packet)),
-    }
 }
 
 /// The bytes with one bit flipped, counted from 0.

@@ -1,39 +1,39 @@
 //! The simulated bus as the host sees it.
-ghost use Rattle.std.specs.Prelude.{◌≡◌, ◌≢◌, ◌+◌, ◌-◌, ◌<◌, ◌≤◌, ◌∷◌, [], length, slice_index_or, true, false, None, IsSome, OnOk, IfOk, IfErr};
+ghost use Rattle.std.specs.Prelude.{◌≡◌, ◌+◌, ◌-◌, ◌<◌, ◌≤◌, ◌∷◌, [], length, slice_index_or, true, false, None};
 ghost use Rattle.usb_port.specs.PortState.{off, status_of};
 ghost use Rattle.usb_device.specs.Tree.{row_of};
-ghost use Rattle.usb_world.specs.World.{Attempted, Spends, AnswerFits, IsAttempt, IsRootPort, IsSetFeature, IsClearFeature};
+ghost use Rattle.usb_world.specs.World.{Attempted, IsAttempt, IsRootPort, IsSetFeature, IsClearFeature};
 ghost use Rattle.usb_device.specs.Delivery.{held, is_clearing, is_twice};
-ghost use Rattle.usb_world.specs.Steps.{AttemptFails, Left, SetsRoot, ClearsRoot, after, attempt as attempt_step, root_call, with_attempt, ready, outcome_in, fault_of};
+ghost use Rattle.usb_world.specs.Steps.{AttemptFails, SetsRoot, ClearsRoot, after, root_call};
 ghost use Rattle.usb_world.specs.Passes.{IsSettled};
-ghost use Rattle.usb_world.specs.Sane.{IsSane};
-ghost use Rattle.usb_bus.specs.Lines.{step_lines};
+ghost use Rattle.usb_world.specs.SanePorts.{IsSane};
 ghost use Rattle.usb_bus.specs.Traced.{Attempts};
-ghost use Rattle.usb_bus.specs.Watch.{inner_of, has_failed, Writes};
-ghost use Rattle.usb_world.specs.declared.types.BusFault.TheVariants.{LimitReached, TraceFailed};
+ghost use Rattle.usb_bus.specs.Watch.{has_failed};
+ghost use Rattle.usb_world.specs.declared.types.BusFault.TheVariants.{TraceFailed};
 
 use super::SimBus;
-use super::lines::put_attempt;
 use crate::{Attempt, Bus, BusFault, Outcome};
 use std::io::Write;
 use usb_device::{PortCall, Ports};
 use usb_world::{damage_of, make_exchange_by, outcome_of};
 
 impl<W: Write> Bus for SimBus<W> {
-    ghost use Rattle.usb_bus.specs.Sim.{world_of, writer_of};
+    ghost use Rattle.usb_bus.specs.Parts.{RefusesAttempt};
+    ghost use Rattle.usb_bus.specs.Sim.{world_of, writer_of, trace_of};
 
     ghost world = { world_of };
 
-    ghost trace = { λ s. W.contents (inner_of (writer_of s)) };
+    ghost trace = { trace_of };
 
     fn attempt(&mut self, attempt: &Attempt) -> Result<Outcome, BusFault>
         requires { IsAttempt attempt.now }
-        ensures attempts { Attempts attempt.now (world_of self.old) (W.contents (inner_of (writer_of self.old))) result (world_of self.new) (W.contents (inner_of (writer_of self.new))) }
+        ensures attempts { Attempts attempt.now (world_of self.old) (trace_of self.old) result
+            (world_of self.new) (trace_of self.new) }
         ensures settled { IsSettled (world_of self.old).roots }
         ensures sane { (world_of self.old).fault ≡ None → IsSane (world_of self.old).roots }
-        ensures trace { result ≡ Err TraceFailed → (world_of self.old).fault ≡ None → has_failed (writer_of self.new) ≡ true }
-        ensures refused { result ≡ Err LimitReached → (world_of self.new ≡ after (attempt_step attempt.now) (world_of self.old)) × (writer_of self.new ≡ writer_of self.old) }
-        ensures again { IsSome (world_of self.old).fault → self.new ≡ self.old }
+        ensures trace { result ≡ Err TraceFailed → (world_of self.old).fault ≡ None
+            → has_failed (writer_of self.new) ≡ true }
+        ensures refuses { RefusesAttempt attempt.now self.old result self.new }
     {
         if let Some(fault) = self.fault {
             return Err(fault);
@@ -49,19 +49,19 @@ impl<W: Write> Bus for SimBus<W> {
         self.roots.count() as u8
     }
 
-    #[tactic(auto, unfolding(usb_world::specs::World::port_at))]
+    #[tactic(auto, unfolding(usb_world::specs::World::root_port_at))]
     fn root_status(&self, port: u8) -> [u8; 4] {
         status_of(&self.roots, port)
     }
 
-    #[tactic(auto, using(usb_world::proofs::Counts::set_ends, usb_world::proofs::Counts::set_none))]
+    #[tactic(auto, using(usb_world::proofs::Interface::set_ends, usb_world::proofs::Interface::set_none))]
     fn root_set(&mut self, port: u8, feature: u16) {
         if let Some(call) = PortCall::of_set(feature) {
             self.call_root(port, call);
         }
     }
 
-    #[tactic(auto, using(usb_world::proofs::Counts::clear_ends, usb_world::proofs::Counts::clear_none))]
+    #[tactic(auto, using(usb_world::proofs::Interface::clear_ends, usb_world::proofs::Interface::clear_none))]
     fn root_clear(&mut self, port: u8, feature: u16) {
         if let Some(call) = PortCall::of_clear(feature) {
             self.call_root(port, call);
@@ -70,7 +70,8 @@ impl<W: Write> Bus for SimBus<W> {
 }
 
 impl<W: Write> SimBus<W> {
-    ghost use Rattle.usb_bus.specs.Sim.{world_of, writer_of};
+    ghost use Rattle.usb_bus.specs.Parts.{AttemptMade};
+    ghost use Rattle.usb_bus.specs.Sim.{world_of, writer_of, trace_of};
 
     /// A call at a root port.
     #[tactic(auto, unfolding(usb_world::specs::Steps::after))]
@@ -89,15 +90,8 @@ impl<W: Write> SimBus<W> {
         requires attempt { IsAttempt attempt.now }
         requires sound { (world_of self.old).fault ≡ None }
         requires within { (world_of self.old).attempts < (world_of self.old).limit }
-        ensures spends { Spends 1 (world_of self.old) (world_of self.new) }
-        ensures one { OnOk result ((world_of self.new).attempts ≡ (world_of self.old).attempts + 1) }
-        ensures fits { AnswerFits attempt.now.max result }
-        ensures exact { OnOk result (world_of self.new ≡ with_attempt attempt.now (ready (world_of self.old))) }
-        ensures left { IfErr result (λ f. Left attempt.now (world_of self.old) f (record (world_of self.new) { fault = None })) }
-        ensures outcome { IfOk result (λ outcome. outcome ≡ outcome_in attempt.now (world_of self.old)) }
-        ensures text { Writes result (W.contents (inner_of (writer_of self.old))) (W.contents (inner_of (writer_of self.new))) (step_lines attempt.now (world_of self.old) (world_of self.new)) }
-        ensures fault { (world_of self.new).fault ≡ fault_of result }
-        ensures other { IfErr result (λ f. f ≢ LimitReached) }
+        ensures made { AttemptMade attempt.now (world_of self.old) (trace_of self.old) result
+            (world_of self.new) (trace_of self.new) }
         ensures trace { result ≡ Err TraceFailed → has_failed (writer_of self.new) ≡ true }
     {
         self.take_due_events()?;
@@ -107,23 +101,29 @@ impl<W: Write> SimBus<W> {
         let damage = damage_of(&self.damages, self.attempts + 1);
         // Where memory is refused, some devices had the host's data and others had not: the fault stands before they go.
         self.fault = Some(BusFault::Memory);
-        let exchange = make_exchange_by(
+        make_exchange_by(
             &mut self.roots,
             &mut self.hints,
             &mut self.single,
             attempt,
             damage,
+            &mut self.exchange,
         )?;
         // All went: only the line can fail.
         self.fault = Some(BusFault::TraceFailed);
         self.attempts += 1;
         self.losses = self
             .losses
-            .after_clearing(exchange.change_cleared)
-            .counted(exchange.address_lost);
-        put_attempt(&mut self.writer, self.attempts, attempt.pre, &exchange)?;
+            .after_clearing(self.exchange.change_cleared)
+            .counted(self.exchange.address_lost);
+        self.tracer
+            .put_attempt(self.attempts, attempt.pre, &self.exchange)?;
         self.fault = None;
-        Ok(outcome_of(exchange.answer, exchange.answer_mark, attempt.max))
+        Ok(outcome_of(
+            &self.exchange.answer,
+            self.exchange.answer_mark,
+            attempt.max,
+        ))
     }
 }
 

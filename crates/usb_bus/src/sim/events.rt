@@ -1,26 +1,27 @@
 //! The events of a plan as they come.
-ghost use Rattle.std.specs.Prelude.{◌≡◌, ◌≢◌, ◌+◌, ◌<◌, ◌≤◌, [], ◌∷◌, ◌++◌, length, true, Ok, Some, None, IfOk, OnOk, OnErr, IfErr, IsTrue, IsSome};
-ghost use Rattle.std.specs.Io.KnownBytes.{Appends};
+ghost use Rattle.std.specs.Prelude.{◌≡◌, ◌+◌, ◌<◌, ◌≤◌, [], ◌∷◌, ◌++◌, length, true, Ok, Some, None, OnOk, OnErr, IsTrue, IsSome};
 ghost use Rattle.usb_device.specs.Tree.{row_of, changed, replaced};
-ghost use Rattle.usb_world.specs.World.{Spends, changes, to_come};
-ghost use Rattle.usb_world.specs.Steps.{Coming, after, event, happened, has_due, ready, took_first, fault_of};
+ghost use Rattle.usb_world.specs.World.{changes, to_come};
+ghost use Rattle.usb_world.specs.Steps.{after, event, happened, has_due};
 ghost use Rattle.usb_world.specs.PlanData.{can_be_done};
-ghost use Rattle.usb_bus.specs.Lines.{action_line, next_due, lines_between};
+ghost use Rattle.usb_bus.specs.Lines.{action_line};
 ghost use Rattle.usb_bus.specs.Trace.{plug_line, unplug_line};
-ghost use Rattle.usb_bus.specs.Traced.{Takes};
-ghost use Rattle.usb_bus.specs.Watch.{inner_of, has_failed, AppendsFront, Writes};
-ghost use Rattle.usb_world.specs.declared.types.BusFault.TheVariants.{LimitReached, Memory, TraceFailed};
+ghost use Rattle.usb_bus.specs.Traced.{TakesEvent};
+ghost use Rattle.usb_bus.specs.Tracer.{writer_in};
+ghost use Rattle.usb_bus.specs.Watch.{has_failed, PutsText};
+ghost use Rattle.usb_world.specs.declared.types.BusFault.TheVariants.{Memory, TraceFailed};
 
 use super::SimBus;
-use crate::watched::put_pieces;
-use crate::{Action, BusFault, Due, Watched, WriteFailed};
+use crate::tracer::Tracer;
+use crate::{Action, BusFault, Due, WriteFailed};
 use std::alloc::{AllocError, Global};
 use std::io::Write;
 use usb_device::{Device, DeviceSpec, Ports};
 use usb_port::PortPath;
 
 impl<W: Write> SimBus<W> {
-    ghost use Rattle.usb_bus.specs.Sim.{world_of, writer_of};
+    ghost use Rattle.usb_bus.specs.Sim.{world_of, writer_of, trace_of};
+    ghost use Rattle.usb_bus.specs.Parts.{OneEventCame, EventsCame};
 
     /// Lets the next event come at once, however many attempts it would wait for, and tells what it asks; None
     /// where no event is left.
@@ -28,8 +29,10 @@ impl<W: Write> SimBus<W> {
     /// Errors: the fault that was told before; `Memory` where the device could not be made, and the event did not
     /// come; `TraceFailed` where the writer failed in this call, and the event came.
     pub fn apply_next_event(&mut self) -> Result<Option<Due>, BusFault>
-        ensures takes { Takes (world_of self.old) (W.contents (inner_of (writer_of self.old))) result (world_of self.new) (W.contents (inner_of (writer_of self.new))) }
-        ensures trace { result ≡ Err TraceFailed → (world_of self.old).fault ≡ None → has_failed (writer_of self.new) ≡ true }
+        ensures takes { TakesEvent (world_of self.old) (trace_of self.old) result
+            (world_of self.new) (trace_of self.new) }
+        ensures trace { result ≡ Err TraceFailed → (world_of self.old).fault ≡ None
+            → has_failed (writer_of self.new) ≡ true }
         ensures kept { result ≡ Err Memory → writer_of self.new ≡ writer_of self.old }
         ensures again { IsSome (world_of self.old).fault → self.new ≡ self.old }
     {
@@ -42,12 +45,8 @@ impl<W: Write> SimBus<W> {
     /// Lets the events come that are due.
     pub(super) fn take_due_events(&mut self) -> Result<(), BusFault>
         requires sound { (world_of self.old).fault ≡ None }
-        ensures spends { Spends 0 (world_of self.old) (world_of self.new) }
-        ensures fault { (world_of self.new).fault ≡ fault_of result }
-        ensures exact { OnOk result (world_of self.new ≡ ready (world_of self.old)) }
-        ensures cut { OnErr result (Coming (world_of self.old) (record (world_of self.new) { fault = None })) }
-        ensures text { Writes result (W.contents (inner_of (writer_of self.old))) (W.contents (inner_of (writer_of self.new))) (lines_between (world_of self.old) (world_of self.new)) }
-        ensures other { IfErr result (λ f. f ≢ LimitReached) }
+        ensures came { EventsCame (world_of self.old) (trace_of self.old) result
+            (world_of self.new) (trace_of self.new) }
         ensures trace { result ≡ Err TraceFailed → has_failed (writer_of self.new) ≡ true }
     {
         'due: while self.is_due() {
@@ -72,20 +71,13 @@ impl<W: Write> SimBus<W> {
     }
 
     /// The next event comes, if one is left.
-    #[tactic(auto, using(crate::proofs::Comings::next_none, crate::proofs::Comings::due_none))]
     fn take_event(&mut self) -> Result<Option<Due>, BusFault>
         requires sound { (world_of self.old).fault ≡ None }
-        ensures spends { Spends 0 (world_of self.old) (world_of self.new) }
-        ensures fault { (world_of self.new).fault ≡ fault_of result }
-        ensures none { result ≡ Ok None → (to_come (world_of self.old) ≡ 0) × (self.new ≡ self.old) }
-        ensures one { IfOk result (λ due. IsSome due → (world_of self.new).taken ≡ (world_of self.old).taken + 1) }
-        ensures fewer { 0 < to_come (world_of self.old) → OnOk result (to_come (world_of self.new) < to_come (world_of self.old)) }
-        ensures asked { IfOk result (λ due. due ≡ next_due (world_of self.old)) }
-        ensures exact { OnOk result (world_of self.new ≡ took_first (world_of self.old).left (world_of self.old)) }
-        ensures text { Writes result (W.contents (inner_of (writer_of self.old))) (W.contents (inner_of (writer_of self.new))) (lines_between (world_of self.old) (world_of self.new)) }
-        ensures kept { result ≡ Err Memory → (world_of self.new ≡ record (world_of self.old) { fault = Some Memory }) × (writer_of self.new ≡ writer_of self.old) }
-        ensures cut { result ≡ Err TraceFailed → world_of self.new ≡ record (took_first (world_of self.old).left (world_of self.old)) { fault = Some TraceFailed } }
-        ensures other { IfErr result (λ f. f ≢ LimitReached) }
+        ensures came { OneEventCame (world_of self.old) (trace_of self.old) result
+            (world_of self.new) (trace_of self.new) }
+        ensures fewer { 0 < to_come (world_of self.old)
+            → OnOk result (to_come (world_of self.new) < to_come (world_of self.old)) }
+        ensures kept { result ≡ Err Memory → writer_of self.new ≡ writer_of self.old }
         ensures trace { result ≡ Err TraceFailed → has_failed (writer_of self.new) ≡ true }
     {
         let Some(event) = self.left.front() else {
@@ -99,7 +91,7 @@ impl<W: Write> SimBus<W> {
         self.attempts_then = self.attempts;
         // The event came: only its line can fail.
         self.fault = Some(BusFault::TraceFailed);
-        put_action(&mut self.writer, &self.devices, &event.action)?;
+        put_action(&mut self.tracer, &self.devices, &event.action)?;
         self.fault = None;
         Ok(Some(Due::from(event.action)))
     }
@@ -145,21 +137,22 @@ fn plug(
 }
 
 /// The line of an event.
-#[tactic(auto, unfolding(crate::specs::Lines::action_line))]
+#[tactic(auto, unfolding(crate::specs::Lines::action_line), using(crate::proofs::Fronts::puts_unknown, crate::proofs::Fronts::puts_none))]
 fn put_action<W: Write>(
-    writer: &mut Watched<W>,
+    tracer: &mut Tracer<W>,
     devices: &[DeviceSpec],
     action: &Action,
 ) -> Result<(), WriteFailed>
     requires { can_be_done (length devices.now) action.now ≡ true }
-    ensures front { AppendsFront (W.contents (inner_of writer.old)) (W.contents (inner_of writer.new)) (action_line action.now devices.now) }
-    ensures ok { OnOk result (Appends (W.contents (inner_of writer.old)) (W.contents (inner_of writer.new)) (action_line action.now devices.now)) }
-    ensures unmarked { OnOk result (has_failed writer.new ≡ has_failed writer.old) }
-    ensures marked { OnErr result (has_failed writer.new ≡ true) }
+    ensures { PutsText W.contents (writer_in tracer.old) result (writer_in tracer.new)
+        (action_line action.now devices.now) }
 {
+    if tracer.is_silent() {
+        return Ok(());
+    }
     match action {
-        Action::Plug(path, device) => put_plug(writer, path, devices[*device].name()),
-        Action::Unplug(path) => put_unplug(writer, path),
+        Action::Plug(path, device) => put_plug(tracer, path, devices[*device].name()),
+        Action::Unplug(path) => put_unplug(tracer, path),
         Action::Show => Ok(()),
         Action::Send(_, _) => Ok(()),
         Action::Receive(_, _) => Ok(()),
@@ -169,36 +162,26 @@ fn put_action<W: Write>(
 
 /// The line of a plug.
 fn put_plug<W: Write>(
-    writer: &mut Watched<W>,
+    tracer: &mut Tracer<W>,
     path: &PortPath,
     name: &str,
 ) -> Result<(), WriteFailed>
-    ensures front { AppendsFront (W.contents (inner_of writer.old)) (W.contents (inner_of writer.new)) (plug_line path.now name.now ++ 10 ∷ []) }
-    ensures ok { OnOk result (Appends (W.contents (inner_of writer.old)) (W.contents (inner_of writer.new)) (plug_line path.now name.now ++ 10 ∷ [])) }
-    ensures unmarked { OnOk result (has_failed writer.new ≡ has_failed writer.old) }
-    ensures marked { OnErr result (has_failed writer.new ≡ true) }
+    ensures { PutsText W.contents (writer_in tracer.old) result (writer_in tracer.new)
+        (plug_line path.now name.now ++ 10 ∷ []) }
 {
-    put_pieces(
-        writer,
-        &[
-            b"plug ",
-            path.text().as_str().as_bytes(),
-            b" ",
-            name.as_bytes(),
-            b"\n",
-        ],
-    )
+    tracer.put_pieces(&[
+        b"plug ",
+        path.text().as_str().as_bytes(),
+        b" ",
+        name.as_bytes(),
+        b"\n",
+    ])
 }
 
 /// The line of an unplug.
-fn put_unplug<W: Write>(writer: &mut Watched<W>, path: &PortPath) -> Result<(), WriteFailed>
-    ensures front { AppendsFront (W.contents (inner_of writer.old)) (W.contents (inner_of writer.new)) (unplug_line path.now ++ 10 ∷ []) }
-    ensures ok { OnOk result (Appends (W.contents (inner_of writer.old)) (W.contents (inner_of writer.new)) (unplug_line path.now ++ 10 ∷ [])) }
-    ensures unmarked { OnOk result (has_failed writer.new ≡ has_failed writer.old) }
-    ensures marked { OnErr result (has_failed writer.new ≡ true) }
+fn put_unplug<W: Write>(tracer: &mut Tracer<W>, path: &PortPath) -> Result<(), WriteFailed>
+    ensures { PutsText W.contents (writer_in tracer.old) result (writer_in tracer.new)
+        (unplug_line path.now ++ 10 ∷ []) }
 {
-    put_pieces(
-        writer,
-        &[b"unplug ", path.text().as_str().as_bytes(), b"\n"],
-    )
+    tracer.put_pieces(&[b"unplug ", path.text().as_str().as_bytes(), b"\n"])
 }

@@ -10,9 +10,10 @@ use super::step::Speed::Full;
 use super::step::Step;
 use super::watched::Frail;
 use std::alloc::{AllocError, Global};
-use std::str;
+use std::io::Write;
 use std::test::Fail;
-use usb_bench::bus_on;
+use std::{io, str};
+use usb_bench::{bus_on, untraced_on};
 use usb_bus::{SimBus, Watched};
 
 /// How many writes there may be, and what becomes of the enumeration of a function and its trace.
@@ -126,7 +127,7 @@ enum Course {
     Otherwise,
 }
 
-fn enumeration(alloc: Global, bus: &mut SimBus<Frail>) -> Result<Course, AllocError> {
+fn enumeration<W: Write>(alloc: Global, bus: &mut SimBus<W>) -> Result<Course, AllocError> {
     if otherwise(alloc, bus, ENUMERATION, &[])?.is_empty() {
         return Ok(Course::Whole);
     }
@@ -204,5 +205,16 @@ fn to_low_device(alloc: Global) -> Result<String, Fail> {
 #[test]
 fn a_low_speed_device_below_a_hub_is_read(rt: HostRuntime) -> Result<(), Fail> {
     assert_eq!(rt; to_low_device(rt.alloc())?.as_str(), TO_LOW_DEVICE_TRACE);
+    Ok(())
+}
+
+/// An untraced bus never calls its writer.
+#[test]
+fn untraced_bus_calls_no_writer(rt: HostRuntime) -> Result<(), Fail> {
+    let text = joined(rt.alloc(), ONE_FUNCTION)?;
+    let mut bus = untraced_on(rt.alloc(), text.as_str(), Watched::new(io::sink()))?;
+    let course = enumeration(rt.alloc(), &mut bus)?;
+    assert!(rt; matches!(course, Course::Whole));
+    assert_eq!(rt; bus.into_writer().calls(), 0);
     Ok(())
 }

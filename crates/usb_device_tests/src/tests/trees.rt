@@ -9,7 +9,7 @@ use TreeStep::{
 };
 use std::alloc::{AllocError, Global};
 use std::test::Fail;
-use usb_device::{PortCall, Ports};
+use usb_device::{Passing, PortCall, Ports};
 
 #[derive(Clone, Copy)]
 enum TreeStep {
@@ -177,7 +177,7 @@ fn is_so(ports: &mut Ports, step: TreeStep) -> bool {
 /// Whether the ports tell what a step says; other steps say nothing of that.
 fn tells(ports: &Ports, step: TreeStep) -> bool {
     match step {
-        Clears(host, is) => ports.clears_change(&going_out(Full, host)) == is,
+        Clears(host, is) => ports.clears_change(&Passing::of(&going_out(Full, host))) == is,
         IsDevice(path, is) => ports.device_at(path).is_some() == is,
         IsEnabled(number, is) => is_enabled(ports, number) == is,
         HasShared(is) => ports.has_shared_address() == is,

@@ -1,6 +1,6 @@
 //! Calls on root port 1, and requests to the function that is plugged there.
 ghost use Rattle.std.specs.Prelude.{◌≤◌, ◌<◌};
-ghost use Rattle.usb_transaction.specs.Trans.{IsTarget};
+ghost use Rattle.usb_transaction.specs.Transactions.{IsTarget};
 
 use std::alloc::{AllocError, Global};
 use std::test::Fail;

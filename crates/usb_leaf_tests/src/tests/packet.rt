@@ -1,7 +1,7 @@
-//! Packets with their bytes and their text, bytes that spell none, and the digits of a byte.
+//! Packets with their bytes and their text, bytes that spell none, digits, and toggles.
 use arrayvec::{ArrayString, ArrayVec};
 use std::fmt::Write;
-use usb_packet::{PacketFault, decode, encode, hex_digits, packet_text};
+use usb_packet::{PacketFault, Toggle, decode, encode, hex_digits, packet_text, push_decimal};
 
 struct PacketRow {
     bytes: &'static [u8],
@@ -130,5 +130,39 @@ fn bytes_that_spell_no_packet(rt: HostRuntime) {
 fn digits_in_upper_case(rt: HostRuntime) {
     for row in DIGITS {
         assert_eq!(rt; hex_digits(row.byte), row.digits, "of {}", row.byte);
+    }
+}
+
+/// Numbers and their decimal digits.
+const NUMBERS: &[(u64, &str)] = &[
+    (0, "0"),
+    (9, "9"),
+    (10, "10"),
+    (2047, "2047"),
+    (18446744073709551615, "18446744073709551615"),
+];
+
+#[test]
+fn digits_of_numbers(rt: HostRuntime) {
+    for (number, digits) in NUMBERS {
+        let mut line = ArrayString::new();
+        push_decimal(&mut line, *number);
+        assert_eq!(rt; line.as_str(), *digits, "{number}");
+    }
+}
+
+/// A toggle, another, and whether they are the same.
+const TOGGLES: &[(Toggle, Toggle, bool)] = &[
+    (Toggle::Zero, Toggle::Zero, true),
+    (Toggle::Zero, Toggle::One, false),
+    (Toggle::One, Toggle::Zero, false),
+    (Toggle::One, Toggle::One, true),
+];
+
+#[test]
+fn toggles_alternate(rt: HostRuntime) {
+    for (awaited, given, same) in TOGGLES {
+        let told = (awaited.is_same(*given), awaited.is_same(given.other()));
+        assert_eq!(rt; told, (*same, !*same), "{awaited:?} {given:?}");
     }
 }

@@ -1,9 +1,6 @@
 //! A port step by step, what its status says, and paths of ports.
 use arrayvec::ArrayString;
-use usb_port::{Port, PortPath, PortStatus, UnknownFeature};
-use usb_request::feature::{
-    C_PORT_CONNECTION, C_PORT_ENABLE, C_PORT_RESET, PORT_ENABLE, PORT_POWER, PORT_RESET,
-};
+use usb_port::{Port, PortPath, PortStatus};
 
 /// What is done to a port, or asked of it.
 #[derive(Clone, Copy, Debug)]
@@ -13,10 +10,13 @@ enum Step {
     PlugLow,
     PlugFull,
     Unplug,
-    /// A feature is set, by its number.
-    Set,
-    /// A feature is cleared, by its number.
-    Clear,
+    PowerOn,
+    Reset,
+    Disable,
+    PowerOff,
+    ClearConnection,
+    ClearEnable,
+    ClearReset,
     IsAttached,
     IsLowSpeed,
     IsPowered,
@@ -24,15 +24,20 @@ enum Step {
     HasChange,
 }
 
-/// The answer to what is asked; of what is done, whether the table names it.
-fn take_step(port: &mut Port, step: Step, feature: u16) -> bool {
+/// The answer to what is asked; true of what is done.
+fn take_step(port: &mut Port, step: Step) -> bool {
     match step {
         Step::New => *port = Port::new(),
         Step::PlugLow => port.plug(true),
         Step::PlugFull => port.plug(false),
         Step::Unplug => port.unplug(),
-        Step::Set => return port.set_feature(feature) != Err(UnknownFeature),
-        Step::Clear => return port.clear_feature(feature) != Err(UnknownFeature),
+        Step::PowerOn => port.power_on(),
+        Step::Reset => port.reset(),
+        Step::Disable => port.disable(),
+        Step::PowerOff => port.power_off(),
+        Step::ClearConnection => port.clear_connection_change(),
+        Step::ClearEnable => port.clear_enable_change(),
+        Step::ClearReset => port.clear_reset_change(),
         Step::IsAttached => return port.is_attached(),
         Step::IsLowSpeed => return port.is_low_speed(),
         Step::IsPowered => return port.is_powered(),
@@ -42,52 +47,39 @@ fn take_step(port: &mut Port, step: Step, feature: u16) -> bool {
     true
 }
 
-/// A step with its feature, 0 where it has none, its answer, and the port's status after it.
-const STEPS: &[(Step, u16, bool, [u8; 4])] = &[
+/// A step with its answer, and the port's status after it.
+const STEPS: &[(Step, bool, [u8; 4])] = &[
     // from power to unplug
-    (Step::New, 0, true, [0, 0, 0, 0]),
-    (Step::PlugLow, 0, true, [0, 0, 0, 0]),
-    (Step::IsAttached, 0, true, [0, 0, 0, 0]),
-    (Step::IsLowSpeed, 0, true, [0, 0, 0, 0]),
-    (Step::IsPowered, 0, false, [0, 0, 0, 0]),
-    (Step::Set, PORT_POWER, true, [1, 3, 1, 0]),
-    (Step::Clear, C_PORT_CONNECTION, true, [1, 3, 0, 0]),
-    (Step::Set, PORT_RESET, true, [3, 3, 0x10, 0]),
-    (Step::IsEnabled, 0, true, [3, 3, 0x10, 0]),
-    (Step::HasChange, 0, true, [3, 3, 0x10, 0]),
-    (Step::Clear, C_PORT_RESET, true, [3, 3, 0, 0]),
-    (Step::HasChange, 0, false, [3, 3, 0, 0]),
-    (Step::Unplug, 0, true, [0, 1, 1, 0]),
+    (Step::New, true, [0, 0, 0, 0]),
+    (Step::PlugLow, true, [0, 0, 0, 0]),
+    (Step::IsAttached, true, [0, 0, 0, 0]),
+    (Step::IsLowSpeed, true, [0, 0, 0, 0]),
+    (Step::IsPowered, false, [0, 0, 0, 0]),
+    (Step::PowerOn, true, [1, 3, 1, 0]),
+    (Step::ClearConnection, true, [1, 3, 0, 0]),
+    (Step::Reset, true, [3, 3, 0x10, 0]),
+    (Step::IsEnabled, true, [3, 3, 0x10, 0]),
+    (Step::HasChange, true, [3, 3, 0x10, 0]),
+    (Step::ClearReset, true, [3, 3, 0, 0]),
+    (Step::HasChange, false, [3, 3, 0, 0]),
+    (Step::Unplug, true, [0, 1, 1, 0]),
     // reset with nothing attached, then disabled and switched off
-    (Step::New, 0, true, [0, 0, 0, 0]),
-    (Step::Set, PORT_POWER, true, [0, 1, 0, 0]),
-    (Step::Set, PORT_RESET, true, [0, 1, 0, 0]),
-    (Step::PlugFull, 0, true, [1, 1, 1, 0]),
-    (Step::Set, PORT_RESET, true, [3, 1, 0x11, 0]),
-    (Step::Clear, PORT_ENABLE, true, [1, 1, 0x11, 0]),
-    (Step::Clear, C_PORT_ENABLE, true, [1, 1, 0x11, 0]),
-    (Step::Clear, PORT_POWER, true, [0, 0, 0, 0]),
-    // features that the table does not name for the call
-    (Step::Set, 0, false, [0, 0, 0, 0]),
-    (Step::Set, 1, false, [0, 0, 0, 0]),
-    (Step::Set, 2, false, [0, 0, 0, 0]),
-    (Step::Set, 16, false, [0, 0, 0, 0]),
-    (Step::Set, 20, false, [0, 0, 0, 0]),
-    (Step::Set, 0x108, false, [0, 0, 0, 0]),
-    (Step::Clear, 0, false, [0, 0, 0, 0]),
-    (Step::Clear, 2, false, [0, 0, 0, 0]),
-    (Step::Clear, 4, false, [0, 0, 0, 0]),
-    (Step::Clear, 18, false, [0, 0, 0, 0]),
-    (Step::Clear, 19, false, [0, 0, 0, 0]),
-    (Step::Clear, 0x110, false, [0, 0, 0, 0]),
+    (Step::New, true, [0, 0, 0, 0]),
+    (Step::PowerOn, true, [0, 1, 0, 0]),
+    (Step::Reset, true, [0, 1, 0, 0]),
+    (Step::PlugFull, true, [1, 1, 1, 0]),
+    (Step::Reset, true, [3, 1, 0x11, 0]),
+    (Step::Disable, true, [1, 1, 0x11, 0]),
+    (Step::ClearEnable, true, [1, 1, 0x11, 0]),
+    (Step::PowerOff, true, [0, 0, 0, 0]),
 ];
 
 #[test]
 fn a_port_by_its_table(rt: HostRuntime) {
     let mut port = Port::new();
-    for (step, feature, answer, status) in STEPS {
-        let told = (take_step(&mut port, *step, *feature), port.status());
-        assert_eq!(rt; told, (*answer, *status), "{step:?} {feature}");
+    for (step, answer, status) in STEPS {
+        let told = (take_step(&mut port, *step), port.status());
+        assert_eq!(rt; told, (*answer, *status), "{step:?}");
     }
 }
 

@@ -1,5 +1,5 @@
 //! The requests that make a device ready, and what a row tells: its answers and its trace.
-ghost use Rattle.usb_transaction.specs.Trans.{IsTarget};
+ghost use Rattle.usb_transaction.specs.Transactions.{IsTarget};
 
 use std::alloc::Global;
 use std::test::Fail;

@@ -6,7 +6,7 @@ use Rattle.usb_enum.specs.Bounds.{configuration_bound}
 use Rattle.usb_enum.specs.Learned.{Learns}
 use Rattle.usb_enum.specs.Readings.{AtMaximum, HasConfigurations}
 use Rattle.usb_enum.specs.Text.{has_value}
-use Rattle.usb_bus.proofs.Wents.{went_none}
+use Rattle.usb_bus.proofs.Interface.{went_none}
 use Rattle.usb_enum.proofs.Frames.{asks_none, asks_then}
 use Rattle.usb_enum.proofs.Counts.{went_again, went_times, went_more}
 use Rattle.usb_enum.proofs.ConfigRefusals.{reading_failed, reading_refused, repeated_refused}

@@ -1,8 +1,8 @@
 use Rattle.std.proofs.Common.{◌∙◌, arith, sym}
-use Rattle.usb_bus.proofs.Wents.{went_wider}
+use Rattle.usb_bus.proofs.Interface.{went_wider}
 use Rattle.usb_hub.specs.Asked.{config_given}
 use Rattle.usb_enum.proofs.Frames.{asks_then, text_asks}
-use Rattle.usb_enum.specs.Stop.{Told}
+use Rattle.usb_enum.specs.Stop.{StopTold}
 use Rattle.usb_enum.proofs.Counts.{text_went}
 use Rattle.usb_enum.specs.Readings.{AtMaximum, HasTotal}
 use Rattle.usb_enum.specs.Described.{config_fault}
@@ -42,7 +42,7 @@ returns-in-None-clause-keeps g c = asks_then _ _ _ _ c.total_length.ensures.keep
 
 pub returns-in_err-bytes-clause-told : goal.returns-in_err-bytes-clause-told
 returns-in_err-bytes-clause-told g c =
-    handed_on c.from_residual-in_err-bytes.result (λ stop. Told stop (g.B.Bus.world c.get_config.new.bus)) c.in_err-bytes.field-0.0 c.from_residual-in_err-bytes.ensures.1
+    handed_on c.from_residual-in_err-bytes.result (λ stop. StopTold stop (g.B.Bus.world c.get_config.new.bus)) c.in_err-bytes.field-0.0 c.from_residual-in_err-bytes.ensures.1
     (refused_told _ 3 1 _ _ c.get_config.result _ (sym c.answered_or.ensures ∙ c.in_err-bytes.was) tt c.get_config.ensures.asked.ends)
 
 pub returns-in-Some-clause-learned : goal.returns-in-Some-clause-learned

@@ -1,6 +1,6 @@
 use Rattle.std.proofs.Common.{◌∙◌, ap, sym}
 use Rattle.usb_descriptor.specs.Config.{config_head_of}
-use Rattle.usb_enum.specs.Stop.{Told}
+use Rattle.usb_enum.specs.Stop.{StopTold}
 use Rattle.usb_hub.specs.Asked.{config_given}
 use Rattle.usb_enum.proofs.Frames.{text_asks}
 use Rattle.usb_enum.proofs.Counts.{read_went}
@@ -21,7 +21,7 @@ returns-clause-went g c = read_went c.args.target.max 9 _ _ c.requires.max c.get
 
 pub returns-in_err-head-clause-told : goal.returns-in_err-head-clause-told
 returns-in_err-head-clause-told g c =
-    handed_on c.from_residual.result (λ stop. Told stop (g.B.Bus.world c.get_config.new.bus)) c.in_err-head.field-0.0 c.from_residual.ensures.1
+    handed_on c.from_residual.result (λ stop. StopTold stop (g.B.Bus.world c.get_config.new.bus)) c.in_err-head.field-0.0 c.from_residual.ensures.1
     (refused_told _ 3 1 _ _ c.get_config.result _ (sym c.answered_or.ensures ∙ c.in_err-head.was) tt c.get_config.ensures.asked.ends)
 
 pub returns-in-Ok-clause-learned : goal.returns-in-Ok-clause-learned

@@ -9,7 +9,7 @@ use Rattle.usb_enum.specs.Refusals.{configured_fault}
 use Rattle.usb_enum.proofs.Refusals.{fault_explains, handed_match}
 use Rattle.usb_enum.proofs.SettingRefusals.{deep_refused, read_refused, power_refused, set_refused, hub_refused, strings_refused}
 use Rattle.usb_enum.proofs.Settings.{listed_learns, set_learned, set_then}
-use Rattle.usb_bus.proofs.Wents.{went_none, went_then, went_wider}
+use Rattle.usb_bus.proofs.Interface.{went_none, went_then, went_wider}
 use Rattle.usb_enum.proofs.Frames.{asks_none, sets_asked, sets_at, sets_told, sets_then, configuration_sets}
 use Rattle.usb_enum.proofs.Counts.{went_on}
 use Rattle.usb_enum.specs.Stop.{ToldOfDevice}

@@ -1,6 +1,6 @@
 use Rattle.std.proofs.Common.{arith, subst}
-use Rattle.usb_bus.proofs.Wents.{went_wider}
-use Rattle.usb_hub.proofs.Ports.{port_stays}
+use Rattle.usb_bus.proofs.Interface.{went_wider}
+use Rattle.usb_hub.proofs.Interface.{port_stays}
 use Rattle.usb_enum.proofs.Counts.{went_on}
 use Rattle.usb_resources.specs.Pool.{HasAddresses, IsFull}
 use Rattle.usb_enum.proofs.Endings.{zero_untaken, zero_before, free_untaken, enumerated, given_up, none_true, found_true, device_placed, refused_placed, device_warranted, stopped_warranted}

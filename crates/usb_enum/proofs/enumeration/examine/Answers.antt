@@ -1,5 +1,5 @@
 use Rattle.std.proofs.Common.{arith}
-use Rattle.usb_bus.proofs.Wents.{went_wider}
+use Rattle.usb_bus.proofs.Interface.{went_wider}
 use Rattle.usb_enum.proofs.Counts.{went_on}
 use Rattle.usb_enum.proofs.Frames.{at_configured}
 use Rattle.usb_enum.specs.Refusals.{addressed_fault, whole_fault}

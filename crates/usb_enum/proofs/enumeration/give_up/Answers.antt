@@ -8,7 +8,7 @@ use Rattle.usb_enum.specs.Found.{Closes}
 use Rattle.usb_enum.specs.Stop.{FaultAt}
 use Rattle.usb_enum.proofs.Stretches.{clear_goes}
 use Rattle.usb_enum.proofs.Told.{clear_fails, port_told}
-use Rattle.usb_bus.proofs.Wents.{went_none, went_wider}
+use Rattle.usb_bus.proofs.Interface.{went_none, went_wider}
 use Rattle.usb_enum.proofs.Closings.{closed_fault, closed_handed, closed_lost, closed_refused}
 use Rattle.usb_enum.proofs.Endings.{port_done}
 use Rattle.usb_enum.proofs.enumeration.give_up.Goals as goal

@@ -1,7 +1,7 @@
 use Rattle.std.proofs.Common.{◌∙◌, arith, refl, subst, sym}
 use Rattle.std.proofs.lemmas.Option.{same_Some}
 use Rattle.usb_enum.specs.Hub.{Started}
-use Rattle.usb_bus.proofs.Wents.{went_none, went_wider}
+use Rattle.usb_bus.proofs.Interface.{went_none, went_wider}
 use Rattle.usb_enum.proofs.Frames.{tells_none}
 use Rattle.usb_enum.proofs.Readings.{learns_none}
 use Rattle.usb_enum.proofs.Refusals.{handed_match}

@@ -1,5 +1,5 @@
 use Rattle.std.proofs.Common.{arith, refl}
-use Rattle.usb_bus.proofs.Wents.{went_none}
+use Rattle.usb_bus.proofs.Interface.{went_none}
 use Rattle.usb_enum.specs.Bounds.{none_bound}
 use Rattle.usb_enum.proofs.Counts.{went_again, went_times, went_more}
 use Rattle.usb_enum.proofs.Hubs.{powered_more}

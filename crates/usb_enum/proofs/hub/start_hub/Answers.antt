@@ -1,5 +1,5 @@
 use Rattle.std.proofs.Common.{arith, rules}
-use Rattle.usb_bus.proofs.Wents.{went_none, went_then, went_wider}
+use Rattle.usb_bus.proofs.Interface.{went_none, went_then, went_wider}
 use Rattle.usb_enum.proofs.Frames.{asks_then, tells_asked, tells_none, tells_then}
 use Rattle.usb_enum.proofs.Counts.{went_on}
 use Rattle.usb_enum.proofs.HubReadings.{hub_learned}

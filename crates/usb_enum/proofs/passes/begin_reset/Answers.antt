@@ -1,7 +1,7 @@
 use Rattle.std.proofs.Common.{Result, refl, subst, sym}
 use Rattle.std.specs.Prelude.{IfErr}
 use Rattle.usb_enum.specs.declared.fault.EnumFault.{EnumFault}
-use Rattle.usb_hub.proofs.Ports.{reset_went}
+use Rattle.usb_hub.proofs.Interface.{reset_went}
 use Rattle.usb_enum.specs.Stop.{FaultAt}
 use Rattle.usb_enum.proofs.Frames.{reset_calls}
 use Rattle.usb_device.specs.Calls.{set_call}

@@ -4,7 +4,7 @@ use Rattle.std.specs.Prelude.{IfOk, IfErr, IfSome, MatchResult}
 use Rattle.usb_pipe.specs.declared.fault.PipeFault.TheVariants.{NoAnswer}
 use Rattle.usb_enum.specs.declared.stop.Stop.{Stop}
 use Rattle.usb_enum.specs.Device.{is_device}
-use Rattle.usb_enum.specs.Stop.{Told}
+use Rattle.usb_enum.specs.Stop.{StopTold}
 use Rattle.usb_enum.specs.Refusals.{FindsDescriptor, RefusesDescriptor}
 use Rattle.usb_enum.proofs.DeviceRefusals.{descriptor_unanswered, descriptor_none, descriptor_refused, descriptor_found, no_answer, some_answer, answered_who, refused_who, short_device}
 use Rattle.usb_enum.proofs.Heads.{bytes_answered}
@@ -41,12 +41,12 @@ returns-clause-keeps g c = text_asks device_given c.args.target _ _ _ _ _ c.get_
 
 pub returns-in_err-bytes-clause-told : goal.returns-in_err-bytes-clause-told
 returns-in_err-bytes-clause-told g c =
-    handed_on c.from_residual.result (λ stop. Told stop (g.B.Bus.world c.get_device-outcome.new.bus)) c.in_err-bytes.field-0.0 c.from_residual.ensures.1
+    handed_on c.from_residual.result (λ stop. StopTold stop (g.B.Bus.world c.get_device-outcome.new.bus)) c.in_err-bytes.field-0.0 c.from_residual.ensures.1
     (refused_told _ 3 1 _ _ c.get_device-outcome.result _ (sym c.answered_or.ensures ∙ c.in_err-bytes.was) tt c.get_device-outcome.ensures.asked.ends)
 
 pub returns-in-Some-clause-told : goal.returns-in-Some-clause-told
 returns-in-Some-clause-told g c =
-    let P : Result (Option (List ℕ)) Stop → Type 0 = λ r. IfErr r (λ stop. Told stop (g.B.Bus.world c.get_device-outcome.new.bus)) in
+    let P : Result (Option (List ℕ)) Stop → Type 0 = λ r. IfErr r (λ stop. StopTold stop (g.B.Bus.world c.get_device-outcome.new.bus)) in
     subst P (sym c.device_bytes.ensures) (device_told c.args.target.low c.in-Some.bytes.now _)
 
 pub returns-in-Some-clause-device : goal.returns-in-Some-clause-device

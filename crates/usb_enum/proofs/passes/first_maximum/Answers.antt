@@ -1,6 +1,6 @@
 use Rattle.std.proofs.Common.{◌∙◌, ap, arith, sym}
 use Rattle.usb_descriptor.specs.Device.{device_head_of}
-use Rattle.usb_enum.specs.Stop.{Told}
+use Rattle.usb_enum.specs.Stop.{StopTold}
 use Rattle.usb_enum.proofs.Counts.{read_went}
 use Rattle.usb_enum.proofs.DeviceRefusals.{head_unanswered, head_refused}
 use Rattle.usb_enum.proofs.Heads.{head_answered}
@@ -31,7 +31,7 @@ returns-clause-keeps g c = text_asks device_given c.args.unaddressed _ _ _ _ _ c
 
 pub returns-in_err-bytes-clause-told : goal.returns-in_err-bytes-clause-told
 returns-in_err-bytes-clause-told g c =
-    handed_on c.from_residual.result (λ stop. Told stop (g.B.Bus.world c.get_device.new.bus)) c.in_err-bytes.field-0.0 c.from_residual.ensures.1
+    handed_on c.from_residual.result (λ stop. StopTold stop (g.B.Bus.world c.get_device.new.bus)) c.in_err-bytes.field-0.0 c.from_residual.ensures.1
     (refused_told _ 3 1 _ _ c.get_device.result _ (sym c.answered_or.ensures ∙ c.in_err-bytes.was) tt c.get_device.ensures.asked.ends)
 
 pub returns-in-Ok-clause-head : goal.returns-in-Ok-clause-head

@@ -4,8 +4,8 @@ use Rattle.usb_hub.specs.Settings.{AddressAsked}
 use Rattle.usb_enum.proofs.Hubs.{answered_ok}
 use Rattle.usb_enum.proofs.Presence.{address_finds}
 use Rattle.usb_enum.proofs.Reaching.{reaches_addressed, reaches_rest}
-use Rattle.usb_bus.proofs.Wents.{went_then, went_wider}
-use Rattle.usb_enum.specs.Stop.{ToldAt}
+use Rattle.usb_bus.proofs.Interface.{went_then, went_wider}
+use Rattle.usb_enum.specs.Stop.{StopToldAt}
 use Rattle.usb_enum.proofs.Counts.{went_on}
 use Rattle.usb_enum.proofs.Enumerations.{takes_after, takes_answered}
 use Rattle.usb_enum.proofs.Frames.{at_addressed, at_asked, at_then}
@@ -99,5 +99,5 @@ returns-in-None-clause-went g c = went_on _ _ _ _ _ _ (went_then _ _ c.unaddress
 
 pub returns-in_err-answered_or-clause-told : goal.returns-in_err-answered_or-clause-told
 returns-in_err-answered_or-clause-told g c =
-    handed_on c.from_residual-in_err-answered_or.result (λ stop. ToldAt c.args.port stop (g.B.Bus.world c.set_address.new.bus)) c.in_err-answered_or.field-0.0 c.from_residual-in_err-answered_or.ensures.1
+    handed_on c.from_residual-in_err-answered_or.result (λ stop. StopToldAt c.args.port stop (g.B.Bus.world c.set_address.new.bus)) c.in_err-answered_or.field-0.0 c.from_residual-in_err-answered_or.ensures.1
     (told_at _ _ _ (refused_told _ 2 1 _ _ c.set_address.result _ (sym c.answered_or.ensures ∙ c.in_err-answered_or.was) tt c.set_address.ensures.ordered.ends))

@@ -1,6 +1,6 @@
 use Rattle.std.proofs.Common.{◌≡◌, arith, subst}
-use Rattle.usb_bus.proofs.Wents.{went_none, went_wider}
-use Rattle.usb_hub.proofs.Ports.{port_stays}
+use Rattle.usb_bus.proofs.Interface.{went_none, went_wider}
+use Rattle.usb_hub.proofs.Interface.{port_stays}
 use Rattle.usb_enum.specs.Bounds.{pass_bound}
 use Rattle.usb_enum.proofs.Counts.{went_again, went_times, went_more}
 use Rattle.usb_enum.proofs.Enumerations.{takes_after}

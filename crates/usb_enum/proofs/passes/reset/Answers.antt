@@ -1,6 +1,6 @@
 use Rattle.std.proofs.Common.{arith}
-use Rattle.usb_bus.proofs.Wents.{went_then, went_wider}
-use Rattle.usb_hub.proofs.Ports.{port_stays}
+use Rattle.usb_bus.proofs.Interface.{went_then, went_wider}
+use Rattle.usb_hub.proofs.Interface.{port_stays}
 use Rattle.usb_enum.proofs.Counts.{went_on}
 use Rattle.usb_enum.proofs.Frames.{at_reset, at_asked, at_then}
 use Rattle.usb_enum.proofs.Presence.{reset_finds}
@@ -10,7 +10,8 @@ use Rattle.usb_enum.specs.Refusals.{no_fault}
 use Rattle.usb_enum.specs.declared.stop.Stop.TheVariants.{Fault}
 use Rattle.usb_enum.proofs.Fairness.{called_faulted, faulted_after, status_faulted, stops_faulted}
 use Rattle.usb_enum.proofs.Refusals.{handed_match}
-use Rattle.usb_enum.proofs.Stopping.{reset_goes, reset_lost, settle_failed, unfalse, untrue}
+use Rattle.usb_enum.proofs.Stopping.{reset_goes, reset_lost, settle_failed, unfalse}
+use Rattle.usb_world.proofs.Interface.{not_true}
 use Rattle.usb_enum.proofs.passes.reset.Goals as goal
 
 pub read_status-requires : goal.read_status-requires
@@ -65,7 +66,7 @@ returns-in_err-status-clause-found g c =
 pub returns-then-not-status-clause-found : goal.returns-then-not-status-clause-found
 returns-then-not-status-clause-found g c = λ a.
     reset_lost _ a _ _ _ c.begin_reset.ensures.went c.read_status.ensures.went (at_reset _ a _ _ c.begin_reset.ensures.resets (c.begin_reset.ensures.only a)) c.read_status.ensures.keeps
-    (rw c.in_ok-begin_reset.was at c.begin_reset.ensures.calls) (rw c.in_ok-status.was at c.read_status.ensures.status) (untrue c.in_ok-status.status.enabled c.if-not-status.true)
+    (rw c.in_ok-begin_reset.was at c.begin_reset.ensures.calls) (rw c.in_ok-status.was at c.read_status.ensures.status) (not_true c.in_ok-status.status.enabled c.if-not-status.true)
 
 pub returns-in_err-settle-clause-found : goal.returns-in_err-settle-clause-found
 returns-in_err-settle-clause-found g c =

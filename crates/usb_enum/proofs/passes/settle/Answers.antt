@@ -1,8 +1,8 @@
 use Rattle.std.proofs.Common.{Result, arith, refl, subst, sym}
 use Rattle.std.specs.Prelude.{IfErr}
-use Rattle.usb_world.proofs.Devices.{each_none}
+use Rattle.usb_world.proofs.Interface.{each_none}
 use Rattle.usb_enum.specs.declared.fault.EnumFault.{EnumFault}
-use Rattle.usb_bus.proofs.Wents.{went_none, went_wider}
+use Rattle.usb_bus.proofs.Interface.{went_none, went_wider}
 use Rattle.usb_hub.specs.Addresses.{StaysAs}
 use Rattle.usb_enum.specs.Stop.{FaultAt}
 use Rattle.usb_enum.proofs.Frames.{at_none, at_reset_cleared}
@@ -19,7 +19,7 @@ pub returns-then-not-changed-clause-within : goal.returns-then-not-changed-claus
 returns-then-not-changed-clause-within g c = λ a. at_none _ a _
 
 pub returns-then-not-changed-clause-devices : goal.returns-then-not-changed-clause-devices
-returns-then-not-changed-clause-devices g c = record { stays = λ single. each_none StaysAs (λ j p s. (refl, refl, refl)) _ }
+returns-then-not-changed-clause-devices g c = record { stays = λ single. each_none StaysAs (λ j p s. refl) _ }
 
 pub returns-clause-went : goal.returns-clause-went
 returns-clause-went g c = c.clear_port.ensures.went

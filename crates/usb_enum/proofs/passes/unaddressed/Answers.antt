@@ -1,5 +1,5 @@
 use Rattle.std.proofs.Common.{◌&&◌, ◌∙◌, ap, arith, sym}
-use Rattle.usb_bus.proofs.Wents.{went_wider}
+use Rattle.usb_bus.proofs.Interface.{went_wider}
 use Rattle.usb_enum.proofs.Counts.{went_on}
 use Rattle.usb_enum.proofs.Frames.{at_asked, at_then}
 use Rattle.usb_enum.proofs.Presence.{unaddressed_finds}

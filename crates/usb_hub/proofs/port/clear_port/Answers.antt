@@ -1,5 +1,5 @@
 use Rattle.usb_bus.specs.Traced.{still}
-use Rattle.usb_bus.proofs.Wents.{traced_cleared}
+use Rattle.usb_bus.proofs.Interface.{traced_cleared}
 use Rattle.usb_hub.proofs.Calls.{root_clears, hub_clears}
 use Rattle.usb_hub.proofs.Keeping.{root_clear_keeps_port}
 use Rattle.usb_hub.proofs.Ports.{port_cleared-root, cleared_spends-root}

@@ -1,5 +1,5 @@
 use Rattle.usb_bus.specs.Traced.{still}
-use Rattle.usb_bus.proofs.Wents.{traced_set}
+use Rattle.usb_bus.proofs.Interface.{traced_set}
 use Rattle.usb_hub.proofs.Calls.{root_sets, hub_sets}
 use Rattle.usb_hub.proofs.Ports.{port_set-root, set_went-root}
 use Rattle.usb_hub.proofs.port.set_port.Goals as goal

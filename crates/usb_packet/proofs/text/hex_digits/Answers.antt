@@ -6,5 +6,5 @@ use Rattle.usb_packet.proofs.text.hex_digits.Goals as goal
 pub returns : goal.returns
 unfolding encode_with
 returns c =
-    ap₂ (λ (high low : ℕ). high ∷ low ∷ []) c.digit.ensures.value
-    (c.digit-2.ensures.value ∙ ap (slice_index upper_digits) (and_mask c.args.byte 4))
+    ap₂ (λ (high low : ℕ). high ∷ low ∷ []) c.digit.ensures
+    (c.digit-2.ensures ∙ ap (slice_index upper_digits) (and_mask c.args.byte 4))

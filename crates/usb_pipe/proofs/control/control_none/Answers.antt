@@ -1,82 +1,33 @@
 use Rattle.std.proofs.Common.{arith}
-use Rattle.usb_bus.proofs.Wents.{went_then, went_wider}
-use Rattle.std.proofs.Common.{Ok}
+use Rattle.usb_bus.proofs.Interface.{went_then, went_wider}
+use Rattle.std.proofs.Common.{rules, Ok}
 use Rattle.usb_pipe.specs.Stages.{Writes}
-use Rattle.usb_pipe.proofs.Controls.{write_at_setup, write_at_status, write_done, what_write}
-use Rattle.usb_pipe.proofs.ControlsWhy.{why_write, who_write, losses_write}
+use Rattle.usb_pipe.proofs.ControlTransfers.{write_at_status, write_told}
 use Rattle.usb_pipe.proofs.control.control_none.Given as given
 use Rattle.usb_pipe.proofs.control.control_none.Goals as goal
-use Rattle.usb_pipe.proofs.control.control_none.Goals.{After-from_residual, After-from_residual-in_err-data_in, In_ok-data_in}
-
-pub returns-in_err-setup-clause-what : goal.returns-in_err-setup-clause-what
-returns-in_err-setup-clause-what g c =
-    let stages = write_at_setup c.args.target c.args.setup _ _ c.in_err-setup.field-0.0 c.to_bytes.result c.from_residual.result c.to_bytes.ensures.bytes c.from_residual.ensures.0 c.from_residual.ensures.1 c.in_err-setup.ensures.heard in
-    what_write c.args.target c.args.setup _ c.to_bytes.result c.from_residual.result c.requires.none c.to_bytes.ensures.bytes c.to_bytes.ensures.fields c.setup.ensures.settled stages
-
-pub returns-in_err-data_in-clause-what : goal.returns-in_err-data_in-clause-what
-returns-in_err-data_in-clause-what g c =
-    let told = c.from_residual-in_err-data_in.ensures in
-    let stages = write_at_status c.args.target c.args.setup _ c.in_err-data_in.field-0.0 c.to_bytes.result c.in_ok-setup.field-0 c.from_residual-in_err-data_in.result c.to_bytes.ensures.bytes c.in_ok-setup.ensures.nothing told.0 told.1 c.in_ok-setup.ensures.heard c.in_err-data_in.ensures.heard in
-    what_write c.args.target c.args.setup _ c.to_bytes.result c.from_residual-in_err-data_in.result c.requires.none c.to_bytes.ensures.bytes c.to_bytes.ensures.fields c.setup.ensures.settled stages
-
-pub returns-clause-what : goal.returns-clause-what
-returns-clause-what g c =
-    let stages = write_done c.args.target c.args.setup c.to_bytes.result c.in_ok-setup.field-0 c.in_ok-data_in.field-0 c.to_bytes.ensures.bytes c.in_ok-setup.ensures.nothing c.in_ok-setup.ensures.heard c.in_ok-data_in.ensures.heard in
-    what_write c.args.target c.args.setup _ c.to_bytes.result (Ok tt) c.requires.none c.to_bytes.ensures.bytes c.to_bytes.ensures.fields c.setup.ensures.settled stages
+use Rattle.usb_pipe.proofs.control.control_none.Goals.{After-from_residual-in_err-data_in}
 
 -- Where the request ended
-
-at_setup : (g : given.Over) (c : goal.After-from_residual g) → Writes c.args.target c.args.setup (g.B.Bus.world c.args.bus.now) c.from_residual.result (g.B.Bus.world c.setup.new.bus)
-at_setup g c = write_at_setup c.args.target c.args.setup _ _ c.in_err-setup.field-0.0 c.to_bytes.result c.from_residual.result c.to_bytes.ensures.bytes c.from_residual.ensures.0 c.from_residual.ensures.1 c.in_err-setup.ensures.heard
 
 at_status : (g : given.Over) (c : goal.After-from_residual-in_err-data_in g) → Writes c.args.target c.args.setup (g.B.Bus.world c.args.bus.now) c.from_residual-in_err-data_in.result (g.B.Bus.world c.data_in.new.bus)
 at_status g c =
     let told = c.from_residual-in_err-data_in.ensures in
-    write_at_status c.args.target c.args.setup _ c.in_err-data_in.field-0.0 c.to_bytes.result c.in_ok-setup.field-0 c.from_residual-in_err-data_in.result c.to_bytes.ensures.bytes c.in_ok-setup.ensures.nothing told.0 told.1 c.in_ok-setup.ensures.heard c.in_err-data_in.ensures.heard
+    write_at_status c.args.target c.args.setup _ c.in_err-data_in.field-0.0 c.to_bytes.result c.in_ok-setup.field-0 c.from_residual-in_err-data_in.result c.to_bytes.ensures.bytes c.in_ok-setup.ensures.sets_up.nothing told.0 told.1 c.in_ok-setup.ensures.sets_up.heard c.in_err-data_in.ensures.asks.heard
 
-done : (g : given.Over) (c : goal.In_ok-data_in g) → Writes c.args.target c.args.setup (g.B.Bus.world c.args.bus.now) (Ok tt) (g.B.Bus.world c.data_in.new.bus)
-done g c = write_done c.args.target c.args.setup c.to_bytes.result c.in_ok-setup.field-0 c.in_ok-data_in.field-0 c.to_bytes.ensures.bytes c.in_ok-setup.ensures.nothing c.in_ok-setup.ensures.heard c.in_ok-data_in.ensures.heard
+-- What it tells
 
--- Why it failed
+pub returns-in_err-setup-clause-transfer : goal.returns-in_err-setup-clause-transfer
+returns-in_err-setup-clause-transfer g c =
+    write_told c.args.target c.args.setup _ c.to_bytes.result c.from_residual.result c.requires.none c.to_bytes.ensures.bytes c.to_bytes.ensures.fields c.setup.ensures.sets_up.settled (search rules) (search rules) (search rules)
 
-pub returns-in_err-setup-clause-why : goal.returns-in_err-setup-clause-why
-returns-in_err-setup-clause-why g c =
-    let stages = at_setup g (goal.at.returns-in_err-setup-clause-why g c).After-from_residual in
-    why_write c.args.target c.args.setup _ c.to_bytes.result c.from_residual.result c.requires.none c.to_bytes.ensures.bytes c.to_bytes.ensures.fields c.setup.ensures.settled stages
+pub returns-in_err-data_in-clause-transfer : goal.returns-in_err-data_in-clause-transfer
+returns-in_err-data_in-clause-transfer g c =
+    let stages = at_status g (goal.at.returns-in_err-data_in-clause-transfer g c).After-from_residual-in_err-data_in in
+    write_told c.args.target c.args.setup _ c.to_bytes.result c.from_residual-in_err-data_in.result c.requires.none c.to_bytes.ensures.bytes c.to_bytes.ensures.fields c.setup.ensures.sets_up.settled (search rules) (search rules) stages
 
-pub returns-in_err-data_in-clause-why : goal.returns-in_err-data_in-clause-why
-returns-in_err-data_in-clause-why g c =
-    let stages = at_status g (goal.at.returns-in_err-data_in-clause-why g c).After-from_residual-in_err-data_in in
-    why_write c.args.target c.args.setup _ c.to_bytes.result c.from_residual-in_err-data_in.result c.requires.none c.to_bytes.ensures.bytes c.to_bytes.ensures.fields c.setup.ensures.settled stages
-
-pub returns-clause-why : goal.returns-clause-why
-returns-clause-why g c =
-    let stages = done g (goal.at.returns-clause-why g c).In_ok-data_in in
-    why_write c.args.target c.args.setup _ c.to_bytes.result (Ok tt) c.requires.none c.to_bytes.ensures.bytes c.to_bytes.ensures.fields c.setup.ensures.settled stages
-
--- Who answered
-
-pub returns-clause-who : goal.returns-clause-who
-returns-clause-who g c =
-    let stages = done g (goal.at.returns-clause-who g c).In_ok-data_in in
-    who_write c.args.target c.args.setup _ c.to_bytes.result tt c.to_bytes.ensures.bytes c.to_bytes.ensures.fields c.setup.ensures.settled stages
-
--- Which addresses were lost
-
-pub returns-in_err-setup-clause-losses : goal.returns-in_err-setup-clause-losses
-returns-in_err-setup-clause-losses g c =
-    let stages = at_setup g (goal.at.returns-in_err-setup-clause-losses g c).After-from_residual in
-    losses_write c.args.target c.args.setup _ c.to_bytes.result c.from_residual.result c.to_bytes.ensures.bytes c.to_bytes.ensures.fields c.setup.ensures.settled stages
-
-pub returns-in_err-data_in-clause-losses : goal.returns-in_err-data_in-clause-losses
-returns-in_err-data_in-clause-losses g c =
-    let stages = at_status g (goal.at.returns-in_err-data_in-clause-losses g c).After-from_residual-in_err-data_in in
-    losses_write c.args.target c.args.setup _ c.to_bytes.result c.from_residual-in_err-data_in.result c.to_bytes.ensures.bytes c.to_bytes.ensures.fields c.setup.ensures.settled stages
-
-pub returns-clause-losses : goal.returns-clause-losses
-returns-clause-losses g c =
-    let stages = done g (goal.at.returns-clause-losses g c).In_ok-data_in in
-    losses_write c.args.target c.args.setup _ c.to_bytes.result (Ok tt) c.to_bytes.ensures.bytes c.to_bytes.ensures.fields c.setup.ensures.settled stages
+pub returns-clause-transfer : goal.returns-clause-transfer
+returns-clause-transfer g c =
+    write_told c.args.target c.args.setup _ c.to_bytes.result (Ok tt) c.requires.none c.to_bytes.ensures.bytes c.to_bytes.ensures.fields c.setup.ensures.sets_up.settled (search rules) (search rules) (search rules)
 
 -- What went
 

@@ -1,8 +1,8 @@
 use Rattle.std.proofs.Common.{◌≡◌, ◌*◌, length}
-use Rattle.usb_pipe.proofs.Moves.{Moved}
+use Rattle.usb_pipe.proofs.MovedPackets.{Moved}
 use Rattle.usb_pipe.specs.Moves.{Came}
 use Rattle.usb_bus.specs.Traced.{Traced}
-use Rattle.usb_pipe.proofs.Settling.{SettledSince}
+use Rattle.usb_pipe.proofs.SettledWorlds.{SettledSince}
 use Rattle.usb_pipe.proofs.packets.receive_packets.Given as goal
 
 abbrev pub invariant-packets : goal.invariant-packets

@@ -1,9 +1,8 @@
 use Rattle.std.proofs.Common.{◌-◌, ◌≤◌, length}
 use Rattle.std.specs.Int.{div_ceil}
-use Rattle.usb_pipe.proofs.Moves.{Moved}
-use Rattle.usb_pipe.proofs.Gone.{Going}
+use Rattle.usb_pipe.proofs.MovedPackets.{Moved, Going}
 use Rattle.usb_bus.specs.Traced.{Traced}
-use Rattle.usb_pipe.proofs.Settling.{SettledSince}
+use Rattle.usb_pipe.proofs.SettledWorlds.{SettledSince}
 use Rattle.usb_pipe.proofs.packets.send_packets.Given as goal
 
 abbrev pub invariant-packets : goal.invariant-packets

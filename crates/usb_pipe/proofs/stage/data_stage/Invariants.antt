@@ -1,8 +1,7 @@
 use Rattle.std.proofs.Common.{◌-◌, ◌<◌, length}
-use Rattle.usb_pipe.proofs.DataStages.{Onward}
-use Rattle.usb_pipe.proofs.Stages.{Staged}
+use Rattle.usb_pipe.proofs.DataStages.{Onward, Staged}
 use Rattle.usb_bus.specs.Traced.{Traced}
-use Rattle.usb_pipe.proofs.Settling.{SettledSince}
+use Rattle.usb_pipe.proofs.SettledWorlds.{SettledSince}
 use Rattle.usb_pipe.proofs.stage.data_stage.Given as goal
 
 abbrev pub invariant-packets : goal.invariant-packets

@@ -1,29 +1,49 @@
-use Rattle.std.proofs.Common.{◌≡◌, ◌+◌, ◌∙◌, sym}
+use Rattle.std.proofs.Common.{◌+◌, ◌∙◌, sym, refl}
 use Rattle.toml.specs.Data.{as_table}
 use Rattle.toml.specs.View.{view}
+use Rattle.usb_plan.specs.declared.fault.Place.TheVariants as place
+use Rattle.usb_plan.specs.declared.fault.PlanFault.TheVariants as fault
+use Rattle.usb_plan.specs.declared.kind.Kind.TheVariants.{Memory}
+use Rattle.usb_plan.specs.Kind.{EqualUnless}
 use Rattle.usb_plan.specs.Device.{device_in}
 use Rattle.usb_plan.proofs.Parts.{device_in_ok, placed_ok}
+use Rattle.usb_plan.proofs.Unless.{placed_told, placed_read, unless_handed}
 use Rattle.usb_plan.proofs.Growth.{devices_from-step, devices_from-fault, devices_from-end}
 use Rattle.usb_plan.proofs.device.devices_of.Goals as goal
 
-pub returns-in-Err : goal.returns-in-Err
-returns-in-Err c =
+pub returns-in_err-device : goal.returns-in_err-device
+returns-in_err-device c =
     let v = c.index-values-i.result in
-    let e : c.in_ok-device.device ≡ device_in c.loop-i.done (as_table (view v)) = c.in_ok-device.ensures ∙ rw c.as_table.ensures in
-    devices_from-fault c.loop-i.done c.args.values.now c.loop-i.i v c.in_ok-device.device c.in-Err.fault _ c.loop-i-test.true c.index-values-i.is e (sym c.in-Err.ensures) c.loop-i.invariant
+    let spelled = device_in c.loop-i.done (as_table (view v)) in
+    let same : EqualUnless Memory c.device_in-read.result spelled = rw c.as_table.ensures at c.device_in-read.ensures in
+    let why = c.in_err-device.field-0.0 in
+    unless_handed fault.Memory c.from_residual.result _ why c.from_residual.ensures.1
+    (λ ne. sym (devices_from-fault c.loop-i.done c.args.values.now c.loop-i.i v spelled why _ c.loop-i-test.true c.index-values-i.is refl
+    (placed_told (place.Device (c.loop-i.i + 1)) c.device_in-read.result spelled c.placed.result why same c.placed.ensures c.in_err-device.was ne) c.loop-i.invariant))
 
-pub push-requires : goal.push-requires
-push-requires c =
+pub push-requires-clause-room : goal.push-requires-clause-room
+push-requires-clause-room c =
     let v = c.index-values-i.result in
-    let e : c.in_ok-device.device ≡ device_in c.loop-i.done (as_table (view v)) = c.in_ok-device.ensures ∙ rw c.as_table.ensures in
-    let joins = device_in_ok c.loop-i.done (as_table (view v)) c.in-Ok.spec (sym e ∙ placed_ok _ c.in_ok-device.device c.in-Ok.spec (sym c.in-Ok.ensures)) in
-    record { room = joins.room; name = joins.new }
+    let spelled = device_in c.loop-i.done (as_table (view v)) in
+    let same : EqualUnless Memory c.device_in-read.result spelled = rw c.as_table.ensures at c.device_in-read.ensures in
+    let good = placed_read (place.Device (c.loop-i.i + 1)) c.device_in-read.result spelled c.placed.result c.in_ok-device.device same c.placed.ensures c.in_ok-device.was in
+    (device_in_ok c.loop-i.done (as_table (view v)) c.in_ok-device.device (placed_ok _ spelled c.in_ok-device.device good)).room
+
+pub push-requires-clause-name : goal.push-requires-clause-name
+push-requires-clause-name c =
+    let v = c.index-values-i.result in
+    let spelled = device_in c.loop-i.done (as_table (view v)) in
+    let same : EqualUnless Memory c.device_in-read.result spelled = rw c.as_table.ensures at c.device_in-read.ensures in
+    let good = placed_read (place.Device (c.loop-i.i + 1)) c.device_in-read.result spelled c.placed.result c.in_ok-device.device same c.placed.ensures c.in_ok-device.was in
+    (device_in_ok c.loop-i.done (as_table (view v)) c.in_ok-device.device (placed_ok _ spelled c.in_ok-device.device good)).new
 
 pub loop-i-preserved : goal.loop-i-preserved
 loop-i-preserved c =
     let v = c.index-values-i.result in
-    let e : c.in_ok-device.device ≡ device_in c.loop-i.done (as_table (view v)) = c.in_ok-device.ensures ∙ rw c.as_table.ensures in
-    rw c.in_ok-push-in-Ok.ensures.ok (devices_from-step c.loop-i.done c.args.values.now c.loop-i.i v c.in_ok-device.device c.in-Ok.spec _ c.loop-i-test.true c.index-values-i.is e (sym c.in-Ok.ensures) c.loop-i.invariant)
+    let spelled = device_in c.loop-i.done (as_table (view v)) in
+    let same : EqualUnless Memory c.device_in-read.result spelled = rw c.as_table.ensures at c.device_in-read.ensures in
+    let good = placed_read (place.Device (c.loop-i.i + 1)) c.device_in-read.result spelled c.placed.result c.in_ok-device.device same c.placed.ensures c.in_ok-device.was in
+    rw c.in_ok-push.ensures.ok (devices_from-step c.loop-i.done c.args.values.now c.loop-i.i v spelled c.in_ok-device.device _ c.loop-i-test.true c.index-values-i.is refl good c.loop-i.invariant)
 
 pub returns : goal.returns
-returns c = sym (devices_from-end (c.loop-i.i + 1) c.loop-i.done c.args.values.now c.loop-i.i c.loop-i-test.false) ∙ c.loop-i.invariant
+returns c = sym c.loop-i.invariant ∙ devices_from-end (c.loop-i.i + 1) c.loop-i.done c.args.values.now c.loop-i.i c.loop-i-test.false

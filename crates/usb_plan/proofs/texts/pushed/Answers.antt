@@ -2,4 +2,4 @@ use Rattle.std.proofs.Common.{arith}
 use Rattle.usb_plan.proofs.texts.pushed.Goals as goal
 
 pub push-requires : goal.push-requires
-push-requires g c = (omega arith, (omega arith, c.requires (c.in-Ok.texts, c.in-Ok.text) c.in-Ok.is))
+push-requires g c = (omega arith, (omega arith, c.requires c.in_ok-texts.texts c.in_ok-texts.was))

@@ -1,16 +1,24 @@
-use Rattle.std.proofs.Common.{◌<◌, ◌∙◌, sym, length, arith}
-use Rattle.std.proofs.lemmas.Result.{IfOk-at_ok}
-use Rattle.usb_plan.proofs.Steps.{AtMost-both, AtMost-pushed, texts_from-step, texts_from-end}
+use Rattle.std.proofs.Common.{◌+◌, ◌∙◌, sym, refl, arith}
+use Rattle.toml.specs.Data.{as_str}
+use Rattle.toml.specs.View.{view}
+use Rattle.usb_plan.specs.declared.kind.Kind.TheVariants.{Memory}
+use Rattle.usb_plan.specs.Value.{hex_in}
+use Rattle.usb_plan.proofs.Steps.{AtMost-pushed, AtMost-unless, texts_from-step, texts_from-end}
+use Rattle.usb_plan.proofs.Unless.{pushed_is, unless_equal}
 use Rattle.usb_plan.proofs.texts.texts_of.Goals as goal
 
-pub pushed-requires : goal.pushed-requires
-pushed-requires g c = (omega arith, (omega arith, λ x e. IfOk-at_ok (λ y. length y.0 < g.row.COUNT) e (rw c.both.ensures (AtMost-both c.loop-value.value-index g.row.COUNT c.loop-value.texts c.in_ok-text.text c.loop-value.invariant.few (omega (arith, c.requires))))))
+pub loop-value-init : goal.loop-value-init
+loop-value-init g c = record { so_far = λ _. rw c.new.ensures; few = rw c.new.ensures (omega arith) }
 
 pub loop-value-preserved : goal.loop-value-preserved
-loop-value-preserved g c = record {
-  so_far = rw (c.in_ok-texts.ensures, c.both.ensures) (texts_from-step g.row.MAX c.loop-value.texts c.args.values.now c.loop-value.value-index c.value-item.result c.in_ok-text.text _ c.loop-value-test.true c.value-item.is c.in_ok-text.ensures c.loop-value.invariant.so_far);
-  few = rw (c.in_ok-texts.ensures, c.both.ensures) (AtMost-pushed c.loop-value.value-index c.loop-value.texts c.in_ok-text.text c.loop-value.invariant.few);
-}
+loop-value-preserved g c =
+    let text = hex_in g.row.MAX (as_str (view c.value-item.result)) in
+    record {
+      so_far = λ ne.
+          let is = pushed_is c.loop-value.texts c.pushed-texts.result c.hex_in.result text c.pushed-texts.ensures c.hex_in.ensures ne in
+          rw is.pushed_is (texts_from-step g.row.MAX c.loop-value.texts c.args.values.now c.loop-value.value-index c.value-item.result text _ c.loop-value-test.true c.value-item.is refl (c.loop-value.invariant.so_far is.texts_read));
+      few = AtMost-unless (c.loop-value.value-index + 1) c.pushed-texts.result _ c.pushed-texts.ensures (AtMost-pushed c.loop-value.value-index c.loop-value.texts c.hex_in.result c.loop-value.invariant.few);
+    }
 
 pub returns : goal.returns
-returns g c = sym (texts_from-end g.row.MAX c.loop-value.texts c.args.values.now c.loop-value.value-index c.loop-value-test.false) ∙ c.loop-value.invariant.so_far
+returns g c = unless_equal Memory _ _ (λ ne. sym (texts_from-end g.row.MAX c.loop-value.texts c.args.values.now c.loop-value.value-index c.loop-value-test.false) ∙ c.loop-value.invariant.so_far ne)

@@ -1,11 +1,12 @@
-use Rattle.std.proofs.Common.{◌≡◌, Ok, [], map, drop}
+use Rattle.std.proofs.Common.{◌≡◌, ◌≢◌, Ok, Err, [], map, drop}
 use Rattle.toml.specs.View.{view}
+use Rattle.usb_plan.specs.declared.kind.Kind.TheVariants.{Memory}
 use Rattle.usb_plan.specs.Texts.{texts_from}
 use Rattle.usb_plan.proofs.Steps.{AtMost}
 use Rattle.usb_plan.proofs.texts.texts_of.Given as goal
 
 abbrev pub invariant-loop-value : goal.invariant-loop-value
 invariant-loop-value g l = record {
-  so_far : texts_from g.row.MAX l.texts (map view (drop l.value-index l.values)) ≡ texts_from g.row.MAX (Ok []) (map view l.values);
+  so_far : l.texts ≢ Err Memory → texts_from g.row.MAX l.texts (map view (drop l.value-index l.values)) ≡ texts_from g.row.MAX (Ok []) (map view l.values);
   few : AtMost l.value-index l.texts;
 }

@@ -1,5 +1,5 @@
 use Rattle.std.proofs.Common.{flat_map, take, drop, suc}
-use Rattle.usb_bus.proofs.Fronts.{front_after}
+use Rattle.usb_bus.proofs.Interface.{front_after}
 use Rattle.usb_bus.specs.Watch.{AppendsFront}
 use Rattle.std.proofs.Common.{subst}
 use Rattle.usb_serve.proofs.Transcripts.{texts_split}

@@ -1,7 +1,7 @@
 use Rattle.std.proofs.Common.{◌≡◌, ◌+◌, ◌*◌, ◌-◌}
-use Rattle.usb_transaction.specs.Trans.{in_attempt}
+use Rattle.usb_transaction.specs.Transactions.{in_attempt}
 use Rattle.usb_bus.specs.Traced.{Traced}
-use Rattle.usb_transaction.proofs.Going.{PollStands, SettledSince}
+use Rattle.usb_transaction.proofs.TransactionRuns.{PollStands, SettledSince}
 use Rattle.usb_transaction.proofs.poll.poll_in.Given as goal
 
 abbrev pub invariant-tries : goal.invariant-tries

@@ -1,8 +1,8 @@
 use Rattle.std.proofs.Common.{◌≡◌, ◌+◌, ◌*◌, ◌-◌}
 use Rattle.usb_transaction.specs.Heard.{heard_as}
-use Rattle.usb_transaction.specs.Trans.{in_attempt}
+use Rattle.usb_transaction.specs.Transactions.{in_attempt}
 use Rattle.usb_bus.specs.Traced.{Traced}
-use Rattle.usb_transaction.proofs.Going.{Stands, SettledSince}
+use Rattle.usb_transaction.proofs.TransactionRuns.{Stands, SettledSince}
 use Rattle.usb_transaction.proofs.read.data_in.Given as goal
 
 abbrev pub invariant-tries : goal.invariant-tries

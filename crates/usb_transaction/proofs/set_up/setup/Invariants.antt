@@ -1,6 +1,6 @@
-use Rattle.usb_transaction.specs.Trans.{setup_attempt}
+use Rattle.usb_transaction.specs.Transactions.{setup_attempt}
 use Rattle.usb_bus.specs.Traced.{Traced}
-use Rattle.usb_transaction.proofs.Going.{SetUpStands, SetUpSettled}
+use Rattle.usb_transaction.proofs.TransactionRuns.{SetUpStands, SetUpSettled}
 use Rattle.usb_transaction.proofs.set_up.setup.Given as goal
 
 abbrev pub invariant-loop-error : goal.invariant-loop-error

@@ -1,8 +1,8 @@
 use Rattle.std.proofs.Common.{◌≡◌, ◌+◌, ◌*◌, ◌-◌}
 use Rattle.usb_transaction.specs.Heard.{sent_as}
-use Rattle.usb_transaction.specs.Trans.{out_attempt}
+use Rattle.usb_transaction.specs.Transactions.{out_attempt}
 use Rattle.usb_bus.specs.Traced.{Traced}
-use Rattle.usb_transaction.proofs.Going.{Stands, SettledSince}
+use Rattle.usb_transaction.proofs.TransactionRuns.{Stands, SettledSince}
 use Rattle.usb_transaction.proofs.write.data_out.Given as goal
 
 abbrev pub invariant-tries : goal.invariant-tries

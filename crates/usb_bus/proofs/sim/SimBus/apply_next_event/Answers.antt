@@ -1,6 +1,6 @@
-use Rattle.std.proofs.Common.{ap, sym}
+use Rattle.std.proofs.Common.{sym}
 use Rattle.usb_bus.specs.Sim.{world_of}
-use Rattle.usb_bus.proofs.Attempting.{again_takes, taken_takes}
+use Rattle.usb_bus.proofs.Endings.{again_takes, taken_takes}
 use Rattle.usb_bus.proofs.sim.SimBus.apply_next_event.Goals as goal
 
 pub returns-in-Some-clause-takes : goal.returns-in-Some-clause-takes
@@ -8,6 +8,4 @@ returns-in-Some-clause-takes g c = again_takes (world_of c.args.self.now) _ c.in
 
 pub returns-clause-takes : goal.returns-clause-takes
 returns-clause-takes g c =
-    let taken = c.take_event.ensures in
-    taken_takes c.take_event.result (world_of c.args.self.now) (world_of c.take_event.new.self) _ _ c.in_default.is taken.spends taken.fault
-    (λ e. ((taken.none e).0, ap world_of (taken.none e).1)) taken.one taken.asked taken.exact (λ e. (taken.kept e).0) taken.cut taken.other taken.text
+    taken_takes c.take_event.result (world_of c.args.self.now) (world_of c.take_event.new.self) _ _ c.in_default.is c.take_event.ensures.came

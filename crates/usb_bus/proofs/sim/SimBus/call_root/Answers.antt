@@ -1,12 +1,10 @@
 use Rattle.std.proofs.Common.{◌≡◌, length, sym, subst, ap, ◌∙◌, arith, [], ◌∷◌}
 use Rattle.usb_device.specs.Tree.{row_of, called}
 use Rattle.usb_world.specs.Passes.{IsSettled}
-use Rattle.usb_world.specs.Sane.{IsSane}
+use Rattle.usb_world.specs.SanePorts.{IsSane}
 use Rattle.usb_world.specs.declared.losses.Losses.{Losses}
 use Rattle.usb_world.specs.Losses.{AreOfDamages}
-use Rattle.usb_world.proofs.Counts.{row_long}
-use Rattle.usb_world.proofs.Between.{settled_called, sane_called_at}
-use Rattle.usb_world.proofs.Wires.{losses_cleared}
+use Rattle.usb_world.proofs.Interface.{losses_cleared, row_long, sane_called_at, settled_called}
 use Rattle.usb_bus.proofs.sim.SimBus.call_root.Goals as goal
 
 pub invariant_of-self : goal.invariant_of-self

@@ -1,12 +1,12 @@
 use Rattle.std.proofs.Common.{refl, subst}
 use Rattle.std.proofs.lemmas.Result.{err_from_is_err_and}
 use Rattle.usb_device.specs.Calls.{clear_call}
-use Rattle.usb_bus.proofs.Wents.{went_then}
+use Rattle.usb_bus.proofs.Interface.{went_then}
 use Rattle.usb_hub.specs.Addresses.{KeepsAsked, KeepsCleared}
 use Rattle.usb_hub.specs.Moments.{CallsPort, TellsPort}
 use Rattle.usb_hub.specs.Port.{PortRead}
 use Rattle.usb_enum.specs.Stop.{at_port}
-use Rattle.usb_host.specs.Handling.{Clears, Watches}
+use Rattle.usb_host.specs.Handling.{ClearsChange, Watches}
 use Rattle.usb_host.proofs.Requests.{watched, disabled_so, clears_after, clears_disabled, clears_failed, clears_untold, clears_told}
 use Rattle.usb_host.proofs.Enumerations.{cleared, cleared_twice}
 use Rattle.usb_host.proofs.host.Host.clear_change.Goals as goal
@@ -71,7 +71,7 @@ returns-in_err-clear_port-2-clause-clears g c =
     let read = subst (λ r. PortRead c.args.port mid r asked_at) c.in_ok-status.was c.port_status.ensures.status in
     let tells = subst (λ r. TellsPort c.args.port mid r asked_at) c.in_ok-status.was c.port_status.ensures.told in
     let asked = subst (λ r. KeepsAsked c.args.port mid r asked_at) c.in_ok-status.was c.port_status.ensures.addresses in
-    let disabled = subst (λ r. Clears c.args.port mid (disabled_so status r) new) c.in_err-clear_port-2.was
+    let disabled = subst (λ r. ClearsChange c.args.port mid (disabled_so status r) new) c.in_err-clear_port-2.was
     (clears_disabled c.args.port _ _ mid asked_at new c.port_status.ensures.went c.clear_port-then-status.ensures.went status c.clear_port-then-status.result read tells asked c.clear_port-then-status.ensures.ports c.clear_port-then-status.ensures.addresses) in
     rw (← c.self.view_is, told.1, told.2)
     (clears_after c.args.port _ _ old mid new c.clear_port.ensures.went (went_then _ _ c.port_status.ensures.went c.clear_port-then-status.ensures.went) _ calls c.clear_port.ensures.addresses.keeps c.clear_port.ensures.addresses.devices disabled)
@@ -87,7 +87,7 @@ returns-in_ok-clear_port-2-clause-clears g c =
     let read = subst (λ r. PortRead c.args.port mid r asked_at) c.in_ok-status.was c.port_status.ensures.status in
     let tells = subst (λ r. TellsPort c.args.port mid r asked_at) c.in_ok-status.was c.port_status.ensures.told in
     let asked = subst (λ r. KeepsAsked c.args.port mid r asked_at) c.in_ok-status.was c.port_status.ensures.addresses in
-    let disabled = subst (λ r. Clears c.args.port mid (disabled_so status r) new) c.in_ok-clear_port-2.was
+    let disabled = subst (λ r. ClearsChange c.args.port mid (disabled_so status r) new) c.in_ok-clear_port-2.was
     (clears_disabled c.args.port _ _ mid asked_at new c.port_status.ensures.went c.clear_port-then-status.ensures.went status c.clear_port-then-status.result read tells asked c.clear_port-then-status.ensures.ports c.clear_port-then-status.ensures.addresses) in
     rw (← c.self.view_is)
     (clears_after c.args.port _ _ old mid new c.clear_port.ensures.went (went_then _ _ c.port_status.ensures.went c.clear_port-then-status.ensures.went) _ calls c.clear_port.ensures.addresses.keeps c.clear_port.ensures.addresses.devices disabled)

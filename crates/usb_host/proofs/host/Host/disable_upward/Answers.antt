@@ -1,6 +1,6 @@
 use Rattle.std.proofs.Common.{arith, refl, sym}
-use Rattle.usb_address.proofs.Keeping.{keeps_none, keeps_then}
-use Rattle.usb_host.proofs.Ways.{way_itself, way_parent, way_trans}
+use Rattle.usb_address.proofs.Interface.{keeps_none, keeps_then}
+use Rattle.usb_world.proofs.Interface.{way_itself, way_parent, way_trans}
 use Rattle.usb_host.proofs.Handlings.{match_err, bares_above}
 use Rattle.usb_host.proofs.Joins.{goes_none, goes_then, rests_then}
 use Rattle.usb_host.proofs.Climbs.{parent_length}

@@ -14,7 +14,7 @@ use Rattle.usb_host.specs.Hosting.{Hosting}
 use Rattle.usb_host.specs.Ports.{StandsAt}
 use Rattle.usb_host.proofs.Agreements.{nested_entered, known_some}
 use Rattle.usb_host.proofs.Risings.{rises_entered}
-use Rattle.usb_host.proofs.Balances.{accounts_entered, claims_found, range_claimed}
+use Rattle.usb_host.proofs.Balances.{accounts_entered, range_claimed}
 use Rattle.usb_host.proofs.Handlings.{found_ends, found_lost, found_fails}
 use Rattle.usb_host.proofs.Enumerations.{enumerated}
 use Rattle.usb_host.proofs.host.Host.discover.Goals as goal
@@ -34,7 +34,7 @@ invariant_of-self-2 g c =
     let finding = c.in_ok-finding.finding in
     let away = subst (λ (h : Hosting). has_at path h.entries ≡ false) (sym c.self.view_is) c.requires.away in
     let known = subst (λ (h : Hosting). known_port path h.entries ≡ Some c.args.port) (sym c.self.view_is) c.requires.port.known in
-    let claims = claims_found finding c.self.inside.pool c.enumerate.new.pool c.in_ok-finding.ensures.pool in
+    let claims = c.in_ok-finding.ensures.pool in
     rw (c.in_ok-enter.ensures.ok.0, c.duplicate.ensures, c.in_ok-enter.ensures.ok.1) (record {
       rises = rises_entered path finding c.self.inside.table.entries c.self.invariant.rises;
       range = range_claimed finding c.self.inside.pool c.enumerate.new.pool claims c.self.invariant.range;

@@ -7,7 +7,7 @@ use Rattle.usb_enum.specs.declared.finding.Finding.TheVariants.{Refused}
 use Rattle.usb_table.specs.Entries.{Entries, has_at, without}
 use Rattle.usb_table.specs.Known.{known_port}
 use Rattle.usb_table.specs.Table.{Table, entered as with_entry}
-use Rattle.usb_table.proofs.Ports.{known_port-without}
+use Rattle.usb_table.proofs.Interface.{known_port-without}
 use Rattle.usb_host.specs.Hosting.{Hosting}
 use Rattle.usb_host.specs.Progress.{waiting}
 use Rattle.usb_host.specs.Transfers.{table_in}

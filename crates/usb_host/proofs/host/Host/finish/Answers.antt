@@ -1,7 +1,7 @@
 use Rattle.std.proofs.Common.{◌≡◌, ◌∙◌, ap, sym, subst, true, Err, Some}
 use Rattle.std.specs.Prelude.{IsSomeAnd}
 use Rattle.usb_port.specs.Order.{parent_of}
-use Rattle.usb_world.specs.Live.{pend}
+use Rattle.usb_world.specs.Paths.{pend}
 use Rattle.usb_host.specs.Sound.{IsDroppable, CausesBut}
 use Rattle.usb_enum.specs.declared.fault.EnumFault.{EnumFault}
 use Rattle.usb_enum.specs.declared.fault.EnumFault.TheVariants.{ParentLost}

@@ -1,10 +1,10 @@
 use Rattle.std.proofs.Common.{◌∙◌, sym, ap, subst}
 use Rattle.usb_resources.specs.Pool.{IsFull}
-use Rattle.usb_table.proofs.Removals.{none_apart}
+use Rattle.usb_table.proofs.Interface.{none_apart}
 use Rattle.usb_table.specs.Entries.{without}
 use Rattle.usb_table.specs.Table.{Table, pipes_at}
+use Rattle.usb_world.proofs.Interface.{at_or_below_way}
 use Rattle.usb_host.specs.Transfers.{table_in}
-use Rattle.usb_host.proofs.Ways.{at_or_below_way}
 use Rattle.usb_host.specs.Hosting.{Hosting}
 use Rattle.usb_host.proofs.Agreements.{nested_without}
 use Rattle.usb_host.proofs.Risings.{rises_without}

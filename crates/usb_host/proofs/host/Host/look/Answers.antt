@@ -2,7 +2,7 @@ use Rattle.std.proofs.Common.{arith, ap, ◌≤◌, inl, subst, Ok, Err}
 use Rattle.std.proofs.lemmas.Result.{err_from_is_err_and}
 use Rattle.std.specs.Prelude.{IfErr}
 use Rattle.usb_enum.specs.Stop.{FaultAt}
-use Rattle.usb_host.specs.Handling.{Clears, FindsSound}
+use Rattle.usb_host.specs.Handling.{ClearsChange, FindsSound}
 use Rattle.usb_host.proofs.Caused.{cleared_caused, forgot_caused, still_same}
 use Rattle.usb_host.proofs.Fairness.{fair_before, fair_after}
 use Rattle.usb_host.proofs.Served.{cleared_lost, forgot_open, forgot_sound}
@@ -54,7 +54,7 @@ pub returns-in_err-status-clause-looks : goal.returns-in_err-status-clause-looks
 returns-in_err-status-clause-looks g c =
     let told = err_from_is_err_and c.from_residual.result c.from_residual.ensures.1 in
     let fault = subst (λ r. IfErr r (λ fault. FaultAt c.args.port.port fault c.clear_change.new.self.world)) c.in_err-status.was c.clear_change.ensures.told in
-    let clears = subst (λ r. Clears c.args.port.port c.args.self.now.world r c.clear_change.new.self.world) c.in_err-status.was c.clear_change.ensures.clears in
+    let clears = subst (λ r. ClearsChange c.args.port.port c.args.self.now.world r c.clear_change.new.self.world) c.in_err-status.was c.clear_change.ensures.clears in
     rw (told.1, told.2) (record {
       owned = port_rests c.args.path.now c.args.self.now (Err c.in_err-status.field-0.0) c.clear_change.new.self c.in_err-status.ensures.rests c.clear_change.ensures.goes.went.spends.roots clears.bares;
       sound = record {
@@ -66,7 +66,7 @@ returns-in_err-status-clause-looks g c =
 pub returns-in_err-discover-clause-looks : goal.returns-in_err-discover-clause-looks
 returns-in_err-discover-clause-looks g c =
     let told = err_from_is_err_and c.from_residual-in_err-discover.result c.from_residual-in_err-discover.ensures.1 in
-    let clears = subst (λ r. Clears c.args.port.port c.args.self.now.world r c.clear_change.new.self.world) c.in_ok-status.was c.clear_change.ensures.clears in
+    let clears = subst (λ r. ClearsChange c.args.port.port c.args.self.now.world r c.clear_change.new.self.world) c.in_ok-status.was c.clear_change.ensures.clears in
     let gone = stays_bare c.args.path.now c.args.port c.args.self.now c.clear_change.new.self c.forget.new.self c.requires c.in_ok-status.ensures.rests c.clear_change.ensures.goes.went.spends.roots clears.bares c.forget.ensures.others c.forget.ensures.rest in
     let finds = subst (λ r. FindsSound c.args.path.now c.forget.new.self r c.discover.new.self) c.in_err-discover.was c.discover.ensures.sound in
     rw (told.1, told.2) (record {
@@ -78,13 +78,13 @@ returns-in_err-discover-clause-looks g c =
             let forgot = goes_forgotten _ _ _ _ c.clear_change.ensures.goes c.forget.ensures.others in
             let opens = forgot_open _ c.args.path.now c.args.port c.args.self.now c.clear_change.new.self c.forget.new.self c.in_ok-status.status c.requires c.in_ok-status.ensures.rests c.clear_change.ensures.goes.went clears c.forget.ensures.others c.forget.ensures.rest c.forget.ensures.freed.pipes c.forget.ensures.gone i c.if-status.true in
             let causes = forgot_caused _ c.args.path.now c.args.port c.args.self.now c.clear_change.new.self c.requires c.in_ok-status.ensures.rests c.clear_change.ensures.goes.went c.forget.new.self c.in_ok-status.status clears c.forget.ensures.others c.forget.ensures.rest i (still_same c.clear_change.new.self c.forget.new.self c.forget.ensures.others half.still) caused in
-            finds.caused opens (fair_after _ c.args.self.now.world c.forget.new.self.world c.discover.new.self.world forgot.went half.still fair) (λ x away. causes x);
+            finds.caused opens (fair_after _ c.args.self.now.world c.forget.new.self.world c.discover.new.self.world forgot.went fair) (λ x away. causes x);
       };
     })
 
 pub returns-in_ok-discover-clause-looks : goal.returns-in_ok-discover-clause-looks
 returns-in_ok-discover-clause-looks g c =
-    let clears = subst (λ r. Clears c.args.port.port c.args.self.now.world r c.clear_change.new.self.world) c.in_ok-status.was c.clear_change.ensures.clears in
+    let clears = subst (λ r. ClearsChange c.args.port.port c.args.self.now.world r c.clear_change.new.self.world) c.in_ok-status.was c.clear_change.ensures.clears in
     let gone = stays_bare c.args.path.now c.args.port c.args.self.now c.clear_change.new.self c.forget.new.self c.requires c.in_ok-status.ensures.rests c.clear_change.ensures.goes.went.spends.roots clears.bares c.forget.ensures.others c.forget.ensures.rest in
     let finds = subst (λ r. FindsSound c.args.path.now c.forget.new.self r c.discover.new.self) c.in_ok-discover.was c.discover.ensures.sound in
     record {
@@ -96,13 +96,13 @@ returns-in_ok-discover-clause-looks g c =
             let forgot = goes_forgotten _ _ _ _ c.clear_change.ensures.goes c.forget.ensures.others in
             let opens = forgot_open _ c.args.path.now c.args.port c.args.self.now c.clear_change.new.self c.forget.new.self c.in_ok-status.status c.requires c.in_ok-status.ensures.rests c.clear_change.ensures.goes.went clears c.forget.ensures.others c.forget.ensures.rest c.forget.ensures.freed.pipes c.forget.ensures.gone i c.if-status.true in
             let causes = forgot_caused _ c.args.path.now c.args.port c.args.self.now c.clear_change.new.self c.requires c.in_ok-status.ensures.rests c.clear_change.ensures.goes.went c.forget.new.self c.in_ok-status.status clears c.forget.ensures.others c.forget.ensures.rest i (still_same c.clear_change.new.self c.forget.new.self c.forget.ensures.others half.still) caused in
-            finds.caused opens (fair_after _ c.args.self.now.world c.forget.new.self.world c.discover.new.self.world forgot.went half.still fair) (λ x away. causes x);
+            finds.caused opens (fair_after _ c.args.self.now.world c.forget.new.self.world c.discover.new.self.world forgot.went fair) (λ x away. causes x);
       };
     }
 
 pub returns-else-status-clause-looks : goal.returns-else-status-clause-looks
 returns-else-status-clause-looks g c =
-    let clears = subst (λ r. Clears c.args.port.port c.args.self.now.world r c.clear_change.new.self.world) c.in_ok-status.was c.clear_change.ensures.clears in
+    let clears = subst (λ r. ClearsChange c.args.port.port c.args.self.now.world r c.clear_change.new.self.world) c.in_ok-status.was c.clear_change.ensures.clears in
     record {
       owned = port_stays c.args.path.now c.args.self.now c.forget.new.self (stays_bare c.args.path.now c.args.port c.args.self.now c.clear_change.new.self c.forget.new.self c.requires c.in_ok-status.ensures.rests c.clear_change.ensures.goes.went.spends.roots clears.bares c.forget.ensures.others c.forget.ensures.rest);
       sound = record {

@@ -3,7 +3,7 @@ use Rattle.std.specs.Prelude.{IfSome}
 use Rattle.usb_port.specs.Path.{IsPath}
 use Rattle.usb_host.specs.Bounds.{handling_bound}
 use Rattle.usb_host.specs.Owning.{IsRooted, StaysOwned}
-use Rattle.usb_host.specs.Progress.{Goes, Did}
+use Rattle.usb_host.specs.Progress.{HostGoes, Did}
 use Rattle.usb_host.specs.Sound.{StaysSound}
 use Rattle.usb_host.specs.declared.host.Round.TheVariants.{Quiet}
 use Rattle.usb_host.proofs.Ranks.{rank_after}
@@ -11,7 +11,7 @@ use Rattle.usb_host.proofs.host.Host.look_again.Given as goal
 
 abbrev pub invariant-waiting : goal.invariant-waiting
 invariant-waiting g l = record {
-  goes : Goes (rank_after l.last * handling_bound) l.initial.self l.self;
+  goes : HostGoes (rank_after l.last * handling_bound) l.initial.self l.self;
   did : Did l.round l.initial.self l.self;
   owned : StaysOwned l.initial.self l.self;
   sound : StaysSound l.initial.self l.self;

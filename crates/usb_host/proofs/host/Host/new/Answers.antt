@@ -1,7 +1,7 @@
 use Rattle.std.proofs.Common.{◌≡◌, ◌∙◌, ◌-◌, ◌+◌, ℕ, ap, arith, refl, sym, subst, inr}
 use Rattle.usb_world.specs.World.{World, roots_of}
 use Rattle.usb_bus.specs.Traced.{Traced, still}
-use Rattle.usb_bus.proofs.Wents.{traced_set}
+use Rattle.usb_bus.proofs.Interface.{traced_set}
 use Rattle.usb_host.proofs.Powers.{powered_none, powered_length, powers_one, powered_all, powered_world}
 use Rattle.usb_host.proofs.Agreements.{nested_none}
 use Rattle.usb_host.proofs.Risings.{rises_none}

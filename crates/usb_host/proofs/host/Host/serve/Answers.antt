@@ -6,7 +6,7 @@ use Rattle.usb_host.specs.Handling.{Watches}
 use Rattle.usb_host.proofs.Caused.{causes_rests, watched_caused, tidied_caused}
 use Rattle.usb_host.proofs.Fairness.{fair_before, fair_after}
 use Rattle.usb_host.proofs.Served.{watched_sound, watched_lost, rests_stands, tidied_port}
-use Rattle.usb_address.proofs.Keeping.{keeps_then}
+use Rattle.usb_address.proofs.Interface.{keeps_then}
 use Rattle.usb_host.proofs.Handlings.{port_rests, port_then, stays_rests}
 use Rattle.usb_host.proofs.Joins.{rests_then, goes_then}
 use Rattle.usb_host.proofs.host.Host.serve.Goals as goal
@@ -46,7 +46,7 @@ returns-then-status-clause-sound g c =
       caused = λ i fair caused.
           let half = fair_before _ c.args.self.now.world c.status.new.self.world c.look.new.self.world c.look.ensures.goes.went fair in
           c.look.ensures.looks.sound.caused (watched_sound _ c.args.path.now c.args.port c.args.self.now c.status.new.self c.requires c.in_ok-status.ensures.rests c.status.ensures.goes.went c.in_ok-status.status watches i)
-          (fair_after _ c.args.self.now.world c.status.new.self.world c.look.new.self.world c.status.ensures.goes.went half.still fair)
+          (fair_after _ c.args.self.now.world c.status.new.self.world c.look.new.self.world c.status.ensures.goes.went fair)
           (causes_rests _ c.args.self.now c.status.new.self c.in_ok-status.ensures.rests c.status.ensures.goes.went c.requires.agrees half.still (watches.rests tt) i caused);
     }
 
@@ -61,6 +61,6 @@ returns-else-status-clause-sound g c =
           let half = fair_before _ c.args.self.now.world c.status.new.self.world c.tidy.new.self.world c.tidy.ensures.goes.went fair in
           tidied_caused _ c.args.path.now c.args.port c.status.new.self c.tidy.new.self stands c.tidy.ensures.rests c.tidy.ensures.goes.went c.tidy.result c.tidy.ensures.tidies c.tidy.ensures.told
           (watched_sound _ c.args.path.now c.args.port c.args.self.now c.status.new.self c.requires c.in_ok-status.ensures.rests c.status.ensures.goes.went c.in_ok-status.status watches i)
-          (fair_after _ c.args.self.now.world c.status.new.self.world c.tidy.new.self.world c.status.ensures.goes.went half.still fair)
+          (fair_after _ c.args.self.now.world c.status.new.self.world c.tidy.new.self.world c.status.ensures.goes.went fair)
           (causes_rests _ c.args.self.now c.status.new.self c.in_ok-status.ensures.rests c.status.ensures.goes.went c.requires.agrees half.still (watches.rests tt) i caused);
     }

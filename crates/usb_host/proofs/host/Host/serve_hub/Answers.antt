@@ -1,7 +1,7 @@
 use Rattle.std.proofs.Common.{ℕ, List, arith, refl, sym, subst, Err}
 use Rattle.std.specs.Prelude.{IsSome}
 use Rattle.usb_table.specs.Entries.{Entries}
-use Rattle.usb_table.specs.Listing.{finding_at, hub_at}
+use Rattle.usb_table.specs.Listing.{finding_at, hub_facts_at}
 use Rattle.usb_host.specs.Hosting.{Hosting}
 use Rattle.usb_host.proofs.Handlings.{hub_lost, lost_single}
 use Rattle.usb_host.proofs.Owners.{stays_none, stays_kept, single_kept}
@@ -39,14 +39,14 @@ returns-in-Err-Bus-clause-keeps g c = rw (← c.self.view_is) (hub_stopped c.arg
 
 pub returns-in_err-drop_hub-in-Err-clause-keeps : goal.returns-in_err-drop_hub-in-Err-clause-keeps
 returns-in_err-drop_hub-in-Err-clause-keeps g c =
-    let at = hub_listed _ (subst (λ (h : Hosting). IsSome (hub_at c.args.hub.now h.entries)) (sym c.self.view_is) c.requires) in
+    let at = hub_listed _ (subst (λ (h : Hosting). IsSome (hub_facts_at c.args.hub.now h.entries)) (sym c.self.view_is) c.requires) in
     let listed = subst (λ (p : List ℕ). IsSome (finding_at p c.poll.new.self.entries)) (sym c.duplicate.ensures) (subst (λ (es : Entries). IsSome (finding_at c.args.hub.now es)) (sym c.poll.ensures.through.entries) at) in
     let polled = stays_kept _ _ c.poll.ensures.through.entries c.poll.ensures.went.spends.roots c.poll.ensures.keeps.levels.worlds.addresses in
     rw (← c.self.view_is) (hub_fails c.from_residual-in_err-drop_hub-in-Err.result _ _ _ c.from_residual-in_err-drop_hub-in-Err.ensures.0 (stays_none _) (lost_single _ _ _ _ c.in_err-drop_hub-in-Err.was (hub_lost _ _ _ _ _ listed polled c.drop_hub.ensures.owned)) c.args.hub.now)
 
 pub returns-in_ok-drop_hub-in-Err-clause-keeps : goal.returns-in_ok-drop_hub-in-Err-clause-keeps
 returns-in_ok-drop_hub-in-Err-clause-keeps g c =
-    let listed = subst (λ (h : Hosting). IsSome (hub_at c.args.hub.now h.entries)) (sym c.self.view_is) c.requires in
+    let listed = subst (λ (h : Hosting). IsSome (hub_facts_at c.args.hub.now h.entries)) (sym c.self.view_is) c.requires in
     let failed = unserved _ _ c.in-Err.field-0 _ _ c.in-Err.ensures.polled in
     rw (← c.self.view_is) (hub_gone c.args.hub.now (Err c.in-Err.field-0) _ _ c.self.invariant c.poll.ensures.through.entries refl refl c.poll.ensures.went c.in-Err.ensures.keeps _ _ failed listed c.drop_hub.ensures.goes
     (rw c.duplicate.ensures at c.in_ok-drop_hub-in-Err.ensures.owned) (rw c.duplicate.ensures at c.in_ok-drop_hub-in-Err.ensures.sound))

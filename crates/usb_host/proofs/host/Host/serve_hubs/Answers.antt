@@ -1,5 +1,5 @@
 use Rattle.std.proofs.Common.{arith, refl, sym, ◌∙◌}
-use Rattle.usb_host.specs.Bounds.{hub_bound}
+use Rattle.usb_host.specs.Bounds.{hub_poll_bound}
 use Rattle.usb_world.specs.Steps.{here}
 use Rattle.usb_host.proofs.Owners.{stays_then, stays_none}
 use Rattle.usb_host.proofs.Parts.{hubs_fail}
@@ -15,7 +15,7 @@ hubs-init g c = record { goes = goes_none 0 _; did = refl; owned = stays_none _;
 
 pub returns-in_err-serve_hub-clause-goes : goal.returns-in_err-serve_hub-clause-goes
 returns-in_err-serve_hub-clause-goes g c =
-    rank_within hub_bound _ _ (rank_goes hub_bound c.hubs.last c.in-Some.hub _ _ _ c.hubs.invariant.path c.serve_hub.ensures.path c.in-Some.ensures.some.stands.after c.hubs.invariant.goes c.serve_hub.ensures.goes) (rank_most c.in-Some.hub c.serve_hub.ensures.path)
+    rank_within hub_poll_bound _ _ (rank_goes hub_poll_bound c.hubs.last c.in-Some.hub _ _ _ c.hubs.invariant.path c.serve_hub.ensures.path c.in-Some.ensures.some.stands.after c.hubs.invariant.goes c.serve_hub.ensures.goes) (rank_most c.in-Some.hub c.serve_hub.ensures.path)
 
 pub serve_hub-requires : goal.serve_hub-requires
 serve_hub-requires g c = next_listed c.hubs.last c.in-Some.hub c.hubs.self.entries c.in-Some.ensures.some
@@ -27,7 +27,7 @@ hubs-smaller g c =
 
 pub hubs-preserved : goal.hubs-preserved
 hubs-preserved g c = record {
-  goes = rank_goes hub_bound c.hubs.last c.in-Some.hub _ _ _ c.hubs.invariant.path c.serve_hub.ensures.path c.in-Some.ensures.some.stands.after c.hubs.invariant.goes c.serve_hub.ensures.goes;
+  goes = rank_goes hub_poll_bound c.hubs.last c.in-Some.hub _ _ _ c.hubs.invariant.path c.serve_hub.ensures.path c.in-Some.ensures.some.stands.after c.hubs.invariant.goes c.serve_hub.ensures.goes;
   did = rw c.and-round.ensures (did_then _ _ c.hubs.round c.in_ok-serve_hub.field-0 c.args.self.now c.hubs.self c.serve_hub.new.self c.hubs.invariant.goes c.serve_hub.ensures.goes c.hubs.invariant.did c.in_ok-serve_hub.ensures.did);
   owned = stays_then _ _ _ c.hubs.invariant.owned c.in_ok-serve_hub.ensures.keeps.owned;
   sound = sound_then _ _ _ _ _ c.hubs.invariant.goes.went c.serve_hub.ensures.goes.went c.hubs.invariant.sound c.in_ok-serve_hub.ensures.keeps.sound;
@@ -40,7 +40,7 @@ hubs-preserved g c = record {
 }
 
 pub returns-clause-goes : goal.returns-clause-goes
-returns-clause-goes g c = rank_within hub_bound _ _ c.hubs.invariant.goes (rank_after_most c.hubs.last c.hubs.invariant.path)
+returns-clause-goes g c = rank_within hub_poll_bound _ _ c.hubs.invariant.goes (rank_after_most c.hubs.last c.hubs.invariant.path)
 
 pub returns-in_err-serve_hub-clause-keeps : goal.returns-in_err-serve_hub-clause-keeps
 returns-in_err-serve_hub-clause-keeps g c = hubs_fail c.from_residual.result _ _ _ c.from_residual.ensures.0 c.hubs.invariant.owned c.in_err-serve_hub.ensures.keeps.owned

@@ -2,9 +2,9 @@ use Rattle.std.proofs.Common.{◌≡◌, ◌-◌, ◌*◌, None}
 use Rattle.std.specs.Prelude.{IfSome}
 use Rattle.usb_port.specs.Path.{IsPath}
 use Rattle.usb_hub.specs.Requests.{AllRest}
-use Rattle.usb_host.specs.Bounds.{hub_bound}
+use Rattle.usb_host.specs.Bounds.{hub_poll_bound}
 use Rattle.usb_host.specs.Owning.{StaysOwned}
-use Rattle.usb_host.specs.Progress.{Goes, Did}
+use Rattle.usb_host.specs.Progress.{HostGoes, Did}
 use Rattle.usb_host.specs.Sound.{IsSound, StaysSound}
 use Rattle.usb_host.specs.declared.host.Round.TheVariants.{Quiet}
 use Rattle.usb_host.proofs.Ranks.{rank_after}
@@ -13,7 +13,7 @@ use Rattle.usb_host.proofs.host.Host.serve_hubs.Given as goal
 
 abbrev pub invariant-hubs : goal.invariant-hubs
 invariant-hubs g l = record {
-  goes : Goes (rank_after l.last * hub_bound) l.initial.self l.self;
+  goes : HostGoes (rank_after l.last * hub_poll_bound) l.initial.self l.self;
   did : Did l.round l.initial.self l.self;
   owned : StaysOwned l.initial.self l.self;
   sound : StaysSound l.initial.self l.self;

@@ -1,5 +1,5 @@
 use Rattle.std.proofs.Common.{◌≡◌, ◌∙◌, sym, ap, arith, below_more, refl, ℕ, ◌≤◌, false}
-use Rattle.usb_world.specs.World.{port_at, roots_of}
+use Rattle.usb_world.specs.World.{root_port_at, roots_of}
 use Rattle.usb_host.specs.Hosting.{Hosting}
 use Rattle.usb_host.specs.declared.host.Round.TheVariants.{Quiet}
 use Rattle.usb_host.proofs.Joins.{goes_none, goes_then, goes_wider, worked_after}
@@ -33,8 +33,8 @@ ports-preserved g c = elim c.if-has_changed.branch [
     sound = c.ports.invariant.sound;
     same = c.ports.invariant.same;
     unchanged = λ quiet n least below.
-        let here = ap (λ (h : Hosting). (port_at h.world c.ports.number).connection_changed) (sym (c.ports.invariant.same quiet)) ∙ sym c.has_changed.ensures ∙ w.if-has_changed.false in
-        let P : ℕ → Type 0 = λ k. 1 ≤ k → (port_at c.args.self.now.world k).connection_changed ≡ false in
+        let here = ap (λ (h : Hosting). (root_port_at h.world c.ports.number).connection_changed) (sym (c.ports.invariant.same quiet)) ∙ sym c.has_changed.ensures ∙ w.if-has_changed.false in
+        let P : ℕ → Type 0 = λ k. 1 ≤ k → (root_port_at c.args.self.now.world k).connection_changed ≡ false in
         below_more P c.ports.number (λ k lt first. c.ports.invariant.unchanged quiet k first lt) (λ _. here) n below least;
   })
 ]

@@ -1,19 +1,19 @@
 use Rattle.std.proofs.Common.{◌≡◌, ◌-◌, ◌*◌, ◌<◌}
 use Rattle.std.specs.Prelude.{ℕ, ◌≤◌, false}
-use Rattle.usb_world.specs.World.{port_at}
+use Rattle.usb_world.specs.World.{root_port_at}
 use Rattle.usb_host.specs.Bounds.{handling_bound}
 use Rattle.usb_host.specs.Owning.{StaysOwned}
-use Rattle.usb_host.specs.Progress.{Goes, Did}
+use Rattle.usb_host.specs.Progress.{HostGoes, Did}
 use Rattle.usb_host.specs.Sound.{StaysSound}
 use Rattle.usb_host.specs.declared.host.Round.TheVariants.{Quiet}
 use Rattle.usb_host.proofs.host.Host.serve_roots.Given as goal
 
 abbrev pub invariant-ports : goal.invariant-ports
 invariant-ports g l = record {
-  goes : Goes ((l.number - 1) * handling_bound) l.initial.self l.self;
+  goes : HostGoes ((l.number - 1) * handling_bound) l.initial.self l.self;
   did : Did l.round l.initial.self l.self;
   owned : StaysOwned l.initial.self l.self;
   sound : StaysSound l.initial.self l.self;
   same : l.round ≡ Quiet → l.self ≡ l.initial.self;
-  unchanged : l.round ≡ Quiet → (n : ℕ) → 1 ≤ n → n < l.number → (port_at l.initial.self.world n).connection_changed ≡ false;
+  unchanged : l.round ≡ Quiet → (n : ℕ) → 1 ≤ n → n < l.number → (root_port_at l.initial.self.world n).connection_changed ≡ false;
 }

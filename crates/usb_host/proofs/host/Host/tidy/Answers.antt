@@ -1,8 +1,8 @@
 use Rattle.std.proofs.Common.{◌≡◌, arith, refl, subst, Ok}
 use Rattle.std.proofs.lemmas.Result.{err_from_is_err_and}
 use Rattle.usb_bus.specs.Traced.{WentOn}
-use Rattle.usb_bus.proofs.Wents.{went_none, went_then, went_wider}
-use Rattle.usb_enum.proofs.Targets.{order_most as order_fits}
+use Rattle.usb_bus.proofs.Interface.{went_none, went_then, went_wider}
+use Rattle.usb_enum.proofs.Interface.{order_most as order_fits}
 use Rattle.usb_enum.specs.Stop.{at_port}
 use Rattle.usb_host.specs.Bounds.{order_most}
 use Rattle.usb_host.specs.Handling.{Tidies}

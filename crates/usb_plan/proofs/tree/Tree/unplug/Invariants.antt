@@ -1,5 +1,5 @@
 use Rattle.std.proofs.Common.{◌≡◌, length}
-use Rattle.usb_world.specs.Plugged.{unplugged}
+use Rattle.usb_world.specs.PluggedDevices.{unplugged}
 use Rattle.usb_plan.proofs.tree.Tree.unplug.Given as goal
 
 abbrev pub invariant-places : goal.invariant-places

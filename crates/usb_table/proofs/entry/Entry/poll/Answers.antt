@@ -1,5 +1,5 @@
 use Rattle.std.proofs.Common.{arith}
-use Rattle.usb_bus.proofs.Wents.{went_none, went_wider}
+use Rattle.usb_bus.proofs.Interface.{went_none, went_wider}
 use Rattle.usb_table.proofs.entry.Entry.poll.Goals as goal
 use Rattle.usb_table.proofs.entry.Entry.poll.Goals.{in-Hub, in-Function}
 

@@ -1,5 +1,5 @@
 use Rattle.std.proofs.Common.{arith}
-use Rattle.usb_bus.proofs.Wents.{went_none, went_then, went_wider}
+use Rattle.usb_bus.proofs.Interface.{went_none, went_then, went_wider}
 use Rattle.usb_table.proofs.pipes.BulkPipes.clear_halt.Goals as goal
 
 pub returns-then-is_none-2-clause-went : goal.returns-then-is_none-2-clause-went

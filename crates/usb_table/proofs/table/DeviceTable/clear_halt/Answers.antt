@@ -1,14 +1,14 @@
 use Rattle.std.proofs.Common.{None, ◌≡◌, ◌∙◌, refl, sym, ap, subst, arith, Err}
 use Rattle.usb_world.specs.World.{World}
 use Rattle.slab.specs.Slab.{get, with_value}
-use Rattle.usb_bus.proofs.Wents.{went_none, went_wider}
+use Rattle.usb_bus.proofs.Interface.{went_none, went_wider}
 use Rattle.usb_table.specs.declared.pipes.Pipes.{Pipes}
 use Rattle.usb_table.specs.declared.pipes.Pipes.TheVariants.{Absent}
 use Rattle.usb_table.specs.declared.fault.EndpointFault.TheVariants.{NoDevice}
 use Rattle.usb_table.specs.Keys.{table_of}
 use Rattle.usb_table.specs.Levels.{KeepsMoved}
 use Rattle.usb_table.specs.Table.{Table, pipes_at, GoesThrough}
-use Rattle.usb_table.specs.Transfers.{Cleared, Keeps}
+use Rattle.usb_table.specs.Transfers.{PipesCleared, OnlyTransfers}
 use Rattle.usb_table.proofs.Keeping.{spares_none, cleared_spares}
 use Rattle.usb_table.proofs.Kept.{cleared_keeps}
 use Rattle.usb_table.proofs.Moved.{cleared_levels}
@@ -34,7 +34,7 @@ returns-in-Some-clause-through g c =
 
 pub returns-in-Some-clause-cleared : goal.returns-in-Some-clause-cleared
 returns-in-Some-clause-cleared g c =
-    told_at (λ p q. Cleared p (g.B.Bus.world c.args.bus.now) c.clear_halt.result q (g.B.Bus.world c.clear_halt.new.bus))
+    told_at (λ p q. PipesCleared p (g.B.Bus.world c.args.bus.now) c.clear_halt.result q (g.B.Bus.world c.clear_halt.new.bus))
     c.index_mut.result.now.pipes c.clear_halt.new.self.pipes _ _ (ap (pipes_at c.args.path.now) (sym c.self.view_is) ∙ (passed g c).before) (passed g c).then c.clear_halt.ensures.cleared
 
 pub returns-in-Some-clause-keeps : goal.returns-in-Some-clause-keeps
@@ -44,11 +44,11 @@ returns-in-Some-clause-keeps g c =
     let v : World = g.B.Bus.world c.clear_halt.new.bus in
     let was : Table = table_of (get s.entries) s.indexes.by_path.entries in
     let left : Table = table_of (get (with_value s.entries c.in-Some.key.now c.clear_halt.new.self)) s.indexes.by_path.entries in
-    let keeps : Keeps w v = cleared_spares c.index_mut.result.now.pipes c.clear_halt.new.self.pipes _ c.clear_halt.result _ c.clear_halt.ensures.cleared in
+    let keeps : OnlyTransfers w v = cleared_spares c.index_mut.result.now.pipes c.clear_halt.new.self.pipes _ c.clear_halt.result _ c.clear_halt.ensures.cleared in
     subst (λ (t : Table). KeepsMoved c.args.path.now t w left v) c.self.view_is
     (cleared_levels c.args.path.now was left w v (passed g c).goes keeps c.clear_halt.result c.index_mut.result.now.finding
     (found_slot c.args.path.now s.entries s.indexes.by_path.entries c.in-Some.key.now c.index_mut.result.now (sym c.in-Some.ensures.value) c.index_mut.ensures.value)
-    (told_at (λ p q. Cleared p (g.B.Bus.world c.args.bus.now) c.clear_halt.result q (g.B.Bus.world c.clear_halt.new.bus))
+    (told_at (λ p q. PipesCleared p (g.B.Bus.world c.args.bus.now) c.clear_halt.result q (g.B.Bus.world c.clear_halt.new.bus))
     c.index_mut.result.now.pipes c.clear_halt.new.self.pipes _ _ (passed g c).before (passed g c).then c.clear_halt.ensures.cleared))
 
 pub returns-in-None-clause-through : goal.returns-in-None-clause-through
@@ -63,7 +63,7 @@ pub returns-in-None-clause-cleared : goal.returns-in-None-clause-cleared
 returns-in-None-clause-cleared g c =
     let s = c.self.inside in
     let none : pipes_at c.args.path.now c.args.self.now ≡ Absent = ap (pipes_at c.args.path.now) (sym c.self.view_is) ∙ pipes_none (get s.entries) c.args.path.now s.indexes.by_path.entries (sym c.in-None.ensures.value) in
-    subst (λ (p : Pipes). Cleared p (g.B.Bus.world c.args.bus.now) (Err NoDevice) p (g.B.Bus.world c.args.bus.now)) (sym none) (refl, refl, refl)
+    subst (λ (p : Pipes). PipesCleared p (g.B.Bus.world c.args.bus.now) (Err NoDevice) p (g.B.Bus.world c.args.bus.now)) (sym none) (refl, refl, refl)
 
 pub returns-in-None-clause-keeps : goal.returns-in-None-clause-keeps
 returns-in-None-clause-keeps g c =

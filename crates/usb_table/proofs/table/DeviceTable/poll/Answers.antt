@@ -1,14 +1,14 @@
 use Rattle.std.proofs.Common.{◌≡◌, ◌∙◌, refl, sym, ap, subst, arith, Ok, None}
 use Rattle.usb_world.specs.World.{World}
 use Rattle.slab.specs.Slab.{get, with_value}
-use Rattle.usb_bus.proofs.Wents.{went_none, went_wider}
+use Rattle.usb_bus.proofs.Interface.{went_none, went_wider}
 use Rattle.usb_table.specs.declared.pipes.Pipes.{Pipes}
 use Rattle.usb_table.specs.declared.pipes.Pipes.TheVariants.{Absent}
 use Rattle.usb_table.specs.Known.{is_below_hub}
 use Rattle.usb_table.specs.Keys.{table_of, findings}
 use Rattle.usb_table.specs.Levels.{KeepsPolled}
 use Rattle.usb_table.specs.Table.{Table, pipes_at, GoesThrough}
-use Rattle.usb_table.specs.Transfers.{Polled, Keeps}
+use Rattle.usb_table.specs.Transfers.{PipesPolled, OnlyTransfers}
 use Rattle.usb_table.proofs.Keeping.{spares_none, polled_spares}
 use Rattle.usb_table.proofs.Kept.{polled_keeps}
 use Rattle.usb_table.proofs.Polling.{polled_levels, unpolled}
@@ -34,7 +34,7 @@ returns-in-Some-clause-through g c =
 
 pub returns-in-Some-clause-polled : goal.returns-in-Some-clause-polled
 returns-in-Some-clause-polled g c =
-    told_at (λ p q. Polled p (g.B.Bus.world c.args.bus.now) c.poll.result q (g.B.Bus.world c.poll.new.bus))
+    told_at (λ p q. PipesPolled p (g.B.Bus.world c.args.bus.now) c.poll.result q (g.B.Bus.world c.poll.new.bus))
     c.index_mut.result.now.pipes c.poll.new.self.pipes _ _ (ap (pipes_at c.args.hub.now) (sym c.self.view_is) ∙ (passed g c).before) (passed g c).then c.poll.ensures.polled
 
 pub returns-in-Some-clause-keeps : goal.returns-in-Some-clause-keeps
@@ -44,11 +44,11 @@ returns-in-Some-clause-keeps g c =
     let v : World = g.B.Bus.world c.poll.new.bus in
     let was : Table = table_of (get s.entries) s.indexes.by_path.entries in
     let left : Table = table_of (get (with_value s.entries c.in-Some.key.now c.poll.new.self)) s.indexes.by_path.entries in
-    let keeps : Keeps w v = polled_spares c.index_mut.result.now.finding (is_below_hub c.args.hub.now) c.index_mut.result.now.pipes c.poll.new.self.pipes _ c.poll.result _ (c.self.invariant.1 c.args.hub.now c.in-Some.key.now c.index_mut.result.now (sym c.in-Some.ensures.value) c.index_mut.ensures.value) c.poll.ensures.polled in
+    let keeps : OnlyTransfers w v = polled_spares c.index_mut.result.now.finding (is_below_hub c.args.hub.now) c.index_mut.result.now.pipes c.poll.new.self.pipes _ c.poll.result _ (c.self.invariant.1 c.args.hub.now c.in-Some.key.now c.index_mut.result.now (sym c.in-Some.ensures.value) c.index_mut.ensures.value) c.poll.ensures.polled in
     subst (λ (t : Table). KeepsPolled c.args.hub.now t w c.poll.result left v) c.self.view_is
     (polled_levels c.args.hub.now was left w v c.poll.result (passed g c).goes keeps c.index_mut.result.now.finding
     (found_slot c.args.hub.now s.entries s.indexes.by_path.entries c.in-Some.key.now c.index_mut.result.now (sym c.in-Some.ensures.value) c.index_mut.ensures.value)
-    (told_at (λ p q. Polled p (g.B.Bus.world c.args.bus.now) c.poll.result q (g.B.Bus.world c.poll.new.bus))
+    (told_at (λ p q. PipesPolled p (g.B.Bus.world c.args.bus.now) c.poll.result q (g.B.Bus.world c.poll.new.bus))
     c.index_mut.result.now.pipes c.poll.new.self.pipes _ _ (passed g c).before (passed g c).then c.poll.ensures.polled))
 
 pub returns-in-None-clause-through : goal.returns-in-None-clause-through
@@ -63,7 +63,7 @@ pub returns-in-None-clause-polled : goal.returns-in-None-clause-polled
 returns-in-None-clause-polled g c =
     let s = c.self.inside in
     let none : pipes_at c.args.hub.now c.args.self.now ≡ Absent = ap (pipes_at c.args.hub.now) (sym c.self.view_is) ∙ pipes_none (get s.entries) c.args.hub.now s.indexes.by_path.entries (sym c.in-None.ensures.value) in
-    subst (λ (p : Pipes). Polled p (g.B.Bus.world c.args.bus.now) (Ok None) p (g.B.Bus.world c.args.bus.now)) (sym none) (refl, refl, refl)
+    subst (λ (p : Pipes). PipesPolled p (g.B.Bus.world c.args.bus.now) (Ok None) p (g.B.Bus.world c.args.bus.now)) (sym none) (refl, refl, refl)
 
 pub returns-in-None-clause-keeps : goal.returns-in-None-clause-keeps
 returns-in-None-clause-keeps g c =

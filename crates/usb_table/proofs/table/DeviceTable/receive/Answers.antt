@@ -1,7 +1,7 @@
 use Rattle.std.proofs.Common.{None, ◌≡◌, ◌∙◌, refl, sym, ap, subst, arith, ◌*◌, Err}
 use Rattle.usb_world.specs.World.{World}
 use Rattle.slab.specs.Slab.{get, with_value}
-use Rattle.usb_bus.proofs.Wents.{went_none, went_wider}
+use Rattle.usb_bus.proofs.Interface.{went_none, went_wider}
 use Rattle.usb_table.specs.declared.pipes.Pipes.{Pipes}
 use Rattle.usb_table.specs.declared.pipes.Pipes.TheVariants.{Absent}
 use Rattle.usb_table.specs.declared.fault.EndpointFault.TheVariants.{NoDevice}
@@ -9,7 +9,7 @@ use Rattle.usb_table.specs.Known.{is_below_hub}
 use Rattle.usb_table.specs.Keys.{table_of}
 use Rattle.usb_table.specs.Levels.{KeepsMoved}
 use Rattle.usb_table.specs.Table.{Table, pipes_at, GoesThrough}
-use Rattle.usb_table.specs.Transfers.{Received, Keeps}
+use Rattle.usb_table.specs.Transfers.{PipesReceived, OnlyTransfers}
 use Rattle.usb_table.proofs.Keeping.{spares_none, received_spares}
 use Rattle.usb_table.proofs.Kept.{received_keeps}
 use Rattle.usb_table.proofs.Moved.{received_levels}
@@ -35,7 +35,7 @@ returns-in-Some-clause-through g c =
 
 pub returns-in-Some-clause-received : goal.returns-in-Some-clause-received
 returns-in-Some-clause-received g c =
-    told_at (λ p q. Received p c.args.packets (g.B.Bus.world c.args.bus.now) c.receive.result q (g.B.Bus.world c.receive.new.bus))
+    told_at (λ p q. PipesReceived p c.args.packets (g.B.Bus.world c.args.bus.now) c.receive.result q (g.B.Bus.world c.receive.new.bus))
     c.index_mut.result.now.pipes c.receive.new.self.pipes _ _ (ap (pipes_at c.args.path.now) (sym c.self.view_is) ∙ (passed g c).before) (passed g c).then c.receive.ensures.received
 
 pub returns-in-Some-clause-keeps : goal.returns-in-Some-clause-keeps
@@ -45,11 +45,11 @@ returns-in-Some-clause-keeps g c =
     let v : World = g.B.Bus.world c.receive.new.bus in
     let was : Table = table_of (get s.entries) s.indexes.by_path.entries in
     let left : Table = table_of (get (with_value s.entries c.in-Some.key.now c.receive.new.self)) s.indexes.by_path.entries in
-    let keeps : Keeps w v = received_spares c.index_mut.result.now.finding (is_below_hub c.args.path.now) c.index_mut.result.now.pipes c.receive.new.self.pipes c.args.packets _ c.receive.result _ (c.self.invariant.1 c.args.path.now c.in-Some.key.now c.index_mut.result.now (sym c.in-Some.ensures.value) c.index_mut.ensures.value) c.receive.ensures.received in
+    let keeps : OnlyTransfers w v = received_spares c.index_mut.result.now.finding (is_below_hub c.args.path.now) c.index_mut.result.now.pipes c.receive.new.self.pipes c.args.packets _ c.receive.result _ (c.self.invariant.1 c.args.path.now c.in-Some.key.now c.index_mut.result.now (sym c.in-Some.ensures.value) c.index_mut.ensures.value) c.receive.ensures.received in
     subst (λ (t : Table). KeepsMoved c.args.path.now t w left v) c.self.view_is
     (received_levels c.args.path.now was left w v (passed g c).goes keeps c.args.packets c.receive.result c.index_mut.result.now.finding
     (found_slot c.args.path.now s.entries s.indexes.by_path.entries c.in-Some.key.now c.index_mut.result.now (sym c.in-Some.ensures.value) c.index_mut.ensures.value)
-    (told_at (λ p q. Received p c.args.packets (g.B.Bus.world c.args.bus.now) c.receive.result q (g.B.Bus.world c.receive.new.bus))
+    (told_at (λ p q. PipesReceived p c.args.packets (g.B.Bus.world c.args.bus.now) c.receive.result q (g.B.Bus.world c.receive.new.bus))
     c.index_mut.result.now.pipes c.receive.new.self.pipes _ _ (passed g c).before (passed g c).then c.receive.ensures.received))
 
 pub returns-in-None-clause-through : goal.returns-in-None-clause-through
@@ -64,7 +64,7 @@ pub returns-in-None-clause-received : goal.returns-in-None-clause-received
 returns-in-None-clause-received g c =
     let s = c.self.inside in
     let none : pipes_at c.args.path.now c.args.self.now ≡ Absent = ap (pipes_at c.args.path.now) (sym c.self.view_is) ∙ pipes_none (get s.entries) c.args.path.now s.indexes.by_path.entries (sym c.in-None.ensures.value) in
-    subst (λ (p : Pipes). Received p c.args.packets (g.B.Bus.world c.args.bus.now) (Err NoDevice) p (g.B.Bus.world c.args.bus.now)) (sym none) (refl, refl, refl)
+    subst (λ (p : Pipes). PipesReceived p c.args.packets (g.B.Bus.world c.args.bus.now) (Err NoDevice) p (g.B.Bus.world c.args.bus.now)) (sym none) (refl, refl, refl)
 
 pub returns-in-None-clause-keeps : goal.returns-in-None-clause-keeps
 returns-in-None-clause-keeps g c =

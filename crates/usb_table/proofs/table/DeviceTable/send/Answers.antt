@@ -1,7 +1,7 @@
 use Rattle.std.proofs.Common.{None, ◌≡◌, ◌∙◌, refl, sym, ap, subst, arith, ◌*◌, length, Err}
 use Rattle.usb_world.specs.World.{World}
 use Rattle.slab.specs.Slab.{get, with_value}
-use Rattle.usb_bus.proofs.Wents.{went_none, went_wider}
+use Rattle.usb_bus.proofs.Interface.{went_none, went_wider}
 use Rattle.usb_table.specs.declared.pipes.Pipes.{Pipes}
 use Rattle.usb_table.specs.declared.pipes.Pipes.TheVariants.{Absent}
 use Rattle.usb_table.specs.declared.fault.EndpointFault.TheVariants.{NoDevice}
@@ -9,7 +9,7 @@ use Rattle.usb_table.specs.Known.{is_below_hub}
 use Rattle.usb_table.specs.Keys.{table_of}
 use Rattle.usb_table.specs.Levels.{KeepsMoved}
 use Rattle.usb_table.specs.Table.{Table, pipes_at, GoesThrough}
-use Rattle.usb_table.specs.Transfers.{Sent, Keeps}
+use Rattle.usb_table.specs.Transfers.{PipesSent, OnlyTransfers}
 use Rattle.usb_table.proofs.Keeping.{spares_none, sent_spares}
 use Rattle.usb_table.proofs.Kept.{sent_keeps}
 use Rattle.usb_table.proofs.Moved.{sent_levels}
@@ -35,7 +35,7 @@ returns-in-Some-clause-through g c =
 
 pub returns-in-Some-clause-sent : goal.returns-in-Some-clause-sent
 returns-in-Some-clause-sent g c =
-    told_at (λ p q. Sent p c.args.bytes.now (g.B.Bus.world c.args.bus.now) c.send.result q (g.B.Bus.world c.send.new.bus))
+    told_at (λ p q. PipesSent p c.args.bytes.now (g.B.Bus.world c.args.bus.now) c.send.result q (g.B.Bus.world c.send.new.bus))
     c.index_mut.result.now.pipes c.send.new.self.pipes _ _ (ap (pipes_at c.args.path.now) (sym c.self.view_is) ∙ (passed g c).before) (passed g c).then c.send.ensures.sent
 
 pub returns-in-Some-clause-keeps : goal.returns-in-Some-clause-keeps
@@ -45,11 +45,11 @@ returns-in-Some-clause-keeps g c =
     let v : World = g.B.Bus.world c.send.new.bus in
     let was : Table = table_of (get s.entries) s.indexes.by_path.entries in
     let left : Table = table_of (get (with_value s.entries c.in-Some.key.now c.send.new.self)) s.indexes.by_path.entries in
-    let keeps : Keeps w v = sent_spares c.index_mut.result.now.finding (is_below_hub c.args.path.now) c.index_mut.result.now.pipes c.send.new.self.pipes c.args.bytes.now _ c.send.result _ (c.self.invariant.1 c.args.path.now c.in-Some.key.now c.index_mut.result.now (sym c.in-Some.ensures.value) c.index_mut.ensures.value) c.send.ensures.sent in
+    let keeps : OnlyTransfers w v = sent_spares c.index_mut.result.now.finding (is_below_hub c.args.path.now) c.index_mut.result.now.pipes c.send.new.self.pipes c.args.bytes.now _ c.send.result _ (c.self.invariant.1 c.args.path.now c.in-Some.key.now c.index_mut.result.now (sym c.in-Some.ensures.value) c.index_mut.ensures.value) c.send.ensures.sent in
     subst (λ (t : Table). KeepsMoved c.args.path.now t w left v) c.self.view_is
     (sent_levels c.args.path.now was left w v (passed g c).goes keeps c.args.bytes.now c.send.result c.index_mut.result.now.finding
     (found_slot c.args.path.now s.entries s.indexes.by_path.entries c.in-Some.key.now c.index_mut.result.now (sym c.in-Some.ensures.value) c.index_mut.ensures.value)
-    (told_at (λ p q. Sent p c.args.bytes.now (g.B.Bus.world c.args.bus.now) c.send.result q (g.B.Bus.world c.send.new.bus))
+    (told_at (λ p q. PipesSent p c.args.bytes.now (g.B.Bus.world c.args.bus.now) c.send.result q (g.B.Bus.world c.send.new.bus))
     c.index_mut.result.now.pipes c.send.new.self.pipes _ _ (passed g c).before (passed g c).then c.send.ensures.sent))
 
 pub returns-in-None-clause-through : goal.returns-in-None-clause-through
@@ -64,7 +64,7 @@ pub returns-in-None-clause-sent : goal.returns-in-None-clause-sent
 returns-in-None-clause-sent g c =
     let s = c.self.inside in
     let none : pipes_at c.args.path.now c.args.self.now ≡ Absent = ap (pipes_at c.args.path.now) (sym c.self.view_is) ∙ pipes_none (get s.entries) c.args.path.now s.indexes.by_path.entries (sym c.in-None.ensures.value) in
-    subst (λ (p : Pipes). Sent p c.args.bytes.now (g.B.Bus.world c.args.bus.now) (Err NoDevice) p (g.B.Bus.world c.args.bus.now)) (sym none) (refl, refl, refl)
+    subst (λ (p : Pipes). PipesSent p c.args.bytes.now (g.B.Bus.world c.args.bus.now) (Err NoDevice) p (g.B.Bus.world c.args.bus.now)) (sym none) (refl, refl, refl)
 
 pub returns-in-None-clause-keeps : goal.returns-in-None-clause-keeps
 returns-in-None-clause-keeps g c =

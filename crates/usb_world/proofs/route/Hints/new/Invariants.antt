@@ -1,5 +1,5 @@
-use Rattle.std.specs.Prelude.{⊤}
+use Rattle.usb_world.specs.Hinted.{NoPaths}
 use Rattle.usb_world.proofs.route.Hints.new.Given as goal
 
 abbrev pub invariant-paths : goal.invariant-paths
-invariant-paths l = ⊤
+invariant-paths l = NoPaths l.paths.items

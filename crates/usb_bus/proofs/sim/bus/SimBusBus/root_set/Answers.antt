@@ -1,6 +1,6 @@
 use Rattle.std.proofs.Common.{sym, ◌∙◌}
 use Rattle.usb_bus.specs.Sim.{world_of}
-use Rattle.usb_world.proofs.Counts.{set_ends, set_none}
+use Rattle.usb_world.proofs.Interface.{set_ends, set_none}
 use Rattle.usb_bus.proofs.sim.bus.SimBusBus.root_set.Goals as goal
 
 pub returns-in-Some-clause-call : goal.returns-in-Some-clause-call

@@ -1,0 +1,244 @@
+-- What a tree of ports says of a path, by the place above it.
+use Rattle.std.proofs.Common.{◌≡◌, ◌⊎◌, inl, inr, ℕ, zero, suc, Bool, true, false, ◌&&◌, ◌||◌, List, [], ◌∷◌, ◌++◌, None, Some, is_some, refl, ap, sym, ◌∙◌, append-nil}
+use Rattle.std.proofs.lemmas.Option.{same_Some}
+use Rattle.usb_port.specs.PortState.{PortState, is_attached, speed_of}
+use Rattle.usb_device.specs.Tree.{Ports, ended, vacant, taken, place, place_at, reach, reach_at, state_at, port_at}
+use Rattle.usb_device.specs.View.{state_there, port_there}
+use Rattle.usb_world.specs.Paths.{live, live_at, pend, pend_at}
+use Rattle.usb_world.specs.SanePorts.{IsSane}
+use Rattle.usb_world.proofs.Interface.{and_false, and_of, both, either_of, no, or_nothing, or_right}
+use Rattle.usb_address.proofs.HubPorts.{below_of}
+use Rattle.usb_device.proofs.Interface.{or-joined}
+
+-- Tests that are joined
+
+and_joined : (a b c : Bool) → (a && (b && c)) ≡ ((a && b) && c)
+and_joined true b c = refl
+and_joined false b c = refl
+
+-- either pends; or the way is powered, and what is behind it pends
+pend_joined : (power change above live behind : Bool) → (power && (change || (above || (live && behind)))) ≡ ((power && (change || above)) || ((power && live) && behind))
+pend_joined true change above live behind = or-joined change above (live && behind)
+pend_joined false change above live behind = refl
+
+pend_first : (power change behind : Bool) → (power && (change || behind)) ≡ ((power && change) || (power && behind))
+pend_first true change behind = refl
+pend_first false change behind = refl
+
+pend_alone : (a power : Bool) → a ≡ (a || (power && false))
+pend_alone a power = sym (ap (λ x. a || x) (and_false power) ∙ or_nothing a)
+
+-- The ports below a place
+
+none_state : (n : ℕ) (r : List ℕ) → None ≡ state_there ended (n ∷ r)
+unfolding state_at
+none_state zero r = refl
+none_state (suc i) r = refl
+
+none_port : (n : ℕ) (r : List ℕ) → None ≡ port_there ended (n ∷ r)
+unfolding port_at
+none_port zero r = refl
+none_port (suc i) r = refl
+
+none_live : (n : ℕ) (r : List ℕ) → live ended (n ∷ r) ≡ false
+unfolding live_at
+none_live zero r = refl
+none_live (suc i) r = refl
+
+none_pend : (n : ℕ) (r : List ℕ) → pend ended (n ∷ r) ≡ false
+unfolding pend_at
+none_pend zero r = refl
+none_pend (suc i) r = refl
+
+state_below_at : (k : Ports) (j : ℕ) (p : List ℕ) (n : ℕ) (r : List ℕ) → state_at k j (p ++ n ∷ r) ≡ state_there (below_of (place_at k j p)) (n ∷ r)
+unfolding state_at place_at
+state_below_at ended j p n r = none_state n r
+state_below_at (vacant b k) zero [] n r = none_state n r
+state_below_at (vacant b k) zero (m ∷ p) n r = none_state n r
+state_below_at (vacant b k) (suc j) p n r = state_below_at k j p n r
+state_below_at (taken b s a k) zero [] zero r = refl
+state_below_at (taken b s a k) zero [] (suc i) r = refl
+state_below_at (taken b s a k) zero (zero ∷ p) n r = none_state n r
+state_below_at (taken b s a k) zero (suc i ∷ p) n r = state_below_at a i p n r
+state_below_at (taken b s a k) (suc j) p n r = state_below_at k j p n r
+
+pub port_below_at : (k : Ports) (j : ℕ) (p : List ℕ) (n : ℕ) (r : List ℕ) → port_at k j (p ++ n ∷ r) ≡ port_there (below_of (place_at k j p)) (n ∷ r)
+unfolding port_at place_at
+port_below_at ended j p n r = none_port n r
+port_below_at (vacant b k) zero [] n r = none_port n r
+port_below_at (vacant b k) zero (m ∷ p) n r = none_port n r
+port_below_at (vacant b k) (suc j) p n r = port_below_at k j p n r
+port_below_at (taken b s a k) zero [] zero r = refl
+port_below_at (taken b s a k) zero [] (suc i) r = refl
+port_below_at (taken b s a k) zero (zero ∷ p) n r = none_port n r
+port_below_at (taken b s a k) zero (suc i ∷ p) n r = port_below_at a i p n r
+port_below_at (taken b s a k) (suc j) p n r = port_below_at k j p n r
+
+reach_below_at : (k : Ports) (j : ℕ) (p : List ℕ) (n : ℕ) (r : List ℕ) → reach_at k j (p ++ n ∷ r) ≡ (reach_at k j p && reach (below_of (place_at k j p)) (n ∷ r))
+unfolding reach_at place_at
+reach_below_at ended j p n r = refl
+reach_below_at (vacant b k) zero [] n r = refl
+reach_below_at (vacant b k) zero (m ∷ p) n r = refl
+reach_below_at (vacant b k) (suc j) p n r = reach_below_at k j p n r
+reach_below_at (taken b s a k) zero [] zero r = sym (and_false b.enable)
+reach_below_at (taken b s a k) zero [] (suc i) r = refl
+reach_below_at (taken b s a k) zero (zero ∷ p) n r = refl
+reach_below_at (taken b s a k) zero (suc i ∷ p) n r =
+    ap (λ x. b.enable && x) (reach_below_at a i p n r) ∙ and_joined b.enable (reach_at a i p) (reach (below_of (place_at a i p)) (n ∷ r))
+reach_below_at (taken b s a k) (suc j) p n r = reach_below_at k j p n r
+
+live_below_at : (k : Ports) (j : ℕ) (p : List ℕ) (n : ℕ) (r : List ℕ) → live_at k j (p ++ n ∷ r) ≡ (live_at k j p && live (below_of (place_at k j p)) (n ∷ r))
+unfolding live_at place_at
+live_below_at ended j p n r = refl
+live_below_at (vacant b k) zero [] n r = sym (ap (λ x. b.power && x) (none_live n r) ∙ and_false b.power)
+live_below_at (vacant b k) zero (m ∷ p) n r = refl
+live_below_at (vacant b k) (suc j) p n r = live_below_at k j p n r
+live_below_at (taken b s a k) zero [] zero r = sym (and_false b.power)
+live_below_at (taken b s a k) zero [] (suc i) r = refl
+live_below_at (taken b s a k) zero (zero ∷ p) n r = refl
+live_below_at (taken b s a k) zero (suc i ∷ p) n r =
+    ap (λ x. b.power && x) (live_below_at a i p n r) ∙ and_joined b.power (live_at a i p) (live (below_of (place_at a i p)) (n ∷ r))
+live_below_at (taken b s a k) (suc j) p n r = live_below_at k j p n r
+
+pend_below_at : (k : Ports) (j : ℕ) (p : List ℕ) (n : ℕ) (r : List ℕ) → pend_at k j (p ++ n ∷ r) ≡ (pend_at k j p || (live_at k j p && pend (below_of (place_at k j p)) (n ∷ r)))
+unfolding pend_at live_at place_at
+pend_below_at ended j p n r = refl
+pend_below_at (vacant b k) zero [] n r = pend_alone (b.power && b.connection_changed) b.power ∙ sym (ap (λ x. (b.power && b.connection_changed) || (b.power && x)) (none_pend n r))
+pend_below_at (vacant b k) zero (m ∷ p) n r = sym (or_nothing (b.power && b.connection_changed))
+pend_below_at (vacant b k) (suc j) p n r = pend_below_at k j p n r
+pend_below_at (taken b s a k) zero [] zero r = pend_alone (b.power && b.connection_changed) b.power
+pend_below_at (taken b s a k) zero [] (suc i) r = pend_first b.power b.connection_changed (pend_at a i r)
+pend_below_at (taken b s a k) zero (zero ∷ p) n r = sym (or_nothing (b.power && b.connection_changed))
+pend_below_at (taken b s a k) zero (suc i ∷ p) n r =
+    ap (λ x. b.power && (b.connection_changed || x)) (pend_below_at a i p n r)
+    ∙ pend_joined b.power b.connection_changed (pend_at a i p) (live_at a i p) (pend (below_of (place_at a i p)) (n ∷ r))
+pend_below_at (taken b s a k) (suc j) p n r = pend_below_at k j p n r
+
+-- The same of paths
+
+pub state_below : (k : Ports) (m : ℕ) (p : List ℕ) (n : ℕ) (r : List ℕ) → state_there k ((m ∷ p) ++ n ∷ r) ≡ state_there (below_of (place k (m ∷ p))) (n ∷ r)
+state_below k zero p n r = none_state n r
+state_below k (suc j) p n r = state_below_at k j p n r
+
+pub port_below : (k : Ports) (m : ℕ) (p : List ℕ) (n : ℕ) (r : List ℕ) → port_there k ((m ∷ p) ++ n ∷ r) ≡ port_there (below_of (place k (m ∷ p))) (n ∷ r)
+port_below k zero p n r = none_port n r
+port_below k (suc j) p n r = port_below_at k j p n r
+
+pub reach_below : (k : Ports) (m : ℕ) (p : List ℕ) (n : ℕ) (r : List ℕ) → reach k ((m ∷ p) ++ n ∷ r) ≡ (reach k (m ∷ p) && reach (below_of (place k (m ∷ p))) (n ∷ r))
+reach_below k zero p n r = refl
+reach_below k (suc j) p n r = reach_below_at k j p n r
+
+pub live_below : (k : Ports) (m : ℕ) (p : List ℕ) (n : ℕ) (r : List ℕ) → live k ((m ∷ p) ++ n ∷ r) ≡ (live k (m ∷ p) && live (below_of (place k (m ∷ p))) (n ∷ r))
+live_below k zero p n r = refl
+live_below k (suc j) p n r = live_below_at k j p n r
+
+pub pend_below : (k : Ports) (m : ℕ) (p : List ℕ) (n : ℕ) (r : List ℕ) → pend k ((m ∷ p) ++ n ∷ r) ≡ (pend k (m ∷ p) || (live k (m ∷ p) && pend (below_of (place k (m ∷ p))) (n ∷ r)))
+pend_below k zero p n r = refl
+pend_below k (suc j) p n r = pend_below_at k j p n r
+
+-- what pends at a port pends below it
+pub pend_down : (k : Ports) (p r : List ℕ) → pend k p ≡ true → pend k (p ++ r) ≡ true
+pend_down k [] r h = no h
+pend_down k (m ∷ p) [] h = ap (pend k) (append-nil (m ∷ p)) ∙ h
+pend_down k (m ∷ p) (n ∷ r) h = pend_below k m p n r ∙ ap (λ x. x || (live k (m ∷ p) && pend (below_of (place k (m ∷ p))) (n ∷ r))) h
+
+-- A port and its hub's
+
+live_port_at : (k : Ports) (j : ℕ) (p : List ℕ) → live_at k j p ≡ true → (b : PortState) × (port_at k j p ≡ Some b) × (b.power ≡ true)
+unfolding live_at port_at
+live_port_at ended j p h = no h
+live_port_at (vacant b k) zero [] h = (b, refl, h)
+live_port_at (vacant b k) zero (m ∷ p) h = no h
+live_port_at (vacant b k) (suc j) p h = live_port_at k j p h
+live_port_at (taken b s a k) zero [] h = (b, refl, h)
+live_port_at (taken b s a k) zero (zero ∷ p) h = no h
+live_port_at (taken b s a k) zero (suc i ∷ p) h = live_port_at a i p (both b.power (live_at a i p) h).1
+live_port_at (taken b s a k) (suc j) p h = live_port_at k j p h
+
+-- a port that is powered on its whole way stands, and has power
+pub live_port : (k : Ports) (p : List ℕ) → live k p ≡ true → (b : PortState) × (port_there k p ≡ Some b) × (b.power ≡ true)
+live_port k [] h = no h
+live_port k (zero ∷ p) h = no h
+live_port k (suc j ∷ p) h = live_port_at k j p h
+
+row_live_at : (k : Ports) (j : ℕ) (b : PortState) → port_at k j [] ≡ Some b → (live_at k j [] ≡ b.power) × (pend_at k j [] ≡ (b.power && b.connection_changed))
+unfolding live_at pend_at port_at
+row_live_at ended j b e = absurd (cc e)
+row_live_at (vacant c k) zero b e = let same : c ≡ b = same_Some c b e in (ap (λ x. x.power) same, ap (λ x. x.power && x.connection_changed) same)
+row_live_at (vacant c k) (suc j) b e = row_live_at k j b e
+row_live_at (taken c s a k) zero b e = let same : c ≡ b = same_Some c b e in (ap (λ x. x.power) same, ap (λ x. x.power && x.connection_changed) same)
+row_live_at (taken c s a k) (suc j) b e = row_live_at k j b e
+
+row_live : (k : Ports) (n : ℕ) (b : PortState) → port_there k (n ∷ []) ≡ Some b → (live k (n ∷ []) ≡ b.power) × (pend k (n ∷ []) ≡ (b.power && b.connection_changed))
+row_live k zero b e = absurd (cc e)
+row_live k (suc j) b e = row_live_at k j b e
+
+row_pend_at : (k : Ports) (j : ℕ) → pend_at k j [] ≡ true → live_at k j [] ≡ true
+unfolding live_at pend_at
+row_pend_at ended j h = no h
+row_pend_at (vacant b k) zero h = (both b.power b.connection_changed h).0
+row_pend_at (vacant b k) (suc j) h = row_pend_at k j h
+row_pend_at (taken b s a k) zero h = (both b.power b.connection_changed h).0
+row_pend_at (taken b s a k) (suc j) h = row_pend_at k j h
+
+row_pend : (k : Ports) (n : ℕ) → pend k (n ∷ []) ≡ true → live k (n ∷ []) ≡ true
+row_pend k zero h = no h
+row_pend k (suc j) h = row_pend_at k j h
+
+-- where a port is the root's, or its hub's port is powered on its whole way
+abbrev pub IsUp : Ports → List ℕ → Type 0
+IsUp k [] = Unit {0}
+IsUp k (m ∷ q) = live k (m ∷ q) ≡ true
+
+pub up_of_live : (k : Ports) (q : List ℕ) (n : ℕ) → live k (q ++ n ∷ []) ≡ true → IsUp k q
+up_of_live k [] n h = tt
+up_of_live k (m ∷ q) n h = (both (live k (m ∷ q)) (live (below_of (place k (m ∷ q))) (n ∷ [])) (sym (live_below k m q n []) ∙ h)).0
+
+pub live_of_up : (k : Ports) (q : List ℕ) (n : ℕ) (b : PortState) → IsUp k q → port_there k (q ++ n ∷ []) ≡ Some b → b.power ≡ true → live k (q ++ n ∷ []) ≡ true
+live_of_up k [] n b up there power = (row_live k n b there).0 ∙ power
+live_of_up k (m ∷ q) n b up there power =
+    let row = row_live (below_of (place k (m ∷ q))) n b (sym (port_below k m q n []) ∙ there) in
+    live_below k m q n [] ∙ and_of (live k (m ∷ q)) (live (below_of (place k (m ∷ q))) (n ∷ [])) up (row.0 ∙ power)
+
+-- a change of connection that is set there pends
+pub pend_of_up : (k : Ports) (q : List ℕ) (n : ℕ) (b : PortState) → IsUp k q → port_there k (q ++ n ∷ []) ≡ Some b → b.power ≡ true → b.connection_changed ≡ true → pend k (q ++ n ∷ []) ≡ true
+pend_of_up k [] n b up there power changed = (row_live k n b there).1 ∙ and_of b.power b.connection_changed power changed
+pend_of_up k (m ∷ q) n b up there power changed =
+    let row = row_live (below_of (place k (m ∷ q))) n b (sym (port_below k m q n []) ∙ there) in
+    pend_below k m q n []
+    ∙ or_right (pend k (m ∷ q)) (live k (m ∷ q) && pend (below_of (place k (m ∷ q))) (n ∷ []))
+    (and_of (live k (m ∷ q)) (pend (below_of (place k (m ∷ q))) (n ∷ [])) up (row.1 ∙ and_of b.power b.connection_changed power changed))
+
+-- what pends at a port pends above it, or the port is powered on its whole way
+pub pend_or_live : (k : Ports) (q : List ℕ) (n : ℕ) → pend k (q ++ n ∷ []) ≡ true → (live k (q ++ n ∷ []) ≡ true) ⊎ (pend k q ≡ true)
+pend_or_live k [] n h = inl (row_pend k n h)
+pend_or_live k (m ∷ q) n h = pick (either_of (pend k (m ∷ q)) (live k (m ∷ q) && pend (below_of (place k (m ∷ q))) (n ∷ [])) (sym (pend_below k m q n []) ∙ h))
+  where
+    pick : (pend k (m ∷ q) ≡ true) ⊎ ((live k (m ∷ q) && pend (below_of (place k (m ∷ q))) (n ∷ [])) ≡ true) → (live k ((m ∷ q) ++ n ∷ []) ≡ true) ⊎ (pend k (m ∷ q) ≡ true)
+    pick (inl x) = inr x
+    pick (inr x) =
+        let parts = both (live k (m ∷ q)) (pend (below_of (place k (m ∷ q))) (n ∷ [])) x in
+        inl (live_below k m q n [] ∙ and_of (live k (m ∷ q)) (live (below_of (place k (m ∷ q))) (n ∷ [])) parts.0 (row_pend (below_of (place k (m ∷ q))) n parts.1))
+
+-- What is attached
+
+pub speed_attached : (low : Bool) → is_attached (speed_of low) ≡ true
+speed_attached true = refl
+speed_attached false = refl
+
+attached_at : (k : Ports) (j : ℕ) (p : List ℕ) (b : PortState) → IsSane k → port_at k j p ≡ Some b → is_attached b.attached ≡ is_some (state_at k j p)
+unfolding IsSane port_at state_at
+attached_at ended j p b h e = absurd (cc e)
+attached_at (vacant c k) zero [] b h e = ap (λ x. is_attached x.attached) (sym (same_Some c b e)) ∙ ap is_attached h.1
+attached_at (vacant c k) zero (m ∷ p) b h e = absurd (cc e)
+attached_at (vacant c k) (suc j) p b h e = attached_at k j p b h.2 e
+attached_at (taken c s a k) zero [] b h e = ap (λ x. is_attached x.attached) (sym (same_Some c b e)) ∙ ap is_attached h.1 ∙ speed_attached s.spec.low
+attached_at (taken c s a k) zero (zero ∷ p) b h e = absurd (cc e)
+attached_at (taken c s a k) zero (suc i ∷ p) b h e = attached_at a i p b h.2 e
+attached_at (taken c s a k) (suc j) p b h e = attached_at k j p b h.3 e
+
+-- a port sees something attached just where a device stands
+pub attached_there : (k : Ports) (p : List ℕ) (b : PortState) → IsSane k → port_there k p ≡ Some b → is_attached b.attached ≡ is_some (state_there k p)
+attached_there k [] b h e = absurd (cc e)
+attached_there k (zero ∷ p) b h e = absurd (cc e)
+attached_there k (suc j ∷ p) b h e = attached_at k j p b h e

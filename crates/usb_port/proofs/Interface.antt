@@ -1,0 +1,3 @@
+-- The lemmas that crates above cite. All others are for this crate alone.
+pub use Rattle.usb_port.proofs.OrderLaws.{below, bound, is_path, parent, rejoined, rises}
+pub use Rattle.usb_port.proofs.StatusLaws.{status_seen}

@@ -1,5 +1,0 @@
-use Rattle.usb_transaction.proofs.Answering.{set_up_had, read_had, write_had, poll_had}
-use Rattle.usb_transaction.proofs.answerer_laws.who_had_the_address.Goals as goal
-
-pub returns : goal.returns
-returns c = record { set_up = set_up_had; into = read_had; out = write_had; polled = poll_had }

@@ -1,0 +1,6 @@
+use Rattle.usb_transaction.proofs.Sinks.{sink_between}
+use Rattle.usb_transaction.proofs.Sources.{source_between}
+use Rattle.usb_transaction.proofs.laws.what_is_so_between_bulk_attempts.Goals as goal
+
+pub returns : goal.returns
+returns c = record { into = source_between; out = sink_between }

@@ -1,6 +1,0 @@
-use Rattle.usb_transaction.proofs.OverSink.{sink_between}
-use Rattle.usb_transaction.proofs.OverSource.{source_between}
-use Rattle.usb_transaction.proofs.over_laws.what_is_so_between_bulk_attempts.Goals as goal
-
-pub returns : goal.returns
-returns c = record { into = source_between; out = sink_between }

@@ -1,0 +1,18 @@
+-- Devices that a request leaves where they are: PORT_RESET of a hub's port gives the device there address 0 (11.24.2.13), and no other request resets one.
+use Rattle.std.specs.Prelude.{◌≡◌, ◌≢◌, ℕ, List, Some, true, false}
+use Rattle.usb_request.specs.declared.setup.Setup.{Setup}
+use Rattle.usb_device.specs.Rows.{State}
+use Rattle.usb_device.specs.Tree.{reach_at, state_at}
+use Rattle.usb_world.specs.Paths.{address_of}
+use Rattle.usb_world.specs.Courses.{is_harmless}
+use Rattle.usb_world.specs.Devices.{Relation, Was}
+use Rattle.usb_world.specs.World.{World}
+use Rattle.usb_transaction.specs.declared.target.Target.{Target}
+
+-- after such a reset, asked of a device with an address, one that has an address was not reset
+abbrev pub IsSpared : Target → Setup → State → Type 0
+IsSpared t request s = is_harmless request ≡ false → (t.addr ≢ 0) × (address_of s ≢ 0)
+
+-- so it is of each device that is reachable in the new world and was not reset
+abbrev pub EachSpared : Target → Setup → Relation → World → World → Type 0
+EachSpared t request R old new = (j : ℕ) (p : List ℕ) (s : State) → reach_at new.roots j p ≡ true → state_at new.roots j p ≡ Some s → IsSpared t request s → Was R old j p s

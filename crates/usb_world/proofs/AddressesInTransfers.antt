@@ -1,0 +1,546 @@
+-- IN and OUT change no address, where no device at theirs takes another.
+use Rattle.std.proofs.Common.{◌≡◌, ℕ, zero, suc, ◌+◌, ◌==◌, ◌&&◌, nat_lt, if◌then◌else◌, inl, inr, Bool, true, false, List, [], ◌∷◌, length, take, Option, None, Some, option_map, refl, ap, sym, subst, ◌∙◌}
+use Rattle.usb_packet.specs.declared.Packet.{Packet}
+use Rattle.usb_packet.specs.declared.Packet.TheVariants.{Token, Payload, Ack, Sof, Nak, Stall, Pre}
+use Rattle.usb_packet.specs.declared.Toggle.{Toggle}
+use Rattle.usb_packet.specs.declared.Toggle.TheVariants.{Zero, One as Data1}
+use Rattle.usb_packet.specs.declared.TokenKind.{TokenKind}
+use Rattle.usb_packet.specs.declared.TokenKind.TheVariants.{OutTok, InTok, SetupTok}
+use Rattle.usb_port.specs.PortState.{PortState}
+use Rattle.usb_device.specs.declared.answer.Answer.TheVariants as answer
+use Rattle.usb_device.specs.declared.delivery.Content.{Content}
+use Rattle.usb_device.specs.declared.delivery.Content.TheVariants.{Whole, Broken}
+use Rattle.usb_device.specs.declared.delivery.Sent.{Sent}
+use Rattle.usb_device.specs.declared.effect.Effect.TheVariants.{Leaves}
+use Rattle.usb_device.specs.declared.transfer.Giver.TheVariants as by
+use Rattle.usb_device.specs.declared.transfer.Memory.{Memory}
+use Rattle.usb_device.specs.declared.transfer.Memory.TheVariants.{Nothing, SetupSeen, OutSeen, AckAwaited}
+use Rattle.usb_device.specs.Bulk.{is_same, tells_changes, change_bits}
+use Rattle.usb_device.specs.Transfer.{Stage, idle, refused, reading, read, ending, max_packet, packet_at, toggle_at}
+use Rattle.usb_device.specs.Rows.{State, Reply, received, unread, forgotten, answered, gives, is_busy, nak_row, unless_busy, in_row, out_row, status_row, ack_row, source_row, in_bulk_row, in_other_row, changes_row, held_row, sink_row, sunk, out_bulk_row, bulk_ack_row, bulk_of, rest_of, token_row, payload_row, after_memory, awaits_control, ends_with_address, awaits_address}
+use Rattle.usb_device.specs.Effect.{asks, asked_by_data}
+use Rattle.usb_device.specs.Tree.{Ports, ended, vacant, taken, Place, empty, full, row_of, reach_at, state_at, place_at}
+use Rattle.usb_device.specs.Delivery.{hears, reply_to, answer_of, asked_by, effect_of}
+use Rattle.usb_device.proofs.Interface.{keeps-received}
+use Rattle.usb_world.specs.declared.damage.Damage.{Damage}
+use Rattle.usb_world.specs.declared.event.Event.{Event}
+use Rattle.usb_world.specs.declared.types.Attempt.{Attempt}
+use Rattle.usb_world.specs.declared.types.BusFault.{BusFault}
+use Rattle.usb_world.specs.declared.types.BusFault.TheVariants.{LimitReached}
+use Rattle.usb_world.specs.declared.wire.Mark.{Mark}
+use Rattle.usb_world.specs.declared.wire.Mark.TheVariants as mark
+use Rattle.usb_world.specs.Wire.{mark_of, harm_to, marked}
+use Rattle.usb_world.specs.Exchange.{token_of, sent_as, token_out, payload_out, reply_out, ports_in}
+use Rattle.usb_world.specs.Paths.{address_of}
+use Rattle.usb_world.specs.WayEffects.{resets_at, reset_if}
+use Rattle.usb_world.specs.Passes.{passed, heard_state, deep_at, pass_resets, attempt_resets, IsDataOut, IfOut, IsSettled}
+use Rattle.usb_world.specs.World.{World}
+use Rattle.usb_world.specs.Steps.{is_due, took, took_first, event_taken, due_from, ready, damage_in, with_attempt, attempted, Step, attempt, root_call, event, report, after, Course, here, step}
+use Rattle.usb_world.specs.Courses.{Own, Injective}
+use Rattle.usb_world.specs.Addresses.{is_setup, NoneTakes, MovesData, GivesNoAddress}
+use Rattle.usb_world.proofs.Booleans.{no, and_false}
+use Rattle.usb_world.proofs.PacketEffects.{packet_state}
+use Rattle.usb_world.proofs.AttemptPackets.{forgotten_state, calm_pass, token_out as token_calm_out, ack_out}
+use Rattle.usb_world.proofs.OneDevice.{stands, state_stands, settled_memory}
+use Rattle.usb_world.proofs.OneHolderAttempts.{ready_settled}
+use Rattle.usb_world.proofs.StepInvariants.{settled_called, settled_happened, settled_ports}
+use Rattle.usb_world.proofs.Courses.{made_reach, goes}
+use Rattle.usb_world.proofs.AddressesKept.{step_own, step_unshared}
+use Rattle.usb_world.proofs.Equality.{equal_same}
+use Rattle.usb_world.proofs.States.{kept_address, forgotten_address}
+
+-- What is so of a device, where one stands there
+
+abbrev If : (State → Type 0) → Option State → Type 0
+If P None = Unit {0}
+If P (Some s) = P s
+
+heard_if : (P Q : State → Type 0) (q : Sent) (d on : Bool) (x : Option Place) → ((s : State) → P s → Q s)
+    → ((s : State) (a : Ports) → on ≡ true → P s → Q (answer_of q d s a).1) → If P (stands x) → If Q (heard_state q d on x)
+heard_if P Q q d on None f g h = tt
+heard_if P Q q d on (Some (empty b)) f g h = tt
+heard_if P Q q d true (Some (full b s a)) f g h = g s a refl h
+heard_if P Q q d false (Some (full b s a)) f g h = f s h
+
+unreset_if : (P : State → Type 0) (b : Bool) (o : Option State) → b ≡ false → If P o → If P (option_map (reset_if b) o)
+unreset_if P true o h g = no (sym h)
+unreset_if P false None h g = g
+unreset_if P false (Some s) h g = g
+
+-- a packet, where it resets no device there
+pass_if : (P Q : State → Type 0) (o : Option Sent) (k : Ports) (j : ℕ) (p : List ℕ) → pass_resets o k j p ≡ false → ((s : State) → P s → Q s)
+    → ((q : Sent) (d : Bool) (s : State) (a : Ports) → o ≡ Some q → reach_at k j p ≡ true → P s → Q (answer_of q d s a).1)
+    → If P (state_at k j p) → If Q (state_at (passed o k) j p)
+pass_if P Q None k j p r f g h = weaken (state_at k j p) h
+  where
+    weaken : (o : Option State) → If P o → If Q o
+    weaken None h = tt
+    weaken (Some s) h = f s h
+pass_if P Q (Some q) k j p r f g h =
+    subst (If Q) (sym (packet_state q false k j p))
+    (unreset_if Q (resets_at q false k j p) (heard_state q (deep_at false p) (reach_at k j p) (place_at k j p)) r
+    (heard_if P Q q (deep_at false p) (reach_at k j p) (place_at k j p) f (λ s a on x. g q (deep_at false p) s a refl on x)
+    (subst (If P) (sym (state_stands k j p)) h)))
+
+-- The token of IN or OUT
+
+abbrev saw_setup : Memory → Bool
+saw_setup SetupSeen = true
+saw_setup m = false
+
+-- a device gives what it gives, and its transfer stays where it stands
+abbrev Stays : State → State → Type 0
+Stays d x = (saw_setup x.memory ≡ false) × (x.stage ≡ d.stage)
+
+stays_if : (d : State) (b : Bool) (x y : Reply) → Stays d x.1 → Stays d y.1 → Stays d (if b then x else y).1
+stays_if d true x y h g = h
+stays_if d false x y h g = g
+
+module _ (d : State) (rests : saw_setup d.memory ≡ false) where
+  stays : Stays d d
+  stays = (rests, refl)
+
+  stays_in : (s : Stage) → Stays d (in_row d s).1
+  stays_in idle = stays
+  stays_in refused = stays
+  stays_in read = stays
+  stays_in (ending a) = (refl, refl)
+  stays_in (reading text wanted n) =
+      elim (packet_at (max_packet d.spec) wanted text n) as (λ o. Stays d (elim o as (λ _. Reply) [ None ↦ (None, d) | Some bytes ↦ gives d by.Control (toggle_at n) bytes ]).1) [
+        | None ↦ stays
+        | Some bytes ↦ (refl, refl)
+      ]
+
+  stays_source : (max : ℕ) → Stays d (source_row d max).1
+  stays_source max =
+      stays_if d d.bulk_in.halted (Some answer.Stall, d) (if length (rest_of d) == 0 then (Some answer.Nak, d) else gives d by.Bulk d.bulk_in.toggle (take max (rest_of d))) stays
+      (stays_if d (length (rest_of d) == 0) (Some answer.Nak, d) (gives d by.Bulk d.bulk_in.toggle (take max (rest_of d))) stays (refl, refl))
+
+  stays_bulk : (e : ℕ) (end : Option (ℕ × ℕ)) → Stays d (in_bulk_row d e end).1
+  stays_bulk e None = stays
+  stays_bulk e (Some end) = stays_if d (end.0 == e) (source_row d end.1) (None, d) (stays_source end.1) stays
+
+  stays_held : (row : List PortState) (h : Option ℕ) → Stays d (held_row d row h).1
+  stays_held row None =
+      stays_if d (change_bits row == 0) (Some answer.Nak, d) (gives (record d { held = Some (change_bits row) }) by.Changes d.changes.toggle (change_bits row ∷ [])) stays (refl, refl)
+  stays_held row (Some bits) = (refl, refl)
+
+  stays_other : (row : List PortState) (e : ℕ) → Stays d (in_other_row d row e).1
+  stays_other row e =
+      stays_if d (e == 1 && tells_changes d.spec d.registers) (changes_row d row) (in_bulk_row d e (bulk_of d true))
+      (stays_if d d.changes.halted (Some answer.Stall, d) (held_row d row d.held) stays (stays_held row d.held))
+      (stays_bulk e (bulk_of d true))
+
+  stays_token : (row : List PortState) (e : ℕ) → Stays d (token_row d row InTok e).1
+  stays_token row e =
+      stays_if d (e == 0) (unless_busy d (in_row d d.stage)) (in_other_row d row e)
+      (stays_if d (is_busy d) (nak_row d) (in_row d d.stage) (rests, refl) (stays_in d.stage))
+      (stays_other row e)
+
+-- the device waits for no setup data; and for no ACK that gives it an address, where its status stage gives none or the
+-- token was not for it
+abbrev Asked : ℕ → State → State → Type 0
+Asked n s x = (saw_setup x.memory ≡ false) × ((address_of s ≡ n → ends_with_address s.stage ≡ false) → awaits_address x ≡ false)
+
+rested_asked : (n : ℕ) (s x : State) → x.memory ≡ Nothing → Asked n s x
+unfolding awaits_address
+rested_asked n s x m = (ap saw_setup m, λ c. ap (λ y. awaits_control y && ends_with_address x.stage) m)
+
+stayed_asked : (n : ℕ) (s x : State) → Stays s x → address_of s ≡ n → Asked n s x
+unfolding awaits_address
+stayed_asked n s x h e = (h.0, λ c. ap (λ y. awaits_control x.memory && y) (ap ends_with_address h.1 ∙ c e) ∙ and_false (awaits_control x.memory))
+
+IsInOrOut : ℕ → Content → Type 0
+IsInOrOut n (Whole (Token InTok a e)) = a ≡ n
+IsInOrOut n (Whole (Token OutTok a e)) = a ≡ n
+IsInOrOut n Broken = Unit {0}
+IsInOrOut n (Whole p) = ⊥
+
+token_reply : (n : ℕ) (c : Content) → IsInOrOut n c → (s : State) (row : List PortState) → s.memory ≡ Nothing → Asked n s (reply_to c s row).1
+unfolding received unread IsInOrOut awaits_address
+token_reply n (Whole (Token InTok a e)) h s row m = heard s.spec.silent
+  where
+    own : (x : Bool) → (a == s.registers.address) ≡ x → Asked n s (if x then token_row (forgotten s) row InTok e else (None, forgotten s)).1
+    own true g = stayed_asked n s (token_row (forgotten s) row InTok e).1 (stays_token (forgotten s) refl row e) (sym (equal_same a s.registers.address g) ∙ h)
+    own false g = rested_asked n s (forgotten s) refl
+
+    heard : (x : Bool) → Asked n s (if x then (None, s) else answered (forgotten s) row s.memory (Token InTok a e)).1
+    heard true = rested_asked n s s m
+    heard false = own (a == s.registers.address) refl
+token_reply n (Whole (Token OutTok a e)) h s row m = heard s.spec.silent
+  where
+    own : (x : Bool) → Asked n s (if x then token_row (forgotten s) row OutTok e else (None, forgotten s)).1
+    own true = (refl, λ c. refl)
+    own false = rested_asked n s (forgotten s) refl
+
+    heard : (x : Bool) → Asked n s (if x then (None, s) else answered (forgotten s) row s.memory (Token OutTok a e)).1
+    heard true = rested_asked n s s m
+    heard false = own (a == s.registers.address)
+token_reply n (Whole (Token SetupTok a e)) h s row m = elim h [ ]
+token_reply n (Whole (Payload t b)) h s row m = elim h [ ]
+token_reply n (Whole Ack) h s row m = elim h [ ]
+token_reply n (Whole (Sof f)) h s row m = elim h [ ]
+token_reply n (Whole Nak) h s row m = elim h [ ]
+token_reply n (Whole Stall) h s row m = elim h [ ]
+token_reply n (Whole Pre) h s row m = elim h [ ]
+token_reply n Broken h s row m = heard s.spec.silent
+  where
+    heard : (x : Bool) → Asked n s (if x then s else forgotten s)
+    heard true = rested_asked n s s m
+    heard false = rested_asked n s (forgotten s) refl
+
+token_answer : (n : ℕ) (q : Sent) → IsInOrOut n q.content → (deep : Bool) (s : State) (a : Ports) → s.memory ≡ Nothing → Asked n s (answer_of q deep s a).1
+unfolding answer_of
+token_answer n q c deep s a m = heard (hears q deep s)
+  where
+    heard : (x : Bool) → Asked n s (if x then reply_to q.content s (row_of a) else (None, s)).1
+    heard true = token_reply n q.content c s (row_of a) m
+    heard false = rested_asked n s s m
+
+-- The host's data
+
+abbrev Forgot : State → Type 0
+Forgot s = s.memory ≡ Nothing
+
+forgot_if : (b : Bool) (x y : Reply) → Forgot x.1 → Forgot y.1 → Forgot (if b then x else y).1
+forgot_if true x y h g = h
+forgot_if false x y h g = g
+
+module _ (d : State) (rests : d.memory ≡ Nothing) where
+  forgot_status : (t : Toggle) (b : List ℕ) → Forgot (status_row d t b).1
+  forgot_status Zero b = rests
+  forgot_status Data1 [] = rests
+  forgot_status Data1 (x ∷ b) = rests
+
+  forgot_out : (g : Stage) (t : Toggle) (b : List ℕ) → Forgot (out_row d g t b).1
+  forgot_out idle t b = rests
+  forgot_out refused t b = rests
+  forgot_out (reading x y z) t b = forgot_status t b
+  forgot_out read t b = forgot_status t b
+  forgot_out (ending x) t b = rests
+
+  forgot_sink : (max : ℕ) (t : Toggle) (b : List ℕ) → Forgot (sink_row d max t b).1
+  forgot_sink max t b =
+      forgot_if d.bulk_out.halted (Some answer.Stall, d) (if nat_lt max (length b) then (None, d) else if is_same t d.bulk_out.toggle then (Some answer.Ack, sunk d b) else (Some answer.Ack, d)) rests
+      (forgot_if (nat_lt max (length b)) (None, d) (if is_same t d.bulk_out.toggle then (Some answer.Ack, sunk d b) else (Some answer.Ack, d)) rests
+      (forgot_if (is_same t d.bulk_out.toggle) (Some answer.Ack, sunk d b) (Some answer.Ack, d) rests rests))
+
+  forgot_bulk : (e : ℕ) (o : Option (ℕ × ℕ)) (t : Toggle) (b : List ℕ) → Forgot (out_bulk_row d e o t b).1
+  forgot_bulk e None t b = rests
+  forgot_bulk e (Some end) t b = forgot_if (end.0 == e) (sink_row d end.1 t b) (None, d) (forgot_sink end.1 t b) rests
+
+  forgot_payload : (row : List PortState) (m : Memory) (t : Toggle) (b : List ℕ) → saw_setup m ≡ false → Forgot (payload_row d row m t b).1
+  forgot_payload row Nothing t b h = rests
+  forgot_payload row (AckAwaited g) t b h = rests
+  forgot_payload row SetupSeen t b h = no (sym h)
+  forgot_payload row (OutSeen e) t b h =
+      forgot_if (e == 0) (unless_busy d (out_row d d.stage t b)) (out_bulk_row d e (bulk_of d false) t b)
+      (forgot_if (is_busy d) (nak_row d) (out_row d d.stage t b) rests (forgot_out d.stage t b)) (forgot_bulk e (bulk_of d false) t b)
+
+abbrev AwaitsNone : State → Type 0
+AwaitsNone s = awaits_address s ≡ false
+
+abbrev WaitsNone : State → Type 0
+WaitsNone s = saw_setup s.memory ≡ false
+
+abbrev IsCalmed : State → Type 0
+IsCalmed s = WaitsNone s × AwaitsNone s
+
+forgot_awaits : (s : State) → Forgot s → AwaitsNone s
+unfolding awaits_address
+forgot_awaits s m = ap (λ y. awaits_control y && ends_with_address s.stage) m
+
+data_reply : (c : Content) → IsDataOut c → (s : State) (row : List PortState) → IsCalmed s → AwaitsNone (reply_to c s row).1
+unfolding received unread
+data_reply (Whole (Payload t b)) h s row r = heard s.spec.silent
+  where
+    heard : (x : Bool) → AwaitsNone (if x then (None, s) else answered (forgotten s) row s.memory (Payload t b)).1
+    heard true = r.1
+    heard false = forgot_awaits (payload_row (forgotten s) row s.memory t b.items).1 (forgot_payload (forgotten s) refl row s.memory t b.items r.0)
+data_reply Broken h s row r = heard s.spec.silent
+  where
+    heard : (x : Bool) → AwaitsNone (if x then s else forgotten s)
+    heard true = r.1
+    heard false = forgot_awaits (forgotten s) refl
+data_reply (Whole (Token t a e)) h s row r = elim h [ ]
+data_reply (Whole Ack) h s row r = elim h [ ]
+data_reply (Whole (Sof f)) h s row r = elim h [ ]
+data_reply (Whole Nak) h s row r = elim h [ ]
+data_reply (Whole Stall) h s row r = elim h [ ]
+data_reply (Whole Pre) h s row r = elim h [ ]
+
+-- a device that waits for no setup data asks nothing of its ports
+data_asks : (c : Content) → IsDataOut c → (s : State) → saw_setup s.memory ≡ false → asked_by c s ≡ Leaves
+unfolding asks
+data_asks (Whole (Payload t b)) h s r = heard s.spec.silent (by_memory s.memory r)
+  where
+    by_memory : (m : Memory) → saw_setup m ≡ false → asked_by_data s m t b.items ≡ Leaves
+    by_memory Nothing g = refl
+    by_memory (OutSeen e) g = refl
+    by_memory (AckAwaited x) g = refl
+    by_memory SetupSeen g = no (sym g)
+
+    heard : (x : Bool) → asked_by_data s s.memory t b.items ≡ Leaves → (if x then Leaves else asked_by_data s s.memory t b.items) ≡ Leaves
+    heard true g = refl
+    heard false g = g
+data_asks Broken h s r = refl
+data_asks (Whole (Token t a e)) h s r = elim h [ ]
+data_asks (Whole Ack) h s r = elim h [ ]
+data_asks (Whole (Sof f)) h s r = elim h [ ]
+data_asks (Whole Nak) h s r = elim h [ ]
+data_asks (Whole Stall) h s r = elim h [ ]
+data_asks (Whole Pre) h s r = elim h [ ]
+
+data_effect : (q : Sent) → IsDataOut q.content → (deep : Bool) (s : State) → saw_setup s.memory ≡ false → effect_of q deep s ≡ Leaves
+unfolding effect_of
+data_effect q c deep s r = heard (hears q deep s)
+  where
+    heard : (x : Bool) → (if x then asked_by q.content s else Leaves) ≡ Leaves
+    heard true = data_asks q.content c s r
+    heard false = refl
+
+data_resets : (q : Sent) → IsDataOut q.content → (deep : Bool) (k : Ports) → ((i : ℕ) (e : List ℕ) → If WaitsNone (state_at k i e))
+    → (j : ℕ) (p : List ℕ) → resets_at q deep k j p ≡ false
+unfolding resets_at state_at
+data_resets q c deep ended h j p = refl
+data_resets q c deep (vacant b k) h zero p = refl
+data_resets q c deep (vacant b k) h (suc j) p = data_resets q c deep k (λ i e. h (suc i) e) j p
+data_resets q c deep (taken b s a k) h zero [] = refl
+data_resets q c deep (taken b s a k) h zero (zero ∷ p) = refl
+data_resets q c deep (taken b s a k) h zero (suc j ∷ p) =
+    rw (data_effect q c deep s (h zero []), data_resets q c true a (λ i e. h zero (suc i ∷ e)) j p) (and_false b.enable)
+data_resets q c deep (taken b s a k) h (suc j) p = data_resets q c deep k (λ i e. h (suc i) e) j p
+
+data_pass : (o : Option Sent) → IfOut IsDataOut o → (k : Ports) → ((i : ℕ) (e : List ℕ) → If WaitsNone (state_at k i e))
+    → (j : ℕ) (p : List ℕ) → pass_resets o k j p ≡ false
+data_pass None c k h j p = refl
+data_pass (Some q) c k h j p = data_resets q c false k h j p
+
+-- The host's ACK, where no device awaits it to take an address
+
+pub bulk_acked : (d : State) (o : Option (ℕ × ℕ)) → address_of (bulk_ack_row d o) ≡ address_of d
+bulk_acked d None = refl
+bulk_acked d (Some end) = refl
+
+control_acked : (d : State) (g : Stage) → ends_with_address g ≡ false → address_of (ack_row d g) ≡ address_of d
+control_acked d idle h = refl
+control_acked d refused h = refl
+control_acked d read h = refl
+control_acked d (ending None) h = refl
+control_acked d (ending (Some a)) h = no (sym h)
+control_acked d (reading text wanted n) h = elim (packet_at (max_packet d.spec) wanted text n) as (λ o. address_of (if (elim o as (λ _. Bool) [ None ↦ false | Some _ ↦ true ]) then record d { stage = reading text wanted (n + 1) } else d) ≡ address_of d) [ None ↦ refl | Some b ↦ refl ]
+
+memory_acked : (d : State) (m : Memory) → (awaits_control m && ends_with_address d.stage) ≡ false → address_of (after_memory d m) ≡ address_of d
+memory_acked d Nothing h = refl
+memory_acked d SetupSeen h = refl
+memory_acked d (OutSeen e) h = refl
+memory_acked d (AckAwaited by.Control) h = control_acked d d.stage h
+memory_acked d (AckAwaited by.Bulk) h = bulk_acked d (bulk_of d true)
+memory_acked d (AckAwaited by.Changes) h = refl
+
+-- where a device awaits no ACK to take an address, no packet changes its address
+
+kept_reply : (c : Content) (s : State) (row : List PortState) → AwaitsNone s → address_of (reply_to c s row).1 ≡ address_of s
+unfolding received unread awaits_address
+kept_reply (Whole Ack) s row r = heard s.spec.silent
+  where
+    heard : (x : Bool) → address_of (if x then (None, s) else answered (forgotten s) row s.memory Ack).1 ≡ address_of s
+    heard true = refl
+    heard false = memory_acked (forgotten s) s.memory r
+kept_reply Broken s row r = heard s.spec.silent
+  where
+    heard : (x : Bool) → address_of (if x then s else forgotten s) ≡ address_of s
+    heard true = refl
+    heard false = refl
+kept_reply (Whole (Payload t b)) s row r = (keeps-received s row (Payload t b)).address refl
+kept_reply (Whole (Token t a e)) s row r = (keeps-received s row (Token t a e)).address refl
+kept_reply (Whole (Sof f)) s row r = (keeps-received s row (Sof f)).address refl
+kept_reply (Whole Nak) s row r = (keeps-received s row Nak).address refl
+kept_reply (Whole Stall) s row r = (keeps-received s row Stall).address refl
+kept_reply (Whole Pre) s row r = (keeps-received s row Pre).address refl
+
+kept_answer : (q : Sent) (deep : Bool) (s : State) (a : Ports) → AwaitsNone s → address_of (answer_of q deep s a).1 ≡ address_of s
+unfolding answer_of
+kept_answer q deep s a r = heard (hears q deep s)
+  where
+    heard : (x : Bool) → address_of (if x then reply_to q.content s (row_of a) else (None, s)).1 ≡ address_of s
+    heard true = kept_reply q.content s (row_of a) r
+    heard false = refl
+
+kept_heard : (q : Sent) (d on : Bool) (x : Option Place) → If AwaitsNone (stands x) → option_map address_of (heard_state q d on x) ≡ option_map address_of (stands x)
+kept_heard q d on None r = refl
+kept_heard q d on (Some (empty b)) r = refl
+kept_heard q d true (Some (full b s a)) r = ap (λ x. Some x) (kept_answer q d s a r)
+kept_heard q d false (Some (full b s a)) r = refl
+
+kept_pass : (o : Option Sent) (k : Ports) (j : ℕ) (p : List ℕ) → pass_resets o k j p ≡ false → If AwaitsNone (state_at k j p)
+    → option_map address_of (state_at (passed o k) j p) ≡ option_map address_of (state_at k j p)
+kept_pass None k j p h r = refl
+kept_pass (Some q) k j p h r =
+    ap (option_map address_of) (packet_state q false k j p)
+    ∙ kept_address (resets_at q false k j p) (heard_state q (deep_at false p) (reach_at k j p) (place_at k j p)) h
+    ∙ kept_heard q (deep_at false p) (reach_at k j p) (place_at k j p) (subst (If AwaitsNone) (sym (state_stands k j p)) r)
+    ∙ ap (option_map address_of) (state_stands k j p)
+
+-- The attempt
+
+heard_data : (q : Sent) → IsDataOut q.content → (deep : Bool) (s : State) (a : Ports) → IsCalmed s → AwaitsNone (answer_of q deep s a).1
+unfolding answer_of
+heard_data q c deep s a r = heard (hears q deep s)
+  where
+    heard : (x : Bool) → AwaitsNone (if x then reply_to q.content s (row_of a) else (None, s)).1
+    heard true = data_reply q.content c s (row_of a) r
+    heard false = r.1
+
+of_out : (P : Content → Type 0) (o : Option Sent) (q : Sent) → IfOut P o → o ≡ Some q → P q.content
+of_out P o q h e = subst (IfOut P) e h
+
+token_sent : (n : ℕ) (l pre : Bool) (m : Mark) (p : Packet) → IsInOrOut n (Whole p) → IfOut (IsInOrOut n) (sent_as l pre m p)
+unfolding IsInOrOut
+token_sent n l pre mark.Whole p h = h
+token_sent n l pre mark.Lost p h = tt
+token_sent n l pre mark.PreLost p h = h
+token_sent n l pre (mark.Flipped b) p h = tt
+
+kind_asks : (n e : ℕ) (t : TokenKind) → is_setup t ≡ false → IsInOrOut n (Whole (Token t n e))
+unfolding IsInOrOut
+kind_asks n e InTok h = refl
+kind_asks n e OutTok h = refl
+kind_asks n e SetupTok h = no (sym h)
+
+token_goes : (a : Attempt) (d : Option Damage) → is_setup a.kind ≡ false → IfOut (IsInOrOut a.addr) (token_out a d)
+unfolding token_of marked
+token_goes a d h = token_sent a.addr a.low a.pre (mark_of (harm_to d 1) a.pre (Token a.kind a.addr a.ep)) (Token a.kind a.addr a.ep) (kind_asks a.addr a.ep a.kind h)
+
+-- IN or OUT, in a tree where no device remembers a packet
+module _ (a : Attempt) (d : Option Damage) (k : Ports) (settled : IsSettled k) (kind : is_setup a.kind ≡ false) where
+  abbrev asked_ports : Ports
+  asked_ports = passed (token_out a d) k
+
+  token_calm : (j : ℕ) (p : List ℕ) → pass_resets (token_out a d) k j p ≡ false
+  token_calm j p = calm_pass (token_out a d) (token_calm_out a.addr (token_out a d) (goes a d k).token) k j p
+
+  at_rest : (P : State → Type 0) (j : ℕ) (p : List ℕ) → ((s : State) → state_at k j p ≡ Some s → s.memory ≡ Nothing → P s) → If P (state_at k j p)
+  at_rest P j p c = go (state_at k j p) refl
+    where
+      go : (o : Option State) → state_at k j p ≡ o → If P o
+      go None e = tt
+      go (Some s) e = c s e (settled_memory k j p s settled e)
+
+  none_waits : (j : ℕ) (p : List ℕ) → If WaitsNone (state_at asked_ports j p)
+  none_waits j p =
+      pass_if Forgot WaitsNone (token_out a d) k j p (token_calm j p) (λ s m. ap saw_setup m)
+      (λ q deep s below e on m. (token_answer a.addr q (of_out (IsInOrOut a.addr) (token_out a d) q (token_goes a d kind) e) deep s below m).0)
+      (at_rest Forgot j p (λ s e m. m))
+
+  pub data_calm : (j : ℕ) (p : List ℕ) → attempt_resets (token_out a d) (payload_out a d) k j p ≡ false
+  data_calm j p = data_pass (payload_out a d) (goes a d k).payload asked_ports none_waits j p
+
+  -- the device at a path takes no address
+  module _ (j : ℕ) (p : List ℕ) (c : (s : State) → reach_at k j p ≡ true → state_at k j p ≡ Some s → address_of s ≡ a.addr → ends_with_address s.stage ≡ false) where
+    abbrev Takes : State → Type 0
+    Takes s = Forgot s × (reach_at k j p ≡ true → address_of s ≡ a.addr → ends_with_address s.stage ≡ false)
+
+    calmed : If IsCalmed (state_at asked_ports j p)
+    calmed =
+        pass_if Takes IsCalmed (token_out a d) k j p (token_calm j p) (λ s t. (ap saw_setup t.0, forgot_awaits s t.0))
+        (λ q deep s below e on t.
+        let x : Asked a.addr s (answer_of q deep s below).1 = token_answer a.addr q (of_out (IsInOrOut a.addr) (token_out a d) q (token_goes a d kind) e) deep s below t.0 in
+        (x.0, x.1 (t.1 on)))
+        (at_rest Takes j p (λ s e m. (m, λ on. c s on e)))
+
+    awaits_none : If AwaitsNone (state_at (passed (payload_out a d) asked_ports) j p)
+    awaits_none =
+        pass_if IsCalmed AwaitsNone (payload_out a d) asked_ports j p (data_calm j p) (λ s r. r.1)
+        (λ q deep s below e on r. heard_data q (of_out IsDataOut (payload_out a d) q (goes a d k).payload e) deep s below r)
+        calmed
+
+    calmed_awaits : (o : Option State) → If IsCalmed o → If AwaitsNone o
+    calmed_awaits None h = tt
+    calmed_awaits (Some s) h = h.1
+
+    pub ports_address : option_map address_of (state_at (ports_in a d k) j p) ≡ option_map address_of (state_at k j p)
+    unfolding ports_in
+    ports_address =
+        ap (option_map address_of) (forgotten_state (passed (reply_out a d k) (passed (payload_out a d) asked_ports)) j p)
+        ∙ forgotten_address (state_at (passed (reply_out a d k) (passed (payload_out a d) asked_ports)) j p)
+        ∙ kept_pass (reply_out a d k) (passed (payload_out a d) asked_ports) j p (calm_pass (reply_out a d k) (ack_out (reply_out a d k) (goes a d k).reply) (passed (payload_out a d) asked_ports) j p) awaits_none
+        ∙ kept_pass (payload_out a d) asked_ports j p (data_calm j p) (calmed_awaits (state_at asked_ports j p) calmed)
+        ∙ kept_pass (token_out a d) k j p (token_calm j p) (at_rest AwaitsNone j p (λ s e m. forgot_awaits s m))
+
+-- Worlds
+
+pub due_own : (f : List ℕ → Option ℕ) (es : List Event) (w : World) → Own f w → Own f (due_from es w)
+unfolding due_from took after
+due_own f [] w h = h
+due_own f (e ∷ es) w h = split (is_due e w) (due_own f es (took e es w) (step_own f event (record w { left = e ∷ es; fault = None }) refl h))
+  where
+    split : (x : Bool) → Own f (due_from es (took e es w)) → Own f (if x then due_from es (took e es w) else w)
+    split true g = g
+    split false g = h
+
+made_own : (f : List ℕ → Option ℕ) (a : Attempt) (w : World) → is_setup a.kind ≡ false → NoneTakes a.addr w.roots → IsSettled w.roots → Own f w → Own f (with_attempt a w)
+unfolding with_attempt
+made_own f a w kind none settled own [] h = no h
+made_own f a w kind none settled own (zero ∷ p) h = no h
+made_own f a w kind none settled own (suc j ∷ p) h =
+    ports_address a (damage_in w) w.roots settled kind j p (λ s on e at. none j p s on e at)
+    ∙ own (suc j ∷ p) (made_reach a w (suc j ∷ p) (data_calm a (damage_in w) w.roots settled kind j p) h)
+
+pub data_own : (f : List ℕ → Option ℕ) (a : Attempt) (w : World) → is_setup a.kind ≡ false → NoneTakes a.addr (ready w).roots → IsSettled w.roots → Own f w → Own f (after (attempt a) w)
+unfolding after ready
+data_own f a w kind none settled own = tried w.fault
+  where
+    tried : (x : Option BusFault) → Own f (attempted a x w)
+    tried (Some x) = own
+    tried None = made (w.attempts == w.limit)
+      where
+        made : (x : Bool) → Own f (if x then record w { fault = Some LimitReached } else with_attempt a (ready w))
+        made true = own
+        made false = made_own f a (ready w) kind none (ready_settled w settled) (due_own f w.left w own)
+
+pub data_keeps : (f : List ℕ → Option ℕ) → Injective f → (a : Attempt) (w : World) → is_setup a.kind ≡ false → NoneTakes a.addr (ready w).roots → IsSettled w.roots
+    → Own f w → w.shared ≡ false → Own f (after (attempt a) w) × ((after (attempt a) w).shared ≡ false)
+data_keeps f inj a w kind none settled own h = (data_own f a w kind none settled own, step_unshared f inj (attempt a) w own h)
+
+-- Courses
+
+keeps_settled : (s : Step) (w : World) → IsSettled w.roots → IsSettled (after s w).roots
+unfolding after with_attempt took ready
+keeps_settled (attempt a) w h = tried w.fault
+  where
+    tried : (x : Option BusFault) → IsSettled (attempted a x w).roots
+    tried (Some x) = h
+    tried None = made (w.attempts == w.limit)
+      where
+        made : (x : Bool) → IsSettled (if x then record w { fault = Some LimitReached } else with_attempt a (ready w)).roots
+        made true = h
+        made false = settled_ports a (damage_in (ready w)) (ready w).roots
+keeps_settled (root_call c n) w h = settled_called c w.roots (n ∷ []) h
+keeps_settled event w h = taken_it w.fault
+  where
+    first : (es : List Event) → IsSettled (took_first es w).roots
+    first [] = h
+    first (e ∷ es) = settled_happened e.action w.devices w.roots h
+
+    taken_it : (x : Option BusFault) → IsSettled (event_taken x w).roots
+    taken_it (Some x) = h
+    taken_it None = first w.left
+keeps_settled (report l) w h = h
+
+moved_own : (f : List ℕ → Option ℕ) (s : Step) (w : World) → MovesData s w → IsSettled w.roots → Own f w → Own f (after s w)
+moved_own f (attempt a) w m settled own = data_own f a w m.0 m.1 settled own
+moved_own f (root_call c n) w m settled own = elim m [ ]
+moved_own f event w m settled own = elim m [ ]
+moved_own f (report l) w m settled own = elim m [ ]
+
+given_own : (f : List ℕ → Option ℕ) (s : Step) (w : World) → GivesNoAddress s w → IsSettled w.roots → Own f w → Own f (after s w)
+given_own f s w (inl q) settled own = step_own f s w q own
+given_own f s w (inr m) settled own = moved_own f s w m settled own
+
+-- a course of such steps keeps each reachable device at its own address, and sets no mark
+pub course_keeps : (f : List ℕ → Option ℕ) → Injective f → {w v : World} → Course GivesNoAddress w v → IsSettled w.roots → Own f w → w.shared ≡ false
+    → Own f v × (v.shared ≡ false) × IsSettled v.roots
+course_keeps f inj (here w) settled own h = (own, h, settled)
+course_keeps f inj (step s {w} {v} k more) settled own h =
+    course_keeps f inj more (keeps_settled s w settled) (given_own f s w k settled own) (step_unshared f inj s w own h)

@@ -1,0 +1,444 @@
+-- Which courses keep each device at its own address, and set no mark.
+use Rattle.std.proofs.Common.{◌≡◌, ℕ, zero, suc, ◌+◌, ◌==◌, ◌&&◌, ◌||◌, not, nat_lt, if◌then◌else◌, ◌⊎◌, inl, inr, Bool, true, false, List, [], ◌∷◌, ◌++◌, length, Option, None, Some, option_map, slice_get, is_some, refl, ap, sym, ◌∙◌}
+use Rattle.usb_packet.specs.declared.Packet.{Packet}
+use Rattle.usb_packet.specs.declared.Packet.TheVariants.{Token, Payload, Ack, Sof, Nak, Stall, Pre}
+use Rattle.usb_packet.specs.declared.Toggle.{Toggle}
+use Rattle.usb_packet.specs.declared.Toggle.TheVariants.{Zero, One as Data1}
+use Rattle.usb_packet.specs.declared.TokenKind.{TokenKind}
+use Rattle.usb_packet.specs.declared.TokenKind.TheVariants.{OutTok, InTok, SetupTok}
+use Rattle.arrayvec.specs.ArrayVec.{ArrayVec}
+use Rattle.usb_port.specs.PortState.{PortState}
+use Rattle.usb_device.specs.declared.answer.Answer.{Answer}
+use Rattle.usb_device.specs.declared.answer.Answer.TheVariants as answer
+use Rattle.usb_device.specs.declared.calls.PortCall.{PortCall}
+use Rattle.usb_device.specs.declared.delivery.Content.{Content}
+use Rattle.usb_device.specs.declared.delivery.Content.TheVariants.{Whole, Broken}
+use Rattle.usb_device.specs.declared.delivery.Sent.{Sent}
+use Rattle.usb_device.specs.declared.transfer.Memory.{Memory}
+use Rattle.usb_device.specs.declared.transfer.Memory.TheVariants.{Nothing, SetupSeen, OutSeen, AckAwaited}
+use Rattle.usb_device.specs.Spec.{Spec}
+use Rattle.usb_device.specs.Kept.{is_ack}
+use Rattle.usb_device.specs.Calls.{is_reset}
+use Rattle.usb_device.specs.Rows.{State, Reply, received, unread, forgotten, payload_row, token_row, status_row, out_row, sink_row, sunk, out_bulk_row, bulk_of, is_busy, nak_row, unless_busy, accepted}
+use Rattle.usb_device.specs.Bulk.{is_same}
+use Rattle.usb_device.specs.Transfer.{Stage, idle, refused, reading, read, ending}
+use Rattle.usb_request.specs.Layout.{setup_of}
+use Rattle.usb_device.specs.Tree.{Ports, ended, vacant, taken, Place, empty, full, called, replaced, changed, reach, reach_at, state_at, place_at, row_of}
+use Rattle.usb_device.specs.Delivery.{hears, reply_to, answer_of, answers, listed, held, is_twice}
+use Rattle.usb_device.proofs.Interface.{keeps-received}
+use Rattle.usb_world.specs.declared.damage.Damage.{Damage}
+use Rattle.usb_world.specs.declared.event.Event.{Event}
+use Rattle.usb_world.specs.declared.event.Action.{Action}
+use Rattle.usb_world.specs.declared.event.Action.TheVariants.{Plug, Unplug, Show, Send, Receive, Clear}
+use Rattle.usb_world.specs.declared.types.Attempt.{Attempt}
+use Rattle.usb_world.specs.declared.types.BusFault.{BusFault}
+use Rattle.usb_world.specs.declared.types.BusFault.TheVariants.{LimitReached}
+use Rattle.usb_world.specs.declared.wire.Mark.{Mark}
+use Rattle.usb_world.specs.declared.wire.Mark.TheVariants as mark
+use Rattle.usb_world.specs.Wire.{mark_of, harm_to, marked, marked_some}
+use Rattle.usb_world.specs.Exchange.{token_of, payload_of, reply_of, sent_as, goes_out, token_out, payload_out, reply_out, heard_all, mark_in, place_of_answer, ports_in}
+use Rattle.usb_device.specs.View.{state_there}
+use Rattle.usb_world.specs.Paths.{address_of, is_way, Two}
+use Rattle.usb_world.specs.WayEffects.{resets_at, call_resets}
+use Rattle.usb_world.specs.Passes.{passed, told, after_attempt, heard_state, deep_at, pass_resets, attempt_resets}
+use Rattle.usb_world.specs.World.{World}
+use Rattle.usb_world.specs.Steps.{with_plugged, happened, way_of, names_path, is_due, took, took_first, due_from, ready, damage_in, with_attempt, attempted, event_taken, Step, attempt, root_call, event, report, after, Course, here, step}
+use Rattle.usb_world.specs.Courses.{is_made, made_resets, root_resets, resets, address_at, Own, Injective, is_quiet, QuietStep, quiet_data, IsHarmlessOut}
+use Rattle.usb_world.proofs.Booleans.{no, both, and_of, decided, neither_of}
+use Rattle.usb_world.proofs.PlugEvents.{event_place}
+use Rattle.usb_world.proofs.PortCalls.{call_state}
+use Rattle.usb_world.proofs.PacketEffects.{packet_state}
+use Rattle.usb_world.proofs.AttemptPackets.{forgotten_state, calm_pass, token_out as token_calm_out}
+use Rattle.usb_world.proofs.Holders.{twice_two}
+use Rattle.usb_world.proofs.OneDevice.{stands, state_stands}
+use Rattle.usb_world.proofs.Courses.{happened_reach, due_reach, unreset_reach, made_reach, goes}
+use Rattle.usb_world.proofs.HarmlessRequests.{harmless_resets}
+use Rattle.usb_world.proofs.States.{kept_address, forgotten_address}
+use Rattle.usb_world.proofs.DueEvents.{first_shared, due_shared}
+
+-- A packet that is no ACK changes no address
+
+is_ack_out : Content → Bool
+is_ack_out (Whole p) = is_ack p
+is_ack_out Broken = false
+
+answer_address : (q : Sent) → is_ack_out q.content ≡ false → (deep : Bool) (s : State) (a : Ports) → address_of (answer_of q deep s a).1 ≡ address_of s
+unfolding answer_of unread is_ack_out
+answer_address q c deep s a = heard (hears q deep s) q.content c
+  where
+    quiet : (x : Bool) → address_of (if x then s else forgotten s) ≡ address_of s
+    quiet true = refl
+    quiet false = refl
+
+    read : (c : Content) → is_ack_out c ≡ false → address_of (reply_to c s (row_of a)).1 ≡ address_of s
+    read (Whole p) h = (keeps-received s (row_of a) p).address h
+    read Broken h = quiet s.spec.silent
+
+    heard : (x : Bool) (c : Content) → is_ack_out c ≡ false → address_of (if x then reply_to c s (row_of a) else (None, s)).1 ≡ address_of s
+    heard true c h = read c h
+    heard false c h = refl
+
+heard_address : (q : Sent) → is_ack_out q.content ≡ false → (d on : Bool) (x : Option Place) → option_map address_of (heard_state q d on x) ≡ option_map address_of (stands x)
+heard_address q c d on None = refl
+heard_address q c d on (Some (empty b)) = refl
+heard_address q c d true (Some (full b s a)) = ap (λ x. Some x) (answer_address q c d s a)
+heard_address q c d false (Some (full b s a)) = refl
+
+NoAckOut : Option Sent → Type 0
+NoAckOut None = Unit {0}
+NoAckOut (Some q) = is_ack_out q.content ≡ false
+
+pass_address : (o : Option Sent) → NoAckOut o → (k : Ports) (j : ℕ) (p : List ℕ) → pass_resets o k j p ≡ false
+    → option_map address_of (state_at (passed o k) j p) ≡ option_map address_of (state_at k j p)
+unfolding NoAckOut
+pass_address None c k j p h = refl
+pass_address (Some q) c k j p h =
+    ap (option_map address_of) (packet_state q false k j p)
+    ∙ kept_address (resets_at q false k j p) (heard_state q (deep_at false p) (reach_at k j p) (place_at k j p)) h
+    ∙ heard_address q c (deep_at false p) (reach_at k j p) (place_at k j p)
+    ∙ ap (option_map address_of) (state_stands k j p)
+
+-- an attempt without an ACK of the host changes no address, but of a device that it resets
+attempt_address : (t d : Option Sent) → NoAckOut t → NoAckOut d → (k : Ports) (j : ℕ) (p : List ℕ) → pass_resets t k j p ≡ false → attempt_resets t d k j p ≡ false
+    → option_map address_of (state_at (after_attempt t d None k) j p) ≡ option_map address_of (state_at k j p)
+attempt_address t d ct cd k j p f h =
+    ap (option_map address_of) (forgotten_state (passed d (passed t k)) j p)
+    ∙ forgotten_address (state_at (passed d (passed t k)) j p)
+    ∙ pass_address d cd (passed t k) j p h
+    ∙ pass_address t ct k j p f
+
+-- Where each reachable device holds an address of its own, no address is held twice
+
+pub own_not_twice : (f : List ℕ → Option ℕ) → Injective f → (w : World) → Own f w → is_twice (held w.roots) ≡ false
+own_not_twice f inj w own = split (decided (is_twice (held w.roots)))
+  where
+    at_of : (h : Option ℕ) (x : Option ℕ) (n : ℕ) → h ≡ x → h ≡ Some n → x ≡ Some n
+    at_of h x n e g = sym e ∙ g
+
+    found : (t : Two w.roots) → false ≡ true
+    found t = sym t.differ ∙ inj (suc t.one.i ∷ t.one.p) (suc t.other.i ∷ t.other.p) t.n
+        (at_of (option_map address_of (state_at w.roots t.one.i t.one.p)) (f (suc t.one.i ∷ t.one.p)) t.n (own (suc t.one.i ∷ t.one.p) t.one.on) t.one.at)
+        (at_of (option_map address_of (state_at w.roots t.other.i t.other.p)) (f (suc t.other.i ∷ t.other.p)) t.n (own (suc t.other.i ∷ t.other.p) t.other.on) t.other.at)
+
+    split : (is_twice (held w.roots) ≡ true) ⊎ (is_twice (held w.roots) ≡ false) → is_twice (held w.roots) ≡ false
+    split (inl y) = no (found (twice_two w.roots y))
+    split (inr y) = y
+
+-- Events
+
+replaced_state : (o : Option Spec) (k : Ports) (x p : List ℕ) → way_of x p ≡ false → state_there (changed (replaced o) k x) p ≡ state_there k p
+unfolding is_way
+replaced_state o k x [] w = refl
+replaced_state o k x (zero ∷ p) w = refl
+replaced_state o k [] (suc j ∷ p) w = refl
+replaced_state o k (zero ∷ x) (suc j ∷ p) w = refl
+replaced_state o k (suc i ∷ x) (suc j ∷ p) w = (event_place o k i x j p w).0
+
+plugged_state : (o : Option Spec) (k : Ports) (x p : List ℕ) → (is_some o && way_of x p) ≡ false → state_there (with_plugged o x k) p ≡ state_there k p
+plugged_state None k x p h = refl
+plugged_state (Some s) k x p h = replaced_state (Some s) k x p h
+
+happened_state : (a : Action) (d : List Spec) (k : Ports) (p : List ℕ) → names_path d a p ≡ false → state_there (happened a d k) p ≡ state_there k p
+happened_state (Plug x i) d k p h = plugged_state (slice_get d i) k x p h
+happened_state (Unplug x) d k p h = replaced_state None k x p h
+happened_state Show d k p h = refl
+happened_state (Send x b) d k p h = refl
+happened_state (Receive x n) d k p h = refl
+happened_state (Clear x) d k p h = refl
+
+pub due_state : (es : List Event) (w : World) (p : List ℕ) → reach (due_from es w).roots p ≡ true → state_there (due_from es w).roots p ≡ state_there w.roots p
+unfolding due_from took
+due_state [] w p h = refl
+due_state (e ∷ es) w p h =
+    elim (is_due e w) as (λ b. reach (if b then due_from es (took e es w) else w).roots p ≡ true → state_there (if b then due_from es (took e es w) else w).roots p ≡ state_there w.roots p) [
+      | true ↦ λ h. due_state es (took e es w) p h ∙ happened_state e.action w.devices w.roots p (happened_reach e.action w.devices w.roots p (due_reach es (took e es w) p refl h).0).1
+      | false ↦ λ h. refl
+    ] h
+
+pub first_state : (es : List Event) (w : World) (p : List ℕ) → reach (took_first es w).roots p ≡ true → state_there (took_first es w).roots p ≡ state_there w.roots p
+unfolding took
+first_state [] w p h = refl
+first_state (e ∷ es) w p h = happened_state e.action w.devices w.roots p (happened_reach e.action w.devices w.roots p h).1
+
+pub taken_state : (f : Option BusFault) (w : World) (p : List ℕ) → reach (event_taken f w).roots p ≡ true → state_there (event_taken f w).roots p ≡ state_there w.roots p
+taken_state (Some f) w p h = refl
+taken_state None w p h = first_state w.left w p h
+
+root_address : (c : PortCall) (n : ℕ) (k : Ports) (p : List ℕ) → root_resets c n k p ≡ false → address_at (changed (called c) k (n ∷ [])) p ≡ address_at k p
+root_address c n k [] h = refl
+root_address c n k (zero ∷ p) h = refl
+root_address c zero k (suc j ∷ p) h = refl
+root_address c (suc i) k (suc j ∷ p) h = ap (option_map address_of) (call_state c k i j p) ∙ kept_address (call_resets c k i j p) (state_at k j p) h
+
+-- To setup data, and to data, no device answers by data; so the host sends no ACK
+
+abbrev is_plain : Option Answer → Bool
+is_plain None = true
+is_plain (Some (answer.Data t b)) = false
+is_plain (Some answer.Ack) = true
+is_plain (Some answer.Nak) = true
+is_plain (Some answer.Stall) = true
+
+plain_if : (b : Bool) (x y : Reply) → is_plain x.0 ≡ true → is_plain y.0 ≡ true → is_plain (if b then x else y).0 ≡ true
+plain_if true x y h g = h
+plain_if false x y h g = g
+
+plain_status : (s : State) (t : Toggle) (b : List ℕ) → is_plain (status_row s t b).0 ≡ true
+plain_status s Zero b = refl
+plain_status s Data1 [] = refl
+plain_status s Data1 (x ∷ b) = refl
+
+plain_out : (s : State) (g : Stage) (t : Toggle) (b : List ℕ) → is_plain (out_row s g t b).0 ≡ true
+plain_out s idle t b = refl
+plain_out s refused t b = refl
+plain_out s (reading x y z) t b = plain_status s t b
+plain_out s read t b = plain_status s t b
+plain_out s (ending x) t b = refl
+
+plain_sink : (s : State) (max : ℕ) (t : Toggle) (b : List ℕ) → is_plain (sink_row s max t b).0 ≡ true
+plain_sink s max t b =
+    plain_if s.bulk_out.halted (Some answer.Stall, s) _ refl
+    (plain_if (nat_lt max (length b)) (None, s) _ refl
+    (plain_if (is_same t s.bulk_out.toggle) (Some answer.Ack, sunk s b) (Some answer.Ack, s) refl refl))
+
+plain_bulk : (s : State) (e : ℕ) (o : Option (ℕ × ℕ)) (t : Toggle) (b : List ℕ) → is_plain (out_bulk_row s e o t b).0 ≡ true
+plain_bulk s e None t b = refl
+plain_bulk s e (Some end) t b = plain_if (end.0 == e) (sink_row s end.1 t b) (None, s) (plain_sink s end.1 t b) refl
+
+plain_payload : (s : State) (row : List PortState) (m : Memory) (t : Toggle) (b : List ℕ) → is_plain (payload_row s row m t b).0 ≡ true
+plain_payload s row Nothing t b = refl
+plain_payload s row (AckAwaited g) t b = refl
+plain_payload s row SetupSeen Data1 b = refl
+plain_payload s row SetupSeen Zero b = plain_if (length b == 8) (Some answer.Ack, accepted s row (setup_of b)) (None, s) refl refl
+plain_payload s row (OutSeen e) t b =
+    plain_if (e == 0) (unless_busy s (out_row s s.stage t b)) (out_bulk_row s e (bulk_of s false) t b)
+    (plain_if (is_busy s) (nak_row s) (out_row s s.stage t b) refl (plain_out s s.stage t b)) (plain_bulk s e (bulk_of s false) t b)
+
+-- what goes out in an attempt that sends setup data
+IsSetupOut : Content → Type 0
+IsSetupOut (Whole (Token SetupTok a e)) = Unit {0}
+IsSetupOut (Whole (Payload t b)) = Unit {0}
+IsSetupOut Broken = Unit {0}
+IsSetupOut (Whole p) = ⊥
+
+plain_token : (s : State) (row : List PortState) (a e : ℕ) → is_plain (if a == s.registers.address then token_row s row SetupTok e else (None, s)).0 ≡ true
+plain_token s row a e = plain_if (a == s.registers.address) (token_row s row SetupTok e) (None, s) refl refl
+
+plain_content : (c : Content) (s : State) (row : List PortState) → IsSetupOut c → is_plain (reply_to c s row).0 ≡ true
+unfolding received IsSetupOut
+plain_content (Whole (Token SetupTok a e)) s row h = plain_if s.spec.silent (None, s) _ refl (plain_token (forgotten s) row a e)
+plain_content (Whole (Token InTok a e)) s row h = elim h [ ]
+plain_content (Whole (Token OutTok a e)) s row h = elim h [ ]
+plain_content (Whole (Payload t b)) s row h = plain_if s.spec.silent (None, s) _ refl (plain_payload (forgotten s) row s.memory t b.items)
+plain_content (Whole Ack) s row h = elim h [ ]
+plain_content (Whole (Sof f)) s row h = elim h [ ]
+plain_content (Whole Nak) s row h = elim h [ ]
+plain_content (Whole Stall) s row h = elim h [ ]
+plain_content (Whole Pre) s row h = elim h [ ]
+plain_content Broken s row h = refl
+
+plain_answer : (q : Sent) → IsSetupOut q.content → (deep : Bool) (s : State) (a : Ports) → is_plain (answer_of q deep s a).0 ≡ true
+unfolding answer_of
+plain_answer q c deep s a = plain_if (hears q deep s) (reply_to q.content s (row_of a)) (None, s) (plain_content q.content s (row_of a) c) refl
+
+all_plain : List Answer → Bool
+all_plain [] = true
+all_plain (x ∷ xs) = is_plain (Some x) && all_plain xs
+
+plain_append : (xs ys : List Answer) → all_plain xs ≡ true → all_plain ys ≡ true → all_plain (xs ++ ys) ≡ true
+unfolding all_plain
+plain_append [] ys h g = g
+plain_append (x ∷ xs) ys h g =
+    let on : _ = both (is_plain (Some x)) (all_plain xs) h in and_of (is_plain (Some x)) _ on.0 (plain_append xs ys on.1 g)
+
+plain_listed : (o : Option Answer) (xs : List Answer) → is_plain o ≡ true → all_plain xs ≡ true → all_plain (listed o xs) ≡ true
+unfolding all_plain
+plain_listed None xs h g = g
+plain_listed (Some x) xs h g = and_of (is_plain (Some x)) (all_plain xs) h g
+
+plain_answers : (q : Sent) → IsSetupOut q.content → (deep : Bool) (k : Ports) → all_plain (answers q deep k) ≡ true
+unfolding answers all_plain
+plain_answers q c deep ended = refl
+plain_answers q c deep (vacant b k) = plain_answers q c deep k
+plain_answers q c deep (taken b s a k) =
+    elim b.enable as (λ x. all_plain (if x then listed (answer_of q deep s a).0 (answers q true a ++ answers q deep k) else answers q deep k) ≡ true) [
+      | true ↦ plain_listed (answer_of q deep s a).0 (answers q true a ++ answers q deep k) (plain_answer q c deep s a) (plain_append (answers q true a) (answers q deep k) (plain_answers q c true a) (plain_answers q c deep k))
+      | false ↦ plain_answers q c deep k
+    ]
+
+SetupIfOut : Option Sent → Type 0
+SetupIfOut None = Unit {0}
+SetupIfOut (Some q) = IsSetupOut q.content
+
+plain_told : (o : Option Sent) → SetupIfOut o → (k : Ports) → all_plain (told o k) ≡ true
+unfolding all_plain SetupIfOut
+plain_told None c k = refl
+plain_told (Some q) c k = plain_answers q c false k
+
+plain_reply : (xs : List Answer) (m : Mark) (max : ℕ) → all_plain xs ≡ true → reply_of (heard_all xs) m max ≡ None
+unfolding all_plain reply_of
+plain_reply [] m max h = refl
+plain_reply (answer.Ack ∷ []) m max h = refl
+plain_reply (answer.Nak ∷ []) m max h = refl
+plain_reply (answer.Stall ∷ []) m max h = refl
+plain_reply (answer.Data t b ∷ []) m max h = no h
+plain_reply (x ∷ y ∷ more) m max h = refl
+
+-- Attempts that send setup data
+
+setup_goes : (l pre : Bool) (m : Mark) (p : Packet) → IsSetupOut (Whole p) → SetupIfOut (sent_as l pre m p)
+unfolding SetupIfOut IsSetupOut
+setup_goes l pre mark.Whole p h = h
+setup_goes l pre mark.Lost p h = tt
+setup_goes l pre mark.PreLost p h = h
+setup_goes l pre (mark.Flipped b) p h = tt
+
+no_ack_goes : (l pre : Bool) (m : Mark) (p : Packet) → is_ack p ≡ false → NoAckOut (sent_as l pre m p)
+unfolding NoAckOut is_ack_out
+no_ack_goes l pre mark.Whole p h = h
+no_ack_goes l pre mark.Lost p h = tt
+no_ack_goes l pre mark.PreLost p h = h
+no_ack_goes l pre (mark.Flipped b) p h = refl
+
+harmless_goes : (l pre : Bool) (m : Mark) (p : Packet) → IsHarmlessOut (Whole p) → (k : Ports) (j : ℕ) (path : List ℕ) → pass_resets (sent_as l pre m p) k j path ≡ false
+harmless_goes l pre mark.Whole p h k j path = harmless_resets (record { low = l; pre = pre; content = Whole p }) h false k j path
+harmless_goes l pre mark.Lost p h k j path = refl
+harmless_goes l pre mark.PreLost p h k j path = harmless_resets (record { low = l; pre = false; content = Whole p }) h false k j path
+harmless_goes l pre (mark.Flipped b) p h k j path = harmless_resets (record { low = l; pre = pre; content = Broken }) tt false k j path
+
+-- what such an attempt sends
+record SetupGoes (a : Attempt) (d : Option Damage) : Type 0 where
+  token : SetupIfOut (token_out a d)
+  payload : SetupIfOut (payload_out a d)
+  token_no_ack : NoAckOut (token_out a d)
+  payload_no_ack : NoAckOut (payload_out a d)
+  harmless : (k : Ports) (j : ℕ) (p : List ℕ) → pass_resets (payload_out a d) k j p ≡ false
+
+setup_sends : (a : Attempt) (d : Option Damage) (t : TokenKind) (o : Option (Toggle × ArrayVec ℕ)) → a.kind ≡ t → a.payload ≡ o → quiet_data t o ≡ true → SetupGoes a d
+unfolding token_of payload_of marked marked_some IsSetupOut SetupIfOut NoAckOut
+setup_sends a d SetupTok None et eo h = record {
+  token = setup_goes a.low a.pre (mark_of (harm_to d 1) a.pre (Token a.kind a.addr a.ep)) (Token a.kind a.addr a.ep) (rw et tt);
+  payload = rw eo tt;
+  token_no_ack = no_ack_goes a.low a.pre (mark_of (harm_to d 1) a.pre (Token a.kind a.addr a.ep)) (Token a.kind a.addr a.ep) refl;
+  payload_no_ack = rw eo tt;
+  harmless = λ k j p. rw eo refl;
+}
+setup_sends a d SetupTok (Some x) et eo h = record {
+  token = setup_goes a.low a.pre (mark_of (harm_to d 1) a.pre (Token a.kind a.addr a.ep)) (Token a.kind a.addr a.ep) (rw et tt);
+  payload = rw eo (setup_goes a.low a.pre (mark_of (harm_to d 2) a.pre (Payload x.0 x.1)) (Payload x.0 x.1) tt);
+  token_no_ack = no_ack_goes a.low a.pre (mark_of (harm_to d 1) a.pre (Token a.kind a.addr a.ep)) (Token a.kind a.addr a.ep) refl;
+  payload_no_ack = rw eo (no_ack_goes a.low a.pre (mark_of (harm_to d 2) a.pre (Payload x.0 x.1)) (Payload x.0 x.1) refl);
+  harmless = λ k j p. rw eo (harmless_goes a.low a.pre (mark_of (harm_to d 2) a.pre (Payload x.0 x.1)) (Payload x.0 x.1) h k j p);
+}
+setup_sends a d OutTok o et eo h = no h
+setup_sends a d InTok o et eo h = no h
+
+no_reply : (a : Attempt) (d : Option Damage) (k : Ports) → SetupGoes a d → reply_out a d k ≡ None
+unfolding marked_some
+no_reply a d k g =
+    ap (λ o. goes_out a (marked_some d (place_of_answer a d + 1) a.pre o))
+    (plain_reply (told (token_out a d) k ++ told (payload_out a d) (passed (token_out a d) k)) (mark_in a d k) a.max
+    (plain_append (told (token_out a d) k) (told (payload_out a d) (passed (token_out a d) k)) (plain_told (token_out a d) g.token k) (plain_told (payload_out a d) g.payload (passed (token_out a d) k))))
+
+made_address : (a : Attempt) (w : World) → SetupGoes a (damage_in w) → (p : List ℕ) → address_at (with_attempt a w).roots p ≡ address_at w.roots p
+unfolding with_attempt ports_in
+made_address a w g [] = refl
+made_address a w g (zero ∷ p) = refl
+made_address a w g (suc j ∷ p) =
+    ap (λ r. option_map address_of (state_at (after_attempt (token_out a (damage_in w)) (payload_out a (damage_in w)) r w.roots) j p)) (no_reply a (damage_in w) w.roots g)
+    ∙ attempt_address (token_out a (damage_in w)) (payload_out a (damage_in w)) g.token_no_ack g.payload_no_ack w.roots j p
+    (calm_pass (token_out a (damage_in w)) (token_calm_out a.addr (token_out a (damage_in w)) (goes a (damage_in w) w.roots).token) w.roots j p)
+    (g.harmless (passed (token_out a (damage_in w)) w.roots) j p)
+
+quiet_sends : (a : Attempt) (d : Option Damage) → quiet_data a.kind a.payload ≡ true → SetupGoes a d
+quiet_sends a d h = setup_sends a d a.kind a.payload refl refl h
+
+-- Steps
+
+pub quiet_resets : (s : Step) (w : World) (p : List ℕ) → is_quiet s ≡ true → resets s w p ≡ false
+unfolding resets
+quiet_resets (attempt a) w p h = made (is_made w.fault w) (by_path p)
+  where
+    made : (x : Bool) → made_resets a (ready w) p ≡ false → (x && made_resets a (ready w) p) ≡ false
+    made true h = h
+    made false h = refl
+
+    by_path : (p : List ℕ) → made_resets a (ready w) p ≡ false
+    by_path [] = refl
+    by_path (zero ∷ p) = refl
+    by_path (suc j ∷ p) = (quiet_sends a (damage_in (ready w)) h).harmless (passed (token_out a (damage_in (ready w))) (ready w).roots) j p
+quiet_resets (root_call c n) w p h = by_path n p
+  where
+    off : (x y : Bool) → not x ≡ true → (x && y) ≡ false
+    off true y h = no h
+    off false y h = refl
+
+    by_path : (n : ℕ) (p : List ℕ) → root_resets c n w.roots p ≡ false
+    by_path zero p = refl
+    by_path (suc i) [] = refl
+    by_path (suc i) (zero ∷ p) = refl
+    by_path (suc i) (suc j ∷ []) = off (is_reset c) _ h
+    by_path (suc i) (suc j ∷ m ∷ p) = refl
+quiet_resets event w p h = refl
+quiet_resets (report l) w p h = refl
+
+attempted_address : (a : Attempt) (f : Option BusFault) (w : World) (p : List ℕ) → quiet_data a.kind a.payload ≡ true → reach w.roots p ≡ true → reach (attempted a f w).roots p ≡ true
+    → made_resets a (ready w) p ≡ false → address_at (attempted a f w).roots p ≡ address_at w.roots p
+unfolding ready
+attempted_address a (Some f) w p q on h r = refl
+attempted_address a None w p q on h r =
+    elim (w.attempts == w.limit) as (λ b. reach (if b then record w { fault = Some LimitReached } else with_attempt a (ready w)).roots p ≡ true → address_at (if b then record w { fault = Some LimitReached } else with_attempt a (ready w)).roots p ≡ address_at w.roots p) [
+      | true ↦ λ h. refl
+      | false ↦ λ h. made_address a (ready w) (quiet_sends a (damage_in (ready w)) q) p ∙ ap (option_map address_of) (due_state w.left w p (made_reach a (ready w) p r h))
+    ] h
+
+step_address : (s : Step) (w : World) (p : List ℕ) → is_quiet s ≡ true → reach w.roots p ≡ true → reach (after s w).roots p ≡ true → address_at (after s w).roots p ≡ address_at w.roots p
+unfolding after resets
+step_address (attempt a) w p q on h = attempted_address a w.fault w p q on h (by_path p)
+  where
+    by_path : (p : List ℕ) → made_resets a (ready w) p ≡ false
+    by_path [] = refl
+    by_path (zero ∷ p) = refl
+    by_path (suc j ∷ p) = (quiet_sends a (damage_in (ready w)) q).harmless (passed (token_out a (damage_in (ready w))) (ready w).roots) j p
+step_address (root_call c n) w p q on h = root_address c n w.roots p (quiet_resets (root_call c n) w p q)
+step_address event w p q on h = ap (option_map address_of) (taken_state w.fault w p h)
+step_address (report l) w p q on h = refl
+
+pub step_own : (f : List ℕ → Option ℕ) (s : Step) (w : World) → is_quiet s ≡ true → Own f w → Own f (after s w)
+step_own f s w q own p h =
+    let on : _ = (unreset_reach s w p (quiet_resets s w p q) h).0 in
+    step_address s w p q on h ∙ own p on
+
+-- no mark is set
+
+pub ready_own : (f : List ℕ → Option ℕ) (w : World) → Own f w → Own f (ready w)
+unfolding ready
+ready_own f w own p h = ap (option_map address_of) (due_state w.left w p h) ∙ own p (due_reach w.left w p refl h).0
+
+-- neither a world before an attempt nor the attempt sets the mark
+pub ready_unshared : (f : List ℕ → Option ℕ) → Injective f → (w : World) → Own f w → w.shared ≡ false → ((ready w).shared || is_twice (held (ready w).roots)) ≡ false
+unfolding ready
+ready_unshared f inj w own h = neither_of (ready w).shared (is_twice (held (ready w).roots)) (due_shared w.left w ∙ h) (own_not_twice f inj (ready w) (ready_own f w own))
+
+pub step_unshared : (f : List ℕ → Option ℕ) → Injective f → (s : Step) (w : World) → Own f w → w.shared ≡ false → (after s w).shared ≡ false
+unfolding after with_attempt ports_in ready
+step_unshared f inj (attempt a) w own h = tried w.fault
+  where
+    tried : (x : Option BusFault) → (attempted a x w).shared ≡ false
+    tried (Some x) = h
+    tried None = elim (w.attempts == w.limit) as (λ b. (if b then record w { fault = Some LimitReached } else with_attempt a (ready w)).shared ≡ false) [
+      | true ↦ h
+      | false ↦ neither_of (ready w).shared (is_twice (held (ready w).roots)) (due_shared w.left w ∙ h) (own_not_twice f inj (ready w) (ready_own f w own))
+    ]
+step_unshared f inj (root_call c n) w own h = h
+step_unshared f inj event w own h = taken_it w.fault
+  where
+    taken_it : (x : Option BusFault) → (event_taken x w).shared ≡ false
+    taken_it (Some x) = h
+    taken_it None = first_shared w.left w ∙ h
+step_unshared f inj (report l) w own h = h
+
+-- a course of such steps keeps each reachable device at its own address, and sets no mark, whatever is lost and whatever is plugged
+pub course_own : (f : List ℕ → Option ℕ) → Injective f → {w v : World} → Course QuietStep w v → Own f w → w.shared ≡ false → Own f v × (v.shared ≡ false)
+course_own f inj (here w) own h = (own, h)
+course_own f inj (step s {w} {v} k more) own h = course_own f inj more (step_own f s w k own) (step_unshared f inj s w own h)

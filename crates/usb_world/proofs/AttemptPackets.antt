@@ -1,0 +1,326 @@
+-- What an attempt's packets do to reachable, live and pending.
+use Rattle.std.proofs.Common.{◌≡◌, ℕ, zero, suc, ◌&&◌, ◌||◌, not, if◌then◌else◌, Bool, true, false, List, [], ◌∷◌, Option, None, Some, option_map, refl, ap, sym, ◌∙◌}
+use Rattle.usb_packet.specs.declared.Packet.{Packet}
+use Rattle.usb_packet.specs.declared.Packet.TheVariants.{Token, Payload, Ack, Sof, Nak, Stall, Pre}
+use Rattle.usb_port.specs.PortState.{PortState, powered_off}
+use Rattle.usb_device.specs.declared.delivery.Content.{Content}
+use Rattle.usb_device.specs.declared.delivery.Content.TheVariants.{Whole, Broken}
+use Rattle.usb_device.specs.declared.delivery.Sent.{Sent}
+use Rattle.usb_device.specs.declared.effect.Effect.{Effect}
+use Rattle.usb_device.specs.declared.effect.Effect.TheVariants.{Leaves}
+use Rattle.usb_device.specs.declared.transfer.Memory.{Memory}
+use Rattle.usb_device.specs.declared.transfer.Memory.TheVariants.{Nothing}
+use Rattle.usb_device.specs.Rows.{State, Reply, forgotten, received, unread, answered}
+use Rattle.usb_device.specs.Attempt.{is_own}
+use Rattle.usb_device.specs.Effect.{asks}
+use Rattle.usb_device.specs.Tree.{Ports, ended, vacant, taken, full, all_off, acted, row_of, reach_at, state_at, port_at, place_at}
+use Rattle.usb_device.specs.Delivery.{hears, reply_to, answer_of, asked_by, effect_of, after_packet, all_forgotten}
+use Rattle.usb_world.specs.Paths.{live_at, pend_at}
+use Rattle.usb_world.specs.WayEffects.{IsNew, resets_at, packet_spares}
+use Rattle.usb_world.specs.SanePorts.{IsSane}
+use Rattle.usb_world.specs.Passes.{passed, after_attempt, calls_on, IsTokenFor, IsAckOut, IfOut, IsAttemptAt, pass_resets, pass_spares, attempt_resets, attempt_spares, IsSettled}
+use Rattle.usb_world.proofs.Booleans.{no, and_false}
+use Rattle.usb_world.proofs.PacketEffects.{packet_new, packet_reach, packet_pend, packet_live}
+use Rattle.usb_world.proofs.SanePorts.{sane_packet, sane_forgotten}
+use Rattle.usb_world.proofs.States.{forgets}
+
+-- no device asks anything of its ports
+abbrev pub IsCalm : Sent → Type 0
+IsCalm q = (deep : Bool) (s : State) → effect_of q deep s ≡ Leaves
+
+abbrev IsCalmContent : Content → Type 0
+IsCalmContent c = (s : State) → asked_by c s ≡ Leaves
+
+calm_content : (q : Sent) → IsCalmContent q.content → IsCalm q
+unfolding effect_of
+calm_content q c deep s = elim (hears q deep s) as (λ x. (if x then asked_by q.content s else Leaves) ≡ Leaves) [ true ↦ c s | false ↦ refl ]
+
+pub silent_calm : (s : State) → (if s.spec.silent then Leaves else Leaves) ≡ Leaves
+silent_calm s = elim s.spec.silent as (λ x. (if x then Leaves else Leaves) ≡ Leaves) [ true ↦ refl | false ↦ refl ]
+
+token_calm : (n : ℕ) (c : Content) → IsTokenFor n c → IsCalmContent c
+unfolding asks
+token_calm n (Whole (Token kind a e)) h s = silent_calm s
+token_calm n (Whole (Payload t b)) h s = elim h [ ]
+token_calm n (Whole Ack) h s = elim h [ ]
+token_calm n (Whole (Sof f)) h s = elim h [ ]
+token_calm n (Whole Nak) h s = elim h [ ]
+token_calm n (Whole Stall) h s = elim h [ ]
+token_calm n (Whole Pre) h s = elim h [ ]
+token_calm n Broken h s = refl
+
+ack_calm : (c : Content) → IsAckOut c → IsCalmContent c
+unfolding asks
+ack_calm (Whole Ack) h s = silent_calm s
+ack_calm (Whole (Payload t b)) h s = elim h [ ]
+ack_calm (Whole (Token kind a e)) h s = elim h [ ]
+ack_calm (Whole (Sof f)) h s = elim h [ ]
+ack_calm (Whole Nak) h s = elim h [ ]
+ack_calm (Whole Stall) h s = elim h [ ]
+ack_calm (Whole Pre) h s = elim h [ ]
+ack_calm Broken h s = refl
+
+pub calm_resets : (q : Sent) → IsCalm q → (deep : Bool) (k : Ports) (j : ℕ) (p : List ℕ) → resets_at q deep k j p ≡ false
+unfolding resets_at
+calm_resets q c deep ended j p = refl
+calm_resets q c deep (vacant b k) zero p = refl
+calm_resets q c deep (vacant b k) (suc j) p = calm_resets q c deep k j p
+calm_resets q c deep (taken b s a k) zero [] = refl
+calm_resets q c deep (taken b s a k) zero (zero ∷ p) = refl
+calm_resets q c deep (taken b s a k) zero (suc j ∷ p) = rw (c deep s, calm_resets q c true a j p) (and_false b.enable)
+calm_resets q c deep (taken b s a k) (suc j) p = calm_resets q c deep k j p
+
+pub calm_spares : (q : Sent) → IsCalm q → (deep : Bool) (k : Ports) (j : ℕ) (p : List ℕ) → packet_spares q deep k j p ≡ true
+unfolding packet_spares
+calm_spares q c deep ended j p = refl
+calm_spares q c deep (vacant b k) zero p = refl
+calm_spares q c deep (vacant b k) (suc j) p = calm_spares q c deep k j p
+calm_spares q c deep (taken b s a k) zero [] = refl
+calm_spares q c deep (taken b s a k) zero (zero ∷ p) = refl
+calm_spares q c deep (taken b s a k) zero (suc j ∷ p) = rw (c deep s, calm_spares q c true a j p) (elim b.enable as (λ x. (not x || true) ≡ true) [ true ↦ refl | false ↦ refl ])
+calm_spares q c deep (taken b s a k) (suc j) p = calm_spares q c deep k j p
+
+-- a packet that goes out, or not, and asks nothing
+abbrev pub CalmOut : Option Sent → Type 0
+CalmOut None = Unit {0}
+CalmOut (Some q) = IsCalm q
+
+pub token_out : (n : ℕ) (o : Option Sent) → IfOut (IsTokenFor n) o → CalmOut o
+token_out n None h = tt
+token_out n (Some q) h = calm_content q (token_calm n q.content h)
+
+pub ack_out : (o : Option Sent) → IfOut IsAckOut o → CalmOut o
+ack_out None h = tt
+ack_out (Some q) h = calm_content q (ack_calm q.content h)
+
+pub calm_pass : (o : Option Sent) → CalmOut o → (k : Ports) (j : ℕ) (p : List ℕ) → pass_resets o k j p ≡ false
+calm_pass None c k j p = refl
+calm_pass (Some q) c k j p = calm_resets q c false k j p
+
+calm_pass_spares : (o : Option Sent) → CalmOut o → (k : Ports) (j : ℕ) (p : List ℕ) → pass_spares o k j p ≡ true
+calm_pass_spares None c k j p = refl
+calm_pass_spares (Some q) c k j p = calm_spares q c false k j p
+
+-- One packet
+
+pub pass_reach : (o : Option Sent) (k : Ports) (j : ℕ) (p : List ℕ) → pass_resets o k j p ≡ false → reach_at (passed o k) j p ≡ true → reach_at k j p ≡ true
+pass_reach None k j p f h = h
+pass_reach (Some q) k j p f h = packet_reach q false k j p f h
+
+pass_new : (o : Option Sent) (k : Ports) (j : ℕ) (p : List ℕ) → pass_resets o k j p ≡ true → IsNew (place_at (passed o k) j p)
+pass_new None k j p h = no h
+pass_new (Some q) k j p h = packet_new q false k j p h
+
+pass_pend : (o : Option Sent) (k : Ports) (j : ℕ) (p : List ℕ) → pass_spares o k j p ≡ true → pend_at k j p ≡ true → pend_at (passed o k) j p ≡ true
+pass_pend None k j p f h = h
+pass_pend (Some q) k j p f h = packet_pend q false k j p f h
+
+pass_live : (o : Option Sent) (k : Ports) (j : ℕ) (p : List ℕ) → pass_spares o k j p ≡ true → live_at k j p ≡ true → live_at (passed o k) j p ≡ true
+pass_live None k j p f h = h
+pass_live (Some q) k j p f h = packet_live q false k j p f h
+
+pass_sane : (o : Option Sent) (k : Ports) → IsSane k → IsSane (passed o k)
+pass_sane None k h = h
+pass_sane (Some q) k h = sane_packet q false k h
+
+-- Forgetting
+
+pub forgotten_reach : (k : Ports) (j : ℕ) (p : List ℕ) → reach_at (all_forgotten k) j p ≡ reach_at k j p
+unfolding all_forgotten reach_at
+forgotten_reach ended j p = refl
+forgotten_reach (vacant b k) zero p = refl
+forgotten_reach (vacant b k) (suc j) p = forgotten_reach k j p
+forgotten_reach (taken b s a k) zero [] = refl
+forgotten_reach (taken b s a k) zero (zero ∷ p) = refl
+forgotten_reach (taken b s a k) zero (suc j ∷ p) = ap (λ x. b.enable && x) (forgotten_reach a j p)
+forgotten_reach (taken b s a k) (suc j) p = forgotten_reach k j p
+
+pub forgotten_live : (k : Ports) (j : ℕ) (p : List ℕ) → live_at (all_forgotten k) j p ≡ live_at k j p
+unfolding all_forgotten live_at
+forgotten_live ended j p = refl
+forgotten_live (vacant b k) zero [] = refl
+forgotten_live (vacant b k) zero (n ∷ p) = refl
+forgotten_live (vacant b k) (suc j) p = forgotten_live k j p
+forgotten_live (taken b s a k) zero [] = refl
+forgotten_live (taken b s a k) zero (zero ∷ p) = refl
+forgotten_live (taken b s a k) zero (suc j ∷ p) = ap (λ x. b.power && x) (forgotten_live a j p)
+forgotten_live (taken b s a k) (suc j) p = forgotten_live k j p
+
+pub forgotten_pend : (k : Ports) (j : ℕ) (p : List ℕ) → pend_at (all_forgotten k) j p ≡ pend_at k j p
+unfolding all_forgotten pend_at
+forgotten_pend ended j p = refl
+forgotten_pend (vacant b k) zero p = refl
+forgotten_pend (vacant b k) (suc j) p = forgotten_pend k j p
+forgotten_pend (taken b s a k) zero [] = refl
+forgotten_pend (taken b s a k) zero (zero ∷ p) = refl
+forgotten_pend (taken b s a k) zero (suc j ∷ p) = ap (λ x. b.power && (b.connection_changed || x)) (forgotten_pend a j p)
+forgotten_pend (taken b s a k) (suc j) p = forgotten_pend k j p
+
+pub forgotten_port : (k : Ports) (j : ℕ) (p : List ℕ) → port_at (all_forgotten k) j p ≡ port_at k j p
+unfolding all_forgotten port_at
+forgotten_port ended j p = refl
+forgotten_port (vacant b k) zero [] = refl
+forgotten_port (vacant b k) zero (n ∷ p) = refl
+forgotten_port (vacant b k) (suc j) p = forgotten_port k j p
+forgotten_port (taken b s a k) zero [] = refl
+forgotten_port (taken b s a k) zero (zero ∷ p) = refl
+forgotten_port (taken b s a k) zero (suc j ∷ p) = forgotten_port a j p
+forgotten_port (taken b s a k) (suc j) p = forgotten_port k j p
+
+pub forgotten_state : (k : Ports) (j : ℕ) (p : List ℕ) → state_at (all_forgotten k) j p ≡ option_map forgotten (state_at k j p)
+unfolding all_forgotten state_at
+forgotten_state ended j p = refl
+forgotten_state (vacant b k) zero p = refl
+forgotten_state (vacant b k) (suc j) p = forgotten_state k j p
+forgotten_state (taken b s a k) zero [] = refl
+forgotten_state (taken b s a k) zero (zero ∷ p) = refl
+forgotten_state (taken b s a k) zero (suc j ∷ p) = forgotten_state a j p
+forgotten_state (taken b s a k) (suc j) p = forgotten_state k j p
+
+pub forgotten_off : (k : Ports) → all_off (all_forgotten k) ≡ all_forgotten (all_off k)
+unfolding all_forgotten all_off
+forgotten_off ended = refl
+forgotten_off (vacant b k) = ap (vacant (powered_off b)) (forgotten_off k)
+forgotten_off (taken b s a k) = ap (taken (powered_off b) (forgotten s) (all_forgotten a)) (forgotten_off k)
+
+forgotten_new : (k : Ports) (j : ℕ) (p : List ℕ) → IsNew (place_at k j p) → IsNew (place_at (all_forgotten k) j p)
+unfolding all_forgotten place_at
+forgotten_new ended j p h = h
+forgotten_new (vacant b k) zero [] h = h
+forgotten_new (vacant b k) zero (n ∷ p) h = h
+forgotten_new (vacant b k) (suc j) p h = forgotten_new k j p h
+forgotten_new (taken b s a k) zero [] h = (h.0, h.1, refl, forgotten_off a ∙ ap all_forgotten h.3)
+forgotten_new (taken b s a k) zero (zero ∷ p) h = h
+forgotten_new (taken b s a k) zero (suc j ∷ p) h = forgotten_new a j p h
+forgotten_new (taken b s a k) (suc j) p h = forgotten_new k j p h
+
+pub forgotten_twice : (k : Ports) → all_forgotten (all_forgotten k) ≡ all_forgotten k
+unfolding all_forgotten
+forgotten_twice ended = refl
+forgotten_twice (vacant b k) = ap (vacant b) (forgotten_twice k)
+forgotten_twice (taken b s a k) =
+    ap (λ x. taken b (forgotten s) x (all_forgotten (all_forgotten k))) (forgotten_twice a) ∙ ap (taken b (forgotten s) (all_forgotten a)) (forgotten_twice k)
+
+-- A device that remembers nothing stays as it is at what is no token for it
+
+rested_received : (p : Packet) (s : State) (row : List PortState) (m : Memory) → s.memory ≡ m → m ≡ Nothing → is_own s p ≡ false → answered (forgotten s) row m p ≡ (None, s)
+rested_received (Token kind a e) s row m eq n own = rw own (ap (λ x. (None, x)) (forgets s (eq ∙ n)))
+rested_received (Payload t b) s row m eq n own = rw n (ap (λ x. (None, x)) (forgets s (eq ∙ n)))
+rested_received Ack s row m eq n own = rw n (ap (λ x. (None, x)) (forgets s (eq ∙ n)))
+rested_received (Sof f) s row m eq n own = ap (λ x. (None, x)) (forgets s (eq ∙ n))
+rested_received Nak s row m eq n own = ap (λ x. (None, x)) (forgets s (eq ∙ n))
+rested_received Stall s row m eq n own = ap (λ x. (None, x)) (forgets s (eq ∙ n))
+rested_received Pre s row m eq n own = ap (λ x. (None, x)) (forgets s (eq ∙ n))
+
+abbrev quiet : State → Reply
+quiet s = (None, s)
+
+pub rested_reply : (c : Content) (s : State) (row : List PortState) → s.memory ≡ Nothing → calls_on c s ≡ false → reply_to c s row ≡ (None, s)
+unfolding received unread
+rested_reply (Whole p) s row n own = heard s.spec.silent
+  where
+    heard : (x : Bool) → (if x then (None, s) else answered (forgotten s) row s.memory p) ≡ (None, s)
+    heard true = refl
+    heard false = rested_received p s row s.memory refl n own
+rested_reply Broken s row n own = heard s.spec.silent
+  where
+    heard : (x : Bool) → quiet (if x then s else forgotten s) ≡ quiet s
+    heard true = refl
+    heard false = ap quiet (forgets s n)
+
+pub rested_answer : (q : Sent) (deep : Bool) (s : State) (a : Ports) → s.memory ≡ Nothing → calls_on q.content s ≡ false → answer_of q deep s a ≡ (None, s)
+unfolding answer_of
+rested_answer q deep s a n own = elim (hears q deep s) as (λ x. (if x then reply_to q.content s (row_of a) else (None, s)) ≡ (None, s)) [ true ↦ rested_reply q.content s (row_of a) n own | false ↦ refl ]
+
+pub ack_calls : (c : Content) (s : State) → IsAckOut c → calls_on c s ≡ false
+ack_calls (Whole Ack) s h = refl
+ack_calls (Whole (Payload t b)) s h = refl
+ack_calls (Whole (Token kind a e)) s h = elim h [ ]
+ack_calls (Whole (Sof f)) s h = refl
+ack_calls (Whole Nak) s h = refl
+ack_calls (Whole Stall) s h = refl
+ack_calls (Whole Pre) s h = refl
+ack_calls Broken s h = refl
+
+-- no packet comes through ports that are off
+off_unreached : (q : Sent) (deep : Bool) (k : Ports) → after_packet q deep (all_off k) ≡ all_off k
+unfolding after_packet all_off
+off_unreached q deep ended = refl
+off_unreached q deep (vacant b k) = ap (vacant (powered_off b)) (off_unreached q deep k)
+off_unreached q deep (taken b s a k) = ap (taken (powered_off b) s a) (off_unreached q deep k)
+
+-- the host's ACK leaves a new device new
+ack_new : (q : Sent) → IsAckOut q.content → (deep : Bool) (k : Ports) (j : ℕ) (p : List ℕ) → IsNew (place_at k j p) → IsNew (place_at (after_packet q deep k) j p)
+unfolding after_packet place_at
+ack_new q c deep ended j p h = h
+ack_new q c deep (vacant b k) zero [] h = h
+ack_new q c deep (vacant b k) zero (n ∷ p) h = h
+ack_new q c deep (vacant b k) (suc j) p h = ack_new q c deep k j p h
+ack_new q c deep (taken b s a k) zero [] h = split b.enable
+  where
+    same : after_packet q true a ≡ a
+    same = ap (after_packet q true) (sym h.3) ∙ off_unreached q true a ∙ h.3
+
+    new_still : (r : Reply) (e : Effect) (x : Ports) → r ≡ (None, s) → e ≡ Leaves → x ≡ a → IsNew (Some (full b r.1 (acted e x)))
+    new_still r e x y z w = rw (y, z, w) h
+
+    split : (x : Bool) → IsNew (place_at (if x then taken b (answer_of q deep s a).1 (acted (effect_of q deep s) (after_packet q true a)) (after_packet q deep k) else taken b s a (after_packet q deep k)) zero [])
+    split true = new_still (answer_of q deep s a) (effect_of q deep s) (after_packet q true a) (rested_answer q deep s a h.2 (ack_calls q.content s c)) (calm_content q (ack_calm q.content c) deep s) same
+    split false = h
+ack_new q c deep (taken b s a k) zero (zero ∷ p) h = elim h [ ]
+ack_new q c deep (taken b s a k) zero (suc j ∷ p) h = split b.enable (ack_new q c true a j p h)
+  where
+    below : (e : Effect) (x : Ports) → e ≡ Leaves → IsNew (place_at x j p) → IsNew (place_at (acted e x) j p)
+    below e x y g = rw y g
+
+    split : (x : Bool) → IsNew (place_at (after_packet q true a) j p)
+        → IsNew (place_at (if x then taken b (answer_of q deep s a).1 (acted (effect_of q deep s) (after_packet q true a)) (after_packet q deep k) else taken b s a (after_packet q deep k)) zero (suc j ∷ p))
+    split true g = below (effect_of q deep s) (after_packet q true a) (calm_content q (ack_calm q.content c) deep s) g
+    split false g = h
+ack_new q c deep (taken b s a k) (suc j) p h = split b.enable (ack_new q c deep k j p h)
+  where
+    split : (x : Bool) → IsNew (place_at (after_packet q deep k) j p)
+        → IsNew (place_at (if x then taken b (answer_of q deep s a).1 (acted (effect_of q deep s) (after_packet q true a)) (after_packet q deep k) else taken b s a (after_packet q deep k)) (suc j) p)
+    split true g = g
+    split false g = g
+
+ack_pass_new : (o : Option Sent) → IfOut IsAckOut o → (k : Ports) (j : ℕ) (p : List ℕ) → IsNew (place_at k j p) → IsNew (place_at (passed o k) j p)
+ack_pass_new None c k j p h = h
+ack_pass_new (Some q) c k j p h = ack_new q c false k j p h
+
+-- An attempt
+
+-- who is reachable after an attempt that does not reset it was so before
+pub attempt_reach : (n : ℕ) (t d r : Option Sent) → IsAttemptAt n t d r → (k : Ports) (j : ℕ) (p : List ℕ)
+    → attempt_resets t d k j p ≡ false → reach_at (after_attempt t d r k) j p ≡ true → reach_at k j p ≡ true
+attempt_reach n t d r is k j p f h =
+    pass_reach t k j p (calm_pass t (token_out n t is.token) k j p)
+    (pass_reach d (passed t k) j p f
+    (pass_reach r (passed d (passed t k)) j p (calm_pass r (ack_out r is.reply) (passed d (passed t k)) j p)
+    (sym (forgotten_reach (passed r (passed d (passed t k))) j p) ∙ h)))
+
+-- a device that an attempt resets is new after it
+pub attempt_new : (n : ℕ) (t d r : Option Sent) → IsAttemptAt n t d r → (k : Ports) (j : ℕ) (p : List ℕ)
+    → attempt_resets t d k j p ≡ true → IsNew (place_at (after_attempt t d r k) j p)
+attempt_new n t d r is k j p h =
+    forgotten_new (passed r (passed d (passed t k))) j p (ack_pass_new r is.reply (passed d (passed t k)) j p (pass_new d (passed t k) j p h))
+
+pub attempt_pend : (n : ℕ) (t d r : Option Sent) → IsAttemptAt n t d r → (k : Ports) (j : ℕ) (p : List ℕ)
+    → attempt_spares t d k j p ≡ true → pend_at k j p ≡ true → pend_at (after_attempt t d r k) j p ≡ true
+attempt_pend n t d r is k j p f h =
+    forgotten_pend (passed r (passed d (passed t k))) j p
+    ∙ pass_pend r (passed d (passed t k)) j p (calm_pass_spares r (ack_out r is.reply) (passed d (passed t k)) j p)
+    (pass_pend d (passed t k) j p f (pass_pend t k j p (calm_pass_spares t (token_out n t is.token) k j p) h))
+
+pub attempt_live : (n : ℕ) (t d r : Option Sent) → IsAttemptAt n t d r → (k : Ports) (j : ℕ) (p : List ℕ)
+    → attempt_spares t d k j p ≡ true → live_at k j p ≡ true → live_at (after_attempt t d r k) j p ≡ true
+attempt_live n t d r is k j p f h =
+    forgotten_live (passed r (passed d (passed t k))) j p
+    ∙ pass_live r (passed d (passed t k)) j p (calm_pass_spares r (ack_out r is.reply) (passed d (passed t k)) j p)
+    (pass_live d (passed t k) j p f (pass_live t k j p (calm_pass_spares t (token_out n t is.token) k j p) h))
+
+pub attempt_sane : (t d r : Option Sent) (k : Ports) → IsSane k → IsSane (after_attempt t d r k)
+attempt_sane t d r k h = sane_forgotten (passed r (passed d (passed t k))) (pass_sane r (passed d (passed t k)) (pass_sane d (passed t k) (pass_sane t k h)))
+
+pub attempt_settled : (t d r : Option Sent) (k : Ports) → IsSettled (after_attempt t d r k)
+attempt_settled t d r k = forgotten_twice (passed r (passed d (passed t k)))

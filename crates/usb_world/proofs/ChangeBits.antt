@@ -1,0 +1,300 @@
+-- A port of which nothing is asked keeps its change bits and its power, where the device above it is still reached.
+use Rattle.std.proofs.Common.{◌≡◌, ℕ, zero, suc, ◌==◌, ◌&&◌, ◌||◌, not, if◌then◌else◌, Bool, true, false, List, [], ◌∷◌, ◌++◌, Option, None, Some, slice_get, is_some, refl, ap, sym, subst, ◌∙◌}
+use Rattle.std.proofs.lemmas.Option.{same_Some}
+use Rattle.usb_port.specs.PortState.{PortState, plugged, unplugged}
+use Rattle.usb_device.specs.declared.calls.PortCall.{PortCall}
+use Rattle.usb_device.specs.declared.delivery.Sent.{Sent}
+use Rattle.usb_device.specs.declared.effect.Effect.{Effect}
+use Rattle.usb_device.specs.declared.effect.Effect.TheVariants.{Leaves, Calls, PortsOff}
+use Rattle.usb_device.specs.Calls.{is_reset}
+use Rattle.usb_device.specs.Rows.{fresh}
+use Rattle.usb_device.specs.Spec.{Spec}
+use Rattle.usb_device.specs.Tree.{Ports, ended, vacant, taken, called, replaced, changed, changed_at, port_at, place_at}
+use Rattle.usb_device.specs.Delivery.{effect_of}
+use Rattle.usb_device.specs.View.{port_there}
+use Rattle.usb_world.specs.declared.event.Event.{Event}
+use Rattle.usb_world.specs.declared.event.Action.{Action}
+use Rattle.usb_world.specs.declared.event.Action.TheVariants.{Plug, Unplug, Show, Send, Receive, Clear}
+use Rattle.usb_world.specs.declared.types.Attempt.{Attempt}
+use Rattle.usb_world.specs.declared.types.BusFault.{BusFault}
+use Rattle.usb_world.specs.declared.types.BusFault.TheVariants.{LimitReached}
+use Rattle.usb_world.specs.Exchange.{token_out, payload_out, reply_out, ports_in}
+use Rattle.usb_world.specs.Paths.{is_way, on_way, same_number}
+use Rattle.usb_world.specs.Passes.{passed, after_attempt, pass_resets, IsAttemptAt}
+use Rattle.usb_world.specs.WayEffects.{effect_resets, resets_at, leaves_port, way_leaves, takes_reset}
+use Rattle.usb_world.specs.World.{World}
+use Rattle.usb_world.specs.Steps.{with_plugged, happened, way_of, names_path, is_due, took, took_first, due_from, ready, damage_in, with_attempt, attempted, event_taken, Step, attempt, root_call, event, report, after, Course, here, step}
+use Rattle.usb_world.specs.Courses.{is_made, made_resets, root_resets, resets}
+use Rattle.usb_world.specs.PortRequests.{pass_leaves, made_leaves, root_leaves, leaves_step, LeavesPort, row_reached, StillSet}
+use Rattle.usb_world.proofs.Booleans.{no, both, and_false, or_right, not_true}
+use Rattle.usb_world.proofs.PortCalls.{call_port, call_port_below}
+use Rattle.usb_world.proofs.PacketPlaces.{way_port}
+use Rattle.usb_world.proofs.AttemptPackets.{token_out as token_calm, ack_out as ack_calm, forgotten_port}
+use Rattle.usb_world.proofs.Courses.{happened_reach, due_reach, made_reach, same_device, course_wider, goes}
+use Rattle.usb_world.proofs.PacketWays.{calm_leaves}
+
+still_same : (b : PortState) (o : Option PortState) → o ≡ Some b → StillSet b o
+still_same b o h = record { now = b; stands = h; power = λ e. e; connection = λ e. e; enable = λ e. e; reset = λ e. e }
+
+still_then : (b : PortState) (o v : Option PortState) → StillSet b o → ((c : PortState) → o ≡ Some c → StillSet c v) → StillSet b v
+still_then b o v x f =
+    let y : _ = f x.now x.stands in
+    record { now = y.now; stands = y.stands; power = λ e. y.power (x.power e); connection = λ e. y.connection (x.connection e); enable = λ e. y.enable (x.enable e); reset = λ e. y.reset (x.reset e) }
+
+-- Events
+
+still_unplugged : (c b : PortState) → Some c ≡ Some b → StillSet b (Some (unplugged c))
+still_unplugged c b h =
+    subst (λ x. StillSet x (Some (unplugged c))) (same_Some c b h)
+    (record { now = unplugged c; stands = refl; power = λ e. e; connection = λ e. or_right c.power c.connection_changed e; enable = λ e. e; reset = λ e. e })
+
+still_plugged : (low : Bool) (c b : PortState) → Some c ≡ Some b → StillSet b (Some (plugged low (unplugged c)))
+still_plugged low c b h =
+    subst (λ x. StillSet x (Some (plugged low (unplugged c)))) (same_Some c b h)
+    (record { now = plugged low (unplugged c); stands = refl; power = λ e. e; connection = λ e. or_right c.power (c.power || c.connection_changed) (or_right c.power c.connection_changed e); enable = λ e. e; reset = λ e. e })
+
+row_event : (o : Option Spec) (k : Ports) (i : ℕ) (e : List ℕ) (j : ℕ) (b : PortState) → port_at k j [] ≡ Some b → StillSet b (port_at (changed_at (replaced o) k i e) j [])
+unfolding changed_at port_at fresh
+row_event o ended i e j b h = still_same b None h
+row_event None (vacant c k) zero [] zero b h = still_unplugged c b h
+row_event (Some s) (vacant c k) zero [] zero b h = still_plugged s.low c b h
+row_event None (vacant c k) zero [] (suc j) b h = still_same b _ h
+row_event (Some s) (vacant c k) zero [] (suc j) b h = still_same b _ h
+row_event o (vacant c k) zero (n ∷ e) j b h = still_same b _ h
+row_event o (vacant c k) (suc i) e zero b h = still_same b _ h
+row_event o (vacant c k) (suc i) e (suc j) b h = row_event o k i e j b h
+row_event None (taken c s a k) zero [] zero b h = still_unplugged c b h
+row_event (Some t) (taken c s a k) zero [] zero b h = still_plugged t.low c b h
+row_event None (taken c s a k) zero [] (suc j) b h = still_same b _ h
+row_event (Some t) (taken c s a k) zero [] (suc j) b h = still_same b _ h
+row_event o (taken c s a k) zero (zero ∷ e) j b h = still_same b _ h
+row_event o (taken c s a k) zero (suc m ∷ e) zero b h = still_same b _ h
+row_event o (taken c s a k) zero (suc m ∷ e) (suc j) b h = still_same b _ h
+row_event o (taken c s a k) (suc i) e zero b h = still_same b _ h
+row_event o (taken c s a k) (suc i) e (suc j) b h = row_event o k i e j b h
+
+deep_event : (o : Option Spec) (k : Ports) (i : ℕ) (e : List ℕ) (j : ℕ) (p : List ℕ) (n : ℕ) (b : PortState) → on_way i e j p ≡ false
+    → port_at k j (p ++ (n ∷ [])) ≡ Some b → StillSet b (port_at (changed_at (replaced o) k i e) j (p ++ (n ∷ [])))
+unfolding changed_at port_at is_way
+deep_event o ended i e j p n b w h = still_same b None h
+deep_event o (vacant c k) zero [] zero p n b w h = no (sym w)
+deep_event None (vacant c k) zero [] (suc j) p n b w h = still_same b _ h
+deep_event (Some s) (vacant c k) zero [] (suc j) p n b w h = still_same b _ h
+deep_event o (vacant c k) zero (m ∷ e) j p n b w h = still_same b _ h
+deep_event o (vacant c k) (suc i) e zero [] n b w h = still_same b _ h
+deep_event o (vacant c k) (suc i) e zero (x ∷ p) n b w h = still_same b _ h
+deep_event o (vacant c k) (suc i) e (suc j) p n b w h = deep_event o k i e j p n b w h
+deep_event o (taken c s a k) zero [] zero p n b w h = no (sym w)
+deep_event None (taken c s a k) zero [] (suc j) p n b w h = still_same b _ h
+deep_event (Some t) (taken c s a k) zero [] (suc j) p n b w h = still_same b _ h
+deep_event o (taken c s a k) zero (zero ∷ e) j p n b w h = still_same b _ h
+deep_event o (taken c s a k) zero (suc m ∷ e) zero [] zero b w h = still_same b _ h
+deep_event o (taken c s a k) zero (suc m ∷ e) zero [] (suc n) b w h = row_event o a m e n b h
+deep_event o (taken c s a k) zero (suc m ∷ e) zero (zero ∷ p) n b w h = still_same b _ h
+deep_event o (taken c s a k) zero (suc m ∷ e) zero (suc j ∷ p) n b w h = deep_event o a m e j p n b w h
+deep_event o (taken c s a k) zero (suc m ∷ e) (suc j) p n b w h = still_same b _ h
+deep_event o (taken c s a k) (suc i) e zero [] zero b w h = still_same b _ h
+deep_event o (taken c s a k) (suc i) e zero [] (suc n) b w h = still_same b _ h
+deep_event o (taken c s a k) (suc i) e zero (zero ∷ p) n b w h = still_same b _ h
+deep_event o (taken c s a k) (suc i) e zero (suc m ∷ p) n b w h = still_same b _ h
+deep_event o (taken c s a k) (suc i) e (suc j) p n b w h = deep_event o k i e j p n b w h
+
+replaced_bits : (o : Option Spec) (k : Ports) (x q : List ℕ) (n : ℕ) (b : PortState) → way_of x q ≡ false
+    → port_there k (q ++ (n ∷ [])) ≡ Some b → StillSet b (port_there (changed (replaced o) k x) (q ++ (n ∷ [])))
+unfolding is_way
+replaced_bits o k [] q n b w h = still_same b _ h
+replaced_bits o k (zero ∷ x) q n b w h = still_same b _ h
+replaced_bits o k (suc i ∷ x) [] zero b w h = still_same b _ h
+replaced_bits o k (suc i ∷ x) [] (suc n) b w h = row_event o k i x n b h
+replaced_bits o k (suc i ∷ x) (zero ∷ q) n b w h = still_same b _ h
+replaced_bits o k (suc i ∷ x) (suc j ∷ q) n b w h = deep_event o k i x j q n b w h
+
+plugged_bits : (o : Option Spec) (k : Ports) (x q : List ℕ) (n : ℕ) (b : PortState) → (is_some o && way_of x q) ≡ false
+    → port_there k (q ++ (n ∷ [])) ≡ Some b → StillSet b (port_there (with_plugged o x k) (q ++ (n ∷ [])))
+plugged_bits None k x q n b w h = still_same b _ h
+plugged_bits (Some s) k x q n b w h = replaced_bits (Some s) k x q n b w h
+
+happened_bits : (a : Action) (d : List Spec) (k : Ports) (q : List ℕ) (n : ℕ) (b : PortState) → names_path d a q ≡ false
+    → port_there k (q ++ (n ∷ [])) ≡ Some b → StillSet b (port_there (happened a d k) (q ++ (n ∷ [])))
+happened_bits (Plug x i) d k q n b w h = plugged_bits (slice_get d i) k x q n b w h
+happened_bits (Unplug x) d k q n b w h = replaced_bits None k x q n b w h
+happened_bits Show d k q n b w h = still_same b _ h
+happened_bits (Send x y) d k q n b w h = still_same b _ h
+happened_bits (Receive x y) d k q n b w h = still_same b _ h
+happened_bits (Clear x) d k q n b w h = still_same b _ h
+
+no_way : (x : List ℕ) → way_of x [] ≡ false
+unfolding is_way
+no_way [] = refl
+no_way (m ∷ x) = refl
+
+-- no event is at the host itself
+names_none : (a : Action) (d : List Spec) → names_path d a [] ≡ false
+names_none (Plug x i) d = ap (λ y. is_some (slice_get d i) && y) (no_way x) ∙ and_false (is_some (slice_get d i))
+names_none (Unplug x) d = no_way x
+names_none Show d = refl
+names_none (Send x y) d = refl
+names_none (Receive x y) d = refl
+names_none (Clear x) d = refl
+
+not_named : (a : Action) (d : List Spec) (k : Ports) (q : List ℕ) → row_reached (happened a d k) q ≡ true → names_path d a q ≡ false
+not_named a d k [] h = names_none a d
+not_named a d k (m ∷ q) h = (happened_reach a d k (m ∷ q) h).1
+
+due_row : (es : List Event) (w : World) (q : List ℕ) → w.left ≡ es → row_reached (due_from es w).roots q ≡ true → row_reached w.roots q ≡ true
+due_row es w [] l h = refl
+due_row es w (m ∷ q) l h = (due_reach es w (m ∷ q) l h).0
+
+due_bits : (es : List Event) (w : World) (q : List ℕ) (n : ℕ) (b : PortState) → row_reached (due_from es w).roots q ≡ true
+    → port_there w.roots (q ++ (n ∷ [])) ≡ Some b → StillSet b (port_there (due_from es w).roots (q ++ (n ∷ [])))
+unfolding due_from took
+due_bits [] w q n b on h = still_same b _ h
+due_bits (e ∷ es) w q n b on h =
+    elim (is_due e w) as (λ x. row_reached (if x then due_from es (took e es w) else w).roots q ≡ true → StillSet b (port_there (if x then due_from es (took e es w) else w).roots (q ++ (n ∷ [])))) [
+      | true ↦ λ on. still_then b (port_there (happened e.action w.devices w.roots) (q ++ (n ∷ []))) (port_there (due_from es (took e es w)).roots (q ++ (n ∷ [])))
+          (happened_bits e.action w.devices w.roots q n b (not_named e.action w.devices w.roots q (due_row es (took e es w) q refl on)) h)
+          (λ c at. due_bits es (took e es w) q n c on at)
+      | false ↦ λ on. still_same b _ h
+    ] on
+
+-- Attempts
+
+pass_port : (o : Option Sent) (k : Ports) (j : ℕ) (p : List ℕ) → pass_leaves o k j p ≡ true → port_at (passed o k) j p ≡ port_at k j p
+pass_port None k j p h = refl
+pass_port (Some q) k j p h = way_port q false k j p h
+
+attempt_port : (n : ℕ) (t d r : Option Sent) → IsAttemptAt n t d r → (k : Ports) (j : ℕ) (p : List ℕ) → pass_leaves d (passed t k) j p ≡ true
+    → port_at (after_attempt t d r k) j p ≡ port_at k j p
+attempt_port n t d r is k j p h =
+    forgotten_port (passed r (passed d (passed t k))) j p
+    ∙ pass_port r (passed d (passed t k)) j p (calm_leaves r (ack_calm r is.reply) (passed d (passed t k)) j p)
+    ∙ pass_port d (passed t k) j p h
+    ∙ pass_port t k j p (calm_leaves t (token_calm n t is.token) k j p)
+
+pub made_port : (a : Attempt) (w : World) (p : List ℕ) → made_leaves a w p ≡ true → port_there (with_attempt a w).roots p ≡ port_there w.roots p
+unfolding with_attempt ports_in
+made_port a w [] h = refl
+made_port a w (zero ∷ p) h = refl
+made_port a w (suc j ∷ p) h = attempt_port a.addr (token_out a (damage_in w)) (payload_out a (damage_in w)) (reply_out a (damage_in w) w.roots) (goes a (damage_in w) w.roots) w.roots j p h
+
+-- A step that leaves a port resets no device above it
+
+pub left_effect : (e : Effect) (a : Ports) (j : ℕ) (p : List ℕ) → leaves_port e j ≡ true → effect_resets e a j p ≡ false
+left_effect Leaves a j p h = refl
+left_effect (Calls c i) a j [] h = ap (λ x. is_reset c && (x && takes_reset (place_at a j []))) (not_true (same_number i j) h) ∙ and_false (is_reset c)
+left_effect (Calls c i) a j (n ∷ p) h = refl
+left_effect PortsOff a j p h = refl
+
+left_resets : (q : Sent) (deep : Bool) (k : Ports) (j : ℕ) (p : List ℕ) (n : ℕ) → way_leaves q deep k j (p ++ (n ∷ [])) ≡ true → resets_at q deep k j p ≡ false
+unfolding way_leaves resets_at
+left_resets q deep ended j p n h = refl
+left_resets q deep (vacant b k) zero p n h = refl
+left_resets q deep (vacant b k) (suc j) p n h = left_resets q deep k j p n h
+left_resets q deep (taken b s a k) zero [] n h = refl
+left_resets q deep (taken b s a k) zero (zero ∷ p) n h = refl
+left_resets q deep (taken b s a k) zero (suc j ∷ p) n h = split b.enable h (left_resets q true a j p n)
+  where
+    split : (x : Bool) → (not x || (leaves_port (effect_of q deep s) j && way_leaves q true a j (p ++ (n ∷ [])))) ≡ true
+        → (way_leaves q true a j (p ++ (n ∷ [])) ≡ true → resets_at q true a j p ≡ false) → (x && (effect_resets (effect_of q deep s) a j p || resets_at q true a j p)) ≡ false
+    split true h ih =
+        let on : _ = both (leaves_port (effect_of q deep s) j) (way_leaves q true a j (p ++ (n ∷ []))) h in
+        ap (λ x. x || resets_at q true a j p) (left_effect (effect_of q deep s) a j p on.0) ∙ ih on.1
+    split false h ih = refl
+left_resets q deep (taken b s a k) (suc j) p n h = left_resets q deep k j p n h
+
+left_pass : (o : Option Sent) (k : Ports) (j : ℕ) (p : List ℕ) (n : ℕ) → pass_leaves o k j (p ++ (n ∷ [])) ≡ true → pass_resets o k j p ≡ false
+left_pass None k j p n h = refl
+left_pass (Some q) k j p n h = left_resets q false k j p n h
+
+left_made : (a : Attempt) (w : World) (q : List ℕ) (n : ℕ) → made_leaves a w (q ++ (n ∷ [])) ≡ true → made_resets a w q ≡ false
+left_made a w [] n h = refl
+left_made a w (zero ∷ q) n h = refl
+left_made a w (suc j ∷ q) n h = left_pass (payload_out a (damage_in w)) (passed (token_out a (damage_in w)) w.roots) j q n h
+
+left_root : (c : PortCall) (m : ℕ) (k : Ports) (q : List ℕ) (n : ℕ) → root_leaves m (q ++ (n ∷ [])) ≡ true → root_resets c m k q ≡ false
+left_root c zero k q n h = refl
+left_root c (suc i) k [] n h = refl
+left_root c (suc i) k (zero ∷ q) n h = refl
+left_root c (suc i) k (suc j ∷ []) n h = ap (λ x. is_reset c && (x && takes_reset (place_at k j []))) (not_true (same_number i j) h) ∙ and_false (is_reset c)
+left_root c (suc i) k (suc j ∷ x ∷ q) n h = refl
+
+left_step : (s : Step) (w : World) (q : List ℕ) (n : ℕ) → leaves_step s w (q ++ (n ∷ [])) ≡ true → resets s w q ≡ false
+unfolding leaves_step resets
+left_step (attempt a) w q n h = ap (λ x. is_made w.fault w && x) (left_made a (ready w) q n h) ∙ and_false (is_made w.fault w)
+left_step (root_call c m) w q n h = left_root c m w.roots q n h
+left_step event w q n h = refl
+left_step (report l) w q n h = refl
+
+-- Steps
+
+call_apart : (c : PortCall) (k : Ports) (i j : ℕ) (p : List ℕ) → not (same_number i j) ≡ true → port_at (changed_at (called c) k i []) j p ≡ port_at k j p
+unfolding changed_at port_at
+call_apart c ended i j p h = refl
+call_apart c (vacant b k) zero zero p h = no h
+call_apart c (vacant b k) zero (suc j) p h = refl
+call_apart c (vacant b k) (suc i) zero [] h = refl
+call_apart c (vacant b k) (suc i) zero (n ∷ p) h = refl
+call_apart c (vacant b k) (suc i) (suc j) p h = call_apart c k i j p h
+call_apart c (taken b s a k) zero zero p h = no h
+call_apart c (taken b s a k) zero (suc j) [] h = call_port c (taken b s a k) zero (suc j) ∙ unmapped (port_at k j [])
+  where
+    unmapped : (o : Option PortState) → elim o as (λ _. Option PortState) [ None ↦ None | Some x ↦ Some x ] ≡ o
+    unmapped None = refl
+    unmapped (Some x) = refl
+call_apart c (taken b s a k) zero (suc j) (n ∷ p) h = call_port_below c (taken b s a k) zero (suc j) n p (and_false (is_reset c))
+call_apart c (taken b s a k) (suc i) zero [] h = refl
+call_apart c (taken b s a k) (suc i) zero (zero ∷ p) h = refl
+call_apart c (taken b s a k) (suc i) zero (suc n ∷ p) h = refl
+call_apart c (taken b s a k) (suc i) (suc j) p h = call_apart c k i j p h
+
+pub root_port : (c : PortCall) (m : ℕ) (k : Ports) (p : List ℕ) → root_leaves m p ≡ true → port_there (changed (called c) k (m ∷ [])) p ≡ port_there k p
+root_port c m k [] h = refl
+root_port c m k (zero ∷ p) h = refl
+root_port c zero k (suc j ∷ p) h = refl
+root_port c (suc i) k (suc j ∷ p) h = call_apart c k i j p h
+
+made_row : (a : Attempt) (w : World) (q : List ℕ) (n : ℕ) → made_leaves a w (q ++ (n ∷ [])) ≡ true → row_reached (with_attempt a w).roots q ≡ true → row_reached w.roots q ≡ true
+made_row a w [] n g h = refl
+made_row a w (m ∷ q) n g h = made_reach a w (m ∷ q) (left_made a w (m ∷ q) n g) h
+
+attempted_bits : (a : Attempt) (f : Option BusFault) (w : World) (q : List ℕ) (n : ℕ) (b : PortState) → made_leaves a (ready w) (q ++ (n ∷ [])) ≡ true → row_reached (attempted a f w).roots q ≡ true
+    → port_there w.roots (q ++ (n ∷ [])) ≡ Some b → StillSet b (port_there (attempted a f w).roots (q ++ (n ∷ [])))
+unfolding ready
+attempted_bits a (Some f) w q n b g on h = still_same b _ h
+attempted_bits a None w q n b g on h =
+    elim (w.attempts == w.limit) as (λ x. row_reached (if x then record w { fault = Some LimitReached } else with_attempt a (ready w)).roots q ≡ true
+    → StillSet b (port_there (if x then record w { fault = Some LimitReached } else with_attempt a (ready w)).roots (q ++ (n ∷ [])))) [
+      | true ↦ λ on. still_same b _ h
+      | false ↦ λ on. subst (StillSet b) (sym (made_port a (ready w) (q ++ (n ∷ [])) g)) (due_bits w.left w q n b (made_row a (ready w) q n g on) h)
+    ] on
+
+first_bits : (es : List Event) (w : World) (q : List ℕ) (n : ℕ) (b : PortState) → row_reached (took_first es w).roots q ≡ true
+    → port_there w.roots (q ++ (n ∷ [])) ≡ Some b → StillSet b (port_there (took_first es w).roots (q ++ (n ∷ [])))
+unfolding took
+first_bits [] w q n b on h = still_same b _ h
+first_bits (e ∷ es) w q n b on h = happened_bits e.action w.devices w.roots q n b (not_named e.action w.devices w.roots q on) h
+
+taken_bits : (f : Option BusFault) (w : World) (q : List ℕ) (n : ℕ) (b : PortState) → row_reached (event_taken f w).roots q ≡ true
+    → port_there w.roots (q ++ (n ∷ [])) ≡ Some b → StillSet b (port_there (event_taken f w).roots (q ++ (n ∷ [])))
+taken_bits (Some f) w q n b on h = still_same b _ h
+taken_bits None w q n b on h = first_bits w.left w q n b on h
+
+step_bits : (s : Step) (w : World) (q : List ℕ) (n : ℕ) (b : PortState) → leaves_step s w (q ++ (n ∷ [])) ≡ true → row_reached (after s w).roots q ≡ true
+    → port_there w.roots (q ++ (n ∷ [])) ≡ Some b → StillSet b (port_there (after s w).roots (q ++ (n ∷ [])))
+unfolding after leaves_step
+step_bits (attempt a) w q n b g on h = attempted_bits a w.fault w q n b g on h
+step_bits (root_call c m) w q n b g on h = still_same b _ (root_port c m w.roots (q ++ (n ∷ [])) g ∙ h)
+step_bits event w q n b g on h = taken_bits w.fault w q n b on h
+step_bits (report l) w q n b g on h = still_same b _ h
+
+-- the device above the port is reached all the while
+course_row : (q : List ℕ) (n : ℕ) {w v : World} → Course (LeavesPort (q ++ (n ∷ []))) w v → row_reached v.roots q ≡ true → row_reached w.roots q ≡ true
+course_row [] n c h = refl
+course_row (m ∷ q) n c h = (same_device (m ∷ q) (course_wider (λ s w g. left_step s w (m ∷ q) n g) c) h).0
+
+pub course_bits : (q : List ℕ) (n : ℕ) {w v : World} → Course (LeavesPort (q ++ (n ∷ []))) w v → row_reached v.roots q ≡ true → (b : PortState)
+    → port_there w.roots (q ++ (n ∷ [])) ≡ Some b → StillSet b (port_there v.roots (q ++ (n ∷ [])))
+course_bits q n (here w) on b h = still_same b _ h
+course_bits q n (step s {w} {v} k more) on b h =
+    still_then b (port_there (after s w).roots (q ++ (n ∷ []))) (port_there v.roots (q ++ (n ∷ [])))
+    (step_bits s w q n b k (course_row q n more on) h) (course_bits q n more on)

@@ -1,0 +1,203 @@
+-- PORT_RESET of a hub's port gives the device there address 0, and leaves the others theirs.
+use Rattle.std.proofs.Common.{◌≡◌, ℕ, zero, suc, ◌&&◌, if◌then◌else◌, ◌⊎◌, inl, inr, Bool, true, false, List, [], ◌∷◌, ◌++◌, Option, None, Some, option_map, refl, ap, ap₂, sym, subst, ◌∙◌}
+use Rattle.usb_port.specs.PortState.{PortState}
+use Rattle.usb_request.specs.Layout.{setup_of}
+use Rattle.usb_device.specs.declared.request.Registers.{Registers}
+use Rattle.usb_device.specs.Request.{Outcome, stalled, answers, takes_address, takes_configuration, halts, unhalts, tells_port, calls_port, outcome, registers_at_setup}
+use Rattle.usb_device.specs.Rows.{State, accepted}
+use Rattle.usb_device.specs.Attempt.{Way, is_whole, heard, setup_law}
+use Rattle.usb_device.specs.declared.answer.Answer.TheVariants.{Ack}
+use Rattle.usb_device.specs.Tree.{Ports, ended, vacant, taken, row_of, reach_at, state_at, place_at, reach, place}
+use Rattle.usb_world.specs.declared.types.Attempt.{Attempt}
+use Rattle.usb_world.specs.Paths.{address_of, same_number, same_path, is_way}
+use Rattle.usb_world.specs.WayEffects.{IsNew, reset_if}
+use Rattle.usb_world.specs.Passes.{deep_at}
+use Rattle.usb_world.specs.World.{World}
+use Rattle.usb_world.specs.Steps.{ready, damage_in, with_attempt, attempt, after}
+use Rattle.usb_world.specs.Courses.{is_made, made_resets, resets, address_at, Own}
+use Rattle.usb_world.specs.OneHolder.{IsSetup, Holder, HolderIn, token_way, payload_way, answer_way}
+use Rattle.usb_world.specs.Addresses.{after_reset}
+use Rattle.usb_world.proofs.Booleans.{no, both, decided, and_false}
+use Rattle.usb_world.proofs.PortCalls.{off_reach}
+use Rattle.usb_world.proofs.OneDevice.{state_stands}
+use Rattle.usb_world.proofs.Courses.{made_reach, step_new}
+use Rattle.usb_world.proofs.OneHolder.{replied}
+use Rattle.usb_world.proofs.OneHolderAttempts.{made_is, made_true, holder_in, setup_in, silent_in, others_in}
+use Rattle.usb_world.proofs.AddressesInTransfers.{due_own}
+use Rattle.usb_world.proofs.RootResets.{is_same, same_is, new_address}
+use Rattle.usb_world.proofs.HolderRequests.{other_rests}
+
+-- A device that was just reset
+
+new_there : (k : Ports) (p : List ℕ) → IsNew (place k p) → address_at k p ≡ Some 0
+new_there k [] h = elim h [ ]
+new_there k (zero ∷ p) h = elim h [ ]
+new_there k (suc i ∷ p) h = ap (option_map address_of) (sym (state_stands k i p)) ∙ new_address (place_at k i p) h
+
+-- none is reached below it
+new_below : (k : Ports) (i : ℕ) (p : List ℕ) (m : ℕ) (r : List ℕ) → IsNew (place_at k i p) → reach_at k i (p ++ (m ∷ r)) ≡ false
+unfolding place_at reach_at
+new_below ended i p m r h = refl
+new_below (vacant b k) zero p m r h = refl
+new_below (vacant b k) (suc i) p m r h = new_below k i p m r h
+new_below (taken b s a k) zero [] zero r h = refl
+new_below (taken b s a k) zero [] (suc m) r h = ap (λ x. b.enable && x) (ap (λ x. reach_at x m r) (sym h.3) ∙ off_reach a m r) ∙ and_false b.enable
+new_below (taken b s a k) zero (zero ∷ p) m r h = refl
+new_below (taken b s a k) zero (suc j ∷ p) m r h = ap (λ x. b.enable && x) (new_below a j p m r h) ∙ and_false b.enable
+new_below (taken b s a k) (suc i) p m r h = new_below k i p m r h
+
+new_under : (k : Ports) (p : List ℕ) (m : ℕ) (r : List ℕ) → IsNew (place k p) → reach k (p ++ (m ∷ r)) ≡ false
+new_under k [] m r h = elim h [ ]
+new_under k (zero ∷ p) m r h = refl
+new_under k (suc i ∷ p) m r h = new_below k i p m r h
+
+-- a path that leads beyond another
+record Beyond (x p : List ℕ) : Type 0 where
+  m : ℕ
+  r : List ℕ
+  is : p ≡ x ++ (m ∷ r)
+
+beyond : (x p : List ℕ) → is_way x p ≡ true → same_path x p ≡ false → Beyond x p
+unfolding is_way
+beyond [] [] w d = no (sym d)
+beyond [] (n ∷ p) w d = record { m = n; r = p; is = refl }
+beyond (m ∷ x) [] w d = no w
+beyond (m ∷ x) (n ∷ p) w d =
+    let on : _ = both (same_number m n) (is_way x p) w in
+    let y : Beyond x p = beyond x p on.1 (ap (λ z. z && same_path x p) (sym on.0) ∙ d) in
+    record { m = y.m; r = y.r; is = ap₂ (λ u v. u ∷ v) (is_same m n on.0) y.is }
+
+-- The address of the hub itself
+
+pub register_address : (g : Registers) (o : Outcome) → (registers_at_setup g o).address ≡ g.address
+register_address g stalled = refl
+register_address g (answers bytes) = refl
+register_address g (takes_address n) = refl
+register_address g (takes_configuration c) = refl
+register_address g (halts which) = refl
+register_address g (unhalts which) = refl
+register_address g (tells_port i) = refl
+register_address g (calls_port c i) = refl
+
+setup_address : (s : State) (row : List PortState) (bytes : List ℕ) (x y z : Way) → address_of (setup_law s row bytes x y z).1 ≡ address_of s
+setup_address s row bytes x y z = split (is_whole x && is_whole y)
+  where
+    split : (v : Bool) → address_of (if v then replied (heard z (Some Ack)) (accepted s row (setup_of bytes)) else replied None s).1 ≡ address_of s
+    split true = register_address s.registers (outcome s.spec s.registers (setup_of bytes))
+    split false = refl
+
+-- a device that is reached stands
+record Standing (k : Ports) (i : ℕ) (e : List ℕ) : Type 0 where
+  own : State
+  at : state_at k i e ≡ Some own
+
+standing : (k : Ports) (i : ℕ) (e : List ℕ) → reach_at k i e ≡ true → Standing k i e
+unfolding reach_at state_at
+standing ended i e h = no h
+standing (vacant b k) zero e h = no h
+standing (vacant b k) (suc i) e h = let y : Standing k i e = standing k i e h in record { own = y.own; at = y.at }
+standing (taken b s a k) zero [] h = record { own = s; at = refl }
+standing (taken b s a k) zero (zero ∷ e) h = no h
+standing (taken b s a k) zero (suc j ∷ e) h = let y : Standing a j e = standing a j e (both b.enable (reach_at a j e) h).1 in record { own = y.own; at = y.at }
+standing (taken b s a k) (suc i) e h = let y : Standing k i e = standing k i e h in record { own = y.own; at = y.at }
+
+module _ (a : Attempt) (w : World) (j : ℕ) (p : List ℕ) (b : PortState) (s : State) (below : Ports) (h : HolderIn a w j p b s below) (bytes : List ℕ) (is : IsSetup a bytes) (n : ℕ) (names : (setup_of bytes).index ≡ n) (f : List ℕ → Option ℕ) (own : Own f w) where
+  abbrev k : Ports
+  k = (ready w).roots
+
+  abbrev target : List ℕ
+  target = suc j ∷ (p ++ (n ∷ []))
+
+  one : Holder a.addr k j p b s below
+  one = holder_in a w j p b s below h
+
+  own_ready : Own f (ready w)
+  unfolding ready
+  own_ready = due_own f w.left w own
+
+  -- the device at a path has the address that it had
+  abbrev Stays : ℕ → List ℕ → Type 0
+  Stays i e = option_map address_of (state_at (after (attempt a) w).roots i e) ≡ f (suc i ∷ e)
+
+  hub_is : option_map address_of (state_at (after (attempt a) w).roots j p) ≡ Some (address_of s)
+  hub_is = pick s.spec.silent refl
+    where
+      pick : (x : Bool) → s.spec.silent ≡ x → option_map address_of (state_at (after (attempt a) w).roots j p) ≡ Some (address_of s)
+      pick true e = ap (option_map address_of) (silent_in a w j p b s below h e).state
+      pick false e =
+          ap (option_map address_of) (setup_in a w j p b s below h e bytes is).state
+          ∙ ap (λ x. Some x) (setup_address s (row_of below) bytes (token_way a (damage_in (ready w)) (deep_at false p) s) (payload_way a (damage_in (ready w)) (deep_at false p) s) (answer_way a (damage_in (ready w)) k))
+
+  hub_stays : Stays j p
+  hub_stays = hub_is ∙ ap (λ x. Some x) h.at ∙ sym one.one.at ∙ own_ready (suc j ∷ p) h.on
+
+  other_stays : (i : ℕ) (e : List ℕ) → (same_number i j && same_path e p) ≡ false → made_resets a (ready w) (suc i ∷ e) ≡ false → reach_at k i e ≡ true → Stays i e
+  unfolding resets
+  other_stays i e differ rest on =
+      let v : Standing k i e = standing k i e on in
+      ap (option_map address_of) (others_in a w j p b s below h i e v.own differ v.at)
+      ∙ ap (λ x. Some (address_of (reset_if x v.own))) (ap (λ x. is_made w.fault w && x) rest ∙ and_false (is_made w.fault w))
+      ∙ sym (ap (option_map address_of) v.at) ∙ own_ready (suc i ∷ e) on
+
+  stays : (i : ℕ) (e : List ℕ) → made_resets a (ready w) (suc i ∷ e) ≡ false → reach_at (after (attempt a) w).roots i e ≡ true → Stays i e
+  unfolding with_attempt
+  stays i e rest on = pick (decided (same_number i j && same_path e p))
+    where
+      before : reach_at k i e ≡ true
+      before = made_reach a (ready w) (suc i ∷ e) rest (ap (λ v. reach_at v.roots i e) (sym (made_is a w h.made)) ∙ on)
+
+      pick : ((same_number i j && same_path e p) ≡ true) ⊎ ((same_number i j && same_path e p) ≡ false) → Stays i e
+      pick (inl y) =
+          let at : _ = both (same_number i j) (same_path e p) y in
+          subst (λ u. Stays u e) (is_same i j at.0) (subst (λ x. Stays j x) (same_is e p at.1) hub_stays)
+      pick (inr y) = other_stays i e y rest before
+
+  rests_elsewhere : (x : List ℕ) → same_path target x ≡ false → made_resets a (ready w) x ≡ false
+  rests_elsewhere = other_rests a w j p b s below h bytes is n names
+
+  own_reset : resets (attempt a) w target ≡ true → Own (after_reset f target) (after (attempt a) w)
+  own_reset y [] on = no on
+  own_reset y (zero ∷ e) on = no on
+  own_reset y (suc i ∷ e) on = pick (decided (same_path target (suc i ∷ e)))
+    where
+      new : IsNew (place (after (attempt a) w).roots target)
+      new = step_new (attempt a) w target y
+
+      unreached : is_way target (suc i ∷ e) ≡ true → same_path target (suc i ∷ e) ≡ false → false ≡ true
+      unreached g d =
+          let z : Beyond target (suc i ∷ e) = beyond target (suc i ∷ e) g d in
+          sym (ap (reach (after (attempt a) w).roots) z.is ∙ new_under (after (attempt a) w).roots target z.m z.r new) ∙ on
+
+      further : same_path target (suc i ∷ e) ≡ false → (is_way target (suc i ∷ e) ≡ true) ⊎ (is_way target (suc i ∷ e) ≡ false) → address_at (after (attempt a) w).roots (suc i ∷ e) ≡ after_reset f target (suc i ∷ e)
+      further d (inl g) = no (unreached g d)
+      further d (inr g) =
+          stays i e (rests_elsewhere (suc i ∷ e) d) on
+          ∙ ap₂ (λ u v. if u then Some 0 else if v then None else f (suc i ∷ e)) (sym d) (sym g)
+
+      pick : (same_path target (suc i ∷ e) ≡ true) ⊎ (same_path target (suc i ∷ e) ≡ false) → address_at (after (attempt a) w).roots (suc i ∷ e) ≡ after_reset f target (suc i ∷ e)
+      pick (inl d) =
+          ap (address_at (after (attempt a) w).roots) (same_is target (suc i ∷ e) d) ∙ new_there (after (attempt a) w).roots target new
+          ∙ ap (λ u. if u then Some 0 else if is_way target (suc i ∷ e) then None else f (suc i ∷ e)) (sym d)
+      pick (inr d) = further d (decided (is_way target (suc i ∷ e)))
+
+  own_rest : resets (attempt a) w target ≡ false → Own f (after (attempt a) w)
+  unfolding resets
+  own_rest y [] on = no on
+  own_rest y (zero ∷ e) on = no on
+  own_rest y (suc i ∷ e) on = stays i e (pick (decided (same_path target (suc i ∷ e)))) on
+    where
+      at_target : made_resets a (ready w) target ≡ false
+      at_target = ap (λ x. x && made_resets a (ready w) target) (sym (made_true a w h.made)) ∙ y
+
+      pick : (same_path target (suc i ∷ e) ≡ true) ⊎ (same_path target (suc i ∷ e) ≡ false) → made_resets a (ready w) (suc i ∷ e) ≡ false
+      pick (inl d) = ap (made_resets a (ready w)) (same_is target (suc i ∷ e) d) ∙ at_target
+      pick (inr d) = rests_elsewhere (suc i ∷ e) d
+
+pub hub_reset : (a : Attempt) (w : World) (j : ℕ) (p : List ℕ) (b : PortState) (s : State) (below : Ports) → HolderIn a w j p b s below → (bytes : List ℕ) → IsSetup a bytes
+    → (n : ℕ) → (setup_of bytes).index ≡ n → (f : List ℕ → Option ℕ) → resets (attempt a) w (suc j ∷ (p ++ (n ∷ []))) ≡ true → Own f w
+    → Own (after_reset f (suc j ∷ (p ++ (n ∷ [])))) (after (attempt a) w)
+hub_reset a w j p b s below h bytes is n names f y own = own_reset a w j p b s below h bytes is n names f own y
+
+pub hub_rest : (a : Attempt) (w : World) (j : ℕ) (p : List ℕ) (b : PortState) (s : State) (below : Ports) → HolderIn a w j p b s below → (bytes : List ℕ) → IsSetup a bytes
+    → (n : ℕ) → (setup_of bytes).index ≡ n → (f : List ℕ → Option ℕ) → resets (attempt a) w (suc j ∷ (p ++ (n ∷ []))) ≡ false → Own f w → Own f (after (attempt a) w)
+hub_rest a w j p b s below h bytes is n names f y own = own_rest a w j p b s below h bytes is n names f own y

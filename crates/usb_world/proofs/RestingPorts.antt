@@ -1,0 +1,275 @@
+-- A port of which nothing is asked stands as it stood, or a change of connection is pending on its way.
+use Rattle.std.proofs.Common.{◌≡◌, ◌⊎◌, inl, inr, ℕ, zero, suc, ◌==◌, ◌&&◌, ◌||◌, not, if◌then◌else◌, Bool, true, false, List, [], ◌∷◌, Option, None, Some, slice_get, is_some, option_map, refl, ap, sym, ◌∙◌}
+use Rattle.usb_device.specs.declared.calls.PortCall.{PortCall}
+use Rattle.usb_device.specs.declared.delivery.Sent.{Sent}
+use Rattle.usb_device.specs.declared.effect.Effect.{Effect}
+use Rattle.usb_device.specs.declared.effect.Effect.TheVariants.{Leaves, Calls, PortsOff}
+use Rattle.usb_port.specs.PortState.{is_attached}
+use Rattle.usb_device.specs.Calls.{is_reset, called_port}
+use Rattle.usb_device.specs.Spec.{Spec}
+use Rattle.usb_device.specs.Tree.{Ports, ended, vacant, taken, called, replaced, changed, changed_at, reset_where, before, acted, reach, reach_at}
+use Rattle.usb_device.specs.Delivery.{effect_of, after_packet}
+use Rattle.usb_device.specs.View.{state_there}
+use Rattle.usb_world.specs.declared.event.Event.{Event}
+use Rattle.usb_world.specs.declared.event.Action.{Action}
+use Rattle.usb_world.specs.declared.event.Action.TheVariants.{Plug, Unplug, Show, Send, Receive, Clear}
+use Rattle.usb_world.specs.declared.types.Attempt.{Attempt}
+use Rattle.usb_world.specs.declared.types.BusFault.{BusFault}
+use Rattle.usb_world.specs.declared.types.BusFault.TheVariants.{LimitReached}
+use Rattle.usb_world.specs.Exchange.{token_out, payload_out, reply_out, ports_in}
+use Rattle.usb_world.specs.Paths.{is_way, on_way, same_number, live, pend}
+use Rattle.usb_world.specs.Passes.{passed, after_attempt, IsAttemptAt}
+use Rattle.usb_world.specs.PlanCourses.{spec_of}
+use Rattle.usb_world.specs.WayEffects.{leaves_port, way_leaves}
+use Rattle.usb_world.specs.World.{World}
+use Rattle.usb_world.specs.Steps.{with_plugged, happened, way_of, names_path, is_due, took, took_first, due_from, ready, damage_in, with_attempt, attempted, event_taken, Step, attempt, root_call, event, report, after, Course, here, step}
+use Rattle.usb_world.specs.Courses.{made_spares, spares_step, Spares}
+use Rattle.usb_world.specs.PortRequests.{pass_leaves, made_leaves, root_leaves, leaves_step}
+use Rattle.usb_world.specs.RestingPorts.{SameAt, AsksNothingOf, RestsOrPends, StandsOrPends}
+use Rattle.usb_world.proofs.Booleans.{no, both}
+use Rattle.usb_world.proofs.PlugEvents.{event_place}
+use Rattle.usb_world.proofs.AttemptPackets.{token_out as token_calm, ack_out as ack_calm, forgotten_reach}
+use Rattle.usb_world.proofs.PluggedShapes.{spec_there}
+use Rattle.usb_world.proofs.PluggedPorts.{shape, described_there, shape_root, shape_attempt}
+use Rattle.usb_world.proofs.Courses.{happened_live, due_pend, made_pend, made_live, root_live, goes, pending_persists, course_wider}
+use Rattle.usb_world.proofs.ChangeBits.{made_port, root_port}
+use Rattle.usb_world.proofs.PacketWays.{calm_leaves}
+use Rattle.usb_world.proofs.PacketEffects.{met}
+
+pub same_self : (k : Ports) (p : List ℕ) → SameAt k k p
+same_self k p = record { port = refl; on = refl; what = refl }
+
+pub same_then : (k l m : Ports) (p : List ℕ) → SameAt k l p → SameAt l m p → SameAt k m p
+same_then k l m p x y = record { port = y.port ∙ x.port; on = y.on ∙ x.on; what = y.what ∙ x.what }
+
+-- Where each device is what it was
+
+shaped : (k v : Ports) (p : List ℕ) → shape v ≡ shape k → option_map spec_of (state_there v p) ≡ option_map spec_of (state_there k p)
+shaped k v p h = described_there v p ∙ ap (λ x. spec_there x p) h ∙ sym (described_there k p)
+
+-- Events
+
+event_on : (o : Option Spec) (k : Ports) (i : ℕ) (e : List ℕ) (j : ℕ) (p : List ℕ) → on_way i e j p ≡ false → reach_at (changed_at (replaced o) k i e) j p ≡ reach_at k j p
+unfolding changed_at reach_at is_way
+event_on o ended i e j p h = refl
+event_on o (vacant b k) zero [] zero p h = no (sym h)
+event_on None (vacant b k) zero [] (suc j) p h = refl
+event_on (Some s) (vacant b k) zero [] (suc j) p h = refl
+event_on o (vacant b k) zero (n ∷ e) j p h = refl
+event_on o (vacant b k) (suc i) e zero p h = refl
+event_on o (vacant b k) (suc i) e (suc j) p h = event_on o k i e j p h
+event_on o (taken b s a k) zero [] zero p h = no (sym h)
+event_on None (taken b s a k) zero [] (suc j) p h = refl
+event_on (Some t) (taken b s a k) zero [] (suc j) p h = refl
+event_on o (taken b s a k) zero (zero ∷ e) j p h = refl
+event_on o (taken b s a k) zero (suc i ∷ e) zero [] h = refl
+event_on o (taken b s a k) zero (suc i ∷ e) zero (zero ∷ p) h = refl
+event_on o (taken b s a k) zero (suc i ∷ e) zero (suc j ∷ p) h = ap (λ x. b.enable && x) (event_on o a i e j p h)
+event_on o (taken b s a k) zero (suc i ∷ e) (suc j) p h = refl
+event_on o (taken b s a k) (suc i) e zero [] h = refl
+event_on o (taken b s a k) (suc i) e zero (zero ∷ p) h = refl
+event_on o (taken b s a k) (suc i) e zero (suc n ∷ p) h = refl
+event_on o (taken b s a k) (suc i) e (suc j) p h = event_on o k i e j p h
+
+event_same : (o : Option Spec) (k : Ports) (x p : List ℕ) → way_of x p ≡ false → SameAt k (changed (replaced o) k x) p
+unfolding is_way
+event_same o k x [] h = record { port = refl; on = refl; what = refl }
+event_same o k x (zero ∷ p) h = record { port = refl; on = refl; what = refl }
+event_same o k [] (suc j ∷ p) h = same_self k (suc j ∷ p)
+event_same o k (zero ∷ x) (suc j ∷ p) h = same_self k (suc j ∷ p)
+event_same o k (suc i ∷ x) (suc j ∷ p) h =
+    record { port = (event_place o k i x j p h).1; on = event_on o k i x j p h; what = ap (option_map spec_of) (event_place o k i x j p h).0 }
+
+plugged_same : (o : Option Spec) (k : Ports) (x p : List ℕ) → (is_some o && way_of x p) ≡ false → SameAt k (with_plugged o x k) p
+plugged_same None k x p h = same_self k p
+plugged_same (Some s) k x p h = event_same (Some s) k x p h
+
+happened_same : (a : Action) (d : List Spec) (k : Ports) (p : List ℕ) → names_path d a p ≡ false → SameAt k (happened a d k) p
+happened_same (Plug x i) d k p h = plugged_same (slice_get d i) k x p h
+happened_same (Unplug x) d k p h = event_same None k x p h
+happened_same Show d k p h = same_self k p
+happened_same (Send x b) d k p h = same_self k p
+happened_same (Receive x n) d k p h = same_self k p
+happened_same (Clear x) d k p h = same_self k p
+
+took_rests : (e : Event) (es : List Event) (w : World) (p : List ℕ) → live w.roots p ≡ true → RestsOrPends w (took e es w) p
+unfolding took
+took_rests e es w p h = pick (happened_live e.action w.devices w.roots p h)
+  where
+    pick : ((live (happened e.action w.devices w.roots) p ≡ true) × (names_path w.devices e.action p ≡ false)) ⊎ (pend (happened e.action w.devices w.roots) p ≡ true) → RestsOrPends w (took e es w) p
+    pick (inl y) = inl (y.0, happened_same e.action w.devices w.roots p y.1)
+    pick (inr y) = inr y
+
+-- over two worlds
+then_rests : (w m v : World) (p : List ℕ) → RestsOrPends w m p → (live m.roots p ≡ true → RestsOrPends m v p) → (pend m.roots p ≡ true → pend v.roots p ≡ true) → RestsOrPends w v p
+then_rests w m v p x live_on pend_on = first x
+  where
+    second : SameAt w.roots m.roots p → RestsOrPends m v p → RestsOrPends w v p
+    second s (inl y) = inl (y.0, same_then w.roots m.roots v.roots p s y.1)
+    second s (inr y) = inr y
+
+    first : RestsOrPends w m p → RestsOrPends w v p
+    first (inl y) = second y.1 (live_on y.0)
+    first (inr y) = inr (pend_on y)
+
+due_rests : (es : List Event) (w : World) (p : List ℕ) → live w.roots p ≡ true → RestsOrPends w (due_from es w) p
+unfolding due_from took
+due_rests [] w p h = inl (h, same_self w.roots p)
+due_rests (e ∷ es) w p h =
+    elim (is_due e w) as (λ b. RestsOrPends w (if b then due_from es (took e es w) else w) p) [
+      | true ↦ then_rests w (took e es w) (due_from es (took e es w)) p (took_rests e es w p h) (due_rests es (took e es w) p) (due_pend es (took e es w) p)
+      | false ↦ inl (h, same_self w.roots p)
+    ]
+
+-- Calls at ports
+
+call_on : (c : PortCall) (k : Ports) (i j : ℕ) (p : List ℕ) → not (same_number i j) ≡ true → reach_at (changed_at (called c) k i []) j p ≡ reach_at k j p
+unfolding changed_at reach_at
+call_on c ended i j p h = refl
+call_on c (vacant b k) zero zero p h = no h
+call_on c (vacant b k) zero (suc j) p h = refl
+call_on c (vacant b k) (suc i) zero p h = refl
+call_on c (vacant b k) (suc i) (suc j) p h = call_on c k i j p h
+call_on c (taken b s a k) zero zero p h = no h
+call_on c (taken b s a k) zero (suc j) p h = split (is_reset c && (b.power && is_attached b.attached))
+  where
+    split : (y : Bool) → reach_at (before (reset_where y (called_port c b) s a) k) (suc j) p ≡ reach_at k j p
+    split true = refl
+    split false = refl
+call_on c (taken b s a k) (suc i) zero [] h = refl
+call_on c (taken b s a k) (suc i) zero (zero ∷ p) h = refl
+call_on c (taken b s a k) (suc i) zero (suc n ∷ p) h = refl
+call_on c (taken b s a k) (suc i) (suc j) p h = call_on c k i j p h
+
+acted_on : (e : Effect) (k : Ports) (j : ℕ) (p : List ℕ) → leaves_port e j ≡ true → reach_at (acted e k) j p ≡ reach_at k j p
+acted_on Leaves k j p h = refl
+acted_on (Calls c i) k j p h = call_on c k i j p h
+acted_on PortsOff k j p h = no h
+
+root_on : (c : PortCall) (m : ℕ) (k : Ports) (p : List ℕ) → root_leaves m p ≡ true → reach (changed (called c) k (m ∷ [])) p ≡ reach k p
+root_on c m k [] h = refl
+root_on c m k (zero ∷ p) h = refl
+root_on c zero k (suc j ∷ p) h = refl
+root_on c (suc i) k (suc j ∷ p) h = call_on c k i j p h
+
+-- Attempts
+
+packet_on : (q : Sent) (deep : Bool) (k : Ports) (j : ℕ) (p : List ℕ) → way_leaves q deep k j p ≡ true → reach_at (after_packet q deep k) j p ≡ reach_at k j p
+unfolding after_packet reach_at way_leaves
+packet_on q deep ended j p h = refl
+packet_on q deep (vacant b k) zero p h = refl
+packet_on q deep (vacant b k) (suc j) p h = packet_on q deep k j p h
+packet_on q deep (taken b s a k) zero [] h = elim b.enable as (λ x. reach_at (met x q deep b s a (after_packet q deep k)) zero [] ≡ b.enable) [ true ↦ refl | false ↦ refl ]
+packet_on q deep (taken b s a k) zero (zero ∷ p) h = elim b.enable as (λ x. reach_at (met x q deep b s a (after_packet q deep k)) zero (zero ∷ p) ≡ false) [ true ↦ refl | false ↦ refl ]
+packet_on q deep (taken b s a k) zero (suc j ∷ p) h = split b.enable h (packet_on q true a j p)
+  where
+    split : (x : Bool) → (not x || (leaves_port (effect_of q deep s) j && way_leaves q true a j p)) ≡ true
+        → (way_leaves q true a j p ≡ true → reach_at (after_packet q true a) j p ≡ reach_at a j p)
+        → reach_at (met x q deep b s a (after_packet q deep k)) zero (suc j ∷ p) ≡ (b.enable && reach_at a j p)
+    split true h ih =
+        let on : _ = both (leaves_port (effect_of q deep s) j) (way_leaves q true a j p) h in
+        ap (λ x. b.enable && x) (acted_on (effect_of q deep s) (after_packet q true a) j p on.0 ∙ ih on.1)
+    split false h ih = refl
+packet_on q deep (taken b s a k) (suc j) p h =
+    elim b.enable as (λ x. reach_at (met x q deep b s a (after_packet q deep k)) (suc j) p ≡ reach_at k j p) [ true ↦ packet_on q deep k j p h | false ↦ packet_on q deep k j p h ]
+
+pass_on : (o : Option Sent) (k : Ports) (j : ℕ) (p : List ℕ) → pass_leaves o k j p ≡ true → reach_at (passed o k) j p ≡ reach_at k j p
+pass_on None k j p h = refl
+pass_on (Some q) k j p h = packet_on q false k j p h
+
+attempt_on : (n : ℕ) (t d r : Option Sent) → IsAttemptAt n t d r → (k : Ports) (j : ℕ) (p : List ℕ) → pass_leaves d (passed t k) j p ≡ true
+    → reach_at (after_attempt t d r k) j p ≡ reach_at k j p
+attempt_on n t d r is k j p h =
+    forgotten_reach (passed r (passed d (passed t k))) j p
+    ∙ pass_on r (passed d (passed t k)) j p (calm_leaves r (ack_calm r is.reply) (passed d (passed t k)) j p)
+    ∙ pass_on d (passed t k) j p h
+    ∙ pass_on t k j p (calm_leaves t (token_calm n t is.token) k j p)
+
+made_on : (a : Attempt) (w : World) (p : List ℕ) → made_leaves a w p ≡ true → reach (with_attempt a w).roots p ≡ reach w.roots p
+unfolding with_attempt ports_in
+made_on a w [] h = refl
+made_on a w (zero ∷ p) h = refl
+made_on a w (suc j ∷ p) h = attempt_on a.addr (token_out a (damage_in w)) (payload_out a (damage_in w)) (reply_out a (damage_in w) w.roots) (goes a (damage_in w) w.roots) w.roots j p h
+
+made_what : (a : Attempt) (w : World) (p : List ℕ) → option_map spec_of (state_there (with_attempt a w).roots p) ≡ option_map spec_of (state_there w.roots p)
+unfolding with_attempt
+made_what a w p = shaped w.roots (ports_in a (damage_in w) w.roots) p (shape_attempt a (damage_in w) w.roots)
+
+made_same : (a : Attempt) (w : World) (p : List ℕ) → made_leaves a w p ≡ true → SameAt w.roots (with_attempt a w).roots p
+made_same a w p h = record { port = made_port a w p h; on = made_on a w p h; what = made_what a w p }
+
+attempted_rests : (a : Attempt) (f : Option BusFault) (w : World) (p : List ℕ) → made_spares a (ready w) p ≡ true → made_leaves a (ready w) p ≡ true → live w.roots p ≡ true → RestsOrPends w (attempted a f w) p
+unfolding ready
+attempted_rests a (Some f) w p g l h = inl (h, same_self w.roots p)
+attempted_rests a None w p g l h =
+    elim (w.attempts == w.limit) as (λ b. RestsOrPends w (if b then record w { fault = Some LimitReached } else with_attempt a (ready w)) p) [
+      | true ↦ inl (h, same_self w.roots p)
+      | false ↦ then_rests w (ready w) (with_attempt a (ready w)) p (due_rests w.left w p h)
+          (λ on. inl (made_live a (ready w) p g on, made_same a (ready w) p l))
+          (made_pend a (ready w) p g)
+    ]
+
+-- Steps
+
+first_rests : (es : List Event) (w : World) (p : List ℕ) → live w.roots p ≡ true → RestsOrPends w (took_first es w) p
+first_rests [] w p h = inl (h, same_self w.roots p)
+first_rests (e ∷ es) w p h = took_rests e es w p h
+
+event_rests : (f : Option BusFault) (w : World) (p : List ℕ) → live w.roots p ≡ true → RestsOrPends w (event_taken f w) p
+event_rests (Some f) w p h = inl (h, same_self w.roots p)
+event_rests None w p h = first_rests w.left w p h
+
+root_same : (c : PortCall) (m : ℕ) (w : World) (p : List ℕ) → root_leaves m p ≡ true → SameAt w.roots (changed (called c) w.roots (m ∷ [])) p
+root_same c m w p h = record { port = root_port c m w.roots p h; on = root_on c m w.roots p h; what = shaped w.roots (changed (called c) w.roots (m ∷ [])) p (shape_root c w.roots (m ∷ [])) }
+
+step_rests_by : (s : Step) (w : World) (p : List ℕ) → spares_step s w p ≡ true → leaves_step s w p ≡ true → live w.roots p ≡ true → RestsOrPends w (after s w) p
+unfolding after spares_step leaves_step
+step_rests_by (attempt a) w p g l h = attempted_rests a w.fault w p g l h
+step_rests_by (root_call c n) w p g l h = inl (root_live c n w.roots p g h, root_same c n w p l)
+step_rests_by event w p g l h = event_rests w.fault w p h
+step_rests_by (report line) w p g l h = inl (h, same_self w.roots p)
+
+-- Over a course that asks nothing of a port and its way: it stands as it stood, or a change is pending
+pub rests_or_pends : (p : List ℕ) {w v : World} → Course (AsksNothingOf p) w v → live w.roots p ≡ true → RestsOrPends w v p
+rests_or_pends p (here w) h = inl (h, same_self w.roots p)
+rests_or_pends p (step s {w} {v} k more) h =
+    then_rests w (after s w) v p (step_rests_by s w p k.spares k.leaves h) (rests_or_pends p more) (pending_persists p (course_wider (λ s w x. x.spares) more))
+
+-- The same of steps that may ask something of the port itself, but leave pending what is pending there: the same device stands there, or none
+
+then_stands : (w m v : World) (p : List ℕ) → StandsOrPends w m p → (live m.roots p ≡ true → StandsOrPends m v p) → (pend m.roots p ≡ true → pend v.roots p ≡ true) → StandsOrPends w v p
+then_stands w m v p x live_on pend_on = first x
+  where
+    second : option_map spec_of (state_there m.roots p) ≡ option_map spec_of (state_there w.roots p) → StandsOrPends m v p → StandsOrPends w v p
+    second s (inl y) = inl (y.0, y.1 ∙ s)
+    second s (inr y) = inr y
+
+    first : StandsOrPends w m p → StandsOrPends w v p
+    first (inl y) = second y.1 (live_on y.0)
+    first (inr y) = inr (pend_on y)
+
+rests_stands : (w v : World) (p : List ℕ) → RestsOrPends w v p → StandsOrPends w v p
+rests_stands w v p (inl y) = inl (y.0, y.1.what)
+rests_stands w v p (inr y) = inr y
+
+attempted_stands : (a : Attempt) (f : Option BusFault) (w : World) (p : List ℕ) → made_spares a (ready w) p ≡ true → live w.roots p ≡ true → StandsOrPends w (attempted a f w) p
+unfolding ready
+attempted_stands a (Some f) w p g h = inl (h, refl)
+attempted_stands a None w p g h =
+    elim (w.attempts == w.limit) as (λ b. StandsOrPends w (if b then record w { fault = Some LimitReached } else with_attempt a (ready w)) p) [
+      | true ↦ inl (h, refl)
+      | false ↦ then_stands w (ready w) (with_attempt a (ready w)) p (rests_stands w (ready w) p (due_rests w.left w p h))
+          (λ on. inl (made_live a (ready w) p g on, made_what a (ready w) p))
+          (made_pend a (ready w) p g)
+    ]
+
+step_stands : (s : Step) (w : World) (p : List ℕ) → spares_step s w p ≡ true → live w.roots p ≡ true → StandsOrPends w (after s w) p
+unfolding after spares_step
+step_stands (attempt a) w p g h = attempted_stands a w.fault w p g h
+step_stands (root_call c n) w p g h = inl (root_live c n w.roots p g h, shaped w.roots (changed (called c) w.roots (n ∷ [])) p (shape_root c w.roots (n ∷ [])))
+step_stands event w p g h = rests_stands w (event_taken w.fault w) p (event_rests w.fault w p h)
+step_stands (report line) w p g h = inl (h, refl)
+
+pub stands_or_pends : (p : List ℕ) {w v : World} → Course (Spares p) w v → live w.roots p ≡ true → StandsOrPends w v p
+stands_or_pends p (here w) h = inl (h, refl)
+stands_or_pends p (step s {w} {v} k more) h = then_stands w (after s w) v p (step_stands s w p k h) (stands_or_pends p more) (pending_persists p more)

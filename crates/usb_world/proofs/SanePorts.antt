@@ -1,0 +1,199 @@
+-- Ports stay sane.
+use Rattle.std.proofs.Common.{◌≡◌, ℕ, zero, suc, ◌&&◌, ◌||◌, if◌then◌else◌, Bool, true, false, List, [], ◌∷◌, Option, None, Some, refl, ap, sym, subst, ◌∙◌}
+use Rattle.std.specs.Option.{IfSome}
+use Rattle.usb_port.specs.PortState.{PortState, is_attached, speed_of, plugged, unplugged, powered_off}
+use Rattle.usb_device.specs.declared.calls.PortCall.{PortCall}
+use Rattle.usb_device.specs.declared.calls.PortCall.TheVariants.{SetPower, SetReset, ClearEnable, ClearPower, ClearConnectionChange, ClearEnableChange, ClearResetChange}
+use Rattle.usb_device.specs.declared.effect.Effect.{Effect}
+use Rattle.usb_device.specs.declared.effect.Effect.TheVariants.{Leaves, Calls, PortsOff}
+use Rattle.usb_device.specs.declared.delivery.Sent.{Sent}
+use Rattle.usb_device.specs.declared.delivery.Content.{Content}
+use Rattle.usb_device.specs.declared.delivery.Content.TheVariants.{Whole, Broken}
+use Rattle.usb_device.specs.Spec.{Spec, Hub, IsSpec}
+use Rattle.usb_device.specs.Rows.{State, fresh, reset_state, unread, forgotten}
+use Rattle.usb_device.specs.Calls.{called_port, is_reset}
+use Rattle.usb_device.specs.Tree.{Ports, ended, vacant, taken, Place, empty, full, before, all_off, new_ports, first_ports, called, reset_where, replaced, changed, changed_at, acted, reach_at, state_at, row_of}
+use Rattle.usb_device.specs.Delivery.{answer_of, effect_of, after_packet, all_forgotten, hears, reply_to}
+use Rattle.usb_device.proofs.Interface.{answer-spec, keeps-received}
+use Rattle.usb_world.specs.Paths.{live_at}
+use Rattle.usb_world.specs.SanePorts.{IsSanePort, IsSane, IsSanePlace, is_open, open_at}
+use Rattle.usb_world.proofs.Booleans.{both, and_of, no}
+
+-- Ports
+
+sane_off : (b : PortState) → IsSanePort (powered_off b)
+sane_off b = record { enabled = λ h. no h; changed = λ h. no h }
+
+sane_row : (c : PortCall) (b : PortState) → IsSanePort b → IsSanePort (called_port c b)
+sane_row SetPower b h = lit b.power refl
+  where
+    lit : (x : Bool) → b.power ≡ x → IsSanePort (if x then b else record b { power = true; connection_changed = is_attached b.attached || b.connection_changed })
+    lit true e = h
+    lit false e = record { enabled = λ g. (both b.power (is_attached b.attached) (h.enabled g)).1; changed = λ g. refl }
+sane_row SetReset b h = lit (b.power && is_attached b.attached) refl
+  where
+    lit : (x : Bool) → (b.power && is_attached b.attached) ≡ x → IsSanePort (if x then record b { enable = true; reset_changed = true } else b)
+    lit true e = record { enabled = λ g. e; changed = λ g. (both b.power (is_attached b.attached) e).0 }
+    lit false e = h
+sane_row ClearEnable b h = record { enabled = λ g. no g; changed = h.changed }
+sane_row ClearPower b h = sane_off b
+sane_row ClearConnectionChange b h = record { enabled = h.enabled; changed = λ g. h.changed (wider b.connection_changed b.enable_changed b.reset_changed g) }
+  where
+    wider : (x y z : Bool) → ((false || y) || z) ≡ true → ((x || y) || z) ≡ true
+    wider true y z g = refl
+    wider false y z g = g
+sane_row ClearEnableChange b h = record { enabled = h.enabled; changed = λ g. h.changed (wider b.connection_changed b.enable_changed b.reset_changed g) }
+  where
+    wider : (x y z : Bool) → ((x || false) || z) ≡ true → ((x || y) || z) ≡ true
+    wider true y z g = refl
+    wider false true z g = refl
+    wider false false z g = g
+sane_row ClearResetChange b h = record { enabled = h.enabled; changed = λ g. h.changed (wider b.connection_changed b.enable_changed b.reset_changed g) }
+  where
+    wider : (x y z : Bool) → ((x || y) || false) ≡ true → ((x || y) || z) ≡ true
+    wider true y z g = refl
+    wider false true z g = refl
+    wider false false z g = no g
+
+row_attached : (c : PortCall) (b : PortState) → (called_port c b).attached ≡ b.attached
+row_attached SetPower b = elim b.power as (λ x. (if x then b else record b { power = true; connection_changed = is_attached b.attached || b.connection_changed }).attached ≡ b.attached) [ true ↦ refl | false ↦ refl ]
+row_attached SetReset b = elim (b.power && is_attached b.attached) as (λ x. (if x then record b { enable = true; reset_changed = true } else b).attached ≡ b.attached) [ true ↦ refl | false ↦ refl ]
+row_attached ClearEnable b = refl
+row_attached ClearPower b = refl
+row_attached ClearConnectionChange b = refl
+row_attached ClearEnableChange b = refl
+row_attached ClearResetChange b = refl
+
+-- what is plugged or unplugged is a change where there is power
+sane_unplugged : (b : PortState) → IsSanePort b → IsSanePort (unplugged b)
+sane_unplugged b h = record { enabled = λ g. no g; changed = λ g. lit b.power refl g }
+  where
+    lit : (x : Bool) → b.power ≡ x → (((x || b.connection_changed) || b.enable_changed) || b.reset_changed) ≡ true → b.power ≡ true
+    lit true e g = e
+    lit false e g = h.changed g
+
+sane_plugged : (low : Bool) (b : PortState) → IsSanePort (unplugged b) → IsSanePort (plugged low (unplugged b))
+sane_plugged low b h = record { enabled = λ g. no g; changed = λ g. lit b.power refl g }
+  where
+    lit : (x : Bool) → b.power ≡ x → (((x || (x || b.connection_changed)) || b.enable_changed) || b.reset_changed) ≡ true → b.power ≡ true
+    lit true e g = e
+    lit false e g = h.changed (rw e g)
+
+-- Trees
+
+pub sane_all_off : (k : Ports) → IsSane k → IsSane (all_off k)
+unfolding IsSane all_off
+sane_all_off ended h = h
+sane_all_off (vacant b k) h = (sane_off b, h.1, sane_all_off k h.2)
+sane_all_off (taken b s a k) h = (sane_off b, h.1, h.2, sane_all_off k h.3, h.4)
+
+pub sane_new_ports : (n : ℕ) → IsSane (new_ports n)
+unfolding IsSane new_ports
+sane_new_ports zero = tt
+sane_new_ports (suc n) = (record { enabled = λ h. no h; changed = λ h. no h }, refl, sane_new_ports n)
+
+sane_first : (o : Option Hub) → IsSane (first_ports o)
+unfolding IsSane
+sane_first None = tt
+sane_first (Some hub) = sane_new_ports hub.ports
+
+pub sane_called : (c : PortCall) (q : Place) → IsSanePlace q → IsSanePlace (called c q)
+unfolding IsSanePlace reset_state
+sane_called c (empty b) h = (sane_row c b h.0, row_attached c b ∙ h.1)
+sane_called c (full b s a) h = split (is_reset c && (b.power && is_attached b.attached))
+  where
+    split : (x : Bool) → IsSanePlace (reset_where x (called_port c b) s a)
+    split true = (sane_row c b h.0, row_attached c b ∙ h.1, sane_all_off a h.2, h.3)
+    split false = (sane_row c b h.0, row_attached c b ∙ h.1, h.2, h.3)
+
+pub sane_replaced : (o : Option Spec) → IfSome o IsSpec → (q : Place) → IsSanePlace q → IsSanePlace (replaced o q)
+unfolding IsSanePlace fresh
+sane_replaced None r (empty b) h = (sane_unplugged b h.0, refl)
+sane_replaced None r (full b s a) h = (sane_unplugged b h.0, refl)
+sane_replaced (Some t) r (empty b) h = (sane_plugged t.low b (sane_unplugged b h.0), refl, sane_first t.hub, r)
+sane_replaced (Some t) r (full b s a) h = (sane_plugged t.low b (sane_unplugged b h.0), refl, sane_first t.hub, r)
+
+sane_before : (q : Place) (k : Ports) → IsSanePlace q → IsSane k → IsSane (before q k)
+unfolding IsSanePlace IsSane
+sane_before (empty b) k h g = (h.0, h.1, g)
+sane_before (full b s a) k h g = (h.0, h.1, h.2, g, h.3)
+
+-- what keeps a port sane keeps the tree so
+pub sane_changed : (f : Place → Place) → ((q : Place) → IsSanePlace q → IsSanePlace (f q)) → (k : Ports) (i : ℕ) (p : List ℕ) → IsSane k → IsSane (changed_at f k i p)
+unfolding IsSane IsSanePlace changed_at
+sane_changed f c ended i p h = h
+sane_changed f c (vacant b k) zero [] h = sane_before (f (empty b)) k (c (empty b) (h.0, h.1)) h.2
+sane_changed f c (vacant b k) zero (n ∷ p) h = h
+sane_changed f c (vacant b k) (suc i) p h = (h.0, h.1, sane_changed f c k i p h.2)
+sane_changed f c (taken b s a k) zero [] h = sane_before (f (full b s a)) k (c (full b s a) (h.0, h.1, h.2, h.4)) h.3
+sane_changed f c (taken b s a k) zero (zero ∷ p) h = h
+sane_changed f c (taken b s a k) zero (suc j ∷ p) h = (h.0, h.1, sane_changed f c a j p h.2, h.3, h.4)
+sane_changed f c (taken b s a k) (suc i) p h = (h.0, h.1, h.2, sane_changed f c k i p h.3, h.4)
+
+pub sane_path : (f : Place → Place) → ((q : Place) → IsSanePlace q → IsSanePlace (f q)) → (k : Ports) (x : List ℕ) → IsSane k → IsSane (changed f k x)
+sane_path f c k [] h = h
+sane_path f c k (zero ∷ x) h = h
+sane_path f c k (suc i ∷ x) h = sane_changed f c k i x h
+
+sane_acted : (e : Effect) (a : Ports) → IsSane a → IsSane (acted e a)
+sane_acted Leaves a h = h
+sane_acted (Calls c i) a h = sane_changed (called c) (sane_called c) a i [] h
+sane_acted PortsOff a h = sane_all_off a h
+
+pub sane_packet : (q : Sent) (deep : Bool) (k : Ports) → IsSane k → IsSane (after_packet q deep k)
+unfolding IsSane after_packet
+sane_packet q deep ended h = h
+sane_packet q deep (vacant b k) h = (h.0, h.1, sane_packet q deep k h.2)
+sane_packet q deep (taken b s a k) h = split b.enable (sane_packet q true a h.2) (sane_packet q deep k h.3)
+  where
+    split : (x : Bool) → IsSane (after_packet q true a) → IsSane (after_packet q deep k)
+        → IsSane (if x then taken b (answer_of q deep s a).1 (acted (effect_of q deep s) (after_packet q true a)) (after_packet q deep k) else taken b s a (after_packet q deep k))
+    split true g r = (h.0, h.1 ∙ ap (λ t. speed_of t.low) (sym (answer-spec q deep s a)), sane_acted (effect_of q deep s) (after_packet q true a) g, r, subst IsSpec (sym (answer-spec q deep s a)) h.4)
+    split false g r = (h.0, h.1, h.2, r, h.4)
+
+pub sane_forgotten : (k : Ports) → IsSane k → IsSane (all_forgotten k)
+unfolding IsSane all_forgotten
+sane_forgotten ended h = h
+sane_forgotten (vacant b k) h = (h.0, h.1, sane_forgotten k h.2)
+sane_forgotten (taken b s a k) h = (h.0, h.1, sane_forgotten a h.2, sane_forgotten k h.3, h.4)
+
+-- a device is reached where its port and each on its way is powered, sees what is attached, and is enabled
+enabled_open : (b : PortState) → IsSanePort b → b.enable ≡ is_open b
+enabled_open b h = lit b.enable refl
+  where
+    lit : (x : Bool) → b.enable ≡ x → x ≡ ((b.power && is_attached b.attached) && x)
+    lit true e = sym (and_of (b.power && is_attached b.attached) true (h.enabled e) refl)
+    lit false e = elim (b.power && is_attached b.attached) as (λ y. false ≡ (y && false)) [ true ↦ refl | false ↦ refl ]
+
+pub reach_open : (k : Ports) (i : ℕ) (p : List ℕ) → IsSane k → reach_at k i p ≡ open_at k i p
+unfolding IsSane reach_at open_at
+reach_open ended i p h = refl
+reach_open (vacant b k) zero p h = refl
+reach_open (vacant b k) (suc i) p h = reach_open k i p h.2
+reach_open (taken b s a k) zero [] h = enabled_open b h.0
+reach_open (taken b s a k) zero (zero ∷ p) h = refl
+reach_open (taken b s a k) zero (suc j ∷ p) h = ap (λ x. x && reach_at a j p) (enabled_open b h.0) ∙ ap (λ x. is_open b && x) (reach_open a j p h.2)
+reach_open (taken b s a k) (suc i) p h = reach_open k i p h.3
+
+pub reach_live : (k : Ports) (i : ℕ) (p : List ℕ) → IsSane k → reach_at k i p ≡ true → live_at k i p ≡ true
+unfolding IsSane reach_at live_at
+reach_live ended i p h g = no g
+reach_live (vacant b k) zero p h g = no g
+reach_live (vacant b k) (suc i) p h g = reach_live k i p h.2 g
+reach_live (taken b s a k) zero [] h g = (both b.power (is_attached b.attached) (h.0.enabled g)).0
+reach_live (taken b s a k) zero (zero ∷ p) h g = no g
+reach_live (taken b s a k) zero (suc j ∷ p) h g =
+    let on : _ = both b.enable (reach_at a j p) g in
+    and_of b.power _ (both b.power (is_attached b.attached) (h.0.enabled on.0)).0 (reach_live a j p h.2 on.1)
+reach_live (taken b s a k) (suc i) p h g = reach_live k i p h.3 g
+
+-- each device is as the rules say
+pub sane_spec : (k : Ports) (i : ℕ) (p : List ℕ) (s : State) → IsSane k → state_at k i p ≡ Some s → IsSpec s.spec
+unfolding IsSane state_at
+sane_spec ended i p z h e = cc
+sane_spec (vacant b k) zero p z h e = cc
+sane_spec (vacant b k) (suc i) p z h e = sane_spec k i p z h.2 e
+sane_spec (taken b s a k) zero [] z h e = subst (λ o. IfSome o (λ x. IsSpec x.spec)) e h.4
+sane_spec (taken b s a k) zero (zero ∷ p) z h e = cc
+sane_spec (taken b s a k) zero (suc j ∷ p) z h e = sane_spec a j p z h.2 e
+sane_spec (taken b s a k) (suc i) p z h e = sane_spec k i p z h.3 e

@@ -1,0 +1,33 @@
+-- A device that is reset or not, or forgets what it remembers.
+use Rattle.std.proofs.Common.{◌≡◌, Bool, true, false, Option, None, Some, option_map, refl, sym, ap}
+use Rattle.usb_port.specs.PortState.{PortState}
+use Rattle.usb_device.specs.Rows.{State, forgotten}
+use Rattle.usb_device.specs.declared.transfer.Memory.TheVariants.{Nothing}
+use Rattle.usb_world.specs.Paths.{address_of}
+use Rattle.usb_world.specs.WayEffects.{reset_if}
+use Rattle.usb_world.proofs.Booleans.{no}
+
+pub forgets : (s : State) → s.memory ≡ Nothing → forgotten s ≡ s
+forgets s m = ap (λ x. record s { memory = x }) (sym m)
+
+pub kept_state : (o : Option State) → o ≡ option_map (reset_if false) o
+kept_state None = refl
+kept_state (Some s) = refl
+
+pub unreset : (b : Bool) (o : Option State) → b ≡ false → option_map (reset_if b) o ≡ o
+unreset true o h = no (sym h)
+unreset false None h = refl
+unreset false (Some s) h = refl
+
+pub kept_address : (b : Bool) (o : Option State) → b ≡ false → option_map address_of (option_map (reset_if b) o) ≡ option_map address_of o
+kept_address true o h = no (sym h)
+kept_address false None h = refl
+kept_address false (Some s) h = refl
+
+pub forgotten_address : (o : Option State) → option_map address_of (option_map forgotten o) ≡ option_map address_of o
+forgotten_address None = refl
+forgotten_address (Some s) = refl
+
+pub kept_port : (o : Option PortState) → o ≡ option_map (λ b. b) o
+kept_port None = refl
+kept_port (Some b) = refl

@@ -1,0 +1,223 @@
+-- What is so between two steps stays so.
+use Rattle.std.proofs.Common.{◌≡◌, ℕ, zero, suc, Bool, true, false, if◌then◌else◌, ◌&&◌, ◌==◌, List, [], ◌∷◌, refl, ap, sym}
+use Rattle.usb_port.specs.PortState.{is_attached}
+use Rattle.usb_device.specs.Spec.{Spec, Hub, IsSpec}
+use Rattle.usb_device.specs.declared.calls.PortCall.{PortCall}
+use Rattle.usb_device.specs.declared.transfer.Memory.{Memory}
+use Rattle.usb_device.specs.declared.transfer.Memory.TheVariants.{Nothing}
+use Rattle.usb_device.specs.Rows.{fresh, reset_state}
+use Rattle.usb_device.specs.Calls.{called_port, is_reset}
+use Rattle.usb_device.specs.Tree.{Ports, ended, vacant, taken, Place, empty, full, before, new_ports, first_ports, all_off, changed, changed_at, called, replaced, reset_where}
+use Rattle.usb_device.specs.Delivery.{all_forgotten}
+use Rattle.usb_world.specs.declared.damage.Damage.{Damage}
+use Rattle.usb_world.specs.declared.event.Action.{Action}
+use Rattle.usb_world.specs.declared.event.Event.{Event}
+use Rattle.usb_world.specs.declared.types.BusFault.{BusFault}
+use Rattle.usb_world.specs.declared.types.BusFault.TheVariants.{LimitReached}
+use Rattle.usb_world.specs.declared.event.Action.TheVariants.{Plug, Unplug, Show, Send, Receive, Clear}
+use Rattle.usb_world.specs.declared.types.Attempt.{Attempt}
+use Rattle.std.proofs.lemmas.List.Elements.{All-head, All-tail}
+use Rattle.std.specs.Prelude.{Option, None, Some, slice_get, All, ⊤}
+use Rattle.std.specs.Option.{IfSome}
+use Rattle.usb_world.specs.Exchange.{ports_in, token_out, payload_out, reply_out}
+use Rattle.usb_world.specs.Passes.{IsSettled}
+use Rattle.usb_world.specs.SanePorts.{IsSane}
+use Rattle.usb_world.specs.PlanData.{PlanData}
+use Rattle.usb_world.specs.World.{World}
+use Rattle.usb_world.specs.Steps.{happened, with_plugged, took, took_first, is_due, due_from, ready, damage_in, with_attempt, attempted, event_taken, Step, attempt, root_call, event, report, after, Course, here, step, IsBetween, opening}
+use Rattle.usb_world.proofs.SanePorts.{sane_path, sane_new_ports, sane_called, sane_replaced}
+use Rattle.usb_world.proofs.AttemptPackets.{attempt_settled, attempt_sane}
+use Rattle.usb_world.proofs.States.{forgets}
+
+-- A device that remembers nothing, and all below it
+
+unfoldable pub Rests : Ports → Type 0
+Rests ended = ⊤
+Rests (vacant b k) = Rests k
+Rests (taken b s a k) = (s.memory ≡ Nothing) × Rests a × Rests k
+
+unfoldable RestsPlace : Place → Type 0
+RestsPlace (empty b) = ⊤
+RestsPlace (full b s a) = (s.memory ≡ Nothing) × Rests a
+
+abbrev further : Ports → Ports
+further ended = ended
+further (vacant b k) = k
+further (taken b s a k) = k
+
+abbrev below : Ports → Ports
+below ended = ended
+below (vacant b k) = ended
+below (taken b s a k) = a
+
+abbrev remembered : Ports → Memory
+remembered ended = Nothing
+remembered (vacant b k) = Nothing
+remembered (taken b s a k) = s.memory
+
+pub rests : (k : Ports) → IsSettled k → Rests k
+unfolding all_forgotten Rests
+rests ended h = tt
+rests (vacant b k) h = rests k (ap further h)
+rests (taken b s a k) h = (sym (ap remembered h), rests a (ap below h), rests k (ap further h))
+
+settled : (k : Ports) → Rests k → IsSettled k
+unfolding all_forgotten Rests
+settled ended h = refl
+settled (vacant b k) h = ap (vacant b) (settled k h)
+settled (taken b s a k) h = rw (forgets s h.0, settled a h.1, settled k h.2) refl
+
+rests_off : (k : Ports) → Rests k → Rests (all_off k)
+unfolding Rests all_off
+rests_off ended h = tt
+rests_off (vacant b k) h = rests_off k h
+rests_off (taken b s a k) h = (h.0, h.1, rests_off k h.2)
+
+rests_new : (n : ℕ) → Rests (new_ports n)
+unfolding Rests new_ports
+rests_new zero = tt
+rests_new (suc n) = rests_new n
+
+rests_first : (o : Option Hub) → Rests (first_ports o)
+unfolding Rests
+rests_first None = tt
+rests_first (Some hub) = rests_new hub.ports
+
+rests_called : (c : PortCall) (q : Place) → RestsPlace q → RestsPlace (called c q)
+unfolding RestsPlace reset_state
+rests_called c (empty b) h = tt
+rests_called c (full b s a) h = split (is_reset c && (b.power && is_attached b.attached))
+  where
+    split : (x : Bool) → RestsPlace (reset_where x (called_port c b) s a)
+    split true = (refl, rests_off a h.1)
+    split false = h
+
+rests_replaced : (o : Option Spec) (q : Place) → RestsPlace q → RestsPlace (replaced o q)
+unfolding RestsPlace fresh
+rests_replaced None q h = tt
+rests_replaced (Some t) q h = (refl, rests_first t.hub)
+
+rests_before : (q : Place) (k : Ports) → RestsPlace q → Rests k → Rests (before q k)
+unfolding RestsPlace Rests
+rests_before (empty b) k h g = g
+rests_before (full b s a) k h g = (h.0, h.1, g)
+
+rests_changed : (f : Place → Place) → ((q : Place) → RestsPlace q → RestsPlace (f q)) → (k : Ports) (i : ℕ) (p : List ℕ) → Rests k → Rests (changed_at f k i p)
+unfolding Rests RestsPlace changed_at
+rests_changed f c ended i p h = h
+rests_changed f c (vacant b k) zero [] h = rests_before (f (empty b)) k (c (empty b) tt) h
+rests_changed f c (vacant b k) zero (n ∷ p) h = h
+rests_changed f c (vacant b k) (suc i) p h = rests_changed f c k i p h
+rests_changed f c (taken b s a k) zero [] h = rests_before (f (full b s a)) k (c (full b s a) (h.0, h.1)) h.2
+rests_changed f c (taken b s a k) zero (zero ∷ p) h = h
+rests_changed f c (taken b s a k) zero (suc j ∷ p) h = (h.0, rests_changed f c a j p h.1, h.2)
+rests_changed f c (taken b s a k) (suc i) p h = (h.0, h.1, rests_changed f c k i p h.2)
+
+-- what leaves nothing remembered at a port leaves the tree settled
+settled_path : (f : Place → Place) → ((q : Place) → RestsPlace q → RestsPlace (f q)) → (k : Ports) (x : List ℕ) → IsSettled k → IsSettled (changed f k x)
+settled_path f c k [] h = h
+settled_path f c k (zero ∷ x) h = h
+settled_path f c k (suc i ∷ x) h = settled (changed_at f k i x) (rests_changed f c k i x (rests k h))
+
+-- Settled
+
+pub settled_new : (n : ℕ) → IsSettled (new_ports n)
+settled_new n = settled (new_ports n) (rests_new n)
+
+settled_plugged : (o : Option Spec) (p : List ℕ) (k : Ports) → IsSettled k → IsSettled (with_plugged o p k)
+settled_plugged None p k h = h
+settled_plugged (Some t) p k h = settled_path (replaced (Some t)) (rests_replaced (Some t)) k p h
+
+pub settled_happened : (a : Action) (ds : List Spec) (k : Ports) → IsSettled k → IsSettled (happened a ds k)
+settled_happened (Plug p d) ds k h = settled_plugged (slice_get ds d) p k h
+settled_happened (Unplug p) ds k h = settled_path (replaced None) (rests_replaced None) k p h
+settled_happened Show ds k h = h
+settled_happened (Send p bytes) ds k h = h
+settled_happened (Receive p packets) ds k h = h
+settled_happened (Clear p) ds k h = h
+
+pub settled_called : (c : PortCall) (k : Ports) (p : List ℕ) → IsSettled k → IsSettled (changed (called c) k p)
+settled_called c k p h = settled_path (called c) (rests_called c) k p h
+
+pub settled_ports : (a : Attempt) (d : Option Damage) (k : Ports) → IsSettled (ports_in a d k)
+unfolding ports_in
+settled_ports a d k = attempt_settled (token_out a d) (payload_out a d) (reply_out a d k) k
+
+-- Sane
+
+sane_with : (o : Option Spec) → IfSome o IsSpec → (p : List ℕ) (k : Ports) → IsSane k → IsSane (with_plugged o p k)
+sane_with None r p k h = h
+sane_with (Some t) r p k h = sane_path (replaced (Some t)) (sane_replaced (Some t) r) k p h
+
+the_ruled : (ds : List Spec) (d : ℕ) → All IsSpec ds → IfSome (slice_get ds d) IsSpec
+the_ruled [] d r = tt
+the_ruled (s ∷ ds) zero r = All-head IsSpec s ds r
+the_ruled (s ∷ ds) (suc d) r = the_ruled ds d (All-tail IsSpec s ds r)
+
+pub sane_happened : (a : Action) (ds : List Spec) → All IsSpec ds → (k : Ports) → IsSane k → IsSane (happened a ds k)
+sane_happened (Plug p d) ds r k h = sane_with (slice_get ds d) (the_ruled ds d r) p k h
+sane_happened (Unplug p) ds r k h = sane_path (replaced None) (sane_replaced None tt) k p h
+sane_happened Show ds r k h = h
+sane_happened (Send p bytes) ds r k h = h
+sane_happened (Receive p packets) ds r k h = h
+sane_happened (Clear p) ds r k h = h
+
+pub sane_called_at : (c : PortCall) (k : Ports) (p : List ℕ) → IsSane k → IsSane (changed (called c) k p)
+sane_called_at c k p h = sane_path (called c) (sane_called c) k p h
+
+pub sane_ports : (a : Attempt) (d : Option Damage) (k : Ports) → IsSane k → IsSane (ports_in a d k)
+unfolding ports_in
+sane_ports a d k h = attempt_sane (token_out a d) (payload_out a d) (reply_out a d k) k h
+
+-- Worlds
+
+pub between_opening : (p : PlanData) → All IsSpec p.devices → IsBetween (opening p)
+between_opening p r = record { settled = settled_new p.roots; sane = sane_new_ports p.roots; ruled = r }
+
+took_between : (e : Event) (events : List Event) (w : World) → IsBetween w → IsBetween (took e events w)
+unfolding took
+took_between e events w h = record { settled = settled_happened e.action w.devices w.roots h.settled; sane = sane_happened e.action w.devices h.ruled w.roots h.sane; ruled = h.ruled }
+
+first_between : (events : List Event) (w : World) → IsBetween w → IsBetween (took_first events w)
+first_between [] w h = h
+first_between (e ∷ events) w h = took_between e events w h
+
+due_between : (events : List Event) (w : World) → IsBetween w → IsBetween (due_from events w)
+unfolding due_from
+due_between [] w h = h
+due_between (e ∷ events) w h = split (is_due e w) (due_between events (took e events w) (took_between e events w h))
+  where
+    split : (x : Bool) → IsBetween (due_from events (took e events w)) → IsBetween (if x then due_from events (took e events w) else w)
+    split true g = g
+    split false g = h
+
+pub between_ready : (w : World) → IsBetween w → IsBetween (ready w)
+unfolding ready
+between_ready w h = due_between w.left w h
+
+attempt_between : (a : Attempt) (w : World) → IsBetween w → IsBetween (with_attempt a w)
+unfolding with_attempt
+attempt_between a w h = record { settled = settled_ports a (damage_in w) w.roots; sane = sane_ports a (damage_in w) w.roots h.sane; ruled = h.ruled }
+
+attempted_between : (a : Attempt) (f : Option BusFault) (w : World) → IsBetween w → IsBetween (attempted a f w)
+attempted_between a (Some f) w h = h
+attempted_between a None w h = split (w.attempts == w.limit)
+  where
+    split : (x : Bool) → IsBetween (if x then record w { fault = Some LimitReached } else with_attempt a (ready w))
+    split true = record { settled = h.settled; sane = h.sane; ruled = h.ruled }
+    split false = attempt_between a (ready w) (between_ready w h)
+
+event_between : (f : Option BusFault) (w : World) → IsBetween w → IsBetween (event_taken f w)
+event_between (Some f) w h = h
+event_between None w h = first_between w.left w h
+
+pub between_after : (s : Step) (w : World) → IsBetween w → IsBetween (after s w)
+unfolding after
+between_after (attempt a) w h = attempted_between a w.fault w h
+between_after (root_call c n) w h = record { settled = settled_called c w.roots (n ∷ []) h.settled; sane = sane_called_at c w.roots (n ∷ []) h.sane; ruled = h.ruled }
+between_after event w h = event_between w.fault w h
+between_after (report line) w h = h
+
+pub between_course : {K : Step → World → Type 0} {w v : World} → Course K w v → IsBetween w → IsBetween v
+between_course (here w) h = h
+between_course (step s {w} {v} k c) h = between_course c (between_after s w h)

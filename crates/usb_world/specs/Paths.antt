@@ -1,0 +1,74 @@
+-- What a tree of ports says of a path: whether its way is powered, and whether a change of connection is pending on it.
+use Rattle.std.specs.Prelude.{◌≡◌, ℕ, zero, suc, ◌&&◌, ◌||◌, Bool, true, false, List, [], ◌∷◌, Some, option_map}
+use Rattle.usb_device.specs.Rows.{State}
+use Rattle.usb_device.specs.Tree.{Ports, ended, vacant, taken, reach_at, state_at}
+
+-- whether a port stands at a path, and it and each port on its way is powered
+unfoldable pub live_at : Ports → ℕ → List ℕ → Bool
+live_at ended i p = false
+live_at (vacant b k) zero [] = b.power
+live_at (vacant b k) zero (n ∷ p) = false
+live_at (vacant b k) (suc i) p = live_at k i p
+live_at (taken b s a k) zero [] = b.power
+live_at (taken b s a k) zero (zero ∷ p) = false
+live_at (taken b s a k) zero (suc j ∷ p) = b.power && live_at a j p
+live_at (taken b s a k) (suc i) p = live_at k i p
+
+abbrev pub live : Ports → List ℕ → Bool
+live k [] = false
+live k (zero ∷ p) = false
+live k (suc i ∷ p) = live_at k i p
+
+-- whether the port at a path, or one on its way, has C_PORT_CONNECTION set, and is powered as are all on its own way
+unfoldable pub pend_at : Ports → ℕ → List ℕ → Bool
+pend_at ended i p = false
+pend_at (vacant b k) zero p = b.power && b.connection_changed
+pend_at (vacant b k) (suc i) p = pend_at k i p
+pend_at (taken b s a k) zero [] = b.power && b.connection_changed
+pend_at (taken b s a k) zero (zero ∷ p) = b.power && b.connection_changed
+pend_at (taken b s a k) zero (suc j ∷ p) = b.power && (b.connection_changed || pend_at a j p)
+pend_at (taken b s a k) (suc i) p = pend_at k i p
+
+abbrev pub pend : Ports → List ℕ → Bool
+pend k [] = false
+pend k (zero ∷ p) = false
+pend k (suc i ∷ p) = pend_at k i p
+
+abbrev pub address_of : State → ℕ
+address_of s = s.registers.address
+
+abbrev pub same_number : ℕ → ℕ → Bool
+same_number zero zero = true
+same_number zero (suc n) = false
+same_number (suc m) zero = false
+same_number (suc m) (suc n) = same_number m n
+
+abbrev pub same_path : List ℕ → List ℕ → Bool
+same_path [] [] = true
+same_path [] (n ∷ p) = false
+same_path (m ∷ x) [] = false
+same_path (m ∷ x) (n ∷ p) = same_number m n && same_path x p
+
+-- whether a path leads to another, or beyond it
+unfoldable pub is_way : List ℕ → List ℕ → Bool
+is_way [] p = true
+is_way (m ∷ x) [] = false
+is_way (m ∷ x) (n ∷ p) = same_number m n && is_way x p
+
+-- the same, of a port on a row and the rest of the path
+abbrev pub on_way : ℕ → List ℕ → ℕ → List ℕ → Bool
+on_way i e j p = same_number i j && is_way e p
+
+-- a reachable device at an address
+pub record HoldsAddress (k : Ports) (n : ℕ) : Type 0 where
+  pub i : ℕ
+  pub p : List ℕ
+  pub on : reach_at k i p ≡ true
+  pub at : option_map address_of (state_at k i p) ≡ Some n
+
+-- two devices at different places that hold one address
+pub record Two (k : Ports) : Type 0 where
+  pub n : ℕ
+  pub one : HoldsAddress k n
+  pub other : HoldsAddress k n
+  pub differ : (same_number one.i other.i && same_path one.p other.p) ≡ false

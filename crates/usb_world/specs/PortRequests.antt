@@ -1,0 +1,112 @@
+-- What requests ask of ports, which ports a step leaves alone, and where a change of connection is told.
+use Rattle.std.specs.Prelude.{◌≡◌, ℕ, zero, suc, ◌==◌, ◌&&◌, ◌||◌, not, Bool, true, false, List, [], ◌∷◌, Option, None, Some}
+use Rattle.arrayvec.specs.ArrayVec.{ArrayVec}
+use Rattle.usb_packet.specs.declared.Toggle.{Toggle}
+use Rattle.usb_packet.specs.declared.TokenKind.{TokenKind}
+use Rattle.usb_packet.specs.declared.TokenKind.TheVariants.{OutTok, InTok, SetupTok}
+use Rattle.usb_port.specs.PortState.{PortState}
+use Rattle.usb_request.specs.Layout.{setup_of}
+use Rattle.usb_request.specs.declared.setup.Setup.{Setup}
+use Rattle.usb_device.specs.Request.{Is}
+use Rattle.usb_device.specs.declared.delivery.Sent.{Sent}
+use Rattle.usb_device.specs.Tree.{Ports, ended, vacant, taken, reach}
+use Rattle.usb_world.specs.declared.types.Attempt.{Attempt}
+use Rattle.usb_world.specs.Exchange.{token_out, payload_out}
+use Rattle.usb_world.specs.Paths.{is_way, same_number, same_path}
+use Rattle.usb_world.specs.Passes.{passed}
+use Rattle.usb_world.specs.WayEffects.{way_leaves}
+use Rattle.usb_world.specs.World.{World}
+use Rattle.usb_world.specs.Steps.{ready, damage_in, Step, attempt, root_call, event, report}
+use Rattle.usb_world.specs.Courses.{at_path, resets, spares_step}
+
+-- Where a change of connection is told
+
+-- whether the port at a path, or one on its way, has C_PORT_CONNECTION set
+unfoldable pub change_told_at : Ports → ℕ → List ℕ → Bool
+change_told_at ended i p = false
+change_told_at (vacant b k) zero p = b.connection_changed
+change_told_at (vacant b k) (suc i) p = change_told_at k i p
+change_told_at (taken b s a k) zero [] = b.connection_changed
+change_told_at (taken b s a k) zero (zero ∷ p) = b.connection_changed
+change_told_at (taken b s a k) zero (suc j ∷ p) = b.connection_changed || change_told_at a j p
+change_told_at (taken b s a k) (suc i) p = change_told_at k i p
+
+abbrev pub change_told : Ports → List ℕ → Bool
+change_told k [] = false
+change_told k (zero ∷ p) = false
+change_told k (suc i ∷ p) = change_told_at k i p
+
+-- Which ports a step leaves alone
+
+-- whether a packet that goes out or does not leaves the port at a path, and each on its way
+abbrev pub pass_leaves : Option Sent → Ports → ℕ → List ℕ → Bool
+pass_leaves None k j p = true
+pass_leaves (Some q) k j p = way_leaves q false k j p
+
+-- the same of an attempt: only the host's data ask something of ports
+abbrev pub made_leaves : Attempt → World → List ℕ → Bool
+made_leaves a w p = at_path (pass_leaves (payload_out a (damage_in w)) (passed (token_out a (damage_in w)) w.roots)) true p
+
+-- a root call changes its own port
+abbrev pub root_leaves : ℕ → List ℕ → Bool
+root_leaves zero p = true
+root_leaves (suc i) p = at_path (λ j e. not (same_number i j)) true p
+
+-- whether a step asks nothing of the port at a path, nor of a port on its way
+unfoldable pub leaves_step : Step → World → List ℕ → Bool
+leaves_step (attempt a) w p = made_leaves a (ready w) p
+leaves_step (root_call c n) w p = root_leaves n p
+leaves_step event w p = true
+leaves_step (report line) w p = true
+
+abbrev pub LeavesPort : List ℕ → Step → World → Type 0
+LeavesPort p s w = leaves_step s w p ≡ true
+
+-- a step that asks nothing of any port on the way to a path, nor of the one there
+pub record AsksNothing (s : Step) (w : World) (p : List ℕ) : Type 0 where
+  pub spares : spares_step s w p ≡ true
+  pub rests : resets s w p ≡ false
+  pub leaves : leaves_step s w p ≡ true
+
+-- whether the ports at a path are those of the host, or of a device that is reached
+abbrev pub row_reached : Ports → List ℕ → Bool
+row_reached k [] = true
+row_reached k (n ∷ q) = reach k (n ∷ q)
+
+-- a port stands where one stood, with each change bit that was set still set, and its power
+pub record StillSet (b : PortState) (o : Option PortState) : Type 0 where
+  pub now : PortState
+  pub stands : o ≡ Some now
+  pub power : b.power ≡ true → now.power ≡ true
+  pub connection : b.connection_changed ≡ true → now.connection_changed ≡ true
+  pub enable : b.enable_changed ≡ true → now.enable_changed ≡ true
+  pub reset : b.reset_changed ≡ true → now.reset_changed ≡ true
+
+-- Requests
+
+-- a request that asks nothing of ports: neither SetPortFeature nor ClearPortFeature, nor SetConfiguration
+abbrev pub is_plain : Setup → Bool
+is_plain r = not (Is r 0x23 3) && (not (Is r 0x23 1) && not (Is r 0 9))
+
+abbrev pub plain_payload : Option (Toggle × ArrayVec ℕ) → Bool
+plain_payload None = true
+plain_payload (Some x) = is_plain (setup_of x.1.items)
+
+-- an attempt that asks nothing of ports, where no device remembers a packet before it
+abbrev pub plain_data : TokenKind → Option (Toggle × ArrayVec ℕ) → Bool
+plain_data SetupTok o = plain_payload o
+plain_data OutTok o = true
+plain_data InTok o = true
+
+-- SetPortFeature or ClearPortFeature, of a port
+abbrev pub is_port_request : Setup → Bool
+is_port_request r = Is r 0x23 3 || Is r 0x23 1
+
+-- PORT_RESET, PORT_POWER, and the clearing of PORT_ENABLE, C_PORT_ENABLE and C_PORT_RESET: of these the port itself keeps
+-- its power and its change of connection
+abbrev pub is_sparing : Setup → Bool
+is_sparing r = (Is r 0x23 3 && (r.value == 4 || r.value == 8)) || (Is r 0x23 1 && (r.value == 1 || (r.value == 17 || r.value == 20)))
+
+-- whether a path leads to another, and beyond it
+abbrev pub is_above : List ℕ → List ℕ → Bool
+is_above x p = is_way x p && not (same_path x p)

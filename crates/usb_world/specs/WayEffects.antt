@@ -1,0 +1,115 @@
+-- What a call at a port, and a packet, does on the way to a path: whether it resets the device there, and whether it
+-- leaves what is pending.
+use Rattle.std.specs.Prelude.{◌≡◌, ℕ, zero, suc, ◌&&◌, ◌||◌, not, Bool, true, false, List, [], ◌∷◌, Option, None, Some, if◌then◌else◌}
+use Rattle.usb_port.specs.PortState.{PortState, is_attached, powered_off}
+use Rattle.usb_device.specs.declared.transfer.Memory.TheVariants.{Nothing}
+use Rattle.usb_device.specs.Rows.{State, reset_state}
+use Rattle.usb_device.specs.declared.calls.PortCall.{PortCall}
+use Rattle.usb_device.specs.declared.calls.PortCall.TheVariants.{SetReset, ClearPower, ClearConnectionChange}
+use Rattle.usb_device.specs.declared.effect.Effect.{Effect}
+use Rattle.usb_device.specs.declared.effect.Effect.TheVariants.{Leaves, Calls, PortsOff}
+use Rattle.usb_device.specs.Tree.{Ports, ended, vacant, taken, all_off, Place, empty, full, place_at}
+use Rattle.usb_device.specs.Calls.{is_reset, called_port}
+use Rattle.usb_device.specs.Delivery.{effect_of}
+use Rattle.usb_device.specs.declared.delivery.Sent.{Sent}
+use Rattle.usb_world.specs.Paths.{same_number}
+
+-- a device that was just reset: at address 0, not configured, it remembers nothing, and its ports are off
+abbrev pub IsNew : Option Place → Type 0
+IsNew None = ⊥
+IsNew (Some (empty b)) = ⊥
+IsNew (Some (full b s a)) = (s.registers.address ≡ 0) × (s.registers.configuration ≡ 0) × (s.memory ≡ Nothing) × (all_off a ≡ a)
+
+-- whether PORT_RESET resets a device there: one stands there, the port is powered and sees it
+abbrev pub takes_reset : Option Place → Bool
+takes_reset None = false
+takes_reset (Some (empty b)) = false
+takes_reset (Some (full b s a)) = b.power && is_attached b.attached
+
+-- whether a call at port i of a row resets the device at just this path
+abbrev pub call_resets : PortCall → Ports → ℕ → ℕ → List ℕ → Bool
+call_resets c k i j [] = is_reset c && (same_number i j && takes_reset (place_at k j []))
+call_resets c k i j (n ∷ p) = false
+
+-- the same of what a device asks of its ports
+abbrev pub effect_resets : Effect → Ports → ℕ → List ℕ → Bool
+effect_resets Leaves a j p = false
+effect_resets (Calls c i) a j p = call_resets c a i j p
+effect_resets PortsOff a j p = false
+
+-- whether a packet resets the device at just this path
+unfoldable pub resets_at : Sent → Bool → Ports → ℕ → List ℕ → Bool
+resets_at q deep ended i p = false
+resets_at q deep (vacant b k) zero p = false
+resets_at q deep (vacant b k) (suc i) p = resets_at q deep k i p
+resets_at q deep (taken b s a k) zero [] = false
+resets_at q deep (taken b s a k) zero (zero ∷ p) = false
+resets_at q deep (taken b s a k) zero (suc j ∷ p) = b.enable && (effect_resets (effect_of q deep s) a j p || resets_at q true a j p)
+resets_at q deep (taken b s a k) (suc i) p = resets_at q deep k i p
+
+-- a device's state, where it is reset or not
+abbrev pub reset_if : Bool → State → State
+reset_if true s = reset_state s
+reset_if false s = s
+
+-- whether a call at a port leaves pending what is at this port, or at a path below it
+abbrev pub spares : PortCall → List ℕ → Bool
+spares ClearConnectionChange p = false
+spares ClearPower p = false
+spares SetReset [] = true
+spares SetReset (n ∷ p) = false
+spares c p = true
+
+abbrev pub call_spares : PortCall → ℕ → ℕ → List ℕ → Bool
+call_spares c i j p = not (same_number i j) || spares c p
+
+abbrev pub effect_spares : Effect → ℕ → List ℕ → Bool
+effect_spares Leaves j p = true
+effect_spares (Calls c i) j p = call_spares c i j p
+effect_spares PortsOff j p = false
+
+-- whether each device on the way to a path leaves pending what is pending there
+unfoldable pub packet_spares : Sent → Bool → Ports → ℕ → List ℕ → Bool
+packet_spares q deep ended i p = true
+packet_spares q deep (vacant b k) zero p = true
+packet_spares q deep (vacant b k) (suc i) p = packet_spares q deep k i p
+packet_spares q deep (taken b s a k) zero [] = true
+packet_spares q deep (taken b s a k) zero (zero ∷ p) = true
+packet_spares q deep (taken b s a k) zero (suc j ∷ p) =
+    not b.enable || (effect_spares (effect_of q deep s) j p && packet_spares q true a j p)
+packet_spares q deep (taken b s a k) (suc i) p = packet_spares q deep k i p
+
+-- a port of a device after what the device asks
+abbrev pub port_after : Effect → ℕ → PortState → PortState
+port_after Leaves j b = b
+port_after (Calls c i) j b = if same_number i j then called_port c b else b
+port_after PortsOff j b = powered_off b
+
+-- whether no device on the way to a path asks anything of its ports
+abbrev pub is_left : Effect → Bool
+is_left Leaves = true
+is_left e = false
+
+unfoldable pub way_rests : Sent → Bool → Ports → ℕ → List ℕ → Bool
+way_rests q deep ended i p = true
+way_rests q deep (vacant b k) zero p = true
+way_rests q deep (vacant b k) (suc i) p = way_rests q deep k i p
+way_rests q deep (taken b s a k) zero [] = true
+way_rests q deep (taken b s a k) zero (zero ∷ p) = true
+way_rests q deep (taken b s a k) zero (suc j ∷ p) = not b.enable || (is_left (effect_of q deep s) && way_rests q true a j p)
+way_rests q deep (taken b s a k) (suc i) p = way_rests q deep k i p
+
+-- whether no device on the way asks anything of the port at a path, or of one above it
+abbrev pub leaves_port : Effect → ℕ → Bool
+leaves_port Leaves j = true
+leaves_port (Calls c i) j = not (same_number i j)
+leaves_port PortsOff j = false
+
+unfoldable pub way_leaves : Sent → Bool → Ports → ℕ → List ℕ → Bool
+way_leaves q deep ended i p = true
+way_leaves q deep (vacant b k) zero p = true
+way_leaves q deep (vacant b k) (suc i) p = way_leaves q deep k i p
+way_leaves q deep (taken b s a k) zero [] = true
+way_leaves q deep (taken b s a k) zero (zero ∷ p) = true
+way_leaves q deep (taken b s a k) zero (suc j ∷ p) = not b.enable || (leaves_port (effect_of q deep s) j && way_leaves q true a j p)
+way_leaves q deep (taken b s a k) (suc i) p = way_leaves q deep k i p

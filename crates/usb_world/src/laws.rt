@@ -1,0 +1,139 @@
+//! The laws of the world, over any course of its steps.
+//!
+//! Each call does nothing; what it ensures is for a reader, and for proofs to cite.
+ghost use Rattle.std.specs.Prelude.{◌≡◌, ◌<◌, ◌≤◌, ℕ, suc, false, true, List, [], ◌∷◌, ◌++◌, length, take, Option, Some, is_some, option_map};
+ghost use Rattle.usb_packet.specs.declared.Toggle.{Toggle};
+ghost use Rattle.usb_port.specs.PortState.{PortState};
+ghost use Rattle.usb_device.specs.Delivery.{held, is_twice};
+ghost use Rattle.usb_device.specs.Rows.{State};
+ghost use Rattle.usb_device.specs.Spec.{Spec};
+ghost use Rattle.usb_device.specs.Tree.{Ports, full, place_at, reach, reach_at, row_of, state_at};
+ghost use Rattle.usb_device.specs.View.{port_there, state_there};
+ghost use Rattle.usb_world.specs.declared.damage.Damage.{Damage};
+ghost use Rattle.usb_world.specs.declared.exchange.Heard.TheVariants.{Collision};
+ghost use Rattle.usb_world.specs.declared.types.Attempt.{Attempt};
+ghost use Rattle.usb_world.specs.Addresses.{GivesNoAddress};
+ghost use Rattle.usb_world.specs.Courses.{Injective, UndisturbedOrPends, NoReset, Own, Reached, Spares, Undisturbed, resets};
+ghost use Rattle.usb_world.specs.Devices.{DidIn, DidOut, DidSetup, EachWas, Was};
+ghost use Rattle.usb_world.specs.Exchange.{heard_in, payload_out, token_out};
+ghost use Rattle.usb_world.specs.Paths.{is_way, live, pend};
+ghost use Rattle.usb_world.specs.OneHolder.{IsIn, IsMade, IsOut, IsSetup};
+ghost use Rattle.usb_world.specs.Passes.{IsSettled, passed, told};
+ghost use Rattle.usb_world.specs.PlanData.{IsPlan, PlanData};
+ghost use Rattle.usb_world.specs.PluggedDevices.{index_at, device_indexed, hub_ports, plugged_by};
+ghost use Rattle.usb_world.specs.PlanCourses.{AtPorts, FollowsPlan, spec_of};
+ghost use Rattle.usb_world.specs.RestingPorts.{AsksNothingOf, RestsOrPends, StandsOrPends};
+ghost use Rattle.usb_world.specs.Steps.{AnyStep, Course, Step, after, attempt, made_in, opening, ready};
+ghost use Rattle.usb_world.specs.World.{IsAttempt, World};
+
+/// A device becomes reachable in one way only: by PORT_RESET at its own port, which leaves it at address 0, without
+/// a configuration, its ports off.
+pub fn reset_makes_reachable()
+    ensures { (s : Step) (w : World) (p : List ℕ) → reach (after s w).roots p ≡ true
+        → Reached w (after s w) p (resets s w p) }
+{}
+
+/// Reachable now and not reset since: the same device, reachable all the while.
+pub fn reachable_is_the_same()
+    ensures { (p : List ℕ) (w v : World) → Course (NoReset p) w v → reach v.roots p ≡ true
+        → (reach w.roots p ≡ true) × Undisturbed w v p }
+{}
+
+/// A pending change stays, until a call clears it.
+pub fn pending_stays()
+    ensures { (p : List ℕ) (w v : World) → Course (Spares p) w v → pend w.roots p ≡ true
+        → pend v.roots p ≡ true }
+{}
+
+/// No event comes on a way with power but that it is pending.
+pub fn events_are_pending()
+    ensures { (p : List ℕ) (w v : World) → Course (Spares p) w v → live w.roots p ≡ true
+        → UndisturbedOrPends w v p }
+{}
+
+/// A port that is powered on its whole way, and of which nothing is asked: it stands as it stood, with the same
+/// device or none, reached as it was; or a change of connection is pending on its way.
+pub fn a_port_rests_or_is_pending()
+    ensures rests { (p : List ℕ) (w v : World) → Course (AsksNothingOf p) w v
+        → live w.roots p ≡ true → RestsOrPends w v p }
+    // Where something may be asked of the port itself, but nothing that is pending is cleared: the same device
+    // stands there, or none.
+    ensures itself { (p : List ℕ) (w v : World) → Course (Spares p) w v → live w.roots p ≡ true
+        → StandsOrPends w v p }
+{}
+
+/// An attempt, where no address is held twice: each device that is reachable after it was reachable before, and did
+/// what its law says, if the attempt was for it; nothing, if not (8.5). Setup data may besides reset a device: of
+/// these nothing is said here.
+pub fn what_an_attempt_does_to_a_device()
+    ensures into { (a : Attempt) (w : World) → IsMade a w → IsIn a
+        → (after (attempt a) w).shared ≡ false → EachWas (DidIn a w) w (after (attempt a) w) }
+    ensures out { (a : Attempt) (w : World) (t : Toggle) (bytes : List ℕ) → IsMade a w
+        → IsOut a t bytes → (after (attempt a) w).shared ≡ false
+        → EachWas (DidOut a t bytes w) w (after (attempt a) w) }
+    ensures setup { (a : Attempt) (w : World) (bytes : List ℕ) → IsMade a w → IsSetup a bytes
+        → (after (attempt a) w).shared ≡ false
+        → (j : ℕ) (p : List ℕ) (s : State) → resets (attempt a) w (suc j ∷ p) ≡ false
+        → reach_at (after (attempt a) w).roots j p ≡ true
+        → state_at (after (attempt a) w).roots j p ≡ Some s
+        → Was (DidSetup a bytes w) w j p s }
+{}
+
+/// The addresses stay, and nothing is shared, over a course of control transfers: steps that neither reset a device
+/// nor give one an address, whatever is lost and whatever is plugged.
+pub fn control_courses_keep_addresses()
+    ensures { (f : List ℕ → Option ℕ) → Injective f → (w v : World) → Course GivesNoAddress w v
+        → IsSettled w.roots → Own f w → w.shared ≡ false
+        → Own f v × (v.shared ≡ false) × IsSettled v.roots }
+{}
+
+/// Where no address is held twice, at most one device answers an attempt, whatever is damaged; so no line of the
+/// trace tells of a collision.
+pub fn one_device_at_most_answers()
+    ensures answers { (a : Attempt) (d : Option Damage) (k : Ports) → IsAttempt a → IsSettled k
+        → is_twice (held k) ≡ false
+        → length (told (token_out a d) k ++ told (payload_out a d) (passed (token_out a d) k)) ≤ 1 }
+    ensures heard { (a : Attempt) (d : Option Damage) (k : Ports) → IsAttempt a → IsSettled k
+        → is_twice (held k) ≡ false → heard_in a d k ≡ Collision → ⊥ }
+    ensures line { (a : Attempt) (w : World) → IsAttempt a → IsMade a w
+        → (after (attempt a) w).shared ≡ false → (made_in a (ready w)).answer ≡ Collision → ⊥ }
+{}
+
+/// What is plugged where, and each device's description, is what the events that came have left (7.1.7.3), whatever
+/// else was done.
+pub fn plugged_is_what_the_events_left()
+    ensures events { (plan : PlanData) (w : World) → Course AnyStep (opening plan) w
+        → FollowsPlan plan w }
+    // Each plug is at a port's path, as `Plan::events` ensures: neither the empty one, nor one with a port of
+    // number 0.
+    ensures devices { (plan : PlanData) → IsPlan plan → AtPorts plan.events → (w : World)
+        → Course AnyStep (opening plan) w → (path : List ℕ)
+        → option_map spec_of (state_there w.roots path)
+        ≡ device_indexed plan.devices (index_at (plugged_by [] (take w.taken plan.events)) path) }
+{}
+
+/// Where no event between two worlds named a path or a port on its way, what is plugged there, and on the way, is
+/// the same.
+pub fn undisturbed_keeps_what_is_plugged()
+    ensures there { (p : List ℕ) (w v : World) → Course AnyStep w v → Undisturbed w v p
+        → option_map spec_of (state_there v.roots p) ≡ option_map spec_of (state_there w.roots p) }
+    ensures way { (x p : List ℕ) (w v : World) → is_way x p ≡ true → Course AnyStep w v
+        → Undisturbed w v p
+        → option_map spec_of (state_there v.roots x) ≡ option_map spec_of (state_there w.roots x) }
+    ensures above { (x p : List ℕ) (w v : World) → is_way x p ≡ true → Undisturbed w v p
+        → Undisturbed w v x }
+{}
+
+/// In a course of a plan each device that is plugged has as many ports as its description says.
+pub fn devices_have_their_ports()
+    ensures count { (plan : PlanData) → IsPlan plan → AtPorts plan.events → (w : World)
+        → Course AnyStep (opening plan) w
+        → (i : ℕ) (p : List ℕ) (b : PortState) (s : State) (below : Ports)
+        → place_at w.roots i p ≡ Some (full b s below)
+        → length (row_of below) ≡ hub_ports s.spec.hub }
+    ensures stands { (plan : PlanData) → IsPlan plan → AtPorts plan.events → (w : World)
+        → Course AnyStep (opening plan) w
+        → (i : ℕ) (p : List ℕ) (t : Spec) (m : ℕ)
+        → option_map spec_of (state_there w.roots (suc i ∷ p)) ≡ Some t → m < hub_ports t.hub
+        → is_some (port_there w.roots (suc i ∷ (p ++ (suc m ∷ [])))) ≡ true }
+{}
