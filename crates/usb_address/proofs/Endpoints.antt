@@ -13,7 +13,7 @@ use Rattle.usb_world.specs.World.{World}
 use Rattle.usb_transaction.specs.declared.target.Target.{Target}
 use Rattle.usb_transaction.specs.declared.fault.TransFault.{TransFault}
 use Rattle.usb_transaction.specs.declared.fault.TransFault.TheVariants as trans
-use Rattle.usb_transaction.specs.Heard.{heard_as, sent_as}
+use Rattle.usb_transaction.specs.Heard.{heard_as, polled_as, sent_as}
 use Rattle.usb_transaction.specs.Transactions.{in_attempt, out_attempt, Worked}
 use Rattle.usb_transaction.specs.Trail.{Trail, start, Transacted, Polled}
 use Rattle.usb_pipe.specs.declared.condition.Condition.{Condition}
@@ -43,14 +43,6 @@ module _ (g : BusFault) where
   none_made : (a : Attempt) (old : World) → old.fault ≡ Some g → (outcomes : List Outcome) (mid : World) → Trail a old outcomes mid → mid ≡ old
   none_made a old e [] mid start = refl
   none_made a old e (o ∷ outcomes) mid made = absurd (cc (e, trail_sound made))
-
-  none_polled : (toggle : Toggle) (a : Attempt) (old : World) → old.fault ≡ Some g → (fault : TransFault) (new : World) → Polled toggle a old (Err fault) new → new ≡ old
-  none_polled toggle a old e trans.Stalled new x = absurd (cc (e, trail_sound x.trail))
-  none_polled toggle a old e trans.Busy new x = absurd (cc (e, trail_sound x.trail))
-  none_polled toggle a old e trans.NoAnswer new x = absurd (cc (e, trail_sound x.trail))
-  none_polled toggle a old e (trans.Bus fault) new x =
-      let same : x.mid ≡ old = none_made a old e x.outcomes x.mid x.trail in
-      (x.refused.again g (ap (λ w. w.fault) same ∙ e)).1 ∙ same
 
   none_transacted : (hear : _) (a : Attempt) (old : World) → old.fault ≡ Some g → (fault : TransFault) (new : World) → Transacted hear a old (Err fault) new → new ≡ old
   none_transacted hear a old e trans.Stalled new x = absurd (cc (e, trail_sound x.trail))
@@ -93,7 +85,7 @@ module _ (pipe : Interrupt) (old new : World) where
   none_asked : (result : Result (Option (ArrayVec ℕ)) PipeFault) → PollAsked pipe old result new → (g : BusFault) → old.fault ≡ Some g → new ≡ old
   none_asked (Ok None) x g e = absurd (cc (e, trail_sound x.trail))
   none_asked (Ok (Some packet)) x g e = absurd (cc (e, trail_sound x.trail))
-  none_asked (Err why) x g e = none_polled g pipe.toggle (in_attempt pipe.target pipe.ep) old e x.fault new x.polled
+  none_asked (Err why) x g e = none_transacted g (polled_as pipe.toggle) (in_attempt pipe.target pipe.ep) old e x.fault new x.polled
 
 pub polls_keep : (pipe : Interrupt) → pipe.ep ≢ 0 → (old : World) (result : Result (Option (ArrayVec ℕ)) PipeFault) (left : Interrupt) (new : World) → Polls pipe old result left new → KeepsAddresses old new
 polls_keep pipe far old result left new x =

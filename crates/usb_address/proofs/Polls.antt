@@ -24,7 +24,8 @@ use Rattle.usb_world.proofs.Interface.{both, each_in, each_out, made_of, no, une
 use Rattle.usb_transaction.specs.declared.fault.TransFault.{TransFault}
 use Rattle.usb_transaction.specs.declared.fault.TransFault.TheVariants.{Stalled, Busy, NoAnswer, Bus}
 use Rattle.usb_transaction.specs.Transactions.{in_attempt}
-use Rattle.usb_transaction.specs.Trail.{Trail, start, next, Transacted, Polled, PollCutOff}
+use Rattle.usb_transaction.specs.Heard.{polled_as}
+use Rattle.usb_transaction.specs.Trail.{Trail, start, next, Transacted, Polled}
 use Rattle.usb_pipe.specs.declared.fault.PipeFault.{PipeFault}
 use Rattle.usb_pipe.specs.Control.{fault_of}
 use Rattle.usb_pipe.specs.Interrupt.{Interrupt, PollAsked, Polls}
@@ -135,13 +136,6 @@ far_transacted f a far hear old (Err (Bus fault)) new c o = cut_off f a hear old
 
 -- Polls
 
-poll_cut : (f : List ℕ → Option ℕ) (toggle : Toggle) (a : Attempt) (old : World) (fault : BusFault) (new : World) → (c : PollCutOff toggle a old fault new) → Owned f c.mid → new.shared ≡ false
-poll_cut f toggle a old fault new c o = split c.mid.fault refl
-  where
-    split : (x : Option BusFault) → c.mid.fault ≡ x → new.shared ≡ false
-    split None e = fails_unshared f a c.mid new fault o (c.fails e)
-    split (Some g) e = ap (λ v. v.shared) (c.refused.again g e).1 ∙ o.single
-
 module _ (f : List ℕ → Option ℕ) (p : Interrupt) (far : p.ep ≢ 0) where
   abbrev ask : Attempt
   ask = in_attempt p.target p.ep
@@ -150,10 +144,7 @@ module _ (f : List ℕ → Option ℕ) (p : Interrupt) (far : p.ep ≢ 0) where
   is_far = into (record { kind = refl; payload = refl }) (unequal p.ep 0 far)
 
   failed : (old : World) (fault : TransFault) (new : World) → Polled p.toggle ask old (Err fault) new → Owned f old → LeavesTrans {A = List ℕ} (Owned f) (Err fault) new
-  failed old Stalled new e o = trail_far f ask is_far e.trail o
-  failed old Busy new e o = trail_far f ask is_far e.trail o
-  failed old NoAnswer new e o = trail_far f ask is_far e.trail o
-  failed old (Bus fault) new c o = poll_cut f p.toggle ask old fault new c (trail_far f ask is_far c.trail o)
+  failed old fault new e o = far_transacted f ask is_far (polled_as p.toggle) old (Err fault) new e o
 
   told : (fault : TransFault) (why : PipeFault) (new : World) → why ≡ fault_of fault → LeavesTrans {A = List ℕ} (Owned f) (Err fault) new → LeavesPipe {A = Option (ArrayVec ℕ)} (Owned f) (Err why) new
   told Stalled why new e h = subst (λ x. LeavesPipe {A = Option (ArrayVec ℕ)} (Owned f) (Err x) new) (sym e) h

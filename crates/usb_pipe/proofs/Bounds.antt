@@ -1,7 +1,6 @@
 -- How many attempts a control transfer may take.
-use Rattle.std.proofs.Common.{◌≡◌, refl, arith, true, false, Bool}
+use Rattle.std.proofs.Common.{◌≡◌, refl, arith, true, false, Bool, ℕ, ◌+◌, ◌*◌, ◌≤◌, nat_le, if◌then◌else◌, mul-le-mul_left}
 use Rattle.std.proofs.lemmas.Bool.{le-leb, leb-true}
-use Rattle.std.specs.Prelude.{ℕ, ◌+◌, ◌*◌, ◌≤◌, nat_le, if◌then◌else◌}
 use Rattle.usb_pipe.specs.Control.{byte_bound, control_bound}
 
 -- where a packet has room for 8 bytes
@@ -9,18 +8,11 @@ pub bound_wide : (max length : ℕ) → 8 ≤ max → control_bound max length �
 unfolding control_bound byte_bound
 bound_wide max length wide = rw (le-leb 8 max wide) refl
 
-bound_grows_by : (b : Bool) (m n : ℕ) → m ≤ n → (if b then 100 else 768) * m ≤ (if b then 100 else 768) * n
-bound_grows_by true m n le = omega arith
-bound_grows_by false m n le = omega arith
-
 pub bound_grows : (max m n : ℕ) → m ≤ n → byte_bound max * m ≤ byte_bound max * n
-unfolding byte_bound
-bound_grows max m n le = bound_grows_by (nat_le 8 max) m n le
+bound_grows max m n le = mul-le-mul_left (byte_bound max) le
 
 full_packet_by : (b : Bool) (max m n : ℕ) → nat_le 8 max ≡ b → 1 ≤ max → m + max ≤ n → (if b then 100 else 768) * m + 768 ≤ (if b then 100 else 768) * n
-full_packet_by true max m n is some le =
-    let wide : 8 ≤ max = leb-true 8 max is in
-    omega arith
+full_packet_by true max m n is some le = let wide : 8 ≤ max = leb-true 8 max is in omega arith
 full_packet_by false max m n is some le = omega arith
 
 -- a packet of the maximum pays for its transaction

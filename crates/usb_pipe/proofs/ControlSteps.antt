@@ -1,133 +1,65 @@
--- The transactions of a control transfer, and what each leaves of each device.
-use Rattle.std.proofs.Common.{◌≡◌, ℕ, ◌+◌, nat_le, ◌&&◌, if◌then◌else◌, Bool, true, false, List, length, Option, None, Some, is_some, refl, sym, subst, ◌∙◌, ◌≢◌, zero, suc, ◌%◌, ◌==◌, not, ap, arith}
+-- The transactions of a control transfer: what each leaves of each device, and how they join.
 use Rattle.std.specs.Prelude.{Result, Ok, Err}
+use Rattle.std.proofs.Common.{◌≡◌, ℕ, ◌+◌, nat_le, ◌&&◌, if◌then◌else◌, Bool, true, false, List, length, Option, None, Some, is_some, refl, sym, subst, ◌∙◌, ◌≢◌, zero, suc, ◌%◌, ◌==◌, not, ap, arith, ◌<◌, ◌≤◌, []}
 use Rattle.std.proofs.lemmas.Bool.Decides.{nat_tests}
+use Rattle.std.proofs.lemmas.Option.{same_Some}
 use Rattle.usb_packet.specs.declared.Toggle.{Toggle}
 use Rattle.usb_packet.specs.declared.Toggle.TheVariants.{Zero, One}
+use Rattle.usb_request.specs.Layout.{bytes_of, setup_of, IsToHost}
 use Rattle.usb_request.specs.declared.setup.Setup.{Setup}
-use Rattle.usb_request.specs.Layout.{bytes_of, setup_of}
 use Rattle.usb_port.specs.PortState.{PortState}
-use Rattle.usb_device.specs.declared.answer.Answer.TheVariants.{Nak}
-use Rattle.usb_device.specs.Tree.{row_of}
-use Rattle.usb_device.specs.Transfer.{reading, max_packet, packet_at, toggle_at}
-use Rattle.usb_device.specs.Rows.{State, Reply, forgotten, is_busy, nak_row, accepted}
-use Rattle.usb_device.specs.Attempt.{Way, whole, broken, lost, is_whole, heard, gave, in_stage_law, in_law}
+use Rattle.usb_device.specs.Attempt.{Way, is_whole, gave, in_law}
 use Rattle.usb_device.specs.Progress.{OnlyControl, OnlyStage}
+use Rattle.usb_device.specs.Rows.{State, Reply, forgotten, is_busy}
+use Rattle.usb_device.specs.Transfer.{reading, max_packet, packet_at, toggle_at}
+use Rattle.usb_device.specs.Tree.{row_of}
 use Rattle.usb_device.specs.declared.transfer.Giver.TheVariants as by
-use Rattle.usb_world.specs.declared.types.Outcome.{Outcome}
+use Rattle.usb_world.specs.Courses.{is_harmless}
+use Rattle.usb_world.specs.Devices.{Relation, EachWas, DidIn, Was}
 use Rattle.usb_world.specs.Passes.{IsSettled}
-use Rattle.usb_world.specs.World.{World}
 use Rattle.usb_world.specs.Steps.{attempt, after}
-use Rattle.usb_world.specs.Devices.{Relation, EachWas, DidIn}
-use Rattle.usb_world.specs.declared.types.Attempt.{Attempt}
 use Rattle.usb_world.specs.Wire.{damage_of}
+use Rattle.usb_world.specs.World.{World}
+use Rattle.usb_world.specs.declared.types.Attempt.{Attempt}
+use Rattle.usb_world.specs.declared.types.Outcome.{Outcome}
 use Rattle.usb_world.proofs.Interface.{each_in, each_wider}
-use Rattle.usb_transaction.specs.declared.target.Target.{Target}
-use Rattle.usb_transaction.specs.declared.fault.TransFault.{TransFault}
-use Rattle.usb_transaction.specs.Heard.{heard_as, set_up_as, flip}
+use Rattle.usb_transaction.specs.Failures.{NoThreeDamaged, WhySetup, WhyControlIn, WhyReadStatus}
+use Rattle.usb_transaction.specs.Heard.{heard_as}
+use Rattle.usb_transaction.specs.Leaves.{ControlIn, SetupDone, is_at, ReadStatus, IsNotOfBus as TransNotOfBus}
+use Rattle.usb_transaction.specs.Losses.{begins_no_stretch, LossesIn, LosesNone}
+use Rattle.usb_transaction.specs.SparedDevices.{EachSpared, IsSpared}
 use Rattle.usb_transaction.specs.Trail.{IsNoEnd, Ended, Transacted}
-use Rattle.usb_transaction.specs.Transactions.{in_attempt, setup_attempt}
-use Rattle.usb_transaction.specs.declared.fault.TransFault.TheVariants.{Stalled, Busy, NoAnswer, Bus}
-use Rattle.usb_transaction.specs.Leaves.{ControlIn, AcceptedAt, SetupDone}
-use Rattle.usb_transaction.specs.SparedDevices.{EachSpared}
-use Rattle.usb_transaction.specs.Failures.{NoThreeDamaged, WhySetup}
+use Rattle.usb_transaction.specs.Transactions.{in_attempt}
+use Rattle.usb_transaction.specs.declared.fault.TransFault.{TransFault}
 use Rattle.usb_transaction.specs.declared.fault.TransFault.TheVariants as trans
-use Rattle.usb_transaction.proofs.Interface.{LastIs, StepsSo, control_leaves, each_both, each_cut, each_ended, set_up_why, setup_leaves, spared_both, trail_damages, trail_settled, trail_unshared}
-use Rattle.usb_pipe.specs.declared.fault.PipeFault.{PipeFault}
+use Rattle.usb_transaction.specs.declared.target.Target.{Target}
+use Rattle.usb_transaction.proofs.Interface.{at_end, control_leaves, each_device, over_in, set_up_why, setup_leaves, trail_damages, trail_settled, trail_unshared, other_twice, status_leaves, transacted_unshared, control_in_why, in_losses, set_up_losses, spared_joined, spared_wider, read_status_why, out_losses, read_losses}
 use Rattle.usb_pipe.specs.Control.{fault_of}
+use Rattle.usb_pipe.specs.Leaves.{IsNotOfBus}
+use Rattle.usb_pipe.specs.Stages.{SetUp, Asks, Confirms}
+use Rattle.usb_packet.specs.Toggles.{other}
 use Rattle.usb_pipe.specs.Toggles.{flips}
-use Rattle.usb_pipe.specs.Leaves.{IsNotOfBus, AcceptedIn}
+use Rattle.usb_pipe.specs.declared.fault.PipeFault.{PipeFault}
+use Rattle.usb_pipe.proofs.TransactionFaults.{Fell}
 
--- One attempt with one device
+-- What a transaction's answer says of its worlds
 
-pub data IsReading (s : State) : Type 0 where
-  reads : (answer : List ℕ) (wanted known : ℕ) → s.stage ≡ reading answer wanted known → IsReading s
+-- the fault is not of the bus: the transaction ended
+pub ended_by : {hear : _} {a : Attempt} {old new : World} (result : Result (List ℕ) TransFault) → TransNotOfBus result → Transacted hear a old result new → Ended hear a old result new
+ended_by (Err (trans.Bus fault)) sound x = absurd sound
+ended_by result sound x = x
 
--- still in the data stage, with the same registers
-abbrev Stays : State → State → Type 0
-Stays s v = IsReading v × (v.registers ≡ s.registers)
+-- the fault of the bus is the transaction's just where it is the transfer's
+pub sound_in : (A : Type 0) (fault : TransFault) → IsNotOfBus {A = A} (Err (fault_of fault)) → TransNotOfBus {A = List ℕ} (Err fault)
+sound_in A (trans.Bus fault) sound = sound
+sound_in A fault sound = tt
 
-abbrev at_reading : List ℕ → ℕ → ℕ → State → State
-at_reading answer wanted known s = record s { stage = reading answer wanted known }
-
-still : (answer : List ℕ) (wanted k : ℕ) (s : State) → Stays (at_reading answer wanted k s) (at_reading answer wanted k s)
-still answer wanted k s = (reads answer wanted k refl, refl)
-
--- the ACK of a packet came, or it did not; and there was a packet, or there was none
-given_stays : (answer : List ℕ) (wanted k : ℕ) (s : State) (x y : Bool)
-    → Stays (at_reading answer wanted k s) (if x then forgotten (if y then at_reading answer wanted (k + 1) s else at_reading answer wanted k s) else at_reading answer wanted k s)
-given_stays answer wanted k s true true = (reads answer wanted (k + 1) refl, refl)
-given_stays answer wanted k s true false = (reads answer wanted k refl, refl)
-given_stays answer wanted k s false y = still answer wanted k s
-
-asked_stays : (answer : List ℕ) (wanted k max : ℕ) (s : State) (t2 t3 : Way) (o : Option (List ℕ))
-    → Stays (at_reading answer wanted k s) (elim o as (λ _. Reply) [ None ↦ (None, at_reading answer wanted k s) | Some bytes ↦ gave (at_reading answer wanted k s) by.Control max (toggle_at k) bytes t2 t3 ]).1
-asked_stays answer wanted k max s t2 t3 None = still answer wanted k s
-asked_stays answer wanted k max s t2 t3 (Some bytes) = given_stays answer wanted k s (is_whole t2 && nat_le (length bytes) max && is_whole t3) (is_some (packet_at (max_packet s.spec) wanted answer k))
-
-control_stays : (answer : List ℕ) (wanted k max : ℕ) (s : State) (t2 t3 : Way) (busy : Bool)
-    → Stays (at_reading answer wanted k s)
-    (if busy then (heard t2 (Some Nak), (nak_row (at_reading answer wanted k s)).1) else in_stage_law (at_reading answer wanted k s) (reading answer wanted k) max t2 t3).1
-control_stays answer wanted k max s t2 t3 true = (reads answer wanted k refl, refl)
-control_stays answer wanted k max s t2 t3 false = asked_stays answer wanted k max s t2 t3 (packet_at (max_packet s.spec) wanted answer k)
-
-in_stays : (answer : List ℕ) (wanted k max : ℕ) (s : State) (row : List PortState) (t1 t2 t3 : Way)
-    → Stays (at_reading answer wanted k s) (in_law (at_reading answer wanted k s) row 0 max t1 t2 t3).1
-in_stays answer wanted k max s row whole t2 t3 = control_stays answer wanted k max s t2 t3 (is_busy s)
-in_stays answer wanted k max s row broken t2 t3 = still answer wanted k s
-in_stays answer wanted k max s row lost t2 t3 = still answer wanted k s
-
--- Over a transaction
-
-abbrev pub Steady : Relation
-Steady j p s v = IsReading s → Stays s v
-
-steady_asked : (max : ℕ) (s : State) (row : List PortState) (t1 t2 t3 : Way) → IsReading s → Stays s (in_law s row 0 max t1 t2 t3).1
-steady_asked max s row t1 t2 t3 (reads answer wanted k h) =
-    subst (λ st. Stays (record s { stage = st }) (in_law (record s { stage = st }) row 0 max t1 t2 t3).1) (sym h) (in_stays answer wanted k max s row t1 t2 t3)
-
-steady_did : (t : Target) (w : World) (j : ℕ) (p : List ℕ) (s v : State) → DidIn (in_attempt t 0) w j p s v → Steady j p s v
-steady_did t w j p s v (DidIn.other d e) h = subst (λ x. Stays s x) (sym e) (h, refl)
-steady_did t w j p s v (DidIn.silent d q o e) h = subst (λ x. Stays s x) (sym e) (h, refl)
-steady_did t w j p s v (DidIn.asked d q b below f x o e) h = subst (λ y. Stays s y) (sym e) (steady_asked t.max s (row_of below) x.first x.second x.third h)
-
-steady_twice : (j : ℕ) (p : List ℕ) (s u v : State) → Steady j p s u → Steady j p u v → Steady j p s v
-steady_twice j p s u v x y h = ((y (x h).0).0, (y (x h).0).1 ∙ (x h).1)
-
-module _ (t : Target) where
-  each_attempt : (P : Outcome → Type 0) (old : World) → StepsSo Steady (in_attempt t 0) old P
-  each_attempt P old outcomes w trail made single o =
-      each_wider (DidIn (in_attempt t 0) w) Steady (steady_did t w) w (after (attempt (in_attempt t 0)) w) (each_in (in_attempt t 0) w made (record { kind = refl; payload = refl }) single)
-
-  ended_steady : (awaited : Toggle) (result : Result (List ℕ) TransFault) (old new : World) → IsSettled old.roots → Ended (heard_as awaited) (in_attempt t 0) old result new → new.shared ≡ false → EachWas Steady old new
-  ended_steady awaited result old new settled x single =
-      each_ended Steady Steady Steady (λ j p s h. (h, refl)) steady_twice steady_twice
-      (each_attempt (λ o. IsNoEnd (heard_as awaited o)) old) (each_attempt (LastIs (heard_as awaited) result) old) settled x single
-
-  pub each_steady : (awaited : Toggle) (result : Result (List ℕ) TransFault) (old new : World) → IsSettled old.roots → Transacted (heard_as awaited) (in_attempt t 0) old result new → new.shared ≡ false → EachWas Steady old new
-  each_steady awaited (Ok bytes) old new settled x single = ended_steady awaited (Ok bytes) old new settled x single
-  each_steady awaited (Err Stalled) old new settled x single = ended_steady awaited (Err Stalled) old new settled x single
-  each_steady awaited (Err Busy) old new settled x single = ended_steady awaited (Err Busy) old new settled x single
-  each_steady awaited (Err NoAnswer) old new settled x single = ended_steady awaited (Err NoAnswer) old new settled x single
-  each_steady awaited (Err (Bus fault)) old new settled x single =
-      each_cut Steady Steady Steady (λ j p s h. (h, refl)) steady_twice (λ j p s v h. h) steady_twice
-      (each_attempt (λ o. IsNoEnd (heard_as awaited o)) old) (each_attempt (λ o. Unit {0}) old) settled x single
-
--- The worlds between
-
--- a transaction whose fault is none of the bus
 pub ended : (A : Type 0) {hear : _} {a : Attempt} {old new : World} (why : PipeFault) (fault : TransFault) → why ≡ fault_of fault → IsNotOfBus {A = A} (Err why) → Transacted hear a old (Err fault) new → Ended hear a old (Err fault) new
-ended A why trans.Stalled e n t = t
-ended A why trans.Busy e n t = t
-ended A why trans.NoAnswer e n t = t
-ended A why (trans.Bus fault) e n t = absurd (subst (λ x. IsNotOfBus {A = A} (Err x)) e n)
+ended A why fault told sound x = ended_by (Err fault) (sound_in A fault (subst (λ w. IsNotOfBus {A = A} (Err w)) told sound)) x
 
 -- one that was refused ended
-pub ended_stalled : {hear : _} {a : Attempt} {old new : World} (fault : TransFault) → Transacted hear a old (Err fault) new → ◌≡◌ {A = Result (List ℕ) TransFault} (Err fault) (Err trans.Stalled) → Ended hear a old (Err fault) new
-ended_stalled trans.Stalled x e = x
-ended_stalled trans.Busy x e = x
-ended_stalled trans.NoAnswer x e = x
-ended_stalled (trans.Bus fault) x e = cc e
+pub ended_stalled : {hear : _} {a : Attempt} {old new : World} (fault : TransFault) → Transacted hear a old (Err fault) new → Fell fault trans.Stalled → Ended hear a old (Err fault) new
+ended_stalled fault x e = ended_by (Err fault) (subst (λ r. TransNotOfBus r) (sym e) tt) x
 
 pub ended_settled : {hear : _} {a : Attempt} {old new : World} {result : Result (List ℕ) TransFault} → Ended hear a old result new → IsSettled old.roots → IsSettled new.roots
 ended_settled x h = trail_settled x.trail h
@@ -141,81 +73,198 @@ ended_damages x = trail_damages x.trail
 pub never_three : (old new : World) → new.damages ≡ old.damages → NoThreeDamaged old → NoThreeDamaged new
 never_three old new e three = subst (λ d. (n : ℕ) → damage_of d n ≢ None → damage_of d (n + 1) ≢ None → damage_of d (n + 2) ≢ None → ⊥) (sym e) three
 
-pub transacted_of : {hear : _} {a : Attempt} {old new : World} (result : Result (List ℕ) TransFault) → Ended hear a old result new → Transacted hear a old result new
-transacted_of (Ok bytes) x = x
-transacted_of (Err trans.Stalled) x = x
-transacted_of (Err trans.Busy) x = x
-transacted_of (Err trans.NoAnswer) x = x
-transacted_of (Err (trans.Bus fault)) x = absurd x.tells
+-- One IN of endpoint 0 keeps the registers of a device in the data stage of a read
 
--- Each transaction
+pub data IsReading (s : State) : Type 0 where
+  reads : (answer : List ℕ) (wanted known : ℕ) → s.stage ≡ reading answer wanted known → IsReading s
+
+abbrev Stays : State → State → Type 0
+Stays s v = IsReading v × (v.registers ≡ s.registers)
+
+abbrev pub Steady : Relation
+Steady j p s v = IsReading s → Stays s v
+
+abbrev at_reading : List ℕ → ℕ → ℕ → State → State
+at_reading answer wanted known s = record s { stage = reading answer wanted known }
+
+-- each branch of a choice
+pub either_way : {A : Type 0} (P : A → Type 0) (b : Bool) (x y : A) → P x → P y → P (if b then x else y)
+either_way P true x y h g = h
+either_way P false x y h g = g
+
+-- the ACK of a packet came, or it did not; and there was a packet, or there was none
+asked_stays : (answer : List ℕ) (wanted k max : ℕ) (s : State) (t2 t3 : Way) (o : Option (List ℕ))
+    → Stays (at_reading answer wanted k s) (elim o as (λ _. Reply) [ None ↦ (None, at_reading answer wanted k s) | Some bytes ↦ gave (at_reading answer wanted k s) by.Control max (toggle_at k) bytes t2 t3 ]).1
+asked_stays answer wanted k max s t2 t3 None = (reads answer wanted k refl, refl)
+asked_stays answer wanted k max s t2 t3 (Some bytes) =
+    either_way (λ v. Stays (at_reading answer wanted k s) v) (is_whole t2 && nat_le (length bytes) max && is_whole t3) _ _
+    (either_way (λ (v : State). Stays (at_reading answer wanted k s) (forgotten v)) (is_some (packet_at (max_packet s.spec) wanted answer k)) (at_reading answer wanted (k + 1) s) (at_reading answer wanted k s)
+    (reads answer wanted (k + 1) refl, refl) (reads answer wanted k refl, refl)) (reads answer wanted k refl, refl)
+
+in_stays : (answer : List ℕ) (wanted k max : ℕ) (s : State) (row : List PortState) (t1 t2 t3 : Way)
+    → Stays (at_reading answer wanted k s) (in_law (at_reading answer wanted k s) row 0 max t1 t2 t3).1
+in_stays answer wanted k max s row t1 t2 t3 =
+    let Q = λ (r : Reply). Stays (at_reading answer wanted k s) r.1 in
+    either_way Q (is_whole t1) _ _ (either_way Q (is_busy s) _ _ (reads answer wanted k refl, refl) (asked_stays answer wanted k max s t2 t3 (packet_at (max_packet s.spec) wanted answer k))) (reads answer wanted k refl, refl)
+
+steady_asked : (max : ℕ) (s : State) (row : List PortState) (t1 t2 t3 : Way) → IsReading s → Stays s (in_law s row 0 max t1 t2 t3).1
+steady_asked max s row t1 t2 t3 (reads answer wanted k h) =
+    subst (λ st. Stays (record s { stage = st }) (in_law (record s { stage = st }) row 0 max t1 t2 t3).1) (sym h) (in_stays answer wanted k max s row t1 t2 t3)
+
+steady_did : (t : Target) (w : World) (j : ℕ) (p : List ℕ) (s v : State) → DidIn (in_attempt t 0) w j p s v → Steady j p s v
+steady_did t w j p s v (DidIn.other d e) h = subst (λ x. Stays s x) (sym e) (h, refl)
+steady_did t w j p s v (DidIn.silent d q o e) h = subst (λ x. Stays s x) (sym e) (h, refl)
+steady_did t w j p s v (DidIn.asked d q b below f x o e) h = subst (λ y. Stays s y) (sym e) (steady_asked t.max s (row_of below) x.first x.second x.third h)
+
+stays_then : (t : Target) (w : World) (j : ℕ) (p : List ℕ) (s u v : State) → Stays s u → DidIn (in_attempt t 0) w j p u v → Stays s v
+stays_then t w j p s u v x d = let y = steady_did t w j p u v d x.0 in (y.0, y.1 ∙ x.1)
+
+each_steady : (t : Target) (awaited : Toggle) (result : Result (List ℕ) TransFault) (old new : World) → IsSettled old.roots → Transacted (heard_as awaited) (in_attempt t 0) old result new → new.shared ≡ false → EachWas Steady old new
+each_steady t awaited result old new settled x single =
+    each_device _ Steady old new
+    (λ j p s v run h. at_end (heard_as awaited) (λ outcomes w u. Stays s u) (h, refl) (λ outcomes w u y trail made is d n. stays_then t w j p s u y is d) (λ y. Stays s y) v
+    (λ outcomes w u trail is d l told. stays_then t w j p s u v is d) (λ gave outcomes w is. is) run)
+    (over_in t 0 old new settled single (heard_as awaited) result x)
+
+-- What a transaction leaves of each device, with why it fails and what it loses
+
+-- another relation of the same device
+also : {R : Relation} (S : Relation) {w : World} {j : ℕ} {p : List ℕ} {v : State} (a : Was R w j p v) → Was S w j p v → S j p a.before v
+also S {j = j} {p} {v} a b = subst (λ d. S j p d v) (same_Some b.before a.before (sym b.stands ∙ a.stands)) b.so
+
+so_too : {R : Relation} (T : Relation) {w : World} {j : ℕ} {p : List ℕ} {v : State} (a : Was R w j p v) → T j p a.before v → Was T w j p v
+so_too T a x = record { before = a.before; on = a.on; stands = a.stands; so = x }
+
+-- an IN of endpoint 0; with DATA1 it may end a request without data
+pub record Asked (t : Target) (awaited : Toggle) (result : Result (List ℕ) TransFault) (old new : World) (j : ℕ) (p : List ℕ) (s v : State) : Type 0 where
+  pub leaves : ControlIn t awaited result j p s v
+  pub steady : Steady j p s v
+  pub why : NoThreeDamaged old → TransNotOfBus result → WhyControlIn t awaited result j p s v
+  pub kept : TransNotOfBus result → LosesNone t old new j p s v
+  pub losses : TransNotOfBus result → awaited ≡ One → LossesIn t result old new j p s v
+
+pub asked_leaves : (t : Target) (awaited : Toggle) (result : Result (List ℕ) TransFault) (old new : World) → Asks t awaited old result new → IsSettled old.roots → new.shared ≡ false → EachWas (Asked t awaited result old new) old new
+asked_leaves t awaited result old new x settled single j p v on there =
+    let a : Was (ControlIn t awaited result) old j p v = control_leaves t awaited result old new settled x single j p v on there in
+    so_too (Asked t awaited result old new) a (record {
+      leaves = a.so;
+      steady = also Steady a (each_steady t awaited result old new settled x single j p v on there);
+      why = λ three sound. also (WhyControlIn t awaited result) a (control_in_why t awaited result old new settled three (ended_by result sound x) single j p v on there);
+      kept = λ sound. also (LosesNone t old new) a (read_losses t awaited result old new settled (ended_by result sound x) single j p v on there);
+      losses = λ sound one. also (LossesIn t result old new) a (in_losses t result old new settled (subst (λ b. Ended (heard_as b) (in_attempt t 0) old result new) one (ended_by result sound x)) single j p v on there);
+    })
+
+-- the OUT that ends a read
+pub record Confirmed (t : Target) (result : Result (List ℕ) TransFault) (old new : World) (j : ℕ) (p : List ℕ) (s v : State) : Type 0 where
+  pub leaves : ReadStatus t result j p s v
+  pub why : NoThreeDamaged old → TransNotOfBus result → WhyReadStatus t result j p s v
+  pub kept : TransNotOfBus result → new.losses ≡ old.losses
+
+pub confirmed_leaves : (t : Target) (result : Result (List ℕ) TransFault) (old new : World) → Confirms t old result new → IsSettled old.roots → new.shared ≡ false → EachWas (Confirmed t result old new) old new
+confirmed_leaves t result old new x settled single j p v on there =
+    let a : Was (ReadStatus t result) old j p v = status_leaves t result old new settled x single j p v on there in
+    so_too (Confirmed t result old new) a (record {
+      leaves = a.so;
+      why = λ three sound. also (WhyReadStatus t result) a (read_status_why t result old new settled three (ended_by result sound x) single j p v on there);
+      kept = λ sound. out_losses t 0 One [] old new settled (ended_by result sound x).trail;
+    })
+
+-- a SETUP
+pub record Requested (t : Target) (request : Setup) (result : Result (List ℕ) TransFault) (old new : World) (j : ℕ) (p : List ℕ) (s v : State) : Type 0 where
+  pub done : SetupDone t (bytes_of request) result old new j p s v
+  pub why : NoThreeDamaged old → TransNotOfBus result → WhySetup t result j p s v
+  pub kept : begins_no_stretch request ≡ true → TransNotOfBus result → new.losses ≡ old.losses
 
 pub eight_bytes : (request : Setup) → length (bytes_of request) ≡ 8
 unfolding bytes_of
 eight_bytes request = refl
 
-pub request_leaves : (t : Target) (request : Setup) (result : Result (List ℕ) TransFault) (old new : World) → setup_of (bytes_of request) ≡ request → IsSettled old.roots
-    → Transacted set_up_as (setup_attempt t (bytes_of request)) old result new → new.shared ≡ false → EachSpared t request (SetupDone t (bytes_of request) result old new) old new
-request_leaves t request result old new e settled x single =
-    subst (λ r. EachSpared t r (SetupDone t (bytes_of request) result old new) old new) e (setup_leaves t (bytes_of request) result old new (eight_bytes request) settled x single)
+pub requested_leaves : (t : Target) (request : Setup) (result : Result (List ℕ) TransFault) (old new : World) → setup_of (bytes_of request) ≡ request → IsSettled old.roots → SetUp t request old result new → new.shared ≡ false
+    → EachSpared t request (Requested t request result old new) old new
+requested_leaves t request result old new same settled x single j p v on there spared =
+    let bytes : List ℕ = bytes_of request in
+    let is_spared : IsSpared t (setup_of bytes) v = subst (λ r. IsSpared t r v) (sym same) spared in
+    let a : Was (SetupDone t bytes result old new) old j p v = setup_leaves t bytes result old new (eight_bytes request) settled x single j p v on there is_spared in
+    so_too (Requested t request result old new) a (record {
+      done = a.so;
+      why = λ three sound. also (WhySetup t result) a (set_up_why t bytes result old new (eight_bytes request) settled three (ended_by result sound x) single j p v on there is_spared);
+      kept = λ plain sound. set_up_losses t bytes old new (ap begins_no_stretch same ∙ plain) settled (ended_by result sound x).trail;
+    })
 
--- and why it fails
-abbrev pub SetUpWhy : Target → Setup → Result (List ℕ) TransFault → World → World → Relation
-SetUpWhy t request result old new j p s v = SetupDone t (bytes_of request) result old new j p s v × WhySetup t result j p s v
+-- A transfer so far
 
-pub request_why : (t : Target) (request : Setup) (result : Result (List ℕ) TransFault) (old new : World) → setup_of (bytes_of request) ≡ request → IsSettled old.roots → NoThreeDamaged old
-    → Ended set_up_as (setup_attempt t (bytes_of request)) old result new → new.shared ≡ false → EachSpared t request (SetUpWhy t request result old new) old new
-request_why t request result old new e settled three x single =
-    spared_both t request (SetupDone t (bytes_of request) result old new) (WhySetup t result) old new (request_leaves t request result old new e settled (transacted_of result x) single)
-    (subst (λ r. EachSpared t r (WhySetup t result) old new) e (set_up_why t (bytes_of request) result old new (eight_bytes request) settled three x single))
+-- only a device at the target changes, and this is so of it
+pub record Only (t : Target) (P : Relation) (j : ℕ) (p : List ℕ) (s v : State) : Type 0 where
+  pub others : is_at s t ≡ false → v ≡ s
+  pub mine : is_at s t ≡ true → P j p s v
 
--- an IN of endpoint 0
-abbrev pub AskedLeaves : Target → Toggle → Result (List ℕ) TransFault → Relation
-AskedLeaves t awaited result j p s v = ControlIn t awaited result j p s v × Steady j p s v
+pub record Reached (t : Target) (request : Setup) (P : Relation) (old now : World) : Type 0 where
+  pub settled : IsSettled now.roots
+  pub damages : now.damages ≡ old.damages
+  pub each : now.shared ≡ false → EachSpared t request (Only t P) old now
 
-pub asked_leaves : (t : Target) (awaited : Toggle) (result : Result (List ℕ) TransFault) (old new : World) → IsSettled old.roots
-    → Transacted (heard_as awaited) (in_attempt t 0) old result new → new.shared ≡ false → EachWas (AskedLeaves t awaited result) old new
-asked_leaves t awaited result old new settled x single =
-    each_both (ControlIn t awaited result) Steady old new (control_leaves t awaited result old new settled x single) (each_steady t awaited result old new settled x single)
+-- its SETUP
+pub only_first : (t : Target) (request : Setup) (Q : Relation) {old new : World} (result : Result (List ℕ) TransFault) → setup_of (bytes_of request) ≡ request → IsSettled old.roots → SetUp t request old result new
+    → ((j : ℕ) (p : List ℕ) (s v : State) → is_at s t ≡ true → Requested t request result old new j p s v → Q j p s v) → new.shared ≡ false → EachSpared t request (Only t Q) old new
+only_first t request Q {old} {new} result same settled x f single =
+    spared_wider t request (Requested t request result old new) (Only t Q) (λ j p s v y. record { others = y.done.others; mine = λ at. f j p s v at y }) old new (requested_leaves t request result old new same settled x single)
+
+pub reached_first : (t : Target) (request : Setup) (Q : Relation) {old now : World} → setup_of (bytes_of request) ≡ request → IsSettled old.roots → SetUp t request old (Ok []) now
+    → ((j : ℕ) (p : List ℕ) (s v : State) → is_at s t ≡ true → Requested t request (Ok []) old now j p s v → Q j p s v) → Reached t request Q old now
+reached_first t request Q same settled x f = record { settled = ended_settled x settled; damages = ended_damages x; each = only_first t request Q (Ok []) same settled x f }
+
+-- its last transaction
+pub reached_last : {t : Target} {request : Setup} {P : Relation} (S Q : Relation) {old mid : World} (hear : _) (a : Attempt) (new : World) (result : Result (List ℕ) TransFault)
+    → ((j : ℕ) (p : List ℕ) (s v : State) → S j p s v → is_at s t ≡ false → v ≡ s) → ((j : ℕ) (p : List ℕ) (s u v : State) → is_at s t ≡ true → P j p s u → S j p u v → Q j p s v)
+    → Reached t request P old mid → Transacted hear a mid result new → (IsSettled mid.roots → new.shared ≡ false → EachWas S mid new) → new.shared ≡ false → EachSpared t request (Only t Q) old new
+reached_last {t} {request} {P} S Q {old} {mid} hear a new result others f r x each single =
+    spared_joined t request (Only t P) S (Only t Q) others
+    (λ j p s u v y z. record { others = other_twice t s u v y.others (others j p u v z); mine = λ at. f j p s u v at (y.mine at) z }) old mid new
+    (r.each (transacted_unshared hear a mid new result x r.settled single)) (each r.settled single)
+
+-- one transaction more
+pub reached_more : {t : Target} {request : Setup} {P : Relation} (S Q : Relation) {old mid new : World} {hear : _} {a : Attempt} (bytes : List ℕ)
+    → ((j : ℕ) (p : List ℕ) (s v : State) → S j p s v → is_at s t ≡ false → v ≡ s) → ((j : ℕ) (p : List ℕ) (s u v : State) → is_at s t ≡ true → P j p s u → S j p u v → Q j p s v)
+    → Reached t request P old mid → Ended hear a mid (Ok bytes) new → (IsSettled mid.roots → new.shared ≡ false → EachWas S mid new) → Reached t request Q old new
+reached_more S Q bytes others f r x each = record {
+  settled = ended_settled x r.settled;
+  damages = ended_damages x ∙ r.damages;
+  each = λ single. reached_last S Q _ _ _ (Ok bytes) others f r x each single;
+}
 
 -- One device
 
--- the request was accepted, the last time with these ports
-pub record Accepted (request : Setup) (s v : State) : Type 0 where
-  pub row : List PortState
-  pub is : v ≡ accepted s row request
-
-abbrev pub accepted_at : {t : Target} (request : Setup) {old now : World} {j : ℕ} {p : List ℕ} (s v : State) → setup_of (bytes_of request) ≡ request
-    → AcceptedAt t (bytes_of request) old now j p s v → Accepted request s v
-accepted_at request s v e x = record { row = row_of x.below; is = x.is ∙ ap (λ r. accepted s (row_of x.below) r) e }
-
-abbrev pub accepted_in : {t : Target} {request : Setup} {old now : World} {j : ℕ} {p : List ℕ} (s v : State) (x : AcceptedAt t (bytes_of request) old now j p s v)
-    → AcceptedIn t request old now j p (row_of x.below) s
-accepted_in s v x = record { state = v; at = x; had = refl }
-
-pub only_twice : (s u v : State) → OnlyControl s u → OnlyControl u v → OnlyControl s v
-only_twice s u v f g = g ∙ ap {A = State} (λ x. record x { memory = v.memory; naks = v.naks; stage = v.stage; registers = v.registers }) f
+-- it had the address, or another one
+pub no_other : (t : Target) (s : State) {P : Type 0} → is_at s t ≡ true → is_at s t ≡ false → P
+no_other t s at off = cc (sym at ∙ off)
 
 -- where the registers stay, only the stage changes
 pub only_stage : (s v : State) → OnlyControl s v → v.registers ≡ s.registers → OnlyStage s v
 only_stage s v f e = f ∙ ap {A = _} {B = State} (λ g. record s { memory = v.memory; naks = v.naks; stage = v.stage; registers = g }) e
 
+-- Requests for data
+
+pub other_type : (n type : ℕ) (b : Bool) → 128 ≤ n → type < 128 → (n == type && b) ≡ false
+other_type n type b h g = grind (arith, nat_tests, h, g)
+
+-- one resets no port, and clears no change of connection
+
+pub host_harmless : (r : Setup) → IsToHost r → is_harmless r ≡ true
+host_harmless r h = ap (λ b. not (b && r.value == 4)) (other_type r.request_type 0x23 (r.request == 3) h (omega arith))
+
+pub host_stretch : (r : Setup) → IsToHost r → begins_no_stretch r ≡ true
+host_stretch r h = ap (λ b. not (b && r.value == 16)) (other_type r.request_type 0x23 (r.request == 1) h (omega arith))
+
 -- Toggles of a data stage
 
-flipped : (b c : Bool) → c ≡ not b → flip (if b then One else Zero) ≡ (if c then One else Zero)
-flipped true true h = cc h
-flipped true false h = refl
-flipped false true h = refl
-flipped false false h = cc h
+flipped : (b : Bool) → other (if b then One else Zero) ≡ (if not b then One else Zero)
+flipped true = refl
+flipped false = refl
 
-opposite : (k : ℕ) → (suc k % 2 == 0) ≡ not (k % 2 == 0)
+opposite : (k : ℕ) → not (k % 2 == 0) ≡ (suc k % 2 == 0)
 opposite k = grind (arith, nat_tests)
 
 pub flips_at : (n : ℕ) → flips n One ≡ toggle_at n
 unfolding flips
 flips_at zero = refl
-flips_at (suc n) = ap flip (flips_at n) ∙ flipped (n % 2 == 0) (suc n % 2 == 0) (opposite n)
-
-pub flips_none : (n : ℕ) → n ≡ 0 → flips n One ≡ One
-unfolding flips
-flips_none n e = ap (λ m. flips m One) e
+flips_at (suc n) = ap other (flips_at n) ∙ flipped (n % 2 == 0) ∙ ap (λ b. if b then One else Zero) (opposite n)

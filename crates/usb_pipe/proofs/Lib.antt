@@ -3,17 +3,10 @@ pub mod Interface
 pub mod TransactionFaults
 pub mod BulkCalls
 pub mod MovedPackets
-pub mod DataStages
 pub mod SettledWorlds
 pub mod ControlSteps
 pub mod Attempts
-pub mod ControlReads
-pub mod ControlWrites
-pub mod BulkSends
 pub mod InterruptPolls
-pub mod BulkReceives
-pub mod ReadFailures
-pub mod Numbers
 pub mod BulkClears
 pub mod ControlTransfers
 pub mod Answerers

@@ -1,260 +1,262 @@
 -- How the packets of a bulk transfer join.
-use Rattle.std.proofs.Common.{◌≡◌, ◌∙◌, refl, sym, ap, add-one, arith, inl, inr, subst}
-use Rattle.std.specs.Prelude.{ℕ, ◌+◌, ◌-◌, ◌*◌, ◌<◌, ◌≤◌, min, List, Option, None, [], ◌++◌, length, take, drop, Result, Ok, Err}
-use Rattle.std.specs.Int.{div_ceil}
-use Rattle.std.proofs.lemmas.Bool.{cases_lt}
-use Rattle.std.proofs.lemmas.Nat.{div-mul-add}
-use Rattle.std.proofs.Math.Nat.{add-div_right, add-mod_right, div-eq_of_lt, mod-eq_of_lt, mul-div_cancel, zero-div, zero-mod}
-use Rattle.std.specs.Result.{IsErr, IsErrAnd}
-use Rattle.std.proofs.lemmas.List.{append_assoc, append-nil, length-append, length-take, length-drop, take-append-drop, take_min}
+use Rattle.std.proofs.Common.{◌≡◌, ◌≢◌, ◌∙◌, ◌⊎◌, inl, inr, refl, sym, ap, subst, arith, ℕ, ◌+◌, ◌*◌, ◌<◌, ◌≤◌, min, List, [], ◌++◌, length, take, drop, Option, None, Result, Ok, Err, IsErr, IsErrAnd}
+use Rattle.std.proofs.Common.{add-one, append_assoc, append-nil, length-append, length-drop, length-take, lt_of_mul-lt-mul_right, mul-le-mul_right, take-append-drop}
 use Rattle.std.specs.Global.{Vec}
+use Rattle.std.specs.Int.{div_ceil}
+use Rattle.std.proofs.lemmas.Grind.{div_ceil_times}
+use Rattle.std.proofs.lemmas.List.{take_min}
+use Rattle.std.proofs.lemmas.Nat.{div-mul-add, le-div}
 use Rattle.usb_packet.specs.declared.Toggle.{Toggle}
-use Rattle.usb_world.specs.World.{World, Spends}
-use Rattle.usb_world.proofs.Interface.{spends_none, spends_then, spends_wider}
-use Rattle.usb_bus.specs.Traced.{Traced, WentOn}
-use Rattle.usb_bus.proofs.Interface.{traced_then}
-use Rattle.usb_transaction.specs.Heard.{flip}
-use Rattle.usb_transaction.specs.Transactions.{Worked}
+use Rattle.usb_device.specs.Bulk.{other}
+use Rattle.usb_world.specs.Passes.{IsSettled}
+use Rattle.usb_world.specs.World.{World}
+use Rattle.usb_bus.specs.Traced.{WentOn}
+use Rattle.usb_bus.proofs.Interface.{went_none, went_then, went_wider}
+use Rattle.usb_transaction.specs.Calls.{AsksIn, SendsOut}
+use Rattle.usb_transaction.specs.Transactions.{Ends, Worked}
 use Rattle.usb_transaction.specs.declared.target.Target.{Target}
 use Rattle.usb_transaction.specs.declared.fault.TransFault.{TransFault}
 use Rattle.usb_pipe.specs.Bulk.{packets_of, Turned}
+use Rattle.usb_pipe.specs.Control.{Faults, fault_of}
+use Rattle.usb_pipe.specs.Moves.{Puts, Gave, Fetches, Came, start, packet, AllCame}
+use Rattle.usb_pipe.specs.Packets.{PacketsSent, PacketsReceived}
 use Rattle.usb_pipe.specs.Toggles.{flips}
 use Rattle.usb_pipe.specs.declared.fault.PipeFault.{PipeFault}
-use Rattle.usb_pipe.specs.Control.{fault_of}
-use Rattle.usb_pipe.specs.Moves.{Puts, Gave, start, packet, AllGone, SendEnds, Fetches, Came, AllCame, ReceiveEnds}
 use Rattle.usb_pipe.specs.declared.fault.PipeFault.TheVariants.{Memory}
 
+-- Toggles
+
+pub flips_more : (n : ℕ) (first toggle next : Toggle) → toggle ≡ flips n first → next ≡ other toggle → next ≡ flips (n + 1) first
+unfolding flips
+flips_more n first toggle next e f = rw (add-one n) (f ∙ ap other e)
+
 -- n packets were moved
-pub record Moved (n : ℕ) (first toggle : Toggle) (old now : World) : Type 0 where
-  pub spends : Spends (768 * n) old now
+pub record Moved (n : ℕ) (first toggle : Toggle) (old : World) (t : Option (List ℕ)) (now : World) (r : Option (List ℕ)) : Type 0 where
+  pub went : WentOn (768 * n) old t now r
   pub least : old.attempts + n ≤ now.attempts
   pub sound : now.fault ≡ None → old.fault ≡ None
   pub still : 0 < n → now.fault ≡ None
+  pub settled : IsSettled now.roots → IsSettled old.roots
+  pub began : 0 < n → IsSettled old.roots
   pub turned : toggle ≡ flips n first
 
-pub moved_none : (first : Toggle) (w : World) → Moved 0 first first w w
+moved_none : (first : Toggle) (w : World) (t : Option (List ℕ)) → Moved 0 first first w t w t
 unfolding flips
-moved_none first w = record {
-  spends = spends_none w;
+moved_none first w t = record {
+  went = went_none;
   least = omega arith;
   sound = λ e. e;
   still = λ lt. absurd (omega arith);
+  settled = λ h. h;
+  began = λ lt. absurd (omega arith);
   turned = refl;
 }
 
-pub flips_more : (n : ℕ) (first toggle next : Toggle) → toggle ≡ flips n first → next ≡ flip toggle → next ≡ flips (n + 1) first
-unfolding flips
-flips_more n first toggle next e f = rw (add-one n) (f ∙ ap flip e)
+module _ {n : ℕ} {first toggle : Toggle} {old mid : World} {t r : Option (List ℕ)} (m : Moved n first toggle old t mid r) where
+  pub moved_all : {more : ℕ} → n ≤ more → WentOn (768 * more) old t mid r
+  moved_all {more} le = went_wider (768 * n) (768 * more) m.went (omega (arith, le))
 
--- one packet more
-pub moved_more : (n m : ℕ) (first toggle next : Toggle) {old mid new : World} → m ≡ n + 1 → Moved n first toggle old mid → Spends 768 mid new → Worked 1 mid new → next ≡ flip toggle → Moved m first next old new
-moved_more n m first toggle next {old} {mid} {new} is t spends worked e = rw is (record {
-  spends = spends_wider (768 * n + 768) (768 * (n + 1)) old new (spends_then (768 * n) 768 old mid new t.spends spends) (omega arith);
-  least = omega (arith, t.least, worked.least);
-  sound = λ _. t.sound worked.sound;
-  still = λ _. worked.still;
-  turned = flips_more n first toggle next t.turned e;
-})
+  -- one packet more, whether it was moved or not
+  pub moved_went : {more : ℕ} {new : World} {s : Option (List ℕ)} → n < more → WentOn 768 mid r new s → WentOn (768 * more) old t new s
+  moved_went {more} lt w = went_wider (768 * n + 768) (768 * more) (went_then (768 * n) 768 m.went w) (omega (arith, lt))
 
--- one packet more, whether it was moved or not
-pub moved_went : (n m : ℕ) {first toggle : Toggle} {old mid new : World} {t r s : Option (List ℕ)} → n < m → Moved n first toggle old mid → Traced old t mid r → WentOn 768 mid r new s → WentOn (768 * m) old t new s
-moved_went n m {first} {toggle} {old} {mid} {new} lt moved traced next = record {
-  spends = spends_wider (768 * n + 768) (768 * m) old new (spends_then (768 * n) 768 old mid new moved.spends next.spends) (omega (arith, lt));
-  traced = traced_then traced next.traced;
-}
+  moved_more : (next : Toggle) {new : World} {s : Option (List ℕ)} → IsSettled mid.roots → WentOn 768 mid r new s → Worked 1 mid new → next ≡ other toggle → Moved (n + 1) first next old t new s
+  moved_more next h w worked e = grind (arith, moved_went, flips_more)
 
--- all that were moved
-pub moved_all : (n m : ℕ) {first toggle : Toggle} {old new : World} {t s : Option (List ℕ)} → n ≤ m → Moved n first toggle old new → Traced old t new s → WentOn (768 * m) old t new s
-moved_all n m {first} {toggle} {old} {new} le moved traced = record { spends = spends_wider (768 * n) (768 * m) old new moved.spends (omega (arith, le)); traced = traced }
+  worked_then : {k : ℕ} {new : World} → Worked k mid new → Worked k old new
+  worked_then w = record { sound = m.sound w.sound; least = omega (arith, m.least, w.least); still = w.still }
 
-pub moved_worked : (n m : ℕ) {first toggle : Toggle} {old now : World} → 0 < n → m ≤ n → Moved n first toggle old now → Worked m old now
-moved_worked n m lt le t = record { sound = t.sound (t.still lt); least = omega (arith, t.least, le); still = t.still lt }
+  lost_ends : (fault : TransFault) (new : World) → Ends {A = List ℕ} mid (Err fault) new → Faults 0 old (fault_of fault) new
+  lost_ends fault new w = grind (arith, worked_then)
 
-packets_zero : (max : ℕ) → div_ceil 0 max ≡ 0
-packets_zero max = rw (zero-div max, zero-mod max) refl
+  -- where the transaction of a further packet left the toggle
+  moved_turned : {more : ℕ} {next : Toggle} → n < more → next ≡ toggle → Turned more first next
+  moved_turned lt same = record { packets = n; few = lt; turned = same ∙ m.turned }
 
-packets_short_one : (n max : ℕ) → 0 < n → n < max → div_ceil n max ≡ 1
-packets_short_one n max some short = rw (div-eq_of_lt short, mod-eq_of_lt short) (omega arith)
+moved_worked : {n : ℕ} {first toggle : Toggle} {old now : World} {t r : Option (List ℕ)} → 0 < n → Moved n first toggle old t now r → Worked n old now
+moved_worked lt m = record { sound = m.sound (m.still lt); least = m.least; still = m.still lt }
 
-packets_full : (left max : ℕ) → 1 ≤ max → div_ceil (left + max) max ≡ div_ceil left max + 1
-packets_full left max some = rw (add-div_right left some, add-mod_right left max) (omega arith)
+-- How many packets
 
--- a packet, and what is left
-pub packets_one : (n size left max : ℕ) → 1 ≤ max → 0 < n → size ≡ min n max → n ≡ size + left → div_ceil n max ≡ div_ceil left max + 1
-packets_one n size left max some more cut parts = elim (cases_lt n max) [
-  | inl short ↦ (let none : left ≡ 0 = omega arith in rw none (packets_short_one n max more short ∙ ap (λ k. k + 1) (sym (packets_zero max))))
-  | inr full ↦ (let whole : n ≡ left + max = omega arith in rw whole (packets_full left max some))
-]
+ceil_is : (a b n : ℕ) → 0 < b → a ≤ n * b → n * b < a + b → div_ceil a b ≡ n
+ceil_is a b n some least most =
+    grind (arith, div_ceil_times)
 
--- nothing is left
-pub packets_none : (left max : ℕ) → left ≡ 0 → div_ceil left max ≡ 0
-packets_none left max is = rw is (packets_zero max)
+pub gave_packets : (t : Target) (ep : ℕ) (first : Toggle) {old : World} {n : ℕ} {sent : List ℕ} {new : World} → Gave t ep first old n sent new → sent ≢ [] → div_ceil (length sent) t.max ≡ n
+gave_packets t ep first start some = absurd (some refl)
+gave_packets t ep first (packet {n} {sent} bytes g full more fits puts) some =
+    let l = length-append sent bytes in ceil_is (length (sent ++ bytes)) t.max (n + 1) (omega (arith, more, fits)) (omega (arith, l, full, fits)) (omega (arith, l, full, more))
 
-pub packets_some : (n max : ℕ) → 1 ≤ max → 0 < n → 0 < div_ceil n max
-packets_some n max some more = elim (cases_lt n max) [
-  | inl short ↦ (let one = packets_short_one n max more short in omega (arith, one))
-  | inr full ↦ (let whole : n ≡ (n - max) + max = omega arith in let one = packets_full (n - max) max some in rw whole (omega (arith, one)))
-]
+-- full packets leave something over
+few_full : (n max total : ℕ) → 1 ≤ max → n * max < total → n < div_ceil total max
+few_full n max total some less = let c = div_ceil_times total max some in lt_of_mul-lt-mul_right max (omega (arith, c, less))
 
--- packets of the maximum, and then a short one
-pub packets_short : (i size max wanted : ℕ) → size < max → i < wanted → packets_of (i * max + size) max wanted ≡ i + 1
-packets_short i size max wanted short few = rw (div-mul-add i max size short) (omega arith)
+pub came_full : {t : Target} {ep : ℕ} {first : Toggle} {old : World} {n : ℕ} {got : List ℕ} {new : World} → Came t ep first old n got new → length got ≡ n * t.max
+came_full start = omega arith
+came_full (packet {n} {got} bytes c fetches full) = let before = came_full c in let both = length-append got bytes in omega (arith, before, both, full)
 
--- packets of the maximum, as many as were wanted
-pub packets_all : (n max wanted : ℕ) → 1 ≤ max → wanted ≡ n → packets_of (n * max) max wanted ≡ n
-packets_all n max wanted some all = rw (mul-div_cancel n some) (omega arith)
+came_packets : (n size max wanted : ℕ) → 1 ≤ max → n < wanted → (n + 1 ≡ wanted) ⊎ (size < max) → packets_of (n * max + size) max wanted ≡ n + 1
+came_packets n size max wanted least few ends = grind (arith, le-div, div-mul-add)
 
--- where the transaction of a further packet left the toggle
-pub moved_turned : (n m : ℕ) {first toggle next : Toggle} {old now : World} → n < m → Moved n first toggle old now → next ≡ toggle → Turned m first next
-moved_turned n m lt t same = record { packets = n; few = lt; turned = same ∙ t.turned }
+module _ {t : Target} {ep : ℕ} {first : Toggle} {wanted : ℕ} {old new : World} {bytes : List ℕ} (a : AllCame t ep first wanted old bytes new) where
+  all_size : length bytes ≡ a.packets * t.max + length a.last
+  all_size = grind (arith, ap length a.kept, length-append, came_full a.before)
+
+  pub all_packets : 1 ≤ t.max → packets_of (length bytes) t.max wanted ≡ a.packets + 1
+  all_packets least = ap (λ k. packets_of k t.max wanted) all_size ∙ came_packets a.packets (length a.last) t.max wanted least a.few a.ends
+
+  all_most : length bytes ≤ wanted * t.max
+  all_most = let wide : (a.packets + 1) * t.max ≤ wanted * t.max = mul-le-mul_right t.max (omega (arith, a.few)) in omega (arith, all_size, a.fits, wide)
 
 -- Packets that are sent
 
 -- so far these bytes are left
-pub record Going (t : Target) (ep : ℕ) (first : Toggle) (total : List ℕ) (old : World) (rest : List ℕ) (toggle : Toggle) (now : World) : Type 0 where
+pub record Going (t : Target) (ep : ℕ) (first : Toggle) (total : List ℕ) (old : World) (text : Option (List ℕ)) (rest : List ℕ) (toggle : Toggle) (now : World) (written : Option (List ℕ)) : Type 0 where
   pub packets : ℕ
   pub sent : List ℕ
   pub before : Gave t ep first old packets sent now
   pub split : total ≡ sent ++ rest
   pub full : 0 < length rest → length sent ≡ packets * t.max
-  pub turned : toggle ≡ flips packets first
+  pub moved : Moved packets first toggle old text now written
 
-pub going_none : (t : Target) (ep : ℕ) (first : Toggle) (total : List ℕ) (w : World) → Going t ep first total w total first w
-unfolding flips
-going_none t ep first total w = record { packets = 0; sent = []; before = start; split = refl; full = λ _. omega arith; turned = refl }
+pub going_none : (t : Target) (ep : ℕ) (first : Toggle) (total : List ℕ) (w : World) (text : Option (List ℕ)) → Going t ep first total w text total first w text
+going_none t ep first total w text = record { packets = 0; sent = []; before = start; split = refl; full = λ _. omega arith; moved = moved_none first w text }
 
--- a packet is no longer than the maximum
-fits : (max k : ℕ) (rest : List ℕ) → k ≡ min (length rest) max → length (take k rest) ≤ max
-fits max k rest is = let l = length-take k rest in omega (arith, l, is)
+module _ (t : Target) (ep : ℕ) (first : Toggle) (total : List ℕ) (least : 1 ≤ t.max) {old : World} {text : Option (List ℕ)} where
+  -- all are sent
+  pub all_sent : {now : World} {written : Option (List ℕ)} {rest : List ℕ} {toggle : Toggle} → 0 < length total → rest ≡ [] → Going t ep first total old text rest toggle now written
+      → PacketsSent t ep first total old (Ok tt) toggle now × WentOn (768 * div_ceil (length total) t.max) old text now written
+  all_sent {now} some none g =
+      let gone : Gave t ep first old g.packets total now = subst (λ x. Gave t ep first old g.packets x now) (sym (g.split ∙ ap (λ x. g.sent ++ x) none ∙ append-nil g.sent)) g.before in
+      let count : div_ceil (length total) t.max ≡ g.packets = gave_packets t ep first gone (λ e. let l : length total ≡ 0 = ap length e in omega (arith, l)) in
+      let few : 0 < g.packets = omega (arith, few_full 0 t.max (length total) least (omega (arith, some)), count) in (
+        record {
+          ends = rw count (moved_worked few g.moved);
+          moves = record { packets = g.packets; gone = gone };
+          settled = g.moved.began few;
+          room = λ e. cc e;
+          turned = rw count g.moved.turned;
+          halted = λ e. cc e;
+        },
+        rw count g.moved.went,
+      )
 
--- nor is it empty
-some_went : (max k : ℕ) (rest : List ℕ) → 1 ≤ max → 0 < length rest → k ≡ min (length rest) max → 0 < length (take k rest)
-some_went max k rest least some is = let l = length-take k rest in omega (arith, l, is)
+  -- a packet, as many of the bytes that are left as fit
+  module _ {mid new : World} {between written : Option (List ℕ)} {rest bytes : List ℕ} {toggle next : Toggle} (k : ℕ) (some : 0 < length rest) (is : k ≡ min (length rest) t.max) (front : bytes ≡ take k rest)
+      (g : Going t ep first total old text rest toggle mid between) (went : WentOn 768 mid between new written) where
+    pub going_more : {after given : List ℕ} → after ≡ drop k rest → SendsOut t ep toggle bytes mid (Ok given) new → next ≡ other toggle → Going t ep first total old text after next new written
+    going_more back x e =
+        let j = length-append g.sent (take k rest) in
+        let l = length-take k rest in
+        let d = length-drop k rest in
+        let full = g.full some in
+        rw back (record {
+          packets = g.packets + 1;
+          sent = g.sent ++ take k rest;
+          before = packet (take k rest) g.before full (omega (arith, l, is)) (omega (arith, l, is)) (rw (g.moved.turned, front, x.nothing) at x.heard);
+          split = g.split ∙ ap (λ z. g.sent ++ z) (sym (take-append-drop k rest)) ∙ sym (append_assoc g.sent (take k rest) (drop k rest));
+          full = λ more. omega (arith, j, l, d, is, full);
+          moved = moved_more g.moved next x.settled went x.ends e;
+        })
 
--- where more is left, it is full
-still_full : (n max k : ℕ) (sent rest : List ℕ) → k ≡ min (length rest) max → length sent ≡ n * max → 0 < length (drop k rest) → length (sent ++ take k rest) ≡ (n + 1) * max
-still_full n max k sent rest is full more =
-    let j = length-append sent (take k rest) in
-    let l = length-take k rest in
-    let d = length-drop k rest in
-    omega (arith, j, l, d, is, full)
-
--- what went and what is left are all
-split_more : (k : ℕ) (total sent rest : List ℕ) → total ≡ sent ++ rest → total ≡ (sent ++ take k rest) ++ drop k rest
-split_more k total sent rest split = split ∙ ap (λ x. sent ++ x) (sym (take-append-drop k rest)) ∙ sym (append_assoc sent (take k rest) (drop k rest))
-
-pub going_more : (t : Target) (ep : ℕ) (first : Toggle) (total : List ℕ) {old mid new : World} {rest bytes after given : List ℕ} {toggle next : Toggle} (k : ℕ) → 1 ≤ t.max → 0 < length rest → k ≡ min (length rest) t.max
-    → bytes ≡ take k rest → after ≡ drop k rest → Going t ep first total old rest toggle mid → Puts t ep toggle bytes mid (Ok given) new → given ≡ [] → next ≡ flip toggle → Going t ep first total old after next new
-going_more t ep first total {old} {mid} {new} {rest} {bytes} {after} {given} {toggle} {next} k least some is front back g puts none f =
-    let went : Puts t ep (flips g.packets first) (take k rest) mid (Ok []) new =
-    subst (λ x. Puts t ep x (take k rest) mid (Ok []) new) g.turned (subst (λ x. Puts t ep toggle x mid (Ok []) new) front (subst (λ x. Puts t ep toggle bytes mid (Ok x) new) none puts)) in
-    rw back (record {
-      packets = g.packets + 1;
-      sent = g.sent ++ take k rest;
-      before = packet (take k rest) g.before (g.full some) (some_went t.max k rest least some is) (fits t.max k rest is) went;
-      split = split_more k total g.sent rest g.split;
-      full = still_full g.packets t.max k g.sent rest is (g.full some);
-      turned = flips_more g.packets first toggle next g.turned f;
-    })
-
--- nothing is left
-pub all_gone : (t : Target) (ep : ℕ) (first : Toggle) (total : List ℕ) {old now : World} {rest : List ℕ} {toggle : Toggle} → rest ≡ [] → Going t ep first total old rest toggle now → AllGone t ep first total old now
-all_gone t ep first total {old} {now} {rest} none g =
-    let whole : g.sent ≡ total = sym (g.split ∙ ap (λ x. g.sent ++ x) none ∙ append-nil g.sent) in
-    record { packets = g.packets; gone = subst (λ x. Gave t ep first old g.packets x now) whole g.before }
-
--- as many as fit
-fitting : (max k : ℕ) (rest : List ℕ) → k ≡ min (length rest) max → take k rest ≡ take max rest
-fitting max k rest is = let e : k ≡ min max (length rest) = omega (arith, is) in rw e (take_min max rest)
-
--- what sending answers where a packet does not go
-pub not_gone : (t : Target) (ep : ℕ) (first : Toggle) (total : List ℕ) {old mid : World} (new : World) {rest bytes : List ℕ} {toggle : Toggle} (k : ℕ) (fault : TransFault) (result : Result (Unit {0}) PipeFault) → 0 < length rest → k ≡ min (length rest) t.max
-    → bytes ≡ take k rest → IsErr result → IsErrAnd result (λ why. why ≡ fault_of fault) → Going t ep first total old rest toggle mid → Puts t ep toggle bytes mid (Err fault) new → SendEnds t ep first total old result new
-not_gone t ep first total {old} {mid} new {rest} {bytes} {toggle} k fault (Err why) some is front err said g puts = record {
-  packets = g.packets;
-  sent = g.sent;
-  rest = rest;
-  mid = mid;
-  before = g.before;
-  full = g.full some;
-  split = g.split;
-  some = some;
-  fault = fault;
-  told = said;
-  lost = subst (λ x. Puts t ep x (take t.max rest) mid (Err fault) new) g.turned (subst (λ x. Puts t ep toggle x mid (Err fault) new) (front ∙ fitting t.max k rest is) puts);
-}
-not_gone t ep first total new k fault (Ok done) some is front err said g puts = cc
+    -- one that does not go
+    pub lost_sent : (fault : TransFault) (result : Result (Unit {0}) PipeFault) → IsErr result → IsErrAnd result (λ why. why ≡ fault_of fault) → result ≢ Err Memory → SendsOut t ep toggle bytes mid (Err fault) new → next ≡ toggle
+        → PacketsSent t ep first total old result next new × WentOn (768 * div_ceil (length total) t.max) old text new written
+    lost_sent fault (Err why) err said room x same =
+        let size : k ≡ min t.max (length rest) = omega (arith, is) in
+        let fitting : take k rest ≡ take t.max rest = rw size (take_min t.max rest) in
+        let parts = ap length g.split ∙ length-append g.sent rest in
+        let few : g.packets < div_ceil (length total) t.max = few_full g.packets t.max (length total) least (omega (arith, g.full some, some, parts)) in (
+          record {
+            ends = subst (λ w. Faults 0 old w new) (sym said) (lost_ends g.moved fault new x.ends);
+            moves = record {
+              packets = g.packets;
+              sent = g.sent;
+              rest = rest;
+              mid = mid;
+              before = g.before;
+              full = g.full some;
+              split = g.split;
+              some = some;
+              fault = fault;
+              told = said;
+              lost = subst (λ z. Puts t ep z (take t.max rest) mid (Err fault) new) g.moved.turned (subst (λ z. Puts t ep toggle z mid (Err fault) new) (front ∙ fitting) x.heard);
+            };
+            settled = g.moved.settled x.settled;
+            room = room;
+            turned = tt;
+            halted = λ _. moved_turned g.moved few same;
+          },
+          moved_went g.moved few went,
+        )
+    lost_sent fault (Ok done) err said room x same = cc
 
 -- Packets that are received
 
-pub came_none : (t : Target) (ep : ℕ) (first : Toggle) (got : List ℕ) (w : World) → got ≡ [] → Came t ep first w 0 got w
-came_none t ep first got w none = rw none start
+-- so many came
+pub record Coming (t : Target) (ep : ℕ) (first : Toggle) (old : World) (text : Option (List ℕ)) (n : ℕ) (got : List ℕ) (toggle : Toggle) (now : World) (written : Option (List ℕ)) : Type 0 where
+  pub came : Came t ep first old n got now
+  pub moved : Moved n first toggle old text now written
 
--- a full packet more
-pub came_more : (t : Target) (ep : ℕ) (first : Toggle) (n m : ℕ) {old mid new : World} {got front kept : List ℕ} {toggle : Toggle} (bytes : List ℕ) → m ≡ n + 1 → Came t ep first old n got mid → toggle ≡ flips n first → Fetches t ep toggle mid (Ok bytes) new
-    → length bytes ≡ t.max → front ≡ bytes → kept ≡ got ++ front → Came t ep first old m kept new
-came_more t ep first n m {old} {mid} {new} {got} {front} {kept} {toggle} bytes next c turned asks full same is =
-    rw (next, is, same) (packet bytes c (subst (λ x. Fetches t ep x mid (Ok bytes) new) turned asks) full)
+pub coming_none : (t : Target) (ep : ℕ) (first : Toggle) (got : List ℕ) (w : World) (text : Option (List ℕ)) → got ≡ [] → Coming t ep first w text 0 got first w text
+coming_none t ep first got w text none = rw none (record { came = start; moved = moved_none first w text })
 
--- a short one ends the transfer
-pub short_came : (t : Target) (ep : ℕ) (first : Toggle) (n wanted : ℕ) {old mid new : World} {got front kept : List ℕ} {toggle : Toggle} (last : List ℕ) → n < wanted → Came t ep first old n got mid → toggle ≡ flips n first → Fetches t ep toggle mid (Ok last) new
-    → length last < t.max → front ≡ last → kept ≡ got ++ front → AllCame t ep first wanted old kept new
-short_came t ep first n wanted {old} {mid} {new} {got} {front} {kept} {toggle} last few c turned asks short same is = record {
-  packets = n;
-  few = few;
-  got = got;
-  mid = mid;
-  before = c;
-  last = last;
-  came = subst (λ x. Fetches t ep x mid (Ok last) new) turned asks;
-  fits = omega (arith, short);
-  kept = rw (sym same) is;
-  ends = inr short;
-}
+module _ (t : Target) (ep : ℕ) (first : Toggle) {old : World} {text : Option (List ℕ)} (wanted : ℕ) (least : 1 ≤ t.max) where
+  all_received : {bytes : Vec ℕ} {now : World} {toggle : Toggle} {written : Option (List ℕ)} (a : AllCame t ep first wanted old bytes.items now) → Moved (a.packets + 1) first toggle old text now written
+      → PacketsReceived t ep first wanted old (Ok bytes) toggle now
+  all_received a m = record {
+    ends = rw (all_packets a least) (moved_worked (omega arith) m);
+    moves = a;
+    settled = m.began (omega arith);
+    most = all_most a;
+    turned = rw (all_packets a least) m.turned;
+    halted = λ e. cc e;
+  }
 
--- as many came as were wanted
-pub all_came : (t : Target) (ep : ℕ) (first : Toggle) (n wanted : ℕ) {old now : World} {got : List ℕ} → n ≡ wanted → 0 < wanted → Came t ep first old n got now → AllCame t ep first wanted old got now
-all_came t ep first _ wanted all some start = absurd (omega (arith, all, some))
-all_came t ep first _ wanted all some (packet {n} {got} {mid} bytes c came full) = record {
-  packets = n;
-  few = omega (arith, all);
-  got = got;
-  mid = mid;
-  before = c;
-  last = bytes;
-  came = came;
-  fits = omega (arith, full);
-  kept = refl;
-  ends = inl all;
-}
+  -- as many came as were wanted
+  pub whole_received : {n : ℕ} {bytes : Vec ℕ} {now : World} {toggle : Toggle} {written : Option (List ℕ)} → n ≡ wanted → 0 < wanted → Coming t ep first old text n bytes.items toggle now written
+      → PacketsReceived t ep first wanted old (Ok bytes) toggle now
+  whole_received {bytes} {now} {toggle} {written} all some c = by_last c.came refl c.moved all
+    where
+      by_last : {n : ℕ} {got : List ℕ} {now : World} → Came t ep first old n got now → bytes.items ≡ got → Moved n first toggle old text now written → n ≡ wanted → PacketsReceived t ep first wanted old (Ok bytes) toggle now
+      by_last start is m all = absurd (omega (arith, all, some))
+      by_last (packet {n} {got} {mid} last c came full) is m all =
+          all_received (record { packets = n; few = omega (arith, all); got = got; mid = mid; before = c; last = last; came = came; fits = omega (arith, full); kept = is; ends = inl all }) m
 
--- what receiving answers where a packet does not come
-pub not_came : (t : Target) (ep : ℕ) (first : Toggle) (n wanted : ℕ) {old mid : World} (new : World) {got : List ℕ} {toggle : Toggle} (fault : TransFault) (result : Result (Vec ℕ) PipeFault) → n < wanted → IsErr result → IsErrAnd result (λ why. why ≡ fault_of fault)
-    → Came t ep first old n got mid → toggle ≡ flips n first → Fetches t ep toggle mid (Err fault) new → ReceiveEnds t ep first wanted old result new
-not_came t ep first n wanted {old} {mid} new {got} {toggle} fault (Err why) few err said c turned asks = inl (record {
-  packets = n;
-  few = few;
-  got = got;
-  mid = mid;
-  before = c;
-  fault = fault;
-  told = said;
-  lost = subst (λ x. Fetches t ep x mid (Err fault) new) turned asks;
-})
-not_came t ep first n wanted new fault (Ok bytes) few err said c turned asks = cc
+  -- a packet behind them
+  module _ {n : ℕ} {got : List ℕ} {mid new : World} {between written : Option (List ℕ)} {toggle next : Toggle} (few : n < wanted) (c : Coming t ep first old text n got toggle mid between) (went : WentOn 768 mid between new written) where
+    -- that came
+    module _ {last front kept : List ℕ} (x : AsksIn t ep toggle mid (Ok last) new) (e : next ≡ other toggle) (same : front ≡ last) (is : kept ≡ got ++ front) where
+      pub coming_more : {m : ℕ} → m ≡ n + 1 → length last ≡ t.max → Coming t ep first old text m kept next new written
+      coming_more more full = rw (more, is, same) (record { came = packet last c.came (rw c.moved.turned at x.heard) full; moved = moved_more c.moved next x.settled went x.ends e })
 
--- and where there is no memory for it
-pub no_room_left : (t : Target) (ep : ℕ) (first : Toggle) (n wanted : ℕ) {old mid new : World} {got : List ℕ} {toggle : Toggle} (last : List ℕ) (result : Result (Vec ℕ) PipeFault) → n < wanted → IsErr result → IsErrAnd result (λ why. why ≡ Memory)
-    → Came t ep first old n got mid → toggle ≡ flips n first → Fetches t ep toggle mid (Ok last) new → length last ≤ t.max → ReceiveEnds t ep first wanted old result new
-no_room_left t ep first n wanted {old} {mid} {new} {got} {toggle} last (Err why) few err said c turned asks fits = inr (record {
-  packets = n;
-  few = few;
-  got = got;
-  mid = mid;
-  before = c;
-  last = last;
-  told = said;
-  came = subst (λ x. Fetches t ep x mid (Ok last) new) turned asks;
-  fits = fits;
-})
-no_room_left t ep first n wanted last (Ok bytes) few err said c turned asks fits = cc
+      -- and was short
+      pub short_received : {bytes : Vec ℕ} → bytes.items ≡ kept → length last < t.max → PacketsReceived t ep first wanted old (Ok bytes) next new
+      short_received items short =
+          all_received (record { packets = n; few = few; got = got; mid = mid; before = c.came; last = last; came = rw c.moved.turned at x.heard; fits = x.short; kept = items ∙ is ∙ ap (λ z. got ++ z) same; ends = inr short })
+          (moved_more c.moved next x.settled went x.ends e)
+
+    -- that did not
+    pub lost_received : (fault : TransFault) (result : Result (Vec ℕ) PipeFault) → IsErr result → IsErrAnd result (λ why. why ≡ fault_of fault) → AsksIn t ep toggle mid (Err fault) new → next ≡ toggle
+        → PacketsReceived t ep first wanted old result next new
+    lost_received fault (Err why) err said x same = record {
+      ends = subst (λ w. Faults 0 old w new) (sym said) (lost_ends c.moved fault new x.ends);
+      moves = inl (record { packets = n; few = few; got = got; mid = mid; before = c.came; fault = fault; told = said; lost = subst (λ z. Fetches t ep z mid (Err fault) new) c.moved.turned x.heard });
+      settled = c.moved.settled x.settled;
+      most = tt;
+      turned = tt;
+      halted = λ _. moved_turned c.moved few same;
+    }
+    lost_received fault (Ok bytes) err said x same = cc
+
+    -- that found no memory
+    pub room_received : (last : List ℕ) (result : Result (Vec ℕ) PipeFault) → IsErr result → IsErrAnd result (λ why. why ≡ Memory) → AsksIn t ep toggle mid (Ok last) new → PacketsReceived t ep first wanted old result next new
+    room_received last (Err why) err said x = record {
+      ends = subst (λ w. Faults 0 old w new) (sym said) (worked_then c.moved x.ends);
+      moves = inr (record { packets = n; few = few; got = got; mid = mid; before = c.came; last = last; told = said; came = rw c.moved.turned at x.heard; fits = x.short });
+      settled = c.moved.settled x.settled;
+      most = tt;
+      turned = tt;
+      halted = λ e. cc (said, e);
+    }
+    room_received last (Ok bytes) err said x = cc

@@ -1,154 +1,193 @@
--- Who answered a transaction: a device that had the target's address all along, and is still reachable.
-use Rattle.std.proofs.Common.{◌≡◌, ◌≢◌, ◌<◌, ◌⊎◌, ℕ, List, [], ◌∷◌, length, true, false, Some, Ok, Err, refl, sym, ap, ◌∙◌, arith}
+-- Who answered a transaction, and what its answer says of that device: it had the target's address all along, and is still reachable.
+use Rattle.std.proofs.Common.{◌≡◌, ◌≢◌, ◌⊎◌, inl, inr, ℕ, ◌<◌, Bool, true, false, ◌&&◌, List, [], ◌∷◌, length, Option, None, Some, Ok, Err, if◌then◌else◌, suc, refl, sym, subst, ap, ◌∙◌, arith}
 use Rattle.usb_packet.specs.declared.Toggle.{Toggle}
-use Rattle.usb_port.specs.PortState.{PortState}
 use Rattle.usb_request.specs.Layout.{setup_of}
-use Rattle.usb_device.specs.Rows.{State, forgotten}
-use Rattle.usb_device.specs.Tree.{Ports, reach_at, state_at}
+use Rattle.usb_device.specs.declared.answer.Answer.{Answer}
+use Rattle.usb_device.specs.declared.answer.Answer.TheVariants as answer
+use Rattle.usb_device.specs.Attempt.{Way, is_whole, heard}
+use Rattle.usb_device.specs.Rows.{State, Reply, accepted, forgotten}
+use Rattle.usb_device.specs.Tree.{row_of, reach_at, state_at}
 use Rattle.usb_world.specs.declared.types.Attempt.{Attempt}
 use Rattle.usb_world.specs.declared.types.Outcome.{Outcome}
 use Rattle.usb_world.specs.declared.types.Outcome.TheVariants as outcome
 use Rattle.usb_world.specs.Paths.{address_of}
-use Rattle.usb_world.specs.Passes.{IsSettled}
+use Rattle.usb_world.specs.Passes.{IsSettled, deep_at}
 use Rattle.usb_world.specs.Courses.{is_harmless}
-use Rattle.usb_world.specs.OneHolder.{IsMade, HolderIn, SomeHolder}
+use Rattle.usb_world.specs.OneHolder.{IsMade, AttemptAnswerer, IsSetup, got, hears_attempt, token_way, payload_way, answer_way}
 use Rattle.usb_world.specs.World.{World}
-use Rattle.usb_world.specs.Steps.{ready, damage_in, with_attempt, attempt, after}
-use Rattle.usb_world.specs.Devices.{Relation, Was, DidIn, DidOut, DidSetup}
-use Rattle.usb_world.proofs.Interface.{each_in, each_out, equal_same, holder_in, is_state, made_is, made_of, no, one_answers, same_equal, stands, state_stands, stays_reachable_in, third}
+use Rattle.usb_world.specs.Steps.{ready, damage_in, outcome_in, with_attempt, attempt, after, Course, here}
+use Rattle.usb_world.specs.Devices.{Was, DidIn, DidOut}
+use Rattle.usb_world.proofs.Interface.{decided, due_reach, due_state, each_in, each_out, equal_same, holder_in, in_in, is_state, made_is, made_of, one_answers, out_in, same_equal, setup_in, setup_sound_in, stands, state_stands, stays_reachable_in, third}
 use Rattle.usb_transaction.specs.declared.target.Target.{Target}
 use Rattle.usb_transaction.specs.declared.fault.TransFault.{TransFault}
 use Rattle.usb_transaction.specs.declared.fault.TransFault.TheVariants.{Stalled, Busy, NoAnswer, Bus}
 use Rattle.usb_transaction.specs.declared.heard.Heard.{Heard}
 use Rattle.usb_transaction.specs.declared.heard.Heard.TheVariants.{Lost}
 use Rattle.usb_transaction.specs.Answerer.{Answerer, HadOne, IsAnswer}
-use Rattle.usb_transaction.specs.Heard.{heard_as, sent_as, set_up_as}
-use Rattle.usb_transaction.specs.Trail.{Trail, start, next, waits_with, waits_in, GoesOn, Ended, Transacted, Waiting, PollEnded, Polled}
-use Rattle.usb_transaction.specs.Transactions.{packet_of, setup_attempt, in_attempt, out_attempt}
+use Rattle.usb_transaction.specs.Heard.{heard_as, polled_as, sent_as, set_up_as}
 use Rattle.usb_transaction.specs.Leaves.{is_at}
-use Rattle.usb_transaction.proofs.LastOutcomes.{read_last, sent_last, set_up_last}
-use Rattle.usb_transaction.proofs.Setups.{did_others}
-use Rattle.usb_transaction.proofs.DeviceTrails.{had_address}
-use Rattle.usb_transaction.proofs.SparedDevices.{LeavesOthers, spared_setup}
-use Rattle.usb_transaction.proofs.Trails.{trail_settled, made_unshared}
-use Rattle.usb_transaction.proofs.ControlStalls.{due_back}
+use Rattle.usb_transaction.specs.Meaning.{AskedLast, Accepted, Answered, Took, IsUnheard}
+use Rattle.usb_transaction.specs.Trail.{Trail, start, next, waits_with, waits_in, IsNoEnd, GoesOn, Ended, Transacted, Waiting, Polled}
+use Rattle.usb_transaction.specs.Transactions.{packet_of, setup_attempt, in_attempt, out_attempt}
+use Rattle.usb_transaction.proofs.DeviceRuns.{Deeds, EachIf, Run, none, more, over_trail, in_others, out_others}
+use Rattle.usb_transaction.proofs.DeviceTrails.{had_address, last_is}
+use Rattle.usb_transaction.proofs.LastOutcomes.{read_last, sent_last, set_up_last, given_by, got_given}
+use Rattle.usb_transaction.proofs.SetupTransactions.{Accepts, accepting}
+use Rattle.usb_transaction.proofs.Trails.{trail_settled, made_unshared, course_then}
 
--- A device at the target's address had it before
+-- The last attempt of a trail, with what the host got of it
 
-abbrev HadAddress : Target → World → World → Type 0
-HadAddress t old new = (j : ℕ) (p : List ℕ) (v : State) → reach_at new.roots j p ≡ true → state_at new.roots j p ≡ Some v → is_at v t ≡ true → Was (λ i q s u. is_at s t ≡ true) old j p v
+record LastAttempt (a : Attempt) (old new : World) (last : Outcome) : Type 0 where
+  outcomes : List Outcome
+  mid : World
+  before : Trail a old outcomes mid
+  is_last : new ≡ after (attempt a) mid
+  came : outcome_in a mid ≡ last
+  made : IsMade a mid
+  single : (after (attempt a) mid).shared ≡ false
 
--- so it is over one attempt
-abbrev KeepsAddress : Target → Attempt → Type 0
-KeepsAddress t a = (w : World) → IsMade a w → (after (attempt a) w).shared ≡ false → HadAddress t w (after (attempt a) w)
+last_attempt : {a : Attempt} {old new : World} {last : Outcome} {outcomes : List Outcome} → IsSettled old.roots → Trail a old (last ∷ outcomes) new → new.shared ≡ false → LastAttempt a old new last
+last_attempt {a} {old} settled (next {outcomes = os} w t made) h =
+    record { outcomes = os; mid = w; before = t; is_last = refl; came = refl; made = made_of a w (trail_settled t settled) made; single = h }
 
-each_had : (t : Target) (a : Attempt) → KeepsAddress t a → {old new : World} {outcomes : List Outcome} → IsSettled old.roots → Trail a old outcomes new → new.shared ≡ false → HadAddress t old new
-each_had t a keeps settled start single j p v on there at = record { before = v; on = on; stands = there; so = at }
-each_had t a keeps settled (next w r made) single j p v on there at =
-    let later : _ = keeps w (made_of a w (trail_settled r settled) made) single j p v on there at in
-    let sooner : _ = each_had t a keeps settled r (made_unshared a w made single).before j p later.before later.on later.stands later.so in
-    record { before = sooner.before; on = sooner.on; stands = sooner.stands; so = sooner.so }
+-- it was answered
+answerer : {a : Attempt} {old new : World} {last : Outcome} (l : LastAttempt a old new last) → last ≢ outcome.Nothing → AttemptAnswerer a l.mid
+answerer {a} l loud = one_answers a l.mid l.made l.single (λ e. loud (sym l.came ∙ e))
 
-was_there : (t : Target) (R : Relation) (w : World) (j : ℕ) (p : List ℕ) (v : State) → LeavesOthers t R → is_at v t ≡ true → Was R w j p v → Was (λ i q s u. is_at s t ≡ true) w j p v
-was_there t R w j p v others at was =
-    record { before = was.before; on = was.on; stands = was.stands; so = had_address t was.before v (others j p was.before v was.so) at }
+abbrev asked_at : {a : Attempt} {old new : World} {last : Outcome} (l : LastAttempt a old new last) → AttemptAnswerer a l.mid → AskedLast a old new
+asked_at l y = record {
+  outcomes = l.outcomes;
+  mid = l.mid;
+  before = l.before;
+  last = l.is_last;
+  j = y.held.j;
+  p = y.held.p;
+  b = y.held.b;
+  s = y.held.s;
+  below = y.held.below;
+  holder = y.held.holder;
+  loud = y.loud;
+}
 
--- The device that holds the address at the last attempt
+-- the device that was asked is still reachable
+still_on : {a : Attempt} {old new : World} (q : AskedLast a old new) → reach_at new.roots q.j q.p ≡ true
+still_on {a} q = ap (λ w. reach_at w.roots q.j q.p) q.last ∙ stays_reachable_in a q.mid q.j q.p q.b q.s q.below q.holder
 
-module _ (a : Attempt) (w : World) (j : ℕ) (p : List ℕ) (b : PortState) (s : State) (below : Ports) (h : HolderIn a w j p b s below) where
-  state_then : state_at (ready w).roots j p ≡ Some s
-  state_then = sym (state_stands (ready w).roots j p) ∙ ap stands h.stands
+-- What was answered
 
-  state_after : state_at (after (attempt a) w).roots j p ≡ Some (forgotten (third a (damage_in (ready w)) (ready w).roots j p b s below (holder_in a w j p b s below h)).1)
-  unfolding with_attempt
-  state_after =
-      ap (λ v. state_at v.roots j p) (made_is a w h.made)
-      ∙ is_state a (damage_in (ready w)) (ready w).roots j p b s below (holder_in a w j p b s below h)
+given_loud : {last : Outcome} {g : Answer} → given_by last ≡ Some g → last ≢ outcome.Nothing
+given_loud is n = cc (sym (ap given_by n) ∙ is)
 
-holder_answers : (t : Target) (a : Attempt) → a.addr ≡ t.addr → KeepsAddress t a → {old w : World} {outcomes : List Outcome} → IsSettled old.roots → Trail a old outcomes w → w.shared ≡ false
-    → SomeHolder a w → Answerer t old (after (attempt a) w)
-holder_answers t a its keeps {old} {w} settled r single x =
-    let back : _ = due_back w x.j x.p x.holder.on in
-    let was : Was (λ i q s u. is_at s t ≡ true) old x.j x.p x.s =
-    each_had t a keeps settled r single x.j x.p x.s back.0 (sym back.1 ∙ state_then a w x.j x.p x.b x.s x.below x.holder) (same_equal (address_of x.s) t.addr (x.holder.at ∙ its)) in
+answered : (t : Target) (ep : ℕ) (g : Answer) (old new : World) {last : Outcome} {outcomes : List Outcome} → IsSettled old.roots → Trail (in_attempt t ep) old (last ∷ outcomes) new → given_by last ≡ Some g
+    → new.shared ≡ false → Answered t ep g old new
+answered t ep g old new {last} settled trail is h =
+    let l = last_attempt settled trail h in
+    let y = answerer l (given_loud is) in
+    let q = y.held in
+    let x = in_in (in_attempt t ep) l.mid q.j q.p q.b q.s q.below q.holder y.loud (record { kind = refl; payload = refl }) in
     record {
-      j = x.j;
-      p = x.p;
-      now = forgotten (third a (damage_in (ready w)) (ready w).roots x.j x.p x.b x.s x.below (holder_in a w x.j x.p x.b x.s x.below x.holder)).1;
-      on = stays_reachable_in a w x.j x.p x.b x.s x.below x.holder;
-      stands = state_after a w x.j x.p x.b x.s x.below x.holder;
-      before = was.before;
-      was_on = was.on;
-      stood = was.stands;
-      at = was.so;
+      asked = asked_at l y;
+      gave = got_given t.max _ last (sym x.outcome ∙ l.came) (given_loud is) ∙ is;
+      on = still_on (asked_at l y);
+      state = ap (λ w. state_at w.roots q.j q.p) l.is_last ∙ x.state;
     }
 
--- what was heard at last came from it
-who : (t : Target) (a : Attempt) → a.addr ≡ t.addr → KeepsAddress t a → {old new : World} {last : Outcome} {outcomes : List Outcome} → IsSettled old.roots → Trail a old (last ∷ outcomes) new
-    → (last ≡ outcome.Nothing → ⊥) → new.shared ≡ false → Answerer t old new
-who t a its keeps settled (next w r made) c single =
-    holder_answers t a its keeps settled r (made_unshared a w made single).before
-    (one_answers a w (made_of a w (trail_settled r settled) made) single c).held
+took : (t : Target) (ep : ℕ) (toggle : Toggle) (bytes : List ℕ) (g : Answer) (old new : World) {last : Outcome} {outcomes : List Outcome} → IsSettled old.roots
+    → Trail (out_attempt t ep toggle bytes) old (last ∷ outcomes) new → given_by last ≡ Some g → new.shared ≡ false → Took t ep toggle bytes g old new
+took t ep toggle bytes g old new {last} settled trail is h =
+    let l = last_attempt settled trail h in
+    let y = answerer l (given_loud is) in
+    let q = y.held in
+    let x = out_in (out_attempt t ep toggle bytes) l.mid q.j q.p q.b q.s q.below q.holder y.loud toggle bytes (record { kind = refl; payload = refl }) in
+    record {
+      asked = asked_at l y;
+      gave = got_given t.max _ last (sym x.outcome ∙ l.came) (given_loud is) ∙ is;
+      on = still_on (asked_at l y);
+      state = ap (λ w. state_at w.roots q.j q.p) l.is_last ∙ x.state;
+    }
 
--- The three kinds
+pub read_done : (t : Target) (ep : ℕ) (toggle : Toggle) (bytes : List ℕ) (old new : World) → IsSettled old.roots
+    → Transacted (heard_as toggle) (in_attempt t ep) old (Ok bytes) new → new.shared ≡ false → Answered t ep (answer.Data toggle (packet_of bytes)) old new
+read_done t ep toggle bytes old new settled e = answered t ep (answer.Data toggle (packet_of bytes)) old new settled e.trail (ap given_by (read_last toggle e.last bytes e.tells))
 
-in_others : (t : Target) (ep : ℕ) (w : World) (j : ℕ) (p : List ℕ) (s v : State) → DidIn (in_attempt t ep) w j p s v → is_at s t ≡ false → v ≡ s
-in_others t ep w j p s v (DidIn.other d e) h = e
-in_others t ep w j p s v (DidIn.silent d q o e) h = e
-in_others t ep w j p s v (DidIn.asked d q b below stood x o e) h = no (sym h ∙ d)
+pub read_stalled : (t : Target) (ep : ℕ) (toggle : Toggle) (old new : World) → IsSettled old.roots
+    → Transacted (heard_as toggle) (in_attempt t ep) old (Err Stalled) new → new.shared ≡ false → Answered t ep answer.Stall old new
+read_stalled t ep toggle old new settled e = answered t ep answer.Stall old new settled e.trail (ap given_by e.tells)
 
-out_others : (t : Target) (ep : ℕ) (toggle : Toggle) (bytes : List ℕ) (w : World) (j : ℕ) (p : List ℕ) (s v : State) → DidOut (out_attempt t ep toggle bytes) toggle bytes w j p s v → is_at s t ≡ false → v ≡ s
-out_others t ep toggle bytes w j p s v (DidOut.other d e) h = e
-out_others t ep toggle bytes w j p s v (DidOut.silent d q o e) h = e
-out_others t ep toggle bytes w j p s v (DidOut.asked d q x o e) h = no (sym h ∙ d)
+pub write_done : (t : Target) (ep : ℕ) (toggle : Toggle) (bytes done : List ℕ) (old new : World) → IsSettled old.roots
+    → Transacted sent_as (out_attempt t ep toggle bytes) old (Ok done) new → new.shared ≡ false → Took t ep toggle bytes answer.Ack old new
+write_done t ep toggle bytes done old new settled e = took t ep toggle bytes answer.Ack old new settled e.trail (ap given_by (sent_last e.last (packet_of done) e.tells))
 
-in_keeps : (t : Target) (ep : ℕ) → KeepsAddress t (in_attempt t ep)
-in_keeps t ep w made u j p v on there at =
-    was_there t (DidIn (in_attempt t ep) w) w j p v (in_others t ep w) at
-    (each_in (in_attempt t ep) w made (record { kind = refl; payload = refl }) u j p v on there)
+pub write_stalled : (t : Target) (ep : ℕ) (toggle : Toggle) (bytes : List ℕ) (old new : World) → IsSettled old.roots
+    → Transacted sent_as (out_attempt t ep toggle bytes) old (Err Stalled) new → new.shared ≡ false → Took t ep toggle bytes answer.Stall old new
+write_stalled t ep toggle bytes old new settled e = took t ep toggle bytes answer.Stall old new settled e.trail (ap given_by e.tells)
 
-out_keeps : (t : Target) (ep : ℕ) (toggle : Toggle) (bytes : List ℕ) → KeepsAddress t (out_attempt t ep toggle bytes)
-out_keeps t ep toggle bytes w made u j p v on there at =
-    was_there t (DidOut (out_attempt t ep toggle bytes) toggle bytes w) w j p v (out_others t ep toggle bytes w) at
-    (each_out (out_attempt t ep toggle bytes) w toggle bytes made (record { kind = refl; payload = refl }) u j p v on there)
+-- setup data that were answered were accepted
+pub taken_up : (x : Bool) (t : Way) (s v : State) (max : ℕ) → got max (if◌then◌else◌ {A = Reply} x (heard t (Some answer.Ack), v) (None, s)).0 ≡ outcome.Ack
+    → (if◌then◌else◌ {A = Reply} x (heard t (Some answer.Ack), v) (None, s)).1 ≡ v
+taken_up true t s v max e = refl
+taken_up false t s v max e = cc e
 
--- one at an address that is not 0 was not reset
-set_up_keeps : (t : Target) (bytes : List ℕ) → length bytes ≡ 8 → (is_harmless (setup_of bytes) ≡ false → t.addr ≢ 0) → KeepsAddress t (setup_attempt t bytes)
-set_up_keeps t bytes eight addressed w made u j p v on there at =
-    was_there t (DidSetup (setup_attempt t bytes) bytes w) w j p v (did_others t bytes w) at
-    (spared_setup t bytes eight w made u j p v on there (λ h. (addressed h, λ e. addressed h (sym (equal_same (address_of v) t.addr at) ∙ e))))
+pub set_up_done : (t : Target) (bytes done : List ℕ) (old new : World) → length bytes ≡ 8 → IsSettled old.roots
+    → Transacted set_up_as (setup_attempt t bytes) old (Ok done) new → new.shared ≡ false → Accepted t bytes old new
+set_up_done t bytes done old new eight settled e h =
+    let a = setup_attempt t bytes in
+    let last : e.last ≡ outcome.Ack = set_up_last e.last (packet_of done) e.tells in
+    let l : LastAttempt a old new e.last = last_attempt settled e.trail h in
+    let y : AttemptAnswerer a l.mid = answerer l (given_loud (ap given_by last)) in
+    let q = y.held in
+    let k = (ready l.mid).roots in
+    let d = damage_in (ready l.mid) in
+    let x = setup_in a l.mid q.j q.p q.b q.s q.below q.holder y.loud bytes (record { kind = refl; ep = refl; payload = refl; whole = eight }) in
+    let whole : Bool = is_whole (token_way a d (deep_at false q.p) q.s) && is_whole (payload_way a d (deep_at false q.p) q.s) in
+    record {
+      asked = asked_at l y;
+      on = still_on (asked_at l y);
+      state = ap (λ w. state_at w.roots q.j q.p) l.is_last ∙ x.state
+          ∙ ap (λ v. Some v) (taken_up whole (answer_way a d k) q.s (accepted q.s (row_of q.below) (setup_of bytes)) a.max (sym x.outcome ∙ l.came ∙ last));
+    }
 
--- The answers
+-- Why no setup data were acknowledged
 
-pub set_up_answered : (t : Target) (bytes got : List ℕ) (old new : World) → length bytes ≡ 8 → (is_harmless (setup_of bytes) ≡ false → t.addr ≢ 0) → IsSettled old.roots
-    → Ended set_up_as (setup_attempt t bytes) old (Ok got) new → new.shared ≡ false → Answerer t old new
-set_up_answered t bytes got old new eight addressed settled e single =
-    let last : e.last ≡ outcome.Ack = set_up_last e.last (packet_of got) e.tells in
-    who t (setup_attempt t bytes) refl (set_up_keeps t bytes eight addressed) settled e.trail (λ x. cc (sym last ∙ x)) single
+unheard_at : (a : Attempt) (w : World) (bytes : List ℕ) → IsSetup a bytes → outcome_in a w ≢ outcome.Ack → IsUnheard (attempt a) w
+unheard_at a w bytes i c j p b s below h = pick (decided s.spec.silent) (decided (hears_attempt a (deep_at false p) s))
+  where
+    pick : (s.spec.silent ≡ true) ⊎ (s.spec.silent ≡ false) → (hears_attempt a (deep_at false p) s ≡ true) ⊎ (hears_attempt a (deep_at false p) s ≡ false)
+        → (s.spec.silent ≡ true) ⊎ (hears_attempt a (deep_at false p) s ≡ false) ⊎ (damage_in w ≢ None)
+    pick (inl silent) x = inl silent
+    pick (inr loud) (inl hears) = inr (inr (λ none. c (setup_sound_in a w j p b s below h loud hears none bytes i).outcome))
+    pick (inr loud) (inr deaf) = inr (inl deaf)
 
-pub read_answered : (t : Target) (ep : ℕ) (awaited : Toggle) (bytes : List ℕ) (old new : World) → IsSettled old.roots
-    → Ended (heard_as awaited) (in_attempt t ep) old (Ok bytes) new → new.shared ≡ false → Answerer t old new
-read_answered t ep awaited bytes old new settled e single =
-    let last : e.last ≡ outcome.Payload awaited (packet_of bytes) = read_last awaited e.last bytes e.tells in
-    who t (in_attempt t ep) refl (in_keeps t ep) settled e.trail (λ x. cc (sym last ∙ x)) single
+-- while it goes on, and at its last error
+no_ack : (o : Outcome) → IsNoEnd (set_up_as o) → o ≢ outcome.Ack
+no_ack o h e = subst (λ x. IsNoEnd (set_up_as x)) e h
 
-pub write_answered : (t : Target) (ep : ℕ) (toggle : Toggle) (bytes got : List ℕ) (old new : World) → IsSettled old.roots
-    → Ended sent_as (out_attempt t ep toggle bytes) old (Ok got) new → new.shared ≡ false → Answerer t old new
-write_answered t ep toggle bytes got old new settled e single =
-    let last : e.last ≡ outcome.Ack = sent_last e.last (packet_of got) e.tells in
-    who t (out_attempt t ep toggle bytes) refl (out_keeps t ep toggle bytes) settled e.trail (λ x. cc (sym last ∙ x)) single
+unheard_course : {a : Attempt} {old new : World} {outcomes : List Outcome} (bytes : List ℕ) → IsSetup a bytes → Trail a old outcomes new → GoesOn set_up_as outcomes → Course IsUnheard old new
+unfolding GoesOn
+unheard_course {a} {old} bytes i start g = here old
+unheard_course {a} bytes i (next w t made) g = course_then (attempt a) (unheard_course bytes i t g.3) (unheard_at a w bytes i (no_ack (outcome_in a w) g.0))
 
-pub wait_answered : (t : Target) (ep : ℕ) (toggle : Toggle) (old new : World) → IsSettled old.roots
-    → Waiting toggle (in_attempt t ep) old new → new.shared ≡ false → Answerer t old new
-wait_answered t ep toggle old new settled e single = who t (in_attempt t ep) refl (in_keeps t ep) settled e.trail (λ x. cc x) single
+pub set_up_unheard : (t : Target) (bytes : List ℕ) (old new : World) → length bytes ≡ 8
+    → Transacted set_up_as (setup_attempt t bytes) old (Err NoAnswer) new → Course IsUnheard old new
+set_up_unheard t bytes old new eight e = at_last e.trail (last_is set_up_as (Err NoAnswer) e.last e.outcomes e.onward e.tells)
+  where
+    kind : IsSetup (setup_attempt t bytes) bytes
+    kind = record { kind = refl; ep = refl; payload = refl; whole = eight }
 
-pub poll_answered : (t : Target) (ep : ℕ) (toggle : Toggle) (bytes : List ℕ) (old new : World) → IsSettled old.roots
-    → PollEnded toggle (in_attempt t ep) old (Ok bytes) new → new.shared ≡ false → Answerer t old new
-poll_answered t ep toggle bytes old new settled e single =
-    let last : e.last ≡ outcome.Payload toggle (packet_of bytes) = read_last toggle e.last bytes e.tells in
-    who t (in_attempt t ep) refl (in_keeps t ep) settled e.trail (λ x. cc (sym last ∙ x)) single
+    at_last : {o : Outcome} {now : World} → Trail (setup_attempt t bytes) old (o ∷ e.outcomes) now → IsNoEnd (set_up_as o) → Course IsUnheard old now
+    at_last (next w r made) on = course_then (attempt (setup_attempt t bytes)) (unheard_course bytes kind r e.onward) (unheard_at (setup_attempt t bytes) w bytes kind (no_ack (outcome_in (setup_attempt t bytes) w) on))
 
--- The faults that are answers
+-- Who answered
+
+pub due_back : (w : World) (j : ℕ) (p : List ℕ) → reach_at (ready w).roots j p ≡ true → (reach_at w.roots j p ≡ true) × (state_at (ready w).roots j p ≡ state_at w.roots j p)
+unfolding ready
+due_back w j p on = ((due_reach w.left w (suc j ∷ p) refl on).0, due_state w.left w (suc j ∷ p) on)
+
+-- what is so at the end, and of a device before each attempt where it is so after it, was so at first
+was_so : {Did : Deeds} {a : Attempt} {old : World} {j : ℕ} {p : List ℕ} {s : State} {outcomes : List Outcome} {w : World} {v : State} (P : State → Type 0)
+    → ((w : World) (i : ℕ) (q : List ℕ) (u x : State) → Did w i q u x → P x → P u) → Run Did a old j p s outcomes w v → P v → P s
+was_so P back none h = h
+was_so {j = j} {p = p} P back (more w u x t made r d) h = was_so P back r (back w j p u x d h)
 
 pub had_one : {t : Target} {old new : World} → Answerer t old new → HadOne t old
 had_one a = record { j = a.j; p = a.p; state = a.before; on = a.was_on; stands = a.stood; at = a.at }
@@ -159,43 +198,108 @@ unfolding GoesOn waits_in
 few_waits hear [] on = omega arith
 few_waits hear (o ∷ outcomes) on = on.2
 
--- so the last of too many was heard
-waited_last : (hear : Outcome → Heard) → hear outcome.Nothing ≡ Lost → (last : Outcome) (outcomes : List Outcome) → GoesOn hear outcomes → waits_in hear (last ∷ outcomes) ≡ 256 → last ≡ outcome.Nothing → ⊥
-unfolding waits_in
-waited_last hear lost last outcomes on full nothing =
-    let few : waits_in hear outcomes < 256 = few_waits hear outcomes on in
-    let same : waits_in hear outcomes ≡ 256 = sym (ap (λ h. waits_with h (waits_in hear outcomes)) (ap hear nothing ∙ lost)) ∙ full in
-    omega (arith, few, same)
+abbrev IsThere : Target → State → Type 0
+IsThere t s = is_at s t ≡ true
 
-module _ (t : Target) (a : Attempt) (its : a.addr ≡ t.addr) (keeps : KeepsAddress t a) (old new : World) (settled : IsSettled old.roots) (single : new.shared ≡ false) where
-  stall_had : {outcomes : List Outcome} {last : Outcome} → Trail a old (last ∷ outcomes) new → last ≡ outcome.Stall → HadOne t old
-  stall_had r stall = had_one (who t a its keeps settled r (λ n. cc (sym stall ∙ n)) single)
+module _ (t : Target) (a : Attempt) (its : a.addr ≡ t.addr) (Did : Deeds) (others : (w : World) (j : ℕ) (p : List ℕ) (s v : State) → Did w j p s v → is_at s t ≡ false → v ≡ s)
+    (does : (w : World) → IsMade a w → (after (attempt a) w).shared ≡ false → EachIf (IsThere t) (Did w) w (after (attempt a) w)) (old : World) (settled : IsSettled old.roots) where
+  back : (w : World) (j : ℕ) (p : List ℕ) (s v : State) → Did w j p s v → IsThere t v → IsThere t s
+  back w j p s v d = had_address t s v (others w j p s v d)
 
-  waits_had : (hear : Outcome → Heard) → hear outcome.Nothing ≡ Lost → {outcomes : List Outcome} {last : Outcome} → Trail a old (last ∷ outcomes) new → GoesOn hear outcomes → waits_in hear (last ∷ outcomes) ≡ 256 → HadOne t old
-  waits_had hear lost {outcomes} {last} r on full = had_one (who t a its keeps settled r (waited_last hear lost last outcomes on full) single)
+  -- what was heard at last came from it
+  who : {new : World} {last : Outcome} {outcomes : List Outcome} → new.shared ≡ false → Trail a old (last ∷ outcomes) new → last ≢ outcome.Nothing → Answerer t old new
+  unfolding with_attempt
+  who single (next {outcomes} w r made) loud =
+      let x = (one_answers a w (made_of a w (trail_settled r settled) made) single loud).held in
+      let h = holder_in a w x.j x.p x.b x.s x.below x.holder in
+      let there : _ = due_back w x.j x.p x.holder.on in
+      let at : IsThere t x.s = same_equal (address_of x.s) t.addr (x.holder.at ∙ its) in
+      let was : Was (λ j p s v. Run Did a old j p s outcomes w v) old x.j x.p x.s =
+      over_trail Did a (IsThere t) back does old settled r (made_unshared a w made single).before x.j x.p x.s there.0 (sym there.1 ∙ sym (state_stands (ready w).roots x.j x.p) ∙ ap stands x.holder.stands) at in
+      record {
+        j = x.j;
+        p = x.p;
+        now = forgotten (third a (damage_in (ready w)) (ready w).roots x.j x.p x.b x.s x.below h).1;
+        on = stays_reachable_in a w x.j x.p x.b x.s x.below x.holder;
+        stands = ap (λ v. state_at v.roots x.j x.p) (made_is a w x.holder.made) ∙ is_state a (damage_in (ready w)) (ready w).roots x.j x.p x.b x.s x.below h;
+        before = was.before;
+        was_on = was.on;
+        stood = was.stands;
+        at = was_so (IsThere t) back was.so at;
+      }
 
-  fault_had : (hear : Outcome → Heard) → hear outcome.Nothing ≡ Lost → (fault : TransFault) → IsAnswer fault → Transacted hear a old (Err fault) new → HadOne t old
-  fault_had hear lost Stalled y e = stall_had e.trail e.tells
-  fault_had hear lost Busy y e = waits_had hear lost e.trail e.onward e.tells
-  fault_had hear lost NoAnswer y e = absurd y
-  fault_had hear lost (Bus fault) y e = absurd y
+  module _ (new : World) (single : new.shared ≡ false) (hear : Outcome → Heard) (lost : hear outcome.Nothing ≡ Lost) where
+    moved_who : (bytes : List ℕ) → Ended hear a old (Ok bytes) new → Answerer t old new
+    moved_who bytes e = who single e.trail (λ n. cc (sym lost ∙ sym (ap hear n) ∙ e.tells))
+
+    -- the last of too many waits was heard
+    fault_had : (fault : TransFault) → IsAnswer fault → Transacted hear a old (Err fault) new → HadOne t old
+    unfolding waits_in
+    fault_had Stalled y e = had_one (who single e.trail (λ n. cc (sym e.tells ∙ n)))
+    fault_had Busy y e =
+        had_one (who single e.trail (λ n.
+        omega (arith, few_waits hear e.outcomes e.onward, sym (ap (λ h. waits_with h (waits_in hear e.outcomes)) (ap hear n ∙ lost)) ∙ e.tells)))
+    fault_had NoAnswer y e = absurd y
+    fault_had (Bus fault) y e = absurd y
+
+-- The three kinds
+
+-- one at an address that is not 0 was not reset
+does_setup : (t : Target) (bytes : List ℕ) → length bytes ≡ 8 → (is_harmless (setup_of bytes) ≡ false → t.addr ≢ 0) → (w : World) → IsMade (setup_attempt t bytes) w → (after (attempt (setup_attempt t bytes)) w).shared ≡ false
+    → EachIf (IsThere t) (Accepts t bytes w) w (after (attempt (setup_attempt t bytes)) w)
+does_setup t bytes eight addressed w made u j p v on there at = accepting t bytes eight w made u j p v on there (λ h. (addressed h, λ e. addressed h (sym (equal_same (address_of v) t.addr at) ∙ e)))
+
+pub set_up_answered : (t : Target) (bytes done : List ℕ) (old new : World) → length bytes ≡ 8 → (is_harmless (setup_of bytes) ≡ false → t.addr ≢ 0) → IsSettled old.roots
+    → Ended set_up_as (setup_attempt t bytes) old (Ok done) new → new.shared ≡ false → Answerer t old new
+set_up_answered t bytes done old new eight addressed settled e single =
+    moved_who t (setup_attempt t bytes) refl (Accepts t bytes) (λ w j p s v d. d.others) (does_setup t bytes eight addressed) old settled new single set_up_as refl done e
 
 pub set_up_had : (t : Target) (bytes : List ℕ) (fault : TransFault) (old new : World) → length bytes ≡ 8 → (is_harmless (setup_of bytes) ≡ false → t.addr ≢ 0) → IsSettled old.roots
     → IsAnswer fault → Transacted set_up_as (setup_attempt t bytes) old (Err fault) new → new.shared ≡ false → HadOne t old
 set_up_had t bytes fault old new eight addressed settled y e single =
-    fault_had t (setup_attempt t bytes) refl (set_up_keeps t bytes eight addressed) old new settled single set_up_as refl fault y e
+    fault_had t (setup_attempt t bytes) refl (Accepts t bytes) (λ w j p s v d. d.others) (does_setup t bytes eight addressed) old settled new single set_up_as refl fault y e
+
+module _ (t : Target) (ep : ℕ) (old new : World) (settled : IsSettled old.roots) (single : new.shared ≡ false) where
+  does_in : (w : World) → IsMade (in_attempt t ep) w → (after (attempt (in_attempt t ep)) w).shared ≡ false → EachIf (IsThere t) (DidIn (in_attempt t ep) w) w (after (attempt (in_attempt t ep)) w)
+  does_in w made u j p v on there at = each_in (in_attempt t ep) w made (record { kind = refl; payload = refl }) u j p v on there
+
+  who_in : {last : Outcome} {outcomes : List Outcome} → Trail (in_attempt t ep) old (last ∷ outcomes) new → last ≢ outcome.Nothing → Answerer t old new
+  who_in = who t (in_attempt t ep) refl (DidIn (in_attempt t ep)) (in_others t ep) does_in old settled single
+
+  moved_in : (hear : Outcome → Heard) → hear outcome.Nothing ≡ Lost → (bytes : List ℕ) → Ended hear (in_attempt t ep) old (Ok bytes) new → Answerer t old new
+  moved_in = moved_who t (in_attempt t ep) refl (DidIn (in_attempt t ep)) (in_others t ep) does_in old settled new single
+
+  had_in : (hear : Outcome → Heard) → hear outcome.Nothing ≡ Lost → (fault : TransFault) → IsAnswer fault → Transacted hear (in_attempt t ep) old (Err fault) new → HadOne t old
+  had_in = fault_had t (in_attempt t ep) refl (DidIn (in_attempt t ep)) (in_others t ep) does_in old settled new single
+
+pub read_answered : (t : Target) (ep : ℕ) (awaited : Toggle) (bytes : List ℕ) (old new : World) → IsSettled old.roots
+    → Ended (heard_as awaited) (in_attempt t ep) old (Ok bytes) new → new.shared ≡ false → Answerer t old new
+read_answered t ep awaited bytes old new settled e single = moved_in t ep old new settled single (heard_as awaited) refl bytes e
+
+pub poll_answered : (t : Target) (ep : ℕ) (toggle : Toggle) (bytes : List ℕ) (old new : World) → IsSettled old.roots
+    → Transacted (polled_as toggle) (in_attempt t ep) old (Ok bytes) new → new.shared ≡ false → Answerer t old new
+poll_answered t ep toggle bytes old new settled e single = moved_in t ep old new settled single (polled_as toggle) refl bytes e
+
+pub wait_answered : (t : Target) (ep : ℕ) (toggle : Toggle) (old new : World) → IsSettled old.roots → Waiting toggle (in_attempt t ep) old new → new.shared ≡ false → Answerer t old new
+wait_answered t ep toggle old new settled e single = who_in t ep old new settled single e.trail (λ n. cc n)
 
 pub read_had : (t : Target) (ep : ℕ) (awaited : Toggle) (fault : TransFault) (old new : World) → IsSettled old.roots
     → IsAnswer fault → Transacted (heard_as awaited) (in_attempt t ep) old (Err fault) new → new.shared ≡ false → HadOne t old
-read_had t ep awaited fault old new settled y e single = fault_had t (in_attempt t ep) refl (in_keeps t ep) old new settled single (heard_as awaited) refl fault y e
-
-pub write_had : (t : Target) (ep : ℕ) (toggle : Toggle) (bytes : List ℕ) (fault : TransFault) (old new : World) → IsSettled old.roots
-    → IsAnswer fault → Transacted sent_as (out_attempt t ep toggle bytes) old (Err fault) new → new.shared ≡ false → HadOne t old
-write_had t ep toggle bytes fault old new settled y e single = fault_had t (out_attempt t ep toggle bytes) refl (out_keeps t ep toggle bytes) old new settled single sent_as refl fault y e
+read_had t ep awaited fault old new settled y e single = had_in t ep old new settled single (heard_as awaited) refl fault y e
 
 pub poll_had : (t : Target) (ep : ℕ) (toggle : Toggle) (fault : TransFault) (old new : World) → IsSettled old.roots
     → IsAnswer fault → Polled toggle (in_attempt t ep) old (Err fault) new → new.shared ≡ false → HadOne t old
-poll_had t ep toggle Stalled old new settled y e single = stall_had t (in_attempt t ep) refl (in_keeps t ep) old new settled single e.trail e.tells
-poll_had t ep toggle Busy old new settled y e single = waits_had t (in_attempt t ep) refl (in_keeps t ep) old new settled single (heard_as toggle) refl e.trail e.onward e.tells
-poll_had t ep toggle NoAnswer old new settled y e single = absurd y
-poll_had t ep toggle (Bus fault) old new settled y e single = absurd y
+poll_had t ep toggle fault old new settled y e single = had_in t ep old new settled single (polled_as toggle) refl fault y e
+
+module _ (t : Target) (ep : ℕ) (toggle : Toggle) (bytes : List ℕ) where
+  does_out : (w : World) → IsMade (out_attempt t ep toggle bytes) w → (after (attempt (out_attempt t ep toggle bytes)) w).shared ≡ false
+      → EachIf (IsThere t) (DidOut (out_attempt t ep toggle bytes) toggle bytes w) w (after (attempt (out_attempt t ep toggle bytes)) w)
+  does_out w made u j p v on there at = each_out (out_attempt t ep toggle bytes) w toggle bytes made (record { kind = refl; payload = refl }) u j p v on there
+
+  pub write_answered : (done : List ℕ) (old new : World) → IsSettled old.roots → Ended sent_as (out_attempt t ep toggle bytes) old (Ok done) new → new.shared ≡ false → Answerer t old new
+  write_answered done old new settled e single =
+      moved_who t (out_attempt t ep toggle bytes) refl (DidOut (out_attempt t ep toggle bytes) toggle bytes) (out_others t ep toggle bytes) does_out old settled new single sent_as refl done e
+
+  pub write_had : (fault : TransFault) (old new : World) → IsSettled old.roots → IsAnswer fault → Transacted sent_as (out_attempt t ep toggle bytes) old (Err fault) new → new.shared ≡ false → HadOne t old
+  write_had fault old new settled y e single =
+      fault_had t (out_attempt t ep toggle bytes) refl (DidOut (out_attempt t ep toggle bytes) toggle bytes) (out_others t ep toggle bytes) does_out old settled new single sent_as refl fault y e

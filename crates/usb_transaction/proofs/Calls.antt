@@ -26,21 +26,13 @@ use Rattle.usb_transaction.specs.Leaves.{IsNotOfBus, ControlIn, ReadStatus, Sour
 use Rattle.usb_transaction.specs.Trail.{Ended, Transacted, Polled}
 use Rattle.usb_transaction.specs.Transactions.{SetupEnds, packet_of, setup_attempt, in_attempt, out_attempt}
 use Rattle.usb_transaction.specs.Failures.{WhyControlIn, WhyReadStatus, WhySourceIn, WhySinkOut, WhyPoll}
-use Rattle.usb_transaction.proofs.Answerers.{set_up_answered, read_answered, write_answered, wait_answered, poll_answered}
-use Rattle.usb_transaction.proofs.ControlTransactions.{control_leaves}
-use Rattle.usb_transaction.proofs.AttemptCounts.{ends_of, poll_ends}
-use Rattle.usb_transaction.proofs.Meanings.{set_up_done, set_up_unheard, read_done, read_stalled, write_done, write_stalled}
-use Rattle.usb_transaction.proofs.Polls.{poll_waits, poll_comes, poll_fails, poll_cut}
-use Rattle.usb_transaction.proofs.Setups.{setup_leaves}
-use Rattle.usb_transaction.proofs.Sinks.{sink_leaves}
-use Rattle.usb_transaction.proofs.Sources.{source_leaves}
-use Rattle.usb_transaction.proofs.ReadStatuses.{status_leaves}
-use Rattle.usb_transaction.proofs.ControlFailures.{control_in_why}
-use Rattle.usb_transaction.proofs.PollFailures.{poll_why}
-use Rattle.usb_transaction.proofs.ReadStatusFailures.{read_status_why}
-use Rattle.usb_transaction.proofs.SetupFailures.{set_up_why}
-use Rattle.usb_transaction.proofs.SinkFailures.{sink_why}
-use Rattle.usb_transaction.proofs.SourceFailures.{source_why}
+use Rattle.usb_transaction.proofs.Answerers.{set_up_answered, set_up_done, set_up_unheard, read_answered, read_done, read_stalled, write_answered, write_done, write_stalled, wait_answered, poll_answered}
+use Rattle.usb_transaction.proofs.ControlTransactions.{control_leaves, control_in_why}
+use Rattle.usb_transaction.proofs.TransactionTries.{ends_of, poll_ends}
+use Rattle.usb_transaction.proofs.Polls.{poll_leaves, poll_why}
+use Rattle.usb_transaction.proofs.SetupTransactions.{setup_leaves, set_up_why}
+use Rattle.usb_transaction.proofs.BulkTransactions.{sink_leaves, sink_why, source_leaves, source_why}
+use Rattle.usb_transaction.proofs.StatusTransactions.{read_status_why, status_leaves}
 
 -- where the bus did not give up, it went on to its end
 ended_of : {hear : Outcome → Heard} {a : Attempt} {old new : World} (result : Result (List ℕ) TransFault) → Transacted hear a old result new → IsNotOfBus result → Ended hear a old result new
@@ -197,27 +189,8 @@ module _ (t : Target) (bytes : List ℕ) (old new : World) (eight : length bytes
 -- Polls
 
 module _ (t : Target) (ep : ℕ) (toggle : Toggle) (old new : World) (least : 1 ≤ t.max) (settled : IsSettled old.roots) where
-  what_polled : (result : Result (Option (List ℕ)) TransFault) → Polled toggle (in_attempt t 1) old result new → new.shared ≡ false → EachWas (ChangesIn t toggle old result) old new
-  what_polled (Ok None) x single = poll_waits t toggle old new least settled x single
-  what_polled (Ok (Some bytes)) x single = poll_comes t toggle bytes old new least settled x single
-  what_polled (Err Stalled) x single = poll_fails t toggle Stalled old new least settled x single
-  what_polled (Err Busy) x single = poll_fails t toggle Busy old new least settled x single
-  what_polled (Err NoAnswer) x single = poll_fails t toggle NoAnswer old new least settled x single
-  what_polled (Err (Bus fault)) x single = poll_cut t toggle fault old new least settled x single
-
-  -- a poll that is done did not fail
-  never_failed : (got : Option (List ℕ)) → EachWas (ChangesIn t toggle old (Ok got)) old new → EachWas (WhyPoll t toggle (Ok got)) old new
-  never_failed got x = each_wider (ChangesIn t toggle old (Ok got)) (WhyPoll t toggle (Ok got)) (λ j p s v y. record { answered = λ l tells at works fault e. cc e }) old new x
-
-  why_polled : (result : Result (Option (List ℕ)) TransFault) → Polled toggle (in_attempt t 1) old result new → IsUnhindered old result new → EachWas (WhyPoll t toggle result) old new
-  why_polled (Ok got) x u = never_failed got (what_polled (Ok got) x u.single)
-  why_polled (Err Stalled) x u = poll_why t toggle Stalled old new least settled u.few x u.single
-  why_polled (Err Busy) x u = poll_why t toggle Busy old new least settled u.few x u.single
-  why_polled (Err NoAnswer) x u = poll_why t toggle NoAnswer old new least settled u.few x u.single
-  why_polled (Err (Bus fault)) x u = absurd u.whole
-
   pub what_poll : (result : Result (Option (List ℕ)) TransFault) → Polled toggle (in_attempt t ep) old result new → ep ≡ 1 → new.shared ≡ false → EachWas (ChangesIn t toggle old result) old new
-  what_poll result x one = what_polled result (subst (λ k. Polled toggle (in_attempt t k) old result new) one x)
+  what_poll result x one = poll_leaves t toggle result old new least settled (subst (λ k. Polled toggle (in_attempt t k) old result new) one x)
 
   who_poll : (result : Result (Option (List ℕ)) TransFault) → Polled toggle (in_attempt t ep) old result new → OnOk result (new.shared ≡ false → Answerer t old new)
   who_poll (Ok None) x = wait_answered t ep toggle old new settled x
@@ -231,6 +204,6 @@ module _ (t : Target) (ep : ℕ) (toggle : Toggle) (old new : World) (least : 1 
     ends = poll_ends toggle (in_attempt t ep) old new result x;
     short = short;
     what = what_poll result x;
-    why = λ one. why_polled result (subst (λ k. Polled toggle (in_attempt t k) old result new) one x);
+    why = λ one u. poll_why t toggle result old new least settled u.few (subst (λ k. Polled toggle (in_attempt t k) old result new) one x) u.whole u.single;
     who = who_poll result x;
   }

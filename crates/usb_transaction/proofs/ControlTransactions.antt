@@ -1,143 +1,560 @@
--- What IN of endpoint 0 leaves of each device, with what its answer says of the device.
-use Rattle.std.proofs.Common.{◌≡◌, ℕ, List, ◌∷◌, ◌≤◌, Bool, true, false, if◌then◌else◌, inl, Option, None, Some, Result, Ok, Err, refl, sym, subst, ap, ◌∙◌, arith}
+-- IN of endpoint 0: what it leaves of each device, and why it fails.
+use Rattle.std.proofs.Common.{◌≡◌, ◌≢◌, ◌⊎◌, inl, inr, ℕ, suc, ◌+◌, ◌-◌, ◌<◌, ◌≤◌, nat_le, nat_lt, ◌==◌, ◌&&◌, if◌then◌else◌, Bool, true, false, List, [], ◌∷◌, length, Option, None, Some, is_some, option_map, Result, Ok, Err, refl, sym, subst, ap, ◌∙◌, arith}
 use Rattle.usb_packet.specs.declared.Toggle.{Toggle}
-use Rattle.usb_packet.specs.declared.Toggle.TheVariants.{Zero}
+use Rattle.usb_packet.specs.declared.Toggle.TheVariants.{Zero, One}
+use Rattle.usb_packet.specs.Toggles.{is_same}
 use Rattle.usb_port.specs.PortState.{PortState}
+use Rattle.usb_device.specs.declared.answer.Answer.{Answer}
 use Rattle.usb_device.specs.declared.answer.Answer.TheVariants as answer
-use Rattle.usb_device.specs.Progress.{ReadOn, StatusOn, StatusGiven, unseen}
-use Rattle.usb_device.specs.Transfer.{refused}
-use Rattle.usb_device.specs.Rows.{State, is_busy, nak_row}
-use Rattle.usb_device.specs.Attempt.{Way, whole, broken, lost, heard, in_stage_law, in_law}
-use Rattle.usb_device.specs.Tree.{row_of}
-use Rattle.usb_world.specs.declared.types.BusFault.{BusFault}
+use Rattle.usb_device.specs.declared.transfer.Giver.TheVariants as by
+use Rattle.usb_device.specs.declared.transfer.Memory.{Memory}
+use Rattle.usb_device.specs.Transfer.{Stage, idle, refused, reading, read, ending, max_packet, packet_at, toggle_at}
+use Rattle.usb_device.specs.Spec.{Spec}
+use Rattle.usb_device.specs.Rows.{State, Reply, payload, forgotten, is_busy, nak_row, acknowledged}
+use Rattle.usb_device.specs.Attempt.{Way, whole, broken, lost, is_whole, heard, gave, in_stage_law, in_law}
+use Rattle.usb_device.specs.declared.request.Registers.{Registers}
+use Rattle.usb_device.proofs.Interface.{control_read, itself}
+use Rattle.usb_device.specs.Tree.{Ports, row_of, reach_at, state_at}
+use Rattle.usb_device.specs.Delivery.{held, is_twice}
 use Rattle.usb_world.specs.Passes.{IsSettled}
-use Rattle.usb_world.specs.OneHolder.{IsMade}
-use Rattle.usb_world.specs.World.{World}
-use Rattle.usb_world.specs.Steps.{attempt, after, outcome_in}
-use Rattle.usb_world.specs.Devices.{Relation, Was, EachWas, DidIn}
-use Rattle.usb_world.proofs.Interface.{each_in, each_wider}
+use Rattle.usb_world.specs.Paths.{address_of, same_number, same_path}
+use Rattle.usb_device.specs.Progress.{address_then, taken_of, ReadingAt, ReadOn, StatusOn, StatusGiven, seen, unseen, OnlyControl}
+use Rattle.usb_world.specs.declared.types.Outcome.{Outcome}
+use Rattle.usb_world.specs.declared.types.Outcome.TheVariants.{Payload, Ack, Nak, Stall, Nothing}
+use Rattle.usb_world.specs.OneHolder.{IsMade, AttemptAnswerer, got}
+use Rattle.usb_world.specs.declared.types.BusFault.{BusFault}
+use Rattle.usb_world.specs.World.{World, Made}
+use Rattle.usb_world.specs.Steps.{ready, attempt, after, outcome_in, damage_in}
+use Rattle.usb_world.specs.Devices.{Was, EachWas, DidIn}
 use Rattle.usb_transaction.specs.declared.target.Target.{Target}
+use Rattle.usb_transaction.specs.declared.heard.Heard.{Heard}
+use Rattle.usb_transaction.specs.declared.heard.Heard.TheVariants.{Moved, NotReady, Repeat, Refused, Lost}
 use Rattle.usb_transaction.specs.declared.fault.TransFault.{TransFault}
 use Rattle.usb_transaction.specs.declared.fault.TransFault.TheVariants.{Stalled, Busy, NoAnswer, Bus}
 use Rattle.usb_transaction.specs.Heard.{heard_as}
-use Rattle.usb_transaction.specs.Trail.{Ended, CutOff, Transacted, Tells}
-use Rattle.usb_transaction.specs.Transactions.{in_attempt}
-use Rattle.usb_transaction.specs.Leaves.{packet_in, is_at, ReadCut, ReadEnds, none_came, one_came, StatusEnds, ControlIn}
-use Rattle.usb_transaction.proofs.ControlSteps.{left_stage, Step, each_over_control, CutControl, each_cut_control}
-use Rattle.usb_transaction.proofs.CutAttempts.{each_cut}
-use Rattle.usb_transaction.proofs.PossibleAnswers.{Replies, none_replies, nak_replies, free_replies, Brings, brings_other, brings_silent, brings_asked, Could, each_could, can_answer}
-use Rattle.usb_transaction.proofs.DeviceTrails.{each_both, in_step, by_ending}
-use Rattle.usb_transaction.proofs.DamagedRuns.{not_busy}
-use Rattle.usb_transaction.proofs.ControlFailures.{stage_naks}
-use Rattle.usb_transaction.proofs.ControlStalls.{stalled_refused}
+use Rattle.usb_transaction.specs.Trail.{Trail, start, next, IsNoEnd, waits_with, waits_in, Ended, Transacted}
+use Rattle.usb_transaction.specs.Failures.{NoThreeDamaged, Listens, Fits, HasNext, data_stage, status, refusal, WhyControlIn}
+use Rattle.std.proofs.lemmas.Bool.Decides.{nat_tests}
+use Rattle.arrayvec.specs.ArrayVec.{ArrayVec}
+use Rattle.usb_transaction.proofs.DeviceRuns.{Run, Through, Told, IsEnd, IsOfBus, at_end, heeded, asked_in, each_device, over_in, over_in_trail}
+use Rattle.usb_world.specs.declared.types.Attempt.{Attempt}
+use Rattle.usb_transaction.specs.Transactions.{packet_of, in_attempt}
+use Rattle.usb_transaction.specs.Leaves.{packet_in, is_at, IsNotOfBus, CanAnswer, ReadCut, none_came, one_came, ReadEnds, StatusEnds, ControlIn}
+use Rattle.usb_transaction.proofs.LastOutcomes.{packet_heard, heard_taken, no_packet}
+use Rattle.usb_transaction.proofs.DeviceTrails.{mine, other_twice, at_from, had_address}
+use Rattle.usb_transaction.proofs.DamagedRuns.{not_busy, positive, LostRun, run_none, run_short, damaged_more}
+use Rattle.usb_transaction.proofs.Trails.{second_false, trail_settled, made_unshared}
+use Rattle.usb_transaction.proofs.Answerers.{due_back}
+use Rattle.usb_transaction.proofs.Listeners.{one_wait, listens_on, as_whole}
+use Rattle.usb_world.proofs.Interface.{both, data_calm, decided, equal_same, in_in, is_same as same_is_number, made_is, made_of, made_reach, no, one_answers, other_address, ready_settled, same_equal, same_is, stands, state_stands, stays_reachable_in}
 
--- One attempt
+-- What a device that is asked answers, and what it is then
 
-replies_control : (max : ℕ) (s : State) (t2 t3 : Way) (b : Bool) → is_busy s ≡ b → Replies max s (if b then (heard t2 (Some answer.Nak), (nak_row s).1) else in_stage_law s s.stage max t2 t3)
-replies_control max s t2 t3 true busy = nak_replies max s (nak_row s).1 t2 refl refl (omega arith)
-replies_control max s t2 t3 false busy =
-    free_replies max s (in_stage_law s s.stage max t2 t3) (not_busy s busy) (ap {A = State} (λ x. x.spec) (left_stage Zero max s s.stage t2 t3).frame) (omega (arith, stage_naks max s s.stage t2 t3))
+-- what the host got of it: NAK while it is busy; STALL of a request that is refused; a packet of a control read; or the empty packet of a status stage
+pub data Gave (u : State) : Outcome → State → Type 0 where
+  silence : (k : ℕ) → k ≤ u.naks → Gave u Nothing (record u { naks = k })
+  a_nak : is_busy u ≡ true → Gave u Nak (nak_row u).1
+  a_stall : is_busy u ≡ false → u.stage ≡ refused → Gave u Stall u
+  a_packet : is_busy u ≡ false → (text bytes : List ℕ) (wanted k n : ℕ) (m : Memory) → u.stage ≡ reading text wanted k
+      → Gave u (Payload (toggle_at k) (packet_of bytes)) (record u { memory = m; stage = reading text wanted n })
+  a_status : is_busy u ≡ false → (a : Option ℕ) (v : State) → u.stage ≡ ending a → StatusGiven a u v → OnlyControl u v → v.naks ≡ u.naks → Gave u (Payload One (packet_of [])) v
 
-replies_in : (max : ℕ) (s : State) (row : List PortState) (t1 t2 t3 : Way) → Replies max s (in_law s row 0 max t1 t2 t3)
-replies_in max s row whole t2 t3 = replies_control max s t2 t3 (is_busy s) refl
-replies_in max s row broken t2 t3 = none_replies max s
-replies_in max s row lost t2 t3 = none_replies max s
+abbrev Gives : ℕ → State → Reply → Type 0
+Gives max u r = Gave u (got max r.0) r.1
 
-did_brings : (t : Target) (w : World) (j : ℕ) (p : List ℕ) (s v : State) → DidIn (in_attempt t 0) w j p s v → Brings t (outcome_in (in_attempt t 0) w) s v
-did_brings t w j p s v (DidIn.other d e) = brings_other t (outcome_in (in_attempt t 0) w) s v d e
-did_brings t w j p s v (DidIn.silent d q o e) = brings_silent t (outcome_in (in_attempt t 0) w) s v o e
-did_brings t w j p s v (DidIn.asked d q b below h x o e) =
-    brings_asked t (outcome_in (in_attempt t 0) w) s v (in_law s (row_of below) 0 t.max x.first x.second x.third) q (replies_in t.max s (row_of below) x.first x.second x.third) o e
+gives_none : (max : ℕ) (u : State) → Gives max u (None, u)
+gives_none max u = silence u.naks (omega arith)
+
+heard_or : (P : Option Answer → Type 0) (o : Option Answer) (t : Way) → P o → P None → P (heard t o)
+heard_or P o whole x y = x
+heard_or P o broken x y = y
+heard_or P o lost x y = y
+
+gives_packet : (max : ℕ) (toggle : Toggle) (bytes : List ℕ) (u : State) (t2 t3 : Way) → Gave u (Payload toggle (packet_of bytes)) (forgotten (acknowledged u by.Control)) → Gave u (Payload toggle (packet_of bytes)) u
+    → Gives max u (gave u by.Control max toggle bytes t2 t3)
+gives_packet max toggle bytes u whole t3 x y = fits (nat_le (length bytes) max) t3
+  where
+    fits : (b : Bool) (t : Way) → Gave u (if b then Payload toggle (packet_of bytes) else Nothing) (if b && is_whole t then forgotten (acknowledged u by.Control) else u)
+    fits true whole = x
+    fits true broken = y
+    fits true lost = y
+    fits false t = gives_none max u
+gives_packet max toggle bytes u broken t3 x y = gives_none max u
+gives_packet max toggle bytes u lost t3 x y = gives_none max u
+
+abbrev at_stage : State → Stage → State
+at_stage s st = record s { stage = st }
+
+gives_read : (max : ℕ) (s : State) (text : List ℕ) (wanted k : ℕ) (t2 t3 : Way) → is_busy s ≡ false → (o : Option (List ℕ))
+    → Gives max (at_stage s (reading text wanted k)) (elim o [ None ↦ (None, at_stage s (reading text wanted k)) | Some bytes ↦ gave (at_stage s (reading text wanted k)) by.Control max (toggle_at k) bytes t2 t3 ])
+gives_read max s text wanted k t2 t3 free None = gives_none max (at_stage s (reading text wanted k))
+gives_read max s text wanted k t2 t3 free (Some bytes) =
+    gives_packet max (toggle_at k) bytes (at_stage s (reading text wanted k)) t2 t3 (acked (is_some (packet_at (max_packet s.spec) wanted text k))) (a_packet free text bytes wanted k k s.memory refl)
+  where
+    acked : (b : Bool) → Gave (at_stage s (reading text wanted k)) (Payload (toggle_at k) (packet_of bytes)) (forgotten (if b then at_stage s (reading text wanted (k + 1)) else at_stage s (reading text wanted k)))
+    acked true = a_packet free text bytes wanted k (k + 1) _ refl
+    acked false = a_packet free text bytes wanted k k _ refl
+
+gives_stage : (max : ℕ) (s : State) (st : Stage) (t2 t3 : Way) → is_busy s ≡ false → Gives max (at_stage s st) (in_stage_law (at_stage s st) st max t2 t3)
+gives_stage max s idle t2 t3 free = gives_none max (at_stage s idle)
+gives_stage max s refused t2 t3 free = heard_or (λ o. Gives max (at_stage s refused) (o, at_stage s refused)) (Some answer.Stall) t2 (a_stall free refl) (gives_none max (at_stage s refused))
+gives_stage max s (reading text wanted k) t2 t3 free = gives_read max s text wanted k t2 t3 free (packet_at (max_packet s.spec) wanted text k)
+gives_stage max s read t2 t3 free = gives_none max (at_stage s read)
+gives_stage max s (ending None) t2 t3 free = gives_packet max One [] (at_stage s (ending None)) t2 t3 (a_status free None _ refl (seen refl refl) refl refl) (a_status free None _ refl (unseen refl refl) refl refl)
+gives_stage max s (ending (Some a)) t2 t3 free = gives_packet max One [] (at_stage s (ending (Some a))) t2 t3 (a_status free (Some a) _ refl (seen refl refl) refl refl) (a_status free (Some a) _ refl (unseen refl refl) refl refl)
+
+gives_control : (max : ℕ) (u : State) (t2 t3 : Way) (b : Bool) → is_busy u ≡ b → Gives max u (if b then (heard t2 (Some answer.Nak), (nak_row u).1) else in_stage_law u u.stage max t2 t3)
+gives_control max u t2 t3 true busy = heard_or (λ o. Gives max u (o, (nak_row u).1)) (Some answer.Nak) t2 (a_nak busy) (silence (u.naks - 1) (omega arith))
+gives_control max u t2 t3 false free = gives_stage max u u.stage t2 t3 free
+
+pub gives_in : (max : ℕ) (u : State) (row : List PortState) (t1 t2 t3 : Way) → Gives max u (in_law u row 0 max t1 t2 t3)
+gives_in max u row whole t2 t3 = gives_control max u t2 t3 (is_busy u) refl
+gives_in max u row broken t2 t3 = gives_none max u
+gives_in max u row lost t2 t3 = gives_none max u
+
+-- What a device is after attempts of which the last brought these bytes
+
+-- neither silent nor always busy
+abbrev pub Free : Spec → Type 0
+Free spec = (spec.silent ≡ false) × (spec.busy ≡ false)
+
+-- a device of this description made the host hear this: only one that is not silent is heard, and only one that is not always busy says more than that
+abbrev pub Says : Spec → Heard → Type 0
+Says spec h = (h ≡ Lost) ⊎ ((spec.silent ≡ false) × ((h ≡ NotReady) ⊎ (spec.busy ≡ false)))
+
+says_free : (spec : Spec) (h : Heard) → Says spec h → h ≢ Lost → h ≢ NotReady → Free spec
+says_free spec h (inl e) some more = absurd (some e)
+says_free spec h (inr x) some more = elim x.1 [ inl e ↦ absurd (more e) | inr calm ↦ (x.0, calm) ]
+
+pub can_answer : (spec : Spec) (hear : Outcome → Heard) → hear Stall ≡ Refused → (result : Result (List ℕ) TransFault) (o : Outcome) (outcomes : List Outcome) → IsEnd hear result o outcomes → Says spec (hear o)
+    → (waits_in hear (o ∷ outcomes) ≡ 0) ⊎ (spec.silent ≡ false) → CanAnswer spec result
+can_answer spec hear refuses (Ok bytes) o outcomes e says waits = says_free spec (hear o) says (λ f. cc (sym e ∙ f)) (λ f. cc (sym e ∙ f))
+can_answer spec hear refuses (Err Stalled) o outcomes e says waits = says_free spec (hear o) says (λ f. cc (sym refuses ∙ ap hear (sym e) ∙ f)) (λ f. cc (sym refuses ∙ ap hear (sym e) ∙ f))
+can_answer spec hear refuses (Err Busy) o outcomes e says waits = elim waits [ inl none ↦ absurd (omega (arith, none, e.1)) | inr loud ↦ loud ]
+can_answer spec hear refuses (Err NoAnswer) o outcomes e says waits = tt
+can_answer spec hear refuses (Err (Bus fault)) o outcomes e says waits = tt
+
+-- the first wait was heard
+pub waits_more : (spec : Spec) (hear : Outcome → Heard) (o : Outcome) (outcomes : List Outcome) → Says spec (hear o) → (waits_in hear outcomes ≡ 0) ⊎ (spec.silent ≡ false) → (waits_in hear (o ∷ outcomes) ≡ 0) ⊎ (spec.silent ≡ false)
+unfolding waits_in
+waits_more spec hear o outcomes (inl e) waits = rw e waits
+waits_more spec hear o outcomes (inr x) waits = inr x.0
+
+pub record Step (t : Target) (awaited : Toggle) (came : Option (List ℕ)) (s v : State) : Type 0 where
+  pub others : is_at s t ≡ false → v ≡ s
+  pub frame : OnlyControl s v
+  pub naks : v.naks ≤ s.naks
+  pub there : is_at s t ≡ true → (v.registers ≡ s.registers) ⊎ Free s.spec
+  pub reading : is_at s t ≡ true → (answer : List ℕ) (wanted n : ℕ) → awaited ≡ toggle_at n → ReadingAt answer wanted n s → ReadOn answer wanted n s came v × (v.registers ≡ s.registers)
+  pub status : is_at s t ≡ true → awaited ≡ One → (a : Option ℕ) → s.stage ≡ ending a → StatusOn a s came v
+  pub refuses : s.stage ≡ refused → (v.stage ≡ refused) × (v.registers ≡ s.registers) × (is_at s t ≡ true → came ≡ None)
+  pub fails : awaited ≡ One → came ≡ None → v.registers ≡ s.registers
+  pub back : v.stage ≡ refused → s.stage ≡ refused
+
+abbrev Reads : Target → Toggle → Option (List ℕ) → State → State → Type 0
+Reads t awaited came s v = is_at s t ≡ true → (answer : List ℕ) (wanted n : ℕ) → awaited ≡ toggle_at n → ReadingAt answer wanted n s → ReadOn answer wanted n s came v
+
+none_given : (a : Option ℕ) (s v : State) (came : Option (List ℕ)) → came ≡ None → v.stage ≡ ending a → v.registers ≡ s.registers → StatusOn a s came v
+none_given a s v came e stage registers = subst (λ x. StatusOn a s x v) (sym e) (stage, registers)
+
+reads_from : (text : List ℕ) (wanted n : ℕ) (s u v : State) (o : Option (List ℕ)) → u.spec ≡ s.spec → ReadOn text wanted n u o v → ReadOn text wanted n s o v
+reads_from text wanted n s u v None e h = h
+reads_from text wanted n s u v (Some bytes) e h = (ap (λ x. packet_at (max_packet x) wanted text n) (sym e) ∙ h.0, h.1)
+
+given_from : (a : Option ℕ) (s u v : State) → u.registers ≡ s.registers → StatusGiven a u v → StatusGiven a s v
+given_from a s u v e (seen stage registers) = seen stage (registers ∙ ap {A = Registers} (λ x. record x { address = address_then x.address a }) e)
+given_from a s u v e (unseen stage registers) = unseen stage (registers ∙ e)
+
+status_from : (a : Option ℕ) (s u v : State) (o : Option (List ℕ)) → u.registers ≡ s.registers → StatusOn a u o v → StatusOn a s o v
+status_from a s u v None e h = (h.0, h.1 ∙ e)
+status_from a s u v (Some bytes) e h = (h.0, given_from a s u v e h.1)
+
+module _ (t : Target) (awaited : Toggle) where
+  -- it stands where it stood
+  kept : (came : Option (List ℕ)) (s : State) (k : ℕ) → k ≤ s.naks → (is_at s t ≡ false → k ≡ s.naks) → (is_at s t ≡ true → came ≡ None) → Reads t awaited came s (record s { naks = k }) → Step t awaited came s (record s { naks = k })
+  kept came s k few same none reads = record {
+    others = λ a. ap (λ n. record s { naks = n }) (same a);
+    frame = refl;
+    naks = few;
+    there = λ at. inl refl;
+    reading = λ at text wanted n e r. (reads at text wanted n e r, refl);
+    status = λ at e a h. none_given a s (record s { naks = k }) came (none at) h refl;
+    refuses = λ h. (h, refl, none);
+    fails = λ e c. refl;
+    back = λ h. h;
+  }
+
+  pub unmoved : (s : State) → Step t awaited None s s
+  unmoved s = kept None s s.naks (omega arith) (λ a. refl) (λ at. refl) (λ at text wanted n e r. r)
+
+  abbrev came_in : Outcome → Option (List ℕ)
+  came_in o = packet_heard (heard_as awaited o)
+
+  gave_step : (u : State) (o : Outcome) (v : State) → Gave u o v → is_at u t ≡ true → u.spec.silent ≡ false → Reads t awaited (came_in o) u v → Step t awaited (came_in o) u v
+  gave_step u o v (silence k few) at loud reads = kept None u k few (mine t u at) (λ a. refl) reads
+  gave_step u o v (a_nak busy) at loud reads = kept None u (u.naks - 1) (omega arith) (mine t u at) (λ a. refl) reads
+  gave_step u o v (a_stall free h) at loud reads = kept None u u.naks (omega arith) (mine t u at) (λ a. refl) reads
+  gave_step u o v (a_packet free text bytes wanted k n m h) at loud reads = record {
+    others = mine t u at;
+    frame = refl;
+    naks = omega arith;
+    there = λ a. inl refl;
+    reading = λ a text wanted n e r. (reads a text wanted n e r, refl);
+    status = λ a e b g. cc (sym h ∙ g);
+    refuses = λ g. cc (sym h ∙ g);
+    fails = λ e c. refl;
+    back = λ g. cc g;
+  }
+  gave_step u o v (a_status free a x h given frame naks) at loud reads = record {
+    others = mine t u at;
+    frame = frame;
+    naks = omega (arith, naks);
+    there = λ at. inr (loud, not_busy u free);
+    reading = λ a text wanted n e r. cc (sym h ∙ r.stage);
+    status = λ at e b g. subst (λ z. StatusOn b u (packet_heard (heard_as z (Payload One (packet_of [])))) x) (sym e) (refl, subst (λ c. StatusGiven c u x) (cc (sym h ∙ g)) given);
+    refuses = λ g. cc (sym h ∙ g);
+    fails = λ e c. absurd (cc (ap (λ z. packet_heard (heard_as z (Payload One (packet_of [])))) (sym e) ∙ c));
+    back = λ g. elim given [ seen e r ↦ cc (sym e ∙ g) | unseen e r ↦ cc (sym e ∙ g) ];
+  }
+
+  gave_says : (u : State) (o : Outcome) (v : State) → Gave u o v → u.spec.silent ≡ false → Says u.spec (heard_as awaited o)
+  gave_says u o v (silence k few) loud = inl refl
+  gave_says u o v (a_nak busy) loud = inr (loud, inl refl)
+  gave_says u o v (a_stall free h) loud = inr (loud, inr (not_busy u free))
+  gave_says u o v (a_packet free text bytes wanted k n m h) loud = inr (loud, inr (not_busy u free))
+  gave_says u o v (a_status free a x h given frame naks) loud = inr (loud, inr (not_busy u free))
+
+  gave_in : (w : World) (j : ℕ) (p : List ℕ) (u v : State) → DidIn (in_attempt t 0) w j p u v → is_at u t ≡ true → Gave u (outcome_in (in_attempt t 0) w) v
+  gave_in w j p u v d at =
+      let x = asked_in t 0 w j p u v d at in
+      rw (x.is, x.gave) (gives_in t.max u x.row x.first x.second x.third)
+
+  -- one attempt; what another device answered is not this one's
+  pub did_step : (w : World) (j : ℕ) (p : List ℕ) (u v : State) → DidIn (in_attempt t 0) w j p u v → Step t awaited (came_in (outcome_in (in_attempt t 0) w)) u v
+  did_step w j p u v (DidIn.other d e) = rw e (kept (came_in (outcome_in (in_attempt t 0) w)) u u.naks (omega arith) (λ a. refl) (λ at. mine t u at d) (λ at. mine t u at d))
+  did_step w j p u v (DidIn.silent d q o e) = rw (o, e) (kept None u u.naks (omega arith) (λ a. refl) (λ at. refl) (λ at text wanted n f r. r))
+  did_step w j p u v (DidIn.asked d q b below stood x o e) =
+      let r : Reply = in_law u (row_of below) 0 t.max x.first x.second x.third in
+      rw (o, e) (gave_step u (got t.max r.0) r.1 (gives_in t.max u (row_of below) x.first x.second x.third) d q (λ at text wanted n f h.
+      subst (λ c. ReadOn text wanted n u c r.1) (ap (λ z. taken_of z t.max r.0) (sym f) ∙ sym (heard_taken awaited t.max r.0)) (control_read text wanted n u h (row_of below) t.max x.first x.second x.third)))
+
+  pub did_says : (w : World) (j : ℕ) (p : List ℕ) (u v : State) → DidIn (in_attempt t 0) w j p u v → is_at u t ≡ true → Says u.spec (heard_as awaited (outcome_in (in_attempt t 0) w))
+  did_says w j p u v (DidIn.other d e) at = mine t u at d
+  did_says w j p u v (DidIn.silent d q o e) at = inl (ap (heard_as awaited) o)
+  did_says w j p u v (DidIn.asked d q b below stood x o e) at = rw o (gave_says u _ _ (gives_in t.max u (row_of below) x.first x.second x.third) q)
+
+  -- and attempts before it that brought nothing
+  joined : (came : Option (List ℕ)) (s u v : State) → Step t awaited None s u → Step t awaited came u v → Step t awaited came s v
+  joined came s u v x y = record {
+    others = other_twice t s u v x.others y.others;
+    frame = cc (x.frame, y.frame);
+    naks = omega (arith, x.naks, y.naks);
+    there = λ at. elim (x.there at) [ inl e ↦ elim (y.there (at_from t s u e at)) [ inl f ↦ inl (f ∙ e) | inr free ↦ inr (subst Free (ap (λ z. z.spec) x.frame) free) ] | inr free ↦ inr free ];
+    reading = λ at text wanted n e r.
+        let before = x.reading at text wanted n e r in
+        let later = y.reading (at_from t s u before.1 at) text wanted n e before.0 in
+        (reads_from text wanted n s u v came (ap (λ z. z.spec) x.frame) later.0, later.1 ∙ before.1);
+    status = λ at e a h. let before = x.status at e a h in status_from a s u v came before.1 (y.status (at_from t s u before.1 at) e a before.0);
+    refuses = λ h. let before = x.refuses h in let later = y.refuses before.0 in (later.0, later.1 ∙ before.1, λ at. later.2 (at_from t s u before.1 at));
+    fails = λ e c. y.fails e c ∙ x.fails e refl;
+    back = λ h. x.back (y.back h);
+  }
+
+-- A STALL is of the one device that had the target's address from the first attempt on
+
+-- a place that is reachable after an attempt was so when it was made
+pub made_back : (t : Target) (w : World) → IsMade (in_attempt t 0) w → (j : ℕ) (p : List ℕ) → reach_at (after (attempt (in_attempt t 0)) w).roots j p ≡ true → reach_at (ready w).roots j p ≡ true
+made_back t w m j p on =
+    made_reach (in_attempt t 0) (ready w) (suc j ∷ p) (data_calm (in_attempt t 0) (damage_in (ready w)) (ready w).roots (ready_settled w m.settled) refl j p)
+    (ap (λ x. reach_at x.roots j p) (sym (made_is (in_attempt t 0) w m)) ∙ on)
+
+-- so it was when the first was made, and then no address was held twice
+begun : (t : Target) {old new : World} {o : Outcome} {outcomes : List Outcome} → IsSettled old.roots → Trail (in_attempt t 0) old (o ∷ outcomes) new → new.shared ≡ false
+    → (is_twice (held (ready old).roots) ≡ false) × ((j : ℕ) (p : List ℕ) → reach_at new.roots j p ≡ true → reach_at (ready old).roots j p ≡ true)
+begun t settled (next w start made) single = ((made_unshared (in_attempt t 0) w made single).single, made_back t w (made_of (in_attempt t 0) w settled made))
+begun t settled (next w (next x r before) made) single =
+    let b = begun t settled (next x r before) (made_unshared (in_attempt t 0) w made single).before in
+    (b.0, λ j p on. b.1 j p (due_back w j p (made_back t w (made_of (in_attempt t 0) w (trail_settled (next x r before) settled) made) j p on)).0)
+
+gave_stall : (u : State) (o : Outcome) (v : State) → Gave u o v → o ≡ Stall → u.stage ≡ refused
+gave_stall u o v (silence k few) e = cc e
+gave_stall u o v (a_nak busy) e = cc e
+gave_stall u o v (a_stall free h) e = h
+gave_stall u o v (a_packet free text bytes wanted k n m h) e = cc e
+gave_stall u o v (a_status free a x h given frame naks) e = cc e
+
+refused_back : (t : Target) {old : World} {j : ℕ} {p : List ℕ} {s : State} {outcomes : List Outcome} {w : World} {v : State} → Run (DidIn (in_attempt t 0)) (in_attempt t 0) old j p s outcomes w v → (is_at v t ≡ true) × (v.stage ≡ refused)
+    → (is_at s t ≡ true) × (s.stage ≡ refused)
+refused_back t Run.none h = h
+refused_back t {j = j} {p = p} (Run.more w u v r made run d) h = refused_back t run (had_address t u v (did_step t Zero w j p u v d).others h.0, (did_step t Zero w j p u v d).back h.1)
+
+same_device : (n : ℕ) (k : Ports) (i j : ℕ) (e p : List ℕ) (u s : State) → is_twice (held k) ≡ false → reach_at k i e ≡ true → state_at k i e ≡ Some u → address_of u ≡ n → reach_at k j p ≡ true → state_at k j p ≡ Some s → address_of s ≡ n → s ≡ u
+same_device n k i j e p u s single on there at on2 there2 at2 = pick (decided (same_number j i && same_path p e))
+  where
+    pick : ((same_number j i && same_path p e) ≡ true) ⊎ ((same_number j i && same_path p e) ≡ false) → s ≡ u
+    pick (inl y) = let x : _ = both (same_number j i) (same_path p e) y in cc (same_is_number j i x.0, same_is p e x.1)
+    pick (inr y) =
+        no (sym (other_address n k i e (record { single = single; on = on; at = ap (option_map address_of) there ∙ ap (λ x. Some x) at }) j p s y there2 on2) ∙ same_equal n (address_of s) (sym at2))
+
+pub stalled_refused : (t : Target) {old new : World} {o : Outcome} {outcomes : List Outcome} → IsSettled old.roots → Trail (in_attempt t 0) old (o ∷ outcomes) new → o ≡ Stall → new.shared ≡ false
+    → (j : ℕ) (p : List ℕ) (s : State) → reach_at new.roots j p ≡ true → state_at old.roots j p ≡ Some s → is_at s t ≡ true → s.stage ≡ refused
+stalled_refused t {old} settled (next {outcomes} w r made) stall single j p s on there at =
+    let y : AttemptAnswerer (in_attempt t 0) w = one_answers (in_attempt t 0) w (made_of (in_attempt t 0) w (trail_settled r settled) made) single (λ n. cc (sym stall ∙ n)) in
+    let h = y.held in
+    let x = in_in (in_attempt t 0) w h.j h.p h.b h.s h.below h.holder y.loud (record { kind = refl; payload = refl }) in
+    let back : _ = due_back w h.j h.p h.holder.on in
+    let was : Was (λ j p s v. Run (DidIn (in_attempt t 0)) (in_attempt t 0) old j p s outcomes w v) old h.j h.p h.s =
+    over_in_trail t 0 old w settled (made_unshared (in_attempt t 0) w made single).before r h.j h.p h.s back.0 (sym back.1 ∙ sym (state_stands (ready w).roots h.j h.p) ∙ ap stands h.holder.stands) tt in
+    let refuses : _ = refused_back t was.so (same_equal (address_of h.s) t.addr h.holder.at, gave_stall h.s _ _ (gives_in t.max h.s (row_of h.below) _ _ _) (sym x.outcome ∙ stall)) in
+    let b = begun t settled (next w r made) single in
+    let far : _ = b.1 h.j h.p (stays_reachable_in (in_attempt t 0) w h.j h.p h.b h.s h.below h.holder) in
+    ap (λ z. z.stage) (same_device t.addr (ready old).roots h.j j h.p p was.before s b.0 far ((due_back old h.j h.p far).1 ∙ was.stands) (equal_same (address_of was.before) t.addr refuses.0)
+    (b.1 j p on) ((due_back old j p (b.1 j p on)).1 ∙ there) (equal_same (address_of s) t.addr at)) ∙ refuses.1
 
 -- A transaction
 
-told : (t : Target) (awaited : Toggle) (result : Result (List ℕ) TransFault) (old new : World) (e : Ended (heard_as awaited) (in_attempt t 0) old result new) → result ≡ Err Stalled → Tells (heard_as awaited) (Err Stalled) e.last e.outcomes
-told t awaited result old new e r = subst (λ x. Tells (heard_as awaited) x e.last e.outcomes) r e.tells
+-- what came with an answer
+came_by : (awaited : Toggle) (P : Option (List ℕ) → Type 0) (F : Result (List ℕ) TransFault → Type 0) → ((bytes : List ℕ) → P (Some bytes) → F (Ok bytes)) → (P None → F (Err Stalled) × F (Err Busy) × F (Err NoAnswer))
+    → ((fault : BusFault) (c : Option (List ℕ)) → P c → F (Err (Bus fault))) → (result : Result (List ℕ) TransFault) (o : Outcome) (outcomes : List Outcome) → IsEnd (heard_as awaited) result o outcomes
+    → P (packet_heard (heard_as awaited o)) → F result
+came_by awaited P F some nil cut (Ok bytes) o outcomes e x = some bytes (subst (λ h. P (packet_heard h)) e x)
+came_by awaited P F some nil cut (Err Stalled) o outcomes e x = (nil (subst (λ y. P (packet_heard (heard_as awaited y))) e x)).0
+came_by awaited P F some nil cut (Err Busy) o outcomes e x = (nil (subst P (no_packet (heard_as awaited o) e.0) x)).1
+came_by awaited P F some nil cut (Err NoAnswer) o outcomes e x = (nil (subst P (no_packet (heard_as awaited o) e.0) x)).2
+came_by awaited P F some nil cut (Err (Bus fault)) o outcomes e x = cut fault (packet_heard (heard_as awaited o)) x
 
-reads_by : (answer : List ℕ) (wanted n : ℕ) (result : Result (List ℕ) TransFault) (s v : State) → ReadOn answer wanted n s (packet_in result) v → ReadEnds answer wanted n s result v
-reads_by answer wanted n (Ok bytes) s v x = x
-reads_by answer wanted n (Err Stalled) s v x = x
-reads_by answer wanted n (Err Busy) s v x = x
-reads_by answer wanted n (Err NoAnswer) s v x = x
-reads_by answer wanted n (Err (Bus fault)) s v x = none_came x
+of_bus : (F : Result (List ℕ) TransFault → Type 0) → ((fault : BusFault) → F (Err (Bus fault))) → (result : Result (List ℕ) TransFault) → IsOfBus result → F result
+of_bus F f (Ok bytes) n = absurd (n tt)
+of_bus F f (Err Stalled) n = absurd (n tt)
+of_bus F f (Err Busy) n = absurd (n tt)
+of_bus F f (Err NoAnswer) n = absurd (n tt)
+of_bus F f (Err (Bus fault)) n = f fault
 
-status_by : (a : Option ℕ) (result : Result (List ℕ) TransFault) (s v : State) → StatusOn a s (packet_in result) v → StatusEnds a s result v
-status_by a (Ok bytes) s v x = x
-status_by a (Err Stalled) s v x = x
-status_by a (Err Busy) s v x = x
-status_by a (Err NoAnswer) s v x = x
-status_by a (Err (Bus fault)) s v x = unseen x.0 x.1
-
-leaves : (t : Target) (awaited : Toggle) (result : Result (List ℕ) TransFault) (old new : World) (e : Ended (heard_as awaited) (in_attempt t 0) old result new) (j : ℕ) (p : List ℕ) (s v : State)
-    → (is_at s t ≡ true → result ≡ Err Stalled → s.stage ≡ refused) → Step t awaited (packet_in result) j p s v → Could t (e.last ∷ e.outcomes) j p s v → ControlIn t awaited result j p s v
-leaves t awaited result old new e j p s v stalls x c = record {
-  others = x.others;
-  frame = x.frame;
-  reading = λ at answer wanted n f h. reads_by answer wanted n result s v (x.reading (inl at) answer wanted n f h);
-  status = λ at f a h. status_by a result s v (x.status (inl at) f a h);
-  refused = λ h. ((x.refuses h).0, λ at bytes f. cc (ap packet_in (sym f) ∙ x.none (inl at) h));
-  rests = λ h. (x.refuses h).1;
-  failed = λ f fault g sound. x.fails f (ap packet_in g);
-  stalled = stalls;
-  could = λ at. can_answer (heard_as awaited) (record { nak = refl; nothing = refl }) s.spec result e.last e.outcomes e.tells (c.said at);
-  naks = c.naks;
-}
-
-pub control_in_leaves : (t : Target) (awaited : Toggle) (result : Result (List ℕ) TransFault) (old new : World) → IsSettled old.roots
-    → Ended (heard_as awaited) (in_attempt t 0) old result new → new.shared ≡ false → EachWas (ControlIn t awaited result) old new
-control_in_leaves t awaited result old new settled e single j p v on there =
-    let f : Was (λ j p s v. Step t awaited (packet_in result) j p s v × Could t (e.last ∷ e.outcomes) j p s v) old j p v =
-    each_both (Step t awaited (packet_in result)) (Could t (e.last ∷ e.outcomes)) old new (each_over_control t awaited old new settled single result e)
-    (each_could t (in_attempt t 0) (DidIn (in_attempt t 0)) (λ w made u. each_in (in_attempt t 0) w made (record { kind = refl; payload = refl }) u) (did_brings t) settled e.trail single) j p v on there in
-    record {
-      before = f.before;
-      on = f.on;
-      stands = f.stands;
-      so = leaves t awaited result old new e j p f.before v
-          (λ at r. stalled_refused t settled e.trail (told t awaited result old new e r) single j p f.before on f.stands at) f.so.0 f.so.1;
-    }
-
--- one that the bus cut off
-
-abbrev Fewer : Relation
-Fewer j p s v = v.naks ≤ s.naks
-
-each_fewer : (t : Target) (awaited : Toggle) (fault : BusFault) (old new : World) → IsSettled old.roots → CutOff (heard_as awaited) (in_attempt t 0) old fault new → new.shared ≡ false → EachWas Fewer old new
-each_fewer t awaited fault old new settled c single =
-    each_cut Fewer Fewer Fewer (λ j p s. omega arith) (λ j p s u v x y. omega (arith, x, y)) (λ j p s v x. x) (λ j p s u v x y. omega (arith, x, y))
-    (λ outcomes w trail made u n. falls w made u) (λ outcomes w trail made u n. falls w made u) settled c single
-  where
-    falls : (w : World) → IsMade (in_attempt t 0) w → (after (attempt (in_attempt t 0)) w).shared ≡ false → EachWas Fewer w (after (attempt (in_attempt t 0)) w)
-    falls w made u = in_step t 0 Fewer w (λ j p s v d. (did_brings t w j p s v d).naks) made u
-
-cut_read : (answer : List ℕ) (wanted n : ℕ) (s v : State) (o : Option (List ℕ)) → ReadOn answer wanted n s o v → ReadCut answer wanted n v
-cut_read answer wanted n s v None x = none_came x
-cut_read answer wanted n s v (Some bytes) x = one_came x.1
+cut_read : (text : List ℕ) (wanted n : ℕ) (s v : State) (o : Option (List ℕ)) → ReadOn text wanted n s o v → ReadCut text wanted n v
+cut_read text wanted n s v None x = none_came x
+cut_read text wanted n s v (Some bytes) x = one_came x.1
 
 cut_status : (a : Option ℕ) (s v : State) (o : Option (List ℕ)) → StatusOn a s o v → StatusGiven a s v
 cut_status a s v None x = unseen x.0 x.1
 cut_status a s v (Some bytes) x = x.1
 
-cut_leaves : (t : Target) (awaited : Toggle) (fault : BusFault) (old new : World) → IsSettled old.roots
-    → CutOff (heard_as awaited) (in_attempt t 0) old fault new → new.shared ≡ false → EachWas (ControlIn t awaited (Err (Bus fault))) old new
-cut_leaves t awaited fault old new settled c single =
-    each_wider (λ j p s v. CutControl t awaited j p s v × Fewer j p s v) (ControlIn t awaited (Err (Bus fault)))
-    (λ j p s v x. record {
-      others = x.0.one.others;
-      frame = x.0.one.frame;
-      reading = λ at answer wanted n e h. cut_read answer wanted n s v x.0.came (x.0.one.reading (inl at) answer wanted n e h);
-      status = λ at e a h. cut_status a s v x.0.came (x.0.one.status (inl at) e a h);
-      refused = λ h. ((x.0.one.refuses h).0, λ at bytes e. cc e);
-      rests = λ h. (x.0.one.refuses h).1;
-      failed = λ f other e sound. absurd sound;
-      stalled = λ at e. cc e;
-      could = λ at. tt;
-      naks = x.1;
-    }) old new
-    (each_both (CutControl t awaited) Fewer old new (each_cut_control t awaited old new settled single fault c) (each_fewer t awaited fault old new settled c single))
+module _ (t : Target) (awaited : Toggle) (result : Result (List ℕ) TransFault) (j : ℕ) (p : List ℕ) (s v : State) (stalled : is_at s t ≡ true → result ≡ Err Stalled → s.stage ≡ refused) where
+  leaves : (o : Outcome) (outcomes : List Outcome) → IsEnd (heard_as awaited) result o outcomes → Step t awaited (came_in t awaited o) s v → (is_at s t ≡ true → CanAnswer s.spec result) → ControlIn t awaited result j p s v
+  leaves o outcomes e x could =
+      let same : IsNotOfBus result → came_in t awaited o ≡ packet_in result = came_by awaited (λ c. came_in t awaited o ≡ c) (λ y. IsNotOfBus y → came_in t awaited o ≡ packet_in y) (λ b z n. z) (λ z. (λ n. z, λ n. z, λ n. z)) (λ f c z n. absurd n)
+      result o outcomes e refl in
+      record {
+        others = x.others;
+        frame = x.frame;
+        reading = λ at text wanted n f r.
+            came_by awaited (λ c. ReadOn text wanted n s c v) (λ y. ReadEnds text wanted n s y v) (λ b z. z) (λ z. (z, z, z)) (λ fault c z. cut_read text wanted n s v c z) result o outcomes e (x.reading at text wanted n f r).0;
+        status = λ at f a h. came_by awaited (λ c. StatusOn a s c v) (λ y. StatusEnds a s y v) (λ b z. z) (λ z. (z, z, z)) (λ fault c z. cut_status a s v c z) result o outcomes e (x.status at f a h);
+        refused = λ h. ((x.refuses h).0, λ at bytes g. cc (sym ((x.refuses h).2 at) ∙ same (subst IsNotOfBus (sym g) tt) ∙ ap packet_in g));
+        rests = λ h. (x.refuses h).1;
+        failed = λ f fault g n. x.fails f (same n ∙ ap packet_in g);
+        stalled = stalled;
+        could = could;
+        naks = x.naks;
+      }
 
--- whatever its answer is
+  control_in : (old new : World) → Through (DidIn (in_attempt t 0)) (in_attempt t 0) (heard_as awaited) (IsEnd (heard_as awaited) result) (IsOfBus result) old new j p s v → ControlIn t awaited result j p s v
+  unfolding waits_in
+  control_in old new run =
+      at_end (heard_as awaited) (λ outcomes w u. Step t awaited None s u × (is_at s t ≡ true → (waits_in (heard_as awaited) outcomes ≡ 0) ⊎ (s.spec.silent ≡ false))) (unmoved t awaited s, λ at. inl none_waited)
+      (λ outcomes w u y trail made i d n. (
+        joined t awaited None s u y i.0 (subst (λ c. Step t awaited c u y) (no_packet (heard_as awaited (outcome_in (in_attempt t 0) w)) n) (did_step t awaited w j p u y d)),
+        λ at. waits_more s.spec (heard_as awaited) (outcome_in (in_attempt t 0) w) outcomes (said w u y i.0 d at) (i.1 at),
+      ))
+      (ControlIn t awaited result j p s) v
+      (λ outcomes w u trail i d is told. leaves (outcome_in (in_attempt t 0) w) outcomes is (joined t awaited (came_in t awaited (outcome_in (in_attempt t 0) w)) s u v i.0 (did_step t awaited w j p u v d))
+      (λ at. can_answer s.spec (heard_as awaited) refl result (outcome_in (in_attempt t 0) w) outcomes is (said w u v i.0 d at) (waits_more s.spec (heard_as awaited) (outcome_in (in_attempt t 0) w) outcomes (said w u v i.0 d at) (i.1 at))))
+      (λ gave outcomes w i. leaves Nothing outcomes (of_bus (λ r. IsEnd (heard_as awaited) r Nothing outcomes) (λ f. tt) result gave) i.0 (λ at. of_bus (λ r. CanAnswer s.spec r) (λ f. tt) result gave)) run
+    where
+      none_waited : waits_in (heard_as awaited) [] ≡ 0
+      none_waited = refl
+
+      said : (w : World) (u y : State) → Step t awaited None s u → DidIn (in_attempt t 0) w j p u y → is_at s t ≡ true → Says s.spec (heard_as awaited (outcome_in (in_attempt t 0) w))
+      said w u y x d at = elim (x.there at) [
+        | inl e ↦ subst (λ z. Says z (heard_as awaited (outcome_in (in_attempt t 0) w))) (ap (λ z. z.spec) x.frame) (did_says t awaited w j p u y d (at_from t s u e at))
+        | inr free ↦ inr (free.0, inr free.1)
+      ]
+
+-- Why it fails: packets that come whole
+
+-- a device that stands so gives no repeat
+abbrev fits : Toggle → Stage → Bool
+fits awaited (reading text wanted k) = is_same awaited (toggle_at k)
+fits awaited (ending a) = is_same awaited One
+fits awaited st = true
+
+heard_some : (x : Bool) (b : ArrayVec ℕ) → (if x then Moved b else Repeat) ≢ Lost
+heard_some true b e = cc e
+heard_some false b e = cc e
+
+-- a device that has what is next is heard, and gives no repeat after it has given one
+abbrev Heeds : Target → Toggle → State → Reply → Type 0
+Heeds t awaited u r = (heard_as awaited (got t.max r.0) ≢ Lost) × (is_busy u ≡ false → fits awaited u.stage ≡ false → fits awaited r.1.stage ≡ true)
+
+within : (n max : ℕ) → n ≤ max → nat_le n max ≡ true
+within n max h = grind (arith, nat_tests, h)
+
+heeds_read : (t : Target) (awaited : Toggle) (u : State) (text : List ℕ) (wanted k : ℕ) → Fits t (max_packet u.spec) wanted text → (awaited ≡ toggle_at k) ⊎ (awaited ≡ toggle_at (k + 1)) → (o : Option (List ℕ)) → packet_at (max_packet u.spec) wanted text k ≡ o → is_some o ≡ true
+    → Heeds t awaited (at_stage u (reading text wanted k)) (elim o [ None ↦ (None, at_stage u (reading text wanted k)) | Some bytes ↦ gave (at_stage u (reading text wanted k)) by.Control t.max (toggle_at k) bytes whole whole ])
+heeds_read t awaited u text wanted k short near None packet some = cc some
+heeds_read t awaited u text wanted k short near (Some bytes) packet some =
+    rw (within (length bytes) t.max (short k bytes packet), ap is_some packet) (
+      heard_some (is_same awaited (toggle_at k)) (packet_of bytes),
+      λ free miss. elim near [
+        | inl e ↦ no (sym miss ∙ rw e (itself (toggle_at k)))
+        | inr e ↦ rw e (itself (toggle_at (k + 1)))
+      ],
+    )
+
+heeds_stage : (t : Target) (awaited : Toggle) (u : State) → HasNext t awaited u → Heeds t awaited u (in_stage_law u u.stage t.max whole whole)
+heeds_stage t awaited u (data_stage text wanted n e r some short) =
+    subst (λ st. Heeds t awaited (at_stage u st) (in_stage_law (at_stage u st) st t.max whole whole)) (sym r.stage)
+    (heeds_read t awaited u text wanted r.known short (elim r.near [ inl f ↦ inl (e ∙ ap toggle_at f) | inr f ↦ inr (e ∙ ap toggle_at f.0) ]) (packet_at (max_packet u.spec) wanted text r.known) refl
+    (elim r.near [ inl f ↦ rw (← f) some | inr f ↦ f.1 ]))
+heeds_stage t awaited u (status a h e) =
+    subst (λ st. Heeds t awaited (at_stage u st) (in_stage_law (at_stage u st) st t.max whole whole)) (sym h) (rw (e, within 0 t.max (omega arith)) (λ f. cc f, λ free miss. no (sym miss)))
+heeds_stage t awaited u (refusal h) =
+    subst (λ st. Heeds t awaited (at_stage u st) (in_stage_law (at_stage u st) st t.max whole whole)) (sym h) (λ f. cc f, λ free miss. no (sym miss))
+
+heeds_whole : (t : Target) (awaited : Toggle) (u : State) (row : List PortState) → HasNext t awaited u → Heeds t awaited u (in_law u row 0 t.max whole whole whole)
+heeds_whole t awaited u row h = pick (is_busy u) refl
+  where
+    pick : (b : Bool) → is_busy u ≡ b → Heeds t awaited u (if b then (Some answer.Nak, (nak_row u).1) else in_stage_law u u.stage t.max whole whole)
+    pick true busy = (λ f. cc f, λ free. no (sym free ∙ busy))
+    pick false busy = heeds_stage t awaited u h
+
+-- what a device does that is busy, or gives no repeat: it stands where it stood, and a wait is a NAK fewer
+steady : (awaited : Toggle) (u : State) (o : Outcome) (v : State) → Gave u o v → (is_busy u ≡ true) ⊎ (fits awaited u.stage ≡ true) → u.spec.busy ≡ false → IsNoEnd (heard_as awaited o)
+    → (v.stage ≡ u.stage) × ((n : ℕ) → waits_with (heard_as awaited o) n + v.naks ≤ n + u.naks)
+steady awaited u o v (silence k few) q calm end = (refl, λ n. omega (arith, few))
+steady awaited u o v (a_nak busy) q calm end = (refl, λ n. omega (arith, positive u busy calm))
+steady awaited u o v (a_stall free h) q calm end = absurd end
+steady awaited u o v (a_packet free text bytes wanted k n m h) (inl busy) calm end = no (sym free ∙ busy)
+steady awaited u o v (a_packet free text bytes wanted k n m h) (inr fit) calm end = absurd (subst (λ x. IsNoEnd (if x then Moved (packet_of bytes) else Repeat)) (ap (fits awaited) (sym h) ∙ fit) end)
+steady awaited u o v (a_status free a x h given frame naks) (inl busy) calm end = no (sym free ∙ busy)
+steady awaited u o v (a_status free a x h given frame naks) (inr fit) calm end = absurd (subst (λ x. IsNoEnd (if x then Moved (packet_of []) else Repeat)) (ap (fits awaited) (sym h) ∙ fit) end)
+
+none_left : (u : State) → is_busy u ≡ false → u.naks ≡ 0
+none_left u free = grind (arith, nat_tests, second_false u.spec.busy (nat_lt 0 u.naks) free)
+
+-- what is next is so until it comes
+next_kept : (t : Target) (awaited : Toggle) (p : List ℕ) (u v : State) → Step t awaited None u v → Listens t p u → HasNext t awaited u → Listens t p v × HasNext t awaited v
+next_kept t awaited p u v x l (data_stage text wanted n e r some short) =
+    let q = x.reading l.at text wanted n e r in
+    let spec : v.spec ≡ u.spec = ap (λ z. z.spec) x.frame in
+    (listens_on t p u v spec q.1 l, data_stage text wanted n e q.0 (rw spec some) (rw spec short))
+next_kept t awaited p u v x l (status a h e) = let q = x.status l.at e a h in (listens_on t p u v (ap (λ z. z.spec) x.frame) q.1 l, status a q.0 e)
+next_kept t awaited p u v x l (refusal h) = let q = x.refuses h in (listens_on t p u v (ap (λ z. z.spec) x.frame) q.1 l, refusal q.0)
+
+-- A device that has what is next, over attempts that go on: it waits no longer than it has NAKs, but for repeats, which come no more after an attempt that is not damaged
+
+module _ (t : Target) (awaited : Toggle) (old : World) (never : NoThreeDamaged old) (j : ℕ) (p : List ℕ) (s : State) where
+  abbrev a : Attempt
+  a = in_attempt t 0
+
+  abbrev hear : Outcome → Heard
+  hear = heard_as awaited
+
+  heeds_in : (w : World) (u v : State) → DidIn a w j p u v → Listens t p u × HasNext t awaited u → damage_in w ≡ None → (hear (outcome_in a w) ≢ Lost) × (is_busy u ≡ false → fits awaited u.stage ≡ false → fits awaited v.stage ≡ true)
+  heeds_in w u v d i sound =
+      let x = asked_in t 0 w j p u v d i.0.at in
+      rw (x.is, x.gave) (subst (Heeds t awaited u) (sym (as_whole (λ b c e. in_law u x.row 0 t.max b c e) x.first x.second x.third (x.heard sound i.0))) (heeds_whole t awaited u x.row i.1))
+
+  stays : (w : World) (u v : State) → DidIn a w j p u v → IsNoEnd (hear (outcome_in a w)) → Listens t p u × HasNext t awaited u → Listens t p v × HasNext t awaited v
+  stays w u v d n i = next_kept t awaited p u v (subst (λ c. Step t awaited c u v) (no_packet (hear (outcome_in a w)) n) (did_step t awaited w j p u v d)) i.0 i.1
+
+  record Waits (outcomes : List Outcome) (w : World) (u : State) : Type 0 where
+    few : waits_in hear outcomes + u.naks ≤ s.naks + 3
+    behind : fits awaited u.stage ≡ false → (r : ℕ) × LostRun old.damages r w.attempts × (waits_in hear outcomes + u.naks ≤ s.naks + r) × (0 < u.naks → waits_in hear outcomes + u.naks ≤ s.naks)
+
+  waits_none : Waits [] old s
+  unfolding waits_in
+  waits_none = record { few = omega arith; behind = λ miss. (0, run_none old.damages old.attempts, omega arith, λ pos. omega arith) }
+
+  one_more : (outcomes : List Outcome) (w : World) (u v : State) → Trail a old outcomes w → Made w (after (attempt a) w) → Listens t p u × HasNext t awaited u → u.spec.busy ≡ false → Waits outcomes w u → DidIn a w j p u v
+      → IsNoEnd (hear (outcome_in a w)) → Waits (outcome_in a w ∷ outcomes) (after (attempt a) w) v
+  unfolding waits_in
+  one_more outcomes w u v trail made i calm x d n = pick (decided (is_busy u)) (decided (fits awaited u.stage))
+    where
+      goes : (is_busy u ≡ true) ⊎ (fits awaited u.stage ≡ true) → (v.stage ≡ u.stage) × ((n : ℕ) → waits_with (hear (outcome_in a w)) n + v.naks ≤ n + u.naks)
+      goes q = steady awaited u (outcome_in a w) v (gave_in t awaited w j p u v d i.0.at) q calm n
+
+      pick : (is_busy u ≡ true) ⊎ (is_busy u ≡ false) → (fits awaited u.stage ≡ true) ⊎ (fits awaited u.stage ≡ false) → Waits (outcome_in a w ∷ outcomes) (after (attempt a) w) v
+      pick (inl busy) y =
+          let few : _ = (goes (inl busy)).1 (waits_in hear outcomes) in
+          record {
+            few = omega (arith, few, x.few);
+            behind = λ miss. let q = x.behind (ap (fits awaited) (sym (goes (inl busy)).0) ∙ miss) in
+                (0, run_none old.damages (after (attempt a) w).attempts, omega (arith, few, q.3 (positive u busy calm)), λ pos. omega (arith, few, q.3 (positive u busy calm)));
+          }
+      pick (inr free) (inl fit) = record {
+        few = omega (arith, (goes (inr fit)).1 (waits_in hear outcomes), x.few);
+        behind = λ miss. no (sym miss ∙ ap (fits awaited) (goes (inr fit)).0 ∙ fit);
+      }
+      pick (inr free) (inr miss) =
+          let q = x.behind miss in
+          let more : _ = one_wait (hear (outcome_in a w)) (waits_in hear outcomes) in
+          let left : v.naks ≤ u.naks = (did_step t awaited w j p u v d).naks in
+          record {
+            few = omega (arith, more, left, q.2, run_short old q.0 w.attempts never q.1);
+            behind = λ still. (
+              q.0 + 1,
+              damaged_more q.0 trail made (λ sound. no (sym still ∙ (heeds_in w u v d i sound).1 free miss)) q.1,
+              omega (arith, more, left, q.2),
+              λ pos. absurd (omega (arith, pos, left, none_left u free)),
+            );
+          }
+
+  too_many : (outcomes : List Outcome) (w : World) (u v : State) → Waits (outcome_in a w ∷ outcomes) (after (attempt a) w) v → waits_in hear (outcome_in a w ∷ outcomes) ≡ 256 → s.naks ≤ 200 → ⊥
+  too_many outcomes w u v x full few = omega (arith, x.few, full, few)
+
+  -- where it does not answer, or waits too long
+  why : (result : Result (List ℕ) TransFault) (new : World) (v : State) → Through (DidIn a) a hear (IsEnd hear result) (IsOfBus result) old new j p s v → WhyControlIn t awaited result j p s v
+  why result new v run = record {
+    answered = λ l h silent. heeded (λ u. Listens t p u × HasNext t awaited u) stays (l, h) never (λ w u y d i sound. (heeds_in w u y d i sound).0) (ending (Err NoAnswer) silent);
+    waited = λ l h calm few busy.
+        at_end hear (λ outcomes w u. (Listens t p u × HasNext t awaited u) × (u.spec.busy ≡ false) × Waits outcomes w u) ((l, h), calm, waits_none)
+        (λ outcomes w u y trail made i d n. (stays w u y d n i.0, ap (λ z. z.spec.busy) (did_step t awaited w j p u y d).frame ∙ i.1, one_more outcomes w u y trail made i.0 i.1 i.2 d n)) (λ y. ⊥) v
+        (λ outcomes w u trail i d end told. too_many outcomes w u v (one_more outcomes w u v trail (told (λ g. g tt)).0 i.0 i.1 i.2 d end.0) end.1 few) (λ gave outcomes w i. gave tt) (ending (Err Busy) busy);
+  }
+    where
+      ending : (r : Result (List ℕ) TransFault) → result ≡ r → Through (DidIn a) a hear (IsEnd hear r) (IsOfBus r) old new j p s v
+      ending r e = subst (λ y. Through (DidIn a) a hear (IsEnd hear y) (IsOfBus y) old new j p s v) e run
+
+-- Each device
+
+transacted_of : {hear : Outcome → Heard} {a : Attempt} {old new : World} (result : Result (List ℕ) TransFault) → Ended hear a old result new → Transacted hear a old result new
+transacted_of (Ok bytes) e = e
+transacted_of (Err Stalled) e = e
+transacted_of (Err Busy) e = e
+transacted_of (Err NoAnswer) e = e
+transacted_of (Err (Bus fault)) e = elim e.tells [ ]
+
 pub control_leaves : (t : Target) (awaited : Toggle) (result : Result (List ℕ) TransFault) (old new : World) → IsSettled old.roots
     → Transacted (heard_as awaited) (in_attempt t 0) old result new → new.shared ≡ false → EachWas (ControlIn t awaited result) old new
-control_leaves t awaited result old new settled x single =
-    by_ending (λ r. EachWas (ControlIn t awaited r) old new) (λ r e. control_in_leaves t awaited r old new settled e single) (λ f c. cut_leaves t awaited f old new settled c single) result x
+control_leaves t awaited result old new settled x single j p v on there =
+    let was : Was (λ j p s v. Through (DidIn (in_attempt t 0)) (in_attempt t 0) (heard_as awaited) (IsEnd (heard_as awaited) result) (IsOfBus result) old new j p s v) old j p v =
+    over_in t 0 old new settled single (heard_as awaited) result x j p v on there tt in
+    record {
+      before = was.before;
+      on = was.on;
+      stands = was.stands;
+      so = control_in t awaited result j p was.before v (λ at e. stalled (subst (λ r. Transacted (heard_as awaited) (in_attempt t 0) old r new) e x) was.before was.stands at) old new was.so;
+    }
+  where
+    stalled : Ended (heard_as awaited) (in_attempt t 0) old (Err Stalled) new → (s : State) → state_at old.roots j p ≡ Some s → is_at s t ≡ true → s.stage ≡ refused
+    stalled e s stood at = stalled_refused t settled e.trail e.tells single j p s on stood at
+
+pub control_in_leaves : (t : Target) (awaited : Toggle) (result : Result (List ℕ) TransFault) (old new : World) → IsSettled old.roots
+    → Ended (heard_as awaited) (in_attempt t 0) old result new → new.shared ≡ false → EachWas (ControlIn t awaited result) old new
+control_in_leaves t awaited result old new settled e = control_leaves t awaited result old new settled (transacted_of result e)
+
+pub control_in_why : (t : Target) (awaited : Toggle) (result : Result (List ℕ) TransFault) (old new : World) → IsSettled old.roots → NoThreeDamaged old
+    → Ended (heard_as awaited) (in_attempt t 0) old result new → new.shared ≡ false → EachWas (WhyControlIn t awaited result) old new
+control_in_why t awaited result old new settled never e single =
+    each_device (λ j p s v. Through (DidIn (in_attempt t 0)) (in_attempt t 0) (heard_as awaited) (IsEnd (heard_as awaited) result) (IsOfBus result) old new j p s v) (WhyControlIn t awaited result) old new
+    (λ j p s v run. why t awaited old never j p s result new v run) (over_in t 0 old new settled single (heard_as awaited) result (transacted_of result e))

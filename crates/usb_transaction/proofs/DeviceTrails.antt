@@ -18,7 +18,7 @@ use Rattle.usb_transaction.specs.declared.heard.Heard.{Heard}
 use Rattle.usb_transaction.specs.declared.heard.Heard.TheVariants.{Moved, NotReady, Repeat, Refused, Lost}
 use Rattle.usb_transaction.specs.declared.fault.TransFault.{TransFault}
 use Rattle.usb_transaction.specs.declared.fault.TransFault.TheVariants.{Stalled, Busy, NoAnswer, Bus}
-use Rattle.usb_transaction.specs.Trail.{Trail, start, next, errors_with, waits_with, errors_running, waits_in, IsNoEnd, GoesOn, HasNoNak, Tells, Ended, CutOff, Transacted}
+use Rattle.usb_transaction.specs.Trail.{Trail, start, next, errors_with, waits_with, errors_running, waits_in, IsNoEnd, GoesOn, Tells, Ended, CutOff, Transacted}
 use Rattle.usb_transaction.specs.Transactions.{packet_of, in_attempt, out_attempt}
 use Rattle.usb_transaction.specs.Leaves.{is_at}
 use Rattle.usb_transaction.proofs.Trails.{trail_settled, made_unshared}
@@ -33,11 +33,6 @@ pub none_ends : (hear : Outcome → Heard) (outcomes : List Outcome) → GoesOn 
 unfolding EachOf GoesOn
 none_ends hear [] g = tt
 none_ends hear (o ∷ outcomes) g = (g.0, none_ends hear outcomes g.3)
-
-pub none_ends_a_poll : (hear : Outcome → Heard) (outcomes : List Outcome) → GoesOn hear outcomes → HasNoNak outcomes → EachOf (λ o. IsNoEnd (hear o) × (o ≢ Nak)) outcomes
-unfolding EachOf GoesOn HasNoNak
-none_ends_a_poll hear [] g h = tt
-none_ends_a_poll hear (o ∷ outcomes) g h = ((g.0, h.0), none_ends_a_poll hear outcomes g.3 h.1)
 
 -- The induction
 

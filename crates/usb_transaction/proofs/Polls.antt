@@ -1,75 +1,100 @@
--- What a poll of a hub's status endpoint leaves of each device (11.12.3).
-use Rattle.std.proofs.Common.{◌≡◌, ◌≢◌, ◌≤◌, ◌⊎◌, inl, inr, ℕ, ◌==◌, nat_le, ◌&&◌, if◌then◌else◌, Bool, true, false, List, [], ◌∷◌, length, Option, None, Some, Result, Ok, Err, refl, sym, subst, ap, ◌∙◌, arith}
-use Rattle.std.proofs.lemmas.Bool.Decides.{nat_tests}
+-- A poll of a hub's status endpoint (11.12.3): what it leaves of each device, and why it fails.
+use Rattle.std.proofs.Common.{◌≡◌, ◌≢◌, ◌+◌, ◌≤◌, ◌⊎◌, inl, inr, ℕ, ◌==◌, nat_le, ◌&&◌, if◌then◌else◌, Bool, true, false, List, [], ◌∷◌, length, Option, None, Some, Result, Ok, Err, refl, sym, subst, ap, ◌∙◌, arith}
 use Rattle.arrayvec.specs.ArrayVec.{ArrayVec}
 use Rattle.usb_packet.specs.declared.Toggle.{Toggle}
-use Rattle.usb_packet.specs.declared.Toggle.TheVariants.{Zero, One}
 use Rattle.usb_port.specs.PortState.{PortState}
 use Rattle.usb_device.specs.declared.answer.Answer.{Answer}
 use Rattle.usb_device.specs.declared.answer.Answer.TheVariants as answer
 use Rattle.usb_device.specs.declared.transfer.Giver.TheVariants as by
-use Rattle.usb_device.specs.Bulk.{is_same, tells_changes, change_bits}
-use Rattle.usb_device.specs.Rows.{State, Reply, forgotten, acknowledged, bulk_of}
-use Rattle.usb_device.specs.Attempt.{Way, whole, broken, lost, is_whole, heard, gave, held_law, changes_law, in_bulk_law, in_law}
+use Rattle.usb_device.specs.Bulk.{other, is_same, tells_changes, change_bits}
+use Rattle.usb_device.specs.Rows.{State, Reply, forgotten, acknowledged, payload}
+use Rattle.usb_device.specs.Attempt.{Way, whole, is_whole, heard, gave, held_law, in_law}
 use Rattle.usb_device.specs.Tree.{row_of}
-use Rattle.usb_device.specs.Progress.{PollAt, level, told, ahead, NeverTold, ToldByte, PollOn, OnlyChanges}
-use Rattle.usb_device.proofs.Interface.{itself, law_is, poll_on}
+use Rattle.usb_device.specs.Progress.{PollAt, level, told, ahead, NeverTold, PollOn, OnlyChanges}
+use Rattle.usb_device.proofs.Interface.{at_least_one, itself, law_is, other_twice, poll_on}
+use Rattle.usb_world.specs.declared.types.Attempt.{Attempt}
 use Rattle.usb_world.specs.declared.types.Outcome.{Outcome}
-use Rattle.usb_world.specs.declared.types.Outcome.TheVariants as outcome
-use Rattle.usb_world.specs.Passes.{IsSettled}
-use Rattle.usb_world.specs.OneHolder.{got}
-use Rattle.usb_world.specs.World.{World}
-use Rattle.usb_world.specs.Steps.{attempt, after, outcome_in}
+use Rattle.usb_world.specs.declared.types.Outcome.TheVariants.{Payload, Stall}
 use Rattle.usb_world.specs.Devices.{EachWas, DidIn}
-use Rattle.usb_world.proofs.Interface.{decided, each_in, each_wider, no}
-use Rattle.usb_transaction.specs.declared.target.Target.{Target}
+use Rattle.usb_world.specs.OneHolder.{got}
+use Rattle.usb_world.specs.Passes.{IsSettled}
+use Rattle.usb_world.specs.Steps.{attempt, after, outcome_in, damage_in}
+use Rattle.usb_world.specs.World.{World, Made}
+use Rattle.usb_world.proofs.Interface.{decided, no}
 use Rattle.usb_transaction.specs.declared.fault.TransFault.{TransFault}
 use Rattle.usb_transaction.specs.declared.fault.TransFault.TheVariants.{Stalled, Busy, NoAnswer, Bus}
-use Rattle.usb_transaction.specs.Heard.{heard_as}
-use Rattle.usb_transaction.specs.Trail.{Trail, IsNoEnd, HasNoNak, Waiting, PollEnded, PollCutOff}
+use Rattle.usb_transaction.specs.declared.heard.Heard.{Heard}
+use Rattle.usb_transaction.specs.declared.heard.Heard.TheVariants.{Moved, Repeat, Lost}
+use Rattle.usb_transaction.specs.declared.target.Target.{Target}
+use Rattle.usb_transaction.specs.Failures.{NoThreeDamaged, Listens, WhyPoll}
+use Rattle.usb_transaction.specs.Heard.{polled, polled_as}
+use Rattle.usb_transaction.specs.Leaves.{IsNotOfBus, is_at, ToldIn, none_came, one_came, PollEnds, ChangesIn}
+use Rattle.usb_transaction.specs.Trail.{Trail, IsNoEnd, Polled, waits_with, waits_in, errors_running}
 use Rattle.usb_transaction.specs.Transactions.{packet_of, in_attempt}
-use Rattle.usb_transaction.specs.Leaves.{is_at, ToldIn, PollCut, none_came, one_came, PollEnds, ChangesIn}
-use Rattle.usb_world.specs.declared.types.BusFault.{BusFault}
-use Rattle.usb_transaction.proofs.CutAttempts.{each_stopped}
-use Rattle.usb_transaction.proofs.LastOutcomes.{read_last}
-use Rattle.usb_transaction.proofs.Meanings.{got_stall, got_payload}
-use Rattle.usb_transaction.proofs.DeviceTrails.{StepsSo, LastIs, last_is, none_ends_a_poll, each_then, other_twice}
+use Rattle.usb_transaction.proofs.DamagedRuns.{LostRun, run_none, run_short, lost_more, damaged_more}
+use Rattle.usb_transaction.proofs.DeviceRuns.{Through, Told, IsPollEnd, IsOfBus, AskedIn, asked_in, in_others, each_device, over_polled, at_end, of_bus, stays_away}
+use Rattle.usb_transaction.proofs.LastOutcomes.{polled_last, got_nak, got_stall, got_payload}
+use Rattle.usb_transaction.proofs.Listeners.{listens_on, one_wait, as_whole}
 
--- IN 1 of a configured hub changes nothing else
+-- The replies to IN 1 of a configured hub, by whether all packets came whole
 
-only_byte : (s : State) (held : Option ℕ) (came : Bool) → OnlyChanges s (if came then forgotten (acknowledged (record s { held = held }) by.Changes) else record s { held = held })
-only_byte s held true = refl
-only_byte s held false = refl
+abbrev after_byte : State → Option ℕ → Bool → State
+after_byte s held came = if came then forgotten (acknowledged (record s { held = held }) by.Changes) else record s { held = held }
 
-only_bits : (s : State) (bits max : ℕ) (t2 t3 : Way) (none : Bool)
-    → OnlyChanges s (if◌then◌else◌ {A = Reply} none (heard t2 (Some answer.Nak), s) (gave (record s { held = Some bits }) by.Changes max s.changes.toggle (bits ∷ []) t2 t3)).1
-only_bits s bits max t2 t3 true = refl
-only_bits s bits max t2 t3 false = only_byte s (Some bits) (is_whole t2 && nat_le 1 max && is_whole t3)
+module _ (s : State) (P : Bool → Reply → Type 0) (silent : (held : Option ℕ) → P false (None, record s { held = held })) (stalls : (clear : Bool) → s.changes.halted ≡ true → P clear (Some answer.Stall, s))
+    (waits : (clear : Bool) → P clear (Some answer.Nak, s)) (gives : (clear : Bool) (held : Option ℕ) (bits : ℕ) → P clear (Some (payload s.changes.toggle (bits ∷ [])), after_byte s held clear)) where
+  by_heard : (t2 t3 : Way) (x : Option Answer) → P (is_whole t3) (x, s) → P (is_whole t2 && is_whole t3) (heard t2 x, s)
+  by_heard whole t3 x h = h
+  by_heard t2 t3 x h = silent s.held
 
-only_held : (s : State) (row : List PortState) (max : ℕ) (t2 t3 : Way) (held : Option ℕ) → OnlyChanges s (held_law s row held max t2 t3).1
-only_held s row max t2 t3 None = only_bits s (change_bits row) max t2 t3 (change_bits row == 0)
-only_held s row max t2 t3 (Some bits) = only_byte s s.held (is_whole t2 && nat_le 1 max && is_whole t3)
+  by_byte : (max : ℕ) → nat_le 1 max ≡ true → (t2 t3 : Way) (held : Option ℕ) (bits : ℕ) → P (is_whole t2 && is_whole t3) (gave (record s { held = held }) by.Changes max s.changes.toggle (bits ∷ []) t2 t3)
+  by_byte max m whole t3 held bits = rw m (gives (is_whole t3) held bits)
+  by_byte max m t2 t3 held bits = silent held
 
-only_halt : (s : State) (t2 : Way) (rest : Reply) → OnlyChanges s rest.1 → (halted : Bool) → OnlyChanges s (if◌then◌else◌ {A = Reply} halted (heard t2 (Some answer.Stall), s) rest).1
-only_halt s t2 rest h true = refl
-only_halt s t2 rest h false = h
+  by_held : (row : List PortState) (max : ℕ) → nat_le 1 max ≡ true → (t2 t3 : Way) (held : Option ℕ) → P (is_whole t2 && is_whole t3) (held_law s row held max t2 t3)
+  by_held row max m t2 t3 (Some bits) = by_byte max m t2 t3 s.held bits
+  by_held row max m t2 t3 None = new (change_bits row == 0)
+    where
+      new : (none : Bool) → P (is_whole t2 && is_whole t3) (if none then (heard t2 (Some answer.Nak), s) else gave (record s { held = Some (change_bits row) }) by.Changes max s.changes.toggle (change_bits row ∷ []) t2 t3)
+      new true = by_heard t2 t3 (Some answer.Nak) (waits (is_whole t3))
+      new false = by_byte max m t2 t3 (Some (change_bits row)) (change_bits row)
 
-pub only_changes : (s : State) (row : List PortState) (max : ℕ) (t1 t2 t3 : Way) → tells_changes s.spec s.registers ≡ true → OnlyChanges s (in_law s row 1 max t1 t2 t3).1
-only_changes s row max broken t2 t3 h = refl
-only_changes s row max lost t2 t3 h = refl
-only_changes s row max whole t2 t3 h =
-    subst (λ r. OnlyChanges s r.1) (sym (law_is s h row max t2 t3))
-    (only_halt s t2 (held_law s row s.held max t2 t3) (only_held s row max t2 t3 s.held) s.changes.halted)
+  by_reply : tells_changes s.spec s.registers ≡ true → (row : List PortState) (max : ℕ) → 1 ≤ max → (t1 t2 t3 : Way) → P (is_whole t1 && is_whole t2 && is_whole t3) (in_law s row 1 max t1 t2 t3)
+  by_reply h row max m whole t2 t3 = rw (law_is s h row max t2 t3) (halt s.changes.halted refl)
+    where
+      halt : (halted : Bool) → s.changes.halted ≡ halted → P (is_whole t2 && is_whole t3) (if halted then (heard t2 (Some answer.Stall), s) else held_law s row s.held max t2 t3)
+      halt true q = by_heard t2 t3 (Some answer.Stall) (stalls (is_whole t3) q)
+      halt false q = by_held row max (at_least_one max m) t2 t3 s.held
+  by_reply h row max m t1 t2 t3 = silent s.held
 
-only_twice : (s u v : State) → OnlyChanges s u → OnlyChanges u v → OnlyChanges s v
-only_twice s u v x y = y ∙ ap {A = State} (λ d. record d { memory = v.memory; changes = v.changes; held = v.held }) x
+-- what one attempt leaves of the endpoint
+record Step (t : Toggle) (s : State) (clear : Bool) (o : Outcome) (v : State) : Type 0 where
+  frame : OnlyChanges s v
+  quiet : v.changes.halted ≡ s.changes.halted
+  heeds : clear ≡ true → polled_as t o ≢ Lost
+  unstalled : s.changes.halted ≡ false → o ≢ Stall
+  even : s.changes.toggle ≡ t → IsNoEnd (polled_as t o) → (v.changes.toggle ≡ t) × (polled_as t o ≡ Lost)
+  behind : s.changes.toggle ≡ other t → IsNoEnd (polled_as t o) → (v.changes.toggle ≡ t) ⊎ ((v.changes.toggle ≡ other t) × (clear ≡ false))
 
--- so it is still a hub that tells of changes, at its address
-pub still_tells : (s u : State) → OnlyChanges s u → tells_changes s.spec s.registers ≡ true → tells_changes u.spec u.registers ≡ true
-still_tells s u x h = ap (λ d. tells_changes d.spec d.registers) x ∙ h
+-- a byte that comes to the host
+never_lost : (b : ArrayVec ℕ) (x : Bool) → polled (if x then Moved b else Repeat) ≢ Lost
+never_lost b true e = cc e
+never_lost b false e = cc e
 
-still_at : (t : Target) (s u : State) → OnlyChanges s u → is_at s t ≡ true → is_at u t ≡ true
-still_at t s u x h = ap (λ d. is_at d t) x ∙ h
+step_byte : (t : Toggle) (s : State) (clear : Bool) (held : Option ℕ) (b : ArrayVec ℕ) → Step t s clear (Payload s.changes.toggle b) (after_byte s held clear)
+step_byte t s true held b =
+    record { frame = refl; quiet = refl; heeds = λ c. never_lost b (is_same t s.changes.toggle); unstalled = λ q e. cc e; even = λ q n. elim (rw (q, itself t) at n) [ ]; behind = λ q n. inl (ap other q ∙ other_twice t) }
+step_byte t s false held b =
+    record { frame = refl; quiet = refl; heeds = λ c. never_lost b (is_same t s.changes.toggle); unstalled = λ q e. cc e; even = λ q n. elim (rw (q, itself t) at n) [ ]; behind = λ q n. inr (q, refl) }
+
+step_is : (t : Toggle) (s : State) → tells_changes s.spec s.registers ≡ true → (row : List PortState) (max : ℕ) → 1 ≤ max → (t1 t2 t3 : Way) (o : Outcome) (v : State)
+    → o ≡ got max (in_law s row 1 max t1 t2 t3).0 → v ≡ (in_law s row 1 max t1 t2 t3).1 → Step t s (is_whole t1 && is_whole t2 && is_whole t3) o v
+step_is t s h row max m t1 t2 t3 o v e f =
+    rw (e, f) (by_reply s (λ clear r. Step t s clear (got max r.0) r.1)
+    (λ held. record { frame = refl; quiet = refl; heeds = λ c. no c; unstalled = λ q e. cc e; even = λ q n. (q, refl); behind = λ q n. inr (q, refl) })
+    (λ clear e. record { frame = refl; quiet = refl; heeds = λ c l. cc l; unstalled = λ q. no (sym q ∙ e); even = λ q n. elim n [ ]; behind = λ q n. elim n [ ] })
+    (λ clear. record { frame = refl; quiet = refl; heeds = λ c l. cc l; unstalled = λ q e. cc e; even = λ q n. elim n [ ]; behind = λ q n. elim n [ ] })
+    (λ clear held bits. rw (at_least_one max m) (step_byte t s clear held (record { items = bits ∷ [] }))) h row max m t1 t2 t3)
 
 -- What the host hears of an answer
 
@@ -78,230 +103,163 @@ never_told Told t s (level h q) = level h q
 never_told Told t s (told bits so h q) = elim so [ ]
 never_told Told t s (ahead bits h q) = ahead bits h q
 
--- a byte that has the toggle ends a poll
-byte_ends : (t given : Toggle) (bytes : ArrayVec ℕ) (x : Bool) → is_same t given ≡ true → x ≡ true → IsNoEnd (heard_as t (if x then outcome.Payload given bytes else outcome.Nothing)) → ⊥
-byte_ends Zero Zero bytes true h g e = e
-byte_ends Zero One bytes true h g e = no h
-byte_ends One Zero bytes true h g e = no h
-byte_ends One One bytes true h g e = e
-byte_ends t given bytes false h g e = no g
-
-byte_fits : (max bits : ℕ) (bytes : List ℕ) → 1 ≤ max → bytes ≡ bits ∷ [] → nat_le (length bytes) max ≡ true
-byte_fits max bits bytes m e = ap (λ b. nat_le (length b) max) e ∙ grind (arith, nat_tests)
-
-pub got_nak : (max : ℕ) (o : Option Answer) → got max o ≡ outcome.Nak → o ≡ Some answer.Nak
-got_nak max None e = cc e
-got_nak max (Some answer.Ack) e = cc e
-got_nak max (Some answer.Nak) e = refl
-got_nak max (Some answer.Stall) e = cc e
-got_nak max (Some (answer.Data u b)) e = fits (nat_le (length b.items) max) e
-  where
-    fits : (x : Bool) → (if x then outcome.Payload u b else outcome.Nothing) ≡ outcome.Nak → Some (answer.Data u b) ≡ Some answer.Nak
-    fits true h = cc h
-    fits false h = cc h
-
 module _ (Told : ℕ → Type 0) (bits : ℕ) (t : Toggle) (max : ℕ) (m : 1 ≤ max) (v : State) where
-  -- where the poll is not over, the byte did not come
-  goes_on : (o : Option Answer) → PollOn Told bits t o v → IsNoEnd (heard_as t (got max o)) → (got max o ≡ outcome.Nak → ⊥) → PollAt Told t v
-  goes_on None on e n = on
-  goes_on (Some answer.Ack) on e n = elim on [ ]
-  goes_on (Some answer.Nak) on e n = elim (n refl) [ ]
-  goes_on (Some answer.Stall) on e n = on.0
-  goes_on (Some (answer.Data given bytes)) on e n = pick (decided (is_same t given))
-    where
-      pick : (is_same t given ≡ true) ⊎ (is_same t given ≡ false) → PollAt Told t v
-      pick (inl h) =
-          let byte : ToldByte Told t bytes.items v = on.0 h in
-          elim (byte_ends t given bytes (nat_le (length bytes.items) max) h (byte_fits max byte.bits bytes.items m byte.came) e) [ ]
-      pick (inr h) = on.1 h
+  -- no byte came, or one that ends the poll
+  came : (o : Option Answer) → PollOn Told bits t o v → PollAt Told t v ⊎ (PollAt NeverTold (other t) v × (IsNoEnd (polled_as t (got max o)) → ⊥))
+  came None on = inl on
+  came (Some answer.Ack) on = elim on [ ]
+  came (Some answer.Nak) on = inl (never_told Told t v on.1)
+  came (Some answer.Stall) on = inl on.0
+  came (Some (answer.Data given b)) on =
+      elim (decided (is_same t given)) [ inl h ↦ inr ((on.0 h).between, λ n. rw (ap {B = ℕ} length (on.0 h).came, at_least_one max m, h) at n) | inr h ↦ inl (on.1 h) ]
 
-  -- whatever the outcome is
-  cut_on : (o : Option Answer) → PollOn Told bits t o v → PollCut Told t v
-  cut_on None on = none_came on
-  cut_on (Some answer.Ack) on = elim on [ ]
-  cut_on (Some answer.Nak) on = none_came (never_told Told t v on.1)
-  cut_on (Some answer.Stall) on = none_came on.0
-  cut_on (Some (answer.Data given bytes)) on = pick (decided (is_same t given))
-    where
-      pick : (is_same t given ≡ true) ⊎ (is_same t given ≡ false) → PollCut Told t v
-      pick (inl h) = one_came (on.0 h).between
-      pick (inr h) = none_came (on.1 h)
+  goes_on : (o : Option Answer) → PollOn Told bits t o v → IsNoEnd (polled_as t (got max o)) → PollAt Told t v
+  goes_on o on n = elim (came o on) [ inl x ↦ x | inr y ↦ absurd (y.1 n) ]
 
--- the last outcome, by the answer
-abbrev PollLast : Toggle → Result (Option (List ℕ)) TransFault → Outcome → Type 0
-PollLast t (Ok None) o = o ≡ outcome.Nak
-PollLast t (Ok (Some bytes)) o = o ≡ outcome.Payload t (packet_of bytes)
-PollLast t (Err Stalled) o = o ≡ outcome.Stall
-PollLast t (Err Busy) o = IsNoEnd (heard_as t o) × (o ≢ outcome.Nak)
-PollLast t (Err NoAnswer) o = IsNoEnd (heard_as t o) × (o ≢ outcome.Nak)
-PollLast t (Err (Bus fault)) o = ⊥
+  -- bits are what the ports told, where NAK was answered
+  ends : (result : Result (Option (List ℕ)) TransFault) (o : Option Answer) (outcomes : List Outcome) → (o ≡ Some answer.Nak → Told bits) → PollOn Told bits t o v → IsPollEnd t result (got max o) outcomes
+      → PollEnds Told t result v
+  ends (Ok None) o outcomes so on e =
+      let nak : o ≡ Some answer.Nak = got_nak max o e in
+      let x : (bits ≡ 0) × PollAt NeverTold t v = subst (λ y. PollOn Told bits t y v) nak on in
+      (subst Told x.0 (so nak), x.1)
+  ends (Ok (Some bytes)) o outcomes so on e = (subst (λ y. PollOn Told bits t y v) (got_payload max o t (packet_of bytes) (polled_last t (got max o) bytes e)) on).0 (itself t)
+  ends (Err Stalled) o outcomes so on e = subst (λ y. PollOn Told bits t y v) (got_stall max o e) on
+  ends (Err (Bus fault)) o outcomes so on e = elim (came o on) [ inl x ↦ none_came x | inr y ↦ one_came y.0 ]
+  ends (Err fault) o outcomes so on e = goes_on o on e.0
 
--- bits are what the ports told, where NAK was answered
-ends : (Told : ℕ → Type 0) (bits : ℕ) (t : Toggle) (max : ℕ) → 1 ≤ max → (v : State) (result : Result (Option (List ℕ)) TransFault) (o : Option Answer)
-    → (o ≡ Some answer.Nak → Told bits) → PollOn Told bits t o v → PollLast t result (got max o) → PollEnds Told t result v
-ends Told bits t max m v (Ok None) o so on e =
-    let nak : o ≡ Some answer.Nak = got_nak max o e in
-    let x : (bits ≡ 0) × PollAt NeverTold t v = subst (λ y. PollOn Told bits t y v) nak on in
-    (subst Told x.0 (so nak), x.1)
-ends Told bits t max m v (Ok (Some bytes)) o so on e =
-    (subst (λ y. PollOn Told bits t y v) (got_payload max o t (packet_of bytes) e) on).0 (itself t)
-ends Told bits t max m v (Err Stalled) o so on e = subst (λ y. PollOn Told bits t y v) (got_stall max o e) on
-ends Told bits t max m v (Err Busy) o so on e = goes_on Told bits t max m v o on e.0 e.1
-ends Told bits t max m v (Err NoAnswer) o so on e = goes_on Told bits t max m v o on e.0 e.1
-ends Told bits t max m v (Err (Bus fault)) o so on e = elim e [ ]
+  -- what an outcome says of the endpoint, where the poll goes on and where it ends
+  abbrev Says : Outcome → Type 0
+  Says o = (IsNoEnd (polled_as t o) → PollAt Told t v) × ((result : Result (Option (List ℕ)) TransFault) (outcomes : List Outcome) → IsPollEnd t result o outcomes → PollEnds Told t result v)
 
--- One attempt
+  says : (o : Outcome) (x : Option Answer) → o ≡ got max x → (x ≡ Some answer.Nak → Told bits) → PollOn Told bits t x v → Says o
+  says o x e so on = rw e (λ n. goes_on x on n, λ result outcomes is. ends result x outcomes so on is)
 
-module _ (t : Target) (toggle : Toggle) (old : World) where
-  abbrev Told : ℕ → List ℕ → ℕ → Type 0
-  Told j p = ToldIn (in_attempt t 1) old j p
+-- A hub that tells of changes, at the target
 
-  record Poll (j : ℕ) (p : List ℕ) (s v : State) : Type 0 where
-    others : is_at s t ≡ false → v ≡ s
-    frame : tells_changes s.spec s.registers ≡ true → OnlyChanges s v
-    poll : is_at s t ≡ true → tells_changes s.spec s.registers ≡ true → PollAt (Told j p) toggle s → PollAt (Told j p) toggle v
+module _ (t : Target) (toggle : Toggle) (old : World) (m : 1 ≤ t.max) (j : ℕ) (p : List ℕ) (s : State) (at : is_at s t ≡ true) (h : tells_changes s.spec s.registers ≡ true) where
+  abbrev ToldHere : ℕ → Type 0
+  ToldHere bits = ToldIn (in_attempt t 1) old j p bits
 
-  record Last (result : Result (Option (List ℕ)) TransFault) (j : ℕ) (p : List ℕ) (s v : State) : Type 0 where
-    others : is_at s t ≡ false → v ≡ s
-    frame : tells_changes s.spec s.registers ≡ true → OnlyChanges s v
-    poll : is_at s t ≡ true → tells_changes s.spec s.registers ≡ true → PollAt (Told j p) toggle s → PollEnds (Told j p) toggle result v
+  abbrev a : Attempt
+  a = in_attempt t 1
 
-  did_others : (w : World) (j : ℕ) (p : List ℕ) (s v : State) → DidIn (in_attempt t 1) w j p s v → is_at s t ≡ false → v ≡ s
-  did_others w j p s v (DidIn.other d e) h = e
-  did_others w j p s v (DidIn.silent d q o e) h = e
-  did_others w j p s v (DidIn.asked d q b below at x o e) h = no (sym h ∙ d)
+  abbrev hear : Outcome → Heard
+  hear o = polled_as toggle o
 
-  did_frame : (w : World) (j : ℕ) (p : List ℕ) (s v : State) → DidIn (in_attempt t 1) w j p s v → tells_changes s.spec s.registers ≡ true → OnlyChanges s v
-  did_frame w j p s v (DidIn.other d e) h = subst (OnlyChanges s) (sym e) refl
-  did_frame w j p s v (DidIn.silent d q o e) h = subst (OnlyChanges s) (sym e) refl
-  did_frame w j p s v (DidIn.asked d q b below at x o e) h = subst (OnlyChanges s) (sym e) (only_changes s (row_of below) t.max x.first x.second x.third h)
+  -- one attempt
+  module _ (outcomes : List Outcome) (w : World) (trail : Trail a old outcomes w) (u v : State) (x : OnlyChanges s u) (d : DidIn a w j p u v) where
+    still_at : is_at u t ≡ true
+    still_at = ap (λ y. is_at y t) x ∙ at
 
-  -- what it answered, and what its ports told, if it answered NAK
-  record Gave (w : World) (j : ℕ) (p : List ℕ) (v : State) : Type 0 where
-    gave_it : Option Answer
-    bits : ℕ
-    so : gave_it ≡ Some answer.Nak → Told j p bits
-    on : PollOn (Told j p) bits toggle gave_it v
-    heard_it : outcome_in (in_attempt t 1) w ≡ got t.max gave_it
+    tells : tells_changes u.spec u.registers ≡ true
+    tells = ap (λ y. tells_changes y.spec y.registers) x ∙ h
 
-  did_give : 1 ≤ t.max → {outcomes : List Outcome} (w : World) → Trail (in_attempt t 1) old outcomes w → (j : ℕ) (p : List ℕ) (s v : State) → DidIn (in_attempt t 1) w j p s v
-      → is_at s t ≡ true → tells_changes s.spec s.registers ≡ true → PollAt (Told j p) toggle s → Gave w j p v
-  did_give m w trail j p s v (DidIn.other d e) h k at = no (sym d ∙ h)
-  did_give m w trail j p s v (DidIn.silent d q o e) h k at =
-      record { gave_it = None; bits = 0; so = λ x. absurd cc; on = subst (PollAt (Told j p) toggle) (sym e) at; heard_it = o }
-  did_give m {outcomes} w trail j p s v (DidIn.asked d q b below stood x o e) h k at =
-      let so : Told j p (change_bits (row_of below)) = record { outcomes = outcomes; mid = w; trail = trail; b = b; s = s; below = below; stood = stood; told = refl } in
-      record {
-        gave_it = (in_law s (row_of below) 1 t.max x.first x.second x.third).0;
-        bits = change_bits (row_of below);
-        so = λ n. so;
-        on = subst (PollOn (Told j p) (change_bits (row_of below)) toggle (in_law s (row_of below) 1 t.max x.first x.second x.third).0) (sym e)
-            (poll_on (Told j p) toggle s k (row_of below) so at t.max m x.first x.second x.third);
-        heard_it = o;
-      }
+    asked : AskedIn t 1 w p u v
+    asked = asked_in t 1 w j p u v d still_at
 
-  abbrev GoesOnBy : Outcome → Type 0
-  GoesOnBy o = IsNoEnd (heard_as toggle o) × (o ≢ outcome.Nak)
+    abbrev clear : Bool
+    clear = is_whole asked.first && is_whole asked.second && is_whole asked.third
 
-  still_polls : 1 ≤ t.max → (w : World) (j : ℕ) (p : List ℕ) (v : State) → GoesOnBy (outcome_in (in_attempt t 1) w) → Gave w j p v → PollAt (Told j p) toggle v
-  still_polls m w j p v e g =
-      let x : GoesOnBy (got t.max g.gave_it) = subst GoesOnBy g.heard_it e in
-      goes_on (Told j p) g.bits toggle t.max m v g.gave_it g.on x.0 x.1
+    is_clear : Listens t p s → damage_in w ≡ None → clear ≡ true
+    is_clear l none =
+        as_whole (λ x y z. is_whole x && is_whole y && is_whole z) asked.first asked.second asked.third (asked.heard none (listens_on t p s u (ap (λ z. z.spec) x) (ap (λ z. z.registers) x) l))
 
-  poll_steps : 1 ≤ t.max → StepsSo Poll (in_attempt t 1) old GoesOnBy
-  poll_steps m outcomes w trail made u e =
-      each_wider (DidIn (in_attempt t 1) w) Poll
-      (λ j p s v d. record {
-        others = did_others w j p s v d;
-        frame = did_frame w j p s v d;
-        poll = λ h k at. still_polls m w j p v e (did_give m w trail j p s v d h k at);
-      })
-      w (after (attempt (in_attempt t 1)) w) (each_in (in_attempt t 1) w made (record { kind = refl; payload = refl }) u)
+    step : Step toggle u clear (outcome_in a w) v
+    step = step_is toggle u tells asked.row t.max m asked.first asked.second asked.third (outcome_in a w) v asked.gave asked.is
 
-  poll_ends : 1 ≤ t.max → (result : Result (Option (List ℕ)) TransFault) → StepsSo (Last result) (in_attempt t 1) old (PollLast toggle result)
-  poll_ends m result outcomes w trail made u e =
-      each_wider (DidIn (in_attempt t 1) w) (Last result)
-      (λ j p s v d. record {
-        others = did_others w j p s v d;
-        frame = did_frame w j p s v d;
-        poll = λ h k at.
-            let g : Gave w j p v = did_give m w trail j p s v d h k at in
-            ends (Told j p) g.bits toggle t.max m v result g.gave_it g.so g.on (subst (PollLast toggle result) g.heard_it e);
-      })
-      w (after (attempt (in_attempt t 1)) w) (each_in (in_attempt t 1) w made (record { kind = refl; payload = refl }) u)
+    frame : OnlyChanges s v
+    frame = step.frame ∙ ap {A = State} (λ y. record y { memory = v.memory; changes = v.changes; held = v.held }) x
 
-  poll_cuts : 1 ≤ t.max → (fault : BusFault) → StepsSo (Last (Err (Bus fault))) (in_attempt t 1) old (λ o. Unit {0})
-  poll_cuts m fault outcomes w trail made u e =
-      each_wider (DidIn (in_attempt t 1) w) (Last (Err (Bus fault)))
-      (λ j p s v d. record {
-        others = did_others w j p s v d;
-        frame = did_frame w j p s v d;
-        poll = λ h k at. let g : Gave w j p v = did_give m w trail j p s v d h k at in cut_on (Told j p) g.bits toggle t.max m v g.gave_it g.on;
-      })
-      w (after (attempt (in_attempt t 1)) w) (each_in (in_attempt t 1) w made (record { kind = refl; payload = refl }) u)
+    gave_it : DidIn a w j p u v → PollAt ToldHere toggle u → Says ToldHere 0 toggle t.max m v (outcome_in a w)
+    gave_it (DidIn.other e same) before = no (sym e ∙ still_at)
+    gave_it (DidIn.silent e q o is) before = says ToldHere 0 toggle t.max m v (outcome_in a w) None o (λ n. absurd (cc n)) (subst (PollAt ToldHere toggle) (sym is) before)
+    gave_it (DidIn.asked e q b below stood y o is) before =
+        let bits : ℕ = change_bits (row_of below) in
+        let so : ToldHere bits = record { outcomes = outcomes; mid = w; trail = trail; b = b; s = u; below = below; stood = stood; told = refl } in
+        says ToldHere bits toggle t.max m v (outcome_in a w) (in_law u (row_of below) 1 t.max y.first y.second y.third).0 o (λ n. so)
+        (subst (PollOn ToldHere bits toggle (in_law u (row_of below) 1 t.max y.first y.second y.third).0) (sym is)
+        (poll_on ToldHere toggle u tells (row_of below) so before t.max m y.first y.second y.third))
 
-  -- One after the other
+  left : (result : Result (Option (List ℕ)) TransFault) (new : World) (v : State) → Through (DidIn a) a hear (IsPollEnd toggle result) (IsOfBus result) old new j p s v
+      → OnlyChanges s v × (PollAt NeverTold toggle s → PollEnds ToldHere toggle result v)
+  left result new v run =
+      at_end hear (λ outcomes w u. OnlyChanges s u × (PollAt NeverTold toggle s → PollAt ToldHere toggle u)) (refl, never_told ToldHere toggle s)
+      (λ outcomes w u x r made i d n. (frame outcomes w r u x i.0 d, λ k. (gave_it outcomes w r u x i.0 d d (i.1 k)).0 n))
+      (λ x. OnlyChanges s x × (PollAt NeverTold toggle s → PollEnds ToldHere toggle result x)) v
+      (λ outcomes w u r i d end made. (frame outcomes w r u v i.0 d, λ k. (gave_it outcomes w r u v i.0 d d (i.1 k)).1 result outcomes end))
+      (λ gave outcomes w i. (i.0, λ k. of_bus (λ x. PollEnds ToldHere toggle x v) (λ fault. none_came (i.1 k)) result gave)) run
 
-  frame_joined : (s u v : State) → (tells_changes s.spec s.registers ≡ true → OnlyChanges s u) → (tells_changes u.spec u.registers ≡ true → OnlyChanges u v)
-      → tells_changes s.spec s.registers ≡ true → OnlyChanges s v
-  frame_joined s u v f g k = only_twice s u v (f k) (g (still_tells s u (f k) k))
+  -- the endpoint is level, and no attempt is a wait; or it is behind, and as many as there were waits were damaged
+  abbrev Stands : ℕ → World → State → Type 0
+  Stands n w u = ((u.changes.toggle ≡ toggle) × (n ≤ 3)) ⊎ ((u.changes.toggle ≡ other toggle) × ((k : ℕ) × LostRun old.damages k w.attempts × (n ≤ k)))
 
-  joined : (j : ℕ) (p : List ℕ) (s u v : State) → Poll j p s u → Poll j p u v → Poll j p s v
-  joined j p s u v x y = record {
-    others = other_twice t s u v x.others y.others;
-    frame = frame_joined s u v x.frame y.frame;
-    poll = λ h k at. y.poll (still_at t s u (x.frame k) h) (still_tells s u (x.frame k) k) (x.poll h k at);
-  }
+  module _ (three : NoThreeDamaged old) where
+    few : (n : ℕ) (w : World) (u : State) → Stands n w u → n ≤ 3
+    few n w u (inl y) = y.1
+    few n w u (inr y) = omega (arith, y.1.2, run_short old y.1.0 w.attempts three y.1.1)
 
-  ended : (result : Result (Option (List ℕ)) TransFault) (j : ℕ) (p : List ℕ) (s u v : State) → Poll j p s u → Last result j p u v → ChangesIn t toggle old result j p s v
-  ended result j p s u v x y = record {
-    others = other_twice t s u v x.others y.others;
-    frame = frame_joined s u v x.frame y.frame;
-    poll = λ h k at. y.poll (still_at t s u (x.frame k) h) (still_tells s u (x.frame k) k) (x.poll h k (never_told (Told j p) toggle s at));
-  }
+    stands_on : {outcomes : List Outcome} (n : ℕ) (w : World) (u v : State) (clear : Bool) → Trail a old outcomes w → Made w (after (attempt a) w) → (damage_in w ≡ None → clear ≡ true)
+        → Step toggle u clear (outcome_in a w) v → IsNoEnd (hear (outcome_in a w)) → Stands n w u → Stands (waits_with (hear (outcome_in a w)) n) (after (attempt a) w) v
+    stands_on n w u v clear trail made came_whole x z (inl y) = inl ((x.even y.0 z).0, rw (x.even y.0 z).1 y.1)
+    stands_on n w u v clear trail made came_whole x z (inr y) =
+        let one : waits_with (hear (outcome_in a w)) n ≤ n + 1 = one_wait (hear (outcome_in a w)) n in
+        elim (x.behind y.0 z) [
+          | inl e ↦ inl (e, omega (arith, one, y.1.2, run_short old y.1.0 w.attempts three y.1.1))
+          | inr e ↦ inr (e.0, (y.1.0 + 1, damaged_more y.1.0 trail made (λ none. no (sym e.1 ∙ came_whole none)) y.1.1, omega (arith, one, y.1.2)))
+        ]
 
-  stopped : (fault : BusFault) (j : ℕ) (p : List ℕ) (s v : State) → Poll j p s v → ChangesIn t toggle old (Err (Bus fault)) j p s v
-  stopped fault j p s v x = record { others = x.others; frame = x.frame; poll = λ h k at. none_came (x.poll h k (never_told (Told j p) toggle s at)) }
+    abbrev Runs : List Outcome → World → State → Type 0
+    Runs outcomes w u = OnlyChanges s u × (u.changes.halted ≡ false) × LostRun old.damages (errors_running hear outcomes) w.attempts × Stands (waits_in hear outcomes) w u
 
-  unpolled : (j : ℕ) (p : List ℕ) (s : State) → Poll j p s s
-  unpolled j p s = record { others = λ h. refl; frame = λ k. refl; poll = λ h k at. at }
+    answers : Listens t p s → PollAt NeverTold toggle s → s.changes.halted ≡ false → (fault : TransFault) → IsNotOfBus {A = Option (List ℕ)} (Err fault) → (new : World) (v : State)
+        → Through (DidIn a) a hear (IsPollEnd toggle (Err fault)) (IsOfBus {A = Option (List ℕ)} (Err fault)) old new j p s v → ⊥
+    unfolding waits_in errors_running
+    answers l start quiet fault sound new v run =
+        at_end hear Runs (refl, quiet, run_none old.damages old.attempts, begins start) (λ outcomes w u x r made i d n. one_more outcomes w u x r made i d n) (λ x. ⊥) v
+        (λ outcomes w u r i d end made. never fault sound outcomes w ((step outcomes w r u v i.0 d).unstalled i.1) (λ n g. one_more outcomes w u v r (made g).0 i d n) end) (λ gave outcomes w i. gave sound) run
+      where
+        begins : PollAt NeverTold toggle s → Stands 0 old s
+        begins (level q e) = inl (e, omega arith)
+        begins (told bits so q e) = elim so [ ]
+        begins (ahead bits q e) = inr (e, (0, run_none old.damages old.attempts, omega arith))
 
--- The three answers
+        one_more : (outcomes : List Outcome) (w : World) (u x : State) → Trail a old outcomes w → Made w (after (attempt a) w) → Runs outcomes w u → DidIn a w j p u x → IsNoEnd (hear (outcome_in a w))
+            → Runs (outcome_in a w ∷ outcomes) (after (attempt a) w) x
+        one_more outcomes w u x r made i d n =
+            let y : _ = step outcomes w r u x i.0 d in
+            let whole_then : _ = is_clear outcomes w r u x i.0 d l in
+            (frame outcomes w r u x i.0 d, y.quiet ∙ i.1, lost_more hear r made (λ none. y.heeds (whole_then none)) i.2, stands_on (waits_in hear outcomes) w u x _ r made whole_then y n i.3)
 
-pub poll_waits : (t : Target) (toggle : Toggle) (old new : World) → 1 ≤ t.max → IsSettled old.roots
-    → Waiting toggle (in_attempt t 1) old new → new.shared ≡ false → EachWas (ChangesIn t toggle old (Ok None)) old new
-poll_waits t toggle old new m settled e single =
-    each_then (Poll t toggle old) (Last t toggle old (Ok None)) (ChangesIn t toggle old (Ok None)) (unpolled t toggle old) (joined t toggle old) (ended t toggle old (Ok None))
-    (GoesOnBy t toggle old) (PollLast toggle (Ok None)) (poll_steps t toggle old m) (poll_ends t toggle old m (Ok None)) settled e.trail
-    (none_ends_a_poll (heard_as toggle) e.outcomes e.onward e.no_nak) refl single
+        never : (fault : TransFault) → IsNotOfBus {A = Option (List ℕ)} (Err fault) → (outcomes : List Outcome) (w : World) → outcome_in a w ≢ Stall
+            → (IsNoEnd (hear (outcome_in a w)) → (IsOfBus {A = Option (List ℕ)} (Err fault) → ⊥) → Runs (outcome_in a w ∷ outcomes) (after (attempt a) w) v) → IsPollEnd toggle (Err fault) (outcome_in a w) outcomes → ⊥
+        never Stalled sound outcomes w loud runs end = loud end
+        never Busy sound outcomes w loud runs end = absurd (omega (arith, end.1, few (waits_in hear (outcome_in a w ∷ outcomes)) (after (attempt a) w) v (runs end.0 (λ g. g tt)).3))
+        never NoAnswer sound outcomes w loud runs end = absurd (omega (arith, end.1, run_short old (errors_running hear (outcome_in a w ∷ outcomes)) (after (attempt a) w).attempts three (runs end.0 (λ g. g tt)).2))
+        never (Bus f) sound outcomes w loud runs end = sound
 
-pub poll_comes : (t : Target) (toggle : Toggle) (bytes : List ℕ) (old new : World) → 1 ≤ t.max → IsSettled old.roots
-    → PollEnded toggle (in_attempt t 1) old (Ok bytes) new → new.shared ≡ false → EachWas (ChangesIn t toggle old (Ok (Some bytes))) old new
-unfolding HasNoNak
-poll_comes t toggle bytes old new m settled e single =
-    each_then (Poll t toggle old) (Last t toggle old (Ok (Some bytes))) (ChangesIn t toggle old (Ok (Some bytes))) (unpolled t toggle old) (joined t toggle old) (ended t toggle old (Ok (Some bytes)))
-    (GoesOnBy t toggle old) (PollLast toggle (Ok (Some bytes))) (poll_steps t toggle old m) (poll_ends t toggle old m (Ok (Some bytes))) settled e.trail
-    (none_ends_a_poll (heard_as toggle) e.outcomes e.onward e.no_nak.1) (read_last toggle e.last bytes e.tells) single
+-- Each device
 
-failed_last : (toggle : Toggle) (fault : TransFault) (o : Outcome) → LastIs (heard_as toggle) (Err fault) o → o ≢ outcome.Nak → PollLast toggle (Err fault) o
-failed_last toggle Stalled o l n = l
-failed_last toggle Busy o l n = (l, n)
-failed_last toggle NoAnswer o l n = (l, n)
-failed_last toggle (Bus fault) o l n = l
+pub poll_leaves : (t : Target) (toggle : Toggle) (result : Result (Option (List ℕ)) TransFault) (old new : World) → 1 ≤ t.max → IsSettled old.roots → Polled toggle (in_attempt t 1) old result new → new.shared ≡ false
+    → EachWas (ChangesIn t toggle old result) old new
+poll_leaves t toggle result old new m settled x single =
+    each_device (Through (DidIn (in_attempt t 1)) (in_attempt t 1) (polled_as toggle) (IsPollEnd toggle result) (IsOfBus result) old new) (ChangesIn t toggle old result) old new
+    (λ j p s v run.
+    let away : (is_at s t ≡ false → v ≡ s) = stays_away t (λ w u x. in_others t 1 w j p u x) run in
+    record {
+      others = away;
+      frame = λ h. elim (decided (is_at s t)) [ inl at ↦ (left t toggle old m j p s at h result new v run).0 | inr y ↦ subst (OnlyChanges s) (sym (away y)) refl ];
+      poll = λ at h. (left t toggle old m j p s at h result new v run).1;
+    })
+    (over_polled t 1 old new settled single toggle result x)
 
-pub poll_fails : (t : Target) (toggle : Toggle) (fault : TransFault) (old new : World) → 1 ≤ t.max → IsSettled old.roots
-    → PollEnded toggle (in_attempt t 1) old (Err fault) new → new.shared ≡ false → EachWas (ChangesIn t toggle old (Err fault)) old new
-unfolding HasNoNak
-poll_fails t toggle fault old new m settled e single =
-    each_then (Poll t toggle old) (Last t toggle old (Err fault)) (ChangesIn t toggle old (Err fault)) (unpolled t toggle old) (joined t toggle old) (ended t toggle old (Err fault))
-    (GoesOnBy t toggle old) (PollLast toggle (Err fault)) (poll_steps t toggle old m) (poll_ends t toggle old m (Err fault)) settled e.trail
-    (none_ends_a_poll (heard_as toggle) e.outcomes e.onward e.no_nak.1)
-    (failed_last toggle fault e.last (last_is (heard_as toggle) (Err fault) e.last e.outcomes e.onward e.tells) e.no_nak.0) single
-
--- and one that the bus cut off
-pub poll_cut : (t : Target) (toggle : Toggle) (fault : BusFault) (old new : World) → 1 ≤ t.max → IsSettled old.roots
-    → PollCutOff toggle (in_attempt t 1) old fault new → new.shared ≡ false → EachWas (ChangesIn t toggle old (Err (Bus fault))) old new
-poll_cut t toggle fault old new m settled c single =
-    each_stopped (Poll t toggle old) (Last t toggle old (Err (Bus fault))) (ChangesIn t toggle old (Err (Bus fault))) (unpolled t toggle old) (joined t toggle old) (stopped t toggle old fault)
-    (ended t toggle old (Err (Bus fault))) (GoesOnBy t toggle old) (poll_steps t toggle old m) (poll_cuts t toggle old m fault) settled c.trail
-    (none_ends_a_poll (heard_as toggle) c.outcomes c.onward c.no_nak) c.fits c.refused c.fails single
+pub poll_why : (t : Target) (toggle : Toggle) (result : Result (Option (List ℕ)) TransFault) (old new : World) → 1 ≤ t.max → IsSettled old.roots → NoThreeDamaged old
+    → Polled toggle (in_attempt t 1) old result new → IsNotOfBus result → new.shared ≡ false → EachWas (WhyPoll t toggle result) old new
+poll_why t toggle result old new m settled three x sound single =
+    each_device (Through (DidIn (in_attempt t 1)) (in_attempt t 1) (polled_as toggle) (IsPollEnd toggle result) (IsOfBus result) old new) (WhyPoll t toggle result) old new
+    (λ j p s v run. record {
+      answered = λ l h start quiet fault e.
+          answers t toggle old m j p s l.at h three l start quiet fault (subst IsNotOfBus e sound) new v
+          (subst (λ r. Through (DidIn (in_attempt t 1)) (in_attempt t 1) (polled_as toggle) (IsPollEnd toggle r) (IsOfBus r) old new j p s v) e run);
+    })
+    (over_polled t 1 old new settled single toggle result x)

@@ -1,29 +1,30 @@
 -- What an outcome means to a host that waits for it.
 use Rattle.std.specs.Prelude.{Bool, true, false, if◌then◌else◌, [], Option, Some, None, Result, Ok, Err}
 use Rattle.usb_packet.specs.declared.Toggle.{Toggle}
-use Rattle.usb_packet.specs.declared.Toggle.TheVariants.{Zero, One}
+use Rattle.usb_packet.specs.Toggles.{other, is_same}
 use Rattle.usb_world.specs.declared.types.Outcome.{Outcome}
 use Rattle.usb_world.specs.declared.types.Outcome.TheVariants.{Payload, Ack, Nak, Stall, Nothing}
 use Rattle.usb_transaction.specs.declared.heard.Heard.{Heard}
 use Rattle.usb_transaction.specs.declared.heard.Heard.TheVariants.{Moved, NotReady, Repeat, Refused, Lost}
 
-abbrev pub flip : Toggle → Toggle
-flip Zero = One
-flip One = Zero
-
-abbrev pub same_toggle : Toggle → Toggle → Bool
-same_toggle Zero Zero = true
-same_toggle Zero One = false
-same_toggle One Zero = false
-same_toggle One One = true
-
 -- to a host that awaits a packet of a toggle
 abbrev pub heard_as : Toggle → Outcome → Heard
-heard_as awaited (Payload given bytes) = if same_toggle awaited given then Moved bytes else Repeat
+heard_as awaited (Payload given bytes) = if is_same awaited given then Moved bytes else Repeat
 heard_as awaited Ack = Lost
 heard_as awaited Nak = NotReady
 heard_as awaited Stall = Refused
 heard_as awaited Nothing = Lost
+
+-- to a host that polls a NAK is an answer, which ends the poll as STALL does (5.7)
+abbrev pub polled : Heard → Heard
+polled (Moved bytes) = Moved bytes
+polled NotReady = Refused
+polled Repeat = Repeat
+polled Refused = Refused
+polled Lost = Lost
+
+abbrev pub polled_as : Toggle → Outcome → Heard
+polled_as awaited o = polled (heard_as awaited o)
 
 -- to a host that has sent a packet
 abbrev pub sent_as : Outcome → Heard
@@ -50,6 +51,6 @@ acks Nothing = false
 
 -- the toggle after a poll: it changes where a packet came
 abbrev pub toggle_after : {A E : Type 0} → Toggle → Result (Option A) E → Toggle
-toggle_after toggle (Ok (Some packet)) = flip toggle
+toggle_after toggle (Ok (Some packet)) = other toggle
 toggle_after toggle (Ok None) = toggle
 toggle_after toggle (Err fault) = toggle

@@ -11,7 +11,7 @@ use Rattle.usb_transaction.specs.declared.heard.Heard.{Heard}
 use Rattle.usb_transaction.specs.declared.heard.Heard.TheVariants.{Moved, NotReady, Repeat, Refused, Lost}
 use Rattle.usb_transaction.specs.declared.fault.TransFault.{TransFault}
 use Rattle.usb_transaction.specs.declared.fault.TransFault.TheVariants.{Stalled, Busy, NoAnswer, Bus}
-use Rattle.usb_transaction.specs.Heard.{heard_as}
+use Rattle.usb_transaction.specs.Heard.{polled_as}
 use Rattle.usb_transaction.specs.Transactions.{packet_of}
 
 -- the same attempt was made again and again, and this is what the host got, the last of it first
@@ -94,41 +94,13 @@ Transacted hear a old (Err (Bus fault)) new = CutOff hear a old fault new
 
 -- Polls: a NAK is an answer, and ends them
 
--- no NAK is among them
-unfoldable pub HasNoNak : List Outcome → Type 0
-HasNoNak [] = ⊤
-HasNoNak (o ∷ outcomes) = (o ≢ Nak) × HasNoNak outcomes
-
 -- the poll went on until a NAK
 pub record Waiting (toggle : Toggle) (a : Attempt) (old new : World) : Type 0 where
   pub outcomes : List Outcome
   pub trail : Trail a old (Nak ∷ outcomes) new
-  pub onward : GoesOn (heard_as toggle) outcomes
-  pub no_nak : HasNoNak outcomes
-
--- it went on until another last outcome, which the answer tells
-pub record PollEnded (toggle : Toggle) (a : Attempt) (old : World) (result : Result (List ℕ) TransFault) (new : World) : Type 0 where
-  pub outcomes : List Outcome
-  pub last : Outcome
-  pub trail : Trail a old (last ∷ outcomes) new
-  pub onward : GoesOn (heard_as toggle) outcomes
-  pub no_nak : HasNoNak (last ∷ outcomes)
-  pub tells : Tells (heard_as toggle) result last outcomes
-
-pub record PollCutOff (toggle : Toggle) (a : Attempt) (old : World) (fault : BusFault) (new : World) : Type 0 where
-  pub outcomes : List Outcome
-  pub mid : World
-  pub trail : Trail a old outcomes mid
-  pub onward : GoesOn (heard_as toggle) outcomes
-  pub no_nak : HasNoNak outcomes
-  pub fits : IsAttempt a
-  pub refused : Attempted a mid (Err fault) new
-  pub fails : mid.fault ≡ None → AttemptFails a mid (Err fault) new
+  pub onward : GoesOn (polled_as toggle) outcomes
 
 abbrev pub Polled : Toggle → Attempt → World → Result (Option (List ℕ)) TransFault → World → Type 0
 Polled toggle a old (Ok None) new = Waiting toggle a old new
-Polled toggle a old (Ok (Some bytes)) new = PollEnded toggle a old (Ok bytes) new
-Polled toggle a old (Err Stalled) new = PollEnded toggle a old (Err Stalled) new
-Polled toggle a old (Err Busy) new = PollEnded toggle a old (Err Busy) new
-Polled toggle a old (Err NoAnswer) new = PollEnded toggle a old (Err NoAnswer) new
-Polled toggle a old (Err (Bus fault)) new = PollCutOff toggle a old fault new
+Polled toggle a old (Ok (Some bytes)) new = Transacted (polled_as toggle) a old (Ok bytes) new
+Polled toggle a old (Err fault) new = Transacted (polled_as toggle) a old (Err fault) new

@@ -1,6 +1,6 @@
 //! What an outcome means to a host that waits for it.
 ghost use Rattle.std.specs.Prelude.{◌≡◌};
-ghost use Rattle.usb_transaction.specs.Heard.{heard_as, sent_as, acks, flip, same_toggle};
+ghost use Rattle.usb_transaction.specs.Heard.{heard_as, sent_as, acks};
 
 use arrayvec::ArrayVec;
 use usb_bus::Outcome;
@@ -27,7 +27,7 @@ pub(crate) fn judged(awaited: Toggle, outcome: Outcome) -> Heard
 {
     match outcome {
         Outcome::Payload(given, bytes) => {
-            if is_same(awaited, given) {
+            if awaited.is_same(given) {
                 Heard::Moved(bytes)
             } else {
                 Heard::Repeat
@@ -62,25 +62,5 @@ pub(crate) fn is_ack(outcome: &Outcome) -> bool
         Outcome::Nak => false,
         Outcome::Stall => false,
         Outcome::Nothing => false,
-    }
-}
-
-pub(crate) fn flipped(toggle: Toggle) -> Toggle
-    ensures { result ≡ flip toggle }
-{
-    match toggle {
-        Toggle::Zero => Toggle::One,
-        Toggle::One => Toggle::Zero,
-    }
-}
-
-fn is_same(awaited: Toggle, given: Toggle) -> bool
-    ensures { result ≡ same_toggle awaited given }
-{
-    match (awaited, given) {
-        (Toggle::Zero, Toggle::Zero) => true,
-        (Toggle::One, Toggle::One) => true,
-        (Toggle::Zero, Toggle::One) => false,
-        (Toggle::One, Toggle::Zero) => false,
     }
 }

@@ -6,7 +6,7 @@ ghost use Rattle.usb_transaction.specs.Heard.{toggle_after};
 ghost use Rattle.usb_transaction.specs.Transactions.{IsTarget};
 
 use crate::attempt::attempt_of_in;
-use crate::heard::{Heard, flipped, judged};
+use crate::heard::{Heard, judged};
 use crate::tries::Tries;
 use crate::{Done, Target, TransFault};
 use usb_bus::Bus;
@@ -41,7 +41,7 @@ pub fn poll_in<B: Bus>(
         match bus.attempt(&attempt) {
             Ok(outcome) => match judged(*toggle, outcome) {
                 Heard::Moved(bytes) => {
-                    *toggle = flipped(*toggle);
+                    *toggle = toggle.other();
                     return Ok(Some(Done::data(bytes)));
                 }
                 Heard::NotReady => return Ok(None),

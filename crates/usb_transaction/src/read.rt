@@ -2,11 +2,11 @@
 ghost use Rattle.std.specs.Prelude.{◌≡◌, ◌<◌, MatchResult};
 ghost use Rattle.usb_bus.specs.Traced.{Went};
 ghost use Rattle.usb_transaction.specs.Calls.{AsksIn};
-ghost use Rattle.usb_transaction.specs.Heard.{flip};
+ghost use Rattle.usb_packet.specs.Toggles.{other};
 ghost use Rattle.usb_transaction.specs.Transactions.{IsTarget};
 
 use crate::attempt::attempt_of_in;
-use crate::heard::{Heard, flipped, judged};
+use crate::heard::{Heard, judged};
 use crate::tries::Tries;
 use crate::{Done, Target, TransFault};
 use usb_bus::Bus;
@@ -32,7 +32,7 @@ pub fn data_in<B: Bus>(
     requires endpoint { ep < 16 }
     ensures went { Went B.world B.trace 768 bus.old bus.new }
     ensures asks { AsksIn target ep toggle.old (B.world bus.old) result (B.world bus.new) }
-    ensures toggle { MatchResult result (λ _. toggle.new ≡ flip toggle.old)
+    ensures toggle { MatchResult result (λ _. toggle.new ≡ other toggle.old)
         (λ _. toggle.new ≡ toggle.old) }
 {
     let attempt = attempt_of_in(target, ep);
@@ -41,7 +41,7 @@ pub fn data_in<B: Bus>(
         match bus.attempt(&attempt) {
             Ok(outcome) => match judged(*toggle, outcome) {
                 Heard::Moved(bytes) => {
-                    *toggle = flipped(*toggle);
+                    *toggle = toggle.other();
                     return Ok(Done::data(bytes));
                 }
                 Heard::NotReady | Heard::Repeat => tries.wait()?,

@@ -2,11 +2,11 @@
 ghost use Rattle.std.specs.Prelude.{◌≡◌, ◌≤◌, ◌<◌, length, MatchResult};
 ghost use Rattle.usb_bus.specs.Traced.{Went};
 ghost use Rattle.usb_transaction.specs.Calls.{SendsOut};
-ghost use Rattle.usb_transaction.specs.Heard.{flip};
+ghost use Rattle.usb_packet.specs.Toggles.{other};
 ghost use Rattle.usb_transaction.specs.Transactions.{IsTarget};
 
 use crate::attempt::attempt_of_out;
-use crate::heard::{Heard, flipped, judged_sent};
+use crate::heard::{Heard, judged_sent};
 use crate::tries::Tries;
 use crate::{Done, Target, TransFault};
 use usb_bus::Bus;
@@ -35,7 +35,7 @@ pub fn data_out<B: Bus>(
     ensures went { Went B.world B.trace 768 bus.old bus.new }
     ensures sends { SendsOut target ep toggle.old bytes.now
         (B.world bus.old) result (B.world bus.new) }
-    ensures toggle { MatchResult result (λ _. toggle.new ≡ flip toggle.old)
+    ensures toggle { MatchResult result (λ _. toggle.new ≡ other toggle.old)
         (λ _. toggle.new ≡ toggle.old) }
 {
     let attempt = attempt_of_out(target, ep, *toggle, bytes);
@@ -44,7 +44,7 @@ pub fn data_out<B: Bus>(
         match bus.attempt(&attempt) {
             Ok(outcome) => match judged_sent(&outcome) {
                 Heard::Moved(_) => {
-                    *toggle = flipped(*toggle);
+                    *toggle = toggle.other();
                     return Ok(Done::nothing());
                 }
                 Heard::NotReady | Heard::Repeat => tries.wait()?,

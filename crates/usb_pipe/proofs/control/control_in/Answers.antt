@@ -1,5 +1,6 @@
-use Rattle.usb_pipe.proofs.DataStages.{set_up_went, data_went, status_went}
-use Rattle.std.proofs.Common.{rules, Ok}
+use Rattle.std.proofs.Common.{arith, rules, Ok}
+use Rattle.usb_bus.proofs.Interface.{went_then, went_wider}
+use Rattle.usb_pipe.specs.Control.{control_bound}
 use Rattle.usb_pipe.specs.Stages.{Reads}
 use Rattle.usb_pipe.proofs.ControlTransfers.{read_at_status, read_done, read_told}
 use Rattle.usb_pipe.proofs.control.control_in.Given as given
@@ -40,13 +41,17 @@ returns-clause-transfer g c =
 -- What went
 
 pub returns-in_err-setup-clause-went : goal.returns-in_err-setup-clause-went
-returns-in_err-setup-clause-went g c = set_up_went c.args.target.max c.args.setup.length c.setup.ensures.went
+unfolding control_bound
+returns-in_err-setup-clause-went g c = went_wider 3 _ c.setup.ensures.went (omega arith)
 
 pub returns-in_err-bytes-clause-went : goal.returns-in_err-bytes-clause-went
-returns-in_err-bytes-clause-went g c = data_went c.args.target.max c.args.setup.length c.setup.ensures.went c.data_stage.ensures.went
+unfolding control_bound
+returns-in_err-bytes-clause-went g c = went_wider _ _ (went_then _ _ c.setup.ensures.went c.data_stage.ensures.went) (omega arith)
 
 pub returns-in_err-data_out-clause-went : goal.returns-in_err-data_out-clause-went
-returns-in_err-data_out-clause-went g c = status_went c.args.target.max c.args.setup.length c.setup.ensures.went c.data_stage.ensures.went c.data_out.ensures.went
+unfolding control_bound
+returns-in_err-data_out-clause-went g c = went_wider _ _ (went_then _ _ (went_then _ _ c.setup.ensures.went c.data_stage.ensures.went) c.data_out.ensures.went) (omega arith)
 
 pub returns-clause-went : goal.returns-clause-went
-returns-clause-went g c = status_went c.args.target.max c.args.setup.length c.setup.ensures.went c.data_stage.ensures.went c.data_out.ensures.went
+unfolding control_bound
+returns-clause-went g c = went_wider _ _ (went_then _ _ (went_then _ _ c.setup.ensures.went c.data_stage.ensures.went) c.data_out.ensures.went) (omega arith)

@@ -1,6 +1,4 @@
-use Rattle.usb_transaction.proofs.ControlLosses.{in_losses, read_losses}
-use Rattle.usb_transaction.proofs.OtherLosses.{other_losses}
-use Rattle.usb_transaction.proofs.LossCounts.{set_up_losses, out_losses}
+use Rattle.usb_transaction.proofs.AddressLosses.{in_losses, other_losses, out_losses, read_losses, set_up_losses}
 use Rattle.usb_transaction.proofs.laws.address_losses_of_a_transaction.Goals as goal
 
 pub returns : goal.returns

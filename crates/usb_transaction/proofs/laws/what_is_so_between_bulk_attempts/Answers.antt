@@ -1,5 +1,4 @@
-use Rattle.usb_transaction.proofs.Sinks.{sink_between}
-use Rattle.usb_transaction.proofs.Sources.{source_between}
+use Rattle.usb_transaction.proofs.BulkTransactions.{sink_between, source_between}
 use Rattle.usb_transaction.proofs.laws.what_is_so_between_bulk_attempts.Goals as goal
 
 pub returns : goal.returns

@@ -6,14 +6,8 @@ use Rattle.usb_pipe.proofs.bulk.BulkPipe.receive.Goals as goal
 pub returns-clause-transfer : goal.returns-clause-transfer
 returns-clause-transfer g c = receive_told _ _ _ _ _ _ (subst (λ p. 1 ≤ p.max) c.self.view_is c.self.invariant.least) (search rules)
 
-pub returns-then-is_broken-clause-transfer : goal.returns-then-is_broken-clause-transfer
-returns-then-is_broken-clause-transfer g c = receive_told _ _ _ _ _ _ (subst (λ p. 1 ≤ p.max) c.self.view_is c.self.invariant.least) (search rules)
+pub returns-then-is_broken : goal.returns-then-is_broken
+returns-then-is_broken g c = record { went = went_wider 0 _ went_none (omega arith); transfer = receive_told _ _ _ _ _ _ (subst (λ p. 1 ≤ p.max) c.self.view_is c.self.invariant.least) (search rules) }
 
-pub returns-then-packets-eq0-clause-transfer : goal.returns-then-packets-eq0-clause-transfer
-returns-then-packets-eq0-clause-transfer g c = receive_told _ _ _ _ _ _ (subst (λ p. 1 ≤ p.max) c.self.view_is c.self.invariant.least) (search rules)
-
-pub returns-then-is_broken-clause-went : goal.returns-then-is_broken-clause-went
-returns-then-is_broken-clause-went g c = went_wider 0 _ went_none (omega arith)
-
-pub returns-then-packets-eq0-clause-went : goal.returns-then-packets-eq0-clause-went
-returns-then-packets-eq0-clause-went g c = went_wider 0 _ went_none (omega arith)
+pub returns-then-packets-eq0 : goal.returns-then-packets-eq0
+returns-then-packets-eq0 g c = record { went = went_wider 0 _ went_none (omega arith); transfer = receive_told _ _ _ _ _ _ (subst (λ p. 1 ≤ p.max) c.self.view_is c.self.invariant.least) (search rules) }

@@ -7,14 +7,8 @@ use Rattle.usb_pipe.proofs.bulk.BulkPipe.send.Goals as goal
 pub returns-clause-transfer : goal.returns-clause-transfer
 returns-clause-transfer g c = send_told _ _ _ _ _ _ (search rules)
 
-pub returns-then-is_broken-clause-transfer : goal.returns-then-is_broken-clause-transfer
-returns-then-is_broken-clause-transfer g c = send_told _ _ _ _ _ _ (search rules)
+pub returns-then-is_broken : goal.returns-then-is_broken
+returns-then-is_broken g c = record { went = went_wider 0 _ went_none (omega arith); transfer = send_told _ _ _ _ _ _ (search rules) }
 
-pub returns-then-is_empty-clause-transfer : goal.returns-then-is_empty-clause-transfer
-returns-then-is_empty-clause-transfer g c = send_told _ _ _ _ _ _ (grind (arith, common_steps))
-
-pub returns-then-is_broken-clause-went : goal.returns-then-is_broken-clause-went
-returns-then-is_broken-clause-went g c = went_wider 0 _ went_none (omega arith)
-
-pub returns-then-is_empty-clause-went : goal.returns-then-is_empty-clause-went
-returns-then-is_empty-clause-went g c = went_wider 0 _ went_none (omega arith)
+pub returns-then-is_empty : goal.returns-then-is_empty
+returns-then-is_empty g c = record { went = went_wider 0 _ went_none (omega arith); transfer = send_told _ _ _ _ _ _ (grind (arith, common_steps)) }

@@ -1,0 +1,289 @@
+-- How a transaction goes on, try by try, how it ends, and how many attempts it makes.
+use Rattle.std.proofs.Common.{◌≡◌, inl, inr, refl, sym, subst, ap, ◌∙◌, arith}
+use Rattle.std.specs.Prelude.{ℕ, ◌+◌, ◌*◌, ◌<◌, ◌≤◌, ◌⊎◌, length, List, [], ◌∷◌, true, false, Option, None, Some, Result, Ok, Err}
+use Rattle.arrayvec.specs.ArrayVec.{ArrayVec}
+use Rattle.usb_packet.specs.declared.Toggle.{Toggle}
+use Rattle.usb_world.specs.declared.types.Attempt.{Attempt}
+use Rattle.usb_world.specs.declared.types.BusFault.{BusFault}
+use Rattle.usb_world.specs.declared.types.Outcome.{Outcome}
+use Rattle.usb_world.specs.declared.types.Outcome.TheVariants.{Payload, Ack, Nak, Stall, Nothing}
+use Rattle.usb_world.specs.World.{World, Made, Spends, Attempted, IsAttempt, FitsMaximum}
+use Rattle.usb_world.specs.Passes.{IsSettled}
+use Rattle.usb_world.specs.Steps.{attempt, after, outcome_in, AttemptFails}
+use Rattle.usb_world.proofs.Interface.{spends_none, spends_then, spends_wider}
+use Rattle.usb_bus.specs.Traced.{Attempts, Traced, still, attempted, WentOn}
+use Rattle.usb_transaction.specs.declared.heard.Heard.{Heard}
+use Rattle.usb_transaction.specs.declared.heard.Heard.TheVariants.{Moved, NotReady, Repeat, Refused, Lost}
+use Rattle.usb_transaction.specs.declared.tries.Tries.{Tries}
+use Rattle.usb_transaction.specs.declared.fault.TransFault.{TransFault}
+use Rattle.usb_transaction.specs.declared.fault.TransFault.TheVariants.{Stalled, Busy, NoAnswer, Bus}
+use Rattle.usb_transaction.specs.Heard.{heard_as, polled_as, sent_as, set_up_as, acks}
+use Rattle.usb_transaction.specs.Trail.{Trail, start, next, errors_with, waits_with, errors_running, waits_in, IsNoEnd, GoesOn, Tells, Ended, CutOff, Transacted, Waiting, Polled}
+use Rattle.usb_transaction.specs.Transactions.{packet_of, Worked, Ends}
+use Rattle.usb_transaction.proofs.LastOutcomes.{heard_moved}
+
+-- One more attempt, and what the host got
+
+pub record Once (a : Attempt) (mid : World) (before : Option (List ℕ)) (o : Outcome) (new : World) (now : Option (List ℕ)) : Type 0 where
+  pub settled : IsSettled mid.roots
+  pub fits : IsAttempt a
+  pub made : Attempts a mid before (Ok o) new now
+
+pub once : {a b : Attempt} {mid new : World} {o : Outcome} {before now : Option (List ℕ)} → b ≡ a → IsSettled mid.roots → IsAttempt b → Attempts b mid before (Ok o) new now → Once a mid before o new now
+once {mid = mid} {new = new} {o = o} {before = before} {now = now} is settled fits x = subst (λ y. Once y mid before o new now) is (record { settled = settled; fits = fits; made = x })
+
+one_more : {a : Attempt} {old mid new : World} {outcomes : List Outcome} {o : Outcome} {before now : Option (List ℕ)} → Trail a old outcomes mid → Once a mid before o new now → Trail a old (o ∷ outcomes) new
+one_more {a} {old} {mid} {new} {outcomes} {o} t one =
+    subst (λ w. Trail a old (o ∷ outcomes) w) (sym one.made.exact)
+    (subst (λ x. Trail a old (x ∷ outcomes) (after (attempt a) mid)) (sym one.made.outcome) (next mid t (subst (λ w. Made mid w) one.made.exact one.made.counts.ends)))
+
+-- It goes on: so many errors run, after so many NAKs and repeats; between the worlds lie at most three attempts for each of these and one for each error running
+pub record Going (hear : Outcome → Heard) (a : Attempt) (errors waits : ℕ) (old now : World) : Type 0 where
+  pub outcomes : List Outcome
+  pub trail : Trail a old outcomes now
+  pub onward : GoesOn hear outcomes
+  running : errors_running hear outcomes ≡ errors
+  waited : waits_in hear outcomes ≡ waits
+  pub spends : Spends (3 * waits + errors) old now
+
+going_none : {hear : Outcome → Heard} {a : Attempt} (w : World) → Going hear a 0 0 w w
+unfolding errors_running waits_in GoesOn
+going_none w = record { outcomes = []; trail = start; onward = tt; running = refl; waited = refl; spends = spends_none w }
+
+going_more : {hear : Outcome → Heard} {a : Attempt} {o : Outcome} {errors waits : ℕ} {old mid new : World} {before now : Option (List ℕ)} (e w : ℕ) → Going hear a errors waits old mid → Once a mid before o new now → IsNoEnd (hear o)
+    → errors_with (hear o) errors ≡ e → waits_with (hear o) waits ≡ w → e < 3 → w < 256 → 3 * waits + errors + 1 ≤ 3 * w + e → Going hear a e w old new
+unfolding errors_running waits_in GoesOn
+going_more {hear} {a} {o} {errors} {waits} {old} {mid} {new} e w g one on x y few calm le = record {
+  outcomes = o ∷ g.outcomes;
+  trail = one_more g.trail one;
+  onward = (on, subst (λ n. n < 3) (sym running) few, subst (λ n. n < 256) (sym waited) calm, g.onward);
+  running = running;
+  waited = waited;
+  spends = spends_wider (3 * waits + errors + 1) (3 * w + e) old new (spends_then (3 * waits + errors) 1 old mid new g.spends one.made.counts.spends) le;
+}
+  where
+    running : errors_with (hear o) (errors_running hear g.outcomes) ≡ e
+    running = ap (λ n. errors_with (hear o) n) g.running ∙ x
+
+    waited : waits_with (hear o) (waits_in hear g.outcomes) ≡ w
+    waited = ap (λ n. waits_with (hear o) n) g.waited ∙ y
+
+going_error : {hear : Outcome → Heard} {a : Attempt} {o : Outcome} (errors waits : ℕ) {old mid new : World} {before now : Option (List ℕ)} → errors + 1 < 3 → waits < 256
+    → Going hear a errors waits old mid → Once a mid before o new now → Lost ≡ hear o → Going hear a (errors + 1) waits old new
+going_error errors waits few calm g one lost =
+    going_more (errors + 1) waits g one (subst (λ h. IsNoEnd h) lost tt) (ap (λ h. errors_with h errors) (sym lost)) (ap (λ h. waits_with h waits) (sym lost)) few calm (omega arith)
+
+third_error : {hear : Outcome → Heard} {a : Attempt} {o : Outcome} (errors waits : ℕ) {old mid : World} (g : Going hear a errors waits old mid) → Lost ≡ hear o → errors + 1 ≡ 3 → Tells hear (Err NoAnswer) o g.outcomes
+unfolding errors_running
+third_error {hear} errors waits g lost third = ap (λ x. errors_with x (errors_running hear g.outcomes)) (sym lost) ∙ ap (λ n. n + 1) g.running ∙ third
+
+pub cut_off : {hear : Outcome → Heard} {a b : Attempt} {fault : BusFault} {errors waits : ℕ} {old mid new : World} {before now : Option (List ℕ)} → b ≡ a → Going hear a errors waits old mid → IsAttempt b → Attempts b mid before (Err fault) new now
+    → CutOff hear a old fault new
+cut_off {fault = fault} {mid = mid} {new = new} is g fits x = record {
+  fits = subst IsAttempt is fits;
+  outcomes = g.outcomes;
+  mid = mid;
+  trail = g.trail;
+  onward = g.onward;
+  refused = subst (λ y. Attempted y mid (Err fault) new) is x.counts;
+  fails = subst (λ y. mid.fault ≡ None → AttemptFails y mid (Err fault) new) is x.fails;
+}
+
+-- A loop of tries: how it stands, with what it wrote
+
+-- if a later world of the call remembers nothing, so did the first; each attempt tells it of the world before it
+abbrev pub SettledSince : World → World → Type 0
+SettledSince old now = IsSettled now.roots → IsSettled old.roots
+
+pub record Stands (hear : Outcome → Heard) (a : Attempt) (t : Tries) (old : World) (first : Option (List ℕ)) (now : World) (text : Option (List ℕ)) : Type 0 where
+  pub few : t.errors < 3
+  pub calm : t.waits < 256
+  pub going : Going hear a t.errors t.waits old now
+  pub since : SettledSince old now
+  pub traced : Traced old first now text
+
+pub stands_new : {hear : Outcome → Heard} {a : Attempt} {text : Option (List ℕ)} (t : Tries) (w : World) → t ≡ record { errors = 0; waits = 0 } → Stands hear a t w text w text
+stands_new {hear} {a} {text} t w is = subst (λ x. Stands hear a x w text w text) (sym is) (record { few = omega arith; calm = omega arith; going = going_none w; since = λ h. h; traced = still })
+
+-- what a transaction tells, of worlds that remember nothing
+pub record Told (hear : Outcome → Heard) (a : Attempt) (old : World) (result : Result (List ℕ) TransFault) (new : World) : Type 0 where
+  pub settled : IsSettled old.roots
+  pub heard : Transacted hear a old result new
+
+-- a NAK or a repeat
+abbrev pub IsWait : Heard → Type 0
+IsWait h = (h ≡ NotReady) ⊎ (h ≡ Repeat)
+
+record Waits (h : Heard) : Type 0 where
+  on : IsNoEnd h
+  none : (n : ℕ) → errors_with h n ≡ 0
+  more : (n : ℕ) → waits_with h n ≡ n + 1
+
+waits_of : (h : Heard) → IsWait h → Waits h
+waits_of h (inl e) = subst Waits (sym e) (record { on = tt; none = λ n. refl; more = λ n. refl })
+waits_of h (inr e) = subst Waits (sym e) (record { on = tt; none = λ n. refl; more = λ n. refl })
+
+module _ {hear : Outcome → Heard} {a : Attempt} {t : Tries} {old mid : World} {first before : Option (List ℕ)} (s : Stands hear a t old first mid before) where
+  -- its last attempt
+  pub went_last : {b : Attempt} {r : Result Outcome BusFault} {new : World} {now : Option (List ℕ)} → IsAttempt b → Attempts b mid before r new now → WentOn 768 old first new now
+  went_last {b} {r} {new} fits x = record {
+    spends = spends_wider (3 * t.waits + t.errors + 1) 768 old new (spends_then (3 * t.waits + t.errors) 1 old mid new s.going.spends x.counts.spends) (omega (arith, s.few, s.calm));
+    traced = attempted b r fits s.traced x;
+  }
+
+  pub told_cut : {b : Attempt} {fault : BusFault} {new : World} {now : Option (List ℕ)} → b ≡ a → IsAttempt b → IsSettled mid.roots → Attempts b mid before (Err fault) new now → Told hear a old (Err (Bus fault)) new
+  told_cut {fault = fault} {new = new} is fits settled x = record { settled = s.since settled; heard = cut_off is s.going fits x }
+
+  module _ {o : Outcome} {new : World} {now : Option (List ℕ)} (one : Once a mid before o new now) where
+    pub stands_error : (u : Tries) → Lost ≡ hear o → u ≡ record t { errors = t.errors + 1 } → u.errors < 3 → Stands hear a u old first new now
+    stands_error u lost is few =
+        let two : t.errors + 1 < 3 = subst (λ x. x.errors < 3) is few in
+        subst (λ x. Stands hear a x old first new now) (sym is)
+        (record { few = two; calm = s.calm; going = going_error t.errors t.waits two s.calm s.going one lost; since = λ h. s.since one.settled; traced = attempted a (Ok o) one.fits s.traced one.made })
+
+    pub stands_waited : (h : Heard) (u : Tries) → h ≡ hear o → IsWait h → u ≡ record t { errors = 0; waits = t.waits + 1 } → u.waits < 256 → Stands hear a u old first new now
+    stands_waited h u heard wait is calm =
+        let less : t.waits + 1 < 256 = subst (λ x. x.waits < 256) is calm in
+        let w : Waits (hear o) = subst Waits heard (waits_of h wait) in
+        subst (λ x. Stands hear a x old first new now) (sym is)
+        (record {
+          few = omega arith;
+          calm = less;
+          going = going_more 0 (t.waits + 1) s.going one w.on (w.none t.errors) (w.more t.waits) (omega arith) less (omega (arith, s.few));
+          since = λ h. s.since one.settled;
+          traced = attempted a (Ok o) one.fits s.traced one.made;
+        })
+
+    ended : (result : Result (List ℕ) TransFault) → Tells hear result o s.going.outcomes → Ended hear a old result new
+    ended result tells = record { outcomes = s.going.outcomes; last = o; trail = one_more s.going.trail one; onward = s.going.onward; tells = tells }
+
+    pub told_moved : (bytes : ArrayVec ℕ) → hear o ≡ Moved bytes → Told hear a old (Ok bytes.items) new
+    told_moved bytes is = record { settled = s.since one.settled; heard = ended (Ok bytes.items) is }
+
+    pub told_stalled : o ≡ Stall → Told hear a old (Err Stalled) new
+    told_stalled is = record { settled = s.since one.settled; heard = ended (Err Stalled) is }
+
+    -- the third error running
+    pub told_silent : (u : Tries) → Lost ≡ hear o → u ≡ record t { errors = t.errors + 1 } → u.errors ≡ 3 → Told hear a old (Err NoAnswer) new
+    told_silent u lost is third = record { settled = s.since one.settled; heard = ended (Err NoAnswer) (third_error t.errors t.waits s.going lost (ap (λ x. x.errors) (sym is) ∙ third)) }
+
+    -- the 256th wait
+    pub told_busy : (h : Heard) (u : Tries) → h ≡ hear o → IsWait h → u ≡ record t { errors = 0; waits = t.waits + 1 } → u.waits ≡ 256 → Told hear a old (Err Busy) new
+    unfolding waits_in
+    told_busy h u heard wait is full = record {
+      settled = s.since one.settled;
+      heard = ended (Err Busy) ((subst Waits heard (waits_of h wait)).more (waits_in hear s.going.outcomes) ∙ ap (λ n. n + 1) s.going.waited ∙ ap (λ x. x.waits) (sym is) ∙ full);
+    }
+
+-- a poll that a NAK ended
+pub record Waited (toggle : Toggle) (a : Attempt) (old new : World) : Type 0 where
+  pub settled : IsSettled old.roots
+  pub heard : Waiting toggle a old new
+
+pub told_waiting : {toggle : Toggle} {a : Attempt} {t : Tries} {o : Outcome} {old mid new : World} {first before now : Option (List ℕ)} → Stands (polled_as toggle) a t old first mid before → Once a mid before o new now → o ≡ Nak → Waited toggle a old new
+told_waiting {toggle} {a} {t} {o} {old} {mid} {new} s one is = record {
+  settled = s.since one.settled;
+  heard = record { outcomes = s.going.outcomes; trail = subst (λ x. Trail a old (x ∷ s.going.outcomes) new) is (one_more s.going.trail one); onward = s.going.onward };
+}
+
+-- Setup data: three attempts at most
+
+set_up_lost : (o : Outcome) → acks o ≡ false → Lost ≡ set_up_as o
+set_up_lost (Payload t b) e = refl
+set_up_lost Ack e = cc
+set_up_lost Nak e = refl
+set_up_lost Stall e = refl
+set_up_lost Nothing e = refl
+
+set_up_moved : (o : Outcome) → acks o ≡ true → set_up_as o ≡ Moved (packet_of [])
+set_up_moved (Payload t b) e = cc
+set_up_moved Ack e = refl
+set_up_moved Nak e = cc
+set_up_moved Stall e = cc
+set_up_moved Nothing e = cc
+
+-- after n attempts none of which was acknowledged
+pub record SetUpStands (a : Attempt) (n : ℕ) (old : World) (first : Option (List ℕ)) (now : World) (text : Option (List ℕ)) : Type 0 where
+  pub spends : Spends n old now
+  pub going : n < 3 → Going set_up_as a n 0 old now
+  pub ended : n ≡ 3 → Ended set_up_as a old (Err NoAnswer) now
+  pub since : SettledSince old now
+  pub settled : 0 < n → IsSettled old.roots
+  pub traced : Traced old first now text
+
+pub set_up_new : {a : Attempt} {text : Option (List ℕ)} (w : World) → SetUpStands a 0 w text w text
+set_up_new w = record { spends = spends_none w; going = λ n. going_none w; ended = λ e. absurd (omega (arith, e)); since = λ h. h; settled = λ few. absurd (omega (arith, few)); traced = still }
+
+module _ {a : Attempt} {n : ℕ} {old mid : World} {first before : Option (List ℕ)} (few : n < 3) (s : SetUpStands a n old first mid before) where
+  pub set_up_went : {b : Attempt} {r : Result Outcome BusFault} {new : World} {now : Option (List ℕ)} → IsAttempt b → Attempts b mid before r new now → WentOn 3 old first new now
+  set_up_went {b} {r} {new} fits x = record { spends = spends_wider (n + 1) 3 old new (spends_then n 1 old mid new s.spends x.counts.spends) (omega (arith, few)); traced = attempted b r fits s.traced x }
+
+  set_up_ended : {o : Outcome} {new : World} {now : Option (List ℕ)} (result : Result (List ℕ) TransFault) → Once a mid before o new now → Tells set_up_as result o (s.going few).outcomes → Ended set_up_as a old result new
+  set_up_ended {o} result one tells = record { outcomes = (s.going few).outcomes; last = o; trail = one_more (s.going few).trail one; onward = (s.going few).onward; tells = tells }
+
+  pub set_up_again : {o : Outcome} {new : World} {now : Option (List ℕ)} → Once a mid before o new now → acks o ≡ false → SetUpStands a (n + 1) old first new now
+  set_up_again {o} {new} one not = record {
+    spends = spends_then n 1 old mid new s.spends one.made.counts.spends;
+    going = λ more. going_error n 0 more (omega arith) (s.going few) one (set_up_lost o not);
+    ended = λ third. set_up_ended (Err NoAnswer) one (third_error n 0 (s.going few) (set_up_lost o not) third);
+    since = λ h. s.since one.settled;
+    settled = λ some. s.since one.settled;
+    traced = attempted a (Ok o) one.fits s.traced one.made;
+  }
+
+  pub set_up_told : {o : Outcome} {new : World} {now : Option (List ℕ)} → Once a mid before o new now → acks o ≡ true → Told set_up_as a old (Ok []) new
+  set_up_told {o} one is = record { settled = s.since one.settled; heard = set_up_ended (Ok []) one (set_up_moved o is) }
+
+  pub set_up_cut : {b : Attempt} {fault : BusFault} {new : World} {now : Option (List ℕ)} → b ≡ a → IsAttempt b → IsSettled mid.roots → Attempts b mid before (Err fault) new now → Told set_up_as a old (Err (Bus fault)) new
+  set_up_cut is fits settled x = record { settled = s.since settled; heard = cut_off is (s.going few) fits x }
+
+-- all three
+pub set_up_spent : {a : Attempt} {n : ℕ} {old now : World} {first text : Option (List ℕ)} → n ≤ 3 → SetUpStands a n old first now text → WentOn 3 old first now text
+set_up_spent {n = n} {old = old} {now = now} le s = record { spends = spends_wider n 3 old now s.spends le; traced = s.traced }
+
+-- How many attempts came before each answer
+
+-- a trail is as long as its outcomes are many
+record Lasted (n : ℕ) (old new : World) : Type 0 where
+  least : old.attempts + n ≤ new.attempts
+  sound : new.fault ≡ None → old.fault ≡ None
+
+trail_lasted : {a : Attempt} {old new : World} {outcomes : List Outcome} → Trail a old outcomes new → Lasted (length outcomes) old new
+trail_lasted start = record { least = omega arith; sound = λ e. e }
+trail_lasted (next w t made) = let x = trail_lasted t in record { least = omega (arith, x.least, made.one); sound = λ _. x.sound made.sound }
+
+trail_worked : {a : Attempt} {old new : World} {last : Outcome} {outcomes : List Outcome} (n : ℕ) → n ≤ length (last ∷ outcomes) → Trail a old (last ∷ outcomes) new → Worked n old new
+trail_worked n le (next w t made) = let x = trail_lasted t in record { sound = x.sound made.sound; least = omega (arith, x.least, made.one, le); still = made.still }
+
+-- an outcome is at most one error and one wait
+one_each : (h : Heard) (n m k : ℕ) → n ≤ k → m ≤ k → (errors_with h n ≤ k + 1) × (waits_with h m ≤ k + 1)
+one_each (Moved b) n m k x y = (omega arith, omega (arith, y))
+one_each NotReady n m k x y = (omega arith, omega (arith, y))
+one_each Repeat n m k x y = (omega arith, omega (arith, y))
+one_each Refused n m k x y = (omega arith, omega (arith, y))
+one_each Lost n m k x y = (omega (arith, x), omega (arith, y))
+
+fits_length : (hear : Outcome → Heard) (outcomes : List Outcome) → (errors_running hear outcomes ≤ length outcomes) × (waits_in hear outcomes ≤ length outcomes)
+unfolding errors_running waits_in
+fits_length hear [] = (omega arith, omega arith)
+fits_length hear (o ∷ outcomes) = let le = fits_length hear outcomes in let one = one_each (hear o) _ _ (length outcomes) le.0 le.1 in (omega (arith, one.0), omega (arith, one.1))
+
+module _ (hear : Outcome → Heard) (a : Attempt) (old new : World) where
+  pub ends_of : (result : Result (List ℕ) TransFault) → Transacted hear a old result new → Ends old result new
+  ends_of (Ok bytes) x = trail_worked 1 (omega arith) x.trail
+  ends_of (Err Stalled) x = trail_worked 1 (omega arith) x.trail
+  ends_of (Err Busy) x = trail_worked 256 (let le = (fits_length hear (x.last ∷ x.outcomes)).1 in omega (arith, le, x.tells)) x.trail
+  ends_of (Err NoAnswer) x = trail_worked 3 (let le = (fits_length hear (x.last ∷ x.outcomes)).0 in omega (arith, le, x.tells)) x.trail
+  ends_of (Err (Bus fault)) x = x.refused.ends
+
+pub poll_ends : (toggle : Toggle) (a : Attempt) (old new : World) (result : Result (Option (List ℕ)) TransFault) → Polled toggle a old result new → Ends old result new
+poll_ends toggle a old new (Ok None) x = trail_worked 1 (omega arith) x.trail
+poll_ends toggle a old new (Ok (Some bytes)) x = ends_of (polled_as toggle) a old new (Ok bytes) x
+poll_ends toggle a old new (Err Stalled) x = ends_of (polled_as toggle) a old new (Err Stalled) x
+poll_ends toggle a old new (Err Busy) x = ends_of (polled_as toggle) a old new (Err Busy) x
+poll_ends toggle a old new (Err NoAnswer) x = ends_of (polled_as toggle) a old new (Err NoAnswer) x
+poll_ends toggle a old new (Err (Bus fault)) x = ends_of (polled_as toggle) a old new (Err (Bus fault)) x
+
+-- data that were read fit
+pub read_fits : {a : Attempt} (toggle : Toggle) (o : Outcome) (bytes : ArrayVec ℕ) {mid new : World} {before now : Option (List ℕ)} → Moved bytes ≡ heard_as toggle o → Attempts a mid before (Ok o) new now → length bytes.items ≤ a.max
+read_fits {a} toggle o bytes e made = subst (λ x. FitsMaximum a.max x) (heard_moved toggle o bytes e) made.counts.fits
