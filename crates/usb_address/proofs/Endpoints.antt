@@ -4,6 +4,7 @@ use Rattle.std.specs.Prelude.{MatchResult}
 use Rattle.std.specs.Global.{Vec}
 use Rattle.arrayvec.specs.ArrayVec.{ArrayVec}
 use Rattle.usb_packet.specs.declared.Toggle.{Toggle}
+use Rattle.usb_request.specs.Codes.{SET_ADDRESS, DEVICE_OUT}
 use Rattle.usb_request.specs.Requests.{clear_endpoint_halt}
 use Rattle.usb_device.specs.Request.{Is}
 use Rattle.usb_world.specs.declared.types.Attempt.{Attempt}
@@ -13,7 +14,7 @@ use Rattle.usb_world.specs.World.{World}
 use Rattle.usb_transaction.specs.declared.target.Target.{Target}
 use Rattle.usb_transaction.specs.declared.fault.TransFault.{TransFault}
 use Rattle.usb_transaction.specs.declared.fault.TransFault.TheVariants as trans
-use Rattle.usb_transaction.specs.Heard.{heard_as, polled_as, sent_as}
+use Rattle.usb_transaction.specs.HeardOutcomes.{heard_as, polled_as, heard_when_sent}
 use Rattle.usb_transaction.specs.Transactions.{in_attempt, out_attempt, Worked}
 use Rattle.usb_transaction.specs.Trail.{Trail, start, Transacted, Polled}
 use Rattle.usb_pipe.specs.declared.condition.Condition.{Condition}
@@ -21,7 +22,7 @@ use Rattle.usb_pipe.specs.declared.condition.Condition.TheVariants as condition
 use Rattle.usb_pipe.specs.declared.fault.PipeFault.{PipeFault}
 use Rattle.usb_pipe.specs.declared.fault.PipeFault.TheVariants.{Stalled, Busy, NoAnswer, Broken, Bus, Memory}
 use Rattle.usb_pipe.specs.Bulk.{Bulk, halt_address, packets_of, Sends, Receives, Cleared, Clears}
-use Rattle.usb_pipe.specs.Control.{Faults}
+use Rattle.usb_pipe.specs.Control.{FaultAfter}
 use Rattle.usb_pipe.specs.End.{packet_target}
 use Rattle.usb_pipe.specs.Interrupt.{Interrupt, PollAsked, Polls}
 use Rattle.usb_pipe.specs.Moves.{Gave, Came, Puts, Fetches, SendEnds, NotCame, NoRoomLeft, ReceiveEnds}
@@ -30,8 +31,8 @@ use Rattle.usb_pipe.specs.Toggles.{flips}
 use Rattle.usb_pipe.proofs.Interface.{harmless}
 use Rattle.usb_address.specs.Claims.{Claims}
 use Rattle.usb_address.specs.Leaves.{LeavesTrans, LeavesPipe}
-use Rattle.usb_address.specs.Owned.{Owned, TillFault, KeepsAddresses}
-use Rattle.usb_address.proofs.Keeping.{keeps_none, trail_sound, till, still, owned_alone, write_keeps}
+use Rattle.usb_address.specs.Ownership.{Owned, TillFault, KeepsAddresses}
+use Rattle.usb_address.proofs.TransferSequences.{keeps_none, trail_sound, till, still, owned_alone, write_keeps}
 use Rattle.usb_address.proofs.Polls.{into, out, far_transacted, polls_leave}
 use Rattle.usb_address.proofs.Setups.{same_setup}
 use Rattle.usb_address.proofs.Transfers.{of_fault}
@@ -54,7 +55,7 @@ module _ (g : BusFault) where
 
 -- A call that leaves each device at its own address, and does nothing on such a bus
 
-call_keeps : {A : Type 0} (k n : ℕ) (old new : World) (result : Result A PipeFault) → MatchResult result (λ _. Worked k old new) (λ why. Faults n old why new)
+call_keeps : {A : Type 0} (k n : ℕ) (old new : World) (result : Result A PipeFault) → MatchResult result (λ _. Worked k old new) (λ why. FaultAfter n old why new)
     → ((f : Claims) → Owned f old → LeavesPipe (Owned f) result new) → ((g : BusFault) → old.fault ≡ Some g → new ≡ old) → KeepsAddresses old new
 call_keeps k n old new result ends leaves none = record { kept = λ f o. split f o.single o.so old.fault refl }
   where
@@ -62,8 +63,8 @@ call_keeps k n old new result ends leaves none = record { kept = λ f o. split f
     split f single so None e = till (Owned f) (owned_alone f) old new k n result ends (leaves f (so e))
     split f single so (Some g) e = still (Owned f) (owned_alone f) old new g e single (none g e)
 
-some_worked : {A : Type 0} (k : A → ℕ) (n : ℕ) (old new : World) (result : Result A PipeFault) → MatchResult result (λ x. Worked (k x) old new) (λ why. Faults n old why new)
-    → MatchResult result (λ _. Worked 0 old new) (λ why. Faults n old why new)
+some_worked : {A : Type 0} (k : A → ℕ) (n : ℕ) (old new : World) (result : Result A PipeFault) → MatchResult result (λ x. Worked (k x) old new) (λ why. FaultAfter n old why new)
+    → MatchResult result (λ _. Worked 0 old new) (λ why. FaultAfter n old why new)
 some_worked k n old new (Ok x) w = record { sound = w.sound; least = omega (arith, w.least); still = w.still }
 some_worked k n old new (Err why) w = w
 
@@ -95,7 +96,7 @@ polls_keep pipe far old result left new x =
 
 module _ (t : Target) (ep : ℕ) (first : Toggle) where
   puts_leave : (f : Claims) (toggle : Toggle) (bytes : List ℕ) (old : World) (answer : Result (List ℕ) TransFault) (new : World) → Puts t ep toggle bytes old answer new → Owned f old → LeavesTrans (Owned f) answer new
-  puts_leave f toggle bytes = far_transacted f (out_attempt t ep toggle bytes) (out toggle bytes (record { kind = refl; payload = refl })) sent_as
+  puts_leave f toggle bytes = far_transacted f (out_attempt t ep toggle bytes) (out toggle bytes (record { kind = refl; payload = refl })) heard_when_sent
 
   gave_owned : (f : Claims) {old : World} {n : ℕ} {sent : List ℕ} {new : World} → Gave t ep first old n sent new → Owned f old → Owned f new
   gave_owned f moves.start o = o
@@ -118,7 +119,7 @@ module _ (t : Target) (ep : ℕ) (first : Toggle) where
     none_sent (Ok done) x g e = none_gave g e x.gone
     none_sent (Err why) x g e =
         let same : x.mid ≡ old = none_gave g e x.before in
-        none_transacted g sent_as (out_attempt t ep (flips x.packets first) (take t.max x.rest)) x.mid (ap (λ w. w.fault) same ∙ e) x.fault new x.lost ∙ same
+        none_transacted g heard_when_sent (out_attempt t ep (flips x.packets first) (take t.max x.rest)) x.mid (ap (λ w. w.fault) same ∙ e) x.fault new x.lost ∙ same
 
 pub sends_keep : (bytes : List ℕ) (pipe : Bulk) (old : World) (result : Result (Unit {0}) PipeFault) (left : Bulk) (new : World) → Sends bytes pipe old result left new → KeepsAddresses old new
 sends_keep bytes pipe old result left new x = split pipe.condition refl
@@ -193,7 +194,7 @@ receives_keep wanted pipe far old result left new x = split pipe.condition refl
 -- The clear of a halt: a request that neither resets a port nor gives an address
 
 module _ (endpoint : ℕ) where
-  clear_other : Is (clear_endpoint_halt endpoint) 0x00 5 ≡ false
+  clear_other : Is (clear_endpoint_halt endpoint) DEVICE_OUT SET_ADDRESS ≡ false
   unfolding clear_endpoint_halt
   clear_other = refl
 

@@ -10,7 +10,7 @@ use Rattle.usb_world.specs.Steps.{took, took_first, event_taken, event, after, T
 use Rattle.usb_world.specs.World.{World}
 use Rattle.usb_world.proofs.Interface.{settled_happened, step_own, step_unshared}
 use Rattle.usb_address.specs.Claims.{Claims}
-use Rattle.usb_address.specs.Owned.{Owned, TillFault, KeepsAddresses}
+use Rattle.usb_address.specs.Ownership.{Owned, TillFault, KeepsAddresses}
 use Rattle.usb_address.proofs.Endpoints.{same_keeps}
 
 -- The next event, if one is left

@@ -9,10 +9,9 @@ use Rattle.usb_device.specs.Bulk.{is_same}
 use Rattle.usb_device.specs.Transfer.{Stage, idle, refused, reading, read, ending}
 use Rattle.usb_device.specs.Rows.{State, Reply, forgotten, is_busy, nak_row, unless_busy, out_row, status_row, sink_row, sunk, out_bulk_row, bulk_of, data_row}
 use Rattle.usb_device.specs.Attempt.{Way, is_whole, heard, in_law, out_law}
-use Rattle.usb_device.specs.Tree.{Ports, ended, vacant, taken, row_of, reach_at, state_at}
+use Rattle.usb_device.specs.Tree.{Ports, ended, vacant, taken, row_of, reach_at, state_at, Spot}
 use Rattle.usb_device.specs.declared.request.Registers.{Registers}
 use Rattle.usb_world.specs.declared.types.Attempt.{Attempt}
-use Rattle.usb_world.specs.declared.types.BusFault.{BusFault}
 use Rattle.usb_world.specs.declared.types.Outcome.{Outcome}
 use Rattle.usb_world.specs.Paths.{address_of}
 use Rattle.usb_world.specs.World.{World}
@@ -24,16 +23,16 @@ use Rattle.usb_world.proofs.Interface.{both, each_in, each_out, made_of, no, une
 use Rattle.usb_transaction.specs.declared.fault.TransFault.{TransFault}
 use Rattle.usb_transaction.specs.declared.fault.TransFault.TheVariants.{Stalled, Busy, NoAnswer, Bus}
 use Rattle.usb_transaction.specs.Transactions.{in_attempt}
-use Rattle.usb_transaction.specs.Heard.{polled_as}
+use Rattle.usb_transaction.specs.HeardOutcomes.{polled_as}
 use Rattle.usb_transaction.specs.Trail.{Trail, start, next, Transacted, Polled}
 use Rattle.usb_pipe.specs.declared.fault.PipeFault.{PipeFault}
-use Rattle.usb_pipe.specs.Control.{fault_of}
+use Rattle.usb_pipe.specs.Control.{as_pipe_fault}
 use Rattle.usb_pipe.specs.Interrupt.{Interrupt, PollAsked, Polls}
 use Rattle.usb_address.specs.Leaves.{LeavesTrans, LeavesPipe}
-use Rattle.usb_address.specs.Owned.{Owned}
-use Rattle.usb_address.proofs.Steps.{settled_after, unshared_after, fails_unshared}
+use Rattle.usb_address.specs.Ownership.{Owned}
+use Rattle.usb_address.proofs.Steps.{settled_after, unshared_after}
 use Rattle.usb_address.proofs.Trails.{cut_off}
-use Rattle.usb_address.proofs.Running.{in_kept}
+use Rattle.usb_address.proofs.BulkRuns.{in_kept}
 
 module _ (s : State) where
   abbrev Kept : Reply → Type 0
@@ -84,15 +83,15 @@ pub data IsFar (a : Attempt) : Type 0 where
   into : IsIn a → (a.ep == 0) ≡ false → IsFar a
   out : (t : Toggle) (bytes : List ℕ) → IsOut a t bytes → IsFar a
 
-in_address : (a : Attempt) (w : World) (i : ℕ) (e : List ℕ) (s v : State) → (a.ep == 0) ≡ false → DidIn a w i e s v → address_of v ≡ address_of s
-in_address a w i e s v far (DidIn.other d same) = ap address_of same
-in_address a w i e s v far (DidIn.silent d q o same) = ap address_of same
-in_address a w i e s v far (DidIn.asked d q b below p x o same) = ap address_of same ∙ in_far s (row_of below) a.ep a.max x.first x.second x.third far
+in_address : (a : Attempt) (w : World) (i : Spot) (s v : State) → (a.ep == 0) ≡ false → DidIn a w i s v → address_of v ≡ address_of s
+in_address a w i s v far (DidIn.other d same) = ap address_of same
+in_address a w i s v far (DidIn.silent d q o same) = ap address_of same
+in_address a w i s v far (DidIn.asked d q b below p x o same) = ap address_of same ∙ in_far s (row_of below) a.ep a.max x.first x.second x.third far
 
-out_address : (a : Attempt) (t : Toggle) (bytes : List ℕ) (w : World) (i : ℕ) (e : List ℕ) (s v : State) → DidOut a t bytes w i e s v → address_of v ≡ address_of s
-out_address a t bytes w i e s v (DidOut.other d same) = ap address_of same
-out_address a t bytes w i e s v (DidOut.silent d q o same) = ap address_of same
-out_address a t bytes w i e s v (DidOut.asked d q x o same) = ap address_of same ∙ out_far s t bytes a.ep x.first x.second x.third
+out_address : (a : Attempt) (t : Toggle) (bytes : List ℕ) (w : World) (i : Spot) (s v : State) → DidOut a t bytes w i s v → address_of v ≡ address_of s
+out_address a t bytes w i s v (DidOut.other d same) = ap address_of same
+out_address a t bytes w i s v (DidOut.silent d q o same) = ap address_of same
+out_address a t bytes w i s v (DidOut.asked d q x o same) = ap address_of same ∙ out_far s t bytes a.ep x.first x.second x.third
 
 -- a device stands where one is reached
 pub reach_stands : (k : Ports) (i : ℕ) (e : List ℕ) → reach_at k i e ≡ true → state_at k i e ≡ None → ⊥
@@ -106,7 +105,7 @@ reach_stands (taken b s a k) zero (suc j ∷ e) on h = reach_stands a j e (both 
 reach_stands (taken b s a k) (suc i) e on h = reach_stands k i e on h
 
 -- what an attempt leaves each device's address as, where it keeps it
-keeps_own : (R : ℕ → List ℕ → State → State → Type 0) → ((i : ℕ) (e : List ℕ) (s v : State) → R i e s v → address_of v ≡ address_of s) → (f : List ℕ → Option ℕ) (w u : World) → EachWas R w u → Own f w → Own f u
+keeps_own : (R : Spot → State → State → Type 0) → ((i : Spot) (s v : State) → R i s v → address_of v ≡ address_of s) → (f : List ℕ → Option ℕ) (w u : World) → EachWas R w u → Own f w → Own f u
 keeps_own R same f w u each own [] on = no on
 keeps_own R same f w u each own (zero ∷ e) on = no on
 keeps_own R same f w u each own (suc i ∷ e) on = go (state_at u.roots i e) refl
@@ -114,12 +113,12 @@ keeps_own R same f w u each own (suc i ∷ e) on = go (state_at u.roots i e) ref
     go : (o : Option State) → state_at u.roots i e ≡ o → option_map address_of (state_at u.roots i e) ≡ f (suc i ∷ e)
     go None h = elim (reach_stands u.roots i e on h) [ ]
     go (Some v) h =
-        let x : Was R w i e v = each i e v on h in
-        ap (option_map address_of) h ∙ ap (λ n. Some n) (same i e x.before v x.so) ∙ sym (ap (option_map address_of) x.stands) ∙ own (suc i ∷ e) x.on
+        let x : Was R w (record { row = i; rest = e }) v = each (record { row = i; rest = e }) v on h in
+        ap (option_map address_of) h ∙ ap (λ n. Some n) (same (record { row = i; rest = e }) x.before v x.so) ∙ sym (ap (option_map address_of) x.stands) ∙ own (suc i ∷ e) x.on
 
 far_own : (f : List ℕ → Option ℕ) (a : Attempt) (w : World) → IsFar a → IsMade a w → (after (attempt a) w).shared ≡ false → Own f w → Own f (after (attempt a) w)
-far_own f a w (into is far) m u own = keeps_own (DidIn a w) (λ i e s v x. in_address a w i e s v far x) f w (after (attempt a) w) (each_in a w m is u) own
-far_own f a w (out t bytes is) m u own = keeps_own (DidOut a t bytes w) (λ i e s v x. out_address a t bytes w i e s v x) f w (after (attempt a) w) (each_out a w t bytes m is u) own
+far_own f a w (into is far) m u own = keeps_own (DidIn a w) (λ i s v x. in_address a w i s v far x) f w (after (attempt a) w) (each_in a w m is u) own
+far_own f a w (out t bytes is) m u own = keeps_own (DidOut a t bytes w) (λ i s v x. out_address a t bytes w i s v x) f w (after (attempt a) w) (each_out a w t bytes m is u) own
 
 pub trail_far : (f : List ℕ → Option ℕ) (a : Attempt) → IsFar a → {old new : World} {outcomes : List Outcome} → Trail a old outcomes new → Owned f old → Owned f new
 trail_far f a far start o = o
@@ -146,7 +145,7 @@ module _ (f : List ℕ → Option ℕ) (p : Interrupt) (far : p.ep ≢ 0) where
   failed : (old : World) (fault : TransFault) (new : World) → Polled p.toggle ask old (Err fault) new → Owned f old → LeavesTrans {A = List ℕ} (Owned f) (Err fault) new
   failed old fault new e o = far_transacted f ask is_far (polled_as p.toggle) old (Err fault) new e o
 
-  told : (fault : TransFault) (why : PipeFault) (new : World) → why ≡ fault_of fault → LeavesTrans {A = List ℕ} (Owned f) (Err fault) new → LeavesPipe {A = Option (ArrayVec ℕ)} (Owned f) (Err why) new
+  told : (fault : TransFault) (why : PipeFault) (new : World) → why ≡ as_pipe_fault fault → LeavesTrans {A = List ℕ} (Owned f) (Err fault) new → LeavesPipe {A = Option (ArrayVec ℕ)} (Owned f) (Err why) new
   told Stalled why new e h = subst (λ x. LeavesPipe {A = Option (ArrayVec ℕ)} (Owned f) (Err x) new) (sym e) h
   told Busy why new e h = subst (λ x. LeavesPipe {A = Option (ArrayVec ℕ)} (Owned f) (Err x) new) (sym e) h
   told NoAnswer why new e h = subst (λ x. LeavesPipe {A = Option (ArrayVec ℕ)} (Owned f) (Err x) new) (sym e) h

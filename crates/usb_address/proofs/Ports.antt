@@ -1,6 +1,7 @@
 -- What requests about a port of a hub do to the addresses that devices hold (11.24.2).
 use Rattle.std.proofs.Common.{◌≡◌, ℕ, zero, ◌⊎◌, true, false, List, [], ◌∷◌, ◌++◌, Some, Result, refl, ap, sym, ◌∙◌, arith}
 use Rattle.std.specs.Prelude.{MatchResult}
+use Rattle.usb_request.specs.Features.{PORT_RESET}
 use Rattle.usb_port.specs.Path.{IsPath}
 use Rattle.usb_request.specs.declared.setup.Setup.{Setup}
 use Rattle.usb_request.specs.Requests.{set_port_feature}
@@ -11,13 +12,13 @@ use Rattle.usb_world.proofs.Interface.{and_false, no, same_is}
 use Rattle.usb_transaction.specs.declared.target.Target.{Target}
 use Rattle.usb_transaction.specs.Transactions.{Worked}
 use Rattle.usb_pipe.specs.declared.fault.PipeFault.{PipeFault}
-use Rattle.usb_pipe.specs.Control.{Faults}
+use Rattle.usb_pipe.specs.Control.{FaultAfter}
 use Rattle.usb_pipe.specs.Stages.{Writes}
 use Rattle.usb_address.specs.Claims.{Claims}
 use Rattle.usb_address.specs.Leaves.{LeavesPipe}
-use Rattle.usb_address.specs.Owned.{Owned, TillFault}
-use Rattle.usb_address.proofs.Keeping.{write_till, either_alone}
-use Rattle.usb_address.proofs.Resetting.{resets_leave}
+use Rattle.usb_address.specs.Ownership.{Owned, TillFault}
+use Rattle.usb_address.proofs.TransferSequences.{write_till, either_alone}
+use Rattle.usb_address.proofs.PortResets.{resets_leave}
 use Rattle.usb_address.proofs.Setups.{same_setup}
 
 -- Paths
@@ -37,8 +38,8 @@ no_root e is = omega (arith, (is.2 0 0 (omega arith)).0)
 -- The clear of PORT_ENABLE
 
 module _ (t : Target) (k n : ℕ) (old new : World) (f : Claims) where
-  pub reset_till : (hub : List ℕ) (port : ℕ) (result : Result (Unit {0}) PipeFault) → f hub ≡ Some t.addr → MatchResult result (λ _. Worked k old new) (λ fault. Faults n old fault new)
-      → Writes t (set_port_feature 4 port) old result new → ((x : List ℕ) → f x ≡ Some 0 → is_way (hub ++ (port ∷ [])) x ≡ true) → TillFault (Owned f) old
+  pub reset_till : (hub : List ℕ) (port : ℕ) (result : Result (Unit {0}) PipeFault) → f hub ≡ Some t.addr → MatchResult result (λ _. Worked k old new) (λ fault. FaultAfter n old fault new)
+      → Writes t (set_port_feature PORT_RESET port) old result new → ((x : List ℕ) → f x ≡ Some 0 → is_way (hub ++ (port ∷ [])) x ≡ true) → TillFault (Owned f) old
       → TillFault (λ w. Owned f w ⊎ Owned (after_reset f (hub ++ (port ∷ []))) w) new
   unfolding set_port_feature
   reset_till hub port result held ends writes only o =
@@ -48,7 +49,7 @@ module _ (t : Target) (k n : ℕ) (old new : World) (f : Claims) where
       g = after_reset f (hub ++ (port ∷ []))
 
       request : Setup
-      request = set_port_feature 4 port
+      request = set_port_feature PORT_RESET port
 
       some : t.addr ≡ 0 → ⊥
       some e = no (sym (not_way hub port) ∙ only hub (held ∙ ap (λ a. Some a) e))

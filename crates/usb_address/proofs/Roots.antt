@@ -1,8 +1,8 @@
 -- What the calls at a root port do to the addresses that devices hold (11.24.2).
 use Rattle.std.proofs.Common.{◌≡◌, ℕ, zero, suc, ◌⊎◌, inl, inr, true, false, List, [], ◌∷◌, Some, slice_index_or, refl, sym, subst, ◌∙◌}
-use Rattle.usb_device.specs.declared.calls.PortCall.{PortCall}
-use Rattle.usb_device.specs.declared.calls.PortCall.TheVariants.{SetReset}
-use Rattle.usb_device.specs.Calls.{is_reset}
+use Rattle.usb_port.specs.declared.call.PortCall.{PortCall}
+use Rattle.usb_port.specs.declared.call.PortCall.TheVariants.{SetReset}
+use Rattle.usb_port.specs.Calls.{is_reset}
 use Rattle.usb_port.specs.PortState.{off}
 use Rattle.usb_device.specs.Tree.{Ports, ended, vacant, taken, reach, reach_at, row_of}
 use Rattle.usb_world.specs.Addresses.{after_reset}
@@ -12,7 +12,7 @@ use Rattle.usb_world.specs.Steps.{root_call, after}
 use Rattle.usb_world.specs.World.{World, root_port_at}
 use Rattle.usb_world.proofs.Interface.{both, decided, is_same, no, reset_distinct, reset_own, rest_own, settled_called, step_own}
 use Rattle.usb_address.specs.Claims.{Claims, claims_apart}
-use Rattle.usb_address.specs.Owned.{Owned, TillFault, KeepsAddresses}
+use Rattle.usb_address.specs.Ownership.{Owned, TillFault, KeepsAddresses}
 use Rattle.usb_address.proofs.HubPorts.{less_one}
 use Rattle.usb_address.proofs.States.{bared}
 

@@ -1,6 +1,7 @@
 -- Requests, and the eight bytes that carry them.
 use Rattle.std.proofs.Common.{◌≡◌, ℕ, ◌+◌, ◌*◌, ◌/◌, ◌%◌, ◌≤◌, ◌==◌, false, refl, arith}
 use Rattle.std.proofs.lemmas.Bool.Decides.{nat_tests}
+use Rattle.usb_request.specs.Codes.{SET_ADDRESS, DEVICE_OUT}
 use Rattle.usb_request.specs.Layout.{setup_of, bytes_of, IsToHost}
 use Rattle.usb_request.specs.declared.setup.Setup.{Setup}
 use Rattle.usb_device.specs.Request.{Is}
@@ -14,5 +15,5 @@ same_setup s = rw (two_bytes s.value, two_bytes s.index, two_bytes s.length) ref
 other_type : (n m : ℕ) → 128 ≤ n → m ≤ 127 → (n == m) ≡ false
 other_type n m far near = grind (arith, nat_tests, far, near)
 
-pub reads_other : (s : Setup) → IsToHost s → Is s 0x00 5 ≡ false
-reads_other s reads = rw (other_type s.request_type 0x00 reads (omega arith)) refl
+pub reads_other : (s : Setup) → IsToHost s → Is s DEVICE_OUT SET_ADDRESS ≡ false
+reads_other s reads = rw (other_type s.request_type DEVICE_OUT reads (omega arith)) refl

@@ -9,9 +9,9 @@ use Rattle.usb_world.specs.Courses.{Injective, address_at}
 use Rattle.usb_world.specs.Addresses.{after_reset, after_taking}
 use Rattle.usb_world.proofs.Interface.{no, same_is, taken_distinct, way_itself}
 use Rattle.usb_address.specs.Claims.{Free, claims_apart, Unused}
-use Rattle.usb_address.specs.Owned.{Owned, Enumerating}
+use Rattle.usb_address.specs.Ownership.{Owned, Enumerating}
 use Rattle.usb_address.proofs.Polls.{reach_stands}
-use Rattle.usb_address.proofs.Resetting.{owned_as}
+use Rattle.usb_address.proofs.PortResets.{owned_as}
 
 -- where a device is reached there is an address
 stands : (w : World) (q : List ℕ) → reach w.roots q ≡ true → address_at w.roots q ≡ None → ⊥

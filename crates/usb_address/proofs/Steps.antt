@@ -1,5 +1,5 @@
 -- What one attempt leaves of addresses.
-use Rattle.std.proofs.Common.{◌≡◌, ℕ, suc, ◌&&◌, ◌||◌, if◌then◌else◌, inr, Bool, true, false, List, [], ◌∷◌, Option, None, Some, Err, refl, ap, sym, subst, ◌∙◌, ◌==◌}
+use Rattle.std.proofs.Common.{◌≡◌, ℕ, ◌&&◌, ◌||◌, if◌then◌else◌, inr, Bool, true, false, List, Option, None, Some, Err, refl, ap, sym, subst, ◌∙◌, ◌==◌}
 use Rattle.usb_packet.specs.declared.Toggle.{Toggle}
 use Rattle.usb_request.specs.Layout.{setup_of}
 use Rattle.usb_device.specs.Attempt.{Way, is_whole, heard}
@@ -7,8 +7,7 @@ use Rattle.usb_device.specs.declared.answer.Answer.TheVariants as answer
 use Rattle.usb_device.specs.Delivery.{held, is_twice}
 use Rattle.usb_device.specs.Request.{outcome}
 use Rattle.usb_device.specs.Rows.{State, Reply, accepted}
-use Rattle.usb_device.specs.Tree.{row_of, reach_at, state_at}
-use Rattle.usb_world.specs.declared.event.Event.{Event}
+use Rattle.usb_device.specs.Tree.{row_of, Spot, path_to, reach_on, state_on}
 use Rattle.usb_world.specs.declared.types.Attempt.{Attempt}
 use Rattle.usb_world.specs.declared.types.BusFault.{BusFault}
 use Rattle.usb_world.specs.declared.types.BusFault.TheVariants.{LimitReached, Memory, TraceFailed}
@@ -16,7 +15,7 @@ use Rattle.usb_world.specs.declared.types.Outcome.TheVariants.{Ack}
 use Rattle.usb_world.specs.Paths.{address_of}
 use Rattle.usb_world.specs.Passes.{IsSettled}
 use Rattle.usb_world.specs.World.{World, Made}
-use Rattle.usb_world.specs.Steps.{ready, took_first, took, attempt, after, outcome_in, here, step, Coming, nothing_yet, next_came, Left, at_event, at_packet, at_line, GaveUp, AttemptFails, with_attempt, attempted, damage_in}
+use Rattle.usb_world.specs.Steps.{ready, attempt, after, outcome_in, here, step, Left, at_event, at_packet, at_line, GaveUp, AttemptFails, with_attempt, attempted, damage_in}
 use Rattle.usb_world.specs.Courses.{resets, is_quiet}
 use Rattle.usb_world.specs.OneHolder.{IsSetup, IsOut, IsIn, IsMade, got}
 use Rattle.usb_world.specs.Devices.{Was, DidIn, DidOut, DidSetup}
@@ -25,51 +24,51 @@ use Rattle.usb_world.proofs.Interface.{came_shared, course_keeps, due_own, due_r
 use Rattle.usb_transaction.proofs.Interface.{trail_settled}
 use Rattle.usb_transaction.specs.Trail.{start, next}
 use Rattle.usb_address.specs.Aims.{Aims, AllAim, TakesOnly, Never}
-use Rattle.usb_address.specs.Owned.{Owned}
+use Rattle.usb_address.specs.Ownership.{Owned}
 use Rattle.usb_address.proofs.Stages.{none_takes, in_keeps, out_keeps}
-use Rattle.usb_address.proofs.Asked.{first_aims}
+use Rattle.usb_address.proofs.AddressRequests.{first_aims}
 
 -- Events that are due
 
 pub aim_ready : (Q : ℕ → Type 0) (n : ℕ) (w : World) → AllAim Q n w → AllAim Q n (ready w)
 unfolding ready
-aim_ready Q n w h i e s on there at = h i e s (due_reach w.left w (suc i ∷ e) refl on).0 (sym (due_state w.left w (suc i ∷ e) on) ∙ there) at
+aim_ready Q n w h i s on there at = h i s (due_reach w.left w (path_to i) refl on).0 (sym (due_state w.left w (path_to i) on) ∙ there) at
 
 none_ready : (n : ℕ) (w : World) → AllAim Never n w → NoneTakes n (ready w).roots
-none_ready n w h i e s on there at = none_takes s.stage (aim_ready Never n w h i e s on there at)
+none_ready n w h i e s on there at = none_takes s.stage (aim_ready Never n w h (record { row = i; rest = e }) s on there at)
 
 -- IN and OUT
 
 module _ (Q : ℕ → Type 0) where
-  in_place : (a : Attempt) (w : World) (i : ℕ) (e : List ℕ) (s v : State) → DidIn a w i e s v → Aims Q s.stage → Aims Q v.stage
-  in_place a w i e s v (DidIn.other d same) h = subst (λ x. Aims Q x.stage) (sym same) h
-  in_place a w i e s v (DidIn.silent d q o same) h = subst (λ x. Aims Q x.stage) (sym same) h
-  in_place a w i e s v (DidIn.asked d q b below p x o same) h = subst (λ x. Aims Q x.stage) (sym same) (in_keeps Q s (row_of below) a.ep a.max x.first x.second x.third h)
+  in_place : (a : Attempt) (w : World) (i : Spot) (s v : State) → DidIn a w i s v → Aims Q s.stage → Aims Q v.stage
+  in_place a w i s v (DidIn.other d same) h = subst (λ x. Aims Q x.stage) (sym same) h
+  in_place a w i s v (DidIn.silent d q o same) h = subst (λ x. Aims Q x.stage) (sym same) h
+  in_place a w i s v (DidIn.asked d q b below p x o same) h = subst (λ x. Aims Q x.stage) (sym same) (in_keeps Q s (row_of below) a.ep a.max x.first x.second x.third h)
 
-  out_place : (a : Attempt) (t : Toggle) (bytes : List ℕ) (w : World) (i : ℕ) (e : List ℕ) (s v : State) → DidOut a t bytes w i e s v → Aims Q s.stage → Aims Q v.stage
-  out_place a t bytes w i e s v (DidOut.other d same) h = subst (λ x. Aims Q x.stage) (sym same) h
-  out_place a t bytes w i e s v (DidOut.silent d q o same) h = subst (λ x. Aims Q x.stage) (sym same) h
-  out_place a t bytes w i e s v (DidOut.asked d q x o same) h = subst (λ x. Aims Q x.stage) (sym same) (out_keeps Q s a.ep t bytes x.first x.second x.third h)
+  out_place : (a : Attempt) (t : Toggle) (bytes : List ℕ) (w : World) (i : Spot) (s v : State) → DidOut a t bytes w i s v → Aims Q s.stage → Aims Q v.stage
+  out_place a t bytes w i s v (DidOut.other d same) h = subst (λ x. Aims Q x.stage) (sym same) h
+  out_place a t bytes w i s v (DidOut.silent d q o same) h = subst (λ x. Aims Q x.stage) (sym same) h
+  out_place a t bytes w i s v (DidOut.asked d q x o same) h = subst (λ x. Aims Q x.stage) (sym same) (out_keeps Q s a.ep t bytes x.first x.second x.third h)
 
-  in_at : (a : Attempt) (w : World) (i : ℕ) (e : List ℕ) (s v : State) → DidIn a w i e s v → address_of v ≡ a.addr → address_of s ≡ a.addr
-  in_at a w i e s v (DidIn.other d same) h = ap address_of (sym same) ∙ h
-  in_at a w i e s v (DidIn.silent d q o same) h = equal_same (address_of s) a.addr d
-  in_at a w i e s v (DidIn.asked d q b below p x o same) h = equal_same (address_of s) a.addr d
+  in_at : (a : Attempt) (w : World) (i : Spot) (s v : State) → DidIn a w i s v → address_of v ≡ a.addr → address_of s ≡ a.addr
+  in_at a w i s v (DidIn.other d same) h = ap address_of (sym same) ∙ h
+  in_at a w i s v (DidIn.silent d q o same) h = equal_same (address_of s) a.addr d
+  in_at a w i s v (DidIn.asked d q b below p x o same) h = equal_same (address_of s) a.addr d
 
-  out_at : (a : Attempt) (t : Toggle) (bytes : List ℕ) (w : World) (i : ℕ) (e : List ℕ) (s v : State) → DidOut a t bytes w i e s v → address_of v ≡ a.addr → address_of s ≡ a.addr
-  out_at a t bytes w i e s v (DidOut.other d same) h = ap address_of (sym same) ∙ h
-  out_at a t bytes w i e s v (DidOut.silent d q o same) h = equal_same (address_of s) a.addr d
-  out_at a t bytes w i e s v (DidOut.asked d q x o same) h = equal_same (address_of s) a.addr d
+  out_at : (a : Attempt) (t : Toggle) (bytes : List ℕ) (w : World) (i : Spot) (s v : State) → DidOut a t bytes w i s v → address_of v ≡ a.addr → address_of s ≡ a.addr
+  out_at a t bytes w i s v (DidOut.other d same) h = ap address_of (sym same) ∙ h
+  out_at a t bytes w i s v (DidOut.silent d q o same) h = equal_same (address_of s) a.addr d
+  out_at a t bytes w i s v (DidOut.asked d q x o same) h = equal_same (address_of s) a.addr d
 
   pub in_aims : (a : Attempt) (w : World) → IsMade a w → IsIn a → (after (attempt a) w).shared ≡ false → AllAim Q a.addr w → AllAim Q a.addr (after (attempt a) w)
-  in_aims a w m is u h i e v on there at =
-      let x : Was (DidIn a w) w i e v = each_in a w m is u i e v on there in
-      in_place a w i e x.before v x.so (h i e x.before x.on x.stands (in_at a w i e x.before v x.so at))
+  in_aims a w m is u h i v on there at =
+      let x : Was (DidIn a w) w i v = each_in a w m is u i v on there in
+      in_place a w i x.before v x.so (h i x.before x.on x.stands (in_at a w i x.before v x.so at))
 
   pub out_aims : (a : Attempt) (t : Toggle) (bytes : List ℕ) (w : World) → IsMade a w → IsOut a t bytes → (after (attempt a) w).shared ≡ false → AllAim Q a.addr w → AllAim Q a.addr (after (attempt a) w)
-  out_aims a t bytes w m is u h i e v on there at =
-      let x : Was (DidOut a t bytes w) w i e v = each_out a w t bytes m is u i e v on there in
-      out_place a t bytes w i e x.before v x.so (h i e x.before x.on x.stands (out_at a t bytes w i e x.before v x.so at))
+  out_aims a t bytes w m is u h i v on there at =
+      let x : Was (DidOut a t bytes w) w i v = each_out a w t bytes m is u i v on there in
+      out_place a t bytes w i x.before v x.so (h i x.before x.on x.stands (out_at a t bytes w i x.before v x.so at))
 
   -- setup data that were acknowledged
 
@@ -84,21 +83,21 @@ module _ (Q : ℕ → Type 0) where
   then_is true x y h = refl
   then_is false x y h = no h
 
-  set_up_place : (a : Attempt) (bytes : List ℕ) (w : World) (i : ℕ) (e : List ℕ) (s v : State) → ((s : State) → TakesOnly Q (outcome s.spec s.registers (setup_of bytes)))
-      → DidSetup a bytes w i e s v → outcome_in a w ≡ Ack → address_of v ≡ a.addr → Aims Q v.stage
-  set_up_place a bytes w i e s v c (DidSetup.other d same) h at = no (sym d ∙ same_equal (address_of s) a.addr (ap address_of (sym same) ∙ at))
-  set_up_place a bytes w i e s v c (DidSetup.silent d q o same) h at = absurd (cc (o, h))
-  set_up_place a bytes w i e s v c (DidSetup.asked d q b below p x o same) h at =
+  set_up_place : (a : Attempt) (bytes : List ℕ) (w : World) (i : Spot) (s v : State) → ((s : State) → TakesOnly Q (outcome s.spec s.registers (setup_of bytes)))
+      → DidSetup a bytes w i s v → outcome_in a w ≡ Ack → address_of v ≡ a.addr → Aims Q v.stage
+  set_up_place a bytes w i s v c (DidSetup.other d same) h at = no (sym d ∙ same_equal (address_of s) a.addr (ap address_of (sym same) ∙ at))
+  set_up_place a bytes w i s v c (DidSetup.silent d q o same) h at = absurd (cc (o, h))
+  set_up_place a bytes w i s v c (DidSetup.asked d q b below p x o same) h at =
       subst (λ x. Aims Q x.stage)
       (sym (same ∙ then_is (is_whole x.first && is_whole x.second) (heard x.third (Some answer.Ack), accepted s (row_of below) (setup_of bytes)) (None, s) (unheard a x.third (is_whole x.first && is_whole x.second) s (accepted s (row_of below) (setup_of bytes)) (sym o ∙ h))))
       (first_aims Q (row_of below) (setup_of bytes).length (outcome s.spec s.registers (setup_of bytes)) (c s))
 
   pub set_up_aims : (a : Attempt) (bytes : List ℕ) (w : World) → IsMade a w → IsSetup a bytes → (after (attempt a) w).shared ≡ false → ((s : State) → TakesOnly Q (outcome s.spec s.registers (setup_of bytes)))
-      → outcome_in a w ≡ Ack → (i : ℕ) (e : List ℕ) (v : State) → resets (attempt a) w (suc i ∷ e) ≡ false
-      → reach_at (after (attempt a) w).roots i e ≡ true → state_at (after (attempt a) w).roots i e ≡ Some v → address_of v ≡ a.addr → Aims Q v.stage
-  set_up_aims a bytes w m is u c h i e v rest on there at =
-      let x : Was (DidSetup a bytes w) w i e v = each_setup a w bytes m is u i e v rest on there in
-      set_up_place a bytes w i e x.before v c x.so h at
+      → outcome_in a w ≡ Ack → (i : Spot) (v : State) → resets (attempt a) w (path_to i) ≡ false
+      → reach_on (after (attempt a) w).roots i ≡ true → state_on (after (attempt a) w).roots i ≡ Some v → address_of v ≡ a.addr → Aims Q v.stage
+  set_up_aims a bytes w m is u c h i v rest on there at =
+      let x : Was (DidSetup a bytes w) w i v = each_setup a w bytes m is u i v rest on there in
+      set_up_place a bytes w i x.before v c x.so h at
 
 -- Addresses
 

@@ -1,5 +1,6 @@
 -- What a transaction leaves of addresses, whatever is lost.
-use Rattle.std.proofs.Common.{◌≡◌, ℕ, suc, true, false, List, ◌∷◌, Option, None, Some, Result, Ok, Err, refl, ap, ◌∙◌}
+use Rattle.usb_device.specs.Tree.{path_to}
+use Rattle.std.proofs.Common.{◌≡◌, ℕ, true, false, List, ◌∷◌, Option, None, Some, Result, Ok, Err, refl, ap, ◌∙◌}
 use Rattle.usb_packet.specs.declared.Toggle.{Toggle}
 use Rattle.usb_request.specs.Layout.{setup_of}
 use Rattle.usb_device.specs.Request.{outcome}
@@ -16,11 +17,11 @@ use Rattle.usb_world.specs.Addresses.{is_setup}
 use Rattle.usb_world.proofs.Interface.{made_of, quiet_resets}
 use Rattle.usb_transaction.specs.declared.fault.TransFault.{TransFault}
 use Rattle.usb_transaction.specs.declared.fault.TransFault.TheVariants.{Stalled, Busy, NoAnswer, Bus}
-use Rattle.usb_transaction.specs.Heard.{set_up_as}
+use Rattle.usb_transaction.specs.HeardOutcomes.{set_up_as}
 use Rattle.usb_transaction.specs.Trail.{Trail, start, next, CutOff, Transacted, Tells}
 use Rattle.usb_address.specs.Aims.{AllAim, TakesOnly, Never}
 use Rattle.usb_address.specs.Leaves.{LeavesTrans}
-use Rattle.usb_address.specs.Owned.{Owned}
+use Rattle.usb_address.specs.Ownership.{Owned}
 use Rattle.usb_address.proofs.Steps.{in_aims, out_aims, set_up_aims, data_owned, quiet_owned, unshared_after, fails_unshared}
 
 -- IN or OUT
@@ -77,7 +78,7 @@ last_set_up : (f : List ℕ → Option ℕ) (Q : ℕ → Type 0) (a : Attempt) (
     → {old new : World} {last : Outcome} {outcomes : List Outcome} → Trail a old (last ∷ outcomes) new → last ≡ Ack → Owned f old → AllAim Q a.addr new
 last_set_up f Q a bytes q is c (next w t made) h o =
     let x : Owned f w = trail_quiet f a q t o in
-    λ i e v on there at. set_up_aims Q a bytes w (made_of a w x.settled made) is (unshared_after f a w x) c h i e v (quiet_resets (attempt a) w (suc i ∷ e) q) on there at
+    λ i v on there at. set_up_aims Q a bytes w (made_of a w x.settled made) is (unshared_after f a w x) c h i v (quiet_resets (attempt a) w (path_to i) q) on there at
 
 -- what is so after it, where it is done
 abbrev pub SetUpLeaves : (List ℕ → Option ℕ) → (ℕ → Type 0) → ℕ → Result (List ℕ) TransFault → World → Type 0

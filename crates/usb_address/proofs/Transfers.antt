@@ -3,6 +3,7 @@ use Rattle.std.proofs.Common.{◌≡◌, ℕ, ◌⊎◌, inl, inr, true, false, 
 use Rattle.std.specs.Global.{Vec}
 use Rattle.usb_packet.specs.declared.Toggle.{Toggle}
 use Rattle.usb_packet.specs.declared.Toggle.TheVariants.{One}
+use Rattle.usb_request.specs.Codes.{SET_ADDRESS, DEVICE_OUT}
 use Rattle.usb_request.specs.Layout.{setup_of, bytes_of}
 use Rattle.usb_request.specs.declared.setup.Setup.{Setup}
 use Rattle.usb_device.specs.Request.{outcome, Is}
@@ -12,26 +13,26 @@ use Rattle.usb_world.specs.OneHolder.{IsSetup}
 use Rattle.usb_transaction.specs.declared.target.Target.{Target}
 use Rattle.usb_transaction.specs.declared.fault.TransFault.{TransFault}
 use Rattle.usb_transaction.specs.declared.fault.TransFault.TheVariants.{Stalled as TransStalled, Busy as TransBusy, NoAnswer as TransNoAnswer, Bus as TransBus}
-use Rattle.usb_transaction.specs.Heard.{heard_as, sent_as}
+use Rattle.usb_transaction.specs.HeardOutcomes.{heard_as, heard_when_sent}
 use Rattle.usb_transaction.specs.Transactions.{setup_attempt, in_attempt, out_attempt}
 use Rattle.usb_pipe.specs.declared.fault.PipeFault.{PipeFault}
 use Rattle.usb_pipe.specs.declared.fault.PipeFault.TheVariants.{Stalled, Busy, NoAnswer, Broken, Bus, Memory}
-use Rattle.usb_pipe.specs.Control.{fault_of}
+use Rattle.usb_pipe.specs.Control.{as_pipe_fault}
 use Rattle.usb_pipe.specs.Stages.{SetUp, Asks, Confirms, NoSetUp, Writes, Goes, start, packet, DataStage, DataLost, NoRoom, Reads}
 use Rattle.usb_pipe.specs.Toggles.{flips}
 use Rattle.usb_address.specs.Aims.{AllAim, TakesOnly, Never}
 use Rattle.usb_address.specs.Leaves.{LeavesTrans, LeavesPipe}
-use Rattle.usb_address.specs.Owned.{Owned}
-use Rattle.usb_address.proofs.Asked.{outcome_only}
+use Rattle.usb_address.specs.Ownership.{Owned}
+use Rattle.usb_address.proofs.AddressRequests.{outcome_only}
 use Rattle.usb_world.specs.Addresses.{after_taking}
-use Rattle.usb_address.proofs.Taking.{Taking, taking_transacted}
+use Rattle.usb_address.proofs.AddressesTaken.{Taking, taking_transacted}
 use Rattle.usb_address.proofs.Trails.{IsData, into, out, data_transacted, set_up_transacted, SetUpLeaves}
 
 -- a fault of a transaction as one of the pipe
 abbrev pub FaultLeaves : (World → Type 0) → TransFault → World → Type 0
 FaultLeaves P fault w = LeavesTrans {A = List ℕ} P (Err fault) w
 
-pub of_fault : (P Q : World → Type 0) (w : World) → (P w → Q w) → (fault : TransFault) (why : PipeFault) → why ≡ fault_of fault → FaultLeaves P fault w → LeavesPipe {A = Unit {0}} Q (Err why) w
+pub of_fault : (P Q : World → Type 0) (w : World) → (P w → Q w) → (fault : TransFault) (why : PipeFault) → why ≡ as_pipe_fault fault → FaultLeaves P fault w → LeavesPipe {A = Unit {0}} Q (Err why) w
 of_fault P Q w g TransStalled why e h = subst (λ x. LeavesPipe {A = Unit {0}} Q (Err x) w) (sym e) (g h)
 of_fault P Q w g TransBusy why e h = subst (λ x. LeavesPipe {A = Unit {0}} Q (Err x) w) (sym e) (g h)
 of_fault P Q w g TransNoAnswer why e h = subst (λ x. LeavesPipe {A = Unit {0}} Q (Err x) w) (sym e) (g h)
@@ -52,7 +53,7 @@ pub asks_leaves : (f : List ℕ → Option ℕ) (t : Target) (toggle : Toggle) (
 asks_leaves f t toggle old answer new e c = data_transacted f (in_attempt t 0) (is_in t) (heard_as toggle) old answer new e c.0 c.1
 
 confirms_leaves : (f : List ℕ → Option ℕ) (t : Target) (old : World) (answer : Result (List ℕ) TransFault) (new : World) → Confirms t old answer new → Calm f t old → LeavesTrans (Calm f t) answer new
-confirms_leaves f t old answer new e c = data_transacted f (out_attempt t 0 One []) (is_out t) sent_as old answer new e c.0 c.1
+confirms_leaves f t old answer new e c = data_transacted f (out_attempt t 0 One []) (is_out t) heard_when_sent old answer new e c.0 c.1
 
 goes_leaves : (f : List ℕ → Option ℕ) (t : Target) (wanted : ℕ) {old : World} {n : ℕ} {got : List ℕ} {new : World} → Goes t wanted old n got new → Calm f t old → Calm f t new
 goes_leaves f t wanted start c = c
@@ -63,13 +64,13 @@ module _ (f : List ℕ → Option ℕ) (t : Target) (request : Setup) (same : se
   unfolding bytes_of
   is_set_up = record { kind = refl; ep = refl; payload = refl; whole = refl }
 
-  set_up_leaves : (Q : ℕ → Type 0) → (Is request 0x00 5 ≡ true → Q request.value) → (old : World) (answer : Result (List ℕ) TransFault) (new : World) → SetUp t request old answer new → Owned f old → SetUpLeaves f Q t.addr answer new
+  set_up_leaves : (Q : ℕ → Type 0) → (Is request DEVICE_OUT SET_ADDRESS ≡ true → Q request.value) → (old : World) (answer : Result (List ℕ) TransFault) (new : World) → SetUp t request old answer new → Owned f old → SetUpLeaves f Q t.addr answer new
   set_up_leaves Q q old answer new e o =
       set_up_transacted f Q (setup_attempt t (bytes_of request)) (bytes_of request) (ap is_harmless same ∙ harmless) is_set_up
       (λ s. subst (λ r. TakesOnly Q (outcome s.spec s.registers r)) (sym same) (outcome_only Q s.spec s.registers request q)) old answer new e o
 
-  module _ (other : Is request 0x00 5 ≡ false) where
-    never : Is request 0x00 5 ≡ true → ⊥
+  module _ (other : Is request DEVICE_OUT SET_ADDRESS ≡ false) where
+    never : Is request DEVICE_OUT SET_ADDRESS ≡ true → ⊥
     never h = cc (other, h)
 
     calm_set_up : (old : World) (answer : Result (List ℕ) TransFault) (new : World) → SetUp t request old answer new → Owned f old → SetUpLeaves f Never t.addr answer new

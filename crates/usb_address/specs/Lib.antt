@@ -1,4 +1,4 @@
 pub mod Aims
 pub mod Claims
 pub mod Leaves
-pub mod Owned
+pub mod Ownership

@@ -5,7 +5,7 @@ ghost use Rattle.std.specs.Prelude.{◌≡◌, ◌++◌, codes, decimal, false, 
 ghost use Rattle.usb_bus.specs.Watch.{inner_of, has_failed};
 ghost use Rattle.usb_bus.specs.Sim.{world_of, writer_of};
 ghost use Rattle.usb_world.specs.Steps.{after, root_call};
-ghost use Rattle.usb_device.specs.Calls.{set_call, clear_call};
+ghost use Rattle.usb_port.specs.Calls.{set_call, clear_call};
 ghost use Rattle.usb_plan.specs.Plan.{spelled_plan};
 ghost use Rattle.usb_bench.specs.Bench.{IsOpened, IsReady, made_ready, port_called};
 
@@ -13,8 +13,8 @@ use std::alloc::{AllocError, Global};
 use std::io::Write;
 use thiserror::Error;
 use usb_bus::{Bus, BusFault, Plan, SimBus, Watched};
-use usb_device::PortCall;
 use usb_plan::{PlanFault, read_plan};
+use usb_port::PortCall;
 use usb_request::feature::{
     C_PORT_CONNECTION, C_PORT_ENABLE, C_PORT_RESET, PORT_ENABLE, PORT_POWER, PORT_RESET,
 };

@@ -18,7 +18,7 @@ use Rattle.usb_world.proofs.Interface.{spends_none, spends_wider, unequal}
 use Rattle.usb_bus.specs.Lines.{step_lines}
 use Rattle.usb_bus.specs.Watch.{WritesText}
 use Rattle.usb_bus.specs.Parts.{AttemptMade, OneEventCame}
-use Rattle.usb_bus.specs.Traced.{Attempts, TakesEvent}
+use Rattle.usb_bus.specs.Traces.{Attempts, TakesEvent}
 use Rattle.usb_bus.proofs.Arrivals.{writes_none, writes_alone}
 use Rattle.usb_device.specs.Delivery.{held, is_twice}
 

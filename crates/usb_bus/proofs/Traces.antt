@@ -1,15 +1,16 @@
 -- How what went between states of a bus joins.
 use Rattle.std.proofs.Common.{◌≡◌, ℕ, ◌+◌, ◌≤◌, List, Option, Some, Result, refl, sym, subst, inl, inr}
-use Rattle.usb_device.specs.declared.calls.PortCall.{PortCall}
-use Rattle.usb_device.specs.declared.calls.PortCall.TheVariants.{SetPower, SetReset, ClearEnable, ClearPower, ClearConnectionChange, ClearEnableChange, ClearResetChange}
-use Rattle.usb_device.specs.Calls.{set_call, clear_call}
+use Rattle.usb_port.specs.declared.call.PortCall.{PortCall}
+use Rattle.usb_port.specs.declared.call.PortCall.TheVariants.{SetPower, SetReset, ClearEnable, ClearPower, ClearConnectionChange, ClearEnableChange, ClearResetChange}
+use Rattle.usb_port.specs.Calls.{set_call, clear_call, IsSetFeature, IsClearFeature}
+use Rattle.usb_port.proofs.Interface.{call_is}
 use Rattle.usb_world.specs.declared.types.Attempt.{Attempt}
 use Rattle.usb_world.specs.declared.types.BusFault.{BusFault}
 use Rattle.usb_world.specs.declared.types.Outcome.{Outcome}
-use Rattle.usb_world.specs.World.{World, IsAttempt, IsSetFeature, IsClearFeature}
+use Rattle.usb_world.specs.World.{World, IsAttempt}
 use Rattle.usb_world.specs.Steps.{SetsRoot, ClearsRoot, after, root_call}
 use Rattle.usb_world.proofs.Interface.{spends_none, spends_then, spends_wider}
-use Rattle.usb_bus.specs.Traced.{Attempts, Traced, still, attempted, called, WentOn}
+use Rattle.usb_bus.specs.Traces.{Attempts, Traced, still, attempted, called, WentOn}
 
 pub traced_then : {a b : World} {t r : Option (List ℕ)} {c : World} {s : Option (List ℕ)} → Traced a t b r → Traced b r c s → Traced a t c s
 traced_then x still = x
@@ -36,25 +37,12 @@ called_as {a} {b} {c} {t} {r} {s} call port before is silent =
     let Q : Option (List ℕ) → Type 0 = λ x. Traced a t (after (root_call call port) b) x in
     subst P (sym is) (subst Q (sym silent) (called call port before))
 
-pub set_found : (feature : ℕ) → IsSetFeature feature → (c : PortCall) × (set_call feature ≡ Some c)
-unfolding set_call
-set_found feature (inl e) = rw e (SetReset, refl)
-set_found feature (inr e) = rw e (SetPower, refl)
-
-pub clear_found : (feature : ℕ) → IsClearFeature feature → (c : PortCall) × (clear_call feature ≡ Some c)
-unfolding clear_call
-clear_found feature (inl e) = rw e (ClearEnable, refl)
-clear_found feature (inr (inl e)) = rw e (ClearPower, refl)
-clear_found feature (inr (inr (inl e))) = rw e (ClearConnectionChange, refl)
-clear_found feature (inr (inr (inr (inl e)))) = rw e (ClearEnableChange, refl)
-clear_found feature (inr (inr (inr (inr e)))) = rw e (ClearResetChange, refl)
-
 pub traced_set : (port feature : ℕ) {a b c : World} {t r s : Option (List ℕ)} → IsSetFeature feature → Traced a t b r → SetsRoot port feature b c → s ≡ r → Traced a t c s
 traced_set port feature {a} {b} named before sets silent =
-    let (call, found) = set_found feature named in
+    let (call, found) = call_is (set_call feature) named in
     called_as call port before (sets.step call found) silent
 
 pub traced_cleared : (port feature : ℕ) {a b c : World} {t r s : Option (List ℕ)} → IsClearFeature feature → Traced a t b r → ClearsRoot port feature b c → s ≡ r → Traced a t c s
 traced_cleared port feature {a} {b} named before clears silent =
-    let (call, found) = clear_found feature named in
+    let (call, found) = call_is (clear_call feature) named in
     called_as call port before (clears.step call found) silent

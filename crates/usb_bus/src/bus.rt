@@ -1,10 +1,11 @@
 ghost use Rattle.std.specs.Prelude.{◌≡◌, ◌≤◌, ℕ, List, Option, None};
 ghost use Rattle.usb_port.specs.PortState.{status_of};
-ghost use Rattle.usb_world.specs.World.{World, IsAttempt, IsRootPort, IsSetFeature, IsClearFeature, root_port_at, roots_of};
+ghost use Rattle.usb_port.specs.Calls.{IsSetFeature, IsClearFeature};
+ghost use Rattle.usb_world.specs.World.{World, IsAttempt, IsRootPort, root_port_at, roots_of};
 ghost use Rattle.usb_world.specs.Steps.{SetsRoot, ClearsRoot};
 ghost use Rattle.usb_world.specs.Passes.{IsSettled};
 ghost use Rattle.usb_world.specs.SanePorts.{IsSane};
-ghost use Rattle.usb_bus.specs.Traced.{Attempts};
+ghost use Rattle.usb_bus.specs.Traces.{Attempts};
 
 use crate::{Attempt, BusFault, Outcome};
 

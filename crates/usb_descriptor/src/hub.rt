@@ -1,11 +1,12 @@
 //! Hub descriptors (section 11.23.2.1).
 ghost use Rattle.std.specs.Prelude.{◌≡◌, ◌≤◌, IfOk, slice_index};
 ghost use Rattle.usb_descriptor.specs.Words.{word_at};
-ghost use Rattle.usb_descriptor.specs.Hub.{hub_of, port_count};
+ghost use Rattle.usb_descriptor.specs.Hub.{hub_spelled, port_count};
 
 use crate::fault::DescriptorFault;
 use crate::word::word_at;
 use std::marker::Model;
+use usb_request::descriptor_type::HUB;
 
 /// A hub descriptor, as a view of its bytes (section 11.23.2.1).
 #[derive(Debug, Drop)]
@@ -28,16 +29,16 @@ impl<'a> Model for HubView<'a> {
 ///
 /// The first fault is told: `Short` under 9 bytes, `WrongType` where bDescriptorType is not 29
 /// hex, `Length` where bDescLength is under 9 or bNbrPorts is not 1 to 7.
-#[tactic(auto, unfolding(crate::specs::Hub::hub_of))]
+#[tactic(auto, unfolding(crate::specs::Hub::hub_spelled))]
 pub fn read_hub(bytes: &[u8]) -> Result<HubView<'_>, DescriptorFault>
-    ensures answer { result ≡ hub_of bytes.now }
+    ensures answer { result ≡ hub_spelled bytes.now }
     ensures view { IfOk result (λ hub. hub ≡ bytes.now) }
     ensures ports { IfOk result (λ hub. (1 ≤ port_count hub) × (port_count hub ≤ 7)) }
 {
     if bytes.len() < 9 {
         return Err(DescriptorFault::Short);
     }
-    if bytes[1] != 0x29 {
+    if bytes[1] != HUB {
         return Err(DescriptorFault::WrongType);
     }
     if bytes[0] < 9 || !(1..=7).contains(&bytes[2]) {

@@ -5,6 +5,7 @@ ghost use Rattle.usb_descriptor.specs.Config.{IsItem, HasItemFault, front_fault,
 use crate::fault::DescriptorFault;
 use crate::item::{Item, item_of};
 use std::marker::Model;
+use usb_request::descriptor_type::{ENDPOINT, INTERFACE};
 
 /// The length of the item at the front, where any bytes are left.
 fn front(bytes: &[u8]) -> Result<usize, DescriptorFault>
@@ -17,7 +18,7 @@ fn front(bytes: &[u8]) -> Result<usize, DescriptorFault>
     }
     let length = bytes[0];
     let kind = bytes[1];
-    if length < 2 || (kind == 4 && length < 9) || (kind == 5 && length < 7) {
+    if length < 2 || (kind == INTERFACE && length < 9) || (kind == ENDPOINT && length < 7) {
         return Err(DescriptorFault::Length);
     }
     if bytes.len() < length as usize {

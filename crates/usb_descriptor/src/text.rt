@@ -4,6 +4,7 @@ ghost use Rattle.usb_descriptor.specs.Text.{string_of};
 
 use crate::fault::DescriptorFault;
 use std::marker::Model;
+use usb_request::descriptor_type::STRING;
 
 /// A string descriptor, as a view of its bytes (section 9.6.7).
 #[derive(Debug, Drop)]
@@ -13,13 +14,14 @@ pub struct StringView<'a> {
 
 impl<'a> Model for StringView<'a> {
     ghost use Rattle.std.specs.Prelude.{List, ℕ, ◌≡◌, ◌≤◌, ◌%◌, drop, length, slice_index};
+    ghost use Rattle.usb_request.specs.declared.descriptor_type.TheConstants.{STRING};
     ghost use Rattle.usb_descriptor.specs.Words.{words_of};
 
     ghost Value = { List ℕ };
 
     ghost view = { λ v. words_of (drop 2 v.bytes.now) };
 
-    ghost invariant = { λ v. (2 ≤ length v.bytes.now) × (slice_index v.bytes.now 0 ≡ length v.bytes.now) × (slice_index v.bytes.now 1 ≡ 3) × (length v.bytes.now % 2 ≡ 0) };
+    ghost invariant = { λ v. (2 ≤ length v.bytes.now) × (slice_index v.bytes.now 0 ≡ length v.bytes.now) × (slice_index v.bytes.now 1 ≡ STRING) × (length v.bytes.now % 2 ≡ 0) };
 }
 
 /// The string descriptor that the bytes begin with (section 9.6.7). What stands after its bLength
@@ -34,7 +36,7 @@ pub fn read_string(bytes: &[u8]) -> Result<StringView<'_>, DescriptorFault>
     if bytes.len() < 2 {
         return Err(DescriptorFault::Short);
     }
-    if bytes[1] != 3 {
+    if bytes[1] != STRING {
         return Err(DescriptorFault::WrongType);
     }
     let length = usize::from(bytes[0]);

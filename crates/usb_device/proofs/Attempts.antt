@@ -20,7 +20,7 @@ use Rattle.usb_device.specs.Bulk.{tells_changes, change_bits}
 use Rattle.usb_device.specs.Request.{Outcome, stalled, answers, takes_address, takes_configuration, halts, unhalts, tells_port, calls_port, outcome}
 use Rattle.usb_device.specs.Transfer.{Stage, idle, refused, reading, read, ending, max_packet, packet_at, toggle_at}
 use Rattle.usb_device.specs.Rows.{State, Reply, received, answered, unread, forgotten, accepted, payload, is_busy, nak_row, unless_busy, gives, in_row, begun, data_row, token_row, source_row, changes_row, held_row, in_other_row, in_bulk_row, acknowledged, bulk_of, rest_of}
-use Rattle.usb_device.specs.Attempt.{Way, whole, broken, lost, heard, acked, setup_attempt, out_attempt, in_attempt, setup_law, out_law, gave, in_stage_law, source_law, changes_law, held_law, in_other_law, in_bulk_law, in_control_law, in_law, is_own}
+use Rattle.usb_device.specs.Attempt.{Way, whole, broken, lost, heard, acked, setup_exchange, out_exchange, in_exchange, setup_law, out_law, gave, in_stage_law, source_law, changes_law, held_law, in_other_law, in_bulk_law, in_control_law, in_law, is_own}
 
 pub same_number : (n : ℕ) → (n == n) ≡ true
 same_number n = grind (arith, nat_tests)
@@ -103,7 +103,7 @@ begun-rests d row n (unhalts Changes) = refl
 begun-rests d row n (tells_port i) = refl
 begun-rests d row n (calls_port c i) = refl
 
-pub setup_is : (d : State) (row : List PortState) (s : List ℕ) → d.spec.silent ≡ false → length s ≡ 8 → (t1 t2 t3 : Way) → setup_attempt (forgotten d) row d.registers.address s t1 t2 t3 ≡ setup_law (forgotten d) row s t1 t2 t3
+pub setup_is : (d : State) (row : List PortState) (s : List ℕ) → d.spec.silent ≡ false → length s ≡ 8 → (t1 t2 t3 : Way) → setup_exchange (forgotten d) row d.registers.address s t1 t2 t3 ≡ setup_law (forgotten d) row s t1 t2 t3
 setup_is d row s loud len whole whole t3 =
     ap (λ r. finished t3 (received r.1 row (Payload Zero (record { items = s })))) (setup_token d row loud) ∙ ap (finished t3) (setup_data d row s loud len)
     ∙ ap (pair (heard t3 (Some Ack))) (begun-rests d row (setup_of s).length (outcome d.spec d.registers (setup_of s)))
@@ -129,7 +129,7 @@ out_data : (d : State) (row : List PortState) (e : ℕ) (t : Toggle) (b : List �
 unfolding received
 out_data d row e t b loud = rw loud refl
 
-pub out_is : (d : State) (row : List PortState) (e : ℕ) (t : Toggle) (b : List ℕ) → d.spec.silent ≡ false → (t1 t2 t3 : Way) → out_attempt (forgotten d) row d.registers.address e t b t1 t2 t3 ≡ out_law (forgotten d) e t b t1 t2 t3
+pub out_is : (d : State) (row : List PortState) (e : ℕ) (t : Toggle) (b : List ℕ) → d.spec.silent ≡ false → (t1 t2 t3 : Way) → out_exchange (forgotten d) row d.registers.address e t b t1 t2 t3 ≡ out_law (forgotten d) e t b t1 t2 t3
 out_is d row e t b loud whole whole t3 =
     ap (λ r. finished t3 (received r.1 row (Payload t (record { items = b })))) (out_token d row e loud)
     ∙ ap (finished t3) (out_data d row e t b loud)
@@ -256,7 +256,7 @@ by_endpoint : (d : State) (row : List PortState) (e max : ℕ) → d.spec.silent
 by_endpoint d row e max loud t2 t3 true = in_whole d row max loud t2 t3 (is_busy d)
 by_endpoint d row e max loud t2 t3 false = in_other_is d row e max loud t2 t3 (e == 1 && tells_changes d.spec d.registers)
 
-pub in_is : (d : State) (row : List PortState) (e max : ℕ) → d.spec.silent ≡ false → (t1 t2 t3 : Way) → in_attempt (forgotten d) row d.registers.address e max t1 t2 t3 ≡ in_law (forgotten d) row e max t1 t2 t3
+pub in_is : (d : State) (row : List PortState) (e max : ℕ) → d.spec.silent ≡ false → (t1 t2 t3 : Way) → in_exchange (forgotten d) row d.registers.address e max t1 t2 t3 ≡ in_law (forgotten d) row e max t1 t2 t3
 in_is d row e max loud whole t2 t3 = ap (acked row max t2 t3) (in_token d row e loud) ∙ by_endpoint d row e max loud t2 t3 (e == 0)
 in_is d row e max loud broken t2 t3 = ap (λ x. acked row max t2 t3 (pair None x)) (unread-rested d) ∙ unanswered row max t2 t3 (forgotten d)
 in_is d row e max loud lost t2 t3 = unanswered row max t2 t3 (forgotten d)

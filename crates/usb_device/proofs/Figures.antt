@@ -1,20 +1,20 @@
 -- Which devices stand where, after a packet.
 use Rattle.std.proofs.Common.{◌≡◌, ℕ, zero, suc, Bool, true, false, if◌then◌else◌, List, [], ◌∷◌, ◌++◌, Option, None, Some, refl, ap, ap₂, ◌∙◌}
 use Rattle.usb_port.specs.PortState.{PortState}
-use Rattle.usb_device.specs.declared.calls.PortCall.{PortCall}
+use Rattle.usb_port.specs.declared.call.PortCall.{PortCall}
 use Rattle.usb_device.specs.declared.effect.Effect.{Effect}
 use Rattle.usb_device.specs.declared.effect.Effect.TheVariants.{Leaves, Calls, PortsOff}
 use Rattle.usb_device.specs.declared.delivery.Content.{Content}
 use Rattle.usb_device.specs.declared.delivery.Content.TheVariants.{Whole, Broken}
 use Rattle.usb_device.specs.declared.delivery.Sent.{Sent}
 use Rattle.usb_device.specs.Spec.{Spec}
-use Rattle.usb_device.specs.Calls.{called_port}
+use Rattle.usb_port.specs.Calls.{called_port}
 use Rattle.usb_device.specs.Rows.{State, Reply, unread, forgotten, reset_state}
 use Rattle.usb_device.specs.Tree.{Ports, ended, vacant, taken, Place, empty, full, Plugged, before, all_off, reset_where, called, changed_at, acted, row_of}
 use Rattle.usb_device.specs.declared.delivery.Heard.{Heard}
 use Rattle.usb_device.specs.declared.delivery.Heard.TheVariants.{NoAnswer}
 use Rattle.usb_device.specs.Delivery.{hears, reply_to, answer_of, effect_of, after_packet, on_port, delivered_place, delivered_device, figure, figure_in, figure_of}
-use Rattle.usb_device.proofs.Kept.{keeps-received}
+use Rattle.usb_device.proofs.RowFrames.{keeps-received}
 
 pub figure-before : (q : Place) (k : Ports) → figure (before q k) ≡ figure_in q ++ figure k
 unfolding figure

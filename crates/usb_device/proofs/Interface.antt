@@ -3,11 +3,11 @@ pub use Rattle.usb_device.proofs.Attempts.{in_is, out_is, same_number, setup_is,
 pub use Rattle.usb_device.proofs.BulkProgress.{bulk_law_is, other_twice, source_on}
 pub use Rattle.usb_device.proofs.ChangesProgress.{law_is, other_toggle, poll_on}
 pub use Rattle.usb_device.proofs.ControlProgress.{control_read, itself}
-pub use Rattle.usb_device.proofs.Delivering.{heard_of-append}
+pub use Rattle.usb_device.proofs.Deliveries.{heard_of-append}
 pub use Rattle.usb_device.proofs.Figures.{answer-spec, figure-after}
 pub use Rattle.usb_device.proofs.Hubs.{at_least_one}
-pub use Rattle.usb_device.proofs.Kept.{keeps-received}
-pub use Rattle.usb_device.proofs.Packets.{joined-is, joined-whole, packet-fits, packet-further}
-pub use Rattle.usb_device.proofs.Placing.{changed_at-head}
+pub use Rattle.usb_device.proofs.RowFrames.{keeps-received}
+pub use Rattle.usb_device.proofs.Packets.{packets_joined-is, packets_joined-whole, packet-fits, packet-further}
+pub use Rattle.usb_device.proofs.FirstPlaces.{changed_at-head}
 pub use Rattle.usb_device.proofs.Rows.{row_of-after, row_of-forgotten}
 pub use Rattle.usb_device.proofs.Strays.{or-joined}

@@ -6,7 +6,7 @@ use Rattle.std.proofs.lemmas.List.{take_all, append-nil, length-take}
 use Rattle.std.proofs.lemmas.Nat.{div-add-mod'}
 use Rattle.std.proofs.Math.Nat.{mod-lt, mul-le-mul_right, suc-mul, zero-mul}
 use Rattle.std.proofs.Math.Seq.{take-add}
-use Rattle.usb_device.specs.Transfer.{packet_count, packet_at, joined}
+use Rattle.usb_device.specs.Transfer.{packet_count, packet_at, packets_joined}
 
 -- one packet more, for numbers whose products are given
 covered-by : (q r max wanted len k P Q : ℕ) → Q + r ≡ len → r < max → (q ≤ k → Q ≤ P) → (q + 1 ≤ k → Q + max ≤ P) → (b : Bool) → (r == 0 && not (nat_lt len wanted)) ≡ b → nat_lt k (q + (if b then 0 else 1)) ≡ false → len ≤ P
@@ -45,24 +45,24 @@ pub ruleset has = (has_packet-of)
 
 -- ---- end to end
 
-joined-step : (max wanted k : ℕ) (w : List ℕ) → 0 < max → (c : Bool) → nat_lt k (packet_count max wanted (length w)) ≡ c
+packets_joined-step : (max wanted k : ℕ) (w : List ℕ) → 0 < max → (c : Bool) → nat_lt k (packet_count max wanted (length w)) ≡ c
     → take (k * max) w ++ unwrap_or (if c then Some (take max (drop (k * max) w)) else None) [] ≡ take (suc k * max) w
-joined-step max wanted k w pos true h = sym (take-add (k * max) max w) ∙ ap (λ n. take n w) (sym (suc-mul k max))
-joined-step max wanted k w pos false h =
+packets_joined-step max wanted k w pos true h = sym (take-add (k * max) max w) ∙ ap (λ n. take n w) (sym (suc-mul k max))
+packets_joined-step max wanted k w pos false h =
     let all = covered max wanted (length w) k pos h in
     rw (append-nil, take_all (k * max) w all, take_all (suc k * max) w (omega (arith, all, suc-mul k max))) refl
 
-pub joined-is : (max wanted : ℕ) (answer : List ℕ) (k : ℕ) → 0 < max → joined max wanted answer k ≡ take (k * max) (take wanted answer)
-joined-is max wanted answer zero pos = rw (zero-mul max) refl
-joined-is max wanted answer (suc k) pos =
-    ap (λ bs. bs ++ unwrap_or (packet_at max wanted answer k) []) (joined-is max wanted answer k pos)
-    ∙ joined-step max wanted k (take wanted answer) pos (nat_lt k (packet_count max wanted (length (take wanted answer)))) refl
+pub packets_joined-is : (max wanted : ℕ) (answer : List ℕ) (k : ℕ) → 0 < max → packets_joined max wanted answer k ≡ take (k * max) (take wanted answer)
+packets_joined-is max wanted answer zero pos = rw (zero-mul max) refl
+packets_joined-is max wanted answer (suc k) pos =
+    ap (λ bs. bs ++ unwrap_or (packet_at max wanted answer k) []) (packets_joined-is max wanted answer k pos)
+    ∙ packets_joined-step max wanted k (take wanted answer) pos (nat_lt k (packet_count max wanted (length (take wanted answer)))) refl
 
-pub joined-whole : (max wanted : ℕ) (answer : List ℕ) (k : ℕ) → 0 < max → packet_at max wanted answer k ≡ None → joined max wanted answer k ≡ take wanted answer
-joined-whole max wanted answer k pos h =
+pub packets_joined-whole : (max wanted : ℕ) (answer : List ℕ) (k : ℕ) → 0 < max → packet_at max wanted answer k ≡ None → packets_joined max wanted answer k ≡ take wanted answer
+packets_joined-whole max wanted answer k pos h =
     let w = take wanted answer in
     let over = none-parts (nat_lt k (packet_count max wanted (length w))) (take max (drop (k * max) w)) h in
-    joined-is max wanted answer k pos ∙ take_all (k * max) w (covered max wanted (length w) k pos over)
+    packets_joined-is max wanted answer k pos ∙ take_all (k * max) w (covered max wanted (length w) k pos over)
 
 pub packet-fits : (max wanted : ℕ) (answer bytes : List ℕ) (k : ℕ) → packet_at max wanted answer k ≡ Some bytes → length bytes ≤ max
 packet-fits max wanted answer bytes k h =
@@ -91,14 +91,14 @@ further-at max wanted len k pos most h =
     (len % max == 0 && not (nat_lt len wanted)) refl h
 
 pub packet-further : (max wanted : ℕ) (answer bytes : List ℕ) (k : ℕ) → 0 < max → packet_at max wanted answer k ≡ Some bytes
-    → is_some (packet_at max wanted answer (k + 1)) ≡ (length bytes == max && nat_lt (length (joined max wanted answer (k + 1))) wanted)
+    → is_some (packet_at max wanted answer (k + 1)) ≡ (length bytes == max && nat_lt (length (packets_joined max wanted answer (k + 1))) wanted)
 packet-further max wanted answer bytes k pos h =
     let w = take wanted answer in
     let parts = some-parts (nat_lt k (packet_count max wanted (length w))) (take max (drop (k * max) w)) bytes h in
     let most : length w ≤ wanted = rw (length-take wanted answer) (omega arith) in
     let len : length bytes ≡ min max (length w - k * max) = rw (← parts.1) (length-take max (drop (k * max) w) ∙ ap (min max) (length-drop (k * max) w)) in
     let next : (k + 1) * max ≡ k * max + max = omega arith in
-    let all : length (joined max wanted answer (k + 1)) ≡ min (k * max + max) (length w) = ap length (joined-is max wanted answer (k + 1) pos) ∙ length-take ((k + 1) * max) w ∙ ap (λ n. min n (length w)) next in
+    let all : length (packets_joined max wanted answer (k + 1)) ≡ min (k * max + max) (length w) = ap length (packets_joined-is max wanted answer (k + 1) pos) ∙ length-take ((k + 1) * max) w ∙ ap (λ n. min n (length w)) next in
     rw (len, all) (is_some-if (nat_lt (k + 1) (packet_count max wanted (length w))) (take max (drop ((k + 1) * max) w)) ∙ further-at max wanted (length w) k pos most parts.0)
 
-pub ruleset packets = (joined-whole, packet-fits, packet-further)
+pub ruleset packets = (packets_joined-whole, packet-fits, packet-further)

@@ -18,7 +18,7 @@ use Rattle.usb_device.specs.Rows.{State, Reply, answered, received, unread, forg
 use Rattle.usb_device.specs.Effect.{asks, asked_by_data, asked_by_packet}
 use Rattle.usb_device.specs.Tree.{Ports, ended, vacant, taken, acted, row_of}
 use Rattle.usb_device.specs.Delivery.{hears, reply_to, asked_by, answer_of, effect_of, after_packet, answers, listed, all_forgotten, held, has}
-use Rattle.usb_device.specs.Stray.{awaits_data, is_token, is_for, concerns, concerns_some}
+use Rattle.usb_device.specs.StrayPackets.{awaits_data, is_token, is_for, concerns, concerns_some}
 
 -- ---- at one device
 

@@ -55,14 +55,14 @@ acked row max answer_way ack_way reply =
     (hears, forgotten (if is_good max hears then (through ack_way reply.1 row packet.Ack).1 else reply.1))
 
 -- the three kinds of attempt
-abbrev pub setup_attempt : State → List PortState → ℕ → List ℕ → Way → Way → Way → Reply
-setup_attempt d row a bytes = sends d row (Token SetupTok a 0) (Payload Zero (record { items = bytes }))
+abbrev pub setup_exchange : State → List PortState → ℕ → List ℕ → Way → Way → Way → Reply
+setup_exchange d row a bytes = sends d row (Token SetupTok a 0) (Payload Zero (record { items = bytes }))
 
-abbrev pub out_attempt : State → List PortState → ℕ → ℕ → Toggle → List ℕ → Way → Way → Way → Reply
-out_attempt d row a e t bytes = sends d row (Token OutTok a e) (Payload t (record { items = bytes }))
+abbrev pub out_exchange : State → List PortState → ℕ → ℕ → Toggle → List ℕ → Way → Way → Way → Reply
+out_exchange d row a e t bytes = sends d row (Token OutTok a e) (Payload t (record { items = bytes }))
 
-abbrev pub in_attempt : State → List PortState → ℕ → ℕ → ℕ → Way → Way → Way → Reply
-in_attempt d row a e max token_way answer_way ack_way = acked row max answer_way ack_way (through token_way d row (Token InTok a e))
+abbrev pub in_exchange : State → List PortState → ℕ → ℕ → ℕ → Way → Way → Way → Reply
+in_exchange d row a e max token_way answer_way ack_way = acked row max answer_way ack_way (through token_way d row (Token InTok a e))
 
 -- SETUP: the setup data is accepted where token and data come whole, whether the host hears of it or not
 abbrev pub setup_law : State → List PortState → List ℕ → Way → Way → Way → Reply

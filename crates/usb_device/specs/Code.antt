@@ -18,18 +18,18 @@ abbrev pub hub_text : Option HubText → List ℕ
 hub_text None = []
 hub_text (Some hub) = hub.descriptor
 
-abbrev pub bytes_of : Spec → Source → List ℕ
-bytes_of s Descriptor = s.descriptor
-bytes_of s (Config i) = text_at s.configs i
-bytes_of s (Text i) = text_at s.strings i
-bytes_of s Hub = hub_text s.hub
-bytes_of s Status = status_bytes s
-bytes_of s (Configuration c) = c ∷ []
-bytes_of s (Port bytes) = bytes
+abbrev pub source_bytes : Spec → Source → List ℕ
+source_bytes s Descriptor = s.descriptor
+source_bytes s (Config i) = text_at s.configs i
+source_bytes s (Text i) = text_at s.strings i
+source_bytes s Hub = hub_text s.hub
+source_bytes s Status = status_bytes s
+source_bytes s (Configuration c) = c ∷ []
+source_bytes s (Port bytes) = bytes
 
 abbrev pub meaning_of : Spec → Reaction → Outcome
 meaning_of s Refuse = stalled
-meaning_of s (Answer source) = answers (bytes_of s source)
+meaning_of s (Answer source) = answers (source_bytes s source)
 meaning_of s (TakeAddress a) = takes_address a
 meaning_of s (TakeConfiguration c) = takes_configuration c
 meaning_of s (Halt which) = halts which
@@ -40,6 +40,6 @@ meaning_of s (CallPort c i) = calls_port c i
 abbrev pub stage_of : Spec → Progress → Stage
 stage_of s Idle = idle
 stage_of s Refused = refused
-stage_of s (Reading source wanted given) = reading (bytes_of s source) wanted given
+stage_of s (Reading source wanted given) = reading (source_bytes s source) wanted given
 stage_of s Read = read
 stage_of s (Ending address) = ending address

@@ -7,8 +7,8 @@ use Rattle.usb_device.specs.declared.answer.Answer.{Answer}
 use Rattle.usb_device.specs.declared.delivery.Content.{Content}
 use Rattle.usb_device.specs.declared.delivery.Content.TheVariants.{Whole, Broken}
 use Rattle.usb_device.specs.declared.delivery.Sent.{Sent}
-use Rattle.usb_device.specs.declared.calls.PortCall.{PortCall}
-use Rattle.usb_device.specs.declared.calls.PortCall.TheVariants.{ClearConnectionChange}
+use Rattle.usb_port.specs.declared.call.PortCall.{PortCall}
+use Rattle.usb_port.specs.declared.call.PortCall.TheVariants.{ClearConnectionChange}
 use Rattle.usb_device.specs.declared.effect.Effect.{Effect}
 use Rattle.usb_device.specs.declared.effect.Effect.TheVariants.{Leaves, Calls, PortsOff}
 use Rattle.usb_device.specs.Spec.{Spec}
@@ -102,8 +102,8 @@ both (One x) Collision = Collision
 both Collision h = Collision
 
 -- what was heard before, and then something more
-abbrev pub joined : {A : Type 0} → Heard → Heard × A → Heard × A
-joined h x = (both h x.0, x.1)
+abbrev pub heard_joined : {A : Type 0} → Heard → Heard × A → Heard × A
+heard_joined h x = (both h x.0, x.1)
 
 -- the same, where it is one device's answer
 abbrev pub with_answer : {A : Type 0} → Heard → Option Answer × A → Heard × A

@@ -5,9 +5,9 @@ abbrev pub meets : List ℕ → List Bool → Bool
 meets [] marks = false
 meets (n ∷ ns) marks = slice_index_or marks n false || meets ns (slice_set marks n true)
 
-abbrev pub marked : List ℕ → List Bool → List Bool
-marked [] marks = marks
-marked (n ∷ ns) marks = marked ns (slice_set marks n true)
+abbrev pub marked_at : List ℕ → List Bool → List Bool
+marked_at [] marks = marks
+marked_at (n ∷ ns) marks = marked_at ns (slice_set marks n true)
 
 -- each number is a byte
 abbrev pub AreBytes : List ℕ → Type 0

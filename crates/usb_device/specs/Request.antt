@@ -1,13 +1,16 @@
 -- What each request asks of a device: bytes, a change of the device or of one of its ports, or a refusal (9.4, 11.24).
 use Rattle.std.specs.Prelude.{ℕ, ◌-◌, ◌/◌, ◌%◌, ◌==◌, nat_lt, nat_le, if◌then◌else◌, ◌&&◌, ◌||◌, not, Bool, List, [], ◌∷◌, slice_get, Option, None, Some}
 use Rattle.std.specs.List.{list_any}
+use Rattle.usb_request.specs.Codes.{DEVICE, CONFIGURATION, STRING, HUB, GET_STATUS, CLEAR_FEATURE, SET_FEATURE, SET_ADDRESS, GET_DESCRIPTOR, GET_CONFIGURATION, SET_CONFIGURATION, DEVICE_IN, DEVICE_OUT, ENDPOINT_OUT, HUB_IN, PORT_IN, PORT_OUT}
+use Rattle.usb_request.specs.Features.{ENDPOINT_HALT}
+use Rattle.usb_request.specs.Requests.{descriptor_value}
 use Rattle.usb_request.specs.declared.setup.Setup.{Setup}
-use Rattle.usb_device.specs.declared.calls.PortCall.{PortCall}
+use Rattle.usb_port.specs.declared.call.PortCall.{PortCall}
 use Rattle.usb_device.specs.declared.request.Registers.{Registers}
 use Rattle.usb_device.specs.Spec.{Spec, Hub}
 use Rattle.usb_device.specs.declared.bulk.Which.{Which}
 use Rattle.usb_device.specs.Bulk.{has_value, served}
-use Rattle.usb_device.specs.Calls.{set_call, clear_call}
+use Rattle.usb_port.specs.Calls.{set_call, clear_call}
 
 pub data Outcome : Type 0 where
   -- the request is refused by STALL
@@ -38,44 +41,44 @@ abbrev pub text_asked : List (List ℕ) → ℕ → Outcome
 text_asked texts i = elim (slice_get texts i) [ None ↦ stalled | Some text ↦ answers text ]
 
 -- 9.4.3: the high byte of wValue is the type of the descriptor, the low byte its index
-abbrev pub get_descriptor : Spec → ℕ → Outcome
-get_descriptor s value =
-    if value == 0x0100 then unless s.stalls.device (answers s.descriptor)
-    else if value / 256 == 2 then unless s.stalls.config (text_asked s.configs (value % 256))
-    else if value / 256 == 3 then unless s.stalls.string (text_asked s.strings (value % 256))
+abbrev pub asked_descriptor : Spec → ℕ → Outcome
+asked_descriptor s value =
+    if value == descriptor_value DEVICE 0 then unless s.stalls.device (answers s.descriptor)
+    else if value / 256 == CONFIGURATION then unless s.stalls.config (text_asked s.configs (value % 256))
+    else if value / 256 == STRING then unless s.stalls.string (text_asked s.strings (value % 256))
     else stalled
 
 -- 9.4.5: two bytes, and bit 0 of the first says that the device has its own power
 abbrev pub status_bytes : Spec → List ℕ
 status_bytes s = (if s.self_powered then 1 else 0) ∷ 0 ∷ []
 
-abbrev pub get_status : Spec → Setup → Outcome
-get_status s r = if r.value == 0 && r.index == 0 then answers (status_bytes s) else stalled
+abbrev pub asked_status : Spec → Setup → Outcome
+asked_status s r = if r.value == 0 && r.index == 0 then answers (status_bytes s) else stalled
 
 -- 9.4.6
-abbrev pub set_address : Setup → Outcome
-set_address r = if nat_le r.value 127 && r.length == 0 then takes_address r.value else stalled
+abbrev pub asked_address : Setup → Outcome
+asked_address r = if nat_le r.value 127 && r.length == 0 then takes_address r.value else stalled
 
 -- a number of one byte that is 0 or the value of a configuration
 abbrev pub is_value : List (List ℕ) → ℕ → Bool
 is_value configs value = nat_lt value 256 && (value == 0 || list_any (has_value value) configs)
 
 -- 9.4.7: a device without an address cannot be configured
-abbrev pub set_configuration : Spec → Registers → Setup → Outcome
-set_configuration s g r = if not (g.address == 0) && is_value s.configs r.value && r.length == 0 then takes_configuration r.value else stalled
+abbrev pub asked_configuration : Spec → Registers → Setup → Outcome
+asked_configuration s g r = if not (g.address == 0) && is_value s.configs r.value && r.length == 0 then takes_configuration r.value else stalled
 
 -- 9.4.1, 9.4.9: ENDPOINT_HALT of an endpoint that is served
 abbrev pub endpoint_of : Spec → Registers → Setup → Option Which
-endpoint_of s g r = if r.value == 0 && r.length == 0 then served s g r.index else None
+endpoint_of s g r = if r.value == ENDPOINT_HALT && r.length == 0 then served s g r.index else None
 
 abbrev pub on_endpoint : (Which → Outcome) → Option Which → Outcome
 on_endpoint f None = stalled
 on_endpoint f (Some which) = f which
 
 -- 11.24.2.5
-abbrev pub get_hub_descriptor : Option Hub → Setup → Outcome
-get_hub_descriptor None r = stalled
-get_hub_descriptor (Some hub) r = if r.value == 0x2900 then answers hub.descriptor else stalled
+abbrev pub asked_hub_descriptor : Option Hub → Setup → Outcome
+asked_hub_descriptor None r = stalled
+asked_hub_descriptor (Some hub) r = if r.value == descriptor_value HUB 0 then answers hub.descriptor else stalled
 
 -- the port of a configured hub that wIndex names, counted from 0
 abbrev pub port_named : Option Hub → Registers → ℕ → Option ℕ
@@ -92,8 +95,8 @@ called_at (Some c) None = stalled
 called_at (Some c) (Some i) = calls_port c i
 
 -- 11.24.2.7
-abbrev pub get_port_status : Spec → Registers → Setup → Outcome
-get_port_status s g r = told_port (port_named s.hub g r.index)
+abbrev pub asked_port_status : Spec → Registers → Setup → Outcome
+asked_port_status s g r = told_port (port_named s.hub g r.index)
 
 -- 11.24.2.13, 11.24.2.2: the feature of wValue of the port of wIndex
 abbrev pub port_feature : Option PortCall → Spec → Registers → Setup → Outcome
@@ -102,17 +105,17 @@ port_feature call s g r = if r.length == 0 then called_at call (port_named s.hub
 -- what each request asks
 unfoldable pub outcome : Spec → Registers → Setup → Outcome
 outcome s g r =
-    if Is r 0x80 6 then get_descriptor s r.value
-    else if Is r 0x80 0 then unless s.stalls.status (get_status s r)
-    else if Is r 0x80 8 then answers (g.configuration ∷ [])
-    else if Is r 0x00 5 then unless s.stalls.address (set_address r)
-    else if Is r 0x00 9 then unless s.stalls.set_config (set_configuration s g r)
-    else if Is r 0x02 1 then on_endpoint unhalts (endpoint_of s g r)
-    else if Is r 0x02 3 then on_endpoint halts (endpoint_of s g r)
-    else if Is r 0xA0 6 then unless s.stalls.hub (get_hub_descriptor s.hub r)
-    else if Is r 0xA3 0 then get_port_status s g r
-    else if Is r 0x23 3 then port_feature (set_call r.value) s g r
-    else if Is r 0x23 1 then port_feature (clear_call r.value) s g r
+    if Is r DEVICE_IN GET_DESCRIPTOR then asked_descriptor s r.value
+    else if Is r DEVICE_IN GET_STATUS then unless s.stalls.status (asked_status s r)
+    else if Is r DEVICE_IN GET_CONFIGURATION then answers (g.configuration ∷ [])
+    else if Is r DEVICE_OUT SET_ADDRESS then unless s.stalls.address (asked_address r)
+    else if Is r DEVICE_OUT SET_CONFIGURATION then unless s.stalls.set_config (asked_configuration s g r)
+    else if Is r ENDPOINT_OUT CLEAR_FEATURE then on_endpoint unhalts (endpoint_of s g r)
+    else if Is r ENDPOINT_OUT SET_FEATURE then on_endpoint halts (endpoint_of s g r)
+    else if Is r HUB_IN GET_DESCRIPTOR then unless s.stalls.hub (asked_hub_descriptor s.hub r)
+    else if Is r PORT_IN GET_STATUS then asked_port_status s g r
+    else if Is r PORT_OUT SET_FEATURE then port_feature (set_call r.value) s g r
+    else if Is r PORT_OUT CLEAR_FEATURE then port_feature (clear_call r.value) s g r
     else stalled
 
 -- the registers once the setup data is accepted

@@ -8,7 +8,7 @@ use Rattle.usb_device.specs.Rows.{State, forgotten}
 use Rattle.usb_device.specs.Tree.{Ports, Plugged, Place, empty, full, acted, reach}
 use Rattle.usb_device.specs.View.{state_there}
 use Rattle.usb_device.specs.Delivery.{answer_of, effect_of, is_clearing}
-use Rattle.usb_device.specs.Stopped.{IsRefused}
+use Rattle.usb_device.specs.StoppedPackets.{IsRefused}
 
 -- the device there had the packet, and those below it had not
 abbrev pub sent_in : Sent → Bool → Place → Place

@@ -3,7 +3,8 @@ use Rattle.std.specs.Prelude.{◌≡◌, ◌≤◌, ℕ, List, [], ◌∷◌, le
 use Rattle.std.specs.Option.{IfSome}
 use Rattle.std.specs.List.{list_any}
 use Rattle.std.specs.Str.{bytes_eq}
-use Rattle.usb_descriptor.specs.Hub.{hub_of, port_count}
+use Rattle.usb_request.specs.Codes.{HUB_CLASS, HUB}
+use Rattle.usb_descriptor.specs.Hub.{hub_spelled, port_count}
 use Rattle.usb_device.specs.declared.spec.Stalls.{Stalls}
 
 -- a hub: its ports, and its hub descriptor (11.23.2.1)
@@ -34,7 +35,7 @@ pub record Spec : Type 0 where
 
 -- bDeviceClass is a hub's (11.23.1)
 abbrev pub has_hub_class : List ℕ → Bool
-has_hub_class descriptor = nat_lt 4 (length descriptor) && slice_index descriptor 4 == 9
+has_hub_class descriptor = nat_lt 4 (length descriptor) && slice_index descriptor 4 == HUB_CLASS
 
 -- a hub is of full speed and has the class of hubs
 abbrev pub hub_fits : Bool → List ℕ → Option Hub → Bool
@@ -43,7 +44,7 @@ hub_fits low descriptor (Some hub) = not low && has_hub_class descriptor
 
 -- where the first 9 bytes are the descriptor of a hub, it has so many ports
 abbrev pub agrees : ℕ → List ℕ → Bool
-agrees ports bytes = elim (hub_of (take 9 bytes)) [ Ok hub ↦ port_count hub == ports | Err fault ↦ true ]
+agrees ports bytes = elim (hub_spelled (take 9 bytes)) [ Ok hub ↦ port_count hub == ports | Err fault ↦ true ]
 
 -- the rules of a hub
 pub record IsHub (h : Hub) : Type 0 where
@@ -63,7 +64,7 @@ pub record IsSpec (s : Spec) : Type 0 where
 
 -- a hub whose ports are switched one by one
 abbrev pub usual_hub : ℕ → Hub
-usual_hub ports = record { ports = ports; descriptor = 9 ∷ 0x29 ∷ ports ∷ 1 ∷ 0 ∷ 0 ∷ 0 ∷ 0 ∷ 0xff ∷ [] }
+usual_hub ports = record { ports = ports; descriptor = 9 ∷ HUB ∷ ports ∷ 1 ∷ 0 ∷ 0 ∷ 0 ∷ 0 ∷ 0xff ∷ [] }
 
 abbrev pub no_stalls : Stalls
 no_stalls = record { device = false; address = false; config = false; set_config = false; status = false; hub = false; string = false }

@@ -51,9 +51,9 @@ packet_at max wanted answer k =
     if nat_lt k (packet_count max wanted (length bytes)) then Some (take max (drop (k * max) bytes)) else None
 
 -- the first k packets of an answer, end to end
-abbrev pub joined : ℕ → ℕ → List ℕ → ℕ → List ℕ
-joined max wanted answer zero = []
-joined max wanted answer (suc k) = joined max wanted answer k ++ unwrap_or (packet_at max wanted answer k) []
+abbrev pub packets_joined : ℕ → ℕ → List ℕ → ℕ → List ℕ
+packets_joined max wanted answer zero = []
+packets_joined max wanted answer (suc k) = packets_joined max wanted answer k ++ unwrap_or (packet_at max wanted answer k) []
 
 -- the data stage begins with DATA1 (8.6.1)
 abbrev pub toggle_at : ℕ → Toggle

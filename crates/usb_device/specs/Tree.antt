@@ -2,10 +2,10 @@
 use Rattle.std.specs.Prelude.{ℕ, zero, suc, ◌-◌, ◌==◌, ◌&&◌, if◌then◌else◌, Bool, true, false, List, [], ◌∷◌, slice_get, Option, None, Some, is_some}
 use Rattle.usb_port.specs.PortState.{PortState, off, plugged, unplugged, powered_off, is_attached}
 use Rattle.usb_device.specs.Spec.{Spec, Hub}
-use Rattle.usb_device.specs.declared.calls.PortCall.{PortCall}
+use Rattle.usb_port.specs.declared.call.PortCall.{PortCall}
 use Rattle.usb_device.specs.declared.effect.Effect.{Effect}
 use Rattle.usb_device.specs.declared.effect.Effect.TheVariants.{Leaves, Calls, PortsOff}
-use Rattle.usb_device.specs.Calls.{called_port, is_reset}
+use Rattle.usb_port.specs.Calls.{called_port, is_reset}
 use Rattle.usb_device.specs.Rows.{State, fresh, reset_state}
 
 -- a row of ports, the first one first: no port more, an empty port, or a port with a device and that device's ports
@@ -211,3 +211,23 @@ abbrev pub reach : Ports → List ℕ → Bool
 reach k [] = false
 reach k (zero ∷ p) = false
 reach k (suc i ∷ p) = reach_at k i p
+
+-- Where something stands in a tree: the number of its port on the root row, counted from 0, and the rest of its path, on each device on
+-- the way the number of a port, counted from 1.
+pub record Spot : Type 0 where
+  pub row : ℕ
+  pub rest : List ℕ
+
+-- the path that leads there
+abbrev pub path_to : Spot → List ℕ
+path_to x = suc x.row ∷ x.rest
+
+-- what is there
+abbrev pub place_on : Ports → Spot → Option Place
+place_on k x = place_at k x.row x.rest
+
+abbrev pub state_on : Ports → Spot → Option State
+state_on k x = state_at k x.row x.rest
+
+abbrev pub reach_on : Ports → Spot → Bool
+reach_on k x = reach_at k x.row x.rest

@@ -1,6 +1,6 @@
 //! What a device answers.
 ghost use Rattle.std.specs.Prelude.{◌≡◌};
-ghost use Rattle.usb_device.specs.Received.{Answers, packet_of};
+ghost use Rattle.usb_device.specs.ReceivedBytes.{Answers, packet_of};
 
 use arrayvec::ArrayVec;
 use usb_packet::{Packet, Toggle, encode};

@@ -1,6 +1,6 @@
 //! What is so of a tree of devices between two attempts of a bus, or when one ends.
 ghost use Rattle.std.specs.Prelude.{◌≡◌};
-ghost use Rattle.usb_device.specs.Places.{ports_in};
+ghost use Rattle.usb_device.specs.Places.{ports_kept};
 ghost use Rattle.usb_device.specs.Delivery.{all_forgotten, forgotten_whole, has_loss, has_loss_in};
 
 use crate::device::Device;
@@ -10,7 +10,7 @@ impl Ports {
     /// The end of an attempt: every device forgets a token that waits for data and data that wait
     /// for an ACK.
     #[cycle(over)]
-    #[tactic(auto, using(crate::proofs::Betweens::betweens))]
+    #[tactic(auto, using(crate::proofs::ForgottenPackets::betweens))]
     pub fn attempt_over(&mut self)
         ensures { self.new ≡ all_forgotten self.old }
     {
@@ -21,7 +21,7 @@ impl Ports {
 
     /// Whether some device awaits the ACK that would end its SET_ADDRESS.
     #[cycle(losing)]
-    #[tactic(auto, using(crate::proofs::Betweens::betweens))]
+    #[tactic(auto, using(crate::proofs::ForgottenPackets::betweens))]
     pub fn has_address_loss(&self) -> bool
         ensures { result ≡ has_loss self.now }
     {
@@ -30,9 +30,9 @@ impl Ports {
 }
 
 #[cycle(over)]
-#[tactic(auto, using(crate::proofs::Betweens::betweens))]
+#[tactic(auto, using(crate::proofs::ForgottenPackets::betweens))]
 fn forget_all(places: &mut [Place])
-    ensures { ports_in places.new ≡ all_forgotten (ports_in places.old) }
+    ensures { ports_kept places.new ≡ all_forgotten (ports_kept places.old) }
 {
     if let Some((place, rest)) = places.split_first_mut() {
         if let Some(device) = &mut place.device {
@@ -43,9 +43,9 @@ fn forget_all(places: &mut [Place])
 }
 
 #[cycle(losing)]
-#[tactic(auto, using(crate::proofs::Betweens::betweens))]
+#[tactic(auto, using(crate::proofs::ForgottenPackets::betweens))]
 fn any_loses(places: &[Place]) -> bool
-    ensures { result ≡ has_loss (ports_in places.now) }
+    ensures { result ≡ has_loss (ports_kept places.now) }
 {
     match places.split_first() {
         None => false,

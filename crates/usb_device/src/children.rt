@@ -4,7 +4,7 @@ ghost use Rattle.std.specs.Option.{option_copied_mut};
 ghost use Rattle.std.specs.Borrow.{sem, Lends, LendsIf};
 ghost use Rattle.std.specs.contracts.option.Option.{the_row as option_row};
 ghost use Rattle.usb_device.specs.Tree.{Plugged, row_of, plugged_at, child_of};
-ghost use Rattle.usb_device.specs.Lending.{LendsPlace, LendsInner, with_device_on};
+ghost use Rattle.usb_device.specs.Loans.{LendsPlace, LendsInner, with_device_on};
 ghost use Rattle.usb_device.specs.contracts.device.Device.{the_row as device_row};
 
 use crate::device::Device;

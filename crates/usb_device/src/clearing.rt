@@ -1,14 +1,14 @@
 //! Whether a packet clears a change of connection (11.24.2.2).
 ghost use Rattle.std.specs.Prelude.{◌≡◌, false};
-ghost use Rattle.usb_device.specs.Places.{ports_in};
+ghost use Rattle.usb_device.specs.Places.{ports_kept};
 ghost use Rattle.usb_device.specs.Delivery.{effect_of, is_clearing, asks_clearing, clears_change, clears_whole, clears_in};
 
-use crate::calls::PortCall;
 use crate::delivery::is_heard;
 use crate::device::Device;
 use crate::effect::Effect;
 use crate::passing::Passing;
 use crate::ports::{Place, Ports};
+use usb_port::PortCall;
 
 impl Ports {
     /// Whether a device that a packet reaches clears a change of connection at one of its ports
@@ -21,7 +21,7 @@ impl Ports {
     }
 
     #[cycle(clearing)]
-    #[tactic(auto, using(crate::proofs::Betweens::betweens))]
+    #[tactic(auto, using(crate::proofs::ForgottenPackets::betweens))]
     fn clears(&self, sent: &Passing<'_>, deep: bool) -> bool
         ensures { result ≡ clears_change sent.now deep self.now }
     {
@@ -30,9 +30,9 @@ impl Ports {
 }
 
 #[cycle(clearing)]
-#[tactic(auto, using(crate::proofs::Betweens::betweens))]
+#[tactic(auto, using(crate::proofs::ForgottenPackets::betweens))]
 fn any_clears(places: &[Place], sent: &Passing<'_>, deep: bool) -> bool
-    ensures { result ≡ clears_change sent.now deep (ports_in places.now) }
+    ensures { result ≡ clears_change sent.now deep (ports_kept places.now) }
 {
     match places.split_first() {
         None => false,

@@ -3,9 +3,9 @@ ghost use Rattle.std.specs.Prelude.{◌≡◌, false, true, IfOk, OnOk, OnErr};
 ghost use Rattle.std.specs.Option.{option_copied};
 ghost use Rattle.usb_device.specs.Passing.{content_of};
 ghost use Rattle.usb_device.specs.Tree.{row_of};
-ghost use Rattle.usb_device.specs.Places.{ports_in, stood};
-ghost use Rattle.usb_device.specs.Stopped.{Stopped, StoppedDevice, StoppedPlace, IsRefused, IsRefusedContent};
-ghost use Rattle.usb_device.specs.Delivery.{Carries, is_heard, heard_from, both, joined, with_answer, delivered, taken_content, taken_sent, delivered_device, delivered_place, figure, figure_in, figure_of};
+ghost use Rattle.usb_device.specs.Places.{ports_kept, stood};
+ghost use Rattle.usb_device.specs.StoppedPackets.{Stopped, StoppedDevice, StoppedPlace, IsRefused, IsRefusedContent};
+ghost use Rattle.usb_device.specs.Delivery.{Carries, is_heard, heard_from, both, heard_joined, with_answer, delivered, taken_content, taken_sent, delivered_device, delivered_place, figure, figure_in, figure_of};
 
 use crate::answer::Answer;
 use crate::device::Device;
@@ -104,7 +104,7 @@ impl Ports {
     /// this one joins it.
     pub fn deliver_after(&mut self, sent: &Passing<'_>, heard: &mut Heard) -> Result<(), AllocError>
         ensures ok { OnOk result ((heard.new, self.new)
-            ≡ joined heard.old (delivered sent.now false self.old)) }
+            ≡ heard_joined heard.old (delivered sent.now false self.old)) }
         ensures err { OnErr result (figure self.new ≡ figure self.old) }
         ensures row { row_of self.new ≡ row_of self.old }
         ensures stopped { OnErr result (Stopped sent.now false self.old self.new) }
@@ -113,10 +113,10 @@ impl Ports {
     }
 
     #[cycle(deliver)]
-    #[tactic(auto, using(crate::proofs::Delivering::delivering))]
+    #[tactic(auto, using(crate::proofs::Deliveries::delivering))]
     fn pass(&mut self, sent: &Passing<'_>, deep: bool, heard: &mut Heard) -> Result<(), AllocError>
         ensures ok { OnOk result ((heard.new, self.new)
-            ≡ joined heard.old (delivered sent.now deep self.old)) }
+            ≡ heard_joined heard.old (delivered sent.now deep self.old)) }
         ensures err { OnErr result (figure self.new ≡ figure self.old) }
         ensures row { row_of self.new ≡ row_of self.old }
         ensures stopped { OnErr result (Stopped sent.now deep self.old self.new) }
@@ -129,19 +129,19 @@ impl Ports {
 }
 
 #[cycle(deliver)]
-#[tactic(auto, using(crate::proofs::Delivering::delivering, crate::proofs::Figures::figures, crate::proofs::Rows::rows))]
+#[tactic(auto, using(crate::proofs::Deliveries::delivering, crate::proofs::Figures::figures, crate::proofs::Rows::rows))]
 fn deliver_all(
     places: &mut [Place],
     sent: &Passing<'_>,
     deep: bool,
     heard: &mut Heard,
 ) -> Result<(), AllocError>
-    ensures ok { OnOk result ((heard.new, ports_in places.new)
-        ≡ joined heard.old (delivered sent.now deep (ports_in places.old))) }
-    ensures err { OnErr result (figure (ports_in places.new) ≡ figure (ports_in places.old)) }
-    ensures row { row_of (ports_in places.new) ≡ row_of (ports_in places.old) }
+    ensures ok { OnOk result ((heard.new, ports_kept places.new)
+        ≡ heard_joined heard.old (delivered sent.now deep (ports_kept places.old))) }
+    ensures err { OnErr result (figure (ports_kept places.new) ≡ figure (ports_kept places.old)) }
+    ensures row { row_of (ports_kept places.new) ≡ row_of (ports_kept places.old) }
     ensures stopped { OnErr result
-        (Stopped sent.now deep (ports_in places.old) (ports_in places.new)) }
+        (Stopped sent.now deep (ports_kept places.old) (ports_kept places.new)) }
 {
     match places.split_first_mut() {
         None => Ok(()),
@@ -161,7 +161,7 @@ impl Place {
         heard: &mut Heard,
     ) -> Result<(), AllocError>
         ensures ok { OnOk result ((heard.new, stood self.new)
-            ≡ joined heard.old (delivered_place sent.now deep (stood self.old))) }
+            ≡ heard_joined heard.old (delivered_place sent.now deep (stood self.old))) }
         ensures err { OnErr result (figure_in (stood self.new) ≡ figure_in (stood self.old)) }
         ensures port { self.new.port ≡ self.old.port }
         ensures stopped { OnErr result
@@ -178,7 +178,7 @@ impl Device {
     /// The devices below come first, by the enables as they stood, then the device itself, then
     /// what it asks of its ports.
     #[cycle(deliver)]
-    #[tactic(auto, using(crate::proofs::Delivering::delivering, crate::proofs::Figures::figures))]
+    #[tactic(auto, using(crate::proofs::Deliveries::delivering, crate::proofs::Figures::figures))]
     fn deliver(
         &mut self,
         sent: &Passing<'_>,
@@ -186,7 +186,7 @@ impl Device {
         heard: &mut Heard,
     ) -> Result<(), AllocError>
         ensures ok { OnOk result ((heard.new, self.new)
-            ≡ joined heard.old (delivered_device sent.now deep self.old)) }
+            ≡ heard_joined heard.old (delivered_device sent.now deep self.old)) }
         ensures err { OnErr result (figure_of self.new ≡ figure_of self.old) }
         ensures stopped { OnErr result (StoppedDevice sent.now deep self.old self.new) }
     {
@@ -194,7 +194,7 @@ impl Device {
         self.take_sent(sent, deep, heard)
     }
 
-    #[tactic(auto, unfolding(crate::specs::Delivery::answer_of, crate::specs::Delivery::effect_of), using(crate::proofs::Delivering::strays))]
+    #[tactic(auto, unfolding(crate::specs::Delivery::answer_of, crate::specs::Delivery::effect_of), using(crate::proofs::Deliveries::strays))]
     pub(crate) fn take_sent(
         &mut self,
         sent: &Passing<'_>,
@@ -215,7 +215,7 @@ impl Device {
 
     /// A packet that is for another device, and one that cannot be read, only end what the device
     /// remembers.
-    #[tactic(auto, using(crate::proofs::Delivering::strays))]
+    #[tactic(auto, using(crate::proofs::Deliveries::strays))]
     fn take_read(&mut self, packet: Option<&Packet>, heard: &mut Heard) -> Result<(), AllocError>
         ensures ok { OnOk result ((heard.new, self.new) ≡ with_answer heard.old
             (taken_content (content_of (option_copied packet.entry)) self.old)) }

@@ -4,7 +4,7 @@ ghost use Rattle.std.specs.Option.{option_copied};
 ghost use Rattle.usb_port.specs.PortState.{status_of};
 ghost use Rattle.usb_device.specs.Rows.{sink_grows, awaits_address};
 ghost use Rattle.usb_device.specs.Tree.{new_device, first_ports, reset_whole, row_of, numbered, acted, child_of, with_child, without_child};
-ghost use Rattle.usb_device.specs.Received.{Receives, GrowsBy, received_by};
+ghost use Rattle.usb_device.specs.ReceivedBytes.{AnswersPacket, GrowsBy, received_by};
 
 use crate::answer::{Answer, spelled};
 use crate::effect::Effect;
@@ -28,7 +28,7 @@ pub struct Device {
 impl Model for Device {
     ghost use Rattle.std.proofs.Common.{arith};
     ghost use Rattle.usb_device.specs.Tree.{Plugged};
-    ghost use Rattle.usb_device.specs.Stored.{plugged_code, plugged_weight};
+    ghost use Rattle.usb_device.specs.TreeCodes.{plugged_code, plugged_weight};
 
     ghost Value = { Plugged };
 
@@ -41,7 +41,7 @@ impl Model for Device {
     ghost size_decreases = { λ a h. omega arith };
 }
 
-#[tactic(auto, using(crate::proofs::Placing::emptied))]
+#[tactic(auto, using(crate::proofs::FirstPlaces::emptied))]
 fn first_ports(alloc: Global, spec: &DeviceSpec) -> Result<Ports, AllocError>
     ensures { IfOk result (λ ports. ports ≡ first_ports spec.now.hub) }
 {
@@ -113,7 +113,7 @@ impl Device {
     /// Bytes that spell no packet have no answer. It wants memory only where a packet joins the
     /// sink. An error: memory is refused, and nothing changes.
     pub fn receive(&mut self, bytes: &[u8]) -> Result<Option<ArrayVec<u8, 67>>, AllocError>
-        ensures answer { IfOk result (λ answer. Receives bytes.now self.old answer self.new) }
+        ensures answer { IfOk result (λ answer. AnswersPacket bytes.now self.old answer self.new) }
         ensures refused { OnErr result (self.new ≡ self.old) }
         ensures grows { OnErr result (GrowsBy bytes.now self.old) }
     {

@@ -1,5 +1,5 @@
 //! What a device asks of its own ports.
-use crate::calls::PortCall;
+use usb_port::PortCall;
 
 /// What a device asks of its ports when a packet comes.
 #[derive(Clone, Copy, Debug)]

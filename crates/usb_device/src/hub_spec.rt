@@ -6,12 +6,14 @@ use crate::lists::Bytes;
 use std::alloc::{AllocError, Global};
 use std::marker::Model;
 use usb_descriptor::read_hub;
+use usb_request::class_code::HUB_CLASS;
+use usb_request::descriptor_type::HUB;
 
-/// Whether a device descriptor has the class of hubs: its byte 4, bDeviceClass, is 9 (11.23.1).
+/// Whether a device descriptor has the class of hubs: its byte 4, bDeviceClass, is theirs (11.23.1).
 pub fn has_hub_class(descriptor: &[u8]) -> bool
     ensures { result ≡ has_hub_class descriptor.now }
 {
-    descriptor.get(4) == Some(&9)
+    descriptor.get(4) == Some(&HUB_CLASS)
 }
 
 /// The ports of a hub, 1 to 7, and its hub descriptor (11.23.2.1), which can be any bytes; but
@@ -64,7 +66,7 @@ impl HubSpec {
         requires most { ports ≤ 7 }
         ensures { IfOk result (λ h. h ≡ usual_hub ports) }
     {
-        let descriptor = [9, 0x29, ports, 1, 0, 0, 0, 0, 0xff].to_vec(alloc)?;
+        let descriptor = [9, HUB, ports, 1, 0, 0, 0, 0, 0xff].to_vec(alloc)?;
         Ok(HubSpec::new(ports, Bytes::new(descriptor)))
     }
 

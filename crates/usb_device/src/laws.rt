@@ -11,12 +11,12 @@ ghost use Rattle.usb_port.specs.PortState.{PortState};
 ghost use Rattle.usb_device.specs.declared.answer.Answer.TheVariants.{Ack, Stall};
 ghost use Rattle.usb_device.specs.declared.delivery.Sent.{Sent};
 ghost use Rattle.usb_device.specs.declared.delivery.Content.TheVariants.{Whole, Broken};
-ghost use Rattle.usb_device.specs.Transfer.{packet_at, joined, toggle_at};
+ghost use Rattle.usb_device.specs.Transfer.{packet_at, packets_joined, toggle_at};
 ghost use Rattle.usb_device.specs.Rows.{State, forgotten};
 ghost use Rattle.usb_device.specs.Tree.{Ports as TreePorts};
 ghost use Rattle.usb_device.specs.Delivery.{after_packet, all_forgotten, answers, held, has};
-ghost use Rattle.usb_device.specs.Stray.{is_token, concerns_some};
-ghost use Rattle.usb_device.specs.Attempt.{Way, setup_attempt, setup_law, out_attempt, out_law, in_attempt, in_law};
+ghost use Rattle.usb_device.specs.StrayPackets.{is_token, concerns_some};
+ghost use Rattle.usb_device.specs.Attempt.{Way, setup_exchange, setup_law, out_exchange, out_law, in_exchange, in_law};
 ghost use Rattle.usb_device.specs.Progress.{taken_of, ReadingAt, ReadOn, IsSource, SourceAt, SourceOn, IsSink, SinkAt, SinkOn};
 
 /// A whole attempt with a device that remembers nothing, each packet of it coming or not.
@@ -24,15 +24,15 @@ ghost use Rattle.usb_device.specs.Progress.{taken_of, ReadingAt, ReadOn, IsSourc
 pub fn attempt_laws()
     ensures setup { (d : State) (row : List PortState) (bytes : List ℕ)
         → d.spec.silent ≡ false → length bytes ≡ 8 → (t1 t2 t3 : Way)
-        → setup_attempt (forgotten d) row d.registers.address bytes t1 t2 t3
+        → setup_exchange (forgotten d) row d.registers.address bytes t1 t2 t3
         ≡ setup_law (forgotten d) row bytes t1 t2 t3 }
     ensures out { (d : State) (row : List PortState) (e : ℕ) (t : Toggle) (bytes : List ℕ)
         → d.spec.silent ≡ false → (t1 t2 t3 : Way)
-        → out_attempt (forgotten d) row d.registers.address e t bytes t1 t2 t3
+        → out_exchange (forgotten d) row d.registers.address e t bytes t1 t2 t3
         ≡ out_law (forgotten d) e t bytes t1 t2 t3 }
     ensures into { (d : State) (row : List PortState) (e max : ℕ)
         → d.spec.silent ≡ false → (t1 t2 t3 : Way)
-        → in_attempt (forgotten d) row d.registers.address e max t1 t2 t3
+        → in_exchange (forgotten d) row d.registers.address e max t1 t2 t3
         ≡ in_law (forgotten d) row e max t1 t2 t3 }
 {}
 
@@ -61,14 +61,14 @@ pub fn answer_laws()
     // All of them, end to end, are the bytes of the answer, as many as the host wants.
     ensures whole { (max wanted : ℕ) (answer : List ℕ) (k : ℕ)
         → 0 < max → packet_at max wanted answer k ≡ None
-        → joined max wanted answer k ≡ take wanted answer }
+        → packets_joined max wanted answer k ≡ take wanted answer }
     ensures fits { (max wanted : ℕ) (answer bytes : List ℕ) (k : ℕ)
         → packet_at max wanted answer k ≡ Some bytes → length bytes ≤ max }
     // After a packet comes another exactly where it is full and the host wants more.
     ensures further { (max wanted : ℕ) (answer bytes : List ℕ) (k : ℕ)
         → 0 < max → packet_at max wanted answer k ≡ Some bytes
         → is_some (packet_at max wanted answer (k + 1))
-        ≡ (length bytes == max && nat_lt (length (joined max wanted answer (k + 1))) wanted) }
+        ≡ (length bytes == max && nat_lt (length (packets_joined max wanted answer (k + 1))) wanted) }
 {}
 
 /// IN of endpoint 0 in a control read (8.5.3): each packet comes once, in order, whatever is lost.

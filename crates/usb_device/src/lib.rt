@@ -4,7 +4,6 @@
 mod answer;
 mod between;
 mod bulk;
-mod calls;
 mod children;
 mod clearing;
 mod delivery;
@@ -24,7 +23,6 @@ mod spec;
 mod transfer;
 
 pub use answer::Answer;
-pub use calls::PortCall;
 pub use children::Parent;
 pub use delivery::{Content, Heard, Sent};
 pub use device::Device;

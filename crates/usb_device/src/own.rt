@@ -1,9 +1,9 @@
 //! A device without its ports: its transfers, packet by packet (8.5).
 ghost use Rattle.std.specs.Prelude.{◌≡◌, ◌≤◌, ◌==◌, None, if◌then◌else◌, is_some, length, option_map};
 ghost use Rattle.usb_device.specs.Spec.{Spec};
-ghost use Rattle.usb_device.specs.Code.{bytes_of, hub_text, text_at, meaning_of, stage_of};
+ghost use Rattle.usb_device.specs.Code.{source_bytes, hub_text, text_at, meaning_of, stage_of};
 ghost use Rattle.usb_device.specs.Transfer.{max_packet, packet_at, reads, first_stage};
-ghost use Rattle.usb_device.specs.Stray.{awaits_data, awaits_ack};
+ghost use Rattle.usb_device.specs.StrayPackets.{awaits_data, awaits_ack};
 ghost use Rattle.usb_device.specs.Tree.{row_of};
 
 use crate::answer::Answer;
@@ -83,7 +83,7 @@ fn text_at<const MAX: usize>(texts: &[Bytes<MAX>], i: usize) -> &[u8]
 }
 
 fn reading(source: Source, wanted: u16) -> Progress
-    ensures { (s : Spec) → stage_of s result ≡ reads wanted (bytes_of s source) }
+    ensures { (s : Spec) → stage_of s result ≡ reads wanted (source_bytes s source) }
 {
     if wanted == 0 {
         Progress::Ending(None)
@@ -135,7 +135,7 @@ fn awaits_ack(memory: Memory) -> bool
 }
 
 impl Own {
-    ghost use Rattle.usb_device.specs.Stray.{is_for};
+    ghost use Rattle.usb_device.specs.StrayPackets.{is_for};
     ghost use Rattle.std.specs.Prelude.{IfOk, OnOk, OnErr, true, false, [], ◌∷◌};
     ghost use Rattle.usb_device.specs.declared.transfer.Giver.TheVariants as by;
     ghost use Rattle.usb_device.specs.Effect.{asks, asked_by_data, asked_by_setup};
@@ -496,7 +496,7 @@ impl Own {
     /// A packet of the answer that the host reads.
     fn packet_at(&self, source: Source, wanted: u16, k: u32) -> Option<ArrayVec<u8, 64>>
         ensures { option_map (λ v. v.items) result
-            ≡ packet_at (max_packet self.now.spec) wanted (bytes_of self.now.spec source) k }
+            ≡ packet_at (max_packet self.now.spec) wanted (source_bytes self.now.spec source) k }
     {
         let max = usize::from(self.spec.max_packet());
         match source {
@@ -517,7 +517,7 @@ impl Own {
 
     /// How many bytes the answer has.
     fn length_of(&self, source: Source) -> usize
-        ensures { result ≡ length (bytes_of self.now.spec source) }
+        ensures { result ≡ length (source_bytes self.now.spec source) }
     {
         match source {
             Source::Descriptor => self.spec.descriptor().len(),
@@ -533,7 +533,7 @@ impl Own {
     /// Whether the answer has a packet `k`.
     fn has_packet(&self, source: Source, wanted: u16, k: u32) -> bool
         ensures { result
-            ≡ is_some (packet_at (max_packet self.now.spec) wanted (bytes_of self.now.spec source)
+            ≡ is_some (packet_at (max_packet self.now.spec) wanted (source_bytes self.now.spec source)
             k) }
     {
         let max = usize::from(self.spec.max_packet());

@@ -3,15 +3,14 @@ ghost use Rattle.std.specs.Prelude.{◌≡◌, ◌≤◌, ◌==◌, ◌&&◌, []
 ghost use Rattle.std.specs.Option.{option_copied};
 ghost use Rattle.usb_port.specs.PortState.{is_attached};
 ghost use Rattle.usb_device.specs.Bulk.{changed_bit, change_bits};
-ghost use Rattle.usb_device.specs.Calls.{called_port, is_reset};
+ghost use Rattle.usb_port.specs.Calls.{is_reset};
 ghost use Rattle.usb_device.specs.Tree.{new_ports, called, put, changed_at, changed_in, plugged_in, all_off, row_of, device_of};
-ghost use Rattle.usb_device.specs.Places.{ports_in, stood};
+ghost use Rattle.usb_device.specs.Places.{ports_kept, stood};
 
-use crate::calls::PortCall;
 use crate::device::Device;
 use std::alloc::{AllocError, Global};
 use std::marker::Model;
-use usb_port::Port;
+use usb_port::{Port, PortCall};
 
 /// A port, and the device on it.
 #[cycle(tree)]
@@ -32,24 +31,24 @@ impl Model for Ports {
     ghost use Rattle.std.proofs.Common.{arith};
     ghost use Rattle.std.proofs.Math.Nat.{le_refl};
     ghost use Rattle.usb_device.specs.Tree.{Ports as TreePorts};
-    ghost use Rattle.usb_device.specs.Stored.{ports_code, weight};
+    ghost use Rattle.usb_device.specs.TreeCodes.{ports_code, weight};
 
     ghost Value = { TreePorts };
 
     ghost coded = { ports_code };
 
-    ghost use Rattle.usb_device.specs.Places.{ports_in, falls};
+    ghost use Rattle.usb_device.specs.Places.{ports_kept, falls};
 
-    ghost view = { λ p. ports_in p.places.items };
+    ghost view = { λ p. ports_kept p.places.items };
 
     ghost size = { weight };
 
     ghost size_decreases = { λ a h. falls _ (λ b. le_refl _) (λ b t. omega arith) a.places.items };
 }
 
-#[tactic(auto, using(crate::proofs::Placing::emptied))]
+#[tactic(auto, using(crate::proofs::FirstPlaces::emptied))]
 fn empty_places(alloc: Global, count: u8) -> Result<Vec<Place>, AllocError>
-    ensures { IfOk result (λ places. ports_in places.items ≡ new_ports count) }
+    ensures { IfOk result (λ places. ports_kept places.items ≡ new_ports count) }
 {
     let mut places = Vec::new(alloc);
     'places: for _ in 0..count {
@@ -59,20 +58,6 @@ fn empty_places(alloc: Global, count: u8) -> Result<Vec<Place>, AllocError>
         })?;
     }
     Ok(places)
-}
-
-fn call_port(port: &mut Port, call: PortCall)
-    ensures { port.new ≡ called_port call port.old }
-{
-    match call {
-        PortCall::SetPower => port.power_on(),
-        PortCall::SetReset => port.reset(),
-        PortCall::ClearEnable => port.disable(),
-        PortCall::ClearPower => port.power_off(),
-        PortCall::ClearConnectionChange => port.clear_connection_change(),
-        PortCall::ClearEnableChange => port.clear_enable_change(),
-        PortCall::ClearResetChange => port.clear_reset_change(),
-    }
 }
 
 /// Whether a call resets the device on the port: PORT_RESET of a powered port with something
@@ -88,12 +73,12 @@ fn resets(call: PortCall, port: &Port) -> bool
 
 impl Place {
     /// A call at the port.
-    #[tactic(auto, using(crate::proofs::Placing::placing))]
+    #[tactic(auto, using(crate::proofs::FirstPlaces::placing))]
     fn call(&mut self, call: PortCall)
         ensures { stood self.new ≡ called call (stood self.old) }
     {
         let resets = resets(call, &self.port);
-        call_port(&mut self.port, call);
+        self.port.call(call);
         if let Some(device) = &mut self.device {
             if resets {
                 device.reset();
@@ -116,7 +101,7 @@ impl Place {
 
     /// The same at the place, or below it where the path goes on, and whether there is such a port.
     #[cycle(put)]
-    #[tactic(auto, using(crate::proofs::Placing::paths))]
+    #[tactic(auto, using(crate::proofs::FirstPlaces::paths))]
     fn put_below(&mut self, path: &[u8], device: &mut Option<Device>) -> bool
         ensures before { IsTrue result → device.new ≡ plugged_in (stood self.old) path.now }
         ensures none { result ≡ false → plugged_in (stood self.old) path.now ≡ None }
@@ -135,7 +120,7 @@ impl Place {
     }
 
     #[cycle(device_at)]
-    #[tactic(auto, using(crate::proofs::Placing::paths))]
+    #[tactic(auto, using(crate::proofs::FirstPlaces::paths))]
     fn device_below(&self, path: &[u8]) -> Option<&Device>
         ensures { option_copied result ≡ plugged_in (stood self.now) path.now }
     {
@@ -148,9 +133,9 @@ impl Place {
 }
 
 #[cycle(turn_off)]
-#[tactic(auto, using(crate::proofs::Placing::placing))]
+#[tactic(auto, using(crate::proofs::FirstPlaces::placing))]
 fn turn_off(places: &mut [Place])
-    ensures { ports_in places.new ≡ all_off (ports_in places.old) }
+    ensures { ports_kept places.new ≡ all_off (ports_kept places.old) }
 {
     if let Some((place, rest)) = places.split_first_mut() {
         place.port.power_off();
@@ -172,7 +157,7 @@ impl Ports {
     }
 
     /// How many ports there are.
-    #[tactic(auto, using(crate::proofs::Placing::placing))]
+    #[tactic(auto, using(crate::proofs::FirstPlaces::placing))]
     pub fn count(&self) -> usize
         ensures { result ≡ length (row_of self.now) }
     {
@@ -191,7 +176,7 @@ impl Ports {
     }
 
     /// A port, counted from 0.
-    #[tactic(auto, using(crate::proofs::Routing::indexing))]
+    #[tactic(auto, using(crate::proofs::NumberedPlaces::indexing))]
     pub(crate) fn port_at(&self, i: usize) -> Option<&Port>
         ensures { option_copied result ≡ slice_get (row_of self.now) i }
     {
@@ -205,7 +190,7 @@ impl Ports {
     /// A call at the port of a number, counted from 1. PORT_RESET of a powered port with a device
     /// resets the device, whose own ports are then off. Where there is no such port, nothing
     /// changes.
-    #[tactic(auto, using(crate::proofs::Placing::paths))]
+    #[tactic(auto, using(crate::proofs::FirstPlaces::paths))]
     pub fn call(&mut self, number: u8, call: PortCall)
         ensures { self.new ≡ changed (called call) self.old (number ∷ []) }
     {
@@ -215,7 +200,7 @@ impl Ports {
     }
 
     /// A call at a port, counted from 0.
-    #[tactic(auto, using(crate::proofs::Routing::indexing))]
+    #[tactic(auto, using(crate::proofs::NumberedPlaces::indexing))]
     pub(crate) fn call_at(&mut self, i: usize, call: PortCall)
         ensures { self.new ≡ changed_at (called call) self.old i [] }
     {
@@ -262,7 +247,7 @@ impl Ports {
 
     /// The same with a place for both, and whether there is such a port.
     #[cycle(put)]
-    #[tactic(auto, using(crate::proofs::Routing::routing))]
+    #[tactic(auto, using(crate::proofs::NumberedPlaces::routing))]
     fn put_at(&mut self, path: &[u8], device: &mut Option<Device>) -> bool
         ensures before { IsTrue result → device.new ≡ device_there self.old path.now }
         ensures none { result ≡ false → device_there self.old path.now ≡ None }
@@ -279,7 +264,7 @@ impl Ports {
 
     /// The device at the port of a path; None where there is none.
     #[cycle(device_at)]
-    #[tactic(auto, using(crate::proofs::Routing::routing))]
+    #[tactic(auto, using(crate::proofs::NumberedPlaces::routing))]
     pub fn device_at(&self, path: &[u8]) -> Option<&Device>
         ensures { option_copied result ≡ device_there self.now path.now }
     {

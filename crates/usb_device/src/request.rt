@@ -2,14 +2,15 @@
 ghost use Rattle.std.specs.Prelude.{◌≡◌};
 ghost use Rattle.std.specs.List.{list_any};
 ghost use Rattle.usb_device.specs.Spec.{Spec};
-ghost use Rattle.usb_device.specs.Request.{outcome, unless, get_descriptor, get_status, set_address, is_value, set_configuration, endpoint_of, on_endpoint, halts, unhalts, get_hub_descriptor, port_named, called_at, get_port_status, port_feature};
+ghost use Rattle.usb_device.specs.Request.{outcome, unless, asked_descriptor, asked_status, asked_address, is_value, asked_configuration, endpoint_of, on_endpoint, halts, unhalts, asked_hub_descriptor, port_named, called_at, asked_port_status, port_feature};
 ghost use Rattle.usb_device.specs.Bulk.{has_value};
 ghost use Rattle.usb_device.specs.Code.{meaning_of};
 
 use crate::bulk::{Which, served};
-use crate::calls::PortCall;
 use crate::lists::Bytes;
 use crate::spec::DeviceSpec;
+use usb_port::PortCall;
+use usb_request::feature::ENDPOINT_HALT;
 use usb_request::request_code::{
     CLEAR_FEATURE, GET_CONFIGURATION, GET_DESCRIPTOR, GET_STATUS, SET_ADDRESS, SET_CONFIGURATION,
     SET_FEATURE,
@@ -79,7 +80,7 @@ fn unless(refused: bool, reaction: Reaction) -> Reaction
 }
 
 fn get_descriptor(spec: &DeviceSpec, value: u16) -> Reaction
-    ensures { meaning_of spec.now result ≡ get_descriptor spec.now value }
+    ensures { meaning_of spec.now result ≡ asked_descriptor spec.now value }
 {
     let stalls = spec.stalls();
     let [index, kind] = value.to_le_bytes();
@@ -99,7 +100,7 @@ fn get_descriptor(spec: &DeviceSpec, value: u16) -> Reaction
 }
 
 fn get_status(setup: &Setup) -> Reaction
-    ensures { (s : Spec) → meaning_of s result ≡ get_status s setup.now }
+    ensures { (s : Spec) → meaning_of s result ≡ asked_status s setup.now }
 {
     if setup.value == 0 && setup.index == 0 {
         Reaction::Answer(Source::Status)
@@ -109,7 +110,7 @@ fn get_status(setup: &Setup) -> Reaction
 }
 
 fn set_address(setup: &Setup) -> Reaction
-    ensures { (s : Spec) → meaning_of s result ≡ set_address setup.now }
+    ensures { (s : Spec) → meaning_of s result ≡ asked_address setup.now }
 {
     if setup.value <= 127 && setup.length == 0 {
         Reaction::TakeAddress(setup.value as u8)
@@ -137,7 +138,7 @@ fn is_value(configs: &[Bytes<65535>], value: u16) -> bool
 }
 
 fn set_configuration(spec: &DeviceSpec, registers: Registers, setup: &Setup) -> Reaction
-    ensures { meaning_of spec.now result ≡ set_configuration spec.now registers setup.now }
+    ensures { meaning_of spec.now result ≡ asked_configuration spec.now registers setup.now }
 {
     if registers.address != 0 && is_value(spec.configs(), setup.value) && setup.length == 0 {
         Reaction::TakeConfiguration(setup.value as u8)
@@ -150,7 +151,7 @@ fn set_configuration(spec: &DeviceSpec, registers: Registers, setup: &Setup) -> 
 fn endpoint_of(spec: &DeviceSpec, registers: Registers, setup: &Setup) -> Option<Which>
     ensures { result ≡ endpoint_of spec.now registers setup.now }
 {
-    if setup.value == 0 && setup.length == 0 {
+    if setup.value == ENDPOINT_HALT && setup.length == 0 {
         served(spec, registers, setup.index)
     } else {
         None
@@ -176,9 +177,10 @@ fn unhalt(endpoint: Option<Which>) -> Reaction
 }
 
 fn get_hub_descriptor(spec: &DeviceSpec, setup: &Setup) -> Reaction
-    ensures { meaning_of spec.now result ≡ get_hub_descriptor spec.now.hub setup.now }
+    ensures { meaning_of spec.now result ≡ asked_hub_descriptor spec.now.hub setup.now }
 {
-    if spec.hub().is_some() && setup.value == 0x2900 {
+    let [index, kind] = setup.value.to_le_bytes();
+    if spec.hub().is_some() && kind == descriptor_type::HUB && index == 0 {
         Reaction::Answer(Source::Hub)
     } else {
         Reaction::Refuse
@@ -198,7 +200,7 @@ fn port_named(spec: &DeviceSpec, registers: Registers, index: u16) -> Option<usi
 }
 
 fn get_port_status(spec: &DeviceSpec, registers: Registers, setup: &Setup) -> Reaction
-    ensures { (s : Spec) → meaning_of s result ≡ get_port_status spec.now registers setup.now }
+    ensures { (s : Spec) → meaning_of s result ≡ asked_port_status spec.now registers setup.now }
 {
     match port_named(spec, registers, setup.index) {
         Some(port) => Reaction::TellPort(port),

@@ -6,7 +6,6 @@ ghost use Rattle.usb_device.specs.View.{state_in, reach_in};
 ghost use Rattle.usb_device.specs.Delivery.{both, heard_from, effect_of};
 ghost use Rattle.usb_device.specs.Route.{sent_in, answer_by, RefusedBy, asked_call, call_by, forgotten_in, address_by, holds_by, is_held_at};
 
-use crate::calls::PortCall;
 use crate::delivery::Heard;
 use crate::device::Device;
 use crate::effect::Effect;
@@ -14,13 +13,14 @@ use crate::passing::Passing;
 use crate::ports::{Place, Ports};
 use arrayvec::ArrayVec;
 use std::alloc::AllocError;
+use usb_port::PortCall;
 
 impl Ports {
     /// A packet at the device at a path alone, which is `deep` where it stands on a port of a hub;
     /// what is heard of its answer joins what was heard before. An error: memory is refused, and
     /// nothing changes.
     #[cycle(deliver_at)]
-    #[tactic(auto, using(crate::proofs::Routing::routing))]
+    #[tactic(auto, using(crate::proofs::NumberedPlaces::routing))]
     pub fn deliver_at(
         &mut self,
         path: &[u8],
@@ -59,7 +59,7 @@ impl Ports {
     /// The device at a path forgets a token that waits for data and data that wait for an ACK, and
     /// its address is told.
     #[cycle(forget_at)]
-    #[tactic(auto, using(crate::proofs::Routing::routing))]
+    #[tactic(auto, using(crate::proofs::NumberedPlaces::routing))]
     pub fn forget_at(&mut self, path: &[u8]) -> Option<u8>
         ensures address { result ≡ address_by (device_there self.old path.now) }
         ensures after { self.new ≡ changed forgotten_in self.old path.now }
@@ -74,7 +74,7 @@ impl Ports {
 
     /// Whether packets reach a device at a path, and it holds the address.
     #[cycle(is_held_at)]
-    #[tactic(auto, using(crate::proofs::Routing::routing))]
+    #[tactic(auto, using(crate::proofs::NumberedPlaces::routing))]
     pub fn is_held_at(&self, path: &[u8], address: u8) -> bool
         ensures { result ≡ is_held_at address self.now path.now }
     {
@@ -108,7 +108,7 @@ fn find_in(places: &[Place], number: u8, address: u8, path: &mut ArrayVec<u8, 8>
 
 impl Place {
     #[cycle(deliver_at)]
-    #[tactic(auto, using(crate::proofs::Placing::paths))]
+    #[tactic(auto, using(crate::proofs::FirstPlaces::paths))]
     fn deliver_at(
         &mut self,
         path: &[u8],
@@ -134,7 +134,7 @@ impl Place {
     }
 
     #[cycle(forget_at)]
-    #[tactic(auto, using(crate::proofs::Placing::paths))]
+    #[tactic(auto, using(crate::proofs::FirstPlaces::paths))]
     fn forget_at(&mut self, path: &[u8]) -> Option<u8>
         ensures address { result ≡ address_by (plugged_in (stood self.old) path.now) }
         ensures after { stood self.new ≡ changed_in forgotten_in (stood self.old) path.now }

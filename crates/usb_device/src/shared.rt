@@ -1,14 +1,14 @@
 //! Whether two devices hold one address.
 ghost use Rattle.std.specs.Prelude.{◌≡◌, length};
-ghost use Rattle.usb_device.specs.Places.{ports_in};
+ghost use Rattle.usb_device.specs.Places.{ports_kept};
 ghost use Rattle.usb_device.specs.Delivery.{held, held_in, is_twice};
-ghost use Rattle.usb_device.specs.Marks.{meets, marked, AreBytes};
+ghost use Rattle.usb_device.specs.Marks.{meets, marked_at, AreBytes};
 
 use crate::ports::{Place, Ports};
 
 impl Ports {
     /// Whether two of the devices that packets reach hold one address.
-    #[tactic(auto, using(crate::proofs::Marking::twice))]
+    #[tactic(auto, using(crate::proofs::MarkedAddresses::twice))]
     pub fn has_shared_address(&self) -> bool
         ensures { result ≡ is_twice (held self.now) }
     {
@@ -19,11 +19,11 @@ impl Ports {
     /// Marks the addresses of the devices that packets reach, and tells whether one was marked
     /// before.
     #[cycle(marking)]
-    #[tactic(auto, using(crate::proofs::Marking::marking))]
+    #[tactic(auto, using(crate::proofs::MarkedAddresses::marking))]
     fn mark(&self, seen: &mut [bool]) -> bool
         requires { length seen.old ≡ 256 }
         ensures met { result ≡ meets (held self.now) seen.old }
-        ensures marks { seen.new ≡ marked (held self.now) seen.old }
+        ensures marks { seen.new ≡ marked_at (held self.now) seen.old }
         ensures bytes { AreBytes (held self.now) }
     {
         if self.places.is_empty() {
@@ -35,12 +35,12 @@ impl Ports {
 }
 
 #[cycle(marking)]
-#[tactic(auto, using(crate::proofs::Marking::marking))]
+#[tactic(auto, using(crate::proofs::MarkedAddresses::marking))]
 fn mark_all(places: &[Place], seen: &mut [bool]) -> bool
     requires { length seen.old ≡ 256 }
-    ensures met { result ≡ meets (held (ports_in places.now)) seen.old }
-    ensures marks { seen.new ≡ marked (held (ports_in places.now)) seen.old }
-    ensures bytes { AreBytes (held (ports_in places.now)) }
+    ensures met { result ≡ meets (held (ports_kept places.now)) seen.old }
+    ensures marks { seen.new ≡ marked_at (held (ports_kept places.now)) seen.old }
+    ensures bytes { AreBytes (held (ports_kept places.now)) }
 {
     match places.split_first() {
         None => false,
@@ -53,11 +53,11 @@ fn mark_all(places: &[Place], seen: &mut [bool]) -> bool
 }
 
 #[cycle(marking)]
-#[tactic(auto, using(crate::proofs::Marking::marking))]
+#[tactic(auto, using(crate::proofs::MarkedAddresses::marking))]
 fn mark_at(place: &Place, seen: &mut [bool]) -> bool
     requires { length seen.old ≡ 256 }
     ensures met { result ≡ meets (held_in place.now.port place.now.device) seen.old }
-    ensures marks { seen.new ≡ marked (held_in place.now.port place.now.device) seen.old }
+    ensures marks { seen.new ≡ marked_at (held_in place.now.port place.now.device) seen.old }
     ensures bytes { AreBytes (held_in place.now.port place.now.device) }
 {
     match &place.device {

@@ -1,11 +1,12 @@
 -- What the end of an enumeration that is given up leaves.
 use Rattle.std.proofs.Common.{◌≡◌, ℕ, List, Option, None, Result, Ok, Err, refl, subst, sym}
 use Rattle.std.specs.Prelude.{IfErr, IsErrAnd}
-use Rattle.usb_device.specs.Calls.{clear_call}
+use Rattle.usb_port.specs.Calls.{clear_call}
+use Rattle.usb_request.specs.Features.{PORT_ENABLE}
 use Rattle.usb_world.specs.World.{World}
-use Rattle.usb_bus.specs.Traced.{WentOn}
+use Rattle.usb_bus.specs.Traces.{WentOn}
 use Rattle.usb_pipe.specs.declared.fault.PipeFault.{PipeFault}
-use Rattle.usb_pipe.specs.Control.{Faults}
+use Rattle.usb_pipe.specs.Control.{FaultAfter}
 use Rattle.usb_hub.specs.declared.port.HubPort.{HubPort}
 use Rattle.usb_hub.specs.Addresses.{KeepsCleared}
 use Rattle.usb_hub.specs.Moments.{CallsPort}
@@ -16,15 +17,15 @@ use Rattle.usb_enum.specs.declared.finding.Finding.TheVariants.{Refused as Refus
 use Rattle.usb_enum.specs.declared.stop.Stop.{Stop}
 use Rattle.usb_enum.specs.declared.stop.Stop.TheVariants.{Refused, Fault}
 use Rattle.usb_enum.specs.Addresses.{AtPort, OnlyCalls, Within}
-use Rattle.usb_enum.specs.Found.{Closes}
-use Rattle.usb_enum.specs.Fair.{Faulted}
+use Rattle.usb_enum.specs.Findings.{Closes}
+use Rattle.usb_enum.specs.FairEnumerations.{Faulted}
 use Rattle.usb_enum.specs.Losses.{NoNewStretch}
 use Rattle.usb_enum.specs.Stop.{at_port, FaultAt}
 use Rattle.usb_enum.proofs.Endings.{ends_refused, ends_fault}
 use Rattle.usb_enum.proofs.Enumerations.{within_none, within_kept}
 use Rattle.usb_enum.proofs.Fairness.{called_faulted}
 use Rattle.usb_enum.proofs.Frames.{calls_none, disable_calls}
-use Rattle.usb_enum.proofs.Reaching.{disables_none, port_disabled}
+use Rattle.usb_enum.proofs.ReachedDevices.{disables_none, port_disabled}
 
 -- nothing was called
 pub closed_fault : (port : HubPort) (address : ℕ) (why : EnumFault) (w : World) → Closes port address (Fault why) w (Err why) w
@@ -35,8 +36,8 @@ closed_fault port address why w = record {
   lost = λ cause other is e. absurd cc;
 }
 
-module _ (port : HubPort) (address : ℕ) (cause : Cause) (old : World) (outcome : Result (Unit {0}) PipeFault) (new : World) (ends : IfErr outcome (λ why. Faults 1 old why new)) (calls : CallsPort port (clear_call 1) old outcome new)
-    (keeps : KeepsCleared port 1 old outcome new) where
+module _ (port : HubPort) (address : ℕ) (cause : Cause) (old : World) (outcome : Result (Unit {0}) PipeFault) (new : World) (ends : IfErr outcome (λ why. FaultAfter 1 old why new)) (calls : CallsPort port (clear_call PORT_ENABLE) old outcome new)
+    (keeps : KeepsCleared port PORT_ENABLE old outcome new) where
   pub closed_refused : outcome ≡ Ok tt → Closes port address (Refused cause) old (Ok (RefusedFinding cause)) new
   closed_refused done = record {
     ends = ends_refused port address old new cause (keeps.bare refl done);
@@ -50,7 +51,7 @@ module _ (port : HubPort) (address : ℕ) (cause : Cause) (old : World) (outcome
     ends = ends_fault port address old new why within;
     only = only;
     there = disables_none port address old why new;
-    lost = λ other given is e. subst (λ x. Faulted port address x old new) (same why given e) (called_faulted port address n (clear_call 1) why went at fault (record { outcome = outcome; told = told; calls = calls; goes = goes }));
+    lost = λ other given is e. subst (λ x. Faulted port address x old new) (same why given e) (called_faulted port address n (clear_call PORT_ENABLE) why went at fault (record { outcome = outcome; told = told; calls = calls; goes = goes }));
   }
     where
       within : Within port address old new

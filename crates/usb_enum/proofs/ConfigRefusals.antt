@@ -4,27 +4,27 @@ use Rattle.std.specs.Prelude.{⊤}
 use Rattle.std.proofs.lemmas.Option.{same_Some}
 use Rattle.std.specs.Global.{Vec}
 use Rattle.usb_descriptor.specs.declared.fault.DescriptorFault.{DescriptorFault}
-use Rattle.usb_descriptor.specs.Config.{config_head_of, config_of, configuration_value}
+use Rattle.usb_descriptor.specs.Config.{config_head_of, config_of, configuration_value, total_in}
 use Rattle.usb_device.specs.Spec.{Spec}
 use Rattle.usb_world.specs.Devices.{EachWas}
 use Rattle.usb_world.specs.World.{World}
 use Rattle.usb_transaction.specs.declared.target.Target.{Target}
 use Rattle.usb_transaction.specs.Failures.{NoThreeDamaged}
-use Rattle.usb_bus.specs.Traced.{WentOn}
+use Rattle.usb_bus.specs.Traces.{WentOn}
 use Rattle.usb_pipe.specs.declared.fault.PipeFault.{PipeFault}
-use Rattle.usb_hub.specs.Asked.{unless_refused, config_given, HasText, ConfigAsked, WhyAsked}
+use Rattle.usb_hub.specs.GivenAnswers.{unless_refused, config_given, HasText, ConfigAsked, WhyAsked}
 use Rattle.usb_enum.specs.declared.cause.Cause.{Cause}
 use Rattle.usb_enum.specs.declared.cause.Cause.TheVariants.{Stalled, BadConfiguration}
 use Rattle.usb_enum.specs.declared.cause.Request.TheVariants as request
 use Rattle.usb_enum.specs.declared.fault.EnumFault.{EnumFault}
 use Rattle.usb_enum.specs.declared.stop.Stop.{Stop}
 use Rattle.usb_enum.specs.declared.stop.Stop.TheVariants.{Refused, Fault}
-use Rattle.usb_enum.specs.Described.{text_read, total_in, is_good_text, texts_below, text_fault, config_fault, first_fault}
-use Rattle.usb_enum.specs.Learned.{Learns, Explains}
+use Rattle.usb_enum.specs.Verdicts.{text_read, is_good_text, texts_below, text_fault, config_fault, first_fault}
+use Rattle.usb_enum.specs.LearnedFacts.{Learns, Explains}
 use Rattle.usb_enum.specs.Readings.{AtMaximum, HasTotal, HasConfiguration, HasConfigurations}
 use Rattle.usb_enum.specs.Refusals.{Refuses}
 use Rattle.usb_enum.specs.Stop.{answered_or}
-use Rattle.usb_enum.specs.Text.{config_text_of, has_value}
+use Rattle.usb_enum.specs.Text.{config_text_of, any_has_value}
 use Rattle.usb_enum.proofs.Hubs.{answered_ok}
 use Rattle.usb_enum.proofs.Readings.{given_allows, learns_on, text_learned}
 use Rattle.usb_enum.proofs.Refusals.{learned_explains, fault_explains, explains_on, request_refused}
@@ -41,7 +41,7 @@ config_ungiven spec index = split spec.stalls.config (slice_get spec.configs ind
     split false None is = refl
     split false (Some text) is = absurd cc
 
-config_bad : (spec : Spec) (index : ℕ) (text : List ℕ) → config_given index spec ≡ Some text → (is_good_text text && not (has_value (configuration_value (text_read text)) (texts_below spec index))) ≡ false
+config_bad : (spec : Spec) (index : ℕ) (text : List ℕ) → config_given index spec ≡ Some text → (is_good_text text && not (any_has_value (configuration_value (text_read text)) (texts_below spec index))) ≡ false
     → config_fault spec index ≡ Some (BadConfiguration index)
 unfolding config_fault
 config_bad spec index text given bad =
@@ -52,13 +52,13 @@ config_bad spec index text given bad =
 
 -- it is malformed
 config_malformed : (spec : Spec) (index : ℕ) (text : List ℕ) → config_given index spec ≡ Some text → is_good_text text ≡ false → config_fault spec index ≡ Some (BadConfiguration index)
-config_malformed spec index text given bad = config_bad spec index text given (ap (λ b. b && not (has_value (configuration_value (text_read text)) (texts_below spec index))) bad)
+config_malformed spec index text given bad = config_bad spec index text given (ap (λ b. b && not (any_has_value (configuration_value (text_read text)) (texts_below spec index))) bad)
 
 -- it has the value of an earlier one
-config_repeated : (spec : Spec) (index : ℕ) (text : List ℕ) → config_given index spec ≡ Some text → is_good_text text ≡ true → has_value (configuration_value (text_read text)) (texts_below spec index) ≡ true
+config_repeated : (spec : Spec) (index : ℕ) (text : List ℕ) → config_given index spec ≡ Some text → is_good_text text ≡ true → any_has_value (configuration_value (text_read text)) (texts_below spec index) ≡ true
     → config_fault spec index ≡ Some (BadConfiguration index)
 config_repeated spec index text given good again =
-    config_bad spec index text given (ap (λ b. b && not (has_value (configuration_value (text_read text)) (texts_below spec index))) good ∙ ap not again)
+    config_bad spec index text given (ap (λ b. b && not (any_has_value (configuration_value (text_read text)) (texts_below spec index))) good ∙ ap not again)
 
 abbrev pub IsBad : Target → ℕ → Spec → Type 0
 IsBad t index = AtMaximum t (λ spec. config_fault spec index ≡ Some (BadConfiguration index))
@@ -124,14 +124,14 @@ pub reading_refused : (t : Target) (i count m n : ℕ) (texts : List (List ℕ))
 reading_refused t i count m n texts stop old mid new below =
     explains_on (AtMaximum t (HasConfigurations i texts)) (Refuses t (λ spec. config_fault spec i) stop) (Refuses t (λ spec. first_fault spec count) stop) t m n old mid new (first_refused t i count texts below stop)
 
-repeated_first : (t : Target) (i count : ℕ) (texts : List (List ℕ)) (text : List ℕ) → i < count → has_value (configuration_value text) texts ≡ true → (spec : Spec) → HasConfigurations i texts spec → HasConfiguration i text spec
+repeated_first : (t : Target) (i count : ℕ) (texts : List (List ℕ)) (text : List ℕ) → i < count → any_has_value (configuration_value text) texts ≡ true → (spec : Spec) → HasConfigurations i texts spec → HasConfiguration i text spec
     → first_fault spec count ≡ Some (BadConfiguration i)
 repeated_first t i count texts text below again spec before now =
-    let Again : List ℕ → List (List ℕ) → Type 0 = λ x xs. has_value (configuration_value x) xs ≡ true in
+    let Again : List ℕ → List (List ℕ) → Type 0 = λ x xs. any_has_value (configuration_value x) xs ≡ true in
     first_is spec i count (BadConfiguration i) below before.good
     (config_repeated spec i now.text now.given now.good (subst (Again (text_read now.text)) before.read (subst (λ x. Again x texts) now.read again)))
 
-pub repeated_refused : (t : Target) (i count n : ℕ) (texts : List (List ℕ)) (text : List ℕ) (old mid new : World) {r s : Option (List ℕ)} → i < count → has_value (configuration_value text) texts ≡ true
+pub repeated_refused : (t : Target) (i count n : ℕ) (texts : List (List ℕ)) (text : List ℕ) (old mid new : World) {r s : Option (List ℕ)} → i < count → any_has_value (configuration_value text) texts ≡ true
     → Learns (AtMaximum t (HasConfigurations i texts)) t old mid → WentOn n mid r new s → Learns (AtMaximum t (HasConfiguration i text)) t mid new
     → Explains (Refuses t (λ spec. first_fault spec count) (Refused (BadConfiguration i))) t old new
 repeated_refused t i count n texts text old mid new below again before went now =

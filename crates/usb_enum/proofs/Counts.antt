@@ -3,7 +3,7 @@ use Rattle.std.proofs.Common.{subst, arith}
 use Rattle.std.proofs.Math.Nat.{mul-le-mul_right, suc-mul}
 use Rattle.std.specs.Prelude.{ℕ, ◌+◌, ◌*◌, ◌<◌, ◌≤◌, List, Option}
 use Rattle.usb_world.specs.World.{World}
-use Rattle.usb_bus.specs.Traced.{WentOn}
+use Rattle.usb_bus.specs.Traces.{WentOn}
 use Rattle.usb_bus.proofs.Interface.{went_then, went_wider}
 use Rattle.usb_pipe.specs.Control.{control_bound}
 use Rattle.usb_enum.specs.Bounds.{read_bound, configuration_bound}

@@ -7,10 +7,9 @@ use Rattle.usb_world.specs.PlanData.{PlanData, IsPlan}
 use Rattle.usb_world.specs.PlanCourses.{AtPorts}
 use Rattle.usb_world.specs.Steps.{Step, AnyStep, Course, here, attempt, root_call, after, opening}
 use Rattle.usb_world.specs.World.{World}
-use Rattle.usb_world.proofs.Interface.{between_course, between_opening, course_joined, course_wider}
-use Rattle.usb_transaction.proofs.Interface.{course_then}
-use Rattle.usb_bus.specs.Traced.{Attempts, Traced, still, attempted, called, WentOn}
-use Rattle.usb_enum.specs.Present.{IsInOrder, IsOrderly, IsRegular}
+use Rattle.usb_world.proofs.Interface.{between_course, between_opening, course_joined, course_then, course_wider}
+use Rattle.usb_bus.specs.Traces.{Attempts, Traced, still, attempted, called, WentOn}
+use Rattle.usb_enum.specs.PresentDevices.{IsInOrder, IsOrderly, IsRegular}
 
 -- the bus was at work, and these were its steps
 record AtWork (old new : World) : Type 0 where

@@ -9,7 +9,7 @@ use Rattle.usb_world.specs.Steps.{Coming, nothing_yet, next_came, took, took_fir
 use Rattle.usb_world.specs.World.{World}
 use Rattle.usb_transaction.specs.Failures.{NoThreeDamaged}
 use Rattle.usb_pipe.proofs.Interface.{never_three}
-use Rattle.usb_bus.specs.Traced.{Attempts, Traced, still, attempted, called, WentOn}
+use Rattle.usb_bus.specs.Traces.{Attempts, Traced, still, attempted, called, WentOn}
 use Rattle.usb_enum.proofs.Losses.{due_later, step_later}
 
 ready_damages : (w : World) → (ready w).damages ≡ w.damages

@@ -1,5 +1,6 @@
 -- Why a device is refused by its device descriptor.
-use Rattle.std.proofs.Common.{◌≡◌, ◌≤◌, ◌<◌, ℕ, suc, ◌∷◌, option_map, nat_lt, inl, inr, Bool, true, false, if◌then◌else◌, List, length, take, None, Some, Result, Ok, Err, is_ok, refl, ap, sym, subst, ◌∙◌, arith}
+use Rattle.usb_device.specs.Tree.{path_to}
+use Rattle.std.proofs.Common.{◌≡◌, ◌≤◌, ◌<◌, ℕ, option_map, nat_lt, inl, inr, Bool, true, false, if◌then◌else◌, List, length, take, None, Some, Result, Ok, Err, is_ok, refl, ap, sym, subst, ◌∙◌, arith}
 use Rattle.std.specs.Prelude.{unwrap_or, MatchResult}
 use Rattle.std.specs.Global.{Vec}
 use Rattle.std.specs.Result.{result_eq}
@@ -8,7 +9,7 @@ use Rattle.std.proofs.lemmas.List.{take-take, take_all}
 use Rattle.usb_request.specs.Requests.{get_device_descriptor}
 use Rattle.usb_descriptor.specs.declared.fault.DescriptorFault.{DescriptorFault}
 use Rattle.usb_descriptor.specs.declared.fault.DescriptorFault.TheVariants.{Short}
-use Rattle.usb_descriptor.specs.Device.{device_head_of, device_of, device_after}
+use Rattle.usb_descriptor.specs.Device.{device_head_of, device_spelled, device_after}
 use Rattle.usb_device.specs.Spec.{Spec}
 use Rattle.usb_world.specs.declared.types.BusFault.{BusFault}
 use Rattle.usb_world.specs.Devices.{EachWas}
@@ -19,15 +20,15 @@ use Rattle.usb_transaction.specs.declared.target.Target.{Target}
 use Rattle.usb_transaction.specs.Answerer.{HadOne}
 use Rattle.usb_transaction.specs.Failures.{NoThreeDamaged}
 use Rattle.usb_address.specs.Claims.{Claims}
-use Rattle.usb_address.specs.Owned.{Owned}
+use Rattle.usb_address.specs.Ownership.{Owned}
 use Rattle.usb_address.proofs.Interface.{same_setup}
-use Rattle.usb_pipe.specs.Control.{Faults}
+use Rattle.usb_pipe.specs.Control.{FaultAfter}
 use Rattle.usb_pipe.specs.Stages.{Reads}
 use Rattle.usb_pipe.specs.Leaves.{IsTransferAnswer}
 use Rattle.usb_pipe.proofs.Interface.{who_read_had}
 use Rattle.usb_pipe.specs.declared.fault.PipeFault.{PipeFault}
 use Rattle.usb_pipe.specs.declared.fault.PipeFault.TheVariants as pipe
-use Rattle.usb_hub.specs.Asked.{unless_refused, device_given, HasText, DeviceAsked, WhyAsked}
+use Rattle.usb_hub.specs.GivenAnswers.{unless_refused, device_given, HasText, DeviceAsked, WhyAsked}
 use Rattle.usb_hub.specs.Addresses.{IsClaimed, KeepsAnswered}
 use Rattle.usb_hub.specs.Requests.{AskedData, EndsAfter}
 use Rattle.usb_enum.specs.declared.cause.Cause.{Cause}
@@ -36,8 +37,8 @@ use Rattle.usb_enum.specs.declared.cause.Request.TheVariants as request
 use Rattle.usb_enum.specs.declared.stop.Stop.{Stop}
 use Rattle.usb_enum.specs.declared.stop.Stop.TheVariants.{Refused}
 use Rattle.usb_enum.specs.Device.{is_device, device_bytes}
-use Rattle.usb_enum.specs.Learned.{Explains}
-use Rattle.usb_enum.specs.Present.{AnswersSo, HasDescriptor}
+use Rattle.usb_enum.specs.LearnedFacts.{Explains}
+use Rattle.usb_enum.specs.PresentDevices.{AnswersSo, HasDescriptor}
 use Rattle.usb_enum.specs.Readings.{AtMaximum}
 use Rattle.usb_enum.specs.Refusals.{IsResponsive, IsRefusedFor, Refuses, FindsDescriptor, RefusesDescriptor, head_fault, device_fault}
 use Rattle.usb_enum.specs.Stop.{stop_of, answered_or}
@@ -113,8 +114,8 @@ descriptor_none t outcome old new is least what why asked = record {
 
 had_claims : (f : Claims) (t : Target) (w : World) → Owned f w → HadOne t w → (p : List ℕ) × (f p ≡ Some t.addr)
 had_claims f t w owned h = (
-  suc h.j ∷ h.p,
-  sym (owned.own (suc h.j ∷ h.p) h.on) ∙ ap (option_map address_of) h.stands ∙ ap (λ n. Some n) (equal_same (address_of h.state) t.addr h.at),
+  path_to h.spot,
+  sym (owned.own (path_to h.spot) h.on) ∙ ap (option_map address_of) h.stands ∙ ap (λ n. Some n) (equal_same (address_of h.state) t.addr h.at),
 )
 
 module _ (t : Target) (outcome : Result (Vec ℕ) PipeFault) (old new : World) (asked : AskedData t (get_device_descriptor 18) old outcome new) (addresses : KeepsAnswered t.addr old outcome new) where
@@ -130,7 +131,7 @@ module _ (t : Target) (outcome : Result (Vec ℕ) PipeFault) (old new : World) (
   pub refused_who : (stop : Stop) → answered_or (Stalled request.Device) outcome ≡ Err stop → (outcome ≡ Err pipe.NoAnswer → ⊥) → (cause : Cause) → stop ≡ Refused cause → IsClaimed t.addr old
   refused_who stop told some cause is = let failed = answered_err (Stalled request.Device) outcome stop told in by_fault failed.0 failed.1 (failed.2 ∙ is)
     where
-      ends : (fault : PipeFault) → outcome ≡ Err fault → Faults 1 old fault new
+      ends : (fault : PipeFault) → outcome ≡ Err fault → FaultAfter 1 old fault new
       ends fault e = subst (λ r. EndsAfter 3 old r new) e asked.ends
 
       by_fault : (fault : PipeFault) → outcome ≡ Err fault → unwrap_or (stop_of fault) (Refused (Stalled request.Device)) ≡ Refused cause → IsClaimed t.addr old
@@ -171,7 +172,7 @@ some_answer E F outcome differs same e = no (sym differs ∙ ap (λ o. result_eq
 
 -- it is too short
 pub short_device : (low : Bool) (bytes : List ℕ) → length bytes < 18 → is_device low (take 18 bytes) ≡ false
-unfolding device_of
+unfolding device_spelled
 short_device low bytes short =
     let less : nat_lt (length bytes) 18 ≡ true = grind (arith, nat_tests, short) in
     ap (is_device low) (take_all 18 bytes (omega (arith, short))) ∙ ap (λ b. is_ok (if b then Err Short else device_after (device_head_of low bytes) bytes)) less

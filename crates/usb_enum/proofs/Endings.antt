@@ -7,12 +7,12 @@ use Rattle.usb_device.specs.View.{state_there}
 use Rattle.usb_world.specs.Paths.{is_way, pend}
 use Rattle.usb_world.specs.World.{World}
 use Rattle.usb_world.proofs.Interface.{no}
-use Rattle.usb_bus.specs.Traced.{WentOn}
+use Rattle.usb_bus.specs.Traces.{WentOn}
 use Rattle.usb_resources.specs.Pool as pool
 use Rattle.usb_resources.specs.Pool.{Addresses, IsFull, IsTaken, HasAddresses}
 use Rattle.usb_pipe.specs.declared.fault.PipeFault.{PipeFault}
 use Rattle.usb_address.specs.Claims.{Claims, Free, claims_apart}
-use Rattle.usb_address.specs.Owned.{Owned, OwnedBut, Enumerating, TillFault}
+use Rattle.usb_address.specs.Ownership.{Owned, OwnedBut, Enumerating, TillFault}
 use Rattle.usb_address.proofs.Interface.{begins, owned_as}
 use Rattle.usb_hub.specs.declared.port.HubPort.{HubPort}
 use Rattle.usb_hub.specs.Addresses.{IsAt, Bares}
@@ -25,18 +25,18 @@ use Rattle.usb_enum.specs.declared.finding.Finding.TheVariants.{Device, Refused}
 use Rattle.usb_enum.specs.declared.stop.Stop.{Stop}
 use Rattle.usb_enum.specs.declared.stop.Stop.TheVariants as stop
 use Rattle.usb_enum.specs.Addresses.{IsSpare, Within, TakesAddress, OnlyCalls, AtPort, EndsOwned, EndsEnumeration, KeepsEnumerated}
-use Rattle.usb_enum.specs.Described.{IsRight}
-use Rattle.usb_enum.specs.Fair.{FaultsFor, HubPends, IsFairAt, PendsOr, StopsFairly, StopsFor}
+use Rattle.usb_enum.specs.Verdicts.{IsRight}
+use Rattle.usb_enum.specs.FairEnumerations.{FaultsFor, HubPends, IsFairAt, PendsOr, StopsFairly, StopsFor}
 use Rattle.usb_enum.specs.Frames.{OnlyAt}
-use Rattle.usb_enum.specs.Found.{Begins, Closes, Disables, GivesUp, IsFair, IsOwn, IsTruthful, Places, Warrants}
+use Rattle.usb_enum.specs.Findings.{Begins, Closes, Disables, GivesUp, IsFair, IsOwn, IsTruthful, Places, Warrants}
 use Rattle.usb_enum.specs.Places.{HasEmptyPorts, IsOccupied, IsPlaced}
-use Rattle.usb_enum.specs.Present.{AtPath, Finds, IsInOrder, IsRegular, ReachesDevice}
+use Rattle.usb_enum.specs.PresentDevices.{AtPath, Finds, IsInOrder, IsRegular, ReachesDevice}
 use Rattle.usb_enum.specs.Stop.{at_port}
 use Rattle.usb_enum.proofs.Enumerations.{till_weaker, having, at_taking}
 use Rattle.usb_enum.proofs.Courses.{went_sound}
 use Rattle.usb_enum.proofs.Fairness.{fair_before, fair_then, pends_on}
 use Rattle.usb_enum.proofs.Frames.{but_taken}
-use Rattle.usb_enum.proofs.Reaching.{occupied_on}
+use Rattle.usb_enum.proofs.ReachedDevices.{occupied_on}
 
 -- Claims at the port
 

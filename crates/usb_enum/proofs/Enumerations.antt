@@ -6,7 +6,7 @@ use Rattle.usb_world.specs.Addresses.{after_reset, after_taking}
 use Rattle.usb_world.specs.Paths.{same_path, is_way}
 use Rattle.usb_world.specs.World.{World}
 use Rattle.usb_address.specs.Claims.{Claims}
-use Rattle.usb_address.specs.Owned.{Owned, Enumerating, TillFault, KeepsAddresses}
+use Rattle.usb_address.specs.Ownership.{Owned, Enumerating, TillFault, KeepsAddresses}
 use Rattle.usb_address.proofs.Interface.{after_a_reset, after_an_address, at_zero, not_both, same_way}
 use Rattle.usb_hub.specs.declared.port.HubPort.{HubPort}
 use Rattle.usb_hub.specs.declared.port.HubPort.TheVariants.{Root, External}

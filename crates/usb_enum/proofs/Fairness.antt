@@ -5,9 +5,9 @@ use Rattle.std.proofs.lemmas.Option.{same_Some}
 use Rattle.usb_port.specs.Order.{parent_of}
 use Rattle.usb_port.specs.PortState.{PortState}
 use Rattle.usb_port.proofs.Interface.{parent}
-use Rattle.usb_device.specs.declared.calls.PortCall.{PortCall}
+use Rattle.usb_port.specs.declared.call.PortCall.{PortCall}
 use Rattle.usb_device.specs.Rows.{State}
-use Rattle.usb_device.specs.Tree.{Ports, ended, vacant, taken, reach, reach_at, state_at, port_at}
+use Rattle.usb_device.specs.Tree.{Ports, ended, vacant, taken, reach, state_at, port_at, Spot, path_to, reach_on, state_on}
 use Rattle.usb_device.specs.View.{state_there, port_there}
 use Rattle.usb_world.specs.Courses.{Spares}
 use Rattle.usb_world.specs.Devices.{Was}
@@ -19,7 +19,7 @@ use Rattle.usb_world.specs.SanePorts.{IsSane}
 use Rattle.usb_world.specs.Steps.{Course}
 use Rattle.usb_world.specs.World.{World}
 use Rattle.usb_world.proofs.Interface.{course_wider, no, pending_persists, reach_live, rests_or_pends, stands_or_pends}
-use Rattle.usb_bus.specs.Traced.{WentOn}
+use Rattle.usb_bus.specs.Traces.{WentOn}
 use Rattle.usb_transaction.specs.declared.target.Target.{Target}
 use Rattle.usb_address.specs.Claims.{Claims}
 use Rattle.usb_address.proofs.Interface.{live_port, not_way, pend_or_live}
@@ -28,7 +28,7 @@ use Rattle.usb_pipe.specs.declared.fault.PipeFault.TheVariants as pipe
 use Rattle.usb_hub.specs.declared.port.HubPort.{HubPort}
 use Rattle.usb_hub.specs.declared.port.HubPort.TheVariants.{Root, External}
 use Rattle.usb_hub.specs.Addresses.{IsAt, IsBelow, StaysAs}
-use Rattle.usb_hub.specs.Why.{HasPort, Serves, NoHubFailed}
+use Rattle.usb_hub.specs.CallFailures.{HasPort, Serves, NoHubFailed}
 use Rattle.usb_hub.proofs.Interface.{stays-registers, stays-spec}
 use Rattle.usb_enum.specs.declared.cause.Cause.{Cause}
 use Rattle.usb_enum.specs.declared.fault.EnumFault.{EnumFault}
@@ -38,15 +38,15 @@ use Rattle.usb_enum.specs.declared.stop.Stop.TheVariants.{Refused, Fault}
 use Rattle.usb_device.specs.Spec.{Spec}
 use Rattle.usb_enum.specs.Addresses.{IsSpare, AtPort}
 use Rattle.usb_enum.specs.Calls.{CalledAt, StatusAt}
-use Rattle.usb_enum.specs.Fair.{ServesAt, HasServer, IsFairAt, PendsOr, FaultsFor, StopsFor, StopsFairly, Faulted}
+use Rattle.usb_enum.specs.FairEnumerations.{ServesAt, HasServer, IsFairAt, PendsOr, FaultsFor, StopsFor, StopsFairly, Faulted}
 use Rattle.usb_enum.specs.Frames.{OnlyAt}
 use Rattle.usb_enum.specs.Places.{IsOccupied, IsReachedAt}
-use Rattle.usb_enum.specs.Present.{AtPath}
+use Rattle.usb_enum.specs.PresentDevices.{AtPath}
 use Rattle.usb_enum.specs.Stop.{at_port, FaultAt, FaultTold}
 use Rattle.usb_enum.proofs.Courses.{went_sound, went_in_order, went_course}
 use Rattle.usb_enum.proofs.Damages.{went_three}
 use Rattle.usb_enum.proofs.Losses.{few_before}
-use Rattle.usb_enum.proofs.Reaching.{some_of, standing, occupied_on}
+use Rattle.usb_enum.proofs.ReachedDevices.{some_of, standing, occupied_on}
 
 -- The hub of a port
 
@@ -65,32 +65,28 @@ module _ (f : Claims) (hub : Target) (n : ℕ) (p : List ℕ) (at : IsBelow f hu
     hub_pends_on h = pending_persists at.hub (course_wider (λ s w k. k.spares) hub_asks) h
 
     module _ (sane : IsSane old.roots) (was : ServesAt hub n at.hub old) where
-      abbrev j : ℕ
-      j = was.serves.j
-
-      abbrev e : List ℕ
-      e = was.serves.p
+      abbrev j : Spot
+      j = was.serves.spot
 
       hub_live : live old.roots at.hub ≡ true
-      hub_live = subst (λ q. live old.roots q ≡ true) (sym was.there) (reach_live old.roots j e sane was.serves.on)
+      hub_live = subst (λ q. live old.roots q ≡ true) (sym was.there) (reach_live old.roots j.row j.rest sane was.serves.on)
 
-      hub_served : (v : State) → reach_at new.roots j e ≡ true → state_at new.roots j e ≡ Some v → ServesAt hub n at.hub new
+      hub_served : (v : State) → reach_on new.roots j ≡ true → state_on new.roots j ≡ Some v → ServesAt hub n at.hub new
       hub_served v on there =
-          let before : Was StaysAs old j e v = only.devices j e v (subst (λ q. is_way p q ≡ false) was.there apart) on there in
+          let before : Was StaysAs old j v = only.devices j v (subst (λ q. is_way p q ≡ false) was.there apart) on there in
           let is : before.before ≡ was.serves.state = same_Some before.before was.serves.state (sym before.stands ∙ was.serves.stands) in
           let spec : v.spec ≡ was.serves.state.spec = stays-spec before.before v before.so ∙ ap (λ s. s.spec) is in
           let registers : v.registers ≡ was.serves.state.registers = stays-registers before.before v before.so ∙ ap (λ s. s.registers) is in
           record {
             serves = record {
-              j = j;
-              p = e;
+              spot = j;
               state = v;
               on = on;
               stands = there;
               listens = record {
                 at = ap (λ r. r.address == hub.addr) registers ∙ was.serves.listens.at;
                 loud = ap (λ x. x.silent) spec ∙ was.serves.listens.loud;
-                hears = ap (λ (x : Spec). if hub.low then x.low && (not (deep_at false e) || hub.pre) else not x.low) spec ∙ was.serves.listens.hears;
+                hears = ap (λ (x : Spec). if hub.low then x.low && (not (deep_at false j.rest) || hub.pre) else not x.low) spec ∙ was.serves.listens.hears;
               };
               addressed = was.serves.addressed;
               configured = λ z. was.serves.configured (sym (ap (λ r. r.configuration) registers) ∙ z);
@@ -102,9 +98,9 @@ module _ (f : Claims) (hub : Target) (n : ℕ) (p : List ℕ) (at : IsBelow f hu
 
       hub_same : SameAt old.roots new.roots at.hub → ServesAt hub n at.hub new
       hub_same same =
-          let on : reach_at new.roots j e ≡ true = subst (λ q. reach new.roots q ≡ reach old.roots q) was.there same.on ∙ was.serves.on in
+          let on : reach_on new.roots j ≡ true = subst (λ q. reach new.roots q ≡ reach old.roots q) was.there same.on ∙ was.serves.on in
           let what = subst (λ q. option_map spec_of (state_there new.roots q) ≡ option_map spec_of (state_there old.roots q)) was.there same.what in
-          let v = standing (state_at new.roots j e) (some_of (state_at old.roots j e) (state_at new.roots j e) what (ap is_some was.serves.stands)) in
+          let v = standing (state_on new.roots j) (some_of (state_on old.roots j) (state_on new.roots j) what (ap is_some was.serves.stands)) in
           hub_served v.0 on v.1
 
       serves_on : (pend new.roots at.hub ≡ true) ⊎ ServesAt hub n at.hub new
@@ -126,7 +122,7 @@ server_on f (External hub n) p at old new sane only server =
 
 -- a hub that serves its port is not lost
 pub hub_lost : (f : Claims) (port : HubPort) (p : List ℕ) → IsAt f port p → (why : EnumFault) (new : World) → FaultAt port why new → HasServer port p new
-    → ((hub : Target) (n : ℕ) → port ≡ External hub n → why ≡ fault.ParentLost → (serves : Serves hub n new) → p ≡ suc serves.j ∷ (serves.p ++ (n ∷ [])) → 8 ≤ hub.max → pend new.roots (suc serves.j ∷ serves.p) ≡ true) → FaultsFor p why new
+    → ((hub : Target) (n : ℕ) → port ≡ External hub n → why ≡ fault.ParentLost → (serves : Serves hub n new) → p ≡ path_to serves.spot ++ (n ∷ []) → 8 ≤ hub.max → pend new.roots (path_to serves.spot) ≡ true) → FaultsFor p why new
 hub_lost f port p at (fault.Bus why) new told server denies = tt
 hub_lost f port p at fault.Memory new told server denies = tt
 hub_lost f (Root n) p at fault.ParentLost new told server denies = absurd told
@@ -227,26 +223,26 @@ port_stands k (zero ∷ p) some = no some
 port_stands k (suc j ∷ p) some = stands_at (port_at k j p) (state_port k j p some)
 
 -- where no change is pending at its hub
-hub_port : (w : World) (j : ℕ) (e : List ℕ) (n : ℕ) → IsOccupied w (suc j ∷ (e ++ (n ∷ []))) → (pend w.roots (suc j ∷ e) ≡ true) ⊎ IsSome (port_there w.roots (suc j ∷ (e ++ (n ∷ []))))
-hub_port w j e n (inl h) = pick (pend_or_live w.roots (suc j ∷ e) n h)
+hub_port : (w : World) (j : Spot) (n : ℕ) → IsOccupied w (path_to j ++ (n ∷ [])) → (pend w.roots (path_to j) ≡ true) ⊎ IsSome (port_there w.roots (path_to j ++ (n ∷ [])))
+hub_port w j n (inl h) = pick (pend_or_live w.roots (path_to j) n h)
   where
-    pick : (live w.roots (suc j ∷ (e ++ (n ∷ []))) ≡ true) ⊎ (pend w.roots (suc j ∷ e) ≡ true) → (pend w.roots (suc j ∷ e) ≡ true) ⊎ IsSome (port_there w.roots (suc j ∷ (e ++ (n ∷ []))))
-    pick (inl on) = inr (subst IsSome (sym (live_port w.roots (suc j ∷ (e ++ (n ∷ []))) on).1) refl)
+    pick : (live w.roots (path_to j ++ (n ∷ [])) ≡ true) ⊎ (pend w.roots (path_to j) ≡ true) → (pend w.roots (path_to j) ≡ true) ⊎ IsSome (port_there w.roots (path_to j ++ (n ∷ [])))
+    pick (inl on) = inr (subst IsSome (sym (live_port w.roots (path_to j ++ (n ∷ [])) on).1) refl)
     pick (inr above) = inl above
-hub_port w j e n (inr h) = inr (state_port w.roots j (e ++ (n ∷ [])) h.1)
+hub_port w j n (inr h) = inr (state_port w.roots j.row (j.rest ++ (n ∷ [])) h.1)
 
 module _ (port : HubPort) (address n : ℕ) (why : EnumFault) {old new : World} {a b : Option (List ℕ)} (went : WentOn n old a new b) (at : AtPort port address old new) (told : FaultAt port why new) (shown : StatusAt port old (Err why) new) where
-  status_denies : (f : Claims) (p : List ℕ) → IsFairAt f port p address old new → (hub : Target) (i : ℕ) → port ≡ External hub i → why ≡ fault.ParentLost → (serves : Serves hub i new) → p ≡ suc serves.j ∷ (serves.p ++ (i ∷ [])) → 8 ≤ hub.max
-      → pend new.roots (suc serves.j ∷ serves.p) ≡ true
-  status_denies f p fair hub i is parent serves there wide = pick (hub_port old serves.j serves.p i (subst (IsOccupied old) there fair.occupied))
+  status_denies : (f : Claims) (p : List ℕ) → IsFairAt f port p address old new → (hub : Target) (i : ℕ) → port ≡ External hub i → why ≡ fault.ParentLost → (serves : Serves hub i new) → p ≡ path_to serves.spot ++ (i ∷ []) → 8 ≤ hub.max
+      → pend new.roots (path_to serves.spot) ≡ true
+  status_denies f p fair hub i is parent serves there wide = pick (hub_port old serves.spot i (subst (IsOccupied old) there fair.occupied))
     where
-      off : is_way p (suc serves.j ∷ serves.p) ≡ false
-      off = ap (λ x. is_way x (suc serves.j ∷ serves.p)) there ∙ not_way (suc serves.j ∷ serves.p) i
+      off : is_way p (path_to serves.spot) ≡ false
+      off = ap (λ x. is_way x (path_to serves.spot)) there ∙ not_way (path_to serves.spot) i
 
-      pick : (pend old.roots (suc serves.j ∷ serves.p) ≡ true) ⊎ IsSome (port_there old.roots (suc serves.j ∷ (serves.p ++ (i ∷ [])))) → pend new.roots (suc serves.j ∷ serves.p) ≡ true
-      pick (inl h) = pending_persists (suc serves.j ∷ serves.p) (course_wider (λ s w k. k.spares) ((fair_only f port p address fair at).others (suc serves.j ∷ serves.p) off)) h
+      pick : (pend old.roots (path_to serves.spot) ≡ true) ⊎ IsSome (port_there old.roots (path_to serves.spot ++ (i ∷ []))) → pend new.roots (path_to serves.spot) ≡ true
+      pick (inl h) = pending_persists (path_to serves.spot) (course_wider (λ s w k. k.spares) ((fair_only f port p address fair at).others (path_to serves.spot) off)) h
       pick (inr h) =
-          let b = stands_at (port_there old.roots (suc serves.j ∷ (serves.p ++ (i ∷ [])))) h in
+          let b = stands_at (port_there old.roots (path_to serves.spot ++ (i ∷ []))) h in
           absurd (unserved shown.outcome why shown.told parent (shown.tells.why hub i is fair.few (fair_single f port p address fair at) wide serves b.0 b.1))
 
   pub status_faulted : Faulted port address why old new

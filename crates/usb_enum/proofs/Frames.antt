@@ -1,15 +1,16 @@
 -- What calls leave of all other devices and ports, from one call to the next.
-use Rattle.std.proofs.Common.{◌≡◌, ◌⊎◌, inl, inr, ◌==◌, ◌&&◌, ◌≤◌, not, ℕ, suc, Bool, true, false, List, [], ◌∷◌, Option, None, Some, option_map, Result, Ok, Err, if◌then◌else◌, refl, ap, sym, subst, ◌∙◌}
+use Rattle.std.proofs.Common.{◌≡◌, ◌⊎◌, inl, inr, ◌==◌, ◌&&◌, ◌≤◌, not, ℕ, Bool, true, false, List, [], Option, None, Some, option_map, Result, Ok, Err, if◌then◌else◌, refl, ap, sym, subst, ◌∙◌}
 use Rattle.std.specs.Global.{Vec}
 use Rattle.std.specs.Prelude.{IfErr}
+use Rattle.usb_request.specs.Features.{PORT_POWER, PORT_ENABLE, PORT_RESET, C_PORT_RESET}
 use Rattle.usb_request.specs.Requests.{set_port_feature, set_configuration, set_address}
 use Rattle.usb_request.specs.declared.setup.Setup.{Setup}
 use Rattle.usb_device.specs.Rows.{State}
 use Rattle.usb_device.specs.Spec.{Spec}
-use Rattle.usb_device.specs.Tree.{reach_at, state_at}
-use Rattle.usb_device.specs.declared.calls.PortCall.{PortCall}
-use Rattle.usb_device.specs.declared.calls.PortCall.TheVariants.{SetReset, ClearEnable, ClearResetChange}
-use Rattle.usb_device.specs.Calls.{set_call, clear_call}
+use Rattle.usb_device.specs.Tree.{Spot, path_to, reach_on, state_on}
+use Rattle.usb_port.specs.declared.call.PortCall.{PortCall}
+use Rattle.usb_port.specs.declared.call.PortCall.TheVariants.{SetReset, ClearEnable, ClearResetChange}
+use Rattle.usb_port.specs.Calls.{set_call, clear_call}
 use Rattle.usb_world.specs.Addresses.{after_taking}
 use Rattle.usb_world.specs.Devices.{Relation, Was, EachWas}
 use Rattle.usb_world.specs.Paths.{address_of, is_way, same_path}
@@ -19,20 +20,20 @@ use Rattle.usb_world.specs.Steps.{Course, here}
 use Rattle.usb_world.specs.WayEffects.{spares}
 use Rattle.usb_world.specs.World.{World}
 use Rattle.usb_world.proofs.Interface.{and_false, course_joined, course_wider, decided, each_joined, each_none, each_wider, equal_same, no, self_path}
-use Rattle.usb_bus.specs.Traced.{WentOn}
+use Rattle.usb_bus.specs.Traces.{WentOn}
 use Rattle.usb_transaction.specs.declared.target.Target.{Target}
 use Rattle.usb_address.specs.Claims.{Claims, Unused}
-use Rattle.usb_address.specs.Owned.{Owned, Enumerating, TillFault, KeepsAddresses}
+use Rattle.usb_address.specs.Ownership.{Owned, Enumerating, TillFault, KeepsAddresses}
 use Rattle.usb_address.proofs.Interface.{at_zero, keeps_none, keeps_then, same_way}
 use Rattle.usb_pipe.specs.declared.fault.PipeFault.{PipeFault}
 use Rattle.usb_pipe.specs.declared.fault.PipeFault.TheVariants.{Stalled, Busy, NoAnswer, Broken, Bus, Memory}
-use Rattle.usb_pipe.specs.Control.{Faults}
-use Rattle.usb_pipe.specs.Leaves.{IsNotOfBus}
+use Rattle.usb_pipe.specs.Control.{FaultAfter}
+use Rattle.usb_pipe.specs.Leaves.{IsNoBusFault}
 use Rattle.usb_hub.specs.declared.port.HubPort.{HubPort}
 use Rattle.usb_hub.specs.declared.port.HubPort.TheVariants.{Root, External}
 use Rattle.usb_hub.specs.Addresses.{StaysAs, EachElsewhere, KeepsDevices, KeepsAsked, KeepsCleared, Resets, GivesAddress}
 use Rattle.usb_port.specs.declared.status.PortStatus.{PortStatus}
-use Rattle.usb_hub.specs.Asked.{ReadAsked, TextAsked, HasText}
+use Rattle.usb_hub.specs.GivenAnswers.{ReadAsked, TextAsked, HasText}
 use Rattle.usb_hub.specs.Moments.{IsCall, CallsPort}
 use Rattle.usb_hub.specs.Port.{PortRead}
 use Rattle.usb_hub.specs.Requests.{AllRest, RestBut, EndsAfter, AskedData, Ordered}
@@ -43,11 +44,11 @@ use Rattle.usb_enum.specs.Frames.{OnlyAsks, OnlyTells, StaysBut, OnlySets, OnlyA
 use Rattle.usb_enum.proofs.Courses.{went_sound}
 use Rattle.usb_enum.proofs.Enumerations.{Having, having, at_taking, within_none, within_then, within_on, within_kept, within_reset, within_given}
 use Rattle.usb_enum.proofs.Readings.{devices_then}
-use Rattle.usb_enum.proofs.Sharing.{went_unshared}
+use Rattle.usb_enum.proofs.SharedAddresses.{went_unshared}
 
 -- Where the bus is at work, it did not end a call
 
-pub not_of_bus : {A : Type 0} (result : Result A PipeFault) (old new : World) → IfErr result (λ why. Faults 1 old why new) → new.fault ≡ None → IsNotOfBus result
+pub not_of_bus : {A : Type 0} (result : Result A PipeFault) (old new : World) → IfErr result (λ why. FaultAfter 1 old why new) → new.fault ≡ None → IsNoBusFault result
 not_of_bus (Ok x) old new ends none = tt
 not_of_bus (Err Stalled) old new ends none = tt
 not_of_bus (Err Busy) old new ends none = tt
@@ -56,7 +57,7 @@ not_of_bus (Err Broken) old new ends none = tt
 not_of_bus (Err (Bus fault)) old new ends none = absurd (cc (none, ends.told))
 not_of_bus (Err Memory) old new ends none = tt
 
-pub ended : {A : Type 0} (least : ℕ) (result : Result A PipeFault) (old new : World) → EndsAfter least old result new → new.fault ≡ None → IsNotOfBus result
+pub ended : {A : Type 0} (least : ℕ) (result : Result A PipeFault) (old new : World) → EndsAfter least old result new → new.fault ≡ None → IsNoBusFault result
 ended least (Ok x) old new ends none = tt
 ended {A} least (Err why) old new ends none = not_of_bus {A = A} (Err why) old new ends none
 
@@ -76,7 +77,7 @@ pub answer_asks : {A X : Type 0} (given : Spec → Option X) (Has : State → A 
     → AskedData t request old answer new → (new.shared ≡ false → EachWas (ReadAsked given Has t outcome) old new) → KeepsAddresses old new → OnlyAsks old new
 answer_asks given Has t request outcome answer old new asked what keeps = record {
   addresses = keeps;
-  devices = record { stays = λ single. each_wider (ReadAsked given Has t outcome) StaysAs (λ j p s v x. x.frame) old new (what single) };
+  devices = record { stays = λ single. each_wider (ReadAsked given Has t outcome) StaysAs (λ j s v x. x.frame) old new (what single) };
   ports = λ none. asked.rests (ended 3 answer old new asked.ends none);
 }
 
@@ -85,7 +86,7 @@ pub text_asks : (given : Spec → Option (List ℕ)) (t : Target) (request : Set
 text_asks given t request wanted outcome old new = answer_asks given (λ s bytes. HasText (given s.spec) t wanted s bytes.items) t request outcome outcome old new
 
 -- a port's status; that of a root port is a register
-pub status_asks : (port : HubPort) (outcome : Result PortStatus PipeFault) (old new : World) → PortRead port old outcome new → IfErr outcome (λ why. Faults 1 old why new) → KeepsAsked port old outcome new → OnlyAsks old new
+pub status_asks : (port : HubPort) (outcome : Result PortStatus PipeFault) (old new : World) → PortRead port old outcome new → IfErr outcome (λ why. FaultAfter 1 old why new) → KeepsAsked port old outcome new → OnlyAsks old new
 status_asks port outcome old new read ends keeps = record { addresses = keeps.keeps; devices = keeps.devices; ports = by_port port read }
   where
     by_port : (port : HubPort) → PortRead port old outcome new → new.fault ≡ None → AllRest old new
@@ -122,7 +123,7 @@ tells_then hub n old mid new a went b = record {
 }
 
 -- PORT_POWER
-pub power_tells : (hub : Target) (port : ℕ) (old : World) (result : Result (Unit {0}) PipeFault) (new : World) → Ordered hub (set_port_feature 8 port) old result new → KeepsAddresses old new → KeepsDevices old new
+pub power_tells : (hub : Target) (port : ℕ) (old : World) (result : Result (Unit {0}) PipeFault) (new : World) → Ordered hub (set_port_feature PORT_POWER port) old result new → KeepsAddresses old new → KeepsDevices old new
     → OnlyTells hub.addr old new
 unfolding set_port_feature
 power_tells hub port old result new ordered keeps devices = record {
@@ -133,8 +134,8 @@ power_tells hub port old result new ordered keeps devices = record {
 
 -- SET_CONFIGURATION, and what goes before and after it
 
-stays_but : (address j : ℕ) (p : List ℕ) (s v : State) → StaysAs j p s v → StaysBut address j p s v
-stays_but address j p s v x = record { spec = stays-spec s v x; same = ap (λ r. r.address) (stays-registers s v x); stays = λ apart. x }
+stays_but : (address : ℕ) (j : Spot) (s v : State) → StaysAs j s v → StaysBut address j s v
+stays_but address j s v x = record { spec = stays-spec s v x; same = ap (λ r. r.address) (stays-registers s v x); stays = λ apart. x }
 
 pub sets_told : (address : ℕ) (old new : World) → OnlyTells address old new → OnlySets address old new
 sets_told address old new a = record {
@@ -149,11 +150,11 @@ sets_asked address old new a = sets_told address old new (tells_asked address ol
 pub sets_at : (m n : ℕ) (old new : World) → m ≡ n → OnlySets m old new → OnlySets n old new
 sets_at m n old new same sets = subst (λ a. OnlySets a old new) same sets
 
-but_then : (address j : ℕ) (p : List ℕ) (s u v : State) → StaysBut address j p s u → StaysBut address j p u v → StaysBut address j p s v
-but_then address j p s u v x y = record {
+but_then : (address : ℕ) (j : Spot) (s u v : State) → StaysBut address j s u → StaysBut address j u v → StaysBut address j s v
+but_then address j s u v x y = record {
   spec = y.spec ∙ x.spec;
   same = y.same ∙ x.same;
-  stays = λ apart. stays_joined j p s u v (x.stays apart) (y.stays (ap (λ n. n == address) x.same ∙ apart));
+  stays = λ apart. stays_joined j s u v (x.stays apart) (y.stays (ap (λ n. n == address) x.same ∙ apart));
 }
 
 pub sets_then : (address n : ℕ) (old mid new : World) {r s : Option (List ℕ)} → OnlySets address old mid → WentOn n mid r new s → OnlySets address mid new → OnlySets address old new
@@ -170,20 +171,20 @@ configuration_sets t value result old new ordered what keeps = record {
   addresses = keeps;
   devices = λ single.
       each_wider (ConfigurationAsked t value result new) (StaysBut t.addr)
-      (λ j p s v x. record { spec = ap (λ y. y.spec) x.frame; same = ap (λ y. y.registers.address) x.frame; stays = λ apart. same_stays j p s v (x.others apart) }) old new (what single);
+      (λ j s v x. record { spec = ap (λ y. y.spec) x.frame; same = ap (λ y. y.registers.address) x.frame; stays = λ apart. same_stays j s v (x.others apart) }) old new (what single);
   ports = λ none. ordered.elsewhere refl (ended 2 result old new ordered.ends none);
 }
 
 -- Calls at a port
 
 elsewhere_of : (p : List ℕ) (old new : World) → EachWas StaysAs old new → EachElsewhere p StaysAs old new
-elsewhere_of p old new was j q s apart on there = was j q s on there
+elsewhere_of p old new was j s apart on there = was j s on there
 
 elsewhere_then : (p : List ℕ) (old mid new : World) → EachElsewhere p StaysAs old mid → EachElsewhere p StaysAs mid new → EachElsewhere p StaysAs old new
-elsewhere_then p old mid new a b j q s apart on there =
-    let later : Was StaysAs mid j q s = b j q s apart on there in
-    let sooner : Was StaysAs old j q later.before = a j q later.before apart later.on later.stands in
-    record { before = sooner.before; on = sooner.on; stands = sooner.stands; so = stays_joined j q sooner.before later.before s sooner.so later.so }
+elsewhere_then p old mid new a b j s apart on there =
+    let later : Was StaysAs mid j s = b j s apart on there in
+    let sooner : Was StaysAs old j later.before = a j later.before apart later.on later.stands in
+    record { before = sooner.before; on = sooner.on; stands = sooner.stands; so = stays_joined j sooner.before later.before s sooner.so later.so }
 
 only_at_then : (p : List ℕ) (old mid new : World) → OnlyAt p old mid → OnlyAt p mid new → OnlyAt p old new
 only_at_then p old mid new a b = record {
@@ -234,7 +235,7 @@ called_is f port p address w spare h call c is = record { at = at_taking f port 
 
 -- a call that clears nothing that is pending at the port
 module _ (port : HubPort) (address : ℕ) (call : Option PortCall) (c : PortCall) (is : call ≡ Some c) (spared : spares c [] ≡ true) (old : World) (result : Result (Unit {0}) PipeFault) (new : World)
-    (ends : IfErr result (λ why. Faults 1 old why new)) (calls : CallsPort port call old result new) where
+    (ends : IfErr result (λ why. FaultAfter 1 old why new)) (calls : CallsPort port call old result new) where
   called_at : (f : Claims) (p : List ℕ) → IsSpare f port p address → TillFault (Enumerating f p address) old → new.fault ≡ None
       → ((h : Having f p address old) → EachElsewhere p StaysAs old new) → OnlyAt p old new
   called_at f p spare t none devices =
@@ -250,7 +251,7 @@ module _ (port : HubPort) (address : ℕ) (call : Option PortCall) (c : PortCall
 
 -- the clearing of a change bit or of PORT_ENABLE
 clear_calls : (port : HubPort) (address : ℕ) (call : Option PortCall) (c : PortCall) → call ≡ Some c → spares c [] ≡ true → (feature : ℕ) (old : World) (result : Result (Unit {0}) PipeFault) (new : World)
-    → IfErr result (λ why. Faults 1 old why new) → CallsPort port call old result new → KeepsCleared port feature old result new → OnlyCalls port address old new
+    → IfErr result (λ why. FaultAfter 1 old why new) → CallsPort port call old result new → KeepsCleared port feature old result new → OnlyCalls port address old new
 clear_calls port address call c is spared feature old result new ends calls keeps = record {
   at = λ f p spare t none.
       called_at port address call c is spared old result new ends calls f p spare t none
@@ -259,26 +260,23 @@ clear_calls port address call c is spared feature old result new ends calls keep
 
 -- C_PORT_RESET
 pub at_reset_cleared : (port : HubPort) (address : ℕ) (old : World) (result : Result (Unit {0}) PipeFault) (new : World)
-    → IfErr result (λ why. Faults 1 old why new) → CallsPort port (clear_call 20) old result new → KeepsCleared port 20 old result new → AtPort port address old new
-unfolding clear_call
+    → IfErr result (λ why. FaultAfter 1 old why new) → CallsPort port (clear_call C_PORT_RESET) old result new → KeepsCleared port C_PORT_RESET old result new → AtPort port address old new
 at_reset_cleared port address old result new ends calls keeps = record {
   within = within_kept port address old new keeps.keeps;
-  only = clear_calls port address (clear_call 20) ClearResetChange refl refl 20 old result new ends calls keeps;
+  only = clear_calls port address (clear_call C_PORT_RESET) ClearResetChange refl refl 20 old result new ends calls keeps;
 }
 
 -- PORT_ENABLE
 pub disable_calls : (port : HubPort) (address : ℕ) (old : World) (result : Result (Unit {0}) PipeFault) (new : World)
-    → IfErr result (λ why. Faults 1 old why new) → CallsPort port (clear_call 1) old result new → KeepsCleared port 1 old result new → OnlyCalls port address old new
-unfolding clear_call
-disable_calls port address old result new ends calls keeps = clear_calls port address (clear_call 1) ClearEnable refl refl 1 old result new ends calls keeps
+    → IfErr result (λ why. FaultAfter 1 old why new) → CallsPort port (clear_call PORT_ENABLE) old result new → KeepsCleared port PORT_ENABLE old result new → OnlyCalls port address old new
+disable_calls port address old result new ends calls keeps = clear_calls port address (clear_call PORT_ENABLE) ClearEnable refl refl 1 old result new ends calls keeps
 
 -- PORT_RESET
 pub reset_calls : (port : HubPort) (address : ℕ) (old : World) (result : Result (Unit {0}) PipeFault) (new : World)
-    → IfErr result (λ why. Faults 1 old why new) → CallsPort port (set_call 4) old result new → Resets port old new → OnlyCalls port address old new
-unfolding set_call
+    → IfErr result (λ why. FaultAfter 1 old why new) → CallsPort port (set_call PORT_RESET) old result new → Resets port old new → OnlyCalls port address old new
 reset_calls port address old result new ends calls resets = record {
   at = λ f p spare t none.
-      called_at port address (set_call 4) SetReset refl refl old result new ends calls f p spare t none
+      called_at port address (set_call PORT_RESET) SetReset refl refl old result new ends calls f p spare t none
       (λ h. resets.others (after_taking f p h.has) p (at_taking f port p h.has spare.at) (zero_there f p h.has spare.none) h.owned none);
 }
 
@@ -296,20 +294,20 @@ but_taken f p a x off = split (same_path p x) refl
 
 -- no device elsewhere has an address that is not claimed
 unheld : (f : Claims) (p : List ℕ) (has n : ℕ) (w : World) → Owned (after_taking f p has) w → Unused f n
-    → (j : ℕ) (q : List ℕ) (s : State) → is_way p (suc j ∷ q) ≡ false → reach_at w.roots j q ≡ true → state_at w.roots j q ≡ Some s → (address_of s == n) ≡ false
-unheld f p has n w own unused j q s apart on there = pick (decided (address_of s == n))
+    → (j : Spot) (s : State) → is_way p (path_to j) ≡ false → reach_on w.roots j ≡ true → state_on w.roots j ≡ Some s → (address_of s == n) ≡ false
+unheld f p has n w own unused j s apart on there = pick (decided (address_of s == n))
   where
     pick : ((address_of s == n) ≡ true) ⊎ ((address_of s == n) ≡ false) → (address_of s == n) ≡ false
     pick (inl e) =
-        elim (unused (suc j ∷ q) (sym (but_taken f p has (suc j ∷ q) apart) ∙ sym (own.own (suc j ∷ q) on) ∙ ap (option_map address_of) there ∙ ap (λ m. Some m) (equal_same (address_of s) n e))) [ ]
+        elim (unused (path_to j) (sym (but_taken f p has (path_to j) apart) ∙ sym (own.own (path_to j) on) ∙ ap (option_map address_of) there ∙ ap (λ m. Some m) (equal_same (address_of s) n e))) [ ]
     pick (inr e) = e
 
 -- so a call that changes only a device at such an address leaves those elsewhere as they were
 module _ (f : Claims) (p : List ℕ) (has n : ℕ) (old new : World) (own : Owned (after_taking f p has) old) (unused : Unused f n) where
-  unheld_stays : (R : Relation) → ((j : ℕ) (q : List ℕ) (s v : State) → R j q s v → (address_of s == n) ≡ false → StaysAs j q s v) → EachWas R old new → EachElsewhere p StaysAs old new
-  unheld_stays R stays was j q s apart on there =
-      let w : Was R old j q s = was j q s on there in
-      record { before = w.before; on = w.on; stands = w.stands; so = stays j q w.before s w.so (unheld f p has n old own unused j q w.before apart w.on w.stands) }
+  unheld_stays : (R : Relation) → ((j : Spot) (s v : State) → R j s v → (address_of s == n) ≡ false → StaysAs j s v) → EachWas R old new → EachElsewhere p StaysAs old new
+  unheld_stays R stays was j s apart on there =
+      let w : Was R old j s = was j s on there in
+      record { before = w.before; on = w.on; stands = w.stands; so = stays j w.before s w.so (unheld f p has n old own unused j w.before apart w.on w.stands) }
 
 -- SET_ADDRESS, at address 0
 pub at_addressed : (port : HubPort) (address m : ℕ) (target : Target) (result : Result (Unit {0}) PipeFault) (old mid new : World) {r s : Option (List ℕ)} → AtPort port address old mid → target.addr ≡ 0 → 1 ≤ address
@@ -327,7 +325,7 @@ at_addressed port address m target result old mid new at zero_is least went orde
         let sound = went_sound m mid new went none in
         only_at_rest p mid new (ordered.rests refl (ended 2 result mid new ordered.ends none))
         (unheld_stays f p h.has 0 mid new (h.owned.so sound) spare.none (AddressAsked target address result mid new)
-        (λ j q s v x apart. same_stays j q s v (x.others (ap (λ a. address_of s == a) zero_is ∙ apart)))
+        (λ j s v x apart. same_stays j s v (x.others (ap (λ a. address_of s == a) zero_is ∙ apart)))
         (what (within.stays f p spare t).single))
 
 pub held_there : (f : Claims) (p : List ℕ) (address : ℕ) → after_taking f p address p ≡ Some address
@@ -349,5 +347,5 @@ at_configured port address n old mid new at takes went sets = record { within = 
         only_at_then p old mid new (at.only.at f p spare t sound) (record {
           others = λ x apart. rests x (ap (λ b. b && not (same_path p x)) apart);
           spares = course_wider (λ s w k. k.spares) (rests p (not_below p));
-          devices = unheld_stays f p address address mid new own spare.spare (StaysBut address) (λ j q s v x apart. x.stays apart) (sets.devices (sets.addresses.kept (after_taking f p address) taken).single);
+          devices = unheld_stays f p address address mid new own spare.spare (StaysBut address) (λ j s v x apart. x.stays apart) (sets.devices (sets.addresses.kept (after_taking f p address) taken).single);
         })

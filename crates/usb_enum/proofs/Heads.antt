@@ -1,9 +1,11 @@
 -- What a device's descriptor says of it, as it was read.
+use Rattle.usb_device.specs.Tree.{Spot}
 use Rattle.std.proofs.Common.{◌≡◌, ℕ, ◌==◌, ◌&&◌, ◌||◌, not, nat_lt, inl, inr, Bool, true, false, List, length, slice_index, take, if◌then◌else◌, Some, Result, Ok, Err, is_ok, refl, ap, sym, subst, ◌∙◌, arith}
 use Rattle.std.proofs.lemmas.Bool.Decides.{nat_tests}
 use Rattle.std.proofs.lemmas.List.{get_or-take, take-take}
 use Rattle.std.proofs.lemmas.Option.{same_Some}
 use Rattle.std.specs.Global.{Vec}
+use Rattle.usb_request.specs.Codes.{DEVICE}
 use Rattle.usb_descriptor.specs.declared.fault.DescriptorFault.TheVariants.{Short, WrongType, Length, MaxPacket}
 use Rattle.usb_descriptor.specs.Device.{device_head_of, is_max_packet}
 use Rattle.usb_device.specs.Spec.{Spec}
@@ -15,12 +17,12 @@ use Rattle.usb_world.proofs.Interface.{each_wider}
 use Rattle.usb_transaction.specs.declared.target.Target.{Target}
 use Rattle.usb_pipe.specs.declared.fault.PipeFault.{PipeFault}
 use Rattle.usb_pipe.specs.Leaves.{IsMaximum}
-use Rattle.usb_hub.specs.Asked.{device_given, HasText, DeviceAsked}
+use Rattle.usb_hub.specs.GivenAnswers.{device_given, HasText, DeviceAsked}
 use Rattle.usb_hub.specs.Addresses.{KeepsAnswered}
 use Rattle.usb_hub.specs.Requests.{EndsAfter}
 use Rattle.usb_enum.specs.declared.cause.Cause.{Cause}
-use Rattle.usb_enum.specs.Learned.{Learned}
-use Rattle.usb_enum.specs.Present.{AnswersSo, HasHead, HasDescriptor}
+use Rattle.usb_enum.specs.LearnedFacts.{Learned}
+use Rattle.usb_enum.specs.PresentDevices.{AnswersSo, HasHead, HasDescriptor}
 use Rattle.usb_enum.specs.Readings.{AtMaximum}
 use Rattle.usb_enum.specs.Stop.{answered_or}
 use Rattle.usb_enum.proofs.Hubs.{answered_ok}
@@ -29,8 +31,8 @@ use Rattle.usb_enum.proofs.Targets.{head_maximum}
 
 module _ (So : Spec → Type 0) (t : Target) (n : ℕ) (bytes : Vec ℕ)
     (so : (s : State) → s.spec.silent ≡ false → s.spec.busy ≡ false → s.spec.stalls.device ≡ false → (IsMaximum t n s → bytes.items ≡ take n s.spec.descriptor) → So s.spec) where
-  device_learned : (j : ℕ) (p : List ℕ) (s v : State) → DeviceAsked t n (Ok bytes) j p s v → Learned So t j p s v
-  device_learned j p s v x = record {
+  device_learned : (j : Spot) (s v : State) → DeviceAsked t n (Ok bytes) j s v → Learned So t j s v
+  device_learned j s v x = record {
     frame = x.frame;
     so = λ at.
         let text : HasText (device_given s.spec) t n s bytes.items = x.done at bytes refl in
@@ -76,7 +78,7 @@ head_value false false false false n max e = cc
 head_names : (low : Bool) (bytes : List ℕ) (max : ℕ) → device_head_of low bytes ≡ Ok max → slice_index bytes 7 ≡ max
 unfolding device_head_of
 head_names low bytes max e =
-    head_value (nat_lt (length bytes) 8) (not (slice_index bytes 1 == 1)) (not (slice_index bytes 0 == 18)) (not (is_max_packet low (slice_index bytes 7))) (slice_index bytes 7) max e
+    head_value (nat_lt (length bytes) 8) (not (slice_index bytes 1 == DEVICE)) (not (slice_index bytes 0 == 18)) (not (is_max_packet low (slice_index bytes 7))) (slice_index bytes 7) max e
 
 full_maximum : (m : ℕ) (large : Bool) → (m == 16 || m == 32 || m == 64) ≡ large → is_max_packet false m ≡ true → (if large then m else 8) ≡ m
 full_maximum m true e h = refl

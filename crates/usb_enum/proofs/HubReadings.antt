@@ -6,32 +6,33 @@ use Rattle.std.proofs.lemmas.Option.{same_Some}
 use Rattle.std.specs.Prelude.{slice_index, nat_lt, length}
 use Rattle.std.specs.Option.{IfSome}
 use Rattle.std.specs.Global.{Vec}
+use Rattle.usb_request.specs.Codes.{HUB_CLASS}
 use Rattle.usb_resources.specs.Power.{supply_of}
 use Rattle.usb_descriptor.specs.Choice.{status_endpoint_of}
-use Rattle.usb_descriptor.specs.Hub.{hub_of, port_count}
+use Rattle.usb_descriptor.specs.Hub.{hub_spelled, port_count}
 use Rattle.usb_device.specs.Spec.{Spec, Hub, IsHub, IsSpec, agrees, hub_fits, has_hub_class}
 use Rattle.usb_world.specs.Devices.{EachWas}
 use Rattle.usb_world.specs.World.{World}
 use Rattle.usb_transaction.specs.declared.target.Target.{Target}
-use Rattle.usb_bus.specs.Traced.{WentOn}
+use Rattle.usb_bus.specs.Traces.{WentOn}
 use Rattle.usb_pipe.specs.declared.fault.PipeFault.{PipeFault}
 use Rattle.usb_hub.specs.declared.status.DeviceStatus.{DeviceStatus}
 use Rattle.usb_hub.specs.Addresses.{KeepsDevices}
-use Rattle.usb_hub.specs.Asked.{hub_given, status_given, HubAsked, StatusAsked}
+use Rattle.usb_hub.specs.GivenAnswers.{hub_given, status_given, HubAsked, StatusAsked}
 use Rattle.usb_enum.specs.declared.cause.Cause.{Cause}
-use Rattle.usb_enum.specs.Described.{gives_hub, facts_of}
-use Rattle.usb_enum.specs.Device.{is_hub}
-use Rattle.usb_enum.specs.Learned.{Learns}
+use Rattle.usb_enum.specs.Verdicts.{gives_hub, facts_of}
+use Rattle.usb_enum.specs.Device.{is_hub_device}
+use Rattle.usb_enum.specs.LearnedFacts.{Learns}
 use Rattle.usb_enum.specs.Readings.{AtMaximum, Ruled, HasPorts, HasSupply, IsGoodHub}
 use Rattle.usb_enum.specs.Stop.{answered_or}
 use Rattle.usb_enum.proofs.Hubs.{answered_ok}
 use Rattle.usb_enum.proofs.Readings.{given_allows, answer_learned, text_learned, learns_on, learns_kept}
 
-pub ports_learned : (t : Target) (stalled : Cause) (outcome : Result (Vec ℕ) PipeFault) (bytes : Vec ℕ) (hub : List ℕ) (old new : World) → answered_or stalled outcome ≡ Ok bytes → Ok hub ≡ hub_of bytes.items → hub ≡ bytes.items
+pub ports_learned : (t : Target) (stalled : Cause) (outcome : Result (Vec ℕ) PipeFault) (bytes : Vec ℕ) (hub : List ℕ) (old new : World) → answered_or stalled outcome ≡ Ok bytes → Ok hub ≡ hub_spelled bytes.items → hub ≡ bytes.items
     → (new.shared ≡ false → EachWas (HubAsked t outcome) old new) → Learns (AtMaximum t (HasPorts (port_count hub))) t old new
 ports_learned t stalled outcome bytes hub old new answered good same =
     text_learned hub_given (HasPorts (port_count hub)) t 9 outcome bytes old new (answered_ok stalled outcome bytes answered)
-    (λ spec text given first. record { text = text; given = given; good = ap hub_of (sym first) ∙ sym good ∙ ap Ok (same ∙ first); said = ap port_count (same ∙ first) })
+    (λ spec text given first. record { text = text; given = given; good = ap hub_spelled (sym first) ∙ sym good ∙ ap Ok (same ∙ first); said = ap port_count (same ∙ first) })
 
 pub supply_learned : (t : Target) (stalled : Cause) (outcome : Result DeviceStatus PipeFault) (status : DeviceStatus) (old new : World) → answered_or stalled outcome ≡ Ok status
     → (new.shared ≡ false → EachWas (StatusAsked t outcome) old new) → Learns (HasSupply (supply_of false status.self_powered)) t old new
@@ -58,19 +59,19 @@ was_given spec text given =
     let found = hub_found spec.hub text allowed.1 in
     record { hub = found.0; is = found.1; descriptor = found.2; allowed = allowed.0 }
 
-hub_gives : (spec : Spec) (text : List ℕ) → Given spec text → spec.stalls.status ≡ false → hub_of (take 9 text) ≡ Ok (take 9 text) → gives_hub spec spec.hub ≡ true
+hub_gives : (spec : Spec) (text : List ℕ) → Given spec text → spec.stalls.status ≡ false → hub_spelled (take 9 text) ≡ Ok (take 9 text) → gives_hub spec spec.hub ≡ true
 hub_gives spec text g status good = rw (g.is, g.allowed, status, g.descriptor, good) refl
 
-ports_agree : (ports : ℕ) (text : List ℕ) → hub_of (take 9 text) ≡ Ok (take 9 text) → agrees ports text ≡ true → port_count (take 9 text) ≡ ports
+ports_agree : (ports : ℕ) (text : List ℕ) → hub_spelled (take 9 text) ≡ Ok (take 9 text) → agrees ports text ≡ true → port_count (take 9 text) ≡ ports
 ports_agree ports text good agree = same (port_count (take 9 text)) ports (rw (agrees, good) at agree)
   where
     same : (m n : ℕ) → (m == n) ≡ true → m ≡ n
     same m n h = grind (arith, nat_tests, h)
 
-hub_class : (spec : Spec) (hub : Hub) → spec.hub ≡ Some hub → hub_fits spec.low spec.descriptor spec.hub ≡ true → is_hub spec.descriptor ≡ true
+hub_class : (spec : Spec) (hub : Hub) → spec.hub ≡ Some hub → hub_fits spec.low spec.descriptor spec.hub ≡ true → is_hub_device spec.descriptor ≡ true
 hub_class spec hub is fits =
     let class = (and_parts (not spec.low) (has_hub_class spec.descriptor) (rw is at fits)).1 in
-    (and_parts (nat_lt 4 (length spec.descriptor)) (slice_index spec.descriptor 4 == 9) class).1
+    (and_parts (nat_lt 4 (length spec.descriptor)) (slice_index spec.descriptor 4 == HUB_CLASS) class).1
 
 -- it has as many ports as its descriptor says
 pub record HadPorts (ports : ℕ) (spec : Spec) : Type 0 where
@@ -88,7 +89,7 @@ had_ports ports spec p ruled =
       count = p.said ∙ ports_agree g.hub.ports p.text p.good (subst (λ x. agrees g.hub.ports x ≡ true) g.descriptor hub.agree);
     }
 
-facts_are : (spec : Spec) (hub : Hub) (ports supply : ℕ) → spec.hub ≡ Some hub → is_hub spec.descriptor ≡ true → ports ≡ hub.ports → supply ≡ supply_of false spec.self_powered
+facts_are : (spec : Spec) (hub : Hub) (ports supply : ℕ) → spec.hub ≡ Some hub → is_hub_device spec.descriptor ≡ true → ports ≡ hub.ports → supply ≡ supply_of false spec.self_powered
     → facts_of spec ≡ Some (record { ports = ports; supply = supply })
 facts_are spec hub ports supply is class count said = rw (class, is, count, said) refl
 

@@ -3,7 +3,7 @@ use Rattle.std.proofs.Common.{◌≡◌, ◌≤◌, ℕ, ◌&&◌, not, Bool, tr
 use Rattle.std.proofs.lemmas.Option.{same_Some}
 use Rattle.std.specs.Global.{Vec}
 use Rattle.usb_descriptor.specs.declared.fault.DescriptorFault.{DescriptorFault}
-use Rattle.usb_descriptor.specs.Hub.{hub_of}
+use Rattle.usb_descriptor.specs.Hub.{hub_spelled}
 use Rattle.usb_device.specs.Spec.{Spec, Hub}
 use Rattle.usb_world.specs.Devices.{EachWas}
 use Rattle.usb_world.specs.World.{World}
@@ -11,13 +11,13 @@ use Rattle.usb_transaction.specs.declared.target.Target.{Target}
 use Rattle.usb_transaction.specs.Failures.{NoThreeDamaged}
 use Rattle.usb_pipe.specs.declared.fault.PipeFault.{PipeFault}
 use Rattle.usb_hub.specs.declared.status.DeviceStatus.{DeviceStatus}
-use Rattle.usb_hub.specs.Asked.{unless_refused, hub_given, status_given, HasText, HubAsked, StatusAsked, WhyAsked}
+use Rattle.usb_hub.specs.GivenAnswers.{unless_refused, hub_given, status_given, HasText, HubAsked, StatusAsked, WhyAsked}
 use Rattle.usb_enum.specs.declared.cause.Cause.{Cause}
 use Rattle.usb_enum.specs.declared.cause.Cause.TheVariants.{BadHub}
 use Rattle.usb_enum.specs.declared.stop.Stop.{Stop}
 use Rattle.usb_enum.specs.declared.stop.Stop.TheVariants.{Refused}
-use Rattle.usb_enum.specs.Described.{gives_hub}
-use Rattle.usb_enum.specs.Learned.{Explains}
+use Rattle.usb_enum.specs.Verdicts.{gives_hub}
+use Rattle.usb_enum.specs.LearnedFacts.{Explains}
 use Rattle.usb_enum.specs.Readings.{AtMaximum}
 use Rattle.usb_enum.specs.Refusals.{Refuses, hub_fault}
 use Rattle.usb_enum.specs.Stop.{answered_or}
@@ -45,18 +45,18 @@ refused_by false given none = absurd cc
 -- it does not give its descriptor
 hub_ungiven : (spec : Spec) (o : Option Hub) → unless_refused spec.stalls.hub (option_map (λ (hub : Hub). hub.descriptor) o) ≡ None → gives_hub spec o ≡ false
 hub_ungiven spec None none = refl
-hub_ungiven spec (Some hub) none = not_all (not spec.stalls.hub) (not spec.stalls.status) (is_ok (hub_of (take 9 hub.descriptor))) (refused_by spec.stalls.hub hub.descriptor none)
+hub_ungiven spec (Some hub) none = not_all (not spec.stalls.hub) (not spec.stalls.status) (is_ok (hub_spelled (take 9 hub.descriptor))) (refused_by spec.stalls.hub hub.descriptor none)
 
 -- its descriptor is malformed
-hub_malformed : (spec : Spec) (o : Option Hub) (text : List ℕ) → option_map (λ (hub : Hub). hub.descriptor) o ≡ Some text → is_ok (hub_of (take 9 text)) ≡ false → gives_hub spec o ≡ false
+hub_malformed : (spec : Spec) (o : Option Hub) (text : List ℕ) → option_map (λ (hub : Hub). hub.descriptor) o ≡ Some text → is_ok (hub_spelled (take 9 text)) ≡ false → gives_hub spec o ≡ false
 hub_malformed spec None text is bad = refl
 hub_malformed spec (Some hub) text is bad =
-    not_third (not spec.stalls.hub) (not spec.stalls.status) (is_ok (hub_of (take 9 hub.descriptor))) (ap (λ x. is_ok (hub_of (take 9 x))) (same_Some hub.descriptor text is) ∙ bad)
+    not_third (not spec.stalls.hub) (not spec.stalls.status) (is_ok (hub_spelled (take 9 hub.descriptor))) (ap (λ x. is_ok (hub_spelled (take 9 x))) (same_Some hub.descriptor text is) ∙ bad)
 
 -- it does not give its status
 status_ungiven : (spec : Spec) (o : Option Hub) → not spec.stalls.status ≡ false → gives_hub spec o ≡ false
 status_ungiven spec None h = refl
-status_ungiven spec (Some hub) h = not_second (not spec.stalls.hub) (not spec.stalls.status) (is_ok (hub_of (take 9 hub.descriptor))) h
+status_ungiven spec (Some hub) h = not_second (not spec.stalls.hub) (not spec.stalls.status) (is_ok (hub_spelled (take 9 hub.descriptor))) h
 
 bad_hub : (spec : Spec) → gives_hub spec spec.hub ≡ false → hub_fault spec ≡ Some BadHub
 bad_hub spec bad = ap (λ b. if b then None else Some BadHub) bad
@@ -67,13 +67,13 @@ count_unanswered t outcome stop old new is least what why =
     request_refused hub_given (λ s bytes. HasText (hub_given s.spec) t 9 s bytes.items) t 9 outcome old new what least why
     hub_fault BadHub stop is (λ spec none. bad_hub spec (hub_ungiven spec spec.hub none))
 
-pub count_refused : (t : Target) (stalled : Cause) (outcome : Result (Vec ℕ) PipeFault) (bytes : Vec ℕ) (fault : DescriptorFault) (old new : World) → answered_or stalled outcome ≡ Ok bytes → hub_of bytes.items ≡ Err fault
+pub count_refused : (t : Target) (stalled : Cause) (outcome : Result (Vec ℕ) PipeFault) (bytes : Vec ℕ) (fault : DescriptorFault) (old new : World) → answered_or stalled outcome ≡ Ok bytes → hub_spelled bytes.items ≡ Err fault
     → (new.shared ≡ false → EachWas (HubAsked t outcome) old new) → Explains (Refuses t hub_fault (Refused BadHub)) t old new
 count_refused t stalled outcome bytes fault old new answered bad what =
     learned_explains (AtMaximum t (λ spec. hub_fault spec ≡ Some BadHub)) (Refuses t hub_fault (Refused BadHub)) t old new (λ spec x r. x r.max)
     (text_learned hub_given (λ spec. hub_fault spec ≡ Some BadHub) t 9 outcome bytes old new (answered_ok stalled outcome bytes answered)
     (λ spec text given first.
-    bad_hub spec (hub_malformed spec spec.hub text (given_allows spec.stalls.hub (option_map (λ (hub : Hub). hub.descriptor) spec.hub) text given).1 (ap is_ok (ap hub_of (sym first) ∙ bad))))
+    bad_hub spec (hub_malformed spec spec.hub text (given_allows spec.stalls.hub (option_map (λ (hub : Hub). hub.descriptor) spec.hub) text given).1 (ap is_ok (ap hub_spelled (sym first) ∙ bad))))
     what)
 
 pub supply_unanswered : (t : Target) (outcome : Result DeviceStatus PipeFault) (stop : Stop) (old new : World) → answered_or BadHub outcome ≡ Err stop → 8 ≤ t.max → (new.shared ≡ false → EachWas (StatusAsked t outcome) old new)

@@ -7,16 +7,16 @@ use Rattle.usb_pipe.specs.declared.fault.PipeFault.{PipeFault}
 use Rattle.std.specs.Global.{Vec}
 use Rattle.usb_request.specs.Requests.{get_hub_descriptor}
 use Rattle.usb_hub.specs.Requests.{AskedData}
-use Rattle.usb_descriptor.specs.Hub.{hub_of, port_count}
+use Rattle.usb_descriptor.specs.Hub.{hub_spelled, port_count}
 use Rattle.usb_resources.specs.Power.{supply_of}
 use Rattle.usb_enum.specs.declared.cause.Cause.{Cause}
 use Rattle.usb_enum.specs.declared.cause.Cause.TheVariants as cause
 use Rattle.usb_enum.specs.declared.stop.Stop.{Stop}
 use Rattle.usb_enum.specs.declared.stop.Stop.TheVariants.{Refused, Fault}
-use Rattle.usb_enum.specs.Device.{is_hub, fits_tier}
+use Rattle.usb_enum.specs.Device.{is_hub_device, fits_tier}
 use Rattle.usb_enum.specs.Hub.{CountTold, IsPowered, Powered}
 use Rattle.usb_enum.specs.Stop.{ToldOfHub, ToldOfDevice, answered_or}
-use Rattle.usb_enum.proofs.Told.{plain_fits}
+use Rattle.usb_enum.proofs.ToldFailures.{plain_fits}
 
 -- what a port of a hub gives
 pub hub_supply : (self_powered : Bool) → (supply_of false self_powered ≡ 500) ⊎ (supply_of false self_powered ≡ 100)
@@ -29,10 +29,10 @@ not_last_by true tier done is fits e = let last = rw e at fits in absurd cc
 not_last_by false tier done is fits e = absurd cc
 
 -- a hub that fits its tier is not in the last
-not_last : (tier : ℕ) (bytes : List ℕ) → is_hub bytes ≡ true → fits_tier tier bytes ≡ Ok tt → tier ≢ 7
-not_last tier bytes = not_last_by (is_hub bytes) tier tt
+not_last : (tier : ℕ) (bytes : List ℕ) → is_hub_device bytes ≡ true → fits_tier tier bytes ≡ Ok tt → tier ≢ 7
+not_last tier bytes = not_last_by (is_hub_device bytes) tier tt
 
-pub told_of_hub : (tier : ℕ) (bytes : List ℕ) (stop : Stop) (w : World) → fits_tier tier bytes ≡ Ok tt → is_hub bytes ≡ true → ToldOfHub stop w → ToldOfDevice tier stop w
+pub told_of_hub : (tier : ℕ) (bytes : List ℕ) (stop : Stop) (w : World) → fits_tier tier bytes ≡ Ok tt → is_hub_device bytes ≡ true → ToldOfHub stop w → ToldOfDevice tier stop w
 told_of_hub tier bytes (Refused why) w fits is (inl e) = rw e (not_last tier bytes is fits)
 told_of_hub tier bytes (Refused why) w fits is (inr plain) = plain_fits tier why plain
 told_of_hub tier bytes (Fault fault) w fits is told = told
@@ -43,7 +43,7 @@ answered_ok stalled (Ok given) answer is = cc
 answered_ok stalled (Err fault) answer is = absurd cc
 
 -- the descriptor that a hub told
-pub count_told : (hub : Target) (stalled : Cause) (outcome : Result (Vec ℕ) PipeFault) (bytes : Vec ℕ) (view : List ℕ) (old new : World) → answered_or stalled outcome ≡ Ok bytes → AskedData hub get_hub_descriptor old outcome new → Ok view ≡ hub_of bytes.items → view ≡ bytes.items → CountTold hub old new (port_count view)
+pub count_told : (hub : Target) (stalled : Cause) (outcome : Result (Vec ℕ) PipeFault) (bytes : Vec ℕ) (view : List ℕ) (old new : World) → answered_or stalled outcome ≡ Ok bytes → AskedData hub get_hub_descriptor old outcome new → Ok view ≡ hub_spelled bytes.items → view ≡ bytes.items → CountTold hub old new (port_count view)
 count_told hub stalled outcome bytes view old new answered asked good same = record {
   bytes = bytes;
   asked = rw (answered_ok stalled outcome bytes answered) at asked;

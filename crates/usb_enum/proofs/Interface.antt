@@ -1,13 +1,12 @@
 -- The lemmas that crates above cite. All others are for this crate alone.
-pub use Rattle.usb_enum.proofs.Chosen.{Accepts, HasChosen, accepts, chosen_bulk, chosen_some, has_chosen}
+pub use Rattle.usb_enum.proofs.ChosenConfigurations.{Accepts, HasChosen, accepts, chosen_bulk, chosen_some, has_chosen}
 pub use Rattle.usb_enum.proofs.Courses.{opening_in_order, orderly_on, regular_order, traced_in_order, went_course, went_in_order, went_sound}
 pub use Rattle.usb_enum.proofs.Damages.{went_three}
 pub use Rattle.usb_enum.proofs.Frames.{ended}
 pub use Rattle.usb_enum.proofs.Losses.{course_later, few_before, step_later}
-pub use Rattle.usb_enum.proofs.Reaching.{disabled_known, pends_there, some_of}
+pub use Rattle.usb_enum.proofs.ReachedDevices.{disabled_known, pends_there, some_of}
 pub use Rattle.usb_enum.proofs.Readings.{devices_then}
 pub use Rattle.usb_enum.proofs.Refusals.{each_joint}
-pub use Rattle.usb_enum.proofs.Stretches.{faulted, limited}
 pub use Rattle.usb_enum.proofs.Targets.{device_fits, enumeration_most, order_most, status_most}
 pub use Rattle.usb_enum.proofs.Truths.{ruled_there}
 pub use Rattle.usb_enum.proofs.VerdictExamples.{examples, small, two_ports}

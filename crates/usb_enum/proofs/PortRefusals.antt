@@ -1,18 +1,19 @@
 -- A hub is not refused for the ports that it has.
 use Rattle.std.proofs.Common.{◌≡◌, ◌≤◌, ◌+◌, inr, ℕ, ◌==◌, ◌&&◌, ◌||◌, not, Bool, true, false, List, if◌then◌else◌, Option, None, Some, Result, Err, refl, ap, sym, subst, ◌∙◌, arith}
 use Rattle.std.specs.Prelude.{unwrap_or, is_some, ⊤}
+use Rattle.usb_request.specs.Features.{PORT_POWER}
 use Rattle.usb_port.specs.Path.{IsPortNumber}
 use Rattle.usb_descriptor.specs.Choice.{status_endpoint_of}
 use Rattle.usb_device.specs.Spec.{Spec, IsSpec}
 use Rattle.usb_device.specs.Rows.{State}
 use Rattle.usb_device.specs.declared.request.Registers.{Registers}
-use Rattle.usb_device.specs.Tree.{reach_at, state_at}
+use Rattle.usb_device.specs.Tree.{Spot, reach_on, state_on}
 use Rattle.usb_world.specs.Devices.{Was}
 use Rattle.usb_world.specs.Passes.{deep_at}
 use Rattle.usb_world.specs.World.{World}
 use Rattle.usb_world.proofs.Interface.{each_wider}
 use Rattle.usb_transaction.specs.declared.target.Target.{Target}
-use Rattle.usb_bus.specs.Traced.{WentOn}
+use Rattle.usb_bus.specs.Traces.{WentOn}
 use Rattle.usb_bus.proofs.Interface.{went_then}
 use Rattle.usb_request.specs.Requests.{set_port_feature}
 use Rattle.usb_pipe.specs.declared.fault.PipeFault.{PipeFault}
@@ -20,14 +21,14 @@ use Rattle.usb_pipe.specs.declared.fault.PipeFault.TheVariants as pipe
 use Rattle.usb_hub.specs.declared.port.HubPort.TheVariants.{External}
 use Rattle.usb_hub.specs.Addresses.{StaysAs, KeepsDevices}
 use Rattle.usb_hub.specs.Requests.{Ordered}
-use Rattle.usb_hub.specs.Why.{HasPort, Serves, NoHubFailed}
+use Rattle.usb_hub.specs.CallFailures.{HasPort, Serves, NoHubFailed}
 use Rattle.usb_hub.proofs.Interface.{hub_sets, stays-registers, stays-spec}
 use Rattle.usb_enum.specs.declared.cause.Cause.{Cause}
 use Rattle.usb_enum.specs.declared.cause.Cause.TheVariants.{BadHub}
 use Rattle.usb_enum.specs.declared.stop.Stop.{Stop}
 use Rattle.usb_enum.specs.declared.stop.Stop.TheVariants.{Refused, Fault}
-use Rattle.usb_enum.specs.Described.{gives_hub}
-use Rattle.usb_enum.specs.Learned.{Learned, Learns, HearsSet, Explains, ExplainsSet}
+use Rattle.usb_enum.specs.Verdicts.{gives_hub}
+use Rattle.usb_enum.specs.LearnedFacts.{Learned, Learns, HearsSet, Explains, ExplainsSet}
 use Rattle.usb_enum.specs.Readings.{AtMaximum, HasPorts}
 use Rattle.usb_enum.specs.Refusals.{IsResponsive, IsRefusedFor, Refuses, RefusesNoPort, no_fault, hub_fault, start_fault}
 use Rattle.usb_enum.specs.Stop.{stop_of, answered_or}
@@ -45,18 +46,17 @@ served_stop spec (pipe.Bus fault) served = tt
 served_stop spec pipe.Memory served = tt
 
 -- a responsive hub that stays as it was serves its port
-serves_port : (t : Target) (port : ℕ) (new : World) (j : ℕ) (p : List ℕ) (s v : State) → v.spec ≡ s.spec → v.registers ≡ s.registers → reach_at new.roots j p ≡ true → state_at new.roots j p ≡ Some v
-    → HearsSet t p s → IsResponsive t s.spec → HasPort s.spec port → Serves t port new
-serves_port t port new j p s v spec registers on there h r has = record {
-  j = j;
-  p = p;
+serves_port : (t : Target) (port : ℕ) (new : World) (j : Spot) (s v : State) → v.spec ≡ s.spec → v.registers ≡ s.registers → reach_on new.roots j ≡ true → state_on new.roots j ≡ Some v
+    → HearsSet t j s → IsResponsive t s.spec → HasPort s.spec port → Serves t port new
+serves_port t port new j s v spec registers on there h r has = record {
+  spot = j;
   state = v;
   on = on;
   stands = there;
   listens = record {
     at = ap (λ (g : Registers). g.address == t.addr) registers ∙ h.hears.at;
     loud = ap (λ (x : Spec). x.silent) spec ∙ r.loud;
-    hears = ap (λ (x : Spec). if t.low then x.low && (not (deep_at false p) || t.pre) else not x.low) spec ∙ h.hears.hears;
+    hears = ap (λ (x : Spec). if t.low then x.low && (not (deep_at false j.rest) || t.pre) else not x.low) spec ∙ h.hears.hears;
   };
   addressed = h.addressed;
   configured = λ z. h.configured (sym (ap (λ (g : Registers). g.configuration) registers) ∙ z);
@@ -64,10 +64,10 @@ serves_port t port new j p s v spec registers on there h r has = record {
 }
 
 -- it was given power
-pub power_explains : (t : Target) (port : ℕ) (outcome : Result (Unit {0}) PipeFault) (stop : Stop) (old new : World) → Ordered t (set_port_feature 8 port) old outcome new → answered_or BadHub outcome ≡ Err stop → KeepsDevices old new
+pub power_explains : (t : Target) (port : ℕ) (outcome : Result (Unit {0}) PipeFault) (stop : Stop) (old new : World) → Ordered t (set_port_feature PORT_POWER port) old outcome new → answered_or BadHub outcome ≡ Err stop → KeepsDevices old new
     → ExplainsSet (RefusesNoPort t port stop) t old new
-power_explains t port outcome stop old new ordered is keeps three single j p v on there =
-    let was : Was StaysAs old j p v = keeps.stays single j p v on there in
+power_explains t port outcome stop old new ordered is keeps three single j v on there =
+    let was : Was StaysAs old j v = keeps.stays single j v on there in
     let failed = answered_err BadHub outcome stop is in
     record {
       before = was.before;
@@ -77,8 +77,8 @@ power_explains t port outcome stop old new ordered is keeps three single j p v o
         spec = stays-spec was.before v was.so;
         address = ap (λ (g : Registers). g.address) (stays-registers was.before v was.so);
         so = λ h ruled r has.
-            let served : NoHubFailed outcome = (hub_sets (External t port) t port 8 old outcome new refl (inr refl) ordered).why t port refl three single
-            (serves_port t port new j p was.before v (stays-spec was.before v was.so) (stays-registers was.before v was.so) on there h r has) in
+            let served : NoHubFailed outcome = (hub_sets (External t port) t port PORT_POWER old outcome new refl refl ordered).why t port refl three single
+            (serves_port t port new j was.before v (stays-spec was.before v was.so) (stays-registers was.before v was.so) on there h r has) in
             subst (λ x. IsRefusedFor no_fault x was.before.spec) failed.2 (served_stop was.before.spec failed.0 (subst NoHubFailed failed.1 served));
       };
     }
@@ -87,7 +87,7 @@ power_explains t port outcome stop old new ordered is keeps three single j p v o
 
 -- where each device stays as it was, nothing more is learned
 learns_stays : (t : Target) (old new : World) → KeepsDevices old new → Learns (λ spec. ⊤) t old new
-learns_stays t old new keeps single = each_wider StaysAs (Learned (λ spec. ⊤) t) (λ j p s v x. record { frame = x; so = λ at. tt }) old new (keeps.stays single)
+learns_stays t old new keeps single = each_wider StaysAs (Learned (λ spec. ⊤) t) (λ j s v x. record { frame = x; so = λ at. tt }) old new (keeps.stays single)
 
 has_earlier : (spec : Spec) (m n : ℕ) → 1 ≤ m → m ≤ n → HasPort spec n → HasPort spec m
 has_earlier spec m n least fewer h = record { hub = h.hub; is = h.is; least = least; most = omega (arith, fewer, h.most); idle = h.idle; ruled = h.ruled }

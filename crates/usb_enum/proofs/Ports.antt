@@ -2,18 +2,20 @@
 use Rattle.std.proofs.Common.{◌≡◌, refl, sym, subst, arith}
 use Rattle.std.specs.Prelude.{◌-◌, List, Result, Ok, Err, false, slice_index_or}
 use Rattle.std.proofs.Common.{get_or-set_same}
-use Rattle.usb_port.specs.PortState.{PortState, off, clear_row}
+use Rattle.usb_port.specs.PortState.{PortState, off}
+use Rattle.usb_port.specs.Calls.{clear_call}
+use Rattle.usb_request.specs.Features.{PORT_ENABLE}
 use Rattle.usb_world.specs.World.{World, root_row, root_port_at}
 use Rattle.usb_pipe.specs.declared.fault.PipeFault.{PipeFault}
 use Rattle.usb_hub.specs.declared.port.HubPort.{HubPort}
 use Rattle.usb_hub.specs.declared.port.HubPort.TheVariants.{Root, External}
 use Rattle.usb_hub.specs.Port.{IsPort, PortCleared}
-use Rattle.usb_enum.specs.Found.{IsDisabled}
+use Rattle.usb_enum.specs.Findings.{IsDisabled}
 use Rattle.usb_enum.specs.Stop.{at_port}
 
 -- where the call worked
-pub disabled : (port : HubPort) (old new : World) (result : Result (Unit {0}) PipeFault) (done : Unit {0}) → at_port result ≡ Ok done → IsPort old port → PortCleared port 1 old result new → IsDisabled port new
-unfolding clear_row root_port_at
+pub disabled : (port : HubPort) (old new : World) (result : Result (Unit {0}) PipeFault) (done : Unit {0}) → at_port result ≡ Ok done → IsPort old port → PortCleared port PORT_ENABLE old result new → IsDisabled port new
+unfolding root_port_at
 disabled (Root number) old new result done worked is cleared =
     let P : List PortState → Type 0 = λ row. (slice_index_or row (number - 1) off).enable ≡ false in
     let Q : PortState → Type 0 = λ p. p.enable ≡ false in

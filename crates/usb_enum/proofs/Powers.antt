@@ -3,16 +3,18 @@ use Rattle.std.proofs.Common.{◌≡◌, ◌≤◌, ◌<◌, ◌-◌, ◌==◌, 
 use Rattle.std.proofs.lemmas.Bool.Decides.{nat_tests}
 use Rattle.std.proofs.lemmas.Option.{same_Some}
 use Rattle.std.specs.Global.{Vec}
+use Rattle.usb_request.specs.Features.{PORT_POWER}
+use Rattle.usb_request.specs.Codes.{SET_ADDRESS, DEVICE_OUT}
 use Rattle.usb_port.specs.PortState.{PortState, powered_off}
 use Rattle.usb_request.specs.Requests.{set_port_feature, set_configuration, get_hub_descriptor, get_status}
 use Rattle.usb_request.specs.declared.setup.Setup.{Setup}
-use Rattle.usb_device.specs.declared.calls.PortCall.TheVariants.{SetPower}
-use Rattle.usb_device.specs.Calls.{set_call}
+use Rattle.usb_port.specs.declared.call.PortCall.TheVariants.{SetPower}
+use Rattle.usb_port.specs.Calls.{set_call}
 use Rattle.usb_device.specs.declared.request.Registers.{Registers}
 use Rattle.usb_device.specs.Request.{Is, port_named}
 use Rattle.usb_device.specs.Rows.{State}
 use Rattle.usb_device.specs.Spec.{Hub}
-use Rattle.usb_device.specs.Tree.{Ports, ended, vacant, taken, port_of, all_off, place_at, state_at}
+use Rattle.usb_device.specs.Tree.{Ports, ended, vacant, taken, port_of, all_off, place_at, Spot, path_to, state_on}
 use Rattle.usb_device.specs.View.{port_there, state_there}
 use Rattle.usb_world.specs.Courses.{is_harmless}
 use Rattle.usb_world.specs.Devices.{Was, EachWas}
@@ -23,25 +25,25 @@ use Rattle.usb_world.specs.RestingPorts.{AsksNothingOf, RestsOrPends}
 use Rattle.usb_world.specs.Steps.{AnyStep, Course, step}
 use Rattle.usb_world.specs.World.{World}
 use Rattle.usb_world.proofs.Interface.{and_false, course_joined, course_wider, equal_same, no, pending_persists, ports_stand, rests_or_pends}
-use Rattle.usb_bus.specs.Traced.{WentOn}
+use Rattle.usb_bus.specs.Traces.{WentOn}
 use Rattle.usb_transaction.specs.declared.target.Target.{Target}
 use Rattle.usb_transaction.specs.Answerer.{Answerer}
 use Rattle.usb_transaction.specs.Leaves.{is_at}
 use Rattle.usb_pipe.specs.declared.fault.PipeFault.{PipeFault}
 use Rattle.usb_pipe.proofs.Interface.{who_writes}
 use Rattle.usb_address.specs.Claims.{Claims}
-use Rattle.usb_address.specs.Owned.{Owned, TillFault, KeepsAddresses}
+use Rattle.usb_address.specs.Ownership.{Owned, TillFault, KeepsAddresses}
 use Rattle.usb_address.proofs.Interface.{Follows, NoPower, below_of, claimed_path, quiet_follows, read_keeps, same_setup, stays_unpowered}
 use Rattle.usb_hub.specs.Moments.{PortDone}
 use Rattle.usb_hub.specs.Requests.{AllRest, AskedData, Ordered}
 use Rattle.usb_hub.specs.Settings.{ConfigurationAsked, WentOff}
 use Rattle.usb_hub.proofs.Interface.{AsksFor, hub_done, hub_named, hub_rests, none_of, place_below, port_of_place, powered_stands, set_asks, set_keeps}
 use Rattle.usb_enum.specs.declared.hub.HubFacts.{HubFacts}
-use Rattle.usb_enum.specs.Found.{EmptiesPorts}
+use Rattle.usb_enum.specs.Findings.{EmptiesPorts}
 use Rattle.usb_enum.specs.Frames.{OnlyAsks}
 use Rattle.usb_enum.specs.Hub.{IsPowered, Powered, Started}
 use Rattle.usb_enum.specs.Places.{IsKnownAs, HasEmptyPorts}
-use Rattle.usb_enum.specs.Present.{IsInOrder, IsOrderly}
+use Rattle.usb_enum.specs.PresentDevices.{IsInOrder, IsOrderly}
 use Rattle.usb_enum.proofs.Courses.{orderly_on, went_in_order}
 use Rattle.usb_enum.proofs.Frames.{ended as sound_end}
 
@@ -83,13 +85,13 @@ all_off_power (vacant c k) (suc i) b h = all_off_power k i b h
 all_off_power (taken c s a k) zero b h = ap (λ o. o.power) (sym (same_Some (powered_off c) b h))
 all_off_power (taken c s a k) (suc i) b h = all_off_power k i b h
 
-pub off_unpowered : (new : World) (j : ℕ) (e : List ℕ) → WentOff new j e → (i : ℕ) → NoPower (port_there new.roots (suc j ∷ (e ++ (suc i ∷ []))))
-off_unpowered new j e off i = stays_unpowered (suc j ∷ (e ++ (suc i ∷ []))) (course_wider (λ s w k. k.leaves) (off.since (suc j ∷ (e ++ (suc i ∷ []))))) then_off
+pub off_unpowered : (new : World) (j : Spot) → WentOff new j → (i : ℕ) → NoPower (port_there new.roots (path_to j ++ (suc i ∷ [])))
+off_unpowered new j off i = stays_unpowered (path_to j ++ (suc i ∷ [])) (course_wider (λ s w k. k.leaves) (off.since (path_to j ++ (suc i ∷ [])))) then_off
   where
-    then_off : NoPower (port_there off.now.roots (suc j ∷ (e ++ (suc i ∷ []))))
+    then_off : NoPower (port_there off.now.roots (path_to j ++ (suc i ∷ [])))
     then_off =
         subst NoPower
-        (sym (port_of_place off.now.roots (suc j ∷ (e ++ (suc i ∷ []))) ∙ ap (option_map port_of) (place_below off.now.roots j e i [] ∙ ap (λ o. place_at (below_of o) i []) off.off)))
+        (sym (port_of_place off.now.roots (path_to j ++ (suc i ∷ [])) ∙ ap (option_map port_of) (place_below off.now.roots j.row j.rest i [] ∙ ap (λ o. place_at (below_of o) i []) off.off)))
         (all_off_power off.ports i)
 
 -- A port that the hub has stands there
@@ -125,9 +127,9 @@ vacant_on p {old} {new} c (inr x) = pick (rests_or_pends p c x.0)
 done_course : {p : List ℕ} {old new : World} → PortDone p SetPower old new → Course AnyStep old new
 done_course {p} x = course_joined (course_wider (λ s w k. tt) x.repeats) (step x.last tt (course_wider (λ s w k. tt) (x.since p)))
 
-module _ (t : Target) (f : Claims) (j : ℕ) (e : List ℕ) (held : f (suc j ∷ e) ≡ Some t.addr) where
+module _ (t : Target) (f : Claims) (j : Spot) (held : f (path_to j) ≡ Some t.addr) where
   abbrev port : ℕ → List ℕ
-  port i = suc j ∷ (e ++ (suc i ∷ []))
+  port i = path_to j ++ (suc i ∷ [])
 
   -- the first so many ports were given power, and the others have none
   pub record Given (n : ℕ) (w : World) : Type 0 where
@@ -138,33 +140,32 @@ module _ (t : Target) (f : Claims) (j : ℕ) (e : List ℕ) (held : f (suc j ∷
     pub off : (i : ℕ) → n ≤ i → NoPower (port_there w.roots (port i))
 
   module _ (n : ℕ) (old new : World) (ordered : IsPowered t (suc n) old new) (was : Given n old) where
-    asked : AsksFor (set_port_feature 8 (suc n)) SetPower (suc n)
-    unfolding set_call
-    asked = set_asks (suc n) SetPower 8 (inr refl) refl
+    asked : AsksFor (set_port_feature PORT_POWER (suc n)) SetPower (suc n)
+    asked = set_asks (suc n) SetPower PORT_POWER refl refl
 
-    follows : Follows t (set_port_feature 8 (suc n)) (suc j ∷ e) (Owned f)
-    follows = quiet_follows t (set_port_feature 8 (suc n)) asked.same f (suc j ∷ e) (asked.harmless refl) held
+    follows : Follows t (set_port_feature PORT_POWER (suc n)) (path_to j) (Owned f)
+    follows = quiet_follows t (set_port_feature PORT_POWER (suc n)) asked.same f (path_to j) (asked.harmless refl) held
 
     owned : Owned f new
-    owned = ((set_keeps t 8 (suc n) old (Ok tt) new (λ h. absurd cc) ordered).kept f (record { so = λ h. was.owned; single = was.owned.single })).so ordered.ends.still
+    owned = ((set_keeps t PORT_POWER (suc n) old (Ok tt) new (λ h. absurd cc) ordered).kept f (record { so = λ h. was.owned; single = was.owned.single })).so ordered.ends.still
 
     done : PortDone (port n) SetPower old new
-    done = hub_done t j e n (set_port_feature 8 (suc n)) SetPower asked (Owned f) follows old new ordered was.owned owned (λ h. no (sym h ∙ asked.harmless refl))
+    done = hub_done t j n (set_port_feature PORT_POWER (suc n)) SetPower asked (Owned f) follows old new ordered was.owned owned (λ h. no (sym h ∙ asked.harmless refl))
 
-    has : (s : State) × ((state_at old.roots j e ≡ Some s) × (port_named s.spec.hub s.registers (suc n) ≡ Some n))
-    has = hub_named t j e n (set_port_feature 8 (suc n)) SetPower asked (Owned f) follows old new ordered was.owned owned (λ h. no (sym h ∙ asked.harmless refl))
+    has : (s : State) × ((state_on old.roots j ≡ Some s) × (port_named s.spec.hub s.registers (suc n) ≡ Some n))
+    has = hub_named t j n (set_port_feature PORT_POWER (suc n)) SetPower asked (Owned f) follows old new ordered was.owned owned (λ h. no (sym h ∙ asked.harmless refl))
 
     stood : (b : PortState) × (port_there old.roots (port n) ≡ Some b)
     stood =
         there_is (port_there old.roots (port n))
-        (ports_stand was.order.1.plan was.order.1.is was.order.1.paths old was.order.1.course j e has.0.spec n (ap (option_map spec_of) has.1.0) (port_within has.0.spec.hub has.0.registers n has.1.1))
+        (ports_stand was.order.1.plan was.order.1.is was.order.1.paths old was.order.1.course j.row j.rest has.0.spec n (ap (option_map spec_of) has.1.0) (port_within has.0.spec.hub has.0.registers n has.1.1))
 
     now_powered : IsKnownAs new (port n) None
     now_powered = powered_stands (port n) old new done was.order.0 stood.0 stood.1 (was.off n (omega arith) stood.0 stood.1)
 
     rests : (i : ℕ) → same_number n i ≡ false → Course (AsksNothingOf (port i)) old new
     rests i apart =
-        hub_rests t j e n (set_port_feature 8 (suc n)) SetPower asked (Owned f) follows old (Ok tt) new tt ordered.stages was.owned (port i) (siblings (suc j ∷ e) n i apart)
+        hub_rests t j n (set_port_feature PORT_POWER (suc n)) SetPower asked (Owned f) follows old (Ok tt) new tt ordered.stages was.owned (port i) (siblings (path_to j) n i apart)
 
     one_more : Given (suc n) new
     one_more = record {
@@ -185,35 +186,35 @@ module _ (t : Target) (f : Claims) (j : ℕ) (e : List ℕ) (held : f (suc j ∷
 
 -- The reads of a hub's descriptor and status
 
-asked_keeps : (t : Target) (request : Setup) (old : World) (answer : Result (Vec ℕ) PipeFault) (new : World) → is_harmless request ≡ true → Is request 0x00 5 ≡ false → AskedData t request old answer new → KeepsAddresses old new
+asked_keeps : (t : Target) (request : Setup) (old : World) (answer : Result (Vec ℕ) PipeFault) (new : World) → is_harmless request ≡ true → Is request DEVICE_OUT SET_ADDRESS ≡ false → AskedData t request old answer new → KeepsAddresses old new
 asked_keeps t request old answer new harmless other asked = read_keeps t request (same_setup request) harmless other 3 1 old new answer asked.ends asked.stages
 
-module _ (t : Target) (f : Claims) (j : ℕ) (e : List ℕ) (held : f (suc j ∷ e) ≡ Some t.addr) where
-  asked_on : (request : Setup) (old : World) (answer : Result (Vec ℕ) PipeFault) (new : World) → is_harmless request ≡ true → Is request 0x00 5 ≡ false → new.fault ≡ None → AskedData t request old answer new → Given t f j e held 0 old → Given t f j e held 0 new
+module _ (t : Target) (f : Claims) (j : Spot) (held : f (path_to j) ≡ Some t.addr) where
+  asked_on : (request : Setup) (old : World) (answer : Result (Vec ℕ) PipeFault) (new : World) → is_harmless request ≡ true → Is request DEVICE_OUT SET_ADDRESS ≡ false → new.fault ≡ None → AskedData t request old answer new → Given t f j held 0 old → Given t f j held 0 new
   asked_on request old answer new harmless other none asked was = record {
     sound = none;
     owned = ((asked_keeps t request old answer new harmless other asked).kept f (record { so = λ h. was.owned; single = was.owned.single })).so none;
     order = orderly_on was.order (rests []);
     powered = λ i below. absurd (omega (arith, below));
-    off = λ i above. stays_unpowered (suc j ∷ (e ++ (suc i ∷ []))) (course_wider (λ s w k. k.leaves) (rests (suc j ∷ (e ++ (suc i ∷ []))))) (was.off i above);
+    off = λ i above. stays_unpowered (path_to j ++ (suc i ∷ [])) (course_wider (λ s w k. k.leaves) (rests (path_to j ++ (suc i ∷ [])))) (was.off i above);
   }
     where
       rests : AllRest old new
       rests = asked.rests (sound_end 3 answer old new asked.ends none)
 
-  started_given : (old new : World) (facts : HubFacts) → Started t old new facts → Given t f j e held 0 old → Given t f j e held facts.ports new
+  started_given : (old new : World) (facts : HubFacts) → Started t old new facts → Given t f j held 0 old → Given t f j held facts.ports new
   unfolding get_hub_descriptor get_status
   started_given old new facts s was =
       let counted = asked_on get_hub_descriptor old (Ok s.count.bytes) s.counted refl refl s.count.asked.ends.still s.count.asked was in
       let told = asked_on get_status s.counted s.supply.told.answer s.asked refl refl s.supply.told.ends.still s.supply.told.asked counted in
-      all_given t f j e held facts.ports s.asked new s.powered told
+      all_given t f j held facts.ports s.asked new s.powered told
 
   -- what is known in the end, also after the reading of strings
-  given_below : (started new : World) (facts : HubFacts) → Given t f j e held facts.ports started → new.fault ≡ None → OnlyAsks started new → (number : ℕ) → 1 ≤ number → number ≤ facts.ports
-      → IsKnownAs new ((suc j ∷ e) ++ (number ∷ [])) None
+  given_below : (started new : World) (facts : HubFacts) → Given t f j held facts.ports started → new.fault ≡ None → OnlyAsks started new → (number : ℕ) → 1 ≤ number → number ≤ facts.ports
+      → IsKnownAs new ((path_to j) ++ (number ∷ [])) None
   given_below started new facts given working asks zero least most = absurd (omega (arith, least))
   given_below started new facts given working asks (suc i) least most =
-      vacant_on (suc j ∷ (e ++ (suc i ∷ []))) (asks.ports working (suc j ∷ (e ++ (suc i ∷ [])))) (given.powered i (omega (arith, most)))
+      vacant_on (path_to j ++ (suc i ∷ [])) (asks.ports working (path_to j ++ (suc i ∷ []))) (given.powered i (omega (arith, most)))
 
 -- The configuring of a hub
 
@@ -231,33 +232,33 @@ module _ (t : Target) (value l m : ℕ) (told : Option HubFacts) {before given s
   unfolding set_configuration
   who = who_writes t (set_configuration value) tt given set (same_setup (set_configuration value)) (λ h. no (sym h)) ordered.settled ordered.stages own_set.single
 
-  path : suc who.j ∷ who.p ≡ p
+  path : path_to who.spot ≡ p
   path =
-      claimed_path p t.addr given (record { claims = f; owned = own_given.so ordered.ends.sound; held = held }) who.j who.p who.before who.was_on who.stood
+      claimed_path p t.addr given (record { claims = f; owned = own_given.so ordered.ends.sound; held = held }) who.spot who.before who.was_on who.stood
       (equal_same (address_of who.before) t.addr who.at)
 
-  was : Was (ConfigurationAsked t value (Ok tt) set) given who.j who.p who.now
-  was = what own_set.single who.j who.p who.now who.on who.stands
+  was : Was (ConfigurationAsked t value (Ok tt) set) given who.spot who.now
+  was = what own_set.single who.spot who.now who.on who.stands
 
-  went_off : WentOff set who.j who.p
+  went_off : WentOff set who.spot
   went_off = (was.so.done (ap (λ s. is_at s t) (same_Some was.before who.before (sym was.stands ∙ who.stood)) ∙ who.at) refl).3
 
-  held_there : f (suc who.j ∷ who.p) ≡ Some t.addr
+  held_there : f (path_to who.spot) ≡ Some t.addr
   held_there = ap f path ∙ held
 
-  all_off_set : Given t f who.j who.p held_there 0 set
+  all_off_set : Given t f who.spot held_there 0 set
   all_off_set = record {
     sound = ordered.ends.still;
     owned = own_set.so ordered.ends.still;
     order = went_in_order m given set went_set (went_in_order l before given went_given order) ordered.ends.still;
     powered = λ i below. absurd (omega (arith, below));
-    off = λ i above. off_unpowered set who.j who.p went_off i;
+    off = λ i above. off_unpowered set who.spot went_off i;
   }
 
   configured_below : HasEmptyPorts p told new
   configured_below facts number is least most =
       subst (λ q. IsKnownAs new (q ++ (number ∷ [])) None) path
-      (given_below t f who.j who.p held_there started new facts (started_given t f who.j who.p held_there set started facts (starts facts is) all_off_set) working asks number least most)
+      (given_below t f who.spot held_there started new facts (started_given t f who.spot held_there set started facts (starts facts is) all_off_set) working asks number least most)
 
 -- the same of what a call answered
 pub empties_ports : (t : Target) (value l m : ℕ) (told : Option HubFacts) (outcome : Result (Unit {0}) PipeFault) {before given set started new : World} {a b c d : Option (List ℕ)} → WentOn l before a given b → OnlyAsks before given

@@ -7,7 +7,7 @@ use Rattle.usb_port.specs.Status.{seen}
 use Rattle.usb_port.specs.declared.status.PortStatus.{PortStatus}
 use Rattle.usb_device.specs.Rows.{State}
 use Rattle.usb_device.specs.Spec.{Spec}
-use Rattle.usb_device.specs.Tree.{Ports, ended, vacant, taken, reach, reach_at, state_at, port_at}
+use Rattle.usb_device.specs.Tree.{Ports, ended, vacant, taken, reach, reach_at, state_at, port_at, Spot}
 use Rattle.usb_device.specs.View.{state_there, port_there}
 use Rattle.usb_world.specs.Addresses.{after_taking}
 use Rattle.usb_world.specs.Paths.{address_of, same_path}
@@ -17,10 +17,10 @@ use Rattle.usb_world.specs.SanePorts.{IsSanePort, IsSane}
 use Rattle.usb_world.specs.Steps.{AnyStep, Course}
 use Rattle.usb_world.specs.World.{World}
 use Rattle.usb_world.proofs.Interface.{between_course, both, course_wider, each_wider, no, same_device, self_path, undisturbed_keeps}
-use Rattle.usb_bus.specs.Traced.{WentOn}
+use Rattle.usb_bus.specs.Traces.{WentOn}
 use Rattle.usb_transaction.specs.declared.target.Target.{Target}
 use Rattle.usb_address.specs.Claims.{Claims}
-use Rattle.usb_address.specs.Owned.{Owned, Enumerating, TillFault, KeepsAddresses}
+use Rattle.usb_address.specs.Ownership.{Owned, Enumerating, TillFault, KeepsAddresses}
 use Rattle.usb_hub.specs.declared.port.HubPort.{HubPort}
 use Rattle.usb_hub.specs.Addresses.{Resets, StaysAs, KeepsDevices}
 use Rattle.usb_hub.specs.Moments.{PortTold}
@@ -29,13 +29,13 @@ use Rattle.usb_hub.proofs.Interface.{stays-registers, stays-spec}
 use Rattle.usb_enum.specs.declared.addressed.Addressed.{Addressed}
 use Rattle.usb_enum.specs.Addresses.{IsSpare, Within}
 use Rattle.usb_enum.specs.Calls.{StatusAt}
-use Rattle.usb_enum.specs.Learned.{Learned}
-use Rattle.usb_enum.specs.Present.{AnswersSo, IsRegular, AtPath, Finds, HasDescriptor, HasHead, HasSpeed, IsAddressed, AwaitsAddress}
+use Rattle.usb_enum.specs.LearnedFacts.{Learned}
+use Rattle.usb_enum.specs.PresentDevices.{AnswersSo, IsRegular, AtPath, Finds, HasDescriptor, HasHead, HasSpeed, IsAddressed, AwaitsAddress}
 use Rattle.usb_enum.specs.Readings.{AtMaximum}
 use Rattle.usb_enum.proofs.Courses.{went_sound, went_regular}
 use Rattle.usb_enum.proofs.Enumerations.{having, at_taking, within_on, within_reset}
 use Rattle.usb_enum.proofs.Heads.{head_packet}
-use Rattle.usb_enum.proofs.Reaching.{done_at}
+use Rattle.usb_enum.proofs.ReachedDevices.{done_at}
 
 -- Over calls that tell of each device
 
@@ -48,18 +48,18 @@ pub record Stood (p : List ℕ) (w : World) (R : State → Type 0) : Type 0 wher
 
 -- whoever is reachable at the path was so before
 pub stood_before : (R : Relation) (p : List ℕ) (old new : World) → EachWas R old new → (v : State) → reach new.roots p ≡ true → state_there new.roots p ≡ Some v
-    → Stood p old (λ s. (j : ℕ) × ((e : List ℕ) × R j e s v))
+    → Stood p old (λ s. (x : Spot) × R x s v)
 stood_before R [] old new was v on there = no on
 stood_before R (zero ∷ p) old new was v on there = no on
 stood_before R (suc j ∷ p) old new was v on there =
-    let w : Was R old j p v = was j p v on there in
-    record { before = w.before; on = w.on; stands = w.stands; so = (j, (p, w.so)) }
+    let w : Was R old (record { row = j; rest = p }) v = was (record { row = j; rest = p }) v on there in
+    record { before = w.before; on = w.on; stands = w.stands; so = (record { row = j; rest = p }, w.so) }
 
 -- what was so of it stays so, as the call tells
-pub path_on : (R : Relation) (A B : State → Type 0) → ((j : ℕ) (e : List ℕ) (s v : State) → R j e s v → A s → B v) → (p : List ℕ) (old new : World) → EachWas R old new → AtPath A p old → AtPath B p new
+pub path_on : (R : Relation) (A B : State → Type 0) → ((j : Spot) (s v : State) → R j s v → A s → B v) → (p : List ℕ) (old new : World) → EachWas R old new → AtPath A p old → AtPath B p new
 path_on R A B f p old new was a v on there =
     let s = stood_before R p old new was v on there in
-    f s.so.0 s.so.1.0 s.before v s.so.1.1 (a s.before s.on s.stands)
+    f s.so.0 s.before v s.so.1 (a s.before s.on s.stands)
 
 -- Its speed, as its port shows it
 
@@ -118,7 +118,7 @@ reset_finds port address l m n status {old} {set} {told} {new} first second thir
         let h = having f p address set ((within_reset port address old set resets).stays f p spare t) in
         let port_told = shown.tells.tells (after_taking f p h.has) p (at_taking f port p h.has spare.at) h.owned status (done_at shown.outcome status shown.told) in
         let single = (within.stays f p spare t).single in
-        path_on StaysAs (HasSpeed status.low_speed) (HasSpeed status.low_speed) (λ j e s v x low. ap (λ y. y.low) (stays-spec s v x) ∙ low) p told new (keeps.stays single)
+        path_on StaysAs (HasSpeed status.low_speed) (HasSpeed status.low_speed) (λ j s v x low. ap (λ y. y.low) (stays-spec s v x) ∙ low) p told new (keeps.stays single)
         (told_speed p status set told port_told none_set (went_regular l old set first order))
 
 -- Who holds which address
@@ -151,13 +151,13 @@ answered_finds So t port address n {old} {mid} {new} is answered went within kee
         let has = answered_has f port p address h.has t.addr spare is (answered.who.held claims h.owned) in
         let single = (keeps.kept claims h.owned).single in
         path_on (Learned So t) (λ s. address_of s ≡ h.has) (λ s. So s.spec × (address_of s ≡ t.addr))
-        (λ j e s v x at. (subst So (sym (stays-spec s v x.frame)) (x.so (eq-eqb (address_of s) t.addr (at ∙ has))), ap (λ r. r.address) (stays-registers s v x.frame) ∙ at ∙ has))
+        (λ j s v x at. (subst So (sym (stays-spec s v x.frame)) (x.so (eq-eqb (address_of s) t.addr (at ∙ has))), ap (λ r. r.address) (stays-registers s v x.frame) ∙ at ∙ has))
         p mid new (answered.learns single) (held_at f p h.has mid (h.owned.so (went_sound n mid new went answered.still)))
 
 -- Over calls that come later
 
 -- what was found stays so over a call that leaves a device as it was
-pub finds_on : (R : Relation) (A B : State → Type 0) (port : HubPort) (address : ℕ) {old mid new : World} → ((j : ℕ) (e : List ℕ) (s v : State) → R j e s v → A s → B v)
+pub finds_on : (R : Relation) (A B : State → Type 0) (port : HubPort) (address : ℕ) {old mid new : World} → ((j : Spot) (s v : State) → R j s v → A s → B v)
     → (new.shared ≡ false → EachWas R mid new) → Within port address old new → Finds A port address old mid → Finds B port address old new
 finds_on R A B port address {old} {mid} {new} f was within finds = record {
   found = λ g p spare t order. path_on R A B f p mid new (was (within.stays g p spare t).single) (finds.found g p spare t order);
@@ -186,8 +186,8 @@ pub unaddressed_finds : (port : HubPort) (address n : ℕ) (low pre : Bool) (max
 unaddressed_finds port address n low pre max {old} {mid} {new} speed answered went within keeps =
     let asked : Target = record { addr = 0; max = 8; low = low; pre = pre } in
     let target : Target = record { addr = 0; max = max; low = low; pre = pre } in
-    let stays : new.shared ≡ false → EachWas StaysAs mid new = λ single. each_wider (Learned (HasHead low max) asked) StaysAs (λ j e s v x. x.frame) mid new (answered.learns single) in
-    let later = finds_on StaysAs (HasSpeed low) (HasSpeed low) port address (λ j e s v x is. ap (λ y. y.low) (stays-spec s v x) ∙ is) stays (within_on port address old mid new within keeps) (speed (went_sound n mid new went answered.still)) in
+    let stays : new.shared ≡ false → EachWas StaysAs mid new = λ single. each_wider (Learned (HasHead low max) asked) StaysAs (λ j s v x. x.frame) mid new (answered.learns single) in
+    let later = finds_on StaysAs (HasSpeed low) (HasSpeed low) port address (λ j s v x is. ap (λ y. y.low) (stays-spec s v x) ∙ is) stays (within_on port address old mid new within keeps) (speed (went_sound n mid new went answered.still)) in
     finds_both (HasSpeed low) (λ s. HasHead low max s.spec × (address_of s ≡ 0)) (AwaitsAddress target) port address old new (λ s is head. unnamed target s is head refl)
     later (answered_finds (HasHead low max) asked port address n (inl refl) answered went within keeps)
 
@@ -199,8 +199,8 @@ pub record Granted (low : Bool) (max : ℕ) (spec : Spec) : Type 0 where
   pub head : HasHead low max spec
   pub allowed : spec.stalls.address ≡ false
 
-pub granted : (target : Target) (address : ℕ) (old new : World) → target.addr ≡ 0 → (j : ℕ) (e : List ℕ) (s v : State) → AddressAsked target address (Ok tt) old new j e s v → AwaitsAddress target s → Granted target.low target.max v.spec
-granted target address old new none j e s v x is =
+pub granted : (target : Target) (address : ℕ) (old new : World) → target.addr ≡ 0 → (j : Spot) (s v : State) → AddressAsked target address (Ok tt) old new j s v → AwaitsAddress target s → Granted target.low target.max v.spec
+granted target address old new none j s v x is =
     subst (Granted target.low target.max) (sym (ap (λ y. y.spec) x.frame))
     (record { speed = is.low; head = is.head; allowed = (x.done (eq-eqb (address_of s) target.addr (is.zero ∙ sym none)) refl).0 })
 
@@ -224,6 +224,6 @@ address_finds target device port address n {old} {mid} {given} {new} none is unn
     subst (λ t. Finds (λ s. Granted t.low t.max s.spec) port address old given) (sym is)
     (finds_on (AddressAsked target address (Ok tt) mid given) (AwaitsAddress target) (λ s. Granted target.low target.max s.spec) port address (granted target address mid given none) asked within unnamed) in
     let later : Finds Is port address old new =
-    finds_on (Learned So device.target) Is Is port address (λ j e s v x g. subst (Granted device.target.low device.target.max) (sym (stays-spec s v x.frame)) g) answered.learns (within_on port address old given new within keeps) allowed in
+    finds_on (Learned So device.target) Is Is port address (λ j s v x g. subst (Granted device.target.low device.target.max) (sym (stays-spec s v x.frame)) g) answered.learns (within_on port address old given new within keeps) allowed in
     finds_both Is (λ s. So s.spec × (address_of s ≡ device.target.addr)) (IsAddressed device) port address old new (addressed device)
     later (answered_finds So device.target port address n (inr (ap (λ t. t.addr) is)) answered went within keeps)

@@ -3,33 +3,33 @@ use Rattle.std.proofs.Common.{◌≡◌, ◌+◌, ℕ, inl, zero, suc, Bool, tru
 use Rattle.std.proofs.lemmas.Bool.{and_from}
 use Rattle.std.proofs.lemmas.Option.{same_Some}
 use Rattle.std.specs.Global.{Vec}
-use Rattle.usb_descriptor.specs.Config.{config_head_of, config_of, configuration_value}
+use Rattle.usb_descriptor.specs.Config.{config_head_of, config_of, configuration_value, total_in}
 use Rattle.usb_device.specs.Spec.{Spec}
 use Rattle.usb_device.specs.Rows.{State}
 use Rattle.usb_world.specs.Devices.{EachWas}
 use Rattle.usb_world.specs.World.{World}
 use Rattle.usb_world.proofs.Interface.{each_joined, each_none, each_wider}
 use Rattle.usb_transaction.specs.declared.target.Target.{Target}
-use Rattle.usb_bus.specs.Traced.{WentOn}
+use Rattle.usb_bus.specs.Traces.{WentOn}
 use Rattle.usb_pipe.specs.declared.fault.PipeFault.{PipeFault}
 use Rattle.usb_pipe.specs.declared.fault.PipeFault.TheVariants.{Stalled}
 use Rattle.usb_hub.specs.Addresses.{StaysAs, KeepsDevices}
-use Rattle.usb_hub.specs.Asked.{unless_refused, config_given, HasText, ReadAsked, TextAsked, ConfigAsked}
+use Rattle.usb_hub.specs.GivenAnswers.{unless_refused, config_given, HasText, ReadAsked, TextAsked, ConfigAsked}
 use Rattle.usb_hub.proofs.Interface.{stays_joined}
 use Rattle.usb_enum.specs.declared.cause.Cause.{Cause}
-use Rattle.usb_enum.specs.Described.{text_read, total_in, is_good_text, texts_below, config_fault, first_fault, text_fault}
-use Rattle.usb_enum.specs.Learned.{Learned, Learns}
+use Rattle.usb_enum.specs.Verdicts.{text_read, is_good_text, texts_below, config_fault, first_fault, text_fault}
+use Rattle.usb_enum.specs.LearnedFacts.{Learned, Learns}
 use Rattle.usb_enum.specs.Readings.{AtMaximum, HasTotal, HasConfiguration, HasConfigurations}
 use Rattle.usb_enum.specs.Stop.{answered_or}
-use Rattle.usb_enum.specs.Text.{config_text_of, has_value}
+use Rattle.usb_enum.specs.Text.{config_text_of, any_has_value}
 use Rattle.usb_enum.proofs.Hubs.{answered_ok}
-use Rattle.usb_enum.proofs.Learning.{learns_then, learns_wider}
-use Rattle.usb_enum.proofs.Sharing.{went_unshared}
+use Rattle.usb_enum.proofs.LearnedFacts.{learns_then, learns_wider}
+use Rattle.usb_enum.proofs.SharedAddresses.{went_unshared}
 use Rattle.usb_enum.proofs.VerdictRows.{first_none}
 
 -- where nothing went, what is so of every description
 pub learns_none : (So : Spec → Type 0) (t : Target) (w : World) → ((spec : Spec) → So spec) → Learns So t w w
-learns_none So t w all single = each_none (Learned So t) (λ j p s. record { frame = refl; so = λ at. all s.spec }) w
+learns_none So t w all single = each_none (Learned So t) (λ j s. record { frame = refl; so = λ at. all s.spec }) w
 
 -- what is learned before a call and in it
 pub learns_on : (A B C : Spec → Type 0) (t : Target) (n : ℕ) (old mid new : World) {r s : Option (List ℕ)} → ((spec : Spec) → A spec → B spec → C spec) → Learns A t old mid → WentOn n mid r new s → Learns B t mid new
@@ -47,7 +47,7 @@ devices_then n old mid new a went b = record {
 
 pub learns_kept : (So : Spec → Type 0) (t : Target) (n : ℕ) (old mid new : World) {r s : Option (List ℕ)} → Learns So t old mid → WentOn n mid r new s → KeepsDevices mid new → Learns So t old new
 learns_kept So t n old mid new a went keeps single =
-    each_joined (Learned So t) StaysAs (Learned So t) (λ j p s u v x y. record { frame = stays_joined j p s u v x.frame y; so = x.so }) old mid new
+    each_joined (Learned So t) StaysAs (Learned So t) (λ j s u v x y. record { frame = stays_joined j s u v x.frame y; so = x.so }) old mid new
     (a (went_unshared n mid new went single)) (keeps.stays single)
 
 module _ {A X : Type 0} (given : Spec → Option X) (Has : State → A → Type 0) (t : Target) (outcome : Result A PipeFault) (old new : World) where
@@ -55,14 +55,14 @@ module _ {A X : Type 0} (given : Spec → Option X) (Has : State → A → Type 
   pub answer_learned : (So : Spec → Type 0) (answer : A) → outcome ≡ Ok answer → ((s : State) → Has s answer → So s.spec) → (new.shared ≡ false → EachWas (ReadAsked given Has t outcome) old new) → Learns So t old new
   answer_learned So answer is f what single =
       each_wider (ReadAsked given Has t outcome) (Learned So t)
-      (λ j p s v x. record { frame = x.frame; so = λ at. f s (x.done at answer is) })
+      (λ j s v x. record { frame = x.frame; so = λ at. f s (x.done at answer is) })
       old new (what single)
 
   -- by a refusal
   pub refusal_learned : (So : Spec → Type 0) → outcome ≡ Err Stalled → ((spec : Spec) → given spec ≡ None → So spec) → (new.shared ≡ false → EachWas (ReadAsked given Has t outcome) old new) → Learns So t old new
   refusal_learned So is f what single =
       each_wider (ReadAsked given Has t outcome) (Learned So t)
-      (λ j p s v x. record { frame = x.frame; so = λ at. f s.spec (x.stalled at is) })
+      (λ j s v x. record { frame = x.frame; so = λ at. f s.spec (x.stalled at is) })
       old new (what single)
 
 -- by a text, at the device's maximum packet
@@ -123,10 +123,10 @@ pub given_allows : {X : Type 0} (refused : Bool) (given : Option X) (x : X) → 
 given_allows true given x is = absurd cc
 given_allows false given x is = (refl, is)
 
-text_faultless : (index : ℕ) (earlier : List (List ℕ)) (o : Option (List ℕ)) (text : List ℕ) → o ≡ Some text → is_good_text text ≡ true → has_value (configuration_value (text_read text)) earlier ≡ false → text_fault index earlier o ≡ None
+text_faultless : (index : ℕ) (earlier : List (List ℕ)) (o : Option (List ℕ)) (text : List ℕ) → o ≡ Some text → is_good_text text ≡ true → any_has_value (configuration_value (text_read text)) earlier ≡ false → text_fault index earlier o ≡ None
 text_faultless index earlier o text is good differs = rw (is, good, differs) refl
 
-config_faultless : (spec : Spec) (index : ℕ) (text : List ℕ) → config_given index spec ≡ Some text → is_good_text text ≡ true → has_value (configuration_value (text_read text)) (texts_below spec index) ≡ false → config_fault spec index ≡ None
+config_faultless : (spec : Spec) (index : ℕ) (text : List ℕ) → config_given index spec ≡ Some text → is_good_text text ≡ true → any_has_value (configuration_value (text_read text)) (texts_below spec index) ≡ false → config_fault spec index ≡ None
 unfolding config_fault
 config_faultless spec index text given good differs =
     let allowed = given_allows spec.stalls.config (slice_get spec.configs index) text given in
@@ -141,18 +141,18 @@ pub configurations_none : (spec : Spec) → HasConfigurations 0 [] spec
 unfolding first_fault
 configurations_none spec = record { good = refl; read = refl }
 
-configurations_more : (count : ℕ) (texts : List (List ℕ)) (text : List ℕ) (spec : Spec) → has_value (configuration_value text) texts ≡ false → HasConfigurations count texts spec → HasConfiguration count text spec
+configurations_more : (count : ℕ) (texts : List (List ℕ)) (text : List ℕ) (spec : Spec) → any_has_value (configuration_value text) texts ≡ false → HasConfigurations count texts spec → HasConfiguration count text spec
     → HasConfigurations (count + 1) (texts ++ text ∷ []) spec
 configurations_more count texts text spec differs before now =
     let given = given_allows spec.stalls.config (slice_get spec.configs count) now.text now.given in
-    let Differs : List ℕ → List (List ℕ) → Type 0 = λ x xs. has_value (configuration_value x) xs ≡ false in
+    let Differs : List ℕ → List (List ℕ) → Type 0 = λ x xs. any_has_value (configuration_value x) xs ≡ false in
     let one_more : count + 1 ≡ suc count = omega arith in
     record {
       good = first_none spec count before.good (config_faultless spec count now.text now.given now.good (subst (Differs (text_read now.text)) before.read (subst (λ x. Differs x texts) now.read differs)));
       read = ap (λ x. texts ++ x ∷ []) now.read ∙ ap (λ xs. xs ++ text_read now.text ∷ []) before.read ∙ sym (ap (λ n. texts_below spec n) one_more ∙ mapped_more text_read spec.configs count now.text given.1);
     }
 
-pub configurations_learned : (t : Target) (count n : ℕ) (texts : List (List ℕ)) (text : List ℕ) (old mid new : World) {r s : Option (List ℕ)} → has_value (configuration_value text) texts ≡ false
+pub configurations_learned : (t : Target) (count n : ℕ) (texts : List (List ℕ)) (text : List ℕ) (old mid new : World) {r s : Option (List ℕ)} → any_has_value (configuration_value text) texts ≡ false
     → Learns (AtMaximum t (HasConfigurations count texts)) t old mid → WentOn n mid r new s → Learns (AtMaximum t (HasConfiguration count text)) t mid new → Learns (AtMaximum t (HasConfigurations (count + 1) (texts ++ text ∷ []))) t old new
 configurations_learned t count n texts text old mid new differs before went now =
     learns_on (AtMaximum t (HasConfigurations count texts)) (AtMaximum t (HasConfiguration count text)) (AtMaximum t (HasConfigurations (count + 1) (texts ++ text ∷ []))) t n old mid new

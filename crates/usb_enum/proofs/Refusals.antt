@@ -1,4 +1,5 @@
 -- How what a refusal tells of a device joins, and why a request for data fails.
+use Rattle.usb_device.specs.Tree.{Spot}
 use Rattle.std.proofs.Common.{◌≡◌, ◌⊎◌, inl, ◌≤◌, ℕ, ◌==◌, ◌&&◌, ◌||◌, not, Bool, true, false, List, if◌then◌else◌, Option, None, Some, Result, Ok, Err, refl, ap, sym, subst, ◌∙◌}
 use Rattle.std.specs.Prelude.{unwrap_or, IfOk, IfErr, IsErrAnd, MatchResult, ⊤}
 use Rattle.usb_device.specs.Spec.{Spec, IsSpec}
@@ -9,45 +10,44 @@ use Rattle.usb_world.specs.Devices.{Relation, EachWas}
 use Rattle.usb_world.specs.Paths.{address_of}
 use Rattle.usb_world.specs.Passes.{deep_at}
 use Rattle.usb_world.specs.World.{World}
-use Rattle.usb_world.proofs.Interface.{each_joined, each_none, each_wider, no}
+use Rattle.usb_world.proofs.Interface.{each_both, each_joined, each_none, each_wider, no}
 use Rattle.usb_transaction.specs.declared.target.Target.{Target}
 use Rattle.usb_transaction.specs.Leaves.{is_at}
 use Rattle.usb_transaction.specs.Failures.{NoThreeDamaged}
-use Rattle.usb_transaction.proofs.Interface.{each_both}
-use Rattle.usb_bus.specs.Traced.{WentOn}
+use Rattle.usb_bus.specs.Traces.{WentOn}
 use Rattle.usb_pipe.specs.declared.fault.PipeFault.{PipeFault}
 use Rattle.usb_pipe.specs.declared.fault.PipeFault.TheVariants as pipe
 use Rattle.usb_pipe.specs.Leaves.{IsMaximum}
-use Rattle.usb_hub.specs.Asked.{ReadAsked, WhyAsked}
+use Rattle.usb_hub.specs.GivenAnswers.{ReadAsked, WhyAsked}
 use Rattle.usb_hub.proofs.Interface.{stays-registers, stays-spec}
 use Rattle.usb_enum.specs.declared.cause.Cause.{Cause}
 use Rattle.usb_enum.specs.declared.fault.EnumFault.{EnumFault}
 use Rattle.usb_enum.specs.declared.stop.Stop.{Stop}
 use Rattle.usb_enum.specs.declared.stop.Stop.TheVariants.{Refused, Fault}
-use Rattle.usb_enum.specs.Learned.{Learned, Learns, Hears, HearsSet, Explained, Explains, ExplainsSet}
+use Rattle.usb_enum.specs.LearnedFacts.{Learned, Learns, Hears, HearsSet, Explained, Explains, ExplainsSet}
 use Rattle.usb_enum.specs.Refusals.{IsResponsive, IsRefusedFor, Refuses}
 use Rattle.usb_enum.specs.Stop.{stop_of, answered_or}
 use Rattle.usb_enum.proofs.Damages.{went_three}
-use Rattle.usb_enum.proofs.Sharing.{went_unshared}
+use Rattle.usb_enum.proofs.SharedAddresses.{went_unshared}
 
 -- two things of each device in one call
-pub each_joint : (R S T : Relation) → ((j : ℕ) (p : List ℕ) (s v : State) → R j p s v → S j p s v → T j p s v) → (old new : World) → EachWas R old new → EachWas S old new → EachWas T old new
-each_joint R S T f old new x y = each_wider (λ j p s v. R j p s v × S j p s v) T (λ j p s v k. f j p s v k.0 k.1) old new (each_both R S old new x y)
+pub each_joint : (R S T : Relation) → ((j : Spot) (s v : State) → R j s v → S j s v → T j s v) → (old new : World) → EachWas R old new → EachWas S old new → EachWas T old new
+each_joint R S T f old new x y = each_wider (λ j s v. R j s v × S j s v) T (λ j s v k. f j s v k.0 k.1) old new (each_both R S old new x y)
 
 -- from one call to the next
 
-pub hears_on : (t : Target) (p : List ℕ) (s u : State) → u.spec ≡ s.spec → address_of u ≡ address_of s → Hears t p s → Hears t p u
-hears_on t p s u spec address h = record {
+pub hears_on : (t : Target) (place : Spot) (s u : State) → u.spec ≡ s.spec → address_of u ≡ address_of s → Hears t place s → Hears t place u
+hears_on t place s u spec address h = record {
   at = ap (λ n. n == t.addr) address ∙ h.at;
-  hears = ap (λ (x : Spec). if t.low then x.low && (not (deep_at false p) || t.pre) else not x.low) spec ∙ h.hears;
+  hears = ap (λ (x : Spec). if t.low then x.low && (not (deep_at false place.rest) || t.pre) else not x.low) spec ∙ h.hears;
 }
 
-hears_still : (t : Target) (p : List ℕ) (s u : State) → u.spec ≡ s.spec → u.registers ≡ s.registers → Hears t p s → Hears t p u
-hears_still t p s u spec registers h = hears_on t p s u spec (ap (λ (r : Registers). r.address) registers) h
+hears_still : (t : Target) (place : Spot) (s u : State) → u.spec ≡ s.spec → u.registers ≡ s.registers → Hears t place s → Hears t place u
+hears_still t place s u spec registers h = hears_on t place s u spec (ap (λ (r : Registers). r.address) registers) h
 
-set_still : (t : Target) (p : List ℕ) (s u : State) → u.spec ≡ s.spec → u.registers ≡ s.registers → HearsSet t p s → HearsSet t p u
-set_still t p s u spec registers h = record {
-  hears = hears_still t p s u spec registers h.hears;
+set_still : (t : Target) (place : Spot) (s u : State) → u.spec ≡ s.spec → u.registers ≡ s.registers → HearsSet t place s → HearsSet t place u
+set_still t place s u spec registers h = record {
+  hears = hears_still t place s u spec registers h.hears;
   addressed = h.addressed;
   configured = λ z. h.configured (sym (ap (λ (r : Registers). r.configuration) registers) ∙ z);
 }
@@ -56,7 +56,7 @@ set_still t p s u spec registers h = record {
 pub learned_explains : (A B : Spec → Type 0) (t : Target) (old new : World) → ((spec : Spec) → A spec → B spec) → Learns A t old new → Explains B t old new
 learned_explains A B t old new f x three single =
     each_wider (Learned A t) (Explained Hears B t)
-    (λ j p s v l. record { spec = stays-spec s v l.frame; address = ap (λ (r : Registers). r.address) (stays-registers s v l.frame); so = λ h ruled. f s.spec (l.so h.at) }) old new (x single)
+    (λ j s v l. record { spec = stays-spec s v l.frame; address = ap (λ (r : Registers). r.address) (stays-registers s v l.frame); so = λ h ruled. f s.spec (l.so h.at) }) old new (x single)
 
 -- a fault is no refusal
 pub fault_explains : (A : Spec → Type 0) (t : Target) (wrong : Spec → Option Cause) (fault : EnumFault) (old new : World) → Learns A t old new → Explains (Refuses t wrong (Fault fault)) t old new
@@ -64,34 +64,34 @@ fault_explains A t wrong fault old new = learned_explains A (Refuses t wrong (Fa
 
 -- where nothing went, what is so of every description
 pub explains_none : (So : Spec → Type 0) (t : Target) (w : World) → ((spec : Spec) → So spec) → Explains So t w w
-explains_none So t w all three single = each_none (Explained Hears So t) (λ j p s. record { spec = refl; address = refl; so = λ h ruled. all s.spec }) w
+explains_none So t w all three single = each_none (Explained Hears So t) (λ j s. record { spec = refl; address = refl; so = λ h ruled. all s.spec }) w
 
 pub explains_set_none : (So : Spec → Type 0) (t : Target) (w : World) → ((spec : Spec) → So spec) → ExplainsSet So t w w
-explains_set_none So t w all three single = each_none (Explained HearsSet So t) (λ j p s. record { spec = refl; address = refl; so = λ h ruled. all s.spec }) w
+explains_set_none So t w all three single = each_none (Explained HearsSet So t) (λ j s. record { spec = refl; address = refl; so = λ h ruled. all s.spec }) w
 
 pub explains_wider : (A B : Spec → Type 0) (t : Target) (old new : World) → ((spec : Spec) → A spec → B spec) → Explains A t old new → Explains B t old new
 explains_wider A B t old new f x three single =
-    each_wider (Explained Hears A t) (Explained Hears B t) (λ j p s v e. record { spec = e.spec; address = e.address; so = λ h ruled. f s.spec (e.so h ruled) }) old new (x three single)
+    each_wider (Explained Hears A t) (Explained Hears B t) (λ j s v e. record { spec = e.spec; address = e.address; so = λ h ruled. f s.spec (e.so h ruled) }) old new (x three single)
 
 -- of a device that is configured as of any
 pub explains_set : (A B : Spec → Type 0) (t : Target) (old new : World) → ((spec : Spec) → A spec → B spec) → Explains A t old new → ExplainsSet B t old new
 explains_set A B t old new f x three single =
-    each_wider (Explained Hears A t) (Explained HearsSet B t) (λ j p s v e. record { spec = e.spec; address = e.address; so = λ h ruled. f s.spec (e.so h.hears ruled) }) old new (x three single)
+    each_wider (Explained Hears A t) (Explained HearsSet B t) (λ j s v e. record { spec = e.spec; address = e.address; so = λ h ruled. f s.spec (e.so h.hears ruled) }) old new (x three single)
 
 -- after what was learned
-module _ (Heard : Target → List ℕ → State → Type 0) (at : (t : Target) (p : List ℕ) (s : State) → Heard t p s → is_at s t ≡ true)
-    (on : (t : Target) (p : List ℕ) (s u : State) → u.spec ≡ s.spec → u.registers ≡ s.registers → Heard t p s → Heard t p u) where
+module _ (Heard : Target → Spot → State → Type 0) (at : (t : Target) (j : Spot) (s : State) → Heard t j s → is_at s t ≡ true)
+    (on : (t : Target) (j : Spot) (s u : State) → u.spec ≡ s.spec → u.registers ≡ s.registers → Heard t j s → Heard t j u) where
   explained_on : (A B C : Spec → Type 0) (t : Target) (m n : ℕ) (old mid new : World) {q r s u : Option (List ℕ)} → ((spec : Spec) → IsSpec spec → A spec → B spec → C spec)
       → Learns A t old mid → WentOn m old q mid r → WentOn n mid s new u → (NoThreeDamaged mid → new.shared ≡ false → EachWas (Explained Heard B t) mid new)
       → NoThreeDamaged old → new.shared ≡ false → EachWas (Explained Heard C t) old new
   explained_on A B C t m n old mid new f a first next b three single =
       each_joined (Learned A t) (Explained Heard B t) (Explained Heard C t)
-      (λ j p s u v x y. record {
+      (λ j s u v x y. record {
         spec = y.spec ∙ stays-spec s u x.frame;
         address = y.address ∙ ap (λ (r : Registers). r.address) (stays-registers s u x.frame);
         so = λ h ruled.
-            f s.spec ruled (x.so (at t p s h))
-            (subst B (stays-spec s u x.frame) (y.so (on t p s u (stays-spec s u x.frame) (stays-registers s u x.frame) h) (subst IsSpec (sym (stays-spec s u x.frame)) ruled)));
+            f s.spec ruled (x.so (at t j s h))
+            (subst B (stays-spec s u x.frame) (y.so (on t j s u (stays-spec s u x.frame) (stays-registers s u x.frame) h) (subst IsSpec (sym (stays-spec s u x.frame)) ruled)));
       })
       old mid new (a (went_unshared n mid new next single)) (b (went_three m old mid first three) single)
 
@@ -143,29 +143,29 @@ answered_err stalled (Ok given) stop is = absurd cc
 answered_err stalled (Err fault) stop is = (fault, refl, cc)
 
 module _ {A X : Type 0} (given : Spec → Option X) (Has : State → A → Type 0) (t : Target) (wanted : ℕ) where
-  read_fails : (fault : PipeFault) (j : ℕ) (p : List ℕ) (s v : State) → ReadAsked given Has t (Err fault) j p s v → WhyAsked {A = A} t wanted (Err fault) j p s v → Hears t p s → IsSpec s.spec → IsMaximum t wanted s
+  read_fails : (fault : PipeFault) (j : Spot) (s v : State) → ReadAsked given Has t (Err fault) j s v → WhyAsked {A = A} t wanted (Err fault) j s v → Hears t j s → IsSpec s.spec → IsMaximum t wanted s
       → Fails given fault s.spec
-  read_fails pipe.Stalled j p s v x y h ruled max = ((x.could h.at).0, (x.could h.at).1, x.stalled h.at refl)
-  read_fails pipe.Busy j p s v x y h ruled max = (x.could h.at, pick s.spec.busy refl)
+  read_fails pipe.Stalled j s v x y h ruled max = ((x.could h.at).0, (x.could h.at).1, x.stalled h.at refl)
+  read_fails pipe.Busy j s v x y h ruled max = (x.could h.at, pick s.spec.busy refl)
     where
       pick : (b : Bool) → s.spec.busy ≡ b → b ≡ true
       pick true e = refl
       pick false e = absurd (y.waited (record { at = h.at; loud = x.could h.at; hears = h.hears }) max e ruled.naks refl)
-  read_fails pipe.NoAnswer j p s v x y h ruled max = pick s.spec.silent refl
+  read_fails pipe.NoAnswer j s v x y h ruled max = pick s.spec.silent refl
     where
       pick : (b : Bool) → s.spec.silent ≡ b → b ≡ true
       pick true e = refl
       pick false e = absurd (y.answered (record { at = h.at; loud = e; hears = h.hears }) max refl)
-  read_fails pipe.Broken j p s v x y h ruled max = x.could h.at
-  read_fails (pipe.Bus fault) j p s v x y h ruled max = tt
-  read_fails pipe.Memory j p s v x y h ruled max = tt
+  read_fails pipe.Broken j s v x y h ruled max = x.could h.at
+  read_fails (pipe.Bus fault) j s v x y h ruled max = tt
+  read_fails pipe.Memory j s v x y h ruled max = tt
 
   module _ (outcome : Result A PipeFault) (old new : World) (what : new.shared ≡ false → EachWas (ReadAsked given Has t outcome) old new) (least : 8 ≤ t.max)
       (why : NoThreeDamaged old → 8 ≤ t.max → new.shared ≡ false → EachWas (WhyAsked t wanted outcome) old new) where
     pub failure_explains : (So : Spec → Type 0) (fault : PipeFault) → outcome ≡ Err fault → ((spec : Spec) → (((max_packet spec ≡ t.max) ⊎ (wanted ≤ 8)) → Fails given fault spec) → So spec) → Explains So t old new
     failure_explains So fault is f three single =
         each_joint (ReadAsked given Has t (Err fault)) (WhyAsked {A = A} t wanted (Err fault)) (Explained Hears So t)
-        (λ j p s v x y. record { spec = ap (λ z. z.spec) x.frame; address = ap (λ z. z.registers.address) x.frame; so = λ h ruled. f s.spec (read_fails fault j p s v x y h ruled) })
+        (λ j s v x y. record { spec = ap (λ z. z.spec) x.frame; address = ap (λ z. z.registers.address) x.frame; so = λ h ruled. f s.spec (read_fails fault j s v x y h ruled) })
         old new (subst (λ r. EachWas (ReadAsked given Has t r) old new) is (what single)) (subst (λ r. EachWas (WhyAsked t wanted r) old new) is (why three least single))
 
     -- by its answer to the host

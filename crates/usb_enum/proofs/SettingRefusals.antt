@@ -1,4 +1,5 @@
 -- Why a device that has its address is refused.
+use Rattle.usb_device.specs.Tree.{Spot}
 use Rattle.std.proofs.Common.{◌≡◌, ◌≢◌, ◌⊎◌, inl, inr, ◌<◌, ℕ, ◌==◌, ◌&&◌, not, Bool, true, false, List, [], length, slice_index_or, if◌then◌else◌, Option, None, Some, Result, Ok, Err, refl, ap, sym, subst, ◌∙◌}
 use Rattle.std.specs.Prelude.{unwrap_or}
 use Rattle.std.specs.Option.{option_or}
@@ -13,7 +14,7 @@ use Rattle.usb_world.specs.World.{World}
 use Rattle.usb_world.proofs.Interface.{and_of, each_joined, equal_same, no, unequal}
 use Rattle.usb_transaction.specs.declared.target.Target.{Target}
 use Rattle.usb_transaction.specs.Failures.{NoThreeDamaged}
-use Rattle.usb_bus.specs.Traced.{WentOn}
+use Rattle.usb_bus.specs.Traces.{WentOn}
 use Rattle.usb_pipe.specs.declared.fault.PipeFault.{PipeFault}
 use Rattle.usb_pipe.specs.declared.fault.PipeFault.TheVariants as pipe
 use Rattle.usb_pipe.specs.Failures.{WhyWrite}
@@ -23,10 +24,10 @@ use Rattle.usb_enum.specs.declared.cause.Cause.TheVariants.{Stalled, TooDeep, No
 use Rattle.usb_enum.specs.declared.cause.Request.TheVariants as request
 use Rattle.usb_enum.specs.declared.stop.Stop.{Stop}
 use Rattle.usb_enum.specs.declared.stop.Stop.TheVariants.{Refused, Fault}
-use Rattle.usb_enum.specs.Described.{texts_below, first_fault}
-use Rattle.usb_enum.specs.Device.{is_hub, fits_tier}
-use Rattle.usb_enum.specs.Learned.{Learns, Hears, HearsSet, Explained, Explains, ExplainsSet}
-use Rattle.usb_enum.specs.Present.{LearnedSet, LearnsSet}
+use Rattle.usb_enum.specs.Verdicts.{texts_below, first_fault}
+use Rattle.usb_enum.specs.Device.{is_hub_device, fits_tier}
+use Rattle.usb_enum.specs.LearnedFacts.{Learns, Hears, HearsSet, Explained, Explains, ExplainsSet}
+use Rattle.usb_enum.specs.PresentDevices.{LearnedSet, LearnsSet}
 use Rattle.usb_enum.specs.Readings.{AtMaximum, HasConfigurations}
 use Rattle.usb_enum.specs.Refusals.{IsResponsive, IsRefusedFor, Refuses, no_fault, setting_fault, start_fault, chosen_fault, configured_fault}
 use Rattle.usb_enum.specs.Stop.{stop_of, answered_or}
@@ -35,7 +36,7 @@ use Rattle.usb_enum.proofs.Damages.{went_three}
 use Rattle.usb_enum.proofs.Refusals.{answered_err, each_joint, hears_on, explains_none, explains_wider, explains_on, learned_explains}
 use Rattle.usb_enum.proofs.Settings.{Allowed}
 use Rattle.usb_enum.proofs.SettingValues.{chosen_value}
-use Rattle.usb_enum.proofs.Sharing.{went_unshared}
+use Rattle.usb_enum.proofs.SharedAddresses.{went_unshared}
 
 -- What is wrong with a description, row by row
 
@@ -46,19 +47,19 @@ deep_by false done rest cause is = absurd cc
 module _ (tier supply : ℕ) (bytes : List ℕ) (spec : Spec) where
   refused_deep : (stop : Stop) → fits_tier tier bytes ≡ Err stop → IsRefusedFor (configured_fault tier supply bytes) stop spec
   unfolding configured_fault
-  refused_deep (Refused cause) is = deep_by (is_hub bytes && tier == 7) tt (option_or (first_fault spec (configuration_count bytes)) (chosen_fault (is_hub bytes) (texts_below spec (configuration_count bytes)) (choice_of supply (texts_below spec (configuration_count bytes))) spec)) cause is
+  refused_deep (Refused cause) is = deep_by (is_hub_device bytes && tier == 7) tt (option_or (first_fault spec (configuration_count bytes)) (chosen_fault (is_hub_device bytes) (texts_below spec (configuration_count bytes)) (choice_of supply (texts_below spec (configuration_count bytes))) spec)) cause is
   refused_deep (Fault fault) is = tt
 
   -- where it is not too deep
-  module _ (shallow : (is_hub bytes && tier == 7) ≡ false) where
+  module _ (shallow : (is_hub_device bytes && tier == 7) ≡ false) where
     pub fault_read : (cause : Cause) → first_fault spec (configuration_count bytes) ≡ Some cause → configured_fault tier supply bytes spec ≡ Some cause
     unfolding configured_fault
     fault_read cause first = rw (shallow, first) refl
 
-    pub fault_chosen : (texts : List (List ℕ)) → HasConfigurations (configuration_count bytes) texts spec → configured_fault tier supply bytes spec ≡ chosen_fault (is_hub bytes) texts (choice_of supply texts) spec
+    pub fault_chosen : (texts : List (List ℕ)) → HasConfigurations (configuration_count bytes) texts spec → configured_fault tier supply bytes spec ≡ chosen_fault (is_hub_device bytes) texts (choice_of supply texts) spec
     unfolding configured_fault
     fault_chosen texts has =
-        let hub = is_hub bytes in
+        let hub = is_hub_device bytes in
         let count = configuration_count bytes in
         ap (λ b. if b then Some TooDeep else option_or (first_fault spec count) (chosen_fault hub (texts_below spec count) (choice_of supply (texts_below spec count)) spec)) shallow
         ∙ ap (λ o. option_or o (chosen_fault hub (texts_below spec count) (choice_of supply (texts_below spec count)) spec)) has.good
@@ -76,18 +77,18 @@ takes t value s some at taken =
 
 module _ (t : Target) (value : ℕ) (last : World) (some : t.addr ≢ 0) where
   -- what it is refused for
-  setting_stop : (fault : PipeFault) (j : ℕ) (p : List ℕ) (s v : State) → ConfigurationAsked t value (Err fault) last j p s v → WhyWrite t (Err fault) j p s v → Hears t p s → IsSpec s.spec
+  setting_stop : (fault : PipeFault) (j : Spot) (s v : State) → ConfigurationAsked t value (Err fault) last j s v → WhyWrite t (Err fault) j s v → Hears t j s → IsSpec s.spec
       → is_value s.spec.configs value ≡ true → IsResponsive t s.spec → IsRefusedFor setting_fault (unwrap_or (stop_of fault) (Refused (Stalled request.SetConfig))) s.spec
-  setting_stop pipe.Stalled j p s v x y h ruled taken r = pick (x.stalled h.at refl)
+  setting_stop pipe.Stalled j s v x y h ruled taken r = pick (x.stalled h.at refl)
     where
       pick : (s.spec.stalls.set_config ≡ true) ⊎ (takes_value s value ≡ false) → setting_fault s.spec ≡ Some (Stalled request.SetConfig)
       pick (inl e) = setting_stalled s.spec e
       pick (inr e) = no (sym e ∙ takes t value s some h.at taken)
-  setting_stop pipe.Busy j p s v x y h ruled taken r = absurd (y.waited (record { at = h.at; loud = r.loud; hears = h.hears }) r.free ruled.naks refl)
-  setting_stop pipe.NoAnswer j p s v x y h ruled taken r = absurd (y.answered (record { at = h.at; loud = r.loud; hears = h.hears }) refl)
-  setting_stop pipe.Broken j p s v x y h ruled taken r = absurd (x.could h.at)
-  setting_stop (pipe.Bus fault) j p s v x y h ruled taken r = tt
-  setting_stop pipe.Memory j p s v x y h ruled taken r = tt
+  setting_stop pipe.Busy j s v x y h ruled taken r = absurd (y.waited (record { at = h.at; loud = r.loud; hears = h.hears }) r.free ruled.naks refl)
+  setting_stop pipe.NoAnswer j s v x y h ruled taken r = absurd (y.answered (record { at = h.at; loud = r.loud; hears = h.hears }) refl)
+  setting_stop pipe.Broken j s v x y h ruled taken r = absurd (x.could h.at)
+  setting_stop (pipe.Bus fault) j s v x y h ruled taken r = tt
+  setting_stop pipe.Memory j s v x y h ruled taken r = tt
 
 abbrev pub RefusesValue : Target → ℕ → Stop → Spec → Type 0
 RefusesValue t value stop spec = is_value spec.configs value ≡ true → Refuses t setting_fault stop spec
@@ -98,10 +99,10 @@ setting_refused : (t : Target) (value : ℕ) (outcome : Result (Unit {0}) PipeFa
 setting_refused t value outcome stop old new some is what why three single =
     let failed = answered_err (Stalled request.SetConfig) outcome stop is in
     each_joint (ConfigurationAsked t value (Err failed.0) new) (WhyWrite t (Err failed.0)) (Explained Hears (RefusesValue t value stop) t)
-    (λ j p s v x y. record {
+    (λ j s v x y. record {
       spec = ap (λ z. z.spec) x.frame;
       address = ap (λ z. z.registers.address) x.frame;
-      so = λ h ruled taken r. subst (λ z. IsRefusedFor setting_fault z s.spec) failed.2 (setting_stop t value new some failed.0 j p s v x y h ruled taken r);
+      so = λ h ruled taken r. subst (λ z. IsRefusedFor setting_fault z s.spec) failed.2 (setting_stop t value new some failed.0 j s v x y h ruled taken r);
     })
     old new (subst (λ r. EachWas (ConfigurationAsked t value r new) old new) failed.1 (what single)) (subst (λ r. EachWas (WhyWrite t r) old new) failed.1 (why three single))
 
@@ -112,12 +113,12 @@ pub explains_hub_on : (A B C : Spec → Type 0) (t : Target) (value m n : ℕ) (
     → LearnsSet A t value old mid → WentOn m old q mid r → WentOn n mid s new u → ExplainsSet B t mid new → Explains C t old new
 explains_hub_on A B C t value m n old mid new some f a first next b three single =
     each_joined (LearnedSet A t value) (Explained HearsSet B t) (Explained Hears C t)
-    (λ j p s u v x y. record {
+    (λ j s u v x y. record {
       spec = y.spec ∙ x.spec;
       address = y.address ∙ x.address;
       so = λ h ruled.
           let set = x.so h.at in
-          f s.spec set.0 (λ least. subst B x.spec (y.so (record { hears = hears_on t p s u x.spec x.address h; addressed = some; configured = λ z. least (sym set.1 ∙ z) }) (subst IsSpec (sym x.spec) ruled)));
+          f s.spec set.0 (λ least. subst B x.spec (y.so (record { hears = hears_on t j s u x.spec x.address h; addressed = some; configured = λ z. least (sym set.1 ∙ z) }) (subst IsSpec (sym x.spec) ruled)));
     })
     old mid new (a (went_unshared n mid new next single)) (b (went_three m old mid first three) single)
 
@@ -125,10 +126,10 @@ pub explains_after : (A B C : Spec → Type 0) (t : Target) (value m n : ℕ) (o
     → LearnsSet A t value old mid → WentOn m old q mid r → WentOn n mid s new u → Explains B t mid new → Explains C t old new
 explains_after A B C t value m n old mid new f a first next b three single =
     each_joined (LearnedSet A t value) (Explained Hears B t) (Explained Hears C t)
-    (λ j p s u v x y. record {
+    (λ j s u v x y. record {
       spec = y.spec ∙ x.spec;
       address = y.address ∙ x.address;
-      so = λ h ruled. f s.spec (x.so h.at).0 (subst B x.spec (y.so (hears_on t p s u x.spec x.address h) (subst IsSpec (sym x.spec) ruled)));
+      so = λ h ruled. f s.spec (x.so h.at).0 (subst B x.spec (y.so (hears_on t j s u x.spec x.address h) (subst IsSpec (sym x.spec) ruled)));
     })
     old mid new (a (went_unshared n mid new next single)) (b (went_three m old mid first three) single)
 
@@ -143,8 +144,8 @@ module _ (t : Target) (tier supply : ℕ) (bytes : List ℕ) where
   deep_refused stop w is = explains_none (Refuses t wrong stop) t w (λ spec r. refused_deep tier supply bytes spec stop is)
 
   module _ (fits : fits_tier tier bytes ≡ Ok tt) where
-    shallow : (is_hub bytes && tier == 7) ≡ false
-    shallow = split (is_hub bytes && tier == 7) fits
+    shallow : (is_hub_device bytes && tier == 7) ≡ false
+    shallow = split (is_hub_device bytes && tier == 7) fits
       where
         split : (deep : Bool) → (let done : Result (Unit {0}) Stop = if deep then Err (Refused TooDeep) else Ok tt in done ≡ Ok tt) → deep ≡ false
         split true is = absurd cc
@@ -165,17 +166,17 @@ module _ (t : Target) (tier supply : ℕ) (bytes : List ℕ) where
       -- none is within the supply
       pub power_refused : (old new : World) → choice_of supply texts ≡ None → Learns Read t old new → Explains (Refuses t wrong (Refused NoPower)) t old new
       power_refused old new none =
-          learned_explains Read (Refuses t wrong (Refused NoPower)) t old new (λ spec has r. fault_chosen tier supply bytes spec shallow texts (has r.max) ∙ ap (λ o. chosen_fault (is_hub bytes) texts o spec) none)
+          learned_explains Read (Refuses t wrong (Refused NoPower)) t old new (λ spec has r. fault_chosen tier supply bytes spec shallow texts (has r.max) ∙ ap (λ o. chosen_fault (is_hub_device bytes) texts o spec) none)
 
       module _ (chosen : ℕ) (within : choice_of supply texts ≡ Some chosen) where
-        fault_set : (spec : Spec) → HasConfigurations (configuration_count bytes) texts spec → wrong spec ≡ chosen_fault (is_hub bytes) texts (Some chosen) spec
-        fault_set spec has = fault_chosen tier supply bytes spec shallow texts has ∙ ap (λ o. chosen_fault (is_hub bytes) texts o spec) within
+        fault_set : (spec : Spec) → HasConfigurations (configuration_count bytes) texts spec → wrong spec ≡ chosen_fault (is_hub_device bytes) texts (Some chosen) spec
+        fault_set spec has = fault_chosen tier supply bytes spec shallow texts has ∙ ap (λ o. chosen_fault (is_hub_device bytes) texts o spec) within
 
         -- it is not set to the one that was chosen
         set_refused_for : (value : ℕ) (stop : Stop) (spec : Spec) → chosen < length texts → value ≡ configuration_value (slice_index_or texts chosen []) → value < 256 → Read spec → RefusesValue t value stop spec → Refuses t wrong stop spec
         set_refused_for value (Refused cause) spec inside is byte has refused r =
             let good = chosen_value spec (configuration_count bytes) chosen value texts (has r.max) inside is byte in
-            fault_set spec (has r.max) ∙ ap (λ o. option_or o (if is_hub bytes then start_fault (slice_index_or texts chosen []) spec else None)) (refused good.taken r)
+            fault_set spec (has r.max) ∙ ap (λ o. option_or o (if is_hub_device bytes then start_fault (slice_index_or texts chosen []) spec else None)) (refused good.taken r)
         set_refused_for value (Fault fault) spec inside is byte has refused r = tt
 
         pub set_refused : (value m n : ℕ) (outcome : Result (Unit {0}) PipeFault) (stop : Stop) (old mid new : World) {q r s u : Option (List ℕ)} → t.addr ≢ 0 → chosen < length texts → value ≡ configuration_value (slice_index_or texts chosen []) → value < 256
@@ -187,17 +188,17 @@ module _ (t : Target) (tier supply : ℕ) (bytes : List ℕ) where
             (setting_refused t value outcome stop mid new some failed what why)
 
         -- it is a hub that cannot be used
-        hub_refused_for : (value : ℕ) (stop : Stop) (spec : Spec) → is_hub bytes ≡ true → chosen < length texts → value ≡ configuration_value (slice_index_or texts chosen []) → value < 256
+        hub_refused_for : (value : ℕ) (stop : Stop) (spec : Spec) → is_hub_device bytes ≡ true → chosen < length texts → value ≡ configuration_value (slice_index_or texts chosen []) → value < 256
             → Allowed Read spec → (value ≢ 0 → Refuses t (start_fault (slice_index_or texts chosen [])) stop spec) → Refuses t wrong stop spec
         hub_refused_for value (Refused cause) spec hub inside is byte has refused r =
             let good = chosen_value spec (configuration_count bytes) chosen value texts (has.0 r.max) inside is byte in
             fault_set spec (has.0 r.max)
-            ∙ ap (λ b. option_or (if b then Some (Stalled request.SetConfig) else None) (if is_hub bytes then start_fault (slice_index_or texts chosen []) spec else None)) has.1
+            ∙ ap (λ b. option_or (if b then Some (Stalled request.SetConfig) else None) (if is_hub_device bytes then start_fault (slice_index_or texts chosen []) spec else None)) has.1
             ∙ ap (λ b. if b then start_fault (slice_index_or texts chosen []) spec else None) hub
             ∙ refused good.some r
         hub_refused_for value (Fault fault) spec hub inside is byte has refused r = tt
 
-        pub hub_refused : (value m n : ℕ) (text : List ℕ) (stop : Stop) (old mid new : World) {q r s u : Option (List ℕ)} → t.addr ≢ 0 → is_hub bytes ≡ true → chosen < length texts → value ≡ configuration_value (slice_index_or texts chosen []) → value < 256
+        pub hub_refused : (value m n : ℕ) (text : List ℕ) (stop : Stop) (old mid new : World) {q r s u : Option (List ℕ)} → t.addr ≢ 0 → is_hub_device bytes ≡ true → chosen < length texts → value ≡ configuration_value (slice_index_or texts chosen []) → value < 256
             → LearnsSet (Allowed Read) t value old mid → WentOn m old q mid r → WentOn n mid s new u → text ≡ slice_index_or texts chosen []
             → ExplainsSet (Refuses t (start_fault text) stop) t mid new → Explains (Refuses t wrong stop) t old new
         hub_refused value m n text stop old mid new some hub inside is byte set first next same explains =

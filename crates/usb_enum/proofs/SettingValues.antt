@@ -8,7 +8,7 @@ use Rattle.std.proofs.lemmas.Bool.Decides.{nat_tests}
 use Rattle.std.proofs.lemmas.List.{get_or-take, length-take, take_min}
 use Rattle.std.proofs.lemmas.Option.{same_Some}
 use Rattle.usb_descriptor.specs.declared.fault.DescriptorFault.{DescriptorFault}
-use Rattle.usb_descriptor.specs.Config.{config_head_of, config_of, configuration_value}
+use Rattle.usb_descriptor.specs.Config.{config_head_of, config_of, configuration_value, total_in}
 use Rattle.usb_descriptor.proofs.Interface.{header_of}
 use Rattle.usb_descriptor.specs.Words.{word_at}
 use Rattle.usb_device.specs.Bulk as device
@@ -19,9 +19,9 @@ use Rattle.usb_world.proofs.Interface.{or_left, or_right, same_equal}
 use Rattle.usb_enum.specs.declared.cause.Cause.{Cause}
 use Rattle.usb_enum.specs.declared.cause.Cause.TheVariants.{Stalled, BadConfiguration}
 use Rattle.usb_enum.specs.declared.cause.Request.TheVariants as request
-use Rattle.usb_enum.specs.Described.{text_read, total_in, is_good_text, texts_below, text_fault, config_fault, first_fault}
+use Rattle.usb_enum.specs.Verdicts.{text_read, is_good_text, texts_below, text_fault, config_fault, first_fault}
 use Rattle.usb_enum.specs.Readings.{HasConfigurations}
-use Rattle.usb_enum.specs.Text.{has_value}
+use Rattle.usb_enum.specs.Text.{any_has_value}
 
 -- Each of some configurations that are good
 
@@ -42,7 +42,7 @@ each_good spec (suc n) i below h = pick (cases_order i n) (λ less. each_good sp
 -- the text of an index is good, and no earlier one has its value
 pub record IsFresh (spec : Spec) (i : ℕ) (text : List ℕ) : Type 0 where
   pub good : is_good_text text ≡ true
-  pub first : has_value (configuration_value (text_read text)) (texts_below spec i) ≡ false
+  pub first : any_has_value (configuration_value (text_read text)) (texts_below spec i) ≡ false
 
 fresh_by : (refused good old : Bool) (i : ℕ) → (if refused then Some (Stalled request.Config) else (if good && not old then None else Some (BadConfiguration i))) ≡ None → (good ≡ true) × (old ≡ false)
 fresh_by true good old i h = absurd cc
@@ -54,7 +54,7 @@ pub fresh_text : (spec : Spec) (i : ℕ) (text : List ℕ) → slice_get spec.co
 unfolding config_fault
 fresh_text spec i text stands h =
     let parts =
-    fresh_by spec.stalls.config (is_good_text text) (has_value (configuration_value (text_read text)) (texts_below spec i)) i
+    fresh_by spec.stalls.config (is_good_text text) (any_has_value (configuration_value (text_read text)) (texts_below spec i)) i
     (sym (ap (λ o. if spec.stalls.config then Some (Stalled request.Config) else text_fault i (texts_below spec i) o) stands) ∙ h) in
     record { good = parts.0; first = parts.1 }
 

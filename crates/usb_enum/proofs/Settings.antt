@@ -1,4 +1,5 @@
 -- How what is learned of a device joins where it is configured.
+use Rattle.usb_device.specs.Tree.{Spot}
 use Rattle.std.proofs.Common.{◌≡◌, ℕ, ◌==◌, List, Option, Result, Ok, false, refl, ap, subst, ◌∙◌}
 use Rattle.usb_descriptor.specs.Config.{configuration_value}
 use Rattle.usb_descriptor.specs.Device.{configuration_count}
@@ -8,19 +9,19 @@ use Rattle.usb_device.specs.Rows.{State}
 use Rattle.usb_world.specs.Devices.{EachWas}
 use Rattle.usb_world.specs.World.{World}
 use Rattle.usb_world.proofs.Interface.{each_joined, each_wider}
-use Rattle.usb_bus.specs.Traced.{WentOn}
+use Rattle.usb_bus.specs.Traces.{WentOn}
 use Rattle.usb_transaction.specs.declared.target.Target.{Target}
 use Rattle.usb_pipe.specs.declared.fault.PipeFault.{PipeFault}
 use Rattle.usb_hub.specs.Settings.{ConfigurationAsked, IsFresh}
 use Rattle.usb_hub.proofs.Interface.{stays-registers, stays-spec}
 use Rattle.usb_enum.specs.declared.finding.Accepted.{Accepted}
 use Rattle.usb_enum.specs.declared.strings.StringIndexes.{StringIndexes}
-use Rattle.usb_enum.specs.Described.{strings_by}
+use Rattle.usb_enum.specs.Verdicts.{strings_by}
 use Rattle.usb_enum.specs.Device.{string_indexes, configuration_of}
-use Rattle.usb_enum.specs.Learned.{Learned, Learns}
-use Rattle.usb_enum.specs.Present.{HasReadings, LearnedSet, LearnsSet, TellsPorts}
+use Rattle.usb_enum.specs.LearnedFacts.{Learned, Learns}
+use Rattle.usb_enum.specs.PresentDevices.{HasReadings, LearnedSet, LearnsSet, TellsPorts}
 use Rattle.usb_enum.specs.Readings.{AtMaximum, HasConfigurations}
-use Rattle.usb_enum.proofs.Sharing.{went_unshared}
+use Rattle.usb_enum.proofs.SharedAddresses.{went_unshared}
 
 -- where nothing changed but where its transfer stands
 fresh_on : (s v : State) → OnlyStage s v → IsFresh s → IsFresh v
@@ -35,8 +36,8 @@ fresh_on s v frame fresh = record {
 abbrev pub Allowed : (Spec → Type 0) → Spec → Type 0
 Allowed So x = So x × (x.stalls.set_config ≡ false)
 
-set_after : (So : Spec → Type 0) (t : Target) (value : ℕ) (last : World) (j : ℕ) (p : List ℕ) (s u v : State) → Learned So t j p s u → ConfigurationAsked t value (Ok tt) last j p u v → LearnedSet (Allowed So) t value j p s v
-set_after So t value last j p s u v a x = record {
+set_after : (So : Spec → Type 0) (t : Target) (value : ℕ) (last : World) (j : Spot) (s u v : State) → Learned So t j s u → ConfigurationAsked t value (Ok tt) last j u v → LearnedSet (Allowed So) t value j s v
+set_after So t value last j s u v a x = record {
   spec = ap (λ y. y.spec) x.frame ∙ stays-spec s u a.frame;
   address = ap (λ y. y.registers.address) x.frame ∙ ap (λ r. r.address) (stays-registers s u a.frame);
   so = λ at.
@@ -44,8 +45,8 @@ set_after So t value last j p s u v a x = record {
       ((a.so at, subst (λ y. y.stalls.set_config ≡ false) (stays-spec s u a.frame) set.0), ap (λ r. r.configuration) set.2.registers, set.2.fresh);
 }
 
-learned_after : (A B : Spec → Type 0) (t : Target) (value : ℕ) (j : ℕ) (p : List ℕ) (s u v : State) → LearnedSet A t value j p s u → Learned B t j p u v → LearnedSet (λ x. A x × B x) t value j p s v
-learned_after A B t value j p s u v a b = record {
+learned_after : (A B : Spec → Type 0) (t : Target) (value : ℕ) (j : Spot) (s u v : State) → LearnedSet A t value j s u → Learned B t j u v → LearnedSet (λ x. A x × B x) t value j s v
+learned_after A B t value j s u v a b = record {
   spec = stays-spec u v b.frame ∙ a.spec;
   address = ap (λ r. r.address) (stays-registers u v b.frame) ∙ a.address;
   so = λ at.
@@ -53,8 +54,8 @@ learned_after A B t value j p s u v a b = record {
       ((so.0, subst B a.spec (b.so (ap (λ n. n == t.addr) a.address ∙ at))), ap (λ r. r.configuration) (stays-registers u v b.frame) ∙ so.1, fresh_on u v b.frame so.2);
 }
 
-learned_wider : (A B : Spec → Type 0) (t : Target) (value : ℕ) → ((x : Spec) → A x → B x) → (j : ℕ) (p : List ℕ) (s v : State) → LearnedSet A t value j p s v → LearnedSet B t value j p s v
-learned_wider A B t value f j p s v l = record { spec = l.spec; address = l.address; so = λ at. let so = l.so at in (f s.spec so.0, so.1, so.2) }
+learned_wider : (A B : Spec → Type 0) (t : Target) (value : ℕ) → ((x : Spec) → A x → B x) → (j : Spot) (s v : State) → LearnedSet A t value j s v → LearnedSet B t value j s v
+learned_wider A B t value f j s v l = record { spec = l.spec; address = l.address; so = λ at. let so = l.so at in (f s.spec so.0, so.1, so.2) }
 
 -- it was read, and then it was configured
 pub set_learned : (A : Spec → Type 0) (t : Target) (value l : ℕ) (outcome : Result (Unit {0}) PipeFault) (before given set : World) {b c : Option (List ℕ)} → Learns A t before given → WentOn l given b set c → outcome ≡ Ok tt

@@ -5,25 +5,21 @@ use Rattle.usb_port.specs.declared.status.PortStatus.{PortStatus}
 use Rattle.usb_request.specs.declared.setup.Setup.{Setup}
 use Rattle.usb_request.specs.Layout.{bytes_of}
 use Rattle.usb_request.specs.Requests.{clear_port_feature, get_device_descriptor, get_port_status, set_port_feature}
-use Rattle.usb_device.specs.declared.calls.PortCall.{PortCall}
-use Rattle.usb_device.specs.Calls.{set_call, clear_call}
+use Rattle.usb_port.specs.declared.call.PortCall.{PortCall}
+use Rattle.usb_port.specs.Calls.{set_call, clear_call}
 use Rattle.usb_device.specs.Delivery.{is_clearing}
-use Rattle.usb_world.specs.declared.event.Event.{Event}
 use Rattle.usb_world.specs.declared.losses.Losses.{Losses}
 use Rattle.usb_world.specs.declared.types.Attempt.{Attempt}
 use Rattle.usb_world.specs.declared.types.BusFault.{BusFault}
-use Rattle.usb_world.specs.declared.types.BusFault.TheVariants.{LimitReached}
 use Rattle.usb_world.specs.Losses.{one_more, counted, after_clearing}
-use Rattle.usb_world.specs.OneHolder.{IsMade}
+use Rattle.usb_world.specs.OneHolder.{IsMade, IsOut}
 use Rattle.usb_world.specs.Passes.{IsSettled}
-use Rattle.usb_world.specs.Steps.{Step, attempt, root_call, event, report, after, with_attempt, ready, due_from, took, is_due, Course, here, step}
-use Rattle.usb_world.specs.World.{World, Made}
-use Rattle.usb_world.proofs.Interface.{made_is, no, same_equal}
+use Rattle.usb_world.specs.Steps.{Step, attempt, root_call, event, report, after, Course, here, step}
+use Rattle.usb_world.specs.World.{World}
+use Rattle.usb_world.proofs.Interface.{faulted, in_clears, limited, loses, losses_as, no, not_true, out_counts, same_equal, set_up_counts}
 use Rattle.usb_transaction.specs.declared.target.Target.{Target}
 use Rattle.usb_transaction.specs.Losses.{begins_no_stretch}
-use Rattle.usb_transaction.specs.Trail.{start, next}
 use Rattle.usb_transaction.specs.Transactions.{in_attempt, out_attempt, setup_attempt}
-use Rattle.usb_transaction.proofs.Interface.{in_clears, loses, losses_as, out_losses, set_up_losses}
 use Rattle.usb_address.proofs.Interface.{attempt_settled, same_setup}
 use Rattle.usb_pipe.specs.declared.fault.PipeFault.{PipeFault}
 use Rattle.usb_pipe.specs.Attempts.{IsOfTransfer}
@@ -47,31 +43,6 @@ goes_same w v same = record { run = rw same (omega arith) }
 
 -- Attempts
 
-due_made : (es : List Event) (w : World) → ((due_from es w).attempts ≡ w.attempts) × ((due_from es w).fault ≡ w.fault)
-unfolding due_from took
-due_made [] w = (refl, refl)
-due_made (e ∷ es) w =
-    elim (is_due e w) as (λ b. ((if b then due_from es (took e es w) else w).attempts ≡ w.attempts) × ((if b then due_from es (took e es w) else w).fault ≡ w.fault)) [
-      | true ↦ due_made es (took e es w)
-      | false ↦ (refl, refl)
-    ]
-
-made_by : (a : Attempt) (w : World) → IsMade a w → Made w (after (attempt a) w)
-unfolding ready with_attempt
-made_by a w m = record {
-  sound = m.sound;
-  one = ap (λ v. v.attempts) (made_is a w m) ∙ ap (λ n. n + 1) (due_made w.left w).0;
-  still = ap (λ v. v.fault) (made_is a w m) ∙ (due_made w.left w).1 ∙ m.sound;
-}
-
-pub limited : (a : Attempt) (w : World) → w.fault ≡ None → (w.attempts == w.limit) ≡ true → after (attempt a) w ≡ record w { fault = Some LimitReached }
-unfolding after
-limited a w sound full = rw (sound, full) refl
-
-pub faulted : (a : Attempt) (w : World) (fault : BusFault) → w.fault ≡ Some fault → after (attempt a) w ≡ w
-unfolding after
-faulted a w fault e = rw e refl
-
 -- where it is made
 attempt_goes : (a : Attempt) (w : World) → IsSettled w.roots → (IsMade a w → NoNewStretch w (after (attempt a) w)) → NoNewStretch w (after (attempt a) w)
 attempt_goes a w settled made = by_fault w.fault refl
@@ -91,20 +62,17 @@ counted_run false l = omega arith
 
 in_goes : (t : Target) (w : World) → IsMade (in_attempt t 0) w → NoNewStretch w (after (attempt (in_attempt t 0)) w)
 in_goes t w m = record {
-  run = subst (λ l. w.losses.run ≤ l.run) (sym (losses_as (in_attempt t 0) w (loses (in_attempt t 0) w) false m refl (in_clears t 0 w))) (counted_run (loses (in_attempt t 0) w) w.losses);
+  run = subst (λ l. w.losses.run ≤ l.run) (sym (losses_as (in_attempt t 0) w (loses (in_attempt t 0) w) false m refl (in_clears (in_attempt t 0) (record { kind = refl; payload = refl }) w))) (counted_run (loses (in_attempt t 0) w) w.losses);
 }
 
 out_goes : (t : Target) {toggle : _} (a : Attempt) → a ≡ out_attempt t 0 toggle [] → (w : World) → IsMade a w → NoNewStretch w (after (attempt a) w)
-out_goes t {toggle} a e w =
-    subst (λ x. IsMade x w → NoNewStretch w (after (attempt x) w)) (sym e)
-    (λ m. goes_same w _ (out_losses t 0 toggle [] w _ m.settled (next w start (made_by (out_attempt t 0 toggle []) w m))))
+out_goes t {toggle} a e w m = goes_same w _ (out_counts a [] (subst (λ x. IsOut x toggle []) (sym e) (record { kind = refl; payload = refl })) w m)
 
 -- Transfers of a request that clears no change of connection
 
 module _ (t : Target) (request : Setup) (none : begins_no_stretch request ≡ true) where
   set_up_goes : (w : World) → IsMade (setup_attempt t (bytes_of request)) w → NoNewStretch w (after (attempt (setup_attempt t (bytes_of request))) w)
-  set_up_goes w m =
-      goes_same w _ (set_up_losses t (bytes_of request) w _ (ap begins_no_stretch (same_setup request) ∙ none) m.settled (next w start (made_by (setup_attempt t (bytes_of request)) w m)))
+  set_up_goes w m = goes_same w _ (set_up_counts (setup_attempt t (bytes_of request)) (bytes_of request) refl refl (not_true _ (ap begins_no_stretch (same_setup request) ∙ none)) w m)
 
   abbrev Goes : Step → World → Type 0
   Goes s w = NoNewStretch w (after s w) × IsSettled (after s w).roots

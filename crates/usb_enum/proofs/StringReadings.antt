@@ -5,18 +5,18 @@ use Rattle.usb_device.specs.Spec.{Spec}
 use Rattle.usb_world.specs.Devices.{EachWas}
 use Rattle.usb_world.specs.World.{World}
 use Rattle.usb_transaction.specs.declared.target.Target.{Target}
-use Rattle.usb_bus.specs.Traced.{WentOn}
+use Rattle.usb_bus.specs.Traces.{WentOn}
 use Rattle.usb_pipe.specs.declared.fault.PipeFault.{PipeFault}
 use Rattle.usb_pipe.specs.declared.fault.PipeFault.TheVariants as pipe
-use Rattle.usb_hub.specs.Asked.{unless_refused, string_given, HasText, StringAsked}
+use Rattle.usb_hub.specs.GivenAnswers.{unless_refused, string_given, HasText, StringAsked}
 use Rattle.usb_enum.specs.declared.strings.StringIndexes.{StringIndexes}
 use Rattle.usb_enum.specs.declared.strings.Strings.{Strings}
-use Rattle.usb_enum.specs.Described.{string_read, string_at, strings_by}
-use Rattle.usb_enum.specs.Learned.{Learns}
+use Rattle.usb_enum.specs.Verdicts.{string_read, string_at, strings_by}
+use Rattle.usb_enum.specs.LearnedFacts.{Learns}
 use Rattle.usb_enum.specs.Readings.{AtMaximum, HasString, language_of, string_in, no_strings}
 use Rattle.usb_enum.specs.Stop.{stop_of}
-use Rattle.usb_enum.specs.Text.{units_of, first_language_of}
-use Rattle.usb_enum.proofs.Learning.{learns_wider}
+use Rattle.usb_enum.specs.Text.{string_units, first_language_of}
+use Rattle.usb_enum.proofs.LearnedFacts.{learns_wider}
 use Rattle.usb_enum.proofs.Readings.{learns_none, learns_on, refusal_learned, text_learned}
 
 -- One string
@@ -58,11 +58,11 @@ nonzero index named = grind (arith, named)
 abbrev pub items_in : Option (Vec ℕ) → Option (List ℕ)
 items_in bytes = option_map (λ (text : Vec ℕ). text.items) bytes
 
-pub units_learned : (t : Target) (index : ℕ) (bytes : Option (Vec ℕ)) (string : Option (List ℕ)) (old new : World) → (index ≡ 0 → ⊥) → string ≡ option_and_then units_of (items_in bytes)
+pub units_learned : (t : Target) (index : ℕ) (bytes : Option (Vec ℕ)) (string : Option (List ℕ)) (old new : World) → (index ≡ 0 → ⊥) → string ≡ option_and_then string_units (items_in bytes)
     → Learns (AtMaximum t (HasString index bytes)) t old new → Learns (AtMaximum t (λ spec. string ≡ string_in spec index)) t old new
 units_learned t index bytes string old new named is =
     learns_wider (AtMaximum t (HasString index bytes)) (AtMaximum t (λ spec. string ≡ string_in spec index)) t old new
-    (λ spec has max. is ∙ ap (option_and_then units_of) (has max) ∙ sym (ap (λ b. if b then None else option_and_then units_of (string_read spec index)) (nonzero index named)))
+    (λ spec has max. is ∙ ap (option_and_then string_units) (has max) ∙ sym (ap (λ b. if b then None else option_and_then string_units (string_read spec index)) (nonzero index named)))
 
 pub unnamed_learned : (t : Target) (index : ℕ) (w : World) → index ≡ 0 → Learns (AtMaximum t (λ spec. None ≡ string_in spec index)) t w w
 unnamed_learned t index w unnamed = learns_none (AtMaximum t (λ spec. None ≡ string_in spec index)) t w (λ spec max. rw unnamed refl)
@@ -76,7 +76,7 @@ language_learned t bytes language old new is =
 
 at_language : (spec : Spec) (index language : ℕ) → Some language ≡ language_of spec → string_at spec index ≡ string_in spec index
 unfolding string_at
-at_language spec index language is = ap (λ o. if index == 0 || not (is_some o) then None else option_and_then units_of (string_read spec index)) (sym is) ∙ split (index == 0) (option_and_then units_of (string_read spec index))
+at_language spec index language is = ap (λ o. if index == 0 || not (is_some o) then None else option_and_then string_units (string_read spec index)) (sym is) ∙ split (index == 0) (option_and_then string_units (string_read spec index))
   where
     split : (b : Bool) (string : Option (List ℕ)) → (if b || false then None else string) ≡ (if b then None else string)
     split true string = refl
@@ -84,7 +84,7 @@ at_language spec index language is = ap (λ o. if index == 0 || not (is_some o) 
 
 at_none : (spec : Spec) (index : ℕ) → None ≡ language_of spec → string_at spec index ≡ None
 unfolding string_at
-at_none spec index is = ap (λ o. if index == 0 || not (is_some o) then None else option_and_then units_of (string_read spec index)) (sym is) ∙ split (index == 0) (option_and_then units_of (string_read spec index))
+at_none spec index is = ap (λ o. if index == 0 || not (is_some o) then None else option_and_then string_units (string_read spec index)) (sym is) ∙ split (index == 0) (option_and_then string_units (string_read spec index))
   where
     split : (b : Bool) (string : Option (List ℕ)) → (if b || true then None else string) ≡ None
     split true string = refl

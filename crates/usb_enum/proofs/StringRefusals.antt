@@ -9,12 +9,12 @@ use Rattle.usb_world.specs.World.{World}
 use Rattle.usb_world.proofs.Interface.{no}
 use Rattle.usb_transaction.specs.declared.target.Target.{Target}
 use Rattle.usb_transaction.specs.Failures.{NoThreeDamaged}
-use Rattle.usb_bus.specs.Traced.{WentOn}
+use Rattle.usb_bus.specs.Traces.{WentOn}
 use Rattle.usb_pipe.specs.declared.fault.PipeFault.{PipeFault}
 use Rattle.usb_pipe.specs.declared.fault.PipeFault.TheVariants as pipe
-use Rattle.usb_hub.specs.Asked.{string_given, HasText, StringAsked, WhyAsked}
+use Rattle.usb_hub.specs.GivenAnswers.{string_given, HasText, StringAsked, WhyAsked}
 use Rattle.usb_enum.specs.declared.stop.Stop.{Stop}
-use Rattle.usb_enum.specs.Learned.{Learns, Explains}
+use Rattle.usb_enum.specs.LearnedFacts.{Learns, Explains}
 use Rattle.usb_enum.specs.Refusals.{IsResponsive, IsRefusedFor, Refuses, no_fault}
 use Rattle.usb_enum.specs.Stop.{stop_of}
 use Rattle.usb_enum.proofs.Readings.{learns_on}

@@ -2,10 +2,11 @@
 use Rattle.std.proofs.Common.{◌≡◌, refl, arith}
 use Rattle.std.proofs.lemmas.Bool.Decides.{nat_tests}
 use Rattle.std.specs.Prelude.{ℕ, ◌≤◌, ◌==◌, List, length, nat_lt, Bool, true, false, ◌&&◌, not, Result, Ok, Err, is_ok, if◌then◌else◌, slice_index}
+use Rattle.usb_request.specs.Codes.{DEVICE}
 use Rattle.usb_transaction.specs.Transactions.{IsTarget}
 use Rattle.usb_descriptor.specs.declared.fault.DescriptorFault.{DescriptorFault}
 use Rattle.usb_descriptor.specs.declared.fault.DescriptorFault.TheVariants.{Short, WrongType, Length, MaxPacket}
-use Rattle.usb_descriptor.specs.Device.{is_max_packet, device_after, device_head_of, device_of}
+use Rattle.usb_descriptor.specs.Device.{is_max_packet, device_after, device_head_of, device_spelled}
 use Rattle.usb_hub.specs.declared.port.HubPort.{HubPort}
 use Rattle.usb_hub.specs.declared.port.HubPort.TheVariants.{Root, External}
 use Rattle.usb_hub.specs.Port.{status_bound, order_bound}
@@ -13,7 +14,7 @@ use Rattle.usb_pipe.proofs.Interface.{bound_wide}
 use Rattle.usb_enum.specs.declared.finding.Accepted.{Accepted}
 use Rattle.usb_enum.specs.Bounds.{IsWide, read_bound, none_bound, enumeration_bound, widest_enumeration}
 use Rattle.usb_enum.specs.Device.{is_device, target_of}
-use Rattle.usb_enum.specs.Found.{IsWhole}
+use Rattle.usb_enum.specs.Findings.{IsWhole}
 
 head_ok : (a b c good : Bool) (n : ℕ) → is_ok (if a then Err Short else (if b then Err WrongType else (if c then Err Length else (if not good then Err MaxPacket else Ok n)))) ≡ true → good ≡ true
 head_ok true b c good n h = absurd cc
@@ -24,7 +25,7 @@ head_ok false false false false n h = absurd cc
 
 pub head_maximum : (low : Bool) (bytes : List ℕ) → is_ok (device_head_of low bytes) ≡ true → is_max_packet low (slice_index bytes 7) ≡ true
 unfolding device_head_of
-head_maximum low bytes h = head_ok (nat_lt (length bytes) 8) (not (slice_index bytes 1 == 1)) (not (slice_index bytes 0 == 18)) (is_max_packet low (slice_index bytes 7)) (slice_index bytes 7) h
+head_maximum low bytes h = head_ok (nat_lt (length bytes) 8) (not (slice_index bytes 1 == DEVICE)) (not (slice_index bytes 0 == 18)) (is_max_packet low (slice_index bytes 7)) (slice_index bytes 7) h
 
 ok_long : (short : Bool) (rest : Result (List ℕ) DescriptorFault) → is_ok (if short then Err Short else rest) ≡ true → is_ok rest ≡ true
 ok_long true rest h = absurd cc
@@ -35,7 +36,7 @@ ok_after (Ok max) bytes h = refl
 ok_after (Err why) bytes h = absurd cc
 
 device_maximum : (low : Bool) (bytes : List ℕ) → is_device low bytes ≡ true → is_max_packet low (slice_index bytes 7) ≡ true
-unfolding device_of
+unfolding device_spelled
 device_maximum low bytes h =
     let head = device_head_of low bytes in
     head_maximum low bytes (ok_after head bytes (ok_long (nat_lt (length bytes) 18) (device_after head bytes) h))

@@ -6,7 +6,7 @@ use Rattle.std.proofs.lemmas.List.{get_or-take}
 use Rattle.usb_descriptor.specs.Config.{configuration_value}
 use Rattle.usb_descriptor.specs.Device.{device_head_of, configuration_count}
 use Rattle.usb_device.specs.Rows.{State}
-use Rattle.usb_device.specs.Tree.{Ports}
+use Rattle.usb_device.specs.Tree.{Ports, Spot}
 use Rattle.usb_device.specs.View.{state_there}
 use Rattle.usb_device.specs.Spec.{Spec, IsSpec}
 use Rattle.usb_resources.specs.Power.{supply_of}
@@ -17,8 +17,8 @@ use Rattle.usb_world.specs.PluggedDevices.{hub_ports}
 use Rattle.usb_world.specs.SanePorts.{IsSane}
 use Rattle.usb_world.specs.World.{World}
 use Rattle.usb_world.proofs.Interface.{sane_spec, self_path}
-use Rattle.usb_bus.specs.Traced.{WentOn}
-use Rattle.usb_address.specs.Owned.{KeepsAddresses}
+use Rattle.usb_bus.specs.Traces.{WentOn}
+use Rattle.usb_address.specs.Ownership.{KeepsAddresses}
 use Rattle.usb_hub.specs.declared.port.HubPort.{HubPort}
 use Rattle.usb_enum.specs.declared.addressed.Addressed.{Addressed}
 use Rattle.usb_enum.specs.declared.cause.Cause.TheVariants.{TooDeep}
@@ -27,18 +27,18 @@ use Rattle.usb_enum.specs.declared.hub.HubFacts.{HubFacts}
 use Rattle.usb_enum.specs.declared.stop.Stop.{Stop}
 use Rattle.usb_enum.specs.declared.stop.Stop.TheVariants.{Refused}
 use Rattle.usb_enum.specs.Addresses.{Within}
-use Rattle.usb_enum.specs.Described.{verdict, is_good_hub, facts_of, texts_below, texts_of, first_fault, strings_by, IsAs}
-use Rattle.usb_enum.specs.Device.{is_device, is_hub, fits_tier, string_indexes, configuration_of, HasFacts}
+use Rattle.usb_enum.specs.Verdicts.{verdict, is_good_hub, facts_of, texts_below, texts_of, first_fault, strings_by, IsAs}
+use Rattle.usb_enum.specs.Device.{is_device, is_hub_device, fits_tier, string_indexes, configuration_of, HasFacts}
 use Rattle.usb_enum.specs.Frames.{OnlySets}
-use Rattle.usb_enum.specs.Found.{IsAccepted, IsListed, IsOwn, IsWhole}
-use Rattle.usb_enum.specs.Present.{Finds, HasHead, HasTaken, IsAddressed, HasReadings, LearnedSet, TellsPorts}
+use Rattle.usb_enum.specs.Findings.{IsAccepted, IsListed, IsOwn, IsWhole}
+use Rattle.usb_enum.specs.PresentDevices.{Finds, HasHead, HasTaken, IsAddressed, HasReadings, LearnedSet, TellsPorts}
 use Rattle.usb_enum.specs.Readings.{AtMaximum, IsGoodHub}
 use Rattle.usb_enum.specs.Text.{choice_of}
 use Rattle.usb_enum.proofs.Courses.{went_in_order, went_regular}
 use Rattle.usb_enum.proofs.Enumerations.{within_on, takes_then}
 use Rattle.usb_enum.proofs.Heads.{head_packet}
 use Rattle.usb_enum.proofs.Presence.{finds_on}
-use Rattle.usb_enum.proofs.Reaching.{reaches_set}
+use Rattle.usb_enum.proofs.ReachedDevices.{reaches_set}
 use Rattle.usb_enum.proofs.VerdictRows.{GaveHead, GaveDevice, GaveTexts, row_accepted}
 
 -- What is read of the first 18 bytes of a descriptor
@@ -49,7 +49,7 @@ front_at d i below = get_or-take 18 d i 0 below
 pub front_count : (d : List ℕ) → configuration_count (take 18 d) ≡ configuration_count d
 front_count d = front_at d 17 (omega arith)
 
-pub front_hub : (d : List ℕ) → is_hub (take 18 d) ≡ is_hub d
+pub front_hub : (d : List ℕ) → is_hub_device (take 18 d) ≡ is_hub_device d
 front_hub d = ap (λ n. n == 9) (front_at d 4 (omega arith))
 
 front_indexes : (d : List ℕ) → string_indexes (take 18 d) ≡ string_indexes d
@@ -64,14 +64,14 @@ shallow_by : (deep : Bool) → (let fits : Result (Unit {0}) Stop = if deep then
 shallow_by true e = absurd cc
 shallow_by false e = refl
 
-shallow : (tier : ℕ) (bytes : List ℕ) → fits_tier tier bytes ≡ Ok tt → (is_hub bytes && tier == 7) ≡ false
-shallow tier bytes e = shallow_by (is_hub bytes && tier == 7) e
+shallow : (tier : ℕ) (bytes : List ℕ) → fits_tier tier bytes ≡ Ok tt → (is_hub_device bytes && tier == 7) ≡ false
+shallow tier bytes e = shallow_by (is_hub_device bytes && tier == 7) e
 
 -- Hubs
 
 -- what is so of one that told of its ports, and of a device that did not
 record HubTold (spec : Spec) (text : List ℕ) (told : Option HubFacts) : Type 0 where
-  good : (is_hub spec.descriptor && not (is_good_hub spec text)) ≡ false
+  good : (is_hub_device spec.descriptor && not (is_good_hub spec text)) ≡ false
   facts : told ≡ facts_of spec
 
 no_hub : (hub good : Bool) → hub ≡ false → (hub && not good) ≡ false
@@ -83,12 +83,12 @@ good_hub hub false e = absurd cc
 good_hub true true e = refl
 good_hub false true e = refl
 
-hub_told : (spec : Spec) (bytes text : List ℕ) (told : Option HubFacts) → IsSpec spec → is_hub bytes ≡ is_hub spec.descriptor → HasFacts bytes text told → TellsPorts text told spec → HubTold spec text told
+hub_told : (spec : Spec) (bytes text : List ℕ) (told : Option HubFacts) → IsSpec spec → is_hub_device bytes ≡ is_hub_device spec.descriptor → HasFacts bytes text told → TellsPorts text told spec → HubTold spec text told
 hub_told spec bytes text (Some facts) ruled same has tells =
     let is : IsGoodHub text facts spec = tells ruled in
-    record { good = good_hub (is_hub spec.descriptor) (is_good_hub spec text) is.good; facts = sym is.told }
+    record { good = good_hub (is_hub_device spec.descriptor) (is_good_hub spec text) is.good; facts = sym is.told }
 hub_told spec bytes text None ruled same has tells = record {
-  good = no_hub (is_hub spec.descriptor) (is_good_hub spec text) (sym same ∙ has);
+  good = no_hub (is_hub_device spec.descriptor) (is_good_hub spec text) (sym same ∙ has);
   facts = sym (ap (λ b. if b then Some (record { ports = hub_ports spec.hub; supply = supply_of false spec.self_powered }) else None) (sym same ∙ has));
 }
 
@@ -97,8 +97,8 @@ hub_told spec bytes text None ruled same has tells = record {
 module _ (spec : Spec) (tier supply : ℕ) (device : Accepted) (target : Target) (bytes : List ℕ) (ruled : IsSpec spec)
     (low : spec.low ≡ target.low) (head : HasHead target.low target.max spec) (allowed : spec.stalls.address ≡ false) (front : bytes ≡ take 18 spec.descriptor)
     (same_low : device.low ≡ target.low) (same_bytes : device.bytes ≡ bytes) (fits : fits_tier tier bytes ≡ Ok tt) (whole : IsWhole supply device) (read : HasReadings bytes device spec) where
-  hub_same : is_hub bytes ≡ is_hub spec.descriptor
-  hub_same = ap is_hub front ∙ front_hub spec.descriptor
+  hub_same : is_hub_device bytes ≡ is_hub_device spec.descriptor
+  hub_same = ap is_hub_device front ∙ front_hub spec.descriptor
 
   count_same : configuration_count bytes ≡ configuration_count spec.descriptor
   count_same = ap configuration_count front ∙ front_count spec.descriptor
@@ -130,12 +130,12 @@ module _ (spec : Spec) (tier supply : ℕ) (device : Accepted) (target : Target)
   }
 
   hub_is : HubTold spec (configuration_of device) device.hub
-  hub_is = hub_told spec device.bytes (configuration_of device) device.hub ruled (ap is_hub same_bytes ∙ hub_same) whole.hub read.ports
+  hub_is = hub_told spec device.bytes (configuration_of device) device.hub ruled (ap is_hub_device same_bytes ∙ hub_same) whole.hub read.ports
 
   own_verdict : verdict spec tier supply ≡ Ok device.chosen
   own_verdict =
       row_accepted spec tier supply device.chosen gave_texts read.allowed
-      (ap (λ texts. is_hub spec.descriptor && not (is_good_hub spec (slice_index_or texts device.chosen []))) (sym texts_same) ∙ hub_is.good)
+      (ap (λ texts. is_hub_device spec.descriptor && not (is_good_hub spec (slice_index_or texts device.chosen []))) (sym texts_same) ∙ hub_is.good)
 
   own_listing : IsAs spec device
   own_listing = record {
@@ -147,9 +147,9 @@ module _ (spec : Spec) (tier supply : ℕ) (device : Accepted) (target : Target)
   }
 
 -- it is set as it says, where its address is the target's and its configuration the chosen one's
-own : (tier supply : ℕ) (addressed : Addressed) (device : Accepted) (j : ℕ) (p : List ℕ) (s v : State) {old new : World} → IsWhole supply device → IsListed addressed tier old new device
-    → LearnedSet (AtMaximum addressed.target (HasReadings addressed.bytes device)) addressed.target (configuration_value (configuration_of device)) j p s v → IsAddressed addressed s → IsSpec s.spec → IsOwn tier supply device v
-own tier supply addressed device j p s v whole is learned found ruled =
+own : (tier supply : ℕ) (addressed : Addressed) (device : Accepted) (j : Spot) (s v : State) {old new : World} → IsWhole supply device → IsListed addressed tier old new device
+    → LearnedSet (AtMaximum addressed.target (HasReadings addressed.bytes device)) addressed.target (configuration_value (configuration_of device)) j s v → IsAddressed addressed s → IsSpec s.spec → IsOwn tier supply device v
+own tier supply addressed device j s v whole is learned found ruled =
     let target = addressed.target in
     let learned_of = learned.so (eq-eqb (address_of s) target.addr found.address) in
     let read : HasReadings addressed.bytes device s.spec = learned_of.0 (head_packet s.spec target.low target.max found.low found.head) in (
@@ -174,7 +174,7 @@ own_found : (port : HubPort) (address tier supply n : ℕ) (addressed : Addresse
     → KeepsAddresses mid new → IsWhole supply device → IsListed addressed tier mid new device → Finds (IsOwn tier supply device) port address old new
 own_found port address tier supply n addressed device {old} {mid} {new} went within taken keeps whole is =
     finds_on (LearnedSet (AtMaximum addressed.target (HasReadings addressed.bytes device)) addressed.target (configuration_value (configuration_of device))) (AddressedByRules addressed) (IsOwn tier supply device) port address
-    (λ j e s v learned found. own tier supply addressed device j e s v whole is learned found.0 found.1) is.learned (within_on port address old mid new within keeps) ruled
+    (λ j s v learned found. own tier supply addressed device j s v whole is learned found.0 found.1) is.learned (within_on port address old mid new within keeps) ruled
   where
     ruled : Finds (AddressedByRules addressed) port address old mid
     ruled = record {

@@ -11,7 +11,7 @@ use Rattle.usb_device.specs.Spec.{Spec, function, usual_hub, no_stalls}
 use Rattle.usb_enum.specs.declared.cause.Cause.TheVariants.{Silent, Busy, Stalled, BadDevice, TooDeep, BadConfiguration, NoPower, BadHub}
 use Rattle.usb_enum.specs.declared.cause.Request.TheVariants as request
 use Rattle.usb_enum.specs.Text as text
-use Rattle.usb_enum.specs.Described.{verdict, first_fault, config_fault, text_read, string_at}
+use Rattle.usb_enum.specs.Verdicts.{verdict, first_fault, config_fault, text_read, string_at}
 
 -- a device descriptor of a class, with its product string and so many configurations
 abbrev pub device_bytes : ℕ → ℕ → ℕ → List ℕ
@@ -80,7 +80,7 @@ pub record Examples : Type 0 where
   pub hub : verdict two_ports 2 500 ≡ Ok 0
 
 pub examples : Examples
-unfolding verdict first_fault config_fault text_read text.needs_of device.device_head_of device.device_of config.config_head_of config.config_of config.items_fault config.pieces_of words.word_at hub.hub_of choice.status_endpoint_of choice.first_counting choice.status_at item.items_in item.items_of
+unfolding verdict first_fault config_fault text_read text.needs_of device.device_head_of device.device_spelled config.config_head_of config.config_of config.items_fault config.pieces_of words.word_at hub.hub_spelled choice.status_endpoint_of choice.first_counting choice.status_at item.items_in item.items_of
 examples =
     record {
       silent = refl;

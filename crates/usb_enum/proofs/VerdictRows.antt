@@ -6,9 +6,9 @@ use Rattle.usb_descriptor.specs.Device.{device_head_of, configuration_count}
 use Rattle.usb_device.specs.Spec.{Spec}
 use Rattle.usb_enum.specs.declared.cause.Cause.{Cause}
 use Rattle.usb_enum.specs.declared.cause.Cause.TheVariants.{Silent, TooDeep}
-use Rattle.usb_enum.specs.Device.{is_device, is_hub}
+use Rattle.usb_enum.specs.Device.{is_device, is_hub_device}
 use Rattle.usb_enum.specs.Text.{choice_of}
-use Rattle.usb_enum.specs.Described.{verdict, is_good_hub, texts_of, config_fault, first_fault, read_verdict, set_verdict}
+use Rattle.usb_enum.specs.Verdicts.{verdict, is_good_hub, texts_of, config_fault, first_fault, read_verdict, set_verdict}
 
 -- it answers with the head of a device descriptor
 pub record GaveHead (spec : Spec) : Type 0 where
@@ -22,7 +22,7 @@ pub record GaveDevice (spec : Spec) (tier : ℕ) : Type 0 where
   pub first : GaveHead spec
   pub address : spec.stalls.address ≡ false
   pub whole : is_device spec.low (take 18 spec.descriptor) ≡ true
-  pub shallow : (is_hub spec.descriptor && tier == 7) ≡ false
+  pub shallow : (is_hub_device spec.descriptor && tier == 7) ≡ false
 
 -- each configuration is good, and one is within the supply
 pub record GaveTexts (spec : Spec) (tier supply chosen : ℕ) : Type 0 where
@@ -36,7 +36,7 @@ pub row_silent : (spec : Spec) (tier supply : ℕ) → spec.silent ≡ true → 
 unfolding verdict
 row_silent spec tier supply a = rw a refl
 
-pub row_too_deep : (spec : Spec) (tier supply : ℕ) → GaveHead spec → spec.stalls.address ≡ false → is_device spec.low (take 18 spec.descriptor) ≡ true → (is_hub spec.descriptor && tier == 7) ≡ true
+pub row_too_deep : (spec : Spec) (tier supply : ℕ) → GaveHead spec → spec.stalls.address ≡ false → is_device spec.low (take 18 spec.descriptor) ≡ true → (is_hub_device spec.descriptor && tier == 7) ≡ true
     → verdict spec tier supply ≡ Err TooDeep
 unfolding verdict
 row_too_deep spec tier supply h a b c = rw (h.loud, h.free, h.device, h.head, a, b, c) refl
@@ -72,5 +72,5 @@ rows_chosen : (spec : Spec) (tier supply chosen : ℕ) → GaveTexts spec tier s
 rows_chosen spec tier supply chosen h = rows_read spec tier supply h.device h.good ∙ ap (set_verdict spec (texts_of spec)) h.within
 
 pub row_accepted : (spec : Spec) (tier supply chosen : ℕ) → GaveTexts spec tier supply chosen → spec.stalls.set_config ≡ false
-    → (is_hub spec.descriptor && not (is_good_hub spec (slice_index_or (texts_of spec) chosen []))) ≡ false → verdict spec tier supply ≡ Ok chosen
+    → (is_hub_device spec.descriptor && not (is_good_hub spec (slice_index_or (texts_of spec) chosen []))) ≡ false → verdict spec tier supply ≡ Ok chosen
 row_accepted spec tier supply chosen h a b = rows_chosen spec tier supply chosen h ∙ rw (a, b) refl

@@ -4,7 +4,7 @@ use Rattle.usb_world.specs.Addresses.{after_taking}
 use Rattle.usb_world.specs.World.{World}
 use Rattle.usb_resources.specs.Pool.{Addresses, IsTaken}
 use Rattle.usb_address.specs.Claims.{Claims, Free, Unused}
-use Rattle.usb_address.specs.Owned.{Owned, OwnedBut, Enumerating, TillFault}
+use Rattle.usb_address.specs.Ownership.{Owned, OwnedBut, Enumerating, TillFault}
 use Rattle.usb_hub.specs.declared.port.HubPort.{HubPort}
 use Rattle.usb_hub.specs.Addresses.{IsAt}
 use Rattle.usb_enum.specs.declared.fault.EnumFault.{EnumFault}

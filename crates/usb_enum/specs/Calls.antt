@@ -1,8 +1,9 @@
 -- What calls at a port gave to an enumeration.
 use Rattle.std.specs.Prelude.{◌≡◌, Bool, true, false, Option, None, Result, Ok}
+use Rattle.usb_request.specs.Features.{C_PORT_RESET}
 use Rattle.usb_port.specs.declared.status.PortStatus.{PortStatus}
-use Rattle.usb_device.specs.declared.calls.PortCall.{PortCall}
-use Rattle.usb_device.specs.Calls.{clear_call}
+use Rattle.usb_port.specs.declared.call.PortCall.{PortCall}
+use Rattle.usb_port.specs.Calls.{clear_call}
 use Rattle.usb_world.specs.World.{World}
 use Rattle.usb_pipe.specs.declared.fault.PipeFault.{PipeFault}
 use Rattle.usb_hub.specs.declared.port.HubPort.{HubPort}
@@ -28,4 +29,4 @@ pub record StatusAt (port : HubPort) (old : World) (result : Result PortStatus E
 -- C_PORT_RESET was cleared, where it was told set
 pub record SettlesReset (port : HubPort) (changed : Bool) (old : World) (result : Result (Unit {0}) EnumFault) (new : World) : Type 0 where
   pub unset : changed ≡ false → (result ≡ Ok tt) × (new ≡ old)
-  pub set : changed ≡ true → CalledAt port (clear_call 20) old result new
+  pub set : changed ≡ true → CalledAt port (clear_call C_PORT_RESET) old result new

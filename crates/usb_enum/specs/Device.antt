@@ -1,5 +1,6 @@
 -- Device descriptors, as they are read of a device.
 use Rattle.std.specs.Prelude.{◌≡◌, ◌⊎◌, ◌≤◌, ⊤, ℕ, ◌==◌, true, false, List, [], Bool, ◌&&◌, Option, Some, None, is_some, slice_index, slice_index_or, Result, Ok, Err, is_ok, if◌then◌else◌}
+use Rattle.usb_request.specs.Codes.{HUB_CLASS}
 use Rattle.usb_hub.specs.declared.port.HubPort.{HubPort}
 use Rattle.usb_hub.specs.declared.port.HubPort.TheVariants.{Root, External}
 use Rattle.usb_world.specs.World.{World}
@@ -7,7 +8,7 @@ use Rattle.usb_port.specs.Path.{IsPortNumber}
 use Rattle.usb_transaction.specs.declared.target.Target.{Target}
 use Rattle.usb_transaction.specs.Transactions.{IsTarget}
 use Rattle.usb_descriptor.specs.Choice.{status_endpoint_of}
-use Rattle.usb_descriptor.specs.Device.{device_of, device_class, manufacturer_index, product_index, serial_index}
+use Rattle.usb_descriptor.specs.Device.{device_spelled, device_class, manufacturer_index, product_index, serial_index}
 use Rattle.usb_enum.specs.declared.cause.Cause.TheVariants.{BadDevice, TooDeep}
 use Rattle.usb_enum.specs.declared.finding.Accepted.{Accepted}
 use Rattle.usb_enum.specs.declared.hub.HubFacts.{HubFacts}
@@ -18,7 +19,7 @@ use Rattle.usb_enum.specs.declared.stop.Stop.TheVariants.{Refused}
 
 -- the bytes begin with the descriptor of a device at this speed
 abbrev pub is_device : Bool → List ℕ → Bool
-is_device low bytes = is_ok (device_of low bytes)
+is_device low bytes = is_ok (device_spelled low bytes)
 
 abbrev pub device_bytes : Bool → List ℕ → Result (Option (List ℕ)) Stop
 device_bytes low bytes = if is_device low bytes then Ok (Some bytes) else Err (Refused BadDevice)
@@ -39,13 +40,13 @@ target_of device below_hub = record { addr = device.address; max = slice_index d
 abbrev pub configuration_of : Accepted → List ℕ
 configuration_of device = slice_index_or device.configs device.chosen []
 
--- bDeviceClass of a hub is 9
-abbrev pub is_hub : List ℕ → Bool
-is_hub bytes = device_class bytes == 9
+-- bDeviceClass is a hub's
+abbrev pub is_hub_device : List ℕ → Bool
+is_hub_device bytes = device_class bytes == HUB_CLASS
 
 -- a hub may not stand in the last tier
 abbrev pub fits_tier : ℕ → List ℕ → Result (Unit {0}) Stop
-fits_tier tier bytes = if is_hub bytes && tier == 7 then Err (Refused TooDeep) else Ok tt
+fits_tier tier bytes = if is_hub_device bytes && tier == 7 then Err (Refused TooDeep) else Ok tt
 
 -- the facts are what the hub with this address told
 pub record HasStarted (address : ℕ) (facts : HubFacts) : Type 0 where
@@ -72,8 +73,8 @@ pub record StartsHub (hub : Target) (text : List ℕ) (old new : World) (told : 
 
 -- a hub, and nothing else, has facts and a status endpoint
 abbrev pub HasFacts : List ℕ → List ℕ → Option HubFacts → Type 0
-HasFacts bytes text (Some facts) = (is_hub bytes ≡ true) × AreFacts facts × (is_some (status_endpoint_of text) ≡ true)
-HasFacts bytes text None = is_hub bytes ≡ false
+HasFacts bytes text (Some facts) = (is_hub_device bytes ≡ true) × AreFacts facts × (is_some (status_endpoint_of text) ≡ true)
+HasFacts bytes text None = is_hub_device bytes ≡ false
 
 -- what is known of the ports of the device with this address
 pub record IsKnown (address : ℕ) (bytes text : List ℕ) (told : Option HubFacts) : Type 0 where

@@ -1,4 +1,5 @@
 -- What calls on devices and at ports leave of all other devices and ports.
+use Rattle.usb_device.specs.Tree.{Spot}
 use Rattle.std.specs.Prelude.{◌≡◌, ◌==◌, ℕ, List, false, None}
 use Rattle.usb_device.specs.Rows.{State}
 use Rattle.usb_world.specs.Courses.{Spares}
@@ -7,7 +8,7 @@ use Rattle.usb_world.specs.Paths.{address_of, is_way}
 use Rattle.usb_world.specs.RestingPorts.{AsksNothingOf}
 use Rattle.usb_world.specs.Steps.{Course}
 use Rattle.usb_world.specs.World.{World}
-use Rattle.usb_address.specs.Owned.{KeepsAddresses}
+use Rattle.usb_address.specs.Ownership.{KeepsAddresses}
 use Rattle.usb_hub.specs.Addresses.{StaysAs, EachElsewhere, KeepsDevices}
 use Rattle.usb_hub.specs.Requests.{AllRest, RestBut}
 
@@ -26,10 +27,10 @@ pub record OnlyTells (address : ℕ) (old new : World) : Type 0 where
   pub ports : new.fault ≡ None → RestBut address old new
 
 -- a device has the description and the address that it had, and elsewhere than at this address it stays as it was
-pub record StaysBut (address j : ℕ) (p : List ℕ) (s v : State) : Type 0 where
+pub record StaysBut (address : ℕ) (x : Spot) (s v : State) : Type 0 where
   pub spec : v.spec ≡ s.spec
   pub same : address_of v ≡ address_of s
-  pub stays : (address_of s == address) ≡ false → StaysAs j p s v
+  pub stays : (address_of s == address) ≡ false → StaysAs x s v
 
 -- a device at an address was configured: nothing was asked of the ports that are not below it
 pub record OnlySets (address : ℕ) (old new : World) : Type 0 where

@@ -1,9 +1,10 @@
 -- What a hub is asked once it is configured (11.24.2).
 use Rattle.std.specs.Prelude.{◌≡◌, ℕ, zero, suc, false, Ok}
 use Rattle.std.specs.Global.{Vec}
+use Rattle.usb_request.specs.Features.{PORT_POWER}
 use Rattle.usb_world.specs.World.{World}
 use Rattle.usb_transaction.specs.declared.target.Target.{Target}
-use Rattle.usb_descriptor.specs.Hub.{hub_of, port_count}
+use Rattle.usb_descriptor.specs.Hub.{hub_spelled, port_count}
 use Rattle.usb_resources.specs.Power.{supply_of}
 use Rattle.usb_request.specs.Requests.{get_hub_descriptor, get_status, set_port_feature}
 use Rattle.usb_hub.specs.declared.status.DeviceStatus.{DeviceStatus}
@@ -14,7 +15,7 @@ use Rattle.usb_enum.specs.declared.hub.HubFacts.{HubFacts}
 pub record CountTold (hub : Target) (old new : World) (count : ℕ) : Type 0 where
   pub bytes : Vec ℕ
   pub asked : AskedData hub get_hub_descriptor old (Ok bytes) new
-  pub good : hub_of bytes.items ≡ Ok bytes.items
+  pub good : hub_spelled bytes.items ≡ Ok bytes.items
   pub said : count ≡ port_count bytes.items
 
 -- its status, which says what its ports give
@@ -25,7 +26,7 @@ pub record SupplyTold (hub : Target) (old new : World) (supply : ℕ) : Type 0 w
 
 -- one of its ports was given power
 abbrev pub IsPowered : Target → ℕ → World → World → Type 0
-IsPowered hub port old new = Ordered hub (set_port_feature 8 port) old (Ok tt) new
+IsPowered hub port old new = Ordered hub (set_port_feature PORT_POWER port) old (Ok tt) new
 
 -- its ports were given power up to this number, one by one
 abbrev pub Powered : Target → ℕ → World → World → Type 0

@@ -3,15 +3,15 @@ use Rattle.std.specs.Prelude.{◌≡◌, ℕ, ◌==◌, true, false, if◌then�
 use Rattle.std.specs.Global.{Vec}
 use Rattle.usb_resources.specs.Power.{supply_of}
 use Rattle.usb_descriptor.specs.Config.{config_head_of}
-use Rattle.usb_descriptor.specs.Hub.{hub_of, port_count}
+use Rattle.usb_descriptor.specs.Hub.{hub_spelled, port_count}
 use Rattle.usb_device.specs.Spec.{Spec, IsSpec}
 use Rattle.usb_device.specs.Transfer.{max_packet}
 use Rattle.usb_transaction.specs.declared.target.Target.{Target}
-use Rattle.usb_hub.specs.Asked.{config_given, hub_given}
+use Rattle.usb_hub.specs.GivenAnswers.{config_given, hub_given}
 use Rattle.usb_enum.specs.declared.hub.HubFacts.{HubFacts}
 use Rattle.usb_enum.specs.declared.strings.Strings.{Strings}
-use Rattle.usb_enum.specs.Described.{text_read, is_good_text, texts_below, first_fault, string_read, is_good_hub, facts_of}
-use Rattle.usb_enum.specs.Text.{units_of, first_language_of}
+use Rattle.usb_enum.specs.Verdicts.{text_read, is_good_text, texts_below, first_fault, string_read, is_good_hub, facts_of}
+use Rattle.usb_enum.specs.Text.{string_units, first_language_of}
 
 -- so it is of a description with the target's maximum packet
 abbrev pub AtMaximum : Target → (Spec → Type 0) → Spec → Type 0
@@ -48,7 +48,7 @@ language_of spec = option_and_then first_language_of (string_read spec 0)
 
 -- the string of an index in a language that the device has
 abbrev pub string_in : Spec → ℕ → Option (List ℕ)
-string_in spec index = if index == 0 then None else option_and_then units_of (string_read spec index)
+string_in spec index = if index == 0 then None else option_and_then string_units (string_read spec index)
 
 abbrev pub no_strings : Strings
 no_strings = record { manufacturer = None; product = None; serial_number = None }
@@ -59,7 +59,7 @@ no_strings = record { manufacturer = None; product = None; serial_number = None 
 pub record HasPorts (ports : ℕ) (spec : Spec) : Type 0 where
   pub text : List ℕ
   pub given : hub_given spec ≡ Some text
-  pub good : hub_of (take 9 text) ≡ Ok (take 9 text)
+  pub good : hub_spelled (take 9 text) ≡ Ok (take 9 text)
   pub said : ports ≡ port_count (take 9 text)
 
 -- it gives its status, which says what its ports supply

@@ -7,17 +7,17 @@ use Rattle.usb_device.specs.Transfer.{max_packet}
 use Rattle.usb_world.specs.World.{World}
 use Rattle.usb_transaction.specs.declared.target.Target.{Target}
 use Rattle.usb_hub.specs.Addresses.{IsClaimed}
-use Rattle.usb_hub.specs.Why.{HasPort}
+use Rattle.usb_hub.specs.CallFailures.{HasPort}
 use Rattle.usb_enum.specs.declared.cause.Cause.{Cause}
 use Rattle.usb_enum.specs.declared.cause.Cause.TheVariants.{Silent, Busy, Stalled, BadDevice, TooDeep, NoPower, BadHub, NoAddress}
 use Rattle.usb_enum.specs.declared.cause.Request.TheVariants as request
 use Rattle.usb_enum.specs.declared.stop.Stop.{Stop}
 use Rattle.usb_enum.specs.declared.stop.Stop.TheVariants.{Refused, Fault}
-use Rattle.usb_enum.specs.Described.{gives_hub, is_good_hub, texts_below, first_fault, verdict}
-use Rattle.usb_enum.specs.Device.{is_device, is_hub}
-use Rattle.usb_enum.specs.Learned.{Explains}
+use Rattle.usb_enum.specs.Verdicts.{gives_hub, is_good_hub, texts_below, first_fault, verdict}
+use Rattle.usb_enum.specs.Device.{is_device, is_hub_device}
+use Rattle.usb_enum.specs.LearnedFacts.{Explains}
 use Rattle.usb_enum.specs.Losses.{NoNewStretch}
-use Rattle.usb_enum.specs.Present.{AnswersSo, HasDescriptor, HasHead}
+use Rattle.usb_enum.specs.PresentDevices.{AnswersSo, HasDescriptor, HasHead}
 use Rattle.usb_enum.specs.Readings.{AtMaximum}
 use Rattle.usb_enum.specs.Text.{choice_of}
 
@@ -105,8 +105,8 @@ unfoldable pub configured_fault : ℕ → ℕ → List ℕ → Spec → Option C
 configured_fault tier supply bytes spec =
     let count = configuration_count bytes in
     let texts = texts_below spec count in
-    if is_hub bytes && tier == 7 then Some TooDeep
-    else option_or (first_fault spec count) (chosen_fault (is_hub bytes) texts (choice_of supply texts) spec)
+    if is_hub_device bytes && tier == 7 then Some TooDeep
+    else option_or (first_fault spec count) (chosen_fault (is_hub_device bytes) texts (choice_of supply texts) spec)
 
 -- Of the head of the device descriptor
 

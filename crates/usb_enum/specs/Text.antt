@@ -9,9 +9,9 @@ abbrev pub config_text_of : List ℕ → Option (List ℕ)
 config_text_of bytes = if is_ok (config_of bytes) then Some bytes else None
 
 -- some text has this bConfigurationValue
-abbrev pub has_value : ℕ → List (List ℕ) → Bool
-has_value value [] = false
-has_value value (text ∷ texts) = configuration_value text == value || has_value value texts
+abbrev pub any_has_value : ℕ → List (List ℕ) → Bool
+any_has_value value [] = false
+any_has_value value (text ∷ texts) = configuration_value text == value || any_has_value value texts
 
 -- bMaxPower counts 2 mA
 abbrev pub need_of : List ℕ → ℕ
@@ -27,15 +27,15 @@ choice_of supply texts = position (λ need. nat_le need supply) (needs_of texts)
 -- no two texts have the same bConfigurationValue
 abbrev pub ValuesDiffer : List (List ℕ) → Type 0
 ValuesDiffer [] = ⊤
-ValuesDiffer (text ∷ texts) = (has_value (configuration_value text) texts ≡ false) × ValuesDiffer texts
+ValuesDiffer (text ∷ texts) = (any_has_value (configuration_value text) texts ≡ false) × ValuesDiffer texts
 
 abbrev pub if_read : Result (List ℕ) DescriptorFault → Option (List ℕ)
 if_read (Ok units) = Some units
 if_read (Err fault) = None
 
 -- the units, where the bytes begin with a string descriptor
-abbrev pub units_of : List ℕ → Option (List ℕ)
-units_of bytes = if_read (string_of bytes)
+abbrev pub string_units : List ℕ → Option (List ℕ)
+string_units bytes = if_read (string_of bytes)
 
 abbrev pub first_unit : Result (List ℕ) DescriptorFault → Option ℕ
 first_unit (Ok units) = slice_get units 0

@@ -5,10 +5,8 @@ ghost use Rattle.usb_descriptor.specs.Device.{device_class, configuration_count}
 ghost use Rattle.usb_enum.specs.Device.{is_device, string_indexes};
 
 use crate::strings::StringIndexes;
+use usb_request::class_code::HUB_CLASS;
 use usb_transaction::Target;
-
-/// bDeviceClass of a hub (11.23.1).
-const HUB_CLASS: u8 = 9;
 
 /// A device that has its address, and its device descriptor.
 #[derive(Drop)]
@@ -22,7 +20,7 @@ pub(crate) struct Addressed {
 
 impl Addressed {
     pub fn is_hub(&self) -> bool
-        ensures { result ≡ (device_class self.now.bytes == 9) }
+        ensures { result ≡ (device_class self.now.bytes == HUB_CLASS) }
     {
         self.bytes[4] == HUB_CLASS
     }

@@ -1,10 +1,10 @@
 //! The configurations of a device: each is read, and one is chosen.
 ghost use Rattle.std.specs.Prelude.{◌≡◌, ◌≤◌, ◌<◌, ◌*◌, length, Some, IfOk, IfErr, IfSome, MatchResult};
-ghost use Rattle.usb_bus.specs.Traced.{Went};
+ghost use Rattle.usb_bus.specs.Traces.{Went};
 ghost use Rattle.usb_transaction.specs.Transactions.{IsTarget};
 ghost use Rattle.usb_enum.specs.Bounds.{read_bound, configuration_bound};
-ghost use Rattle.usb_enum.specs.Described.{config_fault, first_fault};
-ghost use Rattle.usb_enum.specs.Learned.{Learns, Explains};
+ghost use Rattle.usb_enum.specs.Verdicts.{config_fault, first_fault};
+ghost use Rattle.usb_enum.specs.LearnedFacts.{Learns, Explains};
 ghost use Rattle.usb_enum.specs.Readings.{AtMaximum, HasTotal, HasConfiguration, HasConfigurations};
 ghost use Rattle.usb_enum.specs.Refusals.{Refuses};
 ghost use Rattle.usb_enum.specs.Stop.{StopTold};

@@ -1,15 +1,15 @@
 //! The whole enumeration.
 ghost use Rattle.std.specs.Prelude.{◌≡◌, ℕ, IfOk, IfErr, MatchResult, true};
-ghost use Rattle.usb_bus.specs.Traced.{Went};
+ghost use Rattle.usb_bus.specs.Traces.{Went};
 ghost use Rattle.usb_hub.specs.Port.{IsPort, order_bound};
 ghost use Rattle.usb_enum.specs.Bounds.{unaddressed_bound, examination_bound, enumeration_bound, configured_bound, hub_bound};
 ghost use Rattle.usb_enum.specs.Stop.{FaultAt, StopToldIn, ToldOfDevice, ToldOfHub, StopToldWithout};
-ghost use Rattle.usb_enum.specs.Found.{Closes, Enumerates, GivesUp, IsAccepted, IsFound, IsListed, IsWhole, TakesFor};
-ghost use Rattle.usb_enum.specs.Device.{fits_tier, is_hub};
+ghost use Rattle.usb_enum.specs.Findings.{Closes, Enumerates, GivesUp, IsAccepted, IsFound, IsListed, IsWhole, TakesFor};
+ghost use Rattle.usb_enum.specs.Device.{fits_tier, is_hub_device};
 ghost use Rattle.usb_enum.specs.Addresses.{AtPort};
-ghost use Rattle.usb_enum.specs.Fair.{StopsFairly};
-ghost use Rattle.usb_enum.specs.Learned.{Explains, ExplainsSet};
-ghost use Rattle.usb_enum.specs.Present.{LearnsPorts};
+ghost use Rattle.usb_enum.specs.FairEnumerations.{StopsFairly};
+ghost use Rattle.usb_enum.specs.LearnedFacts.{Explains, ExplainsSet};
+ghost use Rattle.usb_enum.specs.PresentDevices.{LearnsPorts};
 ghost use Rattle.usb_enum.specs.Refusals.{Refuses, start_fault, configured_fault, unaddressed_fault, whole_fault};
 ghost use Rattle.usb_enum.specs.Frames.{OnlySets, OnlyTells};
 
@@ -183,7 +183,7 @@ fn hub_facts<B: Bus>(
 ) -> Result<Option<HubFacts>, Stop>
     ensures went { Went B.world B.trace hub_bound bus.old bus.new }
     ensures told { IfErr result (λ stop. ToldOfHub stop (B.world bus.new)) }
-    ensures hub { IfErr result (λ _. is_hub device.now.bytes ≡ true) }
+    ensures hub { IfErr result (λ _. is_hub_device device.now.bytes ≡ true) }
     ensures ports { MatchResult result
         (LearnsPorts device.now text.now (B.world bus.old) (B.world bus.new))
         (λ stop. ExplainsSet (Refuses device.now.target (start_fault text.now) stop)

@@ -1,10 +1,10 @@
 //! What the host asks of a hub once it is configured, and the power of its ports (11.23, 11.24).
 ghost use Rattle.std.specs.Prelude.{◌≡◌, ◌⊎◌, ◌≤◌, ◌*◌, IfOk, IfErr, MatchResult};
-ghost use Rattle.usb_bus.specs.Traced.{Went};
+ghost use Rattle.usb_bus.specs.Traces.{Went};
 ghost use Rattle.usb_port.specs.Path.{IsPortNumber};
 ghost use Rattle.usb_transaction.specs.Transactions.{IsTarget};
 ghost use Rattle.usb_enum.specs.Bounds.{read_bound, none_bound, hub_bound};
-ghost use Rattle.usb_enum.specs.Learned.{Learns, Explains, ExplainsSet};
+ghost use Rattle.usb_enum.specs.LearnedFacts.{Learns, Explains, ExplainsSet};
 ghost use Rattle.usb_enum.specs.Readings.{AtMaximum, Ruled, HasPorts, HasSupply, IsGoodHub};
 ghost use Rattle.usb_enum.specs.Refusals.{Refuses, RefusesNoPort, hub_fault, start_fault};
 ghost use Rattle.usb_enum.specs.Stop.{ToldOfHub};

@@ -1,7 +1,8 @@
 //! The steps up to a device that has its address and has given its device descriptor.
 ghost use Rattle.std.specs.Prelude.{◌≡◌, ◌≤◌, ◌<◌, ◌*◌, IfOk, IfErr, IfSome, true, ℕ, OnOk, Ok, None, MatchResult};
-ghost use Rattle.usb_device.specs.Calls.{set_call};
-ghost use Rattle.usb_bus.specs.Traced.{Went};
+ghost use Rattle.usb_request.specs.declared.feature.TheConstants.{PORT_RESET};
+ghost use Rattle.usb_port.specs.Calls.{set_call};
+ghost use Rattle.usb_bus.specs.Traces.{Went};
 ghost use Rattle.usb_hub.specs.Port.{IsPort, status_bound, order_bound};
 ghost use Rattle.usb_transaction.specs.Transactions.{IsTarget};
 ghost use Rattle.usb_enum.specs.Bounds.{read_bound, reset_bound, unaddressed_bound, pass_bound};
@@ -10,10 +11,10 @@ ghost use Rattle.usb_enum.specs.Device.{IsUnaddressed, device_bytes, is_device, 
 ghost use Rattle.usb_hub.specs.Addresses.{KeepsDevices, Resets};
 ghost use Rattle.usb_enum.specs.Addresses.{AtPort, OnlyCalls};
 ghost use Rattle.usb_enum.specs.Calls.{CalledAt, SettlesReset, StatusAt};
-ghost use Rattle.usb_enum.specs.Fair.{PassEnds, StopsFairly};
+ghost use Rattle.usb_enum.specs.FairEnumerations.{PassEnds, StopsFairly};
 ghost use Rattle.usb_enum.specs.Frames.{OnlyAsks};
-ghost use Rattle.usb_enum.specs.Learned.{Explains};
-ghost use Rattle.usb_enum.specs.Present.{Awaits, HasTaken, WasReset};
+ghost use Rattle.usb_enum.specs.LearnedFacts.{Explains};
+ghost use Rattle.usb_enum.specs.PresentDevices.{Awaits, HasTaken, WasReset};
 ghost use Rattle.usb_enum.specs.Refusals.{IsRefusedFor, FindsHead, FindsDescriptor, RefusesDescriptor, no_fault, head_fault, early_fault, addressed_fault};
 
 use crate::addressed::Addressed;
@@ -34,7 +35,7 @@ fn begin_reset<B: Bus>(bus: &mut B, port: HubPort) -> Result<(), EnumFault>
     ensures told { IfErr result (λ fault. FaultAt port fault (B.world bus.new)) }
     ensures resets { Resets port (B.world bus.old) (B.world bus.new) }
     ensures only { (a : ℕ) → OnlyCalls port a (B.world bus.old) (B.world bus.new) }
-    ensures calls { CalledAt port (set_call 4) (B.world bus.old) result (B.world bus.new) }
+    ensures calls { CalledAt port (set_call PORT_RESET) (B.world bus.old) result (B.world bus.new) }
 {
     at_port(set_port(bus, port, PORT_RESET))
 }

@@ -1,14 +1,14 @@
 //! The strings of a device (9.6.7).
 ghost use Rattle.std.specs.Prelude.{◌≡◌, ◌≤◌, IfOk, IfErr, MatchResult};
-ghost use Rattle.usb_bus.specs.Traced.{Went};
+ghost use Rattle.usb_bus.specs.Traces.{Went};
 ghost use Rattle.usb_transaction.specs.Transactions.{IsTarget};
 ghost use Rattle.usb_enum.specs.Bounds.{read_bound, strings_bound};
-ghost use Rattle.usb_enum.specs.Described.{strings_by};
-ghost use Rattle.usb_enum.specs.Learned.{Learns, Explains};
+ghost use Rattle.usb_enum.specs.Verdicts.{strings_by};
+ghost use Rattle.usb_enum.specs.LearnedFacts.{Learns, Explains};
 ghost use Rattle.usb_enum.specs.Readings.{AtMaximum, HasString, language_of, string_in, no_strings};
 ghost use Rattle.usb_enum.specs.Refusals.{Refuses, no_fault};
 ghost use Rattle.usb_enum.specs.Stop.{StopTold};
-ghost use Rattle.usb_enum.specs.Text.{first_language_of, units_of};
+ghost use Rattle.usb_enum.specs.Text.{first_language_of, string_units};
 ghost use Rattle.usb_enum.specs.Frames.{OnlyAsks};
 
 use crate::StringUnits;
@@ -70,7 +70,7 @@ fn first_language(bytes: &[u8]) -> Option<u16>
 
 /// The units of a string descriptor, or `None` where the bytes are none.
 fn units_of(alloc: Global, bytes: &[u8]) -> Result<Option<StringUnits>, AllocError>
-    ensures { IfOk result (λ units. units ≡ units_of bytes.now) }
+    ensures { IfOk result (λ units. units ≡ string_units bytes.now) }
 {
     match read_string(bytes) {
         Ok(string) => Ok(Some(StringUnits::new(string.units().collect(alloc)?))),

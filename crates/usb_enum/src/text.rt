@@ -2,7 +2,7 @@
 ghost use Rattle.std.specs.Prelude.{◌≡◌, ◌<◌, ◌++◌, [], ◌∷◌, length, OnOk, OnErr, IfOk, IfSome, vec_len};
 ghost use Rattle.usb_descriptor.specs.Choice.{IsUsable, status_endpoint_of, bulk_out_of, bulk_in_of};
 ghost use Rattle.usb_descriptor.specs.Config.{HasConfig, configuration_value};
-ghost use Rattle.usb_enum.specs.Text.{config_text_of, has_value, need_of, needs_of};
+ghost use Rattle.usb_enum.specs.Text.{config_text_of, any_has_value, need_of, needs_of};
 
 use std::alloc::{AllocError, Global};
 use std::marker::Model;
@@ -157,7 +157,7 @@ impl ConfigTexts {
 
     /// Whether one of them has this bConfigurationValue.
     pub(crate) fn has_value(&self, value: u8) -> bool
-        ensures { result ≡ has_value value self.now }
+        ensures { result ≡ any_has_value value self.now }
     {
         self.texts.iter().any(|text| text.value() == value)
     }

@@ -8,13 +8,13 @@ use Rattle.std.specs.Cmp.Lexicographic.{pointwise, same_text, texts_ties}
 use Rattle.std.specs.declared.cmp.Ordering.{Ordering}
 use Rattle.std.specs.declared.cmp.Ordering.TheVariants.{Less, Equal, Greater}
 use Rattle.std.proofs.lemmas.Map.Entries.{lookup-filter-keys}
-use Rattle.usb_port.specs.Order.{path_cmp, is_below, parent_of, port_of}
+use Rattle.usb_port.specs.Order.{path_cmp, is_below, parent_of, port_on_hub}
 use Rattle.usb_port.specs.Path.{IsPath}
 use Rattle.usb_port.proofs.Interface.{below, rejoined}
 use Rattle.usb_enum.specs.declared.finding.Finding.{Finding}
 use Rattle.usb_table.specs.Entries.{Entries, has_at, is_at_or_below, without}
 use Rattle.usb_table.specs.declared.known.KnownPort.{KnownPort}
-use Rattle.usb_table.specs.Known.{known_port, port_below, port_found, is_below_hub}
+use Rattle.usb_table.specs.KnownPorts.{known_port, port_below, port_found, is_below_hub}
 use Rattle.usb_table.proofs.Interface.{path_tied}
 use Rattle.usb_world.proofs.Interface.{neither}
 use Rattle.usb_host.specs.Agreement.{Nested}
@@ -23,9 +23,9 @@ use Rattle.usb_host.specs.Agreement.{Nested}
 under : (q hub path rest : List ℕ) → parent_of q ≡ Some hub → hub ≡ path ++ rest → is_below q path ≡ true
 under q hub path rest is on =
     (below q path).1 (
-      rest ++ port_of q ∷ [],
-      rejoined q hub is ∙ ap (λ l. l ++ port_of q ∷ []) on ∙ append_assoc path rest (port_of q ∷ []),
-      omega (arith, length-append rest (port_of q ∷ [])),
+      rest ++ port_on_hub q ∷ [],
+      rejoined q hub is ∙ ap (λ l. l ++ port_on_hub q ∷ []) on ∙ append_assoc path rest (port_on_hub q ∷ []),
+      omega (arith, length-append rest (port_on_hub q ∷ [])),
     )
 
 hub_away_by : (q hub path : List ℕ) → parent_of q ≡ Some hub → is_at_or_below q path ≡ false → (same on : Bool) → pointwise nat_eq hub path ≡ same → is_below hub path ≡ on → (same || on) ≡ false
@@ -47,10 +47,10 @@ lookup-without q path b es is =
     lookup-filter-keys (is_at (path_cmp q)) (λ k. not (is_at_or_below k path)) b
     (λ k tie. subst (λ (r : List ℕ). not (is_at_or_below r path) ≡ b) (path_tied q k tie) is) es
 
-known_away_by : (q path : List ℕ) (es : Entries) → is_at_or_below q path ≡ false → (hub : Option (List ℕ)) → parent_of q ≡ hub → port_below hub (port_of q) (without path es) ≡ port_below hub (port_of q) es
+known_away_by : (q path : List ℕ) (es : Entries) → is_at_or_below q path ≡ false → (hub : Option (List ℕ)) → parent_of q ≡ hub → port_below hub (port_on_hub q) (without path es) ≡ port_below hub (port_on_hub q) es
 known_away_by q path es away None is = refl
 known_away_by q path es away (Some hub) is =
-    ap (λ found. port_found found (is_below_hub hub) (port_of q)) (lookup-without hub path true es (ap not (hub_away q hub path is away)))
+    ap (λ found. port_found found (is_below_hub hub) (port_on_hub q)) (lookup-without hub path true es (ap not (hub_away q hub path is away)))
 
 pub known_away : (q path : List ℕ) (es : Entries) → is_at_or_below q path ≡ false → known_port q (without path es) ≡ known_port q es
 known_away q path es away = known_away_by q path es away (parent_of q) refl
@@ -108,10 +108,10 @@ apart_by hub path away false tie = refl
 
 -- a port of a hub that stands elsewhere is known as before
 known_entered_by : (q path : List ℕ) (f : Finding) (es : Entries) → ((hub : List ℕ) → parent_of q ≡ Some hub → is_at (path_cmp hub) path ≡ false) → (hub : Option (List ℕ)) → parent_of q ≡ hub
-    → port_below hub (port_of q) (insert_entry path_cmp es path f) ≡ port_below hub (port_of q) es
+    → port_below hub (port_on_hub q) (insert_entry path_cmp es path f) ≡ port_below hub (port_on_hub q) es
 known_entered_by q path f es apart None is = refl
 known_entered_by q path f es apart (Some hub) is =
-    ap (λ found. port_found found (is_below_hub hub) (port_of q)) (lookup-insert_entry_elsewhere hub path f es (apart hub is))
+    ap (λ found. port_found found (is_below_hub hub) (port_on_hub q)) (lookup-insert_entry_elsewhere hub path f es (apart hub is))
 
 pub known_entered : (q path : List ℕ) (f : Finding) (es : Entries) → ((hub : List ℕ) → parent_of q ≡ Some hub → is_at (path_cmp hub) path ≡ false) → known_port q (insert_entry path_cmp es path f) ≡ known_port q es
 known_entered q path f es apart = known_entered_by q path f es apart (parent_of q) refl
@@ -119,7 +119,7 @@ known_entered q path f es apart = known_entered_by q path f es apart (parent_of 
 pub shorter_apart : (path hub : List ℕ) → parent_of path ≡ Some hub → (b : Bool) → is_at (path_cmp hub) path ≡ b → b ≡ false
 shorter_apart path hub is true tie =
     let same = path_tied hub path tie in
-    let long : length path ≡ length hub + 1 = ap length (rejoined path hub is) ∙ length-append hub (port_of path ∷ []) in
+    let long : length path ≡ length hub + 1 = ap length (rejoined path hub is) ∙ length-append hub (port_on_hub path ∷ []) in
     absurd (omega (arith, long, ap length same))
 shorter_apart path hub is false tie = refl
 

@@ -16,7 +16,7 @@ use Rattle.usb_port.specs.Order.{path_cmp}
 use Rattle.usb_resources.specs.Pool.{Addresses, IsAddress, IsFull, IsTaken, HasAddresses}
 use Rattle.usb_enum.specs.declared.finding.Finding.{Finding}
 use Rattle.usb_enum.specs.declared.finding.Finding.TheVariants.{Device, Refused}
-use Rattle.usb_table.specs.Findings.{has_address, address_of}
+use Rattle.usb_table.specs.Findings.{has_address, address_found}
 use Rattle.usb_table.specs.Keys.{address_in}
 use Rattle.usb_table.specs.Listing.{entry_address}
 use Rattle.usb_table.proofs.Interface.{path_itself, path_tied}
@@ -24,7 +24,7 @@ use Rattle.usb_world.proofs.Interface.{neither}
 use Rattle.usb_host.specs.Accounts.{Accounts}
 use Rattle.usb_table.specs.Entries.{Entries, Rises, has_at, is_at_or_below}
 use Rattle.usb_table.specs.Table.{Table, TakesOut}
-use Rattle.usb_enum.specs.Found.{TakesFor}
+use Rattle.usb_enum.specs.Findings.{TakesFor}
 use Rattle.usb_host.specs.Hosting.{Frees}
 
 unfoldable pub one : Bool → ℕ
@@ -199,7 +199,7 @@ unfolding count IsStrictlySortedBy
 lists_by a [] rises some = absurd (omega (arith, some))
 lists_by a (e ∷ es) rises some = lists_step a e es rises.0 some (lists_by a es rises.1) (has_address a e.1) refl
 
-address_has : (a : ℕ) (f : Finding) → has_address a f ≡ true → address_of f ≡ Some a
+address_has : (a : ℕ) (f : Finding) → has_address a f ≡ true → address_found f ≡ Some a
 unfolding has_address
 address_has a (Device device) h = ap (λ n. Some n) (eqb-true device.address a h)
 address_has a (Refused cause) h = absurd (cc h)

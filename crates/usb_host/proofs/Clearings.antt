@@ -4,9 +4,9 @@ use Rattle.std.specs.Prelude.{IsSome}
 use Rattle.std.proofs.lemmas.Option.{same_Some}
 use Rattle.usb_port.specs.PortState.{PortState, is_attached}
 use Rattle.usb_port.specs.declared.status.PortStatus.{PortStatus}
-use Rattle.usb_device.specs.declared.calls.PortCall.{PortCall}
-use Rattle.usb_device.specs.declared.calls.PortCall.TheVariants.{ClearEnable, ClearConnectionChange}
-use Rattle.usb_device.specs.Calls.{called_port}
+use Rattle.usb_port.specs.declared.call.PortCall.{PortCall}
+use Rattle.usb_port.specs.declared.call.PortCall.TheVariants.{ClearEnable, ClearConnectionChange}
+use Rattle.usb_port.specs.Calls.{called_port}
 use Rattle.usb_device.specs.Rows.{State}
 use Rattle.usb_device.specs.Tree.{Ports, Place, empty, full, port_of, called, place}
 use Rattle.usb_device.specs.View.{port_there, state_there}
@@ -27,8 +27,8 @@ use Rattle.usb_enum.specs.declared.finding.Finding.{Finding}
 use Rattle.usb_enum.specs.Places.{IsKnownAs}
 use Rattle.usb_enum.proofs.Interface.{pends_there, some_of}
 use Rattle.usb_address.proofs.Interface.{IsUp, attached_there, live_of_up, live_port, not_way, pend_down, pend_or_live, up_of_live}
-use Rattle.usb_host.specs.Handling.{HasWay, Decides}
-use Rattle.usb_host.proofs.Stays.{none_same}
+use Rattle.usb_host.specs.PortHandling.{HasWay, Decides}
+use Rattle.usb_host.proofs.KnowledgeKept.{none_same}
 
 -- The port's power stays, and what is pending above it
 

@@ -1,14 +1,14 @@
 -- What requests to a port and an enumeration take at most.
 use Rattle.std.proofs.Common.{◌≡◌, arith, ℕ, ◌+◌, List, Option}
 use Rattle.usb_world.specs.World.{World}
-use Rattle.usb_bus.specs.Traced.{WentOn}
+use Rattle.usb_bus.specs.Traces.{WentOn}
 use Rattle.usb_bus.proofs.Interface.{went_then}
 use Rattle.usb_hub.specs.Port.{status_bound, order_bound}
 use Rattle.usb_hub.specs.declared.port.HubPort.{HubPort}
 use Rattle.usb_hub.specs.declared.port.HubPort.TheVariants.{Root, External}
 use Rattle.usb_enum.specs.Bounds.{IsWide, enumeration_bound, widest_enumeration}
 use Rattle.usb_enum.proofs.Interface.{enumeration_most, order_most, status_most}
-use Rattle.usb_table.specs.Known.{IsAskable}
+use Rattle.usb_table.specs.KnownPorts.{IsAskable}
 use Rattle.usb_host.specs.Hosting.{Hosting}
 use Rattle.usb_host.specs.Bounds.{clearing_bound, status_most as most_of_status}
 use Rattle.usb_host.specs.Progress.{HostWent, HostGoes}

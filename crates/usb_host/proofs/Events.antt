@@ -3,7 +3,7 @@ use Rattle.std.proofs.Common.{◌≡◌, ◌-◌, List, [], ◌∷◌, ℕ, suc,
 use Rattle.std.specs.Prelude.{nat_le}
 use Rattle.std.proofs.lemmas.Bool.{le-leb}
 use Rattle.usb_resources.specs.Pool.{Addresses}
-use Rattle.usb_device.specs.Tree.{reach}
+use Rattle.usb_device.specs.Tree.{reach, path_to}
 use Rattle.usb_device.specs.View.{state_there}
 use Rattle.usb_world.specs.declared.event.Action.{Action}
 use Rattle.usb_world.specs.declared.event.Action.TheVariants.{Plug, Unplug, Show, Send, Receive, Clear}
@@ -19,8 +19,8 @@ use Rattle.usb_enum.proofs.Interface.{course_later}
 use Rattle.usb_table.specs.Entries.{Entries}
 use Rattle.usb_table.specs.Levels.{AllLevel}
 use Rattle.usb_table.specs.Table.{Table}
-use Rattle.usb_host.specs.Sound.{Known, Truthful, Causes, EachStill, Accounted}
-use Rattle.usb_host.proofs.Stays.{known_each, truthful_stays, causes_stay}
+use Rattle.usb_host.specs.Soundness.{Known, Truthful, Causes, EachStill, Accounted}
+use Rattle.usb_host.proofs.KnowledgeKept.{known_each, truthful_stays, causes_stay}
 
 -- an event asks nothing of any port
 pub event_calm : (path : List ℕ) (w : World) → Course (AsksNothingOf path) w (after event w)
@@ -45,10 +45,10 @@ happened_still (Clear path) w p on = refl
 
 event_still : (w : World) → EachStill w (after event w)
 unfolding resets after
-event_still w j p s on stands = record {
+event_still w j s on stands = record {
   before = s;
-  on = (unreset_reach event w (suc j ∷ p) refl on).0;
-  stands = sym (taken_state w.fault w (suc j ∷ p) on) ∙ stands;
+  on = (unreset_reach event w (path_to j) refl on).0;
+  stands = sym (taken_state w.fault w (path_to j) on) ∙ stands;
   so = (refl, refl);
 }
 

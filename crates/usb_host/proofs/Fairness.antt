@@ -1,9 +1,9 @@
 -- Where damage is fair up to the end of a call, it is so up to each part of the call, and from there on.
 use Rattle.std.proofs.Common.{List, Option, ℕ}
 use Rattle.usb_world.specs.World.{World}
-use Rattle.usb_bus.specs.Traced.{WentOn}
+use Rattle.usb_bus.specs.Traces.{WentOn}
 use Rattle.usb_enum.proofs.Interface.{few_before, went_course, went_sound, went_three}
-use Rattle.usb_host.specs.Sound.{IsFairTo}
+use Rattle.usb_host.specs.Soundness.{IsFairTo}
 
 module _ (n : ℕ) (old mid new : World) {t s : Option (List ℕ)} where
   -- up to a part

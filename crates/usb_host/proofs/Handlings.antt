@@ -2,7 +2,8 @@
 use Rattle.std.proofs.Common.{◌≡◌, ◌∙◌, refl, sym, ap, subst, true, false, ℕ, ◌≤◌, List, Option, None, Some, Result, Ok, Err}
 use Rattle.std.specs.Prelude.{IsErr, IsSome, OnOk, MatchResult}
 use Rattle.std.specs.BTreeMap.{insert_entry}
-use Rattle.usb_port.specs.Order.{path_cmp, parent_of, port_of}
+use Rattle.usb_port.specs.Order.{path_cmp, parent_of, port_on_hub}
+use Rattle.usb_request.specs.Features.{PORT_ENABLE}
 use Rattle.usb_port.specs.Path.{IsPath}
 use Rattle.usb_world.specs.Paths.{is_way}
 use Rattle.usb_world.specs.World.{World, roots_of}
@@ -10,7 +11,7 @@ use Rattle.usb_world.specs.Addresses.{after_taking}
 use Rattle.usb_world.proofs.Interface.{way_itself, way_parent}
 use Rattle.usb_resources.specs.Pool.{Addresses}
 use Rattle.usb_address.specs.Claims.{Claims, claims_apart}
-use Rattle.usb_address.specs.Owned.{Owned, OwnedBut, TillFault, KeepsAddresses}
+use Rattle.usb_address.specs.Ownership.{Owned, OwnedBut, TillFault, KeepsAddresses}
 use Rattle.usb_address.proofs.Interface.{keeps_none}
 use Rattle.usb_pipe.specs.declared.fault.PipeFault.{PipeFault}
 use Rattle.usb_hub.specs.Addresses.{Bares, KeepsCleared}
@@ -24,15 +25,15 @@ use Rattle.usb_enum.specs.declared.finding.Finding.{Finding}
 use Rattle.usb_enum.specs.declared.finding.Finding.TheVariants.{Device, Refused}
 use Rattle.usb_table.specs.declared.known.KnownPort.{KnownPort}
 use Rattle.usb_table.specs.Entries.{Entries, has_at, without}
-use Rattle.usb_table.specs.Known.{root_port, port_below}
+use Rattle.usb_table.specs.KnownPorts.{root_port, port_below}
 use Rattle.usb_table.specs.Listing.{finding_at}
 use Rattle.usb_host.specs.Accounts.{Accounts}
 use Rattle.usb_host.specs.Hosting.{Hosting}
-use Rattle.usb_host.specs.Owning.{claims, IsOwned, IsOwnedBut, IsBare, IsRooted, root_of, StaysOwned, StaysSingle, KeepsOwned, PortOwned, KeepsPort, LeavesOwned, FinishesPort, HasLost, DropsHub, BaresAbove, KeepsDisabled}
+use Rattle.usb_host.specs.Ownership.{claims, IsOwned, IsOwnedBut, IsBare, IsRooted, root_of, StaysOwned, StaysSingle, KeepsOwned, PortOwned, KeepsPort, LeavesOwned, FinishesPort, HasLost, DropsHub, BaresAbove, KeepsDisabled}
 use Rattle.usb_host.specs.Ports.{StandsAt, StandsNowhere}
 use Rattle.usb_host.specs.Progress.{Rests}
 use Rattle.usb_host.specs.declared.fault.HostFault.{HostFault}
-use Rattle.usb_host.proofs.Claimed.{claims_free, claims_taken, claims-device}
+use Rattle.usb_host.proofs.EntryClaims.{claims_free, claims_taken, claims-device}
 use Rattle.usb_host.proofs.Owners.{till_as, but_all, but_kept, but_above, bare_port, bare_none, forgotten, refused}
 use Rattle.usb_host.proofs.Stations.{stands_at, nowhere_reached}
 use Rattle.usb_host.proofs.Roots.{rooted_kept, rooted_dropped, rooted_came, rooted_stands, root_parent, root_way, on_failed}
@@ -167,7 +168,7 @@ bare_rests path a b r t = subst (λ (es : Entries). TillFault (Owned (claims_apa
 port_bared : (path : List ℕ) (port : KnownPort) (a b : Hosting) → StandsAt path port a → Rests a b → Bares port.port a.world b.world → BaresAbove path path a b
 port_bared path port a b s r bares = record { on = way_itself path; bares = λ o. bare_rests path a b r (bare_port port.port path (claims a.entries) a.world b.world bares (stands_at path port a s) o) }
 
-pub port_disabled : (path : List ℕ) (port : KnownPort) (a b : Hosting) → StandsAt path port a → Rests a b → KeepsCleared port.port 1 a.world (Ok tt) b.world → KeepsDisabled path a (Ok true) b
+pub port_disabled : (path : List ℕ) (port : KnownPort) (a b : Hosting) → StandsAt path port a → Rests a b → KeepsCleared port.port PORT_ENABLE a.world (Ok tt) b.world → KeepsDisabled path a (Ok true) b
 port_disabled path port a b s r k = record {
   keeps = k.keeps;
   done = λ e. port_bared path port a b s r (k.bare refl refl);
@@ -175,10 +176,10 @@ port_disabled path port a b s r k = record {
 }
 
 -- a root port is a register, and never fails
-pub root_done : (path : List ℕ) (es : Entries) (port : KnownPort) (feature : ℕ) (old new : World) (fault : PipeFault) → (above : Option (List ℕ)) → parent_of path ≡ above → above ≡ None → port_below above (port_of path) es ≡ Some port
+pub root_done : (path : List ℕ) (es : Entries) (port : KnownPort) (feature : ℕ) (old new : World) (fault : PipeFault) → (above : Option (List ℕ)) → parent_of path ≡ above → above ≡ None → port_below above (port_on_hub path) es ≡ Some port
     → PortCleared port.port feature old (Err fault) new → ⊥
 root_done path es port feature old new fault None above root e clears =
-    let same : root_port (port_of path) ≡ port = cc e in
+    let same : root_port (port_on_hub path) ≡ port = cc e in
     let done = subst (λ (p : KnownPort). PortCleared p.port feature old (Err fault) new) (sym same) clears in
     absurd (cc done.done)
 root_done path es port feature old new fault (Some hub) above root e clears = absurd (cc root)

@@ -4,12 +4,12 @@ use Rattle.std.proofs.lemmas.List.Elements.{All-cons, All-nil}
 use Rattle.usb_world.specs.World.{World, IsRootPort}
 use Rattle.std.specs.Map.{lookup}
 use Rattle.std.specs.BTreeMap.{is_at}
-use Rattle.usb_port.specs.Order.{path_cmp, parent_of, port_of}
+use Rattle.usb_port.specs.Order.{path_cmp, parent_of, port_on_hub}
 use Rattle.usb_port.proofs.Interface.{parent}
 use Rattle.usb_hub.specs.declared.port.HubPort.TheVariants.{Root}
 use Rattle.usb_table.specs.declared.known.KnownPort.{KnownPort}
 use Rattle.usb_table.specs.Entries.{Entries}
-use Rattle.usb_table.specs.Known.{known_port, is_below_hub, port_below}
+use Rattle.usb_table.specs.KnownPorts.{known_port, is_below_hub, port_below}
 use Rattle.usb_table.proofs.Interface.{port_found-some}
 use Rattle.usb_resources.specs.Power.{supply_of}
 use Rattle.usb_port.specs.Path.{IsPortNumber}
@@ -20,10 +20,10 @@ use Rattle.usb_host.specs.Ports.{IsDue, StandsAt}
 pub below_due : (hub : List ℕ) (n : ℕ) (es : Entries) (port : KnownPort) (w : World) → 1 ≤ length hub → known_port (hub ++ n ∷ []) es ≡ Some port → IsDue w port.port
 below_due hub n es port w least e =
     let found =
-    port_found-some (lookup (is_at (path_cmp hub)) es) (is_below_hub hub) (port_of (hub ++ n ∷ [])) port (subst (λ (p : Option (List ℕ)). port_below p (port_of (hub ++ n ∷ [])) es ≡ Some port) (parent hub n least) e) in
+    port_found-some (lookup (is_at (path_cmp hub)) es) (is_below_hub hub) (port_on_hub (hub ++ n ∷ [])) port (subst (λ (p : Option (List ℕ)). port_below p (port_on_hub (hub ++ n ∷ [])) es ≡ Some port) (parent hub n least) e) in
     subst (λ (p : KnownPort). IsDue w p.port) (sym found.is) tt
 
 -- a port of the root
 pub root_stands : (number : ℕ) (h : Hosting) → IsRootPort h.world number → IsPortNumber number → Agrees h.entries h.addresses → StandsAt (number ∷ []) (record { port = Root number; supply = supply_of true false }) h
-unfolding parent_of port_of
+unfolding parent_of port_on_hub
 root_stands number h there is agrees = record { is = (omega arith, omega arith, All-cons IsPortNumber number [] is (All-nil IsPortNumber)); known = refl; there = there; askable = is; agrees = agrees }

@@ -5,7 +5,7 @@ use Rattle.usb_bus.proofs.Interface.{went_none, went_then, went_wider}
 use Rattle.usb_table.specs.Entries.{Entries, without}
 use Rattle.usb_host.specs.Hosting.{Hosting}
 use Rattle.usb_host.specs.Progress.{HostWent, HostGoes, Advances, AddsNoWork, Rests, Remains, Did, either, waiting}
-use Rattle.usb_host.proofs.Waits.{waiting-without}
+use Rattle.usb_host.proofs.WaitingDevices.{waiting-without}
 use Rattle.usb_host.specs.declared.host.Round.{Round}
 use Rattle.usb_host.specs.declared.host.Round.TheVariants.{Worked, Quiet}
 

@@ -15,7 +15,7 @@ use Rattle.usb_enum.specs.declared.finding.Finding.TheVariants.{Device, Refused}
 use Rattle.usb_table.specs.declared.known.KnownPort.{KnownPort}
 use Rattle.usb_table.specs.Entries.{Entries, Replaced, without}
 use Rattle.usb_table.specs.Findings.{is_waiting}
-use Rattle.usb_table.specs.Known.{known_port}
+use Rattle.usb_table.specs.KnownPorts.{known_port}
 use Rattle.usb_table.proofs.Interface.{known_port-without}
 use Rattle.usb_host.specs.Agreement.{Agrees}
 use Rattle.usb_host.specs.Hosting.{Hosting, work}
@@ -23,7 +23,7 @@ use Rattle.usb_host.specs.declared.fault.HostFault.{HostFault}
 use Rattle.usb_host.specs.Ports.{StandsAt, Waits, Gained, Served, EndsAs, EntersOne}
 use Rattle.usb_host.specs.Progress.{HostGoes, Rests, AddsNoWork, Advances, waiting}
 use Rattle.usb_host.proofs.Joins.{advances_then}
-use Rattle.usb_host.proofs.Waits.{waiting-without, waiting-without_one, waiting-entered, waiting-entered_other}
+use Rattle.usb_host.proofs.WaitingDevices.{waiting-without, waiting-without_one, waiting-entered, waiting-entered_other}
 
 waiting_is : (f : Finding) → is_waiting f ≡ true → f ≡ Refused cause.NoAddress
 waiting_is (Device device) h = absurd (cc h)

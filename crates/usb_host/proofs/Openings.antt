@@ -1,12 +1,12 @@
 -- A host that was just made.
-use Rattle.usb_bus.specs.Traced.{Traced}
+use Rattle.usb_bus.specs.Traces.{Traced}
 use Rattle.usb_enum.proofs.Interface.{traced_in_order}
 use Rattle.std.proofs.Common.{◌≡◌, ◌⊎◌, ◌∙◌, ◌<◌, inl, inr, refl, sym, ap, arith, zero, suc, ℕ, List, Option, None, ◌∷◌, Bool, true, ◌&&◌, ◌||◌, if◌then◌else◌}
 use Rattle.std.specs.Prelude.{[], false, All, length, nat_lt}
 use Rattle.std.specs.FinSet as set
 use Rattle.std.proofs.lemmas.Bool.{lt-ltb}
 use Rattle.std.proofs.lemmas.List.Elements.{All-head, All-tail}
-use Rattle.usb_port.specs.Order.{parent_of, port_of}
+use Rattle.usb_port.specs.Order.{parent_of, port_on_hub}
 use Rattle.usb_port.specs.PortState.{PortState, powered_on, is_attached, speed_of}
 use Rattle.usb_device.specs.Rows.{forgotten}
 use Rattle.usb_device.specs.Tree.{Ports, ended, vacant, taken, row_of, reach, reach_at, state_at}
@@ -18,8 +18,8 @@ use Rattle.usb_world.specs.World.{World}
 use Rattle.usb_resources.specs.Pool.{Addresses}
 use Rattle.usb_table.specs.Table.{Table, empty}
 use Rattle.usb_host.specs.Hosting.{Hosting, opening_host, with_power}
-use Rattle.usb_host.specs.Owning.{Owning, IsUntouched}
-use Rattle.usb_host.specs.Sound.{IsSound, IsUnpowered, Known}
+use Rattle.usb_host.specs.Ownership.{Owning, IsUntouched}
+use Rattle.usb_host.specs.Soundness.{IsSound, IsUnpowered, Known}
 use Rattle.usb_host.proofs.Roots.{rooted_opening}
 
 abbrev going : World → Option (List ℕ) → Table → Addresses → Hosting
@@ -101,7 +101,7 @@ known-with_power (taken b s a k) zero h dark lt = inl (told_given b s.spec.low (
 known-with_power (taken b s a k) (suc i) h dark lt = known-with_power k i h.3 (All-tail (λ b. b.power ≡ false) b (row_of k) dark) (omega (arith, lt))
 
 known_opening : (w : World) → IsUnpowered w → Known (powered w) []
-unfolding parent_of port_of
+unfolding parent_of port_on_hub
 known_opening w u [] port = absurd (omega (arith, port.some))
 known_opening w u (zero ∷ []) port = absurd (omega (arith, port.port.0))
 known_opening w u (suc i ∷ []) port = known-with_power w.roots i u.order.0.sane u.off (omega (arith, port.port.1))

@@ -6,7 +6,7 @@ use Rattle.usb_world.specs.Paths.{is_way}
 use Rattle.usb_world.specs.World.{World, roots_of}
 use Rattle.usb_world.proofs.Interface.{way_apart, way_shorter}
 use Rattle.usb_address.specs.Claims.{Claims, claims_apart}
-use Rattle.usb_address.specs.Owned.{Owned, OwnedBut, TillFault, KeepsAddresses}
+use Rattle.usb_address.specs.Ownership.{Owned, OwnedBut, TillFault, KeepsAddresses}
 use Rattle.usb_address.proofs.Interface.{bared, owned_as}
 use Rattle.usb_hub.specs.declared.port.HubPort.{HubPort}
 use Rattle.usb_hub.specs.declared.port.HubPort.TheVariants.{Root, External}
@@ -17,10 +17,10 @@ use Rattle.std.specs.BTreeMap.{insert_entry}
 use Rattle.usb_port.specs.Order.{path_cmp}
 use Rattle.usb_table.specs.Entries.{Entries, has_at, without}
 use Rattle.usb_host.specs.Hosting.{Hosting}
-use Rattle.usb_host.specs.Owning.{claims, IsOwned, IsBare, Owning, StaysOwned, StaysSingle, KeepsOwned}
+use Rattle.usb_host.specs.Ownership.{claims, IsOwned, IsBare, Owning, StaysOwned, StaysSingle, KeepsOwned}
 use Rattle.usb_host.specs.declared.fault.HostFault.{HostFault}
 use Rattle.usb_host.specs.declared.host.Round.{Round}
-use Rattle.usb_host.proofs.Claimed.{claims-without, claims-refused}
+use Rattle.usb_host.proofs.EntryClaims.{claims-without, claims-refused}
 use Rattle.usb_host.proofs.Roots.{rooted_kept}
 
 pub till_as : (f g : Claims) (w : World) → ((x : List ℕ) → f x ≡ g x) → TillFault (Owned f) w → TillFault (Owned g) w

@@ -7,7 +7,7 @@ use Rattle.usb_world.specs.World.{World}
 use Rattle.usb_transaction.specs.Failures.{NoThreeDamaged}
 use Rattle.usb_pipe.specs.declared.fault.PipeFault.{PipeFault}
 use Rattle.usb_pipe.specs.declared.fault.PipeFault.TheVariants.{Stalled, Busy, NoAnswer, Broken, Bus, Memory}
-use Rattle.usb_hub.specs.Why.{NoHubFailed}
+use Rattle.usb_hub.specs.CallFailures.{NoHubFailed}
 use Rattle.usb_enum.proofs.Interface.{went_sound}
 use Rattle.usb_enum.specs.declared.finding.Finding.{Finding}
 use Rattle.usb_enum.specs.declared.finding.Finding.TheVariants.{Device}
@@ -15,7 +15,7 @@ use Rattle.usb_enum.specs.declared.hub.HubFacts.{HubFacts}
 use Rattle.usb_table.specs.declared.pipes.Pipes.{Pipes}
 use Rattle.usb_table.specs.declared.pipes.Pipes.TheVariants.{Hub as HubPipe, Function, Absent}
 use Rattle.usb_table.specs.Entries.{Entries}
-use Rattle.usb_table.specs.Known.{is_below_hub}
+use Rattle.usb_table.specs.KnownPorts.{is_below_hub}
 use Rattle.usb_table.specs.Findings.{accepted_device_of}
 use Rattle.usb_table.specs.Levels.{IsHeld, KeepsPolled}
 use Rattle.usb_table.specs.Listing.{finding_at, hub_facts_in, hub_facts_at}
@@ -23,17 +23,17 @@ use Rattle.usb_table.specs.Pipes.{ArePipesOf}
 use Rattle.usb_table.specs.Transfers.{PipesPolled}
 use Rattle.usb_host.specs.Agreement.{Agrees}
 use Rattle.usb_host.specs.Hosting.{Hosting}
-use Rattle.usb_host.specs.Owning.{StaysOwned, StaysSingle, KeepsOwned, DropsHub}
+use Rattle.usb_host.specs.Ownership.{StaysOwned, StaysSingle, KeepsOwned, DropsHub}
 use Rattle.usb_host.specs.Transfers.{table_in}
 use Rattle.usb_host.specs.Progress.{HostWent, HostGoes, either}
-use Rattle.usb_host.specs.Sound.{IsSound, StaysSound, DropsSound, PartKeeps, PartsKeep, RootsRest, HubKeeps, HubsKeep, LooksKeep}
+use Rattle.usb_host.specs.Soundness.{IsSound, StaysSound, DropsSound, PartKeeps, PartsKeep, RootsRest, HubKeeps, HubsKeep, LooksKeep}
 use Rattle.usb_host.specs.declared.fault.HostFault.{HostFault}
 use Rattle.usb_host.specs.declared.host.Round.{Round}
 use Rattle.usb_host.specs.declared.host.Round.TheVariants.{Worked, Quiet}
 use Rattle.usb_host.proofs.Handlings.{match_err, hub_lost}
 use Rattle.usb_host.proofs.Owners.{stays_kept, stays_then, single_then}
 use Rattle.usb_host.proofs.Polls.{HubThere, hub_there, reached_at, heard_at, poll_silent}
-use Rattle.usb_host.proofs.Restings.{done, ok_is, quiet_first, quiet_second, at_rest}
+use Rattle.usb_host.proofs.RestingRounds.{done, ok_is, quiet_first, quiet_second, at_rest}
 use Rattle.usb_host.proofs.Roots.{accounted, on_failed}
 use Rattle.usb_host.proofs.Soundness.{sound_then, sound_kept, but_kept, caused_kept, known_kept, truthful_kept, occupied_kept, sound_dropped}
 

@@ -3,23 +3,23 @@ use Rattle.std.proofs.Common.{◌≡◌, ◌≤◌, ◌+◌, ◌-◌, ◌⊎◌,
 use Rattle.std.specs.Prelude.{⊤, IsSomeAnd, unwrap_or, option_map}
 use Rattle.std.proofs.lemmas.Bool.{lt-ltb}
 use Rattle.std.specs.BTreeMap.{is_at, insert_entry}
-use Rattle.usb_port.specs.Order.{path_cmp, parent_of, port_of}
+use Rattle.usb_port.specs.Order.{path_cmp, parent_of, port_on_hub}
 use Rattle.usb_port.proofs.Interface.{rejoined}
 use Rattle.usb_world.specs.Paths.{is_way, pend, same_number}
 use Rattle.usb_world.specs.World.{World, roots_of}
 use Rattle.usb_world.proofs.Interface.{and_of, at_or_below_way, both, decided, no, way_itself, way_parent, way_rest, way_trans}
 use Rattle.usb_enum.specs.declared.finding.Finding.{Finding}
 use Rattle.usb_enum.specs.declared.finding.Finding.TheVariants.{Device, Refused}
-use Rattle.usb_enum.specs.Described.{IsFindingOf, IsRight}
+use Rattle.usb_enum.specs.Verdicts.{IsFindingOf, IsRight}
 use Rattle.usb_table.specs.declared.known.KnownPort.{KnownPort}
 use Rattle.usb_table.specs.Entries.{Entries, has_at, without}
 use Rattle.usb_table.specs.Findings.{accepted_device_of}
 use Rattle.usb_table.specs.Listing.{finding_at, hub_facts_in, IsPortBelow, IsListedPort, tier_of}
 use Rattle.usb_table.proofs.Interface.{path_tied}
 use Rattle.usb_enum.specs.Places.{IsKnownAs}
-use Rattle.usb_host.specs.Sound.{Known, known_supply, IsToldAt, Truthful, IsCausedAt, Causes, KnownBut, TruthfulBut, CausesBut}
+use Rattle.usb_host.specs.Soundness.{Known, known_supply, IsToldAt, Truthful, IsCausedAt, Causes, KnownBut, TruthfulBut, CausesBut}
 use Rattle.usb_host.proofs.Agreements.{lookup-without, lookup-insert_entry_elsewhere, known_away, known_entered}
-use Rattle.usb_host.proofs.Claimed.{none_there, lookup-insert_entry_here}
+use Rattle.usb_host.proofs.EntryClaims.{none_there, lookup-insert_entry_here}
 
 -- what is below a port, and longer, has its hub at the port or below it
 way_hub : (p hub : List ℕ) (n : ℕ) → length p ≤ length hub → is_way p (hub ++ n ∷ []) ≡ true → is_way p hub ≡ true
@@ -62,7 +62,7 @@ port_as roots es fs n (Some hub) same h = subst (λ (f : Option Finding). IsSome
 
 -- a port is listed as long as its hub is
 pub listed_as : (roots : ℕ) (es fs : Entries) (path : List ℕ) → ((hub : List ℕ) → parent_of path ≡ Some hub → finding_at hub es ≡ finding_at hub fs) → IsListedPort roots es path → IsListedPort roots fs path
-listed_as roots es fs path same port = record { some = port.some; port = port_as roots es fs (port_of path) (parent_of path) same port.port }
+listed_as roots es fs path same port = record { some = port.some; port = port_as roots es fs (port_on_hub path) (parent_of path) same port.port }
 
 -- The ports at a path and below it
 
@@ -79,8 +79,8 @@ split_by first path (n ∷ rest) some way is =
     let long : length path ≡ length first + length (n ∷ rest) = ap length is ∙ length-append first (n ∷ rest) in
     let above = parent_some path (omega (arith, some, long)) in
     let joined = rejoined path above.0 above.1 in
-    let short : length path ≡ length above.0 + 1 = ap length joined ∙ length-append above.0 (port_of path ∷ []) in
-    inr (above.0, above.1, way_hub first above.0 (port_of path) (omega (arith, long, short)) (subst (λ (l : List ℕ). is_way first l ≡ true) joined way))
+    let short : length path ≡ length above.0 + 1 = ap length joined ∙ length-append above.0 (port_on_hub path ∷ []) in
+    inr (above.0, above.1, way_hub first above.0 (port_on_hub path) (omega (arith, long, short)) (subst (λ (l : List ℕ). is_way first l ≡ true) joined way))
 
 split : (first path : List ℕ) → 1 ≤ length first → is_way first path ≡ true → (path ≡ first) ⊎ ((hub : List ℕ) × (parent_of path ≡ Some hub) × (is_way first hub ≡ true))
 split first path some way = let rest = way_rest first path way in split_by first path rest.0 some way rest.1
@@ -102,8 +102,8 @@ known_whole first w es some others here below path port = pick (decided (is_way 
 
 none_below : (roots : ℕ) (es : Entries) (path hub : List ℕ) → parent_of path ≡ Some hub → finding_at hub es ≡ None → IsListedPort roots es path → ⊥
 none_below roots es path hub is none port =
-    let below : IsPortBelow roots es (Some hub) (port_of path) = subst (λ o. IsPortBelow roots es o (port_of path)) is port.port in
-    subst (λ (f : Option Finding). IsSomeAnd (hub_facts_in f) (λ facts. (1 ≤ port_of path) × (port_of path ≤ facts.ports))) none below
+    let below : IsPortBelow roots es (Some hub) (port_on_hub path) = subst (λ o. IsPortBelow roots es o (port_on_hub path)) is port.port in
+    subst (λ (f : Option Finding). IsSomeAnd (hub_facts_in f) (λ facts. (1 ≤ port_on_hub path) × (port_on_hub path ≤ facts.ports))) none below
 
 pub known_dropped : (first : List ℕ) (w : World) (es : Entries) → KnownBut first w es → KnownBut first w (without first es)
 known_dropped first w es known path away port =
@@ -163,7 +163,7 @@ module _ (first : List ℕ) (f : Finding) (es : Entries) (some : 1 ≤ length fi
   -- below it stands nothing yet
   finding-below : (path hub : List ℕ) → parent_of path ≡ Some hub → is_way first hub ≡ true → finding_at path entered ≡ None
   finding-below path hub is way =
-      let short : length path ≡ length hub + 1 = ap length (rejoined path hub is) ∙ length-append hub (port_of path ∷ []) in
+      let short : length path ≡ length hub + 1 = ap length (rejoined path hub is) ∙ length-append hub (port_on_hub path ∷ []) in
       let rest = way_rest first hub way in
       let long : length hub ≡ length first + length rest.0 = ap length rest.1 ∙ length-append first rest.0 in
       finding-entered path (longer path (omega (arith, short, long)) (is_at (path_cmp path) first) refl)
@@ -187,11 +187,11 @@ module _ (first : List ℕ) (f : Finding) (es : Entries) (some : 1 ≤ length fi
     where
       below : (path hub : List ℕ) → parent_of path ≡ Some hub → is_way first hub ≡ true → IsListedPort (roots_of w) entered path → (b : Bool) → is_at (path_cmp hub) first ≡ b → IsKnownAs w path None
       below path hub is way port true tie =
-          let at : IsPortBelow (roots_of w) entered (Some first) (port_of path) = subst (λ h. IsPortBelow (roots_of w) entered (Some h) (port_of path)) (path_tied hub first tie) (subst (λ o. IsPortBelow (roots_of w) entered o (port_of path)) is port.port) in
-          let own : IsSomeAnd (hub_facts_in (Some f)) (λ facts. (1 ≤ port_of path) × (port_of path ≤ facts.ports)) =
-          subst (λ (x : Option Finding). IsSomeAnd (hub_facts_in x) (λ facts. (1 ≤ port_of path) × (port_of path ≤ facts.ports))) (lookup-insert_entry_here first f es) at in
-          let joined : path ≡ first ++ port_of path ∷ [] = rejoined path hub is ∙ ap (λ (l : List ℕ). l ++ port_of path ∷ []) (path_tied hub first tie) in
-          subst (λ p. IsKnownAs w p None) (sym joined) (ports (port_of path) own)
+          let at : IsPortBelow (roots_of w) entered (Some first) (port_on_hub path) = subst (λ h. IsPortBelow (roots_of w) entered (Some h) (port_on_hub path)) (path_tied hub first tie) (subst (λ o. IsPortBelow (roots_of w) entered o (port_on_hub path)) is port.port) in
+          let own : IsSomeAnd (hub_facts_in (Some f)) (λ facts. (1 ≤ port_on_hub path) × (port_on_hub path ≤ facts.ports)) =
+          subst (λ (x : Option Finding). IsSomeAnd (hub_facts_in x) (λ facts. (1 ≤ port_on_hub path) × (port_on_hub path ≤ facts.ports))) (lookup-insert_entry_here first f es) at in
+          let joined : path ≡ first ++ port_on_hub path ∷ [] = rejoined path hub is ∙ ap (λ (l : List ℕ). l ++ port_on_hub path ∷ []) (path_tied hub first tie) in
+          subst (λ p. IsKnownAs w p None) (sym joined) (ports (port_on_hub path) own)
       below path hub is way port false apart =
           absurd (none_below (roots_of w) entered path hub is (finding-entered hub apart ∙ finding-none first hub es gone way) port)
 

@@ -14,7 +14,7 @@ use Rattle.usb_device.specs.declared.request.Registers.{Registers}
 use Rattle.usb_device.specs.Bulk.{tells_changes}
 use Rattle.usb_device.specs.Rows.{State}
 use Rattle.usb_device.specs.Spec.{Spec, Hub, IsSpec, IsHub}
-use Rattle.usb_device.specs.Tree.{reach, reach_at, state_at}
+use Rattle.usb_device.specs.Tree.{reach, reach_at, state_at, Spot, path_to, reach_on, state_on}
 use Rattle.usb_device.specs.View.{port_there}
 use Rattle.usb_world.specs.Paths.{address_of, pend}
 use Rattle.usb_world.specs.PluggedDevices.{hub_ports}
@@ -33,25 +33,25 @@ use Rattle.usb_enum.specs.declared.finding.Accepted.{Accepted}
 use Rattle.usb_enum.specs.declared.finding.Finding.{Finding}
 use Rattle.usb_enum.specs.declared.finding.Finding.TheVariants.{Device, Refused}
 use Rattle.usb_enum.specs.declared.hub.HubFacts.{HubFacts}
-use Rattle.usb_enum.specs.Described.{facts_of}
-use Rattle.usb_enum.specs.Device.{is_hub, configuration_of}
+use Rattle.usb_enum.specs.Verdicts.{facts_of}
+use Rattle.usb_enum.specs.Device.{is_hub_device, configuration_of}
 use Rattle.usb_enum.specs.Places.{IsKnownAs}
 use Rattle.usb_table.specs.declared.pipes.Pipes.{Pipes}
 use Rattle.usb_table.specs.declared.pipes.Pipes.TheVariants.{Hub as HubPipe, Function, Absent}
 use Rattle.usb_table.specs.Entries.{Entries}
 use Rattle.usb_table.specs.Findings.{accepted_device_of}
-use Rattle.usb_table.specs.Known.{is_below_hub}
+use Rattle.usb_table.specs.KnownPorts.{is_below_hub}
 use Rattle.usb_table.specs.Levels.{Heard}
 use Rattle.usb_table.specs.Listing.{finding_at, hub_facts_in, hub_facts_at, tier_of}
 use Rattle.usb_table.specs.Pipes.{IsStatusPipe, ArePipesTo, ArePipesOf}
 use Rattle.usb_table.specs.Transfers.{PipesPolled, PolledThrough}
 use Rattle.usb_host.specs.Agreement.{Agrees}
 use Rattle.usb_host.specs.Hosting.{Hosting}
-use Rattle.usb_host.specs.Sound.{Accounted, IsSound, IsSilent, Known, IsTruthOf, Truthful, known_supply}
+use Rattle.usb_host.specs.Soundness.{Accounted, IsSound, IsSilent, Known, IsTruthOf, Truthful, known_supply}
 use Rattle.usb_host.proofs.Roots.{accounted}
 use Rattle.usb_enum.proofs.Interface.{accepts}
 use Rattle.usb_host.proofs.Servers.{hears_by, below_of}
-use Rattle.usb_host.proofs.Settled.{listed_port, reached_there}
+use Rattle.usb_host.proofs.SettledListings.{listed_port, reached_there}
 use Rattle.usb_host.proofs.Silences.{AreClear, nak_clears}
 
 -- A status endpoint
@@ -114,7 +114,7 @@ hub_there path entries facts h = let x = hub_by (finding_at path entries) facts 
 
 -- its description has as many ports
 pub facts_ports : (spec : Spec) (facts : HubFacts) → facts_of spec ≡ Some facts → facts.ports ≡ hub_ports spec.hub
-facts_ports spec facts h = pick (is_hub spec.descriptor) h
+facts_ports spec facts h = pick (is_hub_device spec.descriptor) h
   where
     pick : (b : Bool) → (if b then Some (record { ports = hub_ports spec.hub; supply = supply_of false spec.self_powered }) else None) ≡ Some facts → facts.ports ≡ hub_ports spec.hub
     pick true h = cc h
@@ -151,11 +151,11 @@ change_by None h = tt
 change_by (Some b) h = change_none b h
 
 -- the device that is reached at a path
-record ReachedAt (w : World) (entries : Entries) (j : ℕ) (p : List ℕ) (device : Accepted) : Type 0 where
+record ReachedAt (w : World) (entries : Entries) (j : Spot) (device : Accepted) : Type 0 where
   state : State
-  on : reach_at w.roots j p ≡ true
-  stands : state_at w.roots j p ≡ Some state
-  tells : IsTruthOf entries (suc j ∷ p) device state
+  on : reach_on w.roots j ≡ true
+  stands : state_on w.roots j ≡ Some state
+  tells : IsTruthOf entries (path_to j) device state
 
 module _ (w : World) (entries : Entries) (addresses : Addresses) (fits : Accounted (roots_of w) entries addresses) (known : Known w entries) (truthful : Truthful w entries) where
   pub reached_at : (path : List ℕ) (device : Accepted) → finding_at path entries ≡ Some (Device device) → pend w.roots path ≡ false → reach w.roots path ≡ true
@@ -163,55 +163,54 @@ module _ (w : World) (entries : Entries) (addresses : Addresses) (fits : Account
       let here : IsKnownAs w path (Some (Device device)) = subst (IsKnownAs w path) found (known path (listed_port w entries addresses fits path (Device device) found)) in
       elim here [ inl pends ↦ no (sym none ∙ pends) | inr there ↦ there.1 ]
 
-  stands_at : (j : ℕ) (p : List ℕ) (device : Accepted) → finding_at (suc j ∷ p) entries ≡ Some (Device device) → reach w.roots (suc j ∷ p) ≡ true → ReachedAt w entries j p device
-  stands_at j p device found on =
-      let there : _ = reached_there w.roots (suc j ∷ p) on in
-      record { state = there.0; on = on; stands = there.1; tells = truthful (suc j ∷ p) device there.0 (ap accepted_device_of found) on there.1 }
+  stands_at : (j : Spot) (device : Accepted) → finding_at (path_to j) entries ≡ Some (Device device) → reach w.roots (path_to j) ≡ true → ReachedAt w entries j device
+  stands_at j device found on =
+      let there : _ = reached_there w.roots (path_to j) on in
+      record { state = there.0; on = on; stands = there.1; tells = truthful (path_to j) device there.0 (ap accepted_device_of found) on there.1 }
 
-  heard_by : (j : ℕ) (p : List ℕ) (device : Accepted) → ReachedAt w entries j p device → Heard (suc j ∷ p) device w
-  heard_by j p device r = record {
-    j = j;
-    p = p;
+  heard_by : (j : Spot) (device : Accepted) → ReachedAt w entries j device → Heard (path_to j) device w
+  heard_by j device r = record {
+    spot = j;
     state = r.state;
     is = refl;
     on = r.on;
     stands = r.stands;
     listens = record {
       at = eq-eqb (address_of r.state) device.address r.tells.set.address;
-      loud = (accepts r.state.spec (tier_of (suc j ∷ p)) (known_supply (suc j ∷ p) entries) device.chosen r.tells.found.0).loud;
-      hears = hears_by device.low r.state.spec.low (deep_at false p) (device.low && is_below_hub (suc j ∷ p)) r.tells.found.1.low (λ low deep. and_of device.low (is_below_hub (suc j ∷ p)) low (below_of j p deep));
+      loud = (accepts r.state.spec (tier_of (path_to j)) (known_supply (path_to j) entries) device.chosen r.tells.found.0).loud;
+      hears = hears_by device.low r.state.spec.low (deep_at false j.rest) (device.low && is_below_hub (path_to j)) r.tells.found.1.low (λ low deep. and_of device.low (is_below_hub (path_to j)) low (below_of j.row j.rest deep));
     };
   }
 
   pub heard_at : (path : List ℕ) (device : Accepted) → finding_at path entries ≡ Some (Device device) → reach w.roots path ≡ true → Heard path device w
   heard_at [] device found on = no on
   heard_at (zero ∷ p) device found on = no on
-  heard_at (suc j ∷ p) device found on = heard_by j p device (stands_at j p device found on)
+  heard_at (suc j ∷ p) device found on = heard_by (record { row = j; rest = p }) device (stands_at (record { row = j; rest = p }) device found on)
 
 module _ (h : Hosting) (agrees : Agrees h.entries h.addresses) (s : IsSound h) (still : h.world.fault ≡ None) where
   module _ (facts : HubFacts) (number : ℕ) (least : 1 ≤ number) (most : number ≤ facts.ports) where
-    clear_by : (pipe : Interrupt) (old : World) (j : ℕ) (p : List ℕ) (device : Accepted) (below : Bool) → device.hub ≡ Some facts → IsStatusPipe device below pipe → IsSettled old.roots → Waiting pipe.toggle (in_attempt pipe.target pipe.ep) old h.world
-        → ReachedAt h.world h.entries j p device → IfSome (port_there h.world.roots (suc j ∷ (p ++ (number ∷ [])))) (λ b. b.connection_changed ≡ false)
-    clear_by pipe old j p device below told is settled waiting r =
+    clear_by : (pipe : Interrupt) (old : World) (j : Spot) (device : Accepted) (below : Bool) → device.hub ≡ Some facts → IsStatusPipe device below pipe → IsSettled old.roots → Waiting pipe.toggle (in_attempt pipe.target pipe.ep) old h.world
+        → ReachedAt h.world h.entries j device → IfSome (port_there h.world.roots (path_to j ++ (number ∷ []))) (λ b. b.connection_changed ≡ false)
+    clear_by pipe old j device below told is settled waiting r =
         let status = status_of (configuration_of device) (pipe.ep, pipe.target.max) is.endpoint in
         let ports : facts.ports ≡ hub_ports r.state.spec.hub = facts_ports r.state.spec facts (sym r.tells.found.1.hub ∙ told) in
-        let spec : IsSpec r.state.spec = sane_spec h.world.roots j p r.state (s.order still).0.sane r.stands in
+        let spec : IsSpec r.state.spec = sane_spec h.world.roots j.row j.rest r.state (s.order still).0.sane r.stands in
         let few : hub_ports r.state.spec.hub ≤ 7 = few_by r.state.spec.hub spec.hub in
         let configured : 1 ≤ r.state.registers.configuration = subst (λ n. 1 ≤ n) (sym r.tells.set.configuration) status.valued in
         let address : pipe.target.addr ≡ device.address = ap (λ (t : Target). t.addr) is.target in
         let at : has_address r.state pipe.target ≡ true = eq-eqb r.state.registers.address pipe.target.addr (r.tells.set.address ∙ sym address) in
         let tells : tells_changes r.state.spec r.state.registers ≡ true = tells_by r.state.spec r.state.registers (omega (arith, least, most, ports)) configured in
         let trail : Trail (in_attempt pipe.target 1) old (Nak ∷ waiting.outcomes) h.world = subst (λ e. Trail (in_attempt pipe.target e) old (Nak ∷ waiting.outcomes) h.world) status.one waiting.trail in
-        let clear : AreClear h.world j p = nak_clears pipe.target trail refl settled s.owned.single j p r.state r.on r.stands at tells in
-        change_by (port_there h.world.roots (suc j ∷ (p ++ (number ∷ [])))) (clear number least (omega (arith, most, ports, few)))
+        let clear : AreClear h.world j = nak_clears pipe.target trail refl settled s.owned.single j r.state r.on r.stands at tells in
+        change_by (port_there h.world.roots (path_to j ++ (number ∷ []))) (clear number least (omega (arith, most, ports, few)))
 
     silent_by : (path : List ℕ) (pipe rest : Interrupt) (old : World) → (there : HubThere path h.entries facts) → IsStatusPipe there.device (is_below_hub path) pipe → PolledThrough pipe old (Ok None) rest h.world
         → reach h.world.roots path ≡ true → IfSome (port_there h.world.roots (path ++ (number ∷ []))) (λ b. b.connection_changed ≡ false)
     silent_by [] pipe rest old there is through on = no on
     silent_by (zero ∷ p) pipe rest old there is through on = no on
     silent_by (suc j ∷ p) pipe rest old there is through on =
-        clear_by pipe old j p there.device (is_below_hub (suc j ∷ p)) there.told is through.settled through.polls.asked
-        (stands_at h.world h.entries h.addresses (accounted h agrees s.rooted) (s.known still) (s.truthful still) j p there.device there.found on)
+        clear_by pipe old (record { row = j; rest = p }) there.device (is_below_hub (suc j ∷ p)) there.told is through.settled through.polls.asked
+        (stands_at h.world h.entries h.addresses (accounted h agrees s.rooted) (s.known still) (s.truthful still) (record { row = j; rest = p }) there.device there.found on)
 
   -- the poll answered that there is nothing to tell
   pub poll_silent : (path : List ℕ) (pipes left : Pipes) (old : World) → ((finding : Finding) → finding_at path h.entries ≡ Some finding → ArePipesOf finding (is_below_hub path) pipes)

@@ -1,9 +1,10 @@
 -- The root ports get power one by one.
 use Rattle.std.proofs.Common.{◌≡◌, ◌∙◌, refl, sym, ap, arith, suc, zero}
 use Rattle.std.specs.Prelude.{ℕ, ◌-◌, ◌≤◌, [], length}
+use Rattle.usb_request.specs.Features.{PORT_POWER}
 use Rattle.usb_port.specs.PortState.{powered_on}
-use Rattle.usb_device.specs.Calls.{set_call}
-use Rattle.usb_device.specs.declared.calls.PortCall.TheVariants.{SetPower}
+use Rattle.usb_port.specs.Calls.{set_call}
+use Rattle.usb_port.specs.declared.call.PortCall.TheVariants.{SetPower}
 use Rattle.usb_device.specs.Tree.{Ports, ended, vacant, taken, called, changed_at, row_of}
 use Rattle.usb_world.specs.World.{World, roots_of}
 use Rattle.usb_world.specs.Steps.{SetsRoot, after, root_call}
@@ -52,8 +53,7 @@ powers_next : (w0 : World) (n : ℕ) → after (root_call SetPower (suc n)) (pow
 unfolding after
 powers_next w0 n = ap (λ r. record w0 { roots = r }) (set_one n w0.roots)
 
-pub powers_one : (w0 w v : World) (port : ℕ) → 1 ≤ port → w ≡ powered_world (port - 1) w0 → SetsRoot port 8 w v → v ≡ powered_world port w0
-unfolding set_call
+pub powers_one : (w0 w v : World) (port : ℕ) → 1 ≤ port → w ≡ powered_world (port - 1) w0 → SetsRoot port PORT_POWER w v → v ≡ powered_world port w0
 powers_one w0 w v port least e s =
     let n : ℕ = port - 1 in
     let next : suc n ≡ port = omega (arith, least) in

@@ -6,7 +6,7 @@ use Rattle.std.proofs.lemmas.Nat.{row_fits}
 use Rattle.usb_port.specs.Path.{IsPath}
 use Rattle.usb_port.specs.Order.{rank_of}
 use Rattle.usb_port.proofs.Interface.{bound, rises}
-use Rattle.usb_table.specs.Next.{ComesAfter}
+use Rattle.usb_table.specs.NextEntries.{ComesAfter}
 use Rattle.usb_host.specs.Hosting.{Hosting}
 use Rattle.usb_host.specs.Progress.{HostGoes}
 use Rattle.usb_host.proofs.Joins.{goes_then, goes_wider}

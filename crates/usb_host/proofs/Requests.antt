@@ -1,47 +1,49 @@
 -- What requests to a port keep, as the host tells of them.
+use Rattle.usb_device.specs.Tree.{path_to}
 use Rattle.std.proofs.Common.{◌≡◌, inl, inr, refl, sym, ap, subst, ◌∙◌, ℕ, suc, true, false, List, [], ◌∷◌, ◌++◌, Option, None, Some, Result, Ok, Err}
 use Rattle.std.specs.Prelude.{IfOk}
 use Rattle.std.specs.Global.{Vec}
+use Rattle.usb_request.specs.Features.{PORT_ENABLE, C_PORT_CONNECTION, C_PORT_ENABLE, C_PORT_RESET}
 use Rattle.usb_port.specs.declared.status.PortStatus.{PortStatus}
 use Rattle.usb_port.specs.Status.{status_in}
-use Rattle.usb_device.specs.declared.calls.PortCall.{PortCall}
-use Rattle.usb_device.specs.declared.calls.PortCall.TheVariants.{ClearEnable, ClearConnectionChange}
-use Rattle.usb_device.specs.Calls.{clear_call, is_reset}
+use Rattle.usb_port.specs.declared.call.PortCall.{PortCall}
+use Rattle.usb_port.specs.declared.call.PortCall.TheVariants.{ClearEnable, ClearConnectionChange}
+use Rattle.usb_port.specs.Calls.{clear_call, is_reset}
 use Rattle.usb_device.specs.View.{port_there}
 use Rattle.usb_world.specs.Paths.{pend}
 use Rattle.usb_world.specs.Steps.{here}
 use Rattle.usb_world.specs.World.{World}
 use Rattle.usb_world.proofs.Interface.{course_joined, course_wider, pending_persists}
-use Rattle.usb_bus.specs.Traced.{WentOn}
+use Rattle.usb_bus.specs.Traces.{WentOn}
 use Rattle.usb_address.specs.Claims.{Claims}
-use Rattle.usb_address.specs.Owned.{Owned, TillFault, KeepsAddresses}
+use Rattle.usb_address.specs.Ownership.{Owned, TillFault, KeepsAddresses}
 use Rattle.usb_address.proofs.Interface.{keeps_none, keeps_then, live_port}
 use Rattle.usb_transaction.specs.Failures.{NoThreeDamaged}
 use Rattle.usb_pipe.specs.declared.fault.PipeFault.{PipeFault}
 use Rattle.usb_pipe.specs.declared.fault.PipeFault.TheVariants as pipe
-use Rattle.usb_pipe.specs.Leaves.{IsNotOfBus}
+use Rattle.usb_pipe.specs.Leaves.{IsNoBusFault}
 use Rattle.usb_hub.specs.declared.port.HubPort.{HubPort}
 use Rattle.usb_hub.specs.declared.port.HubPort.TheVariants.{Root, External}
 use Rattle.usb_hub.specs.Addresses.{IsAt, KeepsDevices, KeepsAsked, KeepsCleared}
 use Rattle.usb_hub.specs.Moments.{TellsPort, CallsPort, IsCall}
 use Rattle.usb_hub.specs.Port.{PortRead}
 use Rattle.usb_hub.specs.Requests.{AllRest, said_in}
-use Rattle.usb_hub.specs.Why.{NoHubFailed}
+use Rattle.usb_hub.specs.CallFailures.{NoHubFailed}
 use Rattle.usb_hub.proofs.Interface.{stays_none}
 use Rattle.usb_enum.specs.declared.fault.EnumFault.{EnumFault}
 use Rattle.usb_enum.specs.declared.fault.EnumFault.TheVariants.{ParentLost}
 use Rattle.usb_enum.specs.Stop.{fault_at_port, at_port}
-use Rattle.usb_enum.specs.Present.{IsInOrder}
+use Rattle.usb_enum.specs.PresentDevices.{IsInOrder}
 use Rattle.usb_enum.proofs.Interface.{devices_then, went_in_order, went_sound, went_three}
-use Rattle.usb_host.specs.Handling.{LetsGoOn, RestElsewhere, HasWay, IsLost, Watches, Tidies, ClearsChange, Decides}
-use Rattle.usb_host.specs.Owning.{BaresPort}
+use Rattle.usb_host.specs.PortHandling.{LetsGoOn, RestElsewhere, HasWay, IsLost, Watches, Tidies, ClearsChange, Decides}
+use Rattle.usb_host.specs.Ownership.{BaresPort}
 use Rattle.usb_host.proofs.Clearings.{cleared_way, told_decides, decided_stays}
 use Rattle.usb_host.proofs.Handlings.{bares_after}
-use Rattle.usb_host.proofs.Tidied.{Tidy, enable, reset, tidy_call, holds_then, holds_same, tidied_holds}
+use Rattle.usb_host.proofs.TidiedPorts.{Tidy, enable, reset, tidy_call, holds_then, holds_same, tidied_holds}
 
 -- How a fault is told
 
-pub goes_sound : (A B : Type 0) (fault : PipeFault) → LetsGoOn {A = A} (Err (fault_at_port fault)) → IsNotOfBus {A = B} (Err fault)
+pub goes_sound : (A B : Type 0) (fault : PipeFault) → LetsGoOn {A = A} (Err (fault_at_port fault)) → IsNoBusFault {A = B} (Err fault)
 goes_sound A B pipe.Stalled h = tt
 goes_sound A B pipe.Busy h = tt
 goes_sound A B pipe.NoAnswer h = tt
@@ -49,7 +51,7 @@ goes_sound A B pipe.Broken h = tt
 goes_sound A B (pipe.Bus fault) h = absurd h
 goes_sound A B pipe.Memory h = tt
 
-pub sound_by : {A : Type 0} (result : Result A PipeFault) → LetsGoOn (at_port result) → IsNotOfBus result
+pub sound_by : {A : Type 0} (result : Result A PipeFault) → LetsGoOn (at_port result) → IsNoBusFault result
 sound_by (Ok x) h = tt
 sound_by {A = A} (Err fault) h = goes_sound A A fault h
 
@@ -70,7 +72,7 @@ lost_unserved {A = A} (Err fault) e h = unserved_by A A fault (cc e) h
 
 -- A status
 
-said_sound : {A : Type 0} (read : List ℕ → A) (size : ℕ) (answer : Result (Vec ℕ) PipeFault) → IsNotOfBus (said_in read size answer) → IsNotOfBus answer
+said_sound : {A : Type 0} (read : List ℕ → A) (size : ℕ) (answer : Result (Vec ℕ) PipeFault) → IsNoBusFault (said_in read size answer) → IsNoBusFault answer
 said_sound read size (Ok bytes) h = tt
 said_sound read size (Err pipe.Stalled) h = tt
 said_sound read size (Err pipe.Busy) h = tt
@@ -79,9 +81,9 @@ said_sound read size (Err pipe.Broken) h = tt
 said_sound read size (Err (pipe.Bus fault)) h = h
 said_sound read size (Err pipe.Memory) h = tt
 
-pub read_rests : (port : HubPort) (old : World) (result : Result PortStatus PipeFault) (new : World) → PortRead port old result new → IsNotOfBus result → AllRest old new
+pub read_rests : (port : HubPort) (old : World) (result : Result PortStatus PipeFault) (new : World) → PortRead port old result new → IsNoBusFault result → AllRest old new
 read_rests (Root number) old result new read sound = subst (AllRest old) (sym read.same) (λ x. here old)
-read_rests (External hub number) old result new read sound = read.asked.rests (said_sound status_in _ read.answer (subst IsNotOfBus read.told sound))
+read_rests (External hub number) old result new read sound = read.asked.rests (said_sound status_in _ read.answer (subst IsNoBusFault read.told sound))
 
 -- the hub of a path that is joined twice
 pub last_same : (q r : List ℕ) (m n : ℕ) → q ++ m ∷ [] ≡ r ++ n ∷ [] → q ≡ r
@@ -108,7 +110,7 @@ watched port old result new read tells asked = record {
         let b : _ = live_port old.roots p on in
         absurd (lost_unserved result e (tells.why hub number is few single most serves b.0 (subst (λ l. port_there old.roots l ≡ Some b.0) path b.1)))
     lost p (inr x) few still single e hub number is most serves path =
-        let same = last_same x.0 (suc serves.j ∷ serves.p) x.1 number (sym x.2 ∙ path) in
+        let same = last_same x.0 (path_to serves.spot) x.1 number (sym x.2 ∙ path) in
         subst (λ l. pend new.roots l ≡ true) same
         (pending_persists x.0 (course_wider (λ s w k. k.spares) (read_rests port old result new read (sound_by result (lost_goes result e)) x.0)) x.3)
 
@@ -143,12 +145,10 @@ call_tidies port feature tidy is old result new calls keeps = record {
     done_by (Ok tt) e = refl
     done_by (Err fault) e = absurd (cc e)
 
-pub clears_enable_change : clear_call 17 ≡ Some (tidy_call enable)
-unfolding clear_call
+pub clears_enable_change : clear_call C_PORT_ENABLE ≡ Some (tidy_call enable)
 clears_enable_change = refl
 
-pub clears_reset_change : clear_call 20 ≡ Some (tidy_call reset)
-unfolding clear_call
+pub clears_reset_change : clear_call C_PORT_RESET ≡ Some (tidy_call reset)
 clears_reset_change = refl
 
 pub tidies_none : (port : HubPort) (w : World) → Tidies port w (Ok tt) w
@@ -181,8 +181,7 @@ module _ (port : HubPort) (m n : ℕ) (old mid new : World) {t s r q : Option (L
   }
 
   -- the change of connection was cleared before
-  pub clears_after : (result : Result PortStatus EnumFault) → CallsPort port (clear_call 16) old (Ok tt) mid → KeepsAddresses old mid → KeepsDevices old mid → ClearsChange port mid result new → ClearsChange port old result new
-  unfolding clear_call
+  pub clears_after : (result : Result PortStatus EnumFault) → CallsPort port (clear_call C_PORT_CONNECTION) old (Ok tt) mid → KeepsAddresses old mid → KeepsDevices old mid → ClearsChange port mid result new → ClearsChange port old result new
   clears_after result calls k d x = record {
     bares = bares_kept result x.bares;
     devices = devices_then n old mid new d went x.devices;
@@ -192,7 +191,7 @@ module _ (port : HubPort) (m n : ℕ) (old mid new : World) {t s r q : Option (L
         (went_three m old mid before few) still alone e;
   }
     where
-      call : (f : Claims) (p : List ℕ) → IsAt f port p → TillFault (Owned f) old → IsCall f port p (clear_call 16) ClearConnectionChange old
+      call : (f : Claims) (p : List ℕ) → IsAt f port p → TillFault (Owned f) old → IsCall f port p (clear_call C_PORT_CONNECTION) ClearConnectionChange old
       call f p at owned = record { at = at; is = refl; alone = λ resets. absurd (cc resets); owned = owned }
 
       bares_kept : (result : Result PortStatus EnumFault) → BaresPort port mid result new → BaresPort port old result new
@@ -201,8 +200,7 @@ module _ (port : HubPort) (m n : ℕ) (old mid new : World) {t s r q : Option (L
 
   -- the status was told, and then the port was told to pass nothing on
   pub clears_disabled : (status : PortStatus) (result : Result (Unit {0}) PipeFault) → PortRead port old (Ok status) mid → TellsPort port old (Ok status) mid → KeepsAsked port old (Ok status) mid
-      → CallsPort port (clear_call 1) mid result new → KeepsCleared port 1 mid result new → ClearsChange port old (disabled_so status result) new
-  unfolding clear_call
+      → CallsPort port (clear_call PORT_ENABLE) mid result new → KeepsCleared port PORT_ENABLE mid result new → ClearsChange port old (disabled_so status result) new
   clears_disabled status result read tells asked calls keeps = record {
     bares = bares result keeps;
     devices = devices_then n old mid new asked.devices went keeps.devices;
@@ -211,18 +209,18 @@ module _ (port : HubPort) (m n : ℕ) (old mid new : World) {t s r q : Option (L
     lost = λ f p at owned way few still alone e. lost result f p at owned few still alone e calls;
   }
     where
-      call : (f : Claims) (p : List ℕ) → IsAt f port p → TillFault (Owned f) old → IsCall f port p (clear_call 1) ClearEnable mid
+      call : (f : Claims) (p : List ℕ) → IsAt f port p → TillFault (Owned f) old → IsCall f port p (clear_call PORT_ENABLE) ClearEnable mid
       call f p at owned = record { at = at; is = refl; alone = λ resets. absurd (cc resets); owned = asked.keeps.kept f owned }
 
-      goes_by : (result : Result (Unit {0}) PipeFault) → LetsGoOn (disabled_so status result) → IsNotOfBus result
+      goes_by : (result : Result (Unit {0}) PipeFault) → LetsGoOn (disabled_so status result) → IsNoBusFault result
       goes_by (Ok done) h = tt
       goes_by (Err fault) h = goes_sound PortStatus (Unit {0}) fault h
 
-      bares : (result : Result (Unit {0}) PipeFault) → KeepsCleared port 1 mid result new → BaresPort port old (disabled_so status result) new
+      bares : (result : Result (Unit {0}) PipeFault) → KeepsCleared port PORT_ENABLE mid result new → BaresPort port old (disabled_so status result) new
       bares (Ok tt) keeps = bares_after port old mid new asked.keeps (keeps.bare refl refl)
       bares (Err fault) keeps = keeps_then old mid new asked.keeps keeps.keeps
 
-      decided : (result : Result (Unit {0}) PipeFault) (f : Claims) (p : List ℕ) → IsAt f port p → TillFault (Owned f) old → HasWay old p → IsInOrder old → new.fault ≡ None → CallsPort port (clear_call 1) mid result new
+      decided : (result : Result (Unit {0}) PipeFault) (f : Claims) (p : List ℕ) → IsAt f port p → TillFault (Owned f) old → HasWay old p → IsInOrder old → new.fault ≡ None → CallsPort port (clear_call PORT_ENABLE) mid result new
           → IfOk (disabled_so status result) (λ status. Decides status.connected new p)
       decided (Ok tt) f p at owned way order still calls =
           let sane = (went_in_order m old mid before order (went_sound n mid new went still)).0.sane in
@@ -231,21 +229,20 @@ module _ (port : HubPort) (m n : ℕ) (old mid new : World) {t s r q : Option (L
       decided (Err fault) f p at owned way order still calls = tt
 
       lost : (result : Result (Unit {0}) PipeFault) (f : Claims) (p : List ℕ) → IsAt f port p → TillFault (Owned f) old → NoThreeDamaged old → new.fault ≡ None → new.shared ≡ false → disabled_so status result ≡ Err ParentLost
-          → CallsPort port (clear_call 1) mid result new → IsLost port p new
+          → CallsPort port (clear_call PORT_ENABLE) mid result new → IsLost port p new
       lost (Ok done) f p at owned few still alone e calls = absurd (cc e)
       lost (Err fault) f p at owned few still alone e calls =
-          call_lost port 1 ClearEnable refl mid (Err fault) new calls p (went_three m old mid before few) still alone (ap Err (cc e))
+          call_lost port PORT_ENABLE ClearEnable refl mid (Err fault) new calls p (went_three m old mid before few) still alone (ap Err (cc e))
 
 -- The clearing of a change of connection
 
-pub clears_failed : (port : HubPort) (old : World) (fault : PipeFault) (new : World) → CallsPort port (clear_call 16) old (Err fault) new → KeepsCleared port 16 old (Err fault) new → ClearsChange port old (Err (fault_at_port fault)) new
-unfolding clear_call
+pub clears_failed : (port : HubPort) (old : World) (fault : PipeFault) (new : World) → CallsPort port (clear_call C_PORT_CONNECTION) old (Err fault) new → KeepsCleared port C_PORT_CONNECTION old (Err fault) new → ClearsChange port old (Err (fault_at_port fault)) new
 clears_failed port old fault new calls keeps = record {
   bares = keeps.keeps;
   devices = keeps.devices;
   others = λ f p at owned goes. calls.rests f p ClearConnectionChange (record { at = at; is = refl; alone = λ resets. absurd (cc resets); owned = owned }) (goes_sound PortStatus (Unit {0}) fault goes);
   decides = λ f p at owned way order still. tt;
-  lost = λ f p at owned way few still alone e. call_lost port 16 ClearConnectionChange refl old (Err fault) new calls p few still alone (ap Err (cc e));
+  lost = λ f p at owned way few still alone e. call_lost port C_PORT_CONNECTION ClearConnectionChange refl old (Err fault) new calls p few still alone (ap Err (cc e));
 }
 
 -- the status after it failed, or was told

@@ -2,7 +2,7 @@
 use Rattle.std.proofs.Common.{◌≡◌, refl, sym, ap, subst, ℕ, ◌≤◌, Bool, true, false, not, List, [], ◌∷◌, ◌++◌, length, Option, None, Some, Result, Ok, Err, arith}
 use Rattle.std.specs.Prelude.{IsSome, OnOk, IsErr}
 use Rattle.std.specs.BTreeMap.{is_at, insert_entry}
-use Rattle.usb_port.specs.Order.{path_cmp, parent_of, port_of}
+use Rattle.usb_port.specs.Order.{path_cmp, parent_of, port_on_hub}
 use Rattle.usb_port.proofs.Interface.{rejoined}
 use Rattle.usb_world.specs.Paths.{is_way}
 use Rattle.usb_world.specs.World.{World, roots_of}
@@ -14,14 +14,14 @@ use Rattle.usb_enum.specs.declared.finding.Finding.{Finding}
 use Rattle.usb_enum.specs.declared.finding.Finding.TheVariants.{Refused}
 use Rattle.usb_table.specs.declared.known.KnownPort.{KnownPort}
 use Rattle.usb_table.specs.Entries.{Entries, without, is_at_or_below}
-use Rattle.usb_table.specs.Known.{known_port, root_port, port_below, is_below_hub}
+use Rattle.usb_table.specs.KnownPorts.{known_port, root_port, port_below, is_below_hub}
 use Rattle.usb_table.specs.Listing.{finding_at}
 use Rattle.usb_table.proofs.Interface.{path_tied, port_found-some}
 use Rattle.usb_host.specs.Agreement.{Agrees, Nested}
 use Rattle.usb_host.specs.Hosting.{Hosting, opening_host}
-use Rattle.usb_host.specs.Owning.{IsRooted, root_of}
+use Rattle.usb_host.specs.Ownership.{IsRooted, root_of}
 use Rattle.usb_host.specs.Ports.{StandsAt, StandsNowhere, Waits}
-use Rattle.usb_host.specs.Sound.{Accounted}
+use Rattle.usb_host.specs.Soundness.{Accounted}
 use Rattle.usb_host.proofs.Agreements.{lookup-without, lookup-insert_entry_elsewhere}
 use Rattle.usb_host.proofs.Stations.{root_alone}
 
@@ -29,7 +29,7 @@ pub root_way : (path below : List ℕ) → 1 ≤ length path → is_way path bel
 root_way [] below some way = absurd (omega (arith, some))
 root_way (n ∷ path) below some way = ap root_of (way_rest (n ∷ path) below way).1
 
-root_joined : (path hub : List ℕ) → path ≡ hub ++ port_of path ∷ [] → parent_of path ≡ Some hub → root_of path ≡ root_of hub
+root_joined : (path hub : List ℕ) → path ≡ hub ++ port_on_hub path ∷ [] → parent_of path ≡ Some hub → root_of path ≡ root_of hub
 unfolding parent_of
 root_joined path [] joined is =
     let none : parent_of path ≡ None = ap parent_of joined in
@@ -65,14 +65,14 @@ rooted_came first f a b is roots here r path some =
 
 -- Where a port stands
 
-stands_by : (path : List ℕ) (port : KnownPort) (h : Hosting) → StandsAt path port h → IsRooted h → (above : Option (List ℕ)) → parent_of path ≡ above → port_below above (port_of path) h.entries ≡ Some port
+stands_by : (path : List ℕ) (port : KnownPort) (h : Hosting) → StandsAt path port h → IsRooted h → (above : Option (List ℕ)) → parent_of path ≡ above → port_below above (port_on_hub path) h.entries ≡ Some port
     → root_of path ≤ roots_of h.world
 stands_by path port h s r None above e =
-    let same : root_port (port_of path) ≡ port = cc e in
-    let there : IsPort h.world (Root (port_of path)) = subst (λ (p : KnownPort). IsPort h.world p.port) (sym same) s.there in
+    let same : root_port (port_on_hub path) ≡ port = cc e in
+    let there : IsPort h.world (Root (port_on_hub path)) = subst (λ (p : KnownPort). IsPort h.world p.port) (sym same) s.there in
     subst (λ n. n ≤ roots_of h.world) (sym (ap root_of (root_alone path s.is.0 above))) there.1
 stands_by path port h s r (Some hub) above e =
-    subst (λ n. n ≤ roots_of h.world) (sym (root_parent path hub above)) (r hub (subst IsSome (sym (port_found-some (finding_at hub h.entries) (is_below_hub hub) (port_of path) port e).stands) refl))
+    subst (λ n. n ≤ roots_of h.world) (sym (root_parent path hub above)) (r hub (subst IsSome (sym (port_found-some (finding_at hub h.entries) (is_below_hub hub) (port_on_hub path) port e).stands) refl))
 
 pub rooted_stands : (path : List ℕ) (port : KnownPort) (h : Hosting) → StandsAt path port h → IsRooted h → root_of path ≤ roots_of h.world
 rooted_stands path port h s r = stands_by path port h s r (parent_of path) refl s.known
@@ -90,7 +90,7 @@ pub waits_somewhere : (path : List ℕ) (h : Hosting) → StandsNowhere path h �
 waits_somewhere path h s w r =
     let some : IsSome (finding_at path h.entries) = rw w.entry refl in
     let none = alone_by path h s w (parent_of path) refl in
-    let here : root_of path ≡ port_of path = ap root_of (root_alone path s.is.0 none) in
+    let here : root_of path ≡ port_on_hub path = ap root_of (root_alone path s.is.0 none) in
     absurd (omega (arith, here, s.beyond none, r path some))
 
 -- A host
@@ -98,7 +98,7 @@ waits_somewhere path h s w r =
 pub rooted_opening : (w : World) (t : Option (List ℕ)) → IsRooted (opening_host w t)
 rooted_opening w t path some = no some
 
-port_by : (es : Entries) (roots : ℕ) (path : List ℕ) → Nested es → root_of path ≤ roots → parent_of path ≡ None → (o : Option Finding) → finding_at path es ≡ o → IsSome o → port_of path ≤ roots
+port_by : (es : Entries) (roots : ℕ) (path : List ℕ) → Nested es → root_of path ≤ roots → parent_of path ≡ None → (o : Option Finding) → finding_at path es ≡ o → IsSome o → port_on_hub path ≤ roots
 port_by es roots path n fits none None at some = no some
 port_by es roots path n fits none (Some f) at some = subst (λ k. k ≤ roots) (ap root_of (root_alone path (n.path path f at).0 none)) fits
 

@@ -2,7 +2,7 @@
 use Rattle.std.proofs.Common.{◌≡◌, ◌⊎◌, inl, inr, ◌≤◌, ◌&&◌, ◌||◌, not, arith, if◌then◌else◌, ℕ, zero, suc, Bool, true, false, List, [], ◌∷◌, length, Option, None, Some, refl, ap, sym, subst, ◌∙◌, length-append}
 use Rattle.std.specs.Prelude.{IsSomeAnd, slice_index_or}
 use Rattle.std.proofs.lemmas.Bool.{eq-eqb, lt-ltb}
-use Rattle.usb_port.specs.Order.{parent_of, port_of}
+use Rattle.usb_port.specs.Order.{parent_of, port_on_hub}
 use Rattle.usb_port.proofs.Interface.{rejoined}
 use Rattle.usb_resources.specs.Pool.{IsAddress}
 use Rattle.usb_resources.specs.Power.{supply_of}
@@ -19,23 +19,23 @@ use Rattle.usb_hub.specs.declared.port.HubPort.TheVariants.{External}
 use Rattle.usb_enum.specs.declared.finding.Accepted.{Accepted}
 use Rattle.usb_enum.specs.declared.finding.Finding.TheVariants.{Device}
 use Rattle.usb_enum.specs.declared.hub.HubFacts.{HubFacts}
-use Rattle.usb_enum.specs.Described.{facts_of}
-use Rattle.usb_enum.specs.Device.{is_hub, target_of, configuration_of}
-use Rattle.usb_enum.specs.Fair.{HasServer, ServesAt}
+use Rattle.usb_enum.specs.Verdicts.{facts_of}
+use Rattle.usb_enum.specs.Device.{is_hub_device, target_of, configuration_of}
+use Rattle.usb_enum.specs.FairEnumerations.{HasServer, ServesAt}
 use Rattle.usb_enum.specs.Places.{IsKnownAs}
 use Rattle.usb_table.specs.declared.known.KnownPort.{KnownPort}
 use Rattle.usb_table.specs.Entries.{Entries}
 use Rattle.usb_table.specs.Findings.{accepted_device_of}
 use Rattle.usb_table.specs.Keys.{address_in}
-use Rattle.usb_table.specs.Known.{IsAskable, root_port, port_below, is_below_hub}
+use Rattle.usb_table.specs.KnownPorts.{IsAskable, root_port, port_below, is_below_hub}
 use Rattle.usb_table.specs.Listing.{finding_at, tier_of}
 use Rattle.usb_table.proofs.Interface.{FoundPort, port_found-some}
 use Rattle.usb_host.specs.Hosting.{Hosting}
 use Rattle.usb_host.specs.Ports.{StandsAt}
-use Rattle.usb_host.specs.Sound.{IsToldAt, known_supply, IsSoundBut}
+use Rattle.usb_host.specs.Soundness.{IsToldAt, known_supply, IsSoundBut}
 use Rattle.usb_enum.proofs.Interface.{Accepts, accepts, chosen_some, has_chosen}
 use Rattle.usb_host.proofs.Roots.{accounted}
-use Rattle.usb_host.proofs.Settled.{listed_port, listed_address, port_number, reached_there}
+use Rattle.usb_host.proofs.SettledListings.{listed_port, listed_address, port_number, reached_there}
 
 -- A hub that is accepted hears its target
 
@@ -52,7 +52,7 @@ below_of j [] h = no h
 below_of j (n ∷ p) h = lt-ltb 1 (length (suc j ∷ n ∷ p)) (omega arith)
 
 facts_port : (spec : Spec) (facts : HubFacts) (n : ℕ) → facts_of spec ≡ Some facts → 1 ≤ n → n ≤ facts.ports → (hub : Hub) × (spec.hub ≡ Some hub) × (n ≤ hub.ports)
-facts_port spec facts n e least most = pick (is_hub spec.descriptor) e
+facts_port spec facts n e least most = pick (is_hub_device spec.descriptor) e
   where
     by_hub : (o : Option Hub) → spec.hub ≡ o → facts.ports ≡ hub_ports o → (hub : Hub) × (spec.hub ≡ Some hub) × (n ≤ hub.ports)
     by_hub None is ports = absurd (omega (arith, least, most, ports))
@@ -76,8 +76,7 @@ module _ (w : World) (entries : Entries) (device : Accepted) (facts : HubFacts) 
       let value : 1 ≤ configuration_value (configuration_of device) = subst (λ (texts : List (List ℕ)). 1 ≤ configuration_value (slice_index_or texts device.chosen [])) (sym t.found.1.configs) (chosen_some s.0.spec device.chosen (has_chosen s.0.spec supply device.chosen is)) in
       record {
         serves = record {
-          j = j;
-          p = p;
+          spot = record { row = j; rest = p };
           state = s.0;
           on = on;
           stands = s.1;
@@ -104,11 +103,11 @@ module _ (w : World) (entries : Entries) (device : Accepted) (facts : HubFacts) 
 -- The port's hub
 
 module _ (path : List ℕ) (port : KnownPort) (h : Hosting) (s : StandsAt path port h) (i : IsSoundBut path h) (still : h.world.fault ≡ None) where
-  server_of : (hub : List ℕ) (device : Accepted) (facts : HubFacts) → parent_of path ≡ Some hub → finding_at hub h.entries ≡ Some (Device device) → device.hub ≡ Some facts → port_of path ≤ facts.ports → 8 ≤ (target_of device (is_below_hub hub)).max → HasServer (External (target_of device (is_below_hub hub)) (port_of path)) path h.world
-  server_of hub device facts above at told most wide = subst (λ o. IsSomeAnd o (λ q. (pend h.world.roots q ≡ true) ⊎ ServesAt (target_of device (is_below_hub hub)) (port_of path) q h.world)) (sym above) (pick known)
+  server_of : (hub : List ℕ) (device : Accepted) (facts : HubFacts) → parent_of path ≡ Some hub → finding_at hub h.entries ≡ Some (Device device) → device.hub ≡ Some facts → port_on_hub path ≤ facts.ports → 8 ≤ (target_of device (is_below_hub hub)).max → HasServer (External (target_of device (is_below_hub hub)) (port_on_hub path)) path h.world
+  server_of hub device facts above at told most wide = subst (λ o. IsSomeAnd o (λ q. (pend h.world.roots q ≡ true) ⊎ ServesAt (target_of device (is_below_hub hub)) (port_on_hub path) q h.world)) (sym above) (pick known)
     where
       away : is_way path hub ≡ false
-      away = way_shorter path hub (omega (arith, ap length (rejoined path hub above) ∙ length-append hub (port_of path ∷ [])))
+      away = way_shorter path hub (omega (arith, ap length (rejoined path hub above) ∙ length-append hub (port_on_hub path ∷ [])))
 
       known : IsKnownAs h.world hub (Some (Device device))
       known = subst (IsKnownAs h.world hub) at (i.known still hub away (listed_port h.world h.entries h.addresses (accounted h s.agrees i.rooted) hub (Device device) at))
@@ -116,14 +115,14 @@ module _ (path : List ℕ) (port : KnownPort) (h : Hosting) (s : StandsAt path p
       address : IsAddress device.address
       address = listed_address h.world h.entries h.addresses (accounted h s.agrees i.rooted) hub device.address (ap address_in at)
 
-      pick : IsKnownAs h.world hub (Some (Device device)) → (pend h.world.roots hub ≡ true) ⊎ ServesAt (target_of device (is_below_hub hub)) (port_of path) hub h.world
+      pick : IsKnownAs h.world hub (Some (Device device)) → (pend h.world.roots hub ≡ true) ⊎ ServesAt (target_of device (is_below_hub hub)) (port_on_hub path) hub h.world
       pick (inl x) = inl x
-      pick (inr x) = inr (hub_serves h.world h.entries device facts (port_of path) told (port_number path s.is).0 most address (i.order still).0 hub at x.1 (i.truthful still hub away) wide)
+      pick (inr x) = inr (hub_serves h.world h.entries device facts (port_on_hub path) told (port_number path s.is).0 most address (i.order still).0 hub at x.1 (i.truthful still hub away) wide)
 
-  by_parent : (o : Option (List ℕ)) → parent_of path ≡ o → port_below o (port_of path) h.entries ≡ Some port → HasServer port.port path h.world
-  by_parent None above e = let same : root_port (port_of path) ≡ port = cc e in subst (λ (p : KnownPort). HasServer p.port path h.world) same tt
+  by_parent : (o : Option (List ℕ)) → parent_of path ≡ o → port_below o (port_on_hub path) h.entries ≡ Some port → HasServer port.port path h.world
+  by_parent None above e = let same : root_port (port_on_hub path) ≡ port = cc e in subst (λ (p : KnownPort). HasServer p.port path h.world) same tt
   by_parent (Some hub) above e =
-      let x : FoundPort (finding_at hub h.entries) (is_below_hub hub) (port_of path) port = port_found-some (finding_at hub h.entries) (is_below_hub hub) (port_of path) port e in
+      let x : FoundPort (finding_at hub h.entries) (is_below_hub hub) (port_on_hub path) port = port_found-some (finding_at hub h.entries) (is_below_hub hub) (port_on_hub path) port e in
       subst (λ (p : KnownPort). HasServer p.port path h.world) (sym x.is) (server_of hub x.device x.facts above x.stands x.told x.most (subst (λ (p : KnownPort). IsAskable p.port) x.is s.askable).wide)
 
   pub hub_server : HasServer port.port path h.world

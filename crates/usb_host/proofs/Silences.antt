@@ -9,7 +9,7 @@ use Rattle.usb_device.specs.declared.transfer.Giver.TheVariants as by
 use Rattle.usb_device.specs.Attempt.{Way, whole, broken, lost, heard, gave, held_law, in_law}
 use Rattle.usb_device.specs.Bulk.{tells_changes, change_bits}
 use Rattle.usb_device.specs.Rows.{State, Reply}
-use Rattle.usb_device.specs.Tree.{Ports, ended, vacant, taken, full, row_of, place_at, port_at, reach_at, state_at}
+use Rattle.usb_device.specs.Tree.{Ports, ended, vacant, taken, full, row_of, place_at, port_at, reach_at, state_at, Spot, path_to, reach_on, state_on, place_on}
 use Rattle.usb_device.specs.View.{port_there}
 use Rattle.usb_world.specs.declared.types.Outcome.{Outcome}
 use Rattle.usb_world.specs.declared.types.Outcome.TheVariants as outcome
@@ -19,12 +19,12 @@ use Rattle.usb_world.specs.Passes.{IsSettled}
 use Rattle.usb_world.specs.PortRequests.{leaves_step}
 use Rattle.usb_world.specs.Steps.{attempt, after, ready, outcome_in}
 use Rattle.usb_world.specs.World.{World}
-use Rattle.usb_world.proofs.Interface.{data_asks_nothing, each_in, made_is, made_of, made_port, no}
+use Rattle.usb_world.proofs.Interface.{data_asks_nothing, each_in, got_nak, made_is, made_of, made_port, no}
 use Rattle.usb_transaction.specs.declared.target.Target.{Target}
 use Rattle.usb_transaction.specs.Leaves.{is_at}
 use Rattle.usb_transaction.specs.Trail.{Trail, next}
 use Rattle.usb_transaction.specs.Transactions.{in_attempt}
-use Rattle.usb_transaction.proofs.Interface.{got_nak, trail_settled}
+use Rattle.usb_transaction.proofs.Interface.{trail_settled}
 use Rattle.usb_hub.proofs.Interface.{row_port}
 use Rattle.usb_address.proofs.Interface.{in_kept}
 use Rattle.usb_device.proofs.Interface.{law_is}
@@ -94,25 +94,25 @@ port_of_row (taken c t a k) zero (suc m ∷ p) b s below i h = port_of_row a m p
 port_of_row (taken c t a k) (suc j) p b s below i h = port_of_row k j p b s below i h
 
 -- no port of the device there has a change bit set
-abbrev pub AreClear : World → ℕ → List ℕ → Type 0
-AreClear w j p = (n : ℕ) → 1 ≤ n → n ≤ 7 → IfSome (port_there w.roots (suc j ∷ (p ++ (n ∷ [])))) (λ b. has_change b ≡ false)
+abbrev pub AreClear : World → Spot → Type 0
+AreClear w j = (n : ℕ) → 1 ≤ n → n ≤ 7 → IfSome (port_there w.roots (path_to j ++ (n ∷ []))) (λ b. has_change b ≡ false)
 
-module _ (t : Target) (w : World) (made : IsMade (in_attempt t 1) w) (j : ℕ) (p : List ℕ) where
+module _ (t : Target) (w : World) (made : IsMade (in_attempt t 1) w) (j : Spot) where
   abbrev now : World
   now = after (attempt (in_attempt t 1)) w
 
   -- the attempt leaves each port as it found it
-  left_as : (n : ℕ) → port_there now.roots (suc j ∷ (p ++ (n ∷ []))) ≡ port_there (ready w).roots (suc j ∷ (p ++ (n ∷ [])))
+  left_as : (n : ℕ) → port_there now.roots (path_to j ++ (n ∷ [])) ≡ port_there (ready w).roots (path_to j ++ (n ∷ []))
   unfolding leaves_step
-  left_as n = ap (λ (x : World). port_there x.roots (suc j ∷ (p ++ (n ∷ [])))) (made_is (in_attempt t 1) w made) ∙ made_port (in_attempt t 1) (ready w) (suc j ∷ (p ++ (n ∷ []))) (data_asks_nothing (in_attempt t 1) w (suc j ∷ (p ++ (n ∷ []))) refl made.settled).leaves
+  left_as n = ap (λ (x : World). port_there x.roots (path_to j ++ (n ∷ []))) (made_is (in_attempt t 1) w made) ∙ made_port (in_attempt t 1) (ready w) (path_to j ++ (n ∷ [])) (data_asks_nothing (in_attempt t 1) w (path_to j ++ (n ∷ [])) refl made.settled).leaves
 
-  clear : (b : PortState) (s : State) (below : Ports) → place_at (ready w).roots j p ≡ Some (full b s below) → change_bits (row_of below) ≡ 0 → AreClear now j p
+  clear : (b : PortState) (s : State) (below : Ports) → place_on (ready w).roots j ≡ Some (full b s below) → change_bits (row_of below) ≡ 0 → AreClear now j
   clear b s below stood none zero least most = absurd (omega (arith, least))
   clear b s below stood none (suc i) least most =
-      subst (λ (o : Option PortState). IfSome o (λ b. has_change b ≡ false)) (sym (left_as (suc i) ∙ port_of_row (ready w).roots j p b s below i stood))
+      subst (λ (o : Option PortState). IfSome o (λ b. has_change b ≡ false)) (sym (left_as (suc i) ∙ port_of_row (ready w).roots j.row j.rest b s below i stood))
       (bits_clear (row_of below) none i (omega (arith, most)))
 
-  did_clear : (s v : State) → DidIn (in_attempt t 1) w j p s v → outcome_in (in_attempt t 1) w ≡ outcome.Nak → is_at v t ≡ true → tells_changes v.spec v.registers ≡ true → AreClear now j p
+  did_clear : (s v : State) → DidIn (in_attempt t 1) w j s v → outcome_in (in_attempt t 1) w ≡ outcome.Nak → is_at v t ≡ true → tells_changes v.spec v.registers ≡ true → AreClear now j
   did_clear s v (DidIn.other d e) nak at tells = no (sym (ap (λ (x : State). is_at x t) e ∙ d) ∙ at)
   did_clear s v (DidIn.silent d q o e) nak at tells = absurd (cc (o, nak))
   did_clear s v (DidIn.asked d q b below stood x o e) nak at tells =
@@ -123,8 +123,8 @@ module _ (t : Target) (w : World) (made : IsMade (in_attempt t 1) w) (j : ℕ) (
 
 -- the last attempt of a poll was answered NAK by the hub that has the address
 pub nak_clears : (t : Target) {old new : World} {last : Outcome} {outcomes : List Outcome} → Trail (in_attempt t 1) old (last ∷ outcomes) new → last ≡ outcome.Nak → IsSettled old.roots → new.shared ≡ false
-    → (j : ℕ) (p : List ℕ) (v : State) → reach_at new.roots j p ≡ true → state_at new.roots j p ≡ Some v → is_at v t ≡ true → tells_changes v.spec v.registers ≡ true → AreClear new j p
-nak_clears t (next w trail step) nak settled single j p v on stands at tells =
+    → (j : Spot) (v : State) → reach_on new.roots j ≡ true → state_on new.roots j ≡ Some v → is_at v t ≡ true → tells_changes v.spec v.registers ≡ true → AreClear new j
+nak_clears t (next w trail step) nak settled single j v on stands at tells =
     let made : IsMade (in_attempt t 1) w = made_of (in_attempt t 1) w (trail_settled trail settled) step in
-    let was : Was (DidIn (in_attempt t 1) w) w j p v = each_in (in_attempt t 1) w made (record { kind = refl; payload = refl }) single j p v on stands in
-    did_clear t w made j p was.before v was.so nak at tells
+    let was : Was (DidIn (in_attempt t 1) w) w j v = each_in (in_attempt t 1) w made (record { kind = refl; payload = refl }) single j v on stands in
+    did_clear t w made j was.before v was.so nak at tells

@@ -10,10 +10,10 @@ use Rattle.usb_world.specs.Steps.{took, took_first, event_taken, event, after, s
 use Rattle.usb_world.specs.World.{World, roots_of}
 use Rattle.usb_world.proofs.Interface.{course_wider, first_fault, no, way_itself}
 use Rattle.usb_transaction.specs.Failures.{NoThreeDamaged}
-use Rattle.usb_address.specs.Owned.{KeepsAddresses}
+use Rattle.usb_address.specs.Ownership.{KeepsAddresses}
 use Rattle.usb_enum.specs.declared.finding.Finding.{Finding}
 use Rattle.usb_enum.specs.Places.{IsKnownAs, IsOccupied}
-use Rattle.usb_enum.specs.Present.{IsInOrder}
+use Rattle.usb_enum.specs.PresentDevices.{IsInOrder}
 use Rattle.usb_enum.proofs.Interface.{orderly_on, step_later, went_in_order, went_sound}
 use Rattle.usb_table.specs.Entries.{Entries}
 use Rattle.usb_table.specs.Listing.{finding_at}
@@ -24,17 +24,17 @@ use Rattle.usb_host.specs.declared.fault.HostFault.{HostFault}
 use Rattle.usb_host.specs.declared.host.Round.{Round}
 use Rattle.usb_host.specs.Agreement.{Agrees}
 use Rattle.usb_host.specs.Hosting.{Hosting}
-use Rattle.usb_host.specs.Owning.{claims, StaysOwned}
+use Rattle.usb_host.specs.Ownership.{claims, StaysOwned}
 use Rattle.usb_host.specs.Transfers.{table_in}
 use Rattle.usb_host.specs.Progress.{HostWent, HostGoes}
-use Rattle.usb_host.specs.Sound.{Known, Truthful, Accounted, Causes, IsSound, IsSoundBut, IsFairTo, StaysSound, KeepsSound, IsDroppable, DropsSound, RoundsSound}
+use Rattle.usb_host.specs.Soundness.{Known, Truthful, Accounted, Causes, IsSound, IsSoundBut, IsFairTo, StaysSound, KeepsSound, IsDroppable, DropsSound, RoundsSound}
 use Rattle.usb_host.proofs.Events.{known_event, truthful_event, causes_event, level_event}
 use Rattle.usb_host.proofs.Fairness.{fair_before, fair_after}
 use Rattle.usb_host.proofs.Owners.{but_all, stays_kept}
 use Rattle.usb_host.proofs.Roots.{accounted}
-use Rattle.usb_host.proofs.Settled.{listed_port}
-use Rattle.usb_host.proofs.Stays.{known_each, truthful_stays, causes_stay}
-use Rattle.usb_host.proofs.Rested.{occupied_by}
+use Rattle.usb_host.proofs.SettledListings.{listed_port}
+use Rattle.usb_host.proofs.KnowledgeKept.{known_each, truthful_stays, causes_stay}
+use Rattle.usb_host.proofs.RestedWorlds.{occupied_by}
 
 -- One part after another
 

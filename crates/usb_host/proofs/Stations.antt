@@ -4,7 +4,7 @@ use Rattle.std.specs.Prelude.{nat_lt, IsSome, IfErr}
 use Rattle.std.proofs.lemmas.Bool.{lt-ltb}
 use Rattle.std.specs.Map.{lookup}
 use Rattle.std.specs.BTreeMap.{is_at}
-use Rattle.usb_port.specs.Order.{path_cmp, parent_of, port_of}
+use Rattle.usb_port.specs.Order.{path_cmp, parent_of, port_on_hub}
 use Rattle.usb_port.specs.Path.{IsPath}
 use Rattle.usb_port.proofs.Interface.{is_path, rejoined}
 use Rattle.usb_device.specs.Tree.{Ports, ended, vacant, taken, row_of, reach, reach_at}
@@ -20,14 +20,14 @@ use Rattle.usb_enum.specs.Stop.{FaultAt}
 use Rattle.usb_table.specs.declared.known.KnownPort.{KnownPort}
 use Rattle.usb_table.specs.Entries.{Entries}
 use Rattle.usb_table.specs.Keys.{address_in}
-use Rattle.usb_table.specs.Known.{root_port, port_below, port_found, is_below_hub, IsAskable}
+use Rattle.usb_table.specs.KnownPorts.{root_port, port_below, port_found, is_below_hub, IsAskable}
 use Rattle.usb_table.proofs.Interface.{FoundPort, port_found-some}
 use Rattle.usb_host.specs.Hosting.{Hosting}
-use Rattle.usb_host.specs.Owning.{claims}
+use Rattle.usb_host.specs.Ownership.{claims}
 use Rattle.usb_host.specs.Ports.{StandsAt, StandsNowhere, Broke}
 
-pub root_alone : (path : List ℕ) → 1 ≤ length path → parent_of path ≡ None → path ≡ port_of path ∷ []
-unfolding parent_of port_of
+pub root_alone : (path : List ℕ) → 1 ≤ length path → parent_of path ≡ None → path ≡ port_on_hub path ∷ []
+unfolding parent_of port_on_hub
 root_alone [] some none = absurd (omega (arith, some))
 root_alone (n ∷ []) some none = refl
 root_alone (n ∷ m ∷ rest) some none =
@@ -44,20 +44,20 @@ at_found f hub path n is joined port askable found below_hub held e =
     let asked = subst (λ (p : KnownPort). IsAskable p.port) x.is askable in
     subst (λ (p : KnownPort). IsAt f p.port path) (sym x.is) (record { hub = hub; is_path = is; number = asked.number; path = joined; held = held ∙ ap address_in x.stands })
 
-at_known : (path : List ℕ) (es : Entries) (port : KnownPort) → IsPath path → IsAskable port.port → (above : Option (List ℕ)) → parent_of path ≡ above → port_below above (port_of path) es ≡ Some port → IsAt (claims es) port.port path
+at_known : (path : List ℕ) (es : Entries) (port : KnownPort) → IsPath path → IsAskable port.port → (above : Option (List ℕ)) → parent_of path ≡ above → port_below above (port_on_hub path) es ≡ Some port → IsAt (claims es) port.port path
 at_known path es port is askable None above e =
-    let same : root_port (port_of path) ≡ port = cc e in
+    let same : root_port (port_on_hub path) ≡ port = cc e in
     subst (λ (p : KnownPort). IsAt (claims es) p.port path) same (root_alone path is.0 above)
 at_known path es port is askable (Some hub) above e =
-    at_found (claims es) hub path (port_of path) (is_path path hub is above) (rejoined path hub above) port askable (lookup (is_at (path_cmp hub)) es) (is_below_hub hub) refl e
+    at_found (claims es) hub path (port_on_hub path) (is_path path hub is above) (rejoined path hub above) port askable (lookup (is_at (path_cmp hub)) es) (is_below_hub hub) refl e
 
 pub stands_at : (path : List ℕ) (port : KnownPort) (h : Hosting) → StandsAt path port h → IsAt (claims h.entries) port.port path
 stands_at path port h s = at_known path h.entries port s.is s.askable (parent_of path) refl s.known
 
 -- a root port is a register, and never fails
-pub lost_above : (path : List ℕ) (es : Entries) (port : KnownPort) (w : World) → FaultAt port.port ParentLost w → (above : Option (List ℕ)) → parent_of path ≡ above → port_below above (port_of path) es ≡ Some port → IsSome above
+pub lost_above : (path : List ℕ) (es : Entries) (port : KnownPort) (w : World) → FaultAt port.port ParentLost w → (above : Option (List ℕ)) → parent_of path ≡ above → port_below above (port_on_hub path) es ≡ Some port → IsSome above
 lost_above path es port w lost None above e =
-    let same : root_port (port_of path) ≡ port = cc e in
+    let same : root_port (port_on_hub path) ≡ port = cc e in
     absurd (subst (λ (p : KnownPort). FaultAt p.port ParentLost w) (sym same) lost)
 lost_above path es port w lost (Some hub) above e = refl
 
@@ -87,5 +87,5 @@ beyond_path k (suc i) r lt = beyond_reach k i r (omega (arith, lt))
 pub nowhere_reached : (path : List ℕ) (h : Hosting) → StandsNowhere path h → parent_of path ≡ None → (x : List ℕ) → is_way path x ≡ true → reach h.world.roots x ≡ false
 nowhere_reached path h s none x way =
     let rest = way_rest path x way in
-    let whole : x ≡ port_of path ∷ rest.0 = rest.1 ∙ ap (λ (l : List ℕ). l ++ rest.0) (root_alone path s.is.0 none) in
-    subst (λ (l : List ℕ). reach h.world.roots l ≡ false) (sym whole) (beyond_path h.world.roots (port_of path) rest.0 (s.beyond none))
+    let whole : x ≡ port_on_hub path ∷ rest.0 = rest.1 ∙ ap (λ (l : List ℕ). l ++ rest.0) (root_alone path s.is.0 none) in
+    subst (λ (l : List ℕ). reach h.world.roots l ≡ false) (sym whole) (beyond_path h.world.roots (port_on_hub path) rest.0 (s.beyond none))

@@ -7,7 +7,7 @@ use Rattle.usb_port.specs.Path.{IsPath}
 use Rattle.usb_resources.specs.Pool.{Addresses, HasAddresses}
 use Rattle.usb_enum.specs.declared.finding.Finding.{Finding}
 use Rattle.usb_table.specs.Entries.{Entries, Rises}
-use Rattle.usb_table.specs.Known.{known_port}
+use Rattle.usb_table.specs.KnownPorts.{known_port}
 use Rattle.usb_host.specs.Accounts.{Accounts}
 
 -- each entry stands at a port of the root, or of a hub that is known

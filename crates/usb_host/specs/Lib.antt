@@ -1,11 +1,11 @@
 pub mod Accounts
 pub mod Agreement
 pub mod Bounds
-pub mod Handling
+pub mod PortHandling
 pub mod Hosting
-pub mod Owning
+pub mod Ownership
 pub mod Ports
 pub mod Progress
-pub mod Sound
-pub mod Told
+pub mod Soundness
+pub mod ToldFaults
 pub mod Transfers

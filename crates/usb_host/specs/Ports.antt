@@ -2,7 +2,7 @@
 use Rattle.std.specs.Prelude.{◌≡◌, ◌≢◌, ◌+◌, ◌<◌, ⊤, ℕ, List, true, false, None, Some, IsSome, Result, Ok, Err, MatchResult}
 use Rattle.std.specs.Map.{lookup}
 use Rattle.std.specs.BTreeMap.{is_at, insert_entry}
-use Rattle.usb_port.specs.Order.{path_cmp, parent_of, port_of}
+use Rattle.usb_port.specs.Order.{path_cmp, parent_of, port_on_hub}
 use Rattle.usb_port.specs.Path.{IsPath}
 use Rattle.usb_world.specs.World.{World, Failed, root_port_at, roots_of}
 use Rattle.usb_hub.specs.declared.port.HubPort.{HubPort}
@@ -15,7 +15,7 @@ use Rattle.usb_enum.specs.declared.fault.EnumFault.TheVariants.{ParentLost, Bus,
 use Rattle.usb_enum.specs.declared.finding.Finding.{Finding}
 use Rattle.usb_enum.specs.declared.finding.Finding.TheVariants.{Refused}
 use Rattle.usb_table.specs.declared.known.KnownPort.{KnownPort}
-use Rattle.usb_table.specs.Known.{known_port, IsAskable}
+use Rattle.usb_table.specs.KnownPorts.{known_port, IsAskable}
 use Rattle.usb_table.specs.Table.{pipes_at}
 use Rattle.usb_host.specs.Transfers.{table_in}
 use Rattle.usb_world.specs.Paths.{is_way}
@@ -25,7 +25,7 @@ use Rattle.usb_host.specs.declared.fault.HostFault.{HostFault}
 use Rattle.usb_host.specs.Agreement.{Agrees}
 use Rattle.usb_host.specs.declared.fault.HostFault.TheVariants as host
 use Rattle.usb_host.specs.Hosting.{Hosting, work}
-use Rattle.usb_host.specs.Owning.{IsRooted}
+use Rattle.usb_host.specs.Ownership.{IsRooted}
 use Rattle.usb_host.specs.Progress.{Advances, Did}
 use Rattle.usb_host.specs.declared.host.Round.{Round}
 use Rattle.usb_host.specs.declared.host.Round.TheVariants.{Quiet}
@@ -41,7 +41,7 @@ pub record StandsAt (path : List ℕ) (port : KnownPort) (h : Hosting) : Type 0 
 -- a path of no port: of a hub that is not known to have it, or of a root port that the root has not; the table agrees with the pool
 pub record StandsNowhere (path : List ℕ) (h : Hosting) : Type 0 where
   pub is : IsPath path
-  pub beyond : parent_of path ≡ None → roots_of h.world < port_of path
+  pub beyond : parent_of path ≡ None → roots_of h.world < port_on_hub path
   pub unknown : IsSome (parent_of path) → known_port path h.entries ≡ None
   pub agrees : Agrees h.entries h.addresses
 

@@ -9,7 +9,7 @@ use Rattle.usb_table.specs.Levels.{KeepsMoved}
 use Rattle.usb_table.specs.Transfers.{PipesSent, PipesReceived, PipesCleared}
 use Rattle.usb_host.specs.declared.fault.HostFault.{HostFault}
 use Rattle.usb_host.specs.Hosting.{Hosting}
-use Rattle.usb_host.specs.Told.{host_told}
+use Rattle.usb_host.specs.ToldFaults.{host_told}
 
 -- what the host knows of the ports
 abbrev pub table_in : Hosting → Table

@@ -1,6 +1,6 @@
 //! Why a call of the host failed.
 ghost use Rattle.std.specs.Prelude.{◌≡◌};
-ghost use Rattle.usb_host.specs.Told.{endpoint_fault};
+ghost use Rattle.usb_host.specs.ToldFaults.{endpoint_fault};
 ghost use Rattle.usb_host.specs.declared.fault.HostFault.TheVariants.{Memory as NoMemory};
 
 use std::alloc::AllocError;

@@ -2,14 +2,14 @@
 ghost use Rattle.std.specs.Prelude.{◌≡◌, ◌≢◌, ◌≤◌, ◌<◌, ◌+◌, ◌*◌, ◌↔◌, true, false, length, IsTrue, IsErrOf, OnOk, IfOk, IfErr, IsErr, Ok, Err};
 ghost use Rattle.std.specs.Borrow.{Lends, sem};
 ghost use Rattle.usb_world.specs.World.{World};
-ghost use Rattle.usb_bus.specs.Traced.{Traced};
+ghost use Rattle.usb_bus.specs.Traces.{Traced};
 ghost use Rattle.usb_host.specs.Agreement.{Agrees};
 ghost use Rattle.usb_host.specs.Bounds.{round_bound, clear_bound};
 ghost use Rattle.usb_host.specs.Hosting.{Hosting, opening_host};
 ghost use Rattle.usb_host.specs.Progress.{DidRound, HostWent};
-ghost use Rattle.usb_host.specs.Owning.{Owning, IsUntouched};
-ghost use Rattle.usb_host.specs.Sound.{IsSound, IsUnpowered, RoundKeeps, TransferKeeps};
-ghost use Rattle.usb_host.specs.Told.{RoundTold, TransferTold, StopsAsRound, StopsAsTransfer, host_told, is_final};
+ghost use Rattle.usb_host.specs.Ownership.{Owning, IsUntouched};
+ghost use Rattle.usb_host.specs.Soundness.{IsSound, IsUnpowered, RoundKeeps, TransferKeeps};
+ghost use Rattle.usb_host.specs.ToldFaults.{RoundTold, TransferTold, StopsAsRound, StopsAsTransfer, host_told, is_final};
 ghost use Rattle.usb_host.specs.Transfers.{SentAt, ReceivedAt, ClearedAt};
 
 use crate::{HostFault, Tree};
@@ -44,7 +44,7 @@ impl<B: Bus> Model for Host<B> {
     ghost use Rattle.std.specs.Coded.{codes, coded_ℕ};
     ghost use Rattle.std.specs.FinSet as set;
     ghost use Rattle.std.specs.Ordering.{nat_cmp};
-    ghost use Rattle.usb_device.specs.Stored.{ports_code};
+    ghost use Rattle.usb_device.specs.TreeCodes.{ports_code};
     ghost use Rattle.usb_host.specs.Agreement.{Agrees};
     ghost use Rattle.usb_host.specs.Hosting.{Hosting};
 

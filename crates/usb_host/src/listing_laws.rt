@@ -10,7 +10,7 @@ ghost use Rattle.usb_enum.specs.declared.finding.Finding.{Finding};
 ghost use Rattle.usb_table.specs.Entries.{Entries};
 ghost use Rattle.usb_table.specs.Listing.{Matches};
 ghost use Rattle.usb_enum.specs.Places.{IsKnownAs};
-ghost use Rattle.usb_host.specs.Sound.{Known, Truthful, Causes, Accounted, IsAtRest};
+ghost use Rattle.usb_host.specs.Soundness.{Known, Truthful, Causes, Accounted, IsAtRest};
 
 /// What is known of a port stays known over a course that asks nothing of it, whatever is plugged and unplugged.
 pub fn known_stays()

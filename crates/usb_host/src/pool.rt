@@ -2,7 +2,7 @@
 ghost use Rattle.std.specs.Prelude.{◌≡◌, false, OnOk, OnErr};
 ghost use Rattle.usb_table.specs.Entries.{has_at};
 ghost use Rattle.usb_table.specs.Table.{entered};
-ghost use Rattle.usb_table.specs.Findings.{IsSoundFinding, HasNewAddress, address_of};
+ghost use Rattle.usb_table.specs.Findings.{IsSoundFinding, HasNewAddress, address_found};
 ghost use Rattle.usb_enum.specs.declared.finding.Finding.{Finding};
 ghost use Rattle.usb_host.specs.Hosting.{Frees};
 
@@ -36,7 +36,7 @@ pub(crate) fn enter(
 
 /// Releases an address, where there is one.
 pub(crate) fn release(pool: &mut AddressPool, address: Option<Address>)
-    ensures { (finding : Finding) → address_of finding ≡ address → Frees finding pool.old pool.new }
+    ensures { (f : Finding) → address_found f ≡ address → Frees f pool.old pool.new }
 {
     if let Some(address) = address {
         pool.release(address);

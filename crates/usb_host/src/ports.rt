@@ -9,16 +9,16 @@ ghost use Rattle.usb_resources.specs.Pool.{IsFull};
 ghost use Rattle.usb_enum.specs.Bounds.{widest_enumeration};
 ghost use Rattle.usb_enum.specs.Stop.{FaultAt};
 ghost use Rattle.usb_table.specs.Entries.{Replaced, has_at, without};
-ghost use Rattle.usb_table.specs.Known.{IsAskable, known_port};
+ghost use Rattle.usb_table.specs.KnownPorts.{IsAskable, known_port};
 ghost use Rattle.usb_table.specs.Listing.{tier_of};
 ghost use Rattle.usb_host.specs.Bounds.{clearing_bound, look_bound, drop_bound, handling_bound, status_most, order_most, serving_bound};
 ghost use Rattle.usb_host.specs.Agreement.{Agrees};
-ghost use Rattle.usb_host.specs.Handling.{Watches, Tidies, ClearsChange, ServesSound, Looks, FindsSound, DropsLost, DisablesOnWay, Climbs};
-ghost use Rattle.usb_host.specs.Owning.{KeepsOwned, KeepsPort, DropsHub};
+ghost use Rattle.usb_host.specs.PortHandling.{Watches, Tidies, ClearsChange, ServesSound, Looks, FindsSound, DropsLost, DisablesOnWay, Climbs};
+ghost use Rattle.usb_host.specs.Ownership.{KeepsOwned, KeepsPort, DropsHub};
 ghost use Rattle.usb_host.specs.Ports.{StandsAt, StandsNowhere, IsDue, Waits, Served, Shown, Gains, Broke, EndsAs, Entered, Forgets, Looked};
 ghost use Rattle.usb_host.specs.Progress.{HostGoes, Advances, AddsNoWork, Rests, Did};
-ghost use Rattle.usb_host.specs.Sound.{KeepsSound, DropsSound, PartKeeps};
-ghost use Rattle.usb_host.specs.Told.{PartTold};
+ghost use Rattle.usb_host.specs.Soundness.{KeepsSound, DropsSound, PartKeeps};
+ghost use Rattle.usb_host.specs.ToldFaults.{PartTold};
 
 use crate::HostFault;
 use crate::host::{Host, Round};
@@ -311,7 +311,7 @@ impl<B: Bus> Host<B> {
     }
 
     /// Takes out the entries at a path and below it, and releases their addresses.
-    #[tactic(auto, using(usb_table::proofs::Interface::takes_one, crate::proofs::Balances::accounts_freed, crate::proofs::Balances::range_freed, usb_table::proofs::Interface::taken_apart, crate::proofs::Balances::full_before, crate::proofs::Levelled::pipes_apart))]
+    #[tactic(auto, using(usb_table::proofs::Interface::takes_one, crate::proofs::Balances::accounts_freed, crate::proofs::Balances::range_freed, usb_table::proofs::Interface::taken_apart, crate::proofs::Balances::full_before, crate::proofs::LevelPipes::pipes_apart))]
     fn forget(&mut self, path: &PortPath)
         ensures others { self.new ≡ record self.old {
           entries = self.new.entries;

@@ -4,14 +4,14 @@ ghost use Rattle.usb_world.specs.World.{root_row, changes, IsRootPort};
 ghost use Rattle.usb_port.specs.Path.{IsPath};
 ghost use Rattle.usb_table.specs.Listing.{hub_facts_at};
 ghost use Rattle.usb_table.specs.Findings.{is_hub, is_waiting};
-ghost use Rattle.usb_table.specs.Next.{ComesAfter, IsNext, IsLast};
+ghost use Rattle.usb_table.specs.NextEntries.{ComesAfter, IsNext, IsLast};
 ghost use Rattle.usb_resources.specs.Pool.{IsFull};
 ghost use Rattle.usb_host.specs.Agreement.{Agrees};
 ghost use Rattle.usb_host.specs.Bounds.{round_bound, roots_bound, hubs_bound, hub_poll_bound, told_bound, looks_bound};
-ghost use Rattle.usb_host.specs.Sound.{PartKeeps, PartsKeep, RootsRest, HubKeeps, HubsKeep, LooksKeep};
+ghost use Rattle.usb_host.specs.Soundness.{PartKeeps, PartsKeep, RootsRest, HubKeeps, HubsKeep, LooksKeep};
 ghost use Rattle.usb_host.specs.Ports.{Waits};
 ghost use Rattle.usb_host.specs.Progress.{HostGoes, Did, AddsNoWork, either};
-ghost use Rattle.usb_host.specs.Told.{PartTold};
+ghost use Rattle.usb_host.specs.ToldFaults.{PartTold};
 
 use crate::HostFault;
 use crate::host::{Host, Round};

@@ -7,15 +7,15 @@ use Rattle.usb_port.specs.PortState.{PortState}
 use Rattle.usb_request.specs.Layout.{setup_of, bytes_of}
 use Rattle.usb_request.specs.Requests.{set_port_feature, clear_port_feature}
 use Rattle.usb_request.specs.declared.setup.Setup.{Setup}
-use Rattle.usb_device.specs.declared.calls.PortCall.{PortCall}
-use Rattle.usb_device.specs.declared.calls.PortCall.TheVariants.{SetPower, SetReset, ClearEnable, ClearPower, ClearConnectionChange, ClearEnableChange, ClearResetChange}
+use Rattle.usb_port.specs.declared.call.PortCall.{PortCall}
+use Rattle.usb_port.specs.declared.call.PortCall.TheVariants.{SetReset, ClearPower, ClearConnectionChange, SetPower, ClearEnable, ClearEnableChange, ClearResetChange}
 use Rattle.usb_device.specs.declared.effect.Effect.TheVariants.{Calls}
-use Rattle.usb_device.specs.Calls.{set_call, clear_call, is_reset}
+use Rattle.usb_port.specs.Calls.{set_call, clear_call, is_reset, IsSetFeature, IsClearFeature}
 use Rattle.usb_device.specs.Effect.{effect_of_request, asked_by_setup}
 use Rattle.usb_device.specs.Request.{outcome, port_named, called_at}
 use Rattle.usb_device.specs.Rows.{State}
 use Rattle.usb_device.specs.Transfer.{first_stage, ending}
-use Rattle.usb_device.specs.Tree.{called, acted, place, place_at, reach, reach_at, state_at}
+use Rattle.usb_device.specs.Tree.{called, acted, place, place_at, reach, Spot, path_to, reach_on, state_on, place_on}
 use Rattle.usb_device.specs.View.{state_there}
 use Rattle.usb_world.specs.declared.types.Attempt.{Attempt}
 use Rattle.usb_world.specs.declared.types.BusFault.{BusFault}
@@ -28,7 +28,7 @@ use Rattle.usb_world.specs.PortRequests.{is_sparing}
 use Rattle.usb_world.specs.RestingPorts.{AsksNothingOf}
 use Rattle.usb_world.specs.Steps.{Step, attempt, root_call, after, ready, Course, here, step as step_then, AttemptFails, SetsRoot, ClearsRoot}
 use Rattle.usb_world.specs.WayEffects.{spares}
-use Rattle.usb_world.specs.World.{World, Attempted, IsSetFeature, IsClearFeature}
+use Rattle.usb_world.specs.World.{World, Attempted}
 use Rattle.usb_world.proofs.Interface.{course_joined, course_wider, decided, equal_same, made_of, no, same_is}
 use Rattle.usb_transaction.specs.declared.target.Target.{Target}
 use Rattle.usb_transaction.specs.declared.fault.TransFault.{TransFault}
@@ -40,24 +40,24 @@ use Rattle.usb_transaction.specs.Transactions.{in_attempt, setup_attempt, Worked
 use Rattle.usb_transaction.proofs.Interface.{trail_course}
 use Rattle.usb_pipe.specs.declared.fault.PipeFault.{PipeFault}
 use Rattle.usb_pipe.specs.declared.fault.PipeFault.TheVariants.{Stalled, Busy, NoAnswer, Broken, Bus, Memory}
-use Rattle.usb_pipe.specs.Control.{fault_of, Faults}
+use Rattle.usb_pipe.specs.Control.{as_pipe_fault, FaultAfter}
 use Rattle.usb_pipe.specs.Stages.{SetUp, Writes}
-use Rattle.usb_pipe.specs.Leaves.{IsBehind, IsNotOfBus, EffectDone, WriteLeaves}
+use Rattle.usb_pipe.specs.Leaves.{IsBehind, IsNoBusFault, EffectDone, WriteLeaves}
 use Rattle.usb_pipe.proofs.Interface.{who_writes, write_leaves}
 use Rattle.usb_address.specs.Claims.{Claims}
 use Rattle.usb_address.specs.Leaves.{LeavesPipe}
-use Rattle.usb_address.specs.Owned.{Owned, TillFault}
+use Rattle.usb_address.specs.Ownership.{Owned, TillFault}
 use Rattle.usb_address.proofs.Interface.{ClaimedAt, Fits, Follows, Resets, attempt_settled, below_of, claimed_path, held_of, less_one, named, no_path, no_root, quiet_follows, reset_follows, resets_leave, same_setup, some, trail_sound, trail_with, writes_leave}
 use Rattle.usb_hub.specs.Addresses.{IsBelow}
 use Rattle.usb_hub.specs.Moments.{IsAbout, UpToFault, ActsAt, PortDone, CallsPort}
 use Rattle.usb_hub.specs.Requests.{AllRest, Ordered}
-use Rattle.usb_hub.specs.Why.{Serves}
+use Rattle.usb_hub.specs.CallFailures.{Serves}
 use Rattle.usb_hub.specs.declared.port.HubPort.{HubPort}
 use Rattle.usb_hub.specs.declared.port.HubPort.TheVariants.{Root, External}
-use Rattle.usb_hub.proofs.Acting.{place_below, place_called, AsksFor, attempt_acts, root_acts, root_acted}
-use Rattle.usb_hub.proofs.Rests.{behind_rests, behind_asks_nothing}
-use Rattle.usb_hub.proofs.Why.{same_port, call_served}
-use Rattle.usb_bus.proofs.Interface.{clear_found, set_found}
+use Rattle.usb_hub.proofs.ActingCalls.{place_below, place_called, AsksFor, attempt_acts, root_acts, root_acted}
+use Rattle.usb_hub.proofs.RestingRequests.{behind_rests, behind_asks_nothing}
+use Rattle.usb_hub.proofs.CallFailures.{same_port, call_served}
+use Rattle.usb_port.proofs.Interface.{call_is}
 
 -- The attempts of a request without data: its setup data again and again, and what comes behind them
 
@@ -67,22 +67,22 @@ pub record Sent (t : Target) (request : Setup) (old new : World) : Type 0 where
   pub trail : Trail (setup_attempt t (bytes_of request)) old outcomes mid
   pub behind : Course (IsBehind t) mid new
 
-pub sent_of : (t : Target) (request : Setup) (old : World) (result : Result (Unit {0}) PipeFault) (new : World) → IsNotOfBus result → Writes t request old result new → Sent t request old new
+pub sent_of : (t : Target) (request : Setup) (old : World) (result : Result (Unit {0}) PipeFault) (new : World) → IsNoBusFault result → Writes t request old result new → Sent t request old new
 sent_of t request old (Ok u) new n x = record { mid = x.mid; outcomes = x.set_up.last ∷ x.set_up.outcomes; trail = x.set_up.trail; behind = trail_course (λ w made. inl refl) x.status.trail }
 sent_of t request old (Err why) new n (inl x) = no_set_up x.fault x.told x.set_up
   where
-    no_set_up : (fault : TransFault) → why ≡ fault_of fault → SetUp t request old (Err fault) new → Sent t request old new
+    no_set_up : (fault : TransFault) → why ≡ as_pipe_fault fault → SetUp t request old (Err fault) new → Sent t request old new
     no_set_up trans.Stalled e x = record { mid = new; outcomes = x.last ∷ x.outcomes; trail = x.trail; behind = here new }
     no_set_up trans.Busy e x = record { mid = new; outcomes = x.last ∷ x.outcomes; trail = x.trail; behind = here new }
     no_set_up trans.NoAnswer e x = record { mid = new; outcomes = x.last ∷ x.outcomes; trail = x.trail; behind = here new }
-    no_set_up (trans.Bus fault) e x = absurd (subst (λ y. IsNotOfBus {A = Unit {0}} (Err y)) e n)
+    no_set_up (trans.Bus fault) e x = absurd (subst (λ y. IsNoBusFault {A = Unit {0}} (Err y)) e n)
 sent_of t request old (Err why) new n (inr x) = record { mid = x.mid; outcomes = x.set_up.last ∷ x.set_up.outcomes; trail = x.set_up.trail; behind = no_status _ x.fault x.told x.status }
   where
-    no_status : (hear : _) (fault : TransFault) → why ≡ fault_of fault → Transacted hear (in_attempt t 0) x.mid (Err fault) new → Course (IsBehind t) x.mid new
+    no_status : (hear : _) (fault : TransFault) → why ≡ as_pipe_fault fault → Transacted hear (in_attempt t 0) x.mid (Err fault) new → Course (IsBehind t) x.mid new
     no_status hear trans.Stalled e x = trail_course (λ w made. inl refl) x.trail
     no_status hear trans.Busy e x = trail_course (λ w made. inl refl) x.trail
     no_status hear trans.NoAnswer e x = trail_course (λ w made. inl refl) x.trail
-    no_status hear (trans.Bus fault) e x = absurd (subst (λ y. IsNotOfBus {A = Unit {0}} (Err y)) e n)
+    no_status hear (trans.Bus fault) e x = absurd (subst (λ y. IsNoBusFault {A = Unit {0}} (Err y)) e n)
 
 -- where the bus gave up, up to the attempt that it refused
 record SentUpTo (t : Target) (request : Setup) (old : World) (fault : BusFault) (new : World) : Type 0 where
@@ -95,13 +95,13 @@ record SentUpTo (t : Target) (request : Setup) (old : World) (fault : BusFault) 
   refused : Attempted last cut (Err fault) new
   fails : cut.fault ≡ None → AttemptFails last cut (Err fault) new
 
-same_fault : (f g : BusFault) → Bus f ≡ fault_of (trans.Bus g) → g ≡ f
+same_fault : (f g : BusFault) → Bus f ≡ as_pipe_fault (trans.Bus g) → g ≡ f
 same_fault f g e = cc e
 
 sent_up_to : (t : Target) (request : Setup) (old : World) (fault : BusFault) (new : World) → Writes t request old (Err (Bus fault)) new → SentUpTo t request old fault new
 sent_up_to t request old fault new (inl x) = no_set_up x.fault x.told x.set_up
   where
-    no_set_up : (f : TransFault) → Bus fault ≡ fault_of f → SetUp t request old (Err f) new → SentUpTo t request old fault new
+    no_set_up : (f : TransFault) → Bus fault ≡ as_pipe_fault f → SetUp t request old (Err f) new → SentUpTo t request old fault new
     no_set_up trans.Stalled e x = absurd (cc e)
     no_set_up trans.Busy e x = absurd (cc e)
     no_set_up trans.NoAnswer e x = absurd (cc e)
@@ -110,7 +110,7 @@ sent_up_to t request old fault new (inl x) = no_set_up x.fault x.told x.set_up
         (record { mid = x.mid; outcomes = x.outcomes; trail = x.trail; cut = x.mid; behind = here x.mid; last = setup_attempt t (bytes_of request); refused = x.refused; fails = x.fails })
 sent_up_to t request old fault new (inr x) = no_status _ x.fault x.told x.status
   where
-    no_status : (hear : _) (f : TransFault) → Bus fault ≡ fault_of f → Transacted hear (in_attempt t 0) x.mid (Err f) new → SentUpTo t request old fault new
+    no_status : (hear : _) (f : TransFault) → Bus fault ≡ as_pipe_fault f → Transacted hear (in_attempt t 0) x.mid (Err f) new → SentUpTo t request old fault new
     no_status hear trans.Stalled e y = absurd (cc e)
     no_status hear trans.Busy e y = absurd (cc e)
     no_status hear trans.NoAnswer e y = absurd (cc e)
@@ -141,18 +141,18 @@ port_is_named c None n row address x h = absurd (cc h)
 port_is_named c (Some m) n row address (inl x) h = absurd (cc x)
 port_is_named c (Some m) n row address (inr x) h = x
 
-module _ (t : Target) (j : ℕ) (e : List ℕ) (i : ℕ) (request : Setup) (c : PortCall) (asked : AsksFor request c (suc i)) (P : World → Type 0) (follows : Follows t request (suc j ∷ e) P) where
+module _ (t : Target) (j : Spot) (i : ℕ) (request : Setup) (c : PortCall) (asked : AsksFor request c (suc i)) (P : World → Type 0) (follows : Follows t request (path_to j) P) where
   abbrev a : Attempt
   a = setup_attempt t (bytes_of request)
 
   abbrev p : List ℕ
-  p = suc j ∷ (e ++ (suc i ∷ []))
+  p = path_to j ++ (suc i ∷ [])
 
   acting : {old new : World} {outcomes : List Outcome} → Trail a old outcomes new → P old → P new × Course (ActsAt p c) old new
   acting tr first =
-      trail_with P follows.onward (λ w made x. let k : ClaimedAt (suc j ∷ e) t.addr w = follows.claimed w x in attempt_acts t j e i request c asked w (made_of a w k.owned.settled made) k) tr first
+      trail_with P follows.onward (λ w made x. let k : ClaimedAt (path_to j) t.addr w = follows.claimed w x in attempt_acts t j i request c asked w (made_of a w k.owned.settled made) k) tr first
 
-  module _ (old : World) (result : Result (Unit {0}) PipeFault) (new : World) (n : IsNotOfBus result) (stages : Writes t request old result new) (first : P old) where
+  module _ (old : World) (result : Result (Unit {0}) PipeFault) (new : World) (n : IsNoBusFault result) (stages : Writes t request old result new) (first : P old) where
     sent : Sent t request old new
     sent = sent_of t request old result new n stages
 
@@ -174,39 +174,39 @@ module _ (t : Target) (j : ℕ) (e : List ℕ) (i : ℕ) (request : Setup) (c : 
       course_joined (course_wider (λ s w k. k.about) x.1) (behind_about t p c behind (follows.claimed mid x.0).owned.settled)
 
   module _ (old new : World) (ordered : Ordered t request old (Ok tt) new) (first : P old) (last : P new) (addressed : is_harmless request ≡ false → t.addr ≢ 0) where
-    before : ClaimedAt (suc j ∷ e) t.addr old
+    before : ClaimedAt (path_to j) t.addr old
     before = follows.claimed old first
 
-    behind : ClaimedAt (suc j ∷ e) t.addr new
+    behind : ClaimedAt (path_to j) t.addr new
     behind = follows.claimed new last
 
     who : Answerer t old new
     who = who_writes t request tt old new asked.same addressed ordered.settled ordered.stages behind.owned.single
 
-    path : suc who.j ∷ who.p ≡ suc j ∷ e
-    path = claimed_path (suc j ∷ e) t.addr old before who.j who.p who.before who.was_on who.stood (equal_same (address_of who.before) t.addr who.at)
+    path : path_to who.spot ≡ path_to j
+    path = claimed_path (path_to j) t.addr old before who.spot who.before who.was_on who.stood (equal_same (address_of who.before) t.addr who.at)
 
-    on : reach_at new.roots j e ≡ true
+    on : reach_on new.roots j ≡ true
     on = subst (λ x. reach new.roots x ≡ true) path who.on
 
-    there : (v : State) × (state_at new.roots j e ≡ Some v) × (address_of v ≡ t.addr)
-    there = held_of (state_at new.roots j e) t.addr (behind.owned.own (suc j ∷ e) on ∙ behind.held)
+    there : (v : State) × (state_on new.roots j ≡ Some v) × (address_of v ≡ t.addr)
+    there = held_of (state_on new.roots j) t.addr (behind.owned.own (path_to j) on ∙ behind.held)
 
-    was : Was (WriteLeaves t request (Ok tt) old new) old j e there.0
+    was : Was (WriteLeaves t request (Ok tt) old new) old j there.0
     was =
-        write_leaves t request (Ok tt) old new asked.nothing asked.same ordered.settled ordered.stages behind.owned.single j e there.0 on there.1
+        write_leaves t request (Ok tt) old new asked.nothing asked.same ordered.settled ordered.stages behind.owned.single j there.0 on there.1
         (λ h. (addressed h, λ z. addressed h (sym there.2 ∙ z)))
 
     asked_it : is_at was.before t ≡ true
     asked_it = ap (λ s. is_at s t) (same_Some was.before who.before (sym was.stands ∙ subst (λ x. state_there old.roots x ≡ Some who.before) path who.stood)) ∙ who.at
 
-    done : EffectDone t request old new j e was.before there.0
+    done : EffectDone t request old new j was.before there.0
     done = was.so.done asked_it tt refl
 
     abbrev now : World
     now = done.moment.now
 
-    accepted_there : AcceptedAt t (bytes_of request) old now j e was.before done.moment.accepts.state
+    accepted_there : AcceptedAt t (bytes_of request) old now j was.before done.moment.accepts.state
     accepted_there = done.moment.accepts.at
 
     abbrev mid : World
@@ -220,7 +220,7 @@ module _ (t : Target) (j : ℕ) (e : List ℕ) (i : ℕ) (request : Setup) (c : 
         (subst (λ n. first_stage done.row n (outcome was.before.spec was.before.registers request) ≡ ending done.address) asked.nothing done.is))
 
     -- the hub, which stood there, has the port
-    pub hub_named : (s : State) × ((state_at old.roots j e ≡ Some s) × (port_named s.spec.hub s.registers (suc i) ≡ Some i))
+    pub hub_named : (s : State) × ((state_on old.roots j ≡ Some s) × (port_named s.spec.hub s.registers (suc i) ≡ Some i))
     hub_named = (was.before, (was.stands, is_named))
 
     effect : asked_by_setup was.before (setup_of (bytes_of request)) ≡ Calls c i
@@ -235,23 +235,23 @@ module _ (t : Target) (j : ℕ) (e : List ℕ) (i : ℕ) (request : Setup) (c : 
     acted_there : place (after (attempt a) mid).roots p ≡ option_map (called c) (place (ready mid).roots p)
     acted_there =
         ap (λ w. place w.roots p) (sym accepted_there.last)
-        ∙ place_below now.roots j e i []
+        ∙ place_below now.roots j.row j.rest i []
         ∙ ap (λ o. place_at (below_of o) i []) accepted_there.left
-        ∙ ap (λ x. place_at (acted x accepted_there.below) i []) effect
-        ∙ place_called c accepted_there.below i
-        ∙ ap (option_map (called c)) (sym (place_below (ready mid).roots j e i [] ∙ ap (λ o. place_at (below_of o) i []) accepted_there.holder.stands))
+        ∙ ap (λ x. place_at (acted x accepted_there.holder.below) i []) effect
+        ∙ place_called c accepted_there.holder.below i
+        ∙ ap (option_map (called c)) (sym (place_below (ready mid).roots j.row j.rest i [] ∙ ap (λ o. place_at (below_of o) i []) (ap (place_on (ready mid).roots) (sym accepted_there.there) ∙ accepted_there.holder.stands)))
 
     pub hub_done : PortDone p c old new
     hub_done = record {
       before = mid;
       repeats = repeated.1;
       last = attempt a;
-      acts = attempt_acts t j e i request c asked mid accepted_there.holder.made (follows.claimed mid repeated.0);
+      acts = attempt_acts t j i request c asked mid accepted_there.holder.made (follows.claimed mid repeated.0);
       done = acted_there;
       since = λ x.
           subst (λ w. Course (AsksNothingOf x) w new) accepted_there.last
           (behind_asks_nothing t x done.moment.since (subst (λ w. IsSettled w.roots) (sym accepted_there.last) (attempt_settled a mid accepted_there.holder.made.settled)));
-      row = record { parent = suc j ∷ e; number = suc i; is = refl; reached = on };
+      row = record { parent = path_to j; number = suc i; is = refl; reached = on };
     }
 
 -- Which requests these are
@@ -259,14 +259,12 @@ module _ (t : Target) (j : ℕ) (e : List ℕ) (i : ℕ) (request : Setup) (c : 
 module _ (n : ℕ) (c : PortCall) where
   set_sparing : (feature : ℕ) → IsSetFeature feature → is_sparing (set_port_feature feature n) ≡ true
   unfolding set_port_feature
-  set_sparing feature (inl e) = rw e refl
-  set_sparing feature (inr e) = rw e refl
+  set_sparing feature named = grind arith
 
   -- PORT_RESET alone resets
   set_harmless : (feature : ℕ) → IsSetFeature feature → set_call feature ≡ Some c → is_reset c ≡ false → is_harmless (set_port_feature feature n) ≡ true
-  unfolding set_port_feature set_call
-  set_harmless feature (inl e) is quiet = no (sym quiet ∙ ap is_reset (same_Some c SetReset (sym is ∙ ap set_call e)))
-  set_harmless feature (inr e) is quiet = rw e refl
+  unfolding set_port_feature
+  set_harmless feature named is quiet = grind arith
 
   pub set_asks : (feature : ℕ) → IsSetFeature feature → set_call feature ≡ Some c → AsksFor (set_port_feature feature n) c n
   unfolding set_port_feature outcome
@@ -282,12 +280,8 @@ module _ (n : ℕ) (c : PortCall) where
   }
 
   clear_sparing : (feature : ℕ) → IsClearFeature feature → clear_call feature ≡ Some c → spares c [] ≡ true → is_sparing (clear_port_feature feature n) ≡ true
-  unfolding clear_port_feature clear_call
-  clear_sparing feature (inl e) is h = rw e refl
-  clear_sparing feature (inr (inl e)) is h = no (ap (λ d. spares d []) (same_Some ClearPower c (sym (ap clear_call e) ∙ is)) ∙ h)
-  clear_sparing feature (inr (inr (inl e))) is h = no (ap (λ d. spares d []) (same_Some ClearConnectionChange c (sym (ap clear_call e) ∙ is)) ∙ h)
-  clear_sparing feature (inr (inr (inr (inl e)))) is h = rw e refl
-  clear_sparing feature (inr (inr (inr (inr e)))) is h = rw e refl
+  unfolding clear_port_feature
+  clear_sparing feature named is h = grind arith
 
   pub clear_asks : (feature : ℕ) → IsClearFeature feature → clear_call feature ≡ Some c → AsksFor (clear_port_feature feature n) c n
   unfolding clear_port_feature outcome
@@ -337,7 +331,7 @@ route f t q n request c asked old held alone own = pick (decided (is_reset c))
 
 -- Any port of a hub
 
-sound_of : (k n : ℕ) (old new : World) (result : Result (Unit {0}) PipeFault) → IsNotOfBus result → MatchResult result (λ done. Worked k old new) (λ fault. Faults n old fault new) → old.fault ≡ None
+sound_of : (k n : ℕ) (old new : World) (result : Result (Unit {0}) PipeFault) → IsNoBusFault result → MatchResult result (λ done. Worked k old new) (λ fault. FaultAfter n old fault new) → old.fault ≡ None
 sound_of k n old new (Ok u) s x = x.sound
 sound_of k n old new (Err Stalled) s x = x.sound
 sound_of k n old new (Err Busy) s x = x.sound
@@ -348,12 +342,12 @@ sound_of k n old new (Err Memory) s x = x.sound
 
 module _ (t : Target) (c : PortCall) (request : Setup) (f : Claims) (old : World) (result : Result (Unit {0}) PipeFault) (new : World) (ordered : Ordered t request old result new) (own : Owned f old) where
   -- what is so at the port's path, as it is at one that is written out
-  module _ (Q : List ℕ → Type 0) (there : (j : ℕ) (e : List ℕ) (i : ℕ) (asked : AsksFor request c (suc i)) → Route t request (suc j ∷ e) old → Q (suc j ∷ (e ++ (suc i ∷ [])))) where
+  module _ (Q : List ℕ → Type 0) (there : (j : Spot) (i : ℕ) (asked : AsksFor request c (suc i)) → Route t request (path_to j) old → Q (path_to j ++ (suc i ∷ []))) where
     at_path : (q : List ℕ) (n : ℕ) → AsksFor request c n → IsPath q → IsPortNumber n → f q ≡ Some t.addr → (is_reset c ≡ true → (x : List ℕ) → f x ≡ Some 0 → is_way (q ++ (n ∷ [])) x ≡ true) → Q (q ++ (n ∷ []))
     at_path [] n asked is number held alone = absurd (no_path is)
     at_path (zero ∷ e) n asked is number held alone = absurd (no_root e is)
     at_path (suc j ∷ e) zero asked is number held alone = absurd (omega (arith, number.0))
-    at_path (suc j ∷ e) (suc i) asked is number held alone = there j e i asked (route f t (suc j ∷ e) (suc i) request c asked old held alone own)
+    at_path (suc j ∷ e) (suc i) asked is number held alone = there (record { row = j; rest = e }) i asked (route f t (suc j ∷ e) (suc i) request c asked old held alone own)
 
     below : (n : ℕ) → AsksFor request c n → (p : List ℕ) → IsBelow f t.addr n p → (is_reset c ≡ true → (x : List ℕ) → f x ≡ Some 0 → is_way p x ≡ true) → Q p
     below n asked p at alone = subst Q (sym at.path) (at_path at.hub n asked at.is_path at.number at.held (λ h x z. subst (λ y. is_way y x ≡ true) at.path (alone h x z)))
@@ -364,20 +358,20 @@ module _ (t : Target) (c : PortCall) (request : Setup) (f : Claims) (old : World
       ordered_so : Ordered t request old (Ok tt) new
       ordered_so = subst (λ r. Ordered t request old r new) is ordered
 
-      there : (j : ℕ) (e : List ℕ) (i : ℕ) (asked : AsksFor request c (suc i)) → Route t request (suc j ∷ e) old → PortDone (suc j ∷ (e ++ (suc i ∷ []))) c old new
-      there j e i asked r = hub_done t j e i request c asked r.P r.follows old new ordered_so r.first (r.leaves (Ok tt) new ordered_so.stages) r.addressed
+      there : (j : Spot) (i : ℕ) (asked : AsksFor request c (suc i)) → Route t request (path_to j) old → PortDone (path_to j ++ (suc i ∷ [])) c old new
+      there j i asked r = hub_done t j i request c asked r.P r.follows old new ordered_so r.first (r.leaves (Ok tt) new ordered_so.stages) r.addressed
 
-  pub rests_below : IsNotOfBus result → (n : ℕ) → AsksFor request c n → (p : List ℕ) → IsBelow f t.addr n p → (is_reset c ≡ true → (x : List ℕ) → f x ≡ Some 0 → is_way p x ≡ true)
+  pub rests_below : IsNoBusFault result → (n : ℕ) → AsksFor request c n → (p : List ℕ) → IsBelow f t.addr n p → (is_reset c ≡ true → (x : List ℕ) → f x ≡ Some 0 → is_way p x ≡ true)
       → (x : List ℕ) → is_way p x ≡ false → Course (AsksNothingOf x) old new
   rests_below sound n asked p at alone =
       below (λ p. (x : List ℕ) → is_way p x ≡ false → Course (AsksNothingOf x) old new)
-      (λ j e i asked r. hub_rests t j e i request c asked r.P r.follows old result new sound ordered.stages r.first) n asked p at alone
+      (λ j i asked r. hub_rests t j i request c asked r.P r.follows old result new sound ordered.stages r.first) n asked p at alone
 
-  pub spares_below : IsNotOfBus result → (n : ℕ) → AsksFor request c n → (p : List ℕ) → IsBelow f t.addr n p → (is_reset c ≡ true → (x : List ℕ) → f x ≡ Some 0 → is_way p x ≡ true)
+  pub spares_below : IsNoBusFault result → (n : ℕ) → AsksFor request c n → (p : List ℕ) → IsBelow f t.addr n p → (is_reset c ≡ true → (x : List ℕ) → f x ≡ Some 0 → is_way p x ≡ true)
       → spares c [] ≡ true → Course (Spares p) old new
   spares_below sound n asked p at alone =
       below (λ p. spares c [] ≡ true → Course (Spares p) old new)
-      (λ j e i asked r. hub_spares t j e i request c asked r.P r.follows old result new sound ordered.stages r.first) n asked p at alone
+      (λ j i asked r. hub_spares t j i request c asked r.P r.follows old result new sound ordered.stages r.first) n asked p at alone
 
 -- up to a fault of the bus
 module _ (t : Target) (c : PortCall) (request : Setup) (f : Claims) (old : World) (fault : BusFault) (new : World) (ordered : Ordered t request old (Err (Bus fault)) new) (till : TillFault (Owned f) old) where
@@ -389,7 +383,7 @@ module _ (t : Target) (c : PortCall) (request : Setup) (f : Claims) (old : World
   about_below n asked p at alone [] w cut start behind = behind_about t p c behind ordered.settled
   about_below n asked p at alone (o ∷ outcomes) w cut tr behind =
       below t c request f old (Err (Bus fault)) new ordered (till.so (trail_sound tr)) (λ p. Course (IsAbout p c) old cut)
-      (λ j e i asked r. hub_about t j e i request c asked r.P r.follows tr behind r.first) n asked p at alone
+      (λ j i asked r. hub_about t j i request c asked r.P r.follows tr behind r.first) n asked p at alone
 
   pub cut_below : (n : ℕ) → AsksFor request c n → (p : List ℕ) → IsBelow f t.addr n p → (is_reset c ≡ true → (x : List ℕ) → f x ≡ Some 0 → is_way p x ≡ true) → UpToFault (IsAbout p c) old fault new
   cut_below n asked p at alone = record {
@@ -404,7 +398,7 @@ module _ (port : HubPort) (hub : Target) (number : ℕ) (call : Option PortCall)
     (old : World) (result : Result (Unit {0}) PipeFault) (new : World) (e : port ≡ External hub number) (ordered : Ordered hub request old result new) where
   of_hub : CallsPort (External hub number) call old result new
   of_hub = record {
-    done = λ f p c x is. done_below hub c request f old result new ordered (x.owned.so (sound_of 2 1 old new result (subst IsNotOfBus (sym is) tt) ordered.ends)) number (asks c x.is) p x.at x.alone is;
+    done = λ f p c x is. done_below hub c request f old result new ordered (x.owned.so (sound_of 2 1 old new result (subst IsNoBusFault (sym is) tt) ordered.ends)) number (asks c x.is) p x.at x.alone is;
     rests = λ f p c x sound. rests_below hub c request f old result new ordered (x.owned.so (sound_of 2 1 old new result sound ordered.ends)) sound number (asks c x.is) p x.at x.alone;
     spares = λ f p c x sound. spares_below hub c request f old result new ordered (x.owned.so (sound_of 2 1 old new result sound ordered.ends)) sound number (asks c x.is) p x.at x.alone;
     cut = λ f p c x fault is. cut_below hub c request f old fault new (subst (λ r. Ordered hub request old r new) is ordered) x.owned number (asks c x.is) p x.at x.alone;
@@ -418,11 +412,11 @@ module _ (port : HubPort) (hub : Target) (number : ℕ) (call : Option PortCall)
 
 pub hub_sets : (port : HubPort) (hub : Target) (number feature : ℕ) (old : World) (result : Result (Unit {0}) PipeFault) (new : World) → port ≡ External hub number → IsSetFeature feature
     → Ordered hub (set_port_feature feature number) old result new → CallsPort port (set_call feature) old result new
-hub_sets port hub number feature old result new e named = hub_calls port hub number (set_call feature) (set_port_feature feature number) (set_found feature named) (λ c is. set_asks number c feature named is) old result new e
+hub_sets port hub number feature old result new e named = hub_calls port hub number (set_call feature) (set_port_feature feature number) (call_is (set_call feature) named) (λ c is. set_asks number c feature named is) old result new e
 
 pub hub_clears : (port : HubPort) (hub : Target) (number feature : ℕ) (old : World) (result : Result (Unit {0}) PipeFault) (new : World) → port ≡ External hub number → IsClearFeature feature
     → Ordered hub (clear_port_feature feature number) old result new → CallsPort port (clear_call feature) old result new
-hub_clears port hub number feature old result new e named = hub_calls port hub number (clear_call feature) (clear_port_feature feature number) (clear_found feature named) (λ c is. clear_asks number c feature named is) old result new e
+hub_clears port hub number feature old result new e named = hub_calls port hub number (clear_call feature) (clear_port_feature feature number) (call_is (clear_call feature) named) (λ c is. clear_asks number c feature named is) old result new e
 
 -- A root port
 

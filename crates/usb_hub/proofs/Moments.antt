@@ -15,7 +15,7 @@ use Rattle.usb_device.specs.Effect.{effect_of_request, asked_by_setup}
 use Rattle.usb_device.specs.Request.{outcome}
 use Rattle.usb_device.specs.Rows.{State}
 use Rattle.usb_device.specs.Transfer.{reading, first_stage}
-use Rattle.usb_device.specs.Tree.{acted, port_at, reach, reach_at, state_at}
+use Rattle.usb_device.specs.Tree.{acted, port_at, reach, Spot, path_to, reach_on, state_on}
 use Rattle.usb_device.specs.View.{port_there, state_there}
 use Rattle.usb_world.specs.Paths.{address_of}
 use Rattle.usb_world.specs.Passes.{IsSettled}
@@ -33,7 +33,7 @@ use Rattle.usb_pipe.specs.declared.fault.PipeFault.{PipeFault}
 use Rattle.usb_pipe.specs.Leaves.{AnswerRead, ReadLeaves}
 use Rattle.usb_pipe.proofs.Interface.{read_leaves, who_reads}
 use Rattle.usb_address.specs.Claims.{Claims}
-use Rattle.usb_address.specs.Owned.{Owned, TillFault}
+use Rattle.usb_address.specs.Ownership.{Owned, TillFault}
 use Rattle.usb_address.proofs.Interface.{attempt_settled, below_of, less_one, no_path, no_root, port_below_at, reads_leave, same_setup}
 use Rattle.usb_hub.specs.Addresses.{IsBelow}
 use Rattle.usb_hub.specs.declared.port.HubPort.{HubPort}
@@ -41,26 +41,26 @@ use Rattle.usb_hub.specs.declared.port.HubPort.TheVariants.{Root, External}
 use Rattle.usb_hub.specs.Moments.{PortTold, TellsPort}
 use Rattle.usb_hub.specs.Port.{IsPort, RootRead, PortRead}
 use Rattle.usb_hub.specs.Requests.{AskedData, Told}
-use Rattle.usb_hub.specs.Why.{Serves, NoHubFailed}
-use Rattle.usb_hub.proofs.Rests.{behind_asks_nothing, plain_course}
+use Rattle.usb_hub.specs.CallFailures.{Serves, NoHubFailed}
+use Rattle.usb_hub.proofs.RestingRequests.{behind_asks_nothing, plain_course}
 use Rattle.usb_hub.proofs.Statuses.{row_port, StatusOf, status_outcome, whole_status}
-use Rattle.usb_hub.proofs.Told.{IsRead, said}
-use Rattle.usb_hub.proofs.Why.{same_port, status_served}
+use Rattle.usb_hub.proofs.ToldBytes.{IsRead, said}
+use Rattle.usb_hub.proofs.CallFailures.{same_port, status_served}
 
 -- Who answered
 
 -- a device that is reached in the end, and had the target's address before
-record Answered (t : Target) (old new : World) (j : ℕ) (e : List ℕ) : Type 0 where
+record Answered (t : Target) (old new : World) (j : Spot) : Type 0 where
   now : State
-  on : reach_at new.roots j e ≡ true
-  stands : state_at new.roots j e ≡ Some now
+  on : reach_on new.roots j ≡ true
+  stands : state_on new.roots j ≡ Some now
   before : State
-  stood : state_at old.roots j e ≡ Some before
+  stood : state_on old.roots j ≡ Some before
   at : is_at before t ≡ true
 
 -- it is at the path that claims the target's address
-answered_at : (f : Claims) (t : Target) (old new : World) (j : ℕ) (e : List ℕ) → Owned f old → f (suc j ∷ e) ≡ Some t.addr → Answerer t old new → Answered t old new j e
-answered_at f t old new j e o held a = record {
+answered_at : (f : Claims) (t : Target) (old new : World) (j : Spot) → Owned f old → f (path_to j) ≡ Some t.addr → Answerer t old new → Answered t old new j
+answered_at f t old new j o held a = record {
   now = a.now;
   on = subst (λ x. reach new.roots x ≡ true) same a.on;
   stands = subst (λ x. state_there new.roots x ≡ Some a.now) same a.stands;
@@ -69,15 +69,15 @@ answered_at f t old new j e o held a = record {
   at = a.at;
 }
   where
-    claims : f (suc a.j ∷ a.p) ≡ Some t.addr
-    claims = sym (o.own (suc a.j ∷ a.p) a.was_on) ∙ ap (option_map address_of) a.stood ∙ ap (λ n. Some n) (equal_same (address_of a.before) t.addr a.at)
+    claims : f (path_to a.spot) ≡ Some t.addr
+    claims = sym (o.own (path_to a.spot) a.was_on) ∙ ap (option_map address_of) a.stood ∙ ap (λ n. Some n) (equal_same (address_of a.before) t.addr a.at)
 
-    same : (suc a.j ∷ a.p) ≡ (suc j ∷ e)
-    same = same_is (suc j ∷ e) (suc a.j ∷ a.p) (o.distinct (suc j ∷ e) (suc a.j ∷ a.p) t.addr held claims)
+    same : (path_to a.spot) ≡ (path_to j)
+    same = same_is (path_to j) (path_to a.spot) (o.distinct (path_to j) (path_to a.spot) t.addr held claims)
 
 -- The status of a port of a hub
 
-module _ (t : Target) (j : ℕ) (e : List ℕ) (i : ℕ) (old new : World) (bytes : Vec ℕ) (told : AskedData t (get_port_status (suc i)) old (Ok bytes) new) (single : new.shared ≡ false) (a : Answered t old new j e) where
+module _ (t : Target) (j : Spot) (i : ℕ) (old new : World) (bytes : Vec ℕ) (told : AskedData t (get_port_status (suc i)) old (Ok bytes) new) (single : new.shared ≡ false) (a : Answered t old new j) where
   abbrev request : Setup
   request = get_port_status (suc i)
 
@@ -93,19 +93,19 @@ module _ (t : Target) (j : ℕ) (e : List ℕ) (i : ℕ) (old new : World) (byte
   unfolding get_port_status
   plain = refl
 
-  was : Was (ReadLeaves t request (Ok bytes) old new) old j e a.now
-  was = read_leaves t request (Ok bytes) old new host (subst (λ n. 1 ≤ n) (sym length_is) (omega arith)) (same_setup request) told.settled told.stages single j e a.now a.on a.stands
+  was : Was (ReadLeaves t request (Ok bytes) old new) old j a.now
+  was = read_leaves t request (Ok bytes) old new host (subst (λ n. 1 ≤ n) (sym length_is) (omega arith)) (same_setup request) told.settled told.stages single j a.now a.on a.stands
 
   asked_it : is_at was.before t ≡ true
   asked_it = subst (λ s. is_at s t ≡ true) (same_Some a.before was.before (sym a.stood ∙ was.stands)) a.at
 
-  done : AnswerRead t request bytes.items old new j e was.before a.now
+  done : AnswerRead t request bytes.items old new j was.before a.now
   done = was.so.done asked_it bytes refl
 
   abbrev now : World
   now = done.moment.now
 
-  accepted_there : AcceptedAt t (bytes_of request) old now j e was.before done.moment.accepts.state
+  accepted_there : AcceptedAt t (bytes_of request) old now j was.before done.moment.accepts.state
   accepted_there = done.moment.accepts.at
 
   status : StatusOf done.row (suc i - 1) done.answer (effect_of_request (outcome was.before.spec was.before.registers request))
@@ -118,14 +118,14 @@ module _ (t : Target) (j : ℕ) (e : List ℕ) (i : ℕ) (old new : World) (byte
   came : bytes.items ≡ status_of status.port
   came = done.came (inr (subst (λ n. n ≤ 8) (sym length_is) (omega arith))) ∙ ap (λ n. take n done.answer) length_is ∙ ap (take 4) status.told ∙ whole_status status.port
 
-  in_row : port_at accepted_there.below i [] ≡ Some status.port
+  in_row : port_at accepted_there.holder.below i [] ≡ Some status.port
   unfolding accepted_there
-  in_row = row_port accepted_there.below i ∙ ap (λ x. slice_get x i) (sym done.moment.accepts.had) ∙ ap (slice_get done.row) (sym (less_one i)) ∙ status.stands
+  in_row = row_port accepted_there.holder.below i ∙ ap (λ x. slice_get x i) (sym done.moment.accepts.had) ∙ ap (slice_get done.row) (sym (less_one i)) ∙ status.stands
 
-  stood : port_at now.roots j (e ++ (suc i ∷ [])) ≡ Some status.port
-  stood = port_below_at now.roots j e (suc i) [] ∙ ap (λ x. port_at (below_of x) i []) accepted_there.left ∙ ap (λ x. port_at (acted x accepted_there.below) i []) effect ∙ in_row
+  stood : port_at now.roots j.row (j.rest ++ (suc i ∷ [])) ≡ Some status.port
+  stood = port_below_at now.roots j.row j.rest (suc i) [] ∙ ap (λ x. port_at (below_of x) i []) accepted_there.left ∙ ap (λ x. port_at (acted x accepted_there.holder.below) i []) effect ∙ in_row
 
-  told_there : PortTold ((suc j ∷ e) ++ (suc i ∷ [])) (status_in bytes.items) old new
+  told_there : PortTold ((path_to j) ++ (suc i ∷ [])) (status_in bytes.items) old new
   told_there = record {
     now = now;
     port = status.port;
@@ -133,7 +133,7 @@ module _ (t : Target) (j : ℕ) (e : List ℕ) (i : ℕ) (old new : World) (byte
     is = ap status_in came ∙ status_seen status.port;
     before = plain_course t request plain old now accepted_there;
     since = λ x. behind_asks_nothing t x done.moment.since (subst (λ w. IsSettled w.roots) (sym accepted_there.last) (attempt_settled _ accepted_there.mid accepted_there.holder.made.settled));
-    row = record { parent = suc j ∷ e; number = suc i; is = refl; reached = a.on };
+    row = record { parent = path_to j; number = suc i; is = refl; reached = a.on };
   }
 
 at_hub : (t : Target) (f : Claims) (hub : List ℕ) (port : ℕ) (old new : World) (bytes : Vec ℕ) → IsPath hub → IsPortNumber port → f hub ≡ Some t.addr → Owned f old → AskedData t (get_port_status port) old (Ok bytes) new
@@ -143,21 +143,21 @@ at_hub t f [] port old new bytes is number held own told = absurd (no_path is)
 at_hub t f (zero ∷ e) port old new bytes is number held own told = absurd (no_root e is)
 at_hub t f (suc j ∷ e) zero old new bytes is number held own told = absurd (omega (arith, number.0))
 at_hub t f (suc j ∷ e) (suc i) old new bytes is number held own told =
-    told_there t j e i old new bytes told after.single
-    (answered_at f t old new j e own held (who_reads t (get_port_status (suc i)) bytes old new (omega arith) (same_setup (get_port_status (suc i))) told.settled told.stages after.single))
+    told_there t (record { row = j; rest = e }) i old new bytes told after.single
+    (answered_at f t old new (record { row = j; rest = e }) own held (who_reads t (get_port_status (suc i)) bytes old new (omega arith) (same_setup (get_port_status (suc i))) told.settled told.stages after.single))
   where
     after : Owned f new
     after = reads_leave f t (get_port_status (suc i)) (same_setup (get_port_status (suc i))) refl refl old (Ok bytes) new told.stages own
 
 -- why it is not told
 told_served : (t : Target) (n : ℕ) (old : World) (result : Result PortStatus PipeFault) (new : World) → Told status_in t (get_port_status n) old result new → NoThreeDamaged old → new.shared ≡ false → 8 ≤ t.max
-    → (x : Serves t n new) → (b : PortState) → port_there old.roots (suc x.j ∷ (x.p ++ (n ∷ []))) ≡ Some b → NoHubFailed result
+    → (x : Serves t n new) → (b : PortState) → port_there old.roots (path_to x.spot ++ (n ∷ [])) ≡ Some b → NoHubFailed result
 told_served t zero old result new told three single most x b stood = absurd (omega (arith, x.has.least))
 told_served t (suc i) old result new told three single most x b stood = status_served t i old new three single most x b stood status_in result told
 
 status_why : (hub : Target) (port : ℕ) (old : World) (result : Result PortStatus PipeFault) (new : World) → Told status_in hub (get_port_status port) old result new
     → (h : Target) (n : ℕ) → External hub port ≡ External h n → NoThreeDamaged old → new.shared ≡ false → 8 ≤ h.max → (x : Serves h n new)
-    → (b : PortState) → port_there old.roots (suc x.j ∷ (x.p ++ (n ∷ []))) ≡ Some b → NoHubFailed result
+    → (b : PortState) → port_there old.roots (path_to x.spot ++ (n ∷ [])) ≡ Some b → NoHubFailed result
 status_why hub port old result new told h n same =
     let ends : _ = same_port hub h port n same in
     told_served h n old result new (subst (λ t. Told status_in t (get_port_status n) old result new) (sym ends.0) (subst (λ m. Told status_in hub (get_port_status m) old result new) (sym ends.1) told))

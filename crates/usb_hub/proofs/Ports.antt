@@ -1,11 +1,13 @@
 -- What root calls leave, for whoever calls them as a hub's port.
 use Rattle.std.proofs.Common.{◌≡◌, ◌∙◌, refl, sym, ap, subst, arith, true, false, length-set}
 use Rattle.std.specs.Prelude.{ℕ, ◌+◌, ◌-◌, ◌≤◌, Bool, length, List, Option, Ok, if◌then◌else◌}
+use Rattle.usb_request.specs.Features.{PORT_RESET}
 use Rattle.usb_port.specs.PortState.{PortState}
-use Rattle.usb_world.specs.World.{World, Spends, IsRootPort, IsSetFeature, IsClearFeature, root_row, change_of, changes}
+use Rattle.usb_port.specs.Calls.{set_call, clear_call, IsSetFeature, IsClearFeature}
+use Rattle.usb_world.specs.World.{World, Spends, IsRootPort, root_row, change_of, changes}
 use Rattle.usb_world.specs.Steps.{SetsRoot, ClearsRoot}
-use Rattle.usb_world.proofs.Interface.{RootCalled, change_most, changes-set, clears_change, clears_spend, resets_spend, root_cleared as root_cleared_called, root_set as root_set_called}
-use Rattle.usb_bus.specs.Traced.{Traced, WentOn}
+use Rattle.usb_world.proofs.Interface.{RootCalled, change_most, changes-set, clears_change, clears_spend, resets_spend, root_called}
+use Rattle.usb_bus.specs.Traces.{Traced, WentOn}
 use Rattle.usb_hub.specs.declared.port.HubPort.{HubPort}
 use Rattle.usb_hub.specs.declared.port.HubPort.TheVariants.{Root, External}
 use Rattle.usb_hub.specs.Port.{IsPort, order_bound, TakesNoTime, RootSet, RootCleared, SetWent, PortSet, PortCleared}
@@ -31,7 +33,7 @@ changes_written number p old new is c =
 
 pub root_set : (number feature : ℕ) (old new : World) → IsRootPort old number → IsSetFeature feature → SetsRoot number feature old new → RootSet number feature old (Ok tt) new
 root_set number feature old new is named row =
-    let called = root_set_called number feature old new is named row in
+    let called = root_called number (set_call feature) old new is named row.step in
     record {
       done = refl;
       row = row;
@@ -44,7 +46,7 @@ pub root_cleared : (number feature : ℕ) (old new : World) → IsRootPort old n
 root_cleared number feature old new is named row = record {
   done = refl;
   row = row;
-  quiet = quiet number _ old new (root_cleared_called number feature old new is named row);
+  quiet = quiet number _ old new (root_called number (clear_call feature) old new is named row.step);
   count = clears_spend number feature old new is named row;
   served = λ e set. clears_change number old new is set (subst (λ f. ClearsRoot number f old new) e row);
 }
@@ -66,7 +68,7 @@ pub set_went-root : (port : HubPort) (number feature : ℕ) (old new : World) (b
 set_went-root port number feature old new before now e set traced = rw e (traced, (rw e at set).resets)
 
 -- PORT_RESET's attempts, at each port
-pub reset_went : (port : HubPort) {old new : World} {before now : Option (List ℕ)} → SetWent port 4 old before new now → WentOn (order_bound port) old before new now
+pub reset_went : (port : HubPort) {old new : World} {before now : Option (List ℕ)} → SetWent port PORT_RESET old before new now → WentOn (order_bound port) old before new now
 reset_went (Root number) p = record { spends = p.1 refl; traced = p.0 }
 reset_went (External hub port) p = p
 

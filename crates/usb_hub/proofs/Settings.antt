@@ -13,34 +13,33 @@ use Rattle.usb_device.specs.Progress.{StatusGiven, seen, unseen, address_then, O
 use Rattle.usb_world.specs.World.{World}
 use Rattle.usb_world.specs.Courses.{is_harmless}
 use Rattle.usb_world.specs.Devices.{Relation, EachWas}
-use Rattle.usb_world.proofs.Interface.{decided, each_wider}
+use Rattle.usb_world.proofs.Interface.{decided, each_both, each_wider}
 use Rattle.usb_transaction.specs.declared.target.Target.{Target}
 use Rattle.usb_transaction.specs.Leaves.{is_at, AcceptedAt}
 use Rattle.usb_transaction.specs.Losses.{begins_no_stretch}
 use Rattle.usb_transaction.specs.SparedDevices.{EachSpared}
 use Rattle.usb_transaction.specs.Failures.{NoThreeDamaged}
-use Rattle.usb_transaction.proofs.Interface.{each_both}
 use Rattle.usb_pipe.specs.declared.fault.PipeFault.{PipeFault}
 use Rattle.usb_pipe.specs.declared.fault.PipeFault.TheVariants.{Stalled, Busy, NoAnswer, Broken, Bus, Memory}
-use Rattle.usb_pipe.specs.Leaves.{IsNotOfBus, WasRefused, EffectDone, EffectOrNone, none, some, whole, WriteLeaves, LossesOf, TookItOrLost}
+use Rattle.usb_pipe.specs.Leaves.{IsNoBusFault, WasRefused, EffectDone, EffectOrNone, none, some, whole, WriteLeaves, LossesOf, TookItOrLost}
 use Rattle.usb_pipe.specs.Failures.{WhyWrite}
-use Rattle.usb_pipe.proofs.Interface.{write_leaves, write_losses, write_why}
+use Rattle.usb_pipe.proofs.Interface.{given_registers, write_leaves, write_losses, write_why}
 use Rattle.usb_address.proofs.Interface.{attempt_settled, same_setup}
 use Rattle.usb_request.specs.Layout.{setup_of, bytes_of}
 use Rattle.usb_device.specs.declared.effect.Effect.TheVariants.{PortsOff}
 use Rattle.usb_device.specs.declared.bulk.Pipe.{Pipe}
 use Rattle.usb_device.specs.Bulk.{rested}
 use Rattle.usb_device.specs.Effect.{asked_by_setup, effect_of_request}
-use Rattle.usb_device.specs.Tree.{full, acted, place_at}
+use Rattle.usb_device.specs.Tree.{full, acted, Spot, place_on}
 use Rattle.usb_world.specs.Passes.{IsSettled}
 use Rattle.usb_hub.specs.Requests.{Ordered}
-use Rattle.usb_hub.proofs.Rests.{behind_asks_nothing}
+use Rattle.usb_hub.proofs.RestingRequests.{behind_asks_nothing}
 use Rattle.usb_hub.specs.Settings.{AddressAsked, takes_value, OnlySet, IsConfigured, WentOff, ConfigurationAsked}
 
 -- A request that resets no port, of every device
 
 all_spared : (t : Target) (request : Setup) (R : Relation) (old new : World) → is_harmless request ≡ true → EachSpared t request R old new → EachWas R old new
-all_spared t request R old new harmless x = λ j p s on there. x j p s on there (λ h. absurd (cc (harmless, h)))
+all_spared t request R old new harmless x = λ j s on there. x j s on there (λ h. absurd (cc (harmless, h)))
 
 module _ (t : Target) (request : Setup) (harmless : is_harmless request ≡ true) (nothing : request.length ≡ 0) (result : Result (Unit {0}) PipeFault) (old new : World) (ordered : Ordered t request old result new)
     (single : new.shared ≡ false) where
@@ -48,26 +47,26 @@ module _ (t : Target) (request : Setup) (harmless : is_harmless request ≡ true
   each_leaves = all_spared t request (WriteLeaves t request result old new) old new harmless (write_leaves t request result old new nothing (same_setup request) ordered.settled ordered.stages single)
 
 -- what is so of a device after it: where it accepted the request, where it was given the status stage, and where it saw nothing of it
-module _ (t : Target) (request : Setup) (old new : World) (j : ℕ) (p : List ℕ) (s v : State) (Q : Type 0)
+module _ (t : Target) (request : Setup) (old new : World) (j : Spot) (s v : State) (Q : Type 0)
     (accepts : (row : List PortState) → OnlyControl (accepted s row request) v → v.registers ≡ (accepted s row request).registers → Q)
     (ends : (row : List PortState) (address : Option ℕ) → first_stage row request.length (outcome s.spec s.registers request) ≡ ending address → OnlyControl (accepted s row request) v → StatusGiven address (accepted s row request) v → Q)
     (rests : OnlyControl s v → v.registers ≡ s.registers → Q) where
-  failed_so : (fault : PipeFault) → EffectOrNone t request fault old j p s v → Q
+  failed_so : (fault : PipeFault) → EffectOrNone t request fault old j s v → Q
   failed_so fault (none frame same) = rests frame same
   failed_so fault (some row now at frame same) = accepts row frame same
   failed_so fault (whole why e row now at frame address is given) = ends row address is frame given
 
-  pub write_so : (result : Result (Unit {0}) PipeFault) → WriteLeaves t request result old new j p s v → Q
+  pub write_so : (result : Result (Unit {0}) PipeFault) → WriteLeaves t request result old new j s v → Q
   write_so (Ok u) x = pick (decided (is_at s t))
     where
       pick : (is_at s t ≡ true) ⊎ (is_at s t ≡ false) → Q
-      pick (inl at) = let d : EffectDone t request old new j p s v = x.done at u refl in ends d.row d.address d.is d.rest d.given
+      pick (inl at) = let d : EffectDone t request old new j s v = x.done at u refl in ends d.row d.address d.is d.rest d.given
       pick (inr at) = rests (subst (OnlyControl s) (sym (x.others at)) refl) (ap (λ y. y.registers) (x.others at))
   write_so (Err fault) x = failed_so fault (x.failed fault refl)
 
 -- what is said where the bus did not give up, and holds of a device where it did
 module _ (t : Target) (request : Setup) (R : Result (Unit {0}) PipeFault → Relation) (old new : World) (single : new.shared ≡ false) where
-  pub or_of_bus : ((result : Result (Unit {0}) PipeFault) → IsNotOfBus result → Ordered t request old result new → EachWas (R result) old new)
+  pub or_of_bus : ((result : Result (Unit {0}) PipeFault) → IsNoBusFault result → Ordered t request old result new → EachWas (R result) old new)
       → ((fault : _) → Ordered t request old (Err (Bus fault)) new → EachWas (R (Err (Bus fault))) old new)
       → (result : Result (Unit {0}) PipeFault) → Ordered t request old result new → EachWas (R result) old new
   or_of_bus sound cut (Ok tt) x = sound (Ok tt) tt x
@@ -79,32 +78,32 @@ module _ (t : Target) (request : Setup) (R : Result (Unit {0}) PipeFault → Rel
   or_of_bus sound cut (Err Memory) x = sound (Err Memory) tt x
 
 abbrev Loses : Target → Setup → World → World → Result (Unit {0}) PipeFault → Relation
-Loses t request old new result j p s v = IsNotOfBus result → LossesOf t request result old new j p s v
+Loses t request old new result j s v = IsNoBusFault result → LossesOf t request result old new j s v
 
 module _ (t : Target) (request : Setup) (harmless : is_harmless request ≡ true) (nothing : request.length ≡ 0) (old new : World) (single : new.shared ≡ false) where
   -- why it failed
   pub each_why : (result : Result (Unit {0}) PipeFault) → Ordered t request old result new → NoThreeDamaged old → EachWas (WhyWrite t result) old new
   each_why result ordered three = or_of_bus t request (WhyWrite t) old new single sound cut result ordered
     where
-      sound : (result : Result (Unit {0}) PipeFault) → IsNotOfBus result → Ordered t request old result new → EachWas (WhyWrite t result) old new
+      sound : (result : Result (Unit {0}) PipeFault) → IsNoBusFault result → Ordered t request old result new → EachWas (WhyWrite t result) old new
       sound result n x = all_spared t request (WhyWrite t result) old new harmless (write_why t request result old new nothing (same_setup request) x.settled three x.stages n single)
 
       cut : (fault : _) → Ordered t request old (Err (Bus fault)) new → EachWas (WhyWrite t (Err (Bus fault))) old new
       cut fault x =
-          each_wider (WriteLeaves t request (Err (Bus fault)) old new) (WhyWrite t (Err (Bus fault))) (λ j p s v w. record { answered = λ l e. absurd cc; waited = λ l b n e. absurd cc }) old new
+          each_wider (WriteLeaves t request (Err (Bus fault)) old new) (WhyWrite t (Err (Bus fault))) (λ j s v w. record { answered = λ l e. absurd cc; waited = λ l b n e. absurd cc }) old new
           (each_leaves t request harmless nothing (Err (Bus fault)) old new x single)
 
   -- what it lost, where the bus did not give up
   each_loses : begins_no_stretch request ≡ true → (result : Result (Unit {0}) PipeFault) → Ordered t request old result new → EachWas (Loses t request old new result) old new
   each_loses plain result ordered = or_of_bus t request (Loses t request old new) old new single sound cut result ordered
     where
-      sound : (result : Result (Unit {0}) PipeFault) → IsNotOfBus result → Ordered t request old result new → EachWas (Loses t request old new result) old new
+      sound : (result : Result (Unit {0}) PipeFault) → IsNoBusFault result → Ordered t request old result new → EachWas (Loses t request old new result) old new
       sound result n x =
-          each_wider (LossesOf t request result old new) (Loses t request old new result) (λ j p s v y n. y) old new
+          each_wider (LossesOf t request result old new) (Loses t request old new result) (λ j s v y n. y) old new
           (all_spared t request (LossesOf t request result old new) old new harmless (write_losses t request result old new (same_setup request) plain x.settled x.stages n single))
 
       cut : (fault : _) → Ordered t request old (Err (Bus fault)) new → EachWas (Loses t request old new (Err (Bus fault))) old new
-      cut fault x = each_wider (WriteLeaves t request (Err (Bus fault)) old new) (Loses t request old new (Err (Bus fault))) (λ j p s v w n. elim n [ ]) old new (each_leaves t request harmless nothing (Err (Bus fault)) old new x single)
+      cut fault x = each_wider (WriteLeaves t request (Err (Bus fault)) old new) (Loses t request old new (Err (Bus fault))) (λ j s v w n. elim n [ ]) old new (each_leaves t request harmless nothing (Err (Bus fault)) old new x single)
 
 -- SET_ADDRESS
 
@@ -167,40 +166,40 @@ module _ (t : Target) (a : ℕ) (most : a ≤ 127) (old new : World) where
       let ends : _ = asked_ends s.spec.stalls.address a row address (sym (stage_is s row) ∙ e) in
       (ends.0, given_either s.spec.stalls.address a row address s v ends.1 (subst (λ y. StatusGiven address y v) (begun_is s row) x))
 
-  module _ (j : ℕ) (p : List ℕ) (s v : State) where
-    failed_same : (fault : PipeFault) → IsNotOfBus {A = Unit {0}} (Err fault) → EffectOrNone t request fault old j p s v → v.registers ≡ s.registers
+  module _ (j : Spot) (s v : State) where
+    failed_same : (fault : PipeFault) → IsNoBusFault {A = Unit {0}} (Err fault) → EffectOrNone t request fault old j s v → v.registers ≡ s.registers
     failed_same fault n (none frame same) = same
     failed_same fault n (some row now at frame same) = registers_of s v row same
-    failed_same fault n (whole why e row now at frame address ends given) = absurd (subst (λ x. IsNotOfBus {A = Unit {0}} (Err x)) e n)
+    failed_same fault n (whole why e row now at frame address ends given) = absurd (subst (λ x. IsNoBusFault {A = Unit {0}} (Err x)) e n)
 
-    address_frame : (result : Result (Unit {0}) PipeFault) → WriteLeaves t request result old new j p s v → OnlyControl s v
-    address_frame = write_so t request old new j p s v (OnlyControl s v) (λ row frame same. frame_of s v row frame) (λ row address is frame given. frame_of s v row frame) (λ frame same. frame)
+    address_frame : (result : Result (Unit {0}) PipeFault) → WriteLeaves t request result old new j s v → OnlyControl s v
+    address_frame = write_so t request old new j s v (OnlyControl s v) (λ row frame same. frame_of s v row frame) (λ row address is frame given. frame_of s v row frame) (λ frame same. frame)
 
-    address_either : (result : Result (Unit {0}) PipeFault) → WriteLeaves t request result old new j p s v → Either a s v
+    address_either : (result : Result (Unit {0}) PipeFault) → WriteLeaves t request result old new j s v → Either a s v
     address_either =
-        write_so t request old new j p s v (Either a s v) (λ row frame same. inl (registers_of s v row same))
+        write_so t request old new j s v (Either a s v) (λ row frame same. inl (registers_of s v row same))
         (λ row address is frame given. (ended_of s v row address is given).1) (λ frame same. inl same)
 
-    address_done : (result : Result (Unit {0}) PipeFault) → WriteLeaves t request result old new j p s v → Loses t request old new result j p s v → is_at s t ≡ true → result ≡ Ok tt
+    address_done : (result : Result (Unit {0}) PipeFault) → WriteLeaves t request result old new j s v → Loses t request old new result j s v → is_at s t ≡ true → result ≡ Ok tt
         → (s.spec.stalls.address ≡ false) × TookItOrLost a old new s v
     address_done (Ok u) x y at e =
-        let d : EffectDone t request old new j p s v = x.done at u refl in
+        let d : EffectDone t request old new j s v = x.done at u refl in
         let free : s.spec.stalls.address ≡ false = (ended_of s v d.row d.address d.is d.given).0 in
         (free, (y tt).done at u refl a (address_outcome s.spec s.registers a most ∙ ap (λ b. unless b (takes_address a)) free))
     address_done (Err fault) x y at e = absurd cc
 
-    address_failed : (result : Result (Unit {0}) PipeFault) → WriteLeaves t request result old new j p s v → Loses t request old new result j p s v → is_at s t ≡ true → (why : PipeFault) → result ≡ Err why → IsNotOfBus result
+    address_failed : (result : Result (Unit {0}) PipeFault) → WriteLeaves t request result old new j s v → Loses t request old new result j s v → is_at s t ≡ true → (why : PipeFault) → result ≡ Err why → IsNoBusFault result
         → (v.registers ≡ s.registers) × (new.losses ≡ old.losses)
     address_failed (Ok u) x y at why e n = absurd cc
     address_failed (Err fault) x y at why e n = (failed_same fault n (x.failed fault refl), (y n).failed at fault refl)
 
-    address_leaves : (result : Result (Unit {0}) PipeFault) → WriteLeaves t request result old new j p s v × Loses t request old new result j p s v → AddressAsked t a result old new j p s v
+    address_leaves : (result : Result (Unit {0}) PipeFault) → WriteLeaves t request result old new j s v × Loses t request old new result j s v → AddressAsked t a result old new j s v
     address_leaves result x = record {
       others = x.0.others;
       frame = address_frame result x.0;
       either = address_either result x.0;
       done = address_done result x.0 x.1;
-      stalled = λ at e. let r : WasRefused t request old new j p s = x.0.refused at e in asked_refuses s.spec.stalls.address a r.row (sym (stage_is s r.row) ∙ r.is);
+      stalled = λ at e. let r : WasRefused t request old new j s = x.0.refused at e in asked_refuses s.spec.stalls.address a r.row (sym (stage_is s r.row) ∙ r.is);
       failed = address_failed result x.0 x.1;
       could = x.0.could;
     }
@@ -208,7 +207,7 @@ module _ (t : Target) (a : ℕ) (most : a ≤ 127) (old new : World) where
 pub address_asked : (t : Target) (a : ℕ) (result : Result (Unit {0}) PipeFault) (old new : World) → a ≤ 127 → Ordered t (set_address a) old result new → new.shared ≡ false → EachWas (AddressAsked t a result old new) old new
 unfolding set_address
 address_asked t a result old new most ordered single =
-    each_wider (λ j p s v. WriteLeaves t (set_address a) result old new j p s v × Loses t (set_address a) old new result j p s v) (AddressAsked t a result old new) (λ j p s v. address_leaves t a most old new j p s v result) old new
+    each_wider (λ j s v. WriteLeaves t (set_address a) result old new j s v × Loses t (set_address a) old new result j s v) (AddressAsked t a result old new) (λ j s v. address_leaves t a most old new j s v result) old new
     (each_both (WriteLeaves t (set_address a) result old new) (Loses t (set_address a) old new result) old new
     (each_leaves t (set_address a) refl refl result old new ordered single) (each_loses t (set_address a) refl refl old new single refl result ordered))
 
@@ -295,11 +294,6 @@ set_either : (b : Bool) (value : ℕ) (s v : State) → Set b value s v → (v.r
 set_either true value s v x = inr x
 set_either false value s v x = inl x
 
--- a status stage that gives no address leaves the registers
-pub given_none : (address : Option ℕ) (s v : State) → address ≡ None → StatusGiven address s v → v.registers ≡ s.registers
-given_none address s v e (seen stays is) = is ∙ ap (λ o. record s.registers { address = address_then s.registers.address o }) e
-given_none address s v e (unseen stays is) = is
-
 module _ (t : Target) (value : ℕ) (old new : World) where
   abbrev order : Setup
   order = set_configuration value
@@ -315,7 +309,7 @@ module _ (t : Target) (value : ℕ) (old new : World) where
   set_of : (s v : State) (row : List PortState) → OnlyControl (accepted s row order) v → v.registers ≡ (accepted s row order).registers → OnlySet s v × Set (takes_it s value) value s v
   set_of s v row h r = set_frame (takes_it s value) value row s v (subst (λ y. OnlyControl y v) (set_is s row) h) (r ∙ ap (λ y. y.registers) (set_is s row))
 
-  module _ (j : ℕ) (p : List ℕ) (s v : State) where
+  module _ (j : Spot) (s v : State) where
     none_set : OnlyControl s v → v.registers ≡ s.registers → OnlySet s v
     none_set h r = settings_frame s v s.bulk_out s.bulk_in s.changes s.held s.registers.configuration h r
 
@@ -323,53 +317,53 @@ module _ (t : Target) (value : ℕ) (old new : World) where
         → (takes_it s value ≡ true) × OnlySet s v × IsConfigured value s v
     whole_set row address e h given =
         let ends : _ = set_ends (takes_it s value) value row address (sym (set_stage s row) ∙ e) in
-        let parts : _ = set_of s v row h (given_none address (accepted s row order) v ends.1 given) in
+        let parts : _ = set_of s v row h (given_registers address (accepted s row order) v ends.1 given) in
         (ends.0, parts.0, subst (λ b. Set b value s v) ends.0 parts.1)
 
-    done_set : EffectDone t order old new j p s v → (takes_it s value ≡ true) × OnlySet s v × IsConfigured value s v
+    done_set : EffectDone t order old new j s v → (takes_it s value ≡ true) × OnlySet s v × IsConfigured value s v
     done_set d = whole_set d.row d.address d.is d.rest d.given
 
     -- the moment at which it was last accepted
-    went_off : EffectDone t order old new j p s v → WentOff new j p
+    went_off : EffectDone t order old new j s v → WentOff new j
     went_off d = record {
       now = d.moment.now;
-      b = at.b;
+      b = at.holder.port;
       state = d.moment.accepts.state;
-      ports = at.below;
-      off = subst (λ x. place_at d.moment.now.roots j p ≡ Some (full at.b d.moment.accepts.state (acted x at.below))) effect at.left;
+      ports = at.holder.below;
+      off = subst (λ x. place_on d.moment.now.roots j ≡ Some (full at.holder.port d.moment.accepts.state (acted x at.holder.below))) effect at.left;
       since = λ x. behind_asks_nothing t x d.moment.since (subst (λ w. IsSettled w.roots) (sym at.last) (attempt_settled _ at.mid at.holder.made.settled));
     }
       where
-        at : AcceptedAt t (bytes_of order) old d.moment.now j p s d.moment.accepts.state
+        at : AcceptedAt t (bytes_of order) old d.moment.now j s d.moment.accepts.state
         at = d.moment.accepts.at
 
         effect : asked_by_setup s (setup_of (bytes_of order)) ≡ PortsOff
         effect = ap (asked_by_setup s) (same_setup order) ∙ ap effect_of_request (configuration_outcome s value) ∙ ap (λ b. effect_of_request (set_to b value)) (done_set d).0
 
-    set_parts : (result : Result (Unit {0}) PipeFault) → WriteLeaves t order result old new j p s v → OnlySet s v × ((v.registers ≡ s.registers) ⊎ IsConfigured value s v)
+    set_parts : (result : Result (Unit {0}) PipeFault) → WriteLeaves t order result old new j s v → OnlySet s v × ((v.registers ≡ s.registers) ⊎ IsConfigured value s v)
     set_parts =
-        write_so t order old new j p s v (OnlySet s v × ((v.registers ≡ s.registers) ⊎ IsConfigured value s v))
+        write_so t order old new j s v (OnlySet s v × ((v.registers ≡ s.registers) ⊎ IsConfigured value s v))
         (λ row h r. let parts : _ = set_of s v row h r in (parts.0, set_either (takes_it s value) value s v parts.1))
         (λ row address is h given. let parts : _ = whole_set row address is h given in (parts.1, inr parts.2)) (λ h r. (none_set h r, inl r))
 
-    configuration_leaves : (result : Result (Unit {0}) PipeFault) → WriteLeaves t order result old new j p s v → ConfigurationAsked t value result new j p s v
+    configuration_leaves : (result : Result (Unit {0}) PipeFault) → WriteLeaves t order result old new j s v → ConfigurationAsked t value result new j s v
     configuration_leaves result x = record {
       others = x.others;
       frame = (set_parts result x).0;
       either = (set_parts result x).1;
       done = λ at e.
-          let d : EffectDone t order old new j p s v = x.done at tt e in
+          let d : EffectDone t order old new j s v = x.done at tt e in
           let parts : _ = done_set d in
           let yes : _ = accepts_value s value parts.0 in
           (yes.0, yes.1, parts.2, went_off d);
-      stalled = λ at e. let r : WasRefused t order old new j p s = x.refused at e in refuses_value s value (set_refuses (takes_it s value) value r.row (sym (set_stage s r.row) ∙ r.is));
+      stalled = λ at e. let r : WasRefused t order old new j s = x.refused at e in refuses_value s value (set_refuses (takes_it s value) value r.row (sym (set_stage s r.row) ∙ r.is));
       could = x.could;
     }
 
 pub configuration_asked : (t : Target) (value : ℕ) (result : Result (Unit {0}) PipeFault) (old new : World) → Ordered t (set_configuration value) old result new → new.shared ≡ false → EachWas (ConfigurationAsked t value result new) old new
 unfolding set_configuration
 configuration_asked t value result old new ordered single =
-    each_wider (WriteLeaves t (set_configuration value) result old new) (ConfigurationAsked t value result new) (λ j p s v. configuration_leaves t value old new j p s v result) old new
+    each_wider (WriteLeaves t (set_configuration value) result old new) (ConfigurationAsked t value result new) (λ j s v. configuration_leaves t value old new j s v result) old new
     (each_leaves t (set_configuration value) refl refl result old new ordered single)
 
 pub configuration_why : (t : Target) (value : ℕ) (result : Result (Unit {0}) PipeFault) (old new : World) → Ordered t (set_configuration value) old result new → NoThreeDamaged old → new.shared ≡ false → EachWas (WhyWrite t result) old new

@@ -1,27 +1,28 @@
 -- What the calls on devices and ports leave of devices and of the addresses that they hold.
-use Rattle.std.specs.Prelude.{◌≡◌, ◌≢◌, ◌⊎◌, ℕ, suc, List, [], ◌∷◌, ◌++◌, true, false, None, Some, Result, Ok, OnOk}
+use Rattle.std.specs.Prelude.{◌≡◌, ◌≢◌, ◌⊎◌, ℕ, List, [], ◌∷◌, ◌++◌, true, false, None, Some, Result, Ok, OnOk}
+use Rattle.usb_request.specs.Features.{PORT_ENABLE, PORT_RESET, PORT_POWER}
 use Rattle.usb_port.specs.Path.{IsPath, IsPortNumber}
 use Rattle.usb_port.specs.declared.status.PortStatus.{PortStatus}
 use Rattle.usb_device.specs.Progress.{OnlyStage}
 use Rattle.usb_device.specs.Rows.{State}
-use Rattle.usb_device.specs.Tree.{reach_at, state_at}
+use Rattle.usb_device.specs.Tree.{Spot, path_to, reach_on, state_on}
 use Rattle.usb_world.specs.Addresses.{after_reset, after_taking}
 use Rattle.usb_world.specs.Devices.{Relation, Was, EachWas}
 use Rattle.usb_world.specs.Paths.{is_way}
 use Rattle.usb_world.specs.World.{World}
 use Rattle.usb_pipe.specs.declared.fault.PipeFault.{PipeFault}
 use Rattle.usb_address.specs.Claims.{Claims, claims_apart}
-use Rattle.usb_address.specs.Owned.{Owned, TillFault, KeepsAddresses}
+use Rattle.usb_address.specs.Ownership.{Owned, TillFault, KeepsAddresses}
 use Rattle.usb_hub.specs.declared.port.HubPort.{HubPort}
 use Rattle.usb_hub.specs.declared.port.HubPort.TheVariants.{Root, External}
 
 -- nothing of a device changed but where its transfer stands: its description, its registers and its other endpoints are as they were
-abbrev pub StaysAs : ℕ → List ℕ → State → State → Type 0
-StaysAs j p s v = OnlyStage s v
+abbrev pub StaysAs : Spot → State → State → Type 0
+StaysAs x s v = OnlyStage s v
 
 -- so it is of each reachable device that is not at the path nor below it
 abbrev pub EachElsewhere : List ℕ → Relation → World → World → Type 0
-EachElsewhere x R old new = (j : ℕ) (p : List ℕ) (s : State) → is_way x (suc j ∷ p) ≡ false → reach_at new.roots j p ≡ true → state_at new.roots j p ≡ Some s → Was R old j p s
+EachElsewhere path R old new = (x : Spot) (s : State) → is_way path (path_to x) ≡ false → reach_on new.roots x ≡ true → state_on new.roots x ≡ Some s → Was R old x s
 
 -- where no address was held twice, each device that is reachable was so before, and stays as it was
 pub record KeepsDevices (old new : World) : Type 0 where
@@ -74,12 +75,12 @@ pub record KeepsAsked (port : HubPort) (old : World) (result : Result PortStatus
 
 -- PORT_POWER keeps them, PORT_RESET takes one
 pub record KeepsSet (port : HubPort) (feature : ℕ) (old new : World) : Type 0 where
-  pub keeps : feature ≡ 8 → KeepsAddresses old new
-  pub devices : feature ≡ 8 → KeepsDevices old new
-  pub resets : feature ≡ 4 → Resets port old new
+  pub keeps : feature ≡ PORT_POWER → KeepsAddresses old new
+  pub devices : feature ≡ PORT_POWER → KeepsDevices old new
+  pub resets : feature ≡ PORT_RESET → Resets port old new
 
 -- a port that is disabled has none reachable
 pub record KeepsCleared (port : HubPort) (feature : ℕ) (old : World) (result : Result (Unit {0}) PipeFault) (new : World) : Type 0 where
   pub keeps : KeepsAddresses old new
   pub devices : KeepsDevices old new
-  pub bare : feature ≡ 1 → result ≡ Ok tt → Bares port old new
+  pub bare : feature ≡ PORT_ENABLE → result ≡ Ok tt → Bares port old new

@@ -1,7 +1,7 @@
 pub mod Addresses
-pub mod Asked
+pub mod GivenAnswers
 pub mod Moments
 pub mod Port
 pub mod Requests
 pub mod Settings
-pub mod Why
+pub mod CallFailures

@@ -1,11 +1,11 @@
 -- What was so of a port at a moment of a call on it (11.24.2), and what the call asked of ports.
-use Rattle.std.specs.Prelude.{◌≡◌, ◌⊎◌, ◌≤◌, ℕ, suc, List, [], ◌∷◌, ◌++◌, true, false, Option, None, Some, option_map, Result, Ok, Err}
+use Rattle.std.specs.Prelude.{◌≡◌, ◌⊎◌, ◌≤◌, ℕ, List, [], ◌∷◌, ◌++◌, true, false, Option, None, Some, option_map, Result, Ok, Err}
 use Rattle.usb_port.specs.PortState.{PortState}
 use Rattle.usb_port.specs.Status.{seen}
 use Rattle.usb_port.specs.declared.status.PortStatus.{PortStatus}
-use Rattle.usb_device.specs.declared.calls.PortCall.{PortCall}
-use Rattle.usb_device.specs.Calls.{is_reset}
-use Rattle.usb_device.specs.Tree.{Ports, called, place}
+use Rattle.usb_port.specs.declared.call.PortCall.{PortCall}
+use Rattle.usb_port.specs.Calls.{is_reset}
+use Rattle.usb_device.specs.Tree.{Ports, called, place, path_to}
 use Rattle.usb_device.specs.View.{port_there}
 use Rattle.usb_world.specs.declared.types.Attempt.{Attempt}
 use Rattle.usb_world.specs.declared.types.BusFault.{BusFault}
@@ -17,15 +17,15 @@ use Rattle.usb_world.specs.Steps.{Step, attempt, root_call, event, report, after
 use Rattle.usb_world.specs.WayEffects.{spares}
 use Rattle.usb_world.specs.World.{World, Attempted}
 use Rattle.usb_address.specs.Claims.{Claims}
-use Rattle.usb_address.specs.Owned.{Owned, TillFault}
+use Rattle.usb_address.specs.Ownership.{Owned, TillFault}
 use Rattle.usb_transaction.specs.declared.target.Target.{Target}
 use Rattle.usb_transaction.specs.Failures.{NoThreeDamaged}
 use Rattle.usb_pipe.specs.declared.fault.PipeFault.{PipeFault}
 use Rattle.usb_pipe.specs.declared.fault.PipeFault.TheVariants.{Bus}
-use Rattle.usb_pipe.specs.Leaves.{IsNotOfBus}
+use Rattle.usb_pipe.specs.Leaves.{IsNoBusFault}
 use Rattle.usb_hub.specs.Addresses.{IsAt}
 use Rattle.usb_hub.specs.Requests.{AllRest}
-use Rattle.usb_hub.specs.Why.{Serves, NoHubFailed}
+use Rattle.usb_hub.specs.CallFailures.{Serves, NoHubFailed}
 use Rattle.usb_hub.specs.declared.port.HubPort.{HubPort}
 use Rattle.usb_hub.specs.declared.port.HubPort.TheVariants.{External}
 
@@ -53,7 +53,7 @@ pub record PortTold (p : List ℕ) (status : PortStatus) (old new : World) : Typ
 pub record TellsPort (port : HubPort) (old : World) (result : Result PortStatus PipeFault) (new : World) : Type 0 where
   pub tells : (f : Claims) (p : List ℕ) → IsAt f port p → TillFault (Owned f) old → (status : PortStatus) → result ≡ Ok status → PortTold p status old new
   pub why : (hub : Target) (number : ℕ) → port ≡ External hub number → NoThreeDamaged old → new.shared ≡ false → 8 ≤ hub.max → (serves : Serves hub number new)
-      → (b : PortState) → port_there old.roots (suc serves.j ∷ (serves.p ++ (number ∷ []))) ≡ Some b → NoHubFailed result
+      → (b : PortState) → port_there old.roots (path_to serves.spot ++ (number ∷ [])) ≡ Some b → NoHubFailed result
 
 -- A call at a port
 
@@ -104,7 +104,7 @@ pub record IsCall (f : Claims) (port : HubPort) (p : List ℕ) (call : Option Po
 -- that is reached in the end and serves the port.
 pub record CallsPort (port : HubPort) (call : Option PortCall) (old : World) (result : Result (Unit {0}) PipeFault) (new : World) : Type 0 where
   pub done : (f : Claims) (p : List ℕ) (c : PortCall) → IsCall f port p call c old → result ≡ Ok tt → PortDone p c old new
-  pub rests : (f : Claims) (p : List ℕ) (c : PortCall) → IsCall f port p call c old → IsNotOfBus result → (x : List ℕ) → is_way p x ≡ false → Course (AsksNothingOf x) old new
-  pub spares : (f : Claims) (p : List ℕ) (c : PortCall) → IsCall f port p call c old → IsNotOfBus result → spares c [] ≡ true → Course (Spares p) old new
+  pub rests : (f : Claims) (p : List ℕ) (c : PortCall) → IsCall f port p call c old → IsNoBusFault result → (x : List ℕ) → is_way p x ≡ false → Course (AsksNothingOf x) old new
+  pub spares : (f : Claims) (p : List ℕ) (c : PortCall) → IsCall f port p call c old → IsNoBusFault result → spares c [] ≡ true → Course (Spares p) old new
   pub cut : (f : Claims) (p : List ℕ) (c : PortCall) → IsCall f port p call c old → (fault : BusFault) → result ≡ Err (Bus fault) → UpToFault (IsAbout p c) old fault new
   pub why : (hub : Target) (number : ℕ) → port ≡ External hub number → NoThreeDamaged old → new.shared ≡ false → Serves hub number new → NoHubFailed result

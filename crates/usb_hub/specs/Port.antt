@@ -1,11 +1,12 @@
 -- What the calls on a port leave.
 use Rattle.std.specs.Prelude.{◌≡◌, ℕ, ◌+◌, ◌≤◌, List, Option, true, Result, Ok, IsOk}
+use Rattle.usb_request.specs.Features.{PORT_RESET, C_PORT_CONNECTION}
 use Rattle.usb_port.specs.Path.{IsPortNumber}
 use Rattle.usb_port.specs.Status.{seen, status_in}
 use Rattle.usb_port.specs.declared.status.PortStatus.{PortStatus}
 use Rattle.usb_world.specs.World.{World, IsRootPort, Spends, root_row, roots_of, to_come, root_port_at, changes}
 use Rattle.usb_world.specs.Steps.{SetsRoot, ClearsRoot}
-use Rattle.usb_bus.specs.Traced.{Traced, WentOn}
+use Rattle.usb_bus.specs.Traces.{Traced, WentOn}
 use Rattle.usb_request.specs.Requests.{get_port_status, set_port_feature, clear_port_feature}
 use Rattle.usb_transaction.specs.Transactions.{IsTarget}
 use Rattle.usb_pipe.specs.declared.fault.PipeFault.{PipeFault}
@@ -47,7 +48,7 @@ pub record RootSet (number feature : ℕ) (old : World) (result : Result (Unit {
   pub row : SetsRoot number feature old new
   pub quiet : TakesNoTime old new
   -- PORT_RESET sets no C_PORT_CONNECTION, PORT_POWER at most this port's
-  pub resets : feature ≡ 4 → Spends 0 old new
+  pub resets : feature ≡ PORT_RESET → Spends 0 old new
   pub powers : changes (root_row new) ≤ changes (root_row old) + 1
 
 pub record RootCleared (number feature : ℕ) (old : World) (result : Result (Unit {0}) PipeFault) (new : World) : Type 0 where
@@ -56,11 +57,11 @@ pub record RootCleared (number feature : ℕ) (old : World) (result : Result (Un
   pub quiet : TakesNoTime old new
   pub count : Spends 0 old new
   -- a set C_PORT_CONNECTION that is cleared is one less
-  pub served : feature ≡ 16 → (root_port_at old number).connection_changed ≡ true → changes (root_row new) + to_come new + 1 ≡ changes (root_row old) + to_come old
+  pub served : feature ≡ C_PORT_CONNECTION → (root_port_at old number).connection_changed ≡ true → changes (root_row new) + to_come new + 1 ≡ changes (root_row old) + to_come old
 
 -- the set of a port's feature as a course of the bus: PORT_RESET sets no C_PORT_CONNECTION of the root, PORT_POWER may
 abbrev pub SetWent : HubPort → ℕ → World → Option (List ℕ) → World → Option (List ℕ) → Type 0
-SetWent (Root number) feature old before new now = Traced old before new now × (feature ≡ 4 → Spends 0 old new)
+SetWent (Root number) feature old before new now = Traced old before new now × (feature ≡ PORT_RESET → Spends 0 old new)
 SetWent (External hub port) feature old before new now = WentOn 1600 old before new now
 
 abbrev pub PortRead : HubPort → World → Result PortStatus PipeFault → World → Type 0

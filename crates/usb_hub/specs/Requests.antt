@@ -12,17 +12,17 @@ use Rattle.usb_transaction.specs.declared.target.Target.{Target}
 use Rattle.usb_transaction.specs.Transactions.{Worked}
 use Rattle.usb_port.specs.Status.{has_bit}
 use Rattle.usb_address.specs.Claims.{Claims}
-use Rattle.usb_address.specs.Owned.{Owned}
+use Rattle.usb_address.specs.Ownership.{Owned}
 use Rattle.usb_pipe.specs.declared.fault.PipeFault.{PipeFault}
 use Rattle.usb_pipe.specs.declared.fault.PipeFault.TheVariants.{Stalled, Memory}
-use Rattle.usb_pipe.specs.Control.{Faults}
+use Rattle.usb_pipe.specs.Control.{FaultAfter}
 use Rattle.usb_pipe.specs.Stages.{Reads, Writes}
-use Rattle.usb_pipe.specs.Leaves.{IsNotOfBus}
+use Rattle.usb_pipe.specs.Leaves.{IsNoBusFault}
 use Rattle.usb_hub.specs.declared.status.DeviceStatus.{DeviceStatus}
 
 -- how few attempts came before each end of a request that takes so many transactions at least
 abbrev pub EndsAfter : {A : Type 0} → ℕ → World → Result A PipeFault → World → Type 0
-EndsAfter least old result new = MatchResult result (λ done. Worked least old new) (λ fault. Faults 1 old fault new)
+EndsAfter least old result new = MatchResult result (λ done. Worked least old new) (λ fault. FaultAfter 1 old fault new)
 
 -- over these steps nothing is asked of any port
 abbrev pub AllRest : World → World → Type 0
@@ -39,7 +39,7 @@ pub record AskedData (target : Target) (request : Setup) (old : World) (answer :
   pub ends : EndsAfter 3 old answer new
   pub stages : Reads target request old answer new
   pub most : IfOk answer (λ bytes. length bytes.items ≤ request.length)
-  pub rests : IsNotOfBus answer → AllRest old new
+  pub rests : IsNoBusFault answer → AllRest old new
 
 -- a target was ordered to do what has no data
 pub record Ordered (target : Target) (request : Setup) (old : World) (result : Result (Unit {0}) PipeFault) (new : World) : Type 0 where
@@ -48,9 +48,9 @@ pub record Ordered (target : Target) (request : Setup) (old : World) (result : R
   pub stages : Writes target request old result new
   pub room : result ≢ Err Memory
   -- a request that is not about ports asks nothing of any
-  pub rests : is_plain request ≡ true → IsNotOfBus result → AllRest old new
+  pub rests : is_plain request ≡ true → IsNoBusFault result → AllRest old new
   -- one that resets no port asks nothing but of ports below the target's device
-  pub elsewhere : is_harmless request ≡ true → IsNotOfBus result → RestBut target.addr old new
+  pub elsewhere : is_harmless request ≡ true → IsNoBusFault result → RestBut target.addr old new
 
 -- what an answer says that is to have so many bytes: one of another length is told as a stall
 abbrev pub said_in : {A : Type 0} → (List ℕ → A) → ℕ → Result (Vec ℕ) PipeFault → Result A PipeFault

@@ -5,7 +5,7 @@ use Rattle.usb_device.specs.Request.{is_value}
 use Rattle.usb_device.specs.Rows.{State}
 use Rattle.usb_device.specs.Bulk.{rested}
 use Rattle.usb_device.specs.Progress.{OnlyControl}
-use Rattle.usb_device.specs.Tree.{Ports, full, all_off, place_at}
+use Rattle.usb_device.specs.Tree.{Ports, full, all_off, Spot, place_on}
 use Rattle.usb_world.specs.World.{World}
 use Rattle.usb_world.specs.Steps.{Course}
 use Rattle.usb_world.specs.RestingPorts.{AsksNothingOf}
@@ -13,17 +13,17 @@ use Rattle.usb_transaction.specs.declared.target.Target.{Target}
 use Rattle.usb_transaction.specs.Leaves.{is_at}
 use Rattle.usb_pipe.specs.declared.fault.PipeFault.{PipeFault}
 use Rattle.usb_pipe.specs.declared.fault.PipeFault.TheVariants.{Stalled}
-use Rattle.usb_pipe.specs.Leaves.{CanEnd, IsNotOfBus, TookItOrLost}
+use Rattle.usb_pipe.specs.Leaves.{CanEnd, IsNoBusFault, TookItOrLost}
 
 -- A device was asked to take an address: nothing of it changed but where its transfer stands, and its address to this one. Where that is done, it
 -- took it at the host's ACK, or one loss more is counted; where it failed, neither.
-pub record AddressAsked (t : Target) (address : ℕ) (result : Result (Unit {0}) PipeFault) (old new : World) (j : ℕ) (p : List ℕ) (s v : State) : Type 0 where
+pub record AddressAsked (t : Target) (address : ℕ) (result : Result (Unit {0}) PipeFault) (old new : World) (x : Spot) (s v : State) : Type 0 where
   pub others : is_at s t ≡ false → v ≡ s
   pub frame : OnlyControl s v
   pub either : (v.registers ≡ s.registers) ⊎ (v.registers ≡ record s.registers { address = address })
   pub done : is_at s t ≡ true → result ≡ Ok tt → (s.spec.stalls.address ≡ false) × TookItOrLost address old new s v
   pub stalled : is_at s t ≡ true → result ≡ Err Stalled → s.spec.stalls.address ≡ true
-  pub failed : is_at s t ≡ true → (why : PipeFault) → result ≡ Err why → IsNotOfBus result → (v.registers ≡ s.registers) × (new.losses ≡ old.losses)
+  pub failed : is_at s t ≡ true → (why : PipeFault) → result ≡ Err why → IsNoBusFault result → (v.registers ≡ s.registers) × (new.losses ≡ old.losses)
   pub could : is_at s t ≡ true → CanEnd s.spec result
 
 -- it has an address, and the value is 0 or that of one of its configurations
@@ -43,13 +43,13 @@ pub record IsConfigured (value : ℕ) (s v : State) : Type 0 where
   pub fresh : IsFresh v
 
 -- at a moment of the call all ports of the device there were off, and nothing was asked of any port since
-pub record WentOff (new : World) (j : ℕ) (p : List ℕ) : Type 0 where
+pub record WentOff (new : World) (x : Spot) : Type 0 where
   pub now : World
   pub b : PortState
   pub state : State
   pub ports : Ports
-  pub off : place_at now.roots j p ≡ Some (full b state (all_off ports))
-  pub since : (x : List ℕ) → Course (AsksNothingOf x) now new
+  pub off : place_on now.roots x ≡ Some (full b state (all_off ports))
+  pub since : (path : List ℕ) → Course (AsksNothingOf path) now new
 
 -- where its transfer stands, its configuration and its endpoints: what a configuration may change
 abbrev pub OnlySet : State → State → Type 0
@@ -66,10 +66,10 @@ OnlySet s v =
     }
 
 -- A device was asked to take a configuration. Where that is done, it has it, and its ports went off; where it failed, it has it or has what it had.
-pub record ConfigurationAsked (t : Target) (value : ℕ) (result : Result (Unit {0}) PipeFault) (new : World) (j : ℕ) (p : List ℕ) (s v : State) : Type 0 where
+pub record ConfigurationAsked (t : Target) (value : ℕ) (result : Result (Unit {0}) PipeFault) (new : World) (x : Spot) (s v : State) : Type 0 where
   pub others : is_at s t ≡ false → v ≡ s
   pub frame : OnlySet s v
   pub either : (v.registers ≡ s.registers) ⊎ IsConfigured value s v
-  pub done : is_at s t ≡ true → result ≡ Ok tt → (s.spec.stalls.set_config ≡ false) × (takes_value s value ≡ true) × IsConfigured value s v × WentOff new j p
+  pub done : is_at s t ≡ true → result ≡ Ok tt → (s.spec.stalls.set_config ≡ false) × (takes_value s value ≡ true) × IsConfigured value s v × WentOff new x
   pub stalled : is_at s t ≡ true → result ≡ Err Stalled → (s.spec.stalls.set_config ≡ true) ⊎ (takes_value s value ≡ false)
   pub could : is_at s t ≡ true → CanEnd s.spec result

@@ -3,8 +3,8 @@ ghost use Rattle.std.specs.Prelude.{◌≡◌, ◌≤◌};
 ghost use Rattle.usb_transaction.specs.Transactions.{IsTarget};
 ghost use Rattle.usb_request.specs.Layout.{IsToHost, IsToDevice};
 ghost use Rattle.usb_pipe.specs.Control.{control_bound};
-ghost use Rattle.usb_bus.specs.Traced.{Went};
-ghost use Rattle.usb_address.specs.Owned.{KeepsAddresses};
+ghost use Rattle.usb_bus.specs.Traces.{Went};
+ghost use Rattle.usb_address.specs.Ownership.{KeepsAddresses};
 ghost use Rattle.usb_hub.specs.Addresses.{KeepsAnswered};
 ghost use Rattle.usb_hub.specs.Requests.{AskedData, Told, Ordered};
 
@@ -16,7 +16,7 @@ use usb_pipe::{Bus, PipeFault, Setup, Target, control_in, control_none};
 /// # Errors
 ///
 /// Those of `control_in`.
-#[tactic(auto, using(crate::proofs::Keeping::answered))]
+#[tactic(auto, using(crate::proofs::AddressesKept::answered))]
 pub(crate) fn ask<B: Bus>(
     alloc: Global,
     bus: &mut B,

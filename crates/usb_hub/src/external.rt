@@ -2,10 +2,11 @@
 ghost use Rattle.std.specs.Prelude.{◌≢◌};
 ghost use Rattle.usb_transaction.specs.Transactions.{IsTarget};
 ghost use Rattle.usb_port.specs.Status.{status_in};
+ghost use Rattle.usb_request.specs.declared.feature.TheConstants.{PORT_RESET};
 ghost use Rattle.usb_request.specs.Requests.{get_port_status, set_port_feature as set_feature, clear_port_feature as clear_feature};
 ghost use Rattle.usb_pipe.specs.Control.{control_bound};
-ghost use Rattle.usb_bus.specs.Traced.{Went};
-ghost use Rattle.usb_address.specs.Owned.{KeepsAddresses};
+ghost use Rattle.usb_bus.specs.Traces.{Went};
+ghost use Rattle.usb_address.specs.Ownership.{KeepsAddresses};
 ghost use Rattle.usb_hub.specs.Addresses.{KeepsDevices};
 ghost use Rattle.usb_hub.specs.Requests.{Told, Ordered};
 
@@ -41,7 +42,7 @@ pub fn hub_port_status<B: Bus>(
 /// # Errors
 ///
 /// Those of `control_none`; after `Busy` and `NoAnswer` the feature may be set.
-#[tactic(auto, using(crate::proofs::Keeping::set_keeps, crate::proofs::Devices::set_stays))]
+#[tactic(auto, using(crate::proofs::AddressesKept::set_keeps, crate::proofs::Devices::set_stays))]
 pub fn set_hub_port<B: Bus>(
     bus: &mut B,
     hub: Target,
@@ -52,8 +53,8 @@ pub fn set_hub_port<B: Bus>(
     ensures went { Went B.world B.trace 1600 bus.old bus.new }
     ensures ordered { Ordered hub (set_feature feature port)
         (B.world bus.old) result (B.world bus.new) }
-    ensures keeps { feature ≢ 4 → KeepsAddresses (B.world bus.old) (B.world bus.new) }
-    ensures devices { feature ≢ 4 → KeepsDevices (B.world bus.old) (B.world bus.new) }
+    ensures keeps { feature ≢ PORT_RESET → KeepsAddresses (B.world bus.old) (B.world bus.new) }
+    ensures devices { feature ≢ PORT_RESET → KeepsDevices (B.world bus.old) (B.world bus.new) }
 {
     order(bus, hub, Setup::set_port_feature(feature, port))
 }
@@ -63,7 +64,7 @@ pub fn set_hub_port<B: Bus>(
 /// # Errors
 ///
 /// Those of `control_none`; after `Busy` and `NoAnswer` the feature may be cleared.
-#[tactic(auto, using(crate::proofs::Keeping::cleared_keeps, crate::proofs::Devices::cleared_stays))]
+#[tactic(auto, using(crate::proofs::AddressesKept::cleared_keeps, crate::proofs::Devices::cleared_stays))]
 pub fn clear_hub_port<B: Bus>(
     bus: &mut B,
     hub: Target,

@@ -1,9 +1,9 @@
 //! The ports of hubs, the root's among them.
 ghost use Rattle.std.specs.Prelude.{◌≡◌, IfErr};
-ghost use Rattle.usb_device.specs.Calls.{set_call, clear_call};
-ghost use Rattle.usb_world.specs.World.{IsSetFeature, IsClearFeature};
-ghost use Rattle.usb_bus.specs.Traced.{Went};
-ghost use Rattle.usb_pipe.specs.Control.{Faults};
+ghost use Rattle.usb_port.specs.Calls.{set_call, clear_call};
+ghost use Rattle.usb_port.specs.Calls.{IsSetFeature, IsClearFeature};
+ghost use Rattle.usb_bus.specs.Traces.{Went};
+ghost use Rattle.usb_pipe.specs.Control.{FaultAfter};
 ghost use Rattle.usb_hub.specs.Addresses.{KeepsAsked, KeepsSet, KeepsCleared};
 ghost use Rattle.usb_hub.specs.Moments.{TellsPort, CallsPort};
 ghost use Rattle.usb_hub.specs.Port.{IsPort, PortRead, SetWent, PortSet, PortCleared, status_bound, order_bound};
@@ -35,7 +35,7 @@ pub fn port_status<B: Bus>(
 ) -> Result<PortStatus, PipeFault>
     requires { IsPort (B.world bus.old) port }
     ensures went { Went B.world B.trace (status_bound port) bus.old bus.new }
-    ensures fault { IfErr result (λ fault. Faults 1 (B.world bus.old) fault (B.world bus.new)) }
+    ensures fault { IfErr result (λ fault. FaultAfter 1 (B.world bus.old) fault (B.world bus.new)) }
     ensures status { PortRead port (B.world bus.old) result (B.world bus.new) }
     ensures told { TellsPort port (B.world bus.old) result (B.world bus.new) }
     ensures addresses { KeepsAsked port (B.world bus.old) result (B.world bus.new) }
@@ -52,14 +52,14 @@ pub fn port_status<B: Bus>(
 ///
 /// None at a root port. At a hub's port those of `control_none`; after `Busy` and `NoAnswer` the
 /// feature may be set.
-#[tactic(auto, using(crate::proofs::Keeping::root_set_keeps, crate::proofs::Keeping::hub_set_keeps))]
+#[tactic(auto, using(crate::proofs::AddressesKept::root_set_keeps, crate::proofs::AddressesKept::hub_set_keeps))]
 pub fn set_port<B: Bus>(bus: &mut B, port: HubPort, feature: u16) -> Result<(), PipeFault>
     requires port { IsPort (B.world bus.old) port }
     requires named { IsSetFeature feature }
     // PORT_POWER of a root port may set its C_PORT_CONNECTION.
     ensures went { SetWent port feature (B.world bus.old) (B.trace bus.old)
         (B.world bus.new) (B.trace bus.new) }
-    ensures fault { IfErr result (λ fault. Faults 1 (B.world bus.old) fault (B.world bus.new)) }
+    ensures fault { IfErr result (λ fault. FaultAfter 1 (B.world bus.old) fault (B.world bus.new)) }
     ensures effect { PortSet port feature (B.world bus.old) result (B.world bus.new) }
     ensures addresses { KeepsSet port feature (B.world bus.old) (B.world bus.new) }
     ensures ports { CallsPort port (set_call feature) (B.world bus.old) result (B.world bus.new) }
@@ -79,12 +79,12 @@ pub fn set_port<B: Bus>(bus: &mut B, port: HubPort, feature: u16) -> Result<(), 
 ///
 /// None at a root port. At a hub's port those of `control_none`; after `Busy` and `NoAnswer` the
 /// feature may be cleared.
-#[tactic(auto, using(crate::proofs::Keeping::hub_clear_keeps))]
+#[tactic(auto, using(crate::proofs::AddressesKept::hub_clear_keeps))]
 pub fn clear_port<B: Bus>(bus: &mut B, port: HubPort, feature: u16) -> Result<(), PipeFault>
     requires port { IsPort (B.world bus.old) port }
     requires named { IsClearFeature feature }
     ensures went { Went B.world B.trace (order_bound port) bus.old bus.new }
-    ensures fault { IfErr result (λ fault. Faults 1 (B.world bus.old) fault (B.world bus.new)) }
+    ensures fault { IfErr result (λ fault. FaultAfter 1 (B.world bus.old) fault (B.world bus.new)) }
     ensures effect { PortCleared port feature (B.world bus.old) result (B.world bus.new) }
     ensures addresses { KeepsCleared port feature (B.world bus.old) result (B.world bus.new) }
     ensures ports { CallsPort port (clear_call feature) (B.world bus.old) result (B.world bus.new) }

@@ -1,15 +1,15 @@
 //! The standard's requests to a device (9.4).
 ghost use Rattle.std.specs.Prelude.{◌≡◌, ◌≤◌, false};
-ghost use Rattle.usb_bus.specs.Traced.{Went};
+ghost use Rattle.usb_bus.specs.Traces.{Went};
 ghost use Rattle.usb_world.specs.Devices.{EachWas};
 ghost use Rattle.usb_transaction.specs.Transactions.{IsTarget};
 ghost use Rattle.usb_transaction.specs.Failures.{NoThreeDamaged};
 ghost use Rattle.usb_pipe.specs.Control.{control_bound};
 ghost use Rattle.usb_pipe.specs.Failures.{WhyWrite};
 ghost use Rattle.usb_request.specs.Requests.{get_device_descriptor, get_configuration_descriptor, get_string_descriptor, get_hub_descriptor, get_status as status_request, set_address as address_request, set_configuration as configuration_request};
-ghost use Rattle.usb_address.specs.Owned.{KeepsAddresses};
+ghost use Rattle.usb_address.specs.Ownership.{KeepsAddresses};
 ghost use Rattle.usb_hub.specs.Addresses.{KeepsAnswered, GivesAddress};
-ghost use Rattle.usb_hub.specs.Asked.{DeviceAsked, ConfigAsked, StringAsked, HubAsked, StatusAsked, WhyAsked};
+ghost use Rattle.usb_hub.specs.GivenAnswers.{DeviceAsked, ConfigAsked, StringAsked, HubAsked, StatusAsked, WhyAsked};
 ghost use Rattle.usb_hub.specs.Requests.{AskedData, Told, Ordered, device_status};
 ghost use Rattle.usb_hub.specs.Settings.{AddressAsked, ConfigurationAsked};
 
@@ -163,7 +163,7 @@ pub fn get_status<B: Bus>(
 /// # Errors
 ///
 /// Those of `control_none`; after `Busy` and `NoAnswer` the device may have the address.
-#[tactic(auto, using(crate::proofs::Keeping::gives))]
+#[tactic(auto, using(crate::proofs::AddressesKept::gives))]
 pub fn set_address<B: Bus>(bus: &mut B, target: Target, address: u8) -> Result<(), PipeFault>
     requires target { IsTarget target }
     requires least { 1 ≤ address }
@@ -187,7 +187,7 @@ pub fn set_address<B: Bus>(bus: &mut B, target: Target, address: u8) -> Result<(
 /// # Errors
 ///
 /// Those of `control_none`; after `Busy` and `NoAnswer` the device may be configured.
-#[tactic(auto, using(crate::proofs::Keeping::configured))]
+#[tactic(auto, using(crate::proofs::AddressesKept::configured))]
 pub fn set_configuration<B: Bus>(bus: &mut B, target: Target, value: u8) -> Result<(), PipeFault>
     requires target { IsTarget target }
     ensures went { Went B.world B.trace 1600 bus.old bus.new }

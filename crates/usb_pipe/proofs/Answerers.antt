@@ -8,7 +8,7 @@ use Rattle.usb_packet.specs.declared.Toggle.TheVariants.{One}
 use Rattle.usb_request.specs.Layout.{bytes_of, setup_of, IsToHost}
 use Rattle.usb_request.specs.declared.setup.Setup.{Setup}
 use Rattle.usb_device.specs.Rows.{State}
-use Rattle.usb_device.specs.Tree.{reach_at, state_at}
+use Rattle.usb_device.specs.Tree.{Spot, reach_on, state_on}
 use Rattle.usb_world.specs.Courses.{is_harmless}
 use Rattle.usb_world.specs.Devices.{Relation, Was}
 use Rattle.usb_world.specs.Passes.{IsSettled}
@@ -17,7 +17,7 @@ use Rattle.usb_world.specs.World.{World}
 use Rattle.usb_world.specs.declared.types.Attempt.{Attempt}
 use Rattle.usb_world.proofs.Interface.{equal_same}
 use Rattle.usb_transaction.specs.Answerer.{Answerer, HadOne, IsAnswer as TransIsAnswer}
-use Rattle.usb_transaction.specs.Heard.{heard_as, sent_as}
+use Rattle.usb_transaction.specs.HeardOutcomes.{heard_as, heard_when_sent}
 use Rattle.usb_transaction.specs.Leaves.{ControlIn, is_at, SourceIn, SinkOut}
 use Rattle.usb_transaction.specs.SparedDevices.{IsSpared}
 use Rattle.usb_transaction.specs.Trail.{Ended, Transacted}
@@ -27,7 +27,7 @@ use Rattle.usb_transaction.specs.declared.fault.TransFault.TheVariants as trans
 use Rattle.usb_transaction.specs.declared.target.Target.{Target}
 use Rattle.usb_transaction.proofs.Interface.{transacted_unshared, control_in_leaves, had_address, had_one, poll_answered, poll_had, read_answered, read_had, set_up_had, sink_over, source_over, wait_answered, write_answered, write_had}
 use Rattle.usb_pipe.specs.Bulk.{Bulk, Sends, Receives}
-use Rattle.usb_pipe.specs.Control.{fault_of}
+use Rattle.usb_pipe.specs.Control.{as_pipe_fault}
 use Rattle.usb_pipe.specs.End.{packet_target}
 use Rattle.usb_pipe.specs.Interrupt.{Interrupt, Polls}
 use Rattle.usb_pipe.specs.Leaves.{IsTransferAnswer}
@@ -45,38 +45,38 @@ use Rattle.usb_pipe.proofs.ControlSteps.{ended_settled, ended_unshared, host_har
 -- Devices at the target's address
 
 -- a reachable device at a place has it
-record HasIt (t : Target) (w : World) (j : ℕ) (p : List ℕ) : Type 0 where
+record HasIt (t : Target) (w : World) (j : Spot) : Type 0 where
   state : State
-  on : reach_at w.roots j p ≡ true
-  stands : state_at w.roots j p ≡ Some state
+  on : reach_on w.roots j ≡ true
+  stands : state_on w.roots j ≡ Some state
   at : is_at state t ≡ true
 
 -- transactions leave the address where it is: what has it after them had it before
 record Passed (t : Target) (old new : World) : Type 0 where
   settled : IsSettled old.roots → IsSettled new.roots
   unshared : new.shared ≡ false → old.shared ≡ false
-  kept : IsSettled old.roots → new.shared ≡ false → (j : ℕ) (p : List ℕ) → HasIt t new j p → HasIt t old j p
+  kept : IsSettled old.roots → new.shared ≡ false → (j : Spot) → HasIt t new j → HasIt t old j
 
 passed_none : (t : Target) (w : World) → Passed t w w
-passed_none t w = record { settled = λ h. h; unshared = λ h. h; kept = λ h single j p d. d }
+passed_none t w = record { settled = λ h. h; unshared = λ h. h; kept = λ h single j d. d }
 
 passed_then : {t : Target} {old mid new : World} → Passed t old mid → Passed t mid new → Passed t old new
 passed_then x y = record {
   settled = λ h. y.settled (x.settled h);
   unshared = λ h. x.unshared (y.unshared h);
-  kept = λ h single j p d. x.kept h (y.unshared single) j p (y.kept (x.settled h) single j p d);
+  kept = λ h single j d. x.kept h (y.unshared single) j (y.kept (x.settled h) single j d);
 }
 
 -- one that ended, where it changes no device with another address
-passed_one : {t : Target} {hear : _} {a : Attempt} {old new : World} {result : Result (List ℕ) TransFault} (R : Relation) → ((j : ℕ) (p : List ℕ) (s v : State) → R j p s v → is_at s t ≡ false → v ≡ s)
-    → (IsSettled old.roots → new.shared ≡ false → (j : ℕ) (p : List ℕ) (s : State) → reach_at new.roots j p ≡ true → state_at new.roots j p ≡ Some s → is_at s t ≡ true → Was R old j p s)
+passed_one : {t : Target} {hear : _} {a : Attempt} {old new : World} {result : Result (List ℕ) TransFault} (R : Relation) → ((j : Spot) (s v : State) → R j s v → is_at s t ≡ false → v ≡ s)
+    → (IsSettled old.roots → new.shared ≡ false → (j : Spot) (s : State) → reach_on new.roots j ≡ true → state_on new.roots j ≡ Some s → is_at s t ≡ true → Was R old j s)
     → Ended hear a old result new → Passed t old new
 passed_one {t} {old = old} R others each e = record {
   settled = ended_settled e;
   unshared = ended_unshared e;
-  kept = λ h single j p d.
-      let was : Was R old j p d.state = each h single j p d.state d.on d.stands d.at in
-      record { state = was.before; on = was.on; stands = was.stands; at = had_address t was.before d.state (others j p was.before d.state was.so) d.at };
+  kept = λ h single j d.
+      let was : Was R old j d.state = each h single j d.state d.on d.stands d.at in
+      record { state = was.before; on = was.on; stands = was.stands; at = had_address t was.before d.state (others j was.before d.state was.so) d.at };
 }
 
 -- a device at an address that is not 0 was not reset
@@ -85,21 +85,21 @@ spared_at t request s addressed at h = (addressed h, λ e. addressed h (sym (equ
 
 set_up_passed : (t : Target) (request : Setup) {old new : World} → (is_harmless request ≡ false → t.addr ≢ 0) → setup_of (bytes_of request) ≡ request → SetUp t request old (Ok []) new → Passed t old new
 set_up_passed t request {old} {new} addressed same e =
-    passed_one (Requested t request (Ok []) old new) (λ j p s v x. x.done.others)
-    (λ h single j p s on there at. requested_leaves t request (Ok []) old new same h e single j p s on there (spared_at t request s addressed at)) e
+    passed_one (Requested t request (Ok []) old new) (λ j s v x. x.done.others)
+    (λ h single j s on there at. requested_leaves t request (Ok []) old new same h e single j s on there (spared_at t request s addressed at)) e
 
 -- an IN of endpoint 0, one of a bulk endpoint, and an OUT of one
 asked_passed : (t : Target) (awaited : Toggle) (bytes : List ℕ) {old new : World} → Ended (heard_as awaited) (in_attempt t 0) old (Ok bytes) new → Passed t old new
 asked_passed t awaited bytes {old} {new} e =
-    passed_one (ControlIn t awaited (Ok bytes)) (λ j p s v x. x.others) (λ h single j p s on there at. control_in_leaves t awaited (Ok bytes) old new h e single j p s on there) e
+    passed_one (ControlIn t awaited (Ok bytes)) (λ j s v x. x.others) (λ h single j s on there at. control_in_leaves t awaited (Ok bytes) old new h e single j s on there) e
 
 fetched_passed : (t : Target) (ep : ℕ) (awaited : Toggle) (bytes : List ℕ) {old new : World} → Ended (heard_as awaited) (in_attempt t ep) old (Ok bytes) new → Passed t old new
 fetched_passed t ep awaited bytes {old} {new} e =
-    passed_one (SourceIn t ep awaited (Ok bytes)) (λ j p s v x. x.others) (λ h single j p s on there at. source_over t ep awaited (Ok bytes) old new h e single j p s on there) e
+    passed_one (SourceIn t ep awaited (Ok bytes)) (λ j s v x. x.others) (λ h single j s on there at. source_over t ep awaited (Ok bytes) old new h e single j s on there) e
 
-put_passed : (t : Target) (ep : ℕ) (toggle : Toggle) (bytes : List ℕ) {old new : World} → Ended sent_as (out_attempt t ep toggle bytes) old (Ok []) new → Passed t old new
+put_passed : (t : Target) (ep : ℕ) (toggle : Toggle) (bytes : List ℕ) {old new : World} → Ended heard_when_sent (out_attempt t ep toggle bytes) old (Ok []) new → Passed t old new
 put_passed t ep toggle bytes {old} {new} e =
-    passed_one (SinkOut t ep toggle bytes (Ok [])) (λ j p s v x. x.others) (λ h single j p s on there at. sink_over t ep toggle bytes (Ok []) old new h e single j p s on there) e
+    passed_one (SinkOut t ep toggle bytes (Ok [])) (λ j s v x. x.others) (λ h single j s on there at. sink_over t ep toggle bytes (Ok []) old new h e single j s on there) e
 
 -- the packets of a transfer
 
@@ -123,17 +123,17 @@ came_passed t ep first (moves.packet {n} bytes c fetches full) = passed_then (ca
 answered : {t : Target} {old mid new : World} → Passed t old mid → IsSettled old.roots → mid.shared ≡ false → (IsSettled mid.roots → Answerer t mid new) → Answerer t old new
 answered {t} {old} {mid} {new} x settled single last =
     let a : Answerer t mid new = last (x.settled settled) in
-    let had : HasIt t old a.j a.p = x.kept settled single a.j a.p (record { state = a.before; on = a.was_on; stands = a.stood; at = a.at }) in
-    record { j = a.j; p = a.p; now = a.now; on = a.on; stands = a.stands; before = had.state; was_on = had.on; stood = had.stands; at = had.at }
+    let had : HasIt t old a.spot = x.kept settled single a.spot (record { state = a.before; on = a.was_on; stands = a.stood; at = a.at }) in
+    record { spot = a.spot; now = a.now; on = a.on; stands = a.stands; before = had.state; was_on = had.on; stood = had.stands; at = had.at }
 
 -- it is the device of the pipe
 of_device : (t : Target) (max : ℕ) {old new : World} → Answerer (packet_target t max) old new → Answerer t old new
-of_device t max a = record { j = a.j; p = a.p; now = a.now; on = a.on; stands = a.stands; before = a.before; was_on = a.was_on; stood = a.stood; at = a.at }
+of_device t max a = record { spot = a.spot; now = a.now; on = a.on; stands = a.stands; before = a.before; was_on = a.was_on; stood = a.stood; at = a.at }
 
 -- Faults that are answers
 
 -- the transaction's is one, too
-trans_answer : (why : PipeFault) (fault : TransFault) → why ≡ fault_of fault → IsTransferAnswer why → TransIsAnswer fault
+trans_answer : (why : PipeFault) (fault : TransFault) → why ≡ as_pipe_fault fault → IsTransferAnswer why → TransIsAnswer fault
 trans_answer why trans.Stalled e y = tt
 trans_answer why trans.Busy e y = tt
 trans_answer why trans.NoAnswer e y = absurd (subst IsTransferAnswer e y)
@@ -145,12 +145,12 @@ failed_had : {t : Target} (hear : _) (a : Attempt) {old mid : World} (new : Worl
 failed_had {t} hear a {old} {mid} new fault x settled lost single last =
     let later : IsSettled mid.roots = x.settled settled in
     let h : HadOne t mid = last later in
-    let had : HasIt t old h.j h.p = x.kept settled (transacted_unshared hear a mid new (Err fault) lost later single) h.j h.p (record { state = h.state; on = h.on; stands = h.stands; at = h.at }) in
-    record { j = h.j; p = h.p; state = had.state; on = had.on; stands = had.stands; at = had.at }
+    let had : HasIt t old h.spot = x.kept settled (transacted_unshared hear a mid new (Err fault) lost later single) h.spot (record { state = h.state; on = h.on; stands = h.stands; at = h.at }) in
+    record { spot = h.spot; state = had.state; on = had.on; stands = had.stands; at = had.at }
 
 -- the device of the pipe
 had_of_device : (t : Target) (max : ℕ) {w : World} → HadOne (packet_target t max) w → HadOne t w
-had_of_device t max h = record { j = h.j; p = h.p; state = h.state; on = h.on; stands = h.stands; at = h.at }
+had_of_device t max h = record { spot = h.spot; state = h.state; on = h.on; stands = h.stands; at = h.at }
 
 -- Control transfers
 
@@ -187,7 +187,7 @@ who_read_had t request why old new host same settled y (inr (inl x)) single =
           had_one (answered (passed_then set_up (goes_passed t d.before)) settled (ended_unshared d.came single) (λ h. read_answered t 0 (flips d.packets One) d.last d.mid new h d.came single))
     ]
 who_read_had t request why old new host same settled y (inr (inr x)) single =
-    failed_had sent_as (out_attempt t 0 One []) new x.fault (passed_then (set_up_passed t request (host_addressed t request host) same x.set_up) (stage_passed t x.data_stage)) settled x.status single
+    failed_had heard_when_sent (out_attempt t 0 One []) new x.fault (passed_then (set_up_passed t request (host_addressed t request host) same x.set_up) (stage_passed t x.data_stage)) settled x.status single
     (λ h. write_had t 0 One [] x.fault x.second new h (trans_answer why x.fault x.told y) x.status single)
 
 pub who_write_had : (t : Target) (request : Setup) (why : PipeFault) (old new : World) → setup_of (bytes_of request) ≡ request → (is_harmless request ≡ false → t.addr ≢ 0)
@@ -231,7 +231,7 @@ module _ (pipe : Bulk) (why : PipeFault) (old new : World) (settled : IsSettled 
   not_gone_had : (total : List ℕ) → NotGone Packets pipe.ep pipe.toggle total old why new → HadOne pipe.target old
   not_gone_had total x =
       had_of_device pipe.target pipe.max
-      (failed_had sent_as (out_attempt Packets pipe.ep (flips x.packets pipe.toggle) (take pipe.max x.rest)) new x.fault (gave_passed Packets pipe.ep pipe.toggle x.before) settled x.lost single
+      (failed_had heard_when_sent (out_attempt Packets pipe.ep (flips x.packets pipe.toggle) (take pipe.max x.rest)) new x.fault (gave_passed Packets pipe.ep pipe.toggle x.before) settled x.lost single
       (λ h. write_had Packets pipe.ep (flips x.packets pipe.toggle) (take pipe.max x.rest) x.fault x.mid new h (trans_answer why x.fault x.told y) x.lost single))
 
   not_come_had : (wanted : ℕ) → NotCame Packets pipe.ep pipe.toggle wanted old why new ⊎ NoRoomLeft Packets pipe.ep pipe.toggle wanted old why new → HadOne pipe.target old

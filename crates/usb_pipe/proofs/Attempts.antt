@@ -14,18 +14,18 @@ use Rattle.usb_world.specs.Steps.{Course, here, Step, attempt}
 use Rattle.usb_world.specs.declared.types.Attempt.{Attempt}
 use Rattle.usb_world.specs.declared.types.BusFault.{BusFault}
 use Rattle.usb_world.specs.declared.types.Outcome.{Outcome}
-use Rattle.usb_world.proofs.Interface.{course_joined, course_wider}
+use Rattle.usb_world.proofs.Interface.{course_joined, course_then, course_wider}
 use Rattle.usb_transaction.specs.declared.target.Target.{Target}
 use Rattle.usb_transaction.specs.declared.fault.TransFault.{TransFault}
 use Rattle.usb_transaction.specs.declared.fault.TransFault.TheVariants as trans
 use Rattle.usb_transaction.specs.Attempts.{IsOnly}
-use Rattle.usb_transaction.specs.Heard.{heard_as, sent_as, set_up_as}
+use Rattle.usb_transaction.specs.HeardOutcomes.{heard_as, heard_when_sent, set_up_as}
 use Rattle.usb_transaction.specs.Trail.{Ended, CutOff, Trail, start as none_yet, next, GoesOn, Transacted}
 use Rattle.usb_transaction.specs.Transactions.{in_attempt, out_attempt, setup_attempt}
-use Rattle.usb_transaction.proofs.Interface.{course_then, polled_attempts, trail_course}
+use Rattle.usb_transaction.proofs.Interface.{polled_attempts, trail_course}
 use Rattle.usb_pipe.specs.Attempts.{IsOfTransfer, TransferAttempts}
 use Rattle.usb_pipe.specs.Bulk.{Bulk, halt_address, Receives, Clears, Sends}
-use Rattle.usb_pipe.specs.Control.{fault_of}
+use Rattle.usb_pipe.specs.Control.{as_pipe_fault}
 use Rattle.usb_pipe.specs.End.{packet_target}
 use Rattle.usb_pipe.specs.Interrupt.{Interrupt, Polls, PollAsked}
 use Rattle.usb_pipe.specs.Leaves.{IsBehind}
@@ -43,7 +43,7 @@ use Rattle.usb_pipe.proofs.ControlSteps.{ended}
 pub in_behind : {t : Target} (awaited : Toggle) {old new : World} {result : Result (List ℕ) TransFault} → Ended (heard_as awaited) (in_attempt t 0) old result new → Course (IsBehind t) old new
 in_behind awaited e = trail_course (λ w made. inl refl) e.trail
 
-pub out_behind : {t : Target} {old new : World} {result : Result (List ℕ) TransFault} → Ended sent_as (out_attempt t 0 One []) old result new → Course (IsBehind t) old new
+pub out_behind : {t : Target} {old new : World} {result : Result (List ℕ) TransFault} → Ended heard_when_sent (out_attempt t 0 One []) old result new → Course (IsBehind t) old new
 out_behind e = trail_course (λ w made. inr refl) e.trail
 
 pub goes_behind : {t : Target} {wanted : ℕ} {old : World} {n : ℕ} {got : List ℕ} {new : World} → Goes t wanted old n got new → Course (IsBehind t) old new
@@ -66,7 +66,7 @@ module _ (K : Step → World → Type 0) (hear : _) (a : Attempt) {mid : World} 
   last_kind (next w r made) on = course_then (attempt a) (trail_kind r on) (kind _ _ r on)
 
   -- a transfer that failed as its last transaction did
-  lost_kind : {A : Type 0} {old new : World} (why : PipeFault) (fault : TransFault) → why ≡ fault_of fault → Course K old mid → Transacted hear a mid (Err fault) new → TransferAttempts {A = A} K old (Err why) new
+  lost_kind : {A : Type 0} {old new : World} (why : PipeFault) (fault : TransFault) → why ≡ as_pipe_fault fault → Course K old mid → Transacted hear a mid (Err fault) new → TransferAttempts {A = A} K old (Err why) new
   lost_kind {A} {old} {new} why fault told c x = record {
     whole = λ n. let o = ended A why fault told n x in course_joined c (last_kind o.trail o.onward);
     cut = λ f e.
@@ -91,7 +91,7 @@ module _ (t : Target) (request : Setup) where
   asked_first : {old new : World} → SetUp t request old (Ok []) new → Course K old new
   asked_first e = trail_course (λ w made. inl refl) e.trail
 
-  no_set_up : {A : Type 0} (why : PipeFault) (fault : TransFault) (old new : World) → why ≡ fault_of fault → SetUp t request old (Err fault) new → TransferAttempts {A = A} K old (Err why) new
+  no_set_up : {A : Type 0} (why : PipeFault) (fault : TransFault) (old new : World) → why ≡ as_pipe_fault fault → SetUp t request old (Err fault) new → TransferAttempts {A = A} K old (Err why) new
   no_set_up why fault old new told x = lost_kind K set_up_as (setup_attempt t (bytes_of request)) (λ o w r on. inl refl) why fault told (here old) x
 
   no_data : (why : PipeFault) (old mid new : World) → Course K old mid → DataLost t request.length mid why new ⊎ NoRoom t request.length mid why new → TransferAttempts {A = Vec ℕ} K old (Err why) new
@@ -103,7 +103,7 @@ module _ (t : Target) (request : Setup) where
   read_attempts (Err why) old new (inl x) = no_set_up why x.fault old new x.told x.set_up
   read_attempts (Err why) old new (inr (inl x)) = no_data why old x.mid new (asked_first x.set_up) x.data_stage
   read_attempts (Err why) old new (inr (inr x)) =
-      lost_kind K sent_as (out_attempt t 0 One []) (λ o w r on. inr (inr refl)) why x.fault x.told (course_joined (asked_first x.set_up) (behind (stage_behind x.data_stage))) x.status
+      lost_kind K heard_when_sent (out_attempt t 0 One []) (λ o w r on. inr (inr refl)) why x.fault x.told (course_joined (asked_first x.set_up) (behind (stage_behind x.data_stage))) x.status
 
   pub write_attempts : (result : Result (Unit {0}) PipeFault) (old new : World) → Writes t request old result new → TransferAttempts (IsOfTransfer t request) old result new
   write_attempts (Ok u) old new x = record { whole = λ n. course_joined (asked_first x.set_up) (behind (in_behind One x.status)); cut = λ f e. cc e }
@@ -155,7 +155,7 @@ module _ (t : Target) (ep : ℕ) (first : Toggle) (total : List ℕ) (old : Worl
   Kind = SendsAt t ep first total old
 
   moment_is : {n : ℕ} {sent : List ℕ} {mid : World} (rest : List ℕ) → Gave t ep first old n sent mid → length sent ≡ n * t.max → total ≡ sent ++ rest → (outcomes : List Outcome) (w : World)
-      → Trail (out_attempt t ep (flips n first) (take t.max rest)) mid outcomes w → GoesOn sent_as outcomes → Kind (attempt (out_attempt t ep (flips n first) (take t.max rest))) w
+      → Trail (out_attempt t ep (flips n first) (take t.max rest)) mid outcomes w → GoesOn heard_when_sent outcomes → Kind (attempt (out_attempt t ep (flips n first) (take t.max rest))) w
   moment_is {n} {sent} {mid} rest g full split outcomes w r on =
       record { moment = record { packets = n; sent = sent; rest = rest; mid = mid; before = g; full = full; split = split; outcomes = outcomes; trail = r; onward = on }; is = refl }
 
@@ -166,13 +166,13 @@ module _ (t : Target) (ep : ℕ) (first : Toggle) (total : List ℕ) (old : Worl
       let j = length-append sent bytes in
       let front : take t.max (bytes ++ rest) ≡ bytes = front_is t.max bytes rest fits (λ lt. let f = full lt in omega (arith, j, f, even)) in
       let behind : total ≡ sent ++ (bytes ++ rest) = split ∙ append_assoc sent bytes rest in
-      let went : Ended sent_as (out_attempt t ep (flips n first) (take t.max (bytes ++ rest))) mid (Ok []) now = rw front puts in
-      course_joined (gave_course g (bytes ++ rest) behind (λ lt. even)) (last_kind Kind sent_as _ (moment_is (bytes ++ rest) g even behind) went.trail went.onward)
+      let went : Ended heard_when_sent (out_attempt t ep (flips n first) (take t.max (bytes ++ rest))) mid (Ok []) now = rw front puts in
+      course_joined (gave_course g (bytes ++ rest) behind (λ lt. even)) (last_kind Kind heard_when_sent _ (moment_is (bytes ++ rest) g even behind) went.trail went.onward)
 
   send_ends : (result : Result (Unit {0}) PipeFault) (new : World) → SendEnds t ep first total old result new → TransferAttempts Kind old result new
   send_ends (Ok done) new x = record { whole = λ n. gave_course x.gone [] (sym (append-nil total)) (λ lt. absurd (omega (arith, lt))); cut = λ f e. cc e }
   send_ends (Err why) new x =
-      lost_kind Kind sent_as (out_attempt t ep (flips x.packets first) (take t.max x.rest)) (moment_is x.rest x.before x.full x.split) why x.fault x.told (gave_course x.before x.rest x.split (λ lt. x.full)) x.lost
+      lost_kind Kind heard_when_sent (out_attempt t ep (flips x.packets first) (take t.max x.rest)) (moment_is x.rest x.before x.full x.split) why x.fault x.told (gave_course x.before x.rest x.split (λ lt. x.full)) x.lost
 
 pub send_attempts : (bytes : List ℕ) (pipe : Bulk) (result : Result (Unit {0}) PipeFault) (left : Bulk) (old new : World)
     → Sends bytes pipe old result left new → TransferAttempts (SendsAt (packet_target pipe.target pipe.max) pipe.ep pipe.toggle bytes old) old result new

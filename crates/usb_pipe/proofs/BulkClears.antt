@@ -1,10 +1,11 @@
 -- What a clear of a halt leaves of each device, why it fails, and the record of a call.
+use Rattle.usb_device.specs.Tree.{Spot}
 use Rattle.std.proofs.Common.{◌≡◌, ◌≢◌, ◌⊎◌, inl, inr, ◌∙◌, refl, sym, ap, arith, false, true, Bool, ℕ, ◌+◌, ◌*◌, ◌/◌, ◌%◌, ◌<◌, ◌==◌, List, [], ◌∷◌, Option, None, Some, Result, Ok, Err, MatchResult}
 use Rattle.std.specs.Prelude.{⊤}
 use Rattle.std.proofs.lemmas.Bool.Decides.{nat_tests}
 use Rattle.usb_descriptor.specs.declared.fault.DescriptorFault.{DescriptorFault}
 use Rattle.usb_descriptor.specs.declared.item.Item.{Item}
-use Rattle.usb_descriptor.specs.Choice.{counts_after, picked, first_from, first_counting, in_config, bulk_out_at, bulk_out_of, bulk_at as bulk_in_text}
+use Rattle.usb_descriptor.specs.Choice.{counts_after, picked, first_from, first_counting, in_config, bulk_out_at, bulk_out_of, bulk_described as bulk_in_text}
 use Rattle.usb_request.specs.declared.setup.Setup.{Setup}
 use Rattle.usb_request.specs.Layout.{bytes_of, setup_of}
 use Rattle.usb_request.specs.Requests.{clear_endpoint_halt}
@@ -30,9 +31,9 @@ use Rattle.usb_pipe.specs.declared.condition.Condition.TheVariants.{Ready, Broke
 use Rattle.usb_pipe.specs.declared.fault.PipeFault.{PipeFault}
 use Rattle.usb_pipe.specs.declared.fault.PipeFault.TheVariants as pipe_fault
 use Rattle.usb_pipe.specs.Bulk.{Bulk, is_ready, halt_address, cleared, Cleared, Clears}
-use Rattle.usb_pipe.specs.Control.{Faults}
+use Rattle.usb_pipe.specs.Control.{FaultAfter}
 use Rattle.usb_pipe.specs.Failures.{WhyWrite}
-use Rattle.usb_pipe.specs.Leaves.{EffectOrNone, none, some, whole, WasRefused, WriteLeaves, FitsSink, FitsSource, ClearLeaves, IsNotOfBus}
+use Rattle.usb_pipe.specs.Leaves.{EffectOrNone, none, some, whole, WasRefused, WriteLeaves, FitsSink, FitsSource, ClearLeaves, IsNoBusFault}
 use Rattle.usb_pipe.specs.Transfers.{BulkClear}
 use Rattle.usb_pipe.proofs.BulkCalls.{clear_by}
 use Rattle.usb_pipe.proofs.ControlSteps.{only_stage}
@@ -121,7 +122,8 @@ OnlyRested which s v = OnlyStage (with_pipe s which rested) v
 registers_kept : (which : Which) (s : State) → (with_pipe s which rested).registers ≡ s.registers
 registers_kept which s = grind arith
 
-given_registers : (address : Option ℕ) (s v : State) → address ≡ None → StatusGiven address s v → v.registers ≡ s.registers
+-- a status stage that gives no address leaves the registers
+pub given_registers : (address : Option ℕ) (s v : State) → address ≡ None → StatusGiven address s v → v.registers ≡ s.registers
 given_registers address s v e x = grind arith
 
 module _ (request : Setup) (which : Which) (s : State) (is : outcome s.spec s.registers request ≡ unhalts which) where
@@ -134,20 +136,20 @@ module _ (request : Setup) (which : Which) (s : State) (is : outcome s.spec s.re
       let none : address ≡ None = cc (sym (ap (first_stage row request.length) is) ∙ h) in
       accepted_rests row v o (given_registers address (accepted s row request) v none g)
 
-  failed_rests : {t : _} {fault : PipeFault} {old : World} {j : ℕ} {p : List ℕ} (v : State) → EffectOrNone t request fault old j p s v → OnlyStage s v ⊎ OnlyRested which s v
+  failed_rests : {t : _} {fault : PipeFault} {old : World} {j : Spot} (v : State) → EffectOrNone t request fault old j s v → OnlyStage s v ⊎ OnlyRested which s v
   failed_rests v (none o e) = inl (only_stage s v o e)
   failed_rests v (some row now m o e) = inr (accepted_rests row v o e)
   failed_rests v (whole why told row now m o a h g) = inr (ended_rests row a v h g o)
 
-  not_refused : {t : _} {old new : World} {j : ℕ} {p : List ℕ} → WasRefused t request old new j p s → ⊥
+  not_refused : {t : _} {old new : World} {j : Spot} → WasRefused t request old new j s → ⊥
   not_refused r = cc (sym (ap (first_stage r.row request.length) is) ∙ r.is)
 
 -- One device and its pipe
 
 -- a clear that is done
-done_leaves : (pipe : Bulk) (done : Unit {0}) → is_ready pipe.condition ≡ false → {old new : World} (j : ℕ) (p : List ℕ) (s v : State) → WriteLeaves pipe.target (clear_of pipe) (Ok done) old new j p s v
-    → ClearLeaves pipe (Ok done) (cleared pipe (Ok done)) j p s v
-done_leaves pipe done unready j p s v x = record {
+done_leaves : (pipe : Bulk) (done : Unit {0}) → is_ready pipe.condition ≡ false → {old new : World} (j : Spot) (s v : State) → WriteLeaves pipe.target (clear_of pipe) (Ok done) old new j s v
+    → ClearLeaves pipe (Ok done) (cleared pipe (Ok done)) j s v
+done_leaves pipe done unready j s v x = record {
   others = x.others;
   sink = λ at out f.
       let d = x.done at done refl in
@@ -169,9 +171,9 @@ failed_source : (pipe : Bulk) (got : ℕ) (s v : State) → FitsSource pipe got 
     → FitsSource (record pipe { condition = Broken }) got v × (v.place ≡ s.place) × ((v.bulk_in ≡ s.bulk_in) ⊎ (v.bulk_in ≡ rested))
 failed_source pipe got s v f o = grind arith
 
-failed_leaves : (pipe : Bulk) (why : PipeFault) (old new : World) → Faults 1 old why new → (j : ℕ) (p : List ℕ) (s v : State)
-    → WriteLeaves pipe.target (clear_of pipe) (Err why) old new j p s v → ClearLeaves pipe (Err why) (cleared pipe (Err why)) j p s v
-failed_leaves pipe why old new ends j p s v x = record {
+failed_leaves : (pipe : Bulk) (why : PipeFault) (old new : World) → FaultAfter 1 old why new → (j : Spot) (s v : State)
+    → WriteLeaves pipe.target (clear_of pipe) (Err why) old new j s v → ClearLeaves pipe (Err why) (cleared pipe (Err why)) j s v
+failed_leaves pipe why old new ends j s v x = record {
   others = x.others;
   sink = λ at out f.
       let is = asks_out pipe s out f.endpoint in
@@ -184,8 +186,8 @@ failed_leaves pipe why old new ends j p s v x = record {
 }
 
 -- one that makes no request
-ready_leaves : (pipe : Bulk) → is_ready pipe.condition ≡ true → (j : ℕ) (p : List ℕ) (s : State) → ClearLeaves pipe (Ok tt) pipe j p s s
-ready_leaves pipe ready j p s = grind arith
+ready_leaves : (pipe : Bulk) → is_ready pipe.condition ≡ true → (j : Spot) (s : State) → ClearLeaves pipe (Ok tt) pipe j s s
+ready_leaves pipe ready j s = grind arith
 
 not_ready : (c : Condition) → c ≢ Ready → is_ready c ≡ false
 not_ready c n = grind arith
@@ -200,15 +202,15 @@ clear_leaves pipe result left old new x single =
     sent : is_ready pipe.condition ≡ false → (r : Result (Unit {0}) PipeFault) → Cleared pipe old r left new → EachWas (ClearLeaves pipe r (cleared pipe r)) old new
     sent unready r y = by_result r y.ends (spared_all pipe.target (clear_of pipe) _ old new (harmless _) (write_leaves pipe.target (clear_of pipe) r old new (no_data _) (same_request _) y.settled y.stages single))
       where
-        by_result : (r : Result (Unit {0}) PipeFault) → MatchResult r (λ done. Worked 2 old new) (λ why. Faults 1 old why new) → EachWas (WriteLeaves pipe.target (clear_of pipe) r old new) old new
+        by_result : (r : Result (Unit {0}) PipeFault) → MatchResult r (λ done. Worked 2 old new) (λ why. FaultAfter 1 old why new) → EachWas (WriteLeaves pipe.target (clear_of pipe) r old new) old new
             → EachWas (ClearLeaves pipe r (cleared pipe r)) old new
         by_result (Ok done) ends w = each_wider _ _ (done_leaves pipe done unready) old new w
         by_result (Err why) ends w = each_wider _ _ (failed_leaves pipe why old new ends) old new w
 
 clear_why : (pipe : Bulk) (result : Result (Unit {0}) PipeFault) (left : Bulk) (old new : World)
-    → NoThreeDamaged old → Clears pipe old result left new → IsNotOfBus result → new.shared ≡ false → EachWas (WhyWrite pipe.target result) old new
+    → NoThreeDamaged old → Clears pipe old result left new → IsNoBusFault result → new.shared ≡ false → EachWas (WhyWrite pipe.target result) old new
 clear_why pipe result left old new three x sound single =
-    clear_by (EachWas (WhyWrite pipe.target result) old new) (λ ready i. rw (i.answer, i.world_kept) (each_none _ (λ j p s. record { answered = λ l e. cc e; waited = λ l idle few e. cc e }) old))
+    clear_by (EachWas (WhyWrite pipe.target result) old new) (λ ready i. rw (i.answer, i.world_kept) (each_none _ (λ j s. record { answered = λ l e. cc e; waited = λ l idle few e. cc e }) old))
     (λ unready y. spared_all pipe.target (clear_of pipe) _ old new (harmless _) (write_why pipe.target (clear_of pipe) result old new (no_data _) (same_request _) y.settled three y.stages sound single)) x
 
 pub clear_told : (pipe : Bulk) (result : Result (Unit {0}) PipeFault) (left : Bulk) (old new : World) → Clears pipe old result left new → BulkClear pipe old result left new

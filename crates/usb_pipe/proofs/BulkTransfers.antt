@@ -1,4 +1,5 @@
 -- Bulk transfers: what sending and receiving leave of each device, in the end and at each moment, why they fail, and the record of a call.
+use Rattle.usb_device.specs.Tree.{Spot}
 use Rattle.std.proofs.Common.{◌≡◌, ◌≢◌, ◌∙◌, ◌⊎◌, inl, inr, refl, sym, ap, subst, arith, false, true, ℕ, ◌+◌, ◌-◌, ◌*◌, ◌<◌, ◌≤◌, List, [], ◌++◌, length, take, drop, Result, Ok, Err, OnOk}
 use Rattle.std.proofs.Common.{append_assoc, append-nil, drop-drop, length-append, length-drop, length-take, mul-le-mul_right, take-add, take-append-drop}
 use Rattle.std.specs.Global.{Vec}
@@ -17,7 +18,7 @@ use Rattle.usb_transaction.specs.declared.fault.TransFault.{TransFault}
 use Rattle.usb_transaction.specs.declared.fault.TransFault.TheVariants as trans
 use Rattle.usb_transaction.specs.Answerer.{Answerer}
 use Rattle.usb_transaction.specs.Failures.{NoThreeDamaged, Listens, WhySinkOut, WhySourceIn}
-use Rattle.usb_transaction.specs.Heard.{heard_as, sent_as}
+use Rattle.usb_transaction.specs.HeardOutcomes.{heard_as, heard_when_sent}
 use Rattle.usb_transaction.specs.Leaves.{is_at, SinkEnds, SinkOut, SinkBetween, SourceIn}
 use Rattle.usb_transaction.specs.Trail.{Ended}
 use Rattle.usb_transaction.specs.Transactions.{in_attempt, out_attempt}
@@ -27,10 +28,10 @@ use Rattle.usb_pipe.specs.declared.condition.Condition.TheVariants.{Ready, Halte
 use Rattle.usb_pipe.specs.declared.fault.PipeFault.{PipeFault}
 use Rattle.usb_pipe.specs.declared.fault.PipeFault.TheVariants as pipe_fault
 use Rattle.usb_pipe.specs.Bulk.{Bulk, after_fault, Sent, Sends, Received, Receives}
-use Rattle.usb_pipe.specs.Control.{Faults, fault_of}
+use Rattle.usb_pipe.specs.Control.{FaultAfter, as_pipe_fault}
 use Rattle.usb_pipe.specs.End.{packet_target}
 use Rattle.usb_pipe.specs.Failures.{WhySend, WhyReceive}
-use Rattle.usb_pipe.specs.Leaves.{IsNotOfBus, known, came_with, FitsSink, FrontTaken, SendLeaves, SendingLeaves, FitsSource, ReceiveLeaves}
+use Rattle.usb_pipe.specs.Leaves.{IsNoBusFault, pipe_known, came_with, FitsSink, FrontTaken, SendLeaves, SendingLeaves, FitsSource, ReceiveLeaves}
 use Rattle.usb_pipe.specs.Moves.{Gave, Came, start, packet, NotGone, WhileSending, AllCame, NotCame, NoRoomLeft}
 use Rattle.usb_pipe.specs.Toggles.{flips}
 use Rattle.usb_pipe.specs.Transfers.{Unshared, BulkSend, BulkReceive}
@@ -50,19 +51,19 @@ turned_on : (n : ℕ) (first toggle : Toggle) → toggle ≡ other (flips n firs
 turned_on n first toggle e = flips_more n first (flips n first) toggle refl e
 
 -- the packets of an endpoint have a maximum of their own
-listens_packet : (t : Target) (max : ℕ) (p : List ℕ) (s u : State) → u.spec ≡ s.spec → u.registers ≡ s.registers → Listens t p s → Listens (packet_target t max) p u
-listens_packet t max p s u e f l = let k = listens_on t p s u e f l in record { at = k.at; loud = k.loud; hears = k.hears }
+listens_packet : (t : Target) (max : ℕ) (place : Spot) (s u : State) → u.spec ≡ s.spec → u.registers ≡ s.registers → Listens t place s → Listens (packet_target t max) place u
+listens_packet t max place s u e f l = let k = listens_on t place s u e f l in record { at = k.at; loud = k.loud; hears = k.hears }
 
 -- What packets that were acknowledged leave of one device
 
-record GaveLeaves (t : Target) (ep : ℕ) (first : Toggle) (n : ℕ) (sent : List ℕ) (j : ℕ) (p : List ℕ) (s v : State) : Type 0 where
+record GaveLeaves (t : Target) (ep : ℕ) (first : Toggle) (n : ℕ) (sent : List ℕ) (j : Spot) (s v : State) : Type 0 where
   others : is_at s t ≡ false → v ≡ s
   frame : IsSink ep t.max s → OnlySink s v
   sink : is_at s t ≡ true → IsSink ep t.max s → s.bulk_out.toggle ≡ first → (v.sink ≡ s.sink ++ sent) × (v.bulk_out.toggle ≡ flips n first)
   halted : is_at s t ≡ true → IsSink ep t.max s → s.bulk_out.halted ≡ true → (v ≡ s) × (sent ≡ [])
 
 -- the endpoint behind them, which awaits the next one
-module _ {t : Target} {ep : ℕ} {first : Toggle} {n : ℕ} {sent : List ℕ} {j : ℕ} {p : List ℕ} {s u : State} (x : GaveLeaves t ep first n sent j p s u) (i : IsSink ep t.max s) where
+module _ {t : Target} {ep : ℕ} {first : Toggle} {n : ℕ} {sent : List ℕ} {j : Spot} {s u : State} (x : GaveLeaves t ep first n sent j s u) (i : IsSink ep t.max s) where
   sink_then : IsSink ep t.max u
   sink_then = sink_kept ep t.max s u (x.frame i) i
 
@@ -78,13 +79,13 @@ module _ {t : Target} {ep : ℕ} {first : Toggle} {n : ℕ} {sent : List ℕ} {j
   sink_frame : (v : State) → ((most : ℕ) → IsSink ep most u → OnlySink u v) → OnlySink s v
   sink_frame v f = f t.max sink_then ∙ ap {A = State} (λ q. record q { memory = v.memory; bulk_out = v.bulk_out; sink = v.sink; until_halt = v.until_halt }) (x.frame i)
 
-gave_none : (t : Target) (ep : ℕ) (first : Toggle) (j : ℕ) (p : List ℕ) (s : State) → GaveLeaves t ep first 0 [] j p s s
+gave_none : (t : Target) (ep : ℕ) (first : Toggle) (j : Spot) (s : State) → GaveLeaves t ep first 0 [] j s s
 unfolding flips
-gave_none t ep first j p s = record { others = λ h. refl; frame = λ i. refl; sink = λ h i e. (sym (append-nil s.sink), e); halted = λ h i c. (refl, refl) }
+gave_none t ep first j s = record { others = λ h. refl; frame = λ i. refl; sink = λ h i e. (sym (append-nil s.sink), e); halted = λ h i c. (refl, refl) }
 
-gave_then : (t : Target) (ep : ℕ) (first : Toggle) (n : ℕ) (sent bytes : List ℕ) → length bytes ≤ t.max → (j : ℕ) (p : List ℕ) (s u v : State)
-    → GaveLeaves t ep first n sent j p s u → SinkOut t ep (flips n first) bytes (Ok []) j p u v → GaveLeaves t ep first (n + 1) (sent ++ bytes) j p s v
-gave_then t ep first n sent bytes fits j p s u v x y = record {
+gave_then : (t : Target) (ep : ℕ) (first : Toggle) (n : ℕ) (sent bytes : List ℕ) → length bytes ≤ t.max → (j : Spot) (s u v : State)
+    → GaveLeaves t ep first n sent j s u → SinkOut t ep (flips n first) bytes (Ok []) j u v → GaveLeaves t ep first (n + 1) (sent ++ bytes) j s v
+gave_then t ep first n sent bytes fits j s u v x y = record {
   others = other_twice t s u v x.others y.others;
   frame = λ i. sink_frame x i v y.frame;
   sink = λ h i e.
@@ -106,7 +107,7 @@ gave_damages (packet bytes g full some fits puts) = ended_damages puts ∙ gave_
 
 -- A packet that did not go
 
-lost_at : (before bytes : List ℕ) (t : Toggle) (why : PipeFault) (fault : TransFault) (v : State) → why ≡ fault_of fault → SinkEnds before bytes t (Err fault) v → SinkAt before bytes t v × (why ≡ pipe_fault.Stalled → v.bulk_out.halted ≡ true)
+lost_at : (before bytes : List ℕ) (t : Toggle) (why : PipeFault) (fault : TransFault) (v : State) → why ≡ as_pipe_fault fault → SinkEnds before bytes t (Err fault) v → SinkAt before bytes t v × (why ≡ pipe_fault.Stalled → v.bulk_out.halted ≡ true)
 lost_at before bytes t why fault v told x = grind arith
 
 front_at : (total sent rest : List ℕ) (k : ℕ) (t : Toggle) (s v : State) → total ≡ sent ++ rest → SinkAt (s.sink ++ sent) (take k rest) t v → FrontTaken total s v
@@ -127,22 +128,22 @@ fits_packet max rest = let l = length-take max rest in omega (arith, l)
 -- One device and its pipe
 
 -- a call that makes no attempt
-idle_leaves : (bytes : List ℕ) (pipe : Bulk) (given : Result (Unit {0}) PipeFault) → known given pipe ≡ pipe → OnOk given (bytes ≡ []) → (j : ℕ) (p : List ℕ) (s : State) → SendLeaves bytes pipe given pipe j p s s
-idle_leaves bytes pipe given same none j p s = grind (arith, none_taken, append-nil)
+idle_leaves : (bytes : List ℕ) (pipe : Bulk) (given : Result (Unit {0}) PipeFault) → pipe_known given pipe ≡ pipe → OnOk given (bytes ≡ []) → (j : Spot) (s : State) → SendLeaves bytes pipe given pipe j s s
+idle_leaves bytes pipe given same none j s = grind (arith, none_taken, append-nil)
 
 module _ (bytes : List ℕ) (pipe left : Bulk) (n : ℕ) (works : pipe.condition ≢ Broken) where
-  abbrev Given : List ℕ → ℕ → List ℕ → State → State → Type 0
+  abbrev Given : List ℕ → Spot → State → State → Type 0
   Given sent = GaveLeaves (end_of pipe) pipe.ep pipe.toggle n sent
 
   -- all went
   all_sent : (done : Unit {0}) → bytes ≢ [] → left ≡ record pipe { toggle = left.toggle; condition = Ready } → left.toggle ≡ flips n pipe.toggle
-      → (j : ℕ) (p : List ℕ) (s v : State) → Given bytes j p s v → SendLeaves bytes pipe (Ok done) left j p s v
-  all_sent done some e turned j p s v x = grind (arith, x.sink, x.halted, x.others, x.frame, sink_then)
+      → (j : Spot) (s v : State) → Given bytes j s v → SendLeaves bytes pipe (Ok done) left j s v
+  all_sent done some e turned j s v x = grind (arith, x.sink, x.halted, x.others, x.frame, sink_then)
 
   -- one did not go, behind others that did
-  lost_sent : (old new : World) (sent rest : List ℕ) (why : PipeFault) (fault : TransFault) → Faults 0 old why new → bytes ≡ sent ++ rest → why ≡ fault_of fault → left ≡ record pipe { toggle = left.toggle; condition = after_fault pipe.condition why }
-      → (j : ℕ) (p : List ℕ) (s u v : State) → Given sent j p s u → SinkOut (end_of pipe) pipe.ep (flips n pipe.toggle) (take pipe.max rest) (Err fault) j p u v → SendLeaves bytes pipe (Err why) left j p s v
-  lost_sent old new sent rest why fault ends split told e j p s u v x y = grind (arith, other_twice, frame, lost, sink_kept, x.others, y.others)
+  lost_sent : (old new : World) (sent rest : List ℕ) (why : PipeFault) (fault : TransFault) → FaultAfter 0 old why new → bytes ≡ sent ++ rest → why ≡ as_pipe_fault fault → left ≡ record pipe { toggle = left.toggle; condition = after_fault pipe.condition why }
+      → (j : Spot) (s u v : State) → Given sent j s u → SinkOut (end_of pipe) pipe.ep (flips n pipe.toggle) (take pipe.max rest) (Err fault) j u v → SendLeaves bytes pipe (Err why) left j s v
+  lost_sent old new sent rest why fault ends split told e j s u v x y = grind (arith, other_twice, frame, lost, sink_kept, x.others, y.others)
     where
       frame : IsSink pipe.ep pipe.max s → OnlySink s v
       frame i = sink_frame x i v y.frame
@@ -182,38 +183,38 @@ send_leaves bytes pipe result left old new x single =
 
 -- why it fails
 
-lost_send : (pipe : Bulk) (n : ℕ) (sent rest : List ℕ) (why : PipeFault) (fault : TransFault) → why ≡ fault_of fault → (j : ℕ) (p : List ℕ) (s u v : State)
-    → GaveLeaves (end_of pipe) pipe.ep pipe.toggle n sent j p s u → WhySinkOut (end_of pipe) pipe.ep (flips n pipe.toggle) (take pipe.max rest) (Err fault) j p u v
-    → WhySend pipe (Err why) j p s v
-lost_send pipe n sent rest why fault told j p s u v x y = record {
+lost_send : (pipe : Bulk) (n : ℕ) (sent rest : List ℕ) (why : PipeFault) (fault : TransFault) → why ≡ as_pipe_fault fault → (j : Spot) (s u v : State)
+    → GaveLeaves (end_of pipe) pipe.ep pipe.toggle n sent j s u → WhySinkOut (end_of pipe) pipe.ep (flips n pipe.toggle) (take pipe.max rest) (Err fault) j u v
+    → WhySend pipe (Err why) j s v
+lost_send pipe n sent rest why fault told j s u v x y = record {
   answered = λ l i e. y.answered (hears l i) pipe.max (sink_then x i) (fits_packet pipe.max rest) (same_fault (Unit {0}) why fault trans.NoAnswer told e);
   waited = λ l i e. y.waited (hears l i) pipe.max (sink_then x i) (same_fault (Unit {0}) why fault trans.Busy told e);
 }
   where
-    hears : Listens pipe.target p s → IsSink pipe.ep pipe.max s → Listens (end_of pipe) p u
-    hears l i = listens_packet pipe.target pipe.max p s u (ap (λ q. q.spec) (x.frame i)) (ap (λ q. q.registers) (x.frame i)) l
+    hears : Listens pipe.target j s → IsSink pipe.ep pipe.max s → Listens (end_of pipe) j u
+    hears l i = listens_packet pipe.target pipe.max j s u (ap (λ q. q.spec) (x.frame i)) (ap (λ q. q.registers) (x.frame i)) l
 
 module _ (bytes : List ℕ) (pipe left : Bulk) (old new : World) (single : new.shared ≡ false) where
   -- an answer that is neither fault
   never_sent : (result : Result (Unit {0}) PipeFault) → Sends bytes pipe old result left new → result ≢ Err pipe_fault.NoAnswer → result ≢ Err pipe_fault.Busy → EachWas (WhySend pipe result) old new
   never_sent result x answered waited =
-      each_wider (SendLeaves bytes pipe result left) _ (λ j p s v y. record { answered = λ l i. answered; waited = λ l i. waited }) old new (send_leaves bytes pipe result left old new x single)
+      each_wider (SendLeaves bytes pipe result left) _ (λ j s v y. record { answered = λ l i. answered; waited = λ l i. waited }) old new (send_leaves bytes pipe result left old new x single)
 
-  send_why : (result : Result (Unit {0}) PipeFault) → NoThreeDamaged old → Sends bytes pipe old result left new → IsNotOfBus result → EachWas (WhySend pipe result) old new
+  send_why : (result : Result (Unit {0}) PipeFault) → NoThreeDamaged old → Sends bytes pipe old result left new → IsNoBusFault result → EachWas (WhySend pipe result) old new
   send_why (Ok done) three x sound = never_sent (Ok done) x (λ e. cc e) (λ e. cc e)
   send_why (Err why) three x sound =
       send_by (EachWas (WhySend pipe (Err why)) old new) (λ i. never_sent (Err why) x (λ e. cc (i.answer, e)) (λ e. cc (i.answer, e))) (λ none i. cc i.answer) (λ works some y.
       let g : NotGone (end_of pipe) pipe.ep pipe.toggle bytes old why new = y.went in
-      let over : Ended sent_as (out_attempt (end_of pipe) pipe.ep (flips g.packets pipe.toggle) (take pipe.max g.rest)) g.mid (Err g.fault) new = ended (Unit {0}) why g.fault g.told sound g.lost in
+      let over : Ended heard_when_sent (out_attempt (end_of pipe) pipe.ep (flips g.packets pipe.toggle) (take pipe.max g.rest)) g.mid (Err g.fault) new = ended (Unit {0}) why g.fault g.told sound g.lost in
       each_joined _ _ _ (lost_send pipe g.packets g.sent g.rest why g.fault g.told) old g.mid new (gave_leaves (end_of pipe) pipe.ep pipe.toggle y.settled g.before (ended_unshared over single))
       (sink_why (end_of pipe) pipe.ep (flips g.packets pipe.toggle) (take pipe.max g.rest) (Err g.fault) g.mid new (gave_settled g.before y.settled) (never_three old g.mid (gave_damages g.before) three) over single)) x
 
 -- At each moment: behind the packets before, the one that is being sent has joined what the device took, or not yet
 
-sending_then : (sent rest : List ℕ) (pipe : Bulk) (n : ℕ) (j : ℕ) (p : List ℕ) (s u v : State)
-    → GaveLeaves (end_of pipe) pipe.ep pipe.toggle n sent j p s u → SinkBetween (end_of pipe) pipe.ep (flips n pipe.toggle) (take pipe.max rest) j p u v
-    → SendingLeaves sent (take pipe.max rest) (flips n pipe.toggle) pipe j p s v
-sending_then sent rest pipe n j p s u v x y = record {
+sending_then : (sent rest : List ℕ) (pipe : Bulk) (n : ℕ) (j : Spot) (s u v : State)
+    → GaveLeaves (end_of pipe) pipe.ep pipe.toggle n sent j s u → SinkBetween (end_of pipe) pipe.ep (flips n pipe.toggle) (take pipe.max rest) j u v
+    → SendingLeaves sent (take pipe.max rest) (flips n pipe.toggle) pipe j s v
+sending_then sent rest pipe n j s u v x y = record {
   others = other_twice pipe.target s u v x.others y.others;
   frame = λ i. sink_frame x i v y.frame;
   way = λ h e f. let i = f.endpoint in y.sink (sink_at x i h) pipe.max (s.sink ++ sent) (sink_then x i) (fits_packet pipe.max rest) (sink_level x i (take pipe.max rest) h (f.level e));
@@ -238,14 +239,14 @@ next_place got bytes xs place max now =
 
 -- What packets that came leave of one device
 
-record CameLeaves (t : Target) (ep : ℕ) (first : Toggle) (n : ℕ) (got : List ℕ) (j : ℕ) (p : List ℕ) (s v : State) : Type 0 where
+record CameLeaves (t : Target) (ep : ℕ) (first : Toggle) (n : ℕ) (got : List ℕ) (j : Spot) (s v : State) : Type 0 where
   others : is_at s t ≡ false → v ≡ s
   frame : IsSource ep t.max s → OnlySource s v
   source : is_at s t ≡ true → IsSource ep t.max s → (place : ℕ) → SourceAt t.max place first s → (got ≡ take (length got) (drop place s.spec.source)) × SourceAt t.max (place + length got) (flips n first) v
   still : is_at s t ≡ true → IsSource ep t.max s → s.bulk_in.halted ≡ true → (v ≡ s) × (n ≡ 0)
 
 -- the endpoint behind them
-module _ {t : Target} {ep : ℕ} {first : Toggle} {n : ℕ} {got : List ℕ} {j : ℕ} {p : List ℕ} {s u : State} (x : CameLeaves t ep first n got j p s u) (i : IsSource ep t.max s) where
+module _ {t : Target} {ep : ℕ} {first : Toggle} {n : ℕ} {got : List ℕ} {j : Spot} {s u : State} (x : CameLeaves t ep first n got j s u) (i : IsSource ep t.max s) where
   source_then : IsSource ep t.max u
   source_then = source_kept ep t.max s u (x.frame i) i
 
@@ -258,13 +259,13 @@ module _ {t : Target} {ep : ℕ} {first : Toggle} {n : ℕ} {got : List ℕ} {j 
   source_frame : (v : State) → ((most : ℕ) → IsSource ep most u → OnlySource u v) → OnlySource s v
   source_frame v f = f t.max source_then ∙ ap {A = State} (λ q. record q { memory = v.memory; bulk_in = v.bulk_in; place = v.place }) (x.frame i)
 
-came_none : (t : Target) (ep : ℕ) (first : Toggle) (j : ℕ) (p : List ℕ) (s : State) → CameLeaves t ep first 0 [] j p s s
+came_none : (t : Target) (ep : ℕ) (first : Toggle) (j : Spot) (s : State) → CameLeaves t ep first 0 [] j s s
 unfolding flips
-came_none t ep first j p s = record { others = λ h. refl; frame = λ i. refl; source = λ h i place at. (refl, subst (λ k. SourceAt t.max k first s) (omega arith) at); still = λ h i c. (refl, refl) }
+came_none t ep first j s = record { others = λ h. refl; frame = λ i. refl; source = λ h i place at. (refl, subst (λ k. SourceAt t.max k first s) (omega arith) at); still = λ h i c. (refl, refl) }
 
-came_then : (t : Target) (ep : ℕ) (first : Toggle) (n : ℕ) (got bytes : List ℕ) → 1 ≤ t.max → (j : ℕ) (p : List ℕ) (s u v : State)
-    → CameLeaves t ep first n got j p s u → SourceIn t ep (flips n first) (Ok bytes) j p u v → CameLeaves t ep first (n + 1) (got ++ bytes) j p s v
-came_then t ep first n got bytes least j p s u v x y = record {
+came_then : (t : Target) (ep : ℕ) (first : Toggle) (n : ℕ) (got bytes : List ℕ) → 1 ≤ t.max → (j : Spot) (s u v : State)
+    → CameLeaves t ep first n got j s u → SourceIn t ep (flips n first) (Ok bytes) j u v → CameLeaves t ep first (n + 1) (got ++ bytes) j s v
+came_then t ep first n got bytes least j s u v x y = record {
   others = other_twice t s u v x.others y.others;
   frame = λ i. source_frame x i v y.frame;
   source = λ h i place at.
@@ -298,8 +299,8 @@ came_damages (packet bytes c fetches full) = ended_damages fetches ∙ came_dama
 
 -- all came
 all_came : (pipe left : Bulk) (bytes : Vec ℕ) (n : ℕ) → pipe.condition ≢ Broken → left ≡ record pipe { toggle = left.toggle; condition = Ready } → left.toggle ≡ flips (n + 1) pipe.toggle
-    → (j : ℕ) (p : List ℕ) (s v : State) → CameLeaves (end_of pipe) pipe.ep pipe.toggle (n + 1) bytes.items j p s v → ReceiveLeaves pipe (Ok bytes) left j p s v
-all_came pipe left bytes n works e turned j p s v x = record {
+    → (j : Spot) (s v : State) → CameLeaves (end_of pipe) pipe.ep pipe.toggle (n + 1) bytes.items j s v → ReceiveLeaves pipe (Ok bytes) left j s v
+all_came pipe left bytes n works e turned j s v x = record {
   others = x.others;
   frame = x.frame;
   fits = λ h place f. subst (λ l. FitsSource l (place + length bytes.items) v) (sym e) (record {
@@ -315,26 +316,26 @@ all_came pipe left bytes n works e turned j p s v x = record {
     came h place f = ready_or _ pipe.condition works (λ r. x.source h f.endpoint place (f.level r)) (λ r. let none = (x.still h f.endpoint (f.halted r)).1 in absurd (omega (arith, none)))
 
 -- where a call fails, no more is known of the endpoint than that it is the one it was, and that it is halted where it answered STALL
-lost_came : (old new : World) (pipe left : Bulk) (why : PipeFault) → Faults 0 old why new → left ≡ record pipe { toggle = left.toggle; condition = after_fault pipe.condition why }
-    → (j : ℕ) (p : List ℕ) (s v : State) → (is_at s pipe.target ≡ false → v ≡ s) → (IsSource pipe.ep pipe.max s → OnlySource s v)
-    → (why ≡ pipe_fault.Stalled → is_at s pipe.target ≡ true → IsSource pipe.ep pipe.max s → v.bulk_in.halted ≡ true) → ReceiveLeaves pipe (Err why) left j p s v
-lost_came old new pipe left why ends e j p s v others frame halted = grind (arith, source_kept, others, frame, halted)
+lost_came : (old new : World) (pipe left : Bulk) (why : PipeFault) → FaultAfter 0 old why new → left ≡ record pipe { toggle = left.toggle; condition = after_fault pipe.condition why }
+    → (j : Spot) (s v : State) → (is_at s pipe.target ≡ false → v ≡ s) → (IsSource pipe.ep pipe.max s → OnlySource s v)
+    → (why ≡ pipe_fault.Stalled → is_at s pipe.target ≡ true → IsSource pipe.ep pipe.max s → v.bulk_in.halted ≡ true) → ReceiveLeaves pipe (Err why) left j s v
+lost_came old new pipe left why ends e j s v others frame halted = grind (arith, source_kept, others, frame, halted)
 
 -- a call that makes no attempt
-idle_came : (pipe : Bulk) (result : Result (Vec ℕ) PipeFault) → known result pipe ≡ pipe → came_with result ≡ 0 → ((bytes : Vec ℕ) → result ≡ Ok bytes → bytes.items ≡ []) → (j : ℕ) (p : List ℕ) (s : State)
-    → ReceiveLeaves pipe result pipe j p s s
-idle_came pipe result same size none j p s = grind (arith, none)
+idle_came : (pipe : Bulk) (result : Result (Vec ℕ) PipeFault) → pipe_known result pipe ≡ pipe → came_with result ≡ 0 → ((bytes : Vec ℕ) → result ≡ Ok bytes → bytes.items ≡ []) → (j : Spot) (s : State)
+    → ReceiveLeaves pipe result pipe j s s
+idle_came pipe result same size none j s = grind (arith, none)
 
 -- a packet that did not come, behind others that did
-module _ (wanted : ℕ) (pipe : Bulk) (n : ℕ) (got : List ℕ) (why : PipeFault) (fault : TransFault) (works : pipe.condition ≢ Broken) (least : 1 ≤ pipe.max) (told : why ≡ fault_of fault)
-    (few : n < wanted) (full : length got ≡ n * pipe.max) (j : ℕ) (p : List ℕ) (s u v : State) (x : CameLeaves (end_of pipe) pipe.ep pipe.toggle n got j p s u) where
-  lost_then : (old new : World) (left : Bulk) → Faults 0 old why new → left ≡ record pipe { toggle = left.toggle; condition = after_fault pipe.condition why }
-      → SourceIn (end_of pipe) pipe.ep (flips n pipe.toggle) (Err fault) j p u v → ReceiveLeaves pipe (Err why) left j p s v
+module _ (wanted : ℕ) (pipe : Bulk) (n : ℕ) (got : List ℕ) (why : PipeFault) (fault : TransFault) (works : pipe.condition ≢ Broken) (least : 1 ≤ pipe.max) (told : why ≡ as_pipe_fault fault)
+    (few : n < wanted) (full : length got ≡ n * pipe.max) (j : Spot) (s u v : State) (x : CameLeaves (end_of pipe) pipe.ep pipe.toggle n got j s u) where
+  lost_then : (old new : World) (left : Bulk) → FaultAfter 0 old why new → left ≡ record pipe { toggle = left.toggle; condition = after_fault pipe.condition why }
+      → SourceIn (end_of pipe) pipe.ep (flips n pipe.toggle) (Err fault) j u v → ReceiveLeaves pipe (Err why) left j s v
   lost_then old new left ends e y =
-      lost_came old new pipe left why ends e j p s v (other_twice pipe.target s u v x.others y.others) (λ i. source_frame x i v y.frame) (λ stalled h i.
+      lost_came old new pipe left why ends e j s v (other_twice pipe.target s u v x.others y.others) (λ i. source_frame x i v y.frame) (λ stalled h i.
       let z = y.stalled (source_at x i h) pipe.max (source_then x i) (same_fault (Vec ℕ) why fault trans.Stalled told (ap Err stalled)) in ap (λ q. q.bulk_in.halted) z.1 ∙ z.0)
 
-  lost_why : WhySourceIn (end_of pipe) pipe.ep (flips n pipe.toggle) (Err fault) j p u v → WhyReceive wanted pipe (Err why) j p s v
+  lost_why : WhySourceIn (end_of pipe) pipe.ep (flips n pipe.toggle) (Err fault) j u v → WhyReceive wanted pipe (Err why) j s v
   lost_why y = record {
     answered = λ l place f e.
         let no : Fell fault trans.NoAnswer = same_fault (Vec ℕ) why fault trans.NoAnswer told e in
@@ -344,13 +345,13 @@ module _ (wanted : ℕ) (pipe : Bulk) (n : ℕ) (got : List ℕ) (why : PipeFaul
         ready_or ⊥ pipe.condition works (λ r. y.waited (hears l f) pipe.max (place + length got) (source_then x f.endpoint) least (at l f r) (omega arith) (rest f more) no) (λ r. (halted l f r).1 no);
   }
     where
-      hears : {place : ℕ} → Listens pipe.target p s → FitsSource pipe place s → Listens (end_of pipe) p u
-      hears l f = let only = x.frame f.endpoint in listens_packet pipe.target pipe.max p s u (ap (λ q. q.spec) only) (ap (λ q. q.registers) only) l
+      hears : {place : ℕ} → Listens pipe.target j s → FitsSource pipe place s → Listens (end_of pipe) j u
+      hears l f = let only = x.frame f.endpoint in listens_packet pipe.target pipe.max j s u (ap (λ q. q.spec) only) (ap (λ q. q.registers) only) l
 
-      at : {place : ℕ} → Listens pipe.target p s → FitsSource pipe place s → pipe.condition ≡ Ready → SourceAt pipe.max (place + length got) (flips n pipe.toggle) u
+      at : {place : ℕ} → Listens pipe.target j s → FitsSource pipe place s → pipe.condition ≡ Ready → SourceAt pipe.max (place + length got) (flips n pipe.toggle) u
       at {place} l f r = (x.source l.at f.endpoint place (f.level r)).1
 
-      halted : {place : ℕ} → Listens pipe.target p s → FitsSource pipe place s → pipe.condition ≡ Halted → (Fell fault trans.NoAnswer → ⊥) × (Fell fault trans.Busy → ⊥)
+      halted : {place : ℕ} → Listens pipe.target j s → FitsSource pipe place s → pipe.condition ≡ Halted → (Fell fault trans.NoAnswer → ⊥) × (Fell fault trans.Busy → ⊥)
       halted l f r = y.halted (hears l f) pipe.max (source_then x f.endpoint) (source_halted x f.endpoint l.at (f.halted r))
 
       rest : {place : ℕ} → FitsSource pipe place s → place + (wanted - 1) * pipe.max < length s.spec.source → place + length got < length u.spec.source
@@ -372,11 +373,11 @@ module _ (wanted : ℕ) (pipe left : Bulk) (old new : World) (least : 1 ≤ pipe
       by_end : NotCame (end_of pipe) pipe.ep pipe.toggle wanted old why new ⊎ NoRoomLeft (end_of pipe) pipe.ep pipe.toggle wanted old why new → EachWas (ReceiveLeaves pipe (Err why) left) old new
       by_end (inl g) =
           let began : IsSettled g.mid.roots = came_settled g.before x.settled in
-          each_joined _ _ _ (λ j p s u v y. lost_then wanted pipe g.packets g.got why g.fault works least g.told g.few (came_full g.before) j p s u v y old new left x.ends x.pipe_left) old g.mid new
+          each_joined _ _ _ (λ j s u v y. lost_then wanted pipe g.packets g.got why g.fault works least g.told g.few (came_full g.before) j s u v y old new left x.ends x.pipe_left) old g.mid new
           (came_leaves (end_of pipe) pipe.ep pipe.toggle least x.settled g.before (transacted_unshared _ _ _ _ (Err g.fault) g.lost began single))
           (source_leaves (end_of pipe) pipe.ep (flips g.packets pipe.toggle) (Err g.fault) g.mid new began g.lost single)
       by_end (inr g) =
-          each_wider (CameLeaves (end_of pipe) pipe.ep pipe.toggle (g.packets + 1) (g.got ++ g.last)) _ (λ j p s v y. lost_came old new pipe left why x.ends x.pipe_left j p s v y.others y.frame (λ stalled h i. cc (g.told, stalled))) old new
+          each_wider (CameLeaves (end_of pipe) pipe.ep pipe.toggle (g.packets + 1) (g.got ++ g.last)) _ (λ j s v y. lost_came old new pipe left why x.ends x.pipe_left j s v y.others y.frame (λ stalled h i. cc (g.told, stalled))) old new
           (came_on (end_of pipe) pipe.ep pipe.toggle least x.settled g.before g.came single)
 
 pub receive_leaves : (wanted : ℕ) (pipe : Bulk) (result : Result (Vec ℕ) PipeFault) (left : Bulk) (old new : World) → 1 ≤ pipe.max
@@ -391,9 +392,9 @@ receive_leaves wanted pipe result left old new least x single =
 module _ (wanted : ℕ) (pipe left : Bulk) (old new : World) (least : 1 ≤ pipe.max) (single : new.shared ≡ false) where
   never_received : (result : Result (Vec ℕ) PipeFault) → Receives wanted pipe old result left new → result ≢ Err pipe_fault.NoAnswer → result ≢ Err pipe_fault.Busy → EachWas (WhyReceive wanted pipe result) old new
   never_received result x answered waited =
-      each_wider (ReceiveLeaves pipe result left) _ (λ j p s v y. record { answered = λ l place f. answered; waited = λ l place f more. waited }) old new (receive_leaves wanted pipe result left old new least x single)
+      each_wider (ReceiveLeaves pipe result left) _ (λ j s v y. record { answered = λ l place f. answered; waited = λ l place f more. waited }) old new (receive_leaves wanted pipe result left old new least x single)
 
-  receive_why : (result : Result (Vec ℕ) PipeFault) → NoThreeDamaged old → Receives wanted pipe old result left new → IsNotOfBus result → EachWas (WhyReceive wanted pipe result) old new
+  receive_why : (result : Result (Vec ℕ) PipeFault) → NoThreeDamaged old → Receives wanted pipe old result left new → IsNoBusFault result → EachWas (WhyReceive wanted pipe result) old new
   receive_why (Ok bytes) three x sound = never_received (Ok bytes) x (λ e. cc e) (λ e. cc e)
   receive_why (Err why) three x sound =
       receive_by (EachWas (WhyReceive wanted pipe (Err why)) old new) (λ broken kept same. never_received (Err why) x (λ e. cc (broken, e)) (λ e. cc (broken, e))) (λ bytes is none kept same. cc is)

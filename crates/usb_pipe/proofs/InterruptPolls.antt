@@ -1,7 +1,7 @@
 -- A poll: what it leaves of each device and tells of it, why it fails, and the record of both, from what its transaction's call tells.
-use Rattle.std.proofs.Common.{◌≡◌, ◌∙◌, sym, ap, subst, refl, false, arith, ℕ, ◌≤◌, List, Option, Some, None, Result, Ok, Err, OnOk}
+use Rattle.usb_device.specs.Tree.{Spot}
+use Rattle.std.proofs.Common.{◌≡◌, sym, ap, subst, refl, false, arith, ℕ, ◌≤◌, List, Option, Some, None, Result, Ok, Err, OnOk}
 use Rattle.arrayvec.specs.ArrayVec.{ArrayVec}
-use Rattle.usb_packet.specs.declared.Toggle.{Toggle}
 use Rattle.usb_device.specs.Rows.{State}
 use Rattle.usb_device.specs.Progress.{PollAt, NeverTold}
 use Rattle.usb_world.specs.Passes.{IsSettled}
@@ -16,18 +16,18 @@ use Rattle.usb_transaction.specs.Trail.{Polled}
 use Rattle.usb_transaction.specs.Transactions.{in_attempt}
 use Rattle.usb_transaction.proofs.Interface.{poll_why, what_poll}
 use Rattle.usb_pipe.specs.declared.fault.PipeFault.{PipeFault}
-use Rattle.usb_pipe.specs.Control.{fault_of}
+use Rattle.usb_pipe.specs.Control.{as_pipe_fault}
 use Rattle.usb_pipe.specs.Failures.{WhyPolling}
 use Rattle.usb_pipe.specs.Interrupt.{Interrupt, Polls}
-use Rattle.usb_pipe.specs.Leaves.{IsNotOfBus, ToldOf, PollTells, PollLeaves}
+use Rattle.usb_pipe.specs.Leaves.{IsNoBusFault, ToldOf, PollTells, PollLeaves}
 use Rattle.usb_pipe.specs.Transfers.{Unshared, InterruptPoll}
 use Rattle.usb_pipe.proofs.Answerers.{who_polls}
 use Rattle.usb_pipe.proofs.TransferLosses.{poll_losses}
 
 -- one device
-leaves_by : (pipe left : Interrupt) (old : World) (result : Result (Option (ArrayVec ℕ)) PipeFault) (told : Result (Option (List ℕ)) TransFault) (j : ℕ) (p : List ℕ) (s v : State) → ChangesIn pipe.target pipe.toggle old told j p s v
-    → (PollEnds (ToldOf pipe old j p) pipe.toggle told v → PollTells (ToldOf pipe old j p) result × ((got : Option (ArrayVec ℕ)) → result ≡ Ok got → PollAt NeverTold left.toggle v)) → PollLeaves pipe old result left j p s v
-leaves_by pipe left old result told j p s v x f = record {
+leaves_by : (pipe left : Interrupt) (old : World) (result : Result (Option (ArrayVec ℕ)) PipeFault) (told : Result (Option (List ℕ)) TransFault) (j : Spot) (s v : State) → ChangesIn pipe.target pipe.toggle old told j s v
+    → (PollEnds (ToldOf pipe old j) pipe.toggle told v → PollTells (ToldOf pipe old j) result × ((got : Option (ArrayVec ℕ)) → result ≡ Ok got → PollAt NeverTold left.toggle v)) → PollLeaves pipe old result left j s v
+leaves_by pipe left old result told j s v x f = record {
   others = x.others;
   frame = x.frame;
   tells = λ h k at. (f (x.poll h k at)).0;
@@ -37,29 +37,29 @@ leaves_by pipe left old result told j p s v x f = record {
 pub poll_tells : (pipe : Interrupt) (result : Result (Option (ArrayVec ℕ)) PipeFault) (left : Interrupt) (old new : World) → pipe.ep ≡ 1 → 1 ≤ pipe.target.max → IsSettled old.roots
     → Polls pipe old result left new → new.shared ≡ false → EachWas (PollLeaves pipe old result left) old new
 poll_tells pipe (Ok None) left old new one least settled x single =
-    each_wider _ _ (λ j p s v y. leaves_by pipe left old (Ok None) (Ok None) j p s v y (λ told. (told.0, λ got r. subst (λ t. PollAt NeverTold t v) (sym (ap (λ l. l.toggle) x.pipe_left)) told.1))) old new
+    each_wider _ _ (λ j s v y. leaves_by pipe left old (Ok None) (Ok None) j s v y (λ told. (told.0, λ got r. subst (λ t. PollAt NeverTold t v) (sym (ap (λ l. l.toggle) x.pipe_left)) told.1))) old new
     (what_poll pipe.target pipe.ep pipe.toggle old new least settled (Ok None) x.asked one single)
 poll_tells pipe (Ok (Some byte)) left old new one least settled x single =
     let turned = ap (λ l. l.toggle) x.pipe_left in
     each_wider _ _
-    (λ j p s v y. leaves_by pipe left old (Ok (Some byte)) (Ok (Some byte.items)) j p s v y (λ told. (record { bits = told.bits; so = told.so; is = told.came }, λ got r. subst (λ t. PollAt NeverTold t v) (sym turned) told.between)))
+    (λ j s v y. leaves_by pipe left old (Ok (Some byte)) (Ok (Some byte.items)) j s v y (λ told. (record { bits = told.bits; so = told.so; is = told.came }, λ got r. subst (λ t. PollAt NeverTold t v) (sym turned) told.between)))
     old new (what_poll pipe.target pipe.ep pipe.toggle old new least settled (Ok (Some byte.items)) x.asked one single)
 poll_tells pipe (Err why) left old new one least settled x single =
-    each_wider _ _ (λ j p s v y. leaves_by pipe left old (Err why) (Err x.asked.fault) j p s v y (λ told. (tt, λ got r. cc r))) old new
+    each_wider _ _ (λ j s v y. leaves_by pipe left old (Err why) (Err x.asked.fault) j s v y (λ told. (tt, λ got r. cc r))) old new
     (what_poll pipe.target pipe.ep pipe.toggle old new least settled (Err x.asked.fault) x.asked.polled one single)
 
 -- Why it fails
 
-not_of_bus : (A : Type 0) (why : PipeFault) (fault : TransFault) → why ≡ fault_of fault → IsNotOfBus {A = A} (Err why) → TransNotOfBus {A = Option (List ℕ)} (Err fault)
+not_of_bus : (A : Type 0) (why : PipeFault) (fault : TransFault) → why ≡ as_pipe_fault fault → IsNoBusFault {A = A} (Err why) → TransNotOfBus {A = Option (List ℕ)} (Err fault)
 not_of_bus A why fault e n = grind arith
 
 pub polling_why : (pipe : Interrupt) (result : Result (Option (ArrayVec ℕ)) PipeFault) (left : Interrupt) (old new : World) → pipe.ep ≡ 1 → 1 ≤ pipe.target.max → IsSettled old.roots → NoThreeDamaged old
-    → Polls pipe old result left new → IsNotOfBus result → new.shared ≡ false → EachWas (WhyPolling pipe result) old new
+    → Polls pipe old result left new → IsNoBusFault result → new.shared ≡ false → EachWas (WhyPolling pipe result) old new
 polling_why pipe (Ok got) left old new one least settled three x sound single =
-    each_wider _ _ (λ j p s v y. record { answered = λ l h at quiet why e. cc e }) old new (poll_tells pipe (Ok got) left old new one least settled x single)
+    each_wider _ _ (λ j s v y. record { answered = λ l h at quiet why e. cc e }) old new (poll_tells pipe (Ok got) left old new one least settled x single)
 polling_why pipe (Err why) left old new one least settled three x sound single =
     let n = x.asked in
-    each_wider (WhyPoll pipe.target pipe.toggle (Err n.fault)) _ (λ j p s v y. record { answered = λ l h at quiet other e. y.answered l h at quiet n.fault refl }) old new
+    each_wider (WhyPoll pipe.target pipe.toggle (Err n.fault)) _ (λ j s v y. record { answered = λ l h at quiet other e. y.answered l h at quiet n.fault refl }) old new
     (poll_why pipe.target pipe.toggle (Err n.fault) old new least settled three (subst (λ ep. Polled pipe.toggle (in_attempt pipe.target ep) old (Err n.fault) new) one n.polled) (not_of_bus (Option (ArrayVec ℕ)) why n.fault n.told sound) single)
 
 -- The record of a poll: the pipe is as it was read

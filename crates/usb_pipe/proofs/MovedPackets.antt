@@ -10,14 +10,14 @@ use Rattle.usb_packet.specs.declared.Toggle.{Toggle}
 use Rattle.usb_device.specs.Bulk.{other}
 use Rattle.usb_world.specs.Passes.{IsSettled}
 use Rattle.usb_world.specs.World.{World}
-use Rattle.usb_bus.specs.Traced.{WentOn}
+use Rattle.usb_bus.specs.Traces.{WentOn}
 use Rattle.usb_bus.proofs.Interface.{went_none, went_then, went_wider}
 use Rattle.usb_transaction.specs.Calls.{AsksIn, SendsOut}
 use Rattle.usb_transaction.specs.Transactions.{Ends, Worked}
 use Rattle.usb_transaction.specs.declared.target.Target.{Target}
 use Rattle.usb_transaction.specs.declared.fault.TransFault.{TransFault}
 use Rattle.usb_pipe.specs.Bulk.{packets_of, Turned}
-use Rattle.usb_pipe.specs.Control.{Faults, fault_of}
+use Rattle.usb_pipe.specs.Control.{FaultAfter, as_pipe_fault}
 use Rattle.usb_pipe.specs.Moves.{Puts, Gave, Fetches, Came, start, packet, AllCame}
 use Rattle.usb_pipe.specs.Packets.{PacketsSent, PacketsReceived}
 use Rattle.usb_pipe.specs.Toggles.{flips}
@@ -66,7 +66,7 @@ module _ {n : ℕ} {first toggle : Toggle} {old mid : World} {t r : Option (List
   worked_then : {k : ℕ} {new : World} → Worked k mid new → Worked k old new
   worked_then w = record { sound = m.sound w.sound; least = omega (arith, m.least, w.least); still = w.still }
 
-  lost_ends : (fault : TransFault) (new : World) → Ends {A = List ℕ} mid (Err fault) new → Faults 0 old (fault_of fault) new
+  lost_ends : (fault : TransFault) (new : World) → Ends {A = List ℕ} mid (Err fault) new → FaultAfter 0 old (as_pipe_fault fault) new
   lost_ends fault new w = grind (arith, worked_then)
 
   -- where the transaction of a further packet left the toggle
@@ -160,7 +160,7 @@ module _ (t : Target) (ep : ℕ) (first : Toggle) (total : List ℕ) (least : 1 
         })
 
     -- one that does not go
-    pub lost_sent : (fault : TransFault) (result : Result (Unit {0}) PipeFault) → IsErr result → IsErrAnd result (λ why. why ≡ fault_of fault) → result ≢ Err Memory → SendsOut t ep toggle bytes mid (Err fault) new → next ≡ toggle
+    pub lost_sent : (fault : TransFault) (result : Result (Unit {0}) PipeFault) → IsErr result → IsErrAnd result (λ why. why ≡ as_pipe_fault fault) → result ≢ Err Memory → SendsOut t ep toggle bytes mid (Err fault) new → next ≡ toggle
         → PacketsSent t ep first total old result next new × WentOn (768 * div_ceil (length total) t.max) old text new written
     lost_sent fault (Err why) err said room x same =
         let size : k ≡ min t.max (length rest) = omega (arith, is) in
@@ -168,7 +168,7 @@ module _ (t : Target) (ep : ℕ) (first : Toggle) (total : List ℕ) (least : 1 
         let parts = ap length g.split ∙ length-append g.sent rest in
         let few : g.packets < div_ceil (length total) t.max = few_full g.packets t.max (length total) least (omega (arith, g.full some, some, parts)) in (
           record {
-            ends = subst (λ w. Faults 0 old w new) (sym said) (lost_ends g.moved fault new x.ends);
+            ends = subst (λ w. FaultAfter 0 old w new) (sym said) (lost_ends g.moved fault new x.ends);
             moves = record {
               packets = g.packets;
               sent = g.sent;
@@ -237,10 +237,10 @@ module _ (t : Target) (ep : ℕ) (first : Toggle) {old : World} {text : Option (
           (moved_more c.moved next x.settled went x.ends e)
 
     -- that did not
-    pub lost_received : (fault : TransFault) (result : Result (Vec ℕ) PipeFault) → IsErr result → IsErrAnd result (λ why. why ≡ fault_of fault) → AsksIn t ep toggle mid (Err fault) new → next ≡ toggle
+    pub lost_received : (fault : TransFault) (result : Result (Vec ℕ) PipeFault) → IsErr result → IsErrAnd result (λ why. why ≡ as_pipe_fault fault) → AsksIn t ep toggle mid (Err fault) new → next ≡ toggle
         → PacketsReceived t ep first wanted old result next new
     lost_received fault (Err why) err said x same = record {
-      ends = subst (λ w. Faults 0 old w new) (sym said) (lost_ends c.moved fault new x.ends);
+      ends = subst (λ w. FaultAfter 0 old w new) (sym said) (lost_ends c.moved fault new x.ends);
       moves = inl (record { packets = n; few = few; got = got; mid = mid; before = c.came; fault = fault; told = said; lost = subst (λ z. Fetches t ep z mid (Err fault) new) c.moved.turned x.heard });
       settled = c.moved.settled x.settled;
       most = tt;
@@ -252,7 +252,7 @@ module _ (t : Target) (ep : ℕ) (first : Toggle) {old : World} {text : Option (
     -- that found no memory
     pub room_received : (last : List ℕ) (result : Result (Vec ℕ) PipeFault) → IsErr result → IsErrAnd result (λ why. why ≡ Memory) → AsksIn t ep toggle mid (Ok last) new → PacketsReceived t ep first wanted old result next new
     room_received last (Err why) err said x = record {
-      ends = subst (λ w. Faults 0 old w new) (sym said) (worked_then c.moved x.ends);
+      ends = subst (λ w. FaultAfter 0 old w new) (sym said) (worked_then c.moved x.ends);
       moves = inr (record { packets = n; few = few; got = got; mid = mid; before = c.came; last = last; told = said; came = rw c.moved.turned at x.heard; fits = x.short });
       settled = c.moved.settled x.settled;
       most = tt;

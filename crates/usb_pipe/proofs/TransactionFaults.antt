@@ -4,7 +4,7 @@ use Rattle.usb_device.specs.Spec.{Spec}
 use Rattle.usb_transaction.specs.declared.fault.TransFault.{TransFault}
 use Rattle.usb_transaction.specs.Leaves.{CanAnswer, CanAccept}
 use Rattle.usb_pipe.specs.declared.fault.PipeFault.{PipeFault}
-use Rattle.usb_pipe.specs.Control.{fault_of}
+use Rattle.usb_pipe.specs.Control.{as_pipe_fault}
 use Rattle.usb_pipe.specs.Leaves.{CanEnd}
 
 abbrev pub Fails : (A : Type 0) → PipeFault → PipeFault → Type 0
@@ -13,7 +13,7 @@ Fails A why fault = ◌≡◌ {A = Result A PipeFault} (Err why) (Err fault)
 abbrev pub Fell : TransFault → TransFault → Type 0
 Fell why fault = ◌≡◌ {A = Result (List ℕ) TransFault} (Err why) (Err fault)
 
-pub same_fault : (A : Type 0) (why : PipeFault) (fault other : TransFault) → why ≡ fault_of fault → Fails A why (fault_of other) → Fell fault other
+pub same_fault : (A : Type 0) (why : PipeFault) (fault other : TransFault) → why ≡ as_pipe_fault fault → Fails A why (as_pipe_fault other) → Fell fault other
 same_fault A why fault other told e = grind arith
 
 -- a device that can answer a transaction so can end the transfer so
@@ -21,8 +21,8 @@ same_fault A why fault other told e = grind arith
 abbrev pub CanFail : (A : Type 0) → Spec → PipeFault → Type 0
 CanFail A spec why = CanEnd {A = A} spec (Err why)
 
-pub could_answer : (A : Type 0) (spec : Spec) (why : PipeFault) (fault : TransFault) → why ≡ fault_of fault → CanAnswer {A = List ℕ} spec (Err fault) → CanFail A spec why
+pub could_answer : (A : Type 0) (spec : Spec) (why : PipeFault) (fault : TransFault) → why ≡ as_pipe_fault fault → CanAnswer {A = List ℕ} spec (Err fault) → CanFail A spec why
 could_answer A spec why fault told c = grind arith
 
-pub could_accept : (A : Type 0) (spec : Spec) (why : PipeFault) (fault : TransFault) → why ≡ fault_of fault → CanAccept {A = List ℕ} spec (Err fault) → CanFail A spec why
+pub could_accept : (A : Type 0) (spec : Spec) (why : PipeFault) (fault : TransFault) → why ≡ as_pipe_fault fault → CanAccept {A = List ℕ} spec (Err fault) → CanFail A spec why
 could_accept A spec why fault told c = grind arith

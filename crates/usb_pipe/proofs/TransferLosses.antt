@@ -13,10 +13,10 @@ use Rattle.usb_transaction.specs.declared.fault.TransFault.TheVariants as trans
 use Rattle.usb_transaction.specs.declared.target.Target.{Target}
 use Rattle.usb_transaction.proofs.Interface.{other_losses, out_losses}
 use Rattle.usb_pipe.specs.Bulk.{Bulk, Sends, Receives}
-use Rattle.usb_pipe.specs.Control.{fault_of}
+use Rattle.usb_pipe.specs.Control.{as_pipe_fault}
 use Rattle.usb_pipe.specs.End.{packet_target}
 use Rattle.usb_pipe.specs.Interrupt.{Interrupt, PollAsked, Polls}
-use Rattle.usb_pipe.specs.Leaves.{IsNotOfBus}
+use Rattle.usb_pipe.specs.Leaves.{IsNoBusFault}
 use Rattle.usb_pipe.specs.Moves.{Gave, Came, SendEnds, ReceiveEnds}
 use Rattle.usb_pipe.specs.Moves as moves
 use Rattle.usb_pipe.specs.Toggles.{flips}
@@ -32,7 +32,7 @@ gave_losses t ep first settled moves.start = refl
 gave_losses t ep first {new = new} settled (moves.packet {n} {mid = mid} bytes g full some fits puts) =
     out_losses t ep (flips n first) bytes mid new (gave_settled g settled) puts.trail ∙ gave_losses t ep first settled g
 
-sent_losses : (t : Target) (ep : ℕ) (first : Toggle) (total : List ℕ) (result : Result (Unit {0}) PipeFault) (old new : World) → IsSettled old.roots → SendEnds t ep first total old result new → IsNotOfBus result
+sent_losses : (t : Target) (ep : ℕ) (first : Toggle) (total : List ℕ) (result : Result (Unit {0}) PipeFault) (old new : World) → IsSettled old.roots → SendEnds t ep first total old result new → IsNoBusFault result
     → new.losses ≡ old.losses
 sent_losses t ep first total (Ok done) old new settled x sound = gave_losses t ep first settled x.gone
 sent_losses t ep first total (Err why) old new settled x sound =
@@ -43,7 +43,7 @@ sent_losses t ep first total (Err why) old new settled x sound =
 unchanged : {old new : World} → new ≡ old → new.losses ≡ old.losses
 unchanged e = ap (λ w. w.losses) e
 
-pub send_losses : (bytes : List ℕ) (pipe : Bulk) (result : Result (Unit {0}) PipeFault) (left : Bulk) (old new : World) → Sends bytes pipe old result left new → IsNotOfBus result → new.losses ≡ old.losses
+pub send_losses : (bytes : List ℕ) (pipe : Bulk) (result : Result (Unit {0}) PipeFault) (left : Bulk) (old new : World) → Sends bytes pipe old result left new → IsNoBusFault result → new.losses ≡ old.losses
 send_losses bytes pipe result left old new x sound =
     send_by (new.losses ≡ old.losses) (λ i. unchanged i.world_kept) (λ none i. unchanged i.world_kept)
     (λ works some y. sent_losses (packet_target pipe.target pipe.max) pipe.ep pipe.toggle bytes result old new y.settled y.went sound) x
@@ -55,7 +55,7 @@ came_losses t ep first other settled moves.start = refl
 came_losses t ep first {new = new} other settled (moves.packet {n} {mid = mid} bytes c fetches full) =
     other_losses t ep mid new other (came_settled c settled) fetches.trail ∙ came_losses t ep first other settled c
 
-received_losses : (t : Target) (ep : ℕ) (first : Toggle) (wanted : ℕ) (result : Result (Vec ℕ) PipeFault) (old new : World) → ep ≢ 0 → IsSettled old.roots → ReceiveEnds t ep first wanted old result new → IsNotOfBus result
+received_losses : (t : Target) (ep : ℕ) (first : Toggle) (wanted : ℕ) (result : Result (Vec ℕ) PipeFault) (old new : World) → ep ≢ 0 → IsSettled old.roots → ReceiveEnds t ep first wanted old result new → IsNoBusFault result
     → new.losses ≡ old.losses
 received_losses t ep first wanted (Ok bytes) old new other settled x sound =
     other_losses t ep x.mid new other (came_settled x.before settled) x.came.trail ∙ came_losses t ep first other settled x.before
@@ -66,7 +66,7 @@ received_losses t ep first wanted (Err why) old new other settled (inr x) sound 
     other_losses t ep x.mid new other (came_settled x.before settled) x.came.trail ∙ came_losses t ep first other settled x.before
 
 pub receive_losses : (wanted : ℕ) (pipe : Bulk) (result : Result (Vec ℕ) PipeFault) (left : Bulk) (old new : World) → pipe.ep ≢ 0
-    → Receives wanted pipe old result left new → IsNotOfBus result → new.losses ≡ old.losses
+    → Receives wanted pipe old result left new → IsNoBusFault result → new.losses ≡ old.losses
 receive_losses wanted pipe result left old new other x sound =
     receive_by (new.losses ≡ old.losses) (λ broken kept same. unchanged same) (λ bytes is none kept same. unchanged same)
     (λ works some y. received_losses (packet_target pipe.target pipe.max) pipe.ep pipe.toggle wanted result old new other y.settled y.came sound) x
@@ -74,16 +74,16 @@ receive_losses wanted pipe result left old new other x sound =
 -- Polls
 
 -- one that failed, but for the bus
-failed_losses : (pipe : Interrupt) (old new : World) (why : PipeFault) (fault : TransFault) → why ≡ fault_of fault → IsNotOfBus {A = Option (ArrayVec ℕ)} (Err why) → pipe.ep ≢ 0 → IsSettled old.roots
+failed_losses : (pipe : Interrupt) (old new : World) (why : PipeFault) (fault : TransFault) → why ≡ as_pipe_fault fault → IsNoBusFault {A = Option (ArrayVec ℕ)} (Err why) → pipe.ep ≢ 0 → IsSettled old.roots
     → Polled pipe.toggle (in_attempt pipe.target pipe.ep) old (Err fault) new → new.losses ≡ old.losses
-failed_losses pipe old new why (trans.Bus fault) e sound other settled x = absurd (subst (λ y. IsNotOfBus {A = Option (ArrayVec ℕ)} (Err y)) e sound)
+failed_losses pipe old new why (trans.Bus fault) e sound other settled x = absurd (subst (λ y. IsNoBusFault {A = Option (ArrayVec ℕ)} (Err y)) e sound)
 failed_losses pipe old new why fault e sound other settled x = other_losses pipe.target pipe.ep old new other settled x.trail
 
-asked_losses : (pipe : Interrupt) (result : Result (Option (ArrayVec ℕ)) PipeFault) (old new : World) → pipe.ep ≢ 0 → IsSettled old.roots → PollAsked pipe old result new → IsNotOfBus result → new.losses ≡ old.losses
+asked_losses : (pipe : Interrupt) (result : Result (Option (ArrayVec ℕ)) PipeFault) (old new : World) → pipe.ep ≢ 0 → IsSettled old.roots → PollAsked pipe old result new → IsNoBusFault result → new.losses ≡ old.losses
 asked_losses pipe (Ok None) old new other settled x sound = other_losses pipe.target pipe.ep old new other settled x.trail
 asked_losses pipe (Ok (Some packet)) old new other settled x sound = other_losses pipe.target pipe.ep old new other settled x.trail
 asked_losses pipe (Err why) old new other settled x sound = failed_losses pipe old new why x.fault x.told sound other settled x.polled
 
 pub poll_losses : (pipe : Interrupt) (result : Result (Option (ArrayVec ℕ)) PipeFault) (left : Interrupt) (old new : World) → pipe.ep ≢ 0 → IsSettled old.roots
-    → Polls pipe old result left new → IsNotOfBus result → new.losses ≡ old.losses
+    → Polls pipe old result left new → IsNoBusFault result → new.losses ≡ old.losses
 poll_losses pipe result left old new other settled x sound = asked_losses pipe result old new other settled x.asked sound

@@ -10,7 +10,7 @@ use Rattle.usb_transaction.specs.Attempts.{GivenUp}
 use Rattle.usb_transaction.specs.Transactions.{setup_attempt}
 use Rattle.usb_pipe.specs.declared.fault.PipeFault.{PipeFault}
 use Rattle.usb_pipe.specs.declared.fault.PipeFault.TheVariants.{Bus}
-use Rattle.usb_pipe.specs.Leaves.{IsNotOfBus, IsBehind}
+use Rattle.usb_pipe.specs.Leaves.{IsNoBusFault, IsBehind}
 
 -- an attempt of a control transfer: a SETUP of just the request's bytes, or one behind it
 abbrev pub IsOfTransfer : Target → Setup → Step → World → Type 0
@@ -18,5 +18,5 @@ IsOfTransfer t request s w = (s ≡ attempt (setup_attempt t (bytes_of request))
 
 -- each attempt of a transfer is of a kind; where the bus gave up, so is the one that it refused
 pub record TransferAttempts {A : Type 0} (K : Step → World → Type 0) (old : World) (result : Result A PipeFault) (new : World) : Type 0 where
-  pub whole : IsNotOfBus result → Course K old new
+  pub whole : IsNoBusFault result → Course K old new
   pub cut : (fault : BusFault) → result ≡ Err (Bus fault) → GivenUp K old fault new

@@ -14,7 +14,7 @@ use Rattle.usb_pipe.specs.declared.fault.PipeFault.{PipeFault}
 use Rattle.usb_pipe.specs.declared.fault.PipeFault.TheVariants.{Stalled, Busy, NoAnswer, Bus, Memory}
 use Rattle.usb_pipe.specs.declared.fault.PipeFault.TheVariants as fault
 use Rattle.usb_request.specs.Requests.{clear_endpoint_halt}
-use Rattle.usb_pipe.specs.Control.{Faults}
+use Rattle.usb_pipe.specs.Control.{FaultAfter}
 use Rattle.usb_pipe.specs.Toggles.{flips}
 use Rattle.usb_pipe.specs.Stages.{Writes}
 use Rattle.usb_pipe.specs.End.{packet_target}
@@ -82,7 +82,7 @@ pub record Idle {A : Type 0} (given : Result A PipeFault) (pipe : Bulk) (old : W
 
 -- these bytes were sent, in n packets
 pub record Sent (n : ℕ) (bytes : List ℕ) (pipe : Bulk) (old : World) (result : Result (Unit {0}) PipeFault) (left : Bulk) (new : World) : Type 0 where
-  pub ends : MatchResult result (λ _. Worked n old new) (λ why. Faults 0 old why new)
+  pub ends : MatchResult result (λ _. Worked n old new) (λ why. FaultAfter 0 old why new)
   pub went : SendEnds (packet_target pipe.target pipe.max) pipe.ep pipe.toggle bytes old result new
   pub settled : IsSettled old.roots
   pub room : result ≢ Err Memory
@@ -98,7 +98,7 @@ pub record Sends (bytes : List ℕ) (pipe : Bulk) (old : World) (result : Result
 
 -- at most `wanted` packets were received
 pub record Received (wanted : ℕ) (pipe : Bulk) (old : World) (result : Result (Vec ℕ) PipeFault) (left : Bulk) (new : World) : Type 0 where
-  pub ends : MatchResult result (λ bytes. Worked (packets_of (length bytes.items) pipe.max wanted) old new) (λ why. Faults 0 old why new)
+  pub ends : MatchResult result (λ bytes. Worked (packets_of (length bytes.items) pipe.max wanted) old new) (λ why. FaultAfter 0 old why new)
   pub came : ReceiveEnds (packet_target pipe.target pipe.max) pipe.ep pipe.toggle wanted old result new
   pub settled : IsSettled old.roots
   pub most : IfOk result (λ bytes. length bytes.items ≤ wanted * pipe.max)
@@ -119,7 +119,7 @@ cleared pipe (Err why) = record pipe { condition = after_failed_clear pipe.condi
 
 -- CLEAR_FEATURE(ENDPOINT_HALT) was sent
 pub record Cleared (pipe : Bulk) (old : World) (result : Result (Unit {0}) PipeFault) (left : Bulk) (new : World) : Type 0 where
-  pub ends : MatchResult result (λ _. Worked 2 old new) (λ why. Faults 1 old why new)
+  pub ends : MatchResult result (λ _. Worked 2 old new) (λ why. FaultAfter 1 old why new)
   pub stages : Writes pipe.target (clear_endpoint_halt (halt_address pipe.ep pipe.is_in)) old result new
   pub settled : IsSettled old.roots
   pub room : result ≢ Err Memory

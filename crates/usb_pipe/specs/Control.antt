@@ -8,20 +8,20 @@ use Rattle.usb_pipe.specs.declared.fault.PipeFault.{PipeFault}
 use Rattle.usb_pipe.specs.declared.fault.PipeFault.TheVariants.{Stalled, Busy, NoAnswer, Broken, Bus, Memory}
 
 -- a transaction's fault as a pipe's
-abbrev pub fault_of : TransFault → PipeFault
-fault_of TransStalled = Stalled
-fault_of TransBusy = Busy
-fault_of TransNoAnswer = NoAnswer
-fault_of (TransBus fault) = Bus fault
+abbrev pub as_pipe_fault : TransFault → PipeFault
+as_pipe_fault TransStalled = Stalled
+as_pipe_fault TransBusy = Busy
+as_pipe_fault TransNoAnswer = NoAnswer
+as_pipe_fault (TransBus fault) = Bus fault
 
 -- how few attempts can have come before each fault, where at least n were made before the last transaction
-abbrev pub Faults : ℕ → World → PipeFault → World → Type 0
-Faults n old Stalled new = Worked (n + 1) old new
-Faults n old Busy new = Worked (n + 256) old new
-Faults n old NoAnswer new = Worked 3 old new
-Faults n old Broken new = ⊥
-Faults n old (Bus fault) new = Failed fault new
-Faults n old Memory new = Worked (n + 1) old new
+abbrev pub FaultAfter : ℕ → World → PipeFault → World → Type 0
+FaultAfter n old Stalled new = Worked (n + 1) old new
+FaultAfter n old Busy new = Worked (n + 256) old new
+FaultAfter n old NoAnswer new = Worked 3 old new
+FaultAfter n old Broken new = ⊥
+FaultAfter n old (Bus fault) new = Failed fault new
+FaultAfter n old Memory new = Worked (n + 1) old new
 
 -- a packet of this size ends a data stage, where with it `got` of the `wanted` bytes have come
 abbrev pub ends_stage : ℕ → ℕ → ℕ → ℕ → Bool

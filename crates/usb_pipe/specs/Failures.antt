@@ -1,5 +1,6 @@
 -- Why a whole transfer fails, where no three attempts running are damaged and the device stays reachable.
-use Rattle.std.specs.Prelude.{◌≡◌, ◌≢◌, ℕ, ◌+◌, ◌-◌, ◌*◌, ◌<◌, ◌≤◌, List, length, true, false, Option, Result, Err}
+use Rattle.usb_device.specs.Tree.{Spot}
+use Rattle.std.specs.Prelude.{◌≡◌, ◌≢◌, ℕ, ◌+◌, ◌-◌, ◌*◌, ◌<◌, ◌≤◌, length, true, false, Option, Result, Err}
 use Rattle.arrayvec.specs.ArrayVec.{ArrayVec}
 use Rattle.std.specs.Global.{Vec}
 use Rattle.usb_request.specs.declared.setup.Setup.{Setup}
@@ -15,25 +16,25 @@ use Rattle.usb_pipe.specs.Interrupt.{Interrupt}
 use Rattle.usb_pipe.specs.Leaves.{IsMaximum, FitsSource}
 
 -- a request for data: a device that listens answers, and only a busy one lets the host wait in vain
-pub record WhyRead (t : Target) (request : Setup) (result : Result (Vec ℕ) PipeFault) (j : ℕ) (p : List ℕ) (s v : State) : Type 0 where
-  pub answered : Listens t p s → IsMaximum t request.length s → result ≢ Err NoAnswer
-  pub waited : Listens t p s → IsMaximum t request.length s → s.spec.busy ≡ false → s.spec.naks ≤ 200 → result ≢ Err Busy
+pub record WhyRead (t : Target) (request : Setup) (result : Result (Vec ℕ) PipeFault) (x : Spot) (s v : State) : Type 0 where
+  pub answered : Listens t x s → IsMaximum t request.length s → result ≢ Err NoAnswer
+  pub waited : Listens t x s → IsMaximum t request.length s → s.spec.busy ≡ false → s.spec.naks ≤ 200 → result ≢ Err Busy
 
 -- a request without data
-pub record WhyWrite (t : Target) (result : Result (Unit {0}) PipeFault) (j : ℕ) (p : List ℕ) (s v : State) : Type 0 where
-  pub answered : Listens t p s → result ≢ Err NoAnswer
-  pub waited : Listens t p s → s.spec.busy ≡ false → s.spec.naks ≤ 200 → result ≢ Err Busy
+pub record WhyWrite (t : Target) (result : Result (Unit {0}) PipeFault) (x : Spot) (s v : State) : Type 0 where
+  pub answered : Listens t x s → result ≢ Err NoAnswer
+  pub waited : Listens t x s → s.spec.busy ≡ false → s.spec.naks ≤ 200 → result ≢ Err Busy
 
 -- an endpoint that takes bytes answers, and never keeps the host waiting
-pub record WhySend (pipe : Bulk) (result : Result (Unit {0}) PipeFault) (j : ℕ) (p : List ℕ) (s v : State) : Type 0 where
-  pub answered : Listens pipe.target p s → IsSink pipe.ep pipe.max s → result ≢ Err NoAnswer
-  pub waited : Listens pipe.target p s → IsSink pipe.ep pipe.max s → result ≢ Err Busy
+pub record WhySend (pipe : Bulk) (result : Result (Unit {0}) PipeFault) (x : Spot) (s v : State) : Type 0 where
+  pub answered : Listens pipe.target x s → IsSink pipe.ep pipe.max s → result ≢ Err NoAnswer
+  pub waited : Listens pipe.target x s → IsSink pipe.ep pipe.max s → result ≢ Err Busy
 
 -- one that gives bytes answers, and where it has some for each packet, it does not keep the host waiting
-pub record WhyReceive (wanted : ℕ) (pipe : Bulk) (result : Result (Vec ℕ) PipeFault) (j : ℕ) (p : List ℕ) (s v : State) : Type 0 where
-  pub answered : Listens pipe.target p s → (got : ℕ) → FitsSource pipe got s → result ≢ Err NoAnswer
-  pub waited : Listens pipe.target p s → (got : ℕ) → FitsSource pipe got s → got + (wanted - 1) * pipe.max < length s.spec.source → result ≢ Err Busy
+pub record WhyReceive (wanted : ℕ) (pipe : Bulk) (result : Result (Vec ℕ) PipeFault) (x : Spot) (s v : State) : Type 0 where
+  pub answered : Listens pipe.target x s → (got : ℕ) → FitsSource pipe got s → result ≢ Err NoAnswer
+  pub waited : Listens pipe.target x s → (got : ℕ) → FitsSource pipe got s → got + (wanted - 1) * pipe.max < length s.spec.source → result ≢ Err Busy
 
 -- a hub's status endpoint that is not halted tells its bits, or that there are none
-pub record WhyPolling (pipe : Interrupt) (result : Result (Option (ArrayVec ℕ)) PipeFault) (j : ℕ) (p : List ℕ) (s v : State) : Type 0 where
-  pub answered : Listens pipe.target p s → tells_changes s.spec s.registers ≡ true → PollAt NeverTold pipe.toggle s → s.changes.halted ≡ false → (why : PipeFault) → result ≢ Err why
+pub record WhyPolling (pipe : Interrupt) (result : Result (Option (ArrayVec ℕ)) PipeFault) (x : Spot) (s v : State) : Type 0 where
+  pub answered : Listens pipe.target x s → tells_changes s.spec s.registers ≡ true → PollAt NeverTold pipe.toggle s → s.changes.halted ≡ false → (why : PipeFault) → result ≢ Err why

@@ -4,13 +4,13 @@ use Rattle.arrayvec.specs.ArrayVec.{ArrayVec}
 use Rattle.usb_packet.specs.declared.Toggle.{Toggle}
 use Rattle.usb_world.specs.World.{World}
 use Rattle.usb_transaction.specs.declared.target.Target.{Target}
-use Rattle.usb_transaction.specs.Heard.{toggle_after}
+use Rattle.usb_transaction.specs.HeardOutcomes.{toggle_after}
 use Rattle.usb_transaction.specs.Transactions.{Worked, in_attempt}
 use Rattle.usb_transaction.specs.Trail.{Polled}
 use Rattle.usb_transaction.specs.declared.fault.TransFault.{TransFault}
 use Rattle.usb_pipe.specs.declared.fault.PipeFault.{PipeFault}
 use Rattle.usb_pipe.specs.declared.fault.PipeFault.TheVariants.{Memory}
-use Rattle.usb_pipe.specs.Control.{Faults, fault_of}
+use Rattle.usb_pipe.specs.Control.{FaultAfter, as_pipe_fault}
 
 pub record Interrupt : Type 0 where
   pub target : Target  -- with the endpoint's maximum
@@ -20,7 +20,7 @@ pub record Interrupt : Type 0 where
 -- a poll failed, and the transaction of its IN with it
 pub record NoPoll (pipe : Interrupt) (old : World) (why : PipeFault) (new : World) : Type 0 where
   pub fault : TransFault
-  pub told : why ≡ fault_of fault
+  pub told : why ≡ as_pipe_fault fault
   pub polled : Polled pipe.toggle (in_attempt pipe.target pipe.ep) old (Err fault) new
 
 -- what the attempts of a poll were, all INs of the endpoint, and what was heard of them
@@ -31,7 +31,7 @@ PollAsked pipe old (Err why) new = NoPoll pipe old why new
 
 -- what a poll answers and leaves
 pub record Polls (pipe : Interrupt) (old : World) (result : Result (Option (ArrayVec ℕ)) PipeFault) (left : Interrupt) (new : World) : Type 0 where
-  pub ends : MatchResult result (λ _. Worked 1 old new) (λ fault. Faults 0 old fault new)
+  pub ends : MatchResult result (λ _. Worked 1 old new) (λ fault. FaultAfter 0 old fault new)
   pub asked : PollAsked pipe old result new
   pub room : result ≢ Err Memory
   pub most : IfOk result (λ got. IfSome got (λ packet. length packet.items ≤ pipe.target.max))

@@ -13,7 +13,7 @@ use Rattle.usb_device.specs.Request.{outcome, takes_address}
 use Rattle.usb_device.specs.Transfer.{first_stage, reading, ending, refused as stage_refused, max_packet}
 use Rattle.usb_device.specs.Rows.{State, accepted}
 use Rattle.usb_device.specs.Bulk.{tells_changes, rested}
-use Rattle.usb_device.specs.Tree.{row_of}
+use Rattle.usb_device.specs.Tree.{row_of, Spot}
 use Rattle.usb_device.specs.Progress.{IsRead, StatusGiven, IsSink, SinkAt, IsSource, SourceAt, PollAt, NeverTold, OnlyControl, OnlyStage, OnlySink, OnlySource, OnlyChanges}
 use Rattle.usb_world.specs.declared.types.BusFault.{BusFault}
 use Rattle.usb_world.specs.Losses.{one_more}
@@ -29,14 +29,14 @@ use Rattle.usb_pipe.specs.declared.fault.PipeFault.{PipeFault}
 use Rattle.usb_pipe.specs.declared.fault.PipeFault.TheVariants.{Stalled, Busy, NoAnswer, Broken, Bus, Memory}
 
 -- the call did not end because the bus gave up
-abbrev pub IsNotOfBus : {A : Type 0} → Result A PipeFault → Type 0
-IsNotOfBus (Ok x) = ⊤
-IsNotOfBus (Err Stalled) = ⊤
-IsNotOfBus (Err Busy) = ⊤
-IsNotOfBus (Err NoAnswer) = ⊤
-IsNotOfBus (Err Broken) = ⊤
-IsNotOfBus (Err (Bus fault)) = ⊥
-IsNotOfBus (Err Memory) = ⊤
+abbrev pub IsNoBusFault : {A : Type 0} → Result A PipeFault → Type 0
+IsNoBusFault (Ok x) = ⊤
+IsNoBusFault (Err Stalled) = ⊤
+IsNoBusFault (Err Busy) = ⊤
+IsNoBusFault (Err NoAnswer) = ⊤
+IsNoBusFault (Err Broken) = ⊤
+IsNoBusFault (Err (Bus fault)) = ⊥
+IsNoBusFault (Err Memory) = ⊤
 
 -- a fault that only the answers of a device make: STALL, too many NAKs and repeats, or data for which there is no memory
 abbrev pub IsTransferAnswer : PipeFault → Type 0
@@ -59,10 +59,10 @@ CanEnd spec (Err (Bus fault)) = ⊤
 CanEnd spec (Err Memory) = (spec.silent ≡ false) × (spec.busy ≡ false)
 
 -- the device at a place accepted the request in an attempt of the call that left this world; these were its ports then
-pub record AcceptedIn (t : Target) (request : Setup) (old now : World) (j : ℕ) (p : List ℕ) (row : List PortState) (s : State) : Type 0 where
+pub record AcceptedIn (t : Target) (request : Setup) (old now : World) (x : Spot) (row : List PortState) (s : State) : Type 0 where
   pub state : State
-  pub at : AcceptedAt t (bytes_of request) old now j p s state
-  pub had : row ≡ row_of at.below
+  pub at : AcceptedAt t (bytes_of request) old now x s state
+  pub had : row ≡ row_of at.holder.below
 
 -- an attempt behind a SETUP that was acknowledged: IN of endpoint 0, or OUT of no bytes with DATA1
 abbrev pub IsBehind : Target → Step → World → Type 0
@@ -72,15 +72,15 @@ IsBehind t event w = ⊥
 IsBehind t (report line) w = ⊥
 
 -- it did so at a moment of the call: nothing but the stages behind SETUP was attempted since
-pub record Moment (t : Target) (request : Setup) (old new : World) (j : ℕ) (p : List ℕ) (row : List PortState) (s : State) : Type 0 where
+pub record Moment (t : Target) (request : Setup) (old new : World) (x : Spot) (row : List PortState) (s : State) : Type 0 where
   pub now : World
-  pub accepts : AcceptedIn t request old now j p row s
+  pub accepts : AcceptedIn t request old now x row s
   pub since : Course (IsBehind t) now new
 
 -- the device refused the request, with its ports as they were when it accepted it
-pub record WasRefused (t : Target) (request : Setup) (old new : World) (j : ℕ) (p : List ℕ) (s : State) : Type 0 where
+pub record WasRefused (t : Target) (request : Setup) (old new : World) (x : Spot) (s : State) : Type 0 where
   pub row : List PortState
-  pub moment : Moment t request old new j p row s
+  pub moment : Moment t request old new x row s
   pub is : first_stage row request.length (outcome s.spec s.registers request) ≡ stage_refused
 
 -- the target's maximum is the device's, or so little is wanted that one packet holds it
@@ -89,46 +89,46 @@ IsMaximum t wanted s = (max_packet s.spec ≡ t.max) ⊎ (wanted ≤ 8)
 
 -- the device answered a request for data, with its ports as they were when it accepted it; these bytes are of that answer, from its
 -- first on, and the transfer is over
-pub record AnswerRead (t : Target) (request : Setup) (bytes : List ℕ) (old new : World) (j : ℕ) (p : List ℕ) (s v : State) : Type 0 where
+pub record AnswerRead (t : Target) (request : Setup) (bytes : List ℕ) (old new : World) (x : Spot) (s v : State) : Type 0 where
   pub row : List PortState
-  pub moment : Moment t request old new j p row s
+  pub moment : Moment t request old new x row s
   pub answer : List ℕ
   pub is : first_stage row request.length (outcome s.spec s.registers request) ≡ reading answer request.length 0
   pub came : IsMaximum t request.length s → bytes ≡ take request.length answer
   pub over : IsRead v
 
 -- a control read
-pub record ReadLeaves (t : Target) (request : Setup) (result : Result (Vec ℕ) PipeFault) (old new : World) (j : ℕ) (p : List ℕ) (s v : State) : Type 0 where
+pub record ReadLeaves (t : Target) (request : Setup) (result : Result (Vec ℕ) PipeFault) (old new : World) (x : Spot) (s v : State) : Type 0 where
   pub others : is_at s t ≡ false → v ≡ s
   pub frame : OnlyStage s v
-  pub done : is_at s t ≡ true → (bytes : Vec ℕ) → result ≡ Ok bytes → AnswerRead t request bytes.items old new j p s v
-  pub refused : is_at s t ≡ true → result ≡ Err Stalled → WasRefused t request old new j p s
+  pub done : is_at s t ≡ true → (bytes : Vec ℕ) → result ≡ Ok bytes → AnswerRead t request bytes.items old new x s v
+  pub refused : is_at s t ≡ true → result ≡ Err Stalled → WasRefused t request old new x s
   pub could : is_at s t ≡ true → CanEnd s.spec result
 
 -- the device did what was asked when it accepted it, the last time with these ports, and its status stage was given
-pub record EffectDone (t : Target) (request : Setup) (old new : World) (j : ℕ) (p : List ℕ) (s v : State) : Type 0 where
+pub record EffectDone (t : Target) (request : Setup) (old new : World) (x : Spot) (s v : State) : Type 0 where
   pub row : List PortState
-  pub moment : Moment t request old new j p row s
+  pub moment : Moment t request old new x row s
   pub address : Option ℕ
   pub is : first_stage row request.length (outcome s.spec s.registers request) ≡ ending address
   pub given : StatusGiven address (accepted s row request) v
   pub rest : OnlyControl (accepted s row request) v
 
 -- the device did what was asked, or did not hear of it; where the bus gave up, its status stage may have been given, too
-pub data EffectOrNone (t : Target) (request : Setup) (fault : PipeFault) (old : World) (j : ℕ) (p : List ℕ) (s v : State) : Type 0 where
-  none : OnlyControl s v → v.registers ≡ s.registers → EffectOrNone t request fault old j p s v
-  some : (row : List PortState) (now : World) → AcceptedIn t request old now j p row s → OnlyControl (accepted s row request) v → v.registers ≡ (accepted s row request).registers
-      → EffectOrNone t request fault old j p s v
-  whole : (why : BusFault) → fault ≡ Bus why → (row : List PortState) (now : World) → AcceptedIn t request old now j p row s → OnlyControl (accepted s row request) v
+pub data EffectOrNone (t : Target) (request : Setup) (fault : PipeFault) (old : World) (x : Spot) (s v : State) : Type 0 where
+  none : OnlyControl s v → v.registers ≡ s.registers → EffectOrNone t request fault old x s v
+  some : (row : List PortState) (now : World) → AcceptedIn t request old now x row s → OnlyControl (accepted s row request) v → v.registers ≡ (accepted s row request).registers
+      → EffectOrNone t request fault old x s v
+  whole : (why : BusFault) → fault ≡ Bus why → (row : List PortState) (now : World) → AcceptedIn t request old now x row s → OnlyControl (accepted s row request) v
       → (address : Option ℕ) → first_stage row request.length (outcome s.spec s.registers request) ≡ ending address → StatusGiven address (accepted s row request) v
-      → EffectOrNone t request fault old j p s v
+      → EffectOrNone t request fault old x s v
 
 -- a request without data
-pub record WriteLeaves (t : Target) (request : Setup) (result : Result (Unit {0}) PipeFault) (old new : World) (j : ℕ) (p : List ℕ) (s v : State) : Type 0 where
+pub record WriteLeaves (t : Target) (request : Setup) (result : Result (Unit {0}) PipeFault) (old new : World) (x : Spot) (s v : State) : Type 0 where
   pub others : is_at s t ≡ false → v ≡ s
-  pub failed : (fault : PipeFault) → result ≡ Err fault → EffectOrNone t request fault old j p s v
-  pub done : is_at s t ≡ true → (u : Unit {0}) → result ≡ Ok u → EffectDone t request old new j p s v
-  pub refused : is_at s t ≡ true → result ≡ Err Stalled → WasRefused t request old new j p s
+  pub failed : (fault : PipeFault) → result ≡ Err fault → EffectOrNone t request fault old x s v
+  pub done : is_at s t ≡ true → (u : Unit {0}) → result ≡ Ok u → EffectDone t request old new x s v
+  pub refused : is_at s t ≡ true → result ≡ Err Stalled → WasRefused t request old new x s
   pub could : is_at s t ≡ true → CanEnd s.spec result
 
 -- Address losses (9.4.6)
@@ -139,14 +139,14 @@ pub data TookItOrLost (a : ℕ) (old new : World) (s v : State) : Type 0 where
   lost : v.registers ≡ s.registers → new.losses ≡ one_more old.losses → TookItOrLost a old new s v
 
 -- a request without data counts a loss exactly where it is done, asks for an address, and the device has not taken that
-pub record LossesOf (t : Target) (request : Setup) (result : Result (Unit {0}) PipeFault) (old new : World) (j : ℕ) (p : List ℕ) (s v : State) : Type 0 where
+pub record LossesOf (t : Target) (request : Setup) (result : Result (Unit {0}) PipeFault) (old new : World) (x : Spot) (s v : State) : Type 0 where
   pub done : is_at s t ≡ true → (u : Unit {0}) → result ≡ Ok u → (a : ℕ) → outcome s.spec s.registers request ≡ takes_address a → TookItOrLost a old new s v
   pub failed : is_at s t ≡ true → (why : PipeFault) → result ≡ Err why → new.losses ≡ old.losses
   pub none : is_at s t ≡ true → ((a : ℕ) → outcome s.spec s.registers request ≢ takes_address a) → new.losses ≡ old.losses
 
 -- a control read counts none of a device that it asked
-abbrev pub LossesKept : Target → World → World → ℕ → List ℕ → State → State → Type 0
-LossesKept t old new j p s v = is_at s t ≡ true → new.losses ≡ old.losses
+abbrev pub LossesKept : Target → World → World → Spot → State → State → Type 0
+LossesKept t old new x s v = is_at s t ≡ true → new.losses ≡ old.losses
 
 -- Bulk pipes (5.8)
 
@@ -158,14 +158,14 @@ pub record FitsSink (pipe : Bulk) (s : State) : Type 0 where
   pub halted : pipe.condition ≡ Halted → s.bulk_out.halted ≡ true
 
 -- what is known of a pipe: one at which the bus gave up is as good as broken
-abbrev pub known : {A : Type 0} → Result A PipeFault → Bulk → Bulk
-known (Ok x) pipe = pipe
-known (Err Stalled) pipe = pipe
-known (Err Busy) pipe = pipe
-known (Err NoAnswer) pipe = pipe
-known (Err Broken) pipe = pipe
-known (Err (Bus fault)) pipe = record pipe { condition = BrokenPipe }
-known (Err Memory) pipe = pipe
+abbrev pub pipe_known : {A : Type 0} → Result A PipeFault → Bulk → Bulk
+pipe_known (Ok x) pipe = pipe
+pipe_known (Err Stalled) pipe = pipe
+pipe_known (Err Busy) pipe = pipe
+pipe_known (Err NoAnswer) pipe = pipe
+pipe_known (Err Broken) pipe = pipe
+pipe_known (Err (Bus fault)) pipe = record pipe { condition = BrokenPipe }
+pipe_known (Err Memory) pipe = pipe
 
 -- a front of the bytes joined what the device took, once
 pub record FrontTaken (bytes : List ℕ) (s v : State) : Type 0 where
@@ -175,15 +175,15 @@ pub record FrontTaken (bytes : List ℕ) (s v : State) : Type 0 where
   pub sink : v.sink ≡ s.sink ++ front
 
 -- at a moment of a send: the bytes before the packet that is on its way joined what the device took, and the packet joined them or did not yet
-pub record SendingLeaves (sent packet : List ℕ) (toggle : Toggle) (pipe : Bulk) (j : ℕ) (p : List ℕ) (s v : State) : Type 0 where
+pub record SendingLeaves (sent packet : List ℕ) (toggle : Toggle) (pipe : Bulk) (x : Spot) (s v : State) : Type 0 where
   pub others : is_at s pipe.target ≡ false → v ≡ s
   pub frame : IsSink pipe.ep pipe.max s → OnlySink s v
   pub way : is_at s pipe.target ≡ true → pipe.condition ≡ Ready → FitsSink pipe s → SinkAt (s.sink ++ sent) packet toggle v
 
-pub record SendLeaves (bytes : List ℕ) (pipe : Bulk) (result : Result (Unit {0}) PipeFault) (left : Bulk) (j : ℕ) (p : List ℕ) (s v : State) : Type 0 where
+pub record SendLeaves (bytes : List ℕ) (pipe : Bulk) (result : Result (Unit {0}) PipeFault) (left : Bulk) (x : Spot) (s v : State) : Type 0 where
   pub others : is_at s pipe.target ≡ false → v ≡ s
   pub frame : IsSink pipe.ep pipe.max s → OnlySink s v
-  pub fits : is_at s pipe.target ≡ true → FitsSink pipe s → FitsSink (known result left) v
+  pub fits : is_at s pipe.target ≡ true → FitsSink pipe s → FitsSink (pipe_known result left) v
   pub done : is_at s pipe.target ≡ true → FitsSink pipe s → (u : Unit {0}) → result ≡ Ok u → v.sink ≡ s.sink ++ bytes
   pub failed : is_at s pipe.target ≡ true → FitsSink pipe s → (fault : PipeFault) → result ≡ Err fault → FrontTaken bytes s v
 
@@ -198,10 +198,10 @@ abbrev pub came_with : Result (Vec ℕ) PipeFault → ℕ
 came_with (Ok bytes) = length bytes.items
 came_with (Err fault) = 0
 
-pub record ReceiveLeaves (pipe : Bulk) (result : Result (Vec ℕ) PipeFault) (left : Bulk) (j : ℕ) (p : List ℕ) (s v : State) : Type 0 where
+pub record ReceiveLeaves (pipe : Bulk) (result : Result (Vec ℕ) PipeFault) (left : Bulk) (x : Spot) (s v : State) : Type 0 where
   pub others : is_at s pipe.target ≡ false → v ≡ s
   pub frame : IsSource pipe.ep pipe.max s → OnlySource s v
-  pub fits : is_at s pipe.target ≡ true → (got : ℕ) → FitsSource pipe got s → FitsSource (known result left) (got + came_with result) v
+  pub fits : is_at s pipe.target ≡ true → (got : ℕ) → FitsSource pipe got s → FitsSource (pipe_known result left) (got + came_with result) v
   -- the bytes are the next ones of the source
   pub done : is_at s pipe.target ≡ true → (got : ℕ) → FitsSource pipe got s → (bytes : Vec ℕ) → result ≡ Ok bytes → bytes.items ≡ take (length bytes.items) (drop got s.spec.source)
 
@@ -216,17 +216,17 @@ BegunAgain pipe (Ok done) before after = after ≡ (if is_ready pipe.condition t
 BegunAgain pipe (Err fault) before after = (after ≡ before) ⊎ (after ≡ rested)
 
 -- a clear of a halt (9.4.5) moves no bytes, and both ends begin again together
-pub record ClearLeaves (pipe : Bulk) (result : Result (Unit {0}) PipeFault) (left : Bulk) (j : ℕ) (p : List ℕ) (s v : State) : Type 0 where
+pub record ClearLeaves (pipe : Bulk) (result : Result (Unit {0}) PipeFault) (left : Bulk) (x : Spot) (s v : State) : Type 0 where
   pub others : is_at s pipe.target ≡ false → v ≡ s
-  pub sink : is_at s pipe.target ≡ true → pipe.is_in ≡ false → FitsSink pipe s → FitsSink (known result left) v × (v.sink ≡ s.sink) × BegunAgain pipe result s.bulk_out v.bulk_out
+  pub sink : is_at s pipe.target ≡ true → pipe.is_in ≡ false → FitsSink pipe s → FitsSink (pipe_known result left) v × (v.sink ≡ s.sink) × BegunAgain pipe result s.bulk_out v.bulk_out
   pub source : is_at s pipe.target ≡ true → pipe.is_in ≡ true → (got : ℕ) → FitsSource pipe got s
-      → FitsSource (known result left) (got_after pipe got result s) v × (v.place ≡ s.place) × BegunAgain pipe result s.bulk_in v.bulk_in
+      → FitsSource (pipe_known result left) (got_after pipe got result s) v × (v.place ≡ s.place) × BegunAgain pipe result s.bulk_in v.bulk_in
 
 -- A hub's status pipe (11.12.3)
 
 -- a hub's ports told these bits at a moment of a poll
-abbrev pub ToldOf : Interrupt → World → ℕ → List ℕ → ℕ → Type 0
-ToldOf pipe old j p bits = ToldIn (in_attempt pipe.target 1) old j p bits
+abbrev pub ToldOf : Interrupt → World → Spot → ℕ → Type 0
+ToldOf pipe old x bits = ToldIn (in_attempt pipe.target 1) old x bits
 
 -- the byte of bits that were told
 pub record ByteTold (Told : ℕ → Type 0) (bytes : List ℕ) : Type 0 where
@@ -239,10 +239,10 @@ PollTells Told (Ok None) = Told 0
 PollTells Told (Ok (Some packet)) = ByteTold Told packet.items
 PollTells Told (Err fault) = ⊤
 
-pub record PollLeaves (pipe : Interrupt) (old : World) (result : Result (Option (ArrayVec ℕ)) PipeFault) (left : Interrupt) (j : ℕ) (p : List ℕ) (s v : State) : Type 0 where
+pub record PollLeaves (pipe : Interrupt) (old : World) (result : Result (Option (ArrayVec ℕ)) PipeFault) (left : Interrupt) (x : Spot) (s v : State) : Type 0 where
   pub others : is_at s pipe.target ≡ false → v ≡ s
   pub frame : tells_changes s.spec s.registers ≡ true → OnlyChanges s v
   -- the bits are the ports' own at a moment of the poll
-  pub tells : is_at s pipe.target ≡ true → tells_changes s.spec s.registers ≡ true → PollAt NeverTold pipe.toggle s → PollTells (ToldOf pipe old j p) result
+  pub tells : is_at s pipe.target ≡ true → tells_changes s.spec s.registers ≡ true → PollAt NeverTold pipe.toggle s → PollTells (ToldOf pipe old x) result
   -- both ends are as far, where it did not fail
   pub level : is_at s pipe.target ≡ true → tells_changes s.spec s.registers ≡ true → PollAt NeverTold pipe.toggle s → (got : Option (ArrayVec ℕ)) → result ≡ Ok got → PollAt NeverTold left.toggle v

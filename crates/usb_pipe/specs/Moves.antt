@@ -7,19 +7,19 @@ use Rattle.usb_world.specs.World.{World}
 use Rattle.usb_world.specs.Steps.{Step, attempt}
 use Rattle.usb_transaction.specs.declared.target.Target.{Target}
 use Rattle.usb_transaction.specs.declared.fault.TransFault.{TransFault}
-use Rattle.usb_transaction.specs.Heard.{heard_as, sent_as}
+use Rattle.usb_transaction.specs.HeardOutcomes.{heard_as, heard_when_sent}
 use Rattle.usb_transaction.specs.Transactions.{in_attempt, out_attempt}
 use Rattle.usb_transaction.specs.Trail.{Trail, GoesOn, Transacted}
 use Rattle.usb_pipe.specs.declared.fault.PipeFault.{PipeFault}
 use Rattle.usb_pipe.specs.declared.fault.PipeFault.TheVariants.{Memory}
-use Rattle.usb_pipe.specs.Control.{fault_of}
+use Rattle.usb_pipe.specs.Control.{as_pipe_fault}
 use Rattle.usb_pipe.specs.Toggles.{flips}
 
 -- Transactions of a bulk endpoint
 
 -- a packet of these bytes is sent with this toggle
 abbrev pub Puts : Target → ℕ → Toggle → List ℕ → World → Result (List ℕ) TransFault → World → Type 0
-Puts t ep toggle bytes old answer new = Transacted sent_as (out_attempt t ep toggle bytes) old answer new
+Puts t ep toggle bytes old answer new = Transacted heard_when_sent (out_attempt t ep toggle bytes) old answer new
 
 -- a packet of this toggle is asked for
 abbrev pub Fetches : Target → ℕ → Toggle → World → Result (List ℕ) TransFault → World → Type 0
@@ -49,7 +49,7 @@ pub record NotGone (t : Target) (ep : ℕ) (first : Toggle) (total : List ℕ) (
   pub split : total ≡ sent ++ rest
   pub some : 0 < length rest
   pub fault : TransFault
-  pub told : why ≡ fault_of fault
+  pub told : why ≡ as_pipe_fault fault
   pub lost : Puts t ep (flips packets first) (take t.max rest) mid (Err fault) new
 
 -- a moment of it: full packets were acknowledged, and the next, with as many of the rest as fit, is being sent
@@ -63,7 +63,7 @@ pub record WhileSending (t : Target) (ep : ℕ) (first : Toggle) (total : List �
   pub split : total ≡ sent ++ rest
   pub outcomes : List Outcome
   pub trail : Trail (out_attempt t ep (flips packets first) (take t.max rest)) mid outcomes now
-  pub onward : GoesOn sent_as outcomes
+  pub onward : GoesOn heard_when_sent outcomes
 
 -- the attempt that is made at such a moment
 pub record SendsAt (t : Target) (ep : ℕ) (first : Toggle) (total : List ℕ) (old : World) (s : Step) (now : World) : Type 0 where
@@ -103,7 +103,7 @@ pub record NotCame (t : Target) (ep : ℕ) (first : Toggle) (wanted : ℕ) (old 
   pub mid : World
   pub before : Came t ep first old packets got mid
   pub fault : TransFault
-  pub told : why ≡ fault_of fault
+  pub told : why ≡ as_pipe_fault fault
   pub lost : Fetches t ep (flips packets first) mid (Err fault) new
 
 -- a packet came for which there was no memory

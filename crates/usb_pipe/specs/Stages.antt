@@ -8,12 +8,12 @@ use Rattle.usb_request.specs.Layout.{bytes_of}
 use Rattle.usb_world.specs.World.{World}
 use Rattle.usb_transaction.specs.declared.target.Target.{Target}
 use Rattle.usb_transaction.specs.declared.fault.TransFault.{TransFault}
-use Rattle.usb_transaction.specs.Heard.{heard_as, sent_as, set_up_as}
+use Rattle.usb_transaction.specs.HeardOutcomes.{heard_as, heard_when_sent, set_up_as}
 use Rattle.usb_transaction.specs.Transactions.{setup_attempt, in_attempt, out_attempt}
 use Rattle.usb_transaction.specs.Trail.{Transacted}
 use Rattle.usb_pipe.specs.declared.fault.PipeFault.{PipeFault}
 use Rattle.usb_pipe.specs.declared.fault.PipeFault.TheVariants.{Memory}
-use Rattle.usb_pipe.specs.Control.{fault_of, ends_stage}
+use Rattle.usb_pipe.specs.Control.{as_pipe_fault, ends_stage}
 use Rattle.usb_pipe.specs.Toggles.{flips}
 
 -- Transactions of endpoint 0
@@ -28,14 +28,14 @@ Asks t toggle old answer new = Transacted (heard_as toggle) (in_attempt t 0) old
 
 -- a packet of no bytes is sent with DATA1: the status stage of a read
 abbrev pub Confirms : Target → World → Result (List ℕ) TransFault → World → Type 0
-Confirms t old answer new = Transacted sent_as (out_attempt t 0 One []) old answer new
+Confirms t old answer new = Transacted heard_when_sent (out_attempt t 0 One []) old answer new
 
 -- How a transfer fails
 
 -- at its SETUP
 pub record NoSetUp (t : Target) (request : Setup) (old : World) (why : PipeFault) (new : World) : Type 0 where
   pub fault : TransFault
-  pub told : why ≡ fault_of fault
+  pub told : why ≡ as_pipe_fault fault
   pub set_up : SetUp t request old (Err fault) new
 
 -- Without data
@@ -52,7 +52,7 @@ pub record NoStatus (t : Target) (request : Setup) (old : World) (why : PipeFaul
   pub mid : World
   pub set_up : SetUp t request old (Ok []) mid
   pub fault : TransFault
-  pub told : why ≡ fault_of fault
+  pub told : why ≡ as_pipe_fault fault
   pub status : Asks t One mid (Err fault) new
 
 abbrev pub Writes : Target → Setup → World → Result (Unit {0}) PipeFault → World → Type 0
@@ -85,7 +85,7 @@ pub record DataLost (t : Target) (wanted : ℕ) (old : World) (why : PipeFault) 
   pub mid : World
   pub before : Goes t wanted old packets got mid
   pub fault : TransFault
-  pub told : why ≡ fault_of fault
+  pub told : why ≡ as_pipe_fault fault
   pub lost : Asks t (flips packets One) mid (Err fault) new
 
 -- it ended with a packet for which there was no memory
@@ -124,7 +124,7 @@ pub record NotConfirmed (t : Target) (request : Setup) (old : World) (why : Pipe
   pub bytes : List ℕ
   pub data_stage : DataStage t request.length first bytes second
   pub fault : TransFault
-  pub told : why ≡ fault_of fault
+  pub told : why ≡ as_pipe_fault fault
   pub status : Confirms t second (Err fault) new
 
 abbrev pub Reads : Target → Setup → World → Result (Vec ℕ) PipeFault → World → Type 0

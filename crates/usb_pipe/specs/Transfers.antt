@@ -16,10 +16,10 @@ use Rattle.usb_transaction.specs.Failures.{NoThreeDamaged}
 use Rattle.usb_pipe.specs.declared.fault.PipeFault.{PipeFault}
 use Rattle.usb_pipe.specs.declared.fault.PipeFault.TheVariants.{Memory}
 use Rattle.usb_pipe.specs.Bulk.{Bulk, Sends, Receives, Clears}
-use Rattle.usb_pipe.specs.Control.{Faults}
+use Rattle.usb_pipe.specs.Control.{FaultAfter}
 use Rattle.usb_pipe.specs.Interrupt.{Interrupt, Polls}
 use Rattle.usb_pipe.specs.Stages.{Reads, Writes}
-use Rattle.usb_pipe.specs.Leaves.{IsNotOfBus, ReadLeaves, WriteLeaves, LossesOf, LossesKept, SendLeaves, ReceiveLeaves, ClearLeaves, PollLeaves}
+use Rattle.usb_pipe.specs.Leaves.{IsNoBusFault, ReadLeaves, WriteLeaves, LossesOf, LossesKept, SendLeaves, ReceiveLeaves, ClearLeaves, PollLeaves}
 use Rattle.usb_pipe.specs.Failures.{WhyRead, WhyWrite, WhySend, WhyReceive, WhyPolling}
 
 -- When it is so
@@ -30,18 +30,18 @@ Unshared new F = new.shared ≡ false → F
 
 -- the bus did not give up either
 abbrev pub Completed : {A : Type 0} → Result A PipeFault → World → Type 0 → Type 0
-Completed result new F = IsNotOfBus result → new.shared ≡ false → F
+Completed result new F = IsNoBusFault result → new.shared ≡ false → F
 
 -- and no three attempts running are damaged
 abbrev pub Undamaged : {A : Type 0} → World → Result A PipeFault → World → Type 0 → Type 0
-Undamaged old result new F = NoThreeDamaged old → IsNotOfBus result → new.shared ≡ false → F
+Undamaged old result new F = NoThreeDamaged old → IsNoBusFault result → new.shared ≡ false → F
 
 -- Control transfers (8.5.3)
 
 -- a control read: if it is done, it gave the bytes that the device answers the request with, as many as were wanted; whatever its
 -- answer is, nothing of any device changed but where its own transfer stands
 pub record ControlRead (t : Target) (request : Setup) (old : World) (result : Result (Vec ℕ) PipeFault) (new : World) : Type 0 where
-  pub ends : MatchResult result (λ _. Worked 3 old new) (λ fault. Faults 1 old fault new)
+  pub ends : MatchResult result (λ _. Worked 3 old new) (λ fault. FaultAfter 1 old fault new)
   pub stages : Reads t request old result new
   pub settled : IsSettled old.roots
   pub most : IfOk result (λ bytes. length bytes.items ≤ request.length)
@@ -54,7 +54,7 @@ pub record ControlRead (t : Target) (request : Setup) (old : World) (result : Re
 -- saw the last ACK (9.4.6). One that failed had it or not, and nothing else changed. Of a device that the reset of a port may have
 -- reached nothing is said; a request that clears a change of connection begins another stretch of losses
 pub record ControlWrite (t : Target) (request : Setup) (old : World) (result : Result (Unit {0}) PipeFault) (new : World) : Type 0 where
-  pub ends : MatchResult result (λ _. Worked 2 old new) (λ fault. Faults 1 old fault new)
+  pub ends : MatchResult result (λ _. Worked 2 old new) (λ fault. FaultAfter 1 old fault new)
   pub stages : Writes t request old result new
   pub settled : IsSettled old.roots
   pub room : result ≢ Err Memory
@@ -72,7 +72,7 @@ pub record BulkSend (bytes : List ℕ) (pipe : Bulk) (old : World) (result : Res
   pub what : Unshared new (EachWas (SendLeaves bytes pipe result left) old new)
   pub why : Undamaged old result new (EachWas (WhySend pipe result) old new)
   pub who : OnOk result (bytes ≢ [] → Unshared new (Answerer pipe.target old new))
-  pub losses : IsNotOfBus result → new.losses ≡ old.losses
+  pub losses : IsNoBusFault result → new.losses ≡ old.losses
 
 -- bytes that were received are the next ones of the device's source, in order, none twice and none left out
 pub record BulkReceive (wanted : ℕ) (pipe : Bulk) (old : World) (result : Result (Vec ℕ) PipeFault) (left : Bulk) (new : World) : Type 0 where
@@ -80,7 +80,7 @@ pub record BulkReceive (wanted : ℕ) (pipe : Bulk) (old : World) (result : Resu
   pub what : Unshared new (EachWas (ReceiveLeaves pipe result left) old new)
   pub why : Undamaged old result new (EachWas (WhyReceive wanted pipe result) old new)
   pub who : OnOk result (wanted ≢ 0 → Unshared new (Answerer pipe.target old new))
-  pub losses : pipe.ep ≢ 0 → IsNotOfBus result → new.losses ≡ old.losses
+  pub losses : pipe.ep ≢ 0 → IsNoBusFault result → new.losses ≡ old.losses
 
 -- a clear of a halt moves no bytes (9.4.5); one that is done lets both ends begin again at DATA0, and a device that gives bytes goes on
 -- with the first that it has not seen acknowledged
@@ -99,4 +99,4 @@ pub record InterruptPoll (pipe : Interrupt) (old : World) (result : Result (Opti
   pub what : pipe.ep ≡ 1 → Unshared new (EachWas (PollLeaves pipe old result left) old new)
   pub why : pipe.ep ≡ 1 → Undamaged old result new (EachWas (WhyPolling pipe result) old new)
   pub who : OnOk result (Unshared new (Answerer pipe.target old new))
-  pub losses : pipe.ep ≢ 0 → IsNotOfBus result → new.losses ≡ old.losses
+  pub losses : pipe.ep ≢ 0 → IsNoBusFault result → new.losses ≡ old.losses

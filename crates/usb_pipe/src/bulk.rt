@@ -42,7 +42,7 @@ impl BulkPipe {
     ghost use Rattle.std.specs.Prelude.{◌≡◌, ◌*◌, ◌<◌, ◌≤◌, true, false, length};
     ghost use Rattle.std.specs.Int.{div_ceil};
     ghost use Rattle.usb_packet.specs.declared.Toggle.TheVariants.{Zero};
-    ghost use Rattle.usb_bus.specs.Traced.{Went};
+    ghost use Rattle.usb_bus.specs.Traces.{Went};
     ghost use Rattle.usb_transaction.specs.Transactions.{IsTarget};
     ghost use Rattle.usb_pipe.specs.declared.condition.Condition.TheVariants.{Ready};
     ghost use Rattle.usb_pipe.specs.Bulk.{Bulk, Cleared};

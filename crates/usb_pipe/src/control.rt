@@ -1,6 +1,6 @@
 //! Control transfers (8.5.3).
 ghost use Rattle.std.specs.Prelude.{◌≡◌, ◌≤◌};
-ghost use Rattle.usb_bus.specs.Traced.{Went};
+ghost use Rattle.usb_bus.specs.Traces.{Went};
 ghost use Rattle.usb_request.specs.Layout.{IsToHost, IsToDevice};
 ghost use Rattle.usb_transaction.specs.Transactions.{IsTarget};
 ghost use Rattle.usb_pipe.specs.Control.{control_bound};

@@ -1,6 +1,6 @@
 //! Why a transfer ended with no success.
 ghost use Rattle.std.specs.Prelude.{◌≡◌};
-ghost use Rattle.usb_pipe.specs.Control.{fault_of};
+ghost use Rattle.usb_pipe.specs.Control.{as_pipe_fault};
 ghost use Rattle.usb_pipe.specs.declared.fault.PipeFault.TheVariants.{Memory as NoMemory};
 
 use std::alloc::AllocError;
@@ -32,7 +32,7 @@ pub enum PipeFault {
 }
 
 impl From<TransFault> for PipeFault {
-    ghost from_gives = { λ fault e. e ≡ fault_of fault };
+    ghost from_gives = { λ fault e. e ≡ as_pipe_fault fault };
 
     fn from(fault: TransFault) -> PipeFault {
         match fault {

@@ -31,7 +31,7 @@ impl Model for InterruptPipe {
 impl InterruptPipe {
     ghost use Rattle.std.specs.Prelude.{◌≡◌, ◌<◌, ◌≤◌};
     ghost use Rattle.usb_packet.specs.declared.Toggle.TheVariants.{Zero};
-    ghost use Rattle.usb_bus.specs.Traced.{Went};
+    ghost use Rattle.usb_bus.specs.Traces.{Went};
     ghost use Rattle.usb_transaction.specs.Transactions.{IsTarget};
     ghost use Rattle.usb_pipe.specs.End.{packet_target};
     ghost use Rattle.usb_pipe.specs.Interrupt.{Interrupt};

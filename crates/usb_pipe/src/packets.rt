@@ -1,7 +1,7 @@
 //! The packets of a bulk transfer (5.8.3).
 ghost use Rattle.std.specs.Prelude.{◌*◌, ◌<◌, length};
 ghost use Rattle.std.specs.Int.{div_ceil};
-ghost use Rattle.usb_bus.specs.Traced.{Went};
+ghost use Rattle.usb_bus.specs.Traces.{Went};
 ghost use Rattle.usb_transaction.specs.Transactions.{IsTarget};
 ghost use Rattle.usb_pipe.specs.Packets.{PacketsSent, PacketsReceived};
 

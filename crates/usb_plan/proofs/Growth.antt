@@ -16,7 +16,7 @@ use Rattle.usb_world.specs.PluggedDevices.{PluggedMap, plugged_by, plugged_after
 use Rattle.usb_world.specs.PlanData.{event_fits, events_fit, damage_fits, damages_fit}
 use Rattle.usb_plan.specs.Device.{device_in, devices_from}
 use Rattle.usb_plan.specs.Event.{event_in, events_from}
-use Rattle.usb_plan.specs.Damage.{damage_in, last_from, damages_from}
+use Rattle.usb_plan.specs.Damage.{damage_given, last_from, damages_from}
 use Rattle.usb_plan.proofs.Steps.{view_drop}
 
 pub events_fit-push : (roots : ℕ) (devices : List Spec) (tree : PluggedMap) (events : List Event) (e : Event) → events_fit roots devices tree events ≡ true → event_fits roots devices (plugged_by tree events) e ≡ true → events_fit roots devices tree (events ++ e ∷ []) ≡ true
@@ -79,19 +79,19 @@ pub events_from-end : (roots : ℕ) (specs : List Spec) (n : ℕ) (done : List E
 unfolding events_from
 events_from-end roots specs n done vs i le = rw (drop_all i vs le)
 
-pub damages_from-step : (done : List Damage) (vs : List Value) (i : ℕ) (v : Value) (r : Result Damage Kind) (s : Damage) (total : Result (List Damage) PlanFault) → i < length vs → v ≡ get_or vs i v → r ≡ damage_in (last_from 0 done) (length done) (as_table (view v)) → placed (place.Damage (i + 1)) r ≡ Ok s
+pub damages_from-step : (done : List Damage) (vs : List Value) (i : ℕ) (v : Value) (r : Result Damage Kind) (s : Damage) (total : Result (List Damage) PlanFault) → i < length vs → v ≡ get_or vs i v → r ≡ damage_given (last_from 0 done) (length done) (as_table (view v)) → placed (place.Damage (i + 1)) r ≡ Ok s
     → damages_from (i + 1) done (map view (drop i vs)) ≡ total → damages_from (i + 1 + 1) (done ++ s ∷ []) (map view (drop (i + 1) vs)) ≡ total
 unfolding damages_from
 damages_from-step done vs i v r s total lt is e ok so_far =
-    let good : placed (place.Damage (i + 1)) (damage_in (last_from 0 done) (length done) (as_table (view v))) ≡ Ok s = rw (← e) ok in
+    let good : placed (place.Damage (i + 1)) (damage_given (last_from 0 done) (length done) (as_table (view v))) ≡ Ok s = rw (← e) ok in
     let one : damages_from (i + 1) done (map view (drop i vs)) ≡ damages_from (i + 1 + 1) (done ++ s ∷ []) (map view (drop (i + 1) vs)) = rw (view_drop vs i v lt is, good) refl in
     sym one ∙ so_far
 
-pub damages_from-fault : (done : List Damage) (vs : List Value) (i : ℕ) (v : Value) (r : Result Damage Kind) (f : PlanFault) (total : Result (List Damage) PlanFault) → i < length vs → v ≡ get_or vs i v → r ≡ damage_in (last_from 0 done) (length done) (as_table (view v)) → placed (place.Damage (i + 1)) r ≡ Err f
+pub damages_from-fault : (done : List Damage) (vs : List Value) (i : ℕ) (v : Value) (r : Result Damage Kind) (f : PlanFault) (total : Result (List Damage) PlanFault) → i < length vs → v ≡ get_or vs i v → r ≡ damage_given (last_from 0 done) (length done) (as_table (view v)) → placed (place.Damage (i + 1)) r ≡ Err f
     → damages_from (i + 1) done (map view (drop i vs)) ≡ total → Err f ≡ total
 unfolding damages_from
 damages_from-fault done vs i v r f total lt is e err so_far =
-    let bad : placed (place.Damage (i + 1)) (damage_in (last_from 0 done) (length done) (as_table (view v))) ≡ Err f = rw (← e) err in
+    let bad : placed (place.Damage (i + 1)) (damage_given (last_from 0 done) (length done) (as_table (view v))) ≡ Err f = rw (← e) err in
     let one : damages_from (i + 1) done (map view (drop i vs)) ≡ Err f = rw (view_drop vs i v lt is, bad) refl in
     sym one ∙ so_far
 

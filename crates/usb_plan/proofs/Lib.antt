@@ -1,7 +1,7 @@
 mod Entries
 mod Steps
 mod Parts
-mod Unless
+mod MemoryRefusals
 mod Growth
 mod Totals
 mod Places

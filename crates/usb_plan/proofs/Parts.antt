@@ -25,23 +25,23 @@ use Rattle.usb_plan.specs.declared.verb.Verb.{Verb}
 use Rattle.usb_plan.specs.declared.verb.Verb.TheVariants as verb
 use Rattle.usb_plan.specs.declared.damage.Way.{Way}
 use Rattle.usb_plan.specs.declared.damage.Way.TheVariants as way
-use Rattle.usb_plan.specs.Kind.{fault_of, sooner, told, placed, ◌>>=◌}
+use Rattle.usb_plan.specs.Kind.{part_fault, sooner, least_fault, placed, ◌>>=◌}
 use Rattle.usb_plan.specs.Value.{number_in, number_at, number_or}
 use Rattle.usb_device.specs.Spec.{Spec, Hub, hub_fits, has_hub_class, function, is_named}
-use Rattle.usb_plan.specs.Hub.{class_at, hub_at, no_hub, is_low, is_other}
+use Rattle.usb_plan.specs.Hub.{class_at, hub_at, no_hub, low_read, is_other}
 use Rattle.usb_device.specs.declared.spec.Stalls.{Stalls}
 use Rattle.usb_plan.specs.Quirks.{quirks_with, quirks_of, naks_at}
-use Rattle.usb_plan.specs.Bulk.{bulk_with, bulk_of, halt_at, halt_in}
+use Rattle.usb_plan.specs.Bulk.{bulk_with, bulk_keys, halt_at, halt_in}
 use Rattle.usb_world.specs.PlanData.{is_taken, action_fits, event_fits, harm_fits, damage_fits}
 use Rattle.usb_plan.specs.Device as device
-use Rattle.usb_plan.specs.Device.{name_in, name_at, speed_at, descriptor_at, with_quirks, with_halt, with_hub, named_device, HubFits, FewNaks, HaltsLater, identity_with, identity_of, made, device_with, device_of, device_in}
-use Rattle.usb_plan.specs.Path.{rooted, path_in, path_at, free, taken}
+use Rattle.usb_plan.specs.Device.{name_in, name_at, speed_at, descriptor_at, with_quirks, with_halt, with_hub, named_device, HubFits, FewNaks, HaltsLater, identity_with, identity_of, made, device_with, device_described, device_in}
+use Rattle.usb_plan.specs.Path.{rooted, path_read, rooted_path, free, taken}
 use Rattle.usb_plan.specs.Verb.{verb_at}
 use Rattle.usb_plan.specs.Action as action
-use Rattle.usb_plan.specs.Action.{known, device_named, device_at, bytes_at, packets_at, plug_of, unplug_of, send_of, receive_of, clear_of, action_of, keys_of}
-use Rattle.usb_plan.specs.Event.{after_at, room, event_with, event_of, event_in}
+use Rattle.usb_plan.specs.Action.{device_known, device_named, device_key, bytes_at, packets_at, plug_of, unplug_of, send_of, receive_of, clear_of, action_of, keys_of}
+use Rattle.usb_plan.specs.Event.{after_at, event_room, event_with, event_of, event_in}
 use Rattle.usb_plan.specs.Damage as damage
-use Rattle.usb_plan.specs.Damage.{attempt_at, packet_at, way_at, no_bit, flipped, harm_of, harm_by, damage_with, damage_of, damage_in}
+use Rattle.usb_plan.specs.Damage.{attempt_at, packet_key, way_at, no_bit, bit_key, harm_of, harm_by, damage_with, damage_described, damage_given}
 use Rattle.usb_plan.specs.Plan.{limit_at, roots_at, top_with, top_of, TopFits}
 
 -- what was good before the rest was asked for
@@ -49,8 +49,8 @@ pub bind_ok : {A B E : Type 0} (r : Result A E) (f : A → Result B E) (y : B) �
 bind_ok (Ok x) f y h = (x, refl, h)
 bind_ok (Err e) f y h = cc
 
-no_fault : {A : Type 0} (r : Result A Kind) → fault_of r ≡ None → (x : A) × (r ≡ Ok x)
-unfolding fault_of
+no_fault : {A : Type 0} (r : Result A Kind) → part_fault r ≡ None → (x : A) × (r ≡ Ok x)
+unfolding part_fault
 no_fault (Ok x) h = (x, refl)
 no_fault (Err k) h = cc
 
@@ -61,10 +61,10 @@ sooner_ok (Some k) (Ok v) u h = cc
 sooner_ok (Some k) (Err l) u h = cc
 
 -- where nothing is told, no part has a fault
-pub told_ok : (fs : List (Option Kind)) (u : Unit {0}) → told fs ≡ Ok u → AllByRecursion (λ f. f ≡ None) fs
-unfolding told
+pub told_ok : (fs : List (Option Kind)) (u : Unit {0}) → least_fault fs ≡ Ok u → AllByRecursion (λ f. f ≡ None) fs
+unfolding least_fault
 told_ok [] u h = tt
-told_ok (f ∷ fs) u h = let parts = sooner_ok f (told fs) u h in (parts.0, told_ok fs u parts.1)
+told_ok (f ∷ fs) u h = let parts = sooner_ok f (least_fault fs) u h in (parts.0, told_ok fs u parts.1)
 
 pub placed_ok : {A : Type 0} (p : Place) (r : Result A Kind) (x : A) → placed p r ≡ Ok x → r ≡ Ok x
 unfolding placed
@@ -97,8 +97,8 @@ unfolding name_at
 name_at_ok earlier None n h = cc
 name_at_ok earlier (Some d) n h = name_in_ok earlier (as_str d) n h
 
-device_room_ok : (earlier : List Spec) (u : Unit {0}) → device.room earlier ≡ Ok u → length earlier < 127
-unfolding device.room
+device_room_ok : (earlier : List Spec) (u : Unit {0}) → device.device_room earlier ≡ Ok u → length earlier < 127
+unfolding device.device_room
 device_room_ok earlier u h = ltb-true (length earlier) 127 (ok_if (nat_lt (length earlier) 127) (Ok tt) BadValue u h).0
 
 number_in_ok : (low high : ℕ) (o : Option ℤ) (n : ℕ) → number_in low high o ≡ Ok n → (low ≤ n) × (n ≤ high)
@@ -147,7 +147,7 @@ naks_at_ok o n h = number_or_ok 0 0 200 o n (omega arith) h
 quirks_with_ok : (a b c : Result Bool Kind) (n : Result ℕ Kind) (s : Result Stalls Kind) (q : Quirks) → quirks_with a b c n s ≡ Ok q → n ≡ Ok q.naks
 unfolding quirks_with
 quirks_with_ok a b c n s q h =
-    let e0 = bind_ok (told _) _ q h in
+    let e0 = bind_ok (least_fault _) _ q h in
     let e1 = bind_ok a _ q e0.2 in
     let e2 = bind_ok b _ q e1.2 in
     let e3 = bind_ok c _ q e2.2 in
@@ -176,18 +176,18 @@ halt_at_ok (Some d) h e = halt_in_ok (number_in 1 65535 (as_integer d)) h e (num
 bulk_with_ok : (s : Result (List ℕ) Kind) (p : Result (Option ℕ) Kind) (b : Bulk) → bulk_with s p ≡ Ok b → p ≡ Ok b.halt_after
 unfolding bulk_with
 bulk_with_ok s p b h =
-    let e0 = bind_ok (told _) _ b h in
+    let e0 = bind_ok (least_fault _) _ b h in
     let e1 = bind_ok s _ b e0.2 in
     let e2 = bind_ok p _ b e1.2 in
     let same : e2.0 ≡ b.halt_after = cc e2.2 in
     e2.1 ∙ ap Ok same
 
-pub bulk_of_ok : (ms : Members) (b : Bulk) → bulk_of ms ≡ Ok b → HaltsLater b
-unfolding bulk_of
+pub bulk_of_ok : (ms : Members) (b : Bulk) → bulk_keys ms ≡ Ok b → HaltsLater b
+unfolding bulk_keys
 bulk_of_ok ms b h = halt_at_ok (get_member (codes "halt_after") ms) b.halt_after (bulk_with_ok _ _ b h)
 
 class_at_ok : (ports descriptor : Option Data) (low : Bool) (bytes : List ℕ) (u : Unit {0}) (hub : Option Hub) → class_at ports (Ok low) (Ok bytes) ≡ Ok u → hub_at ports descriptor ≡ Ok hub → hub_fits low bytes hub ≡ true
-unfolding class_at hub_at no_hub is_low is_other
+unfolding class_at hub_at no_hub low_read is_other
 class_at_ok None None low bytes u hub c h = let same : None ≡ hub = cc h in rw (← same) refl
 class_at_ok None (Some d) low bytes u hub c h = cc h
 class_at_ok (Some p) descriptor low bytes u None c h = refl
@@ -204,13 +204,13 @@ record IdentityIs (name : Result (List ℕ) Kind) (low : Result Bool Kind) (desc
   name_is : name ≡ Ok i.name
   low_is : low ≡ Ok i.low
   descriptor_is : descriptor ≡ Ok i.descriptor
-  class_is : fault_of class ≡ None
+  class_is : part_fault class ≡ None
   hub_is : hub ≡ Ok i.hub
 
 identity_with_ok : (name : Result (List ℕ) Kind) (low : Result Bool Kind) (descriptor : Result (List ℕ) Kind) (class : Result (Unit {0}) Kind) (hub : Result (Option Hub) Kind) (i : Identity) → identity_with name low descriptor class hub ≡ Ok i → IdentityIs name low descriptor class hub i
 unfolding identity_with
 identity_with_ok name low descriptor class hub i h =
-    let e0 = bind_ok (told _) _ i h in
+    let e0 = bind_ok (least_fault _) _ i h in
     let e1 = bind_ok name _ i e0.2 in
     let e2 = bind_ok low _ i e1.2 in
     let e3 = bind_ok descriptor _ i e2.2 in
@@ -236,10 +236,10 @@ identity_of_ok earlier ms i h =
     let good : class_at ports (Ok i.low) (Ok i.descriptor) ≡ Ok class.0 = rw (← is.low_is, ← is.descriptor_is) class.1 in
     class_at_ok ports (get_member (codes "hub_descriptor") ms) i.low i.descriptor class.0 i.hub good is.hub_is
 
-device_with_ok : (earlier : List Spec) (ms : Members) (i : Result Identity Kind) (c : Result Content Kind) (q : Result Quirks Kind) (b : Result Bulk Kind) (keys left : Result (Unit {0}) Kind) (s : Spec) → i ≡ identity_of earlier ms → left ≡ device.room earlier → device_with i c q b keys left ≡ Ok s → Joins earlier s
+device_with_ok : (earlier : List Spec) (ms : Members) (i : Result Identity Kind) (c : Result Content Kind) (q : Result Quirks Kind) (b : Result Bulk Kind) (keys left : Result (Unit {0}) Kind) (s : Spec) → i ≡ identity_of earlier ms → left ≡ device.device_room earlier → device_with i c q b keys left ≡ Ok s → Joins earlier s
 unfolding device_with
 device_with_ok earlier ms i c q b keys left s i_is room_is h =
-    let e0 = bind_ok (told _) _ s h in
+    let e0 = bind_ok (least_fault _) _ s h in
     let e1 = bind_ok i _ s e0.2 in
     let e2 = bind_ok c _ s e1.2 in
     let e3 = bind_ok q _ s e2.2 in
@@ -254,8 +254,8 @@ device_with_ok earlier ms i c q b keys left s i_is room_is h =
       new = rw (← name) (name_at_ok earlier (get_member (codes "name") ms) e1.0.name is.name_is);
     }
 
-device_of_ok : (earlier : List Spec) (ms : Members) (s : Spec) → device_of earlier ms ≡ Ok s → Joins earlier s
-unfolding device_of
+device_of_ok : (earlier : List Spec) (ms : Members) (s : Spec) → device_described earlier ms ≡ Ok s → Joins earlier s
+unfolding device_described
 device_of_ok earlier ms s h = device_with_ok earlier ms _ _ _ _ _ _ s refl refl h
 
 pub device_in_ok : (earlier : List Spec) (o : Option Members) (s : Spec) → device_in earlier o ≡ Ok s → Joins earlier s
@@ -271,13 +271,13 @@ rooted_ok roots (Some path) p h =
     let same : path ≡ p = cc test.1 in
     rw (← same) test.0
 
-path_in_ok : (roots : ℕ) (o : Option (List ℕ)) (p : List ℕ) → path_in roots o ≡ Ok p → is_rooted roots p ≡ true
-unfolding path_in
+path_in_ok : (roots : ℕ) (o : Option (List ℕ)) (p : List ℕ) → path_read roots o ≡ Ok p → is_rooted roots p ≡ true
+unfolding path_read
 path_in_ok roots None p h = cc
 path_in_ok roots (Some text) p h = rooted_ok roots (path_of text) p h
 
-path_at_ok : (roots : ℕ) (o : Option Data) (p : List ℕ) → path_at roots o ≡ Ok p → is_rooted roots p ≡ true
-unfolding path_at
+path_at_ok : (roots : ℕ) (o : Option Data) (p : List ℕ) → rooted_path roots o ≡ Ok p → is_rooted roots p ≡ true
+unfolding rooted_path
 path_at_ok roots None p h = cc
 path_at_ok roots (Some d) p h = path_in_ok roots (as_str d) p h
 
@@ -302,8 +302,8 @@ taken_ok tree (Ok path) p h =
     let same : path ≡ p = cc test.1 in
     rw (← same) (refl, test.0)
 
-known_ok : (o : Option ℕ) (i : ℕ) → known o ≡ Ok i → o ≡ Some i
-unfolding known
+known_ok : (o : Option ℕ) (i : ℕ) → device_known o ≡ Ok i → o ≡ Some i
+unfolding device_known
 known_ok None i h = cc
 known_ok (Some j) i h = cc
 
@@ -314,13 +314,13 @@ device_named_ok specs (Some name) i h =
     let none : Spec = function [] [] [] in
     (position-Some (λ s. bytes_eq s.name name) specs i none (known_ok (position (λ s. bytes_eq s.name name) specs) i h)).0
 
-device_at_ok : (specs : List Spec) (o : Option Data) (i : ℕ) → device_at specs o ≡ Ok i → i < length specs
-unfolding device_at
+device_at_ok : (specs : List Spec) (o : Option Data) (i : ℕ) → device_key specs o ≡ Ok i → i < length specs
+unfolding device_key
 device_at_ok specs None i h = cc
 device_at_ok specs (Some d) i h = device_named_ok specs (as_str d) i h
 
-room_ok : (count : ℕ) (u : Unit {0}) → room count ≡ Ok u → count < 10000
-unfolding room
+room_ok : (count : ℕ) (u : Unit {0}) → event_room count ≡ Ok u → count < 10000
+unfolding event_room
 room_ok count u h = ltb-true count 10000 (ok_if (nat_lt count 10000) (Ok tt) BadValue u h).0
 
 after_at_ok : (o : Option Data) (n : ℕ) → after_at o ≡ Ok n → n ≤ 1000000000
@@ -338,7 +338,7 @@ Fits roots devices tree a = action_fits roots devices tree a ≡ true
 plug_ok : (path : Result (List ℕ) Kind) (device : Result ℕ Kind) (a : Action) → action.plug path device ≡ Ok a → (p : List ℕ) × (d : ℕ) × (path ≡ Ok p) × (device ≡ Ok d) × (Plug p d ≡ a)
 unfolding action.plug
 plug_ok path device a h =
-    let e0 = bind_ok (told _) _ a h in
+    let e0 = bind_ok (least_fault _) _ a h in
     let e1 = bind_ok path _ a e0.2 in
     let e2 = bind_ok device _ a e1.2 in
     (e1.0, e2.0, e1.1, e2.1, cc e2.2)
@@ -346,26 +346,26 @@ plug_ok path device a h =
 plug_of_ok : (roots : ℕ) (specs : List Spec) (tree : PluggedMap) (ms : Members) (a : Action) → plug_of roots specs tree ms ≡ Ok a → Fits roots specs tree a
 unfolding plug_of
 plug_of_ok roots specs tree ms a h =
-    let made = plug_ok (free roots specs tree (path_at roots (get_member (codes "path") ms))) (device_at specs (get_member (codes "device") ms)) a h in
+    let made = plug_ok (free roots specs tree (rooted_path roots (get_member (codes "path") ms))) (device_key specs (get_member (codes "device") ms)) a h in
     let p = made.0 in
     let d = made.1 in
-    let path = free_ok roots specs tree (path_at roots (get_member (codes "path") ms)) p made.2 in
+    let path = free_ok roots specs tree (rooted_path roots (get_member (codes "path") ms)) p made.2 in
     let device = lt-ltb d (length specs) (device_at_ok specs (get_member (codes "device") ms) d made.3) in
     rw (← made.4) (rw (path.port, path.free, device))
 
 unplug_of_ok : (roots : ℕ) (specs : List Spec) (tree : PluggedMap) (ms : Members) (a : Action) → unplug_of roots tree ms ≡ Ok a → Fits roots specs tree a
 unfolding unplug_of
 unplug_of_ok roots specs tree ms a h =
-    let made = bind_ok (taken tree (path_at roots (get_member (codes "path") ms))) _ a h in
+    let made = bind_ok (taken tree (rooted_path roots (get_member (codes "path") ms))) _ a h in
     let p = made.0 in
     let same : Unplug p ≡ a = cc made.2 in
-    let held = taken_ok tree (path_at roots (get_member (codes "path") ms)) p made.1 in
+    let held = taken_ok tree (rooted_path roots (get_member (codes "path") ms)) p made.1 in
     rw (← same) (rw (path_at_ok roots (get_member (codes "path") ms) p held.0, held.1))
 
 send_ok : (path bytes : Result (List ℕ) Kind) (a : Action) → action.send path bytes ≡ Ok a → (p b : List ℕ) × (path ≡ Ok p) × (Send p b ≡ a)
 unfolding action.send
 send_ok path bytes a h =
-    let e0 = bind_ok (told _) _ a h in
+    let e0 = bind_ok (least_fault _) _ a h in
     let e1 = bind_ok path _ a e0.2 in
     let e2 = bind_ok bytes _ a e1.2 in
     (e1.0, e2.0, e1.1, cc e2.2)
@@ -373,13 +373,13 @@ send_ok path bytes a h =
 send_of_ok : (roots : ℕ) (specs : List Spec) (tree : PluggedMap) (ms : Members) (a : Action) → send_of roots ms ≡ Ok a → Fits roots specs tree a
 unfolding send_of
 send_of_ok roots specs tree ms a h =
-    let made = send_ok (path_at roots (get_member (codes "path") ms)) (bytes_at (get_member (codes "bytes") ms)) a h in
+    let made = send_ok (rooted_path roots (get_member (codes "path") ms)) (bytes_at (get_member (codes "bytes") ms)) a h in
     rw (← made.3) (path_at_ok roots (get_member (codes "path") ms) made.0 made.2)
 
 receive_ok : (path : Result (List ℕ) Kind) (packets : Result ℕ Kind) (a : Action) → action.receive path packets ≡ Ok a → (p : List ℕ) × (n : ℕ) × (path ≡ Ok p) × (packets ≡ Ok n) × (Receive p n ≡ a)
 unfolding action.receive
 receive_ok path packets a h =
-    let e0 = bind_ok (told _) _ a h in
+    let e0 = bind_ok (least_fault _) _ a h in
     let e1 = bind_ok path _ a e0.2 in
     let e2 = bind_ok packets _ a e1.2 in
     (e1.0, e2.0, e1.1, e2.1, cc e2.2)
@@ -387,14 +387,14 @@ receive_ok path packets a h =
 receive_of_ok : (roots : ℕ) (specs : List Spec) (tree : PluggedMap) (ms : Members) (a : Action) → receive_of roots ms ≡ Ok a → Fits roots specs tree a
 unfolding receive_of
 receive_of_ok roots specs tree ms a h =
-    let made = receive_ok (path_at roots (get_member (codes "path") ms)) (packets_at (get_member (codes "packets") ms)) a h in
+    let made = receive_ok (rooted_path roots (get_member (codes "path") ms)) (packets_at (get_member (codes "packets") ms)) a h in
     let few = le-leb made.1 1000 (packets_at_ok (get_member (codes "packets") ms) made.1 made.3) in
     rw (← made.4) (rw (path_at_ok roots (get_member (codes "path") ms) made.0 made.2, few))
 
 clear_of_ok : (roots : ℕ) (specs : List Spec) (tree : PluggedMap) (ms : Members) (a : Action) → clear_of roots ms ≡ Ok a → Fits roots specs tree a
 unfolding clear_of
 clear_of_ok roots specs tree ms a h =
-    let made = bind_ok (path_at roots (get_member (codes "path") ms)) _ a h in
+    let made = bind_ok (rooted_path roots (get_member (codes "path") ms)) _ a h in
     let same : Clear made.0 ≡ a = cc made.2 in
     rw (← same) (path_at_ok roots (get_member (codes "path") ms) made.0 made.1)
 
@@ -407,15 +407,15 @@ action_of_ok verb.Send roots specs tree ms a h = send_of_ok roots specs tree ms 
 action_of_ok verb.Receive roots specs tree ms a h = receive_of_ok roots specs tree ms a h
 action_of_ok verb.Clear roots specs tree ms a h = clear_of_ok roots specs tree ms a h
 
-record EventIs (action : Result Action Kind) (after : Result ℕ Kind) (room : Result (Unit {0}) Kind) (e : Event) : Type 0 where
+record EventIs (action : Result Action Kind) (after : Result ℕ Kind) (event_room : Result (Unit {0}) Kind) (e : Event) : Type 0 where
   action_is : action ≡ Ok e.action
   after_is : after ≡ Ok e.after
-  room_is : fault_of room ≡ None
+  room_is : part_fault event_room ≡ None
 
 event_with_ok : (action : Result Action Kind) (after : Result ℕ Kind) (keys left : Result (Unit {0}) Kind) (e : Event) → event_with action after keys left ≡ Ok e → EventIs action after left e
 unfolding event_with
 event_with_ok action after keys left e h =
-    let e0 = bind_ok (told _) _ e h in
+    let e0 = bind_ok (least_fault _) _ e h in
     let e1 = bind_ok after _ e e0.2 in
     let e2 = bind_ok action _ e e1.2 in
     let none = told_ok _ e0.0 e0.1 in
@@ -433,8 +433,8 @@ pub record Follows (roots : ℕ) (devices : List Spec) (tree : PluggedMap) (coun
 event_of_ok : (v : Verb) (roots : ℕ) (specs : List Spec) (tree : PluggedMap) (count : ℕ) (ms : Members) (e : Event) → event_of v roots specs tree count ms ≡ Ok e → Follows roots specs tree count e
 unfolding event_of
 event_of_ok v roots specs tree count ms e h =
-    let is = event_with_ok (action_of v roots specs tree ms) (after_at (get_member (codes "after") ms)) (keys_of v ms) (room count) e h in
-    let free = no_fault (room count) is.room_is in
+    let is = event_with_ok (action_of v roots specs tree ms) (after_at (get_member (codes "after") ms)) (keys_of v ms) (event_room count) e h in
+    let free = no_fault (event_room count) is.room_is in
     let after = le-leb e.after 1000000000 (after_at_ok (get_member (codes "after") ms) e.after is.after_is) in
     record {
       room = room_ok count free.0 free.1;
@@ -452,8 +452,8 @@ attempt_at_ok : (last : ℕ) (o : Option Data) (n : ℕ) → attempt_at last o �
 unfolding attempt_at
 attempt_at_ok last o n h = let range = number_at_ok (last + 1) 9223372036854775807 o n h in (omega (arith, range.0), range.1)
 
-packet_at_ok : (o : Option Data) (n : ℕ) → packet_at o ≡ Ok n → (1 ≤ n) × (n ≤ 3)
-unfolding packet_at
+packet_at_ok : (o : Option Data) (n : ℕ) → packet_key o ≡ Ok n → (1 ≤ n) × (n ≤ 3)
+unfolding packet_key
 packet_at_ok o n h = number_at_ok 1 3 o n h
 
 no_bit_ok : (harm : Harm) (o : Option Data) (x : Harm) → harm_fits harm ≡ true → no_bit harm o ≡ Ok x → harm_fits x ≡ true
@@ -461,8 +461,8 @@ unfolding no_bit
 no_bit_ok harm None x fits h = let same : harm ≡ x = cc h in rw (← same) fits
 no_bit_ok harm (Some d) x fits h = cc h
 
-flipped_ok : (o : Option Data) (x : Harm) → flipped o ≡ Ok x → harm_fits x ≡ true
-unfolding flipped
+flipped_ok : (o : Option Data) (x : Harm) → bit_key o ≡ Ok x → harm_fits x ≡ true
+unfolding bit_key
 flipped_ok o x h =
     let made = bind_ok (number_at 0 535 o) _ x h in
     let same : Flip made.0 ≡ x = cc made.2 in
@@ -478,20 +478,20 @@ harm_by_ok : (r : Result Way Kind) (o : Option Data) (x : Harm) → harm_by r o 
 unfolding harm_by
 harm_by_ok r o x h = let way = bind_ok r _ x h in harm_of_ok way.0 o x way.2
 
-damage_room_ok : (count : ℕ) (u : Unit {0}) → damage.room count ≡ Ok u → count < 10000
-unfolding damage.room
+damage_room_ok : (count : ℕ) (u : Unit {0}) → damage.damage_room count ≡ Ok u → count < 10000
+unfolding damage.damage_room
 damage_room_ok count u h = ltb-true count 10000 (ok_if (nat_lt count 10000) (Ok tt) BadValue u h).0
 
-record DamageIs (attempt packet : Result ℕ Kind) (harm : Result Harm Kind) (room : Result (Unit {0}) Kind) (d : Damage) : Type 0 where
+record DamageIs (attempt packet : Result ℕ Kind) (harm : Result Harm Kind) (event_room : Result (Unit {0}) Kind) (d : Damage) : Type 0 where
   attempt_is : attempt ≡ Ok d.attempt
   packet_is : packet ≡ Ok d.packet
   harm_is : harm ≡ Ok d.harm
-  room_is : fault_of room ≡ None
+  room_is : part_fault event_room ≡ None
 
 damage_with_ok : (attempt packet : Result ℕ Kind) (harm : Result Harm Kind) (keys left : Result (Unit {0}) Kind) (d : Damage) → damage_with attempt packet harm keys left ≡ Ok d → DamageIs attempt packet harm left d
 unfolding damage_with
 damage_with_ok attempt packet harm keys left d h =
-    let e0 = bind_ok (told _) _ d h in
+    let e0 = bind_ok (least_fault _) _ d h in
     let e1 = bind_ok attempt _ d e0.2 in
     let e2 = bind_ok packet _ d e1.2 in
     let e3 = bind_ok harm _ d e2.2 in
@@ -509,11 +509,11 @@ pub record Comes (last count : ℕ) (d : Damage) : Type 0 where
   pub fits : damage_fits last d ≡ true
   pub most : d.attempt ≤ 9223372036854775807
 
-damage_of_ok : (last count : ℕ) (ms : Members) (d : Damage) → damage_of last count ms ≡ Ok d → Comes last count d
-unfolding damage_of
+damage_of_ok : (last count : ℕ) (ms : Members) (d : Damage) → damage_described last count ms ≡ Ok d → Comes last count d
+unfolding damage_described
 damage_of_ok last count ms d h =
-    let is = damage_with_ok _ _ _ _ (damage.room count) d h in
-    let free = no_fault (damage.room count) is.room_is in
+    let is = damage_with_ok _ _ _ _ (damage.damage_room count) d h in
+    let free = no_fault (damage.damage_room count) is.room_is in
     let attempt = attempt_at_ok last (get_member (codes "attempt") ms) d.attempt is.attempt_is in
     let packet = packet_at_ok (get_member (codes "packet") ms) d.packet is.packet_is in
     let harm = harm_by_ok (way_at (get_member (codes "how") ms)) (get_member (codes "bit") ms) d.harm is.harm_is in
@@ -523,8 +523,8 @@ damage_of_ok last count ms d h =
       most = attempt.1;
     }
 
-pub damage_in_ok : (last count : ℕ) (o : Option Members) (d : Damage) → damage_in last count o ≡ Ok d → Comes last count d
-unfolding damage_in
+pub damage_in_ok : (last count : ℕ) (o : Option Members) (d : Damage) → damage_given last count o ≡ Ok d → Comes last count d
+unfolding damage_given
 damage_in_ok last count None d h = cc
 damage_in_ok last count (Some ms) d h = damage_of_ok last count ms d h
 
@@ -539,7 +539,7 @@ roots_at_ok o n h = number_at_ok 1 7 o n h
 top_with_ok : (limit roots : Result ℕ Kind) (devices events damages keys : Result (Unit {0}) Kind) (top : Top) → top_with limit roots devices events damages keys ≡ Ok top → (limit ≡ Ok top.limit) × (roots ≡ Ok top.roots)
 unfolding top_with
 top_with_ok limit roots devices events damages keys top h =
-    let e0 = bind_ok (told _) _ top h in
+    let e0 = bind_ok (least_fault _) _ top h in
     let e1 = bind_ok limit _ top e0.2 in
     let e2 = bind_ok roots _ top e1.2 in
     let same_limit : e1.0 ≡ top.limit = cc e2.2 in

@@ -14,7 +14,7 @@ use Rattle.std.specs.Cmp.{nat_cmp_is}
 use Rattle.std.specs.Cmp.Lexicographic.{same_text}
 use Rattle.std.proofs.lemmas.Map.Text.{is_eq-slice_cmp}
 use Rattle.usb_port.specs.Order.{path_cmp}
-use Rattle.usb_world.specs.PluggedDevices.{PluggedMap, unplugged}
+use Rattle.usb_world.specs.PluggedDevices.{PluggedMap, plugged_without}
 use Rattle.usb_plan.specs.Tree.{first_through}
 use Rattle.usb_world.proofs.Interface.{found_same, self_found}
 
@@ -90,12 +90,12 @@ pub first_found : (path start : List ℕ) (places tree range : PluggedMap) → s
 first_found path start places tree range same is sorted r = rw (r, same) (first_in_range path places sorted ∙ ap (first_through path) is)
 
 -- where no place goes through the path, nothing is unplugged
-pub none_unplugged : (path : List ℕ) (tree : PluggedMap) → first_through path tree ≡ None → unplugged path tree ≡ tree
-unfolding first_through unplugged
+pub none_unplugged : (path : List ℕ) (tree : PluggedMap) → first_through path tree ≡ None → plugged_without path tree ≡ tree
+unfolding first_through plugged_without
 none_unplugged path [] h = refl
 none_unplugged path (place ∷ tree) h = by (cases_Bool (through path place.0)) (none_unplugged path tree)
   where
-    by : (through path place.0 ≡ true) ⊎ (through path place.0 ≡ false) → (first_through path tree ≡ None → unplugged path tree ≡ tree) → unplugged path (place ∷ tree) ≡ place ∷ tree
+    by : (through path place.0 ≡ true) ⊎ (through path place.0 ≡ false) → (first_through path tree ≡ None → plugged_without path tree ≡ tree) → plugged_without path (place ∷ tree) ≡ place ∷ tree
     by (inl below) rest = let bad = rw below at h in cc
     by (inr off) rest = let none = rw off at h in rw off (ap (λ places. place ∷ places) (rest none))
 
@@ -109,20 +109,20 @@ found_through path place (first ∷ tree) h = by (cases_Bool (through path first
     by (inr off) rest = rest (rw off at h)
 
 -- a place through the path may go first
-through_removed : (path place : List ℕ) (tree : PluggedMap) → through path place ≡ true → unplugged path (remove_entry (is_at (path_cmp place)) tree) ≡ unplugged path tree
-unfolding unplugged
+through_removed : (path place : List ℕ) (tree : PluggedMap) → through path place ≡ true → plugged_without path (remove_entry (is_at (path_cmp place)) tree) ≡ plugged_without path tree
+unfolding plugged_without
 through_removed path place [] h = refl
 through_removed path place (first ∷ tree) h = by (cases_Bool (is_eq (path_cmp place first.0))) (cases_Bool (through path first.0)) (through_removed path place tree h)
   where
     by : (is_eq (path_cmp place first.0) ≡ true) ⊎ (is_eq (path_cmp place first.0) ≡ false) → (through path first.0 ≡ true) ⊎ (through path first.0 ≡ false)
-        → unplugged path (remove_entry (is_at (path_cmp place)) tree) ≡ unplugged path tree
-        → unplugged path (remove_entry (is_at (path_cmp place)) (first ∷ tree)) ≡ unplugged path (first ∷ tree)
+        → plugged_without path (remove_entry (is_at (path_cmp place)) tree) ≡ plugged_without path tree
+        → plugged_without path (remove_entry (is_at (path_cmp place)) (first ∷ tree)) ≡ plugged_without path (first ∷ tree)
     by (inl at) (inl below) rest = rw (at, below) refl
     by (inl at) (inr off) rest = let bad = sym h ∙ (ap (through path) (found_same place first.0 at) ∙ off) in cc
     by (inr apart) (inl below) rest = rw (apart, below) rest
     by (inr apart) (inr off) rest = rw (apart, off) (ap (λ places. first ∷ places) rest)
 
-pub one_unplugged : (path place : List ℕ) (tree : PluggedMap) → Some place ≡ first_through path tree → unplugged path (remove_entry (is_at (path_cmp place)) tree) ≡ unplugged path tree
+pub one_unplugged : (path place : List ℕ) (tree : PluggedMap) → Some place ≡ first_through path tree → plugged_without path (remove_entry (is_at (path_cmp place)) tree) ≡ plugged_without path tree
 one_unplugged path place tree h = through_removed path place tree (found_through path place tree (sym h))
 
 -- a place that is found is there

@@ -8,7 +8,7 @@ use Rattle.usb_plan.specs.Plan.{is_table}
 use Rattle.usb_plan.specs.declared.kind.Kind.TheVariants.{BadValue, Memory}
 use Rattle.toml.specs.Data.{as_str}
 use Rattle.usb_plan.specs.declared.kind.Kind.{Kind}
-use Rattle.usb_plan.specs.Kind.{fault_of, sooner, told, EqualUnless}
+use Rattle.usb_plan.specs.Kind.{part_fault, sooner, least_fault, EqualUnless}
 use Rattle.usb_plan.specs.Value.{hex_in, data_list}
 use Rattle.toml.specs.declared.value.Value.{Value}
 use Rattle.toml.specs.View.{view, items_view}
@@ -20,7 +20,7 @@ abbrev pub AtMost : ℕ → Result (List (List ℕ)) Kind → Type 0
 AtMost n texts = IfOk texts (λ xs. length xs ≤ n)
 
 pub AtMost-pushed : (n : ℕ) (texts : Result (List (List ℕ)) Kind) (text : Result (List ℕ) Kind) → AtMost n texts → AtMost (n + 1) (pushed texts text)
-unfolding pushed told sooner fault_of
+unfolding pushed least_fault sooner part_fault
 AtMost-pushed n (Ok xs) (Ok x) h = rw length_push (omega arith)
 AtMost-pushed n (Ok xs) (Err k) h = tt
 AtMost-pushed n (Err k) (Ok x) h = tt

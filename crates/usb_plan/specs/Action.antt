@@ -6,32 +6,32 @@ use Rattle.usb_plan.specs.declared.kind.Kind.{Kind}
 use Rattle.usb_plan.specs.declared.kind.Kind.TheVariants.{MissingKey, BadValue, UnknownDevice}
 use Rattle.usb_plan.specs.declared.verb.Verb.{Verb}
 use Rattle.usb_plan.specs.declared.verb.Verb.TheVariants as verb
-use Rattle.usb_plan.specs.Kind.{fault_of, told, ◌>>=◌}
+use Rattle.usb_plan.specs.Kind.{part_fault, least_fault, ◌>>=◌}
 use Rattle.usb_plan.specs.Keys.{keys_at}
-use Rattle.usb_plan.specs.Value.{number_at, sent_in}
-use Rattle.usb_plan.specs.Path.{path_at, free, taken}
+use Rattle.usb_plan.specs.Value.{number_at, hex_bytes}
+use Rattle.usb_plan.specs.Path.{rooted_path, free, taken}
 use Rattle.usb_device.specs.Spec.{Spec}
 use Rattle.usb_world.specs.declared.event.Action.{Action}
 use Rattle.usb_world.specs.declared.event.Action.TheVariants.{Plug, Unplug, Show, Send, Receive, Clear}
 use Rattle.usb_world.specs.PluggedDevices.{PluggedMap}
 
-unfoldable pub known : Option ℕ → Result ℕ Kind
-known None = Err UnknownDevice
-known (Some i) = Ok i
+unfoldable pub device_known : Option ℕ → Result ℕ Kind
+device_known None = Err UnknownDevice
+device_known (Some i) = Ok i
 
 unfoldable pub device_named : List Spec → Option (List ℕ) → Result ℕ Kind
 device_named devices None = Err BadValue
-device_named devices (Some name) = known (position (λ s. bytes_eq s.name name) devices)
+device_named devices (Some name) = device_known (position (λ s. bytes_eq s.name name) devices)
 
 -- the key `device`: the index of the device of that name
-unfoldable pub device_at : List Spec → Option Data → Result ℕ Kind
-device_at devices None = Err MissingKey
-device_at devices (Some d) = device_named devices (as_str d)
+unfoldable pub device_key : List Spec → Option Data → Result ℕ Kind
+device_key devices None = Err MissingKey
+device_key devices (Some d) = device_named devices (as_str d)
 
 -- the key `bytes`
 unfoldable pub bytes_at : Option Data → Result (List ℕ) Kind
 bytes_at None = Err MissingKey
-bytes_at (Some d) = sent_in (as_str d)
+bytes_at (Some d) = hex_bytes (as_str d)
 
 -- the key `packets`
 unfoldable pub packets_at : Option Data → Result ℕ Kind
@@ -39,45 +39,45 @@ packets_at d = number_at 0 1000 d
 
 unfoldable pub plug : Result (List ℕ) Kind → Result ℕ Kind → Result Action Kind
 plug path device = do
-  u ← told (fault_of path ∷ fault_of device ∷ [])
+  u ← least_fault (part_fault path ∷ part_fault device ∷ [])
   p ← path
   d ← device
   Ok (Plug p d)
 
 unfoldable pub send : Result (List ℕ) Kind → Result (List ℕ) Kind → Result Action Kind
 send path bytes = do
-  u ← told (fault_of path ∷ fault_of bytes ∷ [])
+  u ← least_fault (part_fault path ∷ part_fault bytes ∷ [])
   p ← path
   b ← bytes
   Ok (Send p b)
 
 unfoldable pub receive : Result (List ℕ) Kind → Result ℕ Kind → Result Action Kind
 receive path packets = do
-  u ← told (fault_of path ∷ fault_of packets ∷ [])
+  u ← least_fault (part_fault path ∷ part_fault packets ∷ [])
   p ← path
   n ← packets
   Ok (Receive p n)
 
 unfoldable pub plug_of : ℕ → List Spec → PluggedMap → Members → Result Action Kind
 plug_of roots devices tree ms =
-    plug (free roots devices tree (path_at roots (get_member (codes "path") ms)))
-    (device_at devices (get_member (codes "device") ms))
+    plug (free roots devices tree (rooted_path roots (get_member (codes "path") ms)))
+    (device_key devices (get_member (codes "device") ms))
 
 unfoldable pub unplug_of : ℕ → PluggedMap → Members → Result Action Kind
 unplug_of roots tree ms =
-    taken tree (path_at roots (get_member (codes "path") ms)) >>= λ path. Ok (Unplug path)
+    taken tree (rooted_path roots (get_member (codes "path") ms)) >>= λ path. Ok (Unplug path)
 
 unfoldable pub send_of : ℕ → Members → Result Action Kind
 send_of roots ms =
-    send (path_at roots (get_member (codes "path") ms)) (bytes_at (get_member (codes "bytes") ms))
+    send (rooted_path roots (get_member (codes "path") ms)) (bytes_at (get_member (codes "bytes") ms))
 
 unfoldable pub receive_of : ℕ → Members → Result Action Kind
 receive_of roots ms =
-    receive (path_at roots (get_member (codes "path") ms))
+    receive (rooted_path roots (get_member (codes "path") ms))
     (packets_at (get_member (codes "packets") ms))
 
 unfoldable pub clear_of : ℕ → Members → Result Action Kind
-clear_of roots ms = path_at roots (get_member (codes "path") ms) >>= λ path. Ok (Clear path)
+clear_of roots ms = rooted_path roots (get_member (codes "path") ms) >>= λ path. Ok (Clear path)
 
 -- what the event of a table does, where so much is plugged
 unfoldable pub action_of : Verb → ℕ → List Spec → PluggedMap → Members → Result Action Kind

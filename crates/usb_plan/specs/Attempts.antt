@@ -2,24 +2,20 @@
 use Rattle.std.specs.Prelude.{ℕ, ◌+◌, ◌*◌, List, [], ◌∷◌, length, take, Option, Some, None, Result, Ok, Err, slice_get, max, min, ◌^◌, ◌-◌}
 use Rattle.std.specs.List.{sum_by}
 use Rattle.usb_descriptor.specs.declared.fault.DescriptorFault.{DescriptorFault}
-use Rattle.usb_descriptor.specs.Config.{config_head_of}
+use Rattle.usb_descriptor.specs.Config.{config_head_of, total_in}
 use Rattle.usb_world.specs.declared.event.Action.{Action}
 use Rattle.usb_world.specs.declared.event.Action.TheVariants.{Plug, Unplug, Show, Send, Receive, Clear}
 use Rattle.usb_world.specs.declared.event.Event.{Event}
 use Rattle.usb_device.specs.Spec.{Spec}
 use Rattle.usb_world.specs.PlanData.{PlanData}
 
-abbrev pub total_in : Result ℕ DescriptorFault → ℕ
-total_in (Ok total) = total
-total_in (Err e) = 0
-
 -- wTotalLength of a text whose first 9 bytes are a configuration's head, else 0
-unfoldable pub total_of : List ℕ → ℕ
-total_of text = total_in (config_head_of (take 9 text))
+unfoldable pub head_total : List ℕ → ℕ
+head_total text = total_in (config_head_of (take 9 text))
 
 -- the sum over a device's texts
 unfoldable pub all_totals : Spec → ℕ
-all_totals device = sum_by total_of device.configs
+all_totals device = sum_by head_total device.configs
 
 abbrev pub total_at : Option Spec → ℕ
 total_at (Some device) = all_totals device

@@ -3,7 +3,7 @@ use Rattle.std.specs.Prelude.{ℕ, ℤ, codes, List, [], ◌∷◌, Option, Some
 use Rattle.toml.specs.Data.{Data, Members, get_member, as_integer, as_str}
 use Rattle.usb_plan.specs.declared.kind.Kind.{Kind}
 use Rattle.usb_plan.specs.declared.bulk.Bulk.{Bulk}
-use Rattle.usb_plan.specs.Kind.{fault_of, told, ◌>>=◌}
+use Rattle.usb_plan.specs.Kind.{part_fault, least_fault, ◌>>=◌}
 use Rattle.usb_plan.specs.Value.{number_in, hex_in}
 
 -- the key `source`; absent it is empty
@@ -21,13 +21,13 @@ halt_at (Some d) = halt_in (as_integer d)
 
 unfoldable pub bulk_with : Result (List ℕ) Kind → Result (Option ℕ) Kind → Result Bulk Kind
 bulk_with source halt_after = do
-  u ← told (fault_of source ∷ fault_of halt_after ∷ [])
+  u ← least_fault (part_fault source ∷ part_fault halt_after ∷ [])
   bytes ← source
   packets ← halt_after
   Ok (record { source = bytes; halt_after = packets })
 
 -- the keys of bulk endpoints
-unfoldable pub bulk_of : Members → Result Bulk Kind
-bulk_of ms =
+unfoldable pub bulk_keys : Members → Result Bulk Kind
+bulk_keys ms =
     bulk_with (source_at (get_member (codes "source") ms))
     (halt_at (get_member (codes "halt_after") ms))

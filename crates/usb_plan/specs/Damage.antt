@@ -8,7 +8,7 @@ use Rattle.usb_plan.specs.declared.damage.Way.{Way}
 use Rattle.usb_plan.specs.declared.damage.Way.TheVariants as way
 use Rattle.usb_plan.specs.declared.fault.Place.TheVariants as place
 use Rattle.usb_plan.specs.declared.fault.PlanFault.{PlanFault}
-use Rattle.usb_plan.specs.Kind.{fault_of, told, placed, ◌>>=◌}
+use Rattle.usb_plan.specs.Kind.{part_fault, least_fault, placed, ◌>>=◌}
 use Rattle.usb_plan.specs.Keys.{keys_at}
 use Rattle.usb_plan.specs.Value.{number_at}
 use Rattle.usb_world.specs.declared.damage.Damage.{Damage}
@@ -20,8 +20,8 @@ unfoldable pub attempt_at : ℕ → Option Data → Result ℕ Kind
 attempt_at last d = number_at (last + 1) 9223372036854775807 d
 
 -- the key `packet`
-unfoldable pub packet_at : Option Data → Result ℕ Kind
-packet_at d = number_at 1 3 d
+unfoldable pub packet_key : Option Data → Result ℕ Kind
+packet_key d = number_at 1 3 d
 
 unfoldable pub way_named : List ℕ → Result Way Kind
 way_named text =
@@ -30,14 +30,14 @@ way_named text =
     else if bytes_eq text (codes "flip") then Ok way.Flip
     else Err BadValue
 
-unfoldable pub way_in : Option (List ℕ) → Result Way Kind
-way_in None = Err BadValue
-way_in (Some text) = way_named text
+unfoldable pub way_key : Option (List ℕ) → Result Way Kind
+way_key None = Err BadValue
+way_key (Some text) = way_named text
 
 -- the key `how`
 unfoldable pub way_at : Option Data → Result Way Kind
 way_at None = Err MissingKey
-way_at (Some d) = way_in (as_str d)
+way_at (Some d) = way_key (as_str d)
 
 -- the key `bit` goes with a flipped bit alone
 unfoldable pub no_bit : Harm → Option Data → Result Harm Kind
@@ -45,27 +45,27 @@ no_bit harm None = Ok harm
 no_bit harm (Some d) = Err BadValue
 
 -- the key `bit`
-unfoldable pub flipped : Option Data → Result Harm Kind
-flipped d = number_at 0 535 d >>= λ bit. Ok (Flip bit)
+unfoldable pub bit_key : Option Data → Result Harm Kind
+bit_key d = number_at 0 535 d >>= λ bit. Ok (Flip bit)
 
 unfoldable pub harm_of : Way → Option Data → Result Harm Kind
 harm_of way.Lose bit = no_bit Lose bit
 harm_of way.LosePre bit = no_bit LosePre bit
-harm_of way.Flip bit = flipped bit
+harm_of way.Flip bit = bit_key bit
 
 -- the keys `how` and `bit`
 unfoldable pub harm_by : Result Way Kind → Option Data → Result Harm Kind
 harm_by way bit = way >>= λ w. harm_of w bit
 
 -- at most 10,000 damages
-unfoldable pub room : ℕ → Result (Unit {0}) Kind
-room count = if nat_lt count 10000 then Ok tt else Err BadValue
+unfoldable pub damage_room : ℕ → Result (Unit {0}) Kind
+damage_room count = if nat_lt count 10000 then Ok tt else Err BadValue
 
 unfoldable pub damage_with :
     Result ℕ Kind → Result ℕ Kind → Result Harm Kind → Result (Unit {0}) Kind
     → Result (Unit {0}) Kind → Result Damage Kind
-damage_with attempt packet harm keys room = do
-  u ← told (fault_of attempt ∷ fault_of packet ∷ fault_of harm ∷ fault_of keys ∷ fault_of room ∷ [])
+damage_with attempt packet harm keys damage_room = do
+  u ← least_fault (part_fault attempt ∷ part_fault packet ∷ part_fault harm ∷ part_fault keys ∷ part_fault damage_room ∷ [])
   n ← attempt
   p ← packet
   h ← harm
@@ -75,17 +75,17 @@ abbrev pub damage_keys : List (List ℕ)
 damage_keys = codes "attempt" ∷ codes "packet" ∷ codes "how" ∷ codes "bit" ∷ []
 
 -- the damage that a table describes, after that attempt and so many others
-unfoldable pub damage_of : ℕ → ℕ → Members → Result Damage Kind
-damage_of last count ms =
+unfoldable pub damage_described : ℕ → ℕ → Members → Result Damage Kind
+damage_described last count ms =
     damage_with (attempt_at last (get_member (codes "attempt") ms))
-    (packet_at (get_member (codes "packet") ms))
+    (packet_key (get_member (codes "packet") ms))
     (harm_by (way_at (get_member (codes "how") ms)) (get_member (codes "bit") ms))
     (keys_at damage_keys ms)
-    (room count)
+    (damage_room count)
 
-unfoldable pub damage_in : ℕ → ℕ → Option Members → Result Damage Kind
-damage_in last count None = Err BadValue
-damage_in last count (Some ms) = damage_of last count ms
+unfoldable pub damage_given : ℕ → ℕ → Option Members → Result Damage Kind
+damage_given last count None = Err BadValue
+damage_given last count (Some ms) = damage_described last count ms
 
 -- the attempt of the last damage, that number with none
 unfoldable pub last_from : ℕ → List Damage → ℕ
@@ -96,5 +96,5 @@ last_from last (d ∷ damages) = last_from d.attempt damages
 unfoldable pub damages_from : ℕ → List Damage → List Data → Result (List Damage) PlanFault
 damages_from n done [] = Ok done
 damages_from n done (d ∷ ds) =
-    placed (place.Damage n) (damage_in (last_from 0 done) (length done) (as_table d))
+    placed (place.Damage n) (damage_given (last_from 0 done) (length done) (as_table d))
     >>= λ x. damages_from (n + 1) (done ++ x ∷ []) ds

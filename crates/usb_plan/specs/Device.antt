@@ -9,13 +9,13 @@ use Rattle.usb_plan.specs.declared.device.Identity.{Identity}
 use Rattle.usb_plan.specs.declared.device.Content.{Content}
 use Rattle.usb_plan.specs.declared.quirks.Quirks.{Quirks}
 use Rattle.usb_plan.specs.declared.bulk.Bulk.{Bulk}
-use Rattle.usb_plan.specs.Kind.{fault_of, told, placed, ◌>>=◌}
+use Rattle.usb_plan.specs.Kind.{part_fault, least_fault, placed, ◌>>=◌}
 use Rattle.usb_plan.specs.Keys.{keys_at}
 use Rattle.usb_plan.specs.Value.{is_word, hex_in}
 use Rattle.usb_plan.specs.Texts.{texts_in}
 use Rattle.usb_plan.specs.Hub.{class_at, hub_at}
 use Rattle.usb_plan.specs.Quirks.{quirks_of}
-use Rattle.usb_plan.specs.Bulk.{bulk_of}
+use Rattle.usb_plan.specs.Bulk.{bulk_keys}
 use Rattle.usb_device.specs.Spec.{Spec, Hub, hub_fits, function, is_named}
 
 unfoldable pub name_in : List Spec → Option (List ℕ) → Result (List ℕ) Kind
@@ -56,8 +56,8 @@ device_keys =
     ∷ codes "self_powered" ∷ codes "busy" ∷ codes "silent" ∷ codes "naks" ∷ codes "stalls" ∷ codes "source" ∷ codes "halt_after" ∷ []
 
 -- at most 127 devices
-unfoldable pub room : List Spec → Result (Unit {0}) Kind
-room earlier = if nat_lt (length earlier) 127 then Ok tt else Err BadValue
+unfoldable pub device_room : List Spec → Result (Unit {0}) Kind
+device_room earlier = if nat_lt (length earlier) 127 then Ok tt else Err BadValue
 
 abbrev pub Texts : Type 0
 Texts = List (List ℕ)
@@ -93,7 +93,7 @@ unfoldable pub identity_with :
     Result (List ℕ) Kind → Result Bool Kind → Result (List ℕ) Kind → Result (Unit {0}) Kind
     → Result (Option Hub) Kind → Result Identity Kind
 identity_with name low descriptor class hub = do
-  u ← told (fault_of name ∷ fault_of low ∷ fault_of descriptor ∷ fault_of class ∷ fault_of hub ∷ [])
+  u ← least_fault (part_fault name ∷ part_fault low ∷ part_fault descriptor ∷ part_fault class ∷ part_fault hub ∷ [])
   n ← name
   l ← low
   d ← descriptor
@@ -112,14 +112,14 @@ identity_of earlier ms =
 
 unfoldable pub content_with : Result Texts Kind → Result Texts Kind → Result Content Kind
 content_with configs strings = do
-  u ← told (fault_of configs ∷ fault_of strings ∷ [])
+  u ← least_fault (part_fault configs ∷ part_fault strings ∷ [])
   c ← configs
   s ← strings
   Ok (record { configs = c; strings = s })
 
 -- the keys of the texts that a device gives
-unfoldable pub content_of : Members → Result Content Kind
-content_of ms =
+unfoldable pub content_keys : Members → Result Content Kind
+content_keys ms =
     content_with (configs_at (get_member (codes "configs") ms))
     (strings_at (get_member (codes "strings") ms))
 
@@ -137,9 +137,9 @@ made identity content quirks bulk =
 unfoldable pub device_with :
     Result Identity Kind → Result Content Kind → Result Quirks Kind → Result Bulk Kind
     → Result (Unit {0}) Kind → Result (Unit {0}) Kind → Result Spec Kind
-device_with identity content quirks bulk keys room = do
-  u ← told (fault_of identity ∷ fault_of content ∷ fault_of quirks ∷ fault_of bulk
-      ∷ fault_of keys ∷ fault_of room ∷ [])
+device_with identity content quirks bulk keys device_room = do
+  u ← least_fault (part_fault identity ∷ part_fault content ∷ part_fault quirks ∷ part_fault bulk
+      ∷ part_fault keys ∷ part_fault device_room ∷ [])
   i ← identity
   c ← content
   q ← quirks
@@ -147,14 +147,14 @@ device_with identity content quirks bulk keys room = do
   Ok (made i c q b)
 
 -- the device that a table describes, beside the earlier ones
-unfoldable pub device_of : List Spec → Members → Result Spec Kind
-device_of earlier ms =
-    device_with (identity_of earlier ms) (content_of ms) (quirks_of ms) (bulk_of ms)
-    (keys_at device_keys ms) (room earlier)
+unfoldable pub device_described : List Spec → Members → Result Spec Kind
+device_described earlier ms =
+    device_with (identity_of earlier ms) (content_keys ms) (quirks_of ms) (bulk_keys ms)
+    (keys_at device_keys ms) (device_room earlier)
 
 unfoldable pub device_in : List Spec → Option Members → Result Spec Kind
 device_in earlier None = Err BadValue
-device_in earlier (Some ms) = device_of earlier ms
+device_in earlier (Some ms) = device_described earlier ms
 
 -- the devices so far and those of the values; the first is number n
 unfoldable pub devices_from : ℕ → List Spec → List Data → Result (List Spec) PlanFault

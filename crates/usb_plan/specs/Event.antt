@@ -6,7 +6,7 @@ use Rattle.usb_plan.specs.declared.kind.Kind.TheVariants.{BadValue}
 use Rattle.usb_plan.specs.declared.verb.Verb.{Verb}
 use Rattle.usb_plan.specs.declared.fault.Place.TheVariants as place
 use Rattle.usb_plan.specs.declared.fault.PlanFault.{PlanFault}
-use Rattle.usb_plan.specs.Kind.{fault_of, told, placed, ◌>>=◌}
+use Rattle.usb_plan.specs.Kind.{part_fault, least_fault, placed, ◌>>=◌}
 use Rattle.usb_plan.specs.Value.{number_or}
 use Rattle.usb_plan.specs.Verb.{verb_at}
 use Rattle.usb_plan.specs.Action.{action_of, keys_of}
@@ -20,14 +20,14 @@ unfoldable pub after_at : Option Data → Result ℕ Kind
 after_at d = number_or 0 0 1000000000 d
 
 -- at most 10,000 events
-unfoldable pub room : ℕ → Result (Unit {0}) Kind
-room count = if nat_lt count 10000 then Ok tt else Err BadValue
+unfoldable pub event_room : ℕ → Result (Unit {0}) Kind
+event_room count = if nat_lt count 10000 then Ok tt else Err BadValue
 
 unfoldable pub event_with :
     Result Action Kind → Result ℕ Kind → Result (Unit {0}) Kind → Result (Unit {0}) Kind
     → Result Event Kind
-event_with action after keys room = do
-  u ← told (fault_of action ∷ fault_of after ∷ fault_of keys ∷ fault_of room ∷ [])
+event_with action after keys event_room = do
+  u ← least_fault (part_fault action ∷ part_fault after ∷ part_fault keys ∷ part_fault event_room ∷ [])
   n ← after
   a ← action
   Ok (record { after = n; action = a })
@@ -36,7 +36,7 @@ event_with action after keys room = do
 unfoldable pub event_of : Verb → ℕ → List Spec → PluggedMap → ℕ → Members → Result Event Kind
 event_of verb roots devices tree count ms =
     event_with (action_of verb roots devices tree ms) (after_at (get_member (codes "after") ms))
-    (keys_of verb ms) (room count)
+    (keys_of verb ms) (event_room count)
 
 -- nothing else of an event is looked at where its `do` is absent or unknown
 unfoldable pub event_in : ℕ → List Spec → PluggedMap → ℕ → Option Members → Result Event Kind

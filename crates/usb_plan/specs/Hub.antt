@@ -17,13 +17,13 @@ described ports (Err k) = Err k
 described ports (Ok bytes) =
     if agrees ports bytes then Ok (Some (record { ports = ports; descriptor = bytes })) else Err BadValue
 
-unfoldable pub hub_of : ℕ → Option Data → Result (Option Hub) Kind
-hub_of ports None = Ok (Some (usual_hub ports))
-hub_of ports (Some d) = described ports (hex_in 255 (as_str d))
+unfoldable pub hub_described : ℕ → Option Data → Result (Option Hub) Kind
+hub_described ports None = Ok (Some (usual_hub ports))
+hub_described ports (Some d) = described ports (hex_in 255 (as_str d))
 
 abbrev pub hub_with : Result ℕ Kind → Option Data → Result (Option Hub) Kind
 hub_with (Err k) descriptor = Err k
-hub_with (Ok ports) descriptor = hub_of ports descriptor
+hub_with (Ok ports) descriptor = hub_described ports descriptor
 
 unfoldable pub hub_in : Option ℤ → Option Data → Result (Option Hub) Kind
 hub_in ports descriptor = hub_with (number_in 1 7 ports) descriptor
@@ -33,9 +33,9 @@ unfoldable pub hub_at : Option Data → Option Data → Result (Option Hub) Kind
 hub_at None descriptor = no_hub descriptor
 hub_at (Some d) descriptor = hub_in (as_integer d) descriptor
 
-unfoldable pub is_low : Result Bool Kind → Bool
-is_low (Ok low) = low
-is_low (Err k) = false
+unfoldable pub low_read : Result Bool Kind → Bool
+low_read (Ok low) = low
+low_read (Err k) = false
 
 -- the device descriptor is readable, and no hub's
 unfoldable pub is_other : Result (List ℕ) Kind → Bool
@@ -45,4 +45,4 @@ is_other (Err k) = false
 -- the key `ports` goes with full speed and the class of hubs alone
 unfoldable pub class_at : Option Data → Result Bool Kind → Result (List ℕ) Kind → Result (Unit {0}) Kind
 class_at None low descriptor = Ok tt
-class_at (Some d) low descriptor = if is_low low || is_other descriptor then Err BadValue else Ok tt
+class_at (Some d) low descriptor = if low_read low || is_other descriptor then Err BadValue else Ok tt

@@ -21,9 +21,9 @@ unfoldable pub least : Kind → Kind → Kind
 least a b = if nat_le (rank a) (rank b) then a else b
 
 -- the fault of a part
-unfoldable pub fault_of : {A : Type 0} → Result A Kind → Option Kind
-fault_of (Ok a) = None
-fault_of (Err k) = Some k
+unfoldable pub part_fault : {A : Type 0} → Result A Kind → Option Kind
+part_fault (Ok a) = None
+part_fault (Err k) = Some k
 
 -- a fault beside what is told of others
 unfoldable pub sooner : Option Kind → Result (Unit {0}) Kind → Result (Unit {0}) Kind
@@ -32,9 +32,9 @@ sooner (Some k) (Ok u) = Err k
 sooner (Some k) (Err l) = Err (least k l)
 
 -- of these faults the one of least number is told
-unfoldable pub told : List (Option Kind) → Result (Unit {0}) Kind
-told [] = Ok tt
-told (fault ∷ faults) = sooner fault (told faults)
+unfoldable pub least_fault : List (Option Kind) → Result (Unit {0}) Kind
+least_fault [] = Ok tt
+least_fault (fault ∷ faults) = sooner fault (least_fault faults)
 
 unfoldable pub at : Place → Kind → PlanFault
 at place Memory = fault.Memory

@@ -12,14 +12,14 @@ unfoldable pub rooted : ℕ → Option (List ℕ) → Result (List ℕ) Kind
 rooted roots None = Err BadPath
 rooted roots (Some path) = if is_rooted roots path then Ok path else Err BadPath
 
-unfoldable pub path_in : ℕ → Option (List ℕ) → Result (List ℕ) Kind
-path_in roots None = Err BadValue
-path_in roots (Some text) = rooted roots (path_of text)
+unfoldable pub path_read : ℕ → Option (List ℕ) → Result (List ℕ) Kind
+path_read roots None = Err BadValue
+path_read roots (Some text) = rooted roots (path_of text)
 
 -- a path whose first number is a root port's
-unfoldable pub path_at : ℕ → Option Data → Result (List ℕ) Kind
-path_at roots None = Err MissingKey
-path_at roots (Some d) = path_in roots (as_str d)
+unfoldable pub rooted_path : ℕ → Option Data → Result (List ℕ) Kind
+rooted_path roots None = Err MissingKey
+rooted_path roots (Some d) = path_read roots (as_str d)
 
 -- a path where there is a port, and nothing is plugged
 unfoldable pub free : ℕ → List Spec → PluggedMap → Result (List ℕ) Kind → Result (List ℕ) Kind

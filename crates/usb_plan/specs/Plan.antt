@@ -9,7 +9,7 @@ use Rattle.usb_plan.specs.declared.fault.Place.TheVariants as place
 use Rattle.usb_plan.specs.declared.fault.PlanFault.{PlanFault}
 use Rattle.usb_plan.specs.declared.fault.PlanFault.TheVariants as fault
 use Rattle.usb_plan.specs.declared.plan.Top.{Top}
-use Rattle.usb_plan.specs.Kind.{fault_of, told, placed, ◌>>=◌}
+use Rattle.usb_plan.specs.Kind.{part_fault, least_fault, placed, ◌>>=◌}
 use Rattle.usb_plan.specs.Keys.{keys_at}
 use Rattle.usb_plan.specs.Value.{number_at, data_list}
 use Rattle.usb_plan.specs.Device.{devices_from}
@@ -53,8 +53,8 @@ unfoldable pub top_with :
     Result ℕ Kind → Result ℕ Kind → Result (Unit {0}) Kind → Result (Unit {0}) Kind
     → Result (Unit {0}) Kind → Result (Unit {0}) Kind → Result Top Kind
 top_with limit roots devices events damages keys = do
-  u ← told (fault_of limit ∷ fault_of roots ∷ fault_of devices ∷ fault_of events
-      ∷ fault_of damages ∷ fault_of keys ∷ [])
+  u ← least_fault (part_fault limit ∷ part_fault roots ∷ part_fault devices ∷ part_fault events
+      ∷ part_fault damages ∷ part_fault keys ∷ [])
   l ← limit
   r ← roots
   Ok (record { limit = l; roots = r })

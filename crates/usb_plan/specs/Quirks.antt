@@ -5,7 +5,7 @@ use Rattle.toml.specs.Data.{Data, Items, Members, get_member, as_bool, as_str, a
 use Rattle.usb_plan.specs.declared.kind.Kind.{Kind}
 use Rattle.usb_plan.specs.declared.kind.Kind.TheVariants.{BadValue}
 use Rattle.usb_plan.specs.declared.quirks.Quirks.{Quirks}
-use Rattle.usb_plan.specs.Kind.{fault_of, told, ◌>>=◌}
+use Rattle.usb_plan.specs.Kind.{part_fault, least_fault, ◌>>=◌}
 use Rattle.usb_plan.specs.Value.{number_or, data_list, is_word}
 use Rattle.usb_device.specs.Spec.{no_stalls}
 use Rattle.usb_device.specs.declared.spec.Stalls.{Stalls}
@@ -57,8 +57,8 @@ unfoldable pub quirks_with :
     Result Bool Kind → Result Bool Kind → Result Bool Kind → Result ℕ Kind → Result Stalls Kind
     → Result Quirks Kind
 quirks_with self_powered busy silent naks stalls = do
-  u ← told (fault_of self_powered ∷ fault_of busy ∷ fault_of silent ∷ fault_of naks
-      ∷ fault_of stalls ∷ [])
+  u ← least_fault (part_fault self_powered ∷ part_fault busy ∷ part_fault silent ∷ part_fault naks
+      ∷ part_fault stalls ∷ [])
   powered ← self_powered
   is_busy ← busy
   is_silent ← silent

@@ -3,14 +3,14 @@ use Rattle.std.specs.Prelude.{ℕ, List, [], ◌∷◌, ◌++◌, length, Option
 use Rattle.toml.specs.Data.{Data, Items, as_str}
 use Rattle.usb_plan.specs.declared.kind.Kind.{Kind}
 use Rattle.usb_plan.specs.declared.kind.Kind.TheVariants.{BadValue}
-use Rattle.usb_plan.specs.Kind.{fault_of, told, ◌>>=◌}
+use Rattle.usb_plan.specs.Kind.{part_fault, least_fault, ◌>>=◌}
 use Rattle.usb_plan.specs.Value.{hex_in, data_list}
 
 -- the texts with one more at their end, or the fault of least number
 unfoldable pub pushed :
     Result (List (List ℕ)) Kind → Result (List ℕ) Kind → Result (List (List ℕ)) Kind
 pushed texts text = do
-  u ← told (fault_of texts ∷ fault_of text ∷ [])
+  u ← least_fault (part_fault texts ∷ part_fault text ∷ [])
   xs ← texts
   x ← text
   Ok (xs ++ x ∷ [])

@@ -48,6 +48,6 @@ any_of (Ok bytes) = Ok bytes
 any_of (Err e) = Err BadHex
 
 -- the bytes of a hex text, however many
-unfoldable pub sent_in : Option (List ℕ) → Result (List ℕ) Kind
-sent_in None = Err BadValue
-sent_in (Some text) = any_of (decode_of text)
+unfoldable pub hex_bytes : Option (List ℕ) → Result (List ℕ) Kind
+hex_bytes None = Err BadValue
+hex_bytes (Some text) = any_of (decode_of text)

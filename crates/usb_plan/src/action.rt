@@ -3,7 +3,7 @@
 ghost use Rattle.std.specs.Prelude.{◌≡◌, ◌≤◌, option_map, position};
 ghost use Rattle.std.specs.Str.{bytes_eq};
 ghost use Rattle.toml.specs.View.{view, table_view};
-ghost use Rattle.usb_plan.specs.Action.{known, device_named, device_at, bytes_at, packets_at, plug, send, receive, plug_of, unplug_of, send_of, receive_of, clear_of, action_of, keys_of};
+ghost use Rattle.usb_plan.specs.Action.{device_known, device_named, device_key, bytes_at, packets_at, plug, send, receive, plug_of, unplug_of, send_of, receive_of, clear_of, action_of, keys_of};
 ghost use Rattle.usb_plan.specs.Kind.{EqualUnless};
 ghost use Rattle.usb_plan.specs.declared.kind.Kind.TheVariants.{Memory};
 
@@ -19,9 +19,9 @@ use usb_device::DeviceSpec;
 use usb_port::PortPath;
 use usb_world::{Action, SentBytes};
 
-#[tactic(auto, unfolding(crate::specs::Action::known))]
+#[tactic(auto, unfolding(crate::specs::Action::device_known))]
 fn known(index: Option<usize>) -> Result<usize, Kind>
-    ensures { result ≡ known index }
+    ensures { result ≡ device_known index }
 {
     index.ok_or(Kind::UnknownDevice)
 }
@@ -44,9 +44,9 @@ fn device_named(devices: &[DeviceSpec], text: Option<&str>) -> Result<usize, Kin
 }
 
 /// The key `device`.
-#[tactic(auto, unfolding(crate::specs::Action::device_at))]
+#[tactic(auto, unfolding(crate::specs::Action::device_key))]
 fn device_at(devices: &[DeviceSpec], value: Option<&Value>) -> Result<usize, Kind>
-    ensures { result ≡ device_at devices.now (option_map (λ v. view v.now) value.entry) }
+    ensures { result ≡ device_key devices.now (option_map (λ v. view v.now) value.entry) }
 {
     match value {
         None => Err(Kind::MissingKey),
@@ -115,7 +115,7 @@ fn unplug_of(roots: u8, tree: &Tree, table: &Table) -> Result<Action, Kind>
     Ok(Action::Unplug(path))
 }
 
-#[tactic(auto, using(crate::proofs::Unless::send_unless), unfolding(crate::specs::Action::send_of))]
+#[tactic(auto, using(crate::proofs::MemoryRefusals::send_unless), unfolding(crate::specs::Action::send_of))]
 fn send_of(alloc: Global, roots: u8, table: &Table) -> Result<Action, Kind>
     ensures { EqualUnless Memory result (send_of roots (table_view table.now)) }
 {

@@ -2,7 +2,7 @@
 
 ghost use Rattle.std.specs.Prelude.{◌≡◌, ◌≤◌, ◌<◌, ◌-◌, ◌^◌, length, map, sum, take, min};
 ghost use Rattle.std.specs.List.{sum_by};
-ghost use Rattle.usb_plan.specs.Attempts.{total_of, all_totals, plugged_total, greatest_total, moved, bound_of};
+ghost use Rattle.usb_plan.specs.Attempts.{head_total, all_totals, plugged_total, greatest_total, moved, bound_of};
 
 use usb_descriptor::config_head;
 use usb_device::DeviceSpec;
@@ -16,9 +16,9 @@ fn head(text: &[u8]) -> &[u8]
 }
 
 /// wTotalLength of a text whose first 9 bytes are a configuration's head, else 0.
-#[tactic(auto, unfolding(crate::specs::Attempts::total_of))]
+#[tactic(auto, unfolding(crate::specs::Attempts::head_total))]
 fn total(text: &[u8]) -> u64
-    ensures value { result ≡ total_of text.now }
+    ensures value { result ≡ head_total text.now }
     ensures most { result ≤ 65535 }
 {
     match config_head(head(text)) {

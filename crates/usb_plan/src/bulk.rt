@@ -3,7 +3,7 @@
 ghost use Rattle.std.specs.Prelude.{◌≡◌, ◌≤◌, option_map};
 ghost use Rattle.toml.specs.View.{view, table_view};
 ghost use Rattle.usb_plan.specs.Kind.{EqualUnless};
-ghost use Rattle.usb_plan.specs.Bulk.{source_at, halt_in, halt_at, bulk_with, bulk_of};
+ghost use Rattle.usb_plan.specs.Bulk.{source_at, halt_in, halt_at, bulk_with, bulk_keys};
 ghost use Rattle.usb_plan.specs.declared.kind.Kind.TheVariants.{Memory};
 
 use crate::kind::{Kind, fault_of, told};
@@ -66,9 +66,9 @@ fn bulk_with(
 }
 
 /// The keys of bulk endpoints.
-#[tactic(auto, using(crate::proofs::Unless::bulk_unless), unfolding(crate::specs::Bulk::bulk_of))]
+#[tactic(auto, using(crate::proofs::MemoryRefusals::bulk_unless), unfolding(crate::specs::Bulk::bulk_keys))]
 pub(crate) fn bulk_of(alloc: Global, table: &Table) -> Result<Bulk, Kind>
-    ensures { EqualUnless Memory result (bulk_of (table_view table.now)) }
+    ensures { EqualUnless Memory result (bulk_keys (table_view table.now)) }
 {
     let source = source_at(alloc, value_at(table, "source"));
     let halt_after = halt_at(value_at(table, "halt_after"));

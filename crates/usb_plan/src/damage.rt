@@ -5,7 +5,7 @@ ghost use Rattle.toml.specs.View.{view, table_view};
 ghost use Rattle.usb_world.specs.PlanData.{damages_fit};
 ghost use Rattle.usb_plan.specs.Kind.{EqualUnless};
 ghost use Rattle.usb_plan.specs.declared.fault.PlanFault.TheVariants.{Memory as NoMemory};
-ghost use Rattle.usb_plan.specs.Damage.{attempt_at, packet_at, way_named, way_in, way_at, no_bit, flipped, harm_of, harm_by, room, damage_with, damage_of, damage_in, damages_from};
+ghost use Rattle.usb_plan.specs.Damage.{attempt_at, packet_key, way_named, way_key, way_at, no_bit, bit_key, harm_of, harm_by, damage_room, damage_with, damage_described, damage_given, damages_from};
 
 use crate::fault::{Place, PlanFault};
 use crate::keys::keys_at;
@@ -25,9 +25,9 @@ fn attempt_at(last: u64, value: Option<&Value>) -> Result<u64, Kind>
 }
 
 /// The key `packet`.
-#[tactic(auto, unfolding(crate::specs::Damage::packet_at))]
+#[tactic(auto, unfolding(crate::specs::Damage::packet_key))]
 fn packet_at(value: Option<&Value>) -> Result<u8, Kind>
-    ensures { result ≡ packet_at (option_map (λ v. view v.now) value.entry) }
+    ensures { result ≡ packet_key (option_map (λ v. view v.now) value.entry) }
 {
     let packet = number_at(1, 3, value)?;
     Ok(packet as u8)
@@ -56,9 +56,9 @@ fn way_named(text: &str) -> Result<Way, Kind>
     }
 }
 
-#[tactic(auto, unfolding(crate::specs::Damage::way_in))]
+#[tactic(auto, unfolding(crate::specs::Damage::way_key))]
 fn way_in(text: Option<&str>) -> Result<Way, Kind>
-    ensures { result ≡ way_in (option_map (λ t. t.now) text.entry) }
+    ensures { result ≡ way_key (option_map (λ t. t.now) text.entry) }
 {
     match text {
         None => Err(Kind::BadValue),
@@ -89,9 +89,9 @@ fn no_bit(harm: Harm, bit: Option<&Value>) -> Result<Harm, Kind>
 }
 
 /// The key `bit`.
-#[tactic(auto, unfolding(crate::specs::Damage::flipped))]
+#[tactic(auto, unfolding(crate::specs::Damage::bit_key))]
 fn flipped(bit: Option<&Value>) -> Result<Harm, Kind>
-    ensures { result ≡ flipped (option_map (λ v. view v.now) bit.entry) }
+    ensures { result ≡ bit_key (option_map (λ v. view v.now) bit.entry) }
 {
     let bit = number_at(0, 535, bit)?;
     Ok(Harm::Flip(bit as u16))
@@ -117,9 +117,9 @@ fn harm_by(way: Result<Way, Kind>, bit: Option<&Value>) -> Result<Harm, Kind>
 }
 
 /// Refuses an entry after the most that a plan may have.
-#[tactic(auto, unfolding(crate::specs::Damage::room))]
+#[tactic(auto, unfolding(crate::specs::Damage::damage_room))]
 fn room(count: usize) -> Result<(), Kind>
-    ensures { result ≡ room count }
+    ensures { result ≡ damage_room count }
 {
     if count < 10_000 {
         Ok(())
@@ -153,10 +153,10 @@ fn damage_with(
 }
 
 /// The damage that a table describes, after so many others.
-#[tactic(auto, unfolding(crate::specs::Damage::damage_of))]
+#[tactic(auto, unfolding(crate::specs::Damage::damage_described))]
 fn damage_of(last: u64, count: usize, table: &Table) -> Result<Damage, Kind>
     requires { last ≤ 9223372036854775807 }
-    ensures { result ≡ damage_of last count (table_view table.now) }
+    ensures { result ≡ damage_described last count (table_view table.now) }
 {
     let attempt = attempt_at(last, value_at(table, "attempt"));
     let packet = packet_at(value_at(table, "packet"));
@@ -165,10 +165,10 @@ fn damage_of(last: u64, count: usize, table: &Table) -> Result<Damage, Kind>
     damage_with(attempt, packet, harm, keys, room(count))
 }
 
-#[tactic(auto, unfolding(crate::specs::Damage::damage_in))]
+#[tactic(auto, unfolding(crate::specs::Damage::damage_given))]
 fn damage_in(last: u64, count: usize, table: Option<&Table>) -> Result<Damage, Kind>
     requires { last ≤ 9223372036854775807 }
-    ensures { result ≡ damage_in last count (option_map (λ t. table_view t.now) table.entry) }
+    ensures { result ≡ damage_given last count (option_map (λ t. table_view t.now) table.entry) }
 {
     match table {
         None => Err(Kind::BadValue),

@@ -8,7 +8,7 @@ ghost use Rattle.usb_device.specs.Spec.{hub_fits};
 ghost use Rattle.usb_plan.specs.Kind.{EqualUnless};
 ghost use Rattle.usb_plan.specs.declared.kind.Kind.TheVariants.{Memory};
 ghost use Rattle.usb_plan.specs.declared.fault.PlanFault.TheVariants.{Memory as NoMemory};
-ghost use Rattle.usb_plan.specs.Device.{name_in, name_at, speed_in, speed_at, descriptor_at, configs_at, strings_at, room, with_quirks, with_halt, with_hub, HubFits, FewNaks, HaltsLater, identity_with, identity_of, content_with, content_of, made, device_with, device_of, device_in, devices_from};
+ghost use Rattle.usb_plan.specs.Device.{name_in, name_at, speed_in, speed_at, descriptor_at, configs_at, strings_at, device_room, with_quirks, with_halt, with_hub, HubFits, FewNaks, HaltsLater, identity_with, identity_of, content_with, content_keys, made, device_with, device_described, device_in, devices_from};
 
 use crate::bulk::{Bulk, bulk_of};
 use crate::fault::{Place, PlanFault};
@@ -108,9 +108,9 @@ fn strings_at(alloc: Global, value: Option<&Value>) -> Result<StringTexts, Kind>
 }
 
 /// Refuses an entry after the most that a plan may have.
-#[tactic(auto, unfolding(crate::specs::Device::room))]
+#[tactic(auto, unfolding(crate::specs::Device::device_room))]
 fn room(earlier: &Devices) -> Result<(), Kind>
-    ensures { result ≡ room earlier.now }
+    ensures { result ≡ device_room earlier.now }
 {
     if earlier.as_slice().len() < 127 {
         Ok(())
@@ -191,7 +191,7 @@ fn identity_with(
 }
 
 /// The keys of what a device is.
-#[tactic(auto, using(crate::proofs::Unless::identity_unless), unfolding(crate::specs::Device::identity_of))]
+#[tactic(auto, using(crate::proofs::MemoryRefusals::identity_unless), unfolding(crate::specs::Device::identity_of))]
 fn identity_of(alloc: Global, earlier: &Devices, table: &Table) -> Result<Identity, Kind>
     ensures { EqualUnless Memory result (identity_of earlier.now (table_view table.now)) }
 {
@@ -226,9 +226,9 @@ fn content_with(
 }
 
 /// The keys of the texts that a device gives.
-#[tactic(auto, using(crate::proofs::Unless::content_unless), unfolding(crate::specs::Device::content_of))]
+#[tactic(auto, using(crate::proofs::MemoryRefusals::content_unless), unfolding(crate::specs::Device::content_keys))]
 fn content_of(alloc: Global, table: &Table) -> Result<Content, Kind>
-    ensures { EqualUnless Memory result (content_of (table_view table.now)) }
+    ensures { EqualUnless Memory result (content_keys (table_view table.now)) }
 {
     let configs = configs_at(alloc, value_at(table, "configs"));
     let strings = strings_at(alloc, value_at(table, "strings"));
@@ -296,9 +296,9 @@ const KEYS: [&str; 14] = [
 ];
 
 /// The device that a table describes, beside the earlier ones.
-#[tactic(auto, unfolding(crate::specs::Device::device_of))]
+#[tactic(auto, unfolding(crate::specs::Device::device_described))]
 fn device_of(alloc: Global, earlier: &Devices, table: &Table) -> Result<DeviceSpec, Kind>
-    ensures { EqualUnless Memory result (device_of earlier.now (table_view table.now)) }
+    ensures { EqualUnless Memory result (device_described earlier.now (table_view table.now)) }
 {
     let identity = identity_of(alloc, earlier, table);
     let content = content_of(alloc, table);

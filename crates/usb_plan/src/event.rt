@@ -7,7 +7,7 @@ ghost use Rattle.usb_world.specs.PlanData.{events_fit};
 ghost use Rattle.usb_plan.specs.Action.{action_of, keys_of};
 ghost use Rattle.usb_plan.specs.Kind.{EqualUnless};
 ghost use Rattle.usb_plan.specs.declared.kind.Kind.TheVariants.{Memory};
-ghost use Rattle.usb_plan.specs.Event.{after_at, room, event_with, event_of, event_in, events_from};
+ghost use Rattle.usb_plan.specs.Event.{after_at, event_room, event_with, event_of, event_in, events_from};
 
 use crate::action::{action_of, keys_of};
 use crate::fault::{Place, PlanFault};
@@ -29,9 +29,9 @@ fn after_at(value: Option<&Value>) -> Result<u64, Kind>
 }
 
 /// Refuses an entry after the most that a plan may have.
-#[tactic(auto, unfolding(crate::specs::Event::room))]
+#[tactic(auto, unfolding(crate::specs::Event::event_room))]
 fn room(count: usize) -> Result<(), Kind>
-    ensures { result ≡ room count }
+    ensures { result ≡ event_room count }
 {
     if count < 10_000 {
         Ok(())
@@ -62,7 +62,7 @@ fn event_with(
 }
 
 /// The event of a table whose `do` is that verb, after so many others.
-#[tactic(auto, using(crate::proofs::Unless::event_unless), unfolding(crate::specs::Event::event_of))]
+#[tactic(auto, using(crate::proofs::MemoryRefusals::event_unless), unfolding(crate::specs::Event::event_of))]
 fn event_of(
     alloc: Global,
     verb: Verb,

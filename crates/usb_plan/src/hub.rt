@@ -4,7 +4,7 @@ ghost use Rattle.std.specs.Prelude.{◌≡◌, ◌≤◌, option_map};
 ghost use Rattle.toml.specs.View.{view};
 ghost use Rattle.usb_plan.specs.Kind.{EqualUnless};
 ghost use Rattle.usb_plan.specs.declared.kind.Kind.TheVariants.{Memory};
-ghost use Rattle.usb_plan.specs.Hub.{no_hub, described, hub_of, hub_in, hub_at, is_low, is_other, class_at};
+ghost use Rattle.usb_plan.specs.Hub.{no_hub, described, hub_described, hub_in, hub_at, low_read, is_other, class_at};
 
 use crate::kind::Kind;
 use crate::value::{hex_in, number_in};
@@ -38,12 +38,12 @@ fn described(ports: u8, descriptor: Result<Bytes<255>, Kind>) -> Result<Option<H
     }
 }
 
-#[tactic(auto, using(crate::proofs::Unless::described_unless), unfolding(crate::specs::Hub::hub_of))]
+#[tactic(auto, using(crate::proofs::MemoryRefusals::described_unless), unfolding(crate::specs::Hub::hub_described))]
 fn hub_of(alloc: Global, ports: u8, descriptor: Option<&Value>) -> Result<Option<HubSpec>, Kind>
     requires least { 1 ≤ ports }
     requires most { ports ≤ 7 }
     ensures { EqualUnless Memory result
-        (hub_of ports (option_map (λ v. view v.now) descriptor.entry)) }
+        (hub_described ports (option_map (λ v. view v.now) descriptor.entry)) }
 {
     match descriptor {
         None => Ok(Some(HubSpec::usual(alloc, ports)?)),
@@ -81,9 +81,9 @@ pub(crate) fn hub_at(
     }
 }
 
-#[tactic(auto, unfolding(crate::specs::Hub::is_low))]
+#[tactic(auto, unfolding(crate::specs::Hub::low_read))]
 fn is_low(low: &Result<bool, Kind>) -> bool
-    ensures { result ≡ is_low low.now }
+    ensures { result ≡ low_read low.now }
 {
     match low {
         Ok(low) => *low,

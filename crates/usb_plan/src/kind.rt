@@ -1,7 +1,7 @@
 //! The kinds of fault of one entry, and which of several is told.
 
 ghost use Rattle.std.specs.Prelude.{◌≡◌, Some};
-ghost use Rattle.usb_plan.specs.Kind.{fault_of, sooner, told, placed};
+ghost use Rattle.usb_plan.specs.Kind.{part_fault, sooner, least_fault, placed};
 ghost use Rattle.usb_plan.specs.declared.kind.Kind.TheVariants.{Memory};
 
 use crate::fault::{Place, PlanFault};
@@ -78,9 +78,9 @@ impl From<AllocError> for Kind {
 }
 
 /// The fault of a part, if it has one.
-#[tactic(auto, unfolding(crate::specs::Kind::fault_of))]
+#[tactic(auto, unfolding(crate::specs::Kind::part_fault))]
 pub(crate) fn fault_of<A>(part: &Result<A, Kind>) -> Option<Kind>
-    ensures { result ≡ fault_of part.now }
+    ensures { result ≡ part_fault part.now }
 {
     match part {
         Ok(_) => None,
@@ -100,9 +100,9 @@ fn sooner(kind: Kind, others: Result<(), Kind>) -> Result<(), Kind>
 }
 
 /// Refuses an entry with faults in its parts, and tells the first in order.
-#[tactic(auto, unfolding(crate::specs::Kind::told, crate::specs::Kind::sooner))]
+#[tactic(auto, unfolding(crate::specs::Kind::least_fault, crate::specs::Kind::sooner))]
 pub(crate) fn told(faults: &[Option<Kind>]) -> Result<(), Kind>
-    ensures { result ≡ told faults.now }
+    ensures { result ≡ least_fault faults.now }
 {
     match faults.split_first() {
         None => Ok(()),

@@ -2,7 +2,7 @@
 
 ghost use Rattle.std.specs.Prelude.{◌≡◌, option_map};
 ghost use Rattle.toml.specs.View.{view};
-ghost use Rattle.usb_plan.specs.Path.{rooted, path_in, path_at, free, taken};
+ghost use Rattle.usb_plan.specs.Path.{rooted, path_read, rooted_path, free, taken};
 
 use crate::kind::Kind;
 use crate::tree::{Tree, is_rooted};
@@ -26,9 +26,9 @@ fn rooted(roots: u8, path: Option<PortPath>) -> Result<PortPath, Kind>
     }
 }
 
-#[tactic(auto, unfolding(crate::specs::Path::path_in))]
+#[tactic(auto, unfolding(crate::specs::Path::path_read))]
 fn path_in(roots: u8, text: Option<&str>) -> Result<PortPath, Kind>
-    ensures { result ≡ path_in roots (option_map (λ t. t.now) text.entry) }
+    ensures { result ≡ path_read roots (option_map (λ t. t.now) text.entry) }
 {
     match text {
         None => Err(Kind::BadValue),
@@ -37,9 +37,9 @@ fn path_in(roots: u8, text: Option<&str>) -> Result<PortPath, Kind>
 }
 
 /// The path that the value spells; its first number is a root port's.
-#[tactic(auto, unfolding(crate::specs::Path::path_at))]
+#[tactic(auto, unfolding(crate::specs::Path::rooted_path))]
 pub(crate) fn path_at(roots: u8, value: Option<&Value>) -> Result<PortPath, Kind>
-    ensures { result ≡ path_at roots (option_map (λ v. view v.now) value.entry) }
+    ensures { result ≡ rooted_path roots (option_map (λ v. view v.now) value.entry) }
 {
     match value {
         None => Err(Kind::MissingKey),

@@ -1,7 +1,7 @@
 //! What is plugged where, while the events of a plan are read.
 ghost use Rattle.std.specs.Prelude.{◌≡◌, nat_eq, option_map};
 ghost use Rattle.std.specs.List.{starts_with};
-ghost use Rattle.usb_world.specs.PluggedDevices.{is_rooted, device_indexed, port_count};
+ghost use Rattle.usb_world.specs.PluggedDevices.{is_rooted, device_indexed, spec_port_count};
 
 use std::alloc::{AllocError, Global};
 use std::collections::BTreeMap;
@@ -26,7 +26,7 @@ impl Model for Tree {
 
 impl Tree {
     ghost use Rattle.std.specs.Prelude.{◌≡◌, [], OnOk, is_some};
-    ghost use Rattle.usb_world.specs.PluggedDevices.{index_at, unplugged, plugged_after, has_port, parent_has};
+    ghost use Rattle.usb_world.specs.PluggedDevices.{index_at, plugged_without, plugged_after, has_port, parent_has};
     ghost use Rattle.usb_world.specs.PlanData.{is_taken};
     ghost use Rattle.usb_plan.specs.Tree.{first_through};
 
@@ -86,7 +86,7 @@ impl Tree {
     /// Unplugs the device at the path and all below it. It takes time for what is unplugged alone, however much is plugged.
     #[tactic(auto, using(crate::proofs::Places::none_unplugged, crate::proofs::Places::one_unplugged, crate::proofs::Places::one_there))]
     fn unplug(&mut self, path: &PortPath)
-        ensures { self.new ≡ unplugged path.now self.old }
+        ensures { self.new ≡ plugged_without path.now self.old }
     {
         'places: while let Some(place) = self.first_through(path) {
             self.places.remove(&place);
@@ -132,9 +132,9 @@ fn device_of(devices: &[DeviceSpec], index: Option<usize>) -> Option<&DeviceSpec
 }
 
 /// How many ports the device has.
-#[tactic(auto, unfolding(usb_world::specs::PluggedDevices::port_count))]
+#[tactic(auto, unfolding(usb_world::specs::PluggedDevices::spec_port_count))]
 fn port_count(device: Option<&DeviceSpec>) -> u8
-    ensures { result ≡ port_count (option_map (λ d. d.now) device.entry) }
+    ensures { result ≡ spec_port_count (option_map (λ d. d.now) device.entry) }
 {
     match device {
         None => 0,

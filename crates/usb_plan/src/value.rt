@@ -4,7 +4,7 @@ ghost use Rattle.std.specs.Prelude.{◌≡◌, ◌≤◌, IfOk, option_map};
 ghost use Rattle.toml.specs.Data.{get_member, as_integer, as_str};
 ghost use Rattle.toml.specs.View.{view, table_view};
 ghost use Rattle.usb_plan.specs.Kind.{EqualUnless};
-ghost use Rattle.usb_plan.specs.Value.{is_word, number_in, number_at, number_or, hex_in, sent_in};
+ghost use Rattle.usb_plan.specs.Value.{is_word, number_in, number_at, number_or, hex_in, hex_bytes};
 ghost use Rattle.usb_plan.specs.declared.kind.Kind.TheVariants.{Memory};
 
 use crate::kind::Kind;
@@ -101,9 +101,9 @@ pub(crate) fn hex_in<const MAX: usize>(alloc: Global, value: &Value) -> Result<B
 }
 
 /// The bytes of a hex text, however many.
-#[tactic(auto, unfolding(crate::specs::Value::sent_in, crate::specs::Value::any_of))]
+#[tactic(auto, unfolding(crate::specs::Value::hex_bytes, crate::specs::Value::any_of))]
 pub(crate) fn sent_in(alloc: Global, value: &Value) -> Result<SentBytes, Kind>
-    ensures { EqualUnless Memory result (sent_in (as_str (view value.now))) }
+    ensures { EqualUnless Memory result (hex_bytes (as_str (view value.now))) }
 {
     let text = match value.as_str() {
         None => return Err(Kind::BadValue),

@@ -11,7 +11,7 @@ use Rattle.std.proofs.lemmas.Bool.{and_parts, and_from, lt-ltb, ltb-true, cases_
 use Rattle.std.proofs.Math.Seq.{take-append_seam, get_or-append_seam}
 use Rattle.std.proofs.Math.Nat.{mul-le-mul_right, pow-suc}
 use Rattle.usb_port.specs.Path.{IsPath, IsPortNumber}
-use Rattle.usb_port.specs.Order.{path_cmp, is_below, parent_of, port_of, digits_worth, rank_of}
+use Rattle.usb_port.specs.Order.{path_cmp, is_below, parent_of, port_on_hub, digits_worth, rank_of}
 
 pub taken_if : {X : Type 0} (b : Bool) (x : Option X) (y : X) → cond b x None ≡ Some y → (b ≡ true) × (x ≡ Some y)
 taken_if true x y h = (refl, h)
@@ -66,8 +66,8 @@ parent p n some =
     let less : length (p ++ n ∷ []) - 1 ≡ length p = omega (arith, size) in
     rw (long, less) (ap Some (take-append_seam p (n ∷ [])))
 
-pub port : (p : List ℕ) (n : ℕ) → port_of (p ++ n ∷ []) ≡ n
-unfolding port_of
+pub port : (p : List ℕ) (n : ℕ) → port_on_hub (p ++ n ∷ []) ≡ n
+unfolding port_on_hub
 port p n =
     let size : length (p ++ n ∷ []) ≡ length p + 1 = length-append p (n ∷ []) in
     let less : length (p ++ n ∷ []) - 1 ≡ length p = omega (arith, size) in
@@ -83,8 +83,8 @@ cut p q h =
     let taken = taken_if (nat_lt 1 (length p)) _ q h in
     record { long = ltb-true 1 (length p) taken.0; front = cc taken.1 }
 
-pub rejoined : (p q : List ℕ) → parent_of p ≡ Some q → p ≡ q ++ port_of p ∷ []
-unfolding port_of
+pub rejoined : (p q : List ℕ) → parent_of p ≡ Some q → p ≡ q ++ port_on_hub p ∷ []
+unfolding port_on_hub
 rejoined p q h =
     let c = cut p q h in
     let long = c.long in
@@ -97,7 +97,7 @@ is_path p q h e =
     let c = cut p q e in
     let long = c.long in
     let again = rejoined p q e in
-    let size : length p ≡ length q + 1 = ap length again ∙ length-append q (port_of p ∷ []) in
+    let size : length p ≡ length q + 1 = ap length again ∙ length-append q (port_on_hub p ∷ []) in
     let most = h.1 in
     (omega (arith, size, long), omega (arith, size, most), rw c.front (All-take IsPortNumber (length p - 1) p h.2))
 

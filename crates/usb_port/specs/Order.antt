@@ -18,8 +18,8 @@ unfoldable pub parent_of : List ℕ → Option (List ℕ)
 parent_of path = if nat_lt 1 (length path) then Some (take (length path - 1) path) else None
 
 -- the port's number on its hub
-unfoldable pub port_of : List ℕ → ℕ
-port_of path = slice_index path (length path - 1)
+unfoldable pub port_on_hub : List ℕ → ℕ
+port_on_hub path = slice_index path (length path - 1)
 
 -- the numbers as digits to the base 8, so many in all
 unfoldable pub digits_worth : ℕ → List ℕ → ℕ

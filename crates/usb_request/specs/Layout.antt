@@ -13,16 +13,16 @@ bytes_of s =
     ∷ []
 
 -- the number of two bytes, the low one at this place
-abbrev pub word_at : List ℕ → ℕ → ℕ
-word_at bytes i = slice_index bytes i + 256 * slice_index bytes (i + 1)
+abbrev pub field_at : List ℕ → ℕ → ℕ
+field_at bytes i = slice_index bytes i + 256 * slice_index bytes (i + 1)
 
 unfoldable pub setup_of : List ℕ → Setup
 setup_of bytes = record {
   request_type = slice_index bytes 0;
   request = slice_index bytes 1;
-  value = word_at bytes 2;
-  index = word_at bytes 4;
-  length = word_at bytes 6;
+  value = field_at bytes 2;
+  index = field_at bytes 4;
+  length = field_at bytes 6;
 }
 
 -- the data stage goes to the host: bit 7 of the request type is set

@@ -1,2 +1,4 @@
+pub mod Codes
+pub mod Features
 pub mod Layout
 pub mod Requests

@@ -1,7 +1,8 @@
 //! The setup data of a control transfer (9.3), a maker for each request that the host sends, and
-//! the standard's codes for requests, descriptors and features.
+//! the standard's codes for requests, descriptors, classes and features.
 #![tactic(auto)]
 
+pub mod class_code;
 pub mod descriptor_type;
 pub mod feature;
 mod makers;

@@ -1,7 +1,7 @@
 //! A maker for each request that the host sends.
-ghost use Rattle.std.specs.Prelude.{◌≡◌, ◌≤◌, ◌<◌, ◌+◌, ◌*◌};
+ghost use Rattle.std.specs.Prelude.{◌≡◌, ◌≤◌, ◌<◌};
 ghost use Rattle.usb_request.specs.Layout.{IsToHost, IsToDevice};
-ghost use Rattle.usb_request.specs.Requests.{get_device_descriptor, get_configuration_descriptor, get_string_descriptor, get_hub_descriptor, get_status, set_address, set_configuration, clear_endpoint_halt, get_port_status, set_port_feature, clear_port_feature};
+ghost use Rattle.usb_request.specs.Requests.{descriptor_value, get_device_descriptor, get_configuration_descriptor, get_string_descriptor, get_hub_descriptor, get_status, set_address, set_configuration, clear_endpoint_halt, get_port_status, set_port_feature, clear_port_feature};
 
 use crate::request_code::{
     CLEAR_FEATURE, GET_DESCRIPTOR, GET_STATUS, SET_ADDRESS, SET_CONFIGURATION, SET_FEATURE,
@@ -192,7 +192,7 @@ impl Setup {
 
 /// wValue of GET_DESCRIPTOR: the descriptor's type in the high byte, its index in the low one.
 fn descriptor_value(descriptor_type: u8, index: u8) -> u16
-    ensures { result ≡ 256 * descriptor_type + index }
+    ensures { result ≡ descriptor_value descriptor_type index }
 {
     u16::from_le_bytes([index, descriptor_type])
 }

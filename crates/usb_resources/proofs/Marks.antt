@@ -5,7 +5,7 @@ use Rattle.std.specs.Cmp.{nat_cmp_total, unsigned_tied}
 use Rattle.std.specs.FinSet.{empty, contains, insert, remove, contains-empty, contains-insert, contains-remove, same_set, nat_cmp-IsAntisymmetric}
 use Rattle.std.proofs.lemmas.Bool.{eq-eqb, ne_eqb, cases_lt, cases_order}
 use Rattle.std.proofs.lemmas.List.{get_or_past, get_or-replicate, length-replicate}
-use Rattle.usb_resources.specs.Pool.{IsAddress, IsFull, HasAddresses, Takes, Releases, IsLeastUnset, marked_from, marked}
+use Rattle.usb_resources.specs.Pool.{IsAddress, IsFull, HasAddresses, Takes, Releases, IsLeastUnset, marked_from, addresses_marked}
 
 tied : (a b : ℕ) → a ≡ b → eq_by_cmp nat_cmp a b ≡ true
 tied a b e = unsigned_tied a b ∙ eq-eqb a b e
@@ -35,10 +35,10 @@ contains_from i (false ∷ marks) (suc k) =
     let next : i + suc k ≡ i + 1 + k = omega arith in
     ap (contains (marked_from (i + 1) marks)) next ∙ contains_from (i + 1) marks k
 
-pub contains_marked : (marks : List Bool) (q : ℕ) → contains (marked marks) q ≡ get_or marks q false
-contains_marked marks q = let same : 0 + q ≡ q = omega arith in ap (contains (marked marks)) (sym same) ∙ contains_from 0 marks q
+pub contains_marked : (marks : List Bool) (q : ℕ) → contains (addresses_marked marks) q ≡ get_or marks q false
+contains_marked marks q = let same : 0 + q ≡ q = omega arith in ap (contains (addresses_marked marks)) (sym same) ∙ contains_from 0 marks q
 
-pub has_addresses : (marks : List Bool) → length marks ≡ 128 → get_or marks 0 false ≡ false → HasAddresses (marked marks)
+pub has_addresses : (marks : List Bool) → length marks ≡ 128 → get_or marks 0 false ≡ false → HasAddresses (addresses_marked marks)
 has_addresses marks size first a taken =
     let set : get_or marks a false ≡ true = sym (contains_marked marks a) ∙ taken in (
       elim (cases_lt 0 a) [
@@ -69,17 +69,17 @@ marks_remove marks a q lt =
           get_or-set_other marks a q false false ne ∙ rw (apart q a ne) refl
     ]
 
-marked-insert : (marks : List Bool) (a : ℕ) → a < length marks → marked (set marks a true) ≡ insert (marked marks) a
-marked-insert marks a lt =
+addresses_marked-insert : (marks : List Bool) (a : ℕ) → a < length marks → addresses_marked (set marks a true) ≡ insert (addresses_marked marks) a
+addresses_marked-insert marks a lt =
     same_set nat_cmp_total nat_cmp-IsAntisymmetric _ _
     (λ q. contains_marked (set marks a true) q ∙ marks_insert marks a q lt
-    ∙ ap (λ b. eq_by_cmp nat_cmp q a || b) (sym (contains_marked marks q)) ∙ sym (contains-insert nat_cmp_total (marked marks) a q))
+    ∙ ap (λ b. eq_by_cmp nat_cmp q a || b) (sym (contains_marked marks q)) ∙ sym (contains-insert nat_cmp_total (addresses_marked marks) a q))
 
-marked-remove : (marks : List Bool) (a : ℕ) → a < length marks → marked (set marks a false) ≡ remove (marked marks) a
-marked-remove marks a lt =
+addresses_marked-remove : (marks : List Bool) (a : ℕ) → a < length marks → addresses_marked (set marks a false) ≡ remove (addresses_marked marks) a
+addresses_marked-remove marks a lt =
     same_set nat_cmp_total nat_cmp-IsAntisymmetric _ _
     (λ q. contains_marked (set marks a false) q ∙ marks_remove marks a q lt
-    ∙ ap (λ b. not (eq_by_cmp nat_cmp q a) && b) (sym (contains_marked marks q)) ∙ sym (contains-remove nat_cmp_total (marked marks) a q))
+    ∙ ap (λ b. not (eq_by_cmp nat_cmp q a) && b) (sym (contains_marked marks q)) ∙ sym (contains-remove nat_cmp_total (addresses_marked marks) a q))
 
 -- a set mark that is taken off again
 set_back : (marks : List Bool) (a : ℕ) → get_or marks a false ≡ false → set (set marks a true) a false ≡ marks
@@ -87,7 +87,7 @@ set_back [] a free = refl
 set_back (m ∷ marks) zero free = ap (λ b. b ∷ marks) (sym free)
 set_back (m ∷ marks) (suc a) free = ap (λ l. m ∷ l) (set_back marks a free)
 
-pub takes : (marks : List Bool) (a : ℕ) → length marks ≡ 128 → IsLeastUnset marks a → Takes (marked marks) a (marked (set marks a true))
+pub takes : (marks : List Bool) (a : ℕ) → length marks ≡ 128 → IsLeastUnset marks a → Takes (addresses_marked marks) a (addresses_marked (set marks a true))
 takes marks a size is =
     let most = is.range.1 in
     let lt : a < length marks = omega (arith, size, most) in
@@ -96,26 +96,26 @@ takes marks a size is =
       least = λ b from below. contains_marked marks b ∙ is.below b from below;
       taken = contains_marked (set marks a true) a ∙ get_or-set_same marks a true false lt;
       others = λ b ne. contains_marked (set marks a true) b ∙ get_or-set_other marks a b true false ne ∙ sym (contains_marked marks b);
-      added = marked-insert marks a lt;
+      added = addresses_marked-insert marks a lt;
       back =
-          sym (marked-remove (set marks a true) a (omega (arith, lt, length-set marks a true)))
-          ∙ ap marked (set_back marks a is.unset);
+          sym (addresses_marked-remove (set marks a true) a (omega (arith, lt, length-set marks a true)))
+          ∙ ap addresses_marked (set_back marks a is.unset);
     }
 
-pub releases : (marks : List Bool) (a : ℕ) → length marks ≡ 128 → IsAddress a → Releases (marked marks) a (marked (set marks a false))
+pub releases : (marks : List Bool) (a : ℕ) → length marks ≡ 128 → IsAddress a → Releases (addresses_marked marks) a (addresses_marked (set marks a false))
 releases marks a size is =
     let most = is.1 in
     let lt : a < length marks = omega (arith, size, most) in
     record {
       free = (is, contains_marked (set marks a false) a ∙ get_or-set_same marks a false false lt);
       others = λ b ne. contains_marked (set marks a false) b ∙ get_or-set_other marks a b false false ne ∙ sym (contains_marked marks b);
-      removed = marked-remove marks a lt;
+      removed = addresses_marked-remove marks a lt;
     }
 
-pub full : (marks : List Bool) → ((a : ℕ) → IsAddress a → get_or marks a false ≡ true) → IsFull (marked marks)
+pub full : (marks : List Bool) → ((a : ℕ) → IsAddress a → get_or marks a false ≡ true) → IsFull (addresses_marked marks)
 full marks each a is = contains_marked marks a ∙ each a is
 
-pub none_marked : (n : ℕ) → marked (replicate n false) ≡ empty
+pub none_marked : (n : ℕ) → addresses_marked (replicate n false) ≡ empty
 none_marked n =
     same_set nat_cmp_total nat_cmp-IsAntisymmetric _ _
     (λ q. contains_marked (replicate n false) q ∙ none_set n q ∙ sym (contains-empty nat_cmp q))
@@ -126,7 +126,7 @@ none_marked n =
       | inr past ↦ get_or_past (replicate n false) q false (omega (arith, past, length-replicate n false))
     ]
 
-pub not_full : (marks : List Bool) (a : ℕ) → IsLeastUnset marks a → IsFull (marked marks) → ⊥
+pub not_full : (marks : List Bool) (a : ℕ) → IsLeastUnset marks a → IsFull (addresses_marked marks) → ⊥
 not_full marks a least full =
     let taken = full a least.range in
     let free = contains_marked marks a ∙ least.unset in

@@ -2,7 +2,7 @@
 use Rattle.std.proofs.Common.{◌≡◌, ◌≢◌, ◌∙◌, refl, sym, ap, subst, Bool, true, false, suc, ℕ, ◌==◌, eq-eqb, append-nil, List, [], ◌∷◌, Option, None, Some, Result, Ok, Err}
 use Rattle.std.specs.Prelude.{is_ok, option_map}
 use Rattle.usb_device.specs.Rows.{State}
-use Rattle.usb_device.specs.Tree.{reach, reach_at, state_at}
+use Rattle.usb_device.specs.Tree.{reach, reach_at, state_at, Spot, path_to, reach_on, state_on}
 use Rattle.usb_device.specs.View.{state_there}
 use Rattle.usb_world.specs.Devices.{Was, EachWas}
 use Rattle.usb_world.specs.Paths.{address_of}
@@ -20,7 +20,7 @@ use Rattle.usb_table.specs.declared.pipes.Pipes.{Pipes}
 use Rattle.usb_table.specs.declared.pipes.Pipes.TheVariants.{Hub, Function, Absent}
 use Rattle.usb_table.specs.Findings.{out_endpoint, accepted_device_of, accepted_device_at}
 use Rattle.usb_table.specs.Keys.{address_in}
-use Rattle.usb_table.specs.Known.{is_below_hub}
+use Rattle.usb_table.specs.KnownPorts.{is_below_hub}
 use Rattle.usb_table.specs.Levels.{AllLevel, AreLevel, FitsOut, IsHeld}
 use Rattle.usb_table.specs.Listing.{finding_at, entry_address}
 use Rattle.usb_table.specs.Pipes.{IsPipe, ArePipesTo}
@@ -29,14 +29,14 @@ use Rattle.usb_table.specs.Transfers.{SameSettings, SentBy, PipesSent, endpoint_
 use Rattle.usb_table.proofs.Interface.{address_found, held_address, one_path}
 use Rattle.usb_host.specs.declared.fault.HostFault.{HostFault}
 use Rattle.usb_host.specs.Hosting.{Hosting}
-use Rattle.usb_host.specs.Owning.{claims}
-use Rattle.usb_host.specs.Sound.{IsSound}
-use Rattle.usb_host.specs.Told.{host_told}
+use Rattle.usb_host.specs.Ownership.{claims}
+use Rattle.usb_host.specs.Soundness.{IsSound}
+use Rattle.usb_host.specs.ToldFaults.{host_told}
 use Rattle.usb_host.specs.Transfers.{SentAt, HandsOn, table_in}
 use Rattle.usb_serve.specs.declared.runs.RunFault.{RunFault}
 use Rattle.usb_serve.specs.declared.transfer.TransferFault.{TransferFault}
 use Rattle.usb_serve.specs.Deliveries.{TookBytes, TookAt, StaysApart, Delivered}
-use Rattle.usb_serve.specs.Transfers.{Transfers, answer_of, answered, failed}
+use Rattle.usb_serve.specs.Transfers.{Transfers, fault_in_run, transfer_ended, failed}
 
 by_decision : (b : Bool) → (b ≡ true → ⊥) → b ≡ false
 by_decision true f = absurd (f refl)
@@ -56,9 +56,9 @@ not_done : (fault : Result TransferFault RunFault) (told : Result (Unit {0}) Tra
 not_done (Ok fault) told e = let same : Err fault ≡ told = cc e in ap is_ok same
 not_done (Err fault) told e = absurd (cc e)
 
-done_told : (answer : Result (Unit {0}) HostFault) (told : Result (Unit {0}) TransferFault) → answered answer ≡ Ok told → is_ok answer ≡ is_ok told
+done_told : (answer : Result (Unit {0}) HostFault) (told : Result (Unit {0}) TransferFault) → transfer_ended answer ≡ Ok told → is_ok answer ≡ is_ok told
 done_told (Ok u) told e = let same : Ok u ≡ told = cc e in ap is_ok same
-done_told (Err fault) told e = not_done (answer_of fault) told e
+done_told (Err fault) told e = not_done (fault_in_run fault) told e
 
 -- Nothing was sent
 
@@ -67,8 +67,8 @@ none_taken bytes s = record { front = []; rest = bytes; split = refl; sink = sym
 
 none_delivered : (path bytes : List ℕ) (table : Table) (w : World) → Delivered path false bytes table.entries w w
 none_delivered path bytes table w = record {
-  took = each_none (TookAt path false bytes) (λ j p s e. none_taken bytes s) w;
-  known = λ known. record { apart = each_none (StaysApart path) (λ j p s e. refl) w; there = λ done some. absurd (cc done) };
+  took = each_none (TookAt path false bytes) (λ j s e. none_taken bytes s) w;
+  known = λ known. record { apart = each_none (StaysApart path) (λ j s e. refl) w; there = λ done some. absurd (cc done) };
 }
 
 not_tried : (path bytes : List ℕ) (table : Table) (old new : World) (result : Result (Unit {0}) EndpointFault) (fault : EndpointFault) → result ≡ Err fault → new ≡ old → Delivered path (is_ok result) bytes table.entries old new
@@ -78,8 +78,8 @@ not_tried path bytes table old new result fault e same =
 
 module _ (path bytes : List ℕ) (table : Table) (old new : World) (held : IsHeld table old) (single : new.shared ≡ false) where
   -- who is reached holds the address that his path has in the table
-  entry_of : (j : ℕ) (p : List ℕ) (s : State) → reach_at old.roots j p ≡ true → state_at old.roots j p ≡ Some s → entry_address (suc j ∷ p) table.entries ≡ Some (address_of s)
-  entry_of j p s on there = sym (held.own (suc j ∷ p) on) ∙ ap (option_map address_of) there
+  entry_of : (j : Spot) (s : State) → reach_on old.roots j ≡ true → state_on old.roots j ≡ Some s → entry_address (path_to j) table.entries ≡ Some (address_of s)
+  entry_of j s on there = sym (held.own (path_to j) on) ∙ ap (option_map address_of) there
 
   -- Where no device is known at the path, none is reached there
 
@@ -87,28 +87,28 @@ module _ (path bytes : List ℕ) (table : Table) (old new : World) (held : IsHel
   unknown done none no_device each = record { took = took; known = λ some. absurd (cc (some, no_device)) }
     where
       took : EachWas (TookAt path done bytes) old new
-      took j p v on there =
-          let w : Was SameSettings old j p v = each j p v on there in
-          record { before = w.before; on = w.on; stands = w.stands; so = λ e. absurd (cc (entry_of j p w.before w.on w.stands, none, e)) }
+      took j v on there =
+          let w : Was SameSettings old j v = each j v on there in
+          record { before = w.before; on = w.on; stands = w.stands; so = λ e. absurd (cc (entry_of j w.before w.on w.stands, none, e)) }
 
   -- Through a pipe to the device that is known there
 
   module _ (device : Accepted) (pipe : Bulk) (found : accepted_device_at path table.entries ≡ Some device) (target : pipe.target.addr ≡ device.address)
       (fits : (s : State) → reach old.roots path ≡ true → state_there old.roots path ≡ Some s → FitsSink pipe s) where
     -- who has the pipe's address stands at the path
-    stands_there : (j : ℕ) (p : List ℕ) (s : State) → reach_at old.roots j p ≡ true → state_at old.roots j p ≡ Some s → (address_of s == pipe.target.addr) ≡ true → path ≡ suc j ∷ p
-    stands_there j p s on there at =
+    stands_there : (j : Spot) (s : State) → reach_on old.roots j ≡ true → state_on old.roots j ≡ Some s → (address_of s == pipe.target.addr) ≡ true → path ≡ path_to j
+    stands_there j s on there at =
         let same : address_of s ≡ device.address = equal_same (address_of s) pipe.target.addr at ∙ target in
-        sym (one_path table old (suc j ∷ p) path device.address held (entry_of j p s on there ∙ ap Some same) (address_found path table.entries device found))
+        sym (one_path table old (path_to j) path device.address held (entry_of j s on there ∙ ap Some same) (address_found path table.entries device found))
 
-    taken : (answer : Result (Unit {0}) PipeFault) (left : Bulk) (j : ℕ) (p : List ℕ) (s v : State) → SendLeaves bytes pipe answer left j p s v → (address_of s == pipe.target.addr) ≡ true → FitsSink pipe s → TookBytes (is_ok answer) bytes s v
-    taken (Ok u) left j p s v x at fit = x.done at fit u refl
-    taken (Err why) left j p s v x at fit = x.failed at fit why refl
+    taken : (answer : Result (Unit {0}) PipeFault) (left : Bulk) (j : Spot) (s v : State) → SendLeaves bytes pipe answer left j s v → (address_of s == pipe.target.addr) ≡ true → FitsSink pipe s → TookBytes (is_ok answer) bytes s v
+    taken (Ok u) left j s v x at fit = x.done at fit u refl
+    taken (Err why) left j s v x at fit = x.failed at fit why refl
 
     reached : (answer : Result (Unit {0}) PipeFault) (left : Bulk) → Sends bytes pipe old answer left new → is_ok answer ≡ true → bytes ≢ [] → reach new.roots path ≡ true
     reached (Ok u) left sends done some =
         let a = who_sends bytes pipe u left old new some sends single in
-        ap (reach new.roots) (stands_there a.j a.p a.before a.was_on a.stood a.at) ∙ a.on
+        ap (reach new.roots) (stands_there a.spot a.before a.was_on a.stood a.at) ∙ a.on
     reached (Err why) left sends done some = absurd (cc done)
 
     through_pipe : (answer : Result (Unit {0}) PipeFault) (left : Bulk) → Sends bytes pipe old answer left new → Delivered path (is_ok answer) bytes table.entries old new
@@ -118,26 +118,26 @@ module _ (path bytes : List ℕ) (table : Table) (old new : World) (held : IsHel
         each = send_leaves bytes pipe answer left old new sends single
 
         took : EachWas (TookAt path (is_ok answer) bytes) old new
-        took j p v on there = record { before = w.before; on = w.on; stands = w.stands; so = so }
+        took j v on there = record { before = w.before; on = w.on; stands = w.stands; so = so }
           where
-            w : Was (SendLeaves bytes pipe answer left) old j p v
-            w = each j p v on there
+            w : Was (SendLeaves bytes pipe answer left) old j v
+            w = each j v on there
 
-            so : TookAt path (is_ok answer) bytes j p w.before v
+            so : TookAt path (is_ok answer) bytes j w.before v
             so e =
                 let was_on : reach old.roots path ≡ true = ap (reach old.roots) e ∙ w.on in
                 let stood : state_there old.roots path ≡ Some w.before = ap (state_there old.roots) e ∙ w.stands in
                 let has : address_of w.before ≡ device.address = held_address table old path device w.before held found was_on stood in
-                taken answer left j p w.before v w.so (eq-eqb (address_of w.before) pipe.target.addr (has ∙ sym target)) (fits w.before was_on stood)
+                taken answer left j w.before v w.so (eq-eqb (address_of w.before) pipe.target.addr (has ∙ sym target)) (fits w.before was_on stood)
 
         apart : EachWas (StaysApart path) old new
-        apart j p v on there =
-            let w : Was (SendLeaves bytes pipe answer left) old j p v = each j p v on there in
+        apart j v on there =
+            let w : Was (SendLeaves bytes pipe answer left) old j v = each j v on there in
             record {
               before = w.before;
               on = w.on;
               stands = w.stands;
-              so = λ far. w.so.others (by_decision (address_of w.before == pipe.target.addr) (λ at. far (stands_there j p w.before w.on w.stands at)));
+              so = λ far. w.so.others (by_decision (address_of w.before == pipe.target.addr) (λ at. far (stands_there j w.before w.on w.stands at)));
             }
 
   -- Through the pipes to it

@@ -11,25 +11,25 @@ use Rattle.usb_world.specs.declared.types.BusFault.{BusFault}
 use Rattle.usb_world.specs.declared.types.BusFault.TheVariants.{LimitReached, Memory, TraceFailed}
 use Rattle.usb_world.specs.World.{World, Failed, changes, change_of}
 use Rattle.usb_host.specs.Hosting.{Hosting, opening_host as host_opening, with_power}
-use Rattle.usb_host.specs.Owning.{IsUntouched}
+use Rattle.usb_host.specs.Ownership.{IsUntouched}
 use Rattle.usb_host.specs.Progress.{HostWent}
-use Rattle.usb_host.specs.Sound.{IsSound, IsUnpowered, Causes}
+use Rattle.usb_host.specs.Soundness.{IsSound, IsUnpowered, Causes}
 use Rattle.usb_serve.specs.declared.runs.RunFault.{RunFault}
 use Rattle.usb_serve.specs.declared.runs.RunFault.TheVariants.{Memory as NoMemory}
 use Rattle.usb_serve.specs.declared.transfer.TransferFault.{TransferFault}
-use Rattle.usb_serve.specs.Transfers.{answered, answer_of_pipe, failed}
+use Rattle.usb_serve.specs.Transfers.{transfer_ended, answer_of_pipe, failed}
 use Rattle.usb_pipe.specs.declared.fault.PipeFault.{PipeFault}
 use Rattle.usb_pipe.specs.declared.fault.PipeFault.TheVariants as pipe
 use Rattle.usb_host.specs.declared.fault.HostFault.{HostFault}
 use Rattle.usb_host.specs.declared.fault.HostFault.TheVariants as host
-use Rattle.usb_host.specs.Told.{IsOfPipe, TransferTold, is_final}
-use Rattle.usb_bus.specs.Traced.{Traced, WentOn}
-use Rattle.usb_serve.specs.Ran.{Works}
+use Rattle.usb_host.specs.ToldFaults.{IsOfPipe, TransferTold, is_final}
+use Rattle.usb_bus.specs.Traces.{Traced, WentOn}
+use Rattle.usb_serve.specs.RunSegments.{Works}
 use Rattle.usb_serve.specs.Run.{IsCaused, RunsOn, WorksOn, run_fault}
-use Rattle.usb_serve.specs.Served.{Opens, unpowered}
+use Rattle.usb_serve.specs.ServedRuns.{Opens, unpowered}
 use Rattle.usb_serve.proofs.Moments.{SoFar}
-use Rattle.usb_serve.proofs.Onwards.{traced_onward}
-use Rattle.usb_serve.proofs.Ownings.{untouched}
+use Rattle.usb_serve.proofs.RunCourses.{traced_onward}
+use Rattle.usb_serve.proofs.Ownership.{untouched}
 
 powered_length : (n : ℕ) → length (row_of (with_power (new_ports n))) ≡ length (row_of (new_ports n))
 unfolding new_ports row_of with_power
@@ -85,7 +85,7 @@ err_same : {A : Type 0} (a f : RunFault) → ended {A = A} a ≡ ended f → a �
 err_same a f e = cc e
 
 -- a transfer that did not end the run left the host running
-pub answered_goes : {A : Type 0} (answer : Result A HostFault) (x : Result A TransferFault) → answered answer ≡ Ok x → is_final answer ≡ false
+pub answered_goes : {A : Type 0} (answer : Result A HostFault) (x : Result A TransferFault) → transfer_ended answer ≡ Ok x → is_final answer ≡ false
 answered_goes (Ok done) x e = refl
 answered_goes (Err host.Stopped) x e = refl
 answered_goes (Err host.NoDevice) x e = refl
@@ -103,7 +103,7 @@ caused_pipe (pipe.Bus fault) f w of e = absurd of
 caused_pipe pipe.Memory f w of e = absurd of
 
 -- and one that did told its cause
-pub answered_caused : {A : Type 0} (answer : Result A HostFault) (f : RunFault) (w : World) → IfErr answer (λ h. TransferTold h w) → answered answer ≡ Err f → IsCaused f w
+pub answered_caused : {A : Type 0} (answer : Result A HostFault) (f : RunFault) (w : World) → IfErr answer (λ h. TransferTold h w) → transfer_ended answer ≡ Err f → IsCaused f w
 answered_caused (Ok done) f w told e = cc e
 answered_caused {A} (Err host.Stopped) f w told e = subst (λ x. IsCaused x w) (err_same {A = A} NoMemory f e) tt
 answered_caused (Err host.NoDevice) f w told e = cc e

@@ -23,20 +23,20 @@ use Rattle.usb_table.proofs.Interface.{lists_of_plan}
 use Rattle.usb_host.specs.Agreement.{Agrees}
 use Rattle.usb_host.specs.Hosting.{Hosting}
 use Rattle.usb_host.specs.Transfers.{SentAt}
-use Rattle.usb_host.specs.Sound.{IsSound, IsAtRest, Causes, IsFairTo, StaysSound}
+use Rattle.usb_host.specs.Soundness.{IsSound, IsAtRest, Causes, IsFairTo, StaysSound}
 use Rattle.usb_host.proofs.Interface.{accounted, settled_matches}
 use Rattle.usb_serve.specs.declared.runs.Item.{Item}
 use Rattle.usb_serve.specs.declared.runs.Item.TheVariants as item
 use Rattle.usb_serve.specs.declared.serving.Mode.{Mode}
 use Rattle.usb_serve.specs.declared.transfer.TransferFault.{TransferFault}
 use Rattle.usb_serve.specs.Moments.{WasListed, WasSent, HasMoment, IsListingOf, ListsRight}
-use Rattle.usb_serve.specs.Ran.{Ran, idle, worked, changed, Reaches, Works, Comes}
+use Rattle.usb_serve.specs.RunSegments.{Ran, idle, worked, changed, Reaches, Works, Comes}
 use Rattle.usb_serve.specs.Run.{listing_of}
-use Rattle.usb_serve.specs.Transcript.{Makes, asked, last, PutsText, RunsTo, StoppedRun, behind, on_the_way, in_text, Transcript, begun, ran, told}
-use Rattle.usb_serve.specs.Transfers.{IsItemOf, Transfers, counted}
+use Rattle.usb_serve.specs.Transcript.{Makes, asked, last, AppendsText, RunsTo, StoppedRun, behind, on_the_way, in_text, Transcript, begun, ran, told}
+use Rattle.usb_serve.specs.Transfers.{IsItemOf, Transfers, sent_count}
 use Rattle.usb_serve.proofs.Deliveries.{told_delivers}
-use Rattle.usb_serve.proofs.Knowing.{came_stays, came_running, fair_before, fair_after, ran_running}
-use Rattle.usb_serve.proofs.Onwards.{Onward, onward_then, works_onward, comes_onward, ran_onward, makes_onward, stops_onward, puts_onward, cuts_onward}
+use Rattle.usb_serve.proofs.KnowledgeKept.{came_stays, came_running, fair_before, fair_after, ran_running}
+use Rattle.usb_serve.proofs.RunCourses.{Onward, onward_then, works_onward, comes_onward, ran_onward, makes_onward, stops_onward, puts_onward, cuts_onward}
 
 -- what a plan's host knows is so, and where damage was fair, each refused device has its cause
 pub record SoFar (plan : PlanData) (h : Hosting) : Type 0 where
@@ -73,7 +73,7 @@ module _ (plan : PlanData) where
   so_far_made s (asked due reaches works is) on = so_far_works (so_far_reached (Some due) s reaches) works on
   so_far_made s (last reaches) on = so_far_reached None s reaches
 
-  so_far_put : {h k : Hosting} {text : List ℕ} → SoFar plan h → PutsText text h k → SoFar plan k
+  so_far_put : {h k : Hosting} {text : List ℕ} → SoFar plan h → AppendsText text h k → SoFar plan k
   so_far_put {h} {k} {text} s puts = subst (SoFar plan) (sym puts.rest) so
     where
       so : SoFar plan (record h { trace = k.trace })
@@ -87,7 +87,7 @@ module _ (plan : PlanData) where
   makes_running (asked due reaches works is) = ran_running reaches.ran reaches.settles.running
   makes_running (last reaches) = ran_running reaches.ran reaches.settles.running
 
-  put_running : {h k : Hosting} {text : List ℕ} → PutsText text h k → k.stopped ≡ false → h.stopped ≡ false
+  put_running : {h k : Hosting} {text : List ℕ} → AppendsText text h k → k.stopped ≡ false → h.stopped ≡ false
   put_running puts on = sym (ap (λ (x : Hosting). x.stopped) puts.rest) ∙ on
 
   so_far : {mode : Mode} {was : Bool} {old : Hosting} {items : List Item} {over : Bool} {new : Hosting} → SoFar plan old → Transcript mode was old items over new → new.stopped ≡ false → SoFar plan new
@@ -172,7 +172,7 @@ module _ (plan : PlanData) where
 
   -- the bytes that an event asks for, of a host that had settled when it came
   reached_sent : {h mid k : Hosting} (path bytes : List ℕ) (sent : Result (Unit {0}) TransferFault) (end : World) → SoFar plan h → Reaches h (Ok (Some (Send path bytes))) mid → Works mid k → Transfers (SentAt path bytes) mid sent k
-      → Onward k.world end → WasSent plan end path (counted (length bytes) sent)
+      → Onward k.world end → WasSent plan end path (sent_count (length bytes) sent)
   reached_sent {h} {mid} {k} path bytes sent end s reaches works did on =
       let settled = so_far_ran plan s reaches.ran reaches.settles.running in
       let now = so_far_reached plan (Some (Send path bytes)) s reaches in
@@ -203,7 +203,7 @@ module _ (plan : PlanData) where
       let calm : mid.world.roots ≡ reaches.mid.world.roots = ap (λ (w : World). w.roots) takes.exact ∙ shown_calm reaches.mid.world asked_for in
       subst (HasMoment plan end) (sym (e ∙ same)) (reached_listed (Some Show) end s reaches calm (subst (λ (x : Hosting). Onward x.world end) is.1 on))
   of_due (Send path bytes) made end h mid k s reaches works is on =
-      let e : made ≡ item.Sent path (counted (length bytes) is.0) = cc is.1 in
+      let e : made ≡ item.Sent path (sent_count (length bytes) is.0) = cc is.1 in
       subst (HasMoment plan end) (sym e) (reached_sent path bytes is.0 end s reaches works is.2 on)
   of_due (Receive path packets) made end h mid k s reaches works is on = let e : made ≡ item.Received path is.0 = cc is.1 in subst (HasMoment plan end) (sym e) tt
   of_due (Clear path) made end h mid k s reaches works is on = let e : made ≡ item.Cleared path is.0 = cc is.1 in subst (HasMoment plan end) (sym e) tt

@@ -13,12 +13,12 @@ use Rattle.usb_host.specs.Progress.{Rests}
 use Rattle.usb_serve.specs.declared.runs.Item.{Item}
 use Rattle.usb_serve.specs.declared.runs.RunFault.{RunFault}
 use Rattle.usb_serve.specs.declared.serving.Mode.{Mode}
-use Rattle.usb_serve.specs.Ran.{Works, idle, worked}
-use Rattle.usb_serve.specs.Served.{unpowered}
-use Rattle.usb_serve.specs.Transcript.{CutsText, RunsTo, Next, PutsText, StoppedRun, Stops, Transcript, begun, ran, told, behind, on_the_way, in_text, shown}
+use Rattle.usb_serve.specs.RunSegments.{Works, idle, worked}
+use Rattle.usb_serve.specs.ServedRuns.{unpowered}
+use Rattle.usb_serve.specs.Transcript.{CutsText, RunsTo, Next, AppendsText, StoppedRun, Stops, Transcript, begun, ran, told, behind, on_the_way, in_text, shown}
 
 -- nothing is written
-pub puts_none : (h : Hosting) → PutsText [] h h
+pub puts_none : (h : Hosting) → AppendsText [] h h
 puts_none h = record { all = Appends-nil h.trace; rest = refl }
 
 pub front_none : (t : Option (List ℕ)) (text : List ℕ) → AppendsFront t t text
@@ -30,7 +30,7 @@ cuts_none text h = record { front = front_none h.trace text; rest = refl; still 
 -- the next item
 
 pub told_next : {mode : Mode} {was : Bool} {old : Hosting} {items : List Item} {item : Item} {over on : Bool} {h k new : Hosting} → Transcript mode was old items over h → Next over h (Ok (Some item)) on k
-    → PutsText (shown mode items item) k new → Transcript mode was old (item ∷ items) on new
+    → AppendsText (shown mode items item) k new → Transcript mode was old (item ∷ items) on new
 told_next {mode} {was} {old} {items} {h = h} t (at_work, makes) puts = told (subst (λ o. Transcript mode was old items o h) at_work t) makes puts
 
 pub cut_next : {mode : Mode} {was : Bool} {old : Hosting} {items : List Item} {item : Item} {over on : Bool} {h k new : Hosting} → Transcript mode was old items over h → Next over h (Ok (Some item)) on k
@@ -91,14 +91,14 @@ texts_more (x ∷ vs) zero v lt is = ap (λ (y : Vec ℕ). y.items) is ∙ sym (
 texts_more (x ∷ vs) (suc i) v lt is = append_assoc x.items (flat_map (λ x. x.items) (take i vs)) v.items ∙ ap (λ l. x.items ++ l) (texts_more vs i v (omega (arith, lt)) is)
 
 -- a text and a line behind it
-pub puts_line : {h k l : Hosting} (text line more : List ℕ) → PutsText text h k → Rests k l → l.world ≡ k.world → Appends k.trace l.trace line → text ++ line ≡ more → PutsText more h l
+pub puts_line : {h k l : Hosting} (text line more : List ℕ) → AppendsText text h k → Rests k l → l.world ≡ k.world → Appends k.trace l.trace line → text ++ line ≡ more → AppendsText more h l
 puts_line {h} {k} {l} text line more puts rests same appends is = record {
   all = subst (Appends h.trace l.trace) is (Appends-trans h.trace k.trace l.trace text line puts.all appends);
   rest = rests ∙ ap (λ (w : World). record k { world = w; trace = l.trace }) same ∙ ap (λ (x : Hosting). record x { trace = l.trace }) puts.rest;
 }
 
 -- a text and a front of a line behind it
-pub cuts_line : {h k l : Hosting} (text line rest all : List ℕ) (fault : BusFault) → PutsText text h k → Rests k l → l.world ≡ record k.world { fault = Some fault } → AppendsFront k.trace l.trace line
+pub cuts_line : {h k l : Hosting} (text line rest all : List ℕ) (fault : BusFault) → AppendsText text h k → Rests k l → l.world ≡ record k.world { fault = Some fault } → AppendsFront k.trace l.trace line
     → all ≡ text ++ (line ++ rest) → CutsText all h l
 cuts_line {h} {k} {l} text line rest all fault puts rests fails front is =
     let kept : l.world ≡ record k.world { fault = l.world.fault } = fails ∙ ap (λ (f : Option BusFault). record k.world { fault = f }) (sym (ap (λ (w : World). w.fault) fails)) in

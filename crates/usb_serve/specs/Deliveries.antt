@@ -1,7 +1,7 @@
 -- What sending bytes to the device at a path leaves of the devices (5.8).
 use Rattle.std.specs.Prelude.{◌≡◌, ◌≢◌, ℕ, suc, List, [], ◌∷◌, ◌++◌, Bool, true, false, IsSome}
 use Rattle.usb_device.specs.Rows.{State}
-use Rattle.usb_device.specs.Tree.{reach}
+use Rattle.usb_device.specs.Tree.{reach, Spot, path_to}
 use Rattle.usb_world.specs.Devices.{EachWas}
 use Rattle.usb_world.specs.World.{World}
 use Rattle.usb_pipe.specs.Leaves.{FrontTaken}
@@ -14,12 +14,12 @@ TookBytes true bytes s v = v.sink ≡ s.sink ++ bytes
 TookBytes false bytes s v = FrontTaken bytes s v
 
 -- so did the device at the path
-abbrev pub TookAt : List ℕ → Bool → List ℕ → ℕ → List ℕ → State → State → Type 0
-TookAt path done bytes j p s v = path ≡ suc j ∷ p → TookBytes done bytes s v
+abbrev pub TookAt : List ℕ → Bool → List ℕ → Spot → State → State → Type 0
+TookAt path done bytes x s v = path ≡ path_to x → TookBytes done bytes s v
 
 -- no other changed
-abbrev pub StaysApart : List ℕ → ℕ → List ℕ → State → State → Type 0
-StaysApart path j p s v = path ≢ suc j ∷ p → v ≡ s
+abbrev pub StaysApart : List ℕ → Spot → State → State → Type 0
+StaysApart path x s v = path ≢ path_to x → v ≡ s
 
 -- no device changed but the one at the path, and where some bytes were sent, one is there
 pub record DeliveredTo (path : List ℕ) (done : Bool) (bytes : List ℕ) (old new : World) : Type 0 where

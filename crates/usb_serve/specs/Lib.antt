@@ -1,10 +1,10 @@
 pub mod Line
 pub mod Report
 pub mod Run
-pub mod Serving
+pub mod ServeResults
 pub mod Transfers
-pub mod Ran
+pub mod RunSegments
 pub mod Transcript
-pub mod Served
+pub mod ServedRuns
 pub mod Deliveries
 pub mod Moments

@@ -11,14 +11,14 @@ use Rattle.usb_bus.specs.Lines.{next_due}
 use Rattle.usb_table.specs.Listing.{Lists, tree_after}
 use Rattle.usb_host.specs.Agreement.{Agrees}
 use Rattle.usb_host.specs.Hosting.{Hosting}
-use Rattle.usb_host.specs.Sound.{IsSound, IsAtRest, Causes, IsFairTo}
+use Rattle.usb_host.specs.Soundness.{IsSound, IsAtRest, Causes, IsFairTo}
 use Rattle.usb_serve.specs.declared.runs.Item.{Item}
 use Rattle.usb_serve.specs.declared.runs.Item.TheVariants.{Listing, Sent, Received, Cleared}
 use Rattle.usb_serve.specs.declared.runs.Report.{Report}
 use Rattle.usb_serve.specs.declared.transfer.TransferFault.{TransferFault}
 use Rattle.usb_serve.specs.Deliveries.{Delivered}
 use Rattle.usb_serve.specs.Run.{listing_of}
-use Rattle.usb_serve.specs.Transfers.{counted}
+use Rattle.usb_serve.specs.Transfers.{sent_count}
 
 -- A moment of a plan's run up to its last world
 
@@ -54,7 +54,7 @@ pub record WasSent (plan : PlanData) (last : World) (path : List ℕ) (told : Re
   pub begun : host.world ≡ after event came
   pub knows : IsSound host
   pub sent : Result (Unit {0}) TransferFault
-  pub tells : told ≡ counted (length bytes) sent
+  pub tells : told ≡ sent_count (length bytes) sent
   pub new : World  -- once it was done
   pub delivered : Delivered path (is_ok sent) bytes host.entries host.world new
   pub behind : last.fault ≡ None → Between host.world new last

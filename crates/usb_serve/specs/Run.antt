@@ -5,7 +5,7 @@ use Rattle.usb_world.specs.World.{World, to_come}
 use Rattle.usb_world.specs.declared.types.BusFault.{BusFault}
 use Rattle.usb_world.specs.declared.types.BusFault.TheVariants as bus
 use Rattle.usb_host.specs.Hosting.{Hosting}
-use Rattle.usb_serve.specs.Ran.{Works}
+use Rattle.usb_serve.specs.RunSegments.{Works}
 use Rattle.usb_serve.specs.declared.runs.Item.{Item}
 use Rattle.usb_serve.specs.declared.runs.Item.TheVariants.{Listing}
 use Rattle.usb_serve.specs.declared.runs.RunFault.{RunFault}

@@ -10,9 +10,9 @@ use Rattle.usb_serve.specs.declared.runs.Item.{Item}
 use Rattle.usb_serve.specs.declared.runs.RunFault.{RunFault}
 use Rattle.usb_serve.specs.declared.serving.Mode.{Mode}
 use Rattle.usb_serve.specs.declared.serving.Mode.TheVariants.{Tree, Run}
-use Rattle.usb_serve.specs.Ran.{Ran, Works, Reaches}
+use Rattle.usb_serve.specs.RunSegments.{Ran, Works, Reaches}
 use Rattle.usb_serve.specs.Run.{listing_of}
-use Rattle.usb_serve.specs.Serving.{item_lines, number_of}
+use Rattle.usb_serve.specs.ServeResults.{item_lines, number_of}
 use Rattle.usb_serve.specs.Transfers.{IsItemOf}
 
 -- how many listings are among items
@@ -62,7 +62,7 @@ Next was old (Ok (Some item)) over new = (was ≡ false) × Makes old item over 
 Next was old (Err fault) over new = (was ≡ false) × Stops old new
 
 -- a text was written behind what had been written, and nothing else changed
-pub record PutsText (text : List ℕ) (old new : Hosting) : Type 0 where
+pub record AppendsText (text : List ℕ) (old new : Hosting) : Type 0 where
   pub all : Appends old.trace new.trace text
   pub rest : new ≡ record old { trace = new.trace }
 
@@ -74,14 +74,14 @@ pub record CutsText (text : List ℕ) (old new : Hosting) : Type 0 where
 
 -- all of it, or a front where that failed
 pub record Prints {E : Type 0} (text : List ℕ) (old : Hosting) (result : Result (Unit {0}) E) (new : Hosting) : Type 0 where
-  pub done : OnOk result (PutsText text old new)
+  pub done : OnOk result (AppendsText text old new)
   pub failed : OnErr result (CutsText text old new)
 
 -- a run with its items, the newest first, and whether it is over; what was written is the text of its attempts and events and of each item where it was made
 pub data Transcript (mode : Mode) (was : Bool) (old : Hosting) : List Item → Bool → Hosting → Type 0 where
   begun : Transcript mode was old [] was old
   ran : {items : List Item} {h new : Hosting} → Transcript mode was old items false h → Ran h new → Transcript mode was old items false new
-  told : {items : List Item} {item : Item} {over : Bool} {h k new : Hosting} → Transcript mode was old items false h → Makes h item over k → PutsText (shown mode items item) k new
+  told : {items : List Item} {item : Item} {over : Bool} {h k new : Hosting} → Transcript mode was old items false h → Makes h item over k → AppendsText (shown mode items item) k new
       → Transcript mode was old (item ∷ items) over new
 
 -- a run that stopped: behind an item, on the way to the next one, or in its text

@@ -26,39 +26,39 @@ answer_of_pipe (pipe.Bus fault) = Err (run_fault fault)
 answer_of_pipe pipe.Memory = Err Memory
 
 -- the host's faults of a transfer are its answers; those after which the host stops end the run
-abbrev pub answer_of : HostFault → Result TransferFault RunFault
-answer_of host.Stopped = Err Memory
-answer_of host.NoDevice = Ok transfer.NoDevice
-answer_of host.NoEndpoint = Ok transfer.NoEndpoint
-answer_of (host.Pipe fault) = answer_of_pipe fault
-answer_of (host.Bus fault) = Err (run_fault fault)
-answer_of host.Memory = Err Memory
+abbrev pub fault_in_run : HostFault → Result TransferFault RunFault
+fault_in_run host.Stopped = Err Memory
+fault_in_run host.NoDevice = Ok transfer.NoDevice
+fault_in_run host.NoEndpoint = Ok transfer.NoEndpoint
+fault_in_run (host.Pipe fault) = answer_of_pipe fault
+fault_in_run (host.Bus fault) = Err (run_fault fault)
+fault_in_run host.Memory = Err Memory
 
 abbrev pub failed : {A : Type 0} → Result TransferFault RunFault → Result (Result A TransferFault) RunFault
 failed (Ok fault) = Ok (Err fault)
 failed (Err fault) = Err fault
 
 -- what a transfer came to, where it did not end the run
-abbrev pub answered : {A : Type 0} → Result A HostFault → Result (Result A TransferFault) RunFault
-answered (Ok done) = Ok (Ok done)
-answered (Err fault) = failed (answer_of fault)
+abbrev pub transfer_ended : {A : Type 0} → Result A HostFault → Result (Result A TransferFault) RunFault
+transfer_ended (Ok done) = Ok (Ok done)
+transfer_ended (Err fault) = failed (fault_in_run fault)
 
 -- how many bytes were sent, where they were
-abbrev pub counted : ℕ → Result (Unit {0}) TransferFault → Result ℕ TransferFault
-counted count (Ok done) = Ok count
-counted count (Err fault) = Err fault
+abbrev pub sent_count : ℕ → Result (Unit {0}) TransferFault → Result ℕ TransferFault
+sent_count count (Ok done) = Ok count
+sent_count count (Err fault) = Err fault
 
 -- the host did a transfer, and this is told of it
 pub record Transfers {A : Type 0} (did : Hosting → Result A HostFault → Hosting → Type 0) (old : Hosting) (told : Result A TransferFault) (new : Hosting) : Type 0 where
   pub answer : Result A HostFault
   pub done : did old answer new
-  pub tells : answered answer ≡ Ok told
+  pub tells : transfer_ended answer ≡ Ok told
 
 -- what a run makes of an event: a listing at once where the host is to list, and of a transfer to the device at a path what it came to
 abbrev pub IsItemOf : Due → Option Item → Hosting → Hosting → Type 0
 IsItemOf Changed item old new = item ≡ None
 IsItemOf Show item old new = (item ≡ Some (listing_of new)) × (new ≡ old)
 IsItemOf (Send path bytes) item old new =
-    (sent : Result (Unit {0}) TransferFault) × (item ≡ Some (Sent path (counted (length bytes) sent))) × Transfers (SentAt path bytes) old sent new
+    (sent : Result (Unit {0}) TransferFault) × (item ≡ Some (Sent path (sent_count (length bytes) sent))) × Transfers (SentAt path bytes) old sent new
 IsItemOf (Receive path packets) item old new = (received : Result (Vec ℕ) TransferFault) × (item ≡ Some (Received path received)) × Transfers (ReceivedAt path packets) old received new
 IsItemOf (Clear path) item old new = (cleared : Result (Unit {0}) TransferFault) × (item ≡ Some (Cleared path cleared)) × Transfers (ClearedAt path) old cleared new

@@ -1,19 +1,19 @@
 //! Runs of a plan.
 ghost use Rattle.std.specs.Prelude.{◌≡◌, ◌≢◌, ◌+◌, ◌≤◌, ◌<◌, [], ◌∷◌, ◌++◌, false, true, None, Ok, Err, OnOk, OnErr, IfOk, IfErr, IsSome};
 ghost use Rattle.std.proofs.Props.{props};
-ghost use Rattle.usb_device.specs.Stored.{ports_code};
+ghost use Rattle.usb_device.specs.TreeCodes.{ports_code};
 ghost use Rattle.usb_world.specs.World.{root_row, to_come, changes};
 ghost use Rattle.usb_bus.specs.Sim.{world_of, trace_of};
 ghost use Rattle.std.specs.Io.KnownBytes.{Appends};
 ghost use Rattle.usb_bus.specs.Watch.{inner_of, has_failed, tells_failure, AppendsFront};
 ghost use Rattle.usb_world.specs.Steps.{PutLine, opening};
 ghost use Rattle.usb_host.specs.Progress.{DidRound, Rests};
-ghost use Rattle.usb_host.specs.Owning.{Owning};
+ghost use Rattle.usb_host.specs.Ownership.{Owning};
 ghost use Rattle.usb_serve.specs.declared.runs.RunFault.TheVariants.{Memory as NoMemory};
 ghost use Rattle.usb_serve.specs.Moments.{AtMostTwoRunning, ListsPlugged};
-ghost use Rattle.usb_serve.specs.Ran.{Settles};
+ghost use Rattle.usb_serve.specs.RunSegments.{Settles};
 ghost use Rattle.usb_serve.specs.Run.{IsBegun, IsCaused, RunsOn, WorksOn, run_fault, items_left, listing_of};
-ghost use Rattle.usb_serve.specs.Served.{EndsWell, Finishes, Opens};
+ghost use Rattle.usb_serve.specs.ServedRuns.{EndsWell, Finishes, Opens};
 ghost use Rattle.usb_serve.specs.Transcript.{Next, NextAsked, NextEvent};
 ghost use Rattle.usb_serve.specs.Transfers.{IsItemOf};
 
@@ -85,7 +85,7 @@ impl<T: Drop> From<AllocFailed<T>> for RunFault {
 ///
 /// # Errors
 /// The fault of the bus, or Memory where the host wanted memory.
-#[tactic(auto, using(crate::proofs::Goings::works_then, crate::proofs::Goings::works_none))]
+#[tactic(auto, using(crate::proofs::RunParts::works_then, crate::proofs::RunParts::works_none))]
 pub fn settle<W: Write>(host: &mut Host<SimBus<W>>) -> Result<(), RunFault>
     requires running { host.old.stopped ≡ false }
     ensures on { RunsOn WorksOn host.old result host.new }
@@ -105,7 +105,7 @@ pub fn settle<W: Write>(host: &mut Host<SimBus<W>>) -> Result<(), RunFault>
 }
 
 /// One round of a host that is not stopped.
-#[tactic(auto, using(crate::proofs::Goings::works_from))]
+#[tactic(auto, using(crate::proofs::RunParts::works_from))]
 fn round_of<W: Write>(host: &mut Host<SimBus<W>>) -> Result<Round, RunFault>
     requires running { host.old.stopped ≡ false }
     ensures on { RunsOn WorksOn host.old result host.new }
@@ -351,7 +351,7 @@ fn next_due<W: Write>(host: &mut Host<SimBus<W>>) -> Result<Option<Due>, RunFaul
 }
 
 /// What the run makes of an event: a listing where the host is to list, and the answer of a transfer.
-#[tactic(auto, using(crate::proofs::Goings::works_none))]
+#[tactic(auto, using(crate::proofs::RunParts::works_none))]
 fn item_of<W: Write>(host: &mut Host<SimBus<W>>, due: Due) -> Result<Option<Item>, RunFault>
     requires running { host.old.stopped ≡ false }
     ensures on { RunsOn WorksOn host.old result host.new }
@@ -368,7 +368,7 @@ fn item_of<W: Write>(host: &mut Host<SimBus<W>>, due: Due) -> Result<Option<Item
 }
 
 /// Sends bytes to the device at a path.
-#[tactic(auto, using(crate::proofs::Goings::works_from))]
+#[tactic(auto, using(crate::proofs::RunParts::works_from))]
 fn send<W: Write>(
     host: &mut Host<SimBus<W>>,
     path: PortPath,
@@ -385,7 +385,7 @@ fn send<W: Write>(
 }
 
 /// Receives at most so many packets from the device at a path.
-#[tactic(auto, using(crate::proofs::Goings::works_from))]
+#[tactic(auto, using(crate::proofs::RunParts::works_from))]
 fn receive<W: Write>(
     host: &mut Host<SimBus<W>>,
     path: PortPath,
@@ -402,7 +402,7 @@ fn receive<W: Write>(
 }
 
 /// Clears the halts of the device at a path.
-#[tactic(auto, using(crate::proofs::Goings::works_from))]
+#[tactic(auto, using(crate::proofs::RunParts::works_from))]
 fn clear<W: Write>(host: &mut Host<SimBus<W>>, path: PortPath) -> Result<Item, RunFault>
     requires running { host.old.stopped ≡ false }
     ensures on { RunsOn WorksOn host.old result host.new }

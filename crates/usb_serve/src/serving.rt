@@ -4,8 +4,8 @@ ghost use Rattle.std.specs.Io.KnownBytes.{Appends};
 ghost use Rattle.usb_bus.specs.Watch.{inner_of, has_failed, calls_of, AppendsFront};
 ghost use Rattle.usb_plan.specs.Plan.{spelled_plan};
 ghost use Rattle.usb_serve.specs.declared.serving.ServeFault.TheVariants as serve;
-ghost use Rattle.usb_serve.specs.Served.{IsUnread, RunWritten, IsServed, TreeWritten};
-ghost use Rattle.usb_serve.specs.Serving.{IsLine, IsOfRun, input_fault, item_lines, number_of, report_fault};
+ghost use Rattle.usb_serve.specs.ServedRuns.{IsUnread, RunWritten, IsServed, TreeWritten};
+ghost use Rattle.usb_serve.specs.ServeResults.{IsLine, IsOfRun, input_fault, item_lines, number_of, report_fault};
 ghost use Rattle.usb_serve.specs.Transcript.{RunEnds, Prints};
 
 use crate::answers::{cleared_line, received_line, sent_line};

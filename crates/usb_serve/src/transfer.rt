@@ -1,6 +1,6 @@
 //! What the host's answer to a transfer is to a run.
 ghost use Rattle.std.specs.Prelude.{◌≡◌};
-ghost use Rattle.usb_serve.specs.Transfers.{answer_of, answer_of_pipe, answered, counted};
+ghost use Rattle.usb_serve.specs.Transfers.{fault_in_run, answer_of_pipe, transfer_ended, sent_count};
 
 use crate::RunFault;
 use thiserror::Error;
@@ -34,7 +34,7 @@ pub enum TransferFault {
 pub(crate) fn answered<T>(
     outcome: Result<T, HostFault>,
 ) -> Result<Result<T, TransferFault>, RunFault>
-    ensures { result ≡ answered outcome }
+    ensures { result ≡ transfer_ended outcome }
 {
     match outcome {
         Ok(done) => Ok(Ok(done)),
@@ -43,7 +43,7 @@ pub(crate) fn answered<T>(
 }
 
 fn answer_of(fault: HostFault) -> Result<TransferFault, RunFault>
-    ensures { result ≡ answer_of fault }
+    ensures { result ≡ fault_in_run fault }
 {
     match fault {
         HostFault::NoDevice => Ok(TransferFault::NoDevice),
@@ -69,7 +69,7 @@ fn answer_of_pipe(fault: PipeFault) -> Result<TransferFault, RunFault>
 
 /// How many bytes were sent, where they were.
 pub(crate) fn counted(count: usize, sent: Result<(), TransferFault>) -> Result<u64, TransferFault>
-    ensures { result ≡ counted count sent }
+    ensures { result ≡ sent_count count sent }
 {
     match sent {
         Ok(()) => Ok(count as u64),

@@ -3,7 +3,7 @@ use Rattle.std.proofs.Common.{◌≡◌, ◌≢◌, ◌∙◌, refl, sym, ap, �
 use Rattle.std.specs.Prelude.{IsSome, is_some}
 use Rattle.std.specs.Option.{option_map}
 use Rattle.usb_enum.specs.declared.finding.Finding.{Finding}
-use Rattle.usb_table.specs.Findings.{address_of, HasDevice, HasNoDevice}
+use Rattle.usb_table.specs.Findings.{address_found, HasDevice, HasNoDevice}
 use Rattle.usb_table.specs.Keys.{Slots, PathKeys, AddressKeys, key_of_path, key_of_address, finding_under, entries_of, address_in, AreIndexes}
 use Rattle.usb_table.proofs.Keys.{entries-lookup, found_at, some_address, finding_stands}
 
@@ -23,12 +23,12 @@ some_or : (o : Option Finding) → IsSome o → (f : Finding) × (o ≡ Some f)
 some_or None s = absurd cc
 some_or (Some f) s = (f, refl)
 
-no_device_by : (found : Slots) (paths : PathKeys) (addresses : AddressKeys) (address : ℕ) → AreIndexes found paths addresses → key_of_address addresses address ≡ None → (path : List ℕ) (finding : Finding) (key : Option ℕ) → key_of_path paths path ≡ key → option_map (finding_under found) key ≡ Some finding → address_of finding ≢ Some address
+no_device_by : (found : Slots) (paths : PathKeys) (addresses : AddressKeys) (address : ℕ) → AreIndexes found paths addresses → key_of_address addresses address ≡ None → (path : List ℕ) (finding : Finding) (key : Option ℕ) → key_of_path paths path ≡ key → option_map (finding_under found) key ≡ Some finding → address_found finding ≢ Some address
 no_device_by found paths addresses address are none path finding None at is = absurd cc
 no_device_by found paths addresses address are none path finding (Some key) at is = λ has.
     let it = some_or (found key) (are.stands path key at) in
     let same : it.0 ≡ finding = cc (is, finding_stands found key it.0 it.1) in
-    let here : key_of_address addresses address ≡ Some key = (are.addressed address key).1 (ap address_in it.1 ∙ ap address_of same ∙ has) in
+    let here : key_of_address addresses address ≡ Some key = (are.addressed address key).1 (ap address_in it.1 ∙ ap address_found same ∙ has) in
     absurd (cc (here, none))
 
 pub no_device : (found : Slots) (paths : PathKeys) (addresses : AddressKeys) (address : ℕ) → AreIndexes found paths addresses → key_of_address addresses address ≡ None → HasNoDevice address (entries_of found paths)

@@ -5,7 +5,7 @@ use Rattle.std.proofs.lemmas.Bool.Decides.{nat_tests}
 use Rattle.usb_descriptor.specs.declared.fault.DescriptorFault.{DescriptorFault}
 use Rattle.usb_descriptor.specs.declared.item.Item.{Item}
 use Rattle.usb_descriptor.specs.declared.item.Item.TheVariants.{Interface, Endpoint, Other}
-use Rattle.usb_descriptor.specs.Choice.{counts_after, picked, or_else, first_from, first_counting, is_bulk_size, bulk_at, bulk_out_at, bulk_in_at, packet_size, status_at, in_config, bulk_out_of, bulk_in_of, status_endpoint_of}
+use Rattle.usb_descriptor.specs.Choice.{counts_after, picked, or_else, first_from, first_counting, is_bulk_size, bulk_described, bulk_out_at, bulk_in_at, packet_size, status_at, in_config, bulk_out_of, bulk_in_of, status_endpoint_of}
 use Rattle.usb_descriptor.specs.Config.{config_of}
 use Rattle.usb_descriptor.specs.Item.{items_of, is_in, endpoint_number, is_bulk, is_interrupt, transfer_of}
 use Rattle.usb_descriptor.specs.Words.{word_at}
@@ -78,8 +78,8 @@ status_end bytes = of_config IsStatusEnd status_at status_each (config_of bytes)
 abbrev IsNumbered : ℕ × ℕ → Type 0
 IsNumbered e = (e.0 == 0) ≡ false
 
-bulk_each : (endpoint : List ℕ) → IfSome (bulk_at endpoint) IsNumbered
-unfolding bulk_at
+bulk_each : (endpoint : List ℕ) → IfSome (bulk_described endpoint) IsNumbered
+unfolding bulk_described
 bulk_each endpoint =
     of_some IsNumbered (is_bulk (transfer_of endpoint) && nat_le 1 (endpoint_number endpoint) && is_bulk_size (word_at endpoint 4)) (endpoint_number endpoint, word_at endpoint 4)
     (λ h. least (endpoint_number endpoint) (second (is_bulk (transfer_of endpoint)) (nat_le 1 (endpoint_number endpoint)) (is_bulk_size (word_at endpoint 4)) h))
@@ -89,11 +89,11 @@ bulk_each endpoint =
 
 out_each : (endpoint : List ℕ) → IfSome (bulk_out_at endpoint) IsNumbered
 unfolding bulk_out_at
-out_each endpoint = of_other IsNumbered (is_in endpoint) (bulk_at endpoint) (bulk_each endpoint)
+out_each endpoint = of_other IsNumbered (is_in endpoint) (bulk_described endpoint) (bulk_each endpoint)
 
 in_each : (endpoint : List ℕ) → IfSome (bulk_in_at endpoint) IsNumbered
 unfolding bulk_in_at
-in_each endpoint = of_these IsNumbered (is_in endpoint) (bulk_at endpoint) (bulk_each endpoint)
+in_each endpoint = of_these IsNumbered (is_in endpoint) (bulk_described endpoint) (bulk_each endpoint)
 
 pub bulk_out_end : (bytes : List ℕ) → IfSome (bulk_out_of bytes) (λ e. (e.0 == 0) ≡ false)
 unfolding bulk_out_of

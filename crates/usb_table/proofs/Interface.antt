@@ -1,6 +1,6 @@
 -- The lemmas that crates above cite. All others are for this crate alone.
-pub use Rattle.usb_table.proofs.Comings.{has_its}
-pub use Rattle.usb_table.proofs.Entering.{level_beside, level_entered}
+pub use Rattle.usb_table.proofs.NewEntries.{has_its}
+pub use Rattle.usb_table.proofs.EnteredFindings.{level_beside, level_entered}
 pub use Rattle.usb_table.proofs.Levels.{address_found, all_kept, held_address, level_elsewhere, level_stays, one_path}
 pub use Rattle.usb_table.proofs.Paths.{path_itself, path_tied}
 pub use Rattle.usb_table.proofs.PlannedListing.{lists_of_plan}

@@ -5,7 +5,7 @@ use Rattle.std.specs.Prelude.{List, [], ◌∷◌, Option, Some, None, option_ma
 use Rattle.std.specs.BTreeMap.{is_at}
 use Rattle.usb_port.specs.Order.{path_cmp}
 use Rattle.usb_device.specs.Rows.{State}
-use Rattle.usb_device.specs.Tree.{reach, reach_at, state_at}
+use Rattle.usb_device.specs.Tree.{reach, reach_at, state_at, Spot, path_to, reach_on, state_on}
 use Rattle.usb_device.specs.View.{state_there}
 use Rattle.usb_world.specs.Devices.{Was, EachWas}
 use Rattle.usb_world.specs.Paths.{address_of, is_way}
@@ -23,7 +23,7 @@ use Rattle.usb_table.specs.Levels.{AreLevel, LevelAt, AllLevel, IsHeld, KeepsLev
 use Rattle.usb_table.specs.Listing.{finding_at, entry_address}
 use Rattle.usb_table.specs.Table.{Table, pipes_at, GoesThrough}
 use Rattle.usb_table.specs.Transfers.{OnlyTransfers}
-use Rattle.usb_table.proofs.Fitting.{Moves, still_level}
+use Rattle.usb_table.proofs.FittingPipes.{Moves, still_level}
 use Rattle.usb_table.proofs.Paths.{path_itself, path_tied}
 
 -- the address of an accepted device is that of its path
@@ -37,11 +37,11 @@ address_found path entries device e = device_address (finding_at path entries) d
 
 -- a path is none that starts at no port of the root
 at_some_port : (table : Table) (w : World) (path : List ℕ)
-    → ((j : ℕ) (p : List ℕ) → path ≡ suc j ∷ p → (device : Accepted) (s : State) → accepted_device_at path table.entries ≡ Some device → reach_at w.roots j p ≡ true → state_at w.roots j p ≡ Some s → AreLevel (pipes_at path table) s)
+    → ((x : Spot) → path ≡ path_to x → (device : Accepted) (s : State) → accepted_device_at path table.entries ≡ Some device → reach_on w.roots x ≡ true → state_on w.roots x ≡ Some s → AreLevel (pipes_at path table) s)
     → LevelAt path table w
 at_some_port table w [] f = record { level = λ device s e on there. no on }
 at_some_port table w (zero ∷ p) f = record { level = λ device s e on there. no on }
-at_some_port table w (suc j ∷ p) f = record { level = λ device s e on there. f j p refl device s e on there }
+at_some_port table w (suc j ∷ p) f = record { level = λ device s e on there. f (record { row = j; rest = p }) refl device s e on there }
 
 -- what is reached at a path holds the address of the path's entry
 pub held_address : (table : Table) (w : World) (path : List ℕ) (device : Accepted) (s : State) → IsHeld table w → accepted_device_at path table.entries ≡ Some device → reach w.roots path ≡ true → state_there w.roots path ≡ Some s
@@ -68,9 +68,9 @@ module _ (path : List ℕ) (device : Accepted) (ends : Type 0) (pipes left : Pip
   others : IsHeld old before → (x : List ℕ) → is_at (path_cmp path) x ≡ false → LevelAt x old before → LevelAt x new after
   others held x apart l = at_some_port new after x at
     where
-      at : (j : ℕ) (p : List ℕ) → x ≡ suc j ∷ p → (d : Accepted) (s : State) → accepted_device_at x new.entries ≡ Some d → reach_at after.roots j p ≡ true → state_at after.roots j p ≡ Some s → AreLevel (pipes_at x new) s
-      at j p e d s found on there =
-          let w : Was (Moves device.address ends pipes left) before j p s = moves (single held) j p s on there in
+      at : (j : Spot) → x ≡ path_to j → (d : Accepted) (s : State) → accepted_device_at x new.entries ≡ Some d → reach_on after.roots j ≡ true → state_on after.roots j ≡ Some s → AreLevel (pipes_at x new) s
+      at j e d s found on there =
+          let w : Was (Moves device.address ends pipes left) before j s = moves (single held) j s on there in
           let reached : reach before.roots x ≡ true = ap (reach before.roots) e ∙ w.on in
           let stood : state_there before.roots x ≡ Some w.before = ap (state_there before.roots) e ∙ w.stands in
           let d_old : accepted_device_at x old.entries ≡ Some d = same_device x d found in
@@ -87,9 +87,9 @@ module _ (path : List ℕ) (device : Accepted) (ends : Type 0) (pipes left : Pip
   itself : IsHeld old before → ends → LevelAt path old before → LevelAt path new after
   itself held e l = at_some_port new after path at
     where
-      at : (j : ℕ) (p : List ℕ) → path ≡ suc j ∷ p → (d : Accepted) (s : State) → accepted_device_at path new.entries ≡ Some d → reach_at after.roots j p ≡ true → state_at after.roots j p ≡ Some s → AreLevel (pipes_at path new) s
-      at j p x d s found on there =
-          let w : Was (Moves device.address ends pipes left) before j p s = moves (single held) j p s on there in
+      at : (j : Spot) → path ≡ path_to j → (d : Accepted) (s : State) → accepted_device_at path new.entries ≡ Some d → reach_on after.roots j ≡ true → state_on after.roots j ≡ Some s → AreLevel (pipes_at path new) s
+      at j x d s found on there =
+          let w : Was (Moves device.address ends pipes left) before j s = moves (single held) j s on there in
           let reached : reach before.roots path ≡ true = ap (reach before.roots) x ∙ w.on in
           let stood : state_there before.roots path ≡ Some w.before = ap (state_there before.roots) x ∙ w.stands in
           let has : address_of w.before ≡ device.address = held_address old before path device w.before held stands reached stood in
@@ -124,18 +124,18 @@ all_kept path ends old new before after k held e all x = by_test (is_at (path_cm
 -- A call that is not through the pipes
 
 module _ (table : Table) (old new : World) where
-  level_if : (x : List ℕ) → ((j : ℕ) (p : List ℕ) → x ≡ suc j ∷ p → (s : State) → reach_at new.roots j p ≡ true → state_at new.roots j p ≡ Some s → Was StaysAs old j p s) → LevelAt x table old → LevelAt x table new
+  level_if : (x : List ℕ) → ((j : Spot) → x ≡ path_to j → (s : State) → reach_on new.roots j ≡ true → state_on new.roots j ≡ Some s → Was StaysAs old j s) → LevelAt x table old → LevelAt x table new
   level_if x was l = at_some_port table new x at
     where
-      at : (j : ℕ) (p : List ℕ) → x ≡ suc j ∷ p → (d : Accepted) (s : State) → accepted_device_at x table.entries ≡ Some d → reach_at new.roots j p ≡ true → state_at new.roots j p ≡ Some s → AreLevel (pipes_at x table) s
-      at j p e d s found on there =
-          let w : Was StaysAs old j p s = was j p e s on there in
+      at : (j : Spot) → x ≡ path_to j → (d : Accepted) (s : State) → accepted_device_at x table.entries ≡ Some d → reach_on new.roots j ≡ true → state_on new.roots j ≡ Some s → AreLevel (pipes_at x table) s
+      at j e d s found on there =
+          let w : Was StaysAs old j s = was j e s on there in
           still_level (pipes_at x table) w.before s w.so (l.level d w.before found (ap (reach old.roots) e ∙ w.on) (ap (state_there old.roots) e ∙ w.stands))
 
   -- where each device stays as it was
   pub level_stays : EachWas StaysAs old new → (x : List ℕ) → LevelAt x table old → LevelAt x table new
-  level_stays was x = level_if x (λ j p e s on there. was j p s on there)
+  level_stays was x = level_if x (λ j e s on there. was j s on there)
 
   -- where each does that is not at a path nor below it
   pub level_elsewhere : (path : List ℕ) → EachElsewhere path StaysAs old new → (x : List ℕ) → is_way path x ≡ false → LevelAt x table old → LevelAt x table new
-  level_elsewhere path was x apart = level_if x (λ j p e s on there. was j p s (ap (is_way path) (sym e) ∙ apart) on there)
+  level_elsewhere path was x apart = level_if x (λ j e s on there. was j s (ap (is_way path) (sym e) ∙ apart) on there)

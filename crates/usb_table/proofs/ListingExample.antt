@@ -4,7 +4,7 @@ use Rattle.std.specs.Prelude.{IsSome, IsSomeAnd}
 use Rattle.std.specs.Map.{lookup}
 use Rattle.std.specs.BTreeMap.{is_at}
 use Rattle.std.specs.List.Sorted.{IsStrictlySortedBy}
-use Rattle.usb_port.specs.Order.{path_cmp, parent_of, port_of}
+use Rattle.usb_port.specs.Order.{path_cmp, parent_of, port_on_hub}
 use Rattle.usb_resources.specs.Pool.{IsAddress}
 use Rattle.usb_resources.specs.Power.{supply_of}
 use Rattle.usb_device.specs.Spec.{Spec}
@@ -12,7 +12,7 @@ use Rattle.usb_enum.specs.declared.cause.Cause.TheVariants.{Silent}
 use Rattle.usb_enum.specs.declared.finding.Accepted.{Accepted}
 use Rattle.usb_enum.specs.declared.finding.Finding.{Finding}
 use Rattle.usb_enum.specs.declared.finding.Finding.TheVariants.{Device, Refused}
-use Rattle.usb_enum.specs.Described.{texts_of, strings_of, facts_of, IsRight}
+use Rattle.usb_enum.specs.Verdicts.{texts_of, strings_of, facts_of, IsRight}
 use Rattle.usb_enum.proofs.Interface.{examples, row_silent, small, two_ports}
 use Rattle.usb_table.specs.Entries.{Entries, Rises}
 use Rattle.usb_table.specs.Listing.{Tree, finding_at, entry_address, IsListedPort, tier_of, supply_at, ListsEach, Lists}
@@ -70,11 +70,11 @@ abbrev IsAlone : List ℕ → Type 0
 IsAlone path = (finding : Finding) → finding_at path entries ≡ Some finding → IsListedPort 1 entries path × IsSome (tree path)
 
 alone_first : IsAlone (1 ∷ [])
-unfolding parent_of port_of
+unfolding parent_of port_on_hub
 alone_first finding at = (record { some = omega arith; port = (omega arith, omega arith) }, refl)
 
 alone_second : IsAlone (1 ∷ 2 ∷ [])
-unfolding parent_of port_of
+unfolding parent_of port_on_hub
 alone_second finding at = (record { some = omega arith; port = (omega arith, omega arith) }, refl)
 
 alone_none : (path : List ℕ) → is_at (path_cmp path) (1 ∷ []) ≡ false → is_at (path_cmp path) (1 ∷ 2 ∷ []) ≡ false → IsAlone path

@@ -2,6 +2,7 @@
 use Rattle.std.proofs.Common.{◌≡◌, ◌∙◌, refl, sym, ap, subst, Bool, true, false, ℕ, ◌==◌, ◌&&◌, not, if◌then◌else◌, [], length, Option, None, Some}
 use Rattle.std.specs.Prelude.{nat_lt, slice_index, slice_index_or, is_some, IfSome}
 use Rattle.std.proofs.lemmas.Bool.{and_parts}
+use Rattle.usb_request.specs.Codes.{HUB_CLASS}
 use Rattle.usb_descriptor.specs.Choice.{bulk_out_of, bulk_in_of, status_endpoint_of}
 use Rattle.usb_device.specs.declared.bulk.Pipe.{Pipe}
 use Rattle.usb_device.specs.Bulk.{tells_changes, bulk_in as bulk_of_text}
@@ -13,9 +14,9 @@ use Rattle.usb_hub.specs.Settings.{IsFresh}
 use Rattle.usb_enum.specs.declared.finding.Accepted.{Accepted}
 use Rattle.usb_enum.specs.declared.finding.Finding.TheVariants.{Device}
 use Rattle.usb_enum.specs.declared.hub.HubFacts.{HubFacts}
-use Rattle.usb_enum.specs.Described.{IsAs, texts_of, is_good_hub, gives_hub}
-use Rattle.usb_enum.specs.Device.{configuration_of, is_hub}
-use Rattle.usb_enum.specs.Found.{IsOwn}
+use Rattle.usb_enum.specs.Verdicts.{IsAs, texts_of, is_good_hub, gives_hub}
+use Rattle.usb_enum.specs.Device.{configuration_of, is_hub_device}
+use Rattle.usb_enum.specs.Findings.{IsOwn}
 use Rattle.usb_table.specs.declared.pipes.Pipes.TheVariants.{Function}
 use Rattle.usb_table.specs.Findings.{at_full_speed}
 use Rattle.usb_table.specs.Levels.{FitsOut, FitsIn, AreLevel}
@@ -48,8 +49,8 @@ module _ (tier supply : ℕ) (device : Accepted) (below_hub : Bool) (s : State) 
 
   -- A hub
 
-  is_hub_spec : is_some device.hub ≡ is_hub s.spec.descriptor
-  is_hub_spec = ap is_some listed.hub ∙ by_test (is_hub s.spec.descriptor) _
+  is_hub_spec : is_some device.hub ≡ is_hub_device s.spec.descriptor
+  is_hub_spec = ap is_some listed.hub ∙ by_test (is_hub_device s.spec.descriptor) _
     where
       by_test : (b : Bool) (x : HubFacts) → is_some (if b then Some x else None) ≡ b
       by_test true x = refl
@@ -93,7 +94,7 @@ module _ (tier supply : ℕ) (device : Accepted) (below_hub : Bool) (s : State) 
         by_hub None e = refl
         by_hub (Some h) e =
             let class : has_hub_class s.spec.descriptor ≡ true = (and_parts (not s.spec.low) (has_hub_class s.spec.descriptor) e).1 in
-            let yes : is_hub s.spec.descriptor ≡ true = (and_parts (nat_lt 4 (length s.spec.descriptor)) (slice_index s.spec.descriptor 4 == 9) class).1 in
+            let yes : is_hub_device s.spec.descriptor ≡ true = (and_parts (nat_lt 4 (length s.spec.descriptor)) (slice_index s.spec.descriptor 4 == HUB_CLASS) class).1 in
             absurd (cc (sym is_hub_spec ∙ function, yes))
 
     quiet : tells_changes s.spec s.registers ≡ false

@@ -1,12 +1,12 @@
 -- What is plugged has one right listing, but for addresses.
 use Rattle.std.proofs.Common.{◌≡◌, inl, inr, ◌≤◌, ◌<◌, ◌+◌, ℕ, zero, suc, List, length, Option, None, Some, refl, ap, sym, subst, ◌∙◌, arith}
 use Rattle.std.specs.Prelude.{IsSome, IsSomeAnd}
-use Rattle.usb_port.specs.Order.{parent_of, port_of}
+use Rattle.usb_port.specs.Order.{parent_of, port_on_hub}
 use Rattle.usb_device.specs.Spec.{Spec}
 use Rattle.usb_enum.specs.declared.finding.Finding.{Finding}
 use Rattle.usb_enum.specs.declared.finding.Finding.TheVariants.{Device, Refused}
 use Rattle.usb_enum.specs.declared.hub.HubFacts.{HubFacts}
-use Rattle.usb_enum.specs.Described.{IsFindingOf, IsRight}
+use Rattle.usb_enum.specs.Verdicts.{IsFindingOf, IsRight}
 use Rattle.usb_table.specs.Entries.{Entries}
 use Rattle.usb_table.specs.Listing.{Tree, finding_at, hub_facts_in, hub_facts_at, IsPortBelow, IsListedPort, tier_of, supply_at, ListsEach, Lists, NoneWaits, IsFoundLike, ListsLike}
 use Rattle.usb_table.proofs.Ports.{parent_shorter}
@@ -67,9 +67,9 @@ port_moved : (roots : ℕ) (a b : Entries) (path : List ℕ) → ((p : List ℕ)
     → IsListedPort roots a path → IsListedPort roots b path
 port_moved roots a b path like h = record { some = h.some; port = pick (parent_of path) refl h.port }
   where
-    pick : (o : Option (List ℕ)) → parent_of path ≡ o → IsPortBelow roots a o (port_of path) → IsPortBelow roots b o (port_of path)
+    pick : (o : Option (List ℕ)) → parent_of path ≡ o → IsPortBelow roots a o (port_on_hub path) → IsPortBelow roots b o (port_on_hub path)
     pick None e h = h
-    pick (Some p) e h = moved (hub_facts_at p a) (hub_facts_at p b) (λ facts. (1 ≤ port_of path) × (port_of path ≤ facts.ports)) (λ hub at. same_hub a b p hub (like p (parent_shorter path p e)) at) h
+    pick (Some p) e h = moved (hub_facts_at p a) (hub_facts_at p b) (λ facts. (1 ≤ port_on_hub path) × (port_on_hub path ≤ facts.ports)) (λ hub at. same_hub a b p hub (like p (parent_shorter path p e)) at) h
 
 same_here : (roots : ℕ) (tree : Tree) (a b : Entries) → Lists roots tree a → Lists roots tree b → NoneWaits a → NoneWaits b → (path : List ℕ) (f : Finding) → finding_at path a ≡ Some f
     → (IsListedPort roots a path → IsListedPort roots b path) → IsSomeAnd (finding_at path b) (IsFoundLike f)

@@ -7,7 +7,7 @@ use Rattle.std.specs.Cmp.Lexicographic.{pointwise, same_text}
 use Rattle.std.proofs.lemmas.Map.Entries.{lookup-filter-keys}
 use Rattle.std.proofs.lemmas.Bool.{leb-true}
 use Rattle.std.proofs.lemmas.Option.{same_Some}
-use Rattle.usb_port.specs.Order.{path_cmp, is_below, parent_of, port_of}
+use Rattle.usb_port.specs.Order.{path_cmp, is_below, parent_of, port_on_hub}
 use Rattle.usb_port.proofs.Interface.{below, rejoined}
 use Rattle.usb_hub.specs.declared.port.HubPort.TheVariants.{External}
 use Rattle.usb_enum.specs.declared.finding.Accepted.{Accepted}
@@ -17,7 +17,7 @@ use Rattle.usb_enum.specs.declared.hub.HubFacts.{HubFacts}
 use Rattle.usb_enum.specs.Device.{target_of}
 use Rattle.usb_table.proofs.Paths.{path_tied}
 use Rattle.usb_table.specs.Entries.{Entries, is_at_or_below, without}
-use Rattle.usb_table.specs.Known.{known_port, port_below, port_found, is_below_hub, port_of_hub}
+use Rattle.usb_table.specs.KnownPorts.{known_port, port_below, port_found, is_below_hub, port_of_hub}
 use Rattle.usb_table.specs.declared.known.KnownPort.{KnownPort}
 
 -- a longer path is not at a shorter one or above it
@@ -41,13 +41,13 @@ kept_hub path hub es shorter =
 
 pub parent_shorter : (path hub : List ℕ) → parent_of path ≡ Some hub → length hub < length path
 parent_shorter path hub is =
-    let e : length path ≡ length hub + 1 = ap length (rejoined path hub is) ∙ length-append hub (port_of path ∷ []) in
+    let e : length path ≡ length hub + 1 = ap length (rejoined path hub is) ∙ length-append hub (port_on_hub path ∷ []) in
     omega (arith, e)
 
-kept_by : (path : List ℕ) (es : Entries) (parent : Option (List ℕ)) → parent_of path ≡ parent → port_below parent (port_of path) (without path es) ≡ port_below parent (port_of path) es
+kept_by : (path : List ℕ) (es : Entries) (parent : Option (List ℕ)) → parent_of path ≡ parent → port_below parent (port_on_hub path) (without path es) ≡ port_below parent (port_on_hub path) es
 kept_by path es None is = refl
 kept_by path es (Some hub) is =
-    ap (λ found. port_found found (is_below_hub hub) (port_of path)) (kept_hub path hub es (parent_shorter path hub is))
+    ap (λ found. port_found found (is_below_hub hub) (port_on_hub path)) (kept_hub path hub es (parent_shorter path hub is))
 
 -- what stands at a port and below it says nothing of the port
 pub known_port-without : (path : List ℕ) (es : Entries) → known_port path (without path es) ≡ known_port path es

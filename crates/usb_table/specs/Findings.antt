@@ -23,9 +23,9 @@ abbrev pub IsSoundFinding : Finding → Type 0
 IsSoundFinding (Device device) = IsSoundDevice device
 IsSoundFinding (Refused cause) = ⊤
 
-abbrev pub address_of : Finding → Option ℕ
-address_of (Device device) = Some device.address
-address_of (Refused cause) = None
+abbrev pub address_found : Finding → Option ℕ
+address_found (Device device) = Some device.address
+address_found (Refused cause) = None
 
 -- a device with the address was found
 unfoldable pub has_address : ℕ → Finding → Bool
@@ -41,11 +41,11 @@ HasNewAddress (Refused cause) entries = ⊤
 pub record HasDevice (address : ℕ) (finding : Finding) (entries : Entries) : Type 0 where
   pub path : List ℕ
   pub found : lookup (is_at (path_cmp path)) entries ≡ Some finding
-  pub addressed : address_of finding ≡ Some address
+  pub addressed : address_found finding ≡ Some address
 
 -- and at none
 abbrev pub HasNoDevice : ℕ → Entries → Type 0
-HasNoDevice address entries = (path : List ℕ) (finding : Finding) → lookup (is_at (path_cmp path)) entries ≡ Some finding → address_of finding ≢ Some address
+HasNoDevice address entries = (path : List ℕ) (finding : Finding) → lookup (is_at (path_cmp path)) entries ≡ Some finding → address_found finding ≢ Some address
 
 -- an accepted hub
 abbrev pub is_hub : Finding → Bool

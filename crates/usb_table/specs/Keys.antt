@@ -12,8 +12,8 @@ use Rattle.usb_table.specs.declared.indexes.Indexes.{Indexes}
 use Rattle.usb_table.specs.declared.pipes.Pipes.{Pipes}
 use Rattle.usb_table.specs.declared.pipes.Pipes.TheVariants.{Absent}
 use Rattle.usb_table.specs.Entries.{Entries}
-use Rattle.usb_table.specs.Findings.{address_of}
-use Rattle.usb_table.specs.Known.{is_below_hub}
+use Rattle.usb_table.specs.Findings.{address_found}
+use Rattle.usb_table.specs.KnownPorts.{is_below_hub}
 use Rattle.usb_table.specs.Pipes.{ArePipesOf}
 use Rattle.usb_table.specs.Table.{Table}
 
@@ -67,7 +67,7 @@ table_of standings paths = record { entries = entries_of (findings standings) pa
 
 abbrev pub address_in : Option Finding → Option ℕ
 address_in None = None
-address_in (Some finding) = address_of finding
+address_in (Some finding) = address_found finding
 
 -- the paths name each entry once, and the addresses each entry that has one
 pub record AreIndexes (found : Slots) (paths : PathKeys) (addresses : AddressKeys) : Type 0 where

@@ -7,7 +7,7 @@ use Rattle.usb_port.specs.PortState.{PortState}
 use Rattle.usb_device.specs.Bulk.{tells_changes, change_bits}
 use Rattle.usb_device.specs.Progress.{PollAt, NeverTold}
 use Rattle.usb_device.specs.Rows.{State}
-use Rattle.usb_device.specs.Tree.{Ports, full, row_of, place, reach, reach_at, state_at}
+use Rattle.usb_device.specs.Tree.{Ports, full, row_of, place, reach, reach_at, state_at, Spot, path_to, reach_on, state_on}
 use Rattle.usb_device.specs.View.{state_there}
 use Rattle.usb_world.specs.Steps.{ready}
 use Rattle.usb_world.specs.World.{World}
@@ -16,15 +16,15 @@ use Rattle.usb_pipe.specs.Bulk.{Bulk}
 use Rattle.usb_pipe.specs.Interrupt.{Interrupt}
 use Rattle.usb_pipe.specs.Leaves.{FitsSink, FitsSource, PollTells}
 use Rattle.usb_pipe.specs.declared.fault.PipeFault.{PipeFault}
-use Rattle.usb_address.specs.Owned.{Owned}
+use Rattle.usb_address.specs.Ownership.{Owned}
 use Rattle.usb_hub.specs.Requests.{AllRest}
-use Rattle.usb_hub.specs.Why.{NoHubFailed}
+use Rattle.usb_hub.specs.CallFailures.{NoHubFailed}
 use Rattle.usb_enum.specs.declared.finding.Accepted.{Accepted}
 use Rattle.usb_enum.specs.Device.{target_of}
 use Rattle.usb_table.specs.declared.pipes.Pipes.{Pipes}
 use Rattle.usb_table.specs.declared.pipes.Pipes.TheVariants.{Hub, Function, Absent}
 use Rattle.usb_table.specs.Findings.{accepted_device_at}
-use Rattle.usb_table.specs.Known.{is_below_hub}
+use Rattle.usb_table.specs.KnownPorts.{is_below_hub}
 use Rattle.usb_table.specs.Listing.{entry_address}
 use Rattle.usb_table.specs.Table.{Table, pipes_at}
 use Rattle.usb_table.specs.Transfers.{OnlyTransfers}
@@ -95,13 +95,12 @@ pub record HubTold (path : List ℕ) (old : World) (result : Result (Option (Arr
 
 -- a device at the path is reached, and hears what is sent to it
 pub record Heard (path : List ℕ) (device : Accepted) (w : World) : Type 0 where
-  pub j : ℕ
-  pub p : List ℕ
+  pub spot : Spot
   pub state : State
-  pub is : path ≡ suc j ∷ p
-  pub on : reach_at w.roots j p ≡ true
-  pub stands : state_at w.roots j p ≡ Some state
-  pub listens : Listens (target_of device (is_below_hub path)) p state
+  pub is : path ≡ path_to spot
+  pub on : reach_on w.roots spot ≡ true
+  pub stands : state_on w.roots spot ≡ Some state
+  pub listens : Listens (target_of device (is_below_hub path)) spot state
 
 -- A poll that is done leaves the hub's pipe level, and tells of its ports. Where no three attempts running are damaged, a hub that is reached in the
 -- end is polled.

@@ -2,10 +2,10 @@ pub mod Entries
 pub mod Findings
 pub mod Keys
 pub mod Kinds
-pub mod Known
+pub mod KnownPorts
 pub mod Levels
 pub mod Listing
-pub mod Next
+pub mod NextEntries
 pub mod Pipes
 pub mod Table
 pub mod Transfers

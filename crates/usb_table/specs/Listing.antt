@@ -2,7 +2,7 @@
 use Rattle.std.specs.Prelude.{◌≡◌, ◌≢◌, ◌≤◌, ℕ, ◌+◌, List, [], length, take, Option, None, Some, IsSome, IfSome, IsSomeAnd, unwrap_or, option_map, option_and_then, true, false}
 use Rattle.std.specs.Map.{lookup}
 use Rattle.std.specs.BTreeMap.{is_at}
-use Rattle.usb_port.specs.Order.{path_cmp, parent_of, port_of}
+use Rattle.usb_port.specs.Order.{path_cmp, parent_of, port_on_hub}
 use Rattle.usb_resources.specs.Pool.{IsAddress}
 use Rattle.usb_resources.specs.Power.{supply_of}
 use Rattle.usb_device.specs.Spec.{Spec}
@@ -18,7 +18,7 @@ use Rattle.usb_enum.specs.declared.finding.Accepted.{Accepted}
 use Rattle.usb_enum.specs.declared.finding.Finding.{Finding}
 use Rattle.usb_enum.specs.declared.finding.Finding.TheVariants.{Device, Refused}
 use Rattle.usb_enum.specs.declared.hub.HubFacts.{HubFacts}
-use Rattle.usb_enum.specs.Described.{IsRight, IsSet}
+use Rattle.usb_enum.specs.Verdicts.{IsRight, IsSet}
 use Rattle.usb_enum.specs.Places.{IsDisabledAt}
 use Rattle.usb_table.specs.Entries.{Entries, Rises}
 use Rattle.usb_table.specs.Findings.{accepted_device_of, accepted_device_at}
@@ -62,7 +62,7 @@ IsPortBelow roots entries (Some hub) number = IsSomeAnd (hub_facts_at hub entrie
 -- a path of a port of the root, or of a hub that is listed
 pub record IsListedPort (roots : ℕ) (entries : Entries) (path : List ℕ) : Type 0 where
   pub some : 1 ≤ length path
-  pub port : IsPortBelow roots entries (parent_of path) (port_of path)
+  pub port : IsPortBelow roots entries (parent_of path) (port_on_hub path)
 
 -- Tier and supply
 

@@ -1,4 +1,5 @@
 -- What transfers to the devices of the table leave.
+use Rattle.usb_device.specs.Tree.{Spot}
 use Rattle.std.specs.Prelude.{◌≡◌, ⊤, ℕ, ◌*◌, List, length, Bool, true, false, ◌||◌, Option, Some, None, is_some, Result, Ok, Err, IfSome, MatchResult}
 use Rattle.std.specs.Global.{Vec}
 use Rattle.std.specs.Int.{div_ceil}
@@ -8,12 +9,12 @@ use Rattle.usb_world.specs.Devices.{EachWas}
 use Rattle.usb_world.specs.Passes.{IsSettled}
 use Rattle.usb_world.specs.World.{World, Spends, Failed}
 use Rattle.usb_transaction.specs.Transactions.{Worked}
-use Rattle.usb_pipe.specs.Control.{Faults}
+use Rattle.usb_pipe.specs.Control.{FaultAfter}
 use Rattle.usb_pipe.specs.Bulk.{Bulk, Sends, Receives, Clears}
 use Rattle.usb_pipe.specs.Interrupt.{Interrupt, Polls}
 use Rattle.usb_pipe.specs.declared.fault.PipeFault.{PipeFault}
 use Rattle.usb_pipe.specs.declared.fault.PipeFault.TheVariants as pipe
-use Rattle.usb_address.specs.Owned.{KeepsAddresses}
+use Rattle.usb_address.specs.Ownership.{KeepsAddresses}
 use Rattle.usb_hub.specs.Requests.{AllRest}
 use Rattle.usb_table.specs.declared.fault.EndpointFault.{EndpointFault}
 use Rattle.usb_table.specs.declared.fault.EndpointFault.TheVariants.{NoDevice, NoEndpoint, Pipe}
@@ -46,7 +47,7 @@ EndpointTold (Pipe fault) w = PipeTold fault w
 
 -- a packet that came took an attempt, and so did each fault but the bus's own
 abbrev pub PollTook : World → Result (Option (ArrayVec ℕ)) PipeFault → World → Type 0
-PollTook old result new = MatchResult result (λ got. IfSome got (λ packet. Worked 1 old new)) (λ fault. Faults 0 old fault new)
+PollTook old result new = MatchResult result (λ got. IfSome got (λ packet. Worked 1 old new)) (λ fault. FaultAfter 0 old fault new)
 
 -- Through a pipe, if there is one
 
@@ -138,8 +139,8 @@ PipesCleared (Function pipes) old result left new = (rest : BulkPipes) × (left 
 PipesCleared Absent old result left new = NotTried NoDevice Absent old result left new
 
 -- a device has the description and the registers that it had
-abbrev pub SameSettings : ℕ → List ℕ → State → State → Type 0
-SameSettings j p s v = (v.spec ≡ s.spec) × (v.registers ≡ s.registers)
+abbrev pub SameSettings : Spot → State → State → Type 0
+SameSettings x s v = (v.spec ≡ s.spec) × (v.registers ≡ s.registers)
 
 -- where no address was held twice, so it is of each device that is reachable, and each was reachable before
 pub record KeepsSettings (old new : World) : Type 0 where

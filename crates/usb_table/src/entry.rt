@@ -1,6 +1,6 @@
 //! What stands at a port, with the host's pipes to it.
 ghost use Rattle.std.specs.Prelude.{◌≡◌};
-ghost use Rattle.usb_bus.specs.Traced.{Traced, Went};
+ghost use Rattle.usb_bus.specs.Traces.{Traced, Went};
 ghost use Rattle.usb_table.specs.Findings.{IsSoundFinding};
 ghost use Rattle.usb_table.specs.Pipes.{ArePipesOf, new_pipes};
 ghost use Rattle.usb_table.specs.Transfers.{PollTook, PipesPolled, PipesSent, PipesReceived, PipesCleared};

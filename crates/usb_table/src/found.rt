@@ -1,13 +1,13 @@
 //! What findings are told apart by.
 ghost use Rattle.std.specs.Prelude.{◌≡◌};
-ghost use Rattle.usb_table.specs.Findings.{address_of, is_hub, is_waiting};
+ghost use Rattle.usb_table.specs.Findings.{address_found, is_hub, is_waiting};
 
 use usb_enum::{Cause, Finding};
 use usb_resources::Address;
 
 /// The address of a device that was found.
 pub fn address_of(finding: &Finding) -> Option<Address>
-    ensures { result ≡ address_of finding.now }
+    ensures { result ≡ address_found finding.now }
 {
     match finding {
         Finding::Device(device) => Some(device.address),
@@ -17,7 +17,7 @@ pub fn address_of(finding: &Finding) -> Option<Address>
 
 /// The number of that address.
 pub(crate) fn address_number(finding: &Finding) -> Option<u8>
-    ensures { result ≡ address_of finding.now }
+    ensures { result ≡ address_found finding.now }
 {
     match address_of(finding) {
         Some(address) => Some(address.number()),

@@ -2,7 +2,7 @@
 ghost use Rattle.std.specs.Prelude.{◌≡◌, ◌<◌, IfSome};
 ghost use Rattle.usb_port.specs.Path.{IsPortNumber};
 ghost use Rattle.usb_table.specs.Findings.{IsSoundFinding};
-ghost use Rattle.usb_table.specs.Known.{root_port, is_below_hub, port_of_finding, IsAskable};
+ghost use Rattle.usb_table.specs.KnownPorts.{root_port, is_below_hub, port_of_finding, IsAskable};
 
 use crate::target::target_to;
 use usb_enum::Finding;

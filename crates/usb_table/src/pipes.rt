@@ -1,6 +1,6 @@
 //! The host's pipes to a device.
 ghost use Rattle.std.specs.Prelude.{◌≡◌, false, true, is_some, IfSome};
-ghost use Rattle.usb_bus.specs.Traced.{Traced, Went};
+ghost use Rattle.usb_bus.specs.Traces.{Traced, Went};
 ghost use Rattle.usb_descriptor.specs.Choice.{IsUsable, status_endpoint_of};
 ghost use Rattle.usb_enum.specs.Device.{configuration_of};
 ghost use Rattle.usb_table.specs.Findings.{IsSoundDevice, at_full_speed};

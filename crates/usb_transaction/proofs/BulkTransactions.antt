@@ -1,5 +1,6 @@
 -- Bulk endpoints over a transaction: what IN and OUT leave of them, and why one fails.
-use Rattle.std.proofs.Common.{◌≡◌, inl, inr, ℕ, ◌+◌, ◌<◌, ◌≤◌, ◌==◌, nat_le, nat_lt, ◌&&◌, if◌then◌else◌, Bool, true, false, List, ◌∷◌, ◌++◌, length, take, drop, Option, None, Some, Result, Ok, Err, refl, sym, subst, ap, ◌∙◌, arith, length-drop}
+use Rattle.usb_device.specs.Tree.{Spot}
+use Rattle.std.proofs.Common.{◌≡◌, inl, inr, ℕ, ◌+◌, ◌<◌, ◌≤◌, ◌==◌, nat_le, nat_lt, if◌then◌else◌, Bool, true, false, List, ◌∷◌, ◌++◌, length, take, drop, Option, None, Some, Result, Ok, Err, refl, sym, subst, ap, ◌∙◌, arith, length-drop}
 use Rattle.std.proofs.lemmas.List.{length-take}
 use Rattle.std.proofs.lemmas.Bool.Decides.{nat_tests}
 use Rattle.arrayvec.specs.ArrayVec.{ArrayVec}
@@ -9,14 +10,12 @@ use Rattle.usb_device.specs.declared.answer.Answer.TheVariants as answer
 use Rattle.usb_device.specs.declared.transfer.Giver.TheVariants as by
 use Rattle.usb_device.specs.declared.transfer.Memory.TheVariants as memory
 use Rattle.usb_device.specs.Bulk.{other, is_same, advanced, turned}
-use Rattle.usb_device.specs.Rows.{State, Reply, forgotten, bulk_ack_row, bulk_of, rest_of, sunk, sink_row, unless_busy, out_row, out_bulk_row, data_row}
+use Rattle.usb_device.specs.Rows.{State, Reply, forgotten, rest_of, sunk, sink_row, data_row}
 use Rattle.usb_device.specs.Attempt.{Way, whole, is_whole, heard, gave, in_law, out_law}
 use Rattle.usb_device.specs.Progress.{taken_of, IsSource, SourceAt, SourceOn, OnlySource, IsSink, SinkAt, level, ahead, Joined, OnlySink}
 use Rattle.usb_device.proofs.Interface.{bulk_law_is, itself, other_toggle, other_twice, same_number, source_on}
 use Rattle.usb_world.specs.declared.types.Attempt.{Attempt}
-use Rattle.usb_world.specs.declared.types.BusFault.{BusFault}
 use Rattle.usb_world.specs.declared.types.Outcome.{Outcome}
-use Rattle.usb_world.specs.declared.types.Outcome.TheVariants.{Payload, Nothing, Stall}
 use Rattle.usb_world.specs.Devices.{Relation, Was, EachWas, DidIn, DidOut}
 use Rattle.usb_world.specs.OneHolder.{got}
 use Rattle.usb_world.specs.Passes.{IsSettled}
@@ -29,23 +28,12 @@ use Rattle.usb_transaction.specs.declared.heard.Heard.TheVariants.{Moved, NotRea
 use Rattle.usb_transaction.specs.declared.fault.TransFault.{TransFault}
 use Rattle.usb_transaction.specs.declared.fault.TransFault.TheVariants.{Stalled, Busy, NoAnswer, Bus}
 use Rattle.usb_transaction.specs.Failures.{NoThreeDamaged, Listens, WhySourceIn, WhySinkOut}
-use Rattle.usb_transaction.specs.Heard.{heard_as, sent_as}
+use Rattle.usb_transaction.specs.HeardOutcomes.{heard_as, heard_when_sent}
 use Rattle.usb_transaction.specs.Leaves.{is_at, SourceCut, none_came, one_came, SourceEnds, SourceIn, SourceBetween, SinkEnds, SinkOut, SinkBetween}
 use Rattle.usb_transaction.specs.Trail.{Trail, waits_with, waits_in, IsNoEnd, GoesOn, Ended, Transacted}
-use Rattle.usb_transaction.specs.Transactions.{in_attempt, out_attempt, packet_of}
-use Rattle.usb_transaction.proofs.DamagedRuns.{LostRun, run_none, run_short, damaged_more}
-use Rattle.usb_transaction.proofs.DeviceRuns.{Any, EachIf, Through, stopped, IsEnd, IsOfBus, AskedIn, AskedOut, each_device, at_end, stays_away, asked_in, in_others, asked_out, out_others, over_in, over_in_trail, over_out, over_out_trail, heeded, spared}
-use Rattle.usb_transaction.proofs.Listeners.{listens_on}
-
--- a transaction that ended is a whole one
-ended_as : {hear : Outcome → Heard} {a : Attempt} {old new : World} (result : Result (List ℕ) TransFault) → Ended hear a old result new → Transacted hear a old result new
-ended_as (Err (Bus fault)) e = absurd e.tells
-ended_as result e = e
-
--- what is so of a bus that gave up is so where one did
-of_bus : (P : Result (List ℕ) TransFault → Type 0) → ((fault : BusFault) → P (Err (Bus fault))) → (result : Result (List ℕ) TransFault) → IsOfBus result → P result
-of_bus P f (Err (Bus fault)) gave = f fault
-of_bus P f result gave = absurd (gave tt)
+use Rattle.usb_transaction.specs.Transactions.{in_attempt, out_attempt, packed}
+use Rattle.usb_transaction.proofs.DeviceRuns.{Any, EachIf, IsEnd, IsOfBus, Through, asked_in, asked_out, at_end, each_device, heeded, in_others, listens_on, of_bus, out_others, over_in, over_in_trail, over_out, over_out_trail, spared, stays_away, stopped}
+use Rattle.usb_transaction.proofs.Trails.{LostRun, as_transacted, damaged_more, run_none, run_short}
 
 -- IN
 
@@ -80,7 +68,7 @@ module _ (most max : ℕ) (awaited : Toggle) (s : State) (Clear : Type 0) where
       → Fits (if halted then (heard t2 (Some answer.Stall), s) else if none then (heard t2 (Some answer.Nak), s) else gave s by.Bulk max s.bulk_in.toggle (take most (rest_of s)) t2 t3)
   by_law e i true none fits same whole t3 h k l q c = λ on. refused h
   by_law e i false true fits same whole t3 h k l q c = λ on. empty h (none_left s.place s.spec.source k)
-  by_law e i false false true true whole t3 h k l q c = rw (l, q, i.endpoint) (λ on. moved (packet_of (take most (rest_of s))) (is_whole t3) h on)
+  by_law e i false false true true whole t3 h k l q c = rw (l, q, i.endpoint) (λ on. moved (packed (take most (rest_of s))) (is_whole t3) h on)
   by_law e i false false true false whole t3 h k l q c = rw (l, q, i.endpoint) (λ on. again (is_whole t3) h q (λ d. ap is_whole (c d).1) on)
   by_law e i false false false same whole t3 h k l q c = rw l (λ on. unheard (λ d. (h, λ m. no (sym l ∙ short most max (rest_of s) m))))
   by_law e i halted none fits same t2 t3 h k l q c = λ on. unheard (λ d. cc (c d).0)
@@ -126,7 +114,7 @@ module _ {most max : ℕ} {awaited : Toggle} {Clear : Type 0} {s : State} where
   cut (again came f q c on) n m at = none_came (on n m at)
   cut g n m at = none_came at
 
-  came_in : {bytes : List ℕ} {v : State} → Gave most max awaited Clear s (Moved (packet_of bytes)) v → SourceLeft most awaited (Ok bytes) s v
+  came_in : {bytes : List ℕ} {v : State} → Gave most max awaited Clear s (Moved (packed bytes)) v → SourceLeft most awaited (Ok bytes) s v
   came_in (moved b true f on) = (refl, on, λ e. cc e, λ c. no (sym f ∙ c))
   came_in (moved b false f on) = (refl, on, λ e. cc e, λ c. no (sym f ∙ c))
 
@@ -149,10 +137,10 @@ module _ {most max : ℕ} {awaited : Toggle} {Clear : Type 0} {s : State} where
   no_waits_in g c n = omega arith
 
   -- it goes on listening
-  stays_in : {p : List ℕ} {v : State} (t : Target) (ep : ℕ) {h : Heard} → Gave most max awaited Clear s h v → Listens t p s × IsSource ep most s → Listens t p v × IsSource ep most v
-  stays_in {p} {v} t ep g is =
+  stays_in : {j : Spot} {v : State} (t : Target) (ep : ℕ) {h : Heard} → Gave most max awaited Clear s h v → Listens t j s × IsSource ep most s → Listens t j v × IsSource ep most v
+  stays_in {j} {v} t ep g is =
       let f : OnlySource s v = (kept g).0 in
-      (listens_on t p s v (ap (λ x. x.spec) f) (ap (λ x. x.registers) f) is.0, source_kept ep most s v f is.1)
+      (listens_on t j s v (ap (λ x. x.spec) f) (ap (λ x. x.registers) f) is.0, source_kept ep most s v f is.1)
 
 -- The device over a transaction
 
@@ -164,17 +152,18 @@ module _ (t : Target) (ep : ℕ) (awaited : Toggle) where
   hear = heard_as awaited
 
   abbrev Ran : Type 0 → Result (List ℕ) TransFault → World → World → Relation
-  Ran GaveUp result old new j p s v = Through (DidIn a_in) a_in hear (IsEnd hear result) GaveUp old new j p s v
+  Ran GaveUp result old new j s v = Through (DidIn a_in) a_in hear (IsEnd hear result) GaveUp old new j s v
 
-  did_in : (most : ℕ) (w : World) (j : ℕ) (p : List ℕ) (u v : State) → DidIn a_in w j p u v → is_at u t ≡ true → IsSource ep most u
-      → Gave most t.max awaited ((damage_in w ≡ None) × Listens t p u) u (hear (outcome_in a_in w)) v
-  did_in most w j p u v d at i =
-      let x : AskedIn t ep w p u v = asked_in t ep w j p u v d at in
-      rw (x.is, x.gave) (gave_in most t.max awaited u ((damage_in w ≡ None) × Listens t p u) ep i x.row x.first x.second x.third (λ c. x.heard c.0 c.1) (λ n m so. source_on ep most n awaited u i m so x.row t.max x.first x.second x.third))
+  did_in : (most : ℕ) (w : World) (j : Spot) (u v : State) → DidIn a_in w j u v → is_at u t ≡ true → IsSource ep most u
+      → Gave most t.max awaited ((damage_in w ≡ None) × Listens t j u) u (hear (outcome_in a_in w)) v
+  did_in most w j u v d at i =
+      let y : _ = asked_in t ep w j u v d at in
+      let x : _ = y.1 in
+      rw (x.is, x.gave) (gave_in most t.max awaited u ((damage_in w ≡ None) × Listens t j u) ep i y.0 x.first x.second x.third (λ c. x.heard c.0 c.1) (λ n m so. source_on ep most n awaited u i m so y.0 t.max x.first x.second x.third))
 
-  source_in : (result : Result (List ℕ) TransFault) (GaveUp : Type 0) → ((most : ℕ) (v : State) → GaveUp → SourceLeft most awaited result v v) → (old new : World) (j : ℕ) (p : List ℕ) (s v : State)
-      → Ran GaveUp result old new j p s v → SourceIn t ep awaited result j p s v
-  source_in result GaveUp up old new j p s v x = record {
+  source_in : (result : Result (List ℕ) TransFault) (GaveUp : Type 0) → ((most : ℕ) (v : State) → GaveUp → SourceLeft most awaited result v v) → (old new : World) (j : Spot) (s v : State)
+      → Ran GaveUp result old new j s v → SourceIn t ep awaited result j s v
+  source_in result GaveUp up old new j s v x = record {
     others = away;
     frame = λ most i. elim (decided (is_at s t)) [ inl h ↦ (left h most i).0 | inr h ↦ subst (OnlySource s) (sym (away h)) refl ];
     source = λ h most n i. (left h most i).1 n;
@@ -183,15 +172,15 @@ module _ (t : Target) (ep : ℕ) (awaited : Toggle) where
   }
     where
       away : is_at s t ≡ false → v ≡ s
-      away = stays_away t (λ w u y. in_others t ep w j p u y) x
+      away = stays_away t (λ w u y. in_others t ep w j u y) x
 
       left : is_at s t ≡ true → (most : ℕ) → IsSource ep most s → SourceLeft most awaited result s v
       left h most i =
           at_end hear (λ outcomes w u. (is_at u t ≡ true) × IsSource ep most u × ((y : State) → SourceLeft most awaited result u y → SourceLeft most awaited result s y)) (h, i, λ y l. l)
           (λ outcomes w u y trail made so d n.
-          let g = did_in most w j p u y d so.0 so.1 in
+          let g = did_in most w j u y d so.0 so.1 in
           (source_at_kept t u y (kept g).0 so.0, source_kept ep most u y (kept g).0 so.1, λ z l. so.2 z (before result g n z l)))
-          (SourceLeft most awaited result s) v (λ outcomes w u trail so d is told. so.2 v (ended_in result (outcome_in a_in w) outcomes (did_in most w j p u v d so.0 so.1) is)) (λ gave outcomes w so. so.2 v (up most v gave)) x
+          (SourceLeft most awaited result s) v (λ outcomes w u trail so d is told. so.2 v (ended_in result (outcome_in a_in w) outcomes (did_in most w j u v d so.0 so.1) is)) (λ gave outcomes w so. so.2 v (up most v gave)) x
 
 -- whatever its answer is
 pub source_leaves : (t : Target) (ep : ℕ) (awaited : Toggle) (result : Result (List ℕ) TransFault) (old new : World) → IsSettled old.roots
@@ -204,16 +193,16 @@ source_leaves t ep awaited result old new settled x single =
 
 pub source_over : (t : Target) (ep : ℕ) (awaited : Toggle) (result : Result (List ℕ) TransFault) (old new : World) → IsSettled old.roots
     → Ended (heard_as awaited) (in_attempt t ep) old result new → new.shared ≡ false → EachWas (SourceIn t ep awaited result) old new
-source_over t ep awaited result old new settled e single = source_leaves t ep awaited result old new settled (ended_as result e) single
+source_over t ep awaited result old new settled e single = source_leaves t ep awaited result old new settled (as_transacted result e) single
 
 -- Between two attempts
 pub source_between : (t : Target) (ep : ℕ) (awaited : Toggle) (outcomes : List Outcome) (old now : World) → IsSettled old.roots
     → Trail (in_attempt t ep) old outcomes now → GoesOn (heard_as awaited) outcomes → now.shared ≡ false → EachWas (SourceBetween t ep awaited) old now
 source_between t ep awaited outcomes old now settled trail onward single =
     each_device _ (SourceBetween t ep awaited) old now
-    (λ j p s v run.
-    let x : SourceIn t ep awaited (Err NoAnswer) j p s v =
-    source_in t ep awaited (Err NoAnswer) (Unit {0}) (λ most y gave. (refl, λ n m at. at, λ e. cc e, λ c. (refl, λ b e. cc e))) old now j p s v (stopped tt run onward) in
+    (λ j s v run.
+    let x : SourceIn t ep awaited (Err NoAnswer) j s v =
+    source_in t ep awaited (Err NoAnswer) (Unit {0}) (λ most y gave. (refl, λ n m at. at, λ e. cc e, λ c. (refl, λ b e. cc e))) old now j s v (stopped tt run onward) in
     record { others = x.others; frame = x.frame; source = x.source })
     (over_in_trail t ep old now settled single trail)
 
@@ -240,53 +229,53 @@ module _ (t : Target) (ep : ℕ) (awaited : Toggle) (old : World) (three : NoThr
   next_stands had n w trail made c m left (moved b came f on) z y = elim z [ ]
   next_stands had n w trail made c m left (refused f) z y = elim z [ ]
   next_stands had n w trail made c m left (unheard d) z (even g q few) = even g q few
-  next_stands had n w trail made c m left (unheard d) z (behind g p q k ran few) = behind g p q (k + 1) (damaged_more k trail made (λ x. (d (c x)).1 m) ran) (omega (arith, few))
+  next_stands had n w trail made c m left (unheard d) z (behind g p q k ran few) = behind g p q (k + 1) (damaged_more trail made k (λ x. (d (c x)).1 m) ran) (omega (arith, few))
   next_stands had n w trail made c m left (empty f d) z (even g q few) = absurd (omega (arith, g, d, left))
   next_stands had n w trail made c m left (empty f d) z (behind g p q k ran few) = absurd (omega (arith, p, d))
   next_stands had n w trail made c m left (again came f r d on) z (even g q few) = no (sym r ∙ ap (is_same awaited) q ∙ itself awaited)
   next_stands had n w trail made c m left (again true f r d on) z (behind g p q k ran few) = even (sym g) (ap other q ∙ other_twice awaited) (omega (arith, few, run_short old k w.attempts three ran))
-  next_stands had n w trail made c m left (again false f r d on) z (behind g p q k ran few) = behind g p q (k + 1) (damaged_more k trail made (λ x. no (d (c x))) ran) (omega (arith, few))
+  next_stands had n w trail made c m left (again false f r d on) z (behind g p q k ran few) = behind g p q (k + 1) (damaged_more trail made k (λ x. no (d (c x))) ran) (omega (arith, few))
 
-  waits_few : (new : World) (j : ℕ) (p : List ℕ) (s v : State) (most had : ℕ) → Listens t p s × IsSource ep most s → SourceAt most had awaited s → most ≤ t.max → had < length s.spec.source
-      → Ran t ep awaited (IsOfBus {A = List ℕ} (Err Busy)) (Err Busy) old new j p s v → ⊥
+  waits_few : (new : World) (j : Spot) (s v : State) (most had : ℕ) → Listens t j s × IsSource ep most s → SourceAt most had awaited s → most ≤ t.max → had < length s.spec.source
+      → Ran t ep awaited (IsOfBus {A = List ℕ} (Err Busy)) (Err Busy) old new j s v → ⊥
   unfolding waits_in
-  waits_few new j p s v most had is at m left x =
-      at_end (heard_as awaited) (λ outcomes w u. (Listens t p u × IsSource ep most u) × (had < length u.spec.source) × Stands most had (waits_in (heard_as awaited) outcomes) w u) (is, left, first_stands most had s at)
+  waits_few new j s v most had is at m left x =
+      at_end (heard_as awaited) (λ outcomes w u. (Listens t j u × IsSource ep most u) × (had < length u.spec.source) × Stands most had (waits_in (heard_as awaited) outcomes) w u) (is, left, first_stands most had s at)
       (λ outcomes w u y trail made so d n.
-      let g = did_in t ep awaited most w j p u y d so.0.0.at so.0.1 in
+      let g = did_in t ep awaited most w j u y d so.0.0.at so.0.1 in
       (stays_in t ep g so.0, subst (λ z. had < length z.source) (sym (ap (λ z. z.spec) (kept g).0)) so.1, next_stands had (waits_in (heard_as awaited) outcomes) w trail made (λ e. (e, so.0.0)) m so.1 g n so.2))
       (λ y. ⊥) v
       (λ outcomes w u trail so d is told.
-      let g = did_in t ep awaited most w j p u v d so.0.0.at so.0.1 in
+      let g = did_in t ep awaited most w j u v d so.0.0.at so.0.1 in
       never most had (waits_in (heard_as awaited) (outcome_in (in_attempt t ep) w ∷ outcomes)) (after (attempt (in_attempt t ep)) w) v (next_stands had (waits_in (heard_as awaited) outcomes) w trail (told (λ e. e tt)).0 (λ e. (e, so.0.0)) m so.1 g is.0 so.2) is.1)
       (λ gave outcomes w so. gave tt) x
 
-  abbrev IsHalted : ℕ → List ℕ → State → Type 0
-  IsHalted most p u = Listens t p u × IsSource ep most u × (u.bulk_in.halted ≡ true)
+  abbrev IsHalted : ℕ → Spot → State → Type 0
+  IsHalted most j u = Listens t j u × IsSource ep most u × (u.bulk_in.halted ≡ true)
 
-  why_in : (result : Result (List ℕ) TransFault) (new : World) (j : ℕ) (p : List ℕ) (s v : State) → Ran t ep awaited (IsOfBus result) result old new j p s v → WhySourceIn t ep awaited result j p s v
-  why_in result new j p s v x = record {
+  why_in : (result : Result (List ℕ) TransFault) (new : World) (j : Spot) (s v : State) → Ran t ep awaited (IsOfBus result) result old new j s v → WhySourceIn t ep awaited result j s v
+  why_in result new j s v x = record {
     answered = λ l most n i at m e.
-        heeded (λ u. Listens t p u × IsSource ep most u) (λ w u y d z is. stays_in t ep (did_in t ep awaited most w j p u y d is.0.at is.1) is) (l, i) three
-        (λ w u y d is none f. (unheard_in (subst (λ h. Gave most t.max awaited ((damage_in w ≡ None) × Listens t p u) u h y) f (did_in t ep awaited most w j p u y d is.0.at is.1)) (none, is.0)).1 m) (as_result e);
-    waited = λ l most n i one at m left e. waits_few new j p s v most n (l, i) at m left (as_result e);
+        heeded (λ u. Listens t j u × IsSource ep most u) (λ w u y d z is. stays_in t ep (did_in t ep awaited most w j u y d is.0.at is.1) is) (l, i) three
+        (λ w u y d is none f. (unheard_in (subst (λ h. Gave most t.max awaited ((damage_in w ≡ None) × Listens t j u) u h y) f (did_in t ep awaited most w j u y d is.0.at is.1)) (none, is.0)).1 m) (as_result e);
+    waited = λ l most n i one at m left e. waits_few new j s v most n (l, i) at m left (as_result e);
     halted = λ l most i c. (
-      λ e. heeded (IsHalted most p) (halted_stays most) (l, i, c) three
-          (λ w u y d is none f. no (sym (unheard_in (subst (λ h. Gave most t.max awaited ((damage_in w ≡ None) × Listens t p u) u h y) f (did_in t ep awaited most w j p u y d is.0.at is.1)) (none, is.0)).0 ∙ is.2)) (as_result e),
-      λ e. spared (IsHalted most p) (halted_stays most) (l, i, c) (λ u. 0) (λ w u y d is n. no_waits_in (did_in t ep awaited most w j p u y d is.0.at is.1) is.2 n) (omega arith) (as_result e),
+      λ e. heeded (IsHalted most j) (halted_stays most) (l, i, c) three
+          (λ w u y d is none f. no (sym (unheard_in (subst (λ h. Gave most t.max awaited ((damage_in w ≡ None) × Listens t j u) u h y) f (did_in t ep awaited most w j u y d is.0.at is.1)) (none, is.0)).0 ∙ is.2)) (as_result e),
+      λ e. spared (IsHalted most j) (halted_stays most) (l, i, c) (λ u. 0) (λ w u y d is n. no_waits_in (did_in t ep awaited most w j u y d is.0.at is.1) is.2 n) (omega arith) (as_result e),
     );
   }
     where
-      as_result : {r : Result (List ℕ) TransFault} → result ≡ r → Ran t ep awaited (IsOfBus r) r old new j p s v
-      as_result e = subst (λ r. Ran t ep awaited (IsOfBus r) r old new j p s v) e x
+      as_result : {r : Result (List ℕ) TransFault} → result ≡ r → Ran t ep awaited (IsOfBus r) r old new j s v
+      as_result e = subst (λ r. Ran t ep awaited (IsOfBus r) r old new j s v) e x
 
-      halted_stays : (most : ℕ) (w : World) (u y : State) → DidIn (in_attempt t ep) w j p u y → IsNoEnd (heard_as awaited (outcome_in (in_attempt t ep) w)) → IsHalted most p u → IsHalted most p y
-      halted_stays most w u y d z is = subst (IsHalted most p) (sym ((kept (did_in t ep awaited most w j p u y d is.0.at is.1)).1 is.2)) is
+      halted_stays : (most : ℕ) (w : World) (u y : State) → DidIn (in_attempt t ep) w j u y → IsNoEnd (heard_as awaited (outcome_in (in_attempt t ep) w)) → IsHalted most j u → IsHalted most j y
+      halted_stays most w u y d z is = subst (IsHalted most j) (sym ((kept (did_in t ep awaited most w j u y d is.0.at is.1)).1 is.2)) is
 
 pub source_why : (t : Target) (ep : ℕ) (awaited : Toggle) (result : Result (List ℕ) TransFault) (old new : World) → IsSettled old.roots → NoThreeDamaged old
     → Ended (heard_as awaited) (in_attempt t ep) old result new → new.shared ≡ false → EachWas (WhySourceIn t ep awaited result) old new
 source_why t ep awaited result old new settled three e single =
-    each_device _ (WhySourceIn t ep awaited result) old new (why_in t ep awaited old three result new) (over_in t ep old new settled single (heard_as awaited) result (ended_as result e))
+    each_device _ (WhySourceIn t ep awaited result) old new (why_in t ep awaited old three result new) (over_in t ep old new settled single (heard_as awaited) result (as_transacted result e))
 
 -- OUT
 
@@ -319,7 +308,7 @@ data Took (most : ℕ) (t : Toggle) (bytes : List ℕ) (Clear : Type 0) (s : Sta
 
 module _ (e most max : ℕ) (s : State) (i : IsSink e most s) (t : Toggle) (bytes : List ℕ) (Clear : Type 0) where
   abbrev Answers : Way → Reply → Type 0
-  Answers t3 q = Took most t bytes Clear s (sent_as (got max (heard t3 q.0))) (forgotten q.1)
+  Answers t3 q = Took most t bytes Clear s (heard_when_sent (got max (heard t3 q.0))) (forgotten q.1)
 
   by_row : (halted long same : Bool) (t3 : Way) → s.bulk_out.halted ≡ halted → (length bytes ≤ most → long ≡ false) → is_same t s.bulk_out.toggle ≡ same → (Clear → t3 ≡ whole)
       → Answers t3 (if halted then (Some answer.Stall, s) else if long then (None, s) else if same then (Some answer.Ack, sunk s bytes) else (Some answer.Ack, s))
@@ -333,7 +322,7 @@ module _ (e most max : ℕ) (s : State) (i : IsSink e most s) (t : Toggle) (byte
   row_is : data_row s e t bytes ≡ sink_row s most t bytes
   row_is = rw (i.not_zero, i.endpoint, same_number e)
 
-  took_out : (t1 t2 t3 : Way) → (Clear → (t1 ≡ whole) × (t2 ≡ whole) × (t3 ≡ whole)) → Took most t bytes Clear s (sent_as (got max (out_law s e t bytes t1 t2 t3).0)) (out_law s e t bytes t1 t2 t3).1
+  took_out : (t1 t2 t3 : Way) → (Clear → (t1 ≡ whole) × (t2 ≡ whole) × (t3 ≡ whole)) → Took most t bytes Clear s (heard_when_sent (got max (out_law s e t bytes t1 t2 t3).0)) (out_law s e t bytes t1 t2 t3).1
   took_out whole whole t3 c =
       subst (Answers t3) (sym row_is) (by_row s.bulk_out.halted (nat_lt most (length bytes)) (is_same t s.bulk_out.toggle) t3 refl (λ m. not_long most bytes m) refl (λ d. (c d).2))
   took_out t1 t2 t3 c = unheard _ (λ d. (let x = c d in cc)) (refl, λ before at. at, λ g f. refl)
@@ -356,15 +345,15 @@ module _ {most : ℕ} {t : Toggle} {bytes : List ℕ} {Clear : Type 0} {s : Stat
   stays_out (refused f) = (refl, λ before at. rested at, λ g h. h)
   stays_out (acked v f x on) = (x, λ before at. behind_it (on before at), λ g. no (sym f ∙ g))
 
-  done_out : {done : List ℕ} {v : State} → Took most t bytes Clear s (Moved (packet_of done)) v → SinkLeft t bytes (Ok done) s v
+  done_out : {done : List ℕ} {v : State} → Took most t bytes Clear s (Moved (packed done)) v → SinkLeft t bytes (Ok done) s v
   done_out (acked v f x on) = (x, on, λ g. no (sym f ∙ g))
 
   stalls_out : {v : State} → Took most t bytes Clear s Refused v → SinkLeft t bytes (Err Stalled) s v
   stalls_out (refused f) = (refl, λ before at. (rested at, f), λ g h. (h, λ done e. cc e))
 
-  ended_out : (result : Result (List ℕ) TransFault) (o : Outcome) (outcomes : List Outcome) {v : State} → Took most t bytes Clear s (sent_as o) v → IsEnd sent_as result o outcomes → SinkLeft t bytes result s v
+  ended_out : (result : Result (List ℕ) TransFault) (o : Outcome) (outcomes : List Outcome) {v : State} → Took most t bytes Clear s (heard_when_sent o) v → IsEnd heard_when_sent result o outcomes → SinkLeft t bytes result s v
   ended_out (Ok done) o outcomes {v} g is = done_out (subst (λ h. Took most t bytes Clear s h v) is g)
-  ended_out (Err Stalled) o outcomes {v} g is = stalls_out (subst (λ x. Took most t bytes Clear s (sent_as x) v) is g)
+  ended_out (Err Stalled) o outcomes {v} g is = stalls_out (subst (λ x. Took most t bytes Clear s (heard_when_sent x) v) is g)
   ended_out result o outcomes g is = let x = stays_out g in (x.0, x.1, λ c h. (x.2 c h, λ done e. cc e))
 
   unheard_out : {v : State} → Took most t bytes Clear s Lost v → Clear → length bytes ≤ most → ⊥
@@ -382,17 +371,17 @@ module _ (t : Target) (ep : ℕ) (toggle : Toggle) (bytes : List ℕ) where
   a_out = out_attempt t ep toggle bytes
 
   abbrev RanOut : Type 0 → Result (List ℕ) TransFault → World → World → Relation
-  RanOut GaveUp result old new j p s v = Through (DidOut a_out toggle bytes) a_out sent_as (IsEnd sent_as result) GaveUp old new j p s v
+  RanOut GaveUp result old new j s v = Through (DidOut a_out toggle bytes) a_out heard_when_sent (IsEnd heard_when_sent result) GaveUp old new j s v
 
-  did_out : (most : ℕ) (w : World) (j : ℕ) (p : List ℕ) (u v : State) → DidOut a_out toggle bytes w j p u v → is_at u t ≡ true → IsSink ep most u
-      → Took most toggle bytes ((damage_in w ≡ None) × Listens t p u) u (sent_as (outcome_in a_out w)) v
-  did_out most w j p u v d at i =
-      let x : AskedOut t ep toggle bytes w p u v = asked_out t ep toggle bytes w j p u v d at in
-      rw (x.is, x.gave) (took_out ep most t.max u i toggle bytes ((damage_in w ≡ None) × Listens t p u) x.first x.second x.third (λ c. x.heard c.0 c.1))
+  did_out : (most : ℕ) (w : World) (j : Spot) (u v : State) → DidOut a_out toggle bytes w j u v → is_at u t ≡ true → IsSink ep most u
+      → Took most toggle bytes ((damage_in w ≡ None) × Listens t j u) u (heard_when_sent (outcome_in a_out w)) v
+  did_out most w j u v d at i =
+      let x : _ = asked_out t ep toggle bytes w j u v d at in
+      rw (x.is, x.gave) (took_out ep most t.max u i toggle bytes ((damage_in w ≡ None) × Listens t j u) x.first x.second x.third (λ c. x.heard c.0 c.1))
 
-  sink_out : (result : Result (List ℕ) TransFault) (GaveUp : Type 0) → ((v : State) → GaveUp → SinkLeft toggle bytes result v v) → (old new : World) (j : ℕ) (p : List ℕ) (s v : State)
-      → forgotten s ≡ s → RanOut GaveUp result old new j p s v → SinkOut t ep toggle bytes result j p s v
-  sink_out result GaveUp up old new j p s v rests x = record {
+  sink_out : (result : Result (List ℕ) TransFault) (GaveUp : Type 0) → ((v : State) → GaveUp → SinkLeft toggle bytes result v v) → (old new : World) (j : Spot) (s v : State)
+      → forgotten s ≡ s → RanOut GaveUp result old new j s v → SinkOut t ep toggle bytes result j s v
+  sink_out result GaveUp up old new j s v rests x = record {
     others = away;
     frame = λ most i. elim (decided (is_at s t)) [ inl h ↦ (left h most i).0 | inr h ↦ subst (OnlySink s) (sym (away h)) refl ];
     sink = λ h most before i fits. (left h most i).1 before;
@@ -400,63 +389,63 @@ module _ (t : Target) (ep : ℕ) (toggle : Toggle) (bytes : List ℕ) where
   }
     where
       away : is_at s t ≡ false → v ≡ s
-      away = stays_away t (λ w u y. out_others t ep toggle bytes w j p u y) x
+      away = stays_away t (λ w u y. out_others t ep toggle bytes w j u y) x
 
       left : is_at s t ≡ true → (most : ℕ) → IsSink ep most s → SinkLeft toggle bytes result s v
       left h most i =
-          at_end sent_as (λ outcomes w u. (is_at u t ≡ true) × IsSink ep most u × ((y : State) → SinkLeft toggle bytes result u y → SinkLeft toggle bytes result s y)) (h, i, λ y l. l)
+          at_end heard_when_sent (λ outcomes w u. (is_at u t ≡ true) × IsSink ep most u × ((y : State) → SinkLeft toggle bytes result u y → SinkLeft toggle bytes result s y)) (h, i, λ y l. l)
           (λ outcomes w u y trail made so d n.
-          let g = stays_out (did_out most w j p u y d so.0 so.1) in
+          let g = stays_out (did_out most w j u y d so.0 so.1) in
           (at_kept t u y g.0 so.0, sink_kept ep most u y g.0 so.1, λ z l. so.2 z (after_stay toggle bytes result u y z g l)))
-          (SinkLeft toggle bytes result s) v (λ outcomes w u trail so d is told. so.2 v (ended_out result (outcome_in a_out w) outcomes (did_out most w j p u v d so.0 so.1) is)) (λ gave outcomes w so. so.2 v (up v gave)) x
+          (SinkLeft toggle bytes result s) v (λ outcomes w u trail so d is told. so.2 v (ended_out result (outcome_in a_out w) outcomes (did_out most w j u v d so.0 so.1) is)) (λ gave outcomes w so. so.2 v (up v gave)) x
 
 -- a device remembers nothing before it
-each_rests : (R S : Relation) (old new : World) → IsSettled old.roots → ((j : ℕ) (p : List ℕ) (s v : State) → forgotten s ≡ s → R j p s v → S j p s v) → EachIf Any R old new → EachWas S old new
-each_rests R S old new settled f x j p v on there =
-    let was : Was R old j p v = x j p v on there tt in
-    record { before = was.before; on = was.on; stands = was.stands; so = f j p was.before v (remembers was.before (settled_memory old.roots j p was.before settled was.stands)) was.so }
+each_rests : (R S : Relation) (old new : World) → IsSettled old.roots → ((j : Spot) (s v : State) → forgotten s ≡ s → R j s v → S j s v) → EachIf Any R old new → EachWas S old new
+each_rests R S old new settled f x j v on there =
+    let was : Was R old j v = x j v on there tt in
+    record { before = was.before; on = was.on; stands = was.stands; so = f j was.before v (remembers was.before (settled_memory old.roots j.row j.rest was.before settled was.stands)) was.so }
 
 -- whatever its answer is
 pub sink_leaves : (t : Target) (ep : ℕ) (toggle : Toggle) (bytes : List ℕ) (result : Result (List ℕ) TransFault) (old new : World) → IsSettled old.roots
-    → Transacted sent_as (out_attempt t ep toggle bytes) old result new → new.shared ≡ false → EachWas (SinkOut t ep toggle bytes result) old new
+    → Transacted heard_when_sent (out_attempt t ep toggle bytes) old result new → new.shared ≡ false → EachWas (SinkOut t ep toggle bytes result) old new
 sink_leaves t ep toggle bytes result old new settled x single =
     each_rests _ (SinkOut t ep toggle bytes result) old new settled
     (sink_out t ep toggle bytes result (IsOfBus result)
     (λ v gave. of_bus (λ r. SinkLeft toggle bytes r v v) (λ fault. (refl, λ before at. at, λ c h. (refl, λ done e. cc e))) result gave) old new)
-    (over_out t ep toggle bytes old new settled single sent_as result x)
+    (over_out t ep toggle bytes old new settled single heard_when_sent result x)
 
 pub sink_over : (t : Target) (ep : ℕ) (toggle : Toggle) (bytes : List ℕ) (result : Result (List ℕ) TransFault) (old new : World) → IsSettled old.roots
-    → Ended sent_as (out_attempt t ep toggle bytes) old result new → new.shared ≡ false → EachWas (SinkOut t ep toggle bytes result) old new
-sink_over t ep toggle bytes result old new settled e single = sink_leaves t ep toggle bytes result old new settled (ended_as result e) single
+    → Ended heard_when_sent (out_attempt t ep toggle bytes) old result new → new.shared ≡ false → EachWas (SinkOut t ep toggle bytes result) old new
+sink_over t ep toggle bytes result old new settled e single = sink_leaves t ep toggle bytes result old new settled (as_transacted result e) single
 
 -- Between two attempts
 pub sink_between : (t : Target) (ep : ℕ) (toggle : Toggle) (bytes : List ℕ) (outcomes : List Outcome) (old now : World) → IsSettled old.roots
-    → Trail (out_attempt t ep toggle bytes) old outcomes now → GoesOn sent_as outcomes → now.shared ≡ false → EachWas (SinkBetween t ep toggle bytes) old now
+    → Trail (out_attempt t ep toggle bytes) old outcomes now → GoesOn heard_when_sent outcomes → now.shared ≡ false → EachWas (SinkBetween t ep toggle bytes) old now
 sink_between t ep toggle bytes outcomes old now settled trail onward single =
     each_rests _ (SinkBetween t ep toggle bytes) old now settled
-    (λ j p s v rests run.
-    let x : SinkOut t ep toggle bytes (Err NoAnswer) j p s v =
-    sink_out t ep toggle bytes (Err NoAnswer) (Unit {0}) (λ y gave. (refl, λ before at. at, λ c h. (refl, λ done e. cc e))) old now j p s v rests (stopped tt run onward) in
+    (λ j s v rests run.
+    let x : SinkOut t ep toggle bytes (Err NoAnswer) j s v =
+    sink_out t ep toggle bytes (Err NoAnswer) (Unit {0}) (λ y gave. (refl, λ before at. at, λ c h. (refl, λ done e. cc e))) old now j s v rests (stopped tt run onward) in
     record { others = x.others; frame = x.frame; sink = x.sink })
     (over_out_trail t ep toggle bytes old now settled single trail)
 
 -- Why it fails
 pub sink_why : (t : Target) (ep : ℕ) (toggle : Toggle) (bytes : List ℕ) (result : Result (List ℕ) TransFault) (old new : World) → IsSettled old.roots → NoThreeDamaged old
-    → Ended sent_as (out_attempt t ep toggle bytes) old result new → new.shared ≡ false → EachWas (WhySinkOut t ep toggle bytes result) old new
+    → Ended heard_when_sent (out_attempt t ep toggle bytes) old result new → new.shared ≡ false → EachWas (WhySinkOut t ep toggle bytes result) old new
 sink_why t ep toggle bytes result old new settled three e single =
-    each_device _ (WhySinkOut t ep toggle bytes result) old new why (over_out t ep toggle bytes old new settled single sent_as result (ended_as result e))
+    each_device _ (WhySinkOut t ep toggle bytes result) old new why (over_out t ep toggle bytes old new settled single heard_when_sent result (as_transacted result e))
   where
-    stays : (most : ℕ) (w : World) (j : ℕ) (p : List ℕ) (u y : State) → DidOut (out_attempt t ep toggle bytes) toggle bytes w j p u y → Listens t p u × IsSink ep most u → Listens t p y × IsSink ep most y
-    stays most w j p u y d is =
-        let f : OnlySink u y = (stays_out (did_out t ep toggle bytes most w j p u y d is.0.at is.1)).0 in
-        (listens_on t p u y (ap (λ x. x.spec) f) (ap (λ x. x.registers) f) is.0, sink_kept ep most u y f is.1)
+    stays : (most : ℕ) (w : World) (j : Spot) (u y : State) → DidOut (out_attempt t ep toggle bytes) toggle bytes w j u y → Listens t j u × IsSink ep most u → Listens t j y × IsSink ep most y
+    stays most w j u y d is =
+        let f : OnlySink u y = (stays_out (did_out t ep toggle bytes most w j u y d is.0.at is.1)).0 in
+        (listens_on t j u y (ap (λ x. x.spec) f) (ap (λ x. x.registers) f) is.0, sink_kept ep most u y f is.1)
 
-    why : (j : ℕ) (p : List ℕ) (s v : State) → RanOut t ep toggle bytes (IsOfBus result) result old new j p s v → WhySinkOut t ep toggle bytes result j p s v
-    why j p s v x = record {
-      answered = λ l most i fits e. heeded (λ u. Listens t p u × IsSink ep most u) (λ w u y d n. stays most w j p u y d) (l, i) three
+    why : (j : Spot) (s v : State) → RanOut t ep toggle bytes (IsOfBus result) result old new j s v → WhySinkOut t ep toggle bytes result j s v
+    why j s v x = record {
+      answered = λ l most i fits e. heeded (λ u. Listens t j u × IsSink ep most u) (λ w u y d n. stays most w j u y d) (l, i) three
           (λ w u y d is none f.
-          unheard_out (subst (λ h. Took most toggle bytes ((damage_in w ≡ None) × Listens t p u) u h y) f (did_out t ep toggle bytes most w j p u y d is.0.at is.1)) (none, is.0) fits)
-          (subst (λ r. RanOut t ep toggle bytes (IsOfBus r) r old new j p s v) e x);
-      waited = λ l most i e. spared (λ u. Listens t p u × IsSink ep most u) (λ w u y d n. stays most w j p u y d) (l, i) (λ u. 0)
-          (λ w u y d is n. no_waits_out (did_out t ep toggle bytes most w j p u y d is.0.at is.1) n) (omega arith) (subst (λ r. RanOut t ep toggle bytes (IsOfBus r) r old new j p s v) e x);
+          unheard_out (subst (λ h. Took most toggle bytes ((damage_in w ≡ None) × Listens t j u) u h y) f (did_out t ep toggle bytes most w j u y d is.0.at is.1)) (none, is.0) fits)
+          (subst (λ r. RanOut t ep toggle bytes (IsOfBus r) r old new j s v) e x);
+      waited = λ l most i e. spared (λ u. Listens t j u × IsSink ep most u) (λ w u y d n. stays most w j u y d) (l, i) (λ u. 0)
+          (λ w u y d is n. no_waits_out (did_out t ep toggle bytes most w j u y d is.0.at is.1) n) (omega arith) (subst (λ r. RanOut t ep toggle bytes (IsOfBus r) r old new j s v) e x);
     }

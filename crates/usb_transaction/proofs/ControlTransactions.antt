@@ -1,5 +1,5 @@
--- IN of endpoint 0: what it leaves of each device, and why it fails.
-use Rattle.std.proofs.Common.{◌≡◌, ◌≢◌, ◌⊎◌, inl, inr, ℕ, suc, ◌+◌, ◌-◌, ◌<◌, ◌≤◌, nat_le, nat_lt, ◌==◌, ◌&&◌, if◌then◌else◌, Bool, true, false, List, [], ◌∷◌, length, Option, None, Some, is_some, option_map, Result, Ok, Err, refl, sym, subst, ap, ◌∙◌, arith}
+-- Control transactions: what IN of endpoint 0, and OUT that ends a control read, leave of each device, and why they fail.
+use Rattle.std.proofs.Common.{◌≡◌, ◌≢◌, ◌⊎◌, inl, inr, ℕ, ◌+◌, ◌-◌, ◌<◌, ◌≤◌, nat_le, ◌&&◌, if◌then◌else◌, Bool, true, false, List, [], ◌∷◌, length, Option, None, Some, is_some, Result, Ok, Err, refl, sym, subst, ap, ◌∙◌, arith}
 use Rattle.usb_packet.specs.declared.Toggle.{Toggle}
 use Rattle.usb_packet.specs.declared.Toggle.TheVariants.{Zero, One}
 use Rattle.usb_packet.specs.Toggles.{is_same}
@@ -10,43 +10,39 @@ use Rattle.usb_device.specs.declared.transfer.Giver.TheVariants as by
 use Rattle.usb_device.specs.declared.transfer.Memory.{Memory}
 use Rattle.usb_device.specs.Transfer.{Stage, idle, refused, reading, read, ending, max_packet, packet_at, toggle_at}
 use Rattle.usb_device.specs.Spec.{Spec}
-use Rattle.usb_device.specs.Rows.{State, Reply, payload, forgotten, is_busy, nak_row, acknowledged}
-use Rattle.usb_device.specs.Attempt.{Way, whole, broken, lost, is_whole, heard, gave, in_stage_law, in_law}
+use Rattle.usb_device.specs.Rows.{State, Reply, forgotten, is_busy, nak_row, acknowledged, out_row}
+use Rattle.usb_device.specs.Attempt.{Way, whole, broken, lost, is_whole, heard, gave, in_stage_law, in_law, out_law}
 use Rattle.usb_device.specs.declared.request.Registers.{Registers}
 use Rattle.usb_device.proofs.Interface.{control_read, itself}
-use Rattle.usb_device.specs.Tree.{Ports, row_of, reach_at, state_at}
+use Rattle.usb_device.specs.Tree.{row_of, reach_at, state_at, Spot, reach_on, state_on}
 use Rattle.usb_device.specs.Delivery.{held, is_twice}
 use Rattle.usb_world.specs.Passes.{IsSettled}
-use Rattle.usb_world.specs.Paths.{address_of, same_number, same_path}
-use Rattle.usb_device.specs.Progress.{address_then, taken_of, ReadingAt, ReadOn, StatusOn, StatusGiven, seen, unseen, OnlyControl}
+use Rattle.usb_world.specs.Paths.{address_of}
+use Rattle.usb_device.specs.Progress.{address_then, taken_of, ReadingAt, ReadOn, StatusOn, StatusGiven, seen, unseen, OnlyControl, IsRead, OnlyStage}
 use Rattle.usb_world.specs.declared.types.Outcome.{Outcome}
-use Rattle.usb_world.specs.declared.types.Outcome.TheVariants.{Payload, Ack, Nak, Stall, Nothing}
-use Rattle.usb_world.specs.OneHolder.{IsMade, AttemptAnswerer, got}
+use Rattle.usb_world.specs.declared.types.Outcome.TheVariants.{Payload, Nak, Stall, Nothing, Ack}
+use Rattle.usb_world.specs.OneHolder.{AttemptAnswerer, got}
 use Rattle.usb_world.specs.declared.types.BusFault.{BusFault}
 use Rattle.usb_world.specs.World.{World, Made}
 use Rattle.usb_world.specs.Steps.{ready, attempt, after, outcome_in, damage_in}
-use Rattle.usb_world.specs.Devices.{Was, EachWas, DidIn}
+use Rattle.usb_world.specs.Devices.{Was, EachWas, DidIn, DidOut}
 use Rattle.usb_transaction.specs.declared.target.Target.{Target}
 use Rattle.usb_transaction.specs.declared.heard.Heard.{Heard}
 use Rattle.usb_transaction.specs.declared.heard.Heard.TheVariants.{Moved, NotReady, Repeat, Refused, Lost}
 use Rattle.usb_transaction.specs.declared.fault.TransFault.{TransFault}
 use Rattle.usb_transaction.specs.declared.fault.TransFault.TheVariants.{Stalled, Busy, NoAnswer, Bus}
-use Rattle.usb_transaction.specs.Heard.{heard_as}
+use Rattle.usb_transaction.specs.HeardOutcomes.{heard_as, heard_when_sent}
 use Rattle.usb_transaction.specs.Trail.{Trail, start, next, IsNoEnd, waits_with, waits_in, Ended, Transacted}
-use Rattle.usb_transaction.specs.Failures.{NoThreeDamaged, Listens, Fits, HasNext, data_stage, status, refusal, WhyControlIn}
+use Rattle.usb_transaction.specs.Failures.{NoThreeDamaged, Listens, Fits, HasNext, data_stage, status, refusal, WhyControlIn, WhyReadStatus}
 use Rattle.std.proofs.lemmas.Bool.Decides.{nat_tests}
 use Rattle.arrayvec.specs.ArrayVec.{ArrayVec}
-use Rattle.usb_transaction.proofs.DeviceRuns.{Run, Through, Told, IsEnd, IsOfBus, at_end, heeded, asked_in, each_device, over_in, over_in_trail}
+use Rattle.usb_transaction.proofs.DeviceRuns.{IsEnd, IsOfBus, Run, Through, as_whole, asked_in, at_end, at_from, each_device, had_address, heeded, listens_on, mine, not_busy, of_bus, one_wait, other_twice, over_in, over_in_trail, positive, asked_out, out_others, over_out, spared, stays_away}
+use Rattle.usb_transaction.proofs.LastOutcomes.{heard_taken, no_packet, packet_heard, sent_last}
+use Rattle.usb_transaction.proofs.Trails.{LostRun, as_transacted, damaged_more, run_none, run_short, trail_settled}
 use Rattle.usb_world.specs.declared.types.Attempt.{Attempt}
-use Rattle.usb_transaction.specs.Transactions.{packet_of, in_attempt}
-use Rattle.usb_transaction.specs.Leaves.{packet_in, is_at, IsNotOfBus, CanAnswer, ReadCut, none_came, one_came, ReadEnds, StatusEnds, ControlIn}
-use Rattle.usb_transaction.proofs.LastOutcomes.{packet_heard, heard_taken, no_packet}
-use Rattle.usb_transaction.proofs.DeviceTrails.{mine, other_twice, at_from, had_address}
-use Rattle.usb_transaction.proofs.DamagedRuns.{not_busy, positive, LostRun, run_none, run_short, damaged_more}
-use Rattle.usb_transaction.proofs.Trails.{second_false, trail_settled, made_unshared}
-use Rattle.usb_transaction.proofs.Answerers.{due_back}
-use Rattle.usb_transaction.proofs.Listeners.{one_wait, listens_on, as_whole}
-use Rattle.usb_world.proofs.Interface.{both, data_calm, decided, equal_same, in_in, is_same as same_is_number, made_is, made_of, made_reach, no, one_answers, other_address, ready_settled, same_equal, same_is, stands, state_stands, stays_reachable_in}
+use Rattle.usb_transaction.specs.Transactions.{packed, in_attempt, out_attempt}
+use Rattle.usb_transaction.specs.Leaves.{packet_in, is_at, IsNotOfBus, CanAnswer, ReadCut, none_came, one_came, ReadEnds, StatusEnds, ControlIn, IsInRead, data_stage as in_stage, over, ReadStatus}
+use Rattle.usb_world.proofs.Interface.{data_back, decided, due_back, equal_same, in_in, made_of, made_unshared, no, one_answers, one_state, same_equal, stands, state_stands, stays_reachable_in}
 
 -- What a device that is asked answers, and what it is then
 
@@ -56,8 +52,8 @@ pub data Gave (u : State) : Outcome → State → Type 0 where
   a_nak : is_busy u ≡ true → Gave u Nak (nak_row u).1
   a_stall : is_busy u ≡ false → u.stage ≡ refused → Gave u Stall u
   a_packet : is_busy u ≡ false → (text bytes : List ℕ) (wanted k n : ℕ) (m : Memory) → u.stage ≡ reading text wanted k
-      → Gave u (Payload (toggle_at k) (packet_of bytes)) (record u { memory = m; stage = reading text wanted n })
-  a_status : is_busy u ≡ false → (a : Option ℕ) (v : State) → u.stage ≡ ending a → StatusGiven a u v → OnlyControl u v → v.naks ≡ u.naks → Gave u (Payload One (packet_of [])) v
+      → Gave u (Payload (toggle_at k) (packed bytes)) (record u { memory = m; stage = reading text wanted n })
+  a_status : is_busy u ≡ false → (a : Option ℕ) (v : State) → u.stage ≡ ending a → StatusGiven a u v → OnlyControl u v → v.naks ≡ u.naks → Gave u (Payload One (packed [])) v
 
 abbrev Gives : ℕ → State → Reply → Type 0
 Gives max u r = Gave u (got max r.0) r.1
@@ -70,11 +66,11 @@ heard_or P o whole x y = x
 heard_or P o broken x y = y
 heard_or P o lost x y = y
 
-gives_packet : (max : ℕ) (toggle : Toggle) (bytes : List ℕ) (u : State) (t2 t3 : Way) → Gave u (Payload toggle (packet_of bytes)) (forgotten (acknowledged u by.Control)) → Gave u (Payload toggle (packet_of bytes)) u
+gives_packet : (max : ℕ) (toggle : Toggle) (bytes : List ℕ) (u : State) (t2 t3 : Way) → Gave u (Payload toggle (packed bytes)) (forgotten (acknowledged u by.Control)) → Gave u (Payload toggle (packed bytes)) u
     → Gives max u (gave u by.Control max toggle bytes t2 t3)
 gives_packet max toggle bytes u whole t3 x y = fits (nat_le (length bytes) max) t3
   where
-    fits : (b : Bool) (t : Way) → Gave u (if b then Payload toggle (packet_of bytes) else Nothing) (if b && is_whole t then forgotten (acknowledged u by.Control) else u)
+    fits : (b : Bool) (t : Way) → Gave u (if b then Payload toggle (packed bytes) else Nothing) (if b && is_whole t then forgotten (acknowledged u by.Control) else u)
     fits true whole = x
     fits true broken = y
     fits true lost = y
@@ -91,7 +87,7 @@ gives_read max s text wanted k t2 t3 free None = gives_none max (at_stage s (rea
 gives_read max s text wanted k t2 t3 free (Some bytes) =
     gives_packet max (toggle_at k) bytes (at_stage s (reading text wanted k)) t2 t3 (acked (is_some (packet_at (max_packet s.spec) wanted text k))) (a_packet free text bytes wanted k k s.memory refl)
   where
-    acked : (b : Bool) → Gave (at_stage s (reading text wanted k)) (Payload (toggle_at k) (packet_of bytes)) (forgotten (if b then at_stage s (reading text wanted (k + 1)) else at_stage s (reading text wanted k)))
+    acked : (b : Bool) → Gave (at_stage s (reading text wanted k)) (Payload (toggle_at k) (packed bytes)) (forgotten (if b then at_stage s (reading text wanted (k + 1)) else at_stage s (reading text wanted k)))
     acked true = a_packet free text bytes wanted k (k + 1) _ refl
     acked false = a_packet free text bytes wanted k k _ refl
 
@@ -211,9 +207,9 @@ module _ (t : Target) (awaited : Toggle) where
     naks = omega (arith, naks);
     there = λ at. inr (loud, not_busy u free);
     reading = λ a text wanted n e r. cc (sym h ∙ r.stage);
-    status = λ at e b g. subst (λ z. StatusOn b u (packet_heard (heard_as z (Payload One (packet_of [])))) x) (sym e) (refl, subst (λ c. StatusGiven c u x) (cc (sym h ∙ g)) given);
+    status = λ at e b g. subst (λ z. StatusOn b u (packet_heard (heard_as z (Payload One (packed [])))) x) (sym e) (refl, subst (λ c. StatusGiven c u x) (cc (sym h ∙ g)) given);
     refuses = λ g. cc (sym h ∙ g);
-    fails = λ e c. absurd (cc (ap (λ z. packet_heard (heard_as z (Payload One (packet_of [])))) (sym e) ∙ c));
+    fails = λ e c. absurd (cc (ap (λ z. packet_heard (heard_as z (Payload One (packed [])))) (sym e) ∙ c));
     back = λ g. elim given [ seen e r ↦ cc (sym e ∙ g) | unseen e r ↦ cc (sym e ∙ g) ];
   }
 
@@ -224,24 +220,24 @@ module _ (t : Target) (awaited : Toggle) where
   gave_says u o v (a_packet free text bytes wanted k n m h) loud = inr (loud, inr (not_busy u free))
   gave_says u o v (a_status free a x h given frame naks) loud = inr (loud, inr (not_busy u free))
 
-  gave_in : (w : World) (j : ℕ) (p : List ℕ) (u v : State) → DidIn (in_attempt t 0) w j p u v → is_at u t ≡ true → Gave u (outcome_in (in_attempt t 0) w) v
-  gave_in w j p u v d at =
-      let x = asked_in t 0 w j p u v d at in
-      rw (x.is, x.gave) (gives_in t.max u x.row x.first x.second x.third)
+  gave_in : (w : World) (j : Spot) (u v : State) → DidIn (in_attempt t 0) w j u v → is_at u t ≡ true → Gave u (outcome_in (in_attempt t 0) w) v
+  gave_in w j u v d at =
+      let x = asked_in t 0 w j u v d at in
+      rw (x.1.is, x.1.gave) (gives_in t.max u x.0 x.1.first x.1.second x.1.third)
 
   -- one attempt; what another device answered is not this one's
-  pub did_step : (w : World) (j : ℕ) (p : List ℕ) (u v : State) → DidIn (in_attempt t 0) w j p u v → Step t awaited (came_in (outcome_in (in_attempt t 0) w)) u v
-  did_step w j p u v (DidIn.other d e) = rw e (kept (came_in (outcome_in (in_attempt t 0) w)) u u.naks (omega arith) (λ a. refl) (λ at. mine t u at d) (λ at. mine t u at d))
-  did_step w j p u v (DidIn.silent d q o e) = rw (o, e) (kept None u u.naks (omega arith) (λ a. refl) (λ at. refl) (λ at text wanted n f r. r))
-  did_step w j p u v (DidIn.asked d q b below stood x o e) =
+  pub did_step : (w : World) (j : Spot) (u v : State) → DidIn (in_attempt t 0) w j u v → Step t awaited (came_in (outcome_in (in_attempt t 0) w)) u v
+  did_step w j u v (DidIn.other d e) = rw e (kept (came_in (outcome_in (in_attempt t 0) w)) u u.naks (omega arith) (λ a. refl) (λ at. mine t u at d) (λ at. mine t u at d))
+  did_step w j u v (DidIn.silent d q o e) = rw (o, e) (kept None u u.naks (omega arith) (λ a. refl) (λ at. refl) (λ at text wanted n f r. r))
+  did_step w j u v (DidIn.asked d q b below stood x o e) =
       let r : Reply = in_law u (row_of below) 0 t.max x.first x.second x.third in
       rw (o, e) (gave_step u (got t.max r.0) r.1 (gives_in t.max u (row_of below) x.first x.second x.third) d q (λ at text wanted n f h.
       subst (λ c. ReadOn text wanted n u c r.1) (ap (λ z. taken_of z t.max r.0) (sym f) ∙ sym (heard_taken awaited t.max r.0)) (control_read text wanted n u h (row_of below) t.max x.first x.second x.third)))
 
-  pub did_says : (w : World) (j : ℕ) (p : List ℕ) (u v : State) → DidIn (in_attempt t 0) w j p u v → is_at u t ≡ true → Says u.spec (heard_as awaited (outcome_in (in_attempt t 0) w))
-  did_says w j p u v (DidIn.other d e) at = mine t u at d
-  did_says w j p u v (DidIn.silent d q o e) at = inl (ap (heard_as awaited) o)
-  did_says w j p u v (DidIn.asked d q b below stood x o e) at = rw o (gave_says u _ _ (gives_in t.max u (row_of below) x.first x.second x.third) q)
+  pub did_says : (w : World) (j : Spot) (u v : State) → DidIn (in_attempt t 0) w j u v → is_at u t ≡ true → Says u.spec (heard_as awaited (outcome_in (in_attempt t 0) w))
+  did_says w j u v (DidIn.other d e) at = mine t u at d
+  did_says w j u v (DidIn.silent d q o e) at = inl (ap (heard_as awaited) o)
+  did_says w j u v (DidIn.asked d q b below stood x o e) at = rw o (gave_says u _ _ (gives_in t.max u (row_of below) x.first x.second x.third) q)
 
   -- and attempts before it that brought nothing
   joined : (came : Option (List ℕ)) (s u v : State) → Step t awaited None s u → Step t awaited came u v → Step t awaited came s v
@@ -262,54 +258,37 @@ module _ (t : Target) (awaited : Toggle) where
 
 -- A STALL is of the one device that had the target's address from the first attempt on
 
--- a place that is reachable after an attempt was so when it was made
-pub made_back : (t : Target) (w : World) → IsMade (in_attempt t 0) w → (j : ℕ) (p : List ℕ) → reach_at (after (attempt (in_attempt t 0)) w).roots j p ≡ true → reach_at (ready w).roots j p ≡ true
-made_back t w m j p on =
-    made_reach (in_attempt t 0) (ready w) (suc j ∷ p) (data_calm (in_attempt t 0) (damage_in (ready w)) (ready w).roots (ready_settled w m.settled) refl j p)
-    (ap (λ x. reach_at x.roots j p) (sym (made_is (in_attempt t 0) w m)) ∙ on)
-
--- so it was when the first was made, and then no address was held twice
+-- each place that is reachable after the attempts was so when the first was made, and then no address was held twice
 begun : (t : Target) {old new : World} {o : Outcome} {outcomes : List Outcome} → IsSettled old.roots → Trail (in_attempt t 0) old (o ∷ outcomes) new → new.shared ≡ false
-    → (is_twice (held (ready old).roots) ≡ false) × ((j : ℕ) (p : List ℕ) → reach_at new.roots j p ≡ true → reach_at (ready old).roots j p ≡ true)
-begun t settled (next w start made) single = ((made_unshared (in_attempt t 0) w made single).single, made_back t w (made_of (in_attempt t 0) w settled made))
+    → (is_twice (held (ready old).roots) ≡ false) × ((j : Spot) → reach_on new.roots j ≡ true → reach_on (ready old).roots j ≡ true)
+begun t settled (next w start made) single = ((made_unshared (in_attempt t 0) w made single).single, data_back (in_attempt t 0) w (made_of (in_attempt t 0) w settled made) refl)
 begun t settled (next w (next x r before) made) single =
     let b = begun t settled (next x r before) (made_unshared (in_attempt t 0) w made single).before in
-    (b.0, λ j p on. b.1 j p (due_back w j p (made_back t w (made_of (in_attempt t 0) w (trail_settled (next x r before) settled) made) j p on)).0)
+    (b.0, λ j on. b.1 j (due_back w j (data_back (in_attempt t 0) w (made_of (in_attempt t 0) w (trail_settled (next x r before) settled) made) refl j on)).0)
 
 gave_stall : (u : State) (o : Outcome) (v : State) → Gave u o v → o ≡ Stall → u.stage ≡ refused
-gave_stall u o v (silence k few) e = cc e
-gave_stall u o v (a_nak busy) e = cc e
 gave_stall u o v (a_stall free h) e = h
-gave_stall u o v (a_packet free text bytes wanted k n m h) e = cc e
-gave_stall u o v (a_status free a x h given frame naks) e = cc e
+gave_stall u o v g e = cc e
 
-refused_back : (t : Target) {old : World} {j : ℕ} {p : List ℕ} {s : State} {outcomes : List Outcome} {w : World} {v : State} → Run (DidIn (in_attempt t 0)) (in_attempt t 0) old j p s outcomes w v → (is_at v t ≡ true) × (v.stage ≡ refused)
+refused_back : (t : Target) {old : World} {j : Spot} {s : State} {outcomes : List Outcome} {w : World} {v : State} → Run (DidIn (in_attempt t 0)) (in_attempt t 0) old j s outcomes w v → (is_at v t ≡ true) × (v.stage ≡ refused)
     → (is_at s t ≡ true) × (s.stage ≡ refused)
 refused_back t Run.none h = h
-refused_back t {j = j} {p = p} (Run.more w u v r made run d) h = refused_back t run (had_address t u v (did_step t Zero w j p u v d).others h.0, (did_step t Zero w j p u v d).back h.1)
-
-same_device : (n : ℕ) (k : Ports) (i j : ℕ) (e p : List ℕ) (u s : State) → is_twice (held k) ≡ false → reach_at k i e ≡ true → state_at k i e ≡ Some u → address_of u ≡ n → reach_at k j p ≡ true → state_at k j p ≡ Some s → address_of s ≡ n → s ≡ u
-same_device n k i j e p u s single on there at on2 there2 at2 = pick (decided (same_number j i && same_path p e))
-  where
-    pick : ((same_number j i && same_path p e) ≡ true) ⊎ ((same_number j i && same_path p e) ≡ false) → s ≡ u
-    pick (inl y) = let x : _ = both (same_number j i) (same_path p e) y in cc (same_is_number j i x.0, same_is p e x.1)
-    pick (inr y) =
-        no (sym (other_address n k i e (record { single = single; on = on; at = ap (option_map address_of) there ∙ ap (λ x. Some x) at }) j p s y there2 on2) ∙ same_equal n (address_of s) (sym at2))
+refused_back t {j = j} (Run.more w u v r made run d) h = refused_back t run (had_address t u v (did_step t Zero w j u v d).others h.0, (did_step t Zero w j u v d).back h.1)
 
 pub stalled_refused : (t : Target) {old new : World} {o : Outcome} {outcomes : List Outcome} → IsSettled old.roots → Trail (in_attempt t 0) old (o ∷ outcomes) new → o ≡ Stall → new.shared ≡ false
-    → (j : ℕ) (p : List ℕ) (s : State) → reach_at new.roots j p ≡ true → state_at old.roots j p ≡ Some s → is_at s t ≡ true → s.stage ≡ refused
-stalled_refused t {old} settled (next {outcomes} w r made) stall single j p s on there at =
+    → (j : Spot) (s : State) → reach_on new.roots j ≡ true → state_on old.roots j ≡ Some s → is_at s t ≡ true → s.stage ≡ refused
+stalled_refused t {old} settled (next {outcomes} w r made) stall single j s on there at =
     let y : AttemptAnswerer (in_attempt t 0) w = one_answers (in_attempt t 0) w (made_of (in_attempt t 0) w (trail_settled r settled) made) single (λ n. cc (sym stall ∙ n)) in
-    let h = y.held in
-    let x = in_in (in_attempt t 0) w h.j h.p h.b h.s h.below h.holder y.loud (record { kind = refl; payload = refl }) in
-    let back : _ = due_back w h.j h.p h.holder.on in
-    let was : Was (λ j p s v. Run (DidIn (in_attempt t 0)) (in_attempt t 0) old j p s outcomes w v) old h.j h.p h.s =
-    over_in_trail t 0 old w settled (made_unshared (in_attempt t 0) w made single).before r h.j h.p h.s back.0 (sym back.1 ∙ sym (state_stands (ready w).roots h.j h.p) ∙ ap stands h.holder.stands) tt in
-    let refuses : _ = refused_back t was.so (same_equal (address_of h.s) t.addr h.holder.at, gave_stall h.s _ _ (gives_in t.max h.s (row_of h.below) _ _ _) (sym x.outcome ∙ stall)) in
+    let h = y.holder in
+    let x = in_in (in_attempt t 0) w h y.loud (record { kind = refl; payload = refl }) in
+    let back : _ = due_back w h.spot h.on in
+    let was : Was (λ j s v. Run (DidIn (in_attempt t 0)) (in_attempt t 0) old j s outcomes w v) old h.spot h.own =
+    over_in_trail t 0 old w settled (made_unshared (in_attempt t 0) w made single).before r h.spot h.own back.0 (sym back.1 ∙ sym (state_stands (ready w).roots h.spot.row h.spot.rest) ∙ ap stands h.stands) tt in
+    let refuses : _ = refused_back t was.so (same_equal (address_of h.own) t.addr h.at, gave_stall h.own _ _ (gives_in t.max h.own (row_of h.below) _ _ _) (sym x.outcome ∙ stall)) in
     let b = begun t settled (next w r made) single in
-    let far : _ = b.1 h.j h.p (stays_reachable_in (in_attempt t 0) w h.j h.p h.b h.s h.below h.holder) in
-    ap (λ z. z.stage) (same_device t.addr (ready old).roots h.j j h.p p was.before s b.0 far ((due_back old h.j h.p far).1 ∙ was.stands) (equal_same (address_of was.before) t.addr refuses.0)
-    (b.1 j p on) ((due_back old j p (b.1 j p on)).1 ∙ there) (equal_same (address_of s) t.addr at)) ∙ refuses.1
+    let far : _ = b.1 h.spot (stays_reachable_in (in_attempt t 0) w h) in
+    ap (λ z. z.stage) (one_state t.addr (ready old).roots h.spot.row j.row h.spot.rest j.rest was.before s b.0 far ((due_back old h.spot far).1 ∙ was.stands) (equal_same (address_of was.before) t.addr refuses.0)
+    (b.1 j on) ((due_back old j (b.1 j on)).1 ∙ there) (equal_same (address_of s) t.addr at)) ∙ refuses.1
 
 -- A transaction
 
@@ -323,13 +302,6 @@ came_by awaited P F some nil cut (Err Busy) o outcomes e x = (nil (subst P (no_p
 came_by awaited P F some nil cut (Err NoAnswer) o outcomes e x = (nil (subst P (no_packet (heard_as awaited o) e.0) x)).2
 came_by awaited P F some nil cut (Err (Bus fault)) o outcomes e x = cut fault (packet_heard (heard_as awaited o)) x
 
-of_bus : (F : Result (List ℕ) TransFault → Type 0) → ((fault : BusFault) → F (Err (Bus fault))) → (result : Result (List ℕ) TransFault) → IsOfBus result → F result
-of_bus F f (Ok bytes) n = absurd (n tt)
-of_bus F f (Err Stalled) n = absurd (n tt)
-of_bus F f (Err Busy) n = absurd (n tt)
-of_bus F f (Err NoAnswer) n = absurd (n tt)
-of_bus F f (Err (Bus fault)) n = f fault
-
 cut_read : (text : List ℕ) (wanted n : ℕ) (s v : State) (o : Option (List ℕ)) → ReadOn text wanted n s o v → ReadCut text wanted n v
 cut_read text wanted n s v None x = none_came x
 cut_read text wanted n s v (Some bytes) x = one_came x.1
@@ -338,8 +310,8 @@ cut_status : (a : Option ℕ) (s v : State) (o : Option (List ℕ)) → StatusOn
 cut_status a s v None x = unseen x.0 x.1
 cut_status a s v (Some bytes) x = x.1
 
-module _ (t : Target) (awaited : Toggle) (result : Result (List ℕ) TransFault) (j : ℕ) (p : List ℕ) (s v : State) (stalled : is_at s t ≡ true → result ≡ Err Stalled → s.stage ≡ refused) where
-  leaves : (o : Outcome) (outcomes : List Outcome) → IsEnd (heard_as awaited) result o outcomes → Step t awaited (came_in t awaited o) s v → (is_at s t ≡ true → CanAnswer s.spec result) → ControlIn t awaited result j p s v
+module _ (t : Target) (awaited : Toggle) (result : Result (List ℕ) TransFault) (j : Spot) (s v : State) (stalled : is_at s t ≡ true → result ≡ Err Stalled → s.stage ≡ refused) where
+  leaves : (o : Outcome) (outcomes : List Outcome) → IsEnd (heard_as awaited) result o outcomes → Step t awaited (came_in t awaited o) s v → (is_at s t ≡ true → CanAnswer s.spec result) → ControlIn t awaited result j s v
   leaves o outcomes e x could =
       let same : IsNotOfBus result → came_in t awaited o ≡ packet_in result = came_by awaited (λ c. came_in t awaited o ≡ c) (λ y. IsNotOfBus y → came_in t awaited o ≡ packet_in y) (λ b z n. z) (λ z. (λ n. z, λ n. z, λ n. z)) (λ f c z n. absurd n)
       result o outcomes e refl in
@@ -357,25 +329,25 @@ module _ (t : Target) (awaited : Toggle) (result : Result (List ℕ) TransFault)
         naks = x.naks;
       }
 
-  control_in : (old new : World) → Through (DidIn (in_attempt t 0)) (in_attempt t 0) (heard_as awaited) (IsEnd (heard_as awaited) result) (IsOfBus result) old new j p s v → ControlIn t awaited result j p s v
+  control_in : (old new : World) → Through (DidIn (in_attempt t 0)) (in_attempt t 0) (heard_as awaited) (IsEnd (heard_as awaited) result) (IsOfBus result) old new j s v → ControlIn t awaited result j s v
   unfolding waits_in
   control_in old new run =
       at_end (heard_as awaited) (λ outcomes w u. Step t awaited None s u × (is_at s t ≡ true → (waits_in (heard_as awaited) outcomes ≡ 0) ⊎ (s.spec.silent ≡ false))) (unmoved t awaited s, λ at. inl none_waited)
       (λ outcomes w u y trail made i d n. (
-        joined t awaited None s u y i.0 (subst (λ c. Step t awaited c u y) (no_packet (heard_as awaited (outcome_in (in_attempt t 0) w)) n) (did_step t awaited w j p u y d)),
+        joined t awaited None s u y i.0 (subst (λ c. Step t awaited c u y) (no_packet (heard_as awaited (outcome_in (in_attempt t 0) w)) n) (did_step t awaited w j u y d)),
         λ at. waits_more s.spec (heard_as awaited) (outcome_in (in_attempt t 0) w) outcomes (said w u y i.0 d at) (i.1 at),
       ))
-      (ControlIn t awaited result j p s) v
-      (λ outcomes w u trail i d is told. leaves (outcome_in (in_attempt t 0) w) outcomes is (joined t awaited (came_in t awaited (outcome_in (in_attempt t 0) w)) s u v i.0 (did_step t awaited w j p u v d))
+      (ControlIn t awaited result j s) v
+      (λ outcomes w u trail i d is told. leaves (outcome_in (in_attempt t 0) w) outcomes is (joined t awaited (came_in t awaited (outcome_in (in_attempt t 0) w)) s u v i.0 (did_step t awaited w j u v d))
       (λ at. can_answer s.spec (heard_as awaited) refl result (outcome_in (in_attempt t 0) w) outcomes is (said w u v i.0 d at) (waits_more s.spec (heard_as awaited) (outcome_in (in_attempt t 0) w) outcomes (said w u v i.0 d at) (i.1 at))))
       (λ gave outcomes w i. leaves Nothing outcomes (of_bus (λ r. IsEnd (heard_as awaited) r Nothing outcomes) (λ f. tt) result gave) i.0 (λ at. of_bus (λ r. CanAnswer s.spec r) (λ f. tt) result gave)) run
     where
       none_waited : waits_in (heard_as awaited) [] ≡ 0
       none_waited = refl
 
-      said : (w : World) (u y : State) → Step t awaited None s u → DidIn (in_attempt t 0) w j p u y → is_at s t ≡ true → Says s.spec (heard_as awaited (outcome_in (in_attempt t 0) w))
+      said : (w : World) (u y : State) → Step t awaited None s u → DidIn (in_attempt t 0) w j u y → is_at s t ≡ true → Says s.spec (heard_as awaited (outcome_in (in_attempt t 0) w))
       said w u y x d at = elim (x.there at) [
-        | inl e ↦ subst (λ z. Says z (heard_as awaited (outcome_in (in_attempt t 0) w))) (ap (λ z. z.spec) x.frame) (did_says t awaited w j p u y d (at_from t s u e at))
+        | inl e ↦ subst (λ z. Says z (heard_as awaited (outcome_in (in_attempt t 0) w))) (ap (λ z. z.spec) x.frame) (did_says t awaited w j u y d (at_from t s u e at))
         | inr free ↦ inr (free.0, inr free.1)
       ]
 
@@ -403,7 +375,7 @@ heeds_read : (t : Target) (awaited : Toggle) (u : State) (text : List ℕ) (want
 heeds_read t awaited u text wanted k short near None packet some = cc some
 heeds_read t awaited u text wanted k short near (Some bytes) packet some =
     rw (within (length bytes) t.max (short k bytes packet), ap is_some packet) (
-      heard_some (is_same awaited (toggle_at k)) (packet_of bytes),
+      heard_some (is_same awaited (toggle_at k)) (packed bytes),
       λ free miss. elim near [
         | inl e ↦ no (sym miss ∙ rw e (itself (toggle_at k)))
         | inr e ↦ rw e (itself (toggle_at (k + 1)))
@@ -434,38 +406,38 @@ steady awaited u o v (silence k few) q calm end = (refl, λ n. omega (arith, few
 steady awaited u o v (a_nak busy) q calm end = (refl, λ n. omega (arith, positive u busy calm))
 steady awaited u o v (a_stall free h) q calm end = absurd end
 steady awaited u o v (a_packet free text bytes wanted k n m h) (inl busy) calm end = no (sym free ∙ busy)
-steady awaited u o v (a_packet free text bytes wanted k n m h) (inr fit) calm end = absurd (subst (λ x. IsNoEnd (if x then Moved (packet_of bytes) else Repeat)) (ap (fits awaited) (sym h) ∙ fit) end)
+steady awaited u o v (a_packet free text bytes wanted k n m h) (inr fit) calm end = absurd (subst (λ x. IsNoEnd (if x then Moved (packed bytes) else Repeat)) (ap (fits awaited) (sym h) ∙ fit) end)
 steady awaited u o v (a_status free a x h given frame naks) (inl busy) calm end = no (sym free ∙ busy)
-steady awaited u o v (a_status free a x h given frame naks) (inr fit) calm end = absurd (subst (λ x. IsNoEnd (if x then Moved (packet_of []) else Repeat)) (ap (fits awaited) (sym h) ∙ fit) end)
+steady awaited u o v (a_status free a x h given frame naks) (inr fit) calm end = absurd (subst (λ x. IsNoEnd (if x then Moved (packed []) else Repeat)) (ap (fits awaited) (sym h) ∙ fit) end)
 
 none_left : (u : State) → is_busy u ≡ false → u.naks ≡ 0
-none_left u free = grind (arith, nat_tests, second_false u.spec.busy (nat_lt 0 u.naks) free)
+none_left u free = grind (arith, nat_tests)
 
 -- what is next is so until it comes
-next_kept : (t : Target) (awaited : Toggle) (p : List ℕ) (u v : State) → Step t awaited None u v → Listens t p u → HasNext t awaited u → Listens t p v × HasNext t awaited v
-next_kept t awaited p u v x l (data_stage text wanted n e r some short) =
+next_kept : (t : Target) (awaited : Toggle) (place : Spot) (u v : State) → Step t awaited None u v → Listens t place u → HasNext t awaited u → Listens t place v × HasNext t awaited v
+next_kept t awaited place u v x l (data_stage text wanted n e r some short) =
     let q = x.reading l.at text wanted n e r in
     let spec : v.spec ≡ u.spec = ap (λ z. z.spec) x.frame in
-    (listens_on t p u v spec q.1 l, data_stage text wanted n e q.0 (rw spec some) (rw spec short))
-next_kept t awaited p u v x l (status a h e) = let q = x.status l.at e a h in (listens_on t p u v (ap (λ z. z.spec) x.frame) q.1 l, status a q.0 e)
-next_kept t awaited p u v x l (refusal h) = let q = x.refuses h in (listens_on t p u v (ap (λ z. z.spec) x.frame) q.1 l, refusal q.0)
+    (listens_on t place u v spec q.1 l, data_stage text wanted n e q.0 (rw spec some) (rw spec short))
+next_kept t awaited place u v x l (status a h e) = let q = x.status l.at e a h in (listens_on t place u v (ap (λ z. z.spec) x.frame) q.1 l, status a q.0 e)
+next_kept t awaited place u v x l (refusal h) = let q = x.refuses h in (listens_on t place u v (ap (λ z. z.spec) x.frame) q.1 l, refusal q.0)
 
 -- A device that has what is next, over attempts that go on: it waits no longer than it has NAKs, but for repeats, which come no more after an attempt that is not damaged
 
-module _ (t : Target) (awaited : Toggle) (old : World) (never : NoThreeDamaged old) (j : ℕ) (p : List ℕ) (s : State) where
+module _ (t : Target) (awaited : Toggle) (old : World) (never : NoThreeDamaged old) (j : Spot) (s : State) where
   abbrev a : Attempt
   a = in_attempt t 0
 
   abbrev hear : Outcome → Heard
   hear = heard_as awaited
 
-  heeds_in : (w : World) (u v : State) → DidIn a w j p u v → Listens t p u × HasNext t awaited u → damage_in w ≡ None → (hear (outcome_in a w) ≢ Lost) × (is_busy u ≡ false → fits awaited u.stage ≡ false → fits awaited v.stage ≡ true)
+  heeds_in : (w : World) (u v : State) → DidIn a w j u v → Listens t j u × HasNext t awaited u → damage_in w ≡ None → (hear (outcome_in a w) ≢ Lost) × (is_busy u ≡ false → fits awaited u.stage ≡ false → fits awaited v.stage ≡ true)
   heeds_in w u v d i sound =
-      let x = asked_in t 0 w j p u v d i.0.at in
-      rw (x.is, x.gave) (subst (Heeds t awaited u) (sym (as_whole (λ b c e. in_law u x.row 0 t.max b c e) x.first x.second x.third (x.heard sound i.0))) (heeds_whole t awaited u x.row i.1))
+      let x = asked_in t 0 w j u v d i.0.at in
+      rw (x.1.is, x.1.gave) (subst (Heeds t awaited u) (sym (as_whole x.1 sound i.0 (in_law u x.0 0 t.max))) (heeds_whole t awaited u x.0 i.1))
 
-  stays : (w : World) (u v : State) → DidIn a w j p u v → IsNoEnd (hear (outcome_in a w)) → Listens t p u × HasNext t awaited u → Listens t p v × HasNext t awaited v
-  stays w u v d n i = next_kept t awaited p u v (subst (λ c. Step t awaited c u v) (no_packet (hear (outcome_in a w)) n) (did_step t awaited w j p u v d)) i.0 i.1
+  stays : (w : World) (u v : State) → DidIn a w j u v → IsNoEnd (hear (outcome_in a w)) → Listens t j u × HasNext t awaited u → Listens t j v × HasNext t awaited v
+  stays w u v d n i = next_kept t awaited j u v (subst (λ c. Step t awaited c u v) (no_packet (hear (outcome_in a w)) n) (did_step t awaited w j u v d)) i.0 i.1
 
   record Waits (outcomes : List Outcome) (w : World) (u : State) : Type 0 where
     few : waits_in hear outcomes + u.naks ≤ s.naks + 3
@@ -475,13 +447,13 @@ module _ (t : Target) (awaited : Toggle) (old : World) (never : NoThreeDamaged o
   unfolding waits_in
   waits_none = record { few = omega arith; behind = λ miss. (0, run_none old.damages old.attempts, omega arith, λ pos. omega arith) }
 
-  one_more : (outcomes : List Outcome) (w : World) (u v : State) → Trail a old outcomes w → Made w (after (attempt a) w) → Listens t p u × HasNext t awaited u → u.spec.busy ≡ false → Waits outcomes w u → DidIn a w j p u v
+  one_more : (outcomes : List Outcome) (w : World) (u v : State) → Trail a old outcomes w → Made w (after (attempt a) w) → Listens t j u × HasNext t awaited u → u.spec.busy ≡ false → Waits outcomes w u → DidIn a w j u v
       → IsNoEnd (hear (outcome_in a w)) → Waits (outcome_in a w ∷ outcomes) (after (attempt a) w) v
   unfolding waits_in
   one_more outcomes w u v trail made i calm x d n = pick (decided (is_busy u)) (decided (fits awaited u.stage))
     where
       goes : (is_busy u ≡ true) ⊎ (fits awaited u.stage ≡ true) → (v.stage ≡ u.stage) × ((n : ℕ) → waits_with (hear (outcome_in a w)) n + v.naks ≤ n + u.naks)
-      goes q = steady awaited u (outcome_in a w) v (gave_in t awaited w j p u v d i.0.at) q calm n
+      goes q = steady awaited u (outcome_in a w) v (gave_in t awaited w j u v d i.0.at) q calm n
 
       pick : (is_busy u ≡ true) ⊎ (is_busy u ≡ false) → (fits awaited u.stage ≡ true) ⊎ (fits awaited u.stage ≡ false) → Waits (outcome_in a w ∷ outcomes) (after (attempt a) w) v
       pick (inl busy) y =
@@ -498,12 +470,12 @@ module _ (t : Target) (awaited : Toggle) (old : World) (never : NoThreeDamaged o
       pick (inr free) (inr miss) =
           let q = x.behind miss in
           let more : _ = one_wait (hear (outcome_in a w)) (waits_in hear outcomes) in
-          let left : v.naks ≤ u.naks = (did_step t awaited w j p u v d).naks in
+          let left : v.naks ≤ u.naks = (did_step t awaited w j u v d).naks in
           record {
             few = omega (arith, more, left, q.2, run_short old q.0 w.attempts never q.1);
             behind = λ still. (
               q.0 + 1,
-              damaged_more q.0 trail made (λ sound. no (sym still ∙ (heeds_in w u v d i sound).1 free miss)) q.1,
+              damaged_more trail made q.0 (λ sound. no (sym still ∙ (heeds_in w u v d i sound).1 free miss)) q.1,
               omega (arith, more, left, q.2),
               λ pos. absurd (omega (arith, pos, left, none_left u free)),
             );
@@ -513,48 +485,240 @@ module _ (t : Target) (awaited : Toggle) (old : World) (never : NoThreeDamaged o
   too_many outcomes w u v x full few = omega (arith, x.few, full, few)
 
   -- where it does not answer, or waits too long
-  why : (result : Result (List ℕ) TransFault) (new : World) (v : State) → Through (DidIn a) a hear (IsEnd hear result) (IsOfBus result) old new j p s v → WhyControlIn t awaited result j p s v
+  why : (result : Result (List ℕ) TransFault) (new : World) (v : State) → Through (DidIn a) a hear (IsEnd hear result) (IsOfBus result) old new j s v → WhyControlIn t awaited result j s v
   why result new v run = record {
-    answered = λ l h silent. heeded (λ u. Listens t p u × HasNext t awaited u) stays (l, h) never (λ w u y d i sound. (heeds_in w u y d i sound).0) (ending (Err NoAnswer) silent);
+    answered = λ l h silent. heeded (λ u. Listens t j u × HasNext t awaited u) stays (l, h) never (λ w u y d i sound. (heeds_in w u y d i sound).0) (ending (Err NoAnswer) silent);
     waited = λ l h calm few busy.
-        at_end hear (λ outcomes w u. (Listens t p u × HasNext t awaited u) × (u.spec.busy ≡ false) × Waits outcomes w u) ((l, h), calm, waits_none)
-        (λ outcomes w u y trail made i d n. (stays w u y d n i.0, ap (λ z. z.spec.busy) (did_step t awaited w j p u y d).frame ∙ i.1, one_more outcomes w u y trail made i.0 i.1 i.2 d n)) (λ y. ⊥) v
+        at_end hear (λ outcomes w u. (Listens t j u × HasNext t awaited u) × (u.spec.busy ≡ false) × Waits outcomes w u) ((l, h), calm, waits_none)
+        (λ outcomes w u y trail made i d n. (stays w u y d n i.0, ap (λ z. z.spec.busy) (did_step t awaited w j u y d).frame ∙ i.1, one_more outcomes w u y trail made i.0 i.1 i.2 d n)) (λ y. ⊥) v
         (λ outcomes w u trail i d end told. too_many outcomes w u v (one_more outcomes w u v trail (told (λ g. g tt)).0 i.0 i.1 i.2 d end.0) end.1 few) (λ gave outcomes w i. gave tt) (ending (Err Busy) busy);
   }
     where
-      ending : (r : Result (List ℕ) TransFault) → result ≡ r → Through (DidIn a) a hear (IsEnd hear r) (IsOfBus r) old new j p s v
-      ending r e = subst (λ y. Through (DidIn a) a hear (IsEnd hear y) (IsOfBus y) old new j p s v) e run
+      ending : (r : Result (List ℕ) TransFault) → result ≡ r → Through (DidIn a) a hear (IsEnd hear r) (IsOfBus r) old new j s v
+      ending r e = subst (λ y. Through (DidIn a) a hear (IsEnd hear y) (IsOfBus y) old new j s v) e run
 
 -- Each device
 
-transacted_of : {hear : Outcome → Heard} {a : Attempt} {old new : World} (result : Result (List ℕ) TransFault) → Ended hear a old result new → Transacted hear a old result new
-transacted_of (Ok bytes) e = e
-transacted_of (Err Stalled) e = e
-transacted_of (Err Busy) e = e
-transacted_of (Err NoAnswer) e = e
-transacted_of (Err (Bus fault)) e = elim e.tells [ ]
-
 pub control_leaves : (t : Target) (awaited : Toggle) (result : Result (List ℕ) TransFault) (old new : World) → IsSettled old.roots
     → Transacted (heard_as awaited) (in_attempt t 0) old result new → new.shared ≡ false → EachWas (ControlIn t awaited result) old new
-control_leaves t awaited result old new settled x single j p v on there =
-    let was : Was (λ j p s v. Through (DidIn (in_attempt t 0)) (in_attempt t 0) (heard_as awaited) (IsEnd (heard_as awaited) result) (IsOfBus result) old new j p s v) old j p v =
-    over_in t 0 old new settled single (heard_as awaited) result x j p v on there tt in
+control_leaves t awaited result old new settled x single j v on there =
+    let was : Was (λ j s v. Through (DidIn (in_attempt t 0)) (in_attempt t 0) (heard_as awaited) (IsEnd (heard_as awaited) result) (IsOfBus result) old new j s v) old j v =
+    over_in t 0 old new settled single (heard_as awaited) result x j v on there tt in
     record {
       before = was.before;
       on = was.on;
       stands = was.stands;
-      so = control_in t awaited result j p was.before v (λ at e. stalled (subst (λ r. Transacted (heard_as awaited) (in_attempt t 0) old r new) e x) was.before was.stands at) old new was.so;
+      so = control_in t awaited result j was.before v (λ at e. stalled (subst (λ r. Transacted (heard_as awaited) (in_attempt t 0) old r new) e x) was.before was.stands at) old new was.so;
     }
   where
-    stalled : Ended (heard_as awaited) (in_attempt t 0) old (Err Stalled) new → (s : State) → state_at old.roots j p ≡ Some s → is_at s t ≡ true → s.stage ≡ refused
-    stalled e s stood at = stalled_refused t settled e.trail e.tells single j p s on stood at
+    stalled : Ended (heard_as awaited) (in_attempt t 0) old (Err Stalled) new → (s : State) → state_on old.roots j ≡ Some s → is_at s t ≡ true → s.stage ≡ refused
+    stalled e s stood at = stalled_refused t settled e.trail e.tells single j s on stood at
 
 pub control_in_leaves : (t : Target) (awaited : Toggle) (result : Result (List ℕ) TransFault) (old new : World) → IsSettled old.roots
     → Ended (heard_as awaited) (in_attempt t 0) old result new → new.shared ≡ false → EachWas (ControlIn t awaited result) old new
-control_in_leaves t awaited result old new settled e = control_leaves t awaited result old new settled (transacted_of result e)
+control_in_leaves t awaited result old new settled e = control_leaves t awaited result old new settled (as_transacted result e)
 
 pub control_in_why : (t : Target) (awaited : Toggle) (result : Result (List ℕ) TransFault) (old new : World) → IsSettled old.roots → NoThreeDamaged old
     → Ended (heard_as awaited) (in_attempt t 0) old result new → new.shared ≡ false → EachWas (WhyControlIn t awaited result) old new
 control_in_why t awaited result old new settled never e single =
-    each_device (λ j p s v. Through (DidIn (in_attempt t 0)) (in_attempt t 0) (heard_as awaited) (IsEnd (heard_as awaited) result) (IsOfBus result) old new j p s v) (WhyControlIn t awaited result) old new
-    (λ j p s v run. why t awaited old never j p s result new v run) (over_in t 0 old new settled single (heard_as awaited) result (transacted_of result e))
+    each_device (λ j s v. Through (DidIn (in_attempt t 0)) (in_attempt t 0) (heard_as awaited) (IsEnd (heard_as awaited) result) (IsOfBus result) old new j s v) (WhyControlIn t awaited result) old new
+    (λ j s v run. why t awaited old never j s result new v run) (over_in t 0 old new settled single (heard_as awaited) result (as_transacted result e))
+
+-- OUT that ends a control read: one attempt with one device
+
+-- the stage stays, or a control read is over with it
+abbrev Moves : State → State → Type 0
+Moves s v = (v.stage ≡ s.stage) ⊎ (IsRead v × IsInRead s)
+
+record Kept (s v : State) : Type 0 where
+  frame : OnlyStage s v
+  moves : Moves s v
+  naks : v.naks ≤ s.naks
+
+-- what an outcome says of the device that was so before the attempt and is so after it
+abbrev SaysOut : Spec → State → State → Outcome → Type 0
+SaysOut spec s v (Payload given bytes) = ⊥
+SaysOut spec s v Ack = (spec.silent ≡ false) × (spec.busy ≡ false) × IsRead v × IsInRead s
+SaysOut spec s v Nak = (spec.silent ≡ false) × (spec.busy ≡ false → v.naks + 1 ≤ s.naks)
+SaysOut spec s v Stall = (spec.silent ≡ false) × (spec.busy ≡ false) × (s.stage ≡ refused)
+SaysOut spec s v Nothing = Unit {0}
+
+abbrev Does : State → Outcome → State → Type 0
+Does s o v = Kept s v × SaysOut s.spec s v o
+
+unmoved_out : (s : State) (m : Memory) (o : Outcome) → SaysOut s.spec s (record s { memory = m }) o → Does s o (record s { memory = m })
+unmoved_out s m o x = (record { frame = refl; moves = inl refl; naks = omega arith }, x)
+
+module _ (max : ℕ) (s : State) (loud : s.spec.silent ≡ false) where
+  done : s.spec.busy ≡ false → IsInRead s → Does s Ack (forgotten (record s { stage = read }))
+  done calm h = (record { frame = refl; moves = inr (refl, h); naks = omega arith }, (loud, calm, refl, h))
+
+  row_does : (g : Stage) → s.stage ≡ g → s.spec.busy ≡ false → Does s (got max (out_row s g One []).0) (forgotten (out_row s g One []).1)
+  row_does idle e calm = unmoved_out s _ Nothing tt
+  row_does refused e calm = unmoved_out s _ Stall (loud, calm, e)
+  row_does (reading answer wanted k) e calm = done calm (in_stage answer wanted k e)
+  row_does read e calm = done calm (over e)
+  row_does (ending a) e calm = unmoved_out s _ Nothing tt
+
+  abbrev row_if : Bool → Reply
+  row_if b = if b then nak_row s else out_row s s.stage One []
+
+  busy_does : (b : Bool) → is_busy s ≡ b → Does s (got max (row_if b).0) (forgotten (row_if b).1)
+  busy_does true e = (record { frame = refl; moves = inl refl; naks = omega arith }, (loud, λ calm. omega (arith, positive s e calm)))
+  busy_does false e = row_does s.stage refl (not_busy s e)
+
+  abbrev GivesOut : Reply → Type 0
+  GivesOut r = Does s (got max r.0) r.1
+
+  law_does : (x y z : Way) → GivesOut (out_law s 0 One [] x y z)
+  law_does x y z =
+      let r : Reply = row_if (is_busy s) in
+      elim (is_whole x && is_whole y) as (λ b. GivesOut (if b then (heard z r.0, forgotten r.1) else (None, s))) [
+        | true ↦ elim (is_whole z) as (λ b. GivesOut (if b then r.0 else None, forgotten r.1)) [ true ↦ busy_does (is_busy s) refl | false ↦ ((busy_does (is_busy s) refl).0, tt) ]
+        | false ↦ unmoved_out s s.memory Nothing tt
+      ]
+
+did : (t : Target) (w : World) (j : Spot) (s v : State) → DidOut (out_attempt t 0 One []) One [] w j s v → is_at s t ≡ true → Does s (outcome_in (out_attempt t 0 One []) w) v
+did t w j s v (DidOut.other d e) at = no (sym d ∙ at)
+did t w j s v (DidOut.silent d q o e) at = rw (o, e) (unmoved_out s s.memory Nothing tt)
+did t w j s v (DidOut.asked d q x o e) at = rw (o, e) (law_does t.max s q x.first x.second x.third)
+
+-- one that comes whole is answered
+answers : (max : ℕ) (s : State) (b : Bool) → IsInRead s → heard_when_sent (got max (if b then nak_row s else out_row s s.stage One []).0) ≢ Lost
+answers max s true h e = cc e
+answers max s false (in_stage answer wanted known h) e = cc (sym (ap (λ g. heard_when_sent (got max (out_row s g One []).0)) h) ∙ e)
+answers max s false (over h) e = cc (sym (ap (λ g. heard_when_sent (got max (out_row s g One []).0)) h) ∙ e)
+
+heeds : (t : Target) (w : World) (j : Spot) (s v : State) → DidOut (out_attempt t 0 One []) One [] w j s v → Listens t j s → IsInRead s → damage_in w ≡ None
+    → heard_when_sent (outcome_in (out_attempt t 0 One []) w) ≢ Lost
+heeds t w j s v d l h quiet e =
+    let q : _ = asked_out t 0 One [] w j s v d l.at in
+    answers t.max s (is_busy s) h (sym (ap (λ r. heard_when_sent (got t.max r.0)) (as_whole q quiet l (out_law s 0 One []))) ∙ sym (ap heard_when_sent q.gave) ∙ e)
+
+-- A device over the attempts
+
+-- one that stands where another stands is in a control read if the other is
+as_other : (s u : State) → u.stage ≡ s.stage → IsInRead u → IsInRead s
+as_other s u e (in_stage answer wanted known h) = in_stage answer wanted known (sym e ∙ h)
+as_other s u e (over h) = over (sym e ∙ h)
+
+was_in : (s u : State) → Moves s u → IsInRead u → IsInRead s
+was_in s u (inl e) h = as_other s u e h
+was_in s u (inr x) h = x.1
+
+still_in : (s u : State) → Moves s u → IsInRead s → IsInRead u
+still_in s u (inl e) h = as_other u s (sym e) h
+still_in s u (inr x) h = over x.0
+
+moves_twice : (s u v : State) → Moves s u → Moves u v → Moves s v
+moves_twice s u v m (inl e) = subst (λ g. (g ≡ s.stage) ⊎ ((g ≡ read) × IsInRead s)) (sym e) m
+moves_twice s u v m (inr x) = inr (x.0, was_in s u m x.1)
+
+only_moved : (s v : State) → Moves s v → (v.stage ≡ s.stage) ⊎ IsRead v
+only_moved s v (inl e) = inl e
+only_moved s v (inr x) = inr x.0
+
+kept_twice : (s u v : State) → Kept s u → Kept u v → Kept s v
+kept_twice s u v x y = record {
+  frame = y.frame ∙ ap {A = State} (λ z. record z { memory = v.memory; naks = v.naks; stage = v.stage }) x.frame;
+  moves = moves_twice s u v x.moves y.moves;
+  naks = omega (arith, x.naks, y.naks);
+}
+
+kept_none : (s : State) → Kept s s
+kept_none s = (unmoved_out s s.memory Nothing tt).0
+
+onward : (t : Target) (s : State) → is_at s t ≡ true → (w : World) (j : Spot) (u v : State) → DidOut (out_attempt t 0 One []) One [] w j u v → Kept s u
+    → Kept s v × SaysOut s.spec u v (outcome_in (out_attempt t 0 One []) w)
+onward t s at w j u v d k =
+    let x : Does u (outcome_in (out_attempt t 0 One []) w) v = did t w j u v d (ap (λ z. is_at z t) k.frame ∙ at) in
+    (kept_twice s u v k x.0, subst (λ d. SaysOut d u v (outcome_in (out_attempt t 0 One []) w)) (ap (λ z. z.spec) k.frame) x.1)
+
+-- only one that is not silent makes the host wait
+loud_more : (spec : Spec) (s v : State) (o : Outcome) (outcomes : List Outcome) → SaysOut spec s v o → (0 < waits_in heard_when_sent outcomes → spec.silent ≡ false) → 0 < waits_in heard_when_sent (o ∷ outcomes) → spec.silent ≡ false
+unfolding waits_in
+loud_more spec s v (Payload given bytes) outcomes x l lt = l lt
+loud_more spec s v Ack outcomes x l lt = x.0
+loud_more spec s v Nak outcomes x l lt = x.0
+loud_more spec s v Stall outcomes x l lt = x.0
+loud_more spec s v Nothing outcomes x l lt = l lt
+
+-- each wait is one NAK fewer of one that is not always busy
+waits_fewer : (spec : Spec) (s v : State) (o : Outcome) (n : ℕ) → SaysOut spec s v o → spec.busy ≡ false → v.naks ≤ s.naks → waits_with (heard_when_sent o) n + v.naks ≤ n + s.naks
+waits_fewer spec s v (Payload given bytes) n x calm less = omega arith
+waits_fewer spec s v Ack n x calm less = omega arith
+waits_fewer spec s v Nak n x calm less = omega (arith, x.1 calm)
+waits_fewer spec s v Stall n x calm less = omega arith
+waits_fewer spec s v Nothing n x calm less = omega arith
+
+-- What a transaction leaves
+
+-- what an answer says of it
+abbrev Told : State → Result (List ℕ) TransFault → State → Type 0
+Told s result v = ((bytes : List ℕ) → result ≡ Ok bytes → IsRead v × IsInRead s) × (IsInRead s → result ≢ Err Stalled) × CanAnswer s.spec result
+
+tells : (s u v : State) (o : Outcome) (outcomes : List Outcome) → Moves s u → SaysOut s.spec u v o → (0 < waits_in heard_when_sent (o ∷ outcomes) → s.spec.silent ≡ false) → (result : Result (List ℕ) TransFault)
+    → IsEnd heard_when_sent result o outcomes → Told s result v
+tells s u v o outcomes m x loud (Ok bytes) e =
+    let y : SaysOut s.spec u v Ack = subst (SaysOut s.spec u v) (sent_last o (packed bytes) e) x in
+    (λ b h. (y.2, was_in s u m y.3), λ h r. cc r, (y.0, y.1))
+tells s u v o outcomes m x loud (Err Stalled) e =
+    let y : SaysOut s.spec u v Stall = subst (SaysOut s.spec u v) e x in
+    (λ b h. cc h, λ h r. unrefused u (still_in s u m h) y.2, (y.0, y.1))
+  where
+    unrefused : (u : State) → IsInRead u → u.stage ≡ refused → ⊥
+    unrefused u (in_stage answer wanted known h) e = cc (sym h ∙ e)
+    unrefused u (over h) e = cc (sym h ∙ e)
+tells s u v o outcomes m x loud (Err Busy) e = (λ b h. cc h, λ h r. cc r, loud (omega (arith, e.1)))
+tells s u v o outcomes m x loud (Err NoAnswer) e = (λ b h. cc h, λ h r. cc r, tt)
+tells s u v o outcomes m x loud (Err (Bus fault)) e = (λ b h. cc h, λ h r. cc r, tt)
+
+module _ (t : Target) (result : Result (List ℕ) TransFault) (old new : World) where
+  abbrev Over : Spot → State → State → Type 0
+  Over = Through (DidOut (out_attempt t 0 One []) One []) (out_attempt t 0 One []) heard_when_sent (IsEnd heard_when_sent result) (IsOfBus result) old new
+
+  read_status : (j : Spot) (s v : State) → Over j s v → ReadStatus t result j s v
+  unfolding waits_in
+  read_status j s v x = pick (decided (is_at s t))
+    where
+      left : is_at s t ≡ true → Kept s v → Told s result v → ReadStatus t result j s v
+      left at k y = record { others = λ h. mine t s at h; frame = k.frame; kept = only_moved s v k.moves; done = λ h. y.0; stalled = λ h. y.1; could = λ h. y.2; naks = k.naks }
+
+      pick : (is_at s t ≡ true) ⊎ (is_at s t ≡ false) → ReadStatus t result j s v
+      pick (inl at) =
+          at_end heard_when_sent (λ outcomes w u. Kept s u × (0 < waits_in heard_when_sent outcomes → s.spec.silent ≡ false)) (kept_none s, λ lt. absurd (omega (arith, lt)))
+          (λ outcomes w u y trail made i d n.
+          let z : _ = onward t s at w j u y d i.0 in
+          (z.0, loud_more s.spec u y (outcome_in (out_attempt t 0 One []) w) outcomes z.1 i.1)) (ReadStatus t result j s) v
+          (λ outcomes w u trail i d end told.
+          let z : _ = onward t s at w j u v d i.0 in
+          left at z.0 (tells s u v (outcome_in (out_attempt t 0 One []) w) outcomes i.0.moves z.1 (loud_more s.spec u v (outcome_in (out_attempt t 0 One []) w) outcomes z.1 i.1) result end))
+          (λ gave outcomes w i. left at i.0 (of_bus (λ r. Told s r v) (λ fault. (λ b h. cc h, λ h r. cc r, tt)) result gave)) x
+      pick (inr away) =
+          subst (ReadStatus t result j s) (sym (stays_away t (λ w. out_others t 0 One [] w j) x away))
+          (record { others = λ h. refl; frame = refl; kept = inl refl; done = λ at. mine t s at away; stalled = λ at. mine t s at away; could = λ at. mine t s at away; naks = omega arith })
+
+  -- one that hears the host, in such a read, answers; and it waits only so long
+  why_status : NoThreeDamaged old → (j : Spot) (s v : State) → Over j s v → WhyReadStatus t result j s v
+  why_status three j s v x = record {
+    answered = λ l h r. heeded (Kept s) (λ w u y d n k. (onward t s l.at w j u y d k).0) (kept_none s) three
+        (λ w u y d k. heeds t w j u y d (listens_on t j s u (ap (λ z. z.spec) k.frame) (ap (λ z. z.registers) k.frame) l) (still_in s u k.moves h)) (ends NoAnswer r);
+    waited = λ l h calm few r. spared (Kept s) (λ w u y d n k. (onward t s l.at w j u y d k).0) (kept_none s) (λ u. u.naks)
+        (λ w u y d k n. let z : _ = did t w j u y d (ap (λ z. is_at z t) k.frame ∙ l.at) in waits_fewer u.spec u y (outcome_in (out_attempt t 0 One []) w) n z.1 (ap (λ z. z.spec.busy) k.frame ∙ calm) z.0.naks)
+        (omega (arith, few)) (ends Busy r);
+  }
+    where
+      ends : (fault : TransFault) → result ≡ Err fault
+          → Through (DidOut (out_attempt t 0 One []) One []) (out_attempt t 0 One []) heard_when_sent (IsEnd heard_when_sent (Err fault)) (IsOfBus {A = List ℕ} (Err fault)) old new j s v
+      ends fault r = subst (λ q. Through (DidOut (out_attempt t 0 One []) One []) (out_attempt t 0 One []) heard_when_sent (IsEnd heard_when_sent q) (IsOfBus q) old new j s v) r x
+
+-- each device
+
+pub status_leaves : (t : Target) (result : Result (List ℕ) TransFault) (old new : World) → IsSettled old.roots
+    → Transacted heard_when_sent (out_attempt t 0 One []) old result new → new.shared ≡ false → EachWas (ReadStatus t result) old new
+status_leaves t result old new settled x single = each_device (Over t result old new) (ReadStatus t result) old new (read_status t result old new) (over_out t 0 One [] old new settled single heard_when_sent result x)
+
+pub read_status_why : (t : Target) (result : Result (List ℕ) TransFault) (old new : World) → IsSettled old.roots → NoThreeDamaged old
+    → Ended heard_when_sent (out_attempt t 0 One []) old result new → new.shared ≡ false → EachWas (WhyReadStatus t result) old new
+read_status_why t result old new settled never e single =
+    each_device (Over t result old new) (WhyReadStatus t result) old new (why_status t result old new never) (over_out t 0 One [] old new settled single heard_when_sent result (as_transacted result e))

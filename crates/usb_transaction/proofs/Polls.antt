@@ -9,7 +9,7 @@ use Rattle.usb_device.specs.declared.transfer.Giver.TheVariants as by
 use Rattle.usb_device.specs.Bulk.{other, is_same, tells_changes, change_bits}
 use Rattle.usb_device.specs.Rows.{State, Reply, forgotten, acknowledged, payload}
 use Rattle.usb_device.specs.Attempt.{Way, whole, is_whole, heard, gave, held_law, in_law}
-use Rattle.usb_device.specs.Tree.{row_of}
+use Rattle.usb_device.specs.Tree.{row_of, Spot}
 use Rattle.usb_device.specs.Progress.{PollAt, level, told, ahead, NeverTold, PollOn, OnlyChanges}
 use Rattle.usb_device.proofs.Interface.{at_least_one, itself, law_is, other_twice, poll_on}
 use Rattle.usb_world.specs.declared.types.Attempt.{Attempt}
@@ -20,21 +20,20 @@ use Rattle.usb_world.specs.OneHolder.{got}
 use Rattle.usb_world.specs.Passes.{IsSettled}
 use Rattle.usb_world.specs.Steps.{attempt, after, outcome_in, damage_in}
 use Rattle.usb_world.specs.World.{World, Made}
-use Rattle.usb_world.proofs.Interface.{decided, no}
+use Rattle.usb_world.proofs.Interface.{decided, got_nak, got_payload, got_stall, no}
 use Rattle.usb_transaction.specs.declared.fault.TransFault.{TransFault}
 use Rattle.usb_transaction.specs.declared.fault.TransFault.TheVariants.{Stalled, Busy, NoAnswer, Bus}
 use Rattle.usb_transaction.specs.declared.heard.Heard.{Heard}
 use Rattle.usb_transaction.specs.declared.heard.Heard.TheVariants.{Moved, Repeat, Lost}
 use Rattle.usb_transaction.specs.declared.target.Target.{Target}
 use Rattle.usb_transaction.specs.Failures.{NoThreeDamaged, Listens, WhyPoll}
-use Rattle.usb_transaction.specs.Heard.{polled, polled_as}
+use Rattle.usb_transaction.specs.HeardOutcomes.{polled, polled_as}
 use Rattle.usb_transaction.specs.Leaves.{IsNotOfBus, is_at, ToldIn, none_came, one_came, PollEnds, ChangesIn}
 use Rattle.usb_transaction.specs.Trail.{Trail, IsNoEnd, Polled, waits_with, waits_in, errors_running}
-use Rattle.usb_transaction.specs.Transactions.{packet_of, in_attempt}
-use Rattle.usb_transaction.proofs.DamagedRuns.{LostRun, run_none, run_short, lost_more, damaged_more}
-use Rattle.usb_transaction.proofs.DeviceRuns.{Through, Told, IsPollEnd, IsOfBus, AskedIn, asked_in, in_others, each_device, over_polled, at_end, of_bus, stays_away}
-use Rattle.usb_transaction.proofs.LastOutcomes.{polled_last, got_nak, got_stall, got_payload}
-use Rattle.usb_transaction.proofs.Listeners.{listens_on, one_wait, as_whole}
+use Rattle.usb_transaction.specs.Transactions.{packed, in_attempt}
+use Rattle.usb_transaction.proofs.DeviceRuns.{Asked, IsOfBus, IsPollEnd, Through, Told, as_whole, asked_in, at_end, each_device, in_others, listens_on, of_bus, one_wait, over_polled, stays_away}
+use Rattle.usb_transaction.proofs.LastOutcomes.{polled_last}
+use Rattle.usb_transaction.proofs.Trails.{LostRun, damaged_more, lost_more, run_none, run_short}
 
 -- The replies to IN 1 of a configured hub, by whether all packets came whole
 
@@ -123,7 +122,7 @@ module _ (Told : ℕ → Type 0) (bits : ℕ) (t : Toggle) (max : ℕ) (m : 1 �
       let nak : o ≡ Some answer.Nak = got_nak max o e in
       let x : (bits ≡ 0) × PollAt NeverTold t v = subst (λ y. PollOn Told bits t y v) nak on in
       (subst Told x.0 (so nak), x.1)
-  ends (Ok (Some bytes)) o outcomes so on e = (subst (λ y. PollOn Told bits t y v) (got_payload max o t (packet_of bytes) (polled_last t (got max o) bytes e)) on).0 (itself t)
+  ends (Ok (Some bytes)) o outcomes so on e = (subst (λ y. PollOn Told bits t y v) (got_payload max o t (packed bytes) (polled_last t (got max o) bytes e)) on).0 (itself t)
   ends (Err Stalled) o outcomes so on e = subst (λ y. PollOn Told bits t y v) (got_stall max o e) on
   ends (Err (Bus fault)) o outcomes so on e = elim (came o on) [ inl x ↦ none_came x | inr y ↦ one_came y.0 ]
   ends (Err fault) o outcomes so on e = goes_on o on e.0
@@ -137,9 +136,9 @@ module _ (Told : ℕ → Type 0) (bits : ℕ) (t : Toggle) (max : ℕ) (m : 1 �
 
 -- A hub that tells of changes, at the target
 
-module _ (t : Target) (toggle : Toggle) (old : World) (m : 1 ≤ t.max) (j : ℕ) (p : List ℕ) (s : State) (at : is_at s t ≡ true) (h : tells_changes s.spec s.registers ≡ true) where
+module _ (t : Target) (toggle : Toggle) (old : World) (m : 1 ≤ t.max) (j : Spot) (s : State) (at : is_at s t ≡ true) (h : tells_changes s.spec s.registers ≡ true) where
   abbrev ToldHere : ℕ → Type 0
-  ToldHere bits = ToldIn (in_attempt t 1) old j p bits
+  ToldHere bits = ToldIn (in_attempt t 1) old j bits
 
   abbrev a : Attempt
   a = in_attempt t 1
@@ -148,30 +147,30 @@ module _ (t : Target) (toggle : Toggle) (old : World) (m : 1 ≤ t.max) (j : ℕ
   hear o = polled_as toggle o
 
   -- one attempt
-  module _ (outcomes : List Outcome) (w : World) (trail : Trail a old outcomes w) (u v : State) (x : OnlyChanges s u) (d : DidIn a w j p u v) where
+  module _ (outcomes : List Outcome) (w : World) (trail : Trail a old outcomes w) (u v : State) (x : OnlyChanges s u) (d : DidIn a w j u v) where
     still_at : is_at u t ≡ true
     still_at = ap (λ y. is_at y t) x ∙ at
 
     tells : tells_changes u.spec u.registers ≡ true
     tells = ap (λ y. tells_changes y.spec y.registers) x ∙ h
 
-    asked : AskedIn t 1 w p u v
-    asked = asked_in t 1 w j p u v d still_at
+    asked : (row : List PortState) × Asked t a (in_law u row 1 t.max) w j u v
+    asked = asked_in t 1 w j u v d still_at
 
     abbrev clear : Bool
-    clear = is_whole asked.first && is_whole asked.second && is_whole asked.third
+    clear = is_whole asked.1.first && is_whole asked.1.second && is_whole asked.1.third
 
-    is_clear : Listens t p s → damage_in w ≡ None → clear ≡ true
+    is_clear : Listens t j s → damage_in w ≡ None → clear ≡ true
     is_clear l none =
-        as_whole (λ x y z. is_whole x && is_whole y && is_whole z) asked.first asked.second asked.third (asked.heard none (listens_on t p s u (ap (λ z. z.spec) x) (ap (λ z. z.registers) x) l))
+        as_whole asked.1 none (listens_on t j s u (ap (λ z. z.spec) x) (ap (λ z. z.registers) x) l) (λ x y z. is_whole x && is_whole y && is_whole z)
 
     step : Step toggle u clear (outcome_in a w) v
-    step = step_is toggle u tells asked.row t.max m asked.first asked.second asked.third (outcome_in a w) v asked.gave asked.is
+    step = step_is toggle u tells asked.0 t.max m asked.1.first asked.1.second asked.1.third (outcome_in a w) v asked.1.gave asked.1.is
 
     frame : OnlyChanges s v
     frame = step.frame ∙ ap {A = State} (λ y. record y { memory = v.memory; changes = v.changes; held = v.held }) x
 
-    gave_it : DidIn a w j p u v → PollAt ToldHere toggle u → Says ToldHere 0 toggle t.max m v (outcome_in a w)
+    gave_it : DidIn a w j u v → PollAt ToldHere toggle u → Says ToldHere 0 toggle t.max m v (outcome_in a w)
     gave_it (DidIn.other e same) before = no (sym e ∙ still_at)
     gave_it (DidIn.silent e q o is) before = says ToldHere 0 toggle t.max m v (outcome_in a w) None o (λ n. absurd (cc n)) (subst (PollAt ToldHere toggle) (sym is) before)
     gave_it (DidIn.asked e q b below stood y o is) before =
@@ -181,7 +180,7 @@ module _ (t : Target) (toggle : Toggle) (old : World) (m : 1 ≤ t.max) (j : ℕ
         (subst (PollOn ToldHere bits toggle (in_law u (row_of below) 1 t.max y.first y.second y.third).0) (sym is)
         (poll_on ToldHere toggle u tells (row_of below) so before t.max m y.first y.second y.third))
 
-  left : (result : Result (Option (List ℕ)) TransFault) (new : World) (v : State) → Through (DidIn a) a hear (IsPollEnd toggle result) (IsOfBus result) old new j p s v
+  left : (result : Result (Option (List ℕ)) TransFault) (new : World) (v : State) → Through (DidIn a) a hear (IsPollEnd toggle result) (IsOfBus result) old new j s v
       → OnlyChanges s v × (PollAt NeverTold toggle s → PollEnds ToldHere toggle result v)
   left result new v run =
       at_end hear (λ outcomes w u. OnlyChanges s u × (PollAt NeverTold toggle s → PollAt ToldHere toggle u)) (refl, never_told ToldHere toggle s)
@@ -206,14 +205,14 @@ module _ (t : Target) (toggle : Toggle) (old : World) (m : 1 ≤ t.max) (j : ℕ
         let one : waits_with (hear (outcome_in a w)) n ≤ n + 1 = one_wait (hear (outcome_in a w)) n in
         elim (x.behind y.0 z) [
           | inl e ↦ inl (e, omega (arith, one, y.1.2, run_short old y.1.0 w.attempts three y.1.1))
-          | inr e ↦ inr (e.0, (y.1.0 + 1, damaged_more y.1.0 trail made (λ none. no (sym e.1 ∙ came_whole none)) y.1.1, omega (arith, one, y.1.2)))
+          | inr e ↦ inr (e.0, (y.1.0 + 1, damaged_more trail made y.1.0 (λ none. no (sym e.1 ∙ came_whole none)) y.1.1, omega (arith, one, y.1.2)))
         ]
 
     abbrev Runs : List Outcome → World → State → Type 0
     Runs outcomes w u = OnlyChanges s u × (u.changes.halted ≡ false) × LostRun old.damages (errors_running hear outcomes) w.attempts × Stands (waits_in hear outcomes) w u
 
-    answers : Listens t p s → PollAt NeverTold toggle s → s.changes.halted ≡ false → (fault : TransFault) → IsNotOfBus {A = Option (List ℕ)} (Err fault) → (new : World) (v : State)
-        → Through (DidIn a) a hear (IsPollEnd toggle (Err fault)) (IsOfBus {A = Option (List ℕ)} (Err fault)) old new j p s v → ⊥
+    answers : Listens t j s → PollAt NeverTold toggle s → s.changes.halted ≡ false → (fault : TransFault) → IsNotOfBus {A = Option (List ℕ)} (Err fault) → (new : World) (v : State)
+        → Through (DidIn a) a hear (IsPollEnd toggle (Err fault)) (IsOfBus {A = Option (List ℕ)} (Err fault)) old new j s v → ⊥
     unfolding waits_in errors_running
     answers l start quiet fault sound new v run =
         at_end hear Runs (refl, quiet, run_none old.damages old.attempts, begins start) (λ outcomes w u x r made i d n. one_more outcomes w u x r made i d n) (λ x. ⊥) v
@@ -224,12 +223,12 @@ module _ (t : Target) (toggle : Toggle) (old : World) (m : 1 ≤ t.max) (j : ℕ
         begins (told bits so q e) = elim so [ ]
         begins (ahead bits q e) = inr (e, (0, run_none old.damages old.attempts, omega arith))
 
-        one_more : (outcomes : List Outcome) (w : World) (u x : State) → Trail a old outcomes w → Made w (after (attempt a) w) → Runs outcomes w u → DidIn a w j p u x → IsNoEnd (hear (outcome_in a w))
+        one_more : (outcomes : List Outcome) (w : World) (u x : State) → Trail a old outcomes w → Made w (after (attempt a) w) → Runs outcomes w u → DidIn a w j u x → IsNoEnd (hear (outcome_in a w))
             → Runs (outcome_in a w ∷ outcomes) (after (attempt a) w) x
         one_more outcomes w u x r made i d n =
             let y : _ = step outcomes w r u x i.0 d in
             let whole_then : _ = is_clear outcomes w r u x i.0 d l in
-            (frame outcomes w r u x i.0 d, y.quiet ∙ i.1, lost_more hear r made (λ none. y.heeds (whole_then none)) i.2, stands_on (waits_in hear outcomes) w u x _ r made whole_then y n i.3)
+            (frame outcomes w r u x i.0 d, y.quiet ∙ i.1, lost_more r made hear (λ none. y.heeds (whole_then none)) i.2, stands_on (waits_in hear outcomes) w u x _ r made whole_then y n i.3)
 
         never : (fault : TransFault) → IsNotOfBus {A = Option (List ℕ)} (Err fault) → (outcomes : List Outcome) (w : World) → outcome_in a w ≢ Stall
             → (IsNoEnd (hear (outcome_in a w)) → (IsOfBus {A = Option (List ℕ)} (Err fault) → ⊥) → Runs (outcome_in a w ∷ outcomes) (after (attempt a) w) v) → IsPollEnd toggle (Err fault) (outcome_in a w) outcomes → ⊥
@@ -244,12 +243,12 @@ pub poll_leaves : (t : Target) (toggle : Toggle) (result : Result (Option (List 
     → EachWas (ChangesIn t toggle old result) old new
 poll_leaves t toggle result old new m settled x single =
     each_device (Through (DidIn (in_attempt t 1)) (in_attempt t 1) (polled_as toggle) (IsPollEnd toggle result) (IsOfBus result) old new) (ChangesIn t toggle old result) old new
-    (λ j p s v run.
-    let away : (is_at s t ≡ false → v ≡ s) = stays_away t (λ w u x. in_others t 1 w j p u x) run in
+    (λ j s v run.
+    let away : (is_at s t ≡ false → v ≡ s) = stays_away t (λ w u x. in_others t 1 w j u x) run in
     record {
       others = away;
-      frame = λ h. elim (decided (is_at s t)) [ inl at ↦ (left t toggle old m j p s at h result new v run).0 | inr y ↦ subst (OnlyChanges s) (sym (away y)) refl ];
-      poll = λ at h. (left t toggle old m j p s at h result new v run).1;
+      frame = λ h. elim (decided (is_at s t)) [ inl at ↦ (left t toggle old m j s at h result new v run).0 | inr y ↦ subst (OnlyChanges s) (sym (away y)) refl ];
+      poll = λ at h. (left t toggle old m j s at h result new v run).1;
     })
     (over_polled t 1 old new settled single toggle result x)
 
@@ -257,9 +256,9 @@ pub poll_why : (t : Target) (toggle : Toggle) (result : Result (Option (List ℕ
     → Polled toggle (in_attempt t 1) old result new → IsNotOfBus result → new.shared ≡ false → EachWas (WhyPoll t toggle result) old new
 poll_why t toggle result old new m settled three x sound single =
     each_device (Through (DidIn (in_attempt t 1)) (in_attempt t 1) (polled_as toggle) (IsPollEnd toggle result) (IsOfBus result) old new) (WhyPoll t toggle result) old new
-    (λ j p s v run. record {
+    (λ j s v run. record {
       answered = λ l h start quiet fault e.
-          answers t toggle old m j p s l.at h three l start quiet fault (subst IsNotOfBus e sound) new v
-          (subst (λ r. Through (DidIn (in_attempt t 1)) (in_attempt t 1) (polled_as toggle) (IsPollEnd toggle r) (IsOfBus r) old new j p s v) e run);
+          answers t toggle old m j s l.at h three l start quiet fault (subst IsNotOfBus e sound) new v
+          (subst (λ r. Through (DidIn (in_attempt t 1)) (in_attempt t 1) (polled_as toggle) (IsPollEnd toggle r) (IsOfBus r) old new j s v) e run);
     })
     (over_polled t 1 old new settled single toggle result x)

@@ -1,17 +1,20 @@
 -- SETUP: setup data that were accepted more than once are as if they were accepted once, the last time; and who is not reset by them.
 use Rattle.std.proofs.Common.{◌≡◌, ◌⊎◌, inl, inr, ℕ, suc, ◌==◌, ◌&&◌, if◌then◌else◌, Bool, true, false, List, [], ◌∷◌, length, Option, None, Some, Result, Ok, Err, refl, sym, subst, ap, ◌∙◌, arith}
 use Rattle.std.proofs.lemmas.Option.{same_Some}
+use Rattle.usb_request.specs.Codes.{GET_STATUS, CLEAR_FEATURE, SET_FEATURE, SET_ADDRESS, GET_DESCRIPTOR, GET_CONFIGURATION, SET_CONFIGURATION, DEVICE_IN, DEVICE_OUT, ENDPOINT_OUT, HUB_IN, PORT_IN, PORT_OUT}
 use Rattle.usb_port.specs.PortState.{PortState}
 use Rattle.usb_request.specs.declared.setup.Setup.{Setup}
 use Rattle.usb_request.specs.Layout.{setup_of}
+use Rattle.usb_port.specs.declared.call.PortCall.{PortCall}
+use Rattle.usb_port.specs.Calls.{set_call, clear_call}
 use Rattle.usb_device.specs.declared.effect.Effect.TheVariants.{Leaves}
 use Rattle.usb_device.specs.declared.request.Registers.{Registers}
 use Rattle.usb_device.specs.Spec.{Spec}
-use Rattle.usb_device.specs.Request.{Outcome, takes_configuration, Is, outcome, registers_at_setup}
+use Rattle.usb_device.specs.Request.{Outcome, takes_configuration, Is, outcome, registers_at_setup, port_feature}
 use Rattle.usb_device.specs.Rows.{State, with_endpoints, begun, accepted}
 use Rattle.usb_device.specs.Effect.{effect_of_request, asked_by_setup}
 use Rattle.usb_device.specs.Attempt.{Way, whole, is_whole, setup_law}
-use Rattle.usb_device.specs.Tree.{Place, Ports, full, acted, row_of, reach_at, state_at, place_at}
+use Rattle.usb_device.specs.Tree.{Place, Ports, full, acted, row_of, reach_at, state_at, place_at, Spot, path_to, reach_on, state_on, place_on}
 use Rattle.usb_world.specs.declared.types.Attempt.{Attempt}
 use Rattle.usb_world.specs.declared.types.Outcome as bus
 use Rattle.usb_world.specs.declared.types.Outcome.TheVariants.{Ack, Nothing}
@@ -28,13 +31,12 @@ use Rattle.usb_transaction.specs.declared.fault.TransFault.{TransFault}
 use Rattle.usb_transaction.specs.declared.fault.TransFault.TheVariants.{Stalled, Busy}
 use Rattle.usb_transaction.specs.declared.target.Target.{Target}
 use Rattle.usb_transaction.specs.Failures.{NoThreeDamaged, Listens, WhySetup}
-use Rattle.usb_transaction.specs.Heard.{set_up_as}
+use Rattle.usb_transaction.specs.HeardOutcomes.{set_up_as}
 use Rattle.usb_transaction.specs.Leaves.{is_at, CanAccept, AcceptedAt, AcceptedSince, SetupDone}
 use Rattle.usb_transaction.specs.SparedDevices.{IsSpared, EachSpared}
 use Rattle.usb_transaction.specs.Trail.{Trail, Ended, Transacted, waits_in}
 use Rattle.usb_transaction.specs.Transactions.{setup_attempt}
-use Rattle.usb_transaction.proofs.DeviceRuns.{Through, Told, IsEnd, IsOfBus, over_end, over_transaction, at_end, of_bus, stays_away, heeded}
-use Rattle.usb_transaction.proofs.Listeners.{listens_at}
+use Rattle.usb_transaction.proofs.DeviceRuns.{IsEnd, IsOfBus, Through, Told, at_end, heeded, listens_at, of_bus, over_end, over_transaction, stays_away}
 
 -- A request asks the same once it was accepted
 
@@ -46,19 +48,25 @@ branch : (g : Registers) (b : Bool) (x y u v : Outcome) → Again g x u → Agai
 branch g true x y u v h k = h
 branch g false x y u v h k = k
 
+-- a call at a port changes none
+call_changes-none : (call : Option PortCall) (s : Spec) (g : Registers) (r : Setup) → registers_at_setup g (port_feature call s g r) ≡ g
+call_changes-none call s g r = grind arith
+
 -- SET_CONFIGURATION looks at the address and not at the configuration (9.4.7)
 configured_again : (s : Spec) (g : Registers) (r : Setup) (c : ℕ) → Again g (outcome s g r) (outcome s (record g { configuration = c }) r)
 unfolding outcome
 configured_again s g r c =
-    branch g (Is r 0x80 6) _ _ _ _ (inl refl)
-    (branch g (Is r 0x80 0) _ _ _ _ (inl refl)
-    (branch g (Is r 0x80 8) _ _ _ _ (inr refl)
-    (branch g (Is r 0x00 5) _ _ _ _ (inl refl)
-    (branch g (Is r 0x00 9) _ _ _ _ (inl refl)
-    (branch g (Is r 0x02 1) _ _ _ _ (inr (grind arith))
-    (branch g (Is r 0x02 3) _ _ _ _ (inr (grind arith))
-    (branch g (Is r 0xA0 6) _ _ _ _ (inl refl)
-    (inr (grind arith)))))))))
+    branch g (Is r DEVICE_IN GET_DESCRIPTOR) _ _ _ _ (inl refl)
+    (branch g (Is r DEVICE_IN GET_STATUS) _ _ _ _ (inl refl)
+    (branch g (Is r DEVICE_IN GET_CONFIGURATION) _ _ _ _ (inr refl)
+    (branch g (Is r DEVICE_OUT SET_ADDRESS) _ _ _ _ (inl refl)
+    (branch g (Is r DEVICE_OUT SET_CONFIGURATION) _ _ _ _ (inl refl)
+    (branch g (Is r ENDPOINT_OUT CLEAR_FEATURE) _ _ _ _ (inr (grind arith))
+    (branch g (Is r ENDPOINT_OUT SET_FEATURE) _ _ _ _ (inr (grind arith))
+    (branch g (Is r HUB_IN GET_DESCRIPTOR) _ _ _ _ (inl refl)
+    (branch g (Is r PORT_IN GET_STATUS) _ _ _ _ (inr (grind arith))
+    (branch g (Is r PORT_OUT SET_FEATURE) _ _ _ _ (inr (call_changes-none (set_call r.value) s g r))
+    (branch g (Is r PORT_OUT CLEAR_FEATURE) _ _ _ _ (inr (call_changes-none (clear_call r.value) s g r)) (inl refl)))))))))))
 
 -- only a configuration that was taken changes a register
 asks_again : (s : Spec) (g : Registers) (r : Setup) (o : Outcome) → outcome s g r ≡ o → outcome s (registers_at_setup g o) r ≡ o
@@ -104,42 +112,32 @@ as_before bytes s v (inr y) =
       asks = ap effect_of_request again;
     })
 
-pub same_address : (bytes : List ℕ) (s u : State) → Kept bytes s u → address_of u ≡ address_of s
-same_address bytes s u k = (as_before bytes s u k).address
-
 -- Devices that a request leaves where they are
 
 -- what changes no device but those at the target
 abbrev pub LeavesOthers : Target → Relation → Type 0
-LeavesOthers t R = (j : ℕ) (p : List ℕ) (s v : State) → R j p s v → is_at s t ≡ false → v ≡ s
+LeavesOthers t R = (j : Spot) (s v : State) → R j s v → is_at s t ≡ false → v ≡ s
 
 module _ (t : Target) (request : Setup) where
-  pub spared_wider : (R S : Relation) → ((j : ℕ) (p : List ℕ) (s v : State) → R j p s v → S j p s v) → (old new : World) → EachSpared t request R old new → EachSpared t request S old new
-  spared_wider R S f old new e j p s on there x =
-      let was : Was R old j p s = e j p s on there x in
-      record { before = was.before; on = was.on; stands = was.stands; so = f j p was.before s was.so }
-
-  -- two relations of the same device
-  pub spared_both : (R S : Relation) (old new : World) → EachSpared t request R old new → EachSpared t request S old new → EachSpared t request (λ j p s v. R j p s v × S j p s v) old new
-  spared_both R S old new e f j p s on there x =
-      let one : Was R old j p s = e j p s on there x in
-      let other : Was S old j p s = f j p s on there x in
-      record { before = one.before; on = one.on; stands = one.stands; so = (one.so, subst (λ d. S j p d s) (same_Some other.before one.before (sym other.stands ∙ one.stands)) other.so) }
+  pub spared_wider : (R S : Relation) → ((j : Spot) (s v : State) → R j s v → S j s v) → (old new : World) → EachSpared t request R old new → EachSpared t request S old new
+  spared_wider R S f old new e j s on there x =
+      let was : Was R old j s = e j s on there x in
+      record { before = was.before; on = was.on; stands = was.stands; so = f j was.before s was.so }
 
   -- of a request that resets none it is so of each device
   pub spared_all : (R : Relation) (old new : World) → is_harmless request ≡ true → EachSpared t request R old new → EachWas R old new
-  spared_all R old new harmless e j p s on there = e j p s on there (λ h. no (sym h ∙ harmless))
+  spared_all R old new harmless e j s on there = e j s on there (λ h. no (sym h ∙ harmless))
 
   -- a device that has an address now had one before: it was at the target, or is the same
   was_spared : (s v : State) → (is_at s t ≡ false → v ≡ s) → IsSpared t request v → IsSpared t request s
   was_spared s v f x h = ((x h).0, λ none. elim (decided (is_at s t)) [ inl y ↦ (x h).0 (sym (equal_same (address_of s) t.addr y) ∙ none) | inr y ↦ (x h).1 (ap (λ d. address_of d) (f y) ∙ none) ])
 
-  pub spared_joined : (R S T : Relation) → LeavesOthers t S → ((j : ℕ) (p : List ℕ) (s u v : State) → R j p s u → S j p u v → T j p s v) → (old mid new : World)
+  pub spared_joined : (R S T : Relation) → LeavesOthers t S → ((j : Spot) (s u v : State) → R j s u → S j u v → T j s v) → (old mid new : World)
       → EachSpared t request R old mid → EachWas S mid new → EachSpared t request T old new
-  spared_joined R S T others f old mid new e g j p s on there x =
-      let later : Was S mid j p s = g j p s on there in
-      let sooner : Was R old j p later.before = e j p later.before later.on later.stands (was_spared later.before s (others j p later.before s later.so) x) in
-      record { before = sooner.before; on = sooner.on; stands = sooner.stands; so = f j p sooner.before later.before s sooner.so later.so }
+  spared_joined R S T others f old mid new e g j s on there x =
+      let later : Was S mid j s = g j s on there in
+      let sooner : Was R old j later.before = e j later.before later.on later.stands (was_spared later.before s (others j later.before s later.so) x) in
+      record { before = sooner.before; on = sooner.on; stands = sooner.stands; so = f j sooner.before later.before s sooner.so later.so }
 
 -- One attempt
 
@@ -149,23 +147,22 @@ new_at_0 (Some (full b s a)) v n e = ap (λ d. address_of d) (same_Some v s (sym
 new_at_0 _ v n e = elim n [ ]
 
 -- the device accepted them in this attempt
-pub record AcceptedNow (t : Target) (bytes : List ℕ) (w : World) (j : ℕ) (p : List ℕ) (s v : State) : Type 0 where
-  pub b : PortState
-  pub below : Ports
-  pub holder : HolderIn (setup_attempt t bytes) w j p b s below
-  pub is : v ≡ accepted s (row_of below) (setup_of bytes)
-  pub left : place_at (after (attempt (setup_attempt t bytes)) w).roots j p ≡ Some (full b v (acted (asked_by_setup s (setup_of bytes)) below))
+pub record AcceptedNow (t : Target) (bytes : List ℕ) (w : World) (j : Spot) (s v : State) : Type 0 where
+  pub holder : HolderIn (setup_attempt t bytes) w
+  pub there : holder.spot ≡ j
+  pub is : v ≡ accepted s (row_of holder.below) (setup_of bytes)
+  pub left : place_on (after (attempt (setup_attempt t bytes)) w).roots j ≡ Some (full holder.port v (acted (asked_by_setup s (setup_of bytes)) holder.below))
 
 -- it did or did not, and did where the host got ACK
-pub record Accepts (t : Target) (bytes : List ℕ) (w : World) (j : ℕ) (p : List ℕ) (s v : State) : Type 0 where
+pub record Accepts (t : Target) (bytes : List ℕ) (w : World) (j : Spot) (s v : State) : Type 0 where
   pub others : is_at s t ≡ false → v ≡ s
   same : AsBefore (setup_of bytes) s v
-  kept : (v ≡ s) ⊎ AcceptedNow t bytes w j p s v
-  answered : is_at s t ≡ true → (outcome_in (setup_attempt t bytes) w ≡ Nothing) ⊎ ((outcome_in (setup_attempt t bytes) w ≡ Ack) × (s.spec.silent ≡ false) × AcceptedNow t bytes w j p s v)
-  heeds : Listens t p s → damage_in w ≡ None → outcome_in (setup_attempt t bytes) w ≡ Ack
+  kept : (v ≡ s) ⊎ AcceptedNow t bytes w j s v
+  answered : is_at s t ≡ true → (outcome_in (setup_attempt t bytes) w ≡ Nothing) ⊎ ((outcome_in (setup_attempt t bytes) w ≡ Ack) × (s.spec.silent ≡ false) × AcceptedNow t bytes w j s v)
+  heeds : Listens t j s → damage_in w ≡ None → outcome_in (setup_attempt t bytes) w ≡ Ack
 
-module _ (t : Target) (bytes : List ℕ) (eight : length bytes ≡ 8) (w : World) (m : IsMade (setup_attempt t bytes) w) (u : (after (attempt (setup_attempt t bytes)) w).shared ≡ false) (j : ℕ) (p : List ℕ) (v : State)
-    (on : reach_at (after (attempt (setup_attempt t bytes)) w).roots j p ≡ true) (there : state_at (after (attempt (setup_attempt t bytes)) w).roots j p ≡ Some v) where
+module _ (t : Target) (bytes : List ℕ) (eight : length bytes ≡ 8) (w : World) (m : IsMade (setup_attempt t bytes) w) (u : (after (attempt (setup_attempt t bytes)) w).shared ≡ false) (j : Spot) (v : State)
+    (on : reach_on (after (attempt (setup_attempt t bytes)) w).roots j ≡ true) (there : state_on (after (attempt (setup_attempt t bytes)) w).roots j ≡ Some v) where
   abbrev a : Attempt
   a = setup_attempt t bytes
 
@@ -175,31 +172,34 @@ module _ (t : Target) (bytes : List ℕ) (eight : length bytes ≡ 8) (w : World
   is_setup : IsSetup a bytes
   is_setup = record { kind = refl; ep = refl; payload = refl; whole = eight }
 
-  spared_rests : IsSpared t (setup_of bytes) v → resets (attempt a) w (suc j ∷ p) ≡ false
+  spared_rests : IsSpared t (setup_of bytes) v → resets (attempt a) w (path_to j) ≡ false
   spared_rests x =
       elim (decided (is_harmless (setup_of bytes))) [
-        | inl h ↦ quiet_resets (attempt a) w (suc j ∷ p) h
+        | inl h ↦ quiet_resets (attempt a) w (path_to j) h
         | inr h ↦
-            elim (decided (resets (attempt a) w (suc j ∷ p))) [
-              | inl y ↦ absurd ((x h).1 (new_at_0 (place_at new.roots j p) v (step_new (attempt a) w (suc j ∷ p) y) (state_stands new.roots j p ∙ there)))
+            elim (decided (resets (attempt a) w (path_to j))) [
+              | inl y ↦ absurd ((x h).1 (new_at_0 (place_on new.roots j) v (step_new (attempt a) w (path_to j) y) (state_stands new.roots j.row j.rest ∙ there)))
               | inr y ↦ y
             ]
       ]
 
-  unmoved : (s : State) → v ≡ s → (is_at s t ≡ true → outcome_in a w ≡ Nothing) → (Listens t p s → damage_in w ≡ None → outcome_in a w ≡ Ack) → Accepts t bytes w j p s v
+  unmoved : (s : State) → v ≡ s → (is_at s t ≡ true → outcome_in a w ≡ Nothing) → (Listens t j s → damage_in w ≡ None → outcome_in a w ≡ Ack) → Accepts t bytes w j s v
   unmoved s e n h = record { others = λ away. e; same = as_before bytes s v (inl e); kept = inl e; answered = λ at. inl (n at); heeds = h }
 
   -- the device that holds the address, by how the packets came
-  module _ (s : State) (at : is_at s t ≡ true) (loud : s.spec.silent ≡ false) (b : PortState) (below : Ports) (h : HolderIn a w j p b s below) where
-    heard_whole : Listens t p s → damage_in w ≡ None → outcome_in a w ≡ Ack
-    heard_whole l none = (setup_sound_in a w j p b s below h loud l.hears none bytes is_setup).outcome
+  module _ (s : State) (at : is_at s t ≡ true) (loud : s.spec.silent ≡ false) (b : PortState) (below : Ports) (on_then : reach_on (ready w).roots j ≡ true) (stood : place_on (ready w).roots j ≡ Some (full b s below)) where
+    abbrev h : HolderIn a w
+    h = record { made = m; single = u; found = record { spot = j; port = b; own = s; below = below; on = on_then; stands = stood; at = equal_same (address_of s) t.addr at } }
+
+    heard_whole : Listens t j s → damage_in w ≡ None → outcome_in a w ≡ Ack
+    heard_whole l none = (setup_sound_in a w h loud l.hears none bytes is_setup).outcome
 
     abbrev made : State
     made = accepted s (row_of below) (setup_of bytes)
 
-    taken : v ≡ made → (outcome_in a w ≡ Nothing) ⊎ (outcome_in a w ≡ Ack) → place_at new.roots j p ≡ Some (full b made (acted (asked_by_setup s (setup_of bytes)) below)) → Accepts t bytes w j p s v
+    taken : v ≡ made → (outcome_in a w ≡ Nothing) ⊎ (outcome_in a w ≡ Ack) → place_on new.roots j ≡ Some (full b made (acted (asked_by_setup s (setup_of bytes)) below)) → Accepts t bytes w j s v
     taken e o l =
-        let now : AcceptedNow t bytes w j p s v = record { b = b; below = below; holder = h; is = e; left = l ∙ ap (λ d. Some (full b d (acted (asked_by_setup s (setup_of bytes)) below))) (sym e) } in
+        let now : AcceptedNow t bytes w j s v = record { holder = h; there = refl; is = e; left = l ∙ ap (λ d. Some (full b d (acted (asked_by_setup s (setup_of bytes)) below))) (sym e) } in
         record {
           others = λ away. no (sym away ∙ at);
           same = as_before bytes s v (inr (record { row = row_of below; is = e }));
@@ -209,42 +209,42 @@ module _ (t : Target) (bytes : List ℕ) (eight : length bytes ≡ 8) (w : World
         }
 
     by_ways : (t1 t2 t3 : Way) → v ≡ (setup_law s (row_of below) bytes t1 t2 t3).1 → outcome_in a w ≡ got 8 (setup_law s (row_of below) bytes t1 t2 t3).0
-        → place_at new.roots j p ≡ Some (full b (setup_law s (row_of below) bytes t1 t2 t3).1 (acted (if is_whole t1 && is_whole t2 then asked_by_setup s (setup_of bytes) else Leaves) below))
-        → Accepts t bytes w j p s v
+        → place_on new.roots j ≡ Some (full b (setup_law s (row_of below) bytes t1 t2 t3).1 (acted (if is_whole t1 && is_whole t2 then asked_by_setup s (setup_of bytes) else Leaves) below))
+        → Accepts t bytes w j s v
     by_ways whole whole whole e o l = taken e (inr o) l
     by_ways whole whole t3 e o l = taken e (inl o) l
     by_ways t1 t2 t3 e o l = unmoved s e (λ y. o) heard_whole
 
-    of_holder : Accepts t bytes w j p s v
+    of_holder : Accepts t bytes w j s v
     of_holder =
-        let x = setup_in a w j p b s below h loud bytes is_setup in
+        let x = setup_in a w h loud bytes is_setup in
         let d = damage_in (ready w) in
-        by_ways (token_way a d (deep_at false p) s) (payload_way a d (deep_at false p) s) (answer_way a d (ready w).roots) (same_Some v _ (sym there ∙ x.state)) x.outcome
-        (setup_place_in a w j p b s below h loud bytes is_setup)
+        by_ways (token_way a d (deep_at false j.rest) s) (payload_way a d (deep_at false j.rest) s) (answer_way a d (ready w).roots) (same_Some v _ (sym there ∙ x.state)) x.outcome
+        (setup_place_in a w h loud bytes is_setup)
 
-  on_ready : resets (attempt a) w (suc j ∷ p) ≡ false → reach_at (ready w).roots j p ≡ true
+  on_ready : resets (attempt a) w (path_to j) ≡ false → reach_on (ready w).roots j ≡ true
   unfolding resets
-  on_ready rest = made_reach a (ready w) (suc j ∷ p) (rw (made_true a w m) at rest) (ap (λ x. reach_at x.roots j p) (sym (made_is a w m)) ∙ on)
+  on_ready rest = made_reach a (ready w) (path_to j) (rw (made_true a w m) at rest) (ap (λ x. reach_on x.roots j) (sym (made_is a w m)) ∙ on)
 
-  accepts : resets (attempt a) w (suc j ∷ p) ≡ false → (s : State) → DidSetup a bytes w j p s v → Accepts t bytes w j p s v
+  accepts : resets (attempt a) w (path_to j) ≡ false → (s : State) → DidSetup a bytes w j s v → Accepts t bytes w j s v
   accepts rest s (DidSetup.other d e) = unmoved s e (λ y. no (sym d ∙ y)) (λ l none. no (sym d ∙ l.at))
   accepts rest s (DidSetup.silent d q o e) = unmoved s e (λ y. o) (λ l none. no (sym l.loud ∙ q))
   accepts rest s (DidSetup.asked d loud b below stood x o e) =
-      of_holder s d loud b below (record { made = m; on = on_ready rest; stands = stood; at = equal_same (address_of s) t.addr d; single = u })
+      of_holder s d loud b below (on_ready rest) stood
 
 -- so it is of each device that the attempt does not reset
 pub accepting : (t : Target) (bytes : List ℕ) → length bytes ≡ 8 → (w : World) → IsMade (setup_attempt t bytes) w → (after (attempt (setup_attempt t bytes)) w).shared ≡ false
     → EachSpared t (setup_of bytes) (Accepts t bytes w) w (after (attempt (setup_attempt t bytes)) w)
-accepting t bytes eight w m u j p v on there x =
-    let rest : _ = spared_rests t bytes eight w m u j p v on there x in
-    let was : Was (DidSetup (setup_attempt t bytes) bytes w) w j p v = each_setup (setup_attempt t bytes) w bytes m (record { kind = refl; ep = refl; payload = refl; whole = eight }) u j p v rest on there in
-    record { before = was.before; on = was.on; stands = was.stands; so = accepts t bytes eight w m u j p v on there rest was.before was.so }
+accepting t bytes eight w m u j v on there x =
+    let rest : _ = spared_rests t bytes eight w m u j v on there x in
+    let was : Was (DidSetup (setup_attempt t bytes) bytes w) w j v = each_setup (setup_attempt t bytes) w bytes m (record { kind = refl; ep = refl; payload = refl; whole = eight }) u j v rest on there in
+    record { before = was.before; on = was.on; stands = was.stands; so = accepts t bytes eight w m u j v on there rest was.before was.so }
 
 -- The transaction
 
-pub kept_of : {t : Target} {bytes : List ℕ} {old : World} {j : ℕ} {p : List ℕ} {s v : State} → (v ≡ s) ⊎ AcceptedSince t bytes old j p s v → Kept bytes s v
+pub kept_of : {t : Target} {bytes : List ℕ} {old : World} {j : Spot} {s v : State} → (v ≡ s) ⊎ AcceptedSince t bytes old j s v → Kept bytes s v
 kept_of (inl e) = inl e
-kept_of (inr y) = inr (record { row = row_of y.at.below; is = y.at.is })
+kept_of (inr y) = inr (record { row = row_of y.at.holder.below; is = y.at.is })
 
 -- to SETUP nothing is a wait
 never_waits : (outcomes : List bus.Outcome) → waits_in set_up_as outcomes ≡ 0
@@ -253,13 +253,13 @@ never_waits [] = refl
 never_waits (Ack ∷ outcomes) = never_waits outcomes
 never_waits (o ∷ outcomes) = never_waits outcomes
 
-module _ (t : Target) (bytes : List ℕ) (old : World) (j : ℕ) (p : List ℕ) (s : State) where
+module _ (t : Target) (bytes : List ℕ) (old : World) (j : Spot) (s : State) where
   abbrev KeptSince : State → Type 0
-  KeptSince v = (v ≡ s) ⊎ AcceptedSince t bytes old j p s v
+  KeptSince v = (v ≡ s) ⊎ AcceptedSince t bytes old j s v
 
   -- one attempt more
   module _ (outcomes : List bus.Outcome) (w : World) (r : Trail (setup_attempt t bytes) old outcomes w) (u v : State) (k : KeptSince u) where
-    accepted_at : AcceptedNow t bytes w j p u v → AcceptedAt t bytes old (after (attempt (setup_attempt t bytes)) w) j p s v
+    accepted_at : AcceptedNow t bytes w j u v → AcceptedAt t bytes old (after (attempt (setup_attempt t bytes)) w) j s v
     accepted_at x =
         let same : AsBefore (setup_of bytes) s u = as_before bytes s u (kept_of k) in
         record {
@@ -267,44 +267,42 @@ module _ (t : Target) (bytes : List ℕ) (old : World) (j : ℕ) (p : List ℕ) 
           mid = w;
           trail = r;
           last = refl;
-          b = x.b;
-          held = u;
-          below = x.below;
           holder = x.holder;
-          is = x.is ∙ same.again (row_of x.below);
-          left = x.left ∙ ap (λ e. Some (full x.b v (acted e x.below))) same.asks;
+          there = x.there;
+          is = x.is ∙ same.again (row_of x.holder.below);
+          left = x.left ∙ ap (λ e. Some (full x.holder.port v (acted e x.holder.below))) same.asks;
         }
 
-    kept_more : (v ≡ u) ⊎ AcceptedNow t bytes w j p u v → KeptSince v
+    kept_more : (v ≡ u) ⊎ AcceptedNow t bytes w j u v → KeptSince v
     kept_more (inl e) = subst KeptSince (sym e) k
     kept_more (inr x) = inr (record { now = after (attempt (setup_attempt t bytes)) w; at = accepted_at x })
 
   -- what the answer says of the device that was asked
   abbrev Ends : World → State → Result (List ℕ) TransFault → Type 0
-  Ends new v result = ((got : List ℕ) → result ≡ Ok got → AcceptedAt t bytes old new j p s v) × CanAccept s.spec result
+  Ends new v result = ((got : List ℕ) → result ≡ Ok got → AcceptedAt t bytes old new j s v) × CanAccept s.spec result
 
-  ends : (outcomes : List bus.Outcome) (w new : World) → Trail (setup_attempt t bytes) old outcomes w → (u v : State) → KeptSince u → Accepts t bytes w j p u v → is_at s t ≡ true
+  ends : (outcomes : List bus.Outcome) (w new : World) → Trail (setup_attempt t bytes) old outcomes w → (u v : State) → KeptSince u → Accepts t bytes w j u v → is_at s t ≡ true
       → (result : Result (List ℕ) TransFault) → IsEnd set_up_as result (outcome_in (setup_attempt t bytes) w) outcomes → ((IsOfBus result → ⊥) → Told (setup_attempt t bytes) w new) → Ends new v result
   ends outcomes w new r u v k d at = by (outcome_in (setup_attempt t bytes) w) (d.answered (ap (λ n. n == t.addr) same.address ∙ at))
     where
       same : AsBefore (setup_of bytes) s u
       same = as_before bytes s u (kept_of k)
 
-      by : (o : bus.Outcome) → (o ≡ Nothing) ⊎ ((o ≡ Ack) × (u.spec.silent ≡ false) × AcceptedNow t bytes w j p u v) → (result : Result (List ℕ) TransFault) → IsEnd set_up_as result o outcomes
+      by : (o : bus.Outcome) → (o ≡ Nothing) ⊎ ((o ≡ Ack) × (u.spec.silent ≡ false) × AcceptedNow t bytes w j u v) → (result : Result (List ℕ) TransFault) → IsEnd set_up_as result o outcomes
           → ((IsOfBus result → ⊥) → Told (setup_attempt t bytes) w new) → Ends new v result
       by o (inl n) (Ok x) end told = absurd (cc (sym (ap set_up_as n) ∙ end))
       by o (inr y) (Ok x) end told =
-          (λ got e. subst (λ z. AcceptedAt t bytes old z j p s v) (sym (told (λ g. g tt)).1) (accepted_at outcomes w r u v k y.2), ap (λ z. z.silent) (sym same.spec) ∙ y.1)
+          (λ got e. subst (λ z. AcceptedAt t bytes old z j s v) (sym (told (λ g. g tt)).1) (accepted_at outcomes w r u v k y.2), ap (λ z. z.silent) (sym same.spec) ∙ y.1)
       by o (inl n) (Err Stalled) end told = absurd (cc (sym n ∙ end))
       by o (inr y) (Err Stalled) end told = absurd (cc (sym y.0 ∙ end))
       by o h (Err Busy) end told = absurd (omega (arith, end.1, never_waits (o ∷ outcomes)))
       by o h (Err fault) end told = (λ got e. cc e, tt)
 
-  set_up_done : (result : Result (List ℕ) TransFault) (new : World) (v : State) → Through (Accepts t bytes) (setup_attempt t bytes) set_up_as (IsEnd set_up_as result) (IsOfBus result) old new j p s v
-      → SetupDone t bytes result old new j p s v
+  set_up_done : (result : Result (List ℕ) TransFault) (new : World) (v : State) → Through (Accepts t bytes) (setup_attempt t bytes) set_up_as (IsEnd set_up_as result) (IsOfBus result) old new j s v
+      → SetupDone t bytes result old new j s v
   set_up_done result new v run =
       let away : (is_at s t ≡ false → v ≡ s) = stays_away t (λ w u x d. d.others) run in
-      at_end set_up_as (λ outcomes w u. KeptSince u) (inl refl) (λ outcomes w u x r made k d n. kept_more outcomes w r u x k d.kept) (SetupDone t bytes result old new j p s) v
+      at_end set_up_as (λ outcomes w u. KeptSince u) (inl refl) (λ outcomes w u x r made k d n. kept_more outcomes w r u x k d.kept) (SetupDone t bytes result old new j s) v
       (λ outcomes w u r k d end told.
       let all : (is_at s t ≡ true → Ends new v result) = λ h. ends outcomes w new r u v k d h result end told in
       record { others = away; kept = kept_more outcomes w r u v k d.kept; done = λ h. (all h).0; could = λ h. (all h).1 })
@@ -316,17 +314,17 @@ pub setup_leaves : (t : Target) (bytes : List ℕ) (result : Result (List ℕ) T
     → Transacted set_up_as (setup_attempt t bytes) old result new → new.shared ≡ false → EachSpared t (setup_of bytes) (SetupDone t bytes result old new) old new
 setup_leaves t bytes result old new eight settled x single =
     spared_wider t (setup_of bytes) (Through (Accepts t bytes) (setup_attempt t bytes) set_up_as (IsEnd set_up_as result) (IsOfBus result) old new) (SetupDone t bytes result old new)
-    (λ j p s v run. set_up_done t bytes old j p s result new v run) old new
-    (over_transaction (Accepts t bytes) (setup_attempt t bytes) (IsSpared t (setup_of bytes)) (λ w j p u v d. was_spared t (setup_of bytes) u v d.others) (accepting t bytes eight) old settled set_up_as new single result x)
+    (λ j s v run. set_up_done t bytes old j s result new v run) old new
+    (over_transaction (Accepts t bytes) (setup_attempt t bytes) (IsSpared t (setup_of bytes)) (λ w j u v d. was_spared t (setup_of bytes) u v d.others) (accepting t bytes eight) old settled set_up_as new single result x)
 
 -- setup data that come whole are answered by ACK
 pub set_up_why : (t : Target) (bytes : List ℕ) (result : Result (List ℕ) TransFault) (old new : World) → length bytes ≡ 8 → IsSettled old.roots → NoThreeDamaged old
     → Ended set_up_as (setup_attempt t bytes) old result new → new.shared ≡ false → EachSpared t (setup_of bytes) (WhySetup t result) old new
 set_up_why t bytes result old new eight settled three x single =
     spared_wider t (setup_of bytes) (Through (Accepts t bytes) (setup_attempt t bytes) set_up_as (IsEnd set_up_as result) (IsOfBus result) old new) (WhySetup t result)
-    (λ j p s v run. record {
+    (λ j s v run. record {
       answered = λ l e.
-          heeded (Listens t p) (λ w u y d n k. listens_at t p u y d.same.spec d.same.address k) l three (λ w u y d k none q. cc (sym (ap set_up_as (d.heeds k none)) ∙ q))
-          (subst (λ r. Through (Accepts t bytes) (setup_attempt t bytes) set_up_as (IsEnd set_up_as r) (IsOfBus r) old new j p s v) e run);
+          heeded (Listens t j) (λ w u y d n k. listens_at t j u y d.same.spec d.same.address k) l three (λ w u y d k none q. cc (sym (ap set_up_as (d.heeds k none)) ∙ q))
+          (subst (λ r. Through (Accepts t bytes) (setup_attempt t bytes) set_up_as (IsEnd set_up_as r) (IsOfBus r) old new j s v) e run);
     }) old new
-    (over_end (Accepts t bytes) (setup_attempt t bytes) (IsSpared t (setup_of bytes)) (λ w j p u v d. was_spared t (setup_of bytes) u v d.others) (accepting t bytes eight) old settled set_up_as new single result x)
+    (over_end (Accepts t bytes) (setup_attempt t bytes) (IsSpared t (setup_of bytes)) (λ w j u v d. was_spared t (setup_of bytes) u v d.others) (accepting t bytes eight) old settled set_up_as new single result x)

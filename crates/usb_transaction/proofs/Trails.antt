@@ -1,75 +1,139 @@
--- The attempts of a transaction as a course of the world.
-use Rattle.std.proofs.Common.{◌≡◌, refl, sym, subst, ap, ◌∙◌}
-use Rattle.std.specs.Prelude.{◌==◌, ◌||◌, List, [], ◌∷◌, Bool, true, false, if◌then◌else◌, Some, None}
-use Rattle.usb_device.specs.Delivery.{held, is_twice}
-use Rattle.usb_world.specs.declared.event.Event.{Event}
+-- The attempts of a transaction: as a course of the world, what they keep of it, and over which damages errors run.
+use Rattle.std.proofs.Common.{◌≡◌, ◌≢◌, ℕ, zero, suc, ◌+◌, ◌<◌, ◌≤◌, List, [], ◌∷◌, false, Option, None, Some, Result, Ok, Err, refl, sym, subst, ◌∙◌, arith}
+use Rattle.usb_packet.specs.declared.Toggle.{Toggle}
+use Rattle.usb_world.specs.declared.damage.Damage.{Damage}
 use Rattle.usb_world.specs.declared.types.Attempt.{Attempt}
-use Rattle.usb_world.specs.declared.types.BusFault.TheVariants.{LimitReached}
+use Rattle.usb_world.specs.declared.types.BusFault.{BusFault}
 use Rattle.usb_world.specs.declared.types.Outcome.{Outcome}
 use Rattle.usb_world.specs.Passes.{IsSettled}
+use Rattle.usb_world.specs.Wire.{damage_of}
 use Rattle.usb_world.specs.World.{World, Made}
-use Rattle.usb_world.specs.Steps.{Step, attempt, after, attempted, with_attempt, ready, due_from, took, is_due, Course, here, step, damage_in}
-use Rattle.usb_world.proofs.Interface.{due_shared, settled_ports}
-use Rattle.usb_transaction.specs.Trail.{Trail, start, next}
+use Rattle.usb_world.specs.Steps.{Step, attempt, after, outcome_in, damage_in, ready, with_attempt, Course, here}
+use Rattle.usb_world.proofs.Interface.{Cut, course_then, cut_or_same, made_damages, made_step, made_unshared, made_whole, settled_ports, unmade}
+use Rattle.usb_transaction.specs.declared.heard.Heard.{Heard}
+use Rattle.usb_transaction.specs.declared.heard.Heard.TheVariants.{Moved, Refused, Lost}
+use Rattle.usb_transaction.specs.declared.fault.TransFault.{TransFault}
+use Rattle.usb_transaction.specs.declared.fault.TransFault.TheVariants.{Bus}
+use Rattle.usb_transaction.specs.Attempts.{IsOnly, GivenUp, TransactionAttempts}
+use Rattle.usb_transaction.specs.Failures.{NoThreeDamaged}
+use Rattle.usb_transaction.specs.Leaves.{IsNotOfBus}
+use Rattle.usb_transaction.specs.Trail.{Trail, start, next, errors_with, waits_with, errors_running, waits_in, IsNoEnd, GoesOn, Ended, CutOff, Transacted, Polled}
 
--- an attempt that was made is its packets, after the events that were due
-pub made_step : (a : Attempt) (w : World) → Made w (after (attempt a) w) → after (attempt a) w ≡ with_attempt a (ready w)
-unfolding after
-made_step a w made = whole ∙ split (w.attempts == w.limit) (ap (λ v. v.fault) (sym whole) ∙ made.still)
-  where
-    whole : attempted a w.fault w ≡ attempted a None w
-    whole = ap (λ f. attempted a f w) made.sound
+-- A trail is a course of steps each of which is the attempt
 
-    split : (x : Bool) → (if x then record w { fault = Some LimitReached } else with_attempt a (ready w)).fault ≡ None → (if x then record w { fault = Some LimitReached } else with_attempt a (ready w)) ≡ with_attempt a (ready w)
-    split true e = absurd (cc e)
-    split false e = refl
-
-pub course_then : {K : Step → World → Type 0} {w v : World} (s : Step) → Course K w v → K s v → Course K w (after s v)
-course_then s (here w) k = step s k (here (after s w))
-course_then s (step t {w} {v} l c) k = step t l (course_then s c k)
-
--- a trail is a course of steps each of which is the attempt
 pub trail_course : {K : Step → World → Type 0} {a : Attempt} {old new : World} {outcomes : List Outcome} → ((w : World) → Made w (after (attempt a) w) → K (attempt a) w) → Trail a old outcomes new → Course K old new
 trail_course {K} {a} {old} each start = here old
 trail_course {K} {a} each (next w t made) = course_then (attempt a) (trail_course each t) (each w made)
+
+pub only_course : (a : Attempt) (outcomes : List Outcome) (old new : World) → Trail a old outcomes new → Course (IsOnly a) old new
+only_course a outcomes old new r = trail_course (λ w made. refl) r
 
 pub trail_settled : {a : Attempt} {old new : World} {outcomes : List Outcome} → Trail a old outcomes new → IsSettled old.roots → IsSettled new.roots
 unfolding with_attempt
 trail_settled start h = h
 trail_settled {a} (next w t made) h = subst (λ v. IsSettled v.roots) (sym (made_step a w made)) (settled_ports a (damage_in (ready w)) (ready w).roots)
 
--- No two reachable devices held one address
-
-pub first_false : (x y : Bool) → x || y ≡ false → x ≡ false
-first_false true y e = cc
-first_false false y e = refl
-
-pub second_false : (x y : Bool) → x || y ≡ false → y ≡ false
-second_false true y e = cc
-second_false false y e = e
-
--- where none is marked after an attempt, none was before it, nor at it
-pub record IsUnshared (w : World) : Type 0 where
-  pub before : w.shared ≡ false
-  pub single : is_twice (held (ready w).roots) ≡ false
-
-pub made_unshared : (a : Attempt) (w : World) → Made w (after (attempt a) w) → (after (attempt a) w).shared ≡ false → IsUnshared w
-unfolding with_attempt ready
-made_unshared a w made h =
-    let both = sym (ap (λ v. v.shared) (made_step a w made)) ∙ h in
-    record {
-      before = sym (due_shared w.left w) ∙ first_false (ready w).shared (is_twice (held (ready w).roots)) both;
-      single = second_false (ready w).shared (is_twice (held (ready w).roots)) both;
-    }
-
+-- no two reachable devices held one address before it
 pub trail_unshared : {a : Attempt} {old new : World} {outcomes : List Outcome} → Trail a old outcomes new → new.shared ≡ false → old.shared ≡ false
 trail_unshared start h = h
 trail_unshared {a} (next w t made) h = trail_unshared t (made_unshared a w made h).before
 
--- and so at each attempt of the trail
-pub trail_course_unshared : {K : Step → World → Type 0} {a : Attempt} {old new : World} {outcomes : List Outcome} → ((w : World) → Made w (after (attempt a) w) → IsUnshared w → K (attempt a) w)
-    → Trail a old outcomes new → new.shared ≡ false → Course K old new
-trail_course_unshared {K} {a} {old} each start h = here old
-trail_course_unshared {K} {a} each (next w t made) h =
-    let here_unshared = made_unshared a w made h in
-    course_then (attempt a) (trail_course_unshared each t here_unshared.before) (each w made here_unshared)
+pub trail_damages : {a : Attempt} {old new : World} {outcomes : List Outcome} → Trail a old outcomes new → new.damages ≡ old.damages
+trail_damages start = refl
+trail_damages {a} (next w t made) = made_damages a w made ∙ trail_damages t
+
+-- Transactions: they went on to an end, or the bus gave up
+
+pub as_transacted : {hear : Outcome → Heard} {a : Attempt} {old new : World} (result : Result (List ℕ) TransFault) → Ended hear a old result new → Transacted hear a old result new
+as_transacted (Err (Bus fault)) e = absurd e.tells
+as_transacted result e = e
+
+pub ended_of : {hear : Outcome → Heard} {a : Attempt} {old new : World} (result : Result (List ℕ) TransFault) → Transacted hear a old result new → IsNotOfBus result → Ended hear a old result new
+ended_of (Err (Bus fault)) x n = absurd n
+ended_of result x n = x
+
+pub transacted_unshared : (hear : Outcome → Heard) (a : Attempt) (old new : World) (result : Result (List ℕ) TransFault) → Transacted hear a old result new → IsSettled old.roots → new.shared ≡ false → old.shared ≡ false
+transacted_unshared hear a old new (Err (Bus fault)) x settled single = by_cut (cut_or_same a x.mid fault new x.fits (trail_settled x.trail settled) x.refused x.fails single)
+  where
+    by_cut : Cut a x.mid new → old.shared ≡ false
+    by_cut (unmade h each) = trail_unshared x.trail h
+    by_cut (made_whole h m u r) = trail_unshared x.trail h
+transacted_unshared hear a old new result x settled single = trail_unshared x.trail single
+
+module _ {A : Type 0} (a : Attempt) (old new : World) where
+  -- where the bus did not give up
+  ended_attempts : (result : Result A TransFault) → ((fault : BusFault) → result ≡ Err (Bus fault) → ⊥) → {outcomes : List Outcome} → Trail a old outcomes new → TransactionAttempts (IsOnly a) old result new
+  ended_attempts result sound t = record { whole = λ n. only_course a _ old new t; cut = λ fault e. absurd (sound fault e) }
+
+  -- and where it did
+  cut_attempts : {hear : Outcome → Heard} (fault : BusFault) → CutOff hear a old fault new → TransactionAttempts {A = A} (IsOnly a) old (Err (Bus fault)) new
+  cut_attempts fault x = record { whole = λ n. absurd n; cut = λ f e. subst (λ y. GivenUp (IsOnly a) old y new) (cc e) (record { mid = x.mid; course = only_course a x.outcomes old x.mid x.trail; last = a; is = refl; fits = x.fits; refused = x.refused; fails = x.fails }) }
+
+pub transacted_attempts : (hear : Outcome → Heard) (a : Attempt) (result : Result (List ℕ) TransFault) (old new : World) → Transacted hear a old result new → TransactionAttempts (IsOnly a) old result new
+transacted_attempts hear a (Err (Bus fault)) old new x = cut_attempts a old new fault x
+transacted_attempts hear a result old new x = ended_attempts a old new result (λ f e. cc e) x.trail
+
+pub polled_attempts : (toggle : Toggle) (a : Attempt) (result : Result (Option (List ℕ)) TransFault) (old new : World) → Polled toggle a old result new → TransactionAttempts (IsOnly a) old result new
+polled_attempts toggle a (Err (Bus fault)) old new x = cut_attempts a old new fault x
+polled_attempts toggle a (Ok None) old new x = ended_attempts a old new (Ok None) (λ f e. cc e) x.trail
+polled_attempts toggle a (Ok (Some bytes)) old new x = ended_attempts a old new (Ok (Some bytes)) (λ f e. cc e) x.trail
+polled_attempts toggle a result old new x = ended_attempts a old new result (λ f e. cc e) x.trail
+
+-- attempts over which a transaction goes on have fewer waits than end it
+pub few_waits : (hear : Outcome → Heard) (outcomes : List Outcome) → GoesOn hear outcomes → waits_in hear outcomes < 256
+unfolding GoesOn waits_in
+few_waits hear [] g = omega arith
+few_waits hear (o ∷ outcomes) g = g.2
+
+-- the last of too many waits, and of three errors, ends none
+pub last_waited : (hear : Outcome → Heard) (o : Outcome) (outcomes : List Outcome) → GoesOn hear outcomes → waits_in hear (o ∷ outcomes) ≡ 256 → IsNoEnd (hear o)
+unfolding waits_in
+last_waited hear o outcomes g e = by_heard (hear o) (few_waits hear outcomes g) e
+  where
+    by_heard : (h : Heard) → waits_in hear outcomes < 256 → waits_with h (waits_in hear outcomes) ≡ 256 → IsNoEnd h
+    by_heard (Moved bytes) l e = omega (arith, l, e)
+    by_heard Refused l e = omega (arith, l, e)
+    by_heard h l e = tt
+
+pub last_erred : (hear : Outcome → Heard) (o : Outcome) (outcomes : List Outcome) → errors_running hear (o ∷ outcomes) ≡ 3 → IsNoEnd (hear o)
+unfolding errors_running
+last_erred hear o outcomes e = by_heard (hear o) e
+  where
+    by_heard : (h : Heard) → errors_with h (errors_running hear outcomes) ≡ 3 → IsNoEnd h
+    by_heard (Moved bytes) e = omega (arith, e)
+    by_heard Refused e = omega (arith, e)
+    by_heard h e = tt
+
+-- Damaged attempts running
+
+-- the last n of this many attempts were damaged
+pub record LostRun (damages : List Damage) (n attempts : ℕ) : Type 0 where
+  pub enough : n ≤ attempts
+  pub each : (m k : ℕ) → m + k ≡ attempts → k < n → damage_of damages m ≢ None
+
+pub run_none : (damages : List Damage) (attempts : ℕ) → LostRun damages 0 attempts
+run_none damages attempts = record { enough = omega arith; each = λ m k e lt. absurd (omega (arith, lt)) }
+
+-- there are at most two
+pub run_short : (old : World) (n attempts : ℕ) → NoThreeDamaged old → LostRun old.damages n attempts → n < 3
+run_short old (suc (suc (suc n))) (suc (suc m)) never r = absurd (never m (r.each m 2 (omega arith) (omega arith)) (r.each (m + 1) 1 (omega arith) (omega arith)) (r.each (m + 2) 0 (omega arith) (omega arith)))
+run_short old n attempts never r = omega (arith, r.enough)
+
+module _ {a : Attempt} {old w : World} {outcomes : List Outcome} (t : Trail a old outcomes w) (made : Made w (after (attempt a) w)) where
+  -- a damaged attempt more, whatever came of it
+  pub damaged_more : (n : ℕ) → damage_in w ≢ None → LostRun old.damages n w.attempts → LostRun old.damages (n + 1) (after (attempt a) w).attempts
+  damaged_more n d r = record { enough = omega (arith, r.enough, made.one); each = each_one }
+    where
+      each_one : (m k : ℕ) → m + k ≡ (after (attempt a) w).attempts → k < n + 1 → damage_of old.damages m ≢ None
+      each_one m zero e lt = subst (λ x. damage_of old.damages x ≢ None) (omega (arith, e, made.one)) (subst (λ x. damage_of x (w.attempts + 1) ≢ None) (trail_damages t) d)
+      each_one m (suc k) e lt = r.each m k (omega (arith, e, made.one)) (omega (arith, lt))
+
+  -- errors run only over damaged attempts, where no attempt that is not damaged is one
+  pub lost_more : (hear : Outcome → Heard) → (damage_in w ≡ None → hear (outcome_in a w) ≢ Lost) → LostRun old.damages (errors_running hear outcomes) w.attempts
+      → LostRun old.damages (errors_running hear (outcome_in a w ∷ outcomes)) (after (attempt a) w).attempts
+  unfolding errors_running
+  lost_more hear c r = by_heard (hear (outcome_in a w)) c
+    where
+      by_heard : (h : Heard) → (damage_in w ≡ None → h ≢ Lost) → LostRun old.damages (errors_with h (errors_running hear outcomes)) (after (attempt a) w).attempts
+      by_heard Lost c = damaged_more (errors_running hear outcomes) (λ e. c e refl) r
+      by_heard h c = run_none old.damages (after (attempt a) w).attempts

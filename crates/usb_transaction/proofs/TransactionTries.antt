@@ -6,20 +6,20 @@ use Rattle.usb_packet.specs.declared.Toggle.{Toggle}
 use Rattle.usb_world.specs.declared.types.Attempt.{Attempt}
 use Rattle.usb_world.specs.declared.types.BusFault.{BusFault}
 use Rattle.usb_world.specs.declared.types.Outcome.{Outcome}
-use Rattle.usb_world.specs.declared.types.Outcome.TheVariants.{Payload, Ack, Nak, Stall, Nothing}
+use Rattle.usb_world.specs.declared.types.Outcome.TheVariants.{Nak, Stall}
 use Rattle.usb_world.specs.World.{World, Made, Spends, Attempted, IsAttempt, FitsMaximum}
 use Rattle.usb_world.specs.Passes.{IsSettled}
-use Rattle.usb_world.specs.Steps.{attempt, after, outcome_in, AttemptFails}
+use Rattle.usb_world.specs.Steps.{attempt, after, AttemptFails}
 use Rattle.usb_world.proofs.Interface.{spends_none, spends_then, spends_wider}
-use Rattle.usb_bus.specs.Traced.{Attempts, Traced, still, attempted, WentOn}
+use Rattle.usb_bus.specs.Traces.{Attempts, Traced, still, attempted, WentOn}
 use Rattle.usb_transaction.specs.declared.heard.Heard.{Heard}
-use Rattle.usb_transaction.specs.declared.heard.Heard.TheVariants.{Moved, NotReady, Repeat, Refused, Lost}
+use Rattle.usb_transaction.specs.declared.heard.Heard.TheVariants.{Moved, NotReady, Repeat, Lost}
 use Rattle.usb_transaction.specs.declared.tries.Tries.{Tries}
 use Rattle.usb_transaction.specs.declared.fault.TransFault.{TransFault}
 use Rattle.usb_transaction.specs.declared.fault.TransFault.TheVariants.{Stalled, Busy, NoAnswer, Bus}
-use Rattle.usb_transaction.specs.Heard.{heard_as, polled_as, sent_as, set_up_as, acks}
+use Rattle.usb_transaction.specs.HeardOutcomes.{heard_as, polled_as, set_up_as, acks}
 use Rattle.usb_transaction.specs.Trail.{Trail, start, next, errors_with, waits_with, errors_running, waits_in, IsNoEnd, GoesOn, Tells, Ended, CutOff, Transacted, Waiting, Polled}
-use Rattle.usb_transaction.specs.Transactions.{packet_of, Worked, Ends}
+use Rattle.usb_transaction.specs.Transactions.{packed, Worked, Ends}
 use Rattle.usb_transaction.proofs.LastOutcomes.{heard_moved}
 
 -- One more attempt, and what the host got
@@ -189,18 +189,10 @@ told_waiting {toggle} {a} {t} {o} {old} {mid} {new} s one is = record {
 -- Setup data: three attempts at most
 
 set_up_lost : (o : Outcome) → acks o ≡ false → Lost ≡ set_up_as o
-set_up_lost (Payload t b) e = refl
-set_up_lost Ack e = cc
-set_up_lost Nak e = refl
-set_up_lost Stall e = refl
-set_up_lost Nothing e = refl
+set_up_lost o e = grind arith
 
-set_up_moved : (o : Outcome) → acks o ≡ true → set_up_as o ≡ Moved (packet_of [])
-set_up_moved (Payload t b) e = cc
-set_up_moved Ack e = refl
-set_up_moved Nak e = cc
-set_up_moved Stall e = cc
-set_up_moved Nothing e = cc
+set_up_moved : (o : Outcome) → acks o ≡ true → set_up_as o ≡ Moved (packed [])
+set_up_moved o e = grind arith
 
 -- after n attempts none of which was acknowledged
 pub record SetUpStands (a : Attempt) (n : ℕ) (old : World) (first : Option (List ℕ)) (now : World) (text : Option (List ℕ)) : Type 0 where
@@ -257,11 +249,7 @@ trail_worked n le (next w t made) = let x = trail_lasted t in record { sound = x
 
 -- an outcome is at most one error and one wait
 one_each : (h : Heard) (n m k : ℕ) → n ≤ k → m ≤ k → (errors_with h n ≤ k + 1) × (waits_with h m ≤ k + 1)
-one_each (Moved b) n m k x y = (omega arith, omega (arith, y))
-one_each NotReady n m k x y = (omega arith, omega (arith, y))
-one_each Repeat n m k x y = (omega arith, omega (arith, y))
-one_each Refused n m k x y = (omega arith, omega (arith, y))
-one_each Lost n m k x y = (omega (arith, x), omega (arith, y))
+one_each h n m k x y = (grind arith, grind arith)
 
 fits_length : (hear : Outcome → Heard) (outcomes : List Outcome) → (errors_running hear outcomes ≤ length outcomes) × (waits_in hear outcomes ≤ length outcomes)
 unfolding errors_running waits_in

@@ -1,7 +1,7 @@
 -- Who answered.
-use Rattle.std.specs.Prelude.{◌≡◌, ℕ, List, Some, true, ⊤}
+use Rattle.std.specs.Prelude.{◌≡◌, Some, true, ⊤}
 use Rattle.usb_device.specs.Rows.{State}
-use Rattle.usb_device.specs.Tree.{reach_at, state_at}
+use Rattle.usb_device.specs.Tree.{Spot, reach_on, state_on}
 use Rattle.usb_world.specs.World.{World}
 use Rattle.usb_transaction.specs.declared.target.Target.{Target}
 use Rattle.usb_transaction.specs.declared.fault.TransFault.{TransFault}
@@ -10,23 +10,21 @@ use Rattle.usb_transaction.specs.Leaves.{is_at}
 
 -- a device that is reachable now, and was before: then the target's address was its own
 pub record Answerer (t : Target) (old new : World) : Type 0 where
-  pub j : ℕ
-  pub p : List ℕ
+  pub spot : Spot
   pub now : State
-  pub on : reach_at new.roots j p ≡ true
-  pub stands : state_at new.roots j p ≡ Some now
+  pub on : reach_on new.roots spot ≡ true
+  pub stands : state_on new.roots spot ≡ Some now
   pub before : State
-  pub was_on : reach_at old.roots j p ≡ true
-  pub stood : state_at old.roots j p ≡ Some before
+  pub was_on : reach_on old.roots spot ≡ true
+  pub stood : state_on old.roots spot ≡ Some before
   pub at : is_at before t ≡ true
 
 -- some reachable device has the target's address
 pub record HadOne (t : Target) (w : World) : Type 0 where
-  pub j : ℕ
-  pub p : List ℕ
+  pub spot : Spot
   pub state : State
-  pub on : reach_at w.roots j p ≡ true
-  pub stands : state_at w.roots j p ≡ Some state
+  pub on : reach_on w.roots spot ≡ true
+  pub stands : state_on w.roots spot ≡ Some state
   pub at : is_at state t ≡ true
 
 -- a fault that only the answers of a device make: STALL, or too many NAKs and repeats

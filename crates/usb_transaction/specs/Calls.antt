@@ -1,4 +1,5 @@
 -- What each call tells: what was heard, what it leaves of each device, why it failed and who answered.
+use Rattle.usb_device.specs.Tree.{Spot}
 use Rattle.std.specs.Prelude.{◌≡◌, ◌≢◌, ◌≤◌, ℕ, List, [], length, false, Option, Result, Ok, Err, IfOk, IfSome, OnOk, ⊤}
 use Rattle.usb_packet.specs.declared.Toggle.{Toggle}
 use Rattle.usb_packet.specs.declared.Toggle.TheVariants.{One}
@@ -14,12 +15,12 @@ use Rattle.usb_transaction.specs.declared.target.Target.{Target}
 use Rattle.usb_transaction.specs.declared.fault.TransFault.{TransFault}
 use Rattle.usb_transaction.specs.declared.fault.TransFault.TheVariants.{Stalled, Busy, NoAnswer, Bus}
 use Rattle.usb_transaction.specs.Answerer.{Answerer}
-use Rattle.usb_transaction.specs.Heard.{heard_as, sent_as, set_up_as}
+use Rattle.usb_transaction.specs.HeardOutcomes.{heard_as, heard_when_sent, set_up_as}
 use Rattle.usb_transaction.specs.Meaning.{Accepted, Answered, Took, IsUnheard}
 use Rattle.usb_transaction.specs.Leaves.{IsNotOfBus, ControlIn, ReadStatus, SourceIn, SinkOut, ChangesIn, SetupDone}
 use Rattle.usb_transaction.specs.SparedDevices.{EachSpared}
 use Rattle.usb_transaction.specs.Trail.{Transacted, Polled}
-use Rattle.usb_transaction.specs.Transactions.{Ends, SetupEnds, packet_of, setup_attempt, in_attempt, out_attempt}
+use Rattle.usb_transaction.specs.Transactions.{Ends, SetupEnds, packed, setup_attempt, in_attempt, out_attempt}
 use Rattle.usb_transaction.specs.Failures.{NoThreeDamaged, WhySetup, WhyControlIn, WhyReadStatus, WhySourceIn, WhySinkOut, WhyPoll}
 
 -- nothing but the device hindered a call: no three attempts running are damaged, the bus did not
@@ -52,17 +53,17 @@ pub record SetsUp (t : Target) (bytes : List ℕ) (old : World) (result : Result
 
 -- IN, of endpoint 0 or of a bulk endpoint
 
-pub record InLeaves (t : Target) (ep : ℕ) (awaited : Toggle) (result : Result (List ℕ) TransFault) (j : ℕ) (p : List ℕ) (s v : State) : Type 0 where
-  pub control : ep ≡ 0 → ControlIn t awaited result j p s v
-  pub bulk : SourceIn t ep awaited result j p s v
+pub record InLeaves (t : Target) (ep : ℕ) (awaited : Toggle) (result : Result (List ℕ) TransFault) (x : Spot) (s v : State) : Type 0 where
+  pub control : ep ≡ 0 → ControlIn t awaited result x s v
+  pub bulk : SourceIn t ep awaited result x s v
 
-pub record WhyIn (t : Target) (ep : ℕ) (awaited : Toggle) (result : Result (List ℕ) TransFault) (j : ℕ) (p : List ℕ) (s v : State) : Type 0 where
-  pub control : ep ≡ 0 → WhyControlIn t awaited result j p s v
-  pub bulk : WhySourceIn t ep awaited result j p s v
+pub record WhyIn (t : Target) (ep : ℕ) (awaited : Toggle) (result : Result (List ℕ) TransFault) (x : Spot) (s v : State) : Type 0 where
+  pub control : ep ≡ 0 → WhyControlIn t awaited result x s v
+  pub bulk : WhySourceIn t ep awaited result x s v
 
 -- data that came were given by the one device that held the address, and a STALL was its own (8.5.2)
 abbrev pub MeansOfIn : Target → ℕ → Toggle → World → Result (List ℕ) TransFault → World → Type 0
-MeansOfIn t ep awaited old (Ok bytes) new = new.shared ≡ false → Answered t ep (answer.Data awaited (packet_of bytes)) old new
+MeansOfIn t ep awaited old (Ok bytes) new = new.shared ≡ false → Answered t ep (answer.Data awaited (packed bytes)) old new
 MeansOfIn t ep awaited old (Err Stalled) new = new.shared ≡ false → Answered t ep answer.Stall old new
 MeansOfIn t ep awaited old (Err Busy) new = ⊤
 MeansOfIn t ep awaited old (Err NoAnswer) new = ⊤
@@ -80,13 +81,13 @@ pub record AsksIn (t : Target) (ep : ℕ) (awaited : Toggle) (old : World) (resu
 
 -- OUT: of endpoint 0 the one that ends a control read, or of a bulk endpoint
 
-pub record OutLeaves (t : Target) (ep : ℕ) (toggle : Toggle) (bytes : List ℕ) (result : Result (List ℕ) TransFault) (j : ℕ) (p : List ℕ) (s v : State) : Type 0 where
-  pub control : ep ≡ 0 → toggle ≡ One → bytes ≡ [] → ReadStatus t result j p s v
-  pub bulk : SinkOut t ep toggle bytes result j p s v
+pub record OutLeaves (t : Target) (ep : ℕ) (toggle : Toggle) (bytes : List ℕ) (result : Result (List ℕ) TransFault) (x : Spot) (s v : State) : Type 0 where
+  pub control : ep ≡ 0 → toggle ≡ One → bytes ≡ [] → ReadStatus t result x s v
+  pub bulk : SinkOut t ep toggle bytes result x s v
 
-pub record WhyOut (t : Target) (ep : ℕ) (toggle : Toggle) (bytes : List ℕ) (result : Result (List ℕ) TransFault) (j : ℕ) (p : List ℕ) (s v : State) : Type 0 where
-  pub control : ep ≡ 0 → toggle ≡ One → bytes ≡ [] → WhyReadStatus t result j p s v
-  pub bulk : WhySinkOut t ep toggle bytes result j p s v
+pub record WhyOut (t : Target) (ep : ℕ) (toggle : Toggle) (bytes : List ℕ) (result : Result (List ℕ) TransFault) (x : Spot) (s v : State) : Type 0 where
+  pub control : ep ≡ 0 → toggle ≡ One → bytes ≡ [] → WhyReadStatus t result x s v
+  pub bulk : WhySinkOut t ep toggle bytes result x s v
 
 -- data that were acknowledged were taken by the one device that held the address, and a STALL was its own (8.5.2)
 abbrev pub MeansOfOut : Target → ℕ → Toggle → List ℕ → World → Result (List ℕ) TransFault → World → Type 0
@@ -98,7 +99,7 @@ MeansOfOut t ep toggle bytes old (Err (Bus fault)) new = ⊤
 
 pub record SendsOut (t : Target) (ep : ℕ) (toggle : Toggle) (bytes : List ℕ) (old : World) (result : Result (List ℕ) TransFault) (new : World) : Type 0 where
   pub settled : IsSettled old.roots
-  pub heard : Transacted sent_as (out_attempt t ep toggle bytes) old result new
+  pub heard : Transacted heard_when_sent (out_attempt t ep toggle bytes) old result new
   pub ends : Ends old result new
   pub nothing : IfOk result (λ done. done ≡ [])
   pub what : new.shared ≡ false → EachWas (OutLeaves t ep toggle bytes result) old new

@@ -1,4 +1,4 @@
-pub mod Heard
+pub mod HeardOutcomes
 pub mod Transactions
 pub mod Trail
 pub mod Meaning

@@ -1,10 +1,13 @@
 -- Address losses over a transaction: a device that was to take an address at the host's ACK of its status stage did not see it (9.4.6).
+use Rattle.usb_device.specs.Tree.{Spot}
 use Rattle.std.specs.Prelude.{◌≡◌, ◌≢◌, ◌==◌, ◌&&◌, not, ℕ, Bool, true, List, Some, Result, Ok, Err}
+use Rattle.usb_request.specs.Codes.{PORT_OUT, CLEAR_FEATURE}
+use Rattle.usb_request.specs.Features.{C_PORT_CONNECTION}
 use Rattle.usb_request.specs.declared.setup.Setup.{Setup}
 use Rattle.usb_device.specs.Request.{Is}
 use Rattle.usb_device.specs.Rows.{State}
-use Rattle.usb_device.specs.Transfer.{idle, ending}
-use Rattle.usb_world.specs.Losses.{one_more}
+use Rattle.usb_device.specs.Transfer.{ending}
+pub use Rattle.usb_world.specs.Losses.{TookOrLost, took, lost}
 use Rattle.usb_world.specs.World.{World}
 use Rattle.usb_transaction.specs.declared.target.Target.{Target}
 use Rattle.usb_transaction.specs.declared.fault.TransFault.{TransFault}
@@ -12,19 +15,14 @@ use Rattle.usb_transaction.specs.Leaves.{is_at}
 
 -- the request clears no change of connection (11.24.2.2), at which the losses of another stretch begin
 abbrev pub begins_no_stretch : Setup → Bool
-begins_no_stretch r = not (Is r 0x23 1 && r.value == 16)
-
--- a device has taken an address; or it has not, and one loss more is counted
-pub data TookOrLost (a : ℕ) (old new : World) (s v : State) : Type 0 where
-  took : v.stage ≡ idle → v.registers ≡ record s.registers { address = a } → new.losses ≡ old.losses → TookOrLost a old new s v
-  lost : v.stage ≡ s.stage → v.registers ≡ s.registers → new.losses ≡ one_more old.losses → TookOrLost a old new s v
+begins_no_stretch r = not (Is r PORT_OUT CLEAR_FEATURE && r.value == C_PORT_CONNECTION)
 
 -- IN of endpoint 0: a device that is to take no address loses none
-abbrev pub LosesNone : Target → World → World → ℕ → List ℕ → State → State → Type 0
-LosesNone t old new j p s v = is_at s t ≡ true → ((a : ℕ) → s.stage ≢ ending (Some a)) → new.losses ≡ old.losses
+abbrev pub LosesNone : Target → World → World → Spot → State → State → Type 0
+LosesNone t old new x s v = is_at s t ≡ true → ((a : ℕ) → s.stage ≢ ending (Some a)) → new.losses ≡ old.losses
 
 -- IN of endpoint 0, by a host that awaits a status stage: a loss is counted exactly where it is done and the device has not taken its address
-pub record LossesIn (t : Target) (result : Result (List ℕ) TransFault) (old new : World) (j : ℕ) (p : List ℕ) (s v : State) : Type 0 where
+pub record LossesIn (t : Target) (result : Result (List ℕ) TransFault) (old new : World) (x : Spot) (s v : State) : Type 0 where
   pub done : is_at s t ≡ true → (a : ℕ) → s.stage ≡ ending (Some a) → (bytes : List ℕ) → result ≡ Ok bytes → TookOrLost a old new s v
   pub failed : is_at s t ≡ true → (a : ℕ) → s.stage ≡ ending (Some a) → (fault : TransFault) → result ≡ Err fault → new.losses ≡ old.losses
-  pub none : LosesNone t old new j p s v
+  pub none : LosesNone t old new x s v

@@ -1,11 +1,10 @@
 -- What an answer of a transaction says of the one device that holds the target's address.
 use Rattle.std.specs.Prelude.{◌≡◌, ◌≢◌, ◌⊎◌, ℕ, List, None, Some, true, false}
 use Rattle.usb_packet.specs.declared.Toggle.{Toggle}
-use Rattle.usb_port.specs.PortState.{PortState}
 use Rattle.usb_request.specs.Layout.{setup_of}
 use Rattle.usb_device.specs.declared.answer.Answer.{Answer}
-use Rattle.usb_device.specs.Rows.{State, accepted}
-use Rattle.usb_device.specs.Tree.{Ports, row_of, reach_at, state_at}
+use Rattle.usb_device.specs.Rows.{accepted}
+use Rattle.usb_device.specs.Tree.{row_of, reach_on, state_on}
 use Rattle.usb_world.specs.declared.types.Attempt.{Attempt}
 use Rattle.usb_world.specs.declared.types.Outcome.{Outcome}
 use Rattle.usb_world.specs.Passes.{deep_at}
@@ -22,38 +21,32 @@ pub record AskedLast (a : Attempt) (old new : World) : Type 0 where
   pub mid : World
   pub before : Trail a old outcomes mid
   pub last : new ≡ after (attempt a) mid
-  pub j : ℕ
-  pub p : List ℕ
-  pub b : PortState
-  pub s : State
-  pub below : Ports
-  pub holder : HolderIn a mid j p b s below
-  pub loud : s.spec.silent ≡ false
+  pub holder : HolderIn a mid
+  pub loud : holder.own.spec.silent ≡ false
 
 -- the device accepted the setup data, and is still reachable
 pub record Accepted (t : Target) (bytes : List ℕ) (old new : World) : Type 0 where
   pub asked : AskedLast (setup_attempt t bytes) old new
-  pub on : reach_at new.roots asked.j asked.p ≡ true
-  pub state : state_at new.roots asked.j asked.p ≡ Some (accepted asked.s (row_of asked.below) (setup_of bytes))
+  pub on : reach_on new.roots asked.holder.spot ≡ true
+  pub state : state_on new.roots asked.holder.spot ≡ Some (accepted asked.holder.own (row_of asked.holder.below) (setup_of bytes))
 
 -- the device gave this answer to IN, and is what its row says, still reachable
 pub record Answered (t : Target) (ep : ℕ) (got : Answer) (old new : World) : Type 0 where
   pub asked : AskedLast (in_attempt t ep) old new
-  pub gave : (in_alone (in_attempt t ep) (damage_in (ready asked.mid)) (ready asked.mid).roots (deep_at false asked.p) asked.s (row_of asked.below)).0 ≡ Some got
-  pub on : reach_at new.roots asked.j asked.p ≡ true
-  pub state : state_at new.roots asked.j asked.p ≡ Some (in_alone (in_attempt t ep) (damage_in (ready asked.mid)) (ready asked.mid).roots (deep_at false asked.p) asked.s (row_of asked.below)).1
+  pub gave : (in_alone (in_attempt t ep) (damage_in (ready asked.mid)) (ready asked.mid).roots (deep_at false asked.holder.spot.rest) asked.holder.own (row_of asked.holder.below)).0 ≡ Some got
+  pub on : reach_on new.roots asked.holder.spot ≡ true
+  pub state : state_on new.roots asked.holder.spot ≡ Some (in_alone (in_attempt t ep) (damage_in (ready asked.mid)) (ready asked.mid).roots (deep_at false asked.holder.spot.rest) asked.holder.own (row_of asked.holder.below)).1
 
 -- the device gave this answer to OUT with these data, and is what its row says, still reachable
 pub record Took (t : Target) (ep : ℕ) (toggle : Toggle) (bytes : List ℕ) (got : Answer) (old new : World) : Type 0 where
   pub asked : AskedLast (out_attempt t ep toggle bytes) old new
-  pub gave : (out_alone (out_attempt t ep toggle bytes) (damage_in (ready asked.mid)) (ready asked.mid).roots (deep_at false asked.p) asked.s toggle bytes).0 ≡ Some got
-  pub on : reach_at new.roots asked.j asked.p ≡ true
-  pub state : state_at new.roots asked.j asked.p ≡ Some (out_alone (out_attempt t ep toggle bytes) (damage_in (ready asked.mid)) (ready asked.mid).roots (deep_at false asked.p) asked.s toggle bytes).1
+  pub gave : (out_alone (out_attempt t ep toggle bytes) (damage_in (ready asked.mid)) (ready asked.mid).roots (deep_at false asked.holder.spot.rest) asked.holder.own toggle bytes).0 ≡ Some got
+  pub on : reach_on new.roots asked.holder.spot ≡ true
+  pub state : state_on new.roots asked.holder.spot ≡ Some (out_alone (out_attempt t ep toggle bytes) (damage_in (ready asked.mid)) (ready asked.mid).roots (deep_at false asked.holder.spot.rest) asked.holder.own toggle bytes).1
 
 -- why an attempt of setup data is not answered by ACK: whoever holds its address is silent or does not hear it, or the attempt is damaged
 abbrev pub IsUnheard : Step → World → Type 0
-IsUnheard (attempt a) w = (j : ℕ) (p : List ℕ) (b : PortState) (s : State) (below : Ports) → HolderIn a w j p b s below
-    → (s.spec.silent ≡ true) ⊎ (hears_attempt a (deep_at false p) s ≡ false) ⊎ (damage_in w ≢ None)
+IsUnheard (attempt a) w = (h : HolderIn a w) → (h.own.spec.silent ≡ true) ⊎ (hears_attempt a (deep_at false h.spot.rest) h.own ≡ false) ⊎ (damage_in w ≢ None)
 IsUnheard (root_call c n) w = ⊥
 IsUnheard event w = ⊥
 IsUnheard (report line) w = ⊥

@@ -11,8 +11,8 @@ use Rattle.usb_transaction.specs.declared.heard.Heard.{Heard}
 use Rattle.usb_transaction.specs.declared.heard.Heard.TheVariants.{Moved, NotReady, Repeat, Refused, Lost}
 use Rattle.usb_transaction.specs.declared.fault.TransFault.{TransFault}
 use Rattle.usb_transaction.specs.declared.fault.TransFault.TheVariants.{Stalled, Busy, NoAnswer, Bus}
-use Rattle.usb_transaction.specs.Heard.{polled_as}
-use Rattle.usb_transaction.specs.Transactions.{packet_of}
+use Rattle.usb_transaction.specs.HeardOutcomes.{polled_as}
+use Rattle.usb_transaction.specs.Transactions.{packed}
 
 -- the same attempt was made again and again, and this is what the host got, the last of it first
 pub data Trail (a : Attempt) (old : World) : List Outcome → World → Type 0 where
@@ -60,7 +60,7 @@ GoesOn hear (o ∷ outcomes) = IsNoEnd (hear o) × (errors_running hear (o ∷ o
 
 -- what an answer says of the last outcome, and of those before it
 abbrev pub Tells : (Outcome → Heard) → Result (List ℕ) TransFault → Outcome → List Outcome → Type 0
-Tells hear (Ok bytes) last outcomes = hear last ≡ Moved (packet_of bytes)
+Tells hear (Ok bytes) last outcomes = hear last ≡ Moved (packed bytes)
 Tells hear (Err Stalled) last outcomes = last ≡ Stall
 Tells hear (Err Busy) last outcomes = waits_in hear (last ∷ outcomes) ≡ 256
 Tells hear (Err NoAnswer) last outcomes = errors_running hear (last ∷ outcomes) ≡ 3

@@ -16,18 +16,18 @@ pub record IsTarget (t : Target) : Type 0 where
   pub max_most : t.max ≤ 64
   pub pre_low : t.pre ≡ true → t.low ≡ true
 
-abbrev pub packet_of : List ℕ → ArrayVec ℕ
-packet_of bytes = record { items = bytes }
+abbrev pub packed : List ℕ → ArrayVec ℕ
+packed bytes = record { items = bytes }
 
 -- SETUP with DATA0
 abbrev pub setup_attempt : Target → List ℕ → Attempt
-setup_attempt t bytes = record { kind = SetupTok; addr = t.addr; ep = 0; low = t.low; pre = t.pre; max = 8; payload = Some (Zero, packet_of bytes) }
+setup_attempt t bytes = record { kind = SetupTok; addr = t.addr; ep = 0; low = t.low; pre = t.pre; max = 8; payload = Some (Zero, packed bytes) }
 
 abbrev pub in_attempt : Target → ℕ → Attempt
 in_attempt t ep = record { kind = InTok; addr = t.addr; ep = ep; low = t.low; pre = t.pre; max = t.max; payload = None }
 
 abbrev pub out_attempt : Target → ℕ → Toggle → List ℕ → Attempt
-out_attempt t ep toggle bytes = record { kind = OutTok; addr = t.addr; ep = ep; low = t.low; pre = t.pre; max = t.max; payload = Some (toggle, packet_of bytes) }
+out_attempt t ep toggle bytes = record { kind = OutTok; addr = t.addr; ep = ep; low = t.low; pre = t.pre; max = t.max; payload = Some (toggle, packed bytes) }
 
 -- at least n attempts were made, and the bus is still at work
 pub record Worked (n : ℕ) (old new : World) : Type 0 where

@@ -1,6 +1,6 @@
 //! What an outcome means to a host that waits for it.
 ghost use Rattle.std.specs.Prelude.{◌≡◌};
-ghost use Rattle.usb_transaction.specs.Heard.{heard_as, sent_as, acks};
+ghost use Rattle.usb_transaction.specs.HeardOutcomes.{heard_as, heard_when_sent, acks};
 
 use arrayvec::ArrayVec;
 use usb_bus::Outcome;
@@ -42,7 +42,7 @@ pub(crate) fn judged(awaited: Toggle, outcome: Outcome) -> Heard
 
 /// What an outcome is to a host that has sent a packet.
 pub(crate) fn judged_sent(outcome: &Outcome) -> Heard
-    ensures { result ≡ sent_as outcome.now }
+    ensures { result ≡ heard_when_sent outcome.now }
 {
     match outcome {
         Outcome::Ack => Heard::Moved(ArrayVec::new()),

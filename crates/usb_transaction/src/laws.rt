@@ -17,7 +17,7 @@ ghost use Rattle.usb_transaction.specs.declared.fault.TransFault.{TransFault as 
 ghost use Rattle.usb_transaction.specs.declared.target.Target.{Target as ATarget};
 ghost use Rattle.usb_transaction.specs.Answerer.{HadOne, IsAnswer};
 ghost use Rattle.usb_transaction.specs.Attempts.{IsOnly, TransactionAttempts};
-ghost use Rattle.usb_transaction.specs.Heard.{heard_as, sent_as, set_up_as};
+ghost use Rattle.usb_transaction.specs.HeardOutcomes.{heard_as, heard_when_sent, set_up_as};
 ghost use Rattle.usb_transaction.specs.Losses.{begins_no_stretch, LossesIn, LosesNone};
 ghost use Rattle.usb_transaction.specs.Leaves.{SourceBetween, SinkBetween};
 ghost use Rattle.usb_transaction.specs.Trail.{Trail, GoesOn, Ended, Transacted, Polled};
@@ -49,7 +49,7 @@ pub fn who_had_the_address()
         → new.shared ≡ false → HadOne t old }
     ensures out { (t : ATarget) (ep : ℕ) (toggle : Toggle) (bytes : List ℕ) (fault : AFault)
         (old new : World) → IsSettled old.roots → IsAnswer fault
-        → Transacted sent_as (out_attempt t ep toggle bytes) old (Err fault) new
+        → Transacted heard_when_sent (out_attempt t ep toggle bytes) old (Err fault) new
         → new.shared ≡ false → HadOne t old }
     ensures polled { (t : ATarget) (ep : ℕ) (toggle : Toggle) (fault : AFault) (old new : World)
         → IsSettled old.roots → IsAnswer fault
@@ -66,7 +66,7 @@ pub fn what_is_so_between_bulk_attempts()
         → now.shared ≡ false → EachWas (SourceBetween t ep awaited) old now }
     ensures out { (t : ATarget) (ep : ℕ) (toggle : Toggle) (bytes : List ℕ)
         (outcomes : List AnOutcome) (old now : World) → IsSettled old.roots
-        → Trail (out_attempt t ep toggle bytes) old outcomes now → GoesOn sent_as outcomes
+        → Trail (out_attempt t ep toggle bytes) old outcomes now → GoesOn heard_when_sent outcomes
         → now.shared ≡ false → EachWas (SinkBetween t ep toggle bytes) old now }
 {}
 

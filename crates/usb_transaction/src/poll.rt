@@ -1,8 +1,8 @@
 //! IN, where NAK is an answer.
 ghost use Rattle.std.specs.Prelude.{◌≡◌, ◌<◌};
-ghost use Rattle.usb_bus.specs.Traced.{Went};
+ghost use Rattle.usb_bus.specs.Traces.{Went};
 ghost use Rattle.usb_transaction.specs.Calls.{PollsIn};
-ghost use Rattle.usb_transaction.specs.Heard.{toggle_after};
+ghost use Rattle.usb_transaction.specs.HeardOutcomes.{toggle_after};
 ghost use Rattle.usb_transaction.specs.Transactions.{IsTarget};
 
 use crate::attempt::attempt_of_in;

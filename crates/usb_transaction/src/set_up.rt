@@ -1,5 +1,5 @@
 //! SETUP.
-ghost use Rattle.usb_bus.specs.Traced.{Went};
+ghost use Rattle.usb_bus.specs.Traces.{Went};
 ghost use Rattle.usb_transaction.specs.Calls.{SetsUp};
 ghost use Rattle.usb_transaction.specs.Transactions.{IsTarget};
 

@@ -1,6 +1,6 @@
 //! OUT.
 ghost use Rattle.std.specs.Prelude.{◌≡◌, ◌≤◌, ◌<◌, length, MatchResult};
-ghost use Rattle.usb_bus.specs.Traced.{Went};
+ghost use Rattle.usb_bus.specs.Traces.{Went};
 ghost use Rattle.usb_transaction.specs.Calls.{SendsOut};
 ghost use Rattle.usb_packet.specs.Toggles.{other};
 ghost use Rattle.usb_transaction.specs.Transactions.{IsTarget};

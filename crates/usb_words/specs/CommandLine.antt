@@ -21,14 +21,14 @@ abbrev pub program_app : App
 program_app = with_subcommand (with_subcommand (with_subcommand plain_app (text_app (codes "packet")).top) (text_app (codes "tree")).top) (text_app (codes "run")).top
 
 -- clap reads this subcommand from the words, with this text
-pub record Asks (words : List Text) (name text : List ℕ) : Type 0 where
+pub record HasSubcommand (words : List Text) (name text : List ℕ) : Type 0 where
   pub rows : List Row
   pub subcommand : subcommand_of program_app words ≡ Some (name, rows)
   pub value : first_of (codes "text") rows ≡ Some text
 
 -- what the words say, by the subcommand that clap reads from them and its text
-abbrev pub Reads : List Text → Words → Type 0
-Reads words Stdin = subcommand_of program_app words ≡ None
-Reads words (Packet text) = Asks words (codes "packet") text.now
-Reads words (Tree text) = Asks words (codes "tree") text.now
-Reads words (Run text) = Asks words (codes "run") text.now
+abbrev pub ReadsWords : List Text → Words → Type 0
+ReadsWords words Stdin = subcommand_of program_app words ≡ None
+ReadsWords words (Packet text) = HasSubcommand words (codes "packet") text.now
+ReadsWords words (Tree text) = HasSubcommand words (codes "tree") text.now
+ReadsWords words (Run text) = HasSubcommand words (codes "run") text.now

@@ -2,7 +2,7 @@
 ghost use Rattle.std.specs.Prelude.{◌≡◌, IfOk, map, true, false};
 ghost use Rattle.clap.specs.Simple.{app_of, subcommand_of, subcommand_rows_of, with_subcommand};
 ghost use Rattle.clap.specs.Walk.{rule_of};
-ghost use Rattle.usb_words.specs.CommandLine.{Reads, plain_app, program_app, text_app, text_rule};
+ghost use Rattle.usb_words.specs.CommandLine.{ReadsWords, plain_app, program_app, text_app, text_rule};
 
 use clap::error::ErrorKind;
 use clap::{Arg, ArgAction, ArgMatches, Command, Error};
@@ -40,7 +40,7 @@ pub enum WordFault {
 /// # Errors
 /// Refused where `clap` reads no such command, or is asked for the help or the version.
 pub fn read_words<'a>(alloc: Global, words: &'a [&'a str]) -> Result<Words<'a>, WordFault>
-    ensures { IfOk result (λ asked. Reads (map (λ s. s.now) words.entry.now) asked) }
+    ensures { IfOk result (λ asked. ReadsWords (map (λ s. s.now) words.entry.now) asked) }
 {
     let matches = match matches_of(alloc, words) {
         Ok(matches) => matches,

@@ -1,23 +1,16 @@
 -- IN and OUT change no address, where no device at theirs takes another.
-use Rattle.std.proofs.Common.{◌≡◌, ℕ, zero, suc, ◌+◌, ◌==◌, ◌&&◌, nat_lt, if◌then◌else◌, inl, inr, Bool, true, false, List, [], ◌∷◌, length, take, Option, None, Some, option_map, refl, ap, sym, subst, ◌∙◌}
-use Rattle.usb_packet.specs.declared.Packet.{Packet}
-use Rattle.usb_packet.specs.declared.Packet.TheVariants.{Token, Payload, Ack, Sof, Nak, Stall, Pre}
-use Rattle.usb_packet.specs.declared.Toggle.{Toggle}
-use Rattle.usb_packet.specs.declared.Toggle.TheVariants.{Zero, One as Data1}
+use Rattle.std.proofs.Common.{◌≡◌, ℕ, zero, suc, ◌==◌, ◌&&◌, if◌then◌else◌, inl, inr, Bool, true, false, List, [], ◌∷◌, Option, None, Some, option_map, refl, ap, sym, subst, ◌∙◌, arith}
+use Rattle.usb_packet.specs.declared.Packet.TheVariants.{Token, Payload, Ack}
 use Rattle.usb_packet.specs.declared.TokenKind.{TokenKind}
 use Rattle.usb_packet.specs.declared.TokenKind.TheVariants.{OutTok, InTok, SetupTok}
 use Rattle.usb_port.specs.PortState.{PortState}
-use Rattle.usb_device.specs.declared.answer.Answer.TheVariants as answer
 use Rattle.usb_device.specs.declared.delivery.Content.{Content}
 use Rattle.usb_device.specs.declared.delivery.Content.TheVariants.{Whole, Broken}
 use Rattle.usb_device.specs.declared.delivery.Sent.{Sent}
 use Rattle.usb_device.specs.declared.effect.Effect.TheVariants.{Leaves}
-use Rattle.usb_device.specs.declared.transfer.Giver.TheVariants as by
 use Rattle.usb_device.specs.declared.transfer.Memory.{Memory}
-use Rattle.usb_device.specs.declared.transfer.Memory.TheVariants.{Nothing, SetupSeen, OutSeen, AckAwaited}
-use Rattle.usb_device.specs.Bulk.{is_same, tells_changes, change_bits}
-use Rattle.usb_device.specs.Transfer.{Stage, idle, refused, reading, read, ending, max_packet, packet_at, toggle_at}
-use Rattle.usb_device.specs.Rows.{State, Reply, received, unread, forgotten, answered, gives, is_busy, nak_row, unless_busy, in_row, out_row, status_row, ack_row, source_row, in_bulk_row, in_other_row, changes_row, held_row, sink_row, sunk, out_bulk_row, bulk_ack_row, bulk_of, rest_of, token_row, payload_row, after_memory, awaits_control, ends_with_address, awaits_address}
+use Rattle.usb_device.specs.declared.transfer.Memory.TheVariants.{Nothing, SetupSeen}
+use Rattle.usb_device.specs.Rows.{State, Reply, received, unread, forgotten, answered, unless_busy, in_row, in_other_row, bulk_ack_row, token_row, after_memory, awaits_control, ends_with_address, awaits_address}
 use Rattle.usb_device.specs.Effect.{asks, asked_by_data}
 use Rattle.usb_device.specs.Tree.{Ports, ended, vacant, taken, Place, empty, full, row_of, reach_at, state_at, place_at}
 use Rattle.usb_device.specs.Delivery.{hears, reply_to, answer_of, asked_by, effect_of}
@@ -27,10 +20,8 @@ use Rattle.usb_world.specs.declared.event.Event.{Event}
 use Rattle.usb_world.specs.declared.types.Attempt.{Attempt}
 use Rattle.usb_world.specs.declared.types.BusFault.{BusFault}
 use Rattle.usb_world.specs.declared.types.BusFault.TheVariants.{LimitReached}
-use Rattle.usb_world.specs.declared.wire.Mark.{Mark}
-use Rattle.usb_world.specs.declared.wire.Mark.TheVariants as mark
 use Rattle.usb_world.specs.Wire.{mark_of, harm_to, marked}
-use Rattle.usb_world.specs.Exchange.{token_of, sent_as, token_out, payload_out, reply_out, ports_in}
+use Rattle.usb_world.specs.Exchange.{token_of, token_out, payload_out, reply_out, ports_in}
 use Rattle.usb_world.specs.Paths.{address_of}
 use Rattle.usb_world.specs.WayEffects.{resets_at, reset_if}
 use Rattle.usb_world.specs.Passes.{passed, heard_state, deep_at, pass_resets, attempt_resets, IsDataOut, IfOut, IsSettled}
@@ -38,9 +29,10 @@ use Rattle.usb_world.specs.World.{World}
 use Rattle.usb_world.specs.Steps.{is_due, took, took_first, event_taken, due_from, ready, damage_in, with_attempt, attempted, Step, attempt, root_call, event, report, after, Course, here, step}
 use Rattle.usb_world.specs.Courses.{Own, Injective}
 use Rattle.usb_world.specs.Addresses.{is_setup, NoneTakes, MovesData, GivesNoAddress}
+use Rattle.usb_world.proofs.AwaitedAcks.{plain_answer, plain_data}
 use Rattle.usb_world.proofs.Booleans.{no, and_false}
 use Rattle.usb_world.proofs.PacketEffects.{packet_state}
-use Rattle.usb_world.proofs.AttemptPackets.{forgotten_state, calm_pass, token_out as token_calm_out, ack_out}
+use Rattle.usb_world.proofs.AttemptPackets.{forgotten_state, calm_pass, sent_out, token_out as token_calm_out, ack_out}
 use Rattle.usb_world.proofs.OneDevice.{stands, state_stands, settled_memory}
 use Rattle.usb_world.proofs.OneHolderAttempts.{ready_settled}
 use Rattle.usb_world.proofs.StepInvariants.{settled_called, settled_happened, settled_ports}
@@ -51,7 +43,7 @@ use Rattle.usb_world.proofs.States.{kept_address, forgotten_address}
 
 -- What is so of a device, where one stands there
 
-abbrev If : (State → Type 0) → Option State → Type 0
+abbrev pub If : (State → Type 0) → Option State → Type 0
 If P None = Unit {0}
 If P (Some s) = P s
 
@@ -84,7 +76,7 @@ pass_if P Q (Some q) k j p r f g h =
 
 -- The token of IN or OUT
 
-abbrev saw_setup : Memory → Bool
+abbrev pub saw_setup : Memory → Bool
 saw_setup SetupSeen = true
 saw_setup m = false
 
@@ -97,45 +89,14 @@ stays_if d true x y h g = h
 stays_if d false x y h g = g
 
 module _ (d : State) (rests : saw_setup d.memory ≡ false) where
-  stays : Stays d d
-  stays = (rests, refl)
-
-  stays_in : (s : Stage) → Stays d (in_row d s).1
-  stays_in idle = stays
-  stays_in refused = stays
-  stays_in read = stays
-  stays_in (ending a) = (refl, refl)
-  stays_in (reading text wanted n) =
-      elim (packet_at (max_packet d.spec) wanted text n) as (λ o. Stays d (elim o as (λ _. Reply) [ None ↦ (None, d) | Some bytes ↦ gives d by.Control (toggle_at n) bytes ]).1) [
-        | None ↦ stays
-        | Some bytes ↦ (refl, refl)
-      ]
-
-  stays_source : (max : ℕ) → Stays d (source_row d max).1
-  stays_source max =
-      stays_if d d.bulk_in.halted (Some answer.Stall, d) (if length (rest_of d) == 0 then (Some answer.Nak, d) else gives d by.Bulk d.bulk_in.toggle (take max (rest_of d))) stays
-      (stays_if d (length (rest_of d) == 0) (Some answer.Nak, d) (gives d by.Bulk d.bulk_in.toggle (take max (rest_of d))) stays (refl, refl))
-
-  stays_bulk : (e : ℕ) (end : Option (ℕ × ℕ)) → Stays d (in_bulk_row d e end).1
-  stays_bulk e None = stays
-  stays_bulk e (Some end) = stays_if d (end.0 == e) (source_row d end.1) (None, d) (stays_source end.1) stays
-
-  stays_held : (row : List PortState) (h : Option ℕ) → Stays d (held_row d row h).1
-  stays_held row None =
-      stays_if d (change_bits row == 0) (Some answer.Nak, d) (gives (record d { held = Some (change_bits row) }) by.Changes d.changes.toggle (change_bits row ∷ [])) stays (refl, refl)
-  stays_held row (Some bits) = (refl, refl)
+  stays_zero : Stays d (unless_busy d (in_row d d.stage)).1
+  stays_zero = (grind arith, grind arith)
 
   stays_other : (row : List PortState) (e : ℕ) → Stays d (in_other_row d row e).1
-  stays_other row e =
-      stays_if d (e == 1 && tells_changes d.spec d.registers) (changes_row d row) (in_bulk_row d e (bulk_of d true))
-      (stays_if d d.changes.halted (Some answer.Stall, d) (held_row d row d.held) stays (stays_held row d.held))
-      (stays_bulk e (bulk_of d true))
+  stays_other row e = (grind arith, grind arith)
 
   stays_token : (row : List PortState) (e : ℕ) → Stays d (token_row d row InTok e).1
-  stays_token row e =
-      stays_if d (e == 0) (unless_busy d (in_row d d.stage)) (in_other_row d row e)
-      (stays_if d (is_busy d) (nak_row d) (in_row d d.stage) (rests, refl) (stays_in d.stage))
-      (stays_other row e)
+  stays_token row e = stays_if d (e == 0) (unless_busy d (in_row d d.stage)) (in_other_row d row e) stays_zero (stays_other row e)
 
 -- the device waits for no setup data; and for no ACK that gives it an address, where its status stage gives none or the
 -- token was not for it
@@ -176,18 +137,12 @@ token_reply n (Whole (Token OutTok a e)) h s row m = heard s.spec.silent
     heard : (x : Bool) → Asked n s (if x then (None, s) else answered (forgotten s) row s.memory (Token OutTok a e)).1
     heard true = rested_asked n s s m
     heard false = own (a == s.registers.address)
-token_reply n (Whole (Token SetupTok a e)) h s row m = elim h [ ]
-token_reply n (Whole (Payload t b)) h s row m = elim h [ ]
-token_reply n (Whole Ack) h s row m = elim h [ ]
-token_reply n (Whole (Sof f)) h s row m = elim h [ ]
-token_reply n (Whole Nak) h s row m = elim h [ ]
-token_reply n (Whole Stall) h s row m = elim h [ ]
-token_reply n (Whole Pre) h s row m = elim h [ ]
 token_reply n Broken h s row m = heard s.spec.silent
   where
     heard : (x : Bool) → Asked n s (if x then s else forgotten s)
     heard true = rested_asked n s s m
     heard false = rested_asked n s (forgotten s) refl
+token_reply n (Whole p) h s row m = elim h [ ]
 
 token_answer : (n : ℕ) (q : Sent) → IsInOrOut n q.content → (deep : Bool) (s : State) (a : Ports) → s.memory ≡ Nothing → Asked n s (answer_of q deep s a).1
 unfolding answer_of
@@ -202,45 +157,10 @@ token_answer n q c deep s a m = heard (hears q deep s)
 abbrev Forgot : State → Type 0
 Forgot s = s.memory ≡ Nothing
 
-forgot_if : (b : Bool) (x y : Reply) → Forgot x.1 → Forgot y.1 → Forgot (if b then x else y).1
-forgot_if true x y h g = h
-forgot_if false x y h g = g
-
-module _ (d : State) (rests : d.memory ≡ Nothing) where
-  forgot_status : (t : Toggle) (b : List ℕ) → Forgot (status_row d t b).1
-  forgot_status Zero b = rests
-  forgot_status Data1 [] = rests
-  forgot_status Data1 (x ∷ b) = rests
-
-  forgot_out : (g : Stage) (t : Toggle) (b : List ℕ) → Forgot (out_row d g t b).1
-  forgot_out idle t b = rests
-  forgot_out refused t b = rests
-  forgot_out (reading x y z) t b = forgot_status t b
-  forgot_out read t b = forgot_status t b
-  forgot_out (ending x) t b = rests
-
-  forgot_sink : (max : ℕ) (t : Toggle) (b : List ℕ) → Forgot (sink_row d max t b).1
-  forgot_sink max t b =
-      forgot_if d.bulk_out.halted (Some answer.Stall, d) (if nat_lt max (length b) then (None, d) else if is_same t d.bulk_out.toggle then (Some answer.Ack, sunk d b) else (Some answer.Ack, d)) rests
-      (forgot_if (nat_lt max (length b)) (None, d) (if is_same t d.bulk_out.toggle then (Some answer.Ack, sunk d b) else (Some answer.Ack, d)) rests
-      (forgot_if (is_same t d.bulk_out.toggle) (Some answer.Ack, sunk d b) (Some answer.Ack, d) rests rests))
-
-  forgot_bulk : (e : ℕ) (o : Option (ℕ × ℕ)) (t : Toggle) (b : List ℕ) → Forgot (out_bulk_row d e o t b).1
-  forgot_bulk e None t b = rests
-  forgot_bulk e (Some end) t b = forgot_if (end.0 == e) (sink_row d end.1 t b) (None, d) (forgot_sink end.1 t b) rests
-
-  forgot_payload : (row : List PortState) (m : Memory) (t : Toggle) (b : List ℕ) → saw_setup m ≡ false → Forgot (payload_row d row m t b).1
-  forgot_payload row Nothing t b h = rests
-  forgot_payload row (AckAwaited g) t b h = rests
-  forgot_payload row SetupSeen t b h = no (sym h)
-  forgot_payload row (OutSeen e) t b h =
-      forgot_if (e == 0) (unless_busy d (out_row d d.stage t b)) (out_bulk_row d e (bulk_of d false) t b)
-      (forgot_if (is_busy d) (nak_row d) (out_row d d.stage t b) rests (forgot_out d.stage t b)) (forgot_bulk e (bulk_of d false) t b)
-
 abbrev AwaitsNone : State → Type 0
 AwaitsNone s = awaits_address s ≡ false
 
-abbrev WaitsNone : State → Type 0
+abbrev pub WaitsNone : State → Type 0
 WaitsNone s = saw_setup s.memory ≡ false
 
 abbrev IsCalmed : State → Type 0
@@ -250,48 +170,22 @@ forgot_awaits : (s : State) → Forgot s → AwaitsNone s
 unfolding awaits_address
 forgot_awaits s m = ap (λ y. awaits_control y && ends_with_address s.stage) m
 
-data_reply : (c : Content) → IsDataOut c → (s : State) (row : List PortState) → IsCalmed s → AwaitsNone (reply_to c s row).1
-unfolding received unread
-data_reply (Whole (Payload t b)) h s row r = heard s.spec.silent
-  where
-    heard : (x : Bool) → AwaitsNone (if x then (None, s) else answered (forgotten s) row s.memory (Payload t b)).1
-    heard true = r.1
-    heard false = forgot_awaits (payload_row (forgotten s) row s.memory t b.items).1 (forgot_payload (forgotten s) refl row s.memory t b.items r.0)
-data_reply Broken h s row r = heard s.spec.silent
-  where
-    heard : (x : Bool) → AwaitsNone (if x then s else forgotten s)
-    heard true = r.1
-    heard false = forgot_awaits (forgotten s) refl
-data_reply (Whole (Token t a e)) h s row r = elim h [ ]
-data_reply (Whole Ack) h s row r = elim h [ ]
-data_reply (Whole (Sof f)) h s row r = elim h [ ]
-data_reply (Whole Nak) h s row r = elim h [ ]
-data_reply (Whole Stall) h s row r = elim h [ ]
-data_reply (Whole Pre) h s row r = elim h [ ]
-
 -- a device that waits for no setup data asks nothing of its ports
 data_asks : (c : Content) → IsDataOut c → (s : State) → saw_setup s.memory ≡ false → asked_by c s ≡ Leaves
 unfolding asks
 data_asks (Whole (Payload t b)) h s r = heard s.spec.silent (by_memory s.memory r)
   where
     by_memory : (m : Memory) → saw_setup m ≡ false → asked_by_data s m t b.items ≡ Leaves
-    by_memory Nothing g = refl
-    by_memory (OutSeen e) g = refl
-    by_memory (AckAwaited x) g = refl
     by_memory SetupSeen g = no (sym g)
+    by_memory m g = refl
 
     heard : (x : Bool) → asked_by_data s s.memory t b.items ≡ Leaves → (if x then Leaves else asked_by_data s s.memory t b.items) ≡ Leaves
     heard true g = refl
     heard false g = g
 data_asks Broken h s r = refl
-data_asks (Whole (Token t a e)) h s r = elim h [ ]
-data_asks (Whole Ack) h s r = elim h [ ]
-data_asks (Whole (Sof f)) h s r = elim h [ ]
-data_asks (Whole Nak) h s r = elim h [ ]
-data_asks (Whole Stall) h s r = elim h [ ]
-data_asks (Whole Pre) h s r = elim h [ ]
+data_asks (Whole p) h s r = elim h [ ]
 
-data_effect : (q : Sent) → IsDataOut q.content → (deep : Bool) (s : State) → saw_setup s.memory ≡ false → effect_of q deep s ≡ Leaves
+pub data_effect : (q : Sent) → IsDataOut q.content → (deep : Bool) (s : State) → saw_setup s.memory ≡ false → effect_of q deep s ≡ Leaves
 unfolding effect_of
 data_effect q c deep s r = heard (hears q deep s)
   where
@@ -322,21 +216,8 @@ pub bulk_acked : (d : State) (o : Option (ℕ × ℕ)) → address_of (bulk_ack_
 bulk_acked d None = refl
 bulk_acked d (Some end) = refl
 
-control_acked : (d : State) (g : Stage) → ends_with_address g ≡ false → address_of (ack_row d g) ≡ address_of d
-control_acked d idle h = refl
-control_acked d refused h = refl
-control_acked d read h = refl
-control_acked d (ending None) h = refl
-control_acked d (ending (Some a)) h = no (sym h)
-control_acked d (reading text wanted n) h = elim (packet_at (max_packet d.spec) wanted text n) as (λ o. address_of (if (elim o as (λ _. Bool) [ None ↦ false | Some _ ↦ true ]) then record d { stage = reading text wanted (n + 1) } else d) ≡ address_of d) [ None ↦ refl | Some b ↦ refl ]
-
 memory_acked : (d : State) (m : Memory) → (awaits_control m && ends_with_address d.stage) ≡ false → address_of (after_memory d m) ≡ address_of d
-memory_acked d Nothing h = refl
-memory_acked d SetupSeen h = refl
-memory_acked d (OutSeen e) h = refl
-memory_acked d (AckAwaited by.Control) h = control_acked d d.stage h
-memory_acked d (AckAwaited by.Bulk) h = bulk_acked d (bulk_of d true)
-memory_acked d (AckAwaited by.Changes) h = refl
+memory_acked d m h = grind arith
 
 -- where a device awaits no ACK to take an address, no packet changes its address
 
@@ -352,12 +233,7 @@ kept_reply Broken s row r = heard s.spec.silent
     heard : (x : Bool) → address_of (if x then s else forgotten s) ≡ address_of s
     heard true = refl
     heard false = refl
-kept_reply (Whole (Payload t b)) s row r = (keeps-received s row (Payload t b)).address refl
-kept_reply (Whole (Token t a e)) s row r = (keeps-received s row (Token t a e)).address refl
-kept_reply (Whole (Sof f)) s row r = (keeps-received s row (Sof f)).address refl
-kept_reply (Whole Nak) s row r = (keeps-received s row Nak).address refl
-kept_reply (Whole Stall) s row r = (keeps-received s row Stall).address refl
-kept_reply (Whole Pre) s row r = (keeps-received s row Pre).address refl
+kept_reply (Whole p) s row r = (keeps-received s row p).address refl
 
 kept_answer : (q : Sent) (deep : Bool) (s : State) (a : Ports) → AwaitsNone s → address_of (answer_of q deep s a).1 ≡ address_of s
 unfolding answer_of
@@ -384,23 +260,8 @@ kept_pass (Some q) k j p h r =
 
 -- The attempt
 
-heard_data : (q : Sent) → IsDataOut q.content → (deep : Bool) (s : State) (a : Ports) → IsCalmed s → AwaitsNone (answer_of q deep s a).1
-unfolding answer_of
-heard_data q c deep s a r = heard (hears q deep s)
-  where
-    heard : (x : Bool) → AwaitsNone (if x then reply_to q.content s (row_of a) else (None, s)).1
-    heard true = data_reply q.content c s (row_of a) r
-    heard false = r.1
-
 of_out : (P : Content → Type 0) (o : Option Sent) (q : Sent) → IfOut P o → o ≡ Some q → P q.content
 of_out P o q h e = subst (IfOut P) e h
-
-token_sent : (n : ℕ) (l pre : Bool) (m : Mark) (p : Packet) → IsInOrOut n (Whole p) → IfOut (IsInOrOut n) (sent_as l pre m p)
-unfolding IsInOrOut
-token_sent n l pre mark.Whole p h = h
-token_sent n l pre mark.Lost p h = tt
-token_sent n l pre mark.PreLost p h = h
-token_sent n l pre (mark.Flipped b) p h = tt
 
 kind_asks : (n e : ℕ) (t : TokenKind) → is_setup t ≡ false → IsInOrOut n (Whole (Token t n e))
 unfolding IsInOrOut
@@ -409,8 +270,8 @@ kind_asks n e OutTok h = refl
 kind_asks n e SetupTok h = no (sym h)
 
 token_goes : (a : Attempt) (d : Option Damage) → is_setup a.kind ≡ false → IfOut (IsInOrOut a.addr) (token_out a d)
-unfolding token_of marked
-token_goes a d h = token_sent a.addr a.low a.pre (mark_of (harm_to d 1) a.pre (Token a.kind a.addr a.ep)) (Token a.kind a.addr a.ep) (kind_asks a.addr a.ep a.kind h)
+unfolding token_of marked IsInOrOut
+token_goes a d h = sent_out (IsInOrOut a.addr) tt a.low a.pre (mark_of (harm_to d 1) a.pre (Token a.kind a.addr a.ep)) (Token a.kind a.addr a.ep) (kind_asks a.addr a.ep a.kind h)
 
 -- IN or OUT, in a tree where no device remembers a packet
 module _ (a : Attempt) (d : Option Damage) (k : Ports) (settled : IsSettled k) (kind : is_setup a.kind ≡ false) where
@@ -427,7 +288,7 @@ module _ (a : Attempt) (d : Option Damage) (k : Ports) (settled : IsSettled k) (
       go None e = tt
       go (Some s) e = c s e (settled_memory k j p s settled e)
 
-  none_waits : (j : ℕ) (p : List ℕ) → If WaitsNone (state_at asked_ports j p)
+  pub none_waits : (j : ℕ) (p : List ℕ) → If WaitsNone (state_at asked_ports j p)
   none_waits j p =
       pass_if Forgot WaitsNone (token_out a d) k j p (token_calm j p) (λ s m. ap saw_setup m)
       (λ q deep s below e on m. (token_answer a.addr q (of_out (IsInOrOut a.addr) (token_out a d) q (token_goes a d kind) e) deep s below m).0)
@@ -452,7 +313,7 @@ module _ (a : Attempt) (d : Option Damage) (k : Ports) (settled : IsSettled k) (
     awaits_none : If AwaitsNone (state_at (passed (payload_out a d) asked_ports) j p)
     awaits_none =
         pass_if IsCalmed AwaitsNone (payload_out a d) asked_ports j p (data_calm j p) (λ s r. r.1)
-        (λ q deep s below e on r. heard_data q (of_out IsDataOut (payload_out a d) q (goes a d k).payload e) deep s below r)
+        (λ q deep s below e on r. plain_answer q (plain_data q.content (of_out IsDataOut (payload_out a d) q (goes a d k).payload e)) deep s below r.1)
         calmed
 
     calmed_awaits : (o : Option State) → If IsCalmed o → If AwaitsNone o

@@ -10,20 +10,20 @@ use Rattle.arrayvec.specs.ArrayVec.{ArrayVec}
 use Rattle.usb_port.specs.PortState.{PortState}
 use Rattle.usb_device.specs.declared.answer.Answer.{Answer}
 use Rattle.usb_device.specs.declared.answer.Answer.TheVariants as answer
-use Rattle.usb_device.specs.declared.calls.PortCall.{PortCall}
+use Rattle.usb_port.specs.declared.call.PortCall.{PortCall}
 use Rattle.usb_device.specs.declared.delivery.Content.{Content}
 use Rattle.usb_device.specs.declared.delivery.Content.TheVariants.{Whole, Broken}
 use Rattle.usb_device.specs.declared.delivery.Sent.{Sent}
 use Rattle.usb_device.specs.declared.transfer.Memory.{Memory}
 use Rattle.usb_device.specs.declared.transfer.Memory.TheVariants.{Nothing, SetupSeen, OutSeen, AckAwaited}
 use Rattle.usb_device.specs.Spec.{Spec}
-use Rattle.usb_device.specs.Kept.{is_ack}
-use Rattle.usb_device.specs.Calls.{is_reset}
+use Rattle.usb_device.specs.PacketFrames.{is_ack}
+use Rattle.usb_port.specs.Calls.{is_reset}
 use Rattle.usb_device.specs.Rows.{State, Reply, received, unread, forgotten, payload_row, token_row, status_row, out_row, sink_row, sunk, out_bulk_row, bulk_of, is_busy, nak_row, unless_busy, accepted}
 use Rattle.usb_device.specs.Bulk.{is_same}
 use Rattle.usb_device.specs.Transfer.{Stage, idle, refused, reading, read, ending}
 use Rattle.usb_request.specs.Layout.{setup_of}
-use Rattle.usb_device.specs.Tree.{Ports, ended, vacant, taken, Place, empty, full, called, replaced, changed, reach, reach_at, state_at, place_at, row_of}
+use Rattle.usb_device.specs.Tree.{Ports, ended, vacant, taken, Place, empty, full, called, replaced, changed, reach, reach_at, state_at, place_at, row_of, path_to, state_on}
 use Rattle.usb_device.specs.Delivery.{hears, reply_to, answer_of, answers, listed, held, is_twice}
 use Rattle.usb_device.proofs.Interface.{keeps-received}
 use Rattle.usb_world.specs.declared.damage.Damage.{Damage}
@@ -40,7 +40,7 @@ use Rattle.usb_world.specs.Exchange.{token_of, payload_of, reply_of, sent_as, go
 use Rattle.usb_device.specs.View.{state_there}
 use Rattle.usb_world.specs.Paths.{address_of, is_way, Two}
 use Rattle.usb_world.specs.WayEffects.{resets_at, call_resets}
-use Rattle.usb_world.specs.Passes.{passed, told, after_attempt, heard_state, deep_at, pass_resets, attempt_resets}
+use Rattle.usb_world.specs.Passes.{passed, answers_to, after_attempt, heard_state, deep_at, pass_resets, attempt_resets}
 use Rattle.usb_world.specs.World.{World}
 use Rattle.usb_world.specs.Steps.{with_plugged, happened, way_of, names_path, is_due, took, took_first, due_from, ready, damage_in, with_attempt, attempted, event_taken, Step, attempt, root_call, event, report, after, Course, here, step}
 use Rattle.usb_world.specs.Courses.{is_made, made_resets, root_resets, resets, address_at, Own, Injective, is_quiet, QuietStep, quiet_data, IsHarmlessOut}
@@ -116,9 +116,9 @@ own_not_twice f inj w own = split (decided (is_twice (held w.roots)))
     at_of h x n e g = sym e ∙ g
 
     found : (t : Two w.roots) → false ≡ true
-    found t = sym t.differ ∙ inj (suc t.one.i ∷ t.one.p) (suc t.other.i ∷ t.other.p) t.n
-        (at_of (option_map address_of (state_at w.roots t.one.i t.one.p)) (f (suc t.one.i ∷ t.one.p)) t.n (own (suc t.one.i ∷ t.one.p) t.one.on) t.one.at)
-        (at_of (option_map address_of (state_at w.roots t.other.i t.other.p)) (f (suc t.other.i ∷ t.other.p)) t.n (own (suc t.other.i ∷ t.other.p) t.other.on) t.other.at)
+    found t = sym t.differ ∙ inj (path_to t.one.spot) (path_to t.other.spot) t.n
+        (at_of (option_map address_of (state_on w.roots t.one.spot)) (f (path_to t.one.spot)) t.n (own (path_to t.one.spot) t.one.on) t.one.at)
+        (at_of (option_map address_of (state_on w.roots t.other.spot)) (f (path_to t.other.spot)) t.n (own (path_to t.other.spot) t.other.on) t.other.at)
 
     split : (is_twice (held w.roots) ≡ true) ⊎ (is_twice (held w.roots) ≡ false) → is_twice (held w.roots) ≡ false
     split (inl y) = no (found (twice_two w.roots y))
@@ -270,7 +270,7 @@ SetupIfOut : Option Sent → Type 0
 SetupIfOut None = Unit {0}
 SetupIfOut (Some q) = IsSetupOut q.content
 
-plain_told : (o : Option Sent) → SetupIfOut o → (k : Ports) → all_plain (told o k) ≡ true
+plain_told : (o : Option Sent) → SetupIfOut o → (k : Ports) → all_plain (answers_to o k) ≡ true
 unfolding all_plain SetupIfOut
 plain_told None c k = refl
 plain_told (Some q) c k = plain_answers q c false k
@@ -337,8 +337,8 @@ no_reply : (a : Attempt) (d : Option Damage) (k : Ports) → SetupGoes a d → r
 unfolding marked_some
 no_reply a d k g =
     ap (λ o. goes_out a (marked_some d (place_of_answer a d + 1) a.pre o))
-    (plain_reply (told (token_out a d) k ++ told (payload_out a d) (passed (token_out a d) k)) (mark_in a d k) a.max
-    (plain_append (told (token_out a d) k) (told (payload_out a d) (passed (token_out a d) k)) (plain_told (token_out a d) g.token k) (plain_told (payload_out a d) g.payload (passed (token_out a d) k))))
+    (plain_reply (answers_to (token_out a d) k ++ answers_to (payload_out a d) (passed (token_out a d) k)) (mark_in a d k) a.max
+    (plain_append (answers_to (token_out a d) k) (answers_to (payload_out a d) (passed (token_out a d) k)) (plain_told (token_out a d) g.token k) (plain_told (payload_out a d) g.payload (passed (token_out a d) k))))
 
 made_address : (a : Attempt) (w : World) → SetupGoes a (damage_in w) → (p : List ℕ) → address_at (with_attempt a w).roots p ≡ address_at w.roots p
 unfolding with_attempt ports_in

@@ -22,6 +22,7 @@ use Rattle.usb_world.specs.Addresses.{is_setup, after_taking, ends_status}
 use Rattle.usb_world.proofs.Booleans.{no, decided}
 use Rattle.usb_world.proofs.Holders.{one_path}
 use Rattle.usb_world.proofs.Courses.{made_reach}
+use Rattle.usb_world.proofs.OneHolder.{holder_holds}
 use Rattle.usb_world.proofs.OneHolderAttempts.{made_is, holder_in, in_in, silent_in}
 use Rattle.usb_world.proofs.AddressesInTransfers.{due_own, data_calm, ports_address, bulk_acked}
 use Rattle.usb_world.proofs.RootResets.{same_is}
@@ -102,7 +103,9 @@ module _ (s : State) (max : ℕ) (x y : Way) where
 
 -- In a world
 
-module _ (a : Attempt) (w : World) (j : ℕ) (p : List ℕ) (b : PortState) (s : State) (below : Ports) (h : HolderIn a w j p b s below) (into : IsIn a) (n : ℕ) (stage : s.stage ≡ ending (Some n)) where
+module _ (a : Attempt) (w : World) (h : HolderIn a w) (into : IsIn a) (n : ℕ) (stage : h.own.stage ≡ ending (Some n)) where
+  open h use {spot.{row as j, rest as p}, own as s, below}
+
   abbrev k : Ports
   k = (ready w).roots
 
@@ -115,8 +118,8 @@ module _ (a : Attempt) (w : World) (j : ℕ) (p : List ℕ) (b : PortState) (s :
   kind : is_setup a.kind ≡ false
   kind = ap is_setup into.kind
 
-  one : Holder a.addr k j p b s below
-  one = holder_in a w j p b s below h
+  abbrev one : Holder a.addr k
+  one = holder_in a w h
 
   own_state : address_of s ≡ a.addr
   own_state = h.at
@@ -126,17 +129,17 @@ module _ (a : Attempt) (w : World) (j : ℕ) (p : List ℕ) (b : PortState) (s :
     where
       pick : (x : Bool) → s.spec.silent ≡ x → option_map address_of (state_at (after (attempt a) w).roots j p) ≡ Some taken
       pick true e =
-          ap (option_map address_of) (silent_in a w j p b s below h e).state
+          ap (option_map address_of) (silent_in a w h e).state
           ∙ ap (λ x. Some (if not x && (is_whole (token_way a (damage_in (ready w)) (deep_at false p) s) && (a.ep == 0 && (not (is_busy s) && (is_whole (answer_way a (damage_in (ready w)) k) && is_whole (reply_way a (damage_in (ready w)) k (deep_at false p) s))))) then n else address_of s)) (sym e)
       pick false e =
-          ap (option_map address_of) (in_in a w j p b s below h e into).state
+          ap (option_map address_of) (in_in a w h e into).state
           ∙ ap (λ x. Some x) (in_address s a.max (answer_way a (damage_in (ready w)) k) (reply_way a (damage_in (ready w)) k (deep_at false p) s) (row_of below) a.ep (token_way a (damage_in (ready w)) (deep_at false p) s) n stage)
           ∙ ap (λ x. Some (if not x && (is_whole (token_way a (damage_in (ready w)) (deep_at false p) s) && (a.ep == 0 && (not (is_busy s) && (is_whole (answer_way a (damage_in (ready w)) k) && is_whole (reply_way a (damage_in (ready w)) k (deep_at false p) s))))) then n else address_of s)) (sym e)
 
   -- another device takes none
   others : (i : ℕ) (e : List ℕ) → (same_number j i && same_path p e) ≡ false → (t : State) → reach_at k i e ≡ true → state_at k i e ≡ Some t → address_of t ≡ a.addr → ends_with_address t.stage ≡ false
   others i e d t on at x =
-      let z : (j ≡ i) × (p ≡ e) = one_path k j p i e a.addr one.one.single one.one.on one.one.at on (ap (option_map address_of) at ∙ ap (λ y. Some y) x) in
+      let z : (j ≡ i) × (p ≡ e) = one_path k j p i e a.addr one.single one.on (holder_holds a.addr k one).at on (ap (option_map address_of) at ∙ ap (λ y. Some y) x) in
       no (sym d ∙ ap₂ (λ u v. same_number j u && same_path p v) (sym z.0) (sym z.1) ∙ ap₂ (λ u v. u && v) (self_number j) (self_path p))
 
   module _ (f : List ℕ → Option ℕ) (own : Own f w) where
@@ -182,5 +185,5 @@ module _ (a : Attempt) (w : World) (j : ℕ) (p : List ℕ) (b : PortState) (s :
             pick : (x : Bool) → same_path (suc j ∷ p) q ≡ x → (if x then Some (if ends then n else address_of s) else f q) ≡ f q
             pick false e = refl
             pick true e =
-                ap (λ x. Some (if x then n else address_of s)) y ∙ ap (λ x. Some x) own_state ∙ sym one.one.at ∙ own_ready (suc j ∷ p) one.one.on
+                ap (λ x. Some (if x then n else address_of s)) y ∙ ap (λ x. Some x) own_state ∙ sym (holder_holds a.addr k one).at ∙ own_ready (suc j ∷ p) one.on
                 ∙ ap f (sym (same_is (suc j ∷ p) q e))

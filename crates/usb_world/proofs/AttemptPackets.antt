@@ -15,6 +15,9 @@ use Rattle.usb_device.specs.Attempt.{is_own}
 use Rattle.usb_device.specs.Effect.{asks}
 use Rattle.usb_device.specs.Tree.{Ports, ended, vacant, taken, full, all_off, acted, row_of, reach_at, state_at, port_at, place_at}
 use Rattle.usb_device.specs.Delivery.{hears, reply_to, answer_of, asked_by, effect_of, after_packet, all_forgotten}
+use Rattle.usb_world.specs.declared.wire.Mark.{Mark}
+use Rattle.usb_world.specs.declared.wire.Mark.TheVariants as mark
+use Rattle.usb_world.specs.Exchange.{sent_as}
 use Rattle.usb_world.specs.Paths.{live_at, pend_at}
 use Rattle.usb_world.specs.WayEffects.{IsNew, resets_at, packet_spares}
 use Rattle.usb_world.specs.SanePorts.{IsSane}
@@ -84,6 +87,13 @@ calm_spares q c deep (taken b s a k) (suc j) p = calm_spares q c deep k j p
 abbrev pub CalmOut : Option Sent → Type 0
 CalmOut None = Unit {0}
 CalmOut (Some q) = IsCalm q
+
+-- what is so of a packet of the host, and of bytes that spell none, is so of what goes out of it
+pub sent_out : (P : Content → Type 0) → P Broken → (l pre : Bool) (m : Mark) (p : Packet) → P (Whole p) → IfOut P (sent_as l pre m p)
+sent_out P e l pre mark.Whole p h = h
+sent_out P e l pre mark.Lost p h = tt
+sent_out P e l pre mark.PreLost p h = h
+sent_out P e l pre (mark.Flipped b) p h = e
 
 pub token_out : (n : ℕ) (o : Option Sent) → IfOut (IsTokenFor n) o → CalmOut o
 token_out n None h = tt

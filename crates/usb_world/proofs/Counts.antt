@@ -1,15 +1,17 @@
 -- How the counts of several steps join.
 use Rattle.std.proofs.Common.{◌≡◌, ◌∙◌, refl, sym, ap, subst, arith, suc, zero, inl, inr}
 use Rattle.std.proofs.lemmas.Option.{same_Some}
-use Rattle.std.specs.Prelude.{ℕ, ◌+◌, ◌-◌, ◌<◌, ◌≤◌, List, [], ◌∷◌, length, Bool, true, false, slice_get, slice_set, slice_index_or, unwrap_or, if◌then◌else◌, ◌&&◌, ◌==◌, Option, Some, None}
-use Rattle.usb_port.specs.PortState.{PortState, is_attached, off, set_row, clear_row}
+use Rattle.std.specs.Prelude.{ℕ, ◌+◌, ◌-◌, ◌<◌, ◌≤◌, List, [], ◌∷◌, length, Bool, true, false, slice_get, slice_set, slice_index_or, is_some, if◌then◌else◌, ◌&&◌, ◌==◌, Option, Some, None}
+use Rattle.usb_port.specs.PortState.{PortState, is_attached, off}
 use Rattle.std.proofs.Common.{length-set}
-use Rattle.usb_device.specs.declared.calls.PortCall.{PortCall}
-use Rattle.usb_device.specs.declared.calls.PortCall.TheVariants.{SetPower, SetReset, ClearEnable, ClearPower, ClearConnectionChange, ClearEnableChange, ClearResetChange}
-use Rattle.usb_device.specs.Calls.{called_port, is_reset, set_call, clear_call}
+use Rattle.usb_request.specs.Features.{PORT_ENABLE, PORT_RESET, PORT_POWER, C_PORT_CONNECTION, C_PORT_ENABLE, C_PORT_RESET}
+use Rattle.usb_port.specs.declared.call.PortCall.{PortCall}
+use Rattle.usb_port.specs.declared.call.PortCall.TheVariants.{SetPower, SetReset, ClearEnable, ClearPower, ClearConnectionChange, ClearEnableChange, ClearResetChange}
+use Rattle.usb_port.specs.Calls.{called_port, port_by, is_reset, set_call, clear_call, IsSetFeature, IsClearFeature}
 use Rattle.usb_device.specs.Rows.{State}
 use Rattle.usb_device.specs.Tree.{Ports, ended, vacant, taken, new_ports, Place, empty, full, before, reset_where, called, replaced, changed, changed_at, row_of}
-use Rattle.usb_world.specs.World.{World, roots_of, root_row, to_come, change_of, Spends, IsRootPort, IsSetFeature, IsClearFeature, changes, root_port_at}
+use Rattle.usb_world.proofs.Booleans.{no}
+use Rattle.usb_world.specs.World.{World, roots_of, root_row, to_come, change_of, Spends, IsRootPort, changes, root_port_at}
 use Rattle.usb_device.specs.Spec.{Spec}
 use Rattle.usb_world.specs.declared.event.Action.{Action}
 use Rattle.usb_world.specs.declared.event.Action.TheVariants.{Plug, Unplug, Show, Send, Receive, Clear}
@@ -92,48 +94,17 @@ unfolding after root_port_at
 called_root zero c w is = absurd (omega (arith, is.0))
 called_root (suc i) c w is = record { row = subst (λ j. row_of (changed_at (called c) w.roots i []) ≡ slice_set (row_of w.roots) j (called_port c (slice_index_or (row_of w.roots) j off))) (before_next i) (row_called c w.roots i); attempts = refl; limit = refl; taken = refl; left = refl; fault = refl }
 
--- the rows of the port table by their features
-set_is : (feature : ℕ) (p : PortState) → IsSetFeature feature → (c : PortCall) × (set_call feature ≡ Some c) × (unwrap_or (set_row feature p) p ≡ called_port c p)
-unfolding set_call set_row
-set_is feature p (inl e) = rw e (SetReset, refl, refl)
-set_is feature p (inr e) = rw e (SetPower, refl, refl)
-
-clear_is : (feature : ℕ) (p : PortState) → IsClearFeature feature → (c : PortCall) × (clear_call feature ≡ Some c) × (unwrap_or (clear_row feature p) p ≡ called_port c p)
-unfolding clear_call clear_row
-clear_is feature p (inl e) = rw e (ClearEnable, refl, refl)
-clear_is feature p (inr (inl e)) = rw e (ClearPower, refl, refl)
-clear_is feature p (inr (inr (inl e))) = rw e (ClearConnectionChange, refl, refl)
-clear_is feature p (inr (inr (inr (inl e)))) = rw e (ClearEnableChange, refl, refl)
-clear_is feature p (inr (inr (inr (inr e)))) = rw e (ClearResetChange, refl, refl)
-
-pub root_set : (port feature : ℕ) (old new : World) → IsRootPort old port → IsSetFeature feature → SetsRoot port feature old new → RootCalled port (unwrap_or (set_row feature (root_port_at old port)) (root_port_at old port)) old new
-root_set port feature old new is named s =
-    let (c, found, same) = set_is feature (root_port_at old port) named in
-    let P : PortState → Type 0 = λ p. RootCalled port p old (after (root_call c port) old) in
-    subst (λ w. RootCalled port (unwrap_or (set_row feature (root_port_at old port)) (root_port_at old port)) old w) (sym (s.step c found)) (subst P (sym same) (called_root port c old is))
-
-pub root_cleared : (port feature : ℕ) (old new : World) → IsRootPort old port → IsClearFeature feature → ClearsRoot port feature old new → RootCalled port (unwrap_or (clear_row feature (root_port_at old port)) (root_port_at old port)) old new
-root_cleared port feature old new is named s =
-    let (c, found, same) = clear_is feature (root_port_at old port) named in
-    let P : PortState → Type 0 = λ p. RootCalled port p old (after (root_call c port) old) in
-    subst (λ w. RootCalled port (unwrap_or (clear_row feature (root_port_at old port)) (root_port_at old port)) old w) (sym (s.step c found)) (subst P (sym same) (called_root port c old is))
+-- a call at a root port, and its row of the port table
+pub root_called : (port : ℕ) (call : Option PortCall) (old new : World) → IsRootPort old port → is_some call ≡ true → ((c : PortCall) → call ≡ Some c → new ≡ after (root_call c port) old) → RootCalled port (port_by call (root_port_at old port)) old new
+root_called port None old new is named step = no named
+root_called port (Some c) old new is named step = subst (λ w. RootCalled port (called_port c (root_port_at old port)) old w) (sym (step c refl)) (called_root port c old is)
 
 -- a step is a root call of its feature
 pub set_step : (port feature : ℕ) (old new : World) → IsRootPort old port → IsSetFeature feature → ((c : PortCall) → set_call feature ≡ Some c → new ≡ after (root_call c port) old) → SetsRoot port feature old new
-set_step port feature old new is named step =
-    let (c, found, same) = set_is feature (root_port_at old port) named in
-    record {
-      step = step;
-      row = ap (λ w. root_row w) (step c found) ∙ (called_root port c old is).row ∙ ap (λ p. slice_set (root_row old) (port - 1) p) (sym same);
-    }
+set_step port feature old new is named step = record { step = step; row = (root_called port (set_call feature) old new is named step).row }
 
 pub clear_step : (port feature : ℕ) (old new : World) → IsRootPort old port → IsClearFeature feature → ((c : PortCall) → clear_call feature ≡ Some c → new ≡ after (root_call c port) old) → ClearsRoot port feature old new
-clear_step port feature old new is named step =
-    let (c, found, same) = clear_is feature (root_port_at old port) named in
-    record {
-      step = step;
-      row = ap (λ w. root_row w) (step c found) ∙ (called_root port c old is).row ∙ ap (λ p. slice_set (root_row old) (port - 1) p) (sym same);
-    }
+clear_step port feature old new is named step = record { step = step; row = (root_called port (clear_call feature) old new is named step).row }
 
 -- whatever is written somewhere, a row has as many ports
 row_head : (q : Place) (k : Ports) → length (row_of (before q k)) ≡ suc (length (row_of k))
@@ -231,13 +202,13 @@ pub set_ends : (port feature : ℕ) (old new : World) (c : PortCall) → IsRootP
 set_ends port feature old new c is named found e = set_step port feature old new is named (λ d other. subst (λ x. new ≡ after (root_call x port) old) (same_Some c d (found ∙ other)) e)
 
 pub set_none : {A : Type 0} (feature : ℕ) → IsSetFeature feature → None ≡ set_call feature → A
-set_none feature named e = let (c, found, same) = set_is feature off named in absurd (none_some c (e ∙ found))
+set_none feature named e = no (ap is_some e ∙ named)
 
 pub clear_ends : (port feature : ℕ) (old new : World) (c : PortCall) → IsRootPort old port → IsClearFeature feature → Some c ≡ clear_call feature → new ≡ after (root_call c port) old → ClearsRoot port feature old new
 clear_ends port feature old new c is named found e = clear_step port feature old new is named (λ d other. subst (λ x. new ≡ after (root_call x port) old) (same_Some c d (found ∙ other)) e)
 
 pub clear_none : {A : Type 0} (feature : ℕ) → IsClearFeature feature → None ≡ clear_call feature → A
-clear_none feature named e = let (c, found, same) = clear_is feature off named in absurd (none_some c (e ∙ found))
+clear_none feature named e = no (ap is_some e ∙ named)
 
 -- a root call that leaves C_PORT_CONNECTION as it was, or clears it, makes no attempt and no event
 pub writes_spend : (port : ℕ) (p : PortState) (old new : World) → IsRootPort old port → change_of p ≤ change_of (root_port_at old port) → RootCalled port p old new → Spends 0 old new
@@ -254,49 +225,49 @@ writes_spend port p old new is le c = record {
       (omega (arith, le, changes-set (root_row old) (port - 1) p (omega (arith, is.0, is.1))));
 }
 
-change_of-reset : (p : PortState) → change_of (unwrap_or (set_row 4 p) p) ≤ change_of p
-unfolding change_of set_row
+change_of-reset : (p : PortState) → change_of (port_by (set_call PORT_RESET) p) ≤ change_of p
+unfolding change_of
 change_of-reset p = elim (p.power && is_attached p.attached) as (λ b. change_of (if b then record p { enable = true; reset_changed = true } else p) ≤ change_of p) [ true ↦ omega arith | false ↦ omega arith ]
 
 -- a row of the port table leaves the bit as it was or clears it
-Leaves : PortState → Option PortState → Type 0
-Leaves p row = change_of (unwrap_or row p) ≤ change_of p
+Leaves : PortState → Option PortCall → Type 0
+Leaves p call = change_of (port_by call p) ≤ change_of p
 
-leaves_if : (p : PortState) (b : Bool) (x y : Option PortState) → Leaves p x → Leaves p y → Leaves p (if b then x else y)
+leaves_if : (p : PortState) (b : Bool) (x y : Option PortCall) → Leaves p x → Leaves p y → Leaves p (if b then x else y)
 leaves_if p true x y hx hy = hx
 leaves_if p false x y hx hy = hy
 
 cleared_le : (p : PortState) → 0 ≤ change_of p
 cleared_le p = omega arith
 
-change_of-clear : (feature : ℕ) (p : PortState) → Leaves p (clear_row feature p)
-unfolding Leaves change_of clear_row
+change_of-clear : (feature : ℕ) (p : PortState) → Leaves p (clear_call feature)
+unfolding Leaves change_of
 change_of-clear feature p =
-    leaves_if p (feature == 1) _ _ (omega arith)
-    (leaves_if p (feature == 8) _ _ (cleared_le p)
-    (leaves_if p (feature == 16) _ _ (cleared_le p)
-    (leaves_if p (feature == 17) _ _ (omega arith)
-    (leaves_if p (feature == 20) _ _ (omega arith) (omega arith)))))
+    leaves_if p (feature == PORT_ENABLE) _ _ (omega arith)
+    (leaves_if p (feature == PORT_POWER) _ _ (cleared_le p)
+    (leaves_if p (feature == C_PORT_CONNECTION) _ _ (cleared_le p)
+    (leaves_if p (feature == C_PORT_ENABLE) _ _ (omega arith)
+    (leaves_if p (feature == C_PORT_RESET) _ _ (omega arith) (omega arith)))))
 
 -- setting PORT_RESET of a root port
-pub resets_spend : (port : ℕ) (old new : World) → IsRootPort old port → SetsRoot port 4 old new → Spends 0 old new
-resets_spend port old new is s = writes_spend port _ old new is (change_of-reset (root_port_at old port)) (root_set port 4 old new is (inl refl) s)
+pub resets_spend : (port : ℕ) (old new : World) → IsRootPort old port → SetsRoot port PORT_RESET old new → Spends 0 old new
+resets_spend port old new is s = writes_spend port _ old new is (change_of-reset (root_port_at old port)) (root_called port (set_call PORT_RESET) old new is refl s.step)
 
 -- clearing a feature of a root port
 pub clears_spend : (port feature : ℕ) (old new : World) → IsRootPort old port → IsClearFeature feature → ClearsRoot port feature old new → Spends 0 old new
 unfolding Leaves
-clears_spend port feature old new is named c = writes_spend port _ old new is (change_of-clear feature (root_port_at old port)) (root_cleared port feature old new is named c)
+clears_spend port feature old new is named c = writes_spend port _ old new is (change_of-clear feature (root_port_at old port)) (root_called port (clear_call feature) old new is named c.step)
 
-one_change : (p : PortState) → p.connection_changed ≡ true → change_of p ≡ change_of (unwrap_or (clear_row 16 p) p) + 1
-unfolding change_of clear_row
+one_change : (p : PortState) → p.connection_changed ≡ true → change_of p ≡ change_of (port_by (clear_call C_PORT_CONNECTION) p) + 1
+unfolding change_of
 one_change p set = rw set refl
 
 -- clearing a set C_PORT_CONNECTION
-pub clears_change : (port : ℕ) (old new : World) → IsRootPort old port → (root_port_at old port).connection_changed ≡ true → ClearsRoot port 16 old new → changes (root_row new) + to_come new + 1 ≡ changes (root_row old) + to_come old
+pub clears_change : (port : ℕ) (old new : World) → IsRootPort old port → (root_port_at old port).connection_changed ≡ true → ClearsRoot port C_PORT_CONNECTION old new → changes (root_row new) + to_come new + 1 ≡ changes (root_row old) + to_come old
 unfolding root_port_at
 clears_change port old new is set c =
-    let p = unwrap_or (clear_row 16 (root_port_at old port)) (root_port_at old port) in
-    let called = root_cleared port 16 old new is (inr (inr (inl refl))) c in
+    let p = port_by (clear_call C_PORT_CONNECTION) (root_port_at old port) in
+    let called = root_called port (clear_call C_PORT_CONNECTION) old new is refl c.step in
     let one = one_change (root_port_at old port) set in
     let all = changes-set (root_row old) (port - 1) p (omega (arith, is.0, is.1)) in
     ap (λ r. changes r + to_come new + 1) called.row ∙ ap (λ l. changes (slice_set (root_row old) (port - 1) p) + length l + 1) called.left

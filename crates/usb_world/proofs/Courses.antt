@@ -1,6 +1,6 @@
 -- What a step of the world does to reachable, live and pending, and what whole courses do.
-use Rattle.std.proofs.Common.{◌≡◌, ℕ, zero, suc, ◌+◌, ◌==◌, ◌&&◌, not, nat_le, length, if◌then◌else◌, ◌⊎◌, inl, inr, Bool, true, false, List, [], ◌∷◌, ◌++◌, Option, None, Some, slice_get, is_some, refl, ap, sym, subst, ◌∙◌}
-use Rattle.usb_device.specs.declared.calls.PortCall.{PortCall}
+use Rattle.std.proofs.Common.{◌≡◌, ℕ, zero, suc, ◌+◌, ◌==◌, ◌&&◌, not, nat_le, length, if◌then◌else◌, ◌⊎◌, inl, inr, true, false, List, [], ◌∷◌, ◌++◌, Option, None, Some, slice_get, is_some, refl, ap, sym, subst, ◌∙◌}
+use Rattle.usb_port.specs.declared.call.PortCall.{PortCall}
 use Rattle.usb_device.specs.declared.delivery.Content.TheVariants.{Whole}
 use Rattle.usb_device.specs.Spec.{Spec}
 use Rattle.usb_device.specs.Tree.{Ports, called, replaced, changed, reach, place}
@@ -18,9 +18,8 @@ use Rattle.usb_world.specs.declared.types.Attempt.{Attempt}
 use Rattle.usb_world.specs.declared.types.BusFault.{BusFault}
 use Rattle.usb_world.specs.declared.types.BusFault.TheVariants.{LimitReached}
 use Rattle.usb_world.specs.declared.wire.Mark.{Mark}
-use Rattle.usb_world.specs.declared.wire.Mark.TheVariants as mark
 use Rattle.usb_world.specs.Wire.{is_read, mark_of, harm_to, marked, marked_some}
-use Rattle.usb_world.specs.Exchange.{token_of, payload_of, reply_of, sent_as, goes_out, token_out, payload_out, reply_out, heard_in, mark_in, place_of_answer, ports_in}
+use Rattle.usb_world.specs.Exchange.{token_of, payload_of, reply_of, goes_out, token_out, payload_out, reply_out, heard_in, mark_in, place_of_answer, ports_in}
 use Rattle.usb_world.specs.Paths.{live, pend, is_way}
 use Rattle.usb_world.specs.WayEffects.{IsNew}
 use Rattle.usb_world.specs.Passes.{IfOut, IsTokenFor, IsDataOut, IsAckOut, IsAttemptAt}
@@ -32,7 +31,7 @@ use Rattle.usb_world.specs.Courses.{NoneNames, Undisturbed, is_made, made_resets
 use Rattle.usb_world.proofs.Booleans.{no, decided}
 use Rattle.usb_world.proofs.PlugEvents.{event_reach, event_live, event_pend}
 use Rattle.usb_world.proofs.PortCalls.{call_new, call_reach, call_live, call_pend}
-use Rattle.usb_world.proofs.AttemptPackets.{attempt_reach, attempt_new, attempt_pend, attempt_live}
+use Rattle.usb_world.proofs.AttemptPackets.{attempt_reach, attempt_new, attempt_pend, attempt_live, sent_out}
 
 -- Undisturbed
 
@@ -175,27 +174,9 @@ due_live (e ∷ es) w p l h =
 
 -- The packets of an attempt are a token, data and an ACK
 
-sent_token : (n : ℕ) (l pre : Bool) (m : Mark) (p : Packet) → IsTokenFor n (Whole p) → IfOut (IsTokenFor n) (sent_as l pre m p)
-sent_token n l pre mark.Whole p h = h
-sent_token n l pre mark.Lost p h = tt
-sent_token n l pre mark.PreLost p h = h
-sent_token n l pre (mark.Flipped b) p h = tt
-
-sent_data : (l pre : Bool) (m : Mark) (p : Packet) → IsDataOut (Whole p) → IfOut IsDataOut (sent_as l pre m p)
-sent_data l pre mark.Whole p h = h
-sent_data l pre mark.Lost p h = tt
-sent_data l pre mark.PreLost p h = h
-sent_data l pre (mark.Flipped b) p h = tt
-
-sent_ack : (l pre : Bool) (m : Mark) (p : Packet) → IsAckOut (Whole p) → IfOut IsAckOut (sent_as l pre m p)
-sent_ack l pre mark.Whole p h = h
-sent_ack l pre mark.Lost p h = tt
-sent_ack l pre mark.PreLost p h = h
-sent_ack l pre (mark.Flipped b) p h = tt
-
 token_goes : (a : Attempt) (d : Option Damage) → IfOut (IsTokenFor a.addr) (token_out a d)
 unfolding token_of marked
-token_goes a d = sent_token a.addr a.low a.pre (mark_of (harm_to d 1) a.pre (packet.Token a.kind a.addr a.ep)) (packet.Token a.kind a.addr a.ep) refl
+token_goes a d = sent_out (IsTokenFor a.addr) tt a.low a.pre (mark_of (harm_to d 1) a.pre (packet.Token a.kind a.addr a.ep)) (packet.Token a.kind a.addr a.ep) refl
 
 payload_goes : (a : Attempt) (d : Option Damage) → IfOut IsDataOut (payload_out a d)
 unfolding payload_of marked_some marked
@@ -203,7 +184,7 @@ payload_goes a d = go a.payload
   where
     go : (o : Option (Toggle × ArrayVec ℕ)) → IfOut IsDataOut (goes_out a (marked_some d 2 a.pre (elim o [ None ↦ None | Some p ↦ Some (packet.Payload p.0 p.1) ])))
     go None = tt
-    go (Some x) = sent_data a.low a.pre (mark_of (harm_to d 2) a.pre (packet.Payload x.0 x.1)) (packet.Payload x.0 x.1) tt
+    go (Some x) = sent_out IsDataOut tt a.low a.pre (mark_of (harm_to d 2) a.pre (packet.Payload x.0 x.1)) (packet.Payload x.0 x.1) tt
 
 IsSomeAck : Option Packet → Type 0
 IsSomeAck None = Unit {0}
@@ -228,7 +209,7 @@ reply_goes a d n h m max = go (reply_of h m max) (reply_acks h m max)
   where
     go : (o : Option Packet) → IsSomeAck o → IfOut IsAckOut (goes_out a (marked_some d n a.pre o))
     go None h = tt
-    go (Some p) h = sent_ack a.low a.pre (mark_of (harm_to d n) a.pre p) p h
+    go (Some p) h = sent_out IsAckOut tt a.low a.pre (mark_of (harm_to d n) a.pre p) p h
 
 ack_goes : (a : Attempt) (d : Option Damage) (k : Ports) → IfOut IsAckOut (reply_out a d k)
 ack_goes a d k = reply_goes a d (place_of_answer a d + 1) (heard_in a d k) (mark_in a d k) a.max
@@ -431,6 +412,9 @@ untouched_or_pending p (step s {w} {v} k more) h = pick (step_live s w p k h) (u
 pub course_joined : {K : Step → World → Type 0} {w v u : World} → Course K w v → Course K v u → Course K w u
 course_joined (here w) d = d
 course_joined (step s k c) d = step s k (course_joined c d)
+
+pub course_then : {K : Step → World → Type 0} {w v : World} (s : Step) → Course K w v → K s v → Course K w (after s v)
+course_then {v = v} s c k = course_joined c (step s k (here (after s v)))
 
 pub course_wider : {K L : Step → World → Type 0} {w v : World} → ((s : Step) (w : World) → K s w → L s w) → Course K w v → Course L w v
 course_wider f (here w) = here w

@@ -17,7 +17,7 @@ use Rattle.usb_device.specs.declared.transfer.Memory.TheVariants.{Nothing}
 use Rattle.usb_device.specs.Rows.{State}
 use Rattle.usb_device.specs.Tree.{Ports, ended, vacant, taken, full, before, acted}
 use Rattle.usb_device.specs.Delivery.{answer_of, effect_of, after_packet, delivered_device, on_port}
-use Rattle.usb_device.specs.Stopped.{Stopped, behind_empty, behind, below, here}
+use Rattle.usb_device.specs.StoppedPackets.{Stopped, behind_empty, behind, below, here}
 use Rattle.usb_world.specs.declared.damage.Damage.{Damage}
 use Rattle.usb_world.specs.declared.types.Attempt.{Attempt}
 use Rattle.usb_world.specs.declared.wire.Mark.{Mark}

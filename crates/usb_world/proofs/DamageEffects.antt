@@ -7,7 +7,7 @@ use Rattle.usb_check.specs.Polynomial.{generator5, generator16}
 use Rattle.usb_check.proofs.Interface.{length-bits_of_bytes, length-low_bits, length-map_not}
 use Rattle.usb_packet.specs.declared.Packet.{Packet}
 use Rattle.usb_packet.specs.declared.Packet.TheVariants.{Token, Sof, Payload, Ack, Nak, Stall, Pre}
-use Rattle.usb_packet.specs.Spelling.{Spells, Carries, Follows}
+use Rattle.usb_packet.specs.Spelling.{Spells, CarriesCheck, Follows}
 use Rattle.usb_world.specs.declared.damage.Damage.{Damage}
 use Rattle.usb_world.specs.declared.losses.Losses.{Losses}
 use Rattle.usb_device.specs.Tree.{Ports}

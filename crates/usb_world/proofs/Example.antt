@@ -3,13 +3,13 @@
 use Rattle.std.proofs.Common.{◌≡◌, ℕ, true, false, List, [], ◌∷◌, None, Some, refl}
 use Rattle.usb_packet.specs.declared.TokenKind.TheVariants.{OutTok, InTok, SetupTok}
 use Rattle.usb_packet.specs.declared.Toggle.TheVariants.{Zero, One as Data1}
-use Rattle.usb_device.specs.declared.calls.PortCall.TheVariants.{SetPower, SetReset}
+use Rattle.usb_port.specs.declared.call.PortCall.TheVariants.{SetPower, SetReset}
 use Rattle.usb_device.specs.Spec.{Spec, function}
 use Rattle.usb_device.specs.Tree.{ended, vacant, changed_at, reach_at, state_at, reach, all_off}
 use Rattle.usb_device.specs.Rows.{received, unread, fresh, reset_state, awaits_address}
 use Rattle.usb_device.specs.Request.{outcome}
 use Rattle.usb_device.specs.Effect.{asks}
-use Rattle.usb_device.specs.Calls.{set_call, clear_call}
+use Rattle.usb_port.specs.Calls.{set_call, clear_call}
 use Rattle.usb_device.specs.Delivery.{answer_of, effect_of, after_packet, answers, all_forgotten, held, is_twice, has_loss, clears_change}
 use Rattle.usb_device.specs.Bulk.{change_bits}
 use Rattle.usb_request.specs.Layout.{setup_of}
@@ -74,11 +74,11 @@ example : (pend (plugged Lose).roots (1 ∷ []) ≡ true) × (reach (plugged Los
     × (outcome_in asks_in (set_up Lose) ≡ got.Payload Data1 (record { items = 0x12 ∷ 1 ∷ 0 ∷ 2 ∷ 0 ∷ 0 ∷ 0 ∷ 0x40 ∷ [] }))
     × (address_at (lost Lose).roots (1 ∷ []) ≡ Some 0) × ((lost Lose).losses.all ≡ 1) × ((lost Lose).attempts ≡ 5)
     × (address_at (after (attempt asks_in) (lost Lose)).roots (1 ∷ []) ≡ Some 1)
-unfolding after took due_from ready with_attempt ports_in lost_in clears_change outcome_in marked marked_some mark_of harm_to damage_of bit_count is_read token_of payload_of answer_place answer_mark reply_of outcome_of one_more held is_twice has_loss reach_at pend_at state_at changed_at received unread fresh reset_state asks set_call clear_call answer_of effect_of after_packet answers all_forgotten change_bits setup_of status_of all_off outcome awaits_address
+unfolding after took due_from ready with_attempt ports_in lost_in clears_change outcome_in marked marked_some mark_of harm_to damage_of bit_count is_read token_of payload_of answer_place answer_mark reply_of outcome_of one_more held is_twice has_loss reach_at pend_at state_at changed_at received unread fresh reset_state asks answer_of effect_of after_packet answers all_forgotten change_bits setup_of status_of all_off outcome awaits_address
 example = (refl, refl, refl, refl, refl, refl, refl)
 
 flipped : (address_at (lost (Flip 0)).roots (1 ∷ []) ≡ Some 0) × ((lost (Flip 0)).losses.all ≡ 1) × ((lost (Flip 0)).attempts ≡ 5)
     × (address_at (lost (Flip 8)).roots (1 ∷ []) ≡ Some 1) × ((lost (Flip 8)).losses.all ≡ 0)
     × (address_at (after (attempt asks_in) (lost (Flip 0))).roots (1 ∷ []) ≡ Some 1)
-unfolding after took due_from ready with_attempt ports_in lost_in clears_change outcome_in marked marked_some mark_of harm_to damage_of bit_count is_read token_of payload_of answer_place answer_mark reply_of outcome_of one_more held is_twice has_loss reach_at pend_at state_at changed_at received unread fresh reset_state asks set_call clear_call answer_of effect_of after_packet answers all_forgotten change_bits setup_of status_of all_off outcome awaits_address
+unfolding after took due_from ready with_attempt ports_in lost_in clears_change outcome_in marked marked_some mark_of harm_to damage_of bit_count is_read token_of payload_of answer_place answer_mark reply_of outcome_of one_more held is_twice has_loss reach_at pend_at state_at changed_at received unread fresh reset_state asks answer_of effect_of after_packet answers all_forgotten change_bits setup_of status_of all_off outcome awaits_address
 flipped = (refl, refl, refl, refl, refl, refl)

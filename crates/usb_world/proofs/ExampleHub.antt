@@ -8,7 +8,7 @@ use Rattle.usb_device.specs.Tree.{ended, vacant, taken, changed_at, reach_at, st
 use Rattle.usb_device.specs.Rows.{received, unread, fresh, reset_state, awaits_address}
 use Rattle.usb_device.specs.Request.{outcome}
 use Rattle.usb_device.specs.Effect.{asks}
-use Rattle.usb_device.specs.Calls.{set_call, clear_call}
+use Rattle.usb_port.specs.Calls.{set_call, clear_call}
 use Rattle.usb_device.specs.Delivery.{answer_of, effect_of, after_packet, answers, all_forgotten, held, is_twice, has_loss, clears_change}
 use Rattle.usb_device.specs.Bulk.{change_bits}
 use Rattle.usb_request.specs.Layout.{setup_of}
@@ -88,11 +88,11 @@ example : (reach (start []).roots (1 ∷ 1 ∷ []) ≡ false) × (outcome_in (se
     × (outcome_in (sets_up true get_device) (opened []) ≡ got.Ack) × (outcome_in (sets_up false get_device) (opened []) ≡ got.Nothing)
     × (outcome_in (asks_in true) set_up ≡ got.Payload Data1 (record { items = 0x12 ∷ 1 ∷ 0x10 ∷ 1 ∷ 0 ∷ 0 ∷ 0 ∷ 8 ∷ [] }))
     × (outcome_in (asks_in false) set_up ≡ got.Nothing)
-unfolding after took due_from ready with_attempt ports_in lost_in clears_change outcome_in marked marked_some mark_of harm_to damage_of bit_count is_read token_of payload_of answer_place answer_mark reply_of outcome_of one_more held is_twice has_loss reach_at state_at changed_at received unread fresh reset_state asks set_call clear_call answer_of effect_of after_packet answers all_forgotten change_bits setup_of status_of all_off outcome awaits_address
+unfolding after took due_from ready with_attempt ports_in lost_in clears_change outcome_in marked marked_some mark_of harm_to damage_of bit_count is_read token_of payload_of answer_place answer_mark reply_of outcome_of one_more held is_twice has_loss reach_at state_at changed_at received unread fresh reset_state asks answer_of effect_of after_packet answers all_forgotten change_bits setup_of status_of all_off outcome awaits_address
 example = (refl, refl, refl, refl, refl, refl, refl, refl, refl)
 
 addresses : (address_at (addressed []).roots (1 ∷ 1 ∷ []) ≡ Some 2) × ((addressed []).losses.all ≡ 0)
     × (address_at (addressed pre_lost).roots (1 ∷ 1 ∷ []) ≡ Some 0) × ((addressed pre_lost).losses.all ≡ 1)
     × (address_at (addressed pre_lost).roots (1 ∷ []) ≡ Some 1)
-unfolding after took due_from ready with_attempt ports_in lost_in clears_change outcome_in marked marked_some mark_of harm_to damage_of bit_count is_read token_of payload_of answer_place answer_mark reply_of outcome_of one_more held is_twice has_loss reach_at state_at changed_at received unread fresh reset_state asks set_call clear_call answer_of effect_of after_packet answers all_forgotten change_bits setup_of status_of all_off outcome awaits_address
+unfolding after took due_from ready with_attempt ports_in lost_in clears_change outcome_in marked marked_some mark_of harm_to damage_of bit_count is_read token_of payload_of answer_place answer_mark reply_of outcome_of one_more held is_twice has_loss reach_at state_at changed_at received unread fresh reset_state asks answer_of effect_of after_packet answers all_forgotten change_bits setup_of status_of all_off outcome awaits_address
 addresses = (refl, refl, refl, refl, refl)

@@ -4,19 +4,19 @@ use Rattle.usb_device.specs.declared.answer.Answer.{Answer}
 use Rattle.usb_device.specs.declared.delivery.Heard.{Heard as HeardBelow}
 use Rattle.usb_device.specs.declared.delivery.Sent.{Sent}
 use Rattle.usb_device.specs.Tree.{Ports, ended, vacant, taken, row_of}
-use Rattle.usb_device.specs.Delivery.{all_forgotten, heard_of, both, joined, delivered, figure}
+use Rattle.usb_device.specs.Delivery.{all_forgotten, heard_of, both, heard_joined, delivered, figure}
 use Rattle.usb_device.proofs.Interface.{figure-after, heard_of-append, row_of-forgotten}
 use Rattle.usb_world.specs.declared.damage.Damage.{Damage}
 use Rattle.usb_world.specs.declared.exchange.Exchange.{Exchange}
 use Rattle.usb_world.specs.declared.types.Attempt.{Attempt}
 use Rattle.usb_world.specs.Wire.{harm_to, marked, marked_some}
-use Rattle.usb_world.specs.Answering.{heard_from}
-use Rattle.usb_world.specs.Passes.{IsSettled, passed, told}
+use Rattle.usb_world.specs.HeardAnswers.{heard_above}
+use Rattle.usb_world.specs.Passes.{IsSettled, passed, answers_to}
 use Rattle.usb_world.proofs.AttemptPackets.{attempt_settled}
-use Rattle.usb_world.specs.Exchanged.{StaysPlugged, PacketWent, PacketsWent, Exchanged}
+use Rattle.usb_world.specs.ExchangeEffects.{StaysPlugged, PacketWent, PacketsWent, Exchanged}
 use Rattle.usb_world.specs.Exchange.{token_of, payload_of, answer_place, answer_mark, reply_of, goes_out, heard_all, token_out, payload_out, heard_in, mark_in, reply_in, answered_in, is_lost, lost_in, clears_at, cleared_in, exchange_in, ended_in, ports_in}
 
-heard_all_of : (xs : List Answer) → heard_from (heard_of xs) ≡ heard_all xs
+heard_all_of : (xs : List Answer) → heard_above (heard_of xs) ≡ heard_all xs
 heard_all_of [] = refl
 heard_all_of (x ∷ []) = refl
 heard_all_of (x ∷ y ∷ more) = refl
@@ -32,21 +32,21 @@ plugged_further k j m x y = record { row = y.row ∙ x.row; figure = y.figure �
 
 -- a packet at the whole tree
 pub sent_plugged : {A E : Type 0} (r : Result A E) (q : Sent) (k m : Ports) (g h : HeardBelow)
-    → OnOk r ((h, m) ≡ joined g (delivered q false k)) → OnErr r (figure m ≡ figure k) → row_of m ≡ row_of k → StaysPlugged k m
+    → OnOk r ((h, m) ≡ heard_joined g (delivered q false k)) → OnErr r (figure m ≡ figure k) → row_of m ≡ row_of k → StaysPlugged k m
 sent_plugged (Ok x) q k m g h ok err row = record { row = row; figure = ap (λ y. figure y.1) ok ∙ figure-after q false k }
 sent_plugged (Err x) q k m g h ok err row = record { row = row; figure = err }
 
 pub sent_went : {A E : Type 0} (r : Result A E) (o : Option Sent) (q : Sent) (k m : Ports) (g h : HeardBelow)
-    → o ≡ Some q → OnOk r ((h, m) ≡ joined g (delivered q false k)) → OnOk r (PacketWent o k m g h)
+    → o ≡ Some q → OnOk r ((h, m) ≡ heard_joined g (delivered q false k)) → OnOk r (PacketWent o k m g h)
 sent_went (Ok x) o q k m g h is e = record {
-  heard = ap (λ y. y.0) e ∙ ap (λ y. both g (heard_of (told y k))) (sym is);
+  heard = ap (λ y. y.0) e ∙ ap (λ y. both g (heard_of (answers_to y k))) (sym is);
   ports = ap (λ y. y.1) e ∙ ap (λ y. passed y k) (sym is);
 }
 sent_went (Err x) o q k m g h is e = e
 
 -- a packet at one device
 pub went_to : {A E : Type 0} (r : Result A E) (o : Option Sent) (k m : Ports) (g h : HeardBelow)
-    → OnOk r (h ≡ both g (heard_of (told o k))) → OnOk r (m ≡ passed o k) → OnOk r (PacketWent o k m g h)
+    → OnOk r (h ≡ both g (heard_of (answers_to o k))) → OnOk r (m ≡ passed o k) → OnOk r (PacketWent o k m g h)
 went_to (Ok x) o k m g h heard ports = record { heard = heard; ports = ports }
 went_to (Err x) o k m g h heard ports = heard
 
@@ -81,13 +81,13 @@ pub record Makes (a : Attempt) (damage : Option Damage) (k : Ports) (x : Exchang
   pub to_token : HeardBelow
   pub to_both : HeardBelow
   pub token : x.token ≡ marked damage 1 a.pre (token_of a)
-  pub token_heard : to_token ≡ heard_of (told (goes_out a (Some x.token)) k)
+  pub token_heard : to_token ≡ heard_of (answers_to (goes_out a (Some x.token)) k)
   pub token_passed : first ≡ passed (goes_out a (Some x.token)) k
   pub payload : x.payload ≡ marked_some damage 2 a.pre (payload_of a)
   pub cleared : x.change_cleared ≡ clears_at (goes_out a x.payload) first
-  pub payload_heard : to_both ≡ both to_token (heard_of (told (goes_out a x.payload) first))
+  pub payload_heard : to_both ≡ both to_token (heard_of (answers_to (goes_out a x.payload) first))
   pub payload_passed : second ≡ passed (goes_out a x.payload) first
-  pub answer : x.answer ≡ heard_from to_both
+  pub answer : x.answer ≡ heard_above to_both
   pub answer_mark : x.answer_mark ≡ answer_mark (harm_to damage (answer_place x.payload)) x.answer
   pub reply : x.reply ≡ marked_some damage (answer_place x.payload + 1) a.pre (reply_of x.answer x.answer_mark a.max)
   pub lost : x.address_lost ≡ is_lost x.reply (goes_out a x.reply) second
@@ -102,11 +102,11 @@ module _ (a : Attempt) (damage : Option Damage) (k : Ports) (x : Exchange) (m : 
 
   answer_is : x.answer ≡ heard_in a damage k
   answer_is =
-      let to_token = m.token_heard ∙ ap (λ t. heard_of (told (goes_out a (Some t)) k)) m.token in
-      let to_payload = ap₂ (λ p r. heard_of (told (goes_out a p) r)) m.payload first_is in
+      let to_token = m.token_heard ∙ ap (λ t. heard_of (answers_to (goes_out a (Some t)) k)) m.token in
+      let to_payload = ap₂ (λ p r. heard_of (answers_to (goes_out a p) r)) m.payload first_is in
       m.answer
-      ∙ ap heard_from (m.payload_heard ∙ ap₂ both to_token to_payload ∙ sym (heard_of-append (told (token_out a damage) k) (told (payload_out a damage) (passed (token_out a damage) k))))
-      ∙ heard_all_of (told (token_out a damage) k ++ told (payload_out a damage) (passed (token_out a damage) k))
+      ∙ ap heard_above (m.payload_heard ∙ ap₂ both to_token to_payload ∙ sym (heard_of-append (answers_to (token_out a damage) k) (answers_to (payload_out a damage) (passed (token_out a damage) k))))
+      ∙ heard_all_of (answers_to (token_out a damage) k ++ answers_to (payload_out a damage) (passed (token_out a damage) k))
 
   mark_is : x.answer_mark ≡ mark_in a damage k
   mark_is = m.answer_mark ∙ ap₂ (λ p h. answer_mark (harm_to damage (answer_place p)) h) m.payload answer_is

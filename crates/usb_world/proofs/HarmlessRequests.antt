@@ -4,11 +4,14 @@ use Rattle.usb_packet.specs.declared.Packet.TheVariants.{Payload}
 use Rattle.usb_packet.specs.declared.Packet.TheVariants as packet
 use Rattle.usb_packet.specs.declared.Toggle.{Toggle}
 use Rattle.usb_packet.specs.declared.Toggle.TheVariants.{Zero, One}
+use Rattle.usb_request.specs.Codes.{DEVICE, CONFIGURATION, STRING, HUB, GET_STATUS, CLEAR_FEATURE, SET_FEATURE, SET_ADDRESS, GET_DESCRIPTOR, GET_CONFIGURATION, SET_CONFIGURATION, DEVICE_IN, DEVICE_OUT, ENDPOINT_OUT, HUB_IN, PORT_IN, PORT_OUT}
+use Rattle.usb_request.specs.Features.{PORT_ENABLE, PORT_RESET, PORT_POWER, C_PORT_CONNECTION, C_PORT_ENABLE, C_PORT_RESET}
+use Rattle.usb_request.specs.Requests.{descriptor_value}
 use Rattle.usb_request.specs.declared.setup.Setup.{Setup}
 use Rattle.usb_request.specs.Layout.{setup_of}
 use Rattle.usb_device.specs.declared.bulk.Which.{Which}
-use Rattle.usb_device.specs.declared.calls.PortCall.{PortCall}
-use Rattle.usb_device.specs.declared.calls.PortCall.TheVariants.{SetPower, SetReset, ClearEnable, ClearPower, ClearConnectionChange, ClearEnableChange, ClearResetChange}
+use Rattle.usb_port.specs.declared.call.PortCall.{PortCall}
+use Rattle.usb_port.specs.declared.call.PortCall.TheVariants.{SetPower, SetReset, ClearEnable, ClearPower, ClearConnectionChange, ClearEnableChange, ClearResetChange}
 use Rattle.usb_device.specs.declared.delivery.Content.{Content}
 use Rattle.usb_device.specs.declared.delivery.Content.TheVariants.{Whole, Broken}
 use Rattle.usb_device.specs.declared.delivery.Sent.{Sent}
@@ -18,8 +21,8 @@ use Rattle.usb_device.specs.declared.request.Registers.{Registers}
 use Rattle.usb_device.specs.declared.transfer.Memory.{Memory}
 use Rattle.usb_device.specs.declared.transfer.Memory.TheVariants.{Nothing, SetupSeen, OutSeen, AckAwaited}
 use Rattle.usb_device.specs.Spec.{Spec, Hub}
-use Rattle.usb_device.specs.Calls.{is_reset, set_call, clear_call}
-use Rattle.usb_device.specs.Request.{Outcome, stalled, answers, takes_address, takes_configuration, halts, unhalts, tells_port, calls_port, Is, unless, text_asked, get_descriptor, get_status, set_address, set_configuration, endpoint_of, on_endpoint, get_hub_descriptor, port_named, told_port, called_at, get_port_status, port_feature, outcome, is_value}
+use Rattle.usb_port.specs.Calls.{is_reset, set_call, clear_call}
+use Rattle.usb_device.specs.Request.{Outcome, stalled, answers, takes_address, takes_configuration, halts, unhalts, tells_port, calls_port, Is, unless, text_asked, asked_descriptor, asked_status, asked_address, asked_configuration, endpoint_of, on_endpoint, asked_hub_descriptor, port_named, told_port, called_at, asked_port_status, port_feature, outcome, is_value}
 use Rattle.usb_device.specs.Rows.{State}
 use Rattle.usb_device.specs.Effect.{asks, asked_by_data, asked_by_setup, effect_of_request}
 use Rattle.usb_device.specs.Tree.{Ports, ended, vacant, taken}
@@ -41,19 +44,19 @@ by_text : (o : Option (List ℕ)) → asks_reset (elim o [ None ↦ stalled | So
 by_text None = refl
 by_text (Some t) = refl
 
-by_descriptor : (s : Spec) (v : ℕ) → asks_reset (get_descriptor s v) ≡ false
+by_descriptor : (s : Spec) (v : ℕ) → asks_reset (asked_descriptor s v) ≡ false
 by_descriptor s v =
-    both_ways (v == 0x0100) _ _ (both_ways s.stalls.device stalled (answers s.descriptor) refl refl)
-    (both_ways (v / 256 == 2) _ _ (both_ways s.stalls.config stalled (text_asked s.configs (v % 256)) refl (by_text (slice_get s.configs (v % 256))))
-    (both_ways (v / 256 == 3) _ _ (both_ways s.stalls.string stalled (text_asked s.strings (v % 256)) refl (by_text (slice_get s.strings (v % 256)))) refl))
+    both_ways (v == descriptor_value DEVICE 0) _ _ (both_ways s.stalls.device stalled (answers s.descriptor) refl refl)
+    (both_ways (v / 256 == CONFIGURATION) _ _ (both_ways s.stalls.config stalled (text_asked s.configs (v % 256)) refl (by_text (slice_get s.configs (v % 256))))
+    (both_ways (v / 256 == STRING) _ _ (both_ways s.stalls.string stalled (text_asked s.strings (v % 256)) refl (by_text (slice_get s.strings (v % 256)))) refl))
 
 by_endpoint : (f : Which → Outcome) → ((w : Which) → asks_reset (f w) ≡ false) → (o : Option Which) → asks_reset (on_endpoint f o) ≡ false
 by_endpoint f c None = refl
 by_endpoint f c (Some w) = c w
 
-by_hub : (o : Option Hub) (r : Setup) → asks_reset (get_hub_descriptor o r) ≡ false
+by_hub : (o : Option Hub) (r : Setup) → asks_reset (asked_hub_descriptor o r) ≡ false
 by_hub None r = refl
-by_hub (Some hub) r = both_ways (r.value == 0x2900) (answers hub.descriptor) stalled refl refl
+by_hub (Some hub) r = both_ways (r.value == descriptor_value HUB 0) (answers hub.descriptor) stalled refl refl
 
 by_status : (o : Option ℕ) → asks_reset (told_port o) ≡ false
 by_status None = refl
@@ -69,9 +72,9 @@ by_call None o h = refl
 by_call (Some x) None h = refl
 by_call (Some x) (Some i) h = h
 
-set_resets : (v : ℕ) → is_reset_some (set_call v) ≡ (not (v == 8) && v == 4)
-unfolding set_call is_reset_some
-set_resets v = split (v == 8) (v == 4)
+set_resets : (v : ℕ) → is_reset_some (set_call v) ≡ (not (v == PORT_POWER) && v == PORT_RESET)
+unfolding is_reset_some
+set_resets v = split (v == PORT_POWER) (v == PORT_RESET)
   where
     split : (x y : Bool) → is_reset_some (if x then Some SetPower else if y then Some SetReset else None) ≡ (not x && y)
     split true y = refl
@@ -79,8 +82,8 @@ set_resets v = split (v == 8) (v == 4)
     split false false = refl
 
 clear_resets : (v : ℕ) → is_reset_some (clear_call v) ≡ false
-unfolding clear_call is_reset_some
-clear_resets v = split (v == 1) (v == 8) (v == 16) (v == 17) (v == 20)
+unfolding is_reset_some
+clear_resets v = split (v == PORT_ENABLE) (v == PORT_POWER) (v == C_PORT_CONNECTION) (v == C_PORT_ENABLE) (v == C_PORT_RESET)
   where
     split : (x y z u w : Bool) → is_reset_some (if x then Some ClearEnable else if y then Some ClearPower else if z then Some ClearConnectionChange else if u then Some ClearEnableChange else if w then Some ClearResetChange else None) ≡ false
     split true y z u w = refl
@@ -106,17 +109,17 @@ harmless_set false v8 v4 h e = no e
 harmless_outcome : (s : Spec) (g : Registers) (r : Setup) → is_harmless r ≡ true → asks_reset (outcome s g r) ≡ false
 unfolding outcome
 harmless_outcome s g r h =
-    both_ways (Is r 0x80 6) (get_descriptor s r.value) _ (by_descriptor s r.value)
-    (both_ways (Is r 0x80 0) (unless s.stalls.status (get_status s r)) _ (both_ways s.stalls.status stalled (get_status s r) refl (both_ways (r.value == 0 && r.index == 0) _ stalled refl refl))
-    (both_ways (Is r 0x80 8) (answers (g.configuration ∷ [])) _ refl
-    (both_ways (Is r 0x00 5) (unless s.stalls.address (set_address r)) _ (both_ways s.stalls.address stalled (set_address r) refl (both_ways (nat_le r.value 127 && r.length == 0) (takes_address r.value) stalled refl refl))
-    (both_ways (Is r 0x00 9) (unless s.stalls.set_config (set_configuration s g r)) _ (both_ways s.stalls.set_config stalled (set_configuration s g r) refl (both_ways (not (g.address == 0) && is_value s.configs r.value && r.length == 0) (takes_configuration r.value) stalled refl refl))
-    (both_ways (Is r 0x02 1) (on_endpoint unhalts (endpoint_of s g r)) _ (by_endpoint unhalts (λ w. refl) (endpoint_of s g r))
-    (both_ways (Is r 0x02 3) (on_endpoint halts (endpoint_of s g r)) _ (by_endpoint halts (λ w. refl) (endpoint_of s g r))
-    (both_ways (Is r 0xA0 6) (unless s.stalls.hub (get_hub_descriptor s.hub r)) _ (both_ways s.stalls.hub stalled (get_hub_descriptor s.hub r) refl (by_hub s.hub r))
-    (both_ways (Is r 0xA3 0) (get_port_status s g r) _ (by_status (port_named s.hub g r.index))
-    (branch (Is r 0x23 3) (port_feature (set_call r.value) s g r) _ (λ e. by_feature (set_call r.value) s g r (set_resets r.value ∙ harmless_set (Is r 0x23 3) (r.value == 8) (r.value == 4) h e))
-    (both_ways (Is r 0x23 1) (port_feature (clear_call r.value) s g r) stalled (by_feature (clear_call r.value) s g r (clear_resets r.value)) refl))))))))))
+    both_ways (Is r DEVICE_IN GET_DESCRIPTOR) (asked_descriptor s r.value) _ (by_descriptor s r.value)
+    (both_ways (Is r DEVICE_IN GET_STATUS) (unless s.stalls.status (asked_status s r)) _ (both_ways s.stalls.status stalled (asked_status s r) refl (both_ways (r.value == 0 && r.index == 0) _ stalled refl refl))
+    (both_ways (Is r DEVICE_IN GET_CONFIGURATION) (answers (g.configuration ∷ [])) _ refl
+    (both_ways (Is r DEVICE_OUT SET_ADDRESS) (unless s.stalls.address (asked_address r)) _ (both_ways s.stalls.address stalled (asked_address r) refl (both_ways (nat_le r.value 127 && r.length == 0) (takes_address r.value) stalled refl refl))
+    (both_ways (Is r DEVICE_OUT SET_CONFIGURATION) (unless s.stalls.set_config (asked_configuration s g r)) _ (both_ways s.stalls.set_config stalled (asked_configuration s g r) refl (both_ways (not (g.address == 0) && is_value s.configs r.value && r.length == 0) (takes_configuration r.value) stalled refl refl))
+    (both_ways (Is r ENDPOINT_OUT CLEAR_FEATURE) (on_endpoint unhalts (endpoint_of s g r)) _ (by_endpoint unhalts (λ w. refl) (endpoint_of s g r))
+    (both_ways (Is r ENDPOINT_OUT SET_FEATURE) (on_endpoint halts (endpoint_of s g r)) _ (by_endpoint halts (λ w. refl) (endpoint_of s g r))
+    (both_ways (Is r HUB_IN GET_DESCRIPTOR) (unless s.stalls.hub (asked_hub_descriptor s.hub r)) _ (both_ways s.stalls.hub stalled (asked_hub_descriptor s.hub r) refl (by_hub s.hub r))
+    (both_ways (Is r PORT_IN GET_STATUS) (asked_port_status s g r) _ (by_status (port_named s.hub g r.index))
+    (branch (Is r PORT_OUT SET_FEATURE) (port_feature (set_call r.value) s g r) _ (λ e. by_feature (set_call r.value) s g r (set_resets r.value ∙ harmless_set (Is r PORT_OUT SET_FEATURE) (r.value == PORT_POWER) (r.value == PORT_RESET) h e))
+    (both_ways (Is r PORT_OUT CLEAR_FEATURE) (port_feature (clear_call r.value) s g r) stalled (by_feature (clear_call r.value) s g r (clear_resets r.value)) refl))))))))))
 
 -- no call of a reset
 abbrev no_reset : Effect → Bool

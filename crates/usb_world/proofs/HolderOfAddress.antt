@@ -4,7 +4,7 @@ use Rattle.std.proofs.lemmas.Bool.Decides.{nat_tests}
 use Rattle.std.proofs.lemmas.Option.{same_Some}
 use Rattle.usb_port.specs.PortState.{PortState}
 use Rattle.usb_device.specs.Rows.{State}
-use Rattle.usb_device.specs.Tree.{Ports, ended, vacant, taken, reach_at, state_at, place_at}
+use Rattle.usb_device.specs.Tree.{Ports, ended, vacant, taken, reach_at, state_at, place_at, path_to}
 use Rattle.usb_world.specs.Paths.{address_of}
 use Rattle.usb_world.specs.Passes.{NobodyHolds}
 use Rattle.usb_world.specs.FoundHolder.{Found}
@@ -18,19 +18,19 @@ is_number m n h = grind (arith, nat_tests, h)
 
 found_next : (n : ℕ) (b : PortState) (k : Ports) → Found n k → Found n (vacant b k)
 unfolding reach_at place_at
-found_next n b k f = record { j = suc f.j; p = f.p; port = f.port; own = f.own; below = f.below; on = f.on; stands = f.stands; at = f.at }
+found_next n b k f = record { spot = record { row = suc f.spot.row; rest = f.spot.rest }; port = f.port; own = f.own; below = f.below; on = f.on; stands = f.stands; at = f.at }
 
 found_after : (n : ℕ) (b : PortState) (s : State) (a k : Ports) → Found n k → Found n (taken b s a k)
 unfolding reach_at place_at
-found_after n b s a k f = record { j = suc f.j; p = f.p; port = f.port; own = f.own; below = f.below; on = f.on; stands = f.stands; at = f.at }
+found_after n b s a k f = record { spot = record { row = suc f.spot.row; rest = f.spot.rest }; port = f.port; own = f.own; below = f.below; on = f.on; stands = f.stands; at = f.at }
 
 found_below : (n : ℕ) (b : PortState) (s : State) (a k : Ports) → b.enable ≡ true → Found n a → Found n (taken b s a k)
 unfolding reach_at place_at
-found_below n b s a k e f = record { j = 0; p = suc f.j ∷ f.p; port = f.port; own = f.own; below = f.below; on = rw e f.on; stands = f.stands; at = f.at }
+found_below n b s a k e f = record { spot = record { row = 0; rest = path_to f.spot }; port = f.port; own = f.own; below = f.below; on = rw e f.on; stands = f.stands; at = f.at }
 
 found_here : (n : ℕ) (b : PortState) (s : State) (a k : Ports) → b.enable ≡ true → (n == address_of s) ≡ true → Found n (taken b s a k)
 unfolding reach_at place_at
-found_here n b s a k e is = record { j = 0; p = []; port = b; own = s; below = a; on = e; stands = refl; at = is_number n (address_of s) is }
+found_here n b s a k e is = record { spot = record { row = 0; rest = [] }; port = b; own = s; below = a; on = e; stands = refl; at = is_number n (address_of s) is }
 
 nobody_next : (n : ℕ) (b : PortState) (k : Ports) → NobodyHolds n k → NobodyHolds n (vacant b k)
 unfolding reach_at state_at

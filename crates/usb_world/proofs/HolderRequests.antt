@@ -1,19 +1,21 @@
 -- What an attempt asks of ports, where one reachable device holds its address: it alone can ask anything.
 use Rattle.std.proofs.Common.{◌≡◌, ℕ, zero, suc, ◌==◌, ◌&&◌, ◌||◌, not, if◌then◌else◌, ◌⊎◌, inl, inr, Bool, true, false, List, [], ◌∷◌, ◌++◌, Option, None, Some, is_some, refl, ap, ap₂, sym, subst, ◌∙◌}
 use Rattle.std.proofs.lemmas.Option.{same_Some}
+use Rattle.usb_request.specs.Features.{PORT_ENABLE, PORT_RESET, PORT_POWER, C_PORT_ENABLE, C_PORT_RESET}
+use Rattle.usb_request.specs.Codes.{CLEAR_FEATURE, SET_FEATURE, SET_CONFIGURATION, DEVICE_OUT, PORT_OUT}
 use Rattle.usb_port.specs.PortState.{PortState}
 use Rattle.usb_request.specs.declared.setup.Setup.{Setup}
 use Rattle.usb_request.specs.Layout.{setup_of}
-use Rattle.usb_device.specs.declared.calls.PortCall.{PortCall}
-use Rattle.usb_device.specs.declared.calls.PortCall.TheVariants.{SetPower, SetReset, ClearEnable, ClearEnableChange, ClearResetChange}
+use Rattle.usb_port.specs.declared.call.PortCall.{PortCall}
+use Rattle.usb_port.specs.declared.call.PortCall.TheVariants.{SetPower, SetReset, ClearEnable, ClearEnableChange, ClearResetChange}
 use Rattle.usb_device.specs.declared.delivery.Sent.{Sent}
 use Rattle.usb_device.specs.declared.effect.Effect.{Effect}
 use Rattle.usb_device.specs.declared.effect.Effect.TheVariants.{Leaves, Calls}
 use Rattle.usb_device.specs.declared.transfer.Memory.TheVariants.{Nothing}
-use Rattle.usb_device.specs.Calls.{set_call, clear_call}
+use Rattle.usb_port.specs.Calls.{set_call, clear_call}
 use Rattle.usb_device.specs.Request.{Is}
 use Rattle.usb_device.specs.Rows.{State}
-use Rattle.usb_device.specs.Tree.{Ports, state_at}
+use Rattle.usb_device.specs.Tree.{Ports, state_at, path_to}
 use Rattle.usb_device.specs.Delivery.{effect_of, after_packet}
 use Rattle.usb_world.specs.declared.types.Attempt.{Attempt}
 use Rattle.usb_world.specs.Exchange.{token_out, payload_out}
@@ -28,6 +30,7 @@ use Rattle.usb_world.specs.PortRequests.{pass_leaves, leaves_step, AsksNothing, 
 use Rattle.usb_world.proofs.Booleans.{no, both, decided, either_of, and_false, or_left, or_right, not_true}
 use Rattle.usb_world.proofs.AttemptPackets.{calm_pass, token_out as token_calm}
 use Rattle.usb_world.proofs.OneDevice.{settled_memory, rest_state, rested_effect, token_calls, other_address}
+use Rattle.usb_world.proofs.OneHolder.{holder_holds}
 use Rattle.usb_world.proofs.OneHolderAttempts.{holder_in}
 use Rattle.usb_world.proofs.Courses.{goes}
 use Rattle.usb_world.proofs.RootResets.{is_same, same_is}
@@ -39,7 +42,7 @@ use Rattle.usb_world.proofs.States.{unreset}
 use Rattle.usb_world.proofs.Ways.{way_on}
 
 -- after the token no other device remembers anything
-others_forgot : (n : ℕ) (t : Option Sent) → IfOut (IsTokenFor n) t → (k : Ports) (j : ℕ) (p : List ℕ) → IsSettled k → OneHolds n k j p
+others_forgot : (n : ℕ) (t : Option Sent) → IfOut (IsTokenFor n) t → (k : Ports) (j : ℕ) (p : List ℕ) → IsSettled k → OneHolds n k (record { row = j; rest = p })
     → (i : ℕ) (e : List ℕ) (v : State) → (same_number i j && same_path e p) ≡ false → state_at (passed t k) i e ≡ Some v → v.memory ≡ Nothing
 others_forgot n None is k j p s o i e v differ at = settled_memory k i e v s at
 others_forgot n (Some q) is k j p s o i e v differ at = settled_memory k i e v s (sym same ∙ at)
@@ -65,45 +68,43 @@ rest_test a m r e = not (effect_resets e a m r)
 -- what each feature leaves pending at its own port
 
 set_spares : (v : ℕ) (c : PortCall) → set_call v ≡ Some c → spares c [] ≡ true
-unfolding set_call
-set_spares v c h = split (v == 8) (v == 4) h
+set_spares v c h = split (v == PORT_POWER) (v == PORT_RESET) h
   where
     split : (x y : Bool) → (if x then Some SetPower else if y then Some SetReset else None) ≡ Some c → spares c [] ≡ true
     split true y e = ap (λ z. spares z []) (sym (same_Some SetPower c e))
     split false true e = ap (λ z. spares z []) (sym (same_Some SetReset c e))
     split false false e = no (ap is_some e)
 
-clear_spares : (v : ℕ) (c : PortCall) → (v == 1 || (v == 17 || v == 20)) ≡ true → clear_call v ≡ Some c → spares c [] ≡ true
-unfolding clear_call
-clear_spares v c h e = pick (either_of (v == 1) (v == 17 || v == 20) h)
+clear_spares : (v : ℕ) (c : PortCall) → (v == PORT_ENABLE || (v == C_PORT_ENABLE || v == C_PORT_RESET)) ≡ true → clear_call v ≡ Some c → spares c [] ≡ true
+clear_spares v c h e = pick (either_of (v == PORT_ENABLE) (v == C_PORT_ENABLE || v == C_PORT_RESET) h)
   where
     found : (x : PortCall) → clear_call v ≡ Some x → spares x [] ≡ true → spares c [] ≡ true
     found x f g = ap (λ z. spares z []) (sym (same_Some x c (sym f ∙ e))) ∙ g
 
-    last : ((v == 17) ≡ true) ⊎ ((v == 20) ≡ true) → spares c [] ≡ true
+    last : ((v == C_PORT_ENABLE) ≡ true) ⊎ ((v == C_PORT_RESET) ≡ true) → spares c [] ≡ true
     last (inl y) = found ClearEnableChange (ap clear_call (equal_same v 17 y)) refl
     last (inr y) = found ClearResetChange (ap clear_call (equal_same v 20 y)) refl
 
-    pick : ((v == 1) ≡ true) ⊎ ((v == 17 || v == 20) ≡ true) → spares c [] ≡ true
+    pick : ((v == PORT_ENABLE) ≡ true) ⊎ ((v == C_PORT_ENABLE || v == C_PORT_RESET) ≡ true) → spares c [] ≡ true
     pick (inl y) = found ClearEnable (ap clear_call (equal_same v 1 y)) refl
-    pick (inr y) = last (either_of (v == 17) (v == 20) y)
+    pick (inr y) = last (either_of (v == C_PORT_ENABLE) (v == C_PORT_RESET) y)
 
 sparing_asks : (r : Setup) → is_sparing r ≡ true → is_port_request r ≡ true
-sparing_asks r h = pick (either_of (Is r 0x23 3 && (r.value == 4 || r.value == 8)) (Is r 0x23 1 && (r.value == 1 || (r.value == 17 || r.value == 20))) h)
+sparing_asks r h = pick (either_of (Is r PORT_OUT SET_FEATURE && (r.value == PORT_RESET || r.value == PORT_POWER)) (Is r PORT_OUT CLEAR_FEATURE && (r.value == PORT_ENABLE || (r.value == C_PORT_ENABLE || r.value == C_PORT_RESET))) h)
   where
-    pick : ((Is r 0x23 3 && (r.value == 4 || r.value == 8)) ≡ true) ⊎ ((Is r 0x23 1 && (r.value == 1 || (r.value == 17 || r.value == 20))) ≡ true) → is_port_request r ≡ true
-    pick (inl y) = or_left (Is r 0x23 3) (Is r 0x23 1) (both (Is r 0x23 3) (r.value == 4 || r.value == 8) y).0
-    pick (inr y) = or_right (Is r 0x23 3) (Is r 0x23 1) (both (Is r 0x23 1) (r.value == 1 || (r.value == 17 || r.value == 20)) y).0
+    pick : ((Is r PORT_OUT SET_FEATURE && (r.value == PORT_RESET || r.value == PORT_POWER)) ≡ true) ⊎ ((Is r PORT_OUT CLEAR_FEATURE && (r.value == PORT_ENABLE || (r.value == C_PORT_ENABLE || r.value == C_PORT_RESET))) ≡ true) → is_port_request r ≡ true
+    pick (inl y) = or_left (Is r PORT_OUT SET_FEATURE) (Is r PORT_OUT CLEAR_FEATURE) (both (Is r PORT_OUT SET_FEATURE) (r.value == PORT_RESET || r.value == PORT_POWER) y).0
+    pick (inr y) = or_right (Is r PORT_OUT SET_FEATURE) (Is r PORT_OUT CLEAR_FEATURE) (both (Is r PORT_OUT CLEAR_FEATURE) (r.value == PORT_ENABLE || (r.value == C_PORT_ENABLE || r.value == C_PORT_RESET)) y).0
 
-sparing_value : (r : Setup) → is_sparing r ≡ true → Is r 0x23 1 ≡ true → (r.value == 1 || (r.value == 17 || r.value == 20)) ≡ true
-sparing_value r h e = pick (either_of (Is r 0x23 3 && (r.value == 4 || r.value == 8)) (Is r 0x23 1 && (r.value == 1 || (r.value == 17 || r.value == 20))) h)
+sparing_value : (r : Setup) → is_sparing r ≡ true → Is r PORT_OUT CLEAR_FEATURE ≡ true → (r.value == PORT_ENABLE || (r.value == C_PORT_ENABLE || r.value == C_PORT_RESET)) ≡ true
+sparing_value r h e = pick (either_of (Is r PORT_OUT SET_FEATURE && (r.value == PORT_RESET || r.value == PORT_POWER)) (Is r PORT_OUT CLEAR_FEATURE && (r.value == PORT_ENABLE || (r.value == C_PORT_ENABLE || r.value == C_PORT_RESET))) h)
   where
-    three : Is r 0x23 3 ≡ true → r.request ≡ 3
-    three y = equal_same r.request 3 (both (r.request_type == 0x23) (r.request == 3) y).1
+    three : Is r PORT_OUT SET_FEATURE ≡ true → r.request ≡ SET_FEATURE
+    three y = equal_same r.request SET_FEATURE (both (r.request_type == PORT_OUT) (r.request == SET_FEATURE) y).1
 
-    pick : ((Is r 0x23 3 && (r.value == 4 || r.value == 8)) ≡ true) ⊎ ((Is r 0x23 1 && (r.value == 1 || (r.value == 17 || r.value == 20))) ≡ true) → (r.value == 1 || (r.value == 17 || r.value == 20)) ≡ true
-    pick (inl y) = no (ap (λ x. x == 1) (sym (three (both (Is r 0x23 3) (r.value == 4 || r.value == 8) y).0)) ∙ (both (r.request_type == 0x23) (r.request == 1) e).1)
-    pick (inr y) = (both (Is r 0x23 1) (r.value == 1 || (r.value == 17 || r.value == 20)) y).1
+    pick : ((Is r PORT_OUT SET_FEATURE && (r.value == PORT_RESET || r.value == PORT_POWER)) ≡ true) ⊎ ((Is r PORT_OUT CLEAR_FEATURE && (r.value == PORT_ENABLE || (r.value == C_PORT_ENABLE || r.value == C_PORT_RESET))) ≡ true) → (r.value == PORT_ENABLE || (r.value == C_PORT_ENABLE || r.value == C_PORT_RESET)) ≡ true
+    pick (inl y) = no (ap (λ x. x == 1) (sym (three (both (Is r PORT_OUT SET_FEATURE) (r.value == PORT_RESET || r.value == PORT_POWER) y).0)) ∙ (both (r.request_type == PORT_OUT) (r.request == CLEAR_FEATURE) e).1)
+    pick (inr y) = (both (Is r PORT_OUT CLEAR_FEATURE) (r.value == PORT_ENABLE || (r.value == C_PORT_ENABLE || r.value == C_PORT_RESET)) y).1
 
 abbrev tail : List ℕ → List ℕ
 tail [] = []
@@ -113,7 +114,9 @@ ends_there : (y : List ℕ) (u v : ℕ) (r : List ℕ) → y ++ (u ∷ []) ≡ y
 ends_there [] u v r h = sym (ap tail h)
 ends_there (x ∷ y) u v r h = ends_there y u v r (ap tail h)
 
-module _ (a : Attempt) (w : World) (j : ℕ) (p : List ℕ) (b : PortState) (s : State) (below : Ports) (h : HolderIn a w j p b s below) where
+module _ (a : Attempt) (w : World) (h : HolderIn a w) where
+  open h use {spot.{row as j, rest as p}}
+
   abbrev k : Ports
   k = (ready w).roots
 
@@ -124,8 +127,8 @@ module _ (a : Attempt) (w : World) (j : ℕ) (p : List ℕ) (b : PortState) (s :
   abbrev sent : Option Sent
   sent = payload_out a (damage_in (ready w))
 
-  one : Holder a.addr k j p b s below
-  one = holder_in a w j p b s below h
+  abbrev one : Holder a.addr k
+  one = holder_in a w h
 
   -- what the holder can ask passes the test, where it is on the way to a path
   abbrev Passes : Test → ℕ → List ℕ → Option Sent → Type 0
@@ -141,7 +144,7 @@ module _ (a : Attempt) (w : World) (j : ℕ) (p : List ℕ) (b : PortState) (s :
       pick : ((same_number i j && same_path e p) ≡ true) ⊎ ((same_number i j && same_path e p) ≡ false) → T m r (effect_of q dp t) ≡ true
       pick (inl y) = sent_allowed (T m r) (l m r) q (c m r (path (both (same_number i j) (same_path e p) y))) dp t
       pick (inr y) =
-          ap (T m r) (rested_effect q dp t (others_forgot a.addr (token_out a (damage_in (ready w))) (goes a (damage_in (ready w)) k).token k j p one.settled one.one i e t y at))
+          ap (T m r) (rested_effect q dp t (others_forgot a.addr (token_out a (damage_in (ready w))) (goes a (damage_in (ready w)) k).token k j p one.settled (holder_holds a.addr k one) i e t y at))
           ∙ l m r
 
   one_spares : (i : ℕ) (x : List ℕ) (o : Option Sent) → Passes spare_test i x o → pass_spares o heard i x ≡ true
@@ -219,15 +222,15 @@ module _ (a : Attempt) (w : World) (j : ℕ) (p : List ℕ) (b : PortState) (s :
       other_rests (suc i ∷ x) d = one_rests i x sent (λ c m r z. data_passes (rest_test c m r) (rest_there c m r (ap (same_path port_path) (sym z) ∙ d)))
 
       module _ (asked : is_port_request r0 ≡ true) where
-        of_port : r0.request_type ≡ 0x23
-        of_port = pick (either_of (Is r0 0x23 3) (Is r0 0x23 1) asked)
+        of_port : r0.request_type ≡ PORT_OUT
+        of_port = pick (either_of (Is r0 PORT_OUT SET_FEATURE) (Is r0 PORT_OUT CLEAR_FEATURE) asked)
           where
-            pick : (Is r0 0x23 3 ≡ true) ⊎ (Is r0 0x23 1 ≡ true) → r0.request_type ≡ 0x23
-            pick (inl y) = equal_same r0.request_type 0x23 (both (r0.request_type == 0x23) (r0.request == 3) y).0
-            pick (inr y) = equal_same r0.request_type 0x23 (both (r0.request_type == 0x23) (r0.request == 1) y).0
+            pick : (Is r0 PORT_OUT SET_FEATURE ≡ true) ⊎ (Is r0 PORT_OUT CLEAR_FEATURE ≡ true) → r0.request_type ≡ PORT_OUT
+            pick (inl y) = equal_same r0.request_type PORT_OUT (both (r0.request_type == PORT_OUT) (r0.request == SET_FEATURE) y).0
+            pick (inr y) = equal_same r0.request_type PORT_OUT (both (r0.request_type == PORT_OUT) (r0.request == CLEAR_FEATURE) y).0
 
-        no_configuration : {A : Type 0} → Is r0 0x00 9 ≡ true → A
-        no_configuration y = no (ap (λ x. x == 0) (sym of_port) ∙ (both (r0.request_type == 0) (r0.request == 9) y).0)
+        no_configuration : {A : Type 0} → Is r0 DEVICE_OUT SET_CONFIGURATION ≡ true → A
+        no_configuration y = no (ap (λ x. x == 0) (sym of_port) ∙ (both (r0.request_type == DEVICE_OUT) (r0.request == SET_CONFIGURATION) y).0)
 
         spare_there : (m : ℕ) (r : List ℕ) → same_number n (suc m) ≡ false → Allows (spare_test m r) r0
         spare_there m r d = record {
@@ -280,6 +283,6 @@ module _ (a : Attempt) (w : World) (j : ℕ) (p : List ℕ) (b : PortState) (s :
         unfolding spares_step
         self_spared y = one_spares j (p ++ (n ∷ [])) sent (λ m r z. data_passes (spare_test m r) (subst (λ v. Allows (spare_test m v) r0) (sym (ends_there (suc j ∷ p) n (suc m) r z)) (self_there y m)))
 
-pub self_asked : (a : Attempt) (w : World) (j : ℕ) (p : List ℕ) (b : PortState) (s : State) (below : Ports) → HolderIn a w j p b s below → (bytes : List ℕ) → IsSetup a bytes
-    → (n : ℕ) → (setup_of bytes).index ≡ n → is_sparing (setup_of bytes) ≡ true → spares_step (attempt a) w (suc j ∷ (p ++ (n ∷ []))) ≡ true
-self_asked a w j p b s below h bytes is n names y = self_spared a w j p b s below h bytes is n names (sparing_asks (setup_of bytes) y) y
+pub self_asked : (a : Attempt) (w : World) (h : HolderIn a w) (bytes : List ℕ) → IsSetup a bytes
+    → (n : ℕ) → (setup_of bytes).index ≡ n → is_sparing (setup_of bytes) ≡ true → spares_step (attempt a) w (path_to h.spot ++ (n ∷ [])) ≡ true
+self_asked a w h bytes is n names y = self_spared a w h bytes is n names (sparing_asks (setup_of bytes) y) y

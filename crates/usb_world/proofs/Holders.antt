@@ -3,7 +3,7 @@ use Rattle.std.proofs.Common.{◌≡◌, ℕ, zero, suc, ◌+◌, ◌≤◌, ◌
 use Rattle.std.proofs.lemmas.Option.{same_Some}
 use Rattle.usb_port.specs.PortState.{PortState}
 use Rattle.usb_device.specs.Rows.{State}
-use Rattle.usb_device.specs.Tree.{Ports, ended, vacant, taken, reach_at, state_at}
+use Rattle.usb_device.specs.Tree.{Ports, ended, vacant, taken, reach_at, state_at, path_to}
 use Rattle.usb_device.specs.Delivery.{held, has, is_twice}
 use Rattle.usb_world.specs.Paths.{address_of, HoldsAddress, Two}
 use Rattle.usb_world.proofs.Booleans.{no, both, neither, and_of, or_left, or_right, either_of}
@@ -148,25 +148,25 @@ has_append n (x ∷ xs) ys h = pick (either_of (n == x) (has n (xs ++ ys)) h) (h
 
 further : (b : PortState) (s : State) (a k : Ports) (n : ℕ) → HoldsAddress k n → HoldsAddress (taken b s a k) n
 unfolding reach_at state_at
-further b s a k n h = record { i = suc h.i; p = h.p; on = h.on; at = h.at }
+further b s a k n h = record { spot = record { row = suc h.spot.row; rest = h.spot.rest }; on = h.on; at = h.at }
 
 beyond : (b : PortState) (k : Ports) (n : ℕ) → HoldsAddress k n → HoldsAddress (vacant b k) n
 unfolding reach_at state_at
-beyond b k n h = record { i = suc h.i; p = h.p; on = h.on; at = h.at }
+beyond b k n h = record { spot = record { row = suc h.spot.row; rest = h.spot.rest }; on = h.on; at = h.at }
 
 below : (b : PortState) (s : State) (a k : Ports) (n : ℕ) → b.enable ≡ true → HoldsAddress a n → HoldsAddress (taken b s a k) n
 unfolding reach_at state_at
-below b s a k n e h = record { i = zero; p = suc h.i ∷ h.p; on = and_of b.enable _ e h.on; at = h.at }
+below b s a k n e h = record { spot = record { row = zero; rest = path_to h.spot }; on = and_of b.enable _ e h.on; at = h.at }
 
 at_it : (b : PortState) (s : State) (a k : Ports) → b.enable ≡ true → HoldsAddress (taken b s a k) (address_of s)
 unfolding reach_at state_at
-at_it b s a k e = record { i = zero; p = []; on = e; at = refl }
+at_it b s a k e = record { spot = record { row = zero; rest = [] }; on = e; at = refl }
 
 holder_of : (k : Ports) (n : ℕ) → has n (held k) ≡ true → HoldsAddress k n
 unfolding held reach_at state_at
 holder_of ended n h = no h
 holder_of (vacant b k) n h =
-    let x : _ = holder_of k n h in record { i = suc x.i; p = x.p; on = x.on; at = x.at }
+    let x : _ = holder_of k n h in record { spot = record { row = suc x.spot.row; rest = x.spot.rest }; on = x.on; at = x.at }
 holder_of (taken b s a k) n h = split b.enable refl h (holder_of a n) (holder_of k n)
   where
     split : (x : Bool) → b.enable ≡ x → has n (if x then address_of s ∷ (held a ++ held k) else held k) ≡ true → (has n (held a) ≡ true → HoldsAddress a n) → (has n (held k) ≡ true → HoldsAddress k n) → HoldsAddress (taken b s a k) n

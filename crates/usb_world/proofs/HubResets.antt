@@ -7,7 +7,7 @@ use Rattle.usb_device.specs.Request.{Outcome, stalled, answers, takes_address, t
 use Rattle.usb_device.specs.Rows.{State, accepted}
 use Rattle.usb_device.specs.Attempt.{Way, is_whole, heard, setup_law}
 use Rattle.usb_device.specs.declared.answer.Answer.TheVariants.{Ack}
-use Rattle.usb_device.specs.Tree.{Ports, ended, vacant, taken, row_of, reach_at, state_at, place_at, reach, place}
+use Rattle.usb_device.specs.Tree.{Ports, ended, vacant, taken, row_of, reach_at, state_at, place_at, reach, place, path_to}
 use Rattle.usb_world.specs.declared.types.Attempt.{Attempt}
 use Rattle.usb_world.specs.Paths.{address_of, same_number, same_path, is_way}
 use Rattle.usb_world.specs.WayEffects.{IsNew, reset_if}
@@ -21,7 +21,7 @@ use Rattle.usb_world.proofs.Booleans.{no, both, decided, and_false}
 use Rattle.usb_world.proofs.PortCalls.{off_reach}
 use Rattle.usb_world.proofs.OneDevice.{state_stands}
 use Rattle.usb_world.proofs.Courses.{made_reach, step_new}
-use Rattle.usb_world.proofs.OneHolder.{replied}
+use Rattle.usb_world.proofs.OneHolder.{replied, holder_holds}
 use Rattle.usb_world.proofs.OneHolderAttempts.{made_is, made_true, holder_in, setup_in, silent_in, others_in}
 use Rattle.usb_world.proofs.AddressesInTransfers.{due_own}
 use Rattle.usb_world.proofs.RootResets.{is_same, same_is, new_address}
@@ -101,15 +101,17 @@ standing (taken b s a k) zero (zero ∷ e) h = no h
 standing (taken b s a k) zero (suc j ∷ e) h = let y : Standing a j e = standing a j e (both b.enable (reach_at a j e) h).1 in record { own = y.own; at = y.at }
 standing (taken b s a k) (suc i) e h = let y : Standing k i e = standing k i e h in record { own = y.own; at = y.at }
 
-module _ (a : Attempt) (w : World) (j : ℕ) (p : List ℕ) (b : PortState) (s : State) (below : Ports) (h : HolderIn a w j p b s below) (bytes : List ℕ) (is : IsSetup a bytes) (n : ℕ) (names : (setup_of bytes).index ≡ n) (f : List ℕ → Option ℕ) (own : Own f w) where
+module _ (a : Attempt) (w : World) (h : HolderIn a w) (bytes : List ℕ) (is : IsSetup a bytes) (n : ℕ) (names : (setup_of bytes).index ≡ n) (f : List ℕ → Option ℕ) (own : Own f w) where
+  open h use {spot.{row as j, rest as p}, own as s, below}
+
   abbrev k : Ports
   k = (ready w).roots
 
   abbrev target : List ℕ
   target = suc j ∷ (p ++ (n ∷ []))
 
-  one : Holder a.addr k j p b s below
-  one = holder_in a w j p b s below h
+  abbrev one : Holder a.addr k
+  one = holder_in a w h
 
   own_ready : Own f (ready w)
   unfolding ready
@@ -123,19 +125,19 @@ module _ (a : Attempt) (w : World) (j : ℕ) (p : List ℕ) (b : PortState) (s :
   hub_is = pick s.spec.silent refl
     where
       pick : (x : Bool) → s.spec.silent ≡ x → option_map address_of (state_at (after (attempt a) w).roots j p) ≡ Some (address_of s)
-      pick true e = ap (option_map address_of) (silent_in a w j p b s below h e).state
+      pick true e = ap (option_map address_of) (silent_in a w h e).state
       pick false e =
-          ap (option_map address_of) (setup_in a w j p b s below h e bytes is).state
+          ap (option_map address_of) (setup_in a w h e bytes is).state
           ∙ ap (λ x. Some x) (setup_address s (row_of below) bytes (token_way a (damage_in (ready w)) (deep_at false p) s) (payload_way a (damage_in (ready w)) (deep_at false p) s) (answer_way a (damage_in (ready w)) k))
 
   hub_stays : Stays j p
-  hub_stays = hub_is ∙ ap (λ x. Some x) h.at ∙ sym one.one.at ∙ own_ready (suc j ∷ p) h.on
+  hub_stays = hub_is ∙ ap (λ x. Some x) h.at ∙ sym (holder_holds a.addr k one).at ∙ own_ready (suc j ∷ p) h.on
 
   other_stays : (i : ℕ) (e : List ℕ) → (same_number i j && same_path e p) ≡ false → made_resets a (ready w) (suc i ∷ e) ≡ false → reach_at k i e ≡ true → Stays i e
   unfolding resets
   other_stays i e differ rest on =
       let v : Standing k i e = standing k i e on in
-      ap (option_map address_of) (others_in a w j p b s below h i e v.own differ v.at)
+      ap (option_map address_of) (others_in a w h i e v.own differ v.at)
       ∙ ap (λ x. Some (address_of (reset_if x v.own))) (ap (λ x. is_made w.fault w && x) rest ∙ and_false (is_made w.fault w))
       ∙ sym (ap (option_map address_of) v.at) ∙ own_ready (suc i ∷ e) on
 
@@ -153,7 +155,7 @@ module _ (a : Attempt) (w : World) (j : ℕ) (p : List ℕ) (b : PortState) (s :
       pick (inr y) = other_stays i e y rest before
 
   rests_elsewhere : (x : List ℕ) → same_path target x ≡ false → made_resets a (ready w) x ≡ false
-  rests_elsewhere = other_rests a w j p b s below h bytes is n names
+  rests_elsewhere = other_rests a w h bytes is n names
 
   own_reset : resets (attempt a) w target ≡ true → Own (after_reset f target) (after (attempt a) w)
   own_reset y [] on = no on
@@ -193,11 +195,11 @@ module _ (a : Attempt) (w : World) (j : ℕ) (p : List ℕ) (b : PortState) (s :
       pick (inl d) = ap (made_resets a (ready w)) (same_is target (suc i ∷ e) d) ∙ at_target
       pick (inr d) = rests_elsewhere (suc i ∷ e) d
 
-pub hub_reset : (a : Attempt) (w : World) (j : ℕ) (p : List ℕ) (b : PortState) (s : State) (below : Ports) → HolderIn a w j p b s below → (bytes : List ℕ) → IsSetup a bytes
-    → (n : ℕ) → (setup_of bytes).index ≡ n → (f : List ℕ → Option ℕ) → resets (attempt a) w (suc j ∷ (p ++ (n ∷ []))) ≡ true → Own f w
-    → Own (after_reset f (suc j ∷ (p ++ (n ∷ [])))) (after (attempt a) w)
-hub_reset a w j p b s below h bytes is n names f y own = own_reset a w j p b s below h bytes is n names f own y
+pub hub_reset : (a : Attempt) (w : World) (h : HolderIn a w) (bytes : List ℕ) → IsSetup a bytes
+    → (n : ℕ) → (setup_of bytes).index ≡ n → (f : List ℕ → Option ℕ) → resets (attempt a) w (path_to h.spot ++ (n ∷ [])) ≡ true → Own f w
+    → Own (after_reset f (path_to h.spot ++ (n ∷ []))) (after (attempt a) w)
+hub_reset a w h bytes is n names f y own = own_reset a w h bytes is n names f own y
 
-pub hub_rest : (a : Attempt) (w : World) (j : ℕ) (p : List ℕ) (b : PortState) (s : State) (below : Ports) → HolderIn a w j p b s below → (bytes : List ℕ) → IsSetup a bytes
-    → (n : ℕ) → (setup_of bytes).index ≡ n → (f : List ℕ → Option ℕ) → resets (attempt a) w (suc j ∷ (p ++ (n ∷ []))) ≡ false → Own f w → Own f (after (attempt a) w)
-hub_rest a w j p b s below h bytes is n names f y own = own_rest a w j p b s below h bytes is n names f own y
+pub hub_rest : (a : Attempt) (w : World) (h : HolderIn a w) (bytes : List ℕ) → IsSetup a bytes
+    → (n : ℕ) → (setup_of bytes).index ≡ n → (f : List ℕ → Option ℕ) → resets (attempt a) w (path_to h.spot ++ (n ∷ [])) ≡ false → Own f w → Own f (after (attempt a) w)
+hub_rest a w h bytes is n names f y own = own_rest a w h bytes is n names f own y

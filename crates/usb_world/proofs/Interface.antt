@@ -1,38 +1,36 @@
 -- The lemmas that crates above cite. All others are for this crate alone.
-pub use Rattle.usb_world.proofs.AddressLosses.{none_awaited}
 pub use Rattle.usb_world.proofs.AddressesInTransfers.{course_keeps, data_calm, data_own, due_own}
 pub use Rattle.usb_world.proofs.AddressesKept.{due_state, first_state, own_not_twice, quiet_resets, ready_own, step_own, step_unshared, taken_state}
 pub use Rattle.usb_world.proofs.AddressesTaken.{seen, unseen}
-pub use Rattle.usb_world.proofs.AttemptPackets.{CalmOut, ack_out, calm_pass, pass_reach, token_out}
+pub use Rattle.usb_world.proofs.AttemptLosses.{CountsNone, Counts, EndsWithAddress, StaysEndless, each_counts, got_it, got_none, in_clears, in_counts, loses, losses_as, out_counts, set_up_counts}
+pub use Rattle.usb_world.proofs.AttemptPackets.{CalmOut, calm_pass, token_out}
 pub use Rattle.usb_world.proofs.Booleans.{and_false, and_none, and_of, both, decided, either_of, if_no, if_yes, neither, neither_of, no, not_true, or_left, or_nothing, or_right}
 pub use Rattle.usb_world.proofs.ChangeBits.{course_bits, made_port, root_port}
-pub use Rattle.usb_world.proofs.CountedLosses.{is_loss}
-pub use Rattle.usb_world.proofs.Counts.{RootCalled, came_spends, change_most, changes-set, clear_ends, clear_none, clears_change, clears_spend, happened_long, new_long, resets_spend, root_cleared, root_set, row_long, set_ends, set_none, spends_none, spends_then, spends_wider}
-pub use Rattle.usb_world.proofs.Courses.{course_joined, course_wider, due_reach, goes, happened_reach, made_live, made_pend, made_reach, pending_persists, root_live, root_pend, same_device, step_new, step_pend, unreset_reach}
+pub use Rattle.usb_world.proofs.Counts.{RootCalled, came_spends, change_most, changes-set, clear_ends, clear_none, clears_change, clears_spend, happened_long, new_long, resets_spend, root_called, row_long, set_ends, set_none, spends_none, spends_then, spends_wider}
+pub use Rattle.usb_world.proofs.Courses.{course_joined, course_then, course_wider, due_reach, goes, made_live, made_pend, made_reach, pending_persists, root_live, root_pend, same_device, step_new, step_pend, unreset_reach}
+pub use Rattle.usb_world.proofs.CutAttempts.{Cut, cut_or_same, made_whole, unmade}
 pub use Rattle.usb_world.proofs.DamageEffects.{losses_after, losses_cleared, no_losses_yet, until_most}
-pub use Rattle.usb_world.proofs.Devices.{each_in, each_joined, each_none, each_out, each_setup, each_wider}
-pub use Rattle.usb_world.proofs.DueEvents.{came_shared, due_losses, due_shared, first_fault, first_shared}
+pub use Rattle.usb_world.proofs.Devices.{each_beside, each_both, each_in, each_joined, each_none, each_out, each_setup, each_wider}
+pub use Rattle.usb_world.proofs.DueEvents.{came_shared, due_shared, first_fault, first_shared}
 pub use Rattle.usb_world.proofs.Equality.{equal_same, same_equal, self_number, self_path, swapped, unequal}
 pub use Rattle.usb_world.proofs.HolderOfAttempt.{holder_or_nobody, one_answers}
 pub use Rattle.usb_world.proofs.HolderRequests.{elsewhere, others_asked_nothing, self_asked}
 pub use Rattle.usb_world.proofs.HubResets.{hub_reset, hub_rest, register_address}
+pub use Rattle.usb_world.proofs.MadeAttempts.{faulted, limited, made_damages, made_step, made_unshared}
 pub use Rattle.usb_world.proofs.OneDevice.{other_address, rest_state, rested_effect, settled_memory, stands, state_stands, token_calls}
-pub use Rattle.usb_world.proofs.OneHolder.{acts, is_state, no_payload, none_is, remembers, third, through_spec, token_comes}
+pub use Rattle.usb_world.proofs.OneHolder.{is_state, remembers, third}
 pub use Rattle.usb_world.proofs.OneHolderAttempts.{holder_in, in_in, made_is, made_of, made_true, nobody_in, out_in, ready_settled, setup_in, setup_sound_in, silent_in, silent_reply}
 pub use Rattle.usb_world.proofs.OneHolderPorts.{setup_place_in, silent_place_in}
-pub use Rattle.usb_world.proofs.PacketEffects.{packet_state}
+pub use Rattle.usb_world.proofs.Outcomes.{brings, given_by, got_given, got_nak, got_payload, got_stall}
 pub use Rattle.usb_world.proofs.PacketWays.{NoneAsks, nothing_asked}
 pub use Rattle.usb_world.proofs.PlainRequests.{data_asks_nothing, plain_asks_nothing}
 pub use Rattle.usb_world.proofs.PluggedDevices.{devices_left, plugged_next, ports_stand, undisturbed_keeps}
 pub use Rattle.usb_world.proofs.PluggedTrees.{found_same, self_found}
 pub use Rattle.usb_world.proofs.PortCalls.{call_reach, call_state}
-pub use Rattle.usb_world.proofs.PortRequests.{Allows, AllowsOut, payload_allowed, sent_allowed}
-pub use Rattle.usb_world.proofs.ReachableHolder.{stays_reachable_in}
+pub use Rattle.usb_world.proofs.ReachableHolder.{data_back, due_back, one_state, stays_reachable_in}
 pub use Rattle.usb_world.proofs.RestingPorts.{rests_or_pends, stands_or_pends}
 pub use Rattle.usb_world.proofs.RootResets.{is_same, reset_distinct, reset_own, rest_own, same_is, taken_distinct}
-pub use Rattle.usb_world.proofs.Routes.{rest_awaits}
 pub use Rattle.usb_world.proofs.SanePorts.{reach_live, sane_new_ports, sane_spec}
 pub use Rattle.usb_world.proofs.States.{unreset}
 pub use Rattle.usb_world.proofs.StepInvariants.{between_after, between_course, between_opening, between_ready, sane_called_at, sane_happened, sane_ports, settled_called, settled_happened, settled_new, settled_ports}
-pub use Rattle.usb_world.proofs.UnsharedRefusals.{cut_alone}
 pub use Rattle.usb_world.proofs.Ways.{at_or_below_way, way_apart, way_itself, way_parent, way_rest, way_shorter, way_trans}

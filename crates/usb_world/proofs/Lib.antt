@@ -2,7 +2,12 @@ pub mod Counts
 pub mod Exchanges
 pub mod Interface
 pub mod Refusals
+pub mod AwaitedAcks
 pub mod AddressLosses
+pub mod AttemptLosses
+pub mod CutAttempts
+pub mod MadeAttempts
+pub mod Outcomes
 pub mod DamageEffects
 pub mod Booleans
 pub mod Equality
@@ -31,7 +36,6 @@ pub mod AddressesKept
 pub mod AddressesInTransfers
 pub mod RootResets
 pub mod AddressesTaken
-pub mod CountedLosses
 pub mod Example
 pub mod ExampleHub
 pub mod ToldChanges
@@ -56,4 +60,4 @@ pub mod UnsharedRefusals
 pub mod RestingPorts
 pub mod Routes
 pub mod RoutesKept
-pub mod Hinted
+pub mod HintedPaths

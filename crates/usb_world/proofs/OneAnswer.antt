@@ -1,28 +1,25 @@
 -- Where no address is held twice, at most one device answers an attempt.
-use Rattle.std.proofs.Common.{◌≡◌, ◌≤◌, ◌⊎◌, inl, inr, ℕ, false, List, [], ◌∷◌, ◌++◌, length, Option, None, Some, is_some, option_map, refl, ap, ap₂, sym, ◌∙◌, arith}
+use Rattle.std.proofs.Common.{◌≡◌, ◌≤◌, ◌⊎◌, inl, inr, ℕ, false, List, [], ◌∷◌, ◌++◌, length, Option, None, Some, is_some, refl, ap, ap₂, sym, ◌∙◌, arith}
 use Rattle.arrayvec.specs.ArrayVec.{ArrayVec}
 use Rattle.usb_packet.specs.declared.Packet.TheVariants.{Token}
 use Rattle.usb_packet.specs.declared.Packet.TheVariants as packet
 use Rattle.usb_packet.specs.declared.Toggle.{Toggle}
 use Rattle.usb_packet.specs.declared.TokenKind.{TokenKind}
 use Rattle.usb_packet.specs.declared.TokenKind.TheVariants.{OutTok, InTok, SetupTok}
-use Rattle.usb_port.specs.PortState.{PortState}
 use Rattle.usb_device.specs.declared.answer.Answer.{Answer}
-use Rattle.usb_device.specs.Rows.{State}
 use Rattle.usb_device.specs.Tree.{Ports, row_of}
 use Rattle.usb_device.specs.Delivery.{held, is_twice, listed}
 use Rattle.usb_world.specs.declared.types.Attempt.{Attempt}
 use Rattle.usb_world.specs.declared.damage.Damage.{Damage}
 use Rattle.usb_world.specs.declared.exchange.Heard.TheVariants.{Collision}
-use Rattle.usb_world.specs.Paths.{address_of}
 use Rattle.usb_world.specs.Exchange.{heard_all, heard_in, token_out, payload_out, reply_out, exchange_in}
 use Rattle.usb_world.specs.FoundHolder.{Found}
 use Rattle.usb_world.specs.OneHolder.{Holder, IsMade}
-use Rattle.usb_world.specs.Passes.{passed, told, IsSettled, NobodyHolds}
+use Rattle.usb_world.specs.Passes.{passed, answers_to, IsSettled, NobodyHolds}
 use Rattle.usb_world.specs.Steps.{ready, damage_in, made_in, with_attempt, attempt, after}
 use Rattle.usb_world.specs.World.{World, IsAttempt, sends_data}
 use Rattle.usb_world.proofs.Booleans.{no, neither}
-use Rattle.usb_world.proofs.OneDevice.{nobody_answers, stands, state_stands}
+use Rattle.usb_world.proofs.OneDevice.{nobody_answers}
 use Rattle.usb_world.proofs.OneHolder.{sent_heard, asked_heard, token_is, data_is, none_is, setup_quiet, out_quiet}
 use Rattle.usb_world.proofs.OneHolderAttempts.{ready_settled, made_is}
 use Rattle.usb_world.proofs.HolderOfAddress.{who_holds}
@@ -38,27 +35,27 @@ few (x ∷ []) f = omega arith
 few (x ∷ y ∷ xs) f = elim (f refl) [ ]
 
 module _ (a : Attempt) (d : Option Damage) (k : Ports) (is : IsAttempt a) where
-  of_holder : (j : ℕ) (p : List ℕ) (b : PortState) (s : State) (below : Ports) → Holder a.addr k j p b s below → heard_in a d k ≡ Collision → ⊥
-  of_holder j p b s below h = split a.kind refl a.payload refl is.payload_sent
+  of_holder : Holder a.addr k → heard_in a d k ≡ Collision → ⊥
+  of_holder h = split a.kind refl a.payload refl is.payload_sent
     where
       split : (t : TokenKind) → a.kind ≡ t → (o : Option (Toggle × ArrayVec ℕ)) → a.payload ≡ o → is_some o ≡ sends_data t → heard_in a d k ≡ Collision → ⊥
       split SetupTok kind None load sent c = no sent
       split SetupTok kind (Some x) load sent c =
           alone _
           (sym
-          (sent_heard a d k j p b s below h (Token SetupTok a.addr a.ep) (packet.Payload x.0 x.1) (token_is a SetupTok a.addr a.ep kind refl refl) (data_is a x.0 x.1 load)
-          (setup_quiet s (row_of below) a.addr a.ep))
+          (sent_heard a d k h (Token SetupTok a.addr a.ep) (packet.Payload x.0 x.1) (token_is a SetupTok a.addr a.ep kind refl refl) (data_is a x.0 x.1 load)
+          (setup_quiet h.own (row_of h.below) a.addr a.ep))
           ∙ c)
       split OutTok kind None load sent c = no sent
       split OutTok kind (Some x) load sent c =
           alone _
           (sym
-          (sent_heard a d k j p b s below h (Token OutTok a.addr a.ep) (packet.Payload x.0 x.1) (token_is a OutTok a.addr a.ep kind refl refl) (data_is a x.0 x.1 load)
-          (out_quiet s (row_of below) a.addr a.ep))
+          (sent_heard a d k h (Token OutTok a.addr a.ep) (packet.Payload x.0 x.1) (token_is a OutTok a.addr a.ep kind refl refl) (data_is a x.0 x.1 load)
+          (out_quiet h.own (row_of h.below) a.addr a.ep))
           ∙ c)
       split InTok kind None load sent c =
           alone _
-          (sym (asked_heard a d k j p b s below h (Token InTok a.addr a.ep) (token_is a InTok a.addr a.ep kind refl refl) (none_is a load)) ∙ c)
+          (sym (asked_heard a d k h (Token InTok a.addr a.ep) (token_is a InTok a.addr a.ep kind refl refl) (none_is a load)) ∙ c)
       split InTok kind (Some x) load sent c = no (sym sent)
 
   of_nobody : IsSettled k → NobodyHolds a.addr k → heard_in a d k ≡ Collision → ⊥
@@ -66,22 +63,15 @@ module _ (a : Attempt) (d : Option Damage) (k : Ports) (is : IsAttempt a) where
       let w : _ = nobody_answers a.addr (token_out a d) (payload_out a d) (reply_out a d k) (goes a d k) k settled n in
       alone None (sym (ap₂ (λ x y. heard_all (x ++ y)) w.1 w.2) ∙ c)
 
-  found : IsSettled k → is_twice (held k) ≡ false → (f : Found a.addr k) → Holder a.addr k f.j f.p f.port f.own f.below
-  found settled single f = record {
-    settled = settled;
-    one = record { single = single; on = f.on; at = ap (option_map address_of) (sym (state_stands k f.j f.p) ∙ ap stands f.stands) ∙ ap (λ x. Some x) f.at };
-    stands = f.stands;
-  }
-
   pub no_collision : IsSettled k → is_twice (held k) ≡ false → heard_in a d k ≡ Collision → ⊥
   no_collision settled single = pick (who_holds a.addr k)
     where
       pick : Found a.addr k ⊎ NobodyHolds a.addr k → heard_in a d k ≡ Collision → ⊥
-      pick (inl f) = of_holder f.j f.p f.port f.own f.below (found settled single f)
+      pick (inl f) = of_holder (record { settled = settled; single = single; found = f })
       pick (inr n) = of_nobody settled n
 
-  pub few_answers : IsSettled k → is_twice (held k) ≡ false → length (told (token_out a d) k ++ told (payload_out a d) (passed (token_out a d) k)) ≤ 1
-  few_answers settled single = few (told (token_out a d) k ++ told (payload_out a d) (passed (token_out a d) k)) (no_collision settled single)
+  pub few_answers : IsSettled k → is_twice (held k) ≡ false → length (answers_to (token_out a d) k ++ answers_to (payload_out a d) (passed (token_out a d) k)) ≤ 1
+  few_answers settled single = few (answers_to (token_out a d) k ++ answers_to (payload_out a d) (passed (token_out a d) k)) (no_collision settled single)
 
 pub no_collision_in : (a : Attempt) (w : World) → IsAttempt a → IsMade a w → (after (attempt a) w).shared ≡ false → (made_in a (ready w)).answer ≡ Collision → ⊥
 unfolding with_attempt exchange_in

@@ -16,8 +16,8 @@ use Rattle.usb_device.specs.Delivery.{hears, asked_by, answer_of, effect_of, aft
 use Rattle.usb_world.specs.Paths.{address_of, same_number, same_path}
 use Rattle.usb_world.specs.WayEffects.{is_left, way_rests, resets_at, reset_if}
 use Rattle.usb_device.specs.View.{forgotten_place}
-use Rattle.usb_world.specs.Passes.{passed, told, told_at, answer_at, after_attempt, heard_place, passed_place, deep_at, calls_on, IsTokenFor, IsDataOut, IsAckOut, IfOut, IsAttemptAt, pass_resets, attempt_resets, IsSettled, NobodyHolds, OneHolds, OneActs, heard_state}
-use Rattle.usb_world.specs.Alone.{OthersForgot}
+use Rattle.usb_world.specs.Passes.{passed, answers_to, told_at, answer_at, after_attempt, heard_place, passed_place, deep_at, calls_on, IsTokenFor, IsDataOut, IsAckOut, IfOut, IsAttemptAt, pass_resets, attempt_resets, IsSettled, NobodyHolds, OneHolds, OneActs, heard_state}
+use Rattle.usb_world.specs.LonePackets.{OthersForgot}
 use Rattle.usb_world.proofs.Booleans.{no, both, and_of, decided}
 use Rattle.usb_world.proofs.Holders.{one_path}
 use Rattle.usb_world.proofs.PacketEffects.{packet_state, true_deep}
@@ -165,7 +165,7 @@ payload_calls Broken s h = refl
 -- Nobody holds the address: an attempt changes nothing, and nothing is answered
 
 pass_nobody : (o : Option Sent) (k : Ports) → IsSettled k → ((q : Sent) → o ≡ Some q → (t : State) → ((i : ℕ) × (e : List ℕ) × (state_at k i e ≡ Some t) × (reach_at k i e ≡ true)) → calls_on q.content t ≡ false)
-    → (passed o k ≡ k) × (told o k ≡ [])
+    → (passed o k ≡ k) × (answers_to o k ≡ [])
 pass_nobody None k s c = (refl, refl)
 pass_nobody (Some q) k s c = (rest_packet q false k rest, rest_answers q false k rest)
   where
@@ -173,19 +173,19 @@ pass_nobody (Some q) k s c = (rest_packet q false k rest, rest_answers q false k
     rest i e t h on = (settled_memory k i e t s h, c q refl t (i, e, h, on))
 
 pub nobody_answers : (n : ℕ) (t d r : Option Sent) → IsAttemptAt n t d r → (k : Ports) → IsSettled k → NobodyHolds n k
-    → (after_attempt t d r k ≡ k) × (told t k ≡ []) × (told d (passed t k) ≡ [])
+    → (after_attempt t d r k ≡ k) × (answers_to t k ≡ []) × (answers_to d (passed t k) ≡ [])
 nobody_answers n t d r is k s c =
     let first = pass_nobody t k s (λ q o x w. token_calls n q.content x (subst (IfOut (IsTokenFor n)) o is.token) (c w.0 w.1 x w.2 w.3)) in
     let second = pass_nobody d k s (λ q o x w. payload_calls q.content x (subst (IfOut IsDataOut) o is.payload)) in
     let third = pass_nobody r k s (λ q o x w. ack_calls q.content x (subst (IfOut IsAckOut) o is.reply)) in (
       ap all_forgotten (ap (λ x. passed r (passed d x)) first.0 ∙ ap (passed r) second.0 ∙ third.0) ∙ s,
       first.1,
-      ap (told d) first.0 ∙ second.1,
+      ap (answers_to d) first.0 ∙ second.1,
     )
 
 -- One device holds the address
 
-pub other_address : (n : ℕ) (k : Ports) (j : ℕ) (p : List ℕ) → OneHolds n k j p → (i : ℕ) (e : List ℕ) (t : State) → (same_number i j && same_path e p) ≡ false → state_at k i e ≡ Some t → reach_at k i e ≡ true
+pub other_address : (n : ℕ) (k : Ports) (j : ℕ) (p : List ℕ) → OneHolds n k (record { row = j; rest = p }) → (i : ℕ) (e : List ℕ) (t : State) → (same_number i j && same_path e p) ≡ false → state_at k i e ≡ Some t → reach_at k i e ≡ true
     → (n == address_of t) ≡ false
 other_address n k j p o i e t d h on = pick (decided (n == address_of t))
   where
@@ -238,7 +238,7 @@ reset_forgot false (Some s) t c h = ap (λ x. x.memory) (sym (same_Some s t h)) 
 pub record Pass (o : Option Sent) (k : Ports) (j : ℕ) (p : List ℕ) : Type 0 where
   pub place : place_at (passed o k) j p ≡ option_map (passed_place o (deep_at false p)) (place_at k j p)
   pub on : reach_at (passed o k) j p ≡ true
-  pub answer : told o k ≡ told_at o (deep_at false p) (place_at k j p)
+  pub answer : answers_to o k ≡ told_at o (deep_at false p) (place_at k j p)
   pub forgot : OthersForgot (passed o k) j p
   pub others : (i : ℕ) (e : List ℕ) → (same_number i j && same_path e p) ≡ false → state_at (passed o k) i e ≡ option_map (reset_if (pass_resets o k i e)) (state_at k i e)
 
@@ -282,7 +282,7 @@ thrice : (f g h i : Place → Place) (o : Option Place) → option_map f (option
 thrice f g h i None = refl
 thrice f g h i (Some x) = refl
 
-pub one_device : (n : ℕ) (t d r : Option Sent) → IsAttemptAt n t d r → (k : Ports) (j : ℕ) (p : List ℕ) → IsSettled k → OneHolds n k j p → OneActs t d r k j p
+pub one_device : (n : ℕ) (t d r : Option Sent) → IsAttemptAt n t d r → (k : Ports) (j : ℕ) (p : List ℕ) → IsSettled k → OneHolds n k (record { row = j; rest = p }) → OneActs t d r k j p
 unfolding reset_state
 one_device n t d r is k j p s o = record {
   first = x.answer;

@@ -1,6 +1,5 @@
 -- An attempt, where one reachable device holds its address or none does.
 use Rattle.std.proofs.Common.{◌≡◌, ℕ, ◌+◌, ◌==◌, nat_lt, ◌&&◌, if◌then◌else◌, Bool, true, false, List, [], ◌∷◌, ◌++◌, length, Option, None, Some, option_map, refl, ap, ap₂, sym, subst, ◌∙◌}
-use Rattle.std.proofs.lemmas.Option.{same_Some}
 use Rattle.arrayvec.specs.ArrayVec.{ArrayVec}
 use Rattle.usb_packet.specs.declared.Packet.{Packet}
 use Rattle.usb_packet.specs.declared.Packet.TheVariants.{Token}
@@ -19,7 +18,7 @@ use Rattle.usb_request.specs.Layout.{setup_of}
 use Rattle.usb_device.specs.Bulk.{is_same}
 use Rattle.usb_device.specs.Transfer.{Stage, idle, refused, reading, read, ending}
 use Rattle.usb_device.specs.Rows.{State, Reply, received, unread, forgotten, accepted, is_busy, nak_row, unless_busy, out_row, status_row, sink_row, sunk, out_bulk_row, bulk_of, data_row}
-use Rattle.usb_device.specs.Attempt.{Way, whole, broken, lost, is_whole, through, heard, is_good, sends, acked, setup_attempt, out_attempt, in_attempt, setup_law, out_law, in_law}
+use Rattle.usb_device.specs.Attempt.{Way, whole, broken, lost, is_whole, through, heard, is_good, sends, acked, setup_exchange, out_exchange, in_exchange, setup_law, out_law, in_law}
 use Rattle.usb_device.specs.Tree.{Ports, full, acted, row_of, state_at, place_at}
 use Rattle.usb_device.specs.Delivery.{is_heard, answer_of, effect_of, after_packet, listed}
 use Rattle.usb_device.proofs.Interface.{in_is, keeps-received, out_is, row_of-after, setup_is}
@@ -34,7 +33,7 @@ use Rattle.usb_world.specs.Wire.{is_read, mark_of, harm_to, marked, marked_some}
 use Rattle.usb_world.specs.Paths.{address_of}
 use Rattle.usb_device.specs.View.{forgotten_place}
 use Rattle.usb_world.specs.Exchange.{token_of, payload_of, reply_of, outcome_heard, outcome_of, sent_as, goes_out, heard_all, token_out, payload_out, reply_out, heard_in, mark_in, place_of_answer, ports_in}
-use Rattle.usb_world.specs.Passes.{passed, told, told_at, heard_by, passed_place, place_after, deep_at, IsSettled, NobodyHolds, OneActs}
+use Rattle.usb_world.specs.Passes.{passed, answers_to, told_at, heard_by, passed_place, place_after, deep_at, IsSettled, NobodyHolds, OneHolds, OneActs}
 use Rattle.usb_world.specs.OneHolder.{content_way, way_to, way_back, got, token_way, payload_way, answer_way, reply_way, setup_alone, out_alone, in_alone, IsSetup, IsOut, IsIn, Holder, ExchangedWithHolder}
 use Rattle.usb_world.proofs.Booleans.{no}
 use Rattle.usb_world.proofs.AttemptPackets.{CalmOut, token_out as token_calm}
@@ -188,7 +187,13 @@ no_data_good (Some (answer.Data t bytes)) h whole max = no h
 no_data_good (Some x) h broken max = refl
 no_data_good (Some x) h lost max = refl
 
-module _ (a : Attempt) (d : Option Damage) (k : Ports) (j : ℕ) (p : List ℕ) (b : PortState) (s : State) (below : Ports) (h : Holder a.addr k j p b s below) where
+-- the holder by its place alone
+pub holder_holds : (n : ℕ) (k : Ports) (h : Holder n k) → OneHolds n k h.spot
+holder_holds n k h = record { single = h.single; on = h.on; at = ap (option_map address_of) (sym (state_stands k h.spot.row h.spot.rest) ∙ ap stands h.stands) ∙ ap (λ x. Some x) h.at }
+
+module _ (a : Attempt) (d : Option Damage) (k : Ports) (h : Holder a.addr k) where
+  open h use {spot.{row as j, rest as p}, port as b, own as s, below}
+
   abbrev pub is_deep : Bool
   is_deep = deep_at false p
 
@@ -196,13 +201,10 @@ module _ (a : Attempt) (d : Option Damage) (k : Ports) (j : ℕ) (p : List ℕ) 
   own_row = row_of below
 
   pub acts : OneActs (token_out a d) (payload_out a d) (reply_out a d k) k j p
-  acts = one_device a.addr (token_out a d) (payload_out a d) (reply_out a d k) (goes a d k) k j p h.settled h.one
+  acts = one_device a.addr (token_out a d) (payload_out a d) (reply_out a d k) (goes a d k) k j p h.settled (holder_holds a.addr k h)
 
   pub rests : s.memory ≡ memory.Nothing
   rests = settled_memory k j p s h.settled (sym (state_stands k j p) ∙ ap stands h.stands)
-
-  address : s.registers.address ≡ a.addr
-  address = same_Some (address_of s) a.addr (sym (ap (option_map address_of) (sym (state_stands k j p) ∙ ap stands h.stands)) ∙ h.one.at)
 
   -- the token, the host's data and its ACK at the device
   abbrev pub first : Reply
@@ -229,10 +231,10 @@ module _ (a : Attempt) (d : Option Damage) (k : Ports) (j : ℕ) (p : List ℕ) 
   pub second_place : passed_place (payload_out a d) is_deep (full b first.1 first_below) ≡ full b second.1 second_below
   second_place = passed_stands is_deep b (payload_out a d) first.1 first_below ∙ ap (λ r. full b (heard_by (payload_out a d) is_deep first.1 r).1 second_below) first_row
 
-  first_told : told (token_out a d) k ≡ listed first.0 []
+  first_told : answers_to (token_out a d) k ≡ listed first.0 []
   first_told = acts.first ∙ ap (told_at (token_out a d) is_deep) h.stands ∙ told_stands is_deep b (token_out a d) s below
 
-  second_told : told (payload_out a d) (passed (token_out a d) k) ≡ listed second.0 []
+  second_told : answers_to (payload_out a d) (passed (token_out a d) k) ≡ listed second.0 []
   second_told = acts.second ∙ ap (told_at (payload_out a d) is_deep) first_place ∙ told_stands is_deep b (payload_out a d) first.1 first_below
       ∙ ap (λ r. listed (heard_by (payload_out a d) is_deep first.1 r).0 []) first_row
 
@@ -277,7 +279,7 @@ module _ (a : Attempt) (d : Option Damage) (k : Ports) (j : ℕ) (p : List ℕ) 
     sent_third : no_data to_data.0 ≡ true → third.1 ≡ second.1
     sent_third n = reply_comes a d (place_of_answer a d + 1) (reply_of (heard_in a d k) (mark_in a d k) a.max) false is_deep second.1 (row_of second_below) (sent_reply n)
 
-    pub sent : no_data to_data.0 ≡ true → ExchangedWithHolder a d k j p (sends s own_row T X (token_way a d is_deep s) (payload_way a d is_deep s) (answer_way a d k))
+    pub sent : no_data to_data.0 ≡ true → ExchangedWithHolder a d k h (sends s own_row T X (token_way a d is_deep s) (payload_way a d is_deep s) (answer_way a d k))
     sent n = record {
       outcome = ap (λ x. outcome_of x (mark_in a d k) a.max) sent_heard ∙ outcome_got to_data.0 (mark_in a d k) a.max;
       state = is_state ∙ ap (λ x. Some (forgotten x)) (sent_third n ∙ ap (λ r. r.1) second_sent);
@@ -312,7 +314,7 @@ module _ (a : Attempt) (d : Option Damage) (k : Ports) (j : ℕ) (p : List ℕ) 
         ∙ reply_comes a d (place_of_answer a d + 1) (reply_of (heard_in a d k) (mark_in a d k) a.max) good is_deep to_in.1 own_row asked_reply
         ∙ ap (λ w. if good then (through w to_in.1 own_row packet.Ack).1 else to_in.1) (way_same is_deep (reply_out a d k) s to_in.1 (through_spec (token_way a d is_deep s) s own_row T))
 
-    pub asked : ExchangedWithHolder a d k j p (acked own_row a.max (answer_way a d k) (reply_way a d k is_deep s) (through (token_way a d is_deep s) s own_row T))
+    pub asked : ExchangedWithHolder a d k h (acked own_row a.max (answer_way a d k) (reply_way a d k is_deep s) (through (token_way a d is_deep s) s own_row T))
     asked = record {
       outcome = ap (λ x. outcome_of x (mark_in a d k) a.max) asked_heard ∙ outcome_got to_in.0 (mark_in a d k) a.max;
       state = is_state ∙ ap (λ x. Some (forgotten x)) asked_third;
@@ -386,7 +388,9 @@ data_no_data s e t bytes =
     (if_no_data (is_busy s) (nak_row s) (out_row s s.stage t bytes) refl (out_no_data s s.stage t bytes))
     (bulk_no_data s e (bulk_of s false) t bytes)
 
-module _ (a : Attempt) (d : Option Damage) (k : Ports) (j : ℕ) (p : List ℕ) (b : PortState) (s : State) (below : Ports) (h : Holder a.addr k j p b s below) where
+module _ (a : Attempt) (d : Option Damage) (k : Ports) (h : Holder a.addr k) where
+  open h use {spot.{row as j, rest as p}, own as s, below}
+
   abbrev t1 : Way
   t1 = token_way a d (deep_at false p) s
 
@@ -399,60 +403,57 @@ module _ (a : Attempt) (d : Option Damage) (k : Ports) (j : ℕ) (p : List ℕ) 
   abbrev t4 : Way
   t4 = reply_way a d k (deep_at false p) s
 
-  pub its_address : s.registers.address ≡ a.addr
-  its_address = address a d k j p b s below h
-
   itself : forgotten s ≡ s
-  itself = remembers s (rests a d k j p b s below h)
+  itself = remembers s (rests a d k h)
 
   module _ (loud : s.spec.silent ≡ false) where
-    setup_same : (bytes : List ℕ) → length bytes ≡ 8 → (x y z : Way) → setup_attempt s (row_of below) s.registers.address bytes x y z ≡ setup_law s (row_of below) bytes x y z
+    setup_same : (bytes : List ℕ) → length bytes ≡ 8 → (x y z : Way) → setup_exchange s (row_of below) s.registers.address bytes x y z ≡ setup_law s (row_of below) bytes x y z
     setup_same bytes len x y z =
-        subst (λ u. setup_attempt u (row_of below) s.registers.address bytes x y z ≡ setup_law u (row_of below) bytes x y z) itself (setup_is s (row_of below) bytes loud len x y z)
+        subst (λ u. setup_exchange u (row_of below) s.registers.address bytes x y z ≡ setup_law u (row_of below) bytes x y z) itself (setup_is s (row_of below) bytes loud len x y z)
 
-    out_same : (e : ℕ) (t : Toggle) (bytes : List ℕ) (x y z : Way) → out_attempt s (row_of below) s.registers.address e t bytes x y z ≡ out_law s e t bytes x y z
+    out_same : (e : ℕ) (t : Toggle) (bytes : List ℕ) (x y z : Way) → out_exchange s (row_of below) s.registers.address e t bytes x y z ≡ out_law s e t bytes x y z
     out_same e t bytes x y z =
-        subst (λ u. out_attempt u (row_of below) s.registers.address e t bytes x y z ≡ out_law u e t bytes x y z) itself (out_is s (row_of below) e t bytes loud x y z)
+        subst (λ u. out_exchange u (row_of below) s.registers.address e t bytes x y z ≡ out_law u e t bytes x y z) itself (out_is s (row_of below) e t bytes loud x y z)
 
-    pub in_same : (e max : ℕ) (x y z : Way) → in_attempt s (row_of below) s.registers.address e max x y z ≡ in_law s (row_of below) e max x y z
+    pub in_same : (e max : ℕ) (x y z : Way) → in_exchange s (row_of below) s.registers.address e max x y z ≡ in_law s (row_of below) e max x y z
     in_same e max x y z =
-        subst (λ u. in_attempt u (row_of below) s.registers.address e max x y z ≡ in_law u (row_of below) e max x y z) itself (in_is s (row_of below) e max loud x y z)
+        subst (λ u. in_exchange u (row_of below) s.registers.address e max x y z ≡ in_law u (row_of below) e max x y z) itself (in_is s (row_of below) e max loud x y z)
 
-    pub setup_one : (bytes : List ℕ) → IsSetup a bytes → ExchangedWithHolder a d k j p (setup_alone a d k (deep_at false p) s (row_of below) bytes)
+    pub setup_one : (bytes : List ℕ) → IsSetup a bytes → ExchangedWithHolder a d k h (setup_alone a d k (deep_at false p) s (row_of below) bytes)
     setup_one bytes i =
-        subst (ExchangedWithHolder a d k j p) (setup_same bytes i.whole t1 t2 t3)
-        (sent a d k j p b s below h (Token SetupTok s.registers.address 0) (packet.Payload Zero (record { items = bytes }))
-        (token_is a SetupTok s.registers.address 0 i.kind (sym its_address) i.ep) (data_is a Zero (record { items = bytes }) i.payload) (setup_quiet s (row_of below) s.registers.address 0)
+        subst (ExchangedWithHolder a d k h) (setup_same bytes i.whole t1 t2 t3)
+        (sent a d k h (Token SetupTok s.registers.address 0) (packet.Payload Zero (record { items = bytes }))
+        (token_is a SetupTok s.registers.address 0 i.kind (sym h.at) i.ep) (data_is a Zero (record { items = bytes }) i.payload) (setup_quiet s (row_of below) s.registers.address 0)
         (ap (λ r. no_data r.0) (setup_same bytes i.whole t1 t2 whole)
         ∙ if_no_data (is_whole t1 && is_whole t2) (replied (Some answer.Ack) (accepted s (row_of below) (setup_of bytes))) (replied None s) refl refl))
 
-    pub out_one : (t : Toggle) (bytes : List ℕ) → IsOut a t bytes → ExchangedWithHolder a d k j p (out_alone a d k (deep_at false p) s t bytes)
+    pub out_one : (t : Toggle) (bytes : List ℕ) → IsOut a t bytes → ExchangedWithHolder a d k h (out_alone a d k (deep_at false p) s t bytes)
     out_one t bytes i =
-        subst (ExchangedWithHolder a d k j p) (out_same a.ep t bytes t1 t2 t3)
-        (sent a d k j p b s below h (Token OutTok s.registers.address a.ep) (packet.Payload t (record { items = bytes }))
-        (token_is a OutTok s.registers.address a.ep i.kind (sym its_address) refl) (data_is a t (record { items = bytes }) i.payload) (out_quiet s (row_of below) s.registers.address a.ep)
+        subst (ExchangedWithHolder a d k h) (out_same a.ep t bytes t1 t2 t3)
+        (sent a d k h (Token OutTok s.registers.address a.ep) (packet.Payload t (record { items = bytes }))
+        (token_is a OutTok s.registers.address a.ep i.kind (sym h.at) refl) (data_is a t (record { items = bytes }) i.payload) (out_quiet s (row_of below) s.registers.address a.ep)
         (ap (λ r. no_data r.0) (out_same a.ep t bytes t1 t2 whole)
         ∙ if_no_data (is_whole t1 && is_whole t2) (replied (data_row s a.ep t bytes).0 (forgotten (data_row s a.ep t bytes).1)) (replied None s) (data_no_data s a.ep t bytes) refl))
 
-    pub in_one : IsIn a → ExchangedWithHolder a d k j p (in_alone a d k (deep_at false p) s (row_of below))
+    pub in_one : IsIn a → ExchangedWithHolder a d k h (in_alone a d k (deep_at false p) s (row_of below))
     in_one i =
-        subst (ExchangedWithHolder a d k j p) (in_same a.ep a.max t1 t3 t4)
-        (asked a d k j p b s below h (Token InTok s.registers.address a.ep) (token_is a InTok s.registers.address a.ep i.kind (sym its_address) refl) (none_is a i.payload))
+        subst (ExchangedWithHolder a d k h) (in_same a.ep a.max t1 t3 t4)
+        (asked a d k h (Token InTok s.registers.address a.ep) (token_is a InTok s.registers.address a.ep i.kind (sym h.at) refl) (none_is a i.payload))
 
     -- what is heard of the device
     pub setup_heard : (bytes : List ℕ) → IsSetup a bytes → heard_in a d k ≡ heard_all (listed (setup_law s (row_of below) bytes t1 t2 whole).0 [])
     setup_heard bytes i =
-        sent_heard a d k j p b s below h (Token SetupTok s.registers.address 0) (packet.Payload Zero (record { items = bytes }))
-        (token_is a SetupTok s.registers.address 0 i.kind (sym its_address) i.ep) (data_is a Zero (record { items = bytes }) i.payload) (setup_quiet s (row_of below) s.registers.address 0)
+        sent_heard a d k h (Token SetupTok s.registers.address 0) (packet.Payload Zero (record { items = bytes }))
+        (token_is a SetupTok s.registers.address 0 i.kind (sym h.at) i.ep) (data_is a Zero (record { items = bytes }) i.payload) (setup_quiet s (row_of below) s.registers.address 0)
         ∙ ap (λ r. heard_all (listed r.0 [])) (setup_same bytes i.whole t1 t2 whole)
 
     pub out_heard : (t : Toggle) (bytes : List ℕ) → IsOut a t bytes → heard_in a d k ≡ heard_all (listed (out_law s a.ep t bytes t1 t2 whole).0 [])
     out_heard t bytes i =
-        sent_heard a d k j p b s below h (Token OutTok s.registers.address a.ep) (packet.Payload t (record { items = bytes }))
-        (token_is a OutTok s.registers.address a.ep i.kind (sym its_address) refl) (data_is a t (record { items = bytes }) i.payload) (out_quiet s (row_of below) s.registers.address a.ep)
+        sent_heard a d k h (Token OutTok s.registers.address a.ep) (packet.Payload t (record { items = bytes }))
+        (token_is a OutTok s.registers.address a.ep i.kind (sym h.at) refl) (data_is a t (record { items = bytes }) i.payload) (out_quiet s (row_of below) s.registers.address a.ep)
         ∙ ap (λ r. heard_all (listed r.0 [])) (out_same a.ep t bytes t1 t2 whole)
 
     pub in_heard : IsIn a → heard_in a d k ≡ heard_all (listed (in_law s (row_of below) a.ep a.max t1 whole whole).0 [])
     in_heard i =
-        asked_heard a d k j p b s below h (Token InTok s.registers.address a.ep) (token_is a InTok s.registers.address a.ep i.kind (sym its_address) refl) (none_is a i.payload)
+        asked_heard a d k h (Token InTok s.registers.address a.ep) (token_is a InTok s.registers.address a.ep i.kind (sym h.at) refl) (none_is a i.payload)
         ∙ ap (λ r. heard_all (listed r.0 [])) (in_same a.ep a.max t1 whole whole)

@@ -1,5 +1,5 @@
 -- A silent holder, attempts without damage, and the attempts of a world.
-use Rattle.std.proofs.Common.{◌≡◌, ℕ, suc, ◌+◌, ◌==◌, ◌&&◌, if◌then◌else◌, ◌⊎◌, Bool, true, false, List, [], ◌∷◌, ◌++◌, Option, None, Some, option_map, is_some, refl, ap, ap₂, sym, subst, ◌∙◌}
+use Rattle.std.proofs.Common.{◌≡◌, ℕ, suc, ◌+◌, ◌&&◌, if◌then◌else◌, Bool, true, false, List, [], ◌∷◌, ◌++◌, Option, None, Some, is_some, refl, ap, ap₂, sym, subst, ◌∙◌}
 use Rattle.arrayvec.specs.ArrayVec.{ArrayVec}
 use Rattle.usb_packet.specs.declared.Packet.{Packet}
 use Rattle.usb_packet.specs.declared.Packet.TheVariants.{Token}
@@ -26,7 +26,7 @@ use Rattle.usb_world.specs.declared.exchange.Heard.{Heard}
 use Rattle.usb_world.specs.declared.exchange.Heard.TheVariants.{Nothing, One, Collision}
 use Rattle.usb_world.specs.declared.wire.Mark.TheVariants as mark
 use Rattle.usb_world.specs.Wire.{mark_of, harm_to, marked, marked_some}
-use Rattle.usb_world.specs.Paths.{address_of, same_number, same_path}
+use Rattle.usb_world.specs.Paths.{same_number, same_path}
 use Rattle.usb_world.specs.WayEffects.{reset_if}
 use Rattle.usb_world.specs.Exchange.{token_of, payload_of, reply_of, answer_mark, goes_out, heard_all, token_out, payload_out, reply_out, heard_in, mark_in, place_of_answer, ports_in}
 use Rattle.usb_world.specs.Passes.{heard_by, deep_at, attempt_resets, IsSettled, NobodyHolds}
@@ -36,8 +36,7 @@ use Rattle.usb_world.specs.Steps.{is_due, took, due_from, ready, damage_in, with
 use Rattle.usb_world.specs.OneHolder.{way_to, way_back, token_way, answer_way, reply_way, setup_alone, out_alone, in_alone, IsSetup, IsOut, IsIn, Holder, ExchangedWithHolder, hears_attempt, AllWhole, IsMade, HolderIn, ExchangedIn}
 use Rattle.usb_world.proofs.Booleans.{no, neither}
 use Rattle.usb_world.proofs.StepInvariants.{settled_happened}
-use Rattle.usb_world.proofs.OneDevice.{stands, state_stands}
-use Rattle.usb_world.proofs.OneHolder.{replied, outcome_unread, remembers, acts, rests, first, second, third, second_below, is_heard_in, is_state, token_is, none_is, its_address, in_same, asked, asked_reply, nobody, setup_one, out_one, in_one}
+use Rattle.usb_world.proofs.OneHolder.{replied, outcome_unread, remembers, acts, rests, first, second, third, second_below, is_heard_in, is_state, token_is, none_is, in_same, asked, asked_reply, nobody, setup_one, out_one, in_one}
 use Rattle.usb_world.proofs.Equality.{unequal, same_equal}
 use Rattle.usb_world.proofs.DueEvents.{due_damage}
 
@@ -52,30 +51,32 @@ silent_heard None deep s row h = refl
 silent_heard (Some q) deep s row h =
     elim (hears q deep s) as (λ x. ◌≡◌ {A = Reply} (if x then reply_to q.content s row else (None, s)) (None, s)) [ true ↦ silent_reply q.content s row h | false ↦ refl ]
 
-module _ (a : Attempt) (d : Option Damage) (k : Ports) (j : ℕ) (p : List ℕ) (b : PortState) (s : State) (below : Ports) (h : Holder a.addr k j p b s below) where
+module _ (a : Attempt) (d : Option Damage) (k : Ports) (h : Holder a.addr k) where
+  open h use {spot.{row as j, rest as p}, own as s, below}
+
   module _ (silent : s.spec.silent ≡ true) where
-    pub first_silent : first a d k j p b s below h ≡ (None, s)
+    pub first_silent : first a d k h ≡ (None, s)
     first_silent = silent_heard (token_out a d) (deep_at false p) s (row_of below) silent
 
-    second_silent : second a d k j p b s below h ≡ (None, s)
+    second_silent : second a d k h ≡ (None, s)
     second_silent = ap (λ r. heard_by (payload_out a d) (deep_at false p) r.1 (row_of below)) first_silent ∙ silent_heard (payload_out a d) (deep_at false p) s (row_of below) silent
 
-    third_silent : third a d k j p b s below h ≡ (None, s)
+    third_silent : third a d k h ≡ (None, s)
     third_silent =
-        ap (λ r. heard_by (reply_out a d k) (deep_at false p) r.1 (row_of (second_below a d k j p b s below h))) second_silent
-        ∙ silent_heard (reply_out a d k) (deep_at false p) s (row_of (second_below a d k j p b s below h)) silent
+        ap (λ r. heard_by (reply_out a d k) (deep_at false p) r.1 (row_of (second_below a d k h))) second_silent
+        ∙ silent_heard (reply_out a d k) (deep_at false p) s (row_of (second_below a d k h)) silent
 
-    pub silent_one : ExchangedWithHolder a d k j p (None, s)
+    pub silent_one : ExchangedWithHolder a d k h (None, s)
     silent_one = record {
-      outcome = outcome_unread (heard_in a d k) (mark_in a d k) a.max (is_heard_in a d k j p b s below h ∙ ap₂ (λ x y. heard_all (listed x.0 [] ++ listed y.0 [])) first_silent second_silent);
-      state = is_state a d k j p b s below h ∙ ap (λ r. Some (forgotten r.1)) third_silent ∙ ap (λ x. Some x) (remembers s (rests a d k j p b s below h));
+      outcome = outcome_unread (heard_in a d k) (mark_in a d k) a.max (is_heard_in a d k h ∙ ap₂ (λ x y. heard_all (listed x.0 [] ++ listed y.0 [])) first_silent second_silent);
+      state = is_state a d k h ∙ ap (λ r. Some (forgotten r.1)) third_silent ∙ ap (λ x. Some x) (remembers s (rests a d k h));
     }
 
   -- the other devices
   pub others_one : (i : ℕ) (e : List ℕ) (v : State) → (same_number i j && same_path e p) ≡ false → state_at k i e ≡ Some v
       → state_at (ports_in a d k) i e ≡ Some (reset_if (attempt_resets (token_out a d) (payload_out a d) k i e) v)
   unfolding ports_in
-  others_one = (acts a d k j p b s below h).others
+  others_one = (acts a d k h).others
 
 -- Without damage
 
@@ -124,35 +125,37 @@ ack_whole row max t2 t3 r c = go (is_good max (heard t2 r.0)) c
     go true c = ap (λ t. replied (heard t2 r.0) (forgotten (through t r.1 row packet.Ack).1)) (c refl)
     go false c = refl
 
-module _ (a : Attempt) (k : Ports) (j : ℕ) (p : List ℕ) (b : PortState) (s : State) (below : Ports) (h : Holder a.addr k j p b s below) (loud : s.spec.silent ≡ false) (hears_it : hears_attempt a (deep_at false p) s ≡ true) where
+module _ (a : Attempt) (k : Ports) (h : Holder a.addr k) (loud : h.own.spec.silent ≡ false) (hears_it : hears_attempt a (deep_at false h.spot.rest) h.own ≡ true) where
+  open h use {spot.{row as j, rest as p}, own as s, below}
+
   ways : AllWhole a None k (deep_at false p) s
   ways = undamaged a k (deep_at false p) s hears_it
 
-  pub setup_sound : (bytes : List ℕ) → IsSetup a bytes → ExchangedWithHolder a None k j p (Some answer.Ack, accepted s (row_of below) (setup_of bytes))
+  pub setup_sound : (bytes : List ℕ) → IsSetup a bytes → ExchangedWithHolder a None k h (Some answer.Ack, accepted s (row_of below) (setup_of bytes))
   setup_sound bytes i =
-      subst (ExchangedWithHolder a None k j p)
+      subst (ExchangedWithHolder a None k h)
       (ap₂ (λ x y. setup_law s (row_of below) bytes x y (answer_way a None k)) ways.token (ways.payload (ap is_some i.payload)) ∙ ap (setup_law s (row_of below) bytes whole whole) ways.answer)
-      (setup_one a None k j p b s below h loud bytes i)
+      (setup_one a None k h loud bytes i)
 
-  pub out_sound : (t : Toggle) (bytes : List ℕ) → IsOut a t bytes → ExchangedWithHolder a None k j p ((data_row s a.ep t bytes).0, forgotten (data_row s a.ep t bytes).1)
+  pub out_sound : (t : Toggle) (bytes : List ℕ) → IsOut a t bytes → ExchangedWithHolder a None k h ((data_row s a.ep t bytes).0, forgotten (data_row s a.ep t bytes).1)
   out_sound t bytes i =
-      subst (ExchangedWithHolder a None k j p)
+      subst (ExchangedWithHolder a None k h)
       (ap₂ (λ x y. out_law s a.ep t bytes x y (answer_way a None k)) ways.token (ways.payload (ap is_some i.payload)) ∙ ap (out_law s a.ep t bytes whole whole) ways.answer)
-      (out_one a None k j p b s below h loud t bytes i)
+      (out_one a None k h loud t bytes i)
 
-  pub in_sound : IsIn a → ExchangedWithHolder a None k j p (in_law s (row_of below) a.ep a.max whole whole whole)
+  pub in_sound : IsIn a → ExchangedWithHolder a None k h (in_law s (row_of below) a.ep a.max whole whole whole)
   in_sound i =
-      subst (ExchangedWithHolder a None k j p)
+      subst (ExchangedWithHolder a None k h)
       (ack_whole (row_of below) a.max (answer_way a None k) (reply_way a None k (deep_at false p) s) own ack_due
       ∙ ap₂ (λ x y. acked (row_of below) a.max y whole (through x s (row_of below) (Token InTok s.registers.address a.ep))) ways.token ways.answer
-      ∙ in_same a None k j p b s below h loud a.ep a.max whole whole whole)
-      (asked a None k j p b s below h (Token InTok s.registers.address a.ep) of_token (none_is a i.payload))
+      ∙ in_same a None k h loud a.ep a.max whole whole whole)
+      (asked a None k h (Token InTok s.registers.address a.ep) of_token (none_is a i.payload))
     where
       own : Reply
       own = through (token_way a None (deep_at false p) s) s (row_of below) (Token InTok s.registers.address a.ep)
 
       of_token : token_of a ≡ Token InTok s.registers.address a.ep
-      of_token = token_is a InTok s.registers.address a.ep i.kind (sym (its_address a None k j p b s below h)) refl
+      of_token = token_is a InTok s.registers.address a.ep i.kind (sym h.at) refl
 
       due_of : (g : Bool) → g ≡ true → is_some (if g then Some packet.Ack else None) ≡ true
       due_of true c = refl
@@ -160,7 +163,7 @@ module _ (a : Attempt) (k : Ports) (j : ℕ) (p : List ℕ) (b : PortState) (s :
 
       ack_due : is_good a.max (heard (answer_way a None k) own.0) ≡ true → reply_way a None k (deep_at false p) s ≡ whole
       ack_due g = ways.reply (marked_is (place_of_answer a None + 1) a.pre (reply_of (heard_in a None k) (mark_in a None k) a.max)
-          ∙ ap is_some (asked_reply a None k j p b s below h (Token InTok s.registers.address a.ep) of_token (none_is a i.payload))
+          ∙ ap is_some (asked_reply a None k h (Token InTok s.registers.address a.ep) of_token (none_is a i.payload))
           ∙ due_of (is_good a.max (heard (answer_way a None k) own.0)) g)
 
 -- Worlds
@@ -203,60 +206,58 @@ nobody_in a w m n =
     let r : _ = nobody a (damage_in (ready w)) (ready w).roots (ready_settled w m.settled) n in
     (r.0, ap (λ v. v.roots) (made_is a w m) ∙ r.1)
 
-module _ (a : Attempt) (w : World) (j : ℕ) (p : List ℕ) (b : PortState) (s : State) (below : Ports) (h : HolderIn a w j p b s below) where
-  unshared : is_twice (held (ready w).roots) ≡ false
+module _ (a : Attempt) (w : World) (h : HolderIn a w) where
+  open h use {spot.{row as j, rest as p}, own as s, below}
+
+  pub unshared : is_twice (held (ready w).roots) ≡ false
   unfolding with_attempt
   unshared = (neither (ready w).shared (is_twice (held (ready w).roots)) (sym (ap (λ v. v.shared) (made_is a w h.made)) ∙ h.single)).1
 
-  pub holder_in : Holder a.addr (ready w).roots j p b s below
-  holder_in = record {
-    settled = ready_settled w h.made.settled;
-    one = record { single = unshared; on = h.on; at = ap (option_map address_of) (sym (state_stands (ready w).roots j p) ∙ ap stands h.stands) ∙ ap (λ x. Some x) h.at };
-    stands = h.stands;
-  }
+  abbrev pub holder_in : Holder a.addr (ready w).roots
+  holder_in = record { settled = ready_settled w h.made.settled; single = unshared; found = h.found }
 
-  pub exchanged_in : (r : Reply) → ExchangedWithHolder a (damage_in (ready w)) (ready w).roots j p r → ExchangedIn a w j p r
+  pub exchanged_in : (r : Reply) → ExchangedWithHolder a (damage_in (ready w)) (ready w).roots holder_in r → ExchangedIn a w h r
   unfolding outcome_in with_attempt
   exchanged_in r x = record { outcome = x.outcome; state = ap (λ v. state_at v.roots j p) (made_is a w h.made) ∙ x.state }
 
   pub setup_in : s.spec.silent ≡ false → (bytes : List ℕ) → IsSetup a bytes
-      → ExchangedIn a w j p (setup_alone a (damage_in (ready w)) (ready w).roots (deep_at false p) s (row_of below) bytes)
+      → ExchangedIn a w h (setup_alone a (damage_in (ready w)) (ready w).roots (deep_at false p) s (row_of below) bytes)
   setup_in loud bytes i =
       exchanged_in (setup_alone a (damage_in (ready w)) (ready w).roots (deep_at false p) s (row_of below) bytes)
-      (setup_one a (damage_in (ready w)) (ready w).roots j p b s below holder_in loud bytes i)
+      (setup_one a (damage_in (ready w)) (ready w).roots holder_in loud bytes i)
 
   pub out_in : s.spec.silent ≡ false → (t : Toggle) (bytes : List ℕ) → IsOut a t bytes
-      → ExchangedIn a w j p (out_alone a (damage_in (ready w)) (ready w).roots (deep_at false p) s t bytes)
+      → ExchangedIn a w h (out_alone a (damage_in (ready w)) (ready w).roots (deep_at false p) s t bytes)
   out_in loud t bytes i =
       exchanged_in (out_alone a (damage_in (ready w)) (ready w).roots (deep_at false p) s t bytes)
-      (out_one a (damage_in (ready w)) (ready w).roots j p b s below holder_in loud t bytes i)
+      (out_one a (damage_in (ready w)) (ready w).roots holder_in loud t bytes i)
 
-  pub in_in : s.spec.silent ≡ false → IsIn a → ExchangedIn a w j p (in_alone a (damage_in (ready w)) (ready w).roots (deep_at false p) s (row_of below))
+  pub in_in : s.spec.silent ≡ false → IsIn a → ExchangedIn a w h (in_alone a (damage_in (ready w)) (ready w).roots (deep_at false p) s (row_of below))
   in_in loud i =
       exchanged_in (in_alone a (damage_in (ready w)) (ready w).roots (deep_at false p) s (row_of below))
-      (in_one a (damage_in (ready w)) (ready w).roots j p b s below holder_in loud i)
+      (in_one a (damage_in (ready w)) (ready w).roots holder_in loud i)
 
-  pub silent_in : s.spec.silent ≡ true → ExchangedIn a w j p (None, s)
-  silent_in silent = exchanged_in (None, s) (silent_one a (damage_in (ready w)) (ready w).roots j p b s below holder_in silent)
+  pub silent_in : s.spec.silent ≡ true → ExchangedIn a w h (None, s)
+  silent_in silent = exchanged_in (None, s) (silent_one a (damage_in (ready w)) (ready w).roots holder_in silent)
 
   pub others_in : (i : ℕ) (e : List ℕ) (v : State) → (same_number i j && same_path e p) ≡ false → state_at (ready w).roots i e ≡ Some v
       → state_at (after (attempt a) w).roots i e ≡ Some (reset_if (resets (attempt a) w (suc i ∷ e)) v)
   unfolding with_attempt resets
   others_in i e v differ stands_there =
       ap (λ x. state_at x.roots i e) (made_is a w h.made)
-      ∙ others_one a (damage_in (ready w)) (ready w).roots j p b s below holder_in i e v differ stands_there
+      ∙ others_one a (damage_in (ready w)) (ready w).roots holder_in i e v differ stands_there
       ∙ ap (λ x. Some (reset_if (x && attempt_resets (token_out a (damage_in (ready w))) (payload_out a (damage_in (ready w))) (ready w).roots i e) v)) (sym (made_true a w h.made))
 
   module _ (loud : s.spec.silent ≡ false) (hears_it : hears_attempt a (deep_at false p) s ≡ true) (none : damage_in w ≡ None) where
-    undamaged_in : (r : Reply) → ExchangedWithHolder a None (ready w).roots j p r → ExchangedIn a w j p r
-    undamaged_in r x = exchanged_in r (subst (λ d. ExchangedWithHolder a d (ready w).roots j p r) (sym (damage_ready w ∙ none)) x)
+    undamaged_in : (r : Reply) → ExchangedWithHolder a None (ready w).roots holder_in r → ExchangedIn a w h r
+    undamaged_in r x = exchanged_in r (subst (λ d. ExchangedWithHolder a d (ready w).roots holder_in r) (sym (damage_ready w ∙ none)) x)
 
-    pub setup_sound_in : (bytes : List ℕ) → IsSetup a bytes → ExchangedIn a w j p (Some answer.Ack, accepted s (row_of below) (setup_of bytes))
-    setup_sound_in bytes i = undamaged_in (Some answer.Ack, accepted s (row_of below) (setup_of bytes)) (setup_sound a (ready w).roots j p b s below holder_in loud hears_it bytes i)
+    pub setup_sound_in : (bytes : List ℕ) → IsSetup a bytes → ExchangedIn a w h (Some answer.Ack, accepted s (row_of below) (setup_of bytes))
+    setup_sound_in bytes i = undamaged_in (Some answer.Ack, accepted s (row_of below) (setup_of bytes)) (setup_sound a (ready w).roots holder_in loud hears_it bytes i)
 
-    pub out_sound_in : (t : Toggle) (bytes : List ℕ) → IsOut a t bytes → ExchangedIn a w j p ((data_row s a.ep t bytes).0, forgotten (data_row s a.ep t bytes).1)
+    pub out_sound_in : (t : Toggle) (bytes : List ℕ) → IsOut a t bytes → ExchangedIn a w h ((data_row s a.ep t bytes).0, forgotten (data_row s a.ep t bytes).1)
     out_sound_in t bytes i =
-        undamaged_in ((data_row s a.ep t bytes).0, forgotten (data_row s a.ep t bytes).1) (out_sound a (ready w).roots j p b s below holder_in loud hears_it t bytes i)
+        undamaged_in ((data_row s a.ep t bytes).0, forgotten (data_row s a.ep t bytes).1) (out_sound a (ready w).roots holder_in loud hears_it t bytes i)
 
-    pub in_sound_in : IsIn a → ExchangedIn a w j p (in_law s (row_of below) a.ep a.max whole whole whole)
-    in_sound_in i = undamaged_in (in_law s (row_of below) a.ep a.max whole whole whole) (in_sound a (ready w).roots j p b s below holder_in loud hears_it i)
+    pub in_sound_in : IsIn a → ExchangedIn a w h (in_law s (row_of below) a.ep a.max whole whole whole)
+    in_sound_in i = undamaged_in (in_law s (row_of below) a.ep a.max whole whole whole) (in_sound a (ready w).roots holder_in loud hears_it i)

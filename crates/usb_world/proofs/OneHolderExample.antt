@@ -49,13 +49,17 @@ asks = record { kind = SetupTok; addr = 0; ep = 0; low = false; pre = false; max
 fresh_count : here.attempts ≡ here.limit → ⊥
 fresh_count e = no (ap (λ n. n == 10) e)
 
-holder : HolderIn asks here 0 [] port (fresh thing) ended
+holder : HolderIn asks here
 unfolding after with_attempt ready due_from reach_at place_at held is_twice all_forgotten fresh
-holder = record { made = record { sound = refl; within = fresh_count; settled = refl }; on = refl; stands = refl; at = refl; single = refl }
+holder = record {
+  made = record { sound = refl; within = fresh_count; settled = refl };
+  single = refl;
+  found = record { spot = record { row = 0; rest = [] }; port = port; own = fresh thing; below = ended; on = refl; stands = refl; at = refl };
+}
 
-pub answered : ExchangedIn asks here 0 [] (Some answer.Ack, accepted (fresh thing) [] (setup_of bytes))
-unfolding damage_of row_of fresh
-answered = setup_sound_in asks here 0 [] port (fresh thing) ended holder refl refl refl bytes (record { kind = refl; ep = refl; payload = refl; whole = refl })
+answered : ExchangedIn asks here holder (Some answer.Ack, accepted (fresh thing) [] (setup_of bytes))
+unfolding holder damage_of row_of fresh
+answered = setup_sound_in asks here holder refl refl refl bytes (record { kind = refl; ep = refl; payload = refl; whole = refl })
 
 example : outcome_in asks here ≡ outcome.Ack
 example = answered.outcome

@@ -41,7 +41,7 @@ use Rattle.usb_world.proofs.AttemptPackets.{CalmOut, token_out as token_calm, ac
 use Rattle.usb_world.proofs.StepInvariants.{settled_called}
 use Rattle.usb_world.proofs.OneDevice.{rest_packet, settled_memory, stands, forgotten_at}
 use Rattle.usb_world.proofs.Courses.{goes}
-use Rattle.usb_world.proofs.OneHolder.{acts, rests, ports_by, passed_stands, first, first_below, second, second_below, third, second_place, is_state, its_address, token_is, data_is, none_is, token_comes, no_payload, through_spec, way_same, setup_one, out_one, in_one}
+use Rattle.usb_world.proofs.OneHolder.{holder_holds, acts, rests, ports_by, passed_stands, first, first_below, second, second_below, third, second_place, is_state, token_is, data_is, none_is, token_comes, no_payload, through_spec, way_same, setup_one, out_one, in_one}
 use Rattle.usb_world.proofs.OneHolderAttempts.{first_silent, silent_one, made_is, holder_in}
 use Rattle.usb_world.proofs.Equality.{equal_same}
 use Rattle.usb_device.proofs.Interface.{same_number}
@@ -94,7 +94,7 @@ longer : (p : List ℕ) (n : ℕ) (e : List ℕ) → p ≡ p ++ (n ∷ e) → �
 longer [] n e h = no (ap is_longer h)
 longer (m ∷ p) n e h = longer p n e (ap rest_of h)
 
-below_nobody : (n : ℕ) (k : Ports) (j : ℕ) (p : List ℕ) (b : PortState) (s : State) (below : Ports) → OneHolds n k j p → place_at k j p ≡ Some (full b s below) → NobodyHolds n below
+below_nobody : (n : ℕ) (k : Ports) (j : ℕ) (p : List ℕ) (b : PortState) (s : State) (below : Ports) → OneHolds n k (record { row = j; rest = p }) → place_at k j p ≡ Some (full b s below) → NobodyHolds n below
 below_nobody n k j p b s below o h i e t at on = pick (decided (n == address_of t))
   where
     pick : ((n == address_of t) ≡ true) ⊎ ((n == address_of t) ≡ false) → (n == address_of t) ≡ false
@@ -267,9 +267,11 @@ asked_out s row loud n e t bytes lost whole = quiet_asks s t (record { items = b
 asked_out s row loud n e t bytes x broken = refl
 asked_out s row loud n e t bytes x lost = refl
 
-module _ (a : Attempt) (d : Option Damage) (k : Ports) (j : ℕ) (p : List ℕ) (b : PortState) (s : State) (below : Ports) (h : Holder a.addr k j p b s below) where
+module _ (a : Attempt) (d : Option Damage) (k : Ports) (h : Holder a.addr k) where
+  open h use {spot.{row as j, rest as p}, port as b, own as s, below}
+
   abbrev pub effect : Effect
-  effect = asked_of (payload_out a d) (deep_at false p) (first a d k j p b s below h).1
+  effect = asked_of (payload_out a d) (deep_at false p) (first a d k h).1
 
   settled_below : IsSettled below
   settled_below = below_settled k j p b s below h.settled h.stands
@@ -277,42 +279,42 @@ module _ (a : Attempt) (d : Option Damage) (k : Ports) (j : ℕ) (p : List ℕ) 
   settled_end : IsSettled (acted effect below)
   settled_end = acted_settled effect below settled_below
 
-  first_same : first_below a d k j p b s below h ≡ below
+  first_same : first_below a d k h ≡ below
   first_same =
       ports_asked (deep_at false p) b (token_out a d) s below
       ∙ ap₂ acted (calm_asked (token_out a d) (token_calm a.addr (token_out a d) (goes a d k).token) (deep_at false p) s)
-      (token_rests a d below settled_below (below_nobody a.addr k j p b s below h.one h.stands))
+      (token_rests a d below settled_below (below_nobody a.addr k j p b s below (holder_holds a.addr k h) h.stands))
 
-  second_same : second_below a d k j p b s below h ≡ acted effect below
+  second_same : second_below a d k h ≡ acted effect below
   second_same =
-      ports_asked (deep_at false p) b (payload_out a d) (first a d k j p b s below h).1 (first_below a d k j p b s below h)
+      ports_asked (deep_at false p) b (payload_out a d) (first a d k h).1 (first_below a d k h)
       ∙ ap (λ x. acted effect (below_passed (payload_out a d) x)) first_same
       ∙ ap (acted effect) (some_rests a d 2 (payload_of a) below settled_below (no_token_rests (payload_of a) (payload_no_token a) below))
 
   third_below : Ports
-  third_below = ports_by (deep_at false p) b (reply_out a d k) (second a d k j p b s below h).1 (second_below a d k j p b s below h)
+  third_below = ports_by (deep_at false p) b (reply_out a d k) (second a d k h).1 (second_below a d k h)
 
   third_same : third_below ≡ acted effect below
   unfolding third_below
   third_same =
-      ports_asked (deep_at false p) b (reply_out a d k) (second a d k j p b s below h).1 (second_below a d k j p b s below h)
-      ∙ ap₂ acted (calm_asked (reply_out a d k) (ack_calm (reply_out a d k) (goes a d k).reply) (deep_at false p) (second a d k j p b s below h).1) (ap (below_passed (reply_out a d k)) second_same)
+      ports_asked (deep_at false p) b (reply_out a d k) (second a d k h).1 (second_below a d k h)
+      ∙ ap₂ acted (calm_asked (reply_out a d k) (ack_calm (reply_out a d k) (goes a d k).reply) (deep_at false p) (second a d k h).1) (ap (below_passed (reply_out a d k)) second_same)
       ∙ some_rests a d (place_of_answer a d + 1) (reply_of (heard_in a d k) (mark_in a d k) a.max) (acted effect below) settled_end
       (no_token_rests (reply_of (heard_in a d k) (mark_in a d k) a.max) (reply_no_token (heard_in a d k) (mark_in a d k) a.max) (acted effect below))
 
-  is_place : place_at (ports_in a d k) j p ≡ Some (full b (forgotten (third a d k j p b s below h).1) (all_forgotten third_below))
+  is_place : place_at (ports_in a d k) j p ≡ Some (full b (forgotten (third a d k h).1) (all_forgotten third_below))
   unfolding ports_in third_below
   is_place =
-      (acts a d k j p b s below h).place ∙ ap (option_map (place_after (token_out a d) (payload_out a d) (reply_out a d k) (deep_at false p))) h.stands
+      (acts a d k h).place ∙ ap (option_map (place_after (token_out a d) (payload_out a d) (reply_out a d k) (deep_at false p))) h.stands
       ∙ ap (λ x. Some (forgotten_place (passed_place (reply_out a d k) (deep_at false p) (passed_place (payload_out a d) (deep_at false p) x)))) (passed_stands (deep_at false p) b (token_out a d) s below)
-      ∙ ap (λ x. Some (forgotten_place (passed_place (reply_out a d k) (deep_at false p) x))) (second_place a d k j p b s below h)
-      ∙ ap (λ x. Some (forgotten_place x)) (passed_stands (deep_at false p) b (reply_out a d k) (second a d k j p b s below h).1 (second_below a d k j p b s below h))
+      ∙ ap (λ x. Some (forgotten_place (passed_place (reply_out a d k) (deep_at false p) x))) (second_place a d k h)
+      ∙ ap (λ x. Some (forgotten_place x)) (passed_stands (deep_at false p) b (reply_out a d k) (second a d k h).1 (second_below a d k h))
 
   -- the holder with its ports
-  pub placed : (r : Reply) → ExchangedWithHolder a d k j p r → place_at (ports_in a d k) j p ≡ Some (full b r.1 (acted effect below))
+  pub placed : (r : Reply) → ExchangedWithHolder a d k h r → place_at (ports_in a d k) j p ≡ Some (full b r.1 (acted effect below))
   placed r x =
       is_place
-      ∙ ap₂ (λ u y. Some (full b u y)) (same_Some (forgotten (third a d k j p b s below h).1) r.1 (sym (is_state a d k j p b s below h) ∙ x.state)) (ap all_forgotten third_same ∙ settled_end)
+      ∙ ap₂ (λ u y. Some (full b u y)) (same_Some (forgotten (third a d k h).1) r.1 (sym (is_state a d k h) ∙ x.state)) (ap all_forgotten third_same ∙ settled_end)
 
   -- By kind
 
@@ -333,50 +335,49 @@ module _ (a : Attempt) (d : Option Damage) (k : Ports) (j : ℕ) (p : List ℕ) 
       ∙ ap (λ y. asked_through y (through t1 s row T).1 X) (way_same (deep_at false p) (payload_out a d) s (through t1 s row T).1 (through_spec t1 s row T))
 
   remembers_nothing : s.memory ≡ memory.Nothing
-  remembers_nothing = rests a d k j p b s below h
-
-  its_own : s.registers.address ≡ a.addr
-  its_own = its_address a d k j p b s below h
+  remembers_nothing = rests a d k h
 
   setup_effect : s.spec.silent ≡ false → (bytes : List ℕ) → IsSetup a bytes → effect ≡ setup_asked a d (deep_at false p) s bytes
   setup_effect loud bytes i =
-      sent_effect (Token SetupTok s.registers.address 0) (packet.Payload Zero (record { items = bytes })) (token_is a SetupTok s.registers.address 0 i.kind (sym its_own) i.ep) (data_is a Zero (record { items = bytes }) i.payload)
+      sent_effect (Token SetupTok s.registers.address 0) (packet.Payload Zero (record { items = bytes })) (token_is a SetupTok s.registers.address 0 i.kind (sym h.at) i.ep) (data_is a Zero (record { items = bytes }) i.payload)
       ∙ asked_setup s row loud remembers_nothing bytes i.whole t1 t2
 
   out_effect : s.spec.silent ≡ false → (t : Toggle) (bytes : List ℕ) → IsOut a t bytes → effect ≡ Leaves
   out_effect loud t bytes i =
-      sent_effect (Token OutTok s.registers.address a.ep) (packet.Payload t (record { items = bytes })) (token_is a OutTok s.registers.address a.ep i.kind (sym its_own) refl) (data_is a t (record { items = bytes }) i.payload)
+      sent_effect (Token OutTok s.registers.address a.ep) (packet.Payload t (record { items = bytes })) (token_is a OutTok s.registers.address a.ep i.kind (sym h.at) refl) (data_is a t (record { items = bytes }) i.payload)
       ∙ asked_out s row loud remembers_nothing a.ep t bytes t1 t2
 
   in_effect : IsIn a → effect ≡ Leaves
-  in_effect i = ap (λ o. asked_of o (deep_at false p) (first a d k j p b s below h).1) (no_payload a d (none_is a i.payload))
+  in_effect i = ap (λ o. asked_of o (deep_at false p) (first a d k h).1) (no_payload a d (none_is a i.payload))
 
   silent_effect : s.spec.silent ≡ true → effect ≡ Leaves
-  silent_effect silent = ap (λ r. asked_of (payload_out a d) (deep_at false p) r.1) (first_silent a d k j p b s below h silent) ∙ silent_asked (payload_out a d) (deep_at false p) s silent
+  silent_effect silent = ap (λ r. asked_of (payload_out a d) (deep_at false p) r.1) (first_silent a d k h silent) ∙ silent_asked (payload_out a d) (deep_at false p) s silent
 
-  placed_with : (r : Reply) (e : Effect) → effect ≡ e → ExchangedWithHolder a d k j p r → place_at (ports_in a d k) j p ≡ Some (full b r.1 (acted e below))
+  placed_with : (r : Reply) (e : Effect) → effect ≡ e → ExchangedWithHolder a d k h r → place_at (ports_in a d k) j p ≡ Some (full b r.1 (acted e below))
   placed_with r e is x = placed r x ∙ ap (λ y. Some (full b r.1 (acted y below))) is
 
   pub setup_place : s.spec.silent ≡ false → (bytes : List ℕ) → IsSetup a bytes
       → place_at (ports_in a d k) j p ≡ Some (full b (setup_alone a d k (deep_at false p) s (row_of below) bytes).1 (acted (setup_asked a d (deep_at false p) s bytes) below))
   setup_place loud bytes i =
-      placed_with (setup_alone a d k (deep_at false p) s (row_of below) bytes) (setup_asked a d (deep_at false p) s bytes) (setup_effect loud bytes i) (setup_one a d k j p b s below h loud bytes i)
+      placed_with (setup_alone a d k (deep_at false p) s (row_of below) bytes) (setup_asked a d (deep_at false p) s bytes) (setup_effect loud bytes i) (setup_one a d k h loud bytes i)
 
   pub out_place : s.spec.silent ≡ false → (t : Toggle) (bytes : List ℕ) → IsOut a t bytes
       → place_at (ports_in a d k) j p ≡ Some (full b (out_alone a d k (deep_at false p) s t bytes).1 below)
-  out_place loud t bytes i = placed_with (out_alone a d k (deep_at false p) s t bytes) Leaves (out_effect loud t bytes i) (out_one a d k j p b s below h loud t bytes i)
+  out_place loud t bytes i = placed_with (out_alone a d k (deep_at false p) s t bytes) Leaves (out_effect loud t bytes i) (out_one a d k h loud t bytes i)
 
   pub in_place : s.spec.silent ≡ false → IsIn a → place_at (ports_in a d k) j p ≡ Some (full b (in_alone a d k (deep_at false p) s (row_of below)).1 below)
-  in_place loud i = placed_with (in_alone a d k (deep_at false p) s (row_of below)) Leaves (in_effect i) (in_one a d k j p b s below h loud i)
+  in_place loud i = placed_with (in_alone a d k (deep_at false p) s (row_of below)) Leaves (in_effect i) (in_one a d k h loud i)
 
   pub silent_place : s.spec.silent ≡ true → place_at (ports_in a d k) j p ≡ Some (full b s below)
-  silent_place silent = placed_with (None, s) Leaves (silent_effect silent) (silent_one a d k j p b s below h silent)
+  silent_place silent = placed_with (None, s) Leaves (silent_effect silent) (silent_one a d k h silent)
 
 -- Worlds
 
-module _ (a : Attempt) (w : World) (j : ℕ) (p : List ℕ) (b : PortState) (s : State) (below : Ports) (h : HolderIn a w j p b s below) where
-  abbrev there : Holder a.addr (ready w).roots j p b s below
-  there = holder_in a w j p b s below h
+module _ (a : Attempt) (w : World) (h : HolderIn a w) where
+  open h use {spot.{row as j, rest as p}, port as b, own as s, below}
+
+  abbrev there : Holder a.addr (ready w).roots
+  there = holder_in a w h
 
   world_place : (x : Option Place) → place_at (ports_in a (damage_in (ready w)) (ready w).roots) j p ≡ x → place_at (after (attempt a) w).roots j p ≡ x
   unfolding with_attempt
@@ -387,19 +388,19 @@ module _ (a : Attempt) (w : World) (j : ℕ) (p : List ℕ) (b : PortState) (s :
       ≡ Some (full b (setup_alone a (damage_in (ready w)) (ready w).roots (deep_at false p) s (row_of below) bytes).1 (acted (setup_asked a (damage_in (ready w)) (deep_at false p) s bytes) below))
   setup_place_in loud bytes i =
       world_place (Some (full b (setup_alone a (damage_in (ready w)) (ready w).roots (deep_at false p) s (row_of below) bytes).1 (acted (setup_asked a (damage_in (ready w)) (deep_at false p) s bytes) below)))
-      (setup_place a (damage_in (ready w)) (ready w).roots j p b s below there loud bytes i)
+      (setup_place a (damage_in (ready w)) (ready w).roots there loud bytes i)
 
   pub out_place_in : s.spec.silent ≡ false → (t : Toggle) (bytes : List ℕ) → IsOut a t bytes
       → place_at (after (attempt a) w).roots j p ≡ Some (full b (out_alone a (damage_in (ready w)) (ready w).roots (deep_at false p) s t bytes).1 below)
   out_place_in loud t bytes i =
       world_place (Some (full b (out_alone a (damage_in (ready w)) (ready w).roots (deep_at false p) s t bytes).1 below))
-      (out_place a (damage_in (ready w)) (ready w).roots j p b s below there loud t bytes i)
+      (out_place a (damage_in (ready w)) (ready w).roots there loud t bytes i)
 
   pub in_place_in : s.spec.silent ≡ false → IsIn a
       → place_at (after (attempt a) w).roots j p ≡ Some (full b (in_alone a (damage_in (ready w)) (ready w).roots (deep_at false p) s (row_of below)).1 below)
   in_place_in loud i =
       world_place (Some (full b (in_alone a (damage_in (ready w)) (ready w).roots (deep_at false p) s (row_of below)).1 below))
-      (in_place a (damage_in (ready w)) (ready w).roots j p b s below there loud i)
+      (in_place a (damage_in (ready w)) (ready w).roots there loud i)
 
   pub silent_place_in : s.spec.silent ≡ true → place_at (after (attempt a) w).roots j p ≡ Some (full b s below)
-  silent_place_in silent = world_place (Some (full b s below)) (silent_place a (damage_in (ready w)) (ready w).roots j p b s below there silent)
+  silent_place_in silent = world_place (Some (full b s below)) (silent_place a (damage_in (ready w)) (ready w).roots there silent)

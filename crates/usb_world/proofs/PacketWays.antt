@@ -4,10 +4,10 @@ use Rattle.usb_device.specs.declared.delivery.Sent.{Sent}
 use Rattle.usb_device.specs.declared.effect.Effect.TheVariants.{Leaves}
 use Rattle.usb_device.specs.Rows.{State}
 use Rattle.usb_device.specs.Tree.{Ports, ended, vacant, taken, state_at}
-use Rattle.usb_device.specs.Delivery.{effect_of}
+use Rattle.usb_device.specs.Delivery.{effect_of, asks_clearing, clears_change}
 use Rattle.usb_world.specs.declared.types.Attempt.{Attempt}
 use Rattle.usb_world.specs.WayEffects.{effect_resets, resets_at, effect_spares, packet_spares, leaves_port, way_leaves}
-use Rattle.usb_world.specs.Exchange.{token_out, payload_out}
+use Rattle.usb_world.specs.Exchange.{token_out, payload_out, clears_at}
 use Rattle.usb_world.specs.Passes.{passed, pass_resets, pass_spares}
 use Rattle.usb_world.specs.World.{World}
 use Rattle.usb_world.specs.Steps.{ready, damage_in, attempt}
@@ -56,6 +56,14 @@ resets_if q deep (taken b s a k) zero (suc j ∷ p) c =
     and_none b.enable _ (neither_of (effect_resets (effect_of q deep s) a j p) _ (c [] j p s refl refl deep a) (resets_if q true a j p (λ e m r t z at. c (suc j ∷ e) m r t (ap (λ x. suc j ∷ x) z) at)))
 resets_if q deep (taken b s a k) (suc j) p c = resets_if q deep k j p c
 
+-- what is so of each device, wherever it stands
+pub clears_if : (q : Sent) (deep : Bool) (k : Ports) → ((j : ℕ) (e : List ℕ) (t : State) → state_at k j e ≡ Some t → (dp : Bool) → asks_clearing (effect_of q dp t) ≡ false) → clears_change q deep k ≡ false
+unfolding clears_change state_at
+clears_if q deep ended c = refl
+clears_if q deep (vacant b k) c = clears_if q deep k (λ i e. c (suc i) e)
+clears_if q deep (taken b s a k) c =
+    rw (c zero [] s refl deep, clears_if q true a (λ i e. c zero (suc i ∷ e)), clears_if q deep k (λ i e. c (suc i) e)) (neither_of (b.enable && false) false (and_false b.enable) refl)
+
 -- No device asks anything
 
 abbrev pub NoneAsks : Option Sent → Ports → Type 0
@@ -76,6 +84,10 @@ none_resets (Some q) k c j p = resets_if q false k j p (λ e m r t z at dp a. ap
 pub calm_leaves : (o : Option Sent) → CalmOut o → (k : Ports) (j : ℕ) (p : List ℕ) → pass_leaves o k j p ≡ true
 calm_leaves None c k j p = refl
 calm_leaves (Some q) c k j p = leaves_if q false k j p (λ e m r t z at dp. ap (λ x. leaves_port x m) (c dp t))
+
+pub none_clear : (o : Option Sent) (k : Ports) → NoneAsks o k → clears_at o k ≡ false
+none_clear None k c = refl
+none_clear (Some q) k c = clears_if q false k (λ j e t at dp. ap asks_clearing (c q refl j e t at dp))
 
 -- an attempt that is made, whose data nobody asks anything at
 pub nothing_asked : (a : Attempt) (w : World) (p : List ℕ) → NoneAsks (payload_out a (damage_in (ready w))) (passed (token_out a (damage_in (ready w))) (ready w).roots) → AsksNothing (attempt a) w p

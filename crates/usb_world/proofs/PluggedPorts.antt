@@ -1,13 +1,13 @@
 -- Which devices stand at ports: calls, packets and resets leave them, and an event puts one there or takes it away.
 use Rattle.std.proofs.Common.{◌≡◌, ℕ, zero, suc, if◌then◌else◌, ◌&&◌, Bool, true, false, List, [], ◌∷◌, Option, None, Some, option_map, refl, ap, ap₂, ◌∙◌}
 use Rattle.usb_port.specs.PortState.{is_attached}
-use Rattle.usb_device.specs.declared.calls.PortCall.{PortCall}
+use Rattle.usb_port.specs.declared.call.PortCall.{PortCall}
 use Rattle.usb_device.specs.declared.effect.Effect.{Effect}
 use Rattle.usb_device.specs.declared.effect.Effect.TheVariants.{Leaves, Calls, PortsOff}
 use Rattle.usb_device.specs.declared.delivery.Sent.{Sent}
 use Rattle.usb_device.specs.Spec.{Spec, Hub}
 use Rattle.usb_device.specs.Rows.{fresh, reset_state}
-use Rattle.usb_device.specs.Calls.{called_port, is_reset}
+use Rattle.usb_port.specs.Calls.{called_port, is_reset}
 use Rattle.usb_device.specs.Tree.{Ports, ended, vacant, taken, Place, empty, full, before, all_off, new_ports, first_ports, called, reset_where, replaced, changed, changed_at, acted, state_at}
 use Rattle.usb_device.specs.Delivery.{answer_of, effect_of, after_packet, all_forgotten}
 use Rattle.usb_device.specs.View.{state_there}

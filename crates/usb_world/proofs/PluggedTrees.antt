@@ -10,12 +10,12 @@ use Rattle.std.proofs.lemmas.List.Elements.{All-head, All-tail}
 use Rattle.std.proofs.lemmas.Map.Entries.{lookup-filter-keys}
 use Rattle.std.proofs.lemmas.Map.Lookups.{exact_bytes}
 use Rattle.std.proofs.lemmas.Map.Text.{is_eq-slice_cmp}
-use Rattle.usb_port.specs.Order.{path_cmp, parent_of, port_of}
+use Rattle.usb_port.specs.Order.{path_cmp, parent_of, port_on_hub}
 use Rattle.usb_port.specs.Path.{IsPath, IsPortNumber}
 use Rattle.usb_port.proofs.Interface.{is_path, rejoined}
 use Rattle.usb_device.specs.Spec.{Spec}
 use Rattle.usb_world.specs.Paths.{same_path, is_way}
-use Rattle.usb_world.specs.PluggedDevices.{PluggedMap, index_at, device_indexed, unplugged, port_count, is_rooted, parent_has, has_port}
+use Rattle.usb_world.specs.PluggedDevices.{PluggedMap, index_at, device_indexed, plugged_without, spec_port_count, is_rooted, parent_has, has_port}
 use Rattle.usb_world.proofs.Booleans.{no, both, either_of, decided}
 use Rattle.usb_world.proofs.RootResets.{same_is}
 use Rattle.usb_world.proofs.Ways.{way_starts}
@@ -55,8 +55,8 @@ insert_other (x ∷ tree) e d q n = split (path_cmp e x.0) refl (insert_other tr
     split Equal h ih = let m : is_eq (path_cmp q x.0) ≡ false = ap (λ y. is_eq (path_cmp q y)) (sym (exact_bytes e x.0 h)) ∙ n in rw m refl
     split Greater h ih = ap (cond (is_eq (path_cmp q x.0)) (Some x.1)) ih
 
-unplugged_at : (tree : PluggedMap) (e q : List ℕ) → index_at (unplugged e tree) q ≡ cond (not (is_way e q)) (index_at tree q) None
-unfolding unplugged
+unplugged_at : (tree : PluggedMap) (e q : List ℕ) → index_at (plugged_without e tree) q ≡ cond (not (is_way e q)) (index_at tree q) None
+unfolding plugged_without
 unplugged_at tree e q =
     lookup-filter-keys (λ p. is_eq (path_cmp q p)) (λ p. not (starts_with nat_eq p e)) (not (is_way e q))
     (λ k h. ap (λ p. not (starts_with nat_eq p e)) (sym (found_same q k h)) ∙ ap not (sym (way_starts e q))) tree
@@ -102,7 +102,7 @@ agrees_plug ds x tree e d t is port free a q = ⊎_elim here (λ n. ⊎_elim (be
     away : same_path e q ≡ false → is_way e q ≡ false → Told ds (spec_there (put_there (Some t) x e) q) (index_at (insert_entry path_cmp tree e d) q)
     away n w = told_by ds _ (spec_there x q) _ (index_at tree q) (there_other (Some t) x e q w) (insert_other tree e d q (not_found q e n)) (a q)
 
-pub agrees_unplug : (ds : List Spec) (x : Shape) (tree : PluggedMap) (e : List ℕ) → is_some (index_at tree e) ≡ true → Agrees ds x tree → Agrees ds (put_there None x e) (unplugged e tree)
+pub agrees_unplug : (ds : List Spec) (x : Shape) (tree : PluggedMap) (e : List ℕ) → is_some (index_at tree e) ≡ true → Agrees ds x tree → Agrees ds (put_there None x e) (plugged_without e tree)
 agrees_unplug ds x tree e is a q = ⊎_elim below away (decided (is_way e q))
   where
     found : (d : Option ℕ) → Told ds None d → is_some d ≡ true → ⊥
@@ -112,10 +112,10 @@ agrees_unplug ds x tree e is a q = ⊎_elim below away (decided (is_way e q))
     some : e ≡ [] → ⊥
     some z = found (index_at tree []) (a []) (ap (λ p. is_some (index_at tree p)) (sym z) ∙ is)
 
-    below : is_way e q ≡ true → Told ds (spec_there (put_there None x e) q) (index_at (unplugged e tree) q)
+    below : is_way e q ≡ true → Told ds (spec_there (put_there None x e) q) (index_at (plugged_without e tree) q)
     below w = told_by ds _ None _ None (there_off x e q some w) (unplugged_at tree e q ∙ ap (λ b. cond (not b) (index_at tree q) None) w) tt
 
-    away : is_way e q ≡ false → Told ds (spec_there (put_there None x e) q) (index_at (unplugged e tree) q)
+    away : is_way e q ≡ false → Told ds (spec_there (put_there None x e) q) (index_at (plugged_without e tree) q)
     away w = told_by ds _ (spec_there x q) _ (index_at tree q) (there_other None x e q w) (unplugged_at tree e q ∙ ap (λ b. cond (not b) (index_at tree q) None) w) (a q)
 
 -- Where a plan has a port, one stands
@@ -124,25 +124,25 @@ last_of : (p : List ℕ) (n : ℕ) → All IsPortNumber (p ++ n ∷ []) → IsPo
 last_of [] n all = All-head IsPortNumber n [] all
 last_of (m ∷ p) n all = last_of p n (All-tail IsPortNumber m (p ++ n ∷ []) all)
 
-port_below : (x : Shape) (n : ℕ) (p : List ℕ) (m : ℕ) → Fits x n → IsPath p → 1 ≤ m → m ≤ port_count (spec_there x p) → has_there x (p ++ m ∷ []) ≡ true
-unfolding port_count
+port_below : (x : Shape) (n : ℕ) (p : List ℕ) (m : ℕ) → Fits x n → IsPath p → 1 ≤ m → m ≤ spec_port_count (spec_there x p) → has_there x (p ++ m ∷ []) ≡ true
+unfolding spec_port_count
 port_below x n [] m fits is some h = absurd (omega (arith, is.0))
 port_below x n (zero ∷ p) m fits is some h = absurd (omega (arith, (All-head IsPortNumber zero p is.2).0))
 port_below x n (suc i ∷ p) zero fits is some h = absurd (omega (arith, some))
 port_below x n (suc i ∷ p) (suc m) fits is some h = split (spec_at x i p) refl h
   where
-    split : (o : Option Spec) → spec_at x i p ≡ o → suc m ≤ port_count o → has_there x (suc i ∷ p ++ suc m ∷ []) ≡ true
+    split : (o : Option Spec) → spec_at x i p ≡ o → suc m ≤ spec_port_count o → has_there x (suc i ∷ p ++ suc m ∷ []) ≡ true
     split None e h = absurd (omega (arith, h))
     split (Some t) e h = has_below x n i p t m fits e (omega (arith, h))
 
 port_of_parent : (ds : List Spec) (x : Shape) (n : ℕ) (tree : PluggedMap) (e p : List ℕ) → Fits x n → Agrees ds x tree → IsPath e → parent_of e ≡ Some p
-    → parent_has ds tree (Some p) (port_of e) ≡ true → has_there x e ≡ true
+    → parent_has ds tree (Some p) (port_on_hub e) ≡ true → has_there x e ≡ true
 unfolding parent_has
 port_of_parent ds x n tree e p fits a is up h =
     let whole = rejoined e p up in
-    let last : IsPortNumber (port_of e) = last_of p (port_of e) (subst (All IsPortNumber) whole is.2) in
-    let count : nat_le (port_of e) (port_count (spec_there x p)) ≡ true = ap (λ o. nat_le (port_of e) (port_count o)) (told_of ds (spec_there x p) (index_at tree p) (a p)) ∙ h in
-    ap (has_there x) whole ∙ port_below x n p (port_of e) fits (is_path e p is up) last.0 (leb-true (port_of e) (port_count (spec_there x p)) count)
+    let last : IsPortNumber (port_on_hub e) = last_of p (port_on_hub e) (subst (All IsPortNumber) whole is.2) in
+    let count : nat_le (port_on_hub e) (spec_port_count (spec_there x p)) ≡ true = ap (λ o. nat_le (port_on_hub e) (spec_port_count o)) (told_of ds (spec_there x p) (index_at tree p) (a p)) ∙ h in
+    ap (has_there x) whole ∙ port_below x n p (port_on_hub e) fits (is_path e p is up) last.0 (leb-true (port_on_hub e) (spec_port_count (spec_there x p)) count)
 
 long_parent : (e : List ℕ) → 1 < length e → parent_of e ≡ Some (take (length e - 1) e)
 unfolding parent_of
@@ -156,5 +156,5 @@ port_stands ds x n tree (suc i ∷ m ∷ e) fits a is h =
     let path = suc i ∷ m ∷ e in
     let up : parent_of path ≡ Some (take (length path - 1) path) = long_parent path (omega arith) in
     port_of_parent ds x n tree path (take (length path - 1) path) fits a is up
-    (⊎_elim (λ y. absurd (omega (arith, eqb-true (length path) 1 y))) (λ y. ap (λ o. parent_has ds tree o (port_of path)) (sym up) ∙ y)
+    (⊎_elim (λ y. absurd (omega (arith, eqb-true (length path) 1 y))) (λ y. ap (λ o. parent_has ds tree o (port_on_hub path)) (sym up) ∙ y)
     (either_of (length path == 1) _ (both (is_rooted n path) _ h).1))

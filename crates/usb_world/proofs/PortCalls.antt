@@ -1,12 +1,12 @@
 -- What a call at a port does to reachable, live and pending, and to the devices and ports.
 use Rattle.std.proofs.Common.{◌≡◌, ℕ, zero, suc, ◌&&◌, ◌||◌, if◌then◌else◌, Bool, true, false, List, [], ◌∷◌, Some, option_map, refl, ap, sym, ◌∙◌}
 use Rattle.usb_port.specs.PortState.{PortState, is_attached, powered_off}
-use Rattle.usb_device.specs.declared.calls.PortCall.{PortCall}
-use Rattle.usb_device.specs.declared.calls.PortCall.TheVariants.{SetPower, SetReset, ClearEnable, ClearPower, ClearConnectionChange, ClearEnableChange, ClearResetChange}
+use Rattle.usb_port.specs.declared.call.PortCall.{PortCall}
+use Rattle.usb_port.specs.declared.call.PortCall.TheVariants.{SetPower, SetReset, ClearEnable, ClearPower, ClearConnectionChange, ClearEnableChange, ClearResetChange}
 use Rattle.usb_device.specs.declared.effect.Effect.TheVariants.{Calls}
 use Rattle.usb_device.specs.Rows.{reset_state}
 use Rattle.usb_device.specs.Tree.{Ports, ended, vacant, taken, called, reset_where, before, all_off, changed_at, reach_at, state_at, port_at, place_at}
-use Rattle.usb_device.specs.Calls.{called_port, is_reset}
+use Rattle.usb_port.specs.Calls.{called_port, is_reset}
 use Rattle.usb_world.specs.Paths.{live_at, pend_at, same_number}
 use Rattle.usb_world.specs.WayEffects.{IsNew, call_resets, reset_if, spares, call_spares, port_after}
 use Rattle.usb_world.proofs.Booleans.{both, and_of, and_false, or_right, or_wider, no}

@@ -2,15 +2,16 @@
 use Rattle.std.proofs.Common.{◌≡◌, ℕ, zero, suc, ◌-◌, ◌/◌, ◌%◌, ◌==◌, ◌&&◌, not, nat_le, if◌then◌else◌, Bool, true, false, List, [], ◌∷◌, length, slice_get, Option, None, Some, is_some, refl, ap, arith}
 use Rattle.std.proofs.lemmas.Option.{same_Some}
 use Rattle.arrayvec.specs.ArrayVec.{ArrayVec}
-use Rattle.usb_packet.specs.declared.Packet.{Packet}
 use Rattle.usb_packet.specs.declared.Packet.TheVariants.{Payload}
 use Rattle.usb_packet.specs.declared.Packet.TheVariants as packet
 use Rattle.usb_packet.specs.declared.Toggle.{Toggle}
 use Rattle.usb_packet.specs.declared.Toggle.TheVariants.{Zero, One}
+use Rattle.usb_request.specs.Codes.{DEVICE, CONFIGURATION, STRING, HUB, GET_STATUS, CLEAR_FEATURE, SET_FEATURE, SET_ADDRESS, GET_DESCRIPTOR, GET_CONFIGURATION, SET_CONFIGURATION, DEVICE_IN, DEVICE_OUT, ENDPOINT_OUT, HUB_IN, PORT_IN, PORT_OUT}
+use Rattle.usb_request.specs.Requests.{descriptor_value}
 use Rattle.usb_request.specs.declared.setup.Setup.{Setup}
 use Rattle.usb_request.specs.Layout.{setup_of}
 use Rattle.usb_device.specs.declared.bulk.Which.{Which}
-use Rattle.usb_device.specs.declared.calls.PortCall.{PortCall}
+use Rattle.usb_port.specs.declared.call.PortCall.{PortCall}
 use Rattle.usb_device.specs.declared.delivery.Content.{Content}
 use Rattle.usb_device.specs.declared.delivery.Content.TheVariants.{Whole, Broken}
 use Rattle.usb_device.specs.declared.delivery.Sent.{Sent}
@@ -20,28 +21,27 @@ use Rattle.usb_device.specs.declared.request.Registers.{Registers}
 use Rattle.usb_device.specs.declared.transfer.Memory.{Memory}
 use Rattle.usb_device.specs.declared.transfer.Memory.TheVariants.{Nothing, SetupSeen, OutSeen, AckAwaited}
 use Rattle.usb_device.specs.Spec.{Spec, Hub}
-use Rattle.usb_device.specs.Calls.{set_call, clear_call}
-use Rattle.usb_device.specs.Request.{Outcome, stalled, answers, takes_address, takes_configuration, halts, unhalts, Is, unless, text_asked, get_descriptor, get_status, set_address, set_configuration, endpoint_of, on_endpoint, get_hub_descriptor, port_named, told_port, called_at, get_port_status, port_feature, outcome, is_value}
+use Rattle.usb_port.specs.Calls.{set_call, clear_call}
+use Rattle.usb_device.specs.Request.{Outcome, stalled, answers, takes_address, takes_configuration, halts, unhalts, Is, unless, text_asked, asked_descriptor, asked_status, asked_address, asked_configuration, endpoint_of, on_endpoint, asked_hub_descriptor, port_named, told_port, called_at, asked_port_status, port_feature, outcome, is_value}
 use Rattle.usb_device.specs.Rows.{State}
 use Rattle.usb_device.specs.Effect.{asks, asked_by_data, asked_by_setup, effect_of_request}
 use Rattle.usb_device.specs.Delivery.{hears, asked_by, effect_of}
 use Rattle.usb_world.specs.declared.damage.Damage.{Damage}
 use Rattle.usb_world.specs.declared.types.Attempt.{Attempt}
-use Rattle.usb_world.specs.declared.wire.Mark.{Mark}
-use Rattle.usb_world.specs.declared.wire.Mark.TheVariants as mark
 use Rattle.usb_world.specs.Wire.{mark_of, harm_to, marked, marked_some}
-use Rattle.usb_world.specs.Exchange.{payload_of, sent_as, goes_out, payload_out}
+use Rattle.usb_world.specs.Exchange.{payload_of, goes_out, payload_out}
 use Rattle.usb_world.specs.Passes.{IfOut}
 use Rattle.usb_world.specs.WayEffects.{is_left}
 use Rattle.usb_world.specs.PortRequests.{is_plain, plain_payload}
+use Rattle.usb_world.proofs.AttemptPackets.{sent_out}
 use Rattle.usb_world.proofs.Booleans.{no, both}
 
 -- a test that holds of all that a request can ask of ports
 pub record Allows (T : Effect → Bool) (r : Setup) : Type 0 where
   pub rests : T Leaves ≡ true
-  pub off : Is r 0x00 9 ≡ true → T PortsOff ≡ true
-  pub set : Is r 0x23 3 ≡ true → (c : PortCall) (i : ℕ) → set_call r.value ≡ Some c → r.index ≡ suc i → T (Calls c i) ≡ true
-  pub clear : Is r 0x23 1 ≡ true → (c : PortCall) (i : ℕ) → clear_call r.value ≡ Some c → r.index ≡ suc i → T (Calls c i) ≡ true
+  pub off : Is r DEVICE_OUT SET_CONFIGURATION ≡ true → T PortsOff ≡ true
+  pub set : Is r PORT_OUT SET_FEATURE ≡ true → (c : PortCall) (i : ℕ) → set_call r.value ≡ Some c → r.index ≡ suc i → T (Calls c i) ≡ true
+  pub clear : Is r PORT_OUT CLEAR_FEATURE ≡ true → (c : PortCall) (i : ℕ) → clear_call r.value ≡ Some c → r.index ≡ suc i → T (Calls c i) ≡ true
 
 -- wIndex counts ports from 1
 no_port : (x y : Bool) (n i : ℕ) → (if x && false && y then Some n else None) ≡ Some i → ⊥
@@ -73,19 +73,19 @@ module _ (T : Effect → Bool) (r : Setup) (h : Allows T r) where
   by_text None = h.rests
   by_text (Some t) = h.rests
 
-  by_descriptor : (s : Spec) (v : ℕ) → Good (get_descriptor s v)
+  by_descriptor : (s : Spec) (v : ℕ) → Good (asked_descriptor s v)
   by_descriptor s v =
-      both_ways (v == 0x0100) _ _ (both_ways s.stalls.device stalled (answers s.descriptor) h.rests h.rests)
-      (both_ways (v / 256 == 2) _ _ (both_ways s.stalls.config stalled (text_asked s.configs (v % 256)) h.rests (by_text (slice_get s.configs (v % 256))))
-      (both_ways (v / 256 == 3) _ _ (both_ways s.stalls.string stalled (text_asked s.strings (v % 256)) h.rests (by_text (slice_get s.strings (v % 256)))) h.rests))
+      both_ways (v == descriptor_value DEVICE 0) _ _ (both_ways s.stalls.device stalled (answers s.descriptor) h.rests h.rests)
+      (both_ways (v / 256 == CONFIGURATION) _ _ (both_ways s.stalls.config stalled (text_asked s.configs (v % 256)) h.rests (by_text (slice_get s.configs (v % 256))))
+      (both_ways (v / 256 == STRING) _ _ (both_ways s.stalls.string stalled (text_asked s.strings (v % 256)) h.rests (by_text (slice_get s.strings (v % 256)))) h.rests))
 
   by_endpoint : (f : Which → Outcome) → ((w : Which) → Good (f w)) → (o : Option Which) → Good (on_endpoint f o)
   by_endpoint f c None = h.rests
   by_endpoint f c (Some w) = c w
 
-  by_hub : (o : Option Hub) → Good (get_hub_descriptor o r)
+  by_hub : (o : Option Hub) → Good (asked_hub_descriptor o r)
   by_hub None = h.rests
-  by_hub (Some hub) = both_ways (r.value == 0x2900) (answers hub.descriptor) stalled h.rests h.rests
+  by_hub (Some hub) = both_ways (r.value == descriptor_value HUB 0) (answers hub.descriptor) stalled h.rests h.rests
 
   by_status : (o : Option ℕ) → Good (told_port o)
   by_status None = h.rests
@@ -104,18 +104,18 @@ module _ (T : Effect → Bool) (r : Setup) (h : Allows T r) where
   good_outcome : (s : Spec) (g : Registers) → Good (outcome s g r)
   unfolding outcome
   good_outcome s g =
-      both_ways (Is r 0x80 6) (get_descriptor s r.value) _ (by_descriptor s r.value)
-      (both_ways (Is r 0x80 0) (unless s.stalls.status (get_status s r)) _ (both_ways s.stalls.status stalled (get_status s r) h.rests (both_ways (r.value == 0 && r.index == 0) _ stalled h.rests h.rests))
-      (both_ways (Is r 0x80 8) (answers (g.configuration ∷ [])) _ h.rests
-      (both_ways (Is r 0x00 5) (unless s.stalls.address (set_address r)) _ (both_ways s.stalls.address stalled (set_address r) h.rests (both_ways (nat_le r.value 127 && r.length == 0) (takes_address r.value) stalled h.rests h.rests))
-      (branch (Is r 0x00 9) (unless s.stalls.set_config (set_configuration s g r)) _
-      (λ e. both_ways s.stalls.set_config stalled (set_configuration s g r) h.rests (both_ways (not (g.address == 0) && is_value s.configs r.value && r.length == 0) (takes_configuration r.value) stalled (h.off e) h.rests))
-      (both_ways (Is r 0x02 1) (on_endpoint unhalts (endpoint_of s g r)) _ (by_endpoint unhalts (λ w. h.rests) (endpoint_of s g r))
-      (both_ways (Is r 0x02 3) (on_endpoint halts (endpoint_of s g r)) _ (by_endpoint halts (λ w. h.rests) (endpoint_of s g r))
-      (both_ways (Is r 0xA0 6) (unless s.stalls.hub (get_hub_descriptor s.hub r)) _ (both_ways s.stalls.hub stalled (get_hub_descriptor s.hub r) h.rests (by_hub s.hub))
-      (both_ways (Is r 0xA3 0) (get_port_status s g r) _ (by_status (port_named s.hub g r.index))
-      (branch (Is r 0x23 3) (port_feature (set_call r.value) s g r) _ (λ e. by_feature (set_call r.value) s g (h.set e))
-      (branch (Is r 0x23 1) (port_feature (clear_call r.value) s g r) stalled (λ e. by_feature (clear_call r.value) s g (h.clear e)) h.rests))))))))))
+      both_ways (Is r DEVICE_IN GET_DESCRIPTOR) (asked_descriptor s r.value) _ (by_descriptor s r.value)
+      (both_ways (Is r DEVICE_IN GET_STATUS) (unless s.stalls.status (asked_status s r)) _ (both_ways s.stalls.status stalled (asked_status s r) h.rests (both_ways (r.value == 0 && r.index == 0) _ stalled h.rests h.rests))
+      (both_ways (Is r DEVICE_IN GET_CONFIGURATION) (answers (g.configuration ∷ [])) _ h.rests
+      (both_ways (Is r DEVICE_OUT SET_ADDRESS) (unless s.stalls.address (asked_address r)) _ (both_ways s.stalls.address stalled (asked_address r) h.rests (both_ways (nat_le r.value 127 && r.length == 0) (takes_address r.value) stalled h.rests h.rests))
+      (branch (Is r DEVICE_OUT SET_CONFIGURATION) (unless s.stalls.set_config (asked_configuration s g r)) _
+      (λ e. both_ways s.stalls.set_config stalled (asked_configuration s g r) h.rests (both_ways (not (g.address == 0) && is_value s.configs r.value && r.length == 0) (takes_configuration r.value) stalled (h.off e) h.rests))
+      (both_ways (Is r ENDPOINT_OUT CLEAR_FEATURE) (on_endpoint unhalts (endpoint_of s g r)) _ (by_endpoint unhalts (λ w. h.rests) (endpoint_of s g r))
+      (both_ways (Is r ENDPOINT_OUT SET_FEATURE) (on_endpoint halts (endpoint_of s g r)) _ (by_endpoint halts (λ w. h.rests) (endpoint_of s g r))
+      (both_ways (Is r HUB_IN GET_DESCRIPTOR) (unless s.stalls.hub (asked_hub_descriptor s.hub r)) _ (both_ways s.stalls.hub stalled (asked_hub_descriptor s.hub r) h.rests (by_hub s.hub))
+      (both_ways (Is r PORT_IN GET_STATUS) (asked_port_status s g r) _ (by_status (port_named s.hub g r.index))
+      (branch (Is r PORT_OUT SET_FEATURE) (port_feature (set_call r.value) s g r) _ (λ e. by_feature (set_call r.value) s g (h.set e))
+      (branch (Is r PORT_OUT CLEAR_FEATURE) (port_feature (clear_call r.value) s g r) stalled (λ e. by_feature (clear_call r.value) s g (h.clear e)) h.rests))))))))))
 
   pub setup_allowed : (s : State) → T (asked_by_setup s r) ≡ true
   setup_allowed s = good_outcome s.spec s.registers
@@ -150,12 +150,6 @@ sent_allowed T l q c deep s = elim (hears q deep s) as (λ x. T (if x then asked
 
 -- What the host sends
 
-sent_data : (T : Effect → Bool) → T Leaves ≡ true → (l pre : Bool) (m : Mark) (p : Packet) → AllowsOut T (Whole p) → IfOut (AllowsOut T) (sent_as l pre m p)
-sent_data T e l pre mark.Whole p h = h
-sent_data T e l pre mark.Lost p h = tt
-sent_data T e l pre mark.PreLost p h = h
-sent_data T e l pre (mark.Flipped b) p h = e
-
 abbrev pub PayloadAllows : (Effect → Bool) → Option (Toggle × ArrayVec ℕ) → Type 0
 PayloadAllows T None = Unit {0}
 PayloadAllows T (Some x) = Allows T (setup_of x.1.items)
@@ -166,7 +160,7 @@ payload_allowed T e a d h = go a.payload h
   where
     go : (o : Option (Toggle × ArrayVec ℕ)) → PayloadAllows T o → IfOut (AllowsOut T) (goes_out a (marked_some d 2 a.pre (elim o [ None ↦ None | Some p ↦ Some (packet.Payload p.0 p.1) ])))
     go None h = tt
-    go (Some x) h = sent_data T e a.low a.pre (mark_of (harm_to d 2) a.pre (packet.Payload x.0 x.1)) (packet.Payload x.0 x.1) h
+    go (Some x) h = sent_out (AllowsOut T) e a.low a.pre (mark_of (harm_to d 2) a.pre (packet.Payload x.0 x.1)) (packet.Payload x.0 x.1) h
 
 -- Requests that ask nothing
 
@@ -176,9 +170,9 @@ denied false h e = no e
 
 pub plain_allows : (r : Setup) → is_plain r ≡ true → Allows is_left r
 plain_allows r h =
-    let one = both (not (Is r 0x23 3)) (not (Is r 0x23 1) && not (Is r 0 9)) h in
-    let two = both (not (Is r 0x23 1)) (not (Is r 0 9)) one.1 in
-    record { rests = refl; off = λ e. denied (Is r 0 9) two.1 e; set = λ e c i x y. denied (Is r 0x23 3) one.0 e; clear = λ e c i x y. denied (Is r 0x23 1) two.0 e }
+    let one = both (not (Is r PORT_OUT SET_FEATURE)) (not (Is r PORT_OUT CLEAR_FEATURE) && not (Is r DEVICE_OUT SET_CONFIGURATION)) h in
+    let two = both (not (Is r PORT_OUT CLEAR_FEATURE)) (not (Is r DEVICE_OUT SET_CONFIGURATION)) one.1 in
+    record { rests = refl; off = λ e. denied (Is r DEVICE_OUT SET_CONFIGURATION) two.1 e; set = λ e c i x y. denied (Is r PORT_OUT SET_FEATURE) one.0 e; clear = λ e c i x y. denied (Is r PORT_OUT CLEAR_FEATURE) two.0 e }
 
 pub plain_payload_allows : (o : Option (Toggle × ArrayVec ℕ)) → plain_payload o ≡ true → PayloadAllows is_left o
 plain_payload_allows None h = tt

@@ -8,7 +8,7 @@ use Rattle.usb_device.specs.Tree.{Ports, ended, vacant, taken, place_at}
 use Rattle.usb_device.specs.Rows.{fresh, received, unread}
 use Rattle.usb_device.specs.Request.{outcome}
 use Rattle.usb_device.specs.Effect.{asks}
-use Rattle.usb_device.specs.Calls.{set_call, clear_call}
+use Rattle.usb_port.specs.Calls.{set_call, clear_call}
 use Rattle.usb_device.specs.Delivery.{answer_of, effect_of, after_packet}
 use Rattle.usb_request.specs.Layout.{setup_of}
 use Rattle.usb_port.specs.PortState.{full, nothing}
@@ -59,5 +59,5 @@ abbrev sends_out : Attempt
 sends_out = record { kind = OutTok; addr = 1; ep = 0; low = false; pre = false; max = 64; payload = Some (Zero, record { items = 0x23 ∷ 3 ∷ 4 ∷ 0 ∷ 1 ∷ 0 ∷ 0 ∷ 0 ∷ [] }) }
 
 resets_by_out : (plain_data sends_out.kind sends_out.payload ≡ true) × (resets (attempt sends_out) awaiting (1 ∷ 1 ∷ []) ≡ true)
-unfolding resets resets_at due_from ready marked marked_some mark_of harm_to damage_of bit_count token_of payload_of place_at received unread fresh asks set_call clear_call answer_of effect_of after_packet setup_of outcome
+unfolding resets resets_at due_from ready marked marked_some mark_of harm_to damage_of bit_count token_of payload_of place_at received unread fresh asks answer_of effect_of after_packet setup_of outcome
 resets_by_out = (refl, refl)

@@ -1,29 +1,51 @@
--- After an attempt the one device that holds its address is still reachable.
-use Rattle.std.proofs.Common.{◌≡◌, ℕ, true, List, Option, ap, ◌∙◌}
+-- Devices that are reachable after an attempt, or the events before it: the one that holds its address still is, and each was before.
+use Rattle.std.proofs.Common.{◌≡◌, ℕ, suc, true, false, List, ◌∷◌, Option, Some, option_map, refl, sym, ap, ap₂, ◌∙◌}
+use Rattle.std.proofs.lemmas.Option.{same_Some}
 use Rattle.usb_port.specs.PortState.{PortState}
 use Rattle.usb_device.specs.Rows.{State}
-use Rattle.usb_device.specs.Tree.{Ports, reach_at}
+use Rattle.usb_device.specs.Tree.{Ports, reach_at, state_at, Spot, path_to, reach_on, state_on}
+use Rattle.usb_device.specs.Delivery.{held, is_twice}
 use Rattle.usb_world.specs.declared.types.Attempt.{Attempt}
 use Rattle.usb_world.specs.declared.damage.Damage.{Damage}
 use Rattle.usb_world.specs.Exchange.{token_out, payload_out, reply_out, ports_in}
 use Rattle.usb_world.specs.Passes.{passed}
 use Rattle.usb_world.specs.World.{World}
 use Rattle.usb_world.specs.Steps.{ready, damage_in, with_attempt, attempt, after}
-use Rattle.usb_world.specs.OneHolder.{Holder, HolderIn}
+use Rattle.usb_world.specs.OneHolder.{IsMade, Holder, HolderIn}
+use Rattle.usb_world.specs.Addresses.{is_setup}
+use Rattle.usb_world.specs.Paths.{address_of}
+use Rattle.usb_world.proofs.AddressesInTransfers.{data_calm}
+use Rattle.usb_world.proofs.AddressesKept.{due_state}
 use Rattle.usb_world.proofs.AttemptPackets.{forgotten_reach}
+use Rattle.usb_world.proofs.Courses.{due_reach, made_reach}
+use Rattle.usb_world.proofs.Holders.{one_path}
 use Rattle.usb_world.proofs.OneHolder.{acts}
-use Rattle.usb_world.proofs.OneHolderAttempts.{made_is, holder_in}
+use Rattle.usb_world.proofs.OneHolderAttempts.{made_is, holder_in, ready_settled}
 
 -- forgetting what is remembered changes no port
-pub stays_reachable : (a : Attempt) (d : Option Damage) (k : Ports) (j : ℕ) (p : List ℕ) (b : PortState) (s : State) (below : Ports)
-    → Holder a.addr k j p b s below → reach_at (ports_in a d k) j p ≡ true
+pub stays_reachable : (a : Attempt) (d : Option Damage) (k : Ports) (h : Holder a.addr k) → reach_on (ports_in a d k) h.spot ≡ true
 unfolding ports_in
-stays_reachable a d k j p b s below h =
-    forgotten_reach (passed (reply_out a d k) (passed (payload_out a d) (passed (token_out a d) k))) j p ∙ (acts a d k j p b s below h).on
+stays_reachable a d k h =
+    forgotten_reach (passed (reply_out a d k) (passed (payload_out a d) (passed (token_out a d) k))) h.spot.row h.spot.rest ∙ (acts a d k h).on
 
-pub stays_reachable_in : (a : Attempt) (w : World) (j : ℕ) (p : List ℕ) (b : PortState) (s : State) (below : Ports)
-    → HolderIn a w j p b s below → reach_at (after (attempt a) w).roots j p ≡ true
+pub stays_reachable_in : (a : Attempt) (w : World) (h : HolderIn a w) → reach_on (after (attempt a) w).roots h.spot ≡ true
 unfolding with_attempt
-stays_reachable_in a w j p b s below h =
-    ap (λ v. reach_at v.roots j p) (made_is a w h.made)
-    ∙ stays_reachable a (damage_in (ready w)) (ready w).roots j p b s below (holder_in a w j p b s below h)
+stays_reachable_in a w h =
+    ap (λ v. reach_on v.roots h.spot) (made_is a w h.made)
+    ∙ stays_reachable a (damage_in (ready w)) (ready w).roots (holder_in a w h)
+
+-- before the events that were due
+pub due_back : (w : World) (j : Spot) → reach_on (ready w).roots j ≡ true → (reach_on w.roots j ≡ true) × (state_on (ready w).roots j ≡ state_on w.roots j)
+unfolding ready
+due_back w j on = ((due_reach w.left w (path_to j) refl on).0, due_state w.left w (path_to j) on)
+
+-- before IN and OUT
+pub data_back : (a : Attempt) (w : World) → IsMade a w → is_setup a.kind ≡ false → (j : Spot) → reach_on (after (attempt a) w).roots j ≡ true → reach_on (ready w).roots j ≡ true
+data_back a w m kind j on =
+    made_reach a (ready w) (path_to j) (data_calm a (damage_in (ready w)) (ready w).roots (ready_settled w m.settled) kind j.row j.rest) (ap (λ x. reach_on x.roots j) (sym (made_is a w m)) ∙ on)
+
+-- where no address is held twice, two reachable devices at one address are one
+pub one_state : (n : ℕ) (k : Ports) (i j : ℕ) (e p : List ℕ) (u s : State) → is_twice (held k) ≡ false → reach_at k i e ≡ true → state_at k i e ≡ Some u → address_of u ≡ n → reach_at k j p ≡ true → state_at k j p ≡ Some s → address_of s ≡ n → s ≡ u
+one_state n k i j e p u s single on there at on2 there2 at2 =
+    let x : _ = one_path k i e j p n single on (ap (option_map address_of) there ∙ ap (λ y. Some y) at) on2 (ap (option_map address_of) there2 ∙ ap (λ y. Some y) at2) in
+    same_Some s u (sym there2 ∙ sym (ap₂ (state_at k) x.0 x.1) ∙ there)

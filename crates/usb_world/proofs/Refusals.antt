@@ -8,7 +8,7 @@ use Rattle.usb_device.specs.declared.delivery.Sent.{Sent}
 use Rattle.usb_device.specs.Rows.{State, sink_grows}
 use Rattle.usb_device.specs.Tree.{Ports}
 use Rattle.usb_device.specs.Delivery.{all_forgotten}
-use Rattle.usb_device.specs.Stopped.{Stopped, behind_empty, behind, below, here}
+use Rattle.usb_device.specs.StoppedPackets.{Stopped, behind_empty, behind, below, here}
 use Rattle.usb_world.specs.declared.damage.Damage.{Damage}
 use Rattle.usb_world.specs.declared.exchange.Heard.{Heard}
 use Rattle.usb_world.specs.declared.exchange.Heard.TheVariants as heard
@@ -19,7 +19,7 @@ use Rattle.usb_world.specs.declared.wire.Outgoing.{Outgoing}
 use Rattle.usb_world.specs.Wire.{is_read, marked, marked_some}
 use Rattle.usb_world.specs.Exchange.{token_of, reply_of, sent_as, goes_out, token_out, payload_out}
 use Rattle.usb_world.specs.Passes.{passed}
-use Rattle.usb_world.specs.Cut.{IsStopped}
+use Rattle.usb_world.specs.CutPackets.{IsStopped}
 use Rattle.usb_world.specs.Steps.{IsCut}
 use Rattle.usb_world.proofs.Booleans.{no, and_false}
 

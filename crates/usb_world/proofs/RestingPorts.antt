@@ -1,11 +1,11 @@
 -- A port of which nothing is asked stands as it stood, or a change of connection is pending on its way.
 use Rattle.std.proofs.Common.{◌≡◌, ◌⊎◌, inl, inr, ℕ, zero, suc, ◌==◌, ◌&&◌, ◌||◌, not, if◌then◌else◌, Bool, true, false, List, [], ◌∷◌, Option, None, Some, slice_get, is_some, option_map, refl, ap, sym, ◌∙◌}
-use Rattle.usb_device.specs.declared.calls.PortCall.{PortCall}
+use Rattle.usb_port.specs.declared.call.PortCall.{PortCall}
 use Rattle.usb_device.specs.declared.delivery.Sent.{Sent}
 use Rattle.usb_device.specs.declared.effect.Effect.{Effect}
 use Rattle.usb_device.specs.declared.effect.Effect.TheVariants.{Leaves, Calls, PortsOff}
 use Rattle.usb_port.specs.PortState.{is_attached}
-use Rattle.usb_device.specs.Calls.{is_reset, called_port}
+use Rattle.usb_port.specs.Calls.{is_reset, called_port}
 use Rattle.usb_device.specs.Spec.{Spec}
 use Rattle.usb_device.specs.Tree.{Ports, ended, vacant, taken, called, replaced, changed, changed_at, reset_where, before, acted, reach, reach_at}
 use Rattle.usb_device.specs.Delivery.{effect_of, after_packet}

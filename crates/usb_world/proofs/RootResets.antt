@@ -1,7 +1,7 @@
 -- PORT_RESET of a root port gives the device there address 0, and leaves the others theirs.
 use Rattle.std.proofs.Common.{◌≡◌, ℕ, zero, suc, ◌&&◌, if◌then◌else◌, ◌⊎◌, inl, inr, Bool, true, false, List, [], ◌∷◌, Option, None, Some, option_map, refl, ap, sym, subst, ◌∙◌}
-use Rattle.usb_device.specs.declared.calls.PortCall.{PortCall}
-use Rattle.usb_device.specs.declared.calls.PortCall.TheVariants.{SetReset}
+use Rattle.usb_port.specs.declared.call.PortCall.{PortCall}
+use Rattle.usb_port.specs.declared.call.PortCall.TheVariants.{SetReset}
 use Rattle.usb_device.specs.Tree.{Ports, ended, vacant, taken, Place, empty, full, called, changed_at, reach_at, state_at, place_at}
 use Rattle.usb_world.specs.Paths.{address_of, same_number, same_path, is_way}
 use Rattle.usb_world.specs.WayEffects.{IsNew, takes_reset, call_resets}

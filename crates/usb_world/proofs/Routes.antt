@@ -9,7 +9,7 @@ use Rattle.usb_device.specs.declared.effect.Effect.{Effect}
 use Rattle.usb_device.specs.declared.effect.Effect.TheVariants.{Leaves, Calls, PortsOff}
 use Rattle.usb_device.specs.declared.transfer.Memory.TheVariants.{Nothing}
 use Rattle.usb_device.specs.Rows.{State, awaits_address, awaits_control, ends_with_address}
-use Rattle.usb_device.specs.Stopped.{Stopped, behind_empty, behind, below, here}
+use Rattle.usb_device.specs.StoppedPackets.{Stopped, behind_empty, behind, below, here}
 use Rattle.usb_device.specs.Tree.{Ports, ended, vacant, taken, Plugged, Place, empty, full, before, acted, changed_at, changed, plugged_at, device_there, reach_at, state_at, place_at, row_of}
 use Rattle.usb_device.specs.Delivery.{listed, held, is_twice, answer_of, effect_of, after_packet, delivered_place, delivered_device, on_port, heard_of, heard_from, both, all_forgotten, has_loss, asks_clearing, clears_change, figure}
 use Rattle.usb_device.specs.Route.{sent_in, answer_by, RefusedBy, asked_call, call_by, forgotten_in, holds_by, is_held_at}
@@ -17,15 +17,16 @@ use Rattle.usb_device.proofs.Interface.{figure-after, row_of-after}
 use Rattle.usb_world.specs.declared.types.Attempt.{Attempt}
 use Rattle.usb_world.specs.declared.damage.Damage.{Damage}
 use Rattle.usb_world.specs.Paths.{address_of}
-use Rattle.usb_world.specs.Passes.{passed, told, answer_at, deep_at, IfOut, IsTokenFor, IsDataOut, IsAckOut, IsSettled}
+use Rattle.usb_world.specs.Passes.{passed, answers_to, answer_at, deep_at, IfOut, IsTokenFor, IsDataOut, IsAckOut, IsSettled}
 use Rattle.usb_world.specs.Exchange.{token_out, clears_at}
-use Rattle.usb_world.specs.Cut.{IsStopped}
+use Rattle.usb_world.specs.CutPackets.{IsStopped}
 use Rattle.usb_world.specs.declared.route.Hints.{Hints}
-use Rattle.usb_world.specs.Hinted.{path_in, way_in}
-use Rattle.usb_world.specs.Alone.{OthersForgot, Alone, AloneAt, IsWayTo, is_whole, is_deep}
+use Rattle.usb_world.specs.Hints.{path_in, way_in}
+use Rattle.usb_world.specs.LonePackets.{OthersForgot, Alone, AloneAt, IsWayTo, is_whole_tree, is_deep}
 use Rattle.usb_world.proofs.Booleans.{no, both as both_true, and_of, or_nothing}
 use Rattle.usb_world.proofs.PacketEffects.{true_deep}
 use Rattle.usb_world.proofs.AttemptPackets.{rested_answer, ack_calls}
+use Rattle.usb_world.proofs.PacketWays.{clears_if}
 use Rattle.usb_world.proofs.OneDevice.{IsRested, OthersRest, Pass, one_pass, rest_packet, rested_effect, others_answer, settled_memory, other_address, token_calls, payload_calls}
 use Rattle.usb_world.proofs.Courses.{goes}
 use Rattle.usb_world.proofs.Equality.{equal_same}
@@ -96,15 +97,7 @@ clears_asked (Calls c i) = refl
 clears_asked PortsOff = refl
 
 rest_clears : (q : Sent) (deep : Bool) (k : Ports) → ((i : ℕ) (e : List ℕ) (t : State) → state_at k i e ≡ Some t → t.memory ≡ Nothing) → clears_change q deep k ≡ false
-unfolding clears_change state_at
-rest_clears q deep ended c = refl
-rest_clears q deep (vacant b k) c = rest_clears q deep k (λ i e. c (suc i) e)
-rest_clears q deep (taken b s a k) c =
-    rw (rested_effect q deep s (c zero [] s refl), rest_clears q true a (λ i e. c zero (suc i ∷ e)), rest_clears q deep k (λ i e. c (suc i) e)) (nothing b.enable)
-  where
-    nothing : (x : Bool) → ((x && false) || false) ≡ false
-    nothing true = refl
-    nothing false = refl
+rest_clears q deep k c = clears_if q deep k (λ i e t at dp. ap asks_clearing (rested_effect q dp t (c i e t at)))
 
 others_clear : (q : Sent) (deep : Bool) (k : Ports) (j : ℕ) (p : List ℕ) → reach_at k j p ≡ true → OthersForgot k j p → clears_change q deep k ≡ clears_by (call_by q (deep_at deep p) (plugged_at k j p))
 unfolding clears_change state_at reach_at plugged_at
@@ -164,7 +157,7 @@ abbrev pub loss_by : Option Plugged → Bool
 loss_by None = false
 loss_by (Some t) = awaits_address t.own
 
-others_loss : (k : Ports) (j : ℕ) (p : List ℕ) → reach_at k j p ≡ true → OthersForgot k j p → has_loss k ≡ loss_by (plugged_at k j p)
+pub others_loss : (k : Ports) (j : ℕ) (p : List ℕ) → reach_at k j p ≡ true → OthersForgot k j p → has_loss k ≡ loss_by (plugged_at k j p)
 unfolding has_loss state_at reach_at plugged_at
 others_loss ended j p h c = no h
 others_loss (vacant b k) zero p h c = no h
@@ -214,12 +207,12 @@ pub others_rest : (q : Sent) (k : Ports) (j : ℕ) (p : List ℕ) → Alone (Som
 others_rest q k j p h i e t d f on = (h.forgot i e t d f, h.uncalled q refl i e t d f on)
 
 module _ (q : Sent) (k : Ports) where
-  ports_of : (m : Ports) (p : List ℕ) → is_whole p ≡ false → AloneAt (Some q) k p → m ≡ changed (sent_in q (is_deep p)) k p → m ≡ passed (Some q) k
+  ports_of : (m : Ports) (p : List ℕ) → is_whole_tree p ≡ false → AloneAt (Some q) k p → m ≡ changed (sent_in q (is_deep p)) k p → m ≡ passed (Some q) k
   ports_of m [] f h e = no (sym f)
   ports_of m (zero ∷ p) f h e = absurd h
   ports_of m (suc j ∷ p) f h e = e ∙ sym (others_packet q false k j p h.on (others_rest q k j p h))
 
-  heard_of_one : (g h : Heard) (p : List ℕ) → is_whole p ≡ false → AloneAt (Some q) k p → h ≡ both g (heard_from (answer_by q (is_deep p) (device_there k p))) → h ≡ both g (heard_of (told (Some q) k))
+  heard_of_one : (g h : Heard) (p : List ℕ) → is_whole_tree p ≡ false → AloneAt (Some q) k p → h ≡ both g (heard_from (answer_by q (is_deep p) (device_there k p))) → h ≡ both g (heard_of (answers_to (Some q) k))
   heard_of_one g h [] f w e = no (sym f)
   heard_of_one g h (zero ∷ p) f w e = absurd w
   heard_of_one g h (suc j ∷ p) f w e =
@@ -227,13 +220,13 @@ module _ (q : Sent) (k : Ports) where
       ∙ ap (λ o. both g (heard_from (answer_by q (deep_at false p) o))) (sym (plugged_place k j p))
       ∙ ap (both g) (sym (heard_place_by q (deep_at false p) (place_at k j p)) ∙ ap heard_of (sym (others_answer q false k j p w.on (others_rest q k j p w))))
 
-  stopped_of : (m : Ports) (p : List ℕ) → is_whole p ≡ false → AloneAt (Some q) k p → m ≡ k → RefusedBy q (is_deep p) (device_there k p) → IsStopped (Some q) k m
+  stopped_of : (m : Ports) (p : List ℕ) → is_whole_tree p ≡ false → AloneAt (Some q) k p → m ≡ k → RefusedBy q (is_deep p) (device_there k p) → IsStopped (Some q) k m
   stopped_of m [] f h e w = no (sym f)
   stopped_of m (zero ∷ p) f h e w = absurd h
   stopped_of m (suc j ∷ p) f h e w = record { sent = q; went = refl; stopped = subst (Stopped q false k) (sym e) (others_stop q false k j p h.on (others_rest q k j p h) w) }
 
 -- what the code does with one packet
-module _ (o : Option Sent) (q : Sent) (deep : Bool) (k m : Ports) (p : List ℕ) (is : o ≡ Some q) (at : deep ≡ is_deep p) (f : is_whole p ≡ false) (h : AloneAt o k p) where
+module _ (o : Option Sent) (q : Sent) (deep : Bool) (k m : Ports) (p : List ℕ) (is : o ≡ Some q) (at : deep ≡ is_deep p) (f : is_whole_tree p ≡ false) (h : AloneAt o k p) where
   alone_some : AloneAt (Some q) k p
   alone_some = subst (λ x. AloneAt x k p) is h
 
@@ -244,9 +237,9 @@ module _ (o : Option Sent) (q : Sent) (deep : Bool) (k m : Ports) (p : List ℕ)
   route_ports (Ok x) e = ports_to e
   route_ports (Err x) e = e
 
-  pub route_heard : {A E : Type 0} (r : Result A E) (g h : Heard) → OnOk r (h ≡ both g (heard_from (answer_by q deep (device_there k p)))) → OnOk r (h ≡ both g (heard_of (told o k)))
+  pub route_heard : {A E : Type 0} (r : Result A E) (g h : Heard) → OnOk r (h ≡ both g (heard_from (answer_by q deep (device_there k p)))) → OnOk r (h ≡ both g (heard_of (answers_to o k)))
   route_heard (Ok x) g h e =
-      subst (λ y. h ≡ both g (heard_of (told y k))) (sym is) (heard_of_one q k g h p f alone_some (e ∙ ap (λ y. both g (heard_from (answer_by q y (device_there k p)))) at))
+      subst (λ y. h ≡ both g (heard_of (answers_to y k))) (sym is) (heard_of_one q k g h p f alone_some (e ∙ ap (λ y. both g (heard_from (answer_by q y (device_there k p)))) at))
   route_heard (Err x) g h e = e
 
   pub route_stopped : {A E : Type 0} (r : Result A E) → OnErr r (m ≡ k) → OnErr r (RefusedBy q deep (device_there k p)) → OnErr r (IsStopped o k m)
@@ -277,17 +270,17 @@ pub alone_after : {A E : Type 0} (r : Result A E) (o : Option Sent) (k m : Ports
 alone_after (Ok x) o k m p h e w = subst (λ y. AloneAt None y p) (sym e) (alone_passed o k p h)
 alone_after (Err x) o k m p h e w = subst (λ y. AloneAt None y p) (sym w) (alone_less o k p h)
 
-pub route_clears : (q : Sent) (k : Ports) (p : List ℕ) → is_whole p ≡ false → AloneAt (Some q) k p → clears_by (call_by q (is_deep p) (device_there k p)) ≡ clears_at (Some q) k
+pub route_clears : (q : Sent) (k : Ports) (p : List ℕ) → is_whole_tree p ≡ false → AloneAt (Some q) k p → clears_by (call_by q (is_deep p) (device_there k p)) ≡ clears_at (Some q) k
 route_clears q k [] f h = no (sym f)
 route_clears q k (zero ∷ p) f h = absurd h
 route_clears q k (suc j ∷ p) f h = sym (others_clear q false k j p h.on h.forgot)
 
-pub route_loss : (k : Ports) (p : List ℕ) → is_whole p ≡ false → AloneAt None k p → loss_by (device_there k p) ≡ has_loss k
+pub route_loss : (k : Ports) (p : List ℕ) → is_whole_tree p ≡ false → AloneAt None k p → loss_by (device_there k p) ≡ has_loss k
 route_loss k [] f h = no (sym f)
 route_loss k (zero ∷ p) f h = absurd h
 route_loss k (suc j ∷ p) f h = sym (others_loss k j p h.on h.forgot)
 
-pub route_over : (k m : Ports) (p : List ℕ) → is_whole p ≡ false → AloneAt None k p → m ≡ changed forgotten_in k p → m ≡ all_forgotten k
+pub route_over : (k m : Ports) (p : List ℕ) → is_whole_tree p ≡ false → AloneAt None k p → m ≡ changed forgotten_in k p → m ≡ all_forgotten k
 route_over k m [] f h e = no (sym f)
 route_over k m (zero ∷ p) f h e = absurd h
 route_over k m (suc j ∷ p) f h e = e ∙ sym (others_forget k j p h.on h.forgot)

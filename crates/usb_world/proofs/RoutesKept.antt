@@ -15,7 +15,7 @@ use Rattle.usb_world.specs.declared.damage.Damage.{Damage}
 use Rattle.usb_world.specs.Paths.{address_of}
 use Rattle.usb_world.specs.Passes.{passed, deep_at, IsSettled, OneHolds}
 use Rattle.usb_world.specs.Exchange.{token_out, payload_out, reply_out, ended_in, ports_in}
-use Rattle.usb_world.specs.Alone.{Alone, IsWayTo, IsQuiet, KeptAt}
+use Rattle.usb_world.specs.LonePackets.{Alone, IsWayTo, IsQuiet, KeptAt}
 use Rattle.usb_world.proofs.Booleans.{no, both}
 use Rattle.usb_world.proofs.AttemptPackets.{token_out as token_calm, ack_out as ack_calm}
 use Rattle.usb_world.proofs.OneDevice.{stands, state_stands}
@@ -130,7 +130,7 @@ reached_stands (taken b s a k) zero (zero ∷ p) h = no h
 reached_stands (taken b s a k) zero (suc j ∷ p) h = let x : _ = reached_stands a j p (both b.enable (reach_at a j p) h).1 in record { port = x.port; own = x.own; below = x.below; at = x.at }
 reached_stands (taken b s a k) (suc j) p h = let x : _ = reached_stands k j p h in record { port = x.port; own = x.own; below = x.below; at = x.at }
 
-module _ (a : Attempt) (d : Option Damage) (k : Ports) (j : ℕ) (p : List ℕ) (settled : IsSettled k) (holds : OneHolds a.addr k j p) where
+module _ (a : Attempt) (d : Option Damage) (k : Ports) (j : ℕ) (p : List ℕ) (settled : IsSettled k) (holds : OneHolds a.addr k (record { row = j; rest = p })) where
   abbrev deep : Bool
   deep = deep_at false p
 

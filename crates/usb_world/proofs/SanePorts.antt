@@ -2,8 +2,8 @@
 use Rattle.std.proofs.Common.{◌≡◌, ℕ, zero, suc, ◌&&◌, ◌||◌, if◌then◌else◌, Bool, true, false, List, [], ◌∷◌, Option, None, Some, refl, ap, sym, subst, ◌∙◌}
 use Rattle.std.specs.Option.{IfSome}
 use Rattle.usb_port.specs.PortState.{PortState, is_attached, speed_of, plugged, unplugged, powered_off}
-use Rattle.usb_device.specs.declared.calls.PortCall.{PortCall}
-use Rattle.usb_device.specs.declared.calls.PortCall.TheVariants.{SetPower, SetReset, ClearEnable, ClearPower, ClearConnectionChange, ClearEnableChange, ClearResetChange}
+use Rattle.usb_port.specs.declared.call.PortCall.{PortCall}
+use Rattle.usb_port.specs.declared.call.PortCall.TheVariants.{SetPower, SetReset, ClearEnable, ClearPower, ClearConnectionChange, ClearEnableChange, ClearResetChange}
 use Rattle.usb_device.specs.declared.effect.Effect.{Effect}
 use Rattle.usb_device.specs.declared.effect.Effect.TheVariants.{Leaves, Calls, PortsOff}
 use Rattle.usb_device.specs.declared.delivery.Sent.{Sent}
@@ -11,7 +11,7 @@ use Rattle.usb_device.specs.declared.delivery.Content.{Content}
 use Rattle.usb_device.specs.declared.delivery.Content.TheVariants.{Whole, Broken}
 use Rattle.usb_device.specs.Spec.{Spec, Hub, IsSpec}
 use Rattle.usb_device.specs.Rows.{State, fresh, reset_state, unread, forgotten}
-use Rattle.usb_device.specs.Calls.{called_port, is_reset}
+use Rattle.usb_port.specs.Calls.{called_port, is_reset}
 use Rattle.usb_device.specs.Tree.{Ports, ended, vacant, taken, Place, empty, full, before, all_off, new_ports, first_ports, called, reset_where, replaced, changed, changed_at, acted, reach_at, state_at, row_of}
 use Rattle.usb_device.specs.Delivery.{answer_of, effect_of, after_packet, all_forgotten, hears, reply_to}
 use Rattle.usb_device.proofs.Interface.{answer-spec, keeps-received}

@@ -2,11 +2,11 @@
 use Rattle.std.proofs.Common.{◌≡◌, ℕ, zero, suc, Bool, true, false, if◌then◌else◌, ◌&&◌, ◌==◌, List, [], ◌∷◌, refl, ap, sym}
 use Rattle.usb_port.specs.PortState.{is_attached}
 use Rattle.usb_device.specs.Spec.{Spec, Hub, IsSpec}
-use Rattle.usb_device.specs.declared.calls.PortCall.{PortCall}
+use Rattle.usb_port.specs.declared.call.PortCall.{PortCall}
 use Rattle.usb_device.specs.declared.transfer.Memory.{Memory}
 use Rattle.usb_device.specs.declared.transfer.Memory.TheVariants.{Nothing}
 use Rattle.usb_device.specs.Rows.{fresh, reset_state}
-use Rattle.usb_device.specs.Calls.{called_port, is_reset}
+use Rattle.usb_port.specs.Calls.{called_port, is_reset}
 use Rattle.usb_device.specs.Tree.{Ports, ended, vacant, taken, Place, empty, full, before, new_ports, first_ports, all_off, changed, changed_at, called, replaced, reset_where}
 use Rattle.usb_device.specs.Delivery.{all_forgotten}
 use Rattle.usb_world.specs.declared.damage.Damage.{Damage}

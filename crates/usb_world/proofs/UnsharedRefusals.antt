@@ -15,7 +15,7 @@ use Rattle.usb_device.specs.declared.transfer.Memory.TheVariants.{Nothing, Setup
 use Rattle.usb_device.specs.Rows.{State, Reply, forgotten, received, unread, token_row, sink_grows}
 use Rattle.usb_device.specs.Tree.{Ports, ended, vacant, taken, full, before, acted, row_of}
 use Rattle.usb_device.specs.Delivery.{hears, reply_to, answer_of, effect_of, after_packet, delivered_device, on_port, all_forgotten, held, is_twice}
-use Rattle.usb_device.specs.Stopped.{Stopped, behind_empty, behind, below, here}
+use Rattle.usb_device.specs.StoppedPackets.{Stopped, behind_empty, behind, below, here}
 use Rattle.usb_world.specs.declared.damage.Damage.{Damage}
 use Rattle.usb_world.specs.declared.types.Attempt.{Attempt}
 use Rattle.usb_world.specs.declared.wire.Mark.{Mark}

@@ -3,7 +3,7 @@ use Rattle.std.proofs.Common.{◌≡◌, ◌∙◌, refl, sym, ap, ap₂, subst,
 use Rattle.std.specs.Cmp.Lexicographic.{pointwise, same_text, bytes_decides}
 use Rattle.std.specs.List.{starts_with}
 use Rattle.std.proofs.lemmas.Bool.{eqb-true, eq-eqb}
-use Rattle.usb_port.specs.Order.{is_below as is_port_below, parent_of, port_of}
+use Rattle.usb_port.specs.Order.{is_below as is_port_below, parent_of, port_on_hub}
 use Rattle.usb_port.proofs.Interface.{below, rejoined}
 use Rattle.usb_device.specs.Spec.{Spec}
 use Rattle.usb_device.specs.Tree.{Ports, ended, vacant, taken, reach, reach_at}
@@ -115,7 +115,7 @@ pub way_shorter : (p x : List ℕ) → length x < length p → is_way p x ≡ fa
 way_shorter p x shorter = shorter_by p x shorter (is_way p x) refl
 
 pub way_parent : (path hub : List ℕ) → parent_of path ≡ Some hub → is_way hub path ≡ true
-way_parent path hub is = way_of_rest hub path (port_of path ∷ []) (rejoined path hub is)
+way_parent path hub is = way_of_rest hub path (port_on_hub path ∷ []) (rejoined path hub is)
 
 not_so : (a b : Bool) → (a ≡ true → b ≡ true) → b ≡ false → a ≡ false
 not_so true b f h = no (sym h ∙ f refl)

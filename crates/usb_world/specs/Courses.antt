@@ -1,14 +1,16 @@
 -- What steps do on the way to a path, and which device stands there after them.
 use Rattle.std.specs.Prelude.{◌≡◌, ◌⊎◌, ℕ, zero, suc, ◌==◌, ◌&&◌, not, Bool, true, false, List, [], ◌∷◌, ◌++◌, Option, None, Some, option_map, ⊤}
-use Rattle.usb_device.specs.declared.calls.PortCall.{PortCall}
+use Rattle.usb_port.specs.declared.call.PortCall.{PortCall}
 use Rattle.arrayvec.specs.ArrayVec.{ArrayVec}
 use Rattle.usb_packet.specs.declared.Toggle.{Toggle}
 use Rattle.usb_packet.specs.declared.TokenKind.{TokenKind}
 use Rattle.usb_packet.specs.declared.TokenKind.TheVariants.{OutTok, InTok, SetupTok}
 use Rattle.usb_packet.specs.declared.Packet.TheVariants.{Payload}
+use Rattle.usb_request.specs.Features.{PORT_RESET}
+use Rattle.usb_request.specs.Codes.{SET_FEATURE, PORT_OUT}
 use Rattle.usb_device.specs.declared.delivery.Content.{Content}
 use Rattle.usb_device.specs.declared.delivery.Content.TheVariants.{Whole, Broken}
-use Rattle.usb_device.specs.Calls.{is_reset}
+use Rattle.usb_port.specs.Calls.{is_reset}
 use Rattle.usb_request.specs.Layout.{setup_of}
 use Rattle.usb_request.specs.declared.setup.Setup.{Setup}
 use Rattle.usb_device.specs.Request.{Is}
@@ -92,7 +94,7 @@ Spares p s w = spares_step s w p ≡ true
 
 -- a request that is not PORT_RESET of a port
 abbrev pub is_harmless : Setup → Bool
-is_harmless r = not (Is r 0x23 3 && r.value == 4)
+is_harmless r = not (Is r PORT_OUT SET_FEATURE && r.value == PORT_RESET)
 
 -- data that are no such request
 abbrev pub IsHarmlessOut : Content → Type 0

@@ -6,7 +6,7 @@ use Rattle.usb_packet.specs.declared.Packet.TheVariants as packet
 use Rattle.usb_device.specs.declared.answer.Answer.{Answer}
 use Rattle.usb_device.specs.declared.delivery.Content.TheVariants as content
 use Rattle.usb_device.specs.declared.delivery.Sent.{Sent}
-use Rattle.usb_device.specs.Received.{packet_of}
+use Rattle.usb_device.specs.ReceivedBytes.{packet_of}
 use Rattle.usb_device.specs.Tree.{Ports}
 use Rattle.usb_device.specs.Delivery.{has_loss, clears_change}
 use Rattle.usb_world.specs.declared.types.Attempt.{Attempt}
@@ -21,7 +21,7 @@ use Rattle.usb_world.specs.declared.wire.Mark.{Mark}
 use Rattle.usb_world.specs.declared.wire.Mark.TheVariants.{Whole, Lost, PreLost, Flipped}
 use Rattle.usb_world.specs.declared.wire.Outgoing.{Outgoing}
 use Rattle.usb_world.specs.Wire.{harm_to, mark_of, is_read, marked, marked_some}
-use Rattle.usb_world.specs.Passes.{passed, told, after_attempt}
+use Rattle.usb_world.specs.Passes.{passed, answers_to, after_attempt}
 
 -- of no attempt yet
 abbrev pub blank : Exchange
@@ -103,7 +103,7 @@ payload_out a damage = goes_out a (payload_in a damage)
 
 -- what is answered
 abbrev pub heard_in : Attempt → Option Damage → Ports → Heard
-heard_in a damage k = heard_all (told (token_out a damage) k ++ told (payload_out a damage) (passed (token_out a damage) k))
+heard_in a damage k = heard_all (answers_to (token_out a damage) k ++ answers_to (payload_out a damage) (passed (token_out a damage) k))
 
 abbrev pub place_of_answer : Attempt → Option Damage → ℕ
 place_of_answer a damage = answer_place (payload_in a damage)

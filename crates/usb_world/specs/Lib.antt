@@ -3,7 +3,7 @@ pub mod PluggedDevices
 pub mod PlanData
 pub mod Wire
 pub mod Exchange
-pub mod Answering
+pub mod HeardAnswers
 pub mod Losses
 pub mod Steps
 pub mod Paths
@@ -11,9 +11,9 @@ pub mod WayEffects
 pub mod SanePorts
 pub mod SaneProofs
 pub mod Passes
-pub mod Cut
-pub mod Exchanged
-pub mod Hinted
+pub mod CutPackets
+pub mod ExchangeEffects
+pub mod Hints
 pub mod Courses
 pub mod OneHolder
 pub mod FoundHolder
@@ -23,4 +23,4 @@ pub mod Devices
 pub mod PlanCourses
 pub mod AlikeTrees
 pub mod RestingPorts
-pub mod Alone
+pub mod LonePackets

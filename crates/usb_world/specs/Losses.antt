@@ -1,8 +1,11 @@
 -- How often a device lost the host's ACK at which it was to take its address.
-use Rattle.std.specs.Prelude.{ℕ, ◌+◌, ◌≤◌, max, Bool, List, if◌then◌else◌}
+use Rattle.std.specs.Prelude.{◌≡◌, ℕ, ◌+◌, ◌≤◌, max, Bool, List, if◌then◌else◌}
+use Rattle.usb_device.specs.Rows.{State}
+use Rattle.usb_device.specs.Transfer.{idle}
 use Rattle.usb_world.specs.declared.damage.Damage.{Damage}
 use Rattle.usb_world.specs.Wire.{damages_until}
 use Rattle.usb_world.specs.declared.losses.Losses.{Losses}
+use Rattle.usb_world.specs.World.{World}
 
 abbrev pub no_losses : Losses
 no_losses = record { all = 0; run = 0; worst = 0 }
@@ -23,3 +26,8 @@ pub record AreOfDamages (attempts : ℕ) (damages : List Damage) (l : Losses) : 
   pub all : l.all ≤ damages_until attempts damages
   pub run : l.run ≤ l.all
   pub worst : l.worst ≤ l.all
+
+-- a device has taken an address; or it has not, and one loss more is counted
+pub data TookOrLost (a : ℕ) (old new : World) (s v : State) : Type 0 where
+  took : v.stage ≡ idle → v.registers ≡ record s.registers { address = a } → new.losses ≡ old.losses → TookOrLost a old new s v
+  lost : v.stage ≡ s.stage → v.registers ≡ s.registers → new.losses ≡ one_more old.losses → TookOrLost a old new s v

@@ -15,17 +15,17 @@ use Rattle.usb_device.specs.declared.effect.Effect.TheVariants.{Leaves}
 use Rattle.usb_device.specs.Effect.{asked_by_setup}
 use Rattle.usb_device.specs.Rows.{State, Reply}
 use Rattle.usb_device.specs.Attempt.{Way, whole, broken, lost, is_whole, setup_law, out_law, in_law}
-use Rattle.usb_device.specs.Tree.{Ports, full, reach_at, state_at, place_at}
-use Rattle.usb_device.specs.Delivery.{hears}
+use Rattle.usb_device.specs.Tree.{Ports, state_on}
+use Rattle.usb_device.specs.Delivery.{hears, held, is_twice}
 use Rattle.usb_world.specs.declared.types.Attempt.{Attempt}
 use Rattle.usb_world.specs.declared.types.Outcome.{Outcome}
 use Rattle.usb_world.specs.declared.types.Outcome.TheVariants as outcome
 use Rattle.usb_world.specs.declared.damage.Damage.{Damage}
 use Rattle.usb_world.specs.declared.wire.Mark.{Mark}
 use Rattle.usb_world.specs.declared.wire.Mark.TheVariants as mark
-use Rattle.usb_world.specs.Paths.{address_of}
 use Rattle.usb_world.specs.Exchange.{token_out, payload_out, reply_in, reply_out, heard_in, mark_in, outcome_of, ports_in}
-use Rattle.usb_world.specs.Passes.{IsSettled, OneHolds}
+use Rattle.usb_world.specs.Passes.{IsSettled}
+use Rattle.usb_world.specs.FoundHolder.{Found}
 use Rattle.usb_world.specs.World.{World}
 use Rattle.usb_world.specs.Steps.{outcome_in, ready, attempt, after}
 
@@ -91,16 +91,17 @@ pub record IsIn (a : Attempt) : Type 0 where
   pub kind : a.kind ≡ InTok
   pub payload : a.payload ≡ None
 
--- between attempts one reachable device holds the address, and this is the device
-pub record Holder (n : ℕ) (k : Ports) (j : ℕ) (p : List ℕ) (b : PortState) (s : State) (below : Ports) : Type 0 where
+-- between attempts a reachable device holds the address, and no address is held twice
+pub record Holder (n : ℕ) (k : Ports) : Type 0 where
   pub settled : IsSettled k
-  pub one : OneHolds n k j p
-  pub stands : place_at k j p ≡ Some (full b s below)
+  pub single : is_twice (held k) ≡ false
+  pub found : Found n k
+  pub open found use *
 
 -- the host gets what the device answers, and the device is what it is then
-pub record ExchangedWithHolder (a : Attempt) (damage : Option Damage) (k : Ports) (j : ℕ) (p : List ℕ) (r : Reply) : Type 0 where
+pub record ExchangedWithHolder (a : Attempt) (damage : Option Damage) (k : Ports) (h : Holder a.addr k) (r : Reply) : Type 0 where
   pub outcome : outcome_of (heard_in a damage k) (mark_in a damage k) a.max ≡ got a.max r.0
-  pub state : state_at (ports_in a damage k) j p ≡ Some r.1
+  pub state : state_on (ports_in a damage k) h.spot ≡ Some r.1
 
 -- a device hears the packets of an attempt: they are at its speed, and at low speed with PRE where it stands deep
 abbrev pub hears_attempt : Attempt → Bool → State → Bool
@@ -122,30 +123,20 @@ pub record IsMade (a : Attempt) (w : World) : Type 0 where
   pub settled : IsSettled w.roots
 
 -- the device that holds its address when it is made; and no address is held twice
-pub record HolderIn (a : Attempt) (w : World) (j : ℕ) (p : List ℕ) (b : PortState) (s : State) (below : Ports) : Type 0 where
+pub record HolderIn (a : Attempt) (w : World) : Type 0 where
   pub made : IsMade a w
-  pub on : reach_at (ready w).roots j p ≡ true
-  pub stands : place_at (ready w).roots j p ≡ Some (full b s below)
-  pub at : address_of s ≡ a.addr
   pub single : (after (attempt a) w).shared ≡ false
+  pub found : Found a.addr (ready w).roots
+  pub open found use *
 
-pub record ExchangedIn (a : Attempt) (w : World) (j : ℕ) (p : List ℕ) (r : Reply) : Type 0 where
+pub record ExchangedIn (a : Attempt) (w : World) (h : HolderIn a w) (r : Reply) : Type 0 where
   pub outcome : outcome_in a w ≡ got a.max r.0
-  pub state : state_at (after (attempt a) w).roots j p ≡ Some r.1
-
--- one device that holds its address
-pub record SomeHolder (a : Attempt) (w : World) : Type 0 where
-  pub j : ℕ
-  pub p : List ℕ
-  pub b : PortState
-  pub s : State
-  pub below : Ports
-  pub holder : HolderIn a w j p b s below
+  pub state : state_on (after (attempt a) w).roots h.spot ≡ Some r.1
 
 -- one that is not silent
 pub record AttemptAnswerer (a : Attempt) (w : World) : Type 0 where
-  pub held : SomeHolder a w
-  pub loud : held.s.spec.silent ≡ false
+  pub holder : HolderIn a w
+  pub loud : holder.own.spec.silent ≡ false
 
 -- what SETUP makes the device ask of its ports: what the setup data say, where they are accepted
 abbrev pub setup_asked : Attempt → Option Damage → Bool → State → List ℕ → Effect

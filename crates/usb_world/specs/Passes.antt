@@ -8,7 +8,7 @@ use Rattle.usb_device.specs.declared.delivery.Content.TheVariants.{Whole, Broken
 use Rattle.usb_device.specs.declared.delivery.Sent.{Sent}
 use Rattle.usb_device.specs.Rows.{State, Reply}
 use Rattle.usb_device.specs.Attempt.{is_own}
-use Rattle.usb_device.specs.Tree.{Ports, Place, empty, full, acted, reach_at, state_at, place_at}
+use Rattle.usb_device.specs.Tree.{Ports, Place, empty, full, acted, reach_at, state_at, place_at, Spot, reach_on, state_on}
 use Rattle.usb_device.specs.Delivery.{answer_of, effect_of, listed, after_packet, answers, all_forgotten, held, is_twice, hears, reply_to}
 pub use Rattle.usb_device.specs.View.{forgotten_place}
 use Rattle.usb_world.specs.WayEffects.{resets_at, packet_spares, reset_if}
@@ -20,9 +20,9 @@ passed None k = k
 passed (Some q) k = after_packet q false k
 
 -- the answers to it
-abbrev pub told : Option Sent → Ports → List Answer
-told None k = []
-told (Some q) k = answers q false k
+abbrev pub answers_to : Option Sent → Ports → List Answer
+answers_to None k = []
+answers_to (Some q) k = answers q false k
 
 -- the ports after an attempt: the token, the host's data and its ACK
 abbrev pub after_attempt : Option Sent → Option Sent → Option Sent → Ports → Ports
@@ -123,16 +123,16 @@ abbrev pub NobodyHolds : ℕ → Ports → Type 0
 NobodyHolds n k = (i : ℕ) (e : List ℕ) (t : State) → state_at k i e ≡ Some t → reach_at k i e ≡ true → (n == address_of t) ≡ false
 
 -- one reachable device holds it, and no address is held twice
-pub record OneHolds (n : ℕ) (k : Ports) (j : ℕ) (p : List ℕ) : Type 0 where
+pub record OneHolds (n : ℕ) (k : Ports) (x : Spot) : Type 0 where
   pub single : is_twice (held k) ≡ false
-  pub on : reach_at k j p ≡ true
-  pub at : option_map address_of (state_at k j p) ≡ Some n
+  pub on : reach_on k x ≡ true
+  pub at : option_map address_of (state_on k x) ≡ Some n
 
 -- What an attempt does where one device holds its address: that device's answers are heard, and it is then as one
 -- device alone would be; another is reset by it, or as it was.
 pub record OneActs (t d r : Option Sent) (k : Ports) (j : ℕ) (p : List ℕ) : Type 0 where
-  pub first : told t k ≡ told_at t (deep_at false p) (place_at k j p)
-  pub second : told d (passed t k) ≡ told_at d (deep_at false p) (option_map (passed_place t (deep_at false p)) (place_at k j p))
+  pub first : answers_to t k ≡ told_at t (deep_at false p) (place_at k j p)
+  pub second : answers_to d (passed t k) ≡ told_at d (deep_at false p) (option_map (passed_place t (deep_at false p)) (place_at k j p))
   pub place : place_at (after_attempt t d r k) j p ≡ option_map (place_after t d r (deep_at false p)) (place_at k j p)
   pub on : reach_at (passed r (passed d (passed t k))) j p ≡ true
   pub others : (i : ℕ) (e : List ℕ) (s : State) → (same_number i j && same_path e p) ≡ false → state_at k i e ≡ Some s

@@ -1,7 +1,7 @@
 -- What a tree of ports says of a path: whether its way is powered, and whether a change of connection is pending on it.
 use Rattle.std.specs.Prelude.{◌≡◌, ℕ, zero, suc, ◌&&◌, ◌||◌, Bool, true, false, List, [], ◌∷◌, Some, option_map}
 use Rattle.usb_device.specs.Rows.{State}
-use Rattle.usb_device.specs.Tree.{Ports, ended, vacant, taken, reach_at, state_at}
+use Rattle.usb_device.specs.Tree.{Ports, ended, vacant, taken, Spot, reach_on, state_on}
 
 -- whether a port stands at a path, and it and each port on its way is powered
 unfoldable pub live_at : Ports → ℕ → List ℕ → Bool
@@ -61,14 +61,13 @@ on_way i e j p = same_number i j && is_way e p
 
 -- a reachable device at an address
 pub record HoldsAddress (k : Ports) (n : ℕ) : Type 0 where
-  pub i : ℕ
-  pub p : List ℕ
-  pub on : reach_at k i p ≡ true
-  pub at : option_map address_of (state_at k i p) ≡ Some n
+  pub spot : Spot
+  pub on : reach_on k spot ≡ true
+  pub at : option_map address_of (state_on k spot) ≡ Some n
 
 -- two devices at different places that hold one address
 pub record Two (k : Ports) : Type 0 where
   pub n : ℕ
   pub one : HoldsAddress k n
   pub other : HoldsAddress k n
-  pub differ : (same_number one.i other.i && same_path one.p other.p) ≡ false
+  pub differ : (same_number one.spot.row other.spot.row && same_path one.spot.rest other.spot.rest) ≡ false

@@ -4,7 +4,7 @@ use Rattle.std.specs.List.{starts_with}
 use Rattle.std.specs.Ordering.{is_eq}
 use Rattle.std.specs.Map.{lookup}
 use Rattle.std.specs.BTreeMap.{insert_entry}
-use Rattle.usb_port.specs.Order.{path_cmp, parent_of, port_of}
+use Rattle.usb_port.specs.Order.{path_cmp, parent_of, port_on_hub}
 use Rattle.usb_device.specs.Spec.{Spec, Hub}
 use Rattle.usb_world.specs.declared.event.Event.{Event}
 use Rattle.usb_world.specs.declared.event.Action.{Action}
@@ -19,12 +19,12 @@ abbrev pub index_at : PluggedMap → List ℕ → Option ℕ
 index_at tree path = lookup (λ p. is_eq (path_cmp path p)) tree
 
 -- without the device at a path and all below it
-unfoldable pub unplugged : List ℕ → PluggedMap → PluggedMap
-unplugged path tree = filter (λ place. not (starts_with nat_eq place.0 path)) tree
+unfoldable pub plugged_without : List ℕ → PluggedMap → PluggedMap
+plugged_without path tree = filter (λ place. not (starts_with nat_eq place.0 path)) tree
 
 abbrev pub plugged_after : Action → PluggedMap → PluggedMap
 plugged_after (Plug path device) tree = insert_entry path_cmp tree path device
-plugged_after (Unplug path) tree = unplugged path tree
+plugged_after (Unplug path) tree = plugged_without path tree
 plugged_after Show tree = tree
 plugged_after (Send path bytes) tree = tree
 plugged_after (Receive path packets) tree = tree
@@ -40,9 +40,9 @@ hub_ports None = 0
 hub_ports (Some hub) = hub.ports
 
 -- how many ports a device has
-unfoldable pub port_count : Option Spec → ℕ
-port_count None = 0
-port_count (Some device) = hub_ports device.hub
+unfoldable pub spec_port_count : Option Spec → ℕ
+spec_port_count None = 0
+spec_port_count (Some device) = hub_ports device.hub
 
 abbrev pub device_indexed : List Spec → Option ℕ → Option Spec
 device_indexed devices None = None
@@ -55,8 +55,8 @@ is_rooted roots path = nat_le (slice_index path 0) roots
 -- the device plugged at the parent's path has the port; a root port has no parent
 unfoldable pub parent_has : List Spec → PluggedMap → Option (List ℕ) → ℕ → Bool
 parent_has devices tree None port = true
-parent_has devices tree (Some parent) port = nat_le port (port_count (device_indexed devices (index_at tree parent)))
+parent_has devices tree (Some parent) port = nat_le port (spec_port_count (device_indexed devices (index_at tree parent)))
 
 -- a root port, or a port of a plugged device
 abbrev pub has_port : ℕ → List Spec → PluggedMap → List ℕ → Bool
-has_port roots devices tree path = is_rooted roots path && (length path == 1 || parent_has devices tree (parent_of path) (port_of path))
+has_port roots devices tree path = is_rooted roots path && (length path == 1 || parent_has devices tree (parent_of path) (port_on_hub path))

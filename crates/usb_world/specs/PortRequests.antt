@@ -4,6 +4,8 @@ use Rattle.arrayvec.specs.ArrayVec.{ArrayVec}
 use Rattle.usb_packet.specs.declared.Toggle.{Toggle}
 use Rattle.usb_packet.specs.declared.TokenKind.{TokenKind}
 use Rattle.usb_packet.specs.declared.TokenKind.TheVariants.{OutTok, InTok, SetupTok}
+use Rattle.usb_request.specs.Features.{PORT_ENABLE, PORT_RESET, PORT_POWER, C_PORT_ENABLE, C_PORT_RESET}
+use Rattle.usb_request.specs.Codes.{CLEAR_FEATURE, SET_FEATURE, SET_CONFIGURATION, DEVICE_OUT, PORT_OUT}
 use Rattle.usb_port.specs.PortState.{PortState}
 use Rattle.usb_request.specs.Layout.{setup_of}
 use Rattle.usb_request.specs.declared.setup.Setup.{Setup}
@@ -86,7 +88,7 @@ pub record StillSet (b : PortState) (o : Option PortState) : Type 0 where
 
 -- a request that asks nothing of ports: neither SetPortFeature nor ClearPortFeature, nor SetConfiguration
 abbrev pub is_plain : Setup → Bool
-is_plain r = not (Is r 0x23 3) && (not (Is r 0x23 1) && not (Is r 0 9))
+is_plain r = not (Is r PORT_OUT SET_FEATURE) && (not (Is r PORT_OUT CLEAR_FEATURE) && not (Is r DEVICE_OUT SET_CONFIGURATION))
 
 abbrev pub plain_payload : Option (Toggle × ArrayVec ℕ) → Bool
 plain_payload None = true
@@ -100,12 +102,12 @@ plain_data InTok o = true
 
 -- SetPortFeature or ClearPortFeature, of a port
 abbrev pub is_port_request : Setup → Bool
-is_port_request r = Is r 0x23 3 || Is r 0x23 1
+is_port_request r = Is r PORT_OUT SET_FEATURE || Is r PORT_OUT CLEAR_FEATURE
 
 -- PORT_RESET, PORT_POWER, and the clearing of PORT_ENABLE, C_PORT_ENABLE and C_PORT_RESET: of these the port itself keeps
 -- its power and its change of connection
 abbrev pub is_sparing : Setup → Bool
-is_sparing r = (Is r 0x23 3 && (r.value == 4 || r.value == 8)) || (Is r 0x23 1 && (r.value == 1 || (r.value == 17 || r.value == 20)))
+is_sparing r = (Is r PORT_OUT SET_FEATURE && (r.value == PORT_RESET || r.value == PORT_POWER)) || (Is r PORT_OUT CLEAR_FEATURE && (r.value == PORT_ENABLE || (r.value == C_PORT_ENABLE || r.value == C_PORT_RESET)))
 
 -- whether a path leads to another, and beyond it
 abbrev pub is_above : List ℕ → List ℕ → Bool

@@ -1,13 +1,12 @@
 -- The steps of a world: attempts, root calls, events and lines of report.
 use Rattle.std.specs.Prelude.{◌≡◌, ◌≢◌, ℕ, ◌+◌, ◌-◌, ◌==◌, nat_le, Bool, true, false, ◌&&◌, ◌||◌, not, if◌then◌else◌, List, [], ◌∷◌, slice_get, slice_set, unwrap_or, Option, Some, None, is_some, Result, Ok, Err, IfErr, All, ⊤}
-use Rattle.usb_port.specs.PortState.{set_row, clear_row}
-use Rattle.usb_device.specs.declared.calls.PortCall.{PortCall}
+use Rattle.usb_port.specs.declared.call.PortCall.{PortCall}
 use Rattle.usb_device.specs.declared.delivery.Sent.{Sent}
 use Rattle.usb_device.specs.Spec.{Spec, IsSpec}
-use Rattle.usb_device.specs.Calls.{set_call, clear_call}
+use Rattle.usb_port.specs.Calls.{set_call, clear_call, port_by}
 use Rattle.usb_device.specs.Tree.{Ports, new_ports, called, replaced, changed}
 use Rattle.usb_device.specs.Delivery.{held, is_twice, all_forgotten, is_clearing}
-use Rattle.usb_device.specs.Stopped.{Stopped}
+use Rattle.usb_device.specs.StoppedPackets.{Stopped}
 use Rattle.usb_world.specs.declared.damage.Damage.{Damage}
 use Rattle.usb_world.specs.declared.event.Due.{Due}
 use Rattle.usb_world.specs.declared.event.Due.TheVariants as due
@@ -199,11 +198,11 @@ pub record IsBetween (w : World) : Type 0 where
 -- a root call is its step, and one row of the port table at one root port (11.24.2)
 pub record SetsRoot (port feature : ℕ) (old new : World) : Type 0 where
   pub step : (c : PortCall) → set_call feature ≡ Some c → new ≡ after (root_call c port) old
-  pub row : root_row new ≡ slice_set (root_row old) (port - 1) (unwrap_or (set_row feature (root_port_at old port)) (root_port_at old port))
+  pub row : root_row new ≡ slice_set (root_row old) (port - 1) (port_by (set_call feature) (root_port_at old port))
 
 pub record ClearsRoot (port feature : ℕ) (old new : World) : Type 0 where
   pub step : (c : PortCall) → clear_call feature ≡ Some c → new ≡ after (root_call c port) old
-  pub row : root_row new ≡ slice_set (root_row old) (port - 1) (unwrap_or (clear_row feature (root_port_at old port)) (root_port_at old port))
+  pub row : root_row new ≡ slice_set (root_row old) (port - 1) (port_by (clear_call feature) (root_port_at old port))
 
 -- a plan's world before anything came
 abbrev pub opening : PlanData → World

@@ -4,12 +4,12 @@ use Rattle.std.specs.Prelude.{◌≡◌, ℕ, zero, suc, ◌&&◌, ◌||◌, not
 use Rattle.usb_port.specs.PortState.{PortState, is_attached, powered_off}
 use Rattle.usb_device.specs.declared.transfer.Memory.TheVariants.{Nothing}
 use Rattle.usb_device.specs.Rows.{State, reset_state}
-use Rattle.usb_device.specs.declared.calls.PortCall.{PortCall}
-use Rattle.usb_device.specs.declared.calls.PortCall.TheVariants.{SetReset, ClearPower, ClearConnectionChange}
+use Rattle.usb_port.specs.declared.call.PortCall.{PortCall}
+use Rattle.usb_port.specs.declared.call.PortCall.TheVariants.{SetReset, ClearPower, ClearConnectionChange}
 use Rattle.usb_device.specs.declared.effect.Effect.{Effect}
 use Rattle.usb_device.specs.declared.effect.Effect.TheVariants.{Leaves, Calls, PortsOff}
 use Rattle.usb_device.specs.Tree.{Ports, ended, vacant, taken, all_off, Place, empty, full, place_at}
-use Rattle.usb_device.specs.Calls.{is_reset, called_port}
+use Rattle.usb_port.specs.Calls.{is_reset, called_port}
 use Rattle.usb_device.specs.Delivery.{effect_of}
 use Rattle.usb_device.specs.declared.delivery.Sent.{Sent}
 use Rattle.usb_world.specs.Paths.{same_number}

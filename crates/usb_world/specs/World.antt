@@ -45,13 +45,6 @@ IsRootPort w port = (1 ≤ port) × (port ≤ length (root_row w))
 unfoldable pub root_port_at : World → ℕ → PortState
 root_port_at w port = slice_index_or (root_row w) (port - 1) off
 
--- PORT_RESET and PORT_POWER can be set; PORT_ENABLE, PORT_POWER and the change bits can be cleared
-abbrev pub IsSetFeature : ℕ → Type 0
-IsSetFeature feature = (feature ≡ 4) ⊎ (feature ≡ 8)
-
-abbrev pub IsClearFeature : ℕ → Type 0
-IsClearFeature feature = (feature ≡ 1) ⊎ (feature ≡ 8) ⊎ (feature ≡ 16) ⊎ (feature ≡ 17) ⊎ (feature ≡ 20)
-
 -- SETUP and OUT send data, IN does not
 abbrev pub sends_data : TokenKind → Bool
 sends_data OutTok = true

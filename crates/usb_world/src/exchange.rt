@@ -10,11 +10,11 @@ ghost use Rattle.usb_world.specs.Wire.{has_its_bit, marked, marked_some};
 ghost use Rattle.usb_world.specs.declared.wire.Mark.TheVariants.{Flipped};
 ghost use Rattle.usb_world.specs.Exchange.{ack_if, blank, token_of, payload_of, answer_place, answer_mark, reply_of, outcome_of, goes_out, token_out, payload_out, sent_as, is_lost, clears_at};
 ghost use Rattle.usb_world.specs.Passes.{IsSettled, passed};
-ghost use Rattle.usb_world.specs.Exchanged.{StaysPlugged, PacketWent, PacketsWent, Exchanged};
-ghost use Rattle.usb_world.specs.Cut.{IsStopped};
+ghost use Rattle.usb_world.specs.ExchangeEffects.{StaysPlugged, PacketWent, PacketsWent, Exchanged};
+ghost use Rattle.usb_world.specs.CutPackets.{IsStopped};
 ghost use Rattle.usb_world.specs.Steps.{IsCut};
-ghost use Rattle.usb_world.specs.Answering.{heard_from};
-ghost use Rattle.usb_world.specs.Alone.{AloneAt, IsQuiet, KeptAt, is_whole, is_deep};
+ghost use Rattle.usb_world.specs.HeardAnswers.{heard_above};
+ghost use Rattle.usb_world.specs.LonePackets.{AloneAt, IsQuiet, KeptAt, is_whole_tree, is_deep};
 
 use crate::damage::{Damage, Harm};
 use crate::wire::{Mark, Outgoing, flipped, harm_to, mark_of, marked};
@@ -34,9 +34,9 @@ pub enum Heard {
 }
 
 /// What was heard of the devices, as packets.
-#[tactic(auto, unfolding(crate::specs::Answering::heard_from))]
+#[tactic(auto, unfolding(crate::specs::HeardAnswers::heard_above))]
 fn put_answer(heard: usb_device::Heard, answer: &mut Heard)
-    ensures { answer.new ≡ heard_from heard }
+    ensures { answer.new ≡ heard_above heard }
 {
     match heard {
         usb_device::Heard::NoAnswer => *answer = Heard::Nothing,
@@ -163,7 +163,7 @@ fn end_attempt(roots: &mut Ports, path: &[u8]) -> Option<u8>
 
 /// Whether a path stands for the whole tree.
 fn is_whole(path: &[u8]) -> bool
-    ensures { result ≡ is_whole path.now }
+    ensures { result ≡ is_whole_tree path.now }
 {
     match path {
         [] => true,

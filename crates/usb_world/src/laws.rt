@@ -7,7 +7,7 @@ ghost use Rattle.usb_port.specs.PortState.{PortState};
 ghost use Rattle.usb_device.specs.Delivery.{held, is_twice};
 ghost use Rattle.usb_device.specs.Rows.{State};
 ghost use Rattle.usb_device.specs.Spec.{Spec};
-ghost use Rattle.usb_device.specs.Tree.{Ports, full, place_at, reach, reach_at, row_of, state_at};
+ghost use Rattle.usb_device.specs.Tree.{Ports, full, path_to, place_at, reach, reach_on, row_of, state_on, Spot};
 ghost use Rattle.usb_device.specs.View.{port_there, state_there};
 ghost use Rattle.usb_world.specs.declared.damage.Damage.{Damage};
 ghost use Rattle.usb_world.specs.declared.exchange.Heard.TheVariants.{Collision};
@@ -18,7 +18,7 @@ ghost use Rattle.usb_world.specs.Devices.{DidIn, DidOut, DidSetup, EachWas, Was}
 ghost use Rattle.usb_world.specs.Exchange.{heard_in, payload_out, token_out};
 ghost use Rattle.usb_world.specs.Paths.{is_way, live, pend};
 ghost use Rattle.usb_world.specs.OneHolder.{IsIn, IsMade, IsOut, IsSetup};
-ghost use Rattle.usb_world.specs.Passes.{IsSettled, passed, told};
+ghost use Rattle.usb_world.specs.Passes.{IsSettled, passed, answers_to};
 ghost use Rattle.usb_world.specs.PlanData.{IsPlan, PlanData};
 ghost use Rattle.usb_world.specs.PluggedDevices.{index_at, device_indexed, hub_ports, plugged_by};
 ghost use Rattle.usb_world.specs.PlanCourses.{AtPorts, FollowsPlan, spec_of};
@@ -73,10 +73,9 @@ pub fn what_an_attempt_does_to_a_device()
         → EachWas (DidOut a t bytes w) w (after (attempt a) w) }
     ensures setup { (a : Attempt) (w : World) (bytes : List ℕ) → IsMade a w → IsSetup a bytes
         → (after (attempt a) w).shared ≡ false
-        → (j : ℕ) (p : List ℕ) (s : State) → resets (attempt a) w (suc j ∷ p) ≡ false
-        → reach_at (after (attempt a) w).roots j p ≡ true
-        → state_at (after (attempt a) w).roots j p ≡ Some s
-        → Was (DidSetup a bytes w) w j p s }
+        → (x : Spot) (s : State) → resets (attempt a) w (path_to x) ≡ false
+        → reach_on (after (attempt a) w).roots x ≡ true
+        → state_on (after (attempt a) w).roots x ≡ Some s → Was (DidSetup a bytes w) w x s }
 {}
 
 /// The addresses stay, and nothing is shared, over a course of control transfers: steps that neither reset a device
@@ -92,7 +91,7 @@ pub fn control_courses_keep_addresses()
 pub fn one_device_at_most_answers()
     ensures answers { (a : Attempt) (d : Option Damage) (k : Ports) → IsAttempt a → IsSettled k
         → is_twice (held k) ≡ false
-        → length (told (token_out a d) k ++ told (payload_out a d) (passed (token_out a d) k)) ≤ 1 }
+        → length (answers_to (token_out a d) k ++ answers_to (payload_out a d) (passed (token_out a d) k)) ≤ 1 }
     ensures heard { (a : Attempt) (d : Option Damage) (k : Ports) → IsAttempt a → IsSettled k
         → is_twice (held k) ≡ false → heard_in a d k ≡ Collision → ⊥ }
     ensures line { (a : Attempt) (w : World) → IsAttempt a → IsMade a w

@@ -2,11 +2,11 @@
 ghost use Rattle.std.specs.Prelude.{◌≡◌, ℕ, [], true, false, IfOk, OnOk, OnErr};
 ghost use Rattle.usb_device.specs.Delivery.{held, is_twice};
 ghost use Rattle.usb_world.specs.World.{IsAttempt};
-ghost use Rattle.usb_world.specs.Exchanged.{StaysPlugged, Exchanged};
+ghost use Rattle.usb_world.specs.ExchangeEffects.{StaysPlugged, Exchanged};
 ghost use Rattle.usb_world.specs.Passes.{IsSettled};
 ghost use Rattle.usb_world.specs.Steps.{IsCut};
-ghost use Rattle.usb_world.specs.Alone.{IsWayTo};
-ghost use Rattle.usb_world.specs.Hinted.{path_in, way_in};
+ghost use Rattle.usb_world.specs.LonePackets.{IsWayTo};
+ghost use Rattle.usb_world.specs.Hints.{path_in, way_in};
 
 use crate::Attempt;
 use crate::damage::Damage;
@@ -24,7 +24,7 @@ pub struct Hints {
 
 impl Hints {
     /// None yet. An error: memory is refused.
-    #[tactic(auto, using(crate::proofs::Hinted::none_yet, crate::proofs::Hinted::still_none))]
+    #[tactic(auto, using(crate::proofs::HintedPaths::none_yet, crate::proofs::HintedPaths::still_none))]
     pub fn new(alloc: Global) -> Result<Self, AllocError>
         ensures { IfOk result (λ hints. (address : ℕ) → path_in hints address ≡ []) }
     {

@@ -2,19 +2,21 @@
 ghost use Rattle.std.specs.Prelude.{◌≡◌, ◌+◌, ◌-◌, ◌<◌, ◌≤◌, ◌∷◌, [], length, slice_index_or, true, false, None};
 ghost use Rattle.usb_port.specs.PortState.{off, status_of};
 ghost use Rattle.usb_device.specs.Tree.{row_of};
-ghost use Rattle.usb_world.specs.World.{Attempted, IsAttempt, IsRootPort, IsSetFeature, IsClearFeature};
+ghost use Rattle.usb_port.specs.Calls.{IsSetFeature, IsClearFeature};
+ghost use Rattle.usb_world.specs.World.{Attempted, IsAttempt, IsRootPort};
 ghost use Rattle.usb_device.specs.Delivery.{held, is_clearing, is_twice};
 ghost use Rattle.usb_world.specs.Steps.{AttemptFails, SetsRoot, ClearsRoot, after, root_call};
 ghost use Rattle.usb_world.specs.Passes.{IsSettled};
 ghost use Rattle.usb_world.specs.SanePorts.{IsSane};
-ghost use Rattle.usb_bus.specs.Traced.{Attempts};
+ghost use Rattle.usb_bus.specs.Traces.{Attempts};
 ghost use Rattle.usb_bus.specs.Watch.{has_failed};
 ghost use Rattle.usb_world.specs.declared.types.BusFault.TheVariants.{TraceFailed};
 
 use super::SimBus;
 use crate::{Attempt, Bus, BusFault, Outcome};
 use std::io::Write;
-use usb_device::{PortCall, Ports};
+use usb_device::Ports;
+use usb_port::PortCall;
 use usb_world::{damage_of, make_exchange_by, outcome_of};
 
 impl<W: Write> Bus for SimBus<W> {

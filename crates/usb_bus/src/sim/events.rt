@@ -6,7 +6,7 @@ ghost use Rattle.usb_world.specs.Steps.{after, event, happened, has_due};
 ghost use Rattle.usb_world.specs.PlanData.{can_be_done};
 ghost use Rattle.usb_bus.specs.Lines.{action_line};
 ghost use Rattle.usb_bus.specs.Trace.{plug_line, unplug_line};
-ghost use Rattle.usb_bus.specs.Traced.{TakesEvent};
+ghost use Rattle.usb_bus.specs.Traces.{TakesEvent};
 ghost use Rattle.usb_bus.specs.Tracer.{writer_in};
 ghost use Rattle.usb_bus.specs.Watch.{has_failed, PutsText};
 ghost use Rattle.usb_world.specs.declared.types.BusFault.TheVariants.{Memory, TraceFailed};

@@ -1,10 +1,10 @@
 use Rattle.std.proofs.Common.{◌+◌, ◌*◌}
-use Rattle.usb_device.specs.Places.{ports_in}
+use Rattle.usb_device.specs.Places.{ports_kept}
 use Rattle.usb_device.proofs.Nodes.{nodes, nodes_in}
 use Rattle.usb_device.proofs.+clearing.Given as goal
 
 abbrev pub decreases-clearing::any_clears : goal.decreases-clearing::any_clears
-decreases-clearing::any_clears l = 4 * nodes (ports_in l.places.now)
+decreases-clearing::any_clears l = 4 * nodes (ports_kept l.places.now)
 
 abbrev pub decreases-ports::Ports::clears : goal.decreases-ports::Ports::clears
 decreases-ports::Ports::clears l = 4 * nodes l.self.now + 1

@@ -1,10 +1,10 @@
 use Rattle.std.proofs.Common.{◌+◌, ◌*◌}
-use Rattle.usb_device.specs.Places.{ports_in}
+use Rattle.usb_device.specs.Places.{ports_kept}
 use Rattle.usb_device.proofs.Nodes.{nodes, nodes_in}
 use Rattle.usb_device.proofs.+deliver.Given as goal
 
 abbrev pub decreases-delivery::deliver_all : goal.decreases-delivery::deliver_all
-decreases-delivery::deliver_all l = 4 * nodes (ports_in l.places.now)
+decreases-delivery::deliver_all l = 4 * nodes (ports_kept l.places.now)
 
 abbrev pub decreases-ports::Ports::pass : goal.decreases-ports::Ports::pass
 decreases-ports::Ports::pass l = 4 * nodes l.self.now + 1

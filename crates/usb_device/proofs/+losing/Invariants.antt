@@ -1,10 +1,10 @@
 use Rattle.std.proofs.Common.{◌+◌, ◌*◌}
-use Rattle.usb_device.specs.Places.{ports_in}
+use Rattle.usb_device.specs.Places.{ports_kept}
 use Rattle.usb_device.proofs.Nodes.{nodes, nodes_in}
 use Rattle.usb_device.proofs.+losing.Given as goal
 
 abbrev pub decreases-between::any_loses : goal.decreases-between::any_loses
-decreases-between::any_loses l = 3 * nodes (ports_in l.places.now)
+decreases-between::any_loses l = 3 * nodes (ports_kept l.places.now)
 
 abbrev pub decreases-ports::Ports::has_address_loss : goal.decreases-ports::Ports::has_address_loss
 decreases-ports::Ports::has_address_loss l = 3 * nodes l.self.now + 1

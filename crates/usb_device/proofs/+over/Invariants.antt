@@ -1,10 +1,10 @@
 use Rattle.std.proofs.Common.{◌+◌, ◌*◌}
-use Rattle.usb_device.specs.Places.{ports_in}
+use Rattle.usb_device.specs.Places.{ports_kept}
 use Rattle.usb_device.proofs.Nodes.{nodes}
 use Rattle.usb_device.proofs.+over.Given as goal
 
 abbrev pub decreases-between::forget_all : goal.decreases-between::forget_all
-decreases-between::forget_all l = 3 * nodes (ports_in l.places.now)
+decreases-between::forget_all l = 3 * nodes (ports_kept l.places.now)
 
 abbrev pub decreases-ports::Ports::attempt_over : goal.decreases-ports::Ports::attempt_over
 decreases-ports::Ports::attempt_over l = 3 * nodes l.self.now + 1

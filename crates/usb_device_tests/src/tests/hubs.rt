@@ -7,7 +7,7 @@ use super::steps::Step::{
     Answers, Asks, ChildAddress, Gets, Plugs, PortBytes, Registers, Reset, ResetsChild,
     TakesAddress, Unplugs,
 };
-use usb_device::PortCall;
+use usb_port::PortCall;
 
 const SET_CONFIGURATION: &[u8] = &[0, 9, 1, 0, 0, 0, 0, 0];
 

@@ -9,7 +9,8 @@ use TreeStep::{
 };
 use std::alloc::{AllocError, Global};
 use std::test::Fail;
-use usb_device::{Passing, PortCall, Ports};
+use usb_device::{Passing, Ports};
+use usb_port::PortCall;
 
 #[derive(Clone, Copy)]
 enum TreeStep {

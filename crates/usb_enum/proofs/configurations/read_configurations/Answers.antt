@@ -3,9 +3,9 @@ use Rattle.std.proofs.lemmas.Grind.{common_steps}
 use Rattle.usb_enum.specs.declared.fault.EnumFault.TheVariants.{Memory}
 use Rattle.usb_enum.specs.declared.stop.Stop.TheVariants.{Fault}
 use Rattle.usb_enum.specs.Bounds.{configuration_bound}
-use Rattle.usb_enum.specs.Learned.{Learns}
+use Rattle.usb_enum.specs.LearnedFacts.{Learns}
 use Rattle.usb_enum.specs.Readings.{AtMaximum, HasConfigurations}
-use Rattle.usb_enum.specs.Text.{has_value}
+use Rattle.usb_enum.specs.Text.{any_has_value}
 use Rattle.usb_bus.proofs.Interface.{went_none}
 use Rattle.usb_enum.proofs.Frames.{asks_none, asks_then}
 use Rattle.usb_enum.proofs.Counts.{went_again, went_times, went_more}
@@ -28,7 +28,7 @@ pub loop-index-preserved : goal.loop-index-preserved
 loop-index-preserved g c =
     let texts = c.loop-index.texts in
     let text = c.in_ok-text.text in
-    let P : ℕ → Type 0 = λ value. has_value value texts ≡ false in
+    let P : ℕ → Type 0 = λ value. any_has_value value texts ≡ false in
     let differs = subst P c.value.ensures (sym c.has_value.ensures ∙ c.if-has_value.false) in
     record {
       went = went_again _ configuration_bound _ _ _ c.loop-index.invariant.went c.read_text.ensures.went;
@@ -77,7 +77,7 @@ returns-in_err-text-clause-learned g c =
 
 pub returns-then-has_value-clause-learned : goal.returns-then-has_value-clause-learned
 returns-then-has_value-clause-learned g c =
-    let P : ℕ → Type 0 = λ value. has_value value c.loop-index.texts ≡ true in
+    let P : ℕ → Type 0 = λ value. any_has_value value c.loop-index.texts ≡ true in
     repeated_refused c.args.target c.loop-index.index c.args.count _ c.loop-index.texts c.in_ok-text.text
     (g.B.Bus.world c.args.bus.now) (g.B.Bus.world c.loop-index.bus) (g.B.Bus.world c.read_text.new.bus)
     c.loop-index-test.true (subst P c.value.ensures (sym c.has_value.ensures ∙ c.if-has_value.true))

@@ -1,8 +1,8 @@
 use Rattle.std.proofs.Common.{◌≡◌, ◌*◌, length}
-use Rattle.usb_bus.specs.Traced.{Went}
+use Rattle.usb_bus.specs.Traces.{Went}
 use Rattle.usb_enum.specs.Frames.{OnlyAsks}
 use Rattle.usb_enum.specs.Bounds.{configuration_bound}
-use Rattle.usb_enum.specs.Learned.{Learns}
+use Rattle.usb_enum.specs.LearnedFacts.{Learns}
 use Rattle.usb_enum.specs.Readings.{AtMaximum, HasConfigurations}
 use Rattle.usb_enum.specs.Text.{ValuesDiffer}
 use Rattle.usb_enum.proofs.configurations.read_configurations.Given as goal

@@ -1,16 +1,16 @@
 use Rattle.std.proofs.Common.{◌∙◌, arith, sym}
 use Rattle.usb_bus.proofs.Interface.{went_wider}
-use Rattle.usb_hub.specs.Asked.{config_given}
+use Rattle.usb_hub.specs.GivenAnswers.{config_given}
 use Rattle.usb_enum.proofs.Frames.{asks_then, text_asks}
 use Rattle.usb_enum.specs.Stop.{StopTold}
 use Rattle.usb_enum.proofs.Counts.{text_went}
 use Rattle.usb_enum.specs.Readings.{AtMaximum, HasTotal}
-use Rattle.usb_enum.specs.Described.{config_fault}
+use Rattle.usb_enum.specs.Verdicts.{config_fault}
 use Rattle.usb_enum.specs.Refusals.{Refuses}
 use Rattle.usb_enum.proofs.ConfigRefusals.{config_refused, text_refused}
 use Rattle.usb_enum.proofs.Readings.{configuration_learned}
 use Rattle.usb_enum.proofs.Refusals.{handed_match, explains_on}
-use Rattle.usb_enum.proofs.Told.{handed_on, refused_told}
+use Rattle.usb_enum.proofs.ToldFailures.{handed_on, refused_told}
 use Rattle.usb_enum.proofs.configurations.read_text.Goals as goal
 
 pub returns-in_err-bytes-clause-went : goal.returns-in_err-bytes-clause-went

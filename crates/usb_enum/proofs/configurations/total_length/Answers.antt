@@ -1,13 +1,13 @@
 use Rattle.std.proofs.Common.{◌∙◌, ap, sym}
 use Rattle.usb_descriptor.specs.Config.{config_head_of}
 use Rattle.usb_enum.specs.Stop.{StopTold}
-use Rattle.usb_hub.specs.Asked.{config_given}
+use Rattle.usb_hub.specs.GivenAnswers.{config_given}
 use Rattle.usb_enum.proofs.Frames.{text_asks}
 use Rattle.usb_enum.proofs.Counts.{read_went}
 use Rattle.usb_enum.proofs.ConfigRefusals.{config_refused, total_refused}
 use Rattle.usb_enum.proofs.Readings.{total_learned}
 use Rattle.usb_enum.proofs.Refusals.{handed_match}
-use Rattle.usb_enum.proofs.Told.{handed_on, refused_told}
+use Rattle.usb_enum.proofs.ToldFailures.{handed_on, refused_told}
 use Rattle.usb_enum.proofs.configurations.total_length.Goals as goal
 
 pub returns-in_err-head-clause-went : goal.returns-in_err-head-clause-went

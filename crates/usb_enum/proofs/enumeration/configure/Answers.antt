@@ -3,7 +3,7 @@ use Rattle.std.proofs.lemmas.List.{get_or_read}
 use Rattle.usb_descriptor.specs.Config.{configuration_value}
 use Rattle.usb_enum.specs.declared.fault.EnumFault.TheVariants.{Memory}
 use Rattle.usb_enum.specs.declared.stop.Stop.TheVariants.{Fault}
-use Rattle.usb_enum.specs.Learned.{Learns}
+use Rattle.usb_enum.specs.LearnedFacts.{Learns}
 use Rattle.usb_enum.specs.Readings.{AtMaximum, HasConfigurations}
 use Rattle.usb_enum.specs.Refusals.{configured_fault}
 use Rattle.usb_enum.proofs.Refusals.{fault_explains, handed_match}
@@ -15,7 +15,7 @@ use Rattle.usb_enum.proofs.Counts.{went_on}
 use Rattle.usb_enum.specs.Stop.{ToldOfDevice}
 use Rattle.usb_enum.proofs.Hubs.{answered_ok, told_of_hub}
 use Rattle.usb_enum.proofs.Powers.{empties_ports}
-use Rattle.usb_enum.proofs.Told.{handed_on, refused_told, told_of_device}
+use Rattle.usb_enum.proofs.ToldFailures.{handed_on, refused_told, told_of_device}
 use Rattle.usb_enum.proofs.enumeration.configure.Goals as goal
 
 pub returns-in_err-fits_tier-clause-went : goal.returns-in_err-fits_tier-clause-went

@@ -6,7 +6,7 @@ use Rattle.usb_resources.specs.Pool.{HasAddresses, IsFull}
 use Rattle.usb_enum.proofs.Endings.{zero_untaken, zero_before, free_untaken, enumerated, given_up, none_true, found_true, device_placed, refused_placed, device_warranted, stopped_warranted}
 use Rattle.usb_enum.proofs.Frames.{calls_then}
 use Rattle.usb_enum.specs.Refusals.{unaddressed_fault, whole_fault}
-use Rattle.usb_enum.proofs.Warranting.{unaddressed_right, whole_right}
+use Rattle.usb_enum.proofs.Warrants.{unaddressed_right, whole_right}
 use Rattle.usb_enum.proofs.enumeration.enumerate.Goals as goal
 
 pub returns-in_default-clause-ends : goal.returns-in_default-clause-ends

@@ -6,7 +6,7 @@ use Rattle.usb_enum.specs.Refusals.{addressed_fault, whole_fault}
 use Rattle.usb_enum.proofs.Fairness.{stops_wider}
 use Rattle.usb_enum.proofs.Refusals.{handed_match, matched_ok}
 use Rattle.usb_enum.proofs.Truths.{accepted}
-use Rattle.usb_enum.proofs.Warranting.{addressed_verdict, configured_err, matched}
+use Rattle.usb_enum.proofs.Warrants.{addressed_verdict, configured_err, matched}
 use Rattle.usb_enum.proofs.enumeration.examine.Goals as goal
 
 pub returns-clause-within : goal.returns-clause-within

@@ -1,6 +1,6 @@
 use Rattle.usb_enum.specs.Refusals.{early_fault, unaddressed_fault}
 use Rattle.usb_enum.proofs.Fairness.{stops_wider}
-use Rattle.usb_enum.proofs.Warranting.{none_free, unaddressed_early}
+use Rattle.usb_enum.proofs.Warrants.{none_free, unaddressed_early}
 use Rattle.usb_enum.proofs.enumeration.without_address.Goals as goal
 
 pub returns-in-Ok-clause-why : goal.returns-in-Ok-clause-why

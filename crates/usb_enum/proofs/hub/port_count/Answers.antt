@@ -1,7 +1,7 @@
 use Rattle.std.proofs.Common.{◌∙◌, ap, sym}
-use Rattle.usb_descriptor.specs.Hub.{hub_of}
+use Rattle.usb_descriptor.specs.Hub.{hub_spelled}
 use Rattle.usb_enum.specs.declared.cause.Cause.TheVariants.{BadHub}
-use Rattle.usb_hub.specs.Asked.{hub_given}
+use Rattle.usb_hub.specs.GivenAnswers.{hub_given}
 use Rattle.usb_enum.proofs.Frames.{text_asks}
 use Rattle.usb_enum.proofs.Counts.{read_went}
 use Rattle.usb_enum.proofs.Hubs.{count_told}
@@ -49,5 +49,5 @@ pub returns-clause-learned : goal.returns-clause-learned
 returns-clause-learned g c =
     count_refused c.args.target BadHub c.hub_descriptor.result c.in_ok-bytes.bytes c.in-Err.field-0 (g.B.Bus.world c.args.bus.now) (g.B.Bus.world c.hub_descriptor.new.bus)
     (sym c.answered_or.ensures ∙ c.in_ok-bytes.was)
-    (ap hub_of (sym c.as_slice.ensures.value) ∙ sym c.read_hub.ensures.answer ∙ c.in-Err.is)
+    (ap hub_spelled (sym c.as_slice.ensures.value) ∙ sym c.read_hub.ensures.answer ∙ c.in-Err.is)
     c.hub_descriptor.ensures.what

@@ -1,6 +1,6 @@
 use Rattle.std.proofs.Common.{◌≡◌, ◌∙◌, Some, sym}
 use Rattle.usb_enum.specs.declared.cause.Cause.TheVariants.{BadHub}
-use Rattle.usb_hub.specs.Asked.{status_given}
+use Rattle.usb_hub.specs.GivenAnswers.{status_given}
 use Rattle.usb_enum.proofs.Frames.{answer_asks}
 use Rattle.usb_enum.proofs.Counts.{read_went}
 use Rattle.usb_enum.proofs.HubReadings.{supply_learned}

@@ -1,5 +1,5 @@
 use Rattle.std.proofs.Common.{◌∙◌, sym}
-use Rattle.usb_enum.specs.Learned.{ExplainsSet}
+use Rattle.usb_enum.specs.LearnedFacts.{ExplainsSet}
 use Rattle.usb_enum.specs.Refusals.{RefusesNoPort}
 use Rattle.usb_enum.proofs.Frames.{power_tells}
 use Rattle.usb_enum.proofs.PortRefusals.{power_explains}

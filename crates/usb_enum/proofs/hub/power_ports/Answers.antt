@@ -4,10 +4,10 @@ use Rattle.usb_enum.specs.Bounds.{none_bound}
 use Rattle.usb_enum.proofs.Counts.{went_again, went_times, went_more}
 use Rattle.usb_enum.proofs.Hubs.{powered_more}
 use Rattle.usb_enum.proofs.Frames.{tells_none, tells_then}
-use Rattle.usb_enum.specs.Learned.{ExplainsSet}
+use Rattle.usb_enum.specs.LearnedFacts.{ExplainsSet}
 use Rattle.usb_enum.specs.Refusals.{RefusesNoPort}
 use Rattle.usb_enum.proofs.PortRefusals.{powering_explains}
-use Rattle.usb_enum.proofs.Told.{handed_on}
+use Rattle.usb_enum.proofs.ToldFailures.{handed_on}
 use Rattle.usb_enum.proofs.hub.power_ports.Goals as goal
 
 pub ports-init : goal.ports-init

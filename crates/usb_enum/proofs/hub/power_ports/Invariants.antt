@@ -1,5 +1,5 @@
 use Rattle.std.proofs.Common.{◌*◌}
-use Rattle.usb_bus.specs.Traced.{Went}
+use Rattle.usb_bus.specs.Traces.{Went}
 use Rattle.usb_enum.specs.Frames.{OnlyTells}
 use Rattle.usb_enum.specs.Bounds.{none_bound}
 use Rattle.usb_enum.specs.Hub.{Powered}

@@ -8,11 +8,11 @@ use Rattle.usb_enum.specs.Stop.{StopTold}
 use Rattle.usb_enum.specs.Refusals.{FindsDescriptor, RefusesDescriptor}
 use Rattle.usb_enum.proofs.DeviceRefusals.{descriptor_unanswered, descriptor_none, descriptor_refused, descriptor_found, no_answer, some_answer, answered_who, refused_who, short_device}
 use Rattle.usb_enum.proofs.Heads.{bytes_answered}
-use Rattle.usb_hub.specs.Asked.{device_given}
+use Rattle.usb_hub.specs.GivenAnswers.{device_given}
 use Rattle.usb_enum.proofs.Frames.{text_asks}
-use Rattle.usb_enum.proofs.Told.{handed_on, refused_told, device_told, device_good}
+use Rattle.usb_enum.proofs.ToldFailures.{handed_on, refused_told, device_told, device_good}
 use Rattle.usb_enum.proofs.Refusals.{handed_match}
-use Rattle.usb_enum.proofs.Told.{handed_on, refused_told, device_told, device_good}
+use Rattle.usb_enum.proofs.ToldFailures.{handed_on, refused_told, device_told, device_good}
 use Rattle.usb_enum.proofs.passes.descriptor.Goals as goal
 
 pub returns-then-eq-clause-went : goal.returns-then-eq-clause-went

@@ -4,11 +4,11 @@ use Rattle.usb_enum.specs.Stop.{StopTold}
 use Rattle.usb_enum.proofs.Counts.{read_went}
 use Rattle.usb_enum.proofs.DeviceRefusals.{head_unanswered, head_refused}
 use Rattle.usb_enum.proofs.Heads.{head_answered}
-use Rattle.usb_hub.specs.Asked.{device_given}
+use Rattle.usb_hub.specs.GivenAnswers.{device_given}
 use Rattle.usb_enum.proofs.Frames.{text_asks}
 use Rattle.usb_enum.proofs.Refusals.{handed_match}
 use Rattle.usb_enum.proofs.Stretches.{device_goes}
-use Rattle.usb_enum.proofs.Told.{handed_on, refused_told}
+use Rattle.usb_enum.proofs.ToldFailures.{handed_on, refused_told}
 use Rattle.usb_enum.proofs.passes.first_maximum.Goals as goal
 
 pub returns-in_err-bytes-clause-went : goal.returns-in_err-bytes-clause-went

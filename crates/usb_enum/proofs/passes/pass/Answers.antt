@@ -3,7 +3,7 @@ use Rattle.usb_world.specs.Devices.{EachWas}
 use Rattle.usb_hub.specs.Settings.{AddressAsked}
 use Rattle.usb_enum.proofs.Hubs.{answered_ok}
 use Rattle.usb_enum.proofs.Presence.{address_finds}
-use Rattle.usb_enum.proofs.Reaching.{reaches_addressed, reaches_rest}
+use Rattle.usb_enum.proofs.ReachedDevices.{reaches_addressed, reaches_rest}
 use Rattle.usb_bus.proofs.Interface.{went_then, went_wider}
 use Rattle.usb_enum.specs.Stop.{StopToldAt}
 use Rattle.usb_enum.proofs.Counts.{went_on}
@@ -12,8 +12,8 @@ use Rattle.usb_enum.proofs.Frames.{at_addressed, at_asked, at_then}
 use Rattle.usb_enum.specs.Refusals.{addressed_fault, early_fault}
 use Rattle.usb_enum.proofs.Fairness.{stops_wider}
 use Rattle.usb_enum.proofs.Refusals.{handed_match}
-use Rattle.usb_enum.proofs.Stopping.{address_stops, addressed_early, descriptor_stops, pass_misses}
-use Rattle.usb_enum.proofs.Told.{handed_on, refused_told, told_at}
+use Rattle.usb_enum.proofs.StopReasons.{address_stops, addressed_early, descriptor_stops, pass_misses}
+use Rattle.usb_enum.proofs.ToldFailures.{handed_on, refused_told, told_at}
 use Rattle.usb_enum.proofs.passes.pass.Goals as goal
 
 pub returns-in_err-answered_or-clause-within : goal.returns-in_err-answered_or-clause-within

@@ -6,11 +6,11 @@ use Rattle.usb_enum.proofs.Counts.{went_again, went_times, went_more}
 use Rattle.usb_enum.proofs.Enumerations.{takes_after}
 use Rattle.usb_enum.proofs.Frames.{at_none, at_then}
 use Rattle.usb_enum.proofs.Presence.{finds_after}
-use Rattle.usb_enum.proofs.Reaching.{reaches_after}
-use Rattle.usb_enum.specs.Fair.{Misses}
+use Rattle.usb_enum.proofs.ReachedDevices.{reaches_after}
+use Rattle.usb_enum.specs.FairEnumerations.{Misses}
 use Rattle.usb_enum.specs.Refusals.{addressed_fault}
 use Rattle.usb_enum.proofs.Refusals.{handed_match}
-use Rattle.usb_enum.proofs.Stopping.{misses_none, misses_then, stops_then, thrice_missed}
+use Rattle.usb_enum.proofs.StopReasons.{misses_none, misses_then, stops_then, thrice_missed}
 use Rattle.usb_enum.proofs.passes.passes.Goals as goal
 
 pub loop-pass-init : goal.loop-pass-init

@@ -1,8 +1,8 @@
 use Rattle.std.proofs.Common.{◌*◌}
-use Rattle.usb_bus.specs.Traced.{Went}
+use Rattle.usb_bus.specs.Traces.{Went}
 use Rattle.usb_enum.specs.Addresses.{AtPort}
 use Rattle.usb_enum.specs.Bounds.{pass_bound}
-use Rattle.usb_enum.specs.Fair.{Misses}
+use Rattle.usb_enum.specs.FairEnumerations.{Misses}
 use Rattle.usb_enum.proofs.passes.passes.Given as goal
 
 abbrev pub invariant-loop-pass : goal.invariant-loop-pass

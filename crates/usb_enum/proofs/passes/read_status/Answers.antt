@@ -5,7 +5,7 @@ use Rattle.usb_enum.specs.Stop.{FaultAt}
 use Rattle.usb_port.specs.declared.status.PortStatus.{PortStatus}
 use Rattle.usb_enum.proofs.Frames.{status_asks}
 use Rattle.usb_enum.proofs.Stretches.{status_goes}
-use Rattle.usb_enum.proofs.Told.{port_told, read_fails}
+use Rattle.usb_enum.proofs.ToldFailures.{port_told, read_fails}
 use Rattle.usb_enum.proofs.passes.read_status.Goals as goal
 
 pub returns-clause-went : goal.returns-clause-went

@@ -1,16 +1,17 @@
 use Rattle.std.proofs.Common.{arith}
+use Rattle.usb_request.specs.Features.{PORT_RESET, C_PORT_RESET}
 use Rattle.usb_bus.proofs.Interface.{went_then, went_wider}
 use Rattle.usb_hub.proofs.Interface.{port_stays}
 use Rattle.usb_enum.proofs.Counts.{went_on}
 use Rattle.usb_enum.proofs.Frames.{at_reset, at_asked, at_then}
 use Rattle.usb_enum.proofs.Presence.{reset_finds}
-use Rattle.usb_enum.proofs.Reaching.{reset_reaches}
-use Rattle.usb_device.specs.Calls.{set_call, clear_call}
+use Rattle.usb_enum.proofs.ReachedDevices.{reset_reaches}
+use Rattle.usb_port.specs.Calls.{set_call, clear_call}
 use Rattle.usb_enum.specs.Refusals.{no_fault}
 use Rattle.usb_enum.specs.declared.stop.Stop.TheVariants.{Fault}
 use Rattle.usb_enum.proofs.Fairness.{called_faulted, faulted_after, status_faulted, stops_faulted}
 use Rattle.usb_enum.proofs.Refusals.{handed_match}
-use Rattle.usb_enum.proofs.Stopping.{reset_goes, reset_lost, settle_failed, unfalse}
+use Rattle.usb_enum.proofs.StopReasons.{reset_goes, reset_lost, settle_failed, unfalse}
 use Rattle.usb_world.proofs.Interface.{not_true}
 use Rattle.usb_enum.proofs.passes.reset.Goals as goal
 
@@ -54,7 +55,7 @@ pub returns-in_err-begin_reset-clause-found : goal.returns-in_err-begin_reset-cl
 returns-in_err-begin_reset-clause-found g c =
     handed_match c.from_residual.result _ _ (Fault c.in_err-begin_reset.field-0.0) c.from_residual.ensures.1
     (λ a. stops_faulted no_fault c.args.port a c.in_err-begin_reset.field-0.0 _ _
-    (called_faulted c.args.port a _ (set_call 4) c.in_err-begin_reset.field-0.0 c.begin_reset.ensures.went (at_reset _ a _ _ c.begin_reset.ensures.resets (c.begin_reset.ensures.only a)) c.in_err-begin_reset.ensures.told c.in_err-begin_reset.ensures.calls))
+    (called_faulted c.args.port a _ (set_call PORT_RESET) c.in_err-begin_reset.field-0.0 c.begin_reset.ensures.went (at_reset _ a _ _ c.begin_reset.ensures.resets (c.begin_reset.ensures.only a)) c.in_err-begin_reset.ensures.told c.in_err-begin_reset.ensures.calls))
 
 pub returns-in_err-status-clause-found : goal.returns-in_err-status-clause-found
 returns-in_err-status-clause-found g c =
@@ -76,7 +77,7 @@ returns-in_err-settle-clause-found g c =
     let told = at_then _ a _ _ _ _ begun c.read_status.ensures.went (at_asked _ a _ _ c.read_status.ensures.keeps) in
     stops_faulted no_fault c.args.port a c.in_err-settle.field-0.0 _ _
     (faulted_after c.args.port a _ _ c.in_err-settle.field-0.0 (went_then _ _ c.begin_reset.ensures.went c.read_status.ensures.went) c.settle.ensures.went told
-    (called_faulted c.args.port a _ (clear_call 20) c.in_err-settle.field-0.0 c.settle.ensures.went (c.settle.ensures.within a) c.in_err-settle.ensures.told
+    (called_faulted c.args.port a _ (clear_call C_PORT_RESET) c.in_err-settle.field-0.0 c.settle.ensures.went (c.settle.ensures.within a) c.in_err-settle.ensures.told
     (settle_failed c.args.port c.in_ok-status.status.reset_changed c.in_err-settle.field-0.0 _ _ c.in_err-settle.ensures.calls))))
 
 pub returns-clause-found : goal.returns-clause-found

@@ -5,10 +5,10 @@ use Rattle.usb_enum.proofs.Frames.{at_asked, at_then}
 use Rattle.usb_enum.proofs.Presence.{unaddressed_finds}
 use Rattle.usb_enum.specs.Refusals.{early_fault, no_fault}
 use Rattle.usb_enum.proofs.Fairness.{stops_wider}
-use Rattle.usb_enum.proofs.Reaching.{reaches_rest}
+use Rattle.usb_enum.proofs.ReachedDevices.{reaches_rest}
 use Rattle.usb_enum.proofs.Refusals.{handed_match}
 use Rattle.usb_enum.proofs.Courses.{went_sound}
-use Rattle.usb_enum.proofs.Stopping.{head_stops}
+use Rattle.usb_enum.proofs.StopReasons.{head_stops}
 use Rattle.usb_enum.proofs.Stretches.{goes_then}
 use Rattle.usb_enum.specs.Device.{needs_pre}
 use Rattle.usb_enum.proofs.passes.unaddressed.Goals as goal

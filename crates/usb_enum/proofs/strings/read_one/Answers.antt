@@ -5,7 +5,7 @@ use Rattle.usb_enum.specs.declared.fault.EnumFault.TheVariants.{Memory}
 use Rattle.usb_enum.specs.declared.stop.Stop.TheVariants.{Fault}
 use Rattle.usb_enum.specs.Readings.{AtMaximum, HasString}
 use Rattle.usb_enum.specs.Refusals.{no_fault}
-use Rattle.usb_enum.specs.Text.{units_of}
+use Rattle.usb_enum.specs.Text.{string_units}
 use Rattle.usb_enum.proofs.Refusals.{fault_explains, handed_match}
 use Rattle.usb_enum.proofs.StringReadings.{items_in, units_learned, unnamed_learned}
 use Rattle.usb_enum.proofs.strings.read_one.Goals as goal
@@ -22,13 +22,13 @@ returns-then-index-eq0-clause-learned g c = unnamed_learned c.args.target c.args
 pub returns-in_ok-units_of-in-Some-clause-learned : goal.returns-in_ok-units_of-in-Some-clause-learned
 returns-in_ok-units_of-in-Some-clause-learned g c =
     units_learned c.args.target c.args.index c.in_ok-bytes.field-0 c.in_ok-units_of-in-Some.field-0 (g.B.Bus.world c.args.bus.now) (g.B.Bus.world c.string_bytes.new.bus) c.if-index-eq0.false
-    (c.in_ok-units_of-in-Some.ensures ∙ ap units_of c.as_slice.ensures.value ∙ ap (λ o. option_and_then units_of (items_in o)) (sym c.in-Some.is))
+    (c.in_ok-units_of-in-Some.ensures ∙ ap string_units c.as_slice.ensures.value ∙ ap (λ o. option_and_then string_units (items_in o)) (sym c.in-Some.is))
     c.in_ok-bytes.ensures.learned
 
 pub returns-in-None-clause-learned : goal.returns-in-None-clause-learned
 returns-in-None-clause-learned g c =
     units_learned c.args.target c.args.index c.in_ok-bytes.field-0 _ (g.B.Bus.world c.args.bus.now) (g.B.Bus.world c.string_bytes.new.bus) c.if-index-eq0.false
-    (ap (λ o. option_and_then units_of (items_in o)) (sym c.in-None.is))
+    (ap (λ o. option_and_then string_units (items_in o)) (sym c.in-None.is))
     c.in_ok-bytes.ensures.learned
 
 pub returns-in_err-bytes-clause-learned : goal.returns-in_err-bytes-clause-learned

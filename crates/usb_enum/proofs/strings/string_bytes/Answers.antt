@@ -1,5 +1,5 @@
 use Rattle.std.proofs.Common.{◌∙◌, sym}
-use Rattle.usb_hub.specs.Asked.{string_given}
+use Rattle.usb_hub.specs.GivenAnswers.{string_given}
 use Rattle.usb_enum.proofs.Frames.{text_asks}
 use Rattle.usb_enum.proofs.Counts.{read_went}
 use Rattle.usb_enum.proofs.StringReadings.{string_learned, no_string_learned}

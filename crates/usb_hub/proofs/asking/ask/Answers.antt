@@ -1,4 +1,4 @@
-use Rattle.usb_hub.proofs.Rests.{read_rests}
+use Rattle.usb_hub.proofs.RestingRequests.{read_rests}
 use Rattle.usb_hub.proofs.asking.ask.Goals as goal
 
 pub returns-clause-asked : goal.returns-clause-asked

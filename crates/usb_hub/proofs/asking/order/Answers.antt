@@ -1,5 +1,5 @@
 use Rattle.usb_hub.proofs.Orders.{order_elsewhere}
-use Rattle.usb_hub.proofs.Rests.{write_rests}
+use Rattle.usb_hub.proofs.RestingRequests.{write_rests}
 use Rattle.usb_hub.proofs.asking.order.Goals as goal
 
 pub returns-clause-ordered : goal.returns-clause-ordered

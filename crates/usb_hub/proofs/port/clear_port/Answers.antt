@@ -1,7 +1,7 @@
-use Rattle.usb_bus.specs.Traced.{still}
+use Rattle.usb_bus.specs.Traces.{still}
 use Rattle.usb_bus.proofs.Interface.{traced_cleared}
 use Rattle.usb_hub.proofs.Calls.{root_clears, hub_clears}
-use Rattle.usb_hub.proofs.Keeping.{root_clear_keeps_port}
+use Rattle.usb_hub.proofs.AddressesKept.{root_clear_keeps_port}
 use Rattle.usb_hub.proofs.Ports.{port_cleared-root, cleared_spends-root}
 use Rattle.usb_hub.proofs.port.clear_port.Goals as goal
 

@@ -1,6 +1,6 @@
 use Rattle.std.proofs.Common.{rules}
 use Rattle.usb_bus.proofs.Interface.{went_none}
-use Rattle.usb_hub.proofs.Keeping.{status_keeps, hub_status_keeps}
+use Rattle.usb_hub.proofs.AddressesKept.{status_keeps, hub_status_keeps}
 use Rattle.usb_hub.proofs.Moments.{root_tells, hub_tells}
 use Rattle.usb_hub.proofs.port.port_status.Goals as goal
 

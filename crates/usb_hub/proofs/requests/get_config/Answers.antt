@@ -1,6 +1,6 @@
 use Rattle.std.proofs.Common.{subst, arith}
 use Rattle.usb_hub.specs.Requests.{AskedData}
-use Rattle.usb_hub.proofs.Asked.{config_asked, config_why}
+use Rattle.usb_hub.proofs.GivenAnswers.{config_asked, config_why}
 use Rattle.usb_hub.proofs.requests.get_config.Goals as goal
 
 pub returns-clause-asked : goal.returns-clause-asked

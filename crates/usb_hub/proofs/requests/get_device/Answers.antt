@@ -1,6 +1,6 @@
 use Rattle.std.proofs.Common.{subst}
 use Rattle.usb_hub.specs.Requests.{AskedData}
-use Rattle.usb_hub.proofs.Asked.{device_asked, device_why}
+use Rattle.usb_hub.proofs.GivenAnswers.{device_asked, device_why}
 use Rattle.usb_hub.proofs.requests.get_device.Goals as goal
 
 pub returns-clause-asked : goal.returns-clause-asked

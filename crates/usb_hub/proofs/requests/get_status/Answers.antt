@@ -1,5 +1,5 @@
 use Rattle.std.proofs.Common.{rules}
-use Rattle.usb_hub.proofs.Told.{status_asked, status_why}
+use Rattle.usb_hub.proofs.ToldBytes.{status_asked, status_why}
 use Rattle.usb_hub.proofs.requests.get_status.Goals as goal
 
 pub returns-in_err-bytes-clause-told : goal.returns-in_err-bytes-clause-told

@@ -1,6 +1,6 @@
 use Rattle.std.proofs.Common.{subst}
 use Rattle.usb_hub.specs.Requests.{AskedData}
-use Rattle.usb_hub.proofs.Asked.{hub_asked, hub_why}
+use Rattle.usb_hub.proofs.GivenAnswers.{hub_asked, hub_why}
 use Rattle.usb_hub.proofs.requests.hub_descriptor.Goals as goal
 
 pub returns-clause-asked : goal.returns-clause-asked

@@ -1,13 +1,13 @@
 use Rattle.std.proofs.Common.{arith}
 use Rattle.std.proofs.lemmas.List.{take_all}
 use Rattle.std.proofs.lemmas.List.Sums.{sum_by_more}
-use Rattle.usb_plan.specs.Attempts.{total_of, all_totals}
+use Rattle.usb_plan.specs.Attempts.{head_total, all_totals}
 use Rattle.usb_plan.proofs.attempts.all_totals.Goals as goal
 
 pub texts-preserved : goal.texts-preserved
 texts-preserved c =
     let texts = c.configs-texts.result.now in
-    let one = sum_by_more total_of texts c.texts.text-index c.text-item.result c.texts-test.true in
+    let one = sum_by_more head_total texts c.texts.text-index c.text-item.result c.texts-test.true in
     record {
       so_far = rw (one, c.texts.invariant.so_far, c.total-sum.ensures.value, c.as_slice.ensures.value, ← c.text-item.is);
       few = omega (arith, c.texts.invariant.few, c.total-sum.ensures.most);

@@ -2,9 +2,9 @@ use Rattle.std.proofs.Common.{◌≡◌, ◌+◌, ◌∙◌, sym, length, arith}
 use Rattle.toml.specs.Data.{as_table}
 use Rattle.toml.specs.View.{view}
 use Rattle.usb_plan.specs.declared.fault.PlanFault.TheVariants as fault
-use Rattle.usb_plan.specs.Damage.{damage_in, last_from}
+use Rattle.usb_plan.specs.Damage.{damage_given, last_from}
 use Rattle.usb_plan.proofs.Parts.{damage_in_ok, placed_ok}
-use Rattle.usb_plan.proofs.Unless.{unless_handed}
+use Rattle.usb_plan.proofs.MemoryRefusals.{unless_handed}
 use Rattle.usb_plan.proofs.Growth.{damages_from-step, damages_from-fault, damages_from-end, damages_fit-push, last_from-push}
 use Rattle.usb_plan.proofs.damage.damages_of.Goals as goal
 
@@ -21,7 +21,7 @@ pub returns-in_err-damage-clause-value : goal.returns-in_err-damage-clause-value
 returns-in_err-damage-clause-value c =
     let v = c.index-values-i.result in
     let read = c.damage_in-read.result in
-    let e : read ≡ damage_in (last_from 0 c.loop-i.done) (length c.loop-i.done) (as_table (view v)) = c.damage_in-read.ensures ∙ rw (c.loop-i.invariant.last, c.as_slice.ensures.value, c.as_table.ensures) in
+    let e : read ≡ damage_given (last_from 0 c.loop-i.done) (length c.loop-i.done) (as_table (view v)) = c.damage_in-read.ensures ∙ rw (c.loop-i.invariant.last, c.as_slice.ensures.value, c.as_table.ensures) in
     let why = c.in_err-damage.field-0.0 in
     unless_handed fault.Memory c.from_residual.result _ why c.from_residual.ensures.1
     (λ _. sym (damages_from-fault c.loop-i.done c.args.values.now c.loop-i.i v read why _ c.loop-i-test.true c.index-values-i.is e (sym c.placed.ensures ∙ c.in_err-damage.was) c.loop-i.invariant.so_far))
@@ -31,7 +31,7 @@ loop-i-preserved c =
     let v = c.index-values-i.result in
     let read = c.damage_in-read.result in
     let damage = c.in_ok-damage.damage in
-    let e : read ≡ damage_in (last_from 0 c.loop-i.done) (length c.loop-i.done) (as_table (view v)) = c.damage_in-read.ensures ∙ rw (c.loop-i.invariant.last, c.as_slice.ensures.value, c.as_table.ensures) in
+    let e : read ≡ damage_given (last_from 0 c.loop-i.done) (length c.loop-i.done) (as_table (view v)) = c.damage_in-read.ensures ∙ rw (c.loop-i.invariant.last, c.as_slice.ensures.value, c.as_table.ensures) in
     let good = sym c.placed.ensures ∙ c.in_ok-damage.was in
     let comes = damage_in_ok (last_from 0 c.loop-i.done) (length c.loop-i.done) (as_table (view v)) damage (sym e ∙ placed_ok _ read damage good) in
     record {
@@ -46,7 +46,7 @@ push-requires c =
     let v = c.index-values-i.result in
     let read = c.damage_in-read.result in
     let damage = c.in_ok-damage.damage in
-    let e : read ≡ damage_in (last_from 0 c.loop-i.done) (length c.loop-i.done) (as_table (view v)) = c.damage_in-read.ensures ∙ rw (c.loop-i.invariant.last, c.as_slice.ensures.value, c.as_table.ensures) in
+    let e : read ≡ damage_given (last_from 0 c.loop-i.done) (length c.loop-i.done) (as_table (view v)) = c.damage_in-read.ensures ∙ rw (c.loop-i.invariant.last, c.as_slice.ensures.value, c.as_table.ensures) in
     let good = sym c.placed.ensures ∙ c.in_ok-damage.was in
     record { room = (damage_in_ok (last_from 0 c.loop-i.done) (length c.loop-i.done) (as_table (view v)) damage (sym e ∙ placed_ok _ read damage good)).room }
 

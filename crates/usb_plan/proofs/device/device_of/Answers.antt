@@ -1,9 +1,9 @@
 use Rattle.std.proofs.Common.{◌∙◌, sym}
 use Rattle.toml.specs.View.{table_view}
 use Rattle.usb_plan.specs.declared.kind.Kind.TheVariants.{Memory}
-use Rattle.usb_plan.specs.Device.{device_of}
+use Rattle.usb_plan.specs.Device.{device_described}
 use Rattle.usb_plan.proofs.Parts.{identity_of_ok, quirks_of_ok, bulk_of_ok}
-use Rattle.usb_plan.proofs.Unless.{unless_ok, device_unless}
+use Rattle.usb_plan.proofs.MemoryRefusals.{unless_ok, device_unless}
 use Rattle.usb_plan.proofs.device.device_of.Goals as goal
 
 pub device_with-requires : goal.device_with-requires
@@ -16,5 +16,5 @@ device_with-requires c =
     }
 
 pub returns : goal.returns
-unfolding device_of
+unfolding device_described
 returns c = rw (c.device_with.ensures, c.quirks_of-quirks.ensures, c.keys_at-keys.ensures, c.room.ensures) (device_unless c.identity_of-identity.result _ c.content_of-content.result _ _ c.bulk_of-bulk.result _ _ _ c.identity_of-identity.ensures c.content_of-content.ensures c.bulk_of-bulk.ensures)

@@ -7,7 +7,7 @@ use Rattle.usb_plan.specs.declared.kind.Kind.TheVariants.{Memory}
 use Rattle.usb_plan.specs.Kind.{EqualUnless}
 use Rattle.usb_plan.specs.Device.{device_in}
 use Rattle.usb_plan.proofs.Parts.{device_in_ok, placed_ok}
-use Rattle.usb_plan.proofs.Unless.{placed_told, placed_read, unless_handed}
+use Rattle.usb_plan.proofs.MemoryRefusals.{placed_told, placed_read, unless_handed}
 use Rattle.usb_plan.proofs.Growth.{devices_from-step, devices_from-fault, devices_from-end}
 use Rattle.usb_plan.proofs.device.devices_of.Goals as goal
 

@@ -8,7 +8,7 @@ use Rattle.usb_plan.specs.declared.kind.Kind.TheVariants.{Memory}
 use Rattle.usb_plan.specs.Kind.{EqualUnless}
 use Rattle.usb_plan.specs.Event.{event_in}
 use Rattle.usb_plan.proofs.Parts.{event_in_ok, placed_ok}
-use Rattle.usb_plan.proofs.Unless.{placed_told, placed_read, unless_handed}
+use Rattle.usb_plan.proofs.MemoryRefusals.{placed_told, placed_read, unless_handed}
 use Rattle.usb_plan.proofs.Growth.{events_from-step, events_from-fault, events_from-end, events_fit-push}
 use Rattle.usb_world.proofs.Interface.{plugged_next}
 use Rattle.usb_plan.proofs.event.events_of.Goals as goal

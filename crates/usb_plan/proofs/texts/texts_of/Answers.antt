@@ -4,7 +4,7 @@ use Rattle.toml.specs.View.{view}
 use Rattle.usb_plan.specs.declared.kind.Kind.TheVariants.{Memory}
 use Rattle.usb_plan.specs.Value.{hex_in}
 use Rattle.usb_plan.proofs.Steps.{AtMost-pushed, AtMost-unless, texts_from-step, texts_from-end}
-use Rattle.usb_plan.proofs.Unless.{pushed_is, unless_equal}
+use Rattle.usb_plan.proofs.MemoryRefusals.{pushed_is, unless_equal}
 use Rattle.usb_plan.proofs.texts.texts_of.Goals as goal
 
 pub loop-value-init : goal.loop-value-init

@@ -1,11 +1,11 @@
 use Rattle.std.proofs.Common.{◌<◌, subst, ap, arith, Some, Ok}
 use Rattle.std.specs.Prelude.{is_some}
 use Rattle.usb_world.specs.World.{to_come}
-use Rattle.usb_serve.specs.Ran.{Reaches, idle}
+use Rattle.usb_serve.specs.RunSegments.{Reaches, idle}
 use Rattle.usb_serve.specs.Transcript.{NextAsked, asked, at_event}
 use Rattle.usb_serve.specs.Transfers.{IsItemOf}
 use Rattle.usb_serve.proofs.Ends.{stopped_on}
-use Rattle.usb_serve.proofs.Goings.{no_more_events, ran_changed, ran_spent, reaches_after, stops_after, works_spent}
+use Rattle.usb_serve.proofs.RunParts.{no_more_events, ran_changed, ran_spent, reaches_after, stops_after, works_spent}
 use Rattle.usb_serve.proofs.runs.item_of_events.Goals as goal
 
 pub events-init : goal.events-init

@@ -1,7 +1,7 @@
 use Rattle.std.proofs.Common.{◌≡◌, false}
 use Rattle.usb_world.specs.World.{to_come}
-use Rattle.usb_host.specs.Owning.{Owning}
-use Rattle.usb_serve.specs.Ran.{Ran}
+use Rattle.usb_host.specs.Ownership.{Owning}
+use Rattle.usb_serve.specs.RunSegments.{Ran}
 use Rattle.usb_serve.proofs.runs.item_of_events.Given as goal
 
 abbrev pub invariant-events : goal.invariant-events

@@ -1,11 +1,11 @@
 use Rattle.std.proofs.Common.{refl}
 use Rattle.usb_bus.specs.Sim.{world_of}
-use Rattle.usb_serve.specs.Ran.{idle, worked}
+use Rattle.usb_serve.specs.RunSegments.{idle, worked}
 use Rattle.usb_serve.specs.Run.{run_fault}
 use Rattle.usb_serve.specs.Transcript.{NextEvent, at_event, between}
-use Rattle.usb_serve.proofs.Goings.{reaches_taken, works_none}
+use Rattle.usb_serve.proofs.RunParts.{reaches_taken, works_none}
 use Rattle.usb_serve.proofs.Ends.{caused_by, stopped_on}
-use Rattle.usb_serve.proofs.Ownings.{owning_event}
+use Rattle.usb_serve.proofs.Ownership.{owning_event}
 use Rattle.usb_serve.proofs.runs.next_due.Goals as goal
 
 pub returns-in_err-apply_next_event-clause-owning : goal.returns-in_err-apply_next_event-clause-owning

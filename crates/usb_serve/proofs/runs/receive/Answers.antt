@@ -1,5 +1,5 @@
 use Rattle.std.proofs.Common.{◌∙◌, refl, sym}
-use Rattle.usb_serve.proofs.Goings.{works_from}
+use Rattle.usb_serve.proofs.RunParts.{works_from}
 use Rattle.usb_serve.proofs.Ends.{failed_on, answered_goes, answered_caused}
 use Rattle.usb_serve.proofs.runs.receive.Goals as goal
 

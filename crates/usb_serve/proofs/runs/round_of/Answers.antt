@@ -1,8 +1,8 @@
 use Rattle.std.proofs.Common.{◌≡◌, ◌∙◌, rules, sym, ap, subst, false, Ok}
 use Rattle.usb_host.specs.declared.host.Round.TheVariants.{Quiet}
-use Rattle.usb_host.specs.Told.{RoundTold}
+use Rattle.usb_host.specs.ToldFaults.{RoundTold}
 use Rattle.usb_serve.specs.Run.{IsCaused}
-use Rattle.usb_serve.proofs.Goings.{round_stays, works_from}
+use Rattle.usb_serve.proofs.RunParts.{round_stays, works_from}
 use Rattle.usb_serve.proofs.Ends.{caused_by}
 use Rattle.usb_serve.proofs.runs.round_of.Goals as goal
 

@@ -1,5 +1,5 @@
 use Rattle.usb_serve.specs.declared.runs.RunFault.TheVariants.{Memory}
-use Rattle.usb_serve.proofs.Reportings.{ends_opened, ends_plugged, ends_unopened, reports_limit}
+use Rattle.usb_serve.proofs.ReportedItems.{ends_opened, ends_plugged, ends_unopened, reports_limit}
 use Rattle.usb_serve.proofs.runs.run.Goals as goal
 
 pub returns-in-Err-clause-ends : goal.returns-in-Err-clause-ends

@@ -1,6 +1,6 @@
 use Rattle.std.proofs.Common.{◌∙◌, sym, ap, Some}
 use Rattle.usb_serve.specs.declared.runs.Item.TheVariants.{Sent}
-use Rattle.usb_serve.proofs.Goings.{works_from}
+use Rattle.usb_serve.proofs.RunParts.{works_from}
 use Rattle.usb_serve.proofs.Ends.{failed_on, answered_goes, answered_caused}
 use Rattle.usb_serve.proofs.runs.send.Goals as goal
 

@@ -4,7 +4,7 @@ use Rattle.usb_world.specs.World.{World}
 use Rattle.usb_host.specs.contracts.host.Round.{the_type}
 use Rattle.usb_host.specs.declared.host.Round.{Round}
 use Rattle.usb_host.specs.declared.host.Round.TheVariants.{Quiet}
-use Rattle.usb_serve.proofs.Settling.{rounds_fall}
+use Rattle.usb_serve.proofs.RoundEnds.{rounds_fall}
 use Rattle.usb_serve.proofs.runs.settle.Goals.{else-eq-via-then-eq+else-events_taken-taken, else-eq-via-else-eq}
 use Rattle.usb_serve.proofs.runs.settle.Goals as goal
 

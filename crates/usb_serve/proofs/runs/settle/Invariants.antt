@@ -1,7 +1,7 @@
 use Rattle.std.proofs.Common.{◌≡◌, false}
-use Rattle.usb_host.specs.Owning.{Owning}
-use Rattle.usb_serve.specs.Ran.{Works}
-use Rattle.usb_serve.proofs.Settling.{rounds_left}
+use Rattle.usb_host.specs.Ownership.{Owning}
+use Rattle.usb_serve.specs.RunSegments.{Works}
+use Rattle.usb_serve.proofs.RoundEnds.{rounds_left}
 use Rattle.usb_serve.proofs.runs.settle.Given as goal
 
 abbrev pub invariant-rounds : goal.invariant-rounds

@@ -3,7 +3,7 @@ use Rattle.std.specs.Global.{Vec}
 use Rattle.std.specs.Io.KnownBytes.{Appends}
 use Rattle.std.specs.Prelude.{All}
 use Rattle.usb_bus.specs.Watch.{AppendsFront}
-use Rattle.usb_serve.specs.Serving.{IsLine}
+use Rattle.usb_serve.specs.ServeResults.{IsLine}
 use Rattle.usb_serve.proofs.Transcripts.{texts_split, texts_more, puts_line, cuts_line}
 use Rattle.usb_serve.proofs.serving.put_lines.Goals as goal
 

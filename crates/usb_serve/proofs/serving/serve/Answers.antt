@@ -1,6 +1,6 @@
 use Rattle.std.proofs.Common.{refl, sym, subst}
 use Rattle.usb_bus.specs.Watch.{inner_of}
-use Rattle.usb_serve.specs.Served.{IsWritten, of_plan, unread}
+use Rattle.usb_serve.specs.ServedRuns.{IsWritten, of_plan, unread}
 use Rattle.usb_serve.proofs.serving.serve.Goals as goal
 
 pub returns-in-Err-clause-served : goal.returns-in-Err-clause-served

@@ -1,7 +1,7 @@
 use Rattle.std.proofs.Common.{ap}
 use Rattle.usb_bus.specs.declared.watched.Watched.{Watched}
 use Rattle.usb_bus.specs.Watch.{inner_of}
-use Rattle.usb_serve.proofs.Servings.{run_unopened, run_written}
+use Rattle.usb_serve.proofs.ServedItems.{run_unopened, run_written}
 use Rattle.usb_serve.proofs.serving.serve_run.Goals as goal
 
 pub returns-in-Ok-clause-written : goal.returns-in-Ok-clause-written

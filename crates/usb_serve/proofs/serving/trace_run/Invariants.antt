@@ -1,5 +1,5 @@
 use Rattle.usb_serve.specs.Run.{items_left}
-use Rattle.usb_serve.proofs.Servings.{RunSoFar}
+use Rattle.usb_serve.proofs.ServedItems.{RunSoFar}
 use Rattle.usb_serve.proofs.serving.trace_run.Given as goal
 
 -- the run so far, with the number of its last listing

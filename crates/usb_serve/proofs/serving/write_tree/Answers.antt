@@ -6,7 +6,7 @@ use Rattle.usb_plan.specs.Attempts.{bound_of}
 use Rattle.usb_serve.specs.Report.{bound_line}
 use Rattle.usb_serve.specs.declared.serving.ServeFault.TheVariants as serve
 use Rattle.usb_serve.specs.Transcript.{Next}
-use Rattle.usb_serve.proofs.Servings.{tree_begun, tree_cut, tree_cut_lines, tree_over, tree_stopped, tree_told, tree_unbound, tree_unopened}
+use Rattle.usb_serve.proofs.ServedItems.{tree_begun, tree_cut, tree_cut_lines, tree_over, tree_stopped, tree_told, tree_unbound, tree_unopened}
 use Rattle.usb_serve.proofs.Transcripts.{front_none}
 use Rattle.usb_serve.proofs.serving.write_tree.Goals as goal
 

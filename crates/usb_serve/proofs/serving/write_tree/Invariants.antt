@@ -1,6 +1,6 @@
 use Rattle.usb_bus.specs.Watch.{inner_of}
 use Rattle.usb_serve.specs.Run.{items_left}
-use Rattle.usb_serve.proofs.Servings.{TreeSoFar}
+use Rattle.usb_serve.proofs.ServedItems.{TreeSoFar}
 use Rattle.usb_serve.proofs.serving.write_tree.Given as goal
 
 -- the run so far, with the number of its last listing, and what is written

@@ -1,4 +1,4 @@
-use Rattle.usb_transaction.proofs.Courses.{only_course, transacted_attempts, polled_attempts}
+use Rattle.usb_transaction.proofs.Trails.{only_course, polled_attempts, transacted_attempts}
 use Rattle.usb_transaction.proofs.laws.what_a_transaction_attempts.Goals as goal
 
 pub returns : goal.returns

@@ -1,4 +1,4 @@
-use Rattle.usb_transaction.proofs.Answerers.{set_up_had, read_had, write_had, poll_had}
+use Rattle.usb_transaction.proofs.Calls.{poll_had, read_had, set_up_had, write_had}
 use Rattle.usb_transaction.proofs.laws.who_had_the_address.Goals as goal
 
 pub returns : goal.returns

@@ -1,11 +1,11 @@
 use Rattle.std.proofs.Common.{None, Some, Ok, Err, inr, refl, sym, ap, ◌∙◌}
 use Rattle.std.proofs.lemmas.Result.{err_from_is_err_and}
-use Rattle.usb_transaction.specs.Heard.{heard_as, polled}
+use Rattle.usb_transaction.specs.HeardOutcomes.{heard_as, polled}
 use Rattle.usb_transaction.specs.declared.heard.Heard.TheVariants.{Repeat}
 use Rattle.usb_transaction.specs.declared.fault.TransFault.TheVariants.{Stalled, Busy, NoAnswer, Bus}
 use Rattle.usb_transaction.proofs.Calls.{polls_in}
 use Rattle.usb_transaction.proofs.LastOutcomes.{heard_nak, heard_stall}
-use Rattle.usb_transaction.proofs.TransactionTries.{once, read_fits, stands_new, stands_error, stands_waited, went_last, told_cut, told_moved, told_silent, told_busy, told_stalled, told_waiting}
+use Rattle.usb_transaction.proofs.TransactionTries.{once, read_fits, stands_error, stands_new, stands_waited, told_busy, told_cut, told_moved, told_silent, told_stalled, told_waiting, went_last}
 use Rattle.usb_transaction.proofs.poll.poll_in.Goals as goal
 
 pub tries-init : goal.tries-init

@@ -1,5 +1,5 @@
 use Rattle.std.proofs.Common.{◌≡◌, ◌+◌, ◌*◌, ◌-◌}
-use Rattle.usb_transaction.specs.Heard.{polled_as}
+use Rattle.usb_transaction.specs.HeardOutcomes.{polled_as}
 use Rattle.usb_transaction.specs.Transactions.{in_attempt}
 use Rattle.usb_transaction.proofs.TransactionTries.{Stands}
 use Rattle.usb_transaction.proofs.poll.poll_in.Given as goal

@@ -1,10 +1,10 @@
 use Rattle.std.proofs.Common.{Ok, Err, refl, sym, ap, ◌∙◌}
 use Rattle.std.proofs.lemmas.Result.{err_from_is_err_and}
-use Rattle.usb_transaction.specs.Heard.{heard_as}
+use Rattle.usb_transaction.specs.HeardOutcomes.{heard_as}
 use Rattle.usb_transaction.specs.declared.fault.TransFault.TheVariants.{Stalled, Busy, NoAnswer, Bus}
 use Rattle.usb_transaction.proofs.Calls.{asks_in}
 use Rattle.usb_transaction.proofs.LastOutcomes.{heard_stall}
-use Rattle.usb_transaction.proofs.TransactionTries.{once, read_fits, stands_new, stands_error, stands_waited, went_last, told_cut, told_moved, told_silent, told_busy, told_stalled}
+use Rattle.usb_transaction.proofs.TransactionTries.{once, read_fits, stands_error, stands_new, stands_waited, told_busy, told_cut, told_moved, told_silent, told_stalled, went_last}
 use Rattle.usb_transaction.proofs.read.data_in.Goals as goal
 
 pub tries-init : goal.tries-init

@@ -1,8 +1,8 @@
 use Rattle.std.proofs.Common.{◌≡◌, Err, Ok, [], length, sym, ◌∙◌, arith, rules}
 use Rattle.usb_transaction.specs.declared.fault.TransFault.TheVariants.{Bus, NoAnswer}
-use Rattle.usb_transaction.specs.Heard.{set_up_as}
+use Rattle.usb_transaction.specs.HeardOutcomes.{set_up_as}
 use Rattle.usb_transaction.proofs.Calls.{sets_up}
-use Rattle.usb_transaction.proofs.TransactionTries.{once, ends_of, set_up_new, set_up_again, set_up_told, set_up_cut, set_up_went, set_up_spent}
+use Rattle.usb_transaction.proofs.TransactionTries.{ends_of, once, set_up_again, set_up_cut, set_up_new, set_up_spent, set_up_told, set_up_went}
 use Rattle.usb_transaction.proofs.set_up.setup.Goals as goal
 
 pub loop-error-init : goal.loop-error-init

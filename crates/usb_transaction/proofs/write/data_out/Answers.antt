@@ -1,11 +1,11 @@
-use Rattle.std.proofs.Common.{[], Ok, Err, refl, sym, ap, ◌∙◌}
+use Rattle.std.proofs.Common.{[], Ok, Err, refl, sym, ap}
 use Rattle.std.proofs.lemmas.Result.{err_from_is_err_and}
-use Rattle.usb_transaction.specs.Heard.{sent_as}
-use Rattle.usb_transaction.specs.Transactions.{packet_of}
+use Rattle.usb_transaction.specs.HeardOutcomes.{heard_when_sent}
+use Rattle.usb_transaction.specs.Transactions.{packed}
 use Rattle.usb_transaction.specs.declared.fault.TransFault.TheVariants.{Stalled, Busy, NoAnswer, Bus}
 use Rattle.usb_transaction.proofs.Calls.{sends_out}
 use Rattle.usb_transaction.proofs.LastOutcomes.{sent_last, sent_stall}
-use Rattle.usb_transaction.proofs.TransactionTries.{once, stands_new, stands_error, stands_waited, went_last, told_cut, told_moved, told_silent, told_busy, told_stalled}
+use Rattle.usb_transaction.proofs.TransactionTries.{once, stands_error, stands_new, stands_waited, told_busy, told_cut, told_moved, told_silent, told_stalled, went_last}
 use Rattle.usb_transaction.proofs.write.data_out.Goals as goal
 
 pub tries-init : goal.tries-init
@@ -24,7 +24,7 @@ tries-preserved g c =
 pub returns-in-Moved-clause-sends : goal.returns-in-Moved-clause-sends
 returns-in-Moved-clause-sends g c =
     let one = once c.attempt_of_out-attempt.ensures.value c.in-Ok.ensures.settled c.attempt_of_out-attempt.ensures.fits c.in-Ok.ensures.attempts in
-    let it = told_moved c.tries.invariant.1 one (packet_of []) (ap sent_as (sent_last _ _ (sym c.in-Moved.ensures))) in
+    let it = told_moved c.tries.invariant.1 one (packed []) (ap heard_when_sent (sent_last _ _ (sym c.in-Moved.ensures))) in
     rw c.nothing.ensures (sends_out c.args.target c.args.ep c.args.toggle.now c.args.bytes.now _ _ it.settled (Ok []) it.heard)
 
 pub returns-in_err-wait-in-NotReady-clause-sends : goal.returns-in_err-wait-in-NotReady-clause-sends

@@ -5,7 +5,7 @@ use Rattle.std.proofs.lemmas.Iterator.{cases_from_any, YieldsList-from_slice}
 use Rattle.std.proofs.lemmas.Bool.{false≢true}
 use Rattle.std.proofs.lemmas.Bool.Decides.{same_from_decides, Decides-by_or, Decides-eqb}
 use Rattle.usb_descriptor.specs.Config.{configuration_value}
-use Rattle.usb_enum.specs.Text.{has_value}
+use Rattle.usb_enum.specs.Text.{any_has_value}
 use Rattle.usb_enum.proofs.text.ConfigTexts.has_value.Goals as goal
 
 abbrev Has : ℕ → List ℕ → Type 0
@@ -24,5 +24,5 @@ returns c =
     let texts = c.args.self.now in
     let value = c.args.value in
     let by_call = cases_from_any _ _ _ (Has value) (λ text. configuration_value text ≢ value) c.any.ensures.ran (YieldsList-from_slice texts cc) (λ x q k. search (rules, tests)) (λ x q k. search (rules, tests)) in
-    let by_spec = Decides-by_or (λ text. eqb (configuration_value text) value) (Has value) (has_value value) (λ text. Decides-eqb (configuration_value text) value) refl (λ _ _. refl) texts in
-    same_from_decides _ (has_value value texts) (decides_cases value _ texts by_call) by_spec
+    let by_spec = Decides-by_or (λ text. eqb (configuration_value text) value) (Has value) (any_has_value value) (λ text. Decides-eqb (configuration_value text) value) refl (λ _ _. refl) texts in
+    same_from_decides _ (any_has_value value texts) (decides_cases value _ texts by_call) by_spec

@@ -1,12 +1,13 @@
 use Rattle.std.proofs.Common.{refl, subst}
 use Rattle.std.proofs.lemmas.Result.{err_from_is_err_and}
-use Rattle.usb_device.specs.Calls.{clear_call}
+use Rattle.usb_port.specs.Calls.{clear_call}
+use Rattle.usb_request.specs.Features.{C_PORT_CONNECTION}
 use Rattle.usb_bus.proofs.Interface.{went_then}
 use Rattle.usb_hub.specs.Addresses.{KeepsAsked, KeepsCleared}
 use Rattle.usb_hub.specs.Moments.{CallsPort, TellsPort}
 use Rattle.usb_hub.specs.Port.{PortRead}
 use Rattle.usb_enum.specs.Stop.{at_port}
-use Rattle.usb_host.specs.Handling.{ClearsChange, Watches}
+use Rattle.usb_host.specs.PortHandling.{ClearsChange, Watches}
 use Rattle.usb_host.proofs.Requests.{watched, disabled_so, clears_after, clears_disabled, clears_failed, clears_untold, clears_told}
 use Rattle.usb_host.proofs.Enumerations.{cleared, cleared_twice}
 use Rattle.usb_host.proofs.host.Host.clear_change.Goals as goal
@@ -30,8 +31,8 @@ returns-in_err-clear_port-clause-clears g c =
     let told = err_from_is_err_and c.from_residual.result c.from_residual.ensures.1 in
     let old = g.B.Bus.world c.self.inside.bus in
     let mid = g.B.Bus.world c.clear_port.new.bus in
-    let calls = subst (λ r. CallsPort c.args.port (clear_call 16) old r mid) c.in_err-clear_port.was c.clear_port.ensures.ports in
-    let keeps = subst (λ r. KeepsCleared c.args.port 16 old r mid) c.in_err-clear_port.was c.clear_port.ensures.addresses in
+    let calls = subst (λ r. CallsPort c.args.port (clear_call C_PORT_CONNECTION) old r mid) c.in_err-clear_port.was c.clear_port.ensures.ports in
+    let keeps = subst (λ r. KeepsCleared c.args.port C_PORT_CONNECTION old r mid) c.in_err-clear_port.was c.clear_port.ensures.addresses in
     rw (← c.self.view_is, told.1, told.2) (clears_failed c.args.port old c.in_err-clear_port.field-0.0 mid calls keeps)
 
 pub returns-in_err-status-clause-clears : goal.returns-in_err-status-clause-clears
@@ -40,7 +41,7 @@ returns-in_err-status-clause-clears g c =
     let old = g.B.Bus.world c.self.inside.bus in
     let mid = g.B.Bus.world c.clear_port.new.bus in
     let new = g.B.Bus.world c.port_status.new.bus in
-    let calls = subst (λ r. CallsPort c.args.port (clear_call 16) old r mid) c.in_ok-clear_port.was c.clear_port.ensures.ports in
+    let calls = subst (λ r. CallsPort c.args.port (clear_call C_PORT_CONNECTION) old r mid) c.in_ok-clear_port.was c.clear_port.ensures.ports in
     let watches = subst (λ r. Watches c.args.port mid (at_port r) new) c.in_err-status.was (watched c.args.port mid c.port_status.result new c.port_status.ensures.status c.port_status.ensures.told c.port_status.ensures.addresses) in
     rw (← c.self.view_is, told.1, told.2)
     (clears_after c.args.port _ _ old mid new c.clear_port.ensures.went c.port_status.ensures.went _ calls c.clear_port.ensures.addresses.keeps c.clear_port.ensures.addresses.devices (clears_untold c.args.port mid _ new watches))
@@ -51,7 +52,7 @@ returns-else-status-clause-clears g c =
     let mid = g.B.Bus.world c.clear_port.new.bus in
     let new = g.B.Bus.world c.port_status.new.bus in
     let status = c.in_ok-status.status in
-    let calls = subst (λ r. CallsPort c.args.port (clear_call 16) old r mid) c.in_ok-clear_port.was c.clear_port.ensures.ports in
+    let calls = subst (λ r. CallsPort c.args.port (clear_call C_PORT_CONNECTION) old r mid) c.in_ok-clear_port.was c.clear_port.ensures.ports in
     let read = subst (λ r. PortRead c.args.port mid r new) c.in_ok-status.was c.port_status.ensures.status in
     let tells = subst (λ r. TellsPort c.args.port mid r new) c.in_ok-status.was c.port_status.ensures.told in
     let asked = subst (λ r. KeepsAsked c.args.port mid r new) c.in_ok-status.was c.port_status.ensures.addresses in
@@ -67,7 +68,7 @@ returns-in_err-clear_port-2-clause-clears g c =
     let asked_at = g.B.Bus.world c.port_status.new.bus in
     let new = g.B.Bus.world c.clear_port-then-status.new.bus in
     let status = c.in_ok-status.status in
-    let calls = subst (λ r. CallsPort c.args.port (clear_call 16) old r mid) c.in_ok-clear_port.was c.clear_port.ensures.ports in
+    let calls = subst (λ r. CallsPort c.args.port (clear_call C_PORT_CONNECTION) old r mid) c.in_ok-clear_port.was c.clear_port.ensures.ports in
     let read = subst (λ r. PortRead c.args.port mid r asked_at) c.in_ok-status.was c.port_status.ensures.status in
     let tells = subst (λ r. TellsPort c.args.port mid r asked_at) c.in_ok-status.was c.port_status.ensures.told in
     let asked = subst (λ r. KeepsAsked c.args.port mid r asked_at) c.in_ok-status.was c.port_status.ensures.addresses in
@@ -83,7 +84,7 @@ returns-in_ok-clear_port-2-clause-clears g c =
     let asked_at = g.B.Bus.world c.port_status.new.bus in
     let new = g.B.Bus.world c.clear_port-then-status.new.bus in
     let status = c.in_ok-status.status in
-    let calls = subst (λ r. CallsPort c.args.port (clear_call 16) old r mid) c.in_ok-clear_port.was c.clear_port.ensures.ports in
+    let calls = subst (λ r. CallsPort c.args.port (clear_call C_PORT_CONNECTION) old r mid) c.in_ok-clear_port.was c.clear_port.ensures.ports in
     let read = subst (λ r. PortRead c.args.port mid r asked_at) c.in_ok-status.was c.port_status.ensures.status in
     let tells = subst (λ r. TellsPort c.args.port mid r asked_at) c.in_ok-status.was c.port_status.ensures.told in
     let asked = subst (λ r. KeepsAsked c.args.port mid r asked_at) c.in_ok-status.was c.port_status.ensures.addresses in

@@ -1,14 +1,15 @@
 use Rattle.std.proofs.Common.{refl, sym, subst}
+use Rattle.usb_request.specs.Features.{PORT_ENABLE}
 use Rattle.usb_host.specs.Bounds.{order_most}
 use Rattle.usb_host.specs.Hosting.{Hosting}
-use Rattle.usb_device.specs.Calls.{clear_call}
+use Rattle.usb_port.specs.Calls.{clear_call}
 use Rattle.usb_hub.specs.Addresses.{KeepsCleared}
 use Rattle.usb_hub.specs.Moments.{CallsPort}
 use Rattle.usb_host.specs.declared.fault.HostFault.TheVariants.{Bus}
 use Rattle.usb_host.specs.Ports.{StandsAt}
 use Rattle.usb_host.proofs.Handlings.{none_disabled, port_disabled, port_failed, not_disabled}
-use Rattle.usb_host.proofs.Caused.{told_caused, untold_caused}
-use Rattle.usb_host.proofs.Dropped.{told_dropped, untold_droppable, nowhere_dropped}
+use Rattle.usb_host.proofs.Causes.{told_caused, untold_caused}
+use Rattle.usb_host.proofs.DroppedHubs.{told_dropped, untold_droppable, nowhere_dropped}
 use Rattle.usb_host.proofs.Joins.{goes_none}
 use Rattle.usb_host.proofs.host.Host.disable.Goals as goal
 use Rattle.usb_host.proofs.host.Host.disable.Goals.{in-Ok, in-Err-Bus, in-Err}
@@ -37,10 +38,10 @@ returns-clause-disables g c =
     let devices = c.clear_port.ensures.addresses.devices in
     rw (← c.self.view_is) (elim c.match-clear_port.branch [
       | in-Ok w ↦ rw w.result-is (record {
-        owned = port_disabled c.args.path.now c.in-Some.port _ _ s refl (subst (λ r. KeepsCleared port 1 old r new) w.in-Ok.is c.clear_port.ensures.addresses);
-        done = λ d e. told_dropped _ c.args.path.now c.in-Some.port _ _ s refl went keeps devices d (subst (λ r. CallsPort port (clear_call 1) old r new) w.in-Ok.is c.clear_port.ensures.ports);
+        owned = port_disabled c.args.path.now c.in-Some.port _ _ s refl (subst (λ r. KeepsCleared port PORT_ENABLE old r new) w.in-Ok.is c.clear_port.ensures.addresses);
+        done = λ d e. told_dropped _ c.args.path.now c.in-Some.port _ _ s refl went keeps devices d (subst (λ r. CallsPort port (clear_call PORT_ENABLE) old r new) w.in-Ok.is c.clear_port.ensures.ports);
         failed = λ d e. absurd (cc e);
-        caused = λ d fair pends caused. told_caused _ c.args.path.now c.in-Some.port _ _ s refl went keeps devices d fair (subst (λ r. CallsPort port (clear_call 1) old r new) w.in-Ok.is c.clear_port.ensures.ports) pends caused;
+        caused = λ d fair pends caused. told_caused _ c.args.path.now c.in-Some.port _ _ s refl went keeps devices d fair (subst (λ r. CallsPort port (clear_call PORT_ENABLE) old r new) w.in-Ok.is c.clear_port.ensures.ports) pends caused;
       })
       | in-Err-Bus w ↦ rw w.result-is (record {
         owned = not_disabled c.args.path.now _ _ (Bus w.in-Err-Bus.fault) keeps;
@@ -51,7 +52,7 @@ returns-clause-disables g c =
       | in-Err w ↦ rw w.result-is (record {
         owned = port_failed c.args.path.now c.in-Some.port _ _ 1 w.in-Err.field-0 s w.in-Err.ensures.effect keeps;
         done = λ d e. absurd (cc e);
-        failed = λ d e. untold_droppable _ c.args.path.now c.in-Some.port _ _ s refl went keeps devices d w.in-Err.field-0 (subst (λ r. CallsPort port (clear_call 1) old r new) w.in-Err.is c.clear_port.ensures.ports) w.in-Err.ensures.fault w.in-Err.ensures.effect;
-        caused = λ d fair pends caused. untold_caused _ c.args.path.now c.in-Some.port _ _ s refl went keeps devices d fair w.in-Err.field-0 (subst (λ r. CallsPort port (clear_call 1) old r new) w.in-Err.is c.clear_port.ensures.ports) w.in-Err.ensures.fault w.in-Err.ensures.effect caused;
+        failed = λ d e. untold_droppable _ c.args.path.now c.in-Some.port _ _ s refl went keeps devices d w.in-Err.field-0 (subst (λ r. CallsPort port (clear_call PORT_ENABLE) old r new) w.in-Err.is c.clear_port.ensures.ports) w.in-Err.ensures.fault w.in-Err.ensures.effect;
+        caused = λ d fair pends caused. untold_caused _ c.args.path.now c.in-Some.port _ _ s refl went keeps devices d fair w.in-Err.field-0 (subst (λ r. CallsPort port (clear_call PORT_ENABLE) old r new) w.in-Err.is c.clear_port.ensures.ports) w.in-Err.ensures.fault w.in-Err.ensures.effect caused;
       })
     ])

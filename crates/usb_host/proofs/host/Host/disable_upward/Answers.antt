@@ -4,7 +4,7 @@ use Rattle.usb_world.proofs.Interface.{way_itself, way_parent, way_trans}
 use Rattle.usb_host.proofs.Handlings.{match_err, bares_above}
 use Rattle.usb_host.proofs.Joins.{goes_none, goes_then, rests_then}
 use Rattle.usb_host.proofs.Climbs.{parent_length}
-use Rattle.usb_host.proofs.Dropped.{if_err, failed_by, climb_sound, climb_caused, done_caused, top_absurd}
+use Rattle.usb_host.proofs.DroppedHubs.{if_err, failed_by, climb_sound, climb_caused, done_caused, top_absurd}
 use Rattle.usb_host.proofs.host.Host.disable_upward.Goals as goal
 
 pub returns-in_err-disable-clause-goes : goal.returns-in_err-disable-clause-goes

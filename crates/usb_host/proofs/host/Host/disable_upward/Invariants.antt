@@ -1,9 +1,9 @@
 use Rattle.std.proofs.Common.{◌≡◌, ◌-◌, ◌*◌, ◌≤◌, length, true}
 use Rattle.usb_world.specs.Paths.{is_way, pend}
-use Rattle.usb_address.specs.Owned.{KeepsAddresses}
+use Rattle.usb_address.specs.Ownership.{KeepsAddresses}
 use Rattle.usb_host.specs.Bounds.{order_most}
 use Rattle.usb_host.specs.Progress.{HostGoes, Rests}
-use Rattle.usb_host.specs.Sound.{IsDroppable, IsFairTo, CausesBut}
+use Rattle.usb_host.specs.Soundness.{IsDroppable, IsFairTo, CausesBut}
 use Rattle.usb_host.proofs.host.Host.disable_upward.Given as goal
 
 abbrev pub invariant-up : goal.invariant-up

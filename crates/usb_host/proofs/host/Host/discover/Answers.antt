@@ -1,19 +1,19 @@
 use Rattle.std.proofs.Common.{◌≡◌, ap, refl, sym, subst, Some, Ok, Err, Result, false}
 use Rattle.std.proofs.lemmas.Result.{err_from_is_err_and}
 use Rattle.usb_table.specs.Entries.{has_at}
-use Rattle.usb_table.specs.Known.{known_port}
+use Rattle.usb_table.specs.KnownPorts.{known_port}
 use Rattle.usb_table.specs.Table.{Table}
 use Rattle.usb_enum.specs.Addresses.{KeepsEnumerated}
 use Rattle.usb_enum.specs.declared.fault.EnumFault.{EnumFault}
 use Rattle.usb_enum.specs.declared.finding.Finding.{Finding}
-use Rattle.usb_enum.specs.Found.{Enumerates}
+use Rattle.usb_enum.specs.Findings.{Enumerates}
 use Rattle.usb_enum.specs.Stop.{FaultAt}
 use Rattle.std.specs.Prelude.{IfErr}
-use Rattle.usb_host.proofs.Caused.{entered_finds, unfound_finds}
+use Rattle.usb_host.proofs.Causes.{entered_finds, unfound_finds}
 use Rattle.usb_host.specs.Hosting.{Hosting}
 use Rattle.usb_host.specs.Ports.{StandsAt}
 use Rattle.usb_host.proofs.Agreements.{nested_entered, known_some}
-use Rattle.usb_host.proofs.Risings.{rises_entered}
+use Rattle.usb_host.proofs.RisingEntries.{rises_entered}
 use Rattle.usb_host.proofs.Balances.{accounts_entered, range_claimed}
 use Rattle.usb_host.proofs.Handlings.{found_ends, found_lost, found_fails}
 use Rattle.usb_host.proofs.Enumerations.{enumerated}

@@ -5,20 +5,20 @@ use Rattle.usb_port.specs.Order.{path_cmp}
 use Rattle.usb_enum.specs.declared.cause.Cause.TheVariants.{Lost}
 use Rattle.usb_enum.specs.declared.finding.Finding.TheVariants.{Refused}
 use Rattle.usb_table.specs.Entries.{Entries, has_at, without}
-use Rattle.usb_table.specs.Known.{known_port}
+use Rattle.usb_table.specs.KnownPorts.{known_port}
 use Rattle.usb_table.specs.Table.{Table, entered as with_entry}
 use Rattle.usb_table.proofs.Interface.{known_port-without}
 use Rattle.usb_host.specs.Hosting.{Hosting}
 use Rattle.usb_host.specs.Progress.{waiting}
 use Rattle.usb_host.specs.Transfers.{table_in}
 use Rattle.usb_host.proofs.Agreements.{nested_entered}
-use Rattle.usb_host.proofs.Risings.{rises_entered}
+use Rattle.usb_host.proofs.RisingEntries.{rises_entered}
 use Rattle.usb_host.proofs.Balances.{accounts_entered}
 use Rattle.usb_host.proofs.Handlings.{drop_fails, drop_ends}
-use Rattle.usb_host.specs.Handling.{Climbs}
-use Rattle.usb_host.proofs.Caused.{lost_drops}
+use Rattle.usb_host.specs.PortHandling.{Climbs}
+use Rattle.usb_host.proofs.Causes.{lost_drops}
 use Rattle.usb_host.proofs.Joins.{dropped}
-use Rattle.usb_host.proofs.Waits.{waiting-entered_other}
+use Rattle.usb_host.proofs.WaitingDevices.{waiting-entered_other}
 use Rattle.usb_host.proofs.host.Host.drop_hub.Goals as goal
 
 pub returns-in_err-insert-clause-holds : goal.returns-in_err-insert-clause-holds

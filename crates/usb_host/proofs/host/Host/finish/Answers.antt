@@ -2,7 +2,7 @@ use Rattle.std.proofs.Common.{◌≡◌, ◌∙◌, ap, sym, subst, true, Err, S
 use Rattle.std.specs.Prelude.{IsSomeAnd}
 use Rattle.usb_port.specs.Order.{parent_of}
 use Rattle.usb_world.specs.Paths.{pend}
-use Rattle.usb_host.specs.Sound.{IsDroppable, CausesBut}
+use Rattle.usb_host.specs.Soundness.{IsDroppable, CausesBut}
 use Rattle.usb_enum.specs.declared.fault.EnumFault.{EnumFault}
 use Rattle.usb_enum.specs.declared.fault.EnumFault.TheVariants.{ParentLost}
 use Rattle.usb_host.proofs.Handlings.{hub_dropped}

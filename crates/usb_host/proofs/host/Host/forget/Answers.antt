@@ -7,7 +7,7 @@ use Rattle.usb_world.proofs.Interface.{at_or_below_way}
 use Rattle.usb_host.specs.Transfers.{table_in}
 use Rattle.usb_host.specs.Hosting.{Hosting}
 use Rattle.usb_host.proofs.Agreements.{nested_without}
-use Rattle.usb_host.proofs.Risings.{rises_without}
+use Rattle.usb_host.proofs.RisingEntries.{rises_without}
 use Rattle.usb_host.proofs.host.Host.forget.Goals as goal
 
 pub returns-clause-rest : goal.returns-clause-rest

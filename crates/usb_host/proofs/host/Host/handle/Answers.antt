@@ -1,6 +1,6 @@
 use Rattle.std.proofs.Common.{arith}
 use Rattle.usb_host.proofs.Handlings.{port_finished}
-use Rattle.usb_host.proofs.Finished.{finished_sound}
+use Rattle.usb_host.proofs.FinishedPorts.{finished_sound}
 use Rattle.usb_host.proofs.Looks.{handled}
 use Rattle.usb_host.proofs.Stations.{breaks}
 use Rattle.usb_host.proofs.Joins.{goes_then}

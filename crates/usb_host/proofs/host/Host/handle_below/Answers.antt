@@ -1,5 +1,5 @@
 use Rattle.std.proofs.Common.{◌≡◌, ◌∙◌, ap, subst, ◌++◌, ◌∷◌, [], Some}
-use Rattle.usb_table.specs.Known.{known_port}
+use Rattle.usb_table.specs.KnownPorts.{known_port}
 use Rattle.usb_host.proofs.Soundness.{sound_none}
 use Rattle.usb_host.proofs.Hubs.{below_due}
 use Rattle.usb_host.proofs.Joins.{goes_none}

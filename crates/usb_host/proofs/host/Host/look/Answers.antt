@@ -2,13 +2,13 @@ use Rattle.std.proofs.Common.{arith, ap, ◌≤◌, inl, subst, Ok, Err}
 use Rattle.std.proofs.lemmas.Result.{err_from_is_err_and}
 use Rattle.std.specs.Prelude.{IfErr}
 use Rattle.usb_enum.specs.Stop.{FaultAt}
-use Rattle.usb_host.specs.Handling.{ClearsChange, FindsSound}
-use Rattle.usb_host.proofs.Caused.{cleared_caused, forgot_caused, still_same}
+use Rattle.usb_host.specs.PortHandling.{ClearsChange, FindsSound}
+use Rattle.usb_host.proofs.Causes.{cleared_caused, forgot_caused, still_same}
 use Rattle.usb_host.proofs.Fairness.{fair_before, fair_after}
-use Rattle.usb_host.proofs.Served.{cleared_lost, forgot_open, forgot_sound}
+use Rattle.usb_host.proofs.ServedPorts.{cleared_lost, forgot_open, forgot_sound}
 use Rattle.usb_host.specs.Progress.{waiting}
 use Rattle.usb_host.proofs.Joins.{goes_none, goes_then, goes_forgotten}
-use Rattle.usb_host.specs.Owning.{KeepsPort}
+use Rattle.usb_host.specs.Ownership.{KeepsPort}
 use Rattle.usb_host.proofs.Handlings.{port_rests, port_stays, port_then, stays_bare}
 use Rattle.usb_host.proofs.Looks.{looks, stands_kept, served_any, enters_few, enters_other, forgets, renews}
 use Rattle.usb_host.proofs.host.Host.look.Goals as goal

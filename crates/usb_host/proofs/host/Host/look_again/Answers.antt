@@ -1,12 +1,12 @@
 use Rattle.std.proofs.Common.{arith, refl, sym, subst, ◌∙◌, ◌⊎◌}
 use Rattle.usb_resources.specs.Pool.{IsFull}
 use Rattle.usb_table.specs.Findings.{is_waiting}
-use Rattle.usb_table.specs.Next.{IsLast}
+use Rattle.usb_table.specs.NextEntries.{IsLast}
 use Rattle.usb_host.specs.declared.host.Round.TheVariants.{Quiet}
 use Rattle.usb_host.specs.Bounds.{handling_bound}
 use Rattle.usb_host.proofs.Owners.{stays_then, stays_none}
 use Rattle.usb_host.proofs.Parts.{looks_fail}
-use Rattle.usb_host.proofs.Restings.{ok_is, quiet_second, none_waits}
+use Rattle.usb_host.proofs.RestingRounds.{ok_is, quiet_second, none_waits}
 use Rattle.usb_host.proofs.Soundness.{sound_none, sound_then}
 use Rattle.usb_host.proofs.Joins.{did_then, goes_none}
 use Rattle.usb_host.proofs.Ranks.{rank_goes, rank_within, rank_rises, rank_most, rank_after_most}

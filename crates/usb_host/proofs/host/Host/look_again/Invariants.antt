@@ -2,9 +2,9 @@ use Rattle.std.proofs.Common.{◌≡◌, ◌-◌, ◌*◌, None}
 use Rattle.std.specs.Prelude.{IfSome}
 use Rattle.usb_port.specs.Path.{IsPath}
 use Rattle.usb_host.specs.Bounds.{handling_bound}
-use Rattle.usb_host.specs.Owning.{IsRooted, StaysOwned}
+use Rattle.usb_host.specs.Ownership.{IsRooted, StaysOwned}
 use Rattle.usb_host.specs.Progress.{HostGoes, Did}
-use Rattle.usb_host.specs.Sound.{StaysSound}
+use Rattle.usb_host.specs.Soundness.{StaysSound}
 use Rattle.usb_host.specs.declared.host.Round.TheVariants.{Quiet}
 use Rattle.usb_host.proofs.Ranks.{rank_after}
 use Rattle.usb_host.proofs.host.Host.look_again.Given as goal

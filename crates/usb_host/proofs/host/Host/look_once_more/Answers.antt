@@ -6,8 +6,8 @@ use Rattle.usb_host.proofs.Looks.{served_on}
 use Rattle.usb_host.proofs.Owners.{stays_none}
 use Rattle.usb_host.proofs.Roots.{waits_somewhere}
 use Rattle.usb_host.proofs.Parts.{part_fails}
-use Rattle.usb_host.specs.Sound.{KeepsSound}
-use Rattle.usb_host.proofs.Finished.{finished_sound}
+use Rattle.usb_host.specs.Soundness.{KeepsSound}
+use Rattle.usb_host.proofs.FinishedPorts.{finished_sound}
 use Rattle.usb_host.proofs.Soundness.{sound_none}
 use Rattle.usb_host.proofs.host.Host.look_once_more.Goals as goal
 

@@ -1,15 +1,16 @@
 use Rattle.std.proofs.Common.{◌≡◌, ◌∙◌, ◌-◌, ◌+◌, ℕ, ap, arith, refl, sym, subst, inr}
+use Rattle.usb_request.specs.Features.{PORT_POWER}
 use Rattle.usb_world.specs.World.{World, roots_of}
-use Rattle.usb_bus.specs.Traced.{Traced, still}
+use Rattle.usb_bus.specs.Traces.{Traced, still}
 use Rattle.usb_bus.proofs.Interface.{traced_set}
 use Rattle.usb_host.proofs.Powers.{powered_none, powered_length, powers_one, powered_all, powered_world}
 use Rattle.usb_host.proofs.Agreements.{nested_none}
-use Rattle.usb_host.proofs.Risings.{rises_none}
+use Rattle.usb_host.proofs.RisingEntries.{rises_none}
 use Rattle.usb_host.proofs.Balances.{accounts_none, range_none}
 use Rattle.usb_host.proofs.Openings.{opened, owning_opening, sound_opening}
 use Rattle.usb_host.specs.Hosting.{Hosting}
-use Rattle.usb_host.specs.Owning.{Owning}
-use Rattle.usb_host.specs.Sound.{IsSound}
+use Rattle.usb_host.specs.Ownership.{Owning}
+use Rattle.usb_host.specs.Soundness.{IsSound}
 use Rattle.usb_host.proofs.host.Host.new.Goals as goal
 
 pub ports-init : goal.ports-init
@@ -27,7 +28,7 @@ ports-preserved g c =
     let back : port ≡ (port + 1) - 1 = omega arith in
     record {
       powered = powers_one w0 _ _ port c.ports.auto.port c.ports.invariant.powered c.root_set.ensures.call ∙ ap (λ k. powered_world k w0) back;
-      traced = traced_set c.ports.port 8 (inr refl) c.ports.invariant.traced c.root_set.ensures.call c.root_set.ensures.silent;
+      traced = traced_set c.ports.port PORT_POWER refl c.ports.invariant.traced c.root_set.ensures.call c.root_set.ensures.silent;
       silent = c.root_set.ensures.silent ∙ c.ports.invariant.silent;
     }
 

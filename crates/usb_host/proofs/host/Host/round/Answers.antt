@@ -1,7 +1,7 @@
 use Rattle.std.proofs.Common.{ap, sym, subst, ◌∙◌}
 use Rattle.usb_host.specs.Bounds.{round_bound}
 use Rattle.usb_host.specs.Hosting.{Hosting}
-use Rattle.usb_host.specs.Sound.{RoundsSound}
+use Rattle.usb_host.specs.Soundness.{RoundsSound}
 use Rattle.usb_host.proofs.Joins.{goes_none}
 use Rattle.usb_host.proofs.Owners.{round_owning}
 use Rattle.usb_host.proofs.Soundness.{rounds_stopped}

@@ -2,10 +2,10 @@ use Rattle.std.proofs.Common.{◌∙◌, arith, subst}
 use Rattle.std.proofs.lemmas.Result.{err_from_is_err_and}
 use Rattle.std.specs.Prelude.{IfErr}
 use Rattle.usb_enum.specs.Stop.{FaultAt}
-use Rattle.usb_host.specs.Handling.{Watches}
-use Rattle.usb_host.proofs.Caused.{causes_rests, watched_caused, tidied_caused}
+use Rattle.usb_host.specs.PortHandling.{Watches}
+use Rattle.usb_host.proofs.Causes.{causes_rests, watched_caused, tidied_caused}
 use Rattle.usb_host.proofs.Fairness.{fair_before, fair_after}
-use Rattle.usb_host.proofs.Served.{watched_sound, watched_lost, rests_stands, tidied_port}
+use Rattle.usb_host.proofs.ServedPorts.{watched_sound, watched_lost, rests_stands, tidied_port}
 use Rattle.usb_address.proofs.Interface.{keeps_then}
 use Rattle.usb_host.proofs.Handlings.{port_rests, port_then, stays_rests}
 use Rattle.usb_host.proofs.Joins.{rests_then, goes_then}

@@ -3,7 +3,7 @@ use Rattle.usb_host.specs.Bounds.{hub_poll_bound}
 use Rattle.usb_world.specs.Steps.{here}
 use Rattle.usb_host.proofs.Owners.{stays_then, stays_none}
 use Rattle.usb_host.proofs.Parts.{hubs_fail}
-use Rattle.usb_host.proofs.Restings.{ok_is, next_listed, calm_then, polled_then, polled_all}
+use Rattle.usb_host.proofs.RestingRounds.{ok_is, next_listed, calm_then, polled_then, polled_all}
 use Rattle.usb_host.specs.declared.host.Round.TheVariants.{Quiet}
 use Rattle.usb_host.proofs.Soundness.{sound_none, sound_then}
 use Rattle.usb_host.proofs.Joins.{did_then, goes_none}

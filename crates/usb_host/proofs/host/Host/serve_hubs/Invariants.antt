@@ -3,12 +3,12 @@ use Rattle.std.specs.Prelude.{IfSome}
 use Rattle.usb_port.specs.Path.{IsPath}
 use Rattle.usb_hub.specs.Requests.{AllRest}
 use Rattle.usb_host.specs.Bounds.{hub_poll_bound}
-use Rattle.usb_host.specs.Owning.{StaysOwned}
+use Rattle.usb_host.specs.Ownership.{StaysOwned}
 use Rattle.usb_host.specs.Progress.{HostGoes, Did}
-use Rattle.usb_host.specs.Sound.{IsSound, StaysSound}
+use Rattle.usb_host.specs.Soundness.{IsSound, StaysSound}
 use Rattle.usb_host.specs.declared.host.Round.TheVariants.{Quiet}
 use Rattle.usb_host.proofs.Ranks.{rank_after}
-use Rattle.usb_host.proofs.Restings.{Polled}
+use Rattle.usb_host.proofs.RestingRounds.{Polled}
 use Rattle.usb_host.proofs.host.Host.serve_hubs.Given as goal
 
 abbrev pub invariant-hubs : goal.invariant-hubs

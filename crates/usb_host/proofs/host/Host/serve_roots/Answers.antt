@@ -5,7 +5,7 @@ use Rattle.usb_host.specs.declared.host.Round.TheVariants.{Quiet}
 use Rattle.usb_host.proofs.Joins.{goes_none, goes_then, goes_wider, worked_after}
 use Rattle.usb_host.proofs.Owners.{stays_none, stays_then}
 use Rattle.usb_host.proofs.Parts.{part_fails}
-use Rattle.usb_host.proofs.Quiets.{none_changed}
+use Rattle.usb_host.proofs.QuietPorts.{none_changed}
 use Rattle.usb_host.proofs.Soundness.{sound_none, sound_then}
 use Rattle.usb_host.proofs.host.Host.serve_roots.Goals as goal
 use Rattle.usb_host.proofs.host.Host.serve_roots.Goals.{then-has_changed+in_ok-handle_root, else-has_changed}

@@ -2,9 +2,9 @@ use Rattle.std.proofs.Common.{◌≡◌, ◌-◌, ◌*◌, ◌<◌}
 use Rattle.std.specs.Prelude.{ℕ, ◌≤◌, false}
 use Rattle.usb_world.specs.World.{root_port_at}
 use Rattle.usb_host.specs.Bounds.{handling_bound}
-use Rattle.usb_host.specs.Owning.{StaysOwned}
+use Rattle.usb_host.specs.Ownership.{StaysOwned}
 use Rattle.usb_host.specs.Progress.{HostGoes, Did}
-use Rattle.usb_host.specs.Sound.{StaysSound}
+use Rattle.usb_host.specs.Soundness.{StaysSound}
 use Rattle.usb_host.specs.declared.host.Round.TheVariants.{Quiet}
 use Rattle.usb_host.proofs.host.Host.serve_roots.Given as goal
 

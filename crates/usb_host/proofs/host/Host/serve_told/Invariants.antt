@@ -1,8 +1,8 @@
 use Rattle.std.proofs.Common.{◌-◌, ◌*◌}
 use Rattle.usb_host.specs.Bounds.{handling_bound}
-use Rattle.usb_host.specs.Owning.{StaysOwned}
+use Rattle.usb_host.specs.Ownership.{StaysOwned}
 use Rattle.usb_host.specs.Progress.{HostGoes, AddsNoWork}
-use Rattle.usb_host.specs.Sound.{StaysSound}
+use Rattle.usb_host.specs.Soundness.{StaysSound}
 use Rattle.usb_host.proofs.host.Host.serve_told.Given as goal
 
 abbrev pub invariant-ports : goal.invariant-ports

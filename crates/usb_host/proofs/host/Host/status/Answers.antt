@@ -1,7 +1,7 @@
 use Rattle.std.proofs.Common.{refl, subst}
 use Rattle.std.proofs.lemmas.Result.{err_from_is_err_and}
 use Rattle.usb_enum.specs.Stop.{at_port}
-use Rattle.usb_host.specs.Handling.{Watches}
+use Rattle.usb_host.specs.PortHandling.{Watches}
 use Rattle.usb_host.proofs.Enumerations.{asked}
 use Rattle.usb_host.proofs.Requests.{watched}
 use Rattle.usb_host.proofs.host.Host.status.Goals as goal

@@ -1,12 +1,13 @@
 use Rattle.std.proofs.Common.{◌≡◌, arith, refl, subst, Ok}
 use Rattle.std.proofs.lemmas.Result.{err_from_is_err_and}
-use Rattle.usb_bus.specs.Traced.{WentOn}
+use Rattle.usb_request.specs.Features.{C_PORT_ENABLE, C_PORT_RESET}
+use Rattle.usb_bus.specs.Traces.{WentOn}
 use Rattle.usb_bus.proofs.Interface.{went_none, went_then, went_wider}
 use Rattle.usb_enum.proofs.Interface.{order_most as order_fits}
 use Rattle.usb_enum.specs.Stop.{at_port}
 use Rattle.usb_host.specs.Bounds.{order_most}
-use Rattle.usb_host.specs.Handling.{Tidies}
-use Rattle.usb_host.proofs.Tidied.{enable, reset}
+use Rattle.usb_host.specs.PortHandling.{Tidies}
+use Rattle.usb_host.proofs.TidiedPorts.{enable, reset}
 use Rattle.usb_host.proofs.Requests.{call_tidies, clears_enable_change, clears_reset_change, tidies_none, tidies_then}
 use Rattle.usb_host.proofs.Joins.{goes_by}
 use Rattle.usb_host.proofs.host.Host.tidy.Given.{Over}
@@ -24,7 +25,7 @@ first_tidies : (g : Over) (c : goal.Joined-status g) → Tidies c.args.port (g.B
 first_tidies g c = elim c.if-status.branch [
   | then-status+in_ok-clear_port w ↦
       rw w.self-inside-is (subst (λ r. Tidies c.args.port (g.B.Bus.world c.self.inside.bus) (at_port r) (g.B.Bus.world w.clear_port.new.bus)) w.in_ok-clear_port.was
-      (call_tidies c.args.port 17 enable clears_enable_change (g.B.Bus.world c.self.inside.bus) w.clear_port.result (g.B.Bus.world w.clear_port.new.bus) w.clear_port.ensures.ports w.clear_port.ensures.addresses))
+      (call_tidies c.args.port C_PORT_ENABLE enable clears_enable_change (g.B.Bus.world c.self.inside.bus) w.clear_port.result (g.B.Bus.world w.clear_port.new.bus) w.clear_port.ensures.ports w.clear_port.ensures.addresses))
   | else-status w ↦ rw w.self-inside-is (tidies_none c.args.port (g.B.Bus.world c.self.inside.bus))
 ]
 
@@ -47,7 +48,7 @@ pub returns-in_err-clear_port-clause-tidies : goal.returns-in_err-clear_port-cla
 returns-in_err-clear_port-clause-tidies g c =
     let told = err_from_is_err_and c.from_residual.result c.from_residual.ensures.1 in
     rw (← c.self.view_is, told.1, told.2) (subst (λ r. Tidies c.args.port (g.B.Bus.world c.self.inside.bus) (at_port r) (g.B.Bus.world c.clear_port.new.bus)) c.in_err-clear_port.was
-    (call_tidies c.args.port 17 enable clears_enable_change (g.B.Bus.world c.self.inside.bus) c.clear_port.result (g.B.Bus.world c.clear_port.new.bus) c.clear_port.ensures.ports c.clear_port.ensures.addresses))
+    (call_tidies c.args.port C_PORT_ENABLE enable clears_enable_change (g.B.Bus.world c.self.inside.bus) c.clear_port.result (g.B.Bus.world c.clear_port.new.bus) c.clear_port.ensures.ports c.clear_port.ensures.addresses))
 
 pub returns-in_err-clear_port-2-clause-tidies : goal.returns-in_err-clear_port-2-clause-tidies
 returns-in_err-clear_port-2-clause-tidies g c =
@@ -56,7 +57,7 @@ returns-in_err-clear_port-2-clause-tidies g c =
     let one = first g joined in
     let tidies = first_tidies g joined in
     let then = subst (λ r. Tidies c.args.port (g.B.Bus.world c.if-status.self-inside.bus) (at_port r) (g.B.Bus.world c.clear_port-then-status-2.new.bus)) c.in_err-clear_port-2.was
-    (call_tidies c.args.port 20 reset clears_reset_change (g.B.Bus.world c.if-status.self-inside.bus) c.clear_port-then-status-2.result (g.B.Bus.world c.clear_port-then-status-2.new.bus) c.clear_port-then-status-2.ensures.ports c.clear_port-then-status-2.ensures.addresses) in
+    (call_tidies c.args.port C_PORT_RESET reset clears_reset_change (g.B.Bus.world c.if-status.self-inside.bus) c.clear_port-then-status-2.result (g.B.Bus.world c.clear_port-then-status-2.new.bus) c.clear_port-then-status-2.ensures.ports c.clear_port-then-status-2.ensures.addresses) in
     rw (← c.self.view_is, told.1, told.2) (tidies_then c.args.port _ _ _ _ _ one.0 c.clear_port-then-status-2.ensures.went _ tidies then)
 
 pub returns-in_ok-clear_port-2-clause-tidies : goal.returns-in_ok-clear_port-2-clause-tidies
@@ -65,7 +66,7 @@ returns-in_ok-clear_port-2-clause-tidies g c =
     let one = first g joined in
     let tidies = first_tidies g joined in
     let then = subst (λ r. Tidies c.args.port (g.B.Bus.world c.if-status.self-inside.bus) (at_port r) (g.B.Bus.world c.clear_port-then-status-2.new.bus)) c.in_ok-clear_port-2.was
-    (call_tidies c.args.port 20 reset clears_reset_change (g.B.Bus.world c.if-status.self-inside.bus) c.clear_port-then-status-2.result (g.B.Bus.world c.clear_port-then-status-2.new.bus) c.clear_port-then-status-2.ensures.ports c.clear_port-then-status-2.ensures.addresses) in
+    (call_tidies c.args.port C_PORT_RESET reset clears_reset_change (g.B.Bus.world c.if-status.self-inside.bus) c.clear_port-then-status-2.result (g.B.Bus.world c.clear_port-then-status-2.new.bus) c.clear_port-then-status-2.ensures.ports c.clear_port-then-status-2.ensures.addresses) in
     rw (← c.self.view_is) (tidies_then c.args.port _ _ _ _ _ one.0 c.clear_port-then-status-2.ensures.went _ tidies then)
 
 pub returns-else-status-2-clause-tidies : goal.returns-else-status-2-clause-tidies

@@ -1,5 +1,5 @@
 use Rattle.std.proofs.Common.{false, subst, ◌∙◌, arith, length-set, set, get_or-set_other}
-use Rattle.usb_resources.specs.Pool.{Releases, marked}
+use Rattle.usb_resources.specs.Pool.{Releases, addresses_marked}
 use Rattle.usb_resources.proofs.Marks.{releases, has_addresses}
 use Rattle.usb_resources.proofs.pool.AddressPool.release.Goals as goal
 
@@ -7,8 +7,8 @@ pub returns-clause-released : goal.returns-clause-released
 returns-clause-released c =
     let marks = c.self.inside.taken in
     let number = c.address.inside.number in
-    subst (λ a. Releases c.args.self.now a (marked (set marks number false))) c.address.view_is
-    (subst (λ old. Releases old number (marked (set marks number false))) c.self.view_is (releases marks number c.self.told c.address.invariant))
+    subst (λ a. Releases c.args.self.now a (addresses_marked (set marks number false))) c.address.view_is
+    (subst (λ old. Releases old number (addresses_marked (set marks number false))) c.self.view_is (releases marks number c.self.told c.address.invariant))
 
 pub returns-clause-range : goal.returns-clause-range
 returns-clause-range c =

@@ -1,12 +1,12 @@
 use Rattle.std.proofs.Common.{true, subst, refl, ◌∙◌, arith, length-set, set, get_or-set_other, false}
-use Rattle.usb_resources.specs.Pool.{HasAddresses, Takes, IsFull, marked}
+use Rattle.usb_resources.specs.Pool.{HasAddresses, Takes, IsFull, addresses_marked}
 use Rattle.usb_resources.proofs.Marks.{takes, full, has_addresses}
 use Rattle.usb_resources.proofs.pool.AddressPool.take.Goals as goal
 
 pub returns-in-Some-clause-some : goal.returns-in-Some-clause-some
 returns-in-Some-clause-some c =
     let marks = c.self.inside.taken in
-    subst (λ old. Takes old c.in-Some.number (marked (set marks c.in-Some.number true))) c.self.view_is (takes marks c.in-Some.number c.self.told c.in-Some.ensures.some)
+    subst (λ old. Takes old c.in-Some.number (addresses_marked (set marks c.in-Some.number true))) c.self.view_is (takes marks c.in-Some.number c.self.told c.in-Some.ensures.some)
 
 pub returns-in-Some-clause-range : goal.returns-in-Some-clause-range
 returns-in-Some-clause-range c =

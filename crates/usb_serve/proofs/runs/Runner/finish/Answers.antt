@@ -1,7 +1,7 @@
 use Rattle.std.proofs.Common.{sym, subst, Ok}
 use Rattle.usb_serve.specs.declared.runs.RunFault.TheVariants.{Memory}
 use Rattle.usb_serve.specs.Transcript.{Next}
-use Rattle.usb_serve.proofs.Reportings.{ReportSoFar, report_begun, report_refused, report_stopped, report_told}
+use Rattle.usb_serve.proofs.ReportedItems.{ReportSoFar, report_begun, report_refused, report_stopped, report_told}
 use Rattle.usb_serve.proofs.runs.Runner.finish.Goals as goal
 
 pub items-init : goal.items-init

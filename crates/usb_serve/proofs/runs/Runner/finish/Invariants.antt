@@ -1,5 +1,5 @@
 use Rattle.usb_serve.specs.Run.{items_left}
-use Rattle.usb_serve.proofs.Reportings.{ReportSoFar}
+use Rattle.usb_serve.proofs.ReportedItems.{ReportSoFar}
 use Rattle.usb_serve.proofs.runs.Runner.finish.Given as goal
 
 -- the run so far, and its items

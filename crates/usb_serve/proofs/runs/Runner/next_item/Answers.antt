@@ -1,7 +1,7 @@
 use Rattle.std.proofs.Common.{sym, subst, None, Ok}
-use Rattle.usb_serve.specs.Ran.{Reaches}
+use Rattle.usb_serve.specs.RunSegments.{Reaches}
 use Rattle.usb_serve.specs.Transcript.{Makes, NextAsked, at_event, last}
-use Rattle.usb_serve.proofs.Goings.{asked_spent, few_events, works_none}
+use Rattle.usb_serve.proofs.RunParts.{asked_spent, few_events, works_none}
 use Rattle.usb_serve.proofs.Transcripts.{next_failed}
 use Rattle.usb_serve.proofs.runs.Runner.next_item.Goals as goal
 

@@ -1,7 +1,7 @@
 use Rattle.std.proofs.Common.{subst}
 use Rattle.usb_bus.specs.declared.watched.Watched.{Watched}
 use Rattle.usb_bus.specs.Watch.{inner_of}
-use Rattle.usb_serve.specs.Served.{Opens}
+use Rattle.usb_serve.specs.ServedRuns.{Opens}
 use Rattle.usb_serve.proofs.runs.Runner.untraced.Goals as goal
 
 pub returns-clause-opened : goal.returns-clause-opened

@@ -1,9 +1,9 @@
 use Rattle.std.proofs.Common.{ap, refl, subst, sym, ◌+◌, ◌≤◌}
 use Rattle.usb_world.specs.World.{to_come}
 use Rattle.usb_host.specs.Hosting.{Hosting}
-use Rattle.usb_host.specs.Owning.{IsUntouched}
+use Rattle.usb_host.specs.Ownership.{IsUntouched}
 use Rattle.usb_serve.proofs.Ends.{opens_with}
-use Rattle.usb_serve.proofs.Ownings.{untouched}
+use Rattle.usb_serve.proofs.Ownership.{untouched}
 use Rattle.usb_serve.proofs.runs.Runner.with_bus.Goals as goal
 
 pub invariant_of-result : goal.invariant_of-result

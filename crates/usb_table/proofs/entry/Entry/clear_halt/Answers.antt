@@ -1,7 +1,7 @@
 use Rattle.std.proofs.Common.{refl, arith}
 use Rattle.usb_bus.proofs.Interface.{went_none, went_wider}
 use Rattle.usb_table.specs.declared.pipes.Pipes.TheVariants.{Function}
-use Rattle.usb_table.proofs.Kept.{cleared_keeps}
+use Rattle.usb_table.proofs.KeptPipes.{cleared_keeps}
 use Rattle.usb_table.proofs.entry.Entry.clear_halt.Goals as goal
 use Rattle.usb_table.proofs.entry.Entry.clear_halt.Goals.{in-Function, in-Hub, in-Absent}
 

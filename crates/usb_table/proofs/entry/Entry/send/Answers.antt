@@ -1,7 +1,7 @@
 use Rattle.std.proofs.Common.{refl}
-use Rattle.usb_bus.specs.Traced.{still}
+use Rattle.usb_bus.specs.Traces.{still}
 use Rattle.usb_table.specs.declared.pipes.Pipes.TheVariants.{Function}
-use Rattle.usb_table.proofs.Kept.{sent_keeps}
+use Rattle.usb_table.proofs.KeptPipes.{sent_keeps}
 use Rattle.usb_table.proofs.entry.Entry.send.Goals as goal
 use Rattle.usb_table.proofs.entry.Entry.send.Goals.{in-Function, in-Hub, in-Absent}
 

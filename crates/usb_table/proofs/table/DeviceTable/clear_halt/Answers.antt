@@ -9,11 +9,11 @@ use Rattle.usb_table.specs.Keys.{table_of}
 use Rattle.usb_table.specs.Levels.{KeepsMoved}
 use Rattle.usb_table.specs.Table.{Table, pipes_at, GoesThrough}
 use Rattle.usb_table.specs.Transfers.{PipesCleared, OnlyTransfers}
-use Rattle.usb_table.proofs.Keeping.{spares_none, cleared_spares}
-use Rattle.usb_table.proofs.Kept.{cleared_keeps}
-use Rattle.usb_table.proofs.Moved.{cleared_levels}
+use Rattle.usb_table.proofs.TransferFrames.{spares_none, cleared_spares}
+use Rattle.usb_table.proofs.KeptPipes.{cleared_keeps}
+use Rattle.usb_table.proofs.MovedPipes.{cleared_levels}
 use Rattle.usb_table.proofs.Levels.{still_levels}
-use Rattle.usb_table.proofs.Throughs.{Through, through_slot, found_slot, through_none, pipes_none, told_at}
+use Rattle.usb_table.proofs.PipeCalls.{Through, through_slot, found_slot, through_none, pipes_none, told_at}
 use Rattle.usb_table.proofs.table.DeviceTable.clear_halt.Goals as goal
 
 -- the entry is written back with the pipes that the call left

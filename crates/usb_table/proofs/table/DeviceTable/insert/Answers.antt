@@ -3,12 +3,12 @@ use Rattle.std.proofs.Common.{◌≡◌, ◌≢◌, ◌∙◌, sym, ap, subst, f
 use Rattle.std.specs.Prelude.{Result, Ok, Err, OnErr, IfSome}
 use Rattle.slab.specs.Slab.{Slab, get, Updates}
 use Rattle.usb_table.specs.Entries.{has_at}
-use Rattle.usb_table.specs.Findings.{address_of, HasNewAddress}
+use Rattle.usb_table.specs.Findings.{address_found, HasNewAddress}
 use Rattle.usb_table.specs.Keys.{Standing, findings, key_of_path, key_of_address, Enters}
-use Rattle.usb_table.specs.Known.{is_below_hub}
+use Rattle.usb_table.specs.KnownPorts.{is_below_hub}
 use Rattle.usb_table.specs.Pipes.{ArePipesOf, new_pipes}
 use Rattle.usb_table.specs.Table.{Table, entered}
-use Rattle.usb_table.proofs.Comings.{came_indexes, came_piped, came_table, away_key, free_key}
+use Rattle.usb_table.proofs.NewEntries.{came_indexes, came_piped, came_table, away_key, free_key}
 use Rattle.usb_table.proofs.table.DeviceTable.insert.Goals as goal
 
 on_err : {A E : Type 0} (r : Result A E) (P : Type 0) → P → OnErr r P
@@ -38,8 +38,8 @@ record Come (c : goal.After-insert_reserved) : Type 0 where
   others : (k : ℕ) → k ≢ c.vacant_key-key.result → get c.insert_reserved.new.self k ≡ get c.self.inside.entries k
   fits : ArePipesOf c.args.finding (is_below_hub c.args.path) (new_pipes c.args.finding (is_below_hub c.args.path))
   away : key_of_path c.self.inside.indexes.by_path.entries c.args.path ≡ None
-  free : IfSome (address_of c.args.finding) (λ a. key_of_address c.self.inside.indexes.by_address.entries a ≡ None)
-  enters : Enters c.args.path (address_of c.args.finding) c.vacant_key-key.result c.self.inside.indexes c.insert.new.self
+  free : IfSome (address_found c.args.finding) (λ a. key_of_address c.self.inside.indexes.by_address.entries a ≡ None)
+  enters : Enters c.args.path (address_found c.args.finding) c.vacant_key-key.result c.self.inside.indexes c.insert.new.self
 
 came : (c : goal.After-insert_reserved) → Come c
 came c =

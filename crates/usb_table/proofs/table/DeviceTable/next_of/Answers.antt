@@ -11,7 +11,7 @@ use Rattle.usb_table.specs.Keys.{PathKeys, findings, finding_under, entries_of}
 use Rattle.usb_table.specs.Table.{Table}
 use Rattle.usb_table.specs.Kinds.{fits, is_after}
 use Rattle.usb_table.proofs.Keys.{entries_rise, finding_stands, found_in, some_standing}
-use Rattle.usb_table.proofs.Nexts.{first_from, next_is, last_is}
+use Rattle.usb_table.proofs.NextEntries.{first_from, next_is, last_is}
 use Rattle.usb_table.proofs.table.DeviceTable.next_of.Goals as goal
 
 pub index-requires : goal.index-requires

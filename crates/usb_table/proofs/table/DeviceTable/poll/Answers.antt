@@ -4,16 +4,16 @@ use Rattle.slab.specs.Slab.{get, with_value}
 use Rattle.usb_bus.proofs.Interface.{went_none, went_wider}
 use Rattle.usb_table.specs.declared.pipes.Pipes.{Pipes}
 use Rattle.usb_table.specs.declared.pipes.Pipes.TheVariants.{Absent}
-use Rattle.usb_table.specs.Known.{is_below_hub}
+use Rattle.usb_table.specs.KnownPorts.{is_below_hub}
 use Rattle.usb_table.specs.Keys.{table_of, findings}
 use Rattle.usb_table.specs.Levels.{KeepsPolled}
 use Rattle.usb_table.specs.Table.{Table, pipes_at, GoesThrough}
 use Rattle.usb_table.specs.Transfers.{PipesPolled, OnlyTransfers}
-use Rattle.usb_table.proofs.Keeping.{spares_none, polled_spares}
-use Rattle.usb_table.proofs.Kept.{polled_keeps}
-use Rattle.usb_table.proofs.Polling.{polled_levels, unpolled}
+use Rattle.usb_table.proofs.TransferFrames.{spares_none, polled_spares}
+use Rattle.usb_table.proofs.KeptPipes.{polled_keeps}
+use Rattle.usb_table.proofs.HubPolls.{polled_levels, unpolled}
 use Rattle.usb_table.proofs.Keys.{none_at}
-use Rattle.usb_table.proofs.Throughs.{Through, through_slot, found_slot, through_none, pipes_none, told_at}
+use Rattle.usb_table.proofs.PipeCalls.{Through, through_slot, found_slot, through_none, pipes_none, told_at}
 use Rattle.usb_table.proofs.table.DeviceTable.poll.Goals as goal
 
 -- the entry is written back with the pipes that the call left

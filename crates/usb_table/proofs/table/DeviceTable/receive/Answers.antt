@@ -5,16 +5,16 @@ use Rattle.usb_bus.proofs.Interface.{went_none, went_wider}
 use Rattle.usb_table.specs.declared.pipes.Pipes.{Pipes}
 use Rattle.usb_table.specs.declared.pipes.Pipes.TheVariants.{Absent}
 use Rattle.usb_table.specs.declared.fault.EndpointFault.TheVariants.{NoDevice}
-use Rattle.usb_table.specs.Known.{is_below_hub}
+use Rattle.usb_table.specs.KnownPorts.{is_below_hub}
 use Rattle.usb_table.specs.Keys.{table_of}
 use Rattle.usb_table.specs.Levels.{KeepsMoved}
 use Rattle.usb_table.specs.Table.{Table, pipes_at, GoesThrough}
 use Rattle.usb_table.specs.Transfers.{PipesReceived, OnlyTransfers}
-use Rattle.usb_table.proofs.Keeping.{spares_none, received_spares}
-use Rattle.usb_table.proofs.Kept.{received_keeps}
-use Rattle.usb_table.proofs.Moved.{received_levels}
+use Rattle.usb_table.proofs.TransferFrames.{spares_none, received_spares}
+use Rattle.usb_table.proofs.KeptPipes.{received_keeps}
+use Rattle.usb_table.proofs.MovedPipes.{received_levels}
 use Rattle.usb_table.proofs.Levels.{still_levels}
-use Rattle.usb_table.proofs.Throughs.{Through, through_slot, found_slot, through_none, pipes_none, told_at}
+use Rattle.usb_table.proofs.PipeCalls.{Through, through_slot, found_slot, through_none, pipes_none, told_at}
 use Rattle.usb_table.proofs.table.DeviceTable.receive.Goals as goal
 
 -- the entry is written back with the pipes that the call left

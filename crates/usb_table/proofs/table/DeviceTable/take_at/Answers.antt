@@ -6,11 +6,11 @@ use Rattle.std.specs.List.Sorted.{IsStrictlySortedBy}
 use Rattle.std.specs.Map.{keys_of}
 use Rattle.slab.specs.Slab.{get}
 use Rattle.usb_port.specs.Order.{path_cmp}
-use Rattle.usb_table.specs.Findings.{address_of}
+use Rattle.usb_table.specs.Findings.{address_found}
 use Rattle.usb_table.specs.Keys.{PathKeys, findings, key_of_path, UpdatesAddress}
 use Rattle.usb_table.specs.Table.{removed}
 use Rattle.usb_table.proofs.Keys.{found_at, found_in, entries-has_at}
-use Rattle.usb_table.proofs.Goings.{gone_indexes, gone_piped, gone_table}
+use Rattle.usb_table.proofs.RemovedEntries.{gone_indexes, gone_piped, gone_table}
 use Rattle.usb_table.proofs.table.DeviceTable.take_at.Goals as goal
 
 on_none : {A : Type 0} (r : Option A) (P : Type 0) → P → IfNone r P
@@ -26,13 +26,13 @@ returns-in_err-first-clause-none c =
 record Gone (c : goal.After-into_finding) : Type 0 where
   was : key_of_path c.self.inside.indexes.by_path.entries c.in_ok-first.first ≡ Some c.in_ok-key.key
   path_keys : (q : List ℕ) → key_of_path c.remove_address.new.self.by_path.entries q ≡ cond (is_at (path_cmp c.in_ok-first.first) q) None (key_of_path c.self.inside.indexes.by_path.entries q)
-  address_keys : UpdatesAddress (address_of c.remove-entry.result.finding) None c.self.inside.indexes.by_address.entries c.remove_address.new.self.by_address.entries
+  address_keys : UpdatesAddress (address_found c.remove-entry.result.finding) None c.self.inside.indexes.by_address.entries c.remove_address.new.self.by_address.entries
 
 went : (c : goal.After-into_finding) → Gone c
 went c = record {
   was = sym c.in_ok-key.ensures.value;
   path_keys = λ q. ap (λ (m : BTreeMap (List ℕ) ℕ). key_of_path m.entries q) c.remove_address.ensures.paths ∙ c.in_ok-key.ensures.updates.0 q;
-  address_keys = subst (λ (a : Option ℕ). UpdatesAddress a None c.self.inside.indexes.by_address.entries c.remove_address.new.self.by_address.entries) (c.address_number.ensures ∙ ap address_of c.finding.ensures.value) c.remove_address.ensures.keys;
+  address_keys = subst (λ (a : Option ℕ). UpdatesAddress a None c.self.inside.indexes.by_address.entries c.remove_address.new.self.by_address.entries) (c.address_number.ensures ∙ ap address_found c.finding.ensures.value) c.remove_address.ensures.keys;
 }
 
 pub invariant_of-self-2 : goal.invariant_of-self-2

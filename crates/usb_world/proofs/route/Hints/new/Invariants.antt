@@ -1,4 +1,4 @@
-use Rattle.usb_world.specs.Hinted.{NoPaths}
+use Rattle.usb_world.specs.Hints.{NoPaths}
 use Rattle.usb_world.proofs.route.Hints.new.Given as goal
 
 abbrev pub invariant-paths : goal.invariant-paths

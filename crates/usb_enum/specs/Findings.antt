@@ -1,0 +1,161 @@
+-- What an enumeration finds, and what it leaves.
+use Rattle.std.specs.Prelude.{◌≡◌, ◌⊎◌, ℕ, List, true, false, Option, None, Some, Result, Ok, Err, MatchResult, length}
+use Rattle.usb_request.specs.Features.{PORT_ENABLE}
+use Rattle.usb_device.specs.View.{state_there}
+use Rattle.usb_world.specs.Paths.{pend}
+use Rattle.usb_world.specs.World.{World, root_port_at}
+use Rattle.usb_transaction.specs.Failures.{NoThreeDamaged}
+use Rattle.usb_hub.specs.declared.port.HubPort.{HubPort}
+use Rattle.usb_hub.specs.declared.port.HubPort.TheVariants.{Root, External}
+use Rattle.usb_hub.specs.Addresses.{IsAt}
+use Rattle.usb_hub.specs.Requests.{Ordered}
+use Rattle.usb_hub.specs.Settings.{IsFresh}
+use Rattle.usb_request.specs.Requests.{clear_port_feature}
+use Rattle.usb_resources.specs.Pool.{Addresses, IsAddress, IsTaken, Takes, IsFull}
+use Rattle.usb_address.specs.Claims.{Claims, Free}
+use Rattle.usb_address.specs.Ownership.{Owned, Enumerating, TillFault}
+use Rattle.usb_descriptor.specs.Config.{configuration_value}
+use Rattle.usb_descriptor.specs.Device.{configuration_count}
+use Rattle.usb_device.specs.Rows.{State}
+use Rattle.usb_transaction.specs.declared.target.Target.{Target}
+use Rattle.usb_enum.specs.declared.addressed.Addressed.{Addressed}
+use Rattle.usb_enum.specs.declared.cause.Cause.{Cause}
+use Rattle.usb_enum.specs.declared.cause.Cause.TheVariants.{NoAddress}
+use Rattle.usb_enum.specs.declared.stop.Stop.{Stop}
+use Rattle.usb_enum.specs.declared.stop.Stop.TheVariants as stops
+use Rattle.usb_enum.specs.declared.fault.EnumFault.{EnumFault}
+use Rattle.usb_enum.specs.declared.fault.EnumFault.TheVariants.{ParentLost}
+use Rattle.usb_enum.specs.declared.finding.Accepted.{Accepted}
+use Rattle.usb_enum.specs.declared.finding.Finding.{Finding}
+use Rattle.usb_enum.specs.declared.finding.Finding.TheVariants.{Device, Refused}
+use Rattle.usb_enum.specs.declared.hub.HubFacts.{HubFacts}
+use Rattle.usb_enum.specs.Addresses.{IsSpare, EndsEnumeration, KeepsEnumerated, OnlyCalls, TakesAddress as TakesAt}
+use Rattle.usb_enum.specs.Verdicts.{IsFindingOf, IsRight, IsSet}
+use Rattle.usb_enum.specs.Device.{is_device, configuration_of, fits_tier, HasFacts, IsStarted}
+use Rattle.usb_enum.specs.FairEnumerations.{Faulted, HasServer, HubPends}
+use Rattle.usb_enum.specs.Losses.{FewLosses}
+use Rattle.usb_enum.specs.Places.{HasEmptyPorts, IsKnownAs, IsOccupied, IsPlaced}
+use Rattle.usb_enum.specs.PresentDevices.{AtPath, Finds, IsInOrder, IsRegular, HasReadings, LearnsSet, ReachesDevice}
+use Rattle.usb_enum.specs.Readings.{AtMaximum}
+use Rattle.usb_enum.specs.Stop.{FaultAt, FitsTier}
+use Rattle.usb_enum.specs.Text.{ValuesDiffer, choice_of}
+
+-- the device has an address, its descriptor is good, every configuration was read, and the first that the supply allows is chosen
+pub record IsWhole (supply : ℕ) (device : Accepted) : Type 0 where
+  pub address : IsAddress device.address
+  pub head : is_device device.low device.bytes ≡ true
+  pub all : length device.configs ≡ configuration_count device.bytes
+  pub differ : ValuesDiffer device.configs
+  pub chosen : choice_of supply device.configs ≡ Some device.chosen
+  pub hub : HasFacts device.bytes (configuration_of device) device.hub
+  pub served : IsStarted device.address device.hub
+
+-- where a path claims the address, and as long as the bus is at work, the ports of the hub that was found there are empty, or a change is pending
+pub record EmptiesPorts (address : ℕ) (told : Option HubFacts) (old new : World) : Type 0 where
+  pub empty : (f : Claims) (p : List ℕ) → f p ≡ Some address → TillFault (Owned f) old → IsInOrder old → new.fault ≡ None → HasEmptyPorts p told new
+
+-- the device that has its address was read and configured
+pub record IsListed (addressed : Addressed) (tier : ℕ) (old new : World) (device : Accepted) : Type 0 where
+  pub address : device.address ≡ addressed.target.addr
+  pub low : device.low ≡ addressed.target.low
+  pub bytes : device.bytes ≡ addressed.bytes
+  pub fits : fits_tier tier addressed.bytes ≡ Ok tt
+  pub learned : LearnsSet (AtMaximum addressed.target (HasReadings addressed.bytes device)) addressed.target (configuration_value (configuration_of device)) old new
+  pub below : EmptiesPorts addressed.target.addr device.hub old new
+
+-- it is the device's own finding, the device is set as it says, and its endpoints begin again
+abbrev pub IsOwn : ℕ → ℕ → Accepted → State → Type 0
+IsOwn tier supply device s = IsFindingOf s.spec tier supply (Device device) × IsSet device s × IsFresh s
+
+-- the device that was read and configured has the address, took it at the port, and the finding is its own
+pub record IsAccepted (port : HubPort) (given tier supply : ℕ) (old new : World) (device : Accepted) : Type 0 where
+  pub address : device.address ≡ given
+  pub whole : IsWhole supply device
+  pub takes : TakesAt port given old new
+  pub own : Finds (IsOwn tier supply device) port given old new
+  pub reaches : ReachesDevice port given old new
+  pub below : (f : Claims) (p : List ℕ) → IsSpare f port p given → TillFault (Enumerating f p given) old → IsInOrder old → new.fault ≡ None → HasEmptyPorts p device.hub new
+
+-- the last request to a hub was to clear PORT_ENABLE, and it was done
+pub record LastDisabled (hub : Target) (port : ℕ) (w : World) : Type 0 where
+  pub before : World
+  pub ordered : Ordered hub (clear_port_feature PORT_ENABLE port) before (Ok tt) w
+
+-- the port was told to pass nothing on
+abbrev pub IsDisabled : HubPort → World → Type 0
+IsDisabled (Root number) w = (root_port_at w number).enable ≡ false
+IsDisabled (External hub port) w = LastDisabled hub port w
+
+-- what is left after an enumeration that was given up: a refused device's port is disabled, or its parent is lost
+abbrev pub GivesUp : HubPort → Stop → World → Result Finding EnumFault → World → Type 0
+GivesUp port (stops.Refused cause) old result new = MatchResult result (λ finding. (finding ≡ Refused cause) × IsDisabled port new) (λ fault. FaultAt port fault new)
+GivesUp port (stops.Fault fault) old result new = (result ≡ Err fault) × (new ≡ old)
+
+-- at an occupied port of which nothing is claimed, a refused device stands and the port is disabled, or a change of connection is pending
+pub record Disables (port : HubPort) (address : ℕ) (old : World) (result : Result Finding EnumFault) (new : World) : Type 0 where
+  pub there : (f : Claims) (p : List ℕ) → IsSpare f port p address → TillFault (Enumerating f p address) old → IsOccupied old p → (finding : Finding) → result ≡ Ok finding
+      → IsKnownAs new p (Some finding)
+
+-- who holds which address at the end of an enumeration that is given up, and that its calls were about the port alone; that a refused device stands
+-- there; and why its hub is lost
+pub record Closes (port : HubPort) (address : ℕ) (stop : Stop) (old : World) (result : Result Finding EnumFault) (new : World) : Type 0 where
+  pub ends : EndsEnumeration port address old result new
+  pub only : OnlyCalls port address old new
+  pub there : Disables port address old result new
+  pub lost : (cause : Cause) (why : EnumFault) → stop ≡ stops.Refused cause → result ≡ Err why → Faulted port address why old new
+
+-- why a device is refused: for want of an address only where each is taken
+abbrev pub IsCause : Addresses → ℕ → Cause → Type 0
+IsCause addresses tier cause = (cause ≡ NoAddress × IsFull addresses) ⊎ FitsTier tier cause
+
+abbrev pub IsFound : HubPort → Addresses → ℕ → ℕ → Finding → World → Type 0
+IsFound port addresses tier supply (Device device) w = IsWhole supply device
+IsFound port addresses tier supply (Refused cause) w = IsDisabled port w × IsCause addresses tier cause
+
+-- an accepted device takes the least free address, and nothing else takes any
+abbrev pub TakesFor : Result Finding EnumFault → Addresses → Addresses → Type 0
+TakesFor (Ok (Device device)) old new = Takes old device.address new
+TakesFor (Ok (Refused cause)) old new = new ≡ old
+TakesFor (Err fault) old new = new ≡ old
+
+-- where nothing is claimed at the port, and only addresses that are taken are claimed, the device that was found is the one at the port, where that
+-- is reachable
+pub record IsTruthful (port : HubPort) (addresses : Addresses) (tier supply : ℕ) (old : World) (result : Result Finding EnumFault) (new : World) : Type 0 where
+  pub truth : (f : Claims) (p : List ℕ) → IsAt f port p → Free f p → ((x : List ℕ) (a : ℕ) → f x ≡ Some a → IsTaken addresses a) → TillFault (Owned f) old → IsRegular old
+      → (device : Accepted) → result ≡ Ok (Device device) → AtPath (IsOwn tier supply device) p new
+
+-- an enumeration may begin at the port of a path: nothing is claimed there, only addresses that are taken are claimed, each reachable device
+-- holds what is claimed, and ports are in order
+pub record Begins (f : Claims) (port : HubPort) (p : List ℕ) (addresses : Addresses) (w : World) : Type 0 where
+  pub at : IsAt f port p
+  pub free : Free f p
+  pub taken : (x : List ℕ) (a : ℕ) → f x ≡ Some a → IsTaken addresses a
+  pub owned : TillFault (Owned f) w
+  pub order : IsInOrder w
+
+-- as long as the bus is at work, what is found at an occupied port is there in the end
+pub record Places (port : HubPort) (addresses : Addresses) (old : World) (result : Result Finding EnumFault) (new : World) : Type 0 where
+  pub placed : (f : Claims) (p : List ℕ) → Begins f port p addresses old → IsOccupied old p → new.fault ≡ None → (finding : Finding) → result ≡ Ok finding → IsPlaced p finding new
+
+-- so the rows of the table are what decides: no three attempts running are damaged, no address is lost three times, the port is occupied, its hub
+-- answers, and the bus is at work
+pub record IsFair (f : Claims) (port : HubPort) (p : List ℕ) (addresses : Addresses) (old new : World) : Type 0 where
+  pub begins : Begins f port p addresses old
+  pub occupied : IsOccupied old p
+  pub server : HasServer port p old
+  pub few : NoThreeDamaged old
+  pub kept : FewLosses new
+  pub working : new.fault ≡ None
+
+-- a refusal has its cause, or a change of connection is pending at the port; and a hub is lost only where one is pending there
+pub record Warrants (port : HubPort) (addresses : Addresses) (tier supply : ℕ) (old : World) (result : Result Finding EnumFault) (new : World) : Type 0 where
+  pub cause : (f : Claims) (p : List ℕ) → IsFair f port p addresses old new → (cause : Cause) (s : State) → result ≡ Ok (Refused cause) → state_there new.roots p ≡ Some s
+      → (pend new.roots p ≡ true) ⊎ IsRight (IsFull addresses) s.spec tier supply (Refused cause)
+  pub parent : (f : Claims) (p : List ℕ) → IsFair f port p addresses old new → result ≡ Err ParentLost → HubPends p new
+
+-- who holds which address at each end, that what was found is so and there, and why a device is refused
+pub record Enumerates (port : HubPort) (before : Addresses) (tier supply : ℕ) (old : World) (result : Result Finding EnumFault) (new : World) : Type 0 where
+  pub addresses : KeepsEnumerated port before old result new
+  pub own : IsTruthful port before tier supply old result new
+  pub places : Places port before old result new
+  pub warrants : Warrants port before tier supply old result new

@@ -1,0 +1,48 @@
+-- What was learned of a device from its answers, seen from where it is reachable after them.
+use Rattle.usb_device.specs.Tree.{Spot}
+use Rattle.std.specs.Prelude.{◌≡◌, ◌≢◌, true, false}
+use Rattle.usb_device.specs.Spec.{Spec, IsSpec}
+use Rattle.usb_device.specs.Progress.{OnlyStage}
+use Rattle.usb_device.specs.Rows.{State}
+use Rattle.usb_world.specs.Devices.{EachWas}
+use Rattle.usb_world.specs.Paths.{address_of}
+use Rattle.usb_world.specs.OneHolder.{hears_attempt}
+use Rattle.usb_world.specs.Passes.{deep_at}
+use Rattle.usb_world.specs.World.{World}
+use Rattle.usb_transaction.specs.declared.target.Target.{Target}
+use Rattle.usb_transaction.specs.Leaves.{is_at}
+use Rattle.usb_transaction.specs.Transactions.{in_attempt}
+use Rattle.usb_transaction.specs.Failures.{NoThreeDamaged}
+
+-- nothing of a device changed but where its transfer stands; of the target's device this is so
+pub record Learned (So : Spec → Type 0) (t : Target) (x : Spot) (s v : State) : Type 0 where
+  pub frame : OnlyStage s v
+  pub so : is_at s t ≡ true → So s.spec
+
+abbrev pub Learns : (Spec → Type 0) → Target → World → World → Type 0
+Learns So t old new = new.shared ≡ false → EachWas (Learned So t) old new
+
+-- the device has the target's address, and what is sent to the target comes to it
+pub record Hears (t : Target) (x : Spot) (s : State) : Type 0 where
+  pub at : is_at s t ≡ true
+  pub hears : hears_attempt (in_attempt t 0) (deep_at false x.rest) s ≡ true
+
+-- besides, it is configured, and its address is not 0
+pub record HearsSet (t : Target) (x : Spot) (s : State) : Type 0 where
+  pub hears : Hears t x s
+  pub addressed : t.addr ≢ 0
+  pub configured : s.registers.configuration ≢ 0
+
+-- a device has the description and the address that it had; where the target's device hears the host so, and keeps the rules of devices, this is so of it
+pub record Explained (Heard : Target → Spot → State → Type 0) (So : Spec → Type 0) (t : Target) (x : Spot) (s v : State) : Type 0 where
+  pub spec : v.spec ≡ s.spec
+  pub address : address_of v ≡ address_of s
+  pub so : Heard t x s → IsSpec s.spec → So s.spec
+
+-- where no three attempts running are damaged
+abbrev pub Explains : (Spec → Type 0) → Target → World → World → Type 0
+Explains So t old new = NoThreeDamaged old → new.shared ≡ false → EachWas (Explained Hears So t) old new
+
+-- the same of a device that is configured
+abbrev pub ExplainsSet : (Spec → Type 0) → Target → World → World → Type 0
+ExplainsSet So t old new = NoThreeDamaged old → new.shared ≡ false → EachWas (Explained HearsSet So t) old new

@@ -1,0 +1,154 @@
+-- What a host finds in a device of a description (9.1.2, 9.4, 9.6): the first row of a table that holds.
+use Rattle.std.specs.Prelude.{◌≡◌, ◌⊎◌, ℕ, zero, suc, ◌==◌, ◌&&◌, ◌||◌, not, Bool, true, false, List, [], map, take, slice_get, slice_index_or, Option, None, Some, is_some, option_map, option_and_then, Result, Ok, Err, is_ok, if◌then◌else◌}
+use Rattle.std.specs.Option.{option_or}
+use Rattle.usb_resources.specs.Power.{supply_of}
+use Rattle.usb_descriptor.specs.declared.fault.DescriptorFault.{DescriptorFault}
+use Rattle.usb_descriptor.specs.Device.{device_head_of, configuration_count}
+use Rattle.usb_descriptor.specs.Config.{config_head_of, config_of, configuration_value, total_in}
+use Rattle.usb_descriptor.specs.Choice.{status_endpoint_of}
+use Rattle.usb_descriptor.specs.Hub.{hub_spelled}
+use Rattle.usb_device.specs.Spec.{Spec, Hub}
+use Rattle.usb_device.specs.Rows.{State}
+use Rattle.usb_world.specs.PluggedDevices.{hub_ports}
+use Rattle.usb_enum.specs.declared.cause.Cause.{Cause}
+use Rattle.usb_enum.specs.declared.cause.Cause.TheVariants.{Silent, Busy, Stalled, BadDevice, TooDeep, BadConfiguration, NoPower, BadHub, NoAddress}
+use Rattle.usb_enum.specs.declared.cause.Request.TheVariants as request
+use Rattle.usb_enum.specs.declared.strings.StringIndexes.{StringIndexes}
+use Rattle.usb_enum.specs.declared.strings.Strings.{Strings}
+use Rattle.usb_enum.specs.declared.finding.Accepted.{Accepted}
+use Rattle.usb_enum.specs.declared.finding.Finding.{Finding}
+use Rattle.usb_enum.specs.declared.finding.Finding.TheVariants.{Device, Refused}
+use Rattle.usb_enum.specs.declared.hub.HubFacts.{HubFacts}
+use Rattle.usb_enum.specs.Device.{is_device, is_hub_device, string_indexes, configuration_of}
+use Rattle.usb_enum.specs.Text.{any_has_value, choice_of, string_units, first_language_of}
+
+-- Configurations
+
+-- what a host reads of a text: as many bytes as its first nine say
+unfoldable pub text_read : List ℕ → List ℕ
+text_read text = take (total_in (config_head_of (take 9 text))) text
+
+-- the first nine bytes are a configuration descriptor, and what is read is a configuration text
+abbrev pub is_good_text : List ℕ → Bool
+is_good_text text = is_ok (config_head_of (take 9 text)) && is_ok (config_of (text_read text))
+
+-- what is wrong with the text of an index: there is none, it is malformed, or its value is that of an earlier one
+abbrev pub text_fault : ℕ → List (List ℕ) → Option (List ℕ) → Option Cause
+text_fault index earlier None = Some (Stalled request.Config)
+text_fault index earlier (Some text) =
+    if is_good_text text && not (any_has_value (configuration_value (text_read text)) earlier) then None else Some (BadConfiguration index)
+
+-- what is read of the first so many configurations
+abbrev pub texts_below : Spec → ℕ → List (List ℕ)
+texts_below spec count = map text_read (take count spec.configs)
+
+-- what is wrong with the configuration of an index
+unfoldable pub config_fault : Spec → ℕ → Option Cause
+config_fault spec index = if spec.stalls.config then Some (Stalled request.Config) else text_fault index (texts_below spec index) (slice_get spec.configs index)
+
+-- what is wrong with the first bad one of so many configurations
+unfoldable pub first_fault : Spec → ℕ → Option Cause
+first_fault spec zero = None
+first_fault spec (suc index) = option_or (first_fault spec index) (config_fault spec index)
+
+-- what is read of all configurations
+abbrev pub texts_of : Spec → List (List ℕ)
+texts_of spec = texts_below spec (configuration_count spec.descriptor)
+
+-- Hubs
+
+-- it has ports, gives its hub descriptor and its status, and its descriptor is one
+abbrev pub gives_hub : Spec → Option Hub → Bool
+gives_hub spec None = false
+gives_hub spec (Some hub) = not spec.stalls.hub && not spec.stalls.status && is_ok (hub_spelled (take 9 hub.descriptor))
+
+-- a hub that a host can use, with this configuration text
+abbrev pub is_good_hub : Spec → List ℕ → Bool
+is_good_hub spec text = is_some (status_endpoint_of text) && gives_hub spec spec.hub
+
+-- what a hub says of its ports
+abbrev pub facts_of : Spec → Option HubFacts
+facts_of spec = if is_hub_device spec.descriptor then Some (record { ports = hub_ports spec.hub; supply = supply_of false spec.self_powered }) else None
+
+-- The rows
+
+-- of a device that is to be set to a configuration
+abbrev pub set_verdict : Spec → List (List ℕ) → Option ℕ → Result ℕ Cause
+set_verdict spec texts None = Err NoPower
+set_verdict spec texts (Some chosen) =
+    if spec.stalls.set_config then Err (Stalled request.SetConfig)
+    else if is_hub_device spec.descriptor && not (is_good_hub spec (slice_index_or texts chosen [])) then Err BadHub
+    else Ok chosen
+
+-- of a device whose configurations are to be read
+abbrev pub read_verdict : Spec → ℕ → Option Cause → Result ℕ Cause
+read_verdict spec supply (Some cause) = Err cause
+read_verdict spec supply None = set_verdict spec (texts_of spec) (choice_of supply (texts_of spec))
+
+-- the index of the configuration that the device is set to, or why it is refused, in a tier and at a port that gives so many mA
+unfoldable pub verdict : Spec → ℕ → ℕ → Result ℕ Cause
+verdict spec tier supply =
+    if spec.silent then Err Silent
+    else if spec.busy then Err Busy
+    else if spec.stalls.device then Err (Stalled request.Device)
+    else if not (is_ok (device_head_of spec.low (take 8 spec.descriptor))) then Err BadDevice
+    else if spec.stalls.address then Err (Stalled request.Address)
+    else if not (is_device spec.low (take 18 spec.descriptor)) then Err BadDevice
+    else if is_hub_device spec.descriptor && tier == 7 then Err TooDeep
+    else read_verdict spec supply (first_fault spec (configuration_count spec.descriptor))
+
+-- it answers with the head of a device descriptor: none of the rows before the address holds
+abbrev pub gives_head : Spec → Bool
+gives_head spec = not spec.silent && not spec.busy && not spec.stalls.device && is_ok (device_head_of spec.low (take 8 spec.descriptor))
+
+-- Strings
+
+-- what a host reads of a string's text: 255 bytes at most
+abbrev pub string_read : Spec → ℕ → Option (List ℕ)
+string_read spec index = if spec.stalls.string then None else option_map (take 255) (slice_get spec.strings index)
+
+-- the string of an index: index 0 names none, and without a first language none is read
+unfoldable pub string_at : Spec → ℕ → Option (List ℕ)
+string_at spec index =
+    if index == 0 || not (is_some (option_and_then first_language_of (string_read spec 0))) then None
+    else option_and_then string_units (string_read spec index)
+
+abbrev pub strings_by : Spec → StringIndexes → Strings
+strings_by spec indexes = record {
+  manufacturer = string_at spec indexes.manufacturer;
+  product = string_at spec indexes.product;
+  serial_number = string_at spec indexes.serial_number;
+}
+
+abbrev pub strings_of : Spec → Strings
+strings_of spec = strings_by spec (string_indexes spec.descriptor)
+
+-- The finding
+
+-- a device is listed as its description has it
+pub record IsAs (spec : Spec) (device : Accepted) : Type 0 where
+  pub low : device.low ≡ spec.low
+  pub bytes : device.bytes ≡ take 18 spec.descriptor
+  pub configs : device.configs ≡ texts_of spec
+  pub strings : device.strings ≡ strings_of spec
+  pub hub : device.hub ≡ facts_of spec
+
+-- what a host finds in a device: accepted as it is, set to the configuration that the rows say; or refused with its cause
+abbrev pub IsFindingOf : Spec → ℕ → ℕ → Finding → Type 0
+IsFindingOf spec tier supply (Device device) = (verdict spec tier supply ≡ Ok device.chosen) × IsAs spec device
+IsFindingOf spec tier supply (Refused cause) = verdict spec tier supply ≡ Err cause
+
+-- a device that would have been given an address, where each is taken
+pub record IsWithout (full : Type 0) (spec : Spec) (finding : Finding) : Type 0 where
+  pub none : full
+  pub head : gives_head spec ≡ true
+  pub refused : finding ≡ Refused NoAddress
+
+-- what is found in a device: what its description says, or that no address is free
+abbrev pub IsRight : Type 0 → Spec → ℕ → ℕ → Finding → Type 0
+IsRight full spec tier supply finding = IsFindingOf spec tier supply finding ⊎ IsWithout full spec finding
+
+-- a device has the address and the configuration that are listed
+pub record IsSet (device : Accepted) (s : State) : Type 0 where
+  pub address : s.registers.address ≡ device.address
+  pub configuration : s.registers.configuration ≡ configuration_value (configuration_of device)

@@ -1,0 +1,220 @@
+-- When what a host knows of its ports is so.
+use Rattle.std.specs.Prelude.{◌≡◌, ◌⊎◌, ◌≤◌, ℕ, List, [], ◌∷◌, ◌++◌, None, Some, IsSome, IfSome, unwrap_or, option_map, true, false, ⊤, Result, Ok, OnOk, All}
+use Rattle.usb_port.specs.Order.{parent_of, port_on_hub}
+use Rattle.usb_resources.specs.Pool.{Addresses}
+use Rattle.usb_device.specs.Rows.{State}
+use Rattle.usb_device.specs.Tree.{reach}
+use Rattle.usb_device.specs.View.{state_there, port_there}
+use Rattle.usb_world.specs.Devices.{EachWas}
+use Rattle.usb_world.specs.Paths.{pend, is_way}
+use Rattle.usb_world.specs.World.{World, root_row, roots_of, changes}
+use Rattle.usb_hub.specs.Addresses.{EachElsewhere}
+use Rattle.usb_enum.specs.declared.cause.Cause.{Cause}
+use Rattle.usb_enum.specs.declared.cause.Cause.TheVariants.{NoAddress}
+use Rattle.usb_enum.specs.declared.finding.Accepted.{Accepted}
+use Rattle.usb_enum.specs.declared.finding.Finding.TheVariants.{Device, Refused}
+use Rattle.usb_enum.specs.declared.hub.HubFacts.{HubFacts}
+use Rattle.usb_hub.specs.Requests.{AllRest}
+use Rattle.usb_enum.specs.Verdicts.{IsFindingOf, IsRight, IsSet}
+use Rattle.usb_enum.specs.Places.{IsKnownAs, IsOccupied}
+use Rattle.usb_table.specs.declared.known.KnownPort.{KnownPort}
+use Rattle.usb_table.specs.Entries.{Entries}
+use Rattle.usb_table.specs.Findings.{accepted_device_at}
+use Rattle.usb_table.specs.KnownPorts.{known_port}
+use Rattle.usb_table.specs.Levels.{AllLevel, LevelAt}
+use Rattle.usb_table.specs.Listing.{finding_at, hub_facts_at, IsListedPort, tier_of, ListsEach}
+use Rattle.usb_table.specs.Transfers.{SameSettings}
+use Rattle.usb_transaction.specs.Failures.{NoThreeDamaged}
+use Rattle.usb_enum.specs.Losses.{FewLosses}
+use Rattle.usb_enum.specs.PresentDevices.{IsInOrder, IsOrderly}
+use Rattle.usb_host.specs.Agreement.{Agrees}
+use Rattle.usb_host.specs.Hosting.{Hosting}
+use Rattle.usb_host.specs.Transfers.{table_in}
+use Rattle.usb_host.specs.Ownership.{IsOwned, IsOwnedBut, IsRooted, KeepsOwned, Owning}
+use Rattle.usb_host.specs.declared.fault.HostFault.{HostFault}
+use Rattle.usb_host.specs.declared.host.Round.{Round}
+use Rattle.usb_host.specs.declared.host.Round.TheVariants.{Quiet}
+
+-- Ports
+
+-- so it is at each port of the root, and of each hub that is known
+abbrev pub Known : World → Entries → Type 0
+Known w entries = (path : List ℕ) → IsListedPort (roots_of w) entries path → IsKnownAs w path (finding_at path entries)
+
+-- Devices
+
+-- what the port at a path gives, as the host knows it
+abbrev pub known_supply : List ℕ → Entries → ℕ
+known_supply path entries = unwrap_or (option_map (λ (known : KnownPort). known.supply) (known_port path entries)) 0
+
+-- what is known of an accepted device is so
+pub record IsTruthOf (entries : Entries) (path : List ℕ) (device : Accepted) (s : State) : Type 0 where
+  pub found : IsFindingOf s.spec (tier_of path) (known_supply path entries) (Device device)
+  pub set : IsSet device s
+
+-- what is known of the accepted device at a path is so where it is reached, whatever is damaged or pending
+abbrev pub IsToldAt : World → Entries → List ℕ → Type 0
+IsToldAt w entries path = (device : Accepted) (s : State) → accepted_device_at path entries ≡ Some device → reach w.roots path ≡ true → state_there w.roots path ≡ Some s
+    → IsTruthOf entries path device s
+
+-- so it is of each
+abbrev pub Truthful : World → Entries → Type 0
+Truthful w entries = (path : List ℕ) → IsToldAt w entries path
+
+-- the refused device at a path has its cause, or a change of connection is pending at its port; one that waits for an address may have waited too long
+abbrev pub IsCausedAt : World → Entries → List ℕ → Type 0
+IsCausedAt w entries path = (cause : Cause) (s : State) → finding_at path entries ≡ Some (Refused cause) → state_there w.roots path ≡ Some s
+    → (pend w.roots path ≡ true) ⊎ IsRight ⊤ s.spec (tier_of path) (known_supply path entries) (Refused cause)
+
+-- so it is of each
+abbrev pub Causes : World → Entries → Type 0
+Causes w entries = (path : List ℕ) → IsCausedAt w entries path
+
+-- The same but at a path and below it
+
+abbrev pub Elsewhere : List ℕ → (List ℕ → Type 0) → Type 0
+Elsewhere path So = (other : List ℕ) → is_way path other ≡ false → So other
+
+abbrev pub KnownBut : List ℕ → World → Entries → Type 0
+KnownBut path w entries = Elsewhere path (λ other. IsListedPort (roots_of w) entries other → IsKnownAs w other (finding_at other entries))
+
+abbrev pub TruthfulBut : List ℕ → World → Entries → Type 0
+TruthfulBut path w entries = Elsewhere path (IsToldAt w entries)
+
+abbrev pub CausesBut : List ℕ → World → Entries → Type 0
+CausesBut path w entries = Elsewhere path (IsCausedAt w entries)
+
+-- Between two worlds
+
+-- each device that is reached keeps its description and its registers, and each that is reached elsewhere
+abbrev pub EachStill : World → World → Type 0
+EachStill = EachWas SameSettings
+
+abbrev pub EachStillBut : List ℕ → World → World → Type 0
+EachStillBut path = EachElsewhere path SameSettings
+
+-- Entries
+
+-- entries agree with the addresses that are taken, and one without a hub stands at a port that the root has
+pub record Accounted (roots : ℕ) (entries : Entries) (addresses : Addresses) : Type 0 where
+  pub agrees : Agrees entries addresses
+  pub root : (path : List ℕ) → IsSome (finding_at path entries) → parent_of path ≡ None → port_on_hub path ≤ roots
+
+-- a device waits for an address only where each is listed
+abbrev pub NoneWaiting : Entries → Type 0
+NoneWaiting entries = (path : List ℕ) → finding_at path entries ≡ Some (Refused NoAddress) → ListsEach entries
+
+-- nothing is left to do: no change of connection is pending at a known port, and a device waits for an address only where each is listed
+pub record IsAtRest (w : World) (entries : Entries) : Type 0 where
+  pub none_pending : (path : List ℕ) → IsListedPort (roots_of w) entries path → pend w.roots path ≡ false
+  pub none_waiting : NoneWaiting entries
+
+-- Between two calls of a host
+
+-- each reachable device holds the address that the host has for it; as long as the bus is at work ports are in order, and what is known of ports and
+-- devices is so
+pub record IsSound (h : Hosting) : Type 0 where
+  pub owned : IsOwned h
+  pub rooted : IsRooted h
+  pub order : IsInOrder h.world
+  pub known : h.world.fault ≡ None → Known h.world h.entries
+  pub truthful : h.world.fault ≡ None → Truthful h.world h.entries
+  pub level : h.world.fault ≡ None → AllLevel (table_in h) h.world  -- pipes are as far as their endpoints
+
+-- so it is but of the ports at a path and below it
+pub record IsSoundBut (path : List ℕ) (h : Hosting) : Type 0 where
+  pub owned : IsOwnedBut path h
+  pub rooted : IsRooted h
+  pub order : IsInOrder h.world
+  pub known : h.world.fault ≡ None → KnownBut path h.world h.entries
+  pub truthful : h.world.fault ≡ None → TruthfulBut path h.world h.entries
+  pub level : h.world.fault ≡ None → Elsewhere path (λ other. LevelAt other (table_in h) h.world)
+
+-- the bus is at work, no three attempts running are damaged, and up to the new world no address is lost three times
+pub record IsFairTo (old new : World) : Type 0 where
+  pub still : new.fault ≡ None
+  pub few : NoThreeDamaged old
+  pub kept : FewLosses new
+
+-- what is known stays so, and where damage is fair each refused device still has its cause
+pub record StaysSound (old new : Hosting) : Type 0 where
+  pub sound : IsSound old → IsSound new
+  pub caused : IsSound old → IsFairTo old.world new.world → Causes old.world old.entries → Causes new.world new.entries
+
+abbrev pub KeepsSound : {A : Type 0} → Hosting → Result A HostFault → Hosting → Type 0
+KeepsSound old result new = OnOk result (StaysSound old new)
+
+-- a hub that is listed may be dropped: what is known elsewhere is so, and a device stands at its port, or a change is pending there
+pub record IsDroppable (hub : List ℕ) (h : Hosting) : Type 0 where
+  pub listed : IsSome (finding_at hub h.entries)
+  pub but : IsSoundBut hub h
+  pub there : h.world.fault ≡ None → IsOccupied h.world hub
+
+-- a hub that failed is dropped: what is known elsewhere is known, and so is what is at the port now; where damage is fair, a change was pending there
+pub record DropsSound (hub : List ℕ) (old : Hosting) (result : Result (Unit {0}) HostFault) (new : Hosting) : Type 0 where
+  pub sound : IsDroppable hub old → OnOk result (IsSound new)
+  pub caused : IsDroppable hub old → IsFairTo old.world new.world → pend old.world.roots hub ≡ true → CausesBut hub old.world old.entries → OnOk result (Causes new.world new.entries)
+
+-- a round keeps what is known; a quiet one in which no event came leaves nothing to do, as long as the bus is at work
+pub record RoundsSound (old : Hosting) (result : Result Round HostFault) (new : Hosting) : Type 0 where
+  pub keeps : KeepsSound old result new
+  pub rest : IsSound old → result ≡ Ok Quiet → new.world.taken ≡ old.world.taken → new.world.fault ≡ None → IsAtRest new.world new.entries
+
+-- Parts of a round
+
+-- each reachable device holds the address that the host has for it, and what is known stays so
+pub record PartKeeps {A : Type 0} (old : Hosting) (result : Result A HostFault) (new : Hosting) : Type 0 where
+  pub owned : KeepsOwned old result new
+  pub sound : KeepsSound old result new
+
+-- no root port had changed, and nothing was done
+pub record RootsRest (old new : Hosting) : Type 0 where
+  pub same : new ≡ old
+  pub none : changes (root_row old.world) ≡ 0
+
+-- no port of the hub that is listed at a path tells of a change of connection
+abbrev pub IsSilent : List ℕ → Hosting → Type 0
+IsSilent hub h = (facts : HubFacts) (number : ℕ) → hub_facts_at hub h.entries ≡ Some facts → 1 ≤ number → number ≤ facts.ports
+    → IfSome (port_there h.world.roots (hub ++ (number ∷ []))) (λ b. b.connection_changed ≡ false)
+
+-- a hub was polled; where it told of no change, nothing was asked of any port, and where no change is pending at it, none was told at its ports
+pub record HubKeeps (hub : List ℕ) (old : Hosting) (result : Result Round HostFault) (new : Hosting) : Type 0 where
+  pub owned : KeepsOwned old result new
+  pub sound : KeepsSound old result new
+  pub calm : result ≡ Ok Quiet → new.world.fault ≡ None → AllRest old.world new.world
+  pub silent : IsSound old → result ≡ Ok Quiet → new.world.fault ≡ None → pend new.world.roots hub ≡ false → IsSilent hub new
+
+-- so was each hub; where none told of a change and no event came, none is told at the ports of any at which none is pending
+pub record HubsKeep (old : Hosting) (result : Result Round HostFault) (new : Hosting) : Type 0 where
+  pub owned : KeepsOwned old result new
+  pub sound : KeepsSound old result new
+  pub calm : result ≡ Ok Quiet → new.world.fault ≡ None → AllRest old.world new.world
+  pub silent : IsSound old → result ≡ Ok Quiet → new.world.fault ≡ None → new.world.taken ≡ old.world.taken → (hub : List ℕ) → pend new.world.roots hub ≡ false → IsSilent hub new
+  pub agrees : OnOk result (Agrees new.entries new.addresses)
+
+-- devices that wait were looked at again; where none was, none need be
+pub record LooksKeep (old : Hosting) (result : Result Round HostFault) (new : Hosting) : Type 0 where
+  pub owned : KeepsOwned old result new
+  pub sound : KeepsSound old result new
+  pub rest : IsRooted old → result ≡ Ok Quiet → (new ≡ old) × NoneWaiting new.entries
+
+-- all of them
+pub record PartsKeep (old : Hosting) (result : Result Round HostFault) (new : Hosting) : Type 0 where
+  pub owned : KeepsOwned old result new
+  pub sound : RoundsSound old result new
+
+-- Whole calls
+
+-- devices hold the addresses that the host has for them, and what is known stays so
+pub record RoundKeeps (old : Hosting) (result : Result Round HostFault) (new : Hosting) : Type 0 where
+  pub owning : Owning old → Owning new
+  pub sound : RoundsSound old result new
+
+pub record TransferKeeps (old new : Hosting) : Type 0 where
+  pub owning : Owning old → Owning new
+  pub sound : StaysSound old new
+
+-- a world before anything came: no root port has power
+pub record IsUnpowered (w : World) : Type 0 where
+  pub off : All (λ b. b.power ≡ false) (root_row w)
+  pub order : IsOrderly w

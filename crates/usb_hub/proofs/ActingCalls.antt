@@ -1,0 +1,193 @@
+-- What the calls at a port ask of ports, and that they act there.
+use Rattle.std.proofs.Common.{◌≡◌, ℕ, zero, suc, ◌&&◌, ◌⊎◌, inl, inr, not, Bool, true, false, List, [], ◌∷◌, ◌++◌, Option, None, Some, option_map, if◌then◌else◌, refl, ap, sym, subst, ◌∙◌}
+use Rattle.std.proofs.lemmas.Option.{same_Some}
+use Rattle.usb_port.specs.PortState.{is_attached, PortState}
+use Rattle.usb_request.specs.Codes.{SET_ADDRESS, DEVICE_OUT}
+use Rattle.usb_request.specs.Layout.{setup_of, bytes_of}
+use Rattle.usb_request.specs.declared.setup.Setup.{Setup}
+use Rattle.usb_port.specs.declared.call.PortCall.{PortCall}
+use Rattle.usb_device.specs.declared.effect.Effect.TheVariants.{Leaves}
+use Rattle.usb_device.specs.declared.request.Registers.{Registers}
+use Rattle.usb_device.specs.Attempt.{is_whole}
+use Rattle.usb_port.specs.Calls.{is_reset, called_port}
+use Rattle.usb_device.specs.Effect.{effect_of_request, asked_by_setup}
+use Rattle.usb_device.specs.Request.{outcome, port_named, called_at, Is}
+use Rattle.usb_device.specs.Spec.{Spec}
+use Rattle.usb_device.specs.Tree.{Ports, ended, vacant, taken, before, reset_where, called, changed_at, acted, place, place_at, Spot, path_to}
+use Rattle.usb_world.specs.declared.types.Attempt.{Attempt}
+use Rattle.usb_world.specs.Courses.{is_harmless, resets, spares_step}
+use Rattle.usb_world.specs.Paths.{is_way, same_number}
+use Rattle.usb_world.specs.OneHolder.{IsMade, IsSetup, HolderIn, setup_asked, token_way, payload_way}
+use Rattle.usb_world.specs.Passes.{NobodyHolds, deep_at}
+use Rattle.usb_world.specs.PortRequests.{AsksNothing, is_port_request, is_sparing, leaves_step}
+use Rattle.usb_world.specs.Steps.{attempt, root_call, after, ready, damage_in}
+use Rattle.usb_world.specs.WayEffects.{spares}
+use Rattle.usb_world.specs.World.{World}
+use Rattle.usb_world.proofs.Interface.{and_false, decided, holder_or_nobody, no, nobody_in, or_right, others_asked_nothing, self_asked, setup_place_in, silent_place_in}
+use Rattle.usb_transaction.specs.declared.target.Target.{Target}
+use Rattle.usb_transaction.specs.Transactions.{setup_attempt}
+use Rattle.usb_address.proofs.Interface.{ClaimedAt, below_of, claimed_holder, less_one, named, nobody_asks_nothing, unshared_after}
+use Rattle.usb_hub.specs.Moments.{ActsAt}
+
+-- Trees
+
+-- what stands below a device, by the number of its port there
+pub place_below : (k : Ports) (j : ℕ) (e : List ℕ) (m : ℕ) (r : List ℕ) → place_at k j (e ++ (suc m ∷ r)) ≡ place_at (below_of (place_at k j e)) m r
+unfolding place_at
+place_below ended j e m r = refl
+place_below (vacant b k) zero [] m r = refl
+place_below (vacant b k) zero (n ∷ e) m r = refl
+place_below (vacant b k) (suc j) e m r = place_below k j e m r
+place_below (taken b s a k) zero [] m r = refl
+place_below (taken b s a k) zero (zero ∷ e) m r = refl
+place_below (taken b s a k) zero (suc i ∷ e) m r = place_below a i e m r
+place_below (taken b s a k) (suc j) e m r = place_below k j e m r
+
+pub place_called : (c : PortCall) (k : Ports) (i : ℕ) → place_at (changed_at (called c) k i []) i [] ≡ option_map (called c) (place_at k i [])
+unfolding place_at changed_at
+place_called c ended i = refl
+place_called c (vacant b k) zero = refl
+place_called c (vacant b k) (suc i) = place_called c k i
+place_called c (taken b s a k) zero = split (is_reset c && (b.power && is_attached b.attached))
+  where
+    split : (x : Bool) → place_at (before (reset_where x (called_port c b) s a) k) zero [] ≡ Some (reset_where x (called_port c b) s a)
+    split true = refl
+    split false = refl
+place_called c (taken b s a k) (suc i) = place_called c k i
+
+-- A call at a root port
+
+root_others : (c : PortCall) (n : ℕ) (w : World) (x : List ℕ) → is_way (n ∷ []) x ≡ false → AsksNothing (root_call c n) w x
+unfolding is_way spares_step resets leaves_step
+root_others c zero w x d = record { spares = refl; rests = refl; leaves = refl }
+root_others c (suc i) w [] d = record { spares = refl; rests = refl; leaves = refl }
+root_others c (suc i) w (zero ∷ x) d = record { spares = refl; rests = refl; leaves = refl }
+root_others c (suc i) w (suc m ∷ []) d = split (same_number i m) refl d
+  where
+    split : (b : Bool) → same_number i m ≡ b → (b && true) ≡ false → AsksNothing (root_call c (suc i)) w (suc m ∷ [])
+    split true e d = no (sym d)
+    split false e d = record { spares = rw e refl; rests = rw e (and_false (is_reset c)); leaves = rw e refl }
+root_others c (suc i) w (suc m ∷ n ∷ x) d = split (same_number i m) refl d
+  where
+    split : (b : Bool) → same_number i m ≡ b → (b && true) ≡ false → AsksNothing (root_call c (suc i)) w (suc m ∷ n ∷ x)
+    split true e d = no (sym d)
+    split false e d = record { spares = rw e refl; rests = refl; leaves = rw e refl }
+
+root_spared : (c : PortCall) (n : ℕ) (w : World) → spares c [] ≡ true → spares_step (root_call c n) w (n ∷ []) ≡ true
+unfolding spares_step
+root_spared c zero w h = refl
+root_spared c (suc i) w h = or_right (not (same_number i i)) (spares c []) h
+
+pub root_acted : (c : PortCall) (n : ℕ) (w : World) → place (after (root_call c n) w).roots (n ∷ []) ≡ option_map (called c) (place w.roots (n ∷ []))
+unfolding after
+root_acted c zero w = refl
+root_acted c (suc i) w = place_called c w.roots i
+
+pub root_acts : (c : PortCall) (n : ℕ) (w : World) → ActsAt (n ∷ []) c (root_call c n) w
+root_acts c n w = record { port = inr (root_acted c n w); about = record { others = root_others c n w; spares = root_spared c n w } }
+
+-- A request for a call at the port of a number
+
+pub record AsksFor (request : Setup) (c : PortCall) (n : ℕ) : Type 0 where
+  pub names : request.index ≡ n
+  pub nothing : request.length ≡ 0
+  pub same : setup_of (bytes_of request) ≡ request
+  pub asks : is_port_request request ≡ true
+  pub sparing : spares c [] ≡ true → is_sparing request ≡ true
+  pub calls : (spec : Spec) (g : Registers) → outcome spec g request ≡ called_at (Some c) (port_named spec.hub g n)
+  pub other : Is request DEVICE_OUT SET_ADDRESS ≡ false
+  pub harmless : is_reset c ≡ false → is_harmless request ≡ true
+
+-- Attempts of it
+
+-- what the hub asks of its port
+effect_there : (c : PortCall) (i : ℕ) (below : Ports) (o : Option ℕ) → (o ≡ None) ⊎ (o ≡ Some i)
+    → (place_at (acted (effect_of_request (called_at (Some c) o)) below) i [] ≡ place_at below i []) ⊎ (place_at (acted (effect_of_request (called_at (Some c) o)) below) i [] ≡ option_map (called c) (place_at below i []))
+effect_there c i below None x = inl refl
+effect_there c i below (Some m) (inl x) = absurd cc
+effect_there c i below (Some m) (inr x) = inr (ap (λ n. place_at (changed_at (called c) below n []) i []) (same_Some m i x) ∙ place_called c below i)
+
+module _ (t : Target) (j : Spot) (i : ℕ) (request : Setup) (c : PortCall) (asked : AsksFor request c (suc i)) where
+  abbrev a : Attempt
+  a = setup_attempt t (bytes_of request)
+
+  abbrev p : List ℕ
+  p = path_to j ++ (suc i ∷ [])
+
+  is : IsSetup a (bytes_of request)
+  unfolding bytes_of
+  is = record { kind = refl; ep = refl; payload = refl; whole = refl }
+
+  index : (setup_of (bytes_of request)).index ≡ suc i
+  index = ap (λ r. r.index) asked.same ∙ asked.names
+
+  module _ (w : World) (made : IsMade a w) where
+    -- nobody heard it
+    nobody_acts : NobodyHolds a.addr (ready w).roots → ActsAt p c (attempt a) w
+    nobody_acts x = record {
+      port = inl (ap (λ k. place k p) (nobody_in a w made x).1);
+      about = record { others = λ y d. nobody_asks_nothing a w y x made.settled; spares = λ s. (nobody_asks_nothing a w p x made.settled).spares };
+    }
+
+    -- the hub may have
+    module _ (holder : HolderIn a w) where
+      open holder use {own as s, below}
+
+      -- the port
+      abbrev port : List ℕ
+      port = path_to holder.spot ++ (suc i ∷ [])
+
+      stood : place (ready w).roots port ≡ place_at below i []
+      stood = place_below (ready w).roots holder.spot.row holder.spot.rest i [] ∙ ap (λ o. place_at (below_of o) i []) holder.stands
+
+      silent_port : s.spec.silent ≡ true → place (after (attempt a) w).roots port ≡ place (ready w).roots port
+      silent_port h = place_below (after (attempt a) w).roots holder.spot.row holder.spot.rest i [] ∙ ap (λ o. place_at (below_of o) i []) (silent_place_in a w holder h) ∙ sym stood
+
+      abbrev Called : Ports → Type 0
+      Called left = (place_at left i [] ≡ place_at below i []) ⊎ (place_at left i [] ≡ option_map (called c) (place_at below i []))
+
+      request_there : Called (acted (asked_by_setup s (setup_of (bytes_of request))) below)
+      request_there =
+          subst (λ o. Called (acted (effect_of_request o) below)) (sym (ap (outcome s.spec s.registers) asked.same ∙ asked.calls s.spec s.registers))
+          (effect_there c i below (port_named s.spec.hub s.registers (suc i)) (subst (λ m. (port_named s.spec.hub s.registers (suc i) ≡ None) ⊎ (port_named s.spec.hub s.registers (suc i) ≡ Some m)) (less_one i) (named s.spec.hub s.registers (suc i))))
+
+      asked_there : Called (acted (setup_asked a (damage_in (ready w)) (deep_at false holder.spot.rest) s (bytes_of request)) below)
+      asked_there = split (is_whole (token_way a (damage_in (ready w)) (deep_at false holder.spot.rest) s) && is_whole (payload_way a (damage_in (ready w)) (deep_at false holder.spot.rest) s))
+        where
+          split : (x : Bool) → Called (acted (if x then asked_by_setup s (setup_of (bytes_of request)) else Leaves) below)
+          split true = request_there
+          split false = inl refl
+
+      loud_port : s.spec.silent ≡ false → (place (after (attempt a) w).roots port ≡ place (ready w).roots port) ⊎ (place (after (attempt a) w).roots port ≡ option_map (called c) (place (ready w).roots port))
+      loud_port h = pick asked_there
+        where
+          left : place (after (attempt a) w).roots port ≡ place_at (acted (setup_asked a (damage_in (ready w)) (deep_at false holder.spot.rest) s (bytes_of request)) below) i []
+          left = place_below (after (attempt a) w).roots holder.spot.row holder.spot.rest i [] ∙ ap (λ o. place_at (below_of o) i []) (setup_place_in a w holder h (bytes_of request) is)
+
+          pick : Called (acted (setup_asked a (damage_in (ready w)) (deep_at false holder.spot.rest) s (bytes_of request)) below)
+              → (place (after (attempt a) w).roots port ≡ place (ready w).roots port) ⊎ (place (after (attempt a) w).roots port ≡ option_map (called c) (place (ready w).roots port))
+          pick (inl x) = inl (left ∙ x ∙ sym stood)
+          pick (inr x) = inr (left ∙ x ∙ ap (option_map (called c)) (sym stood))
+
+      port_acted : (place (after (attempt a) w).roots port ≡ place (ready w).roots port) ⊎ (place (after (attempt a) w).roots port ≡ option_map (called c) (place (ready w).roots port))
+      port_acted = pick (decided s.spec.silent)
+        where
+          pick : (s.spec.silent ≡ true) ⊎ (s.spec.silent ≡ false) → (place (after (attempt a) w).roots port ≡ place (ready w).roots port) ⊎ (place (after (attempt a) w).roots port ≡ option_map (called c) (place (ready w).roots port))
+          pick (inl h) = inl (silent_port h)
+          pick (inr h) = loud_port h
+
+      hub_acts : ActsAt port c (attempt a) w
+      hub_acts = record {
+        port = port_acted;
+        about = record {
+          others = λ x d. others_asked_nothing a w holder (bytes_of request) is (suc i) index (ap is_port_request asked.same ∙ asked.asks) x d;
+          spares = λ h. self_asked a w holder (bytes_of request) is (suc i) index (ap is_sparing asked.same ∙ asked.sparing h);
+        };
+      }
+
+    pub attempt_acts : ClaimedAt (path_to j) t.addr w → ActsAt p c (attempt a) w
+    attempt_acts claimed = pick (holder_or_nobody a w made (unshared_after claimed.claims a w claimed.owned))
+      where
+        pick : HolderIn a w ⊎ NobodyHolds a.addr (ready w).roots → ActsAt p c (attempt a) w
+        pick (inl x) = subst (λ q. ActsAt (q ++ (suc i ∷ [])) c (attempt a) w) (claimed_holder (path_to j) t.addr w claimed a refl x) (hub_acts x)
+        pick (inr x) = nobody_acts x

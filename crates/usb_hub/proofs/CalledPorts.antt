@@ -1,0 +1,273 @@
+-- What a port is after a call that was done there: what the call makes of what it was, or what was told of it; or a change of connection is pending.
+use Rattle.std.proofs.Common.{◌≡◌, ℕ, zero, suc, ◌==◌, ◌&&◌, ◌⊎◌, inl, inr, if◌then◌else◌, Bool, true, false, List, [], ◌∷◌, ◌++◌, Option, None, Some, option_map, refl, ap, sym, subst, ◌∙◌}
+use Rattle.std.proofs.lemmas.Option.{same_Some}
+use Rattle.usb_port.specs.PortState.{PortState, is_attached, powered_on, reset}
+use Rattle.usb_port.specs.declared.status.PortStatus.{PortStatus}
+use Rattle.usb_port.specs.declared.call.PortCall.{PortCall}
+use Rattle.usb_port.specs.declared.call.PortCall.TheVariants.{SetPower, SetReset, ClearEnable, ClearPower, ClearConnectionChange, ClearEnableChange, ClearResetChange}
+use Rattle.usb_port.specs.Calls.{is_reset, called_port}
+use Rattle.usb_device.specs.Tree.{Ports, ended, vacant, taken, Place, empty, full, port_of, reset_where, called, place, place_at, port_at, reach, reach_at, state_at}
+use Rattle.usb_device.specs.Rows.{State}
+use Rattle.usb_device.specs.View.{port_there, state_there}
+use Rattle.usb_world.specs.declared.event.Event.{Event}
+use Rattle.usb_world.specs.declared.types.Attempt.{Attempt}
+use Rattle.usb_world.specs.declared.types.BusFault.{BusFault}
+use Rattle.usb_world.specs.Courses.{spares_step, resets}
+use Rattle.usb_world.specs.Paths.{live, pend}
+use Rattle.usb_world.specs.PlanCourses.{spec_of}
+use Rattle.usb_world.specs.PortRequests.{AsksNothing, leaves_step, row_reached}
+use Rattle.usb_world.specs.RestingPorts.{AsksNothingOf, SameAt, RestsOrPends, StandsOrPends}
+use Rattle.usb_world.specs.Steps.{Step, attempt, root_call, event, report, after, with_attempt, ready, due_from, took, is_due, Course, here, step}
+use Rattle.usb_world.specs.WayEffects.{spares}
+use Rattle.usb_world.specs.World.{World}
+use Rattle.usb_world.proofs.Interface.{and_of, both, course_wider, made_pend, no, pending_persists, rests_or_pends, stands_or_pends}
+use Rattle.usb_hub.specs.Moments.{OnReachedRow, PortTold, met_by, ActsAt, PortDone}
+
+-- The port of a place
+
+port_at_place : (k : Ports) (j : ℕ) (p : List ℕ) → port_at k j p ≡ option_map port_of (place_at k j p)
+unfolding port_at place_at
+port_at_place ended j p = refl
+port_at_place (vacant b k) zero [] = refl
+port_at_place (vacant b k) zero (n ∷ p) = refl
+port_at_place (vacant b k) (suc j) p = port_at_place k j p
+port_at_place (taken b s a k) zero [] = refl
+port_at_place (taken b s a k) zero (zero ∷ p) = refl
+port_at_place (taken b s a k) zero (suc i ∷ p) = port_at_place a i p
+port_at_place (taken b s a k) (suc j) p = port_at_place k j p
+
+pub port_of_place : (k : Ports) (p : List ℕ) → port_there k p ≡ option_map port_of (place k p)
+port_of_place k [] = refl
+port_of_place k (zero ∷ p) = refl
+port_of_place k (suc j ∷ p) = port_at_place k j p
+
+pub port_of_called : (c : PortCall) (o : Option Place) → option_map port_of (option_map (called c) o) ≡ option_map (called_port c) (option_map port_of o)
+port_of_called c None = refl
+port_of_called c (Some (empty b)) = refl
+port_of_called c (Some (full b s a)) = split (is_reset c && (b.power && is_attached b.attached))
+  where
+    split : (x : Bool) → Some (port_of (reset_where x (called_port c b) s a)) ≡ Some (called_port c b)
+    split true = refl
+    split false = refl
+
+-- a call again leaves what it left
+called_twice : (c : PortCall) (b : PortState) → called_port c (called_port c b) ≡ called_port c b
+called_twice SetPower b = split b.power refl
+  where
+    split : (x : Bool) → b.power ≡ x → powered_on (powered_on b) ≡ powered_on b
+    split true e = rw e refl
+    split false e = rw e refl
+called_twice SetReset b = split (b.power && is_attached b.attached) refl
+  where
+    split : (x : Bool) → (b.power && is_attached b.attached) ≡ x → reset (reset b) ≡ reset b
+    split true e = rw (e, e) refl
+    split false e = rw (e, e) refl
+called_twice ClearEnable b = refl
+called_twice ClearPower b = refl
+called_twice ClearConnectionChange b = refl
+called_twice ClearEnableChange b = refl
+called_twice ClearResetChange b = refl
+
+some_twice : (c : PortCall) (o : Option PortState) → option_map (called_port c) (option_map (called_port c) o) ≡ option_map (called_port c) o
+some_twice c None = refl
+some_twice c (Some b) = ap (λ x. Some x) (called_twice c b)
+
+-- The events that are due come as steps that ask nothing
+
+event_asks_nothing : (p : List ℕ) (w : World) → AsksNothing event w p
+unfolding spares_step resets leaves_step
+event_asks_nothing p w = record { spares = refl; rests = refl; leaves = refl }
+
+pub due_course : (p : List ℕ) (es : List Event) (w : World) → w.left ≡ es → w.fault ≡ None → Course (AsksNothingOf p) w (due_from es w)
+unfolding due_from took after
+due_course p [] w l f = here w
+due_course p (e ∷ es) w l f =
+    elim (is_due e w) as (λ b. Course (AsksNothingOf p) w (if b then due_from es (took e es w) else w)) [
+      | true ↦ step event (event_asks_nothing p w) (subst (λ v. Course (AsksNothingOf p) v (due_from es (took e es w))) (sym comes) (due_course p es (took e es w) refl f))
+      | false ↦ here w
+    ]
+  where
+    comes : after event w ≡ took e es w
+    comes = rw (f, l) refl
+
+-- Over steps that are about the port
+
+module _ (p : List ℕ) (c : PortCall) where
+  -- the port as it was, or called
+  abbrev pub KeptOrCalled : World → World → Type 0
+  KeptOrCalled w v = (port_there v.roots p ≡ port_there w.roots p) ⊎ (port_there v.roots p ≡ option_map (called_port c) (port_there w.roots p))
+
+  -- powered on its whole way, with the same device or none, and so of its port; or pending
+  abbrev pub StandsSo : (World → World → Type 0) → World → World → Type 0
+  StandsSo K w v = ((live v.roots p ≡ true) × K w v × (option_map spec_of (state_there v.roots p) ≡ option_map spec_of (state_there w.roots p))) ⊎ (pend v.roots p ≡ true)
+
+  abbrev pub Called : World → World → Type 0
+  Called w v = port_there v.roots p ≡ option_map (called_port c) (port_there w.roots p)
+
+  kept_then : (w m v : World) → KeptOrCalled w m → KeptOrCalled m v → KeptOrCalled w v
+  kept_then w m v (inl a) (inl b) = inl (b ∙ a)
+  kept_then w m v (inl a) (inr b) = inr (b ∙ ap (option_map (called_port c)) a)
+  kept_then w m v (inr a) (inl b) = inr (b ∙ a)
+  kept_then w m v (inr a) (inr b) = inr (b ∙ ap (option_map (called_port c)) a ∙ some_twice c (port_there w.roots p))
+
+  called_then : (w m v : World) → KeptOrCalled w m → Called m v → Called w v
+  called_then w m v (inl a) b = b ∙ ap (option_map (called_port c)) a
+  called_then w m v (inr a) b = b ∙ ap (option_map (called_port c)) a ∙ some_twice c (port_there w.roots p)
+
+  -- two worlds on
+  then_so : (K L M : World → World → Type 0) (w m v : World) → (K w m → L m v → M w v) → StandsSo K w m → (live m.roots p ≡ true → StandsSo L m v) → (pend m.roots p ≡ true → pend v.roots p ≡ true) → StandsSo M w v
+  then_so K L M w m v joins (inl x) on pending = pick (on x.0)
+    where
+      pick : StandsSo L m v → StandsSo M w v
+      pick (inl y) = inl (y.0, joins x.1 y.1, y.2 ∙ x.2)
+      pick (inr y) = inr y
+  then_so K L M w m v joins (inr x) on pending = inr (pending x)
+
+  -- the port that a step's own change comes to is as it was; or a change is pending after the step; or it came to nothing
+  data Met (s : Step) (w : World) : Type 0 where
+    same : port_there (met_by s w) p ≡ port_there w.roots p → Met s w
+    pends : pend (after s w).roots p ≡ true → Met s w
+    nothing : (after s w).roots ≡ w.roots → Met s w
+
+  attempt_met : (a : Attempt) (w : World) → spares_step (attempt a) w p ≡ true → live w.roots p ≡ true → Met (attempt a) w
+  unfolding after spares_step ready
+  attempt_met a w sp on = by_fault w.fault refl
+    where
+      made : w.fault ≡ None → after (attempt a) w ≡ with_attempt a (ready w) → Met (attempt a) w
+      made sound is = pick (rests_or_pends p (due_course p w.left w refl sound) on)
+        where
+          pick : RestsOrPends w (ready w) p → Met (attempt a) w
+          pick (inl y) = same y.1.port
+          pick (inr y) = pends (subst (λ v. pend v.roots p ≡ true) (sym is) (made_pend a (ready w) p sp y))
+
+      by_limit : w.fault ≡ None → (b : Bool) → (w.attempts == w.limit) ≡ b → Met (attempt a) w
+      by_limit sound true e = nothing (rw (sound, e) refl)
+      by_limit sound false e = made sound (rw (sound, e) refl)
+
+      by_fault : (x : Option BusFault) → w.fault ≡ x → Met (attempt a) w
+      by_fault (Some g) e = nothing (rw e refl)
+      by_fault None e = by_limit e (w.attempts == w.limit) refl
+
+  step_met : (s : Step) (w : World) → spares_step s w p ≡ true → live w.roots p ≡ true → Met s w
+  step_met (attempt a) w sp on = attempt_met a w sp on
+  step_met (root_call d n) w sp on = same refl
+  step_met event w sp on = same refl
+  step_met (report line) w sp on = same refl
+
+  -- the port after a step, by what stands there
+  port_after : (s : Step) (w : World) (o : Option Place) → place (after s w).roots p ≡ o → port_there (after s w).roots p ≡ option_map port_of o
+  port_after s w o e = port_of_place (after s w).roots p ∙ ap (option_map port_of) e
+
+  port_kept : (s : Step) (w : World) → ActsAt p c s w → port_there (met_by s w) p ≡ port_there w.roots p → KeptOrCalled w (after s w)
+  port_kept s w k e = pick k.port
+    where
+      pick : (place (after s w).roots p ≡ place (met_by s w) p) ⊎ (place (after s w).roots p ≡ option_map (called c) (place (met_by s w) p)) → KeptOrCalled w (after s w)
+      pick (inl x) = inl (port_after s w _ x ∙ sym (port_of_place (met_by s w) p) ∙ e)
+      pick (inr x) = inr (port_after s w _ x ∙ port_of_called c (place (met_by s w) p) ∙ ap (option_map (called_port c)) (sym (port_of_place (met_by s w) p) ∙ e))
+
+  module _ (keeps : spares c [] ≡ true) where
+    -- what one step leaves, where it says so of the port that it comes to
+    step_so : (K : World → World → Type 0) (s : Step) (w : World) → ActsAt p c s w → (port_there (met_by s w) p ≡ port_there w.roots p → K w (after s w)) → ((after s w).roots ≡ w.roots → K w (after s w))
+        → live w.roots p ≡ true → StandsSo K w (after s w)
+    step_so K s w k there idle on = pick (stands_or_pends p (step s (k.about.spares keeps) (here (after s w))) on)
+      where
+        by_met : live (after s w).roots p ≡ true → option_map spec_of (state_there (after s w).roots p) ≡ option_map spec_of (state_there w.roots p) → Met s w → StandsSo K w (after s w)
+        by_met l what (same e) = inl (l, there e, what)
+        by_met l what (pends e) = inr e
+        by_met l what (nothing e) = inl (l, idle e, what)
+
+        pick : StandsOrPends w (after s w) p → StandsSo K w (after s w)
+        pick (inl x) = by_met x.0 x.1 (step_met s w (k.about.spares keeps) on)
+        pick (inr x) = inr x
+
+    steps_so : {w v : World} → Course (ActsAt p c) w v → live w.roots p ≡ true → StandsSo KeptOrCalled w v
+    steps_so (here w) on = inl (on, inl refl, refl)
+    steps_so (step s {w} {v} k more) on =
+        then_so KeptOrCalled KeptOrCalled KeptOrCalled w (after s w) v (kept_then w (after s w) v)
+        (step_so KeptOrCalled s w k (port_kept s w k) (λ e. inl (ap (λ t. port_there t p) e)) on)
+        (steps_so more) (pending_persists p (course_wider (λ s w x. x.about.spares keeps) more))
+
+    module _ (old new : World) (x : PortDone p c old new) where
+      -- the step that called it
+      last_called : port_there (after x.last x.before).roots p ≡ option_map (called_port c) (port_there (met_by x.last x.before) p)
+      last_called = port_after x.last x.before _ x.done ∙ port_of_called c (place (met_by x.last x.before) p) ∙ ap (option_map (called_port c)) (sym (port_of_place (met_by x.last x.before) p))
+
+      -- where it came to nothing, it was called already
+      idle_called : (after x.last x.before).roots ≡ x.before.roots → Called x.before (after x.last x.before)
+      idle_called e =
+          last_called ∙ sym (some_twice c (port_there (met_by x.last x.before) p))
+          ∙ ap (option_map (called_port c)) (sym last_called ∙ ap (λ t. port_there t p) e)
+
+      last_so : live x.before.roots p ≡ true → StandsSo Called x.before (after x.last x.before)
+      last_so on = step_so Called x.last x.before x.acts (λ e. last_called ∙ ap (option_map (called_port c)) e) idle_called on
+
+      since_so : live (after x.last x.before).roots p ≡ true → StandsSo KeptOrCalled (after x.last x.before) new
+      since_so on = pick (rests_or_pends p (x.since p) on)
+        where
+          pick : RestsOrPends (after x.last x.before) new p → StandsSo KeptOrCalled (after x.last x.before) new
+          pick (inl y) = inl (y.0, inl y.1.port, y.1.what)
+          pick (inr y) = inr y
+
+      now_called : live old.roots p ≡ true → StandsSo Called old (after x.last x.before)
+      now_called on =
+          then_so KeptOrCalled Called Called old x.before (after x.last x.before) (called_then old x.before (after x.last x.before))
+          (steps_so x.repeats on) last_so (pending_persists p (step x.last (x.acts.about.spares keeps) (here (after x.last x.before))))
+
+      -- a port that was powered on its whole way is so still, with the same device or none, and is what the call makes of it; or a change is pending
+      pub done_stands : live old.roots p ≡ true → StandsSo Called old new
+      done_stands on =
+          then_so Called KeptOrCalled Called old (after x.last x.before) new called_on
+          (now_called on) since_so (pending_persists p (course_wider (λ s w y. y.spares) (x.since p)))
+        where
+          called_on : Called old (after x.last x.before) → KeptOrCalled (after x.last x.before) new → Called old new
+          called_on a (inl b) = b ∙ a
+          called_on a (inr b) = b ∙ ap (option_map (called_port c)) a ∙ some_twice c (port_there old.roots p)
+
+-- A port whose status was told: it is powered on its whole way, with the same device or none, and as it was told; or a change is pending
+abbrev pub StandsTold : List ℕ → PortState → World → World → Type 0
+StandsTold p b w v = ((live v.roots p ≡ true) × (port_there v.roots p ≡ Some b) × (option_map spec_of (state_there v.roots p) ≡ option_map spec_of (state_there w.roots p))) ⊎ (pend v.roots p ≡ true)
+
+pub told_stands : (p : List ℕ) (status : PortStatus) (old new : World) (x : PortTold p status old new) → live old.roots p ≡ true → StandsTold p x.port old new
+told_stands p status old new x on = first (rests_or_pends p (x.before p) on)
+  where
+    second : SameAt old.roots x.now.roots p → RestsOrPends x.now new p → StandsTold p x.port old new
+    second a (inl y) = inl (y.0, y.1.port ∙ x.stood, y.1.what ∙ a.what)
+    second a (inr y) = inr y
+
+    first : RestsOrPends old x.now p → StandsTold p x.port old new
+    first (inl y) = second y.1 (rests_or_pends p (x.since p) y.0)
+    first (inr y) = inr (pending_persists p (course_wider (λ s w k. k.spares) (x.since p)) y)
+
+-- A device on an enabled port of the host, or of a device that is reached, is reached
+
+enabled_row : (k : Ports) (m : ℕ) (b : PortState) (s : State) → port_at k m [] ≡ Some b → b.enable ≡ true → state_at k m [] ≡ Some s → reach_at k m [] ≡ true
+unfolding port_at state_at reach_at
+enabled_row ended m b s there e at = absurd (cc at)
+enabled_row (vacant c k) zero b s there e at = absurd (cc at)
+enabled_row (vacant c k) (suc m) b s there e at = enabled_row k m b s there e at
+enabled_row (taken c t a k) zero b s there e at = ap (λ y. y.enable) (same_Some c b there) ∙ e
+enabled_row (taken c t a k) (suc m) b s there e at = enabled_row k m b s there e at
+
+enabled_below : (k : Ports) (j : ℕ) (e : List ℕ) (n : ℕ) (b : PortState) (s : State) → reach_at k j e ≡ true → port_at k j (e ++ (n ∷ [])) ≡ Some b → b.enable ≡ true → state_at k j (e ++ (n ∷ [])) ≡ Some s
+    → reach_at k j (e ++ (n ∷ [])) ≡ true
+unfolding port_at state_at reach_at
+enabled_below ended j e n b s on there h at = no on
+enabled_below (vacant c k) zero e n b s on there h at = no on
+enabled_below (vacant c k) (suc j) e n b s on there h at = enabled_below k j e n b s on there h at
+enabled_below (taken c t a k) zero [] zero b s on there h at = absurd (cc at)
+enabled_below (taken c t a k) zero [] (suc m) b s on there h at = and_of c.enable (reach_at a m []) on (enabled_row a m b s there h at)
+enabled_below (taken c t a k) zero (zero ∷ e) n b s on there h at = no on
+enabled_below (taken c t a k) zero (suc i ∷ e) n b s on there h at =
+    let x : _ = both c.enable (reach_at a i e) on in and_of c.enable (reach_at a i (e ++ (n ∷ []))) x.0 (enabled_below a i e n b s x.1 there h at)
+enabled_below (taken c t a k) (suc j) e n b s on there h at = enabled_below k j e n b s on there h at
+
+pub enabled_reach : (w : World) (p : List ℕ) → OnReachedRow w p → (b : PortState) → port_there w.roots p ≡ Some b → b.enable ≡ true → (s : State) → state_there w.roots p ≡ Some s → reach w.roots p ≡ true
+enabled_reach w p row b there h s at =
+    subst (λ x. reach w.roots x ≡ true) (sym row.is)
+    (by_row row.parent row.number row.reached (subst (λ x. port_there w.roots x ≡ Some b) row.is there) (subst (λ x. state_there w.roots x ≡ Some s) row.is at))
+  where
+    by_row : (q : List ℕ) (n : ℕ) → row_reached w.roots q ≡ true → port_there w.roots (q ++ (n ∷ [])) ≡ Some b → state_there w.roots (q ++ (n ∷ [])) ≡ Some s → reach w.roots (q ++ (n ∷ [])) ≡ true
+    by_row [] zero on there at = absurd (cc at)
+    by_row [] (suc i) on there at = enabled_row w.roots i b s there h at
+    by_row (zero ∷ e) n on there at = no on
+    by_row (suc j ∷ e) n on there at = enabled_below w.roots j e n b s on there h at

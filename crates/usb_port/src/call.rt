@@ -1,0 +1,71 @@
+//! What the host can ask of a port of a hub (11.24).
+ghost use Rattle.std.specs.Prelude.{◌≡◌};
+ghost use Rattle.usb_port.specs.Calls.{set_call, clear_call, called_port};
+
+use crate::Port;
+use usb_request::feature::{
+    C_PORT_CONNECTION, C_PORT_ENABLE, C_PORT_RESET, PORT_ENABLE, PORT_POWER, PORT_RESET,
+};
+
+/// A call of the port table.
+#[derive(Clone, Copy, Debug)]
+pub enum PortCall {
+    /// SetPortFeature of PORT_POWER.
+    SetPower,
+    /// SetPortFeature of PORT_RESET.
+    SetReset,
+    /// ClearPortFeature of PORT_ENABLE.
+    ClearEnable,
+    /// ClearPortFeature of PORT_POWER.
+    ClearPower,
+    /// ClearPortFeature of C_PORT_CONNECTION.
+    ClearConnectionChange,
+    /// ClearPortFeature of C_PORT_ENABLE.
+    ClearEnableChange,
+    /// ClearPortFeature of C_PORT_RESET.
+    ClearResetChange,
+}
+
+impl PortCall {
+    /// SetPortFeature of a feature (11.24.2.13), which is 8 or 4; None for any other.
+    pub fn of_set(feature: u16) -> Option<PortCall>
+        ensures { result ≡ set_call feature }
+    {
+        match feature {
+            PORT_POWER => Some(PortCall::SetPower),
+            PORT_RESET => Some(PortCall::SetReset),
+            _ => None,
+        }
+    }
+
+    /// ClearPortFeature of a feature (11.24.2.2), which is 1, 8, 16, 17 or 20; None for any other.
+    pub fn of_clear(feature: u16) -> Option<PortCall>
+        ensures { result ≡ clear_call feature }
+    {
+        match feature {
+            PORT_ENABLE => Some(PortCall::ClearEnable),
+            PORT_POWER => Some(PortCall::ClearPower),
+            C_PORT_CONNECTION => Some(PortCall::ClearConnectionChange),
+            C_PORT_ENABLE => Some(PortCall::ClearEnableChange),
+            C_PORT_RESET => Some(PortCall::ClearResetChange),
+            _ => None,
+        }
+    }
+}
+
+impl Port {
+    /// Makes a call at the port: what its row of the port table says (11.24.2.2, 11.24.2.13).
+    pub fn call(&mut self, call: PortCall)
+        ensures { self.new ≡ called_port call self.old }
+    {
+        match call {
+            PortCall::SetPower => self.power_on(),
+            PortCall::SetReset => self.reset(),
+            PortCall::ClearEnable => self.disable(),
+            PortCall::ClearPower => self.power_off(),
+            PortCall::ClearConnectionChange => self.clear_connection_change(),
+            PortCall::ClearEnableChange => self.clear_enable_change(),
+            PortCall::ClearResetChange => self.clear_reset_change(),
+        }
+    }
+}

@@ -1,0 +1,28 @@
+-- The addresses that devices hold at the beginning of a run, and after an event.
+use Rattle.std.proofs.Common.{◌≡◌, refl, sym, ap, subst, false, ℕ, List, Option, None, Some, Result, Err}
+use Rattle.std.specs.Prelude.{OnOk, IsSome, is_some}
+use Rattle.usb_world.specs.declared.event.Due.{Due}
+use Rattle.usb_world.specs.declared.types.BusFault.{BusFault}
+use Rattle.usb_world.specs.declared.types.BusFault.TheVariants.{LimitReached, Memory, TraceFailed}
+use Rattle.usb_world.specs.PlanData.{PlanData}
+use Rattle.usb_world.specs.Steps.{TookEvent, after, event, opening}
+use Rattle.usb_world.specs.World.{World}
+use Rattle.usb_address.specs.Ownership.{Owned, TillFault}
+use Rattle.usb_address.proofs.Interface.{event_keeps, opening_reach, opening_settled}
+use Rattle.usb_host.specs.Hosting.{Hosting}
+use Rattle.usb_host.specs.Ownership.{IsUntouched, Owning, claims}
+
+-- before anything came, nothing is reachable
+pub untouched : (plan : PlanData) → IsUntouched (opening plan)
+untouched plan = record { single = refl; settled = opening_settled plan; none = opening_reach plan }
+
+-- what an event leaves of a host, whose bus stands for the world `mid` before it
+pub owning_event : (h : Hosting) (mid v : World) (t : Option (List ℕ)) (result : Result (Option Due) BusFault) → mid ≡ h.world → h.stopped ≡ false → TookEvent mid result v
+    → OnOk result (v ≡ after event mid)
+    → (result ≡ Err Memory → mid.fault ≡ None → v ≡ record mid { fault = Some Memory })
+    → (result ≡ Err TraceFailed → mid.fault ≡ None → v ≡ record (after event mid) { fault = Some TraceFailed })
+    → (result ≡ Err LimitReached → IsSome mid.fault) → Owning h → Owning (record h { world = v; trace = t })
+owning_event h mid v t result same running took exact refused cut limit o =
+    let before : TillFault (Owned (claims h.entries)) mid = subst (λ w. TillFault (Owned (claims h.entries)) w) (sym same) (o.owned running) in
+    let kept : TillFault (Owned (claims h.entries)) v = (event_keeps mid result v took exact refused cut (λ reached none. cc (ap is_some none, limit reached))).kept (claims h.entries) before in
+    record { single = kept.single; owned = λ _. kept }

@@ -1,0 +1,397 @@
+-- Transfers through pipes leave each device with its description and registers, and ask nothing of ports.
+use Rattle.std.proofs.Common.{◌≡◌, ◌≢◌, ◌⊎◌, inl, inr, ℕ, ◌==◌, true, false, List, Option, None, Some, Result, Ok, Err, refl, ap, sym, subst, ◌∙◌}
+use Rattle.std.specs.Global.{Vec}
+use Rattle.arrayvec.specs.ArrayVec.{ArrayVec}
+use Rattle.usb_packet.specs.declared.Toggle.{Toggle}
+use Rattle.usb_packet.specs.declared.Toggle.TheVariants.{One}
+use Rattle.usb_port.specs.PortState.{PortState}
+use Rattle.usb_request.specs.Layout.{bytes_of}
+use Rattle.usb_request.specs.Requests.{clear_endpoint_halt}
+use Rattle.usb_request.specs.declared.setup.Setup.{Setup}
+use Rattle.usb_device.specs.declared.bulk.Which.{Which}
+use Rattle.usb_device.specs.declared.bulk.Which.TheVariants.{BulkOut, BulkIn, Changes}
+use Rattle.usb_device.specs.declared.bulk.Pipe.{Pipe}
+use Rattle.usb_device.specs.Bulk.{rested}
+use Rattle.usb_device.specs.Progress.{OnlyControl}
+use Rattle.usb_device.specs.Request.{Outcome, stalled, answers, takes_address, takes_configuration, halts, unhalts, tells_port, calls_port, on_endpoint, outcome}
+use Rattle.usb_device.specs.Rows.{State, with_pipe, begun, accepted}
+use Rattle.usb_device.specs.Spec.{Spec}
+use Rattle.usb_device.specs.declared.request.Registers.{Registers}
+use Rattle.usb_device.specs.Transfer.{first_stage, ending}
+use Rattle.usb_device.specs.Tree.{reach_at, state_at, Spot, reach_on, state_on}
+use Rattle.usb_world.specs.declared.types.Attempt.{Attempt}
+use Rattle.usb_world.specs.declared.types.BusFault.{BusFault}
+use Rattle.usb_world.specs.Addresses.{is_setup}
+use Rattle.usb_world.specs.Devices.{EachWas, DidIn, DidOut}
+use Rattle.usb_world.specs.OneHolder.{IsMade, IsIn, IsOut}
+use Rattle.usb_world.specs.Passes.{IsSettled}
+use Rattle.usb_world.specs.PortRequests.{is_plain}
+use Rattle.usb_world.specs.RestingPorts.{AsksNothingOf}
+use Rattle.usb_world.specs.Steps.{Step, attempt, root_call, event, report, after, ready, with_attempt, Course, here, step}
+use Rattle.usb_world.specs.World.{World}
+use Rattle.usb_world.proofs.Interface.{Cut, cut_or_same, data_asks_nothing, decided, due_shared, each_in, each_joined, each_none, each_out, each_wider, faulted, limited, made_is, made_whole, neither, same_equal, unequal, unmade}
+use Rattle.usb_transaction.specs.Attempts.{IsOnly, GivenUp}
+use Rattle.usb_transaction.specs.HeardOutcomes.{heard_as, set_up_as}
+use Rattle.usb_transaction.specs.Transactions.{in_attempt, setup_attempt}
+use Rattle.usb_transaction.specs.declared.target.Target.{Target}
+use Rattle.usb_transaction.proofs.Interface.{trail_settled, trail_unshared, transacted_unshared}
+use Rattle.usb_pipe.specs.declared.fault.PipeFault.{PipeFault}
+use Rattle.usb_pipe.specs.declared.fault.PipeFault.TheVariants as pipe
+use Rattle.usb_pipe.specs.Attempts.{TransferAttempts}
+use Rattle.usb_pipe.specs.Bulk.{Bulk, Sends, Receives, Clears, Cleared, halt_address}
+use Rattle.usb_pipe.specs.End.{packet_target}
+use Rattle.usb_pipe.specs.Interrupt.{Interrupt, Polls}
+use Rattle.usb_pipe.specs.Moves.{SendsAt}
+use Rattle.usb_pipe.specs.Leaves.{WriteLeaves}
+use Rattle.usb_pipe.specs.Stages.{Writes}
+use Rattle.usb_pipe.proofs.Interface.{given_registers, harmless, poll_attempts, receive_attempts, send_attempts}
+use Rattle.usb_address.proofs.Interface.{Ran, attempt_settled, in_kept, out_kept}
+use Rattle.usb_hub.specs.Requests.{AllRest, Ordered}
+use Rattle.usb_hub.proofs.Interface.{each_leaves, order_elsewhere, write_rests, write_so}
+use Rattle.usb_enum.proofs.Interface.{ended}
+use Rattle.usb_table.specs.Transfers.{SameSettings, KeepsSettings}
+use Rattle.usb_table.proofs.KeptPipes.{broken_or_not, ready_or_not, empty_or_not, none_or_some}
+
+-- Each device over such an attempt
+
+abbrev pub RanAs : Spot → State → State → Type 0
+RanAs j s v = Ran s v
+
+data IsFar (a : Attempt) : Type 0 where
+  into : IsIn a → (a.ep == 0) ≡ false → IsFar a
+  out : (t : Toggle) (bytes : List ℕ) → IsOut a t bytes → (a.ep == 0) ≡ false → IsFar a
+
+far_kind : (a : Attempt) → IsFar a → is_setup a.kind ≡ false
+far_kind a (into i far) = ap is_setup i.kind
+far_kind a (out t bytes i far) = ap is_setup i.kind
+
+as_it_was : (s v : State) → v ≡ s → Ran s v
+as_it_was s v e = (ap (λ x. x.spec) e, ap (λ x. x.registers) e, ap (λ x. x.changes.halted) e)
+
+kept_by : (s u v : State) → v ≡ u → Ran s u → Ran s v
+kept_by s u v e h = (ap (λ x. x.spec) e ∙ h.0, ap (λ x. x.registers) e ∙ h.1, ap (λ x. x.changes.halted) e ∙ h.2)
+
+did_in : (a : Attempt) (w : World) (j : Spot) (s v : State) → (a.ep == 0) ≡ false → DidIn a w j s v → RanAs j s v
+did_in a w j s v far (DidIn.other d e) = as_it_was s v e
+did_in a w j s v far (DidIn.silent at y o e) = as_it_was s v e
+did_in a w j s v far (DidIn.asked at y b below h x o e) = kept_by s _ v e (in_kept s _ a.ep a.max x.first x.second x.third far)
+
+did_out : (a : Attempt) (t : Toggle) (bytes : List ℕ) (w : World) (j : Spot) (s v : State) → (a.ep == 0) ≡ false → DidOut a t bytes w j s v → RanAs j s v
+did_out a t bytes w j s v far (DidOut.other d e) = as_it_was s v e
+did_out a t bytes w j s v far (DidOut.silent at y o e) = as_it_was s v e
+did_out a t bytes w j s v far (DidOut.asked at y x o e) = kept_by s _ v e (out_kept s a.ep t bytes x.first x.second x.third far)
+
+each_far : (a : Attempt) (w : World) → IsFar a → IsMade a w → (after (attempt a) w).shared ≡ false → EachWas RanAs w (after (attempt a) w)
+each_far a w (into i far) m single = each_wider (DidIn a w) RanAs (λ j s v. did_in a w j s v far) w (after (attempt a) w) (each_in a w m i single)
+each_far a w (out t bytes i far) m single = each_wider (DidOut a t bytes w) RanAs (λ j s v. did_out a t bytes w j s v far) w (after (attempt a) w) (each_out a w t bytes m i single)
+
+each_itself : (w : World) → EachWas RanAs w w
+each_itself w = each_none RanAs (λ j s. (refl, refl, refl)) w
+
+each_then : (u w v : World) → EachWas RanAs u w → EachWas RanAs w v → EachWas RanAs u v
+each_then u w v x y = each_joined RanAs RanAs RanAs (λ j s t v h k. (k.0 ∙ h.0, k.1 ∙ h.1, k.2 ∙ h.2)) u w v x y
+
+each_at : (u w v : World) → w.roots ≡ v.roots → EachWas RanAs u w → EachWas RanAs u v
+each_at u w v e x j s on there = x j s (ap (λ k. reach_on k j) e ∙ on) (ap (λ k. state_on k j) e ∙ there)
+
+-- no address was held twice before, and each device stays
+record Stayed (w v : World) : Type 0 where
+  before : w.shared ≡ false
+  each : EachWas RanAs w v
+
+made_single : (a : Attempt) (w : World) → IsMade a w → (after (attempt a) w).shared ≡ false → w.shared ≡ false
+unfolding with_attempt ready
+made_single a w m single = sym (due_shared w.left w) ∙ (neither _ _ (sym (ap (λ x. x.shared) (made_is a w m)) ∙ single)).0
+
+step_stays : (a : Attempt) (w : World) → IsFar a → IsSettled w.roots → (after (attempt a) w).shared ≡ false → Stayed w (after (attempt a) w)
+step_stays a w far settled single = pick w.fault refl
+  where
+    tried : w.fault ≡ None → ((w.attempts == w.limit) ≡ true) ⊎ ((w.attempts == w.limit) ≡ false) → Stayed w (after (attempt a) w)
+    tried sound (inl e) =
+        let is = limited a w sound e in
+        record { before = sym (ap (λ x. x.shared) is) ∙ single; each = each_at w w (after (attempt a) w) (sym (ap (λ x. x.roots) is)) (each_itself w) }
+    tried sound (inr e) =
+        let made : IsMade a w = record { sound = sound; within = λ l. cc (sym (same_equal w.attempts w.limit l) ∙ e); settled = settled } in
+        record { before = made_single a w made single; each = each_far a w far made single }
+
+    pick : (o : Option BusFault) → w.fault ≡ o → Stayed w (after (attempt a) w)
+    pick None e = tried e (decided (w.attempts == w.limit))
+    pick (Some g) e =
+        let is = faulted a w g e in
+        record { before = sym (ap (λ x. x.shared) is) ∙ single; each = each_at w w (after (attempt a) w) (sym (ap (λ x. x.roots) is)) (each_itself w) }
+
+-- Over all attempts of a call
+
+abbrev IsFarStep : Step → Type 0
+IsFarStep (attempt a) = IsFar a
+IsFarStep (root_call c n) = ⊥
+IsFarStep event = ⊥
+IsFarStep (report line) = ⊥
+
+step_settled : (s : Step) (w : World) → IsFarStep s → IsSettled w.roots → IsSettled (after s w).roots
+step_settled (attempt a) w far settled = attempt_settled a w settled
+step_settled (root_call c n) w far settled = absurd far
+step_settled event w far settled = absurd far
+step_settled (report line) w far settled = absurd far
+
+any_stays : (s : Step) (w : World) → IsFarStep s → IsSettled w.roots → (after s w).shared ≡ false → Stayed w (after s w)
+any_stays (attempt a) w far settled single = step_stays a w far settled single
+any_stays (root_call c n) w far settled single = absurd far
+any_stays event w far settled single = absurd far
+any_stays (report line) w far settled single = absurd far
+
+any_rests : (s : Step) (w : World) (x : List ℕ) → IsFarStep s → IsSettled w.roots → AsksNothingOf x s w
+any_rests (attempt a) w x far settled = data_asks_nothing a w x (far_kind a far) settled
+any_rests (root_call c n) w x far settled = absurd far
+any_rests event w x far settled = absurd far
+any_rests (report line) w x far settled = absurd far
+
+module _ (K : Step → World → Type 0) (far : (s : Step) (w : World) → K s w → IsFarStep s) where
+  course_settled : {w v : World} → Course K w v → IsSettled w.roots → IsSettled v.roots
+  course_settled (here w) settled = settled
+  course_settled (step s {w} {v} k c) settled = course_settled c (step_settled s w (far s w k) settled)
+
+  course_stays : {w v : World} → Course K w v → IsSettled w.roots → v.shared ≡ false → Stayed w v
+  course_stays (here w) settled single = record { before = single; each = each_itself w }
+  course_stays (step s {w} {v} k c) settled single =
+      let rest = course_stays c (step_settled s w (far s w k) settled) single in
+      let first = any_stays s w (far s w k) settled rest.before in
+      record { before = first.before; each = each_then w (after s w) v first.each rest.each }
+
+  course_rests : (x : List ℕ) {w v : World} → Course K w v → IsSettled w.roots → Course (AsksNothingOf x) w v
+  course_rests x (here w) settled = here w
+  course_rests x (step s {w} {v} k c) settled = step s (any_rests s w x (far s w k) settled) (course_rests x c (step_settled s w (far s w k) settled))
+
+  cut_stays : (old : World) (fault : BusFault) (new : World) → GivenUp K old fault new → IsSettled old.roots → new.shared ≡ false → EachWas RanAs old new
+  cut_stays old fault new g settled single =
+      pick (cut_or_same g.last g.mid fault new g.fits (course_settled g.course settled) g.refused g.fails single)
+    where
+      pick : Cut g.last g.mid new → EachWas RanAs old new
+      pick (unmade h each) =
+          each_then old g.mid new (course_stays g.course settled h).each (each_wider (λ j s x. x ≡ s) RanAs (λ j s v e. as_it_was s v e) g.mid new each)
+      pick (made_whole h m u r) =
+          each_then old g.mid new (course_stays g.course settled h).each (each_at g.mid (after (attempt g.last) g.mid) new r (each_far g.last g.mid (far (attempt g.last) g.mid g.is) m u))
+
+  module _ {A : Type 0} (old new : World) (settled : IsSettled old.roots) where
+    attempts_run : (result : Result A PipeFault) → TransferAttempts K old result new → new.shared ≡ false → EachWas RanAs old new
+    attempts_run result x = by_result result x
+      where
+        by_result : (result : Result A PipeFault) → TransferAttempts K old result new → new.shared ≡ false → EachWas RanAs old new
+        by_result (Ok y) x single = (course_stays (x.whole tt) settled single).each
+        by_result (Err pipe.Stalled) x single = (course_stays (x.whole tt) settled single).each
+        by_result (Err pipe.Busy) x single = (course_stays (x.whole tt) settled single).each
+        by_result (Err pipe.NoAnswer) x single = (course_stays (x.whole tt) settled single).each
+        by_result (Err pipe.Broken) x single = (course_stays (x.whole tt) settled single).each
+        by_result (Err (pipe.Bus fault)) x single = cut_stays old fault new (x.cut fault refl) settled single
+        by_result (Err pipe.Memory) x single = (course_stays (x.whole tt) settled single).each
+
+    attempts_rest : (result : Result A PipeFault) → TransferAttempts K old result new → new.fault ≡ None → AllRest old new
+    attempts_rest (Ok y) x sound p = course_rests p (x.whole tt) settled
+    attempts_rest (Err pipe.Stalled) x sound p = course_rests p (x.whole tt) settled
+    attempts_rest (Err pipe.Busy) x sound p = course_rests p (x.whole tt) settled
+    attempts_rest (Err pipe.NoAnswer) x sound p = course_rests p (x.whole tt) settled
+    attempts_rest (Err pipe.Broken) x sound p = course_rests p (x.whole tt) settled
+    attempts_rest (Err (pipe.Bus fault)) x sound p = let told = (x.cut fault refl).refused.ends.told in absurd (cc (told, sound))
+    attempts_rest (Err pipe.Memory) x sound p = course_rests p (x.whole tt) settled
+
+-- The calls of pipes
+
+far_number : (ep : ℕ) → ep ≢ 0 → (ep == 0) ≡ false
+far_number ep far = unequal ep 0 far
+
+only_far : (t : Target) (ep : ℕ) → ep ≢ 0 → (s : Step) (w : World) → IsOnly (in_attempt t ep) s w → IsFarStep s
+only_far t ep far s w e = subst IsFarStep (sym e) (into (record { kind = refl; payload = refl }) (far_number ep far))
+
+sends_far : (t : Target) (ep : ℕ) (first : Toggle) (bytes : List ℕ) (old : World) → ep ≢ 0 → (s : Step) (w : World) → SendsAt t ep first bytes old s w → IsFarStep s
+sends_far t ep first bytes old far s w x = subst IsFarStep (sym x.is) (out _ _ (record { kind = refl; payload = refl }) (far_number ep far))
+
+pub settings_none : (w : World) → KeepsSettings w w
+settings_none w = record { same = λ single. each_none SameSettings (λ j s. (refl, refl)) w }
+
+pub settings_then : (old mid new : World) → (new.shared ≡ false → mid.shared ≡ false) → KeepsSettings old mid → KeepsSettings mid new → KeepsSettings old new
+settings_then old mid new before x y = record {
+  same = λ single. each_joined SameSettings SameSettings SameSettings (λ j s t v h k. (k.0 ∙ h.0, k.1 ∙ h.1)) old mid new (x.same (before single)) (y.same single);
+}
+
+same_stays : (old new : World) → new ≡ old → KeepsSettings old new
+same_stays old new e = subst (KeepsSettings old) (sym e) (settings_none old)
+
+ran_stays : (old new : World) → (new.shared ≡ false → EachWas RanAs old new) → KeepsSettings old new
+ran_stays old new ran = record { same = λ single. each_wider RanAs SameSettings (λ j s v k. (k.0, k.1)) old new (ran single) }
+
+same_rests : (old new : World) → new ≡ old → AllRest old new
+same_rests old new e x = subst (λ v. Course (AsksNothingOf x) old v) (sym e) (here old)
+
+pub polls_run : (pipe : Interrupt) → pipe.ep ≢ 0 → (old : World) (result : Result (Option (ArrayVec ℕ)) PipeFault) (left : Interrupt) (new : World) → IsSettled old.roots → Polls pipe old result left new → new.shared ≡ false
+    → EachWas RanAs old new
+polls_run pipe far old result left new settled x =
+    attempts_run (IsOnly (in_attempt pipe.target pipe.ep)) (only_far pipe.target pipe.ep far) old new settled result (poll_attempts pipe result left old new x)
+
+pub polls_stay : (pipe : Interrupt) → pipe.ep ≢ 0 → (old : World) (result : Result (Option (ArrayVec ℕ)) PipeFault) (left : Interrupt) (new : World) → IsSettled old.roots → Polls pipe old result left new → KeepsSettings old new
+polls_stay pipe far old result left new settled x = ran_stays old new (polls_run pipe far old result left new settled x)
+
+pub polls_rest : (pipe : Interrupt) → pipe.ep ≢ 0 → (old : World) (result : Result (Option (ArrayVec ℕ)) PipeFault) (left : Interrupt) (new : World) → IsSettled old.roots → Polls pipe old result left new → new.fault ≡ None → AllRest old new
+polls_rest pipe far old result left new settled x sound =
+    attempts_rest (IsOnly (in_attempt pipe.target pipe.ep)) (only_far pipe.target pipe.ep far) old new settled result (poll_attempts pipe result left old new x) sound
+
+-- a call that makes no attempt changes nothing; for another the ports are settled
+moved_or_same : (bytes : List ℕ) (pipe : Bulk) (old : World) (result : Result (Unit {0}) PipeFault) (left : Bulk) (new : World) → Sends bytes pipe old result left new → IsSettled old.roots ⊎ (new ≡ old)
+moved_or_same bytes pipe old result left new x = elim (broken_or_not pipe.condition) [
+  | inl broken ↦ inr (x.broken broken).world_kept
+  | inr works ↦ elim (empty_or_not bytes) [
+    | inl nothing ↦ inr (x.nothing works nothing).world_kept
+    | inr more ↦ inl (x.moved works more).settled
+  ]
+]
+
+came_or_same : (wanted : ℕ) (pipe : Bulk) (old : World) (result : Result (Vec ℕ) PipeFault) (left : Bulk) (new : World) → Receives wanted pipe old result left new → IsSettled old.roots ⊎ (new ≡ old)
+came_or_same wanted pipe old result left new x = elim (broken_or_not pipe.condition) [
+  | inl broken ↦ inr (x.broken broken).2
+  | inr works ↦ elim (none_or_some wanted) [
+    | inl nothing ↦ inr (x.nothing works nothing).2
+    | inr more ↦ inl (x.moved works more).settled
+  ]
+]
+
+pub sends_stay : (bytes : List ℕ) (pipe : Bulk) → pipe.ep ≢ 0 → (old : World) (result : Result (Unit {0}) PipeFault) (left : Bulk) (new : World) → Sends bytes pipe old result left new → KeepsSettings old new
+sends_stay bytes pipe far old result left new x = elim (moved_or_same bytes pipe old result left new x) [
+  | inl settled ↦
+      ran_stays old new
+      (attempts_run (SendsAt (packet_target pipe.target pipe.max) pipe.ep pipe.toggle bytes old) (sends_far (packet_target pipe.target pipe.max) pipe.ep pipe.toggle bytes old far) old new settled result
+      (send_attempts bytes pipe result left old new x))
+  | inr same ↦ same_stays old new same
+]
+
+pub sends_rest : (bytes : List ℕ) (pipe : Bulk) → pipe.ep ≢ 0 → (old : World) (result : Result (Unit {0}) PipeFault) (left : Bulk) (new : World) → Sends bytes pipe old result left new → new.fault ≡ None → AllRest old new
+sends_rest bytes pipe far old result left new x sound = elim (moved_or_same bytes pipe old result left new x) [
+  | inl settled ↦
+      attempts_rest (SendsAt (packet_target pipe.target pipe.max) pipe.ep pipe.toggle bytes old) (sends_far (packet_target pipe.target pipe.max) pipe.ep pipe.toggle bytes old far) old new settled result
+      (send_attempts bytes pipe result left old new x) sound
+  | inr same ↦ same_rests old new same
+]
+
+pub receives_stay : (wanted : ℕ) (pipe : Bulk) → pipe.ep ≢ 0 → (old : World) (result : Result (Vec ℕ) PipeFault) (left : Bulk) (new : World) → Receives wanted pipe old result left new → KeepsSettings old new
+receives_stay wanted pipe far old result left new x = elim (came_or_same wanted pipe old result left new x) [
+  | inl settled ↦
+      ran_stays old new
+      (attempts_run (IsOnly (in_attempt (packet_target pipe.target pipe.max) pipe.ep)) (only_far (packet_target pipe.target pipe.max) pipe.ep far) old new settled result (receive_attempts wanted pipe result left old new x))
+  | inr same ↦ same_stays old new same
+]
+
+pub receives_rest : (wanted : ℕ) (pipe : Bulk) → pipe.ep ≢ 0 → (old : World) (result : Result (Vec ℕ) PipeFault) (left : Bulk) (new : World) → Receives wanted pipe old result left new → new.fault ≡ None → AllRest old new
+receives_rest wanted pipe far old result left new x sound = elim (came_or_same wanted pipe old result left new x) [
+  | inl settled ↦
+      attempts_rest (IsOnly (in_attempt (packet_target pipe.target pipe.max) pipe.ep)) (only_far (packet_target pipe.target pipe.max) pipe.ep far) old new settled result (receive_attempts wanted pipe result left old new x) sound
+  | inr same ↦ same_rests old new same
+]
+
+-- CLEAR_FEATURE(ENDPOINT_HALT)
+
+-- an endpoint halts no more, or the request is refused
+abbrev IsOfEndpoint : Outcome → Type 0
+IsOfEndpoint stalled = Unit {0}
+IsOfEndpoint (answers bytes) = ⊥
+IsOfEndpoint (takes_address a) = ⊥
+IsOfEndpoint (takes_configuration c) = ⊥
+IsOfEndpoint (halts x) = ⊥
+IsOfEndpoint (unhalts x) = Unit {0}
+IsOfEndpoint (tells_port i) = ⊥
+IsOfEndpoint (calls_port c i) = ⊥
+
+of_endpoint : (which : Option Which) → IsOfEndpoint (on_endpoint unhalts which)
+of_endpoint None = tt
+of_endpoint (Some which) = tt
+
+clear_outcome : (endpoint : ℕ) (spec : Spec) (g : Registers) → IsOfEndpoint (outcome spec g (clear_endpoint_halt endpoint))
+unfolding clear_endpoint_halt outcome
+clear_outcome endpoint spec g = of_endpoint _
+
+pipe_spec : (s : State) (which : Which) (pipe : Pipe) → (with_pipe s which pipe).spec ≡ s.spec
+pipe_spec s BulkOut pipe = refl
+pipe_spec s BulkIn pipe = refl
+pipe_spec s Changes pipe = refl
+
+begun_stays : (s v : State) (row : List PortState) (n : ℕ) (o : Outcome) → IsOfEndpoint o → OnlyControl (begun s row n o) v → v.registers ≡ (begun s row n o).registers → (v.spec ≡ s.spec) × (v.registers ≡ s.registers)
+begun_stays s v row n stalled is frame same = (ap (λ x. x.spec) frame, same)
+begun_stays s v row n (answers bytes) is frame same = absurd is
+begun_stays s v row n (takes_address a) is frame same = absurd is
+begun_stays s v row n (takes_configuration c) is frame same = absurd is
+begun_stays s v row n (halts which) is frame same = absurd is
+begun_stays s v row n (unhalts which) is frame same = (ap (λ x. x.spec) frame ∙ pipe_spec s which rested, same)
+begun_stays s v row n (tells_port i) is frame same = absurd is
+begun_stays s v row n (calls_port c i) is frame same = absurd is
+
+no_address : (row : List PortState) (n : ℕ) (address : Option ℕ) (o : Outcome) → IsOfEndpoint o → first_stage row n o ≡ ending address → address ≡ None
+no_address row n address stalled is e = absurd cc
+no_address row n address (answers bytes) is e = absurd is
+no_address row n address (takes_address a) is e = absurd is
+no_address row n address (takes_configuration c) is e = absurd is
+no_address row n address (halts which) is e = absurd is
+no_address row n address (unhalts which) is e = cc
+no_address row n address (tells_port i) is e = absurd is
+no_address row n address (calls_port c i) is e = absurd is
+
+module _ (t : Target) (request : Setup) (of : (spec : Spec) (g : Registers) → IsOfEndpoint (outcome spec g request)) (old new : World) (j : Spot) (s v : State) where
+  accepted_stays : (row : List PortState) → OnlyControl (accepted s row request) v → v.registers ≡ (accepted s row request).registers → SameSettings j s v
+  accepted_stays row frame same = begun_stays s v row request.length (outcome s.spec s.registers request) (of s.spec s.registers) frame same
+
+  write_stays : (result : Result (Unit {0}) PipeFault) → WriteLeaves t request result old new j s v → SameSettings j s v
+  write_stays =
+      write_so t request old new j s v (SameSettings j s v) accepted_stays
+      (λ row address is frame given. accepted_stays row frame (given_registers address (accepted s row request) v (no_address row request.length address (outcome s.spec s.registers request) (of s.spec s.registers) is) given))
+      (λ frame same. (ap (λ x. x.spec) frame, same))
+
+module _ (endpoint : ℕ) where
+  clear_plain : is_plain (clear_endpoint_halt endpoint) ≡ true
+  unfolding clear_endpoint_halt
+  clear_plain = refl
+
+  pub clear_length : (clear_endpoint_halt endpoint).length ≡ 0
+  unfolding clear_endpoint_halt
+  clear_length = refl
+
+pub cleared_ordered : (pipe : Bulk) (old : World) (result : Result (Unit {0}) PipeFault) (left : Bulk) (new : World) → Cleared pipe old result left new → Ordered pipe.target (clear_endpoint_halt (halt_address pipe.ep pipe.is_in)) old result new
+cleared_ordered pipe old result left new x = record {
+  settled = x.settled;
+  ends = x.ends;
+  stages = x.stages;
+  room = x.room;
+  rests = λ plain sound. write_rests pipe.target (clear_endpoint_halt (halt_address pipe.ep pipe.is_in)) result old new x.settled x.stages plain sound;
+  elsewhere = order_elsewhere pipe.target (clear_endpoint_halt (halt_address pipe.ep pipe.is_in)) result old new x.stages;
+}
+
+cleared_stays : (pipe : Bulk) (old : World) (result : Result (Unit {0}) PipeFault) (left : Bulk) (new : World) → Cleared pipe old result left new → KeepsSettings old new
+cleared_stays pipe old result left new x = record {
+  same = λ single.
+      let request : Setup = clear_endpoint_halt (halt_address pipe.ep pipe.is_in) in
+      each_wider (WriteLeaves pipe.target request result old new) SameSettings
+      (λ j s v. write_stays pipe.target request (clear_outcome (halt_address pipe.ep pipe.is_in)) old new j s v result) old new
+      (each_leaves pipe.target request (harmless (halt_address pipe.ep pipe.is_in)) (clear_length (halt_address pipe.ep pipe.is_in)) result old new (cleared_ordered pipe old result left new x) single);
+}
+
+pub clears_stay : (pipe : Bulk) (old : World) (result : Result (Unit {0}) PipeFault) (left : Bulk) (new : World) → Clears pipe old result left new → KeepsSettings old new
+clears_stay pipe old result left new x = elim (ready_or_not pipe.condition) [
+  | inl ready ↦ same_stays old new (x.ready ready).world_kept
+  | inr not ↦ cleared_stays pipe old result left new (x.sent not)
+]
+
+pub clears_rest : (pipe : Bulk) (old : World) (result : Result (Unit {0}) PipeFault) (left : Bulk) (new : World) → Clears pipe old result left new → new.fault ≡ None → AllRest old new
+clears_rest pipe old result left new x sound = elim (ready_or_not pipe.condition) [
+  | inl ready ↦ same_rests old new (x.ready ready).world_kept
+  | inr not ↦
+      (cleared_ordered pipe old result left new (x.sent not)).rests (clear_plain (halt_address pipe.ep pipe.is_in)) (ended 2 result old new (x.sent not).ends sound)
+]
+
+-- no address was held twice before
+write_single : (t : Target) (request : Setup) (result : Result (Unit {0}) PipeFault) (old new : World) → IsSettled old.roots → Writes t request old result new → new.shared ≡ false → old.shared ≡ false
+write_single t request (Ok done) old new settled x single = trail_unshared x.set_up.trail (trail_unshared x.status.trail single)
+write_single t request (Err why) old new settled (inl x) single = transacted_unshared set_up_as (setup_attempt t (bytes_of request)) old new (Err x.fault) x.set_up settled single
+write_single t request (Err why) old new settled (inr x) single =
+    trail_unshared x.set_up.trail
+    (transacted_unshared (heard_as One) (in_attempt t 0) x.mid new (Err x.fault) x.status (trail_settled x.set_up.trail settled) single)
+
+pub clears_single : (pipe : Bulk) (old : World) (result : Result (Unit {0}) PipeFault) (left : Bulk) (new : World) → Clears pipe old result left new → new.shared ≡ false → old.shared ≡ false
+clears_single pipe old result left new x single = elim (ready_or_not pipe.condition) [
+  | inl ready ↦ ap (λ w. w.shared) (sym (x.ready ready).world_kept) ∙ single
+  | inr not ↦ write_single pipe.target (clear_endpoint_halt (halt_address pipe.ep pipe.is_in)) result old new (x.sent not).settled (x.sent not).stages single
+]
