@@ -13,11 +13,9 @@ struct Row {
     tree: &'static str,
 }
 
-fn rows() -> &'static [Row] {
-    &[
-        Row {
-            name: "a hub below a hub",
-            events: r#"
+const A_HUB_BELOW_A_HUB: Row = Row {
+    name: "a hub below a hub",
+    events: r#"
 [[event]]
 do = "plug"
 path = "1"
@@ -41,7 +39,7 @@ path = "1.2.1"
 device = "fn"
 after = 0
 "#,
-            tree: r#"listing 1
+    tree: r#"listing 1
 1 address 1 full 120100020900004001000200000100000001
 1 config 0 09021900010100C000090400000109000000070581030100FF *
 1 hub 2 ports 500 mA
@@ -55,10 +53,11 @@ after = 0
 end
 bound 25000002
 "#,
-        },
-        Row {
-            name: "a hub that is unplugged",
-            events: r#"
+};
+
+const A_HUB_THAT_IS_UNPLUGGED: Row = Row {
+    name: "a hub that is unplugged",
+    events: r#"
 [[event]]
 do = "plug"
 path = "1"
@@ -84,7 +83,7 @@ do = "unplug"
 path = "1"
 after = 0
 "#,
-            tree: r#"listing 1
+    tree: r#"listing 1
 1 address 1 full 120100020900004001000200000100000001
 1 config 0 09021900010100C000090400000109000000070581030100FF *
 1 hub 2 ports 500 mA
@@ -99,10 +98,11 @@ listing 2
 end
 bound 31500002
 "#,
-        },
-        Row {
-            name: "a device below a hub that is unplugged",
-            events: r#"
+};
+
+const A_DEVICE_BELOW_A_HUB_THAT_IS_UNPLUGGED: Row = Row {
+    name: "a device below a hub that is unplugged",
+    events: r#"
 [[event]]
 do = "plug"
 path = "1"
@@ -137,7 +137,7 @@ path = "1.1"
 device = "low"
 after = 0
 "#,
-            tree: r#"listing 1
+    tree: r#"listing 1
 1 address 1 full 120100020900004001000200000100000001
 1 config 0 09021900010100C000090400000109000000070581030100FF *
 1 hub 2 ports 500 mA
@@ -164,10 +164,11 @@ listing 3
 end
 bound 44800002
 "#,
-        },
-        Row {
-            name: "transfers below a hub",
-            events: r#"
+};
+
+const TRANSFERS_BELOW_A_HUB: Row = Row {
+    name: "transfers below a hub",
+    events: r#"
 [[event]]
 do = "plug"
 path = "1"
@@ -197,7 +198,7 @@ do = "send"
 path = "1.1"
 bytes = "01"
 "#,
-            tree: r#"listing 1
+    tree: r#"listing 1
 1 address 1 full 120100020900004001000200000100000001
 1 config 0 090219000101008032090400000109000000070581030100FF *
 1 hub 2 ports 100 mA
@@ -216,13 +217,18 @@ listing 2
 end
 bound 38191002
 "#,
-        },
-    ]
-}
+};
+
+const ROWS: [Row; 4] = [
+    A_HUB_BELOW_A_HUB,
+    A_HUB_THAT_IS_UNPLUGGED,
+    A_DEVICE_BELOW_A_HUB_THAT_IS_UNPLUGGED,
+    TRANSFERS_BELOW_A_HUB,
+];
 
 #[test]
 fn trees_of_hubs_are_listed(rt: HostRuntime) -> Result<(), Fail> {
-    for row in rows() {
+    for row in &ROWS {
         let plan = format!(in rt.alloc(); "{HEAD}{}", row.events)?;
         let shown = compared(rt.alloc(), Mode::Tree, plan.as_str(), row.tree, "")?;
         assert_eq!(rt; shown, Shown::AsWanted, "{}", row.name);

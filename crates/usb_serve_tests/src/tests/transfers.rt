@@ -67,12 +67,9 @@ struct Row {
     told: &'static str,
 }
 
-/// A row for each way in which a transfer ends.
-fn rows() -> &'static [Row] {
-    &[
-        Row {
-            name: "transfers that are done",
-            events: r#"
+const TRANSFERS_THAT_ARE_DONE: Row = Row {
+    name: "transfers that are done",
+    events: r#"
 [[event]]
 do = "plug"
 path = "1"
@@ -92,14 +89,15 @@ packets = 1
 do = "clear"
 path = "1"
 "#,
-            told: r#"send 1 done 3
+    told: r#"send 1 done 3
 receive 1 done AABBCC
 clear 1 done
 "#,
-        },
-        Row {
-            name: "nothing to move",
-            events: r#"
+};
+
+const NOTHING_TO_MOVE: Row = Row {
+    name: "nothing to move",
+    events: r#"
 [[event]]
 do = "plug"
 path = "1"
@@ -115,13 +113,14 @@ do = "receive"
 path = "1"
 packets = 0
 "#,
-            told: r#"send 1 done 0
+    told: r#"send 1 done 0
 receive 1 done -
 "#,
-        },
-        Row {
-            name: "no device",
-            events: r#"
+};
+
+const NO_DEVICE: Row = Row {
+    name: "no device",
+    events: r#"
 [[event]]
 do = "plug"
 path = "1"
@@ -141,14 +140,15 @@ packets = 1
 do = "clear"
 path = "2"
 "#,
-            told: r#"send 2 failed no device
+    told: r#"send 2 failed no device
 receive 2 failed no device
 clear 2 failed no device
 "#,
-        },
-        Row {
-            name: "a refused device",
-            events: r#"
+};
+
+const A_REFUSED_DEVICE: Row = Row {
+    name: "a refused device",
+    events: r#"
 [[event]]
 do = "plug"
 path = "1"
@@ -168,14 +168,15 @@ packets = 1
 do = "clear"
 path = "1"
 "#,
-            told: r#"send 1 failed no device
+    told: r#"send 1 failed no device
 receive 1 failed no device
 clear 1 failed no device
 "#,
-        },
-        Row {
-            name: "no endpoint",
-            events: r#"
+};
+
+const NO_ENDPOINT: Row = Row {
+    name: "no endpoint",
+    events: r#"
 [[event]]
 do = "plug"
 path = "1"
@@ -195,14 +196,15 @@ packets = 1
 do = "clear"
 path = "1"
 "#,
-            told: r#"send 1 failed no endpoint
+    told: r#"send 1 failed no endpoint
 receive 1 failed no endpoint
 clear 1 failed no endpoint
 "#,
-        },
-        Row {
-            name: "a hub",
-            events: r#"
+};
+
+const A_HUB: Row = Row {
+    name: "a hub",
+    events: r#"
 [[event]]
 do = "plug"
 path = "1"
@@ -222,14 +224,15 @@ packets = 1
 do = "clear"
 path = "1"
 "#,
-            told: r#"send 1 failed no endpoint
+    told: r#"send 1 failed no endpoint
 receive 1 failed no endpoint
 clear 1 failed no endpoint
 "#,
-        },
-        Row {
-            name: "a halted endpoint",
-            events: r#"
+};
+
+const A_HALTED_ENDPOINT: Row = Row {
+    name: "a halted endpoint",
+    events: r#"
 [[event]]
 do = "plug"
 path = "1"
@@ -254,15 +257,16 @@ do = "send"
 path = "1"
 bytes = "03"
 "#,
-            told: r#"send 1 done 1
+    told: r#"send 1 done 1
 send 1 failed stalled
 clear 1 done
 send 1 done 1
 "#,
-        },
-        Row {
-            name: "a device that puts off",
-            events: r#"
+};
+
+const A_DEVICE_THAT_PUTS_OFF: Row = Row {
+    name: "a device that puts off",
+    events: r#"
 [[event]]
 do = "plug"
 path = "1"
@@ -282,14 +286,15 @@ packets = 1
 do = "clear"
 path = "1"
 "#,
-            told: r#"receive 1 failed busy
+    told: r#"receive 1 failed busy
 receive 1 failed broken
 clear 1 done
 "#,
-        },
-        Row {
-            name: "lost packets",
-            events: r#"
+};
+
+const LOST_PACKETS: Row = Row {
+    name: "lost packets",
+    events: r#"
 [[event]]
 do = "plug"
 path = "1"
@@ -344,14 +349,25 @@ attempt = 22
 packet = 1
 how = "lose"
 "#,
-            told: r#"send 1 failed no answer
+    told: r#"send 1 failed no answer
 send 1 failed broken
 clear 1 failed no answer
 send 1 failed broken
 "#,
-        },
-    ]
-}
+};
+
+/// A row for each way in which a transfer ends.
+const ROWS: [Row; 9] = [
+    TRANSFERS_THAT_ARE_DONE,
+    NOTHING_TO_MOVE,
+    NO_DEVICE,
+    A_REFUSED_DEVICE,
+    NO_ENDPOINT,
+    A_HUB,
+    A_HALTED_ENDPOINT,
+    A_DEVICE_THAT_PUTS_OFF,
+    LOST_PACKETS,
+];
 
 /// The lines of transfers among those that `serve` writes of a plan.
 fn lines_told(alloc: Global, plan: &str) -> Result<String, Fail> {
@@ -430,7 +446,7 @@ fn items_told(alloc: Global, plan: &str) -> Result<String, Fail> {
 
 #[test]
 fn transfers_are_told(rt: HostRuntime) -> Result<(), Fail> {
-    for row in rows() {
+    for row in &ROWS {
         let plan = format!(in rt.alloc(); "{HEAD}{}", row.events)?;
         let lines = lines_told(rt.alloc(), plan.as_str())?;
         assert_eq!(rt; lines.as_str(), row.told, "lines: {}", row.name);
