@@ -4,7 +4,7 @@ use Rattle.usb_request.specs.Codes.{DEVICE, CONFIGURATION, STRING, HUB, GET_STAT
 use Rattle.usb_request.specs.Requests.{descriptor_value}
 use Rattle.usb_port.specs.PortState.{PortState}
 use Rattle.usb_request.specs.declared.setup.Setup.{Setup}
-use Rattle.usb_device.specs.declared.bulk.Which.{Which}
+use Rattle.usb_device.specs.declared.bulk.ServedEndpoint.{ServedEndpoint}
 use Rattle.usb_port.specs.declared.call.PortCall.{PortCall}
 use Rattle.usb_device.specs.declared.request.Registers.{Registers}
 use Rattle.usb_port.specs.Calls.{set_call, clear_call}
@@ -34,7 +34,7 @@ module _ (Q : ℕ → Type 0) where
       (only_if (value / 256 == CONFIGURATION) (unless s.stalls.config (text_asked s.configs (value % 256))) _ (only_unless s.stalls.config (text_asked s.configs (value % 256)) (text_only s.configs (value % 256)))
       (only_if (value / 256 == STRING) (unless s.stalls.string (text_asked s.strings (value % 256))) stalled (only_unless s.stalls.string (text_asked s.strings (value % 256)) (text_only s.strings (value % 256))) tt))
 
-  endpoint_only : (f : Which → Outcome) → ((x : Which) → TakesOnly Q (f x)) → (o : Option Which) → TakesOnly Q (on_endpoint f o)
+  endpoint_only : (f : ServedEndpoint → Outcome) → ((x : ServedEndpoint) → TakesOnly Q (f x)) → (o : Option ServedEndpoint) → TakesOnly Q (on_endpoint f o)
   endpoint_only f h None = tt
   endpoint_only f h (Some x) = h x
 

@@ -8,7 +8,7 @@ use Rattle.usb_world.specs.declared.types.Attempt.{Attempt}
 use Rattle.usb_world.specs.declared.types.BusFault.{BusFault}
 use Rattle.usb_world.specs.declared.types.Outcome.{Outcome}
 use Rattle.usb_world.specs.Paths.{address_of, same_path}
-use Rattle.usb_world.specs.Passes.{deep_at, NobodyHolds}
+use Rattle.usb_world.specs.AttemptPackets.{deep_at, NobodyHolds}
 use Rattle.usb_world.specs.World.{World, Made}
 use Rattle.usb_world.specs.Steps.{ready, damage_in, attempt, after}
 use Rattle.usb_world.specs.Courses.{Own}

@@ -4,9 +4,10 @@ use Rattle.std.specs.Prelude.{nat_le, nat_lt}
 use Rattle.usb_packet.specs.declared.Toggle.{Toggle}
 use Rattle.usb_port.specs.PortState.{PortState}
 use Rattle.usb_device.specs.declared.answer.Answer.TheVariants.{Ack, Nak, Stall}
-use Rattle.usb_device.specs.declared.transfer.Giver.TheVariants as by
+use Rattle.usb_device.specs.declared.transfer.InEndpoint.TheVariants as by
 use Rattle.usb_device.specs.Attempt.{Way, is_whole, heard, gave, source_law, held_law, changes_law, in_bulk_law, in_control_law, in_other_law, in_law, out_law}
-use Rattle.usb_device.specs.Bulk.{turned, tells_changes, change_bits, is_same}
+use Rattle.usb_packet.specs.Toggles.{is_same}
+use Rattle.usb_device.specs.Bulk.{turned, tells_changes, change_bits}
 use Rattle.usb_device.specs.Rows.{State, Reply, forgotten, rest_of, bulk_of, bulk_ack_row, sunk, sink_row, out_bulk_row, data_row}
 
 -- its description and its registers are the same, and a hub's status endpoint is halted where it was

@@ -16,7 +16,7 @@ use Rattle.usb_transaction.specs.declared.fault.TransFault.{TransFault}
 use Rattle.usb_transaction.specs.declared.fault.TransFault.TheVariants as trans
 use Rattle.usb_transaction.specs.HeardOutcomes.{heard_as, polled_as, heard_when_sent}
 use Rattle.usb_transaction.specs.Transactions.{in_attempt, out_attempt, Worked}
-use Rattle.usb_transaction.specs.Trail.{Trail, start, Transacted, Polled}
+use Rattle.usb_transaction.specs.Trail.{Trail, start, Transacted}
 use Rattle.usb_pipe.specs.declared.condition.Condition.{Condition}
 use Rattle.usb_pipe.specs.declared.condition.Condition.TheVariants as condition
 use Rattle.usb_pipe.specs.declared.fault.PipeFault.{PipeFault}

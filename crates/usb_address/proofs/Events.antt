@@ -5,7 +5,7 @@ use Rattle.usb_world.specs.declared.event.Due.{Due}
 use Rattle.usb_world.specs.declared.event.Event.{Event}
 use Rattle.usb_world.specs.declared.types.BusFault.{BusFault}
 use Rattle.usb_world.specs.declared.types.BusFault.TheVariants.{LimitReached, Memory, TraceFailed}
-use Rattle.usb_world.specs.Passes.{IsSettled}
+use Rattle.usb_world.specs.AttemptPackets.{IsSettled}
 use Rattle.usb_world.specs.Steps.{took, took_first, event_taken, event, after, TookEvent}
 use Rattle.usb_world.specs.World.{World}
 use Rattle.usb_world.proofs.Interface.{settled_happened, step_own, step_unshared}

@@ -13,7 +13,7 @@ use Rattle.usb_world.specs.declared.types.BusFault.{BusFault}
 use Rattle.usb_world.specs.declared.types.Outcome.{Outcome}
 use Rattle.usb_world.specs.declared.types.Outcome.TheVariants.{Ack}
 use Rattle.usb_world.specs.Paths.{address_of, same_path, same_number, is_way}
-use Rattle.usb_world.specs.Passes.{NobodyHolds}
+use Rattle.usb_world.specs.AttemptPackets.{NobodyHolds}
 use Rattle.usb_world.specs.WayEffects.{IsNew}
 use Rattle.usb_world.specs.World.{World, Made}
 use Rattle.usb_world.specs.Steps.{ready, attempt, after, outcome_in}

@@ -4,9 +4,10 @@ use Rattle.usb_packet.specs.declared.Toggle.{Toggle}
 use Rattle.usb_packet.specs.declared.Toggle.TheVariants.{Zero, One as Data1}
 use Rattle.usb_port.specs.PortState.{PortState}
 use Rattle.usb_device.specs.declared.answer.Answer.TheVariants as answer
-use Rattle.usb_device.specs.declared.transfer.Giver.{Giver}
-use Rattle.usb_device.specs.declared.transfer.Giver.TheVariants as by
-use Rattle.usb_device.specs.Bulk.{is_same, tells_changes, change_bits}
+use Rattle.usb_device.specs.declared.transfer.InEndpoint.{InEndpoint}
+use Rattle.usb_device.specs.declared.transfer.InEndpoint.TheVariants as by
+use Rattle.usb_packet.specs.Toggles.{is_same}
+use Rattle.usb_device.specs.Bulk.{tells_changes, change_bits}
 use Rattle.usb_device.specs.Transfer.{Stage, idle, refused, reading, read, ending, max_packet, packet_at, toggle_at}
 use Rattle.usb_device.specs.Rows.{State, Reply, forgotten, is_busy, nak_row, unless_busy, out_row, status_row, ack_row, sink_row, sunk, out_bulk_row, bulk_ack_row, bulk_of, rest_of, data_row, acknowledged, ends_with_address}
 use Rattle.usb_device.specs.Attempt.{Way, is_whole, heard, gave, in_stage_law, source_law, held_law, changes_law, in_bulk_law, in_other_law, in_control_law, in_law, out_law}
@@ -44,12 +45,12 @@ module _ (Q : ℕ → Type 0) where
   bulk_acked s None h = h
   bulk_acked s (Some end) h = h
 
-  acknowledges : (s : State) (giver : Giver) → Aims Q s.stage → Aims Q (acknowledged s giver).stage
+  acknowledges : (s : State) (giver : InEndpoint) → Aims Q s.stage → Aims Q (acknowledged s giver).stage
   acknowledges s by.Control h = acked s s.stage h
   acknowledges s by.Bulk h = bulk_acked s (bulk_of s true) h
   acknowledges s by.Changes h = h
 
-  gives : (s : State) (giver : Giver) (max : ℕ) (t : Toggle) (bytes : List ℕ) (x y : Way) → Aims Q s.stage → Keeps (gave s giver max t bytes x y)
+  gives : (s : State) (giver : InEndpoint) (max : ℕ) (t : Toggle) (bytes : List ℕ) (x y : Way) → Aims Q s.stage → Keeps (gave s giver max t bytes x y)
   gives s giver max t bytes x y h = split (is_whole x && nat_le (length bytes) max && is_whole y)
     where
       split : (b : Bool) → Aims Q (if b then forgotten (acknowledged s giver) else s).stage

@@ -13,7 +13,7 @@ use Rattle.usb_world.specs.declared.types.BusFault.{BusFault}
 use Rattle.usb_world.specs.declared.types.BusFault.TheVariants.{LimitReached, Memory, TraceFailed}
 use Rattle.usb_world.specs.declared.types.Outcome.TheVariants.{Ack}
 use Rattle.usb_world.specs.Paths.{address_of}
-use Rattle.usb_world.specs.Passes.{IsSettled}
+use Rattle.usb_world.specs.AttemptPackets.{IsSettled}
 use Rattle.usb_world.specs.World.{World, Made}
 use Rattle.usb_world.specs.Steps.{ready, attempt, after, outcome_in, here, step, Left, at_event, at_packet, at_line, GaveUp, AttemptFails, with_attempt, attempted, damage_in}
 use Rattle.usb_world.specs.Courses.{resets, is_quiet}

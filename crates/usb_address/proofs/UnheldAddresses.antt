@@ -1,34 +1,34 @@
 -- An attempt at an address that no reachable device holds asks nothing of any port.
-use Rattle.std.proofs.Common.{◌≡◌, ℕ, Bool, true, false, List, Option, None, Some, option_map, refl, sym, ◌∙◌}
+use Rattle.std.proofs.Common.{◌≡◌, ℕ, false, List, Option, None, Some, sym, ◌∙◌}
 use Rattle.usb_device.specs.declared.delivery.Sent.{Sent}
-use Rattle.usb_device.specs.declared.transfer.Memory.TheVariants.{Nothing}
+use Rattle.usb_device.specs.declared.transfer.RememberedPacket.TheVariants.{Nothing}
 use Rattle.usb_device.specs.Delivery.{after_packet}
 use Rattle.usb_device.specs.Rows.{State}
 use Rattle.usb_device.specs.Tree.{Ports, state_at}
 use Rattle.usb_world.specs.declared.types.Attempt.{Attempt}
 use Rattle.usb_world.specs.Exchange.{token_out, payload_out}
-use Rattle.usb_world.specs.Passes.{passed, IfOut, IsTokenFor, IsSettled, NobodyHolds}
+use Rattle.usb_world.specs.AttemptPackets.{after_sent, IfOut, IsTokenFor, IsSettled, NobodyHolds}
 use Rattle.usb_world.specs.PortRequests.{AsksNothing}
 use Rattle.usb_world.specs.Steps.{ready, damage_in, attempt}
-use Rattle.usb_world.specs.WayEffects.{resets_at, reset_if}
+use Rattle.usb_world.specs.WayEffects.{resets_at}
 use Rattle.usb_world.specs.World.{World}
-use Rattle.usb_world.proofs.Interface.{NoneAsks, calm_pass, goes, no, nothing_asked, ready_settled, rest_state, rested_effect, settled_memory, token_calls, token_out as token_calm, unreset}
+use Rattle.usb_world.proofs.Interface.{NoneAsks, calm_sent, goes, nothing_asked, ready_settled, rest_state, rested_effect, settled_memory, token_calls, token_out as token_calm, unreset}
 
 -- after its token no device remembers anything
 none_remembers : (n : ℕ) (t : Option Sent) → IfOut (IsTokenFor n) t → (k : Ports) → IsSettled k → NobodyHolds n k
-    → (i : ℕ) (e : List ℕ) (v : State) → state_at (passed t k) i e ≡ Some v → v.memory ≡ Nothing
+    → (i : ℕ) (e : List ℕ) (v : State) → state_at (after_sent t k) i e ≡ Some v → v.memory ≡ Nothing
 none_remembers n None is k settled nobody i e v at = settled_memory k i e v settled at
 none_remembers n (Some q) is k settled nobody i e v at = settled_memory k i e v settled (sym same ∙ at)
   where
     same : state_at (after_packet q false k) i e ≡ state_at k i e
     same =
         rest_state q false k i e (λ u h on. (settled_memory k i e u settled h, token_calls n q.content u is (nobody i e u h on)))
-        ∙ unreset (resets_at q false k i e) (state_at k i e) (calm_pass (Some q) (token_calm n (Some q) is) k i e)
+        ∙ unreset (resets_at q false k i e) (state_at k i e) (calm_sent (Some q) (token_calm n (Some q) is) k i e)
 
 pub nobody_asks_nothing : (a : Attempt) (w : World) (x : List ℕ) → NobodyHolds a.addr (ready w).roots → IsSettled w.roots → AsksNothing (attempt a) w x
 nobody_asks_nothing a w x nobody settled = nothing_asked a w x none
   where
-    none : NoneAsks (payload_out a (damage_in (ready w))) (passed (token_out a (damage_in (ready w))) (ready w).roots)
+    none : NoneAsks (payload_out a (damage_in (ready w))) (after_sent (token_out a (damage_in (ready w))) (ready w).roots)
     none q o j e t at dp =
         rested_effect q dp t
         (none_remembers a.addr (token_out a (damage_in (ready w))) (goes a (damage_in (ready w)) (ready w).roots).token (ready w).roots (ready_settled w settled) nobody j e t at)

@@ -14,10 +14,7 @@ use std::io::Write;
 use thiserror::Error;
 use usb_bus::{Bus, BusFault, Plan, SimBus, Watched};
 use usb_plan::{PlanFault, read_plan};
-use usb_port::PortCall;
-use usb_request::feature::{
-    C_PORT_CONNECTION, C_PORT_ENABLE, C_PORT_RESET, PORT_ENABLE, PORT_POWER, PORT_RESET,
-};
+use usb_request::feature::{C_PORT_CONNECTION, C_PORT_RESET, PORT_POWER, PORT_RESET};
 
 /// Why there is no such bus.
 #[derive(Clone, Copy, Debug, PartialEq, Eq, Error)]
@@ -49,7 +46,8 @@ pub fn plan_text(alloc: Global, limit: u64, tables: &[&str]) -> Result<String, A
 /// The bus of a plan's text, before anything came, with a writer for its trace that has not failed yet.
 ///
 /// # Errors
-/// Plan where the text is no plan, Memory where memory was refused.
+///
+/// `Plan` where the text is no plan, `Memory` where memory was refused.
 pub fn bus_on<W: Write + Drop>(
     alloc: Global,
     text: &str,
@@ -60,15 +58,13 @@ pub fn bus_on<W: Write + Drop>(
     ensures writer { IfOk result (λ bus. writer_of bus ≡ writer) }
 {
     let plan = plan_of(alloc, text)?;
-    match SimBus::new(alloc, &plan, writer) {
-        Ok(bus) => Ok(bus),
-        Err((_, _)) => Err(BenchFault::Memory),
-    }
+    SimBus::new(alloc, &plan, writer).map_err(|_| BenchFault::Memory)
 }
 
 /// The bus of a plan's text, before anything came, that makes no line of its trace; nothing is known of its writer.
 ///
 /// # Errors
+///
 /// As `bus_on`.
 pub fn untraced_on<W: Write + Drop>(
     alloc: Global,
@@ -81,10 +77,7 @@ pub fn untraced_on<W: Write + Drop>(
     ensures writer { IfOk result (λ bus. writer_of bus ≡ writer) }
 {
     let plan = plan_of(alloc, text)?;
-    match SimBus::untraced(alloc, &plan, writer) {
-        Ok(bus) => Ok(bus),
-        Err((_, _)) => Err(BenchFault::Memory),
-    }
+    SimBus::untraced(alloc, &plan, writer).map_err(|_| BenchFault::Memory)
 }
 
 fn plan_of(alloc: Global, text: &str) -> Result<Plan, BenchFault>
@@ -99,6 +92,7 @@ fn plan_of(alloc: Global, text: &str) -> Result<Plan, BenchFault>
 /// The bus of a plan's text, before anything came, that keeps its trace.
 ///
 /// # Errors
+///
 /// As `bus_on`.
 pub fn bus_of(alloc: Global, text: &str) -> Result<SimBus<Vec<u8>>, BenchFault>
     ensures { IfOk result (λ bus. IsOpened text.now (world_of bus)) }
@@ -109,7 +103,8 @@ pub fn bus_of(alloc: Global, text: &str) -> Result<SimBus<Vec<u8>>, BenchFault>
 /// The bus of a plan's text whose first event came: root port 1 has power, and what is plugged there was reset.
 ///
 /// # Errors
-/// As `bus_on`; Bus where the event could not come.
+///
+/// As `bus_on`; `Bus` where the event could not come.
 pub fn plugged(alloc: Global, text: &str) -> Result<SimBus<Vec<u8>>, BenchFault>
     ensures { IfOk result (λ bus. IsReady text.now (world_of bus)) }
 {
@@ -121,34 +116,17 @@ pub fn plugged(alloc: Global, text: &str) -> Result<SimBus<Vec<u8>>, BenchFault>
 /// Gives power to root port 1, lets the next event come, and resets what is plugged at the port; no change is left there.
 ///
 /// # Errors
-/// Bus where the event could not come.
+///
+/// `Bus` where the event could not come.
 pub fn plug<W: Write>(bus: &mut SimBus<W>) -> Result<(), BenchFault>
     ensures { OnOk result (world_of bus.new ≡ made_ready (world_of bus.old)) }
 {
-    call(bus, PortCall::SetPower);
-    if let Err(fault) = bus.apply_next_event() {
-        return Err(BenchFault::Bus(fault));
-    }
-    call(bus, PortCall::ClearConnectionChange);
-    call(bus, PortCall::SetReset);
-    call(bus, PortCall::ClearResetChange);
+    bus.root_set(1, PORT_POWER);
+    bus.apply_next_event().map_err(BenchFault::Bus)?;
+    bus.root_clear(1, C_PORT_CONNECTION);
+    bus.root_set(1, PORT_RESET);
+    bus.root_clear(1, C_PORT_RESET);
     Ok(())
-}
-
-/// Makes a call of root port 1.
-fn call<W: Write>(bus: &mut SimBus<W>, call: PortCall)
-    ensures { world_of bus.new ≡ port_called call (world_of bus.old) }
-{
-    let _ports = bus.root_ports();
-    match call {
-        PortCall::SetPower => bus.root_set(1, PORT_POWER),
-        PortCall::SetReset => bus.root_set(1, PORT_RESET),
-        PortCall::ClearEnable => bus.root_clear(1, PORT_ENABLE),
-        PortCall::ClearPower => bus.root_clear(1, PORT_POWER),
-        PortCall::ClearConnectionChange => bus.root_clear(1, C_PORT_CONNECTION),
-        PortCall::ClearEnableChange => bus.root_clear(1, C_PORT_ENABLE),
-        PortCall::ClearResetChange => bus.root_clear(1, C_PORT_RESET),
-    }
 }
 
 /// The trace that a bus kept.

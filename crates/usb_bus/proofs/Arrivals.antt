@@ -1,5 +1,5 @@
 -- How events come, and what an attempt makes of the world.
-use Rattle.std.proofs.Common.{◌≡◌, ℕ, ◌+◌, List, [], ◌∷◌, ◌++◌, length, Bool, true, false, ◌||◌, if◌then◌else◌, Option, Some, None, Result, Ok, Err, IfErr, OnErr, ◌≢◌, refl, sym, ap, ap₂, ◌∙◌, subst, arith, get_or, append_assoc, append-nil, zero, suc, take, drop, flat_map, ◌-◌, ◌≤◌, ◌==◌, IsErrAnd}
+use Rattle.std.proofs.Common.{◌≡◌, ℕ, ◌+◌, List, [], ◌∷◌, ◌++◌, length, true, false, ◌||◌, Option, Some, None, Result, Ok, Err, IfErr, OnErr, ◌≢◌, refl, sym, ap, ap₂, ◌∙◌, subst, arith, get_or, append_assoc, append-nil, zero, suc, take, drop, flat_map, ◌-◌, ◌≤◌, ◌==◌, IsErrAnd}
 use Rattle.std.specs.Io.KnownBytes.{Appends}
 use Rattle.std.specs.Option.{option_to_list}
 use Rattle.std.proofs.KnownBytes.{Appends-trans, Appends-nil}
@@ -18,7 +18,6 @@ use Rattle.usb_world.specs.Steps.{Coming, next_came, happened, is_due, has_due, 
 use Rattle.usb_bus.specs.Lines.{action_line, next_due, lines_between, made_line, step_lines}
 use Rattle.usb_bus.specs.Watch.{AppendsFront, WritesText}
 use Rattle.usb_bus.proofs.Fronts.{front_of, front_after_first}
-use Rattle.std.proofs.lemmas.Bool.Decides.{nat_tests}
 use Rattle.std.proofs.lemmas.Bool.{eq-eqb}
 use Rattle.usb_bus.specs.Trace.{attempt_line}
 use Rattle.usb_world.proofs.Interface.{first_fault, if_no, if_yes, unequal}

@@ -7,6 +7,7 @@ use Rattle.usb_world.specs.declared.event.Event.{Event}
 use Rattle.usb_world.specs.declared.event.Action.{Action}
 use Rattle.usb_world.specs.declared.event.Action.TheVariants.{Plug, Unplug, Show, Send, Receive, Clear}
 use Rattle.usb_world.specs.PluggedDevices.{PluggedMap, plugged_after, has_port}
+use Rattle.usb_world.specs.PlanLimits.{after_most}
 use Rattle.usb_world.specs.PlanData.{PlanData, IsPlan, is_taken, action_fits, event_fits, events_fit, can_be_done, can_come}
 
 action_done : (roots : ℕ) (devices : List Spec) (tree : PluggedMap) (a : Action) → action_fits roots devices tree a ≡ true → can_be_done (length devices) a ≡ true
@@ -22,7 +23,7 @@ events_come : (roots : ℕ) (devices : List Spec) (tree : PluggedMap) (events : 
 events_come roots devices tree [] h = refl
 events_come roots devices tree (e ∷ events) h =
     let parts = and_parts (event_fits roots devices tree e) (events_fit roots devices (plugged_after e.action tree) events) h in
-    let fits = and_parts (nat_le e.after 1000000000) (action_fits roots devices tree e.action) parts.0 in
+    let fits = and_parts (nat_le e.after after_most) (action_fits roots devices tree e.action) parts.0 in
     and_from (can_come (length devices) e) (list_all (can_come (length devices)) events)
     (action_done roots devices tree e.action fits.1) (events_come roots devices (plugged_after e.action tree) events parts.1)
 

@@ -1,7 +1,6 @@
 -- How what went between states of a bus joins.
-use Rattle.std.proofs.Common.{◌≡◌, ℕ, ◌+◌, ◌≤◌, List, Option, Some, Result, refl, sym, subst, inl, inr}
+use Rattle.std.proofs.Common.{◌≡◌, ℕ, ◌+◌, ◌≤◌, List, Option, Result, sym, subst}
 use Rattle.usb_port.specs.declared.call.PortCall.{PortCall}
-use Rattle.usb_port.specs.declared.call.PortCall.TheVariants.{SetPower, SetReset, ClearEnable, ClearPower, ClearConnectionChange, ClearEnableChange, ClearResetChange}
 use Rattle.usb_port.specs.Calls.{set_call, clear_call, IsSetFeature, IsClearFeature}
 use Rattle.usb_port.proofs.Interface.{call_is}
 use Rattle.usb_world.specs.declared.types.Attempt.{Attempt}

@@ -3,8 +3,8 @@ use Rattle.std.specs.Prelude.{ℕ, Bool, true, false, List, [], ◌++◌, codes,
 use Rattle.usb_packet.specs.Text.{text_of}
 use Rattle.usb_port.specs.Path.{path_text}
 use Rattle.usb_world.specs.declared.exchange.Exchange.{Exchange}
-use Rattle.usb_world.specs.declared.exchange.Heard.{Heard}
-use Rattle.usb_world.specs.declared.exchange.Heard.TheVariants.{Nothing, One, Collision}
+use Rattle.usb_world.specs.declared.exchange.ExchangeAnswer.{ExchangeAnswer}
+use Rattle.usb_world.specs.declared.exchange.ExchangeAnswer.TheVariants.{Nothing, One, Collision}
 use Rattle.usb_world.specs.declared.wire.Mark.{Mark}
 use Rattle.usb_world.specs.declared.wire.Mark.TheVariants.{Whole, Lost, PreLost, Flipped}
 use Rattle.usb_world.specs.declared.wire.Outgoing.{Outgoing}
@@ -30,7 +30,7 @@ next_text pre None = []
 next_text pre (Some s) = codes " / " ++ host_text pre s
 
 -- the devices' answer
-abbrev pub answer_text : Heard → List ℕ
+abbrev pub answer_text : ExchangeAnswer → List ℕ
 answer_text Nothing = codes "none"
 answer_text Collision = codes "collision"
 answer_text (One p) = text_of p

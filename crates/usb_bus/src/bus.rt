@@ -3,7 +3,7 @@ ghost use Rattle.usb_port.specs.PortState.{status_of};
 ghost use Rattle.usb_port.specs.Calls.{IsSetFeature, IsClearFeature};
 ghost use Rattle.usb_world.specs.World.{World, IsAttempt, IsRootPort, root_port_at, roots_of};
 ghost use Rattle.usb_world.specs.Steps.{SetsRoot, ClearsRoot};
-ghost use Rattle.usb_world.specs.Passes.{IsSettled};
+ghost use Rattle.usb_world.specs.AttemptPackets.{IsSettled};
 ghost use Rattle.usb_world.specs.SanePorts.{IsSane};
 ghost use Rattle.usb_bus.specs.Traces.{Attempts};
 
@@ -26,8 +26,10 @@ pub trait Bus {
 
     /// Applies the events that are due, and then makes one attempt.
     ///
-    /// Where the attempts equal the limit it tells `LimitReached` and nothing else. After an `Err` every later attempt
-    /// tells the same fault again.
+    /// # Errors
+    ///
+    /// `LimitReached` where the attempts equal the limit, and then nothing else is done; `Memory` where memory was
+    /// refused; `TraceFailed` where the trace's writer failed. Every later attempt tells the same fault again.
     fn attempt(&mut self, attempt: &Attempt) -> Result<Outcome, BusFault>
         requires { IsAttempt attempt.now }
         ensures attempts { Attempts attempt.now (world self.old) (trace self.old) result

@@ -2,11 +2,12 @@
 ghost use Rattle.std.specs.Prelude.{◌≡◌, ◌+◌, ◌≤◌, length, IfOk, IfErr, None, Some, option_map, false, true, All};
 ghost use Rattle.std.specs.List.{list_all};
 ghost use Rattle.usb_world.specs.PlanData.{can_come};
+ghost use Rattle.usb_world.specs.PlanLimits.{attempt_most, damage_most, event_most};
 ghost use Rattle.usb_device.specs.Spec.{IsSpec};
 ghost use Rattle.usb_device.specs.Tree.{new_ports, row_of};
 ghost use Rattle.usb_device.specs.Delivery.{held, is_twice};
 ghost use Rattle.usb_world.specs.Losses.{AreOfDamages};
-ghost use Rattle.usb_world.specs.Passes.{IsSettled};
+ghost use Rattle.usb_world.specs.AttemptPackets.{IsSettled};
 ghost use Rattle.usb_world.specs.SanePorts.{IsSane};
 ghost use Rattle.usb_world.specs.SaneProofs.{IsSane-prop, IsSpec-prop, all_prop};
 ghost use Rattle.usb_world.specs.Steps.{opening};
@@ -62,11 +63,11 @@ pub struct SimBus<W: Write> {
     ghost sane: { fault ≡ None → IsSane roots } by { λ x y i none. IsSane-prop roots (x none) (y none) i },
     ghost ruled: { All IsSpec devices.items } by { all_prop IsSpec-prop devices.items },
     ghost planned: { list_all (can_come (length devices.items)) left.items ≡ true },
-    ghost few_events: { taken + length left.items ≤ 10000 },
+    ghost few_events: { taken + length left.items ≤ event_most },
     ghost counted: { attempts_then ≤ attempts },
     ghost within: { attempts ≤ limit },
-    ghost few_attempts: { limit ≤ 100000000000000 },
-    ghost few_damages: { length damages.items ≤ 10000 },
+    ghost few_attempts: { limit ≤ attempt_most },
+    ghost few_damages: { length damages.items ≤ damage_most },
     ghost lost: { AreOfDamages attempts damages.items losses },
     ghost at_limit: { fault ≡ Some LimitReached → attempts ≡ limit },
     ghost marked: { has_failed (writer_in tracer) ≡ tells_failure fault },
@@ -88,7 +89,9 @@ impl<W: Write> SimBus<W> {
 
     /// The bus of a plan, before anything came: all ports are off. The writer has not failed yet.
     ///
-    /// An error: memory is refused; the writer is handed back.
+    /// # Errors
+    ///
+    /// Memory is refused; the writer is handed back.
     pub fn new(
         alloc: Global,
         plan: &Plan,
@@ -105,7 +108,9 @@ impl<W: Write> SimBus<W> {
     /// The same bus, which makes no line of its trace: for a writer of which nothing is known, as `io::sink()`. It leaves
     /// the writer as it is, and never tells `TraceFailed`.
     ///
-    /// An error: memory is refused; the writer is handed back.
+    /// # Errors
+    ///
+    /// Memory is refused; the writer is handed back.
     pub fn untraced(
         alloc: Global,
         plan: &Plan,
@@ -204,10 +209,8 @@ impl<W: Write> SimBus<W> {
     pub fn registers(&self, path: &PortPath) -> Option<(u8, u8)>
         ensures { result ≡ option_map registers_of (device_at self.now path.now) }
     {
-        match self.roots.device_at(path.numbers()) {
-            None => None,
-            Some(device) => Some((device.address(), device.configuration())),
-        }
+        let device = self.roots.device_at(path.numbers())?;
+        Some((device.address(), device.configuration()))
     }
 
     /// All bytes that the bulk OUT endpoint of the device at the path has taken since its plug; None where none is there.
@@ -215,10 +218,7 @@ impl<W: Write> SimBus<W> {
         ensures { option_map (λ s. s.now) result
             ≡ option_map (λ d. d.own.sink) (device_at self.now path.now) }
     {
-        match self.roots.device_at(path.numbers()) {
-            None => None,
-            Some(device) => Some(device.sink()),
-        }
+        Some(self.roots.device_at(path.numbers())?.sink())
     }
 }
 
@@ -227,8 +227,8 @@ fn staged(alloc: Global, plan: &Plan) -> Result<Stage, AllocError>
     ensures devices { IfOk result (λ s. s.devices.items ≡ plan.now.devices) }
     ensures events { IfOk result (λ s. s.left.items ≡ plan.now.events) }
     ensures damages { IfOk result (λ s. s.damages.items ≡ plan.now.damages) }
-    ensures few { IfOk result (λ s. (length s.left.items ≤ 10000)
-        × (length s.damages.items ≤ 10000)) }
+    ensures few { IfOk result (λ s. (length s.left.items ≤ event_most)
+        × (length s.damages.items ≤ damage_most)) }
 {
     Ok(Stage {
         hints: Hints::new(alloc)?,

@@ -4,7 +4,7 @@ ghost use Rattle.usb_bus.specs.Trace.{attempt_line, pre_text, mark_text, host_te
 
 use arrayvec::ArrayString;
 use usb_packet::{push_decimal, push_packet};
-use usb_world::{Exchange, Heard, Mark, Outgoing};
+use usb_world::{Exchange, ExchangeAnswer, Mark, Outgoing};
 
 /// Room for the longest line of an attempt.
 pub(crate) type Line = ArrayString<700>;
@@ -57,15 +57,15 @@ fn push_next(line: &mut Line, pre: bool, packet: &Option<Outgoing>)
 }
 
 /// The devices' answer.
-fn push_answer(line: &mut Line, answer: &Heard)
+fn push_answer(line: &mut Line, answer: &ExchangeAnswer)
     requires { length line.old.bytes ≤ 564 }
     ensures text { line.new.bytes ≡ line.old.bytes ++ answer_text answer.now }
     ensures few { length line.new.bytes ≤ length line.old.bytes + 136 }
 {
     match answer {
-        Heard::Nothing => line.push_str("none"),
-        Heard::Collision => line.push_str("collision"),
-        Heard::One(packet) => push_packet(line, packet),
+        ExchangeAnswer::Nothing => line.push_str("none"),
+        ExchangeAnswer::Collision => line.push_str("collision"),
+        ExchangeAnswer::One(packet) => push_packet(line, packet),
     }
 }
 

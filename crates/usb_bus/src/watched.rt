@@ -130,7 +130,9 @@ impl From<WriteFailed> for BusFault {
 
 /// Writes a piece, part by part, until all of it is taken.
 ///
-/// After an error the writer is marked, and what went out is a front of the piece.
+/// # Errors
+///
+/// A write failed: the writer is marked, and what went out is a front of the piece.
 #[tactic(auto, using(crate::proofs::Fronts::front_kept))]
 pub fn put_piece<W: Write>(writer: &mut Watched<W>, piece: &[u8]) -> Result<(), WriteFailed>
     ensures front { AppendsFront (W.contents (inner_of writer.old))
@@ -153,7 +155,9 @@ pub fn put_piece<W: Write>(writer: &mut Watched<W>, piece: &[u8]) -> Result<(), 
 
 /// Writes pieces in their order, as one piece where they fit into a line's room.
 ///
-/// After an error the writer is marked, and what went out is a front of all of them.
+/// # Errors
+///
+/// A write failed: the writer is marked, and what went out is a front of all of them.
 pub(crate) fn put_pieces<W: Write>(
     writer: &mut Watched<W>,
     pieces: &[&[u8]],

@@ -1,11 +1,12 @@
 //! Hub descriptors (section 11.23.2.1).
 ghost use Rattle.std.specs.Prelude.{◌≡◌, ◌≤◌, IfOk, slice_index};
-ghost use Rattle.usb_descriptor.specs.Words.{word_at};
+ghost use Rattle.usb_request.specs.Layout.{word_at};
 ghost use Rattle.usb_descriptor.specs.Hub.{hub_spelled, port_count};
 
 use crate::fault::DescriptorFault;
 use crate::word::word_at;
 use std::marker::Model;
+use usb_request::descriptor_length::HUB_LENGTH;
 use usb_request::descriptor_type::HUB;
 
 /// A hub descriptor, as a view of its bytes (section 11.23.2.1).
@@ -16,32 +17,36 @@ pub struct HubView<'a> {
 
 impl<'a> Model for HubView<'a> {
     ghost use Rattle.std.specs.Prelude.{List, ℕ, ◌≤◌, length};
+    ghost use Rattle.usb_request.specs.Codes.{HUB_LENGTH};
     ghost use Rattle.usb_descriptor.specs.Hub.{port_count};
 
     ghost Value = { List ℕ };
 
     ghost view = { λ v. v.bytes.now };
 
-    ghost invariant = { λ v. (9 ≤ length v.bytes.now) × (1 ≤ port_count v.bytes.now) × (port_count v.bytes.now ≤ 7) };
+    ghost invariant = { λ v. (HUB_LENGTH ≤ length v.bytes.now)
+        × (1 ≤ port_count v.bytes.now) × (port_count v.bytes.now ≤ 7) };
 }
 
 /// The descriptor, with which the bytes begin, of a hub of one to seven ports (section 11.23.2.1).
 ///
-/// The first fault is told: `Short` under 9 bytes, `WrongType` where bDescriptorType is not 29
-/// hex, `Length` where bDescLength is under 9 or bNbrPorts is not 1 to 7.
+/// # Errors
+///
+/// The first fault: `Short` under 9 bytes, `WrongType` where bDescriptorType is not HUB, `Length`
+/// where bDescLength is under 9 or bNbrPorts is not 1 to 7.
 #[tactic(auto, unfolding(crate::specs::Hub::hub_spelled))]
 pub fn read_hub(bytes: &[u8]) -> Result<HubView<'_>, DescriptorFault>
     ensures answer { result ≡ hub_spelled bytes.now }
     ensures view { IfOk result (λ hub. hub ≡ bytes.now) }
     ensures ports { IfOk result (λ hub. (1 ≤ port_count hub) × (port_count hub ≤ 7)) }
 {
-    if bytes.len() < 9 {
+    if bytes.len() < HUB_LENGTH {
         return Err(DescriptorFault::Short);
     }
     if bytes[1] != HUB {
         return Err(DescriptorFault::WrongType);
     }
-    if bytes[0] < 9 || !(1..=7).contains(&bytes[2]) {
+    if usize::from(bytes[0]) < HUB_LENGTH || !(1..=7).contains(&bytes[2]) {
         return Err(DescriptorFault::Length);
     }
     Ok(HubView { bytes })

@@ -5,6 +5,7 @@ ghost use Rattle.usb_descriptor.specs.Config.{IsItem, HasItemFault, front_fault,
 use crate::fault::DescriptorFault;
 use crate::item::{Item, item_of};
 use std::marker::Model;
+use usb_request::descriptor_length::{ENDPOINT_LENGTH, INTERFACE_LENGTH};
 use usb_request::descriptor_type::{ENDPOINT, INTERFACE};
 
 /// The length of the item at the front, where any bytes are left.
@@ -16,15 +17,18 @@ fn front(bytes: &[u8]) -> Result<usize, DescriptorFault>
     if bytes.len() == 1 {
         return Err(DescriptorFault::Total);
     }
-    let length = bytes[0];
+    let length = usize::from(bytes[0]);
     let kind = bytes[1];
-    if length < 2 || (kind == INTERFACE && length < 9) || (kind == ENDPOINT && length < 7) {
+    if length < 2
+        || (kind == INTERFACE && length < INTERFACE_LENGTH)
+        || (kind == ENDPOINT && length < ENDPOINT_LENGTH)
+    {
         return Err(DescriptorFault::Length);
     }
-    if bytes.len() < length as usize {
+    if bytes.len() < length {
         return Err(DescriptorFault::Total);
     }
-    Ok(length as usize)
+    Ok(length)
 }
 
 /// Tests that the bytes are items, one after the other.
@@ -82,7 +86,7 @@ impl<'a> Iterator for Items<'a> {
         if self.rest.is_empty() {
             return None;
         }
-        let length = self.rest[0] as usize;
+        let length = usize::from(self.rest[0]);
         let (item, rest) = self.rest.split_at(length);
         self.rest = rest;
         Some(item_of(item))

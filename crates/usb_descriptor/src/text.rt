@@ -21,13 +21,17 @@ impl<'a> Model for StringView<'a> {
 
     ghost view = { λ v. words_of (drop 2 v.bytes.now) };
 
-    ghost invariant = { λ v. (2 ≤ length v.bytes.now) × (slice_index v.bytes.now 0 ≡ length v.bytes.now) × (slice_index v.bytes.now 1 ≡ STRING) × (length v.bytes.now % 2 ≡ 0) };
+    ghost invariant = { λ v. (2 ≤ length v.bytes.now)
+        × (slice_index v.bytes.now 0 ≡ length v.bytes.now)
+        × (slice_index v.bytes.now 1 ≡ STRING) × (length v.bytes.now % 2 ≡ 0) };
 }
 
 /// The string descriptor that the bytes begin with (section 9.6.7). What stands after its bLength
 /// bytes is not looked at.
 ///
-/// The first fault is told: `Short` under 2 bytes, `WrongType` where bDescriptorType is not 3,
+/// # Errors
+///
+/// The first fault: `Short` under 2 bytes, `WrongType` where bDescriptorType is not STRING,
 /// `Length` where bLength is odd, under 2, or over the bytes that came.
 #[tactic(auto, unfolding(crate::specs::Text::string_of))]
 pub fn read_string(bytes: &[u8]) -> Result<StringView<'_>, DescriptorFault>
@@ -57,9 +61,9 @@ impl<'a> StringView<'a> {
         self.bytes[0]
     }
 
-    /// bDescriptorType, which is 3.
+    /// bDescriptorType, which is STRING.
     pub fn descriptor_type(&self) -> u8
-        ensures { result ≡ 3 }
+        ensures { result ≡ STRING }
     {
         self.bytes[1]
     }
@@ -106,9 +110,7 @@ impl<'a> Iterator for Units<'a> {
     ghost remaining = { item_count (λ u. u) };
 
     fn next(&mut self) -> Option<u16> {
-        let Some((unit, rest)) = self.rest.split_first_chunk::<2>() else {
-            return None;
-        };
+        let (unit, rest) = self.rest.split_first_chunk::<2>()?;
         self.rest = rest;
         Some(u16::from_le_bytes(*unit))
     }

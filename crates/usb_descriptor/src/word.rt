@@ -1,8 +1,7 @@
 ghost use Rattle.std.specs.Prelude.{◌≡◌, ◌<◌, ◌+◌, length};
-ghost use Rattle.usb_descriptor.specs.Words.{word_at};
+ghost use Rattle.usb_request.specs.Layout.{word_at};
 
 /// The two bytes at a place as one number, the low byte first.
-#[tactic(auto, unfolding(crate::specs::Words::word_at))]
 pub(crate) fn word_at(bytes: &[u8], place: usize) -> u16
     requires { place + 1 < length bytes.now }
     ensures { result ≡ word_at bytes.now place }

@@ -10,11 +10,11 @@ use Rattle.usb_packet.specs.declared.Packet.TheVariants as packet
 use Rattle.usb_request.specs.Layout.{setup_of}
 use Rattle.usb_device.specs.declared.answer.Answer.{Answer}
 use Rattle.usb_device.specs.declared.answer.Answer.TheVariants.{Ack, Nak, Stall}
-use Rattle.usb_device.specs.declared.transfer.Memory.{Memory}
-use Rattle.usb_device.specs.declared.transfer.Memory.TheVariants.{Nothing, SetupSeen, OutSeen, AckAwaited}
-use Rattle.usb_device.specs.declared.transfer.Giver.{Giver}
-use Rattle.usb_device.specs.declared.transfer.Giver.TheVariants as by
-use Rattle.usb_device.specs.declared.bulk.Which.TheVariants.{BulkOut, BulkIn, Changes}
+use Rattle.usb_device.specs.declared.transfer.RememberedPacket.{RememberedPacket}
+use Rattle.usb_device.specs.declared.transfer.RememberedPacket.TheVariants.{Nothing, SetupSeen, OutSeen, AckAwaited}
+use Rattle.usb_device.specs.declared.transfer.InEndpoint.{InEndpoint}
+use Rattle.usb_device.specs.declared.transfer.InEndpoint.TheVariants as by
+use Rattle.usb_device.specs.declared.bulk.ServedEndpoint.TheVariants.{BulkOut, BulkIn, Changes}
 use Rattle.usb_port.specs.PortState.{PortState}
 use Rattle.usb_device.specs.Bulk.{tells_changes, change_bits}
 use Rattle.usb_device.specs.Request.{Outcome, stalled, answers, takes_address, takes_configuration, halts, unhalts, tells_port, calls_port, outcome}
@@ -28,12 +28,12 @@ same_number n = grind (arith, nat_tests)
 abbrev pair : Option Answer → State → Reply
 pair r d = (r, d)
 
-abbrev remembering : State → Memory → State
+abbrev remembering : State → RememberedPacket → State
 remembering d m = record d { memory = m }
 
 -- ---- packets one by one
 
-unread-is : (d : State) (m : Memory) → d.spec.silent ≡ false → unread (remembering d m) ≡ forgotten d
+unread-is : (d : State) (m : RememberedPacket) → d.spec.silent ≡ false → unread (remembering d m) ≡ forgotten d
 unfolding unread
 unread-is d m loud = rw loud refl
 
@@ -171,11 +171,11 @@ naks row max whole t3 d = refl
 naks row max broken t3 d = refl
 naks row max lost t3 d = refl
 
-ack_came : (d : State) (row : List PortState) (giver : Giver) → d.spec.silent ≡ false → received (remembering d (AckAwaited giver)) row packet.Ack ≡ (None, acknowledged (forgotten d) giver)
+ack_came : (d : State) (row : List PortState) (giver : InEndpoint) → d.spec.silent ≡ false → received (remembering d (AckAwaited giver)) row packet.Ack ≡ (None, acknowledged (forgotten d) giver)
 unfolding received
 ack_came d row giver loud = rw loud refl
 
-gave_is : (d : State) (row : List PortState) (giver : Giver) (t : Toggle) (bytes : List ℕ) (max : ℕ) → d.spec.silent ≡ false → (t2 t3 : Way) → acked row max t2 t3 (gives (forgotten d) giver t bytes) ≡ gave (forgotten d) giver max t bytes t2 t3
+gave_is : (d : State) (row : List PortState) (giver : InEndpoint) (t : Toggle) (bytes : List ℕ) (max : ℕ) → d.spec.silent ≡ false → (t2 t3 : Way) → acked row max t2 t3 (gives (forgotten d) giver t bytes) ≡ gave (forgotten d) giver max t bytes t2 t3
 gave_is d row giver t bytes max loud broken t3 = refl
 gave_is d row giver t bytes max loud lost t3 = refl
 gave_is d row giver t bytes max loud whole whole =

@@ -6,8 +6,9 @@ use Rattle.usb_packet.specs.declared.Toggle.{Toggle}
 use Rattle.usb_packet.specs.declared.Toggle.TheVariants.{Zero, One}
 use Rattle.usb_port.specs.PortState.{PortState}
 use Rattle.usb_device.specs.declared.answer.Answer.TheVariants.{Nak, Stall}
-use Rattle.usb_device.specs.declared.transfer.Giver.TheVariants as by
-use Rattle.usb_device.specs.Bulk.{other, advanced}
+use Rattle.usb_device.specs.declared.transfer.InEndpoint.TheVariants as by
+use Rattle.usb_packet.specs.Toggles.{other}
+use Rattle.usb_device.specs.Bulk.{advanced}
 use Rattle.usb_device.specs.Rows.{State, Reply, forgotten, payload, bulk_ack_row, bulk_of, rest_of}
 use Rattle.usb_device.specs.Attempt.{Way, whole, broken, lost, is_whole, heard, gave, source_law, changes_law, in_control_law, in_other_law, in_bulk_law, in_law}
 use Rattle.usb_device.specs.Progress.{taken_of, IsSource, SourceAt, level, ahead, SourceOn}

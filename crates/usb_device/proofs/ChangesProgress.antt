@@ -5,8 +5,9 @@ use Rattle.usb_packet.specs.declared.Toggle.{Toggle}
 use Rattle.usb_packet.specs.declared.Toggle.TheVariants.{Zero, One}
 use Rattle.usb_port.specs.PortState.{PortState}
 use Rattle.usb_device.specs.declared.answer.Answer.TheVariants.{Nak, Stall}
-use Rattle.usb_device.specs.declared.transfer.Giver.TheVariants as by
-use Rattle.usb_device.specs.Bulk.{other, is_same, tells_changes, change_bits}
+use Rattle.usb_device.specs.declared.transfer.InEndpoint.TheVariants as by
+use Rattle.usb_packet.specs.Toggles.{other, is_same}
+use Rattle.usb_device.specs.Bulk.{tells_changes, change_bits}
 use Rattle.usb_device.specs.Rows.{State, Reply, forgotten, payload, acknowledged, bulk_of}
 use Rattle.usb_device.specs.Attempt.{Way, whole, broken, lost, is_whole, heard, gave, held_law, changes_law, in_bulk_law, in_law}
 use Rattle.usb_device.specs.Progress.{PollAt, level, told, ahead, NeverTold, PollOn}

@@ -1,5 +1,5 @@
 -- The usual hub descriptor is one.
-use Rattle.std.proofs.Common.{◌≡◌, ◌≤◌, ℕ, [], ◌∷◌, true, ◌==◌, nat_le, Ok, refl, arith}
+use Rattle.std.proofs.Common.{◌≡◌, ◌≤◌, ℕ, [], ◌∷◌, true, nat_le, Ok, refl, arith}
 use Rattle.std.proofs.lemmas.Bool.Decides.{nat_tests}
 use Rattle.usb_request.specs.Codes.{HUB}
 use Rattle.usb_descriptor.specs.Hub.{hub_spelled}

@@ -1,10 +1,10 @@
 -- The place of a number, in a row of ports.
-use Rattle.std.proofs.Common.{◌≡◌, ℕ, zero, suc, ◌<◌, ◌≤◌, ◌-◌, ◌&&◌, Bool, true, false, List, [], ◌∷◌, None, length, slice_get, slice_index_or, slice_set, Some, refl, ap, ap₂, sym, ◌∙◌, arith}
+use Rattle.std.proofs.Common.{◌≡◌, ℕ, zero, suc, ◌+◌, ◌<◌, ◌≤◌, ◌-◌, ◌&&◌, Bool, true, false, List, [], ◌∷◌, ◌++◌, None, length, slice_get, slice_index_or, slice_set, Some, refl, ap, ap₂, sym, ◌∙◌, add-zero, arith}
 use Rattle.usb_device.specs.declared.ports.Place.{Place as Kept}
 use Rattle.usb_device.specs.Tree.{Ports, Place, empty, full, before, changed_at, changed_in, changed, plugged_at, plugged_in, device_there, reach_at, state_at, row_of}
 use Rattle.usb_device.specs.Places.{stood, ports_kept}
 use Rattle.usb_device.specs.View.{state_in, reach_in}
-use Rattle.usb_device.specs.Route.{holds_by, is_held_at}
+use Rattle.usb_device.specs.Route.{holds_by, is_held_at, HolderAmong, HolderAt}
 use Rattle.usb_device.proofs.FirstPlaces.{changed-path, changed_at-head, changed_at-tail, device-path, one_less, plugged_at-head, plugged_at-tail}
 use Rattle.usb_device.proofs.Rows.{row_of-before}
 use Rattle.usb_device.proofs.Deliveries.{both-none}
@@ -120,3 +120,21 @@ held-beyond a ps n p pos h =
     ap (λ m. is_held_at a (ports_kept ps) (m ∷ p)) (one_less n pos) ∙ ap (λ r. r && holds_by a (state_at (ports_kept ps) (n - 1) p)) (reach_at-out ps (n - 1) p (omega (arith, h)))
 
 pub ruleset routing = (both-none, changed-number, changed-beyond, device-number, device-beyond, held-number, held-none, held-beyond)
+
+-- ---- a device that holds an address, among a place and those behind it
+
+pub holder-first : (a first : ℕ) (q : Place) (k : Ports) (old new : List ℕ) → HolderAt a first q old new → HolderAmong a first (before q k) old new
+holder-first a first q k old new h = record {
+  row = 0;
+  rest = h.rest;
+  joined = rw add-zero h.joined;
+  held = ap₂ (λ r s. r && holds_by a s) (reach_at-head q k h.rest) (state_at-head q k h.rest) ∙ h.held;
+}
+
+pub holder-later : (a first next : ℕ) (q : Place) (k : Ports) (old new : List ℕ) → next ≡ first + 1 → HolderAmong a next k old new → HolderAmong a first (before q k) old new
+holder-later a first next q k old new e h = record {
+  row = suc h.row;
+  rest = h.rest;
+  joined = h.joined ∙ ap (λ n. old ++ n ∷ h.rest) (omega (arith, e));
+  held = ap₂ (λ r s. r && holds_by a s) (reach_at-tail q k h.row h.rest) (state_at-tail q k h.row h.rest) ∙ h.held;
+}

@@ -10,12 +10,13 @@ use Rattle.usb_packet.specs.declared.Packet.TheVariants as packet
 use Rattle.usb_request.specs.Layout.{setup_of}
 use Rattle.usb_device.specs.declared.answer.Answer.TheVariants.{Ack, Nak, Stall}
 use Rattle.arrayvec.specs.ArrayVec.{ArrayVec}
-use Rattle.usb_device.specs.declared.transfer.Memory.{Memory}
-use Rattle.usb_device.specs.declared.transfer.Giver.TheVariants as by
-use Rattle.usb_device.specs.declared.bulk.Which.TheVariants.{BulkOut, BulkIn, Changes}
+use Rattle.usb_device.specs.declared.transfer.RememberedPacket.{RememberedPacket}
+use Rattle.usb_device.specs.declared.transfer.InEndpoint.TheVariants as by
+use Rattle.usb_device.specs.declared.bulk.ServedEndpoint.TheVariants.{BulkOut, BulkIn, Changes}
 use Rattle.usb_port.specs.PortState.{PortState}
-use Rattle.usb_device.specs.Bulk.{is_same, tells_changes, change_bits}
-use Rattle.usb_device.specs.declared.transfer.Memory.TheVariants.{Nothing, SetupSeen, OutSeen, AckAwaited}
+use Rattle.usb_packet.specs.Toggles.{is_same}
+use Rattle.usb_device.specs.Bulk.{tells_changes, change_bits}
+use Rattle.usb_device.specs.declared.transfer.RememberedPacket.TheVariants.{Nothing, SetupSeen, OutSeen, AckAwaited}
 use Rattle.usb_device.specs.Request.{Outcome, stalled, answers, takes_address, takes_configuration, halts, unhalts, tells_port, calls_port, outcome}
 use Rattle.usb_device.specs.Transfer.{Stage, idle, refused, reading, read, ending, max_packet, packet_at, toggle_at}
 use Rattle.usb_device.specs.Rows.{State, Reply, received, answered, forgotten, begun, accepted, is_busy, nak_row, unless_busy, gives, in_row, status_row, out_row, ack_row, token_row, payload_row, source_row, changes_row, new_changes_row, held_row, in_other_row, in_bulk_row, sink_row, sunk, out_bulk_row, bulk_ack_row, after_memory, bulk_of, rest_of}
@@ -114,7 +115,7 @@ keeps-in-other : (p : Packet) (d : State) (row : List PortState) (e : ℕ) → K
 keeps-in-other p d row e =
     keeps-if p d (e == 1 && tells_changes d.spec d.registers) (changes_row d row) (in_bulk_row d e (bulk_of d true)) (keeps-changes p d row) (keeps-in-bulk p d e (bulk_of d true))
 
-keeps-payload : (t : Toggle) (b : ArrayVec ℕ) (d : State) (row : List PortState) (m : Memory) → Keeps (Payload t b) d (payload_row d row m t b.items).1
+keeps-payload : (t : Toggle) (b : ArrayVec ℕ) (d : State) (row : List PortState) (m : RememberedPacket) → Keeps (Payload t b) d (payload_row d row m t b.items).1
 keeps-payload t b d row Nothing = same (Payload t b) d
 keeps-payload t b d row (AckAwaited giver) = same (Payload t b) d
 keeps-payload One b d row SetupSeen = same (Payload One b) d
@@ -145,7 +146,7 @@ keeps-bulk-ack : (d : State) (end : Option (ℕ × ℕ)) → Keeps packet.Ack d 
 keeps-bulk-ack d None = same packet.Ack d
 keeps-bulk-ack d (Some end) = record { spec = refl; address = λ h. refl; configuration = λ h. refl; sink = λ h. (refl, refl); place = λ h. cc }
 
-keeps-after : (d : State) (m : Memory) → Keeps packet.Ack d (after_memory d m)
+keeps-after : (d : State) (m : RememberedPacket) → Keeps packet.Ack d (after_memory d m)
 keeps-after d Nothing = same packet.Ack d
 keeps-after d SetupSeen = same packet.Ack d
 keeps-after d (OutSeen e) = same packet.Ack d
@@ -153,7 +154,7 @@ keeps-after d (AckAwaited by.Control) = keeps-ack d d.stage
 keeps-after d (AckAwaited by.Bulk) = keeps-bulk-ack d (bulk_of d true)
 keeps-after d (AckAwaited by.Changes) = record { spec = refl; address = λ h. refl; configuration = λ h. refl; sink = λ h. (refl, refl); place = λ h. refl }
 
-keeps-answered : (d : State) (row : List PortState) (m : Memory) (p : Packet) → Keeps p d (answered d row m p).1
+keeps-answered : (d : State) (row : List PortState) (m : RememberedPacket) (p : Packet) → Keeps p d (answered d row m p).1
 keeps-answered d row m (Token kind a e) =
     keeps-if (Token kind a e) d (a == d.registers.address) (token_row d row kind e) (None, d) (keeps-token (Token kind a e) d row kind e) (same (Token kind a e) d)
 keeps-answered d row m (Payload t b) = keeps-payload t b d row m

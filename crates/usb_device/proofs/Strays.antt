@@ -7,8 +7,8 @@ use Rattle.usb_packet.specs.declared.Packet.{Packet}
 use Rattle.usb_packet.specs.declared.Packet.TheVariants.{Token, Payload}
 use Rattle.usb_packet.specs.declared.Packet.TheVariants as packet
 use Rattle.usb_device.specs.declared.answer.Answer.{Answer}
-use Rattle.usb_device.specs.declared.transfer.Memory.{Memory}
-use Rattle.usb_device.specs.declared.transfer.Memory.TheVariants.{Nothing, SetupSeen, OutSeen, AckAwaited}
+use Rattle.usb_device.specs.declared.transfer.RememberedPacket.{RememberedPacket}
+use Rattle.usb_device.specs.declared.transfer.RememberedPacket.TheVariants.{Nothing, SetupSeen, OutSeen, AckAwaited}
 use Rattle.usb_device.specs.declared.effect.Effect.{Effect}
 use Rattle.usb_device.specs.declared.effect.Effect.TheVariants.{Leaves}
 use Rattle.usb_device.specs.declared.delivery.Content.{Content}
@@ -22,7 +22,7 @@ use Rattle.usb_device.specs.StrayPackets.{awaits_data, is_token, is_for, concern
 
 -- ---- at one device
 
-answered-stray : (d : State) (row : List PortState) (m : Memory) (p : Packet) → is_for d m p ≡ false → answered d row m p ≡ (None, d)
+answered-stray : (d : State) (row : List PortState) (m : RememberedPacket) (p : Packet) → is_for d m p ≡ false → answered d row m p ≡ (None, d)
 answered-stray d row m (Token kind a e) h = rw h refl
 answered-stray d row Nothing (Payload t bytes) h = refl
 answered-stray d row SetupSeen (Payload t bytes) h = cc
@@ -79,7 +79,7 @@ answer-stray : (q : Sent) (deep : Bool) (s : State) (a : Ports) → concerns q.c
 unfolding answer_of
 answer-stray q deep s a h = if-heard s (hears q deep s) (reply_to q.content s (row_of a)) (reply-stray q.content s (row_of a) h)
 
-asked-stray : (d : State) (m : Memory) (t : Toggle) (bytes : List ℕ) → awaits_data m ≡ false → asked_by_data d m t bytes ≡ Leaves
+asked-stray : (d : State) (m : RememberedPacket) (t : Toggle) (bytes : List ℕ) → awaits_data m ≡ false → asked_by_data d m t bytes ≡ Leaves
 asked-stray d Nothing t bytes h = refl
 asked-stray d SetupSeen t bytes h = cc
 asked-stray d (OutSeen e) t bytes h = refl

@@ -10,8 +10,8 @@ use Rattle.usb_request.specs.Layout.{setup_of}
 use Rattle.usb_device.specs.declared.answer.Answer.{Answer}
 use Rattle.usb_device.specs.declared.answer.Answer.TheVariants.{Ack, Nak, Stall, Data}
 use Rattle.usb_device.specs.Transfer.{Stage, idle, refused, reading, read, ending, max_packet, packet_at, toggle_at}
-use Rattle.usb_device.specs.declared.transfer.Giver.{Giver}
-use Rattle.usb_device.specs.declared.transfer.Giver.TheVariants as by
+use Rattle.usb_device.specs.declared.transfer.InEndpoint.{InEndpoint}
+use Rattle.usb_device.specs.declared.transfer.InEndpoint.TheVariants as by
 use Rattle.usb_port.specs.PortState.{PortState}
 use Rattle.usb_device.specs.Bulk.{tells_changes, change_bits}
 use Rattle.usb_device.specs.Rows.{State, Reply, received, unread, forgotten, accepted, payload, is_busy, nak_row, data_row, acknowledged, bulk_of, rest_of}
@@ -74,9 +74,9 @@ out_law d e t bytes t1 t2 t3 =
     if is_whole t1 && is_whole t2 then (heard t3 (data_row d e t bytes).0, forgotten (data_row d e t bytes).1) else (None, d)
 
 -- data that is given: what gave it goes on where the host got it whole, it was not too long, and the ACK came whole
-abbrev pub gave : State → Giver → ℕ → Toggle → List ℕ → Way → Way → Reply
-gave d giver max t bytes t2 t3 =
-    (heard t2 (Some (payload t bytes)), if is_whole t2 && nat_le (length bytes) max && is_whole t3 then forgotten (acknowledged d giver) else d)
+abbrev pub gave : State → InEndpoint → ℕ → Toggle → List ℕ → Way → Way → Reply
+gave d endpoint max t bytes t2 t3 =
+    (heard t2 (Some (payload t bytes)), if is_whole t2 && nat_le (length bytes) max && is_whole t3 then forgotten (acknowledged d endpoint) else d)
 
 -- IN of a device that is not busy, by where its transfer stands
 abbrev pub in_stage_law : State → Stage → ℕ → Way → Way → Reply

@@ -1,25 +1,27 @@
 -- The endpoints of a device besides endpoint 0: which ones there are, their toggles and their halts (5.8, 8.6, 11.12).
-use Rattle.std.specs.Prelude.{ℕ, ◌+◌, ◌-◌, ◌*◌, ◌==◌, nat_lt, nat_le, min, if◌then◌else◌, ◌||◌, ◌&&◌, Bool, true, false, List, [], ◌∷◌, length, take, slice_index, slice_get, not, Option, None, Some, is_some}
-pub use Rattle.usb_packet.specs.Toggles.{other, is_same}
+use Rattle.std.specs.Prelude.{ℕ, ◌+◌, ◌-◌, ◌==◌, nat_lt, nat_le, min, if◌then◌else◌, ◌||◌, ◌&&◌, Bool, true, false, List, [], ◌∷◌, length, take, slice_get, not, Option, None, Some, is_some}
+use Rattle.usb_packet.specs.Toggles.{other}
+use Rattle.usb_request.specs.Codes.{DIRECTION_IN, STATUS_ENDPOINT}
 use Rattle.usb_packet.specs.declared.Toggle.TheVariants.{Zero}
 use Rattle.usb_descriptor.specs.Choice.{bulk_out_of, bulk_in_of}
-use Rattle.usb_device.specs.declared.bulk.Pipe.{Pipe}
-use Rattle.usb_device.specs.declared.bulk.Which.{Which}
-use Rattle.usb_device.specs.declared.bulk.Which.TheVariants.{BulkOut, BulkIn, Changes}
+use Rattle.usb_descriptor.specs.Config.{configuration_value, total_length}
+use Rattle.usb_device.specs.declared.bulk.EndpointState.{EndpointState}
+use Rattle.usb_device.specs.declared.bulk.ServedEndpoint.{ServedEndpoint}
+use Rattle.usb_device.specs.declared.bulk.ServedEndpoint.TheVariants.{BulkOut, BulkIn, Changes}
 use Rattle.usb_device.specs.declared.request.Registers.{Registers}
 use Rattle.usb_port.specs.PortState.{PortState, has_change}
 use Rattle.usb_device.specs.Spec.{Spec}
 
 -- an endpoint as a configuration leaves it
-abbrev pub rested : Pipe
+abbrev pub rested : EndpointState
 rested = record { toggle = Zero; halted = false }
 
 -- after a packet that moved
-abbrev pub turned : Pipe → Pipe
-turned pipe = record pipe { toggle = other pipe.toggle }
+abbrev pub turned : EndpointState → EndpointState
+turned state = record state { toggle = other state.toggle }
 
-abbrev pub halted : Pipe → Pipe
-halted pipe = record pipe { halted = true }
+abbrev pub halted : EndpointState → EndpointState
+halted state = record state { halted = true }
 
 -- how many packets are still to be taken until the halt, after one more
 abbrev pub count_down : Option ℕ → Option ℕ
@@ -31,18 +33,18 @@ abbrev pub is_last : Option ℕ → Bool
 is_last None = false
 is_last (Some n) = n == 1
 
--- byte 5 of the text of a configuration is its value (9.6.3)
+-- the text of a configuration has this value (9.6.3)
 abbrev pub has_value : ℕ → List ℕ → Bool
-has_value value text = nat_lt 5 (length text) && slice_index text 5 == value
+has_value value text = nat_lt 5 (length text) && configuration_value text == value
 
 -- the first text of the configuration
 abbrev pub text_with : ℕ → List (List ℕ) → List ℕ
 text_with value [] = []
 text_with value (text ∷ texts) = if has_value value text then text else text_with value texts
 
--- wTotalLength
+-- wTotalLength; 0 where there is no fourth byte
 abbrev pub total_of : List ℕ → ℕ
-total_of text = if nat_lt (length text) 4 then 0 else slice_index text 2 + 256 * slice_index text 3
+total_of text = if nat_lt (length text) 4 then 0 else total_length text
 
 abbrev pub bulk_in : Bool → List ℕ → Option (ℕ × ℕ)
 bulk_in true text = bulk_in_of text
@@ -62,12 +64,12 @@ is_end index offset (Some end) = end.0 + offset == index
 abbrev pub tells_changes : Spec → Registers → Bool
 tells_changes s g = is_some s.hub && not (g.configuration == 0)
 
--- the endpoint that wIndex names: OUT e is e, IN e is 128 + e (9.3.4)
-abbrev pub served : Spec → Registers → ℕ → Option Which
+-- the endpoint that wIndex names: OUT e is e, IN e is e with the bit of the direction (9.3.4)
+abbrev pub served : Spec → Registers → ℕ → Option ServedEndpoint
 served s g index =
-    if index == 129 && tells_changes s g then Some Changes
+    if index == STATUS_ENDPOINT && tells_changes s g then Some Changes
     else if is_end index 0 (bulk_at s g false) then Some BulkOut
-    else if is_end index 128 (bulk_at s g true) then Some BulkIn
+    else if is_end index DIRECTION_IN (bulk_at s g true) then Some BulkIn
     else None
 
 -- the place after another packet of at most max bytes of len

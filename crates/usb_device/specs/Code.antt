@@ -32,8 +32,8 @@ meaning_of s Refuse = stalled
 meaning_of s (Answer source) = answers (source_bytes s source)
 meaning_of s (TakeAddress a) = takes_address a
 meaning_of s (TakeConfiguration c) = takes_configuration c
-meaning_of s (Halt which) = halts which
-meaning_of s (Unhalt which) = unhalts which
+meaning_of s (Halt endpoint) = halts endpoint
+meaning_of s (Unhalt endpoint) = unhalts endpoint
 meaning_of s (TellPort i) = tells_port i
 meaning_of s (CallPort c i) = calls_port c i
 

@@ -7,8 +7,7 @@ use Rattle.usb_device.specs.declared.answer.Answer.{Answer}
 use Rattle.usb_device.specs.declared.delivery.Content.{Content}
 use Rattle.usb_device.specs.declared.delivery.Content.TheVariants.{Whole, Broken}
 use Rattle.usb_device.specs.declared.delivery.Sent.{Sent}
-use Rattle.usb_port.specs.declared.call.PortCall.{PortCall}
-use Rattle.usb_port.specs.declared.call.PortCall.TheVariants.{ClearConnectionChange}
+use Rattle.usb_port.specs.Calls.{is_clearing}
 use Rattle.usb_device.specs.declared.effect.Effect.{Effect}
 use Rattle.usb_device.specs.declared.effect.Effect.TheVariants.{Leaves, Calls, PortsOff}
 use Rattle.usb_device.specs.Spec.{Spec}
@@ -53,11 +52,7 @@ after_packet q deep (taken b s a k) =
     if b.enable then taken b (answer_of q deep s a).1 (acted (effect_of q deep s) (after_packet q true a)) (after_packet q deep k)
     else taken b s a (after_packet q deep k)
 
--- ClearPortFeature of C_PORT_CONNECTION (11.24.2.2)
-abbrev pub is_clearing : PortCall → Bool
-is_clearing ClearConnectionChange = true
-is_clearing c = false
-
+-- a change of connection at a port is cleared (11.24.2.2)
 abbrev pub asks_clearing : Effect → Bool
 asks_clearing Leaves = false
 asks_clearing (Calls c i) = is_clearing c

@@ -6,8 +6,8 @@ use Rattle.usb_packet.specs.declared.Packet.{Packet}
 use Rattle.usb_packet.specs.declared.Packet.TheVariants.{Payload}
 use Rattle.usb_request.specs.declared.setup.Setup.{Setup}
 use Rattle.usb_request.specs.Layout.{setup_of}
-use Rattle.usb_device.specs.declared.transfer.Memory.{Memory}
-use Rattle.usb_device.specs.declared.transfer.Memory.TheVariants.{SetupSeen}
+use Rattle.usb_device.specs.declared.transfer.RememberedPacket.{RememberedPacket}
+use Rattle.usb_device.specs.declared.transfer.RememberedPacket.TheVariants.{SetupSeen}
 use Rattle.usb_device.specs.declared.effect.Effect.{Effect}
 use Rattle.usb_device.specs.declared.effect.Effect.TheVariants.{Leaves, Calls, PortsOff}
 use Rattle.usb_device.specs.Request.{Outcome, calls_port, takes_configuration, outcome}
@@ -23,7 +23,7 @@ abbrev pub asked_by_setup : State → Setup → Effect
 asked_by_setup d r = effect_of_request (outcome d.spec d.registers r)
 
 -- setup data asks where it is accepted
-abbrev pub asked_by_data : State → Memory → Toggle → List ℕ → Effect
+abbrev pub asked_by_data : State → RememberedPacket → Toggle → List ℕ → Effect
 asked_by_data d SetupSeen Zero bytes = if length bytes == 8 then asked_by_setup d (setup_of bytes) else Leaves
 asked_by_data d m t bytes = Leaves
 

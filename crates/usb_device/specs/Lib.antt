@@ -6,7 +6,7 @@ pub mod Rows
 pub mod Effect
 pub mod Tree
 pub mod TreeCodes
-pub mod Passing
+pub mod LentPackets
 pub mod Places
 pub mod Delivery
 pub mod Marks

@@ -4,7 +4,8 @@ use Rattle.std.specs.Prelude.{◌≡◌, ◌≢◌, ◌⊎◌, ℕ, ◌+◌, ◌
 use Rattle.usb_packet.specs.declared.Toggle.{Toggle}
 use Rattle.usb_device.specs.declared.answer.Answer.{Answer}
 use Rattle.usb_device.specs.declared.answer.Answer.TheVariants.{Ack, Nak, Stall, Data}
-use Rattle.usb_device.specs.Bulk.{other, is_same, advanced, tells_changes}
+use Rattle.usb_packet.specs.Toggles.{other, is_same}
+use Rattle.usb_device.specs.Bulk.{advanced, tells_changes}
 use Rattle.usb_device.specs.Transfer.{reading, read, ending, idle, max_packet, packet_at}
 use Rattle.usb_device.specs.Rows.{State, bulk_of}
 

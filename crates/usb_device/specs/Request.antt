@@ -8,7 +8,7 @@ use Rattle.usb_request.specs.declared.setup.Setup.{Setup}
 use Rattle.usb_port.specs.declared.call.PortCall.{PortCall}
 use Rattle.usb_device.specs.declared.request.Registers.{Registers}
 use Rattle.usb_device.specs.Spec.{Spec, Hub}
-use Rattle.usb_device.specs.declared.bulk.Which.{Which}
+use Rattle.usb_device.specs.declared.bulk.ServedEndpoint.{ServedEndpoint}
 use Rattle.usb_device.specs.Bulk.{has_value, served}
 use Rattle.usb_port.specs.Calls.{set_call, clear_call}
 
@@ -22,8 +22,8 @@ pub data Outcome : Type 0 where
   -- the configuration is taken at once (9.4.7)
   takes_configuration : ℕ → Outcome
   -- the endpoint halts, or halts no more (9.4.9, 9.4.1)
-  halts : Which → Outcome
-  unhalts : Which → Outcome
+  halts : ServedEndpoint → Outcome
+  unhalts : ServedEndpoint → Outcome
   -- the answer is the status of a port, counted from 0 (11.24.2.7)
   tells_port : ℕ → Outcome
   -- a port, counted from 0, is set or cleared (11.24.2.13, 11.24.2.2)
@@ -68,12 +68,12 @@ abbrev pub asked_configuration : Spec → Registers → Setup → Outcome
 asked_configuration s g r = if not (g.address == 0) && is_value s.configs r.value && r.length == 0 then takes_configuration r.value else stalled
 
 -- 9.4.1, 9.4.9: ENDPOINT_HALT of an endpoint that is served
-abbrev pub endpoint_of : Spec → Registers → Setup → Option Which
+abbrev pub endpoint_of : Spec → Registers → Setup → Option ServedEndpoint
 endpoint_of s g r = if r.value == ENDPOINT_HALT && r.length == 0 then served s g r.index else None
 
-abbrev pub on_endpoint : (Which → Outcome) → Option Which → Outcome
+abbrev pub on_endpoint : (ServedEndpoint → Outcome) → Option ServedEndpoint → Outcome
 on_endpoint f None = stalled
-on_endpoint f (Some which) = f which
+on_endpoint f (Some endpoint) = f endpoint
 
 -- 11.24.2.5
 abbrev pub asked_hub_descriptor : Option Hub → Setup → Outcome

@@ -12,16 +12,17 @@ use Rattle.usb_request.specs.Layout.{setup_of}
 use Rattle.usb_device.specs.declared.answer.Answer.{Answer}
 use Rattle.usb_device.specs.declared.answer.Answer.TheVariants.{Ack, Nak, Stall, Data}
 use Rattle.usb_device.specs.declared.request.Registers.{Registers}
-use Rattle.usb_device.specs.declared.transfer.Memory.{Memory}
-use Rattle.usb_device.specs.declared.transfer.Memory.TheVariants.{Nothing, SetupSeen, OutSeen, AckAwaited}
-use Rattle.usb_device.specs.declared.transfer.Giver.{Giver}
-use Rattle.usb_device.specs.declared.transfer.Giver.TheVariants as by
-use Rattle.usb_device.specs.declared.bulk.Pipe.{Pipe}
-use Rattle.usb_device.specs.declared.bulk.Which.{Which}
-use Rattle.usb_device.specs.declared.bulk.Which.TheVariants.{BulkOut, BulkIn, Changes}
+use Rattle.usb_device.specs.declared.transfer.RememberedPacket.{RememberedPacket}
+use Rattle.usb_device.specs.declared.transfer.RememberedPacket.TheVariants.{Nothing, SetupSeen, OutSeen, AckAwaited}
+use Rattle.usb_device.specs.declared.transfer.InEndpoint.{InEndpoint}
+use Rattle.usb_device.specs.declared.transfer.InEndpoint.TheVariants as by
+use Rattle.usb_device.specs.declared.bulk.EndpointState.{EndpointState}
+use Rattle.usb_device.specs.declared.bulk.ServedEndpoint.{ServedEndpoint}
+use Rattle.usb_device.specs.declared.bulk.ServedEndpoint.TheVariants.{BulkOut, BulkIn, Changes}
 use Rattle.usb_port.specs.PortState.{PortState}
 use Rattle.usb_device.specs.Spec.{Spec}
-use Rattle.usb_device.specs.Bulk.{rested, other, is_same, turned, halted, count_down, is_last, bulk_at, advanced, tells_changes, change_bits}
+use Rattle.usb_packet.specs.Toggles.{other, is_same}
+use Rattle.usb_device.specs.Bulk.{rested, turned, halted, count_down, is_last, bulk_at, advanced, tells_changes, change_bits}
 use Rattle.usb_device.specs.Request.{Outcome, stalled, answers, takes_address, takes_configuration, halts, unhalts, tells_port, calls_port, outcome, registers_at_setup}
 use Rattle.usb_device.specs.Transfer.{Stage, idle, refused, reading, read, ending, first_stage, max_packet, packet_at, toggle_at}
 
@@ -29,14 +30,14 @@ pub record State : Type 0 where
   pub spec : Spec
   pub registers : Registers
   -- what the packet before left
-  pub memory : Memory
+  pub memory : RememberedPacket
   -- how many NAKs are still to be given in this transfer
   pub naks : ℕ
   pub stage : Stage
-  pub bulk_out : Pipe
-  pub bulk_in : Pipe
-  -- IN 1 of a hub: its pipe, and the byte that was given and not yet acknowledged
-  pub changes : Pipe
+  pub bulk_out : EndpointState
+  pub bulk_in : EndpointState
+  -- IN 1 of a hub: its state, and the byte that was given and not yet acknowledged
+  pub changes : EndpointState
   pub held : Option ℕ
   -- what bulk OUT has taken since the plug
   pub sink : List ℕ
@@ -55,15 +56,15 @@ payload t bytes = Data t (record { items = bytes })
 abbrev pub forgotten : State → State
 forgotten d = record d { memory = Nothing }
 
-abbrev pub pipe_of : State → Which → Pipe
-pipe_of d BulkOut = d.bulk_out
-pipe_of d BulkIn = d.bulk_in
-pipe_of d Changes = d.changes
+abbrev pub endpoint_state : State → ServedEndpoint → EndpointState
+endpoint_state d BulkOut = d.bulk_out
+endpoint_state d BulkIn = d.bulk_in
+endpoint_state d Changes = d.changes
 
-abbrev pub with_pipe : State → Which → Pipe → State
-with_pipe d BulkOut pipe = record d { bulk_out = pipe }
-with_pipe d BulkIn pipe = record d { bulk_in = pipe }
-with_pipe d Changes pipe = record d { changes = pipe }
+abbrev pub with_endpoint_state : State → ServedEndpoint → EndpointState → State
+with_endpoint_state d BulkOut state = record d { bulk_out = state }
+with_endpoint_state d BulkIn state = record d { bulk_in = state }
+with_endpoint_state d Changes state = record d { changes = state }
 
 -- what a request makes of the endpoints (9.1.1.5, 9.4.5)
 abbrev pub with_endpoints : State → Outcome → State
@@ -71,8 +72,8 @@ with_endpoints d stalled = d
 with_endpoints d (answers bytes) = d
 with_endpoints d (takes_address a) = d
 with_endpoints d (takes_configuration c) = record d { bulk_out = rested; bulk_in = rested; changes = rested; held = None }
-with_endpoints d (halts which) = with_pipe d which (halted (pipe_of d which))
-with_endpoints d (unhalts which) = with_pipe d which rested
+with_endpoints d (halts endpoint) = with_endpoint_state d endpoint (halted (endpoint_state d endpoint))
+with_endpoints d (unhalts endpoint) = with_endpoint_state d endpoint rested
 with_endpoints d (tells_port i) = d
 with_endpoints d (calls_port c i) = d
 
@@ -96,8 +97,8 @@ abbrev pub unless_busy : State → Reply → Reply
 unless_busy d row = if is_busy d then nak_row d else row
 
 -- data, of which an ACK is awaited
-abbrev pub gives : State → Giver → Toggle → List ℕ → Reply
-gives d giver t bytes = (Some (payload t bytes), record d { memory = AckAwaited giver })
+abbrev pub gives : State → InEndpoint → Toggle → List ℕ → Reply
+gives d endpoint t bytes = (Some (payload t bytes), record d { memory = AckAwaited endpoint })
 
 -- IN 0: the next packet of a control read, or the status stage of a request without data
 abbrev pub in_row : State → Stage → Reply
@@ -163,7 +164,7 @@ abbrev pub changes_row : State → List PortState → Reply
 changes_row d row = if d.changes.halted then (Some Stall, d) else held_row d row d.held
 
 -- the host's ACK of what was given
-abbrev pub acknowledged : State → Giver → State
+abbrev pub acknowledged : State → InEndpoint → State
 acknowledged d by.Control = ack_row d d.stage
 acknowledged d by.Bulk = bulk_ack_row d (bulk_of d true)
 acknowledged d by.Changes = record d { changes = turned d.changes; held = None }
@@ -221,28 +222,28 @@ abbrev pub setup_row : State → List PortState → List ℕ → Reply
 setup_row d row bytes = if length bytes == 8 then (Some Ack, accepted d row (setup_of bytes)) else (None, d)
 
 -- data, by what the packet before left
-abbrev pub payload_row : State → List PortState → Memory → Toggle → List ℕ → Reply
+abbrev pub payload_row : State → List PortState → RememberedPacket → Toggle → List ℕ → Reply
 payload_row d row SetupSeen Zero bytes = setup_row d row bytes
 payload_row d row (OutSeen e) t bytes = data_row d e t bytes
 payload_row d row m t bytes = (None, d)
 
 -- data make the sink grow
-abbrev pub payload_sinks : State → Memory → Toggle → List ℕ → Bool
+abbrev pub payload_sinks : State → RememberedPacket → Toggle → List ℕ → Bool
 payload_sinks d (OutSeen e) t bytes = not (e == 0) && bulk_sinks d e (bulk_of d false) t bytes
 payload_sinks d m t bytes = false
 
 -- an OUT token for another endpoint than 0 came before
-abbrev pub is_other_out : Memory → Bool
+abbrev pub is_other_out : RememberedPacket → Bool
 is_other_out (OutSeen e) = not (e == 0)
 is_other_out m = false
 
 -- the host's ACK, by what the packet before left
-abbrev pub after_memory : State → Memory → State
-after_memory d (AckAwaited giver) = acknowledged d giver
+abbrev pub after_memory : State → RememberedPacket → State
+after_memory d (AckAwaited endpoint) = acknowledged d endpoint
 after_memory d m = d
 
 -- any packet, by what the packet before left
-abbrev pub answered : State → List PortState → Memory → Packet → Reply
+abbrev pub answered : State → List PortState → RememberedPacket → Packet → Reply
 answered d row m (Token kind a e) = if a == d.registers.address then token_row d row kind e else (None, d)
 answered d row m (Payload t bytes) = payload_row d row m t bytes.items
 answered d row m packet.Ack = (None, after_memory d m)
@@ -273,7 +274,7 @@ unfoldable pub reset_state : State → State
 reset_state d = record d { registers = record { address = 0; configuration = 0 }; memory = Nothing; naks = 0; stage = idle; held = None }
 
 -- an ACK of what endpoint 0 gave is awaited
-abbrev pub awaits_control : Memory → Bool
+abbrev pub awaits_control : RememberedPacket → Bool
 awaits_control (AckAwaited by.Control) = true
 awaits_control m = false
 

@@ -1,9 +1,10 @@
 -- A device as a plan describes it.
-use Rattle.std.specs.Prelude.{◌≡◌, ◌≤◌, ℕ, List, [], ◌∷◌, length, take, slice_index, nat_lt, ◌==◌, Bool, true, false, ◌&&◌, not, Option, None, Some, Ok, Err, All}
+use Rattle.std.specs.Prelude.{◌≡◌, ◌≤◌, ℕ, List, [], ◌∷◌, length, take, nat_lt, ◌==◌, Bool, true, false, ◌&&◌, not, Option, None, Some, Ok, Err, All}
 use Rattle.std.specs.Option.{IfSome}
 use Rattle.std.specs.List.{list_any}
 use Rattle.std.specs.Str.{bytes_eq}
-use Rattle.usb_request.specs.Codes.{HUB_CLASS, HUB}
+use Rattle.usb_request.specs.Codes.{HUB_CLASS, HUB, HUB_LENGTH}
+use Rattle.usb_descriptor.specs.Device.{device_class}
 use Rattle.usb_descriptor.specs.Hub.{hub_spelled, port_count}
 use Rattle.usb_device.specs.declared.spec.Stalls.{Stalls}
 
@@ -35,16 +36,16 @@ pub record Spec : Type 0 where
 
 -- bDeviceClass is a hub's (11.23.1)
 abbrev pub has_hub_class : List ℕ → Bool
-has_hub_class descriptor = nat_lt 4 (length descriptor) && slice_index descriptor 4 == HUB_CLASS
+has_hub_class descriptor = nat_lt 4 (length descriptor) && device_class descriptor == HUB_CLASS
 
 -- a hub is of full speed and has the class of hubs
 abbrev pub hub_fits : Bool → List ℕ → Option Hub → Bool
 hub_fits low descriptor None = true
 hub_fits low descriptor (Some hub) = not low && has_hub_class descriptor
 
--- where the first 9 bytes are the descriptor of a hub, it has so many ports
+-- where the first bytes are the descriptor of a hub, it has so many ports
 abbrev pub agrees : ℕ → List ℕ → Bool
-agrees ports bytes = elim (hub_spelled (take 9 bytes)) [ Ok hub ↦ port_count hub == ports | Err fault ↦ true ]
+agrees ports bytes = elim (hub_spelled (take HUB_LENGTH bytes)) [ Ok hub ↦ port_count hub == ports | Err fault ↦ true ]
 
 -- the rules of a hub
 pub record IsHub (h : Hub) : Type 0 where
@@ -64,7 +65,7 @@ pub record IsSpec (s : Spec) : Type 0 where
 
 -- a hub whose ports are switched one by one
 abbrev pub usual_hub : ℕ → Hub
-usual_hub ports = record { ports = ports; descriptor = 9 ∷ HUB ∷ ports ∷ 1 ∷ 0 ∷ 0 ∷ 0 ∷ 0 ∷ 0xff ∷ [] }
+usual_hub ports = record { ports = ports; descriptor = HUB_LENGTH ∷ HUB ∷ ports ∷ 1 ∷ 0 ∷ 0 ∷ 0 ∷ 0 ∷ 0xff ∷ [] }
 
 abbrev pub no_stalls : Stalls
 no_stalls = record { device = false; address = false; config = false; set_config = false; status = false; hub = false; string = false }

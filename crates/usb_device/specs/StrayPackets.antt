@@ -2,25 +2,25 @@
 use Rattle.std.specs.Prelude.{◌==◌, ◌&&◌, ◌||◌, Bool, true, false}
 use Rattle.usb_packet.specs.declared.Packet.{Packet}
 use Rattle.usb_packet.specs.declared.Packet.TheVariants.{Token, Payload, Ack}
-use Rattle.usb_device.specs.declared.transfer.Memory.{Memory}
-use Rattle.usb_device.specs.declared.transfer.Memory.TheVariants.{Nothing, SetupSeen, OutSeen, AckAwaited}
+use Rattle.usb_device.specs.declared.transfer.RememberedPacket.{RememberedPacket}
+use Rattle.usb_device.specs.declared.transfer.RememberedPacket.TheVariants.{Nothing, SetupSeen, OutSeen, AckAwaited}
 use Rattle.usb_device.specs.declared.delivery.Content.{Content}
 use Rattle.usb_device.specs.declared.delivery.Content.TheVariants.{Whole, Broken}
 use Rattle.usb_device.specs.Rows.{State}
 use Rattle.usb_device.specs.Tree.{Ports, ended, vacant, taken}
 
-abbrev pub awaits_data : Memory → Bool
+abbrev pub awaits_data : RememberedPacket → Bool
 awaits_data Nothing = false
 awaits_data SetupSeen = true
 awaits_data (OutSeen e) = true
-awaits_data (AckAwaited giver) = false
+awaits_data (AckAwaited endpoint) = false
 
-abbrev pub awaits_ack : Memory → Bool
-awaits_ack (AckAwaited giver) = true
+abbrev pub awaits_ack : RememberedPacket → Bool
+awaits_ack (AckAwaited endpoint) = true
 awaits_ack m = false
 
 -- a packet is for a device with such a memory: a token with its address, data behind such a token, the ACK of what it gave
-abbrev pub is_for : State → Memory → Packet → Bool
+abbrev pub is_for : State → RememberedPacket → Packet → Bool
 is_for d m (Token kind a e) = a == d.registers.address
 is_for d m (Payload t bytes) = awaits_data m
 is_for d m Ack = awaits_ack m

@@ -1,7 +1,8 @@
 -- Where a control transfer stands, and the packets of an answer (8.5.3).
-use Rattle.std.specs.Prelude.{ℕ, zero, suc, ◌+◌, ◌*◌, ◌/◌, ◌%◌, ◌==◌, nat_lt, if◌then◌else◌, ◌&&◌, ◌||◌, not, List, [], ◌++◌, length, take, drop, slice_index, slice_get, Option, None, Some, unwrap_or}
+use Rattle.std.specs.Prelude.{ℕ, zero, suc, ◌+◌, ◌*◌, ◌/◌, ◌%◌, ◌==◌, nat_lt, if◌then◌else◌, ◌&&◌, ◌||◌, not, List, [], ◌++◌, length, take, drop, slice_get, Option, None, Some, unwrap_or}
 use Rattle.usb_packet.specs.declared.Toggle.{Toggle}
 use Rattle.usb_packet.specs.declared.Toggle.TheVariants.{Zero, One}
+use Rattle.usb_descriptor.specs.Device.{max_packet_0}
 use Rattle.usb_device.specs.Spec.{Spec}
 use Rattle.usb_port.specs.PortState.{PortState, status_of}
 use Rattle.usb_device.specs.Request.{Outcome, stalled, answers, tells_port, address_at_end}
@@ -37,7 +38,7 @@ first_stage row wanted o = ending (address_at_end o)
 -- the most data bytes of a packet on endpoint 0 (5.5.3): what the device descriptor says, where the speed allows it
 abbrev pub max_packet : Spec → ℕ
 max_packet s =
-    let m = slice_index s.descriptor 7 in
+    let m = max_packet_0 s.descriptor in
     if not s.low && (m == 16 || m == 32 || m == 64) then m else 8
 
 -- how many packets carry len bytes (5.5.3): full ones and what is left; where len is less than wanted, the last is not full, so perhaps empty

@@ -52,10 +52,6 @@ abbrev pub device_of : Place → Option Plugged
 device_of (empty b) = None
 device_of (full b s a) = Some (record { own = s; ports = a })
 
-abbrev pub state_of : Place → Option State
-state_of (empty b) = None
-state_of (full b s a) = Some s
-
 -- the port stands before these
 abbrev pub before : Place → Ports → Ports
 before (empty b) k = vacant b k

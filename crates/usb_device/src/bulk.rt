@@ -3,7 +3,7 @@
 ghost use Rattle.std.specs.Prelude.{◌≡◌, ◌≤◌, length};
 ghost use Rattle.std.specs.Option.{IfSome};
 ghost use Rattle.usb_descriptor.specs.Choice.{IsUsable};
-ghost use Rattle.usb_device.specs.Bulk.{other, is_same, turned, halted, count_down, is_last, text_with, total_of, bulk_in, bulk_at, is_end, served, advanced, tells_changes};
+ghost use Rattle.usb_device.specs.Bulk.{turned, halted, count_down, is_last, text_with, total_of, bulk_in, bulk_at, is_end, served, advanced, tells_changes};
 
 use crate::lists::Bytes;
 use crate::request::{Registers, has_value};
@@ -11,50 +11,50 @@ use crate::spec::DeviceSpec;
 use arrayvec::ArrayVec;
 use usb_descriptor::read_config;
 use usb_packet::Toggle;
+use usb_request::endpoint_address::{DIRECTION_IN, STATUS_ENDPOINT};
 
-/// A bulk endpoint: the toggle of its next packet (8.6), and whether it is halted (9.4.5).
+/// An endpoint besides endpoint 0, as the device keeps it.
 #[derive(Clone, Copy, Debug)]
-pub struct Pipe {
+pub struct EndpointState {
+    /// The toggle of its next packet (8.6).
     pub toggle: Toggle,
+    /// Whether it is halted (9.4.5).
     pub halted: bool,
 }
 
 /// An endpoint as a configuration leaves it (9.4.7).
-pub const RESTED: Pipe = Pipe {
+pub const RESTED: EndpointState = EndpointState {
     toggle: Toggle::Zero,
     halted: false,
 };
 
-/// An endpoint that a request can name.
+/// An endpoint besides endpoint 0, as a request names it.
 #[derive(Clone, Copy, Debug)]
-pub enum Which {
+pub enum ServedEndpoint {
+    /// The bulk OUT endpoint.
     BulkOut,
+    /// The bulk IN endpoint.
     BulkIn,
     /// IN 1 of a hub.
     Changes,
 }
 
-pub fn is_same(a: Toggle, b: Toggle) -> bool
-    ensures { result ≡ is_same a b }
-{
-    a.is_same(b)
-}
-
 /// The endpoint after a packet that moved.
-pub fn turned(pipe: Pipe) -> Pipe
-    ensures { result ≡ turned pipe }
+pub fn turned(state: EndpointState) -> EndpointState
+    ensures { result ≡ turned state }
 {
-    Pipe {
-        toggle: pipe.toggle.other(),
-        halted: pipe.halted,
+    EndpointState {
+        toggle: state.toggle.other(),
+        halted: state.halted,
     }
 }
 
-pub fn halted(pipe: Pipe) -> Pipe
-    ensures { result ≡ halted pipe }
+/// The endpoint once it is halted.
+pub fn halted(state: EndpointState) -> EndpointState
+    ensures { result ≡ halted state }
 {
-    Pipe {
-        toggle: pipe.toggle,
+    EndpointState {
+        toggle: state.toggle,
         halted: true,
     }
 }
@@ -95,7 +95,7 @@ fn text_with(value: u16, configs: &[Bytes<65535>]) -> &[u8]
     }
 }
 
-/// wTotalLength of a text; 0 where it has no fourth byte.
+/// wTotalLength of a text, its bytes 2 and 3 (9.6.3); 0 where it has no fourth byte.
 fn total_of(text: &[u8]) -> usize
     ensures { result ≡ total_of text.now }
 {
@@ -134,7 +134,7 @@ pub fn bulk_at(spec: &DeviceSpec, registers: Registers, is_in: bool) -> Option<(
 }
 
 fn is_end(index: u16, offset: u16, end: Option<(u8, u8)>) -> bool
-    requires { offset ≤ 128 }
+    requires { offset ≤ DIRECTION_IN }
     ensures { result ≡ is_end index offset end }
 {
     match end {
@@ -151,15 +151,19 @@ pub fn tells_changes(spec: &DeviceSpec, registers: Registers) -> bool
 }
 
 /// The served endpoint that wIndex of a request names (9.3.4).
-pub fn served(spec: &DeviceSpec, registers: Registers, index: u16) -> Option<Which>
+pub fn served(spec: &DeviceSpec, registers: Registers, index: u16) -> Option<ServedEndpoint>
     ensures { result ≡ served spec.now registers index }
 {
-    if index == 129 && tells_changes(spec, registers) {
-        Some(Which::Changes)
+    if index == u16::from(STATUS_ENDPOINT) && tells_changes(spec, registers) {
+        Some(ServedEndpoint::Changes)
     } else if is_end(index, 0, bulk_at(spec, registers, false)) {
-        Some(Which::BulkOut)
-    } else if is_end(index, 128, bulk_at(spec, registers, true)) {
-        Some(Which::BulkIn)
+        Some(ServedEndpoint::BulkOut)
+    } else if is_end(
+        index,
+        u16::from(DIRECTION_IN),
+        bulk_at(spec, registers, true),
+    ) {
+        Some(ServedEndpoint::BulkIn)
     } else {
         None
     }

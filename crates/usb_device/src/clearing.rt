@@ -1,20 +1,19 @@
 //! Whether a packet clears a change of connection (11.24.2.2).
 ghost use Rattle.std.specs.Prelude.{◌≡◌, false};
 ghost use Rattle.usb_device.specs.Places.{ports_kept};
-ghost use Rattle.usb_device.specs.Delivery.{effect_of, is_clearing, asks_clearing, clears_change, clears_whole, clears_in};
+ghost use Rattle.usb_device.specs.Delivery.{effect_of, clears_change, clears_whole, clears_in};
 
 use crate::delivery::is_heard;
 use crate::device::Device;
 use crate::effect::Effect;
-use crate::passing::Passing;
+use crate::lent_packet::LentPacket;
 use crate::ports::{Place, Ports};
-use usb_port::PortCall;
 
 impl Ports {
     /// Whether a device that a packet reaches clears a change of connection at one of its ports
     /// (11.24.2.2): it has heard the SETUP token, and the packet is the data of ClearPortFeature of
     /// C_PORT_CONNECTION. It is asked before the packet is delivered.
-    pub fn clears_change(&self, sent: &Passing<'_>) -> bool
+    pub fn clears_change(&self, sent: &LentPacket<'_>) -> bool
         ensures { result ≡ clears_change sent.now false self.now }
     {
         self.clears(sent, false)
@@ -22,7 +21,7 @@ impl Ports {
 
     #[cycle(clearing)]
     #[tactic(auto, using(crate::proofs::ForgottenPackets::betweens))]
-    fn clears(&self, sent: &Passing<'_>, deep: bool) -> bool
+    fn clears(&self, sent: &LentPacket<'_>, deep: bool) -> bool
         ensures { result ≡ clears_change sent.now deep self.now }
     {
         !self.places.is_empty() && any_clears(self.places.as_slice(), sent, deep)
@@ -31,7 +30,7 @@ impl Ports {
 
 #[cycle(clearing)]
 #[tactic(auto, using(crate::proofs::ForgottenPackets::betweens))]
-fn any_clears(places: &[Place], sent: &Passing<'_>, deep: bool) -> bool
+fn any_clears(places: &[Place], sent: &LentPacket<'_>, deep: bool) -> bool
     ensures { result ≡ clears_change sent.now deep (ports_kept places.now) }
 {
     match places.split_first() {
@@ -42,7 +41,7 @@ fn any_clears(places: &[Place], sent: &Passing<'_>, deep: bool) -> bool
 
 impl Place {
     #[cycle(clearing)]
-    fn clears(&self, sent: &Passing<'_>, deep: bool) -> bool
+    fn clears(&self, sent: &LentPacket<'_>, deep: bool) -> bool
         ensures { result ≡ clears_in sent.now deep self.now.port self.now.device }
     {
         match &self.device {
@@ -54,29 +53,20 @@ impl Place {
 
 impl Device {
     #[cycle(clearing)]
-    fn clears(&self, sent: &Passing<'_>, deep: bool) -> bool
+    fn clears(&self, sent: &LentPacket<'_>, deep: bool) -> bool
         ensures { result ≡ clears_whole sent.now deep self.now }
     {
-        is_clearing(self.effect(sent, deep)) || self.ports.clears(sent, true)
+        self.effect(sent, deep).clears_change() || self.ports.clears(sent, true)
     }
 
     /// What the device itself asks of its ports at a packet.
     #[tactic(auto, unfolding(crate::specs::Delivery::effect_of))]
-    pub(crate) fn effect(&self, sent: &Passing<'_>, deep: bool) -> Effect
+    pub(crate) fn effect(&self, sent: &LentPacket<'_>, deep: bool) -> Effect
         ensures { result ≡ effect_of sent.now deep self.now.own }
     {
         match sent.packet() {
             Some(packet) if is_heard(sent, deep, self.is_low()) => self.own.asks(packet),
             _ => Effect::Leaves,
         }
-    }
-}
-
-fn is_clearing(effect: Effect) -> bool
-    ensures { result ≡ asks_clearing effect }
-{
-    match effect {
-        Effect::Calls(PortCall::ClearConnectionChange, _) => true,
-        _ => false,
     }
 }

@@ -1,7 +1,7 @@
 //! A packet on its way through the tree of devices (8.6.5, 11.8.4).
 ghost use Rattle.std.specs.Prelude.{◌≡◌, false, true, IfOk, OnOk, OnErr};
 ghost use Rattle.std.specs.Option.{option_copied};
-ghost use Rattle.usb_device.specs.Passing.{content_of};
+ghost use Rattle.usb_device.specs.LentPackets.{content_of};
 ghost use Rattle.usb_device.specs.Tree.{row_of};
 ghost use Rattle.usb_device.specs.Places.{ports_kept, stood};
 ghost use Rattle.usb_device.specs.StoppedPackets.{Stopped, StoppedDevice, StoppedPlace, IsRefused, IsRefusedContent};
@@ -9,7 +9,7 @@ ghost use Rattle.usb_device.specs.Delivery.{Carries, is_heard, heard_from, both,
 
 use crate::answer::Answer;
 use crate::device::Device;
-use crate::passing::Passing;
+use crate::lent_packet::LentPacket;
 use crate::ports::{Place, Ports};
 use std::alloc::AllocError;
 use usb_packet::{Packet, decode};
@@ -71,7 +71,7 @@ fn join(heard: &mut Heard, answer: Option<Answer>)
 
 /// Whether a device of a speed hears a packet, which is `deep` where it stands on a port of a hub:
 /// there it hears low-speed packets only with PRE.
-pub(crate) fn is_heard(sent: &Passing<'_>, deep: bool, low: bool) -> bool
+pub(crate) fn is_heard(sent: &LentPacket<'_>, deep: bool, low: bool) -> bool
     ensures { result ≡ is_heard sent.now deep low }
 {
     if sent.is_low() {
@@ -86,9 +86,11 @@ impl Ports {
     /// comes back. A device on one of these ports hears low-speed packets; one below hears them
     /// only with PRE.
     ///
-    /// An error: memory is refused for a sink that was to grow. The devices in front of it and
-    /// below it had the packet; it and those behind it had not. The same devices stand at the same
-    /// ports, and the ports of the row itself are as they were.
+    /// # Errors
+    ///
+    /// Memory was refused for a sink that was to grow. The devices in front of it and below it had
+    /// the packet; it and those behind it had not. The same devices stand at the same ports, and
+    /// the ports of the row itself are as they were.
     pub fn deliver(&mut self, sent: &Sent) -> Result<Heard, AllocError>
         ensures ok { IfOk result (λ heard. (heard, self.new) ≡ delivered sent.now false self.old) }
         ensures err { OnErr result (figure self.new ≡ figure self.old) }
@@ -96,13 +98,17 @@ impl Ports {
         ensures stopped { OnErr result (Stopped sent.now false self.old self.new) }
     {
         let mut heard = Heard::NoAnswer;
-        self.deliver_after(&Passing::of(sent), &mut heard)?;
+        self.deliver_after(&LentPacket::of(sent), &mut heard)?;
         Ok(heard)
     }
 
     /// The same behind another packet, of which something may have been heard: what is heard of
     /// this one joins it.
-    pub fn deliver_after(&mut self, sent: &Passing<'_>, heard: &mut Heard) -> Result<(), AllocError>
+    pub fn deliver_after(
+        &mut self,
+        sent: &LentPacket<'_>,
+        heard: &mut Heard,
+    ) -> Result<(), AllocError>
         ensures ok { OnOk result ((heard.new, self.new)
             ≡ heard_joined heard.old (delivered sent.now false self.old)) }
         ensures err { OnErr result (figure self.new ≡ figure self.old) }
@@ -114,7 +120,12 @@ impl Ports {
 
     #[cycle(deliver)]
     #[tactic(auto, using(crate::proofs::Deliveries::delivering))]
-    fn pass(&mut self, sent: &Passing<'_>, deep: bool, heard: &mut Heard) -> Result<(), AllocError>
+    fn pass(
+        &mut self,
+        sent: &LentPacket<'_>,
+        deep: bool,
+        heard: &mut Heard,
+    ) -> Result<(), AllocError>
         ensures ok { OnOk result ((heard.new, self.new)
             ≡ heard_joined heard.old (delivered sent.now deep self.old)) }
         ensures err { OnErr result (figure self.new ≡ figure self.old) }
@@ -132,7 +143,7 @@ impl Ports {
 #[tactic(auto, using(crate::proofs::Deliveries::delivering, crate::proofs::Figures::figures, crate::proofs::Rows::rows))]
 fn deliver_all(
     places: &mut [Place],
-    sent: &Passing<'_>,
+    sent: &LentPacket<'_>,
     deep: bool,
     heard: &mut Heard,
 ) -> Result<(), AllocError>
@@ -156,7 +167,7 @@ impl Place {
     #[cycle(deliver)]
     fn deliver(
         &mut self,
-        sent: &Passing<'_>,
+        sent: &LentPacket<'_>,
         deep: bool,
         heard: &mut Heard,
     ) -> Result<(), AllocError>
@@ -181,7 +192,7 @@ impl Device {
     #[tactic(auto, using(crate::proofs::Deliveries::delivering, crate::proofs::Figures::figures))]
     fn deliver(
         &mut self,
-        sent: &Passing<'_>,
+        sent: &LentPacket<'_>,
         deep: bool,
         heard: &mut Heard,
     ) -> Result<(), AllocError>
@@ -197,7 +208,7 @@ impl Device {
     #[tactic(auto, unfolding(crate::specs::Delivery::answer_of, crate::specs::Delivery::effect_of), using(crate::proofs::Deliveries::strays))]
     pub(crate) fn take_sent(
         &mut self,
-        sent: &Passing<'_>,
+        sent: &LentPacket<'_>,
         deep: bool,
         heard: &mut Heard,
     ) -> Result<(), AllocError>

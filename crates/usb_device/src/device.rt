@@ -52,8 +52,11 @@ fn first_ports(alloc: Global, spec: &DeviceSpec) -> Result<Ports, AllocError>
 }
 
 impl Device {
-    /// A device that was just plugged, with a copy of its description; its ports are off. An error:
-    /// memory is refused.
+    /// A device that was just plugged, with a copy of its description; its ports are off.
+    ///
+    /// # Errors
+    ///
+    /// Memory was refused.
     pub fn new(alloc: Global, spec: &DeviceSpec) -> Result<Self, AllocError>
         ensures { IfOk result (λ d. d ≡ new_device spec.now) }
     {
@@ -111,7 +114,11 @@ impl Device {
 
     /// One packet in, its answer out (8.5.3), if there is one; the devices below do not get it.
     /// Bytes that spell no packet have no answer. It wants memory only where a packet joins the
-    /// sink. An error: memory is refused, and nothing changes.
+    /// sink.
+    ///
+    /// # Errors
+    ///
+    /// Memory was refused, and nothing changes.
     pub fn receive(&mut self, bytes: &[u8]) -> Result<Option<ArrayVec<u8, 67>>, AllocError>
         ensures answer { IfOk result (λ answer. AnswersPacket bytes.now self.old answer self.new) }
         ensures refused { OnErr result (self.new ≡ self.old) }
@@ -162,10 +169,7 @@ impl Device {
         ensures { option_map (λ bytes. bytes) result
             ≡ option_map status_of (numbered (row_of self.now.ports) port) }
     {
-        match self.ports.port(port) {
-            Some(port) => Some(port.status()),
-            None => None,
-        }
+        Some(self.ports.port(port)?.status())
     }
 
     /// How many ports it has.

@@ -57,7 +57,11 @@ impl Devices {
         is_named(self.specs.as_slice(), name)
     }
 
-    /// One device more, at the end. An error: memory is refused, and nothing changes.
+    /// One device more, at the end.
+    ///
+    /// # Errors
+    ///
+    /// Memory was refused, and nothing changes.
     pub fn push(&mut self, spec: DeviceSpec) -> Result<(), AllocError>
         requires room { length self.old < 127 }
         requires name { is_named self.old spec.name ≡ false }

@@ -7,6 +7,7 @@ use std::alloc::{AllocError, Global};
 use std::marker::Model;
 use usb_descriptor::read_hub;
 use usb_request::class_code::HUB_CLASS;
+use usb_request::descriptor_length::HUB_LENGTH;
 use usb_request::descriptor_type::HUB;
 
 /// Whether a device descriptor has the class of hubs: its byte 4, bDeviceClass, is theirs (11.23.1).
@@ -41,7 +42,7 @@ impl HubSpec {
     pub fn agrees(ports: u8, descriptor: &[u8]) -> bool
         ensures { result ≡ agrees ports descriptor.now }
     {
-        let front = &descriptor[..descriptor.len().min(9)];
+        let front = &descriptor[..descriptor.len().min(HUB_LENGTH)];
         match read_hub(front) {
             Ok(hub) => hub.ports() == ports,
             Err(_) => true,
@@ -59,14 +60,17 @@ impl HubSpec {
     }
 
     /// A hub with 1 to 7 ports that are switched one by one, and the hub descriptor that says so.
-    /// An error: memory is refused.
+    ///
+    /// # Errors
+    ///
+    /// Memory was refused.
     #[tactic(auto, using(crate::proofs::Hubs::usual))]
     pub fn usual(alloc: Global, ports: u8) -> Result<Self, AllocError>
         requires least { 1 ≤ ports }
         requires most { ports ≤ 7 }
         ensures { IfOk result (λ h. h ≡ usual_hub ports) }
     {
-        let descriptor = [9, HUB, ports, 1, 0, 0, 0, 0, 0xff].to_vec(alloc)?;
+        let descriptor = [HUB_LENGTH as u8, HUB, ports, 1, 0, 0, 0, 0, 0xff].to_vec(alloc)?;
         Ok(HubSpec::new(ports, Bytes::new(descriptor)))
     }
 
@@ -88,7 +92,11 @@ impl HubSpec {
         self.descriptor.as_slice()
     }
 
-    /// The same description in memory of its own. An error: memory is refused.
+    /// The same description in memory of its own.
+    ///
+    /// # Errors
+    ///
+    /// Memory was refused.
     pub fn try_clone(&self, alloc: Global) -> Result<Self, AllocError>
         ensures { IfOk result (λ h. h ≡ self.now) }
     {

@@ -68,7 +68,8 @@ pub fn answer_laws()
     ensures further { (max wanted : ℕ) (answer bytes : List ℕ) (k : ℕ)
         → 0 < max → packet_at max wanted answer k ≡ Some bytes
         → is_some (packet_at max wanted answer (k + 1))
-        ≡ (length bytes == max && nat_lt (length (packets_joined max wanted answer (k + 1))) wanted) }
+        ≡ (length bytes == max
+        && nat_lt (length (packets_joined max wanted answer (k + 1))) wanted) }
 {}
 
 /// IN of endpoint 0 in a control read (8.5.3): each packet comes once, in order, whatever is lost.

@@ -12,9 +12,9 @@ mod devices;
 mod effect;
 mod hub_spec;
 mod laws;
+mod lent_packet;
 mod lists;
 mod own;
-mod passing;
 mod ports;
 mod request;
 mod route;
@@ -27,11 +27,12 @@ pub use children::Parent;
 pub use delivery::{Content, Heard, Sent};
 pub use device::Device;
 pub use devices::Devices;
+pub use effect::Effect;
 pub use hub_spec::{HubSpec, has_hub_class};
 pub use laws::{
     answer_laws, attempt_laws, control_read_goes_on, sink_goes_on, source_goes_on, stray_laws,
 };
+pub use lent_packet::LentPacket;
 pub use lists::{Bytes, ConfigTexts, Name, StringTexts, Texts};
-pub use passing::Passing;
 pub use ports::Ports;
 pub use spec::{DeviceSpec, Stalls};

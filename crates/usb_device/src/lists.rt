@@ -39,7 +39,11 @@ impl<const MAX: usize> Bytes<MAX> {
         self.bytes.as_slice()
     }
 
-    /// The same bytes in memory of their own. An error: memory is refused.
+    /// The same bytes in memory of their own.
+    ///
+    /// # Errors
+    ///
+    /// Memory was refused.
     pub fn try_clone(&self, alloc: Global) -> Result<Self, AllocError>
         ensures { IfOk result (λ b. b ≡ self.now) }
     {
@@ -84,7 +88,11 @@ impl Name {
         self.text.as_str()
     }
 
-    /// The same text in memory of its own. An error: memory is refused.
+    /// The same text in memory of its own.
+    ///
+    /// # Errors
+    ///
+    /// Memory was refused.
     pub fn try_clone(&self, alloc: Global) -> Result<Self, AllocError>
         ensures { IfOk result (λ n. n ≡ self.now) }
     {
@@ -136,7 +144,11 @@ impl<const COUNT: usize, const MAX: usize> Texts<COUNT, MAX> {
         }
     }
 
-    /// One text more, at the end. An error: memory is refused, and nothing changes.
+    /// One text more, at the end.
+    ///
+    /// # Errors
+    ///
+    /// Memory was refused, and nothing changes.
     pub fn push(&mut self, text: Bytes<MAX>) -> Result<(), AllocError>
         requires { length self.old < COUNT }
         ensures ok { OnOk result (self.new ≡ self.old ++ text.entry ∷ []) }
@@ -171,7 +183,11 @@ impl<const COUNT: usize, const MAX: usize> Texts<COUNT, MAX> {
         Bytes::new(Vec::new(*self.texts.allocator()))
     }
 
-    /// The same texts in memory of their own. An error: memory is refused.
+    /// The same texts in memory of their own.
+    ///
+    /// # Errors
+    ///
+    /// Memory was refused.
     pub fn try_clone(&self, alloc: Global) -> Result<Self, AllocError>
         ensures { IfOk result (λ t. t ≡ self.now) }
     {

@@ -8,15 +8,15 @@ ghost use Rattle.usb_device.specs.Tree.{row_of};
 
 use crate::answer::Answer;
 use crate::bulk::{
-    Pipe, RESTED, Which, advanced, bulk_at, carried, counted_down, halted, is_last, is_same,
-    tells_changes, turned,
+    EndpointState, RESTED, ServedEndpoint, advanced, bulk_at, carried, counted_down, halted,
+    is_last, tells_changes, turned,
 };
 use crate::effect::Effect;
 use crate::lists::Bytes;
 use crate::ports::Ports;
 use crate::request::{AT_RESET, Reaction, Registers, Source, react};
 use crate::spec::DeviceSpec;
-use crate::transfer::{Giver, Memory, Progress, has_packet, packet_at, toggle_at};
+use crate::transfer::{InEndpoint, Progress, RememberedPacket, has_packet, packet_at, toggle_at};
 use arrayvec::ArrayVec;
 use std::alloc::{AllocError, Global};
 use std::marker::Model;
@@ -30,15 +30,23 @@ use usb_request::Setup;
 pub struct Own {
     spec: DeviceSpec,
     registers: Registers,
-    memory: Memory,
+    /// What the packet before left.
+    memory: RememberedPacket,
+    /// How many NAKs are still to be given in this transfer.
     naks: u8,
+    /// Where the control transfer stands.
     progress: Progress,
-    bulk_out: Pipe,
-    bulk_in: Pipe,
-    changes: Pipe,
+    bulk_out: EndpointState,
+    bulk_in: EndpointState,
+    /// IN 1 of a hub.
+    changes: EndpointState,
+    /// The byte that IN 1 gave, until its ACK is seen.
     held: Option<u8>,
+    /// What bulk OUT has taken since the plug.
     sink: Vec<u8>,
+    /// How many packets bulk OUT is still to take until it halts; None where it does not.
     until_halt: Option<u16>,
+    /// How many bytes of its source the host has acknowledged.
     place: usize,
 }
 
@@ -116,32 +124,37 @@ fn first_progress(ports: &Ports, wanted: u16, reaction: Reaction) -> Progress
     }
 }
 
-fn awaits_data(memory: Memory) -> bool
+fn awaits_data(memory: RememberedPacket) -> bool
     ensures { result ≡ awaits_data memory }
 {
     match memory {
-        Memory::Nothing | Memory::AckAwaited(_) => false,
-        Memory::SetupSeen | Memory::OutSeen(_) => true,
+        RememberedPacket::Nothing | RememberedPacket::AckAwaited(_) => false,
+        RememberedPacket::SetupSeen | RememberedPacket::OutSeen(_) => true,
     }
 }
 
-fn awaits_ack(memory: Memory) -> bool
+fn awaits_ack(memory: RememberedPacket) -> bool
     ensures { result ≡ awaits_ack memory }
 {
     match memory {
-        Memory::Nothing | Memory::SetupSeen | Memory::OutSeen(_) => false,
-        Memory::AckAwaited(_) => true,
+        RememberedPacket::Nothing | RememberedPacket::SetupSeen | RememberedPacket::OutSeen(_) =>
+            false,
+        RememberedPacket::AckAwaited(_) => true,
     }
 }
 
 impl Own {
     ghost use Rattle.usb_device.specs.StrayPackets.{is_for};
     ghost use Rattle.std.specs.Prelude.{IfOk, OnOk, OnErr, true, false, [], ◌∷◌};
-    ghost use Rattle.usb_device.specs.declared.transfer.Giver.TheVariants as by;
+    ghost use Rattle.usb_device.specs.declared.transfer.InEndpoint.TheVariants as by;
     ghost use Rattle.usb_device.specs.Effect.{asks, asked_by_data, asked_by_setup};
-    ghost use Rattle.usb_device.specs.Rows.{State, received, unread, forgotten, awaits_address, fresh, reset_state, accepted, begun, is_busy, nak_row, gives, in_row, status_row, out_row, ack_row, token_row, setup_row, payload_row, answered, unless_busy, pipe_of, with_pipe, bulk_of, rest_of, source_row, bulk_ack_row, acknowledged, sink_row, sinks, in_bulk_row, out_bulk_row, bulk_sinks, data_row, payload_sinks, sink_grows, is_other_out, after_memory, with_endpoints, in_other_row, changes_row, new_changes_row};
+    ghost use Rattle.usb_device.specs.Rows.{State, received, unread, forgotten, awaits_address, fresh, reset_state, accepted, begun, is_busy, nak_row, gives, in_row, status_row, out_row, ack_row, token_row, setup_row, payload_row, answered, unless_busy, endpoint_state, with_endpoint_state, bulk_of, rest_of, source_row, bulk_ack_row, acknowledged, sink_row, sinks, in_bulk_row, out_bulk_row, bulk_sinks, data_row, payload_sinks, sink_grows, is_other_out, after_memory, with_endpoints, in_other_row, changes_row, new_changes_row};
 
-    /// A device that was just plugged, with a copy of its description. An error: memory is refused.
+    /// A device that was just plugged, with a copy of its description.
+    ///
+    /// # Errors
+    ///
+    /// Memory was refused.
     #[tactic(auto, unfolding(crate::specs::Rows::fresh))]
     pub fn new(alloc: Global, spec: &DeviceSpec) -> Result<Self, AllocError>
         ensures { IfOk result (λ d. d ≡ fresh spec.now) }
@@ -149,7 +162,7 @@ impl Own {
         Ok(Own {
             spec: spec.try_clone(alloc)?,
             registers: AT_RESET,
-            memory: Memory::Nothing,
+            memory: RememberedPacket::Nothing,
             naks: 0,
             progress: Progress::Idle,
             bulk_out: RESTED,
@@ -199,7 +212,7 @@ impl Own {
         matches!(
             (self.memory, self.progress),
             (
-                Memory::AckAwaited(Giver::Control),
+                RememberedPacket::AckAwaited(InEndpoint::Control),
                 Progress::Ending(Some(_))
             )
         )
@@ -224,7 +237,7 @@ impl Own {
     pub fn attempt_over(&mut self)
         ensures { self.new ≡ forgotten self.old }
     {
-        self.memory = Memory::Nothing;
+        self.memory = RememberedPacket::Nothing;
     }
 
     #[tactic(auto, unfolding(crate::specs::Rows::unread))]
@@ -236,7 +249,8 @@ impl Own {
         }
     }
 
-    /// Whether a packet is for this device: a token with its address, data behind such a token, or the ACK that it awaits.
+    /// Whether a packet is for this device: a token with its address, data behind such a token, or
+    /// the ACK that it awaits.
     pub fn is_for(&self, packet: &Packet) -> bool
         ensures { result ≡ is_for self.now self.now.memory packet.now }
     {
@@ -255,8 +269,11 @@ impl Own {
         }
     }
 
-    /// A packet at the device, by what its ports tell; what it answers is put into `answer`. An error: memory is refused for
-    /// a packet that joins the sink, and the device is as it was.
+    /// A packet at the device, by what its ports tell; what it answers is put into `answer`.
+    ///
+    /// # Errors
+    ///
+    /// Memory was refused for a packet that joins the sink, and the device is as it was.
     #[tactic(auto, unfolding(crate::specs::Rows::received))]
     pub fn received(
         &mut self,
@@ -298,12 +315,12 @@ impl Own {
         match kind {
             TokenKind::SetupTok => {
                 if ep == 0 {
-                    self.memory = Memory::SetupSeen;
+                    self.memory = RememberedPacket::SetupSeen;
                 }
                 None
             }
             TokenKind::OutTok => {
-                self.memory = Memory::OutSeen(ep);
+                self.memory = RememberedPacket::OutSeen(ep);
                 None
             }
             TokenKind::InTok if ep == 0 => self.give_unless_busy(),
@@ -326,7 +343,7 @@ impl Own {
             (payload_sinks self.old self.old.memory toggle bytes.now ≡ true) }
     {
         match self.memory {
-            Memory::OutSeen(ep) if ep != 0 => self.take_bulk(ep, toggle, bytes),
+            RememberedPacket::OutSeen(ep) if ep != 0 => self.take_bulk(ep, toggle, bytes),
             memory => {
                 self.attempt_over();
                 Ok(self.control_payload(ports, memory, toggle, bytes))
@@ -338,7 +355,7 @@ impl Own {
     fn control_payload(
         &mut self,
         ports: &Ports,
-        memory: Memory,
+        memory: RememberedPacket,
         toggle: Toggle,
         bytes: &[u8],
     ) -> Option<Answer>
@@ -347,8 +364,8 @@ impl Own {
             ≡ payload_row self.old (row_of ports.now) memory toggle bytes.now }
     {
         match (memory, toggle) {
-            (Memory::SetupSeen, Toggle::Zero) => self.take_setup(ports, bytes),
-            (Memory::OutSeen(_), toggle) => self.take_unless_busy(toggle, bytes),
+            (RememberedPacket::SetupSeen, Toggle::Zero) => self.take_setup(ports, bytes),
+            (RememberedPacket::OutSeen(_), toggle) => self.take_unless_busy(toggle, bytes),
             _ => None,
         }
     }
@@ -368,18 +385,18 @@ impl Own {
     {
         let memory = self.memory;
         self.attempt_over();
-        if let Memory::AckAwaited(giver) = memory {
-            self.acknowledge(giver);
+        if let RememberedPacket::AckAwaited(endpoint) = memory {
+            self.acknowledge(endpoint);
         }
     }
 
-    fn acknowledge(&mut self, giver: Giver)
-        ensures { self.new ≡ acknowledged self.old giver }
+    fn acknowledge(&mut self, endpoint: InEndpoint)
+        ensures { self.new ≡ acknowledged self.old endpoint }
     {
-        match giver {
-            Giver::Control => self.acknowledge_control(),
-            Giver::Bulk => self.acknowledge_bulk(),
-            Giver::Changes => self.acknowledge_changes(),
+        match endpoint {
+            InEndpoint::Control => self.acknowledge_control(),
+            InEndpoint::Bulk => self.acknowledge_bulk(),
+            InEndpoint::Changes => self.acknowledge_changes(),
         }
     }
 
@@ -448,8 +465,11 @@ impl Own {
                 self.changes = RESTED;
                 self.held = None;
             }
-            Reaction::Halt(which) => self.set_pipe(which, halted(self.pipe(which))),
-            Reaction::Unhalt(which) => self.set_pipe(which, RESTED),
+            Reaction::Halt(endpoint) => self.set_endpoint(
+                endpoint,
+                halted(self.endpoint(endpoint)),
+            ),
+            Reaction::Unhalt(endpoint) => self.set_endpoint(endpoint, RESTED),
             Reaction::Refuse
             | Reaction::Answer(_)
             | Reaction::TakeAddress(_)
@@ -475,7 +495,7 @@ impl Own {
         ensures { result ≡ asked_by_data self.now self.now.memory toggle bytes.now }
     {
         match (self.memory, toggle) {
-            (Memory::SetupSeen, Toggle::Zero) => match bytes.try_into().ok() {
+            (RememberedPacket::SetupSeen, Toggle::Zero) => match bytes.try_into().ok() {
                 Some(bytes) => self.asks_by_setup(&Setup::from_bytes(bytes)),
                 None => Effect::Leaves,
             },
@@ -532,19 +552,23 @@ impl Own {
 
     /// Whether the answer has a packet `k`.
     fn has_packet(&self, source: Source, wanted: u16, k: u32) -> bool
-        ensures { result
-            ≡ is_some (packet_at (max_packet self.now.spec) wanted (source_bytes self.now.spec source)
-            k) }
+        ensures { let answer = source_bytes self.now.spec source in
+            result ≡ is_some (packet_at (max_packet self.now.spec) wanted answer k) }
     {
         let max = usize::from(self.spec.max_packet());
         has_packet(max, wanted, self.length_of(source), k)
     }
 
     /// Data from the device, of which an ACK is awaited.
-    fn give_data(&mut self, giver: Giver, toggle: Toggle, bytes: ArrayVec<u8, 64>) -> Option<Answer>
-        ensures { (result, self.new) ≡ gives self.old giver toggle bytes.items }
+    fn give_data(
+        &mut self,
+        endpoint: InEndpoint,
+        toggle: Toggle,
+        bytes: ArrayVec<u8, 64>,
+    ) -> Option<Answer>
+        ensures { (result, self.new) ≡ gives self.old endpoint toggle bytes.items }
     {
-        self.memory = Memory::AckAwaited(giver);
+        self.memory = RememberedPacket::AckAwaited(endpoint);
         Some(Answer::Data { toggle, bytes })
     }
 
@@ -561,9 +585,13 @@ impl Own {
                 given,
             } => {
                 let bytes = self.packet_at(source, wanted, given)?;
-                self.give_data(Giver::Control, toggle_at(given), bytes)
+                self.give_data(InEndpoint::Control, toggle_at(given), bytes)
             }
-            Progress::Ending(_) => self.give_data(Giver::Control, Toggle::One, ArrayVec::new()),
+            Progress::Ending(_) => self.give_data(
+                InEndpoint::Control,
+                Toggle::One,
+                ArrayVec::new(),
+            ),
         }
     }
 
@@ -620,23 +648,23 @@ impl Own {
         }
     }
 
-    fn pipe(&self, which: Which) -> Pipe
-        ensures { result ≡ pipe_of self.now which }
+    fn endpoint(&self, endpoint: ServedEndpoint) -> EndpointState
+        ensures { result ≡ endpoint_state self.now endpoint }
     {
-        match which {
-            Which::BulkOut => self.bulk_out,
-            Which::BulkIn => self.bulk_in,
-            Which::Changes => self.changes,
+        match endpoint {
+            ServedEndpoint::BulkOut => self.bulk_out,
+            ServedEndpoint::BulkIn => self.bulk_in,
+            ServedEndpoint::Changes => self.changes,
         }
     }
 
-    fn set_pipe(&mut self, which: Which, pipe: Pipe)
-        ensures { self.new ≡ with_pipe self.old which pipe }
+    fn set_endpoint(&mut self, endpoint: ServedEndpoint, state: EndpointState)
+        ensures { self.new ≡ with_endpoint_state self.old endpoint state }
     {
-        match which {
-            Which::BulkOut => self.bulk_out = pipe,
-            Which::BulkIn => self.bulk_in = pipe,
-            Which::Changes => self.changes = pipe,
+        match endpoint {
+            ServedEndpoint::BulkOut => self.bulk_out = state,
+            ServedEndpoint::BulkIn => self.bulk_in = state,
+            ServedEndpoint::Changes => self.changes = state,
         }
     }
 
@@ -680,7 +708,7 @@ impl Own {
         ensures { (result, self.new)
             ≡ gives self.old by.Changes self.old.changes.toggle (bits ∷ []) }
     {
-        self.give_data(Giver::Changes, self.changes.toggle, carried(&[bits]))
+        self.give_data(InEndpoint::Changes, self.changes.toggle, carried(&[bits]))
     }
 
     fn give_new_changes(&mut self, bits: u8) -> Option<Answer>
@@ -724,7 +752,7 @@ impl Own {
             return Some(Answer::Nak);
         }
         let bytes = carried(&rest[..rest.len().min(usize::from(max))]);
-        self.give_data(Giver::Bulk, self.bulk_in.toggle, bytes)
+        self.give_data(InEndpoint::Bulk, self.bulk_in.toggle, bytes)
     }
 
     /// The host's ACK of what the bulk IN endpoint gave.
@@ -779,9 +807,9 @@ impl Own {
             self.attempt_over();
             return Ok(None);
         }
-        if is_same(toggle, self.bulk_out.toggle) {
+        if toggle.is_same(self.bulk_out.toggle) {
             self.sink.extend_from_slice(bytes)?;
-            self.bulk_out = Pipe {
+            self.bulk_out = EndpointState {
                 toggle: turned(self.bulk_out).toggle,
                 halted: is_last(self.until_halt),
             };

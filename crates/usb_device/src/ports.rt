@@ -147,7 +147,11 @@ impl Ports {
     ghost use Rattle.std.specs.Prelude.{◌∷◌, length};
     ghost use Rattle.usb_device.specs.Tree.{changed, device_there, numbered};
 
-    /// So many ports, with nothing attached and no power. An error: memory is refused.
+    /// So many ports, with nothing attached and no power.
+    ///
+    /// # Errors
+    ///
+    /// Memory was refused.
     pub fn new(alloc: Global, count: u8) -> Result<Self, AllocError>
         ensures { IfOk result (λ ports. ports ≡ new_ports count) }
     {

@@ -6,7 +6,7 @@ ghost use Rattle.usb_device.specs.Request.{outcome, unless, asked_descriptor, as
 ghost use Rattle.usb_device.specs.Bulk.{has_value};
 ghost use Rattle.usb_device.specs.Code.{meaning_of};
 
-use crate::bulk::{Which, served};
+use crate::bulk::{ServedEndpoint, served};
 use crate::lists::Bytes;
 use crate::spec::DeviceSpec;
 use usb_port::PortCall;
@@ -64,9 +64,9 @@ pub enum Reaction {
     /// It takes a configuration at once.
     TakeConfiguration(u8),
     /// An endpoint halts.
-    Halt(Which),
+    Halt(ServedEndpoint),
     /// An endpoint halts no more.
-    Unhalt(Which),
+    Unhalt(ServedEndpoint),
     /// It gives the status of a port, counted from 0.
     TellPort(usize),
     /// A port, counted from 0, is set or cleared.
@@ -119,6 +119,7 @@ fn set_address(setup: &Setup) -> Reaction
     }
 }
 
+/// Whether the text of a configuration has this value, by byte 5, bConfigurationValue (9.6.3).
 pub fn has_value(text: &[u8], value: u16) -> bool
     ensures { result ≡ has_value value text.now }
 {
@@ -148,7 +149,7 @@ fn set_configuration(spec: &DeviceSpec, registers: Registers, setup: &Setup) -> 
 }
 
 /// The endpoint that a CLEAR_FEATURE or SET_FEATURE of ENDPOINT_HALT names, where it is served.
-fn endpoint_of(spec: &DeviceSpec, registers: Registers, setup: &Setup) -> Option<Which>
+fn endpoint_of(spec: &DeviceSpec, registers: Registers, setup: &Setup) -> Option<ServedEndpoint>
     ensures { result ≡ endpoint_of spec.now registers setup.now }
 {
     if setup.value == ENDPOINT_HALT && setup.length == 0 {
@@ -158,20 +159,20 @@ fn endpoint_of(spec: &DeviceSpec, registers: Registers, setup: &Setup) -> Option
     }
 }
 
-fn halt(endpoint: Option<Which>) -> Reaction
+fn halt(endpoint: Option<ServedEndpoint>) -> Reaction
     ensures { (s : Spec) → meaning_of s result ≡ on_endpoint halts endpoint }
 {
     match endpoint {
-        Some(which) => Reaction::Halt(which),
+        Some(endpoint) => Reaction::Halt(endpoint),
         None => Reaction::Refuse,
     }
 }
 
-fn unhalt(endpoint: Option<Which>) -> Reaction
+fn unhalt(endpoint: Option<ServedEndpoint>) -> Reaction
     ensures { (s : Spec) → meaning_of s result ≡ on_endpoint unhalts endpoint }
 {
     match endpoint {
-        Some(which) => Reaction::Unhalt(which),
+        Some(endpoint) => Reaction::Unhalt(endpoint),
         None => Reaction::Refuse,
     }
 }
@@ -192,7 +193,7 @@ fn port_named(spec: &DeviceSpec, registers: Registers, index: u16) -> Option<usi
     ensures { result ≡ port_named spec.now.hub registers index }
 {
     let ports = u16::from(spec.hub()?.ports());
-    if registers.configuration != 0 && 1 <= index && index <= ports {
+    if registers.configuration != 0 && (1..=ports).contains(&index) {
         Some(usize::from(index - 1))
     } else {
         None

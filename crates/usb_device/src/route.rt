@@ -1,30 +1,32 @@
 //! A packet that goes straight to one device, by its path.
-ghost use Rattle.std.specs.Prelude.{◌≡◌, ◌&&◌, OnOk, OnErr};
+ghost use Rattle.std.specs.Prelude.{◌≡◌, ◌&&◌, false, IsTrue, OnOk, OnErr};
 ghost use Rattle.usb_device.specs.Tree.{changed, changed_in, device_there, plugged_in};
-ghost use Rattle.usb_device.specs.Places.{stood};
+ghost use Rattle.usb_device.specs.Places.{ports_kept, stood};
 ghost use Rattle.usb_device.specs.View.{state_in, reach_in};
 ghost use Rattle.usb_device.specs.Delivery.{both, heard_from, effect_of};
-ghost use Rattle.usb_device.specs.Route.{sent_in, answer_by, RefusedBy, asked_call, call_by, forgotten_in, address_by, holds_by, is_held_at};
+ghost use Rattle.usb_device.specs.Route.{sent_in, answer_by, RefusedBy, effect_by, forgotten_in, address_by, holds_by, is_held_at, HolderBehind, HolderAmong, HolderAt};
 
 use crate::delivery::Heard;
 use crate::device::Device;
 use crate::effect::Effect;
-use crate::passing::Passing;
+use crate::lent_packet::LentPacket;
 use crate::ports::{Place, Ports};
 use arrayvec::ArrayVec;
 use std::alloc::AllocError;
-use usb_port::PortCall;
 
 impl Ports {
     /// A packet at the device at a path alone, which is `deep` where it stands on a port of a hub;
-    /// what is heard of its answer joins what was heard before. An error: memory is refused, and
-    /// nothing changes.
+    /// what is heard of its answer joins what was heard before.
+    ///
+    /// # Errors
+    ///
+    /// Memory was refused, and nothing changes.
     #[cycle(deliver_at)]
     #[tactic(auto, using(crate::proofs::NumberedPlaces::routing))]
     pub fn deliver_at(
         &mut self,
         path: &[u8],
-        sent: &Passing<'_>,
+        sent: &LentPacket<'_>,
         deep: bool,
         heard: &mut Heard,
     ) -> Result<(), AllocError>
@@ -44,15 +46,14 @@ impl Ports {
         self.places[i - 1].deliver_at(rest, sent, deep, heard)
     }
 
-    /// What the device at a path asks of its ports at a packet: nothing, or a call, and then
-    /// whether it clears a change of connection (11.24.2.2). It is asked before the packet is
-    /// delivered.
-    pub fn call_at_path(&self, path: &[u8], sent: &Passing<'_>, deep: bool) -> Option<bool>
-        ensures { result ≡ call_by sent.now deep (device_there self.now path.now) }
+    /// What the device at a path asks of its ports at a packet; nothing where none is there. It is
+    /// asked before the packet is delivered.
+    pub fn effect_at(&self, path: &[u8], sent: &LentPacket<'_>, deep: bool) -> Effect
+        ensures { result ≡ effect_by sent.now deep (device_there self.now path.now) }
     {
         match self.device_at(path) {
-            None => None,
-            Some(device) => asked_call(device.effect(sent, deep)),
+            None => Effect::Leaves,
+            Some(device) => device.effect(sent, deep),
         }
     }
 
@@ -88,21 +89,33 @@ impl Ports {
     }
 
     /// Looks for a device that packets reach and that holds the address, and puts its path behind
-    /// `path`. It is a guess for `is_held_at`: a path of more than eight numbers is not found.
+    /// `path`; whether it was found. One whose path does not fit in `path` is not.
     #[cycle(find)]
-    pub fn find(&self, address: u8, path: &mut ArrayVec<u8, 8>) -> bool {
+    pub fn find(&self, address: u8, path: &mut ArrayVec<u8, 8>) -> bool
+        ensures found { IsTrue result
+            → HolderBehind address self.now path.old.items path.new.items }
+        ensures none { result ≡ false → path.new ≡ path.old }
+    {
         find_in(self.places.as_slice(), 1, address, path)
     }
 }
 
+/// The same among ports, of which the first one has the number.
 #[cycle(find)]
-fn find_in(places: &[Place], number: u8, address: u8, path: &mut ArrayVec<u8, 8>) -> bool {
-    match places.split_first() {
+fn find_in(places: &[Place], number: u8, address: u8, path: &mut ArrayVec<u8, 8>) -> bool
+    ensures found { IsTrue result
+        → HolderAmong address number (ports_kept places.now) path.old.items path.new.items }
+    ensures none { result ≡ false → path.new ≡ path.old }
+{
+    let Some((place, rest)) = places.split_first() else {
+        return false;
+    };
+    if place.find(number, address, path) {
+        return true;
+    }
+    match number.checked_add(1) {
+        Some(next) => find_in(rest, next, address, path),
         None => false,
-        Some((place, rest)) => {
-            place.find(number, address, path)
-                || find_in(rest, number.saturating_add(1), address, path)
-        }
     }
 }
 
@@ -112,7 +125,7 @@ impl Place {
     fn deliver_at(
         &mut self,
         path: &[u8],
-        sent: &Passing<'_>,
+        sent: &LentPacket<'_>,
         deep: bool,
         heard: &mut Heard,
     ) -> Result<(), AllocError>
@@ -162,11 +175,14 @@ impl Place {
             _ => false,
         }
     }
-}
 
-impl Place {
+    /// The same at the port, which has the number, and below it.
     #[cycle(find)]
-    fn find(&self, number: u8, address: u8, path: &mut ArrayVec<u8, 8>) -> bool {
+    fn find(&self, number: u8, address: u8, path: &mut ArrayVec<u8, 8>) -> bool
+        ensures found { IsTrue result
+            → HolderAt address number (stood self.now) path.old.items path.new.items }
+        ensures none { result ≡ false → path.new ≡ path.old }
+    {
         match &self.device {
             Some(device) if self.port.is_enabled() => {
                 if path.try_push(number).is_err() {
@@ -180,16 +196,5 @@ impl Place {
             }
             _ => false,
         }
-    }
-}
-
-fn asked_call(effect: Effect) -> Option<bool>
-    ensures { result ≡ asked_call effect }
-{
-    match effect {
-        Effect::Leaves => None,
-        Effect::Calls(PortCall::ClearConnectionChange, _) => Some(true),
-        Effect::Calls(_, _) => Some(false),
-        Effect::PortsOff => Some(false),
     }
 }

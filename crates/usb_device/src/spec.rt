@@ -211,7 +211,11 @@ impl DeviceSpec {
         self
     }
 
-    /// The same description in memory of its own. An error: memory is refused.
+    /// The same description in memory of its own.
+    ///
+    /// # Errors
+    ///
+    /// Memory was refused.
     pub fn try_clone(&self, alloc: Global) -> Result<Self, AllocError>
         ensures { IfOk result (λ s. s ≡ self.now) }
     {
@@ -345,7 +349,8 @@ impl DeviceSpec {
     ghost use Rattle.std.specs.Option.{IfSome};
     ghost use Rattle.usb_device.specs.Transfer.{max_packet};
 
-    /// The most data bytes of a packet on endpoint 0 (5.5.3).
+    /// The most data bytes of a packet on endpoint 0, by byte 7 of its descriptor,
+    /// bMaxPacketSize0 (5.5.3, 9.6.1).
     pub(crate) fn max_packet(&self) -> u8
         ensures value { result ≡ max_packet self.now }
         ensures low { 8 ≤ result }

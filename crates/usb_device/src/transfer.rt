@@ -6,9 +6,9 @@ use crate::request::Source;
 use arrayvec::ArrayVec;
 use usb_packet::Toggle;
 
-/// What gave the data of which an ACK is awaited.
+/// An endpoint that gives data, of which an ACK is then awaited.
 #[derive(Clone, Copy, Debug)]
-pub enum Giver {
+pub enum InEndpoint {
     /// Endpoint 0.
     Control,
     /// The bulk IN endpoint.
@@ -17,16 +17,17 @@ pub enum Giver {
     Changes,
 }
 
-/// What the packet before left.
+/// What a device remembers of the packet before.
 #[derive(Clone, Copy, Debug)]
-pub enum Memory {
+pub enum RememberedPacket {
+    /// Nothing that matters for the packet that comes next.
     Nothing,
     /// A SETUP token, whose data come next.
     SetupSeen,
     /// An OUT token for an endpoint, whose data come next.
     OutSeen(u8),
     /// Data of the device, whose ACK comes next.
-    AckAwaited(Giver),
+    AckAwaited(InEndpoint),
 }
 
 /// Where a control transfer stands.
@@ -55,7 +56,7 @@ fn packet_count(max: usize, wanted: usize, len: usize) -> usize
     requires high { len < 65536 }
     ensures { result ≡ packet_count max wanted len }
 {
-    if len % max == 0 && !(len < wanted) {
+    if len % max == 0 && len >= wanted {
         len / max
     } else {
         len / max + 1

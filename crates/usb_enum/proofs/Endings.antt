@@ -1,5 +1,5 @@
 -- How an enumeration ends: who holds which address then.
-use Rattle.std.proofs.Common.{◌≡◌, ◌≢◌, ◌⊎◌, inl, inr, ℕ, Bool, true, false, List, Option, None, Some, Result, Ok, Err, if◌then◌else◌, refl, ap, sym, subst, ◌∙◌, arith}
+use Rattle.std.proofs.Common.{◌≡◌, ◌≢◌, ◌⊎◌, ◌≤◌, ◌+◌, inl, inr, ℕ, Bool, true, false, List, Option, None, Some, Result, Ok, Err, if◌then◌else◌, refl, ap, sym, subst, ◌∙◌, arith}
 use Rattle.usb_world.specs.Addresses.{after_taking}
 use Rattle.usb_device.specs.Rows.{State}
 use Rattle.usb_device.specs.Spec.{Spec}
@@ -16,6 +16,7 @@ use Rattle.usb_address.specs.Ownership.{Owned, OwnedBut, Enumerating, TillFault}
 use Rattle.usb_address.proofs.Interface.{begins, owned_as}
 use Rattle.usb_hub.specs.declared.port.HubPort.{HubPort}
 use Rattle.usb_hub.specs.Addresses.{IsAt, Bares}
+use Rattle.usb_hub.specs.Port.{order_bound}
 use Rattle.usb_enum.specs.declared.cause.Cause.{Cause}
 use Rattle.usb_enum.specs.declared.fault.EnumFault.{EnumFault}
 use Rattle.usb_enum.specs.declared.fault.EnumFault.TheVariants as fault
@@ -28,15 +29,18 @@ use Rattle.usb_enum.specs.Addresses.{IsSpare, Within, TakesAddress, OnlyCalls, A
 use Rattle.usb_enum.specs.Verdicts.{IsRight}
 use Rattle.usb_enum.specs.FairEnumerations.{FaultsFor, HubPends, IsFairAt, PendsOr, StopsFairly, StopsFor}
 use Rattle.usb_enum.specs.Frames.{OnlyAt}
-use Rattle.usb_enum.specs.Findings.{Begins, Closes, Disables, GivesUp, IsFair, IsOwn, IsTruthful, Places, Warrants}
+use Rattle.usb_enum.specs.Bounds.{unaddressed_bound}
+use Rattle.usb_enum.specs.Findings.{Begins, Closes, Disables, GivesUp, IsFair, IsOwn, IsTruthful, MakesFew, Places, Warrants}
 use Rattle.usb_enum.specs.Places.{HasEmptyPorts, IsOccupied, IsPlaced}
 use Rattle.usb_enum.specs.PresentDevices.{AtPath, Finds, IsInOrder, IsRegular, ReachesDevice}
 use Rattle.usb_enum.specs.Stop.{at_port}
+use Rattle.usb_enum.specs.TextLengths.{FewFrom}
 use Rattle.usb_enum.proofs.Enumerations.{till_weaker, having, at_taking}
-use Rattle.usb_enum.proofs.Courses.{went_sound}
+use Rattle.usb_enum.proofs.Courses.{regular_order, went_sound}
 use Rattle.usb_enum.proofs.Fairness.{fair_before, fair_then, pends_on}
 use Rattle.usb_enum.proofs.Frames.{but_taken}
 use Rattle.usb_enum.proofs.ReachedDevices.{occupied_on}
+use Rattle.usb_enum.proofs.Targets.{examined_most}
 
 -- Claims at the port
 
@@ -105,6 +109,11 @@ zero_before old new a takes has taken = zero_untaken new has (takes.others 0 dif
 
 pub free_untaken : (old new : Addresses) (a : ℕ) → pool.Takes old a new → IsTaken old a → ⊥
 free_untaken old new a takes taken = no (sym takes.free.1 ∙ taken)
+
+-- How few attempts are made where no address is free
+
+pub few_unaddressed : (port : HubPort) (addresses : Addresses) (old mid new : World) {a b c d : Option (List ℕ)} → WentOn (unaddressed_bound port) old a mid b → WentOn (order_bound port) mid c new d → MakesFew port addresses old new
+few_unaddressed port addresses old mid new sooner later = record { few = λ f p wide start most plan. omega (arith, sooner.spends.most, later.spends.most, examined_most port most wide) }
 
 module _ (port : HubPort) (addresses : Addresses) (address : ℕ) (zero_is : IsTaken addresses 0 → ⊥) (free : IsTaken addresses address → ⊥) where
   spare : (f : Claims) (p : List ℕ) → IsAt f port p → Free f p → ((x : List ℕ) (a : ℕ) → f x ≡ Some a → IsTaken addresses a) → IsSpare f port p address
@@ -187,6 +196,15 @@ module _ (port : HubPort) (addresses : Addresses) (address : ℕ) (zero_is : IsT
             there = disables.there f p is (at.within.stays f p is t) (occupied_on p (at.only.at f p is t (went_sound n mid new went none)).spares occupied) finding e;
             below = λ device found. elim (gives_none port last mid new result device gives (e ∙ ap Ok found)) [ ];
           }
+
+  -- How few attempts are made
+
+  pub few_made : (old mid new : World) → FewFrom port address old mid → new.attempts ≤ mid.attempts + order_bound port → MakesFew port addresses old new
+  few_made old mid new from closing = record {
+    few = λ f p wide start most plan.
+        let is = spare f p start.at start.free start.taken in
+        omega (arith, from.few f p is (first f p old is start.owned) (regular_order start.order) most plan, closing, examined_most port most wide);
+  }
 
   -- What is found is warranted
 

@@ -12,7 +12,7 @@ use Rattle.usb_device.specs.View.{state_there, port_there}
 use Rattle.usb_world.specs.Courses.{Spares}
 use Rattle.usb_world.specs.Devices.{Was}
 use Rattle.usb_world.specs.Paths.{is_way, live, pend}
-use Rattle.usb_world.specs.Passes.{deep_at}
+use Rattle.usb_world.specs.AttemptPackets.{deep_at}
 use Rattle.usb_world.specs.PlanCourses.{spec_of}
 use Rattle.usb_world.specs.RestingPorts.{AsksNothingOf, SameAt, RestsOrPends, StandsOrPends}
 use Rattle.usb_world.specs.SanePorts.{IsSane}

@@ -2,7 +2,7 @@
 use Rattle.std.proofs.Common.{◌≡◌, ◌≤◌, ◌==◌, Bool, true, false, if◌then◌else◌, List, [], ◌∷◌, length, Option, None, Some, refl, ap, sym, subst, ◌∙◌, arith}
 use Rattle.usb_device.proofs.Interface.{row_of-after, row_of-forgotten}
 use Rattle.usb_device.specs.declared.delivery.Sent.{Sent}
-use Rattle.usb_device.specs.Delivery.{is_clearing}
+use Rattle.usb_port.specs.Calls.{is_clearing}
 use Rattle.usb_device.specs.Tree.{Ports, called, row_of}
 use Rattle.usb_world.specs.declared.damage.Damage.{Damage}
 use Rattle.usb_world.specs.declared.event.Event.{Event}
@@ -13,7 +13,7 @@ use Rattle.usb_world.specs.declared.types.BusFault.TheVariants.{LimitReached}
 use Rattle.usb_world.specs.Exchange.{lost_in, cleared_in, token_out, payload_out, reply_out, ports_in}
 use Rattle.usb_world.specs.Losses.{one_more, counted, after_clearing}
 use Rattle.usb_world.specs.Steps.{is_due, took, took_first, due_from, ready, damage_in, with_attempt, attempted, event_taken, Step, attempt, root_call, event, report, after, Course, here, step}
-use Rattle.usb_world.specs.Passes.{passed, after_attempt}
+use Rattle.usb_world.specs.AttemptPackets.{after_sent, after_attempt}
 use Rattle.usb_world.specs.World.{World, roots_of}
 use Rattle.usb_world.proofs.Interface.{happened_long, row_long}
 use Rattle.usb_enum.specs.Losses.{FewLosses}
@@ -43,12 +43,12 @@ due_later (e ∷ es) w =
       | false ↦ later_same w w refl refl refl
     ]
 
-passed_row : (o : Option Sent) (k : Ports) → row_of (passed o k) ≡ row_of k
-passed_row None k = refl
-passed_row (Some q) k = row_of-after q false k
+sent_row : (o : Option Sent) (k : Ports) → row_of (after_sent o k) ≡ row_of k
+sent_row None k = refl
+sent_row (Some q) k = row_of-after q false k
 
 attempt_row : (t d r : Option Sent) (k : Ports) → row_of (after_attempt t d r k) ≡ row_of k
-attempt_row t d r k = row_of-forgotten (passed r (passed d (passed t k))) ∙ passed_row r (passed d (passed t k)) ∙ passed_row d (passed t k) ∙ passed_row t k
+attempt_row t d r k = row_of-forgotten (after_sent r (after_sent d (after_sent t k))) ∙ sent_row r (after_sent d (after_sent t k)) ∙ sent_row d (after_sent t k) ∙ sent_row t k
 
 made_row : (a : Attempt) (damage : Option Damage) (k : Ports) → length (row_of (ports_in a damage k)) ≡ length (row_of k)
 unfolding ports_in

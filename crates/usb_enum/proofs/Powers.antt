@@ -158,7 +158,7 @@ module _ (t : Target) (f : Claims) (j : Spot) (held : f (path_to j) ≡ Some t.a
     stood : (b : PortState) × (port_there old.roots (port n) ≡ Some b)
     stood =
         there_is (port_there old.roots (port n))
-        (ports_stand was.order.1.plan was.order.1.is was.order.1.paths old was.order.1.course j.row j.rest has.0.spec n (ap (option_map spec_of) has.1.0) (port_within has.0.spec.hub has.0.registers n has.1.1))
+        (ports_stand was.order.1.plan was.order.1.is was.order.1.paths old was.order.1.course j has.0.spec n (ap (option_map spec_of) has.1.0) (port_within has.0.spec.hub has.0.registers n has.1.1))
 
     now_powered : IsKnownAs new (port n) None
     now_powered = powered_stands (port n) old new done was.order.0 stood.0 stood.1 (was.off n (omega arith) stood.0 stood.1)

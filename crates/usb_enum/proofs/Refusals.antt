@@ -8,7 +8,7 @@ use Rattle.usb_device.specs.declared.request.Registers.{Registers}
 use Rattle.usb_device.specs.Transfer.{max_packet}
 use Rattle.usb_world.specs.Devices.{Relation, EachWas}
 use Rattle.usb_world.specs.Paths.{address_of}
-use Rattle.usb_world.specs.Passes.{deep_at}
+use Rattle.usb_world.specs.AttemptPackets.{deep_at}
 use Rattle.usb_world.specs.World.{World}
 use Rattle.usb_world.proofs.Interface.{each_both, each_joined, each_none, each_wider, no}
 use Rattle.usb_transaction.specs.declared.target.Target.{Target}
@@ -111,6 +111,10 @@ handed_match (Err e) P Q why same q = subst Q (sym same) q
 pub matched_ok : {A E : Type 0} (r : Result A E) (P : A → Type 0) (Q : E → Type 0) → MatchResult r P Q → IfOk r P
 matched_ok (Ok x) P Q h = h
 matched_ok (Err why) P Q h = tt
+
+pub matched_err : {A E : Type 0} (r : Result A E) (P : A → Type 0) (Q : E → Type 0) → MatchResult r P Q → IfErr r Q
+matched_err (Ok x) P Q h = tt
+matched_err (Err why) P Q h = h
 
 -- what is so of each error
 pub by_error : {A E : Type 0} (r : Result A E) (P : E → Type 0) → ((why : E) → r ≡ Err why → P why) → IfErr r P

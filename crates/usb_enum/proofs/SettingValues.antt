@@ -10,7 +10,6 @@ use Rattle.std.proofs.lemmas.Option.{same_Some}
 use Rattle.usb_descriptor.specs.declared.fault.DescriptorFault.{DescriptorFault}
 use Rattle.usb_descriptor.specs.Config.{config_head_of, config_of, configuration_value, total_in}
 use Rattle.usb_descriptor.proofs.Interface.{header_of}
-use Rattle.usb_descriptor.specs.Words.{word_at}
 use Rattle.usb_device.specs.Bulk as device
 use Rattle.usb_device.specs.Request.{is_value}
 use Rattle.usb_device.specs.Spec.{Spec}
@@ -94,7 +93,7 @@ pub record IsRead (text : List ℕ) : Type 0 where
   pub long : 9 ≤ length text
 
 pub good_read : (text : List ℕ) → is_good_text text ≡ true → IsRead text
-unfolding text_read word_at
+unfolding text_read
 good_read text good =
     let head = config_head_of (take 9 text) in
     let total : ℕ = total_in head in

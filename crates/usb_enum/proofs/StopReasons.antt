@@ -19,7 +19,7 @@ use Rattle.usb_world.specs.Addresses.{after_taking}
 use Rattle.usb_world.specs.Devices.{Relation, Was, EachWas}
 use Rattle.usb_world.specs.Paths.{address_of, live, live_at, pend}
 use Rattle.usb_world.specs.Losses.{one_more}
-use Rattle.usb_world.specs.Passes.{deep_at}
+use Rattle.usb_world.specs.AttemptPackets.{deep_at}
 use Rattle.usb_world.specs.RestingPorts.{RestsOrPends}
 use Rattle.usb_world.specs.SanePorts.{IsSane}
 use Rattle.usb_world.specs.World.{World}

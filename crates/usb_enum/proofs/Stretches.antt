@@ -6,14 +6,13 @@ use Rattle.usb_request.specs.declared.setup.Setup.{Setup}
 use Rattle.usb_request.specs.Layout.{bytes_of}
 use Rattle.usb_request.specs.Requests.{clear_port_feature, get_device_descriptor, get_port_status, set_port_feature}
 use Rattle.usb_port.specs.declared.call.PortCall.{PortCall}
-use Rattle.usb_port.specs.Calls.{set_call, clear_call}
-use Rattle.usb_device.specs.Delivery.{is_clearing}
+use Rattle.usb_port.specs.Calls.{set_call, clear_call, is_clearing}
 use Rattle.usb_world.specs.declared.losses.Losses.{Losses}
 use Rattle.usb_world.specs.declared.types.Attempt.{Attempt}
 use Rattle.usb_world.specs.declared.types.BusFault.{BusFault}
 use Rattle.usb_world.specs.Losses.{one_more, counted, after_clearing}
 use Rattle.usb_world.specs.OneHolder.{IsMade, IsOut}
-use Rattle.usb_world.specs.Passes.{IsSettled}
+use Rattle.usb_world.specs.AttemptPackets.{IsSettled}
 use Rattle.usb_world.specs.Steps.{Step, attempt, root_call, event, report, after, Course, here, step}
 use Rattle.usb_world.specs.World.{World}
 use Rattle.usb_world.proofs.Interface.{faulted, in_clears, limited, loses, losses_as, no, not_true, out_counts, same_equal, set_up_counts}

@@ -1,7 +1,7 @@
 -- Endpoint 0 of a device that was enumerated, and the most attempts of an enumeration.
 use Rattle.std.proofs.Common.{◌≡◌, refl, arith}
 use Rattle.std.proofs.lemmas.Bool.Decides.{nat_tests}
-use Rattle.std.specs.Prelude.{ℕ, ◌≤◌, ◌==◌, List, length, nat_lt, Bool, true, false, ◌&&◌, not, Result, Ok, Err, is_ok, if◌then◌else◌, slice_index}
+use Rattle.std.specs.Prelude.{ℕ, ◌≤◌, ◌+◌, ◌*◌, ◌==◌, List, length, nat_lt, Bool, true, false, ◌&&◌, not, Result, Ok, Err, is_ok, if◌then◌else◌, slice_index}
 use Rattle.usb_request.specs.Codes.{DEVICE}
 use Rattle.usb_transaction.specs.Transactions.{IsTarget}
 use Rattle.usb_descriptor.specs.declared.fault.DescriptorFault.{DescriptorFault}
@@ -11,8 +11,9 @@ use Rattle.usb_hub.specs.declared.port.HubPort.{HubPort}
 use Rattle.usb_hub.specs.declared.port.HubPort.TheVariants.{Root, External}
 use Rattle.usb_hub.specs.Port.{status_bound, order_bound}
 use Rattle.usb_pipe.proofs.Interface.{bound_wide}
+use Rattle.usb_pipe.specs.Control.{write_bound}
 use Rattle.usb_enum.specs.declared.finding.Accepted.{Accepted}
-use Rattle.usb_enum.specs.Bounds.{IsWide, read_bound, none_bound, enumeration_bound, widest_enumeration}
+use Rattle.usb_enum.specs.Bounds.{IsWide, read_bound, enumeration_bound, examined_by, widest_enumeration}
 use Rattle.usb_enum.specs.Device.{is_device, target_of}
 use Rattle.usb_enum.specs.Findings.{IsWhole}
 
@@ -72,10 +73,15 @@ pub status_most : (port : HubPort) → IsWide port → status_bound port ≤ rea
 status_most (Root number) wide = omega arith
 status_most (External hub port) wide = rw (bound_wide hub.max 4 wide) (omega arith)
 
-pub order_most : (port : HubPort) → order_bound port ≤ none_bound
+pub order_most : (port : HubPort) → order_bound port ≤ write_bound
 order_most (Root number) = omega arith
 order_most (External hub port) = omega arith
 
 pub enumeration_most : (port : HubPort) → IsWide port → enumeration_bound port ≤ widest_enumeration
 enumeration_most (Root number) wide = omega arith
 enumeration_most (External hub port) wide = rw (bound_wide hub.max 4 wide) (omega arith)
+
+-- where no text says more
+pub examined_most : (port : HubPort) (most : ℕ) → IsWide port → examined_by port most + order_bound port ≤ 250000 + 100 * most
+examined_most (Root number) most wide = omega arith
+examined_most (External hub port) most wide = rw (bound_wide hub.max 4 wide) (omega arith)

@@ -80,7 +80,7 @@ pub record Examples : Type 0 where
   pub hub : verdict two_ports 2 500 ≡ Ok 0
 
 pub examples : Examples
-unfolding verdict first_fault config_fault text_read text.needs_of device.device_head_of device.device_spelled config.config_head_of config.config_of config.items_fault config.pieces_of words.word_at hub.hub_spelled choice.status_endpoint_of choice.first_counting choice.status_at item.items_in item.items_of
+unfolding verdict first_fault config_fault text_read text.needs_of device.device_head_of device.device_spelled config.config_head_of config.config_of config.items_fault config.pieces_of hub.hub_spelled choice.status_endpoint_of choice.first_counting choice.status_at item.items_in item.items_of
 examples =
     record {
       silent = refl;

@@ -1,5 +1,5 @@
 -- Device descriptors, as they are read of a device.
-use Rattle.std.specs.Prelude.{◌≡◌, ◌⊎◌, ◌≤◌, ⊤, ℕ, ◌==◌, true, false, List, [], Bool, ◌&&◌, Option, Some, None, is_some, slice_index, slice_index_or, Result, Ok, Err, is_ok, if◌then◌else◌}
+use Rattle.std.specs.Prelude.{◌≡◌, ◌⊎◌, ◌≤◌, ⊤, ℕ, ◌==◌, true, false, List, [], Bool, ◌&&◌, Option, Some, None, is_some, slice_index_or, Result, Ok, Err, is_ok, if◌then◌else◌}
 use Rattle.usb_request.specs.Codes.{HUB_CLASS}
 use Rattle.usb_hub.specs.declared.port.HubPort.{HubPort}
 use Rattle.usb_hub.specs.declared.port.HubPort.TheVariants.{Root, External}
@@ -8,7 +8,7 @@ use Rattle.usb_port.specs.Path.{IsPortNumber}
 use Rattle.usb_transaction.specs.declared.target.Target.{Target}
 use Rattle.usb_transaction.specs.Transactions.{IsTarget}
 use Rattle.usb_descriptor.specs.Choice.{status_endpoint_of}
-use Rattle.usb_descriptor.specs.Device.{device_spelled, device_class, manufacturer_index, product_index, serial_index}
+use Rattle.usb_descriptor.specs.Device.{device_spelled, device_class, manufacturer_index, product_index, serial_index, max_packet_0}
 use Rattle.usb_enum.specs.declared.cause.Cause.TheVariants.{BadDevice, TooDeep}
 use Rattle.usb_enum.specs.declared.finding.Accepted.{Accepted}
 use Rattle.usb_enum.specs.declared.hub.HubFacts.{HubFacts}
@@ -34,7 +34,7 @@ needs_pre (External hub port) = true
 
 -- endpoint 0 of a device that has its address
 abbrev pub target_of : Accepted → Bool → Target
-target_of device below_hub = record { addr = device.address; max = slice_index device.bytes 7; low = device.low; pre = device.low && below_hub }
+target_of device below_hub = record { addr = device.address; max = max_packet_0 device.bytes; low = device.low; pre = device.low && below_hub }
 
 -- the configuration that the device was set to
 abbrev pub configuration_of : Accepted → List ℕ
@@ -44,9 +44,13 @@ configuration_of device = slice_index_or device.configs device.chosen []
 abbrev pub is_hub_device : List ℕ → Bool
 is_hub_device bytes = device_class bytes == HUB_CLASS
 
+-- devices stand at tiers 2 to 7 (4.1.1); a hub at the last one has no tier below it
+abbrev pub LAST_TIER : ℕ
+LAST_TIER = 7
+
 -- a hub may not stand in the last tier
 abbrev pub fits_tier : ℕ → List ℕ → Result (Unit {0}) Stop
-fits_tier tier bytes = if is_hub_device bytes && tier == 7 then Err (Refused TooDeep) else Ok tt
+fits_tier tier bytes = if is_hub_device bytes && tier == LAST_TIER then Err (Refused TooDeep) else Ok tt
 
 -- the facts are what the hub with this address told
 pub record HasStarted (address : ℕ) (facts : HubFacts) : Type 0 where

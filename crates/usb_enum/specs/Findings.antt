@@ -1,5 +1,5 @@
 -- What an enumeration finds, and what it leaves.
-use Rattle.std.specs.Prelude.{◌≡◌, ◌⊎◌, ℕ, List, true, false, Option, None, Some, Result, Ok, Err, MatchResult, length}
+use Rattle.std.specs.Prelude.{◌≡◌, ◌⊎◌, ◌≤◌, ℕ, ◌+◌, ◌*◌, List, true, false, Option, None, Some, Result, Ok, Err, MatchResult, length}
 use Rattle.usb_request.specs.Features.{PORT_ENABLE}
 use Rattle.usb_device.specs.View.{state_there}
 use Rattle.usb_world.specs.Paths.{pend}
@@ -29,6 +29,7 @@ use Rattle.usb_enum.specs.declared.finding.Accepted.{Accepted}
 use Rattle.usb_enum.specs.declared.finding.Finding.{Finding}
 use Rattle.usb_enum.specs.declared.finding.Finding.TheVariants.{Device, Refused}
 use Rattle.usb_enum.specs.declared.hub.HubFacts.{HubFacts}
+use Rattle.usb_enum.specs.Bounds.{IsWide}
 use Rattle.usb_enum.specs.Addresses.{IsSpare, EndsEnumeration, KeepsEnumerated, OnlyCalls, TakesAddress as TakesAt}
 use Rattle.usb_enum.specs.Verdicts.{IsFindingOf, IsRight, IsSet}
 use Rattle.usb_enum.specs.Device.{is_device, configuration_of, fits_tier, HasFacts, IsStarted}
@@ -39,6 +40,7 @@ use Rattle.usb_enum.specs.PresentDevices.{AtPath, Finds, IsInOrder, IsRegular, H
 use Rattle.usb_enum.specs.Readings.{AtMaximum}
 use Rattle.usb_enum.specs.Stop.{FaultAt, FitsTier}
 use Rattle.usb_enum.specs.Text.{ValuesDiffer, choice_of}
+use Rattle.usb_enum.specs.TextLengths.{HasPlanWithin}
 
 -- the device has an address, its descriptor is good, every configuration was read, and the first that the supply allows is chosen
 pub record IsWhole (supply : ℕ) (device : Accepted) : Type 0 where
@@ -153,9 +155,15 @@ pub record Warrants (port : HubPort) (addresses : Addresses) (tier supply : ℕ)
       → (pend new.roots p ≡ true) ⊎ IsRight (IsFull addresses) s.spec tier supply (Refused cause)
   pub parent : (f : Claims) (p : List ℕ) → IsFair f port p addresses old new → result ≡ Err ParentLost → HubPends p new
 
--- who holds which address at each end, that what was found is so and there, and why a device is refused
+-- where the plan plugs no device whose texts say more bytes, so few attempts are made, whatever the answer is
+pub record MakesFew (port : HubPort) (addresses : Addresses) (old new : World) : Type 0 where
+  pub few : (f : Claims) (p : List ℕ) → IsWide port → Begins f port p addresses old → (most : ℕ) → (old.fault ≡ None → HasPlanWithin most old)
+      → new.attempts ≤ old.attempts + (250000 + 100 * most)
+
+-- who holds which address at each end, that what was found is so and there, why a device is refused, and how few attempts that takes
 pub record Enumerates (port : HubPort) (before : Addresses) (tier supply : ℕ) (old : World) (result : Result Finding EnumFault) (new : World) : Type 0 where
   pub addresses : KeepsEnumerated port before old result new
   pub own : IsTruthful port before tier supply old result new
   pub places : Places port before old result new
   pub warrants : Warrants port before tier supply old result new
+  pub few : MakesFew port before old new

@@ -15,3 +15,4 @@ pub mod Readings
 pub mod Refusals
 pub mod Stop
 pub mod Text
+pub mod TextLengths

@@ -4,6 +4,7 @@ use Rattle.usb_device.specs.Spec.{Spec}
 use Rattle.usb_device.specs.Rows.{State}
 use Rattle.usb_device.specs.Tree.{reach, Spot}
 use Rattle.usb_device.specs.View.{state_there}
+use Rattle.usb_request.specs.Codes.{DEVICE_HEAD_LENGTH, DEVICE_LENGTH}
 use Rattle.usb_descriptor.specs.Device.{device_head_of, configuration_count}
 use Rattle.usb_world.specs.Devices.{EachWas}
 use Rattle.usb_world.specs.Paths.{address_of}
@@ -43,11 +44,11 @@ pub record HasHead (low : Bool) (max : ℕ) (spec : Spec) : Type 0 where
   pub loud : spec.silent ≡ false
   pub free : spec.busy ≡ false
   pub device : spec.stalls.device ≡ false
-  pub head : device_head_of low (take 8 spec.descriptor) ≡ Ok max
+  pub head : device_head_of low (take DEVICE_HEAD_LENGTH spec.descriptor) ≡ Ok max
 
 -- these are the bytes of its device descriptor
 abbrev pub HasDescriptor : List ℕ → Spec → Type 0
-HasDescriptor bytes spec = bytes ≡ take 18 spec.descriptor
+HasDescriptor bytes spec = bytes ≡ take DEVICE_LENGTH spec.descriptor
 
 -- Of the device at the port
 
@@ -109,7 +110,7 @@ pub record IsAddressed (device : Addressed) (s : State) : Type 0 where
   pub low : s.spec.low ≡ device.target.low
   pub head : HasHead device.target.low device.target.max s.spec
   pub allowed : s.spec.stalls.address ≡ false
-  pub bytes : device.bytes ≡ take 18 s.spec.descriptor
+  pub bytes : device.bytes ≡ take DEVICE_LENGTH s.spec.descriptor
   pub address : address_of s ≡ device.target.addr
 
 -- the device at the port, where one is reachable, took the address, and was read at it

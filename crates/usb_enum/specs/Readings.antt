@@ -2,6 +2,7 @@
 use Rattle.std.specs.Prelude.{◌≡◌, ℕ, ◌==◌, true, false, if◌then◌else◌, List, take, Option, None, Some, option_map, option_and_then, Ok}
 use Rattle.std.specs.Global.{Vec}
 use Rattle.usb_resources.specs.Power.{supply_of}
+use Rattle.usb_request.specs.Codes.{CONFIGURATION_LENGTH, HUB_LENGTH}
 use Rattle.usb_descriptor.specs.Config.{config_head_of}
 use Rattle.usb_descriptor.specs.Hub.{hub_spelled, port_count}
 use Rattle.usb_device.specs.Spec.{Spec, IsSpec}
@@ -23,7 +24,7 @@ AtMaximum t So spec = max_packet spec ≡ t.max → So spec
 pub record HasTotal (index total : ℕ) (spec : Spec) : Type 0 where
   pub text : List ℕ
   pub given : config_given index spec ≡ Some text
-  pub head : config_head_of (take 9 text) ≡ Ok total
+  pub head : config_head_of (take CONFIGURATION_LENGTH text) ≡ Ok total
 
 -- the configuration of an index is good, and this is what is read of it
 pub record HasConfiguration (index : ℕ) (bytes : List ℕ) (spec : Spec) : Type 0 where
@@ -59,8 +60,8 @@ no_strings = record { manufacturer = None; product = None; serial_number = None 
 pub record HasPorts (ports : ℕ) (spec : Spec) : Type 0 where
   pub text : List ℕ
   pub given : hub_given spec ≡ Some text
-  pub good : hub_spelled (take 9 text) ≡ Ok (take 9 text)
-  pub said : ports ≡ port_count (take 9 text)
+  pub good : hub_spelled (take HUB_LENGTH text) ≡ Ok (take HUB_LENGTH text)
+  pub said : ports ≡ port_count (take HUB_LENGTH text)
 
 -- it gives its status, which says what its ports supply
 pub record HasSupply (supply : ℕ) (spec : Spec) : Type 0 where

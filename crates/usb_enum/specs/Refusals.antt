@@ -1,6 +1,7 @@
 -- Why a device is refused, said of its description (9.4, 9.6, 11.24.2).
 use Rattle.std.specs.Prelude.{◌≡◌, ℕ, ◌==◌, ◌&&◌, Bool, false, if◌then◌else◌, List, [], take, slice_index_or, Option, None, Some, Result, Ok, Err, is_ok, ⊤}
 use Rattle.std.specs.Option.{option_or}
+use Rattle.usb_request.specs.Codes.{DEVICE_HEAD_LENGTH, DEVICE_LENGTH}
 use Rattle.usb_descriptor.specs.Device.{device_head_of, configuration_count}
 use Rattle.usb_device.specs.Spec.{Spec}
 use Rattle.usb_device.specs.Transfer.{max_packet}
@@ -14,7 +15,7 @@ use Rattle.usb_enum.specs.declared.cause.Request.TheVariants as request
 use Rattle.usb_enum.specs.declared.stop.Stop.{Stop}
 use Rattle.usb_enum.specs.declared.stop.Stop.TheVariants.{Refused, Fault}
 use Rattle.usb_enum.specs.Verdicts.{gives_hub, is_good_hub, texts_below, first_fault, verdict}
-use Rattle.usb_enum.specs.Device.{is_device, is_hub_device}
+use Rattle.usb_enum.specs.Device.{is_device, is_hub_device, LAST_TIER}
 use Rattle.usb_enum.specs.LearnedFacts.{Explains}
 use Rattle.usb_enum.specs.Losses.{NoNewStretch}
 use Rattle.usb_enum.specs.PresentDevices.{AnswersSo, HasDescriptor, HasHead}
@@ -48,14 +49,14 @@ head_fault low spec =
     if spec.silent then Some Silent
     else if spec.busy then Some Busy
     else if spec.stalls.device then Some (Stalled request.Device)
-    else if is_ok (device_head_of low (take 8 spec.descriptor)) then None
+    else if is_ok (device_head_of low (take DEVICE_HEAD_LENGTH spec.descriptor)) then None
     else Some BadDevice
 
 -- with its device descriptor
 unfoldable pub device_fault : Bool → Spec → Option Cause
 device_fault low spec =
     if spec.stalls.device then Some (Stalled request.Device)
-    else if is_device low (take 18 spec.descriptor) then None
+    else if is_device low (take DEVICE_LENGTH spec.descriptor) then None
     else Some BadDevice
 
 -- up to the head of its device descriptor, at its own speed
@@ -105,7 +106,7 @@ unfoldable pub configured_fault : ℕ → ℕ → List ℕ → Spec → Option C
 configured_fault tier supply bytes spec =
     let count = configuration_count bytes in
     let texts = texts_below spec count in
-    if is_hub_device bytes && tier == 7 then Some TooDeep
+    if is_hub_device bytes && tier == LAST_TIER then Some TooDeep
     else option_or (first_fault spec count) (chosen_fault (is_hub_device bytes) texts (choice_of supply texts) spec)
 
 -- Of the head of the device descriptor

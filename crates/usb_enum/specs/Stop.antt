@@ -1,5 +1,6 @@
 -- What a failed transfer means.
 use Rattle.std.specs.Prelude.{◌≡◌, ◌≢◌, ◌⊎◌, ℕ, Option, Some, None, unwrap_or, Result, Ok, Err, ⊤}
+use Rattle.usb_enum.specs.Device.{LAST_TIER}
 use Rattle.usb_world.specs.World.{World, Failed}
 use Rattle.usb_hub.specs.declared.port.HubPort.{HubPort}
 use Rattle.usb_hub.specs.declared.port.HubPort.TheVariants.{Root, External}
@@ -61,10 +62,10 @@ FitsTier tier cause.Silent = ⊤
 FitsTier tier cause.Busy = ⊤
 FitsTier tier (cause.Stalled request) = ⊤
 FitsTier tier cause.BadDevice = ⊤
-FitsTier tier cause.TooDeep = tier ≡ 7
+FitsTier tier cause.TooDeep = tier ≡ LAST_TIER
 FitsTier tier (cause.BadConfiguration index) = ⊤
 FitsTier tier cause.NoPower = ⊤
-FitsTier tier cause.BadHub = tier ≢ 7
+FitsTier tier cause.BadHub = tier ≢ LAST_TIER
 FitsTier tier cause.Lost = ⊤
 FitsTier tier cause.NoAddress = ⊥
 

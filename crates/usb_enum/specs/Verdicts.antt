@@ -2,6 +2,7 @@
 use Rattle.std.specs.Prelude.{◌≡◌, ◌⊎◌, ℕ, zero, suc, ◌==◌, ◌&&◌, ◌||◌, not, Bool, true, false, List, [], map, take, slice_get, slice_index_or, Option, None, Some, is_some, option_map, option_and_then, Result, Ok, Err, is_ok, if◌then◌else◌}
 use Rattle.std.specs.Option.{option_or}
 use Rattle.usb_resources.specs.Power.{supply_of}
+use Rattle.usb_request.specs.Codes.{CONFIGURATION_LENGTH, DEVICE_HEAD_LENGTH, DEVICE_LENGTH, HUB_LENGTH}
 use Rattle.usb_descriptor.specs.declared.fault.DescriptorFault.{DescriptorFault}
 use Rattle.usb_descriptor.specs.Device.{device_head_of, configuration_count}
 use Rattle.usb_descriptor.specs.Config.{config_head_of, config_of, configuration_value, total_in}
@@ -19,18 +20,18 @@ use Rattle.usb_enum.specs.declared.finding.Accepted.{Accepted}
 use Rattle.usb_enum.specs.declared.finding.Finding.{Finding}
 use Rattle.usb_enum.specs.declared.finding.Finding.TheVariants.{Device, Refused}
 use Rattle.usb_enum.specs.declared.hub.HubFacts.{HubFacts}
-use Rattle.usb_enum.specs.Device.{is_device, is_hub_device, string_indexes, configuration_of}
+use Rattle.usb_enum.specs.Device.{is_device, is_hub_device, string_indexes, configuration_of, LAST_TIER}
 use Rattle.usb_enum.specs.Text.{any_has_value, choice_of, string_units, first_language_of}
 
 -- Configurations
 
 -- what a host reads of a text: as many bytes as its first nine say
 unfoldable pub text_read : List ℕ → List ℕ
-text_read text = take (total_in (config_head_of (take 9 text))) text
+text_read text = take (total_in (config_head_of (take CONFIGURATION_LENGTH text))) text
 
 -- the first nine bytes are a configuration descriptor, and what is read is a configuration text
 abbrev pub is_good_text : List ℕ → Bool
-is_good_text text = is_ok (config_head_of (take 9 text)) && is_ok (config_of (text_read text))
+is_good_text text = is_ok (config_head_of (take CONFIGURATION_LENGTH text)) && is_ok (config_of (text_read text))
 
 -- what is wrong with the text of an index: there is none, it is malformed, or its value is that of an earlier one
 abbrev pub text_fault : ℕ → List (List ℕ) → Option (List ℕ) → Option Cause
@@ -60,7 +61,7 @@ texts_of spec = texts_below spec (configuration_count spec.descriptor)
 -- it has ports, gives its hub descriptor and its status, and its descriptor is one
 abbrev pub gives_hub : Spec → Option Hub → Bool
 gives_hub spec None = false
-gives_hub spec (Some hub) = not spec.stalls.hub && not spec.stalls.status && is_ok (hub_spelled (take 9 hub.descriptor))
+gives_hub spec (Some hub) = not spec.stalls.hub && not spec.stalls.status && is_ok (hub_spelled (take HUB_LENGTH hub.descriptor))
 
 -- a hub that a host can use, with this configuration text
 abbrev pub is_good_hub : Spec → List ℕ → Bool
@@ -91,15 +92,15 @@ verdict spec tier supply =
     if spec.silent then Err Silent
     else if spec.busy then Err Busy
     else if spec.stalls.device then Err (Stalled request.Device)
-    else if not (is_ok (device_head_of spec.low (take 8 spec.descriptor))) then Err BadDevice
+    else if not (is_ok (device_head_of spec.low (take DEVICE_HEAD_LENGTH spec.descriptor))) then Err BadDevice
     else if spec.stalls.address then Err (Stalled request.Address)
-    else if not (is_device spec.low (take 18 spec.descriptor)) then Err BadDevice
-    else if is_hub_device spec.descriptor && tier == 7 then Err TooDeep
+    else if not (is_device spec.low (take DEVICE_LENGTH spec.descriptor)) then Err BadDevice
+    else if is_hub_device spec.descriptor && tier == LAST_TIER then Err TooDeep
     else read_verdict spec supply (first_fault spec (configuration_count spec.descriptor))
 
 -- it answers with the head of a device descriptor: none of the rows before the address holds
 abbrev pub gives_head : Spec → Bool
-gives_head spec = not spec.silent && not spec.busy && not spec.stalls.device && is_ok (device_head_of spec.low (take 8 spec.descriptor))
+gives_head spec = not spec.silent && not spec.busy && not spec.stalls.device && is_ok (device_head_of spec.low (take DEVICE_HEAD_LENGTH spec.descriptor))
 
 -- Strings
 
@@ -128,7 +129,7 @@ strings_of spec = strings_by spec (string_indexes spec.descriptor)
 -- a device is listed as its description has it
 pub record IsAs (spec : Spec) (device : Accepted) : Type 0 where
   pub low : device.low ≡ spec.low
-  pub bytes : device.bytes ≡ take 18 spec.descriptor
+  pub bytes : device.bytes ≡ take DEVICE_LENGTH spec.descriptor
   pub configs : device.configs ≡ texts_of spec
   pub strings : device.strings ≡ strings_of spec
   pub hub : device.hub ≡ facts_of spec

@@ -1,14 +1,16 @@
 //! The configurations of a device: each is read, and one is chosen.
 ghost use Rattle.std.specs.Prelude.{◌≡◌, ◌≤◌, ◌<◌, ◌*◌, length, Some, IfOk, IfErr, IfSome, MatchResult};
+ghost use Rattle.usb_request.specs.Codes.{CONFIGURATION_LENGTH};
 ghost use Rattle.usb_bus.specs.Traces.{Went};
 ghost use Rattle.usb_transaction.specs.Transactions.{IsTarget};
-ghost use Rattle.usb_enum.specs.Bounds.{read_bound, configuration_bound};
+ghost use Rattle.usb_enum.specs.Bounds.{read_bound, configuration_bound, texts_bound};
 ghost use Rattle.usb_enum.specs.Verdicts.{config_fault, first_fault};
 ghost use Rattle.usb_enum.specs.LearnedFacts.{Learns, Explains};
 ghost use Rattle.usb_enum.specs.Readings.{AtMaximum, HasTotal, HasConfiguration, HasConfigurations};
 ghost use Rattle.usb_enum.specs.Refusals.{Refuses};
 ghost use Rattle.usb_enum.specs.Stop.{StopTold};
 ghost use Rattle.usb_enum.specs.Text.{ValuesDiffer, choice_of};
+ghost use Rattle.usb_enum.specs.TextLengths.{IsAnswered, ReadsText, FewFor};
 ghost use Rattle.usb_enum.specs.Frames.{OnlyAsks};
 
 use crate::stop::{Stop, answered_or};
@@ -24,8 +26,9 @@ use usb_transaction::Target;
 fn total_length<B: Bus>(alloc: Global, bus: &mut B, target: Target, index: u8) -> Result<u16, Stop>
     requires target { IsTarget target }
     requires max { 8 ≤ target.max }
-    ensures went { Went B.world B.trace (read_bound 9) bus.old bus.new }
-    ensures told { IfErr result (λ stop. StopTold stop (B.world bus.new)) }
+    ensures went { Went B.world B.trace (read_bound CONFIGURATION_LENGTH) bus.old bus.new }
+    ensures ends { MatchResult result (λ _. IsAnswered target (B.world bus.new))
+        (λ stop. StopTold stop (B.world bus.new)) }
     ensures fits { IfOk result (λ total. (9 ≤ total) × (total ≤ 65535)) }
     ensures learned { MatchResult result
         (λ total. Learns (AtMaximum target (HasTotal index total)) target
@@ -52,6 +55,7 @@ fn read_text<B: Bus>(
     requires target { IsTarget target }
     requires max { 8 ≤ target.max }
     ensures went { Went B.world B.trace configuration_bound bus.old bus.new }
+    ensures count { ReadsText target index (B.world bus.old) result (B.world bus.new) }
     ensures told { IfErr result (λ stop. StopTold stop (B.world bus.new)) }
     ensures learned { MatchResult result
         (λ text. Learns (AtMaximum target (HasConfiguration index text)) target
@@ -79,8 +83,9 @@ pub(crate) fn read_configurations<B: Bus>(
     requires target { IsTarget target }
     requires max { 8 ≤ target.max }
     ensures went { Went B.world B.trace (255 * configuration_bound) bus.old bus.new }
-    ensures told { IfErr result (λ stop. StopTold stop (B.world bus.new)) }
-    ensures read { IfOk result (λ texts. (length texts ≡ count) × ValuesDiffer texts) }
+    ensures few { FewFor texts_bound target (B.world bus.old) (B.world bus.new) }
+    ensures ends { MatchResult result (λ texts. (length texts ≡ count) × ValuesDiffer texts)
+        (λ stop. StopTold stop (B.world bus.new)) }
     ensures learned { MatchResult result
         (λ texts. Learns (AtMaximum target (HasConfigurations count texts)) target
         (B.world bus.old) (B.world bus.new))

@@ -2,7 +2,7 @@
 ghost use Rattle.std.specs.Prelude.{◌≡◌, ℕ, IfOk, IfErr, MatchResult, true};
 ghost use Rattle.usb_bus.specs.Traces.{Went};
 ghost use Rattle.usb_hub.specs.Port.{IsPort, order_bound};
-ghost use Rattle.usb_enum.specs.Bounds.{unaddressed_bound, examination_bound, enumeration_bound, configured_bound, hub_bound};
+ghost use Rattle.usb_enum.specs.Bounds.{unaddressed_bound, examination_bound, enumeration_bound, configured_bound, configured_by, hub_bound};
 ghost use Rattle.usb_enum.specs.Stop.{FaultAt, StopToldIn, ToldOfDevice, ToldOfHub, StopToldWithout};
 ghost use Rattle.usb_enum.specs.Findings.{Closes, Enumerates, GivesUp, IsAccepted, IsFound, IsListed, IsWhole, TakesFor};
 ghost use Rattle.usb_enum.specs.Device.{fits_tier, is_hub_device};
@@ -12,6 +12,7 @@ ghost use Rattle.usb_enum.specs.LearnedFacts.{Explains, ExplainsSet};
 ghost use Rattle.usb_enum.specs.PresentDevices.{LearnsPorts};
 ghost use Rattle.usb_enum.specs.Refusals.{Refuses, start_fault, configured_fault, unaddressed_fault, whole_fault};
 ghost use Rattle.usb_enum.specs.Frames.{OnlySets, OnlyTells};
+ghost use Rattle.usb_enum.specs.TextLengths.{FewFor, FewFrom};
 
 use crate::addressed::Addressed;
 use crate::configurations::{choose_configuration, read_configurations};
@@ -112,6 +113,7 @@ fn examine<B: Bus>(
 ) -> Result<Accepted, Stop>
     requires port { IsPort (B.world bus.old) port }
     ensures went { Went B.world B.trace (examination_bound port) bus.old bus.new }
+    ensures few { FewFrom port address (B.world bus.old) (B.world bus.new) }
     ensures told { IfErr result (λ stop. StopToldIn port tier stop (B.world bus.new)) }
     ensures within { AtPort port address (B.world bus.old) (B.world bus.new) }
     ensures ok { MatchResult result
@@ -134,8 +136,9 @@ fn configure<B: Bus>(
 ) -> Result<Accepted, Stop>
     requires { device.target.addr ≡ address }
     ensures went { Went B.world B.trace configured_bound bus.old bus.new }
-    ensures told { IfErr result (λ stop. ToldOfDevice tier stop (B.world bus.new)) }
-    ensures whole { IfOk result (λ accepted. IsWhole supply accepted) }
+    ensures few { FewFor configured_by device.target (B.world bus.old) (B.world bus.new) }
+    ensures ends { MatchResult result (IsWhole supply)
+        (λ stop. ToldOfDevice tier stop (B.world bus.new)) }
     ensures learned { MatchResult result
         (IsListed device tier (B.world bus.old) (B.world bus.new))
         (λ stop. Explains (Refuses device.target (configured_fault tier supply device.bytes) stop)

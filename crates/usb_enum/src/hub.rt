@@ -1,9 +1,11 @@
 //! What the host asks of a hub once it is configured, and the power of its ports (11.23, 11.24).
 ghost use Rattle.std.specs.Prelude.{◌≡◌, ◌⊎◌, ◌≤◌, ◌*◌, IfOk, IfErr, MatchResult};
 ghost use Rattle.usb_bus.specs.Traces.{Went};
+ghost use Rattle.usb_request.specs.Codes.{HUB_LENGTH};
 ghost use Rattle.usb_port.specs.Path.{IsPortNumber};
 ghost use Rattle.usb_transaction.specs.Transactions.{IsTarget};
-ghost use Rattle.usb_enum.specs.Bounds.{read_bound, none_bound, hub_bound};
+ghost use Rattle.usb_pipe.specs.Control.{write_bound};
+ghost use Rattle.usb_enum.specs.Bounds.{read_bound, hub_bound};
 ghost use Rattle.usb_enum.specs.LearnedFacts.{Learns, Explains, ExplainsSet};
 ghost use Rattle.usb_enum.specs.Readings.{AtMaximum, Ruled, HasPorts, HasSupply, IsGoodHub};
 ghost use Rattle.usb_enum.specs.Refusals.{Refuses, RefusesNoPort, hub_fault, start_fault};
@@ -63,7 +65,7 @@ pub(crate) fn start_hub<B: Bus>(
 fn port_count<B: Bus>(alloc: Global, bus: &mut B, target: Target) -> Result<u8, Stop>
     requires target { IsTarget target }
     requires max { 8 ≤ target.max }
-    ensures went { Went B.world B.trace (read_bound 9) bus.old bus.new }
+    ensures went { Went B.world B.trace (read_bound HUB_LENGTH) bus.old bus.new }
     ensures told { IfErr result (λ stop. ToldOfHub stop (B.world bus.new)) }
     ensures count { IfOk result (λ ports. IsPortNumber ports
         × CountTold target (B.world bus.old) (B.world bus.new) ports) }
@@ -104,7 +106,7 @@ fn port_supply<B: Bus>(alloc: Global, bus: &mut B, target: Target) -> Result<u16
 /// Gives power to the first so many ports of a hub.
 fn power_ports<B: Bus>(bus: &mut B, target: Target, ports: u8) -> Result<(), Stop>
     requires { IsTarget target }
-    ensures went { Went B.world B.trace (ports * none_bound) bus.old bus.new }
+    ensures went { Went B.world B.trace (ports * write_bound) bus.old bus.new }
     ensures told { IfErr result (λ stop. ToldOfHub stop (B.world bus.new)) }
     ensures powered { IfOk result (λ _. Powered target ports (B.world bus.old) (B.world bus.new)) }
     ensures why { IfErr result (λ stop. ExplainsSet (RefusesNoPort target ports stop) target
@@ -120,7 +122,7 @@ fn power_ports<B: Bus>(bus: &mut B, target: Target, ports: u8) -> Result<(), Sto
 /// Gives power to a port of a hub.
 fn power_port<B: Bus>(bus: &mut B, target: Target, port: u8) -> Result<(), Stop>
     requires { IsTarget target }
-    ensures went { Went B.world B.trace none_bound bus.old bus.new }
+    ensures went { Went B.world B.trace write_bound bus.old bus.new }
     ensures told { IfErr result (λ stop. ToldOfHub stop (B.world bus.new)) }
     ensures powered { IfOk result (λ _. IsPowered target port (B.world bus.old) (B.world bus.new)) }
     ensures why { IfErr result (λ stop. ExplainsSet (RefusesNoPort target port stop) target

@@ -1,5 +1,6 @@
 //! The steps up to a device that has its address and has given its device descriptor.
 ghost use Rattle.std.specs.Prelude.{◌≡◌, ◌≤◌, ◌<◌, ◌*◌, IfOk, IfErr, IfSome, true, ℕ, OnOk, Ok, None, MatchResult};
+ghost use Rattle.usb_request.specs.Codes.{DEVICE_HEAD_LENGTH, DEVICE_LENGTH};
 ghost use Rattle.usb_request.specs.declared.feature.TheConstants.{PORT_RESET};
 ghost use Rattle.usb_port.specs.Calls.{set_call};
 ghost use Rattle.usb_bus.specs.Traces.{Went};
@@ -100,7 +101,7 @@ fn needs_pre(port: HubPort) -> bool
 fn first_maximum<B: Bus>(alloc: Global, bus: &mut B, unaddressed: Target) -> Result<u8, Stop>
     requires target { IsTarget unaddressed }
     requires max { unaddressed.max ≡ 8 }
-    ensures went { Went B.world B.trace (read_bound 8) bus.old bus.new }
+    ensures went { Went B.world B.trace (read_bound DEVICE_HEAD_LENGTH) bus.old bus.new }
     ensures told { IfErr result (λ stop. StopTold stop (B.world bus.new)) }
     ensures fits { IfOk result (λ max. (8 ≤ max) × (max ≤ 64)) }
     ensures head { MatchResult result
@@ -121,7 +122,7 @@ fn first_maximum<B: Bus>(alloc: Global, bus: &mut B, unaddressed: Target) -> Res
 fn descriptor<B: Bus>(alloc: Global, bus: &mut B, target: Target) -> Result<Option<[u8; 18]>, Stop>
     requires target { IsTarget target }
     requires max { 8 ≤ target.max }
-    ensures went { Went B.world B.trace (read_bound 18) bus.old bus.new }
+    ensures went { Went B.world B.trace (read_bound DEVICE_LENGTH) bus.old bus.new }
     ensures told { IfErr result (λ stop. StopTold stop (B.world bus.new)) }
     ensures device { IfOk result (λ found. IfSome found (λ bytes.
         is_device target.low bytes ≡ true)) }
@@ -161,7 +162,8 @@ pub(crate) fn unaddressed<B: Bus>(alloc: Global, bus: &mut B, port: HubPort) -> 
     ensures within { (a : ℕ) → AtPort port a (B.world bus.old) (B.world bus.new) }
     ensures device { MatchResult result
         (λ target. (a : ℕ) → Awaits target port a (B.world bus.old) (B.world bus.new))
-        (λ stop. (a : ℕ) → StopsFairly early_fault port a stop (B.world bus.old) (B.world bus.new)) }
+        (λ stop. (a : ℕ) → StopsFairly early_fault port a stop
+        (B.world bus.old) (B.world bus.new)) }
 {
     let low = reset(alloc, bus, port)?;
     let pre = low && needs_pre(port);
@@ -200,7 +202,8 @@ fn pass<B: Bus>(
     ensures within { AtPort port address (B.world bus.old) (B.world bus.new) }
     ensures taken { MatchResult result
         (PassEnds port address (B.world bus.old) (B.world bus.new))
-        (λ stop. StopsFairly addressed_fault port address stop (B.world bus.old) (B.world bus.new)) }
+        (λ stop. StopsFairly addressed_fault port address stop
+        (B.world bus.old) (B.world bus.new)) }
 {
     let target = unaddressed(alloc, bus, port)?;
     let stalled = Cause::Stalled(Request::Address);
@@ -231,7 +234,8 @@ pub(crate) fn passes<B: Bus>(
     ensures within { AtPort port address (B.world bus.old) (B.world bus.new) }
     ensures taken { MatchResult result
         (HasTaken port address (B.world bus.old) (B.world bus.new))
-        (λ stop. StopsFairly addressed_fault port address stop (B.world bus.old) (B.world bus.new)) }
+        (λ stop. StopsFairly addressed_fault port address stop
+        (B.world bus.old) (B.world bus.new)) }
 {
     for _pass in 0..3u8 {
         if let Some(device) = pass(alloc, bus, port, address)? {

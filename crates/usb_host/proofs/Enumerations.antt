@@ -6,11 +6,11 @@ use Rattle.usb_bus.proofs.Interface.{went_then}
 use Rattle.usb_hub.specs.Port.{status_bound, order_bound}
 use Rattle.usb_hub.specs.declared.port.HubPort.{HubPort}
 use Rattle.usb_hub.specs.declared.port.HubPort.TheVariants.{Root, External}
-use Rattle.usb_enum.specs.Bounds.{IsWide, enumeration_bound, widest_enumeration}
+use Rattle.usb_enum.specs.Bounds.{IsWide, enumeration_bound, widest_enumeration, read_bound}
 use Rattle.usb_enum.proofs.Interface.{enumeration_most, order_most, status_most}
 use Rattle.usb_table.specs.KnownPorts.{IsAskable}
 use Rattle.usb_host.specs.Hosting.{Hosting}
-use Rattle.usb_host.specs.Bounds.{clearing_bound, status_most as most_of_status}
+use Rattle.usb_host.specs.Bounds.{clearing_bound}
 use Rattle.usb_host.specs.Progress.{HostWent, HostGoes}
 use Rattle.usb_host.proofs.Joins.{goes_by}
 
@@ -21,8 +21,8 @@ askable_wide (External hub port) h = h.wide
 pub enumerated : (port : HubPort) (a b : Hosting) → IsAskable port → HostWent (enumeration_bound port) a b → b.stopped ≡ a.stopped → HostGoes widest_enumeration a b
 enumerated port a b askable w e = goes_by (enumeration_bound port) widest_enumeration a b w (enumeration_most port (askable_wide port askable)) e
 
-pub asked : (port : HubPort) (a b : Hosting) → IsAskable port → HostWent (status_bound port) a b → b.stopped ≡ a.stopped → HostGoes most_of_status a b
-asked port a b askable w e = goes_by (status_bound port) most_of_status a b w (status_most port (askable_wide port askable)) e
+pub asked : (port : HubPort) (a b : Hosting) → IsAskable port → HostWent (status_bound port) a b → b.stopped ≡ a.stopped → HostGoes (read_bound 4) a b
+asked port a b askable w e = goes_by (status_bound port) (read_bound 4) a b w (status_most port (askable_wide port askable)) e
 
 module _ (port : HubPort) (a b : Hosting) {v : World} {t : Option (List ℕ)} (askable : IsAskable port) (same : b.stopped ≡ a.stopped) (first : WentOn (order_bound port) a.world a.trace v t) where
   pub cleared : WentOn (status_bound port) v t b.world b.trace → HostGoes clearing_bound a b

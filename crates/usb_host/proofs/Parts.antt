@@ -16,10 +16,10 @@ use Rattle.usb_table.specs.declared.pipes.Pipes.{Pipes}
 use Rattle.usb_table.specs.declared.pipes.Pipes.TheVariants.{Hub as HubPipe, Function, Absent}
 use Rattle.usb_table.specs.Entries.{Entries}
 use Rattle.usb_table.specs.KnownPorts.{is_below_hub}
-use Rattle.usb_table.specs.Findings.{accepted_device_of}
+use Rattle.usb_table.specs.Findings.{accepted_device_of, accepted_device_at}
 use Rattle.usb_table.specs.Levels.{IsHeld, KeepsPolled}
 use Rattle.usb_table.specs.Listing.{finding_at, hub_facts_in, hub_facts_at}
-use Rattle.usb_table.specs.Pipes.{ArePipesOf}
+use Rattle.usb_table.specs.Pipes.{ArePipesIf}
 use Rattle.usb_table.specs.Transfers.{PipesPolled}
 use Rattle.usb_host.specs.Agreement.{Agrees}
 use Rattle.usb_host.specs.Hosting.{Hosting}
@@ -103,13 +103,13 @@ module _ (hub : List ℕ) (answer : Result (Option (ArrayVec ℕ)) PipeFault) (a
   sound ok = sound_kept 768 hub (IsOk answer) a b agrees same went keeps.levels (λ still. ok)
 
   -- it has nothing to tell
-  pub hub_quiet : (pipes left : Pipes) → IsOk answer → ((finding : Finding) → finding_at hub a.entries ≡ Some finding → ArePipesOf finding (is_below_hub hub) pipes) → PipesPolled pipes a.world (Ok None) left b.world → HubKeeps hub a (Ok Quiet) b
+  pub hub_quiet : (pipes left : Pipes) → IsOk answer → ArePipesIf (accepted_device_at hub a.entries) (is_below_hub hub) pipes → PipesPolled pipes a.world (Ok None) left b.world → HubKeeps hub a (Ok Quiet) b
   hub_quiet pipes left ok are asked = record {
     owned = polled;
     sound = sound ok;
     calm = λ is still. keeps.levels.worlds.rests still;
     silent = λ s is still none.
-        poll_silent b agrees_on ((sound ok).sound s) still hub pipes left a.world (λ finding found. are finding (ap (λ (es : Entries). finding_at hub es) (sym same) ∙ found)) asked none;
+        poll_silent b agrees_on ((sound ok).sound s) still hub pipes left a.world (subst (λ (es : Entries). ArePipesIf (accepted_device_at hub es) (is_below_hub hub) pipes) (sym same) are) asked none;
   }
 
   -- it told of changes, and its ports were handled

@@ -1,12 +1,13 @@
 -- A hub that is known, and answers a poll that it has nothing to tell, has no port that tells of a change of connection.
 use Rattle.std.proofs.Common.{◌≡◌, ◌≤◌, ◌==◌, ◌&&◌, ◌||◌, ◌∙◌, not, if◌then◌else◌, ℕ, zero, suc, Bool, true, false, List, [], ◌∷◌, ◌++◌, Option, None, Some, is_some, Result, Ok, Err, refl, ap, sym, subst, arith, inl, inr}
 use Rattle.std.specs.Prelude.{IfSome}
+use Rattle.std.specs.Option.{option_or}
 use Rattle.std.proofs.lemmas.Bool.{eq-eqb, ne_eqb}
 use Rattle.usb_port.specs.PortState.{PortState, has_change}
 use Rattle.usb_descriptor.specs.declared.fault.DescriptorFault.{DescriptorFault}
 use Rattle.usb_descriptor.specs.declared.item.Item.{Item}
 use Rattle.usb_descriptor.specs.declared.item.Item.TheVariants.{Interface, Endpoint, Other}
-use Rattle.usb_descriptor.specs.Choice.{status_endpoint_of, status_at, first_counting, first_from, picked, or_else, counts_after, in_config, packet_size}
+use Rattle.usb_descriptor.specs.Choice.{status_endpoint_of, status_at, first_counting, first_from, picked, counts_after, in_config, packet_size}
 use Rattle.usb_descriptor.specs.Config.{config_of, config_after, config_head_of, configuration_value}
 use Rattle.usb_descriptor.specs.Item.{items_of}
 use Rattle.usb_descriptor.proofs.Interface.{header_of}
@@ -25,7 +26,7 @@ use Rattle.usb_transaction.specs.Leaves.{is_at as has_address}
 use Rattle.usb_transaction.specs.Transactions.{in_attempt}
 use Rattle.usb_transaction.specs.Trail.{Trail, Waiting}
 use Rattle.usb_world.specs.declared.types.Outcome.TheVariants.{Nak}
-use Rattle.usb_world.specs.Passes.{IsSettled, deep_at}
+use Rattle.usb_world.specs.AttemptPackets.{IsSettled, deep_at}
 use Rattle.usb_resources.specs.Pool.{Addresses}
 use Rattle.usb_resources.specs.Power.{supply_of}
 use Rattle.usb_pipe.specs.Interrupt.{Interrupt}
@@ -39,11 +40,11 @@ use Rattle.usb_enum.specs.Places.{IsKnownAs}
 use Rattle.usb_table.specs.declared.pipes.Pipes.{Pipes}
 use Rattle.usb_table.specs.declared.pipes.Pipes.TheVariants.{Hub as HubPipe, Function, Absent}
 use Rattle.usb_table.specs.Entries.{Entries}
-use Rattle.usb_table.specs.Findings.{accepted_device_of}
+use Rattle.usb_table.specs.Findings.{accepted_device_of, accepted_device_at}
 use Rattle.usb_table.specs.KnownPorts.{is_below_hub}
 use Rattle.usb_table.specs.Levels.{Heard}
 use Rattle.usb_table.specs.Listing.{finding_at, hub_facts_in, hub_facts_at, tier_of}
-use Rattle.usb_table.specs.Pipes.{IsStatusPipe, ArePipesTo, ArePipesOf}
+use Rattle.usb_table.specs.Pipes.{IsStatusPipe, ArePipesTo, ArePipesIf}
 use Rattle.usb_table.specs.Transfers.{PipesPolled, PolledThrough}
 use Rattle.usb_host.specs.Agreement.{Agrees}
 use Rattle.usb_host.specs.Hosting.{Hosting}
@@ -70,7 +71,7 @@ picked_first true (Endpoint bytes) e h = status_first bytes e h
 picked_first false (Endpoint bytes) e h = absurd (cc h)
 picked_first counts (Other bytes) e h = absurd (cc h)
 
-or_first : (x y : Option (ℕ × ℕ)) (e : ℕ × ℕ) → (x ≡ Some e → e.0 ≡ 1) → (y ≡ Some e → e.0 ≡ 1) → or_else x y ≡ Some e → e.0 ≡ 1
+or_first : (x y : Option (ℕ × ℕ)) (e : ℕ × ℕ) → (x ≡ Some e → e.0 ≡ 1) → (y ≡ Some e → e.0 ≡ 1) → option_or x y ≡ Some e → e.0 ≡ 1
 or_first None y e f g h = g h
 or_first (Some x) y e f g h = f h
 
@@ -213,11 +214,11 @@ module _ (h : Hosting) (agrees : Agrees h.entries h.addresses) (s : IsSound h) (
         (stands_at h.world h.entries h.addresses (accounted h agrees s.rooted) (s.known still) (s.truthful still) (record { row = j; rest = p }) there.device there.found on)
 
   -- the poll answered that there is nothing to tell
-  pub poll_silent : (path : List ℕ) (pipes left : Pipes) (old : World) → ((finding : Finding) → finding_at path h.entries ≡ Some finding → ArePipesOf finding (is_below_hub path) pipes)
+  pub poll_silent : (path : List ℕ) (pipes left : Pipes) (old : World) → ArePipesIf (accepted_device_at path h.entries) (is_below_hub path) pipes
       → PipesPolled pipes old (Ok None) left h.world → pend h.world.roots path ≡ false → IsSilent path h
   poll_silent path pipes left old are polled none facts number at least most =
       let there = hub_there path h.entries facts at in
-      let pipe : _ = status_pipe there.device facts (is_below_hub path) pipes there.told (are (Device there.device) there.found) in
+      let pipe : _ = status_pipe there.device facts (is_below_hub path) pipes there.told (subst (λ (found : Option Finding). ArePipesIf (accepted_device_of found) (is_below_hub path) pipes) there.found are) in
       let through : (rest : Interrupt) × (left ≡ HubPipe rest) × PolledThrough pipe.0 old (Ok None) rest h.world = subst (λ (x : Pipes). PipesPolled x old (Ok None) left h.world) pipe.1 polled in
       let on = reached_at h.world h.entries h.addresses (accounted h agrees s.rooted) (s.known still) (s.truthful still) path there.device there.found none in
       silent_by facts number least most path pipe.0 through.0 old there pipe.2 through.2 on

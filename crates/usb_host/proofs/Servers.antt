@@ -10,7 +10,7 @@ use Rattle.usb_descriptor.specs.Config.{configuration_value}
 use Rattle.usb_device.specs.Spec.{Spec, Hub}
 use Rattle.usb_device.specs.Tree.{reach}
 use Rattle.usb_world.specs.Paths.{address_of, is_way, pend}
-use Rattle.usb_world.specs.Passes.{deep_at}
+use Rattle.usb_world.specs.AttemptPackets.{deep_at}
 use Rattle.usb_world.specs.PluggedDevices.{hub_ports}
 use Rattle.usb_world.specs.Steps.{IsBetween}
 use Rattle.usb_world.specs.World.{World}

@@ -5,7 +5,7 @@ use Rattle.std.proofs.lemmas.Bool.{eqb-true}
 use Rattle.usb_port.specs.PortState.{PortState, has_change}
 use Rattle.usb_device.specs.declared.answer.Answer.{Answer}
 use Rattle.usb_device.specs.declared.answer.Answer.TheVariants as answer
-use Rattle.usb_device.specs.declared.transfer.Giver.TheVariants as by
+use Rattle.usb_device.specs.declared.transfer.InEndpoint.TheVariants as by
 use Rattle.usb_device.specs.Attempt.{Way, whole, broken, lost, heard, gave, held_law, in_law}
 use Rattle.usb_device.specs.Bulk.{tells_changes, change_bits}
 use Rattle.usb_device.specs.Rows.{State, Reply}
@@ -15,7 +15,7 @@ use Rattle.usb_world.specs.declared.types.Outcome.{Outcome}
 use Rattle.usb_world.specs.declared.types.Outcome.TheVariants as outcome
 use Rattle.usb_world.specs.Devices.{Was, DidIn}
 use Rattle.usb_world.specs.OneHolder.{IsMade, got}
-use Rattle.usb_world.specs.Passes.{IsSettled}
+use Rattle.usb_world.specs.AttemptPackets.{IsSettled}
 use Rattle.usb_world.specs.PortRequests.{leaves_step}
 use Rattle.usb_world.specs.Steps.{attempt, after, ready, outcome_in}
 use Rattle.usb_world.specs.World.{World}

@@ -1,17 +1,12 @@
 -- How many attempts the parts of a round may take.
 use Rattle.std.specs.Prelude.{ℕ, ◌+◌, ◌*◌}
-use Rattle.usb_enum.specs.Bounds.{widest_enumeration}
-
--- a port's status, and an order to it
-abbrev pub status_most : ℕ
-status_most = 2000
-
-abbrev pub order_most : ℕ
-order_most = 1600
+use Rattle.usb_pipe.specs.Control.{write_bound}
+use Rattle.usb_transaction.specs.Transactions.{transaction_bound}
+use Rattle.usb_enum.specs.Bounds.{widest_enumeration, read_bound}
 
 -- the clearing of the change, a second status, and the disabling
 abbrev pub clearing_bound : ℕ
-clearing_bound = order_most + status_most + order_most
+clearing_bound = write_bound + read_bound 4 + write_bound
 
 -- and then the enumeration
 abbrev pub look_bound : ℕ
@@ -19,11 +14,11 @@ look_bound = clearing_bound + widest_enumeration
 
 -- a status, and then what it asks for
 abbrev pub serving_bound : ℕ
-serving_bound = status_most + look_bound
+serving_bound = read_bound 4 + look_bound
 
 -- a hub and each above it is disabled
 abbrev pub drop_bound : ℕ
-drop_bound = 7 * order_most
+drop_bound = 7 * write_bound
 
 -- a port is looked at, and its hub dropped
 abbrev pub handling_bound : ℕ
@@ -37,7 +32,7 @@ told_bound = 7 * handling_bound
 
 -- a poll, and what it tells
 abbrev pub hub_poll_bound : ℕ
-hub_poll_bound = 768 + drop_bound + told_bound
+hub_poll_bound = transaction_bound + drop_bound + told_bound
 
 -- there are fewer than 8 ^ 7 paths, and each is polled at most once, and looked at again at most once
 abbrev pub hubs_bound : ℕ
@@ -51,4 +46,4 @@ round_bound = roots_bound + hubs_bound + looks_bound
 
 -- two requests
 abbrev pub clear_bound : ℕ
-clear_bound = 3200
+clear_bound = 2 * write_bound

@@ -5,7 +5,7 @@ use Rattle.std.specs.Map.{lookup}
 use Rattle.usb_port.specs.Order.{path_cmp, parent_of}
 use Rattle.usb_port.specs.declared.status.PortStatus.{PortStatus}
 use Rattle.usb_device.specs.Tree.{reach}
-use Rattle.usb_world.specs.Passes.{IsSettled}
+use Rattle.usb_world.specs.AttemptPackets.{IsSettled}
 use Rattle.usb_world.specs.Paths.{is_way}
 use Rattle.usb_world.specs.World.{World, roots_of}
 use Rattle.usb_address.specs.Claims.{Claims, claims_apart}

@@ -3,6 +3,7 @@ ghost use Rattle.std.specs.Prelude.{◌≡◌, ◌≢◌, ◌≤◌, ◌<◌, �
 ghost use Rattle.std.specs.Borrow.{Lends, sem};
 ghost use Rattle.usb_world.specs.World.{World};
 ghost use Rattle.usb_bus.specs.Traces.{Traced};
+ghost use Rattle.usb_transaction.specs.Transactions.{transaction_bound};
 ghost use Rattle.usb_host.specs.Agreement.{Agrees};
 ghost use Rattle.usb_host.specs.Bounds.{round_bound, clear_bound};
 ghost use Rattle.usb_host.specs.Hosting.{Hosting, opening_host};
@@ -172,7 +173,7 @@ impl<B: Bus> Host<B> {
     /// tells it. `Bus` where the bus makes no more steps; the host then stops.
     pub fn send(&mut self, path: &PortPath, bytes: &[u8]) -> Result<(), HostFault>
         ensures stopped { StopsAsTransfer self.old result self.new }
-        ensures went { HostWent (768 * length bytes.now) self.old self.new }
+        ensures went { HostWent (transaction_bound * length bytes.now) self.old self.new }
         ensures told { IfErr result (λ fault. TransferTold fault self.new.world) }
         ensures sent { SentAt path.now bytes.now self.old result self.new }
         ensures keeps { TransferKeeps self.old self.new }
@@ -193,7 +194,7 @@ impl<B: Bus> Host<B> {
     /// As those of `send`, and `Memory` where the bytes find no room; the host then stops.
     pub fn receive(&mut self, path: &PortPath, packets: u16) -> Result<Vec<u8>, HostFault>
         ensures stopped { StopsAsTransfer self.old result self.new }
-        ensures went { HostWent (768 * packets) self.old self.new }
+        ensures went { HostWent (transaction_bound * packets) self.old self.new }
         ensures told { IfErr result (λ fault. TransferTold fault self.new.world) }
         ensures received { ReceivedAt path.now packets self.old result self.new }
         ensures keeps { TransferKeeps self.old self.new }

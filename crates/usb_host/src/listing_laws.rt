@@ -22,6 +22,6 @@ pub fn known_stays()
 /// what is plugged.
 pub fn settled_matches()
     ensures { (w : World) (entries : Entries) (addresses : Addresses)
-        → Accounted (roots_of w) entries addresses → Known w entries → Truthful w entries → Causes w entries
-        → IsAtRest w entries → Matches w entries }
+        → Accounted (roots_of w) entries addresses → Known w entries → Truthful w entries
+        → Causes w entries → IsAtRest w entries → Matches w entries }
 {}

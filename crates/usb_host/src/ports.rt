@@ -6,12 +6,13 @@ ghost use Rattle.usb_port.specs.Path.{IsPath, IsPortNumber};
 ghost use Rattle.usb_world.specs.World.{IsRootPort, root_port_at};
 ghost use Rattle.usb_hub.specs.Port.{IsPort};
 ghost use Rattle.usb_resources.specs.Pool.{IsFull};
-ghost use Rattle.usb_enum.specs.Bounds.{widest_enumeration};
+ghost use Rattle.usb_enum.specs.Bounds.{widest_enumeration, read_bound};
 ghost use Rattle.usb_enum.specs.Stop.{FaultAt};
 ghost use Rattle.usb_table.specs.Entries.{Replaced, has_at, without};
 ghost use Rattle.usb_table.specs.KnownPorts.{IsAskable, known_port};
 ghost use Rattle.usb_table.specs.Listing.{tier_of};
-ghost use Rattle.usb_host.specs.Bounds.{clearing_bound, look_bound, drop_bound, handling_bound, status_most, order_most, serving_bound};
+ghost use Rattle.usb_pipe.specs.Control.{write_bound};
+ghost use Rattle.usb_host.specs.Bounds.{clearing_bound, look_bound, drop_bound, handling_bound, serving_bound};
 ghost use Rattle.usb_host.specs.Agreement.{Agrees};
 ghost use Rattle.usb_host.specs.PortHandling.{Watches, Tidies, ClearsChange, ServesSound, Looks, FindsSound, DropsLost, DisablesOnWay, Climbs};
 ghost use Rattle.usb_host.specs.Ownership.{KeepsOwned, KeepsPort, DropsHub};
@@ -168,7 +169,7 @@ impl<B: Bus> Host<B> {
     fn status(&mut self, port: HubPort) -> Result<PortStatus, EnumFault>
         requires port { IsPort self.old.world port }
         requires askable { IsAskable port }
-        ensures goes { HostGoes status_most self.old self.new }
+        ensures goes { HostGoes (read_bound 4) self.old self.new }
         ensures told { IfErr result (λ fault. FaultAt port fault self.new.world) }
         ensures rests { Rests self.old self.new }
         ensures shown { Shown port result self.old.world self.new.world }
@@ -181,7 +182,7 @@ impl<B: Bus> Host<B> {
     #[tactic(auto, using(usb_address::proofs::Interface::keeps_then))]
     fn tidy(&mut self, port: HubPort, status: PortStatus) -> Result<(), EnumFault>
         requires { IsPort self.old.world port }
-        ensures goes { HostGoes (2 * order_most) self.old self.new }
+        ensures goes { HostGoes (2 * write_bound) self.old self.new }
         ensures told { IfErr result (λ fault. FaultAt port fault self.new.world) }
         ensures rests { Rests self.old self.new }
         ensures tidies { Tidies port self.old.world result self.new.world }
@@ -293,7 +294,7 @@ impl<B: Bus> Host<B> {
 
     /// Disables the port at a path, and says whether it could.
     fn disable(&mut self, path: &PortPath) -> Result<bool, HostFault>
-        ensures goes { HostGoes order_most self.old self.new }
+        ensures goes { HostGoes write_bound self.old self.new }
         ensures told { IfErr result (λ fault. PartTold fault self.new.world) }
         ensures rests { Rests self.old self.new }
         ensures known { IfOk result (λ done. IsTrue done

@@ -1,7 +1,7 @@
 -- What the calls at a port ask of ports, and that they act there.
 use Rattle.std.proofs.Common.{◌≡◌, ℕ, zero, suc, ◌&&◌, ◌⊎◌, inl, inr, not, Bool, true, false, List, [], ◌∷◌, ◌++◌, Option, None, Some, option_map, if◌then◌else◌, refl, ap, sym, subst, ◌∙◌}
 use Rattle.std.proofs.lemmas.Option.{same_Some}
-use Rattle.usb_port.specs.PortState.{is_attached, PortState}
+use Rattle.usb_port.specs.PortState.{is_attached}
 use Rattle.usb_request.specs.Codes.{SET_ADDRESS, DEVICE_OUT}
 use Rattle.usb_request.specs.Layout.{setup_of, bytes_of}
 use Rattle.usb_request.specs.declared.setup.Setup.{Setup}
@@ -18,7 +18,7 @@ use Rattle.usb_world.specs.declared.types.Attempt.{Attempt}
 use Rattle.usb_world.specs.Courses.{is_harmless, resets, spares_step}
 use Rattle.usb_world.specs.Paths.{is_way, same_number}
 use Rattle.usb_world.specs.OneHolder.{IsMade, IsSetup, HolderIn, setup_asked, token_way, payload_way}
-use Rattle.usb_world.specs.Passes.{NobodyHolds, deep_at}
+use Rattle.usb_world.specs.AttemptPackets.{NobodyHolds, deep_at}
 use Rattle.usb_world.specs.PortRequests.{AsksNothing, is_port_request, is_sparing, leaves_step}
 use Rattle.usb_world.specs.Steps.{attempt, root_call, after, ready, damage_in}
 use Rattle.usb_world.specs.WayEffects.{spares}

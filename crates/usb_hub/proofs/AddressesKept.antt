@@ -10,9 +10,9 @@ use Rattle.usb_request.specs.Layout.{IsToHost}
 use Rattle.usb_request.specs.declared.setup.Setup.{Setup}
 use Rattle.usb_request.specs.Requests.{get_port_status, set_port_feature, clear_port_feature, set_address, set_configuration}
 use Rattle.usb_port.specs.declared.call.PortCall.{PortCall}
-use Rattle.usb_port.specs.declared.call.PortCall.TheVariants.{SetPower, SetReset, ClearEnable, ClearPower, ClearConnectionChange, ClearEnableChange, ClearResetChange}
+use Rattle.usb_port.specs.declared.call.PortCall.TheVariants.{SetPower, SetReset}
 use Rattle.usb_port.proofs.Interface.{call_is, clear_no-reset}
-use Rattle.usb_port.specs.Calls.{set_call, clear_call, is_reset, IsClearFeature}
+use Rattle.usb_port.specs.Calls.{clear_call, is_reset, IsClearFeature}
 use Rattle.usb_device.specs.Request.{Is}
 use Rattle.usb_device.specs.Rows.{State}
 use Rattle.usb_device.specs.Tree.{Spot, path_to, reach_on, state_on}

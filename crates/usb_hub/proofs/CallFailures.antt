@@ -20,8 +20,8 @@ use Rattle.usb_device.specs.View.{port_there}
 use Rattle.usb_world.specs.Courses.{is_harmless}
 use Rattle.usb_world.specs.Devices.{Was}
 use Rattle.usb_world.specs.Paths.{address_of}
-use Rattle.usb_world.specs.Passes.{IsSettled, deep_at}
-use Rattle.usb_world.specs.PortRequests.{is_plain, StillSet}
+use Rattle.usb_world.specs.AttemptPackets.{IsSettled, deep_at}
+use Rattle.usb_world.specs.PortRequests.{asks_no_port, StillSet}
 use Rattle.usb_world.specs.World.{World}
 use Rattle.usb_world.proofs.Interface.{course_bits, course_wider, equal_same, same_device}
 use Rattle.usb_transaction.specs.declared.target.Target.{Target}
@@ -40,7 +40,7 @@ use Rattle.usb_hub.specs.CallFailures.{Serves, NoHubFailed}
 use Rattle.usb_hub.proofs.ActingCalls.{AsksFor}
 use Rattle.usb_hub.proofs.Devices.{write_stays, stays-spec, stays-registers, called_of_port, IsOfPort}
 use Rattle.usb_hub.proofs.Statuses.{row_port, StatusOf, status_outcome, whole_status}
-use Rattle.usb_hub.proofs.RestingRequests.{behind_asks_nothing, plain_course}
+use Rattle.usb_hub.proofs.RestingRequests.{behind_asks_nothing, resting_course}
 
 pub same_port : (a b : Target) (m n : ℕ) → External a m ≡ External b n → (b ≡ a) × (n ≡ m)
 same_port a b m n e = (cc e, cc e)
@@ -160,7 +160,7 @@ module _ (t : Target) (i : ℕ) (old new : World) (three : NoThreeDamaged old) (
   few_bytes : request.length ≤ 8
   few_bytes = subst (λ n. n ≤ 8) (sym length_is) (omega arith)
 
-  plain : is_plain request ≡ true
+  plain : asks_no_port request ≡ true
   unfolding get_port_status
   plain = refl
 
@@ -226,7 +226,7 @@ module _ (t : Target) (i : ℕ) (old new : World) (three : NoThreeDamaged old) (
         now_on = (same_device (path_to x.spot) (course_wider (λ s w k. k.rests) (behind_asks_nothing t (path_to x.spot) r.moment.since now_settled)) x.on).0
 
         still : StillSet b (port_there now.roots ((path_to x.spot) ++ (suc i ∷ [])))
-        still = course_bits (path_to x.spot) (suc i) (course_wider (λ s w k. k.leaves) (plain_course t request plain old now accepted_there ((path_to x.spot) ++ (suc i ∷ [])))) now_on b stood
+        still = course_bits (path_to x.spot) (suc i) (course_wider (λ s w k. k.leaves) (resting_course t request plain old now accepted_there ((path_to x.spot) ++ (suc i ∷ [])))) now_on b stood
 
   told_status : (bytes : Vec ℕ) → AskedData t request old (Ok bytes) new → length bytes.items ≡ 4
   told_status bytes asked = ap length came ∙ four_bytes status.port

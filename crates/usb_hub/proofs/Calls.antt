@@ -8,7 +8,6 @@ use Rattle.usb_request.specs.Layout.{setup_of, bytes_of}
 use Rattle.usb_request.specs.Requests.{set_port_feature, clear_port_feature}
 use Rattle.usb_request.specs.declared.setup.Setup.{Setup}
 use Rattle.usb_port.specs.declared.call.PortCall.{PortCall}
-use Rattle.usb_port.specs.declared.call.PortCall.TheVariants.{SetReset, ClearPower, ClearConnectionChange, SetPower, ClearEnable, ClearEnableChange, ClearResetChange}
 use Rattle.usb_device.specs.declared.effect.Effect.TheVariants.{Calls}
 use Rattle.usb_port.specs.Calls.{set_call, clear_call, is_reset, IsSetFeature, IsClearFeature}
 use Rattle.usb_device.specs.Effect.{effect_of_request, asked_by_setup}
@@ -23,7 +22,7 @@ use Rattle.usb_world.specs.declared.types.Outcome.{Outcome}
 use Rattle.usb_world.specs.Courses.{Spares, is_harmless}
 use Rattle.usb_world.specs.Devices.{Was}
 use Rattle.usb_world.specs.Paths.{address_of, is_way}
-use Rattle.usb_world.specs.Passes.{IsSettled}
+use Rattle.usb_world.specs.AttemptPackets.{IsSettled}
 use Rattle.usb_world.specs.PortRequests.{is_sparing}
 use Rattle.usb_world.specs.RestingPorts.{AsksNothingOf}
 use Rattle.usb_world.specs.Steps.{Step, attempt, root_call, after, ready, Course, here, step as step_then, AttemptFails, SetsRoot, ClearsRoot}

@@ -18,8 +18,8 @@ use Rattle.usb_device.specs.Transfer.{reading, first_stage}
 use Rattle.usb_device.specs.Tree.{acted, port_at, reach, Spot, path_to, reach_on, state_on}
 use Rattle.usb_device.specs.View.{port_there, state_there}
 use Rattle.usb_world.specs.Paths.{address_of}
-use Rattle.usb_world.specs.Passes.{IsSettled}
-use Rattle.usb_world.specs.PortRequests.{is_plain}
+use Rattle.usb_world.specs.AttemptPackets.{IsSettled}
+use Rattle.usb_world.specs.PortRequests.{asks_no_port}
 use Rattle.usb_world.specs.RestingPorts.{AsksNothingOf}
 use Rattle.usb_world.specs.World.{World, IsRootPort, root_row, root_port_at as root_port}
 use Rattle.usb_world.specs.Steps.{Course, here}
@@ -42,7 +42,7 @@ use Rattle.usb_hub.specs.Moments.{PortTold, TellsPort}
 use Rattle.usb_hub.specs.Port.{IsPort, RootRead, PortRead}
 use Rattle.usb_hub.specs.Requests.{AskedData, Told}
 use Rattle.usb_hub.specs.CallFailures.{Serves, NoHubFailed}
-use Rattle.usb_hub.proofs.RestingRequests.{behind_asks_nothing, plain_course}
+use Rattle.usb_hub.proofs.RestingRequests.{behind_asks_nothing, resting_course}
 use Rattle.usb_hub.proofs.Statuses.{row_port, StatusOf, status_outcome, whole_status}
 use Rattle.usb_hub.proofs.ToldBytes.{IsRead, said}
 use Rattle.usb_hub.proofs.CallFailures.{same_port, status_served}
@@ -89,7 +89,7 @@ module _ (t : Target) (j : Spot) (i : ℕ) (old new : World) (bytes : Vec ℕ) (
   unfolding get_port_status
   length_is = refl
 
-  plain : is_plain request ≡ true
+  plain : asks_no_port request ≡ true
   unfolding get_port_status
   plain = refl
 
@@ -131,7 +131,7 @@ module _ (t : Target) (j : Spot) (i : ℕ) (old new : World) (bytes : Vec ℕ) (
     port = status.port;
     stood = stood;
     is = ap status_in came ∙ status_seen status.port;
-    before = plain_course t request plain old now accepted_there;
+    before = resting_course t request plain old now accepted_there;
     since = λ x. behind_asks_nothing t x done.moment.since (subst (λ w. IsSettled w.roots) (sym accepted_there.last) (attempt_settled _ accepted_there.mid accepted_there.holder.made.settled));
     row = record { parent = path_to j; number = suc i; is = refl; reached = a.on };
   }

@@ -4,7 +4,7 @@ use Rattle.std.specs.Prelude.{ℕ, ◌+◌, ◌-◌, ◌≤◌, Bool, length, Li
 use Rattle.usb_request.specs.Features.{PORT_RESET}
 use Rattle.usb_port.specs.PortState.{PortState}
 use Rattle.usb_port.specs.Calls.{set_call, clear_call, IsSetFeature, IsClearFeature}
-use Rattle.usb_world.specs.World.{World, Spends, IsRootPort, root_row, change_of, changes}
+use Rattle.usb_world.specs.World.{World, Spends, IsRootPort, root_row, changes}
 use Rattle.usb_world.specs.Steps.{SetsRoot, ClearsRoot}
 use Rattle.usb_world.proofs.Interface.{RootCalled, change_most, changes-set, clears_change, clears_spend, resets_spend, root_called}
 use Rattle.usb_bus.specs.Traces.{Traced, WentOn}

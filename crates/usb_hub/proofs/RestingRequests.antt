@@ -9,12 +9,12 @@ use Rattle.usb_request.specs.declared.setup.Setup.{Setup}
 use Rattle.usb_device.specs.Rows.{State}
 use Rattle.usb_world.specs.declared.types.Attempt.{Attempt}
 use Rattle.usb_world.specs.Addresses.{is_setup}
-use Rattle.usb_world.specs.Passes.{IsSettled}
-use Rattle.usb_world.specs.PortRequests.{is_plain}
+use Rattle.usb_world.specs.AttemptPackets.{IsSettled}
+use Rattle.usb_world.specs.PortRequests.{asks_no_port}
 use Rattle.usb_world.specs.RestingPorts.{AsksNothingOf}
 use Rattle.usb_world.specs.World.{World}
 use Rattle.usb_world.specs.Steps.{Step, after, attempt, root_call, event, report, Course, here, step}
-use Rattle.usb_world.proofs.Interface.{course_then, data_asks_nothing, plain_asks_nothing}
+use Rattle.usb_world.proofs.Interface.{course_then, data_asks_nothing, payload_asks_nothing}
 use Rattle.usb_transaction.specs.declared.target.Target.{Target}
 use Rattle.usb_transaction.specs.Leaves.{AcceptedAt}
 use Rattle.usb_transaction.specs.Transactions.{setup_attempt}
@@ -43,34 +43,34 @@ behind_asks_nothing t x (here w) h = here w
 behind_asks_nothing t x (step s {w} {v} k c) h = let rests : _ = behind_rests t x s w k h in step s rests.0 (behind_asks_nothing t x c rests.1)
 
 -- a course of setup data that ask nothing of ports
-pub plain_course : (t : Target) (request : Setup) → is_plain request ≡ true → {j : Spot} {s v : State} (old now : World) → AcceptedAt t (bytes_of request) old now j s v → AllRest old now
-plain_course t request plain old now at x =
+pub resting_course : (t : Target) (request : Setup) → asks_no_port request ≡ true → {j : Spot} {s v : State} (old now : World) → AcceptedAt t (bytes_of request) old now j s v → AllRest old now
+resting_course t request plain old now at x =
     subst (λ w. Course (AsksNothingOf x) old w) (sym at.last)
     (course_then (attempt (setup_attempt t (bytes_of request))) (trail_course (λ w made. asks w) at.trail) (asks at.mid))
   where
     asks : (w : World) → AsksNothingOf x (attempt (setup_attempt t (bytes_of request))) w
-    asks w = plain_asks_nothing (setup_attempt t (bytes_of request)) w x (ap is_plain (same_setup request) ∙ plain)
+    asks w = payload_asks_nothing (setup_attempt t (bytes_of request)) w x (ap asks_no_port (same_setup request) ∙ plain)
 
 -- a whole transfer of such a request
-module _ (t : Target) (request : Setup) (plain : is_plain request ≡ true) where
+module _ (t : Target) (request : Setup) (plain : asks_no_port request ≡ true) where
   step_rests : (x : List ℕ) (s : Step) (w : World) → IsOfTransfer t request s w → IsSettled w.roots → AsksNothingOf x s w × IsSettled (after s w).roots
   step_rests x s w (inl e) h =
       subst (λ s. AsksNothingOf x s w × IsSettled (after s w).roots) (sym e)
-      (plain_asks_nothing (setup_attempt t (bytes_of request)) w x (ap is_plain (same_setup request) ∙ plain), attempt_settled (setup_attempt t (bytes_of request)) w h)
+      (payload_asks_nothing (setup_attempt t (bytes_of request)) w x (ap asks_no_port (same_setup request) ∙ plain), attempt_settled (setup_attempt t (bytes_of request)) w h)
   step_rests x s w (inr k) h = behind_rests t x s w k h
 
   transfer_rests : (x : List ℕ) {w v : World} → Course (IsOfTransfer t request) w v → IsSettled w.roots → Course (AsksNothingOf x) w v
   transfer_rests x (here w) h = here w
   transfer_rests x (step s {w} {v} k c) h = let rests : _ = step_rests x s w k h in step s rests.0 (transfer_rests x c rests.1)
 
-plain_read : (request : Setup) → IsToHost request → is_plain request ≡ true
-plain_read request host = rw (other request.request_type PORT_OUT host (omega arith), other request.request_type DEVICE_OUT host (omega arith)) refl
+read_asks_no_port : (request : Setup) → IsToHost request → asks_no_port request ≡ true
+read_asks_no_port request host = rw (other request.request_type PORT_OUT host (omega arith), other request.request_type DEVICE_OUT host (omega arith)) refl
   where
     other : (n m : ℕ) → 128 ≤ n → m ≤ 127 → (n == m) ≡ false
     other n m far near = grind (arith, nat_tests, far, near)
 
 pub read_rests : (t : Target) (request : Setup) (result : Result (Vec ℕ) PipeFault) (old new : World) → IsToHost request → IsSettled old.roots → Reads t request old result new → IsNoBusFault result → AllRest old new
-read_rests t request result old new host settled reads sound x = transfer_rests t request (plain_read request host) x ((read_attempts t request result old new reads).whole sound) settled
+read_rests t request result old new host settled reads sound x = transfer_rests t request (read_asks_no_port request host) x ((read_attempts t request result old new reads).whole sound) settled
 
-pub write_rests : (t : Target) (request : Setup) (result : Result (Unit {0}) PipeFault) (old new : World) → IsSettled old.roots → Writes t request old result new → is_plain request ≡ true → IsNoBusFault result → AllRest old new
+pub write_rests : (t : Target) (request : Setup) (result : Result (Unit {0}) PipeFault) (old new : World) → IsSettled old.roots → Writes t request old result new → asks_no_port request ≡ true → IsNoBusFault result → AllRest old new
 write_rests t request result old new settled writes plain sound x = transfer_rests t request plain x ((write_attempts t request result old new writes).whole sound) settled

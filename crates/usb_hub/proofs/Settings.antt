@@ -27,11 +27,11 @@ use Rattle.usb_pipe.proofs.Interface.{given_registers, write_leaves, write_losse
 use Rattle.usb_address.proofs.Interface.{attempt_settled, same_setup}
 use Rattle.usb_request.specs.Layout.{setup_of, bytes_of}
 use Rattle.usb_device.specs.declared.effect.Effect.TheVariants.{PortsOff}
-use Rattle.usb_device.specs.declared.bulk.Pipe.{Pipe}
+use Rattle.usb_device.specs.declared.bulk.EndpointState.{EndpointState}
 use Rattle.usb_device.specs.Bulk.{rested}
 use Rattle.usb_device.specs.Effect.{asked_by_setup, effect_of_request}
 use Rattle.usb_device.specs.Tree.{full, acted, Spot, place_on}
-use Rattle.usb_world.specs.Passes.{IsSettled}
+use Rattle.usb_world.specs.AttemptPackets.{IsSettled}
 use Rattle.usb_hub.specs.Requests.{Ordered}
 use Rattle.usb_hub.proofs.RestingRequests.{behind_asks_nothing}
 use Rattle.usb_hub.specs.Settings.{AddressAsked, takes_value, OnlySet, IsConfigured, WentOff, ConfigurationAsked}
@@ -257,12 +257,12 @@ set_refuses : (b : Bool) (value : ℕ) (row : List PortState) → first_stage ro
 set_refuses true value row e = absurd cc
 set_refuses false value row e = refl
 
-abbrev with_settings : State → State → Registers → Pipe → Pipe → Pipe → Option ℕ → State
+abbrev with_settings : State → State → Registers → EndpointState → EndpointState → EndpointState → Option ℕ → State
 with_settings s v g out into changes held =
     record s { memory = v.memory; naks = v.naks; stage = v.stage; registers = g; bulk_out = out; bulk_in = into; changes = changes; held = held }
 
 -- it is as it was but for its settings, which are these
-settings_frame : (s v : State) (out into changes : Pipe) (held : Option ℕ) (value : ℕ) → v ≡ with_settings s v v.registers out into changes held → v.registers ≡ record s.registers { configuration = value } → OnlySet s v
+settings_frame : (s v : State) (out into changes : EndpointState) (held : Option ℕ) (value : ℕ) → v ≡ with_settings s v v.registers out into changes held → v.registers ≡ record s.registers { configuration = value } → OnlySet s v
 settings_frame s v out into changes held value h r =
     h
     ∙ ap (λ g. with_settings s v g out into changes held) (r ∙ ap (λ (g : Registers). record s.registers { configuration = g.configuration }) (sym r))

@@ -5,6 +5,7 @@ use Rattle.std.specs.Global.{Vec}
 use Rattle.usb_device.specs.Spec.{Spec, Hub}
 use Rattle.usb_device.specs.Rows.{State}
 use Rattle.usb_device.specs.Progress.{OnlyStage}
+use Rattle.usb_request.specs.Codes.{HUB_LENGTH}
 use Rattle.usb_transaction.specs.declared.target.Target.{Target}
 use Rattle.usb_transaction.specs.Leaves.{is_at}
 use Rattle.usb_transaction.specs.Failures.{Listens}
@@ -67,7 +68,7 @@ StringAsked t index = TextAsked (string_given index) t 255
 
 -- the first bytes of a hub's descriptor (11.24.2.5)
 abbrev pub HubAsked : Target → Result (Vec ℕ) PipeFault → Spot → State → State → Type 0
-HubAsked t = TextAsked hub_given t 9
+HubAsked t = TextAsked hub_given t HUB_LENGTH
 
 -- the status of a device (9.4.5)
 abbrev pub StatusAsked : Target → Result DeviceStatus PipeFault → Spot → State → State → Type 0

@@ -10,7 +10,7 @@ use Rattle.usb_bus.specs.Traces.{Traced, WentOn}
 use Rattle.usb_request.specs.Requests.{get_port_status, set_port_feature, clear_port_feature}
 use Rattle.usb_transaction.specs.Transactions.{IsTarget}
 use Rattle.usb_pipe.specs.declared.fault.PipeFault.{PipeFault}
-use Rattle.usb_pipe.specs.Control.{control_bound}
+use Rattle.usb_pipe.specs.Control.{control_bound, write_bound}
 use Rattle.usb_hub.specs.declared.port.HubPort.{HubPort}
 use Rattle.usb_hub.specs.declared.port.HubPort.TheVariants.{Root, External}
 use Rattle.usb_hub.specs.Requests.{Told, Ordered}
@@ -27,7 +27,7 @@ status_bound (External hub port) = control_bound hub.max 4
 
 abbrev pub order_bound : HubPort → ℕ
 order_bound (Root number) = 0
-order_bound (External hub port) = 1600
+order_bound (External hub port) = write_bound
 
 -- the answer is what the port's status says of it, and nothing has changed
 pub record RootRead (number : ℕ) (old : World) (result : Result PortStatus PipeFault) (new : World) : Type 0 where
@@ -62,7 +62,7 @@ pub record RootCleared (number feature : ℕ) (old : World) (result : Result (Un
 -- the set of a port's feature as a course of the bus: PORT_RESET sets no C_PORT_CONNECTION of the root, PORT_POWER may
 abbrev pub SetWent : HubPort → ℕ → World → Option (List ℕ) → World → Option (List ℕ) → Type 0
 SetWent (Root number) feature old before new now = Traced old before new now × (feature ≡ PORT_RESET → Spends 0 old new)
-SetWent (External hub port) feature old before new now = WentOn 1600 old before new now
+SetWent (External hub port) feature old before new now = WentOn write_bound old before new now
 
 abbrev pub PortRead : HubPort → World → Result PortStatus PipeFault → World → Type 0
 PortRead (Root number) old result new = RootRead number old result new

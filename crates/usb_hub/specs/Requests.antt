@@ -2,9 +2,9 @@
 use Rattle.std.specs.Prelude.{◌≡◌, ◌≢◌, ℕ, ◌≤◌, ◌==◌, true, false, if◌then◌else◌, List, length, slice_index, Some, Result, Ok, Err, IfOk, MatchResult}
 use Rattle.std.specs.Global.{Vec}
 use Rattle.usb_request.specs.declared.setup.Setup.{Setup}
-use Rattle.usb_world.specs.Passes.{IsSettled}
+use Rattle.usb_world.specs.AttemptPackets.{IsSettled}
 use Rattle.usb_world.specs.Courses.{is_harmless}
-use Rattle.usb_world.specs.PortRequests.{is_plain, is_above}
+use Rattle.usb_world.specs.PortRequests.{asks_no_port, is_above}
 use Rattle.usb_world.specs.RestingPorts.{AsksNothingOf}
 use Rattle.usb_world.specs.Steps.{Course}
 use Rattle.usb_world.specs.World.{World}
@@ -48,7 +48,7 @@ pub record Ordered (target : Target) (request : Setup) (old : World) (result : R
   pub stages : Writes target request old result new
   pub room : result ≢ Err Memory
   -- a request that is not about ports asks nothing of any
-  pub rests : is_plain request ≡ true → IsNoBusFault result → AllRest old new
+  pub rests : asks_no_port request ≡ true → IsNoBusFault result → AllRest old new
   -- one that resets no port asks nothing but of ports below the target's device
   pub elsewhere : is_harmless request ≡ true → IsNoBusFault result → RestBut target.addr old new
 

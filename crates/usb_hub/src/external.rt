@@ -4,7 +4,7 @@ ghost use Rattle.usb_transaction.specs.Transactions.{IsTarget};
 ghost use Rattle.usb_port.specs.Status.{status_in};
 ghost use Rattle.usb_request.specs.declared.feature.TheConstants.{PORT_RESET};
 ghost use Rattle.usb_request.specs.Requests.{get_port_status, set_port_feature as set_feature, clear_port_feature as clear_feature};
-ghost use Rattle.usb_pipe.specs.Control.{control_bound};
+ghost use Rattle.usb_pipe.specs.Control.{control_bound, write_bound};
 ghost use Rattle.usb_bus.specs.Traces.{Went};
 ghost use Rattle.usb_address.specs.Ownership.{KeepsAddresses};
 ghost use Rattle.usb_hub.specs.Addresses.{KeepsDevices};
@@ -50,7 +50,7 @@ pub fn set_hub_port<B: Bus>(
     feature: u16,
 ) -> Result<(), PipeFault>
     requires { IsTarget hub }
-    ensures went { Went B.world B.trace 1600 bus.old bus.new }
+    ensures went { Went B.world B.trace write_bound bus.old bus.new }
     ensures ordered { Ordered hub (set_feature feature port)
         (B.world bus.old) result (B.world bus.new) }
     ensures keeps { feature ≢ PORT_RESET → KeepsAddresses (B.world bus.old) (B.world bus.new) }
@@ -72,7 +72,7 @@ pub fn clear_hub_port<B: Bus>(
     feature: u16,
 ) -> Result<(), PipeFault>
     requires { IsTarget hub }
-    ensures went { Went B.world B.trace 1600 bus.old bus.new }
+    ensures went { Went B.world B.trace write_bound bus.old bus.new }
     ensures ordered { Ordered hub (clear_feature feature port)
         (B.world bus.old) result (B.world bus.new) }
     ensures keeps { KeepsAddresses (B.world bus.old) (B.world bus.new) }

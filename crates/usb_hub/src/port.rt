@@ -1,7 +1,6 @@
 //! The ports of hubs, the root's among them.
-ghost use Rattle.std.specs.Prelude.{◌≡◌, IfErr};
-ghost use Rattle.usb_port.specs.Calls.{set_call, clear_call};
-ghost use Rattle.usb_port.specs.Calls.{IsSetFeature, IsClearFeature};
+ghost use Rattle.std.specs.Prelude.{IfErr};
+ghost use Rattle.usb_port.specs.Calls.{set_call, clear_call, IsSetFeature, IsClearFeature};
 ghost use Rattle.usb_bus.specs.Traces.{Went};
 ghost use Rattle.usb_pipe.specs.Control.{FaultAfter};
 ghost use Rattle.usb_hub.specs.Addresses.{KeepsAsked, KeepsSet, KeepsCleared};
@@ -18,8 +17,13 @@ use usb_pipe::{Bus, Target};
 pub enum HubPort {
     /// A port of the root, by its number from 1. It is a register of the bus, and never fails.
     Root(u8),
-    /// A port of a hub: the hub's endpoint 0, and the port's number, 1 to 7.
-    External { hub: Target, port: u8 },
+    /// A port of a hub.
+    External {
+        /// The hub's endpoint 0.
+        hub: Target,
+        /// The port's number, 1 to 7.
+        port: u8,
+    },
 }
 
 /// The status of a port (11.24.2.7). `alloc` is for the answer of a hub: a root port needs none.

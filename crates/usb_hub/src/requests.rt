@@ -2,9 +2,10 @@
 ghost use Rattle.std.specs.Prelude.{◌≡◌, ◌≤◌, false};
 ghost use Rattle.usb_bus.specs.Traces.{Went};
 ghost use Rattle.usb_world.specs.Devices.{EachWas};
+ghost use Rattle.usb_request.specs.Codes.{HUB_LENGTH};
 ghost use Rattle.usb_transaction.specs.Transactions.{IsTarget};
 ghost use Rattle.usb_transaction.specs.Failures.{NoThreeDamaged};
-ghost use Rattle.usb_pipe.specs.Control.{control_bound};
+ghost use Rattle.usb_pipe.specs.Control.{control_bound, write_bound};
 ghost use Rattle.usb_pipe.specs.Failures.{WhyWrite};
 ghost use Rattle.usb_request.specs.Requests.{get_device_descriptor, get_configuration_descriptor, get_string_descriptor, get_hub_descriptor, get_status as status_request, set_address as address_request, set_configuration as configuration_request};
 ghost use Rattle.usb_address.specs.Ownership.{KeepsAddresses};
@@ -120,13 +121,13 @@ pub fn hub_descriptor<B: Bus>(
     target: Target,
 ) -> Result<Vec<u8>, PipeFault>
     requires { IsTarget target }
-    ensures went { Went B.world B.trace (control_bound target.max 9) bus.old bus.new }
+    ensures went { Went B.world B.trace (control_bound target.max HUB_LENGTH) bus.old bus.new }
     ensures asked { AskedData target get_hub_descriptor (B.world bus.old) result (B.world bus.new) }
     ensures what { (B.world bus.new).shared ≡ false
         → EachWas (HubAsked target result) (B.world bus.old) (B.world bus.new) }
     ensures why { NoThreeDamaged (B.world bus.old) → 8 ≤ target.max
         → (B.world bus.new).shared ≡ false
-        → EachWas (WhyAsked target 9 result) (B.world bus.old) (B.world bus.new) }
+        → EachWas (WhyAsked target HUB_LENGTH result) (B.world bus.old) (B.world bus.new) }
     ensures keeps { KeepsAddresses (B.world bus.old) (B.world bus.new) }
 {
     ask(alloc, bus, target, Setup::get_hub_descriptor())
@@ -168,7 +169,7 @@ pub fn set_address<B: Bus>(bus: &mut B, target: Target, address: u8) -> Result<(
     requires target { IsTarget target }
     requires least { 1 ≤ address }
     requires most { address ≤ 127 }
-    ensures went { Went B.world B.trace 1600 bus.old bus.new }
+    ensures went { Went B.world B.trace write_bound bus.old bus.new }
     ensures ordered { Ordered target (address_request address)
         (B.world bus.old) result (B.world bus.new) }
     ensures what { (B.world bus.new).shared ≡ false
@@ -190,7 +191,7 @@ pub fn set_address<B: Bus>(bus: &mut B, target: Target, address: u8) -> Result<(
 #[tactic(auto, using(crate::proofs::AddressesKept::configured))]
 pub fn set_configuration<B: Bus>(bus: &mut B, target: Target, value: u8) -> Result<(), PipeFault>
     requires target { IsTarget target }
-    ensures went { Went B.world B.trace 1600 bus.old bus.new }
+    ensures went { Went B.world B.trace write_bound bus.old bus.new }
     ensures ordered { Ordered target (configuration_request value)
         (B.world bus.old) result (B.world bus.new) }
     ensures what { (B.world bus.new).shared ≡ false

@@ -3,14 +3,14 @@ use Rattle.std.proofs.Common.{◌≡◌, ◌≢◌, ◌∙◌, ◌⊎◌, inl, i
 use Rattle.std.specs.Global.{Vec}
 use Rattle.std.specs.Int.{div_ceil}
 use Rattle.usb_packet.specs.declared.Toggle.{Toggle}
-use Rattle.usb_world.specs.Passes.{IsSettled}
+use Rattle.usb_world.specs.AttemptPackets.{IsSettled}
 use Rattle.usb_world.specs.World.{World}
 use Rattle.usb_transaction.specs.declared.target.Target.{Target}
 use Rattle.usb_pipe.specs.declared.condition.Condition.{Condition}
 use Rattle.usb_pipe.specs.declared.condition.Condition.TheVariants.{Ready, Halted, Broken}
 use Rattle.usb_pipe.specs.declared.fault.PipeFault.{PipeFault}
 use Rattle.usb_pipe.specs.declared.fault.PipeFault.TheVariants as pipe_fault
-use Rattle.usb_pipe.specs.Bulk.{Bulk, Idle, Sent, Sends, Received, Receives, Cleared, Clears}
+use Rattle.usb_pipe.specs.Bulk.{Bulk, Idle, MovedOut, Sends, MovedIn, Receives, Cleared, Clears}
 use Rattle.usb_pipe.specs.Moves.{Gave, Came, start, packet}
 use Rattle.usb_pipe.proofs.ControlSteps.{ended_settled}
 
@@ -23,7 +23,7 @@ ready_or G c works ready halted = elim (decided c Ready) [ inl e ↦ ready e | i
 
 pub send_by : {bytes : List ℕ} {pipe : Bulk} {old : World} {result : Result (Unit {0}) PipeFault} {left : Bulk} {new : World} (G : Type 0)
     → (Idle (Err pipe_fault.Broken) pipe old result left new → G) → (bytes ≡ [] → Idle (Ok tt) pipe old result left new → G)
-    → (pipe.condition ≢ Broken → bytes ≢ [] → Sent (div_ceil (length bytes) pipe.max) bytes pipe old result left new → G) → Sends bytes pipe old result left new → G
+    → (pipe.condition ≢ Broken → bytes ≢ [] → MovedOut (div_ceil (length bytes) pipe.max) bytes pipe old result left new → G) → Sends bytes pipe old result left new → G
 send_by {bytes} {pipe} G broken nothing moved x = elim (decided pipe.condition Broken) [ inl e ↦ broken (x.broken e) | inr works ↦ by_bytes works bytes refl ]
   where
     by_bytes : pipe.condition ≢ Broken → (b : List ℕ) → bytes ≡ b → G
@@ -32,7 +32,7 @@ send_by {bytes} {pipe} G broken nothing moved x = elim (decided pipe.condition B
 
 pub receive_by : {wanted : ℕ} {pipe : Bulk} {old : World} {result : Result (Vec ℕ) PipeFault} {left : Bulk} {new : World} (G : Type 0)
     → (result ≡ Err pipe_fault.Broken → left ≡ pipe → new ≡ old → G) → ((bytes : Vec ℕ) → result ≡ Ok bytes → bytes.items ≡ [] → left ≡ pipe → new ≡ old → G)
-    → (pipe.condition ≢ Broken → wanted ≢ 0 → Received wanted pipe old result left new → G) → Receives wanted pipe old result left new → G
+    → (pipe.condition ≢ Broken → wanted ≢ 0 → MovedIn wanted pipe old result left new → G) → Receives wanted pipe old result left new → G
 receive_by {wanted} {pipe} {old} {result} {left} {new} G broken nothing moved x = elim (decided pipe.condition Broken) [
   | inl e ↦ (let b = x.broken e in broken b.0 b.1 b.2)
   | inr works ↦ elim (eq-zero-or-pos wanted) [

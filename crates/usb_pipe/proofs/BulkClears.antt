@@ -10,14 +10,14 @@ use Rattle.usb_request.specs.declared.setup.Setup.{Setup}
 use Rattle.usb_request.specs.Layout.{bytes_of, setup_of}
 use Rattle.usb_request.specs.Requests.{clear_endpoint_halt}
 use Rattle.usb_port.specs.PortState.{PortState}
-use Rattle.usb_device.specs.declared.bulk.Which.{Which}
-use Rattle.usb_device.specs.declared.bulk.Which.TheVariants.{BulkOut, BulkIn}
+use Rattle.usb_device.specs.declared.bulk.ServedEndpoint.{ServedEndpoint}
+use Rattle.usb_device.specs.declared.bulk.ServedEndpoint.TheVariants.{BulkOut, BulkIn}
 use Rattle.usb_device.specs.declared.request.Registers.{Registers}
 use Rattle.usb_device.specs.Spec.{Spec}
 use Rattle.usb_device.specs.Bulk.{rested, bulk_at, is_end, served}
 use Rattle.usb_device.specs.Request.{outcome, unhalts, on_endpoint}
 use Rattle.usb_device.specs.Transfer.{first_stage, ending}
-use Rattle.usb_device.specs.Rows.{State, bulk_of, with_pipe, accepted}
+use Rattle.usb_device.specs.Rows.{State, bulk_of, with_endpoint_state, accepted}
 use Rattle.usb_device.specs.Progress.{IsSink, IsSource, level, StatusGiven, OnlyControl, OnlyStage}
 use Rattle.usb_world.specs.Courses.{is_harmless}
 use Rattle.usb_world.specs.World.{World}
@@ -116,17 +116,17 @@ asks_in pipe s is i = asked s.spec s.registers (halt_address pipe.ep pipe.is_in)
 
 -- What the request leaves of a device that has the endpoint: only the endpoint began again, or nothing but the stage is another
 
-abbrev OnlyRested : Which → State → State → Type 0
-OnlyRested which s v = OnlyStage (with_pipe s which rested) v
+abbrev OnlyRested : ServedEndpoint → State → State → Type 0
+OnlyRested which s v = OnlyStage (with_endpoint_state s which rested) v
 
-registers_kept : (which : Which) (s : State) → (with_pipe s which rested).registers ≡ s.registers
+registers_kept : (which : ServedEndpoint) (s : State) → (with_endpoint_state s which rested).registers ≡ s.registers
 registers_kept which s = grind arith
 
 -- a status stage that gives no address leaves the registers
 pub given_registers : (address : Option ℕ) (s v : State) → address ≡ None → StatusGiven address s v → v.registers ≡ s.registers
 given_registers address s v e x = grind arith
 
-module _ (request : Setup) (which : Which) (s : State) (is : outcome s.spec s.registers request ≡ unhalts which) where
+module _ (request : Setup) (which : ServedEndpoint) (s : State) (is : outcome s.spec s.registers request ≡ unhalts which) where
   accepted_rests : (row : List PortState) (v : State) → OnlyControl (accepted s row request) v → v.registers ≡ (accepted s row request).registers → OnlyRested which s v
   accepted_rests row v o e = grind (arith, only_stage, registers_kept)
 

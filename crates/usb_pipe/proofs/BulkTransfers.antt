@@ -6,10 +6,11 @@ use Rattle.std.specs.Global.{Vec}
 use Rattle.std.specs.Int.{div_ceil}
 use Rattle.std.proofs.lemmas.List.{take_min}
 use Rattle.usb_packet.specs.declared.Toggle.{Toggle}
-use Rattle.usb_device.specs.Bulk.{other, advanced}
+use Rattle.usb_packet.specs.Toggles.{other}
+use Rattle.usb_device.specs.Bulk.{advanced}
 use Rattle.usb_device.specs.Rows.{State}
 use Rattle.usb_device.specs.Progress.{IsSink, SinkAt, level, ahead, Joined, OnlySink, IsSource, SourceAt, OnlySource}
-use Rattle.usb_world.specs.Passes.{IsSettled}
+use Rattle.usb_world.specs.AttemptPackets.{IsSettled}
 use Rattle.usb_world.specs.World.{World}
 use Rattle.usb_world.specs.Devices.{EachWas}
 use Rattle.usb_world.proofs.Interface.{each_joined, each_none, each_wider}
@@ -27,7 +28,7 @@ use Rattle.usb_transaction.proofs.Interface.{source_at_kept, source_kept, source
 use Rattle.usb_pipe.specs.declared.condition.Condition.TheVariants.{Ready, Halted, Broken}
 use Rattle.usb_pipe.specs.declared.fault.PipeFault.{PipeFault}
 use Rattle.usb_pipe.specs.declared.fault.PipeFault.TheVariants as pipe_fault
-use Rattle.usb_pipe.specs.Bulk.{Bulk, after_fault, Sent, Sends, Received, Receives}
+use Rattle.usb_pipe.specs.Bulk.{Bulk, after_fault, MovedOut, Sends, MovedIn, Receives}
 use Rattle.usb_pipe.specs.Control.{FaultAfter, as_pipe_fault}
 use Rattle.usb_pipe.specs.End.{packet_target}
 use Rattle.usb_pipe.specs.Failures.{WhySend, WhyReceive}
@@ -162,7 +163,7 @@ module _ (bytes : List ℕ) (pipe left : Bulk) (n : ℕ) (works : pipe.condition
 -- A call that sends
 
 sent_leaves : (bytes : List ℕ) (pipe : Bulk) (result : Result (Unit {0}) PipeFault) (left : Bulk) (old new : World) → pipe.condition ≢ Broken → bytes ≢ []
-    → Sent (div_ceil (length bytes) pipe.max) bytes pipe old result left new → new.shared ≡ false → EachWas (SendLeaves bytes pipe result left) old new
+    → MovedOut (div_ceil (length bytes) pipe.max) bytes pipe old result left new → new.shared ≡ false → EachWas (SendLeaves bytes pipe result left) old new
 sent_leaves bytes pipe (Ok done) left old new works some x single =
     let turned : left.toggle ≡ flips x.went.packets pipe.toggle = x.toggle ∙ ap (λ k. flips k pipe.toggle) (gave_packets (end_of pipe) pipe.ep pipe.toggle x.went.gone some) in
     each_wider _ _ (all_sent bytes pipe left x.went.packets works done some x.pipe_left turned) old new (gave_leaves (end_of pipe) pipe.ep pipe.toggle x.settled x.went.gone single)
@@ -362,7 +363,7 @@ module _ (wanted : ℕ) (pipe : Bulk) (n : ℕ) (got : List ℕ) (why : PipeFaul
 -- A call that receives
 
 module _ (wanted : ℕ) (pipe left : Bulk) (old new : World) (least : 1 ≤ pipe.max) (single : new.shared ≡ false) where
-  received_leaves : (result : Result (Vec ℕ) PipeFault) → pipe.condition ≢ Broken → Received wanted pipe old result left new → EachWas (ReceiveLeaves pipe result left) old new
+  received_leaves : (result : Result (Vec ℕ) PipeFault) → pipe.condition ≢ Broken → MovedIn wanted pipe old result left new → EachWas (ReceiveLeaves pipe result left) old new
   received_leaves (Ok bytes) works x =
       let g : AllCame (end_of pipe) pipe.ep pipe.toggle wanted old bytes.items new = x.came in
       let turned : left.toggle ≡ flips (g.packets + 1) pipe.toggle = x.toggle ∙ ap (λ k. flips k pipe.toggle) (all_packets g least) in

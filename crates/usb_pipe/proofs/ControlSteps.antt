@@ -13,10 +13,10 @@ use Rattle.usb_device.specs.Progress.{OnlyControl, OnlyStage}
 use Rattle.usb_device.specs.Rows.{State, Reply, forgotten, is_busy}
 use Rattle.usb_device.specs.Transfer.{reading, max_packet, packet_at, toggle_at}
 use Rattle.usb_device.specs.Tree.{row_of, Spot}
-use Rattle.usb_device.specs.declared.transfer.Giver.TheVariants as by
+use Rattle.usb_device.specs.declared.transfer.InEndpoint.TheVariants as by
 use Rattle.usb_world.specs.Courses.{is_harmless}
 use Rattle.usb_world.specs.Devices.{Relation, EachWas, DidIn, Was}
-use Rattle.usb_world.specs.Passes.{IsSettled}
+use Rattle.usb_world.specs.AttemptPackets.{IsSettled}
 use Rattle.usb_world.specs.Wire.{damage_of}
 use Rattle.usb_world.specs.World.{World}
 use Rattle.usb_world.specs.declared.types.Attempt.{Attempt}

@@ -25,7 +25,7 @@ use Rattle.usb_device.proofs.Interface.{packets_joined-is, packets_joined-whole,
 use Rattle.usb_world.specs.Courses.{is_harmless}
 use Rattle.usb_world.specs.Devices.{Relation, EachWas}
 use Rattle.usb_world.specs.Losses.{one_more}
-use Rattle.usb_world.specs.Passes.{IsSettled}
+use Rattle.usb_world.specs.AttemptPackets.{IsSettled}
 use Rattle.usb_world.specs.Paths.{address_of}
 use Rattle.usb_world.specs.Steps.{Course}
 use Rattle.usb_world.specs.World.{World, Spends}
@@ -40,7 +40,7 @@ use Rattle.usb_transaction.specs.Losses.{begins_no_stretch, LossesIn}
 use Rattle.usb_transaction.specs.Losses as transaction
 use Rattle.usb_transaction.specs.SparedDevices.{EachSpared}
 use Rattle.usb_transaction.specs.Trail.{Transacted}
-use Rattle.usb_transaction.specs.Transactions.{setup_attempt, Worked}
+use Rattle.usb_transaction.specs.Transactions.{setup_attempt, Worked, transaction_bound}
 use Rattle.usb_transaction.specs.declared.fault.TransFault.{TransFault}
 use Rattle.usb_transaction.specs.declared.fault.TransFault.TheVariants as trans
 use Rattle.usb_transaction.specs.declared.target.Target.{Target}
@@ -722,10 +722,10 @@ onward_none t wanted got w trace some none = rw none (record {
 })
 
 -- one packet more, whatever it brings
-pub onward_went : {t : Target} {wanted : ℕ} {old mid new : World} {before r s : Option (List ℕ)} {got : List ℕ} {toggle : Toggle} → Onward t wanted old before got toggle mid r → WentOn 768 mid r new s
-    → WentOn (768 + byte_bound t.max * wanted) old before new s
+pub onward_went : {t : Target} {wanted : ℕ} {old mid new : World} {before r s : Option (List ℕ)} {got : List ℕ} {toggle : Toggle} → Onward t wanted old before got toggle mid r → WentOn transaction_bound mid r new s
+    → WentOn (transaction_bound + byte_bound t.max * wanted) old before new s
 onward_went {t} {wanted} {old} {mid} {new} {got = got} o went = record {
-  spends = spends_wider (byte_bound t.max * length got + 768) _ old new (spends_then (byte_bound t.max * length got) 768 old mid new o.spends went.spends)
+  spends = spends_wider (byte_bound t.max * length got + transaction_bound) _ old new (spends_then (byte_bound t.max * length got) transaction_bound old mid new o.spends went.spends)
       (omega (arith, bound_grows t.max (length got) wanted (omega (arith, o.few))));
   traced = traced_then o.traced went.traced;
 }
@@ -741,7 +741,7 @@ goes_on : (size max got wanted : ℕ) → ends_stage size max got wanted ≡ fal
 goes_on size max got wanted e = (grind (arith, nat_tests, e), grind (arith, nat_tests, e))
 
 pub onward_more : {t : Target} {wanted : ℕ} {old mid new : World} {before r s : Option (List ℕ)} {got kept : List ℕ} {toggle next : Toggle} (bytes : List ℕ) → 1 ≤ t.max → Onward t wanted old before got toggle mid r
-    → Asks t toggle mid (Ok bytes) new → IsSettled mid.roots → Worked 1 mid new → WentOn 768 mid r new s → kept ≡ got ++ take (wanted - length got) bytes → ends_stage (length bytes) t.max (length kept) wanted ≡ false → next ≡ other toggle
+    → Asks t toggle mid (Ok bytes) new → IsSettled mid.roots → Worked 1 mid new → WentOn transaction_bound mid r new s → kept ≡ got ++ take (wanted - length got) bytes → ends_stage (length bytes) t.max (length kept) wanted ≡ false → next ≡ other toggle
     → Onward t wanted old before kept next new s
 onward_more {t} {wanted} {old} {mid} {new} {got = got} {kept} {toggle} {next} bytes least o asks settled worked went is more f =
     let on = goes_on (length bytes) t.max (length kept) wanted more in
@@ -753,7 +753,7 @@ onward_more {t} {wanted} {old} {mid} {new} {got = got} {kept} {toggle} {next} by
       goes = rw whole (packet bytes o.goes (subst (λ x. Asks t x mid (Ok bytes) new) o.turned asks) (subst (λ x. ends_stage (length bytes) t.max (length x) wanted ≡ false) whole more));
       turned = flips_more o.packets One toggle next o.turned f;
       few = on.1;
-      spends = spends_wider (byte_bound t.max * length got + 768) _ old new (spends_then (byte_bound t.max * length got) 768 old mid new o.spends went.spends) (full_packet t.max (length got) (length kept) least grown);
+      spends = spends_wider (byte_bound t.max * length got + transaction_bound) _ old new (spends_then (byte_bound t.max * length got) transaction_bound old mid new o.spends went.spends) (full_packet t.max (length got) (length kept) least grown);
       sound = λ _. o.sound worked.sound;
       back = λ _. o.back settled;
       traced = traced_then o.traced went.traced;

@@ -1,5 +1,5 @@
 -- The lemmas that crates above cite. All others are for this crate alone.
-pub use Rattle.usb_pipe.proofs.Answerers.{who_polls, who_read_had, who_reads, who_sends, who_writes}
+pub use Rattle.usb_pipe.proofs.Answerers.{who_polls, who_read_had, who_reads, who_receives, who_sends, who_writes}
 pub use Rattle.usb_pipe.proofs.Attempts.{poll_attempts, read_attempts, receive_attempts, send_attempts, write_attempts}
 pub use Rattle.usb_pipe.proofs.Bounds.{bound_wide}
 pub use Rattle.usb_pipe.proofs.BulkClears.{asks_in, asks_out, clear_leaves, clear_of, given_registers, harmless, two_bytes}

@@ -3,7 +3,6 @@ pub mod Interface
 pub mod TransactionFaults
 pub mod BulkCalls
 pub mod MovedPackets
-pub mod SettledWorlds
 pub mod ControlSteps
 pub mod Attempts
 pub mod InterruptPolls

@@ -7,13 +7,13 @@ use Rattle.std.proofs.lemmas.Grind.{div_ceil_times}
 use Rattle.std.proofs.lemmas.List.{take_min}
 use Rattle.std.proofs.lemmas.Nat.{div-mul-add, le-div}
 use Rattle.usb_packet.specs.declared.Toggle.{Toggle}
-use Rattle.usb_device.specs.Bulk.{other}
-use Rattle.usb_world.specs.Passes.{IsSettled}
+use Rattle.usb_packet.specs.Toggles.{other}
+use Rattle.usb_world.specs.AttemptPackets.{IsSettled}
 use Rattle.usb_world.specs.World.{World}
 use Rattle.usb_bus.specs.Traces.{WentOn}
 use Rattle.usb_bus.proofs.Interface.{went_none, went_then, went_wider}
 use Rattle.usb_transaction.specs.Calls.{AsksIn, SendsOut}
-use Rattle.usb_transaction.specs.Transactions.{Ends, Worked}
+use Rattle.usb_transaction.specs.Transactions.{Ends, Worked, transaction_bound}
 use Rattle.usb_transaction.specs.declared.target.Target.{Target}
 use Rattle.usb_transaction.specs.declared.fault.TransFault.{TransFault}
 use Rattle.usb_pipe.specs.Bulk.{packets_of, Turned}
@@ -32,7 +32,7 @@ flips_more n first toggle next e f = rw (add-one n) (f ∙ ap other e)
 
 -- n packets were moved
 pub record Moved (n : ℕ) (first toggle : Toggle) (old : World) (t : Option (List ℕ)) (now : World) (r : Option (List ℕ)) : Type 0 where
-  pub went : WentOn (768 * n) old t now r
+  pub went : WentOn (transaction_bound * n) old t now r
   pub least : old.attempts + n ≤ now.attempts
   pub sound : now.fault ≡ None → old.fault ≡ None
   pub still : 0 < n → now.fault ≡ None
@@ -53,14 +53,14 @@ moved_none first w t = record {
 }
 
 module _ {n : ℕ} {first toggle : Toggle} {old mid : World} {t r : Option (List ℕ)} (m : Moved n first toggle old t mid r) where
-  pub moved_all : {more : ℕ} → n ≤ more → WentOn (768 * more) old t mid r
-  moved_all {more} le = went_wider (768 * n) (768 * more) m.went (omega (arith, le))
+  pub moved_all : {more : ℕ} → n ≤ more → WentOn (transaction_bound * more) old t mid r
+  moved_all {more} le = went_wider (transaction_bound * n) (transaction_bound * more) m.went (omega (arith, le))
 
   -- one packet more, whether it was moved or not
-  pub moved_went : {more : ℕ} {new : World} {s : Option (List ℕ)} → n < more → WentOn 768 mid r new s → WentOn (768 * more) old t new s
-  moved_went {more} lt w = went_wider (768 * n + 768) (768 * more) (went_then (768 * n) 768 m.went w) (omega (arith, lt))
+  pub moved_went : {more : ℕ} {new : World} {s : Option (List ℕ)} → n < more → WentOn transaction_bound mid r new s → WentOn (transaction_bound * more) old t new s
+  moved_went {more} lt w = went_wider (transaction_bound * n + transaction_bound) (transaction_bound * more) (went_then (transaction_bound * n) transaction_bound m.went w) (omega (arith, lt))
 
-  moved_more : (next : Toggle) {new : World} {s : Option (List ℕ)} → IsSettled mid.roots → WentOn 768 mid r new s → Worked 1 mid new → next ≡ other toggle → Moved (n + 1) first next old t new s
+  moved_more : (next : Toggle) {new : World} {s : Option (List ℕ)} → IsSettled mid.roots → WentOn transaction_bound mid r new s → Worked 1 mid new → next ≡ other toggle → Moved (n + 1) first next old t new s
   moved_more next h w worked e = grind (arith, moved_went, flips_more)
 
   worked_then : {k : ℕ} {new : World} → Worked k mid new → Worked k old new
@@ -125,7 +125,7 @@ going_none t ep first total w text = record { packets = 0; sent = []; before = s
 module _ (t : Target) (ep : ℕ) (first : Toggle) (total : List ℕ) (least : 1 ≤ t.max) {old : World} {text : Option (List ℕ)} where
   -- all are sent
   pub all_sent : {now : World} {written : Option (List ℕ)} {rest : List ℕ} {toggle : Toggle} → 0 < length total → rest ≡ [] → Going t ep first total old text rest toggle now written
-      → PacketsSent t ep first total old (Ok tt) toggle now × WentOn (768 * div_ceil (length total) t.max) old text now written
+      → PacketsSent t ep first total old (Ok tt) toggle now × WentOn (transaction_bound * div_ceil (length total) t.max) old text now written
   all_sent {now} some none g =
       let gone : Gave t ep first old g.packets total now = subst (λ x. Gave t ep first old g.packets x now) (sym (g.split ∙ ap (λ x. g.sent ++ x) none ∙ append-nil g.sent)) g.before in
       let count : div_ceil (length total) t.max ≡ g.packets = gave_packets t ep first gone (λ e. let l : length total ≡ 0 = ap length e in omega (arith, l)) in
@@ -143,7 +143,7 @@ module _ (t : Target) (ep : ℕ) (first : Toggle) (total : List ℕ) (least : 1 
 
   -- a packet, as many of the bytes that are left as fit
   module _ {mid new : World} {between written : Option (List ℕ)} {rest bytes : List ℕ} {toggle next : Toggle} (k : ℕ) (some : 0 < length rest) (is : k ≡ min (length rest) t.max) (front : bytes ≡ take k rest)
-      (g : Going t ep first total old text rest toggle mid between) (went : WentOn 768 mid between new written) where
+      (g : Going t ep first total old text rest toggle mid between) (went : WentOn transaction_bound mid between new written) where
     pub going_more : {after given : List ℕ} → after ≡ drop k rest → SendsOut t ep toggle bytes mid (Ok given) new → next ≡ other toggle → Going t ep first total old text after next new written
     going_more back x e =
         let j = length-append g.sent (take k rest) in
@@ -161,7 +161,7 @@ module _ (t : Target) (ep : ℕ) (first : Toggle) (total : List ℕ) (least : 1 
 
     -- one that does not go
     pub lost_sent : (fault : TransFault) (result : Result (Unit {0}) PipeFault) → IsErr result → IsErrAnd result (λ why. why ≡ as_pipe_fault fault) → result ≢ Err Memory → SendsOut t ep toggle bytes mid (Err fault) new → next ≡ toggle
-        → PacketsSent t ep first total old result next new × WentOn (768 * div_ceil (length total) t.max) old text new written
+        → PacketsSent t ep first total old result next new × WentOn (transaction_bound * div_ceil (length total) t.max) old text new written
     lost_sent fault (Err why) err said room x same =
         let size : k ≡ min t.max (length rest) = omega (arith, is) in
         let fitting : take k rest ≡ take t.max rest = rw size (take_min t.max rest) in
@@ -224,7 +224,7 @@ module _ (t : Target) (ep : ℕ) (first : Toggle) {old : World} {text : Option (
           all_received (record { packets = n; few = omega (arith, all); got = got; mid = mid; before = c; last = last; came = came; fits = omega (arith, full); kept = is; ends = inl all }) m
 
   -- a packet behind them
-  module _ {n : ℕ} {got : List ℕ} {mid new : World} {between written : Option (List ℕ)} {toggle next : Toggle} (few : n < wanted) (c : Coming t ep first old text n got toggle mid between) (went : WentOn 768 mid between new written) where
+  module _ {n : ℕ} {got : List ℕ} {mid new : World} {between written : Option (List ℕ)} {toggle next : Toggle} (few : n < wanted) (c : Coming t ep first old text n got toggle mid between) (went : WentOn transaction_bound mid between new written) where
     -- that came
     module _ {last front kept : List ℕ} (x : AsksIn t ep toggle mid (Ok last) new) (e : next ≡ other toggle) (same : front ≡ last) (is : kept ≡ got ++ front) where
       pub coming_more : {m : ℕ} → m ≡ n + 1 → length last ≡ t.max → Coming t ep first old text m kept next new written

@@ -5,7 +5,7 @@ use Rattle.std.specs.Int.{div_ceil}
 use Rattle.usb_packet.specs.declared.Toggle.{Toggle}
 use Rattle.usb_packet.specs.declared.Toggle.TheVariants.{Zero}
 use Rattle.usb_world.specs.World.{World}
-use Rattle.usb_world.specs.Passes.{IsSettled}
+use Rattle.usb_world.specs.AttemptPackets.{IsSettled}
 use Rattle.usb_transaction.specs.declared.target.Target.{Target}
 use Rattle.usb_transaction.specs.Transactions.{Worked}
 use Rattle.usb_pipe.specs.declared.condition.Condition.{Condition}
@@ -13,6 +13,7 @@ use Rattle.usb_pipe.specs.declared.condition.Condition.TheVariants.{Ready, Halte
 use Rattle.usb_pipe.specs.declared.fault.PipeFault.{PipeFault}
 use Rattle.usb_pipe.specs.declared.fault.PipeFault.TheVariants.{Stalled, Busy, NoAnswer, Bus, Memory}
 use Rattle.usb_pipe.specs.declared.fault.PipeFault.TheVariants as fault
+use Rattle.usb_request.specs.Codes.{DIRECTION_IN}
 use Rattle.usb_request.specs.Requests.{clear_endpoint_halt}
 use Rattle.usb_pipe.specs.Control.{FaultAfter}
 use Rattle.usb_pipe.specs.Toggles.{flips}
@@ -40,7 +41,7 @@ is_broken Broken = true
 
 -- the address of an endpoint: IN 2 is 82 hex
 abbrev pub halt_address : ℕ → Bool → ℕ
-halt_address ep is_in = if is_in then 128 + ep else ep
+halt_address ep is_in = if is_in then DIRECTION_IN + ep else ep
 
 -- the condition that a transfer leaves
 abbrev pub after_fault : Condition → PipeFault → Condition
@@ -81,7 +82,7 @@ pub record Idle {A : Type 0} (given : Result A PipeFault) (pipe : Bulk) (old : W
   pub world_kept : new ≡ old
 
 -- these bytes were sent, in n packets
-pub record Sent (n : ℕ) (bytes : List ℕ) (pipe : Bulk) (old : World) (result : Result (Unit {0}) PipeFault) (left : Bulk) (new : World) : Type 0 where
+pub record MovedOut (n : ℕ) (bytes : List ℕ) (pipe : Bulk) (old : World) (result : Result (Unit {0}) PipeFault) (left : Bulk) (new : World) : Type 0 where
   pub ends : MatchResult result (λ _. Worked n old new) (λ why. FaultAfter 0 old why new)
   pub went : SendEnds (packet_target pipe.target pipe.max) pipe.ep pipe.toggle bytes old result new
   pub settled : IsSettled old.roots
@@ -94,10 +95,10 @@ pub record Sent (n : ℕ) (bytes : List ℕ) (pipe : Bulk) (old : World) (result
 pub record Sends (bytes : List ℕ) (pipe : Bulk) (old : World) (result : Result (Unit {0}) PipeFault) (left : Bulk) (new : World) : Type 0 where
   pub broken : pipe.condition ≡ Broken → Idle (Err fault.Broken) pipe old result left new
   pub nothing : pipe.condition ≢ Broken → bytes ≡ [] → Idle (Ok tt) pipe old result left new
-  pub moved : pipe.condition ≢ Broken → bytes ≢ [] → Sent (div_ceil (length bytes) pipe.max) bytes pipe old result left new
+  pub moved : pipe.condition ≢ Broken → bytes ≢ [] → MovedOut (div_ceil (length bytes) pipe.max) bytes pipe old result left new
 
 -- at most `wanted` packets were received
-pub record Received (wanted : ℕ) (pipe : Bulk) (old : World) (result : Result (Vec ℕ) PipeFault) (left : Bulk) (new : World) : Type 0 where
+pub record MovedIn (wanted : ℕ) (pipe : Bulk) (old : World) (result : Result (Vec ℕ) PipeFault) (left : Bulk) (new : World) : Type 0 where
   pub ends : MatchResult result (λ bytes. Worked (packets_of (length bytes.items) pipe.max wanted) old new) (λ why. FaultAfter 0 old why new)
   pub came : ReceiveEnds (packet_target pipe.target pipe.max) pipe.ep pipe.toggle wanted old result new
   pub settled : IsSettled old.roots
@@ -110,7 +111,7 @@ pub record Received (wanted : ℕ) (pipe : Bulk) (old : World) (result : Result 
 pub record Receives (wanted : ℕ) (pipe : Bulk) (old : World) (result : Result (Vec ℕ) PipeFault) (left : Bulk) (new : World) : Type 0 where
   pub broken : pipe.condition ≡ Broken → (result ≡ Err fault.Broken) × (left ≡ pipe) × (new ≡ old)
   pub nothing : pipe.condition ≢ Broken → wanted ≡ 0 → MatchResult result (λ bytes. bytes.items ≡ []) (λ _. ⊥) × (left ≡ pipe) × (new ≡ old)
-  pub moved : pipe.condition ≢ Broken → wanted ≢ 0 → Received wanted pipe old result left new
+  pub moved : pipe.condition ≢ Broken → wanted ≢ 0 → MovedIn wanted pipe old result left new
 
 -- what a clear leaves of a pipe
 abbrev pub cleared : Bulk → Result (Unit {0}) PipeFault → Bulk

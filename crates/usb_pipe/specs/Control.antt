@@ -3,7 +3,7 @@ use Rattle.std.specs.Prelude.{ℕ, ◌+◌, ◌*◌, Bool, ◌||◌, nat_lt, nat
 use Rattle.usb_world.specs.World.{World, Failed}
 use Rattle.usb_transaction.specs.declared.fault.TransFault.{TransFault}
 use Rattle.usb_transaction.specs.declared.fault.TransFault.TheVariants.{Stalled as TransStalled, Busy as TransBusy, NoAnswer as TransNoAnswer, Bus as TransBus}
-use Rattle.usb_transaction.specs.Transactions.{Worked}
+use Rattle.usb_transaction.specs.Transactions.{Worked, error_limit, transaction_bound, wait_limit}
 use Rattle.usb_pipe.specs.declared.fault.PipeFault.{PipeFault}
 use Rattle.usb_pipe.specs.declared.fault.PipeFault.TheVariants.{Stalled, Busy, NoAnswer, Broken, Bus, Memory}
 
@@ -17,8 +17,8 @@ as_pipe_fault (TransBus fault) = Bus fault
 -- how few attempts can have come before each fault, where at least n were made before the last transaction
 abbrev pub FaultAfter : ℕ → World → PipeFault → World → Type 0
 FaultAfter n old Stalled new = Worked (n + 1) old new
-FaultAfter n old Busy new = Worked (n + 256) old new
-FaultAfter n old NoAnswer new = Worked 3 old new
+FaultAfter n old Busy new = Worked (n + wait_limit) old new
+FaultAfter n old NoAnswer new = Worked error_limit old new
 FaultAfter n old Broken new = ⊥
 FaultAfter n old (Bus fault) new = Failed fault new
 FaultAfter n old Memory new = Worked (n + 1) old new
@@ -29,8 +29,12 @@ ends_stage size max got wanted = nat_lt size max || nat_le wanted got
 
 -- the most attempts for each byte of a data stage
 unfoldable pub byte_bound : ℕ → ℕ
-byte_bound max = if nat_le 8 max then 100 else 768
+byte_bound max = if nat_le 8 max then 100 else transaction_bound
+
+-- the most attempts of a control transfer without data
+abbrev pub write_bound : ℕ
+write_bound = 1600
 
 -- the most attempts of a control transfer that reads `length` bytes
 unfoldable pub control_bound : ℕ → ℕ → ℕ
-control_bound max length = 1600 + byte_bound max * length
+control_bound max length = write_bound + byte_bound max * length

@@ -8,7 +8,7 @@ use Rattle.usb_request.specs.declared.setup.Setup.{Setup}
 use Rattle.usb_request.specs.Layout.{bytes_of}
 use Rattle.usb_port.specs.PortState.{PortState}
 use Rattle.usb_device.specs.Spec.{Spec}
-use Rattle.usb_device.specs.declared.bulk.Pipe.{Pipe}
+use Rattle.usb_device.specs.declared.bulk.EndpointState.{EndpointState}
 use Rattle.usb_device.specs.Request.{outcome, takes_address}
 use Rattle.usb_device.specs.Transfer.{first_stage, reading, ending, refused as stage_refused, max_packet}
 use Rattle.usb_device.specs.Rows.{State, accepted}
@@ -211,7 +211,7 @@ got_after pipe got (Ok done) s = if is_ready pipe.condition then got else s.plac
 got_after pipe got (Err fault) s = got
 
 -- an endpoint as it was, or begun again where a clear that was sent is done; where it failed, either
-abbrev pub BegunAgain : Bulk → Result (Unit {0}) PipeFault → Pipe → Pipe → Type 0
+abbrev pub BegunAgain : Bulk → Result (Unit {0}) PipeFault → EndpointState → EndpointState → Type 0
 BegunAgain pipe (Ok done) before after = after ≡ (if is_ready pipe.condition then before else rested)
 BegunAgain pipe (Err fault) before after = (after ≡ before) ⊎ (after ≡ rested)
 

@@ -9,6 +9,7 @@ use crate::{PipeFault, Setup};
 use std::alloc::Global;
 use std::marker::Model;
 use usb_packet::Toggle;
+use usb_request::endpoint_address::DIRECTION_IN;
 use usb_transaction::{Bus, Target};
 
 /// A pipe to one bulk endpoint of a device: it moves packets one way, each once and in their order.
@@ -43,9 +44,10 @@ impl BulkPipe {
     ghost use Rattle.std.specs.Int.{div_ceil};
     ghost use Rattle.usb_packet.specs.declared.Toggle.TheVariants.{Zero};
     ghost use Rattle.usb_bus.specs.Traces.{Went};
-    ghost use Rattle.usb_transaction.specs.Transactions.{IsTarget};
+    ghost use Rattle.usb_transaction.specs.Transactions.{IsTarget, transaction_bound};
     ghost use Rattle.usb_pipe.specs.declared.condition.Condition.TheVariants.{Ready};
     ghost use Rattle.usb_pipe.specs.Bulk.{Bulk, Cleared};
+    ghost use Rattle.usb_pipe.specs.Control.{write_bound};
     ghost use Rattle.usb_pipe.specs.End.{packet_target};
     ghost use Rattle.usb_pipe.specs.Transfers.{BulkSend, BulkReceive, BulkClear};
 
@@ -89,7 +91,7 @@ impl BulkPipe {
     pub fn send<B: Bus>(&mut self, bus: &mut B, bytes: &[u8]) -> Result<(), PipeFault>
         requires writes { self.old.is_in ≡ false }
         ensures went { Went B.world B.trace
-            (768 * div_ceil (length bytes.now) self.old.max) bus.old bus.new }
+            (transaction_bound * div_ceil (length bytes.now) self.old.max) bus.old bus.new }
         ensures transfer { BulkSend bytes.now self.old
             (B.world bus.old) result self.new (B.world bus.new) }
     {
@@ -121,7 +123,7 @@ impl BulkPipe {
         packets: u16,
     ) -> Result<Vec<u8>, PipeFault>
         requires reads { self.old.is_in ≡ true }
-        ensures went { Went B.world B.trace (768 * packets) bus.old bus.new }
+        ensures went { Went B.world B.trace (transaction_bound * packets) bus.old bus.new }
         ensures transfer { BulkReceive packets self.old
             (B.world bus.old) result self.new (B.world bus.new) }
     {
@@ -155,7 +157,7 @@ impl BulkPipe {
     /// the device may have cleared its halt; `Bus` where the bus makes no more steps. It never
     /// answers `Broken` or `Memory`.
     pub fn clear_halt<B: Bus>(&mut self, bus: &mut B) -> Result<(), PipeFault>
-        ensures went { Went B.world B.trace 1600 bus.old bus.new }
+        ensures went { Went B.world B.trace write_bound bus.old bus.new }
         ensures transfer { BulkClear self.old
             (B.world bus.old) result self.new (B.world bus.new) }
     {
@@ -166,7 +168,7 @@ impl BulkPipe {
     }
 
     fn request_clear<B: Bus>(&mut self, bus: &mut B) -> Result<(), PipeFault>
-        ensures went { Went B.world B.trace 1600 bus.old bus.new }
+        ensures went { Went B.world B.trace write_bound bus.old bus.new }
         ensures clears { Cleared self.old (B.world bus.old) result self.new (B.world bus.new) }
     {
         let request = Setup::clear_endpoint_halt(halt_address(self.ep, self.is_in));
@@ -199,5 +201,5 @@ fn halt_address(ep: u8, is_in: bool) -> u8
     requires { ep < 16 }
     ensures { result ≡ halt_address ep is_in }
 {
-    if is_in { 0x80 + ep } else { ep }
+    if is_in { DIRECTION_IN + ep } else { ep }
 }

@@ -3,7 +3,7 @@ ghost use Rattle.std.specs.Prelude.{◌≡◌, ◌≤◌};
 ghost use Rattle.usb_bus.specs.Traces.{Went};
 ghost use Rattle.usb_request.specs.Layout.{IsToHost, IsToDevice};
 ghost use Rattle.usb_transaction.specs.Transactions.{IsTarget};
-ghost use Rattle.usb_pipe.specs.Control.{control_bound};
+ghost use Rattle.usb_pipe.specs.Control.{control_bound, write_bound};
 ghost use Rattle.usb_pipe.specs.Transfers.{ControlRead, ControlWrite};
 
 use crate::PipeFault;
@@ -62,7 +62,7 @@ pub fn control_none<B: Bus>(bus: &mut B, target: Target, setup: Setup) -> Result
     requires target { IsTarget target }
     requires writes { IsToDevice setup }
     requires none { setup.length ≡ 0 }
-    ensures went { Went B.world B.trace 1600 bus.old bus.new }
+    ensures went { Went B.world B.trace write_bound bus.old bus.new }
     ensures transfer { ControlWrite target setup
         (B.world bus.old) result (B.world bus.new) }
 {

@@ -32,7 +32,7 @@ impl InterruptPipe {
     ghost use Rattle.std.specs.Prelude.{◌≡◌, ◌<◌, ◌≤◌};
     ghost use Rattle.usb_packet.specs.declared.Toggle.TheVariants.{Zero};
     ghost use Rattle.usb_bus.specs.Traces.{Went};
-    ghost use Rattle.usb_transaction.specs.Transactions.{IsTarget};
+    ghost use Rattle.usb_transaction.specs.Transactions.{IsTarget, transaction_bound};
     ghost use Rattle.usb_pipe.specs.End.{packet_target};
     ghost use Rattle.usb_pipe.specs.Interrupt.{Interrupt};
     ghost use Rattle.usb_pipe.specs.Transfers.{InterruptPoll};
@@ -61,7 +61,7 @@ impl InterruptPipe {
     /// `Stalled` at STALL, `Busy` at the 256th repeat, `NoAnswer` after three errors running, `Bus`
     /// where the bus makes no more steps. It never answers `Broken` or `Memory`.
     pub fn poll<B: Bus>(&mut self, bus: &mut B) -> Result<Option<ArrayVec<u8, 64>>, PipeFault>
-        ensures went { Went B.world B.trace 768 bus.old bus.new }
+        ensures went { Went B.world B.trace transaction_bound bus.old bus.new }
         ensures transfer { InterruptPoll self.old
             (B.world bus.old) result self.new (B.world bus.new) }
     {

@@ -9,7 +9,7 @@ ghost use Rattle.std.specs.Global.{Vec as AVec};
 ghost use Rattle.usb_request.specs.declared.setup.Setup.{Setup as ARequest};
 ghost use Rattle.usb_request.specs.Layout.{IsToHost, bytes_of, setup_of};
 ghost use Rattle.usb_request.specs.Requests.{clear_endpoint_halt};
-ghost use Rattle.usb_world.specs.Passes.{IsSettled};
+ghost use Rattle.usb_world.specs.AttemptPackets.{IsSettled};
 ghost use Rattle.usb_world.specs.World.{World};
 ghost use Rattle.usb_world.specs.Courses.{is_harmless};
 ghost use Rattle.usb_world.specs.Devices.{EachWas};
@@ -39,8 +39,8 @@ pub fn what_is_so_while_sending()
 {}
 
 /// A transfer that ended in a STALL, in too many NAKs and repeats, or with data for which there was
-/// no memory, was answered by a device, and one had the target's address before. (PORT_RESET sent to
-/// address 0 apart.)
+/// no memory, was answered by a device, and one had the target's address before. (PORT_RESET sent
+/// to address 0 apart.)
 pub fn who_had_the_address_of_a_transfer()
     ensures reads { (t : ATarget) (request : ARequest) (fault : AFault) (old new : World)
         → IsToHost request → setup_of (bytes_of request) ≡ request
@@ -63,8 +63,8 @@ pub fn who_had_the_address_of_a_transfer()
 {}
 
 /// A control transfer attempts nothing but SETUPs of just its request, and behind them INs of
-/// endpoint 0 and OUTs of no bytes to it (8.5.3). Where the bus gave up, it was one of these that it
-/// refused.
+/// endpoint 0 and OUTs of no bytes to it (8.5.3). Where the bus gave up, it was one of these that
+/// it refused.
 pub fn what_a_control_transfer_attempts()
     ensures reads { (t : ATarget) (request : ARequest) (result : Result (AVec ℕ) AFault)
         (old new : World) → Reads t request old result new
@@ -78,12 +78,13 @@ pub fn what_a_control_transfer_attempts()
         (clear_endpoint_halt (halt_address pipe.ep pipe.is_in))) old result new }
 {}
 
-/// A pipe attempts nothing but OUTs of its next packets, or INs of its endpoint (5.7, 5.8). Where the
-/// bus gave up, it was one of these that it refused.
+/// A pipe attempts nothing but OUTs of its next packets, or INs of its endpoint (5.7, 5.8). Where
+/// the bus gave up, it was one of these that it refused.
 pub fn what_a_pipe_attempts()
     ensures sends { (bytes : List ℕ) (pipe : ABulk) (result : Result (Unit {0}) AFault)
         (left : ABulk) (old new : World) → Sends bytes pipe old result left new
-        → TransferAttempts (SendsAt (packet_target pipe.target pipe.max) pipe.ep pipe.toggle bytes old)
+        → TransferAttempts
+        (SendsAt (packet_target pipe.target pipe.max) pipe.ep pipe.toggle bytes old)
         old result new }
     ensures receives { (wanted : ℕ) (pipe : ABulk) (result : Result (AVec ℕ) AFault)
         (left : ABulk) (old new : World) → Receives wanted pipe old result left new

@@ -2,7 +2,7 @@
 ghost use Rattle.std.specs.Prelude.{◌*◌, ◌<◌, length};
 ghost use Rattle.std.specs.Int.{div_ceil};
 ghost use Rattle.usb_bus.specs.Traces.{Went};
-ghost use Rattle.usb_transaction.specs.Transactions.{IsTarget};
+ghost use Rattle.usb_transaction.specs.Transactions.{IsTarget, transaction_bound};
 ghost use Rattle.usb_pipe.specs.Packets.{PacketsSent, PacketsReceived};
 
 use crate::PipeFault;
@@ -22,7 +22,7 @@ pub(crate) fn send_packets<B: Bus>(
     requires endpoint { ep < 16 }
     requires some { 0 < length bytes.now }
     ensures went { Went B.world B.trace
-        (768 * div_ceil (length bytes.now) target.max) bus.old bus.new }
+        (transaction_bound * div_ceil (length bytes.now) target.max) bus.old bus.new }
     ensures sent { PacketsSent target ep toggle.old bytes.now
         (B.world bus.old) result toggle.new (B.world bus.new) }
 {
@@ -47,7 +47,7 @@ pub(crate) fn receive_packets<B: Bus>(
     requires target { IsTarget target }
     requires endpoint { ep < 16 }
     requires some { 0 < wanted }
-    ensures went { Went B.world B.trace (768 * wanted) bus.old bus.new }
+    ensures went { Went B.world B.trace (transaction_bound * wanted) bus.old bus.new }
     ensures received { PacketsReceived target ep toggle.old wanted
         (B.world bus.old) result toggle.new (B.world bus.new) }
 {

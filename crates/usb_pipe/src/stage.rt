@@ -1,8 +1,8 @@
 //! The data stage of a control transfer that reads.
 ghost use Rattle.std.specs.Prelude.{◌≡◌, ◌-◌, ◌+◌, ◌*◌, ◌<◌, ◌≤◌, ◌++◌, take, length, OnOk, IfOk, MatchResult};
 ghost use Rattle.usb_bus.specs.Traces.{Went};
-ghost use Rattle.usb_world.specs.Passes.{IsSettled};
-ghost use Rattle.usb_transaction.specs.Transactions.{IsTarget, Worked};
+ghost use Rattle.usb_world.specs.AttemptPackets.{IsSettled};
+ghost use Rattle.usb_transaction.specs.Transactions.{IsTarget, Worked, transaction_bound};
 ghost use Rattle.usb_pipe.specs.Control.{FaultAfter, byte_bound, ends_stage};
 ghost use Rattle.usb_pipe.specs.Stages.{DataEnds};
 
@@ -21,7 +21,8 @@ pub(crate) fn data_stage<B: Bus>(
 ) -> Result<Vec<u8>, PipeFault>
     requires target { IsTarget target }
     requires some { 0 < wanted }
-    ensures went { Went B.world B.trace (768 + byte_bound target.max * wanted) bus.old bus.new }
+    ensures went { Went B.world B.trace
+        (transaction_bound + byte_bound target.max * wanted) bus.old bus.new }
     ensures ends { MatchResult result (λ _. Worked 1 (B.world bus.old) (B.world bus.new))
         (λ fault. FaultAfter 0 (B.world bus.old) fault (B.world bus.new)) }
     ensures packets { DataEnds target wanted (B.world bus.old) result (B.world bus.new) }

@@ -5,18 +5,19 @@ use Rattle.std.proofs.lemmas.List.{drop_all}
 use Rattle.toml.specs.Data.{as_table}
 use Rattle.toml.specs.declared.value.Value.{Value}
 use Rattle.toml.specs.View.{view}
-use Rattle.usb_plan.specs.declared.kind.Kind.{Kind}
+use Rattle.usb_plan.specs.declared.entry_fault.EntryFault.{EntryFault}
 use Rattle.usb_plan.specs.declared.fault.Place.TheVariants as place
 use Rattle.usb_plan.specs.declared.fault.PlanFault.{PlanFault}
 use Rattle.usb_world.specs.declared.event.Event.{Event}
-use Rattle.usb_plan.specs.Kind.{placed}
+use Rattle.usb_plan.specs.EntryFault.{entry_at}
 use Rattle.usb_device.specs.Spec.{Spec}
 use Rattle.usb_world.specs.declared.damage.Damage.{Damage}
 use Rattle.usb_world.specs.PluggedDevices.{PluggedMap, plugged_by, plugged_after}
 use Rattle.usb_world.specs.PlanData.{event_fits, events_fit, damage_fits, damages_fit}
 use Rattle.usb_plan.specs.Device.{device_in, devices_from}
+use Rattle.usb_plan.specs.Scene.{scene_after}
 use Rattle.usb_plan.specs.Event.{event_in, events_from}
-use Rattle.usb_plan.specs.Damage.{damage_given, last_from, damages_from}
+use Rattle.usb_plan.specs.Damage.{damage_entry, last_from, damages_from}
 use Rattle.usb_plan.proofs.Steps.{view_drop}
 
 pub events_fit-push : (roots : ℕ) (devices : List Spec) (tree : PluggedMap) (events : List Event) (e : Event) → events_fit roots devices tree events ≡ true → event_fits roots devices (plugged_by tree events) e ≡ true → events_fit roots devices tree (events ++ e ∷ []) ≡ true
@@ -39,19 +40,19 @@ damages_fit-push last (x ∷ damages) d h new =
     let parts = and_parts (damage_fits last x) (damages_fit x.attempt damages) h in
     rw (parts.0, damages_fit-push x.attempt damages d parts.1 new)
 
-pub devices_from-step : (done : List Spec) (vs : List Value) (i : ℕ) (v : Value) (r : Result Spec Kind) (s : Spec) (total : Result (List Spec) PlanFault) → i < length vs → v ≡ get_or vs i v → r ≡ device_in done (as_table (view v)) → placed (place.Device (i + 1)) r ≡ Ok s
+pub devices_from-step : (done : List Spec) (vs : List Value) (i : ℕ) (v : Value) (r : Result Spec EntryFault) (s : Spec) (total : Result (List Spec) PlanFault) → i < length vs → v ≡ get_or vs i v → r ≡ device_in done (as_table (view v)) → entry_at (place.Device (i + 1)) r ≡ Ok s
     → devices_from (i + 1) done (map view (drop i vs)) ≡ total → devices_from (i + 1 + 1) (done ++ s ∷ []) (map view (drop (i + 1) vs)) ≡ total
 unfolding devices_from
 devices_from-step done vs i v r s total lt is e ok so_far =
-    let good : placed (place.Device (i + 1)) (device_in done (as_table (view v))) ≡ Ok s = rw (← e) ok in
+    let good : entry_at (place.Device (i + 1)) (device_in done (as_table (view v))) ≡ Ok s = rw (← e) ok in
     let one : devices_from (i + 1) done (map view (drop i vs)) ≡ devices_from (i + 1 + 1) (done ++ s ∷ []) (map view (drop (i + 1) vs)) = rw (view_drop vs i v lt is, good) refl in
     sym one ∙ so_far
 
-pub devices_from-fault : (done : List Spec) (vs : List Value) (i : ℕ) (v : Value) (r : Result Spec Kind) (f : PlanFault) (total : Result (List Spec) PlanFault) → i < length vs → v ≡ get_or vs i v → r ≡ device_in done (as_table (view v)) → placed (place.Device (i + 1)) r ≡ Err f
+pub devices_from-fault : (done : List Spec) (vs : List Value) (i : ℕ) (v : Value) (r : Result Spec EntryFault) (f : PlanFault) (total : Result (List Spec) PlanFault) → i < length vs → v ≡ get_or vs i v → r ≡ device_in done (as_table (view v)) → entry_at (place.Device (i + 1)) r ≡ Err f
     → devices_from (i + 1) done (map view (drop i vs)) ≡ total → Err f ≡ total
 unfolding devices_from
 devices_from-fault done vs i v r f total lt is e err so_far =
-    let bad : placed (place.Device (i + 1)) (device_in done (as_table (view v))) ≡ Err f = rw (← e) err in
+    let bad : entry_at (place.Device (i + 1)) (device_in done (as_table (view v))) ≡ Err f = rw (← e) err in
     let one : devices_from (i + 1) done (map view (drop i vs)) ≡ Err f = rw (view_drop vs i v lt is, bad) refl in
     sym one ∙ so_far
 
@@ -59,19 +60,19 @@ pub devices_from-end : (n : ℕ) (done : List Spec) (vs : List Value) (i : ℕ) 
 unfolding devices_from
 devices_from-end n done vs i le = rw (drop_all i vs le)
 
-pub events_from-step : (roots : ℕ) (specs : List Spec) (done : List Event) (vs : List Value) (i : ℕ) (v : Value) (r : Result Event Kind) (s : Event) (total : Result (List Event) PlanFault) → i < length vs → v ≡ get_or vs i v → r ≡ event_in roots specs (plugged_by [] done) (length done) (as_table (view v)) → placed (place.Event (i + 1)) r ≡ Ok s
+pub events_from-step : (roots : ℕ) (specs : List Spec) (done : List Event) (vs : List Value) (i : ℕ) (v : Value) (r : Result Event EntryFault) (s : Event) (total : Result (List Event) PlanFault) → i < length vs → v ≡ get_or vs i v → r ≡ event_in (scene_after roots specs done) (length done) (as_table (view v)) → entry_at (place.Event (i + 1)) r ≡ Ok s
     → events_from roots specs (i + 1) done (map view (drop i vs)) ≡ total → events_from roots specs (i + 1 + 1) (done ++ s ∷ []) (map view (drop (i + 1) vs)) ≡ total
 unfolding events_from
 events_from-step roots specs done vs i v r s total lt is e ok so_far =
-    let good : placed (place.Event (i + 1)) (event_in roots specs (plugged_by [] done) (length done) (as_table (view v))) ≡ Ok s = rw (← e) ok in
+    let good : entry_at (place.Event (i + 1)) (event_in (scene_after roots specs done) (length done) (as_table (view v))) ≡ Ok s = rw (← e) ok in
     let one : events_from roots specs (i + 1) done (map view (drop i vs)) ≡ events_from roots specs (i + 1 + 1) (done ++ s ∷ []) (map view (drop (i + 1) vs)) = rw (view_drop vs i v lt is, good) refl in
     sym one ∙ so_far
 
-pub events_from-fault : (roots : ℕ) (specs : List Spec) (done : List Event) (vs : List Value) (i : ℕ) (v : Value) (r : Result Event Kind) (f : PlanFault) (total : Result (List Event) PlanFault) → i < length vs → v ≡ get_or vs i v → r ≡ event_in roots specs (plugged_by [] done) (length done) (as_table (view v)) → placed (place.Event (i + 1)) r ≡ Err f
+pub events_from-fault : (roots : ℕ) (specs : List Spec) (done : List Event) (vs : List Value) (i : ℕ) (v : Value) (r : Result Event EntryFault) (f : PlanFault) (total : Result (List Event) PlanFault) → i < length vs → v ≡ get_or vs i v → r ≡ event_in (scene_after roots specs done) (length done) (as_table (view v)) → entry_at (place.Event (i + 1)) r ≡ Err f
     → events_from roots specs (i + 1) done (map view (drop i vs)) ≡ total → Err f ≡ total
 unfolding events_from
 events_from-fault roots specs done vs i v r f total lt is e err so_far =
-    let bad : placed (place.Event (i + 1)) (event_in roots specs (plugged_by [] done) (length done) (as_table (view v))) ≡ Err f = rw (← e) err in
+    let bad : entry_at (place.Event (i + 1)) (event_in (scene_after roots specs done) (length done) (as_table (view v))) ≡ Err f = rw (← e) err in
     let one : events_from roots specs (i + 1) done (map view (drop i vs)) ≡ Err f = rw (view_drop vs i v lt is, bad) refl in
     sym one ∙ so_far
 
@@ -79,19 +80,19 @@ pub events_from-end : (roots : ℕ) (specs : List Spec) (n : ℕ) (done : List E
 unfolding events_from
 events_from-end roots specs n done vs i le = rw (drop_all i vs le)
 
-pub damages_from-step : (done : List Damage) (vs : List Value) (i : ℕ) (v : Value) (r : Result Damage Kind) (s : Damage) (total : Result (List Damage) PlanFault) → i < length vs → v ≡ get_or vs i v → r ≡ damage_given (last_from 0 done) (length done) (as_table (view v)) → placed (place.Damage (i + 1)) r ≡ Ok s
+pub damages_from-step : (done : List Damage) (vs : List Value) (i : ℕ) (v : Value) (r : Result Damage EntryFault) (s : Damage) (total : Result (List Damage) PlanFault) → i < length vs → v ≡ get_or vs i v → r ≡ damage_entry (last_from 0 done) (length done) (as_table (view v)) → entry_at (place.Damage (i + 1)) r ≡ Ok s
     → damages_from (i + 1) done (map view (drop i vs)) ≡ total → damages_from (i + 1 + 1) (done ++ s ∷ []) (map view (drop (i + 1) vs)) ≡ total
 unfolding damages_from
 damages_from-step done vs i v r s total lt is e ok so_far =
-    let good : placed (place.Damage (i + 1)) (damage_given (last_from 0 done) (length done) (as_table (view v))) ≡ Ok s = rw (← e) ok in
+    let good : entry_at (place.Damage (i + 1)) (damage_entry (last_from 0 done) (length done) (as_table (view v))) ≡ Ok s = rw (← e) ok in
     let one : damages_from (i + 1) done (map view (drop i vs)) ≡ damages_from (i + 1 + 1) (done ++ s ∷ []) (map view (drop (i + 1) vs)) = rw (view_drop vs i v lt is, good) refl in
     sym one ∙ so_far
 
-pub damages_from-fault : (done : List Damage) (vs : List Value) (i : ℕ) (v : Value) (r : Result Damage Kind) (f : PlanFault) (total : Result (List Damage) PlanFault) → i < length vs → v ≡ get_or vs i v → r ≡ damage_given (last_from 0 done) (length done) (as_table (view v)) → placed (place.Damage (i + 1)) r ≡ Err f
+pub damages_from-fault : (done : List Damage) (vs : List Value) (i : ℕ) (v : Value) (r : Result Damage EntryFault) (f : PlanFault) (total : Result (List Damage) PlanFault) → i < length vs → v ≡ get_or vs i v → r ≡ damage_entry (last_from 0 done) (length done) (as_table (view v)) → entry_at (place.Damage (i + 1)) r ≡ Err f
     → damages_from (i + 1) done (map view (drop i vs)) ≡ total → Err f ≡ total
 unfolding damages_from
 damages_from-fault done vs i v r f total lt is e err so_far =
-    let bad : placed (place.Damage (i + 1)) (damage_given (last_from 0 done) (length done) (as_table (view v))) ≡ Err f = rw (← e) err in
+    let bad : entry_at (place.Damage (i + 1)) (damage_entry (last_from 0 done) (length done) (as_table (view v))) ≡ Err f = rw (← e) err in
     let one : damages_from (i + 1) done (map view (drop i vs)) ≡ Err f = rw (view_drop vs i v lt is, bad) refl in
     sym one ∙ so_far
 

@@ -1,16 +1,15 @@
 -- What follows where the parts of an entry are good.
-use Rattle.std.proofs.Common.{◌≡◌, ◌+◌, ℕ, ℤ, pos, negsuc, ◌<◌, ◌≤◌, List, [], ◌∷◌, length, Bool, true, false, ◌&&◌, ◌||◌, cond, Option, Some, None, Result, Ok, Err, refl, ap, sym, ◌∙◌, not, IfOk, IfSome, arith, codes, nat_le, nat_lt, ◌==◌, position, inl, inr, ◌⊎◌}
+use Rattle.std.proofs.Common.{◌≡◌, ◌+◌, ◌-◌, ◌^◌, ℕ, ℤ, pos, negsuc, ◌<◌, ◌≤◌, List, [], ◌∷◌, length, Bool, true, false, ◌&&◌, ◌||◌, cond, Option, Some, None, ok_or, Result, Ok, Err, refl, ap, sym, ◌∙◌, not, IfOk, IfSome, arith, codes, nat_le, nat_lt, ◌==◌, inl, inr, ◌⊎◌, slice_get, zero, suc}
 use Rattle.std.proofs.lemmas.Bool.{and_parts, or_parts, leb-true, ltb-true, lt-ltb, le-leb}
 use Rattle.std.proofs.lemmas.List.Quantifiers.{position-Some}
-use Rattle.std.specs.List.{AllByRecursion}
 use Rattle.std.specs.Str.{bytes_eq}
-use Rattle.toml.specs.Data.{Data, Members, get_member, as_str, as_integer}
+use Rattle.toml.specs.Data.{Data, Members, get_member, as_integer}
 use Rattle.usb_port.specs.Path.{path_of}
-use Rattle.usb_plan.specs.declared.kind.Kind.{Kind}
-use Rattle.usb_plan.specs.declared.kind.Kind.TheVariants.{BadValue, BadPath, PortTaken, PortEmpty}
+use Rattle.usb_plan.specs.declared.entry_fault.EntryFault.{EntryFault}
+use Rattle.usb_plan.specs.declared.entry_fault.EntryFault.TheVariants.{MissingKey, BadValue, UnknownDevice, BadPath, PortTaken, PortEmpty}
 use Rattle.usb_plan.specs.declared.plan.Top.{Top}
 use Rattle.usb_plan.specs.declared.device.Identity.{Identity}
-use Rattle.usb_plan.specs.declared.device.Content.{Content}
+use Rattle.usb_plan.specs.declared.device.DeviceTexts.{DeviceTexts}
 use Rattle.usb_plan.specs.declared.quirks.Quirks.{Quirks}
 use Rattle.usb_plan.specs.declared.bulk.Bulk.{Bulk}
 use Rattle.usb_plan.specs.declared.fault.Place.{Place}
@@ -20,82 +19,91 @@ use Rattle.usb_world.specs.declared.event.Action.TheVariants.{Plug, Unplug, Show
 use Rattle.usb_world.specs.declared.damage.Damage.{Damage}
 use Rattle.usb_world.specs.declared.damage.Harm.{Harm}
 use Rattle.usb_world.specs.declared.damage.Harm.TheVariants.{Lose, LosePre, Flip}
-use Rattle.usb_world.specs.PluggedDevices.{PluggedMap, is_rooted, has_port}
+use Rattle.usb_plan.specs.Scene.{SceneData}
+use Rattle.usb_world.specs.PluggedDevices.{is_rooted, has_port}
 use Rattle.usb_plan.specs.declared.verb.Verb.{Verb}
 use Rattle.usb_plan.specs.declared.verb.Verb.TheVariants as verb
 use Rattle.usb_plan.specs.declared.damage.Way.{Way}
 use Rattle.usb_plan.specs.declared.damage.Way.TheVariants as way
-use Rattle.usb_plan.specs.Kind.{part_fault, sooner, least_fault, placed, ◌>>=◌}
-use Rattle.usb_plan.specs.Value.{number_in, number_at, number_or}
+use Rattle.usb_plan.specs.EntryFault.{fault_in_part, sooner, least_fault, entry_at, ◌>>=◌}
+use Rattle.usb_plan.specs.Value.{read_text, number_in, number_at, number_or}
 use Rattle.usb_device.specs.Spec.{Spec, Hub, hub_fits, has_hub_class, function, is_named}
-use Rattle.usb_plan.specs.Hub.{class_at, hub_at, no_hub, low_read, is_other}
+use Rattle.usb_plan.specs.Hub.{class_at, hub_at, no_hub, is_low_speed, is_other}
 use Rattle.usb_device.specs.declared.spec.Stalls.{Stalls}
 use Rattle.usb_plan.specs.Quirks.{quirks_with, quirks_of, naks_at}
-use Rattle.usb_plan.specs.Bulk.{bulk_with, bulk_keys, halt_at, halt_in}
+use Rattle.usb_plan.specs.Bulk.{bulk_with, read_bulk, halt_at, halt_in}
 use Rattle.usb_world.specs.PlanData.{is_taken, action_fits, event_fits, harm_fits, damage_fits}
 use Rattle.usb_plan.specs.Device as device
-use Rattle.usb_plan.specs.Device.{name_in, name_at, speed_at, descriptor_at, with_quirks, with_halt, with_hub, named_device, HubFits, FewNaks, HaltsLater, identity_with, identity_of, made, device_with, device_described, device_in}
-use Rattle.usb_plan.specs.Path.{rooted, path_read, rooted_path, free, taken}
+use Rattle.usb_plan.specs.Device.{name_in, name_at, speed_at, descriptor_at, with_quirks, with_halt, with_hub, named_device, HubFits, FewNaks, HaltsLater, identity_with, identity_of, device_of_parts, device_with, read_device, device_in}
+use Rattle.usb_plan.specs.Path.{read_path, free_path, taken_path}
 use Rattle.usb_plan.specs.Verb.{verb_at}
 use Rattle.usb_plan.specs.Action as action
-use Rattle.usb_plan.specs.Action.{device_known, device_named, device_key, bytes_at, packets_at, plug_of, unplug_of, send_of, receive_of, clear_of, action_of, keys_of}
+use Rattle.usb_plan.specs.Action.{device_index_at, bytes_at, packets_at, plug_of, unplug_of, send_of, receive_of, clear_of, action_of, keys_of}
 use Rattle.usb_plan.specs.Event.{after_at, event_room, event_with, event_of, event_in}
 use Rattle.usb_plan.specs.Damage as damage
-use Rattle.usb_plan.specs.Damage.{attempt_at, packet_key, way_at, no_bit, bit_key, harm_of, harm_by, damage_with, damage_described, damage_given}
+use Rattle.usb_plan.specs.Damage.{attempt_at, packet_number, way_at, no_bit, flip_at, harm_of, harm_by, damage_with, read_damage, damage_entry}
 use Rattle.usb_plan.specs.Plan.{limit_at, roots_at, top_with, top_of, TopFits}
 
--- what was good before the rest was asked for
-pub bind_ok : {A B E : Type 0} (r : Result A E) (f : A → Result B E) (y : B) → r >>= f ≡ Ok y → (x : A) × (r ≡ Ok x) × (f x ≡ Ok y)
-bind_ok (Ok x) f y h = (x, refl, h)
+-- a value was good, and what was asked for after it
+pub record IsGoodThen {A B E : Type 0} (r : Result A E) (f : A → Result B E) (y : B) : Type 0 where
+  pub value : A
+  pub good : r ≡ Ok value
+  pub rest : f value ≡ Ok y
+
+pub bind_ok : {A B E : Type 0} (r : Result A E) (f : A → Result B E) (y : B) → r >>= f ≡ Ok y → IsGoodThen r f y
+bind_ok (Ok x) f y h = record { value = x; good = refl; rest = h }
 bind_ok (Err e) f y h = cc
 
-no_fault : {A : Type 0} (r : Result A Kind) → part_fault r ≡ None → (x : A) × (r ≡ Ok x)
-unfolding part_fault
+ok_or_some : {A : Type 0} (o : Option A) (k : EntryFault) (x : A) → ok_or o k ≡ Ok x → o ≡ Some x
+ok_or_some None k x h = cc
+ok_or_some (Some a) k x h = cc
+
+no_fault : {A : Type 0} (r : Result A EntryFault) → fault_in_part r ≡ None → (x : A) × (r ≡ Ok x)
+unfolding fault_in_part
 no_fault (Ok x) h = (x, refl)
 no_fault (Err k) h = cc
 
-sooner_ok : (f : Option Kind) (others : Result (Unit {0}) Kind) (u : Unit {0}) → sooner f others ≡ Ok u → (f ≡ None) × (others ≡ Ok u)
+sooner_ok : (f : Option EntryFault) (others : Result (Unit {0}) EntryFault) (u : Unit {0}) → sooner f others ≡ Ok u → (f ≡ None) × (others ≡ Ok u)
 unfolding sooner
 sooner_ok None others u h = (refl, h)
 sooner_ok (Some k) (Ok v) u h = cc
 sooner_ok (Some k) (Err l) u h = cc
 
--- where nothing is told, no part has a fault
-pub told_ok : (fs : List (Option Kind)) (u : Unit {0}) → least_fault fs ≡ Ok u → AllByRecursion (λ f. f ≡ None) fs
+-- where nothing is told, the part at an index is good
+good_part : {A : Type 0} (fs : List (Option EntryFault)) (u : Unit {0}) (i : ℕ) (r : Result A EntryFault) → least_fault fs ≡ Ok u → slice_get fs i ≡ Some (fault_in_part r) → (x : A) × (r ≡ Ok x)
 unfolding least_fault
-told_ok [] u h = tt
-told_ok (f ∷ fs) u h = let parts = sooner_ok f (least_fault fs) u h in (parts.0, told_ok fs u parts.1)
+good_part [] u i r h at = cc
+good_part (f ∷ fs) u zero r h at = let same : f ≡ fault_in_part r = cc at in no_fault r (sym same ∙ (sooner_ok f (least_fault fs) u h).0)
+good_part (f ∷ fs) u (suc i) r h at = good_part fs u i r (sooner_ok f (least_fault fs) u h).1 at
 
-pub placed_ok : {A : Type 0} (p : Place) (r : Result A Kind) (x : A) → placed p r ≡ Ok x → r ≡ Ok x
-unfolding placed
-placed_ok p (Ok a) x h = cc
-placed_ok p (Err k) x h = cc
+pub entry_at_ok : {A : Type 0} (p : Place) (r : Result A EntryFault) (x : A) → entry_at p r ≡ Ok x → r ≡ Ok x
+unfolding entry_at
+entry_at_ok p (Ok a) x h = cc
+entry_at_ok p (Err k) x h = cc
 
 -- which way a test went
 pub chosen : {X : Type 0} (b : Bool) (x y z : X) → cond b x y ≡ z → ((b ≡ true) × (x ≡ z)) ⊎ ((b ≡ false) × (y ≡ z))
 chosen true x y z h = inl (refl, h)
 chosen false x y z h = inr (refl, h)
 
-ok_if : {A : Type 0} (b : Bool) (x : Result A Kind) (k : Kind) (y : A) → cond b x (Err k) ≡ Ok y → (b ≡ true) × (x ≡ Ok y)
+ok_if : {A : Type 0} (b : Bool) (x : Result A EntryFault) (k : EntryFault) (y : A) → cond b x (Err k) ≡ Ok y → (b ≡ true) × (x ≡ Ok y)
 ok_if true x k y h = (refl, h)
 ok_if false x k y h = cc
 
-ok_unless : {A : Type 0} (b : Bool) (x : Result A Kind) (k : Kind) (y : A) → cond b (Err k) x ≡ Ok y → (b ≡ false) × (x ≡ Ok y)
+ok_unless : {A : Type 0} (b : Bool) (x : Result A EntryFault) (k : EntryFault) (y : A) → cond b (Err k) x ≡ Ok y → (b ≡ false) × (x ≡ Ok y)
 ok_unless false x k y h = (refl, h)
 ok_unless true x k y h = cc
 
-name_in_ok : (earlier : List Spec) (o : Option (List ℕ)) (n : List ℕ) → name_in earlier o ≡ Ok n → is_named earlier n ≡ false
+name_in_ok : (earlier : List Spec) (text n : List ℕ) → name_in earlier text ≡ Ok n → is_named earlier n ≡ false
 unfolding name_in
-name_in_ok earlier None n h = cc
-name_in_ok earlier (Some text) n h =
+name_in_ok earlier text n h =
     let test = ok_unless (length text == 0 || is_named earlier text) (Ok text) BadValue n h in
     let same : text ≡ n = cc test.1 in
     rw (← same) ((or_parts (length text == 0) (is_named earlier text) test.0).1)
 
 name_at_ok : (earlier : List Spec) (o : Option Data) (n : List ℕ) → name_at earlier o ≡ Ok n → is_named earlier n ≡ false
 unfolding name_at
-name_at_ok earlier None n h = cc
-name_at_ok earlier (Some d) n h = name_in_ok earlier (as_str d) n h
+name_at_ok earlier o n h = let text = bind_ok (read_text o) _ n h in name_in_ok earlier text.value n text.rest
 
 device_room_ok : (earlier : List Spec) (u : Unit {0}) → device.device_room earlier ≡ Ok u → length earlier < 127
 unfolding device.device_room
@@ -113,8 +121,7 @@ number_in_ok low high (Some (pos m)) n h =
 
 pub number_at_ok : (low high : ℕ) (o : Option Data) (n : ℕ) → number_at low high o ≡ Ok n → (low ≤ n) × (n ≤ high)
 unfolding number_at
-number_at_ok low high None n h = cc
-number_at_ok low high (Some d) n h = number_in_ok low high (as_integer d) n h
+number_at_ok low high o n h = let d = bind_ok (ok_or o MissingKey) _ n h in number_in_ok low high (as_integer d.value) n d.rest
 
 pub number_or_ok : (absent low high : ℕ) (o : Option Data) (n : ℕ) → absent ≤ high → number_or absent low high o ≡ Ok n → n ≤ high
 unfolding number_or
@@ -131,9 +138,9 @@ unfolding with_halt
 halt_name None s = refl
 halt_name (Some packets) s = refl
 
-made_name : (i : Identity) (c : Content) (q : Quirks) (b : Bulk) → (made i c q b).name ≡ i.name
-unfolding made with_quirks
-made_name i c q b = halt_name b.halt_after _ ∙ hub_name i.hub (named_device i c)
+device_of_parts_name : (i : Identity) (c : DeviceTexts) (q : Quirks) (b : Bulk) → (device_of_parts i c q b).name ≡ i.name
+unfolding device_of_parts with_quirks
+device_of_parts_name i c q b = halt_name b.halt_after _ ∙ hub_name i.hub (named_device i c)
 
 -- the device may stand after the earlier ones
 pub record Joins (earlier : List Spec) (s : Spec) : Type 0 where
@@ -144,27 +151,27 @@ naks_at_ok : (o : Option Data) (n : ℕ) → naks_at o ≡ Ok n → n ≤ 200
 unfolding naks_at
 naks_at_ok o n h = number_or_ok 0 0 200 o n (omega arith) h
 
-quirks_with_ok : (a b c : Result Bool Kind) (n : Result ℕ Kind) (s : Result Stalls Kind) (q : Quirks) → quirks_with a b c n s ≡ Ok q → n ≡ Ok q.naks
+quirks_with_ok : (a b c : Result Bool EntryFault) (n : Result ℕ EntryFault) (s : Result Stalls EntryFault) (q : Quirks) → quirks_with a b c n s ≡ Ok q → n ≡ Ok q.naks
 unfolding quirks_with
 quirks_with_ok a b c n s q h =
     let e0 = bind_ok (least_fault _) _ q h in
-    let e1 = bind_ok a _ q e0.2 in
-    let e2 = bind_ok b _ q e1.2 in
-    let e3 = bind_ok c _ q e2.2 in
-    let e4 = bind_ok n _ q e3.2 in
-    let e5 = bind_ok s _ q e4.2 in
-    let same : e4.0 ≡ q.naks = cc e5.2 in
-    e4.1 ∙ ap Ok same
+    let e1 = bind_ok a _ q e0.rest in
+    let e2 = bind_ok b _ q e1.rest in
+    let e3 = bind_ok c _ q e2.rest in
+    let e4 = bind_ok n _ q e3.rest in
+    let e5 = bind_ok s _ q e4.rest in
+    let same : e4.value ≡ q.naks = cc e5.rest in
+    e4.good ∙ ap Ok same
 
 pub quirks_of_ok : (ms : Members) (q : Quirks) → quirks_of ms ≡ Ok q → FewNaks q
 unfolding quirks_of
 quirks_of_ok ms q h = naks_at_ok (get_member (codes "naks") ms) q.naks (quirks_with_ok _ _ _ _ _ q h)
 
-number_in_least : (low high : ℕ) (r : Result ℕ Kind) (o : Option ℤ) → r ≡ number_in low high o → IfOk r (λ n. low ≤ n)
+number_in_least : (low high : ℕ) (r : Result ℕ EntryFault) (o : Option ℤ) → r ≡ number_in low high o → IfOk r (λ n. low ≤ n)
 number_in_least low high (Ok n) o h = (number_in_ok low high o n (sym h)).0
 number_in_least low high (Err k) o h = tt
 
-halt_in_ok : (r : Result ℕ Kind) (h : Option ℕ) → r >>= (λ n. Ok (Some n)) ≡ Ok h → IfOk r (λ n. 1 ≤ n) → IfSome h (λ n. 1 ≤ n)
+halt_in_ok : (r : Result ℕ EntryFault) (h : Option ℕ) → r >>= (λ n. Ok (Some n)) ≡ Ok h → IfOk r (λ n. 1 ≤ n) → IfSome h (λ n. 1 ≤ n)
 halt_in_ok (Ok n) h e one = let same : Some n ≡ h = cc in rw (← same) one
 halt_in_ok (Err k) h e one = cc
 
@@ -173,21 +180,21 @@ unfolding halt_at halt_in
 halt_at_ok None h e = let same : None ≡ h = cc in rw (← same) tt
 halt_at_ok (Some d) h e = halt_in_ok (number_in 1 65535 (as_integer d)) h e (number_in_least 1 65535 _ (as_integer d) refl)
 
-bulk_with_ok : (s : Result (List ℕ) Kind) (p : Result (Option ℕ) Kind) (b : Bulk) → bulk_with s p ≡ Ok b → p ≡ Ok b.halt_after
+bulk_with_ok : (s : Result (List ℕ) EntryFault) (p : Result (Option ℕ) EntryFault) (b : Bulk) → bulk_with s p ≡ Ok b → p ≡ Ok b.halt_after
 unfolding bulk_with
 bulk_with_ok s p b h =
     let e0 = bind_ok (least_fault _) _ b h in
-    let e1 = bind_ok s _ b e0.2 in
-    let e2 = bind_ok p _ b e1.2 in
-    let same : e2.0 ≡ b.halt_after = cc e2.2 in
-    e2.1 ∙ ap Ok same
+    let e1 = bind_ok s _ b e0.rest in
+    let e2 = bind_ok p _ b e1.rest in
+    let same : e2.value ≡ b.halt_after = cc e2.rest in
+    e2.good ∙ ap Ok same
 
-pub bulk_of_ok : (ms : Members) (b : Bulk) → bulk_keys ms ≡ Ok b → HaltsLater b
-unfolding bulk_keys
-bulk_of_ok ms b h = halt_at_ok (get_member (codes "halt_after") ms) b.halt_after (bulk_with_ok _ _ b h)
+pub read_bulk_ok : (ms : Members) (b : Bulk) → read_bulk ms ≡ Ok b → HaltsLater b
+unfolding read_bulk
+read_bulk_ok ms b h = halt_at_ok (get_member (codes "halt_after") ms) b.halt_after (bulk_with_ok _ _ b h)
 
 class_at_ok : (ports descriptor : Option Data) (low : Bool) (bytes : List ℕ) (u : Unit {0}) (hub : Option Hub) → class_at ports (Ok low) (Ok bytes) ≡ Ok u → hub_at ports descriptor ≡ Ok hub → hub_fits low bytes hub ≡ true
-unfolding class_at hub_at no_hub low_read is_other
+unfolding class_at hub_at no_hub is_low_speed is_other
 class_at_ok None None low bytes u hub c h = let same : None ≡ hub = cc h in rw (← same) refl
 class_at_ok None (Some d) low bytes u hub c h = cc h
 class_at_ok (Some p) descriptor low bytes u None c h = refl
@@ -200,28 +207,28 @@ class_at_ok (Some p) descriptor low bytes u (Some hub) c h =
     fits false false e = cc
     fits true b e = cc
 
-record IdentityIs (name : Result (List ℕ) Kind) (low : Result Bool Kind) (descriptor : Result (List ℕ) Kind) (class : Result (Unit {0}) Kind) (hub : Result (Option Hub) Kind) (i : Identity) : Type 0 where
+record IdentityIs (name : Result (List ℕ) EntryFault) (low : Result Bool EntryFault) (descriptor : Result (List ℕ) EntryFault) (class : Result (Unit {0}) EntryFault) (hub : Result (Option Hub) EntryFault) (i : Identity) : Type 0 where
   name_is : name ≡ Ok i.name
   low_is : low ≡ Ok i.low
   descriptor_is : descriptor ≡ Ok i.descriptor
-  class_is : part_fault class ≡ None
+  class_is : class ≡ Ok tt
   hub_is : hub ≡ Ok i.hub
 
-identity_with_ok : (name : Result (List ℕ) Kind) (low : Result Bool Kind) (descriptor : Result (List ℕ) Kind) (class : Result (Unit {0}) Kind) (hub : Result (Option Hub) Kind) (i : Identity) → identity_with name low descriptor class hub ≡ Ok i → IdentityIs name low descriptor class hub i
+identity_with_ok : (name : Result (List ℕ) EntryFault) (low : Result Bool EntryFault) (descriptor : Result (List ℕ) EntryFault) (class : Result (Unit {0}) EntryFault) (hub : Result (Option Hub) EntryFault) (i : Identity) → identity_with name low descriptor class hub ≡ Ok i → IdentityIs name low descriptor class hub i
 unfolding identity_with
 identity_with_ok name low descriptor class hub i h =
     let e0 = bind_ok (least_fault _) _ i h in
-    let e1 = bind_ok name _ i e0.2 in
-    let e2 = bind_ok low _ i e1.2 in
-    let e3 = bind_ok descriptor _ i e2.2 in
-    let e4 = bind_ok hub _ i e3.2 in
-    let none = told_ok _ e0.0 e0.1 in
+    let e1 = bind_ok name _ i e0.rest in
+    let e2 = bind_ok low _ i e1.rest in
+    let e3 = bind_ok descriptor _ i e2.rest in
+    let e4 = bind_ok hub _ i e3.rest in
+    let class_good = good_part _ e0.value 3 class e0.good refl in
     record {
-      name_is = e1.1 ∙ (let same : e1.0 ≡ i.name = cc e4.2 in ap Ok same);
-      low_is = e2.1 ∙ (let same : e2.0 ≡ i.low = cc e4.2 in ap Ok same);
-      descriptor_is = e3.1 ∙ (let same : e3.0 ≡ i.descriptor = cc e4.2 in ap Ok same);
-      class_is = none.1.1.1.0;
-      hub_is = e4.1 ∙ (let same : e4.0 ≡ i.hub = cc e4.2 in ap Ok same);
+      name_is = e1.good ∙ (let same : e1.value ≡ i.name = cc e4.rest in ap Ok same);
+      low_is = e2.good ∙ (let same : e2.value ≡ i.low = cc e4.rest in ap Ok same);
+      descriptor_is = e3.good ∙ (let same : e3.value ≡ i.descriptor = cc e4.rest in ap Ok same);
+      class_is = class_good.1;
+      hub_is = e4.good ∙ (let same : e4.value ≡ i.hub = cc e4.rest in ap Ok same);
     }
 
 identity_is : (earlier : List Spec) (ms : Members) (i : Identity) → identity_of earlier ms ≡ Ok i → IdentityIs (name_at earlier (get_member (codes "name") ms)) (speed_at (get_member (codes "speed") ms)) (descriptor_at (get_member (codes "descriptor") ms)) (class_at (get_member (codes "ports") ms) (speed_at (get_member (codes "speed") ms)) (descriptor_at (get_member (codes "descriptor") ms))) (hub_at (get_member (codes "ports") ms) (get_member (codes "hub_descriptor") ms)) i
@@ -232,96 +239,78 @@ pub identity_of_ok : (earlier : List Spec) (ms : Members) (i : Identity) → ide
 identity_of_ok earlier ms i h =
     let is = identity_is earlier ms i h in
     let ports = get_member (codes "ports") ms in
-    let class = no_fault _ is.class_is in
-    let good : class_at ports (Ok i.low) (Ok i.descriptor) ≡ Ok class.0 = rw (← is.low_is, ← is.descriptor_is) class.1 in
-    class_at_ok ports (get_member (codes "hub_descriptor") ms) i.low i.descriptor class.0 i.hub good is.hub_is
+    let good : class_at ports (Ok i.low) (Ok i.descriptor) ≡ Ok tt = rw (← is.low_is, ← is.descriptor_is) is.class_is in
+    class_at_ok ports (get_member (codes "hub_descriptor") ms) i.low i.descriptor tt i.hub good is.hub_is
 
-device_with_ok : (earlier : List Spec) (ms : Members) (i : Result Identity Kind) (c : Result Content Kind) (q : Result Quirks Kind) (b : Result Bulk Kind) (keys left : Result (Unit {0}) Kind) (s : Spec) → i ≡ identity_of earlier ms → left ≡ device.device_room earlier → device_with i c q b keys left ≡ Ok s → Joins earlier s
+device_with_ok : (earlier : List Spec) (ms : Members) (i : Result Identity EntryFault) (c : Result DeviceTexts EntryFault) (q : Result Quirks EntryFault) (b : Result Bulk EntryFault) (keys left : Result (Unit {0}) EntryFault) (s : Spec) → i ≡ identity_of earlier ms → left ≡ device.device_room earlier → device_with i c q b keys left ≡ Ok s → Joins earlier s
 unfolding device_with
 device_with_ok earlier ms i c q b keys left s i_is room_is h =
     let e0 = bind_ok (least_fault _) _ s h in
-    let e1 = bind_ok i _ s e0.2 in
-    let e2 = bind_ok c _ s e1.2 in
-    let e3 = bind_ok q _ s e2.2 in
-    let e4 = bind_ok b _ s e3.2 in
-    let none = told_ok _ e0.0 e0.1 in
-    let free = no_fault left none.1.1.1.1.1.0 in
-    let is = identity_is earlier ms e1.0 (sym i_is ∙ e1.1) in
-    let same : made e1.0 e2.0 e3.0 e4.0 ≡ s = cc e4.2 in
-    let name : e1.0.name ≡ s.name = sym (made_name e1.0 e2.0 e3.0 e4.0) ∙ ap (λ t. t.name) same in
+    let e1 = bind_ok i _ s e0.rest in
+    let e2 = bind_ok c _ s e1.rest in
+    let e3 = bind_ok q _ s e2.rest in
+    let e4 = bind_ok b _ s e3.rest in
+    let left_good = good_part _ e0.value 5 left e0.good refl in
+    let is = identity_is earlier ms e1.value (sym i_is ∙ e1.good) in
+    let same : device_of_parts e1.value e2.value e3.value e4.value ≡ s = cc e4.rest in
+    let name : e1.value.name ≡ s.name = sym (device_of_parts_name e1.value e2.value e3.value e4.value) ∙ ap (λ t. t.name) same in
     record {
-      room = device_room_ok earlier free.0 (sym room_is ∙ free.1);
-      new = rw (← name) (name_at_ok earlier (get_member (codes "name") ms) e1.0.name is.name_is);
+      room = device_room_ok earlier left_good.0 (sym room_is ∙ left_good.1);
+      new = rw (← name) (name_at_ok earlier (get_member (codes "name") ms) e1.value.name is.name_is);
     }
 
-device_of_ok : (earlier : List Spec) (ms : Members) (s : Spec) → device_described earlier ms ≡ Ok s → Joins earlier s
-unfolding device_described
-device_of_ok earlier ms s h = device_with_ok earlier ms _ _ _ _ _ _ s refl refl h
+read_device_ok : (earlier : List Spec) (ms : Members) (s : Spec) → read_device earlier ms ≡ Ok s → Joins earlier s
+unfolding read_device
+read_device_ok earlier ms s h = device_with_ok earlier ms _ _ _ _ _ _ s refl refl h
 
 pub device_in_ok : (earlier : List Spec) (o : Option Members) (s : Spec) → device_in earlier o ≡ Ok s → Joins earlier s
 unfolding device_in
-device_in_ok earlier None s h = cc
-device_in_ok earlier (Some ms) s h = device_of_ok earlier ms s h
+device_in_ok earlier o s h = let ms = bind_ok (ok_or o BadValue) _ s h in read_device_ok earlier ms.value s ms.rest
 
-rooted_ok : (roots : ℕ) (o : Option (List ℕ)) (p : List ℕ) → rooted roots o ≡ Ok p → is_rooted roots p ≡ true
-unfolding rooted
-rooted_ok roots None p h = cc
-rooted_ok roots (Some path) p h =
-    let test = ok_if (is_rooted roots path) (Ok path) BadPath p h in
-    let same : path ≡ p = cc test.1 in
+read_path_ok : (scene : SceneData) (o : Option Data) (p : List ℕ) → read_path scene o ≡ Ok p → is_rooted scene.roots p ≡ true
+unfolding read_path
+read_path_ok scene o p h =
+    let text = bind_ok (read_text o) _ p h in
+    let path = bind_ok (ok_or (path_of text.value) BadPath) _ p text.rest in
+    let test = ok_if (is_rooted scene.roots path.value) (Ok path.value) BadPath p path.rest in
+    let same : path.value ≡ p = cc test.1 in
     rw (← same) test.0
 
-path_in_ok : (roots : ℕ) (o : Option (List ℕ)) (p : List ℕ) → path_read roots o ≡ Ok p → is_rooted roots p ≡ true
-unfolding path_read
-path_in_ok roots None p h = cc
-path_in_ok roots (Some text) p h = rooted_ok roots (path_of text) p h
+record FreePath (scene : SceneData) (p : List ℕ) : Type 0 where
+  port : has_port scene.roots scene.devices scene.plugged p ≡ true
+  free : is_taken scene.plugged p ≡ false
 
-path_at_ok : (roots : ℕ) (o : Option Data) (p : List ℕ) → rooted_path roots o ≡ Ok p → is_rooted roots p ≡ true
-unfolding rooted_path
-path_at_ok roots None p h = cc
-path_at_ok roots (Some d) p h = path_in_ok roots (as_str d) p h
-
-record FreePath (roots : ℕ) (devices : List Spec) (tree : PluggedMap) (p : List ℕ) : Type 0 where
-  port : has_port roots devices tree p ≡ true
-  free : is_taken tree p ≡ false
-
-free_ok : (roots : ℕ) (devices : List Spec) (tree : PluggedMap) (r : Result (List ℕ) Kind) (p : List ℕ) → free roots devices tree r ≡ Ok p → FreePath roots devices tree p
-unfolding free
-free_ok roots devices tree (Err k) p h = cc
-free_ok roots devices tree (Ok path) p h =
-    let test = ok_if (has_port roots devices tree path) _ BadPath p h in
-    let empty = ok_unless (is_taken tree path) (Ok path) PortTaken p test.1 in
+free_path_ok : (scene : SceneData) (r : Result (List ℕ) EntryFault) (p : List ℕ) → free_path scene r ≡ Ok p → FreePath scene p
+unfolding free_path
+free_path_ok scene (Err k) p h = cc
+free_path_ok scene (Ok path) p h =
+    let test = ok_unless (not (has_port scene.roots scene.devices scene.plugged path)) _ BadPath p h in
+    let empty = ok_unless (is_taken scene.plugged path) (Ok path) PortTaken p test.1 in
     let same : path ≡ p = cc empty.1 in
-    rw (← same) (record { port = test.0; free = empty.0 })
+    rw (← same) (record { port = not_false (has_port scene.roots scene.devices scene.plugged path) test.0; free = empty.0 })
+  where
+    not_false : (b : Bool) → not b ≡ false → b ≡ true
+    not_false true e = refl
+    not_false false e = cc
 
-taken_ok : (tree : PluggedMap) (r : Result (List ℕ) Kind) (p : List ℕ) → taken tree r ≡ Ok p → (r ≡ Ok p) × (is_taken tree p ≡ true)
-unfolding taken
-taken_ok tree (Err k) p h = cc
-taken_ok tree (Ok path) p h =
-    let test = ok_if (is_taken tree path) (Ok path) PortEmpty p h in
+taken_path_ok : (scene : SceneData) (r : Result (List ℕ) EntryFault) (p : List ℕ) → taken_path scene r ≡ Ok p → (r ≡ Ok p) × (is_taken scene.plugged p ≡ true)
+unfolding taken_path
+taken_path_ok scene (Err k) p h = cc
+taken_path_ok scene (Ok path) p h =
+    let test = ok_if (is_taken scene.plugged path) (Ok path) PortEmpty p h in
     let same : path ≡ p = cc test.1 in
     rw (← same) (refl, test.0)
 
-known_ok : (o : Option ℕ) (i : ℕ) → device_known o ≡ Ok i → o ≡ Some i
-unfolding device_known
-known_ok None i h = cc
-known_ok (Some j) i h = cc
-
-device_named_ok : (specs : List Spec) (o : Option (List ℕ)) (i : ℕ) → device_named specs o ≡ Ok i → i < length specs
-unfolding device_named
-device_named_ok specs None i h = cc
-device_named_ok specs (Some name) i h =
+device_index_at_ok : (scene : SceneData) (o : Option Data) (i : ℕ) → device_index_at scene o ≡ Ok i → i < length scene.devices
+unfolding device_index_at
+device_index_at_ok scene o i h =
+    let name = bind_ok (read_text o) _ i h in
     let none : Spec = function [] [] [] in
-    (position-Some (λ s. bytes_eq s.name name) specs i none (known_ok (position (λ s. bytes_eq s.name name) specs) i h)).0
+    (position-Some (λ s. bytes_eq s.name name.value) scene.devices i none (ok_or_some _ UnknownDevice i name.rest)).0
 
-device_at_ok : (specs : List Spec) (o : Option Data) (i : ℕ) → device_key specs o ≡ Ok i → i < length specs
-unfolding device_key
-device_at_ok specs None i h = cc
-device_at_ok specs (Some d) i h = device_named_ok specs (as_str d) i h
-
-room_ok : (count : ℕ) (u : Unit {0}) → event_room count ≡ Ok u → count < 10000
+event_room_ok : (count : ℕ) (u : Unit {0}) → event_room count ≡ Ok u → count < 10000
 unfolding event_room
-room_ok count u h = ltb-true count 10000 (ok_if (nat_lt count 10000) (Ok tt) BadValue u h).0
+event_room_ok count u h = ltb-true count 10000 (ok_if (nat_lt count 10000) (Ok tt) BadValue u h).0
 
 after_at_ok : (o : Option Data) (n : ℕ) → after_at o ≡ Ok n → n ≤ 1000000000
 unfolding after_at
@@ -332,219 +321,233 @@ unfolding packets_at
 packets_at_ok o n h = (number_at_ok 0 1000 o n h).1
 
 -- the action may come where so much is plugged
-abbrev pub Fits : ℕ → List Spec → PluggedMap → Action → Type 0
-Fits roots devices tree a = action_fits roots devices tree a ≡ true
+abbrev pub Fits : SceneData → Action → Type 0
+Fits scene a = action_fits scene.roots scene.devices scene.plugged a ≡ true
 
-plug_ok : (path : Result (List ℕ) Kind) (device : Result ℕ Kind) (a : Action) → action.plug path device ≡ Ok a → (p : List ℕ) × (d : ℕ) × (path ≡ Ok p) × (device ≡ Ok d) × (Plug p d ≡ a)
+record PlugIs (path : Result (List ℕ) EntryFault) (device : Result ℕ EntryFault) (a : Action) : Type 0 where
+  at : List ℕ
+  index : ℕ
+  path_is : path ≡ Ok at
+  device_is : device ≡ Ok index
+  action_is : Plug at index ≡ a
+
+plug_ok : (path : Result (List ℕ) EntryFault) (device : Result ℕ EntryFault) (a : Action) → action.plug path device ≡ Ok a → PlugIs path device a
 unfolding action.plug
 plug_ok path device a h =
     let e0 = bind_ok (least_fault _) _ a h in
-    let e1 = bind_ok path _ a e0.2 in
-    let e2 = bind_ok device _ a e1.2 in
-    (e1.0, e2.0, e1.1, e2.1, cc e2.2)
+    let e1 = bind_ok path _ a e0.rest in
+    let e2 = bind_ok device _ a e1.rest in
+    record { at = e1.value; index = e2.value; path_is = e1.good; device_is = e2.good; action_is = cc e2.rest }
 
-plug_of_ok : (roots : ℕ) (specs : List Spec) (tree : PluggedMap) (ms : Members) (a : Action) → plug_of roots specs tree ms ≡ Ok a → Fits roots specs tree a
+plug_of_ok : (scene : SceneData) (ms : Members) (a : Action) → plug_of scene ms ≡ Ok a → Fits scene a
 unfolding plug_of
-plug_of_ok roots specs tree ms a h =
-    let made = plug_ok (free roots specs tree (rooted_path roots (get_member (codes "path") ms))) (device_key specs (get_member (codes "device") ms)) a h in
-    let p = made.0 in
-    let d = made.1 in
-    let path = free_ok roots specs tree (rooted_path roots (get_member (codes "path") ms)) p made.2 in
-    let device = lt-ltb d (length specs) (device_at_ok specs (get_member (codes "device") ms) d made.3) in
-    rw (← made.4) (rw (path.port, path.free, device))
+plug_of_ok scene ms a h =
+    let plug = plug_ok (free_path scene (read_path scene (get_member (codes "path") ms))) (device_index_at scene (get_member (codes "device") ms)) a h in
+    let path = free_path_ok scene (read_path scene (get_member (codes "path") ms)) plug.at plug.path_is in
+    let device = lt-ltb plug.index (length scene.devices) (device_index_at_ok scene (get_member (codes "device") ms) plug.index plug.device_is) in
+    rw (← plug.action_is) (rw (path.port, path.free, device))
 
-unplug_of_ok : (roots : ℕ) (specs : List Spec) (tree : PluggedMap) (ms : Members) (a : Action) → unplug_of roots tree ms ≡ Ok a → Fits roots specs tree a
+unplug_of_ok : (scene : SceneData) (ms : Members) (a : Action) → unplug_of scene ms ≡ Ok a → Fits scene a
 unfolding unplug_of
-unplug_of_ok roots specs tree ms a h =
-    let made = bind_ok (taken tree (rooted_path roots (get_member (codes "path") ms))) _ a h in
-    let p = made.0 in
-    let same : Unplug p ≡ a = cc made.2 in
-    let held = taken_ok tree (rooted_path roots (get_member (codes "path") ms)) p made.1 in
-    rw (← same) (rw (path_at_ok roots (get_member (codes "path") ms) p held.0, held.1))
+unplug_of_ok scene ms a h =
+    let path = bind_ok (taken_path scene (read_path scene (get_member (codes "path") ms))) _ a h in
+    let same : Unplug path.value ≡ a = cc path.rest in
+    let held = taken_path_ok scene (read_path scene (get_member (codes "path") ms)) path.value path.good in
+    rw (← same) (rw (read_path_ok scene (get_member (codes "path") ms) path.value held.0, held.1))
 
-send_ok : (path bytes : Result (List ℕ) Kind) (a : Action) → action.send path bytes ≡ Ok a → (p b : List ℕ) × (path ≡ Ok p) × (Send p b ≡ a)
+record SendIs (path : Result (List ℕ) EntryFault) (a : Action) : Type 0 where
+  at : List ℕ
+  sent : List ℕ
+  path_is : path ≡ Ok at
+  action_is : Send at sent ≡ a
+
+send_ok : (path bytes : Result (List ℕ) EntryFault) (a : Action) → action.send path bytes ≡ Ok a → SendIs path a
 unfolding action.send
 send_ok path bytes a h =
     let e0 = bind_ok (least_fault _) _ a h in
-    let e1 = bind_ok path _ a e0.2 in
-    let e2 = bind_ok bytes _ a e1.2 in
-    (e1.0, e2.0, e1.1, cc e2.2)
+    let e1 = bind_ok path _ a e0.rest in
+    let e2 = bind_ok bytes _ a e1.rest in
+    record { at = e1.value; sent = e2.value; path_is = e1.good; action_is = cc e2.rest }
 
-send_of_ok : (roots : ℕ) (specs : List Spec) (tree : PluggedMap) (ms : Members) (a : Action) → send_of roots ms ≡ Ok a → Fits roots specs tree a
+send_of_ok : (scene : SceneData) (ms : Members) (a : Action) → send_of scene ms ≡ Ok a → Fits scene a
 unfolding send_of
-send_of_ok roots specs tree ms a h =
-    let made = send_ok (rooted_path roots (get_member (codes "path") ms)) (bytes_at (get_member (codes "bytes") ms)) a h in
-    rw (← made.3) (path_at_ok roots (get_member (codes "path") ms) made.0 made.2)
+send_of_ok scene ms a h =
+    let send = send_ok (read_path scene (get_member (codes "path") ms)) (bytes_at (get_member (codes "bytes") ms)) a h in
+    rw (← send.action_is) (read_path_ok scene (get_member (codes "path") ms) send.at send.path_is)
 
-receive_ok : (path : Result (List ℕ) Kind) (packets : Result ℕ Kind) (a : Action) → action.receive path packets ≡ Ok a → (p : List ℕ) × (n : ℕ) × (path ≡ Ok p) × (packets ≡ Ok n) × (Receive p n ≡ a)
+record ReceiveIs (path : Result (List ℕ) EntryFault) (packets : Result ℕ EntryFault) (a : Action) : Type 0 where
+  at : List ℕ
+  count : ℕ
+  path_is : path ≡ Ok at
+  packets_is : packets ≡ Ok count
+  action_is : Receive at count ≡ a
+
+receive_ok : (path : Result (List ℕ) EntryFault) (packets : Result ℕ EntryFault) (a : Action) → action.receive path packets ≡ Ok a → ReceiveIs path packets a
 unfolding action.receive
 receive_ok path packets a h =
     let e0 = bind_ok (least_fault _) _ a h in
-    let e1 = bind_ok path _ a e0.2 in
-    let e2 = bind_ok packets _ a e1.2 in
-    (e1.0, e2.0, e1.1, e2.1, cc e2.2)
+    let e1 = bind_ok path _ a e0.rest in
+    let e2 = bind_ok packets _ a e1.rest in
+    record { at = e1.value; count = e2.value; path_is = e1.good; packets_is = e2.good; action_is = cc e2.rest }
 
-receive_of_ok : (roots : ℕ) (specs : List Spec) (tree : PluggedMap) (ms : Members) (a : Action) → receive_of roots ms ≡ Ok a → Fits roots specs tree a
+receive_of_ok : (scene : SceneData) (ms : Members) (a : Action) → receive_of scene ms ≡ Ok a → Fits scene a
 unfolding receive_of
-receive_of_ok roots specs tree ms a h =
-    let made = receive_ok (rooted_path roots (get_member (codes "path") ms)) (packets_at (get_member (codes "packets") ms)) a h in
-    let few = le-leb made.1 1000 (packets_at_ok (get_member (codes "packets") ms) made.1 made.3) in
-    rw (← made.4) (rw (path_at_ok roots (get_member (codes "path") ms) made.0 made.2, few))
+receive_of_ok scene ms a h =
+    let receive = receive_ok (read_path scene (get_member (codes "path") ms)) (packets_at (get_member (codes "packets") ms)) a h in
+    let few = le-leb receive.count 1000 (packets_at_ok (get_member (codes "packets") ms) receive.count receive.packets_is) in
+    rw (← receive.action_is) (rw (read_path_ok scene (get_member (codes "path") ms) receive.at receive.path_is, few))
 
-clear_of_ok : (roots : ℕ) (specs : List Spec) (tree : PluggedMap) (ms : Members) (a : Action) → clear_of roots ms ≡ Ok a → Fits roots specs tree a
+clear_of_ok : (scene : SceneData) (ms : Members) (a : Action) → clear_of scene ms ≡ Ok a → Fits scene a
 unfolding clear_of
-clear_of_ok roots specs tree ms a h =
-    let made = bind_ok (rooted_path roots (get_member (codes "path") ms)) _ a h in
-    let same : Clear made.0 ≡ a = cc made.2 in
-    rw (← same) (path_at_ok roots (get_member (codes "path") ms) made.0 made.1)
+clear_of_ok scene ms a h =
+    let path = bind_ok (read_path scene (get_member (codes "path") ms)) _ a h in
+    let same : Clear path.value ≡ a = cc path.rest in
+    rw (← same) (read_path_ok scene (get_member (codes "path") ms) path.value path.good)
 
-action_of_ok : (v : Verb) (roots : ℕ) (specs : List Spec) (tree : PluggedMap) (ms : Members) (a : Action) → action_of v roots specs tree ms ≡ Ok a → Fits roots specs tree a
+action_of_ok : (v : Verb) (scene : SceneData) (ms : Members) (a : Action) → action_of v scene ms ≡ Ok a → Fits scene a
 unfolding action_of
-action_of_ok verb.Plug roots specs tree ms a h = plug_of_ok roots specs tree ms a h
-action_of_ok verb.Unplug roots specs tree ms a h = unplug_of_ok roots specs tree ms a h
-action_of_ok verb.Show roots specs tree ms a h = let same : Show ≡ a = cc in rw (← same) refl
-action_of_ok verb.Send roots specs tree ms a h = send_of_ok roots specs tree ms a h
-action_of_ok verb.Receive roots specs tree ms a h = receive_of_ok roots specs tree ms a h
-action_of_ok verb.Clear roots specs tree ms a h = clear_of_ok roots specs tree ms a h
+action_of_ok verb.Plug scene ms a h = plug_of_ok scene ms a h
+action_of_ok verb.Unplug scene ms a h = unplug_of_ok scene ms a h
+action_of_ok verb.Show scene ms a h = let same : Show ≡ a = cc in rw (← same) refl
+action_of_ok verb.Send scene ms a h = send_of_ok scene ms a h
+action_of_ok verb.Receive scene ms a h = receive_of_ok scene ms a h
+action_of_ok verb.Clear scene ms a h = clear_of_ok scene ms a h
 
-record EventIs (action : Result Action Kind) (after : Result ℕ Kind) (event_room : Result (Unit {0}) Kind) (e : Event) : Type 0 where
+record EventIs (action : Result Action EntryFault) (after : Result ℕ EntryFault) (room : Result (Unit {0}) EntryFault) (e : Event) : Type 0 where
   action_is : action ≡ Ok e.action
   after_is : after ≡ Ok e.after
-  room_is : part_fault event_room ≡ None
+  room_is : room ≡ Ok tt
 
-event_with_ok : (action : Result Action Kind) (after : Result ℕ Kind) (keys left : Result (Unit {0}) Kind) (e : Event) → event_with action after keys left ≡ Ok e → EventIs action after left e
+event_with_ok : (action : Result Action EntryFault) (after : Result ℕ EntryFault) (keys left : Result (Unit {0}) EntryFault) (e : Event) → event_with action after keys left ≡ Ok e → EventIs action after left e
 unfolding event_with
 event_with_ok action after keys left e h =
     let e0 = bind_ok (least_fault _) _ e h in
-    let e1 = bind_ok after _ e e0.2 in
-    let e2 = bind_ok action _ e e1.2 in
-    let none = told_ok _ e0.0 e0.1 in
+    let e1 = bind_ok after _ e e0.rest in
+    let e2 = bind_ok action _ e e1.rest in
+    let left_good = good_part _ e0.value 3 left e0.good refl in
     record {
-      action_is = e2.1 ∙ (let same : e2.0 ≡ e.action = cc e2.2 in ap Ok same);
-      after_is = e1.1 ∙ (let same : e1.0 ≡ e.after = cc e2.2 in ap Ok same);
-      room_is = none.1.1.1.0;
+      action_is = e2.good ∙ (let same : e2.value ≡ e.action = cc e2.rest in ap Ok same);
+      after_is = e1.good ∙ (let same : e1.value ≡ e.after = cc e2.rest in ap Ok same);
+      room_is = left_good.1;
     }
 
 -- the event may come where so much is plugged, and there is room for it
-pub record Follows (roots : ℕ) (devices : List Spec) (tree : PluggedMap) (count : ℕ) (e : Event) : Type 0 where
+pub record Follows (scene : SceneData) (count : ℕ) (e : Event) : Type 0 where
   pub room : count < 10000
-  pub fits : event_fits roots devices tree e ≡ true
+  pub fits : event_fits scene.roots scene.devices scene.plugged e ≡ true
 
-event_of_ok : (v : Verb) (roots : ℕ) (specs : List Spec) (tree : PluggedMap) (count : ℕ) (ms : Members) (e : Event) → event_of v roots specs tree count ms ≡ Ok e → Follows roots specs tree count e
+event_of_ok : (v : Verb) (scene : SceneData) (count : ℕ) (ms : Members) (e : Event) → event_of v scene count ms ≡ Ok e → Follows scene count e
 unfolding event_of
-event_of_ok v roots specs tree count ms e h =
-    let is = event_with_ok (action_of v roots specs tree ms) (after_at (get_member (codes "after") ms)) (keys_of v ms) (event_room count) e h in
-    let free = no_fault (event_room count) is.room_is in
+event_of_ok v scene count ms e h =
+    let is = event_with_ok (action_of v scene ms) (after_at (get_member (codes "after") ms)) (keys_of v ms) (event_room count) e h in
     let after = le-leb e.after 1000000000 (after_at_ok (get_member (codes "after") ms) e.after is.after_is) in
     record {
-      room = room_ok count free.0 free.1;
-      fits = rw (after, action_of_ok v roots specs tree ms e.action is.action_is);
+      room = event_room_ok count tt is.room_is;
+      fits = rw (after, action_of_ok v scene ms e.action is.action_is);
     }
 
-pub event_in_ok : (roots : ℕ) (specs : List Spec) (tree : PluggedMap) (count : ℕ) (o : Option Members) (e : Event) → event_in roots specs tree count o ≡ Ok e → Follows roots specs tree count e
+pub event_in_ok : (scene : SceneData) (count : ℕ) (o : Option Members) (e : Event) → event_in scene count o ≡ Ok e → Follows scene count e
 unfolding event_in
-event_in_ok roots specs tree count None e h = cc
-event_in_ok roots specs tree count (Some ms) e h =
-    let verb = bind_ok (verb_at (get_member (codes "do") ms)) _ e h in
-    event_of_ok verb.0 roots specs tree count ms e verb.2
+event_in_ok scene count o e h =
+    let ms = bind_ok (ok_or o BadValue) _ e h in
+    let verb = bind_ok (verb_at (get_member (codes "do") ms.value)) _ e ms.rest in
+    event_of_ok verb.value scene count ms.value e verb.rest
 
-attempt_at_ok : (last : ℕ) (o : Option Data) (n : ℕ) → attempt_at last o ≡ Ok n → (last < n) × (n ≤ 9223372036854775807)
+attempt_at_ok : (last : ℕ) (o : Option Data) (n : ℕ) → attempt_at last o ≡ Ok n → (last < n) × (n < 2 ^ 63)
 unfolding attempt_at
-attempt_at_ok last o n h = let range = number_at_ok (last + 1) 9223372036854775807 o n h in (omega (arith, range.0), range.1)
+attempt_at_ok last o n h = let range = number_at_ok (last + 1) (2 ^ 63 - 1) o n h in (omega (arith, range.0), omega (arith, range.1))
 
-packet_at_ok : (o : Option Data) (n : ℕ) → packet_key o ≡ Ok n → (1 ≤ n) × (n ≤ 3)
-unfolding packet_key
-packet_at_ok o n h = number_at_ok 1 3 o n h
+packet_number_ok : (o : Option Data) (n : ℕ) → packet_number o ≡ Ok n → (1 ≤ n) × (n ≤ 3)
+unfolding packet_number
+packet_number_ok o n h = number_at_ok 1 3 o n h
 
 no_bit_ok : (harm : Harm) (o : Option Data) (x : Harm) → harm_fits harm ≡ true → no_bit harm o ≡ Ok x → harm_fits x ≡ true
 unfolding no_bit
 no_bit_ok harm None x fits h = let same : harm ≡ x = cc h in rw (← same) fits
 no_bit_ok harm (Some d) x fits h = cc h
 
-flipped_ok : (o : Option Data) (x : Harm) → bit_key o ≡ Ok x → harm_fits x ≡ true
-unfolding bit_key
-flipped_ok o x h =
-    let made = bind_ok (number_at 0 535 o) _ x h in
-    let same : Flip made.0 ≡ x = cc made.2 in
-    rw (← same) (le-leb made.0 535 (number_at_ok 0 535 o made.0 made.1).1)
+flip_at_ok : (o : Option Data) (x : Harm) → flip_at o ≡ Ok x → harm_fits x ≡ true
+unfolding flip_at
+flip_at_ok o x h =
+    let bit = bind_ok (number_at 0 535 o) _ x h in
+    let same : Flip bit.value ≡ x = cc bit.rest in
+    rw (← same) (le-leb bit.value 535 (number_at_ok 0 535 o bit.value bit.good).1)
 
 harm_of_ok : (w : Way) (o : Option Data) (x : Harm) → harm_of w o ≡ Ok x → harm_fits x ≡ true
 unfolding harm_of
 harm_of_ok way.Lose o x h = no_bit_ok Lose o x refl h
 harm_of_ok way.LosePre o x h = no_bit_ok LosePre o x refl h
-harm_of_ok way.Flip o x h = flipped_ok o x h
+harm_of_ok way.Flip o x h = flip_at_ok o x h
 
-harm_by_ok : (r : Result Way Kind) (o : Option Data) (x : Harm) → harm_by r o ≡ Ok x → harm_fits x ≡ true
+harm_by_ok : (r : Result Way EntryFault) (o : Option Data) (x : Harm) → harm_by r o ≡ Ok x → harm_fits x ≡ true
 unfolding harm_by
-harm_by_ok r o x h = let way = bind_ok r _ x h in harm_of_ok way.0 o x way.2
+harm_by_ok r o x h = let way = bind_ok r _ x h in harm_of_ok way.value o x way.rest
 
 damage_room_ok : (count : ℕ) (u : Unit {0}) → damage.damage_room count ≡ Ok u → count < 10000
 unfolding damage.damage_room
 damage_room_ok count u h = ltb-true count 10000 (ok_if (nat_lt count 10000) (Ok tt) BadValue u h).0
 
-record DamageIs (attempt packet : Result ℕ Kind) (harm : Result Harm Kind) (event_room : Result (Unit {0}) Kind) (d : Damage) : Type 0 where
+record DamageIs (attempt packet : Result ℕ EntryFault) (harm : Result Harm EntryFault) (room : Result (Unit {0}) EntryFault) (d : Damage) : Type 0 where
   attempt_is : attempt ≡ Ok d.attempt
   packet_is : packet ≡ Ok d.packet
   harm_is : harm ≡ Ok d.harm
-  room_is : part_fault event_room ≡ None
+  room_is : room ≡ Ok tt
 
-damage_with_ok : (attempt packet : Result ℕ Kind) (harm : Result Harm Kind) (keys left : Result (Unit {0}) Kind) (d : Damage) → damage_with attempt packet harm keys left ≡ Ok d → DamageIs attempt packet harm left d
+damage_with_ok : (attempt packet : Result ℕ EntryFault) (harm : Result Harm EntryFault) (keys left : Result (Unit {0}) EntryFault) (d : Damage) → damage_with attempt packet harm keys left ≡ Ok d → DamageIs attempt packet harm left d
 unfolding damage_with
 damage_with_ok attempt packet harm keys left d h =
     let e0 = bind_ok (least_fault _) _ d h in
-    let e1 = bind_ok attempt _ d e0.2 in
-    let e2 = bind_ok packet _ d e1.2 in
-    let e3 = bind_ok harm _ d e2.2 in
-    let none = told_ok _ e0.0 e0.1 in
+    let e1 = bind_ok attempt _ d e0.rest in
+    let e2 = bind_ok packet _ d e1.rest in
+    let e3 = bind_ok harm _ d e2.rest in
+    let left_good = good_part _ e0.value 4 left e0.good refl in
     record {
-      attempt_is = e1.1 ∙ (let same : e1.0 ≡ d.attempt = cc e3.2 in ap Ok same);
-      packet_is = e2.1 ∙ (let same : e2.0 ≡ d.packet = cc e3.2 in ap Ok same);
-      harm_is = e3.1 ∙ (let same : e3.0 ≡ d.harm = cc e3.2 in ap Ok same);
-      room_is = none.1.1.1.1.0;
+      attempt_is = e1.good ∙ (let same : e1.value ≡ d.attempt = cc e3.rest in ap Ok same);
+      packet_is = e2.good ∙ (let same : e2.value ≡ d.packet = cc e3.rest in ap Ok same);
+      harm_is = e3.good ∙ (let same : e3.value ≡ d.harm = cc e3.rest in ap Ok same);
+      room_is = left_good.1;
     }
 
 -- the damage may stand after that attempt, and there is room for it
 pub record Comes (last count : ℕ) (d : Damage) : Type 0 where
   pub room : count < 10000
   pub fits : damage_fits last d ≡ true
-  pub most : d.attempt ≤ 9223372036854775807
+  pub most : d.attempt < 2 ^ 63
 
-damage_of_ok : (last count : ℕ) (ms : Members) (d : Damage) → damage_described last count ms ≡ Ok d → Comes last count d
-unfolding damage_described
-damage_of_ok last count ms d h =
+read_damage_ok : (last count : ℕ) (ms : Members) (d : Damage) → read_damage last count ms ≡ Ok d → Comes last count d
+unfolding read_damage
+read_damage_ok last count ms d h =
     let is = damage_with_ok _ _ _ _ (damage.damage_room count) d h in
-    let free = no_fault (damage.damage_room count) is.room_is in
     let attempt = attempt_at_ok last (get_member (codes "attempt") ms) d.attempt is.attempt_is in
-    let packet = packet_at_ok (get_member (codes "packet") ms) d.packet is.packet_is in
+    let packet = packet_number_ok (get_member (codes "packet") ms) d.packet is.packet_is in
     let harm = harm_by_ok (way_at (get_member (codes "how") ms)) (get_member (codes "bit") ms) d.harm is.harm_is in
     record {
-      room = damage_room_ok count free.0 free.1;
+      room = damage_room_ok count tt is.room_is;
       fits = rw (lt-ltb last d.attempt attempt.0, le-leb 1 d.packet packet.0, le-leb d.packet 3 packet.1, harm);
       most = attempt.1;
     }
 
-pub damage_in_ok : (last count : ℕ) (o : Option Members) (d : Damage) → damage_given last count o ≡ Ok d → Comes last count d
-unfolding damage_given
-damage_in_ok last count None d h = cc
-damage_in_ok last count (Some ms) d h = damage_of_ok last count ms d h
+pub damage_entry_ok : (last count : ℕ) (o : Option Members) (d : Damage) → damage_entry last count o ≡ Ok d → Comes last count d
+unfolding damage_entry
+damage_entry_ok last count o d h = let ms = bind_ok (ok_or o BadValue) _ d h in read_damage_ok last count ms.value d ms.rest
 
-limit_at_ok : (o : Option Data) (n : ℕ) → limit_at o ≡ Ok n → n ≤ 100000000000000
+limit_at_ok : (o : Option Data) (n : ℕ) → limit_at o ≡ Ok n → n ≤ 10 ^ 14
 unfolding limit_at
-limit_at_ok o n h = (number_at_ok 0 100000000000000 o n h).1
+limit_at_ok o n h = (number_at_ok 0 (10 ^ 14) o n h).1
 
 roots_at_ok : (o : Option Data) (n : ℕ) → roots_at o ≡ Ok n → (1 ≤ n) × (n ≤ 7)
 unfolding roots_at
 roots_at_ok o n h = number_at_ok 1 7 o n h
 
-top_with_ok : (limit roots : Result ℕ Kind) (devices events damages keys : Result (Unit {0}) Kind) (top : Top) → top_with limit roots devices events damages keys ≡ Ok top → (limit ≡ Ok top.limit) × (roots ≡ Ok top.roots)
+top_with_ok : (limit roots : Result ℕ EntryFault) (devices events damages keys : Result (Unit {0}) EntryFault) (top : Top) → top_with limit roots devices events damages keys ≡ Ok top → (limit ≡ Ok top.limit) × (roots ≡ Ok top.roots)
 unfolding top_with
 top_with_ok limit roots devices events damages keys top h =
     let e0 = bind_ok (least_fault _) _ top h in
-    let e1 = bind_ok limit _ top e0.2 in
-    let e2 = bind_ok roots _ top e1.2 in
-    let same_limit : e1.0 ≡ top.limit = cc e2.2 in
-    let same_roots : e2.0 ≡ top.roots = cc e2.2 in
-    (e1.1 ∙ ap Ok same_limit, e2.1 ∙ ap Ok same_roots)
+    let e1 = bind_ok limit _ top e0.rest in
+    let e2 = bind_ok roots _ top e1.rest in
+    let same_limit : e1.value ≡ top.limit = cc e2.rest in
+    let same_roots : e2.value ≡ top.roots = cc e2.rest in
+    (e1.good ∙ ap Ok same_limit, e2.good ∙ ap Ok same_roots)
 
 pub top_of_ok : (ms : Members) (top : Top) → top_of ms ≡ Ok top → TopFits top
 unfolding top_of

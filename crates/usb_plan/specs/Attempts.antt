@@ -1,7 +1,6 @@
 -- How many attempts are enough for a plan.
-use Rattle.std.specs.Prelude.{ℕ, ◌+◌, ◌*◌, List, [], ◌∷◌, length, take, Option, Some, None, Result, Ok, Err, slice_get, max, min, ◌^◌, ◌-◌}
+use Rattle.std.specs.Prelude.{ℕ, ◌+◌, ◌*◌, List, [], ◌∷◌, length, take, Option, Some, None, slice_get, max, min, ◌^◌, ◌-◌}
 use Rattle.std.specs.List.{sum_by}
-use Rattle.usb_descriptor.specs.declared.fault.DescriptorFault.{DescriptorFault}
 use Rattle.usb_descriptor.specs.Config.{config_head_of, total_in}
 use Rattle.usb_world.specs.declared.event.Action.{Action}
 use Rattle.usb_world.specs.declared.event.Action.TheVariants.{Plug, Unplug, Show, Send, Receive, Clear}

@@ -1,71 +1,66 @@
 -- The `damage` entries of the document.
-use Rattle.std.specs.Prelude.{ℕ, codes, List, [], ◌∷◌, ◌++◌, ◌+◌, length, Option, Some, None, Result, Ok, Err, nat_lt, if◌then◌else◌}
+use Rattle.std.specs.Prelude.{ℕ, codes, List, [], ◌∷◌, ◌++◌, ◌+◌, ◌-◌, ◌^◌, length, Option, Some, None, ok_or, Result, Ok, Err, nat_lt, if◌then◌else◌}
 use Rattle.std.specs.Str.{bytes_eq}
-use Rattle.toml.specs.Data.{Data, Members, get_member, as_str, as_table}
-use Rattle.usb_plan.specs.declared.kind.Kind.{Kind}
-use Rattle.usb_plan.specs.declared.kind.Kind.TheVariants.{MissingKey, BadValue}
+use Rattle.toml.specs.Data.{Data, Members, get_member, as_table}
+use Rattle.usb_plan.specs.declared.entry_fault.EntryFault.{EntryFault}
+use Rattle.usb_plan.specs.declared.entry_fault.EntryFault.TheVariants.{BadValue}
 use Rattle.usb_plan.specs.declared.damage.Way.{Way}
 use Rattle.usb_plan.specs.declared.damage.Way.TheVariants as way
 use Rattle.usb_plan.specs.declared.fault.Place.TheVariants as place
 use Rattle.usb_plan.specs.declared.fault.PlanFault.{PlanFault}
-use Rattle.usb_plan.specs.Kind.{part_fault, least_fault, placed, ◌>>=◌}
+use Rattle.usb_plan.specs.EntryFault.{fault_in_part, least_fault, entry_at, ◌>>=◌}
 use Rattle.usb_plan.specs.Keys.{keys_at}
-use Rattle.usb_plan.specs.Value.{number_at}
+use Rattle.usb_plan.specs.Value.{read_text, number_at}
 use Rattle.usb_world.specs.declared.damage.Damage.{Damage}
 use Rattle.usb_world.specs.declared.damage.Harm.{Harm}
 use Rattle.usb_world.specs.declared.damage.Harm.TheVariants.{Lose, LosePre, Flip}
 
 -- the key `attempt`: after the last one
-unfoldable pub attempt_at : ℕ → Option Data → Result ℕ Kind
-attempt_at last d = number_at (last + 1) 9223372036854775807 d
+unfoldable pub attempt_at : ℕ → Option Data → Result ℕ EntryFault
+attempt_at last d = number_at (last + 1) (2 ^ 63 - 1) d
 
 -- the key `packet`
-unfoldable pub packet_key : Option Data → Result ℕ Kind
-packet_key d = number_at 1 3 d
+unfoldable pub packet_number : Option Data → Result ℕ EntryFault
+packet_number d = number_at 1 3 d
 
-unfoldable pub way_named : List ℕ → Result Way Kind
+unfoldable pub way_named : List ℕ → Result Way EntryFault
 way_named text =
     if bytes_eq text (codes "lose") then Ok way.Lose
     else if bytes_eq text (codes "pre") then Ok way.LosePre
     else if bytes_eq text (codes "flip") then Ok way.Flip
     else Err BadValue
 
-unfoldable pub way_key : Option (List ℕ) → Result Way Kind
-way_key None = Err BadValue
-way_key (Some text) = way_named text
-
 -- the key `how`
-unfoldable pub way_at : Option Data → Result Way Kind
-way_at None = Err MissingKey
-way_at (Some d) = way_key (as_str d)
+unfoldable pub way_at : Option Data → Result Way EntryFault
+way_at d = read_text d >>= way_named
 
 -- the key `bit` goes with a flipped bit alone
-unfoldable pub no_bit : Harm → Option Data → Result Harm Kind
+unfoldable pub no_bit : Harm → Option Data → Result Harm EntryFault
 no_bit harm None = Ok harm
 no_bit harm (Some d) = Err BadValue
 
 -- the key `bit`
-unfoldable pub bit_key : Option Data → Result Harm Kind
-bit_key d = number_at 0 535 d >>= λ bit. Ok (Flip bit)
+unfoldable pub flip_at : Option Data → Result Harm EntryFault
+flip_at d = number_at 0 535 d >>= λ bit. Ok (Flip bit)
 
-unfoldable pub harm_of : Way → Option Data → Result Harm Kind
+unfoldable pub harm_of : Way → Option Data → Result Harm EntryFault
 harm_of way.Lose bit = no_bit Lose bit
 harm_of way.LosePre bit = no_bit LosePre bit
-harm_of way.Flip bit = bit_key bit
+harm_of way.Flip bit = flip_at bit
 
 -- the keys `how` and `bit`
-unfoldable pub harm_by : Result Way Kind → Option Data → Result Harm Kind
+unfoldable pub harm_by : Result Way EntryFault → Option Data → Result Harm EntryFault
 harm_by way bit = way >>= λ w. harm_of w bit
 
 -- at most 10,000 damages
-unfoldable pub damage_room : ℕ → Result (Unit {0}) Kind
+unfoldable pub damage_room : ℕ → Result (Unit {0}) EntryFault
 damage_room count = if nat_lt count 10000 then Ok tt else Err BadValue
 
 unfoldable pub damage_with :
-    Result ℕ Kind → Result ℕ Kind → Result Harm Kind → Result (Unit {0}) Kind
-    → Result (Unit {0}) Kind → Result Damage Kind
-damage_with attempt packet harm keys damage_room = do
-  u ← least_fault (part_fault attempt ∷ part_fault packet ∷ part_fault harm ∷ part_fault keys ∷ part_fault damage_room ∷ [])
+    Result ℕ EntryFault → Result ℕ EntryFault → Result Harm EntryFault → Result (Unit {0}) EntryFault
+    → Result (Unit {0}) EntryFault → Result Damage EntryFault
+damage_with attempt packet harm keys room = do
+  u ← least_fault (fault_in_part attempt ∷ fault_in_part packet ∷ fault_in_part harm ∷ fault_in_part keys ∷ fault_in_part room ∷ [])
   n ← attempt
   p ← packet
   h ← harm
@@ -75,17 +70,16 @@ abbrev pub damage_keys : List (List ℕ)
 damage_keys = codes "attempt" ∷ codes "packet" ∷ codes "how" ∷ codes "bit" ∷ []
 
 -- the damage that a table describes, after that attempt and so many others
-unfoldable pub damage_described : ℕ → ℕ → Members → Result Damage Kind
-damage_described last count ms =
+unfoldable pub read_damage : ℕ → ℕ → Members → Result Damage EntryFault
+read_damage last count ms =
     damage_with (attempt_at last (get_member (codes "attempt") ms))
-    (packet_key (get_member (codes "packet") ms))
+    (packet_number (get_member (codes "packet") ms))
     (harm_by (way_at (get_member (codes "how") ms)) (get_member (codes "bit") ms))
     (keys_at damage_keys ms)
     (damage_room count)
 
-unfoldable pub damage_given : ℕ → ℕ → Option Members → Result Damage Kind
-damage_given last count None = Err BadValue
-damage_given last count (Some ms) = damage_described last count ms
+unfoldable pub damage_entry : ℕ → ℕ → Option Members → Result Damage EntryFault
+damage_entry last count table = ok_or table BadValue >>= read_damage last count
 
 -- the attempt of the last damage, that number with none
 unfoldable pub last_from : ℕ → List Damage → ℕ
@@ -96,5 +90,5 @@ last_from last (d ∷ damages) = last_from d.attempt damages
 unfoldable pub damages_from : ℕ → List Damage → List Data → Result (List Damage) PlanFault
 damages_from n done [] = Ok done
 damages_from n done (d ∷ ds) =
-    placed (place.Damage n) (damage_given (last_from 0 done) (length done) (as_table d))
+    entry_at (place.Damage n) (damage_entry (last_from 0 done) (length done) (as_table d))
     >>= λ x. damages_from (n + 1) (done ++ x ∷ []) ds

@@ -1,54 +1,51 @@
 -- The `device` entries of the document.
-use Rattle.std.specs.Prelude.{◌≡◌, ◌≤◌, ℕ, codes, List, [], ◌∷◌, ◌++◌, length, Bool, true, false, ◌||◌, ◌==◌, Option, Some, None, IfSome, Result, Ok, Err, nat_lt, if◌then◌else◌, ◌+◌}
-use Rattle.toml.specs.Data.{Data, Members, get_member, as_str, as_array, as_table}
-use Rattle.usb_plan.specs.declared.kind.Kind.{Kind}
-use Rattle.usb_plan.specs.declared.kind.Kind.TheVariants.{MissingKey, BadValue}
+use Rattle.std.specs.Prelude.{◌≡◌, ◌≤◌, ℕ, codes, List, [], ◌∷◌, ◌++◌, length, Bool, true, false, ◌||◌, ◌==◌, Option, Some, None, IfSome, ok_or, Result, Ok, Err, nat_lt, if◌then◌else◌, ◌+◌}
+use Rattle.std.specs.Str.{bytes_eq}
+use Rattle.toml.specs.Data.{Data, Members, get_member, as_table}
+use Rattle.usb_plan.specs.declared.entry_fault.EntryFault.{EntryFault}
+use Rattle.usb_plan.specs.declared.entry_fault.EntryFault.TheVariants.{MissingKey, BadValue}
 use Rattle.usb_plan.specs.declared.fault.Place.TheVariants as place
 use Rattle.usb_plan.specs.declared.fault.PlanFault.{PlanFault}
 use Rattle.usb_plan.specs.declared.device.Identity.{Identity}
-use Rattle.usb_plan.specs.declared.device.Content.{Content}
+use Rattle.usb_plan.specs.declared.device.DeviceTexts.{DeviceTexts}
 use Rattle.usb_plan.specs.declared.quirks.Quirks.{Quirks}
 use Rattle.usb_plan.specs.declared.bulk.Bulk.{Bulk}
-use Rattle.usb_plan.specs.Kind.{part_fault, least_fault, placed, ◌>>=◌}
+use Rattle.usb_plan.specs.EntryFault.{fault_in_part, least_fault, entry_at, ◌>>=◌}
 use Rattle.usb_plan.specs.Keys.{keys_at}
-use Rattle.usb_plan.specs.Value.{is_word, hex_in}
+use Rattle.usb_plan.specs.Value.{read_text, hex_in}
 use Rattle.usb_plan.specs.Texts.{texts_in}
 use Rattle.usb_plan.specs.Hub.{class_at, hub_at}
 use Rattle.usb_plan.specs.Quirks.{quirks_of}
-use Rattle.usb_plan.specs.Bulk.{bulk_keys}
+use Rattle.usb_plan.specs.Bulk.{read_bulk}
 use Rattle.usb_device.specs.Spec.{Spec, Hub, hub_fits, function, is_named}
 
-unfoldable pub name_in : List Spec → Option (List ℕ) → Result (List ℕ) Kind
-name_in earlier None = Err BadValue
-name_in earlier (Some text) = if length text == 0 || is_named earlier text then Err BadValue else Ok text
+unfoldable pub name_in : List Spec → List ℕ → Result (List ℕ) EntryFault
+name_in earlier text = if length text == 0 || is_named earlier text then Err BadValue else Ok text
 
 -- the key `name`: not empty, and no earlier device has it
-unfoldable pub name_at : List Spec → Option Data → Result (List ℕ) Kind
-name_at earlier None = Err MissingKey
-name_at earlier (Some d) = name_in earlier (as_str d)
-
-unfoldable pub speed_in : Option (List ℕ) → Result Bool Kind
-speed_in text = if is_word (codes "full") text then Ok false else if is_word (codes "low") text then Ok true else Err BadValue
+unfoldable pub name_at : List Spec → Option Data → Result (List ℕ) EntryFault
+name_at earlier d = read_text d >>= name_in earlier
 
 -- the key `speed`: whether it is low speed
-unfoldable pub speed_at : Option Data → Result Bool Kind
-speed_at None = Err MissingKey
-speed_at (Some d) = speed_in (as_str d)
+unfoldable pub speed_at : Option Data → Result Bool EntryFault
+speed_at d =
+    read_text d
+    >>= λ text. if bytes_eq text (codes "full") then Ok false
+    else if bytes_eq text (codes "low") then Ok true
+    else Err BadValue
 
 -- the key `descriptor`: at most 255 bytes
-unfoldable pub descriptor_at : Option Data → Result (List ℕ) Kind
-descriptor_at None = Err MissingKey
-descriptor_at (Some d) = hex_in 255 (as_str d)
+unfoldable pub descriptor_at : Option Data → Result (List ℕ) EntryFault
+descriptor_at d = ok_or d MissingKey >>= hex_in 255
 
 -- the key `configs`: at most 8 texts of at most 65,535 bytes
-unfoldable pub configs_at : Option Data → Result (List (List ℕ)) Kind
-configs_at None = Err MissingKey
-configs_at (Some d) = texts_in 8 65535 (as_array d)
+unfoldable pub configs_at : Option Data → Result (List (List ℕ)) EntryFault
+configs_at d = ok_or d MissingKey >>= texts_in 8 65535
 
 -- the key `strings`: at most 256 texts of at most 255 bytes; absent there are none
-unfoldable pub strings_at : Option Data → Result (List (List ℕ)) Kind
+unfoldable pub strings_at : Option Data → Result (List (List ℕ)) EntryFault
 strings_at None = Ok []
-strings_at (Some d) = texts_in 256 255 (as_array d)
+strings_at (Some d) = texts_in 256 255 d
 
 abbrev pub device_keys : List (List ℕ)
 device_keys =
@@ -56,7 +53,7 @@ device_keys =
     ∷ codes "self_powered" ∷ codes "busy" ∷ codes "silent" ∷ codes "naks" ∷ codes "stalls" ∷ codes "source" ∷ codes "halt_after" ∷ []
 
 -- at most 127 devices
-unfoldable pub device_room : List Spec → Result (Unit {0}) Kind
+unfoldable pub device_room : List Spec → Result (Unit {0}) EntryFault
 device_room earlier = if nat_lt (length earlier) 127 then Ok tt else Err BadValue
 
 abbrev pub Texts : Type 0
@@ -90,10 +87,10 @@ abbrev pub HaltsLater : Bulk → Type 0
 HaltsLater bulk = IfSome bulk.halt_after (λ n. 1 ≤ n)
 
 unfoldable pub identity_with :
-    Result (List ℕ) Kind → Result Bool Kind → Result (List ℕ) Kind → Result (Unit {0}) Kind
-    → Result (Option Hub) Kind → Result Identity Kind
+    Result (List ℕ) EntryFault → Result Bool EntryFault → Result (List ℕ) EntryFault → Result (Unit {0}) EntryFault
+    → Result (Option Hub) EntryFault → Result Identity EntryFault
 identity_with name low descriptor class hub = do
-  u ← least_fault (part_fault name ∷ part_fault low ∷ part_fault descriptor ∷ part_fault class ∷ part_fault hub ∷ [])
+  u ← least_fault (fault_in_part name ∷ fault_in_part low ∷ fault_in_part descriptor ∷ fault_in_part class ∷ fault_in_part hub ∷ [])
   n ← name
   l ← low
   d ← descriptor
@@ -101,7 +98,7 @@ identity_with name low descriptor class hub = do
   Ok (record { name = n; low = l; descriptor = d; hub = h })
 
 -- the keys of what a device is, beside the earlier ones
-unfoldable pub identity_of : List Spec → Members → Result Identity Kind
+unfoldable pub identity_of : List Spec → Members → Result Identity EntryFault
 identity_of earlier ms =
     identity_with (name_at earlier (get_member (codes "name") ms))
     (speed_at (get_member (codes "speed") ms))
@@ -110,55 +107,54 @@ identity_of earlier ms =
     (descriptor_at (get_member (codes "descriptor") ms)))
     (hub_at (get_member (codes "ports") ms) (get_member (codes "hub_descriptor") ms))
 
-unfoldable pub content_with : Result Texts Kind → Result Texts Kind → Result Content Kind
-content_with configs strings = do
-  u ← least_fault (part_fault configs ∷ part_fault strings ∷ [])
+unfoldable pub device_texts_with : Result Texts EntryFault → Result Texts EntryFault → Result DeviceTexts EntryFault
+device_texts_with configs strings = do
+  u ← least_fault (fault_in_part configs ∷ fault_in_part strings ∷ [])
   c ← configs
   s ← strings
   Ok (record { configs = c; strings = s })
 
 -- the keys of the texts that a device gives
-unfoldable pub content_keys : Members → Result Content Kind
-content_keys ms =
-    content_with (configs_at (get_member (codes "configs") ms))
+unfoldable pub device_texts_of : Members → Result DeviceTexts EntryFault
+device_texts_of ms =
+    device_texts_with (configs_at (get_member (codes "configs") ms))
     (strings_at (get_member (codes "strings") ms))
 
-abbrev pub named_device : Identity → Content → Spec
+abbrev pub named_device : Identity → DeviceTexts → Spec
 named_device i c = record (function i.name i.descriptor c.configs) { low = i.low }
 
 abbrev pub outer_of : Texts → List ℕ → Spec → Spec
 outer_of strings source s = record s { strings = strings; source = source }
 
-unfoldable pub made : Identity → Content → Quirks → Bulk → Spec
-made identity content quirks bulk =
+unfoldable pub device_of_parts : Identity → DeviceTexts → Quirks → Bulk → Spec
+device_of_parts identity texts quirks bulk =
     with_halt bulk.halt_after (with_quirks quirks
-    (outer_of content.strings bulk.source (with_hub identity.hub (named_device identity content))))
+    (outer_of texts.strings bulk.source (with_hub identity.hub (named_device identity texts))))
 
 unfoldable pub device_with :
-    Result Identity Kind → Result Content Kind → Result Quirks Kind → Result Bulk Kind
-    → Result (Unit {0}) Kind → Result (Unit {0}) Kind → Result Spec Kind
-device_with identity content quirks bulk keys device_room = do
-  u ← least_fault (part_fault identity ∷ part_fault content ∷ part_fault quirks ∷ part_fault bulk
-      ∷ part_fault keys ∷ part_fault device_room ∷ [])
+    Result Identity EntryFault → Result DeviceTexts EntryFault → Result Quirks EntryFault → Result Bulk EntryFault
+    → Result (Unit {0}) EntryFault → Result (Unit {0}) EntryFault → Result Spec EntryFault
+device_with identity texts quirks bulk keys room = do
+  u ← least_fault (fault_in_part identity ∷ fault_in_part texts ∷ fault_in_part quirks ∷ fault_in_part bulk
+      ∷ fault_in_part keys ∷ fault_in_part room ∷ [])
   i ← identity
-  c ← content
+  c ← texts
   q ← quirks
   b ← bulk
-  Ok (made i c q b)
+  Ok (device_of_parts i c q b)
 
 -- the device that a table describes, beside the earlier ones
-unfoldable pub device_described : List Spec → Members → Result Spec Kind
-device_described earlier ms =
-    device_with (identity_of earlier ms) (content_keys ms) (quirks_of ms) (bulk_keys ms)
+unfoldable pub read_device : List Spec → Members → Result Spec EntryFault
+read_device earlier ms =
+    device_with (identity_of earlier ms) (device_texts_of ms) (quirks_of ms) (read_bulk ms)
     (keys_at device_keys ms) (device_room earlier)
 
-unfoldable pub device_in : List Spec → Option Members → Result Spec Kind
-device_in earlier None = Err BadValue
-device_in earlier (Some ms) = device_described earlier ms
+unfoldable pub device_in : List Spec → Option Members → Result Spec EntryFault
+device_in earlier table = ok_or table BadValue >>= read_device earlier
 
 -- the devices so far and those of the values; the first is number n
 unfoldable pub devices_from : ℕ → List Spec → List Data → Result (List Spec) PlanFault
 devices_from n done [] = Ok done
 devices_from n done (d ∷ ds) =
-    placed (place.Device n) (device_in done (as_table d))
+    entry_at (place.Device n) (device_in done (as_table d))
     >>= λ s. devices_from (n + 1) (done ++ s ∷ []) ds

@@ -3,8 +3,8 @@ use Rattle.std.specs.Prelude.{ℕ, List, Bool, true, ◌&&◌, Result, Ok, Err, 
 use Rattle.std.specs.List.{list_any}
 use Rattle.std.specs.Str.{bytes_eq}
 use Rattle.toml.specs.Data.{Members, no_members, member}
-use Rattle.usb_plan.specs.declared.kind.Kind.{Kind}
-use Rattle.usb_plan.specs.declared.kind.Kind.TheVariants.{BadValue}
+use Rattle.usb_plan.specs.declared.entry_fault.EntryFault.{EntryFault}
+use Rattle.usb_plan.specs.declared.entry_fault.EntryFault.TheVariants.{BadValue}
 
 -- each key is one of the names
 unfoldable pub only_named : List (List ℕ) → Members → Bool
@@ -12,5 +12,5 @@ only_named names no_members = true
 only_named names (member k d ms) = list_any (bytes_eq k) names && only_named names ms
 
 -- no key but these
-unfoldable pub keys_at : List (List ℕ) → Members → Result (Unit {0}) Kind
+unfoldable pub keys_at : List (List ℕ) → Members → Result (Unit {0}) EntryFault
 keys_at names ms = if only_named names ms then Ok tt else Err BadValue

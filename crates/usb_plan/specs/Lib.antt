@@ -1,5 +1,5 @@
 pub mod Place
-pub mod Kind
+pub mod EntryFault
 pub mod Value
 pub mod Keys
 pub mod Texts
@@ -7,8 +7,9 @@ pub mod Hub
 pub mod Quirks
 pub mod Bulk
 pub mod Device
+pub mod Scene
 pub mod Path
-pub mod Tree
+pub mod Plugged
 pub mod Verb
 pub mod Action
 pub mod Event

@@ -1,41 +1,40 @@
 -- The plan that a text spells, or its first fault.
-use Rattle.std.specs.Prelude.{◌≤◌, ℕ, codes, List, [], ◌∷◌, Bool, Option, Some, None, Result, Ok, Err, if◌then◌else◌, is_some}
+use Rattle.std.specs.Prelude.{◌≤◌, ℕ, ◌^◌, codes, List, [], ◌∷◌, Bool, Option, Some, None, Result, Ok, Err, if◌then◌else◌, is_some}
 use Rattle.std.specs.List.{list_all}
 use Rattle.toml.specs.Data.{Data, Items, Members, get_member, as_array, as_table}
 use Rattle.toml.specs.Parse.{parse_document}
-use Rattle.usb_plan.specs.declared.kind.Kind.{Kind}
-use Rattle.usb_plan.specs.declared.kind.Kind.TheVariants.{BadValue}
+use Rattle.usb_plan.specs.declared.entry_fault.EntryFault.{EntryFault}
+use Rattle.usb_plan.specs.declared.entry_fault.EntryFault.TheVariants.{BadValue}
 use Rattle.usb_plan.specs.declared.fault.Place.TheVariants as place
 use Rattle.usb_plan.specs.declared.fault.PlanFault.{PlanFault}
 use Rattle.usb_plan.specs.declared.fault.PlanFault.TheVariants as fault
 use Rattle.usb_plan.specs.declared.plan.Top.{Top}
-use Rattle.usb_plan.specs.Kind.{part_fault, least_fault, placed, ◌>>=◌}
+use Rattle.usb_plan.specs.EntryFault.{fault_in_part, least_fault, entry_at, ◌>>=◌}
 use Rattle.usb_plan.specs.Keys.{keys_at}
-use Rattle.usb_plan.specs.Value.{number_at, data_list}
+use Rattle.usb_plan.specs.Value.{read_items, number_at, data_list}
 use Rattle.usb_plan.specs.Device.{devices_from}
 use Rattle.usb_plan.specs.Event.{events_from}
 use Rattle.usb_plan.specs.Damage.{damages_from}
 use Rattle.usb_world.specs.PlanData.{PlanData}
 
 -- the key `limit`
-unfoldable pub limit_at : Option Data → Result ℕ Kind
-limit_at d = number_at 0 100000000000000 d
+unfoldable pub limit_at : Option Data → Result ℕ EntryFault
+limit_at d = number_at 0 (10 ^ 14) d
 
 -- the key `roots`
-unfoldable pub roots_at : Option Data → Result ℕ Kind
+unfoldable pub roots_at : Option Data → Result ℕ EntryFault
 roots_at d = number_at 1 7 d
 
 abbrev pub is_table : Data → Bool
 is_table d = is_some (as_table d)
 
-unfoldable pub entries_in : Option Items → Result (Unit {0}) Kind
-entries_in None = Err BadValue
-entries_in (Some items) = if list_all is_table (data_list items) then Ok tt else Err BadValue
+unfoldable pub entries_in : Data → Result (Unit {0}) EntryFault
+entries_in d = read_items d >>= λ ds. if list_all is_table ds then Ok tt else Err BadValue
 
 -- the key `device`, `event` or `damage`: an array of tables, which may be absent
-unfoldable pub entries_at : Option Data → Result (Unit {0}) Kind
+unfoldable pub entries_at : Option Data → Result (Unit {0}) EntryFault
 entries_at None = Ok tt
-entries_at (Some d) = entries_in (as_array d)
+entries_at (Some d) = entries_in d
 
 abbrev pub values_in : Option Items → List Data
 values_in None = []
@@ -50,17 +49,17 @@ abbrev pub top_keys : List (List ℕ)
 top_keys = codes "limit" ∷ codes "roots" ∷ codes "device" ∷ codes "event" ∷ codes "damage" ∷ []
 
 unfoldable pub top_with :
-    Result ℕ Kind → Result ℕ Kind → Result (Unit {0}) Kind → Result (Unit {0}) Kind
-    → Result (Unit {0}) Kind → Result (Unit {0}) Kind → Result Top Kind
+    Result ℕ EntryFault → Result ℕ EntryFault → Result (Unit {0}) EntryFault → Result (Unit {0}) EntryFault
+    → Result (Unit {0}) EntryFault → Result (Unit {0}) EntryFault → Result Top EntryFault
 top_with limit roots devices events damages keys = do
-  u ← least_fault (part_fault limit ∷ part_fault roots ∷ part_fault devices ∷ part_fault events
-      ∷ part_fault damages ∷ part_fault keys ∷ [])
+  u ← least_fault (fault_in_part limit ∷ fault_in_part roots ∷ fault_in_part devices ∷ fault_in_part events
+      ∷ fault_in_part damages ∷ fault_in_part keys ∷ [])
   l ← limit
   r ← roots
   Ok (record { limit = l; roots = r })
 
 -- the numbers at the top
-unfoldable pub top_of : Members → Result Top Kind
+unfoldable pub top_of : Members → Result Top EntryFault
 top_of ms =
     top_with (limit_at (get_member (codes "limit") ms))
     (roots_at (get_member (codes "roots") ms))
@@ -71,7 +70,7 @@ top_of ms =
 
 -- what the type of a plan asks of them
 pub record TopFits (top : Top) : Type 0 where
-  pub limit : top.limit ≤ 100000000000000
+  pub limit : top.limit ≤ 10 ^ 14
   pub some_root : 1 ≤ top.roots
   pub few_roots : top.roots ≤ 7
 
@@ -86,7 +85,7 @@ plan_with top devices events damages = do
 -- the plan that a table describes: top, devices, events, damages
 unfoldable pub plan_of : Members → Result PlanData PlanFault
 plan_of ms =
-    placed place.Top (top_of ms)
+    entry_at place.Top (top_of ms)
     >>= λ top. plan_with top (values_at (get_member (codes "device") ms))
     (values_at (get_member (codes "event") ms))
     (values_at (get_member (codes "damage") ms))

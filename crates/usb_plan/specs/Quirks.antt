@@ -1,27 +1,29 @@
 -- The keys of what a device does otherwise than others.
-use Rattle.std.specs.Prelude.{ℕ, codes, List, [], ◌∷◌, Bool, false, ◌||◌, Option, Some, None, Result, Ok, Err, if◌then◌else◌}
+use Rattle.std.specs.Prelude.{ℕ, codes, List, [], ◌∷◌, Bool, false, ◌||◌, Option, Some, None, ok_or, Result, Ok, Err, if◌then◌else◌}
 use Rattle.std.specs.List.{list_any, list_all}
-use Rattle.toml.specs.Data.{Data, Items, Members, get_member, as_bool, as_str, as_array}
-use Rattle.usb_plan.specs.declared.kind.Kind.{Kind}
-use Rattle.usb_plan.specs.declared.kind.Kind.TheVariants.{BadValue}
+use Rattle.std.specs.Str.{bytes_eq}
+use Rattle.toml.specs.Data.{Data, Members, get_member, as_bool, as_str}
+use Rattle.usb_plan.specs.declared.entry_fault.EntryFault.{EntryFault}
+use Rattle.usb_plan.specs.declared.entry_fault.EntryFault.TheVariants.{BadValue}
 use Rattle.usb_plan.specs.declared.quirks.Quirks.{Quirks}
-use Rattle.usb_plan.specs.Kind.{part_fault, least_fault, ◌>>=◌}
-use Rattle.usb_plan.specs.Value.{number_or, data_list, is_word}
+use Rattle.usb_plan.specs.EntryFault.{fault_in_part, least_fault, ◌>>=◌}
+use Rattle.usb_plan.specs.Value.{read_items, number_or}
 use Rattle.usb_device.specs.Spec.{no_stalls}
 use Rattle.usb_device.specs.declared.spec.Stalls.{Stalls}
 
-unfoldable pub flag_in : Option Bool → Result Bool Kind
-flag_in None = Err BadValue
-flag_in (Some flag) = Ok flag
-
 -- a key that is true or false; absent it is false
-unfoldable pub flag_at : Option Data → Result Bool Kind
+unfoldable pub flag_at : Option Data → Result Bool EntryFault
 flag_at None = Ok false
-flag_at (Some d) = flag_in (as_bool d)
+flag_at (Some d) = ok_or (as_bool d) BadValue
 
 -- the key `naks`
-unfoldable pub naks_at : Option Data → Result ℕ Kind
+unfoldable pub naks_at : Option Data → Result ℕ EntryFault
 naks_at d = number_or 0 0 200 d
+
+-- the text is the word
+unfoldable pub is_word : List ℕ → Option (List ℕ) → Bool
+is_word word None = false
+is_word word (Some text) = bytes_eq text word
 
 unfoldable pub names : List ℕ → Data → Bool
 names word d = is_word word (as_str d)
@@ -44,21 +46,20 @@ stalls_named ds = record {
   string = list_any (names (codes "string")) ds;
 }
 
-unfoldable pub stalls_in : Option Items → Result Stalls Kind
-stalls_in None = Err BadValue
-stalls_in (Some items) = if list_all is_stall (data_list items) then Ok (stalls_named (data_list items)) else Err BadValue
+unfoldable pub stalls_in : Data → Result Stalls EntryFault
+stalls_in d = read_items d >>= λ ds. if list_all is_stall ds then Ok (stalls_named ds) else Err BadValue
 
 -- the key `stalls`; absent nothing is refused
-unfoldable pub stalls_at : Option Data → Result Stalls Kind
+unfoldable pub stalls_at : Option Data → Result Stalls EntryFault
 stalls_at None = Ok no_stalls
-stalls_at (Some d) = stalls_in (as_array d)
+stalls_at (Some d) = stalls_in d
 
 unfoldable pub quirks_with :
-    Result Bool Kind → Result Bool Kind → Result Bool Kind → Result ℕ Kind → Result Stalls Kind
-    → Result Quirks Kind
+    Result Bool EntryFault → Result Bool EntryFault → Result Bool EntryFault → Result ℕ EntryFault → Result Stalls EntryFault
+    → Result Quirks EntryFault
 quirks_with self_powered busy silent naks stalls = do
-  u ← least_fault (part_fault self_powered ∷ part_fault busy ∷ part_fault silent ∷ part_fault naks
-      ∷ part_fault stalls ∷ [])
+  u ← least_fault (fault_in_part self_powered ∷ fault_in_part busy ∷ fault_in_part silent ∷ fault_in_part naks
+      ∷ fault_in_part stalls ∷ [])
   powered ← self_powered
   is_busy ← busy
   is_silent ← silent
@@ -67,7 +68,7 @@ quirks_with self_powered busy silent naks stalls = do
   Ok (record { self_powered = powered; busy = is_busy; silent = is_silent; naks = count; stalls = refused })
 
 -- the keys of what a device does otherwise than others
-unfoldable pub quirks_of : Members → Result Quirks Kind
+unfoldable pub quirks_of : Members → Result Quirks EntryFault
 quirks_of ms =
     quirks_with (flag_at (get_member (codes "self_powered") ms))
     (flag_at (get_member (codes "busy") ms))

@@ -1,13 +1,15 @@
 -- The key `do` of an event.
-use Rattle.std.specs.Prelude.{ℕ, codes, List, Option, Some, None, Result, Ok, Err, if◌then◌else◌}
+use Rattle.std.specs.Prelude.{ℕ, codes, List, Option, Result, Ok, Err, if◌then◌else◌}
 use Rattle.std.specs.Str.{bytes_eq}
-use Rattle.toml.specs.Data.{Data, as_str}
-use Rattle.usb_plan.specs.declared.kind.Kind.{Kind}
-use Rattle.usb_plan.specs.declared.kind.Kind.TheVariants.{MissingKey, BadValue}
+use Rattle.toml.specs.Data.{Data}
+use Rattle.usb_plan.specs.declared.entry_fault.EntryFault.{EntryFault}
+use Rattle.usb_plan.specs.declared.entry_fault.EntryFault.TheVariants.{BadValue}
 use Rattle.usb_plan.specs.declared.verb.Verb.{Verb}
+use Rattle.usb_plan.specs.EntryFault.{◌>>=◌}
+use Rattle.usb_plan.specs.Value.{read_text}
 use Rattle.usb_plan.specs.declared.verb.Verb.TheVariants.{Plug, Unplug, Show, Send, Receive, Clear}
 
-unfoldable pub verb_named : List ℕ → Result Verb Kind
+unfoldable pub verb_named : List ℕ → Result Verb EntryFault
 verb_named text =
     if bytes_eq text (codes "plug") then Ok Plug
     else if bytes_eq text (codes "unplug") then Ok Unplug
@@ -17,11 +19,6 @@ verb_named text =
     else if bytes_eq text (codes "clear") then Ok Clear
     else Err BadValue
 
-unfoldable pub verb_in : Option (List ℕ) → Result Verb Kind
-verb_in None = Err BadValue
-verb_in (Some text) = verb_named text
-
 -- the key `do`
-unfoldable pub verb_at : Option Data → Result Verb Kind
-verb_at None = Err MissingKey
-verb_at (Some d) = verb_in (as_str d)
+unfoldable pub verb_at : Option Data → Result Verb EntryFault
+verb_at d = read_text d >>= verb_named

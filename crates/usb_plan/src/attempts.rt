@@ -17,14 +17,11 @@ fn head(text: &[u8]) -> &[u8]
 
 /// wTotalLength of a text whose first 9 bytes are a configuration's head, else 0.
 #[tactic(auto, unfolding(crate::specs::Attempts::head_total))]
-fn total(text: &[u8]) -> u64
+fn head_total(text: &[u8]) -> u64
     ensures value { result ≡ head_total text.now }
     ensures most { result ≤ 65535 }
 {
-    match config_head(head(text)) {
-        Ok(total) => u64::from(total),
-        Err(_) => 0,
-    }
+    config_head(head(text)).map_or(0, u64::from)
 }
 
 /// wTotalLength of all texts of a device.
@@ -36,7 +33,7 @@ fn all_totals(device: &DeviceSpec) -> u64
     let texts = device.configs();
     let mut sum = 0;
     'texts: for text in texts {
-        sum += total(text.as_slice());
+        sum += head_total(text.as_slice());
     }
     sum
 }

@@ -2,11 +2,11 @@
 
 ghost use Rattle.std.specs.Prelude.{◌≡◌, ◌≤◌, option_map};
 ghost use Rattle.toml.specs.View.{view, table_view};
-ghost use Rattle.usb_plan.specs.Kind.{EqualUnless};
-ghost use Rattle.usb_plan.specs.Bulk.{source_at, halt_in, halt_at, bulk_with, bulk_keys};
-ghost use Rattle.usb_plan.specs.declared.kind.Kind.TheVariants.{Memory};
+ghost use Rattle.usb_plan.specs.EntryFault.{EqualUnless};
+ghost use Rattle.usb_plan.specs.Bulk.{source_at, halt_in, halt_at, bulk_with, read_bulk};
+ghost use Rattle.usb_plan.specs.declared.entry_fault.EntryFault.TheVariants.{Memory};
 
-use crate::kind::{Kind, fault_of, told};
+use crate::entry_fault::{EntryFault, fault_in_part, least_fault};
 use crate::value::{hex_in, number_in, value_at};
 use std::alloc::Global;
 use toml::{Table, Value};
@@ -14,7 +14,7 @@ use usb_device::Bytes;
 
 /// The key `source`, which may be absent.
 #[tactic(auto, unfolding(crate::specs::Bulk::source_at))]
-fn source_at(alloc: Global, value: Option<&Value>) -> Result<Bytes<65535>, Kind>
+fn source_at(alloc: Global, value: Option<&Value>) -> Result<Bytes<65535>, EntryFault>
     ensures { EqualUnless Memory result (source_at (option_map (λ v. view v.now) value.entry)) }
 {
     match value {
@@ -24,7 +24,7 @@ fn source_at(alloc: Global, value: Option<&Value>) -> Result<Bytes<65535>, Kind>
 }
 
 #[tactic(auto, unfolding(crate::specs::Bulk::halt_in))]
-fn halt_in(number: Option<i64>) -> Result<Option<u16>, Kind>
+fn halt_in(number: Option<i64>) -> Result<Option<u16>, EntryFault>
     ensures { result ≡ halt_in number }
 {
     let packets = number_in(1, 65535, number)?;
@@ -33,7 +33,7 @@ fn halt_in(number: Option<i64>) -> Result<Option<u16>, Kind>
 
 /// The key `halt_after`, which may be absent.
 #[tactic(auto, unfolding(crate::specs::Bulk::halt_at))]
-fn halt_at(value: Option<&Value>) -> Result<Option<u16>, Kind>
+fn halt_at(value: Option<&Value>) -> Result<Option<u16>, EntryFault>
     ensures { result ≡ halt_at (option_map (λ v. view v.now) value.entry) }
 {
     match value {
@@ -53,12 +53,12 @@ pub(crate) struct Bulk {
 
 #[tactic(auto, unfolding(crate::specs::Bulk::bulk_with))]
 fn bulk_with(
-    source: Result<Bytes<65535>, Kind>,
-    halt_after: Result<Option<u16>, Kind>,
-) -> Result<Bulk, Kind>
+    source: Result<Bytes<65535>, EntryFault>,
+    halt_after: Result<Option<u16>, EntryFault>,
+) -> Result<Bulk, EntryFault>
     ensures { result ≡ bulk_with source halt_after }
 {
-    told(&[fault_of(&source), fault_of(&halt_after)])?;
+    least_fault(&[fault_in_part(&source), fault_in_part(&halt_after)])?;
     Ok(Bulk {
         source: source?,
         halt_after: halt_after?,
@@ -66,9 +66,9 @@ fn bulk_with(
 }
 
 /// The keys of bulk endpoints.
-#[tactic(auto, using(crate::proofs::MemoryRefusals::bulk_unless), unfolding(crate::specs::Bulk::bulk_keys))]
-pub(crate) fn bulk_of(alloc: Global, table: &Table) -> Result<Bulk, Kind>
-    ensures { EqualUnless Memory result (bulk_keys (table_view table.now)) }
+#[tactic(auto, using(crate::proofs::MemoryRefusals::bulk_unless), unfolding(crate::specs::Bulk::read_bulk))]
+pub(crate) fn read_bulk(alloc: Global, table: &Table) -> Result<Bulk, EntryFault>
+    ensures { EqualUnless Memory result (read_bulk (table_view table.now)) }
 {
     let source = source_at(alloc, value_at(table, "source"));
     let halt_after = halt_at(value_at(table, "halt_after"));

@@ -1,33 +1,39 @@
 //! The `damage` entries of the document.
 
-ghost use Rattle.std.specs.Prelude.{◌≡◌, ◌≤◌, ◌<◌, IfOk, option_map, map, Ok, [], true, length};
+ghost use Rattle.std.specs.Prelude.{◌≡◌, ◌≤◌, ◌<◌, ◌^◌, IfOk, option_map, map, Ok, [], true, length};
 ghost use Rattle.toml.specs.View.{view, table_view};
 ghost use Rattle.usb_world.specs.PlanData.{damages_fit};
-ghost use Rattle.usb_plan.specs.Kind.{EqualUnless};
+ghost use Rattle.usb_plan.specs.EntryFault.{EqualUnless};
 ghost use Rattle.usb_plan.specs.declared.fault.PlanFault.TheVariants.{Memory as NoMemory};
-ghost use Rattle.usb_plan.specs.Damage.{attempt_at, packet_key, way_named, way_key, way_at, no_bit, bit_key, harm_of, harm_by, damage_room, damage_with, damage_described, damage_given, damages_from};
+ghost use Rattle.usb_plan.specs.Damage.{attempt_at, packet_number, way_named, way_at, no_bit, flip_at, harm_of, harm_by, damage_room, damage_with, read_damage, damage_entry, damages_from};
 
+use crate::entry_fault::{EntryFault, entry_at, fault_in_part, least_fault};
 use crate::fault::{Place, PlanFault};
 use crate::keys::keys_at;
-use crate::kind::{Kind, fault_of, placed, told};
-use crate::value::{number_at, value_at};
+use crate::value::{number_at, read_text, value_at};
 use std::alloc::Global;
 use toml::{Table, Value};
 use usb_world::{Damage, Damages, Harm};
 
+/// The last attempt that a number of the document can tell.
+const LAST_ATTEMPT: u64 = (1 << 63) - 1;
+
+/// The most damages of a plan.
+const MOST_DAMAGES: usize = 10_000;
+
 /// The key `attempt`: after the last one.
 #[tactic(auto, unfolding(crate::specs::Damage::attempt_at))]
-fn attempt_at(last: u64, value: Option<&Value>) -> Result<u64, Kind>
-    requires { last ≤ 9223372036854775807 }
+fn attempt_at(last: u64, value: Option<&Value>) -> Result<u64, EntryFault>
+    requires { last < 2 ^ 63 }
     ensures { result ≡ attempt_at last (option_map (λ v. view v.now) value.entry) }
 {
-    number_at(last + 1, 9_223_372_036_854_775_807, value)
+    number_at(last + 1, LAST_ATTEMPT, value)
 }
 
 /// The key `packet`.
-#[tactic(auto, unfolding(crate::specs::Damage::packet_key))]
-fn packet_at(value: Option<&Value>) -> Result<u8, Kind>
-    ensures { result ≡ packet_key (option_map (λ v. view v.now) value.entry) }
+#[tactic(auto, unfolding(crate::specs::Damage::packet_number))]
+fn packet_number(value: Option<&Value>) -> Result<u8, EntryFault>
+    ensures { result ≡ packet_number (option_map (λ v. view v.now) value.entry) }
 {
     let packet = number_at(1, 3, value)?;
     Ok(packet as u8)
@@ -42,75 +48,59 @@ enum Way {
 }
 
 #[tactic(auto, unfolding(crate::specs::Damage::way_named))]
-fn way_named(text: &str) -> Result<Way, Kind>
+fn way_named(text: &str) -> Result<Way, EntryFault>
     ensures { result ≡ way_named text.now }
 {
-    if text == "lose" {
-        Ok(Way::Lose)
-    } else if text == "pre" {
-        Ok(Way::LosePre)
-    } else if text == "flip" {
-        Ok(Way::Flip)
-    } else {
-        Err(Kind::BadValue)
-    }
-}
-
-#[tactic(auto, unfolding(crate::specs::Damage::way_key))]
-fn way_in(text: Option<&str>) -> Result<Way, Kind>
-    ensures { result ≡ way_key (option_map (λ t. t.now) text.entry) }
-{
     match text {
-        None => Err(Kind::BadValue),
-        Some(text) => way_named(text),
+        "lose" => Ok(Way::Lose),
+        "pre" => Ok(Way::LosePre),
+        "flip" => Ok(Way::Flip),
+        _ => Err(EntryFault::BadValue),
     }
 }
 
 /// The key `how`.
 #[tactic(auto, unfolding(crate::specs::Damage::way_at))]
-fn way_at(value: Option<&Value>) -> Result<Way, Kind>
+fn way_at(value: Option<&Value>) -> Result<Way, EntryFault>
     ensures { result ≡ way_at (option_map (λ v. view v.now) value.entry) }
 {
-    match value {
-        None => Err(Kind::MissingKey),
-        Some(value) => way_in(value.as_str()),
-    }
+    way_named(read_text(value)?)
 }
 
 /// The key `bit` goes with a flipped bit alone.
 #[tactic(auto, unfolding(crate::specs::Damage::no_bit))]
-fn no_bit(harm: Harm, bit: Option<&Value>) -> Result<Harm, Kind>
+fn no_bit(harm: Harm, bit: Option<&Value>) -> Result<Harm, EntryFault>
     ensures { result ≡ no_bit harm (option_map (λ v. view v.now) bit.entry) }
 {
     match bit {
         None => Ok(harm),
-        Some(_) => Err(Kind::BadValue),
+        Some(_) => Err(EntryFault::BadValue),
     }
 }
 
 /// The key `bit`.
-#[tactic(auto, unfolding(crate::specs::Damage::bit_key))]
-fn flipped(bit: Option<&Value>) -> Result<Harm, Kind>
-    ensures { result ≡ bit_key (option_map (λ v. view v.now) bit.entry) }
+#[tactic(auto, unfolding(crate::specs::Damage::flip_at))]
+fn flip_at(bit: Option<&Value>) -> Result<Harm, EntryFault>
+    ensures { result ≡ flip_at (option_map (λ v. view v.now) bit.entry) }
 {
     let bit = number_at(0, 535, bit)?;
     Ok(Harm::Flip(bit as u16))
 }
 
 #[tactic(auto, unfolding(crate::specs::Damage::harm_of))]
-fn harm_of(way: Way, bit: Option<&Value>) -> Result<Harm, Kind>
+fn harm_of(way: Way, bit: Option<&Value>) -> Result<Harm, EntryFault>
     ensures { result ≡ harm_of way (option_map (λ v. view v.now) bit.entry) }
 {
     match way {
         Way::Lose => no_bit(Harm::Lose, bit),
         Way::LosePre => no_bit(Harm::LosePre, bit),
-        Way::Flip => flipped(bit),
+        Way::Flip => flip_at(bit),
     }
 }
 
 /// The keys `how` and `bit`.
 #[tactic(auto, unfolding(crate::specs::Damage::harm_by))]
-fn harm_by(way: Result<Way, Kind>, bit: Option<&Value>) -> Result<Harm, Kind>
+fn harm_by(way: Result<Way, EntryFault>, bit: Option<&Value>) -> Result<Harm, EntryFault>
     ensures { result ≡ harm_by way (option_map (λ v. view v.now) bit.entry) }
 {
     harm_of(way?, bit)
@@ -118,32 +108,32 @@ fn harm_by(way: Result<Way, Kind>, bit: Option<&Value>) -> Result<Harm, Kind>
 
 /// Refuses an entry after the most that a plan may have.
 #[tactic(auto, unfolding(crate::specs::Damage::damage_room))]
-fn room(count: usize) -> Result<(), Kind>
+fn damage_room(count: usize) -> Result<(), EntryFault>
     ensures { result ≡ damage_room count }
 {
-    if count < 10_000 {
+    if count < MOST_DAMAGES {
         Ok(())
     } else {
-        Err(Kind::BadValue)
+        Err(EntryFault::BadValue)
     }
 }
 
 #[tactic(auto, unfolding(crate::specs::Damage::damage_with))]
 fn damage_with(
-    attempt: Result<u64, Kind>,
-    packet: Result<u8, Kind>,
-    harm: Result<Harm, Kind>,
-    keys: Result<(), Kind>,
-    room: Result<(), Kind>,
-) -> Result<Damage, Kind>
+    attempt: Result<u64, EntryFault>,
+    packet: Result<u8, EntryFault>,
+    harm: Result<Harm, EntryFault>,
+    keys: Result<(), EntryFault>,
+    room: Result<(), EntryFault>,
+) -> Result<Damage, EntryFault>
     ensures { result ≡ damage_with attempt packet harm keys room }
 {
-    told(&[
-        fault_of(&attempt),
-        fault_of(&packet),
-        fault_of(&harm),
-        fault_of(&keys),
-        fault_of(&room),
+    least_fault(&[
+        fault_in_part(&attempt),
+        fault_in_part(&packet),
+        fault_in_part(&harm),
+        fault_in_part(&keys),
+        fault_in_part(&room),
     ])?;
     Ok(Damage {
         attempt: attempt?,
@@ -153,27 +143,24 @@ fn damage_with(
 }
 
 /// The damage that a table describes, after so many others.
-#[tactic(auto, unfolding(crate::specs::Damage::damage_described))]
-fn damage_of(last: u64, count: usize, table: &Table) -> Result<Damage, Kind>
-    requires { last ≤ 9223372036854775807 }
-    ensures { result ≡ damage_described last count (table_view table.now) }
+#[tactic(auto, unfolding(crate::specs::Damage::read_damage))]
+fn read_damage(last: u64, count: usize, table: &Table) -> Result<Damage, EntryFault>
+    requires { last < 2 ^ 63 }
+    ensures { result ≡ read_damage last count (table_view table.now) }
 {
     let attempt = attempt_at(last, value_at(table, "attempt"));
-    let packet = packet_at(value_at(table, "packet"));
+    let packet = packet_number(value_at(table, "packet"));
     let harm = harm_by(way_at(value_at(table, "how")), value_at(table, "bit"));
     let keys = keys_at(table, &["attempt", "packet", "how", "bit"]);
-    damage_with(attempt, packet, harm, keys, room(count))
+    damage_with(attempt, packet, harm, keys, damage_room(count))
 }
 
-#[tactic(auto, unfolding(crate::specs::Damage::damage_given))]
-fn damage_in(last: u64, count: usize, table: Option<&Table>) -> Result<Damage, Kind>
-    requires { last ≤ 9223372036854775807 }
-    ensures { result ≡ damage_given last count (option_map (λ t. table_view t.now) table.entry) }
+#[tactic(auto, unfolding(crate::specs::Damage::damage_entry))]
+fn damage_entry(last: u64, count: usize, table: Option<&Table>) -> Result<Damage, EntryFault>
+    requires { last < 2 ^ 63 }
+    ensures { result ≡ damage_entry last count (option_map (λ t. table_view t.now) table.entry) }
 {
-    match table {
-        None => Err(Kind::BadValue),
-        Some(table) => damage_of(last, count, table),
-    }
+    read_damage(last, count, table.ok_or(EntryFault::BadValue)?)
 }
 
 /// The damages that the values describe, or the first fault.
@@ -184,8 +171,8 @@ pub(crate) fn damages_of(alloc: Global, values: &[Value]) -> Result<Damages, Pla
     let mut done = Damages::new(alloc);
     let mut last: u64 = 0;
     for (i, value) in values.iter().enumerate() {
-        let read = damage_in(last, done.as_slice().len(), value.as_table());
-        let damage = placed(Place::Damage(i + 1), read)?;
+        let read = damage_entry(last, done.as_slice().len(), value.as_table());
+        let damage = entry_at(Place::Damage(i + 1), read)?;
         last = damage.attempt;
         done.push(damage)?;
     }

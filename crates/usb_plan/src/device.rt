@@ -5,117 +5,94 @@ ghost use Rattle.std.specs.Result.{ForOk};
 ghost use Rattle.toml.specs.Data.{get_member, as_str, as_array};
 ghost use Rattle.toml.specs.View.{view, table_view, array_view};
 ghost use Rattle.usb_device.specs.Spec.{hub_fits};
-ghost use Rattle.usb_plan.specs.Kind.{EqualUnless};
-ghost use Rattle.usb_plan.specs.declared.kind.Kind.TheVariants.{Memory};
+ghost use Rattle.usb_plan.specs.EntryFault.{EqualUnless};
+ghost use Rattle.usb_plan.specs.declared.entry_fault.EntryFault.TheVariants.{Memory};
 ghost use Rattle.usb_plan.specs.declared.fault.PlanFault.TheVariants.{Memory as NoMemory};
-ghost use Rattle.usb_plan.specs.Device.{name_in, name_at, speed_in, speed_at, descriptor_at, configs_at, strings_at, device_room, with_quirks, with_halt, with_hub, HubFits, FewNaks, HaltsLater, identity_with, identity_of, content_with, content_keys, made, device_with, device_described, device_in, devices_from};
+ghost use Rattle.usb_plan.specs.Device.{name_in, name_at, speed_at, descriptor_at, configs_at, strings_at, device_room, with_quirks, with_halt, with_hub, HubFits, FewNaks, HaltsLater, identity_with, identity_of, device_texts_with, device_texts_of, device_of_parts, device_with, read_device, device_in, devices_from};
 
-use crate::bulk::{Bulk, bulk_of};
+use crate::bulk::{Bulk, read_bulk};
+use crate::entry_fault::{EntryFault, entry_at, fault_in_part, least_fault};
 use crate::fault::{Place, PlanFault};
 use crate::hub::{class_at, hub_at};
 use crate::keys::keys_at;
-use crate::kind::{Kind, fault_of, placed, told};
 use crate::quirks::{Quirks, quirks_of};
 use crate::texts::texts_in;
-use crate::value::{hex_in, is_word, value_at};
+use crate::value::{hex_in, read_text, value_at};
 use std::alloc::Global;
 use toml::{Table, Value};
 use usb_device::{Bytes, ConfigTexts, DeviceSpec, Devices, HubSpec, Name, StringTexts};
 
+/// The most devices of a plan.
+const MOST_DEVICES: usize = 127;
+
 /// A name that is not empty and that no earlier device has.
 #[tactic(auto, unfolding(crate::specs::Device::name_in))]
-fn name_in(alloc: Global, earlier: &Devices, text: Option<&str>) -> Result<Name, Kind>
-    ensures { EqualUnless Memory result (name_in earlier.now (option_map (λ t. t.now) text.entry)) }
+fn name_in(alloc: Global, earlier: &Devices, text: &str) -> Result<Name, EntryFault>
+    ensures { EqualUnless Memory result (name_in earlier.now text.now) }
 {
-    match text {
-        None => Err(Kind::BadValue),
-        Some(text) => {
-            if text.is_empty() || earlier.is_named(text) {
-                return Err(Kind::BadValue);
-            }
-            Ok(Name::new(String::from_str(alloc, text)?))
-        }
+    if text.is_empty() || earlier.is_named(text) {
+        return Err(EntryFault::BadValue);
     }
+    Ok(Name::new(String::from_str(alloc, text)?))
 }
 
 /// The key `name`.
 #[tactic(auto, unfolding(crate::specs::Device::name_at))]
-fn name_at(alloc: Global, earlier: &Devices, value: Option<&Value>) -> Result<Name, Kind>
+fn name_at(alloc: Global, earlier: &Devices, value: Option<&Value>) -> Result<Name, EntryFault>
     ensures { EqualUnless Memory result
         (name_at earlier.now (option_map (λ v. view v.now) value.entry)) }
 {
-    match value {
-        None => Err(Kind::MissingKey),
-        Some(value) => name_in(alloc, earlier, value.as_str()),
-    }
-}
-
-#[tactic(auto, unfolding(crate::specs::Device::speed_in))]
-fn speed_in(text: Option<&str>) -> Result<bool, Kind>
-    ensures { result ≡ speed_in (option_map (λ t. t.now) text.entry) }
-{
-    if is_word(text, "full") {
-        Ok(false)
-    } else if is_word(text, "low") {
-        Ok(true)
-    } else {
-        Err(Kind::BadValue)
-    }
+    name_in(alloc, earlier, read_text(value)?)
 }
 
 /// The key `speed`: whether it is low speed.
 #[tactic(auto, unfolding(crate::specs::Device::speed_at))]
-fn speed_at(value: Option<&Value>) -> Result<bool, Kind>
+fn speed_at(value: Option<&Value>) -> Result<bool, EntryFault>
     ensures { result ≡ speed_at (option_map (λ v. view v.now) value.entry) }
 {
-    match value {
-        None => Err(Kind::MissingKey),
-        Some(value) => speed_in(value.as_str()),
+    match read_text(value)? {
+        "full" => Ok(false),
+        "low" => Ok(true),
+        _ => Err(EntryFault::BadValue),
     }
 }
 
 /// The key `descriptor`.
 #[tactic(auto, unfolding(crate::specs::Device::descriptor_at))]
-fn descriptor_at(alloc: Global, value: Option<&Value>) -> Result<Bytes<255>, Kind>
+fn descriptor_at(alloc: Global, value: Option<&Value>) -> Result<Bytes<255>, EntryFault>
     ensures { EqualUnless Memory result (descriptor_at (option_map (λ v. view v.now) value.entry)) }
 {
-    match value {
-        None => Err(Kind::MissingKey),
-        Some(value) => hex_in::<255>(alloc, value),
-    }
+    hex_in::<255>(alloc, value.ok_or(EntryFault::MissingKey)?)
 }
 
 /// The key `configs`.
 #[tactic(auto, unfolding(crate::specs::Device::configs_at))]
-fn configs_at(alloc: Global, value: Option<&Value>) -> Result<ConfigTexts, Kind>
+fn configs_at(alloc: Global, value: Option<&Value>) -> Result<ConfigTexts, EntryFault>
     ensures { EqualUnless Memory result (configs_at (option_map (λ v. view v.now) value.entry)) }
 {
-    match value {
-        None => Err(Kind::MissingKey),
-        Some(value) => texts_in::<8, 65535>(alloc, value.as_array()),
-    }
+    texts_in::<8, 65535>(alloc, value.ok_or(EntryFault::MissingKey)?)
 }
 
 /// The key `strings`, which may be absent.
 #[tactic(auto, unfolding(crate::specs::Device::strings_at))]
-fn strings_at(alloc: Global, value: Option<&Value>) -> Result<StringTexts, Kind>
+fn strings_at(alloc: Global, value: Option<&Value>) -> Result<StringTexts, EntryFault>
     ensures { EqualUnless Memory result (strings_at (option_map (λ v. view v.now) value.entry)) }
 {
     match value {
         None => Ok(StringTexts::new(alloc)),
-        Some(value) => texts_in::<256, 255>(alloc, value.as_array()),
+        Some(value) => texts_in::<256, 255>(alloc, value),
     }
 }
 
 /// Refuses an entry after the most that a plan may have.
 #[tactic(auto, unfolding(crate::specs::Device::device_room))]
-fn room(earlier: &Devices) -> Result<(), Kind>
+fn device_room(earlier: &Devices) -> Result<(), EntryFault>
     ensures { result ≡ device_room earlier.now }
 {
-    if earlier.as_slice().len() < 127 {
+    if earlier.as_slice().len() < MOST_DEVICES {
         Ok(())
     } else {
-        Err(Kind::BadValue)
+        Err(EntryFault::BadValue)
     }
 }
 
@@ -167,20 +144,20 @@ struct Identity {
 
 #[tactic(auto, unfolding(crate::specs::Device::identity_with))]
 fn identity_with(
-    name: Result<Name, Kind>,
-    low: Result<bool, Kind>,
-    descriptor: Result<Bytes<255>, Kind>,
-    class: Result<(), Kind>,
-    hub: Result<Option<HubSpec>, Kind>,
-) -> Result<Identity, Kind>
+    name: Result<Name, EntryFault>,
+    low: Result<bool, EntryFault>,
+    descriptor: Result<Bytes<255>, EntryFault>,
+    class: Result<(), EntryFault>,
+    hub: Result<Option<HubSpec>, EntryFault>,
+) -> Result<Identity, EntryFault>
     ensures { result ≡ identity_with name low descriptor class hub }
 {
-    told(&[
-        fault_of(&name),
-        fault_of(&low),
-        fault_of(&descriptor),
-        fault_of(&class),
-        fault_of(&hub),
+    least_fault(&[
+        fault_in_part(&name),
+        fault_in_part(&low),
+        fault_in_part(&descriptor),
+        fault_in_part(&class),
+        fault_in_part(&hub),
     ])?;
     Ok(Identity {
         name: name?,
@@ -192,7 +169,7 @@ fn identity_with(
 
 /// The keys of what a device is.
 #[tactic(auto, using(crate::proofs::MemoryRefusals::identity_unless), unfolding(crate::specs::Device::identity_of))]
-fn identity_of(alloc: Global, earlier: &Devices, table: &Table) -> Result<Identity, Kind>
+fn identity_of(alloc: Global, earlier: &Devices, table: &Table) -> Result<Identity, EntryFault>
     ensures { EqualUnless Memory result (identity_of earlier.now (table_view table.now)) }
 {
     let ports = value_at(table, "ports");
@@ -206,76 +183,76 @@ fn identity_of(alloc: Global, earlier: &Devices, table: &Table) -> Result<Identi
 
 /// The texts that a device gives.
 #[derive(Drop)]
-struct Content {
+struct DeviceTexts {
     configs: ConfigTexts,
     strings: StringTexts,
 }
 
-#[tactic(auto, unfolding(crate::specs::Device::content_with))]
-fn content_with(
-    configs: Result<ConfigTexts, Kind>,
-    strings: Result<StringTexts, Kind>,
-) -> Result<Content, Kind>
-    ensures { result ≡ content_with configs strings }
+#[tactic(auto, unfolding(crate::specs::Device::device_texts_with))]
+fn device_texts_with(
+    configs: Result<ConfigTexts, EntryFault>,
+    strings: Result<StringTexts, EntryFault>,
+) -> Result<DeviceTexts, EntryFault>
+    ensures { result ≡ device_texts_with configs strings }
 {
-    told(&[fault_of(&configs), fault_of(&strings)])?;
-    Ok(Content {
+    least_fault(&[fault_in_part(&configs), fault_in_part(&strings)])?;
+    Ok(DeviceTexts {
         configs: configs?,
         strings: strings?,
     })
 }
 
 /// The keys of the texts that a device gives.
-#[tactic(auto, using(crate::proofs::MemoryRefusals::content_unless), unfolding(crate::specs::Device::content_keys))]
-fn content_of(alloc: Global, table: &Table) -> Result<Content, Kind>
-    ensures { EqualUnless Memory result (content_keys (table_view table.now)) }
+#[tactic(auto, using(crate::proofs::MemoryRefusals::device_texts_unless), unfolding(crate::specs::Device::device_texts_of))]
+fn device_texts_of(alloc: Global, table: &Table) -> Result<DeviceTexts, EntryFault>
+    ensures { EqualUnless Memory result (device_texts_of (table_view table.now)) }
 {
     let configs = configs_at(alloc, value_at(table, "configs"));
     let strings = strings_at(alloc, value_at(table, "strings"));
-    content_with(configs, strings)
+    device_texts_with(configs, strings)
 }
 
-#[tactic(auto, unfolding(crate::specs::Device::made))]
-fn made(identity: Identity, content: Content, quirks: Quirks, bulk: Bulk) -> DeviceSpec
+#[tactic(auto, unfolding(crate::specs::Device::device_of_parts))]
+fn device_of_parts(identity: Identity, texts: DeviceTexts, quirks: Quirks, bulk: Bulk) -> DeviceSpec
     requires hub { HubFits identity }
     requires naks { FewNaks quirks }
     requires halt { HaltsLater bulk }
-    ensures { result ≡ made identity content quirks bulk }
+    ensures { result ≡ device_of_parts identity texts quirks bulk }
 {
     let device = DeviceSpec::function(
         identity.name,
         identity.descriptor,
-        content.configs,
+        texts.configs,
     ).with_low_speed(identity.low);
     let device = with_hub(device, identity.hub)
-        .with_strings(content.strings)
+        .with_strings(texts.strings)
         .with_source(bulk.source);
     with_halt(with_quirks(device, quirks), bulk.halt_after)
 }
 
 #[tactic(auto, unfolding(crate::specs::Device::device_with))]
 fn device_with(
-    identity: Result<Identity, Kind>,
-    content: Result<Content, Kind>,
-    quirks: Result<Quirks, Kind>,
-    bulk: Result<Bulk, Kind>,
-    keys: Result<(), Kind>,
-    room: Result<(), Kind>,
-) -> Result<DeviceSpec, Kind>
+    identity: Result<Identity, EntryFault>,
+    texts: Result<DeviceTexts, EntryFault>,
+    quirks: Result<Quirks, EntryFault>,
+    bulk: Result<Bulk, EntryFault>,
+    keys: Result<(), EntryFault>,
+    room: Result<(), EntryFault>,
+) -> Result<DeviceSpec, EntryFault>
     requires hub { ForOk identity HubFits }
     requires naks { ForOk quirks FewNaks }
     requires halt { ForOk bulk HaltsLater }
-    ensures { result ≡ device_with identity content quirks bulk keys room }
+    ensures { result ≡ device_with identity texts quirks bulk keys room }
 {
-    told(&[
-        fault_of(&identity),
-        fault_of(&content),
-        fault_of(&quirks),
-        fault_of(&bulk),
-        fault_of(&keys),
-        fault_of(&room),
+    least_fault(&[
+        fault_in_part(&identity),
+        fault_in_part(&texts),
+        fault_in_part(&quirks),
+        fault_in_part(&bulk),
+        fault_in_part(&keys),
+        fault_in_part(&room),
     ])?;
-    Ok(made(identity?, content?, quirks?, bulk?))
+    Ok(device_of_parts(identity?, texts?, quirks?, bulk?))
 }
 
 const KEYS: [&str; 14] = [
@@ -296,27 +273,28 @@ const KEYS: [&str; 14] = [
 ];
 
 /// The device that a table describes, beside the earlier ones.
-#[tactic(auto, unfolding(crate::specs::Device::device_described))]
-fn device_of(alloc: Global, earlier: &Devices, table: &Table) -> Result<DeviceSpec, Kind>
-    ensures { EqualUnless Memory result (device_described earlier.now (table_view table.now)) }
+#[tactic(auto, unfolding(crate::specs::Device::read_device))]
+fn read_device(alloc: Global, earlier: &Devices, table: &Table) -> Result<DeviceSpec, EntryFault>
+    ensures { EqualUnless Memory result (read_device earlier.now (table_view table.now)) }
 {
     let identity = identity_of(alloc, earlier, table);
-    let content = content_of(alloc, table);
+    let texts = device_texts_of(alloc, table);
     let quirks = quirks_of(table);
-    let bulk = bulk_of(alloc, table);
+    let bulk = read_bulk(alloc, table);
     let keys = keys_at(table, &KEYS);
-    device_with(identity, content, quirks, bulk, keys, room(earlier))
+    device_with(identity, texts, quirks, bulk, keys, device_room(earlier))
 }
 
 #[tactic(auto, unfolding(crate::specs::Device::device_in))]
-fn device_in(alloc: Global, earlier: &Devices, table: Option<&Table>) -> Result<DeviceSpec, Kind>
+fn device_in(
+    alloc: Global,
+    earlier: &Devices,
+    table: Option<&Table>,
+) -> Result<DeviceSpec, EntryFault>
     ensures { EqualUnless Memory result
         (device_in earlier.now (option_map (λ t. table_view t.now) table.entry)) }
 {
-    match table {
-        None => Err(Kind::BadValue),
-        Some(table) => device_of(alloc, earlier, table),
-    }
+    read_device(alloc, earlier, table.ok_or(EntryFault::BadValue)?)
 }
 
 /// The devices that the values describe, or the first fault.
@@ -326,7 +304,7 @@ pub(crate) fn devices_of(alloc: Global, values: &[Value]) -> Result<Devices, Pla
     let mut done = Devices::new(alloc);
     for (i, value) in values.iter().enumerate() {
         let read = device_in(alloc, &done, value.as_table());
-        let device = placed(Place::Device(i + 1), read)?;
+        let device = entry_at(Place::Device(i + 1), read)?;
         done.push(device)?;
     }
     Ok(done)

@@ -5,14 +5,14 @@ ghost use Rattle.usb_plan.specs.declared.fault.PlanFault.TheVariants.{Memory as 
 ghost use Rattle.toml.specs.View.{view, table_view};
 ghost use Rattle.usb_world.specs.PlanData.{events_fit};
 ghost use Rattle.usb_plan.specs.Action.{action_of, keys_of};
-ghost use Rattle.usb_plan.specs.Kind.{EqualUnless};
-ghost use Rattle.usb_plan.specs.declared.kind.Kind.TheVariants.{Memory};
+ghost use Rattle.usb_plan.specs.EntryFault.{EqualUnless};
+ghost use Rattle.usb_plan.specs.declared.entry_fault.EntryFault.TheVariants.{Memory};
 ghost use Rattle.usb_plan.specs.Event.{after_at, event_room, event_with, event_of, event_in, events_from};
 
 use crate::action::{action_of, keys_of};
+use crate::entry_fault::{EntryFault, entry_at, fault_in_part, least_fault};
 use crate::fault::{Place, PlanFault};
-use crate::kind::{Kind, fault_of, placed, told};
-use crate::tree::Tree;
+use crate::scene::Scene;
 use crate::value::{number_or, value_at};
 use crate::verb::{Verb, verb_at};
 use std::alloc::Global;
@@ -20,40 +20,46 @@ use toml::{Table, Value};
 use usb_device::DeviceSpec;
 use usb_world::{Action, Event, Events};
 
+/// The most events of a plan.
+const MOST_EVENTS: usize = 10_000;
+
+/// The most attempts between two events.
+const LONGEST_WAIT: u64 = 1_000_000_000;
+
 /// The key `after`: attempts since the last event.
 #[tactic(auto, unfolding(crate::specs::Event::after_at))]
-fn after_at(value: Option<&Value>) -> Result<u64, Kind>
+fn after_at(value: Option<&Value>) -> Result<u64, EntryFault>
     ensures { result ≡ after_at (option_map (λ v. view v.now) value.entry) }
 {
-    number_or(0, 0, 1_000_000_000, value)
+    number_or(0, 0, LONGEST_WAIT, value)
 }
 
 /// Refuses an entry after the most that a plan may have.
 #[tactic(auto, unfolding(crate::specs::Event::event_room))]
-fn room(count: usize) -> Result<(), Kind>
+fn event_room(count: usize) -> Result<(), EntryFault>
     ensures { result ≡ event_room count }
 {
-    if count < 10_000 {
+    if count < MOST_EVENTS {
         Ok(())
     } else {
-        Err(Kind::BadValue)
+        Err(EntryFault::BadValue)
     }
 }
 
 #[tactic(auto, unfolding(crate::specs::Event::event_with))]
 fn event_with(
-    action: Result<Action, Kind>,
-    after: Result<u64, Kind>,
-    keys: Result<(), Kind>,
-    room: Result<(), Kind>,
-) -> Result<Event, Kind>
+    action: Result<Action, EntryFault>,
+    after: Result<u64, EntryFault>,
+    keys: Result<(), EntryFault>,
+    room: Result<(), EntryFault>,
+) -> Result<Event, EntryFault>
     ensures { result ≡ event_with action after keys room }
 {
-    told(&[
-        fault_of(&action),
-        fault_of(&after),
-        fault_of(&keys),
-        fault_of(&room),
+    least_fault(&[
+        fault_in_part(&action),
+        fault_in_part(&after),
+        fault_in_part(&keys),
+        fault_in_part(&room),
     ])?;
     Ok(Event {
         after: after?,
@@ -61,46 +67,36 @@ fn event_with(
     })
 }
 
-/// The event of a table whose `do` is that verb, after so many others.
+/// The event of a table whose `do` is that verb, in the scene, after so many others.
 #[tactic(auto, using(crate::proofs::MemoryRefusals::event_unless), unfolding(crate::specs::Event::event_of))]
 fn event_of(
     alloc: Global,
     verb: Verb,
-    roots: u8,
-    devices: &[DeviceSpec],
-    tree: &Tree,
+    scene: &Scene<'_>,
     count: usize,
     table: &Table,
-) -> Result<Event, Kind>
-    ensures { EqualUnless Memory result
-        (event_of verb roots devices.now tree.now count (table_view table.now)) }
+) -> Result<Event, EntryFault>
+    ensures { EqualUnless Memory result (event_of verb scene.now count (table_view table.now)) }
 {
-    let action = action_of(alloc, verb, roots, devices, tree, table);
+    let action = action_of(alloc, verb, scene, table);
     let after = after_at(value_at(table, "after"));
-    event_with(action, after, keys_of(verb, table), room(count))
+    event_with(action, after, keys_of(verb, table), event_room(count))
 }
 
 /// Where `do` is absent or unknown nothing else of the event is looked at.
 #[tactic(auto, unfolding(crate::specs::Event::event_in))]
 fn event_in(
     alloc: Global,
-    roots: u8,
-    devices: &[DeviceSpec],
-    tree: &Tree,
+    scene: &Scene<'_>,
     count: usize,
     table: Option<&Table>,
-) -> Result<Event, Kind>
+) -> Result<Event, EntryFault>
     ensures { EqualUnless Memory result
-        (event_in roots devices.now tree.now count
-        (option_map (λ t. table_view t.now) table.entry)) }
+        (event_in scene.now count (option_map (λ t. table_view t.now) table.entry)) }
 {
-    match table {
-        None => Err(Kind::BadValue),
-        Some(table) => {
-            let verb = verb_at(value_at(table, "do"))?;
-            event_of(alloc, verb, roots, devices, tree, count, table)
-        }
-    }
+    let table = table.ok_or(EntryFault::BadValue)?;
+    let verb = verb_at(value_at(table, "do"))?;
+    event_of(alloc, verb, scene, count, table)
 }
 
 /// The events that the values describe, or the first fault.
@@ -115,12 +111,12 @@ pub(crate) fn events_of(
     ensures fit { IfOk result (λ events. events_fit roots devices.now [] events ≡ true) }
 {
     let mut done = Events::new(alloc);
-    let mut tree = Tree::new(alloc);
+    let mut scene = Scene::new(alloc, roots, devices);
     for (i, value) in values.iter().enumerate() {
         let count = done.as_slice().len();
-        let read = event_in(alloc, roots, devices, &tree, count, value.as_table());
-        let event = placed(Place::Event(i + 1), read)?;
-        tree.apply(&event.action)?;
+        let read = event_in(alloc, &scene, count, value.as_table());
+        let event = entry_at(Place::Event(i + 1), read)?;
+        scene.apply(&event.action)?;
         done.push(event)?;
     }
     Ok(done)

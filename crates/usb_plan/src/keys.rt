@@ -7,7 +7,7 @@ ghost use Rattle.std.specs.BTreeMap.{keys};
 ghost use Rattle.toml.specs.View.{table_view};
 ghost use Rattle.usb_plan.specs.Keys.{only_named, keys_at};
 
-use crate::kind::Kind;
+use crate::entry_fault::EntryFault;
 use toml::Table;
 
 fn is_one_of(key: &str, names: &[&str]) -> bool
@@ -32,12 +32,12 @@ fn only_named(table: &Table, names: &[&str]) -> bool
 
 /// Refuses a table with any other key.
 #[tactic(auto, unfolding(crate::specs::Keys::keys_at))]
-pub(crate) fn keys_at(table: &Table, names: &[&str]) -> Result<(), Kind>
+pub(crate) fn keys_at(table: &Table, names: &[&str]) -> Result<(), EntryFault>
     ensures { result ≡ keys_at (map (λ n. n.now) names.now) (table_view table.now) }
 {
     if only_named(table, names) {
         Ok(())
     } else {
-        Err(Kind::BadValue)
+        Err(EntryFault::BadValue)
     }
 }

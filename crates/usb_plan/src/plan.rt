@@ -3,34 +3,36 @@
 ghost use Rattle.std.specs.Prelude.{◌≡◌, ◌≢◌, ◌≤◌, codes, Ok, Err, IfOk, IfErr, option_map, map, length};
 ghost use Rattle.std.specs.List.{list_all};
 ghost use Rattle.toml.specs.Data.{get_member};
-ghost use Rattle.toml.specs.View.{view, table_view, array_view};
+ghost use Rattle.toml.specs.View.{view, table_view};
 ghost use Rattle.usb_plan.specs.declared.fault.PlanFault.TheVariants.{Memory};
-ghost use Rattle.usb_plan.specs.Kind.{EqualUnless};
+ghost use Rattle.usb_plan.specs.EntryFault.{EqualUnless};
 ghost use Rattle.usb_plan.specs.Plan.{limit_at, roots_at, is_table, entries_in, entries_at, values_at, top_with, top_of, plan_with, plan_of, spelled_plan, TopFits};
 
 use crate::damage::damages_of;
 use crate::device::devices_of;
+use crate::entry_fault::{EntryFault, entry_at, fault_in_part, least_fault};
 use crate::event::events_of;
 use crate::fault::{Place, PlanFault};
 use crate::keys::keys_at;
-use crate::kind::{Kind, fault_of, placed, told};
-use crate::value::{number_at, value_at};
+use crate::value::{number_at, read_items, value_at};
 use std::alloc::Global;
-use toml::value::Array;
 use toml::{Table, Value};
 use usb_world::Plan;
 
+/// The most attempts that a plan may allow.
+const MOST_ATTEMPTS: u64 = 100_000_000_000_000;
+
 /// The key `limit`.
 #[tactic(auto, unfolding(crate::specs::Plan::limit_at))]
-fn limit_at(value: Option<&Value>) -> Result<u64, Kind>
+fn limit_at(value: Option<&Value>) -> Result<u64, EntryFault>
     ensures { result ≡ limit_at (option_map (λ v. view v.now) value.entry) }
 {
-    number_at(0, 100_000_000_000_000, value)
+    number_at(0, MOST_ATTEMPTS, value)
 }
 
 /// The key `roots`: how many root ports there are.
 #[tactic(auto, unfolding(crate::specs::Plan::roots_at))]
-fn roots_at(value: Option<&Value>) -> Result<u8, Kind>
+fn roots_at(value: Option<&Value>) -> Result<u8, EntryFault>
     ensures { result ≡ roots_at (option_map (λ v. view v.now) value.entry) }
 {
     let roots = number_at(1, 7, value)?;
@@ -50,29 +52,24 @@ fn are_tables(values: &[Value]) -> bool
 }
 
 #[tactic(auto, using(crate::proofs::Steps::are_tables_view), unfolding(crate::specs::Plan::entries_in))]
-fn entries_in(values: Option<&Array>) -> Result<(), Kind>
-    ensures { result ≡ entries_in (option_map (λ v. array_view v.now) values.entry) }
+fn entries_in(value: &Value) -> Result<(), EntryFault>
+    ensures { result ≡ entries_in (view value.now) }
 {
-    match values {
-        None => Err(Kind::BadValue),
-        Some(values) => {
-            if are_tables(values.as_slice()) {
-                Ok(())
-            } else {
-                Err(Kind::BadValue)
-            }
-        }
+    if are_tables(read_items(value)?) {
+        Ok(())
+    } else {
+        Err(EntryFault::BadValue)
     }
 }
 
 /// The key `device`, `event` or `damage`: an array of tables, which may be absent.
 #[tactic(auto, unfolding(crate::specs::Plan::entries_at))]
-fn entries_at(value: Option<&Value>) -> Result<(), Kind>
+fn entries_at(value: Option<&Value>) -> Result<(), EntryFault>
     ensures { result ≡ entries_at (option_map (λ v. view v.now) value.entry) }
 {
     match value {
         None => Ok(()),
-        Some(value) => entries_in(value.as_array()),
+        Some(value) => entries_in(value),
     }
 }
 
@@ -101,22 +98,22 @@ struct Top {
 
 #[tactic(auto, unfolding(crate::specs::Plan::top_with))]
 fn top_with(
-    limit: Result<u64, Kind>,
-    roots: Result<u8, Kind>,
-    devices: Result<(), Kind>,
-    events: Result<(), Kind>,
-    damages: Result<(), Kind>,
-    keys: Result<(), Kind>,
-) -> Result<Top, Kind>
+    limit: Result<u64, EntryFault>,
+    roots: Result<u8, EntryFault>,
+    devices: Result<(), EntryFault>,
+    events: Result<(), EntryFault>,
+    damages: Result<(), EntryFault>,
+    keys: Result<(), EntryFault>,
+) -> Result<Top, EntryFault>
     ensures { result ≡ top_with limit roots devices events damages keys }
 {
-    told(&[
-        fault_of(&limit),
-        fault_of(&roots),
-        fault_of(&devices),
-        fault_of(&events),
-        fault_of(&damages),
-        fault_of(&keys),
+    least_fault(&[
+        fault_in_part(&limit),
+        fault_in_part(&roots),
+        fault_in_part(&devices),
+        fault_in_part(&events),
+        fault_in_part(&damages),
+        fault_in_part(&keys),
     ])?;
     Ok(Top {
         limit: limit?,
@@ -126,7 +123,7 @@ fn top_with(
 
 /// The numbers at the top. The arrays are read after them.
 #[tactic(auto, unfolding(crate::specs::Plan::top_of))]
-fn top_of(table: &Table) -> Result<Top, Kind>
+fn top_of(table: &Table) -> Result<Top, EntryFault>
     ensures { result ≡ top_of (table_view table.now) }
 {
     let limit = limit_at(value_at(table, "limit"));
@@ -162,7 +159,7 @@ fn plan_with(
 fn plan_of(alloc: Global, table: &Table) -> Result<Plan, PlanFault>
     ensures { EqualUnless Memory result (plan_of (table_view table.now)) }
 {
-    let top = placed(Place::Top, top_of(table))?;
+    let top = entry_at(Place::Top, top_of(table))?;
     let devices = values_at(value_at(table, "device"));
     let events = values_at(value_at(table, "event"));
     let damages = values_at(value_at(table, "damage"));
@@ -171,7 +168,9 @@ fn plan_of(alloc: Global, table: &Table) -> Result<Plan, PlanFault>
 
 /// Reads the plan that a TOML text spells.
 ///
-/// The fault is the first of the text: `Syntax`, or that of the first entry with one, in the order
+/// # Errors
+///
+/// The first fault of the text: `Syntax`, or that of the first entry with one, in the order
 /// top, devices, events, damages, and in one entry the first in the order of `PlanFault`. Of an event whose
 /// `do` is absent or unknown nothing else is looked at. `Memory` says that memory was refused, and
 /// nothing of the text.

@@ -2,40 +2,42 @@
 
 ghost use Rattle.std.specs.Prelude.{◌≡◌, ◌≤◌, map, option_map};
 ghost use Rattle.std.specs.List.{list_any, list_all};
-ghost use Rattle.toml.specs.View.{view, array_view, table_view};
-ghost use Rattle.usb_plan.specs.Quirks.{flag_in, flag_at, naks_at, names, is_stall, stalls_named, stalls_in, stalls_at, quirks_with, quirks_of};
+ghost use Rattle.toml.specs.View.{view, table_view};
+ghost use Rattle.usb_plan.specs.Quirks.{is_word, flag_at, naks_at, names, is_stall, stalls_named, stalls_in, stalls_at, quirks_with, quirks_of};
 
-use crate::kind::{Kind, fault_of, told};
-use crate::value::{is_word, number_or, value_at};
-use toml::value::Array;
+use crate::entry_fault::{EntryFault, fault_in_part, least_fault};
+use crate::value::{number_or, read_items, value_at};
 use toml::{Table, Value};
 use usb_device::Stalls;
 
-#[tactic(auto, unfolding(crate::specs::Quirks::flag_in))]
-fn flag_in(flag: Option<bool>) -> Result<bool, Kind>
-    ensures { result ≡ flag_in flag }
-{
-    flag.ok_or(Kind::BadValue)
-}
-
 /// A key that is true or false; absent it is false.
 #[tactic(auto, unfolding(crate::specs::Quirks::flag_at))]
-fn flag_at(value: Option<&Value>) -> Result<bool, Kind>
+fn flag_at(value: Option<&Value>) -> Result<bool, EntryFault>
     ensures { result ≡ flag_at (option_map (λ v. view v.now) value.entry) }
 {
     match value {
         None => Ok(false),
-        Some(value) => flag_in(value.as_bool()),
+        Some(value) => value.as_bool().ok_or(EntryFault::BadValue),
     }
 }
 
 /// The key `naks`.
 #[tactic(auto, unfolding(crate::specs::Quirks::naks_at))]
-fn naks_at(value: Option<&Value>) -> Result<u8, Kind>
+fn naks_at(value: Option<&Value>) -> Result<u8, EntryFault>
     ensures { result ≡ naks_at (option_map (λ v. view v.now) value.entry) }
 {
     let naks = number_or(0, 0, 200, value)?;
     Ok(naks as u8)
+}
+
+#[tactic(auto, unfolding(crate::specs::Quirks::is_word))]
+fn is_word(text: Option<&str>, word: &str) -> bool
+    ensures { result ≡ is_word word.now (option_map (λ t. t.now) text.entry) }
+{
+    match text {
+        None => false,
+        Some(text) => text == word,
+    }
 }
 
 #[tactic(auto, unfolding(crate::specs::Quirks::names))]
@@ -88,30 +90,26 @@ fn stalls_named(values: &[Value]) -> Stalls
     }
 }
 
-#[tactic(auto, using(crate::proofs::Steps::are_stalls_view, crate::proofs::Steps::data_list_view), unfolding(crate::specs::Quirks::stalls_in))]
-fn stalls_in(values: Option<&Array>) -> Result<Stalls, Kind>
-    ensures { result ≡ stalls_in (option_map (λ v. array_view v.now) values.entry) }
+#[tactic(auto, using(crate::proofs::Steps::are_stalls_view), unfolding(crate::specs::Quirks::stalls_in))]
+fn stalls_in(value: &Value) -> Result<Stalls, EntryFault>
+    ensures { result ≡ stalls_in (view value.now) }
 {
-    match values {
-        None => Err(Kind::BadValue),
-        Some(values) => {
-            if are_stalls(values.as_slice()) {
-                Ok(stalls_named(values.as_slice()))
-            } else {
-                Err(Kind::BadValue)
-            }
-        }
+    let values = read_items(value)?;
+    if are_stalls(values) {
+        Ok(stalls_named(values))
+    } else {
+        Err(EntryFault::BadValue)
     }
 }
 
 /// The key `stalls`: the names of the requests that are refused.
 #[tactic(auto, unfolding(crate::specs::Quirks::stalls_at))]
-fn stalls_at(value: Option<&Value>) -> Result<Stalls, Kind>
+fn stalls_at(value: Option<&Value>) -> Result<Stalls, EntryFault>
     ensures { result ≡ stalls_at (option_map (λ v. view v.now) value.entry) }
 {
     match value {
         None => Ok(Stalls::none()),
-        Some(value) => stalls_in(value.as_array()),
+        Some(value) => stalls_in(value),
     }
 }
 
@@ -132,20 +130,20 @@ pub(crate) struct Quirks {
 
 #[tactic(auto, unfolding(crate::specs::Quirks::quirks_with))]
 fn quirks_with(
-    self_powered: Result<bool, Kind>,
-    busy: Result<bool, Kind>,
-    silent: Result<bool, Kind>,
-    naks: Result<u8, Kind>,
-    stalls: Result<Stalls, Kind>,
-) -> Result<Quirks, Kind>
+    self_powered: Result<bool, EntryFault>,
+    busy: Result<bool, EntryFault>,
+    silent: Result<bool, EntryFault>,
+    naks: Result<u8, EntryFault>,
+    stalls: Result<Stalls, EntryFault>,
+) -> Result<Quirks, EntryFault>
     ensures { result ≡ quirks_with self_powered busy silent naks stalls }
 {
-    told(&[
-        fault_of(&self_powered),
-        fault_of(&busy),
-        fault_of(&silent),
-        fault_of(&naks),
-        fault_of(&stalls),
+    least_fault(&[
+        fault_in_part(&self_powered),
+        fault_in_part(&busy),
+        fault_in_part(&silent),
+        fault_in_part(&naks),
+        fault_in_part(&stalls),
     ])?;
     Ok(Quirks {
         self_powered: self_powered?,
@@ -158,7 +156,7 @@ fn quirks_with(
 
 /// The keys of what the device does otherwise than others.
 #[tactic(auto, unfolding(crate::specs::Quirks::quirks_of))]
-pub(crate) fn quirks_of(table: &Table) -> Result<Quirks, Kind>
+pub(crate) fn quirks_of(table: &Table) -> Result<Quirks, EntryFault>
     ensures { result ≡ quirks_of (table_view table.now) }
 {
     let self_powered = flag_at(value_at(table, "self_powered"));

@@ -1,13 +1,14 @@
 //! Single values of the document.
 
-ghost use Rattle.std.specs.Prelude.{◌≡◌, ◌≤◌, IfOk, option_map};
-ghost use Rattle.toml.specs.Data.{get_member, as_integer, as_str};
+ghost use Rattle.std.specs.Prelude.{◌≡◌, ◌≤◌, IfOk, option_map, map};
+ghost use Rattle.toml.specs.Data.{get_member};
 ghost use Rattle.toml.specs.View.{view, table_view};
-ghost use Rattle.usb_plan.specs.Kind.{EqualUnless};
-ghost use Rattle.usb_plan.specs.Value.{is_word, number_in, number_at, number_or, hex_in, hex_bytes};
-ghost use Rattle.usb_plan.specs.declared.kind.Kind.TheVariants.{Memory};
+ghost use Rattle.usb_plan.specs.EntryFault.{EqualUnless};
+ghost use Rattle.std.specs.Result.{result_map_both};
+ghost use Rattle.usb_plan.specs.Value.{text_in, read_text, read_items, number_in, number_at, number_or, hex_in, hex_bytes};
+ghost use Rattle.usb_plan.specs.declared.entry_fault.EntryFault.TheVariants.{Memory};
 
-use crate::kind::Kind;
+use crate::entry_fault::EntryFault;
 use std::alloc::Global;
 use toml::{Table, Value};
 use usb_device::Bytes;
@@ -20,20 +21,36 @@ pub(crate) fn value_at<'a>(table: &'a Table, key: &str) -> Option<&'a Value>
     table.get(key)
 }
 
-/// Whether the text is the word.
-#[tactic(auto, unfolding(crate::specs::Value::is_word))]
-pub(crate) fn is_word(text: Option<&str>, word: &str) -> bool
-    ensures { result ≡ is_word word.now (option_map (λ t. t.now) text.entry) }
+/// The text that a value is.
+#[tactic(auto, unfolding(crate::specs::Value::text_in))]
+fn text_in(value: &Value) -> Result<&str, EntryFault>
+    ensures { result_map_both (λ t. t.now) (λ k. k) result ≡ text_in (view value.now) }
 {
-    match text {
-        None => false,
-        Some(text) => text == word,
-    }
+    value.as_str().ok_or(EntryFault::BadValue)
+}
+
+/// A text that has to be there.
+#[tactic(auto, unfolding(crate::specs::Value::read_text))]
+pub(crate) fn read_text<'a>(value: Option<&'a Value>) -> Result<&'a str, EntryFault>
+    ensures { result_map_both (λ t. t.now) (λ k. k) result
+        ≡ read_text (option_map (λ v. view v.now) value.entry) }
+{
+    text_in(value.ok_or(EntryFault::MissingKey)?)
+}
+
+/// The values of the array that a value is.
+#[tactic(auto, using(crate::proofs::Steps::data_list_view), unfolding(crate::specs::Value::read_items))]
+pub(crate) fn read_items(value: &Value) -> Result<&[Value], EntryFault>
+    ensures { result_map_both (λ vs. map view vs.now) (λ k. k) result
+        ≡ read_items (view value.now) }
+{
+    let values = value.as_array().ok_or(EntryFault::BadValue)?;
+    Ok(values.as_slice())
 }
 
 /// A number from `low` to `high`.
 #[tactic(auto, unfolding(crate::specs::Value::number_in))]
-pub(crate) fn number_in(low: u64, high: u64, number: Option<i64>) -> Result<u64, Kind>
+pub(crate) fn number_in(low: u64, high: u64, number: Option<i64>) -> Result<u64, EntryFault>
     ensures value { result ≡ number_in low high number }
     ensures least { IfOk result (λ n. low ≤ n) }
     ensures most { IfOk result (λ n. n ≤ high) }
@@ -41,25 +58,23 @@ pub(crate) fn number_in(low: u64, high: u64, number: Option<i64>) -> Result<u64,
     match number {
         Some(number) if number >= 0 => {
             let number = number as u64;
-            if low <= number && number <= high {
+            if (low..=high).contains(&number) {
                 Ok(number)
             } else {
-                Err(Kind::BadValue)
+                Err(EntryFault::BadValue)
             }
         }
-        _ => Err(Kind::BadValue),
+        _ => Err(EntryFault::BadValue),
     }
 }
 
 /// A number that has to be there.
 #[tactic(auto, unfolding(crate::specs::Value::number_at))]
-pub(crate) fn number_at(low: u64, high: u64, value: Option<&Value>) -> Result<u64, Kind>
+pub(crate) fn number_at(low: u64, high: u64, value: Option<&Value>) -> Result<u64, EntryFault>
     ensures { result ≡ number_at low high (option_map (λ v. view v.now) value.entry) }
 {
-    match value {
-        None => Err(Kind::MissingKey),
-        Some(value) => number_in(low, high, value.as_integer()),
-    }
+    let value = value.ok_or(EntryFault::MissingKey)?;
+    number_in(low, high, value.as_integer())
 }
 
 /// A number that may be absent, and then is `absent`.
@@ -69,7 +84,7 @@ pub(crate) fn number_or(
     low: u64,
     high: u64,
     value: Option<&Value>,
-) -> Result<u64, Kind>
+) -> Result<u64, EntryFault>
     ensures { result ≡ number_or absent low high (option_map (λ v. view v.now) value.entry) }
 {
     match value {
@@ -78,40 +93,27 @@ pub(crate) fn number_or(
     }
 }
 
-/// The bytes of a hex text.
-#[tactic(auto, unfolding(crate::specs::Value::hex_in, crate::specs::Value::bounded))]
-pub(crate) fn hex_in<const MAX: usize>(alloc: Global, value: &Value) -> Result<Bytes<MAX>, Kind>
-    ensures { EqualUnless Memory result (hex_in MAX (as_str (view value.now))) }
+/// The bytes of a hex text, at most so many.
+#[tactic(auto, unfolding(crate::specs::Value::hex_in, crate::specs::Value::hex_bytes))]
+pub(crate) fn hex_in<const MAX: usize>(
+    alloc: Global,
+    value: &Value,
+) -> Result<Bytes<MAX>, EntryFault>
+    ensures { EqualUnless Memory result (hex_in MAX (view value.now)) }
 {
-    let text = match value.as_str() {
-        None => return Err(Kind::BadValue),
-        Some(text) => text,
-    };
-    match hex::decode(alloc, text) {
-        Ok(bytes) => {
-            if bytes.len() <= MAX {
-                Ok(Bytes::new(bytes))
-            } else {
-                Err(Kind::BadValue)
-            }
-        }
-        Err(hex::FromHexError::OutOfMemory) => Err(Kind::Memory),
-        Err(_) => Err(Kind::BadHex),
+    let bytes = hex::decode(alloc, text_in(value)?)?;
+    if bytes.len() <= MAX {
+        Ok(Bytes::new(bytes))
+    } else {
+        Err(EntryFault::BadValue)
     }
 }
 
 /// The bytes of a hex text, however many.
-#[tactic(auto, unfolding(crate::specs::Value::hex_bytes, crate::specs::Value::any_of))]
-pub(crate) fn sent_in(alloc: Global, value: &Value) -> Result<SentBytes, Kind>
-    ensures { EqualUnless Memory result (hex_bytes (as_str (view value.now))) }
+#[tactic(auto, unfolding(crate::specs::Value::hex_bytes))]
+pub(crate) fn hex_bytes(alloc: Global, value: &Value) -> Result<SentBytes, EntryFault>
+    ensures { EqualUnless Memory result (hex_bytes (view value.now)) }
 {
-    let text = match value.as_str() {
-        None => return Err(Kind::BadValue),
-        Some(text) => text,
-    };
-    match hex::decode(alloc, text) {
-        Ok(bytes) => Ok(SentBytes::new(bytes)),
-        Err(hex::FromHexError::OutOfMemory) => Err(Kind::Memory),
-        Err(_) => Err(Kind::BadHex),
-    }
+    let bytes = hex::decode(alloc, text_in(value)?)?;
+    Ok(SentBytes::new(bytes))
 }

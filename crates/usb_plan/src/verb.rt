@@ -2,9 +2,10 @@
 
 ghost use Rattle.std.specs.Prelude.{◌≡◌, option_map};
 ghost use Rattle.toml.specs.View.{view};
-ghost use Rattle.usb_plan.specs.Verb.{verb_named, verb_in, verb_at};
+ghost use Rattle.usb_plan.specs.Verb.{verb_named, verb_at};
 
-use crate::kind::Kind;
+use crate::entry_fault::EntryFault;
+use crate::value::read_text;
 use toml::Value;
 
 /// What an event does.
@@ -19,43 +20,24 @@ pub(crate) enum Verb {
 }
 
 #[tactic(auto, unfolding(crate::specs::Verb::verb_named))]
-fn verb_named(text: &str) -> Result<Verb, Kind>
+fn verb_named(text: &str) -> Result<Verb, EntryFault>
     ensures { result ≡ verb_named text.now }
 {
-    if text == "plug" {
-        Ok(Verb::Plug)
-    } else if text == "unplug" {
-        Ok(Verb::Unplug)
-    } else if text == "show" {
-        Ok(Verb::Show)
-    } else if text == "send" {
-        Ok(Verb::Send)
-    } else if text == "receive" {
-        Ok(Verb::Receive)
-    } else if text == "clear" {
-        Ok(Verb::Clear)
-    } else {
-        Err(Kind::BadValue)
-    }
-}
-
-#[tactic(auto, unfolding(crate::specs::Verb::verb_in))]
-fn verb_in(text: Option<&str>) -> Result<Verb, Kind>
-    ensures { result ≡ verb_in (option_map (λ t. t.now) text.entry) }
-{
     match text {
-        None => Err(Kind::BadValue),
-        Some(text) => verb_named(text),
+        "plug" => Ok(Verb::Plug),
+        "unplug" => Ok(Verb::Unplug),
+        "show" => Ok(Verb::Show),
+        "send" => Ok(Verb::Send),
+        "receive" => Ok(Verb::Receive),
+        "clear" => Ok(Verb::Clear),
+        _ => Err(EntryFault::BadValue),
     }
 }
 
 /// The key `do`.
 #[tactic(auto, unfolding(crate::specs::Verb::verb_at))]
-pub(crate) fn verb_at(value: Option<&Value>) -> Result<Verb, Kind>
+pub(crate) fn verb_at(value: Option<&Value>) -> Result<Verb, EntryFault>
     ensures { result ≡ verb_at (option_map (λ v. view v.now) value.entry) }
 {
-    match value {
-        None => Err(Kind::MissingKey),
-        Some(value) => verb_in(value.as_str()),
-    }
+    verb_named(read_text(value)?)
 }

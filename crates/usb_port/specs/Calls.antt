@@ -44,3 +44,8 @@ IsClearFeature feature = is_some (clear_call feature) ≡ true
 abbrev pub is_reset : PortCall → Bool
 is_reset SetReset = true
 is_reset c = false
+
+-- ClearPortFeature of C_PORT_CONNECTION (11.24.2.2)
+abbrev pub is_clearing : PortCall → Bool
+is_clearing ClearConnectionChange = true
+is_clearing c = false

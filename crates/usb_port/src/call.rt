@@ -1,6 +1,6 @@
 //! What the host can ask of a port of a hub (11.24).
 ghost use Rattle.std.specs.Prelude.{◌≡◌};
-ghost use Rattle.usb_port.specs.Calls.{set_call, clear_call, called_port};
+ghost use Rattle.usb_port.specs.Calls.{set_call, clear_call, called_port, is_clearing};
 
 use crate::Port;
 use usb_request::feature::{
@@ -27,7 +27,8 @@ pub enum PortCall {
 }
 
 impl PortCall {
-    /// SetPortFeature of a feature (11.24.2.13), which is 8 or 4; None for any other.
+    /// SetPortFeature of a feature (11.24.2.13), which is PORT_POWER or PORT_RESET; None for any
+    /// other.
     pub fn of_set(feature: u16) -> Option<PortCall>
         ensures { result ≡ set_call feature }
     {
@@ -38,7 +39,8 @@ impl PortCall {
         }
     }
 
-    /// ClearPortFeature of a feature (11.24.2.2), which is 1, 8, 16, 17 or 20; None for any other.
+    /// ClearPortFeature of a feature (11.24.2.2), which is PORT_ENABLE, PORT_POWER or one of the
+    /// three changes; None for any other.
     pub fn of_clear(feature: u16) -> Option<PortCall>
         ensures { result ≡ clear_call feature }
     {
@@ -50,6 +52,13 @@ impl PortCall {
             C_PORT_RESET => Some(PortCall::ClearResetChange),
             _ => None,
         }
+    }
+
+    /// Whether it clears C_PORT_CONNECTION (11.24.2.2).
+    pub fn clears_connection_change(self) -> bool
+        ensures { result ≡ is_clearing self }
+    {
+        matches!(self, PortCall::ClearConnectionChange)
     }
 }
 

@@ -1,4 +1,4 @@
--- The numbers of requests and descriptors (9.3, 9.4, 11.23, 11.24).
+-- The numbers of requests, descriptors and endpoints (9.3, 9.4, 9.6, 11.23, 11.24).
 use Rattle.std.specs.Prelude.{ℕ}
 
 -- bmRequestType: direction, type and recipient (table 9-2)
@@ -60,6 +60,34 @@ ENDPOINT = 5
 
 abbrev pub HUB : ℕ
 HUB = 0x29
+
+-- how many bytes the descriptor of each has (9.6, 11.23.2.1), a hub's where it has at most seven ports; the head of a device's ends
+-- with bMaxPacketSize0
+abbrev pub DEVICE_LENGTH : ℕ
+DEVICE_LENGTH = 18
+
+abbrev pub DEVICE_HEAD_LENGTH : ℕ
+DEVICE_HEAD_LENGTH = 8
+
+abbrev pub CONFIGURATION_LENGTH : ℕ
+CONFIGURATION_LENGTH = 9
+
+abbrev pub INTERFACE_LENGTH : ℕ
+INTERFACE_LENGTH = 9
+
+abbrev pub ENDPOINT_LENGTH : ℕ
+ENDPOINT_LENGTH = 7
+
+abbrev pub HUB_LENGTH : ℕ
+HUB_LENGTH = 9
+
+-- bEndpointAddress (9.6.6): bit 7, which is set where data go to the host, as in bmRequestType, and the interrupt endpoint of a
+-- hub (11.12.1)
+abbrev pub DIRECTION_IN : ℕ
+DIRECTION_IN = 0x80
+
+abbrev pub STATUS_ENDPOINT : ℕ
+STATUS_ENDPOINT = 0x81
 
 -- bDeviceClass of a hub (11.23.1)
 abbrev pub HUB_CLASS : ℕ

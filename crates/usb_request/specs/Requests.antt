@@ -1,6 +1,6 @@
 -- The requests that the host sends (9.4, 11.24.2).
 use Rattle.std.specs.Prelude.{ℕ, ◌+◌, ◌*◌}
-use Rattle.usb_request.specs.Codes.{DEVICE, CONFIGURATION, STRING, HUB, GET_STATUS, CLEAR_FEATURE, SET_FEATURE, SET_ADDRESS, GET_DESCRIPTOR, SET_CONFIGURATION, DEVICE_IN, DEVICE_OUT, ENDPOINT_OUT, HUB_IN, PORT_IN, PORT_OUT}
+use Rattle.usb_request.specs.Codes.{DEVICE, CONFIGURATION, STRING, HUB, HUB_LENGTH, GET_STATUS, CLEAR_FEATURE, SET_FEATURE, SET_ADDRESS, GET_DESCRIPTOR, SET_CONFIGURATION, DEVICE_IN, DEVICE_OUT, ENDPOINT_OUT, HUB_IN, PORT_IN, PORT_OUT}
 use Rattle.usb_request.specs.Features.{ENDPOINT_HALT}
 use Rattle.usb_request.specs.declared.setup.Setup.{Setup}
 
@@ -18,7 +18,7 @@ unfoldable pub get_string_descriptor : ℕ → ℕ → Setup
 get_string_descriptor index language = record { request_type = DEVICE_IN; request = GET_DESCRIPTOR; value = descriptor_value STRING index; index = language; length = 255 }
 
 unfoldable pub get_hub_descriptor : Setup
-get_hub_descriptor = record { request_type = HUB_IN; request = GET_DESCRIPTOR; value = descriptor_value HUB 0; index = 0; length = 9 }
+get_hub_descriptor = record { request_type = HUB_IN; request = GET_DESCRIPTOR; value = descriptor_value HUB 0; index = 0; length = HUB_LENGTH }
 
 unfoldable pub get_status : Setup
 get_status = record { request_type = DEVICE_IN; request = GET_STATUS; value = 0; index = 0; length = 2 }

@@ -1,13 +1,15 @@
 //! The setup data of a control transfer (9.3), a maker for each request that the host sends, and
-//! the standard's codes for requests, descriptors, classes and features.
+//! the standard's numbers of requests, descriptors, endpoints, classes and features.
 #![tactic(auto)]
 
 pub mod class_code;
+pub mod descriptor_length;
 pub mod descriptor_type;
+pub mod endpoint_address;
 pub mod feature;
 mod makers;
 pub mod request_code;
 pub mod request_type;
 mod setup;
 
-pub use setup::{Setup, setup_laws};
+pub use setup::Setup;

@@ -3,6 +3,7 @@ ghost use Rattle.std.specs.Prelude.{◌≡◌, ◌≤◌, ◌<◌};
 ghost use Rattle.usb_request.specs.Layout.{IsToHost, IsToDevice};
 ghost use Rattle.usb_request.specs.Requests.{descriptor_value, get_device_descriptor, get_configuration_descriptor, get_string_descriptor, get_hub_descriptor, get_status, set_address, set_configuration, clear_endpoint_halt, get_port_status, set_port_feature, clear_port_feature};
 
+use crate::descriptor_length::HUB_LENGTH;
 use crate::request_code::{
     CLEAR_FEATURE, GET_DESCRIPTOR, GET_STATUS, SET_ADDRESS, SET_CONFIGURATION, SET_FEATURE,
 };
@@ -60,19 +61,19 @@ impl Setup {
         }
     }
 
-    /// GetHubDescriptor (11.24.2.5): the first 9 bytes, which a hub of at most 7 ports fills.
+    /// GetHubDescriptor (11.24.2.5): as many bytes as that of a hub of at most 7 ports has.
     #[tactic(auto, unfolding(crate::specs::Requests::get_hub_descriptor))]
     pub fn get_hub_descriptor() -> Setup
         ensures setup { result ≡ get_hub_descriptor }
         ensures direction { IsToHost result }
-        ensures data_length { result.length ≡ 9 }
+        ensures data_length { result.length ≡ HUB_LENGTH }
     {
         Setup {
             request_type: HUB_IN,
             request: GET_DESCRIPTOR,
             value: descriptor_value(descriptor_type::HUB, 0),
             index: 0,
-            length: 9,
+            length: HUB_LENGTH as u16,
         }
     }
 

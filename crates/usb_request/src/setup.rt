@@ -1,7 +1,6 @@
 //! The eight bytes of setup data and their fields.
-ghost use Rattle.std.specs.Prelude.{◌≡◌, ◌<◌, List, ℕ, All, length};
+ghost use Rattle.std.specs.Prelude.{◌≡◌};
 ghost use Rattle.usb_request.specs.Layout.{bytes_of, setup_of};
-ghost use Rattle.usb_request.specs.declared.setup.Setup.{Setup as ASetup};
 
 /// The setup data of a control transfer (9.3).
 #[derive(Clone, Copy, Debug, PartialEq, Eq)]
@@ -67,11 +66,3 @@ impl Setup {
         }
     }
 }
-
-/// Fields and bytes agree both ways: no field is lost, and no byte.
-#[tactic(auto, unfolding(crate::specs::Layout::bytes_of, crate::specs::Layout::setup_of))]
-pub fn setup_laws()
-    ensures fields_back { (s : ASetup) → setup_of (bytes_of s) ≡ s }
-    ensures bytes_back { (bytes : List ℕ) → length bytes ≡ 8 → All (λ b. b < 256) bytes
-        → bytes_of (setup_of bytes) ≡ bytes }
-{}

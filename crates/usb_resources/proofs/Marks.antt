@@ -1,5 +1,6 @@
 -- The set that marks stand for.
-use Rattle.std.proofs.Common.{◌≡◌, ◌≢◌, ℕ, zero, suc, ◌+◌, ◌<◌, Bool, true, false, ◌||◌, ◌&&◌, not, List, [], ◌∷◌, length, replicate, get_or, set, refl, sym, ap, ◌∙◌, arith, inl, inr, true≢false, get_or-set_same, get_or-set_other, length-set}
+use Rattle.std.proofs.Common.{◌≡◌, ◌≢◌, ℕ, zero, suc, ◌+◌, ◌<◌, Bool, true, false, ◌||◌, ◌&&◌, not, List, [], ◌∷◌, Option, Some, None, is_some, length, replicate, get_or, set, refl, sym, ap, ◌∙◌, arith, inl, inr, true≢false, get_or-set_same, get_or-set_other, length-set}
+use Rattle.std.specs.Prelude.{◌↔◌, IfSome, IfNone, IsTrue}
 use Rattle.std.specs.Ordering.{nat_cmp, eq_by_cmp}
 use Rattle.std.specs.Cmp.{nat_cmp_total, unsigned_tied}
 use Rattle.std.specs.FinSet.{empty, contains, insert, remove, contains-empty, contains-insert, contains-remove, same_set, nat_cmp-IsAntisymmetric}
@@ -126,8 +127,14 @@ none_marked n =
       | inr past ↦ get_or_past (replicate n false) q false (omega (arith, past, length-replicate n false))
     ]
 
-pub not_full : (marks : List Bool) (a : ℕ) → IsLeastUnset marks a → IsFull (addresses_marked marks) → ⊥
+not_full : (marks : List Bool) (a : ℕ) → IsLeastUnset marks a → IsFull (addresses_marked marks) → ⊥
 not_full marks a least full =
     let taken = full a least.range in
     let free = contains_marked marks a ∙ least.unset in
     cc (taken, free)
+
+-- all are taken just where there is no least unset mark
+pub none_unset : (marks : List Bool) (least : Option ℕ) (none : Bool) → is_some least ≡ not none → IfSome least (IsLeastUnset marks) → IfNone least ((a : ℕ) → IsAddress a → get_or marks a false ≡ true) → IsTrue none ↔ IsFull (addresses_marked marks)
+none_unset marks None true e least all = (λ _. full marks all, λ _. refl)
+none_unset marks (Some a) false e least all = (λ no. absurd cc, λ is. absurd (not_full marks a least is))
+none_unset marks o none e least all = absurd cc

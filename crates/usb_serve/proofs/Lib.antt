@@ -1,4 +1,4 @@
-pub mod Deliveries
+pub mod ToldTransfers
 pub mod Ends
 pub mod RunParts
 pub mod KnowledgeKept

@@ -1,6 +1,7 @@
--- At each listing of a plan's run there is a moment, and the listing is what is plugged then; so there is where bytes were sent.
+-- At each item of a plan's run there is a moment: a listing is what is plugged then, and a transfer what devices did.
 use Rattle.std.proofs.Common.{◌≡◌, ◌∙◌, refl, sym, ap, subst, true, false, ℕ, length, List, [], ◌∷◌, Bool, Option, None, Some, Result, Ok, Err}
 use Rattle.std.specs.List.{AllByRecursion}
+use Rattle.std.specs.Prelude.{is_ok}
 use Rattle.usb_device.specs.Tree.{Ports}
 use Rattle.usb_world.specs.declared.event.Action.{Action}
 use Rattle.usb_world.specs.declared.event.Action.TheVariants as act
@@ -17,24 +18,25 @@ use Rattle.usb_world.specs.World.{World, roots_of}
 use Rattle.usb_world.proofs.Interface.{course_joined}
 use Rattle.usb_bus.specs.Lines.{next_due}
 use Rattle.usb_enum.proofs.Interface.{few_before}
+use Rattle.usb_table.specs.Deliveries.{Delivered, Collected, Restarted, bytes_in}
 use Rattle.usb_table.specs.Entries.{Entries}
 use Rattle.usb_table.specs.Listing.{IsListedPort, Lists, Matches, tree_after}
+use Rattle.usb_table.specs.Table.{Table}
 use Rattle.usb_table.proofs.Interface.{lists_of_plan}
 use Rattle.usb_host.specs.Agreement.{Agrees}
 use Rattle.usb_host.specs.Hosting.{Hosting}
-use Rattle.usb_host.specs.Transfers.{SentAt}
+use Rattle.usb_host.specs.Transfers.{table_in}
 use Rattle.usb_host.specs.Soundness.{IsSound, IsAtRest, Causes, IsFairTo, StaysSound}
 use Rattle.usb_host.proofs.Interface.{accounted, settled_matches}
 use Rattle.usb_serve.specs.declared.runs.Item.{Item}
 use Rattle.usb_serve.specs.declared.runs.Item.TheVariants as item
 use Rattle.usb_serve.specs.declared.serving.Mode.{Mode}
-use Rattle.usb_serve.specs.declared.transfer.TransferFault.{TransferFault}
-use Rattle.usb_serve.specs.Moments.{WasListed, WasSent, HasMoment, IsListingOf, ListsRight}
+use Rattle.usb_serve.specs.Moments.{WasListed, WasAsked, HasMoment, IsListingOf, TellsRight}
 use Rattle.usb_serve.specs.RunSegments.{Ran, idle, worked, changed, Reaches, Works, Comes}
 use Rattle.usb_serve.specs.Run.{listing_of}
 use Rattle.usb_serve.specs.Transcript.{Makes, asked, last, AppendsText, RunsTo, StoppedRun, behind, on_the_way, in_text, Transcript, begun, ran, told}
-use Rattle.usb_serve.specs.Transfers.{IsItemOf, Transfers, sent_count}
-use Rattle.usb_serve.proofs.Deliveries.{told_delivers}
+use Rattle.usb_serve.specs.Transfers.{IsItemOf, sent_count}
+use Rattle.usb_serve.proofs.ToldTransfers.{told_sent, told_received, told_cleared, count_done, count_told}
 use Rattle.usb_serve.proofs.KnowledgeKept.{came_stays, came_running, fair_before, fair_after, ran_running}
 use Rattle.usb_serve.proofs.RunCourses.{Onward, onward_then, works_onward, comes_onward, ran_onward, makes_onward, stops_onward, puts_onward, cuts_onward}
 
@@ -170,26 +172,23 @@ module _ (plan : PlanData) where
         is = refl;
       }
 
-  -- the bytes that an event asks for, of a host that had settled when it came
-  reached_sent : {h mid k : Hosting} (path bytes : List ℕ) (sent : Result (Unit {0}) TransferFault) (end : World) → SoFar plan h → Reaches h (Ok (Some (Send path bytes))) mid → Works mid k → Transfers (SentAt path bytes) mid sent k
-      → Onward k.world end → WasSent plan end path (sent_count (length bytes) sent)
-  reached_sent {h} {mid} {k} path bytes sent end s reaches works did on =
+  -- at an event that asks for a transfer, of a host that had settled when it came
+  reached_asked : {h mid k : Hosting} (asks : Due) (Leaves : Table → World → Table → World → Type 0) (end : World) → SoFar plan h → Reaches h (Ok (Some asks)) mid → Works mid k
+      → (IsSound mid → mid.world.fault ≡ None → mid.stopped ≡ false → Leaves (table_in mid) mid.world (table_in k) k.world) → Onward k.world end → WasAsked plan end asks Leaves
+  reached_asked {h} {mid} {k} asks Leaves end s reaches works leaves on =
       let settled = so_far_ran plan s reaches.ran reaches.settles.running in
-      let now = so_far_reached plan (Some (Send path bytes)) s reaches in
+      let now = so_far_reached plan (Some asks) s reaches in
       let takes = reaches.comes.takes in
-      let still : mid.world.fault ≡ None = came_still (Some (Send path bytes)) reaches.mid.world mid.world takes.took.ends in
+      let still : mid.world.fault ≡ None = came_still (Some asks) reaches.mid.world mid.world takes.took.ends in
       record {
         came = reaches.mid.world;
-        bytes = bytes;
         asked = sym takes.asked;
         before = (settled.onward (comes_onward reaches.comes still).sound).course;
         host = mid;
         begun = takes.exact;
         knows = now.sound;
-        sent = sent;
-        tells = refl;
-        new = k.world;
-        delivered = told_delivers path bytes mid k sent now.sound still works.running did;
+        left = k;
+        leaves = leaves now.sound still works.running;
         behind = λ end_still. let more = on end_still in record { still = more.sound; course = (works_onward works more.sound).course; behind = more.course };
       }
 
@@ -204,9 +203,23 @@ module _ (plan : PlanData) where
       subst (HasMoment plan end) (sym (e ∙ same)) (reached_listed (Some Show) end s reaches calm (subst (λ (x : Hosting). Onward x.world end) is.1 on))
   of_due (Send path bytes) made end h mid k s reaches works is on =
       let e : made ≡ item.Sent path (sent_count (length bytes) is.0) = cc is.1 in
-      subst (HasMoment plan end) (sym e) (reached_sent path bytes is.0 end s reaches works is.2 on)
-  of_due (Receive path packets) made end h mid k s reaches works is on = let e : made ≡ item.Received path is.0 = cc is.1 in subst (HasMoment plan end) (sym e) tt
-  of_due (Clear path) made end h mid k s reaches works is on = let e : made ≡ item.Cleared path is.0 = cc is.1 in subst (HasMoment plan end) (sym e) tt
+      subst (HasMoment plan end) (sym e)
+      (record {
+        bytes = bytes;
+        count = count_told (length bytes) is.0;
+        moment = reached_asked (Send path bytes) (Delivered path (is_ok (sent_count (length bytes) is.0)) bytes) end s reaches works
+            (λ sound still running. subst (λ (b : Bool). Delivered path b bytes (table_in mid) mid.world (table_in k) k.world) (count_done (length bytes) is.0) (told_sent path mid k sound still running bytes is.0 is.2)) on;
+      })
+  of_due (Receive path packets) made end h mid k s reaches works is on =
+      let e : made ≡ item.Received path is.0 = cc is.1 in
+      subst (HasMoment plan end) (sym e)
+      (record {
+        packets = packets;
+        moment = reached_asked (Receive path packets) (Collected path (is_ok is.0) packets (bytes_in is.0)) end s reaches works (λ sound still running. told_received path mid k sound still running packets is.0 is.2) on;
+      })
+  of_due (Clear path) made end h mid k s reaches works is on =
+      let e : made ≡ item.Cleared path is.0 = cc is.1 in
+      subst (HasMoment plan end) (sym e) (reached_asked (Clear path) (Restarted path (is_ok is.0)) end s reaches works (λ sound still running. told_cleared path mid k sound still running is.0 is.2) on)
 
   made_moment : {h k : Hosting} {made : Item} {over : Bool} (end : World) → SoFar plan h → Makes h made over k → Onward k.world end → HasMoment plan end made
   made_moment {h} {k} {made} end s (asked {mid = mid} due reaches works is) on = of_due due made end h mid k s reaches works is on
@@ -224,19 +237,16 @@ module _ (plan : PlanData) where
     is = m.is;
   }
 
-  sent_later : {w v : World} {path : List ℕ} {told : Result ℕ TransferFault} → Onward w v → WasSent plan w path told → WasSent plan v path told
-  sent_later {w} {v} on m = record {
+  asked_later : {w v : World} {asks : Due} {Leaves : Table → World → Table → World → Type 0} → Onward w v → WasAsked plan w asks Leaves → WasAsked plan v asks Leaves
+  asked_later {w} {v} on m = record {
     came = m.came;
-    bytes = m.bytes;
     asked = m.asked;
     before = m.before;
     host = m.host;
     begun = m.begun;
     knows = m.knows;
-    sent = m.sent;
-    tells = m.tells;
-    new = m.new;
-    delivered = m.delivered;
+    left = m.left;
+    leaves = m.leaves;
     behind = λ still.
         let more = on still in
         let to = m.behind more.sound in
@@ -245,9 +255,9 @@ module _ (plan : PlanData) where
 
   moment_later : {w v : World} → Onward w v → (made : Item) → HasMoment plan w made → HasMoment plan v made
   moment_later on (item.Listing tree taken) m = listed_later on m
-  moment_later on (item.Sent path sent) m = sent_later on m
-  moment_later on (item.Received path received) m = tt
-  moment_later on (item.Cleared path cleared) m = tt
+  moment_later on (item.Sent path sent) m = record { bytes = m.bytes; count = m.count; moment = asked_later on m.moment }
+  moment_later on (item.Received path received) m = record { packets = m.packets; moment = asked_later on m.moment }
+  moment_later on (item.Cleared path cleared) m = asked_later on m
 
   moments_later : {w v : World} (items : List Item) → Onward w v → AllByRecursion (HasMoment plan w) items → AllByRecursion (HasMoment plan v) items
   moments_later [] on ms = tt
@@ -298,11 +308,11 @@ module _ (plan : PlanData) (rules : IsPlan plan) (paths : AtPorts plan.events) (
   moments_right (x ∷ items) (m, ms) = (moment_right x m, moments_right items ms)
 
 -- each listing of a run has its moment, and is right where damage is fair
-pub run_lists_right : {A E : Type 0} (plan : PlanData) → IsPlan plan → AtPorts plan.events → (mode : Mode) (was : Bool) (old : Hosting) (items : List Item) (new : Hosting) (result : Result A E) → SoFar plan old
-    → RunsTo mode was old items result new → ListsRight plan items new.world
-run_lists_right plan rules paths mode was old items new result s t =
+pub run_tells_right : {A E : Type 0} (plan : PlanData) → IsPlan plan → AtPorts plan.events → (mode : Mode) (was : Bool) (old : Hosting) (items : List Item) (new : Hosting) (result : Result A E) → SoFar plan old
+    → RunsTo mode was old items result new → TellsRight plan items new.world
+run_tells_right plan rules paths mode was old items new result s t =
     let moments = run_moments plan mode was old items new result s t in
     record { moments = moments; right = λ fair. moments_right plan rules paths new.world fair items moments }
 
-pub none_listed : (plan : PlanData) (end : World) → ListsRight plan [] end
-none_listed plan end = record { moments = tt; right = λ fair. tt }
+pub none_tells : (plan : PlanData) (end : World) → TellsRight plan [] end
+none_tells plan end = record { moments = tt; right = λ fair. tt }

@@ -18,7 +18,7 @@ use Rattle.usb_serve.specs.ServedRuns.{EndsWell, Finishes, Opens, Reports, unpow
 use Rattle.usb_serve.specs.Transcript.{RunsTo, Next, AppendsText, Transcript, begun, behind, ran, told}
 use Rattle.usb_serve.specs.declared.serving.Mode.{Mode}
 use Rattle.usb_serve.proofs.Ends.{so_far_opened, works_powered}
-use Rattle.usb_serve.proofs.Moments.{done_still, none_listed, run_lists_right}
+use Rattle.usb_serve.proofs.Moments.{done_still, none_tells, run_tells_right}
 use Rattle.usb_serve.proofs.RunParts.{Spent, makes_spent, ran_spent, spent_then, within_limit}
 use Rattle.usb_serve.proofs.Transcripts.{ends_failed, ends_then, powered, puts_none, stopped_next, told_next}
 
@@ -93,7 +93,7 @@ ends_opened plan before over h k result opens at_work finishes single = record {
     report = finishes.report;
   };
   single = single;
-  lists = run_lists_right plan opens.rules opens.paths Tree over h finishes.items k result (so_far_opened plan h opens) finishes.ends;
+  tells = run_tells_right plan opens.rules opens.paths Tree over h finishes.items k result (so_far_opened plan h opens) finishes.ends;
 }
 
 -- where memory is refused for its bus
@@ -103,7 +103,7 @@ ends_unopened plan fault = record {
   last = unpowered plan None;
   finishes = record { items = []; ends = behind begun; report = tt };
   single = refl;
-  lists = none_listed plan (unpowered plan None).world;
+  tells = none_tells plan (unpowered plan None).world;
 }
 
 -- What is told of it
@@ -115,5 +115,5 @@ pub ends_plugged : (plan : PlanData) (result : Result Report RunFault) → EndsW
 ends_plugged plan (Ok report) ends few = λ worst.
     let told = ends.finishes.report in
     reported (IsListingOf plan) report.items.items ends.finishes.items told.items_made
-    (ends.lists.right (record { still = done_still ends.finishes.ends; few = few; kept = subst (λ n. n ≤ 2) told.worst worst }))
+    (ends.tells.right (record { still = done_still ends.finishes.ends; few = few; kept = subst (λ n. n ≤ 2) told.worst worst }))
 ends_plugged plan (Err fault) ends few = tt

@@ -17,7 +17,7 @@ use Rattle.usb_serve.specs.declared.runs.Item.TheVariants.{Listing, Sent, Receiv
 use Rattle.usb_serve.specs.declared.runs.RunFault.{RunFault}
 use Rattle.usb_serve.specs.declared.serving.Mode.TheVariants.{Tree, Run}
 use Rattle.usb_serve.specs.declared.serving.ServeFault.{ServeFault}
-use Rattle.usb_serve.specs.Moments.{ListsRight}
+use Rattle.usb_serve.specs.Moments.{TellsRight}
 use Rattle.usb_serve.specs.Report.{bound_line}
 use Rattle.usb_serve.specs.Run.{items_left}
 use Rattle.usb_serve.specs.ServedRuns.{Opens, RunWritten, TreeWritten, unpowered}
@@ -25,7 +25,7 @@ use Rattle.usb_serve.specs.ServeResults.{item_lines, number_of}
 use Rattle.usb_serve.specs.Transcript.{CutsText, RunsTo, RunEnds, Next, AppendsText, Transcript, begun, behind, item_text, items_text, listings}
 use Rattle.usb_serve.proofs.Ends.{so_far_opened, works_powered}
 use Rattle.usb_serve.proofs.LineEnds.{item_lines_text}
-use Rattle.usb_serve.proofs.Moments.{none_listed, run_lists_right}
+use Rattle.usb_serve.proofs.Moments.{none_tells, run_tells_right}
 use Rattle.usb_serve.proofs.Transcripts.{cut_next, cuts_none, ends_failed, ends_then, front_none, over_next, powered, puts_none, stopped_next, told_next}
 
 -- a run whose listings so far are this many; with those to come they are not too many to count
@@ -110,12 +110,12 @@ run_written plan before over h k result now opens at_work goes single text = rec
   last = k;
   ends = ends_then goes.items k result (powered Run plan before h (works_powered plan h opens)) (subst (λ o. RunsTo Run o h goes.items result k) at_work goes.ends);
   single = single;
-  lists = run_lists_right plan opens.rules opens.paths Run over h goes.items k result (so_far_opened plan h opens) goes.ends;
+  tells = run_tells_right plan opens.rules opens.paths Run over h goes.items k result (so_far_opened plan h opens) goes.ends;
   text = text;
 }
 
 pub run_unopened : (plan : PlanData) (before : Option (List ℕ)) (fault : ServeFault) (now : Option (List ℕ)) → now ≡ before → RunWritten plan before (Err fault) now
-run_unopened plan before fault now same = record { items = []; last = unpowered plan before; ends = behind begun; single = refl; lists = none_listed plan (opening plan); text = same }
+run_unopened plan before fault now same = record { items = []; last = unpowered plan before; ends = behind begun; single = refl; tells = none_tells plan (opening plan); text = same }
 
 -- In mode Tree
 
@@ -146,8 +146,8 @@ runs_opened : (plan : PlanData) (thrown : Option (List ℕ)) (first : Hosting) �
     → RunsTo Tree false (unpowered plan thrown) items result k
 runs_opened plan thrown first opens items k result ends = ends_then items k result (powered Tree plan thrown first (works_powered plan first opens)) ends
 
-lists_opened : (plan : PlanData) (thrown : Option (List ℕ)) (first : Hosting) → Opens plan thrown first → (items : List Item) (k : Hosting) (result : Result (Unit {0}) ServeFault) → RunsTo Tree false first items result k → ListsRight plan items k.world
-lists_opened plan thrown first opens items k result ends = run_lists_right plan opens.rules opens.paths Tree false first items k result (so_far_opened plan first opens) ends
+tells_opened : (plan : PlanData) (thrown : Option (List ℕ)) (first : Hosting) → Opens plan thrown first → (items : List Item) (k : Hosting) (result : Result (Unit {0}) ServeFault) → RunsTo Tree false first items result k → TellsRight plan items k.world
+tells_opened plan thrown first opens items k result ends = run_tells_right plan opens.rules opens.paths Tree false first items k result (so_far_opened plan first opens) ends
 
 pub tree_told : {plan : PlanData} {before : Option (List ℕ)} {number : ℕ} {over : Bool} {h : Hosting} {now : Option (List ℕ)} (r : TreeSoFar plan before number over h now) (next : ℕ) (item : Item) (on : Bool) (k : Hosting) (vs : List (Vec ℕ)) (s : Option (List ℕ))
     → (number < 18446744073709551615 → next ≡ number_of item number) → Next over h (Ok (Some item)) on k → items_left on k.world < items_left over h.world
@@ -164,7 +164,7 @@ tree_told {before = before} {now = now} r next item on k vs s counted makes fewe
 }
 
 pub tree_unopened : (plan : PlanData) (before : Option (List ℕ)) (fault : ServeFault) → TreeWritten plan before (Err fault) before
-tree_unopened plan before fault = record { items = []; thrown = None; last = unpowered plan None; ends = behind begun; single = refl; lists = none_listed plan (opening plan); front = front_none before _; all = tt }
+tree_unopened plan before fault = record { items = []; thrown = None; last = unpowered plan None; ends = behind begun; single = refl; tells = none_tells plan (opening plan); front = front_none before _; all = tt }
 
 not_ok : {A E : Type 0} (Q : Type 0) (result : Result A E) (said : E) → IsErrAnd result (λ e. e ≡ said) → OnOk result Q
 not_ok Q (Ok done) said is = absurd is
@@ -181,7 +181,7 @@ tree_stopped {plan} {before} {now = now} r on k fault result said is next single
       last = k;
       ends = runs_opened plan r.thrown r.first r.opens r.items k result ends;
       single = single;
-      lists = lists_opened plan r.thrown r.first r.opens r.items k result ends;
+      tells = tells_opened plan r.thrown r.first r.opens r.items k result ends;
       front = front_of before now (items_text r.items) (bound_line (bound_of plan)) (items_text r.items ++ bound_line (bound_of plan)) refl r.text;
       all = not_ok (Appends before now (items_text r.items ++ bound_line (bound_of plan))) result said is;
     }
@@ -198,7 +198,7 @@ tree_cut {plan} {before} {now = now} r item on k result s said is next single fr
       last = k;
       ends = runs_opened plan r.thrown r.first r.opens (item ∷ r.items) k result ends;
       single = single;
-      lists = lists_opened plan r.thrown r.first r.opens (item ∷ r.items) k result ends;
+      tells = tells_opened plan r.thrown r.first r.opens (item ∷ r.items) k result ends;
       front = front_after before now s (items_text r.items) (item_text r.items item) (bound_line (bound_of plan)) _ (append_assoc (items_text r.items) (item_text r.items item) (bound_line (bound_of plan))) r.text front;
       all = not_ok (Appends before s (items_text (item ∷ r.items) ++ bound_line (bound_of plan))) result said is;
     }
@@ -221,7 +221,7 @@ tree_over {plan} {before} {h = h} {now = now} r on k (Ok done) s next single fro
       last = k;
       ends = runs_opened plan r.thrown r.first r.opens r.items k (Ok done) ends;
       single = single;
-      lists = lists_opened plan r.thrown r.first r.opens r.items k (Ok done) ends;
+      tells = tells_opened plan r.thrown r.first r.opens r.items k (Ok done) ends;
       front = front_after_first before now s (items_text r.items) (bound_line (bound_of plan)) r.text front;
       all = Appends-trans before now s (items_text r.items) (bound_line (bound_of plan)) r.text all;
     }
@@ -233,7 +233,7 @@ tree_over {plan} {before} {h = h} {now = now} r on k (Err fault) s next single f
       last = k;
       ends = runs_opened plan r.thrown r.first r.opens r.items k (Err fault) ends;
       single = single;
-      lists = lists_opened plan r.thrown r.first r.opens r.items k (Err fault) ends;
+      tells = tells_opened plan r.thrown r.first r.opens r.items k (Err fault) ends;
       front = front_after_first before now s (items_text r.items) (bound_line (bound_of plan)) r.text front;
       all = tt;
     }

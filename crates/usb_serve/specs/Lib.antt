@@ -6,5 +6,4 @@ pub mod Transfers
 pub mod RunSegments
 pub mod Transcript
 pub mod ServedRuns
-pub mod Deliveries
 pub mod Moments

@@ -1,24 +1,27 @@
--- The moments of a plan's run at which its items are made: that each listing is what is plugged then, and that what was sent was taken.
-use Rattle.std.specs.Prelude.{◌≡◌, ◌≢◌, ◌+◌, ◌≤◌, ⊤, ℕ, List, length, All, None, Some, Result, is_ok}
+-- The moments of a plan's run at which its items are made: that each listing is what is plugged then, and that each transfer is what devices did.
+use Rattle.std.specs.Prelude.{◌≡◌, ◌≢◌, ◌+◌, ◌≤◌, ⊤, ℕ, List, length, All, None, Some, Result, IfOk, is_ok}
+use Rattle.std.specs.Global.{Vec}
 use Rattle.std.specs.List.{AllByRecursion}
 use Rattle.usb_world.specs.declared.damage.Damage.{Damage}
-use Rattle.usb_world.specs.declared.event.Due.TheVariants.{Send}
+use Rattle.usb_world.specs.declared.event.Due.{Due}
+use Rattle.usb_world.specs.declared.event.Due.TheVariants.{Send, Receive, Clear}
 use Rattle.usb_world.specs.PlanData.{PlanData}
 use Rattle.usb_world.specs.Steps.{AnyStep, Course, after, event, opening}
 use Rattle.usb_world.specs.Wire.{damage_of}
 use Rattle.usb_world.specs.World.{World}
 use Rattle.usb_bus.specs.Lines.{next_due}
+use Rattle.usb_table.specs.Deliveries.{Delivered, Collected, Restarted, bytes_in}
 use Rattle.usb_table.specs.Listing.{Lists, tree_after}
+use Rattle.usb_table.specs.Table.{Table}
 use Rattle.usb_host.specs.Agreement.{Agrees}
 use Rattle.usb_host.specs.Hosting.{Hosting}
 use Rattle.usb_host.specs.Soundness.{IsSound, IsAtRest, Causes, IsFairTo}
+use Rattle.usb_host.specs.Transfers.{table_in}
 use Rattle.usb_serve.specs.declared.runs.Item.{Item}
 use Rattle.usb_serve.specs.declared.runs.Item.TheVariants.{Listing, Sent, Received, Cleared}
 use Rattle.usb_serve.specs.declared.runs.Report.{Report}
 use Rattle.usb_serve.specs.declared.transfer.TransferFault.{TransferFault}
-use Rattle.usb_serve.specs.Deliveries.{Delivered}
 use Rattle.usb_serve.specs.Run.{listing_of}
-use Rattle.usb_serve.specs.Transfers.{sent_count}
 
 -- A moment of a plan's run up to its last world
 
@@ -44,27 +47,39 @@ pub record Between (first second last : World) : Type 0 where
   pub course : Course AnyStep first second
   pub behind : Course AnyStep second last
 
--- an event asked for bytes to be sent to the path, the device there took just these, and this is told of it
-pub record WasSent (plan : PlanData) (last : World) (path : List ℕ) (told : Result ℕ TransferFault) : Type 0 where
+-- an event asked this of a host that knew its ports, and the transfer through its pipes left so much
+pub record WasAsked (plan : PlanData) (last : World) (asks : Due) (Leaves : Table → World → Table → World → Type 0) : Type 0 where
   pub came : World  -- where the event was the next one
-  pub bytes : List ℕ
-  pub asked : next_due came ≡ Some (Send path bytes)
+  pub asked : next_due came ≡ Some asks
   pub before : Course AnyStep (opening plan) came
   pub host : Hosting  -- once it had come
   pub begun : host.world ≡ after event came
   pub knows : IsSound host
-  pub sent : Result (Unit {0}) TransferFault
-  pub tells : told ≡ sent_count (length bytes) sent
-  pub new : World  -- once it was done
-  pub delivered : Delivered path (is_ok sent) bytes host.entries host.world new
-  pub behind : last.fault ≡ None → Between host.world new last
+  pub left : Hosting  -- once it was done
+  pub leaves : Leaves (table_in host) host.world (table_in left) left.world
+  pub behind : last.fault ≡ None → Between host.world left.world last
 
--- so it is of an item that is a listing, and of one that tells of bytes that were sent
+-- bytes were to be sent to the path, so many as is told, and the device there took just these
+pub record WasSent (plan : PlanData) (last : World) (path : List ℕ) (told : Result ℕ TransferFault) : Type 0 where
+  pub bytes : List ℕ
+  pub count : IfOk told (λ n. n ≡ length bytes)
+  pub moment : WasAsked plan last (Send path bytes) (Delivered path (is_ok told) bytes)
+
+-- packets were to be received from the path, and the device there gave the bytes that are told
+pub record WasReceived (plan : PlanData) (last : World) (path : List ℕ) (told : Result (Vec ℕ) TransferFault) : Type 0 where
+  pub packets : ℕ
+  pub moment : WasAsked plan last (Receive path packets) (Collected path (is_ok told) packets (bytes_in told))
+
+-- the halts of the device at the path were to be cleared, and they were
+abbrev pub WasCleared : PlanData → World → List ℕ → Result (Unit {0}) TransferFault → Type 0
+WasCleared plan last path told = WasAsked plan last (Clear path) (Restarted path (is_ok told))
+
+-- so it is of an item that is a listing, and of one that tells of a transfer
 abbrev pub HasMoment : PlanData → World → Item → Type 0
 HasMoment plan last (Listing tree taken) = WasListed plan last (Listing tree taken)
-HasMoment plan last (Sent path sent) = WasSent plan last path sent
-HasMoment plan last (Received path received) = ⊤
-HasMoment plan last (Cleared path cleared) = ⊤
+HasMoment plan last (Sent path told) = WasSent plan last path told
+HasMoment plan last (Received path told) = WasReceived plan last path told
+HasMoment plan last (Cleared path told) = WasCleared plan last path told
 
 -- What is plugged
 
@@ -75,8 +90,8 @@ IsListingOf plan (Sent path sent) = ⊤
 IsListingOf plan (Received path received) = ⊤
 IsListingOf plan (Cleared path cleared) = ⊤
 
--- each listing of a run was made at a moment of it, and is right where damage is fair; what was sent in it was taken
-pub record ListsRight (plan : PlanData) (items : List Item) (last : World) : Type 0 where
+-- each item of a run was made at a moment of it, at which devices did what is told of a transfer; and each listing is right where damage is fair
+pub record TellsRight (plan : PlanData) (items : List Item) (last : World) : Type 0 where
   pub moments : AllByRecursion (HasMoment plan last) items
   pub right : IsFairTo (opening plan) last → AllByRecursion (IsListingOf plan) items
 

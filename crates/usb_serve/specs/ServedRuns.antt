@@ -20,7 +20,7 @@ use Rattle.usb_serve.specs.declared.serving.Mode.{Mode}
 use Rattle.usb_serve.specs.declared.serving.Mode.TheVariants.{Tree, Run}
 use Rattle.usb_serve.specs.declared.serving.ServeFault.{ServeFault}
 use Rattle.usb_serve.specs.declared.serving.ServeFault.TheVariants as serve
-use Rattle.usb_serve.specs.Moments.{ListsRight}
+use Rattle.usb_serve.specs.Moments.{TellsRight}
 use Rattle.usb_serve.specs.Report.{bound_line}
 use Rattle.usb_serve.specs.Transcript.{RunsTo, items_text}
 
@@ -49,21 +49,21 @@ pub record Finishes (was : Bool) (old : Hosting) (result : Result Report RunFaul
   pub ends : RunsTo Tree was old items result new
   pub report : IfOk result (Reports items new.world)
 
--- where a plan's run ends, with or without a fault: at no attempt so far did two reachable devices hold one address, and each listing is right
+-- where a plan's run ends, with or without a fault: at no attempt so far did two reachable devices hold one address, and what it tells is right
 pub record EndsWell (plan : PlanData) (result : Result Report RunFault) : Type 0 where
   pub before : Option (List ℕ)
   pub last : Hosting
   pub finishes : Finishes false (unpowered plan before) result last
   pub single : last.world.shared ≡ false
-  pub lists : ListsRight plan finishes.items last.world
+  pub tells : TellsRight plan finishes.items last.world
 
--- what is written in mode Run: the text of a run of the plan, at no attempt of which two reachable devices held one address, and of which each listing is right
+-- what is written in mode Run: the text of a run of the plan, at no attempt of which two reachable devices held one address, and which tells what is right
 pub record RunWritten (plan : PlanData) (before : Option (List ℕ)) (result : Result (Unit {0}) ServeFault) (now : Option (List ℕ)) : Type 0 where
   pub items : List Item
   pub last : Hosting
   pub ends : RunsTo Run false (unpowered plan before) items result last
   pub single : last.world.shared ≡ false
-  pub lists : ListsRight plan items last.world
+  pub tells : TellsRight plan items last.world
   pub text : now ≡ last.trace
 
 -- what is written in mode Tree: the text of the items of such a run, and the plan's bound behind them; a front of it where the run stopped
@@ -73,7 +73,7 @@ pub record TreeWritten (plan : PlanData) (before : Option (List ℕ)) (result : 
   pub last : Hosting
   pub ends : RunsTo Tree false (unpowered plan thrown) items result last
   pub single : last.world.shared ≡ false
-  pub lists : ListsRight plan items last.world
+  pub tells : TellsRight plan items last.world
   pub front : AppendsFront before now (items_text items ++ bound_line (bound_of plan))
   pub all : OnOk result (Appends before now (items_text items ++ bound_line (bound_of plan)))
 

@@ -140,7 +140,8 @@ pub struct Report {
 /// LimitReached where the attempts made equal the plan's limit, Memory where memory was refused.
 pub fn run(alloc: Global, plan: &Plan) -> Result<Report, RunFault>
     ensures limit { IfOk result (λ report. report.attempts ≤ plan.now.limit) }
-    // No two devices that could be reached held one address at any attempt.
+    // No two devices that could be reached held one address at any attempt, and what is told of a
+    // transfer is what devices did.
     ensures ends { EndsWell plan.now result }
     // Where no three attempts running are damaged, and no address was lost three times running,
     // each listing is what is plugged when it is made.

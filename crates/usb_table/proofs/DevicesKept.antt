@@ -8,13 +8,13 @@ use Rattle.usb_port.specs.PortState.{PortState}
 use Rattle.usb_request.specs.Layout.{bytes_of}
 use Rattle.usb_request.specs.Requests.{clear_endpoint_halt}
 use Rattle.usb_request.specs.declared.setup.Setup.{Setup}
-use Rattle.usb_device.specs.declared.bulk.Which.{Which}
-use Rattle.usb_device.specs.declared.bulk.Which.TheVariants.{BulkOut, BulkIn, Changes}
-use Rattle.usb_device.specs.declared.bulk.Pipe.{Pipe}
+use Rattle.usb_device.specs.declared.bulk.ServedEndpoint.{ServedEndpoint}
+use Rattle.usb_device.specs.declared.bulk.ServedEndpoint.TheVariants.{BulkOut, BulkIn, Changes}
+use Rattle.usb_device.specs.declared.bulk.EndpointState.{EndpointState}
 use Rattle.usb_device.specs.Bulk.{rested}
 use Rattle.usb_device.specs.Progress.{OnlyControl}
 use Rattle.usb_device.specs.Request.{Outcome, stalled, answers, takes_address, takes_configuration, halts, unhalts, tells_port, calls_port, on_endpoint, outcome}
-use Rattle.usb_device.specs.Rows.{State, with_pipe, begun, accepted}
+use Rattle.usb_device.specs.Rows.{State, with_endpoint_state, begun, accepted}
 use Rattle.usb_device.specs.Spec.{Spec}
 use Rattle.usb_device.specs.declared.request.Registers.{Registers}
 use Rattle.usb_device.specs.Transfer.{first_stage, ending}
@@ -24,8 +24,8 @@ use Rattle.usb_world.specs.declared.types.BusFault.{BusFault}
 use Rattle.usb_world.specs.Addresses.{is_setup}
 use Rattle.usb_world.specs.Devices.{EachWas, DidIn, DidOut}
 use Rattle.usb_world.specs.OneHolder.{IsMade, IsIn, IsOut}
-use Rattle.usb_world.specs.Passes.{IsSettled}
-use Rattle.usb_world.specs.PortRequests.{is_plain}
+use Rattle.usb_world.specs.AttemptPackets.{IsSettled}
+use Rattle.usb_world.specs.PortRequests.{asks_no_port}
 use Rattle.usb_world.specs.RestingPorts.{AsksNothingOf}
 use Rattle.usb_world.specs.Steps.{Step, attempt, root_call, event, report, after, ready, with_attempt, Course, here, step}
 use Rattle.usb_world.specs.World.{World}
@@ -298,7 +298,7 @@ IsOfEndpoint (unhalts x) = Unit {0}
 IsOfEndpoint (tells_port i) = ⊥
 IsOfEndpoint (calls_port c i) = ⊥
 
-of_endpoint : (which : Option Which) → IsOfEndpoint (on_endpoint unhalts which)
+of_endpoint : (which : Option ServedEndpoint) → IsOfEndpoint (on_endpoint unhalts which)
 of_endpoint None = tt
 of_endpoint (Some which) = tt
 
@@ -306,7 +306,7 @@ clear_outcome : (endpoint : ℕ) (spec : Spec) (g : Registers) → IsOfEndpoint 
 unfolding clear_endpoint_halt outcome
 clear_outcome endpoint spec g = of_endpoint _
 
-pipe_spec : (s : State) (which : Which) (pipe : Pipe) → (with_pipe s which pipe).spec ≡ s.spec
+pipe_spec : (s : State) (which : ServedEndpoint) (pipe : EndpointState) → (with_endpoint_state s which pipe).spec ≡ s.spec
 pipe_spec s BulkOut pipe = refl
 pipe_spec s BulkIn pipe = refl
 pipe_spec s Changes pipe = refl
@@ -342,9 +342,9 @@ module _ (t : Target) (request : Setup) (of : (spec : Spec) (g : Registers) → 
       (λ frame same. (ap (λ x. x.spec) frame, same))
 
 module _ (endpoint : ℕ) where
-  clear_plain : is_plain (clear_endpoint_halt endpoint) ≡ true
+  clear_asks_no_port : asks_no_port (clear_endpoint_halt endpoint) ≡ true
   unfolding clear_endpoint_halt
-  clear_plain = refl
+  clear_asks_no_port = refl
 
   pub clear_length : (clear_endpoint_halt endpoint).length ≡ 0
   unfolding clear_endpoint_halt
@@ -379,7 +379,7 @@ pub clears_rest : (pipe : Bulk) (old : World) (result : Result (Unit {0}) PipeFa
 clears_rest pipe old result left new x sound = elim (ready_or_not pipe.condition) [
   | inl ready ↦ same_rests old new (x.ready ready).world_kept
   | inr not ↦
-      (cleared_ordered pipe old result left new (x.sent not)).rests (clear_plain (halt_address pipe.ep pipe.is_in)) (ended 2 result old new (x.sent not).ends sound)
+      (cleared_ordered pipe old result left new (x.sent not)).rests (clear_asks_no_port (halt_address pipe.ep pipe.is_in)) (ended 2 result old new (x.sent not).ends sound)
 ]
 
 -- no address was held twice before

@@ -1,14 +1,14 @@
 -- What is so of the endpoints that a host picks in a configuration text.
 use Rattle.std.proofs.Common.{◌≡◌, refl, arith, Bool, true, false, ℕ, ◌≤◌, ◌==◌, ◌&&◌, if◌then◌else◌, List, [], ◌∷◌, Option, None, Some, Result, Ok, Err}
 use Rattle.std.specs.Prelude.{nat_le, slice_index, IfSome}
+use Rattle.std.specs.Option.{option_or}
 use Rattle.std.proofs.lemmas.Bool.Decides.{nat_tests}
 use Rattle.usb_descriptor.specs.declared.fault.DescriptorFault.{DescriptorFault}
 use Rattle.usb_descriptor.specs.declared.item.Item.{Item}
 use Rattle.usb_descriptor.specs.declared.item.Item.TheVariants.{Interface, Endpoint, Other}
-use Rattle.usb_descriptor.specs.Choice.{counts_after, picked, or_else, first_from, first_counting, is_bulk_size, bulk_described, bulk_out_at, bulk_in_at, packet_size, status_at, in_config, bulk_out_of, bulk_in_of, status_endpoint_of}
+use Rattle.usb_descriptor.specs.Choice.{counts_after, picked, first_from, first_counting, is_bulk_size, bulk_described, bulk_out_at, bulk_in_at, packet_size, status_at, in_config, bulk_out_of, bulk_in_of, status_endpoint_of}
 use Rattle.usb_descriptor.specs.Config.{config_of}
-use Rattle.usb_descriptor.specs.Item.{items_of, is_in, endpoint_number, is_bulk, is_interrupt, transfer_of}
-use Rattle.usb_descriptor.specs.Words.{word_at}
+use Rattle.usb_descriptor.specs.Item.{items_of, is_in, endpoint_number, is_bulk, is_interrupt, transfer_of, max_packet_size}
 
 -- what is so of each that is picked, is so of the first that counts
 
@@ -19,7 +19,7 @@ module _ (P : ℕ × ℕ → Type 0) (pick : List ℕ → Option (ℕ × ℕ)) (
   of_picked false (Endpoint bytes) = tt
   of_picked counts (Other bytes) = tt
 
-  of_either : (o other : Option (ℕ × ℕ)) → IfSome o P → IfSome other P → IfSome (or_else o other) P
+  of_either : (o other : Option (ℕ × ℕ)) → IfSome o P → IfSome other P → IfSome (option_or o other) P
   of_either None other h g = g
   of_either (Some end) other h g = h
 
@@ -81,8 +81,8 @@ IsNumbered e = (e.0 == 0) ≡ false
 bulk_each : (endpoint : List ℕ) → IfSome (bulk_described endpoint) IsNumbered
 unfolding bulk_described
 bulk_each endpoint =
-    of_some IsNumbered (is_bulk (transfer_of endpoint) && nat_le 1 (endpoint_number endpoint) && is_bulk_size (word_at endpoint 4)) (endpoint_number endpoint, word_at endpoint 4)
-    (λ h. least (endpoint_number endpoint) (second (is_bulk (transfer_of endpoint)) (nat_le 1 (endpoint_number endpoint)) (is_bulk_size (word_at endpoint 4)) h))
+    of_some IsNumbered (is_bulk (transfer_of endpoint) && nat_le 1 (endpoint_number endpoint) && is_bulk_size (max_packet_size endpoint)) (endpoint_number endpoint, max_packet_size endpoint)
+    (λ h. least (endpoint_number endpoint) (second (is_bulk (transfer_of endpoint)) (nat_le 1 (endpoint_number endpoint)) (is_bulk_size (max_packet_size endpoint)) h))
   where
     least : (n : ℕ) → nat_le 1 n ≡ true → (n == 0) ≡ false
     least n h = grind (arith, nat_tests, h)

@@ -5,7 +5,7 @@ use Rattle.std.specs.Prelude.{ℕ, ◌+◌, ◌==◌, ◌<◌, ◌&&◌, List, [
 use Rattle.std.specs.Global.{Vec}
 use Rattle.arrayvec.specs.ArrayVec.{ArrayVec}
 use Rattle.usb_packet.specs.declared.Toggle.{Toggle}
-use Rattle.usb_device.specs.declared.bulk.Pipe.{Pipe}
+use Rattle.usb_device.specs.declared.bulk.EndpointState.{EndpointState}
 use Rattle.usb_device.specs.declared.request.Registers.{Registers}
 use Rattle.usb_device.specs.Bulk.{advanced, bulk_at, tells_changes}
 use Rattle.usb_device.specs.Progress.{SourceAt, PollAt, NeverTold, OnlyStage, OnlySink, OnlySource}
@@ -39,16 +39,16 @@ same_tells s v k = ap (λ (x : Spec). tells_changes x v.registers) k.0 ∙ ap (�
 still_sink : (pipe : Bulk) (s v : State) → SameSettings root s v → v.bulk_out ≡ s.bulk_out → FitsSink pipe s → FitsSink pipe v
 still_sink pipe s v k e f = record {
   endpoint = record { endpoint = same_end false s v k ∙ f.endpoint.endpoint; not_zero = f.endpoint.not_zero };
-  level = λ ready. ap (λ (x : Pipe). x.toggle) e ∙ f.level ready;
-  halted = λ halts. ap (λ (x : Pipe). x.halted) e ∙ f.halted halts;
+  level = λ ready. ap (λ (x : EndpointState). x.toggle) e ∙ f.level ready;
+  halted = λ halts. ap (λ (x : EndpointState). x.halted) e ∙ f.halted halts;
 }
 
 still_source_at : (most got : ℕ) (t : Toggle) (s v : State) → SameSettings root s v → v.place ≡ s.place → v.bulk_in ≡ s.bulk_in → SourceAt most got t s → SourceAt most got t v
-still_source_at most got t s v k place e (SourceAt.level a b) = SourceAt.level (place ∙ a) (ap (λ (x : Pipe). x.toggle) e ∙ b)
+still_source_at most got t s v k place e (SourceAt.level a b) = SourceAt.level (place ∙ a) (ap (λ (x : EndpointState). x.toggle) e ∙ b)
 still_source_at most got t s v k place e (SourceAt.ahead a b c) =
     SourceAt.ahead (a ∙ ap (λ n. advanced n most (length s.spec.source)) (sym place) ∙ ap (λ (x : Spec). advanced v.place most (length x.source)) (sym k.0))
     (subst (λ (x : Spec). v.place < length x.source) (sym k.0) (subst (λ n. n < length s.spec.source) (sym place) b))
-    (ap (λ (x : Pipe). x.toggle) e ∙ c)
+    (ap (λ (x : EndpointState). x.toggle) e ∙ c)
 
 still_source : (pipe : Bulk) (got : ℕ) (s v : State) → SameSettings root s v → v.place ≡ s.place → v.bulk_in ≡ s.bulk_in → FitsSource pipe got s → FitsSource pipe got v
 still_source pipe got s v k place e f = record {
@@ -58,7 +58,7 @@ still_source pipe got s v k place e f = record {
     alone = ap (λ b. pipe.ep == 1 && b) (same_tells s v k) ∙ f.endpoint.alone;
   };
   level = λ ready. still_source_at pipe.max got pipe.toggle s v k place e (f.level ready);
-  halted = λ halts. ap (λ (x : Pipe). x.halted) e ∙ f.halted halts;
+  halted = λ halts. ap (λ (x : EndpointState). x.halted) e ∙ f.halted halts;
 }
 
 still_out : (out : Option Bulk) (s v : State) → SameSettings root s v → v.bulk_out ≡ s.bulk_out → FitsOut out s → FitsOut out v
@@ -70,12 +70,12 @@ still_in None s v k place e f = tt
 still_in (Some pipe) s v k place e f = (f.0, still_source pipe f.0 s v k place e f.1)
 
 still_poll : (t : Toggle) (s v : State) → v.changes ≡ s.changes → v.held ≡ s.held → PollAt NeverTold t s → PollAt NeverTold t v
-still_poll t s v e held (PollAt.level a b) = PollAt.level (held ∙ a) (ap (λ (x : Pipe). x.toggle) e ∙ b)
+still_poll t s v e held (PollAt.level a b) = PollAt.level (held ∙ a) (ap (λ (x : EndpointState). x.toggle) e ∙ b)
 still_poll t s v e held (PollAt.told bits so a b) = absurd so
-still_poll t s v e held (PollAt.ahead bits a b) = PollAt.ahead bits (held ∙ a) (ap (λ (x : Pipe). x.toggle) e ∙ b)
+still_poll t s v e held (PollAt.ahead bits a b) = PollAt.ahead bits (held ∙ a) (ap (λ (x : EndpointState). x.toggle) e ∙ b)
 
 still_status : (pipe : Interrupt) (s v : State) → SameSettings root s v → v.changes ≡ s.changes → v.held ≡ s.held → FitsStatus pipe s → FitsStatus pipe v
-still_status pipe s v k e held f = record { tells = same_tells s v k ∙ f.tells; level = still_poll pipe.toggle s v e held f.level; runs = ap (λ (x : Pipe). x.halted) e ∙ f.runs }
+still_status pipe s v k e held f = record { tells = same_tells s v k ∙ f.tells; level = still_poll pipe.toggle s v e held f.level; runs = ap (λ (x : EndpointState). x.halted) e ∙ f.runs }
 
 -- where nothing changed but where the device's transfer stands
 pub still_level : (pipes : Pipes) (s v : State) → OnlyStage s v → AreLevel pipes s → AreLevel pipes v
@@ -163,5 +163,5 @@ module _ (ends : Type 0) (pipe left : Bulk) (answer : Result (Unit {0}) PipeFaul
     itself = λ e at f.
         let fits = x.source at way f.1.0 f.1.1 in
         let got : ℕ = got_after pipe f.1.0 answer s in
-        (still_out out s v k (y.out way f.1.1.endpoint) f.0, (got, known_itself ends answer left v (λ b. FitsSource b got) is e fits.0));
+        (still_out out s v k (y.out way f.1.1.endpoint).0 f.0, (got, known_itself ends answer left v (λ b. FitsSource b got) is e fits.0));
   }

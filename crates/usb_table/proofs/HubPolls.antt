@@ -12,7 +12,7 @@ use Rattle.usb_world.specs.declared.types.Outcome.{Outcome}
 use Rattle.usb_world.specs.Addresses.{is_setup}
 use Rattle.usb_world.specs.Devices.{Was, EachWas}
 use Rattle.usb_world.specs.Paths.{address_of}
-use Rattle.usb_world.specs.Passes.{IsSettled, deep_at}
+use Rattle.usb_world.specs.AttemptPackets.{IsSettled, deep_at}
 use Rattle.usb_world.specs.RestingPorts.{AsksNothingOf}
 use Rattle.usb_world.specs.Steps.{Course, here, attempt, ready}
 use Rattle.usb_world.specs.World.{World}
@@ -46,7 +46,7 @@ use Rattle.usb_table.specs.Table.{Table, pipes_at, GoesThrough}
 use Rattle.usb_table.specs.Transfers.{PipesPolled, PolledThrough, OnlyTransfers}
 use Rattle.usb_table.proofs.Endpoints.{status_end}
 use Rattle.usb_table.proofs.FittingPipes.{Moves, poll_moves}
-use Rattle.usb_table.proofs.Levels.{address_found, held_address, one_path, moved_levels, single, still_levels}
+use Rattle.usb_table.proofs.Levels.{address_found, are_pipes_of, held_address, one_path, moved_levels, single, still_levels}
 use Rattle.usb_table.proofs.MovedPipes.{EachMoves}
 use Rattle.usb_table.proofs.DevicesKept.{RanAs, polls_run}
 
@@ -213,9 +213,9 @@ module _ (path : List ℕ) (old new : Table) (before after : World) (result : Re
   polled_to device Absent left e was is are x = absurd are
 
   pub polled_levels : (finding : Finding) → finding_at path old.entries ≡ Some finding → PipesPolled (pipes_at path old) before result (pipes_at path new) after → KeepsPolled path old before result new after
-  polled_levels (Device device) e x = polled_to device (pipes_at path old) (pipes_at path new) e refl refl (goes.fits (Device device) e) x
+  polled_levels (Device device) e x = polled_to device (pipes_at path old) (pipes_at path new) e refl refl (are_pipes_of path old (Device device) goes.fits e) x
   polled_levels (Refused cause) e x =
-      let none : pipes_at path old ≡ Absent = goes.fits (Refused cause) e in
+      let none : pipes_at path old ≡ Absent = are_pipes_of path old (Refused cause) goes.fits e in
       let y = subst (λ (p : Pipes). PipesPolled p before result (pipes_at path new) after) none x in
       none_polled path old new before after result goes keeps (λ d f hub. absurd (cc (sym (ap accepted_device_of e) ∙ f))) (y.1 ∙ sym none) y.2
 

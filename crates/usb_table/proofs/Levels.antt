@@ -19,9 +19,11 @@ use Rattle.usb_table.specs.declared.pipes.Pipes.{Pipes}
 use Rattle.usb_table.specs.Entries.{Entries}
 use Rattle.usb_table.specs.Findings.{accepted_device_of, accepted_device_at}
 use Rattle.usb_table.specs.Keys.{address_in}
+use Rattle.usb_table.specs.KnownPorts.{is_below_hub}
 use Rattle.usb_table.specs.Levels.{AreLevel, LevelAt, AllLevel, IsHeld, KeepsLevel}
 use Rattle.usb_table.specs.Listing.{finding_at, entry_address}
-use Rattle.usb_table.specs.Table.{Table, pipes_at, GoesThrough}
+use Rattle.usb_table.specs.Pipes.{ArePipesIf, ArePipesOf}
+use Rattle.usb_table.specs.Table.{Table, pipes_at, ArePipesAt, GoesThrough}
 use Rattle.usb_table.specs.Transfers.{OnlyTransfers}
 use Rattle.usb_table.proofs.FittingPipes.{Moves, still_level}
 use Rattle.usb_table.proofs.Paths.{path_itself, path_tied}
@@ -34,6 +36,10 @@ device_address (Some (Refused cause)) device e = absurd (cc e)
 
 pub address_found : (path : List ℕ) (entries : Entries) (device : Accepted) → accepted_device_at path entries ≡ Some device → entry_address path entries ≡ Some device.address
 address_found path entries device e = device_address (finding_at path entries) device e
+
+-- the pipes at a path are those to what was found there
+pub are_pipes_of : (path : List ℕ) (table : Table) (finding : Finding) → ArePipesAt path table → finding_at path table.entries ≡ Some finding → ArePipesOf finding (is_below_hub path) (pipes_at path table)
+are_pipes_of path table finding are e = subst (λ (found : Option Finding). ArePipesIf (accepted_device_of found) (is_below_hub path) (pipes_at path table)) e are
 
 -- a path is none that starts at no port of the root
 at_some_port : (table : Table) (w : World) (path : List ℕ)
@@ -52,6 +58,10 @@ held_address table w path device s held e on there =
 -- two paths of one address are one
 pub one_path : (table : Table) (w : World) (x path : List ℕ) (a : ℕ) → IsHeld table w → entry_address x table.entries ≡ Some a → entry_address path table.entries ≡ Some a → x ≡ path
 one_path table w x path a held e f = same_is path x (held.distinct path x a f e)
+
+pub by_decision : (b : Bool) → (b ≡ true → ⊥) → b ≡ false
+by_decision true f = absurd (f refl)
+by_decision false f = refl
 
 apart_or : (path x : List ℕ) → is_at (path_cmp path) x ≡ false → x ≢ path
 apart_or path x apart e = no (sym apart ∙ subst (λ y. is_at (path_cmp path) y ≡ true) (sym e) (path_itself path))
@@ -79,10 +89,6 @@ module _ (path : List ℕ) (device : Accepted) (ends : Type 0) (pipes left : Pip
           one_path old before x path device.address held (address_found x old.entries d d_old ∙ ap Some (sym has ∙ equal_same (address_of w.before) device.address at)) (address_found path old.entries device stands) in
           let kept : s ≡ w.before = w.so.others (by_decision (address_of w.before == device.address) (λ at. apart_or path x apart (same at))) in
           subst (λ (q : Pipes). AreLevel q s) (sym (goes.others x apart)) (subst (AreLevel (pipes_at x old)) (sym kept) (l.level d w.before d_old reached stood))
-        where
-          by_decision : (b : _) → (b ≡ true → ⊥) → b ≡ false
-          by_decision true f = absurd (f refl)
-          by_decision false f = refl
 
   itself : IsHeld old before → ends → LevelAt path old before → LevelAt path new after
   itself held e l = at_some_port new after path at

@@ -23,3 +23,7 @@ pub mod Removals
 pub mod DevicesKept
 pub mod Targets
 pub mod PipeCalls
+pub mod PathTransfers
+pub mod Deliveries
+pub mod Collections
+pub mod Restarts

@@ -35,7 +35,7 @@ use Rattle.usb_table.proofs.HaltClears.{ClearSpares, cleared_apart}
 use Rattle.usb_table.proofs.FittingPipes.{Moves, moves_none, moves_then, send_moves, receive_moves, clear_out_moves, clear_in_moves}
 use Rattle.usb_table.proofs.TransferFrames.{cleared_single}
 use Rattle.usb_table.proofs.KeptPipes.{broken_or_not, ready_or_not, empty_or_not, none_or_some}
-use Rattle.usb_table.proofs.Levels.{moved_levels, still_levels}
+use Rattle.usb_table.proofs.Levels.{are_pipes_of, moved_levels, still_levels}
 use Rattle.usb_table.proofs.DevicesKept.{sends_stay, receives_stay, clears_stay}
 
 -- each device over a call, where no address was held twice
@@ -57,14 +57,17 @@ faulted n old why new fault ends e = (subst (λ y. FaultAfter n old y new) e end
 abbrev IsTold : {A : Type 0} → Result A PipeFault → World → Type 0
 IsTold answer w = (fault : BusFault) → answer ≡ Err (pipe.Bus fault) → w.fault ≡ Some fault
 
+pub known_left : {A : Type 0} (answer : Result A PipeFault) (left : Bulk) → ((fault : BusFault) → answer ≢ Err (pipe.Bus fault)) → pipe_known answer left ≡ left
+known_left (Ok x) left other = refl
+known_left (Err pipe.Stalled) left other = refl
+known_left (Err pipe.Busy) left other = refl
+known_left (Err pipe.NoAnswer) left other = refl
+known_left (Err pipe.Broken) left other = refl
+known_left (Err (pipe.Bus fault)) left other = absurd (other fault refl)
+known_left (Err pipe.Memory) left other = refl
+
 sound_known : {A : Type 0} (answer : Result A PipeFault) (left : Bulk) (w : World) → IsTold answer w → w.fault ≡ None → pipe_known answer left ≡ left
-sound_known (Ok x) left w told sound = refl
-sound_known (Err pipe.Stalled) left w told sound = refl
-sound_known (Err pipe.Busy) left w told sound = refl
-sound_known (Err pipe.NoAnswer) left w told sound = refl
-sound_known (Err pipe.Broken) left w told sound = refl
-sound_known (Err (pipe.Bus fault)) left w told sound = absurd (cc (told fault refl, sound))
-sound_known (Err pipe.Memory) left w told sound = refl
+sound_known answer left w told sound = known_left answer left (λ fault e. let is = told fault e in cc (is, sound))
 
 sends_told : (bytes : List ℕ) (pipe : Bulk) (old : World) (answer : Result (Unit {0}) PipeFault) (left : Bulk) (new : World) → Sends bytes pipe old answer left new → IsTold answer new
 sends_told bytes pipe old (Ok done) left new x fault e = absurd (cc e)
@@ -112,12 +115,12 @@ receive_each wanted pipe out far least old answer left new x single =
 -- the clear of one that is ready does nothing
 clear_spared : (pipe : Bulk) (old : World) (answer : Result (Unit {0}) PipeFault) (left : Bulk) (new : World) → Clears pipe old answer left new → new.shared ≡ false → EachWas (ClearSpares pipe) old new
 clear_spared pipe old answer left new x single = elim (ready_or_not pipe.condition) [
-  | inl ready ↦ subst (EachWas (ClearSpares pipe) old) (sym (x.ready ready).world_kept) (each_none (ClearSpares pipe) (λ j s. record { into = λ w i. (refl, refl); out = λ w i. refl }) old)
+  | inl ready ↦ subst (EachWas (ClearSpares pipe) old) (sym (x.ready ready).world_kept) (each_none (ClearSpares pipe) (λ j s. record { into = λ w i. (refl, refl); out = λ w i. (refl, refl) }) old)
   | inr not ↦ cleared_apart pipe old answer left new (x.sent not) single
 ]
 
 module _ (pipe : Bulk) (old : World) (answer : Result (Unit {0}) PipeFault) (left : Bulk) (new : World) (x : Clears pipe old answer left new) where
-  clear_whole : (R : Relation) → ((j : Spot) (s v : State) → ClearLeaves pipe answer left j s v → ClearSpares pipe j s v → SameSettings j s v → R j s v) → new.shared ≡ false → EachWas R old new
+  pub clear_whole : (R : Relation) → ((j : Spot) (s v : State) → ClearLeaves pipe answer left j s v → ClearSpares pipe j s v → SameSettings j s v → R j s v) → new.shared ≡ false → EachWas R old new
   clear_whole R f single =
       each_joint (λ j s v. ClearLeaves pipe answer left j s v × ClearSpares pipe j s v) SameSettings R (λ j s v a k. f j s v a.0 a.1 k) old new
       (each_both (ClearLeaves pipe answer left) (ClearSpares pipe) old new
@@ -228,9 +231,9 @@ module _ (path : List ℕ) (old new : Table) (before after : World) (goes : Goes
     sent_to device below_hub Absent left e was is are x = untried Absent left was is x.1 x.2
 
     pub sent_levels : (finding : Finding) → finding_at path old.entries ≡ Some finding → PipesSent (pipes_at path old) bytes before result (pipes_at path new) after → KeepsMoved path old before new after
-    sent_levels (Device device) e x = sent_to device (is_below_hub path) (pipes_at path old) (pipes_at path new) e refl refl (goes.fits (Device device) e) x
+    sent_levels (Device device) e x = sent_to device (is_below_hub path) (pipes_at path old) (pipes_at path new) e refl refl (are_pipes_of path old (Device device) goes.fits e) x
     sent_levels (Refused cause) e x =
-        let none : pipes_at path old ≡ Absent = goes.fits (Refused cause) e in
+        let none : pipes_at path old ≡ Absent = are_pipes_of path old (Refused cause) goes.fits e in
         let y = subst (λ (p : Pipes). PipesSent p bytes before result (pipes_at path new) after) none x in
         untried Absent (pipes_at path new) none refl y.1 y.2
 
@@ -244,9 +247,9 @@ module _ (path : List ℕ) (old new : Table) (before after : World) (goes : Goes
     received_to device below_hub Absent left e was is are x = untried Absent left was is x.1 x.2
 
     pub received_levels : (finding : Finding) → finding_at path old.entries ≡ Some finding → PipesReceived (pipes_at path old) packets before result (pipes_at path new) after → KeepsMoved path old before new after
-    received_levels (Device device) e x = received_to device (is_below_hub path) (pipes_at path old) (pipes_at path new) e refl refl (goes.fits (Device device) e) x
+    received_levels (Device device) e x = received_to device (is_below_hub path) (pipes_at path old) (pipes_at path new) e refl refl (are_pipes_of path old (Device device) goes.fits e) x
     received_levels (Refused cause) e x =
-        let none : pipes_at path old ≡ Absent = goes.fits (Refused cause) e in
+        let none : pipes_at path old ≡ Absent = are_pipes_of path old (Refused cause) goes.fits e in
         let y = subst (λ (p : Pipes). PipesReceived p packets before result (pipes_at path new) after) none x in
         untried Absent (pipes_at path new) none refl y.1 y.2
 
@@ -260,8 +263,8 @@ module _ (path : List ℕ) (old new : Table) (before after : World) (goes : Goes
     cleared_to device below_hub Absent left e was is are x = untried Absent left was is x.1 x.2
 
     pub cleared_levels : (finding : Finding) → finding_at path old.entries ≡ Some finding → PipesCleared (pipes_at path old) before result (pipes_at path new) after → KeepsMoved path old before new after
-    cleared_levels (Device device) e x = cleared_to device (is_below_hub path) (pipes_at path old) (pipes_at path new) e refl refl (goes.fits (Device device) e) x
+    cleared_levels (Device device) e x = cleared_to device (is_below_hub path) (pipes_at path old) (pipes_at path new) e refl refl (are_pipes_of path old (Device device) goes.fits e) x
     cleared_levels (Refused cause) e x =
-        let none : pipes_at path old ≡ Absent = goes.fits (Refused cause) e in
+        let none : pipes_at path old ≡ Absent = are_pipes_of path old (Refused cause) goes.fits e in
         let y = subst (λ (p : Pipes). PipesCleared p before result (pipes_at path new) after) none x in
         untried Absent (pipes_at path new) none refl y.1 y.2

@@ -4,7 +4,7 @@ use Rattle.std.specs.Prelude.{nat_lt, slice_index, slice_index_or, is_some, IfSo
 use Rattle.std.proofs.lemmas.Bool.{and_parts}
 use Rattle.usb_request.specs.Codes.{HUB_CLASS}
 use Rattle.usb_descriptor.specs.Choice.{bulk_out_of, bulk_in_of, status_endpoint_of}
-use Rattle.usb_device.specs.declared.bulk.Pipe.{Pipe}
+use Rattle.usb_device.specs.declared.bulk.EndpointState.{EndpointState}
 use Rattle.usb_device.specs.Bulk.{tells_changes, bulk_in as bulk_of_text}
 use Rattle.usb_device.specs.Progress.{PollAt, SourceAt}
 use Rattle.usb_device.specs.Rows.{State, bulk_of}
@@ -80,8 +80,8 @@ module _ (tier supply : ℕ) (device : Accepted) (below_hub : Bool) (s : State) 
     status_level None = tt
     status_level (Some endpoint) = record {
       tells = tells;
-      level = PollAt.level fresh.held (ap (λ (p : Pipe). p.toggle) fresh.changes);
-      runs = ap (λ (p : Pipe). p.halted) fresh.changes;
+      level = PollAt.level fresh.held (ap (λ (p : EndpointState). p.toggle) fresh.changes);
+      runs = ap (λ (p : EndpointState). p.halted) fresh.changes;
     }
 
   -- A function
@@ -108,7 +108,7 @@ module _ (tier supply : ℕ) (device : Accepted) (below_hub : Bool) (s : State) 
     out_level false None fast e = tt
     out_level false (Some endpoint) fast e = record {
       endpoint = record { endpoint = bulk_is false fast ∙ e; not_zero = subst (λ x. IfSome x (λ n. (n.0 == 0) ≡ false)) e (bulk_out_end (configuration_of device)) };
-      level = λ ready. ap (λ (p : Pipe). p.toggle) fresh.out;
+      level = λ ready. ap (λ (p : EndpointState). p.toggle) fresh.out;
       halted = λ halts. cc halts;
     }
 
@@ -123,7 +123,7 @@ module _ (tier supply : ℕ) (device : Accepted) (below_hub : Bool) (s : State) 
           not_zero = subst (λ x. IfSome x (λ n. (n.0 == 0) ≡ false)) e (bulk_in_end (configuration_of device));
           alone = ap (λ b. endpoint.0 == 1 && b) quiet ∙ and_false (endpoint.0 == 1);
         };
-        level = λ ready. SourceAt.level refl (ap (λ (p : Pipe). p.toggle) fresh.into);
+        level = λ ready. SourceAt.level refl (ap (λ (p : EndpointState). p.toggle) fresh.into);
         halted = λ halts. cc halts;
       },
     )

@@ -12,10 +12,11 @@ use Rattle.usb_enum.specs.declared.finding.Finding.{Finding}
 use Rattle.usb_enum.specs.declared.finding.Finding.TheVariants.{Refused}
 use Rattle.usb_table.specs.declared.pipes.Pipes.{Pipes}
 use Rattle.usb_table.specs.declared.pipes.Pipes.TheVariants.{Absent}
+use Rattle.usb_table.specs.Findings.{accepted_device_of}
 use Rattle.usb_table.specs.Keys.{Standing, Standings, PathKeys, AddressKeys, key_of_path, under, entries_of, findings, pipings, table_of, AreIndexes, ArePiped}
 use Rattle.usb_table.specs.KnownPorts.{is_below_hub}
 use Rattle.usb_table.specs.Listing.{finding_at}
-use Rattle.usb_table.specs.Pipes.{ArePipesOf}
+use Rattle.usb_table.specs.Pipes.{ArePipesIf, ArePipesOf}
 use Rattle.usb_table.specs.Table.{pipes_at, ArePipesAt, GoesThrough}
 use Rattle.usb_table.proofs.KeptPipes.{Keep}
 use Rattle.usb_table.proofs.Keys.{same_or_not, entries-lookup, values_by_path-lookup, found_at}
@@ -49,8 +50,16 @@ module _ (standings : Standings) (paths : PathKeys) (addresses : AddressKeys) (a
   fits_at finding None at is = absurd cc
   fits_at finding (Some key) at is = fits_by finding key (standings key) at refl (same_Some _ _ is) (some_finding key at)
 
+  none_at : (key : Option ℕ) → key_of_path paths path ≡ key → option_map (under (Refused Silent) (findings standings)) key ≡ None → pipes_at path (table_of standings paths) ≡ Absent
+  none_at None at is = pipes_none standings path paths at
+  none_at (Some key) at is = absurd (cc is)
+
+  fits_found : (found : Option Finding) → option_map (under (Refused Silent) (findings standings)) (key_of_path paths path) ≡ found → ArePipesIf (accepted_device_of found) (is_below_hub path) (pipes_at path (table_of standings paths))
+  fits_found None is = none_at (key_of_path paths path) refl is
+  fits_found (Some finding) is = fits_at finding (key_of_path paths path) refl is
+
   pub are_pipes_at : ArePipesAt path (table_of standings paths)
-  are_pipes_at finding is = fits_at finding (key_of_path paths path) refl (sym (entries-lookup (findings standings) path paths) ∙ is)
+  are_pipes_at = fits_found (finding_at path (table_of standings paths).entries) (sym (entries-lookup (findings standings) path paths))
 
 -- A call leaves other pipes at the path
 

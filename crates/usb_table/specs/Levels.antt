@@ -1,5 +1,5 @@
 -- That the pipes to a device are as far as the endpoints at their other ends.
-use Rattle.std.specs.Prelude.{◌≡◌, ⊤, ℕ, suc, List, ◌∷◌, true, false, Option, Some, None, is_some, Result, IsOk}
+use Rattle.std.specs.Prelude.{◌≡◌, ⊤, ℕ, List, true, false, Option, Some, None, is_some, Result, IsOk}
 use Rattle.std.specs.BTreeMap.{is_at}
 use Rattle.arrayvec.specs.ArrayVec.{ArrayVec}
 use Rattle.usb_port.specs.Order.{path_cmp}
@@ -7,7 +7,7 @@ use Rattle.usb_port.specs.PortState.{PortState}
 use Rattle.usb_device.specs.Bulk.{tells_changes, change_bits}
 use Rattle.usb_device.specs.Progress.{PollAt, NeverTold}
 use Rattle.usb_device.specs.Rows.{State}
-use Rattle.usb_device.specs.Tree.{Ports, full, row_of, place, reach, reach_at, state_at, Spot, path_to, reach_on, state_on}
+use Rattle.usb_device.specs.Tree.{Ports, full, row_of, place, reach, Spot, path_to, reach_on, state_on}
 use Rattle.usb_device.specs.View.{state_there}
 use Rattle.usb_world.specs.Steps.{ready}
 use Rattle.usb_world.specs.World.{World}

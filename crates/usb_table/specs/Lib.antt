@@ -1,3 +1,4 @@
+pub mod Deliveries
 pub mod Entries
 pub mod Findings
 pub mod Keys

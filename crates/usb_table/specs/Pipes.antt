@@ -12,7 +12,7 @@ use Rattle.usb_enum.specs.declared.finding.Finding.TheVariants.{Device, Refused}
 use Rattle.usb_enum.specs.Device.{target_of, configuration_of}
 use Rattle.usb_table.specs.declared.pipes.Pipes.{Pipes}
 use Rattle.usb_table.specs.declared.pipes.Pipes.TheVariants.{Hub, Function, Absent}
-use Rattle.usb_table.specs.Findings.{out_endpoint, in_endpoint}
+use Rattle.usb_table.specs.Findings.{accepted_device_of, out_endpoint, in_endpoint}
 
 -- a pipe to the status endpoint of a hub, which stands below another one or on the root
 pub record IsStatusPipe (device : Accepted) (below_hub : Bool) (pipe : Interrupt) : Type 0 where
@@ -42,10 +42,14 @@ ArePipesTo device below_hub (Function pipes) =
     (is_some device.hub ≡ false) × IsPipe device false (out_endpoint device) pipes.out × IsPipe device true (in_endpoint device) pipes.into
 ArePipesTo device below_hub Absent = ⊥
 
+-- the pipes to an accepted device, and none where there is none
+abbrev pub ArePipesIf : Option Accepted → Bool → Pipes → Type 0
+ArePipesIf None below_hub pipes = pipes ≡ Absent
+ArePipesIf (Some device) below_hub pipes = ArePipesTo device below_hub pipes
+
 -- the pipes to what was found
 abbrev pub ArePipesOf : Finding → Bool → Pipes → Type 0
-ArePipesOf (Device device) below_hub pipes = ArePipesTo device below_hub pipes
-ArePipesOf (Refused cause) below_hub pipes = pipes ≡ Absent
+ArePipesOf finding = ArePipesIf (accepted_device_of (Some finding))
 
 -- Pipes that were just made: none has moved a packet
 

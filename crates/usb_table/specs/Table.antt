@@ -7,8 +7,9 @@ use Rattle.usb_enum.specs.declared.finding.Finding.{Finding}
 use Rattle.usb_table.specs.declared.pipes.Pipes.{Pipes}
 use Rattle.usb_table.specs.declared.pipes.Pipes.TheVariants.{Absent}
 use Rattle.usb_table.specs.Entries.{Entries, is_at_or_below}
+use Rattle.usb_table.specs.Findings.{accepted_device_at}
 use Rattle.usb_table.specs.KnownPorts.{is_below_hub}
-use Rattle.usb_table.specs.Pipes.{ArePipesOf, new_pipes}
+use Rattle.usb_table.specs.Pipes.{ArePipesIf, new_pipes}
 
 -- both by rising path
 pub record Table : Type 0 where
@@ -22,10 +23,9 @@ empty = record { entries = []; pipes = [] }
 abbrev pub pipes_at : List ℕ → Table → Pipes
 pipes_at path table = unwrap_or (lookup (is_at (path_cmp path)) table.pipes) Absent
 
--- PRE goes before each packet to a device at low speed whose path is below a hub
+-- those to the accepted device there, and none where none is known; PRE goes before each packet to a device at low speed whose path is below a hub
 abbrev pub ArePipesAt : List ℕ → Table → Type 0
-ArePipesAt path table =
-    (finding : Finding) → lookup (is_at (path_cmp path)) table.entries ≡ Some finding → ArePipesOf finding (is_below_hub path) (pipes_at path table)
+ArePipesAt path table = ArePipesIf (accepted_device_at path table.entries) (is_below_hub path) (pipes_at path table)
 
 -- what was just found is entered at a path, with new pipes
 abbrev pub entered : List ℕ → Finding → Table → Table
@@ -47,7 +47,7 @@ pub record TakesOut (path : List ℕ) (finding : Finding) (old new : Table) : Ty
   pub found : lookup (is_at (path_cmp first)) old.entries ≡ Some finding
   pub rest : new ≡ removed first old
 
--- a call through the pipes at a path: they are to what was found there, and nothing but them changes
+-- a call through the pipes at a path: they are to the device that is known there, and nothing but them changes
 pub record GoesThrough (path : List ℕ) (old new : Table) : Type 0 where
   pub fits : ArePipesAt path old
   pub entries : new.entries ≡ old.entries

@@ -6,10 +6,10 @@ use Rattle.std.specs.Int.{div_ceil}
 use Rattle.arrayvec.specs.ArrayVec.{ArrayVec}
 use Rattle.usb_device.specs.Rows.{State}
 use Rattle.usb_world.specs.Devices.{EachWas}
-use Rattle.usb_world.specs.Passes.{IsSettled}
+use Rattle.usb_world.specs.AttemptPackets.{IsSettled}
 use Rattle.usb_world.specs.World.{World, Spends, Failed}
-use Rattle.usb_transaction.specs.Transactions.{Worked}
-use Rattle.usb_pipe.specs.Control.{FaultAfter}
+use Rattle.usb_transaction.specs.Transactions.{Worked, transaction_bound}
+use Rattle.usb_pipe.specs.Control.{FaultAfter, write_bound}
 use Rattle.usb_pipe.specs.Bulk.{Bulk, Sends, Receives, Clears}
 use Rattle.usb_pipe.specs.Interrupt.{Interrupt, Polls}
 use Rattle.usb_pipe.specs.declared.fault.PipeFault.{PipeFault}
@@ -54,7 +54,7 @@ PollTook old result new = MatchResult result (λ got. IfSome got (λ packet. Wor
 pub record SentThrough (pipe : Bulk) (bytes : List ℕ) (old : World) (result : Result (Unit {0}) EndpointFault) (left : Bulk) (new : World) : Type 0 where
   pub answer : Result (Unit {0}) PipeFault
   pub told : result ≡ endpoint_answer answer
-  pub count : Spends (768 * div_ceil (length bytes) pipe.max) old new
+  pub count : Spends (transaction_bound * div_ceil (length bytes) pipe.max) old new
   pub sends : Sends bytes pipe old answer left new
 
 abbrev pub SentBy : Option Bulk → List ℕ → World → Result (Unit {0}) EndpointFault → Option Bulk → World → Type 0
@@ -65,7 +65,7 @@ SentBy (Some pipe) bytes old result (Some left) new = SentThrough pipe bytes old
 pub record ReceivedThrough (pipe : Bulk) (packets : ℕ) (old : World) (result : Result (Vec ℕ) EndpointFault) (left : Bulk) (new : World) : Type 0 where
   pub answer : Result (Vec ℕ) PipeFault
   pub told : result ≡ endpoint_answer answer
-  pub count : Spends (768 * packets) old new
+  pub count : Spends (transaction_bound * packets) old new
   pub receives : Receives packets pipe old answer left new
 
 abbrev pub ReceivedBy : Option Bulk → ℕ → World → Result (Vec ℕ) EndpointFault → Option Bulk → World → Type 0
@@ -74,7 +74,7 @@ ReceivedBy (Some pipe) packets old result None new = ⊥
 ReceivedBy (Some pipe) packets old result (Some left) new = ReceivedThrough pipe packets old result left new
 
 pub record ClearedThrough (pipe : Bulk) (old : World) (answer : Result (Unit {0}) PipeFault) (left : Bulk) (new : World) : Type 0 where
-  pub count : Spends 1600 old new
+  pub count : Spends write_bound old new
   pub clears : Clears pipe old answer left new
 
 -- no pipe needs no clearing

@@ -1,6 +1,8 @@
 //! What stands at a port, with the host's pipes to it.
-ghost use Rattle.std.specs.Prelude.{◌≡◌};
+ghost use Rattle.std.specs.Prelude.{◌≡◌, ◌*◌};
 ghost use Rattle.usb_bus.specs.Traces.{Traced, Went};
+ghost use Rattle.usb_pipe.specs.Control.{write_bound};
+ghost use Rattle.usb_transaction.specs.Transactions.{transaction_bound};
 ghost use Rattle.usb_table.specs.Findings.{IsSoundFinding};
 ghost use Rattle.usb_table.specs.Pipes.{ArePipesOf, new_pipes};
 ghost use Rattle.usb_table.specs.Transfers.{PollTook, PipesPolled, PipesSent, PipesReceived, PipesCleared};
@@ -67,7 +69,7 @@ impl Entry {
     /// Asks a hub's status endpoint once; `None` of anything else.
     pub fn poll<B: Bus>(&mut self, bus: &mut B) -> Result<Option<ArrayVec<u8, 64>>, PipeFault>
         ensures same { self.new.finding ≡ self.old.finding }
-        ensures went { Went B.world B.trace 768 bus.old bus.new }
+        ensures went { Went B.world B.trace transaction_bound bus.old bus.new }
         ensures ends { PollTook (B.world bus.old) result (B.world bus.new) }
         ensures polled { PipesPolled self.old.pipes
             (B.world bus.old) result self.new.pipes (B.world bus.new) }
@@ -116,7 +118,7 @@ impl Entry {
     /// Clears the halts of a function's bulk endpoints.
     pub fn clear_halt<B: Bus>(&mut self, bus: &mut B) -> Result<(), EndpointFault>
         ensures same { self.new.finding ≡ self.old.finding }
-        ensures went { Went B.world B.trace 3200 bus.old bus.new }
+        ensures went { Went B.world B.trace (2 * write_bound) bus.old bus.new }
         ensures cleared { PipesCleared self.old.pipes
             (B.world bus.old) result self.new.pipes (B.world bus.new) }
     {

@@ -1,8 +1,9 @@
 //! The host's pipes to a device.
-ghost use Rattle.std.specs.Prelude.{◌≡◌, false, true, is_some, IfSome};
+ghost use Rattle.std.specs.Prelude.{◌≡◌, false, true, is_some, IfSome, ◌*◌};
 ghost use Rattle.usb_bus.specs.Traces.{Traced, Went};
 ghost use Rattle.usb_descriptor.specs.Choice.{IsUsable, status_endpoint_of};
 ghost use Rattle.usb_enum.specs.Device.{configuration_of};
+ghost use Rattle.usb_pipe.specs.Control.{write_bound};
 ghost use Rattle.usb_table.specs.Findings.{IsSoundDevice, at_full_speed};
 ghost use Rattle.usb_table.specs.Pipes.{ArePipesTo, IsPipe, IsStatusPipe};
 ghost use Rattle.usb_table.specs.Pipes.{new_pipes_to, new_status, new_bulk};
@@ -119,7 +120,7 @@ pub(crate) fn receive_through<B: Bus>(
 
 /// Clears the halt of a pipe's endpoint, if there is one.
 fn clear_through<B: Bus>(pipe: &mut Option<BulkPipe>, bus: &mut B) -> Result<(), PipeFault>
-    ensures went { Went B.world B.trace 1600 bus.old bus.new }
+    ensures went { Went B.world B.trace write_bound bus.old bus.new }
     ensures cleared { ClearedBy pipe.old (B.world bus.old) result pipe.new (B.world bus.new) }
 {
     match pipe {
@@ -131,7 +132,7 @@ fn clear_through<B: Bus>(pipe: &mut Option<BulkPipe>, bus: &mut B) -> Result<(),
 impl BulkPipes {
     /// Clears the halt of both endpoints, of the one that writes first.
     pub fn clear_halt<B: Bus>(&mut self, bus: &mut B) -> Result<(), EndpointFault>
-        ensures went { Went B.world B.trace 3200 bus.old bus.new }
+        ensures went { Went B.world B.trace (2 * write_bound) bus.old bus.new }
         ensures cleared { ClearedInTurn self.old
             (B.world bus.old) result self.new (B.world bus.new) }
     {

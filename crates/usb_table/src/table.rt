@@ -5,6 +5,8 @@ ghost use Rattle.std.specs.BTreeMap.{is_at};
 ghost use Rattle.std.specs.Map.{lookup};
 ghost use Rattle.usb_port.specs.Order.{path_cmp};
 ghost use Rattle.usb_bus.specs.Traces.{Went};
+ghost use Rattle.usb_pipe.specs.Control.{write_bound};
+ghost use Rattle.usb_transaction.specs.Transactions.{transaction_bound};
 ghost use Rattle.usb_table.specs.Entries.{Rises, has_at};
 ghost use Rattle.usb_table.specs.Findings.{IsSoundFinding, is_hub, is_waiting};
 ghost use Rattle.usb_table.specs.Findings.{HasNewAddress, HasDevice, HasNoDevice};
@@ -192,7 +194,7 @@ impl DeviceTable {
         hub: &PortPath,
     ) -> Result<Option<ArrayVec<u8, 64>>, PipeFault>
         ensures through { GoesThrough hub.now self.old self.new }
-        ensures went { Went B.world B.trace 768 bus.old bus.new }
+        ensures went { Went B.world B.trace transaction_bound bus.old bus.new }
         ensures ends { PollTook (B.world bus.old) result (B.world bus.new) }
         ensures polled { PipesPolled (pipes_at hub.now self.old)
             (B.world bus.old) result (pipes_at hub.now self.new) (B.world bus.new) }
@@ -218,7 +220,7 @@ impl DeviceTable {
         bytes: &[u8],
     ) -> Result<(), EndpointFault>
         ensures through { GoesThrough path.now self.old self.new }
-        ensures went { Went B.world B.trace (768 * length bytes.now) bus.old bus.new }
+        ensures went { Went B.world B.trace (transaction_bound * length bytes.now) bus.old bus.new }
         ensures told { IfErr result (λ fault. EndpointTold fault (B.world bus.new)) }
         ensures sent { PipesSent (pipes_at path.now self.old) bytes.now
             (B.world bus.old) result (pipes_at path.now self.new) (B.world bus.new) }
@@ -246,7 +248,7 @@ impl DeviceTable {
         packets: u16,
     ) -> Result<Vec<u8>, EndpointFault>
         ensures through { GoesThrough path.now self.old self.new }
-        ensures went { Went B.world B.trace (768 * packets) bus.old bus.new }
+        ensures went { Went B.world B.trace (transaction_bound * packets) bus.old bus.new }
         ensures told { IfErr result (λ fault. EndpointTold fault (B.world bus.new)) }
         ensures received { PipesReceived (pipes_at path.now self.old) packets
             (B.world bus.old) result (pipes_at path.now self.new) (B.world bus.new) }
@@ -268,7 +270,7 @@ impl DeviceTable {
     /// speed or has no bulk endpoint; `Pipe` with those of `BulkPipe::clear_halt`.
     pub fn clear_halt<B: Bus>(&mut self, bus: &mut B, path: &PortPath) -> Result<(), EndpointFault>
         ensures through { GoesThrough path.now self.old self.new }
-        ensures went { Went B.world B.trace 3200 bus.old bus.new }
+        ensures went { Went B.world B.trace (2 * write_bound) bus.old bus.new }
         ensures told { IfErr result (λ fault. EndpointTold fault (B.world bus.new)) }
         ensures cleared { PipesCleared (pipes_at path.now self.old)
             (B.world bus.old) result (pipes_at path.now self.new) (B.world bus.new) }

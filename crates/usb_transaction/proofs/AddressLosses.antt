@@ -8,17 +8,12 @@ use Rattle.usb_device.specs.Tree.{Spot}
 use Rattle.usb_device.specs.declared.request.Registers.{Registers}
 use Rattle.usb_device.specs.Transfer.{Stage, ending}
 use Rattle.usb_device.specs.Rows.{State, ends_with_address}
-use Rattle.usb_request.specs.Features.{PORT_ENABLE, PORT_RESET, PORT_POWER, C_PORT_CONNECTION, C_PORT_ENABLE, C_PORT_RESET}
-use Rattle.usb_port.specs.PortState.{PortState}
-use Rattle.usb_request.specs.declared.setup.Setup.{Setup}
 use Rattle.usb_port.specs.declared.call.PortCall.{PortCall}
-use Rattle.usb_port.specs.declared.call.PortCall.TheVariants.{SetPower, SetReset, ClearEnable, ClearPower, ClearConnectionChange, ClearEnableChange, ClearResetChange}
-use Rattle.usb_port.specs.Calls.{set_call, clear_call}
 use Rattle.usb_world.specs.declared.types.Attempt.{Attempt}
 use Rattle.usb_world.specs.declared.types.Outcome.{Outcome}
 use Rattle.usb_world.specs.declared.types.Outcome.TheVariants.{Payload}
 use Rattle.usb_world.specs.Losses.{TookOrLost, took, lost as lost_it, one_more}
-use Rattle.usb_world.specs.Passes.{IsSettled}
+use Rattle.usb_world.specs.AttemptPackets.{IsSettled}
 use Rattle.usb_world.specs.OneHolder.{IsMade}
 use Rattle.usb_world.specs.World.{World}
 use Rattle.usb_world.specs.Steps.{attempt, after, outcome_in}

@@ -7,9 +7,10 @@ use Rattle.arrayvec.specs.ArrayVec.{ArrayVec}
 use Rattle.usb_packet.specs.declared.Toggle.{Toggle}
 use Rattle.usb_port.specs.PortState.{PortState}
 use Rattle.usb_device.specs.declared.answer.Answer.TheVariants as answer
-use Rattle.usb_device.specs.declared.transfer.Giver.TheVariants as by
-use Rattle.usb_device.specs.declared.transfer.Memory.TheVariants as memory
-use Rattle.usb_device.specs.Bulk.{other, is_same, advanced, turned}
+use Rattle.usb_device.specs.declared.transfer.InEndpoint.TheVariants as by
+use Rattle.usb_device.specs.declared.transfer.RememberedPacket.TheVariants as memory
+use Rattle.usb_packet.specs.Toggles.{other, is_same}
+use Rattle.usb_device.specs.Bulk.{advanced, turned}
 use Rattle.usb_device.specs.Rows.{State, Reply, forgotten, rest_of, sunk, sink_row, data_row}
 use Rattle.usb_device.specs.Attempt.{Way, whole, is_whole, heard, gave, in_law, out_law}
 use Rattle.usb_device.specs.Progress.{taken_of, IsSource, SourceAt, SourceOn, OnlySource, IsSink, SinkAt, level, ahead, Joined, OnlySink}
@@ -18,13 +19,13 @@ use Rattle.usb_world.specs.declared.types.Attempt.{Attempt}
 use Rattle.usb_world.specs.declared.types.Outcome.{Outcome}
 use Rattle.usb_world.specs.Devices.{Relation, Was, EachWas, DidIn, DidOut}
 use Rattle.usb_world.specs.OneHolder.{got}
-use Rattle.usb_world.specs.Passes.{IsSettled}
+use Rattle.usb_world.specs.AttemptPackets.{IsSettled}
 use Rattle.usb_world.specs.Steps.{attempt, after, outcome_in, damage_in}
 use Rattle.usb_world.specs.World.{World, Made}
 use Rattle.usb_world.proofs.Interface.{decided, no, remembers, settled_memory}
 use Rattle.usb_transaction.specs.declared.target.Target.{Target}
-use Rattle.usb_transaction.specs.declared.heard.Heard.{Heard}
-use Rattle.usb_transaction.specs.declared.heard.Heard.TheVariants.{Moved, NotReady, Repeat, Refused, Lost}
+use Rattle.usb_transaction.specs.declared.heard_outcome.HeardOutcome.{HeardOutcome}
+use Rattle.usb_transaction.specs.declared.heard_outcome.HeardOutcome.TheVariants.{Moved, NotReady, Repeat, Refused, Lost}
 use Rattle.usb_transaction.specs.declared.fault.TransFault.{TransFault}
 use Rattle.usb_transaction.specs.declared.fault.TransFault.TheVariants.{Stalled, Busy, NoAnswer, Bus}
 use Rattle.usb_transaction.specs.Failures.{NoThreeDamaged, Listens, WhySourceIn, WhySinkOut}
@@ -45,7 +46,7 @@ abbrev On : ℕ → Toggle → State → Option (List ℕ) → State → Type 0
 On most awaited s came v = (got : ℕ) → 1 ≤ most → SourceAt most got awaited s → SourceOn most got awaited s came v
 
 -- what the host hears of an attempt, and what is left of the endpoint; `Clear` is that each packet comes whole
-data Gave (most max : ℕ) (awaited : Toggle) (Clear : Type 0) (s : State) : Heard → State → Type 0 where
+data Gave (most max : ℕ) (awaited : Toggle) (Clear : Type 0) (s : State) : HeardOutcome → State → Type 0 where
   unheard : (Clear → (s.bulk_in.halted ≡ false) × (most ≤ max → ⊥)) → Gave most max awaited Clear s Lost s
   refused : s.bulk_in.halted ≡ true → Gave most max awaited Clear s Refused s
   empty : s.bulk_in.halted ≡ false → length s.spec.source ≤ s.place → Gave most max awaited Clear s NotReady s
@@ -98,18 +99,18 @@ as_before most n awaited s (Err Stalled) v x = x
 as_before most n awaited s result v x = x
 
 module _ {most max : ℕ} {awaited : Toggle} {Clear : Type 0} {s : State} where
-  kept : {h : Heard} {v : State} → Gave most max awaited Clear s h v → OnlySource s v × (s.bulk_in.halted ≡ true → v ≡ s)
+  kept : {h : HeardOutcome} {v : State} → Gave most max awaited Clear s h v → OnlySource s v × (s.bulk_in.halted ≡ true → v ≡ s)
   kept (moved b true f on) = (refl, λ c. no (sym f ∙ c))
   kept (again true f q c on) = (refl, λ c. no (sym f ∙ c))
   kept g = (refl, λ c. refl)
 
   -- an attempt that does not end the transaction, and the rest of it
-  before : {h : Heard} {u : State} (result : Result (List ℕ) TransFault) → Gave most max awaited Clear s h u → IsNoEnd h → (v : State) → SourceLeft most awaited result u v → SourceLeft most awaited result s v
+  before : {h : HeardOutcome} {u : State} (result : Result (List ℕ) TransFault) → Gave most max awaited Clear s h u → IsNoEnd h → (v : State) → SourceLeft most awaited result u v → SourceLeft most awaited result s v
   before result (moved b came f on) n v l = elim n [ ]
   before result (again true f q c on) n v l = (l.0, λ m one at. as_before most m awaited s result v (l.1 m one (on m one at)), λ r. no (sym f ∙ (l.2 r).0), λ c. no (sym f ∙ c))
   before result g n v l = l
 
-  cut : {h : Heard} {v : State} → Gave most max awaited Clear s h v → (n : ℕ) → 1 ≤ most → SourceAt most n awaited s → SourceCut most n awaited s v
+  cut : {h : HeardOutcome} {v : State} → Gave most max awaited Clear s h v → (n : ℕ) → 1 ≤ most → SourceAt most n awaited s → SourceCut most n awaited s v
   cut (moved b came f on) n m at = one_came (on n m at).2
   cut (again came f q c on) n m at = none_came (on n m at)
   cut g n m at = none_came at
@@ -131,13 +132,13 @@ module _ {most max : ℕ} {awaited : Toggle} {Clear : Type 0} {s : State} where
   unheard_in : {v : State} → Gave most max awaited Clear s Lost v → Clear → (s.bulk_in.halted ≡ false) × (most ≤ max → ⊥)
   unheard_in (unheard c) = c
 
-  no_waits_in : {h : Heard} {v : State} → Gave most max awaited Clear s h v → s.bulk_in.halted ≡ true → (n : ℕ) → waits_with h n + 0 ≤ n + 0
+  no_waits_in : {h : HeardOutcome} {v : State} → Gave most max awaited Clear s h v → s.bulk_in.halted ≡ true → (n : ℕ) → waits_with h n + 0 ≤ n + 0
   no_waits_in (empty f e) c n = no (sym f ∙ c)
   no_waits_in (again came f q d on) c n = no (sym f ∙ c)
   no_waits_in g c n = omega arith
 
   -- it goes on listening
-  stays_in : {j : Spot} {v : State} (t : Target) (ep : ℕ) {h : Heard} → Gave most max awaited Clear s h v → Listens t j s × IsSource ep most s → Listens t j v × IsSource ep most v
+  stays_in : {j : Spot} {v : State} (t : Target) (ep : ℕ) {h : HeardOutcome} → Gave most max awaited Clear s h v → Listens t j s × IsSource ep most s → Listens t j v × IsSource ep most v
   stays_in {j} {v} t ep g is =
       let f : OnlySource s v = (kept g).0 in
       (listens_on t j s v (ap (λ x. x.spec) f) (ap (λ x. x.registers) f) is.0, source_kept ep most s v f is.1)
@@ -148,7 +149,7 @@ module _ (t : Target) (ep : ℕ) (awaited : Toggle) where
   abbrev a_in : Attempt
   a_in = in_attempt t ep
 
-  abbrev hear : Outcome → Heard
+  abbrev hear : Outcome → HeardOutcome
   hear = heard_as awaited
 
   abbrev Ran : Type 0 → Result (List ℕ) TransFault → World → World → Relation
@@ -223,7 +224,7 @@ module _ (t : Target) (ep : ℕ) (awaited : Toggle) (old : World) (three : NoThr
   never most had n w u (even g q few) e = omega (arith, few, e)
   never most had n w u (behind g p q k ran few) e = omega (arith, few, e, run_short old k w.attempts three ran)
 
-  next_stands : {most : ℕ} {Clear : Type 0} {u v : State} {h : Heard} (had n : ℕ) (w : World) {outcomes : List Outcome} → Trail (a_in t ep awaited) old outcomes w → Made w (after (attempt (a_in t ep awaited)) w)
+  next_stands : {most : ℕ} {Clear : Type 0} {u v : State} {h : HeardOutcome} (had n : ℕ) (w : World) {outcomes : List Outcome} → Trail (a_in t ep awaited) old outcomes w → Made w (after (attempt (a_in t ep awaited)) w)
       → (damage_in w ≡ None → Clear) → most ≤ t.max → had < length u.spec.source → Gave most t.max awaited Clear u h v → IsNoEnd h → Stands most had n w u
       → Stands most had (waits_with h n) (after (attempt (a_in t ep awaited)) w) v
   next_stands had n w trail made c m left (moved b came f on) z y = elim z [ ]
@@ -301,7 +302,7 @@ abbrev SinkStays : Toggle → List ℕ → State → State → Type 0
 SinkStays t bytes s v = OnlySink s v × ((before : List ℕ) → SinkAt before bytes t s → SinkAt before bytes t v) × (s.bulk_out.halted ≡ true → forgotten s ≡ s → v ≡ s)
 
 -- what the host hears of an attempt, and what is left of the endpoint
-data Took (most : ℕ) (t : Toggle) (bytes : List ℕ) (Clear : Type 0) (s : State) : Heard → State → Type 0 where
+data Took (most : ℕ) (t : Toggle) (bytes : List ℕ) (Clear : Type 0) (s : State) : HeardOutcome → State → Type 0 where
   unheard : (v : State) → (Clear → length bytes ≤ most → ⊥) → SinkStays t bytes s v → Took most t bytes Clear s Lost v
   refused : s.bulk_out.halted ≡ true → Took most t bytes Clear s Refused (forgotten s)
   acked : {b : ArrayVec ℕ} (v : State) → s.bulk_out.halted ≡ false → OnlySink s v → ((before : List ℕ) → SinkAt before bytes t s → Joined before bytes t v) → Took most t bytes Clear s (Moved b) v
@@ -340,7 +341,7 @@ SinkLeft t bytes result s v =
     × (s.bulk_out.halted ≡ true → forgotten s ≡ s → (v ≡ s) × ((done : List ℕ) → result ≡ Ok done → ⊥))
 
 module _ {most : ℕ} {t : Toggle} {bytes : List ℕ} {Clear : Type 0} {s : State} where
-  stays_out : {h : Heard} {v : State} → Took most t bytes Clear s h v → SinkStays t bytes s v
+  stays_out : {h : HeardOutcome} {v : State} → Took most t bytes Clear s h v → SinkStays t bytes s v
   stays_out (unheard v c x) = x
   stays_out (refused f) = (refl, λ before at. rested at, λ g h. h)
   stays_out (acked v f x on) = (x, λ before at. behind_it (on before at), λ g. no (sym f ∙ g))
@@ -359,7 +360,7 @@ module _ {most : ℕ} {t : Toggle} {bytes : List ℕ} {Clear : Type 0} {s : Stat
   unheard_out : {v : State} → Took most t bytes Clear s Lost v → Clear → length bytes ≤ most → ⊥
   unheard_out (unheard v c x) = c
 
-  no_waits_out : {h : Heard} {v : State} → Took most t bytes Clear s h v → (n : ℕ) → waits_with h n + 0 ≤ n + 0
+  no_waits_out : {h : HeardOutcome} {v : State} → Took most t bytes Clear s h v → (n : ℕ) → waits_with h n + 0 ≤ n + 0
   no_waits_out (refused f) n = omega arith
   no_waits_out g n = omega arith
 

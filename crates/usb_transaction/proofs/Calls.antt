@@ -6,12 +6,12 @@ use Rattle.usb_device.specs.declared.answer.Answer.{Answer}
 use Rattle.usb_device.specs.declared.answer.Answer.TheVariants as answer
 use Rattle.usb_device.specs.Attempt.{Way, is_whole, heard}
 use Rattle.usb_device.specs.Rows.{State, Reply, accepted, forgotten}
-use Rattle.usb_device.specs.Tree.{row_of, reach_at, state_at, Spot, reach_on, state_on}
+use Rattle.usb_device.specs.Tree.{row_of, Spot, reach_on, state_on}
 use Rattle.usb_world.specs.declared.types.Attempt.{Attempt}
 use Rattle.usb_world.specs.declared.types.Outcome.{Outcome}
 use Rattle.usb_world.specs.declared.types.Outcome.TheVariants as outcome
 use Rattle.usb_world.specs.Paths.{address_of}
-use Rattle.usb_world.specs.Passes.{IsSettled, deep_at}
+use Rattle.usb_world.specs.AttemptPackets.{IsSettled, deep_at}
 use Rattle.usb_world.specs.Courses.{is_harmless}
 use Rattle.usb_world.specs.OneHolder.{IsMade, AttemptAnswerer, IsSetup, got, hears_attempt, token_way, payload_way, answer_way}
 use Rattle.usb_world.specs.World.{World}
@@ -21,12 +21,12 @@ use Rattle.usb_world.proofs.Interface.{course_then, decided, due_back, each_in, 
 use Rattle.usb_transaction.specs.declared.target.Target.{Target}
 use Rattle.usb_transaction.specs.declared.fault.TransFault.{TransFault}
 use Rattle.usb_transaction.specs.declared.fault.TransFault.TheVariants.{Stalled, Busy, NoAnswer, Bus}
-use Rattle.usb_transaction.specs.declared.heard.Heard.{Heard}
-use Rattle.usb_transaction.specs.declared.heard.Heard.TheVariants.{Lost, Moved}
+use Rattle.usb_transaction.specs.declared.heard_outcome.HeardOutcome.{HeardOutcome}
+use Rattle.usb_transaction.specs.declared.heard_outcome.HeardOutcome.TheVariants.{Lost, Moved}
 use Rattle.usb_transaction.specs.Answerer.{Answerer, HadOne, IsAnswer}
 use Rattle.usb_transaction.specs.HeardOutcomes.{heard_as, polled_as, heard_when_sent, set_up_as}
 use Rattle.usb_transaction.specs.Leaves.{is_at, ControlIn, ReadStatus, SourceIn, SinkOut, ChangesIn}
-use Rattle.usb_transaction.specs.Meaning.{AskedLast, Accepted, Answered, Took, IsUnheard}
+use Rattle.usb_transaction.specs.AskedDevices.{AskedLast, SetupAccepted, Answered, Took, IsUnheard}
 use Rattle.usb_transaction.specs.Trail.{Trail, start, next, waits_with, waits_in, IsNoEnd, GoesOn, Ended, Transacted, Waiting, Polled}
 use Rattle.usb_transaction.specs.Transactions.{packed, setup_attempt, in_attempt, out_attempt, SetupEnds}
 use Rattle.usb_transaction.proofs.DeviceRuns.{Deeds, EachIf, Run, had_address, in_others, more, none, out_others, over_trail}
@@ -131,7 +131,7 @@ taken_up true t s v max e = refl
 taken_up false t s v max e = cc e
 
 pub set_up_done : (t : Target) (bytes done : List ℕ) (old new : World) → length bytes ≡ 8 → IsSettled old.roots
-    → Transacted set_up_as (setup_attempt t bytes) old (Ok done) new → new.shared ≡ false → Accepted t bytes old new
+    → Transacted set_up_as (setup_attempt t bytes) old (Ok done) new → new.shared ≡ false → SetupAccepted t bytes old new
 set_up_done t bytes done old new eight settled e h =
     let a = setup_attempt t bytes in
     let last : e.last ≡ outcome.Ack = set_up_last e.last (packed done) e.tells in
@@ -219,7 +219,7 @@ module _ (t : Target) (a : Attempt) (its : a.addr ≡ t.addr) (Did : Deeds) (oth
         at = was_so (IsThere t) back was.so at;
       }
 
-  module _ (new : World) (single : new.shared ≡ false) (hear : Outcome → Heard) (lost : hear outcome.Nothing ≡ Lost) where
+  module _ (new : World) (single : new.shared ≡ false) (hear : Outcome → HeardOutcome) (lost : hear outcome.Nothing ≡ Lost) where
     moved_who : (bytes : List ℕ) → Ended hear a old (Ok bytes) new → Answerer t old new
     moved_who bytes e = who single e.trail (λ n. cc (sym lost ∙ sym (ap hear n) ∙ e.tells))
 
@@ -257,10 +257,10 @@ module _ (t : Target) (ep : ℕ) (old new : World) (settled : IsSettled old.root
   who_read : {last : Outcome} {outcomes : List Outcome} → Trail (in_attempt t ep) old (last ∷ outcomes) new → last ≢ outcome.Nothing → Answerer t old new
   who_read = who t (in_attempt t ep) refl (DidIn (in_attempt t ep)) (in_others t ep) does_in old settled single
 
-  moved_in : (hear : Outcome → Heard) → hear outcome.Nothing ≡ Lost → (bytes : List ℕ) → Ended hear (in_attempt t ep) old (Ok bytes) new → Answerer t old new
+  moved_in : (hear : Outcome → HeardOutcome) → hear outcome.Nothing ≡ Lost → (bytes : List ℕ) → Ended hear (in_attempt t ep) old (Ok bytes) new → Answerer t old new
   moved_in = moved_who t (in_attempt t ep) refl (DidIn (in_attempt t ep)) (in_others t ep) does_in old settled new single
 
-  had_in : (hear : Outcome → Heard) → hear outcome.Nothing ≡ Lost → (fault : TransFault) → IsAnswer fault → Transacted hear (in_attempt t ep) old (Err fault) new → HadOne t old
+  had_in : (hear : Outcome → HeardOutcome) → hear outcome.Nothing ≡ Lost → (fault : TransFault) → IsAnswer fault → Transacted hear (in_attempt t ep) old (Err fault) new → HadOne t old
   had_in = fault_had t (in_attempt t ep) refl (DidIn (in_attempt t ep)) (in_others t ep) does_in old settled new single
 
 pub read_answered : (t : Target) (ep : ℕ) (awaited : Toggle) (bytes : List ℕ) (old new : World) → IsSettled old.roots
@@ -295,7 +295,7 @@ module _ (t : Target) (ep : ℕ) (toggle : Toggle) (bytes : List ℕ) where
   write_had fault old new settled y e single =
       fault_had t (out_attempt t ep toggle bytes) refl (DidOut (out_attempt t ep toggle bytes) toggle bytes) (out_others t ep toggle bytes) does_out old settled new single heard_when_sent refl fault y e
 
-brings_nothing : (hear : Outcome → Heard) (a : Attempt) → ((o : Outcome) (bytes : List ℕ) → hear o ≡ Moved (packed bytes) → bytes ≡ []) → (old new : World) (result : Result (List ℕ) TransFault) → Transacted hear a old result new
+brings_nothing : (hear : Outcome → HeardOutcome) (a : Attempt) → ((o : Outcome) (bytes : List ℕ) → hear o ≡ Moved (packed bytes) → bytes ≡ []) → (old new : World) (result : Result (List ℕ) TransFault) → Transacted hear a old result new
     → IfOk result (λ done. done ≡ [])
 brings_nothing hear a empty old new (Ok bytes) x = empty x.last bytes x.tells
 brings_nothing hear a empty old new (Err fault) x = tt

@@ -6,17 +6,17 @@ use Rattle.usb_packet.specs.Toggles.{is_same}
 use Rattle.usb_port.specs.PortState.{PortState}
 use Rattle.usb_device.specs.declared.answer.Answer.{Answer}
 use Rattle.usb_device.specs.declared.answer.Answer.TheVariants as answer
-use Rattle.usb_device.specs.declared.transfer.Giver.TheVariants as by
-use Rattle.usb_device.specs.declared.transfer.Memory.{Memory}
+use Rattle.usb_device.specs.declared.transfer.InEndpoint.TheVariants as by
+use Rattle.usb_device.specs.declared.transfer.RememberedPacket.{RememberedPacket}
 use Rattle.usb_device.specs.Transfer.{Stage, idle, refused, reading, read, ending, max_packet, packet_at, toggle_at}
 use Rattle.usb_device.specs.Spec.{Spec}
 use Rattle.usb_device.specs.Rows.{State, Reply, forgotten, is_busy, nak_row, acknowledged, out_row}
 use Rattle.usb_device.specs.Attempt.{Way, whole, broken, lost, is_whole, heard, gave, in_stage_law, in_law, out_law}
 use Rattle.usb_device.specs.declared.request.Registers.{Registers}
 use Rattle.usb_device.proofs.Interface.{control_read, itself}
-use Rattle.usb_device.specs.Tree.{row_of, reach_at, state_at, Spot, reach_on, state_on}
+use Rattle.usb_device.specs.Tree.{row_of, Spot, reach_on, state_on}
 use Rattle.usb_device.specs.Delivery.{held, is_twice}
-use Rattle.usb_world.specs.Passes.{IsSettled}
+use Rattle.usb_world.specs.AttemptPackets.{IsSettled}
 use Rattle.usb_world.specs.Paths.{address_of}
 use Rattle.usb_device.specs.Progress.{address_then, taken_of, ReadingAt, ReadOn, StatusOn, StatusGiven, seen, unseen, OnlyControl, IsRead, OnlyStage}
 use Rattle.usb_world.specs.declared.types.Outcome.{Outcome}
@@ -27,8 +27,8 @@ use Rattle.usb_world.specs.World.{World, Made}
 use Rattle.usb_world.specs.Steps.{ready, attempt, after, outcome_in, damage_in}
 use Rattle.usb_world.specs.Devices.{Was, EachWas, DidIn, DidOut}
 use Rattle.usb_transaction.specs.declared.target.Target.{Target}
-use Rattle.usb_transaction.specs.declared.heard.Heard.{Heard}
-use Rattle.usb_transaction.specs.declared.heard.Heard.TheVariants.{Moved, NotReady, Repeat, Refused, Lost}
+use Rattle.usb_transaction.specs.declared.heard_outcome.HeardOutcome.{HeardOutcome}
+use Rattle.usb_transaction.specs.declared.heard_outcome.HeardOutcome.TheVariants.{Moved, NotReady, Repeat, Refused, Lost}
 use Rattle.usb_transaction.specs.declared.fault.TransFault.{TransFault}
 use Rattle.usb_transaction.specs.declared.fault.TransFault.TheVariants.{Stalled, Busy, NoAnswer, Bus}
 use Rattle.usb_transaction.specs.HeardOutcomes.{heard_as, heard_when_sent}
@@ -37,11 +37,11 @@ use Rattle.usb_transaction.specs.Failures.{NoThreeDamaged, Listens, Fits, HasNex
 use Rattle.std.proofs.lemmas.Bool.Decides.{nat_tests}
 use Rattle.arrayvec.specs.ArrayVec.{ArrayVec}
 use Rattle.usb_transaction.proofs.DeviceRuns.{IsEnd, IsOfBus, Run, Through, as_whole, asked_in, at_end, at_from, each_device, had_address, heeded, listens_on, mine, not_busy, of_bus, one_wait, other_twice, over_in, over_in_trail, positive, asked_out, out_others, over_out, spared, stays_away}
-use Rattle.usb_transaction.proofs.LastOutcomes.{heard_taken, no_packet, packet_heard, sent_last}
+use Rattle.usb_transaction.proofs.LastOutcomes.{heard_taken, no_packet, packet_heard, packet_in, sent_last}
 use Rattle.usb_transaction.proofs.Trails.{LostRun, as_transacted, damaged_more, run_none, run_short, trail_settled}
 use Rattle.usb_world.specs.declared.types.Attempt.{Attempt}
 use Rattle.usb_transaction.specs.Transactions.{packed, in_attempt, out_attempt}
-use Rattle.usb_transaction.specs.Leaves.{packet_in, is_at, IsNotOfBus, CanAnswer, ReadCut, none_came, one_came, ReadEnds, StatusEnds, ControlIn, IsInRead, data_stage as in_stage, over, ReadStatus}
+use Rattle.usb_transaction.specs.Leaves.{is_at, IsNotOfBus, CanAnswer, ReadCut, none_came, one_came, ReadEnds, StatusEnds, ControlIn, IsInRead, data_stage as in_stage, over, ReadStatus}
 use Rattle.usb_world.proofs.Interface.{data_back, decided, due_back, equal_same, in_in, made_of, made_unshared, no, one_answers, one_state, same_equal, stands, state_stands, stays_reachable_in}
 
 -- What a device that is asked answers, and what it is then
@@ -51,7 +51,7 @@ pub data Gave (u : State) : Outcome → State → Type 0 where
   silence : (k : ℕ) → k ≤ u.naks → Gave u Nothing (record u { naks = k })
   a_nak : is_busy u ≡ true → Gave u Nak (nak_row u).1
   a_stall : is_busy u ≡ false → u.stage ≡ refused → Gave u Stall u
-  a_packet : is_busy u ≡ false → (text bytes : List ℕ) (wanted k n : ℕ) (m : Memory) → u.stage ≡ reading text wanted k
+  a_packet : is_busy u ≡ false → (text bytes : List ℕ) (wanted k n : ℕ) (m : RememberedPacket) → u.stage ≡ reading text wanted k
       → Gave u (Payload (toggle_at k) (packed bytes)) (record u { memory = m; stage = reading text wanted n })
   a_status : is_busy u ≡ false → (a : Option ℕ) (v : State) → u.stage ≡ ending a → StatusGiven a u v → OnlyControl u v → v.naks ≡ u.naks → Gave u (Payload One (packed [])) v
 
@@ -115,14 +115,14 @@ abbrev pub Free : Spec → Type 0
 Free spec = (spec.silent ≡ false) × (spec.busy ≡ false)
 
 -- a device of this description made the host hear this: only one that is not silent is heard, and only one that is not always busy says more than that
-abbrev pub Says : Spec → Heard → Type 0
+abbrev pub Says : Spec → HeardOutcome → Type 0
 Says spec h = (h ≡ Lost) ⊎ ((spec.silent ≡ false) × ((h ≡ NotReady) ⊎ (spec.busy ≡ false)))
 
-says_free : (spec : Spec) (h : Heard) → Says spec h → h ≢ Lost → h ≢ NotReady → Free spec
+says_free : (spec : Spec) (h : HeardOutcome) → Says spec h → h ≢ Lost → h ≢ NotReady → Free spec
 says_free spec h (inl e) some more = absurd (some e)
 says_free spec h (inr x) some more = elim x.1 [ inl e ↦ absurd (more e) | inr calm ↦ (x.0, calm) ]
 
-pub can_answer : (spec : Spec) (hear : Outcome → Heard) → hear Stall ≡ Refused → (result : Result (List ℕ) TransFault) (o : Outcome) (outcomes : List Outcome) → IsEnd hear result o outcomes → Says spec (hear o)
+pub can_answer : (spec : Spec) (hear : Outcome → HeardOutcome) → hear Stall ≡ Refused → (result : Result (List ℕ) TransFault) (o : Outcome) (outcomes : List Outcome) → IsEnd hear result o outcomes → Says spec (hear o)
     → (waits_in hear (o ∷ outcomes) ≡ 0) ⊎ (spec.silent ≡ false) → CanAnswer spec result
 can_answer spec hear refuses (Ok bytes) o outcomes e says waits = says_free spec (hear o) says (λ f. cc (sym e ∙ f)) (λ f. cc (sym e ∙ f))
 can_answer spec hear refuses (Err Stalled) o outcomes e says waits = says_free spec (hear o) says (λ f. cc (sym refuses ∙ ap hear (sym e) ∙ f)) (λ f. cc (sym refuses ∙ ap hear (sym e) ∙ f))
@@ -131,7 +131,7 @@ can_answer spec hear refuses (Err NoAnswer) o outcomes e says waits = tt
 can_answer spec hear refuses (Err (Bus fault)) o outcomes e says waits = tt
 
 -- the first wait was heard
-pub waits_more : (spec : Spec) (hear : Outcome → Heard) (o : Outcome) (outcomes : List Outcome) → Says spec (hear o) → (waits_in hear outcomes ≡ 0) ⊎ (spec.silent ≡ false) → (waits_in hear (o ∷ outcomes) ≡ 0) ⊎ (spec.silent ≡ false)
+pub waits_more : (spec : Spec) (hear : Outcome → HeardOutcome) (o : Outcome) (outcomes : List Outcome) → Says spec (hear o) → (waits_in hear outcomes ≡ 0) ⊎ (spec.silent ≡ false) → (waits_in hear (o ∷ outcomes) ≡ 0) ⊎ (spec.silent ≡ false)
 unfolding waits_in
 waits_more spec hear o outcomes (inl e) waits = rw e waits
 waits_more spec hear o outcomes (inr x) waits = inr x.0
@@ -428,7 +428,7 @@ module _ (t : Target) (awaited : Toggle) (old : World) (never : NoThreeDamaged o
   abbrev a : Attempt
   a = in_attempt t 0
 
-  abbrev hear : Outcome → Heard
+  abbrev hear : Outcome → HeardOutcome
   hear = heard_as awaited
 
   heeds_in : (w : World) (u v : State) → DidIn a w j u v → Listens t j u × HasNext t awaited u → damage_in w ≡ None → (hear (outcome_in a w) ≢ Lost) × (is_busy u ≡ false → fits awaited u.stage ≡ false → fits awaited v.stage ≡ true)
@@ -546,7 +546,7 @@ SaysOut spec s v Nothing = Unit {0}
 abbrev Does : State → Outcome → State → Type 0
 Does s o v = Kept s v × SaysOut s.spec s v o
 
-unmoved_out : (s : State) (m : Memory) (o : Outcome) → SaysOut s.spec s (record s { memory = m }) o → Does s o (record s { memory = m })
+unmoved_out : (s : State) (m : RememberedPacket) (o : Outcome) → SaysOut s.spec s (record s { memory = m }) o → Does s o (record s { memory = m })
 unmoved_out s m o x = (record { frame = refl; moves = inl refl; naks = omega arith }, x)
 
 module _ (max : ℕ) (s : State) (loud : s.spec.silent ≡ false) where

@@ -4,13 +4,13 @@ use Rattle.std.proofs.Common.{◌≡◌, ◌≢◌, inl, inr, ◌&&◌, ◌||◌
 use Rattle.usb_packet.specs.declared.Toggle.{Toggle}
 use Rattle.usb_device.specs.Rows.{State, Reply, is_busy}
 use Rattle.usb_device.specs.Attempt.{Way, whole, broken, in_law, out_law}
-use Rattle.usb_device.specs.Tree.{reach_at, state_at, row_of, Spot, reach_on, state_on}
+use Rattle.usb_device.specs.Tree.{row_of, Spot, reach_on, state_on}
 use Rattle.usb_port.specs.PortState.{PortState}
 use Rattle.usb_world.specs.declared.types.Attempt.{Attempt}
 use Rattle.usb_world.specs.declared.types.BusFault.{BusFault}
 use Rattle.usb_world.specs.declared.types.Outcome.{Outcome}
 use Rattle.usb_world.specs.declared.types.Outcome.TheVariants.{Nak, Stall}
-use Rattle.usb_world.specs.Passes.{IsSettled, deep_at}
+use Rattle.usb_world.specs.AttemptPackets.{IsSettled, deep_at}
 use Rattle.usb_world.specs.Paths.{address_of}
 use Rattle.usb_world.specs.OneHolder.{IsMade, got}
 use Rattle.usb_world.specs.World.{World, Made}
@@ -18,8 +18,8 @@ use Rattle.usb_world.specs.Steps.{attempt, after, outcome_in, damage_in}
 use Rattle.usb_world.specs.Devices.{Relation, Was, EachWas, DidIn, DidOut}
 use Rattle.usb_world.proofs.Interface.{Cut, cut_or_same, decided, each_in, each_out, made_of, made_unshared, made_whole, neither, no, unmade}
 use Rattle.usb_transaction.specs.declared.target.Target.{Target}
-use Rattle.usb_transaction.specs.declared.heard.Heard.{Heard}
-use Rattle.usb_transaction.specs.declared.heard.Heard.TheVariants.{Moved, Lost}
+use Rattle.usb_transaction.specs.declared.heard_outcome.HeardOutcome.{HeardOutcome}
+use Rattle.usb_transaction.specs.declared.heard_outcome.HeardOutcome.TheVariants.{Moved, Lost}
 use Rattle.usb_transaction.specs.declared.fault.TransFault.{TransFault}
 use Rattle.usb_transaction.specs.declared.fault.TransFault.TheVariants.{Stalled, Busy, NoAnswer, Bus}
 use Rattle.usb_transaction.specs.HeardOutcomes.{polled_as}
@@ -56,13 +56,13 @@ abbrev pub Told : Attempt → World → World → Type 0
 Told a w new = Made w (after (attempt a) w) × (new ≡ after (attempt a) w)
 
 -- the device over a transaction: the attempts that went on, and the last, of which this is so; or those alone, where the bus gave up
-pub data Through (Did : Deeds) (a : Attempt) (hear : Outcome → Heard) (Last : Outcome → List Outcome → Type 0) (GaveUp : Type 0) (old new : World) (j : Spot) (s v : State) : Type 0 where
+pub data Through (Did : Deeds) (a : Attempt) (hear : Outcome → HeardOutcome) (Last : Outcome → List Outcome → Type 0) (GaveUp : Type 0) (old new : World) (j : Spot) (s v : State) : Type 0 where
   last : {outcomes : List Outcome} (w : World) (u : State) → Trail a old outcomes w → Run Did a old j s outcomes w u → GoesOn hear outcomes → Did w j u v → Last (outcome_in a w) outcomes
       → ((GaveUp → ⊥) → Told a w new) → Through Did a hear Last GaveUp old new j s v
   stopped : {outcomes : List Outcome} {w : World} → GaveUp → Run Did a old j s outcomes w v → GoesOn hear outcomes → Through Did a hear Last GaveUp old new j s v
 
 -- what an answer says of the last outcome and those before it; of the attempt that the bus gave up nothing is known
-abbrev pub IsEnd : (Outcome → Heard) → Result (List ℕ) TransFault → Outcome → List Outcome → Type 0
+abbrev pub IsEnd : (Outcome → HeardOutcome) → Result (List ℕ) TransFault → Outcome → List Outcome → Type 0
 IsEnd hear (Ok bytes) o outcomes = hear o ≡ Moved (packed bytes)
 IsEnd hear (Err Stalled) o outcomes = o ≡ Stall
 IsEnd hear (Err Busy) o outcomes = IsNoEnd (hear o) × (waits_in hear (o ∷ outcomes) ≡ 256)
@@ -83,7 +83,7 @@ of_bus P f (Ok x) gave = absurd (gave tt)
 of_bus P f (Err (Bus fault)) gave = f fault
 of_bus P f (Err fault) gave = absurd (gave tt)
 
-pub tells_end : (hear : Outcome → Heard) (result : Result (List ℕ) TransFault) (o : Outcome) (outcomes : List Outcome) → GoesOn hear outcomes → Tells hear result o outcomes → IsEnd hear result o outcomes
+pub tells_end : (hear : Outcome → HeardOutcome) (result : Result (List ℕ) TransFault) (o : Outcome) (outcomes : List Outcome) → GoesOn hear outcomes → Tells hear result o outcomes → IsEnd hear result o outcomes
 tells_end hear (Ok bytes) o outcomes g t = t
 tells_end hear (Err Stalled) o outcomes g t = t
 tells_end hear (Err Busy) o outcomes g t = (last_waited hear o outcomes g t, t)
@@ -101,14 +101,14 @@ module _ (Did : Deeds) (a : Attempt) (P : State → Type 0) (back : (w : World) 
       let sooner : _ = over_trail t (made_unshared a w made single).before j later.before later.on later.stands (back w j later.before v later.so h) in
       record { before = sooner.before; on = sooner.on; stands = sooner.stands; so = more w later.before v t made sooner.so later.so }
 
-  pub over_last : (hear : Outcome → Heard) (Last : Outcome → List Outcome → Type 0) (GaveUp : Type 0) {new : World} {o : Outcome} {outcomes : List Outcome} → new.shared ≡ false → Trail a old (o ∷ outcomes) new
+  pub over_last : (hear : Outcome → HeardOutcome) (Last : Outcome → List Outcome → Type 0) (GaveUp : Type 0) {new : World} {o : Outcome} {outcomes : List Outcome} → new.shared ≡ false → Trail a old (o ∷ outcomes) new
       → GoesOn hear outcomes → Last o outcomes → EachIf P (Through Did a hear Last GaveUp old new) old new
   over_last hear Last GaveUp single (next w t made) onward is j v on there h =
       let later : Was (Did w) w j v = does w (made_of a w (trail_settled t settled) made) single j v on there h in
       let sooner : _ = over_trail t (made_unshared a w made single).before j later.before later.on later.stands (back w j later.before v later.so h) in
       record { before = sooner.before; on = sooner.on; stands = sooner.stands; so = last w later.before t sooner.so onward later.so is (λ n. (made, refl)) }
 
-  module _ (hear : Outcome → Heard) (new : World) (single : new.shared ≡ false) where
+  module _ (hear : Outcome → HeardOutcome) (new : World) (single : new.shared ≡ false) where
     -- the attempt that the bus gave up was made all the same, or not
     pub over_cut : (Last : Outcome → List Outcome → Type 0) (GaveUp : Type 0) (fault : BusFault) → GaveUp → ((o : Outcome) (outcomes : List Outcome) → Last o outcomes) → CutOff hear a old fault new
         → EachIf P (Through Did a hear Last GaveUp old new) old new
@@ -149,7 +149,7 @@ module _ (Did : Deeds) (a : Attempt) (P : State → Type 0) (back : (w : World) 
 
 -- What is so of one device after the attempts that went on, and at the end
 
-module _ {Did : Deeds} {a : Attempt} {old : World} {j : Spot} {s : State} (hear : Outcome → Heard) (I : List Outcome → World → State → Type 0) (first : I [] old s)
+module _ {Did : Deeds} {a : Attempt} {old : World} {j : Spot} {s : State} (hear : Outcome → HeardOutcome) (I : List Outcome → World → State → Type 0) (first : I [] old s)
     (onward : (outcomes : List Outcome) (w : World) (u v : State) → Trail a old outcomes w → Made w (after (attempt a) w) → I outcomes w u → Did w j u v → IsNoEnd (hear (outcome_in a w))
     → I (outcome_in a w ∷ outcomes) (after (attempt a) w) v) where
   pub along : {outcomes : List Outcome} {w : World} {v : State} → Run Did a old j s outcomes w v → GoesOn hear outcomes → I outcomes w v
@@ -199,7 +199,7 @@ not_busy s e = (neither s.spec.busy (nat_lt 0 s.naks) e).0
 pub other_twice : (t : Target) (s u v : State) → (is_at s t ≡ false → u ≡ s) → (is_at u t ≡ false → v ≡ u) → is_at s t ≡ false → v ≡ s
 other_twice t s u v f g h = g (ap (λ x. is_at x t) (f h) ∙ h) ∙ f h
 
-pub stays_away : {Did : Deeds} {a : Attempt} {hear : Outcome → Heard} {Last : Outcome → List Outcome → Type 0} {GaveUp : Type 0} {old new : World} {j : Spot} {s v : State} (t : Target)
+pub stays_away : {Did : Deeds} {a : Attempt} {hear : Outcome → HeardOutcome} {Last : Outcome → List Outcome → Type 0} {GaveUp : Type 0} {old new : World} {j : Spot} {s v : State} (t : Target)
     → ((w : World) (u x : State) → Did w j u x → is_at u t ≡ false → x ≡ u) → Through Did a hear Last GaveUp old new j s v → is_at s t ≡ false → v ≡ s
 stays_away {hear = hear} {s = s} {v = v} t others x away =
     at_end hear (λ outcomes w u. u ≡ s) refl (λ outcomes w u y trail made e d n. others w u y d (ap (λ z. is_at z t) e ∙ away) ∙ e) (λ y. y ≡ s) v
@@ -251,7 +251,7 @@ module _ (t : Target) (ep : ℕ) (old new : World) (settled : IsSettled old.root
   does_in : (w : World) → IsMade a_in w → (after (attempt a_in) w).shared ≡ false → EachIf Any (DidIn a_in w) w (after (attempt a_in) w)
   does_in w made u j v on there h = each_in a_in w made (record { kind = refl; payload = refl }) u j v on there
 
-  pub over_in : (hear : Outcome → Heard) (result : Result (List ℕ) TransFault) → Transacted hear a_in old result new → EachIf Any (Through (DidIn a_in) a_in hear (IsEnd hear result) (IsOfBus result) old new) old new
+  pub over_in : (hear : Outcome → HeardOutcome) (result : Result (List ℕ) TransFault) → Transacted hear a_in old result new → EachIf Any (Through (DidIn a_in) a_in hear (IsEnd hear result) (IsOfBus result) old new) old new
   over_in hear result x = over_transaction (DidIn a_in) a_in Any (λ w j u v d h. tt) does_in old settled hear new single result x
 
   pub over_polled : (toggle : Toggle) (result : Result (Option (List ℕ)) TransFault) → Polled toggle a_in old result new
@@ -268,19 +268,19 @@ module _ (t : Target) (ep : ℕ) (toggle : Toggle) (bytes : List ℕ) (old new :
   does_out : (w : World) → IsMade a_out w → (after (attempt a_out) w).shared ≡ false → EachIf Any (DidOut a_out toggle bytes w) w (after (attempt a_out) w)
   does_out w made u j v on there h = each_out a_out w toggle bytes made (record { kind = refl; payload = refl }) u j v on there
 
-  pub over_out : (hear : Outcome → Heard) (result : Result (List ℕ) TransFault) → Transacted hear a_out old result new
+  pub over_out : (hear : Outcome → HeardOutcome) (result : Result (List ℕ) TransFault) → Transacted hear a_out old result new
       → EachIf Any (Through (DidOut a_out toggle bytes) a_out hear (IsEnd hear result) (IsOfBus result) old new) old new
   over_out hear result x = over_transaction (DidOut a_out toggle bytes) a_out Any (λ w j u v d h. tt) does_out old settled hear new single result x
 
   pub over_out_trail : {outcomes : List Outcome} → Trail a_out old outcomes new → EachIf Any (λ j s v. Run (DidOut a_out toggle bytes) a_out old j s outcomes new v) old new
   over_out_trail x = over_trail (DidOut a_out toggle bytes) a_out Any (λ w j u v d h. tt) does_out old settled x single
 
-pub one_wait : (h : Heard) (n : ℕ) → waits_with h n ≤ n + 1
+pub one_wait : (h : HeardOutcome) (n : ℕ) → waits_with h n ≤ n + 1
 one_wait h n = grind arith
 
 -- Why a transaction with a device of a kind fails: what is of the kind stays so over attempts that go on
 
-module _ {Did : Deeds} {a : Attempt} {hear : Outcome → Heard} {old new : World} {j : Spot} {s v : State} (Is : State → Type 0)
+module _ {Did : Deeds} {a : Attempt} {hear : Outcome → HeardOutcome} {old new : World} {j : Spot} {s v : State} (Is : State → Type 0)
     (stays : (w : World) (u x : State) → Did w j u x → IsNoEnd (hear (outcome_in a w)) → Is u → Is x) (is : Is s) where
   -- where an attempt that is not damaged is no error, three errors run only over three damaged attempts
   pub heeded : NoThreeDamaged old → ((w : World) (u x : State) → Did w j u x → Is u → damage_in w ≡ None → hear (outcome_in a w) ≢ Lost)

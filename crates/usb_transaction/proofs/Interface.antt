@@ -6,4 +6,4 @@ pub use Rattle.usb_transaction.proofs.ControlTransactions.{control_in_leaves, co
 pub use Rattle.usb_transaction.proofs.DeviceRuns.{at_end, at_from, each_device, had_address, listens_at, listens_on, other_twice, over_in}
 pub use Rattle.usb_transaction.proofs.Polls.{poll_why}
 pub use Rattle.usb_transaction.proofs.SetupTransactions.{set_up_why, setup_leaves, spared_all, spared_joined, spared_wider, spec_stays}
-pub use Rattle.usb_transaction.proofs.Trails.{polled_attempts, trail_course, trail_damages, trail_settled, trail_unshared, transacted_attempts, transacted_unshared}
+pub use Rattle.usb_transaction.proofs.Trails.{polled_attempts, trail_course, trail_damages, trail_settled, trail_unshared, transacted_unshared}

@@ -1,5 +1,5 @@
 -- What outcomes are by how they are heard, and by what was answered.
-use Rattle.std.proofs.Common.{◌≡◌, refl, sym, ℕ, List, [], Option, None, Some, arith}
+use Rattle.std.proofs.Common.{◌≡◌, refl, sym, ℕ, List, [], Option, None, Some, Result, Ok, Err, arith}
 use Rattle.arrayvec.specs.ArrayVec.{ArrayVec}
 use Rattle.usb_packet.specs.declared.Toggle.{Toggle}
 use Rattle.usb_device.specs.declared.answer.Answer.{Answer}
@@ -7,8 +7,9 @@ use Rattle.usb_device.specs.Progress.{taken_of}
 use Rattle.usb_world.specs.declared.types.Outcome.{Outcome}
 use Rattle.usb_world.specs.declared.types.Outcome.TheVariants.{Payload, Ack, Nak, Stall}
 use Rattle.usb_world.specs.OneHolder.{got}
-use Rattle.usb_transaction.specs.declared.heard.Heard.{Heard}
-use Rattle.usb_transaction.specs.declared.heard.Heard.TheVariants.{Moved, NotReady, Refused}
+use Rattle.usb_transaction.specs.declared.heard_outcome.HeardOutcome.{HeardOutcome}
+use Rattle.usb_transaction.specs.declared.heard_outcome.HeardOutcome.TheVariants.{Moved, NotReady, Refused}
+use Rattle.usb_transaction.specs.declared.fault.TransFault.{TransFault}
 use Rattle.usb_transaction.specs.HeardOutcomes.{heard_as, polled_as, heard_when_sent, set_up_as}
 use Rattle.usb_transaction.specs.Transactions.{packed}
 use Rattle.usb_transaction.specs.Trail.{IsNoEnd}
@@ -50,13 +51,18 @@ set_up_empty o bytes e = grind arith
 
 -- The packet that the host hears
 
-abbrev pub packet_heard : Heard → Option (List ℕ)
+abbrev pub packet_heard : HeardOutcome → Option (List ℕ)
 packet_heard (Moved b) = Some b.items
 packet_heard h = None
 
 pub heard_taken : (awaited : Toggle) (max : ℕ) (o : Option Answer) → packet_heard (heard_as awaited (got max o)) ≡ taken_of awaited max o
 heard_taken awaited max o = grind arith
 
-pub no_packet : (h : Heard) → IsNoEnd h → packet_heard h ≡ None
+pub no_packet : (h : HeardOutcome) → IsNoEnd h → packet_heard h ≡ None
 no_packet (Moved b) n = elim n [ ]
 no_packet h n = refl
+
+-- the packet that came with an answer
+abbrev pub packet_in : Result (List ℕ) TransFault → Option (List ℕ)
+packet_in (Ok bytes) = Some bytes
+packet_in (Err fault) = None

@@ -5,8 +5,9 @@ use Rattle.usb_packet.specs.declared.Toggle.{Toggle}
 use Rattle.usb_port.specs.PortState.{PortState}
 use Rattle.usb_device.specs.declared.answer.Answer.{Answer}
 use Rattle.usb_device.specs.declared.answer.Answer.TheVariants as answer
-use Rattle.usb_device.specs.declared.transfer.Giver.TheVariants as by
-use Rattle.usb_device.specs.Bulk.{other, is_same, tells_changes, change_bits}
+use Rattle.usb_device.specs.declared.transfer.InEndpoint.TheVariants as by
+use Rattle.usb_packet.specs.Toggles.{other, is_same}
+use Rattle.usb_device.specs.Bulk.{tells_changes, change_bits}
 use Rattle.usb_device.specs.Rows.{State, Reply, forgotten, acknowledged, payload}
 use Rattle.usb_device.specs.Attempt.{Way, whole, is_whole, heard, gave, held_law, in_law}
 use Rattle.usb_device.specs.Tree.{row_of, Spot}
@@ -17,14 +18,14 @@ use Rattle.usb_world.specs.declared.types.Outcome.{Outcome}
 use Rattle.usb_world.specs.declared.types.Outcome.TheVariants.{Payload, Stall}
 use Rattle.usb_world.specs.Devices.{EachWas, DidIn}
 use Rattle.usb_world.specs.OneHolder.{got}
-use Rattle.usb_world.specs.Passes.{IsSettled}
+use Rattle.usb_world.specs.AttemptPackets.{IsSettled}
 use Rattle.usb_world.specs.Steps.{attempt, after, outcome_in, damage_in}
 use Rattle.usb_world.specs.World.{World, Made}
 use Rattle.usb_world.proofs.Interface.{decided, got_nak, got_payload, got_stall, no}
 use Rattle.usb_transaction.specs.declared.fault.TransFault.{TransFault}
 use Rattle.usb_transaction.specs.declared.fault.TransFault.TheVariants.{Stalled, Busy, NoAnswer, Bus}
-use Rattle.usb_transaction.specs.declared.heard.Heard.{Heard}
-use Rattle.usb_transaction.specs.declared.heard.Heard.TheVariants.{Moved, Repeat, Lost}
+use Rattle.usb_transaction.specs.declared.heard_outcome.HeardOutcome.{HeardOutcome}
+use Rattle.usb_transaction.specs.declared.heard_outcome.HeardOutcome.TheVariants.{Moved, Repeat, Lost}
 use Rattle.usb_transaction.specs.declared.target.Target.{Target}
 use Rattle.usb_transaction.specs.Failures.{NoThreeDamaged, Listens, WhyPoll}
 use Rattle.usb_transaction.specs.HeardOutcomes.{polled, polled_as}
@@ -143,7 +144,7 @@ module _ (t : Target) (toggle : Toggle) (old : World) (m : 1 ≤ t.max) (j : Spo
   abbrev a : Attempt
   a = in_attempt t 1
 
-  abbrev hear : Outcome → Heard
+  abbrev hear : Outcome → HeardOutcome
   hear o = polled_as toggle o
 
   -- one attempt

@@ -1,5 +1,5 @@
 -- SETUP: setup data that were accepted more than once are as if they were accepted once, the last time; and who is not reset by them.
-use Rattle.std.proofs.Common.{◌≡◌, ◌⊎◌, inl, inr, ℕ, suc, ◌==◌, ◌&&◌, if◌then◌else◌, Bool, true, false, List, [], ◌∷◌, length, Option, None, Some, Result, Ok, Err, refl, sym, subst, ap, ◌∙◌, arith}
+use Rattle.std.proofs.Common.{◌≡◌, ◌⊎◌, inl, inr, ℕ, ◌==◌, ◌&&◌, if◌then◌else◌, Bool, true, false, List, [], ◌∷◌, length, Option, None, Some, Result, Ok, Err, refl, sym, subst, ap, ◌∙◌, arith}
 use Rattle.std.proofs.lemmas.Option.{same_Some}
 use Rattle.usb_request.specs.Codes.{GET_STATUS, CLEAR_FEATURE, SET_FEATURE, SET_ADDRESS, GET_DESCRIPTOR, GET_CONFIGURATION, SET_CONFIGURATION, DEVICE_IN, DEVICE_OUT, ENDPOINT_OUT, HUB_IN, PORT_IN, PORT_OUT}
 use Rattle.usb_port.specs.PortState.{PortState}
@@ -14,14 +14,14 @@ use Rattle.usb_device.specs.Request.{Outcome, takes_configuration, Is, outcome, 
 use Rattle.usb_device.specs.Rows.{State, with_endpoints, begun, accepted}
 use Rattle.usb_device.specs.Effect.{effect_of_request, asked_by_setup}
 use Rattle.usb_device.specs.Attempt.{Way, whole, is_whole, setup_law}
-use Rattle.usb_device.specs.Tree.{Place, Ports, full, acted, row_of, reach_at, state_at, place_at, Spot, path_to, reach_on, state_on, place_on}
+use Rattle.usb_device.specs.Tree.{Place, Ports, full, acted, row_of, Spot, path_to, reach_on, state_on, place_on}
 use Rattle.usb_world.specs.declared.types.Attempt.{Attempt}
 use Rattle.usb_world.specs.declared.types.Outcome as bus
 use Rattle.usb_world.specs.declared.types.Outcome.TheVariants.{Ack, Nothing}
 use Rattle.usb_world.specs.Courses.{is_harmless, resets}
 use Rattle.usb_world.specs.Devices.{Relation, Was, EachWas, DidSetup}
 use Rattle.usb_world.specs.OneHolder.{IsMade, IsSetup, HolderIn, got, token_way, payload_way, answer_way}
-use Rattle.usb_world.specs.Passes.{IsSettled, deep_at}
+use Rattle.usb_world.specs.AttemptPackets.{IsSettled, deep_at}
 use Rattle.usb_world.specs.Paths.{address_of}
 use Rattle.usb_world.specs.Steps.{ready, damage_in, outcome_in, attempt, after}
 use Rattle.usb_world.specs.WayEffects.{IsNew}

@@ -5,13 +5,13 @@ use Rattle.usb_world.specs.declared.damage.Damage.{Damage}
 use Rattle.usb_world.specs.declared.types.Attempt.{Attempt}
 use Rattle.usb_world.specs.declared.types.BusFault.{BusFault}
 use Rattle.usb_world.specs.declared.types.Outcome.{Outcome}
-use Rattle.usb_world.specs.Passes.{IsSettled}
+use Rattle.usb_world.specs.AttemptPackets.{IsSettled}
 use Rattle.usb_world.specs.Wire.{damage_of}
 use Rattle.usb_world.specs.World.{World, Made}
 use Rattle.usb_world.specs.Steps.{Step, attempt, after, outcome_in, damage_in, ready, with_attempt, Course, here}
 use Rattle.usb_world.proofs.Interface.{Cut, course_then, cut_or_same, made_damages, made_step, made_unshared, made_whole, settled_ports, unmade}
-use Rattle.usb_transaction.specs.declared.heard.Heard.{Heard}
-use Rattle.usb_transaction.specs.declared.heard.Heard.TheVariants.{Moved, Refused, Lost}
+use Rattle.usb_transaction.specs.declared.heard_outcome.HeardOutcome.{HeardOutcome}
+use Rattle.usb_transaction.specs.declared.heard_outcome.HeardOutcome.TheVariants.{Moved, Refused, Lost}
 use Rattle.usb_transaction.specs.declared.fault.TransFault.{TransFault}
 use Rattle.usb_transaction.specs.declared.fault.TransFault.TheVariants.{Bus}
 use Rattle.usb_transaction.specs.Attempts.{IsOnly, GivenUp, TransactionAttempts}
@@ -44,15 +44,15 @@ trail_damages {a} (next w t made) = made_damages a w made ∙ trail_damages t
 
 -- Transactions: they went on to an end, or the bus gave up
 
-pub as_transacted : {hear : Outcome → Heard} {a : Attempt} {old new : World} (result : Result (List ℕ) TransFault) → Ended hear a old result new → Transacted hear a old result new
+pub as_transacted : {hear : Outcome → HeardOutcome} {a : Attempt} {old new : World} (result : Result (List ℕ) TransFault) → Ended hear a old result new → Transacted hear a old result new
 as_transacted (Err (Bus fault)) e = absurd e.tells
 as_transacted result e = e
 
-pub ended_of : {hear : Outcome → Heard} {a : Attempt} {old new : World} (result : Result (List ℕ) TransFault) → Transacted hear a old result new → IsNotOfBus result → Ended hear a old result new
+pub ended_of : {hear : Outcome → HeardOutcome} {a : Attempt} {old new : World} (result : Result (List ℕ) TransFault) → Transacted hear a old result new → IsNotOfBus result → Ended hear a old result new
 ended_of (Err (Bus fault)) x n = absurd n
 ended_of result x n = x
 
-pub transacted_unshared : (hear : Outcome → Heard) (a : Attempt) (old new : World) (result : Result (List ℕ) TransFault) → Transacted hear a old result new → IsSettled old.roots → new.shared ≡ false → old.shared ≡ false
+pub transacted_unshared : (hear : Outcome → HeardOutcome) (a : Attempt) (old new : World) (result : Result (List ℕ) TransFault) → Transacted hear a old result new → IsSettled old.roots → new.shared ≡ false → old.shared ≡ false
 transacted_unshared hear a old new (Err (Bus fault)) x settled single = by_cut (cut_or_same a x.mid fault new x.fits (trail_settled x.trail settled) x.refused x.fails single)
   where
     by_cut : Cut a x.mid new → old.shared ≡ false
@@ -66,10 +66,10 @@ module _ {A : Type 0} (a : Attempt) (old new : World) where
   ended_attempts result sound t = record { whole = λ n. only_course a _ old new t; cut = λ fault e. absurd (sound fault e) }
 
   -- and where it did
-  cut_attempts : {hear : Outcome → Heard} (fault : BusFault) → CutOff hear a old fault new → TransactionAttempts {A = A} (IsOnly a) old (Err (Bus fault)) new
+  cut_attempts : {hear : Outcome → HeardOutcome} (fault : BusFault) → CutOff hear a old fault new → TransactionAttempts {A = A} (IsOnly a) old (Err (Bus fault)) new
   cut_attempts fault x = record { whole = λ n. absurd n; cut = λ f e. subst (λ y. GivenUp (IsOnly a) old y new) (cc e) (record { mid = x.mid; course = only_course a x.outcomes old x.mid x.trail; last = a; is = refl; fits = x.fits; refused = x.refused; fails = x.fails }) }
 
-pub transacted_attempts : (hear : Outcome → Heard) (a : Attempt) (result : Result (List ℕ) TransFault) (old new : World) → Transacted hear a old result new → TransactionAttempts (IsOnly a) old result new
+pub transacted_attempts : (hear : Outcome → HeardOutcome) (a : Attempt) (result : Result (List ℕ) TransFault) (old new : World) → Transacted hear a old result new → TransactionAttempts (IsOnly a) old result new
 transacted_attempts hear a (Err (Bus fault)) old new x = cut_attempts a old new fault x
 transacted_attempts hear a result old new x = ended_attempts a old new result (λ f e. cc e) x.trail
 
@@ -80,26 +80,26 @@ polled_attempts toggle a (Ok (Some bytes)) old new x = ended_attempts a old new 
 polled_attempts toggle a result old new x = ended_attempts a old new result (λ f e. cc e) x.trail
 
 -- attempts over which a transaction goes on have fewer waits than end it
-pub few_waits : (hear : Outcome → Heard) (outcomes : List Outcome) → GoesOn hear outcomes → waits_in hear outcomes < 256
+pub few_waits : (hear : Outcome → HeardOutcome) (outcomes : List Outcome) → GoesOn hear outcomes → waits_in hear outcomes < 256
 unfolding GoesOn waits_in
 few_waits hear [] g = omega arith
 few_waits hear (o ∷ outcomes) g = g.2
 
 -- the last of too many waits, and of three errors, ends none
-pub last_waited : (hear : Outcome → Heard) (o : Outcome) (outcomes : List Outcome) → GoesOn hear outcomes → waits_in hear (o ∷ outcomes) ≡ 256 → IsNoEnd (hear o)
+pub last_waited : (hear : Outcome → HeardOutcome) (o : Outcome) (outcomes : List Outcome) → GoesOn hear outcomes → waits_in hear (o ∷ outcomes) ≡ 256 → IsNoEnd (hear o)
 unfolding waits_in
 last_waited hear o outcomes g e = by_heard (hear o) (few_waits hear outcomes g) e
   where
-    by_heard : (h : Heard) → waits_in hear outcomes < 256 → waits_with h (waits_in hear outcomes) ≡ 256 → IsNoEnd h
+    by_heard : (h : HeardOutcome) → waits_in hear outcomes < 256 → waits_with h (waits_in hear outcomes) ≡ 256 → IsNoEnd h
     by_heard (Moved bytes) l e = omega (arith, l, e)
     by_heard Refused l e = omega (arith, l, e)
     by_heard h l e = tt
 
-pub last_erred : (hear : Outcome → Heard) (o : Outcome) (outcomes : List Outcome) → errors_running hear (o ∷ outcomes) ≡ 3 → IsNoEnd (hear o)
+pub last_erred : (hear : Outcome → HeardOutcome) (o : Outcome) (outcomes : List Outcome) → errors_running hear (o ∷ outcomes) ≡ 3 → IsNoEnd (hear o)
 unfolding errors_running
 last_erred hear o outcomes e = by_heard (hear o) e
   where
-    by_heard : (h : Heard) → errors_with h (errors_running hear outcomes) ≡ 3 → IsNoEnd h
+    by_heard : (h : HeardOutcome) → errors_with h (errors_running hear outcomes) ≡ 3 → IsNoEnd h
     by_heard (Moved bytes) e = omega (arith, e)
     by_heard Refused e = omega (arith, e)
     by_heard h e = tt
@@ -129,11 +129,11 @@ module _ {a : Attempt} {old w : World} {outcomes : List Outcome} (t : Trail a ol
       each_one m (suc k) e lt = r.each m k (omega (arith, e, made.one)) (omega (arith, lt))
 
   -- errors run only over damaged attempts, where no attempt that is not damaged is one
-  pub lost_more : (hear : Outcome → Heard) → (damage_in w ≡ None → hear (outcome_in a w) ≢ Lost) → LostRun old.damages (errors_running hear outcomes) w.attempts
+  pub lost_more : (hear : Outcome → HeardOutcome) → (damage_in w ≡ None → hear (outcome_in a w) ≢ Lost) → LostRun old.damages (errors_running hear outcomes) w.attempts
       → LostRun old.damages (errors_running hear (outcome_in a w ∷ outcomes)) (after (attempt a) w).attempts
   unfolding errors_running
   lost_more hear c r = by_heard (hear (outcome_in a w)) c
     where
-      by_heard : (h : Heard) → (damage_in w ≡ None → h ≢ Lost) → LostRun old.damages (errors_with h (errors_running hear outcomes)) (after (attempt a) w).attempts
+      by_heard : (h : HeardOutcome) → (damage_in w ≡ None → h ≢ Lost) → LostRun old.damages (errors_with h (errors_running hear outcomes)) (after (attempt a) w).attempts
       by_heard Lost c = damaged_more (errors_running hear outcomes) (λ e. c e refl) r
       by_heard h c = run_none old.damages (after (attempt a) w).attempts

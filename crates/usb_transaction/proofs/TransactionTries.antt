@@ -8,18 +8,18 @@ use Rattle.usb_world.specs.declared.types.BusFault.{BusFault}
 use Rattle.usb_world.specs.declared.types.Outcome.{Outcome}
 use Rattle.usb_world.specs.declared.types.Outcome.TheVariants.{Nak, Stall}
 use Rattle.usb_world.specs.World.{World, Made, Spends, Attempted, IsAttempt, FitsMaximum}
-use Rattle.usb_world.specs.Passes.{IsSettled}
+use Rattle.usb_world.specs.AttemptPackets.{IsSettled}
 use Rattle.usb_world.specs.Steps.{attempt, after, AttemptFails}
 use Rattle.usb_world.proofs.Interface.{spends_none, spends_then, spends_wider}
 use Rattle.usb_bus.specs.Traces.{Attempts, Traced, still, attempted, WentOn}
-use Rattle.usb_transaction.specs.declared.heard.Heard.{Heard}
-use Rattle.usb_transaction.specs.declared.heard.Heard.TheVariants.{Moved, NotReady, Repeat, Lost}
+use Rattle.usb_transaction.specs.declared.heard_outcome.HeardOutcome.{HeardOutcome}
+use Rattle.usb_transaction.specs.declared.heard_outcome.HeardOutcome.TheVariants.{Moved, NotReady, Repeat, Lost}
 use Rattle.usb_transaction.specs.declared.tries.Tries.{Tries}
 use Rattle.usb_transaction.specs.declared.fault.TransFault.{TransFault}
 use Rattle.usb_transaction.specs.declared.fault.TransFault.TheVariants.{Stalled, Busy, NoAnswer, Bus}
 use Rattle.usb_transaction.specs.HeardOutcomes.{heard_as, polled_as, set_up_as, acks}
 use Rattle.usb_transaction.specs.Trail.{Trail, start, next, errors_with, waits_with, errors_running, waits_in, IsNoEnd, GoesOn, Tells, Ended, CutOff, Transacted, Waiting, Polled}
-use Rattle.usb_transaction.specs.Transactions.{packed, Worked, Ends}
+use Rattle.usb_transaction.specs.Transactions.{packed, Worked, Ends, transaction_bound}
 use Rattle.usb_transaction.proofs.LastOutcomes.{heard_moved}
 
 -- One more attempt, and what the host got
@@ -38,7 +38,7 @@ one_more {a} {old} {mid} {new} {outcomes} {o} t one =
     (subst (λ x. Trail a old (x ∷ outcomes) (after (attempt a) mid)) (sym one.made.outcome) (next mid t (subst (λ w. Made mid w) one.made.exact one.made.counts.ends)))
 
 -- It goes on: so many errors run, after so many NAKs and repeats; between the worlds lie at most three attempts for each of these and one for each error running
-pub record Going (hear : Outcome → Heard) (a : Attempt) (errors waits : ℕ) (old now : World) : Type 0 where
+pub record Going (hear : Outcome → HeardOutcome) (a : Attempt) (errors waits : ℕ) (old now : World) : Type 0 where
   pub outcomes : List Outcome
   pub trail : Trail a old outcomes now
   pub onward : GoesOn hear outcomes
@@ -46,11 +46,11 @@ pub record Going (hear : Outcome → Heard) (a : Attempt) (errors waits : ℕ) (
   waited : waits_in hear outcomes ≡ waits
   pub spends : Spends (3 * waits + errors) old now
 
-going_none : {hear : Outcome → Heard} {a : Attempt} (w : World) → Going hear a 0 0 w w
+going_none : {hear : Outcome → HeardOutcome} {a : Attempt} (w : World) → Going hear a 0 0 w w
 unfolding errors_running waits_in GoesOn
 going_none w = record { outcomes = []; trail = start; onward = tt; running = refl; waited = refl; spends = spends_none w }
 
-going_more : {hear : Outcome → Heard} {a : Attempt} {o : Outcome} {errors waits : ℕ} {old mid new : World} {before now : Option (List ℕ)} (e w : ℕ) → Going hear a errors waits old mid → Once a mid before o new now → IsNoEnd (hear o)
+going_more : {hear : Outcome → HeardOutcome} {a : Attempt} {o : Outcome} {errors waits : ℕ} {old mid new : World} {before now : Option (List ℕ)} (e w : ℕ) → Going hear a errors waits old mid → Once a mid before o new now → IsNoEnd (hear o)
     → errors_with (hear o) errors ≡ e → waits_with (hear o) waits ≡ w → e < 3 → w < 256 → 3 * waits + errors + 1 ≤ 3 * w + e → Going hear a e w old new
 unfolding errors_running waits_in GoesOn
 going_more {hear} {a} {o} {errors} {waits} {old} {mid} {new} e w g one on x y few calm le = record {
@@ -68,16 +68,16 @@ going_more {hear} {a} {o} {errors} {waits} {old} {mid} {new} e w g one on x y fe
     waited : waits_with (hear o) (waits_in hear g.outcomes) ≡ w
     waited = ap (λ n. waits_with (hear o) n) g.waited ∙ y
 
-going_error : {hear : Outcome → Heard} {a : Attempt} {o : Outcome} (errors waits : ℕ) {old mid new : World} {before now : Option (List ℕ)} → errors + 1 < 3 → waits < 256
+going_error : {hear : Outcome → HeardOutcome} {a : Attempt} {o : Outcome} (errors waits : ℕ) {old mid new : World} {before now : Option (List ℕ)} → errors + 1 < 3 → waits < 256
     → Going hear a errors waits old mid → Once a mid before o new now → Lost ≡ hear o → Going hear a (errors + 1) waits old new
 going_error errors waits few calm g one lost =
     going_more (errors + 1) waits g one (subst (λ h. IsNoEnd h) lost tt) (ap (λ h. errors_with h errors) (sym lost)) (ap (λ h. waits_with h waits) (sym lost)) few calm (omega arith)
 
-third_error : {hear : Outcome → Heard} {a : Attempt} {o : Outcome} (errors waits : ℕ) {old mid : World} (g : Going hear a errors waits old mid) → Lost ≡ hear o → errors + 1 ≡ 3 → Tells hear (Err NoAnswer) o g.outcomes
+third_error : {hear : Outcome → HeardOutcome} {a : Attempt} {o : Outcome} (errors waits : ℕ) {old mid : World} (g : Going hear a errors waits old mid) → Lost ≡ hear o → errors + 1 ≡ 3 → Tells hear (Err NoAnswer) o g.outcomes
 unfolding errors_running
 third_error {hear} errors waits g lost third = ap (λ x. errors_with x (errors_running hear g.outcomes)) (sym lost) ∙ ap (λ n. n + 1) g.running ∙ third
 
-pub cut_off : {hear : Outcome → Heard} {a b : Attempt} {fault : BusFault} {errors waits : ℕ} {old mid new : World} {before now : Option (List ℕ)} → b ≡ a → Going hear a errors waits old mid → IsAttempt b → Attempts b mid before (Err fault) new now
+pub cut_off : {hear : Outcome → HeardOutcome} {a b : Attempt} {fault : BusFault} {errors waits : ℕ} {old mid new : World} {before now : Option (List ℕ)} → b ≡ a → Going hear a errors waits old mid → IsAttempt b → Attempts b mid before (Err fault) new now
     → CutOff hear a old fault new
 cut_off {fault = fault} {mid = mid} {new = new} is g fits x = record {
   fits = subst IsAttempt is fits;
@@ -95,39 +95,39 @@ cut_off {fault = fault} {mid = mid} {new = new} is g fits x = record {
 abbrev pub SettledSince : World → World → Type 0
 SettledSince old now = IsSettled now.roots → IsSettled old.roots
 
-pub record Stands (hear : Outcome → Heard) (a : Attempt) (t : Tries) (old : World) (first : Option (List ℕ)) (now : World) (text : Option (List ℕ)) : Type 0 where
+pub record Stands (hear : Outcome → HeardOutcome) (a : Attempt) (t : Tries) (old : World) (first : Option (List ℕ)) (now : World) (text : Option (List ℕ)) : Type 0 where
   pub few : t.errors < 3
   pub calm : t.waits < 256
   pub going : Going hear a t.errors t.waits old now
   pub since : SettledSince old now
   pub traced : Traced old first now text
 
-pub stands_new : {hear : Outcome → Heard} {a : Attempt} {text : Option (List ℕ)} (t : Tries) (w : World) → t ≡ record { errors = 0; waits = 0 } → Stands hear a t w text w text
+pub stands_new : {hear : Outcome → HeardOutcome} {a : Attempt} {text : Option (List ℕ)} (t : Tries) (w : World) → t ≡ record { errors = 0; waits = 0 } → Stands hear a t w text w text
 stands_new {hear} {a} {text} t w is = subst (λ x. Stands hear a x w text w text) (sym is) (record { few = omega arith; calm = omega arith; going = going_none w; since = λ h. h; traced = still })
 
 -- what a transaction tells, of worlds that remember nothing
-pub record Told (hear : Outcome → Heard) (a : Attempt) (old : World) (result : Result (List ℕ) TransFault) (new : World) : Type 0 where
+pub record Told (hear : Outcome → HeardOutcome) (a : Attempt) (old : World) (result : Result (List ℕ) TransFault) (new : World) : Type 0 where
   pub settled : IsSettled old.roots
   pub heard : Transacted hear a old result new
 
 -- a NAK or a repeat
-abbrev pub IsWait : Heard → Type 0
+abbrev pub IsWait : HeardOutcome → Type 0
 IsWait h = (h ≡ NotReady) ⊎ (h ≡ Repeat)
 
-record Waits (h : Heard) : Type 0 where
+record Waits (h : HeardOutcome) : Type 0 where
   on : IsNoEnd h
   none : (n : ℕ) → errors_with h n ≡ 0
   more : (n : ℕ) → waits_with h n ≡ n + 1
 
-waits_of : (h : Heard) → IsWait h → Waits h
+waits_of : (h : HeardOutcome) → IsWait h → Waits h
 waits_of h (inl e) = subst Waits (sym e) (record { on = tt; none = λ n. refl; more = λ n. refl })
 waits_of h (inr e) = subst Waits (sym e) (record { on = tt; none = λ n. refl; more = λ n. refl })
 
-module _ {hear : Outcome → Heard} {a : Attempt} {t : Tries} {old mid : World} {first before : Option (List ℕ)} (s : Stands hear a t old first mid before) where
+module _ {hear : Outcome → HeardOutcome} {a : Attempt} {t : Tries} {old mid : World} {first before : Option (List ℕ)} (s : Stands hear a t old first mid before) where
   -- its last attempt
-  pub went_last : {b : Attempt} {r : Result Outcome BusFault} {new : World} {now : Option (List ℕ)} → IsAttempt b → Attempts b mid before r new now → WentOn 768 old first new now
+  pub went_last : {b : Attempt} {r : Result Outcome BusFault} {new : World} {now : Option (List ℕ)} → IsAttempt b → Attempts b mid before r new now → WentOn transaction_bound old first new now
   went_last {b} {r} {new} fits x = record {
-    spends = spends_wider (3 * t.waits + t.errors + 1) 768 old new (spends_then (3 * t.waits + t.errors) 1 old mid new s.going.spends x.counts.spends) (omega (arith, s.few, s.calm));
+    spends = spends_wider (3 * t.waits + t.errors + 1) transaction_bound old new (spends_then (3 * t.waits + t.errors) 1 old mid new s.going.spends x.counts.spends) (omega (arith, s.few, s.calm));
     traced = attempted b r fits s.traced x;
   }
 
@@ -141,7 +141,7 @@ module _ {hear : Outcome → Heard} {a : Attempt} {t : Tries} {old mid : World} 
         subst (λ x. Stands hear a x old first new now) (sym is)
         (record { few = two; calm = s.calm; going = going_error t.errors t.waits two s.calm s.going one lost; since = λ h. s.since one.settled; traced = attempted a (Ok o) one.fits s.traced one.made })
 
-    pub stands_waited : (h : Heard) (u : Tries) → h ≡ hear o → IsWait h → u ≡ record t { errors = 0; waits = t.waits + 1 } → u.waits < 256 → Stands hear a u old first new now
+    pub stands_waited : (h : HeardOutcome) (u : Tries) → h ≡ hear o → IsWait h → u ≡ record t { errors = 0; waits = t.waits + 1 } → u.waits < 256 → Stands hear a u old first new now
     stands_waited h u heard wait is calm =
         let less : t.waits + 1 < 256 = subst (λ x. x.waits < 256) is calm in
         let w : Waits (hear o) = subst Waits heard (waits_of h wait) in
@@ -168,7 +168,7 @@ module _ {hear : Outcome → Heard} {a : Attempt} {t : Tries} {old mid : World} 
     told_silent u lost is third = record { settled = s.since one.settled; heard = ended (Err NoAnswer) (third_error t.errors t.waits s.going lost (ap (λ x. x.errors) (sym is) ∙ third)) }
 
     -- the 256th wait
-    pub told_busy : (h : Heard) (u : Tries) → h ≡ hear o → IsWait h → u ≡ record t { errors = 0; waits = t.waits + 1 } → u.waits ≡ 256 → Told hear a old (Err Busy) new
+    pub told_busy : (h : HeardOutcome) (u : Tries) → h ≡ hear o → IsWait h → u ≡ record t { errors = 0; waits = t.waits + 1 } → u.waits ≡ 256 → Told hear a old (Err Busy) new
     unfolding waits_in
     told_busy h u heard wait is full = record {
       settled = s.since one.settled;
@@ -248,15 +248,15 @@ trail_worked : {a : Attempt} {old new : World} {last : Outcome} {outcomes : List
 trail_worked n le (next w t made) = let x = trail_lasted t in record { sound = x.sound made.sound; least = omega (arith, x.least, made.one, le); still = made.still }
 
 -- an outcome is at most one error and one wait
-one_each : (h : Heard) (n m k : ℕ) → n ≤ k → m ≤ k → (errors_with h n ≤ k + 1) × (waits_with h m ≤ k + 1)
+one_each : (h : HeardOutcome) (n m k : ℕ) → n ≤ k → m ≤ k → (errors_with h n ≤ k + 1) × (waits_with h m ≤ k + 1)
 one_each h n m k x y = (grind arith, grind arith)
 
-fits_length : (hear : Outcome → Heard) (outcomes : List Outcome) → (errors_running hear outcomes ≤ length outcomes) × (waits_in hear outcomes ≤ length outcomes)
+fits_length : (hear : Outcome → HeardOutcome) (outcomes : List Outcome) → (errors_running hear outcomes ≤ length outcomes) × (waits_in hear outcomes ≤ length outcomes)
 unfolding errors_running waits_in
 fits_length hear [] = (omega arith, omega arith)
 fits_length hear (o ∷ outcomes) = let le = fits_length hear outcomes in let one = one_each (hear o) _ _ (length outcomes) le.0 le.1 in (omega (arith, one.0), omega (arith, one.1))
 
-module _ (hear : Outcome → Heard) (a : Attempt) (old new : World) where
+module _ (hear : Outcome → HeardOutcome) (a : Attempt) (old new : World) where
   pub ends_of : (result : Result (List ℕ) TransFault) → Transacted hear a old result new → Ends old result new
   ends_of (Ok bytes) x = trail_worked 1 (omega arith) x.trail
   ends_of (Err Stalled) x = trail_worked 1 (omega arith) x.trail

@@ -8,7 +8,7 @@ use Rattle.usb_device.specs.declared.answer.Answer.TheVariants as answer
 use Rattle.usb_device.specs.Rows.{State}
 use Rattle.usb_world.specs.Courses.{is_harmless}
 use Rattle.usb_world.specs.Devices.{EachWas}
-use Rattle.usb_world.specs.Passes.{IsSettled}
+use Rattle.usb_world.specs.AttemptPackets.{IsSettled}
 use Rattle.usb_world.specs.Steps.{Course}
 use Rattle.usb_world.specs.World.{World}
 use Rattle.usb_transaction.specs.declared.target.Target.{Target}
@@ -16,7 +16,7 @@ use Rattle.usb_transaction.specs.declared.fault.TransFault.{TransFault}
 use Rattle.usb_transaction.specs.declared.fault.TransFault.TheVariants.{Stalled, Busy, NoAnswer, Bus}
 use Rattle.usb_transaction.specs.Answerer.{Answerer}
 use Rattle.usb_transaction.specs.HeardOutcomes.{heard_as, heard_when_sent, set_up_as}
-use Rattle.usb_transaction.specs.Meaning.{Accepted, Answered, Took, IsUnheard}
+use Rattle.usb_transaction.specs.AskedDevices.{SetupAccepted, Answered, Took, IsUnheard}
 use Rattle.usb_transaction.specs.Leaves.{IsNotOfBus, ControlIn, ReadStatus, SourceIn, SinkOut, ChangesIn, SetupDone}
 use Rattle.usb_transaction.specs.SparedDevices.{EachSpared}
 use Rattle.usb_transaction.specs.Trail.{Transacted, Polled}
@@ -35,7 +35,7 @@ pub record IsUnhindered {A : Type 0} (old : World) (result : Result A TransFault
 -- what an answer to setup data says of those who held the address: where they were acknowledged, the one device took them; where
 -- none was, whoever held it was out of hearing, or the attempt was damaged
 abbrev pub MeansOfSetup : Target → List ℕ → World → Result (List ℕ) TransFault → World → Type 0
-MeansOfSetup t bytes old (Ok done) new = new.shared ≡ false → Accepted t bytes old new
+MeansOfSetup t bytes old (Ok done) new = new.shared ≡ false → SetupAccepted t bytes old new
 MeansOfSetup t bytes old (Err Stalled) new = ⊤
 MeansOfSetup t bytes old (Err Busy) new = ⊤
 MeansOfSetup t bytes old (Err NoAnswer) new = Course IsUnheard old new

@@ -1,14 +1,14 @@
--- What an outcome means to a host that waits for it.
+-- What an outcome means to the host that made the attempt.
 use Rattle.std.specs.Prelude.{Bool, true, false, if◌then◌else◌, [], Option, Some, None, Result, Ok, Err}
 use Rattle.usb_packet.specs.declared.Toggle.{Toggle}
 use Rattle.usb_packet.specs.Toggles.{other, is_same}
 use Rattle.usb_world.specs.declared.types.Outcome.{Outcome}
 use Rattle.usb_world.specs.declared.types.Outcome.TheVariants.{Payload, Ack, Nak, Stall, Nothing}
-use Rattle.usb_transaction.specs.declared.heard.Heard.{Heard}
-use Rattle.usb_transaction.specs.declared.heard.Heard.TheVariants.{Moved, NotReady, Repeat, Refused, Lost}
+use Rattle.usb_transaction.specs.declared.heard_outcome.HeardOutcome.{HeardOutcome}
+use Rattle.usb_transaction.specs.declared.heard_outcome.HeardOutcome.TheVariants.{Moved, NotReady, Repeat, Refused, Lost}
 
 -- to a host that awaits a packet of a toggle
-abbrev pub heard_as : Toggle → Outcome → Heard
+abbrev pub heard_as : Toggle → Outcome → HeardOutcome
 heard_as awaited (Payload given bytes) = if is_same awaited given then Moved bytes else Repeat
 heard_as awaited Ack = Lost
 heard_as awaited Nak = NotReady
@@ -16,18 +16,18 @@ heard_as awaited Stall = Refused
 heard_as awaited Nothing = Lost
 
 -- to a host that polls a NAK is an answer, which ends the poll as STALL does (5.7)
-abbrev pub polled : Heard → Heard
+abbrev pub polled : HeardOutcome → HeardOutcome
 polled (Moved bytes) = Moved bytes
 polled NotReady = Refused
 polled Repeat = Repeat
 polled Refused = Refused
 polled Lost = Lost
 
-abbrev pub polled_as : Toggle → Outcome → Heard
+abbrev pub polled_as : Toggle → Outcome → HeardOutcome
 polled_as awaited o = polled (heard_as awaited o)
 
 -- to a host that has sent a packet
-abbrev pub heard_when_sent : Outcome → Heard
+abbrev pub heard_when_sent : Outcome → HeardOutcome
 heard_when_sent (Payload given bytes) = Lost
 heard_when_sent Ack = Moved (record { items = [] })
 heard_when_sent Nak = NotReady
@@ -35,7 +35,7 @@ heard_when_sent Stall = Refused
 heard_when_sent Nothing = Lost
 
 -- to a host that has sent setup data: whatever is not ACK is an error (8.5.3)
-abbrev pub set_up_as : Outcome → Heard
+abbrev pub set_up_as : Outcome → HeardOutcome
 set_up_as (Payload given bytes) = Lost
 set_up_as Ack = Moved (record { items = [] })
 set_up_as Nak = Lost

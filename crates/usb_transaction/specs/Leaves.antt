@@ -5,7 +5,8 @@ use Rattle.usb_packet.specs.declared.Toggle.TheVariants.{One}
 use Rattle.usb_port.specs.PortState.{PortState}
 use Rattle.usb_request.specs.Layout.{setup_of}
 use Rattle.usb_device.specs.Spec.{Spec}
-use Rattle.usb_device.specs.Bulk.{other, advanced, tells_changes, change_bits}
+use Rattle.usb_packet.specs.Toggles.{other}
+use Rattle.usb_device.specs.Bulk.{advanced, tells_changes, change_bits}
 use Rattle.usb_device.specs.Effect.{asked_by_setup}
 use Rattle.usb_device.specs.Rows.{State, accepted}
 use Rattle.usb_device.specs.Transfer.{ending, reading, refused as stage_refused, toggle_at}
@@ -30,11 +31,6 @@ IsNotOfBus (Err Stalled) = ⊤
 IsNotOfBus (Err Busy) = ⊤
 IsNotOfBus (Err NoAnswer) = ⊤
 IsNotOfBus (Err (Bus fault)) = ⊥
-
--- the packet that came with an answer
-abbrev pub packet_in : Result (List ℕ) TransFault → Option (List ℕ)
-packet_in (Ok bytes) = Some bytes
-packet_in (Err fault) = None
 
 abbrev pub is_at : State → Target → Bool
 is_at s t = address_of s == t.addr

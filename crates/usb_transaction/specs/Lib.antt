@@ -1,7 +1,7 @@
 pub mod HeardOutcomes
 pub mod Transactions
 pub mod Trail
-pub mod Meaning
+pub mod AskedDevices
 pub mod Leaves
 pub mod Failures
 pub mod Losses

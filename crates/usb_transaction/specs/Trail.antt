@@ -1,5 +1,5 @@
 -- What a transaction attempted, what the host got of it, and what each answer says of that (8.5, 8.6).
-use Rattle.std.specs.Prelude.{◌≡◌, ◌≢◌, ℕ, ◌+◌, ◌<◌, List, [], ◌∷◌, Option, Some, None, Result, Ok, Err, ⊤}
+use Rattle.std.specs.Prelude.{◌≡◌, ℕ, ◌+◌, ◌<◌, List, [], ◌∷◌, Option, Some, None, Result, Ok, Err, ⊤}
 use Rattle.usb_world.specs.declared.types.Attempt.{Attempt}
 use Rattle.usb_world.specs.declared.types.BusFault.{BusFault}
 use Rattle.usb_world.specs.declared.types.Outcome.{Outcome}
@@ -7,12 +7,12 @@ use Rattle.usb_world.specs.declared.types.Outcome.TheVariants.{Nak, Stall}
 use Rattle.usb_world.specs.World.{World, Made, Attempted, IsAttempt}
 use Rattle.usb_world.specs.Steps.{attempt, after, outcome_in, AttemptFails}
 use Rattle.usb_packet.specs.declared.Toggle.{Toggle}
-use Rattle.usb_transaction.specs.declared.heard.Heard.{Heard}
-use Rattle.usb_transaction.specs.declared.heard.Heard.TheVariants.{Moved, NotReady, Repeat, Refused, Lost}
+use Rattle.usb_transaction.specs.declared.heard_outcome.HeardOutcome.{HeardOutcome}
+use Rattle.usb_transaction.specs.declared.heard_outcome.HeardOutcome.TheVariants.{Moved, NotReady, Repeat, Refused, Lost}
 use Rattle.usb_transaction.specs.declared.fault.TransFault.{TransFault}
 use Rattle.usb_transaction.specs.declared.fault.TransFault.TheVariants.{Stalled, Busy, NoAnswer, Bus}
 use Rattle.usb_transaction.specs.HeardOutcomes.{polled_as}
-use Rattle.usb_transaction.specs.Transactions.{packed}
+use Rattle.usb_transaction.specs.Transactions.{packed, error_limit, wait_limit}
 
 -- the same attempt was made again and again, and this is what the host got, the last of it first
 pub data Trail (a : Attempt) (old : World) : List Outcome → World → Type 0 where
@@ -20,7 +20,7 @@ pub data Trail (a : Attempt) (old : World) : List Outcome → World → Type 0 w
   next : {outcomes : List Outcome} (w : World) → Trail a old outcomes w → Made w (after (attempt a) w) → Trail a old (outcome_in a w ∷ outcomes) (after (attempt a) w)
 
 -- an error is one more of those running; anything else ends their row
-abbrev pub errors_with : Heard → ℕ → ℕ
+abbrev pub errors_with : HeardOutcome → ℕ → ℕ
 errors_with (Moved bytes) n = 0
 errors_with NotReady n = 0
 errors_with Repeat n = 0
@@ -28,7 +28,7 @@ errors_with Refused n = 0
 errors_with Lost n = n + 1
 
 -- a NAK and a repeat are one wait more
-abbrev pub waits_with : Heard → ℕ → ℕ
+abbrev pub waits_with : HeardOutcome → ℕ → ℕ
 waits_with (Moved bytes) n = n
 waits_with NotReady n = n + 1
 waits_with Repeat n = n + 1
@@ -36,38 +36,38 @@ waits_with Refused n = n
 waits_with Lost n = n
 
 -- how many errors run at the end, to a host that hears outcomes as `hear` says
-unfoldable pub errors_running : (Outcome → Heard) → List Outcome → ℕ
+unfoldable pub errors_running : (Outcome → HeardOutcome) → List Outcome → ℕ
 errors_running hear [] = 0
 errors_running hear (o ∷ outcomes) = errors_with (hear o) (errors_running hear outcomes)
 
 -- how many NAKs and repeats there were
-unfoldable pub waits_in : (Outcome → Heard) → List Outcome → ℕ
+unfoldable pub waits_in : (Outcome → HeardOutcome) → List Outcome → ℕ
 waits_in hear [] = 0
 waits_in hear (o ∷ outcomes) = waits_with (hear o) (waits_in hear outcomes)
 
 -- neither the packet, or its acknowledgement, nor STALL
-abbrev pub IsNoEnd : Heard → Type 0
+abbrev pub IsNoEnd : HeardOutcome → Type 0
 IsNoEnd (Moved bytes) = ⊥
 IsNoEnd NotReady = ⊤
 IsNoEnd Repeat = ⊤
 IsNoEnd Refused = ⊥
 IsNoEnd Lost = ⊤
 
--- the transaction goes on over these: nothing ended it, never did three errors run, and there were fewer than 256 waits
-unfoldable pub GoesOn : (Outcome → Heard) → List Outcome → Type 0
+-- the transaction goes on over these: nothing ended it, never did too many errors run, and there were fewer waits than end it
+unfoldable pub GoesOn : (Outcome → HeardOutcome) → List Outcome → Type 0
 GoesOn hear [] = ⊤
-GoesOn hear (o ∷ outcomes) = IsNoEnd (hear o) × (errors_running hear (o ∷ outcomes) < 3) × (waits_in hear (o ∷ outcomes) < 256) × GoesOn hear outcomes
+GoesOn hear (o ∷ outcomes) = IsNoEnd (hear o) × (errors_running hear (o ∷ outcomes) < error_limit) × (waits_in hear (o ∷ outcomes) < wait_limit) × GoesOn hear outcomes
 
 -- what an answer says of the last outcome, and of those before it
-abbrev pub Tells : (Outcome → Heard) → Result (List ℕ) TransFault → Outcome → List Outcome → Type 0
+abbrev pub Tells : (Outcome → HeardOutcome) → Result (List ℕ) TransFault → Outcome → List Outcome → Type 0
 Tells hear (Ok bytes) last outcomes = hear last ≡ Moved (packed bytes)
 Tells hear (Err Stalled) last outcomes = last ≡ Stall
-Tells hear (Err Busy) last outcomes = waits_in hear (last ∷ outcomes) ≡ 256
-Tells hear (Err NoAnswer) last outcomes = errors_running hear (last ∷ outcomes) ≡ 3
+Tells hear (Err Busy) last outcomes = waits_in hear (last ∷ outcomes) ≡ wait_limit
+Tells hear (Err NoAnswer) last outcomes = errors_running hear (last ∷ outcomes) ≡ error_limit
 Tells hear (Err (Bus fault)) last outcomes = ⊥
 
 -- the transaction went on until its last outcome, which the answer tells
-pub record Ended (hear : Outcome → Heard) (a : Attempt) (old : World) (result : Result (List ℕ) TransFault) (new : World) : Type 0 where
+pub record Ended (hear : Outcome → HeardOutcome) (a : Attempt) (old : World) (result : Result (List ℕ) TransFault) (new : World) : Type 0 where
   pub outcomes : List Outcome
   pub last : Outcome
   pub trail : Trail a old (last ∷ outcomes) new
@@ -75,7 +75,7 @@ pub record Ended (hear : Outcome → Heard) (a : Attempt) (old : World) (result 
   pub tells : Tells hear result last outcomes
 
 -- it went on until the bus refused one more attempt
-pub record CutOff (hear : Outcome → Heard) (a : Attempt) (old : World) (fault : BusFault) (new : World) : Type 0 where
+pub record CutOff (hear : Outcome → HeardOutcome) (a : Attempt) (old : World) (fault : BusFault) (new : World) : Type 0 where
   pub outcomes : List Outcome
   pub mid : World
   pub trail : Trail a old outcomes mid
@@ -85,7 +85,7 @@ pub record CutOff (hear : Outcome → Heard) (a : Attempt) (old : World) (fault 
   pub fails : mid.fault ≡ None → AttemptFails a mid (Err fault) new
 
 -- a transaction of one attempt that is made until an end, to a host that hears outcomes as `hear` says
-abbrev pub Transacted : (Outcome → Heard) → Attempt → World → Result (List ℕ) TransFault → World → Type 0
+abbrev pub Transacted : (Outcome → HeardOutcome) → Attempt → World → Result (List ℕ) TransFault → World → Type 0
 Transacted hear a old (Ok bytes) new = Ended hear a old (Ok bytes) new
 Transacted hear a old (Err Stalled) new = Ended hear a old (Err Stalled) new
 Transacted hear a old (Err Busy) new = Ended hear a old (Err Busy) new

@@ -29,6 +29,18 @@ in_attempt t ep = record { kind = InTok; addr = t.addr; ep = ep; low = t.low; pr
 abbrev pub out_attempt : Target → ℕ → Toggle → List ℕ → Attempt
 out_attempt t ep toggle bytes = record { kind = OutTok; addr = t.addr; ep = ep; low = t.low; pre = t.pre; max = t.max; payload = Some (toggle, packed bytes) }
 
+-- so many errors running end a transaction
+abbrev pub error_limit : ℕ
+error_limit = 3
+
+-- so many NAKs and discarded repeats together end it
+abbrev pub wait_limit : ℕ
+wait_limit = 256
+
+-- the most attempts of a transaction: so many waits, with two errors before each of them
+abbrev pub transaction_bound : ℕ
+transaction_bound = 768
+
 -- at least n attempts were made, and the bus is still at work
 pub record Worked (n : ℕ) (old new : World) : Type 0 where
   pub sound : old.fault ≡ None
@@ -39,8 +51,8 @@ pub record Worked (n : ℕ) (old new : World) : Type 0 where
 abbrev pub Ends : {A : Type 0} → World → Result A TransFault → World → Type 0
 Ends old (Ok done) new = Worked 1 old new
 Ends old (Err Stalled) new = Worked 1 old new
-Ends old (Err Busy) new = Worked 256 old new
-Ends old (Err NoAnswer) new = Worked 3 old new
+Ends old (Err Busy) new = Worked wait_limit old new
+Ends old (Err NoAnswer) new = Worked error_limit old new
 Ends old (Err (Bus fault)) new = Failed fault new
 
 -- SETUP is never stalled, and never waits
@@ -48,5 +60,5 @@ abbrev pub SetupEnds : World → Result (List ℕ) TransFault → World → Type
 SetupEnds old (Ok done) new = Worked 1 old new
 SetupEnds old (Err Stalled) new = ⊥
 SetupEnds old (Err Busy) new = ⊥
-SetupEnds old (Err NoAnswer) new = Worked 3 old new
+SetupEnds old (Err NoAnswer) new = Worked error_limit old new
 SetupEnds old (Err (Bus fault)) new = Failed fault new

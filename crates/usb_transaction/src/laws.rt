@@ -9,10 +9,10 @@ ghost use Rattle.usb_world.specs.declared.types.Attempt.{Attempt as AnAttempt};
 ghost use Rattle.usb_world.specs.declared.types.Outcome.{Outcome as AnOutcome};
 ghost use Rattle.usb_world.specs.Courses.{is_harmless};
 ghost use Rattle.usb_world.specs.Devices.{EachWas};
-ghost use Rattle.usb_world.specs.Passes.{IsSettled};
+ghost use Rattle.usb_world.specs.AttemptPackets.{IsSettled};
 ghost use Rattle.usb_world.specs.Steps.{Course};
 ghost use Rattle.usb_world.specs.World.{World};
-ghost use Rattle.usb_transaction.specs.declared.heard.Heard.{Heard as AHeard};
+ghost use Rattle.usb_transaction.specs.declared.heard_outcome.HeardOutcome.{HeardOutcome as AHeardOutcome};
 ghost use Rattle.usb_transaction.specs.declared.fault.TransFault.{TransFault as AFault};
 ghost use Rattle.usb_transaction.specs.declared.target.Target.{Target as ATarget};
 ghost use Rattle.usb_transaction.specs.Answerer.{HadOne, IsAnswer};
@@ -28,10 +28,12 @@ ghost use Rattle.usb_transaction.specs.Transactions.{setup_attempt, in_attempt, 
 pub fn what_a_transaction_attempts()
     ensures trail { (a : AnAttempt) (outcomes : List AnOutcome) (old new : World)
         → Trail a old outcomes new → Course (IsOnly a) old new }
-    ensures whole { (hear : AnOutcome → AHeard) (a : AnAttempt) (result : Result (List ℕ) AFault)
-        (old new : World) → Transacted hear a old result new → TransactionAttempts (IsOnly a) old result new }
+    ensures whole { (hear : AnOutcome → AHeardOutcome) (a : AnAttempt)
+        (result : Result (List ℕ) AFault) (old new : World) → Transacted hear a old result new
+        → TransactionAttempts (IsOnly a) old result new }
     ensures polled { (toggle : Toggle) (a : AnAttempt) (result : Result (Option (List ℕ)) AFault)
-        (old new : World) → Polled toggle a old result new → TransactionAttempts (IsOnly a) old result new }
+        (old new : World) → Polled toggle a old result new
+        → TransactionAttempts (IsOnly a) old result new }
 {}
 
 /// A transaction that ended in a STALL, or in too many NAKs and repeats, was answered by a device,

@@ -11,7 +11,7 @@
 mod attempt;
 mod done;
 mod fault;
-mod heard;
+mod heard_outcome;
 mod laws;
 mod poll;
 mod read;

@@ -3,10 +3,10 @@ ghost use Rattle.std.specs.Prelude.{◌≡◌, ◌<◌};
 ghost use Rattle.usb_bus.specs.Traces.{Went};
 ghost use Rattle.usb_transaction.specs.Calls.{PollsIn};
 ghost use Rattle.usb_transaction.specs.HeardOutcomes.{toggle_after};
-ghost use Rattle.usb_transaction.specs.Transactions.{IsTarget};
+ghost use Rattle.usb_transaction.specs.Transactions.{IsTarget, transaction_bound};
 
 use crate::attempt::attempt_of_in;
-use crate::heard::{Heard, judged};
+use crate::heard_outcome::{HeardOutcome, heard_as};
 use crate::tries::Tries;
 use crate::{Done, Target, TransFault};
 use usb_bus::Bus;
@@ -31,7 +31,7 @@ pub fn poll_in<B: Bus>(
 ) -> Result<Option<Done>, TransFault>
     requires target { IsTarget target }
     requires endpoint { ep < 16 }
-    ensures went { Went B.world B.trace 768 bus.old bus.new }
+    ensures went { Went B.world B.trace transaction_bound bus.old bus.new }
     ensures polls { PollsIn target ep toggle.old (B.world bus.old) result (B.world bus.new) }
     ensures toggle { toggle.new ≡ toggle_after toggle.old result }
 {
@@ -39,15 +39,15 @@ pub fn poll_in<B: Bus>(
     let mut tries = Tries::new();
     'tries: loop {
         match bus.attempt(&attempt) {
-            Ok(outcome) => match judged(*toggle, outcome) {
-                Heard::Moved(bytes) => {
+            Ok(outcome) => match heard_as(*toggle, outcome) {
+                HeardOutcome::Moved(bytes) => {
                     *toggle = toggle.other();
                     return Ok(Some(Done::data(bytes)));
                 }
-                Heard::NotReady => return Ok(None),
-                Heard::Repeat => tries.wait()?,
-                Heard::Refused => return Err(TransFault::Stalled),
-                Heard::Lost => tries.error()?,
+                HeardOutcome::NotReady => return Ok(None),
+                HeardOutcome::Repeat => tries.wait()?,
+                HeardOutcome::Refused => return Err(TransFault::Stalled),
+                HeardOutcome::Lost => tries.error()?,
             },
             Err(fault) => return Err(TransFault::Bus(fault)),
         }

@@ -3,10 +3,10 @@ ghost use Rattle.std.specs.Prelude.{◌≡◌, ◌<◌, MatchResult};
 ghost use Rattle.usb_bus.specs.Traces.{Went};
 ghost use Rattle.usb_transaction.specs.Calls.{AsksIn};
 ghost use Rattle.usb_packet.specs.Toggles.{other};
-ghost use Rattle.usb_transaction.specs.Transactions.{IsTarget};
+ghost use Rattle.usb_transaction.specs.Transactions.{IsTarget, transaction_bound};
 
 use crate::attempt::attempt_of_in;
-use crate::heard::{Heard, judged};
+use crate::heard_outcome::{HeardOutcome, heard_as};
 use crate::tries::Tries;
 use crate::{Done, Target, TransFault};
 use usb_bus::Bus;
@@ -30,7 +30,7 @@ pub fn data_in<B: Bus>(
 ) -> Result<Done, TransFault>
     requires target { IsTarget target }
     requires endpoint { ep < 16 }
-    ensures went { Went B.world B.trace 768 bus.old bus.new }
+    ensures went { Went B.world B.trace transaction_bound bus.old bus.new }
     ensures asks { AsksIn target ep toggle.old (B.world bus.old) result (B.world bus.new) }
     ensures toggle { MatchResult result (λ _. toggle.new ≡ other toggle.old)
         (λ _. toggle.new ≡ toggle.old) }
@@ -39,14 +39,14 @@ pub fn data_in<B: Bus>(
     let mut tries = Tries::new();
     'tries: loop {
         match bus.attempt(&attempt) {
-            Ok(outcome) => match judged(*toggle, outcome) {
-                Heard::Moved(bytes) => {
+            Ok(outcome) => match heard_as(*toggle, outcome) {
+                HeardOutcome::Moved(bytes) => {
                     *toggle = toggle.other();
                     return Ok(Done::data(bytes));
                 }
-                Heard::NotReady | Heard::Repeat => tries.wait()?,
-                Heard::Refused => return Err(TransFault::Stalled),
-                Heard::Lost => tries.error()?,
+                HeardOutcome::NotReady | HeardOutcome::Repeat => tries.wait()?,
+                HeardOutcome::Refused => return Err(TransFault::Stalled),
+                HeardOutcome::Lost => tries.error()?,
             },
             Err(fault) => return Err(TransFault::Bus(fault)),
         }

@@ -1,10 +1,10 @@
 //! SETUP.
 ghost use Rattle.usb_bus.specs.Traces.{Went};
 ghost use Rattle.usb_transaction.specs.Calls.{SetsUp};
-ghost use Rattle.usb_transaction.specs.Transactions.{IsTarget};
+ghost use Rattle.usb_transaction.specs.Transactions.{IsTarget, error_limit};
 
 use crate::attempt::attempt_of_setup;
-use crate::heard::is_ack;
+use crate::heard_outcome::is_ack;
 use crate::{Done, Target, TransFault};
 use usb_bus::Bus;
 
@@ -19,7 +19,7 @@ use usb_bus::Bus;
 /// is an error. `Bus` where the bus makes no more steps. It never answers `Stalled` or `Busy`.
 pub fn setup<B: Bus>(bus: &mut B, target: Target, bytes: [u8; 8]) -> Result<Done, TransFault>
     requires { IsTarget target }
-    ensures went { Went B.world B.trace 3 bus.old bus.new }
+    ensures went { Went B.world B.trace error_limit bus.old bus.new }
     ensures sets_up { SetsUp target bytes (B.world bus.old) result (B.world bus.new) }
 {
     let attempt = attempt_of_setup(target, bytes);

@@ -1,6 +1,7 @@
 //! How long a transaction goes on.
 ghost use Rattle.std.specs.Prelude.{◌≡◌, ◌+◌, ◌<◌, MatchResult};
 ghost use Rattle.usb_transaction.specs.declared.fault.TransFault.TheVariants.{Busy, NoAnswer};
+ghost use Rattle.usb_transaction.specs.Transactions.{error_limit, wait_limit};
 
 use crate::TransFault;
 
@@ -23,10 +24,10 @@ impl Tries {
 
     /// Counts an error. The third one running ends the transaction.
     pub(crate) fn error(&mut self) -> Result<(), TransFault>
-        requires { self.old.errors < 3 }
+        requires { self.old.errors < error_limit }
         ensures count { self.new ≡ record self.old { errors = self.old.errors + 1 } }
-        ensures end { MatchResult result (λ _. self.new.errors < 3)
-            (λ fault. (fault ≡ NoAnswer) × (self.new.errors ≡ 3)) }
+        ensures end { MatchResult result (λ _. self.new.errors < error_limit)
+            (λ fault. (fault ≡ NoAnswer) × (self.new.errors ≡ error_limit)) }
     {
         self.errors += 1;
         if self.errors == 3 {
@@ -38,10 +39,10 @@ impl Tries {
     /// Counts a NAK or a discarded repeat, after which no errors are running. The 256th one ends
     /// the transaction.
     pub(crate) fn wait(&mut self) -> Result<(), TransFault>
-        requires { self.old.waits < 256 }
+        requires { self.old.waits < wait_limit }
         ensures count { self.new ≡ record self.old { errors = 0; waits = self.old.waits + 1 } }
-        ensures end { MatchResult result (λ _. self.new.waits < 256)
-            (λ fault. (fault ≡ Busy) × (self.new.waits ≡ 256)) }
+        ensures end { MatchResult result (λ _. self.new.waits < wait_limit)
+            (λ fault. (fault ≡ Busy) × (self.new.waits ≡ wait_limit)) }
     {
         self.errors = 0;
         self.waits += 1;

@@ -3,10 +3,10 @@ ghost use Rattle.std.specs.Prelude.{◌≡◌, ◌≤◌, ◌<◌, length, Match
 ghost use Rattle.usb_bus.specs.Traces.{Went};
 ghost use Rattle.usb_transaction.specs.Calls.{SendsOut};
 ghost use Rattle.usb_packet.specs.Toggles.{other};
-ghost use Rattle.usb_transaction.specs.Transactions.{IsTarget};
+ghost use Rattle.usb_transaction.specs.Transactions.{IsTarget, transaction_bound};
 
 use crate::attempt::attempt_of_out;
-use crate::heard::{Heard, judged_sent};
+use crate::heard_outcome::{HeardOutcome, heard_when_sent};
 use crate::tries::Tries;
 use crate::{Done, Target, TransFault};
 use usb_bus::Bus;
@@ -32,7 +32,7 @@ pub fn data_out<B: Bus>(
     requires target { IsTarget target }
     requires endpoint { ep < 16 }
     requires short { length bytes.now ≤ target.max }
-    ensures went { Went B.world B.trace 768 bus.old bus.new }
+    ensures went { Went B.world B.trace transaction_bound bus.old bus.new }
     ensures sends { SendsOut target ep toggle.old bytes.now
         (B.world bus.old) result (B.world bus.new) }
     ensures toggle { MatchResult result (λ _. toggle.new ≡ other toggle.old)
@@ -42,14 +42,14 @@ pub fn data_out<B: Bus>(
     let mut tries = Tries::new();
     'tries: loop {
         match bus.attempt(&attempt) {
-            Ok(outcome) => match judged_sent(&outcome) {
-                Heard::Moved(_) => {
+            Ok(outcome) => match heard_when_sent(&outcome) {
+                HeardOutcome::Moved(_) => {
                     *toggle = toggle.other();
                     return Ok(Done::nothing());
                 }
-                Heard::NotReady | Heard::Repeat => tries.wait()?,
-                Heard::Refused => return Err(TransFault::Stalled),
-                Heard::Lost => tries.error()?,
+                HeardOutcome::NotReady | HeardOutcome::Repeat => tries.wait()?,
+                HeardOutcome::Refused => return Err(TransFault::Stalled),
+                HeardOutcome::Lost => tries.error()?,
             },
             Err(fault) => return Err(TransFault::Bus(fault)),
         }

@@ -3,7 +3,7 @@ use Rattle.std.proofs.Common.{◌≡◌, ℕ, ◌+◌, ◌&&◌, not, if◌then�
 use Rattle.usb_packet.specs.declared.Packet.TheVariants as packet
 use Rattle.usb_packet.specs.declared.TokenKind.{TokenKind}
 use Rattle.usb_packet.specs.declared.TokenKind.TheVariants.{InTok}
-use Rattle.usb_port.specs.PortState.{PortState, is_attached}
+use Rattle.usb_port.specs.PortState.{PortState}
 use Rattle.usb_device.specs.declared.delivery.Content.{Content}
 use Rattle.usb_device.specs.declared.delivery.Content.TheVariants.{Whole, Broken}
 use Rattle.usb_device.specs.declared.delivery.Sent.{Sent}
@@ -12,24 +12,22 @@ use Rattle.usb_device.specs.Attempt.{whole, broken, lost, is_whole, through}
 use Rattle.usb_device.specs.Tree.{Ports, full, row_of, place_at}
 use Rattle.usb_device.specs.Delivery.{is_heard, has_loss}
 use Rattle.usb_world.specs.declared.damage.Damage.{Damage}
-use Rattle.usb_request.specs.Layout.{setup_of}
-use Rattle.usb_port.specs.declared.call.PortCall.{PortCall}
-use Rattle.usb_port.specs.Calls.{called_port, is_reset}
 use Rattle.usb_world.specs.declared.types.Attempt.{Attempt}
 use Rattle.usb_world.specs.Wire.{harm_to, mark_of, marked, marked_some}
 use Rattle.usb_world.specs.World.{IsAttempt, sends_data}
 use Rattle.usb_world.specs.Exchange.{lost_in, is_lost, goes_out, token_of, payload_of, token_out, payload_out, reply_in, reply_out, readable, ack_if, answered_in, heard_in, mark_in, place_of_answer, outcome_of}
-use Rattle.usb_world.specs.Passes.{passed, passed_place, heard_by, deep_at, IfOut, IsTokenFor, IsAckOut, IsSettled}
-use Rattle.usb_world.specs.OneHolder.{way_to, token_way, reply_way, IsIn, Holder}
+use Rattle.usb_world.specs.AttemptPackets.{after_sent, heard_by, deep_at, IfOut, IsTokenFor, IsAckOut, IsSettled}
+use Rattle.usb_world.specs.OneHolder.{way_to, token_way, reply_way, IsIn}
 use Rattle.usb_world.proofs.Booleans.{no, and_false}
 use Rattle.usb_world.proofs.StepInvariants.{rests}
 use Rattle.usb_world.proofs.AttemptPackets.{ack_calls, sent_out}
-use Rattle.usb_world.proofs.AwaitedAcks.{IsPlain, IsPlainOut, plain_data, plain_ack, plain_pass, rests_loss, acked_loss, ack_received, whole as whole_packet}
+use Rattle.usb_world.proofs.AwaitedAcks.{IsNoControlIn, ReadsNoControlIn, data_no_control_in, ack_no_control_in, no_loss_sent, rests_loss, acked_loss, ack_received, whole as whole_packet}
 use Rattle.usb_world.proofs.Courses.{goes}
-use Rattle.usb_world.proofs.OneDevice.{Pass, one_pass, settled_memory, token_calls, other_address}
-use Rattle.usb_world.proofs.OneHolder.{holder_holds, ports_by, passed_stands, token_comes, no_payload, none_is, through_spec, way_same}
+use Rattle.usb_world.proofs.OneDevice.{SentToOne, sent_to_one, settled_memory, token_calls, other_address}
+use Rattle.usb_world.proofs.OneHolder.{holder_holds, ports_by, sent_stands, token_comes, no_payload, none_is, through_spec, way_same, Holder}
 use Rattle.usb_world.proofs.Outcomes.{brings, acks}
 use Rattle.usb_world.proofs.Routes.{loss_by, plugged_on, plugged_place, others_loss}
+use Rattle.usb_world.proofs.PacketPlaces.{place_after_sent}
 
 -- Attempts that are no IN of endpoint 0
 
@@ -45,14 +43,14 @@ read_out (Some q) h = go q.content h
     go (Whole p) h = h
     go Broken h = tt
 
-pub plain_unlost : (a : Attempt) (d : Option Damage) (k : Ports) → IsPlain (token_of a) → IsSettled k → lost_in a d k ≡ false
+pub no_control_in_unlost : (a : Attempt) (d : Option Damage) (k : Ports) → IsNoControlIn (token_of a) → IsSettled k → lost_in a d k ≡ false
 unfolding lost_in marked
-plain_unlost a d k c s = elim (reply_in a d k) as (λ o. is_lost o (reply_out a d k) (answered_in a d k) ≡ false) [
+no_control_in_unlost a d k c s = elim (reply_in a d k) as (λ o. is_lost o (reply_out a d k) (answered_in a d k) ≡ false) [
   | None ↦ refl
   | Some x ↦
-      plain_pass (readable (reply_out a d k)) (if_out IsAckOut IsPlainOut plain_ack _ (read_out (reply_out a d k) (goes a d k).reply)) (answered_in a d k)
-      (plain_pass (payload_out a d) (if_out _ IsPlainOut plain_data _ (goes a d k).payload) (passed (token_out a d) k)
-      (plain_pass (token_out a d) (sent_out IsPlainOut tt a.low a.pre (mark_of (harm_to d 1) a.pre (token_of a)) (token_of a) c) k (rests_loss k (rests k s))))
+      no_loss_sent (readable (reply_out a d k)) (if_out IsAckOut ReadsNoControlIn ack_no_control_in _ (read_out (reply_out a d k) (goes a d k).reply)) (answered_in a d k)
+      (no_loss_sent (payload_out a d) (if_out _ ReadsNoControlIn data_no_control_in _ (goes a d k).payload) (after_sent (token_out a d) k)
+      (no_loss_sent (token_out a d) (sent_out ReadsNoControlIn tt a.low a.pre (mark_of (harm_to d 1) a.pre (token_of a)) (token_of a) c) k (rests_loss k (rests k s))))
 ]
 
 -- Without damage whoever awaits an ACK to take its address gets it
@@ -65,7 +63,7 @@ in_unlost a k none s =
   where
     by_data : (y : Bool) → is_lost (marked_some None (place_of_answer a None + 1) a.pre (ack_if y)) (goes_out a (marked_some None (place_of_answer a None + 1) a.pre (ack_if y))) (answered_in a None k) ≡ false
     by_data false = refl
-    by_data true = ap (λ o. has_loss (passed (Some (whole_packet a.low a.pre packet.Ack)) (passed o (passed (token_out a None) k)))) (no_payload a None none) ∙ acked_loss a.low a.pre a.kind a.addr a.ep false k (rests_loss k (rests k s))
+    by_data true = ap (λ o. has_loss (after_sent (Some (whole_packet a.low a.pre packet.Ack)) (after_sent o (after_sent (token_out a None) k)))) (no_payload a None none) ∙ acked_loss a.low a.pre a.kind a.addr a.ep false k (rests_loss k (rests k s))
 
 pub none_lost : (a : Attempt) (k : Ports) → IsAttempt a → IsSettled k → lost_in a None k ≡ false
 unfolding token_of
@@ -77,7 +75,7 @@ none_lost a k is s = by_kind a.kind refl
         empty : {A : Type 0} (o : Option A) → is_some o ≡ false → o ≡ None
         empty None h = refl
         empty (Some x) h = no (sym h)
-    by_kind x e = plain_unlost a None k (subst (λ y. IsPlain (packet.Token y a.addr a.ep)) (sym e) tt) s
+    by_kind x e = no_control_in_unlost a None k (subst (λ y. IsNoControlIn (packet.Token y a.addr a.ep)) (sym e) tt) s
 
 -- IN, where one device holds the address: a loss is counted where that device awaits the host's ACK, and does not see it
 
@@ -109,26 +107,26 @@ module _ (a : Attempt) (d : Option Damage) (k : Ports) (h : Holder a.addr k) (in
   asked = through (token_way a d deep s) s (row_of below) (token_of a)
 
   abbrev now : Ports
-  now = passed (token_out a d) k
+  now = after_sent (token_out a d) k
 
   abbrev below_now : Ports
   below_now = ports_by deep b (token_out a d) s below
 
-  first : Pass (token_out a d) k j p
+  first : SentToOne (token_out a d) k h.spot
   first =
-      one_pass (token_out a d) k j p h.on (λ i e v w at. settled_memory k i e v h.settled at)
+      sent_to_one (token_out a d) k h.spot h.on (λ i e v w at. settled_memory k i e v h.settled at)
       (λ q eq i e v w at on. token_calls a.addr q.content v (subst (IfOut (IsTokenFor a.addr)) eq (goes a d k).token) (other_address a.addr k j p (holder_holds a.addr k h) i e v w at on))
 
   stands_now : place_at now j p ≡ Some (full b asked.1 below_now)
   stands_now =
-      first.place ∙ ap (option_map (passed_place (token_out a d) deep)) h.stands ∙ ap (λ x. Some x) (passed_stands deep b (token_out a d) s below)
+      first.place ∙ ap (option_map (place_after_sent (token_out a d) deep)) h.stands ∙ ap (λ x. Some x) (sent_stands deep b (token_out a d) s below)
       ∙ ap (λ r. Some (full b r.1 below_now)) (token_comes a d deep s (row_of below))
 
-  ack_left : (o : Option Sent) → IfOut IsAckOut o → has_loss (passed o now) ≡ awaits_address (heard_by o deep asked.1 (row_of below_now)).1
+  ack_left : (o : Option Sent) → IfOut IsAckOut o → has_loss (after_sent o now) ≡ awaits_address (heard_by o deep asked.1 (row_of below_now)).1
   ack_left o is =
-      let z : Pass o now j p = one_pass o now j p first.on first.forgot (λ q eq i e v w at on. ack_calls q.content v (subst (IfOut IsAckOut) eq is)) in
-      others_loss (passed o now) j p z.on z.forgot
-      ∙ ap loss_by (sym (plugged_place (passed o now) j p) ∙ ap plugged_on (z.place ∙ ap (option_map (passed_place o deep)) stands_now ∙ ap (λ x. Some x) (passed_stands deep b o asked.1 below_now)))
+      let z : SentToOne o now h.spot = sent_to_one o now h.spot first.on first.forgot (λ q eq i e v w at on. ack_calls q.content v (subst (IfOut IsAckOut) eq is)) in
+      others_loss (after_sent o now) j p z.on z.forgot
+      ∙ ap loss_by (sym (plugged_place (after_sent o now) j p) ∙ ap plugged_on (z.place ∙ ap (option_map (place_after_sent o deep)) stands_now ∙ ap (λ x. Some x) (sent_stands deep b o asked.1 below_now)))
 
   pub holder_loss : s.spec.silent ≡ false → lost_in a d k ≡ (is_some (reply_in a d k) && (awaits_address asked.1 && not (is_whole (reply_way a d k deep s))))
   unfolding lost_in
@@ -136,7 +134,7 @@ module _ (a : Attempt) (d : Option Damage) (k : Ports) (h : Holder a.addr k) (in
       elim (reply_in a d k) as (λ x. is_lost x (reply_out a d k) (answered_in a d k) ≡ (is_some x && (awaits_address asked.1 && not (is_whole (reply_way a d k deep s))))) [
         | None ↦ refl
         | Some x ↦
-            ap (λ o. has_loss (passed (readable (reply_out a d k)) (passed o now))) (no_payload a d (none_is a into.payload))
+            ap (λ o. has_loss (after_sent (readable (reply_out a d k)) (after_sent o now))) (no_payload a d (none_is a into.payload))
             ∙ ack_left (readable (reply_out a d k)) (read_out (reply_out a d k) (goes a d k).reply)
             ∙ seen_by (reply_out a d k) (goes a d k).reply deep asked.1 (row_of below_now) (ap (λ x. x.silent) same ∙ loud)
             ∙ ap (λ w. awaits_address asked.1 && not (is_whole w)) (way_same deep (reply_out a d k) s asked.1 same)

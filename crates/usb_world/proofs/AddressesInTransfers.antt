@@ -8,8 +8,8 @@ use Rattle.usb_device.specs.declared.delivery.Content.{Content}
 use Rattle.usb_device.specs.declared.delivery.Content.TheVariants.{Whole, Broken}
 use Rattle.usb_device.specs.declared.delivery.Sent.{Sent}
 use Rattle.usb_device.specs.declared.effect.Effect.TheVariants.{Leaves}
-use Rattle.usb_device.specs.declared.transfer.Memory.{Memory}
-use Rattle.usb_device.specs.declared.transfer.Memory.TheVariants.{Nothing, SetupSeen}
+use Rattle.usb_device.specs.declared.transfer.RememberedPacket.{RememberedPacket}
+use Rattle.usb_device.specs.declared.transfer.RememberedPacket.TheVariants.{Nothing, SetupSeen}
 use Rattle.usb_device.specs.Rows.{State, Reply, received, unread, forgotten, answered, unless_busy, in_row, in_other_row, bulk_ack_row, token_row, after_memory, awaits_control, ends_with_address, awaits_address}
 use Rattle.usb_device.specs.Effect.{asks, asked_by_data}
 use Rattle.usb_device.specs.Tree.{Ports, ended, vacant, taken, Place, empty, full, row_of, reach_at, state_at, place_at}
@@ -24,15 +24,15 @@ use Rattle.usb_world.specs.Wire.{mark_of, harm_to, marked}
 use Rattle.usb_world.specs.Exchange.{token_of, token_out, payload_out, reply_out, ports_in}
 use Rattle.usb_world.specs.Paths.{address_of}
 use Rattle.usb_world.specs.WayEffects.{resets_at, reset_if}
-use Rattle.usb_world.specs.Passes.{passed, heard_state, deep_at, pass_resets, attempt_resets, IsDataOut, IfOut, IsSettled}
+use Rattle.usb_world.specs.AttemptPackets.{after_sent, deep_at, sent_resets, attempt_resets, IsDataOut, IfOut, IsSettled}
 use Rattle.usb_world.specs.World.{World}
 use Rattle.usb_world.specs.Steps.{is_due, took, took_first, event_taken, due_from, ready, damage_in, with_attempt, attempted, Step, attempt, root_call, event, report, after, Course, here, step}
 use Rattle.usb_world.specs.Courses.{Own, Injective}
 use Rattle.usb_world.specs.Addresses.{is_setup, NoneTakes, MovesData, GivesNoAddress}
-use Rattle.usb_world.proofs.AwaitedAcks.{plain_answer, plain_data}
+use Rattle.usb_world.proofs.AwaitedAcks.{none_awaited_answer, data_no_control_in}
 use Rattle.usb_world.proofs.Booleans.{no, and_false}
-use Rattle.usb_world.proofs.PacketEffects.{packet_state}
-use Rattle.usb_world.proofs.AttemptPackets.{forgotten_state, calm_pass, sent_out, token_out as token_calm_out, ack_out}
+use Rattle.usb_world.proofs.PacketEffects.{packet_state, heard_state}
+use Rattle.usb_world.proofs.AttemptPackets.{forgotten_state, calm_sent, sent_out, token_out as token_calm_out, ack_out}
 use Rattle.usb_world.proofs.OneDevice.{stands, state_stands, settled_memory}
 use Rattle.usb_world.proofs.OneHolderAttempts.{ready_settled}
 use Rattle.usb_world.proofs.StepInvariants.{settled_called, settled_happened, settled_ports}
@@ -60,15 +60,15 @@ unreset_if P false None h g = g
 unreset_if P false (Some s) h g = g
 
 -- a packet, where it resets no device there
-pass_if : (P Q : State → Type 0) (o : Option Sent) (k : Ports) (j : ℕ) (p : List ℕ) → pass_resets o k j p ≡ false → ((s : State) → P s → Q s)
+sent_if : (P Q : State → Type 0) (o : Option Sent) (k : Ports) (j : ℕ) (p : List ℕ) → sent_resets o k j p ≡ false → ((s : State) → P s → Q s)
     → ((q : Sent) (d : Bool) (s : State) (a : Ports) → o ≡ Some q → reach_at k j p ≡ true → P s → Q (answer_of q d s a).1)
-    → If P (state_at k j p) → If Q (state_at (passed o k) j p)
-pass_if P Q None k j p r f g h = weaken (state_at k j p) h
+    → If P (state_at k j p) → If Q (state_at (after_sent o k) j p)
+sent_if P Q None k j p r f g h = weaken (state_at k j p) h
   where
     weaken : (o : Option State) → If P o → If Q o
     weaken None h = tt
     weaken (Some s) h = f s h
-pass_if P Q (Some q) k j p r f g h =
+sent_if P Q (Some q) k j p r f g h =
     subst (If Q) (sym (packet_state q false k j p))
     (unreset_if Q (resets_at q false k j p) (heard_state q (deep_at false p) (reach_at k j p) (place_at k j p)) r
     (heard_if P Q q (deep_at false p) (reach_at k j p) (place_at k j p) f (λ s a on x. g q (deep_at false p) s a refl on x)
@@ -76,7 +76,7 @@ pass_if P Q (Some q) k j p r f g h =
 
 -- The token of IN or OUT
 
-abbrev pub saw_setup : Memory → Bool
+abbrev pub saw_setup : RememberedPacket → Bool
 saw_setup SetupSeen = true
 saw_setup m = false
 
@@ -175,7 +175,7 @@ data_asks : (c : Content) → IsDataOut c → (s : State) → saw_setup s.memory
 unfolding asks
 data_asks (Whole (Payload t b)) h s r = heard s.spec.silent (by_memory s.memory r)
   where
-    by_memory : (m : Memory) → saw_setup m ≡ false → asked_by_data s m t b.items ≡ Leaves
+    by_memory : (m : RememberedPacket) → saw_setup m ≡ false → asked_by_data s m t b.items ≡ Leaves
     by_memory SetupSeen g = no (sym g)
     by_memory m g = refl
 
@@ -205,10 +205,10 @@ data_resets q c deep (taken b s a k) h zero (suc j ∷ p) =
     rw (data_effect q c deep s (h zero []), data_resets q c true a (λ i e. h zero (suc i ∷ e)) j p) (and_false b.enable)
 data_resets q c deep (taken b s a k) h (suc j) p = data_resets q c deep k (λ i e. h (suc i) e) j p
 
-data_pass : (o : Option Sent) → IfOut IsDataOut o → (k : Ports) → ((i : ℕ) (e : List ℕ) → If WaitsNone (state_at k i e))
-    → (j : ℕ) (p : List ℕ) → pass_resets o k j p ≡ false
-data_pass None c k h j p = refl
-data_pass (Some q) c k h j p = data_resets q c false k h j p
+data_sent : (o : Option Sent) → IfOut IsDataOut o → (k : Ports) → ((i : ℕ) (e : List ℕ) → If WaitsNone (state_at k i e))
+    → (j : ℕ) (p : List ℕ) → sent_resets o k j p ≡ false
+data_sent None c k h j p = refl
+data_sent (Some q) c k h j p = data_resets q c false k h j p
 
 -- The host's ACK, where no device awaits it to take an address
 
@@ -216,7 +216,7 @@ pub bulk_acked : (d : State) (o : Option (ℕ × ℕ)) → address_of (bulk_ack_
 bulk_acked d None = refl
 bulk_acked d (Some end) = refl
 
-memory_acked : (d : State) (m : Memory) → (awaits_control m && ends_with_address d.stage) ≡ false → address_of (after_memory d m) ≡ address_of d
+memory_acked : (d : State) (m : RememberedPacket) → (awaits_control m && ends_with_address d.stage) ≡ false → address_of (after_memory d m) ≡ address_of d
 memory_acked d m h = grind arith
 
 -- where a device awaits no ACK to take an address, no packet changes its address
@@ -249,10 +249,10 @@ kept_heard q d on (Some (empty b)) r = refl
 kept_heard q d true (Some (full b s a)) r = ap (λ x. Some x) (kept_answer q d s a r)
 kept_heard q d false (Some (full b s a)) r = refl
 
-kept_pass : (o : Option Sent) (k : Ports) (j : ℕ) (p : List ℕ) → pass_resets o k j p ≡ false → If AwaitsNone (state_at k j p)
-    → option_map address_of (state_at (passed o k) j p) ≡ option_map address_of (state_at k j p)
-kept_pass None k j p h r = refl
-kept_pass (Some q) k j p h r =
+kept_sent : (o : Option Sent) (k : Ports) (j : ℕ) (p : List ℕ) → sent_resets o k j p ≡ false → If AwaitsNone (state_at k j p)
+    → option_map address_of (state_at (after_sent o k) j p) ≡ option_map address_of (state_at k j p)
+kept_sent None k j p h r = refl
+kept_sent (Some q) k j p h r =
     ap (option_map address_of) (packet_state q false k j p)
     ∙ kept_address (resets_at q false k j p) (heard_state q (deep_at false p) (reach_at k j p) (place_at k j p)) h
     ∙ kept_heard q (deep_at false p) (reach_at k j p) (place_at k j p) (subst (If AwaitsNone) (sym (state_stands k j p)) r)
@@ -276,10 +276,10 @@ token_goes a d h = sent_out (IsInOrOut a.addr) tt a.low a.pre (mark_of (harm_to 
 -- IN or OUT, in a tree where no device remembers a packet
 module _ (a : Attempt) (d : Option Damage) (k : Ports) (settled : IsSettled k) (kind : is_setup a.kind ≡ false) where
   abbrev asked_ports : Ports
-  asked_ports = passed (token_out a d) k
+  asked_ports = after_sent (token_out a d) k
 
-  token_calm : (j : ℕ) (p : List ℕ) → pass_resets (token_out a d) k j p ≡ false
-  token_calm j p = calm_pass (token_out a d) (token_calm_out a.addr (token_out a d) (goes a d k).token) k j p
+  token_calm : (j : ℕ) (p : List ℕ) → sent_resets (token_out a d) k j p ≡ false
+  token_calm j p = calm_sent (token_out a d) (token_calm_out a.addr (token_out a d) (goes a d k).token) k j p
 
   at_rest : (P : State → Type 0) (j : ℕ) (p : List ℕ) → ((s : State) → state_at k j p ≡ Some s → s.memory ≡ Nothing → P s) → If P (state_at k j p)
   at_rest P j p c = go (state_at k j p) refl
@@ -290,12 +290,12 @@ module _ (a : Attempt) (d : Option Damage) (k : Ports) (settled : IsSettled k) (
 
   pub none_waits : (j : ℕ) (p : List ℕ) → If WaitsNone (state_at asked_ports j p)
   none_waits j p =
-      pass_if Forgot WaitsNone (token_out a d) k j p (token_calm j p) (λ s m. ap saw_setup m)
+      sent_if Forgot WaitsNone (token_out a d) k j p (token_calm j p) (λ s m. ap saw_setup m)
       (λ q deep s below e on m. (token_answer a.addr q (of_out (IsInOrOut a.addr) (token_out a d) q (token_goes a d kind) e) deep s below m).0)
       (at_rest Forgot j p (λ s e m. m))
 
   pub data_calm : (j : ℕ) (p : List ℕ) → attempt_resets (token_out a d) (payload_out a d) k j p ≡ false
-  data_calm j p = data_pass (payload_out a d) (goes a d k).payload asked_ports none_waits j p
+  data_calm j p = data_sent (payload_out a d) (goes a d k).payload asked_ports none_waits j p
 
   -- the device at a path takes no address
   module _ (j : ℕ) (p : List ℕ) (c : (s : State) → reach_at k j p ≡ true → state_at k j p ≡ Some s → address_of s ≡ a.addr → ends_with_address s.stage ≡ false) where
@@ -304,16 +304,16 @@ module _ (a : Attempt) (d : Option Damage) (k : Ports) (settled : IsSettled k) (
 
     calmed : If IsCalmed (state_at asked_ports j p)
     calmed =
-        pass_if Takes IsCalmed (token_out a d) k j p (token_calm j p) (λ s t. (ap saw_setup t.0, forgot_awaits s t.0))
+        sent_if Takes IsCalmed (token_out a d) k j p (token_calm j p) (λ s t. (ap saw_setup t.0, forgot_awaits s t.0))
         (λ q deep s below e on t.
         let x : Asked a.addr s (answer_of q deep s below).1 = token_answer a.addr q (of_out (IsInOrOut a.addr) (token_out a d) q (token_goes a d kind) e) deep s below t.0 in
         (x.0, x.1 (t.1 on)))
         (at_rest Takes j p (λ s e m. (m, λ on. c s on e)))
 
-    awaits_none : If AwaitsNone (state_at (passed (payload_out a d) asked_ports) j p)
+    awaits_none : If AwaitsNone (state_at (after_sent (payload_out a d) asked_ports) j p)
     awaits_none =
-        pass_if IsCalmed AwaitsNone (payload_out a d) asked_ports j p (data_calm j p) (λ s r. r.1)
-        (λ q deep s below e on r. plain_answer q (plain_data q.content (of_out IsDataOut (payload_out a d) q (goes a d k).payload e)) deep s below r.1)
+        sent_if IsCalmed AwaitsNone (payload_out a d) asked_ports j p (data_calm j p) (λ s r. r.1)
+        (λ q deep s below e on r. none_awaited_answer q (data_no_control_in q.content (of_out IsDataOut (payload_out a d) q (goes a d k).payload e)) deep s below r.1)
         calmed
 
     calmed_awaits : (o : Option State) → If IsCalmed o → If AwaitsNone o
@@ -323,11 +323,11 @@ module _ (a : Attempt) (d : Option Damage) (k : Ports) (settled : IsSettled k) (
     pub ports_address : option_map address_of (state_at (ports_in a d k) j p) ≡ option_map address_of (state_at k j p)
     unfolding ports_in
     ports_address =
-        ap (option_map address_of) (forgotten_state (passed (reply_out a d k) (passed (payload_out a d) asked_ports)) j p)
-        ∙ forgotten_address (state_at (passed (reply_out a d k) (passed (payload_out a d) asked_ports)) j p)
-        ∙ kept_pass (reply_out a d k) (passed (payload_out a d) asked_ports) j p (calm_pass (reply_out a d k) (ack_out (reply_out a d k) (goes a d k).reply) (passed (payload_out a d) asked_ports) j p) awaits_none
-        ∙ kept_pass (payload_out a d) asked_ports j p (data_calm j p) (calmed_awaits (state_at asked_ports j p) calmed)
-        ∙ kept_pass (token_out a d) k j p (token_calm j p) (at_rest AwaitsNone j p (λ s e m. forgot_awaits s m))
+        ap (option_map address_of) (forgotten_state (after_sent (reply_out a d k) (after_sent (payload_out a d) asked_ports)) j p)
+        ∙ forgotten_address (state_at (after_sent (reply_out a d k) (after_sent (payload_out a d) asked_ports)) j p)
+        ∙ kept_sent (reply_out a d k) (after_sent (payload_out a d) asked_ports) j p (calm_sent (reply_out a d k) (ack_out (reply_out a d k) (goes a d k).reply) (after_sent (payload_out a d) asked_ports) j p) awaits_none
+        ∙ kept_sent (payload_out a d) asked_ports j p (data_calm j p) (calmed_awaits (state_at asked_ports j p) calmed)
+        ∙ kept_sent (token_out a d) k j p (token_calm j p) (at_rest AwaitsNone j p (λ s e m. forgot_awaits s m))
 
 -- Worlds
 

@@ -14,13 +14,13 @@ use Rattle.usb_port.specs.declared.call.PortCall.{PortCall}
 use Rattle.usb_device.specs.declared.delivery.Content.{Content}
 use Rattle.usb_device.specs.declared.delivery.Content.TheVariants.{Whole, Broken}
 use Rattle.usb_device.specs.declared.delivery.Sent.{Sent}
-use Rattle.usb_device.specs.declared.transfer.Memory.{Memory}
-use Rattle.usb_device.specs.declared.transfer.Memory.TheVariants.{Nothing, SetupSeen, OutSeen, AckAwaited}
+use Rattle.usb_device.specs.declared.transfer.RememberedPacket.{RememberedPacket}
+use Rattle.usb_device.specs.declared.transfer.RememberedPacket.TheVariants.{Nothing, SetupSeen, OutSeen, AckAwaited}
 use Rattle.usb_device.specs.Spec.{Spec}
 use Rattle.usb_device.specs.PacketFrames.{is_ack}
 use Rattle.usb_port.specs.Calls.{is_reset}
 use Rattle.usb_device.specs.Rows.{State, Reply, received, unread, forgotten, payload_row, token_row, status_row, out_row, sink_row, sunk, out_bulk_row, bulk_of, is_busy, nak_row, unless_busy, accepted}
-use Rattle.usb_device.specs.Bulk.{is_same}
+use Rattle.usb_packet.specs.Toggles.{is_same}
 use Rattle.usb_device.specs.Transfer.{Stage, idle, refused, reading, read, ending}
 use Rattle.usb_request.specs.Layout.{setup_of}
 use Rattle.usb_device.specs.Tree.{Ports, ended, vacant, taken, Place, empty, full, called, replaced, changed, reach, reach_at, state_at, place_at, row_of, path_to, state_on}
@@ -40,19 +40,19 @@ use Rattle.usb_world.specs.Exchange.{token_of, payload_of, reply_of, sent_as, go
 use Rattle.usb_device.specs.View.{state_there}
 use Rattle.usb_world.specs.Paths.{address_of, is_way, Two}
 use Rattle.usb_world.specs.WayEffects.{resets_at, call_resets}
-use Rattle.usb_world.specs.Passes.{passed, answers_to, after_attempt, heard_state, deep_at, pass_resets, attempt_resets}
+use Rattle.usb_world.specs.AttemptPackets.{after_sent, answers_to, after_attempt, deep_at, sent_resets, attempt_resets}
 use Rattle.usb_world.specs.World.{World}
 use Rattle.usb_world.specs.Steps.{with_plugged, happened, way_of, names_path, is_due, took, took_first, due_from, ready, damage_in, with_attempt, attempted, event_taken, Step, attempt, root_call, event, report, after, Course, here, step}
-use Rattle.usb_world.specs.Courses.{is_made, made_resets, root_resets, resets, address_at, Own, Injective, is_quiet, QuietStep, quiet_data, IsHarmlessOut}
+use Rattle.usb_world.specs.Courses.{is_made, made_resets, root_resets, resets, address_at, Own, Injective, is_quiet, QuietStep, quiet_data}
 use Rattle.usb_world.proofs.Booleans.{no, both, and_of, decided, neither_of}
 use Rattle.usb_world.proofs.PlugEvents.{event_place}
 use Rattle.usb_world.proofs.PortCalls.{call_state}
-use Rattle.usb_world.proofs.PacketEffects.{packet_state}
-use Rattle.usb_world.proofs.AttemptPackets.{forgotten_state, calm_pass, token_out as token_calm_out}
+use Rattle.usb_world.proofs.PacketEffects.{packet_state, heard_state}
+use Rattle.usb_world.proofs.AttemptPackets.{forgotten_state, calm_sent, token_out as token_calm_out}
 use Rattle.usb_world.proofs.Holders.{twice_two}
 use Rattle.usb_world.proofs.OneDevice.{stands, state_stands}
 use Rattle.usb_world.proofs.Courses.{happened_reach, due_reach, unreset_reach, made_reach, goes}
-use Rattle.usb_world.proofs.HarmlessRequests.{harmless_resets}
+use Rattle.usb_world.proofs.HarmlessRequests.{harmless_resets, IsHarmlessOut}
 use Rattle.usb_world.proofs.States.{kept_address, forgotten_address}
 use Rattle.usb_world.proofs.DueEvents.{first_shared, due_shared}
 
@@ -88,24 +88,24 @@ NoAckOut : Option Sent → Type 0
 NoAckOut None = Unit {0}
 NoAckOut (Some q) = is_ack_out q.content ≡ false
 
-pass_address : (o : Option Sent) → NoAckOut o → (k : Ports) (j : ℕ) (p : List ℕ) → pass_resets o k j p ≡ false
-    → option_map address_of (state_at (passed o k) j p) ≡ option_map address_of (state_at k j p)
+sent_address : (o : Option Sent) → NoAckOut o → (k : Ports) (j : ℕ) (p : List ℕ) → sent_resets o k j p ≡ false
+    → option_map address_of (state_at (after_sent o k) j p) ≡ option_map address_of (state_at k j p)
 unfolding NoAckOut
-pass_address None c k j p h = refl
-pass_address (Some q) c k j p h =
+sent_address None c k j p h = refl
+sent_address (Some q) c k j p h =
     ap (option_map address_of) (packet_state q false k j p)
     ∙ kept_address (resets_at q false k j p) (heard_state q (deep_at false p) (reach_at k j p) (place_at k j p)) h
     ∙ heard_address q c (deep_at false p) (reach_at k j p) (place_at k j p)
     ∙ ap (option_map address_of) (state_stands k j p)
 
 -- an attempt without an ACK of the host changes no address, but of a device that it resets
-attempt_address : (t d : Option Sent) → NoAckOut t → NoAckOut d → (k : Ports) (j : ℕ) (p : List ℕ) → pass_resets t k j p ≡ false → attempt_resets t d k j p ≡ false
+attempt_address : (t d : Option Sent) → NoAckOut t → NoAckOut d → (k : Ports) (j : ℕ) (p : List ℕ) → sent_resets t k j p ≡ false → attempt_resets t d k j p ≡ false
     → option_map address_of (state_at (after_attempt t d None k) j p) ≡ option_map address_of (state_at k j p)
 attempt_address t d ct cd k j p f h =
-    ap (option_map address_of) (forgotten_state (passed d (passed t k)) j p)
-    ∙ forgotten_address (state_at (passed d (passed t k)) j p)
-    ∙ pass_address d cd (passed t k) j p h
-    ∙ pass_address t ct k j p f
+    ap (option_map address_of) (forgotten_state (after_sent d (after_sent t k)) j p)
+    ∙ forgotten_address (state_at (after_sent d (after_sent t k)) j p)
+    ∙ sent_address d cd (after_sent t k) j p h
+    ∙ sent_address t ct k j p f
 
 -- Where each reachable device holds an address of its own, no address is held twice
 
@@ -172,47 +172,47 @@ root_address c (suc i) k (suc j ∷ p) h = ap (option_map address_of) (call_stat
 
 -- To setup data, and to data, no device answers by data; so the host sends no ACK
 
-abbrev is_plain : Option Answer → Bool
-is_plain None = true
-is_plain (Some (answer.Data t b)) = false
-is_plain (Some answer.Ack) = true
-is_plain (Some answer.Nak) = true
-is_plain (Some answer.Stall) = true
+abbrev has_no_data : Option Answer → Bool
+has_no_data None = true
+has_no_data (Some (answer.Data t b)) = false
+has_no_data (Some answer.Ack) = true
+has_no_data (Some answer.Nak) = true
+has_no_data (Some answer.Stall) = true
 
-plain_if : (b : Bool) (x y : Reply) → is_plain x.0 ≡ true → is_plain y.0 ≡ true → is_plain (if b then x else y).0 ≡ true
-plain_if true x y h g = h
-plain_if false x y h g = g
+no_data_if : (b : Bool) (x y : Reply) → has_no_data x.0 ≡ true → has_no_data y.0 ≡ true → has_no_data (if b then x else y).0 ≡ true
+no_data_if true x y h g = h
+no_data_if false x y h g = g
 
-plain_status : (s : State) (t : Toggle) (b : List ℕ) → is_plain (status_row s t b).0 ≡ true
-plain_status s Zero b = refl
-plain_status s Data1 [] = refl
-plain_status s Data1 (x ∷ b) = refl
+no_data_status : (s : State) (t : Toggle) (b : List ℕ) → has_no_data (status_row s t b).0 ≡ true
+no_data_status s Zero b = refl
+no_data_status s Data1 [] = refl
+no_data_status s Data1 (x ∷ b) = refl
 
-plain_out : (s : State) (g : Stage) (t : Toggle) (b : List ℕ) → is_plain (out_row s g t b).0 ≡ true
-plain_out s idle t b = refl
-plain_out s refused t b = refl
-plain_out s (reading x y z) t b = plain_status s t b
-plain_out s read t b = plain_status s t b
-plain_out s (ending x) t b = refl
+no_data_out : (s : State) (g : Stage) (t : Toggle) (b : List ℕ) → has_no_data (out_row s g t b).0 ≡ true
+no_data_out s idle t b = refl
+no_data_out s refused t b = refl
+no_data_out s (reading x y z) t b = no_data_status s t b
+no_data_out s read t b = no_data_status s t b
+no_data_out s (ending x) t b = refl
 
-plain_sink : (s : State) (max : ℕ) (t : Toggle) (b : List ℕ) → is_plain (sink_row s max t b).0 ≡ true
-plain_sink s max t b =
-    plain_if s.bulk_out.halted (Some answer.Stall, s) _ refl
-    (plain_if (nat_lt max (length b)) (None, s) _ refl
-    (plain_if (is_same t s.bulk_out.toggle) (Some answer.Ack, sunk s b) (Some answer.Ack, s) refl refl))
+no_data_sink : (s : State) (max : ℕ) (t : Toggle) (b : List ℕ) → has_no_data (sink_row s max t b).0 ≡ true
+no_data_sink s max t b =
+    no_data_if s.bulk_out.halted (Some answer.Stall, s) _ refl
+    (no_data_if (nat_lt max (length b)) (None, s) _ refl
+    (no_data_if (is_same t s.bulk_out.toggle) (Some answer.Ack, sunk s b) (Some answer.Ack, s) refl refl))
 
-plain_bulk : (s : State) (e : ℕ) (o : Option (ℕ × ℕ)) (t : Toggle) (b : List ℕ) → is_plain (out_bulk_row s e o t b).0 ≡ true
-plain_bulk s e None t b = refl
-plain_bulk s e (Some end) t b = plain_if (end.0 == e) (sink_row s end.1 t b) (None, s) (plain_sink s end.1 t b) refl
+no_data_bulk : (s : State) (e : ℕ) (o : Option (ℕ × ℕ)) (t : Toggle) (b : List ℕ) → has_no_data (out_bulk_row s e o t b).0 ≡ true
+no_data_bulk s e None t b = refl
+no_data_bulk s e (Some end) t b = no_data_if (end.0 == e) (sink_row s end.1 t b) (None, s) (no_data_sink s end.1 t b) refl
 
-plain_payload : (s : State) (row : List PortState) (m : Memory) (t : Toggle) (b : List ℕ) → is_plain (payload_row s row m t b).0 ≡ true
-plain_payload s row Nothing t b = refl
-plain_payload s row (AckAwaited g) t b = refl
-plain_payload s row SetupSeen Data1 b = refl
-plain_payload s row SetupSeen Zero b = plain_if (length b == 8) (Some answer.Ack, accepted s row (setup_of b)) (None, s) refl refl
-plain_payload s row (OutSeen e) t b =
-    plain_if (e == 0) (unless_busy s (out_row s s.stage t b)) (out_bulk_row s e (bulk_of s false) t b)
-    (plain_if (is_busy s) (nak_row s) (out_row s s.stage t b) refl (plain_out s s.stage t b)) (plain_bulk s e (bulk_of s false) t b)
+no_data_payload : (s : State) (row : List PortState) (m : RememberedPacket) (t : Toggle) (b : List ℕ) → has_no_data (payload_row s row m t b).0 ≡ true
+no_data_payload s row Nothing t b = refl
+no_data_payload s row (AckAwaited g) t b = refl
+no_data_payload s row SetupSeen Data1 b = refl
+no_data_payload s row SetupSeen Zero b = no_data_if (length b == 8) (Some answer.Ack, accepted s row (setup_of b)) (None, s) refl refl
+no_data_payload s row (OutSeen e) t b =
+    no_data_if (e == 0) (unless_busy s (out_row s s.stage t b)) (out_bulk_row s e (bulk_of s false) t b)
+    (no_data_if (is_busy s) (nak_row s) (out_row s s.stage t b) refl (no_data_out s s.stage t b)) (no_data_bulk s e (bulk_of s false) t b)
 
 -- what goes out in an attempt that sends setup data
 IsSetupOut : Content → Type 0
@@ -221,68 +221,68 @@ IsSetupOut (Whole (Payload t b)) = Unit {0}
 IsSetupOut Broken = Unit {0}
 IsSetupOut (Whole p) = ⊥
 
-plain_token : (s : State) (row : List PortState) (a e : ℕ) → is_plain (if a == s.registers.address then token_row s row SetupTok e else (None, s)).0 ≡ true
-plain_token s row a e = plain_if (a == s.registers.address) (token_row s row SetupTok e) (None, s) refl refl
+no_data_token : (s : State) (row : List PortState) (a e : ℕ) → has_no_data (if a == s.registers.address then token_row s row SetupTok e else (None, s)).0 ≡ true
+no_data_token s row a e = no_data_if (a == s.registers.address) (token_row s row SetupTok e) (None, s) refl refl
 
-plain_content : (c : Content) (s : State) (row : List PortState) → IsSetupOut c → is_plain (reply_to c s row).0 ≡ true
+no_data_content : (c : Content) (s : State) (row : List PortState) → IsSetupOut c → has_no_data (reply_to c s row).0 ≡ true
 unfolding received IsSetupOut
-plain_content (Whole (Token SetupTok a e)) s row h = plain_if s.spec.silent (None, s) _ refl (plain_token (forgotten s) row a e)
-plain_content (Whole (Token InTok a e)) s row h = elim h [ ]
-plain_content (Whole (Token OutTok a e)) s row h = elim h [ ]
-plain_content (Whole (Payload t b)) s row h = plain_if s.spec.silent (None, s) _ refl (plain_payload (forgotten s) row s.memory t b.items)
-plain_content (Whole Ack) s row h = elim h [ ]
-plain_content (Whole (Sof f)) s row h = elim h [ ]
-plain_content (Whole Nak) s row h = elim h [ ]
-plain_content (Whole Stall) s row h = elim h [ ]
-plain_content (Whole Pre) s row h = elim h [ ]
-plain_content Broken s row h = refl
+no_data_content (Whole (Token SetupTok a e)) s row h = no_data_if s.spec.silent (None, s) _ refl (no_data_token (forgotten s) row a e)
+no_data_content (Whole (Token InTok a e)) s row h = elim h [ ]
+no_data_content (Whole (Token OutTok a e)) s row h = elim h [ ]
+no_data_content (Whole (Payload t b)) s row h = no_data_if s.spec.silent (None, s) _ refl (no_data_payload (forgotten s) row s.memory t b.items)
+no_data_content (Whole Ack) s row h = elim h [ ]
+no_data_content (Whole (Sof f)) s row h = elim h [ ]
+no_data_content (Whole Nak) s row h = elim h [ ]
+no_data_content (Whole Stall) s row h = elim h [ ]
+no_data_content (Whole Pre) s row h = elim h [ ]
+no_data_content Broken s row h = refl
 
-plain_answer : (q : Sent) → IsSetupOut q.content → (deep : Bool) (s : State) (a : Ports) → is_plain (answer_of q deep s a).0 ≡ true
+no_data_answer : (q : Sent) → IsSetupOut q.content → (deep : Bool) (s : State) (a : Ports) → has_no_data (answer_of q deep s a).0 ≡ true
 unfolding answer_of
-plain_answer q c deep s a = plain_if (hears q deep s) (reply_to q.content s (row_of a)) (None, s) (plain_content q.content s (row_of a) c) refl
+no_data_answer q c deep s a = no_data_if (hears q deep s) (reply_to q.content s (row_of a)) (None, s) (no_data_content q.content s (row_of a) c) refl
 
-all_plain : List Answer → Bool
-all_plain [] = true
-all_plain (x ∷ xs) = is_plain (Some x) && all_plain xs
+all_without_data : List Answer → Bool
+all_without_data [] = true
+all_without_data (x ∷ xs) = has_no_data (Some x) && all_without_data xs
 
-plain_append : (xs ys : List Answer) → all_plain xs ≡ true → all_plain ys ≡ true → all_plain (xs ++ ys) ≡ true
-unfolding all_plain
-plain_append [] ys h g = g
-plain_append (x ∷ xs) ys h g =
-    let on : _ = both (is_plain (Some x)) (all_plain xs) h in and_of (is_plain (Some x)) _ on.0 (plain_append xs ys on.1 g)
+no_data_append : (xs ys : List Answer) → all_without_data xs ≡ true → all_without_data ys ≡ true → all_without_data (xs ++ ys) ≡ true
+unfolding all_without_data
+no_data_append [] ys h g = g
+no_data_append (x ∷ xs) ys h g =
+    let on : _ = both (has_no_data (Some x)) (all_without_data xs) h in and_of (has_no_data (Some x)) _ on.0 (no_data_append xs ys on.1 g)
 
-plain_listed : (o : Option Answer) (xs : List Answer) → is_plain o ≡ true → all_plain xs ≡ true → all_plain (listed o xs) ≡ true
-unfolding all_plain
-plain_listed None xs h g = g
-plain_listed (Some x) xs h g = and_of (is_plain (Some x)) (all_plain xs) h g
+no_data_listed : (o : Option Answer) (xs : List Answer) → has_no_data o ≡ true → all_without_data xs ≡ true → all_without_data (listed o xs) ≡ true
+unfolding all_without_data
+no_data_listed None xs h g = g
+no_data_listed (Some x) xs h g = and_of (has_no_data (Some x)) (all_without_data xs) h g
 
-plain_answers : (q : Sent) → IsSetupOut q.content → (deep : Bool) (k : Ports) → all_plain (answers q deep k) ≡ true
-unfolding answers all_plain
-plain_answers q c deep ended = refl
-plain_answers q c deep (vacant b k) = plain_answers q c deep k
-plain_answers q c deep (taken b s a k) =
-    elim b.enable as (λ x. all_plain (if x then listed (answer_of q deep s a).0 (answers q true a ++ answers q deep k) else answers q deep k) ≡ true) [
-      | true ↦ plain_listed (answer_of q deep s a).0 (answers q true a ++ answers q deep k) (plain_answer q c deep s a) (plain_append (answers q true a) (answers q deep k) (plain_answers q c true a) (plain_answers q c deep k))
-      | false ↦ plain_answers q c deep k
+no_data_answers : (q : Sent) → IsSetupOut q.content → (deep : Bool) (k : Ports) → all_without_data (answers q deep k) ≡ true
+unfolding answers all_without_data
+no_data_answers q c deep ended = refl
+no_data_answers q c deep (vacant b k) = no_data_answers q c deep k
+no_data_answers q c deep (taken b s a k) =
+    elim b.enable as (λ x. all_without_data (if x then listed (answer_of q deep s a).0 (answers q true a ++ answers q deep k) else answers q deep k) ≡ true) [
+      | true ↦ no_data_listed (answer_of q deep s a).0 (answers q true a ++ answers q deep k) (no_data_answer q c deep s a) (no_data_append (answers q true a) (answers q deep k) (no_data_answers q c true a) (no_data_answers q c deep k))
+      | false ↦ no_data_answers q c deep k
     ]
 
 SetupIfOut : Option Sent → Type 0
 SetupIfOut None = Unit {0}
 SetupIfOut (Some q) = IsSetupOut q.content
 
-plain_told : (o : Option Sent) → SetupIfOut o → (k : Ports) → all_plain (answers_to o k) ≡ true
-unfolding all_plain SetupIfOut
-plain_told None c k = refl
-plain_told (Some q) c k = plain_answers q c false k
+no_data_told : (o : Option Sent) → SetupIfOut o → (k : Ports) → all_without_data (answers_to o k) ≡ true
+unfolding all_without_data SetupIfOut
+no_data_told None c k = refl
+no_data_told (Some q) c k = no_data_answers q c false k
 
-plain_reply : (xs : List Answer) (m : Mark) (max : ℕ) → all_plain xs ≡ true → reply_of (heard_all xs) m max ≡ None
-unfolding all_plain reply_of
-plain_reply [] m max h = refl
-plain_reply (answer.Ack ∷ []) m max h = refl
-plain_reply (answer.Nak ∷ []) m max h = refl
-plain_reply (answer.Stall ∷ []) m max h = refl
-plain_reply (answer.Data t b ∷ []) m max h = no h
-plain_reply (x ∷ y ∷ more) m max h = refl
+no_data_reply : (xs : List Answer) (m : Mark) (max : ℕ) → all_without_data xs ≡ true → reply_of (heard_all xs) m max ≡ None
+unfolding all_without_data reply_of
+no_data_reply [] m max h = refl
+no_data_reply (answer.Ack ∷ []) m max h = refl
+no_data_reply (answer.Nak ∷ []) m max h = refl
+no_data_reply (answer.Stall ∷ []) m max h = refl
+no_data_reply (answer.Data t b ∷ []) m max h = no h
+no_data_reply (x ∷ y ∷ more) m max h = refl
 
 -- Attempts that send setup data
 
@@ -300,7 +300,7 @@ no_ack_goes l pre mark.Lost p h = tt
 no_ack_goes l pre mark.PreLost p h = h
 no_ack_goes l pre (mark.Flipped b) p h = refl
 
-harmless_goes : (l pre : Bool) (m : Mark) (p : Packet) → IsHarmlessOut (Whole p) → (k : Ports) (j : ℕ) (path : List ℕ) → pass_resets (sent_as l pre m p) k j path ≡ false
+harmless_goes : (l pre : Bool) (m : Mark) (p : Packet) → IsHarmlessOut (Whole p) → (k : Ports) (j : ℕ) (path : List ℕ) → sent_resets (sent_as l pre m p) k j path ≡ false
 harmless_goes l pre mark.Whole p h k j path = harmless_resets (record { low = l; pre = pre; content = Whole p }) h false k j path
 harmless_goes l pre mark.Lost p h k j path = refl
 harmless_goes l pre mark.PreLost p h k j path = harmless_resets (record { low = l; pre = false; content = Whole p }) h false k j path
@@ -312,7 +312,7 @@ record SetupGoes (a : Attempt) (d : Option Damage) : Type 0 where
   payload : SetupIfOut (payload_out a d)
   token_no_ack : NoAckOut (token_out a d)
   payload_no_ack : NoAckOut (payload_out a d)
-  harmless : (k : Ports) (j : ℕ) (p : List ℕ) → pass_resets (payload_out a d) k j p ≡ false
+  harmless : (k : Ports) (j : ℕ) (p : List ℕ) → sent_resets (payload_out a d) k j p ≡ false
 
 setup_sends : (a : Attempt) (d : Option Damage) (t : TokenKind) (o : Option (Toggle × ArrayVec ℕ)) → a.kind ≡ t → a.payload ≡ o → quiet_data t o ≡ true → SetupGoes a d
 unfolding token_of payload_of marked marked_some IsSetupOut SetupIfOut NoAckOut
@@ -337,8 +337,8 @@ no_reply : (a : Attempt) (d : Option Damage) (k : Ports) → SetupGoes a d → r
 unfolding marked_some
 no_reply a d k g =
     ap (λ o. goes_out a (marked_some d (place_of_answer a d + 1) a.pre o))
-    (plain_reply (answers_to (token_out a d) k ++ answers_to (payload_out a d) (passed (token_out a d) k)) (mark_in a d k) a.max
-    (plain_append (answers_to (token_out a d) k) (answers_to (payload_out a d) (passed (token_out a d) k)) (plain_told (token_out a d) g.token k) (plain_told (payload_out a d) g.payload (passed (token_out a d) k))))
+    (no_data_reply (answers_to (token_out a d) k ++ answers_to (payload_out a d) (after_sent (token_out a d) k)) (mark_in a d k) a.max
+    (no_data_append (answers_to (token_out a d) k) (answers_to (payload_out a d) (after_sent (token_out a d) k)) (no_data_told (token_out a d) g.token k) (no_data_told (payload_out a d) g.payload (after_sent (token_out a d) k))))
 
 made_address : (a : Attempt) (w : World) → SetupGoes a (damage_in w) → (p : List ℕ) → address_at (with_attempt a w).roots p ≡ address_at w.roots p
 unfolding with_attempt ports_in
@@ -347,8 +347,8 @@ made_address a w g (zero ∷ p) = refl
 made_address a w g (suc j ∷ p) =
     ap (λ r. option_map address_of (state_at (after_attempt (token_out a (damage_in w)) (payload_out a (damage_in w)) r w.roots) j p)) (no_reply a (damage_in w) w.roots g)
     ∙ attempt_address (token_out a (damage_in w)) (payload_out a (damage_in w)) g.token_no_ack g.payload_no_ack w.roots j p
-    (calm_pass (token_out a (damage_in w)) (token_calm_out a.addr (token_out a (damage_in w)) (goes a (damage_in w) w.roots).token) w.roots j p)
-    (g.harmless (passed (token_out a (damage_in w)) w.roots) j p)
+    (calm_sent (token_out a (damage_in w)) (token_calm_out a.addr (token_out a (damage_in w)) (goes a (damage_in w) w.roots).token) w.roots j p)
+    (g.harmless (after_sent (token_out a (damage_in w)) w.roots) j p)
 
 quiet_sends : (a : Attempt) (d : Option Damage) → quiet_data a.kind a.payload ≡ true → SetupGoes a d
 quiet_sends a d h = setup_sends a d a.kind a.payload refl refl h
@@ -366,7 +366,7 @@ quiet_resets (attempt a) w p h = made (is_made w.fault w) (by_path p)
     by_path : (p : List ℕ) → made_resets a (ready w) p ≡ false
     by_path [] = refl
     by_path (zero ∷ p) = refl
-    by_path (suc j ∷ p) = (quiet_sends a (damage_in (ready w)) h).harmless (passed (token_out a (damage_in (ready w))) (ready w).roots) j p
+    by_path (suc j ∷ p) = (quiet_sends a (damage_in (ready w)) h).harmless (after_sent (token_out a (damage_in (ready w))) (ready w).roots) j p
 quiet_resets (root_call c n) w p h = by_path n p
   where
     off : (x y : Bool) → not x ≡ true → (x && y) ≡ false
@@ -399,7 +399,7 @@ step_address (attempt a) w p q on h = attempted_address a w.fault w p q on h (by
     by_path : (p : List ℕ) → made_resets a (ready w) p ≡ false
     by_path [] = refl
     by_path (zero ∷ p) = refl
-    by_path (suc j ∷ p) = (quiet_sends a (damage_in (ready w)) q).harmless (passed (token_out a (damage_in (ready w))) (ready w).roots) j p
+    by_path (suc j ∷ p) = (quiet_sends a (damage_in (ready w)) q).harmless (after_sent (token_out a (damage_in (ready w))) (ready w).roots) j p
 step_address (root_call c n) w p q on h = root_address c n w.roots p (quiet_resets (root_call c n) w p q)
 step_address event w p q on h = ap (option_map address_of) (taken_state w.fault w p h)
 step_address (report l) w p q on h = refl

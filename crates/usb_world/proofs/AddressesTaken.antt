@@ -4,8 +4,8 @@ use Rattle.std.proofs.lemmas.Bool.Decides.{nat_tests}
 use Rattle.usb_packet.specs.declared.Toggle.{Toggle}
 use Rattle.usb_port.specs.PortState.{PortState}
 use Rattle.usb_device.specs.declared.answer.Answer.TheVariants as answer
-use Rattle.usb_device.specs.declared.transfer.Giver.{Giver}
-use Rattle.usb_device.specs.declared.transfer.Giver.TheVariants as by
+use Rattle.usb_device.specs.declared.transfer.InEndpoint.{InEndpoint}
+use Rattle.usb_device.specs.declared.transfer.InEndpoint.TheVariants as by
 use Rattle.usb_device.specs.Bulk.{tells_changes, change_bits}
 use Rattle.usb_device.specs.Transfer.{Stage, ending}
 use Rattle.usb_device.specs.Rows.{State, Reply, forgotten, is_busy, nak_row, bulk_of, rest_of, acknowledged, ends_with_address}
@@ -13,16 +13,16 @@ use Rattle.usb_device.specs.Attempt.{Way, is_whole, heard, gave, in_law, in_stag
 use Rattle.usb_device.specs.Tree.{Ports, row_of, reach_at, state_at}
 use Rattle.usb_world.specs.declared.types.Attempt.{Attempt}
 use Rattle.usb_world.specs.Paths.{address_of, same_number, same_path}
-use Rattle.usb_world.specs.Passes.{deep_at}
+use Rattle.usb_world.specs.AttemptPackets.{deep_at}
 use Rattle.usb_world.specs.World.{World}
 use Rattle.usb_world.specs.Steps.{ready, damage_in, with_attempt, attempt, after}
 use Rattle.usb_world.specs.Courses.{Own}
-use Rattle.usb_world.specs.OneHolder.{token_way, answer_way, reply_way, IsIn, Holder, HolderIn}
+use Rattle.usb_world.specs.OneHolder.{token_way, answer_way, reply_way, IsIn, HolderIn}
 use Rattle.usb_world.specs.Addresses.{is_setup, after_taking, ends_status}
 use Rattle.usb_world.proofs.Booleans.{no, decided}
 use Rattle.usb_world.proofs.Holders.{one_path}
 use Rattle.usb_world.proofs.Courses.{made_reach}
-use Rattle.usb_world.proofs.OneHolder.{holder_holds}
+use Rattle.usb_world.proofs.OneHolder.{holder_holds, Holder}
 use Rattle.usb_world.proofs.OneHolderAttempts.{made_is, holder_in, in_in, silent_in}
 use Rattle.usb_world.proofs.AddressesInTransfers.{due_own, data_calm, ports_address, bulk_acked}
 use Rattle.usb_world.proofs.RootResets.{same_is}
@@ -38,7 +38,7 @@ kept_if s true x y h g = h
 kept_if s false x y h g = g
 
 -- data that is given, where what gave it changes no address
-gave_keeps : (s d : State) (giver : Giver) (max : ℕ) (t : Toggle) (bytes : List ℕ) (x y : Way) → address_of d ≡ address_of s → address_of (acknowledged d giver) ≡ address_of s → Kept s (gave d giver max t bytes x y)
+gave_keeps : (s d : State) (giver : InEndpoint) (max : ℕ) (t : Toggle) (bytes : List ℕ) (x y : Way) → address_of d ≡ address_of s → address_of (acknowledged d giver) ≡ address_of s → Kept s (gave d giver max t bytes x y)
 gave_keeps s d giver max t bytes x y h g = split (is_whole x && nat_le (length bytes) max && is_whole y)
   where
     split : (b : Bool) → address_of (if b then forgotten (acknowledged d giver) else d) ≡ address_of s

@@ -2,12 +2,30 @@
 use Rattle.std.proofs.Common.{◌≡◌, ℕ, zero, suc, ◌&&◌, List, [], ◌∷◌, Option, None, Some, option_map, refl, ap, sym, subst, ◌∙◌}
 use Rattle.std.proofs.lemmas.Option.{same_Some}
 use Rattle.usb_port.specs.PortState.{PortState}
-use Rattle.usb_device.specs.Spec.{IsSpec}
+use Rattle.usb_device.specs.Spec.{IsSpec, Spec}
 use Rattle.usb_device.specs.Rows.{State, forgotten}
 use Rattle.usb_device.specs.Tree.{Ports, ended, vacant, taken, reach_at, state_at, port_at}
 use Rattle.usb_device.specs.Delivery.{all_forgotten}
 use Rattle.usb_world.specs.SanePorts.{IsSane}
-use Rattle.usb_world.specs.AlikeTrees.{self_of, StillStands, StandAlike}
+use Rattle.usb_device.specs.declared.request.Registers.{Registers}
+
+-- a device's description, with its address and configuration
+abbrev pub self_of : State → Spec × Registers
+self_of s = (s.spec, s.registers)
+
+-- the device still stands there
+pub record StillStands (s : State) (now : Option State) : Type 0 where
+  pub own : State
+  pub stands : now ≡ Some own
+  pub spec : own.spec ≡ s.spec
+  pub registers : own.registers ≡ s.registers
+
+-- the same devices stand at the same ports, each with its address and configuration, and the same are reached
+pub record StandAlike (k m : Ports) : Type 0 where
+  pub port : (i : ℕ) (e : List ℕ) → port_at m i e ≡ port_at k i e
+  pub reach : (i : ℕ) (e : List ℕ) → reach_at m i e ≡ reach_at k i e
+  pub selves : (i : ℕ) (e : List ℕ) → option_map self_of (state_at m i e) ≡ option_map self_of (state_at k i e)
+  pub device : (i : ℕ) (e : List ℕ) (s : State) → state_at k i e ≡ Some s → StillStands s (state_at m i e)
 
 pub record Alike (k m : Ports) : Type 0 where
   pub port : (i : ℕ) (e : List ℕ) → port_at m i e ≡ port_at k i e

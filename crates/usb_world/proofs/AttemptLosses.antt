@@ -12,15 +12,15 @@ use Rattle.usb_request.specs.declared.setup.Setup.{Setup}
 use Rattle.usb_request.specs.Layout.{setup_of}
 use Rattle.usb_port.specs.declared.call.PortCall.{PortCall}
 use Rattle.usb_device.specs.declared.effect.Effect.{Effect}
-use Rattle.usb_port.specs.Calls.{set_call, clear_call}
+use Rattle.usb_port.specs.Calls.{set_call, clear_call, is_clearing}
 use Rattle.usb_device.specs.Request.{Is}
 use Rattle.usb_device.specs.Transfer.{ending}
 use Rattle.usb_device.specs.Rows.{State, Reply, received, unread, forgotten, is_busy, nak_row, ack_row, awaits_address, ends_with_address}
 use Rattle.usb_device.specs.Attempt.{Way, whole, is_whole, heard, through, in_stage_law, in_law}
 use Rattle.usb_device.specs.declared.answer.Answer.TheVariants as answer
 use Rattle.usb_device.specs.declared.delivery.Sent.{Sent}
-use Rattle.usb_device.specs.Tree.{Ports, row_of, state_at, state_on}
-use Rattle.usb_device.specs.Delivery.{asks_clearing, is_clearing}
+use Rattle.usb_device.specs.Tree.{Ports, row_of, state_on}
+use Rattle.usb_device.specs.Delivery.{asks_clearing}
 use Rattle.usb_world.specs.declared.damage.Damage.{Damage}
 use Rattle.usb_world.specs.declared.types.Attempt.{Attempt}
 use Rattle.usb_world.specs.declared.types.Outcome.{Outcome}
@@ -28,24 +28,24 @@ use Rattle.usb_world.specs.declared.types.Outcome.TheVariants.{Payload, Nothing}
 use Rattle.usb_world.specs.Wire.{marked_some}
 use Rattle.usb_world.specs.Exchange.{token_of, token_out, reply_in, ack_if, clears_at, lost_in, is_lost, cleared_in, reply_out, answered_in, place_of_answer, heard_in, mark_in}
 use Rattle.usb_world.specs.Losses.{TookOrLost, took, lost as lost_it, counted, after_clearing}
-use Rattle.usb_world.specs.OneHolder.{got, token_way, answer_way, reply_way, IsMade, IsOut, IsIn, HolderIn, ExchangedIn}
+use Rattle.usb_world.specs.OneHolder.{got, token_way, answer_way, reply_way, IsMade, IsOut, IsIn, HolderIn}
 use Rattle.usb_world.specs.Paths.{address_of}
-use Rattle.usb_world.specs.Passes.{passed, deep_at, IfOut}
+use Rattle.usb_world.specs.AttemptPackets.{after_sent, deep_at, IfOut}
 use Rattle.usb_world.specs.Addresses.{is_setup}
 use Rattle.usb_world.specs.Devices.{EachWas}
 use Rattle.usb_world.specs.World.{World}
 use Rattle.usb_world.specs.Steps.{ready, damage_in, with_attempt, attempt, after, outcome_in}
 use Rattle.usb_world.proofs.Booleans.{no, not_true, decided, and_none}
-use Rattle.usb_world.proofs.AwaitedAcks.{IsPlain}
-use Rattle.usb_world.proofs.AddressLosses.{plain_unlost, holder_loss}
+use Rattle.usb_world.proofs.AwaitedAcks.{IsNoControlIn}
+use Rattle.usb_world.proofs.AddressLosses.{no_control_in_unlost, holder_loss}
 use Rattle.usb_world.proofs.Devices.{each_holder}
 use Rattle.usb_world.proofs.DueEvents.{due_losses}
 use Rattle.usb_world.proofs.Equality.{unequal}
 use Rattle.usb_world.proofs.OneHolder.{no_payload, none_is, token_is}
-use Rattle.usb_world.proofs.OneHolderAttempts.{made_is, ready_settled, holder_in, in_in, silent_in}
+use Rattle.usb_world.proofs.OneHolderAttempts.{made_is, ready_settled, holder_in, in_in, silent_in, ExchangedIn}
 use Rattle.usb_world.proofs.Outcomes.{brings, acks}
 use Rattle.usb_world.proofs.PacketWays.{clears_if, none_clear}
-use Rattle.usb_world.proofs.PlainRequests.{data_asks_none}
+use Rattle.usb_world.proofs.RestingAttempts.{data_asks_none}
 use Rattle.usb_world.proofs.PortRequests.{Allows, AllowsOut, PayloadAllows, payload_allowed, sent_allowed}
 use Rattle.usb_device.proofs.Interface.{same_number}
 
@@ -68,18 +68,18 @@ CountsNone a w = (after (attempt a) w).losses ≡ w.losses
 
 -- IN sends no data, OUT none that a device takes for a request
 pub in_clears : (a : Attempt) → IsIn a → (w : World) → clears a w ≡ false
-in_clears a i w = ap (λ o. clears_at o (passed (token_out a (damage_in (ready w))) (ready w).roots)) (no_payload a (damage_in (ready w)) (none_is a i.payload))
+in_clears a i w = ap (λ o. clears_at o (after_sent (token_out a (damage_in (ready w))) (ready w).roots)) (no_payload a (damage_in (ready w)) (none_is a i.payload))
 
-none_counted : (a : Attempt) (w : World) → IsMade a w → IsPlain (token_of a) → clears a w ≡ false → CountsNone a w
-none_counted a w m p c = losses_as a w false false m (plain_unlost a (damage_in (ready w)) (ready w).roots p (ready_settled w m.settled)) c
+none_counted : (a : Attempt) (w : World) → IsMade a w → IsNoControlIn (token_of a) → clears a w ≡ false → CountsNone a w
+none_counted a w m p c = losses_as a w false false m (no_control_in_unlost a (damage_in (ready w)) (ready w).roots p (ready_settled w m.settled)) c
 
 pub in_counts : (a : Attempt) → IsIn a → a.ep ≢ 0 → (w : World) → IsMade a w → CountsNone a w
 unfolding token_of
-in_counts a i other w m = none_counted a w m (subst (λ t. IsPlain (Token t a.addr a.ep)) (sym i.kind) (unequal a.ep 0 other)) (in_clears a i w)
+in_counts a i other w m = none_counted a w m (subst (λ t. IsNoControlIn (Token t a.addr a.ep)) (sym i.kind) (unequal a.ep 0 other)) (in_clears a i w)
 
 pub out_counts : (a : Attempt) {t : Toggle} (bytes : List ℕ) → IsOut a t bytes → (w : World) → IsMade a w → CountsNone a w
 unfolding token_of
-out_counts a bytes i w m = none_counted a w m (subst (λ t. IsPlain (Token t a.addr a.ep)) (sym i.kind) tt) (none_clear _ _ (data_asks_none a w (ap is_setup i.kind) m.settled))
+out_counts a bytes i w m = none_counted a w m (subst (λ t. IsNoControlIn (Token t a.addr a.ep)) (sym i.kind) tt) (none_clear _ _ (data_asks_none a w (ap is_setup i.kind) m.settled))
 
 -- a request that clears no change of connection
 abbrev unclearing : Effect → Bool
@@ -103,10 +103,10 @@ allowed_clear : (o : Option Sent) → IfOut (AllowsOut unclearing) o → (k : Po
 allowed_clear None c k = refl
 allowed_clear (Some q) c k = clears_if q false k (λ j e t at dp. not_true _ (sent_allowed unclearing refl q c dp t))
 
-pub set_up_counts : (a : Attempt) {t : Toggle} (bytes : List ℕ) → a.kind ≡ SetupTok → a.payload ≡ Some (t, record { items = bytes }) → (Is (setup_of bytes) 0x23 1 && (setup_of bytes).value == 16) ≡ false → (w : World) → IsMade a w → CountsNone a w
+pub set_up_counts : (a : Attempt) {t : Toggle} (bytes : List ℕ) → a.kind ≡ SetupTok → a.payload ≡ Some (t, record { items = bytes }) → (Is (setup_of bytes) PORT_OUT CLEAR_FEATURE && (setup_of bytes).value == C_PORT_CONNECTION) ≡ false → (w : World) → IsMade a w → CountsNone a w
 unfolding token_of
 set_up_counts a bytes kind payload h w m =
-    none_counted a w m (subst (λ t. IsPlain (Token t a.addr a.ep)) (sym kind) tt)
+    none_counted a w m (subst (λ t. IsNoControlIn (Token t a.addr a.ep)) (sym kind) tt)
     (allowed_clear _ (payload_allowed unclearing refl a (damage_in (ready w)) (subst (PayloadAllows unclearing) (sym payload) (unclearing_allows (setup_of bytes) h))) _)
 
 -- where the host got no data

@@ -8,8 +8,8 @@ use Rattle.usb_device.specs.declared.delivery.Content.TheVariants.{Whole, Broken
 use Rattle.usb_device.specs.declared.delivery.Sent.{Sent}
 use Rattle.usb_device.specs.declared.effect.Effect.{Effect}
 use Rattle.usb_device.specs.declared.effect.Effect.TheVariants.{Leaves}
-use Rattle.usb_device.specs.declared.transfer.Memory.{Memory}
-use Rattle.usb_device.specs.declared.transfer.Memory.TheVariants.{Nothing}
+use Rattle.usb_device.specs.declared.transfer.RememberedPacket.{RememberedPacket}
+use Rattle.usb_device.specs.declared.transfer.RememberedPacket.TheVariants.{Nothing}
 use Rattle.usb_device.specs.Rows.{State, Reply, forgotten, received, unread, answered}
 use Rattle.usb_device.specs.Attempt.{is_own}
 use Rattle.usb_device.specs.Effect.{asks}
@@ -21,7 +21,7 @@ use Rattle.usb_world.specs.Exchange.{sent_as}
 use Rattle.usb_world.specs.Paths.{live_at, pend_at}
 use Rattle.usb_world.specs.WayEffects.{IsNew, resets_at, packet_spares}
 use Rattle.usb_world.specs.SanePorts.{IsSane}
-use Rattle.usb_world.specs.Passes.{passed, after_attempt, calls_on, IsTokenFor, IsAckOut, IfOut, IsAttemptAt, pass_resets, pass_spares, attempt_resets, attempt_spares, IsSettled}
+use Rattle.usb_world.specs.AttemptPackets.{after_sent, after_attempt, calls_on, IsTokenFor, IsAckOut, IfOut, IsAttemptAt, sent_resets, sent_spares, attempt_resets, attempt_spares, IsSettled}
 use Rattle.usb_world.proofs.Booleans.{no, and_false}
 use Rattle.usb_world.proofs.PacketEffects.{packet_new, packet_reach, packet_pend, packet_live}
 use Rattle.usb_world.proofs.SanePorts.{sane_packet, sane_forgotten}
@@ -103,35 +103,35 @@ pub ack_out : (o : Option Sent) → IfOut IsAckOut o → CalmOut o
 ack_out None h = tt
 ack_out (Some q) h = calm_content q (ack_calm q.content h)
 
-pub calm_pass : (o : Option Sent) → CalmOut o → (k : Ports) (j : ℕ) (p : List ℕ) → pass_resets o k j p ≡ false
-calm_pass None c k j p = refl
-calm_pass (Some q) c k j p = calm_resets q c false k j p
+pub calm_sent : (o : Option Sent) → CalmOut o → (k : Ports) (j : ℕ) (p : List ℕ) → sent_resets o k j p ≡ false
+calm_sent None c k j p = refl
+calm_sent (Some q) c k j p = calm_resets q c false k j p
 
-calm_pass_spares : (o : Option Sent) → CalmOut o → (k : Ports) (j : ℕ) (p : List ℕ) → pass_spares o k j p ≡ true
-calm_pass_spares None c k j p = refl
-calm_pass_spares (Some q) c k j p = calm_spares q c false k j p
+calm_sent_spares : (o : Option Sent) → CalmOut o → (k : Ports) (j : ℕ) (p : List ℕ) → sent_spares o k j p ≡ true
+calm_sent_spares None c k j p = refl
+calm_sent_spares (Some q) c k j p = calm_spares q c false k j p
 
 -- One packet
 
-pub pass_reach : (o : Option Sent) (k : Ports) (j : ℕ) (p : List ℕ) → pass_resets o k j p ≡ false → reach_at (passed o k) j p ≡ true → reach_at k j p ≡ true
-pass_reach None k j p f h = h
-pass_reach (Some q) k j p f h = packet_reach q false k j p f h
+pub sent_reach : (o : Option Sent) (k : Ports) (j : ℕ) (p : List ℕ) → sent_resets o k j p ≡ false → reach_at (after_sent o k) j p ≡ true → reach_at k j p ≡ true
+sent_reach None k j p f h = h
+sent_reach (Some q) k j p f h = packet_reach q false k j p f h
 
-pass_new : (o : Option Sent) (k : Ports) (j : ℕ) (p : List ℕ) → pass_resets o k j p ≡ true → IsNew (place_at (passed o k) j p)
-pass_new None k j p h = no h
-pass_new (Some q) k j p h = packet_new q false k j p h
+sent_new : (o : Option Sent) (k : Ports) (j : ℕ) (p : List ℕ) → sent_resets o k j p ≡ true → IsNew (place_at (after_sent o k) j p)
+sent_new None k j p h = no h
+sent_new (Some q) k j p h = packet_new q false k j p h
 
-pass_pend : (o : Option Sent) (k : Ports) (j : ℕ) (p : List ℕ) → pass_spares o k j p ≡ true → pend_at k j p ≡ true → pend_at (passed o k) j p ≡ true
-pass_pend None k j p f h = h
-pass_pend (Some q) k j p f h = packet_pend q false k j p f h
+sent_pend : (o : Option Sent) (k : Ports) (j : ℕ) (p : List ℕ) → sent_spares o k j p ≡ true → pend_at k j p ≡ true → pend_at (after_sent o k) j p ≡ true
+sent_pend None k j p f h = h
+sent_pend (Some q) k j p f h = packet_pend q false k j p f h
 
-pass_live : (o : Option Sent) (k : Ports) (j : ℕ) (p : List ℕ) → pass_spares o k j p ≡ true → live_at k j p ≡ true → live_at (passed o k) j p ≡ true
-pass_live None k j p f h = h
-pass_live (Some q) k j p f h = packet_live q false k j p f h
+sent_live : (o : Option Sent) (k : Ports) (j : ℕ) (p : List ℕ) → sent_spares o k j p ≡ true → live_at k j p ≡ true → live_at (after_sent o k) j p ≡ true
+sent_live None k j p f h = h
+sent_live (Some q) k j p f h = packet_live q false k j p f h
 
-pass_sane : (o : Option Sent) (k : Ports) → IsSane k → IsSane (passed o k)
-pass_sane None k h = h
-pass_sane (Some q) k h = sane_packet q false k h
+sent_sane : (o : Option Sent) (k : Ports) → IsSane k → IsSane (after_sent o k)
+sent_sane None k h = h
+sent_sane (Some q) k h = sane_packet q false k h
 
 -- Forgetting
 
@@ -213,7 +213,7 @@ forgotten_twice (taken b s a k) =
 
 -- A device that remembers nothing stays as it is at what is no token for it
 
-rested_received : (p : Packet) (s : State) (row : List PortState) (m : Memory) → s.memory ≡ m → m ≡ Nothing → is_own s p ≡ false → answered (forgotten s) row m p ≡ (None, s)
+rested_received : (p : Packet) (s : State) (row : List PortState) (m : RememberedPacket) → s.memory ≡ m → m ≡ Nothing → is_own s p ≡ false → answered (forgotten s) row m p ≡ (None, s)
 rested_received (Token kind a e) s row m eq n own = rw own (ap (λ x. (None, x)) (forgets s (eq ∙ n)))
 rested_received (Payload t b) s row m eq n own = rw n (ap (λ x. (None, x)) (forgets s (eq ∙ n)))
 rested_received Ack s row m eq n own = rw n (ap (λ x. (None, x)) (forgets s (eq ∙ n)))
@@ -294,9 +294,9 @@ ack_new q c deep (taken b s a k) (suc j) p h = split b.enable (ack_new q c deep 
     split true g = g
     split false g = g
 
-ack_pass_new : (o : Option Sent) → IfOut IsAckOut o → (k : Ports) (j : ℕ) (p : List ℕ) → IsNew (place_at k j p) → IsNew (place_at (passed o k) j p)
-ack_pass_new None c k j p h = h
-ack_pass_new (Some q) c k j p h = ack_new q c false k j p h
+ack_sent_new : (o : Option Sent) → IfOut IsAckOut o → (k : Ports) (j : ℕ) (p : List ℕ) → IsNew (place_at k j p) → IsNew (place_at (after_sent o k) j p)
+ack_sent_new None c k j p h = h
+ack_sent_new (Some q) c k j p h = ack_new q c false k j p h
 
 -- An attempt
 
@@ -304,33 +304,33 @@ ack_pass_new (Some q) c k j p h = ack_new q c false k j p h
 pub attempt_reach : (n : ℕ) (t d r : Option Sent) → IsAttemptAt n t d r → (k : Ports) (j : ℕ) (p : List ℕ)
     → attempt_resets t d k j p ≡ false → reach_at (after_attempt t d r k) j p ≡ true → reach_at k j p ≡ true
 attempt_reach n t d r is k j p f h =
-    pass_reach t k j p (calm_pass t (token_out n t is.token) k j p)
-    (pass_reach d (passed t k) j p f
-    (pass_reach r (passed d (passed t k)) j p (calm_pass r (ack_out r is.reply) (passed d (passed t k)) j p)
-    (sym (forgotten_reach (passed r (passed d (passed t k))) j p) ∙ h)))
+    sent_reach t k j p (calm_sent t (token_out n t is.token) k j p)
+    (sent_reach d (after_sent t k) j p f
+    (sent_reach r (after_sent d (after_sent t k)) j p (calm_sent r (ack_out r is.reply) (after_sent d (after_sent t k)) j p)
+    (sym (forgotten_reach (after_sent r (after_sent d (after_sent t k))) j p) ∙ h)))
 
 -- a device that an attempt resets is new after it
 pub attempt_new : (n : ℕ) (t d r : Option Sent) → IsAttemptAt n t d r → (k : Ports) (j : ℕ) (p : List ℕ)
     → attempt_resets t d k j p ≡ true → IsNew (place_at (after_attempt t d r k) j p)
 attempt_new n t d r is k j p h =
-    forgotten_new (passed r (passed d (passed t k))) j p (ack_pass_new r is.reply (passed d (passed t k)) j p (pass_new d (passed t k) j p h))
+    forgotten_new (after_sent r (after_sent d (after_sent t k))) j p (ack_sent_new r is.reply (after_sent d (after_sent t k)) j p (sent_new d (after_sent t k) j p h))
 
 pub attempt_pend : (n : ℕ) (t d r : Option Sent) → IsAttemptAt n t d r → (k : Ports) (j : ℕ) (p : List ℕ)
     → attempt_spares t d k j p ≡ true → pend_at k j p ≡ true → pend_at (after_attempt t d r k) j p ≡ true
 attempt_pend n t d r is k j p f h =
-    forgotten_pend (passed r (passed d (passed t k))) j p
-    ∙ pass_pend r (passed d (passed t k)) j p (calm_pass_spares r (ack_out r is.reply) (passed d (passed t k)) j p)
-    (pass_pend d (passed t k) j p f (pass_pend t k j p (calm_pass_spares t (token_out n t is.token) k j p) h))
+    forgotten_pend (after_sent r (after_sent d (after_sent t k))) j p
+    ∙ sent_pend r (after_sent d (after_sent t k)) j p (calm_sent_spares r (ack_out r is.reply) (after_sent d (after_sent t k)) j p)
+    (sent_pend d (after_sent t k) j p f (sent_pend t k j p (calm_sent_spares t (token_out n t is.token) k j p) h))
 
 pub attempt_live : (n : ℕ) (t d r : Option Sent) → IsAttemptAt n t d r → (k : Ports) (j : ℕ) (p : List ℕ)
     → attempt_spares t d k j p ≡ true → live_at k j p ≡ true → live_at (after_attempt t d r k) j p ≡ true
 attempt_live n t d r is k j p f h =
-    forgotten_live (passed r (passed d (passed t k))) j p
-    ∙ pass_live r (passed d (passed t k)) j p (calm_pass_spares r (ack_out r is.reply) (passed d (passed t k)) j p)
-    (pass_live d (passed t k) j p f (pass_live t k j p (calm_pass_spares t (token_out n t is.token) k j p) h))
+    forgotten_live (after_sent r (after_sent d (after_sent t k))) j p
+    ∙ sent_live r (after_sent d (after_sent t k)) j p (calm_sent_spares r (ack_out r is.reply) (after_sent d (after_sent t k)) j p)
+    (sent_live d (after_sent t k) j p f (sent_live t k j p (calm_sent_spares t (token_out n t is.token) k j p) h))
 
 pub attempt_sane : (t d r : Option Sent) (k : Ports) → IsSane k → IsSane (after_attempt t d r k)
-attempt_sane t d r k h = sane_forgotten (passed r (passed d (passed t k))) (pass_sane r (passed d (passed t k)) (pass_sane d (passed t k) (pass_sane t k h)))
+attempt_sane t d r k h = sane_forgotten (after_sent r (after_sent d (after_sent t k))) (sent_sane r (after_sent d (after_sent t k)) (sent_sane d (after_sent t k) (sent_sane t k h)))
 
 pub attempt_settled : (t d r : Option Sent) (k : Ports) → IsSettled (after_attempt t d r k)
-attempt_settled t d r k = forgotten_twice (passed r (passed d (passed t k)))
+attempt_settled t d r k = forgotten_twice (after_sent r (after_sent d (after_sent t k)))

@@ -16,14 +16,14 @@ use Rattle.usb_device.specs.declared.delivery.Sent.{Sent}
 use Rattle.usb_device.specs.declared.answer.Answer.TheVariants as answer
 use Rattle.usb_device.specs.declared.effect.Effect.{Effect}
 use Rattle.usb_device.specs.declared.effect.Effect.TheVariants.{Leaves, Calls, PortsOff}
-use Rattle.usb_device.specs.declared.transfer.Memory.{Memory}
-use Rattle.usb_device.specs.declared.transfer.Memory.TheVariants.{SetupSeen, OutSeen}
+use Rattle.usb_device.specs.declared.transfer.RememberedPacket.{RememberedPacket}
+use Rattle.usb_device.specs.declared.transfer.RememberedPacket.TheVariants.{SetupSeen, OutSeen}
 use Rattle.usb_port.specs.Calls.{called_port, is_reset}
 use Rattle.usb_device.specs.Request.{Outcome, outcome}
 use Rattle.usb_device.specs.Rows.{State, Reply, received, unread, answered, forgotten, reset_state, accepted, begun, payload_row, data_row, in_other_row, after_memory, awaits_control, ends_with_address, awaits_address}
 use Rattle.usb_device.specs.Tree.{Ports, ended, vacant, taken, before, all_off, acted, called, reset_where, changed_at, row_of}
 use Rattle.usb_device.specs.Delivery.{is_heard, hears, reply_to, answer_of, effect_of, after_packet, has_loss}
-use Rattle.usb_world.specs.Passes.{passed, IfOut, IsDataOut, IsAckOut}
+use Rattle.usb_world.specs.AttemptPackets.{after_sent, IfOut, IsDataOut, IsAckOut}
 use Rattle.usb_world.proofs.Booleans.{neither}
 use Rattle.usb_world.proofs.StepInvariants.{Rests}
 use Rattle.usb_world.proofs.AttemptPackets.{token_out as token_rests}
@@ -34,9 +34,9 @@ use Rattle.usb_device.proofs.Interface.{answer-spec}
 abbrev pub AwaitsNone : State → Type 0
 AwaitsNone d = awaits_control d.memory ≡ false
 
-abbrev pub IsPlain : Packet → Type 0
-IsPlain (Token InTok a e) = (e == 0) ≡ false
-IsPlain p = Unit {0}
+abbrev pub IsNoControlIn : Packet → Type 0
+IsNoControlIn (Token InTok a e) = (e == 0) ≡ false
+IsNoControlIn p = Unit {0}
 
 memory_if : (x : Bool) (r t : Reply) → AwaitsNone r.1 → AwaitsNone t.1 → AwaitsNone (if x then r else t).1
 memory_if true r t h g = h
@@ -49,7 +49,7 @@ module _ (d : State) (row : List PortState) (h : AwaitsNone d) where
   memory_data : (e : ℕ) (t : Toggle) (b : List ℕ) → AwaitsNone (data_row d e t b).1
   memory_data e t b = grind arith
 
-  memory_payload : (m : Memory) (t : Toggle) (b : List ℕ) → AwaitsNone (payload_row d row m t b).1
+  memory_payload : (m : RememberedPacket) (t : Toggle) (b : List ℕ) → AwaitsNone (payload_row d row m t b).1
   memory_payload SetupSeen Zero b = memory_if (length b == 8) (Some answer.Ack, accepted d row (setup_of b)) (None, d) (memory_begun (setup_of b).length (outcome d.spec d.registers (setup_of b))) h
   memory_payload (OutSeen e) t b = memory_data e t b
   memory_payload m t b = h
@@ -58,16 +58,16 @@ module _ (d : State) (row : List PortState) (h : AwaitsNone d) where
   memory_in e = grind arith
 
   -- the host's ACK ends what was awaited
-  pub memory_ack : (m : Memory) → AwaitsNone (after_memory d m)
+  pub memory_ack : (m : RememberedPacket) → AwaitsNone (after_memory d m)
   memory_ack m = grind arith
 
-  memory_plain : (p : Packet) → IsPlain p → (m : Memory) → AwaitsNone (answered d row m p).1
-  memory_plain (Token OutTok a e) c m = grind arith
-  memory_plain (Token SetupTok a e) c m = grind arith
-  memory_plain (Token InTok a e) c m = rw c (memory_if (a == d.registers.address) (in_other_row d row e) (None, d) (memory_in e) h)
-  memory_plain (Payload t b) c m = memory_payload m t b.items
-  memory_plain packet.Ack c m = memory_ack m
-  memory_plain p c m = h
+  memory_answered : (p : Packet) → IsNoControlIn p → (m : RememberedPacket) → AwaitsNone (answered d row m p).1
+  memory_answered (Token OutTok a e) c m = grind arith
+  memory_answered (Token SetupTok a e) c m = grind arith
+  memory_answered (Token InTok a e) c m = rw c (memory_if (a == d.registers.address) (in_other_row d row e) (None, d) (memory_in e) h)
+  memory_answered (Payload t b) c m = memory_payload m t b.items
+  memory_answered packet.Ack c m = memory_ack m
+  memory_answered p c m = h
 
 -- and so it awaits no ACK at which it would take an address
 pub none_awaited : (d : State) → AwaitsNone d → awaits_address d ≡ false
@@ -75,29 +75,29 @@ unfolding awaits_address
 none_awaited d h = ap (λ x. x && ends_with_address d.stage) h
 
 -- what devices can read as no IN of endpoint 0
-abbrev pub IsPlainOut : Content → Type 0
-IsPlainOut (Whole p) = IsPlain p
-IsPlainOut Broken = Unit {0}
+abbrev pub ReadsNoControlIn : Content → Type 0
+ReadsNoControlIn (Whole p) = IsNoControlIn p
+ReadsNoControlIn Broken = Unit {0}
 
-pub plain_data : (c : Content) → IsDataOut c → IsPlainOut c
-plain_data (Whole (Payload t b)) h = tt
-plain_data Broken h = tt
-plain_data (Whole p) h = elim h [ ]
+pub data_no_control_in : (c : Content) → IsDataOut c → ReadsNoControlIn c
+data_no_control_in (Whole (Payload t b)) h = tt
+data_no_control_in Broken h = tt
+data_no_control_in (Whole p) h = elim h [ ]
 
-pub plain_ack : (c : Content) → IsAckOut c → IsPlainOut c
-plain_ack (Whole packet.Ack) h = tt
-plain_ack Broken h = tt
-plain_ack (Whole p) h = elim h [ ]
+pub ack_no_control_in : (c : Content) → IsAckOut c → ReadsNoControlIn c
+ack_no_control_in (Whole packet.Ack) h = tt
+ack_no_control_in Broken h = tt
+ack_no_control_in (Whole p) h = elim h [ ]
 
 -- a silent device is as it was
-plain_reply : (c : Content) → IsPlainOut c → (s : State) (row : List PortState) → awaits_address s ≡ false → awaits_address (reply_to c s row).1 ≡ false
+none_awaited_reply : (c : Content) → ReadsNoControlIn c → (s : State) (row : List PortState) → awaits_address s ≡ false → awaits_address (reply_to c s row).1 ≡ false
 unfolding received unread
-plain_reply (Whole p) c s row h = elim s.spec.silent as (λ x. awaits_address (if◌then◌else◌ {A = Reply} x (None, s) (answered (forgotten s) row s.memory p)).1 ≡ false) [ true ↦ h | false ↦ none_awaited _ (memory_plain (forgotten s) row refl p c s.memory) ]
-plain_reply Broken c s row h = elim s.spec.silent as (λ x. awaits_address (if x then s else forgotten s) ≡ false) [ true ↦ h | false ↦ none_awaited (forgotten s) refl ]
+none_awaited_reply (Whole p) c s row h = elim s.spec.silent as (λ x. awaits_address (if◌then◌else◌ {A = Reply} x (None, s) (answered (forgotten s) row s.memory p)).1 ≡ false) [ true ↦ h | false ↦ none_awaited _ (memory_answered (forgotten s) row refl p c s.memory) ]
+none_awaited_reply Broken c s row h = elim s.spec.silent as (λ x. awaits_address (if x then s else forgotten s) ≡ false) [ true ↦ h | false ↦ none_awaited (forgotten s) refl ]
 
-pub plain_answer : (q : Sent) → IsPlainOut q.content → (deep : Bool) (s : State) (a : Ports) → awaits_address s ≡ false → awaits_address (answer_of q deep s a).1 ≡ false
+pub none_awaited_answer : (q : Sent) → ReadsNoControlIn q.content → (deep : Bool) (s : State) (a : Ports) → awaits_address s ≡ false → awaits_address (answer_of q deep s a).1 ≡ false
 unfolding answer_of
-plain_answer q c deep s a h = elim (hears q deep s) as (λ x. awaits_address (if◌then◌else◌ {A = Reply} x (reply_to q.content s (row_of a)) (None, s)).1 ≡ false) [ true ↦ plain_reply q.content c s (row_of a) h | false ↦ h ]
+none_awaited_answer q c deep s a h = elim (hears q deep s) as (λ x. awaits_address (if◌then◌else◌ {A = Reply} x (reply_to q.content s (row_of a)) (None, s)).1 ≡ false) [ true ↦ none_awaited_reply q.content c s (row_of a) h | false ↦ h ]
 
 -- what a device asks of its ports adds no loss
 
@@ -138,22 +138,22 @@ loss_acted PortsOff a h = loss_off a ∙ h
 
 -- nor does a packet that is no IN of endpoint 0
 
-plain_loss : (q : Sent) → IsPlainOut q.content → (deep : Bool) (k : Ports) → has_loss k ≡ false → has_loss (after_packet q deep k) ≡ false
+no_loss_packet : (q : Sent) → ReadsNoControlIn q.content → (deep : Bool) (k : Ports) → has_loss k ≡ false → has_loss (after_packet q deep k) ≡ false
 unfolding has_loss after_packet
-plain_loss q c deep ended h = h
-plain_loss q c deep (vacant b k) h = plain_loss q c deep k h
-plain_loss q c deep (taken b s a k) h =
+no_loss_packet q c deep ended h = h
+no_loss_packet q c deep (vacant b k) h = no_loss_packet q c deep k h
+no_loss_packet q c deep (taken b s a k) h =
     let l : _ = no_loss b s a k h in
-    split b.enable l (loss_acted (effect_of q deep s) (after_packet q true a) (plain_loss q c true a l.below)) (plain_loss q c deep k l.more)
+    split b.enable l (loss_acted (effect_of q deep s) (after_packet q true a) (no_loss_packet q c true a l.below)) (no_loss_packet q c deep k l.more)
   where
     split : (x : Bool) → NoLoss s a k → has_loss (acted (effect_of q deep s) (after_packet q true a)) ≡ false → has_loss (after_packet q deep k) ≡ false
         → has_loss (if x then taken b (answer_of q deep s a).1 (acted (effect_of q deep s) (after_packet q true a)) (after_packet q deep k) else taken b s a (after_packet q deep k)) ≡ false
-    split true l f g = three_none _ _ _ (plain_answer q c deep s a l.own) f g
+    split true l f g = three_none _ _ _ (none_awaited_answer q c deep s a l.own) f g
     split false l f g = three_none _ _ _ l.own l.below g
 
-pub plain_pass : (o : Option Sent) → IfOut IsPlainOut o → (k : Ports) → has_loss k ≡ false → has_loss (passed o k) ≡ false
-plain_pass None c k h = h
-plain_pass (Some q) c k h = plain_loss q c false k h
+pub no_loss_sent : (o : Option Sent) → IfOut ReadsNoControlIn o → (k : Ports) → has_loss k ≡ false → has_loss (after_sent o k) ≡ false
+no_loss_sent None c k h = h
+no_loss_sent (Some q) c k h = no_loss_packet q c false k h
 
 -- nobody awaits anything where nothing is remembered
 pub rests_loss : (k : Ports) → Rests k → has_loss k ≡ false

@@ -20,12 +20,12 @@ use Rattle.usb_world.specs.declared.types.BusFault.{BusFault}
 use Rattle.usb_world.specs.declared.types.BusFault.TheVariants.{LimitReached}
 use Rattle.usb_world.specs.Exchange.{token_out, payload_out, reply_out, ports_in}
 use Rattle.usb_world.specs.Paths.{is_way, on_way, same_number}
-use Rattle.usb_world.specs.Passes.{passed, after_attempt, pass_resets, IsAttemptAt}
+use Rattle.usb_world.specs.AttemptPackets.{after_sent, after_attempt, sent_resets, IsAttemptAt}
 use Rattle.usb_world.specs.WayEffects.{effect_resets, resets_at, leaves_port, way_leaves, takes_reset}
 use Rattle.usb_world.specs.World.{World}
 use Rattle.usb_world.specs.Steps.{with_plugged, happened, way_of, names_path, is_due, took, took_first, due_from, ready, damage_in, with_attempt, attempted, event_taken, Step, attempt, root_call, event, report, after, Course, here, step}
 use Rattle.usb_world.specs.Courses.{is_made, made_resets, root_resets, resets}
-use Rattle.usb_world.specs.PortRequests.{pass_leaves, made_leaves, root_leaves, leaves_step, LeavesPort, row_reached, StillSet}
+use Rattle.usb_world.specs.PortRequests.{sent_leaves, made_leaves, root_leaves, leaves_step, LeavesPort, row_reached, StillSet}
 use Rattle.usb_world.proofs.Booleans.{no, both, and_false, or_right, not_true}
 use Rattle.usb_world.proofs.PortCalls.{call_port, call_port_below}
 use Rattle.usb_world.proofs.PacketPlaces.{way_port}
@@ -159,17 +159,17 @@ due_bits (e ∷ es) w q n b on h =
 
 -- Attempts
 
-pass_port : (o : Option Sent) (k : Ports) (j : ℕ) (p : List ℕ) → pass_leaves o k j p ≡ true → port_at (passed o k) j p ≡ port_at k j p
-pass_port None k j p h = refl
-pass_port (Some q) k j p h = way_port q false k j p h
+sent_port : (o : Option Sent) (k : Ports) (j : ℕ) (p : List ℕ) → sent_leaves o k j p ≡ true → port_at (after_sent o k) j p ≡ port_at k j p
+sent_port None k j p h = refl
+sent_port (Some q) k j p h = way_port q false k j p h
 
-attempt_port : (n : ℕ) (t d r : Option Sent) → IsAttemptAt n t d r → (k : Ports) (j : ℕ) (p : List ℕ) → pass_leaves d (passed t k) j p ≡ true
+attempt_port : (n : ℕ) (t d r : Option Sent) → IsAttemptAt n t d r → (k : Ports) (j : ℕ) (p : List ℕ) → sent_leaves d (after_sent t k) j p ≡ true
     → port_at (after_attempt t d r k) j p ≡ port_at k j p
 attempt_port n t d r is k j p h =
-    forgotten_port (passed r (passed d (passed t k))) j p
-    ∙ pass_port r (passed d (passed t k)) j p (calm_leaves r (ack_calm r is.reply) (passed d (passed t k)) j p)
-    ∙ pass_port d (passed t k) j p h
-    ∙ pass_port t k j p (calm_leaves t (token_calm n t is.token) k j p)
+    forgotten_port (after_sent r (after_sent d (after_sent t k))) j p
+    ∙ sent_port r (after_sent d (after_sent t k)) j p (calm_leaves r (ack_calm r is.reply) (after_sent d (after_sent t k)) j p)
+    ∙ sent_port d (after_sent t k) j p h
+    ∙ sent_port t k j p (calm_leaves t (token_calm n t is.token) k j p)
 
 pub made_port : (a : Attempt) (w : World) (p : List ℕ) → made_leaves a w p ≡ true → port_there (with_attempt a w).roots p ≡ port_there w.roots p
 unfolding with_attempt ports_in
@@ -202,14 +202,14 @@ left_resets q deep (taken b s a k) zero (suc j ∷ p) n h = split b.enable h (le
     split false h ih = refl
 left_resets q deep (taken b s a k) (suc j) p n h = left_resets q deep k j p n h
 
-left_pass : (o : Option Sent) (k : Ports) (j : ℕ) (p : List ℕ) (n : ℕ) → pass_leaves o k j (p ++ (n ∷ [])) ≡ true → pass_resets o k j p ≡ false
-left_pass None k j p n h = refl
-left_pass (Some q) k j p n h = left_resets q false k j p n h
+left_sent : (o : Option Sent) (k : Ports) (j : ℕ) (p : List ℕ) (n : ℕ) → sent_leaves o k j (p ++ (n ∷ [])) ≡ true → sent_resets o k j p ≡ false
+left_sent None k j p n h = refl
+left_sent (Some q) k j p n h = left_resets q false k j p n h
 
 left_made : (a : Attempt) (w : World) (q : List ℕ) (n : ℕ) → made_leaves a w (q ++ (n ∷ [])) ≡ true → made_resets a w q ≡ false
 left_made a w [] n h = refl
 left_made a w (zero ∷ q) n h = refl
-left_made a w (suc j ∷ q) n h = left_pass (payload_out a (damage_in w)) (passed (token_out a (damage_in w)) w.roots) j q n h
+left_made a w (suc j ∷ q) n h = left_sent (payload_out a (damage_in w)) (after_sent (token_out a (damage_in w)) w.roots) j q n h
 
 left_root : (c : PortCall) (m : ℕ) (k : Ports) (q : List ℕ) (n : ℕ) → root_leaves m (q ++ (n ∷ [])) ≡ true → root_resets c m k q ≡ false
 left_root c zero k q n h = refl

@@ -1,12 +1,11 @@
 -- How the counts of several steps join.
-use Rattle.std.proofs.Common.{◌≡◌, ◌∙◌, refl, sym, ap, subst, arith, suc, zero, inl, inr}
+use Rattle.std.proofs.Common.{◌≡◌, ◌∙◌, refl, sym, ap, subst, arith, suc, zero}
 use Rattle.std.proofs.lemmas.Option.{same_Some}
 use Rattle.std.specs.Prelude.{ℕ, ◌+◌, ◌-◌, ◌<◌, ◌≤◌, List, [], ◌∷◌, length, Bool, true, false, slice_get, slice_set, slice_index_or, is_some, if◌then◌else◌, ◌&&◌, ◌==◌, Option, Some, None}
 use Rattle.usb_port.specs.PortState.{PortState, is_attached, off}
 use Rattle.std.proofs.Common.{length-set}
 use Rattle.usb_request.specs.Features.{PORT_ENABLE, PORT_RESET, PORT_POWER, C_PORT_CONNECTION, C_PORT_ENABLE, C_PORT_RESET}
 use Rattle.usb_port.specs.declared.call.PortCall.{PortCall}
-use Rattle.usb_port.specs.declared.call.PortCall.TheVariants.{SetPower, SetReset, ClearEnable, ClearPower, ClearConnectionChange, ClearEnableChange, ClearResetChange}
 use Rattle.usb_port.specs.Calls.{called_port, port_by, is_reset, set_call, clear_call, IsSetFeature, IsClearFeature}
 use Rattle.usb_device.specs.Rows.{State}
 use Rattle.usb_device.specs.Tree.{Ports, ended, vacant, taken, new_ports, Place, empty, full, before, reset_where, called, replaced, changed, changed_at, row_of}

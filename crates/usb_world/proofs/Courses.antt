@@ -1,6 +1,7 @@
 -- What a step of the world does to reachable, live and pending, and what whole courses do.
 use Rattle.std.proofs.Common.{◌≡◌, ℕ, zero, suc, ◌+◌, ◌==◌, ◌&&◌, not, nat_le, length, if◌then◌else◌, ◌⊎◌, inl, inr, true, false, List, [], ◌∷◌, ◌++◌, Option, None, Some, slice_get, is_some, refl, ap, sym, subst, ◌∙◌}
 use Rattle.usb_port.specs.declared.call.PortCall.{PortCall}
+use Rattle.usb_port.specs.Calls.{is_clearing}
 use Rattle.usb_device.specs.declared.delivery.Content.TheVariants.{Whole}
 use Rattle.usb_device.specs.Spec.{Spec}
 use Rattle.usb_device.specs.Tree.{Ports, called, replaced, changed, reach, place}
@@ -12,8 +13,8 @@ use Rattle.usb_world.specs.declared.damage.Damage.{Damage}
 use Rattle.usb_world.specs.declared.event.Event.{Event}
 use Rattle.usb_world.specs.declared.event.Action.{Action}
 use Rattle.usb_world.specs.declared.event.Action.TheVariants.{Plug, Unplug, Show, Send, Receive, Clear}
-use Rattle.usb_world.specs.declared.exchange.Heard.{Heard}
-use Rattle.usb_world.specs.declared.exchange.Heard.TheVariants.{Nothing, One, Collision}
+use Rattle.usb_world.specs.declared.exchange.ExchangeAnswer.{ExchangeAnswer}
+use Rattle.usb_world.specs.declared.exchange.ExchangeAnswer.TheVariants.{Nothing, One, Collision}
 use Rattle.usb_world.specs.declared.types.Attempt.{Attempt}
 use Rattle.usb_world.specs.declared.types.BusFault.{BusFault}
 use Rattle.usb_world.specs.declared.types.BusFault.TheVariants.{LimitReached}
@@ -22,10 +23,9 @@ use Rattle.usb_world.specs.Wire.{is_read, mark_of, harm_to, marked, marked_some}
 use Rattle.usb_world.specs.Exchange.{token_of, payload_of, reply_of, goes_out, token_out, payload_out, reply_out, heard_in, mark_in, place_of_answer, ports_in}
 use Rattle.usb_world.specs.Paths.{live, pend, is_way}
 use Rattle.usb_world.specs.WayEffects.{IsNew}
-use Rattle.usb_world.specs.Passes.{IfOut, IsTokenFor, IsDataOut, IsAckOut, IsAttemptAt}
+use Rattle.usb_world.specs.AttemptPackets.{IfOut, IsTokenFor, IsDataOut, IsAckOut, IsAttemptAt}
 use Rattle.usb_world.specs.World.{World}
 use Rattle.usb_world.specs.Losses.{after_clearing}
-use Rattle.usb_device.specs.Delivery.{is_clearing}
 use Rattle.usb_world.specs.Steps.{with_plugged, happened, way_of, names_path, is_due, took, took_first, due_from, ready, damage_in, with_attempt, attempted, event_taken, Step, attempt, root_call, event, report, after, Course, here, step}
 use Rattle.usb_world.specs.Courses.{NoneNames, Undisturbed, is_made, made_resets, made_spares, root_resets, root_spares, resets, spares_step, Reached, UndisturbedOrPends, NoReset, Spares}
 use Rattle.usb_world.proofs.Booleans.{no, decided}
@@ -190,7 +190,7 @@ IsSomeAck : Option Packet → Type 0
 IsSomeAck None = Unit {0}
 IsSomeAck (Some p) = IsAckOut (Whole p)
 
-reply_acks : (h : Heard) (m : Mark) (max : ℕ) → IsSomeAck (reply_of h m max)
+reply_acks : (h : ExchangeAnswer) (m : Mark) (max : ℕ) → IsSomeAck (reply_of h m max)
 unfolding reply_of IsSomeAck
 reply_acks Nothing m max = tt
 reply_acks Collision m max = tt
@@ -203,7 +203,7 @@ reply_acks (One packet.Nak) m max = tt
 reply_acks (One packet.Stall) m max = tt
 reply_acks (One packet.Pre) m max = tt
 
-pub reply_goes : (a : Attempt) (d : Option Damage) (n : ℕ) (h : Heard) (m : Mark) (max : ℕ) → IfOut IsAckOut (goes_out a (marked_some d n a.pre (reply_of h m max)))
+pub reply_goes : (a : Attempt) (d : Option Damage) (n : ℕ) (h : ExchangeAnswer) (m : Mark) (max : ℕ) → IfOut IsAckOut (goes_out a (marked_some d n a.pre (reply_of h m max)))
 unfolding marked_some marked IsSomeAck
 reply_goes a d n h m max = go (reply_of h m max) (reply_acks h m max)
   where

@@ -1,13 +1,13 @@
 -- Each device over an attempt that the bus gave up: it was made whole, and only its line was not written; or it changed no device.
-use Rattle.std.proofs.Common.{◌≡◌, ◌≢◌, ℕ, suc, ◌==◌, ◌||◌, List, [], ◌∷◌, true, false, ◌⊎◌, inl, inr, Option, None, Some, Err, refl, sym, subst, ap, ◌∙◌}
+use Rattle.std.proofs.Common.{◌≡◌, ◌≢◌, ℕ, ◌==◌, ◌||◌, List, [], ◌∷◌, true, false, ◌⊎◌, inl, inr, Option, None, Some, Err, refl, sym, subst, ap, ◌∙◌}
 use Rattle.usb_device.specs.Delivery.{held, is_twice}
-use Rattle.usb_device.specs.Tree.{Ports, reach, reach_at, state_at, path_to, reach_on, state_on}
+use Rattle.usb_device.specs.Tree.{Ports, reach, path_to, reach_on, state_on}
 use Rattle.usb_device.specs.View.{state_there}
 use Rattle.usb_world.specs.declared.event.Event.{Event}
 use Rattle.usb_world.specs.declared.types.Attempt.{Attempt}
 use Rattle.usb_world.specs.declared.types.BusFault.{BusFault}
 use Rattle.usb_world.specs.declared.types.BusFault.TheVariants.{LimitReached, Memory, TraceFailed}
-use Rattle.usb_world.specs.Passes.{IsSettled}
+use Rattle.usb_world.specs.AttemptPackets.{IsSettled}
 use Rattle.usb_world.specs.OneHolder.{IsMade}
 use Rattle.usb_world.specs.World.{World, IsAttempt, Attempted}
 use Rattle.usb_world.specs.Devices.{Relation, EachWas}

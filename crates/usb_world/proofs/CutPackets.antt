@@ -12,8 +12,8 @@ use Rattle.usb_device.specs.declared.delivery.Heard.TheVariants.{NoAnswer}
 use Rattle.usb_device.specs.declared.delivery.Sent.{Sent}
 use Rattle.usb_device.specs.declared.effect.Effect.{Effect}
 use Rattle.usb_device.specs.declared.effect.Effect.TheVariants.{Leaves}
-use Rattle.usb_device.specs.declared.transfer.Memory.{Memory}
-use Rattle.usb_device.specs.declared.transfer.Memory.TheVariants.{Nothing}
+use Rattle.usb_device.specs.declared.transfer.RememberedPacket.{RememberedPacket}
+use Rattle.usb_device.specs.declared.transfer.RememberedPacket.TheVariants.{Nothing}
 use Rattle.usb_device.specs.Rows.{State}
 use Rattle.usb_device.specs.Tree.{Ports, ended, vacant, taken, full, before, acted}
 use Rattle.usb_device.specs.Delivery.{answer_of, effect_of, after_packet, delivered_device, on_port}
@@ -24,18 +24,17 @@ use Rattle.usb_world.specs.declared.wire.Mark.{Mark}
 use Rattle.usb_world.specs.declared.wire.Mark.TheVariants.{Whole, Lost, PreLost, Flipped}
 use Rattle.usb_world.specs.Wire.{marked, marked_some, mark_of, harm_to}
 use Rattle.usb_world.specs.Exchange.{token_of, payload_of, goes_out, sent_as, token_out, payload_out}
-use Rattle.usb_world.specs.Passes.{IfOut, IsDataOut, IsSettled, passed}
+use Rattle.usb_world.specs.AttemptPackets.{IfOut, IsDataOut, IsSettled, after_sent}
 use Rattle.usb_world.specs.World.{IsAttempt, sends_data}
 use Rattle.usb_world.specs.Steps.{IsCut}
-use Rattle.usb_world.specs.AlikeTrees.{self_of, StandAlike}
 use Rattle.usb_world.proofs.Booleans.{no}
 use Rattle.usb_world.proofs.StepInvariants.{Rests, rests}
 use Rattle.usb_world.proofs.Courses.{goes}
-use Rattle.usb_world.proofs.AlikeTrees.{Alike, alike_self, alike_joined, alike_vacant, alike_taken, alike_forgotten, stand_alike}
+use Rattle.usb_world.proofs.AlikeTrees.{Alike, alike_self, alike_joined, alike_vacant, alike_taken, alike_forgotten, stand_alike, self_of, StandAlike}
 use Rattle.usb_world.proofs.MildPackets.{is_nothing, no_setup, no_out, any_memory, Mild, MildAnswer, mild_answer, mild_broken, mild_out, mild_setup, mild_data, grows_after_out}
 
 -- every device remembers such a thing
-unfoldable pub All : (Memory → Bool) → Ports → Type 0
+unfoldable pub All : (RememberedPacket → Bool) → Ports → Type 0
 All P ended = Unit {0}
 All P (vacant b k) = All P k
 All P (taken b s a k) = (P s.memory ≡ true) × All P a × All P k
@@ -46,7 +45,7 @@ all_nothing ended h = tt
 all_nothing (vacant b k) h = all_nothing k h
 all_nothing (taken b s a k) h = (ap is_nothing h.0, all_nothing a h.1, all_nothing k h.2)
 
-all_wider : {P Q : Memory → Bool} → ((m : Memory) → P m ≡ true → Q m ≡ true) → (k : Ports) → All P k → All Q k
+all_wider : {P Q : RememberedPacket → Bool} → ((m : RememberedPacket) → P m ≡ true → Q m ≡ true) → (k : Ports) → All P k → All Q k
 unfolding All
 all_wider w ended h = tt
 all_wider w (vacant b k) h = all_wider w k h
@@ -54,16 +53,16 @@ all_wider w (taken b s a k) h = (w s.memory h.0, all_wider w a h.1, all_wider w 
 
 -- A mild packet
 
-pub record MildPass (new : Memory → Bool) (k m : Ports) : Type 0 where
+pub record MildPacket (new : RememberedPacket → Bool) (k m : Ports) : Type 0 where
   pub all : All new m
   pub alike : Alike k m
 
-mild_taken : {new : Memory → Bool} (b : PortState) (s z : State) (e : Effect) (a c k m : Ports) → self_of z ≡ self_of s → new z.memory ≡ true → e ≡ Leaves
-    → MildPass new a c → MildPass new k m → MildPass new (taken b s a k) (taken b z (acted e c) m)
+mild_taken : {new : RememberedPacket → Bool} (b : PortState) (s z : State) (e : Effect) (a c k m : Ports) → self_of z ≡ self_of s → new z.memory ≡ true → e ≡ Leaves
+    → MildPacket new a c → MildPacket new k m → MildPacket new (taken b s a k) (taken b z (acted e c) m)
 unfolding All
 mild_taken b s z e a c k m own after calm x y = rw calm (record { all = (after, x.all, y.all); alike = alike_taken b s z a c k m own x.alike y.alike })
 
-pub mild_packet : {old new : Memory → Bool} (q : Sent) → Mild old new q.content → (deep : Bool) (k : Ports) → All old k → MildPass new k (after_packet q deep k)
+pub mild_packet : {old new : RememberedPacket → Bool} (q : Sent) → Mild old new q.content → (deep : Bool) (k : Ports) → All old k → MildPacket new k (after_packet q deep k)
 unfolding All after_packet
 mild_packet q c deep ended h = record { all = tt; alike = alike_self ended }
 mild_packet q c deep (vacant b k) h =
@@ -74,12 +73,12 @@ mild_packet {old} {new} q c deep (taken b s a k) h = split b.enable (mild_packet
     reply : MildAnswer old new q deep s a
     reply = mild_answer q c deep s a h.0
 
-    split : (x : Bool) → MildPass new a (after_packet q true a) → MildPass new k (after_packet q deep k) → MildPass new (taken b s a k) (if x then taken b (answer_of q deep s a).1 (acted (effect_of q deep s) (after_packet q true a)) (after_packet q deep k) else taken b s a (after_packet q deep k))
+    split : (x : Bool) → MildPacket new a (after_packet q true a) → MildPacket new k (after_packet q deep k) → MildPacket new (taken b s a k) (if x then taken b (answer_of q deep s a).1 (acted (effect_of q deep s) (after_packet q true a)) (after_packet q deep k) else taken b s a (after_packet q deep k))
     split true lower rest = mild_taken b s (answer_of q deep s a).1 (effect_of q deep s) a (after_packet q true a) k (after_packet q deep k) reply.own reply.after reply.calm lower rest
     split false lower rest = mild_taken b s s Leaves a a k (after_packet q deep k) refl (c.wider s.memory h.0) refl (record { all = all_wider c.wider a h.1; alike = alike_self a }) rest
 
 -- the same where it stopped on its way
-pub mild_stopped : {old new : Memory → Bool} (q : Sent) → Mild old new q.content → {deep : Bool} {k m : Ports} → Stopped q deep k m → All old k → Alike k m
+pub mild_stopped : {old new : RememberedPacket → Bool} (q : Sent) → Mild old new q.content → {deep : Bool} {k m : Ports} → Stopped q deep k m → All old k → Alike k m
 unfolding All
 mild_stopped q w (behind_empty {deep} {k} {m} b st) h = alike_vacant b k m (mild_stopped q w st h)
 mild_stopped {old} {new} q w (behind {deep} {k} {m} b s a st) h = split b.enable (mild_stopped q w st h.2)
@@ -104,21 +103,21 @@ stopped_after_out (here b s a k p on is heard grows) h = grows_after_out s p h.0
 -- The attempt
 
 -- a packet that goes out, or not, and is mild
-abbrev MildOut : (Memory → Bool) → (Memory → Bool) → Option Sent → Type 0
-MildOut old new None = (m : Memory) → old m ≡ true → new m ≡ true
+abbrev MildOut : (RememberedPacket → Bool) → (RememberedPacket → Bool) → Option Sent → Type 0
+MildOut old new None = (m : RememberedPacket) → old m ≡ true → new m ≡ true
 MildOut old new (Some q) = Mild old new q.content
 
-mild_passed : (old new : Memory → Bool) (o : Option Sent) → MildOut old new o → (k : Ports) → All old k → MildPass new k (passed o k)
-mild_passed old new None w k h = record { all = all_wider w k h; alike = alike_self k }
-mild_passed old new (Some q) c k h = mild_packet q c false k h
+mild_sent : (old new : RememberedPacket → Bool) (o : Option Sent) → MildOut old new o → (k : Ports) → All old k → MildPacket new k (after_sent o k)
+mild_sent old new None w k h = record { all = all_wider w k h; alike = alike_self k }
+mild_sent old new (Some q) c k h = mild_packet q c false k h
 
-sent_mild : {old new : Memory → Bool} (low pre : Bool) (mark : Mark) (p : Packet) → new Nothing ≡ true → Mild old new (content.Whole p) → MildOut old new (sent_as low pre mark p)
+sent_mild : {old new : RememberedPacket → Bool} (low pre : Bool) (mark : Mark) (p : Packet) → new Nothing ≡ true → Mild old new (content.Whole p) → MildOut old new (sent_as low pre mark p)
 sent_mild low pre Whole p n c = c
 sent_mild low pre Lost p n c = c.wider
 sent_mild low pre PreLost p n c = c
 sent_mild low pre (Flipped bit) p n c = mild_broken c.wider n
 
-token_mild : {new : Memory → Bool} (a : Attempt) (d : Option Damage) → new Nothing ≡ true → Mild is_nothing new (content.Whole (packet.Token a.kind a.addr a.ep)) → MildOut is_nothing new (token_out a d)
+token_mild : {new : RememberedPacket → Bool} (a : Attempt) (d : Option Damage) → new Nothing ≡ true → Mild is_nothing new (content.Whole (packet.Token a.kind a.addr a.ep)) → MildOut is_nothing new (token_out a d)
 unfolding token_of marked
 token_mild a d n c = sent_mild a.low a.pre (mark_of (harm_to d 1) a.pre (packet.Token a.kind a.addr a.ep)) (packet.Token a.kind a.addr a.ep) n c
 
@@ -147,15 +146,15 @@ module _ (a : Attempt) (d : Option Damage) (k m : Ports) (is : IsAttempt a) (set
       kinds InTok e = no (ap is_some (sym (no_data a d (is.payload_sent ∙ ap sends_data e)) ∙ c.went))
       kinds SetupTok e =
           let mild : Mild is_nothing no_out (content.Whole (packet.Token a.kind a.addr a.ep)) = rw e (mild_setup a.addr a.ep) in
-          absurd (stopped_after_out c.stopped (mild_passed is_nothing no_out (token_out a d) (token_mild a d refl mild) k resting).all)
+          absurd (stopped_after_out c.stopped (mild_sent is_nothing no_out (token_out a d) (token_mild a d refl mild) k resting).all)
 
-  token_passes : MildPass no_setup k (passed (token_out a d) k)
-  token_passes = mild_passed is_nothing no_setup (token_out a d) (token_mild a d refl (rw cut_kind (mild_out a.addr a.ep))) k resting
+  token_packet : MildPacket no_setup k (after_sent (token_out a d) k)
+  token_packet = mild_sent is_nothing no_setup (token_out a d) (token_mild a d refl (rw cut_kind (mild_out a.addr a.ep))) k resting
 
   pub cut_alike : Alike k m
   cut_alike =
-      let tree : Alike (passed (token_out a d) k) c.tree = mild_stopped c.sent data_mild c.stopped token_passes.all in
-      subst (Alike k) (sym c.is) (alike_joined token_passes.alike (alike_joined tree (alike_forgotten c.tree)))
+      let tree : Alike (after_sent (token_out a d) k) c.tree = mild_stopped c.sent data_mild c.stopped token_packet.all in
+      subst (Alike k) (sym c.is) (alike_joined token_packet.alike (alike_joined tree (alike_forgotten c.tree)))
 
 pub cut_stand : (a : Attempt) (d : Option Damage) (k m : Ports) → IsAttempt a → IsSettled k → IsCut a d k m → StandAlike k m
 cut_stand a d k m is settled c = stand_alike k m (cut_alike a d k m is settled c)

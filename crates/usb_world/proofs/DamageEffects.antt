@@ -4,17 +4,17 @@ use Rattle.std.proofs.lemmas.Bool.Decides.{nat_tests}
 use Rattle.std.proofs.lemmas.Bool.{ltb-true, eq-eqb}
 use Rattle.usb_check.specs.Bits.{low_bits, bits_of_bytes}
 use Rattle.usb_check.specs.Polynomial.{generator5, generator16}
-use Rattle.usb_check.proofs.Interface.{length-bits_of_bytes, length-low_bits, length-map_not}
+use Rattle.usb_check.proofs.Interface.{length-bits_of_bytes, length-low_bits}
 use Rattle.usb_packet.specs.declared.Packet.{Packet}
 use Rattle.usb_packet.specs.declared.Packet.TheVariants.{Token, Sof, Payload, Ack, Nak, Stall, Pre}
-use Rattle.usb_packet.specs.Spelling.{Spells, CarriesCheck, Follows}
+use Rattle.usb_packet.specs.Spelling.{Spells, Follows}
 use Rattle.usb_world.specs.declared.damage.Damage.{Damage}
 use Rattle.usb_world.specs.declared.losses.Losses.{Losses}
 use Rattle.usb_device.specs.Tree.{Ports}
 use Rattle.usb_world.specs.declared.types.Attempt.{Attempt}
 use Rattle.usb_world.specs.World.{IsAttempt}
 use Rattle.usb_world.specs.Exchange.{lost_in}
-use Rattle.usb_world.specs.Passes.{IsSettled}
+use Rattle.usb_world.specs.AttemptPackets.{IsSettled}
 use Rattle.usb_world.proofs.AddressLosses.{none_lost}
 use Rattle.usb_world.proofs.Equality.{unequal}
 use Rattle.usb_world.proofs.Booleans.{if_yes, if_no}

@@ -9,12 +9,12 @@ use Rattle.usb_world.specs.declared.types.Attempt.{Attempt}
 use Rattle.usb_world.specs.declared.damage.Damage.{Damage}
 use Rattle.usb_world.specs.Paths.{address_of, same_number, same_path}
 use Rattle.usb_world.specs.WayEffects.{reset_if}
-use Rattle.usb_world.specs.Passes.{deep_at, NobodyHolds}
+use Rattle.usb_world.specs.AttemptPackets.{deep_at, NobodyHolds}
 use Rattle.usb_world.specs.World.{World}
 use Rattle.usb_world.specs.Steps.{ready, damage_in, attempt, after}
 use Rattle.usb_world.specs.Courses.{made_resets, resets}
 use Rattle.usb_world.specs.Addresses.{is_setup}
-use Rattle.usb_world.specs.OneHolder.{token_way, payload_way, answer_way, reply_way, IsSetup, IsOut, IsIn, hears_attempt, IsMade, HolderIn, ExchangedIn}
+use Rattle.usb_world.specs.OneHolder.{token_way, payload_way, answer_way, reply_way, IsSetup, IsOut, IsIn, hears_attempt, IsMade, HolderIn}
 use Rattle.usb_world.specs.Devices.{Relation, Was, EachWas, Ways, DidIn, DidOut, DidSetup}
 use Rattle.usb_world.proofs.Booleans.{no, both, decided}
 use Rattle.usb_world.proofs.Courses.{due_reach, made_reach}
@@ -23,7 +23,7 @@ use Rattle.usb_world.proofs.AddressesInTransfers.{data_calm}
 use Rattle.usb_world.proofs.RootResets.{is_same, same_is}
 use Rattle.usb_world.proofs.OneDevice.{other_address, stands, state_stands}
 use Rattle.usb_world.proofs.OneHolder.{holder_holds}
-use Rattle.usb_world.proofs.OneHolderAttempts.{ready_settled, made_is, made_true, nobody_in, holder_in, silent_in, others_in, setup_in, out_in, in_in, setup_sound_in, out_sound_in, in_sound_in}
+use Rattle.usb_world.proofs.OneHolderAttempts.{ready_settled, made_is, made_true, nobody_in, holder_in, silent_in, others_in, setup_in, out_in, in_in, setup_sound_in, out_sound_in, in_sound_in, ExchangedIn}
 use Rattle.usb_world.proofs.HolderOfAttempt.{holder_or_nobody}
 use Rattle.usb_world.proofs.Equality.{same_equal, swapped}
 

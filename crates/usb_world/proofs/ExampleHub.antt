@@ -8,7 +8,6 @@ use Rattle.usb_device.specs.Tree.{ended, vacant, taken, changed_at, reach_at, st
 use Rattle.usb_device.specs.Rows.{received, unread, fresh, reset_state, awaits_address}
 use Rattle.usb_device.specs.Request.{outcome}
 use Rattle.usb_device.specs.Effect.{asks}
-use Rattle.usb_port.specs.Calls.{set_call, clear_call}
 use Rattle.usb_device.specs.Delivery.{answer_of, effect_of, after_packet, answers, all_forgotten, held, is_twice, has_loss, clears_change}
 use Rattle.usb_device.specs.Bulk.{change_bits}
 use Rattle.usb_request.specs.Layout.{setup_of}

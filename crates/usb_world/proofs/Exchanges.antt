@@ -1,7 +1,7 @@
 -- What the code of an attempt does, packet by packet, is the attempt.
 use Rattle.std.proofs.Common.{◌≡◌, ◌+◌, List, [], ◌∷◌, ◌++◌, false, Option, Some, None, Result, Ok, Err, OnOk, OnErr, refl, sym, subst, ap, ap₂, ◌∙◌}
 use Rattle.usb_device.specs.declared.answer.Answer.{Answer}
-use Rattle.usb_device.specs.declared.delivery.Heard.{Heard as HeardBelow}
+use Rattle.usb_device.specs.declared.delivery.Heard.{Heard}
 use Rattle.usb_device.specs.declared.delivery.Sent.{Sent}
 use Rattle.usb_device.specs.Tree.{Ports, ended, vacant, taken, row_of}
 use Rattle.usb_device.specs.Delivery.{all_forgotten, heard_of, both, heard_joined, delivered, figure}
@@ -11,7 +11,7 @@ use Rattle.usb_world.specs.declared.exchange.Exchange.{Exchange}
 use Rattle.usb_world.specs.declared.types.Attempt.{Attempt}
 use Rattle.usb_world.specs.Wire.{harm_to, marked, marked_some}
 use Rattle.usb_world.specs.HeardAnswers.{heard_above}
-use Rattle.usb_world.specs.Passes.{IsSettled, passed, answers_to}
+use Rattle.usb_world.specs.AttemptPackets.{IsSettled, after_sent, answers_to}
 use Rattle.usb_world.proofs.AttemptPackets.{attempt_settled}
 use Rattle.usb_world.specs.ExchangeEffects.{StaysPlugged, PacketWent, PacketsWent, Exchanged}
 use Rattle.usb_world.specs.Exchange.{token_of, payload_of, answer_place, answer_mark, reply_of, goes_out, heard_all, token_out, payload_out, heard_in, mark_in, reply_in, answered_in, is_lost, lost_in, clears_at, cleared_in, exchange_in, ended_in, ports_in}
@@ -31,22 +31,22 @@ pub plugged_further : (k j m : Ports) → StaysPlugged k j → StaysPlugged j m 
 plugged_further k j m x y = record { row = y.row ∙ x.row; figure = y.figure ∙ x.figure }
 
 -- a packet at the whole tree
-pub sent_plugged : {A E : Type 0} (r : Result A E) (q : Sent) (k m : Ports) (g h : HeardBelow)
+pub sent_plugged : {A E : Type 0} (r : Result A E) (q : Sent) (k m : Ports) (g h : Heard)
     → OnOk r ((h, m) ≡ heard_joined g (delivered q false k)) → OnErr r (figure m ≡ figure k) → row_of m ≡ row_of k → StaysPlugged k m
 sent_plugged (Ok x) q k m g h ok err row = record { row = row; figure = ap (λ y. figure y.1) ok ∙ figure-after q false k }
 sent_plugged (Err x) q k m g h ok err row = record { row = row; figure = err }
 
-pub sent_went : {A E : Type 0} (r : Result A E) (o : Option Sent) (q : Sent) (k m : Ports) (g h : HeardBelow)
+pub sent_went : {A E : Type 0} (r : Result A E) (o : Option Sent) (q : Sent) (k m : Ports) (g h : Heard)
     → o ≡ Some q → OnOk r ((h, m) ≡ heard_joined g (delivered q false k)) → OnOk r (PacketWent o k m g h)
 sent_went (Ok x) o q k m g h is e = record {
   heard = ap (λ y. y.0) e ∙ ap (λ y. both g (heard_of (answers_to y k))) (sym is);
-  ports = ap (λ y. y.1) e ∙ ap (λ y. passed y k) (sym is);
+  ports = ap (λ y. y.1) e ∙ ap (λ y. after_sent y k) (sym is);
 }
 sent_went (Err x) o q k m g h is e = e
 
 -- a packet at one device
-pub went_to : {A E : Type 0} (r : Result A E) (o : Option Sent) (k m : Ports) (g h : HeardBelow)
-    → OnOk r (h ≡ both g (heard_of (answers_to o k))) → OnOk r (m ≡ passed o k) → OnOk r (PacketWent o k m g h)
+pub went_to : {A E : Type 0} (r : Result A E) (o : Option Sent) (k m : Ports) (g h : Heard)
+    → OnOk r (h ≡ both g (heard_of (answers_to o k))) → OnOk r (m ≡ after_sent o k) → OnOk r (PacketWent o k m g h)
 went_to (Ok x) o k m g h heard ports = record { heard = heard; ports = ports }
 went_to (Err x) o k m g h heard ports = heard
 
@@ -60,53 +60,44 @@ over_plugged k j m e x = record {
 pub over_settled : (k m : Ports) → m ≡ all_forgotten k → IsSettled m
 over_settled k m e = subst IsSettled (sym e) (attempt_settled None None None k)
 
-pub over_made : {A E : Type 0} (r : Result A E) (a : Attempt) (d : Option Damage) (k j m : Ports) (x : Exchange)
-    → m ≡ all_forgotten j → OnOk r (PacketsWent a d k j x) → OnOk r (Exchanged a d k m x)
+pub over_made : (a : Attempt) (d : Option Damage) (k j m : Ports) (x : Exchange) → m ≡ all_forgotten j → PacketsWent a d k j x → Exchanged a d k m x
 unfolding ports_in
-over_made (Ok y) a d k j m x e h = record { made = h.made; ports = e ∙ ap all_forgotten h.ports }
-over_made (Err y) a d k j m x e h = h
-
-pub ended_ports : {A E : Type 0} (r : Result A E) (a : Attempt) (d : Option Damage) (k m : Ports) (x : Exchange)
-    → OnOk r (PacketsWent a d k m x) → OnOk r (m ≡ ended_in a d k)
-ended_ports (Ok y) a d k m x h = h.ports
-ended_ports (Err y) a d k m x h = h
-
-pub ruleset attempt_ends = (over_settled, over_made)
+over_made a d k j m x e h = record { made = h.made; ports = e ∙ ap all_forgotten h.ports }
 
 -- what the code makes, one packet after the other
 pub record Makes (a : Attempt) (damage : Option Damage) (k : Ports) (x : Exchange) : Type 0 where
   pub first : Ports
   pub second : Ports
   pub third : Ports
-  pub to_token : HeardBelow
-  pub to_both : HeardBelow
+  pub to_token : Heard
+  pub to_both : Heard
   pub token : x.token ≡ marked damage 1 a.pre (token_of a)
   pub token_heard : to_token ≡ heard_of (answers_to (goes_out a (Some x.token)) k)
-  pub token_passed : first ≡ passed (goes_out a (Some x.token)) k
+  pub token_went : first ≡ after_sent (goes_out a (Some x.token)) k
   pub payload : x.payload ≡ marked_some damage 2 a.pre (payload_of a)
   pub cleared : x.change_cleared ≡ clears_at (goes_out a x.payload) first
   pub payload_heard : to_both ≡ both to_token (heard_of (answers_to (goes_out a x.payload) first))
-  pub payload_passed : second ≡ passed (goes_out a x.payload) first
+  pub payload_went : second ≡ after_sent (goes_out a x.payload) first
   pub answer : x.answer ≡ heard_above to_both
   pub answer_mark : x.answer_mark ≡ answer_mark (harm_to damage (answer_place x.payload)) x.answer
   pub reply : x.reply ≡ marked_some damage (answer_place x.payload + 1) a.pre (reply_of x.answer x.answer_mark a.max)
   pub lost : x.address_lost ≡ is_lost x.reply (goes_out a x.reply) second
-  pub reply_passed : third ≡ passed (goes_out a x.reply) second
+  pub reply_went : third ≡ after_sent (goes_out a x.reply) second
 
 module _ (a : Attempt) (damage : Option Damage) (k : Ports) (x : Exchange) (m : Makes a damage k x) where
-  first_is : m.first ≡ passed (token_out a damage) k
-  first_is = m.token_passed ∙ ap (λ t. passed (goes_out a (Some t)) k) m.token
+  first_is : m.first ≡ after_sent (token_out a damage) k
+  first_is = m.token_went ∙ ap (λ t. after_sent (goes_out a (Some t)) k) m.token
 
   second_is : m.second ≡ answered_in a damage k
-  second_is = m.payload_passed ∙ ap₂ (λ p r. passed (goes_out a p) r) m.payload first_is
+  second_is = m.payload_went ∙ ap₂ (λ p r. after_sent (goes_out a p) r) m.payload first_is
 
   answer_is : x.answer ≡ heard_in a damage k
   answer_is =
       let to_token = m.token_heard ∙ ap (λ t. heard_of (answers_to (goes_out a (Some t)) k)) m.token in
       let to_payload = ap₂ (λ p r. heard_of (answers_to (goes_out a p) r)) m.payload first_is in
       m.answer
-      ∙ ap heard_above (m.payload_heard ∙ ap₂ both to_token to_payload ∙ sym (heard_of-append (answers_to (token_out a damage) k) (answers_to (payload_out a damage) (passed (token_out a damage) k))))
-      ∙ heard_all_of (answers_to (token_out a damage) k ++ answers_to (payload_out a damage) (passed (token_out a damage) k))
+      ∙ ap heard_above (m.payload_heard ∙ ap₂ both to_token to_payload ∙ sym (heard_of-append (answers_to (token_out a damage) k) (answers_to (payload_out a damage) (after_sent (token_out a damage) k))))
+      ∙ heard_all_of (answers_to (token_out a damage) k ++ answers_to (payload_out a damage) (after_sent (token_out a damage) k))
 
   mark_is : x.answer_mark ≡ mark_in a damage k
   mark_is = m.answer_mark ∙ ap₂ (λ p h. answer_mark (harm_to damage (answer_place p)) h) m.payload answer_is
@@ -135,4 +126,4 @@ module _ (a : Attempt) (damage : Option Damage) (k : Ports) (x : Exchange) (m : 
   }
 
   pub made_ports : m.third ≡ ended_in a damage k
-  made_ports = m.reply_passed ∙ ap₂ (λ r j. passed (goes_out a r) j) reply_is second_is
+  made_ports = m.reply_went ∙ ap₂ (λ r j. after_sent (goes_out a r) j) reply_is second_is

@@ -9,7 +9,7 @@ use Rattle.usb_request.specs.Features.{PORT_ENABLE, PORT_RESET, PORT_POWER, C_PO
 use Rattle.usb_request.specs.Requests.{descriptor_value}
 use Rattle.usb_request.specs.declared.setup.Setup.{Setup}
 use Rattle.usb_request.specs.Layout.{setup_of}
-use Rattle.usb_device.specs.declared.bulk.Which.{Which}
+use Rattle.usb_device.specs.declared.bulk.ServedEndpoint.{ServedEndpoint}
 use Rattle.usb_port.specs.declared.call.PortCall.{PortCall}
 use Rattle.usb_port.specs.declared.call.PortCall.TheVariants.{SetPower, SetReset, ClearEnable, ClearPower, ClearConnectionChange, ClearEnableChange, ClearResetChange}
 use Rattle.usb_device.specs.declared.delivery.Content.{Content}
@@ -18,8 +18,8 @@ use Rattle.usb_device.specs.declared.delivery.Sent.{Sent}
 use Rattle.usb_device.specs.declared.effect.Effect.{Effect}
 use Rattle.usb_device.specs.declared.effect.Effect.TheVariants.{Leaves, Calls, PortsOff}
 use Rattle.usb_device.specs.declared.request.Registers.{Registers}
-use Rattle.usb_device.specs.declared.transfer.Memory.{Memory}
-use Rattle.usb_device.specs.declared.transfer.Memory.TheVariants.{Nothing, SetupSeen, OutSeen, AckAwaited}
+use Rattle.usb_device.specs.declared.transfer.RememberedPacket.{RememberedPacket}
+use Rattle.usb_device.specs.declared.transfer.RememberedPacket.TheVariants.{Nothing, SetupSeen, OutSeen, AckAwaited}
 use Rattle.usb_device.specs.Spec.{Spec, Hub}
 use Rattle.usb_port.specs.Calls.{is_reset, set_call, clear_call}
 use Rattle.usb_device.specs.Request.{Outcome, stalled, answers, takes_address, takes_configuration, halts, unhalts, tells_port, calls_port, Is, unless, text_asked, asked_descriptor, asked_status, asked_address, asked_configuration, endpoint_of, on_endpoint, asked_hub_descriptor, port_named, told_port, called_at, asked_port_status, port_feature, outcome, is_value}
@@ -28,8 +28,14 @@ use Rattle.usb_device.specs.Effect.{asks, asked_by_data, asked_by_setup, effect_
 use Rattle.usb_device.specs.Tree.{Ports, ended, vacant, taken}
 use Rattle.usb_device.specs.Delivery.{hears, asked_by, effect_of}
 use Rattle.usb_world.specs.WayEffects.{effect_resets, resets_at}
-use Rattle.usb_world.specs.Courses.{is_harmless, IsHarmlessOut}
+use Rattle.usb_world.specs.Courses.{is_harmless}
 use Rattle.usb_world.proofs.Booleans.{no, and_false}
+
+-- data that are no such request
+abbrev pub IsHarmlessOut : Content → Type 0
+IsHarmlessOut (Whole (Payload t bytes)) = is_harmless (setup_of bytes.items) ≡ true
+IsHarmlessOut Broken = Unit {0}
+IsHarmlessOut (Whole p) = ⊥
 
 -- a request asks for no reset of a port
 abbrev asks_reset : Outcome → Bool
@@ -50,7 +56,7 @@ by_descriptor s v =
     (both_ways (v / 256 == CONFIGURATION) _ _ (both_ways s.stalls.config stalled (text_asked s.configs (v % 256)) refl (by_text (slice_get s.configs (v % 256))))
     (both_ways (v / 256 == STRING) _ _ (both_ways s.stalls.string stalled (text_asked s.strings (v % 256)) refl (by_text (slice_get s.strings (v % 256)))) refl))
 
-by_endpoint : (f : Which → Outcome) → ((w : Which) → asks_reset (f w) ≡ false) → (o : Option Which) → asks_reset (on_endpoint f o) ≡ false
+by_endpoint : (f : ServedEndpoint → Outcome) → ((w : ServedEndpoint) → asks_reset (f w) ≡ false) → (o : Option ServedEndpoint) → asks_reset (on_endpoint f o) ≡ false
 by_endpoint f c None = refl
 by_endpoint f c (Some w) = c w
 
@@ -140,7 +146,7 @@ request_resets (unhalts w) h = refl
 request_resets (tells_port i) h = refl
 request_resets (calls_port c i) h = not_false (is_reset c) h
 
-data_resets : (s : State) (m : Memory) (t : Toggle) (b : List ℕ) → is_harmless (setup_of b) ≡ true → no_reset (asked_by_data s m t b) ≡ true
+data_resets : (s : State) (m : RememberedPacket) (t : Toggle) (b : List ℕ) → is_harmless (setup_of b) ≡ true → no_reset (asked_by_data s m t b) ≡ true
 data_resets s Nothing t b h = refl
 data_resets s (OutSeen e) t b h = refl
 data_resets s (AckAwaited g) t b h = refl
@@ -162,9 +168,9 @@ content_resets (Whole packet.Nak) s h = elim h [ ]
 content_resets (Whole packet.Stall) s h = elim h [ ]
 content_resets (Whole packet.Pre) s h = elim h [ ]
 
-sent_resets : (q : Sent) → IsHarmlessOut q.content → (deep : Bool) (s : State) → no_reset (effect_of q deep s) ≡ true
+no_reset_asked : (q : Sent) → IsHarmlessOut q.content → (deep : Bool) (s : State) → no_reset (effect_of q deep s) ≡ true
 unfolding effect_of
-sent_resets q c deep s = elim (hears q deep s) as (λ x. no_reset (if x then asked_by q.content s else Leaves) ≡ true) [ true ↦ content_resets q.content s c | false ↦ refl ]
+no_reset_asked q c deep s = elim (hears q deep s) as (λ x. no_reset (if x then asked_by q.content s else Leaves) ≡ true) [ true ↦ content_resets q.content s c | false ↦ refl ]
 
 none_at : (e : Effect) (a : Ports) (j : ℕ) (p : List ℕ) → no_reset e ≡ true → effect_resets e a j p ≡ false
 none_at Leaves a j p h = refl
@@ -184,5 +190,5 @@ harmless_resets q c deep (vacant b k) (suc j) p = harmless_resets q c deep k j p
 harmless_resets q c deep (taken b s a k) zero [] = refl
 harmless_resets q c deep (taken b s a k) zero (zero ∷ p) = refl
 harmless_resets q c deep (taken b s a k) zero (suc j ∷ p) =
-    rw (none_at (effect_of q deep s) a j p (sent_resets q c deep s), harmless_resets q c true a j p) (and_false b.enable)
+    rw (none_at (effect_of q deep s) a j p (no_reset_asked q c deep s), harmless_resets q c true a j p) (and_false b.enable)
 harmless_resets q c deep (taken b s a k) (suc j) p = harmless_resets q c deep k j p

@@ -1,7 +1,11 @@
 -- A list of paths that gets one more.
 use Rattle.std.proofs.Common.{◌≡◌, ℕ, zero, suc, List, [], ◌∷◌, ◌++◌, refl, subst, sym}
 use Rattle.arrayvec.specs.ArrayVec.{ArrayVec}
-use Rattle.usb_world.specs.Hints.{NoPaths}
+use Rattle.usb_world.specs.Hints.{path_at}
+
+-- no path at any address
+abbrev pub NoPaths : List (ArrayVec ℕ) → Type 0
+NoPaths paths = (n : ℕ) → path_at paths n ≡ []
 
 one_more : (xs : List (ArrayVec ℕ)) (x : ArrayVec ℕ) → NoPaths xs → x.items ≡ [] → NoPaths (xs ++ x ∷ [])
 one_more [] x h e zero = e

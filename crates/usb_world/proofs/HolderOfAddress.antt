@@ -6,7 +6,7 @@ use Rattle.usb_port.specs.PortState.{PortState}
 use Rattle.usb_device.specs.Rows.{State}
 use Rattle.usb_device.specs.Tree.{Ports, ended, vacant, taken, reach_at, state_at, place_at, path_to}
 use Rattle.usb_world.specs.Paths.{address_of}
-use Rattle.usb_world.specs.Passes.{NobodyHolds}
+use Rattle.usb_world.specs.AttemptPackets.{NobodyHolds}
 use Rattle.usb_world.specs.FoundHolder.{Found}
 use Rattle.usb_world.proofs.Booleans.{no}
 

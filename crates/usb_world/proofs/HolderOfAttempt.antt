@@ -2,7 +2,7 @@
 use Rattle.std.proofs.Common.{◌≡◌, ◌⊎◌, inl, inr, true, false}
 use Rattle.usb_world.specs.declared.types.Attempt.{Attempt}
 use Rattle.usb_world.specs.declared.types.Outcome.TheVariants.{Nothing}
-use Rattle.usb_world.specs.Passes.{NobodyHolds}
+use Rattle.usb_world.specs.AttemptPackets.{NobodyHolds}
 use Rattle.usb_world.specs.FoundHolder.{Found}
 use Rattle.usb_world.specs.World.{World}
 use Rattle.usb_world.specs.Steps.{ready, outcome_in, attempt, after}

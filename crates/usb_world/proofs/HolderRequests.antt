@@ -3,7 +3,6 @@ use Rattle.std.proofs.Common.{◌≡◌, ℕ, zero, suc, ◌==◌, ◌&&◌, ◌
 use Rattle.std.proofs.lemmas.Option.{same_Some}
 use Rattle.usb_request.specs.Features.{PORT_ENABLE, PORT_RESET, PORT_POWER, C_PORT_ENABLE, C_PORT_RESET}
 use Rattle.usb_request.specs.Codes.{CLEAR_FEATURE, SET_FEATURE, SET_CONFIGURATION, DEVICE_OUT, PORT_OUT}
-use Rattle.usb_port.specs.PortState.{PortState}
 use Rattle.usb_request.specs.declared.setup.Setup.{Setup}
 use Rattle.usb_request.specs.Layout.{setup_of}
 use Rattle.usb_port.specs.declared.call.PortCall.{PortCall}
@@ -11,7 +10,7 @@ use Rattle.usb_port.specs.declared.call.PortCall.TheVariants.{SetPower, SetReset
 use Rattle.usb_device.specs.declared.delivery.Sent.{Sent}
 use Rattle.usb_device.specs.declared.effect.Effect.{Effect}
 use Rattle.usb_device.specs.declared.effect.Effect.TheVariants.{Leaves, Calls}
-use Rattle.usb_device.specs.declared.transfer.Memory.TheVariants.{Nothing}
+use Rattle.usb_device.specs.declared.transfer.RememberedPacket.TheVariants.{Nothing}
 use Rattle.usb_port.specs.Calls.{set_call, clear_call}
 use Rattle.usb_device.specs.Request.{Is}
 use Rattle.usb_device.specs.Rows.{State}
@@ -20,17 +19,17 @@ use Rattle.usb_device.specs.Delivery.{effect_of, after_packet}
 use Rattle.usb_world.specs.declared.types.Attempt.{Attempt}
 use Rattle.usb_world.specs.Exchange.{token_out, payload_out}
 use Rattle.usb_world.specs.Paths.{same_number, same_path, is_way}
-use Rattle.usb_world.specs.Passes.{passed, IsTokenFor, IfOut, IsSettled, OneHolds, pass_spares, pass_resets}
+use Rattle.usb_world.specs.AttemptPackets.{after_sent, IsTokenFor, IfOut, IsSettled, OneHolds, sent_spares, sent_resets}
 use Rattle.usb_world.specs.WayEffects.{effect_resets, resets_at, spares, effect_spares, leaves_port}
 use Rattle.usb_world.specs.World.{World}
 use Rattle.usb_world.specs.Steps.{ready, damage_in, attempt}
 use Rattle.usb_world.specs.Courses.{is_made, made_resets, resets, spares_step}
-use Rattle.usb_world.specs.OneHolder.{IsSetup, Holder, HolderIn}
-use Rattle.usb_world.specs.PortRequests.{pass_leaves, leaves_step, AsksNothing, is_port_request, is_sparing, is_above}
+use Rattle.usb_world.specs.OneHolder.{IsSetup, HolderIn}
+use Rattle.usb_world.specs.PortRequests.{sent_leaves, leaves_step, AsksNothing, is_port_request, is_sparing, is_above}
 use Rattle.usb_world.proofs.Booleans.{no, both, decided, either_of, and_false, or_left, or_right, not_true}
-use Rattle.usb_world.proofs.AttemptPackets.{calm_pass, token_out as token_calm}
+use Rattle.usb_world.proofs.AttemptPackets.{calm_sent, token_out as token_calm}
 use Rattle.usb_world.proofs.OneDevice.{settled_memory, rest_state, rested_effect, token_calls, other_address}
-use Rattle.usb_world.proofs.OneHolder.{holder_holds}
+use Rattle.usb_world.proofs.OneHolder.{holder_holds, Holder}
 use Rattle.usb_world.proofs.OneHolderAttempts.{holder_in}
 use Rattle.usb_world.proofs.Courses.{goes}
 use Rattle.usb_world.proofs.RootResets.{is_same, same_is}
@@ -43,14 +42,14 @@ use Rattle.usb_world.proofs.Ways.{way_on}
 
 -- after the token no other device remembers anything
 others_forgot : (n : ℕ) (t : Option Sent) → IfOut (IsTokenFor n) t → (k : Ports) (j : ℕ) (p : List ℕ) → IsSettled k → OneHolds n k (record { row = j; rest = p })
-    → (i : ℕ) (e : List ℕ) (v : State) → (same_number i j && same_path e p) ≡ false → state_at (passed t k) i e ≡ Some v → v.memory ≡ Nothing
+    → (i : ℕ) (e : List ℕ) (v : State) → (same_number i j && same_path e p) ≡ false → state_at (after_sent t k) i e ≡ Some v → v.memory ≡ Nothing
 others_forgot n None is k j p s o i e v differ at = settled_memory k i e v s at
 others_forgot n (Some q) is k j p s o i e v differ at = settled_memory k i e v s (sym same ∙ at)
   where
     same : state_at (after_packet q false k) i e ≡ state_at k i e
     same =
         rest_state q false k i e (λ u h on. (settled_memory k i e u s h, token_calls n q.content u is (other_address n k j p o i e u differ h on)))
-        ∙ unreset (resets_at q false k i e) (state_at k i e) (calm_pass (Some q) (token_calm n (Some q) is) k i e)
+        ∙ unreset (resets_at q false k i e) (state_at k i e) (calm_sent (Some q) (token_calm n (Some q) is) k i e)
 
 -- a test of effects at a port, with the rest of the path, that holds where nothing is asked
 abbrev Test : Type 0
@@ -122,7 +121,7 @@ module _ (a : Attempt) (w : World) (h : HolderIn a w) where
 
   -- the tree when the host's data go out
   abbrev heard : Ports
-  heard = passed (token_out a (damage_in (ready w))) k
+  heard = after_sent (token_out a (damage_in (ready w))) k
 
   abbrev sent : Option Sent
   sent = payload_out a (damage_in (ready w))
@@ -131,10 +130,10 @@ module _ (a : Attempt) (w : World) (h : HolderIn a w) where
   one = holder_in a w h
 
   -- what the holder can ask passes the test, where it is on the way to a path
-  abbrev Passes : Test → ℕ → List ℕ → Option Sent → Type 0
-  Passes T i x o = (m : ℕ) (r : List ℕ) → suc i ∷ x ≡ suc j ∷ (p ++ (suc m ∷ r)) → IfOut (AllowsOut (T m r)) o
+  abbrev Allowed : Test → ℕ → List ℕ → Option Sent → Type 0
+  Allowed T i x o = (m : ℕ) (r : List ℕ) → suc i ∷ x ≡ suc j ∷ (p ++ (suc m ∷ r)) → IfOut (AllowsOut (T m r)) o
 
-  on_way : (T : Test) → ((m : ℕ) (r : List ℕ) → T m r Leaves ≡ true) → (i : ℕ) (x : List ℕ) (q : Sent) → Passes T i x (Some q)
+  on_way : (T : Test) → ((m : ℕ) (r : List ℕ) → T m r Leaves ≡ true) → (i : ℕ) (x : List ℕ) (q : Sent) → Allowed T i x (Some q)
       → OnWay (λ t m r. (dp : Bool) → T m r (effect_of q dp t) ≡ true) heard i x
   on_way T l i x q c e m r t z at dp = pick (decided (same_number i j && same_path e p))
     where
@@ -147,15 +146,15 @@ module _ (a : Attempt) (w : World) (h : HolderIn a w) where
           ap (T m r) (rested_effect q dp t (others_forgot a.addr (token_out a (damage_in (ready w))) (goes a (damage_in (ready w)) k).token k j p one.settled (holder_holds a.addr k one) i e t y at))
           ∙ l m r
 
-  one_spares : (i : ℕ) (x : List ℕ) (o : Option Sent) → Passes spare_test i x o → pass_spares o heard i x ≡ true
+  one_spares : (i : ℕ) (x : List ℕ) (o : Option Sent) → Allowed spare_test i x o → sent_spares o heard i x ≡ true
   one_spares i x None c = refl
   one_spares i x (Some q) c = spares_if q false heard i x (on_way spare_test (λ m r. refl) i x q c)
 
-  one_leaves : (i : ℕ) (x : List ℕ) (o : Option Sent) → Passes leave_test i x o → pass_leaves o heard i x ≡ true
+  one_leaves : (i : ℕ) (x : List ℕ) (o : Option Sent) → Allowed leave_test i x o → sent_leaves o heard i x ≡ true
   one_leaves i x None c = refl
   one_leaves i x (Some q) c = leaves_if q false heard i x (on_way leave_test (λ m r. refl) i x q c)
 
-  one_rests : (i : ℕ) (x : List ℕ) (o : Option Sent) → ((n : Ports) → Passes (rest_test n) i x o) → pass_resets o heard i x ≡ false
+  one_rests : (i : ℕ) (x : List ℕ) (o : Option Sent) → ((n : Ports) → Allowed (rest_test n) i x o) → sent_resets o heard i x ≡ false
   one_rests i x None c = refl
   one_rests i x (Some q) c = resets_if q false heard i x (λ e m r t z at dp n. not_true (effect_resets (effect_of q dp t) n m r) (on_way (rest_test n) (λ m r. refl) i x q (c n) e m r t z at dp))
 
@@ -187,8 +186,8 @@ module _ (a : Attempt) (w : World) (h : HolderIn a w) where
     abbrev r0 : Setup
     r0 = setup_of bytes
 
-    data_passes : (T : Effect → Bool) → Allows T r0 → IfOut (AllowsOut T) sent
-    data_passes T c = payload_allowed T c.rests a (damage_in (ready w)) (subst (PayloadAllows T) (sym is.payload) c)
+    data_allows : (T : Effect → Bool) → Allows T r0 → IfOut (AllowsOut T) sent
+    data_allows T c = payload_allowed T c.rests a (damage_in (ready w)) (subst (PayloadAllows T) (sym is.payload) c)
 
     module _ (n : ℕ) (names : r0.index ≡ n) where
       abbrev pub port_path : List ℕ
@@ -219,7 +218,7 @@ module _ (a : Attempt) (w : World) (h : HolderIn a w) where
       pub other_rests : (x : List ℕ) → same_path port_path x ≡ false → made_resets a (ready w) x ≡ false
       other_rests [] d = refl
       other_rests (zero ∷ x) d = refl
-      other_rests (suc i ∷ x) d = one_rests i x sent (λ c m r z. data_passes (rest_test c m r) (rest_there c m r (ap (same_path port_path) (sym z) ∙ d)))
+      other_rests (suc i ∷ x) d = one_rests i x sent (λ c m r z. data_allows (rest_test c m r) (rest_there c m r (ap (same_path port_path) (sym z) ∙ d)))
 
       module _ (asked : is_port_request r0 ≡ true) where
         of_port : r0.request_type ≡ PORT_OUT
@@ -266,9 +265,9 @@ module _ (a : Attempt) (w : World) (h : HolderIn a w) where
         others_asked_nothing [] d = record { spares = refl; rests = and_false (is_made w.fault w); leaves = refl }
         others_asked_nothing (zero ∷ x) d = record { spares = refl; rests = and_false (is_made w.fault w); leaves = refl }
         others_asked_nothing (suc i ∷ x) d = record {
-          spares = one_spares i x sent (λ m r z. data_passes (spare_test m r) (spare_there m r (number_apart (suc i ∷ x) m r d z)));
+          spares = one_spares i x sent (λ m r z. data_allows (spare_test m r) (spare_there m r (number_apart (suc i ∷ x) m r d z)));
           rests = ap (λ y. is_made w.fault w && y) (other_rests (suc i ∷ x) (path_apart port_path (suc i ∷ x) d)) ∙ and_false (is_made w.fault w);
-          leaves = one_leaves i x sent (λ m r z. data_passes (leave_test m r) (leave_there m r (number_apart (suc i ∷ x) m r d z)));
+          leaves = one_leaves i x sent (λ m r z. data_allows (leave_test m r) (leave_there m r (number_apart (suc i ∷ x) m r d z)));
         }
 
         self_there : is_sparing r0 ≡ true → (m : ℕ) → Allows (spare_test m []) r0
@@ -281,7 +280,7 @@ module _ (a : Attempt) (w : World) (h : HolderIn a w) where
 
         pub self_spared : is_sparing r0 ≡ true → spares_step (attempt a) w port_path ≡ true
         unfolding spares_step
-        self_spared y = one_spares j (p ++ (n ∷ [])) sent (λ m r z. data_passes (spare_test m r) (subst (λ v. Allows (spare_test m v) r0) (sym (ends_there (suc j ∷ p) n (suc m) r z)) (self_there y m)))
+        self_spared y = one_spares j (p ++ (n ∷ [])) sent (λ m r z. data_allows (spare_test m r) (subst (λ v. Allows (spare_test m v) r0) (sym (ends_there (suc j ∷ p) n (suc m) r z)) (self_there y m)))
 
 pub self_asked : (a : Attempt) (w : World) (h : HolderIn a w) (bytes : List ℕ) → IsSetup a bytes
     → (n : ℕ) → (setup_of bytes).index ≡ n → is_sparing (setup_of bytes) ≡ true → spares_step (attempt a) w (path_to h.spot ++ (n ∷ [])) ≡ true

@@ -11,17 +11,17 @@ use Rattle.usb_device.specs.Tree.{Ports, ended, vacant, taken, row_of, reach_at,
 use Rattle.usb_world.specs.declared.types.Attempt.{Attempt}
 use Rattle.usb_world.specs.Paths.{address_of, same_number, same_path, is_way}
 use Rattle.usb_world.specs.WayEffects.{IsNew, reset_if}
-use Rattle.usb_world.specs.Passes.{deep_at}
+use Rattle.usb_world.specs.AttemptPackets.{deep_at}
 use Rattle.usb_world.specs.World.{World}
 use Rattle.usb_world.specs.Steps.{ready, damage_in, with_attempt, attempt, after}
 use Rattle.usb_world.specs.Courses.{is_made, made_resets, resets, address_at, Own}
-use Rattle.usb_world.specs.OneHolder.{IsSetup, Holder, HolderIn, token_way, payload_way, answer_way}
+use Rattle.usb_world.specs.OneHolder.{IsSetup, HolderIn, token_way, payload_way, answer_way}
 use Rattle.usb_world.specs.Addresses.{after_reset}
 use Rattle.usb_world.proofs.Booleans.{no, both, decided, and_false}
 use Rattle.usb_world.proofs.PortCalls.{off_reach}
 use Rattle.usb_world.proofs.OneDevice.{state_stands}
 use Rattle.usb_world.proofs.Courses.{made_reach, step_new}
-use Rattle.usb_world.proofs.OneHolder.{replied, holder_holds}
+use Rattle.usb_world.proofs.OneHolder.{replied, holder_holds, Holder}
 use Rattle.usb_world.proofs.OneHolderAttempts.{made_is, made_true, holder_in, setup_in, silent_in, others_in}
 use Rattle.usb_world.proofs.AddressesInTransfers.{due_own}
 use Rattle.usb_world.proofs.RootResets.{is_same, same_is, new_address}

@@ -3,7 +3,7 @@ pub use Rattle.usb_world.proofs.AddressesInTransfers.{course_keeps, data_calm, d
 pub use Rattle.usb_world.proofs.AddressesKept.{due_state, first_state, own_not_twice, quiet_resets, ready_own, step_own, step_unshared, taken_state}
 pub use Rattle.usb_world.proofs.AddressesTaken.{seen, unseen}
 pub use Rattle.usb_world.proofs.AttemptLosses.{CountsNone, Counts, EndsWithAddress, StaysEndless, each_counts, got_it, got_none, in_clears, in_counts, loses, losses_as, out_counts, set_up_counts}
-pub use Rattle.usb_world.proofs.AttemptPackets.{CalmOut, calm_pass, token_out}
+pub use Rattle.usb_world.proofs.AttemptPackets.{CalmOut, calm_sent, token_out}
 pub use Rattle.usb_world.proofs.Booleans.{and_false, and_none, and_of, both, decided, either_of, if_no, if_yes, neither, neither_of, no, not_true, or_left, or_nothing, or_right}
 pub use Rattle.usb_world.proofs.ChangeBits.{course_bits, made_port, root_port}
 pub use Rattle.usb_world.proofs.Counts.{RootCalled, came_spends, change_most, changes-set, clear_ends, clear_none, clears_change, clears_spend, happened_long, new_long, resets_spend, root_called, row_long, set_ends, set_none, spends_none, spends_then, spends_wider}
@@ -23,7 +23,7 @@ pub use Rattle.usb_world.proofs.OneHolderAttempts.{holder_in, in_in, made_is, ma
 pub use Rattle.usb_world.proofs.OneHolderPorts.{setup_place_in, silent_place_in}
 pub use Rattle.usb_world.proofs.Outcomes.{brings, given_by, got_given, got_nak, got_payload, got_stall}
 pub use Rattle.usb_world.proofs.PacketWays.{NoneAsks, nothing_asked}
-pub use Rattle.usb_world.proofs.PlainRequests.{data_asks_nothing, plain_asks_nothing}
+pub use Rattle.usb_world.proofs.RestingAttempts.{data_asks_nothing, payload_asks_nothing}
 pub use Rattle.usb_world.proofs.PluggedDevices.{devices_left, plugged_next, ports_stand, undisturbed_keeps}
 pub use Rattle.usb_world.proofs.PluggedTrees.{found_same, self_found}
 pub use Rattle.usb_world.proofs.PortCalls.{call_reach, call_state}

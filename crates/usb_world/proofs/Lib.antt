@@ -41,7 +41,7 @@ pub mod ExampleHub
 pub mod ToldChanges
 pub mod PortRequests
 pub mod PacketWays
-pub mod PlainRequests
+pub mod RestingAttempts
 pub mod ChangeBits
 pub mod HolderRequests
 pub mod HubResets

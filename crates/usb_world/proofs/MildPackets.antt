@@ -11,47 +11,47 @@ use Rattle.usb_device.specs.declared.delivery.Content.TheVariants.{Whole, Broken
 use Rattle.usb_device.specs.declared.delivery.Sent.{Sent}
 use Rattle.usb_device.specs.declared.effect.Effect.TheVariants.{Leaves}
 use Rattle.usb_device.specs.declared.answer.Answer.TheVariants as answer
-use Rattle.usb_device.specs.declared.transfer.Memory.{Memory}
-use Rattle.usb_device.specs.declared.transfer.Memory.TheVariants.{Nothing, SetupSeen, OutSeen, AckAwaited}
-use Rattle.usb_device.specs.Bulk.{is_same}
+use Rattle.usb_device.specs.declared.transfer.RememberedPacket.{RememberedPacket}
+use Rattle.usb_device.specs.declared.transfer.RememberedPacket.TheVariants.{Nothing, SetupSeen, OutSeen, AckAwaited}
+use Rattle.usb_packet.specs.Toggles.{is_same}
 use Rattle.usb_device.specs.Transfer.{Stage, idle, refused, reading, read, ending}
 use Rattle.usb_device.specs.Effect.{asks, asked_by_data}
 use Rattle.usb_device.specs.Rows.{State, Reply, received, unread, forgotten, payload_row, data_row, status_row, out_row, sink_row, sunk, out_bulk_row, bulk_of, is_busy, nak_row, unless_busy, token_row, sink_grows, payload_sinks}
 use Rattle.usb_device.specs.Tree.{Ports, row_of}
 use Rattle.usb_device.specs.Delivery.{hears, reply_to, asked_by, answer_of, effect_of}
-use Rattle.usb_world.specs.Passes.{IsDataOut}
-use Rattle.usb_world.specs.AlikeTrees.{self_of}
+use Rattle.usb_world.specs.AttemptPackets.{IsDataOut}
 use Rattle.usb_world.proofs.Booleans.{no}
 use Rattle.usb_world.proofs.AttemptPackets.{silent_calm}
+use Rattle.usb_world.proofs.AlikeTrees.{self_of}
 
-abbrev pub is_nothing : Memory → Bool
+abbrev pub is_nothing : RememberedPacket → Bool
 is_nothing Nothing = true
 is_nothing m = false
 
-abbrev pub no_setup : Memory → Bool
+abbrev pub no_setup : RememberedPacket → Bool
 no_setup SetupSeen = false
 no_setup m = true
 
-abbrev pub no_out : Memory → Bool
+abbrev pub no_out : RememberedPacket → Bool
 no_out (OutSeen e) = false
 no_out m = true
 
-abbrev pub any_memory : Memory → Bool
+abbrev pub any_memory : RememberedPacket → Bool
 any_memory m = true
 
 -- bytes that leave a device that remembers such a thing as it is, but for what it remembers then and how far its transfers are
-pub record Mild (old new : Memory → Bool) (c : Content) : Type 0 where
-  pub wider : (m : Memory) → old m ≡ true → new m ≡ true
+pub record Mild (old new : RememberedPacket → Bool) (c : Content) : Type 0 where
+  pub wider : (m : RememberedPacket) → old m ≡ true → new m ≡ true
   pub own : (s : State) (row : List PortState) → old s.memory ≡ true → self_of (reply_to c s row).1 ≡ self_of s
   pub after : (s : State) (row : List PortState) → old s.memory ≡ true → new (reply_to c s row).1.memory ≡ true
   pub calm : (s : State) → old s.memory ≡ true → asked_by c s ≡ Leaves
 
-pub record MildAnswer (old new : Memory → Bool) (q : Sent) (deep : Bool) (s : State) (a : Ports) : Type 0 where
+pub record MildAnswer (old new : RememberedPacket → Bool) (q : Sent) (deep : Bool) (s : State) (a : Ports) : Type 0 where
   pub own : self_of (answer_of q deep s a).1 ≡ self_of s
   pub after : new (answer_of q deep s a).1.memory ≡ true
   pub calm : effect_of q deep s ≡ Leaves
 
-pub mild_answer : {old new : Memory → Bool} (q : Sent) → Mild old new q.content → (deep : Bool) (s : State) (a : Ports) → old s.memory ≡ true → MildAnswer old new q deep s a
+pub mild_answer : {old new : RememberedPacket → Bool} (q : Sent) → Mild old new q.content → (deep : Bool) (s : State) (a : Ports) → old s.memory ≡ true → MildAnswer old new q deep s a
 unfolding answer_of effect_of
 mild_answer {old} {new} q c deep s a h = record {
   own = elim (hears q deep s) as (λ x. self_of (if x then reply_to q.content s (row_of a) else (None, s)).1 ≡ self_of s) [ true ↦ c.own s (row_of a) h | false ↦ refl ];
@@ -66,7 +66,7 @@ either P false x y h g = g
 
 -- Bytes that spell nothing
 
-pub mild_broken : {old new : Memory → Bool} → ((m : Memory) → old m ≡ true → new m ≡ true) → new Nothing ≡ true → Mild old new Broken
+pub mild_broken : {old new : RememberedPacket → Bool} → ((m : RememberedPacket) → old m ≡ true → new m ≡ true) → new Nothing ≡ true → Mild old new Broken
 unfolding unread
 mild_broken {old} {new} w n = record {
   wider = w;
@@ -77,13 +77,13 @@ mild_broken {old} {new} w n = record {
 
 -- Tokens
 
-pub nothing_no_setup : (m : Memory) → is_nothing m ≡ true → no_setup m ≡ true
+pub nothing_no_setup : (m : RememberedPacket) → is_nothing m ≡ true → no_setup m ≡ true
 nothing_no_setup Nothing h = refl
 nothing_no_setup SetupSeen h = no h
 nothing_no_setup (OutSeen e) h = refl
 nothing_no_setup (AckAwaited g) h = refl
 
-pub nothing_no_out : (m : Memory) → is_nothing m ≡ true → no_out m ≡ true
+pub nothing_no_out : (m : RememberedPacket) → is_nothing m ≡ true → no_out m ≡ true
 nothing_no_out Nothing h = refl
 nothing_no_out SetupSeen h = refl
 nothing_no_out (OutSeen e) h = no h
@@ -147,13 +147,13 @@ own_data s e t b =
     either P (e == 0) (unless_busy s (out_row s s.stage t b)) (out_bulk_row s e (bulk_of s false) t b)
     (either P (is_busy s) (nak_row s) (out_row s s.stage t b) refl (own_out s s.stage t b)) (own_bulk s e (bulk_of s false) t b)
 
-own_payload : (s : State) (row : List PortState) (m : Memory) (t : Toggle) (b : List ℕ) → no_setup m ≡ true → self_of (payload_row s row m t b).1 ≡ self_of s
+own_payload : (s : State) (row : List PortState) (m : RememberedPacket) (t : Toggle) (b : List ℕ) → no_setup m ≡ true → self_of (payload_row s row m t b).1 ≡ self_of s
 own_payload s row Nothing t b h = refl
 own_payload s row SetupSeen t b h = no h
 own_payload s row (OutSeen e) t b h = own_data s e t b
 own_payload s row (AckAwaited g) t b h = refl
 
-calm_data : (s : State) (m : Memory) (t : Toggle) (b : List ℕ) → no_setup m ≡ true → asked_by_data s m t b ≡ Leaves
+calm_data : (s : State) (m : RememberedPacket) (t : Toggle) (b : List ℕ) → no_setup m ≡ true → asked_by_data s m t b ≡ Leaves
 calm_data s Nothing t b h = refl
 calm_data s SetupSeen t b h = no h
 calm_data s (OutSeen e) t b h = refl
@@ -177,7 +177,7 @@ mild_data Broken h = mild_broken (λ m h. refl) refl
 
 -- Where no OUT token is remembered, no sink grows
 
-no_sink : (s : State) (m : Memory) (t : Toggle) (b : List ℕ) → no_out m ≡ true → payload_sinks s m t b ≡ false
+no_sink : (s : State) (m : RememberedPacket) (t : Toggle) (b : List ℕ) → no_out m ≡ true → payload_sinks s m t b ≡ false
 no_sink s Nothing t b h = refl
 no_sink s SetupSeen t b h = refl
 no_sink s (OutSeen e) t b h = no h

@@ -11,16 +11,16 @@ use Rattle.usb_device.specs.Tree.{Ports, row_of}
 use Rattle.usb_device.specs.Delivery.{held, is_twice, listed}
 use Rattle.usb_world.specs.declared.types.Attempt.{Attempt}
 use Rattle.usb_world.specs.declared.damage.Damage.{Damage}
-use Rattle.usb_world.specs.declared.exchange.Heard.TheVariants.{Collision}
+use Rattle.usb_world.specs.declared.exchange.ExchangeAnswer.TheVariants.{Collision}
 use Rattle.usb_world.specs.Exchange.{heard_all, heard_in, token_out, payload_out, reply_out, exchange_in}
 use Rattle.usb_world.specs.FoundHolder.{Found}
-use Rattle.usb_world.specs.OneHolder.{Holder, IsMade}
-use Rattle.usb_world.specs.Passes.{passed, answers_to, IsSettled, NobodyHolds}
+use Rattle.usb_world.specs.OneHolder.{IsMade}
+use Rattle.usb_world.specs.AttemptPackets.{after_sent, answers_to, IsSettled, NobodyHolds}
 use Rattle.usb_world.specs.Steps.{ready, damage_in, made_in, with_attempt, attempt, after}
 use Rattle.usb_world.specs.World.{World, IsAttempt, sends_data}
 use Rattle.usb_world.proofs.Booleans.{no, neither}
 use Rattle.usb_world.proofs.OneDevice.{nobody_answers}
-use Rattle.usb_world.proofs.OneHolder.{sent_heard, asked_heard, token_is, data_is, none_is, setup_quiet, out_quiet}
+use Rattle.usb_world.proofs.OneHolder.{sent_heard, asked_heard, token_is, data_is, none_is, setup_quiet, out_quiet, Holder}
 use Rattle.usb_world.proofs.OneHolderAttempts.{ready_settled, made_is}
 use Rattle.usb_world.proofs.HolderOfAddress.{who_holds}
 use Rattle.usb_world.proofs.Courses.{goes}
@@ -70,8 +70,8 @@ module _ (a : Attempt) (d : Option Damage) (k : Ports) (is : IsAttempt a) where
       pick (inl f) = of_holder (record { settled = settled; single = single; found = f })
       pick (inr n) = of_nobody settled n
 
-  pub few_answers : IsSettled k → is_twice (held k) ≡ false → length (answers_to (token_out a d) k ++ answers_to (payload_out a d) (passed (token_out a d) k)) ≤ 1
-  few_answers settled single = few (answers_to (token_out a d) k ++ answers_to (payload_out a d) (passed (token_out a d) k)) (no_collision settled single)
+  pub few_answers : IsSettled k → is_twice (held k) ≡ false → length (answers_to (token_out a d) k ++ answers_to (payload_out a d) (after_sent (token_out a d) k)) ≤ 1
+  few_answers settled single = few (answers_to (token_out a d) k ++ answers_to (payload_out a d) (after_sent (token_out a d) k)) (no_collision settled single)
 
 pub no_collision_in : (a : Attempt) (w : World) → IsAttempt a → IsMade a w → (after (attempt a) w).shared ≡ false → (made_in a (ready w)).answer ≡ Collision → ⊥
 unfolding with_attempt exchange_in

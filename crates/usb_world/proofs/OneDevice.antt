@@ -8,23 +8,47 @@ use Rattle.usb_device.specs.declared.delivery.Content.{Content}
 use Rattle.usb_device.specs.declared.delivery.Content.TheVariants.{Whole, Broken}
 use Rattle.usb_device.specs.declared.delivery.Sent.{Sent}
 use Rattle.usb_device.specs.declared.effect.Effect.TheVariants.{Leaves}
-use Rattle.usb_device.specs.declared.transfer.Memory.TheVariants.{Nothing}
+use Rattle.usb_device.specs.declared.transfer.RememberedPacket.TheVariants.{Nothing}
 use Rattle.usb_device.specs.Rows.{State, forgotten, reset_state}
 use Rattle.usb_device.specs.Effect.{asks, asked_by_packet}
-use Rattle.usb_device.specs.Tree.{Ports, ended, vacant, taken, Place, empty, full, acted, reach_at, state_at, place_at}
+use Rattle.usb_device.specs.Tree.{Ports, ended, vacant, taken, Place, empty, full, acted, reach_at, state_at, place_at, Spot, place_on, reach_on}
 use Rattle.usb_device.specs.Delivery.{hears, asked_by, answer_of, effect_of, after_packet, answers, listed, all_forgotten}
 use Rattle.usb_world.specs.Paths.{address_of, same_number, same_path}
-use Rattle.usb_world.specs.WayEffects.{is_left, way_rests, resets_at, reset_if}
+use Rattle.usb_world.specs.WayEffects.{resets_at, reset_if}
 use Rattle.usb_device.specs.View.{forgotten_place}
-use Rattle.usb_world.specs.Passes.{passed, answers_to, told_at, answer_at, after_attempt, heard_place, passed_place, deep_at, calls_on, IsTokenFor, IsDataOut, IsAckOut, IfOut, IsAttemptAt, pass_resets, attempt_resets, IsSettled, NobodyHolds, OneHolds, OneActs, heard_state}
-use Rattle.usb_world.specs.LonePackets.{OthersForgot}
+use Rattle.usb_world.specs.AttemptPackets.{after_sent, answers_to, after_attempt, deep_at, calls_on, IsTokenFor, IsDataOut, IsAckOut, IfOut, IsAttemptAt, sent_resets, attempt_resets, IsSettled, NobodyHolds, OneHolds}
+use Rattle.usb_world.specs.LonePackets.{OthersForgot, OthersUncalled}
 use Rattle.usb_world.proofs.Booleans.{no, both, and_of, decided}
 use Rattle.usb_world.proofs.Holders.{one_path}
-use Rattle.usb_world.proofs.PacketEffects.{packet_state, true_deep}
-use Rattle.usb_world.proofs.AttemptPackets.{token_out, ack_out, calm_pass, rested_answer, forgotten_state, ack_calls}
-use Rattle.usb_world.proofs.PacketPlaces.{way_place, way_reach}
+use Rattle.usb_world.proofs.PacketEffects.{packet_state, true_deep, heard_state}
+use Rattle.usb_world.proofs.AttemptPackets.{token_out, ack_out, calm_sent, rested_answer, forgotten_state, ack_calls}
+use Rattle.usb_world.proofs.PacketPlaces.{way_place, way_reach, is_left, way_rests, heard_place, place_after_sent}
 use Rattle.usb_world.proofs.Equality.{equal_same, self_number, self_path}
 use Rattle.usb_world.proofs.States.{kept_state}
+
+-- a device's answer
+abbrev pub answer_at : Sent → Bool → Option Place → List Answer
+answer_at q deep None = []
+answer_at q deep (Some (empty b)) = []
+answer_at q deep (Some (full b s a)) = listed (answer_of q deep s a).0 []
+
+abbrev pub told_at : Option Sent → Bool → Option Place → List Answer
+told_at None deep x = []
+told_at (Some q) deep x = answer_at q deep x
+
+-- a reached device with its ports after an attempt, where no other holds the address
+abbrev pub place_after : Option Sent → Option Sent → Option Sent → Bool → Place → Place
+place_after token payload reply deep x = forgotten_place (place_after_sent reply deep (place_after_sent payload deep (place_after_sent token deep x)))
+
+-- What an attempt does where one device holds its address: that device's answers are heard, and it is then as one
+-- device alone would be; another is reset by it, or as it was.
+pub record OneActs (t d r : Option Sent) (k : Ports) (x : Spot) : Type 0 where
+  pub first : answers_to t k ≡ told_at t (deep_at false x.rest) (place_on k x)
+  pub second : answers_to d (after_sent t k) ≡ told_at d (deep_at false x.rest) (option_map (place_after_sent t (deep_at false x.rest)) (place_on k x))
+  pub place : place_on (after_attempt t d r k) x ≡ option_map (place_after t d r (deep_at false x.rest)) (place_on k x)
+  pub on : reach_on (after_sent r (after_sent d (after_sent t k))) x ≡ true
+  pub others : (i : ℕ) (e : List ℕ) (s : State) → (same_number i x.row && same_path e x.rest) ≡ false → state_at k i e ≡ Some s
+      → state_at (after_attempt t d r k) i e ≡ Some (reset_if (attempt_resets t d k i e) s)
 
 -- Between attempts
 
@@ -164,21 +188,21 @@ payload_calls Broken s h = refl
 
 -- Nobody holds the address: an attempt changes nothing, and nothing is answered
 
-pass_nobody : (o : Option Sent) (k : Ports) → IsSettled k → ((q : Sent) → o ≡ Some q → (t : State) → ((i : ℕ) × (e : List ℕ) × (state_at k i e ≡ Some t) × (reach_at k i e ≡ true)) → calls_on q.content t ≡ false)
-    → (passed o k ≡ k) × (answers_to o k ≡ [])
-pass_nobody None k s c = (refl, refl)
-pass_nobody (Some q) k s c = (rest_packet q false k rest, rest_answers q false k rest)
+sent_to_nobody : (o : Option Sent) (k : Ports) → IsSettled k → ((q : Sent) → o ≡ Some q → (t : State) → ((i : ℕ) × (e : List ℕ) × (state_at k i e ≡ Some t) × (reach_at k i e ≡ true)) → calls_on q.content t ≡ false)
+    → (after_sent o k ≡ k) × (answers_to o k ≡ [])
+sent_to_nobody None k s c = (refl, refl)
+sent_to_nobody (Some q) k s c = (rest_packet q false k rest, rest_answers q false k rest)
   where
     rest : AllRest q k
     rest i e t h on = (settled_memory k i e t s h, c q refl t (i, e, h, on))
 
 pub nobody_answers : (n : ℕ) (t d r : Option Sent) → IsAttemptAt n t d r → (k : Ports) → IsSettled k → NobodyHolds n k
-    → (after_attempt t d r k ≡ k) × (answers_to t k ≡ []) × (answers_to d (passed t k) ≡ [])
+    → (after_attempt t d r k ≡ k) × (answers_to t k ≡ []) × (answers_to d (after_sent t k) ≡ [])
 nobody_answers n t d r is k s c =
-    let first = pass_nobody t k s (λ q o x w. token_calls n q.content x (subst (IfOut (IsTokenFor n)) o is.token) (c w.0 w.1 x w.2 w.3)) in
-    let second = pass_nobody d k s (λ q o x w. payload_calls q.content x (subst (IfOut IsDataOut) o is.payload)) in
-    let third = pass_nobody r k s (λ q o x w. ack_calls q.content x (subst (IfOut IsAckOut) o is.reply)) in (
-      ap all_forgotten (ap (λ x. passed r (passed d x)) first.0 ∙ ap (passed r) second.0 ∙ third.0) ∙ s,
+    let first = sent_to_nobody t k s (λ q o x w. token_calls n q.content x (subst (IfOut (IsTokenFor n)) o is.token) (c w.0 w.1 x w.2 w.3)) in
+    let second = sent_to_nobody d k s (λ q o x w. payload_calls q.content x (subst (IfOut IsDataOut) o is.payload)) in
+    let third = sent_to_nobody r k s (λ q o x w. ack_calls q.content x (subst (IfOut IsAckOut) o is.reply)) in (
+      ap all_forgotten (ap (λ x. after_sent r (after_sent d x)) first.0 ∙ ap (after_sent r) second.0 ∙ third.0) ∙ s,
       first.1,
       ap (answers_to d) first.0 ∙ second.1,
     )
@@ -235,36 +259,34 @@ reset_forgot true (Some s) t c h = ap (λ x. x.memory) (sym (same_Some (reset_st
 reset_forgot false (Some s) t c h = ap (λ x. x.memory) (sym (same_Some s t h)) ∙ c s refl
 
 -- what one packet does then
-pub record Pass (o : Option Sent) (k : Ports) (j : ℕ) (p : List ℕ) : Type 0 where
-  pub place : place_at (passed o k) j p ≡ option_map (passed_place o (deep_at false p)) (place_at k j p)
-  pub on : reach_at (passed o k) j p ≡ true
-  pub answer : answers_to o k ≡ told_at o (deep_at false p) (place_at k j p)
-  pub forgot : OthersForgot (passed o k) j p
-  pub others : (i : ℕ) (e : List ℕ) → (same_number i j && same_path e p) ≡ false → state_at (passed o k) i e ≡ option_map (reset_if (pass_resets o k i e)) (state_at k i e)
+pub record SentToOne (o : Option Sent) (k : Ports) (x : Spot) : Type 0 where
+  pub place : place_on (after_sent o k) x ≡ option_map (place_after_sent o (deep_at false x.rest)) (place_on k x)
+  pub on : reach_on (after_sent o k) x ≡ true
+  pub answer : answers_to o k ≡ told_at o (deep_at false x.rest) (place_on k x)
+  pub forgot : OthersForgot (after_sent o k) x
+  pub others : (i : ℕ) (e : List ℕ) → (same_number i x.row && same_path e x.rest) ≡ false → state_at (after_sent o k) i e ≡ option_map (reset_if (sent_resets o k i e)) (state_at k i e)
 
-unpassed : (x : Option Place) (d : Bool) → x ≡ option_map (passed_place None d) x
-unpassed None d = refl
-unpassed (Some x) d = refl
+unsent : (x : Option Place) (d : Bool) → x ≡ option_map (place_after_sent None d) x
+unsent None d = refl
+unsent (Some x) d = refl
 
-pub one_pass : (o : Option Sent) (k : Ports) (j : ℕ) (p : List ℕ) → reach_at k j p ≡ true → OthersForgot k j p
-    → ((q : Sent) → o ≡ Some q → (i : ℕ) (e : List ℕ) (t : State) → (same_number i j && same_path e p) ≡ false → state_at k i e ≡ Some t → reach_at k i e ≡ true → calls_on q.content t ≡ false)
-    → Pass o k j p
-one_pass None k j p on f c = record { place = unpassed (place_at k j p) (deep_at false p); on = on; answer = refl; forgot = f; others = λ i e d. kept_state (state_at k i e) }
-one_pass (Some q) k j p on f c = record {
-  place = way_place q false k j p way ∙ ap (λ x. option_map (heard_place q (deep_at false p) x) (place_at k j p)) on;
-  on = way_reach q false k j p way ∙ on;
-  answer = others_answer q false k j p on rest;
+pub sent_to_one : (o : Option Sent) (k : Ports) (x : Spot) → reach_on k x ≡ true → OthersForgot k x → OthersUncalled o k x → SentToOne o k x
+sent_to_one None k x on f c = record { place = unsent (place_on k x) (deep_at false x.rest); on = on; answer = refl; forgot = f; others = λ i e d. kept_state (state_at k i e) }
+sent_to_one (Some q) k x on f c = record {
+  place = way_place q false k x.row x.rest way ∙ ap (λ y. option_map (heard_place q (deep_at false x.rest) y) (place_on k x)) on;
+  on = way_reach q false k x.row x.rest way ∙ on;
+  answer = others_answer q false k x.row x.rest on rest;
   forgot = λ i e t d h. reset_forgot (resets_at q false k i e) (state_at k i e) t (λ s. f i e s d) (sym (others i e d) ∙ h);
   others = others;
 }
   where
-    rest : OthersRest q k j p
+    rest : OthersRest q k x.row x.rest
     rest i e t d h g = (f i e t d h, c q refl i e t d h g)
 
-    way : way_rests q false k j p ≡ true
-    way = others_way q false k j p rest
+    way : way_rests q false k x.row x.rest ≡ true
+    way = others_way q false k x.row x.rest rest
 
-    others : (i : ℕ) (e : List ℕ) → (same_number i j && same_path e p) ≡ false → state_at (after_packet q false k) i e ≡ option_map (reset_if (resets_at q false k i e)) (state_at k i e)
+    others : (i : ℕ) (e : List ℕ) → (same_number i x.row && same_path e x.rest) ≡ false → state_at (after_packet q false k) i e ≡ option_map (reset_if (resets_at q false k i e)) (state_at k i e)
     others i e d = rest_state q false k i e (λ t. rest i e t d)
 
 pub forgotten_at : (k : Ports) (j : ℕ) (p : List ℕ) → place_at (all_forgotten k) j p ≡ option_map forgotten_place (place_at k j p)
@@ -282,19 +304,19 @@ thrice : (f g h i : Place → Place) (o : Option Place) → option_map f (option
 thrice f g h i None = refl
 thrice f g h i (Some x) = refl
 
-pub one_device : (n : ℕ) (t d r : Option Sent) → IsAttemptAt n t d r → (k : Ports) (j : ℕ) (p : List ℕ) → IsSettled k → OneHolds n k (record { row = j; rest = p }) → OneActs t d r k j p
+pub one_device : (n : ℕ) (t d r : Option Sent) → IsAttemptAt n t d r → (k : Ports) (at : Spot) → IsSettled k → OneHolds n k at → OneActs t d r k at
 unfolding reset_state
-one_device n t d r is k j p s o = record {
+one_device n t d r is k at s o = record {
   first = x.answer;
-  second = y.answer ∙ ap (told_at d (deep_at false p)) x.place;
-  place = forgotten_at (passed r (passed d (passed t k))) j p
-      ∙ ap (option_map forgotten_place) (z.place ∙ ap (option_map (passed_place r (deep_at false p))) (y.place ∙ ap (option_map (passed_place d (deep_at false p))) x.place))
-      ∙ thrice forgotten_place (passed_place r (deep_at false p)) (passed_place d (deep_at false p)) (passed_place t (deep_at false p)) (place_at k j p);
+  second = y.answer ∙ ap (told_at d (deep_at false at.rest)) x.place;
+  place = forgotten_at (after_sent r (after_sent d (after_sent t k))) at.row at.rest
+      ∙ ap (option_map forgotten_place) (z.place ∙ ap (option_map (place_after_sent r (deep_at false at.rest))) (y.place ∙ ap (option_map (place_after_sent d (deep_at false at.rest))) x.place))
+      ∙ thrice forgotten_place (place_after_sent r (deep_at false at.rest)) (place_after_sent d (deep_at false at.rest)) (place_after_sent t (deep_at false at.rest)) (place_on k at);
   on = z.on;
   others = λ i e v w h.
-      forgotten_state (passed r (passed d (passed t k))) i e
-      ∙ ap (option_map forgotten) (z.others i e w ∙ ap (λ b. option_map (reset_if b) (state_at (passed d (passed t k)) i e)) (calm_pass r (ack_out r is.reply) (passed d (passed t k)) i e) ∙ sym (kept_state (state_at (passed d (passed t k)) i e))
-      ∙ y.others i e w ∙ ap (option_map (reset_if (attempt_resets t d k i e))) (x.others i e w ∙ ap (λ b. option_map (reset_if b) (state_at k i e)) (calm_pass t (token_out n t is.token) k i e) ∙ sym (kept_state (state_at k i e)) ∙ h))
+      forgotten_state (after_sent r (after_sent d (after_sent t k))) i e
+      ∙ ap (option_map forgotten) (z.others i e w ∙ ap (λ b. option_map (reset_if b) (state_at (after_sent d (after_sent t k)) i e)) (calm_sent r (ack_out r is.reply) (after_sent d (after_sent t k)) i e) ∙ sym (kept_state (state_at (after_sent d (after_sent t k)) i e))
+      ∙ y.others i e w ∙ ap (option_map (reset_if (attempt_resets t d k i e))) (x.others i e w ∙ ap (λ b. option_map (reset_if b) (state_at k i e)) (calm_sent t (token_out n t is.token) k i e) ∙ sym (kept_state (state_at k i e)) ∙ h))
       ∙ ap (λ u. Some u) (forgot_reset (attempt_resets t d k i e) v (settled_memory k i e v s h));
 }
   where
@@ -302,12 +324,12 @@ one_device n t d r is k j p s o = record {
     forgot_reset true v m = refl
     forgot_reset false v m = ap (λ u. record v { memory = u }) (sym m)
 
-    x : Pass t k j p
-    x = one_pass t k j p o.on (λ i e v w h. settled_memory k i e v s h)
-        (λ q eq i e v w h on. token_calls n q.content v (subst (IfOut (IsTokenFor n)) eq is.token) (other_address n k j p o i e v w h on))
+    x : SentToOne t k at
+    x = sent_to_one t k at o.on (λ i e v w h. settled_memory k i e v s h)
+        (λ q eq i e v w h on. token_calls n q.content v (subst (IfOut (IsTokenFor n)) eq is.token) (other_address n k at.row at.rest o i e v w h on))
 
-    y : Pass d (passed t k) j p
-    y = one_pass d (passed t k) j p x.on x.forgot (λ q eq i e v w h on. payload_calls q.content v (subst (IfOut IsDataOut) eq is.payload))
+    y : SentToOne d (after_sent t k) at
+    y = sent_to_one d (after_sent t k) at x.on x.forgot (λ q eq i e v w h on. payload_calls q.content v (subst (IfOut IsDataOut) eq is.payload))
 
-    z : Pass r (passed d (passed t k)) j p
-    z = one_pass r (passed d (passed t k)) j p y.on y.forgot (λ q eq i e v w h on. ack_calls q.content v (subst (IfOut IsAckOut) eq is.reply))
+    z : SentToOne r (after_sent d (after_sent t k)) at
+    z = sent_to_one r (after_sent d (after_sent t k)) at y.on y.forgot (λ q eq i e v w h on. ack_calls q.content v (subst (IfOut IsAckOut) eq is.reply))

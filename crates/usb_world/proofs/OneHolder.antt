@@ -13,36 +13,54 @@ use Rattle.usb_device.specs.declared.answer.Answer.{Answer}
 use Rattle.usb_device.specs.declared.answer.Answer.TheVariants as answer
 use Rattle.usb_device.specs.declared.delivery.Content.TheVariants as content
 use Rattle.usb_device.specs.declared.delivery.Sent.{Sent}
-use Rattle.usb_device.specs.declared.transfer.Memory.TheVariants as memory
+use Rattle.usb_device.specs.declared.transfer.RememberedPacket.TheVariants as memory
 use Rattle.usb_request.specs.Layout.{setup_of}
-use Rattle.usb_device.specs.Bulk.{is_same}
+use Rattle.usb_packet.specs.Toggles.{is_same}
 use Rattle.usb_device.specs.Transfer.{Stage, idle, refused, reading, read, ending}
 use Rattle.usb_device.specs.Rows.{State, Reply, received, unread, forgotten, accepted, is_busy, nak_row, unless_busy, out_row, status_row, sink_row, sunk, out_bulk_row, bulk_of, data_row}
 use Rattle.usb_device.specs.Attempt.{Way, whole, broken, lost, is_whole, through, heard, is_good, sends, acked, setup_exchange, out_exchange, in_exchange, setup_law, out_law, in_law}
-use Rattle.usb_device.specs.Tree.{Ports, full, acted, row_of, state_at, place_at}
-use Rattle.usb_device.specs.Delivery.{is_heard, answer_of, effect_of, after_packet, listed}
+use Rattle.usb_device.specs.Tree.{Ports, full, acted, row_of, state_at, place_at, state_on}
+use Rattle.usb_device.specs.Delivery.{is_heard, answer_of, effect_of, after_packet, listed, held, is_twice}
 use Rattle.usb_device.proofs.Interface.{in_is, keeps-received, out_is, row_of-after, setup_is}
 use Rattle.usb_world.specs.declared.types.Attempt.{Attempt}
 use Rattle.usb_world.specs.declared.types.Outcome.TheVariants as outcome
 use Rattle.usb_world.specs.declared.damage.Damage.{Damage}
-use Rattle.usb_world.specs.declared.exchange.Heard.{Heard}
-use Rattle.usb_world.specs.declared.exchange.Heard.TheVariants.{Nothing}
+use Rattle.usb_world.specs.declared.exchange.ExchangeAnswer.{ExchangeAnswer}
+use Rattle.usb_world.specs.declared.exchange.ExchangeAnswer.TheVariants.{Nothing}
 use Rattle.usb_world.specs.declared.wire.Mark.{Mark}
 use Rattle.usb_world.specs.declared.wire.Mark.TheVariants as mark
 use Rattle.usb_world.specs.Wire.{is_read, mark_of, harm_to, marked, marked_some}
 use Rattle.usb_world.specs.Paths.{address_of}
 use Rattle.usb_device.specs.View.{forgotten_place}
 use Rattle.usb_world.specs.Exchange.{token_of, payload_of, reply_of, outcome_heard, outcome_of, sent_as, goes_out, heard_all, token_out, payload_out, reply_out, heard_in, mark_in, place_of_answer, ports_in}
-use Rattle.usb_world.specs.Passes.{passed, answers_to, told_at, heard_by, passed_place, place_after, deep_at, IsSettled, NobodyHolds, OneHolds, OneActs}
-use Rattle.usb_world.specs.OneHolder.{content_way, way_to, way_back, got, token_way, payload_way, answer_way, reply_way, setup_alone, out_alone, in_alone, IsSetup, IsOut, IsIn, Holder, ExchangedWithHolder}
+use Rattle.usb_world.specs.AttemptPackets.{after_sent, answers_to, heard_by, deep_at, IsSettled, NobodyHolds, OneHolds}
+use Rattle.usb_world.specs.OneHolder.{content_way, way_to, way_back, got, token_way, payload_way, answer_way, reply_way, out_alone, in_alone, IsSetup, IsOut, IsIn}
 use Rattle.usb_world.proofs.Booleans.{no}
 use Rattle.usb_world.proofs.AttemptPackets.{CalmOut, token_out as token_calm}
-use Rattle.usb_world.proofs.OneDevice.{settled_memory, nobody_answers, one_device, stands, state_stands, append_nil}
+use Rattle.usb_world.proofs.OneDevice.{settled_memory, nobody_answers, one_device, stands, state_stands, append_nil, told_at, place_after, OneActs}
 use Rattle.usb_world.proofs.Courses.{goes}
+use Rattle.usb_world.specs.FoundHolder.{Found}
+use Rattle.usb_world.proofs.PacketPlaces.{place_after_sent}
+
+-- what a device that stands deep or not, with these ports, makes of an attempt with it alone
+abbrev pub setup_alone : Attempt → Option Damage → Ports → Bool → State → List PortState → List ℕ → Reply
+setup_alone a damage k deep s row bytes = setup_law s row bytes (token_way a damage deep s) (payload_way a damage deep s) (answer_way a damage k)
+
+-- between attempts a reachable device holds the address, and no address is held twice
+pub record Holder (n : ℕ) (k : Ports) : Type 0 where
+  pub settled : IsSettled k
+  pub single : is_twice (held k) ≡ false
+  pub found : Found n k
+  pub open found use *
+
+-- the host gets what the device answers, and the device is what it is then
+pub record ExchangedWithHolder (a : Attempt) (damage : Option Damage) (k : Ports) (h : Holder a.addr k) (r : Reply) : Type 0 where
+  pub outcome : outcome_of (heard_in a damage k) (mark_in a damage k) a.max ≡ got a.max r.0
+  pub state : state_on (ports_in a damage k) h.spot ≡ Some r.1
 
 -- What the host gets
 
-pub outcome_unread : (h : Heard) (m : Mark) (max : ℕ) → h ≡ Nothing → outcome_of h m max ≡ outcome.Nothing
+pub outcome_unread : (h : ExchangeAnswer) (m : Mark) (max : ℕ) → h ≡ Nothing → outcome_of h m max ≡ outcome.Nothing
 unfolding outcome_of is_read
 outcome_unread h mark.Whole max e = rw e refl
 outcome_unread h mark.Lost max e = refl
@@ -80,10 +98,10 @@ module _ (deep : Bool) (b : PortState) where
   ports_by None s a = a
   ports_by (Some q) s a = acted (effect_of q deep s) (after_packet q true a)
 
-  pub passed_stands : (o : Option Sent) (s : State) (a : Ports) → passed_place o deep (full b s a) ≡ full b (heard_by o deep s (row_of a)).1 (ports_by o s a)
+  pub sent_stands : (o : Option Sent) (s : State) (a : Ports) → place_after_sent o deep (full b s a) ≡ full b (heard_by o deep s (row_of a)).1 (ports_by o s a)
   unfolding answer_of
-  passed_stands None s a = refl
-  passed_stands (Some q) s a = refl
+  sent_stands None s a = refl
+  sent_stands (Some q) s a = refl
 
   told_stands : (o : Option Sent) (s : State) (a : Ports) → told_at o deep (Some (full b s a)) ≡ listed (heard_by o deep s (row_of a)).0 []
   unfolding answer_of
@@ -200,8 +218,8 @@ module _ (a : Attempt) (d : Option Damage) (k : Ports) (h : Holder a.addr k) whe
   abbrev pub own_row : List PortState
   own_row = row_of below
 
-  pub acts : OneActs (token_out a d) (payload_out a d) (reply_out a d k) k j p
-  acts = one_device a.addr (token_out a d) (payload_out a d) (reply_out a d k) (goes a d k) k j p h.settled (holder_holds a.addr k h)
+  pub acts : OneActs (token_out a d) (payload_out a d) (reply_out a d k) k h.spot
+  acts = one_device a.addr (token_out a d) (payload_out a d) (reply_out a d k) (goes a d k) k h.spot h.settled (holder_holds a.addr k h)
 
   pub rests : s.memory ≡ memory.Nothing
   rests = settled_memory k j p s h.settled (sym (state_stands k j p) ∙ ap stands h.stands)
@@ -225,16 +243,16 @@ module _ (a : Attempt) (d : Option Damage) (k : Ports) (h : Holder a.addr k) whe
   abbrev pub third : Reply
   third = heard_by (reply_out a d k) is_deep second.1 (row_of second_below)
 
-  first_place : option_map (passed_place (token_out a d) is_deep) (place_at k j p) ≡ Some (full b first.1 first_below)
-  first_place = ap (option_map (passed_place (token_out a d) is_deep)) h.stands ∙ ap (λ x. Some x) (passed_stands is_deep b (token_out a d) s below)
+  first_place : option_map (place_after_sent (token_out a d) is_deep) (place_at k j p) ≡ Some (full b first.1 first_below)
+  first_place = ap (option_map (place_after_sent (token_out a d) is_deep)) h.stands ∙ ap (λ x. Some x) (sent_stands is_deep b (token_out a d) s below)
 
-  pub second_place : passed_place (payload_out a d) is_deep (full b first.1 first_below) ≡ full b second.1 second_below
-  second_place = passed_stands is_deep b (payload_out a d) first.1 first_below ∙ ap (λ r. full b (heard_by (payload_out a d) is_deep first.1 r).1 second_below) first_row
+  pub second_place : place_after_sent (payload_out a d) is_deep (full b first.1 first_below) ≡ full b second.1 second_below
+  second_place = sent_stands is_deep b (payload_out a d) first.1 first_below ∙ ap (λ r. full b (heard_by (payload_out a d) is_deep first.1 r).1 second_below) first_row
 
   first_told : answers_to (token_out a d) k ≡ listed first.0 []
   first_told = acts.first ∙ ap (told_at (token_out a d) is_deep) h.stands ∙ told_stands is_deep b (token_out a d) s below
 
-  second_told : answers_to (payload_out a d) (passed (token_out a d) k) ≡ listed second.0 []
+  second_told : answers_to (payload_out a d) (after_sent (token_out a d) k) ≡ listed second.0 []
   second_told = acts.second ∙ ap (told_at (payload_out a d) is_deep) first_place ∙ told_stands is_deep b (payload_out a d) first.1 first_below
       ∙ ap (λ r. listed (heard_by (payload_out a d) is_deep first.1 r).0 []) first_row
 
@@ -246,9 +264,9 @@ module _ (a : Attempt) (d : Option Damage) (k : Ports) (h : Holder a.addr k) whe
   is_state =
       sym (state_stands (ports_in a d k) j p)
       ∙ ap stands (acts.place ∙ ap (option_map (place_after (token_out a d) (payload_out a d) (reply_out a d k) is_deep)) h.stands)
-      ∙ ap (λ x. stands (Some (forgotten_place (passed_place (reply_out a d k) is_deep (passed_place (payload_out a d) is_deep x))))) (passed_stands is_deep b (token_out a d) s below)
-      ∙ ap (λ x. stands (Some (forgotten_place (passed_place (reply_out a d k) is_deep x)))) second_place
-      ∙ ap (λ x. stands (Some (forgotten_place x))) (passed_stands is_deep b (reply_out a d k) second.1 second_below)
+      ∙ ap (λ x. stands (Some (forgotten_place (place_after_sent (reply_out a d k) is_deep (place_after_sent (payload_out a d) is_deep x))))) (sent_stands is_deep b (token_out a d) s below)
+      ∙ ap (λ x. stands (Some (forgotten_place (place_after_sent (reply_out a d k) is_deep x)))) second_place
+      ∙ ap (λ x. stands (Some (forgotten_place x))) (sent_stands is_deep b (reply_out a d k) second.1 second_below)
 
   -- SETUP and OUT: the token T is not answered, and X is not answered by data
   module _ (T X : Packet) (token_is : token_of a ≡ T) (payload_is : payload_of a ≡ Some X) (quiet : (w : Way) → (through w s own_row T).0 ≡ None) where

@@ -14,7 +14,7 @@ use Rattle.usb_device.specs.declared.delivery.Content.TheVariants as content
 use Rattle.usb_device.specs.declared.delivery.Sent.{Sent}
 use Rattle.usb_device.specs.Rows.{State, Reply, forgotten, accepted, data_row}
 use Rattle.usb_device.specs.Attempt.{Way, whole, lost, through, heard, is_good, acked, setup_law, out_law, in_law}
-use Rattle.usb_device.specs.Tree.{Ports, row_of, state_at}
+use Rattle.usb_device.specs.Tree.{Ports, row_of, state_at, state_on}
 use Rattle.usb_device.specs.Delivery.{hears, reply_to, listed, held, is_twice}
 use Rattle.usb_device.proofs.Interface.{silent-stays, silent-unread}
 use Rattle.usb_world.specs.declared.types.Attempt.{Attempt}
@@ -22,23 +22,34 @@ use Rattle.usb_world.specs.declared.types.BusFault.TheVariants.{LimitReached}
 use Rattle.usb_world.specs.declared.types.Outcome.TheVariants as outcome
 use Rattle.usb_world.specs.declared.damage.Damage.{Damage}
 use Rattle.usb_world.specs.declared.event.Event.{Event}
-use Rattle.usb_world.specs.declared.exchange.Heard.{Heard}
-use Rattle.usb_world.specs.declared.exchange.Heard.TheVariants.{Nothing, One, Collision}
+use Rattle.usb_world.specs.declared.exchange.ExchangeAnswer.{ExchangeAnswer}
+use Rattle.usb_world.specs.declared.exchange.ExchangeAnswer.TheVariants.{Nothing, One, Collision}
 use Rattle.usb_world.specs.declared.wire.Mark.TheVariants as mark
 use Rattle.usb_world.specs.Wire.{mark_of, harm_to, marked, marked_some}
 use Rattle.usb_world.specs.Paths.{same_number, same_path}
 use Rattle.usb_world.specs.WayEffects.{reset_if}
-use Rattle.usb_world.specs.Exchange.{token_of, payload_of, reply_of, answer_mark, goes_out, heard_all, token_out, payload_out, reply_out, heard_in, mark_in, place_of_answer, ports_in}
-use Rattle.usb_world.specs.Passes.{heard_by, deep_at, attempt_resets, IsSettled, NobodyHolds}
+use Rattle.usb_world.specs.Exchange.{token_of, payload_of, reply_of, answer_mark, goes_out, heard_all, token_out, payload_out, reply_out, heard_in, mark_in, place_of_answer, ports_in, reply_in}
+use Rattle.usb_world.specs.AttemptPackets.{heard_by, deep_at, attempt_resets, IsSettled, NobodyHolds}
 use Rattle.usb_world.specs.World.{World, Made}
 use Rattle.usb_world.specs.Courses.{is_made, resets}
 use Rattle.usb_world.specs.Steps.{is_due, took, due_from, ready, damage_in, with_attempt, outcome_in, attempt, after}
-use Rattle.usb_world.specs.OneHolder.{way_to, way_back, token_way, answer_way, reply_way, setup_alone, out_alone, in_alone, IsSetup, IsOut, IsIn, Holder, ExchangedWithHolder, hears_attempt, AllWhole, IsMade, HolderIn, ExchangedIn}
+use Rattle.usb_world.specs.OneHolder.{way_to, way_back, token_way, answer_way, reply_way, out_alone, in_alone, IsSetup, IsOut, IsIn, hears_attempt, IsMade, HolderIn, payload_way, got}
 use Rattle.usb_world.proofs.Booleans.{no, neither}
 use Rattle.usb_world.proofs.StepInvariants.{settled_happened}
-use Rattle.usb_world.proofs.OneHolder.{replied, outcome_unread, remembers, acts, rests, first, second, third, second_below, is_heard_in, is_state, token_is, none_is, in_same, asked, asked_reply, nobody, setup_one, out_one, in_one}
+use Rattle.usb_world.proofs.OneHolder.{replied, outcome_unread, remembers, acts, rests, first, second, third, second_below, is_heard_in, is_state, token_is, none_is, in_same, asked, asked_reply, nobody, setup_one, out_one, in_one, setup_alone, Holder, ExchangedWithHolder}
 use Rattle.usb_world.proofs.Equality.{unequal, same_equal}
 use Rattle.usb_world.proofs.DueEvents.{due_damage}
+
+-- each packet of an attempt that goes out comes whole
+pub record AllWhole (a : Attempt) (damage : Option Damage) (k : Ports) (deep : Bool) (s : State) : Type 0 where
+  pub token : token_way a damage deep s ≡ whole
+  pub payload : is_some a.payload ≡ true → payload_way a damage deep s ≡ whole
+  pub answer : answer_way a damage k ≡ whole
+  pub reply : is_some (reply_in a damage k) ≡ true → reply_way a damage k deep s ≡ whole
+
+pub record ExchangedIn (a : Attempt) (w : World) (h : HolderIn a w) (r : Reply) : Type 0 where
+  pub outcome : outcome_in a w ≡ got a.max r.0
+  pub state : state_on (after (attempt a) w).roots h.spot ≡ Some r.1
 
 -- A silent device
 
@@ -97,7 +108,7 @@ payload_some a g = go a.payload g
     go None g = g
     go (Some x) g = refl
 
-sound_answer : (n : ℕ) (h : Heard) → answer_mark (harm_to None n) h ≡ mark.Whole
+sound_answer : (n : ℕ) (h : ExchangeAnswer) → answer_mark (harm_to None n) h ≡ mark.Whole
 unfolding answer_mark mark_of harm_to
 sound_answer n Nothing = refl
 sound_answer n Collision = refl

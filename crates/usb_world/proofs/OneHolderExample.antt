@@ -15,9 +15,9 @@ use Rattle.usb_world.specs.Wire.{damage_of}
 use Rattle.usb_world.specs.Losses.{no_losses}
 use Rattle.usb_world.specs.World.{World}
 use Rattle.usb_world.specs.Steps.{due_from, ready, with_attempt, outcome_in, after}
-use Rattle.usb_world.specs.OneHolder.{HolderIn, ExchangedIn}
+use Rattle.usb_world.specs.OneHolder.{HolderIn}
 use Rattle.usb_world.proofs.Booleans.{no}
-use Rattle.usb_world.proofs.OneHolderAttempts.{setup_sound_in}
+use Rattle.usb_world.proofs.OneHolderAttempts.{setup_sound_in, ExchangedIn}
 
 abbrev thing : Spec
 thing = function (0x66 ∷ 0x6e ∷ []) (0x12 ∷ 1 ∷ 0 ∷ 2 ∷ 0 ∷ 0 ∷ 0 ∷ 0x40 ∷ 0x34 ∷ 0x12 ∷ 0x78 ∷ 0x56 ∷ 0 ∷ 1 ∷ 0 ∷ 0 ∷ 0 ∷ 1 ∷ []) ([])

@@ -15,7 +15,7 @@ use Rattle.usb_device.specs.declared.delivery.Content.TheVariants as content
 use Rattle.usb_device.specs.declared.delivery.Sent.{Sent}
 use Rattle.usb_device.specs.declared.effect.Effect.{Effect}
 use Rattle.usb_device.specs.declared.effect.Effect.TheVariants.{Leaves, Calls, PortsOff}
-use Rattle.usb_device.specs.declared.transfer.Memory.TheVariants as memory
+use Rattle.usb_device.specs.declared.transfer.RememberedPacket.TheVariants as memory
 use Rattle.usb_device.specs.Rows.{State, Reply, received, unread, forgotten}
 use Rattle.usb_device.specs.Effect.{asks, asked_by_setup, asked_by_packet}
 use Rattle.usb_device.specs.Attempt.{Way, whole, broken, lost, is_whole, through, is_own}
@@ -24,27 +24,28 @@ use Rattle.usb_device.specs.Delivery.{is_heard, asked_by, effect_of, after_packe
 use Rattle.usb_device.specs.View.{forgotten_place}
 use Rattle.usb_world.specs.declared.types.Attempt.{Attempt}
 use Rattle.usb_world.specs.declared.damage.Damage.{Damage}
-use Rattle.usb_world.specs.declared.exchange.Heard.{Heard}
-use Rattle.usb_world.specs.declared.exchange.Heard.TheVariants as heard
+use Rattle.usb_world.specs.declared.exchange.ExchangeAnswer.{ExchangeAnswer}
+use Rattle.usb_world.specs.declared.exchange.ExchangeAnswer.TheVariants as heard
 use Rattle.usb_world.specs.declared.wire.Mark.{Mark}
 use Rattle.usb_world.specs.declared.wire.Mark.TheVariants as mark
 use Rattle.usb_world.specs.Wire.{is_read, mark_of, harm_to, marked, marked_some}
 use Rattle.usb_world.specs.Paths.{address_of}
 use Rattle.usb_world.specs.Exchange.{token_of, payload_of, reply_of, sent_as, goes_out, token_out, payload_out, reply_out, heard_in, mark_in, place_of_answer, ports_in}
-use Rattle.usb_world.specs.Passes.{passed_place, place_after, deep_at, IsSettled, NobodyHolds, OneHolds}
+use Rattle.usb_world.specs.AttemptPackets.{deep_at, IsSettled, NobodyHolds, OneHolds}
 use Rattle.usb_world.specs.World.{World}
 use Rattle.usb_world.specs.Steps.{ready, damage_in, with_attempt, attempt, after}
-use Rattle.usb_world.specs.OneHolder.{way_to, token_way, payload_way, IsSetup, IsOut, IsIn, Holder, HolderIn, ExchangedWithHolder, setup_alone, out_alone, in_alone, setup_asked}
+use Rattle.usb_world.specs.OneHolder.{way_to, token_way, payload_way, IsSetup, IsOut, IsIn, HolderIn, out_alone, in_alone, setup_asked}
 use Rattle.usb_world.proofs.Booleans.{no, both, and_of, decided}
 use Rattle.usb_world.proofs.Holders.{one_path}
 use Rattle.usb_world.proofs.AttemptPackets.{CalmOut, token_out as token_calm, ack_out as ack_calm, forgotten_off}
 use Rattle.usb_world.proofs.StepInvariants.{settled_called}
-use Rattle.usb_world.proofs.OneDevice.{rest_packet, settled_memory, stands, forgotten_at}
+use Rattle.usb_world.proofs.OneDevice.{rest_packet, settled_memory, stands, forgotten_at, place_after}
 use Rattle.usb_world.proofs.Courses.{goes}
-use Rattle.usb_world.proofs.OneHolder.{holder_holds, acts, rests, ports_by, passed_stands, first, first_below, second, second_below, third, second_place, is_state, token_is, data_is, none_is, token_comes, no_payload, through_spec, way_same, setup_one, out_one, in_one}
+use Rattle.usb_world.proofs.OneHolder.{holder_holds, acts, rests, ports_by, sent_stands, first, first_below, second, second_below, third, second_place, is_state, token_is, data_is, none_is, token_comes, no_payload, through_spec, way_same, setup_one, out_one, in_one, setup_alone, Holder, ExchangedWithHolder}
 use Rattle.usb_world.proofs.OneHolderAttempts.{first_silent, silent_one, made_is, holder_in}
 use Rattle.usb_world.proofs.Equality.{equal_same}
 use Rattle.usb_device.proofs.Interface.{same_number}
+use Rattle.usb_world.proofs.PacketPlaces.{place_after_sent}
 
 -- What stands below the holder
 
@@ -106,25 +107,25 @@ below_nobody n k j p b s below o h i e t at on = pick (decided (n == address_of 
 
 -- Packets that are not for those below
 
-abbrev below_passed : Option Sent → Ports → Ports
-below_passed None x = x
-below_passed (Some q) x = after_packet q true x
+abbrev below_after_sent : Option Sent → Ports → Ports
+below_after_sent None x = x
+below_after_sent (Some q) x = after_packet q true x
 
 -- the packet is for no device that it reaches
 abbrev ForNobody : Packet → Ports → Type 0
 ForNobody p x = (i : ℕ) (e : List ℕ) (t : State) → state_at x i e ≡ Some t → reach_at x i e ≡ true → is_own t p ≡ false
 
-sent_rests : (l pre : Bool) (m : Mark) (p : Packet) (x : Ports) → IsSettled x → ForNobody p x → below_passed (sent_as l pre m p) x ≡ x
+sent_rests : (l pre : Bool) (m : Mark) (p : Packet) (x : Ports) → IsSettled x → ForNobody p x → below_after_sent (sent_as l pre m p) x ≡ x
 sent_rests l pre mark.Whole p x s f = rest_packet (record { low = l; pre = pre; content = content.Whole p }) true x (λ i e t h o. (settled_memory x i e t s h, f i e t h o))
 sent_rests l pre mark.Lost p x s f = refl
 sent_rests l pre mark.PreLost p x s f = rest_packet (record { low = l; pre = false; content = content.Whole p }) true x (λ i e t h o. (settled_memory x i e t s h, f i e t h o))
 sent_rests l pre (mark.Flipped bit) p x s f = rest_packet (record { low = l; pre = pre; content = content.Broken }) true x (λ i e t h o. (settled_memory x i e t s h, refl))
 
-token_rests : (a : Attempt) (d : Option Damage) (x : Ports) → IsSettled x → NobodyHolds a.addr x → below_passed (token_out a d) x ≡ x
+token_rests : (a : Attempt) (d : Option Damage) (x : Ports) → IsSettled x → NobodyHolds a.addr x → below_after_sent (token_out a d) x ≡ x
 unfolding marked token_of
 token_rests a d x s f = sent_rests a.low a.pre (mark_of (harm_to d 1) a.pre (token_of a)) (token_of a) x s f
 
-some_rests : (a : Attempt) (d : Option Damage) (n : ℕ) (o : Option Packet) (x : Ports) → IsSettled x → ((p : Packet) → o ≡ Some p → ForNobody p x) → below_passed (goes_out a (marked_some d n a.pre o)) x ≡ x
+some_rests : (a : Attempt) (d : Option Damage) (n : ℕ) (o : Option Packet) (x : Ports) → IsSettled x → ((p : Packet) → o ≡ Some p → ForNobody p x) → below_after_sent (goes_out a (marked_some d n a.pre o)) x ≡ x
 unfolding marked marked_some
 some_rests a d n None x s f = refl
 some_rests a d n (Some p) x s f = sent_rests a.low a.pre (mark_of (harm_to d n) a.pre p) p x s (f p refl)
@@ -151,7 +152,7 @@ payload_no_token a = go a.payload
     go None = refl
     go (Some x) = refl
 
-reply_no_token : (h : Heard) (m : Mark) (max : ℕ) → no_token (reply_of h m max) ≡ true
+reply_no_token : (h : ExchangeAnswer) (m : Mark) (max : ℕ) → no_token (reply_of h m max) ≡ true
 unfolding reply_of
 reply_no_token heard.Nothing m max = refl
 reply_no_token heard.Collision m max = refl
@@ -169,7 +170,7 @@ abbrev pub asked_of : Option Sent → Bool → State → Effect
 asked_of None deep s = Leaves
 asked_of (Some q) deep s = effect_of q deep s
 
-ports_asked : (deep : Bool) (b : PortState) (o : Option Sent) (s : State) (x : Ports) → ports_by deep b o s x ≡ acted (asked_of o deep s) (below_passed o x)
+ports_asked : (deep : Bool) (b : PortState) (o : Option Sent) (s : State) (x : Ports) → ports_by deep b o s x ≡ acted (asked_of o deep s) (below_after_sent o x)
 ports_asked deep b None s x = refl
 ports_asked deep b (Some q) s x = refl
 
@@ -288,7 +289,7 @@ module _ (a : Attempt) (d : Option Damage) (k : Ports) (h : Holder a.addr k) whe
   second_same : second_below a d k h ≡ acted effect below
   second_same =
       ports_asked (deep_at false p) b (payload_out a d) (first a d k h).1 (first_below a d k h)
-      ∙ ap (λ x. acted effect (below_passed (payload_out a d) x)) first_same
+      ∙ ap (λ x. acted effect (below_after_sent (payload_out a d) x)) first_same
       ∙ ap (acted effect) (some_rests a d 2 (payload_of a) below settled_below (no_token_rests (payload_of a) (payload_no_token a) below))
 
   third_below : Ports
@@ -298,7 +299,7 @@ module _ (a : Attempt) (d : Option Damage) (k : Ports) (h : Holder a.addr k) whe
   unfolding third_below
   third_same =
       ports_asked (deep_at false p) b (reply_out a d k) (second a d k h).1 (second_below a d k h)
-      ∙ ap₂ acted (calm_asked (reply_out a d k) (ack_calm (reply_out a d k) (goes a d k).reply) (deep_at false p) (second a d k h).1) (ap (below_passed (reply_out a d k)) second_same)
+      ∙ ap₂ acted (calm_asked (reply_out a d k) (ack_calm (reply_out a d k) (goes a d k).reply) (deep_at false p) (second a d k h).1) (ap (below_after_sent (reply_out a d k)) second_same)
       ∙ some_rests a d (place_of_answer a d + 1) (reply_of (heard_in a d k) (mark_in a d k) a.max) (acted effect below) settled_end
       (no_token_rests (reply_of (heard_in a d k) (mark_in a d k) a.max) (reply_no_token (heard_in a d k) (mark_in a d k) a.max) (acted effect below))
 
@@ -306,9 +307,9 @@ module _ (a : Attempt) (d : Option Damage) (k : Ports) (h : Holder a.addr k) whe
   unfolding ports_in third_below
   is_place =
       (acts a d k h).place ∙ ap (option_map (place_after (token_out a d) (payload_out a d) (reply_out a d k) (deep_at false p))) h.stands
-      ∙ ap (λ x. Some (forgotten_place (passed_place (reply_out a d k) (deep_at false p) (passed_place (payload_out a d) (deep_at false p) x)))) (passed_stands (deep_at false p) b (token_out a d) s below)
-      ∙ ap (λ x. Some (forgotten_place (passed_place (reply_out a d k) (deep_at false p) x))) (second_place a d k h)
-      ∙ ap (λ x. Some (forgotten_place x)) (passed_stands (deep_at false p) b (reply_out a d k) (second a d k h).1 (second_below a d k h))
+      ∙ ap (λ x. Some (forgotten_place (place_after_sent (reply_out a d k) (deep_at false p) (place_after_sent (payload_out a d) (deep_at false p) x)))) (sent_stands (deep_at false p) b (token_out a d) s below)
+      ∙ ap (λ x. Some (forgotten_place (place_after_sent (reply_out a d k) (deep_at false p) x))) (second_place a d k h)
+      ∙ ap (λ x. Some (forgotten_place x)) (sent_stands (deep_at false p) b (reply_out a d k) (second a d k h).1 (second_below a d k h))
 
   -- the holder with its ports
   pub placed : (r : Reply) → ExchangedWithHolder a d k h r → place_at (ports_in a d k) j p ≡ Some (full b r.1 (acted effect below))

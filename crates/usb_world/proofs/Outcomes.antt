@@ -4,7 +4,7 @@ use Rattle.arrayvec.specs.ArrayVec.{ArrayVec}
 use Rattle.usb_packet.specs.declared.Toggle.{Toggle}
 use Rattle.usb_device.specs.declared.answer.Answer.{Answer}
 use Rattle.usb_device.specs.declared.answer.Answer.TheVariants as answer
-use Rattle.usb_world.specs.declared.exchange.Heard.{Heard}
+use Rattle.usb_world.specs.declared.exchange.ExchangeAnswer.{ExchangeAnswer}
 use Rattle.usb_world.specs.declared.types.Outcome.{Outcome}
 use Rattle.usb_world.specs.declared.types.Outcome.TheVariants.{Payload, Ack, Nak, Stall, Nothing}
 use Rattle.usb_world.specs.declared.wire.Mark.{Mark}
@@ -35,6 +35,6 @@ abbrev pub brings : Outcome → Bool
 brings (Payload t b) = true
 brings o = false
 
-pub acks : (h : Heard) (m : Mark) (max : ℕ) → reply_of h m max ≡ ack_if (brings (outcome_of h m max))
+pub acks : (h : ExchangeAnswer) (m : Mark) (max : ℕ) → reply_of h m max ≡ ack_if (brings (outcome_of h m max))
 unfolding reply_of outcome_of
 acks h m max = grind arith

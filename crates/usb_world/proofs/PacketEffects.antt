@@ -4,15 +4,21 @@ use Rattle.usb_port.specs.PortState.{PortState}
 use Rattle.usb_device.specs.declared.effect.Effect.{Effect}
 use Rattle.usb_device.specs.declared.effect.Effect.TheVariants.{Leaves, Calls, PortsOff}
 use Rattle.usb_device.specs.Rows.{State}
-use Rattle.usb_device.specs.Tree.{Ports, ended, vacant, taken, full, reach_at, state_at, port_at, place_at, acted}
+use Rattle.usb_device.specs.Tree.{Ports, ended, vacant, taken, full, reach_at, state_at, port_at, place_at, acted, Place, empty}
 use Rattle.usb_device.specs.Delivery.{answer_of, effect_of, after_packet}
 use Rattle.usb_device.specs.declared.delivery.Sent.{Sent}
 use Rattle.usb_world.specs.Paths.{live_at, pend_at}
 use Rattle.usb_world.specs.WayEffects.{IsNew, takes_reset, effect_resets, resets_at, reset_if, effect_spares, packet_spares, port_after}
-use Rattle.usb_world.specs.Passes.{deep_at, heard_state}
+use Rattle.usb_world.specs.AttemptPackets.{deep_at}
 use Rattle.usb_world.proofs.Booleans.{both, and_kept, or_kept, either_of, neither, no}
 use Rattle.usb_world.proofs.PortCalls.{off_state, off_reach, off_new, off_port, off_port_below, call_new, call_new_below, call_reach, call_pend, call_live, call_state, call_port, call_port_below}
 use Rattle.usb_world.proofs.States.{kept_state, kept_port}
+
+-- a device's own state after a packet, which reaches it or does not
+abbrev pub heard_state : Sent → Bool → Bool → Option Place → Option State
+heard_state q deep on None = None
+heard_state q deep on (Some (empty b)) = None
+heard_state q deep on (Some (full b s a)) = Some (if on then (answer_of q deep s a).1 else s)
 
 -- a device after a packet, which comes to it or does not
 abbrev pub met : Bool → Sent → Bool → PortState → State → Ports → Ports → Ports

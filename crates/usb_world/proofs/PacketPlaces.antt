@@ -5,12 +5,36 @@ use Rattle.usb_device.specs.declared.delivery.Sent.{Sent}
 use Rattle.usb_device.specs.declared.effect.Effect.{Effect}
 use Rattle.usb_device.specs.declared.effect.Effect.TheVariants.{Leaves, Calls, PortsOff}
 use Rattle.usb_device.specs.Tree.{Ports, ended, vacant, taken, Place, empty, full, acted, reach_at, port_at, place_at}
-use Rattle.usb_device.specs.Delivery.{effect_of, after_packet}
+use Rattle.usb_device.specs.Delivery.{effect_of, after_packet, answer_of}
 use Rattle.usb_world.specs.Paths.{same_number}
-use Rattle.usb_world.specs.WayEffects.{is_left, way_rests, leaves_port, way_leaves, effect_resets, port_after}
-use Rattle.usb_world.specs.Passes.{heard_place, deep_at}
+use Rattle.usb_world.specs.WayEffects.{leaves_port, way_leaves, effect_resets, port_after}
+use Rattle.usb_world.specs.AttemptPackets.{deep_at}
 use Rattle.usb_world.proofs.Booleans.{no, both, and_false, not_true}
 use Rattle.usb_world.proofs.PacketEffects.{true_deep, acted_port, acted_port_below, met}
+
+-- a device with its ports after a packet that reaches it or does not, where no device above it asks anything
+abbrev pub heard_place : Sent → Bool → Bool → Place → Place
+heard_place q deep on (empty b) = empty b
+heard_place q deep on (full b s a) = if on then full b (answer_of q deep s a).1 (acted (effect_of q deep s) (after_packet q true a)) else full b s a
+
+abbrev pub place_after_sent : Option Sent → Bool → Place → Place
+place_after_sent None deep x = x
+place_after_sent (Some q) deep x = heard_place q deep true x
+
+-- a device asks nothing of its ports
+abbrev pub is_left : Effect → Bool
+is_left Leaves = true
+is_left e = false
+
+-- whether no device on the way to a path asks anything of its ports
+unfoldable pub way_rests : Sent → Bool → Ports → ℕ → List ℕ → Bool
+way_rests q deep ended i p = true
+way_rests q deep (vacant b k) zero p = true
+way_rests q deep (vacant b k) (suc i) p = way_rests q deep k i p
+way_rests q deep (taken b s a k) zero [] = true
+way_rests q deep (taken b s a k) zero (zero ∷ p) = true
+way_rests q deep (taken b s a k) zero (suc j ∷ p) = not b.enable || (is_left (effect_of q deep s) && way_rests q true a j p)
+way_rests q deep (taken b s a k) (suc i) p = way_rests q deep k i p
 
 unmoved : (q : Sent) (d : Bool) (o : Option Place) → o ≡ option_map (heard_place q d false) o
 unmoved q d None = refl

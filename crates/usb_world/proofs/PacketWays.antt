@@ -8,11 +8,11 @@ use Rattle.usb_device.specs.Delivery.{effect_of, asks_clearing, clears_change}
 use Rattle.usb_world.specs.declared.types.Attempt.{Attempt}
 use Rattle.usb_world.specs.WayEffects.{effect_resets, resets_at, effect_spares, packet_spares, leaves_port, way_leaves}
 use Rattle.usb_world.specs.Exchange.{token_out, payload_out, clears_at}
-use Rattle.usb_world.specs.Passes.{passed, pass_resets, pass_spares}
+use Rattle.usb_world.specs.AttemptPackets.{after_sent, sent_resets, sent_spares}
 use Rattle.usb_world.specs.World.{World}
 use Rattle.usb_world.specs.Steps.{ready, damage_in, attempt}
 use Rattle.usb_world.specs.Courses.{is_made, made_resets, made_spares, resets, spares_step}
-use Rattle.usb_world.specs.PortRequests.{pass_leaves, made_leaves, leaves_step, AsksNothing}
+use Rattle.usb_world.specs.PortRequests.{sent_leaves, made_leaves, leaves_step, AsksNothing}
 use Rattle.usb_world.proofs.Booleans.{and_of, and_false, or_right, neither_of, and_none}
 use Rattle.usb_world.proofs.AttemptPackets.{CalmOut}
 
@@ -69,19 +69,19 @@ clears_if q deep (taken b s a k) c =
 abbrev pub NoneAsks : Option Sent → Ports → Type 0
 NoneAsks o k = (q : Sent) → o ≡ Some q → (j : ℕ) (e : List ℕ) (t : State) → state_at k j e ≡ Some t → (dp : Bool) → effect_of q dp t ≡ Leaves
 
-pub none_spares : (o : Option Sent) (k : Ports) → NoneAsks o k → (j : ℕ) (p : List ℕ) → pass_spares o k j p ≡ true
+pub none_spares : (o : Option Sent) (k : Ports) → NoneAsks o k → (j : ℕ) (p : List ℕ) → sent_spares o k j p ≡ true
 none_spares None k c j p = refl
 none_spares (Some q) k c j p = spares_if q false k j p (λ e m r t z at dp. ap (λ x. effect_spares x m r) (c q refl j e t at dp))
 
-pub none_leaves : (o : Option Sent) (k : Ports) → NoneAsks o k → (j : ℕ) (p : List ℕ) → pass_leaves o k j p ≡ true
+pub none_leaves : (o : Option Sent) (k : Ports) → NoneAsks o k → (j : ℕ) (p : List ℕ) → sent_leaves o k j p ≡ true
 none_leaves None k c j p = refl
 none_leaves (Some q) k c j p = leaves_if q false k j p (λ e m r t z at dp. ap (λ x. leaves_port x m) (c q refl j e t at dp))
 
-pub none_resets : (o : Option Sent) (k : Ports) → NoneAsks o k → (j : ℕ) (p : List ℕ) → pass_resets o k j p ≡ false
+pub none_resets : (o : Option Sent) (k : Ports) → NoneAsks o k → (j : ℕ) (p : List ℕ) → sent_resets o k j p ≡ false
 none_resets None k c j p = refl
 none_resets (Some q) k c j p = resets_if q false k j p (λ e m r t z at dp a. ap (λ x. effect_resets x a m r) (c q refl j e t at dp))
 
-pub calm_leaves : (o : Option Sent) → CalmOut o → (k : Ports) (j : ℕ) (p : List ℕ) → pass_leaves o k j p ≡ true
+pub calm_leaves : (o : Option Sent) → CalmOut o → (k : Ports) (j : ℕ) (p : List ℕ) → sent_leaves o k j p ≡ true
 calm_leaves None c k j p = refl
 calm_leaves (Some q) c k j p = leaves_if q false k j p (λ e m r t z at dp. ap (λ x. leaves_port x m) (c dp t))
 
@@ -90,7 +90,7 @@ none_clear None k c = refl
 none_clear (Some q) k c = clears_if q false k (λ j e t at dp. ap asks_clearing (c q refl j e t at dp))
 
 -- an attempt that is made, whose data nobody asks anything at
-pub nothing_asked : (a : Attempt) (w : World) (p : List ℕ) → NoneAsks (payload_out a (damage_in (ready w))) (passed (token_out a (damage_in (ready w))) (ready w).roots) → AsksNothing (attempt a) w p
+pub nothing_asked : (a : Attempt) (w : World) (p : List ℕ) → NoneAsks (payload_out a (damage_in (ready w))) (after_sent (token_out a (damage_in (ready w))) (ready w).roots) → AsksNothing (attempt a) w p
 unfolding spares_step resets leaves_step
 nothing_asked a w p c = record { spares = by_spares p; rests = ap (λ x. is_made w.fault w && x) (by_resets p) ∙ and_false (is_made w.fault w); leaves = by_leaves p }
   where

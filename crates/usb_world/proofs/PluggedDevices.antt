@@ -7,7 +7,7 @@ use Rattle.std.proofs.Math.Seq.{take-append_seam, drop-append_seam}
 use Rattle.usb_device.specs.Spec.{Spec}
 use Rattle.usb_port.specs.PortState.{PortState}
 use Rattle.usb_device.specs.Rows.{State}
-use Rattle.usb_device.specs.Tree.{Ports, ended, vacant, taken, Place, empty, full, replaced, changed, port_at, place_at, row_of}
+use Rattle.usb_device.specs.Tree.{Ports, ended, vacant, taken, Place, empty, full, replaced, changed, port_at, place_at, row_of, Spot, path_to, place_on, state_on}
 use Rattle.usb_device.specs.View.{state_there, port_there}
 use Rattle.usb_world.specs.declared.event.Action.{Action}
 use Rattle.usb_world.specs.declared.event.Action.TheVariants.{Plug, Unplug, Show, Send, Receive, Clear}
@@ -15,6 +15,7 @@ use Rattle.usb_world.specs.declared.event.Event.{Event}
 use Rattle.usb_world.specs.declared.types.Attempt.{Attempt}
 use Rattle.usb_world.specs.declared.types.BusFault.{BusFault}
 use Rattle.usb_world.specs.declared.types.BusFault.TheVariants.{LimitReached}
+use Rattle.usb_world.specs.PlanLimits.{after_most}
 use Rattle.usb_world.specs.PlanData.{PlanData, IsPlan, is_taken, action_fits, event_fits, events_fit}
 use Rattle.usb_world.specs.PluggedDevices.{PluggedMap, hub_ports, plugged_by, plugged_after, index_at, device_indexed, is_rooted, has_port}
 use Rattle.usb_world.specs.PlanCourses.{FollowsPlan, AtPorts, PlugsAtPort, spec_of}
@@ -177,7 +178,7 @@ left_next plan past e events w s h =
     let tree = plugged_by [] past in
     let rest : events_fit plan.roots plan.devices tree (e ∷ events) ≡ true = ap (events_fit plan.roots plan.devices tree) (sym s) ∙ h.rest in
     let parts = both (event_fits plan.roots plan.devices tree e) (events_fit plan.roots plan.devices (plugged_after e.action tree) events) rest in
-    let fits = both (nat_le e.after 1000000000) (action_fits plan.roots plan.devices tree e.action) parts.0 in
+    let fits = both (nat_le e.after after_most) (action_fits plan.roots plan.devices tree e.action) parts.0 in
     let paths : AtPorts (e ∷ events) = subst AtPorts s h.paths in
     let stands = standing_next e.action plan.devices plan.roots w.roots tree fits.1 (All-head (λ x. PlugsAtPort x.action) e events paths) h.stands in
     record {
@@ -297,11 +298,11 @@ port_stands_at (taken b s a k) zero (zero ∷ p) = refl
 port_stands_at (taken b s a k) zero (suc j ∷ p) = port_stands_at a j p
 port_stands_at (taken b s a k) (suc i) p = port_stands_at k i p
 
-pub ports_stand : (plan : PlanData) → IsPlan plan → AtPorts plan.events → (w : World) → Course AnyStep (opening plan) w → (i : ℕ) (p : List ℕ) (t : Spec) (m : ℕ)
-    → option_map spec_of (state_there w.roots (suc i ∷ p)) ≡ Some t → m < hub_ports t.hub → is_some (port_there w.roots (suc i ∷ (p ++ (suc m ∷ [])))) ≡ true
-ports_stand plan is paths w c i p t m e l =
+pub ports_stand : (plan : PlanData) → IsPlan plan → AtPorts plan.events → (w : World) → Course AnyStep (opening plan) w → (x : Spot) (t : Spec) (m : ℕ)
+    → option_map spec_of (state_on w.roots x) ≡ Some t → m < hub_ports t.hub → is_some (port_there w.roots (path_to x ++ (suc m ∷ []))) ≡ true
+ports_stand plan is paths w c x t m e l =
     let all : Left_on plan w = what_is_left plan is paths w c in
-    port_stands_at w.roots i (p ++ (suc m ∷ [])) ∙ has_below (shape w.roots) plan.roots i p t m all.1.stands.fits (sym (described_there w.roots (suc i ∷ p)) ∙ e) l
+    port_stands_at w.roots x.row (x.rest ++ (suc m ∷ [])) ∙ has_below (shape w.roots) plan.roots x.row x.rest t m all.1.stands.fits (sym (described_there w.roots (path_to x)) ∙ e) l
 
 fits_row : (k : Ports) (n : ℕ) → Fits (shape k) n → length (row_of k) ≡ n
 unfolding Fits shape row_of
@@ -335,12 +336,12 @@ fits_own (taken b s a k) (suc n) zero (zero ∷ p) h = refl
 fits_own (taken b s a k) (suc n) zero (suc j ∷ p) h = fits_own a (hub_ports s.spec.hub) j p h.0
 fits_own (taken b s a k) (suc n) (suc i) p h = fits_own k n i p h.1
 
-pub ports_counted : (plan : PlanData) → IsPlan plan → AtPorts plan.events → (w : World) → Course AnyStep (opening plan) w → (i : ℕ) (p : List ℕ) (b : PortState) (s : State) (below : Ports)
-    → place_at w.roots i p ≡ Some (full b s below) → length (row_of below) ≡ hub_ports s.spec.hub
+pub ports_counted : (plan : PlanData) → IsPlan plan → AtPorts plan.events → (w : World) → Course AnyStep (opening plan) w → (x : Spot) (b : PortState) (s : State) (below : Ports)
+    → place_on w.roots x ≡ Some (full b s below) → length (row_of below) ≡ hub_ports s.spec.hub
 unfolding row_of
-ports_counted plan is paths w c i p b s below e =
+ports_counted plan is paths w c x b s below e =
     let all : Left_on plan w = what_is_left plan is paths w c in
-    sym (ap (λ o. length (row_of (own_ports o))) e) ∙ fits_own w.roots plan.roots i p all.1.stands.fits ∙ ap own_count e
+    sym (ap (λ o. length (row_of (own_ports o))) e) ∙ fits_own w.roots plan.roots x.row x.rest all.1.stands.fits ∙ ap own_count e
 
 -- the same on the way
 pub undisturbed_way : (x p : List ℕ) (w v : World) → is_way x p ≡ true → Course AnyStep w v → Undisturbed w v p

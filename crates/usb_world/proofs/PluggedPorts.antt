@@ -14,7 +14,7 @@ use Rattle.usb_device.specs.View.{state_there}
 use Rattle.usb_world.specs.declared.damage.Damage.{Damage}
 use Rattle.usb_world.specs.declared.types.Attempt.{Attempt}
 use Rattle.usb_world.specs.Exchange.{ports_in, token_out, payload_out, reply_out}
-use Rattle.usb_world.specs.Passes.{passed, after_attempt}
+use Rattle.usb_world.specs.AttemptPackets.{after_sent, after_attempt}
 use Rattle.usb_world.specs.PluggedDevices.{hub_ports}
 use Rattle.usb_world.specs.PlanCourses.{spec_of}
 use Rattle.usb_world.proofs.PluggedShapes.{Shape, bare, gap, stands, spec_at, spec_there, gaps, put_first, put_at, put_there}
@@ -102,9 +102,9 @@ shape_packet q deep (taken b s a k) = split b.enable (shape_packet q true a) (sh
         ∙ ap₂ (stands s.spec) (shape_acted (effect_of q deep s) (after_packet q true a) ∙ g) r
     split false g r = ap (stands s.spec (shape a)) r
 
-shape_passed : (o : Option Sent) (k : Ports) → shape (passed o k) ≡ shape k
-shape_passed None k = refl
-shape_passed (Some q) k = shape_packet q false k
+shape_sent : (o : Option Sent) (k : Ports) → shape (after_sent o k) ≡ shape k
+shape_sent None k = refl
+shape_sent (Some q) k = shape_packet q false k
 
 shape_forgotten : (k : Ports) → shape (all_forgotten k) ≡ shape k
 unfolding shape all_forgotten
@@ -113,7 +113,7 @@ shape_forgotten (vacant b k) = ap gap (shape_forgotten k)
 shape_forgotten (taken b s a k) = ap₂ (stands s.spec) (shape_forgotten a) (shape_forgotten k)
 
 shape_after : (t d r : Option Sent) (k : Ports) → shape (after_attempt t d r k) ≡ shape k
-shape_after t d r k = shape_forgotten (passed r (passed d (passed t k))) ∙ shape_passed r (passed d (passed t k)) ∙ shape_passed d (passed t k) ∙ shape_passed t k
+shape_after t d r k = shape_forgotten (after_sent r (after_sent d (after_sent t k))) ∙ shape_sent r (after_sent d (after_sent t k)) ∙ shape_sent d (after_sent t k) ∙ shape_sent t k
 
 pub shape_attempt : (a : Attempt) (d : Option Damage) (k : Ports) → shape (ports_in a d k) ≡ shape k
 unfolding ports_in

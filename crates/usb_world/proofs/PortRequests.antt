@@ -10,7 +10,7 @@ use Rattle.usb_request.specs.Codes.{DEVICE, CONFIGURATION, STRING, HUB, GET_STAT
 use Rattle.usb_request.specs.Requests.{descriptor_value}
 use Rattle.usb_request.specs.declared.setup.Setup.{Setup}
 use Rattle.usb_request.specs.Layout.{setup_of}
-use Rattle.usb_device.specs.declared.bulk.Which.{Which}
+use Rattle.usb_device.specs.declared.bulk.ServedEndpoint.{ServedEndpoint}
 use Rattle.usb_port.specs.declared.call.PortCall.{PortCall}
 use Rattle.usb_device.specs.declared.delivery.Content.{Content}
 use Rattle.usb_device.specs.declared.delivery.Content.TheVariants.{Whole, Broken}
@@ -18,8 +18,8 @@ use Rattle.usb_device.specs.declared.delivery.Sent.{Sent}
 use Rattle.usb_device.specs.declared.effect.Effect.{Effect}
 use Rattle.usb_device.specs.declared.effect.Effect.TheVariants.{Leaves, Calls, PortsOff}
 use Rattle.usb_device.specs.declared.request.Registers.{Registers}
-use Rattle.usb_device.specs.declared.transfer.Memory.{Memory}
-use Rattle.usb_device.specs.declared.transfer.Memory.TheVariants.{Nothing, SetupSeen, OutSeen, AckAwaited}
+use Rattle.usb_device.specs.declared.transfer.RememberedPacket.{RememberedPacket}
+use Rattle.usb_device.specs.declared.transfer.RememberedPacket.TheVariants.{Nothing, SetupSeen, OutSeen, AckAwaited}
 use Rattle.usb_device.specs.Spec.{Spec, Hub}
 use Rattle.usb_port.specs.Calls.{set_call, clear_call}
 use Rattle.usb_device.specs.Request.{Outcome, stalled, answers, takes_address, takes_configuration, halts, unhalts, Is, unless, text_asked, asked_descriptor, asked_status, asked_address, asked_configuration, endpoint_of, on_endpoint, asked_hub_descriptor, port_named, told_port, called_at, asked_port_status, port_feature, outcome, is_value}
@@ -30,11 +30,15 @@ use Rattle.usb_world.specs.declared.damage.Damage.{Damage}
 use Rattle.usb_world.specs.declared.types.Attempt.{Attempt}
 use Rattle.usb_world.specs.Wire.{mark_of, harm_to, marked, marked_some}
 use Rattle.usb_world.specs.Exchange.{payload_of, goes_out, payload_out}
-use Rattle.usb_world.specs.Passes.{IfOut}
-use Rattle.usb_world.specs.WayEffects.{is_left}
-use Rattle.usb_world.specs.PortRequests.{is_plain, plain_payload}
+use Rattle.usb_world.specs.AttemptPackets.{IfOut}
+use Rattle.usb_world.specs.PortRequests.{asks_no_port}
 use Rattle.usb_world.proofs.AttemptPackets.{sent_out}
 use Rattle.usb_world.proofs.Booleans.{no, both}
+use Rattle.usb_world.proofs.PacketPlaces.{is_left}
+
+abbrev pub payload_asks_no_port : Option (Toggle × ArrayVec ℕ) → Bool
+payload_asks_no_port None = true
+payload_asks_no_port (Some x) = asks_no_port (setup_of x.1.items)
 
 -- a test that holds of all that a request can ask of ports
 pub record Allows (T : Effect → Bool) (r : Setup) : Type 0 where
@@ -79,7 +83,7 @@ module _ (T : Effect → Bool) (r : Setup) (h : Allows T r) where
       (both_ways (v / 256 == CONFIGURATION) _ _ (both_ways s.stalls.config stalled (text_asked s.configs (v % 256)) h.rests (by_text (slice_get s.configs (v % 256))))
       (both_ways (v / 256 == STRING) _ _ (both_ways s.stalls.string stalled (text_asked s.strings (v % 256)) h.rests (by_text (slice_get s.strings (v % 256)))) h.rests))
 
-  by_endpoint : (f : Which → Outcome) → ((w : Which) → Good (f w)) → (o : Option Which) → Good (on_endpoint f o)
+  by_endpoint : (f : ServedEndpoint → Outcome) → ((w : ServedEndpoint) → Good (f w)) → (o : Option ServedEndpoint) → Good (on_endpoint f o)
   by_endpoint f c None = h.rests
   by_endpoint f c (Some w) = c w
 
@@ -126,7 +130,7 @@ AllowsOut T (Whole (Payload t bytes)) = Allows T (setup_of bytes.items)
 AllowsOut T Broken = T Leaves ≡ true
 AllowsOut T (Whole p) = ⊥
 
-data_allowed : (T : Effect → Bool) (s : State) (m : Memory) (t : Toggle) (b : List ℕ) → Allows T (setup_of b) → T (asked_by_data s m t b) ≡ true
+data_allowed : (T : Effect → Bool) (s : State) (m : RememberedPacket) (t : Toggle) (b : List ℕ) → Allows T (setup_of b) → T (asked_by_data s m t b) ≡ true
 data_allowed T s Nothing t b h = h.rests
 data_allowed T s (OutSeen e) t b h = h.rests
 data_allowed T s (AckAwaited g) t b h = h.rests
@@ -168,12 +172,12 @@ denied : {A : Type 0} (x : Bool) → not x ≡ true → x ≡ true → A
 denied true h e = no h
 denied false h e = no e
 
-pub plain_allows : (r : Setup) → is_plain r ≡ true → Allows is_left r
-plain_allows r h =
+pub no_port_allows : (r : Setup) → asks_no_port r ≡ true → Allows is_left r
+no_port_allows r h =
     let one = both (not (Is r PORT_OUT SET_FEATURE)) (not (Is r PORT_OUT CLEAR_FEATURE) && not (Is r DEVICE_OUT SET_CONFIGURATION)) h in
     let two = both (not (Is r PORT_OUT CLEAR_FEATURE)) (not (Is r DEVICE_OUT SET_CONFIGURATION)) one.1 in
     record { rests = refl; off = λ e. denied (Is r DEVICE_OUT SET_CONFIGURATION) two.1 e; set = λ e c i x y. denied (Is r PORT_OUT SET_FEATURE) one.0 e; clear = λ e c i x y. denied (Is r PORT_OUT CLEAR_FEATURE) two.0 e }
 
-pub plain_payload_allows : (o : Option (Toggle × ArrayVec ℕ)) → plain_payload o ≡ true → PayloadAllows is_left o
-plain_payload_allows None h = tt
-plain_payload_allows (Some x) h = plain_allows (setup_of x.1.items) h
+pub payload_no_port_allows : (o : Option (Toggle × ArrayVec ℕ)) → payload_asks_no_port o ≡ true → PayloadAllows is_left o
+payload_no_port_allows None h = tt
+payload_no_port_allows (Some x) h = no_port_allows (setup_of x.1.items) h

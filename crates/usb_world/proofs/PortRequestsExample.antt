@@ -2,13 +2,12 @@
 use Rattle.std.proofs.Common.{◌≡◌, true, false, [], ◌∷◌, None, Some, refl}
 use Rattle.usb_packet.specs.declared.TokenKind.TheVariants.{OutTok}
 use Rattle.usb_packet.specs.declared.Toggle.TheVariants.{Zero}
-use Rattle.usb_device.specs.declared.transfer.Memory.TheVariants.{SetupSeen}
+use Rattle.usb_device.specs.declared.transfer.RememberedPacket.TheVariants.{SetupSeen}
 use Rattle.usb_device.specs.Spec.{Spec, function, usual_hub}
 use Rattle.usb_device.specs.Tree.{Ports, ended, vacant, taken, place_at}
 use Rattle.usb_device.specs.Rows.{fresh, received, unread}
 use Rattle.usb_device.specs.Request.{outcome}
 use Rattle.usb_device.specs.Effect.{asks}
-use Rattle.usb_port.specs.Calls.{set_call, clear_call}
 use Rattle.usb_device.specs.Delivery.{answer_of, effect_of, after_packet}
 use Rattle.usb_request.specs.Layout.{setup_of}
 use Rattle.usb_port.specs.PortState.{full, nothing}
@@ -22,7 +21,8 @@ use Rattle.usb_world.specs.WayEffects.{resets_at}
 use Rattle.usb_world.specs.World.{World}
 use Rattle.usb_world.specs.Steps.{due_from, ready, attempt}
 use Rattle.usb_world.specs.Courses.{resets}
-use Rattle.usb_world.specs.PortRequests.{change_told_at, change_told, plain_data}
+use Rattle.usb_world.proofs.ToldChanges.{change_told_at, change_told}
+use Rattle.usb_world.proofs.RestingAttempts.{data_asks_no_port}
 
 -- a port without power whose change bit is set: it is told there and not pending
 abbrev unpowered : Ports
@@ -58,6 +58,6 @@ awaiting = record {
 abbrev sends_out : Attempt
 sends_out = record { kind = OutTok; addr = 1; ep = 0; low = false; pre = false; max = 64; payload = Some (Zero, record { items = 0x23 ∷ 3 ∷ 4 ∷ 0 ∷ 1 ∷ 0 ∷ 0 ∷ 0 ∷ [] }) }
 
-resets_by_out : (plain_data sends_out.kind sends_out.payload ≡ true) × (resets (attempt sends_out) awaiting (1 ∷ 1 ∷ []) ≡ true)
+resets_by_out : (data_asks_no_port sends_out.kind sends_out.payload ≡ true) × (resets (attempt sends_out) awaiting (1 ∷ 1 ∷ []) ≡ true)
 unfolding resets resets_at due_from ready marked marked_some mark_of harm_to damage_of bit_count token_of payload_of place_at received unread fresh asks answer_of effect_of after_packet setup_of outcome
 resets_by_out = (refl, refl)

@@ -1,17 +1,16 @@
 -- Devices that are reachable after an attempt, or the events before it: the one that holds its address still is, and each was before.
-use Rattle.std.proofs.Common.{◌≡◌, ℕ, suc, true, false, List, ◌∷◌, Option, Some, option_map, refl, sym, ap, ap₂, ◌∙◌}
+use Rattle.std.proofs.Common.{◌≡◌, ℕ, true, false, List, Option, Some, option_map, refl, sym, ap, ap₂, ◌∙◌}
 use Rattle.std.proofs.lemmas.Option.{same_Some}
-use Rattle.usb_port.specs.PortState.{PortState}
 use Rattle.usb_device.specs.Rows.{State}
 use Rattle.usb_device.specs.Tree.{Ports, reach_at, state_at, Spot, path_to, reach_on, state_on}
 use Rattle.usb_device.specs.Delivery.{held, is_twice}
 use Rattle.usb_world.specs.declared.types.Attempt.{Attempt}
 use Rattle.usb_world.specs.declared.damage.Damage.{Damage}
 use Rattle.usb_world.specs.Exchange.{token_out, payload_out, reply_out, ports_in}
-use Rattle.usb_world.specs.Passes.{passed}
+use Rattle.usb_world.specs.AttemptPackets.{after_sent}
 use Rattle.usb_world.specs.World.{World}
 use Rattle.usb_world.specs.Steps.{ready, damage_in, with_attempt, attempt, after}
-use Rattle.usb_world.specs.OneHolder.{IsMade, Holder, HolderIn}
+use Rattle.usb_world.specs.OneHolder.{IsMade, HolderIn}
 use Rattle.usb_world.specs.Addresses.{is_setup}
 use Rattle.usb_world.specs.Paths.{address_of}
 use Rattle.usb_world.proofs.AddressesInTransfers.{data_calm}
@@ -19,14 +18,14 @@ use Rattle.usb_world.proofs.AddressesKept.{due_state}
 use Rattle.usb_world.proofs.AttemptPackets.{forgotten_reach}
 use Rattle.usb_world.proofs.Courses.{due_reach, made_reach}
 use Rattle.usb_world.proofs.Holders.{one_path}
-use Rattle.usb_world.proofs.OneHolder.{acts}
+use Rattle.usb_world.proofs.OneHolder.{acts, Holder}
 use Rattle.usb_world.proofs.OneHolderAttempts.{made_is, holder_in, ready_settled}
 
 -- forgetting what is remembered changes no port
 pub stays_reachable : (a : Attempt) (d : Option Damage) (k : Ports) (h : Holder a.addr k) → reach_on (ports_in a d k) h.spot ≡ true
 unfolding ports_in
 stays_reachable a d k h =
-    forgotten_reach (passed (reply_out a d k) (passed (payload_out a d) (passed (token_out a d) k))) h.spot.row h.spot.rest ∙ (acts a d k h).on
+    forgotten_reach (after_sent (reply_out a d k) (after_sent (payload_out a d) (after_sent (token_out a d) k))) h.spot.row h.spot.rest ∙ (acts a d k h).on
 
 pub stays_reachable_in : (a : Attempt) (w : World) (h : HolderIn a w) → reach_on (after (attempt a) w).roots h.spot ≡ true
 unfolding with_attempt

@@ -10,15 +10,15 @@ use Rattle.usb_device.specs.Tree.{Ports}
 use Rattle.usb_device.specs.Delivery.{all_forgotten}
 use Rattle.usb_device.specs.StoppedPackets.{Stopped, behind_empty, behind, below, here}
 use Rattle.usb_world.specs.declared.damage.Damage.{Damage}
-use Rattle.usb_world.specs.declared.exchange.Heard.{Heard}
-use Rattle.usb_world.specs.declared.exchange.Heard.TheVariants as heard
+use Rattle.usb_world.specs.declared.exchange.ExchangeAnswer.{ExchangeAnswer}
+use Rattle.usb_world.specs.declared.exchange.ExchangeAnswer.TheVariants as heard
 use Rattle.usb_world.specs.declared.types.Attempt.{Attempt}
 use Rattle.usb_world.specs.declared.wire.Mark.{Mark}
 use Rattle.usb_world.specs.declared.wire.Mark.TheVariants as mark
 use Rattle.usb_world.specs.declared.wire.Outgoing.{Outgoing}
 use Rattle.usb_world.specs.Wire.{is_read, marked, marked_some}
 use Rattle.usb_world.specs.Exchange.{token_of, reply_of, sent_as, goes_out, token_out, payload_out}
-use Rattle.usb_world.specs.Passes.{passed}
+use Rattle.usb_world.specs.AttemptPackets.{after_sent}
 use Rattle.usb_world.specs.CutPackets.{IsStopped}
 use Rattle.usb_world.specs.Steps.{IsCut}
 use Rattle.usb_world.proofs.Booleans.{no, and_false}
@@ -63,7 +63,7 @@ still_token : (s : State) (a : Attempt) → sink_grows s (token_of a) ≡ false
 unfolding token_of
 still_token s a = and_false (not s.spec.silent)
 
-still_reply : (s : State) (h : Heard) (m : Mark) (max : ℕ) → grows_some s (reply_of h m max) ≡ false
+still_reply : (s : State) (h : ExchangeAnswer) (m : Mark) (max : ℕ) → grows_some s (reply_of h m max) ≡ false
 unfolding reply_of
 still_reply s heard.Nothing m max = refl
 still_reply s heard.Collision m max = refl
@@ -82,12 +82,12 @@ token_not_stopped a d x k m is h =
     let P : Outgoing → Type 0 = λ y. IsStopped (goes_out a (Some y)) k m in
     not_stopped_out (token_out a d) k m (λ s. still_sent s a.low a.pre (marked d 1 a.pre (token_of a)).mark (token_of a) (still_token s a)) (subst P is h)
 
-pub reply_not_stopped : (a : Attempt) (d : Option Damage) (n : ℕ) (h : Heard) (mk : Mark) (max : ℕ) (x : Option Outgoing) (k m : Ports) → x ≡ marked_some d n a.pre (reply_of h mk max) → IsStopped (goes_out a x) k m → ⊥
+pub reply_not_stopped : (a : Attempt) (d : Option Damage) (n : ℕ) (h : ExchangeAnswer) (mk : Mark) (max : ℕ) (x : Option Outgoing) (k m : Ports) → x ≡ marked_some d n a.pre (reply_of h mk max) → IsStopped (goes_out a x) k m → ⊥
 reply_not_stopped a d n h mk max x k m is stopped =
     let P : Option Outgoing → Type 0 = λ y. IsStopped (goes_out a y) k m in
     not_stopped_out (goes_out a (marked_some d n a.pre (reply_of h mk max))) k m (λ s. still_marked s a d n (reply_of h mk max) (still_reply s h mk max)) (subst P is stopped)
 
 -- where it was refused, nothing is remembered of it after the attempt
-pub over_cut : {A E : Type 0} (a : Attempt) (d : Option Damage) (k j m : Ports) (r : Result A E) → m ≡ all_forgotten j → OnErr r (IsStopped (payload_out a d) (passed (token_out a d) k) j) → OnErr r (IsCut a d k m)
+pub over_cut : {A E : Type 0} (a : Attempt) (d : Option Damage) (k j m : Ports) (r : Result A E) → m ≡ all_forgotten j → OnErr r (IsStopped (payload_out a d) (after_sent (token_out a d) k) j) → OnErr r (IsCut a d k m)
 over_cut a d k j m (Ok x) e h = h
 over_cut a d k j m (Err x) e h = record { sent = h.sent; went = h.went; tree = j; stopped = h.stopped; is = e }

@@ -9,17 +9,16 @@ use Rattle.usb_world.specs.declared.types.BusFault.{BusFault}
 use Rattle.usb_world.specs.declared.types.BusFault.TheVariants.{LimitReached, Memory, TraceFailed}
 use Rattle.usb_world.specs.declared.types.Outcome.{Outcome}
 use Rattle.usb_world.specs.Paths.{address_of}
-use Rattle.usb_world.specs.Passes.{IsSettled}
+use Rattle.usb_world.specs.AttemptPackets.{IsSettled}
 use Rattle.usb_world.specs.SanePorts.{IsSane}
 use Rattle.usb_world.specs.World.{World, IsAttempt, Attempted}
 use Rattle.usb_world.specs.Courses.{address_at, Own, Injective}
 use Rattle.usb_world.specs.Steps.{took_first, event_taken, event, after, ready, damage_in, with_attempt, Coming, nothing_yet, next_came, Left, at_event, at_packet, at_line, GaveUp, AttemptFails, attempt, IsBetween, IsCut}
-use Rattle.usb_world.specs.AlikeTrees.{self_of}
 use Rattle.usb_world.proofs.StepInvariants.{between_ready, between_after}
 use Rattle.usb_world.proofs.AddressesKept.{step_own, ready_unshared, ready_own}
 use Rattle.usb_world.proofs.Booleans.{no}
 use Rattle.usb_world.proofs.OneHolderAttempts.{ready_settled, at_limit}
-use Rattle.usb_world.proofs.AlikeTrees.{Alike}
+use Rattle.usb_world.proofs.AlikeTrees.{Alike, self_of}
 use Rattle.usb_world.proofs.CutPackets.{cut_alike}
 use Rattle.usb_world.proofs.DueEvents.{came_fault, came_shared}
 

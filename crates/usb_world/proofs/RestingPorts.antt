@@ -18,13 +18,13 @@ use Rattle.usb_world.specs.declared.types.BusFault.{BusFault}
 use Rattle.usb_world.specs.declared.types.BusFault.TheVariants.{LimitReached}
 use Rattle.usb_world.specs.Exchange.{token_out, payload_out, reply_out, ports_in}
 use Rattle.usb_world.specs.Paths.{is_way, on_way, same_number, live, pend}
-use Rattle.usb_world.specs.Passes.{passed, after_attempt, IsAttemptAt}
+use Rattle.usb_world.specs.AttemptPackets.{after_sent, after_attempt, IsAttemptAt}
 use Rattle.usb_world.specs.PlanCourses.{spec_of}
 use Rattle.usb_world.specs.WayEffects.{leaves_port, way_leaves}
 use Rattle.usb_world.specs.World.{World}
 use Rattle.usb_world.specs.Steps.{with_plugged, happened, way_of, names_path, is_due, took, took_first, due_from, ready, damage_in, with_attempt, attempted, event_taken, Step, attempt, root_call, event, report, after, Course, here, step}
 use Rattle.usb_world.specs.Courses.{made_spares, spares_step, Spares}
-use Rattle.usb_world.specs.PortRequests.{pass_leaves, made_leaves, root_leaves, leaves_step}
+use Rattle.usb_world.specs.PortRequests.{sent_leaves, made_leaves, root_leaves, leaves_step}
 use Rattle.usb_world.specs.RestingPorts.{SameAt, AsksNothingOf, RestsOrPends, StandsOrPends}
 use Rattle.usb_world.proofs.Booleans.{no, both}
 use Rattle.usb_world.proofs.PlugEvents.{event_place}
@@ -173,17 +173,17 @@ packet_on q deep (taken b s a k) zero (suc j ∷ p) h = split b.enable h (packet
 packet_on q deep (taken b s a k) (suc j) p h =
     elim b.enable as (λ x. reach_at (met x q deep b s a (after_packet q deep k)) (suc j) p ≡ reach_at k j p) [ true ↦ packet_on q deep k j p h | false ↦ packet_on q deep k j p h ]
 
-pass_on : (o : Option Sent) (k : Ports) (j : ℕ) (p : List ℕ) → pass_leaves o k j p ≡ true → reach_at (passed o k) j p ≡ reach_at k j p
-pass_on None k j p h = refl
-pass_on (Some q) k j p h = packet_on q false k j p h
+sent_on : (o : Option Sent) (k : Ports) (j : ℕ) (p : List ℕ) → sent_leaves o k j p ≡ true → reach_at (after_sent o k) j p ≡ reach_at k j p
+sent_on None k j p h = refl
+sent_on (Some q) k j p h = packet_on q false k j p h
 
-attempt_on : (n : ℕ) (t d r : Option Sent) → IsAttemptAt n t d r → (k : Ports) (j : ℕ) (p : List ℕ) → pass_leaves d (passed t k) j p ≡ true
+attempt_on : (n : ℕ) (t d r : Option Sent) → IsAttemptAt n t d r → (k : Ports) (j : ℕ) (p : List ℕ) → sent_leaves d (after_sent t k) j p ≡ true
     → reach_at (after_attempt t d r k) j p ≡ reach_at k j p
 attempt_on n t d r is k j p h =
-    forgotten_reach (passed r (passed d (passed t k))) j p
-    ∙ pass_on r (passed d (passed t k)) j p (calm_leaves r (ack_calm r is.reply) (passed d (passed t k)) j p)
-    ∙ pass_on d (passed t k) j p h
-    ∙ pass_on t k j p (calm_leaves t (token_calm n t is.token) k j p)
+    forgotten_reach (after_sent r (after_sent d (after_sent t k))) j p
+    ∙ sent_on r (after_sent d (after_sent t k)) j p (calm_leaves r (ack_calm r is.reply) (after_sent d (after_sent t k)) j p)
+    ∙ sent_on d (after_sent t k) j p h
+    ∙ sent_on t k j p (calm_leaves t (token_calm n t is.token) k j p)
 
 made_on : (a : Attempt) (w : World) (p : List ℕ) → made_leaves a w p ≡ true → reach (with_attempt a w).roots p ≡ reach w.roots p
 unfolding with_attempt ports_in

@@ -5,19 +5,17 @@ use Rattle.usb_device.specs.declared.answer.Answer.{Answer}
 use Rattle.usb_device.specs.declared.delivery.Heard.{Heard}
 use Rattle.usb_device.specs.declared.delivery.Heard.TheVariants.{NoAnswer}
 use Rattle.usb_device.specs.declared.delivery.Sent.{Sent}
-use Rattle.usb_device.specs.declared.effect.Effect.{Effect}
-use Rattle.usb_device.specs.declared.effect.Effect.TheVariants.{Leaves, Calls, PortsOff}
-use Rattle.usb_device.specs.declared.transfer.Memory.TheVariants.{Nothing}
+use Rattle.usb_device.specs.declared.transfer.RememberedPacket.TheVariants.{Nothing}
 use Rattle.usb_device.specs.Rows.{State, awaits_address, awaits_control, ends_with_address}
 use Rattle.usb_device.specs.StoppedPackets.{Stopped, behind_empty, behind, below, here}
 use Rattle.usb_device.specs.Tree.{Ports, ended, vacant, taken, Plugged, Place, empty, full, before, acted, changed_at, changed, plugged_at, device_there, reach_at, state_at, place_at, row_of}
 use Rattle.usb_device.specs.Delivery.{listed, held, is_twice, answer_of, effect_of, after_packet, delivered_place, delivered_device, on_port, heard_of, heard_from, both, all_forgotten, has_loss, asks_clearing, clears_change, figure}
-use Rattle.usb_device.specs.Route.{sent_in, answer_by, RefusedBy, asked_call, call_by, forgotten_in, holds_by, is_held_at}
+use Rattle.usb_device.specs.Route.{sent_in, answer_by, RefusedBy, effect_by, forgotten_in, holds_by, is_held_at}
 use Rattle.usb_device.proofs.Interface.{figure-after, row_of-after}
 use Rattle.usb_world.specs.declared.types.Attempt.{Attempt}
 use Rattle.usb_world.specs.declared.damage.Damage.{Damage}
 use Rattle.usb_world.specs.Paths.{address_of}
-use Rattle.usb_world.specs.Passes.{passed, answers_to, answer_at, deep_at, IfOut, IsTokenFor, IsDataOut, IsAckOut, IsSettled}
+use Rattle.usb_world.specs.AttemptPackets.{after_sent, answers_to, deep_at, IfOut, IsTokenFor, IsDataOut, IsAckOut, IsSettled}
 use Rattle.usb_world.specs.Exchange.{token_out, clears_at}
 use Rattle.usb_world.specs.CutPackets.{IsStopped}
 use Rattle.usb_world.specs.declared.route.Hints.{Hints}
@@ -27,7 +25,7 @@ use Rattle.usb_world.proofs.Booleans.{no, both as both_true, and_of, or_nothing}
 use Rattle.usb_world.proofs.PacketEffects.{true_deep}
 use Rattle.usb_world.proofs.AttemptPackets.{rested_answer, ack_calls}
 use Rattle.usb_world.proofs.PacketWays.{clears_if}
-use Rattle.usb_world.proofs.OneDevice.{IsRested, OthersRest, Pass, one_pass, rest_packet, rested_effect, others_answer, settled_memory, other_address, token_calls, payload_calls}
+use Rattle.usb_world.proofs.OneDevice.{IsRested, OthersRest, SentToOne, sent_to_one, rest_packet, rested_effect, others_answer, settled_memory, other_address, token_calls, payload_calls, answer_at}
 use Rattle.usb_world.proofs.Courses.{goes}
 use Rattle.usb_world.proofs.Equality.{equal_same}
 use Rattle.usb_world.proofs.States.{forgets}
@@ -87,25 +85,16 @@ heard_place_by q deep None = refl
 heard_place_by q deep (Some (empty b)) = refl
 heard_place_by q deep (Some (full b s a)) = heard_one (answer_of q deep s a).0
 
-abbrev clears_by : Option Bool → Bool
-clears_by None = false
-clears_by (Some x) = x
-
-clears_asked : (e : Effect) → asks_clearing e ≡ clears_by (asked_call e)
-clears_asked Leaves = refl
-clears_asked (Calls c i) = refl
-clears_asked PortsOff = refl
-
 rest_clears : (q : Sent) (deep : Bool) (k : Ports) → ((i : ℕ) (e : List ℕ) (t : State) → state_at k i e ≡ Some t → t.memory ≡ Nothing) → clears_change q deep k ≡ false
 rest_clears q deep k c = clears_if q deep k (λ i e t at dp. ap asks_clearing (rested_effect q dp t (c i e t at)))
 
-others_clear : (q : Sent) (deep : Bool) (k : Ports) (j : ℕ) (p : List ℕ) → reach_at k j p ≡ true → OthersForgot k j p → clears_change q deep k ≡ clears_by (call_by q (deep_at deep p) (plugged_at k j p))
+others_clear : (q : Sent) (deep : Bool) (k : Ports) (j : ℕ) (p : List ℕ) → reach_at k j p ≡ true → OthersForgot k (record { row = j; rest = p }) → clears_change q deep k ≡ asks_clearing (effect_by q (deep_at deep p) (plugged_at k j p))
 unfolding clears_change state_at reach_at plugged_at
 others_clear q deep ended j p h c = no h
 others_clear q deep (vacant b k) zero p h c = no h
 others_clear q deep (vacant b k) (suc j) p h c = others_clear q deep k j p h (λ i e. c (suc i) e)
 others_clear q deep (taken b s a k) zero [] h c =
-    rw (h, rest_clears q true a (λ i e t f. c zero (suc i ∷ e) t refl f), rest_clears q deep k (λ i e t f. c (suc i) e t refl f), clears_asked (effect_of q deep s)) (twice (clears_by (asked_call (effect_of q deep s))))
+    rw (h, rest_clears q true a (λ i e t f. c zero (suc i ∷ e) t refl f), rest_clears q deep k (λ i e t f. c (suc i) e t refl f)) (twice (asks_clearing (effect_of q deep s)))
   where
     twice : (x : Bool) → ((x || false) || false) ≡ x
     twice true = refl
@@ -114,9 +103,9 @@ others_clear q deep (taken b s a k) zero (zero ∷ p) h c = no h
 others_clear q deep (taken b s a k) zero (suc j ∷ p) h c =
     let on : _ = both_true b.enable (reach_at a j p) h in
     rw (on.0, rested_effect q deep s (c zero [] s refl refl), others_clear q true a j p on.1 (λ i e t d f. c zero (suc i ∷ e) t d f), rest_clears q deep k (λ i e t f. c (suc i) e t refl f), true_deep p)
-    (or_nothing (clears_by (call_by q true (plugged_at a j p))))
+    (or_nothing (asks_clearing (effect_by q true (plugged_at a j p))))
 others_clear q deep (taken b s a k) (suc j) p h c =
-    rw (rested_effect q deep s (c zero [] s refl refl), rest_clears q true a (λ i e t f. c zero (suc i ∷ e) t refl f), others_clear q deep k j p h (λ i e. c (suc i) e)) (first b.enable (clears_by (call_by q (deep_at deep p) (plugged_at k j p))))
+    rw (rested_effect q deep s (c zero [] s refl refl), rest_clears q true a (λ i e t f. c zero (suc i ∷ e) t refl f), others_clear q deep k j p h (λ i e. c (suc i) e)) (first b.enable (asks_clearing (effect_by q (deep_at deep p) (plugged_at k j p))))
   where
     first : (x y : Bool) → ((x && false) || y) ≡ y
     first true y = refl
@@ -130,7 +119,7 @@ rest_forget ended c = refl
 rest_forget (vacant b k) c = ap (vacant b) (rest_forget k (λ i e. c (suc i) e))
 rest_forget (taken b s a k) c = rw (forgets s (c zero [] s refl), rest_forget a (λ i e. c zero (suc i ∷ e)), rest_forget k (λ i e. c (suc i) e)) refl
 
-pub others_forget : (k : Ports) (j : ℕ) (p : List ℕ) → reach_at k j p ≡ true → OthersForgot k j p → all_forgotten k ≡ changed_at forgotten_in k j p
+pub others_forget : (k : Ports) (j : ℕ) (p : List ℕ) → reach_at k j p ≡ true → OthersForgot k (record { row = j; rest = p }) → all_forgotten k ≡ changed_at forgotten_in k j p
 unfolding all_forgotten state_at reach_at changed_at
 others_forget ended j p h c = no h
 others_forget (vacant b k) zero p h c = no h
@@ -157,7 +146,7 @@ abbrev pub loss_by : Option Plugged → Bool
 loss_by None = false
 loss_by (Some t) = awaits_address t.own
 
-pub others_loss : (k : Ports) (j : ℕ) (p : List ℕ) → reach_at k j p ≡ true → OthersForgot k j p → has_loss k ≡ loss_by (plugged_at k j p)
+pub others_loss : (k : Ports) (j : ℕ) (p : List ℕ) → reach_at k j p ≡ true → OthersForgot k (record { row = j; rest = p }) → has_loss k ≡ loss_by (plugged_at k j p)
 unfolding has_loss state_at reach_at plugged_at
 others_loss ended j p h c = no h
 others_loss (vacant b k) zero p h c = no h
@@ -203,11 +192,11 @@ others_stop q deep (taken b s a k) (suc j) p h c r =
 
 -- ---- by paths
 
-pub others_rest : (q : Sent) (k : Ports) (j : ℕ) (p : List ℕ) → Alone (Some q) k j p → OthersRest q k j p
+pub others_rest : (q : Sent) (k : Ports) (j : ℕ) (p : List ℕ) → Alone (Some q) k (record { row = j; rest = p }) → OthersRest q k j p
 others_rest q k j p h i e t d f on = (h.forgot i e t d f, h.uncalled q refl i e t d f on)
 
 module _ (q : Sent) (k : Ports) where
-  ports_of : (m : Ports) (p : List ℕ) → is_whole_tree p ≡ false → AloneAt (Some q) k p → m ≡ changed (sent_in q (is_deep p)) k p → m ≡ passed (Some q) k
+  ports_of : (m : Ports) (p : List ℕ) → is_whole_tree p ≡ false → AloneAt (Some q) k p → m ≡ changed (sent_in q (is_deep p)) k p → m ≡ after_sent (Some q) k
   ports_of m [] f h e = no (sym f)
   ports_of m (zero ∷ p) f h e = absurd h
   ports_of m (suc j ∷ p) f h e = e ∙ sym (others_packet q false k j p h.on (others_rest q k j p h))
@@ -230,10 +219,10 @@ module _ (o : Option Sent) (q : Sent) (deep : Bool) (k m : Ports) (p : List ℕ)
   alone_some : AloneAt (Some q) k p
   alone_some = subst (λ x. AloneAt x k p) is h
 
-  ports_to : m ≡ changed (sent_in q deep) k p → m ≡ passed o k
-  ports_to e = subst (λ x. m ≡ passed x k) (sym is) (ports_of q k m p f alone_some (e ∙ ap (λ x. changed (sent_in q x) k p) at))
+  ports_to : m ≡ changed (sent_in q deep) k p → m ≡ after_sent o k
+  ports_to e = subst (λ x. m ≡ after_sent x k) (sym is) (ports_of q k m p f alone_some (e ∙ ap (λ x. changed (sent_in q x) k p) at))
 
-  pub route_ports : {A E : Type 0} (r : Result A E) → OnOk r (m ≡ changed (sent_in q deep) k p) → OnOk r (m ≡ passed o k)
+  pub route_ports : {A E : Type 0} (r : Result A E) → OnOk r (m ≡ changed (sent_in q deep) k p) → OnOk r (m ≡ after_sent o k)
   route_ports (Ok x) e = ports_to e
   route_ports (Err x) e = e
 
@@ -247,11 +236,11 @@ module _ (o : Option Sent) (q : Sent) (deep : Bool) (k m : Ports) (p : List ℕ)
   route_stopped (Err x) e w = subst (λ y. IsStopped y k m) (sym is) (stopped_of q k m p f alone_some e (subst (λ y. RefusedBy q y (device_there k p)) at w))
 
   pub route_row : {A E : Type 0} (r : Result A E) → OnOk r (m ≡ changed (sent_in q deep) k p) → OnErr r (m ≡ k) → row_of m ≡ row_of k
-  route_row (Ok x) e w = ap row_of (ports_to e) ∙ ap (λ y. row_of (passed y k)) is ∙ row_of-after q false k
+  route_row (Ok x) e w = ap row_of (ports_to e) ∙ ap (λ y. row_of (after_sent y k)) is ∙ row_of-after q false k
   route_row (Err x) e w = ap row_of w
 
   pub route_figure : {A E : Type 0} (r : Result A E) → OnOk r (m ≡ changed (sent_in q deep) k p) → OnErr r (m ≡ k) → figure m ≡ figure k
-  route_figure (Ok x) e w = ap figure (ports_to e) ∙ ap (λ y. figure (passed y k)) is ∙ figure-after q false k
+  route_figure (Ok x) e w = ap figure (ports_to e) ∙ ap (λ y. figure (after_sent y k)) is ∙ figure-after q false k
   route_figure (Err x) e w = ap figure w
 
 pub alone_less : (o : Option Sent) (k : Ports) (p : List ℕ) → AloneAt o k p → AloneAt None k p
@@ -259,18 +248,18 @@ alone_less o k [] h = tt
 alone_less o k (zero ∷ p) h = h
 alone_less o k (suc j ∷ p) h = record { on = h.on; forgot = h.forgot; uncalled = λ q e i x t d f on. no (ap is_some e) }
 
-pub alone_passed : (o : Option Sent) (k : Ports) (p : List ℕ) → AloneAt o k p → AloneAt None (passed o k) p
-alone_passed o k [] h = tt
-alone_passed o k (zero ∷ p) h = h
-alone_passed o k (suc j ∷ p) h =
-    let x : Pass o k j p = one_pass o k j p h.on h.forgot h.uncalled in
+pub alone_sent : (o : Option Sent) (k : Ports) (p : List ℕ) → AloneAt o k p → AloneAt None (after_sent o k) p
+alone_sent o k [] h = tt
+alone_sent o k (zero ∷ p) h = h
+alone_sent o k (suc j ∷ p) h =
+    let x : SentToOne o k (record { row = j; rest = p }) = sent_to_one o k (record { row = j; rest = p }) h.on h.forgot h.uncalled in
     record { on = x.on; forgot = x.forgot; uncalled = λ q e i x t d f on. no (ap is_some e) }
 
-pub alone_after : {A E : Type 0} (r : Result A E) (o : Option Sent) (k m : Ports) (p : List ℕ) → AloneAt o k p → OnOk r (m ≡ passed o k) → OnErr r (m ≡ k) → AloneAt None m p
-alone_after (Ok x) o k m p h e w = subst (λ y. AloneAt None y p) (sym e) (alone_passed o k p h)
+pub alone_after : {A E : Type 0} (r : Result A E) (o : Option Sent) (k m : Ports) (p : List ℕ) → AloneAt o k p → OnOk r (m ≡ after_sent o k) → OnErr r (m ≡ k) → AloneAt None m p
+alone_after (Ok x) o k m p h e w = subst (λ y. AloneAt None y p) (sym e) (alone_sent o k p h)
 alone_after (Err x) o k m p h e w = subst (λ y. AloneAt None y p) (sym w) (alone_less o k p h)
 
-pub route_clears : (q : Sent) (k : Ports) (p : List ℕ) → is_whole_tree p ≡ false → AloneAt (Some q) k p → clears_by (call_by q (is_deep p) (device_there k p)) ≡ clears_at (Some q) k
+pub route_clears : (q : Sent) (k : Ports) (p : List ℕ) → is_whole_tree p ≡ false → AloneAt (Some q) k p → asks_clearing (effect_by q (is_deep p) (device_there k p)) ≡ clears_at (Some q) k
 route_clears q k [] f h = no (sym f)
 route_clears q k (zero ∷ p) f h = absurd h
 route_clears q k (suc j ∷ p) f h = sym (others_clear q false k j p h.on h.forgot)

@@ -1,26 +1,27 @@
 -- An attempt that goes straight to one device: whose addresses stay.
-use Rattle.std.proofs.Common.{◌≡◌, ℕ, zero, suc, if◌then◌else◌, Bool, true, false, List, [], ◌∷◌, ◌++◌, Option, None, Some, is_some, option_map, Result, Ok, Err, IsOk, IsSome, OnOk, refl, ap, sym, subst, ◌∙◌}
+use Rattle.std.proofs.Common.{◌≡◌, ℕ, zero, suc, if◌then◌else◌, Bool, true, false, List, [], ◌∷◌, ◌++◌, Option, None, Some, is_some, option_map, IsSome, nat_eq, refl, ap, sym, subst, ◌∙◌}
 use Rattle.std.proofs.lemmas.Option.{same_Some}
+use Rattle.std.specs.Option.{option_eq}
 use Rattle.usb_port.specs.PortState.{PortState}
 use Rattle.usb_device.specs.declared.delivery.Sent.{Sent}
-use Rattle.usb_device.specs.declared.effect.Effect.{Effect}
-use Rattle.usb_device.specs.declared.effect.Effect.TheVariants.{Leaves, Calls, PortsOff}
+use Rattle.usb_device.specs.declared.effect.Effect.TheVariants.{Leaves}
 use Rattle.usb_device.specs.Rows.{State, forgotten}
-use Rattle.usb_device.specs.Tree.{Ports, ended, vacant, taken, Place, empty, full, before, acted, changed_at, plugged_at, device_there, reach_at, place_at}
+use Rattle.usb_device.specs.Tree.{Ports, ended, vacant, taken, Place, empty, full, before, acted, changed_at, plugged_at, device_there, reach_at, place_at, Spot}
 use Rattle.usb_device.specs.Delivery.{answer_of, effect_of, all_forgotten, held, is_twice}
-use Rattle.usb_device.specs.Route.{sent_in, asked_call, call_by, forgotten_in, address_by}
+use Rattle.usb_device.specs.Route.{sent_in, effect_by, forgotten_in, address_by}
 use Rattle.usb_device.proofs.Interface.{changed_at-head}
 use Rattle.usb_world.specs.declared.types.Attempt.{Attempt}
 use Rattle.usb_world.specs.declared.damage.Damage.{Damage}
 use Rattle.usb_world.specs.Paths.{address_of}
-use Rattle.usb_world.specs.Passes.{passed, deep_at, IsSettled, OneHolds}
+use Rattle.usb_world.specs.AttemptPackets.{after_sent, deep_at, IsSettled, OneHolds}
 use Rattle.usb_world.specs.Exchange.{token_out, payload_out, reply_out, ended_in, ports_in}
 use Rattle.usb_world.specs.LonePackets.{Alone, IsWayTo, IsQuiet, KeptAt}
 use Rattle.usb_world.proofs.Booleans.{no, both}
 use Rattle.usb_world.proofs.AttemptPackets.{token_out as token_calm, ack_out as ack_calm}
 use Rattle.usb_world.proofs.OneDevice.{stands, state_stands}
 use Rattle.usb_world.proofs.OneHolderPorts.{asked_of, calm_asked}
-use Rattle.usb_world.proofs.Routes.{others_packet, others_rest, others_forget, plugged_on, plugged_place, alone_token, alone_data, alone_ack, alone_passed}
+use Rattle.usb_world.proofs.Equality.{equal_same}
+use Rattle.usb_world.proofs.Routes.{others_packet, others_rest, others_forget, plugged_on, plugged_place, alone_token, alone_data, alone_ack, alone_sent}
 use Rattle.usb_world.proofs.Courses.{goes}
 
 -- ---- changes at one place
@@ -98,19 +99,14 @@ step_calm : (o : Option Sent) (deep : Bool) (b : PortState) (s : State) (a : Por
 step_calm None deep b s a h = refl
 step_calm (Some q) deep b s a h = ap (λ e. full b (answer_of q deep s a).1 (acted e a)) h
 
-passed_one : (o : Option Sent) (k : Ports) (j : ℕ) (p : List ℕ) → Alone o k j p → passed o k ≡ changed_at (step_in o (deep_at false p)) k j p
-passed_one None k j p h = sym (changed_at-same k j p)
-passed_one (Some q) k j p h = others_packet q false k j p h.on (others_rest q k j p h)
-
-leaves_of : (e : Effect) → asked_call e ≡ None → e ≡ Leaves
-leaves_of Leaves h = refl
-leaves_of (Calls c i) h = no (sym (ap is_some h))
-leaves_of PortsOff h = no (sym (ap is_some h))
+sent_one : (o : Option Sent) (k : Ports) (j : ℕ) (p : List ℕ) → Alone o k (record { row = j; rest = p }) → after_sent o k ≡ changed_at (step_in o (deep_at false p)) k j p
+sent_one None k j p h = sym (changed_at-same k j p)
+sent_one (Some q) k j p h = others_packet q false k j p h.on (others_rest q k j p h)
 
 quiet_asks : (o : Option Sent) (k : Ports) (j : ℕ) (p : List ℕ) (b : PortState) (s : State) (a : Ports) → IsQuiet o k (suc j ∷ p) → place_at k j p ≡ Some (full b s a) → asked_of o (deep_at false p) s ≡ Leaves
 quiet_asks None k j p b s a h e = refl
 quiet_asks (Some q) k j p b s a h e =
-    leaves_of (effect_of q (deep_at false p) s) (sym (ap (λ x. call_by q (deep_at false p) (plugged_on x)) e) ∙ ap (call_by q (deep_at false p)) (plugged_place k j p) ∙ h)
+    sym (ap (λ x. effect_by q (deep_at false p) (plugged_on x)) e) ∙ ap (effect_by q (deep_at false p)) (plugged_place k j p) ∙ h
 
 -- ---- an attempt
 
@@ -143,17 +139,20 @@ module _ (a : Attempt) (d : Option Damage) (k : Ports) (j : ℕ) (p : List ℕ) 
   abbrev r : Option Sent
   r = reply_out a d k
 
-  one : Alone t k j p
+  abbrev x : Spot
+  x = record { row = j; rest = p }
+
+  one : Alone t k x
   one = alone_token a d k (suc j ∷ p) settled holds
 
-  two : Alone q (passed t k) j p
-  two = alone_data q (passed t k) (suc j ∷ p) (alone_passed t k (suc j ∷ p) one) (goes a d k).payload
+  two : Alone q (after_sent t k) x
+  two = alone_data q (after_sent t k) (suc j ∷ p) (alone_sent t k (suc j ∷ p) one) (goes a d k).payload
 
-  three : Alone r (passed q (passed t k)) j p
-  three = alone_ack r (passed q (passed t k)) (suc j ∷ p) (alone_passed q (passed t k) (suc j ∷ p) two) (goes a d k).reply
+  three : Alone r (after_sent q (after_sent t k)) x
+  three = alone_ack r (after_sent q (after_sent t k)) (suc j ∷ p) (alone_sent q (after_sent t k) (suc j ∷ p) two) (goes a d k).reply
 
-  four : Alone None (ended_in a d k) j p
-  four = alone_passed r (passed q (passed t k)) (suc j ∷ p) three
+  four : Alone None (ended_in a d k) x
+  four = alone_sent r (after_sent q (after_sent t k)) (suc j ∷ p) three
 
   abbrev till_data : Place → Place
   till_data x = step_in q deep (step_in t deep x)
@@ -161,11 +160,11 @@ module _ (a : Attempt) (d : Option Damage) (k : Ports) (j : ℕ) (p : List ℕ) 
   abbrev till_end : Place → Place
   till_end x = step_in r deep (till_data x)
 
-  data_is : passed q (passed t k) ≡ changed_at till_data k j p
-  data_is = passed_one q (passed t k) j p two ∙ ap (λ x. changed_at (step_in q deep) x j p) (passed_one t k j p one) ∙ changed_at-twice (step_in q deep) (step_in t deep) k j p
+  data_is : after_sent q (after_sent t k) ≡ changed_at till_data k j p
+  data_is = sent_one q (after_sent t k) j p two ∙ ap (λ x. changed_at (step_in q deep) x j p) (sent_one t k j p one) ∙ changed_at-twice (step_in q deep) (step_in t deep) k j p
 
   end_is : ended_in a d k ≡ changed_at till_end k j p
-  end_is = passed_one r (passed q (passed t k)) j p three ∙ ap (λ x. changed_at (step_in r deep) x j p) data_is ∙ changed_at-twice (step_in r deep) till_data k j p
+  end_is = sent_one r (after_sent q (after_sent t k)) j p three ∙ ap (λ x. changed_at (step_in r deep) x j p) data_is ∙ changed_at-twice (step_in r deep) till_data k j p
 
   all_is : ports_in a d k ≡ changed_at (λ x. forgotten_in (till_end x)) k j p
   unfolding ports_in
@@ -186,15 +185,15 @@ module _ (a : Attempt) (d : Option Damage) (k : Ports) (j : ℕ) (p : List ℕ) 
   first_place : step_in t deep (full here.port here.own here.below) ≡ full here.port first here.below
   first_place = step_calm t deep here.port here.own here.below (calm_asked t (token_calm a.addr t (goes a d k).token) deep here.own)
 
-  first_at : place_at (passed t k) j p ≡ Some (full here.port first here.below)
+  first_at : place_at (after_sent t k) j p ≡ Some (full here.port first here.below)
   first_at =
-      ap (λ x. place_at x j p) (passed_one t k j p one) ∙ place_at-changed (step_in t deep) k j p ∙ ap (option_map (step_in t deep)) here.at ∙ ap (λ x. Some x) first_place
+      ap (λ x. place_at x j p) (sent_one t k j p one) ∙ place_at-changed (step_in t deep) k j p ∙ ap (option_map (step_in t deep)) here.at ∙ ap (λ x. Some x) first_place
 
-  module _ (quiet : IsQuiet q (passed t k) (suc j ∷ p)) where
+  module _ (quiet : IsQuiet q (after_sent t k) (suc j ∷ p)) where
     end_place : till_end (full here.port here.own here.below) ≡ full here.port third here.below
     end_place =
         ap (λ x. step_in r deep (step_in q deep x)) first_place
-        ∙ ap (step_in r deep) (step_calm q deep here.port first here.below (quiet_asks q (passed t k) j p here.port first here.below quiet first_at))
+        ∙ ap (step_in r deep) (step_calm q deep here.port first here.below (quiet_asks q (after_sent t k) j p here.port first here.below quiet first_at))
         ∙ step_calm r deep here.port second here.below (calm_asked r (ack_calm r (goes a d k).reply) deep second)
 
     end_at : place_at (ended_in a d k) j p ≡ Some (full here.port third here.below)
@@ -211,21 +210,20 @@ module _ (a : Attempt) (d : Option Damage) (k : Ports) (j : ℕ) (p : List ℕ) 
         ∙ held-changed (λ x. forgotten_in (till_end x)) k j p here.port here.own (forgotten third) here.below here.at (ap forgotten_in end_place) (address ∙ sym here_address)
 
 -- where nothing was asked of ports, and the device has the address still
-held_still : (a : Attempt) (d : Option Damage) (k : Ports) (p : List ℕ) → IsQuiet (payload_out a d) (passed (token_out a d) k) p → address_by (device_there (ended_in a d k) p) ≡ Some a.addr
+held_still : (a : Attempt) (d : Option Damage) (k : Ports) (p : List ℕ) → IsQuiet (payload_out a d) (after_sent (token_out a d) k) p → address_by (device_there (ended_in a d k) p) ≡ Some a.addr
     → KeptAt a.addr k (ports_in a d k) p
 held_still a d k [] q e = no (ap is_some e)
 held_still a d k (zero ∷ p) q e = no (ap is_some e)
 held_still a d k (suc j ∷ p) q e = λ settled o. addresses_stay a d k j p settled o q e
 
--- the same, of what the code tells
-pub kept_at : {A E : Type 0} (r : Result A E) (a : Attempt) (d : Option Damage) (k m n : Ports) (p : List ℕ) (quiet : Bool) (left : Option ℕ) → IsOk r → quiet ≡ true → left ≡ Some a.addr
-    → OnOk r (quiet ≡ true → IsQuiet (payload_out a d) (passed (token_out a d) k) p) → OnOk r (m ≡ ended_in a d k) → n ≡ all_forgotten m → (IsSome left → left ≡ address_by (device_there m p))
-    → KeptAt a.addr k n p
+-- the same, of what the code tells: the address that is left there is the attempt's
+pub kept_at : (a : Attempt) (d : Option Damage) (k m n : Ports) (p : List ℕ) (left : Option ℕ) → option_eq nat_eq left (Some a.addr) ≡ true
+    → IsQuiet (payload_out a d) (after_sent (token_out a d) k) p → m ≡ ended_in a d k → n ≡ all_forgotten m → (IsSome left → left ≡ address_by (device_there m p)) → KeptAt a.addr k n p
 unfolding ports_in
-kept_at (Ok x) a d k m n p quiet left ok still own asks e over at =
-    let told : address_by (device_there m p) ≡ Some a.addr = sym (at (subst IsSome (sym own) refl)) ∙ own in
-    subst (λ y. KeptAt a.addr k y p) (sym (over ∙ ap all_forgotten e)) (held_still a d k p (asks still) (ap (λ x. address_by (device_there x p)) (sym e) ∙ told))
-kept_at (Err x) a d k m n p quiet left ok still own asks e over at = no ok
+kept_at a d k m n p None same asks e over at = no same
+kept_at a d k m n p (Some x) same asks e over at =
+    let told : address_by (device_there m p) ≡ Some a.addr = sym (at refl) ∙ ap (λ y. Some y) (equal_same x a.addr same) in
+    subst (λ y. KeptAt a.addr k y p) (sym (over ∙ ap all_forgotten e)) (held_still a d k p asks (ap (λ y. address_by (device_there y p)) (sym e) ∙ told))
 
 pub single_still : (n : ℕ) (k m : Ports) (p : List ℕ) → IsSettled k → IsWayTo n k p → KeptAt n k m p → is_twice (held m) ≡ false
 single_still n k m [] s w kept = absurd kept

@@ -7,17 +7,29 @@ use Rattle.usb_port.specs.declared.call.PortCall.TheVariants.{SetPower, SetReset
 use Rattle.usb_device.specs.declared.effect.Effect.{Effect}
 use Rattle.usb_device.specs.declared.effect.Effect.TheVariants.{Leaves, Calls, PortsOff}
 use Rattle.usb_device.specs.declared.delivery.Sent.{Sent}
-use Rattle.usb_device.specs.declared.delivery.Content.{Content}
-use Rattle.usb_device.specs.declared.delivery.Content.TheVariants.{Whole, Broken}
 use Rattle.usb_device.specs.Spec.{Spec, Hub, IsSpec}
-use Rattle.usb_device.specs.Rows.{State, fresh, reset_state, unread, forgotten}
+use Rattle.usb_device.specs.Rows.{State, fresh, reset_state}
 use Rattle.usb_port.specs.Calls.{called_port, is_reset}
-use Rattle.usb_device.specs.Tree.{Ports, ended, vacant, taken, Place, empty, full, before, all_off, new_ports, first_ports, called, reset_where, replaced, changed, changed_at, acted, reach_at, state_at, row_of}
-use Rattle.usb_device.specs.Delivery.{answer_of, effect_of, after_packet, all_forgotten, hears, reply_to}
-use Rattle.usb_device.proofs.Interface.{answer-spec, keeps-received}
+use Rattle.usb_device.specs.Tree.{Ports, ended, vacant, taken, Place, empty, full, before, all_off, new_ports, first_ports, called, reset_where, replaced, changed, changed_at, acted, reach_at, state_at}
+use Rattle.usb_device.specs.Delivery.{answer_of, effect_of, after_packet, all_forgotten}
+use Rattle.usb_device.proofs.Interface.{answer-spec}
 use Rattle.usb_world.specs.Paths.{live_at}
-use Rattle.usb_world.specs.SanePorts.{IsSanePort, IsSane, IsSanePlace, is_open, open_at}
+use Rattle.usb_world.specs.SanePorts.{IsSanePort, IsSane, IsSanePlace}
 use Rattle.usb_world.proofs.Booleans.{both, and_of, no}
+
+-- the port is powered, something is attached, and it is enabled (11.5)
+abbrev pub is_open : PortState → Bool
+is_open b = (b.power && is_attached b.attached) && b.enable
+
+-- whether a device stands at a path and each port on its way, and its own, is so
+unfoldable pub open_at : Ports → ℕ → List ℕ → Bool
+open_at ended i p = false
+open_at (vacant b k) zero p = false
+open_at (vacant b k) (suc i) p = open_at k i p
+open_at (taken b s a k) zero [] = is_open b
+open_at (taken b s a k) zero (zero ∷ p) = false
+open_at (taken b s a k) zero (suc j ∷ p) = is_open b && open_at a j p
+open_at (taken b s a k) (suc i) p = open_at k i p
 
 -- Ports
 

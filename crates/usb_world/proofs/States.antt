@@ -2,7 +2,7 @@
 use Rattle.std.proofs.Common.{◌≡◌, Bool, true, false, Option, None, Some, option_map, refl, sym, ap}
 use Rattle.usb_port.specs.PortState.{PortState}
 use Rattle.usb_device.specs.Rows.{State, forgotten}
-use Rattle.usb_device.specs.declared.transfer.Memory.TheVariants.{Nothing}
+use Rattle.usb_device.specs.declared.transfer.RememberedPacket.TheVariants.{Nothing}
 use Rattle.usb_world.specs.Paths.{address_of}
 use Rattle.usb_world.specs.WayEffects.{reset_if}
 use Rattle.usb_world.proofs.Booleans.{no}

@@ -3,8 +3,8 @@ use Rattle.std.proofs.Common.{◌≡◌, ℕ, zero, suc, Bool, true, false, if�
 use Rattle.usb_port.specs.PortState.{is_attached}
 use Rattle.usb_device.specs.Spec.{Spec, Hub, IsSpec}
 use Rattle.usb_port.specs.declared.call.PortCall.{PortCall}
-use Rattle.usb_device.specs.declared.transfer.Memory.{Memory}
-use Rattle.usb_device.specs.declared.transfer.Memory.TheVariants.{Nothing}
+use Rattle.usb_device.specs.declared.transfer.RememberedPacket.{RememberedPacket}
+use Rattle.usb_device.specs.declared.transfer.RememberedPacket.TheVariants.{Nothing}
 use Rattle.usb_device.specs.Rows.{fresh, reset_state}
 use Rattle.usb_port.specs.Calls.{called_port, is_reset}
 use Rattle.usb_device.specs.Tree.{Ports, ended, vacant, taken, Place, empty, full, before, new_ports, first_ports, all_off, changed, changed_at, called, replaced, reset_where}
@@ -20,7 +20,7 @@ use Rattle.std.proofs.lemmas.List.Elements.{All-head, All-tail}
 use Rattle.std.specs.Prelude.{Option, None, Some, slice_get, All, ⊤}
 use Rattle.std.specs.Option.{IfSome}
 use Rattle.usb_world.specs.Exchange.{ports_in, token_out, payload_out, reply_out}
-use Rattle.usb_world.specs.Passes.{IsSettled}
+use Rattle.usb_world.specs.AttemptPackets.{IsSettled}
 use Rattle.usb_world.specs.SanePorts.{IsSane}
 use Rattle.usb_world.specs.PlanData.{PlanData}
 use Rattle.usb_world.specs.World.{World}
@@ -50,7 +50,7 @@ below ended = ended
 below (vacant b k) = ended
 below (taken b s a k) = a
 
-abbrev remembered : Ports → Memory
+abbrev remembered : Ports → RememberedPacket
 remembered ended = Nothing
 remembered (vacant b k) = Nothing
 remembered (taken b s a k) = s.memory

@@ -5,9 +5,23 @@ use Rattle.usb_device.specs.Tree.{Ports, ended, vacant, taken, port_at}
 use Rattle.usb_device.specs.View.{port_there}
 use Rattle.usb_world.specs.Paths.{pend_at, pend, is_way}
 use Rattle.usb_world.specs.SanePorts.{IsSanePort, IsSane}
-use Rattle.usb_world.specs.PortRequests.{change_told_at, change_told}
 use Rattle.usb_world.proofs.Booleans.{and_of, or_left}
 use Rattle.usb_world.proofs.Equality.{self_number}
+
+-- whether the port at a path, or one on its way, has C_PORT_CONNECTION set
+unfoldable pub change_told_at : Ports → ℕ → List ℕ → Bool
+change_told_at ended i p = false
+change_told_at (vacant b k) zero p = b.connection_changed
+change_told_at (vacant b k) (suc i) p = change_told_at k i p
+change_told_at (taken b s a k) zero [] = b.connection_changed
+change_told_at (taken b s a k) zero (zero ∷ p) = b.connection_changed
+change_told_at (taken b s a k) zero (suc j ∷ p) = b.connection_changed || change_told_at a j p
+change_told_at (taken b s a k) (suc i) p = change_told_at k i p
+
+abbrev pub change_told : Ports → List ℕ → Bool
+change_told k [] = false
+change_told k (zero ∷ p) = false
+change_told k (suc i ∷ p) = change_told_at k i p
 
 -- a change of connection is told only by a port with power
 told_power : (b : PortState) → IsSanePort b → b.connection_changed ≡ true → b.power ≡ true

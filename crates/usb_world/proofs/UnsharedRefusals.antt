@@ -1,5 +1,5 @@
 -- Where no address is held twice, a refused packet leaves everything as it was.
-use Rattle.std.proofs.Common.{◌≡◌, ℕ, ◌+◌, ◌≤◌, ◌==◌, not, if◌then◌else◌, ◌⊎◌, inl, inr, Bool, true, false, List, [], ◌∷◌, ◌++◌, Option, None, Some, refl, subst, ap, ◌∙◌, arith}
+use Rattle.std.proofs.Common.{◌≡◌, ℕ, ◌+◌, ◌≤◌, ◌==◌, not, if◌then◌else◌, ◌⊎◌, inl, inr, Bool, true, false, List, ◌∷◌, ◌++◌, Option, None, Some, refl, subst, ap, ◌∙◌, arith}
 use Rattle.usb_packet.specs.declared.Packet.{Packet}
 use Rattle.usb_packet.specs.declared.Packet.TheVariants.{Token}
 use Rattle.usb_packet.specs.declared.TokenKind.TheVariants.{OutTok}
@@ -10,8 +10,8 @@ use Rattle.usb_device.specs.declared.delivery.Heard.TheVariants.{NoAnswer}
 use Rattle.usb_device.specs.declared.delivery.Sent.{Sent}
 use Rattle.usb_device.specs.declared.effect.Effect.{Effect}
 use Rattle.usb_device.specs.declared.effect.Effect.TheVariants.{Leaves}
-use Rattle.usb_device.specs.declared.transfer.Memory.{Memory}
-use Rattle.usb_device.specs.declared.transfer.Memory.TheVariants.{Nothing, SetupSeen, OutSeen, AckAwaited}
+use Rattle.usb_device.specs.declared.transfer.RememberedPacket.{RememberedPacket}
+use Rattle.usb_device.specs.declared.transfer.RememberedPacket.TheVariants.{Nothing, SetupSeen, OutSeen, AckAwaited}
 use Rattle.usb_device.specs.Rows.{State, Reply, forgotten, received, unread, token_row, sink_grows}
 use Rattle.usb_device.specs.Tree.{Ports, ended, vacant, taken, full, before, acted, row_of}
 use Rattle.usb_device.specs.Delivery.{hears, reply_to, answer_of, effect_of, after_packet, delivered_device, on_port, all_forgotten, held, is_twice}
@@ -23,7 +23,7 @@ use Rattle.usb_world.specs.declared.wire.Mark.TheVariants.{Whole, Lost, PreLost,
 use Rattle.usb_world.specs.Wire.{marked, mark_of, harm_to}
 use Rattle.usb_world.specs.Exchange.{token_of, sent_as, token_out}
 use Rattle.usb_world.specs.Paths.{address_of}
-use Rattle.usb_world.specs.Passes.{IfOut, IsTokenFor, IsDataOut, IsSettled, passed, calls_on}
+use Rattle.usb_world.specs.AttemptPackets.{IfOut, IsTokenFor, IsDataOut, IsSettled, after_sent, calls_on}
 use Rattle.usb_world.specs.World.{IsAttempt}
 use Rattle.usb_world.specs.Steps.{IsCut}
 use Rattle.usb_world.proofs.Booleans.{no, decided}
@@ -42,13 +42,13 @@ seen ended = 0
 seen (vacant b k) = seen k
 seen (taken b s a k) = one_if (not (is_nothing s.memory)) + (seen a + seen k)
 
-is_it : (m : Memory) → is_nothing m ≡ true → m ≡ Nothing
+is_it : (m : RememberedPacket) → is_nothing m ≡ true → m ≡ Nothing
 is_it Nothing h = refl
 is_it SetupSeen h = no h
 is_it (OutSeen e) h = no h
 is_it (AckAwaited g) h = no h
 
-none_seen : (m : Memory) → one_if (not (is_nothing m)) ≡ 0 → m ≡ Nothing
+none_seen : (m : RememberedPacket) → one_if (not (is_nothing m)) ≡ 0 → m ≡ Nothing
 none_seen m h = pick (decided (is_nothing m))
   where
     pick : (is_nothing m ≡ true) ⊎ (is_nothing m ≡ false) → m ≡ Nothing
@@ -152,9 +152,9 @@ token_seen n q c deep (taken b s a k) h = split b.enable (token_seen n q c true 
     )
     split false lower rest = omega (arith, rest, ap (λ x. one_if (not (is_nothing x))) h.0, rest_seen a h.1)
 
-passed_seen : (n : ℕ) (o : Option Sent) → IfOut (IsTokenFor n) o → (k : Ports) → Rests k → seen (passed o k) ≤ occurs n (held k)
-passed_seen n None c k h = omega (arith, rest_seen k h)
-passed_seen n (Some q) c k h = token_seen n q c false k h
+sent_seen : (n : ℕ) (o : Option Sent) → IfOut (IsTokenFor n) o → (k : Ports) → Rests k → seen (after_sent o k) ≤ occurs n (held k)
+sent_seen n None c k h = omega (arith, rest_seen k h)
+sent_seen n (Some q) c k h = token_seen n q c false k h
 
 -- An OUT token leaves nothing but what is remembered of it
 
@@ -204,9 +204,9 @@ abbrev ForgetsOut : Option Sent → Type 0
 ForgetsOut None = Unit {0}
 ForgetsOut (Some q) = Forgets q.content
 
-passed_forgets : (o : Option Sent) → ForgetsOut o → (k : Ports) → IsSettled k → all_forgotten (passed o k) ≡ k
-passed_forgets None c k h = h
-passed_forgets (Some q) c k h = packet_forgets q c false k (rests k h)
+forgotten_sent : (o : Option Sent) → ForgetsOut o → (k : Ports) → IsSettled k → all_forgotten (after_sent o k) ≡ k
+forgotten_sent None c k h = h
+forgotten_sent (Some q) c k h = packet_forgets q c false k (rests k h)
 
 sent_forgets : (low pre : Bool) (mark : Mark) (p : Packet) → Forgets (content.Whole p) → ForgetsOut (sent_as low pre mark p)
 sent_forgets low pre Whole p c = c
@@ -222,5 +222,5 @@ pub cut_alone : (a : Attempt) (d : Option Damage) (k m : Ports) → IsAttempt a 
 cut_alone a d k m is quiet c single =
     let forgets_it : Forgets (content.Whole (Token a.kind a.addr a.ep)) = rw (cut_kind a d k m is quiet c) (out_forgets a.addr a.ep) in
     let text : IsDataOut c.sent.content = subst (IfOut IsDataOut) c.went (goes a d k).payload in
-    let one : seen (passed (token_out a d) k) ≤ 1 = omega (arith, passed_seen a.addr (token_out a d) (goes a d k).token k (rests k quiet), not_twice a.addr (held k) single) in
-    c.is ∙ ap all_forgotten (stopped_same c.sent text c.stopped one) ∙ passed_forgets (token_out a d) (token_forgets a d forgets_it) k quiet
+    let one : seen (after_sent (token_out a d) k) ≤ 1 = omega (arith, sent_seen a.addr (token_out a d) (goes a d k).token k (rests k quiet), not_twice a.addr (held k) single) in
+    c.is ∙ ap all_forgotten (stopped_same c.sent text c.stopped one) ∙ forgotten_sent (token_out a d) (token_forgets a d forgets_it) k quiet

@@ -5,11 +5,8 @@ use Rattle.arrayvec.specs.ArrayVec.{ArrayVec}
 use Rattle.usb_packet.specs.declared.Toggle.{Toggle}
 use Rattle.usb_packet.specs.declared.TokenKind.{TokenKind}
 use Rattle.usb_packet.specs.declared.TokenKind.TheVariants.{OutTok, InTok, SetupTok}
-use Rattle.usb_packet.specs.declared.Packet.TheVariants.{Payload}
 use Rattle.usb_request.specs.Features.{PORT_RESET}
 use Rattle.usb_request.specs.Codes.{SET_FEATURE, PORT_OUT}
-use Rattle.usb_device.specs.declared.delivery.Content.{Content}
-use Rattle.usb_device.specs.declared.delivery.Content.TheVariants.{Whole, Broken}
 use Rattle.usb_port.specs.Calls.{is_reset}
 use Rattle.usb_request.specs.Layout.{setup_of}
 use Rattle.usb_request.specs.declared.setup.Setup.{Setup}
@@ -22,7 +19,7 @@ use Rattle.usb_world.specs.declared.types.BusFault.{BusFault}
 use Rattle.usb_device.specs.View.{state_there}
 use Rattle.usb_world.specs.Paths.{live, pend, address_of, same_path}
 use Rattle.usb_world.specs.WayEffects.{IsNew, call_resets, call_spares}
-use Rattle.usb_world.specs.Passes.{attempt_resets, attempt_spares}
+use Rattle.usb_world.specs.AttemptPackets.{attempt_resets, attempt_spares}
 use Rattle.usb_world.specs.World.{World}
 use Rattle.usb_world.specs.Exchange.{token_out, payload_out}
 use Rattle.usb_world.specs.Steps.{names_path, ready, damage_in, Step, attempt, root_call, event, report}
@@ -95,12 +92,6 @@ Spares p s w = spares_step s w p ≡ true
 -- a request that is not PORT_RESET of a port
 abbrev pub is_harmless : Setup → Bool
 is_harmless r = not (Is r PORT_OUT SET_FEATURE && r.value == PORT_RESET)
-
--- data that are no such request
-abbrev pub IsHarmlessOut : Content → Type 0
-IsHarmlessOut (Whole (Payload t bytes)) = is_harmless (setup_of bytes.items) ≡ true
-IsHarmlessOut Broken = ⊤
-IsHarmlessOut (Whole p) = ⊥
 
 -- the address of a device, where one stands there
 abbrev pub address_at : Ports → List ℕ → Option ℕ

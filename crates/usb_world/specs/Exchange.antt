@@ -15,13 +15,13 @@ use Rattle.usb_world.specs.declared.types.Outcome.TheVariants as outcome
 use Rattle.usb_world.specs.declared.damage.Damage.{Damage}
 use Rattle.usb_world.specs.declared.damage.Harm.{Harm}
 use Rattle.usb_world.specs.declared.exchange.Exchange.{Exchange}
-use Rattle.usb_world.specs.declared.exchange.Heard.{Heard}
-use Rattle.usb_world.specs.declared.exchange.Heard.TheVariants.{Nothing, One, Collision}
+use Rattle.usb_world.specs.declared.exchange.ExchangeAnswer.{ExchangeAnswer}
+use Rattle.usb_world.specs.declared.exchange.ExchangeAnswer.TheVariants.{Nothing, One, Collision}
 use Rattle.usb_world.specs.declared.wire.Mark.{Mark}
 use Rattle.usb_world.specs.declared.wire.Mark.TheVariants.{Whole, Lost, PreLost, Flipped}
 use Rattle.usb_world.specs.declared.wire.Outgoing.{Outgoing}
 use Rattle.usb_world.specs.Wire.{harm_to, mark_of, is_read, marked, marked_some}
-use Rattle.usb_world.specs.Passes.{passed, answers_to, after_attempt}
+use Rattle.usb_world.specs.AttemptPackets.{after_sent, answers_to, after_attempt}
 
 -- of no attempt yet
 abbrev pub blank : Exchange
@@ -48,7 +48,7 @@ answer_place None = 2
 answer_place (Some s) = 3
 
 -- the mark that a harm leaves on the answer of one device
-unfoldable pub answer_mark : Option Harm → Heard → Mark
+unfoldable pub answer_mark : Option Harm → ExchangeAnswer → Mark
 answer_mark harm Nothing = Whole
 answer_mark harm Collision = Whole
 answer_mark harm (One p) = mark_of harm false p
@@ -58,12 +58,12 @@ abbrev pub ack_if : Bool → Option Packet
 ack_if acknowledged = if acknowledged then Some Ack else None
 
 -- data of at most `max` bytes that the host reads are answered by ACK
-unfoldable pub reply_of : Heard → Mark → ℕ → Option Packet
+unfoldable pub reply_of : ExchangeAnswer → Mark → ℕ → Option Packet
 reply_of (One (packet.Payload toggle bytes)) mark max = if is_read mark && nat_le (length bytes.items) max then Some Ack else None
 reply_of _ mark max = None
 
 -- what the host gets of an answer that it reads
-abbrev pub outcome_heard : Heard → ℕ → Outcome
+abbrev pub outcome_heard : ExchangeAnswer → ℕ → Outcome
 outcome_heard (One (packet.Payload toggle bytes)) max = if nat_le (length bytes.items) max then outcome.Payload toggle bytes else outcome.Nothing
 outcome_heard (One Ack) max = outcome.Ack
 outcome_heard (One Nak) max = outcome.Nak
@@ -71,7 +71,7 @@ outcome_heard (One Stall) max = outcome.Stall
 outcome_heard _ max = outcome.Nothing
 
 -- what the host gets: nothing of an answer that it does not read
-unfoldable pub outcome_of : Heard → Mark → ℕ → Outcome
+unfoldable pub outcome_of : ExchangeAnswer → Mark → ℕ → Outcome
 outcome_of answer mark max = if not (is_read mark) then outcome.Nothing else outcome_heard answer max
 
 -- a packet as damage leaves it, on its way to the devices
@@ -86,7 +86,7 @@ goes_out a None = None
 goes_out a (Some s) = sent_as a.low a.pre s.mark s.packet
 
 -- two answers collide
-abbrev pub heard_all : List Answer → Heard
+abbrev pub heard_all : List Answer → ExchangeAnswer
 heard_all [] = Nothing
 heard_all (x ∷ []) = One (packet_of x)
 heard_all (x ∷ y ∷ more) = Collision
@@ -102,8 +102,8 @@ abbrev pub payload_out : Attempt → Option Damage → Option Sent
 payload_out a damage = goes_out a (payload_in a damage)
 
 -- what is answered
-abbrev pub heard_in : Attempt → Option Damage → Ports → Heard
-heard_in a damage k = heard_all (answers_to (token_out a damage) k ++ answers_to (payload_out a damage) (passed (token_out a damage) k))
+abbrev pub heard_in : Attempt → Option Damage → Ports → ExchangeAnswer
+heard_in a damage k = heard_all (answers_to (token_out a damage) k ++ answers_to (payload_out a damage) (after_sent (token_out a damage) k))
 
 abbrev pub place_of_answer : Attempt → Option Damage → ℕ
 place_of_answer a damage = answer_place (payload_in a damage)
@@ -120,7 +120,7 @@ reply_out a damage k = goes_out a (reply_in a damage k)
 
 -- the devices when the host's ACK goes out
 abbrev pub answered_in : Attempt → Option Damage → Ports → Ports
-answered_in a damage k = passed (payload_out a damage) (passed (token_out a damage) k)
+answered_in a damage k = after_sent (payload_out a damage) (after_sent (token_out a damage) k)
 
 -- a packet that devices can read
 abbrev pub readable : Option Sent → Option Sent
@@ -130,7 +130,7 @@ readable (Some q) = elim q.content [ content.Whole p ↦ Some q | content.Broken
 -- the host's ACK went out, and a device did not read it that awaits it to take its address (9.4.6)
 abbrev pub is_lost : Option Outgoing → Option Sent → Ports → Bool
 is_lost None q k = false
-is_lost (Some s) q k = has_loss (passed (readable q) k)
+is_lost (Some s) q k = has_loss (after_sent (readable q) k)
 
 unfoldable pub lost_in : Attempt → Option Damage → Ports → Bool
 lost_in a damage k = is_lost (reply_in a damage k) (reply_out a damage k) (answered_in a damage k)
@@ -141,7 +141,7 @@ clears_at None k = false
 clears_at (Some q) k = clears_change q false k
 
 abbrev pub cleared_in : Attempt → Option Damage → Ports → Bool
-cleared_in a damage k = clears_at (payload_out a damage) (passed (token_out a damage) k)
+cleared_in a damage k = clears_at (payload_out a damage) (after_sent (token_out a damage) k)
 
 -- the token, the host's data, the answer to them, and the host's ACK
 unfoldable pub exchange_in : Attempt → Option Damage → Ports → Exchange
@@ -157,7 +157,7 @@ exchange_in a damage k = record {
 
 -- the root ports after its packets, with all that is plugged
 abbrev pub ended_in : Attempt → Option Damage → Ports → Ports
-ended_in a damage k = passed (reply_out a damage k) (answered_in a damage k)
+ended_in a damage k = after_sent (reply_out a damage k) (answered_in a damage k)
 
 -- the same after the attempt
 unfoldable pub ports_in : Attempt → Option Damage → Ports → Ports

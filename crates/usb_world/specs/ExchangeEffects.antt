@@ -7,7 +7,7 @@ use Rattle.usb_device.specs.Delivery.{both, heard_of, figure}
 use Rattle.usb_world.specs.declared.damage.Damage.{Damage}
 use Rattle.usb_world.specs.declared.exchange.Exchange.{Exchange}
 use Rattle.usb_world.specs.declared.types.Attempt.{Attempt}
-use Rattle.usb_world.specs.Passes.{passed, answers_to}
+use Rattle.usb_world.specs.AttemptPackets.{after_sent, answers_to}
 use Rattle.usb_world.specs.Exchange.{exchange_in, ended_in, ports_in}
 
 -- the same devices stand at the same ports, and the root ports themselves are as they were
@@ -18,7 +18,7 @@ pub record StaysPlugged (old new : Ports) : Type 0 where
 -- a packet went out or was lost: what is heard of it joins what was heard before
 pub record PacketWent (out : Option Sent) (old new : Ports) (before after : Heard) : Type 0 where
   pub heard : after ≡ both before (heard_of (answers_to out old))
-  pub ports : new ≡ passed out old
+  pub ports : new ≡ after_sent out old
 
 -- all packets of an attempt went out, and the attempt has not ended
 pub record PacketsWent (a : Attempt) (damage : Option Damage) (old new : Ports) (exchange : Exchange) : Type 0 where

@@ -1,11 +1,11 @@
 -- What is heard of the answers, as packets.
-use Rattle.usb_device.specs.declared.delivery.Heard.{Heard as HeardBelow}
+use Rattle.usb_device.specs.declared.delivery.Heard.{Heard}
 use Rattle.usb_device.specs.declared.delivery.Heard.TheVariants as below
 use Rattle.usb_device.specs.ReceivedBytes.{packet_of}
-use Rattle.usb_world.specs.declared.exchange.Heard.{Heard}
-use Rattle.usb_world.specs.declared.exchange.Heard.TheVariants.{Nothing, One, Collision}
+use Rattle.usb_world.specs.declared.exchange.ExchangeAnswer.{ExchangeAnswer}
+use Rattle.usb_world.specs.declared.exchange.ExchangeAnswer.TheVariants.{Nothing, One, Collision}
 
-abbrev pub heard_above : HeardBelow → Heard
+abbrev pub heard_above : Heard → ExchangeAnswer
 heard_above below.NoAnswer = Nothing
 heard_above (below.One x) = One (packet_of x)
 heard_above below.Collision = Collision

@@ -1,15 +1,11 @@
 -- Where a device was found last.
-use Rattle.std.specs.Prelude.{◌≡◌, ℕ, Bool, List, [], None, Some, if◌then◌else◌}
+use Rattle.std.specs.Prelude.{ℕ, Bool, List, [], None, Some, if◌then◌else◌}
 use Rattle.std.specs.List.{slice_get}
 use Rattle.arrayvec.specs.ArrayVec.{ArrayVec}
 use Rattle.usb_world.specs.declared.route.Hints.{Hints}
 
 abbrev pub path_at : List (ArrayVec ℕ) → ℕ → List ℕ
 path_at paths n = elim (slice_get paths n) [ None ↦ [] | Some p ↦ p.items ]
-
--- no path at any address
-abbrev pub NoPaths : List (ArrayVec ℕ) → Type 0
-NoPaths paths = (n : ℕ) → path_at paths n ≡ []
 
 abbrev pub path_in : Hints → ℕ → List ℕ
 path_in h n = path_at h.paths.items n

@@ -1,6 +1,7 @@
 pub mod World
 pub mod PluggedDevices
 pub mod PlanData
+pub mod PlanLimits
 pub mod Wire
 pub mod Exchange
 pub mod HeardAnswers
@@ -10,7 +11,7 @@ pub mod Paths
 pub mod WayEffects
 pub mod SanePorts
 pub mod SaneProofs
-pub mod Passes
+pub mod AttemptPackets
 pub mod CutPackets
 pub mod ExchangeEffects
 pub mod Hints
@@ -21,6 +22,5 @@ pub mod Addresses
 pub mod PortRequests
 pub mod Devices
 pub mod PlanCourses
-pub mod AlikeTrees
 pub mod RestingPorts
 pub mod LonePackets

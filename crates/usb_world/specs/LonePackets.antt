@@ -1,31 +1,33 @@
 -- A packet that is for one device of a tree at most, at a path; the empty path is the whole tree's.
 use Rattle.std.specs.Prelude.{◌≡◌, ℕ, zero, suc, ◌&&◌, Bool, true, false, List, [], ◌∷◌, Option, None, Some, ⊤}
 use Rattle.usb_device.specs.declared.delivery.Sent.{Sent}
-use Rattle.usb_device.specs.declared.transfer.Memory.TheVariants.{Nothing}
+use Rattle.usb_device.specs.declared.transfer.RememberedPacket.TheVariants.{Nothing}
 use Rattle.usb_device.specs.Rows.{State}
-use Rattle.usb_device.specs.Tree.{Ports, device_there, state_at, reach_at}
-use Rattle.usb_device.specs.Route.{call_by}
+use Rattle.usb_device.specs.Tree.{Ports, Spot, device_there, state_at, reach_at, reach_on}
+use Rattle.usb_device.specs.declared.effect.Effect.TheVariants.{Leaves}
+use Rattle.usb_device.specs.Route.{effect_by}
 use Rattle.usb_world.specs.Paths.{same_number, same_path}
-use Rattle.usb_world.specs.Passes.{deep_at, calls_on, IsSettled, OneHolds}
+use Rattle.usb_world.specs.AttemptPackets.{deep_at, calls_on, IsSettled, OneHolds}
 use Rattle.usb_device.specs.Delivery.{held}
 
 -- no other device remembers anything
-abbrev pub OthersForgot : Ports → ℕ → List ℕ → Type 0
-OthersForgot k j p = (i : ℕ) (e : List ℕ) (t : State) → (same_number i j && same_path e p) ≡ false → state_at k i e ≡ Some t → t.memory ≡ Nothing
+abbrev pub OthersForgot : Ports → Spot → Type 0
+OthersForgot k x = (i : ℕ) (e : List ℕ) (t : State) → (same_number i x.row && same_path e x.rest) ≡ false → state_at k i e ≡ Some t → t.memory ≡ Nothing
 
 -- what goes out is for no other device that it reaches
-abbrev pub OthersUncalled : Option Sent → Ports → ℕ → List ℕ → Type 0
-OthersUncalled o k j p = (q : Sent) → o ≡ Some q → (i : ℕ) (e : List ℕ) (t : State) → (same_number i j && same_path e p) ≡ false → state_at k i e ≡ Some t → reach_at k i e ≡ true → calls_on q.content t ≡ false
+abbrev pub OthersUncalled : Option Sent → Ports → Spot → Type 0
+OthersUncalled o k x = (q : Sent) → o ≡ Some q → (i : ℕ) (e : List ℕ) (t : State) → (same_number i x.row && same_path e x.rest) ≡ false → state_at k i e ≡ Some t → reach_at k i e ≡ true → calls_on q.content t ≡ false
 
-pub record Alone (o : Option Sent) (k : Ports) (j : ℕ) (p : List ℕ) : Type 0 where
-  pub on : reach_at k j p ≡ true
-  pub forgot : OthersForgot k j p
-  pub uncalled : OthersUncalled o k j p
+-- the device there is reached, no other remembers anything, and what goes out is for no other
+pub record Alone (o : Option Sent) (k : Ports) (x : Spot) : Type 0 where
+  pub on : reach_on k x ≡ true
+  pub forgot : OthersForgot k x
+  pub uncalled : OthersUncalled o k x
 
 abbrev pub AloneAt : Option Sent → Ports → List ℕ → Type 0
 AloneAt o k [] = ⊤
 AloneAt o k (zero ∷ p) = ⊥
-AloneAt o k (suc j ∷ p) = Alone o k j p
+AloneAt o k (suc j ∷ p) = Alone o k (record { row = j; rest = p })
 
 -- one reachable device holds the address, at the path; or the path is the whole tree's
 abbrev pub IsWayTo : ℕ → Ports → List ℕ → Type 0
@@ -46,7 +48,7 @@ is_whole_tree (n ∷ p) = false
 -- the device there asks nothing of its ports at what goes out
 abbrev pub IsQuiet : Option Sent → Ports → List ℕ → Type 0
 IsQuiet None k p = ⊤
-IsQuiet (Some q) k p = call_by q (is_deep p) (device_there k p) ≡ None
+IsQuiet (Some q) k p = effect_by q (is_deep p) (device_there k p) ≡ Leaves
 
 -- the path is a device's, and all addresses are as they were if that one alone held its own
 abbrev pub KeptAt : ℕ → Ports → Ports → List ℕ → Type 0

@@ -1,5 +1,5 @@
 -- One reachable device holds the address of an attempt: the attempt is an exchange with that device alone.
-use Rattle.std.specs.Prelude.{◌≡◌, ℕ, nat_le, ◌&&◌, ◌||◌, not, if◌then◌else◌, Bool, true, false, List, length, Option, None, Some, is_some}
+use Rattle.std.specs.Prelude.{◌≡◌, ℕ, nat_le, ◌&&◌, ◌||◌, not, if◌then◌else◌, Bool, false, List, length, Option, None, Some}
 use Rattle.usb_packet.specs.declared.Toggle.{Toggle}
 use Rattle.usb_packet.specs.declared.Toggle.TheVariants.{Zero}
 use Rattle.usb_packet.specs.declared.TokenKind.TheVariants.{OutTok, InTok, SetupTok}
@@ -14,20 +14,20 @@ use Rattle.usb_device.specs.declared.effect.Effect.{Effect}
 use Rattle.usb_device.specs.declared.effect.Effect.TheVariants.{Leaves}
 use Rattle.usb_device.specs.Effect.{asked_by_setup}
 use Rattle.usb_device.specs.Rows.{State, Reply}
-use Rattle.usb_device.specs.Attempt.{Way, whole, broken, lost, is_whole, setup_law, out_law, in_law}
-use Rattle.usb_device.specs.Tree.{Ports, state_on}
-use Rattle.usb_device.specs.Delivery.{hears, held, is_twice}
+use Rattle.usb_device.specs.Attempt.{Way, whole, broken, lost, is_whole, out_law, in_law}
+use Rattle.usb_device.specs.Tree.{Ports}
+use Rattle.usb_device.specs.Delivery.{hears}
 use Rattle.usb_world.specs.declared.types.Attempt.{Attempt}
 use Rattle.usb_world.specs.declared.types.Outcome.{Outcome}
 use Rattle.usb_world.specs.declared.types.Outcome.TheVariants as outcome
 use Rattle.usb_world.specs.declared.damage.Damage.{Damage}
 use Rattle.usb_world.specs.declared.wire.Mark.{Mark}
 use Rattle.usb_world.specs.declared.wire.Mark.TheVariants as mark
-use Rattle.usb_world.specs.Exchange.{token_out, payload_out, reply_in, reply_out, heard_in, mark_in, outcome_of, ports_in}
-use Rattle.usb_world.specs.Passes.{IsSettled}
+use Rattle.usb_world.specs.Exchange.{token_out, payload_out, reply_out, mark_in}
+use Rattle.usb_world.specs.AttemptPackets.{IsSettled}
 use Rattle.usb_world.specs.FoundHolder.{Found}
 use Rattle.usb_world.specs.World.{World}
-use Rattle.usb_world.specs.Steps.{outcome_in, ready, attempt, after}
+use Rattle.usb_world.specs.Steps.{ready, attempt, after}
 
 -- how a packet of the host comes to a device: not at all where it does not go out, or the device does not hear it
 abbrev pub content_way : Content → Way
@@ -66,10 +66,6 @@ answer_way a damage k = way_back (mark_in a damage k)
 abbrev pub reply_way : Attempt → Option Damage → Ports → Bool → State → Way
 reply_way a damage k deep s = way_to deep s (reply_out a damage k)
 
--- what a device that stands deep or not, with these ports, makes of an attempt with it alone
-abbrev pub setup_alone : Attempt → Option Damage → Ports → Bool → State → List PortState → List ℕ → Reply
-setup_alone a damage k deep s row bytes = setup_law s row bytes (token_way a damage deep s) (payload_way a damage deep s) (answer_way a damage k)
-
 abbrev pub out_alone : Attempt → Option Damage → Ports → Bool → State → Toggle → List ℕ → Reply
 out_alone a damage k deep s toggle bytes = out_law s a.ep toggle bytes (token_way a damage deep s) (payload_way a damage deep s) (answer_way a damage k)
 
@@ -91,28 +87,9 @@ pub record IsIn (a : Attempt) : Type 0 where
   pub kind : a.kind ≡ InTok
   pub payload : a.payload ≡ None
 
--- between attempts a reachable device holds the address, and no address is held twice
-pub record Holder (n : ℕ) (k : Ports) : Type 0 where
-  pub settled : IsSettled k
-  pub single : is_twice (held k) ≡ false
-  pub found : Found n k
-  pub open found use *
-
--- the host gets what the device answers, and the device is what it is then
-pub record ExchangedWithHolder (a : Attempt) (damage : Option Damage) (k : Ports) (h : Holder a.addr k) (r : Reply) : Type 0 where
-  pub outcome : outcome_of (heard_in a damage k) (mark_in a damage k) a.max ≡ got a.max r.0
-  pub state : state_on (ports_in a damage k) h.spot ≡ Some r.1
-
 -- a device hears the packets of an attempt: they are at its speed, and at low speed with PRE where it stands deep
 abbrev pub hears_attempt : Attempt → Bool → State → Bool
 hears_attempt a deep s = if a.low then s.spec.low && (not deep || a.pre) else not s.spec.low
-
--- each packet of an attempt that goes out comes whole
-pub record AllWhole (a : Attempt) (damage : Option Damage) (k : Ports) (deep : Bool) (s : State) : Type 0 where
-  pub token : token_way a damage deep s ≡ whole
-  pub payload : is_some a.payload ≡ true → payload_way a damage deep s ≡ whole
-  pub answer : answer_way a damage k ≡ whole
-  pub reply : is_some (reply_in a damage k) ≡ true → reply_way a damage k deep s ≡ whole
 
 -- Worlds
 
@@ -128,10 +105,6 @@ pub record HolderIn (a : Attempt) (w : World) : Type 0 where
   pub single : (after (attempt a) w).shared ≡ false
   pub found : Found a.addr (ready w).roots
   pub open found use *
-
-pub record ExchangedIn (a : Attempt) (w : World) (h : HolderIn a w) (r : Reply) : Type 0 where
-  pub outcome : outcome_in a w ≡ got a.max r.0
-  pub state : state_on (after (attempt a) w).roots h.spot ≡ Some r.1
 
 -- one that is not silent
 pub record AttemptAnswerer (a : Attempt) (w : World) : Type 0 where

@@ -7,6 +7,7 @@ use Rattle.usb_world.specs.declared.event.Action.TheVariants.{Plug, Unplug, Show
 use Rattle.usb_world.specs.declared.damage.Damage.{Damage}
 use Rattle.usb_world.specs.declared.damage.Harm.{Harm}
 use Rattle.usb_world.specs.declared.damage.Harm.TheVariants.{Lose, LosePre, Flip}
+use Rattle.usb_world.specs.PlanLimits.{attempt_most, after_most}
 use Rattle.usb_world.specs.PluggedDevices.{PluggedMap, index_at, plugged_after, is_rooted, has_port}
 
 -- something is plugged at the path
@@ -23,7 +24,7 @@ action_fits roots devices tree (Receive path packets) = is_rooted roots path && 
 action_fits roots devices tree (Clear path) = is_rooted roots path
 
 abbrev pub event_fits : ℕ → List Spec → PluggedMap → Event → Bool
-event_fits roots devices tree e = nat_le e.after 1000000000 && action_fits roots devices tree e.action
+event_fits roots devices tree e = nat_le e.after after_most && action_fits roots devices tree e.action
 
 -- each event fits what is plugged before it
 abbrev pub events_fit : ℕ → List Spec → PluggedMap → List Event → Bool
@@ -56,7 +57,7 @@ plan_data limit roots devices events damages = record { limit = limit; roots = r
 
 -- the rules of a plan
 pub record IsPlan (p : PlanData) : Type 0 where
-  pub limit : p.limit ≤ 100000000000000
+  pub limit : p.limit ≤ attempt_most
   pub some_root : 1 ≤ p.roots
   pub few_roots : p.roots ≤ 7
   pub devices : AreDevices p.devices

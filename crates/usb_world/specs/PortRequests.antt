@@ -1,53 +1,31 @@
--- What requests ask of ports, which ports a step leaves alone, and where a change of connection is told.
+-- What requests ask of ports, and which ports a step leaves alone.
 use Rattle.std.specs.Prelude.{◌≡◌, ℕ, zero, suc, ◌==◌, ◌&&◌, ◌||◌, not, Bool, true, false, List, [], ◌∷◌, Option, None, Some}
-use Rattle.arrayvec.specs.ArrayVec.{ArrayVec}
-use Rattle.usb_packet.specs.declared.Toggle.{Toggle}
-use Rattle.usb_packet.specs.declared.TokenKind.{TokenKind}
-use Rattle.usb_packet.specs.declared.TokenKind.TheVariants.{OutTok, InTok, SetupTok}
 use Rattle.usb_request.specs.Features.{PORT_ENABLE, PORT_RESET, PORT_POWER, C_PORT_ENABLE, C_PORT_RESET}
 use Rattle.usb_request.specs.Codes.{CLEAR_FEATURE, SET_FEATURE, SET_CONFIGURATION, DEVICE_OUT, PORT_OUT}
 use Rattle.usb_port.specs.PortState.{PortState}
-use Rattle.usb_request.specs.Layout.{setup_of}
 use Rattle.usb_request.specs.declared.setup.Setup.{Setup}
 use Rattle.usb_device.specs.Request.{Is}
 use Rattle.usb_device.specs.declared.delivery.Sent.{Sent}
-use Rattle.usb_device.specs.Tree.{Ports, ended, vacant, taken, reach}
+use Rattle.usb_device.specs.Tree.{Ports, reach}
 use Rattle.usb_world.specs.declared.types.Attempt.{Attempt}
 use Rattle.usb_world.specs.Exchange.{token_out, payload_out}
 use Rattle.usb_world.specs.Paths.{is_way, same_number, same_path}
-use Rattle.usb_world.specs.Passes.{passed}
+use Rattle.usb_world.specs.AttemptPackets.{after_sent}
 use Rattle.usb_world.specs.WayEffects.{way_leaves}
 use Rattle.usb_world.specs.World.{World}
 use Rattle.usb_world.specs.Steps.{ready, damage_in, Step, attempt, root_call, event, report}
 use Rattle.usb_world.specs.Courses.{at_path, resets, spares_step}
 
--- Where a change of connection is told
-
--- whether the port at a path, or one on its way, has C_PORT_CONNECTION set
-unfoldable pub change_told_at : Ports → ℕ → List ℕ → Bool
-change_told_at ended i p = false
-change_told_at (vacant b k) zero p = b.connection_changed
-change_told_at (vacant b k) (suc i) p = change_told_at k i p
-change_told_at (taken b s a k) zero [] = b.connection_changed
-change_told_at (taken b s a k) zero (zero ∷ p) = b.connection_changed
-change_told_at (taken b s a k) zero (suc j ∷ p) = b.connection_changed || change_told_at a j p
-change_told_at (taken b s a k) (suc i) p = change_told_at k i p
-
-abbrev pub change_told : Ports → List ℕ → Bool
-change_told k [] = false
-change_told k (zero ∷ p) = false
-change_told k (suc i ∷ p) = change_told_at k i p
-
 -- Which ports a step leaves alone
 
 -- whether a packet that goes out or does not leaves the port at a path, and each on its way
-abbrev pub pass_leaves : Option Sent → Ports → ℕ → List ℕ → Bool
-pass_leaves None k j p = true
-pass_leaves (Some q) k j p = way_leaves q false k j p
+abbrev pub sent_leaves : Option Sent → Ports → ℕ → List ℕ → Bool
+sent_leaves None k j p = true
+sent_leaves (Some q) k j p = way_leaves q false k j p
 
 -- the same of an attempt: only the host's data ask something of ports
 abbrev pub made_leaves : Attempt → World → List ℕ → Bool
-made_leaves a w p = at_path (pass_leaves (payload_out a (damage_in w)) (passed (token_out a (damage_in w)) w.roots)) true p
+made_leaves a w p = at_path (sent_leaves (payload_out a (damage_in w)) (after_sent (token_out a (damage_in w)) w.roots)) true p
 
 -- a root call changes its own port
 abbrev pub root_leaves : ℕ → List ℕ → Bool
@@ -87,18 +65,8 @@ pub record StillSet (b : PortState) (o : Option PortState) : Type 0 where
 -- Requests
 
 -- a request that asks nothing of ports: neither SetPortFeature nor ClearPortFeature, nor SetConfiguration
-abbrev pub is_plain : Setup → Bool
-is_plain r = not (Is r PORT_OUT SET_FEATURE) && (not (Is r PORT_OUT CLEAR_FEATURE) && not (Is r DEVICE_OUT SET_CONFIGURATION))
-
-abbrev pub plain_payload : Option (Toggle × ArrayVec ℕ) → Bool
-plain_payload None = true
-plain_payload (Some x) = is_plain (setup_of x.1.items)
-
--- an attempt that asks nothing of ports, where no device remembers a packet before it
-abbrev pub plain_data : TokenKind → Option (Toggle × ArrayVec ℕ) → Bool
-plain_data SetupTok o = plain_payload o
-plain_data OutTok o = true
-plain_data InTok o = true
+abbrev pub asks_no_port : Setup → Bool
+asks_no_port r = not (Is r PORT_OUT SET_FEATURE) && (not (Is r PORT_OUT CLEAR_FEATURE) && not (Is r DEVICE_OUT SET_CONFIGURATION))
 
 -- SetPortFeature or ClearPortFeature, of a port
 abbrev pub is_port_request : Setup → Bool

@@ -1,5 +1,5 @@
 -- What is so of every port, whatever came.
-use Rattle.std.specs.Prelude.{◌≡◌, ℕ, zero, suc, ◌&&◌, Bool, true, false, List, [], ◌∷◌, ⊤}
+use Rattle.std.specs.Prelude.{◌≡◌, ◌&&◌, true, ⊤}
 use Rattle.usb_port.specs.PortState.{PortState, nothing, is_attached, speed_of, has_change}
 use Rattle.usb_device.specs.Spec.{IsSpec}
 use Rattle.usb_device.specs.Tree.{Ports, ended, vacant, taken, Place, empty, full}
@@ -18,17 +18,3 @@ IsSane (taken b s a k) = IsSanePort b × (b.attached ≡ speed_of s.spec.low) ×
 unfoldable pub IsSanePlace : Place → Type 0
 IsSanePlace (empty b) = IsSanePort b × (b.attached ≡ nothing)
 IsSanePlace (full b s a) = IsSanePort b × (b.attached ≡ speed_of s.spec.low) × IsSane a × IsSpec s.spec
-
--- the port is powered, something is attached, and it is enabled (11.5)
-abbrev pub is_open : PortState → Bool
-is_open b = (b.power && is_attached b.attached) && b.enable
-
--- whether a device stands at a path and each port on its way, and its own, is so
-unfoldable pub open_at : Ports → ℕ → List ℕ → Bool
-open_at ended i p = false
-open_at (vacant b k) zero p = false
-open_at (vacant b k) (suc i) p = open_at k i p
-open_at (taken b s a k) zero [] = is_open b
-open_at (taken b s a k) zero (zero ∷ p) = false
-open_at (taken b s a k) zero (suc j ∷ p) = is_open b && open_at a j p
-open_at (taken b s a k) (suc i) p = open_at k i p

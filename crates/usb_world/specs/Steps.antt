@@ -1,11 +1,11 @@
 -- The steps of a world: attempts, root calls, events and lines of report.
-use Rattle.std.specs.Prelude.{◌≡◌, ◌≢◌, ℕ, ◌+◌, ◌-◌, ◌==◌, nat_le, Bool, true, false, ◌&&◌, ◌||◌, not, if◌then◌else◌, List, [], ◌∷◌, slice_get, slice_set, unwrap_or, Option, Some, None, is_some, Result, Ok, Err, IfErr, All, ⊤}
+use Rattle.std.specs.Prelude.{◌≡◌, ◌≢◌, ℕ, ◌+◌, ◌-◌, ◌==◌, nat_le, Bool, true, false, ◌&&◌, ◌||◌, not, if◌then◌else◌, List, [], ◌∷◌, slice_get, slice_set, Option, Some, None, is_some, Result, Ok, Err, IfErr, All, ⊤}
 use Rattle.usb_port.specs.declared.call.PortCall.{PortCall}
 use Rattle.usb_device.specs.declared.delivery.Sent.{Sent}
 use Rattle.usb_device.specs.Spec.{Spec, IsSpec}
-use Rattle.usb_port.specs.Calls.{set_call, clear_call, port_by}
+use Rattle.usb_port.specs.Calls.{set_call, clear_call, port_by, is_clearing}
 use Rattle.usb_device.specs.Tree.{Ports, new_ports, called, replaced, changed}
-use Rattle.usb_device.specs.Delivery.{held, is_twice, all_forgotten, is_clearing}
+use Rattle.usb_device.specs.Delivery.{held, is_twice, all_forgotten}
 use Rattle.usb_device.specs.StoppedPackets.{Stopped}
 use Rattle.usb_world.specs.declared.damage.Damage.{Damage}
 use Rattle.usb_world.specs.declared.event.Due.{Due}
@@ -23,7 +23,7 @@ use Rattle.usb_world.specs.Exchange.{heard_in, mark_in, lost_in, cleared_in, exc
 use Rattle.usb_world.specs.Losses.{no_losses, counted, after_clearing}
 use Rattle.usb_world.specs.Paths.{is_way}
 use Rattle.usb_world.specs.SanePorts.{IsSane}
-use Rattle.usb_world.specs.Passes.{IsSettled, passed}
+use Rattle.usb_world.specs.AttemptPackets.{IsSettled, after_sent}
 use Rattle.usb_world.specs.PlanData.{PlanData}
 use Rattle.usb_world.specs.World.{World, root_row, root_port_at, to_come, Spends, Failed}
 
@@ -157,7 +157,7 @@ pub record IsCut (a : Attempt) (damage : Option Damage) (old new : Ports) : Type
   pub sent : Sent
   pub went : payload_out a damage ≡ Some sent
   pub tree : Ports
-  pub stopped : Stopped sent false (passed (token_out a damage) old) tree
+  pub stopped : Stopped sent false (after_sent (token_out a damage) old) tree
   pub is : new ≡ all_forgotten tree
 
 -- what a fault leaves of an attempt: some of the events that were due, and no attempt; or all of them, and an attempt

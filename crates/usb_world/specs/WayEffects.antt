@@ -2,7 +2,7 @@
 -- leaves what is pending.
 use Rattle.std.specs.Prelude.{◌≡◌, ℕ, zero, suc, ◌&&◌, ◌||◌, not, Bool, true, false, List, [], ◌∷◌, Option, None, Some, if◌then◌else◌}
 use Rattle.usb_port.specs.PortState.{PortState, is_attached, powered_off}
-use Rattle.usb_device.specs.declared.transfer.Memory.TheVariants.{Nothing}
+use Rattle.usb_device.specs.declared.transfer.RememberedPacket.TheVariants.{Nothing}
 use Rattle.usb_device.specs.Rows.{State, reset_state}
 use Rattle.usb_port.specs.declared.call.PortCall.{PortCall}
 use Rattle.usb_port.specs.declared.call.PortCall.TheVariants.{SetReset, ClearPower, ClearConnectionChange}
@@ -84,20 +84,6 @@ abbrev pub port_after : Effect → ℕ → PortState → PortState
 port_after Leaves j b = b
 port_after (Calls c i) j b = if same_number i j then called_port c b else b
 port_after PortsOff j b = powered_off b
-
--- whether no device on the way to a path asks anything of its ports
-abbrev pub is_left : Effect → Bool
-is_left Leaves = true
-is_left e = false
-
-unfoldable pub way_rests : Sent → Bool → Ports → ℕ → List ℕ → Bool
-way_rests q deep ended i p = true
-way_rests q deep (vacant b k) zero p = true
-way_rests q deep (vacant b k) (suc i) p = way_rests q deep k i p
-way_rests q deep (taken b s a k) zero [] = true
-way_rests q deep (taken b s a k) zero (zero ∷ p) = true
-way_rests q deep (taken b s a k) zero (suc j ∷ p) = not b.enable || (is_left (effect_of q deep s) && way_rests q true a j p)
-way_rests q deep (taken b s a k) (suc i) p = way_rests q deep k i p
 
 -- whether no device on the way asks anything of the port at a path, or of one above it
 abbrev pub leaves_port : Effect → ℕ → Bool

@@ -33,16 +33,18 @@ pub struct Damages {
 impl Model for Damages {
     ghost use Rattle.std.specs.Prelude.{List, ◌≤◌, length};
     ghost use Rattle.usb_world.specs.declared.damage.Damage.{Damage};
+    ghost use Rattle.usb_world.specs.PlanLimits.{damage_most};
 
     ghost Value = { List Damage };
 
     ghost view = { λ d. d.damages.items };
 
-    ghost invariant = { λ d. length d.damages.items ≤ 10000 };
+    ghost invariant = { λ d. length d.damages.items ≤ damage_most };
 }
 
 impl Damages {
     ghost use Rattle.std.specs.Prelude.{◌≡◌, ◌<◌, ◌≤◌, [], ◌∷◌, ◌++◌, length, OnOk, OnErr};
+    ghost use Rattle.usb_world.specs.PlanLimits.{damage_most};
 
     /// No damage.
     pub fn new(alloc: Global) -> Self
@@ -56,14 +58,18 @@ impl Damages {
     /// The damages in their order.
     pub fn as_slice(&self) -> &[Damage]
         ensures value { result.now ≡ self.now }
-        ensures bound { length self.now ≤ 10000 }
+        ensures bound { length self.now ≤ damage_most }
     {
         self.damages.as_slice()
     }
 
-    /// Adds a damage at the end. An error: memory is refused, and nothing changes.
+    /// Adds a damage at the end.
+    ///
+    /// # Errors
+    ///
+    /// Memory is refused, and nothing changes.
     pub fn push(&mut self, damage: Damage) -> Result<(), AllocError>
-        requires room { length self.old < 10000 }
+        requires room { length self.old < damage_most }
         ensures ok { OnOk result (self.new ≡ self.old ++ damage ∷ []) }
         ensures err { OnErr result (self.new ≡ self.old) }
     {

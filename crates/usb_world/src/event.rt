@@ -36,7 +36,11 @@ impl SentBytes {
         self.bytes.as_slice()
     }
 
-    /// The same bytes in memory of their own. An error: memory is refused.
+    /// The same bytes in memory of their own.
+    ///
+    /// # Errors
+    ///
+    /// Memory is refused.
     pub fn try_clone(&self, alloc: Global) -> Result<Self, AllocError>
         ensures { IfOk result (λ b. b ≡ self.now) }
     {
@@ -128,17 +132,19 @@ impl Model for Events {
     ghost use Rattle.std.specs.Prelude.{List, ◌≤◌, length};
     ghost use Rattle.usb_world.specs.declared.event.Event.{Event};
     ghost use Rattle.usb_world.specs.PlanCourses.{AtPorts};
+    ghost use Rattle.usb_world.specs.PlanLimits.{event_most};
 
     ghost Value = { List Event };
 
     ghost view = { λ e. e.events.items };
 
-    ghost invariant = { λ e. (length e.events.items ≤ 10000) × AtPorts e.events.items };
+    ghost invariant = { λ e. (length e.events.items ≤ event_most) × AtPorts e.events.items };
 }
 
 impl Events {
     ghost use Rattle.std.specs.Prelude.{◌≡◌, ◌<◌, ◌≤◌, [], ◌∷◌, ◌++◌, length, IfOk, OnOk, OnErr};
     ghost use Rattle.usb_world.specs.PlanCourses.{AtPorts};
+    ghost use Rattle.usb_world.specs.PlanLimits.{event_most};
 
     /// No events.
     pub fn new(alloc: Global) -> Self
@@ -152,15 +158,19 @@ impl Events {
     /// The events in their order.
     pub fn as_slice(&self) -> &[Event]
         ensures value { result.now ≡ self.now }
-        ensures bound { length self.now ≤ 10000 }
+        ensures bound { length self.now ≤ event_most }
         ensures paths { AtPorts self.now }
     {
         self.events.as_slice()
     }
 
-    /// Adds an event at the end. An error: memory is refused, and nothing changes.
+    /// Adds an event at the end.
+    ///
+    /// # Errors
+    ///
+    /// Memory is refused, and nothing changes.
     pub fn push(&mut self, event: Event) -> Result<(), AllocError>
-        requires room { length self.old < 10000 }
+        requires room { length self.old < event_most }
         ensures ok { OnOk result (self.new ≡ self.old ++ event ∷ []) }
         ensures err { OnErr result (self.new ≡ self.old) }
     {
@@ -185,7 +195,11 @@ fn plugs_at_port(action: &Action)
     }
 }
 
-/// The same events in memory of their own. An error: memory is refused.
+/// The same events in memory of their own.
+///
+/// # Errors
+///
+/// Memory is refused.
 pub fn event_copies(alloc: Global, events: &[Event]) -> Result<Vec<Event>, AllocError>
     ensures { IfOk result (λ v. v.items ≡ events.now) }
 {

@@ -1,7 +1,7 @@
 //! One attempt: the host's packets go to the devices, and their answers come together.
 ghost use Rattle.std.specs.Prelude.{◌≡◌, ◌≤◌, [], true, None, Some, IfOk, IfSome, IsOk, IsSome, OnOk, OnErr};
 ghost use Rattle.usb_packet.specs.Spelling.{HasFields};
-ghost use Rattle.usb_device.specs.Passing.{broken};
+ghost use Rattle.usb_device.specs.LentPackets.{broken};
 ghost use Rattle.usb_device.specs.Tree.{device_there};
 ghost use Rattle.usb_device.specs.Delivery.{all_forgotten, has_loss};
 ghost use Rattle.usb_device.specs.Route.{address_by};
@@ -9,7 +9,7 @@ ghost use Rattle.usb_world.specs.World.{IsAttempt, FitsMaximum};
 ghost use Rattle.usb_world.specs.Wire.{has_its_bit, marked, marked_some};
 ghost use Rattle.usb_world.specs.declared.wire.Mark.TheVariants.{Flipped};
 ghost use Rattle.usb_world.specs.Exchange.{ack_if, blank, token_of, payload_of, answer_place, answer_mark, reply_of, outcome_of, goes_out, token_out, payload_out, sent_as, is_lost, clears_at};
-ghost use Rattle.usb_world.specs.Passes.{IsSettled, passed};
+ghost use Rattle.usb_world.specs.AttemptPackets.{IsSettled, after_sent};
 ghost use Rattle.usb_world.specs.ExchangeEffects.{StaysPlugged, PacketWent, PacketsWent, Exchanged};
 ghost use Rattle.usb_world.specs.CutPackets.{IsStopped};
 ghost use Rattle.usb_world.specs.Steps.{IsCut};
@@ -21,13 +21,15 @@ use crate::wire::{Mark, Outgoing, flipped, harm_to, mark_of, marked};
 use crate::{Attempt, Outcome};
 use arrayvec::ArrayVec;
 use std::alloc::AllocError;
-use usb_device::{Answer, Content, Passing, Ports};
+use usb_device::{Answer, Content, Effect, Heard, LentPacket, Ports};
 use usb_packet::{Packet, encode, one_flipped_bit};
 
-/// What the devices' answers are together.
+/// What the devices' answers to an attempt are together.
 #[derive(Drop)]
-pub enum Heard {
+pub enum ExchangeAnswer {
+    /// No device answered.
     Nothing,
+    /// One answer.
     One(Packet),
     /// Two answers at once: nobody can read them.
     Collision,
@@ -35,17 +37,17 @@ pub enum Heard {
 
 /// What was heard of the devices, as packets.
 #[tactic(auto, unfolding(crate::specs::HeardAnswers::heard_above))]
-fn put_answer(heard: usb_device::Heard, answer: &mut Heard)
+fn put_answer(heard: Heard, answer: &mut ExchangeAnswer)
     ensures { answer.new ≡ heard_above heard }
 {
     match heard {
-        usb_device::Heard::NoAnswer => *answer = Heard::Nothing,
-        usb_device::Heard::Collision => *answer = Heard::Collision,
-        usb_device::Heard::One(Answer::Ack) => *answer = Heard::One(Packet::Ack),
-        usb_device::Heard::One(Answer::Nak) => *answer = Heard::One(Packet::Nak),
-        usb_device::Heard::One(Answer::Stall) => *answer = Heard::One(Packet::Stall),
-        usb_device::Heard::One(Answer::Data { toggle, bytes }) => {
-            *answer = Heard::One(Packet::Payload { toggle, bytes });
+        Heard::NoAnswer => *answer = ExchangeAnswer::Nothing,
+        Heard::Collision => *answer = ExchangeAnswer::Collision,
+        Heard::One(Answer::Ack) => *answer = ExchangeAnswer::One(Packet::Ack),
+        Heard::One(Answer::Nak) => *answer = ExchangeAnswer::One(Packet::Nak),
+        Heard::One(Answer::Stall) => *answer = ExchangeAnswer::One(Packet::Stall),
+        Heard::One(Answer::Data { toggle, bytes }) => {
+            *answer = ExchangeAnswer::One(Packet::Payload { toggle, bytes });
         }
     }
 }
@@ -53,10 +55,12 @@ fn put_answer(heard: usb_device::Heard, answer: &mut Heard)
 /// The packets of an attempt as they went over the bus.
 #[derive(Drop)]
 pub struct Exchange {
+    /// The host's token.
     pub token: Outgoing,
     /// The host's data, for SETUP and OUT.
     pub payload: Option<Outgoing>,
-    pub answer: Heard,
+    /// What the devices answered.
+    pub answer: ExchangeAnswer,
     /// What damage did to the answer of one device.
     pub answer_mark: Mark,
     /// The host's ACK, where it took data.
@@ -78,7 +82,7 @@ impl Exchange {
                 mark: Mark::Lost,
             },
             payload: None,
-            answer: Heard::Nothing,
+            answer: ExchangeAnswer::Nothing,
             answer_mark: Mark::Whole,
             reply: None,
             address_lost: false,
@@ -88,62 +92,38 @@ impl Exchange {
 }
 
 /// Makes an attempt: the token, then the data, one of them; then what the host says to the answer.
-/// After it no device remembers a packet, also where memory was refused. That happens to the host's
-/// data alone: no sink grows at a token or at an ACK.
-pub fn make_exchange(
-    roots: &mut Ports,
-    attempt: &Attempt,
-    damage: Option<Damage>,
-    exchange: &mut Exchange,
-) -> Result<(), AllocError>
-    requires { IsAttempt attempt.now }
-    ensures plugged { StaysPlugged roots.old roots.new }
-    ensures settled { IsSettled roots.new }
-    ensures made { OnOk result (Exchanged attempt.now damage roots.old roots.new exchange.new) }
-    ensures cut { OnErr result (IsCut attempt.now damage roots.old roots.new) }
-{
-    let mut kept = false;
-    exchange_along(roots, &[], attempt, damage, &mut kept, exchange)
-}
-
-/// The same straight to the device at a path, where no other reachable device holds the address:
-/// the others have nothing of it, so it costs the same in a large tree as in a small one. The empty
-/// path stands for the whole tree. `kept` tells whether all addresses are known to be as they were.
-#[tactic(auto, using(crate::proofs::Exchanges::attempt_ends, crate::proofs::Refusals::over_cut))]
+/// After it no device remembers a packet, also where memory was refused. Tells whether all addresses
+/// are known to be as they were.
+///
+/// It goes straight to the device at a path, where no other reachable device holds the address: the
+/// others have nothing of it, so it costs the same in a large tree as in a small one. The empty path
+/// stands for the whole tree.
+///
+/// # Errors
+///
+/// Memory is refused for the host's data: no sink grows at a token or at an ACK.
+#[tactic(auto, using(crate::proofs::Exchanges::over_settled, crate::proofs::Refusals::over_cut))]
 pub(crate) fn exchange_along(
     roots: &mut Ports,
     path: &[u8],
     attempt: &Attempt,
     damage: Option<Damage>,
-    kept: &mut bool,
     exchange: &mut Exchange,
-) -> Result<(), AllocError>
+) -> Result<bool, AllocError>
     requires attempt { IsAttempt attempt.now }
     requires alone { AloneAt (token_out attempt.now damage) roots.old path.now }
     ensures plugged { StaysPlugged roots.old roots.new }
     ensures settled { IsSettled roots.new }
     ensures made { OnOk result (Exchanged attempt.now damage roots.old roots.new exchange.new) }
     ensures cut { OnErr result (IsCut attempt.now damage roots.old roots.new) }
-    ensures kept { kept.new ≡ true → KeptAt attempt.now.addr roots.old roots.new path.now }
+    ensures kept { IfOk result (λ kept. kept ≡ true
+        → KeptAt attempt.now.addr roots.old roots.new path.now) }
 {
     let mut quiet = false;
     let made = send_packets(roots, path, attempt, damage, &mut quiet, exchange);
-    let address = end_attempt(roots, path);
-    *kept = is_kept(&made, quiet, address, attempt.addr);
-    made
-}
-
-/// Whether an attempt was made at which the device there asked nothing of its ports, and it has the
-/// address still.
-fn is_kept(made: &Result<(), AllocError>, quiet: bool, left: Option<u8>, address: u8) -> bool
-    ensures made { result ≡ true → IsOk made.now }
-    ensures quiet { result ≡ true → quiet ≡ true }
-    ensures left { result ≡ true → left ≡ Some address }
-{
-    match (made, left) {
-        (Ok(_), Some(left)) => quiet && left == address,
-        _ => false,
-    }
+    let left = end_attempt(roots, path);
+    made?;
+    Ok(quiet && left == Some(attempt.addr))
 }
 
 /// Every device forgets what it remembers: all of them, or the one at a path where no other
@@ -165,23 +145,18 @@ fn end_attempt(roots: &mut Ports, path: &[u8]) -> Option<u8>
 fn is_whole(path: &[u8]) -> bool
     ensures { result ≡ is_whole_tree path.now }
 {
-    match path {
-        [] => true,
-        [_, ..] => false,
-    }
+    path.is_empty()
 }
 
 /// Whether a path leads below a device.
 fn is_deep(path: &[u8]) -> bool
     ensures { result ≡ is_deep path.now }
 {
-    match path {
-        [] => false,
-        [_] => false,
-        [_, _, ..] => true,
-    }
+    path.len() > 1
 }
 
+/// Sends the packets of an attempt, and notes what is answered. `quiet` tells whether the device at
+/// the path is known to ask nothing of its ports.
 fn send_packets(
     roots: &mut Ports,
     path: &[u8],
@@ -194,14 +169,14 @@ fn send_packets(
     requires alone { AloneAt (token_out attempt.now damage) roots.old path.now }
     ensures plugged { StaysPlugged roots.old roots.new }
     ensures quiet { OnOk result (quiet.new ≡ true → IsQuiet (payload_out attempt.now damage)
-        (passed (token_out attempt.now damage) roots.old) path.now) }
+        (after_sent (token_out attempt.now damage) roots.old) path.now) }
     ensures made { OnOk result (PacketsWent attempt.now damage roots.old roots.new exchange.new) }
     ensures alone { AloneAt None roots.new path.now }
     ensures stopped { OnErr result (IsStopped (payload_out attempt.now damage)
-        (passed (token_out attempt.now damage) roots.old) roots.new) }
+        (after_sent (token_out attempt.now damage) roots.old) roots.new) }
 {
     put_token(attempt, damage, &mut exchange.token);
-    let mut heard = usb_device::Heard::NoAnswer;
+    let mut heard = Heard::NoAnswer;
     send(roots, path, &goes_out(attempt, &exchange.token), &mut heard)?;
     put_payload(attempt, damage, &mut exchange.payload);
     let data = some_goes_out(attempt, &exchange.payload);
@@ -237,33 +212,33 @@ fn answer_place(payload: &Option<Outgoing>) -> u8
 
 /// The mark that a harm leaves on the answer of one device.
 #[tactic(auto, unfolding(crate::specs::Exchange::answer_mark))]
-fn answer_mark(harm: Option<Harm>, answer: &Heard) -> Mark
+fn answer_mark(harm: Option<Harm>, answer: &ExchangeAnswer) -> Mark
     ensures { result ≡ answer_mark harm answer.now }
 {
     match answer {
-        Heard::Nothing => Mark::Whole,
-        Heard::Collision => Mark::Whole,
-        Heard::One(packet) => mark_of(harm, false, packet),
+        ExchangeAnswer::Nothing => Mark::Whole,
+        ExchangeAnswer::Collision => Mark::Whole,
+        ExchangeAnswer::One(packet) => mark_of(harm, false, packet),
     }
 }
 
 /// A packet as damage leaves it, on its way to the devices; None where it is lost.
-fn goes_out<'a>(attempt: &Attempt, packet: &'a Outgoing) -> Option<Passing<'a>>
+fn goes_out<'a>(attempt: &Attempt, packet: &'a Outgoing) -> Option<LentPacket<'a>>
     requires fields { HasFields packet.now.packet }
     requires bit { has_its_bit packet.now.mark packet.now.packet ≡ true }
     ensures { result ≡ sent_as attempt.now.low attempt.now.pre packet.now.mark packet.now.packet }
 {
     match packet.mark {
-        Mark::Whole => Some(Passing::whole(attempt.low, attempt.pre, &packet.packet)),
+        Mark::Whole => Some(LentPacket::whole(attempt.low, attempt.pre, &packet.packet)),
         Mark::Lost => None,
-        Mark::PreLost => Some(Passing::whole(attempt.low, false, &packet.packet)),
+        Mark::PreLost => Some(LentPacket::whole(attempt.low, false, &packet.packet)),
         Mark::Flipped(bit) => Some(broken(attempt, &packet.packet, bit)),
     }
 }
 
 /// A packet with one bit flipped: it spells no packet (8.3.1 and 8.3.5).
 #[inline(never)]
-fn broken<'a>(attempt: &Attempt, packet: &Packet, bit: u16) -> Passing<'a>
+fn broken<'a>(attempt: &Attempt, packet: &Packet, bit: u16) -> LentPacket<'a>
     requires fields { HasFields packet.now }
     requires bit { has_its_bit (Flipped bit) packet.now ≡ true }
     ensures { result ≡ broken attempt.now.low attempt.now.pre }
@@ -271,21 +246,18 @@ fn broken<'a>(attempt: &Attempt, packet: &Packet, bit: u16) -> Passing<'a>
     one_flipped_bit();
     let bytes = encode(packet);
     match Content::of(flipped(bytes, bit).as_slice()) {
-        Content::Broken => Passing::broken(attempt.low, attempt.pre),
+        Content::Broken => LentPacket::broken(attempt.low, attempt.pre),
         Content::Whole(_) => unreachable!(),
     }
 }
 
 /// The same, where there is a packet.
-fn some_goes_out<'a>(attempt: &Attempt, packet: &'a Option<Outgoing>) -> Option<Passing<'a>>
+fn some_goes_out<'a>(attempt: &Attempt, packet: &'a Option<Outgoing>) -> Option<LentPacket<'a>>
     requires fields { IfSome packet.now (λ s. HasFields s.packet) }
     requires bit { IfSome packet.now (λ s. has_its_bit s.mark s.packet ≡ true) }
     ensures { result ≡ goes_out attempt.now packet.now }
 {
-    match packet {
-        None => None,
-        Some(packet) => goes_out(attempt, packet),
-    }
+    goes_out(attempt, packet.as_ref()?)
 }
 
 /// Sends what goes out, down the tree or straight to the device at a path where it is for no other;
@@ -293,8 +265,8 @@ fn some_goes_out<'a>(attempt: &Attempt, packet: &'a Option<Outgoing>) -> Option<
 fn send(
     roots: &mut Ports,
     path: &[u8],
-    sent: &Option<Passing<'_>>,
-    heard: &mut usb_device::Heard,
+    sent: &Option<LentPacket<'_>>,
+    heard: &mut Heard,
 ) -> Result<(), AllocError>
     requires { AloneAt sent.now roots.old path.now }
     ensures plugged { StaysPlugged roots.old roots.new }
@@ -312,7 +284,12 @@ fn send(
 /// Whether a hub will clear a change of connection of one of its ports at what goes out. `quiet`
 /// tells whether the device at the path is known to ask nothing of its ports.
 #[tactic(auto, using(crate::proofs::Routes::route_clears))]
-fn clears_change(roots: &Ports, path: &[u8], sent: &Option<Passing<'_>>, quiet: &mut bool) -> bool
+fn clears_change(
+    roots: &Ports,
+    path: &[u8],
+    sent: &Option<LentPacket<'_>>,
+    quiet: &mut bool,
+) -> bool
     requires { AloneAt sent.now roots.now path.now }
     ensures clears { result ≡ clears_at sent.now roots.now }
     ensures quiet { quiet.new ≡ true → IsQuiet sent.now roots.now path.now }
@@ -324,12 +301,12 @@ fn clears_change(roots: &Ports, path: &[u8], sent: &Option<Passing<'_>>, quiet: 
             false
         }
         Some(sent) if is_whole(path) => roots.clears_change(sent),
-        Some(sent) => match roots.call_at_path(path, sent, is_deep(path)) {
-            None => {
+        Some(sent) => match roots.effect_at(path, sent, is_deep(path)) {
+            Effect::Leaves => {
                 *quiet = true;
                 false
             }
-            Some(clears) => clears,
+            effect => effect.clears_change(),
         },
     }
 }
@@ -364,7 +341,8 @@ fn send_reply(
     ensures plugged { StaysPlugged roots.old roots.new }
     ensures lost { IfOk result (λ lost. lost
         ≡ is_lost reply.now (goes_out attempt.now reply.now) roots.old) }
-    ensures ports { OnOk result (roots.new ≡ passed (goes_out attempt.now reply.now) roots.old) }
+    ensures ports { OnOk result
+        (roots.new ≡ after_sent (goes_out attempt.now reply.now) roots.old) }
     ensures alone { AloneAt None roots.new path.now }
     ensures stopped { OnErr result
         (IsStopped (goes_out attempt.now reply.now) roots.old roots.new) }
@@ -389,13 +367,13 @@ fn acknowledge(
     ensures lost { IfOk result (λ lost. lost
         ≡ is_lost (Some packet.now) (goes_out attempt.now (Some packet.now)) roots.old) }
     ensures ports { OnOk result (roots.new
-        ≡ passed (goes_out attempt.now (Some packet.now)) roots.old) }
+        ≡ after_sent (goes_out attempt.now (Some packet.now)) roots.old) }
     ensures alone { AloneAt None roots.new path.now }
     ensures stopped { OnErr result
         (IsStopped (goes_out attempt.now (Some packet.now)) roots.old roots.new) }
 {
     let sent = goes_out(attempt, packet);
-    let mut unanswered = usb_device::Heard::NoAnswer;
+    let mut unanswered = Heard::NoAnswer;
     if let Mark::Flipped(_) = packet.mark {
         let awaited = has_loss(roots, path);
         send(roots, path, &sent, &mut unanswered)?;
@@ -441,6 +419,7 @@ fn put_payload(attempt: &Attempt, damage: Option<Damage>, payload: &mut Option<O
     }
 }
 
+/// The same bytes.
 fn copied(bytes: &ArrayVec<u8, 64>) -> ArrayVec<u8, 64>
     ensures { result ≡ bytes.now }
 {
@@ -451,11 +430,11 @@ fn copied(bytes: &ArrayVec<u8, 64>) -> ArrayVec<u8, 64>
 
 /// Whether the host reads data of at most `max` bytes, and so answers by ACK.
 #[tactic(auto, unfolding(crate::specs::Exchange::reply_of))]
-fn is_acknowledged(answer: &Heard, mark: Mark, max: u8) -> bool
+fn is_acknowledged(answer: &ExchangeAnswer, mark: Mark, max: u8) -> bool
     ensures { ack_if result ≡ reply_of answer.now mark max }
 {
     match answer {
-        Heard::One(Packet::Payload { toggle: _, bytes }) => {
+        ExchangeAnswer::One(Packet::Payload { toggle: _, bytes }) => {
             mark.is_read() && bytes.len() <= usize::from(max)
         }
         _ => false,
@@ -485,7 +464,7 @@ fn put_reply(
 /// What an attempt gives the host: data of at most `max` bytes, or a handshake, where it reads the
 /// answer.
 #[tactic(auto, unfolding(crate::specs::Exchange::outcome_of))]
-pub fn outcome_of(answer: &Heard, mark: Mark, max: u8) -> Outcome
+pub fn outcome_of(answer: &ExchangeAnswer, mark: Mark, max: u8) -> Outcome
     ensures value { result ≡ outcome_of answer.now mark max }
     ensures fits { FitsMaximum max result }
 {
@@ -493,16 +472,16 @@ pub fn outcome_of(answer: &Heard, mark: Mark, max: u8) -> Outcome
         return Outcome::Nothing;
     }
     match answer {
-        Heard::One(Packet::Payload { toggle, bytes }) => {
+        ExchangeAnswer::One(Packet::Payload { toggle, bytes }) => {
             if bytes.len() <= usize::from(max) {
                 Outcome::Payload(*toggle, copied(bytes))
             } else {
                 Outcome::Nothing
             }
         }
-        Heard::One(Packet::Ack) => Outcome::Ack,
-        Heard::One(Packet::Nak) => Outcome::Nak,
-        Heard::One(Packet::Stall) => Outcome::Stall,
+        ExchangeAnswer::One(Packet::Ack) => Outcome::Ack,
+        ExchangeAnswer::One(Packet::Nak) => Outcome::Nak,
+        ExchangeAnswer::One(Packet::Stall) => Outcome::Stall,
         _ => Outcome::Nothing,
     }
 }

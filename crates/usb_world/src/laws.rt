@@ -7,10 +7,10 @@ ghost use Rattle.usb_port.specs.PortState.{PortState};
 ghost use Rattle.usb_device.specs.Delivery.{held, is_twice};
 ghost use Rattle.usb_device.specs.Rows.{State};
 ghost use Rattle.usb_device.specs.Spec.{Spec};
-ghost use Rattle.usb_device.specs.Tree.{Ports, full, path_to, place_at, reach, reach_on, row_of, state_on, Spot};
+ghost use Rattle.usb_device.specs.Tree.{Ports, full, path_to, place_on, reach, reach_on, row_of, state_on, Spot};
 ghost use Rattle.usb_device.specs.View.{port_there, state_there};
 ghost use Rattle.usb_world.specs.declared.damage.Damage.{Damage};
-ghost use Rattle.usb_world.specs.declared.exchange.Heard.TheVariants.{Collision};
+ghost use Rattle.usb_world.specs.declared.exchange.ExchangeAnswer.TheVariants.{Collision};
 ghost use Rattle.usb_world.specs.declared.types.Attempt.{Attempt};
 ghost use Rattle.usb_world.specs.Addresses.{GivesNoAddress};
 ghost use Rattle.usb_world.specs.Courses.{Injective, UndisturbedOrPends, NoReset, Own, Reached, Spares, Undisturbed, resets};
@@ -18,7 +18,7 @@ ghost use Rattle.usb_world.specs.Devices.{DidIn, DidOut, DidSetup, EachWas, Was}
 ghost use Rattle.usb_world.specs.Exchange.{heard_in, payload_out, token_out};
 ghost use Rattle.usb_world.specs.Paths.{is_way, live, pend};
 ghost use Rattle.usb_world.specs.OneHolder.{IsIn, IsMade, IsOut, IsSetup};
-ghost use Rattle.usb_world.specs.Passes.{IsSettled, passed, answers_to};
+ghost use Rattle.usb_world.specs.AttemptPackets.{IsSettled, after_sent, answers_to};
 ghost use Rattle.usb_world.specs.PlanData.{IsPlan, PlanData};
 ghost use Rattle.usb_world.specs.PluggedDevices.{index_at, device_indexed, hub_ports, plugged_by};
 ghost use Rattle.usb_world.specs.PlanCourses.{AtPorts, FollowsPlan, spec_of};
@@ -91,7 +91,8 @@ pub fn control_courses_keep_addresses()
 pub fn one_device_at_most_answers()
     ensures answers { (a : Attempt) (d : Option Damage) (k : Ports) → IsAttempt a → IsSettled k
         → is_twice (held k) ≡ false
-        → length (answers_to (token_out a d) k ++ answers_to (payload_out a d) (passed (token_out a d) k)) ≤ 1 }
+        → length (answers_to (token_out a d) k
+        ++ answers_to (payload_out a d) (after_sent (token_out a d) k)) ≤ 1 }
     ensures heard { (a : Attempt) (d : Option Damage) (k : Ports) → IsAttempt a → IsSettled k
         → is_twice (held k) ≡ false → heard_in a d k ≡ Collision → ⊥ }
     ensures line { (a : Attempt) (w : World) → IsAttempt a → IsMade a w
@@ -127,12 +128,12 @@ pub fn undisturbed_keeps_what_is_plugged()
 pub fn devices_have_their_ports()
     ensures count { (plan : PlanData) → IsPlan plan → AtPorts plan.events → (w : World)
         → Course AnyStep (opening plan) w
-        → (i : ℕ) (p : List ℕ) (b : PortState) (s : State) (below : Ports)
-        → place_at w.roots i p ≡ Some (full b s below)
+        → (x : Spot) (b : PortState) (s : State) (below : Ports)
+        → place_on w.roots x ≡ Some (full b s below)
         → length (row_of below) ≡ hub_ports s.spec.hub }
     ensures stands { (plan : PlanData) → IsPlan plan → AtPorts plan.events → (w : World)
         → Course AnyStep (opening plan) w
-        → (i : ℕ) (p : List ℕ) (t : Spec) (m : ℕ)
-        → option_map spec_of (state_there w.roots (suc i ∷ p)) ≡ Some t → m < hub_ports t.hub
-        → is_some (port_there w.roots (suc i ∷ (p ++ (suc m ∷ [])))) ≡ true }
+        → (x : Spot) (t : Spec) (m : ℕ)
+        → option_map spec_of (state_on w.roots x) ≡ Some t → m < hub_ports t.hub
+        → is_some (port_there w.roots (path_to x ++ (suc m ∷ []))) ≡ true }
 {}

@@ -16,7 +16,7 @@ mod wire;
 
 pub use damage::{Damage, Damages, Harm};
 pub use event::{Action, Due, Event, Events, SentBytes, event_copies};
-pub use exchange::{Exchange, Heard, make_exchange, outcome_of};
+pub use exchange::{Exchange, ExchangeAnswer, outcome_of};
 pub use laws::{
     a_port_rests_or_is_pending, control_courses_keep_addresses, devices_have_their_ports,
     events_are_pending, one_device_at_most_answers, pending_stays, plugged_is_what_the_events_left,

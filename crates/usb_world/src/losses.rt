@@ -1,5 +1,5 @@
 //! Address losses: how often a device did not see the host's ACK at which it was to take its address (9.4.6).
-ghost use Rattle.std.specs.Prelude.{◌≡◌, ◌<◌};
+ghost use Rattle.std.specs.Prelude.{◌≡◌, ◌+◌, ◌<◌, ◌^◌};
 ghost use Rattle.usb_world.specs.Losses.{no_losses, one_more, counted, after_clearing};
 
 /// Address losses in all, in this stretch, and in the worst stretch. A stretch begins where a change of
@@ -25,8 +25,8 @@ impl Losses {
 
     /// One more where an address was lost.
     pub fn counted(self, lost: bool) -> Self
-        requires all { self.all < 4294967295 }
-        requires run { self.run < 4294967295 }
+        requires all { self.all + 1 < 2 ^ 32 }
+        requires run { self.run + 1 < 2 ^ 32 }
         ensures { result ≡ counted lost self }
     {
         if lost { self.one_more() } else { self }
@@ -34,8 +34,8 @@ impl Losses {
 
     #[tactic(auto, unfolding(crate::specs::Losses::one_more))]
     fn one_more(self) -> Self
-        requires all { self.all < 4294967295 }
-        requires run { self.run < 4294967295 }
+        requires all { self.all + 1 < 2 ^ 32 }
+        requires run { self.run + 1 < 2 ^ 32 }
         ensures { result ≡ one_more self }
     {
         let run = self.run + 1;

@@ -35,6 +35,7 @@ impl Plan {
     ghost use Rattle.std.specs.Prelude.{◌≡◌, ◌≤◌, length};
     ghost use Rattle.usb_world.specs.PlanData.{PlanData, IsPlan, plan_data};
     ghost use Rattle.usb_world.specs.PlanCourses.{AtPorts};
+    ghost use Rattle.usb_world.specs.PlanLimits.{event_most, damage_most};
 
     /// The plan of these parts.
     pub fn new(limit: u64, roots: u8, devices: Devices, events: Events, damages: Damages) -> Self
@@ -77,7 +78,7 @@ impl Plan {
     /// The events in their order, at most 10,000.
     pub fn events(&self) -> &[Event]
         ensures value { result.now ≡ self.now.events }
-        ensures bound { length self.now.events ≤ 10000 }
+        ensures bound { length self.now.events ≤ event_most }
         ensures plan { IsPlan self.now }
         ensures paths { AtPorts self.now.events }
     {
@@ -87,7 +88,7 @@ impl Plan {
     /// The damages in their order, at most 10,000.
     pub fn damages(&self) -> &[Damage]
         ensures value { result.now ≡ self.now.damages }
-        ensures bound { length self.now.damages ≤ 10000 }
+        ensures bound { length self.now.damages ≤ damage_most }
         ensures plan { IsPlan self.now }
     {
         self.damages.as_slice()

@@ -3,7 +3,7 @@ ghost use Rattle.std.specs.Prelude.{◌≡◌, ℕ, [], true, false, IfOk, OnOk,
 ghost use Rattle.usb_device.specs.Delivery.{held, is_twice};
 ghost use Rattle.usb_world.specs.World.{IsAttempt};
 ghost use Rattle.usb_world.specs.ExchangeEffects.{StaysPlugged, Exchanged};
-ghost use Rattle.usb_world.specs.Passes.{IsSettled};
+ghost use Rattle.usb_world.specs.AttemptPackets.{IsSettled};
 ghost use Rattle.usb_world.specs.Steps.{IsCut};
 ghost use Rattle.usb_world.specs.LonePackets.{IsWayTo};
 ghost use Rattle.usb_world.specs.Hints.{path_in, way_in};
@@ -23,7 +23,11 @@ pub struct Hints {
 }
 
 impl Hints {
-    /// None yet. An error: memory is refused.
+    /// None yet.
+    ///
+    /// # Errors
+    ///
+    /// Memory is refused.
     #[tactic(auto, using(crate::proofs::HintedPaths::none_yet, crate::proofs::HintedPaths::still_none))]
     pub fn new(alloc: Global) -> Result<Self, AllocError>
         ensures { IfOk result (λ hints. (address : ℕ) → path_in hints address ≡ []) }
@@ -79,9 +83,16 @@ impl Hints {
     }
 }
 
-/// Makes an attempt, as `make_exchange`; `single` says that no two reachable devices are known to
-/// hold one address, before the attempt and after it. Then it goes straight to the device that
-/// holds the attempt's address, if that is found where it was last.
+/// Makes an attempt: the token, then the data, one of them; then what the host says to the answer.
+/// After it no device remembers a packet, also where memory was refused.
+///
+/// `single` says that no two reachable devices are known to hold one address, before the attempt and
+/// after it. Then it goes straight to the device that holds the attempt's address, if that is found
+/// where it was last.
+///
+/// # Errors
+///
+/// Memory is refused for the host's data.
 #[tactic(auto, using(crate::proofs::Routes::way_to, crate::proofs::Routes::alone_token, crate::proofs::RoutesKept::single_still))]
 pub fn make_exchange_by(
     roots: &mut Ports,
@@ -102,5 +113,7 @@ pub fn make_exchange_by(
 {
     let known = hints.is_known(roots, *single, attempt.addr);
     let path = hints.way(known, attempt.addr);
-    exchange_along(roots, path, attempt, damage, single, exchange)
+    *single = false;
+    *single = exchange_along(roots, path, attempt, damage, exchange)?;
+    Ok(())
 }

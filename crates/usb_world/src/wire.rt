@@ -55,15 +55,11 @@ pub fn damage_of(damages: &[Damage], attempt: u64) -> Option<Damage>
 pub(crate) fn harm_to(damage: Option<Damage>, place: u8) -> Option<Harm>
     ensures { result ≡ harm_to damage place }
 {
-    match damage {
-        None => None,
-        Some(damage) => {
-            if damage.packet == place {
-                Some(damage.harm)
-            } else {
-                None
-            }
-        }
+    let damage = damage?;
+    if damage.packet == place {
+        Some(damage.harm)
+    } else {
+        None
     }
 }
 

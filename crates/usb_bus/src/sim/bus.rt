@@ -4,9 +4,9 @@ ghost use Rattle.usb_port.specs.PortState.{off, status_of};
 ghost use Rattle.usb_device.specs.Tree.{row_of};
 ghost use Rattle.usb_port.specs.Calls.{IsSetFeature, IsClearFeature};
 ghost use Rattle.usb_world.specs.World.{Attempted, IsAttempt, IsRootPort};
-ghost use Rattle.usb_device.specs.Delivery.{held, is_clearing, is_twice};
+ghost use Rattle.usb_device.specs.Delivery.{held, is_twice};
 ghost use Rattle.usb_world.specs.Steps.{AttemptFails, SetsRoot, ClearsRoot, after, root_call};
-ghost use Rattle.usb_world.specs.Passes.{IsSettled};
+ghost use Rattle.usb_world.specs.AttemptPackets.{IsSettled};
 ghost use Rattle.usb_world.specs.SanePorts.{IsSane};
 ghost use Rattle.usb_bus.specs.Traces.{Attempts};
 ghost use Rattle.usb_bus.specs.Watch.{has_failed};
@@ -83,7 +83,7 @@ impl<W: Write> SimBus<W> {
     {
         self.single = false;
         self.roots.call(port, call);
-        self.losses = self.losses.after_clearing(clears_connection_change(call));
+        self.losses = self.losses.after_clearing(call.clears_connection_change());
     }
 
     /// The events that are due, and then an attempt and its line.
@@ -144,11 +144,4 @@ fn status_of(roots: &Ports, port: u8) -> [u8; 4]
     ensures { result ≡ status_of (slice_index_or (row_of roots.now) (port - 1) off) }
 {
     roots.port(port).unwrap().status()
-}
-
-/// Whether the call clears C_PORT_CONNECTION.
-fn clears_connection_change(call: PortCall) -> bool
-    ensures { result ≡ is_clearing call }
-{
-    matches!(call, PortCall::ClearConnectionChange)
 }

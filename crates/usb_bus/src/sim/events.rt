@@ -26,7 +26,9 @@ impl<W: Write> SimBus<W> {
     /// Lets the next event come at once, however many attempts it would wait for, and tells what it asks; None
     /// where no event is left.
     ///
-    /// Errors: the fault that was told before; `Memory` where the device could not be made, and the event did not
+    /// # Errors
+    ///
+    /// The fault that was told before; `Memory` where the device could not be made, and the event did not
     /// come; `TraceFailed` where the writer failed in this call, and the event came.
     pub fn apply_next_event(&mut self) -> Result<Option<Due>, BusFault>
         ensures takes { TakesEvent (world_of self.old) (trace_of self.old) result
@@ -97,7 +99,11 @@ impl<W: Write> SimBus<W> {
     }
 }
 
-/// What an action does to what is plugged. An error: memory is refused for a device, and nothing changes.
+/// What an action does to what is plugged.
+///
+/// # Errors
+///
+/// Memory is refused for a device, and nothing changes.
 fn carry_out(
     alloc: Global,
     roots: &mut Ports,

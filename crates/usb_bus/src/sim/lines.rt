@@ -13,7 +13,9 @@ impl<W: Write> SimBus<W> {
 
     /// Writes a line of report, given without its newline. It takes no memory.
     ///
-    /// Errors: the fault that was told before, and then nothing is written; `TraceFailed` where the writer failed
+    /// # Errors
+    ///
+    /// The fault that was told before, and then nothing is written; `TraceFailed` where the writer failed
     /// in this call, and then a front of the line was written.
     pub fn put_line(&mut self, line: &[u8]) -> Result<(), BusFault>
         ensures step { PutLine (world_of self.old) result (world_of self.new) }

@@ -4,12 +4,13 @@ use super::packets::Host::{Ack, Bytes, Data0, Data1, In, Setup};
 use super::packets::Way::{Full, Low, LowWithPre};
 use super::packets::{ADDRESSING, Host, Way, are_heard, going_out, is_heard};
 use TreeStep::{
-    Asks, Calls, Clears, Count, HasLoss, HasShared, IsDevice, IsEnabled, Over, Plugs, Sends,
+    Asks, Calls, Clears, Count, Finds, HasLoss, HasShared, IsDevice, IsEnabled, Over, Plugs, Sends,
     TakesAddress, Unplugs,
 };
+use arrayvec::ArrayVec;
 use std::alloc::{AllocError, Global};
 use std::test::Fail;
-use usb_device::{Passing, Ports};
+use usb_device::{LentPacket, Ports};
 use usb_port::PortCall;
 
 #[derive(Clone, Copy)]
@@ -29,6 +30,8 @@ enum TreeStep {
     /// Whether a device is at a path.
     IsDevice(&'static [u8], bool),
     IsEnabled(u8, bool),
+    /// Which path leads to a holder of an address; an empty one where none is found.
+    Finds(u8, &'static [u8]),
     Over,
     HasShared(bool),
     HasLoss(bool),
@@ -74,6 +77,9 @@ const ROWS: &[TreeRow] = &[
             Sends(LowWithPre, Setup(0), "none"),
             Sends(LowWithPre, Data0(GET_DEVICE), "ACK"),
             HasShared(false),
+            Finds(1, &[1]),
+            Finds(0, &[1, 1]),
+            Finds(2, &[]),
             Count(2),
         ],
     },
@@ -93,7 +99,12 @@ const ROWS: &[TreeRow] = &[
             IsEnabled(3, false),
             Sends(Low, Setup(0), "none"),
             Sends(Low, Data0(GET_DEVICE), "collision"),
+            Finds(0, &[1]),
+            Unplugs(&[1], true),
+            Finds(0, &[2]),
+            Plugs(&[1], &LOW),
             Unplugs(&[2], true),
+            Finds(0, &[]),
             Unplugs(&[2], false),
             IsDevice(&[1], true),
             IsDevice(&[2], false),
@@ -154,6 +165,11 @@ fn is_enabled(ports: &Ports, number: u8) -> bool {
     }
 }
 
+fn finds(ports: &Ports, address: u8, path: &[u8]) -> bool {
+    let mut found: ArrayVec<u8, 8> = ArrayVec::new();
+    ports.find(address, &mut found) != path.is_empty() && found.as_slice() == path
+}
+
 fn asks(ports: &mut Ports, address: u8, request: &'static [u8]) -> Result<bool, AllocError> {
     let exchanges = [(Setup(address), "none"), (Data0(request), "ACK")];
     are_heard(ports, &exchanges)
@@ -178,9 +194,10 @@ fn is_so(ports: &mut Ports, step: TreeStep) -> bool {
 /// Whether the ports tell what a step says; other steps say nothing of that.
 fn tells(ports: &Ports, step: TreeStep) -> bool {
     match step {
-        Clears(host, is) => ports.clears_change(&Passing::of(&going_out(Full, host))) == is,
+        Clears(host, is) => ports.clears_change(&LentPacket::of(&going_out(Full, host))) == is,
         IsDevice(path, is) => ports.device_at(path).is_some() == is,
         IsEnabled(number, is) => is_enabled(ports, number) == is,
+        Finds(address, path) => finds(ports, address, path),
         HasShared(is) => ports.has_shared_address() == is,
         HasLoss(is) => ports.has_address_loss() == is,
         Count(count) => ports.count() == count,

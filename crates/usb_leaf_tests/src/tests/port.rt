@@ -1,6 +1,6 @@
-//! A port step by step, what its status says, and paths of ports.
+//! A port step by step, its calls by their features, what its status says, and paths of ports.
 use arrayvec::ArrayString;
-use usb_port::{Port, PortPath, PortStatus};
+use usb_port::{Port, PortCall, PortPath, PortStatus};
 
 /// What is done to a port, or asked of it.
 #[derive(Clone, Copy, Debug)]
@@ -124,6 +124,28 @@ fn a_status_read(rt: HostRuntime) {
             "{:?}",
             row.bytes
         );
+    }
+}
+
+/// A feature, whether a call sets it, and whether the call that clears it clears a change of
+/// connection; None where no call clears it.
+const FEATURES: &[(u16, bool, Option<bool>)] = &[
+    (0, false, None),
+    (1, false, Some(false)),
+    (4, true, None),
+    (8, true, Some(false)),
+    (16, false, Some(true)),
+    (17, false, Some(false)),
+    (18, false, None),
+    (20, false, Some(false)),
+];
+
+#[test]
+fn calls_by_their_features(rt: HostRuntime) {
+    for (feature, sets, clears) in FEATURES {
+        let is_set = PortCall::of_set(*feature).is_some();
+        let cleared = PortCall::of_clear(*feature).map(PortCall::clears_connection_change);
+        assert_eq!(rt; (is_set, cleared), (*sets, *clears), "{feature}");
     }
 }
 

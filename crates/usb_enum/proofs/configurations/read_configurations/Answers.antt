@@ -1,4 +1,4 @@
-use Rattle.std.proofs.Common.{◌≡◌, ◌∙◌, ℕ, [], false, true, ap, arith, length, subst, sym}
+use Rattle.std.proofs.Common.{◌≡◌, ◌∙◌, ◌+◌, ℕ, [], false, true, ap, arith, length, subst, sym}
 use Rattle.std.proofs.lemmas.Grind.{common_steps}
 use Rattle.usb_enum.specs.declared.fault.EnumFault.TheVariants.{Memory}
 use Rattle.usb_enum.specs.declared.stop.Stop.TheVariants.{Fault}
@@ -12,6 +12,7 @@ use Rattle.usb_enum.proofs.Counts.{went_again, went_times, went_more}
 use Rattle.usb_enum.proofs.ConfigRefusals.{reading_failed, reading_refused, repeated_refused}
 use Rattle.usb_enum.proofs.Readings.{learns_none, configurations_none, configurations_learned}
 use Rattle.usb_enum.proofs.Refusals.{handed_match}
+use Rattle.usb_enum.proofs.TextLengths.{texts_ended, texts_failed, texts_more, texts_none}
 use Rattle.usb_enum.proofs.Values.{one_more}
 use Rattle.usb_enum.proofs.configurations.read_configurations.Goals as goal
 
@@ -21,6 +22,7 @@ loop-index-init g c = record {
   kept = asks_none _;
   read = ap length c.new-texts.ensures;
   differ = rw c.new-texts.ensures tt;
+  counted = texts_none c.args.target _;
   learned = rw c.new-texts.ensures (learns_none (AtMaximum c.args.target (HasConfigurations 0 [])) c.args.target (g.B.Bus.world c.args.bus.now) (λ spec max. configurations_none spec));
 }
 
@@ -35,11 +37,24 @@ loop-index-preserved g c =
       kept = asks_then _ _ _ _ c.loop-index.invariant.kept c.read_text.ensures.went c.read_text.ensures.keeps;
       read = rw c.in_ok-push.ensures.ok (grind (arith, common_steps, c.loop-index.invariant.read));
       differ = rw c.in_ok-push.ensures.ok (one_more texts text c.loop-index.invariant.differ differs);
+      counted = texts_more c.args.target c.loop-index.index _ _ _ _ c.in_ok-text.text c.loop-index.invariant.counted c.read_text.ensures.went c.in_ok-text.ensures.count;
       learned =
           rw c.in_ok-push.ensures.ok
           (configurations_learned c.args.target c.loop-index.index _ texts text (g.B.Bus.world c.args.bus.now) (g.B.Bus.world c.loop-index.bus) (g.B.Bus.world c.read_text.new.bus)
           differs c.loop-index.invariant.learned c.read_text.ensures.went c.in_ok-text.ensures.learned);
     }
+
+pub returns-in_err-text-clause-few : goal.returns-in_err-text-clause-few
+returns-in_err-text-clause-few g c = texts_failed c.args.target c.loop-index.index _ _ _ _ c.read_text.result c.loop-index.invariant.counted c.read_text.ensures.went c.read_text.ensures.count
+
+pub returns-then-has_value-clause-few : goal.returns-then-has_value-clause-few
+returns-then-has_value-clause-few g c = texts_ended c.args.target (c.loop-index.index + 1) _ _ (texts_more c.args.target c.loop-index.index _ _ _ _ c.in_ok-text.text c.loop-index.invariant.counted c.read_text.ensures.went c.in_ok-text.ensures.count)
+
+pub returns-in_err-push-clause-few : goal.returns-in_err-push-clause-few
+returns-in_err-push-clause-few g c = texts_ended c.args.target (c.loop-index.index + 1) _ _ (texts_more c.args.target c.loop-index.index _ _ _ _ c.in_ok-text.text c.loop-index.invariant.counted c.read_text.ensures.went c.in_ok-text.ensures.count)
+
+pub returns-clause-few : goal.returns-clause-few
+returns-clause-few g c = texts_ended c.args.target c.loop-index.index _ _ c.loop-index.invariant.counted
 
 pub returns-in_err-text-clause-went : goal.returns-in_err-text-clause-went
 returns-in_err-text-clause-went g c = went_more _ 255 configuration_bound _ _ _ c.loop-index.invariant.went c.read_text.ensures.went (omega (arith, c.loop-index-test.true, c.ranges.count.fits))

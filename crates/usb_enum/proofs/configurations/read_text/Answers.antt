@@ -10,6 +10,7 @@ use Rattle.usb_enum.specs.Refusals.{Refuses}
 use Rattle.usb_enum.proofs.ConfigRefusals.{config_refused, text_refused}
 use Rattle.usb_enum.proofs.Readings.{configuration_learned}
 use Rattle.usb_enum.proofs.Refusals.{handed_match, explains_on}
+use Rattle.usb_enum.proofs.TextLengths.{config_there, head_unread, text_malformed, text_unread, text_was_read}
 use Rattle.usb_enum.proofs.ToldFailures.{handed_on, refused_told}
 use Rattle.usb_enum.proofs.configurations.read_text.Goals as goal
 
@@ -27,6 +28,25 @@ returns-in-None-clause-went g c =
 
 pub returns-in_err-total-clause-went : goal.returns-in_err-total-clause-went
 returns-in_err-total-clause-went g c = went_wider _ _ c.total_length.ensures.went (omega arith)
+
+pub returns-in_err-total-clause-count : goal.returns-in_err-total-clause-count
+returns-in_err-total-clause-count g c = head_unread c.args.target c.args.index _ _ c.from_residual.result c.in_err-total.field-0.0 c.from_residual.ensures.1 c.total_length.ensures.went
+
+pub returns-in_err-bytes-clause-count : goal.returns-in_err-bytes-clause-count
+returns-in_err-bytes-clause-count g c =
+    text_unread c.args.target c.args.index c.in_ok-total.total _ _ _ c.requires.max c.total_length.ensures.went c.get_config.ensures.went c.in_ok-total.ensures.learned c.in_ok-total.ensures.ends
+    c.from_residual-in_err-bytes.result c.in_err-bytes.field-0.0 c.from_residual-in_err-bytes.ensures.1
+
+pub returns-in-None-clause-count : goal.returns-in-None-clause-count
+returns-in-None-clause-count g c =
+    text_malformed c.args.target c.args.index c.in_ok-total.total _ _ _ c.requires.max c.total_length.ensures.went c.get_config.ensures.went c.in_ok-total.ensures.learned c.in_ok-total.ensures.ends _
+
+pub returns-in-Some-clause-count : goal.returns-in-Some-clause-count
+returns-in-Some-clause-count g c =
+    text_was_read c.args.target c.args.index c.in_ok-total.total _ _ _ c.requires.max c.total_length.ensures.went c.get_config.ensures.went c.in_ok-total.ensures.learned c.in_ok-total.ensures.ends c.in-Some.text
+    (text_asks (config_given c.args.index) _ _ _ _ _ _ c.get_config.ensures.asked c.get_config.ensures.what c.get_config.ensures.keeps).devices
+    (config_there c.args.target _ c.args.index c.in_ok-total.total c.get_config.result c.in_ok-bytes.bytes (g.B.Bus.world c.total_length.new.bus) (g.B.Bus.world c.get_config.new.bus)
+    (sym c.answered_or.ensures ∙ c.in_ok-bytes.was) c.get_config.ensures.asked c.get_config.ensures.what)
 
 pub returns-in_err-bytes-clause-keeps : goal.returns-in_err-bytes-clause-keeps
 returns-in_err-bytes-clause-keeps g c = asks_then _ _ _ _ c.total_length.ensures.keeps c.get_config.ensures.went

@@ -7,7 +7,8 @@ use Rattle.usb_enum.proofs.Counts.{read_went}
 use Rattle.usb_enum.proofs.ConfigRefusals.{config_refused, total_refused}
 use Rattle.usb_enum.proofs.Readings.{total_learned}
 use Rattle.usb_enum.proofs.Refusals.{handed_match}
-use Rattle.usb_enum.proofs.ToldFailures.{handed_on, refused_told}
+use Rattle.usb_enum.proofs.TextLengths.{config_there}
+use Rattle.usb_enum.proofs.ToldFailures.{refused_told}
 use Rattle.usb_enum.proofs.configurations.total_length.Goals as goal
 
 pub returns-in_err-head-clause-went : goal.returns-in_err-head-clause-went
@@ -19,10 +20,15 @@ returns-in-Ok-clause-went g c = read_went c.args.target.max 9 _ _ c.requires.max
 pub returns-clause-went : goal.returns-clause-went
 returns-clause-went g c = read_went c.args.target.max 9 _ _ c.requires.max c.get_config.ensures.went
 
-pub returns-in_err-head-clause-told : goal.returns-in_err-head-clause-told
-returns-in_err-head-clause-told g c =
-    handed_on c.from_residual.result (λ stop. StopTold stop (g.B.Bus.world c.get_config.new.bus)) c.in_err-head.field-0.0 c.from_residual.ensures.1
+pub returns-in_err-head-clause-ends : goal.returns-in_err-head-clause-ends
+returns-in_err-head-clause-ends g c =
+    handed_match c.from_residual.result _ (λ stop. StopTold stop (g.B.Bus.world c.get_config.new.bus)) c.in_err-head.field-0.0 c.from_residual.ensures.1
     (refused_told _ 3 1 _ _ c.get_config.result _ (sym c.answered_or.ensures ∙ c.in_err-head.was) tt c.get_config.ensures.asked.ends)
+
+pub returns-in-Ok-clause-ends : goal.returns-in-Ok-clause-ends
+returns-in-Ok-clause-ends g c =
+    config_there c.args.target _ c.args.index 9 c.get_config.result c.in_ok-head.head (g.B.Bus.world c.args.bus.now) (g.B.Bus.world c.get_config.new.bus)
+    (sym c.answered_or.ensures ∙ c.in_ok-head.was) c.get_config.ensures.asked c.get_config.ensures.what
 
 pub returns-in-Ok-clause-learned : goal.returns-in-Ok-clause-learned
 returns-in-Ok-clause-learned g c =

@@ -12,10 +12,12 @@ use Rattle.usb_enum.proofs.Settings.{listed_learns, set_learned, set_then}
 use Rattle.usb_bus.proofs.Interface.{went_none, went_then, went_wider}
 use Rattle.usb_enum.proofs.Frames.{asks_none, sets_asked, sets_at, sets_told, sets_then, configuration_sets}
 use Rattle.usb_enum.proofs.Counts.{went_on}
+use Rattle.usb_enum.specs.Bounds.{configured_by, texts_bound}
 use Rattle.usb_enum.specs.Stop.{ToldOfDevice}
 use Rattle.usb_enum.proofs.Hubs.{answered_ok, told_of_hub}
 use Rattle.usb_enum.proofs.Powers.{empties_ports}
-use Rattle.usb_enum.proofs.ToldFailures.{handed_on, refused_told, told_of_device}
+use Rattle.usb_enum.proofs.TextLengths.{few_then, few_wider}
+use Rattle.usb_enum.proofs.ToldFailures.{refused_told, told_of_device}
 use Rattle.usb_enum.proofs.enumeration.configure.Goals as goal
 
 pub returns-in_err-fits_tier-clause-went : goal.returns-in_err-fits_tier-clause-went
@@ -66,25 +68,49 @@ returns-clause-went g c = went_on _ _ _ _ _ _ (went_then _ _ (went_then _ _ c.re
 pub returns-clause-keeps : goal.returns-clause-keeps
 returns-clause-keeps g c = sets_then _ _ _ _ _ (sets_then _ _ _ _ _ (sets_then _ _ _ _ _ (sets_asked _ _ _ c.read_configurations.ensures.keeps) c.set_configuration.ensures.went (sets_at _ _ _ _ c.requires (configuration_sets _ _ _ _ _ c.set_configuration.ensures.ordered c.set_configuration.ensures.what c.set_configuration.ensures.keeps))) c.hub_facts.ensures.went (sets_at _ _ _ _ c.requires (sets_told _ _ _ c.hub_facts.ensures.keeps))) c.read_strings.ensures.went (sets_asked _ _ _ c.read_strings.ensures.keeps)
 
-pub returns-in_err-configs-clause-told : goal.returns-in_err-configs-clause-told
-returns-in_err-configs-clause-told g c =
-    handed_on c.from_residual-in_err-configs.result (λ stop. ToldOfDevice c.args.tier stop (g.B.Bus.world c.read_configurations.new.bus)) c.in_err-configs.field-0.0 c.from_residual-in_err-configs.ensures.1
-    (told_of_device _ _ _ c.in_err-configs.ensures.told)
+pub returns-in_err-fits_tier-clause-few : goal.returns-in_err-fits_tier-clause-few
+returns-in_err-fits_tier-clause-few g c = record { few = λ most single each. omega arith }
 
-pub returns-in_err-answered_or-clause-told : goal.returns-in_err-answered_or-clause-told
-returns-in_err-answered_or-clause-told g c =
-    handed_on c.from_residual-in_err-answered_or.result (λ stop. ToldOfDevice c.args.tier stop (g.B.Bus.world c.set_configuration.new.bus)) c.in_err-answered_or.field-0.0 c.from_residual-in_err-answered_or.ensures.1
+pub returns-in_err-configs-clause-few : goal.returns-in_err-configs-clause-few
+returns-in_err-configs-clause-few g c = few_wider texts_bound configured_by c.args.device.target _ _ c.read_configurations.ensures.few (λ most. omega arith)
+
+pub returns-in_err-chosen-clause-few : goal.returns-in_err-chosen-clause-few
+returns-in_err-chosen-clause-few g c = few_wider texts_bound configured_by c.args.device.target _ _ c.read_configurations.ensures.few (λ most. omega arith)
+
+pub returns-in_default-clause-few : goal.returns-in_default-clause-few
+returns-in_default-clause-few g c = few_wider texts_bound configured_by c.args.device.target _ _ c.read_configurations.ensures.few (λ most. omega arith)
+
+pub returns-in_err-answered_or-clause-few : goal.returns-in_err-answered_or-clause-few
+returns-in_err-answered_or-clause-few g c = few_then texts_bound configured_by c.args.device.target _ _ _ _ c.read_configurations.ensures.few c.set_configuration.ensures.went (λ most. omega arith)
+
+pub returns-in_err-hub-clause-few : goal.returns-in_err-hub-clause-few
+returns-in_err-hub-clause-few g c = few_then texts_bound configured_by c.args.device.target _ _ _ _ c.read_configurations.ensures.few (went_then _ _ c.set_configuration.ensures.went c.hub_facts.ensures.went) (λ most. omega arith)
+
+pub returns-in_err-strings-clause-few : goal.returns-in_err-strings-clause-few
+returns-in_err-strings-clause-few g c = few_then texts_bound configured_by c.args.device.target _ _ _ _ c.read_configurations.ensures.few (went_then _ _ (went_then _ _ c.set_configuration.ensures.went c.hub_facts.ensures.went) c.read_strings.ensures.went) (λ most. omega arith)
+
+pub returns-clause-few : goal.returns-clause-few
+returns-clause-few g c = few_then texts_bound configured_by c.args.device.target _ _ _ _ c.read_configurations.ensures.few (went_then _ _ (went_then _ _ c.set_configuration.ensures.went c.hub_facts.ensures.went) c.read_strings.ensures.went) (λ most. omega arith)
+
+pub returns-in_err-configs-clause-ends : goal.returns-in_err-configs-clause-ends
+returns-in_err-configs-clause-ends g c =
+    handed_match c.from_residual-in_err-configs.result _ (λ stop. ToldOfDevice c.args.tier stop (g.B.Bus.world c.read_configurations.new.bus)) c.in_err-configs.field-0.0 c.from_residual-in_err-configs.ensures.1
+    (told_of_device _ _ _ c.in_err-configs.ensures.ends)
+
+pub returns-in_err-answered_or-clause-ends : goal.returns-in_err-answered_or-clause-ends
+returns-in_err-answered_or-clause-ends g c =
+    handed_match c.from_residual-in_err-answered_or.result _ (λ stop. ToldOfDevice c.args.tier stop (g.B.Bus.world c.set_configuration.new.bus)) c.in_err-answered_or.field-0.0 c.from_residual-in_err-answered_or.ensures.1
     (told_of_device _ _ _ (refused_told _ 2 1 _ _ c.set_configuration.result _ (sym c.answered_or.ensures ∙ c.in_err-answered_or.was) tt c.set_configuration.ensures.ordered.ends))
 
-pub returns-in_err-strings-clause-told : goal.returns-in_err-strings-clause-told
-returns-in_err-strings-clause-told g c =
-    handed_on c.from_residual-in_err-strings.result (λ stop. ToldOfDevice c.args.tier stop (g.B.Bus.world c.read_strings.new.bus)) c.in_err-strings.field-0.0 c.from_residual-in_err-strings.ensures.1
+pub returns-in_err-strings-clause-ends : goal.returns-in_err-strings-clause-ends
+returns-in_err-strings-clause-ends g c =
+    handed_match c.from_residual-in_err-strings.result _ (λ stop. ToldOfDevice c.args.tier stop (g.B.Bus.world c.read_strings.new.bus)) c.in_err-strings.field-0.0 c.from_residual-in_err-strings.ensures.1
     (told_of_device _ _ _ c.in_err-strings.ensures.told)
 
-pub returns-in_err-hub-clause-told : goal.returns-in_err-hub-clause-told
-returns-in_err-hub-clause-told g c =
+pub returns-in_err-hub-clause-ends : goal.returns-in_err-hub-clause-ends
+returns-in_err-hub-clause-ends g c =
     let fits = sym c.fits_tier.ensures ∙ c.in_ok-fits_tier.was in
-    handed_on c.from_residual-in_err-hub.result (λ stop. ToldOfDevice c.args.tier stop (g.B.Bus.world c.hub_facts.new.bus)) c.in_err-hub.field-0.0 c.from_residual-in_err-hub.ensures.1
+    handed_match c.from_residual-in_err-hub.result _ (λ stop. ToldOfDevice c.args.tier stop (g.B.Bus.world c.hub_facts.new.bus)) c.in_err-hub.field-0.0 c.from_residual-in_err-hub.ensures.1
     (told_of_hub c.args.tier c.args.device.bytes _ _ fits c.in_err-hub.ensures.hub c.in_err-hub.ensures.told)
 
 pub returns-clause-learned : goal.returns-clause-learned

@@ -3,7 +3,7 @@ use Rattle.usb_bus.proofs.Interface.{went_wider}
 use Rattle.usb_hub.proofs.Interface.{port_stays}
 use Rattle.usb_enum.proofs.Counts.{went_on}
 use Rattle.usb_resources.specs.Pool.{HasAddresses, IsFull}
-use Rattle.usb_enum.proofs.Endings.{zero_untaken, zero_before, free_untaken, enumerated, given_up, none_true, found_true, device_placed, refused_placed, device_warranted, stopped_warranted}
+use Rattle.usb_enum.proofs.Endings.{zero_untaken, zero_before, free_untaken, enumerated, given_up, none_true, found_true, device_placed, few_made, few_unaddressed, refused_placed, device_warranted, stopped_warranted}
 use Rattle.usb_enum.proofs.Frames.{calls_then}
 use Rattle.usb_enum.specs.Refusals.{unaddressed_fault, whole_fault}
 use Rattle.usb_enum.proofs.Warrants.{unaddressed_right, whole_right}
@@ -20,6 +20,7 @@ returns-in_default-clause-ends g c =
       warrants =
           stopped_warranted c.args.port c.args.pool.now 0 zero zero unaddressed_fault c.args.tier c.args.supply _ _ _ _ _ _ _ c.without_address-stop.ensures.went c.give_up.ensures.went c.without_address-stop.ensures.within
           c.without_address-stop.ensures.why (c.give_up.ensures.closes 0) c.give_up.ensures.left (unaddressed_right (IsFull c.args.pool.now) c.in_default.ensures.none.0 c.args.tier c.args.supply);
+      few = few_unaddressed c.args.port c.args.pool.now _ _ _ c.without_address-stop.ensures.went c.give_up.ensures.went;
     }
 
 pub returns-in-Ok-clause-ends : goal.returns-in-Ok-clause-ends
@@ -30,6 +31,7 @@ returns-in-Ok-clause-ends g c =
       own = found_true c.args.port c.args.pool.now c.in-Some.address (zero_before _ _ _ taken c.take.ensures.range) (free_untaken _ _ _ taken) _ _ _ _ _ c.in-Ok.ensures.ok.own;
       places = device_placed c.args.port c.args.pool.now c.in-Some.address (zero_before _ _ _ taken c.take.ensures.range) (free_untaken _ _ _ taken) _ _ _ c.in-Ok.ensures.ok.reaches (λ f p is t order occupied none. c.in-Ok.ensures.ok.below f p is t order none);
       warrants = device_warranted c.args.port c.args.pool.now c.in-Some.address (zero_before _ _ _ taken c.take.ensures.range) (free_untaken _ _ _ taken) _ _ _ _ _;
+      few = few_made c.args.port c.args.pool.now c.in-Some.address (zero_before _ _ _ taken c.take.ensures.range) (free_untaken _ _ _ taken) _ _ _ c.examine.ensures.few (omega arith);
     }
 
 pub returns-in-Err-clause-ends : goal.returns-in-Err-clause-ends
@@ -46,6 +48,7 @@ returns-in-Err-clause-ends g c =
           stopped_warranted c.args.port c.args.pool.now c.in-Some.address (zero_before _ _ _ taken c.take.ensures.range) (free_untaken _ _ _ taken) (whole_fault c.args.tier c.args.supply) c.args.tier c.args.supply _ _ _ _ _ _ _
           c.examine.ensures.went c.give_up-finding.ensures.went c.examine.ensures.within c.in-Err.ensures.ok (c.give_up-finding.ensures.closes c.in-Some.address) c.give_up-finding.ensures.left
           (whole_right (IsFull c.args.pool.now) c.args.tier c.args.supply);
+      few = few_made c.args.port c.args.pool.now c.in-Some.address (zero_before _ _ _ taken c.take.ensures.range) (free_untaken _ _ _ taken) _ _ _ c.examine.ensures.few c.give_up-finding.ensures.went.spends.most;
     }
 
 pub give_up-requires : goal.give_up-requires

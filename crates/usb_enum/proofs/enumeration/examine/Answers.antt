@@ -4,7 +4,8 @@ use Rattle.usb_enum.proofs.Counts.{went_on}
 use Rattle.usb_enum.proofs.Frames.{at_configured}
 use Rattle.usb_enum.specs.Refusals.{addressed_fault, whole_fault}
 use Rattle.usb_enum.proofs.Fairness.{stops_wider}
-use Rattle.usb_enum.proofs.Refusals.{handed_match, matched_ok}
+use Rattle.usb_enum.proofs.Refusals.{handed_match, matched_err, matched_ok}
+use Rattle.usb_enum.proofs.TextLengths.{examined_few}
 use Rattle.usb_enum.proofs.Truths.{accepted}
 use Rattle.usb_enum.proofs.Warrants.{addressed_verdict, configured_err, matched}
 use Rattle.usb_enum.proofs.enumeration.examine.Goals as goal
@@ -12,6 +13,13 @@ use Rattle.usb_enum.proofs.enumeration.examine.Goals as goal
 pub returns-clause-within : goal.returns-clause-within
 returns-clause-within g c =
     at_configured _ _ _ _ _ _ (rw c.number.ensures.value at c.passes.ensures.within) (rw c.number.ensures.value at c.in_ok-device.ensures.taken).takes c.configure.ensures.went c.configure.ensures.keeps
+
+pub returns-in_err-device-clause-few : goal.returns-in_err-device-clause-few
+returns-in_err-device-clause-few g c = record { few = λ f p spare till regular most plan. omega (arith, c.passes.ensures.went.spends.most) }
+
+pub returns-clause-few : goal.returns-clause-few
+returns-clause-few g c =
+    examined_few _ _ c.in_ok-device.device _ _ _ c.passes.ensures.went (rw c.number.ensures.value at c.in_ok-device.ensures.taken) c.configure.ensures.few c.configure.ensures.keeps.addresses
 
 pub returns-in_err-device-clause-ok : goal.returns-in_err-device-clause-ok
 returns-in_err-device-clause-ok g c =
@@ -23,8 +31,8 @@ returns-clause-ok g c =
     let within = rw c.number.ensures.value at c.passes.ensures.within in
     let taken = rw c.number.ensures.value at c.in_ok-device.ensures.taken in
     matched c.configure.result _ _
-    (accepted _ _ _ _ _ _ _ c.configure.result c.passes.ensures.went within.within taken c.configure.ensures.keeps c.configure.ensures.went c.configure.ensures.whole (matched_ok c.configure.result _ _ c.configure.ensures.learned))
-    (configured_err _ _ _ _ _ _ c.in_ok-device.device c.passes.ensures.went c.configure.ensures.went within taken c.configure.ensures.keeps c.in_ok-device.device.device c.configure.result _ c.configure.ensures.told c.configure.ensures.learned)
+    (accepted _ _ _ _ _ _ _ c.configure.result c.passes.ensures.went within.within taken c.configure.ensures.keeps c.configure.ensures.went (matched_ok c.configure.result _ _ c.configure.ensures.ends) (matched_ok c.configure.result _ _ c.configure.ensures.learned))
+    (configured_err _ _ _ _ _ _ c.in_ok-device.device c.passes.ensures.went c.configure.ensures.went within taken c.configure.ensures.keeps c.in_ok-device.device.device c.configure.result _ (matched_err c.configure.result _ _ c.configure.ensures.ends) c.configure.ensures.learned)
 
 pub returns-in_err-device-clause-went : goal.returns-in_err-device-clause-went
 returns-in_err-device-clause-went g c = went_wider _ _ c.passes.ensures.went (omega arith)

@@ -1,6 +1,6 @@
 use Rattle.std.proofs.Common.{arith, refl}
 use Rattle.usb_bus.proofs.Interface.{went_none}
-use Rattle.usb_enum.specs.Bounds.{none_bound}
+use Rattle.usb_pipe.specs.Control.{write_bound}
 use Rattle.usb_enum.proofs.Counts.{went_again, went_times, went_more}
 use Rattle.usb_enum.proofs.Hubs.{powered_more}
 use Rattle.usb_enum.proofs.Frames.{tells_none, tells_then}
@@ -15,19 +15,19 @@ ports-init g c = record { went = went_none; kept = tells_none _ _; powered = ref
 
 pub ports-preserved : goal.ports-preserved
 ports-preserved g c = record {
-  went = went_again _ none_bound _ _ _ c.ports.invariant.went c.power_port.ensures.went;
+  went = went_again _ write_bound _ _ _ c.ports.invariant.went c.power_port.ensures.went;
   kept = tells_then _ _ _ _ _ c.ports.invariant.kept c.power_port.ensures.went c.power_port.ensures.keeps;
   powered = powered_more _ _ _ _ _ c.ports.invariant.powered c.in_ok-power_port.ensures.powered;
 }
 
 pub returns-in_err-power_port-clause-went : goal.returns-in_err-power_port-clause-went
-returns-in_err-power_port-clause-went g c = went_more _ _ none_bound _ _ _ c.ports.invariant.went c.power_port.ensures.went c.ports-test.true
+returns-in_err-power_port-clause-went g c = went_more _ _ write_bound _ _ _ c.ports.invariant.went c.power_port.ensures.went c.ports-test.true
 
 pub returns-in_err-power_port-clause-keeps : goal.returns-in_err-power_port-clause-keeps
 returns-in_err-power_port-clause-keeps g c = tells_then _ _ _ _ _ c.ports.invariant.kept c.power_port.ensures.went c.power_port.ensures.keeps
 
 pub returns-clause-went : goal.returns-clause-went
-returns-clause-went g c = went_times _ _ none_bound _ _ c.ports.invariant.went c.ports.auto.before-end
+returns-clause-went g c = went_times _ _ write_bound _ _ c.ports.invariant.went c.ports.auto.before-end
 
 pub returns-in_err-power_port-clause-why : goal.returns-in_err-power_port-clause-why
 returns-in_err-power_port-clause-why g c =

@@ -1,13 +1,13 @@
 use Rattle.std.proofs.Common.{◌*◌}
 use Rattle.usb_bus.specs.Traces.{Went}
+use Rattle.usb_pipe.specs.Control.{write_bound}
 use Rattle.usb_enum.specs.Frames.{OnlyTells}
-use Rattle.usb_enum.specs.Bounds.{none_bound}
 use Rattle.usb_enum.specs.Hub.{Powered}
 use Rattle.usb_enum.proofs.hub.power_ports.Given as goal
 
 abbrev pub invariant-ports : goal.invariant-ports
 invariant-ports g l = record {
-  went : Went g.B.Bus.world g.B.Bus.trace (l.before * none_bound) l.initial.bus l.bus;
+  went : Went g.B.Bus.world g.B.Bus.trace (l.before * write_bound) l.initial.bus l.bus;
   kept : OnlyTells l.target.addr (g.B.Bus.world l.initial.bus) (g.B.Bus.world l.bus);
   powered : Powered l.target l.before (g.B.Bus.world l.initial.bus) (g.B.Bus.world l.bus);
 }

@@ -1,6 +1,8 @@
-use Rattle.std.proofs.Common.{arith}
+use Rattle.std.proofs.Common.{arith, ◌+◌}
 use Rattle.usb_bus.proofs.Interface.{went_then, went_wider}
 use Rattle.std.proofs.Common.{rules, Ok}
+use Rattle.usb_transaction.specs.Transactions.{transaction_bound}
+use Rattle.usb_pipe.specs.Control.{write_bound}
 use Rattle.usb_pipe.specs.Stages.{Writes}
 use Rattle.usb_pipe.proofs.ControlTransfers.{write_at_status, write_told}
 use Rattle.usb_pipe.proofs.control.control_none.Given as given
@@ -32,10 +34,10 @@ returns-clause-transfer g c =
 -- What went
 
 pub returns-in_err-setup-clause-went : goal.returns-in_err-setup-clause-went
-returns-in_err-setup-clause-went g c = went_wider 3 1600 c.setup.ensures.went (omega arith)
+returns-in_err-setup-clause-went g c = went_wider 3 write_bound c.setup.ensures.went (omega arith)
 
 pub returns-in_err-data_in-clause-went : goal.returns-in_err-data_in-clause-went
-returns-in_err-data_in-clause-went g c = went_wider 771 1600 (went_then 3 768 c.setup.ensures.went c.data_in.ensures.went) (omega arith)
+returns-in_err-data_in-clause-went g c = went_wider (3 + transaction_bound) write_bound (went_then 3 transaction_bound c.setup.ensures.went c.data_in.ensures.went) (omega arith)
 
 pub returns-clause-went : goal.returns-clause-went
-returns-clause-went g c = went_wider 771 1600 (went_then 3 768 c.setup.ensures.went c.data_in.ensures.went) (omega arith)
+returns-clause-went g c = went_wider (3 + transaction_bound) write_bound (went_then 3 transaction_bound c.setup.ensures.went c.data_in.ensures.went) (omega arith)

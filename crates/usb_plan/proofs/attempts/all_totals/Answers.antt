@@ -9,8 +9,8 @@ texts-preserved c =
     let texts = c.configs-texts.result.now in
     let one = sum_by_more head_total texts c.texts.text-index c.text-item.result c.texts-test.true in
     record {
-      so_far = rw (one, c.texts.invariant.so_far, c.total-sum.ensures.value, c.as_slice.ensures.value, ← c.text-item.is);
-      few = omega (arith, c.texts.invariant.few, c.total-sum.ensures.most);
+      so_far = rw (one, c.texts.invariant.so_far, c.head_total-sum.ensures.value, c.as_slice.ensures.value, ← c.text-item.is);
+      few = omega (arith, c.texts.invariant.few, c.head_total-sum.ensures.most);
     }
 
 pub returns-clause-value : goal.returns-clause-value

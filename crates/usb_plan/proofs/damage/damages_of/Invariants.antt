@@ -1,4 +1,4 @@
-use Rattle.std.proofs.Common.{◌≡◌, ◌+◌, ◌≤◌, [], map, drop, true}
+use Rattle.std.proofs.Common.{◌≡◌, ◌+◌, ◌<◌, ◌^◌, [], map, drop, true}
 use Rattle.toml.specs.View.{view}
 use Rattle.usb_world.specs.PlanData.{damages_fit}
 use Rattle.usb_plan.specs.Damage.{damages_from, last_from}
@@ -9,5 +9,5 @@ invariant-loop-i l = record {
   so_far : damages_from (l.i + 1) l.done (map view (drop l.i l.values)) ≡ damages_from 1 [] (map view l.values);
   fit : damages_fit 0 l.done ≡ true;
   last : l.last ≡ last_from 0 l.done;
-  most : l.last ≤ 9223372036854775807;
+  most : l.last < 2 ^ 63;
 }

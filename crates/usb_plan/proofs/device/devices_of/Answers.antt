@@ -3,11 +3,11 @@ use Rattle.toml.specs.Data.{as_table}
 use Rattle.toml.specs.View.{view}
 use Rattle.usb_plan.specs.declared.fault.Place.TheVariants as place
 use Rattle.usb_plan.specs.declared.fault.PlanFault.TheVariants as fault
-use Rattle.usb_plan.specs.declared.kind.Kind.TheVariants.{Memory}
-use Rattle.usb_plan.specs.Kind.{EqualUnless}
+use Rattle.usb_plan.specs.declared.entry_fault.EntryFault.TheVariants.{Memory}
+use Rattle.usb_plan.specs.EntryFault.{EqualUnless}
 use Rattle.usb_plan.specs.Device.{device_in}
-use Rattle.usb_plan.proofs.Parts.{device_in_ok, placed_ok}
-use Rattle.usb_plan.proofs.MemoryRefusals.{placed_told, placed_read, unless_handed}
+use Rattle.usb_plan.proofs.Parts.{device_in_ok, entry_at_ok}
+use Rattle.usb_plan.proofs.MemoryRefusals.{entry_at_told, entry_at_read, unless_handed}
 use Rattle.usb_plan.proofs.Growth.{devices_from-step, devices_from-fault, devices_from-end}
 use Rattle.usb_plan.proofs.device.devices_of.Goals as goal
 
@@ -19,30 +19,30 @@ returns-in_err-device c =
     let why = c.in_err-device.field-0.0 in
     unless_handed fault.Memory c.from_residual.result _ why c.from_residual.ensures.1
     (λ ne. sym (devices_from-fault c.loop-i.done c.args.values.now c.loop-i.i v spelled why _ c.loop-i-test.true c.index-values-i.is refl
-    (placed_told (place.Device (c.loop-i.i + 1)) c.device_in-read.result spelled c.placed.result why same c.placed.ensures c.in_err-device.was ne) c.loop-i.invariant))
+    (entry_at_told (place.Device (c.loop-i.i + 1)) c.device_in-read.result spelled c.entry_at.result why same c.entry_at.ensures c.in_err-device.was ne) c.loop-i.invariant))
 
 pub push-requires-clause-room : goal.push-requires-clause-room
 push-requires-clause-room c =
     let v = c.index-values-i.result in
     let spelled = device_in c.loop-i.done (as_table (view v)) in
     let same : EqualUnless Memory c.device_in-read.result spelled = rw c.as_table.ensures at c.device_in-read.ensures in
-    let good = placed_read (place.Device (c.loop-i.i + 1)) c.device_in-read.result spelled c.placed.result c.in_ok-device.device same c.placed.ensures c.in_ok-device.was in
-    (device_in_ok c.loop-i.done (as_table (view v)) c.in_ok-device.device (placed_ok _ spelled c.in_ok-device.device good)).room
+    let good = entry_at_read (place.Device (c.loop-i.i + 1)) c.device_in-read.result spelled c.entry_at.result c.in_ok-device.device same c.entry_at.ensures c.in_ok-device.was in
+    (device_in_ok c.loop-i.done (as_table (view v)) c.in_ok-device.device (entry_at_ok _ spelled c.in_ok-device.device good)).room
 
 pub push-requires-clause-name : goal.push-requires-clause-name
 push-requires-clause-name c =
     let v = c.index-values-i.result in
     let spelled = device_in c.loop-i.done (as_table (view v)) in
     let same : EqualUnless Memory c.device_in-read.result spelled = rw c.as_table.ensures at c.device_in-read.ensures in
-    let good = placed_read (place.Device (c.loop-i.i + 1)) c.device_in-read.result spelled c.placed.result c.in_ok-device.device same c.placed.ensures c.in_ok-device.was in
-    (device_in_ok c.loop-i.done (as_table (view v)) c.in_ok-device.device (placed_ok _ spelled c.in_ok-device.device good)).new
+    let good = entry_at_read (place.Device (c.loop-i.i + 1)) c.device_in-read.result spelled c.entry_at.result c.in_ok-device.device same c.entry_at.ensures c.in_ok-device.was in
+    (device_in_ok c.loop-i.done (as_table (view v)) c.in_ok-device.device (entry_at_ok _ spelled c.in_ok-device.device good)).new
 
 pub loop-i-preserved : goal.loop-i-preserved
 loop-i-preserved c =
     let v = c.index-values-i.result in
     let spelled = device_in c.loop-i.done (as_table (view v)) in
     let same : EqualUnless Memory c.device_in-read.result spelled = rw c.as_table.ensures at c.device_in-read.ensures in
-    let good = placed_read (place.Device (c.loop-i.i + 1)) c.device_in-read.result spelled c.placed.result c.in_ok-device.device same c.placed.ensures c.in_ok-device.was in
+    let good = entry_at_read (place.Device (c.loop-i.i + 1)) c.device_in-read.result spelled c.entry_at.result c.in_ok-device.device same c.entry_at.ensures c.in_ok-device.was in
     rw c.in_ok-push.ensures.ok (devices_from-step c.loop-i.done c.args.values.now c.loop-i.i v spelled c.in_ok-device.device _ c.loop-i-test.true c.index-values-i.is refl good c.loop-i.invariant)
 
 pub returns : goal.returns

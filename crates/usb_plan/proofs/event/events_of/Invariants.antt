@@ -1,6 +1,6 @@
 use Rattle.std.proofs.Common.{◌≡◌, ◌+◌, [], map, drop, true}
 use Rattle.toml.specs.View.{view}
-use Rattle.usb_world.specs.PluggedDevices.{plugged_by}
+use Rattle.usb_plan.specs.Scene.{scene_after}
 use Rattle.usb_world.specs.PlanData.{events_fit}
 use Rattle.usb_plan.specs.Event.{events_from}
 use Rattle.usb_plan.proofs.event.events_of.Given as goal
@@ -9,5 +9,5 @@ abbrev pub invariant-loop-i : goal.invariant-loop-i
 invariant-loop-i l = record {
   so_far : events_from l.roots l.devices (l.i + 1) l.done (map view (drop l.i l.values)) ≡ events_from l.roots l.devices 1 [] (map view l.values);
   fit : events_fit l.roots l.devices [] l.done ≡ true;
-  tree : l.tree ≡ plugged_by [] l.done;
+  scene : l.scene ≡ scene_after l.roots l.devices l.done;
 }

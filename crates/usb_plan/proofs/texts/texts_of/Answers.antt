@@ -1,10 +1,9 @@
 use Rattle.std.proofs.Common.{◌+◌, ◌∙◌, sym, refl, arith}
-use Rattle.toml.specs.Data.{as_str}
 use Rattle.toml.specs.View.{view}
-use Rattle.usb_plan.specs.declared.kind.Kind.TheVariants.{Memory}
+use Rattle.usb_plan.specs.declared.entry_fault.EntryFault.TheVariants.{Memory}
 use Rattle.usb_plan.specs.Value.{hex_in}
-use Rattle.usb_plan.proofs.Steps.{AtMost-pushed, AtMost-unless, texts_from-step, texts_from-end}
-use Rattle.usb_plan.proofs.MemoryRefusals.{pushed_is, unless_equal}
+use Rattle.usb_plan.proofs.Steps.{AtMost-with_text, AtMost-unless, texts_from-step, texts_from-end}
+use Rattle.usb_plan.proofs.MemoryRefusals.{with_text_is, unless_equal}
 use Rattle.usb_plan.proofs.texts.texts_of.Goals as goal
 
 pub loop-value-init : goal.loop-value-init
@@ -12,12 +11,12 @@ loop-value-init g c = record { so_far = λ _. rw c.new.ensures; few = rw c.new.e
 
 pub loop-value-preserved : goal.loop-value-preserved
 loop-value-preserved g c =
-    let text = hex_in g.row.MAX (as_str (view c.value-item.result)) in
+    let text = hex_in g.row.MAX (view c.value-item.result) in
     record {
       so_far = λ ne.
-          let is = pushed_is c.loop-value.texts c.pushed-texts.result c.hex_in.result text c.pushed-texts.ensures c.hex_in.ensures ne in
-          rw is.pushed_is (texts_from-step g.row.MAX c.loop-value.texts c.args.values.now c.loop-value.value-index c.value-item.result text _ c.loop-value-test.true c.value-item.is refl (c.loop-value.invariant.so_far is.texts_read));
-      few = AtMost-unless (c.loop-value.value-index + 1) c.pushed-texts.result _ c.pushed-texts.ensures (AtMost-pushed c.loop-value.value-index c.loop-value.texts c.hex_in.result c.loop-value.invariant.few);
+          let is = with_text_is c.loop-value.texts c.with_text-texts.result c.hex_in.result text c.with_text-texts.ensures c.hex_in.ensures ne in
+          rw is.with_text_is (texts_from-step g.row.MAX c.loop-value.texts c.args.values.now c.loop-value.value-index c.value-item.result text _ c.loop-value-test.true c.value-item.is refl (c.loop-value.invariant.so_far is.texts_read));
+      few = AtMost-unless (c.loop-value.value-index + 1) c.with_text-texts.result _ c.with_text-texts.ensures (AtMost-with_text c.loop-value.value-index c.loop-value.texts c.hex_in.result c.loop-value.invariant.few);
     }
 
 pub returns : goal.returns

@@ -1,7 +1,7 @@
 use Rattle.std.proofs.Common.{None, Some, Ok, Err, inr, refl, sym, ap, ◌∙◌}
 use Rattle.std.proofs.lemmas.Result.{err_from_is_err_and}
 use Rattle.usb_transaction.specs.HeardOutcomes.{heard_as, polled}
-use Rattle.usb_transaction.specs.declared.heard.Heard.TheVariants.{Repeat}
+use Rattle.usb_transaction.specs.declared.heard_outcome.HeardOutcome.TheVariants.{Repeat}
 use Rattle.usb_transaction.specs.declared.fault.TransFault.TheVariants.{Stalled, Busy, NoAnswer, Bus}
 use Rattle.usb_transaction.proofs.Calls.{polls_in}
 use Rattle.usb_transaction.proofs.LastOutcomes.{heard_nak, heard_stall}

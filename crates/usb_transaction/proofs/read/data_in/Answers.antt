@@ -14,7 +14,7 @@ pub tries-preserved-in-Continue-1 : goal.tries-preserved-in-Continue-1
 tries-preserved-in-Continue-1 g c =
     let one = once c.attempt_of_in-attempt.ensures.value c.in-Ok.ensures.settled c.attempt_of_in-attempt.ensures.fits c.in-Ok.ensures.attempts in
     let awaited = ap (λ t. heard_as t c.in-Ok.outcome) c.tries.invariant.0 in
-    (c.tries.invariant.0, stands_waited c.tries.invariant.1 one c.judged.result _ (c.judged.ensures ∙ awaited) c.in-NotReady.is c.wait.ensures.count c.in_ok-wait-in-NotReady.ensures.end)
+    (c.tries.invariant.0, stands_waited c.tries.invariant.1 one c.heard_as.result _ (c.heard_as.ensures ∙ awaited) c.in-NotReady.is c.wait.ensures.count c.in_ok-wait-in-NotReady.ensures.end)
 
 pub tries-preserved : goal.tries-preserved
 tries-preserved g c =
@@ -35,7 +35,7 @@ returns-in_err-wait-in-NotReady-clause-asks g c =
     let awaited = ap (λ t. heard_as t c.in-Ok.outcome) c.tries.invariant.0 in
     let end = c.in_err-wait-in-NotReady.ensures.end in
     let told = err_from_is_err_and c.from_residual.result c.from_residual.ensures.1 in
-    let it = told_busy c.tries.invariant.1 one c.judged.result _ (c.judged.ensures ∙ awaited) c.in-NotReady.is c.wait.ensures.count end.1 in
+    let it = told_busy c.tries.invariant.1 one c.heard_as.result _ (c.heard_as.ensures ∙ awaited) c.in-NotReady.is c.wait.ensures.count end.1 in
     rw (told.1, told.2, end.0) (asks_in c.args.target c.args.ep c.args.toggle.now _ _ it.settled (Err Busy) it.heard tt)
 
 pub returns-in-Refused-clause-asks : goal.returns-in-Refused-clause-asks

@@ -1,6 +1,6 @@
 use Rattle.std.proofs.Common.{◌≡◌, ◌+◌, ◌*◌, ◌-◌}
 use Rattle.usb_transaction.specs.HeardOutcomes.{heard_as}
-use Rattle.usb_transaction.specs.Transactions.{in_attempt}
+use Rattle.usb_transaction.specs.Transactions.{in_attempt, transaction_bound}
 use Rattle.usb_transaction.proofs.TransactionTries.{Stands}
 use Rattle.usb_transaction.proofs.read.data_in.Given as goal
 
@@ -8,4 +8,4 @@ abbrev pub invariant-tries : goal.invariant-tries
 invariant-tries g l = (l.toggle ≡ l.initial.toggle) × Stands (heard_as l.initial.toggle) (in_attempt l.fn.target l.fn.ep) l.tries (g.B.Bus.world l.initial.bus) (g.B.Bus.trace l.initial.bus) (g.B.Bus.world l.bus) (g.B.Bus.trace l.bus)
 
 abbrev pub decreases-tries : goal.decreases-tries
-decreases-tries g l = 768 - (3 * l.tries.waits + l.tries.errors)
+decreases-tries g l = transaction_bound - (3 * l.tries.waits + l.tries.errors)

@@ -14,7 +14,7 @@ tries-init g c = (refl, stands_new c.new-tries.result _ c.new-tries.ensures)
 pub tries-preserved-in-Continue-1 : goal.tries-preserved-in-Continue-1
 tries-preserved-in-Continue-1 g c =
     let one = once c.attempt_of_out-attempt.ensures.value c.in-Ok.ensures.settled c.attempt_of_out-attempt.ensures.fits c.in-Ok.ensures.attempts in
-    (c.tries.invariant.0, stands_waited c.tries.invariant.1 one c.judged_sent.result _ c.judged_sent.ensures c.in-NotReady.is c.wait.ensures.count c.in_ok-wait-in-NotReady.ensures.end)
+    (c.tries.invariant.0, stands_waited c.tries.invariant.1 one c.heard_when_sent.result _ c.heard_when_sent.ensures c.in-NotReady.is c.wait.ensures.count c.in_ok-wait-in-NotReady.ensures.end)
 
 pub tries-preserved : goal.tries-preserved
 tries-preserved g c =
@@ -32,7 +32,7 @@ returns-in_err-wait-in-NotReady-clause-sends g c =
     let one = once c.attempt_of_out-attempt.ensures.value c.in-Ok.ensures.settled c.attempt_of_out-attempt.ensures.fits c.in-Ok.ensures.attempts in
     let end = c.in_err-wait-in-NotReady.ensures.end in
     let told = err_from_is_err_and c.from_residual.result c.from_residual.ensures.1 in
-    let it = told_busy c.tries.invariant.1 one c.judged_sent.result _ c.judged_sent.ensures c.in-NotReady.is c.wait.ensures.count end.1 in
+    let it = told_busy c.tries.invariant.1 one c.heard_when_sent.result _ c.heard_when_sent.ensures c.in-NotReady.is c.wait.ensures.count end.1 in
     rw (told.1, told.2, end.0) (sends_out c.args.target c.args.ep c.args.toggle.now c.args.bytes.now _ _ it.settled (Err Busy) it.heard)
 
 pub returns-in-Refused-clause-sends : goal.returns-in-Refused-clause-sends

@@ -1,12 +1,24 @@
-use Rattle.usb_world.proofs.Exchanges.{over_plugged, ended_ports}
+use Rattle.std.proofs.Common.{sym, ◌∙◌}
+use Rattle.usb_world.proofs.Exchanges.{over_plugged, over_made}
 use Rattle.usb_world.proofs.RoutesKept.{kept_at}
 use Rattle.usb_world.proofs.exchange.exchange_along.Goals as goal
 
-pub returns-clause-plugged : goal.returns-clause-plugged
-returns-clause-plugged c = over_plugged _ _ _ c.end_attempt-address.ensures.over c.send_packets-made.ensures.plugged
+pub returns-in_err-made-clause-plugged : goal.returns-in_err-made-clause-plugged
+returns-in_err-made-clause-plugged c = over_plugged _ _ _ c.end_attempt-left.ensures.over c.in_err-made.ensures.plugged
 
-pub returns-clause-kept : goal.returns-clause-kept
-returns-clause-kept c = λ still.
-    kept_at c.send_packets-made.result c.args.attempt.now c.args.damage c.args.roots.now c.send_packets-made.new.roots _ _ c.send_packets-made.new.quiet c.end_attempt-address.result
-    (c.is_kept.ensures.made still) (c.is_kept.ensures.quiet still) (c.is_kept.ensures.left still)
-    c.send_packets-made.ensures.quiet (ended_ports c.send_packets-made.result _ _ _ _ _ c.send_packets-made.ensures.made) c.end_attempt-address.ensures.over c.end_attempt-address.ensures.address
+pub returns-then-quiet-clause-plugged : goal.returns-then-quiet-clause-plugged
+returns-then-quiet-clause-plugged c = over_plugged _ _ _ c.end_attempt-left.ensures.over c.in_ok-made.ensures.plugged
+
+pub returns-then-quiet-clause-made : goal.returns-then-quiet-clause-made
+returns-then-quiet-clause-made c = over_made _ _ _ _ _ _ c.end_attempt-left.ensures.over c.in_ok-made.ensures.made
+
+pub returns-then-quiet-clause-kept : goal.returns-then-quiet-clause-kept
+returns-then-quiet-clause-kept c = λ same.
+    kept_at c.args.attempt.now c.args.damage c.args.roots.now c.send_packets-made.new.roots _ _ c.end_attempt-left.result (sym c.eq.ensures ∙ same)
+    (c.in_ok-made.ensures.quiet c.if-quiet.true) c.in_ok-made.ensures.made.ports c.end_attempt-left.ensures.over c.end_attempt-left.ensures.address
+
+pub returns-else-quiet-clause-plugged : goal.returns-else-quiet-clause-plugged
+returns-else-quiet-clause-plugged c = over_plugged _ _ _ c.end_attempt-left.ensures.over c.in_ok-made.ensures.plugged
+
+pub returns-else-quiet-clause-made : goal.returns-else-quiet-clause-made
+returns-else-quiet-clause-made c = over_made _ _ _ _ _ _ c.end_attempt-left.ensures.over c.in_ok-made.ensures.made

@@ -4,7 +4,7 @@ use Rattle.usb_world.specs.Wire.{harm_to, marked_some}
 use Rattle.usb_world.specs.Exchange.{answer_mark, clears_at, goes_out}
 use Rattle.usb_device.specs.Delivery.{both, heard_of}
 use Rattle.usb_world.specs.declared.wire.Outgoing.{Outgoing}
-use Rattle.usb_world.specs.Passes.{passed, answers_to, IfOut, IsDataOut, IsAckOut}
+use Rattle.usb_world.specs.AttemptPackets.{after_sent, answers_to, IfOut, IsDataOut, IsAckOut}
 use Rattle.usb_world.specs.CutPackets.{IsStopped}
 use Rattle.usb_world.proofs.Exchanges.{Makes, made_exchange, made_ports, plugged_further}
 use Rattle.usb_world.proofs.Refusals.{token_not_stopped, reply_not_stopped}
@@ -38,16 +38,16 @@ returns-clause-made c =
       to_both = c.send-2.new.heard;
       token = c.put_token.ensures.value;
       token_heard = c.in_ok-send.ensures.went.heard ∙ ap (λ q. heard_of (answers_to q c.args.roots.now)) c.goes_out.ensures;
-      token_passed = c.in_ok-send.ensures.went.ports ∙ ap (λ q. passed q c.args.roots.now) c.goes_out.ensures;
+      token_went = c.in_ok-send.ensures.went.ports ∙ ap (λ q. after_sent q c.args.roots.now) c.goes_out.ensures;
       payload = c.put_payload.ensures.value;
       cleared = c.clears_change-exchange.ensures.clears ∙ ap (λ q. clears_at q c.send.new.roots) c.some_goes_out-data.ensures;
       payload_heard = c.in_ok-send-2.ensures.went.heard ∙ ap (λ q. both c.send.new.heard (heard_of (answers_to q c.send.new.roots))) c.some_goes_out-data.ensures;
-      payload_passed = c.in_ok-send-2.ensures.went.ports ∙ ap (λ q. passed q c.send.new.roots) c.some_goes_out-data.ensures;
+      payload_went = c.in_ok-send-2.ensures.went.ports ∙ ap (λ q. after_sent q c.send.new.roots) c.some_goes_out-data.ensures;
       answer = c.put_answer.ensures;
       answer_mark = c.answer_mark-exchange.ensures ∙ ap (λ h. answer_mark h c.put_answer.new.answer) (c.harm_to.ensures ∙ ap (harm_to damage) c.answer_place-place.ensures.value);
       reply = c.put_reply.ensures.value ∙ ap₂ (λ n o. marked_some damage (n + 1) a.pre o) c.answer_place-place.ensures.value c.is_acknowledged-acknowledged.ensures;
       lost = c.in_ok-address_lost.ensures.lost;
-      reply_passed = c.in_ok-address_lost.ensures.ports;
+      reply_went = c.in_ok-address_lost.ensures.ports;
     } in
     record { made = made_exchange _ _ _ _ makes; ports = made_ports _ _ _ _ makes }
 

@@ -3,7 +3,7 @@ use Rattle.std.proofs.lemmas.Bool.{and_parts}
 use Rattle.std.specs.Prelude.{All}
 use Rattle.std.specs.List.{list_all}
 use Rattle.usb_device.specs.Tree.{row_of}
-use Rattle.usb_world.specs.Passes.{IsSettled}
+use Rattle.usb_world.specs.AttemptPackets.{IsSettled}
 use Rattle.usb_world.specs.SanePorts.{IsSane}
 use Rattle.usb_world.specs.PlanData.{can_come}
 use Rattle.usb_world.proofs.Interface.{came_spends, happened_long, sane_happened, settled_happened, spends_none}

@@ -2,7 +2,7 @@ use Rattle.std.proofs.Common.{◌≡◌, length, arith, ap, sym, subst, ◌∙�
 use Rattle.std.specs.Prelude.{All}
 use Rattle.usb_device.specs.Spec.{IsSpec}
 use Rattle.usb_device.specs.Tree.{row_of}
-use Rattle.usb_world.specs.Passes.{IsSettled}
+use Rattle.usb_world.specs.AttemptPackets.{IsSettled}
 use Rattle.usb_world.specs.SanePorts.{IsSane}
 use Rattle.usb_world.proofs.Interface.{new_long, sane_new_ports, settled_new}
 use Rattle.usb_bus.proofs.Plans.{copies_come}

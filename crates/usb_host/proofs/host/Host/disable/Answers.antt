@@ -1,6 +1,6 @@
 use Rattle.std.proofs.Common.{refl, sym, subst}
 use Rattle.usb_request.specs.Features.{PORT_ENABLE}
-use Rattle.usb_host.specs.Bounds.{order_most}
+use Rattle.usb_pipe.specs.Control.{write_bound}
 use Rattle.usb_host.specs.Hosting.{Hosting}
 use Rattle.usb_port.specs.Calls.{clear_call}
 use Rattle.usb_hub.specs.Addresses.{KeepsCleared}
@@ -15,7 +15,7 @@ use Rattle.usb_host.proofs.host.Host.disable.Goals as goal
 use Rattle.usb_host.proofs.host.Host.disable.Goals.{in-Ok, in-Err-Bus, in-Err}
 
 pub returns-in_default-clause-goes : goal.returns-in_default-clause-goes
-returns-in_default-clause-goes g c = goes_none order_most c.args.self.now
+returns-in_default-clause-goes g c = goes_none write_bound c.args.self.now
 
 pub returns-in_default-clause-disables : goal.returns-in_default-clause-disables
 returns-in_default-clause-disables g c =

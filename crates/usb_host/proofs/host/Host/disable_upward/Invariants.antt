@@ -1,14 +1,14 @@
 use Rattle.std.proofs.Common.{◌≡◌, ◌-◌, ◌*◌, ◌≤◌, length, true}
 use Rattle.usb_world.specs.Paths.{is_way, pend}
 use Rattle.usb_address.specs.Ownership.{KeepsAddresses}
-use Rattle.usb_host.specs.Bounds.{order_most}
+use Rattle.usb_pipe.specs.Control.{write_bound}
 use Rattle.usb_host.specs.Progress.{HostGoes, Rests}
 use Rattle.usb_host.specs.Soundness.{IsDroppable, IsFairTo, CausesBut}
 use Rattle.usb_host.proofs.host.Host.disable_upward.Given as goal
 
 abbrev pub invariant-up : goal.invariant-up
 invariant-up g l = record {
-  goes : HostGoes ((7 - length l.path) * order_most) l.initial.self l.self;
+  goes : HostGoes ((7 - length l.path) * write_bound) l.initial.self l.self;
   rests : Rests l.initial.self l.self;
   keeps : KeepsAddresses l.initial.self.world l.self.world;
   on : is_way l.path l.initial.path ≡ true;

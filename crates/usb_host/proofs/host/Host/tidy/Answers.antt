@@ -5,7 +5,7 @@ use Rattle.usb_bus.specs.Traces.{WentOn}
 use Rattle.usb_bus.proofs.Interface.{went_none, went_then, went_wider}
 use Rattle.usb_enum.proofs.Interface.{order_most as order_fits}
 use Rattle.usb_enum.specs.Stop.{at_port}
-use Rattle.usb_host.specs.Bounds.{order_most}
+use Rattle.usb_pipe.specs.Control.{write_bound}
 use Rattle.usb_host.specs.PortHandling.{Tidies}
 use Rattle.usb_host.proofs.TidiedPorts.{enable, reset}
 use Rattle.usb_host.proofs.Requests.{call_tidies, clears_enable_change, clears_reset_change, tidies_none, tidies_then}
@@ -15,10 +15,10 @@ use Rattle.usb_host.proofs.host.Host.tidy.Goals as goal
 use Rattle.usb_host.proofs.host.Host.tidy.Goals.{Joined-status, then-status+in_ok-clear_port, else-status}
 
 -- the first change is cleared, where it is set
-first : (g : Over) (c : goal.Joined-status g) → WentOn order_most (g.B.Bus.world c.self.inside.bus) (g.B.Bus.trace c.self.inside.bus) (g.B.Bus.world c.if-status.self-inside.bus) (g.B.Bus.trace c.if-status.self-inside.bus) × (c.if-status.self-inside.stopped ≡ c.self.inside.stopped)
+first : (g : Over) (c : goal.Joined-status g) → WentOn write_bound (g.B.Bus.world c.self.inside.bus) (g.B.Bus.trace c.self.inside.bus) (g.B.Bus.world c.if-status.self-inside.bus) (g.B.Bus.trace c.if-status.self-inside.bus) × (c.if-status.self-inside.stopped ≡ c.self.inside.stopped)
 first g c = elim c.if-status.branch [
   | then-status+in_ok-clear_port w ↦ rw w.self-inside-is (went_wider _ _ w.clear_port.ensures.went (order_fits c.args.port), refl)
-  | else-status w ↦ rw w.self-inside-is (went_wider 0 order_most went_none (omega arith), refl)
+  | else-status w ↦ rw w.self-inside-is (went_wider 0 write_bound went_none (omega arith), refl)
 ]
 
 first_tidies : (g : Over) (c : goal.Joined-status g) → Tidies c.args.port (g.B.Bus.world c.self.inside.bus) (Ok tt) (g.B.Bus.world c.if-status.self-inside.bus)

@@ -1,6 +1,0 @@
-use Rattle.std.proofs.Common.{sym, arith}
-use Rattle.usb_plan.proofs.Parts.{number_at_ok}
-use Rattle.usb_plan.proofs.damage.flipped.Goals as goal
-
-pub overflow_cast-result : goal.overflow_cast-result
-overflow_cast-result c = omega (arith, (number_at_ok 0 535 _ c.in_ok-bit.bit (sym c.in_ok-bit.ensures)).1)

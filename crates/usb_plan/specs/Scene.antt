@@ -1,0 +1,15 @@
+-- What an event meets.
+use Rattle.std.specs.Prelude.{ℕ, List, []}
+use Rattle.usb_device.specs.Spec.{Spec}
+use Rattle.usb_world.specs.declared.event.Event.{Event}
+use Rattle.usb_world.specs.PluggedDevices.{PluggedMap, plugged_by}
+
+-- the number of root ports, the devices of the plan, and which of these are plugged where
+pub record SceneData : Type 0 where
+  pub roots : ℕ
+  pub devices : List Spec
+  pub plugged : PluggedMap
+
+-- after these events, with nothing plugged before them
+abbrev pub scene_after : ℕ → List Spec → List Event → SceneData
+scene_after roots devices events = record { roots = roots; devices = devices; plugged = plugged_by [] events }

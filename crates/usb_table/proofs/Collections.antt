@@ -1,0 +1,99 @@
+-- Bytes that are received through the pipes at a path are given by the device there.
+use Rattle.std.proofs.Common.{◌≡◌, ◌≢◌, refl, sym, ap, subst, Bool, true, false, ℕ, ◌+◌, ◌==◌, ◌≤◌, List, [], Option, None, Some, Result, Ok, Err}
+use Rattle.std.specs.Global.{Vec}
+use Rattle.std.specs.Prelude.{is_ok, is_some}
+use Rattle.usb_device.specs.Rows.{State}
+use Rattle.usb_device.specs.Tree.{reach, Spot}
+use Rattle.usb_world.specs.declared.types.BusFault.{BusFault}
+use Rattle.usb_world.specs.Paths.{address_of}
+use Rattle.usb_world.specs.World.{World}
+use Rattle.usb_transaction.specs.declared.target.Target.{Target}
+use Rattle.usb_pipe.specs.declared.fault.PipeFault.{PipeFault}
+use Rattle.usb_pipe.specs.declared.fault.PipeFault.TheVariants as pipe_fault
+use Rattle.usb_pipe.specs.Bulk.{Bulk, Receives}
+use Rattle.usb_pipe.specs.Leaves.{FitsSource, ReceiveLeaves, pipe_known}
+use Rattle.usb_pipe.proofs.Interface.{receive_leaves, who_receives}
+use Rattle.usb_enum.specs.declared.finding.Accepted.{Accepted}
+use Rattle.usb_table.specs.declared.fault.EndpointFault.{EndpointFault}
+use Rattle.usb_table.specs.declared.fault.EndpointFault.TheVariants.{Pipe}
+use Rattle.usb_table.specs.declared.pipes.Pipes.{Pipes}
+use Rattle.usb_table.specs.declared.pipes.Pipes.TheVariants.{Hub, Function, Absent}
+use Rattle.usb_table.specs.Deliveries.{GaveBytes, GaveBy, TransfersAt, Collected, bytes_in, pipe_in}
+use Rattle.usb_table.specs.Findings.{in_endpoint, accepted_device_at}
+use Rattle.usb_table.specs.KnownPorts.{is_below_hub}
+use Rattle.usb_table.specs.Levels.{AreLevel, FitsIn, IsHeld, LevelAt}
+use Rattle.usb_table.specs.Pipes.{IsPipe, ArePipesIf, ArePipesTo}
+use Rattle.usb_table.specs.Table.{Table, pipes_at, ArePipesAt}
+use Rattle.usb_table.specs.Transfers.{ReceivedBy, PipesReceived, endpoint_answer}
+use Rattle.usb_table.proofs.MovedPipes.{known_left}
+use Rattle.usb_table.proofs.PathTransfers.{Reached, none_changes, changes_there, answers_there, done_through, not_bus}
+
+bytes_through : (answer : Result (Vec ℕ) PipeFault) (result : Result (Vec ℕ) EndpointFault) → result ≡ endpoint_answer answer → bytes_in answer ≡ bytes_in result
+bytes_through (Ok x) result e = sym (ap bytes_in e)
+bytes_through (Err why) result e = sym (ap bytes_in e)
+
+module _ (path : List ℕ) (packets : ℕ) (old new : Table) (before after : World) where
+  -- so many packets were asked for through a pipe, if there is one
+  record Gives (done : Bool) (bytes : List ℕ) (pipe left : Option Bulk) : Type 0 where
+    gave : TransfersAt path done (GaveBy bytes pipe left) old before after
+    there : done ≡ true → packets ≢ 0 → reach after.roots path ≡ true
+
+  not_asked : (result : Result (Vec ℕ) EndpointFault) (left : Option Bulk) (fault : EndpointFault) → result ≡ Err fault → after ≡ before → Gives (is_ok result) (bytes_in result) None left
+  not_asked result left fault e same =
+      subst (λ (r : Result (Vec ℕ) EndpointFault). Gives (is_ok r) (bytes_in r) None left) (sym e)
+      (record {
+        gave = record { each = none_changes path (GaveBy [] None left) before after same (λ s on there. (refl, refl)); known = λ done. absurd (cc done) };
+        there = λ done some. absurd (cc done);
+      })
+
+  module _ (held : IsHeld old before) (single : after.shared ≡ false) (device : Accepted) (found : accepted_device_at path old.entries ≡ Some device) where
+    module _ (pipe : Bulk) (is : pipe.target.addr ≡ device.address) (least : 1 ≤ pipe.max) (fits : Reached path before (FitsIn (Some pipe))) where
+      given : (answer : Result (Vec ℕ) PipeFault) (left : Bulk) → pipe_known answer left ≡ left → (s : State) → FitsIn (Some pipe) s → (j : Spot) (v : State) → ReceiveLeaves pipe answer left j s v → (address_of s == pipe.target.addr) ≡ true
+          → GaveBytes (bytes_in answer) pipe left s v
+      given (Ok bytes) left known s fit j v x at = record { had = fit; next = λ got f. x.done at got f bytes refl; has = λ got f. x.fits at got f; rest = x.frame fit.1.endpoint }
+      given (Err why) left known s fit j v x at = record { had = fit; next = λ got f. refl; has = λ got f. subst (λ (l : Bulk). FitsSource l (got + 0) v) known (x.fits at got f); rest = x.frame fit.1.endpoint }
+
+      reached : (answer : Result (Vec ℕ) PipeFault) (left : Bulk) → Receives packets pipe before answer left after → is_ok answer ≡ true → packets ≢ 0 → reach after.roots path ≡ true
+      reached (Ok bytes) left receives done some = answers_there path old before held device found pipe.target.addr is pipe.target after refl (who_receives packets pipe bytes left before after some receives single)
+      reached (Err why) left receives done some = absurd (cc done)
+
+      through : (answer : Result (Vec ℕ) PipeFault) (left : Bulk) → pipe_known answer left ≡ left → Receives packets pipe before answer left after → Gives (is_ok answer) (bytes_in answer) (Some pipe) (Some left)
+      through answer left known receives = record {
+        gave = record {
+          each = changes_there path old before held device found pipe.target.addr is (ReceiveLeaves pipe answer left) (GaveBytes (bytes_in answer) pipe left) after (λ j s v x. x.others)
+              (λ s on there. given answer left known s (fits s on there)) (receive_leaves packets pipe answer left before after least receives single);
+          known = λ done. ap is_some found;
+        };
+        there = reached answer left receives;
+      }
+
+    module _ (result : Result (Vec ℕ) EndpointFault) (other : (why : BusFault) → result ≢ Err (Pipe (pipe_fault.Bus why))) where
+      by_pipe : (endpoint : Option (ℕ × ℕ)) (into left : Option Bulk) → IsPipe device true endpoint into → Reached path before (FitsIn into) → ReceivedBy into packets before result left after
+          → Gives (is_ok result) (bytes_in result) into left
+      by_pipe endpoint None left is fits x = not_asked result left _ x.0 x.2
+      by_pipe endpoint (Some pipe) None is fits x = absurd x
+      by_pipe None (Some pipe) (Some left) is fits x = absurd is
+      by_pipe (Some endpoint) (Some pipe) (Some left) is fits x =
+          let known : pipe_known x.answer left ≡ left = known_left x.answer left (not_bus x.answer result x.told other) in
+          subst (λ (b : Bool). Gives b (bytes_in result) (Some pipe) (Some left)) (done_through x.answer result x.told)
+          (subst (λ (bytes : List ℕ). Gives (is_ok x.answer) bytes (Some pipe) (Some left)) (bytes_through x.answer result x.told)
+          (through pipe (ap (λ (t : Target). t.addr) is.target) (subst (λ n. 1 ≤ n) (sym is.max) is.least) fits x.answer left known x.receives))
+
+      by_pipes : (pipes left : Pipes) → ArePipesTo device (is_below_hub path) pipes → Reached path before (AreLevel pipes) → PipesReceived pipes packets before result left after
+          → Gives (is_ok result) (bytes_in result) (pipe_in pipes) (pipe_in left)
+      by_pipes (Hub pipe) left are level x = not_asked result (pipe_in left) _ x.0 x.2
+      by_pipes (Function pipes) left are level x =
+          subst (λ (l : Pipes). Gives (is_ok result) (bytes_in result) pipes.into (pipe_in l)) (sym x.1)
+          (by_pipe (in_endpoint device) pipes.into x.0 are.2 (λ s on there. (level s on there).1) x.2)
+      by_pipes Absent left are level x = absurd are
+
+  pub received_collects : (result : Result (Vec ℕ) EndpointFault) → ((why : BusFault) → result ≢ Err (Pipe (pipe_fault.Bus why))) → IsHeld old before → LevelAt path old before → after.shared ≡ false → ArePipesAt path old
+      → PipesReceived (pipes_at path old) packets before result (pipes_at path new) after → Collected path (is_ok result) packets (bytes_in result) old before new after
+  received_collects result other held level single are x = let g = by_device (accepted_device_at path old.entries) refl are in record { gave = g.gave; there = g.there }
+    where
+      by_device : (found : Option Accepted) → accepted_device_at path old.entries ≡ found → ArePipesIf found (is_below_hub path) (pipes_at path old)
+          → Gives (is_ok result) (bytes_in result) (pipe_in (pipes_at path old)) (pipe_in (pipes_at path new))
+      by_device None e none =
+          let y = subst (λ (p : Pipes). PipesReceived p packets before result (pipes_at path new) after) none x in
+          subst (λ (p : Pipes). Gives (is_ok result) (bytes_in result) (pipe_in p) (pipe_in (pipes_at path new))) (sym none) (not_asked result (pipe_in (pipes_at path new)) _ y.0 y.2)
+      by_device (Some device) e to = by_pipes held single device e result other (pipes_at path old) (pipes_at path new) to (λ s on there. level.level device s e on there) x

@@ -1,0 +1,80 @@
+-- Bytes that are sent through the pipes at a path are taken by the device there.
+use Rattle.std.proofs.Common.{◌≡◌, ◌≢◌, refl, sym, ap, subst, Bool, true, false, ℕ, ◌==◌, append-nil, List, [], Option, None, Some, Result, Ok, Err}
+use Rattle.std.specs.Prelude.{is_ok, is_some}
+use Rattle.usb_device.specs.Rows.{State}
+use Rattle.usb_device.specs.Tree.{reach, Spot}
+use Rattle.usb_world.specs.Paths.{address_of}
+use Rattle.usb_world.specs.World.{World}
+use Rattle.usb_transaction.specs.declared.target.Target.{Target}
+use Rattle.usb_pipe.specs.declared.fault.PipeFault.{PipeFault}
+use Rattle.usb_pipe.specs.Bulk.{Bulk, Sends}
+use Rattle.usb_pipe.specs.Leaves.{FitsSink, SendLeaves}
+use Rattle.usb_pipe.proofs.Interface.{send_leaves, who_sends}
+use Rattle.usb_enum.specs.declared.finding.Accepted.{Accepted}
+use Rattle.usb_table.specs.declared.fault.EndpointFault.{EndpointFault}
+use Rattle.usb_table.specs.declared.pipes.Pipes.{Pipes}
+use Rattle.usb_table.specs.declared.pipes.Pipes.TheVariants.{Hub, Function, Absent}
+use Rattle.usb_table.specs.Deliveries.{TookBytes, Delivered}
+use Rattle.usb_table.specs.Findings.{out_endpoint, accepted_device_at}
+use Rattle.usb_table.specs.KnownPorts.{is_below_hub}
+use Rattle.usb_table.specs.Levels.{AreLevel, FitsOut, IsHeld, LevelAt}
+use Rattle.usb_table.specs.Pipes.{IsPipe, ArePipesIf, ArePipesTo}
+use Rattle.usb_table.specs.Table.{Table, pipes_at, ArePipesAt}
+use Rattle.usb_table.specs.Transfers.{SentBy, PipesSent}
+use Rattle.usb_table.proofs.PathTransfers.{Reached, none_changes, changes_there, answers_there, done_through}
+
+module _ (path bytes : List ℕ) (old new : Table) (before after : World) where
+  none_taken : (s : State) → TookBytes false bytes s s
+  none_taken s = record { joins = record { front = []; rest = bytes; split = refl; sink = sym (append-nil s.sink) }; rest = refl }
+
+  not_sent : (result : Result (Unit {0}) EndpointFault) (fault : EndpointFault) → result ≡ Err fault → after ≡ before → Delivered path (is_ok result) bytes old before new after
+  not_sent result fault e same =
+      subst (λ (b : Bool). Delivered path b bytes old before new after) (sym (ap is_ok e))
+      (record {
+        took = record { each = none_changes path (TookBytes false bytes) before after same (λ s on there. none_taken s); known = λ done. absurd (cc done) };
+        there = λ done some. absurd (cc done);
+      })
+
+  module _ (held : IsHeld old before) (single : after.shared ≡ false) (device : Accepted) (found : accepted_device_at path old.entries ≡ Some device) where
+    module _ (pipe : Bulk) (is : pipe.target.addr ≡ device.address) (fits : Reached path before (FitsSink pipe)) where
+      taken : (answer : Result (Unit {0}) PipeFault) (left : Bulk) (s : State) → FitsSink pipe s → (j : Spot) (v : State) → SendLeaves bytes pipe answer left j s v → (address_of s == pipe.target.addr) ≡ true → TookBytes (is_ok answer) bytes s v
+      taken (Ok u) left s fit j v x at = record { joins = x.done at fit u refl; rest = x.frame fit.endpoint }
+      taken (Err why) left s fit j v x at = record { joins = x.failed at fit why refl; rest = x.frame fit.endpoint }
+
+      reached : (answer : Result (Unit {0}) PipeFault) (left : Bulk) → Sends bytes pipe before answer left after → is_ok answer ≡ true → bytes ≢ [] → reach after.roots path ≡ true
+      reached (Ok u) left sends done some = answers_there path old before held device found pipe.target.addr is pipe.target after refl (who_sends bytes pipe u left before after some sends single)
+      reached (Err why) left sends done some = absurd (cc done)
+
+      through : (answer : Result (Unit {0}) PipeFault) (left : Bulk) → Sends bytes pipe before answer left after → Delivered path (is_ok answer) bytes old before new after
+      through answer left sends = record {
+        took = record {
+          each = changes_there path old before held device found pipe.target.addr is (SendLeaves bytes pipe answer left) (TookBytes (is_ok answer) bytes) after (λ j s v x. x.others)
+              (λ s on there. taken answer left s (fits s on there)) (send_leaves bytes pipe answer left before after sends single);
+          known = λ done. ap is_some found;
+        };
+        there = reached answer left sends;
+      }
+
+    by_pipe : (result : Result (Unit {0}) EndpointFault) (endpoint : Option (ℕ × ℕ)) (out left : Option Bulk) → IsPipe device false endpoint out → Reached path before (FitsOut out) → SentBy out bytes before result left after
+        → Delivered path (is_ok result) bytes old before new after
+    by_pipe result endpoint None left is fits x = not_sent result _ x.0 x.2
+    by_pipe result endpoint (Some pipe) None is fits x = absurd x
+    by_pipe result None (Some pipe) (Some left) is fits x = absurd is
+    by_pipe result (Some endpoint) (Some pipe) (Some left) is fits x =
+        subst (λ (b : Bool). Delivered path b bytes old before new after) (done_through x.answer result x.told)
+        (through pipe (ap (λ (t : Target). t.addr) is.target) fits x.answer left x.sends)
+
+    by_pipes : (result : Result (Unit {0}) EndpointFault) (pipes left : Pipes) → ArePipesTo device (is_below_hub path) pipes → Reached path before (AreLevel pipes) → PipesSent pipes bytes before result left after
+        → Delivered path (is_ok result) bytes old before new after
+    by_pipes result (Hub pipe) left are level x = not_sent result _ x.0 x.2
+    by_pipes result (Function pipes) left are level x = by_pipe result (out_endpoint device) pipes.out x.0 are.1 (λ s on there. (level s on there).0) x.2
+    by_pipes result Absent left are level x = absurd are
+
+  pub sent_delivers : (result : Result (Unit {0}) EndpointFault) → IsHeld old before → LevelAt path old before → after.shared ≡ false → ArePipesAt path old → PipesSent (pipes_at path old) bytes before result (pipes_at path new) after
+      → Delivered path (is_ok result) bytes old before new after
+  sent_delivers result held level single are x = by_device (accepted_device_at path old.entries) refl are
+    where
+      by_device : (found : Option Accepted) → accepted_device_at path old.entries ≡ found → ArePipesIf found (is_below_hub path) (pipes_at path old)
+          → Delivered path (is_ok result) bytes old before new after
+      by_device None e none = let y = subst (λ (p : Pipes). PipesSent p bytes before result (pipes_at path new) after) none x in not_sent result _ y.0 y.2
+      by_device (Some device) e to = by_pipes held single device e result (pipes_at path old) (pipes_at path new) to (λ s on there. level.level device s e on there) x

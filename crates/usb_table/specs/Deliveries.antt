@@ -1,0 +1,107 @@
+-- What transfers to the device at a path leave of the devices (5.8).
+use Rattle.std.specs.Prelude.{◌≡◌, ◌≢◌, ◌⊎◌, ℕ, ◌+◌, List, [], ◌++◌, length, take, drop, Bool, true, false, Option, Some, None, Result, Ok, Err, IsSome}
+use Rattle.std.specs.Global.{Vec}
+use Rattle.usb_device.specs.declared.bulk.EndpointState.{EndpointState}
+use Rattle.usb_device.specs.Bulk.{rested}
+use Rattle.usb_device.specs.Progress.{OnlySink, OnlySource}
+use Rattle.usb_device.specs.Rows.{State}
+use Rattle.usb_device.specs.Tree.{reach, Spot, path_to}
+use Rattle.usb_world.specs.Devices.{EachWas}
+use Rattle.usb_world.specs.World.{World}
+use Rattle.usb_pipe.specs.declared.condition.Condition.TheVariants.{Ready}
+use Rattle.usb_pipe.specs.Bulk.{Bulk, cleared}
+use Rattle.usb_pipe.specs.Leaves.{FitsSource, FrontTaken}
+use Rattle.usb_table.specs.declared.pipes.Pipes.{Pipes}
+use Rattle.usb_table.specs.declared.pipes.Pipes.TheVariants.{Hub, Function, Absent}
+use Rattle.usb_table.specs.Findings.{accepted_device_at}
+use Rattle.usb_table.specs.Levels.{FitsIn, AreLevel}
+use Rattle.usb_table.specs.Table.{Table, pipes_at}
+
+-- the bulk pipes to what stands at a path
+abbrev pub pipe_out : Pipes → Option Bulk
+pipe_out (Hub pipe) = None
+pipe_out (Function pipes) = pipes.out
+pipe_out Absent = None
+
+abbrev pub pipe_in : Pipes → Option Bulk
+pipe_in (Hub pipe) = None
+pipe_in (Function pipes) = pipes.into
+pipe_in Absent = None
+
+-- The device at the path
+
+-- these bytes joined what it had taken, each once and in order; where the transfer failed, a front of them
+abbrev pub JoinsSink : Bool → List ℕ → State → State → Type 0
+JoinsSink true bytes s v = v.sink ≡ s.sink ++ bytes
+JoinsSink false bytes s v = FrontTaken bytes s v
+
+-- so they did, and nothing else of it changed
+pub record TookBytes (done : Bool) (bytes : List ℕ) (s v : State) : Type 0 where
+  pub joins : JoinsSink done bytes s v
+  pub rest : OnlySink s v
+
+-- through a pipe that had got some number of bytes of its source it gave these, which are the next ones; the pipe that is left has got so many more, and
+-- nothing else of the device changed
+pub record GaveBytes (bytes : List ℕ) (pipe left : Bulk) (s v : State) : Type 0 where
+  pub had : FitsIn (Some pipe) s
+  pub next : (got : ℕ) → FitsSource pipe got s → bytes ≡ take (length bytes) (drop got s.spec.source)
+  pub has : (got : ℕ) → FitsSource pipe got s → FitsSource left (got + length bytes) v
+  pub rest : OnlySource s v
+
+-- the bytes that came with an answer
+abbrev pub bytes_in : {E : Type 0} → Result (Vec ℕ) E → List ℕ
+bytes_in (Ok bytes) = bytes.items
+bytes_in (Err fault) = []
+
+-- without a pipe it gave none
+abbrev pub GaveBy : List ℕ → Option Bulk → Option Bulk → State → State → Type 0
+GaveBy bytes None left s v = (bytes ≡ []) × (v ≡ s)
+GaveBy bytes (Some pipe) None s v = ⊥
+GaveBy bytes (Some pipe) (Some left) s v = GaveBytes bytes pipe left s v
+
+-- the halt of a pipe was cleared: a pipe that works is left alone, and so is its endpoint; where the clear is done, both ends of any other pipe begin
+-- again together; where it failed, the endpoint is as it was or has begun again
+pub record HaltCleared (done : Bool) (pipe left : Bulk) (before after : EndpointState) : Type 0 where
+  pub works : pipe.condition ≡ Ready → (left ≡ pipe) × (after ≡ before)
+  pub begun : done ≡ true → pipe.condition ≢ Ready → (left ≡ cleared pipe (Ok tt)) × (after ≡ rested)
+  pub either : (after ≡ before) ⊎ (after ≡ rested)
+
+-- the endpoint stays where there is no pipe
+abbrev pub HaltClearedBy : Bool → Option Bulk → Option Bulk → EndpointState → EndpointState → Type 0
+HaltClearedBy done None left before after = after ≡ before
+HaltClearedBy done (Some pipe) None before after = ⊥
+HaltClearedBy done (Some pipe) (Some left) before after = HaltCleared done pipe left before after
+
+-- so it is of the pipe of each direction, and no byte moved; the pipes that are left are as far as their endpoints
+pub record HaltsCleared (done : Bool) (pipes left : Pipes) (s v : State) : Type 0 where
+  pub sink : v.sink ≡ s.sink
+  pub place : v.place ≡ s.place
+  pub out : HaltClearedBy done (pipe_out pipes) (pipe_out left) s.bulk_out v.bulk_out
+  pub into : HaltClearedBy done (pipe_in pipes) (pipe_in left) s.bulk_in v.bulk_in
+  pub level : AreLevel left v
+
+-- All devices
+
+-- so it is of the one at the path, and any other is as it was
+pub record ChangesAt (path : List ℕ) (So : State → State → Type 0) (x : Spot) (s v : State) : Type 0 where
+  pub itself : path ≡ path_to x → So s v
+  pub others : path ≢ path_to x → v ≡ s
+
+-- each that is reached was reached before; a transfer did so much to the one at the path, and is done only where a device is known there
+pub record TransfersAt (path : List ℕ) (done : Bool) (So : State → State → Type 0) (old : Table) (before after : World) : Type 0 where
+  pub each : EachWas (ChangesAt path So) before after
+  pub known : done ≡ true → IsSome (accepted_device_at path old.entries)
+
+-- bytes were sent to the path: the device there took them, and where some are told done, one is reached there
+pub record Delivered (path : List ℕ) (done : Bool) (bytes : List ℕ) (old : Table) (before : World) (new : Table) (after : World) : Type 0 where
+  pub took : TransfersAt path done (TookBytes done bytes) old before after
+  pub there : done ≡ true → bytes ≢ [] → reach after.roots path ≡ true
+
+-- so many packets were asked for, and these bytes came: the device there gave them, and where some packets are told done, one is reached there
+pub record Collected (path : List ℕ) (done : Bool) (packets : ℕ) (bytes : List ℕ) (old : Table) (before : World) (new : Table) (after : World) : Type 0 where
+  pub gave : TransfersAt path done (GaveBy bytes (pipe_in (pipes_at path old)) (pipe_in (pipes_at path new))) old before after
+  pub there : done ≡ true → packets ≢ 0 → reach after.roots path ≡ true
+
+-- the halts of the device there were cleared
+abbrev pub Restarted : List ℕ → Bool → Table → World → Table → World → Type 0
+Restarted path done old before new after = TransfersAt path done (HaltsCleared done (pipes_at path old) (pipes_at path new)) old before after
