@@ -19,7 +19,7 @@ use Rattle.usb_pipe.specs.declared.fault.PipeFault.{PipeFault}
 use Rattle.usb_pipe.specs.declared.fault.PipeFault.TheVariants.{Stalled, Busy, NoAnswer, Broken, Bus, Memory}
 use Rattle.usb_pipe.specs.Control.{as_pipe_fault}
 use Rattle.usb_pipe.specs.Stages.{SetUp, Asks, Confirms, NoSetUp, Writes, Goes, start, packet, DataStage, DataLost, NoRoom, Reads}
-use Rattle.usb_pipe.specs.Toggles.{flips}
+use Rattle.usb_packet.specs.Toggles.{flips}
 use Rattle.usb_address.specs.Aims.{AllAim, TakesOnly, Never}
 use Rattle.usb_address.specs.Leaves.{LeavesTrans, LeavesPipe}
 use Rattle.usb_address.specs.Ownership.{Owned}

@@ -1,4 +1,5 @@
 pub mod Spec
+pub mod SaidLengths
 pub mod Bulk
 pub mod Request
 pub mod Transfer

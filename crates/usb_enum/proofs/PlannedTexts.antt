@@ -9,6 +9,7 @@ use Rattle.std.proofs.lemmas.Option.{same_Some}
 use Rattle.usb_port.specs.Order.{path_cmp}
 use Rattle.usb_device.specs.Spec.{Spec}
 use Rattle.usb_device.specs.Rows.{State}
+use Rattle.usb_device.specs.SaidLengths.{said_lengths}
 use Rattle.usb_device.specs.View.{state_there}
 use Rattle.usb_world.specs.declared.event.Action.{Action}
 use Rattle.usb_world.specs.declared.event.Action.TheVariants.{Plug, Unplug, Show, Send, Receive, Clear}
@@ -18,7 +19,7 @@ use Rattle.usb_world.specs.PluggedDevices.{PluggedMap, index_at, device_indexed,
 use Rattle.usb_world.specs.World.{World}
 use Rattle.usb_world.proofs.Interface.{course_joined, devices_left}
 use Rattle.usb_bus.specs.Traces.{WentOn}
-use Rattle.usb_enum.specs.TextLengths.{said_lengths, PlugsWithin, HasPlanWithin}
+use Rattle.usb_enum.specs.TextLengths.{PlugsWithin, HasPlanWithin}
 use Rattle.usb_enum.proofs.Courses.{went_course}
 
 -- each index that is plugged is so

@@ -11,6 +11,7 @@ use Rattle.usb_request.specs.Requests.{get_configuration_descriptor}
 use Rattle.usb_descriptor.specs.Config.{total_in}
 use Rattle.usb_device.specs.Progress.{OnlyStage}
 use Rattle.usb_device.specs.Rows.{State}
+use Rattle.usb_device.specs.SaidLengths.{said_length, said_lengths}
 use Rattle.usb_device.specs.Spec.{Spec, IsSpec}
 use Rattle.usb_device.specs.Tree.{Spot, path_to, reach_on, state_on}
 use Rattle.usb_world.specs.Addresses.{after_taking}
@@ -43,7 +44,7 @@ use Rattle.usb_enum.specs.LearnedFacts.{Learned, Learns}
 use Rattle.usb_enum.specs.PresentDevices.{AtPath, HasTaken, IsAddressed, IsRegular}
 use Rattle.usb_enum.specs.Readings.{AtMaximum, HasTotal}
 use Rattle.usb_enum.specs.Stop.{answered_or}
-use Rattle.usb_enum.specs.TextLengths.{said_length, said_lengths, SaysWithin, HasPlanWithin, EachAt, SomeAt, IsAnswered, ReadsText, FewFor, FewFrom}
+use Rattle.usb_enum.specs.TextLengths.{SaysWithin, HasPlanWithin, EachAt, SomeAt, IsAnswered, ReadsText, FewFor, FewFrom}
 use Rattle.usb_enum.proofs.Counts.{read_went}
 use Rattle.usb_enum.proofs.Courses.{went_regular, went_sound}
 use Rattle.usb_enum.proofs.Frames.{held_there}

@@ -1,10 +1,8 @@
 -- How few attempts an enumeration makes, by the lengths that the devices' configuration texts say.
-use Rattle.std.specs.Prelude.{◌≡◌, ◌⊎◌, ◌≤◌, ℕ, ◌+◌, ◌*◌, List, length, take, slice_get, true, false, None, Some, Result, OnOk, IfSome, All, ⊤}
-use Rattle.std.specs.List.{sum_by}
-use Rattle.usb_request.specs.Codes.{CONFIGURATION_LENGTH}
-use Rattle.usb_descriptor.specs.Config.{config_head_of, total_in}
+use Rattle.std.specs.Prelude.{◌≡◌, ◌⊎◌, ◌≤◌, ℕ, ◌+◌, ◌*◌, List, length, slice_get, true, false, None, Some, Result, OnOk, IfSome, All, ⊤}
 use Rattle.usb_device.specs.Spec.{Spec}
 use Rattle.usb_device.specs.Rows.{State}
+use Rattle.usb_device.specs.SaidLengths.{said_lengths}
 use Rattle.usb_device.specs.Transfer.{max_packet}
 use Rattle.usb_device.specs.Tree.{Spot, reach_on, state_on}
 use Rattle.usb_world.specs.declared.event.Action.{Action}
@@ -24,14 +22,6 @@ use Rattle.usb_enum.specs.PresentDevices.{IsPlanned, IsRegular}
 use Rattle.usb_enum.specs.Readings.{AtMaximum, HasTotal}
 
 -- Of a description
-
--- wTotalLength of a text whose first 9 bytes are a configuration's head, else 0
-unfoldable pub said_length : List ℕ → ℕ
-said_length text = total_in (config_head_of (take CONFIGURATION_LENGTH text))
-
--- the sum over a device's texts
-unfoldable pub said_lengths : Spec → ℕ
-said_lengths spec = sum_by said_length spec.configs
 
 -- it has the target's maximum packet, and at most 8 texts, which say no more than so many bytes
 pub record SaysWithin (t : Target) (most : ℕ) (spec : Spec) : Type 0 where

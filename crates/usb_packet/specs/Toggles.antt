@@ -1,5 +1,5 @@
 -- How toggles alternate (8.6).
-use Rattle.std.specs.Prelude.{Bool, true, false}
+use Rattle.std.specs.Prelude.{ℕ, zero, suc, Bool, true, false}
 use Rattle.usb_packet.specs.declared.Toggle.{Toggle}
 use Rattle.usb_packet.specs.declared.Toggle.TheVariants.{Zero, One}
 
@@ -7,6 +7,11 @@ use Rattle.usb_packet.specs.declared.Toggle.TheVariants.{Zero, One}
 abbrev pub other : Toggle → Toggle
 other Zero = One
 other One = Zero
+
+-- the toggle behind n packets
+unfoldable pub flips : ℕ → Toggle → Toggle
+flips zero toggle = toggle
+flips (suc n) toggle = other (flips n toggle)
 
 abbrev pub is_same : Toggle → Toggle → Bool
 is_same Zero Zero = true

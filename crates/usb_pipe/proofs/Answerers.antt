@@ -35,7 +35,7 @@ use Rattle.usb_pipe.specs.Moves.{Gave, Came, NotGone, NotCame, NoRoomLeft}
 use Rattle.usb_pipe.specs.Moves as moves
 use Rattle.usb_pipe.specs.Stages.{SetUp, Goes, DataStage, NoSetUp, Reads, Writes}
 use Rattle.usb_pipe.specs.Stages as stages
-use Rattle.usb_pipe.specs.Toggles.{flips}
+use Rattle.usb_packet.specs.Toggles.{flips}
 use Rattle.usb_pipe.specs.declared.condition.Condition.TheVariants.{Broken}
 use Rattle.usb_pipe.specs.declared.fault.PipeFault.{PipeFault}
 use Rattle.usb_pipe.specs.declared.fault.PipeFault.TheVariants as pipe_fault

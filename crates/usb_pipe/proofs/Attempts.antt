@@ -33,7 +33,7 @@ use Rattle.usb_pipe.specs.Moves.{Came, ReceiveEnds, Gave, SendsAt, SendEnds}
 use Rattle.usb_pipe.specs.Moves as moves
 use Rattle.usb_pipe.specs.Stages.{Goes, DataStage, SetUp, DataLost, NoRoom, Reads, Writes}
 use Rattle.usb_pipe.specs.Stages as stages
-use Rattle.usb_pipe.specs.Toggles.{flips}
+use Rattle.usb_packet.specs.Toggles.{flips}
 use Rattle.usb_pipe.specs.declared.fault.PipeFault.{PipeFault}
 use Rattle.usb_pipe.specs.declared.fault.PipeFault.TheVariants as pipe_fault
 use Rattle.usb_pipe.proofs.BulkCalls.{receive_by, clear_by, send_by}

@@ -6,7 +6,7 @@ use Rattle.std.specs.Global.{Vec}
 use Rattle.std.specs.Int.{div_ceil}
 use Rattle.std.proofs.lemmas.List.{take_min}
 use Rattle.usb_packet.specs.declared.Toggle.{Toggle}
-use Rattle.usb_packet.specs.Toggles.{other}
+use Rattle.usb_packet.specs.Toggles.{other, flips}
 use Rattle.usb_device.specs.Bulk.{advanced}
 use Rattle.usb_device.specs.Rows.{State}
 use Rattle.usb_device.specs.Progress.{IsSink, SinkAt, level, ahead, Joined, OnlySink, IsSource, SourceAt, OnlySource}
@@ -34,7 +34,6 @@ use Rattle.usb_pipe.specs.End.{packet_target}
 use Rattle.usb_pipe.specs.Failures.{WhySend, WhyReceive}
 use Rattle.usb_pipe.specs.Leaves.{IsNoBusFault, pipe_known, came_with, FitsSink, FrontTaken, SendLeaves, SendingLeaves, FitsSource, ReceiveLeaves}
 use Rattle.usb_pipe.specs.Moves.{Gave, Came, start, packet, NotGone, WhileSending, AllCame, NotCame, NoRoomLeft}
-use Rattle.usb_pipe.specs.Toggles.{flips}
 use Rattle.usb_pipe.specs.Transfers.{Unshared, BulkSend, BulkReceive}
 use Rattle.usb_pipe.proofs.Answerers.{who_sends, who_receives}
 use Rattle.usb_pipe.proofs.BulkCalls.{ready_or, send_by, receive_by, gave_settled, came_settled}

@@ -34,10 +34,9 @@ use Rattle.usb_transaction.proofs.Interface.{at_end, control_leaves, each_device
 use Rattle.usb_pipe.specs.Control.{as_pipe_fault}
 use Rattle.usb_pipe.specs.Leaves.{IsNoBusFault}
 use Rattle.usb_pipe.specs.Stages.{SetUp, Asks, Confirms}
-use Rattle.usb_packet.specs.Toggles.{other}
+use Rattle.usb_packet.specs.Toggles.{other, flips}
 use Rattle.usb_request.specs.Features.{PORT_RESET, C_PORT_CONNECTION}
 use Rattle.usb_request.specs.Codes.{CLEAR_FEATURE, SET_FEATURE, PORT_OUT}
-use Rattle.usb_pipe.specs.Toggles.{flips}
 use Rattle.usb_pipe.specs.declared.fault.PipeFault.{PipeFault}
 use Rattle.usb_pipe.proofs.TransactionFaults.{Fell}
 

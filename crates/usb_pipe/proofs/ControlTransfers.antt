@@ -49,10 +49,9 @@ use Rattle.usb_pipe.specs.Control.{as_pipe_fault, ends_stage, byte_bound, FaultA
 use Rattle.usb_pipe.specs.Failures.{WhyWrite, WhyRead}
 use Rattle.usb_pipe.specs.Leaves.{IsNoBusFault, AcceptedIn, CanEnd, IsBehind, AnswerRead, ReadLeaves, WasRefused, EffectDone, EffectOrNone, WriteLeaves, TookItOrLost, LossesOf, IsMaximum, LossesKept}
 use Rattle.usb_pipe.specs.Stages.{SetUp, Goes, start, packet, DataStage, Reads, Writes, Asks, DataEnds, Confirms}
-use Rattle.usb_packet.specs.Toggles.{other}
+use Rattle.usb_packet.specs.Toggles.{other, flips}
 use Rattle.usb_request.specs.Codes.{DEVICE, CONFIGURATION, STRING, HUB, GET_STATUS, CLEAR_FEATURE, SET_FEATURE, SET_ADDRESS, GET_DESCRIPTOR, GET_CONFIGURATION, SET_CONFIGURATION, DEVICE_IN, DEVICE_OUT, ENDPOINT_OUT, HUB_IN, PORT_IN, PORT_OUT}
 use Rattle.usb_request.specs.Requests.{descriptor_value}
-use Rattle.usb_pipe.specs.Toggles.{flips}
 use Rattle.usb_pipe.specs.Transfers.{Unshared, ControlRead, ControlWrite}
 use Rattle.usb_pipe.specs.declared.fault.PipeFault.{PipeFault}
 use Rattle.usb_pipe.specs.declared.fault.PipeFault.TheVariants as pipe_fault

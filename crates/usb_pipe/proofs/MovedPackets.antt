@@ -7,7 +7,7 @@ use Rattle.std.proofs.lemmas.Grind.{div_ceil_times}
 use Rattle.std.proofs.lemmas.List.{take_min}
 use Rattle.std.proofs.lemmas.Nat.{div-mul-add, le-div}
 use Rattle.usb_packet.specs.declared.Toggle.{Toggle}
-use Rattle.usb_packet.specs.Toggles.{other}
+use Rattle.usb_packet.specs.Toggles.{other, flips}
 use Rattle.usb_world.specs.AttemptPackets.{IsSettled}
 use Rattle.usb_world.specs.World.{World}
 use Rattle.usb_bus.specs.Traces.{WentOn}
@@ -20,7 +20,6 @@ use Rattle.usb_pipe.specs.Bulk.{packets_of, Turned}
 use Rattle.usb_pipe.specs.Control.{FaultAfter, as_pipe_fault}
 use Rattle.usb_pipe.specs.Moves.{Puts, Gave, Fetches, Came, start, packet, AllCame}
 use Rattle.usb_pipe.specs.Packets.{PacketsSent, PacketsReceived}
-use Rattle.usb_pipe.specs.Toggles.{flips}
 use Rattle.usb_pipe.specs.declared.fault.PipeFault.{PipeFault}
 use Rattle.usb_pipe.specs.declared.fault.PipeFault.TheVariants.{Memory}
 

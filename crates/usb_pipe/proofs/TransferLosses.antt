@@ -19,7 +19,7 @@ use Rattle.usb_pipe.specs.Interrupt.{Interrupt, PollAsked, Polls}
 use Rattle.usb_pipe.specs.Leaves.{IsNoBusFault}
 use Rattle.usb_pipe.specs.Moves.{Gave, Came, SendEnds, ReceiveEnds}
 use Rattle.usb_pipe.specs.Moves as moves
-use Rattle.usb_pipe.specs.Toggles.{flips}
+use Rattle.usb_packet.specs.Toggles.{flips}
 use Rattle.usb_pipe.specs.declared.fault.PipeFault.{PipeFault}
 use Rattle.usb_pipe.proofs.BulkCalls.{send_by, receive_by}
 use Rattle.usb_pipe.proofs.BulkCalls.{came_settled, gave_settled}

@@ -16,7 +16,7 @@ use Rattle.usb_pipe.specs.declared.fault.PipeFault.TheVariants as fault
 use Rattle.usb_request.specs.Codes.{DIRECTION_IN}
 use Rattle.usb_request.specs.Requests.{clear_endpoint_halt}
 use Rattle.usb_pipe.specs.Control.{FaultAfter}
-use Rattle.usb_pipe.specs.Toggles.{flips}
+use Rattle.usb_packet.specs.Toggles.{flips}
 use Rattle.usb_pipe.specs.Stages.{Writes}
 use Rattle.usb_pipe.specs.End.{packet_target}
 use Rattle.usb_pipe.specs.Moves.{SendEnds, ReceiveEnds}

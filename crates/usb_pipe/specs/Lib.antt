@@ -1,5 +1,4 @@
 pub mod Control
-pub mod Toggles
 pub mod End
 pub mod Interrupt
 pub mod Bulk

@@ -12,7 +12,7 @@ use Rattle.usb_pipe.specs.declared.fault.PipeFault.TheVariants.{Stalled, Memory}
 use Rattle.usb_pipe.specs.Bulk.{packets_of, Turned}
 use Rattle.usb_pipe.specs.Control.{FaultAfter}
 use Rattle.usb_pipe.specs.Moves.{SendEnds, ReceiveEnds}
-use Rattle.usb_pipe.specs.Toggles.{flips}
+use Rattle.usb_packet.specs.Toggles.{flips}
 
 -- some bytes were sent, each packet but the last of the maximum
 pub record PacketsSent (t : Target) (ep : ℕ) (first : Toggle) (bytes : List ℕ) (old : World) (result : Result (Unit {0}) PipeFault) (toggle : Toggle) (new : World) : Type 0 where

@@ -14,7 +14,7 @@ use Rattle.usb_transaction.specs.Trail.{Transacted}
 use Rattle.usb_pipe.specs.declared.fault.PipeFault.{PipeFault}
 use Rattle.usb_pipe.specs.declared.fault.PipeFault.TheVariants.{Memory}
 use Rattle.usb_pipe.specs.Control.{as_pipe_fault, ends_stage}
-use Rattle.usb_pipe.specs.Toggles.{flips}
+use Rattle.usb_packet.specs.Toggles.{flips}
 
 -- Transactions of endpoint 0
 

@@ -21,7 +21,7 @@ ghost use Rattle.usb_pipe.specs.declared.fault.PipeFault.{PipeFault as AFault};
 ghost use Rattle.usb_pipe.specs.Stages.{Reads, Writes};
 ghost use Rattle.usb_pipe.specs.End.{packet_target};
 ghost use Rattle.usb_pipe.specs.Moves.{WhileSending, SendsAt};
-ghost use Rattle.usb_pipe.specs.Toggles.{flips};
+ghost use Rattle.usb_packet.specs.Toggles.{flips};
 ghost use Rattle.usb_pipe.specs.Attempts.{IsOfTransfer, TransferAttempts};
 ghost use Rattle.usb_pipe.specs.Bulk.{Bulk as ABulk, Sends, Receives, Clears, halt_address};
 ghost use Rattle.usb_pipe.specs.Interrupt.{Interrupt as APipe, Polls};

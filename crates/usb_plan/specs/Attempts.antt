@@ -1,23 +1,15 @@
 -- How many attempts are enough for a plan.
-use Rattle.std.specs.Prelude.{ℕ, ◌+◌, ◌*◌, List, [], ◌∷◌, length, take, Option, Some, None, slice_get, max, min, ◌^◌, ◌-◌}
+use Rattle.std.specs.Prelude.{ℕ, ◌+◌, ◌*◌, List, [], ◌∷◌, length, Option, Some, None, slice_get, max, min, ◌^◌, ◌-◌}
 use Rattle.std.specs.List.{sum_by}
-use Rattle.usb_descriptor.specs.Config.{config_head_of, total_in}
 use Rattle.usb_world.specs.declared.event.Action.{Action}
 use Rattle.usb_world.specs.declared.event.Action.TheVariants.{Plug, Unplug, Show, Send, Receive, Clear}
 use Rattle.usb_world.specs.declared.event.Event.{Event}
+use Rattle.usb_device.specs.SaidLengths.{said_lengths}
 use Rattle.usb_device.specs.Spec.{Spec}
 use Rattle.usb_world.specs.PlanData.{PlanData}
 
--- wTotalLength of a text whose first 9 bytes are a configuration's head, else 0
-unfoldable pub head_total : List ℕ → ℕ
-head_total text = total_in (config_head_of (take 9 text))
-
--- the sum over a device's texts
-unfoldable pub all_totals : Spec → ℕ
-all_totals device = sum_by head_total device.configs
-
 abbrev pub total_at : Option Spec → ℕ
-total_at (Some device) = all_totals device
+total_at (Some device) = said_lengths device
 total_at None = 0
 
 abbrev pub total_after : List Spec → Action → ℕ

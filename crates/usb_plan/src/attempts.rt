@@ -2,7 +2,8 @@
 
 ghost use Rattle.std.specs.Prelude.{◌≡◌, ◌≤◌, ◌<◌, ◌-◌, ◌^◌, length, map, sum, take, min};
 ghost use Rattle.std.specs.List.{sum_by};
-ghost use Rattle.usb_plan.specs.Attempts.{head_total, all_totals, plugged_total, greatest_total, moved, bound_of};
+ghost use Rattle.usb_device.specs.SaidLengths.{said_length, said_lengths};
+ghost use Rattle.usb_plan.specs.Attempts.{plugged_total, greatest_total, moved, bound_of};
 
 use usb_descriptor::config_head;
 use usb_device::DeviceSpec;
@@ -16,24 +17,24 @@ fn head(text: &[u8]) -> &[u8]
 }
 
 /// wTotalLength of a text whose first 9 bytes are a configuration's head, else 0.
-#[tactic(auto, unfolding(crate::specs::Attempts::head_total))]
-fn head_total(text: &[u8]) -> u64
-    ensures value { result ≡ head_total text.now }
+#[tactic(auto, unfolding(usb_device::specs::SaidLengths::said_length))]
+fn said_length(text: &[u8]) -> u64
+    ensures value { result ≡ said_length text.now }
     ensures most { result ≤ 65535 }
 {
     config_head(head(text)).map_or(0, u64::from)
 }
 
 /// wTotalLength of all texts of a device.
-#[tactic(auto, unfolding(crate::specs::Attempts::all_totals))]
-fn all_totals(device: &DeviceSpec) -> u64
-    ensures value { result ≡ all_totals device.now }
+#[tactic(auto, unfolding(usb_device::specs::SaidLengths::said_lengths))]
+fn said_lengths(device: &DeviceSpec) -> u64
+    ensures value { result ≡ said_lengths device.now }
     ensures most { result ≤ 524280 }
 {
     let texts = device.configs();
     let mut sum = 0;
     'texts: for text in texts {
-        sum += head_total(text.as_slice());
+        sum += said_length(text.as_slice());
     }
     sum
 }
@@ -46,7 +47,7 @@ fn plugged_total(devices: &[DeviceSpec], event: &Event) -> u64
 {
     match &event.action {
         Action::Plug(_, device) => match devices.get(*device) {
-            Some(device) => all_totals(device),
+            Some(device) => said_lengths(device),
             None => 0,
         },
         _ => 0,

@@ -6,6 +6,7 @@ use Rattle.std.proofs.lemmas.List.Elements.{All-from_recursion}
 use Rattle.std.specs.List.{AllByRecursion}
 use Rattle.std.specs.Prelude.{All, IfOk}
 use Rattle.usb_world.specs.PlanData.{PlanData}
+use Rattle.usb_world.specs.Wire.{AtMostTwoRunning}
 use Rattle.usb_world.specs.World.{World, Spends}
 use Rattle.usb_world.proofs.Interface.{spends_none}
 use Rattle.usb_host.specs.Hosting.{Hosting}
@@ -13,7 +14,7 @@ use Rattle.usb_serve.specs.declared.runs.Item.{Item}
 use Rattle.usb_serve.specs.declared.runs.Report.{Report}
 use Rattle.usb_serve.specs.declared.runs.RunFault.{RunFault}
 use Rattle.usb_serve.specs.declared.serving.Mode.TheVariants.{Tree}
-use Rattle.usb_serve.specs.Moments.{AtMostTwoRunning, IsListingOf, ListsPlugged}
+use Rattle.usb_serve.specs.Moments.{IsListingOf, ListsPlugged}
 use Rattle.usb_serve.specs.ServedRuns.{EndsWell, Finishes, Opens, Reports, unpowered}
 use Rattle.usb_serve.specs.Transcript.{RunsTo, Next, AppendsText, Transcript, begun, behind, ran, told}
 use Rattle.usb_serve.specs.declared.serving.Mode.{Mode}

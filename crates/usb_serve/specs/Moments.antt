@@ -1,13 +1,11 @@
 -- The moments of a plan's run at which its items are made: that each listing is what is plugged then, and that each transfer is what devices did.
-use Rattle.std.specs.Prelude.{◌≡◌, ◌≢◌, ◌+◌, ◌≤◌, ⊤, ℕ, List, length, All, None, Some, Result, IfOk, is_ok}
+use Rattle.std.specs.Prelude.{◌≡◌, ◌≤◌, ⊤, ℕ, List, length, All, None, Some, Result, IfOk, is_ok}
 use Rattle.std.specs.Global.{Vec}
 use Rattle.std.specs.List.{AllByRecursion}
-use Rattle.usb_world.specs.declared.damage.Damage.{Damage}
 use Rattle.usb_world.specs.declared.event.Due.{Due}
 use Rattle.usb_world.specs.declared.event.Due.TheVariants.{Send, Receive, Clear}
 use Rattle.usb_world.specs.PlanData.{PlanData}
 use Rattle.usb_world.specs.Steps.{AnyStep, Course, after, event, opening}
-use Rattle.usb_world.specs.Wire.{damage_of}
 use Rattle.usb_world.specs.World.{World}
 use Rattle.usb_bus.specs.Lines.{next_due}
 use Rattle.usb_table.specs.Deliveries.{Delivered, Collected, Restarted, bytes_in}
@@ -96,10 +94,6 @@ pub record TellsRight (plan : PlanData) (items : List Item) (last : World) : Typ
   pub right : IsFairTo (opening plan) last → AllByRecursion (IsListingOf plan) items
 
 -- Without a world
-
--- no three attempts running are damaged
-abbrev pub AtMostTwoRunning : List Damage → Type 0
-AtMostTwoRunning damages = (n : ℕ) → damage_of damages n ≢ None → damage_of damages (n + 1) ≢ None → damage_of damages (n + 2) ≢ None → ⊥
 
 -- where no address was lost three times running, each listing of a report is what is plugged when it is made
 abbrev pub ListsPlugged : PlanData → Report → Type 0

@@ -2,6 +2,7 @@
 ghost use Rattle.std.specs.Prelude.{◌≡◌, ◌≢◌, ◌+◌, ◌≤◌, ◌<◌, [], ◌∷◌, ◌++◌, false, true, None, Ok, Err, OnOk, OnErr, IfOk, IfErr, IsSome};
 ghost use Rattle.std.proofs.Props.{props};
 ghost use Rattle.usb_device.specs.TreeCodes.{ports_code};
+ghost use Rattle.usb_world.specs.Wire.{AtMostTwoRunning};
 ghost use Rattle.usb_world.specs.World.{root_row, to_come, changes};
 ghost use Rattle.usb_bus.specs.Sim.{world_of, trace_of};
 ghost use Rattle.std.specs.Io.KnownBytes.{Appends};
@@ -10,7 +11,7 @@ ghost use Rattle.usb_world.specs.Steps.{PutLine, opening};
 ghost use Rattle.usb_host.specs.Progress.{DidRound, Rests};
 ghost use Rattle.usb_host.specs.Ownership.{Owning};
 ghost use Rattle.usb_serve.specs.declared.runs.RunFault.TheVariants.{Memory as NoMemory};
-ghost use Rattle.usb_serve.specs.Moments.{AtMostTwoRunning, ListsPlugged};
+ghost use Rattle.usb_serve.specs.Moments.{ListsPlugged};
 ghost use Rattle.usb_serve.specs.RunSegments.{Settles};
 ghost use Rattle.usb_serve.specs.Run.{IsBegun, IsCaused, RunsOn, WorksOn, run_fault, items_left, listing_of};
 ghost use Rattle.usb_serve.specs.ServedRuns.{EndsWell, Finishes, Opens};

@@ -1,13 +1,13 @@
 -- Why a transaction fails, where no three attempts running are damaged.
 use Rattle.usb_device.specs.Tree.{Spot}
-use Rattle.std.specs.Prelude.{◌≡◌, ◌≢◌, ℕ, ◌+◌, ◌≤◌, ◌<◌, List, length, true, false, Option, None, Some, is_some, Result, Err}
+use Rattle.std.specs.Prelude.{◌≡◌, ◌≢◌, ℕ, ◌≤◌, ◌<◌, List, length, true, false, Option, Some, is_some, Result, Err}
 use Rattle.usb_packet.specs.declared.Toggle.{Toggle}
 use Rattle.usb_packet.specs.declared.Toggle.TheVariants.{One}
 use Rattle.usb_device.specs.Bulk.{tells_changes}
 use Rattle.usb_device.specs.Rows.{State}
 use Rattle.usb_device.specs.Transfer.{ending, refused, max_packet, packet_at, toggle_at}
 use Rattle.usb_device.specs.Progress.{ReadingAt, IsSource, SourceAt, IsSink, PollAt, NeverTold}
-use Rattle.usb_world.specs.Wire.{damage_of}
+use Rattle.usb_world.specs.Wire.{AtMostTwoRunning}
 use Rattle.usb_world.specs.AttemptPackets.{deep_at}
 use Rattle.usb_world.specs.OneHolder.{hears_attempt}
 use Rattle.usb_world.specs.World.{World}
@@ -19,7 +19,7 @@ use Rattle.usb_transaction.specs.Transactions.{in_attempt}
 
 -- no three attempts running are damaged
 abbrev pub NoThreeDamaged : World → Type 0
-NoThreeDamaged w = (n : ℕ) → damage_of w.damages n ≢ None → damage_of w.damages (n + 1) ≢ None → damage_of w.damages (n + 2) ≢ None → ⊥
+NoThreeDamaged w = AtMostTwoRunning w.damages
 
 -- the device has the target's address, is not silent, and hears what is sent to the target
 pub record Listens (t : Target) (x : Spot) (s : State) : Type 0 where

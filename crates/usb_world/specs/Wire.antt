@@ -1,5 +1,5 @@
 -- Packets on their way, and what damage does to them.
-use Rattle.std.specs.Prelude.{ℕ, ◌+◌, ◌*◌, ◌==◌, nat_lt, nat_le, Bool, true, false, if◌then◌else◌, List, [], ◌∷◌, length, Option, None, Some}
+use Rattle.std.specs.Prelude.{◌≢◌, ℕ, ◌+◌, ◌*◌, ◌==◌, nat_lt, nat_le, Bool, true, false, if◌then◌else◌, List, [], ◌∷◌, length, Option, None, Some}
 use Rattle.usb_packet.specs.declared.Packet.{Packet}
 use Rattle.usb_packet.specs.declared.Packet.TheVariants.{Token, Sof, Payload, Ack, Nak, Stall, Pre}
 use Rattle.usb_world.specs.declared.damage.Damage.{Damage}
@@ -13,6 +13,10 @@ use Rattle.usb_world.specs.declared.wire.Outgoing.{Outgoing}
 unfoldable pub damage_of : List Damage → ℕ → Option Damage
 damage_of [] attempt = None
 damage_of (d ∷ damages) attempt = if d.attempt == attempt then Some d else damage_of damages attempt
+
+-- no three attempts running are damaged
+abbrev pub AtMostTwoRunning : List Damage → Type 0
+AtMostTwoRunning damages = (n : ℕ) → damage_of damages n ≢ None → damage_of damages (n + 1) ≢ None → damage_of damages (n + 2) ≢ None → ⊥
 
 -- how many damages are to attempts up to this one
 unfoldable pub damages_until : ℕ → List Damage → ℕ
