@@ -1,0 +1,6 @@
+mod Places
+mod Calls
+mod Events
+mod Packets
+mod ComingEvents
+pub mod Interface

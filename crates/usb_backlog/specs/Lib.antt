@@ -1,0 +1,2 @@
+pub mod Backlog
+pub mod PortSettings
