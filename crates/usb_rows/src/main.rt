@@ -6,7 +6,8 @@ use std::alloc::{AllocError, Global};
 use std::rt::Files;
 use std::{fs, io, str};
 use usb_bus::Watched;
-use usb_serve::{Mode, ServeFault, packet_line, serve};
+use usb_serve::{Mode, ServeFault, serve};
+use usb_text::packet_line;
 
 /// A line for each row of a plan: its NAME. The plan is NAME.toml; NAME.run.txt and NAME.tree.txt are what is written
 /// of it; NAME.status has the exit status and, on a second line, the fault that is told.

@@ -6,7 +6,6 @@ pub mod LineEnds
 pub mod Moments
 pub mod RunCourses
 pub mod Ownership
-pub mod ReportLemmas
 pub mod ReportedItems
 pub mod ServedItems
 pub mod RoundEnds

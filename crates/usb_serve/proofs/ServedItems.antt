@@ -18,7 +18,7 @@ use Rattle.usb_serve.specs.declared.runs.RunFault.{RunFault}
 use Rattle.usb_serve.specs.declared.serving.Mode.TheVariants.{Tree, Run}
 use Rattle.usb_serve.specs.declared.serving.ServeFault.{ServeFault}
 use Rattle.usb_serve.specs.Moments.{TellsRight}
-use Rattle.usb_serve.specs.Report.{bound_line}
+use Rattle.usb_text.specs.ListingLines.{bound_line}
 use Rattle.usb_serve.specs.Run.{items_left}
 use Rattle.usb_serve.specs.ServedRuns.{Opens, RunWritten, TreeWritten, unpowered}
 use Rattle.usb_serve.specs.ServeResults.{item_lines, number_of}

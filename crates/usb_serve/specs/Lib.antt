@@ -1,5 +1,4 @@
-pub mod Line
-pub mod Report
+pub mod TransferLines
 pub mod Run
 pub mod ServeResults
 pub mod Transfers

@@ -10,7 +10,8 @@ use Rattle.usb_serve.specs.declared.runs.RunFault.TheVariants as run
 use Rattle.usb_serve.specs.declared.serving.ServeFault.{ServeFault}
 use Rattle.usb_serve.specs.declared.serving.ServeFault.TheVariants.{Read, TooLong, Run, Write, Memory}
 use Rattle.usb_serve.specs.declared.serving.ServeFault.TheVariants as serve
-use Rattle.usb_serve.specs.Report.{listing_lines, sent_line, received_line, cleared_line}
+use Rattle.usb_serve.specs.TransferLines.{sent_line, received_line, cleared_line}
+use Rattle.usb_text.specs.ListingLines.{listing_lines}
 
 abbrev pub input_fault : InputFault → ServeFault
 input_fault input.Read = Read

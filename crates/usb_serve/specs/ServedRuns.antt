@@ -21,7 +21,7 @@ use Rattle.usb_serve.specs.declared.serving.Mode.TheVariants.{Tree, Run}
 use Rattle.usb_serve.specs.declared.serving.ServeFault.{ServeFault}
 use Rattle.usb_serve.specs.declared.serving.ServeFault.TheVariants as serve
 use Rattle.usb_serve.specs.Moments.{TellsRight}
-use Rattle.usb_serve.specs.Report.{bound_line}
+use Rattle.usb_text.specs.ListingLines.{bound_line}
 use Rattle.usb_serve.specs.Transcript.{RunsTo, items_text}
 
 -- a host of a plan's bus, before anything was done: no port has power, and no device is known

@@ -10,8 +10,6 @@ ghost use Rattle.usb_serve.specs.Transcript.{RunEnds, Prints};
 
 use crate::answers::{cleared_line, received_line, sent_line};
 use crate::input::{InputFault, read_text};
-use crate::lines::Lines;
-use crate::listing::{bound_line, listing_lines};
 use crate::runs::{Item, RunFault, Runner};
 use std::alloc::{AllocError, Global};
 use std::io::{Read, Write};
@@ -19,6 +17,7 @@ use std::{io, str};
 use thiserror::Error;
 use usb_bus::{BusFault, Plan, Watched, WriteFailed, put_piece};
 use usb_plan::{PlanFault, bound, read_plan};
+use usb_text::{Lines, bound_line, listing_lines};
 
 /// What is written of a plan's run.
 #[derive(Clone, Copy, Debug, PartialEq, Eq)]
@@ -196,7 +195,7 @@ fn item_lines(alloc: Global, number: u64, item: &Item) -> Result<Lines, AllocErr
     ensures { IfOk result (λ lines. lines ≡ item_lines number item.now) }
 {
     match item {
-        Item::Listing(tree, _) => listing_lines(alloc, number, tree),
+        Item::Listing(tree, _) => listing_lines(alloc, number, tree.entries()),
         Item::Sent(path, sent) => one_line(alloc, sent_line(alloc, path, sent)?),
         Item::Received(path, received) => one_line(alloc, received_line(alloc, path, received)?),
         Item::Cleared(path, cleared) => one_line(alloc, cleared_line(alloc, path, cleared)?),

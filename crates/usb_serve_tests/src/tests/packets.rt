@@ -1,7 +1,7 @@
 //! Packets in digits, and what is printed of each.
 use std::alloc::{AllocError, Global};
 use std::test::Fail;
-use usb_serve::packet_line;
+use usb_text::packet_line;
 
 /// Digits, and their lines, or the fault that is told.
 const PACKETS: [(&str, &str); 15] = [

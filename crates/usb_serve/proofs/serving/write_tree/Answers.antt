@@ -3,7 +3,7 @@ use Rattle.std.specs.Io.KnownBytes.{Appends}
 use Rattle.std.specs.Prelude.{OnOk, is_some}
 use Rattle.usb_bus.specs.Watch.{AppendsFront, inner_of}
 use Rattle.usb_plan.specs.Attempts.{bound_of}
-use Rattle.usb_serve.specs.Report.{bound_line}
+use Rattle.usb_text.specs.ListingLines.{bound_line}
 use Rattle.usb_serve.specs.declared.serving.ServeFault.TheVariants as serve
 use Rattle.usb_serve.specs.Transcript.{Next}
 use Rattle.usb_serve.proofs.ServedItems.{tree_begun, tree_cut, tree_cut_lines, tree_over, tree_stopped, tree_told, tree_unbound, tree_unopened}

@@ -1,7 +1,7 @@
 -- Lists of printed lines.
 use Rattle.std.proofs.Common.{◌≡◌, ◌∙◌, ap, suc, zero, arith, ℕ, ◌+◌, ◌<◌, List, [], ◌∷◌, ◌++◌, length, take, get_or}
 use Rattle.std.specs.Prelude.{◌==◌}
-use Rattle.usb_serve.specs.Report.{config_line, config_lines}
+use Rattle.usb_text.specs.ListingLines.{config_line, config_lines}
 
 -- the lines up to a text, and that text's line
 pub config_lines-take : (path : List ℕ) (index chosen : ℕ) (texts : List (List ℕ)) (i : ℕ) (other : List ℕ) → i < length texts

@@ -2,7 +2,7 @@
 ghost use Rattle.std.specs.Prelude.{◌≡◌, ◌++◌, flat_map, decimal, codes, OnOk, IfOk};
 ghost use Rattle.usb_packet.specs.Text.{hex_text};
 ghost use Rattle.usb_port.specs.Path.{path_text};
-ghost use Rattle.usb_serve.specs.Report.{speed_word, unit_text, escaped_text, is_plain_unit};
+ghost use Rattle.usb_text.specs.ListingLines.{speed_word, unit_text, escaped_text, is_plain_unit};
 
 use std::alloc::{AllocError, Global};
 use usb_packet::hex_digits;
@@ -35,7 +35,7 @@ pub fn push_path(out: &mut Vec<u8>, path: &PortPath) -> Result<(), AllocError>
 }
 
 /// The word for a device's speed.
-#[tactic(auto, unfolding(crate::specs::Report::speed_word))]
+#[tactic(auto, unfolding(crate::specs::ListingLines::speed_word))]
 pub fn speed_word(low: bool) -> &'static str
     ensures { result.now ≡ speed_word low }
 {

@@ -1,7 +1,7 @@
 //! A packet in hexadecimal digits, as the lines that are printed for it.
 ghost use Rattle.std.specs.Prelude.{◌≡◌, IfOk, IfErr, string_bytes, [], ◌∷◌, ◌++◌};
 ghost use Rattle.hex.specs.Hex.{encode_upper};
-ghost use Rattle.usb_serve.specs.Line.{IsLineOf, HasFault};
+ghost use Rattle.usb_text.specs.Line.{IsLineOf, HasFault};
 
 use hex::FromHexError;
 use std::alloc::{AllocError, Global};

@@ -1,16 +1,15 @@
 //! The lines of a listing, each with its newline.
 ghost use Rattle.std.specs.Prelude.{◌≡◌, ◌++◌, ◌∷◌, [], OnOk, IfOk, flat_map, map, option_map};
-ghost use Rattle.usb_serve.specs.Report.{address_line, config_line, config_lines, hub_line, hub_lines, string_line, string_lines, refused_line, listing_line, bound_line, device_lines, finding_lines, entry_lines, listing_lines, star, request_word, cause_word, cause_index};
+ghost use Rattle.usb_text.specs.ListingLines.{address_line, config_line, config_lines, hub_line, hub_lines, string_line, string_lines, refused_line, listing_line, bound_line, device_lines, finding_lines, entry_lines, listing_lines, star, request_word, cause_word, cause_index};
 
 use crate::lines::Lines;
 use crate::text::{push_decimal, push_hex, push_path, push_units, speed_word};
 use std::alloc::{AllocError, Global};
 use usb_enum::{Accepted, Cause, ConfigText, Finding, HubFacts, Request, StringUnits};
-use usb_host::Tree;
 use usb_port::PortPath;
 
 /// `listing N`.
-#[tactic(auto, unfolding(crate::specs::Report::listing_line))]
+#[tactic(auto, unfolding(crate::specs::ListingLines::listing_line))]
 fn listing_line(alloc: Global, number: u64) -> Result<Vec<u8>, AllocError>
     ensures { IfOk result (λ line. line.items ≡ listing_line number) }
 {
@@ -22,7 +21,7 @@ fn listing_line(alloc: Global, number: u64) -> Result<Vec<u8>, AllocError>
 }
 
 /// `bound N`.
-#[tactic(auto, unfolding(crate::specs::Report::bound_line))]
+#[tactic(auto, unfolding(crate::specs::ListingLines::bound_line))]
 pub fn bound_line(alloc: Global, bound: u64) -> Result<Vec<u8>, AllocError>
     ensures { IfOk result (λ line. line.items ≡ bound_line bound) }
 {
@@ -34,7 +33,7 @@ pub fn bound_line(alloc: Global, bound: u64) -> Result<Vec<u8>, AllocError>
 }
 
 /// `PATH address A full|low HEX`.
-#[tactic(auto, unfolding(crate::specs::Report::address_line))]
+#[tactic(auto, unfolding(crate::specs::ListingLines::address_line))]
 fn address_line(alloc: Global, path: &PortPath, device: &Accepted) -> Result<Vec<u8>, AllocError>
     ensures { IfOk result (λ line. line.items
         ≡ address_line path.now device.now.address device.now.low device.now.bytes) }
@@ -59,7 +58,7 @@ fn star(chosen: bool) -> &'static str
 }
 
 /// `PATH config I HEX`, and a star behind the chosen one.
-#[tactic(auto, unfolding(crate::specs::Report::config_line))]
+#[tactic(auto, unfolding(crate::specs::ListingLines::config_line))]
 fn config_line(
     alloc: Global,
     path: &PortPath,
@@ -96,7 +95,7 @@ fn push_configs(
 }
 
 /// `PATH hub N ports S mA`.
-#[tactic(auto, unfolding(crate::specs::Report::hub_line))]
+#[tactic(auto, unfolding(crate::specs::ListingLines::hub_line))]
 fn hub_line(alloc: Global, path: &PortPath, hub: &HubFacts) -> Result<Vec<u8>, AllocError>
     ensures { IfOk result (λ line. line.items ≡ hub_line path.now hub.now.ports hub.now.supply) }
 {
@@ -125,7 +124,7 @@ fn push_hub(
 }
 
 /// `PATH LABEL "TEXT"`.
-#[tactic(auto, unfolding(crate::specs::Report::string_line))]
+#[tactic(auto, unfolding(crate::specs::ListingLines::string_line))]
 fn string_line(
     alloc: Global,
     path: &PortPath,
@@ -159,7 +158,7 @@ fn push_string(
     }
 }
 
-#[tactic(auto, unfolding(crate::specs::Report::device_lines))]
+#[tactic(auto, unfolding(crate::specs::ListingLines::device_lines))]
 fn push_device(
     alloc: Global,
     lines: &mut Lines,
@@ -222,7 +221,7 @@ fn push_index(alloc: Global, line: &mut Vec<u8>, cause: Cause) -> Result<(), All
 }
 
 /// `PATH refused CAUSE`.
-#[tactic(auto, unfolding(crate::specs::Report::refused_line))]
+#[tactic(auto, unfolding(crate::specs::ListingLines::refused_line))]
 fn refused_line(alloc: Global, path: &PortPath, cause: Cause) -> Result<Vec<u8>, AllocError>
     ensures { IfOk result (λ line. line.items ≡ refused_line path.now cause) }
 {
@@ -262,14 +261,18 @@ fn push_entries(
     Ok(())
 }
 
-/// The lines of a listing, the first one number 1.
-#[tactic(auto, unfolding(crate::specs::Report::listing_lines))]
-pub fn listing_lines(alloc: Global, number: u64, tree: &Tree) -> Result<Lines, AllocError>
-    ensures { IfOk result (λ lines. lines ≡ listing_lines number tree.now) }
+/// The lines of a listing, the first one number 1: of each entry, a path and what was found there.
+#[tactic(auto, unfolding(crate::specs::ListingLines::listing_lines))]
+pub fn listing_lines(
+    alloc: Global,
+    number: u64,
+    entries: &[(PortPath, Finding)],
+) -> Result<Lines, AllocError>
+    ensures { IfOk result (λ lines. lines ≡ listing_lines number entries.now) }
 {
     let mut lines = Lines::new(alloc);
     lines.push(listing_line(alloc, number)?)?;
-    push_entries(alloc, &mut lines, tree.entries())?;
+    push_entries(alloc, &mut lines, entries)?;
     let mut end = Vec::new(alloc);
     end.extend_from_slice(b"end\n")?;
     lines.push(end)?;

@@ -1,6 +1,6 @@
 use Rattle.std.proofs.Common.{◌≡◌, ◌++◌, flat_map, take}
-use Rattle.usb_serve.specs.Report.{entry_lines}
-use Rattle.usb_serve.proofs.listing.push_entries.Given as goal
+use Rattle.usb_text.specs.ListingLines.{entry_lines}
+use Rattle.usb_text.proofs.listing.push_entries.Given as goal
 
 -- the lines of the entries so far are written
 abbrev pub invariant-entries : goal.invariant-entries

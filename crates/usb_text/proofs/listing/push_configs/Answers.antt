@@ -1,8 +1,8 @@
 use Rattle.std.proofs.Common.{◌∙◌, sym, ap, append-nil, append_assoc, ◌++◌, add-one, suc, arith, take, ◌≡◌, ◌∷◌, [], List, ℕ}
-use Rattle.usb_serve.specs.Report.{config_line, config_lines}
+use Rattle.usb_text.specs.ListingLines.{config_line, config_lines}
 use Rattle.std.specs.Prelude.{◌==◌}
-use Rattle.usb_serve.proofs.ReportLemmas.{config_lines_at}
-use Rattle.usb_serve.proofs.listing.push_configs.Goals as goal
+use Rattle.usb_text.proofs.ConfigLines.{config_lines_at}
+use Rattle.usb_text.proofs.listing.push_configs.Goals as goal
 
 pub texts-init : goal.texts-init
 unfolding config_lines

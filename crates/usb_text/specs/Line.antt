@@ -4,8 +4,8 @@ use Rattle.hex.specs.Hex.{decode_of, encode_upper}
 use Rattle.usb_packet.specs.declared.Packet.{Packet}
 use Rattle.usb_packet.specs.Spelling.{Spells, Faults}
 use Rattle.usb_packet.specs.Text.{text_of}
-use Rattle.usb_serve.specs.declared.line.LineFault.{LineFault}
-use Rattle.usb_serve.specs.declared.line.LineFault.TheVariants.{BadHex, Packet as PacketRefused, Memory}
+use Rattle.usb_text.specs.declared.line.LineFault.{LineFault}
+use Rattle.usb_text.specs.declared.line.LineFault.TheVariants.{BadHex, Packet as PacketRefused, Memory}
 
 -- the two lines of a packet: its text, and its bytes in upper-case digits
 abbrev pub lines_of : Packet → List ℕ → List ℕ

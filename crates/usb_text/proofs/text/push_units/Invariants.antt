@@ -1,6 +1,6 @@
 use Rattle.std.proofs.Common.{◌≡◌, ◌++◌, flat_map, take}
-use Rattle.usb_serve.specs.Report.{unit_text}
-use Rattle.usb_serve.proofs.text.push_units.Given as goal
+use Rattle.usb_text.specs.ListingLines.{unit_text}
+use Rattle.usb_text.proofs.text.push_units.Given as goal
 
 -- the units so far are written
 abbrev pub invariant-units : goal.invariant-units

@@ -1,6 +1,6 @@
 use Rattle.std.proofs.Common.{◌≡◌, ◌++◌, take}
-use Rattle.usb_serve.specs.Report.{config_lines}
-use Rattle.usb_serve.proofs.listing.push_configs.Given as goal
+use Rattle.usb_text.specs.ListingLines.{config_lines}
+use Rattle.usb_text.proofs.listing.push_configs.Given as goal
 
 -- the lines of the texts so far are written
 abbrev pub invariant-texts : goal.invariant-texts

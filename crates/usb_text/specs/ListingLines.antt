@@ -1,6 +1,5 @@
--- The printed lines of a report, each with its newline.
-use Rattle.std.specs.Prelude.{ℕ, ◌+◌, ◌/◌, ◌%◌, ◌==◌, ◌&&◌, not, nat_le, Bool, List, [], ◌∷◌, ◌++◌, Option, None, Some, Result, Ok, Err, codes, decimal, flat_map, if◌then◌else◌}
-use Rattle.std.specs.Global.{Vec}
+-- The printed lines of a listing and of a bound, each with its newline.
+use Rattle.std.specs.Prelude.{ℕ, ◌+◌, ◌/◌, ◌%◌, ◌==◌, ◌&&◌, not, nat_le, Bool, List, [], ◌∷◌, ◌++◌, Option, None, Some, codes, decimal, flat_map, if◌then◌else◌}
 use Rattle.hex.specs.Hex.{encode_upper}
 use Rattle.usb_packet.specs.Text.{hex_text}
 use Rattle.usb_port.specs.Path.{path_text}
@@ -12,9 +11,6 @@ use Rattle.usb_enum.specs.declared.finding.Accepted.{Accepted}
 use Rattle.usb_enum.specs.declared.finding.Finding.{Finding}
 use Rattle.usb_enum.specs.declared.finding.Finding.TheVariants.{Device, Refused}
 use Rattle.usb_enum.specs.declared.hub.HubFacts.{HubFacts}
-use Rattle.usb_table.specs.Entries.{Entries}
-use Rattle.usb_serve.specs.declared.transfer.TransferFault.{TransferFault}
-use Rattle.usb_serve.specs.declared.transfer.TransferFault.TheVariants.{NoDevice, NoEndpoint, Stalled as EndpointStalled, Busy as EndpointBusy, NoAnswer, Broken}
 
 unfoldable pub speed_word : Bool → List ℕ
 speed_word low = if low then codes "low" else codes "full"
@@ -109,46 +105,8 @@ unfoldable pub listing_line : ℕ → List ℕ
 listing_line number = codes "listing " ++ decimal number ++ codes "\n"
 
 -- listing N, the lines of each entry, end
-unfoldable pub listing_lines : ℕ → Entries → List (List ℕ)
+unfoldable pub listing_lines : ℕ → List (List ℕ × Finding) → List (List ℕ)
 listing_lines number entries = listing_line number ∷ [] ++ flat_map entry_lines entries ++ codes "end\n" ∷ []
-
--- why a transfer was not done
-abbrev pub fault_word : TransferFault → List ℕ
-fault_word NoDevice = codes "no device"
-fault_word NoEndpoint = codes "no endpoint"
-fault_word EndpointStalled = codes "stalled"
-fault_word EndpointBusy = codes "busy"
-fault_word NoAnswer = codes "no answer"
-fault_word Broken = codes "broken"
-
-abbrev pub failed_end : TransferFault → List ℕ
-failed_end fault = codes " failed " ++ fault_word fault
-
--- how many bytes were sent
-abbrev pub sent_end : Result ℕ TransferFault → List ℕ
-sent_end (Ok count) = codes " done " ++ decimal count
-sent_end (Err fault) = failed_end fault
-
--- the bytes that were received
-abbrev pub received_end : Result (Vec ℕ) TransferFault → List ℕ
-received_end (Ok bytes) = codes " done " ++ hex_text bytes.items
-received_end (Err fault) = failed_end fault
-
-abbrev pub cleared_end : Result (Unit {0}) TransferFault → List ℕ
-cleared_end (Ok done) = codes " done"
-cleared_end (Err fault) = failed_end fault
-
--- send PATH done N, or send PATH failed WORDS
-unfoldable pub sent_line : List ℕ → Result ℕ TransferFault → List ℕ
-sent_line path sent = codes "send " ++ path_text path ++ sent_end sent ++ codes "\n"
-
--- receive PATH done HEX, or receive PATH failed WORDS
-unfoldable pub received_line : List ℕ → Result (Vec ℕ) TransferFault → List ℕ
-received_line path received = codes "receive " ++ path_text path ++ received_end received ++ codes "\n"
-
--- clear PATH done, or clear PATH failed WORDS
-unfoldable pub cleared_line : List ℕ → Result (Unit {0}) TransferFault → List ℕ
-cleared_line path cleared = codes "clear " ++ path_text path ++ cleared_end cleared ++ codes "\n"
 
 unfoldable pub bound_line : ℕ → List ℕ
 bound_line bound = codes "bound " ++ decimal bound ++ codes "\n"

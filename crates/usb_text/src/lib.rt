@@ -1,0 +1,15 @@
+//! What is printed: a packet that is written in digits, and the lines of a listing and of a bound.
+//!
+//! `packet_line` gives the two lines of a packet, `listing_lines` those of a listing and `bound_line` that of a bound;
+//! `Lines` are lines in their order, and `push_decimal`, `push_hex` and `push_path` the pieces that lines are made of.
+#![tactic(auto)]
+
+mod line;
+mod lines;
+mod listing;
+mod text;
+
+pub use line::{LineFault, packet_line};
+pub use lines::Lines;
+pub use listing::{bound_line, listing_lines};
+pub use text::{push_decimal, push_hex, push_path};
