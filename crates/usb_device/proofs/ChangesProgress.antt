@@ -1,5 +1,5 @@
 -- IN 1 of a configured hub, one attempt after another.
-use Rattle.std.proofs.Common.{◌≡◌, ◌≤◌, ◌&&◌, ◌==◌, ℕ, nat_le, if◌then◌else◌, Bool, true, false, List, [], ◌∷◌, Option, None, Some, refl, ap, sym, subst, ◌∙◌, arith}
+use Rattle.std.proofs.Common.{◌≡◌, ◌≢◌, ◌≤◌, ◌&&◌, ◌==◌, ℕ, nat_le, if◌then◌else◌, Bool, true, false, List, [], ◌∷◌, Option, None, Some, refl, ap, sym, subst, ◌∙◌, arith}
 use Rattle.std.proofs.lemmas.Bool.Decides.{nat_tests}
 use Rattle.usb_packet.specs.declared.Toggle.{Toggle}
 use Rattle.usb_packet.specs.declared.Toggle.TheVariants.{Zero, One}
@@ -68,12 +68,15 @@ no_change_on Told bits t s h q z whole = (z, level h q)
 no_change_on Told bits t s h q z broken = level h q
 no_change_on Told bits t s h q z lost = level h q
 
-by_bits : (Told : ℕ → Type 0) (bits : ℕ) (t : Toggle) (s : State) → Told bits → s.held ≡ None → s.changes.toggle ≡ t → (max : ℕ) (t2 t3 : Way) (none : Bool) → (bits == 0) ≡ none
+some_bits : (bits : ℕ) → (bits == 0) ≡ false → bits ≢ 0
+some_bits bits z e = no (bits == 0) (rw e refl) z
+
+by_bits : (Told : ℕ → Type 0) (bits : ℕ) (t : Toggle) (s : State) → (bits ≢ 0 → Told bits) → s.held ≡ None → s.changes.toggle ≡ t → (max : ℕ) (t2 t3 : Way) (none : Bool) → (bits == 0) ≡ none
     → On Told bits t (if none then (heard t2 (Some Nak), s) else gave (record s { held = Some bits }) by.Changes max s.changes.toggle (bits ∷ []) t2 t3)
 by_bits Told bits t s so h q max t2 t3 true z = no_change_on Told bits t s h q (grind (arith, nat_tests)) t2
-by_bits Told bits t s so h q max t2 t3 false z = gave_awaited Told bits bits t (record s { held = Some bits }) so refl q (is_whole t2) (nat_le 1 max) (is_whole t3)
+by_bits Told bits t s so h q max t2 t3 false z = gave_awaited Told bits bits t (record s { held = Some bits }) (so (some_bits bits z)) refl q (is_whole t2) (nat_le 1 max) (is_whole t3)
 
-by_held : (Told : ℕ → Type 0) (t : Toggle) (s : State) (row : List PortState) → Told (change_bits row) → PollAt Told t s → (max : ℕ) (t2 t3 : Way) (held : Option ℕ) → s.held ≡ held
+by_held : (Told : ℕ → Type 0) (t : Toggle) (s : State) (row : List PortState) → (change_bits row ≢ 0 → Told (change_bits row)) → PollAt Told t s → (max : ℕ) (t2 t3 : Way) (held : Option ℕ) → s.held ≡ held
     → On Told (change_bits row) t (held_law s row held max t2 t3)
 by_held Told t s row so (level h q) max t2 t3 None e = by_bits Told (change_bits row) t s so h q max t2 t3 (change_bits row == 0) refl
 by_held Told t s row so (level h q) max t2 t3 (Some b) e = absurd cc
@@ -89,8 +92,8 @@ by_halt : (Told : ℕ → Type 0) (bits : ℕ) (t : Toggle) (s : State) → Poll
 by_halt Told bits t s at t2 rest h true e = stalled_on Told bits t s at e t2
 by_halt Told bits t s at t2 rest h false e = h
 
--- of anything that is so of the bits that the ports told
-pub poll_on : (Told : ℕ → Type 0) (t : Toggle) (s : State) → tells_changes s.spec s.registers ≡ true → (row : List PortState) → Told (change_bits row) → PollAt Told t s
+-- of anything that is so of the bits that the ports told, where some is set: no byte is given of none
+pub poll_on : (Told : ℕ → Type 0) (t : Toggle) (s : State) → tells_changes s.spec s.registers ≡ true → (row : List PortState) → (change_bits row ≢ 0 → Told (change_bits row)) → PollAt Told t s
     → (max : ℕ) → 1 ≤ max → (t1 t2 t3 : Way) → PollOn Told (change_bits row) t (in_law s row 1 max t1 t2 t3).0 (in_law s row 1 max t1 t2 t3).1
 poll_on Told t s h row so at max m broken t2 t3 = at
 poll_on Told t s h row so at max m lost t2 t3 = at

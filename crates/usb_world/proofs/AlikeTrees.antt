@@ -1,12 +1,13 @@
 -- Trees that differ in what their devices remember and in how far their transfers are, but not in more.
-use Rattle.std.proofs.Common.{◌≡◌, ℕ, zero, suc, ◌&&◌, List, [], ◌∷◌, Option, None, Some, option_map, refl, ap, sym, subst, ◌∙◌}
+use Rattle.std.proofs.Common.{◌≡◌, ℕ, zero, suc, ◌&&◌, List, [], ◌∷◌, length, Option, None, Some, option_map, refl, ap, sym, subst, ◌∙◌}
 use Rattle.std.proofs.lemmas.Option.{same_Some}
 use Rattle.usb_port.specs.PortState.{PortState}
 use Rattle.usb_device.specs.Spec.{IsSpec, Spec}
 use Rattle.usb_device.specs.Rows.{State, forgotten}
-use Rattle.usb_device.specs.Tree.{Ports, ended, vacant, taken, reach_at, state_at, port_at}
+use Rattle.usb_device.specs.Tree.{Ports, ended, vacant, taken, reach_at, state_at, port_at, row_of}
 use Rattle.usb_device.specs.Delivery.{all_forgotten}
-use Rattle.usb_world.specs.SanePorts.{IsSane}
+use Rattle.usb_world.specs.PluggedDevices.{hub_ports}
+use Rattle.usb_world.specs.SanePorts.{IsSane, HasItsPorts}
 use Rattle.usb_device.specs.declared.request.Registers.{Registers}
 
 -- a device's description, with its address and configuration
@@ -31,22 +32,24 @@ pub record Alike (k m : Ports) : Type 0 where
   pub port : (i : ℕ) (e : List ℕ) → port_at m i e ≡ port_at k i e
   pub reach : (i : ℕ) (e : List ℕ) → reach_at m i e ≡ reach_at k i e
   pub selves : (i : ℕ) (e : List ℕ) → option_map self_of (state_at m i e) ≡ option_map self_of (state_at k i e)
+  pub row : row_of m ≡ row_of k
   pub sane : IsSane k → IsSane m
 
 pub alike_self : (k : Ports) → Alike k k
-alike_self k = record { port = λ i e. refl; reach = λ i e. refl; selves = λ i e. refl; sane = λ h. h }
+alike_self k = record { port = λ i e. refl; reach = λ i e. refl; selves = λ i e. refl; row = refl; sane = λ h. h }
 
 pub alike_joined : {k m n : Ports} → Alike k m → Alike m n → Alike k n
 alike_joined x y = record {
   port = λ i e. y.port i e ∙ x.port i e;
   reach = λ i e. y.reach i e ∙ x.reach i e;
   selves = λ i e. y.selves i e ∙ x.selves i e;
+  row = y.row ∙ x.row;
   sane = λ h. y.sane (x.sane h);
 }
 
 pub alike_vacant : (b : PortState) (k m : Ports) → Alike k m → Alike (vacant b k) (vacant b m)
-unfolding port_at reach_at state_at IsSane
-alike_vacant b k m h = record { port = port; reach = reach; selves = selves; sane = λ g. (g.0, g.1, h.sane g.2) }
+unfolding port_at reach_at state_at row_of IsSane
+alike_vacant b k m h = record { port = port; reach = reach; selves = selves; row = ap (λ r. b ∷ r) h.row; sane = λ g. (g.0, g.1, h.sane g.2) }
   where
     port : (i : ℕ) (e : List ℕ) → port_at (vacant b m) i e ≡ port_at (vacant b k) i e
     port zero [] = refl
@@ -62,14 +65,18 @@ alike_vacant b k m h = record { port = port; reach = reach; selves = selves; san
     selves (suc i) e = h.selves i e
 
 pub alike_taken : (b : PortState) (s z : State) (a c k m : Ports) → self_of z ≡ self_of s → Alike a c → Alike k m → Alike (taken b s a k) (taken b z c m)
-unfolding port_at reach_at state_at IsSane
+unfolding port_at reach_at state_at row_of IsSane
 alike_taken b s z a c k m own below h = record {
   port = port;
   reach = reach;
   selves = selves;
-  sane = λ g. (g.0, rw (ap (λ x. x.0.low) own) g.1, below.sane g.2, h.sane g.3, subst IsSpec (sym (ap (λ x. x.0) own)) g.4);
+  row = ap (λ r. b ∷ r) h.row;
+  sane = λ g. (g.0, rw (ap (λ x. x.0.low) own) g.1, below.sane g.2, h.sane g.3, subst IsSpec (sym (ap (λ x. x.0) own)) g.4, has_ports g.5);
 }
   where
+    has_ports : HasItsPorts s.spec a → HasItsPorts z.spec c
+    has_ports g = ap length below.row ∙ g ∙ ap (λ x. hub_ports x.0.hub) (sym own)
+
     port : (i : ℕ) (e : List ℕ) → port_at (taken b z c m) i e ≡ port_at (taken b s a k) i e
     port zero [] = refl
     port zero (zero ∷ e) = refl

@@ -8,10 +8,13 @@ use Rattle.usb_request.specs.Features.{PORT_ENABLE, PORT_RESET, PORT_POWER, C_PO
 use Rattle.usb_port.specs.declared.call.PortCall.{PortCall}
 use Rattle.usb_port.specs.Calls.{called_port, port_by, is_reset, set_call, clear_call, IsSetFeature, IsClearFeature}
 use Rattle.usb_device.specs.Rows.{State}
-use Rattle.usb_device.specs.Tree.{Ports, ended, vacant, taken, new_ports, Place, empty, full, before, reset_where, called, replaced, changed, changed_at, row_of}
+use Rattle.usb_device.specs.Tree.{Ports, ended, vacant, taken, new_ports, first_ports, all_off, acted, Place, empty, full, before, reset_where, called, replaced, changed, changed_at, row_of}
 use Rattle.usb_world.proofs.Booleans.{no}
 use Rattle.usb_world.specs.World.{World, roots_of, root_row, to_come, change_of, Spends, IsRootPort, changes, root_port_at}
-use Rattle.usb_device.specs.Spec.{Spec}
+use Rattle.usb_device.specs.Spec.{Spec, Hub}
+use Rattle.usb_device.specs.declared.effect.Effect.{Effect}
+use Rattle.usb_device.specs.declared.effect.Effect.TheVariants as effect
+use Rattle.usb_world.specs.PluggedDevices.{hub_ports}
 use Rattle.usb_world.specs.declared.event.Action.{Action}
 use Rattle.usb_world.specs.declared.event.Action.TheVariants.{Plug, Unplug, Show, Send, Receive, Clear}
 use Rattle.usb_world.specs.Steps.{with_plugged, happened, SetsRoot, ClearsRoot, root_call, after}
@@ -111,7 +114,7 @@ unfolding row_of
 row_head (empty b) k = refl
 row_head (full b s a) k = refl
 
-row_long_at : (f : Place → Place) (k : Ports) (i : ℕ) (p : List ℕ) → length (row_of (changed_at f k i p)) ≡ length (row_of k)
+pub row_long_at : (f : Place → Place) (k : Ports) (i : ℕ) (p : List ℕ) → length (row_of (changed_at f k i p)) ≡ length (row_of k)
 unfolding row_of changed_at
 row_long_at f ended i p = refl
 row_long_at f (vacant b k) zero [] = row_head (f (empty b)) k
@@ -131,6 +134,24 @@ pub new_long : (n : ℕ) → length (row_of (new_ports n)) ≡ n
 unfolding row_of new_ports
 new_long zero = refl
 new_long (suc n) = ap (λ m. suc m) (new_long n)
+
+-- a device that was just plugged has as many ports as its description says
+pub first_long : (o : Option Hub) → length (row_of (first_ports o)) ≡ hub_ports o
+unfolding row_of
+first_long None = refl
+first_long (Some hub) = new_long hub.ports
+
+-- neither power nor a request takes a port away
+pub off_long : (k : Ports) → length (row_of (all_off k)) ≡ length (row_of k)
+unfolding row_of all_off
+off_long ended = refl
+off_long (vacant b k) = ap (λ n. suc n) (off_long k)
+off_long (taken b s a k) = ap (λ n. suc n) (off_long k)
+
+pub acted_long : (e : Effect) (k : Ports) → length (row_of (acted e k)) ≡ length (row_of k)
+acted_long effect.Leaves k = refl
+acted_long (effect.Calls c i) k = row_long_at (called c) k i []
+acted_long effect.PortsOff k = off_long k
 
 pub happened_long : (a : Action) (ds : List Spec) (k : Ports) → length (row_of (happened a ds k)) ≡ length (row_of k)
 happened_long (Plug path device) ds k = elim (slice_get ds device) as (λ o. length (row_of (with_plugged o path k)) ≡ length (row_of k)) [ None ↦ refl | Some spec ↦ row_long (replaced (Some spec)) k path ]

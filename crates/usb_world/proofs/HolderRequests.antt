@@ -158,6 +158,12 @@ module _ (a : Attempt) (w : World) (h : HolderIn a w) where
   one_rests i x None c = refl
   one_rests i x (Some q) c = resets_if q false heard i x (λ e m r t z at dp n. not_true (effect_resets (effect_of q dp t) n m r) (on_way (rest_test n) (λ m r. refl) i x q (c n) e m r t z at dp))
 
+  -- no device but the holder asks anything of its ports once the token is gone, whatever comes then
+  pub others_leave : (i : ℕ) (e : List ℕ) (t : State) → (same_number i j && same_path e p) ≡ false → state_at (after_sent (token_out a (damage_in (ready w))) (ready w).roots) i e ≡ Some t
+      → (q : Sent) (deep : Bool) → effect_of q deep t ≡ Leaves
+  others_leave i e t differ at q deep =
+      rested_effect q deep t (others_forgot a.addr (token_out a (damage_in (ready w))) (goes a (damage_in (ready w)) k).token k j p one.settled (holder_holds a.addr k one) i e t differ at)
+
   -- where it is not on the way
 
   below_path : (x : List ℕ) (n : ℕ) (y : List ℕ) → same_path x (x ++ (n ∷ y)) ≡ false

@@ -5,10 +5,8 @@ use Rattle.std.proofs.lemmas.List.Elements.{All-head, All-tail}
 use Rattle.std.proofs.lemmas.Option.{slice_get_cases}
 use Rattle.std.proofs.Math.Seq.{take-append_seam, drop-append_seam}
 use Rattle.usb_device.specs.Spec.{Spec}
-use Rattle.usb_port.specs.PortState.{PortState}
-use Rattle.usb_device.specs.Rows.{State}
-use Rattle.usb_device.specs.Tree.{Ports, ended, vacant, taken, Place, empty, full, replaced, changed, port_at, place_at, row_of, Spot, path_to, place_on, state_on}
-use Rattle.usb_device.specs.View.{state_there, port_there}
+use Rattle.usb_device.specs.Tree.{Ports, replaced, changed}
+use Rattle.usb_device.specs.View.{state_there}
 use Rattle.usb_world.specs.declared.event.Action.{Action}
 use Rattle.usb_world.specs.declared.event.Action.TheVariants.{Plug, Unplug, Show, Send, Receive, Clear}
 use Rattle.usb_world.specs.declared.event.Event.{Event}
@@ -17,7 +15,7 @@ use Rattle.usb_world.specs.declared.types.BusFault.{BusFault}
 use Rattle.usb_world.specs.declared.types.BusFault.TheVariants.{LimitReached}
 use Rattle.usb_world.specs.PlanLimits.{after_most}
 use Rattle.usb_world.specs.PlanData.{PlanData, IsPlan, is_taken, action_fits, event_fits, events_fit}
-use Rattle.usb_world.specs.PluggedDevices.{PluggedMap, hub_ports, plugged_by, plugged_after, index_at, device_indexed, is_rooted, has_port}
+use Rattle.usb_world.specs.PluggedDevices.{PluggedMap, plugged_by, plugged_after, index_at, device_indexed, is_rooted, has_port}
 use Rattle.usb_world.specs.PlanCourses.{FollowsPlan, AtPorts, PlugsAtPort, spec_of}
 use Rattle.usb_world.specs.World.{World}
 use Rattle.usb_world.specs.Courses.{NoneNames, Undisturbed}
@@ -25,7 +23,7 @@ use Rattle.usb_world.specs.Steps.{names_path, way_of, happened, with_plugged, to
 use Rattle.usb_world.specs.Paths.{is_way}
 use Rattle.usb_world.proofs.Booleans.{no, both}
 use Rattle.usb_world.proofs.Ways.{undisturbed_on_way}
-use Rattle.usb_world.proofs.PluggedShapes.{Shape, Fits, spec_there, has_there, has_at, has_below, put_there, there_other, gaps, empty_gaps, fits_gaps, fits_there}
+use Rattle.usb_world.proofs.PluggedShapes.{Shape, Fits, spec_there, has_there, put_there, there_other, gaps, empty_gaps, fits_gaps, fits_there}
 use Rattle.usb_world.proofs.PluggedPorts.{shape, described_there, shape_root, shape_attempt, shape_new, shape_event}
 use Rattle.usb_world.proofs.PluggedTrees.{Told, told_of, Agrees, agrees_plug, agrees_unplug, port_stands}
 
@@ -284,64 +282,6 @@ undisturbed_keeps p w v c u =
     ([], record { split = refl; devices = refl; so = λ n. refl }) in
     let same : u.events ≡ all.0 = same_front u.events all.0 v.left (sym u.split ∙ all.1.split) in
     described_there v.roots p ∙ all.1.so (subst (λ l. NoneNames w.devices l p) same u.silent) ∙ sym (described_there w.roots p)
-
--- Each device has the ports that its description says
-
-port_stands_at : (k : Ports) (i : ℕ) (p : List ℕ) → is_some (port_at k i p) ≡ has_at (shape k) i p
-unfolding port_at has_at shape
-port_stands_at ended i p = refl
-port_stands_at (vacant b k) zero [] = refl
-port_stands_at (vacant b k) zero (n ∷ p) = refl
-port_stands_at (vacant b k) (suc i) p = port_stands_at k i p
-port_stands_at (taken b s a k) zero [] = refl
-port_stands_at (taken b s a k) zero (zero ∷ p) = refl
-port_stands_at (taken b s a k) zero (suc j ∷ p) = port_stands_at a j p
-port_stands_at (taken b s a k) (suc i) p = port_stands_at k i p
-
-pub ports_stand : (plan : PlanData) → IsPlan plan → AtPorts plan.events → (w : World) → Course AnyStep (opening plan) w → (x : Spot) (t : Spec) (m : ℕ)
-    → option_map spec_of (state_on w.roots x) ≡ Some t → m < hub_ports t.hub → is_some (port_there w.roots (path_to x ++ (suc m ∷ []))) ≡ true
-ports_stand plan is paths w c x t m e l =
-    let all : Left_on plan w = what_is_left plan is paths w c in
-    port_stands_at w.roots x.row (x.rest ++ (suc m ∷ [])) ∙ has_below (shape w.roots) plan.roots x.row x.rest t m all.1.stands.fits (sym (described_there w.roots (path_to x)) ∙ e) l
-
-fits_row : (k : Ports) (n : ℕ) → Fits (shape k) n → length (row_of k) ≡ n
-unfolding Fits shape row_of
-fits_row ended zero h = refl
-fits_row ended (suc n) h = elim h [ ]
-fits_row (vacant b k) zero h = elim h [ ]
-fits_row (vacant b k) (suc n) h = ap suc (fits_row k n h)
-fits_row (taken b s a k) zero h = elim h [ ]
-fits_row (taken b s a k) (suc n) h = ap suc (fits_row k n h.1)
-
-abbrev own_ports : Option Place → Ports
-own_ports None = ended
-own_ports (Some (empty b)) = ended
-own_ports (Some (full b s a)) = a
-
-abbrev own_count : Option Place → ℕ
-own_count None = 0
-own_count (Some (empty b)) = 0
-own_count (Some (full b s a)) = hub_ports s.spec.hub
-
-fits_own : (k : Ports) (n i : ℕ) (p : List ℕ) → Fits (shape k) n → length (row_of (own_ports (place_at k i p))) ≡ own_count (place_at k i p)
-unfolding Fits shape place_at row_of
-fits_own ended n i p h = refl
-fits_own (vacant b k) zero i p h = elim h [ ]
-fits_own (vacant b k) (suc n) zero [] h = refl
-fits_own (vacant b k) (suc n) zero (m ∷ p) h = refl
-fits_own (vacant b k) (suc n) (suc i) p h = fits_own k n i p h
-fits_own (taken b s a k) zero i p h = elim h [ ]
-fits_own (taken b s a k) (suc n) zero [] h = fits_row a (hub_ports s.spec.hub) h.0
-fits_own (taken b s a k) (suc n) zero (zero ∷ p) h = refl
-fits_own (taken b s a k) (suc n) zero (suc j ∷ p) h = fits_own a (hub_ports s.spec.hub) j p h.0
-fits_own (taken b s a k) (suc n) (suc i) p h = fits_own k n i p h.1
-
-pub ports_counted : (plan : PlanData) → IsPlan plan → AtPorts plan.events → (w : World) → Course AnyStep (opening plan) w → (x : Spot) (b : PortState) (s : State) (below : Ports)
-    → place_on w.roots x ≡ Some (full b s below) → length (row_of below) ≡ hub_ports s.spec.hub
-unfolding row_of
-ports_counted plan is paths w c x b s below e =
-    let all : Left_on plan w = what_is_left plan is paths w c in
-    sym (ap (λ o. length (row_of (own_ports o))) e) ∙ fits_own w.roots plan.roots x.row x.rest all.1.stands.fits ∙ ap own_count e
 
 -- the same on the way
 pub undisturbed_way : (x p : List ℕ) (w v : World) → is_way x p ≡ true → Course AnyStep w v → Undisturbed w v p

@@ -1,6 +1,7 @@
 -- Ports stay sane.
-use Rattle.std.proofs.Common.{◌≡◌, ℕ, zero, suc, ◌&&◌, ◌||◌, if◌then◌else◌, Bool, true, false, List, [], ◌∷◌, Option, None, Some, refl, ap, sym, subst, ◌∙◌}
+use Rattle.std.proofs.Common.{◌≡◌, ℕ, zero, suc, ◌&&◌, ◌||◌, if◌then◌else◌, Bool, true, false, List, [], ◌∷◌, ◌++◌, ◌<◌, length, Option, None, Some, is_some, option_map, refl, ap, sym, subst, ◌∙◌, arith}
 use Rattle.std.specs.Option.{IfSome}
+use Rattle.std.specs.Prelude.{⊤}
 use Rattle.usb_port.specs.PortState.{PortState, is_attached, speed_of, plugged, unplugged, powered_off}
 use Rattle.usb_port.specs.declared.call.PortCall.{PortCall}
 use Rattle.usb_port.specs.declared.call.PortCall.TheVariants.{SetPower, SetReset, ClearEnable, ClearPower, ClearConnectionChange, ClearEnableChange, ClearResetChange}
@@ -10,12 +11,15 @@ use Rattle.usb_device.specs.declared.delivery.Sent.{Sent}
 use Rattle.usb_device.specs.Spec.{Spec, Hub, IsSpec}
 use Rattle.usb_device.specs.Rows.{State, fresh, reset_state}
 use Rattle.usb_port.specs.Calls.{called_port, is_reset}
-use Rattle.usb_device.specs.Tree.{Ports, ended, vacant, taken, Place, empty, full, before, all_off, new_ports, first_ports, called, reset_where, replaced, changed, changed_at, acted, reach_at, state_at}
+use Rattle.usb_device.specs.Tree.{Ports, ended, vacant, taken, Place, empty, full, before, all_off, new_ports, first_ports, called, reset_where, replaced, changed, changed_at, acted, reach_at, state_at, port_at, place_at, row_of}
 use Rattle.usb_device.specs.Delivery.{answer_of, effect_of, after_packet, all_forgotten}
-use Rattle.usb_device.proofs.Interface.{answer-spec}
+use Rattle.usb_device.proofs.Interface.{answer-spec, row_of-after, row_of-forgotten}
 use Rattle.usb_world.specs.Paths.{live_at}
-use Rattle.usb_world.specs.SanePorts.{IsSanePort, IsSane, IsSanePlace}
+use Rattle.usb_world.specs.PluggedDevices.{hub_ports}
+use Rattle.usb_world.specs.PlanCourses.{spec_of}
+use Rattle.usb_world.specs.SanePorts.{IsSanePort, IsSane, IsSanePlace, HasItsPorts}
 use Rattle.usb_world.proofs.Booleans.{both, and_of, no}
+use Rattle.usb_world.proofs.Counts.{acted_long, first_long, off_long, row_long_at}
 
 -- the port is powered, something is attached, and it is enabled (11.5)
 abbrev pub is_open : PortState → Bool
@@ -34,33 +38,33 @@ open_at (taken b s a k) (suc i) p = open_at k i p
 -- Ports
 
 sane_off : (b : PortState) → IsSanePort (powered_off b)
-sane_off b = record { enabled = λ h. no h; changed = λ h. no h }
+sane_off b = record { enabled = λ h. no h; changed = λ h. no h; steady = refl }
 
 sane_row : (c : PortCall) (b : PortState) → IsSanePort b → IsSanePort (called_port c b)
 sane_row SetPower b h = lit b.power refl
   where
     lit : (x : Bool) → b.power ≡ x → IsSanePort (if x then b else record b { power = true; connection_changed = is_attached b.attached || b.connection_changed })
     lit true e = h
-    lit false e = record { enabled = λ g. (both b.power (is_attached b.attached) (h.enabled g)).1; changed = λ g. refl }
+    lit false e = record { enabled = λ g. (both b.power (is_attached b.attached) (h.enabled g)).1; changed = λ g. refl; steady = h.steady }
 sane_row SetReset b h = lit (b.power && is_attached b.attached) refl
   where
     lit : (x : Bool) → (b.power && is_attached b.attached) ≡ x → IsSanePort (if x then record b { enable = true; reset_changed = true } else b)
-    lit true e = record { enabled = λ g. e; changed = λ g. (both b.power (is_attached b.attached) e).0 }
+    lit true e = record { enabled = λ g. e; changed = λ g. (both b.power (is_attached b.attached) e).0; steady = h.steady }
     lit false e = h
-sane_row ClearEnable b h = record { enabled = λ g. no g; changed = h.changed }
+sane_row ClearEnable b h = record { enabled = λ g. no g; changed = h.changed; steady = h.steady }
 sane_row ClearPower b h = sane_off b
-sane_row ClearConnectionChange b h = record { enabled = h.enabled; changed = λ g. h.changed (wider b.connection_changed b.enable_changed b.reset_changed g) }
+sane_row ClearConnectionChange b h = record { enabled = h.enabled; changed = λ g. h.changed (wider b.connection_changed b.enable_changed b.reset_changed g); steady = h.steady }
   where
     wider : (x y z : Bool) → ((false || y) || z) ≡ true → ((x || y) || z) ≡ true
     wider true y z g = refl
     wider false y z g = g
-sane_row ClearEnableChange b h = record { enabled = h.enabled; changed = λ g. h.changed (wider b.connection_changed b.enable_changed b.reset_changed g) }
+sane_row ClearEnableChange b h = record { enabled = h.enabled; changed = λ g. h.changed (wider b.connection_changed b.enable_changed b.reset_changed g); steady = refl }
   where
     wider : (x y z : Bool) → ((x || false) || z) ≡ true → ((x || y) || z) ≡ true
     wider true y z g = refl
     wider false true z g = refl
     wider false false z g = g
-sane_row ClearResetChange b h = record { enabled = h.enabled; changed = λ g. h.changed (wider b.connection_changed b.enable_changed b.reset_changed g) }
+sane_row ClearResetChange b h = record { enabled = h.enabled; changed = λ g. h.changed (wider b.connection_changed b.enable_changed b.reset_changed g); steady = h.steady }
   where
     wider : (x y z : Bool) → ((x || y) || false) ≡ true → ((x || y) || z) ≡ true
     wider true y z g = refl
@@ -78,14 +82,14 @@ row_attached ClearResetChange b = refl
 
 -- what is plugged or unplugged is a change where there is power
 sane_unplugged : (b : PortState) → IsSanePort b → IsSanePort (unplugged b)
-sane_unplugged b h = record { enabled = λ g. no g; changed = λ g. lit b.power refl g }
+sane_unplugged b h = record { enabled = λ g. no g; changed = λ g. lit b.power refl g; steady = h.steady }
   where
     lit : (x : Bool) → b.power ≡ x → (((x || b.connection_changed) || b.enable_changed) || b.reset_changed) ≡ true → b.power ≡ true
     lit true e g = e
     lit false e g = h.changed g
 
 sane_plugged : (low : Bool) (b : PortState) → IsSanePort (unplugged b) → IsSanePort (plugged low (unplugged b))
-sane_plugged low b h = record { enabled = λ g. no g; changed = λ g. lit b.power refl g }
+sane_plugged low b h = record { enabled = λ g. no g; changed = λ g. lit b.power refl g; steady = h.steady }
   where
     lit : (x : Bool) → b.power ≡ x → (((x || (x || b.connection_changed)) || b.enable_changed) || b.reset_changed) ≡ true → b.power ≡ true
     lit true e g = e
@@ -97,12 +101,12 @@ pub sane_all_off : (k : Ports) → IsSane k → IsSane (all_off k)
 unfolding IsSane all_off
 sane_all_off ended h = h
 sane_all_off (vacant b k) h = (sane_off b, h.1, sane_all_off k h.2)
-sane_all_off (taken b s a k) h = (sane_off b, h.1, h.2, sane_all_off k h.3, h.4)
+sane_all_off (taken b s a k) h = (sane_off b, h.1, h.2, sane_all_off k h.3, h.4, h.5)
 
 pub sane_new_ports : (n : ℕ) → IsSane (new_ports n)
 unfolding IsSane new_ports
 sane_new_ports zero = tt
-sane_new_ports (suc n) = (record { enabled = λ h. no h; changed = λ h. no h }, refl, sane_new_ports n)
+sane_new_ports (suc n) = (record { enabled = λ h. no h; changed = λ h. no h; steady = refl }, refl, sane_new_ports n)
 
 sane_first : (o : Option Hub) → IsSane (first_ports o)
 unfolding IsSane
@@ -115,20 +119,20 @@ sane_called c (empty b) h = (sane_row c b h.0, row_attached c b ∙ h.1)
 sane_called c (full b s a) h = split (is_reset c && (b.power && is_attached b.attached))
   where
     split : (x : Bool) → IsSanePlace (reset_where x (called_port c b) s a)
-    split true = (sane_row c b h.0, row_attached c b ∙ h.1, sane_all_off a h.2, h.3)
-    split false = (sane_row c b h.0, row_attached c b ∙ h.1, h.2, h.3)
+    split true = (sane_row c b h.0, row_attached c b ∙ h.1, sane_all_off a h.2, h.3, off_long a ∙ h.4)
+    split false = (sane_row c b h.0, row_attached c b ∙ h.1, h.2, h.3, h.4)
 
 pub sane_replaced : (o : Option Spec) → IfSome o IsSpec → (q : Place) → IsSanePlace q → IsSanePlace (replaced o q)
 unfolding IsSanePlace fresh
 sane_replaced None r (empty b) h = (sane_unplugged b h.0, refl)
 sane_replaced None r (full b s a) h = (sane_unplugged b h.0, refl)
-sane_replaced (Some t) r (empty b) h = (sane_plugged t.low b (sane_unplugged b h.0), refl, sane_first t.hub, r)
-sane_replaced (Some t) r (full b s a) h = (sane_plugged t.low b (sane_unplugged b h.0), refl, sane_first t.hub, r)
+sane_replaced (Some t) r (empty b) h = (sane_plugged t.low b (sane_unplugged b h.0), refl, sane_first t.hub, r, first_long t.hub)
+sane_replaced (Some t) r (full b s a) h = (sane_plugged t.low b (sane_unplugged b h.0), refl, sane_first t.hub, r, first_long t.hub)
 
 sane_before : (q : Place) (k : Ports) → IsSanePlace q → IsSane k → IsSane (before q k)
 unfolding IsSanePlace IsSane
 sane_before (empty b) k h g = (h.0, h.1, g)
-sane_before (full b s a) k h g = (h.0, h.1, h.2, g, h.3)
+sane_before (full b s a) k h g = (h.0, h.1, h.2, g, h.3, h.4)
 
 -- what keeps a port sane keeps the tree so
 pub sane_changed : (f : Place → Place) → ((q : Place) → IsSanePlace q → IsSanePlace (f q)) → (k : Ports) (i : ℕ) (p : List ℕ) → IsSane k → IsSane (changed_at f k i p)
@@ -137,10 +141,10 @@ sane_changed f c ended i p h = h
 sane_changed f c (vacant b k) zero [] h = sane_before (f (empty b)) k (c (empty b) (h.0, h.1)) h.2
 sane_changed f c (vacant b k) zero (n ∷ p) h = h
 sane_changed f c (vacant b k) (suc i) p h = (h.0, h.1, sane_changed f c k i p h.2)
-sane_changed f c (taken b s a k) zero [] h = sane_before (f (full b s a)) k (c (full b s a) (h.0, h.1, h.2, h.4)) h.3
+sane_changed f c (taken b s a k) zero [] h = sane_before (f (full b s a)) k (c (full b s a) (h.0, h.1, h.2, h.4, h.5)) h.3
 sane_changed f c (taken b s a k) zero (zero ∷ p) h = h
-sane_changed f c (taken b s a k) zero (suc j ∷ p) h = (h.0, h.1, sane_changed f c a j p h.2, h.3, h.4)
-sane_changed f c (taken b s a k) (suc i) p h = (h.0, h.1, h.2, sane_changed f c k i p h.3, h.4)
+sane_changed f c (taken b s a k) zero (suc j ∷ p) h = (h.0, h.1, sane_changed f c a j p h.2, h.3, h.4, row_long_at f a j p ∙ h.5)
+sane_changed f c (taken b s a k) (suc i) p h = (h.0, h.1, h.2, sane_changed f c k i p h.3, h.4, h.5)
 
 pub sane_path : (f : Place → Place) → ((q : Place) → IsSanePlace q → IsSanePlace (f q)) → (k : Ports) (x : List ℕ) → IsSane k → IsSane (changed f k x)
 sane_path f c k [] h = h
@@ -160,14 +164,21 @@ sane_packet q deep (taken b s a k) h = split b.enable (sane_packet q true a h.2)
   where
     split : (x : Bool) → IsSane (after_packet q true a) → IsSane (after_packet q deep k)
         → IsSane (if x then taken b (answer_of q deep s a).1 (acted (effect_of q deep s) (after_packet q true a)) (after_packet q deep k) else taken b s a (after_packet q deep k))
-    split true g r = (h.0, h.1 ∙ ap (λ t. speed_of t.low) (sym (answer-spec q deep s a)), sane_acted (effect_of q deep s) (after_packet q true a) g, r, subst IsSpec (sym (answer-spec q deep s a)) h.4)
-    split false g r = (h.0, h.1, h.2, r, h.4)
+    split true g r = (
+      h.0,
+      h.1 ∙ ap (λ t. speed_of t.low) (sym (answer-spec q deep s a)),
+      sane_acted (effect_of q deep s) (after_packet q true a) g,
+      r,
+      subst IsSpec (sym (answer-spec q deep s a)) h.4,
+      acted_long (effect_of q deep s) (after_packet q true a) ∙ ap length (row_of-after q true a) ∙ h.5 ∙ ap (λ t. hub_ports t.hub) (sym (answer-spec q deep s a)),
+    )
+    split false g r = (h.0, h.1, h.2, r, h.4, h.5)
 
 pub sane_forgotten : (k : Ports) → IsSane k → IsSane (all_forgotten k)
 unfolding IsSane all_forgotten
 sane_forgotten ended h = h
 sane_forgotten (vacant b k) h = (h.0, h.1, sane_forgotten k h.2)
-sane_forgotten (taken b s a k) h = (h.0, h.1, sane_forgotten a h.2, sane_forgotten k h.3, h.4)
+sane_forgotten (taken b s a k) h = (h.0, h.1, sane_forgotten a h.2, sane_forgotten k h.3, h.4, ap length (row_of-forgotten a) ∙ h.5)
 
 -- a device is reached where its port and each on its way is powered, sees what is attached, and is enabled
 enabled_open : (b : PortState) → IsSanePort b → b.enable ≡ is_open b
@@ -209,3 +220,45 @@ sane_spec (taken b s a k) zero [] z h e = subst (λ o. IfSome o (λ x. IsSpec x.
 sane_spec (taken b s a k) zero (zero ∷ p) z h e = cc
 sane_spec (taken b s a k) zero (suc j ∷ p) z h e = sane_spec a j p z h.2 e
 sane_spec (taken b s a k) (suc i) p z h e = sane_spec k i p z h.3 e
+
+-- Each device has the ports that its description says
+
+-- what stands at a place has them
+abbrev HasItsPortsAt : Place → Type 0
+HasItsPortsAt (empty b) = ⊤
+HasItsPortsAt (full b s a) = HasItsPorts s.spec a
+
+-- what stands at a path has as many
+pub ports_counted : (k : Ports) (i : ℕ) (p : List ℕ) (b : PortState) (s : State) (below : Ports) → IsSane k → place_at k i p ≡ Some (full b s below) → HasItsPorts s.spec below
+unfolding IsSane place_at
+ports_counted ended i p c z m h e = cc
+ports_counted (vacant b k) zero [] c z m h e = absurd (cc e)
+ports_counted (vacant b k) zero (n ∷ p) c z m h e = cc
+ports_counted (vacant b k) (suc i) p c z m h e = ports_counted k i p c z m h.2 e
+ports_counted (taken b s a k) zero [] c z m h e = subst (λ o. IfSome o HasItsPortsAt) e h.5
+ports_counted (taken b s a k) zero (zero ∷ p) c z m h e = cc
+ports_counted (taken b s a k) zero (suc j ∷ p) c z m h e = ports_counted a j p c z m h.2 e
+ports_counted (taken b s a k) (suc i) p c z m h e = ports_counted k i p c z m h.3 e
+
+-- a row has a port of each number below its length
+row_stands : (k : Ports) (m : ℕ) → m < length (row_of k) → is_some (port_at k m []) ≡ true
+unfolding row_of port_at
+row_stands ended m l = absurd (omega (arith, l))
+row_stands (vacant b k) zero l = refl
+row_stands (vacant b k) (suc m) l = row_stands k m (omega (arith, l))
+row_stands (taken b s a k) zero l = refl
+row_stands (taken b s a k) (suc m) l = row_stands k m (omega (arith, l))
+
+-- below a device there is a port of each number that its description has
+pub ports_stand : (k : Ports) (i : ℕ) (p : List ℕ) (t : Spec) (m : ℕ) → IsSane k → option_map spec_of (state_at k i p) ≡ Some t → m < hub_ports t.hub → is_some (port_at k i (p ++ (suc m ∷ []))) ≡ true
+unfolding IsSane state_at port_at
+ports_stand ended i p t m h e l = cc
+ports_stand (vacant b k) zero p t m h e l = cc
+ports_stand (vacant b k) (suc i) p t m h e l = ports_stand k i p t m h.2 e l
+ports_stand (taken b s a k) zero [] t m h e l = row_stands a m (within (subst (λ o. IfSome o (λ x. HasItsPorts x a)) e h.5))
+  where
+    within : HasItsPorts t a → m < length (row_of a)
+    within g = omega (arith, g, l)
+ports_stand (taken b s a k) zero (zero ∷ p) t m h e l = cc
+ports_stand (taken b s a k) zero (suc j ∷ p) t m h e l = ports_stand a j p t m h.2 e l
+ports_stand (taken b s a k) (suc i) p t m h e l = ports_stand k i p t m h.3 e l

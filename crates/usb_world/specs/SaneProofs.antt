@@ -8,7 +8,8 @@ use Rattle.std.specs.Prelude.{ℕ, zero, suc, ◌≤◌, List, length, Option, N
 use Rattle.std.specs.Option.{IfSome}
 use Rattle.usb_device.specs.Spec.{Hub, IsHub, Spec, IsSpec}
 use Rattle.usb_port.specs.PortState.{PortState, Attached, nothing, full, low}
-use Rattle.usb_device.specs.Tree.{Ports, ended, vacant, taken}
+use Rattle.usb_device.specs.Tree.{Ports, ended, vacant, taken, row_of}
+use Rattle.usb_world.specs.PluggedDevices.{hub_ports}
 use Rattle.usb_world.specs.SanePorts.{IsSanePort, IsSane}
 
 -- what is attached, as a number and back
@@ -33,7 +34,7 @@ Attached-set = collapsible→set (λ x y p. sym (back x) ∙ ap attached_numbere
     (λ x y p q. ap (λ z. sym (back x) ∙ ap attached_numbered z ∙ back y) (ℕ_set (attached_number x) (attached_number y) (ap attached_number p) (ap attached_number q)))
 
 IsSanePort-prop : (b : PortState) → IsProp (IsSanePort b)
-IsSanePort-prop b x y = λ i. record { enabled = λ g. Bool-set _ _ (x.enabled g) (y.enabled g) i; changed = λ g. Bool-set _ _ (x.changed g) (y.changed g) i }
+IsSanePort-prop b x y = λ i. record { enabled = λ g. Bool-set _ _ (x.enabled g) (y.enabled g) i; changed = λ g. Bool-set _ _ (x.changed g) (y.changed g) i; steady = Bool-set _ _ x.steady y.steady i }
 
 IsHub-prop : (h : Hub) → IsProp (IsHub h)
 IsHub-prop h x y =
@@ -65,4 +66,4 @@ pub IsSane-prop : (k : Ports) → IsProp (IsSane k)
 unfolding IsSane
 IsSane-prop ended x y = λ i. tt
 IsSane-prop (vacant b k) x y = λ i. (IsSanePort-prop b x.0 y.0 i, Attached-set _ _ x.1 y.1 i, IsSane-prop k x.2 y.2 i)
-IsSane-prop (taken b s a k) x y = λ i. (IsSanePort-prop b x.0 y.0 i, Attached-set _ _ x.1 y.1 i, IsSane-prop a x.2 y.2 i, IsSane-prop k x.3 y.3 i, IsSpec-prop s.spec x.4 y.4 i)
+IsSane-prop (taken b s a k) x y = λ i. (IsSanePort-prop b x.0 y.0 i, Attached-set _ _ x.1 y.1 i, IsSane-prop a x.2 y.2 i, IsSane-prop k x.3 y.3 i, IsSpec-prop s.spec x.4 y.4 i, ℕ_set (length (row_of a)) (hub_ports s.spec.hub) x.5 y.5 i)

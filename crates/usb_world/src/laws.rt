@@ -23,7 +23,7 @@ ghost use Rattle.usb_world.specs.PlanData.{IsPlan, PlanData};
 ghost use Rattle.usb_world.specs.PluggedDevices.{index_at, device_indexed, hub_ports, plugged_by};
 ghost use Rattle.usb_world.specs.PlanCourses.{AtPorts, FollowsPlan, spec_of};
 ghost use Rattle.usb_world.specs.RestingPorts.{AsksNothingOf, RestsOrPends, StandsOrPends};
-ghost use Rattle.usb_world.specs.Steps.{AnyStep, Course, Step, after, attempt, made_in, opening, ready};
+ghost use Rattle.usb_world.specs.Steps.{AnyStep, Course, IsBetween, Step, after, attempt, made_in, opening, ready};
 ghost use Rattle.usb_world.specs.World.{IsAttempt, World};
 
 /// A device becomes reachable in one way only: by PORT_RESET at its own port, which leaves it at address 0, without
@@ -124,16 +124,16 @@ pub fn undisturbed_keeps_what_is_plugged()
         → Undisturbed w v x }
 {}
 
-/// In a course of a plan each device that is plugged has as many ports as its description says.
+/// Ports are sane in a plan's world before anything came, and every step keeps them so; and in sane ports each device
+/// that is plugged has as many ports as its description says.
 pub fn devices_have_their_ports()
-    ensures count { (plan : PlanData) → IsPlan plan → AtPorts plan.events → (w : World)
-        → Course AnyStep (opening plan) w
+    ensures opening { (plan : PlanData) → IsPlan plan → IsBetween (opening plan) }
+    ensures kept { (w v : World) → Course AnyStep w v → IsBetween w → IsBetween v }
+    ensures count { (w : World) → IsBetween w
         → (x : Spot) (b : PortState) (s : State) (below : Ports)
         → place_on w.roots x ≡ Some (full b s below)
         → length (row_of below) ≡ hub_ports s.spec.hub }
-    ensures stands { (plan : PlanData) → IsPlan plan → AtPorts plan.events → (w : World)
-        → Course AnyStep (opening plan) w
-        → (x : Spot) (t : Spec) (m : ℕ)
+    ensures stands { (w : World) → IsBetween w → (x : Spot) (t : Spec) (m : ℕ)
         → option_map spec_of (state_on w.roots x) ≡ Some t → m < hub_ports t.hub
         → is_some (port_there w.roots (path_to x ++ (suc m ∷ []))) ≡ true }
 {}
