@@ -1,5 +1,5 @@
--- What calls at ports add to what is left to do.
-use Rattle.std.proofs.Common.{◌≡◌, ◌≤◌, ℕ, ◌+◌, ◌&&◌, ◌||◌, if◌then◌else◌, Bool, true, false, List, [], Some, refl, sym, ap, arith}
+-- What calls at ports add to what is left to do, where ports are marked.
+use Rattle.std.proofs.Common.{◌≡◌, ◌≤◌, ℕ, zero, suc, ◌+◌, ◌&&◌, ◌||◌, not, if◌then◌else◌, Bool, true, false, [], refl, ap, ◌∙◌, arith}
 use Rattle.usb_port.specs.PortState.{PortState, is_attached, bit}
 use Rattle.usb_port.specs.declared.call.PortCall.{PortCall}
 use Rattle.usb_port.specs.declared.call.PortCall.TheVariants.{SetPower, SetReset, ClearEnable, ClearPower, ClearConnectionChange, ClearEnableChange, ClearResetChange}
@@ -7,155 +7,196 @@ use Rattle.usb_port.specs.Calls.{called_port, is_reset}
 use Rattle.usb_device.specs.declared.effect.Effect.{Effect}
 use Rattle.usb_device.specs.declared.effect.Effect.TheVariants.{Leaves, Calls, PortsOff}
 use Rattle.usb_device.specs.Rows.{State}
-use Rattle.usb_device.specs.Tree.{Ports, ended, vacant, taken, Place, empty, full, all_off, acted, called, changed_at, place_at, reset_where}
-use Rattle.usb_world.proofs.Interface.{no}
-use Rattle.usb_backlog.specs.Backlog.{OwesNoMore, charged, devices_in, looks_owed, other_changes, stray_changes}
-use Rattle.usb_backlog.specs.PortSettings.{asks_by, gives_power, sets_feature}
-use Rattle.usb_backlog.proofs.Places.{devices_on, looks_on, strays_on, devices_in-sum, looks_owed-sum, stray_changes-sum, sum-changed, sum-same, looks_owed-at}
+use Rattle.usb_device.specs.Tree.{Ports, ended, vacant, taken, Place, empty, full, before, all_off, acted, called, changed_at, reset_where}
+use Rattle.usb_world.proofs.Interface.{both, no}
+use Rattle.usb_backlog.specs.Marks.{charged, devices_in, PortMark, below_first, after_first, allowed, devices_by, looks_by, ports_by, strays_by}
+use Rattle.usb_backlog.specs.PortSettings.{gives_power}
 
-pub charged-less : (x : Bool) (m n : ℕ) → m ≤ n → charged x m ≤ charged x n
-charged-less true m n h = h
-charged-less false m n h = omega arith
+-- no more is left to do in one tree than in another, with as many devices at the same places
+pub record Less (m v r : PortMark) (k l : Ports) : Type 0 where
+  pub whole : devices_in l ≡ devices_in k
+  pub looks : looks_by m l ≤ looks_by m k
+  pub strays : strays_by v r l ≤ strays_by v r k
+  pub devices : (d : PortMark) → devices_by d l ≡ devices_by d k
+  pub ports : (d : PortMark) → ports_by d l ≡ ports_by d k
 
-pub charged-more : (x : Bool) (m n : ℕ) → m ≤ n + 1 → charged x m ≤ charged x n + 1
-charged-more true m n h = h
-charged-more false m n h = omega arith
+pub less-same : (m v r : PortMark) (k : Ports) → Less m v r k k
+less-same m v r k = record { whole = refl; looks = omega arith; strays = omega arith; devices = λ d. refl; ports = λ d. refl }
 
-pub charged-most : (x : Bool) (n : ℕ) → charged x n ≤ n
-charged-most true n = omega arith
-charged-most false n = omega arith
+pub less-then : {m v r : PortMark} {k l n : Ports} → Less m v r k l → Less m v r l n → Less m v r k n
+less-then one two = record {
+  whole = two.whole ∙ one.whole;
+  looks = omega (arith, one.looks, two.looks);
+  strays = omega (arith, one.strays, two.strays);
+  devices = λ d. two.devices d ∙ one.devices d;
+  ports = λ d. two.ports d ∙ one.ports d;
+}
 
--- All ports go off
+-- Ports
 
-pub devices_in-off : (k : Ports) → devices_in (all_off k) ≡ devices_in k
-unfolding devices_in all_off
-devices_in-off ended = refl
-devices_in-off (vacant b k) = devices_in-off k
-devices_in-off (taken b s a k) = ap (λ n. 1 + devices_in a + n) (devices_in-off k)
+charged-or : (x y z : Bool) (n : ℕ) → charged y n ≤ charged z n → charged (x || y) n ≤ charged (x || z) n
+charged-or true y z n h = omega arith
+charged-or false y z n h = h
 
-pub looks_owed-off : (k : Ports) → looks_owed (all_off k) ≤ looks_owed k
-unfolding looks_owed all_off
-looks_owed-off ended = omega arith
-looks_owed-off (vacant b k) = looks_owed-off k
-looks_owed-off (taken b s a k) = omega (arith, looks_owed-off k)
+bit-or : (x y z : Bool) → bit y ≤ bit z → bit (x || y) ≤ bit (x || z)
+bit-or true y z h = omega arith
+bit-or false y z h = h
 
-pub stray_changes-off : (k : Ports) → stray_changes (all_off k) ≤ stray_changes k
-unfolding stray_changes all_off
-stray_changes-off ended = omega arith
-stray_changes-off (vacant b k) = omega (arith, stray_changes-off k)
-stray_changes-off (taken b s a k) = omega (arith, stray_changes-off k)
-
--- One call
-
-devices_on-reset : (x : Bool) (b : PortState) (s : State) (a : Ports) → devices_on (reset_where x b s a) ≡ 1 + devices_in a
-devices_on-reset true b s a = ap (λ n. 1 + n) (devices_in-off a)
-devices_on-reset false b s a = refl
-
-pub devices_on-called : (c : PortCall) (q : Place) → devices_on (called c q) ≡ devices_on q
-devices_on-called c (empty b) = refl
-devices_on-called c (full b s a) = devices_on-reset (is_reset c && (b.power && is_attached b.attached)) (called_port c b) s a
-
-looks_on-reset : (x : Bool) (b : PortState) (s : State) (a : Ports) → looks_on (reset_where x b s a) ≤ charged b.connection_changed (1 + devices_in a) + looks_owed a
-looks_on-reset true b s a =
-    let same : charged b.connection_changed (1 + devices_in (all_off a)) ≡ charged b.connection_changed (1 + devices_in a) = ap (λ n. charged b.connection_changed (1 + n)) (devices_in-off a) in
-    omega (arith, same, looks_owed-off a)
-looks_on-reset false b s a = omega arith
-
--- PORT_POWER alone sets a change of connection
-change-called : (c : PortCall) → gives_power c ≡ false → (b : PortState) (n : ℕ) → charged (called_port c b).connection_changed n ≤ charged b.connection_changed n
-change-called SetPower h b n = no (sym h)
-change-called SetReset h b n = split (b.power && is_attached b.attached)
+-- the change of connection, unless the port is marked and given power
+connection-called : (x : Bool) (c : PortCall) → (x || not (gives_power c)) ≡ true → (b : PortState) (n : ℕ) → charged (x || (called_port c b).connection_changed) n ≤ charged (x || b.connection_changed) n
+connection-called true c h b n = omega arith
+connection-called false SetPower h b n = no h
+connection-called false SetReset h b n = split (b.power && is_attached b.attached)
   where
     split : (x : Bool) → charged (if x then record b { enable = true; reset_changed = true } else b).connection_changed n ≤ charged b.connection_changed n
     split true = omega arith
     split false = omega arith
-change-called ClearEnable h b n = omega arith
-change-called ClearPower h b n = omega arith
-change-called ClearConnectionChange h b n = omega arith
-change-called ClearEnableChange h b n = omega arith
-change-called ClearResetChange h b n = omega arith
+connection-called false ClearEnable h b n = omega arith
+connection-called false ClearPower h b n = omega arith
+connection-called false ClearConnectionChange h b n = omega arith
+connection-called false ClearEnableChange h b n = omega arith
+connection-called false ClearResetChange h b n = omega arith
 
-looks_on-called : (c : PortCall) → gives_power c ≡ false → (q : Place) → looks_on (called c q) ≤ looks_on q + 0
-looks_on-called c h (empty b) = omega arith
-looks_on-called c h (full b s a) =
-    omega (arith, looks_on-reset (is_reset c && (b.power && is_attached b.attached)) (called_port c b) s a, change-called c h b (1 + devices_in a))
-
-strays_on-reset : (x : Bool) (b : PortState) (s : State) (a : Ports) → strays_on (reset_where x b s a) ≤ other_changes b + stray_changes a
-strays_on-reset true b s a = omega (arith, stray_changes-off a)
-strays_on-reset false b s a = omega arith
-
--- a call that sets no feature sets no change
-empty-called : (c : PortCall) → sets_feature c ≡ false → (b : PortState) → bit (called_port c b).connection_changed + other_changes (called_port c b) ≤ bit b.connection_changed + other_changes b
-empty-called SetPower h b = no (sym h)
-empty-called SetReset h b = no (sym h)
-empty-called ClearEnable h b = omega arith
-empty-called ClearPower h b = omega arith
-empty-called ClearConnectionChange h b = omega arith
-empty-called ClearEnableChange h b = omega arith
-empty-called ClearResetChange h b = omega arith
-
-full-called : (c : PortCall) → sets_feature c ≡ false → (b : PortState) → other_changes (called_port c b) ≤ other_changes b
-full-called SetPower h b = no (sym h)
-full-called SetReset h b = no (sym h)
-full-called ClearEnable h b = omega arith
-full-called ClearPower h b = omega arith
-full-called ClearConnectionChange h b = omega arith
-full-called ClearEnableChange h b = omega arith
-full-called ClearResetChange h b = omega arith
-
-strays_on-called : (c : PortCall) → sets_feature c ≡ false → (q : Place) → strays_on (called c q) ≤ strays_on q + 0
-strays_on-called c h (empty b) = omega (arith, empty-called c h b)
-strays_on-called c h (full b s a) =
-    omega (arith, strays_on-reset (is_reset c && (b.power && is_attached b.attached)) (called_port c b) s a, full-called c h b)
-
--- The same of the ports among which one is called
-
-pub owes-called : (c : PortCall) → gives_power c ≡ false → (k : Ports) (i : ℕ) → OwesNoMore k (changed_at (called c) k i [])
-owes-called c h k i =
-    let more : looks_owed (changed_at (called c) k i []) ≤ looks_owed k + 0 = sum-changed looks_owed looks_on looks_owed-sum (called c) 0 (looks_on-called c h) k i in
-    record { devices = sum-same devices_in devices_on devices_in-sum (called c) (devices_on-called c) k i; looks = omega (arith, more) }
-
-pub stray_changes-called : (c : PortCall) → sets_feature c ≡ false → (k : Ports) (i : ℕ) → stray_changes (changed_at (called c) k i []) ≤ stray_changes k
-stray_changes-called c h k i =
-    let more : stray_changes (changed_at (called c) k i []) ≤ stray_changes k + 0 = sum-changed stray_changes strays_on stray_changes-sum (called c) 0 (strays_on-called c h) k i in
-    omega (arith, more)
-
--- PORT_POWER owes each device there a look, and the clearing of a change of connection pays for each
-
-charged-powered : (x y : Bool) (n : ℕ) → charged (y || x) n ≤ charged x n + n
-charged-powered x true n = omega arith
-charged-powered x false n = omega arith
-
-looks_on-powered : (q : Place) → looks_on (called SetPower q) ≤ looks_on q + devices_on q
-looks_on-powered (empty b) = omega arith
-looks_on-powered (full b s a) = split b.power
+-- the change of an empty port, which counts what it sees
+seen-called : (x : Bool) (c : PortCall) (b : PortState) → bit (x || (is_attached (called_port c b).attached || (called_port c b).connection_changed)) ≤ bit (x || (is_attached b.attached || b.connection_changed))
+seen-called true c b = omega arith
+seen-called false SetPower b = split b.power
   where
-    split : (x : Bool) → charged (if x then b else record b { power = true; connection_changed = is_attached b.attached || b.connection_changed }).connection_changed (1 + devices_in a) + looks_owed a
-        ≤ charged b.connection_changed (1 + devices_in a) + looks_owed a + (1 + devices_in a)
+    twice : (x y : Bool) → bit (x || (x || y)) ≤ bit (x || y)
+    twice true y = omega arith
+    twice false y = omega arith
+
+    split : (x : Bool) → bit (is_attached (if x then b else record b { power = true; connection_changed = is_attached b.attached || b.connection_changed }).attached || (if x then b else record b { power = true; connection_changed = is_attached b.attached || b.connection_changed }).connection_changed)
+        ≤ bit (is_attached b.attached || b.connection_changed)
     split true = omega arith
-    split false = omega (arith, charged-powered b.connection_changed (is_attached b.attached) (1 + devices_in a))
+    split false = twice (is_attached b.attached) b.connection_changed
+seen-called false SetReset b = split (b.power && is_attached b.attached)
+  where
+    split : (x : Bool) → bit (is_attached (if x then record b { enable = true; reset_changed = true } else b).attached || (if x then record b { enable = true; reset_changed = true } else b).connection_changed)
+        ≤ bit (is_attached b.attached || b.connection_changed)
+    split true = omega arith
+    split false = omega arith
+seen-called false ClearEnable b = omega arith
+seen-called false ClearPower b = bit-or (is_attached b.attached) false b.connection_changed (omega arith)
+seen-called false ClearConnectionChange b = bit-or (is_attached b.attached) false b.connection_changed (omega arith)
+seen-called false ClearEnableChange b = omega arith
+seen-called false ClearResetChange b = omega arith
 
-pub looks_owed-powered : (k : Ports) (i : ℕ) (p : List ℕ) (q : Place) → place_at k i p ≡ Some q → looks_owed (changed_at (called SetPower) k i p) ≤ looks_owed k + devices_on q
-looks_owed-powered k i p q e = omega (arith, looks_owed-at (called SetPower) k i p q e (devices_on-called SetPower q), looks_on-powered q)
+enable-called : (c : PortCall) (b : PortState) → bit (called_port c b).enable_changed ≤ bit b.enable_changed
+enable-called SetPower b = split b.power
+  where
+    split : (x : Bool) → bit (if x then b else record b { power = true; connection_changed = is_attached b.attached || b.connection_changed }).enable_changed ≤ bit b.enable_changed
+    split true = omega arith
+    split false = omega arith
+enable-called SetReset b = split (b.power && is_attached b.attached)
+  where
+    split : (x : Bool) → bit (if x then record b { enable = true; reset_changed = true } else b).enable_changed ≤ bit b.enable_changed
+    split true = omega arith
+    split false = omega arith
+enable-called ClearEnable b = omega arith
+enable-called ClearPower b = omega arith
+enable-called ClearConnectionChange b = omega arith
+enable-called ClearEnableChange b = omega arith
+enable-called ClearResetChange b = omega arith
 
-looks_on-cleared : (b : PortState) (s : State) (a : Ports) → b.connection_changed ≡ true → looks_on (called ClearConnectionChange (full b s a)) + (1 + devices_in a) ≡ looks_on (full b s a)
-looks_on-cleared b s a h =
-    let set : charged b.connection_changed (1 + devices_in a) ≡ 1 + devices_in a = ap (λ x. charged x (1 + devices_in a)) h in
-    omega (arith, set)
+-- the change of reset, unless the port is marked and reset
+reset-called : (x : Bool) (c : PortCall) → (x || not (is_reset c)) ≡ true → (b : PortState) → bit (x || (called_port c b).reset_changed) ≤ bit (x || b.reset_changed)
+reset-called true c h b = omega arith
+reset-called false SetPower h b = split b.power
+  where
+    split : (x : Bool) → bit (if x then b else record b { power = true; connection_changed = is_attached b.attached || b.connection_changed }).reset_changed ≤ bit b.reset_changed
+    split true = omega arith
+    split false = omega arith
+reset-called false SetReset h b = no h
+reset-called false ClearEnable h b = omega arith
+reset-called false ClearPower h b = omega arith
+reset-called false ClearConnectionChange h b = omega arith
+reset-called false ClearEnableChange h b = omega arith
+reset-called false ClearResetChange h b = omega arith
 
-pub looks_owed-cleared : (k : Ports) (i : ℕ) (p : List ℕ) (b : PortState) (s : State) (a : Ports) → place_at k i p ≡ Some (full b s a) → b.connection_changed ≡ true
-    → looks_owed (changed_at (called ClearConnectionChange) k i p) + (1 + devices_in a) ≡ looks_owed k
-looks_owed-cleared k i p b s a e h =
-    omega (arith, looks_owed-at (called ClearConnectionChange) k i p (full b s a) e (devices_on-called ClearConnectionChange (full b s a)), looks_on-cleared b s a h)
+-- All ports go off
 
--- What a device asks of its ports
+or-true : (x : Bool) → (x || true) ≡ true
+or-true true = refl
+or-true false = refl
 
-pub owes-acted : (e : Effect) → asks_by gives_power e ≡ false → (a : Ports) → OwesNoMore a (acted e a)
-owes-acted Leaves h a = record { devices = refl; looks = omega arith }
-owes-acted (Calls c i) h a = owes-called c h a i
-owes-acted PortsOff h a = record { devices = devices_in-off a; looks = looks_owed-off a }
+less-off : (m v r : PortMark) (k : Ports) → Less m v r k (all_off k)
+unfolding looks_by strays_by devices_by ports_by devices_in all_off
+less-off m v r ended = less-same m v r ended
+less-off m v r (vacant b k) =
+    let more : Less (after_first m) (after_first v) (after_first r) k (all_off k) = less-off (after_first m) (after_first v) (after_first r) k in
+    record {
+      whole = more.whole;
+      looks = more.looks;
+      strays = omega (arith, more.strays, seen-called (v zero []) ClearPower b, reset-called (r zero []) ClearPower (or-true (r zero [])) b);
+      devices = λ d. more.devices (after_first d);
+      ports = λ d. omega (arith, more.ports (after_first d));
+    }
+less-off m v r (taken b s a k) =
+    let more : Less (after_first m) (after_first v) (after_first r) k (all_off k) = less-off (after_first m) (after_first v) (after_first r) k in
+    record {
+      whole = omega (arith, more.whole);
+      looks = omega (arith, more.looks, connection-called (m zero []) ClearPower (or-true (m zero [])) b (1 + devices_in a));
+      strays = omega (arith, more.strays, reset-called (r zero []) ClearPower (or-true (r zero [])) b);
+      devices = λ d. omega (arith, more.devices (after_first d));
+      ports = λ d. omega (arith, more.ports (after_first d));
+    }
 
-pub stray_changes-acted : (e : Effect) → asks_by sets_feature e ≡ false → (a : Ports) → stray_changes (acted e a) ≤ stray_changes a
-stray_changes-acted Leaves h a = omega arith
-stray_changes-acted (Calls c i) h a = stray_changes-called c h a i
-stray_changes-acted PortsOff h a = stray_changes-off a
+-- One call
+
+less-taken : (m v r : PortMark) (b c : PortState) (s t : State) (a d k : Ports)
+    → ((n : ℕ) → charged (m zero [] || c.connection_changed) n ≤ charged (m zero [] || b.connection_changed) n)
+    → bit c.enable_changed ≤ bit b.enable_changed → bit (r zero [] || c.reset_changed) ≤ bit (r zero [] || b.reset_changed)
+    → Less (below_first m) (below_first v) (below_first r) a d → Less m v r (taken b s a k) (taken c t d k)
+unfolding looks_by strays_by devices_by ports_by devices_in
+less-taken m v r b c s t a d k looks enable reset below =
+    let same : charged (m zero [] || c.connection_changed) (1 + devices_in d) ≡ charged (m zero [] || c.connection_changed) (1 + devices_in a) = ap (λ n. charged (m zero [] || c.connection_changed) (1 + n)) below.whole in
+    record {
+      whole = omega (arith, below.whole);
+      looks = omega (arith, same, looks (1 + devices_in a), below.looks);
+      strays = omega (arith, enable, reset, below.strays);
+      devices = λ x. omega (arith, below.devices (below_first x));
+      ports = λ x. omega (arith, below.ports (below_first x));
+    }
+
+less-after : (m v r : PortMark) (q : Place) (k l : Ports) → Less (after_first m) (after_first v) (after_first r) k l → Less m v r (before q k) (before q l)
+unfolding looks_by strays_by devices_by ports_by devices_in
+less-after m v r (empty b) k l h = record { whole = h.whole; looks = h.looks; strays = omega (arith, h.strays); devices = λ d. h.devices (after_first d); ports = λ d. omega (arith, h.ports (after_first d)) }
+less-after m v r (full b s a) k l h = record {
+  whole = omega (arith, h.whole);
+  looks = omega (arith, h.looks);
+  strays = omega (arith, h.strays);
+  devices = λ d. omega (arith, h.devices (after_first d));
+  ports = λ d. omega (arith, h.ports (after_first d));
+}
+
+less-empty : (m v r : PortMark) (c : PortCall) (b : PortState) (k : Ports) → (r zero [] || not (is_reset c)) ≡ true → Less m v r (vacant b k) (vacant (called_port c b) k)
+unfolding looks_by strays_by devices_by ports_by devices_in
+less-empty m v r c b k reset = record {
+  whole = refl;
+  looks = omega arith;
+  strays = omega (arith, seen-called (v zero []) c b, enable-called c b, reset-called (r zero []) c reset b);
+  devices = λ d. refl;
+  ports = λ d. refl;
+}
+
+-- it gives power to a marked port alone, and resets one alone
+pub less-called : (m v r : PortMark) (c : PortCall) (k : Ports) (i : ℕ) → (m i [] || not (gives_power c)) ≡ true → (r i [] || not (is_reset c)) ≡ true → Less m v r k (changed_at (called c) k i [])
+unfolding changed_at
+less-called m v r c ended i power reset = less-same m v r ended
+less-called m v r c (vacant b k) zero power reset = less-empty m v r c b k reset
+less-called m v r c (vacant b k) (suc i) power reset = less-after m v r (empty b) k _ (less-called (after_first m) (after_first v) (after_first r) c k i power reset)
+less-called m v r c (taken b s a k) zero power reset = split (is_reset c && (b.power && is_attached b.attached))
+  where
+    split : (x : Bool) → Less m v r (taken b s a k) (before (reset_where x (called_port c b) s a) k)
+    split true = less-taken m v r b (called_port c b) s _ a (all_off a) k (connection-called (m zero []) c power b) (enable-called c b) (reset-called (r zero []) c reset b) (less-off (below_first m) (below_first v) (below_first r) a)
+    split false = less-taken m v r b (called_port c b) s s a a k (connection-called (m zero []) c power b) (enable-called c b) (reset-called (r zero []) c reset b) (less-same (below_first m) (below_first v) (below_first r) a)
+less-called m v r c (taken b s a k) (suc i) power reset = less-after m v r (full b s a) k _ (less-called (after_first m) (after_first v) (after_first r) c k i power reset)
+
+-- what a device asks of its ports
+pub less-acted : (m v r : PortMark) (e : Effect) (a : Ports) → allowed (λ i. m i []) (λ i. r i []) e ≡ true → Less m v r a (acted e a)
+less-acted m v r Leaves a h = less-same m v r a
+less-acted m v r (Calls c i) a h =
+    let x : _ = both (m i [] || not (gives_power c)) (r i [] || not (is_reset c)) h in
+    less-called m v r c a i x.0 x.1
+less-acted m v r PortsOff a h = less-off m v r a

@@ -1,125 +1,217 @@
--- What plugs and unplugs add to what is left to do.
-use Rattle.std.proofs.Common.{◌≡◌, ◌≤◌, ℕ, zero, suc, ◌+◌, ◌||◌, Bool, true, false, List, [], ◌∷◌, length, Option, None, Some, refl, arith}
+-- What events add to what is left to do, where ports are marked.
+use Rattle.std.proofs.Common.{◌≡◌, ◌≤◌, ℕ, zero, suc, ◌+◌, ◌||◌, if◌then◌else◌, Bool, true, false, List, [], ◌∷◌, length, slice_get, Option, None, Some, refl, ◌∙◌, arith}
+use Rattle.std.proofs.lemmas.List.Elements.{All-head, All-tail}
+use Rattle.usb_port.specs.PortState.{bit}
 use Rattle.usb_device.specs.Rows.{fresh}
 use Rattle.usb_device.specs.Spec.{Spec, Hub}
-use Rattle.usb_port.specs.PortState.{bit}
 use Rattle.usb_device.specs.Tree.{Ports, ended, vacant, taken, new_ports, first_ports, replaced, changed_at}
-use Rattle.usb_backlog.specs.Backlog.{charged, devices_in, looks_owed, stray_changes}
-use Rattle.usb_backlog.proofs.Calls.{charged-less, charged-more, charged-most}
+use Rattle.usb_world.specs.declared.event.Action.{Action}
+use Rattle.usb_world.specs.declared.event.Action.TheVariants.{Plug, Unplug, Show, Send, Receive, Clear}
+use Rattle.usb_world.specs.declared.event.Event.{Event}
+use Rattle.usb_world.specs.declared.types.BusFault.{BusFault}
+use Rattle.usb_world.specs.PlanCourses.{AtPorts, PlugsAtPort}
+use Rattle.usb_world.specs.Steps.{after, due_from, event, event_taken, happened, is_due, ready, took, took_first, with_plugged}
+use Rattle.usb_world.specs.World.{World}
+use Rattle.usb_backlog.specs.Marks.{charged, devices_in, Few, KeepsBy, PortMark, after_first, below_first, devices_by, looks_by, strays_by}
+use Rattle.usb_backlog.proofs.Devices.{charged-less, charged-more, charged-most}
+use Rattle.usb_backlog.proofs.Devices.{devices_in-plugged, devices_in-unplugged, own-most}
 
 -- The ports of a new device
 
-devices_in-new : (n : ℕ) → devices_in (new_ports n) ≡ 0
-unfolding devices_in new_ports
-devices_in-new zero = refl
-devices_in-new (suc n) = devices_in-new n
+looks_by-new : (m : PortMark) (n : ℕ) → looks_by m (new_ports n) ≡ 0
+unfolding looks_by new_ports
+looks_by-new m zero = refl
+looks_by-new m (suc n) = looks_by-new (after_first m) n
 
-looks_owed-new : (n : ℕ) → looks_owed (new_ports n) ≡ 0
-unfolding looks_owed new_ports
-looks_owed-new zero = refl
-looks_owed-new (suc n) = looks_owed-new n
+devices_by-new : (m : PortMark) (n : ℕ) → devices_by m (new_ports n) ≡ 0
+unfolding devices_by new_ports
+devices_by-new m zero = refl
+devices_by-new m (suc n) = devices_by-new (after_first m) n
 
-stray_changes-new : (n : ℕ) → stray_changes (new_ports n) ≡ 0
-unfolding stray_changes new_ports
-stray_changes-new zero = refl
-stray_changes-new (suc n) = omega (arith, stray_changes-new n)
+looks_by-first : (m : PortMark) (o : Option Hub) → looks_by m (first_ports o) ≡ 0
+unfolding looks_by
+looks_by-first m None = refl
+looks_by-first m (Some hub) = looks_by-new m hub.ports
 
-devices_in-first : (o : Option Hub) → devices_in (first_ports o) ≡ 0
-unfolding devices_in
-devices_in-first None = refl
-devices_in-first (Some hub) = devices_in-new hub.ports
+devices_by-first : (m : PortMark) (o : Option Hub) → devices_by m (first_ports o) ≡ 0
+unfolding devices_by
+devices_by-first m None = refl
+devices_by-first m (Some hub) = devices_by-new m hub.ports
 
-looks_owed-first : (o : Option Hub) → looks_owed (first_ports o) ≡ 0
-unfolding looks_owed
-looks_owed-first None = refl
-looks_owed-first (Some hub) = looks_owed-new hub.ports
-
-stray_changes-first : (o : Option Hub) → stray_changes (first_ports o) ≡ 0
-unfolding stray_changes
-stray_changes-first None = refl
-stray_changes-first (Some hub) = stray_changes-new hub.ports
-
-own-most : (x : Bool) (o : Option Hub) → charged x (1 + devices_in (first_ports o)) ≤ 1
-own-most x o = omega (arith, charged-most x (1 + devices_in (first_ports o)), devices_in-first o)
+strays_by-first : (v r : PortMark) → ((n : ℕ) → strays_by v r (new_ports n) ≤ 1) → (o : Option Hub) → strays_by v r (first_ports o) ≤ 1
+unfolding strays_by
+strays_by-first v r h None = omega arith
+strays_by-first v r h (Some hub) = h hub.ports
 
 -- A plug
 
-pub devices_in-plugged : (s : Spec) (k : Ports) (i : ℕ) (p : List ℕ) → devices_in (changed_at (replaced (Some s)) k i p) ≤ devices_in k + 1
-unfolding devices_in changed_at fresh
-devices_in-plugged s ended i p = omega arith
-devices_in-plugged s (vacant b k) zero [] = omega (arith, devices_in-first s.hub)
-devices_in-plugged s (vacant b k) zero (n ∷ p) = omega arith
-devices_in-plugged s (vacant b k) (suc i) p = devices_in-plugged s k i p
-devices_in-plugged s (taken b t a k) zero [] = omega (arith, devices_in-first s.hub)
-devices_in-plugged s (taken b t a k) zero (zero ∷ p) = omega arith
-devices_in-plugged s (taken b t a k) zero (suc j ∷ p) = omega (arith, devices_in-plugged s a j p)
-devices_in-plugged s (taken b t a k) (suc i) p = omega (arith, devices_in-plugged s k i p)
+looks_by-plugged : (m : PortMark) (s : Spec) (k : Ports) (i : ℕ) (p : List ℕ) → looks_by m (changed_at (replaced (Some s)) k i p) ≤ looks_by m k + 1 + length p
+unfolding looks_by changed_at fresh
+looks_by-plugged m s ended i p = omega arith
+looks_by-plugged m s (vacant b k) zero [] = omega (arith, looks_by-first (below_first m) s.hub, own-most (m zero [] || (b.power || (b.power || b.connection_changed))) s.hub)
+looks_by-plugged m s (vacant b k) zero (n ∷ p) = omega arith
+looks_by-plugged m s (vacant b k) (suc i) p = looks_by-plugged (after_first m) s k i p
+looks_by-plugged m s (taken b t a k) zero [] = omega (arith, looks_by-first (below_first m) s.hub, own-most (m zero [] || (b.power || (b.power || b.connection_changed))) s.hub)
+looks_by-plugged m s (taken b t a k) zero (zero ∷ p) = omega arith
+looks_by-plugged m s (taken b t a k) zero (suc j ∷ p) =
+    let one : charged (m zero [] || b.connection_changed) (1 + devices_in (changed_at (replaced (Some s)) a j p)) ≤ charged (m zero [] || b.connection_changed) (1 + devices_in a) + 1 =
+    charged-more (m zero [] || b.connection_changed) (1 + devices_in (changed_at (replaced (Some s)) a j p)) (1 + devices_in a) (omega (arith, devices_in-plugged s a j p)) in
+    omega (arith, looks_by-plugged (below_first m) s a j p, one)
+looks_by-plugged m s (taken b t a k) (suc i) p = omega (arith, looks_by-plugged (after_first m) s k i p)
 
--- a look for each port on its way, and one for its own
-pub looks_owed-plugged : (s : Spec) (k : Ports) (i : ℕ) (p : List ℕ) → looks_owed (changed_at (replaced (Some s)) k i p) ≤ looks_owed k + 1 + length p
-unfolding looks_owed changed_at fresh
-looks_owed-plugged s ended i p = omega arith
-looks_owed-plugged s (vacant b k) zero [] = omega (arith, looks_owed-first s.hub, own-most (b.power || (b.power || b.connection_changed)) s.hub)
-looks_owed-plugged s (vacant b k) zero (n ∷ p) = omega arith
-looks_owed-plugged s (vacant b k) (suc i) p = looks_owed-plugged s k i p
-looks_owed-plugged s (taken b t a k) zero [] = omega (arith, looks_owed-first s.hub, own-most (b.power || (b.power || b.connection_changed)) s.hub)
-looks_owed-plugged s (taken b t a k) zero (zero ∷ p) = omega arith
-looks_owed-plugged s (taken b t a k) zero (suc j ∷ p) =
-    let one : charged b.connection_changed (1 + devices_in (changed_at (replaced (Some s)) a j p)) ≤ charged b.connection_changed (1 + devices_in a) + 1 =
-    charged-more b.connection_changed (1 + devices_in (changed_at (replaced (Some s)) a j p)) (1 + devices_in a) (omega (arith, devices_in-plugged s a j p)) in
-    omega (arith, looks_owed-plugged s a j p, one)
-looks_owed-plugged s (taken b t a k) (suc i) p = omega (arith, looks_owed-plugged s k i p)
+devices_by-plugged : (m : PortMark) (s : Spec) (k : Ports) (i : ℕ) (p : List ℕ) → devices_by m (changed_at (replaced (Some s)) k i p) ≤ devices_by m k + 1
+unfolding devices_by changed_at fresh
+devices_by-plugged m s ended i p = omega arith
+devices_by-plugged m s (vacant b k) zero [] = omega (arith, devices_by-first (below_first m) s.hub, charged-most (m zero []) 1)
+devices_by-plugged m s (vacant b k) zero (n ∷ p) = omega arith
+devices_by-plugged m s (vacant b k) (suc i) p = devices_by-plugged (after_first m) s k i p
+devices_by-plugged m s (taken b t a k) zero [] = omega (arith, devices_by-first (below_first m) s.hub)
+devices_by-plugged m s (taken b t a k) zero (zero ∷ p) = omega arith
+devices_by-plugged m s (taken b t a k) zero (suc j ∷ p) = omega (arith, devices_by-plugged (below_first m) s a j p)
+devices_by-plugged m s (taken b t a k) (suc i) p = omega (arith, devices_by-plugged (after_first m) s k i p)
 
-pub stray_changes-plugged : (s : Spec) (k : Ports) (i : ℕ) (p : List ℕ) → stray_changes (changed_at (replaced (Some s)) k i p) ≤ stray_changes k
-unfolding stray_changes changed_at fresh
-stray_changes-plugged s ended i p = omega arith
-stray_changes-plugged s (vacant b k) zero [] = omega (arith, stray_changes-first s.hub)
-stray_changes-plugged s (vacant b k) zero (n ∷ p) = omega arith
-stray_changes-plugged s (vacant b k) (suc i) p = omega (arith, stray_changes-plugged s k i p)
-stray_changes-plugged s (taken b t a k) zero [] = omega (arith, stray_changes-first s.hub)
-stray_changes-plugged s (taken b t a k) zero (zero ∷ p) = omega arith
-stray_changes-plugged s (taken b t a k) zero (suc j ∷ p) = omega (arith, stray_changes-plugged s a j p)
-stray_changes-plugged s (taken b t a k) (suc i) p = omega (arith, stray_changes-plugged s k i p)
+strays_by-plugged : (v r : PortMark) → Few v r → (s : Spec) (k : Ports) (i : ℕ) (p : List ℕ) → strays_by v r (changed_at (replaced (Some s)) k i p) ≤ strays_by v r k + 1
+unfolding strays_by changed_at fresh
+strays_by-plugged v r h s ended i p = omega arith
+strays_by-plugged v r h s (vacant b k) zero [] = omega (arith, strays_by-first (below_first v) (below_first r) (h zero []) s.hub)
+strays_by-plugged v r h s (vacant b k) zero (n ∷ p) = omega arith
+strays_by-plugged v r h s (vacant b k) (suc i) p = omega (arith, strays_by-plugged (after_first v) (after_first r) (λ i p n. h (suc i) p n) s k i p)
+strays_by-plugged v r h s (taken b t a k) zero [] = omega (arith, strays_by-first (below_first v) (below_first r) (h zero []) s.hub)
+strays_by-plugged v r h s (taken b t a k) zero (zero ∷ p) = omega arith
+strays_by-plugged v r h s (taken b t a k) zero (suc j ∷ p) = omega (arith, strays_by-plugged (below_first v) (below_first r) (λ i p n. h zero (suc i ∷ p) n) s a j p)
+strays_by-plugged v r h s (taken b t a k) (suc i) p = omega (arith, strays_by-plugged (after_first v) (after_first r) (λ i p n. h (suc i) p n) s k i p)
 
 -- An unplug
 
-pub devices_in-unplugged : (k : Ports) (i : ℕ) (p : List ℕ) → devices_in (changed_at (replaced None) k i p) ≤ devices_in k
-unfolding devices_in changed_at
-devices_in-unplugged ended i p = omega arith
-devices_in-unplugged (vacant b k) zero [] = omega arith
-devices_in-unplugged (vacant b k) zero (n ∷ p) = omega arith
-devices_in-unplugged (vacant b k) (suc i) p = devices_in-unplugged k i p
-devices_in-unplugged (taken b t a k) zero [] = omega arith
-devices_in-unplugged (taken b t a k) zero (zero ∷ p) = omega arith
-devices_in-unplugged (taken b t a k) zero (suc j ∷ p) = omega (arith, devices_in-unplugged a j p)
-devices_in-unplugged (taken b t a k) (suc i) p = omega (arith, devices_in-unplugged k i p)
+looks_by-unplugged : (m : PortMark) (k : Ports) (i : ℕ) (p : List ℕ) → looks_by m (changed_at (replaced None) k i p) ≤ looks_by m k
+unfolding looks_by changed_at
+looks_by-unplugged m ended i p = omega arith
+looks_by-unplugged m (vacant b k) zero [] = omega arith
+looks_by-unplugged m (vacant b k) zero (n ∷ p) = omega arith
+looks_by-unplugged m (vacant b k) (suc i) p = looks_by-unplugged (after_first m) k i p
+looks_by-unplugged m (taken b t a k) zero [] = omega arith
+looks_by-unplugged m (taken b t a k) zero (zero ∷ p) = omega arith
+looks_by-unplugged m (taken b t a k) zero (suc j ∷ p) =
+    let less : charged (m zero [] || b.connection_changed) (1 + devices_in (changed_at (replaced None) a j p)) ≤ charged (m zero [] || b.connection_changed) (1 + devices_in a) =
+    charged-less (m zero [] || b.connection_changed) (1 + devices_in (changed_at (replaced None) a j p)) (1 + devices_in a) (omega (arith, devices_in-unplugged a j p)) in
+    omega (arith, looks_by-unplugged (below_first m) a j p, less)
+looks_by-unplugged m (taken b t a k) (suc i) p = omega (arith, looks_by-unplugged (after_first m) k i p)
 
-pub looks_owed-unplugged : (k : Ports) (i : ℕ) (p : List ℕ) → looks_owed (changed_at (replaced None) k i p) ≤ looks_owed k
-unfolding looks_owed changed_at
-looks_owed-unplugged ended i p = omega arith
-looks_owed-unplugged (vacant b k) zero [] = omega arith
-looks_owed-unplugged (vacant b k) zero (n ∷ p) = omega arith
-looks_owed-unplugged (vacant b k) (suc i) p = looks_owed-unplugged k i p
-looks_owed-unplugged (taken b t a k) zero [] = omega arith
-looks_owed-unplugged (taken b t a k) zero (zero ∷ p) = omega arith
-looks_owed-unplugged (taken b t a k) zero (suc j ∷ p) =
-    let less : charged b.connection_changed (1 + devices_in (changed_at (replaced None) a j p)) ≤ charged b.connection_changed (1 + devices_in a) =
-    charged-less b.connection_changed (1 + devices_in (changed_at (replaced None) a j p)) (1 + devices_in a) (omega (arith, devices_in-unplugged a j p)) in
-    omega (arith, looks_owed-unplugged a j p, less)
-looks_owed-unplugged (taken b t a k) (suc i) p = omega (arith, looks_owed-unplugged k i p)
+devices_by-unplugged : (m : PortMark) (k : Ports) (i : ℕ) (p : List ℕ) → devices_by m (changed_at (replaced None) k i p) ≤ devices_by m k
+unfolding devices_by changed_at
+devices_by-unplugged m ended i p = omega arith
+devices_by-unplugged m (vacant b k) zero [] = omega arith
+devices_by-unplugged m (vacant b k) zero (n ∷ p) = omega arith
+devices_by-unplugged m (vacant b k) (suc i) p = devices_by-unplugged (after_first m) k i p
+devices_by-unplugged m (taken b t a k) zero [] = omega arith
+devices_by-unplugged m (taken b t a k) zero (zero ∷ p) = omega arith
+devices_by-unplugged m (taken b t a k) zero (suc j ∷ p) = omega (arith, devices_by-unplugged (below_first m) a j p)
+devices_by-unplugged m (taken b t a k) (suc i) p = omega (arith, devices_by-unplugged (after_first m) k i p)
 
 bit-most : (x : Bool) → bit x ≤ 1
 bit-most true = omega arith
 bit-most false = omega arith
 
--- the port that is left empty may tell of it
-pub stray_changes-unplugged : (k : Ports) (i : ℕ) (p : List ℕ) → stray_changes (changed_at (replaced None) k i p) ≤ stray_changes k + 1
-unfolding stray_changes changed_at
-stray_changes-unplugged ended i p = omega arith
-stray_changes-unplugged (vacant b k) zero [] = omega (arith, bit-most (b.power || b.connection_changed))
-stray_changes-unplugged (vacant b k) zero (n ∷ p) = omega arith
-stray_changes-unplugged (vacant b k) (suc i) p = omega (arith, stray_changes-unplugged k i p)
-stray_changes-unplugged (taken b t a k) zero [] = omega (arith, bit-most (b.power || b.connection_changed))
-stray_changes-unplugged (taken b t a k) zero (zero ∷ p) = omega arith
-stray_changes-unplugged (taken b t a k) zero (suc j ∷ p) = omega (arith, stray_changes-unplugged a j p)
-stray_changes-unplugged (taken b t a k) (suc i) p = omega (arith, stray_changes-unplugged k i p)
+strays_by-unplugged : (v r : PortMark) (k : Ports) (i : ℕ) (p : List ℕ) → strays_by v r (changed_at (replaced None) k i p) ≤ strays_by v r k + 1
+unfolding strays_by changed_at
+strays_by-unplugged v r ended i p = omega arith
+strays_by-unplugged v r (vacant b k) zero [] = omega (arith, bit-most (v zero [] || (b.power || b.connection_changed)))
+strays_by-unplugged v r (vacant b k) zero (n ∷ p) = omega arith
+strays_by-unplugged v r (vacant b k) (suc i) p = omega (arith, strays_by-unplugged (after_first v) (after_first r) k i p)
+strays_by-unplugged v r (taken b t a k) zero [] = omega (arith, bit-most (v zero [] || (b.power || b.connection_changed)))
+strays_by-unplugged v r (taken b t a k) zero (zero ∷ p) = omega arith
+strays_by-unplugged v r (taken b t a k) zero (suc j ∷ p) = omega (arith, strays_by-unplugged (below_first v) (below_first r) a j p)
+strays_by-unplugged v r (taken b t a k) (suc i) p = omega (arith, strays_by-unplugged (after_first v) (after_first r) k i p)
+
+-- An event
+
+module _ (m v r : PortMark) (few : Few v r) where
+  -- at most seven looks, one device and one change that asks for no look
+  record Adds (k l : Ports) : Type 0 where
+    pub looks : looks_by m l ≤ looks_by m k + 7
+    pub strays : strays_by v r l ≤ strays_by v r k + 1
+    pub devices : (d : PortMark) → devices_by d l ≤ devices_by d k + 1
+
+  adds-none : (k : Ports) → Adds k k
+  adds-none k = record { looks = omega arith; strays = omega arith; devices = λ d. omega arith }
+
+  adds-plugged : (o : Option Spec) (path : List ℕ) (k : Ports) → length path ≤ 7 → Adds k (with_plugged o path k)
+  adds-plugged None path k h = adds-none k
+  adds-plugged (Some s) [] k h = adds-none k
+  adds-plugged (Some s) (zero ∷ p) k h = adds-none k
+  adds-plugged (Some s) (suc i ∷ p) k h = record {
+    looks = omega (arith, looks_by-plugged m s k i p, h);
+    strays = strays_by-plugged v r few s k i p;
+    devices = λ d. devices_by-plugged d s k i p;
+  }
+
+  adds-unplugged : (path : List ℕ) (devices : List Spec) (k : Ports) → Adds k (happened (Unplug path) devices k)
+  adds-unplugged [] devices k = adds-none k
+  adds-unplugged (zero ∷ p) devices k = adds-none k
+  adds-unplugged (suc i ∷ p) devices k = record {
+    looks = omega (arith, looks_by-unplugged m k i p);
+    strays = strays_by-unplugged v r k i p;
+    devices = λ d. omega (arith, devices_by-unplugged d k i p);
+  }
+
+  adds-happened : (action : Action) (devices : List Spec) (k : Ports) → PlugsAtPort action → Adds k (happened action devices k)
+  adds-happened (Plug path device) devices k h = adds-plugged (slice_get devices device) path k h.1
+  adds-happened (Unplug path) devices k h = adds-unplugged path devices k
+  adds-happened Show devices k h = adds-none k
+  adds-happened (Send path bytes) devices k h = adds-none k
+  adds-happened (Receive path packets) devices k h = adds-none k
+  adds-happened (Clear path) devices k h = adds-none k
+
+  pub keeps-none : (w : World) → AtPorts w.left → KeepsBy m v r w w
+  keeps-none w h = record { looks = omega arith; strays = omega arith; devices = λ d. omega arith; left = h; onward = omega arith; still = λ e d. refl }
+
+  pub keeps-then : {w x y : World} → KeepsBy m v r w x → KeepsBy m v r x y → KeepsBy m v r w y
+  keeps-then one two = record {
+    looks = omega (arith, one.looks, two.looks);
+    strays = omega (arith, one.strays, two.strays);
+    devices = λ d. omega (arith, one.devices d, two.devices d);
+    left = two.left;
+    onward = omega (arith, one.onward, two.onward);
+    still = λ e d. two.still (omega (arith, one.onward, two.onward, e)) d ∙ one.still (omega (arith, one.onward, two.onward, e)) d;
+  }
+
+  keeps-took : (e : Event) (events : List Event) (w : World) → AtPorts (e ∷ events) → KeepsBy m v r w (took e events w)
+  unfolding took
+  keeps-took e events w h =
+      let adds : Adds w.roots (happened e.action w.devices w.roots) = adds-happened e.action w.devices w.roots (All-head (λ x. PlugsAtPort x.action) e events h) in
+      record {
+        looks = omega (arith, adds.looks);
+        strays = omega (arith, adds.strays);
+        devices = λ d. omega (arith, adds.devices d);
+        left = All-tail (λ x. PlugsAtPort x.action) e events h;
+        onward = omega arith;
+        still = λ same d. absurd (omega (arith, same));
+      }
+
+  keeps-due : (events : List Event) (w : World) → w.left ≡ events → AtPorts w.left → AtPorts events → KeepsBy m v r w (due_from events w)
+  unfolding due_from took
+  keeps-due [] w l g h = keeps-none w g
+  keeps-due (e ∷ events) w l g h =
+      split (is_due e w) (keeps-then (keeps-took e events w h) (keeps-due events (took e events w) refl (All-tail (λ x. PlugsAtPort x.action) e events h) (All-tail (λ x. PlugsAtPort x.action) e events h)))
+    where
+      split : (x : Bool) → KeepsBy m v r w (due_from events (took e events w)) → KeepsBy m v r w (if x then due_from events (took e events w) else w)
+      split true k = k
+      split false k = keeps-none w g
+
+  -- those that are due before an attempt
+  pub keeps-ready : (w : World) → AtPorts w.left → KeepsBy m v r w (ready w)
+  unfolding ready
+  keeps-ready w h = keeps-due w.left w refl h h
+
+  keeps-first : (events : List Event) (w : World) → AtPorts w.left → AtPorts events → KeepsBy m v r w (took_first events w)
+  keeps-first [] w g h = keeps-none w g
+  keeps-first (e ∷ events) w g h = keeps-took e events w h
+
+  keeps-taken : (f : Option BusFault) (w : World) → AtPorts w.left → KeepsBy m v r w (event_taken f w)
+  keeps-taken (Some f) w h = keeps-none w h
+  keeps-taken None w h = keeps-first w.left w h h
+
+  -- and one that is applied
+  pub keeps-event : (w : World) → AtPorts w.left → KeepsBy m v r w (after event w)
+  unfolding after
+  keeps-event w h = keeps-taken w.fault w h

@@ -1,6 +1,11 @@
-mod Places
+mod Devices
 mod Calls
-mod Events
 mod Packets
-mod ComingEvents
+mod Events
+mod Steps
+mod Requests
+mod Places
+mod Phases
+mod Units
+mod Products
 pub mod Interface

@@ -1,74 +1,62 @@
--- What a packet adds to what is left to do.
-use Rattle.std.proofs.Common.{◌≡◌, ◌≤◌, ℕ, zero, suc, ◌+◌, if◌then◌else◌, Bool, true, false, List, [], ◌∷◌, Some, refl, ap, ◌∙◌, arith}
+-- What a packet adds to what is left to do, where ports are marked.
+use Rattle.std.proofs.Common.{◌≡◌, zero, suc, ◌+◌, ◌||◌, if◌then◌else◌, Bool, true, false, [], ◌∷◌, Option, None, Some, refl, ap, arith}
 use Rattle.usb_port.specs.PortState.{PortState}
-use Rattle.usb_port.specs.declared.call.PortCall.{PortCall}
 use Rattle.usb_device.specs.declared.delivery.Sent.{Sent}
 use Rattle.usb_device.specs.Rows.{State, forgotten}
 use Rattle.usb_device.specs.Tree.{Ports, ended, vacant, taken, acted, state_at}
 use Rattle.usb_device.specs.Delivery.{after_packet, all_forgotten, answer_of, effect_of}
-use Rattle.usb_backlog.specs.Backlog.{OwesNoMore, charged, devices_in, looks_owed, stray_changes}
-use Rattle.usb_backlog.specs.PortSettings.{asks_by, gives_power, sets_feature}
-use Rattle.usb_backlog.proofs.Calls.{owes-acted, stray_changes-acted}
+use Rattle.usb_world.specs.AttemptPackets.{after_sent}
+use Rattle.usb_world.proofs.Interface.{CalmOut}
+use Rattle.usb_backlog.specs.Marks.{charged, devices_in, PortMark, AllowsMarks, below_first, after_first, allowed, devices_by, looks_by, ports_by, strays_by}
+use Rattle.usb_backlog.proofs.Calls.{Less, less-acted, less-same, less-then}
 
--- at a packet no device asks its ports by such a call, wherever it stands
-abbrev pub NoneAsksBy : (PortCall → Bool) → Sent → Ports → Type 0
-NoneAsksBy K q k = (j : ℕ) (e : List ℕ) (t : State) → state_at k j e ≡ Some t → (deep : Bool) → asks_by K (effect_of q deep t) ≡ false
+-- A row of ports, as its parts
 
--- No more looks are owed
+less-vacant : (m v r : PortMark) (b : PortState) {k l : Ports} → Less (after_first m) (after_first v) (after_first r) k l → Less m v r (vacant b k) (vacant b l)
+unfolding looks_by strays_by devices_by ports_by devices_in
+less-vacant m v r b h = record { whole = h.whole; looks = h.looks; strays = omega (arith, h.strays); devices = λ d. h.devices (after_first d); ports = λ d. omega (arith, h.ports (after_first d)) }
 
-pub owes-same : (k : Ports) → OwesNoMore k k
-owes-same k = record { devices = refl; looks = omega arith }
+less-parts : (m v r : PortMark) (b : PortState) (s t : State) {a c k l : Ports} → Less (below_first m) (below_first v) (below_first r) a c → Less (after_first m) (after_first v) (after_first r) k l
+    → Less m v r (taken b s a k) (taken b t c l)
+unfolding looks_by strays_by devices_by ports_by devices_in
+less-parts m v r b s t {a} {c} below beside =
+    let same : charged (m zero [] || b.connection_changed) (1 + devices_in c) ≡ charged (m zero [] || b.connection_changed) (1 + devices_in a) = ap (λ n. charged (m zero [] || b.connection_changed) (1 + n)) below.whole in
+    record {
+      whole = omega (arith, below.whole, beside.whole);
+      looks = omega (arith, same, below.looks, beside.looks);
+      strays = omega (arith, below.strays, beside.strays);
+      devices = λ d. omega (arith, below.devices (below_first d), beside.devices (after_first d));
+      ports = λ d. omega (arith, below.ports (below_first d), beside.ports (after_first d));
+    }
 
-pub owes-then : {k v u : Ports} → OwesNoMore k v → OwesNoMore v u → OwesNoMore k u
-owes-then one two = record { devices = two.devices ∙ one.devices; looks = omega (arith, one.looks, two.looks) }
-
-owes-vacant : (b : PortState) {k v : Ports} → OwesNoMore k v → OwesNoMore (vacant b k) (vacant b v)
-unfolding devices_in looks_owed
-owes-vacant b h = record { devices = h.devices; looks = h.looks }
-
-owes-taken : (b : PortState) (s t : State) {a c k v : Ports} → OwesNoMore a c → OwesNoMore k v → OwesNoMore (taken b s a k) (taken b t c v)
-unfolding devices_in looks_owed
-owes-taken b s t {a} {c} below beside =
-    let same : charged b.connection_changed (1 + devices_in c) ≡ charged b.connection_changed (1 + devices_in a) = ap (λ n. charged b.connection_changed (1 + n)) below.devices in
-    record { devices = omega (arith, below.devices, beside.devices); looks = omega (arith, same, below.looks, beside.looks) }
-
-pub owes-packet : (q : Sent) (deep : Bool) (k : Ports) → NoneAsksBy gives_power q k → OwesNoMore k (after_packet q deep k)
+pub less-packet : (m v r : PortMark) (q : Sent) (deep : Bool) (k : Ports) → AllowsMarks m r q k → Less m v r k (after_packet q deep k)
 unfolding after_packet state_at
-owes-packet q deep ended h = owes-same ended
-owes-packet q deep (vacant b k) h = owes-vacant b (owes-packet q deep k (λ j e. h (suc j) e))
-owes-packet q deep (taken b s a k) h =
-    split b.enable (owes-packet q deep k (λ j e. h (suc j) e))
-    (owes-then (owes-packet q true a (λ j e. h zero (suc j ∷ e))) (owes-acted (effect_of q deep s) (h zero [] s refl deep) (after_packet q true a)))
+less-packet m v r q deep ended h = less-same m v r ended
+less-packet m v r q deep (vacant b k) h = less-vacant m v r b (less-packet (after_first m) (after_first v) (after_first r) q deep k (λ j e. h (suc j) e))
+less-packet m v r q deep (taken b s a k) h =
+    split b.enable (less-packet (after_first m) (after_first v) (after_first r) q deep k (λ j e. h (suc j) e))
+    (less-then (less-packet (below_first m) (below_first v) (below_first r) q true a (λ j e. h zero (suc j ∷ e)))
+    (less-acted (below_first m) (below_first v) (below_first r) (effect_of q deep s) (after_packet q true a) (h zero [] s refl deep)))
   where
-    split : (x : Bool) → OwesNoMore k (after_packet q deep k) → OwesNoMore a (acted (effect_of q deep s) (after_packet q true a)) → OwesNoMore (taken b s a k)
+    split : (x : Bool) → Less (after_first m) (after_first v) (after_first r) k (after_packet q deep k) → Less (below_first m) (below_first v) (below_first r) a (acted (effect_of q deep s) (after_packet q true a)) → Less m v r (taken b s a k)
         (if x then taken b (answer_of q deep s a).1 (acted (effect_of q deep s) (after_packet q true a)) (after_packet q deep k) else taken b s a (after_packet q deep k))
-    split true beside below = owes-taken b s (answer_of q deep s a).1 below beside
-    split false beside below = owes-taken b s s (owes-same a) beside
+    split true beside below = less-parts m v r b s (answer_of q deep s a).1 below beside
+    split false beside below = less-parts m v r b s s (less-same (below_first m) (below_first v) (below_first r) a) beside
 
-pub owes-forgotten : (k : Ports) → OwesNoMore k (all_forgotten k)
+pub less-forgotten : (m v r : PortMark) (k : Ports) → Less m v r k (all_forgotten k)
 unfolding all_forgotten
-owes-forgotten ended = owes-same ended
-owes-forgotten (vacant b k) = owes-vacant b (owes-forgotten k)
-owes-forgotten (taken b s a k) = owes-taken b s (forgotten s) (owes-forgotten a) (owes-forgotten k)
+less-forgotten m v r ended = less-same m v r ended
+less-forgotten m v r (vacant b k) = less-vacant m v r b (less-forgotten (after_first m) (after_first v) (after_first r) k)
+less-forgotten m v r (taken b s a k) = less-parts m v r b s (forgotten s) (less-forgotten (below_first m) (below_first v) (below_first r) a) (less-forgotten (after_first m) (after_first v) (after_first r) k)
 
--- No more changes ask for no look
+-- A packet that goes out, or not
 
-pub stray_changes-packet : (q : Sent) (deep : Bool) (k : Ports) → NoneAsksBy sets_feature q k → stray_changes (after_packet q deep k) ≤ stray_changes k
-unfolding after_packet state_at stray_changes
-stray_changes-packet q deep ended h = omega arith
-stray_changes-packet q deep (vacant b k) h = omega (arith, stray_changes-packet q deep k (λ j e. h (suc j) e))
-stray_changes-packet q deep (taken b s a k) h =
-    split b.enable (stray_changes-packet q deep k (λ j e. h (suc j) e))
-    (omega (arith, stray_changes-packet q true a (λ j e. h zero (suc j ∷ e)), stray_changes-acted (effect_of q deep s) (h zero [] s refl deep) (after_packet q true a)))
-  where
-    split : (x : Bool) → stray_changes (after_packet q deep k) ≤ stray_changes k → stray_changes (acted (effect_of q deep s) (after_packet q true a)) ≤ stray_changes a
-        → stray_changes (if x then taken b (answer_of q deep s a).1 (acted (effect_of q deep s) (after_packet q true a)) (after_packet q deep k) else taken b s a (after_packet q deep k))
-        ≤ stray_changes (taken b s a k)
-    split true beside below = omega (arith, below, beside)
-    split false beside below = omega (arith, beside)
+-- one that asks nothing of any port
+pub less-calm : (m v r : PortMark) (o : Option Sent) (k : Ports) → CalmOut o → Less m v r k (after_sent o k)
+less-calm m v r None k c = less-same m v r k
+less-calm m v r (Some q) k c = less-packet m v r q false k (λ j e t at deep. ap (allowed _ _) (c deep t))
 
-pub stray_changes-forgotten : (k : Ports) → stray_changes (all_forgotten k) ≡ stray_changes k
-unfolding all_forgotten stray_changes
-stray_changes-forgotten ended = refl
-stray_changes-forgotten (vacant b k) = omega (arith, stray_changes-forgotten k)
-stray_changes-forgotten (taken b s a k) = omega (arith, stray_changes-forgotten a, stray_changes-forgotten k)
+-- one of which each device asks what is allowed
+pub less-sent : (m v r : PortMark) (o : Option Sent) (k : Ports) → ((q : Sent) → o ≡ Some q → AllowsMarks m r q k) → Less m v r k (after_sent o k)
+less-sent m v r None k h = less-same m v r k
+less-sent m v r (Some q) k h = less-packet m v r q false k (h q refl)

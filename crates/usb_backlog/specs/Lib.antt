@@ -1,2 +1,3 @@
-pub mod Backlog
+pub mod Marks
 pub mod PortSettings
+pub mod Units
