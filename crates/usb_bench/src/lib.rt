@@ -1,7 +1,7 @@
 //! Simulated buses for tests: from a plan's text, with the port and the device made ready.
 #![tactic(auto)]
 
-ghost use Rattle.std.specs.Prelude.{◌≡◌, ◌++◌, codes, decimal, false, flat_map, string_bytes, IfOk, None, Ok, OnOk};
+ghost use Rattle.std.specs.Prelude.{◌≡◌, ◌++◌, codes, decimal, false, flat_map, string_bytes, IfOk, Ok, OnOk};
 ghost use Rattle.usb_bus.specs.Watch.{inner_of, has_failed};
 ghost use Rattle.usb_bus.specs.Sim.{world_of, writer_of};
 ghost use Rattle.usb_world.specs.Steps.{after, root_call};
@@ -12,7 +12,7 @@ ghost use Rattle.usb_bench.specs.Bench.{IsOpened, IsReady, made_ready, port_call
 use std::alloc::{AllocError, Global};
 use std::io::Write;
 use thiserror::Error;
-use usb_bus::{Bus, BusFault, Plan, SimBus, Watched};
+use usb_bus::{Bus, BusFault, Plan, SimBus, Trace, Tracer, Untraced, Watched};
 use usb_plan::{PlanFault, read_plan};
 use usb_request::feature::{C_PORT_CONNECTION, C_PORT_RESET, PORT_POWER, PORT_RESET};
 
@@ -52,7 +52,7 @@ pub fn bus_on<W: Write + Drop>(
     alloc: Global,
     text: &str,
     writer: Watched<W>,
-) -> Result<SimBus<W>, BenchFault>
+) -> Result<SimBus<Tracer<W>>, BenchFault>
     requires { has_failed writer ≡ false }
     ensures world { IfOk result (λ bus. IsOpened text.now (world_of bus)) }
     ensures writer { IfOk result (λ bus. writer_of bus ≡ writer) }
@@ -61,23 +61,16 @@ pub fn bus_on<W: Write + Drop>(
     SimBus::new(alloc, &plan, writer).map_err(|_| BenchFault::Memory)
 }
 
-/// The bus of a plan's text, before anything came, that makes no line of its trace; nothing is known of its writer.
+/// The bus of a plan's text, before anything came, that makes no line of its trace.
 ///
 /// # Errors
 ///
 /// As `bus_on`.
-pub fn untraced_on<W: Write + Drop>(
-    alloc: Global,
-    text: &str,
-    writer: Watched<W>,
-) -> Result<SimBus<W>, BenchFault>
-    requires unfailed { has_failed writer ≡ false }
-    requires unknown { W.contents (inner_of writer) ≡ None }
-    ensures world { IfOk result (λ bus. IsOpened text.now (world_of bus)) }
-    ensures writer { IfOk result (λ bus. writer_of bus ≡ writer) }
+pub fn untraced_of(alloc: Global, text: &str) -> Result<SimBus<Untraced>, BenchFault>
+    ensures { IfOk result (λ bus. IsOpened text.now (world_of bus)) }
 {
     let plan = plan_of(alloc, text)?;
-    SimBus::untraced(alloc, &plan, writer).map_err(|_| BenchFault::Memory)
+    SimBus::untraced(alloc, &plan).map_err(|_| BenchFault::Memory)
 }
 
 fn plan_of(alloc: Global, text: &str) -> Result<Plan, BenchFault>
@@ -94,7 +87,7 @@ fn plan_of(alloc: Global, text: &str) -> Result<Plan, BenchFault>
 /// # Errors
 ///
 /// As `bus_on`.
-pub fn bus_of(alloc: Global, text: &str) -> Result<SimBus<Vec<u8>>, BenchFault>
+pub fn bus_of(alloc: Global, text: &str) -> Result<SimBus<Tracer<Vec<u8>>>, BenchFault>
     ensures { IfOk result (λ bus. IsOpened text.now (world_of bus)) }
 {
     bus_on(alloc, text, Watched::new(Vec::new(alloc)))
@@ -105,7 +98,7 @@ pub fn bus_of(alloc: Global, text: &str) -> Result<SimBus<Vec<u8>>, BenchFault>
 /// # Errors
 ///
 /// As `bus_on`; `Bus` where the event could not come.
-pub fn plugged(alloc: Global, text: &str) -> Result<SimBus<Vec<u8>>, BenchFault>
+pub fn plugged(alloc: Global, text: &str) -> Result<SimBus<Tracer<Vec<u8>>>, BenchFault>
     ensures { IfOk result (λ bus. IsReady text.now (world_of bus)) }
 {
     let mut bus = bus_of(alloc, text)?;
@@ -118,7 +111,7 @@ pub fn plugged(alloc: Global, text: &str) -> Result<SimBus<Vec<u8>>, BenchFault>
 /// # Errors
 ///
 /// `Bus` where the event could not come.
-pub fn plug<W: Write>(bus: &mut SimBus<W>) -> Result<(), BenchFault>
+pub fn plug<T: Trace>(bus: &mut SimBus<T>) -> Result<(), BenchFault>
     ensures { OnOk result (world_of bus.new ≡ made_ready (world_of bus.old)) }
 {
     bus.root_set(1, PORT_POWER);
@@ -130,7 +123,7 @@ pub fn plug<W: Write>(bus: &mut SimBus<W>) -> Result<(), BenchFault>
 }
 
 /// The trace that a bus kept.
-pub fn trace_of(bus: SimBus<Vec<u8>>) -> Vec<u8>
+pub fn trace_of(bus: SimBus<Tracer<Vec<u8>>>) -> Vec<u8>
     ensures { result ≡ inner_of (writer_of bus) }
 {
     bus.into_writer().into_inner()

@@ -4,8 +4,7 @@ use Rattle.std.proofs.lemmas.Bool.Decides.{nat_tests}
 use Rattle.std.proofs.lemmas.List.{take_rest}
 use Rattle.std.specs.Io.KnownBytes.{Appends, Keeps}
 use Rattle.std.proofs.KnownBytes.{Appends-trans, Appends-kept, Appends-nil}
-use Rattle.usb_bus.specs.declared.watched.Watched.{Watched}
-use Rattle.usb_bus.specs.Watch.{AppendsFront, PutsText, has_failed, inner_of}
+use Rattle.usb_bus.specs.Watch.{AppendsFront, PutsText}
 
 pub front_of : (a b : Option (List ℕ)) (gone rest piece : List ℕ) → piece ≡ gone ++ rest → Appends a b gone → AppendsFront a b piece
 front_of a b gone rest piece e h = record { gone = gone; rest = rest; split = e; appended = h }
@@ -40,28 +39,28 @@ pub front_after_first : (a b c : Option (List ℕ)) (xs ys : List ℕ) → Appen
 front_after_first a b c xs ys h f =
     front_of a c (xs ++ f.gone) f.rest (xs ++ ys) (ap (λ l. xs ++ l) f.split ∙ sym (append_assoc xs f.gone f.rest)) (Appends-trans a b c xs f.gone h f.appended)
 
--- nothing is known of what the writer has, and it stays as it is
-pub puts_unknown : {W A E : Type 0} (contents : W → Option (List ℕ)) (w : Watched W) (x : A) (text : List ℕ) → contents (inner_of w) ≡ None → PutsText {E = E} contents w (Ok x) w text
-puts_unknown contents w x text e =
-    let appended = subst (λ o. Appends o o text) (sym e) tt in
-    record { front = front_of (contents (inner_of w)) (contents (inner_of w)) text [] text (sym (append-nil text)) appended; ok = appended; unmarked = refl; marked = tt }
+-- nothing is known of the text, before and after
+pub puts_unknown : {T A E : Type 0} (text : T → Option (List ℕ)) (failed : T → Bool) (t : T) (x : A) (put : List ℕ) → text t ≡ None → PutsText {E = E} text failed t (Ok x) t put
+puts_unknown text failed t x put e =
+    let appended = subst (λ o. Appends o o put) (sym e) tt in
+    record { front = front_of (text t) (text t) put [] put (sym (append-nil put)) appended; ok = appended; unmarked = refl; marked = tt }
 
 -- no text
-pub puts_none : {W A E : Type 0} (contents : W → Option (List ℕ)) (w : Watched W) (x : A) → PutsText {E = E} contents w (Ok x) w []
-puts_none contents w x =
-    let appended = Appends-nil (contents (inner_of w)) in
-    record { front = front_of (contents (inner_of w)) (contents (inner_of w)) [] [] [] refl appended; ok = appended; unmarked = refl; marked = tt }
+pub puts_none : {T A E : Type 0} (text : T → Option (List ℕ)) (failed : T → Bool) (t : T) (x : A) → PutsText {E = E} text failed t (Ok x) t []
+puts_none text failed t x =
+    let appended = Appends-nil (text t) in
+    record { front = front_of (text t) (text t) [] [] [] refl appended; ok = appended; unmarked = refl; marked = tt }
 
 -- a text of two parts: the first went out, and what came of the second
-pub puts_then : {W A E : Type 0} (contents : W → Option (List ℕ)) (a b c : Watched W) (r : Result A E) (xs ys all : List ℕ) → all ≡ xs ++ ys → Appends (contents (inner_of a)) (contents (inner_of b)) xs
-    → has_failed b ≡ has_failed a → PutsText contents b r c ys → PutsText contents a r c all
-puts_then contents a b c (Ok x) xs ys all e h same p = subst (PutsText contents a (Ok x) c) (sym e) (record {
+pub puts_then : {T A E : Type 0} (text : T → Option (List ℕ)) (failed : T → Bool) (a b c : T) (r : Result A E) (xs ys all : List ℕ) → all ≡ xs ++ ys → Appends (text a) (text b) xs
+    → failed b ≡ failed a → PutsText text failed b r c ys → PutsText text failed a r c all
+puts_then text failed a b c (Ok x) xs ys all e h same p = subst (PutsText text failed a (Ok x) c) (sym e) (record {
   front = front_after_first _ _ _ xs ys h p.front;
   ok = Appends-trans _ _ _ xs ys h p.ok;
   unmarked = p.unmarked ∙ same;
   marked = tt;
 })
-puts_then contents a b c (Err x) xs ys all e h same p = subst (PutsText contents a (Err x) c) (sym e) (record {
+puts_then text failed a b c (Err x) xs ys all e h same p = subst (PutsText text failed a (Err x) c) (sym e) (record {
   front = front_after_first _ _ _ xs ys h p.front;
   ok = tt;
   unmarked = tt;

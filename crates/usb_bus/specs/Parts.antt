@@ -1,6 +1,5 @@
 -- The parts of an attempt of a simulated bus: each event that is due, all of them, and the attempt behind them.
 use Rattle.std.specs.Prelude.{◌≡◌, ◌≢◌, ℕ, ◌+◌, List, Option, None, Some, Result, Ok, Err, OnOk, OnErr, IfOk, IfErr, IsSome}
-use Rattle.std.specs.declared.io.Write.{Ghosts}
 use Rattle.usb_world.specs.declared.types.Attempt.{Attempt}
 use Rattle.usb_world.specs.declared.event.Due.{Due}
 use Rattle.usb_world.specs.declared.types.BusFault.{BusFault}
@@ -9,8 +8,9 @@ use Rattle.usb_world.specs.declared.types.Outcome.{Outcome}
 use Rattle.usb_world.specs.World.{World, AnswerFits, Spends, to_come}
 use Rattle.usb_world.specs.Steps.{Coming, Left, after, attempt, fault_of, outcome_in, ready, took_first, with_attempt}
 use Rattle.usb_bus.specs.declared.sim.SimBus.{SimBus}
+use Rattle.usb_bus.specs.declared.tracer.Trace.{Ghosts}
 use Rattle.usb_bus.specs.Lines.{lines_between, next_due, step_lines}
-use Rattle.usb_bus.specs.Sim.{world_of, writer_of}
+use Rattle.usb_bus.specs.Sim.{world_of, tracer_of}
 use Rattle.usb_bus.specs.Watch.{WritesText}
 
 -- the next event came, if one was left; or memory was refused and it did not come, or its line was not written
@@ -47,7 +47,7 @@ pub record AttemptMade (a : Attempt) (old : World) (before : Option (List ℕ)) 
   pub other : IfErr result (λ f. f ≢ LimitReached)
   pub text : WritesText result before now (step_lines a old new)
 
--- an attempt that was refused at the limit left the writer as it was, and one behind a fault left all
-pub record RefusesAttempt {W : Type 0} {g : Ghosts W} (a : Attempt) (old : SimBus W g) (result : Result Outcome BusFault) (new : SimBus W g) : Type 0 where
-  pub limit : result ≡ Err LimitReached → (world_of new ≡ after (attempt a) (world_of old)) × (writer_of new ≡ writer_of old)
+-- an attempt that was refused at the limit left the trace as it was, and one behind a fault left all
+pub record RefusesAttempt {T : Type 0} {g : Ghosts T} (a : Attempt) (old : SimBus T g) (result : Result Outcome BusFault) (new : SimBus T g) : Type 0 where
+  pub limit : result ≡ Err LimitReached → (world_of new ≡ after (attempt a) (world_of old)) × (tracer_of new ≡ tracer_of old)
   pub again : IsSome (world_of old).fault → new ≡ old

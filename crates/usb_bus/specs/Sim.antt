@@ -1,14 +1,14 @@
--- The world that a simulated bus stands for, its writer and its trace.
+-- The world that a simulated bus stands for, what has the lines of its trace, and their text.
 use Rattle.std.specs.Prelude.{ℕ, List, Option}
-use Rattle.std.specs.declared.io.Write.{Ghosts}
+use Rattle.usb_bus.specs.declared.tracer.Trace.{Ghosts}
+use Rattle.usb_bus.specs.declared.tracer.Tracer.{Tracer}
 use Rattle.usb_device.specs.Tree.{Plugged, device_there}
 use Rattle.usb_bus.specs.declared.watched.Watched.{Watched}
 use Rattle.usb_bus.specs.declared.sim.SimBus.{SimBus}
 use Rattle.usb_bus.specs.Tracer.{writer_in}
-use Rattle.usb_bus.specs.Watch.{inner_of}
 use Rattle.usb_world.specs.World.{World}
 
-abbrev pub world_of : {W : Type 0} {g : Ghosts W} → SimBus W g → World
+abbrev pub world_of : {T : Type 0} {g : Ghosts T} → SimBus T g → World
 world_of s = record {
   roots = s.roots;
   devices = s.devices.items;
@@ -23,15 +23,20 @@ world_of s = record {
   fault = s.fault;
 }
 
-abbrev pub writer_of : {W : Type 0} {g : Ghosts W} → SimBus W g → Watched W
-writer_of s = writer_in s.tracer
+-- what the lines of the trace go to
+abbrev pub tracer_of : {T : Type 0} {g : Ghosts T} → SimBus T g → T
+tracer_of s = s.tracer
+
+-- the writer of a bus that is traced
+abbrev pub writer_of : {W : Type 0} {g : Ghosts (Tracer W)} → SimBus (Tracer W) g → Watched W
+writer_of s = writer_in (tracer_of s)
 
 -- the text of the trace, where it is known
-abbrev pub trace_of : {W : Type 0} {g : Ghosts W} → SimBus W g → Option (List ℕ)
-trace_of {W} {g} s = g.contents (inner_of (writer_of s))
+abbrev pub trace_of : {T : Type 0} {g : Ghosts T} → SimBus T g → Option (List ℕ)
+trace_of {T} {g} s = g.text (tracer_of s)
 
 -- the device at a path
-abbrev pub device_at : {W : Type 0} {g : Ghosts W} → SimBus W g → List ℕ → Option Plugged
+abbrev pub device_at : {T : Type 0} {g : Ghosts T} → SimBus T g → List ℕ → Option Plugged
 device_at s path = device_there s.roots path
 
 -- a device's address and configuration

@@ -1,7 +1,6 @@
--- The writer that a tracer has.
-use Rattle.std.specs.declared.io.Write.{Ghosts}
+-- The writer that the lines of a trace go to.
 use Rattle.usb_bus.specs.declared.watched.Watched.{Watched}
 use Rattle.usb_bus.specs.declared.tracer.Tracer.{Tracer}
 
-abbrev pub writer_in : {W : Type 0} {g : Ghosts W} → Tracer W g → Watched W
+abbrev pub writer_in : {W : Type 0} → Tracer W → Watched W
 writer_in t = t.writer

@@ -27,12 +27,16 @@ pub record AppendsFront (old new : Option (List ℕ)) (piece : List ℕ) : Type 
   pub split : piece ≡ gone ++ rest
   pub appended : Appends old new gone
 
--- a call wrote a text: all of it has gone out, or a front of it where the writer failed in the call
-pub record PutsText {W A E : Type 0} (contents : W → Option (List ℕ)) (old : Watched W) (result : Result A E) (new : Watched W) (text : List ℕ) : Type 0 where
-  pub front : AppendsFront (contents (inner_of old)) (contents (inner_of new)) text
-  pub ok : OnOk result (Appends (contents (inner_of old)) (contents (inner_of new)) text)
-  pub unmarked : OnOk result (has_failed new ≡ has_failed old)
-  pub marked : OnErr result (has_failed new ≡ true)
+-- the bytes that a watched writer has, where they are known
+abbrev pub known_text : {W : Type 0} → (W → Option (List ℕ)) → Watched W → Option (List ℕ)
+known_text contents w = contents (inner_of w)
+
+-- a call put a text: all of it has gone out, or a front of it where that failed in the call
+pub record PutsText {T A E : Type 0} (text : T → Option (List ℕ)) (failed : T → Bool) (old : T) (result : Result A E) (new : T) (put : List ℕ) : Type 0 where
+  pub front : AppendsFront (text old) (text new) put
+  pub ok : OnOk result (Appends (text old) (text new) put)
+  pub unmarked : OnOk result (failed new ≡ failed old)
+  pub marked : OnErr result (failed new ≡ true)
 
 -- how a call ends that writes a text: all of it has gone out, or a front of it where the writer failed
 abbrev pub WritesText : {A : Type 0} → Result A BusFault → Option (List ℕ) → Option (List ℕ) → List ℕ → Type 0

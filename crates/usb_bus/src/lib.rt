@@ -2,14 +2,18 @@
 #![tactic(auto)]
 
 mod bus;
+mod laws;
 mod sim;
 mod trace;
 mod tracer;
 mod watched;
 
 pub use bus::Bus;
+pub use laws::{trace_fault, untraced_fault};
 pub use sim::SimBus;
+pub use tracer::{Trace, Tracer, Untraced};
 pub use usb_world::{
-    Action, Attempt, BusFault, Damage, Damages, Due, Event, Events, Harm, Outcome, Plan, SentBytes,
+    Action, Attempt, BusFault, Damage, Damages, Due, Event, Events, Exchange, Harm, Outcome, Plan,
+    SentBytes,
 };
 pub use watched::{Watched, WriteFailed, put_piece};

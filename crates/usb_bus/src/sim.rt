@@ -11,16 +11,14 @@ ghost use Rattle.usb_world.specs.AttemptPackets.{IsSettled};
 ghost use Rattle.usb_world.specs.SanePorts.{IsSane};
 ghost use Rattle.usb_world.specs.SaneProofs.{IsSane-prop, IsSpec-prop, all_prop};
 ghost use Rattle.usb_world.specs.Steps.{opening};
-ghost use Rattle.usb_bus.specs.Tracer.{writer_in};
-ghost use Rattle.usb_bus.specs.Watch.{inner_of, has_failed, tells_failure};
+ghost use Rattle.usb_bus.specs.Watch.{has_failed, tells_failure};
 ghost use Rattle.usb_world.specs.declared.types.BusFault.TheVariants.{LimitReached};
 
 mod bus;
 mod events;
 mod lines;
 
-use crate::tracer::Tracer;
-use crate::{BusFault, Damage, Event, Plan, Watched};
+use crate::{BusFault, Damage, Event, Plan, Trace, Tracer, Untraced, Watched};
 use std::alloc::{AllocError, Global};
 use std::collections::VecDeque;
 use std::io::Write;
@@ -28,12 +26,13 @@ use usb_device::{DeviceSpec, Ports};
 use usb_port::PortPath;
 use usb_world::{Exchange, Hints, Losses, event_copies};
 
-/// A bus that a plan describes. Each attempt, plug and unplug is a line of the trace, which goes to a writer at once.
+/// A bus that a plan describes. Each attempt, plug and unplug is a line of the trace, which goes to a writer at once
+/// where the bus is `Tracer`.
 ///
-/// After a fault every later attempt, event and line of report tells the same fault again and changes nothing. The writer
-/// has failed exactly where `TraceFailed` was told.
+/// After a fault every later attempt, event and line of report tells the same fault again and changes nothing. Its trace
+/// has failed exactly where `TraceFailed` was told; so that is never told of a bus that is `Untraced`.
 #[derive(Drop)]
-pub struct SimBus<W: Write> {
+pub struct SimBus<T: Trace> {
     alloc: Global,
     roots: Ports,
     devices: Vec<DeviceSpec>,
@@ -50,7 +49,7 @@ pub struct SimBus<W: Write> {
     /// At some attempt two reachable devices held one address.
     shared: bool,
     fault: Option<BusFault>,
-    tracer: Tracer<W>,
+    tracer: T,
     /// Where devices were found, by address.
     hints: Hints,
     /// No two reachable devices hold one address, as far as is known.
@@ -70,7 +69,7 @@ pub struct SimBus<W: Write> {
     ghost few_damages: { length damages.items ≤ damage_most },
     ghost lost: { AreOfDamages attempts damages.items losses },
     ghost at_limit: { fault ≡ Some LimitReached → attempts ≡ limit },
-    ghost marked: { has_failed (writer_in tracer) ≡ tells_failure fault },
+    ghost marked: { T.failed tracer ≡ tells_failure fault },
     ghost lone: { single ≡ true → is_twice (held roots) ≡ false },
 }
 
@@ -84,8 +83,8 @@ struct Stage {
     damages: Vec<Damage>,
 }
 
-impl<W: Write> SimBus<W> {
-    ghost use Rattle.usb_bus.specs.Sim.{world_of, writer_of, device_at, registers_of};
+impl<W: Write> SimBus<Tracer<W>> {
+    ghost use Rattle.usb_bus.specs.Sim.{world_of, writer_of};
 
     /// The bus of a plan, before anything came: all ports are off. The writer has not failed yet.
     ///
@@ -96,48 +95,55 @@ impl<W: Write> SimBus<W> {
         alloc: Global,
         plan: &Plan,
         writer: Watched<W>,
-    ) -> Result<SimBus<W>, (AllocError, Watched<W>)>
+    ) -> Result<SimBus<Tracer<W>>, (AllocError, Watched<W>)>
         requires unfailed { has_failed writer ≡ false }
         ensures world { IfOk result (λ bus. world_of bus ≡ opening plan.now) }
         ensures writer { IfOk result (λ bus. writer_of bus ≡ writer) }
         ensures back { IfErr result (λ e. e.1 ≡ writer) }
     {
-        SimBus::with_tracer(alloc, plan, Tracer::new(writer))
+        match SimBus::with_tracer(alloc, plan, Tracer::new(writer)) {
+            Ok(bus) => Ok(bus),
+            Err((error, tracer)) => Err((error, tracer.into_writer())),
+        }
     }
 
-    /// The same bus, which makes no line of its trace: for a writer of which nothing is known, as `io::sink()`. It leaves
-    /// the writer as it is, and never tells `TraceFailed`.
+    /// Hands the writer back. It has failed exactly where this is the fault that was told.
+    pub fn into_writer(self) -> Watched<W>
+        ensures writer { result ≡ writer_of self }
+        ensures failed { has_failed result ≡ tells_failure (world_of self).fault }
+    {
+        let SimBus { tracer, .. } = self;
+        tracer.into_writer()
+    }
+}
+
+impl SimBus<Untraced> {
+    ghost use Rattle.usb_bus.specs.Sim.{world_of};
+
+    /// The same bus, which makes no line of its trace.
     ///
     /// # Errors
     ///
-    /// Memory is refused; the writer is handed back.
-    pub fn untraced(
-        alloc: Global,
-        plan: &Plan,
-        writer: Watched<W>,
-    ) -> Result<SimBus<W>, (AllocError, Watched<W>)>
-        requires unfailed { has_failed writer ≡ false }
-        requires unknown { W.contents (inner_of writer) ≡ None }
-        ensures world { IfOk result (λ bus. world_of bus ≡ opening plan.now) }
-        ensures writer { IfOk result (λ bus. writer_of bus ≡ writer) }
-        ensures back { IfErr result (λ e. e.1 ≡ writer) }
+    /// Memory is refused.
+    pub fn untraced(alloc: Global, plan: &Plan) -> Result<SimBus<Untraced>, AllocError>
+        ensures { IfOk result (λ bus. world_of bus ≡ opening plan.now) }
     {
-        SimBus::with_tracer(alloc, plan, Tracer::silent(writer))
+        SimBus::with_tracer(alloc, plan, Untraced).map_err(|(error, _)| error)
     }
+}
+
+impl<T: Trace> SimBus<T> {
+    ghost use Rattle.usb_bus.specs.Sim.{world_of, tracer_of, device_at, registers_of};
 
     #[tactic(auto, using(usb_world::proofs::Interface::no_losses_yet))]
-    fn with_tracer(
-        alloc: Global,
-        plan: &Plan,
-        tracer: Tracer<W>,
-    ) -> Result<SimBus<W>, (AllocError, Watched<W>)>
-        requires unfailed { has_failed (writer_in tracer) ≡ false }
+    fn with_tracer(alloc: Global, plan: &Plan, tracer: T) -> Result<SimBus<T>, (AllocError, T)>
+        requires unfailed { T.failed tracer ≡ false }
         ensures world { IfOk result (λ bus. world_of bus ≡ opening plan.now) }
-        ensures writer { IfOk result (λ bus. writer_of bus ≡ writer_in tracer) }
-        ensures back { IfErr result (λ e. e.1 ≡ writer_in tracer) }
+        ensures tracer { IfOk result (λ bus. tracer_of bus ≡ tracer) }
+        ensures back { IfErr result (λ e. e.1 ≡ tracer) }
     {
         match staged(alloc, plan) {
-            Err(error) => Err((error, tracer.into_writer())),
+            Err(error) => Err((error, tracer)),
             Ok(stage) => Ok(SimBus {
                 alloc,
                 roots: stage.roots,
@@ -157,15 +163,6 @@ impl<W: Write> SimBus<W> {
                 exchange: Exchange::blank(),
             }),
         }
-    }
-
-    /// Hands the writer back. It has failed exactly where this is the fault that was told.
-    pub fn into_writer(self) -> Watched<W>
-        ensures writer { result ≡ writer_of self }
-        ensures failed { has_failed result ≡ tells_failure (world_of self).fault }
-    {
-        let SimBus { tracer, .. } = self;
-        tracer.into_writer()
     }
 
     /// How many events came.

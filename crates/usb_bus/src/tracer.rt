@@ -1,7 +1,7 @@
-//! The writer of a trace, or of none.
-ghost use Rattle.std.specs.Prelude.{◌≡◌, [], ◌∷◌, ◌++◌, true, flat_map, IsTrue, None};
+//! What becomes of the lines of a trace: a writer has them, or none is made.
+ghost use Rattle.std.specs.Prelude.{◌≡◌, ℕ, List, Option, Bool, [], ◌∷◌, ◌++◌, false, flat_map, None};
 ghost use Rattle.usb_bus.specs.Trace.{attempt_line};
-ghost use Rattle.usb_bus.specs.Watch.{inner_of, PutsText};
+ghost use Rattle.usb_bus.specs.Watch.{has_failed, known_text, PutsText};
 
 use crate::trace::{Line, push_attempt};
 use crate::watched::put_pieces;
@@ -9,17 +9,47 @@ use crate::{Watched, WriteFailed, put_piece};
 use std::io::Write;
 use usb_world::Exchange;
 
-/// The writer of a trace. A silent one is handed no line: nothing is known of what its writer has.
+/// What a simulated bus hands the lines of its trace to.
+pub trait Trace {
+    /// The text that it has, where that is known.
+    ghost text: { Self → Option (List ℕ) };
+
+    /// Whether it has failed.
+    ghost failed: { Self → Bool };
+
+    /// Takes the line of an attempt.
+    ///
+    /// # Errors
+    ///
+    /// It failed in this call, and has a front of the line.
+    fn put_attempt(
+        &mut self,
+        number: u64,
+        pre: bool,
+        exchange: &Exchange,
+    ) -> Result<(), WriteFailed>
+        ensures { PutsText text failed self.old result self.new
+            (attempt_line number pre exchange.now ++ 10 ∷ []) };
+
+    /// Takes a line that is of several pieces.
+    ///
+    /// # Errors
+    ///
+    /// It failed in this call, and has a front of the line.
+    fn put_pieces(&mut self, pieces: &[&[u8]]) -> Result<(), WriteFailed>
+        ensures { PutsText text failed self.old result self.new
+            (flat_map (λ p. p.now) pieces.now) };
+}
+
+/// A writer that has the lines.
 #[derive(Drop)]
-pub(crate) struct Tracer<W: Write> {
+pub struct Tracer<W> {
     writer: Watched<W>,
     /// The line of the last attempt, whose room is used again.
     line: Line,
-    silent: bool,
-    ghost unknown: { silent ≡ true → W.contents (inner_of writer) ≡ None },
 }
 
-impl<W: Write> Tracer<W> {
+impl<W> Tracer<W> {
     ghost use Rattle.usb_bus.specs.Tracer.{writer_in};
 
     /// Lines go to this writer.
@@ -29,27 +59,7 @@ impl<W: Write> Tracer<W> {
         Tracer {
             writer,
             line: Line::new(),
-            silent: false,
         }
-    }
-
-    /// No line is made, and the writer stays as it is.
-    pub(crate) fn silent(writer: Watched<W>) -> Self
-        requires { W.contents (inner_of writer) ≡ None }
-        ensures { writer_in result ≡ writer }
-    {
-        Tracer {
-            writer,
-            line: Line::new(),
-            silent: true,
-        }
-    }
-
-    /// Whether no line is to be made.
-    pub(crate) fn is_silent(&self) -> bool
-        ensures { IsTrue result → W.contents (inner_of (writer_in self.now)) ≡ None }
-    {
-        self.silent
     }
 
     /// Gives the writer back.
@@ -59,33 +69,51 @@ impl<W: Write> Tracer<W> {
         let Tracer { writer, .. } = self;
         writer
     }
+}
 
-    /// Writes the line of an attempt.
-    #[tactic(auto, using(crate::proofs::Fronts::puts_unknown))]
-    pub(crate) fn put_attempt(
+impl<W: Write> Trace for Tracer<W> {
+    ghost use Rattle.usb_bus.specs.Tracer.{writer_in};
+
+    ghost text = { λ t. known_text W.contents (writer_in t) };
+
+    ghost failed = { λ t. has_failed (writer_in t) };
+
+    fn put_attempt(
         &mut self,
         number: u64,
         pre: bool,
         exchange: &Exchange,
-    ) -> Result<(), WriteFailed>
-        ensures { PutsText W.contents (writer_in self.old) result (writer_in self.new)
-            (attempt_line number pre exchange.now ++ 10 ∷ []) }
-    {
-        if self.silent {
-            return Ok(());
-        }
+    ) -> Result<(), WriteFailed> {
         put_attempt(&mut self.writer, &mut self.line, number, pre, exchange)
     }
 
-    /// Writes a line that is of several pieces.
-    pub(crate) fn put_pieces(&mut self, pieces: &[&[u8]]) -> Result<(), WriteFailed>
-        ensures { PutsText W.contents (writer_in self.old) result (writer_in self.new)
-            (flat_map (λ p. p.now) pieces.now) }
-    {
-        if self.silent {
-            return Ok(());
-        }
+    fn put_pieces(&mut self, pieces: &[&[u8]]) -> Result<(), WriteFailed> {
         put_pieces(&mut self.writer, pieces)
+    }
+}
+
+/// No line is made, so none can fail; nothing is known of the text.
+#[derive(Clone, Copy, Debug, PartialEq, Eq)]
+pub struct Untraced;
+
+impl Trace for Untraced {
+    ghost text = { λ _. None };
+
+    ghost failed = { λ _. false };
+
+    #[tactic(auto, using(crate::proofs::Fronts::puts_unknown))]
+    fn put_attempt(
+        &mut self,
+        _number: u64,
+        _pre: bool,
+        _exchange: &Exchange,
+    ) -> Result<(), WriteFailed> {
+        Ok(())
+    }
+
+    #[tactic(auto, using(crate::proofs::Fronts::puts_unknown))]
+    fn put_pieces(&mut self, _pieces: &[&[u8]]) -> Result<(), WriteFailed> {
+        Ok(())
     }
 }
 
@@ -97,7 +125,7 @@ fn put_attempt<W: Write>(
     pre: bool,
     exchange: &Exchange,
 ) -> Result<(), WriteFailed>
-    ensures { PutsText W.contents writer.old result writer.new
+    ensures { PutsText (known_text W.contents) has_failed writer.old result writer.new
         (attempt_line number pre exchange.now ++ 10 ∷ []) }
 {
     line.clear();

@@ -1,8 +1,8 @@
 //! A reader or writer with a mark that tells whether it has failed.
-ghost use Rattle.std.specs.Prelude.{◌≡◌, ◌+◌, ◌≤◌, ◌||◌, false, true, flat_map, is_err, OnOk, OnErr, IfSome};
+ghost use Rattle.std.specs.Prelude.{◌≡◌, ◌+◌, ◌-◌, ◌^◌, ◌||◌, min, false, true, flat_map, is_err, OnOk, OnErr, IfSome};
 ghost use Rattle.std.specs.Io.{ReadsAtMost, WritesAtMost};
 ghost use Rattle.std.specs.Io.KnownBytes.{Keeps, Appends, ReadConsumes, WriteAppends};
-ghost use Rattle.usb_bus.specs.Watch.{inner_of, has_failed, calls_of, write_fails, AppendsFront, PutsText};
+ghost use Rattle.usb_bus.specs.Watch.{inner_of, has_failed, calls_of, known_text, write_fails, AppendsFront, PutsText};
 ghost use Rattle.usb_world.specs.declared.types.BusFault.TheVariants.{TraceFailed as trace_failed};
 
 use arrayvec::ArrayVec;
@@ -74,7 +74,7 @@ impl<T: Read> Read for Watched<T> {
         ensures bytes { ReadConsumes (T.remaining (inner_of self.old))
             (T.remaining (inner_of self.new)) result buf.new }
         ensures mark { has_failed self.new ≡ (has_failed self.old || is_err result) }
-        ensures calls { calls_of self.new ≤ calls_of self.old + 1 }
+        ensures calls { calls_of self.new ≡ min (calls_of self.old + 1) (2 ^ 64 - 1) }
     {
         self.calls = self.calls.saturating_add(1);
         let result = self.inner.read(buf);
@@ -93,7 +93,7 @@ impl<T: Write> Write for Watched<T> {
         ensures bytes { WriteAppends (T.contents (inner_of self.old))
             (T.contents (inner_of self.new)) result buf.now }
         ensures mark { has_failed self.new ≡ (has_failed self.old || write_fails result buf.now) }
-        ensures calls { calls_of self.new ≤ calls_of self.old + 1 }
+        ensures calls { calls_of self.new ≡ min (calls_of self.old + 1) (2 ^ 64 - 1) }
     {
         self.calls = self.calls.saturating_add(1);
         let result = self.inner.write(buf);
@@ -110,6 +110,7 @@ impl<T: Write> Write for Watched<T> {
     fn flush(&mut self) -> io::Result<()>
         ensures bytes { Keeps (T.contents (inner_of self.old)) (T.contents (inner_of self.new)) }
         ensures mark { has_failed self.new ≡ has_failed self.old }
+        ensures calls { calls_of self.new ≡ calls_of self.old }
     {
         self.inner.flush()
     }
@@ -162,7 +163,8 @@ pub(crate) fn put_pieces<W: Write>(
     writer: &mut Watched<W>,
     pieces: &[&[u8]],
 ) -> Result<(), WriteFailed>
-    ensures { PutsText W.contents writer.old result writer.new (flat_map (λ p. p.now) pieces.now) }
+    ensures { PutsText (known_text W.contents) has_failed writer.old result writer.new
+        (flat_map (λ p. p.now) pieces.now) }
 {
     match joined(pieces) {
         Some(line) => put_piece(writer, line.as_slice()),
@@ -186,7 +188,8 @@ fn joined(pieces: &[&[u8]]) -> Option<ArrayVec<u8, LINE_ROOM>>
 /// Writes one piece after the other.
 #[tactic(auto, using(crate::proofs::Fronts::first_front))]
 fn put_each<W: Write>(writer: &mut Watched<W>, pieces: &[&[u8]]) -> Result<(), WriteFailed>
-    ensures { PutsText W.contents writer.old result writer.new (flat_map (λ p. p.now) pieces.now) }
+    ensures { PutsText (known_text W.contents) has_failed writer.old result writer.new
+        (flat_map (λ p. p.now) pieces.now) }
 {
     let Some((piece, rest)) = pieces.split_first() else {
         return Ok(());

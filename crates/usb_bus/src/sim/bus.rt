@@ -9,19 +9,17 @@ ghost use Rattle.usb_world.specs.Steps.{AttemptFails, SetsRoot, ClearsRoot, afte
 ghost use Rattle.usb_world.specs.AttemptPackets.{IsSettled};
 ghost use Rattle.usb_world.specs.SanePorts.{IsSane};
 ghost use Rattle.usb_bus.specs.Traces.{Attempts};
-ghost use Rattle.usb_bus.specs.Watch.{has_failed};
 ghost use Rattle.usb_world.specs.declared.types.BusFault.TheVariants.{TraceFailed};
 
 use super::SimBus;
-use crate::{Attempt, Bus, BusFault, Outcome};
-use std::io::Write;
+use crate::{Attempt, Bus, BusFault, Outcome, Trace};
 use usb_device::Ports;
 use usb_port::PortCall;
 use usb_world::{damage_of, make_exchange_by, outcome_of};
 
-impl<W: Write> Bus for SimBus<W> {
+impl<T: Trace> Bus for SimBus<T> {
     ghost use Rattle.usb_bus.specs.Parts.{RefusesAttempt};
-    ghost use Rattle.usb_bus.specs.Sim.{world_of, writer_of, trace_of};
+    ghost use Rattle.usb_bus.specs.Sim.{world_of, tracer_of, trace_of};
 
     ghost world = { world_of };
 
@@ -34,7 +32,7 @@ impl<W: Write> Bus for SimBus<W> {
         ensures settled { IsSettled (world_of self.old).roots }
         ensures sane { (world_of self.old).fault ≡ None → IsSane (world_of self.old).roots }
         ensures trace { result ≡ Err TraceFailed → (world_of self.old).fault ≡ None
-            → has_failed (writer_of self.new) ≡ true }
+            → T.failed (tracer_of self.new) ≡ true }
         ensures refuses { RefusesAttempt attempt.now self.old result self.new }
     {
         if let Some(fault) = self.fault {
@@ -71,15 +69,15 @@ impl<W: Write> Bus for SimBus<W> {
     }
 }
 
-impl<W: Write> SimBus<W> {
+impl<T: Trace> SimBus<T> {
     ghost use Rattle.usb_bus.specs.Parts.{AttemptMade};
-    ghost use Rattle.usb_bus.specs.Sim.{world_of, writer_of, trace_of};
+    ghost use Rattle.usb_bus.specs.Sim.{world_of, tracer_of, trace_of};
 
     /// A call at a root port.
     #[tactic(auto, unfolding(usb_world::specs::Steps::after))]
     fn call_root(&mut self, port: u8, call: PortCall)
         ensures world { world_of self.new ≡ after (root_call call port) (world_of self.old) }
-        ensures writer { writer_of self.new ≡ writer_of self.old }
+        ensures tracer { tracer_of self.new ≡ tracer_of self.old }
     {
         self.single = false;
         self.roots.call(port, call);
@@ -94,7 +92,7 @@ impl<W: Write> SimBus<W> {
         requires within { (world_of self.old).attempts < (world_of self.old).limit }
         ensures made { AttemptMade attempt.now (world_of self.old) (trace_of self.old) result
             (world_of self.new) (trace_of self.new) }
-        ensures trace { result ≡ Err TraceFailed → has_failed (writer_of self.new) ≡ true }
+        ensures trace { result ≡ Err TraceFailed → T.failed (tracer_of self.new) ≡ true }
     {
         self.take_due_events()?;
         let shared = is_shared(&self.roots, self.single);

@@ -7,20 +7,17 @@ ghost use Rattle.usb_world.specs.PlanData.{can_be_done};
 ghost use Rattle.usb_bus.specs.Lines.{action_line};
 ghost use Rattle.usb_bus.specs.Trace.{plug_line, unplug_line};
 ghost use Rattle.usb_bus.specs.Traces.{TakesEvent};
-ghost use Rattle.usb_bus.specs.Tracer.{writer_in};
-ghost use Rattle.usb_bus.specs.Watch.{has_failed, PutsText};
+ghost use Rattle.usb_bus.specs.Watch.{PutsText};
 ghost use Rattle.usb_world.specs.declared.types.BusFault.TheVariants.{Memory, TraceFailed};
 
 use super::SimBus;
-use crate::tracer::Tracer;
-use crate::{Action, BusFault, Due, WriteFailed};
+use crate::{Action, BusFault, Due, Trace, WriteFailed};
 use std::alloc::{AllocError, Global};
-use std::io::Write;
 use usb_device::{Device, DeviceSpec, Ports};
 use usb_port::PortPath;
 
-impl<W: Write> SimBus<W> {
-    ghost use Rattle.usb_bus.specs.Sim.{world_of, writer_of, trace_of};
+impl<T: Trace> SimBus<T> {
+    ghost use Rattle.usb_bus.specs.Sim.{world_of, tracer_of, trace_of};
     ghost use Rattle.usb_bus.specs.Parts.{OneEventCame, EventsCame};
 
     /// Lets the next event come at once, however many attempts it would wait for, and tells what it asks; None
@@ -34,8 +31,8 @@ impl<W: Write> SimBus<W> {
         ensures takes { TakesEvent (world_of self.old) (trace_of self.old) result
             (world_of self.new) (trace_of self.new) }
         ensures trace { result ≡ Err TraceFailed → (world_of self.old).fault ≡ None
-            → has_failed (writer_of self.new) ≡ true }
-        ensures kept { result ≡ Err Memory → writer_of self.new ≡ writer_of self.old }
+            → T.failed (tracer_of self.new) ≡ true }
+        ensures kept { result ≡ Err Memory → tracer_of self.new ≡ tracer_of self.old }
         ensures again { IsSome (world_of self.old).fault → self.new ≡ self.old }
     {
         if let Some(fault) = self.fault {
@@ -49,7 +46,7 @@ impl<W: Write> SimBus<W> {
         requires sound { (world_of self.old).fault ≡ None }
         ensures came { EventsCame (world_of self.old) (trace_of self.old) result
             (world_of self.new) (trace_of self.new) }
-        ensures trace { result ≡ Err TraceFailed → has_failed (writer_of self.new) ≡ true }
+        ensures trace { result ≡ Err TraceFailed → T.failed (tracer_of self.new) ≡ true }
     {
         'due: while self.is_due() {
             let _ = self.take_event()?;
@@ -79,8 +76,8 @@ impl<W: Write> SimBus<W> {
             (world_of self.new) (trace_of self.new) }
         ensures fewer { 0 < to_come (world_of self.old)
             → OnOk result (to_come (world_of self.new) < to_come (world_of self.old)) }
-        ensures kept { result ≡ Err Memory → writer_of self.new ≡ writer_of self.old }
-        ensures trace { result ≡ Err TraceFailed → has_failed (writer_of self.new) ≡ true }
+        ensures kept { result ≡ Err Memory → tracer_of self.new ≡ tracer_of self.old }
+        ensures trace { result ≡ Err TraceFailed → T.failed (tracer_of self.new) ≡ true }
     {
         let Some(event) = self.left.front() else {
             return Ok(None);
@@ -143,19 +140,16 @@ fn plug(
 }
 
 /// The line of an event.
-#[tactic(auto, unfolding(crate::specs::Lines::action_line), using(crate::proofs::Fronts::puts_unknown, crate::proofs::Fronts::puts_none))]
-fn put_action<W: Write>(
-    tracer: &mut Tracer<W>,
+#[tactic(auto, unfolding(crate::specs::Lines::action_line), using(crate::proofs::Fronts::puts_none))]
+fn put_action<T: Trace>(
+    tracer: &mut T,
     devices: &[DeviceSpec],
     action: &Action,
 ) -> Result<(), WriteFailed>
     requires { can_be_done (length devices.now) action.now ≡ true }
-    ensures { PutsText W.contents (writer_in tracer.old) result (writer_in tracer.new)
+    ensures { PutsText T.text T.failed tracer.old result tracer.new
         (action_line action.now devices.now) }
 {
-    if tracer.is_silent() {
-        return Ok(());
-    }
     match action {
         Action::Plug(path, device) => put_plug(tracer, path, devices[*device].name()),
         Action::Unplug(path) => put_unplug(tracer, path),
@@ -167,12 +161,8 @@ fn put_action<W: Write>(
 }
 
 /// The line of a plug.
-fn put_plug<W: Write>(
-    tracer: &mut Tracer<W>,
-    path: &PortPath,
-    name: &str,
-) -> Result<(), WriteFailed>
-    ensures { PutsText W.contents (writer_in tracer.old) result (writer_in tracer.new)
+fn put_plug<T: Trace>(tracer: &mut T, path: &PortPath, name: &str) -> Result<(), WriteFailed>
+    ensures { PutsText T.text T.failed tracer.old result tracer.new
         (plug_line path.now name.now ++ 10 ∷ []) }
 {
     tracer.put_pieces(&[
@@ -185,8 +175,8 @@ fn put_plug<W: Write>(
 }
 
 /// The line of an unplug.
-fn put_unplug<W: Write>(tracer: &mut Tracer<W>, path: &PortPath) -> Result<(), WriteFailed>
-    ensures { PutsText W.contents (writer_in tracer.old) result (writer_in tracer.new)
+fn put_unplug<T: Trace>(tracer: &mut T, path: &PortPath) -> Result<(), WriteFailed>
+    ensures { PutsText T.text T.failed tracer.old result tracer.new
         (unplug_line path.now ++ 10 ∷ []) }
 {
     tracer.put_pieces(&[b"unplug ", path.text().as_str().as_bytes(), b"\n"])

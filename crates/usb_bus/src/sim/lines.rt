@@ -2,14 +2,13 @@
 ghost use Rattle.std.specs.Prelude.{◌≡◌, [], ◌∷◌, ◌++◌, true, IsSome, OnOk, OnErr};
 ghost use Rattle.std.specs.Io.KnownBytes.{Appends};
 ghost use Rattle.usb_world.specs.Steps.{PutLine};
-ghost use Rattle.usb_bus.specs.Watch.{has_failed, AppendsFront};
+ghost use Rattle.usb_bus.specs.Watch.{AppendsFront};
 
 use super::SimBus;
-use crate::BusFault;
-use std::io::Write;
+use crate::{BusFault, Trace};
 
-impl<W: Write> SimBus<W> {
-    ghost use Rattle.usb_bus.specs.Sim.{world_of, writer_of, trace_of};
+impl<T: Trace> SimBus<T> {
+    ghost use Rattle.usb_bus.specs.Sim.{world_of, tracer_of, trace_of};
 
     /// Writes a line of report, given without its newline. It takes no memory.
     ///
@@ -25,7 +24,7 @@ impl<W: Write> SimBus<W> {
             (line.now ++ 10 ∷ [])) }
         ensures again { IsSome (world_of self.old).fault → self.new ≡ self.old }
         ensures trace { (world_of self.old).fault ≡ None
-            → OnErr result (has_failed (writer_of self.new) ≡ true) }
+            → OnErr result (T.failed (tracer_of self.new) ≡ true) }
     {
         if let Some(fault) = self.fault {
             return Err(fault);
