@@ -1,6 +1,6 @@
 -- What a clear of a halt leaves of each device, why it fails, and the record of a call.
 use Rattle.usb_device.specs.Tree.{Spot}
-use Rattle.std.proofs.Common.{◌≡◌, ◌≢◌, ◌⊎◌, inl, inr, ◌∙◌, refl, sym, ap, arith, false, true, Bool, ℕ, ◌+◌, ◌*◌, ◌/◌, ◌%◌, ◌<◌, ◌==◌, List, [], ◌∷◌, Option, None, Some, Result, Ok, Err, MatchResult}
+use Rattle.std.proofs.Common.{◌≡◌, ◌≢◌, ◌⊎◌, inl, inr, ◌∙◌, refl, sym, ap, subst, arith, false, true, Bool, ℕ, ◌+◌, ◌*◌, ◌/◌, ◌%◌, ◌<◌, ◌==◌, List, [], ◌∷◌, Option, None, Some, Result, Ok, Err, OnOk, MatchResult}
 use Rattle.std.specs.Prelude.{⊤}
 use Rattle.std.proofs.lemmas.Bool.Decides.{nat_tests}
 use Rattle.usb_descriptor.specs.declared.fault.DescriptorFault.{DescriptorFault}
@@ -17,13 +17,17 @@ use Rattle.usb_device.specs.Spec.{Spec}
 use Rattle.usb_device.specs.Bulk.{rested, bulk_at, is_end, served}
 use Rattle.usb_device.specs.Request.{outcome, unhalts, on_endpoint}
 use Rattle.usb_device.specs.Transfer.{first_stage, ending}
-use Rattle.usb_device.specs.Rows.{State, bulk_of, with_endpoint_state, accepted}
+use Rattle.usb_device.specs.declared.bulk.EndpointState.{EndpointState}
+use Rattle.usb_device.specs.declared.bulk.ServedEndpoint.TheVariants.{Changes}
+use Rattle.usb_device.specs.Rows.{State, bulk_of, endpoint_state, with_endpoint_state, accepted}
 use Rattle.usb_device.specs.Progress.{IsSink, IsSource, level, StatusGiven, OnlyControl, OnlyStage}
 use Rattle.usb_world.specs.Courses.{is_harmless}
 use Rattle.usb_world.specs.World.{World}
 use Rattle.usb_world.specs.Devices.{EachWas}
 use Rattle.usb_world.proofs.Interface.{each_none, each_wider}
+use Rattle.usb_transaction.specs.Answerer.{Answerer}
 use Rattle.usb_transaction.specs.Failures.{NoThreeDamaged}
+use Rattle.usb_transaction.specs.Leaves.{is_at}
 use Rattle.usb_transaction.specs.Transactions.{Worked}
 use Rattle.usb_transaction.proofs.Interface.{spared_all}
 use Rattle.usb_pipe.specs.declared.condition.Condition.{Condition}
@@ -33,8 +37,9 @@ use Rattle.usb_pipe.specs.declared.fault.PipeFault.TheVariants as pipe_fault
 use Rattle.usb_pipe.specs.Bulk.{Bulk, is_ready, halt_address, cleared, Cleared, Clears}
 use Rattle.usb_pipe.specs.Control.{FaultAfter}
 use Rattle.usb_pipe.specs.Failures.{WhyWrite}
-use Rattle.usb_pipe.specs.Leaves.{EffectOrNone, none, some, whole, WasRefused, WriteLeaves, FitsSink, FitsSource, ClearLeaves, IsNoBusFault}
-use Rattle.usb_pipe.specs.Transfers.{BulkClear}
+use Rattle.usb_pipe.specs.Leaves.{EffectOrNone, none, some, whole, WasRefused, WriteLeaves, FitsSink, FitsSource, ClearLeaves, IsNoBusFault, OnlyEndpoint}
+use Rattle.usb_pipe.specs.Transfers.{BulkClear, Unshared}
+use Rattle.usb_pipe.proofs.Answerers.{who_writes}
 use Rattle.usb_pipe.proofs.BulkCalls.{clear_by}
 use Rattle.usb_pipe.proofs.ControlSteps.{only_stage}
 use Rattle.usb_pipe.proofs.ControlTransfers.{write_leaves, write_why}
@@ -119,6 +124,25 @@ asks_in pipe s is i = asked s.spec s.registers (halt_address pipe.ep pipe.is_in)
 abbrev OnlyRested : ServedEndpoint → State → State → Type 0
 OnlyRested which s v = OnlyStage (with_endpoint_state s which rested) v
 
+only_kept : (which : ServedEndpoint) (s v : State) → OnlyStage s v → OnlyEndpoint which s v
+only_kept BulkOut s v o = o ∙ ap (λ (e : EndpointState). record s { bulk_out = e; memory = v.memory; naks = v.naks; stage = v.stage }) (sym (ap (λ (x : State). x.bulk_out) o))
+only_kept BulkIn s v o = o ∙ ap (λ (e : EndpointState). record s { bulk_in = e; memory = v.memory; naks = v.naks; stage = v.stage }) (sym (ap (λ (x : State). x.bulk_in) o))
+only_kept Changes s v o = o ∙ ap (λ (e : EndpointState). record s { changes = e; memory = v.memory; naks = v.naks; stage = v.stage }) (sym (ap (λ (x : State). x.changes) o))
+
+only_rested : (which : ServedEndpoint) (s v : State) → OnlyRested which s v → OnlyEndpoint which s v
+only_rested BulkOut s v o = o ∙ ap (λ (e : EndpointState). record s { bulk_out = e; memory = v.memory; naks = v.naks; stage = v.stage }) (sym (ap (λ (x : State). x.bulk_out) o))
+only_rested BulkIn s v o = o ∙ ap (λ (e : EndpointState). record s { bulk_in = e; memory = v.memory; naks = v.naks; stage = v.stage }) (sym (ap (λ (x : State). x.bulk_in) o))
+only_rested Changes s v o = o ∙ ap (λ (e : EndpointState). record s { changes = e; memory = v.memory; naks = v.naks; stage = v.stage }) (sym (ap (λ (x : State). x.changes) o))
+
+only_either : (which : ServedEndpoint) (s v : State) → OnlyStage s v ⊎ OnlyRested which s v → OnlyEndpoint which s v
+only_either which s v (inl o) = only_kept which s v o
+only_either which s v (inr o) = only_rested which s v o
+
+-- a device that was asked, or any other
+only_by : (which : ServedEndpoint) (s v : State) (at : Bool) → (at ≡ false → v ≡ s) → (at ≡ true → OnlyEndpoint which s v) → OnlyEndpoint which s v
+only_by which s v true others asked = asked refl
+only_by which s v false others asked = subst (OnlyEndpoint which s) (sym (others refl)) (only_kept which s s refl)
+
 registers_kept : (which : ServedEndpoint) (s : State) → (with_endpoint_state s which rested).registers ≡ s.registers
 registers_kept which s = grind arith
 
@@ -159,6 +183,12 @@ done_leaves pipe done unready j s v x = record {
       let d = x.done at done refl in
       let o = ended_rests (clear_of pipe) BulkIn s (asks_in pipe s is f.endpoint) d.row d.address v d.is d.given d.rest in
       rw (unready, o) (record { endpoint = record { endpoint = f.endpoint.endpoint; not_zero = f.endpoint.not_zero; alone = f.endpoint.alone }; level = λ r. level refl refl; halted = λ r. cc r }, refl, refl);
+  only_sink = λ out i. only_by BulkOut s v (is_at s pipe.target) x.others (λ at.
+      let d = x.done at done refl in
+      only_rested BulkOut s v (ended_rests (clear_of pipe) BulkOut s (asks_out pipe s out i) d.row d.address v d.is d.given d.rest));
+  only_source = λ is i. only_by BulkIn s v (is_at s pipe.target) x.others (λ at.
+      let d = x.done at done refl in
+      only_rested BulkIn s v (ended_rests (clear_of pipe) BulkIn s (asks_in pipe s is i) d.row d.address v d.is d.given d.rest));
 }
 
 -- one that failed
@@ -183,11 +213,19 @@ failed_leaves pipe why old new ends j s v x = record {
       let is = asks_in pipe s way f.endpoint in
       let told : why ≢ pipe_fault.Stalled = λ e. not_refused (clear_of pipe) BulkIn s is (x.refused at (ap Err e)) in
       grind (arith, ends, failed_source pipe got s v f (failed_rests (clear_of pipe) BulkIn s is v (x.failed why refl)));
+  only_sink = λ out i. only_either BulkOut s v (failed_rests (clear_of pipe) BulkOut s (asks_out pipe s out i) v (x.failed why refl));
+  only_source = λ is i. only_either BulkIn s v (failed_rests (clear_of pipe) BulkIn s (asks_in pipe s is i) v (x.failed why refl));
 }
 
 -- one that makes no request
 ready_leaves : (pipe : Bulk) → is_ready pipe.condition ≡ true → (j : Spot) (s : State) → ClearLeaves pipe (Ok tt) pipe j s s
-ready_leaves pipe ready j s = grind arith
+ready_leaves pipe ready j s = record {
+  others = λ _. refl;
+  sink = λ at out f. rw ready (f, refl, refl);
+  source = λ at is got f. rw ready (f, refl, refl);
+  only_sink = λ out i. only_kept BulkOut s s refl;
+  only_source = λ is i. only_kept BulkIn s s refl;
+}
 
 not_ready : (c : Condition) → c ≢ Ready → is_ready c ≡ false
 not_ready c n = grind arith
@@ -213,5 +251,12 @@ clear_why pipe result left old new three x sound single =
     clear_by (EachWas (WhyWrite pipe.target result) old new) (λ ready i. rw (i.answer, i.world_kept) (each_none _ (λ j s. record { answered = λ l e. cc e; waited = λ l idle few e. cc e }) old))
     (λ unready y. spared_all pipe.target (clear_of pipe) _ old new (harmless _) (write_why pipe.target (clear_of pipe) result old new (no_data _) (same_request _) y.settled three y.stages sound single)) x
 
+clear_who : (pipe : Bulk) (result : Result (Unit {0}) PipeFault) (left : Bulk) (old new : World) → Clears pipe old result left new
+    → OnOk result (pipe.condition ≢ Ready → Unshared new (Answerer pipe.target old new))
+clear_who pipe (Ok done) left old new x = λ unready.
+    let c = x.sent unready in
+    who_writes pipe.target (clear_of pipe) done old new (same_request _) (λ h. cc (sym (harmless (halt_address pipe.ep pipe.is_in)) ∙ h)) c.settled c.stages
+clear_who pipe (Err why) left old new x = tt
+
 pub clear_told : (pipe : Bulk) (result : Result (Unit {0}) PipeFault) (left : Bulk) (old new : World) → Clears pipe old result left new → BulkClear pipe old result left new
-clear_told pipe result left old new x = record { clears = x; what = clear_leaves pipe result left old new x; why = λ three. clear_why pipe result left old new three x }
+clear_told pipe result left old new x = record { clears = x; what = clear_leaves pipe result left old new x; why = λ three. clear_why pipe result left old new three x; who = clear_who pipe result left old new x }

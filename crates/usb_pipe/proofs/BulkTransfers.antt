@@ -28,7 +28,8 @@ use Rattle.usb_transaction.proofs.Interface.{source_at_kept, source_kept, source
 use Rattle.usb_pipe.specs.declared.condition.Condition.TheVariants.{Ready, Halted, Broken}
 use Rattle.usb_pipe.specs.declared.fault.PipeFault.{PipeFault}
 use Rattle.usb_pipe.specs.declared.fault.PipeFault.TheVariants as pipe_fault
-use Rattle.usb_pipe.specs.Bulk.{Bulk, after_fault, MovedOut, Sends, MovedIn, Receives}
+use Rattle.usb_pipe.specs.Bulk.{Bulk, after_fault, after_transfer, MovedOut, Sends, MovedIn, Receives}
+use Rattle.usb_pipe.specs.Packets.{PacketsSent, PacketsReceived}
 use Rattle.usb_pipe.specs.Control.{FaultAfter, as_pipe_fault}
 use Rattle.usb_pipe.specs.End.{packet_target}
 use Rattle.usb_pipe.specs.Failures.{WhySend, WhyReceive}
@@ -407,6 +408,26 @@ module _ (wanted : ℕ) (pipe left : Bulk) (old new : World) (least : 1 ≤ pipe
           (came_leaves (end_of pipe) pipe.ep pipe.toggle least settled g.before (ended_unshared over single))
           (source_why (end_of pipe) pipe.ep (flips g.packets pipe.toggle) (Err g.fault) g.mid new (came_settled g.before settled) (never_three old g.mid (came_damages g.before) three) over single)
       by_end works settled (inr g) = never_received (Err why) x (λ e. cc (g.told, e)) (λ e. cc (g.told, e))
+
+-- A call that moved packets, by what these tell
+
+pub sends_by : (bytes : List ℕ) (pipe : Bulk) (old : World) (result : Result (Unit {0}) PipeFault) (left : Bulk) (new : World) → pipe.condition ≢ Broken → bytes ≢ []
+    → PacketsSent (packet_target pipe.target pipe.max) pipe.ep pipe.toggle bytes old result left.toggle new → left ≡ record pipe { toggle = left.toggle; condition = after_transfer pipe.condition result }
+    → Sends bytes pipe old result left new
+sends_by bytes pipe old result left new works some x is = record {
+  broken = λ e. absurd (works e);
+  nothing = λ w e. absurd (some e);
+  moved = λ w s. record { ends = x.ends; went = x.moves; behind = x.behind; settled = x.settled; room = x.room; pipe_left = is; toggle = x.turned; halted = x.halted };
+}
+
+pub receives_by : (wanted : ℕ) (pipe : Bulk) (old : World) (result : Result (Vec ℕ) PipeFault) (left : Bulk) (new : World) → pipe.condition ≢ Broken → wanted ≢ 0
+    → PacketsReceived (packet_target pipe.target pipe.max) pipe.ep pipe.toggle wanted old result left.toggle new → left ≡ record pipe { toggle = left.toggle; condition = after_transfer pipe.condition result }
+    → Receives wanted pipe old result left new
+receives_by wanted pipe old result left new works some x is = record {
+  broken = λ e. absurd (works e);
+  nothing = λ w e. absurd (some e);
+  moved = λ w s. record { ends = x.ends; came = x.moves; behind = x.behind; settled = x.settled; most = x.most; pipe_left = is; toggle = x.turned; halted = x.halted };
+}
 
 -- The record of a call
 

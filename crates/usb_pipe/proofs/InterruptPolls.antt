@@ -11,7 +11,7 @@ use Rattle.usb_world.proofs.Interface.{each_wider}
 use Rattle.usb_transaction.specs.declared.fault.TransFault.{TransFault}
 use Rattle.usb_transaction.specs.Answerer.{Answerer}
 use Rattle.usb_transaction.specs.Failures.{NoThreeDamaged, WhyPoll}
-use Rattle.usb_transaction.specs.Leaves.{ChangesIn, PollEnds, IsNotOfBus as TransNotOfBus}
+use Rattle.usb_transaction.specs.Leaves.{ChangesIn, PollEnds, ToldBy, IsNotOfBus as TransNotOfBus}
 use Rattle.usb_transaction.specs.Trail.{Polled}
 use Rattle.usb_transaction.specs.Transactions.{in_attempt}
 use Rattle.usb_transaction.proofs.Interface.{poll_why, what_poll}
@@ -25,9 +25,9 @@ use Rattle.usb_pipe.proofs.Answerers.{who_polls}
 use Rattle.usb_pipe.proofs.TransferLosses.{poll_losses}
 
 -- one device
-leaves_by : (pipe left : Interrupt) (old : World) (result : Result (Option (ArrayVec ℕ)) PipeFault) (told : Result (Option (List ℕ)) TransFault) (j : Spot) (s v : State) → ChangesIn pipe.target pipe.toggle old told j s v
-    → (PollEnds (ToldOf pipe old j) pipe.toggle told v → PollTells (ToldOf pipe old j) result × ((got : Option (ArrayVec ℕ)) → result ≡ Ok got → PollAt NeverTold left.toggle v)) → PollLeaves pipe old result left j s v
-leaves_by pipe left old result told j s v x f = record {
+leaves_by : (pipe left : Interrupt) (old new : World) (result : Result (Option (ArrayVec ℕ)) PipeFault) (told : Result (Option (List ℕ)) TransFault) (j : Spot) (s v : State) → ChangesIn pipe.target pipe.toggle old told new j s v
+    → (PollEnds (ToldBy (in_attempt pipe.target 1) old told new j) pipe.toggle told v → PollTells (ToldOf pipe old new j) result × ((got : Option (ArrayVec ℕ)) → result ≡ Ok got → PollAt NeverTold left.toggle v)) → PollLeaves pipe old result left new j s v
+leaves_by pipe left old new result told j s v x f = record {
   others = x.others;
   frame = x.frame;
   tells = λ h k at. (f (x.poll h k at)).0;
@@ -35,17 +35,17 @@ leaves_by pipe left old result told j s v x f = record {
 }
 
 pub poll_tells : (pipe : Interrupt) (result : Result (Option (ArrayVec ℕ)) PipeFault) (left : Interrupt) (old new : World) → pipe.ep ≡ 1 → 1 ≤ pipe.target.max → IsSettled old.roots
-    → Polls pipe old result left new → new.shared ≡ false → EachWas (PollLeaves pipe old result left) old new
+    → Polls pipe old result left new → new.shared ≡ false → EachWas (PollLeaves pipe old result left new) old new
 poll_tells pipe (Ok None) left old new one least settled x single =
-    each_wider _ _ (λ j s v y. leaves_by pipe left old (Ok None) (Ok None) j s v y (λ told. (told.0, λ got r. subst (λ t. PollAt NeverTold t v) (sym (ap (λ l. l.toggle) x.pipe_left)) told.1))) old new
+    each_wider _ _ (λ j s v y. leaves_by pipe left old new (Ok None) (Ok None) j s v y (λ told. (told.0, λ got r. subst (λ t. PollAt NeverTold t v) (sym (ap (λ l. l.toggle) x.pipe_left)) told.1))) old new
     (what_poll pipe.target pipe.ep pipe.toggle old new least settled (Ok None) x.asked one single)
 poll_tells pipe (Ok (Some byte)) left old new one least settled x single =
     let turned = ap (λ l. l.toggle) x.pipe_left in
     each_wider _ _
-    (λ j s v y. leaves_by pipe left old (Ok (Some byte)) (Ok (Some byte.items)) j s v y (λ told. (record { bits = told.bits; so = told.so; is = told.came }, λ got r. subst (λ t. PollAt NeverTold t v) (sym turned) told.between)))
+    (λ j s v y. leaves_by pipe left old new (Ok (Some byte)) (Ok (Some byte.items)) j s v y (λ told. (record { bits = told.bits; some = told.so.0; so = told.so.1; is = told.came }, λ got r. subst (λ t. PollAt NeverTold t v) (sym turned) told.between)))
     old new (what_poll pipe.target pipe.ep pipe.toggle old new least settled (Ok (Some byte.items)) x.asked one single)
 poll_tells pipe (Err why) left old new one least settled x single =
-    each_wider _ _ (λ j s v y. leaves_by pipe left old (Err why) (Err x.asked.fault) j s v y (λ told. (tt, λ got r. cc r))) old new
+    each_wider _ _ (λ j s v y. leaves_by pipe left old new (Err why) (Err x.asked.fault) j s v y (λ told. (tt, λ got r. cc r))) old new
     (what_poll pipe.target pipe.ep pipe.toggle old new least settled (Err x.asked.fault) x.asked.polled one single)
 
 -- Why it fails

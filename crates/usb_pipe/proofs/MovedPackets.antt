@@ -132,6 +132,7 @@ module _ (t : Target) (ep : ℕ) (first : Toggle) (total : List ℕ) (least : 1 
         record {
           ends = rw count (moved_worked few g.moved);
           moves = record { packets = g.packets; gone = gone };
+          behind = g.moved.turned;
           settled = g.moved.began few;
           room = λ e. cc e;
           turned = rw count g.moved.turned;
@@ -181,6 +182,7 @@ module _ (t : Target) (ep : ℕ) (first : Toggle) (total : List ℕ) (least : 1 
               told = said;
               lost = subst (λ z. Puts t ep z (take t.max rest) mid (Err fault) new) g.moved.turned (subst (λ z. Puts t ep toggle z mid (Err fault) new) (front ∙ fitting) x.heard);
             };
+            behind = same ∙ g.moved.turned;
             settled = g.moved.settled x.settled;
             room = room;
             turned = tt;
@@ -206,6 +208,7 @@ module _ (t : Target) (ep : ℕ) (first : Toggle) {old : World} {text : Option (
   all_received a m = record {
     ends = rw (all_packets a least) (moved_worked (omega arith) m);
     moves = a;
+    behind = m.turned;
     settled = m.began (omega arith);
     most = all_most a;
     turned = rw (all_packets a least) m.turned;
@@ -241,6 +244,7 @@ module _ (t : Target) (ep : ℕ) (first : Toggle) {old : World} {text : Option (
     lost_received fault (Err why) err said x same = record {
       ends = subst (λ w. FaultAfter 0 old w new) (sym said) (lost_ends c.moved fault new x.ends);
       moves = inl (record { packets = n; few = few; got = got; mid = mid; before = c.came; fault = fault; told = said; lost = subst (λ z. Fetches t ep z mid (Err fault) new) c.moved.turned x.heard });
+      behind = same ∙ c.moved.turned;
       settled = c.moved.settled x.settled;
       most = tt;
       turned = tt;
@@ -249,13 +253,15 @@ module _ (t : Target) (ep : ℕ) (first : Toggle) {old : World} {text : Option (
     lost_received fault (Ok bytes) err said x same = cc
 
     -- that found no memory
-    pub room_received : (last : List ℕ) (result : Result (Vec ℕ) PipeFault) → IsErr result → IsErrAnd result (λ why. why ≡ Memory) → AsksIn t ep toggle mid (Ok last) new → PacketsReceived t ep first wanted old result next new
-    room_received last (Err why) err said x = record {
+    pub room_received : (last : List ℕ) (result : Result (Vec ℕ) PipeFault) → IsErr result → IsErrAnd result (λ why. why ≡ Memory) → AsksIn t ep toggle mid (Ok last) new → next ≡ other toggle
+        → PacketsReceived t ep first wanted old result next new
+    room_received last (Err why) err said x e = record {
       ends = subst (λ w. FaultAfter 0 old w new) (sym said) (worked_then c.moved x.ends);
       moves = inr (record { packets = n; few = few; got = got; mid = mid; before = c.came; last = last; told = said; came = rw c.moved.turned at x.heard; fits = x.short });
+      behind = flips_more n first toggle next c.moved.turned e;
       settled = c.moved.settled x.settled;
       most = tt;
       turned = tt;
-      halted = λ e. cc (said, e);
+      halted = λ h. cc (said, h);
     }
-    room_received last (Ok bytes) err said x = cc
+    room_received last (Ok bytes) err said x e = cc

@@ -19,7 +19,7 @@ use Rattle.usb_pipe.specs.Control.{FaultAfter}
 use Rattle.usb_packet.specs.Toggles.{flips}
 use Rattle.usb_pipe.specs.Stages.{Writes}
 use Rattle.usb_pipe.specs.End.{packet_target}
-use Rattle.usb_pipe.specs.Moves.{SendEnds, ReceiveEnds}
+use Rattle.usb_pipe.specs.Moves.{SendEnds, packets_gone, ReceiveEnds, packets_came}
 
 pub record Bulk : Type 0 where
   pub target : Target  -- with the maximum of endpoint 0
@@ -81,10 +81,11 @@ pub record Idle {A : Type 0} (given : Result A PipeFault) (pipe : Bulk) (old : W
   pub pipe_kept : left ≡ pipe
   pub world_kept : new ≡ old
 
--- these bytes were sent, in n packets
+-- these bytes were sent, in n packets; the toggle is the one behind those that were acknowledged, however the transfer ended
 pub record MovedOut (n : ℕ) (bytes : List ℕ) (pipe : Bulk) (old : World) (result : Result (Unit {0}) PipeFault) (left : Bulk) (new : World) : Type 0 where
   pub ends : MatchResult result (λ _. Worked n old new) (λ why. FaultAfter 0 old why new)
   pub went : SendEnds (packet_target pipe.target pipe.max) pipe.ep pipe.toggle bytes old result new
+  pub behind : left.toggle ≡ flips (packets_gone (packet_target pipe.target pipe.max) pipe.ep pipe.toggle bytes old result new went) pipe.toggle
   pub settled : IsSettled old.roots
   pub room : result ≢ Err Memory
   pub pipe_left : left ≡ record pipe { toggle = left.toggle; condition = after_transfer pipe.condition result }
@@ -97,10 +98,11 @@ pub record Sends (bytes : List ℕ) (pipe : Bulk) (old : World) (result : Result
   pub nothing : pipe.condition ≢ Broken → bytes ≡ [] → Idle (Ok tt) pipe old result left new
   pub moved : pipe.condition ≢ Broken → bytes ≢ [] → MovedOut (div_ceil (length bytes) pipe.max) bytes pipe old result left new
 
--- at most `wanted` packets were received
+-- at most `wanted` packets were received; the toggle is the one behind those that came, however the transfer ended
 pub record MovedIn (wanted : ℕ) (pipe : Bulk) (old : World) (result : Result (Vec ℕ) PipeFault) (left : Bulk) (new : World) : Type 0 where
   pub ends : MatchResult result (λ bytes. Worked (packets_of (length bytes.items) pipe.max wanted) old new) (λ why. FaultAfter 0 old why new)
   pub came : ReceiveEnds (packet_target pipe.target pipe.max) pipe.ep pipe.toggle wanted old result new
+  pub behind : left.toggle ≡ flips (packets_came (packet_target pipe.target pipe.max) pipe.ep pipe.toggle wanted old result new came) pipe.toggle
   pub settled : IsSettled old.roots
   pub most : IfOk result (λ bytes. length bytes.items ≤ wanted * pipe.max)
   pub pipe_left : left ≡ record pipe { toggle = left.toggle; condition = after_transfer pipe.condition result }

@@ -9,9 +9,11 @@ use Rattle.usb_request.specs.Layout.{bytes_of}
 use Rattle.usb_port.specs.PortState.{PortState}
 use Rattle.usb_device.specs.Spec.{Spec}
 use Rattle.usb_device.specs.declared.bulk.EndpointState.{EndpointState}
+use Rattle.usb_device.specs.declared.bulk.ServedEndpoint.{ServedEndpoint}
+use Rattle.usb_device.specs.declared.bulk.ServedEndpoint.TheVariants.{BulkOut, BulkIn}
 use Rattle.usb_device.specs.Request.{outcome, takes_address}
 use Rattle.usb_device.specs.Transfer.{first_stage, reading, ending, refused as stage_refused, max_packet}
-use Rattle.usb_device.specs.Rows.{State, accepted}
+use Rattle.usb_device.specs.Rows.{State, accepted, endpoint_state, with_endpoint_state}
 use Rattle.usb_device.specs.Bulk.{tells_changes, rested}
 use Rattle.usb_device.specs.Tree.{row_of, Spot}
 use Rattle.usb_device.specs.Progress.{IsRead, StatusGiven, IsSink, SinkAt, IsSource, SourceAt, PollAt, NeverTold, OnlyControl, OnlyStage, OnlySink, OnlySource, OnlyChanges}
@@ -215,22 +217,29 @@ abbrev pub BegunAgain : Bulk → Result (Unit {0}) PipeFault → EndpointState �
 BegunAgain pipe (Ok done) before after = after ≡ (if is_ready pipe.condition then before else rested)
 BegunAgain pipe (Err fault) before after = (after ≡ before) ⊎ (after ≡ rested)
 
--- a clear of a halt (9.4.5) moves no bytes, and both ends begin again together
+-- nothing but this endpoint and where the control transfer stands changed
+abbrev pub OnlyEndpoint : ServedEndpoint → State → State → Type 0
+OnlyEndpoint which s v = OnlyStage (with_endpoint_state s which (endpoint_state v which)) v
+
+-- a clear of a halt (9.4.5) moves no bytes, and both ends begin again together; the other endpoint stays as it was
 pub record ClearLeaves (pipe : Bulk) (result : Result (Unit {0}) PipeFault) (left : Bulk) (x : Spot) (s v : State) : Type 0 where
   pub others : is_at s pipe.target ≡ false → v ≡ s
   pub sink : is_at s pipe.target ≡ true → pipe.is_in ≡ false → FitsSink pipe s → FitsSink (pipe_known result left) v × (v.sink ≡ s.sink) × BegunAgain pipe result s.bulk_out v.bulk_out
   pub source : is_at s pipe.target ≡ true → pipe.is_in ≡ true → (got : ℕ) → FitsSource pipe got s
       → FitsSource (pipe_known result left) (got_after pipe got result s) v × (v.place ≡ s.place) × BegunAgain pipe result s.bulk_in v.bulk_in
+  pub only_sink : pipe.is_in ≡ false → IsSink pipe.ep pipe.max s → OnlyEndpoint BulkOut s v
+  pub only_source : pipe.is_in ≡ true → IsSource pipe.ep pipe.max s → OnlyEndpoint BulkIn s v
 
 -- A hub's status pipe (11.12.3)
 
 -- a hub's ports told these bits at a moment of a poll
-abbrev pub ToldOf : Interrupt → World → Spot → ℕ → Type 0
-ToldOf pipe old x bits = ToldIn (in_attempt pipe.target 1) old x bits
+abbrev pub ToldOf : Interrupt → World → World → Spot → ℕ → Type 0
+ToldOf pipe old new x bits = ToldIn (in_attempt pipe.target 1) old new x bits
 
--- the byte of bits that were told
+-- the byte of bits that were told, of which one at least is set
 pub record ByteTold (Told : ℕ → Type 0) (bytes : List ℕ) : Type 0 where
   pub bits : ℕ
+  pub some : bits ≢ 0
   pub so : Told bits
   pub is : bytes ≡ bits ∷ []
 
@@ -239,10 +248,10 @@ PollTells Told (Ok None) = Told 0
 PollTells Told (Ok (Some packet)) = ByteTold Told packet.items
 PollTells Told (Err fault) = ⊤
 
-pub record PollLeaves (pipe : Interrupt) (old : World) (result : Result (Option (ArrayVec ℕ)) PipeFault) (left : Interrupt) (x : Spot) (s v : State) : Type 0 where
+pub record PollLeaves (pipe : Interrupt) (old : World) (result : Result (Option (ArrayVec ℕ)) PipeFault) (left : Interrupt) (new : World) (x : Spot) (s v : State) : Type 0 where
   pub others : is_at s pipe.target ≡ false → v ≡ s
   pub frame : tells_changes s.spec s.registers ≡ true → OnlyChanges s v
   -- the bits are the ports' own at a moment of the poll
-  pub tells : is_at s pipe.target ≡ true → tells_changes s.spec s.registers ≡ true → PollAt NeverTold pipe.toggle s → PollTells (ToldOf pipe old x) result
+  pub tells : is_at s pipe.target ≡ true → tells_changes s.spec s.registers ≡ true → PollAt NeverTold pipe.toggle s → PollTells (ToldOf pipe old new x) result
   -- both ends are as far, where it did not fail
   pub level : is_at s pipe.target ≡ true → tells_changes s.spec s.registers ≡ true → PollAt NeverTold pipe.toggle s → (got : Option (ArrayVec ℕ)) → result ≡ Ok got → PollAt NeverTold left.toggle v

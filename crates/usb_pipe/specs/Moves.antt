@@ -1,5 +1,6 @@
 -- The packets of a bulk transfer (5.8.3): which transactions were made, and what was heard of each.
 use Rattle.std.specs.Prelude.{◌≡◌, ℕ, ◌+◌, ◌*◌, ◌<◌, ◌≤◌, ◌⊎◌, List, [], ◌++◌, length, take, Result, Ok, Err}
+use Rattle.std.proofs.Common.{inl, inr}
 use Rattle.std.specs.Global.{Vec}
 use Rattle.usb_packet.specs.declared.Toggle.{Toggle}
 use Rattle.usb_world.specs.declared.types.Outcome.{Outcome}
@@ -74,6 +75,11 @@ abbrev pub SendEnds : Target → ℕ → Toggle → List ℕ → World → Resul
 SendEnds t ep first total old (Ok done) new = AllGone t ep first total old new
 SendEnds t ep first total old (Err why) new = NotGone t ep first total old why new
 
+-- how many packets of a send were acknowledged
+abbrev pub packets_gone : (t : Target) (ep : ℕ) (first : Toggle) (total : List ℕ) (old : World) (result : Result (Unit {0}) PipeFault) (new : World) → SendEnds t ep first total old result new → ℕ
+packets_gone t ep first total old (Ok done) new all = all.packets
+packets_gone t ep first total old (Err why) new cut = cut.packets
+
 -- To the host
 
 -- so many full packets came one after the other, with toggles by turns from `first`, and with them these bytes
@@ -121,3 +127,9 @@ pub record NoRoomLeft (t : Target) (ep : ℕ) (first : Toggle) (wanted : ℕ) (o
 abbrev pub ReceiveEnds : Target → ℕ → Toggle → ℕ → World → Result (Vec ℕ) PipeFault → World → Type 0
 ReceiveEnds t ep first wanted old (Ok bytes) new = AllCame t ep first wanted old bytes.items new
 ReceiveEnds t ep first wanted old (Err why) new = NotCame t ep first wanted old why new ⊎ NoRoomLeft t ep first wanted old why new
+
+-- how many packets of a receive came
+abbrev pub packets_came : (t : Target) (ep : ℕ) (first : Toggle) (wanted : ℕ) (old : World) (result : Result (Vec ℕ) PipeFault) (new : World) → ReceiveEnds t ep first wanted old result new → ℕ
+packets_came t ep first wanted old (Ok bytes) new all = all.packets + 1
+packets_came t ep first wanted old (Err why) new (inl cut) = cut.packets
+packets_came t ep first wanted old (Err why) new (inr full) = full.packets + 1

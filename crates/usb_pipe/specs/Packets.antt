@@ -11,13 +11,14 @@ use Rattle.usb_pipe.specs.declared.fault.PipeFault.{PipeFault}
 use Rattle.usb_pipe.specs.declared.fault.PipeFault.TheVariants.{Stalled, Memory}
 use Rattle.usb_pipe.specs.Bulk.{packets_of, Turned}
 use Rattle.usb_pipe.specs.Control.{FaultAfter}
-use Rattle.usb_pipe.specs.Moves.{SendEnds, ReceiveEnds}
+use Rattle.usb_pipe.specs.Moves.{SendEnds, packets_gone, ReceiveEnds, packets_came}
 use Rattle.usb_packet.specs.Toggles.{flips}
 
 -- some bytes were sent, each packet but the last of the maximum
 pub record PacketsSent (t : Target) (ep : ℕ) (first : Toggle) (bytes : List ℕ) (old : World) (result : Result (Unit {0}) PipeFault) (toggle : Toggle) (new : World) : Type 0 where
   pub ends : MatchResult result (λ _. Worked (div_ceil (length bytes) t.max) old new) (λ fault. FaultAfter 0 old fault new)
   pub moves : SendEnds t ep first bytes old result new
+  pub behind : toggle ≡ flips (packets_gone t ep first bytes old result new moves) first
   pub settled : IsSettled old.roots
   pub room : result ≢ Err Memory
   pub turned : OnOk result (toggle ≡ flips (div_ceil (length bytes) t.max) first)
@@ -27,6 +28,7 @@ pub record PacketsSent (t : Target) (ep : ℕ) (first : Toggle) (bytes : List �
 pub record PacketsReceived (t : Target) (ep : ℕ) (first : Toggle) (wanted : ℕ) (old : World) (result : Result (Vec ℕ) PipeFault) (toggle : Toggle) (new : World) : Type 0 where
   pub ends : MatchResult result (λ bytes. Worked (packets_of (length bytes.items) t.max wanted) old new) (λ fault. FaultAfter 0 old fault new)
   pub moves : ReceiveEnds t ep first wanted old result new
+  pub behind : toggle ≡ flips (packets_came t ep first wanted old result new moves) first
   pub settled : IsSettled old.roots
   pub most : IfOk result (λ bytes. length bytes.items ≤ wanted * t.max)
   pub turned : IfOk result (λ bytes. toggle ≡ flips (packets_of (length bytes.items) t.max wanted) first)

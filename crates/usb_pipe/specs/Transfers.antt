@@ -13,6 +13,7 @@ use Rattle.usb_transaction.specs.Losses.{begins_no_stretch}
 use Rattle.usb_transaction.specs.SparedDevices.{EachSpared}
 use Rattle.usb_transaction.specs.Transactions.{Worked}
 use Rattle.usb_transaction.specs.Failures.{NoThreeDamaged}
+use Rattle.usb_pipe.specs.declared.condition.Condition.TheVariants.{Ready}
 use Rattle.usb_pipe.specs.declared.fault.PipeFault.{PipeFault}
 use Rattle.usb_pipe.specs.declared.fault.PipeFault.TheVariants.{Memory}
 use Rattle.usb_pipe.specs.Bulk.{Bulk, Sends, Receives, Clears}
@@ -88,6 +89,7 @@ pub record BulkClear (pipe : Bulk) (old : World) (result : Result (Unit {0}) Pip
   pub clears : Clears pipe old result left new
   pub what : Unshared new (EachWas (ClearLeaves pipe result left) old new)
   pub why : Undamaged old result new (EachWas (WhyWrite pipe.target result) old new)
+  pub who : OnOk result (pipe.condition ≢ Ready → Unshared new (Answerer pipe.target old new))
 
 -- Interrupt pipes (5.7)
 
@@ -96,7 +98,7 @@ pub record BulkClear (pipe : Bulk) (old : World) (result : Result (Unit {0}) Pip
 pub record InterruptPoll (pipe : Interrupt) (old : World) (result : Result (Option (ArrayVec ℕ)) PipeFault) (left : Interrupt) (new : World) : Type 0 where
   pub polls : Polls pipe old result left new
   pub settled : IsSettled old.roots
-  pub what : pipe.ep ≡ 1 → Unshared new (EachWas (PollLeaves pipe old result left) old new)
+  pub what : pipe.ep ≡ 1 → Unshared new (EachWas (PollLeaves pipe old result left new) old new)
   pub why : pipe.ep ≡ 1 → Undamaged old result new (EachWas (WhyPolling pipe result) old new)
   pub who : OnOk result (Unshared new (Answerer pipe.target old new))
   pub losses : pipe.ep ≢ 0 → IsNoBusFault result → new.losses ≡ old.losses

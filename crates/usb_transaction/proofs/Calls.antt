@@ -407,7 +407,7 @@ module _ (t : Target) (bytes : List ℕ) (old new : World) (eight : length bytes
 -- Polls
 
 module _ (t : Target) (ep : ℕ) (toggle : Toggle) (old new : World) (least : 1 ≤ t.max) (settled : IsSettled old.roots) where
-  pub what_poll : (result : Result (Option (List ℕ)) TransFault) → Polled toggle (in_attempt t ep) old result new → ep ≡ 1 → new.shared ≡ false → EachWas (ChangesIn t toggle old result) old new
+  pub what_poll : (result : Result (Option (List ℕ)) TransFault) → Polled toggle (in_attempt t ep) old result new → ep ≡ 1 → new.shared ≡ false → EachWas (ChangesIn t toggle old result new) old new
   what_poll result x one = poll_leaves t toggle result old new least settled (subst (λ k. Polled toggle (in_attempt t k) old result new) one x)
 
   who_poll : (result : Result (Option (List ℕ)) TransFault) → Polled toggle (in_attempt t ep) old result new → OnOk result (new.shared ≡ false → Answerer t old new)

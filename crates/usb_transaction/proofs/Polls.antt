@@ -10,7 +10,7 @@ use Rattle.usb_packet.specs.Toggles.{other, is_same}
 use Rattle.usb_device.specs.Bulk.{tells_changes, change_bits}
 use Rattle.usb_device.specs.Rows.{State, Reply, forgotten, acknowledged, payload}
 use Rattle.usb_device.specs.Attempt.{Way, whole, is_whole, heard, gave, held_law, in_law}
-use Rattle.usb_device.specs.Tree.{row_of, Spot}
+use Rattle.usb_device.specs.Tree.{Ports, full, row_of, place_on, Spot}
 use Rattle.usb_device.specs.Progress.{PollAt, level, told, ahead, NeverTold, PollOn, OnlyChanges}
 use Rattle.usb_device.proofs.Interface.{at_least_one, itself, law_is, other_twice, poll_on}
 use Rattle.usb_world.specs.declared.types.Attempt.{Attempt}
@@ -19,7 +19,7 @@ use Rattle.usb_world.specs.declared.types.Outcome.TheVariants.{Payload, Stall}
 use Rattle.usb_world.specs.Devices.{EachWas, DidIn}
 use Rattle.usb_world.specs.OneHolder.{got}
 use Rattle.usb_world.specs.AttemptPackets.{IsSettled}
-use Rattle.usb_world.specs.Steps.{attempt, after, outcome_in, damage_in}
+use Rattle.usb_world.specs.Steps.{attempt, after, outcome_in, damage_in, ready}
 use Rattle.usb_world.specs.World.{World, Made}
 use Rattle.usb_world.proofs.Interface.{decided, got_nak, got_payload, got_stall, no}
 use Rattle.usb_transaction.specs.declared.fault.TransFault.{TransFault}
@@ -29,7 +29,7 @@ use Rattle.usb_transaction.specs.declared.heard_outcome.HeardOutcome.TheVariants
 use Rattle.usb_transaction.specs.declared.target.Target.{Target}
 use Rattle.usb_transaction.specs.Failures.{NoThreeDamaged, Listens, WhyPoll}
 use Rattle.usb_transaction.specs.HeardOutcomes.{polled, polled_as}
-use Rattle.usb_transaction.specs.Leaves.{IsNotOfBus, is_at, ToldIn, none_came, one_came, PollEnds, ChangesIn}
+use Rattle.usb_transaction.specs.Leaves.{IsNotOfBus, is_at, ToldIn, ToldBy, ToldSome, none_came, one_came, PollEnds, ChangesIn}
 use Rattle.usb_transaction.specs.Trail.{Trail, IsNoEnd, Polled, waits_with, waits_in, errors_running}
 use Rattle.usb_transaction.specs.Transactions.{packed, in_attempt}
 use Rattle.usb_transaction.proofs.DeviceRuns.{Asked, IsOfBus, IsPollEnd, Through, Told, as_whole, asked_in, at_end, each_device, in_others, listens_on, of_bus, one_wait, over_polled, stays_away}
@@ -98,49 +98,49 @@ step_is t s h row max m t1 t2 t3 o v e f =
 
 -- What the host hears of an answer
 
+told_as : (Told So : ℕ → Type 0) → ((bits : ℕ) → Told bits → So bits) → (t : Toggle) (s : State) → PollAt Told t s → PollAt So t s
+told_as Told So f t s (level h q) = level h q
+told_as Told So f t s (told bits so h q) = told bits (f bits so) h q
+told_as Told So f t s (ahead bits h q) = ahead bits h q
+
 never_told : (Told : ℕ → Type 0) (t : Toggle) (s : State) → PollAt NeverTold t s → PollAt Told t s
-never_told Told t s (level h q) = level h q
-never_told Told t s (told bits so h q) = elim so [ ]
-never_told Told t s (ahead bits h q) = ahead bits h q
+never_told Told t s = told_as NeverTold Told (λ bits so. elim so [ ]) t s
 
 module _ (Told : ℕ → Type 0) (bits : ℕ) (t : Toggle) (max : ℕ) (m : 1 ≤ max) (v : State) where
   -- no byte came, or one that ends the poll
-  came : (o : Option Answer) → PollOn Told bits t o v → PollAt Told t v ⊎ (PollAt NeverTold (other t) v × (IsNoEnd (polled_as t (got max o)) → ⊥))
+  came : (o : Option Answer) → PollOn (ToldSome Told) bits t o v → PollAt (ToldSome Told) t v ⊎ (PollAt NeverTold (other t) v × (IsNoEnd (polled_as t (got max o)) → ⊥))
   came None on = inl on
   came (Some answer.Ack) on = elim on [ ]
-  came (Some answer.Nak) on = inl (never_told Told t v on.1)
+  came (Some answer.Nak) on = inl (never_told (ToldSome Told) t v on.1)
   came (Some answer.Stall) on = inl on.0
   came (Some (answer.Data given b)) on =
       elim (decided (is_same t given)) [ inl h ↦ inr ((on.0 h).between, λ n. rw (ap {B = ℕ} length (on.0 h).came, at_least_one max m, h) at n) | inr h ↦ inl (on.1 h) ]
 
-  goes_on : (o : Option Answer) → PollOn Told bits t o v → IsNoEnd (polled_as t (got max o)) → PollAt Told t v
+  goes_on : (o : Option Answer) → PollOn (ToldSome Told) bits t o v → IsNoEnd (polled_as t (got max o)) → PollAt (ToldSome Told) t v
   goes_on o on n = elim (came o on) [ inl x ↦ x | inr y ↦ absurd (y.1 n) ]
 
   -- bits are what the ports told, where NAK was answered
-  ends : (result : Result (Option (List ℕ)) TransFault) (o : Option Answer) (outcomes : List Outcome) → (o ≡ Some answer.Nak → Told bits) → PollOn Told bits t o v → IsPollEnd t result (got max o) outcomes
+  ends : (result : Result (Option (List ℕ)) TransFault) (o : Option Answer) (outcomes : List Outcome) → (o ≡ Some answer.Nak → Told bits) → PollOn (ToldSome Told) bits t o v → IsPollEnd t result (got max o) outcomes
       → PollEnds Told t result v
   ends (Ok None) o outcomes so on e =
       let nak : o ≡ Some answer.Nak = got_nak max o e in
-      let x : (bits ≡ 0) × PollAt NeverTold t v = subst (λ y. PollOn Told bits t y v) nak on in
+      let x : (bits ≡ 0) × PollAt NeverTold t v = subst (λ y. PollOn (ToldSome Told) bits t y v) nak on in
       (subst Told x.0 (so nak), x.1)
-  ends (Ok (Some bytes)) o outcomes so on e = (subst (λ y. PollOn Told bits t y v) (got_payload max o t (packed bytes) (polled_last t (got max o) bytes e)) on).0 (itself t)
-  ends (Err Stalled) o outcomes so on e = subst (λ y. PollOn Told bits t y v) (got_stall max o e) on
+  ends (Ok (Some bytes)) o outcomes so on e = (subst (λ y. PollOn (ToldSome Told) bits t y v) (got_payload max o t (packed bytes) (polled_last t (got max o) bytes e)) on).0 (itself t)
+  ends (Err Stalled) o outcomes so on e = subst (λ y. PollOn (ToldSome Told) bits t y v) (got_stall max o e) on
   ends (Err (Bus fault)) o outcomes so on e = elim (came o on) [ inl x ↦ none_came x | inr y ↦ one_came y.0 ]
   ends (Err fault) o outcomes so on e = goes_on o on e.0
 
   -- what an outcome says of the endpoint, where the poll goes on and where it ends
   abbrev Says : Outcome → Type 0
-  Says o = (IsNoEnd (polled_as t o) → PollAt Told t v) × ((result : Result (Option (List ℕ)) TransFault) (outcomes : List Outcome) → IsPollEnd t result o outcomes → PollEnds Told t result v)
+  Says o = (IsNoEnd (polled_as t o) → PollAt (ToldSome Told) t v) × ((result : Result (Option (List ℕ)) TransFault) (outcomes : List Outcome) → IsPollEnd t result o outcomes → PollEnds Told t result v)
 
-  says : (o : Outcome) (x : Option Answer) → o ≡ got max x → (x ≡ Some answer.Nak → Told bits) → PollOn Told bits t x v → Says o
+  says : (o : Outcome) (x : Option Answer) → o ≡ got max x → (x ≡ Some answer.Nak → Told bits) → PollOn (ToldSome Told) bits t x v → Says o
   says o x e so on = rw e (λ n. goes_on x on n, λ result outcomes is. ends result x outcomes so on is)
 
 -- A hub that tells of changes, at the target
 
 module _ (t : Target) (toggle : Toggle) (old : World) (m : 1 ≤ t.max) (j : Spot) (s : State) (at : is_at s t ≡ true) (h : tells_changes s.spec s.registers ≡ true) where
-  abbrev ToldHere : ℕ → Type 0
-  ToldHere bits = ToldIn (in_attempt t 1) old j bits
-
   abbrev a : Attempt
   a = in_attempt t 1
 
@@ -171,24 +171,67 @@ module _ (t : Target) (toggle : Toggle) (old : World) (m : 1 ≤ t.max) (j : Spo
     frame : OnlyChanges s v
     frame = step.frame ∙ ap {A = State} (λ y. record y { memory = v.memory; changes = v.changes; held = v.held }) x
 
-    gave_it : DidIn a w j u v → PollAt ToldHere toggle u → Says ToldHere 0 toggle t.max m v (outcome_in a w)
-    gave_it (DidIn.other e same) before = no (sym e ∙ still_at)
-    gave_it (DidIn.silent e q o is) before = says ToldHere 0 toggle t.max m v (outcome_in a w) None o (λ n. absurd (cc n)) (subst (PollAt ToldHere toggle) (sym is) before)
-    gave_it (DidIn.asked e q b below stood y o is) before =
+    -- what its ports tell now, by any world that more of the same attempts lead to
+    told_here : (b : PortState) (below : Ports) → place_on (ready w).roots j ≡ Some (full b u below) → (now : World) (later : List Outcome) → Trail a w later now → ToldIn a old now j (change_bits (row_of below))
+    told_here b below stood now later since =
+        record { outcomes = outcomes; mid = w; trail = trail; b = b; s = u; below = below; stood = stood; told = refl; later = later; since = since }
+
+    -- of anything that is so of the bits that its ports tell now
+    gave_it : (Told : ℕ → Type 0) → ((b : PortState) (below : Ports) → place_on (ready w).roots j ≡ Some (full b u below) → Told (change_bits (row_of below))) → DidIn a w j u v → PollAt (ToldSome Told) toggle u
+        → Says Told 0 toggle t.max m v (outcome_in a w)
+    gave_it Told tells_now (DidIn.other e same) before = no (sym e ∙ still_at)
+    gave_it Told tells_now (DidIn.silent e q o is) before = says Told 0 toggle t.max m v (outcome_in a w) None o (λ n. absurd (cc n)) (subst (PollAt (ToldSome Told) toggle) (sym is) before)
+    gave_it Told tells_now (DidIn.asked e q b below stood y o is) before =
         let bits : ℕ = change_bits (row_of below) in
-        let so : ToldHere bits = record { outcomes = outcomes; mid = w; trail = trail; b = b; s = u; below = below; stood = stood; told = refl } in
-        says ToldHere bits toggle t.max m v (outcome_in a w) (in_law u (row_of below) 1 t.max y.first y.second y.third).0 o (λ n. so)
-        (subst (PollOn ToldHere bits toggle (in_law u (row_of below) 1 t.max y.first y.second y.third).0) (sym is)
-        (poll_on ToldHere toggle u tells (row_of below) so before t.max m y.first y.second y.third))
+        let so : Told bits = tells_now b below stood in
+        says Told bits toggle t.max m v (outcome_in a w) (in_law u (row_of below) 1 t.max y.first y.second y.third).0 o (λ n. so)
+        (subst (PollOn (ToldSome Told) bits toggle (in_law u (row_of below) 1 t.max y.first y.second y.third).0) (sym is)
+        (poll_on (ToldSome Told) toggle u tells (row_of below) (λ some. (some, so)) before t.max m y.first y.second y.third))
+
+    -- up to the attempt, or where it was made past it
+    abbrev Ever : ℕ → Type 0
+    Ever bits = (now : World) × ToldIn a old now j bits
+
+    by_then : PollAt (ToldSome (ToldIn a old w j)) toggle u → PollAt (ToldSome Ever) toggle u
+    by_then = told_as (ToldSome (ToldIn a old w j)) (ToldSome Ever) (λ bits x. (x.0, (w, x.1))) toggle u
+
+    gave_then : DidIn a w j u v → PollAt (ToldSome (ToldIn a old w j)) toggle u → Says Ever 0 toggle t.max m v (outcome_in a w)
+    gave_then d before = gave_it Ever (λ b below stood. (w, told_here b below stood w [] Trail.start)) d (by_then before)
+
+    gave_since : Made w (after (attempt a) w) → DidIn a w j u v → PollAt (ToldSome (ToldIn a old w j)) toggle u → Says (ToldIn a old (after (attempt a) w) j) 0 toggle t.max m v (outcome_in a w)
+    gave_since made d before =
+        gave_it (ToldIn a old (after (attempt a) w) j) (λ b below stood. told_here b below stood (after (attempt a) w) (outcome_in a w ∷ []) (Trail.next w Trail.start made)) d
+        (told_as (ToldSome (ToldIn a old w j)) (ToldSome (ToldIn a old (after (attempt a) w) j)) (λ bits x. (x.0, told_on bits x.1)) toggle u before)
+      where
+        told_on : (bits : ℕ) → ToldIn a old w j bits → ToldIn a old (after (attempt a) w) j bits
+        told_on bits x = record {
+          outcomes = x.outcomes;
+          mid = x.mid;
+          trail = x.trail;
+          b = x.b;
+          s = x.s;
+          below = x.below;
+          stood = x.stood;
+          told = x.told;
+          later = outcome_in a w ∷ x.later;
+          since = Trail.next w x.since made;
+        }
+
+    ended : (result : Result (Option (List ℕ)) TransFault) (new : World) → DidIn a w j u v → PollAt (ToldSome (ToldIn a old w j)) toggle u → IsPollEnd toggle result (outcome_in a w) outcomes → ((IsOfBus result → ⊥) → Told a w new)
+        → PollEnds (ToldBy a old result new j) toggle result v
+    ended (Ok got) new d before end made =
+        let m : Told a w new = made (λ g. g tt) in
+        subst (λ n. PollEnds (ToldIn a old n j) toggle (Ok got) v) (sym m.1) ((gave_since m.0 d before).1 (Ok got) outcomes end)
+    ended (Err fault) new d before end made = (gave_then d before).1 (Err fault) outcomes end
 
   left : (result : Result (Option (List ℕ)) TransFault) (new : World) (v : State) → Through (DidIn a) a hear (IsPollEnd toggle result) (IsOfBus result) old new j s v
-      → OnlyChanges s v × (PollAt NeverTold toggle s → PollEnds ToldHere toggle result v)
+      → OnlyChanges s v × (PollAt NeverTold toggle s → PollEnds (ToldBy a old result new j) toggle result v)
   left result new v run =
-      at_end hear (λ outcomes w u. OnlyChanges s u × (PollAt NeverTold toggle s → PollAt ToldHere toggle u)) (refl, never_told ToldHere toggle s)
-      (λ outcomes w u x r made i d n. (frame outcomes w r u x i.0 d, λ k. (gave_it outcomes w r u x i.0 d d (i.1 k)).0 n))
-      (λ x. OnlyChanges s x × (PollAt NeverTold toggle s → PollEnds ToldHere toggle result x)) v
-      (λ outcomes w u r i d end made. (frame outcomes w r u v i.0 d, λ k. (gave_it outcomes w r u v i.0 d d (i.1 k)).1 result outcomes end))
-      (λ gave outcomes w i. (i.0, λ k. of_bus (λ x. PollEnds ToldHere toggle x v) (λ fault. none_came (i.1 k)) result gave)) run
+      at_end hear (λ outcomes w u. OnlyChanges s u × (PollAt NeverTold toggle s → PollAt (ToldSome (ToldIn a old w j)) toggle u)) (refl, never_told (ToldSome (ToldIn a old old j)) toggle s)
+      (λ outcomes w u x r made i d n. (frame outcomes w r u x i.0 d, λ k. (gave_since outcomes w r u x i.0 d made d (i.1 k)).0 n))
+      (λ x. OnlyChanges s x × (PollAt NeverTold toggle s → PollEnds (ToldBy a old result new j) toggle result x)) v
+      (λ outcomes w u r i d end made. (frame outcomes w r u v i.0 d, λ k. ended outcomes w r u v i.0 d result new d (i.1 k) end made))
+      (λ gave outcomes w i. (i.0, λ k. of_bus (λ x. PollEnds (ToldBy a old x new j) toggle x v) (λ fault. none_came (told_as (ToldSome (ToldIn a old w j)) (ToldSome (λ bits. (now : World) × ToldIn a old now j bits)) (λ bits x. (x.0, (w, x.1))) toggle v (i.1 k))) result gave)) run
 
   -- the endpoint is level, and no attempt is a wait; or it is behind, and as many as there were waits were damaged
   abbrev Stands : ℕ → World → State → Type 0
@@ -241,9 +284,9 @@ module _ (t : Target) (toggle : Toggle) (old : World) (m : 1 ≤ t.max) (j : Spo
 -- Each device
 
 pub poll_leaves : (t : Target) (toggle : Toggle) (result : Result (Option (List ℕ)) TransFault) (old new : World) → 1 ≤ t.max → IsSettled old.roots → Polled toggle (in_attempt t 1) old result new → new.shared ≡ false
-    → EachWas (ChangesIn t toggle old result) old new
+    → EachWas (ChangesIn t toggle old result new) old new
 poll_leaves t toggle result old new m settled x single =
-    each_device (Through (DidIn (in_attempt t 1)) (in_attempt t 1) (polled_as toggle) (IsPollEnd toggle result) (IsOfBus result) old new) (ChangesIn t toggle old result) old new
+    each_device (Through (DidIn (in_attempt t 1)) (in_attempt t 1) (polled_as toggle) (IsPollEnd toggle result) (IsOfBus result) old new) (ChangesIn t toggle old result new) old new
     (λ j s v run.
     let away : (is_at s t ≡ false → v ≡ s) = stays_away t (λ w u x. in_others t 1 w j u x) run in
     record {

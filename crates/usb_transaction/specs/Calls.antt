@@ -114,6 +114,6 @@ pub record PollsIn (t : Target) (ep : ℕ) (toggle : Toggle) (old : World) (resu
   pub heard : Polled toggle (in_attempt t ep) old result new
   pub ends : Ends old result new
   pub short : IfOk result (λ got. IfSome got (λ bytes. length bytes ≤ t.max))
-  pub what : ep ≡ 1 → new.shared ≡ false → EachWas (ChangesIn t toggle old result) old new
+  pub what : ep ≡ 1 → new.shared ≡ false → EachWas (ChangesIn t toggle old result new) old new
   pub why : ep ≡ 1 → IsUnhindered old result new → EachWas (WhyPoll t toggle result) old new
   pub who : OnOk result (new.shared ≡ false → Answerer t old new)

@@ -145,8 +145,8 @@ pub record SinkBetween (t : Target) (ep : ℕ) (toggle : Toggle) (bytes : List �
   pub frame : (most : ℕ) → IsSink ep most s → OnlySink s v
   pub sink : is_at s t ≡ true → (most : ℕ) (before : List ℕ) → IsSink ep most s → length bytes ≤ most → SinkAt before bytes toggle s → SinkAt before bytes toggle v
 
--- the hub's ports told these bits when one of the attempts of a poll was made
-pub record ToldIn (a : Attempt) (old : World) (x : Spot) (bits : ℕ) : Type 0 where
+-- the hub's ports told these bits when one of the attempts of a poll was made, and since then the same was attempted, and nothing else
+pub record ToldIn (a : Attempt) (old new : World) (x : Spot) (bits : ℕ) : Type 0 where
   pub outcomes : List Outcome
   pub mid : World
   pub trail : Trail a old outcomes mid
@@ -155,25 +155,36 @@ pub record ToldIn (a : Attempt) (old : World) (x : Spot) (bits : ℕ) : Type 0 w
   pub below : Ports
   pub stood : place_on (ready mid).roots x ≡ Some (full b s below)
   pub told : bits ≡ change_bits (row_of below)
+  pub later : List Outcome
+  pub since : Trail a mid later new
+
+-- up to the end of a poll that is done; where it failed, up to some moment of it
+abbrev pub ToldBy : Attempt → World → Result (Option (List ℕ)) TransFault → World → Spot → ℕ → Type 0
+ToldBy a old (Ok got) new x bits = ToldIn a old new x bits
+ToldBy a old (Err fault) new x bits = (now : World) × ToldIn a old now x bits
+
+-- so it is of bits of which one at least is set
+abbrev pub ToldSome : (ℕ → Type 0) → ℕ → Type 0
+ToldSome Told bits = (bits ≢ 0) × Told bits
 
 -- where the bus gave up, a byte came to it and was acknowledged, and the host did not get it; or none came
 pub data PollCut (Told : ℕ → Type 0) (toggle : Toggle) (v : State) : Type 0 where
-  none_came : PollAt Told toggle v → PollCut Told toggle v
+  none_came : PollAt (ToldSome Told) toggle v → PollCut Told toggle v
   one_came : PollAt NeverTold (other toggle) v → PollCut Told toggle v
 
 abbrev pub PollEnds : (ℕ → Type 0) → Toggle → Result (Option (List ℕ)) TransFault → State → Type 0
 PollEnds Told toggle (Ok None) v = Told 0 × PollAt NeverTold toggle v
-PollEnds Told toggle (Ok (Some bytes)) v = ToldByte Told toggle bytes v
-PollEnds Told toggle (Err Stalled) v = PollAt Told toggle v × (v.changes.halted ≡ true)
-PollEnds Told toggle (Err Busy) v = PollAt Told toggle v
-PollEnds Told toggle (Err NoAnswer) v = PollAt Told toggle v
+PollEnds Told toggle (Ok (Some bytes)) v = ToldByte (ToldSome Told) toggle bytes v
+PollEnds Told toggle (Err Stalled) v = PollAt (ToldSome Told) toggle v × (v.changes.halted ≡ true)
+PollEnds Told toggle (Err Busy) v = PollAt (ToldSome Told) toggle v
+PollEnds Told toggle (Err NoAnswer) v = PollAt (ToldSome Told) toggle v
 PollEnds Told toggle (Err (Bus fault)) v = PollCut Told toggle v
 
 -- a poll of a hub's status endpoint (11.12.3)
-pub record ChangesIn (t : Target) (toggle : Toggle) (old : World) (result : Result (Option (List ℕ)) TransFault) (x : Spot) (s v : State) : Type 0 where
+pub record ChangesIn (t : Target) (toggle : Toggle) (old : World) (result : Result (Option (List ℕ)) TransFault) (new : World) (x : Spot) (s v : State) : Type 0 where
   pub others : is_at s t ≡ false → v ≡ s
   pub frame : tells_changes s.spec s.registers ≡ true → OnlyChanges s v
-  pub poll : is_at s t ≡ true → tells_changes s.spec s.registers ≡ true → PollAt NeverTold toggle s → PollEnds (ToldIn (in_attempt t 1) old x) toggle result v
+  pub poll : is_at s t ≡ true → tells_changes s.spec s.registers ≡ true → PollAt NeverTold toggle s → PollEnds (ToldBy (in_attempt t 1) old result new x) toggle result v
 
 -- A device accepted setup data in the attempt that left this world: it alone held the address, it is what the request makes, with the ports it had there, of what it
 -- was before the transaction, and what the request asks of its ports is done (8.5.3, 11.24.2)

@@ -38,5 +38,5 @@ pub returns-in_err-extend_from_slice : goal.returns-in_err-extend_from_slice
 returns-in_err-extend_from_slice g c = record {
   went = moved_went c.packets.invariant.moved c.packets-test.true c.data_in.ensures.went;
   received = room_received c.args.target c.args.ep _ c.args.wanted c.requires.target.max_least c.packets-test.true c.packets.invariant c.data_in.ensures.went
-      c.in_ok-packet.packet c.from_residual-in_err-extend_from_slice.result c.from_residual-in_err-extend_from_slice.ensures.0 c.from_residual-in_err-extend_from_slice.ensures.1 c.in_ok-packet.ensures.asks;
+      c.in_ok-packet.packet c.from_residual-in_err-extend_from_slice.result c.from_residual-in_err-extend_from_slice.ensures.0 c.from_residual-in_err-extend_from_slice.ensures.1 c.in_ok-packet.ensures.asks c.in_ok-packet.ensures.toggle;
 }
