@@ -2,14 +2,14 @@
 use Rattle.std.proofs.Common.{◌≡◌, ℕ, zero, suc, ◌&&◌, ◌⊎◌, inl, inr, not, Bool, true, false, List, [], ◌∷◌, ◌++◌, Option, None, Some, option_map, if◌then◌else◌, refl, ap, sym, subst, ◌∙◌}
 use Rattle.std.proofs.lemmas.Option.{same_Some}
 use Rattle.usb_port.specs.PortState.{is_attached}
-use Rattle.usb_request.specs.Codes.{SET_ADDRESS, DEVICE_OUT}
+use Rattle.usb_request.specs.Codes.{SET_ADDRESS, SET_FEATURE, DEVICE_OUT, PORT_OUT}
 use Rattle.usb_request.specs.Layout.{setup_of, bytes_of}
 use Rattle.usb_request.specs.declared.setup.Setup.{Setup}
 use Rattle.usb_port.specs.declared.call.PortCall.{PortCall}
 use Rattle.usb_device.specs.declared.effect.Effect.TheVariants.{Leaves}
 use Rattle.usb_device.specs.declared.request.Registers.{Registers}
 use Rattle.usb_device.specs.Attempt.{is_whole}
-use Rattle.usb_port.specs.Calls.{is_reset, called_port}
+use Rattle.usb_port.specs.Calls.{is_reset, called_port, set_call}
 use Rattle.usb_device.specs.Effect.{effect_of_request, asked_by_setup}
 use Rattle.usb_device.specs.Request.{outcome, port_named, called_at, Is}
 use Rattle.usb_device.specs.Spec.{Spec}
@@ -97,6 +97,7 @@ pub record AsksFor (request : Setup) (c : PortCall) (n : ℕ) : Type 0 where
   pub calls : (spec : Spec) (g : Registers) → outcome spec g request ≡ called_at (Some c) (port_named spec.hub g n)
   pub other : Is request DEVICE_OUT SET_ADDRESS ≡ false
   pub harmless : is_reset c ≡ false → is_harmless request ≡ true
+  pub sets : Is request PORT_OUT SET_FEATURE ≡ true → set_call request.value ≡ Some c
 
 -- Attempts of it
 

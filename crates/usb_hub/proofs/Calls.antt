@@ -1,5 +1,5 @@
 -- That a call at a port acts there where it is done, and what it asks of ports whatever its answer is.
-use Rattle.std.proofs.Common.{◌≡◌, ◌≢◌, ℕ, zero, suc, ◌⊎◌, inl, inr, true, false, List, [], ◌∷◌, ◌++◌, Option, None, Some, option_map, Result, Ok, Err, refl, ap, sym, subst, ◌∙◌, arith}
+use Rattle.std.proofs.Common.{◌≡◌, ◌≢◌, ℕ, zero, suc, ◌⊎◌, ◌||◌, inl, inr, not, Bool, true, false, List, [], ◌∷◌, ◌++◌, Option, None, Some, option_map, Result, Ok, Err, refl, ap, sym, subst, ◌∙◌, arith}
 use Rattle.std.proofs.lemmas.Option.{same_Some}
 use Rattle.std.specs.Prelude.{MatchResult}
 use Rattle.usb_port.specs.Path.{IsPath, IsPortNumber}
@@ -28,7 +28,7 @@ use Rattle.usb_world.specs.RestingPorts.{AsksNothingOf}
 use Rattle.usb_world.specs.Steps.{Step, attempt, root_call, after, ready, Course, here, step as step_then, AttemptFails, SetsRoot, ClearsRoot}
 use Rattle.usb_world.specs.WayEffects.{spares}
 use Rattle.usb_world.specs.World.{World, Attempted}
-use Rattle.usb_world.proofs.Interface.{course_joined, course_wider, decided, equal_same, made_of, no, same_is}
+use Rattle.usb_world.proofs.Interface.{and_of, course_joined, course_wider, decided, equal_same, made_of, no, or_right, same_is}
 use Rattle.usb_transaction.specs.declared.target.Target.{Target}
 use Rattle.usb_transaction.specs.declared.fault.TransFault.{TransFault}
 use Rattle.usb_transaction.specs.declared.fault.TransFault.TheVariants as trans
@@ -42,7 +42,7 @@ use Rattle.usb_pipe.specs.declared.fault.PipeFault.TheVariants.{Stalled, Busy, N
 use Rattle.usb_pipe.specs.Control.{as_pipe_fault, FaultAfter}
 use Rattle.usb_pipe.specs.Stages.{SetUp, Writes}
 use Rattle.usb_pipe.specs.Leaves.{IsBehind, IsNoBusFault, EffectDone, WriteLeaves}
-use Rattle.usb_pipe.proofs.Interface.{who_writes, write_leaves}
+use Rattle.usb_pipe.proofs.Interface.{who_writes, write_attempts, write_leaves}
 use Rattle.usb_address.specs.Claims.{Claims}
 use Rattle.usb_address.specs.Leaves.{LeavesPipe}
 use Rattle.usb_address.specs.Ownership.{Owned, TillFault}
@@ -55,6 +55,13 @@ use Rattle.usb_hub.specs.declared.port.HubPort.{HubPort}
 use Rattle.usb_hub.specs.declared.port.HubPort.TheVariants.{Root, External}
 use Rattle.usb_hub.proofs.ActingCalls.{place_below, place_called, AsksFor, attempt_acts, root_acts, root_acted}
 use Rattle.usb_hub.proofs.RestingRequests.{behind_rests, behind_asks_nothing}
+use Rattle.usb_hub.proofs.Backlogs.{acted_keeps, call_keeps, holder_covers, request_keeps, rests_backlog}
+use Rattle.usb_backlog.specs.Marks.{CoversCall, KeepsAll, KeepsBy, KeepsCall, KeepsFound, PortMark, only, ports_at, unmarked}
+use Rattle.usb_backlog.specs.PortSettings.{gives_power}
+use Rattle.usb_backlog.proofs.Interface.{all_none, few-only, keeps-chain, keeps-root, ports_covered, root_allowed, sets_none}
+use Rattle.usb_request.specs.Features.{PORT_POWER}
+use Rattle.usb_port.specs.declared.call.PortCall.TheVariants.{SetPower}
+use Rattle.usb_world.proofs.Interface.{Allows}
 use Rattle.usb_hub.proofs.CallFailures.{same_port, call_served}
 use Rattle.usb_port.proofs.Interface.{call_is}
 
@@ -251,6 +258,8 @@ module _ (t : Target) (j : Spot) (i : ℕ) (request : Setup) (c : PortCall) (ask
           subst (λ w. Course (AsksNothingOf x) w new) accepted_there.last
           (behind_asks_nothing t x done.moment.since (subst (λ w. IsSettled w.roots) (sym accepted_there.last) (attempt_settled a mid accepted_there.holder.made.settled)));
       row = record { parent = path_to j; number = suc i; is = refl; reached = on };
+      acted = record { covered = λ ports m v r few covers. acted_keeps m v r few t (path_to j) i request c asked (holder_covers m r (path_to j) i c covers) P follows accepted_there.trail accepted_there.holder.made first ports };
+      rested = subst (λ w. KeepsAll w new) accepted_there.last (rests_backlog t done.moment.since (subst (λ w. IsSettled w.roots) (sym accepted_there.last) (attempt_settled a mid accepted_there.holder.made.settled)));
     }
 
 -- Which requests these are
@@ -276,6 +285,7 @@ module _ (n : ℕ) (c : PortCall) where
     calls = λ spec g. ap (λ o. called_at o (port_named spec.hub g n)) is;
     other = refl;
     harmless = set_harmless feature named is;
+    sets = λ h. is;
   }
 
   clear_sparing : (feature : ℕ) → IsClearFeature feature → clear_call feature ≡ Some c → spares c [] ≡ true → is_sparing (clear_port_feature feature n) ≡ true
@@ -293,6 +303,7 @@ module _ (n : ℕ) (c : PortCall) where
     calls = λ spec g. ap (λ o. called_at o (port_named spec.hub g n)) is;
     other = refl;
     harmless = λ quiet. refl;
+    sets = λ h. absurd (cc h);
   }
 
 -- Who has the hub's address meanwhile
@@ -366,6 +377,12 @@ module _ (t : Target) (c : PortCall) (request : Setup) (f : Claims) (old : World
       below (λ p. (x : List ℕ) → is_way p x ≡ false → Course (AsksNothingOf x) old new)
       (λ j i asked r. hub_rests t j i request c asked r.P r.follows old result new sound ordered.stages r.first) n asked p at alone
 
+  pub backlog_below : IsNoBusFault result → (n : ℕ) → AsksFor request c n → (p : List ℕ) → IsBelow f t.addr n p → (is_reset c ≡ true → (x : List ℕ) → f x ≡ Some 0 → is_way p x ≡ true) → KeepsCall p c old new
+  backlog_below sound n asked p at alone =
+      below (λ p. KeepsCall p c old new)
+      (λ j i asked r. let s : Sent t request old new = sent_of t request old result new sound ordered.stages in
+      record { covered = λ ports m v r0 few covers. call_keeps m v r0 few t (path_to j) i request c asked (holder_covers m r0 (path_to j) i c covers) r.P r.follows s.trail s.behind r.first ports }) n asked p at alone
+
   pub spares_below : IsNoBusFault result → (n : ℕ) → AsksFor request c n → (p : List ℕ) → IsBelow f t.addr n p → (is_reset c ≡ true → (x : List ℕ) → f x ≡ Some 0 → is_way p x ≡ true)
       → spares c [] ≡ true → Course (Spares p) old new
   spares_below sound n asked p at alone =
@@ -400,6 +417,7 @@ module _ (port : HubPort) (hub : Target) (number : ℕ) (call : Option PortCall)
     done = λ f p c x is. done_below hub c request f old result new ordered (x.owned.so (sound_of 2 1 old new result (subst IsNoBusFault (sym is) tt) ordered.ends)) number (asks c x.is) p x.at x.alone is;
     rests = λ f p c x sound. rests_below hub c request f old result new ordered (x.owned.so (sound_of 2 1 old new result sound ordered.ends)) sound number (asks c x.is) p x.at x.alone;
     spares = λ f p c x sound. spares_below hub c request f old result new ordered (x.owned.so (sound_of 2 1 old new result sound ordered.ends)) sound number (asks c x.is) p x.at x.alone;
+    backlog = λ f p c x sound. backlog_below hub c request f old result new ordered (x.owned.so (sound_of 2 1 old new result sound ordered.ends)) sound number (asks c x.is) p x.at x.alone;
     cut = λ f p c x fault is. cut_below hub c request f old fault new (subst (λ r. Ordered hub request old r new) is ordered) x.owned number (asks c x.is) p x.at x.alone;
     why = λ t n same three single serves.
         let ends : _ = same_port hub t number n same in
@@ -419,6 +437,15 @@ hub_clears port hub number feature old result new e named = hub_calls port hub n
 
 -- A root port
 
+root_covers : (m r : PortMark) (c : PortCall) (n : ℕ) → CoversCall m r (n ∷ []) c → root_allowed m r c n ≡ true
+root_covers m r c zero covers = refl
+root_covers m r c (suc i) covers =
+    and_of (m i [] || not (gives_power c)) (r i [] || not (is_reset c)) (pick (gives_power c) (m i []) covers.power) (pick (is_reset c) (r i []) covers.reset)
+  where
+    pick : (x y : Bool) → (x ≡ true → y ≡ true) → (y || not x) ≡ true
+    pick true y f = subst (λ u. (u || false) ≡ true) (sym (f refl)) refl
+    pick false y f = or_right y true refl
+
 module _ (port : HubPort) (number : ℕ) (call : Option PortCall) (old new : World) (e : port ≡ Root number) (step : (c : PortCall) → call ≡ Some c → new ≡ after (root_call c number) old) where
   one_step : (K : Step → World → Type 0) (c : PortCall) → call ≡ Some c → K (root_call c number) old → Course K old new
   one_step K c is k = subst (λ w. Course K old w) (sym (step c is)) (step_then (root_call c number) k (here (after (root_call c number) old)))
@@ -433,9 +460,12 @@ module _ (port : HubPort) (number : ℕ) (call : Option PortCall) (old new : Wor
       done = root_acted c number old;
       since = λ y. subst (λ w. Course (AsksNothingOf y) (after (root_call c number) old) w) (sym (step c x.is)) (here (after (root_call c number) old));
       row = record { parent = []; number = number; is = refl; reached = refl };
+      acted = record { covered = λ ports m v r few covers. keeps-root m v r few c number old ports (root_covers m r c number covers) };
+      rested = subst (KeepsAll (after (root_call c number) old)) (sym (step c x.is)) (all_none (after (root_call c number) old));
     });
     rests = λ f p c x sound y d. one_step (AsksNothingOf y) c x.is ((root_acts c number old).about.others y (subst (λ p. is_way p y ≡ false) x.at d));
     spares = λ f p c x sound h. subst (λ p. Course (Spares p) old new) (sym x.at) (one_step (Spares (number ∷ [])) c x.is ((root_acts c number old).about.spares h));
+    backlog = λ f p c x sound. subst (λ p. KeepsCall p c old new) (sym x.at) (record { covered = λ ports m v r few covers. subst (KeepsBy m v r old) (sym (step c x.is)) (keeps-root m v r few c number old ports (root_covers m r c number covers)) });
     cut = λ f p c x fault is. absurd (cc is);
     why = λ t n same. absurd (cc same);
   }
@@ -448,3 +478,23 @@ root_sets port number feature old new e sets = root_calls port number (set_call 
 
 pub root_clears : (port : HubPort) (number feature : ℕ) (old new : World) → port ≡ Root number → ClearsRoot number feature old new → CallsPort port (clear_call feature) old (Ok tt) new
 root_clears port number feature old new e clears = root_calls port number (clear_call feature) old new e clears.step
+
+-- PORT_POWER at a port of the device that a path claims the address for
+
+zero_power : Allows sets_none (set_port_feature PORT_POWER 0)
+unfolding set_port_feature
+zero_power = record { rests = refl; off = λ e. absurd (cc e); set = λ e c i x y. absurd (cc y); clear = λ e c i x y. absurd (cc e) }
+
+module _ (t : Target) (f : Claims) (q : List ℕ) (old : World) (result : Result (Unit {0}) PipeFault) (new : World) (sound : IsNoBusFault result) (held : f q ≡ Some t.addr) (own : Owned f old) where
+  pub power_backlog : (n : ℕ) → Ordered t (set_port_feature PORT_POWER n) old result new → KeepsFound q old new
+  power_backlog zero ordered = record { found = λ ports. keeps-chain (ports_at q) unmarked (only q) (few-only q) ports (request_keeps (ports_at q) unmarked (only q) (few-only q) t (set_port_feature PORT_POWER 0) zero_power ((write_attempts t (set_port_feature PORT_POWER 0) result old new ordered.stages).whole sound) ordered.settled) }
+  power_backlog (suc i) ordered =
+      let request : Setup = set_port_feature PORT_POWER (suc i) in
+      let asked : AsksFor request SetPower (suc i) = set_asks (suc i) SetPower PORT_POWER refl refl in
+      let s : Sent t request old new = sent_of t request old result new sound ordered.stages in
+      record {
+        found = λ ports.
+            call_keeps (ports_at q) unmarked (only q) (few-only q) t q i request SetPower asked
+            (λ x same. record { power = λ g. ports_covered q x i same; reset = λ g. absurd (cc g) })
+            (Owned f) (quiet_follows t request asked.same f q (asked.harmless refl) held) s.trail s.behind own ports;
+      }

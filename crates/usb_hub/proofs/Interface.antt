@@ -1,12 +1,13 @@
 -- The lemmas that crates above cite. All others are for this crate alone.
 pub use Rattle.usb_hub.proofs.ActingCalls.{AsksFor, place_below}
 pub use Rattle.usb_hub.proofs.BaredPorts.{disabled_port}
-pub use Rattle.usb_hub.proofs.Calls.{hub_done, hub_named, hub_rests, hub_sets, set_asks}
+pub use Rattle.usb_hub.proofs.Calls.{hub_done, hub_named, hub_rests, hub_sets, power_backlog, set_asks}
 pub use Rattle.usb_hub.proofs.Devices.{same_stays, stays-registers, stays-spec, stays_itself, stays_joined, stays_none}
 pub use Rattle.usb_hub.proofs.AddressesKept.{set_keeps}
+pub use Rattle.usb_hub.proofs.Backlogs.{write_backlog}
 pub use Rattle.usb_hub.proofs.Orders.{order_elsewhere}
 pub use Rattle.usb_hub.proofs.Ports.{port_stays, reset_went}
-pub use Rattle.usb_hub.proofs.PoweredPorts.{none_of, powered_stands, row_reached-back, state_of_place}
+pub use Rattle.usb_hub.proofs.PoweredPorts.{none_of, powered_stands, row_reached-back, sane_there, state_of_place}
 pub use Rattle.usb_hub.proofs.RestingRequests.{write_rests}
 pub use Rattle.usb_hub.proofs.Settings.{each_leaves, write_so}
 pub use Rattle.usb_hub.proofs.CalledPorts.{Called, StandsSo, StandsTold, done_stands, due_course, enabled_reach, port_of_place, told_stands}

@@ -1,6 +1,7 @@
 pub mod Interface
 pub mod RestingRequests
 pub mod ActingCalls
+pub mod Backlogs
 pub mod Calls
 pub mod Devices
 pub mod AddressesKept

@@ -12,7 +12,8 @@ use Rattle.usb_request.specs.declared.setup.Setup.{Setup}
 use Rattle.usb_request.specs.Requests.{get_port_status}
 use Rattle.usb_device.specs.declared.effect.Effect.TheVariants.{Leaves}
 use Rattle.usb_device.specs.Effect.{effect_of_request, asked_by_setup}
-use Rattle.usb_device.specs.Request.{outcome}
+use Rattle.usb_device.specs.Request.{Is, outcome}
+use Rattle.usb_request.specs.Codes.{PORT_OUT, SET_FEATURE}
 use Rattle.usb_device.specs.Rows.{State}
 use Rattle.usb_device.specs.Transfer.{reading, first_stage}
 use Rattle.usb_device.specs.Tree.{acted, port_at, reach, Spot, path_to, reach_on, state_on}
@@ -43,6 +44,9 @@ use Rattle.usb_hub.specs.Port.{IsPort, RootRead, PortRead}
 use Rattle.usb_hub.specs.Requests.{AskedData, Told}
 use Rattle.usb_hub.specs.CallFailures.{Serves, NoHubFailed}
 use Rattle.usb_hub.proofs.RestingRequests.{behind_asks_nothing, resting_course}
+use Rattle.usb_hub.proofs.Backlogs.{asked_backlog, rests_backlog}
+use Rattle.usb_backlog.specs.Marks.{KeepsAll}
+use Rattle.usb_backlog.proofs.Interface.{all_none}
 use Rattle.usb_hub.proofs.Statuses.{row_port, StatusOf, status_outcome, whole_status}
 use Rattle.usb_hub.proofs.ToldBytes.{IsRead, said}
 use Rattle.usb_hub.proofs.CallFailures.{same_port, status_served}
@@ -93,6 +97,10 @@ module _ (t : Target) (j : Spot) (i : ℕ) (old new : World) (bytes : Vec ℕ) (
   unfolding get_port_status
   plain = refl
 
+  sets_no_port : Is request PORT_OUT SET_FEATURE ≡ false
+  unfolding get_port_status
+  sets_no_port = refl
+
   was : Was (ReadLeaves t request (Ok bytes) old new) old j a.now
   was = read_leaves t request (Ok bytes) old new host (subst (λ n. 1 ≤ n) (sym length_is) (omega arith)) (same_setup request) told.settled told.stages single j a.now a.on a.stands
 
@@ -134,6 +142,8 @@ module _ (t : Target) (j : Spot) (i : ℕ) (old new : World) (bytes : Vec ℕ) (
     before = resting_course t request plain old now accepted_there;
     since = λ x. behind_asks_nothing t x done.moment.since (subst (λ w. IsSettled w.roots) (sym accepted_there.last) (attempt_settled _ accepted_there.mid accepted_there.holder.made.settled));
     row = record { parent = path_to j; number = suc i; is = refl; reached = a.on };
+    untold = asked_backlog t request sets_no_port accepted_there told.settled;
+    rested = rests_backlog t done.moment.since (subst (λ w. IsSettled w.roots) (sym accepted_there.last) (attempt_settled _ accepted_there.mid accepted_there.holder.made.settled));
   }
 
 at_hub : (t : Target) (f : Claims) (hub : List ℕ) (port : ℕ) (old new : World) (bytes : Vec ℕ) → IsPath hub → IsPortNumber port → f hub ≡ Some t.addr → Owned f old → AskedData t (get_port_status port) old (Ok bytes) new
@@ -192,6 +202,8 @@ root_tells port number old result new e is read = rw e (root (rw e at is) (rw e 
         before = λ x. here old;
         since = λ x. subst (λ w. Course (AsksNothingOf x) old w) (sym r.same) (here old);
         row = record { parent = []; number = number; is = at; reached = refl };
+        untold = all_none old;
+        rested = subst (KeepsAll old) (sym r.same) (all_none old);
       };
       why = λ hub n same. absurd (cc same);
     }

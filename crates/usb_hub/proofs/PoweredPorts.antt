@@ -29,12 +29,12 @@ sane_place ended j p x h e = absurd (cc e)
 sane_place (vacant b k) zero [] x h e = subst IsSanePlace (same_Some (empty b) x e) (h.0, h.1)
 sane_place (vacant b k) zero (n ∷ p) x h e = absurd (cc e)
 sane_place (vacant b k) (suc j) p x h e = sane_place k j p x h.2 e
-sane_place (taken b s a k) zero [] x h e = subst IsSanePlace (same_Some (full b s a) x e) (h.0, h.1, h.2, h.4)
+sane_place (taken b s a k) zero [] x h e = subst IsSanePlace (same_Some (full b s a) x e) (h.0, h.1, h.2, h.4, h.5)
 sane_place (taken b s a k) zero (zero ∷ p) x h e = absurd (cc e)
 sane_place (taken b s a k) zero (suc i ∷ p) x h e = sane_place a i p x h.2 e
 sane_place (taken b s a k) (suc j) p x h e = sane_place k j p x h.3 e
 
-sane_there : (k : Ports) (p : List ℕ) (x : Place) → IsSane k → place k p ≡ Some x → IsSanePlace x
+pub sane_there : (k : Ports) (p : List ℕ) (x : Place) → IsSane k → place k p ≡ Some x → IsSanePlace x
 sane_there k [] x h e = absurd (cc e)
 sane_there k (zero ∷ p) x h e = absurd (cc e)
 sane_there k (suc j ∷ p) x h e = sane_place k j p x h e

@@ -17,6 +17,7 @@ use Rattle.usb_world.specs.Steps.{Step, attempt, root_call, event, report, after
 use Rattle.usb_world.specs.WayEffects.{spares}
 use Rattle.usb_world.specs.World.{World, Attempted}
 use Rattle.usb_address.specs.Claims.{Claims}
+use Rattle.usb_backlog.specs.Marks.{KeepsAll, KeepsCall}
 use Rattle.usb_address.specs.Ownership.{Owned, TillFault}
 use Rattle.usb_transaction.specs.declared.target.Target.{Target}
 use Rattle.usb_transaction.specs.Failures.{NoThreeDamaged}
@@ -47,6 +48,9 @@ pub record PortTold (p : List ℕ) (status : PortStatus) (old new : World) : Typ
   pub before : AllRest old now
   pub since : AllRest now new
   pub row : OnReachedRow new p
+  -- what is left to do, up to then and since
+  pub untold : KeepsAll old now
+  pub rested : KeepsAll now new
 
 -- So it is of the port at a path, which a hub's port is by what the hub's path claims. Where no three attempts running are damaged, and no address was
 -- held twice, a hub that is reached in the end and serves the port, which stood there, tells its status.
@@ -83,6 +87,9 @@ pub record PortDone (p : List ℕ) (c : PortCall) (old new : World) : Type 0 whe
   pub done : place (after last before).roots p ≡ option_map (called c) (place (met_by last before) p)
   pub since : AllRest (after last before) new
   pub row : OnReachedRow new p
+  -- what is left to do, up to then and since
+  pub acted : KeepsCall p c old (after last before)
+  pub rested : KeepsAll (after last before) new
 
 -- where the bus gave up: these steps, and one more attempt, which it refused
 pub record UpToFault (K : Step → World → Type 0) (old : World) (fault : BusFault) (new : World) : Type 0 where
@@ -106,5 +113,6 @@ pub record CallsPort (port : HubPort) (call : Option PortCall) (old : World) (re
   pub done : (f : Claims) (p : List ℕ) (c : PortCall) → IsCall f port p call c old → result ≡ Ok tt → PortDone p c old new
   pub rests : (f : Claims) (p : List ℕ) (c : PortCall) → IsCall f port p call c old → IsNoBusFault result → (x : List ℕ) → is_way p x ≡ false → Course (AsksNothingOf x) old new
   pub spares : (f : Claims) (p : List ℕ) (c : PortCall) → IsCall f port p call c old → IsNoBusFault result → spares c [] ≡ true → Course (Spares p) old new
+  pub backlog : (f : Claims) (p : List ℕ) (c : PortCall) → IsCall f port p call c old → IsNoBusFault result → KeepsCall p c old new
   pub cut : (f : Claims) (p : List ℕ) (c : PortCall) → IsCall f port p call c old → (fault : BusFault) → result ≡ Err (Bus fault) → UpToFault (IsAbout p c) old fault new
   pub why : (hub : Target) (number : ℕ) → port ≡ External hub number → NoThreeDamaged old → new.shared ≡ false → Serves hub number new → NoHubFailed result

@@ -12,6 +12,9 @@ use Rattle.usb_transaction.specs.declared.target.Target.{Target}
 use Rattle.usb_transaction.specs.Transactions.{Worked}
 use Rattle.usb_port.specs.Status.{has_bit}
 use Rattle.usb_address.specs.Claims.{Claims}
+use Rattle.usb_backlog.specs.Marks.{KeepsAll}
+use Rattle.usb_request.specs.Codes.{PORT_OUT, SET_FEATURE}
+use Rattle.usb_device.specs.Request.{Is}
 use Rattle.usb_address.specs.Ownership.{Owned}
 use Rattle.usb_pipe.specs.declared.fault.PipeFault.{PipeFault}
 use Rattle.usb_pipe.specs.declared.fault.PipeFault.TheVariants.{Stalled, Memory}
@@ -40,6 +43,7 @@ pub record AskedData (target : Target) (request : Setup) (old : World) (answer :
   pub stages : Reads target request old answer new
   pub most : IfOk answer (λ bytes. length bytes.items ≤ request.length)
   pub rests : IsNoBusFault answer → AllRest old new
+  pub backlog : IsNoBusFault answer → KeepsAll old new
 
 -- a target was ordered to do what has no data
 pub record Ordered (target : Target) (request : Setup) (old : World) (result : Result (Unit {0}) PipeFault) (new : World) : Type 0 where
@@ -49,6 +53,7 @@ pub record Ordered (target : Target) (request : Setup) (old : World) (result : R
   pub room : result ≢ Err Memory
   -- a request that is not about ports asks nothing of any
   pub rests : asks_no_port request ≡ true → IsNoBusFault result → AllRest old new
+  pub backlog : Is request PORT_OUT SET_FEATURE ≡ false → IsNoBusFault result → KeepsAll old new
   -- one that resets no port asks nothing but of ports below the target's device
   pub elsewhere : is_harmless request ≡ true → IsNoBusFault result → RestBut target.addr old new
 

@@ -1,3 +1,4 @@
+use Rattle.usb_hub.proofs.Backlogs.{read_backlog}
 use Rattle.usb_hub.proofs.RestingRequests.{read_rests}
 use Rattle.usb_hub.proofs.asking.ask.Goals as goal
 
@@ -8,4 +9,5 @@ returns-clause-asked g c = record {
   stages = c.control_in.ensures.transfer.stages;
   most = c.control_in.ensures.transfer.most;
   rests = read_rests c.args.target c.args.setup c.control_in.result _ _ c.requires.reads c.control_in.ensures.transfer.settled c.control_in.ensures.transfer.stages;
+  backlog = read_backlog c.args.target c.args.setup c.control_in.result _ _ c.requires.reads c.control_in.ensures.transfer.settled c.control_in.ensures.transfer.stages;
 }
