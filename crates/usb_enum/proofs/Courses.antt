@@ -4,10 +4,9 @@ use Rattle.usb_world.specs.declared.types.Attempt.{Attempt}
 use Rattle.usb_world.specs.declared.types.BusFault.{BusFault}
 use Rattle.usb_world.specs.declared.types.Outcome.{Outcome}
 use Rattle.usb_world.specs.PlanData.{PlanData, IsPlan}
-use Rattle.usb_world.specs.PlanCourses.{AtPorts}
 use Rattle.usb_world.specs.Steps.{Step, AnyStep, Course, here, attempt, root_call, after, opening}
 use Rattle.usb_world.specs.World.{World}
-use Rattle.usb_world.proofs.Interface.{between_course, between_opening, course_joined, course_then, course_wider}
+use Rattle.usb_world.proofs.Interface.{between_course, between_opening, course_then}
 use Rattle.usb_bus.specs.Traces.{Attempts, Traced, still, attempted, called, WentOn}
 use Rattle.usb_enum.specs.PresentDevices.{IsInOrder, IsOrderly, IsRegular}
 
@@ -47,10 +46,7 @@ went_course n old new went h = (traced_course went.traced h).course
 -- what is in order stays so
 
 pub orderly_on : {K : Step → World → Type 0} {old new : World} → IsOrderly old → Course K old new → IsOrderly new
-orderly_on was course = (
-  between_course course was.0,
-  record { plan = was.1.plan; is = was.1.is; paths = was.1.paths; course = course_joined was.1.course (course_wider (λ s w k. tt) course) },
-)
+orderly_on was course = between_course course was
 
 pub traced_in_order : {old : World} {t : Option (List ℕ)} {new : World} {s : Option (List ℕ)} → Traced old t new s → IsInOrder old → IsInOrder new
 traced_in_order traced order h = let work = traced_course traced h in orderly_on (order work.sound) work.course
@@ -59,11 +55,11 @@ pub went_in_order : (n : ℕ) (old new : World) {t s : Option (List ℕ)} → We
 went_in_order n old new went = traced_in_order went.traced
 
 pub went_regular : (n : ℕ) (old new : World) {t s : Option (List ℕ)} → WentOn n old t new s → IsRegular old → IsRegular new
-went_regular n old new went regular h = let work = traced_course went.traced h in between_course work.course (regular work.sound)
+went_regular n old new went = went_in_order n old new went
 
 pub regular_order : {w : World} → IsInOrder w → IsRegular w
-regular_order order none = (order none).0
+regular_order order = order
 
 -- as it was before anything came
-pub opening_in_order : (plan : PlanData) → IsPlan plan → AtPorts plan.events → IsInOrder (opening plan)
-opening_in_order plan is paths none = (between_opening plan is.devices.ruled, record { plan = plan; is = is; paths = paths; course = here (opening plan) })
+pub opening_in_order : (plan : PlanData) → IsPlan plan → IsInOrder (opening plan)
+opening_in_order plan is none = between_opening plan is.devices.ruled

@@ -34,6 +34,7 @@ use Rattle.usb_enum.specs.Findings.{Begins, Closes, Disables, GivesUp, IsFair, I
 use Rattle.usb_enum.specs.Places.{HasEmptyPorts, IsOccupied, IsPlaced}
 use Rattle.usb_enum.specs.PresentDevices.{AtPath, Finds, IsInOrder, IsRegular, ReachesDevice}
 use Rattle.usb_enum.specs.Stop.{at_port}
+use Rattle.usb_enum.specs.StringRequests.{AsksStrings}
 use Rattle.usb_enum.specs.TextLengths.{FewFrom}
 use Rattle.usb_enum.proofs.Enumerations.{till_weaker, having, at_taking}
 use Rattle.usb_enum.proofs.Courses.{regular_order, went_sound}
@@ -92,6 +93,13 @@ none_true port addresses tier supply stop old mid new result gives = record { tr
 
 same_found : (a b : Accepted) → (let r : Result Finding EnumFault = Ok (Device a) in r ≡ Ok (Device b)) → a ≡ b
 same_found a b e = cc
+
+-- how the strings of an accepted device were asked for
+pub strings_asked : (port : HubPort) (old new : World) (device : Accepted) → AsksStrings port old new device → (other : Accepted) → (let r : Result Finding EnumFault = Ok (Device device) in r ≡ Ok (Device other)) → AsksStrings port old new other
+strings_asked port old new device asked other e = subst (AsksStrings port old new) (same_found device other e) asked
+
+pub no_strings_asked : (port : HubPort) (stop : Stop) (old mid new : World) (result : Result Finding EnumFault) → GivesUp port stop mid result new → (device : Accepted) → result ≡ Ok (Device device) → AsksStrings port old new device
+no_strings_asked port stop old mid new result gives device e = elim (gives_none port stop mid new result device gives e) [ ]
 
 device_same : (a b : Accepted) → Device a ≡ Device b → a ≡ b
 device_same a b e = cc

@@ -177,7 +177,7 @@ module _ (f : Claims) (port : HubPort) (p : List ℕ) (address m n : ℕ) {old m
         held = at.within.stays f p fair.spare fair.held;
         order = went_in_order m old mid first fair.order;
         occupied = occupied_on p only.spares fair.occupied;
-        server = server_on f port p fair.spare.at old mid (fair.order fair_start).0.sane only fair.server;
+        server = server_on f port p fair.spare.at old mid (fair.order fair_start).sane only fair.server;
         few = went_three m old mid first fair.few;
         kept = fair.kept;
         working = fair.working;
@@ -198,7 +198,7 @@ called_faulted port address n call why {old} {new} went at told called = record 
   where
     lost : (f : Claims) (p : List ℕ) → IsFairAt f port p address old new → FaultsFor p why new
     lost f p fair =
-        hub_lost f port p fair.spare.at why new told (server_on f port p fair.spare.at old new (fair.order (went_sound n old new went fair.working)).0.sane (fair_only f port p address fair at) fair.server)
+        hub_lost f port p fair.spare.at why new told (server_on f port p fair.spare.at old new (fair.order (went_sound n old new went fair.working)).sane (fair_only f port p address fair at) fair.server)
         (λ hub i is parent serves there wide. absurd (unserved called.outcome why called.told parent (called.calls.why hub i is fair.few (fair_single f port p address fair at) serves)))
 
 -- a port stands where its change of connection is pending and that of its hub is not, and where a device stands
@@ -249,7 +249,7 @@ module _ (port : HubPort) (address n : ℕ) (why : EnumFault) {old new : World} 
   status_faulted = record {
     why = λ f p fair.
         hub_lost f port p fair.spare.at why new told
-        (server_on f port p fair.spare.at old new (fair.order (went_sound n old new went fair.working)).0.sane (fair_only f port p address fair at) fair.server)
+        (server_on f port p fair.spare.at old new (fair.order (went_sound n old new went fair.working)).sane (fair_only f port p address fair at) fair.server)
         (status_denies f p fair);
   }
 

@@ -38,9 +38,12 @@ use Rattle.usb_hub.specs.Moments.{IsCall, CallsPort}
 use Rattle.usb_hub.specs.Port.{PortRead}
 use Rattle.usb_hub.specs.Requests.{AllRest, RestBut, EndsAfter, AskedData, Ordered}
 use Rattle.usb_hub.specs.Settings.{AddressAsked, ConfigurationAsked}
-use Rattle.usb_hub.proofs.Interface.{same_stays, stays-registers, stays-spec, stays_itself, stays_joined, stays_none}
+use Rattle.usb_hub.proofs.Interface.{power_backlog, same_stays, stays-registers, stays-spec, stays_itself, stays_joined, stays_none}
 use Rattle.usb_enum.specs.Addresses.{IsSpare, Within, TakesAddress, OnlyCalls, AtPort}
-use Rattle.usb_enum.specs.Frames.{OnlyAsks, OnlyTells, StaysBut, OnlySets, OnlyAt}
+use Rattle.usb_enum.specs.Frames.{FoundAt, OnlyAsks, OnlyTells, StaysBut, OnlySets, OnlyAt}
+use Rattle.usb_backlog.specs.Marks.{KeepsAll}
+use Rattle.usb_backlog.specs.PortSettings.{gives_power}
+use Rattle.usb_backlog.proofs.Interface.{all_none, all_then, found_all, found_called, found_then}
 use Rattle.usb_enum.proofs.Courses.{went_sound}
 use Rattle.usb_enum.proofs.Enumerations.{Having, having, at_taking, within_none, within_then, within_on, within_kept, within_reset, within_given}
 use Rattle.usb_enum.proofs.Readings.{devices_then}
@@ -64,13 +67,14 @@ ended {A} least (Err why) old new ends none = not_of_bus {A = A} (Err why) old n
 -- Requests for data
 
 pub asks_none : (w : World) → OnlyAsks w w
-asks_none w = record { addresses = keeps_none w; devices = stays_none w; ports = λ none x. here w }
+asks_none w = record { addresses = keeps_none w; devices = stays_none w; ports = λ none x. here w; backlog = λ none. all_none w }
 
 pub asks_then : (n : ℕ) (old mid new : World) {r s : Option (List ℕ)} → OnlyAsks old mid → WentOn n mid r new s → OnlyAsks mid new → OnlyAsks old new
 asks_then n old mid new a went b = record {
   addresses = keeps_then old mid new a.addresses b.addresses;
   devices = devices_then n old mid new a.devices went b.devices;
   ports = λ none x. course_joined (a.ports (went_sound n mid new went none) x) (b.ports none x);
+  backlog = λ none. all_then (a.backlog (went_sound n mid new went none)) (b.backlog none);
 }
 
 pub answer_asks : {A X : Type 0} (given : Spec → Option X) (Has : State → A → Type 0) (t : Target) (request : Setup) (outcome : Result A PipeFault) (answer : Result (Vec ℕ) PipeFault) (old new : World)
@@ -79,6 +83,7 @@ answer_asks given Has t request outcome answer old new asked what keeps = record
   addresses = keeps;
   devices = record { stays = λ single. each_wider (ReadAsked given Has t outcome) StaysAs (λ j s v x. x.frame) old new (what single) };
   ports = λ none. asked.rests (ended 3 answer old new asked.ends none);
+  backlog = λ none. asked.backlog (ended 3 answer old new asked.ends none);
 }
 
 pub text_asks : (given : Spec → Option (List ℕ)) (t : Target) (request : Setup) (wanted : ℕ) (outcome : Result (Vec ℕ) PipeFault) (old new : World)
@@ -87,11 +92,15 @@ text_asks given t request wanted outcome old new = answer_asks given (λ s bytes
 
 -- a port's status; that of a root port is a register
 pub status_asks : (port : HubPort) (outcome : Result PortStatus PipeFault) (old new : World) → PortRead port old outcome new → IfErr outcome (λ why. FaultAfter 1 old why new) → KeepsAsked port old outcome new → OnlyAsks old new
-status_asks port outcome old new read ends keeps = record { addresses = keeps.keeps; devices = keeps.devices; ports = by_port port read }
+status_asks port outcome old new read ends keeps = record { addresses = keeps.keeps; devices = keeps.devices; ports = by_port port read; backlog = by_backlog port read }
   where
     by_port : (port : HubPort) → PortRead port old outcome new → new.fault ≡ None → AllRest old new
     by_port (Root number) read none = λ x. subst (λ w. Course (AsksNothingOf x) old w) (sym read.same) (here old)
     by_port (External hub n) told none = told.asked.rests (ended 3 told.answer old new told.asked.ends none)
+
+    by_backlog : (port : HubPort) → PortRead port old outcome new → new.fault ≡ None → KeepsAll old new
+    by_backlog (Root number) read none = subst (KeepsAll old) (sym read.same) (all_none old)
+    by_backlog (External hub n) told none = told.asked.backlog (ended 3 told.answer old new told.asked.ends none)
 
 -- Requests to a hub about its ports
 
@@ -100,6 +109,7 @@ tells_asked hub old new a = record {
   addresses = a.addresses;
   devices = a.devices;
   ports = λ none f q held own x apart. a.ports none x;
+  backlog = λ none f q held own. found_all q (a.backlog none);
 }
 
 pub tells_none : (hub : ℕ) (w : World) → OnlyTells hub w w
@@ -115,11 +125,18 @@ rest_then address n old mid new keeps a went b none f q held own x apart =
     let sound = went_sound n mid new went none in
     course_joined (a sound f q held own x apart) (b none f q held (owned_on f old mid keeps sound own) x apart)
 
+found_at_then : (address n : ℕ) (old mid new : World) {r s : Option (List ℕ)} → KeepsAddresses old mid → (mid.fault ≡ None → FoundAt address old mid) → WentOn n mid r new s → (new.fault ≡ None → FoundAt address mid new)
+    → new.fault ≡ None → FoundAt address old new
+found_at_then address n old mid new keeps a went b none f q held own =
+    let sound = went_sound n mid new went none in
+    found_then q (a sound f q held own) (b none f q held (owned_on f old mid keeps sound own))
+
 pub tells_then : (hub n : ℕ) (old mid new : World) {r s : Option (List ℕ)} → OnlyTells hub old mid → WentOn n mid r new s → OnlyTells hub mid new → OnlyTells hub old new
 tells_then hub n old mid new a went b = record {
   addresses = keeps_then old mid new a.addresses b.addresses;
   devices = devices_then n old mid new a.devices went b.devices;
   ports = rest_then hub n old mid new a.addresses a.ports went b.ports;
+  backlog = found_at_then hub n old mid new a.addresses a.backlog went b.backlog;
 }
 
 -- PORT_POWER
@@ -130,6 +147,7 @@ power_tells hub port old result new ordered keeps devices = record {
   addresses = keeps;
   devices = devices;
   ports = λ none. ordered.elsewhere refl (ended 2 result old new ordered.ends none);
+  backlog = λ none f q held own. power_backlog hub f q old result new (ended 2 result old new ordered.ends none) held own port ordered;
 }
 
 -- SET_CONFIGURATION, and what goes before and after it
@@ -142,6 +160,7 @@ sets_told address old new a = record {
   addresses = a.addresses;
   devices = λ single. each_wider StaysAs (StaysBut address) (stays_but address) old new (a.devices.stays single);
   ports = a.ports;
+  backlog = a.backlog;
 }
 
 pub sets_asked : (address : ℕ) (old new : World) → OnlyAsks old new → OnlySets address old new
@@ -162,6 +181,7 @@ sets_then address n old mid new a went b = record {
   addresses = keeps_then old mid new a.addresses b.addresses;
   devices = λ single. each_joined (StaysBut address) (StaysBut address) (StaysBut address) (but_then address) old mid new (a.devices (went_unshared n mid new went single)) (b.devices single);
   ports = rest_then address n old mid new a.addresses a.ports went b.ports;
+  backlog = found_at_then address n old mid new a.addresses a.backlog went b.backlog;
 }
 
 pub configuration_sets : (t : Target) (value : ℕ) (result : Result (Unit {0}) PipeFault) (old new : World) → Ordered t (set_configuration value) old result new
@@ -173,6 +193,7 @@ configuration_sets t value result old new ordered what keeps = record {
       each_wider (ConfigurationAsked t value result new) (StaysBut t.addr)
       (λ j s v x. record { spec = ap (λ y. y.spec) x.frame; same = ap (λ y. y.registers.address) x.frame; stays = λ apart. same_stays j s v (x.others apart) }) old new (what single);
   ports = λ none. ordered.elsewhere refl (ended 2 result old new ordered.ends none);
+  backlog = λ none f q held own. found_all q (ordered.backlog refl (ended 2 result old new ordered.ends none));
 }
 
 -- Calls at a port
@@ -191,14 +212,15 @@ only_at_then p old mid new a b = record {
   others = λ x apart. course_joined (a.others x apart) (b.others x apart);
   spares = course_joined a.spares b.spares;
   devices = elsewhere_then p old mid new a.devices b.devices;
+  backlog = found_then p a.backlog b.backlog;
 }
 
 -- where nothing was asked of any port
-only_at_rest : (p : List ℕ) (old new : World) → AllRest old new → EachElsewhere p StaysAs old new → OnlyAt p old new
-only_at_rest p old new rests devices = record { others = λ x apart. rests x; spares = course_wider (λ s w k. k.spares) (rests p); devices = devices }
+only_at_rest : (p : List ℕ) (old new : World) → AllRest old new → KeepsAll old new → EachElsewhere p StaysAs old new → OnlyAt p old new
+only_at_rest p old new rests backlog devices = record { others = λ x apart. rests x; spares = course_wider (λ s w k. k.spares) (rests p); devices = devices; backlog = found_all p backlog }
 
 pub calls_none : (port : HubPort) (address : ℕ) (w : World) → OnlyCalls port address w w
-calls_none port address w = record { at = λ f p spare t none. only_at_rest p w w (λ x. here w) (elsewhere_of p w w (each_none StaysAs stays_itself w)) }
+calls_none port address w = record { at = λ f p spare t none. only_at_rest p w w (λ x. here w) (all_none w) (elsewhere_of p w w (each_none StaysAs stays_itself w)) }
 
 pub at_none : (port : HubPort) (address : ℕ) (w : World) → AtPort port address w w
 at_none port address w = record { within = within_none port address w; only = calls_none port address w }
@@ -220,7 +242,7 @@ at_asked port address old new asks = record {
   within = within_kept port address old new asks.addresses;
   only = record {
     at = λ f p spare t none.
-        only_at_rest p old new (asks.ports none) (elsewhere_of p old new (asks.devices.stays ((within_kept port address old new asks.addresses).stays f p spare t).single));
+        only_at_rest p old new (asks.ports none) (asks.backlog none) (elsewhere_of p old new (asks.devices.stays ((within_kept port address old new asks.addresses).stays f p spare t).single));
   };
 }
 
@@ -234,7 +256,7 @@ pub called_is : (f : Claims) (port : HubPort) (p : List ℕ) (address : ℕ) (w 
 called_is f port p address w spare h call c is = record { at = at_taking f port p h.has spare.at; is = is; alone = λ r. zero_there f p h.has spare.none; owned = h.owned }
 
 -- a call that clears nothing that is pending at the port
-module _ (port : HubPort) (address : ℕ) (call : Option PortCall) (c : PortCall) (is : call ≡ Some c) (spared : spares c [] ≡ true) (old : World) (result : Result (Unit {0}) PipeFault) (new : World)
+module _ (port : HubPort) (address : ℕ) (call : Option PortCall) (c : PortCall) (is : call ≡ Some c) (spared : spares c [] ≡ true) (quiet : gives_power c ≡ false) (old : World) (result : Result (Unit {0}) PipeFault) (new : World)
     (ends : IfErr result (λ why. FaultAfter 1 old why new)) (calls : CallsPort port call old result new) where
   called_at : (f : Claims) (p : List ℕ) → IsSpare f port p address → TillFault (Enumerating f p address) old → new.fault ≡ None
       → ((h : Having f p address old) → EachElsewhere p StaysAs old new) → OnlyAt p old new
@@ -247,14 +269,15 @@ module _ (port : HubPort) (address : ℕ) (call : Option PortCall) (c : PortCall
         others = calls.rests g p c call_is sound;
         spares = calls.spares g p c call_is sound spared;
         devices = devices h;
+        backlog = found_called p c quiet (calls.backlog g p c call_is sound);
       }
 
 -- the clearing of a change bit or of PORT_ENABLE
-clear_calls : (port : HubPort) (address : ℕ) (call : Option PortCall) (c : PortCall) → call ≡ Some c → spares c [] ≡ true → (feature : ℕ) (old : World) (result : Result (Unit {0}) PipeFault) (new : World)
+clear_calls : (port : HubPort) (address : ℕ) (call : Option PortCall) (c : PortCall) → call ≡ Some c → spares c [] ≡ true → gives_power c ≡ false → (feature : ℕ) (old : World) (result : Result (Unit {0}) PipeFault) (new : World)
     → IfErr result (λ why. FaultAfter 1 old why new) → CallsPort port call old result new → KeepsCleared port feature old result new → OnlyCalls port address old new
-clear_calls port address call c is spared feature old result new ends calls keeps = record {
+clear_calls port address call c is spared quiet feature old result new ends calls keeps = record {
   at = λ f p spare t none.
-      called_at port address call c is spared old result new ends calls f p spare t none
+      called_at port address call c is spared quiet old result new ends calls f p spare t none
       (λ h. elsewhere_of p old new (keeps.devices.stays (keeps.keeps.kept (after_taking f p h.has) h.owned).single));
 }
 
@@ -263,20 +286,20 @@ pub at_reset_cleared : (port : HubPort) (address : ℕ) (old : World) (result : 
     → IfErr result (λ why. FaultAfter 1 old why new) → CallsPort port (clear_call C_PORT_RESET) old result new → KeepsCleared port C_PORT_RESET old result new → AtPort port address old new
 at_reset_cleared port address old result new ends calls keeps = record {
   within = within_kept port address old new keeps.keeps;
-  only = clear_calls port address (clear_call C_PORT_RESET) ClearResetChange refl refl 20 old result new ends calls keeps;
+  only = clear_calls port address (clear_call C_PORT_RESET) ClearResetChange refl refl refl 20 old result new ends calls keeps;
 }
 
 -- PORT_ENABLE
 pub disable_calls : (port : HubPort) (address : ℕ) (old : World) (result : Result (Unit {0}) PipeFault) (new : World)
     → IfErr result (λ why. FaultAfter 1 old why new) → CallsPort port (clear_call PORT_ENABLE) old result new → KeepsCleared port PORT_ENABLE old result new → OnlyCalls port address old new
-disable_calls port address old result new ends calls keeps = clear_calls port address (clear_call PORT_ENABLE) ClearEnable refl refl 1 old result new ends calls keeps
+disable_calls port address old result new ends calls keeps = clear_calls port address (clear_call PORT_ENABLE) ClearEnable refl refl refl 1 old result new ends calls keeps
 
 -- PORT_RESET
 pub reset_calls : (port : HubPort) (address : ℕ) (old : World) (result : Result (Unit {0}) PipeFault) (new : World)
     → IfErr result (λ why. FaultAfter 1 old why new) → CallsPort port (set_call PORT_RESET) old result new → Resets port old new → OnlyCalls port address old new
 reset_calls port address old result new ends calls resets = record {
   at = λ f p spare t none.
-      called_at port address (set_call PORT_RESET) SetReset refl refl old result new ends calls f p spare t none
+      called_at port address (set_call PORT_RESET) SetReset refl refl refl old result new ends calls f p spare t none
       (λ h. resets.others (after_taking f p h.has) p (at_taking f port p h.has spare.at) (zero_there f p h.has spare.none) h.owned none);
 }
 
@@ -323,7 +346,7 @@ at_addressed port address m target result old mid new at zero_is least went orde
     only f p spare t none =
         let h = having f p address mid t in
         let sound = went_sound m mid new went none in
-        only_at_rest p mid new (ordered.rests refl (ended 2 result mid new ordered.ends none))
+        only_at_rest p mid new (ordered.rests refl (ended 2 result mid new ordered.ends none)) (ordered.backlog refl (ended 2 result mid new ordered.ends none))
         (unheld_stays f p h.has 0 mid new (h.owned.so sound) spare.none (AddressAsked target address result mid new)
         (λ j s v x apart. same_stays j s v (x.others (ap (λ a. address_of s == a) zero_is ∙ apart)))
         (what (within.stays f p spare t).single))
@@ -348,4 +371,5 @@ at_configured port address n old mid new at takes went sets = record { within = 
           others = λ x apart. rests x (ap (λ b. b && not (same_path p x)) apart);
           spares = course_wider (λ s w k. k.spares) (rests p (not_below p));
           devices = unheld_stays f p address address mid new own spare.spare (StaysBut address) (λ j s v x apart. x.stays apart) (sets.devices (sets.addresses.kept (after_taking f p address) taken).single);
+          backlog = sets.backlog none (after_taking f p address) p (held_there f p address) own;
         })

@@ -15,7 +15,9 @@ use Rattle.usb_enum.specs.declared.stop.Stop.{Stop}
 use Rattle.usb_enum.specs.declared.stop.Stop.TheVariants.{Refused, Fault}
 use Rattle.usb_enum.specs.Device.{is_hub_device, fits_tier}
 use Rattle.usb_enum.specs.Hub.{CountTold, IsPowered, Powered}
-use Rattle.usb_enum.specs.Stop.{ToldOfHub, ToldOfDevice, answered_or}
+use Rattle.usb_enum.specs.Reasons.{ToldAtStart}
+use Rattle.usb_enum.specs.Stop.{ToldOfDevice, answered_or}
+use Rattle.usb_enum.proofs.Reasons.{because_plain}
 use Rattle.usb_enum.proofs.ToldFailures.{plain_fits}
 
 -- what a port of a hub gives
@@ -32,10 +34,10 @@ not_last_by false tier done is fits e = absurd cc
 not_last : (tier : ℕ) (bytes : List ℕ) → is_hub_device bytes ≡ true → fits_tier tier bytes ≡ Ok tt → tier ≢ 7
 not_last tier bytes = not_last_by (is_hub_device bytes) tier tt
 
-pub told_of_hub : (tier : ℕ) (bytes : List ℕ) (stop : Stop) (w : World) → fits_tier tier bytes ≡ Ok tt → is_hub_device bytes ≡ true → ToldOfHub stop w → ToldOfDevice tier stop w
-told_of_hub tier bytes (Refused why) w fits is (inl e) = rw e (not_last tier bytes is fits)
-told_of_hub tier bytes (Refused why) w fits is (inr plain) = plain_fits tier why plain
-told_of_hub tier bytes (Fault fault) w fits is told = told
+pub told_of_hub : (tier : ℕ) (bytes : List ℕ) (stop : Stop) (t : Target) (text : List ℕ) (old new : World) → fits_tier tier bytes ≡ Ok tt → is_hub_device bytes ≡ true → ToldAtStart t text stop old new → ToldOfDevice tier stop new
+told_of_hub tier bytes (Refused why) t text old new fits is (inl bad) = rw bad.0 (not_last tier bytes is fits)
+told_of_hub tier bytes (Refused why) t text old new fits is (inr b) = plain_fits tier why (because_plain why t old new b)
+told_of_hub tier bytes (Fault fault) t text old new fits is told = told
 
 -- what was answered
 pub answered_ok : {X : Type 0} (stalled : Cause) (outcome : Result X PipeFault) (answer : X) → answered_or stalled outcome ≡ Ok answer → outcome ≡ Ok answer

@@ -3,7 +3,6 @@ use Rattle.std.proofs.Common.{◌≡◌, refl, sym, subst, arith}
 use Rattle.std.specs.Prelude.{◌-◌, List, Result, Ok, Err, false, slice_index_or}
 use Rattle.std.proofs.Common.{get_or-set_same}
 use Rattle.usb_port.specs.PortState.{PortState, off}
-use Rattle.usb_port.specs.Calls.{clear_call}
 use Rattle.usb_request.specs.Features.{PORT_ENABLE}
 use Rattle.usb_world.specs.World.{World, root_row, root_port_at}
 use Rattle.usb_pipe.specs.declared.fault.PipeFault.{PipeFault}

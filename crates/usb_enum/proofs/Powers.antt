@@ -9,7 +9,6 @@ use Rattle.usb_port.specs.PortState.{PortState, powered_off}
 use Rattle.usb_request.specs.Requests.{set_port_feature, set_configuration, get_hub_descriptor, get_status}
 use Rattle.usb_request.specs.declared.setup.Setup.{Setup}
 use Rattle.usb_port.specs.declared.call.PortCall.TheVariants.{SetPower}
-use Rattle.usb_port.specs.Calls.{set_call}
 use Rattle.usb_device.specs.declared.request.Registers.{Registers}
 use Rattle.usb_device.specs.Request.{Is, port_named}
 use Rattle.usb_device.specs.Rows.{State}
@@ -158,10 +157,10 @@ module _ (t : Target) (f : Claims) (j : Spot) (held : f (path_to j) ≡ Some t.a
     stood : (b : PortState) × (port_there old.roots (port n) ≡ Some b)
     stood =
         there_is (port_there old.roots (port n))
-        (ports_stand was.order.1.plan was.order.1.is was.order.1.paths old was.order.1.course j has.0.spec n (ap (option_map spec_of) has.1.0) (port_within has.0.spec.hub has.0.registers n has.1.1))
+        (ports_stand old.roots j.row j.rest has.0.spec n was.order.sane (ap (option_map spec_of) has.1.0) (port_within has.0.spec.hub has.0.registers n has.1.1))
 
     now_powered : IsKnownAs new (port n) None
-    now_powered = powered_stands (port n) old new done was.order.0 stood.0 stood.1 (was.off n (omega arith) stood.0 stood.1)
+    now_powered = powered_stands (port n) old new done was.order stood.0 stood.1 (was.off n (omega arith) stood.0 stood.1)
 
     rests : (i : ℕ) → same_number n i ≡ false → Course (AsksNothingOf (port i)) old new
     rests i apart =

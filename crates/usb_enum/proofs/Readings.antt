@@ -80,7 +80,7 @@ total_learned t stalled index total outcome bytes old new answered head =
     (λ spec text given first. record { text = text; given = given; head = ap config_head_of (sym first) ∙ head })
 
 -- bytes that are a configuration text
-good_bytes : (bytes text : List ℕ) → Some text ≡ config_text_of bytes → (is_ok (config_of bytes) ≡ true) × (text ≡ bytes)
+pub good_bytes : (bytes text : List ℕ) → Some text ≡ config_text_of bytes → (is_ok (config_of bytes) ≡ true) × (text ≡ bytes)
 good_bytes bytes text = split (is_ok (config_of bytes))
   where
     split : (b : Bool) → Some text ≡ (if b then Some bytes else None) → (b ≡ true) × (text ≡ bytes)

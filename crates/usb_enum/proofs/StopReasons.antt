@@ -58,7 +58,7 @@ use Rattle.usb_enum.specs.Losses.{NoNewStretch}
 use Rattle.usb_enum.specs.Places.{IsOccupied, IsReachedAt}
 use Rattle.usb_enum.specs.PresentDevices.{AtPath, HasHead, AwaitsAddress, Awaits, WasReset}
 use Rattle.usb_enum.specs.Refusals.{IsResponsive, IsRefusedFor, Refuses, no_fault, head_fault, early_fault, address_fault, device_fault, addressed_fault, NoDescriptor, RefusesDescriptor}
-use Rattle.usb_enum.specs.Stop.{stop_of, answered_or, StopTold}
+use Rattle.usb_enum.specs.Stop.{stop_of, answered_or, StopFaults}
 use Rattle.usb_enum.proofs.Courses.{regular_order, went_course, went_sound}
 use Rattle.usb_enum.proofs.Enumerations.{having, at_taking, within_kept}
 use Rattle.usb_enum.proofs.Fairness.{fair_before, fair_then, fair_single, none_lost, pends_reached, port_stands, held_spare}
@@ -133,7 +133,7 @@ reset_lost port address m n status {old} {set} {told} first second at_set asks c
         by_set : live old.roots p ≡ true → (s : State) → state_there old.roots p ≡ Some s → (b : PortState) → port_there old.roots p ≡ Some b → StandsSo p SetReset (Called p SetReset) old set → pend told.roots p ≡ true
         by_set on s there b at (inr h) = later h
         by_set on s there b at (inl y) =
-            by_rest (reset b) (reset_enables old.roots p b s (fair.order (went_sound m old set first none_set)).0.sane on at there) (y.1 ∙ ap (option_map (called_port SetReset)) at)
+            by_rest (reset b) (reset_enables old.roots p b s (fair.order (went_sound m old set first none_set)).sane on at there) (y.1 ∙ ap (option_map (called_port SetReset)) at)
             (rests_or_pends p (seen_at.before p) y.0)
 
         by_old : IsOccupied old p → pend told.roots p ≡ true
@@ -240,7 +240,7 @@ zero_held f p w none t s on there = let e = t.so none in held_at f p e.has w e.o
 -- Its head
 
 pub head_stops : (port : HubPort) (address m n : ℕ) (low pre : Bool) (stop : Stop) {old mid new : World} {a b c d : Option (List ℕ)} → WentOn m old a mid b → WentOn n mid c new d → AtPort port address old mid → AtPort port 0 old mid → OnlyAsks mid new
-    → WasReset low port 0 old mid → pre ≡ (low && needs_pre port) → StopTold stop new
+    → WasReset low port 0 old mid → pre ≡ (low && needs_pre port) → StopFaults stop new
     → (let t : Target = record { addr = 0; max = 8; low = low; pre = pre } in Explains (IsRefusedFor (head_fault low) stop) t mid new) → StopsFairly early_fault port address stop old new
 head_stops port address m n low pre (Fault why) first second at at_zero asks was is told explains = record { why = λ f p fair. none_lost p why _ told }
 head_stops port address m n low pre (Refused cause) {old} {mid} {new} first second at at_zero asks was is told explains = record { why = why }
@@ -259,7 +259,7 @@ head_stops port address m n low pre (Refused cause) {old} {mid} {new} first seco
         pends_reached (λ spec. early_fault spec ≡ Some cause) p new
         (reached_on p (asks.ports fair.working p) (was.reaches.reached f p spare held fair.order fair.occupied sound))
         (λ s on there.
-        let so = explained_at (λ spec. head_fault low spec ≡ Some cause) (λ spec. spec.low ≡ low) t f port p mid new fair.spare.at is here.few single (here.order sound).0.sane explains
+        let so = explained_at (λ spec. head_fault low spec ≡ Some cause) (λ spec. spec.low ≡ low) t f port p mid new fair.spare.at is here.few single (here.order sound).sane explains
         (λ z up at_z. record { low = speed z up at_z; address = zero z up at_z; so = speed z up at_z }) s on there in
         subst (λ x. head_fault x s.spec ≡ Some cause) (sym so.1) so.0)
 
@@ -322,7 +322,7 @@ module _ (port : HubPort) (address m n : ℕ) (target : Target) (outcome : Resul
             let waits = at_place (AwaitsAddress target) p mid (λ j s. Both j s v) (awaits.found.found f p (held_spare f port p address fair.spare) held (regular_order fair.order)) s in
             let heard = hears_there f port s.spot target s.before (subst (IsAt f port) s.path fair.spare.at) is.pre waits.low (waits.zero ∙ sym is.zero) in
             subst (λ x. addressed_fault x ≡ Some cause) (sym (ap (λ y. y.spec) s.so.0.frame))
-            (so s.spot s.before v s.so (record { at = heard.at; loud = waits.head.loud; hears = heard.hears }) (sane_spec mid.roots s.spot.row s.spot.rest s.before (here.order sound).0.sane s.stands) waits)
+            (so s.spot s.before v s.so (record { at = heard.at; loud = waits.head.loud; hears = heard.hears }) (sane_spec mid.roots s.spot.row s.spot.rest s.before (here.order sound).sane s.stands) waits)
 
     pub address_stops : (stop : Stop) → answered_or (Stalled request.Address) outcome ≡ Err stop → StopsFairly addressed_fault port address stop old new
     address_stops stop told = record { why = λ f p fair. let failed = answered_err (Stalled request.Address) outcome stop told in subst (λ x. StopsFor addressed_fault f p old x new) failed.2 (by_fault f p fair failed.0 failed.1) }
@@ -380,7 +380,7 @@ module _ (port : HubPort) (address l m n : ℕ) (target : Target) {old mid given
       pends_reached (λ spec. addressed_fault spec ≡ Some cause) p new (named_reached f p fair held)
       (λ s on there. by_spec s.spec
       (explained_at (Refuses named (device_fault target.low) (Refused cause)) (Granted target.low target.max) named f port p given new fair.spare.at is.pre (fair_given f p fair held).few (single_new f p fair held)
-      ((fair_given f p fair held).order (sound_given f p fair held)).0.sane refuses.why targeted s on there))
+      ((fair_given f p fair held).order (sound_given f p fair held)).sane refuses.why targeted s on there))
     where
       by_spec : (spec : Spec) → Refuses named (device_fault target.low) (Refused cause) spec × Granted target.low target.max spec → addressed_fault spec ≡ Some cause
       by_spec spec so =
@@ -398,7 +398,7 @@ module _ (port : HubPort) (address l m n : ℕ) (target : Target) {old mid given
             so = g;
           }
 
-  pub descriptor_stops : (stop : Stop) → StopTold stop new → RefusesDescriptor named stop given new → StopsFairly addressed_fault port address stop old new
+  pub descriptor_stops : (stop : Stop) → StopFaults stop new → RefusesDescriptor named stop given new → StopsFairly addressed_fault port address stop old new
   descriptor_stops (Fault why) told refuses = record { why = λ f p fair. none_lost p why new told }
   descriptor_stops (Refused cause) told refuses = record { why = descriptor_refused_for cause refuses }
 
@@ -418,7 +418,7 @@ module _ (port : HubPort) (address l m n : ℕ) (target : Target) {old mid given
             → TillFault (Enumerating f p 0) new × (given.losses ≡ one_more mid.losses)
         by_end w g s none_yet (took registers losses) =
             absurd (w.so.so (hears_there f port j named w.before (subst (IsAt f port) path fair.spare.at) is.pre g.speed (ap (λ r. r.address) registers))
-            (sane_spec given.roots j.row j.rest w.before ((fair_given f p fair held).order (sound_given f p fair held)).0.sane w.stands) (responsive f p fair held w.before.spec g))
+            (sane_spec given.roots j.row j.rest w.before ((fair_given f p fair held).order (sound_given f p fair held)).sane w.stands) (responsive f p fair held w.before.spec g))
         by_end w g s none_yet (lost registers losses) =
             let t = at_given.within.stays f p fair.spare fair.held in
             let own = t.so (sound_given f p fair held) in

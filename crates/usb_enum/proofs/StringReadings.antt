@@ -13,7 +13,7 @@ use Rattle.usb_enum.specs.declared.strings.StringIndexes.{StringIndexes}
 use Rattle.usb_enum.specs.declared.strings.Strings.{Strings}
 use Rattle.usb_enum.specs.Verdicts.{string_read, string_at, strings_by}
 use Rattle.usb_enum.specs.LearnedFacts.{Learns}
-use Rattle.usb_enum.specs.Readings.{AtMaximum, HasString, language_of, string_in, no_strings}
+use Rattle.usb_enum.specs.Readings.{AtMaximum, HasString, bytes_given, language_of, string_in, no_strings}
 use Rattle.usb_enum.specs.Stop.{stop_of}
 use Rattle.usb_enum.specs.Text.{string_units, first_language_of}
 use Rattle.usb_enum.proofs.LearnedFacts.{learns_wider}
@@ -36,7 +36,7 @@ string_learned t index outcome bytes old new is =
     (λ spec text given first. ap Some first ∙ sym (read_given spec index ∙ ap (option_map (take 255)) given))
 
 -- only a STALL is no stop
-stall_alone : (fault : PipeFault) → stop_of fault ≡ None → fault ≡ pipe.Stalled
+pub stall_alone : (fault : PipeFault) → stop_of fault ≡ None → fault ≡ pipe.Stalled
 stall_alone pipe.Stalled none = refl
 stall_alone pipe.Busy none = absurd cc
 stall_alone pipe.NoAnswer none = absurd cc
@@ -55,10 +55,7 @@ nonzero : (index : ℕ) → (index ≡ 0 → ⊥) → (index == 0) ≡ false
 nonzero index named = grind (arith, named)
 
 -- what is read of its bytes
-abbrev pub items_in : Option (Vec ℕ) → Option (List ℕ)
-items_in bytes = option_map (λ (text : Vec ℕ). text.items) bytes
-
-pub units_learned : (t : Target) (index : ℕ) (bytes : Option (Vec ℕ)) (string : Option (List ℕ)) (old new : World) → (index ≡ 0 → ⊥) → string ≡ option_and_then string_units (items_in bytes)
+pub units_learned : (t : Target) (index : ℕ) (bytes : Option (Vec ℕ)) (string : Option (List ℕ)) (old new : World) → (index ≡ 0 → ⊥) → string ≡ option_and_then string_units (bytes_given bytes)
     → Learns (AtMaximum t (HasString index bytes)) t old new → Learns (AtMaximum t (λ spec. string ≡ string_in spec index)) t old new
 units_learned t index bytes string old new named is =
     learns_wider (AtMaximum t (HasString index bytes)) (AtMaximum t (λ spec. string ≡ string_in spec index)) t old new
@@ -67,7 +64,7 @@ units_learned t index bytes string old new named is =
 pub unnamed_learned : (t : Target) (index : ℕ) (w : World) → index ≡ 0 → Learns (AtMaximum t (λ spec. None ≡ string_in spec index)) t w w
 unnamed_learned t index w unnamed = learns_none (AtMaximum t (λ spec. None ≡ string_in spec index)) t w (λ spec max. rw unnamed refl)
 
-pub language_learned : (t : Target) (bytes : Option (Vec ℕ)) (language : Option ℕ) (old new : World) → language ≡ option_and_then first_language_of (items_in bytes)
+pub language_learned : (t : Target) (bytes : Option (Vec ℕ)) (language : Option ℕ) (old new : World) → language ≡ option_and_then first_language_of (bytes_given bytes)
     → Learns (AtMaximum t (HasString 0 bytes)) t old new → Learns (AtMaximum t (λ spec. language ≡ language_of spec)) t old new
 language_learned t bytes language old new is =
     learns_wider (AtMaximum t (HasString 0 bytes)) (AtMaximum t (λ spec. language ≡ language_of spec)) t old new (λ spec has max. is ∙ ap (option_and_then first_language_of) (has max))

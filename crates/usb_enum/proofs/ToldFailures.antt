@@ -1,9 +1,8 @@
 -- What a failed call tells, in the words of the calls above it.
 use Rattle.std.proofs.Common.{ℕ, Bool, true, false, List, Some, Result, Ok, Err, if◌then◌else◌, refl, sym, subst}
-use Rattle.std.specs.Prelude.{◌≡◌, IfOk, IfErr, IfSome, IsErr, IsErrAnd, MatchResult}
+use Rattle.std.specs.Prelude.{◌≡◌, IfOk, IfErr, IfSome, IsErr, IsErrAnd}
 use Rattle.usb_world.specs.World.{World}
 use Rattle.usb_port.specs.declared.status.PortStatus.{PortStatus}
-use Rattle.usb_transaction.specs.Transactions.{Worked}
 use Rattle.usb_pipe.specs.declared.fault.PipeFault.{PipeFault}
 use Rattle.usb_pipe.specs.declared.fault.PipeFault.TheVariants as pipe
 use Rattle.usb_pipe.specs.Control.{FaultAfter}
@@ -14,10 +13,9 @@ use Rattle.usb_enum.specs.declared.cause.Cause.{Cause}
 use Rattle.usb_enum.specs.declared.cause.Cause.TheVariants as cause
 use Rattle.usb_enum.specs.declared.fault.EnumFault.{EnumFault}
 use Rattle.usb_enum.specs.declared.fault.EnumFault.TheVariants as fault
-use Rattle.usb_enum.specs.declared.stop.Stop.{Stop}
-use Rattle.usb_enum.specs.declared.stop.Stop.TheVariants.{Refused, Fault}
+use Rattle.usb_enum.specs.declared.stop.Stop.TheVariants.{Refused}
 use Rattle.usb_enum.specs.Device.{is_device, device_bytes}
-use Rattle.usb_enum.specs.Stop.{CanFail, FitsTier, IsPlain, FaultAt, FaultTold, StopTold, StopToldAt, ToldOfDevice, answered_or, at_port}
+use Rattle.usb_enum.specs.Stop.{CanFail, FitsTier, IsPlain, FaultAt, FaultTold, at_port}
 
 pub plain_fits : (tier : ℕ) (why : Cause) → IsPlain why → FitsTier tier why
 plain_fits tier cause.Silent plain = plain
@@ -35,16 +33,6 @@ pub fault_at : (port : HubPort) (why : EnumFault) (w : World) → FaultTold why 
 fault_at port fault.ParentLost w told = absurd told
 fault_at port (fault.Bus why) w told = told
 fault_at port fault.Memory w told = told
-
--- no port is asked
-pub told_at : (port : HubPort) (stop : Stop) (w : World) → StopTold stop w → StopToldAt port stop w
-told_at port (Refused why) w told = told
-told_at port (Fault why) w told = fault_at port why w told
-
--- whatever the tier is
-pub told_of_device : (tier : ℕ) (stop : Stop) (w : World) → StopTold stop w → ToldOfDevice tier stop w
-told_of_device tier (Refused why) w told = plain_fits tier why told
-told_of_device tier (Fault why) w told = told
 
 -- what is asked of a root port is done
 
@@ -72,24 +60,6 @@ port_told port n old new (Err pipe.Broken) can told = can refl
 port_told port n old new (Err (pipe.Bus why)) can told = told
 port_told port n old new (Err pipe.Memory) can told = tt
 
--- what was not answered
-
-pub answered_told : {A : Type 0} (stalled : Cause) (m n : ℕ) (old new : World) (outcome : Result A PipeFault) → IsPlain stalled → MatchResult outcome (λ _. Worked m old new) (λ why. FaultAfter n old why new)
-    → IfErr (answered_or stalled outcome) (λ stop. StopTold stop new)
-answered_told stalled m n old new (Ok answer) plain told = tt
-answered_told stalled m n old new (Err pipe.Stalled) plain told = plain
-answered_told stalled m n old new (Err pipe.Busy) plain told = tt
-answered_told stalled m n old new (Err pipe.NoAnswer) plain told = tt
-answered_told stalled m n old new (Err pipe.Broken) plain told = tt
-answered_told stalled m n old new (Err (pipe.Bus why)) plain told = told
-answered_told stalled m n old new (Err pipe.Memory) plain told = tt
-
-pub refused_told : {A : Type 0} (stalled : Cause) (m n : ℕ) (old new : World) (outcome : Result A PipeFault) (stop : Stop) → answered_or stalled outcome ≡ Err stop → IsPlain stalled
-    → MatchResult outcome (λ _. Worked m old new) (λ why. FaultAfter n old why new) → StopTold stop new
-refused_told {A} stalled m n old new outcome stop is plain told =
-    let P : Result A Stop → Type 0 = λ r. IfErr r (λ stop. StopTold stop new) in
-    subst P is (answered_told stalled m n old new outcome plain told)
-
 -- an error that is handed on
 
 pub handed_on : {A E : Type 0} (r : Result A E) (P : E → Type 0) (why : E) → IsErrAnd r (λ e. e ≡ why) → P why → IfErr r P
@@ -99,13 +69,6 @@ handed_on (Err e) P why same p = subst P (sym same) p
 -- what the bytes of a device descriptor tell
 
 module _ (low : Bool) (bytes : List ℕ) where
-  pub device_told : (w : World) → IfErr (device_bytes low bytes) (λ stop. StopTold stop w)
-  device_told w = split (is_device low bytes)
-    where
-      split : (is : Bool) → IfErr (if is then Ok (Some bytes) else Err (Refused cause.BadDevice)) (λ stop. StopTold stop w)
-      split true = tt
-      split false = tt
-
   pub device_good : IfOk (device_bytes low bytes) (λ found. IfSome found (λ good. is_device low good ≡ true))
   device_good = split (is_device low bytes) refl
     where

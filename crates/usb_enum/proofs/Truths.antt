@@ -28,17 +28,20 @@ use Rattle.usb_enum.specs.declared.stop.Stop.{Stop}
 use Rattle.usb_enum.specs.declared.stop.Stop.TheVariants.{Refused}
 use Rattle.usb_enum.specs.Addresses.{Within}
 use Rattle.usb_enum.specs.Verdicts.{verdict, is_good_hub, facts_of, texts_below, texts_of, first_fault, strings_by, IsAs}
-use Rattle.usb_enum.specs.Device.{is_device, is_hub_device, fits_tier, string_indexes, configuration_of, HasFacts}
+use Rattle.usb_enum.specs.Device.{is_device, is_hub_device, fits_tier, needs_pre, string_indexes, configuration_of, HasFacts}
 use Rattle.usb_enum.specs.Frames.{OnlySets}
 use Rattle.usb_enum.specs.Findings.{IsAccepted, IsListed, IsOwn, IsWhole}
 use Rattle.usb_enum.specs.PresentDevices.{Finds, HasHead, HasTaken, IsAddressed, HasReadings, LearnedSet, TellsPorts}
 use Rattle.usb_enum.specs.Readings.{AtMaximum, IsGoodHub}
+use Rattle.usb_enum.specs.StringRequests.{EndsWithStrings}
 use Rattle.usb_enum.specs.Text.{choice_of}
 use Rattle.usb_enum.proofs.Courses.{went_in_order, went_regular}
 use Rattle.usb_enum.proofs.Enumerations.{within_on, takes_then}
 use Rattle.usb_enum.proofs.Heads.{head_packet}
+use Rattle.usb_enum.proofs.LastRequests.{leads_went}
 use Rattle.usb_enum.proofs.Presence.{finds_on}
 use Rattle.usb_enum.proofs.ReachedDevices.{reaches_set}
+use Rattle.usb_enum.proofs.StringRequests.{ends_after}
 use Rattle.usb_enum.proofs.VerdictRows.{GaveHead, GaveDevice, GaveTexts, row_accepted}
 
 -- What is read of the first 18 bytes of a descriptor
@@ -181,6 +184,10 @@ own_found port address tier supply n addressed device {old} {mid} {new} went wit
       found = λ f p spare t order s on there. (taken.found.found f p spare t order s on there, ruled_there mid.roots p s (went_regular n old mid went order taken.still).sane there);
     }
 
+-- how it is spoken to
+target_is : (t : Target) (address : ℕ) (low pre : Bool) → address ≡ t.addr → low ≡ t.low → t.pre ≡ (t.low && pre) → t ≡ record { addr = address; max = t.max; low = low; pre = low && pre }
+target_is t address low pre at slow before = rw (at, slow, ← before) refl
+
 pub accepted : (port : HubPort) (address tier supply n m : ℕ) (addressed : Addressed) (result : Result Accepted Stop) {old mid new : World} {a b c d : Option (List ℕ)} → WentOn n old a mid b → Within port address old mid → HasTaken port address old mid addressed
     → OnlySets address mid new → WentOn m mid c new d → IfOk result (λ device. IsWhole supply device) → IfOk result (IsListed addressed tier mid new) → IfOk result (IsAccepted port address tier supply old new)
 accepted port address tier supply n m addressed (Ok device) {old} {mid} {new} went within taken sets later whole is = record {
@@ -191,5 +198,10 @@ accepted port address tier supply n m addressed (Ok device) {old} {mid} {new} we
   reaches = reaches_set port address m later taken.takes sets taken.reaches;
   below = λ f p spare t order.
       is.below.empty (after_taking f p address) p (ap (λ b. if b then Some address else f p) (self_path p) ∙ ap (λ a. Some a) (sym taken.address)) (taken.takes.took f p spare t) (went_in_order n old mid went order);
+  strings = record {
+    target = addressed.target;
+    is = target_is addressed.target device.address device.low (needs_pre port) is.address is.low taken.pre;
+    ends = ends_after (leads_went went) (subst (λ bytes. EndsWithStrings addressed.target (string_indexes bytes) mid new device.strings) (sym is.bytes) is.strings);
+  };
 }
 accepted port address tier supply n m addressed (Err why) went within taken sets later whole is = tt

@@ -1,5 +1,5 @@
 -- Texts whose values differ, one by one.
-use Rattle.std.proofs.Common.{◌≡◌, refl, arith}
+use Rattle.std.proofs.Common.{◌≡◌, refl}
 use Rattle.std.specs.Prelude.{ℕ, List, [], ◌∷◌, ◌++◌, false, ◌==◌}
 use Rattle.usb_descriptor.specs.Config.{configuration_value}
 use Rattle.usb_world.proofs.Interface.{neither, swapped}

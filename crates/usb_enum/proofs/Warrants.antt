@@ -139,7 +139,7 @@ module _ (port : HubPort) (address tier supply m n : ℕ) (device : Addressed) {
       pends_reached (λ spec. whole_fault tier supply spec ≡ Some cause) p new
       ((reaches_set port address n second taken.takes sets taken.reaches).reached f p fair.spare fair.held fair.order fair.occupied fair.working)
       (λ s on there. is_whole s.spec cause
-      (explained_at (Refuses device.target wrong (Refused cause)) (Described device) device.target f port p mid new fair.spare.at taken.pre here.few single (here.order sound).0.sane explains targeted s on there))
+      (explained_at (Refuses device.target wrong (Refused cause)) (Described device) device.target f port p mid new fair.spare.at taken.pre here.few single (here.order sound).sane explains targeted s on there))
     where
       sound : mid.fault ≡ None
       sound = went_sound n mid new second fair.working

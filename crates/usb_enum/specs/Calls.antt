@@ -8,6 +8,7 @@ use Rattle.usb_world.specs.World.{World}
 use Rattle.usb_pipe.specs.declared.fault.PipeFault.{PipeFault}
 use Rattle.usb_hub.specs.declared.port.HubPort.{HubPort}
 use Rattle.usb_hub.specs.Moments.{CallsPort, TellsPort}
+use Rattle.usb_hub.specs.Port.{PortRead}
 use Rattle.usb_enum.specs.declared.fault.EnumFault.{EnumFault}
 use Rattle.usb_enum.specs.Losses.{NoNewStretch}
 use Rattle.usb_enum.specs.Stop.{at_port}
@@ -24,6 +25,7 @@ pub record StatusAt (port : HubPort) (old : World) (result : Result PortStatus E
   pub outcome : Result PortStatus PipeFault
   pub told : result ≡ at_port outcome
   pub tells : TellsPort port old outcome new
+  pub read : PortRead port old outcome new
   pub goes : new.fault ≡ None → NoNewStretch old new
 
 -- C_PORT_RESET was cleared, where it was told set

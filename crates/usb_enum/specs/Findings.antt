@@ -32,13 +32,15 @@ use Rattle.usb_enum.specs.declared.hub.HubFacts.{HubFacts}
 use Rattle.usb_enum.specs.Bounds.{IsWide}
 use Rattle.usb_enum.specs.Addresses.{IsSpare, EndsEnumeration, KeepsEnumerated, OnlyCalls, TakesAddress as TakesAt}
 use Rattle.usb_enum.specs.Verdicts.{IsFindingOf, IsRight, IsSet}
-use Rattle.usb_enum.specs.Device.{is_device, configuration_of, fits_tier, HasFacts, IsStarted}
+use Rattle.usb_enum.specs.Device.{is_device, configuration_of, fits_tier, string_indexes, HasFacts, IsStarted}
 use Rattle.usb_enum.specs.FairEnumerations.{Faulted, HasServer, HubPends}
 use Rattle.usb_enum.specs.Losses.{FewLosses}
 use Rattle.usb_enum.specs.Places.{HasEmptyPorts, IsKnownAs, IsOccupied, IsPlaced}
 use Rattle.usb_enum.specs.PresentDevices.{AtPath, Finds, IsInOrder, IsRegular, HasReadings, LearnsSet, ReachesDevice}
 use Rattle.usb_enum.specs.Readings.{AtMaximum}
-use Rattle.usb_enum.specs.Stop.{FaultAt, FitsTier}
+use Rattle.usb_enum.specs.Reasons.{EndsFor, FaultBy}
+use Rattle.usb_enum.specs.Stop.{FitsTier}
+use Rattle.usb_enum.specs.StringRequests.{AsksStrings, EndsWithStrings}
 use Rattle.usb_enum.specs.Text.{ValuesDiffer, choice_of}
 use Rattle.usb_enum.specs.TextLengths.{HasPlanWithin}
 
@@ -64,6 +66,7 @@ pub record IsListed (addressed : Addressed) (tier : ℕ) (old new : World) (devi
   pub fits : fits_tier tier addressed.bytes ≡ Ok tt
   pub learned : LearnsSet (AtMaximum addressed.target (HasReadings addressed.bytes device)) addressed.target (configuration_value (configuration_of device)) old new
   pub below : EmptiesPorts addressed.target.addr device.hub old new
+  pub strings : EndsWithStrings addressed.target (string_indexes addressed.bytes) old new device.strings
 
 -- it is the device's own finding, the device is set as it says, and its endpoints begin again
 abbrev pub IsOwn : ℕ → ℕ → Accepted → State → Type 0
@@ -77,6 +80,7 @@ pub record IsAccepted (port : HubPort) (given tier supply : ℕ) (old new : Worl
   pub own : Finds (IsOwn tier supply device) port given old new
   pub reaches : ReachesDevice port given old new
   pub below : (f : Claims) (p : List ℕ) → IsSpare f port p given → TillFault (Enumerating f p given) old → IsInOrder old → new.fault ≡ None → HasEmptyPorts p device.hub new
+  pub strings : AsksStrings port old new device
 
 -- the last request to a hub was to clear PORT_ENABLE, and it was done
 pub record LastDisabled (hub : Target) (port : ℕ) (w : World) : Type 0 where
@@ -90,7 +94,7 @@ IsDisabled (External hub port) w = LastDisabled hub port w
 
 -- what is left after an enumeration that was given up: a refused device's port is disabled, or its parent is lost
 abbrev pub GivesUp : HubPort → Stop → World → Result Finding EnumFault → World → Type 0
-GivesUp port (stops.Refused cause) old result new = MatchResult result (λ finding. (finding ≡ Refused cause) × IsDisabled port new) (λ fault. FaultAt port fault new)
+GivesUp port (stops.Refused cause) old result new = MatchResult result (λ finding. (finding ≡ Refused cause) × IsDisabled port new) (λ fault. FaultBy port fault old new)
 GivesUp port (stops.Fault fault) old result new = (result ≡ Err fault) × (new ≡ old)
 
 -- at an occupied port of which nothing is claimed, a refused device stands and the port is disabled, or a change of connection is pending
@@ -160,10 +164,13 @@ pub record MakesFew (port : HubPort) (addresses : Addresses) (old new : World) :
   pub few : (f : Claims) (p : List ℕ) → IsWide port → Begins f port p addresses old → (most : ℕ) → (old.fault ≡ None → HasPlanWithin most old)
       → new.attempts ≤ old.attempts + (250000 + 100 * most)
 
--- who holds which address at each end, that what was found is so and there, why a device is refused, and how few attempts that takes
+-- who holds which address at each end, that what was found is so and there, why a device is refused, where all is fair and whatever is damaged, how
+-- few attempts that takes, and how strings are asked for
 pub record Enumerates (port : HubPort) (before : Addresses) (tier supply : ℕ) (old : World) (result : Result Finding EnumFault) (new : World) : Type 0 where
   pub addresses : KeepsEnumerated port before old result new
   pub own : IsTruthful port before tier supply old result new
   pub places : Places port before old result new
   pub warrants : Warrants port before tier supply old result new
+  pub ended : EndsFor port before tier supply old result new
   pub few : MakesFew port before old new
+  pub strings : (device : Accepted) → result ≡ Ok (Device device) → AsksStrings port old new device

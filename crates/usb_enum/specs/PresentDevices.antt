@@ -8,9 +8,7 @@ use Rattle.usb_request.specs.Codes.{DEVICE_HEAD_LENGTH, DEVICE_LENGTH}
 use Rattle.usb_descriptor.specs.Device.{device_head_of, configuration_count}
 use Rattle.usb_world.specs.Devices.{EachWas}
 use Rattle.usb_world.specs.Paths.{address_of}
-use Rattle.usb_world.specs.PlanData.{PlanData, IsPlan}
-use Rattle.usb_world.specs.PlanCourses.{AtPorts}
-use Rattle.usb_world.specs.Steps.{AnyStep, Course, IsBetween, opening}
+use Rattle.usb_world.specs.Steps.{IsBetween}
 use Rattle.usb_world.specs.World.{World}
 use Rattle.usb_transaction.specs.declared.target.Target.{Target}
 use Rattle.usb_transaction.specs.Leaves.{is_at}
@@ -56,16 +54,9 @@ HasDescriptor bytes spec = bytes ≡ take DEVICE_LENGTH spec.descriptor
 abbrev pub IsRegular : World → Type 0
 IsRegular w = w.fault ≡ None → IsBetween w
 
--- the steps of a plan, whose events are at ports, led to it
-pub record IsPlanned (w : World) : Type 0 where
-  pub plan : PlanData
-  pub is : IsPlan plan
-  pub paths : AtPorts plan.events
-  pub course : Course AnyStep (opening plan) w
-
--- between steps of a plan's course ports are sane and devices as the rules say
+-- no device remembers a packet, ports are sane, and devices are as the rules say
 abbrev pub IsOrderly : World → Type 0
-IsOrderly w = IsBetween w × IsPlanned w
+IsOrderly w = IsBetween w
 
 -- so it is as long as the bus is at work
 abbrev pub IsInOrder : World → Type 0

@@ -40,9 +40,13 @@ pub record HasConfigurations (count : ℕ) (texts : List (List ℕ)) (spec : Spe
 
 -- Strings
 
+-- the bytes of a string, where it is given
+abbrev pub bytes_given : Option (Vec ℕ) → Option (List ℕ)
+bytes_given bytes = option_map (λ (text : Vec ℕ). text.items) bytes
+
 -- these are the bytes of a string, or none where it is not given
 abbrev pub HasString : ℕ → Option (Vec ℕ) → Spec → Type 0
-HasString index bytes spec = option_map (λ (text : Vec ℕ). text.items) bytes ≡ string_read spec index
+HasString index bytes spec = bytes_given bytes ≡ string_read spec index
 
 abbrev pub language_of : Spec → Option ℕ
 language_of spec = option_and_then first_language_of (string_read spec 0)

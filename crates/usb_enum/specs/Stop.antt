@@ -82,18 +82,10 @@ IsPlain cause.BadHub = ⊥
 IsPlain cause.Lost = ⊤
 IsPlain cause.NoAddress = ⊥
 
-abbrev pub StopTold : Stop → World → Type 0
-StopTold (Refused cause) w = IsPlain cause
-StopTold (Fault f) w = FaultTold f w
-
-abbrev pub StopToldAt : HubPort → Stop → World → Type 0
-StopToldAt port (Refused cause) w = IsPlain cause
-StopToldAt port (Fault f) w = FaultAt port f w
-
--- of a hub that is configured
-abbrev pub ToldOfHub : Stop → World → Type 0
-ToldOfHub (Refused why) w = (why ≡ cause.BadHub) ⊎ IsPlain why
-ToldOfHub (Fault f) w = FaultTold f w
+-- a stop that is no refusal is told by the bus
+abbrev pub StopFaults : Stop → World → Type 0
+StopFaults (Refused why) w = ⊤
+StopFaults (Fault f) w = FaultTold f w
 
 abbrev pub ToldOfDevice : ℕ → Stop → World → Type 0
 ToldOfDevice tier (Refused cause) w = FitsTier tier cause

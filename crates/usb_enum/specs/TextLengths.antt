@@ -7,6 +7,9 @@ use Rattle.usb_device.specs.Transfer.{max_packet}
 use Rattle.usb_device.specs.Tree.{Spot, reach_on, state_on}
 use Rattle.usb_world.specs.declared.event.Action.{Action}
 use Rattle.usb_world.specs.declared.event.Action.TheVariants.{Plug, Unplug, Show, Send, Receive, Clear}
+use Rattle.usb_world.specs.PlanData.{PlanData, IsPlan}
+use Rattle.usb_world.specs.PlanCourses.{AtPorts}
+use Rattle.usb_world.specs.Steps.{AnyStep, Course, opening}
 use Rattle.usb_world.specs.World.{World}
 use Rattle.usb_transaction.specs.declared.target.Target.{Target}
 use Rattle.usb_transaction.specs.Answerer.{HadOne}
@@ -18,7 +21,7 @@ use Rattle.usb_enum.specs.declared.stop.Stop.{Stop}
 use Rattle.usb_enum.specs.Addresses.{IsSpare}
 use Rattle.usb_enum.specs.Bounds.{text_bound, examined_by}
 use Rattle.usb_enum.specs.LearnedFacts.{Learns}
-use Rattle.usb_enum.specs.PresentDevices.{IsPlanned, IsRegular}
+use Rattle.usb_enum.specs.PresentDevices.{IsRegular}
 use Rattle.usb_enum.specs.Readings.{AtMaximum, HasTotal}
 
 -- Of a description
@@ -40,7 +43,14 @@ PlugsWithin most devices (Send path bytes) = ⊤
 PlugsWithin most devices (Receive path packets) = ⊤
 PlugsWithin most devices (Clear path) = ⊤
 
--- the steps of a plan led to the world, and none of its events plugs such a device
+-- the steps of a plan, whose events are at ports, led to the world
+pub record IsPlanned (w : World) : Type 0 where
+  pub plan : PlanData
+  pub is : IsPlan plan
+  pub paths : AtPorts plan.events
+  pub course : Course AnyStep (opening plan) w
+
+-- so they did, and none of its events plugs such a device
 pub record HasPlanWithin (most : ℕ) (w : World) : Type 0 where
   pub planned : IsPlanned w
   pub plugs : All (λ e. PlugsWithin most planned.plan.devices e.action) planned.plan.events

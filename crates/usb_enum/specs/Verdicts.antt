@@ -3,7 +3,6 @@ use Rattle.std.specs.Prelude.{◌≡◌, ◌⊎◌, ℕ, zero, suc, ◌==◌, �
 use Rattle.std.specs.Option.{option_or}
 use Rattle.usb_resources.specs.Power.{supply_of}
 use Rattle.usb_request.specs.Codes.{CONFIGURATION_LENGTH, DEVICE_HEAD_LENGTH, DEVICE_LENGTH, HUB_LENGTH}
-use Rattle.usb_descriptor.specs.declared.fault.DescriptorFault.{DescriptorFault}
 use Rattle.usb_descriptor.specs.Device.{device_head_of, configuration_count}
 use Rattle.usb_descriptor.specs.Config.{config_head_of, config_of, configuration_value, total_in}
 use Rattle.usb_descriptor.specs.Choice.{status_endpoint_of}

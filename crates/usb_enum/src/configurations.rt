@@ -8,7 +8,7 @@ ghost use Rattle.usb_enum.specs.Verdicts.{config_fault, first_fault};
 ghost use Rattle.usb_enum.specs.LearnedFacts.{Learns, Explains};
 ghost use Rattle.usb_enum.specs.Readings.{AtMaximum, HasTotal, HasConfiguration, HasConfigurations};
 ghost use Rattle.usb_enum.specs.Refusals.{Refuses};
-ghost use Rattle.usb_enum.specs.Stop.{StopTold};
+ghost use Rattle.usb_enum.specs.Reasons.{StopTold, TextRead, TextsAsked};
 ghost use Rattle.usb_enum.specs.Text.{ValuesDiffer, choice_of};
 ghost use Rattle.usb_enum.specs.TextLengths.{IsAnswered, ReadsText, FewFor};
 ghost use Rattle.usb_enum.specs.Frames.{OnlyAsks};
@@ -28,7 +28,7 @@ fn total_length<B: Bus>(alloc: Global, bus: &mut B, target: Target, index: u8) -
     requires max { 8 ≤ target.max }
     ensures went { Went B.world B.trace (read_bound CONFIGURATION_LENGTH) bus.old bus.new }
     ensures ends { MatchResult result (λ _. IsAnswered target (B.world bus.new))
-        (λ stop. StopTold stop (B.world bus.new)) }
+        (λ stop. StopTold target stop (B.world bus.old) (B.world bus.new)) }
     ensures fits { IfOk result (λ total. (9 ≤ total) × (total ≤ 65535)) }
     ensures learned { MatchResult result
         (λ total. Learns (AtMaximum target (HasTotal index total)) target
@@ -56,7 +56,9 @@ fn read_text<B: Bus>(
     requires max { 8 ≤ target.max }
     ensures went { Went B.world B.trace configuration_bound bus.old bus.new }
     ensures count { ReadsText target index (B.world bus.old) result (B.world bus.new) }
-    ensures told { IfErr result (λ stop. StopTold stop (B.world bus.new)) }
+    ensures told { MatchResult result
+        (λ text. TextRead target index text (B.world bus.old) (B.world bus.new))
+        (λ stop. StopTold target stop (B.world bus.old) (B.world bus.new)) }
     ensures learned { MatchResult result
         (λ text. Learns (AtMaximum target (HasConfiguration index text)) target
         (B.world bus.old) (B.world bus.new))
@@ -84,8 +86,10 @@ pub(crate) fn read_configurations<B: Bus>(
     requires max { 8 ≤ target.max }
     ensures went { Went B.world B.trace (255 * configuration_bound) bus.old bus.new }
     ensures few { FewFor texts_bound target (B.world bus.old) (B.world bus.new) }
-    ensures ends { MatchResult result (λ texts. (length texts ≡ count) × ValuesDiffer texts)
-        (λ stop. StopTold stop (B.world bus.new)) }
+    ensures ends { MatchResult result
+        (λ texts. (length texts ≡ count) × ValuesDiffer texts
+        × TextsAsked target (B.world bus.old) texts (B.world bus.new))
+        (λ stop. StopTold target stop (B.world bus.old) (B.world bus.new)) }
     ensures learned { MatchResult result
         (λ texts. Learns (AtMaximum target (HasConfigurations count texts)) target
         (B.world bus.old) (B.world bus.new))

@@ -3,7 +3,8 @@ ghost use Rattle.std.specs.Prelude.{◌≡◌, ℕ, IfOk, IfErr, MatchResult, tr
 ghost use Rattle.usb_bus.specs.Traces.{Went};
 ghost use Rattle.usb_hub.specs.Port.{IsPort, order_bound};
 ghost use Rattle.usb_enum.specs.Bounds.{unaddressed_bound, examination_bound, enumeration_bound, configured_bound, configured_by, hub_bound};
-ghost use Rattle.usb_enum.specs.Stop.{FaultAt, StopToldIn, ToldOfDevice, ToldOfHub, StopToldWithout};
+ghost use Rattle.usb_enum.specs.Reasons.{StoppedWithout, StopsAtPort, StopsDevice, ToldAtStart};
+ghost use Rattle.usb_enum.specs.Stop.{FaultAt, StopToldWithout};
 ghost use Rattle.usb_enum.specs.Findings.{Closes, Enumerates, GivesUp, IsAccepted, IsFound, IsListed, IsWhole, TakesFor};
 ghost use Rattle.usb_enum.specs.Device.{fits_tier, is_hub_device};
 ghost use Rattle.usb_enum.specs.Addresses.{AtPort};
@@ -35,6 +36,11 @@ const LAST_TIER: u8 = 7;
 ///
 /// `tier` is the device's tier, 2 at the root, and `supply` what the port gives, in mA. A device
 /// that is refused has its port disabled and leaves the pool as it was.
+///
+/// The caller has let go of all that it knew at the port and below it: no device there holds an
+/// address that is taken in the pool, so a port that is still enabled is disabled before, and what
+/// was found there forgotten. At a port that is still enabled nothing is said of whose the finding
+/// is, of who holds which address in the end, nor of other devices and ports.
 ///
 /// # Errors
 ///
@@ -77,6 +83,7 @@ fn without_address<B: Bus>(alloc: Global, bus: &mut B, port: HubPort) -> Stop
     ensures went { Went B.world B.trace (unaddressed_bound port) bus.old bus.new }
     ensures told { StopToldWithout port result (B.world bus.new) }
     ensures within { AtPort port 0 (B.world bus.old) (B.world bus.new) }
+    ensures because { StoppedWithout port result (B.world bus.old) (B.world bus.new) }
     ensures why { StopsFairly unaddressed_fault port 0 result (B.world bus.old) (B.world bus.new) }
 {
     match unaddressed(alloc, bus, port) {
@@ -114,7 +121,8 @@ fn examine<B: Bus>(
     requires port { IsPort (B.world bus.old) port }
     ensures went { Went B.world B.trace (examination_bound port) bus.old bus.new }
     ensures few { FewFrom port address (B.world bus.old) (B.world bus.new) }
-    ensures told { IfErr result (λ stop. StopToldIn port tier stop (B.world bus.new)) }
+    ensures told { IfErr result (StopsAtPort port address tier supply
+        (B.world bus.old) (B.world bus.new)) }
     ensures within { AtPort port address (B.world bus.old) (B.world bus.new) }
     ensures ok { MatchResult result
         (IsAccepted port address tier supply (B.world bus.old) (B.world bus.new))
@@ -138,7 +146,7 @@ fn configure<B: Bus>(
     ensures went { Went B.world B.trace configured_bound bus.old bus.new }
     ensures few { FewFor configured_by device.target (B.world bus.old) (B.world bus.new) }
     ensures ends { MatchResult result (IsWhole supply)
-        (λ stop. ToldOfDevice tier stop (B.world bus.new)) }
+        (StopsDevice device.target device.bytes tier supply (B.world bus.old) (B.world bus.new)) }
     ensures learned { MatchResult result
         (IsListed device tier (B.world bus.old) (B.world bus.new))
         (λ stop. Explains (Refuses device.target (configured_fault tier supply device.bytes) stop)
@@ -185,7 +193,8 @@ fn hub_facts<B: Bus>(
     text: &ConfigText,
 ) -> Result<Option<HubFacts>, Stop>
     ensures went { Went B.world B.trace hub_bound bus.old bus.new }
-    ensures told { IfErr result (λ stop. ToldOfHub stop (B.world bus.new)) }
+    ensures told { IfErr result (λ stop. ToldAtStart device.now.target text.now stop
+        (B.world bus.old) (B.world bus.new)) }
     ensures hub { IfErr result (λ _. is_hub_device device.now.bytes ≡ true) }
     ensures ports { MatchResult result
         (LearnsPorts device.now text.now (B.world bus.old) (B.world bus.new))

@@ -9,7 +9,7 @@ ghost use Rattle.usb_enum.specs.Bounds.{read_bound, hub_bound};
 ghost use Rattle.usb_enum.specs.LearnedFacts.{Learns, Explains, ExplainsSet};
 ghost use Rattle.usb_enum.specs.Readings.{AtMaximum, Ruled, HasPorts, HasSupply, IsGoodHub};
 ghost use Rattle.usb_enum.specs.Refusals.{Refuses, RefusesNoPort, hub_fault, start_fault};
-ghost use Rattle.usb_enum.specs.Stop.{ToldOfHub};
+ghost use Rattle.usb_enum.specs.Reasons.{ToldAtStart, ToldOfHub};
 ghost use Rattle.usb_enum.specs.Device.{StartsHub};
 ghost use Rattle.usb_enum.specs.Hub.{CountTold, SupplyTold, IsPowered, Powered};
 ghost use Rattle.usb_enum.specs.Frames.{OnlyAsks, OnlyTells};
@@ -43,7 +43,8 @@ pub(crate) fn start_hub<B: Bus>(
     requires target { IsTarget target }
     requires max { 8 ≤ target.max }
     ensures went { Went B.world B.trace hub_bound bus.old bus.new }
-    ensures told { IfErr result (λ stop. ToldOfHub stop (B.world bus.new)) }
+    ensures told { IfErr result (λ stop. ToldAtStart target text.now stop
+        (B.world bus.old) (B.world bus.new)) }
     ensures started { IfOk result (StartsHub target text.now (B.world bus.old) (B.world bus.new)) }
     ensures learned { MatchResult result
         (λ facts. Learns (AtMaximum target (Ruled (IsGoodHub text.now facts))) target
@@ -66,7 +67,8 @@ fn port_count<B: Bus>(alloc: Global, bus: &mut B, target: Target) -> Result<u8, 
     requires target { IsTarget target }
     requires max { 8 ≤ target.max }
     ensures went { Went B.world B.trace (read_bound HUB_LENGTH) bus.old bus.new }
-    ensures told { IfErr result (λ stop. ToldOfHub stop (B.world bus.new)) }
+    ensures told { IfErr result (λ stop. ToldOfHub target stop
+        (B.world bus.old) (B.world bus.new)) }
     ensures count { IfOk result (λ ports. IsPortNumber ports
         × CountTold target (B.world bus.old) (B.world bus.new) ports) }
     ensures learned { MatchResult result
@@ -89,7 +91,8 @@ fn port_supply<B: Bus>(alloc: Global, bus: &mut B, target: Target) -> Result<u16
     requires target { IsTarget target }
     requires max { 8 ≤ target.max }
     ensures went { Went B.world B.trace (read_bound 2) bus.old bus.new }
-    ensures told { IfErr result (λ stop. ToldOfHub stop (B.world bus.new)) }
+    ensures told { IfErr result (λ stop. ToldOfHub target stop
+        (B.world bus.old) (B.world bus.new)) }
     ensures said { IfOk result (λ supply. ((supply ≡ 500) ⊎ (supply ≡ 100))
         × SupplyTold target (B.world bus.old) (B.world bus.new) supply) }
     ensures learned { MatchResult result
@@ -107,7 +110,8 @@ fn port_supply<B: Bus>(alloc: Global, bus: &mut B, target: Target) -> Result<u16
 fn power_ports<B: Bus>(bus: &mut B, target: Target, ports: u8) -> Result<(), Stop>
     requires { IsTarget target }
     ensures went { Went B.world B.trace (ports * write_bound) bus.old bus.new }
-    ensures told { IfErr result (λ stop. ToldOfHub stop (B.world bus.new)) }
+    ensures told { IfErr result (λ stop. ToldOfHub target stop
+        (B.world bus.old) (B.world bus.new)) }
     ensures powered { IfOk result (λ _. Powered target ports (B.world bus.old) (B.world bus.new)) }
     ensures why { IfErr result (λ stop. ExplainsSet (RefusesNoPort target ports stop) target
         (B.world bus.old) (B.world bus.new)) }
@@ -123,7 +127,8 @@ fn power_ports<B: Bus>(bus: &mut B, target: Target, ports: u8) -> Result<(), Sto
 fn power_port<B: Bus>(bus: &mut B, target: Target, port: u8) -> Result<(), Stop>
     requires { IsTarget target }
     ensures went { Went B.world B.trace write_bound bus.old bus.new }
-    ensures told { IfErr result (λ stop. ToldOfHub stop (B.world bus.new)) }
+    ensures told { IfErr result (λ stop. ToldOfHub target stop
+        (B.world bus.old) (B.world bus.new)) }
     ensures powered { IfOk result (λ _. IsPowered target port (B.world bus.old) (B.world bus.new)) }
     ensures why { IfErr result (λ stop. ExplainsSet (RefusesNoPort target port stop) target
         (B.world bus.old) (B.world bus.new)) }

@@ -22,3 +22,5 @@ pub use finding::{Accepted, Finding};
 pub use hub::HubFacts;
 pub use strings::Strings;
 pub use text::{ConfigText, ConfigTexts, StringUnits};
+pub use usb_hub::{Bus, BusFault, HubPort};
+pub use usb_resources::{Address, AddressPool};

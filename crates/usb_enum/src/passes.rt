@@ -7,7 +7,7 @@ ghost use Rattle.usb_bus.specs.Traces.{Went};
 ghost use Rattle.usb_hub.specs.Port.{IsPort, status_bound, order_bound};
 ghost use Rattle.usb_transaction.specs.Transactions.{IsTarget};
 ghost use Rattle.usb_enum.specs.Bounds.{read_bound, reset_bound, unaddressed_bound, pass_bound};
-ghost use Rattle.usb_enum.specs.Stop.{FaultAt, StopTold, StopToldAt};
+ghost use Rattle.usb_enum.specs.Reasons.{DescriptorRead, DescriptorTold, FaultBy, PassTold, StopTold, StopToldAt};
 ghost use Rattle.usb_enum.specs.Device.{IsUnaddressed, device_bytes, is_device, needs_pre};
 ghost use Rattle.usb_hub.specs.Addresses.{KeepsDevices, Resets};
 ghost use Rattle.usb_enum.specs.Addresses.{AtPort, OnlyCalls};
@@ -33,7 +33,8 @@ use usb_transaction::Target;
 fn begin_reset<B: Bus>(bus: &mut B, port: HubPort) -> Result<(), EnumFault>
     requires { IsPort (B.world bus.old) port }
     ensures went { Went B.world B.trace (order_bound port) bus.old bus.new }
-    ensures told { IfErr result (λ fault. FaultAt port fault (B.world bus.new)) }
+    ensures told { IfErr result (λ fault. FaultBy port fault
+        (B.world bus.old) (B.world bus.new)) }
     ensures resets { Resets port (B.world bus.old) (B.world bus.new) }
     ensures only { (a : ℕ) → OnlyCalls port a (B.world bus.old) (B.world bus.new) }
     ensures calls { CalledAt port (set_call PORT_RESET) (B.world bus.old) result (B.world bus.new) }
@@ -45,7 +46,8 @@ fn begin_reset<B: Bus>(bus: &mut B, port: HubPort) -> Result<(), EnumFault>
 fn read_status<B: Bus>(alloc: Global, bus: &mut B, port: HubPort) -> Result<PortStatus, EnumFault>
     requires { IsPort (B.world bus.old) port }
     ensures went { Went B.world B.trace (status_bound port) bus.old bus.new }
-    ensures told { IfErr result (λ fault. FaultAt port fault (B.world bus.new)) }
+    ensures told { IfErr result (λ fault. FaultBy port fault
+        (B.world bus.old) (B.world bus.new)) }
     ensures status { StatusAt port (B.world bus.old) result (B.world bus.new) }
     ensures keeps { OnlyAsks (B.world bus.old) (B.world bus.new) }
 {
@@ -56,7 +58,8 @@ fn read_status<B: Bus>(alloc: Global, bus: &mut B, port: HubPort) -> Result<Port
 fn reset<B: Bus>(alloc: Global, bus: &mut B, port: HubPort) -> Result<bool, Stop>
     requires port { IsPort (B.world bus.old) port }
     ensures went { Went B.world B.trace (reset_bound port) bus.old bus.new }
-    ensures told { IfErr result (λ stop. StopToldAt port stop (B.world bus.new)) }
+    ensures told { IfErr result (λ stop. (a : ℕ) → StopToldAt port a stop
+        (B.world bus.old) (B.world bus.new)) }
     ensures within { (a : ℕ) → AtPort port a (B.world bus.old) (B.world bus.new) }
     ensures found { MatchResult result
         (λ low. (a : ℕ) → WasReset low port a (B.world bus.old) (B.world bus.new))
@@ -75,7 +78,8 @@ fn reset<B: Bus>(alloc: Global, bus: &mut B, port: HubPort) -> Result<bool, Stop
 fn settle<B: Bus>(bus: &mut B, port: HubPort, changed: bool) -> Result<(), EnumFault>
     requires { IsPort (B.world bus.old) port }
     ensures went { Went B.world B.trace (order_bound port) bus.old bus.new }
-    ensures told { IfErr result (λ fault. FaultAt port fault (B.world bus.new)) }
+    ensures told { IfErr result (λ fault. FaultBy port fault
+        (B.world bus.old) (B.world bus.new)) }
     ensures within { (a : ℕ) → AtPort port a (B.world bus.old) (B.world bus.new) }
     ensures devices { KeepsDevices (B.world bus.old) (B.world bus.new) }
     ensures calls { SettlesReset port changed (B.world bus.old) result (B.world bus.new) }
@@ -102,7 +106,8 @@ fn first_maximum<B: Bus>(alloc: Global, bus: &mut B, unaddressed: Target) -> Res
     requires target { IsTarget unaddressed }
     requires max { unaddressed.max ≡ 8 }
     ensures went { Went B.world B.trace (read_bound DEVICE_HEAD_LENGTH) bus.old bus.new }
-    ensures told { IfErr result (λ stop. StopTold stop (B.world bus.new)) }
+    ensures told { IfErr result (λ stop. StopTold unaddressed stop
+        (B.world bus.old) (B.world bus.new)) }
     ensures fits { IfOk result (λ max. (8 ≤ max) × (max ≤ 64)) }
     ensures head { MatchResult result
         (FindsHead unaddressed (B.world bus.old) (B.world bus.new))
@@ -123,7 +128,9 @@ fn descriptor<B: Bus>(alloc: Global, bus: &mut B, target: Target) -> Result<Opti
     requires target { IsTarget target }
     requires max { 8 ≤ target.max }
     ensures went { Went B.world B.trace (read_bound DEVICE_LENGTH) bus.old bus.new }
-    ensures told { IfErr result (λ stop. StopTold stop (B.world bus.new)) }
+    ensures told { MatchResult result
+        (DescriptorTold target (B.world bus.old) (B.world bus.new))
+        (λ stop. StopTold target stop (B.world bus.old) (B.world bus.new)) }
     ensures device { IfOk result (λ found. IfSome found (λ bytes.
         is_device target.low bytes ≡ true)) }
     ensures bytes { MatchResult result
@@ -157,7 +164,8 @@ fn device_bytes(bytes: &[u8; 18], low: bool) -> Result<Option<[u8; 18]>, Stop>
 pub(crate) fn unaddressed<B: Bus>(alloc: Global, bus: &mut B, port: HubPort) -> Result<Target, Stop>
     requires port { IsPort (B.world bus.old) port }
     ensures went { Went B.world B.trace (unaddressed_bound port) bus.old bus.new }
-    ensures told { IfErr result (λ stop. StopToldAt port stop (B.world bus.new)) }
+    ensures told { IfErr result (λ stop. (a : ℕ) → StopToldAt port a stop
+        (B.world bus.old) (B.world bus.new)) }
     ensures target { IfOk result (IsUnaddressed port) }
     ensures within { (a : ℕ) → AtPort port a (B.world bus.old) (B.world bus.new) }
     ensures device { MatchResult result
@@ -198,7 +206,9 @@ fn pass<B: Bus>(
     requires least { 1 ≤ address }
     requires most { address < 128 }
     ensures went { Went B.world B.trace (pass_bound port) bus.old bus.new }
-    ensures told { IfErr result (λ stop. StopToldAt port stop (B.world bus.new)) }
+    ensures told { MatchResult result
+        (PassTold port address (B.world bus.old) (B.world bus.new))
+        (λ stop. StopToldAt port address stop (B.world bus.old) (B.world bus.new)) }
     ensures within { AtPort port address (B.world bus.old) (B.world bus.new) }
     ensures taken { MatchResult result
         (PassEnds port address (B.world bus.old) (B.world bus.new))
@@ -230,7 +240,9 @@ pub(crate) fn passes<B: Bus>(
     requires least { 1 ≤ address }
     requires most { address < 128 }
     ensures went { Went B.world B.trace (3 * pass_bound port) bus.old bus.new }
-    ensures told { IfErr result (λ stop. StopToldAt port stop (B.world bus.new)) }
+    ensures told { MatchResult result
+        (λ device. DescriptorRead device.target device.bytes (B.world bus.old) (B.world bus.new))
+        (λ stop. StopToldAt port address stop (B.world bus.old) (B.world bus.new)) }
     ensures within { AtPort port address (B.world bus.old) (B.world bus.new) }
     ensures taken { MatchResult result
         (HasTaken port address (B.world bus.old) (B.world bus.new))

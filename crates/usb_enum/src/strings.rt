@@ -7,7 +7,8 @@ ghost use Rattle.usb_enum.specs.Verdicts.{strings_by};
 ghost use Rattle.usb_enum.specs.LearnedFacts.{Learns, Explains};
 ghost use Rattle.usb_enum.specs.Readings.{AtMaximum, HasString, language_of, string_in, no_strings};
 ghost use Rattle.usb_enum.specs.Refusals.{Refuses, no_fault};
-ghost use Rattle.usb_enum.specs.Stop.{StopTold};
+ghost use Rattle.usb_enum.specs.Reasons.{StopTold};
+ghost use Rattle.usb_enum.specs.StringRequests.{AsksString, AsksLanguage, ReadsString, ReadsStrings};
 ghost use Rattle.usb_enum.specs.Text.{first_language_of, string_units};
 ghost use Rattle.usb_enum.specs.Frames.{OnlyAsks};
 
@@ -89,13 +90,16 @@ fn string_bytes<B: Bus>(
     requires target { IsTarget target }
     requires max { 8 ≤ target.max }
     ensures went { Went B.world B.trace (read_bound 255) bus.old bus.new }
-    ensures told { IfErr result (λ stop. StopTold stop (B.world bus.new)) }
+    ensures told { IfErr result (λ stop. StopTold target stop
+        (B.world bus.old) (B.world bus.new)) }
     ensures learned { MatchResult result
         (λ bytes. Learns (AtMaximum target (HasString index bytes)) target
         (B.world bus.old) (B.world bus.new))
         (λ stop. Explains (Refuses target no_fault stop) target
         (B.world bus.old) (B.world bus.new)) }
     ensures keeps { OnlyAsks (B.world bus.old) (B.world bus.new) }
+    ensures asked { IfOk result (AsksString target index language
+        (B.world bus.old) (B.world bus.new)) }
 {
     match get_string(alloc, bus, target, index, language) {
         Ok(bytes) => Ok(Some(bytes)),
@@ -117,13 +121,16 @@ fn read_one<B: Bus>(
     requires target { IsTarget target }
     requires max { 8 ≤ target.max }
     ensures went { Went B.world B.trace (read_bound 255) bus.old bus.new }
-    ensures told { IfErr result (λ stop. StopTold stop (B.world bus.new)) }
+    ensures told { IfErr result (λ stop. StopTold target stop
+        (B.world bus.old) (B.world bus.new)) }
     ensures learned { MatchResult result
         (λ string. Learns (AtMaximum target (λ spec. string ≡ string_in spec index)) target
         (B.world bus.old) (B.world bus.new))
         (λ stop. Explains (Refuses target no_fault stop) target
         (B.world bus.old) (B.world bus.new)) }
     ensures keeps { OnlyAsks (B.world bus.old) (B.world bus.new) }
+    ensures asked { IfOk result (ReadsString target index language
+        (B.world bus.old) (B.world bus.new)) }
 {
     if index == 0 {
         return Ok(None);
@@ -139,13 +146,15 @@ fn language<B: Bus>(alloc: Global, bus: &mut B, target: Target) -> Result<Option
     requires target { IsTarget target }
     requires max { 8 ≤ target.max }
     ensures went { Went B.world B.trace (read_bound 255) bus.old bus.new }
-    ensures told { IfErr result (λ stop. StopTold stop (B.world bus.new)) }
+    ensures told { IfErr result (λ stop. StopTold target stop
+        (B.world bus.old) (B.world bus.new)) }
     ensures learned { MatchResult result
         (λ language. Learns (AtMaximum target (λ spec. language ≡ language_of spec)) target
         (B.world bus.old) (B.world bus.new))
         (λ stop. Explains (Refuses target no_fault stop) target
         (B.world bus.old) (B.world bus.new)) }
     ensures keeps { OnlyAsks (B.world bus.old) (B.world bus.new) }
+    ensures asked { IfOk result (AsksLanguage target (B.world bus.old) (B.world bus.new)) }
 {
     match string_bytes(alloc, bus, target, 0, 0)? {
         Some(bytes) => Ok(first_language(bytes.as_slice())),
@@ -163,13 +172,16 @@ pub(crate) fn read_strings<B: Bus>(
     requires target { IsTarget target }
     requires max { 8 ≤ target.max }
     ensures went { Went B.world B.trace strings_bound bus.old bus.new }
-    ensures told { IfErr result (λ stop. StopTold stop (B.world bus.new)) }
+    ensures told { IfErr result (λ stop. StopTold target stop
+        (B.world bus.old) (B.world bus.new)) }
     ensures learned { MatchResult result
         (λ strings. Learns (AtMaximum target (λ spec. strings ≡ strings_by spec indexes)) target
         (B.world bus.old) (B.world bus.new))
         (λ stop. Explains (Refuses target no_fault stop) target
         (B.world bus.old) (B.world bus.new)) }
     ensures keeps { OnlyAsks (B.world bus.old) (B.world bus.new) }
+    ensures asked { IfOk result (ReadsStrings target indexes
+        (B.world bus.old) (B.world bus.new)) }
 {
     if indexes.manufacturer == 0 && indexes.product == 0 && indexes.serial_number == 0 {
         return Ok(no_strings());

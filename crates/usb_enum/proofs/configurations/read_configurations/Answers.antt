@@ -14,6 +14,9 @@ use Rattle.usb_enum.proofs.Readings.{learns_none, configurations_none, configura
 use Rattle.usb_enum.proofs.Refusals.{handed_match}
 use Rattle.usb_enum.proofs.TextLengths.{texts_ended, texts_failed, texts_more, texts_none}
 use Rattle.usb_enum.proofs.Values.{one_more}
+use Rattle.usb_enum.specs.Reasons.{StopTold, TextRead, none_yet, one_more as one_more_text, repeated}
+use Rattle.usb_enum.proofs.LastRequests.{leads_none, leads_went}
+use Rattle.usb_enum.proofs.Reasons.{told_after}
 use Rattle.usb_enum.proofs.configurations.read_configurations.Goals as goal
 
 pub loop-index-init : goal.loop-index-init
@@ -22,6 +25,7 @@ loop-index-init g c = record {
   kept = asks_none _;
   read = ap length c.new-texts.ensures;
   differ = rw c.new-texts.ensures tt;
+  asked = rw c.new-texts.ensures none_yet;
   counted = texts_none c.args.target _;
   learned = rw c.new-texts.ensures (learns_none (AtMaximum c.args.target (HasConfigurations 0 [])) c.args.target (g.B.Bus.world c.args.bus.now) (λ spec max. configurations_none spec));
 }
@@ -37,6 +41,7 @@ loop-index-preserved g c =
       kept = asks_then _ _ _ _ c.loop-index.invariant.kept c.read_text.ensures.went c.read_text.ensures.keeps;
       read = rw c.in_ok-push.ensures.ok (grind (arith, common_steps, c.loop-index.invariant.read));
       differ = rw c.in_ok-push.ensures.ok (one_more texts text c.loop-index.invariant.differ differs);
+      asked = rw c.in_ok-push.ensures.ok (one_more_text text c.loop-index.invariant.asked (subst (λ n. TextRead c.args.target n text (g.B.Bus.world c.loop-index.bus) (g.B.Bus.world c.read_text.new.bus)) (sym c.loop-index.invariant.read) c.in_ok-text.ensures.told));
       counted = texts_more c.args.target c.loop-index.index _ _ _ _ c.in_ok-text.text c.loop-index.invariant.counted c.read_text.ensures.went c.in_ok-text.ensures.count;
       learned =
           rw c.in_ok-push.ensures.ok
@@ -104,3 +109,17 @@ returns-in_err-push-clause-learned g c =
     (reading_failed c.args.target c.loop-index.index c.args.count _ c.in_ok-text.text c.loop-index.texts Memory
     (g.B.Bus.world c.args.bus.now) (g.B.Bus.world c.loop-index.bus) (g.B.Bus.world c.read_text.new.bus)
     c.loop-index.invariant.learned c.read_text.ensures.went c.in_ok-text.ensures.learned)
+
+pub returns-in_err-text-clause-ends : goal.returns-in_err-text-clause-ends
+returns-in_err-text-clause-ends g c =
+    handed_match c.from_residual.result _ (λ stop. StopTold c.args.target stop (g.B.Bus.world c.args.bus.now) (g.B.Bus.world c.read_text.new.bus)) c.in_err-text.field-0.0 c.from_residual.ensures.1
+    (told_after c.in_err-text.field-0.0 c.args.target (g.B.Bus.world c.args.bus.now) (g.B.Bus.world c.loop-index.bus) (g.B.Bus.world c.read_text.new.bus) (leads_went c.loop-index.invariant.went) c.in_err-text.ensures.told)
+
+pub returns-then-has_value-clause-ends : goal.returns-then-has_value-clause-ends
+returns-then-has_value-clause-ends g c =
+    let P : ℕ → Type 0 = λ value. any_has_value value c.loop-index.texts ≡ true in
+    repeated (g.B.Bus.world c.args.bus.now) (g.B.Bus.world c.loop-index.bus) c.loop-index.texts c.in_ok-text.text (leads_none (g.B.Bus.world c.args.bus.now)) c.loop-index.invariant.asked c.loop-index.invariant.read c.in_ok-text.ensures.told
+    (subst P c.value.ensures (sym c.has_value.ensures ∙ c.if-has_value.true))
+
+pub returns-clause-ends : goal.returns-clause-ends
+returns-clause-ends g c = (c.loop-index.invariant.read ∙ omega (arith, c.loop-index.auto.index-end, c.loop-index-test.false), c.loop-index.invariant.differ, c.loop-index.invariant.asked)

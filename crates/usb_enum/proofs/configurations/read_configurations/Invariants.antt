@@ -5,6 +5,7 @@ use Rattle.usb_enum.specs.Bounds.{configuration_bound}
 use Rattle.usb_enum.specs.LearnedFacts.{Learns}
 use Rattle.usb_enum.specs.Readings.{AtMaximum, HasConfigurations}
 use Rattle.usb_enum.specs.Text.{ValuesDiffer}
+use Rattle.usb_enum.specs.Reasons.{TextsAsked}
 use Rattle.usb_enum.proofs.TextLengths.{TextsRead}
 use Rattle.usb_enum.proofs.configurations.read_configurations.Given as goal
 
@@ -14,6 +15,7 @@ invariant-loop-index g l = record {
   kept : OnlyAsks (g.B.Bus.world l.initial.bus) (g.B.Bus.world l.bus);
   read : length l.texts ≡ l.index;
   differ : ValuesDiffer l.texts;
+  asked : TextsAsked l.target (g.B.Bus.world l.initial.bus) l.texts (g.B.Bus.world l.bus);
   counted : TextsRead l.target l.index (g.B.Bus.world l.initial.bus) (g.B.Bus.world l.bus);
   learned : Learns (AtMaximum l.target (HasConfigurations l.index l.texts)) l.target (g.B.Bus.world l.initial.bus) (g.B.Bus.world l.bus);
 }

@@ -1,17 +1,21 @@
-use Rattle.std.proofs.Common.{◌∙◌, arith, sym}
+use Rattle.std.proofs.Common.{◌∙◌, arith, refl, subst, sym}
 use Rattle.usb_bus.proofs.Interface.{went_wider}
 use Rattle.usb_hub.specs.GivenAnswers.{config_given}
 use Rattle.usb_enum.proofs.Frames.{asks_then, text_asks}
-use Rattle.usb_enum.specs.Stop.{StopTold}
+use Rattle.usb_enum.specs.Reasons.{StopTold, TextRead, bad_text}
 use Rattle.usb_enum.proofs.Counts.{text_went}
 use Rattle.usb_enum.specs.Readings.{AtMaximum, HasTotal}
 use Rattle.usb_enum.specs.Verdicts.{config_fault}
 use Rattle.usb_enum.specs.Refusals.{Refuses}
 use Rattle.usb_enum.proofs.ConfigRefusals.{config_refused, text_refused}
-use Rattle.usb_enum.proofs.Readings.{configuration_learned}
+use Rattle.usb_enum.proofs.Readings.{configuration_learned, good_bytes}
 use Rattle.usb_enum.proofs.Refusals.{handed_match, explains_on}
 use Rattle.usb_enum.proofs.TextLengths.{config_there, head_unread, text_malformed, text_unread, text_was_read}
-use Rattle.usb_enum.proofs.ToldFailures.{handed_on, refused_told}
+use Rattle.usb_request.specs.Requests.{get_configuration_descriptor}
+use Rattle.usb_enum.specs.declared.cause.Cause.TheVariants.{Stalled}
+use Rattle.usb_enum.specs.declared.cause.Request.TheVariants.{Config}
+use Rattle.usb_enum.proofs.LastRequests.{leads_went}
+use Rattle.usb_enum.proofs.Reasons.{reading_after, reads_failed, stop_told, told_after, was_read}
 use Rattle.usb_enum.proofs.configurations.read_text.Goals as goal
 
 pub returns-in_err-bytes-clause-went : goal.returns-in_err-bytes-clause-went
@@ -60,11 +64,6 @@ pub returns-in-None-clause-keeps : goal.returns-in-None-clause-keeps
 returns-in-None-clause-keeps g c = asks_then _ _ _ _ c.total_length.ensures.keeps c.get_config.ensures.went
     (text_asks (config_given c.args.index) _ _ _ _ _ _ c.get_config.ensures.asked c.get_config.ensures.what c.get_config.ensures.keeps)
 
-pub returns-in_err-bytes-clause-told : goal.returns-in_err-bytes-clause-told
-returns-in_err-bytes-clause-told g c =
-    handed_on c.from_residual-in_err-bytes.result (λ stop. StopTold stop (g.B.Bus.world c.get_config.new.bus)) c.in_err-bytes.field-0.0 c.from_residual-in_err-bytes.ensures.1
-    (refused_told _ 3 1 _ _ c.get_config.result _ (sym c.answered_or.ensures ∙ c.in_err-bytes.was) tt c.get_config.ensures.asked.ends)
-
 pub returns-in-Some-clause-learned : goal.returns-in-Some-clause-learned
 returns-in-Some-clause-learned g c =
     configuration_learned c.args.target _ c.args.index c.in_ok-total.total _ c.get_config.result c.in_ok-bytes.bytes c.in-Some.text
@@ -91,3 +90,28 @@ returns-in-None-clause-learned g c =
     (g.B.Bus.world c.args.bus.now) (g.B.Bus.world c.total_length.new.bus) (g.B.Bus.world c.get_config.new.bus)
     (sym c.answered_or.ensures ∙ c.in_ok-bytes.was) (sym c.new.ensures ∙ c.in-None.is)
     c.in_ok-total.ensures.learned c.get_config.ensures.went c.get_config.ensures.what
+
+pub returns-in_err-total-clause-told : goal.returns-in_err-total-clause-told
+returns-in_err-total-clause-told g c = handed_match c.from_residual.result _ (λ stop. StopTold c.args.target stop (g.B.Bus.world c.args.bus.now) (g.B.Bus.world c.total_length.new.bus)) c.in_err-total.field-0.0 c.from_residual.ensures.1 c.in_err-total.ensures.ends
+
+pub returns-in_err-bytes-clause-told : goal.returns-in_err-bytes-clause-told
+returns-in_err-bytes-clause-told g c =
+    handed_match c.from_residual-in_err-bytes.result _ (λ stop. StopTold c.args.target stop (g.B.Bus.world c.args.bus.now) (g.B.Bus.world c.get_config.new.bus)) c.in_err-bytes.field-0.0 c.from_residual-in_err-bytes.ensures.1
+    (told_after c.in_err-bytes.field-0.0 c.args.target (g.B.Bus.world c.args.bus.now) (g.B.Bus.world c.total_length.new.bus) (g.B.Bus.world c.get_config.new.bus) (leads_went c.total_length.ensures.went)
+    (stop_told c.args.target (get_configuration_descriptor c.args.index c.in_ok-total.total) Config c.get_config.result c.in_err-bytes.field-0.0 3 1 (g.B.Bus.world c.total_length.new.bus) (g.B.Bus.world c.get_config.new.bus) (sym c.answered_or.ensures ∙ c.in_err-bytes.was) (c.args.index, (c.in_ok-total.total, refl))
+    (reads_failed c.args.target (get_configuration_descriptor c.args.index c.in_ok-total.total) c.get_config.result (g.B.Bus.world c.total_length.new.bus) (g.B.Bus.world c.get_config.new.bus) c.get_config.ensures.asked.stages) c.get_config.ensures.asked.ends))
+
+pub returns-in-Some-clause-told : goal.returns-in-Some-clause-told
+returns-in-Some-clause-told g c =
+    subst (λ text. TextRead c.args.target c.args.index text (g.B.Bus.world c.args.bus.now) (g.B.Bus.world c.get_config.new.bus)) (sym (good_bytes c.in_ok-bytes.bytes.items c.in-Some.text (sym c.in-Some.is ∙ c.new.ensures)).1) (record {
+      size = c.in_ok-total.total;
+      read = reading_after (leads_went c.total_length.ensures.went) (was_read c.args.target (get_configuration_descriptor c.args.index c.in_ok-total.total) (Stalled Config) c.get_config.result c.in_ok-bytes.bytes (g.B.Bus.world c.total_length.new.bus) (g.B.Bus.world c.get_config.new.bus) (sym c.answered_or.ensures ∙ c.in_ok-bytes.was) c.get_config.ensures.asked.stages);
+    })
+
+pub returns-in-None-clause-told : goal.returns-in-None-clause-told
+returns-in-None-clause-told g c =
+    bad_text c.in_ok-bytes.bytes.items (record {
+      size = c.in_ok-total.total;
+      read = reading_after (leads_went c.total_length.ensures.went) (was_read c.args.target (get_configuration_descriptor c.args.index c.in_ok-total.total) (Stalled Config) c.get_config.result c.in_ok-bytes.bytes (g.B.Bus.world c.total_length.new.bus) (g.B.Bus.world c.get_config.new.bus) (sym c.answered_or.ensures ∙ c.in_ok-bytes.was) c.get_config.ensures.asked.stages);
+    })
+    (sym c.new.ensures ∙ c.in-None.is)

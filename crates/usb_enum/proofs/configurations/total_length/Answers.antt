@@ -1,6 +1,6 @@
-use Rattle.std.proofs.Common.{◌∙◌, ap, sym}
+use Rattle.std.proofs.Common.{◌∙◌, ap, refl, sym}
 use Rattle.usb_descriptor.specs.Config.{config_head_of}
-use Rattle.usb_enum.specs.Stop.{StopTold}
+use Rattle.usb_enum.specs.Reasons.{StopTold, bad_total}
 use Rattle.usb_hub.specs.GivenAnswers.{config_given}
 use Rattle.usb_enum.proofs.Frames.{text_asks}
 use Rattle.usb_enum.proofs.Counts.{read_went}
@@ -8,7 +8,10 @@ use Rattle.usb_enum.proofs.ConfigRefusals.{config_refused, total_refused}
 use Rattle.usb_enum.proofs.Readings.{total_learned}
 use Rattle.usb_enum.proofs.Refusals.{handed_match}
 use Rattle.usb_enum.proofs.TextLengths.{config_there}
-use Rattle.usb_enum.proofs.ToldFailures.{refused_told}
+use Rattle.usb_request.specs.Requests.{get_configuration_descriptor}
+use Rattle.usb_enum.specs.declared.cause.Cause.TheVariants.{Stalled}
+use Rattle.usb_enum.specs.declared.cause.Request.TheVariants.{Config}
+use Rattle.usb_enum.proofs.Reasons.{reads_failed, stop_told, was_read}
 use Rattle.usb_enum.proofs.configurations.total_length.Goals as goal
 
 pub returns-in_err-head-clause-went : goal.returns-in_err-head-clause-went
@@ -19,11 +22,6 @@ returns-in-Ok-clause-went g c = read_went c.args.target.max 9 _ _ c.requires.max
 
 pub returns-clause-went : goal.returns-clause-went
 returns-clause-went g c = read_went c.args.target.max 9 _ _ c.requires.max c.get_config.ensures.went
-
-pub returns-in_err-head-clause-ends : goal.returns-in_err-head-clause-ends
-returns-in_err-head-clause-ends g c =
-    handed_match c.from_residual.result _ (λ stop. StopTold stop (g.B.Bus.world c.get_config.new.bus)) c.in_err-head.field-0.0 c.from_residual.ensures.1
-    (refused_told _ 3 1 _ _ c.get_config.result _ (sym c.answered_or.ensures ∙ c.in_err-head.was) tt c.get_config.ensures.asked.ends)
 
 pub returns-in-Ok-clause-ends : goal.returns-in-Ok-clause-ends
 returns-in-Ok-clause-ends g c =
@@ -58,3 +56,16 @@ returns-clause-learned g c =
     (sym c.answered_or.ensures ∙ c.in_ok-head.was)
     (ap config_head_of (sym c.as_slice.ensures.value) ∙ sym c.config_head.ensures.answer ∙ c.in-Err.is)
     c.get_config.ensures.what
+
+pub returns-in_err-head-clause-ends : goal.returns-in_err-head-clause-ends
+returns-in_err-head-clause-ends g c =
+    let setup = get_configuration_descriptor c.args.index 9 in
+    handed_match c.from_residual.result _ (λ stop. StopTold c.args.target stop (g.B.Bus.world c.args.bus.now) (g.B.Bus.world c.get_config.new.bus)) c.in_err-head.field-0.0 c.from_residual.ensures.1
+    (stop_told c.args.target setup Config c.get_config.result c.in_err-head.field-0.0 3 1 (g.B.Bus.world c.args.bus.now) (g.B.Bus.world c.get_config.new.bus) (sym c.answered_or.ensures ∙ c.in_err-head.was) (c.args.index, (9, refl))
+    (reads_failed c.args.target setup c.get_config.result (g.B.Bus.world c.args.bus.now) (g.B.Bus.world c.get_config.new.bus) c.get_config.ensures.asked.stages) c.get_config.ensures.asked.ends)
+
+pub returns-clause-ends : goal.returns-clause-ends
+returns-clause-ends g c =
+    bad_total c.in_ok-head.head.items c.in-Err.field-0
+    (was_read c.args.target (get_configuration_descriptor c.args.index 9) (Stalled Config) c.get_config.result c.in_ok-head.head (g.B.Bus.world c.args.bus.now) (g.B.Bus.world c.get_config.new.bus) (sym c.answered_or.ensures ∙ c.in_ok-head.was) c.get_config.ensures.asked.stages)
+    (ap config_head_of (sym c.as_slice.ensures.value) ∙ sym c.config_head.ensures.answer ∙ c.in-Err.is)

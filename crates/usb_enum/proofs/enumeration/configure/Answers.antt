@@ -13,11 +13,16 @@ use Rattle.usb_bus.proofs.Interface.{went_none, went_then, went_wider}
 use Rattle.usb_enum.proofs.Frames.{asks_none, sets_asked, sets_at, sets_told, sets_then, configuration_sets}
 use Rattle.usb_enum.proofs.Counts.{went_on}
 use Rattle.usb_enum.specs.Bounds.{configured_by, texts_bound}
-use Rattle.usb_enum.specs.Stop.{ToldOfDevice}
-use Rattle.usb_enum.proofs.Hubs.{answered_ok, told_of_hub}
+use Rattle.usb_enum.proofs.Hubs.{answered_ok}
 use Rattle.usb_enum.proofs.Powers.{empties_ports}
 use Rattle.usb_enum.proofs.TextLengths.{few_then, few_wider}
-use Rattle.usb_enum.proofs.ToldFailures.{refused_told, told_of_device}
+use Rattle.usb_request.specs.Requests.{set_configuration}
+use Rattle.usb_enum.specs.declared.cause.Request.TheVariants.{SetConfig}
+use Rattle.usb_enum.specs.Reasons.{StopsDevice, ToldAtStart, lacks_power}
+use Rattle.usb_enum.proofs.Reasons.{stop_told, told_after, writes_failed}
+use Rattle.usb_enum.proofs.Stops.{fits_stop, hub_stops, stops_by}
+use Rattle.usb_enum.specs.StringRequests.{ReadsStrings}
+use Rattle.usb_enum.proofs.LastRequests.{leads_then, leads_went}
 use Rattle.usb_enum.proofs.enumeration.configure.Goals as goal
 
 pub returns-in_err-fits_tier-clause-went : goal.returns-in_err-fits_tier-clause-went
@@ -92,27 +97,6 @@ returns-in_err-strings-clause-few g c = few_then texts_bound configured_by c.arg
 pub returns-clause-few : goal.returns-clause-few
 returns-clause-few g c = few_then texts_bound configured_by c.args.device.target _ _ _ _ c.read_configurations.ensures.few (went_then _ _ (went_then _ _ c.set_configuration.ensures.went c.hub_facts.ensures.went) c.read_strings.ensures.went) (λ most. omega arith)
 
-pub returns-in_err-configs-clause-ends : goal.returns-in_err-configs-clause-ends
-returns-in_err-configs-clause-ends g c =
-    handed_match c.from_residual-in_err-configs.result _ (λ stop. ToldOfDevice c.args.tier stop (g.B.Bus.world c.read_configurations.new.bus)) c.in_err-configs.field-0.0 c.from_residual-in_err-configs.ensures.1
-    (told_of_device _ _ _ c.in_err-configs.ensures.ends)
-
-pub returns-in_err-answered_or-clause-ends : goal.returns-in_err-answered_or-clause-ends
-returns-in_err-answered_or-clause-ends g c =
-    handed_match c.from_residual-in_err-answered_or.result _ (λ stop. ToldOfDevice c.args.tier stop (g.B.Bus.world c.set_configuration.new.bus)) c.in_err-answered_or.field-0.0 c.from_residual-in_err-answered_or.ensures.1
-    (told_of_device _ _ _ (refused_told _ 2 1 _ _ c.set_configuration.result _ (sym c.answered_or.ensures ∙ c.in_err-answered_or.was) tt c.set_configuration.ensures.ordered.ends))
-
-pub returns-in_err-strings-clause-ends : goal.returns-in_err-strings-clause-ends
-returns-in_err-strings-clause-ends g c =
-    handed_match c.from_residual-in_err-strings.result _ (λ stop. ToldOfDevice c.args.tier stop (g.B.Bus.world c.read_strings.new.bus)) c.in_err-strings.field-0.0 c.from_residual-in_err-strings.ensures.1
-    (told_of_device _ _ _ c.in_err-strings.ensures.told)
-
-pub returns-in_err-hub-clause-ends : goal.returns-in_err-hub-clause-ends
-returns-in_err-hub-clause-ends g c =
-    let fits = sym c.fits_tier.ensures ∙ c.in_ok-fits_tier.was in
-    handed_match c.from_residual-in_err-hub.result _ (λ stop. ToldOfDevice c.args.tier stop (g.B.Bus.world c.hub_facts.new.bus)) c.in_err-hub.field-0.0 c.from_residual-in_err-hub.ensures.1
-    (told_of_hub c.args.tier c.args.device.bytes _ _ fits c.in_err-hub.ensures.hub c.in_err-hub.ensures.told)
-
 pub returns-clause-learned : goal.returns-clause-learned
 returns-clause-learned g c =
     let configs = c.in_ok-configs.configs in
@@ -132,6 +116,11 @@ returns-clause-learned g c =
       below = empties_ports _ _ _ _ _ c.set_configuration.result c.read_configurations.ensures.went c.read_configurations.ensures.keeps c.set_configuration.ensures.went
           (answered_ok _ c.set_configuration.result tt (sym c.answered_or.ensures ∙ c.in_ok-answered_or.was)) c.set_configuration.ensures.ordered c.set_configuration.ensures.what c.set_configuration.ensures.keeps
           c.in_ok-hub.ensures.ports.started c.read_strings.ensures.keeps;
+      strings = record {
+        before = g.B.Bus.world c.hub_facts.new.bus;
+        led = leads_then (leads_went c.read_configurations.ensures.went) (leads_then (leads_went c.set_configuration.ensures.went) (leads_went c.hub_facts.ensures.went));
+        read = subst (λ indexes. ReadsStrings c.args.device.target indexes (g.B.Bus.world c.hub_facts.new.bus) (g.B.Bus.world c.read_strings.new.bus) c.in_ok-strings.strings) c.string_indexes.ensures c.in_ok-strings.ensures.asked;
+      };
     }
 
 pub returns-in_err-fits_tier-clause-learned : goal.returns-in_err-fits_tier-clause-learned
@@ -197,3 +186,48 @@ returns-in_err-strings-clause-learned g c =
     handed_match c.from_residual-in_err-strings.result _ _ c.in_err-strings.field-0.0 c.from_residual-in_err-strings.ensures.1
     (strings_refused t c.args.tier c.args.supply c.args.device.bytes _ c.value-value.result _ _ c.in_err-strings.field-0.0 (g.B.Bus.world c.args.bus.now) (g.B.Bus.world c.hub_facts.new.bus) (g.B.Bus.world c.read_strings.new.bus)
     told (went_then _ _ (went_then _ _ c.read_configurations.ensures.went c.set_configuration.ensures.went) c.hub_facts.ensures.went) c.read_strings.ensures.went c.in_err-strings.ensures.learned)
+
+pub returns-in_err-fits_tier-clause-ends : goal.returns-in_err-fits_tier-clause-ends
+returns-in_err-fits_tier-clause-ends g c =
+    handed_match c.from_residual.result _ (StopsDevice c.args.device.target c.args.device.bytes c.args.tier c.args.supply (g.B.Bus.world c.args.bus.now) (g.B.Bus.world c.args.bus.now)) c.in_err-fits_tier.field-0.0 c.from_residual.ensures.1
+    (fits_stop c.args.device.target c.args.device.bytes c.args.tier c.args.supply c.in_err-fits_tier.field-0.0 (g.B.Bus.world c.args.bus.now) (sym c.fits_tier.ensures ∙ c.in_err-fits_tier.was))
+
+pub returns-in_err-configs-clause-ends : goal.returns-in_err-configs-clause-ends
+returns-in_err-configs-clause-ends g c =
+    handed_match c.from_residual-in_err-configs.result _ (StopsDevice c.args.device.target c.args.device.bytes c.args.tier c.args.supply (g.B.Bus.world c.args.bus.now) (g.B.Bus.world c.read_configurations.new.bus)) c.in_err-configs.field-0.0 c.from_residual-in_err-configs.ensures.1
+    (stops_by c.args.device.target c.args.device.bytes c.args.tier c.args.supply c.in_err-configs.field-0.0 (g.B.Bus.world c.args.bus.now) (g.B.Bus.world c.read_configurations.new.bus) c.in_err-configs.ensures.ends)
+
+pub returns-in_err-chosen-clause-ends : goal.returns-in_err-chosen-clause-ends
+returns-in_err-chosen-clause-ends g c =
+    handed_match c.from_residual-in_err-chosen.result _ (StopsDevice c.args.device.target c.args.device.bytes c.args.tier c.args.supply (g.B.Bus.world c.args.bus.now) (g.B.Bus.world c.read_configurations.new.bus)) (Fault Memory) c.from_residual-in_err-chosen.ensures.1 (record { fits = tt; because = tt })
+
+pub returns-in_default-clause-ends : goal.returns-in_default-clause-ends
+returns-in_default-clause-ends g c = record {
+  fits = tt;
+  because = lacks_power c.in_ok-configs.configs (record { asked = c.in_ok-configs.ensures.ends.2; all = c.in_ok-configs.ensures.ends.0 ∙ c.configurations.ensures }) (sym c.in_ok-chosen.ensures.chosen ∙ c.in_default.is);
+}
+
+pub returns-in_err-answered_or-clause-ends : goal.returns-in_err-answered_or-clause-ends
+returns-in_err-answered_or-clause-ends g c =
+    let stop = c.in_err-answered_or.field-0.0 in
+    let setup = set_configuration c.value-value.result in
+    handed_match c.from_residual-in_err-answered_or.result _ (StopsDevice c.args.device.target c.args.device.bytes c.args.tier c.args.supply (g.B.Bus.world c.args.bus.now) (g.B.Bus.world c.set_configuration.new.bus)) stop c.from_residual-in_err-answered_or.ensures.1
+    (stops_by c.args.device.target c.args.device.bytes c.args.tier c.args.supply stop (g.B.Bus.world c.args.bus.now) (g.B.Bus.world c.set_configuration.new.bus) (told_after stop c.args.device.target (g.B.Bus.world c.args.bus.now) (g.B.Bus.world c.read_configurations.new.bus) (g.B.Bus.world c.set_configuration.new.bus) (leads_went c.read_configurations.ensures.went)
+    (stop_told c.args.device.target setup SetConfig c.set_configuration.result stop 2 1 (g.B.Bus.world c.read_configurations.new.bus) (g.B.Bus.world c.set_configuration.new.bus) (sym c.answered_or.ensures ∙ c.in_err-answered_or.was) (c.value-value.result, refl)
+    (writes_failed c.args.device.target setup c.set_configuration.result (g.B.Bus.world c.read_configurations.new.bus) (g.B.Bus.world c.set_configuration.new.bus) c.set_configuration.ensures.ordered.stages) c.set_configuration.ensures.ordered.ends)))
+
+pub returns-in_err-hub-clause-ends : goal.returns-in_err-hub-clause-ends
+returns-in_err-hub-clause-ends g c =
+    let stop = c.in_err-hub.field-0.0 in
+    let inside = rw c.in-Some.is at c.in_ok-chosen.ensures.inside in
+    let same_text = get_or_read c.in_ok-configs.configs _ _ inside (c.index-as_slice-chosen-2.is ∙ ap (λ texts. slice_index_or texts c.in-Some.chosen c.index-as_slice-chosen-2.result) c.as_slice-2.ensures) [] in
+    handed_match c.from_residual-in_err-hub.result _ (StopsDevice c.args.device.target c.args.device.bytes c.args.tier c.args.supply (g.B.Bus.world c.args.bus.now) (g.B.Bus.world c.hub_facts.new.bus)) stop c.from_residual-in_err-hub.ensures.1
+    (hub_stops c.args.device.target c.args.device.bytes c.args.tier c.args.supply stop (g.B.Bus.world c.args.bus.now) (g.B.Bus.world c.read_configurations.new.bus) (g.B.Bus.world c.set_configuration.new.bus) (g.B.Bus.world c.hub_facts.new.bus) (sym c.fits_tier.ensures ∙ c.in_ok-fits_tier.was) c.in_err-hub.ensures.hub c.in_ok-configs.configs
+    (record { asked = c.in_ok-configs.ensures.ends.2; all = c.in_ok-configs.ensures.ends.0 ∙ c.configurations.ensures }) c.in-Some.chosen (sym c.in_ok-chosen.ensures.chosen ∙ c.in-Some.is)
+    (leads_went c.read_configurations.ensures.went) (leads_went c.set_configuration.ensures.went) (subst (λ text. ToldAtStart c.args.device.target text stop (g.B.Bus.world c.set_configuration.new.bus) (g.B.Bus.world c.hub_facts.new.bus)) same_text c.in_err-hub.ensures.told))
+
+pub returns-in_err-strings-clause-ends : goal.returns-in_err-strings-clause-ends
+returns-in_err-strings-clause-ends g c =
+    let stop = c.in_err-strings.field-0.0 in
+    handed_match c.from_residual-in_err-strings.result _ (StopsDevice c.args.device.target c.args.device.bytes c.args.tier c.args.supply (g.B.Bus.world c.args.bus.now) (g.B.Bus.world c.read_strings.new.bus)) stop c.from_residual-in_err-strings.ensures.1
+    (stops_by c.args.device.target c.args.device.bytes c.args.tier c.args.supply stop (g.B.Bus.world c.args.bus.now) (g.B.Bus.world c.read_strings.new.bus) (told_after stop c.args.device.target (g.B.Bus.world c.args.bus.now) (g.B.Bus.world c.hub_facts.new.bus) (g.B.Bus.world c.read_strings.new.bus) (leads_then (leads_went c.read_configurations.ensures.went) (leads_then (leads_went c.set_configuration.ensures.went) (leads_went c.hub_facts.ensures.went))) c.in_err-strings.ensures.told))

@@ -3,10 +3,13 @@ use Rattle.usb_bus.proofs.Interface.{went_wider}
 use Rattle.usb_hub.proofs.Interface.{port_stays}
 use Rattle.usb_enum.proofs.Counts.{went_on}
 use Rattle.usb_resources.specs.Pool.{HasAddresses, IsFull}
-use Rattle.usb_enum.proofs.Endings.{zero_untaken, zero_before, free_untaken, enumerated, given_up, none_true, found_true, device_placed, few_made, few_unaddressed, refused_placed, device_warranted, stopped_warranted}
+use Rattle.usb_enum.proofs.Endings.{zero_untaken, zero_before, free_untaken, enumerated, given_up, none_true, found_true, device_placed, few_made, few_unaddressed, refused_placed, device_warranted, stopped_warranted, strings_asked, no_strings_asked}
 use Rattle.usb_enum.proofs.Frames.{calls_then}
 use Rattle.usb_enum.specs.Refusals.{unaddressed_fault, whole_fault}
 use Rattle.usb_enum.proofs.Warrants.{unaddressed_right, whole_right}
+use Rattle.usb_enum.specs.Stop.{StopToldIn, StopToldWithout}
+use Rattle.usb_enum.proofs.LastRequests.{leads_went}
+use Rattle.usb_enum.proofs.Stops.{given_told, gives_reason, stopped_reasoned, without_reasoned}
 use Rattle.usb_enum.proofs.enumeration.enumerate.Goals as goal
 
 pub returns-in_default-clause-ends : goal.returns-in_default-clause-ends
@@ -20,7 +23,9 @@ returns-in_default-clause-ends g c =
       warrants =
           stopped_warranted c.args.port c.args.pool.now 0 zero zero unaddressed_fault c.args.tier c.args.supply _ _ _ _ _ _ _ c.without_address-stop.ensures.went c.give_up.ensures.went c.without_address-stop.ensures.within
           c.without_address-stop.ensures.why (c.give_up.ensures.closes 0) c.give_up.ensures.left (unaddressed_right (IsFull c.args.pool.now) c.in_default.ensures.none.0 c.args.tier c.args.supply);
+      ended = gives_reason c.args.port c.args.pool.now c.args.tier c.args.supply c.without_address-stop.result (g.B.Bus.world c.args.bus.now) (g.B.Bus.world c.without_address-stop.new.bus) (g.B.Bus.world c.give_up.new.bus) c.give_up.result (leads_went c.without_address-stop.ensures.went) (leads_went c.give_up.ensures.went) (without_reasoned c.args.port c.args.pool.now c.args.tier c.args.supply c.without_address-stop.result (g.B.Bus.world c.args.bus.now) (g.B.Bus.world c.without_address-stop.new.bus) c.in_default.ensures.none.0 c.without_address-stop.ensures.because) c.give_up.ensures.left;
       few = few_unaddressed c.args.port c.args.pool.now _ _ _ c.without_address-stop.ensures.went c.give_up.ensures.went;
+      strings = no_strings_asked _ _ _ _ _ _ c.give_up.ensures.left;
     }
 
 pub returns-in-Ok-clause-ends : goal.returns-in-Ok-clause-ends
@@ -31,7 +36,9 @@ returns-in-Ok-clause-ends g c =
       own = found_true c.args.port c.args.pool.now c.in-Some.address (zero_before _ _ _ taken c.take.ensures.range) (free_untaken _ _ _ taken) _ _ _ _ _ c.in-Ok.ensures.ok.own;
       places = device_placed c.args.port c.args.pool.now c.in-Some.address (zero_before _ _ _ taken c.take.ensures.range) (free_untaken _ _ _ taken) _ _ _ c.in-Ok.ensures.ok.reaches (λ f p is t order occupied none. c.in-Ok.ensures.ok.below f p is t order none);
       warrants = device_warranted c.args.port c.args.pool.now c.in-Some.address (zero_before _ _ _ taken c.take.ensures.range) (free_untaken _ _ _ taken) _ _ _ _ _;
+      ended = tt;
       few = few_made c.args.port c.args.pool.now c.in-Some.address (zero_before _ _ _ taken c.take.ensures.range) (free_untaken _ _ _ taken) _ _ _ c.examine.ensures.few (omega arith);
+      strings = strings_asked _ _ _ _ c.in-Ok.ensures.ok.strings;
     }
 
 pub returns-in-Err-clause-ends : goal.returns-in-Err-clause-ends
@@ -48,7 +55,9 @@ returns-in-Err-clause-ends g c =
           stopped_warranted c.args.port c.args.pool.now c.in-Some.address (zero_before _ _ _ taken c.take.ensures.range) (free_untaken _ _ _ taken) (whole_fault c.args.tier c.args.supply) c.args.tier c.args.supply _ _ _ _ _ _ _
           c.examine.ensures.went c.give_up-finding.ensures.went c.examine.ensures.within c.in-Err.ensures.ok (c.give_up-finding.ensures.closes c.in-Some.address) c.give_up-finding.ensures.left
           (whole_right (IsFull c.args.pool.now) c.args.tier c.args.supply);
+      ended = gives_reason c.args.port c.args.pool.now c.args.tier c.args.supply c.in-Err.stop (g.B.Bus.world c.args.bus.now) (g.B.Bus.world c.examine.new.bus) (g.B.Bus.world c.give_up-finding.new.bus) c.give_up-finding.result (leads_went c.examine.ensures.went) (leads_went c.give_up-finding.ensures.went) (stopped_reasoned c.args.port c.args.pool.now c.args.tier c.args.supply c.in-Some.address c.in-Err.stop (g.B.Bus.world c.args.bus.now) (g.B.Bus.world c.examine.new.bus) taken.free c.in-Err.ensures.told.because) c.give_up-finding.ensures.left;
       few = few_made c.args.port c.args.pool.now c.in-Some.address (zero_before _ _ _ taken c.take.ensures.range) (free_untaken _ _ _ taken) _ _ _ c.examine.ensures.few c.give_up-finding.ensures.went.spends.most;
+      strings = no_strings_asked _ _ _ _ _ _ c.give_up-finding.ensures.left;
     }
 
 pub give_up-requires : goal.give_up-requires
@@ -65,3 +74,11 @@ returns-in-Ok-clause-went g c = went_wider _ _ c.examine.ensures.went (omega ari
 
 pub returns-in-Err-clause-went : goal.returns-in-Err-clause-went
 returns-in-Err-clause-went g c = went_on _ _ _ _ _ _ c.examine.ensures.went c.give_up-finding.ensures.went (omega arith)
+
+pub returns-in_default-clause-told : goal.returns-in_default-clause-told
+returns-in_default-clause-told g c =
+    given_told c.args.port c.without_address-stop.result _ _ c.give_up.result (λ why is. subst (λ stop. StopToldWithout c.args.port stop (g.B.Bus.world c.without_address-stop.new.bus)) is c.without_address-stop.ensures.told) c.give_up.ensures.left
+
+pub returns-in-Err-clause-told : goal.returns-in-Err-clause-told
+returns-in-Err-clause-told g c =
+    given_told c.args.port c.in-Err.stop _ _ c.give_up-finding.result (λ why is. subst (λ stop. StopToldIn c.args.port c.args.tier stop (g.B.Bus.world c.examine.new.bus)) is c.in-Err.ensures.told.fits) c.give_up-finding.ensures.left

@@ -1,13 +1,16 @@
-use Rattle.std.proofs.Common.{arith}
+use Rattle.std.proofs.Common.{inr, arith, subst}
 use Rattle.usb_bus.proofs.Interface.{went_wider}
 use Rattle.usb_enum.proofs.Counts.{went_on}
 use Rattle.usb_enum.proofs.Frames.{at_configured}
 use Rattle.usb_enum.specs.Refusals.{addressed_fault, whole_fault}
 use Rattle.usb_enum.proofs.Fairness.{stops_wider}
-use Rattle.usb_enum.proofs.Refusals.{handed_match, matched_err, matched_ok}
+use Rattle.usb_enum.proofs.Refusals.{handed_match, matched_ok}
 use Rattle.usb_enum.proofs.TextLengths.{examined_few}
 use Rattle.usb_enum.proofs.Truths.{accepted}
 use Rattle.usb_enum.proofs.Warrants.{addressed_verdict, configured_err, matched}
+use Rattle.usb_enum.specs.Reasons.{StopsAtPort, StopToldAt}
+use Rattle.usb_enum.proofs.Stops.{device_stops, early_stops, stops_fit}
+use Rattle.usb_enum.proofs.ToldFailures.{handed_on}
 use Rattle.usb_enum.proofs.enumeration.examine.Goals as goal
 
 pub returns-clause-within : goal.returns-clause-within
@@ -32,10 +35,20 @@ returns-clause-ok g c =
     let taken = rw c.number.ensures.value at c.in_ok-device.ensures.taken in
     matched c.configure.result _ _
     (accepted _ _ _ _ _ _ _ c.configure.result c.passes.ensures.went within.within taken c.configure.ensures.keeps c.configure.ensures.went (matched_ok c.configure.result _ _ c.configure.ensures.ends) (matched_ok c.configure.result _ _ c.configure.ensures.learned))
-    (configured_err _ _ _ _ _ _ c.in_ok-device.device c.passes.ensures.went c.configure.ensures.went within taken c.configure.ensures.keeps c.in_ok-device.device.device c.configure.result _ (matched_err c.configure.result _ _ c.configure.ensures.ends) c.configure.ensures.learned)
+    (configured_err _ _ _ _ _ _ c.in_ok-device.device c.passes.ensures.went c.configure.ensures.went within taken c.configure.ensures.keeps c.in_ok-device.device.device c.configure.result _ (stops_fit c.in_ok-device.device.target c.in_ok-device.device.bytes c.args.tier c.args.supply (g.B.Bus.world c.passes.new.bus) (g.B.Bus.world c.configure.new.bus) c.configure.result _ c.configure.ensures.ends) c.configure.ensures.learned)
 
 pub returns-in_err-device-clause-went : goal.returns-in_err-device-clause-went
 returns-in_err-device-clause-went g c = went_wider _ _ c.passes.ensures.went (omega arith)
 
 pub returns-clause-went : goal.returns-clause-went
 returns-clause-went g c = went_on _ _ _ _ _ _ c.passes.ensures.went c.configure.ensures.went (omega arith)
+
+pub returns-in_err-device-clause-told : goal.returns-in_err-device-clause-told
+returns-in_err-device-clause-told g c =
+    handed_on c.from_residual.result (StopsAtPort c.args.port c.args.address c.args.tier c.args.supply (g.B.Bus.world c.args.bus.now) (g.B.Bus.world c.passes.new.bus)) c.in_err-device.field-0.0 c.from_residual.ensures.1
+    (early_stops c.args.port c.args.address c.args.tier c.args.supply c.in_err-device.field-0.0 (g.B.Bus.world c.args.bus.now) (g.B.Bus.world c.passes.new.bus) (subst (λ a. StopToldAt c.args.port a c.in_err-device.field-0.0 (g.B.Bus.world c.args.bus.now) (g.B.Bus.world c.passes.new.bus)) c.number.ensures.value c.in_err-device.ensures.told))
+
+pub returns-clause-told : goal.returns-clause-told
+returns-clause-told g c =
+    let taken = rw c.number.ensures.value at c.in_ok-device.ensures.taken in
+    device_stops c.args.port c.args.address c.args.tier c.args.supply c.in_ok-device.device.target c.in_ok-device.device.bytes c.configure.result _ (g.B.Bus.world c.args.bus.now) (g.B.Bus.world c.passes.new.bus) (g.B.Bus.world c.configure.new.bus) (record { at = inr taken.address; pre = taken.pre }) c.in_ok-device.ensures.told c.configure.ensures.ends

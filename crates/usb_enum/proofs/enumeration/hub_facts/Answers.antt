@@ -5,6 +5,8 @@ use Rattle.usb_bus.proofs.Interface.{went_none, went_wider}
 use Rattle.usb_enum.proofs.Frames.{tells_none}
 use Rattle.usb_enum.proofs.Readings.{learns_none}
 use Rattle.usb_enum.proofs.Refusals.{handed_match}
+use Rattle.usb_enum.specs.Reasons.{ToldAtStart}
+use Rattle.usb_enum.proofs.ToldFailures.{handed_on}
 use Rattle.usb_enum.proofs.enumeration.hub_facts.Goals as goal
 
 pub returns-then-not-is_hub-clause-went : goal.returns-then-not-is_hub-clause-went
@@ -30,3 +32,7 @@ returns-clause-ports g c =
 
 pub returns-in_err-start_hub-clause-ports : goal.returns-in_err-start_hub-clause-ports
 returns-in_err-start_hub-clause-ports g c = handed_match c.from_residual.result _ _ c.in_err-start_hub.field-0.0 c.from_residual.ensures.1 c.in_err-start_hub.ensures.learned
+
+pub returns-in_err-start_hub-clause-told : goal.returns-in_err-start_hub-clause-told
+returns-in_err-start_hub-clause-told g c =
+    handed_on c.from_residual.result (λ stop. ToldAtStart c.args.device.now.target c.args.text.now stop (g.B.Bus.world c.args.bus.now) (g.B.Bus.world c.start_hub.new.bus)) c.in_err-start_hub.field-0.0 c.from_residual.ensures.1 c.in_err-start_hub.ensures.told

@@ -1,4 +1,4 @@
-use Rattle.std.proofs.Common.{◌∙◌, ap, sym}
+use Rattle.std.proofs.Common.{◌∙◌, inl, ap, refl, sym}
 use Rattle.usb_descriptor.specs.Hub.{hub_spelled}
 use Rattle.usb_enum.specs.declared.cause.Cause.TheVariants.{BadHub}
 use Rattle.usb_hub.specs.GivenAnswers.{hub_given}
@@ -8,6 +8,10 @@ use Rattle.usb_enum.proofs.Hubs.{count_told}
 use Rattle.usb_enum.proofs.HubReadings.{ports_learned}
 use Rattle.usb_enum.proofs.HubRefusals.{count_unanswered, count_refused}
 use Rattle.usb_enum.proofs.Refusals.{handed_match}
+use Rattle.usb_request.specs.Requests.{get_hub_descriptor}
+use Rattle.usb_enum.specs.Reasons.{ToldOfHub, bad_descriptor, no_descriptor}
+use Rattle.usb_enum.proofs.Reasons.{hub_told, reads_failed, was_read}
+use Rattle.usb_enum.proofs.ToldFailures.{handed_on}
 use Rattle.usb_enum.proofs.hub.port_count.Goals as goal
 
 pub returns-in-Ok-clause-count : goal.returns-in-Ok-clause-count
@@ -51,3 +55,18 @@ returns-clause-learned g c =
     (sym c.answered_or.ensures ∙ c.in_ok-bytes.was)
     (ap hub_spelled (sym c.as_slice.ensures.value) ∙ sym c.read_hub.ensures.answer ∙ c.in-Err.is)
     c.hub_descriptor.ensures.what
+
+pub returns-in_err-bytes-clause-told : goal.returns-in_err-bytes-clause-told
+returns-in_err-bytes-clause-told g c =
+    handed_on c.from_residual.result (λ stop. ToldOfHub c.args.target stop (g.B.Bus.world c.args.bus.now) (g.B.Bus.world c.hub_descriptor.new.bus)) c.in_err-bytes.field-0.0 c.from_residual.ensures.1
+    (hub_told c.args.target get_hub_descriptor c.hub_descriptor.result c.in_err-bytes.field-0.0 3 1 (g.B.Bus.world c.args.bus.now) (g.B.Bus.world c.hub_descriptor.new.bus) (sym c.answered_or.ensures ∙ c.in_err-bytes.was)
+    (reads_failed c.args.target get_hub_descriptor c.hub_descriptor.result (g.B.Bus.world c.args.bus.now) (g.B.Bus.world c.hub_descriptor.new.bus) c.hub_descriptor.ensures.asked.stages) c.hub_descriptor.ensures.asked.ends no_descriptor)
+
+pub returns-clause-told : goal.returns-clause-told
+returns-clause-told g c =
+    inl (
+      refl,
+      bad_descriptor c.in_ok-bytes.bytes.items c.in-Err.field-0
+          (was_read c.args.target get_hub_descriptor BadHub c.hub_descriptor.result c.in_ok-bytes.bytes (g.B.Bus.world c.args.bus.now) (g.B.Bus.world c.hub_descriptor.new.bus) (sym c.answered_or.ensures ∙ c.in_ok-bytes.was) c.hub_descriptor.ensures.asked.stages)
+          (ap hub_spelled (sym c.as_slice.ensures.value) ∙ sym c.read_hub.ensures.answer ∙ c.in-Err.is),
+    )

@@ -6,6 +6,9 @@ use Rattle.usb_enum.proofs.Counts.{read_went}
 use Rattle.usb_enum.proofs.HubReadings.{supply_learned}
 use Rattle.usb_enum.proofs.HubRefusals.{supply_unanswered}
 use Rattle.usb_enum.proofs.Refusals.{handed_match}
+use Rattle.usb_enum.specs.Reasons.{ToldOfHub}
+use Rattle.usb_enum.proofs.Reasons.{status_told}
+use Rattle.usb_enum.proofs.ToldFailures.{handed_on}
 use Rattle.usb_enum.proofs.hub.port_supply.Goals as goal
 
 pub returns-in_err-status-clause-went : goal.returns-in_err-status-clause-went
@@ -31,3 +34,8 @@ returns-in_err-status-clause-learned g c =
     handed_match c.from_residual.result _ _ c.in_err-status.field-0.0 c.from_residual.ensures.1
     (supply_unanswered c.args.target c.get_status.result c.in_err-status.field-0.0 (g.B.Bus.world c.args.bus.now) (g.B.Bus.world c.get_status.new.bus)
     (sym c.answered_or.ensures ∙ c.in_err-status.was) c.requires.max c.get_status.ensures.what c.get_status.ensures.why)
+
+pub returns-in_err-status-clause-told : goal.returns-in_err-status-clause-told
+returns-in_err-status-clause-told g c =
+    handed_on c.from_residual.result (λ stop. ToldOfHub c.args.target stop (g.B.Bus.world c.args.bus.now) (g.B.Bus.world c.get_status.new.bus)) c.in_err-status.field-0.0 c.from_residual.ensures.1
+    (status_told c.args.target c.get_status.result c.in_err-status.field-0.0 (g.B.Bus.world c.args.bus.now) (g.B.Bus.world c.get_status.new.bus) (sym c.answered_or.ensures ∙ c.in_err-status.was) c.get_status.ensures.told)

@@ -8,6 +8,9 @@ use Rattle.usb_enum.specs.LearnedFacts.{ExplainsSet}
 use Rattle.usb_enum.specs.Refusals.{RefusesNoPort}
 use Rattle.usb_enum.proofs.PortRefusals.{powering_explains}
 use Rattle.usb_enum.proofs.ToldFailures.{handed_on}
+use Rattle.usb_enum.specs.Reasons.{ToldOfHub}
+use Rattle.usb_enum.proofs.LastRequests.{leads_went}
+use Rattle.usb_enum.proofs.Reasons.{hub_after}
 use Rattle.usb_enum.proofs.hub.power_ports.Goals as goal
 
 pub ports-init : goal.ports-init
@@ -35,3 +38,8 @@ returns-in_err-power_port-clause-why g c =
     handed_on c.from_residual.result (λ stop. ExplainsSet (RefusesNoPort t c.args.ports stop) t (g.B.Bus.world c.args.bus.now) (g.B.Bus.world c.power_port.new.bus)) c.in_err-power_port.field-0.0 c.from_residual.ensures.1
     (powering_explains t c.ports.before c.args.ports _ _ c.in_err-power_port.field-0.0 (g.B.Bus.world c.args.bus.now) (g.B.Bus.world c.ports.bus) (g.B.Bus.world c.power_port.new.bus)
     (omega (arith, c.ports-test.true)) c.ports.invariant.kept.devices c.ports.invariant.went c.power_port.ensures.went c.in_err-power_port.ensures.why)
+
+pub returns-in_err-power_port-clause-told : goal.returns-in_err-power_port-clause-told
+returns-in_err-power_port-clause-told g c =
+    handed_on c.from_residual.result (λ stop. ToldOfHub c.args.target stop (g.B.Bus.world c.args.bus.now) (g.B.Bus.world c.power_port.new.bus)) c.in_err-power_port.field-0.0 c.from_residual.ensures.1
+    (hub_after c.in_err-power_port.field-0.0 c.args.target (g.B.Bus.world c.args.bus.now) (g.B.Bus.world c.ports.bus) (g.B.Bus.world c.power_port.new.bus) (leads_went c.ports.invariant.went) c.in_err-power_port.ensures.told)

@@ -1,10 +1,14 @@
-use Rattle.std.proofs.Common.{arith, rules}
+use Rattle.std.proofs.Common.{inl, arith, refl, rules}
 use Rattle.usb_bus.proofs.Interface.{went_none, went_then, went_wider}
 use Rattle.usb_enum.proofs.Frames.{asks_then, tells_asked, tells_none, tells_then}
 use Rattle.usb_enum.proofs.Counts.{went_on}
 use Rattle.usb_enum.proofs.HubReadings.{hub_learned}
 use Rattle.usb_enum.proofs.PortRefusals.{no_endpoint, asked_explains, supply_explains, powered_explains}
 use Rattle.usb_enum.proofs.Refusals.{explains_set_none, handed_match}
+use Rattle.usb_enum.specs.Reasons.{ToldAtStart}
+use Rattle.usb_enum.proofs.LastRequests.{leads_then, leads_went}
+use Rattle.usb_enum.proofs.Reasons.{at_start, hub_after}
+use Rattle.usb_enum.proofs.ToldFailures.{handed_on}
 use Rattle.usb_enum.proofs.hub.start_hub.Goals as goal
 
 pub returns-then-is_none-clause-went : goal.returns-then-is_none-clause-went
@@ -81,3 +85,20 @@ returns-in_err-power_ports-clause-learned g c =
     (g.B.Bus.world c.args.bus.now) (g.B.Bus.world c.port_count.new.bus) (g.B.Bus.world c.port_supply.new.bus) (g.B.Bus.world c.power_ports.new.bus)
     c.in_ok-ports.ensures.count.0 c.port_count.ensures.went c.in_ok-ports.ensures.learned c.port_supply.ensures.went c.port_supply.ensures.keeps.devices
     c.power_ports.ensures.went c.in_err-power_ports.ensures.why)
+
+pub returns-then-is_none-clause-told : goal.returns-then-is_none-clause-told
+returns-then-is_none-clause-told g c = inl (refl, inl (search rules, refl))
+
+pub returns-in_err-ports-clause-told : goal.returns-in_err-ports-clause-told
+returns-in_err-ports-clause-told g c =
+    handed_on c.from_residual.result (λ stop. ToldAtStart c.args.target c.args.text.now stop (g.B.Bus.world c.args.bus.now) (g.B.Bus.world c.port_count.new.bus)) c.in_err-ports.field-0.0 c.from_residual.ensures.1 (at_start c.in_err-ports.field-0.0 c.args.target c.args.text.now (g.B.Bus.world c.args.bus.now) (g.B.Bus.world c.port_count.new.bus) c.in_err-ports.ensures.told)
+
+pub returns-in_err-supply-clause-told : goal.returns-in_err-supply-clause-told
+returns-in_err-supply-clause-told g c =
+    handed_on c.from_residual-in_err-supply.result (λ stop. ToldAtStart c.args.target c.args.text.now stop (g.B.Bus.world c.args.bus.now) (g.B.Bus.world c.port_supply.new.bus)) c.in_err-supply.field-0.0 c.from_residual-in_err-supply.ensures.1
+    (at_start c.in_err-supply.field-0.0 c.args.target c.args.text.now (g.B.Bus.world c.args.bus.now) (g.B.Bus.world c.port_supply.new.bus) (hub_after c.in_err-supply.field-0.0 c.args.target (g.B.Bus.world c.args.bus.now) (g.B.Bus.world c.port_count.new.bus) (g.B.Bus.world c.port_supply.new.bus) (leads_went c.port_count.ensures.went) c.in_err-supply.ensures.told))
+
+pub returns-in_err-power_ports-clause-told : goal.returns-in_err-power_ports-clause-told
+returns-in_err-power_ports-clause-told g c =
+    handed_on c.from_residual-in_err-power_ports.result (λ stop. ToldAtStart c.args.target c.args.text.now stop (g.B.Bus.world c.args.bus.now) (g.B.Bus.world c.power_ports.new.bus)) c.in_err-power_ports.field-0.0 c.from_residual-in_err-power_ports.ensures.1
+    (at_start c.in_err-power_ports.field-0.0 c.args.target c.args.text.now (g.B.Bus.world c.args.bus.now) (g.B.Bus.world c.power_ports.new.bus) (hub_after c.in_err-power_ports.field-0.0 c.args.target (g.B.Bus.world c.args.bus.now) (g.B.Bus.world c.port_supply.new.bus) (g.B.Bus.world c.power_ports.new.bus) (leads_then (leads_went c.port_count.ensures.went) (leads_went c.port_supply.ensures.went)) c.in_err-power_ports.ensures.told))

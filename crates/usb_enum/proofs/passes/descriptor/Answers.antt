@@ -1,18 +1,21 @@
 use Rattle.usb_enum.proofs.Counts.{read_went}
 use Rattle.std.proofs.Common.{◌≡◌, ◌<◌, ◌∙◌, ℕ, true, length, List, Err, Option, Result, ap, refl, subst, sym, take}
-use Rattle.std.specs.Prelude.{IfOk, IfErr, IfSome, MatchResult}
+use Rattle.std.specs.Prelude.{IfOk, IfSome, MatchResult}
 use Rattle.usb_pipe.specs.declared.fault.PipeFault.TheVariants.{NoAnswer}
 use Rattle.usb_enum.specs.declared.stop.Stop.{Stop}
 use Rattle.usb_enum.specs.Device.{is_device}
-use Rattle.usb_enum.specs.Stop.{StopTold}
+use Rattle.usb_enum.specs.Reasons.{DescriptorTold, StopTold, bad_front}
 use Rattle.usb_enum.specs.Refusals.{FindsDescriptor, RefusesDescriptor}
 use Rattle.usb_enum.proofs.DeviceRefusals.{descriptor_unanswered, descriptor_none, descriptor_refused, descriptor_found, no_answer, some_answer, answered_who, refused_who, short_device}
 use Rattle.usb_enum.proofs.Heads.{bytes_answered}
 use Rattle.usb_hub.specs.GivenAnswers.{device_given}
 use Rattle.usb_enum.proofs.Frames.{text_asks}
-use Rattle.usb_enum.proofs.ToldFailures.{handed_on, refused_told, device_told, device_good}
 use Rattle.usb_enum.proofs.Refusals.{handed_match}
-use Rattle.usb_enum.proofs.ToldFailures.{handed_on, refused_told, device_told, device_good}
+use Rattle.usb_request.specs.Requests.{get_device_descriptor}
+use Rattle.usb_enum.specs.declared.cause.Cause.TheVariants.{Stalled}
+use Rattle.usb_enum.specs.declared.cause.Request.TheVariants.{Device}
+use Rattle.usb_enum.proofs.Reasons.{device_told, reads_failed, stop_told, unanswered, was_read}
+use Rattle.usb_enum.proofs.ToldFailures.{device_good}
 use Rattle.usb_enum.proofs.passes.descriptor.Goals as goal
 
 pub returns-then-eq-clause-went : goal.returns-then-eq-clause-went
@@ -38,16 +41,6 @@ returns-clause-went g c = read_went c.args.target.max 18 _ _ c.requires.max c.ge
 
 pub returns-clause-keeps : goal.returns-clause-keeps
 returns-clause-keeps g c = text_asks device_given c.args.target _ _ _ _ _ c.get_device-outcome.ensures.asked c.get_device-outcome.ensures.what c.get_device-outcome.ensures.addresses.keeps
-
-pub returns-in_err-bytes-clause-told : goal.returns-in_err-bytes-clause-told
-returns-in_err-bytes-clause-told g c =
-    handed_on c.from_residual.result (λ stop. StopTold stop (g.B.Bus.world c.get_device-outcome.new.bus)) c.in_err-bytes.field-0.0 c.from_residual.ensures.1
-    (refused_told _ 3 1 _ _ c.get_device-outcome.result _ (sym c.answered_or.ensures ∙ c.in_err-bytes.was) tt c.get_device-outcome.ensures.asked.ends)
-
-pub returns-in-Some-clause-told : goal.returns-in-Some-clause-told
-returns-in-Some-clause-told g c =
-    let P : Result (Option (List ℕ)) Stop → Type 0 = λ r. IfErr r (λ stop. StopTold stop (g.B.Bus.world c.get_device-outcome.new.bus)) in
-    subst P (sym c.device_bytes.ensures) (device_told c.args.target.low c.in-Some.bytes.now _)
 
 pub returns-in-Some-clause-device : goal.returns-in-Some-clause-device
 returns-in-Some-clause-device g c =
@@ -94,3 +87,33 @@ returns-in_err-bytes-clause-bytes g c =
       who = refused_who c.args.target c.get_device-outcome.result _ _ c.get_device-outcome.ensures.asked c.get_device-outcome.ensures.addresses c.in_err-bytes.field-0.0 (sym c.answered_or.ensures ∙ c.in_err-bytes.was)
           (some_answer _ _ c.get_device-outcome.result (sym c.eq.ensures ∙ c.if-eq.false) refl);
     })
+
+pub returns-then-eq-clause-told : goal.returns-then-eq-clause-told
+returns-then-eq-clause-told g c =
+    let answered : c.get_device-outcome.result ≡ Err NoAnswer = no_answer _ _ c.get_device-outcome.result (sym c.eq.ensures ∙ c.if-eq.true) refl refl refl (λ why. refl) refl in
+    unanswered c.args.target (get_device_descriptor 18) c.get_device-outcome.result (g.B.Bus.world c.args.bus.now) (g.B.Bus.world c.get_device-outcome.new.bus) answered c.get_device-outcome.ensures.asked.stages
+
+pub returns-in_err-bytes-clause-told : goal.returns-in_err-bytes-clause-told
+returns-in_err-bytes-clause-told g c =
+    let setup = get_device_descriptor 18 in
+    handed_match c.from_residual.result _ (λ stop. StopTold c.args.target stop (g.B.Bus.world c.args.bus.now) (g.B.Bus.world c.get_device-outcome.new.bus)) c.in_err-bytes.field-0.0 c.from_residual.ensures.1
+    (stop_told c.args.target setup Device c.get_device-outcome.result c.in_err-bytes.field-0.0 3 1 (g.B.Bus.world c.args.bus.now) (g.B.Bus.world c.get_device-outcome.new.bus) (sym c.answered_or.ensures ∙ c.in_err-bytes.was) (18, refl)
+    (reads_failed c.args.target setup c.get_device-outcome.result (g.B.Bus.world c.args.bus.now) (g.B.Bus.world c.get_device-outcome.new.bus) c.get_device-outcome.ensures.asked.stages) c.get_device-outcome.ensures.asked.ends)
+
+pub returns-in-Some-clause-told : goal.returns-in-Some-clause-told
+returns-in-Some-clause-told g c =
+    let P : Result (Option (List ℕ)) Stop → Type 0 = λ r. MatchResult r (DescriptorTold c.args.target (g.B.Bus.world c.args.bus.now) (g.B.Bus.world c.get_device-outcome.new.bus)) (λ stop. StopTold c.args.target stop (g.B.Bus.world c.args.bus.now) (g.B.Bus.world c.get_device-outcome.new.bus)) in
+    subst P (sym c.device_bytes.ensures) (device_told c.args.target c.in-Some.bytes.now (g.B.Bus.world c.args.bus.now) (g.B.Bus.world c.get_device-outcome.new.bus) (record {
+      all = c.in_ok-bytes.bytes.items;
+      read = was_read c.args.target (get_device_descriptor 18) (Stalled Device) c.get_device-outcome.result c.in_ok-bytes.bytes (g.B.Bus.world c.args.bus.now) (g.B.Bus.world c.get_device-outcome.new.bus) (sym c.answered_or.ensures ∙ c.in_ok-bytes.was) c.get_device-outcome.ensures.asked.stages;
+      front = c.in-Some.ensures.cases.same ∙ ap (take 18) c.as_slice.ensures.value;
+    }))
+
+pub returns-clause-told : goal.returns-clause-told
+returns-clause-told g c =
+    bad_front (take 18 c.in_ok-bytes.bytes.items) (record {
+      all = c.in_ok-bytes.bytes.items;
+      read = was_read c.args.target (get_device_descriptor 18) (Stalled Device) c.get_device-outcome.result c.in_ok-bytes.bytes (g.B.Bus.world c.args.bus.now) (g.B.Bus.world c.get_device-outcome.new.bus) (sym c.answered_or.ensures ∙ c.in_ok-bytes.was) c.get_device-outcome.ensures.asked.stages;
+      front = refl;
+    })
+    (short_device c.args.target.low c.in_ok-bytes.bytes.items (subst (λ xs. length xs < 18) c.as_slice.ensures.value c.in-None.ensures.cases))

@@ -1,6 +1,6 @@
-use Rattle.std.proofs.Common.{◌∙◌, ap, arith, sym}
+use Rattle.std.proofs.Common.{◌∙◌, ap, arith, refl, sym}
 use Rattle.usb_descriptor.specs.Device.{device_head_of}
-use Rattle.usb_enum.specs.Stop.{StopTold}
+use Rattle.usb_enum.specs.Reasons.{StopTold, bad_head}
 use Rattle.usb_enum.proofs.Counts.{read_went}
 use Rattle.usb_enum.proofs.DeviceRefusals.{head_unanswered, head_refused}
 use Rattle.usb_enum.proofs.Heads.{head_answered}
@@ -8,7 +8,11 @@ use Rattle.usb_hub.specs.GivenAnswers.{device_given}
 use Rattle.usb_enum.proofs.Frames.{text_asks}
 use Rattle.usb_enum.proofs.Refusals.{handed_match}
 use Rattle.usb_enum.proofs.Stretches.{device_goes}
-use Rattle.usb_enum.proofs.ToldFailures.{handed_on, refused_told}
+use Rattle.usb_request.specs.Requests.{get_device_descriptor}
+use Rattle.usb_enum.specs.declared.cause.Cause.TheVariants.{Stalled}
+use Rattle.usb_enum.specs.declared.cause.Request.TheVariants.{Device}
+use Rattle.usb_enum.proofs.Reasons.{reads_failed, stop_told, was_read}
+use Rattle.usb_enum.proofs.ToldFailures.{handed_on}
 use Rattle.usb_enum.proofs.passes.first_maximum.Goals as goal
 
 pub returns-in_err-bytes-clause-went : goal.returns-in_err-bytes-clause-went
@@ -29,11 +33,6 @@ returns-clause-went g c = read_went c.args.unaddressed.max 8 _ _ (omega (arith, 
 pub returns-clause-keeps : goal.returns-clause-keeps
 returns-clause-keeps g c = text_asks device_given c.args.unaddressed _ _ _ _ _ c.get_device.ensures.asked c.get_device.ensures.what c.get_device.ensures.addresses.keeps
 
-pub returns-in_err-bytes-clause-told : goal.returns-in_err-bytes-clause-told
-returns-in_err-bytes-clause-told g c =
-    handed_on c.from_residual.result (λ stop. StopTold stop (g.B.Bus.world c.get_device.new.bus)) c.in_err-bytes.field-0.0 c.from_residual.ensures.1
-    (refused_told _ 3 1 _ _ c.get_device.result _ (sym c.answered_or.ensures ∙ c.in_err-bytes.was) tt c.get_device.ensures.asked.ends)
-
 pub returns-in-Ok-clause-head : goal.returns-in-Ok-clause-head
 returns-in-Ok-clause-head g c =
     let answers = head_answered c.args.unaddressed c.in-Ok.max c.in_ok-bytes.bytes _ c.get_device.result _ _ (sym c.answered_or.ensures ∙ c.in_ok-bytes.was)
@@ -50,3 +49,16 @@ returns-clause-head g c =
     head_refused c.args.unaddressed c.in_ok-bytes.bytes c.in-Err.field-0 _ c.get_device.result _ _ (sym c.answered_or.ensures ∙ c.in_ok-bytes.was)
     (ap (device_head_of c.args.unaddressed.low) (sym c.as_slice.ensures.value) ∙ sym c.device_head.ensures.answer ∙ c.in-Err.is)
     c.get_device.ensures.asked.ends c.get_device.ensures.addresses c.get_device.ensures.what
+
+pub returns-in_err-bytes-clause-told : goal.returns-in_err-bytes-clause-told
+returns-in_err-bytes-clause-told g c =
+    let setup = get_device_descriptor 8 in
+    handed_on c.from_residual.result (λ stop. StopTold c.args.unaddressed stop (g.B.Bus.world c.args.bus.now) (g.B.Bus.world c.get_device.new.bus)) c.in_err-bytes.field-0.0 c.from_residual.ensures.1
+    (stop_told c.args.unaddressed setup Device c.get_device.result c.in_err-bytes.field-0.0 3 1 (g.B.Bus.world c.args.bus.now) (g.B.Bus.world c.get_device.new.bus) (sym c.answered_or.ensures ∙ c.in_err-bytes.was) (8, refl)
+    (reads_failed c.args.unaddressed setup c.get_device.result (g.B.Bus.world c.args.bus.now) (g.B.Bus.world c.get_device.new.bus) c.get_device.ensures.asked.stages) c.get_device.ensures.asked.ends)
+
+pub returns-clause-told : goal.returns-clause-told
+returns-clause-told g c =
+    bad_head c.in_ok-bytes.bytes.items c.in-Err.field-0
+    (was_read c.args.unaddressed (get_device_descriptor 8) (Stalled Device) c.get_device.result c.in_ok-bytes.bytes (g.B.Bus.world c.args.bus.now) (g.B.Bus.world c.get_device.new.bus) (sym c.answered_or.ensures ∙ c.in_ok-bytes.was) c.get_device.ensures.asked.stages)
+    (ap (device_head_of c.args.unaddressed.low) (sym c.as_slice.ensures.value) ∙ sym c.device_head.ensures.answer ∙ c.in-Err.is)

@@ -1,11 +1,11 @@
-use Rattle.std.proofs.Common.{◌≡◌, ◌∙◌, arith, false, refl, subst, sym}
+use Rattle.std.proofs.Common.{◌≡◌, ◌∙◌, inl, inr, arith, false, refl, subst, sym}
 use Rattle.usb_world.specs.Devices.{EachWas}
 use Rattle.usb_hub.specs.Settings.{AddressAsked}
 use Rattle.usb_enum.proofs.Hubs.{answered_ok}
 use Rattle.usb_enum.proofs.Presence.{address_finds}
 use Rattle.usb_enum.proofs.ReachedDevices.{reaches_addressed, reaches_rest}
 use Rattle.usb_bus.proofs.Interface.{went_then, went_wider}
-use Rattle.usb_enum.specs.Stop.{StopToldAt}
+use Rattle.usb_enum.specs.Reasons.{StopToldAt}
 use Rattle.usb_enum.proofs.Counts.{went_on}
 use Rattle.usb_enum.proofs.Enumerations.{takes_after, takes_answered}
 use Rattle.usb_enum.proofs.Frames.{at_addressed, at_asked, at_then}
@@ -13,7 +13,10 @@ use Rattle.usb_enum.specs.Refusals.{addressed_fault, early_fault}
 use Rattle.usb_enum.proofs.Fairness.{stops_wider}
 use Rattle.usb_enum.proofs.Refusals.{handed_match}
 use Rattle.usb_enum.proofs.StopReasons.{address_stops, addressed_early, descriptor_stops, pass_misses}
-use Rattle.usb_enum.proofs.ToldFailures.{handed_on, refused_told, told_at}
+use Rattle.usb_request.specs.Requests.{set_address}
+use Rattle.usb_enum.specs.declared.cause.Request.TheVariants.{Address}
+use Rattle.usb_enum.proofs.LastRequests.{leads_then, leads_went}
+use Rattle.usb_enum.proofs.Reasons.{at_after, descriptor_after, failing_after, stop_told, told_at, told_faults, writes_failed}
 use Rattle.usb_enum.proofs.passes.pass.Goals as goal
 
 pub returns-in_err-answered_or-clause-within : goal.returns-in_err-answered_or-clause-within
@@ -49,7 +52,7 @@ returns-in_err-bytes-clause-taken g c =
     let done = answered_ok _ c.set_address.result tt (sym c.answered_or.ensures ∙ c.in_ok-answered_or.was) in
     descriptor_stops c.args.port c.args.address _ _ _ c.in_ok-target.target c.unaddressed.ensures.went c.set_address.ensures.went c.descriptor.ensures.went (c.unaddressed.ensures.within c.args.address) (c.unaddressed.ensures.within 0) addressed
     c.descriptor.ensures.keeps c.in_ok-target.ensures.target (c.in_ok-target.ensures.device 0) (rw done at c.set_address.ensures.ordered) (rw done at c.set_address.ensures.what)
-    c.in_err-bytes.field-0.0 c.in_err-bytes.ensures.told c.in_err-bytes.ensures.bytes)
+    c.in_err-bytes.field-0.0 (told_faults c.in_err-bytes.field-0.0 (record c.in_ok-target.target { addr = c.args.address }) (g.B.Bus.world c.set_address.new.bus) (g.B.Bus.world c.descriptor.new.bus) c.in_err-bytes.ensures.told) c.in_err-bytes.ensures.bytes)
 
 pub returns-in-Some-clause-taken : goal.returns-in-Some-clause-taken
 returns-in-Some-clause-taken g c =
@@ -97,7 +100,31 @@ returns-in-Some-clause-went g c = went_on _ _ _ _ _ _ (went_then _ _ c.unaddress
 pub returns-in-None-clause-went : goal.returns-in-None-clause-went
 returns-in-None-clause-went g c = went_on _ _ _ _ _ _ (went_then _ _ c.unaddressed.ensures.went c.set_address.ensures.went) c.descriptor.ensures.went (omega arith)
 
+pub returns-in_err-target-clause-told : goal.returns-in_err-target-clause-told
+returns-in_err-target-clause-told g c =
+    handed_match c.from_residual.result _ (λ stop. StopToldAt c.args.port c.args.address stop (g.B.Bus.world c.args.bus.now) (g.B.Bus.world c.unaddressed.new.bus)) c.in_err-target.field-0.0 c.from_residual.ensures.1 (c.in_err-target.ensures.told c.args.address)
+
 pub returns-in_err-answered_or-clause-told : goal.returns-in_err-answered_or-clause-told
 returns-in_err-answered_or-clause-told g c =
-    handed_on c.from_residual-in_err-answered_or.result (λ stop. StopToldAt c.args.port stop (g.B.Bus.world c.set_address.new.bus)) c.in_err-answered_or.field-0.0 c.from_residual-in_err-answered_or.ensures.1
-    (told_at _ _ _ (refused_told _ 2 1 _ _ c.set_address.result _ (sym c.answered_or.ensures ∙ c.in_err-answered_or.was) tt c.set_address.ensures.ordered.ends))
+    let setup = set_address c.args.address in
+    let stop = c.in_err-answered_or.field-0.0 in
+    handed_match c.from_residual-in_err-answered_or.result _ (λ stop. StopToldAt c.args.port c.args.address stop (g.B.Bus.world c.args.bus.now) (g.B.Bus.world c.set_address.new.bus)) stop c.from_residual-in_err-answered_or.ensures.1
+    (at_after stop c.args.port c.args.address (g.B.Bus.world c.args.bus.now) (g.B.Bus.world c.unaddressed.new.bus) (g.B.Bus.world c.set_address.new.bus) (leads_went c.unaddressed.ensures.went) (told_at stop c.args.port c.args.address c.in_ok-target.target (g.B.Bus.world c.unaddressed.new.bus) (g.B.Bus.world c.set_address.new.bus) (record { at = inl c.in_ok-target.ensures.target.zero; pre = c.in_ok-target.ensures.target.pre })
+    (stop_told c.in_ok-target.target setup Address c.set_address.result stop 2 1 (g.B.Bus.world c.unaddressed.new.bus) (g.B.Bus.world c.set_address.new.bus) (sym c.answered_or.ensures ∙ c.in_err-answered_or.was) (c.args.address, refl)
+    (writes_failed c.in_ok-target.target setup c.set_address.result (g.B.Bus.world c.unaddressed.new.bus) (g.B.Bus.world c.set_address.new.bus) c.set_address.ensures.ordered.stages) c.set_address.ensures.ordered.ends)))
+
+pub returns-in_err-bytes-clause-told : goal.returns-in_err-bytes-clause-told
+returns-in_err-bytes-clause-told g c =
+    let stop = c.in_err-bytes.field-0.0 in
+    handed_match c.from_residual-in_err-bytes.result _ (λ stop. StopToldAt c.args.port c.args.address stop (g.B.Bus.world c.args.bus.now) (g.B.Bus.world c.descriptor.new.bus)) stop c.from_residual-in_err-bytes.ensures.1
+    (at_after stop c.args.port c.args.address (g.B.Bus.world c.args.bus.now) (g.B.Bus.world c.set_address.new.bus) (g.B.Bus.world c.descriptor.new.bus) (leads_then (leads_went c.unaddressed.ensures.went) (leads_went c.set_address.ensures.went)) (told_at stop c.args.port c.args.address (record c.in_ok-target.target { addr = c.args.address }) (g.B.Bus.world c.set_address.new.bus) (g.B.Bus.world c.descriptor.new.bus) (record { at = inr refl; pre = c.in_ok-target.ensures.target.pre }) c.in_err-bytes.ensures.told))
+
+pub returns-in-Some-clause-told : goal.returns-in-Some-clause-told
+returns-in-Some-clause-told g c = descriptor_after (leads_then (leads_went c.unaddressed.ensures.went) (leads_went c.set_address.ensures.went)) (rw c.in-Some.is at c.in_ok-bytes.ensures.told)
+
+pub returns-in-None-clause-told : goal.returns-in-None-clause-told
+returns-in-None-clause-told g c = record {
+  target = record c.in_ok-target.target { addr = c.args.address };
+  is = record { at = inr refl; pre = c.in_ok-target.ensures.target.pre };
+  failed = failing_after (leads_then (leads_went c.unaddressed.ensures.went) (leads_went c.set_address.ensures.went)) (rw c.in-None.is at c.in_ok-bytes.ensures.told);
+}

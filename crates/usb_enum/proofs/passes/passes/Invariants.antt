@@ -1,13 +1,15 @@
-use Rattle.std.proofs.Common.{◌*◌}
+use Rattle.std.proofs.Common.{◌≡◌, ◌⊎◌, ◌*◌}
 use Rattle.usb_bus.specs.Traces.{Went}
 use Rattle.usb_enum.specs.Addresses.{AtPort}
 use Rattle.usb_enum.specs.Bounds.{pass_bound}
 use Rattle.usb_enum.specs.FairEnumerations.{Misses}
+use Rattle.usb_enum.specs.Reasons.{NoAnswerTold}
 use Rattle.usb_enum.proofs.passes.passes.Given as goal
 
 abbrev pub invariant-loop-pass : goal.invariant-loop-pass
 invariant-loop-pass g l = record {
   went : Went g.B.Bus.world g.B.Bus.trace (l._pass * pass_bound l.port) l.initial.bus l.bus;
   within : AtPort l.port l.address (g.B.Bus.world l.initial.bus) (g.B.Bus.world l.bus);
+  silent : (l._pass ≡ 0) ⊎ NoAnswerTold l.port l.address (g.B.Bus.world l.initial.bus) (g.B.Bus.world l.bus);
   missed : Misses l.port l.address l._pass (g.B.Bus.world l.initial.bus) (g.B.Bus.world l.bus);
 }

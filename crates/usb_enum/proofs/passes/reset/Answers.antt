@@ -1,4 +1,4 @@
-use Rattle.std.proofs.Common.{arith}
+use Rattle.std.proofs.Common.{ℕ, arith, subst}
 use Rattle.usb_request.specs.Features.{PORT_RESET, C_PORT_RESET}
 use Rattle.usb_bus.proofs.Interface.{went_then, went_wider}
 use Rattle.usb_hub.proofs.Interface.{port_stays}
@@ -13,6 +13,12 @@ use Rattle.usb_enum.proofs.Fairness.{called_faulted, faulted_after, status_fault
 use Rattle.usb_enum.proofs.Refusals.{handed_match}
 use Rattle.usb_enum.proofs.StopReasons.{reset_goes, reset_lost, settle_failed, unfalse}
 use Rattle.usb_world.proofs.Interface.{not_true}
+use Rattle.usb_hub.specs.Port.{PortRead}
+use Rattle.usb_enum.specs.Reasons.{StopToldAt, not_enabled}
+use Rattle.usb_enum.proofs.LastRequests.{leads_then, leads_went}
+use Rattle.usb_enum.proofs.ReachedDevices.{done_at}
+use Rattle.usb_enum.proofs.Reasons.{fault_after, fault_by}
+use Rattle.usb_enum.proofs.ToldFailures.{handed_on}
 use Rattle.usb_enum.proofs.passes.reset.Goals as goal
 
 pub read_status-requires : goal.read_status-requires
@@ -55,14 +61,14 @@ pub returns-in_err-begin_reset-clause-found : goal.returns-in_err-begin_reset-cl
 returns-in_err-begin_reset-clause-found g c =
     handed_match c.from_residual.result _ _ (Fault c.in_err-begin_reset.field-0.0) c.from_residual.ensures.1
     (λ a. stops_faulted no_fault c.args.port a c.in_err-begin_reset.field-0.0 _ _
-    (called_faulted c.args.port a _ (set_call PORT_RESET) c.in_err-begin_reset.field-0.0 c.begin_reset.ensures.went (at_reset _ a _ _ c.begin_reset.ensures.resets (c.begin_reset.ensures.only a)) c.in_err-begin_reset.ensures.told c.in_err-begin_reset.ensures.calls))
+    (called_faulted c.args.port a _ (set_call PORT_RESET) c.in_err-begin_reset.field-0.0 c.begin_reset.ensures.went (at_reset _ a _ _ c.begin_reset.ensures.resets (c.begin_reset.ensures.only a)) (fault_by c.args.port c.in_err-begin_reset.field-0.0 (g.B.Bus.world c.args.bus.now) (g.B.Bus.world c.begin_reset.new.bus) c.in_err-begin_reset.ensures.told) c.in_err-begin_reset.ensures.calls))
 
 pub returns-in_err-status-clause-found : goal.returns-in_err-status-clause-found
 returns-in_err-status-clause-found g c =
     handed_match c.from_residual-in_err-status.result _ _ (Fault c.in_err-status.field-0.0) c.from_residual-in_err-status.ensures.1
     (λ a. stops_faulted no_fault c.args.port a c.in_err-status.field-0.0 _ _
     (faulted_after c.args.port a _ _ c.in_err-status.field-0.0 c.begin_reset.ensures.went c.read_status.ensures.went (at_reset _ a _ _ c.begin_reset.ensures.resets (c.begin_reset.ensures.only a))
-    (status_faulted c.args.port a _ c.in_err-status.field-0.0 c.read_status.ensures.went (at_asked _ a _ _ c.read_status.ensures.keeps) c.in_err-status.ensures.told c.in_err-status.ensures.status)))
+    (status_faulted c.args.port a _ c.in_err-status.field-0.0 c.read_status.ensures.went (at_asked _ a _ _ c.read_status.ensures.keeps) (fault_by c.args.port c.in_err-status.field-0.0 (g.B.Bus.world c.begin_reset.new.bus) (g.B.Bus.world c.read_status.new.bus) c.in_err-status.ensures.told) c.in_err-status.ensures.status)))
 
 pub returns-then-not-status-clause-found : goal.returns-then-not-status-clause-found
 returns-then-not-status-clause-found g c = λ a.
@@ -77,7 +83,7 @@ returns-in_err-settle-clause-found g c =
     let told = at_then _ a _ _ _ _ begun c.read_status.ensures.went (at_asked _ a _ _ c.read_status.ensures.keeps) in
     stops_faulted no_fault c.args.port a c.in_err-settle.field-0.0 _ _
     (faulted_after c.args.port a _ _ c.in_err-settle.field-0.0 (went_then _ _ c.begin_reset.ensures.went c.read_status.ensures.went) c.settle.ensures.went told
-    (called_faulted c.args.port a _ (clear_call C_PORT_RESET) c.in_err-settle.field-0.0 c.settle.ensures.went (c.settle.ensures.within a) c.in_err-settle.ensures.told
+    (called_faulted c.args.port a _ (clear_call C_PORT_RESET) c.in_err-settle.field-0.0 c.settle.ensures.went (c.settle.ensures.within a) (fault_by c.args.port c.in_err-settle.field-0.0 (g.B.Bus.world c.read_status.new.bus) (g.B.Bus.world c.settle.new.bus) c.in_err-settle.ensures.told)
     (settle_failed c.args.port c.in_ok-status.status.reset_changed c.in_err-settle.field-0.0 _ _ c.in_err-settle.ensures.calls))))
 
 pub returns-clause-found : goal.returns-clause-found
@@ -95,3 +101,28 @@ returns-clause-found g c = λ a.
           reset_reaches _ a _ _ _ _ c.begin_reset.ensures.went c.read_status.ensures.went c.settle.ensures.went begun c.read_status.ensures.keeps told (c.settle.ensures.within a) shown (unfalse c.in_ok-status.status.enabled c.if-not-status.false) settles;
       goes = reset_goes c.args.port _ _ _ _ _ _ c.begin_reset.ensures.went c.read_status.ensures.went c.settle.ensures.went called shown settles;
     }
+
+pub returns-in_err-begin_reset-clause-told : goal.returns-in_err-begin_reset-clause-told
+returns-in_err-begin_reset-clause-told g c =
+    handed_on c.from_residual.result (λ stop. (a : ℕ) → StopToldAt c.args.port a stop (g.B.Bus.world c.args.bus.now) (g.B.Bus.world c.begin_reset.new.bus)) (Fault c.in_err-begin_reset.field-0.0) c.from_residual.ensures.1 (λ a. c.in_err-begin_reset.ensures.told)
+
+pub returns-in_err-status-clause-told : goal.returns-in_err-status-clause-told
+returns-in_err-status-clause-told g c =
+    handed_on c.from_residual-in_err-status.result (λ stop. (a : ℕ) → StopToldAt c.args.port a stop (g.B.Bus.world c.args.bus.now) (g.B.Bus.world c.read_status.new.bus)) (Fault c.in_err-status.field-0.0) c.from_residual-in_err-status.ensures.1
+    (λ a. fault_after c.args.port c.in_err-status.field-0.0 (g.B.Bus.world c.args.bus.now) (g.B.Bus.world c.begin_reset.new.bus) (g.B.Bus.world c.read_status.new.bus) (leads_went c.begin_reset.ensures.went) c.in_err-status.ensures.told)
+
+pub returns-then-not-status-clause-told : goal.returns-then-not-status-clause-told
+returns-then-not-status-clause-told g c = λ a.
+    let shown = rw c.in_ok-status.was at c.read_status.ensures.status in
+    not_enabled (record {
+      before = (g.B.Bus.world c.begin_reset.new.bus);
+      led = leads_went c.begin_reset.ensures.went;
+      status = c.in_ok-status.status;
+      read = subst (λ r. PortRead c.args.port (g.B.Bus.world c.begin_reset.new.bus) r (g.B.Bus.world c.read_status.new.bus)) (done_at shown.outcome c.in_ok-status.status shown.told) shown.read;
+      off = not_true c.in_ok-status.status.enabled c.if-not-status.true;
+    })
+
+pub returns-in_err-settle-clause-told : goal.returns-in_err-settle-clause-told
+returns-in_err-settle-clause-told g c =
+    handed_on c.from_residual-in_err-settle.result (λ stop. (a : ℕ) → StopToldAt c.args.port a stop (g.B.Bus.world c.args.bus.now) (g.B.Bus.world c.settle.new.bus)) (Fault c.in_err-settle.field-0.0) c.from_residual-in_err-settle.ensures.1
+    (λ a. fault_after c.args.port c.in_err-settle.field-0.0 (g.B.Bus.world c.args.bus.now) (g.B.Bus.world c.read_status.new.bus) (g.B.Bus.world c.settle.new.bus) (leads_then (leads_went c.begin_reset.ensures.went) (leads_went c.read_status.ensures.went)) c.in_err-settle.ensures.told)

@@ -5,12 +5,11 @@ use Rattle.usb_world.proofs.Interface.{each_none}
 use Rattle.usb_enum.specs.declared.fault.EnumFault.{EnumFault}
 use Rattle.usb_bus.proofs.Interface.{went_none, went_wider}
 use Rattle.usb_hub.specs.Addresses.{StaysAs}
-use Rattle.usb_enum.specs.Stop.{FaultAt}
+use Rattle.usb_enum.specs.Reasons.{FaultBy}
 use Rattle.usb_enum.proofs.Frames.{at_none, at_reset_cleared}
-use Rattle.usb_port.specs.Calls.{clear_call}
 use Rattle.usb_port.specs.declared.call.PortCall.TheVariants.{ClearResetChange}
 use Rattle.usb_enum.proofs.Stretches.{clear_goes}
-use Rattle.usb_enum.proofs.ToldFailures.{port_told, clear_fails}
+use Rattle.usb_enum.proofs.Reasons.{cleared_by}
 use Rattle.usb_enum.proofs.passes.settle.Goals as goal
 
 pub returns-then-not-changed-clause-went : goal.returns-then-not-changed-clause-went
@@ -24,11 +23,6 @@ returns-then-not-changed-clause-devices g c = record { stays = λ single. each_n
 
 pub returns-clause-went : goal.returns-clause-went
 returns-clause-went g c = c.clear_port.ensures.went
-
-pub returns-clause-told : goal.returns-clause-told
-returns-clause-told g c =
-    let P : Result (Unit {0}) EnumFault → Type 0 = λ r. IfErr r (λ fault. FaultAt c.args.port fault (g.B.Bus.world c.clear_port.new.bus)) in
-    subst P (sym c.at_port.ensures) (port_told c.args.port 1 _ _ c.clear_port.result (clear_fails c.args.port C_PORT_RESET _ _ c.clear_port.result c.clear_port.ensures.effect) c.clear_port.ensures.fault)
 
 pub returns-clause-within : goal.returns-clause-within
 returns-clause-within g c = λ a. at_reset_cleared _ a _ _ _ c.clear_port.ensures.fault c.clear_port.ensures.ports c.clear_port.ensures.addresses
@@ -44,3 +38,8 @@ returns-clause-calls g c = record {
   unset = λ e. absurd cc;
   set = λ e. record { outcome = c.clear_port.result; told = c.at_port.ensures; calls = c.clear_port.ensures.ports; goes = clear_goes c.args.port C_PORT_RESET ClearResetChange _ _ _ refl refl refl c.clear_port.ensures.effect };
 }
+
+pub returns-clause-told : goal.returns-clause-told
+returns-clause-told g c =
+    let P : Result (Unit {0}) EnumFault → Type 0 = λ r. IfErr r (λ fault. FaultBy c.args.port fault (g.B.Bus.world c.args.bus.now) (g.B.Bus.world c.clear_port.new.bus)) in
+    subst P (sym c.at_port.ensures) (cleared_by c.args.port C_PORT_RESET c.clear_port.result _ _ c.clear_port.ensures.fault c.clear_port.ensures.effect)

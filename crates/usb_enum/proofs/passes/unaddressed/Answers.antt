@@ -1,4 +1,4 @@
-use Rattle.std.proofs.Common.{◌&&◌, ◌∙◌, ap, arith, sym}
+use Rattle.std.proofs.Common.{◌≡◌, inl, ◌&&◌, ◌∙◌, ℕ, ap, arith, refl, sym}
 use Rattle.usb_bus.proofs.Interface.{went_wider}
 use Rattle.usb_enum.proofs.Counts.{went_on}
 use Rattle.usb_enum.proofs.Frames.{at_asked, at_then}
@@ -11,6 +11,11 @@ use Rattle.usb_enum.proofs.Courses.{went_sound}
 use Rattle.usb_enum.proofs.StopReasons.{head_stops}
 use Rattle.usb_enum.proofs.Stretches.{goes_then}
 use Rattle.usb_enum.specs.Device.{needs_pre}
+use Rattle.usb_enum.specs.Reasons.{StopToldAt}
+use Rattle.usb_enum.proofs.LastRequests.{leads_went}
+use Rattle.usb_enum.proofs.Reasons.{at_after, told_at, told_faults}
+use Rattle.usb_enum.proofs.ToldFailures.{handed_on}
+use Rattle.usb_transaction.specs.declared.target.Target.{Target}
 use Rattle.usb_enum.proofs.passes.unaddressed.Goals as goal
 use Rattle.usb_enum.proofs.passes.unaddressed.Goals.{then-low, else-low}
 
@@ -42,7 +47,7 @@ returns-in_err-max-clause-device g c =
       | then-low w ↦ w.pre-is ∙ w.needs_pre-pre.ensures ∙ sym (ap (λ b. b && needs_pre c.args.port) w.if-low.true)
       | else-low w ↦ w.pre-is ∙ w.if-low.false ∙ sym (ap (λ b. b && needs_pre c.args.port) w.if-low.false)
     ])
-    c.in_err-max.ensures.told c.in_err-max.ensures.head)
+    (told_faults c.in_err-max.field-0.0 (let t : Target = record { addr = 0; max = 8; low = c.in_ok-low.low; pre = c.if-low.pre } in t) (g.B.Bus.world c.reset.new.bus) (g.B.Bus.world c.first_maximum.new.bus) c.in_err-max.ensures.told) c.in_err-max.ensures.head)
 
 pub returns-clause-device : goal.returns-clause-device
 returns-clause-device g c = λ a.
@@ -52,3 +57,17 @@ returns-clause-device g c = λ a.
       reaches = reaches_rest _ a _ c.first_maximum.ensures.went c.first_maximum.ensures.keeps.ports was.reaches;
       goes = λ none. goes_then _ _ _ (was.goes (went_sound _ _ _ c.first_maximum.ensures.went none)) c.in_ok-max.ensures.head.goes;
     }
+
+pub returns-in_err-low-clause-told : goal.returns-in_err-low-clause-told
+returns-in_err-low-clause-told g c = handed_on c.from_residual.result (λ stop. (a : ℕ) → StopToldAt c.args.port a stop (g.B.Bus.world c.args.bus.now) (g.B.Bus.world c.reset.new.bus)) c.in_err-low.field-0.0 c.from_residual.ensures.1 c.in_err-low.ensures.told
+
+pub returns-in_err-max-clause-told : goal.returns-in_err-max-clause-told
+returns-in_err-max-clause-told g c =
+    let t : Target = record { addr = 0; max = 8; low = c.in_ok-low.low; pre = c.if-low.pre } in
+    let pre : c.if-low.pre ≡ (c.in_ok-low.low && needs_pre c.args.port) = elim c.if-low.branch [
+      | then-low w ↦ w.pre-is ∙ w.needs_pre-pre.ensures ∙ sym (ap (λ b. b && needs_pre c.args.port) w.if-low.true)
+      | else-low w ↦ w.pre-is ∙ w.if-low.false ∙ sym (ap (λ b. b && needs_pre c.args.port) w.if-low.false)
+    ] in
+    handed_on c.from_residual-in_err-max.result (λ stop. (a : ℕ) → StopToldAt c.args.port a stop (g.B.Bus.world c.args.bus.now) (g.B.Bus.world c.first_maximum.new.bus)) c.in_err-max.field-0.0 c.from_residual-in_err-max.ensures.1
+    (λ a. at_after c.in_err-max.field-0.0 c.args.port a (g.B.Bus.world c.args.bus.now) (g.B.Bus.world c.reset.new.bus) (g.B.Bus.world c.first_maximum.new.bus) (leads_went c.reset.ensures.went)
+    (told_at c.in_err-max.field-0.0 c.args.port a t (g.B.Bus.world c.reset.new.bus) (g.B.Bus.world c.first_maximum.new.bus) (record { at = inl refl; pre = pre }) c.in_err-max.ensures.told))

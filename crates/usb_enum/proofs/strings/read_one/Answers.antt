@@ -1,13 +1,14 @@
-use Rattle.std.proofs.Common.{◌∙◌, ap, arith, option_and_then, sym}
+use Rattle.std.proofs.Common.{◌∙◌, ap, arith, option_and_then, refl, sym}
 use Rattle.usb_bus.proofs.Interface.{went_none, went_wider}
 use Rattle.usb_enum.proofs.Frames.{asks_none}
 use Rattle.usb_enum.specs.declared.fault.EnumFault.TheVariants.{Memory}
 use Rattle.usb_enum.specs.declared.stop.Stop.TheVariants.{Fault}
-use Rattle.usb_enum.specs.Readings.{AtMaximum, HasString}
+use Rattle.usb_enum.specs.Readings.{AtMaximum, HasString, bytes_given}
 use Rattle.usb_enum.specs.Refusals.{no_fault}
 use Rattle.usb_enum.specs.Text.{string_units}
 use Rattle.usb_enum.proofs.Refusals.{fault_explains, handed_match}
-use Rattle.usb_enum.proofs.StringReadings.{items_in, units_learned, unnamed_learned}
+use Rattle.usb_enum.proofs.StringReadings.{units_learned, unnamed_learned}
+use Rattle.usb_enum.specs.StringRequests.{named, unnamed}
 use Rattle.usb_enum.proofs.strings.read_one.Goals as goal
 
 pub returns-then-index-eq0-clause-went : goal.returns-then-index-eq0-clause-went
@@ -22,13 +23,13 @@ returns-then-index-eq0-clause-learned g c = unnamed_learned c.args.target c.args
 pub returns-in_ok-units_of-in-Some-clause-learned : goal.returns-in_ok-units_of-in-Some-clause-learned
 returns-in_ok-units_of-in-Some-clause-learned g c =
     units_learned c.args.target c.args.index c.in_ok-bytes.field-0 c.in_ok-units_of-in-Some.field-0 (g.B.Bus.world c.args.bus.now) (g.B.Bus.world c.string_bytes.new.bus) c.if-index-eq0.false
-    (c.in_ok-units_of-in-Some.ensures ∙ ap string_units c.as_slice.ensures.value ∙ ap (λ o. option_and_then string_units (items_in o)) (sym c.in-Some.is))
+    (c.in_ok-units_of-in-Some.ensures ∙ ap string_units c.as_slice.ensures.value ∙ ap (λ o. option_and_then string_units (bytes_given o)) (sym c.in-Some.is))
     c.in_ok-bytes.ensures.learned
 
 pub returns-in-None-clause-learned : goal.returns-in-None-clause-learned
 returns-in-None-clause-learned g c =
     units_learned c.args.target c.args.index c.in_ok-bytes.field-0 _ (g.B.Bus.world c.args.bus.now) (g.B.Bus.world c.string_bytes.new.bus) c.if-index-eq0.false
-    (ap (λ o. option_and_then string_units (items_in o)) (sym c.in-None.is))
+    (ap (λ o. option_and_then string_units (bytes_given o)) (sym c.in-None.is))
     c.in_ok-bytes.ensures.learned
 
 pub returns-in_err-bytes-clause-learned : goal.returns-in_err-bytes-clause-learned
@@ -39,3 +40,14 @@ returns-in_err-units_of-in-Some-clause-learned g c =
     handed_match c.from_residual-in_err-units_of-in-Some.result _ _ (Fault Memory) c.from_residual-in_err-units_of-in-Some.ensures.1
     (fault_explains (AtMaximum c.args.target (HasString c.args.index c.in_ok-bytes.field-0)) c.args.target no_fault Memory (g.B.Bus.world c.args.bus.now) (g.B.Bus.world c.string_bytes.new.bus)
     c.in_ok-bytes.ensures.learned)
+
+pub returns-then-index-eq0-clause-asked : goal.returns-then-index-eq0-clause-asked
+returns-then-index-eq0-clause-asked g c = unnamed c.if-index-eq0.true refl refl
+
+pub returns-in_ok-units_of-in-Some-clause-asked : goal.returns-in_ok-units_of-in-Some-clause-asked
+returns-in_ok-units_of-in-Some-clause-asked g c =
+    named c.if-index-eq0.false c.in_ok-bytes.field-0 c.in_ok-bytes.ensures.asked
+    (c.in_ok-units_of-in-Some.ensures ∙ ap string_units c.as_slice.ensures.value ∙ ap (λ o. option_and_then string_units (bytes_given o)) (sym c.in-Some.is))
+
+pub returns-in-None-clause-asked : goal.returns-in-None-clause-asked
+returns-in-None-clause-asked g c = named c.if-index-eq0.false c.in_ok-bytes.field-0 c.in_ok-bytes.ensures.asked (ap (λ o. option_and_then string_units (bytes_given o)) (sym c.in-None.is))

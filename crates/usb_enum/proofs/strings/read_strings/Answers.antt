@@ -1,4 +1,4 @@
-use Rattle.std.proofs.Common.{ℕ, ◌≡◌, Option, arith, subst}
+use Rattle.std.proofs.Common.{ℕ, ◌≡◌, Option, None, Some, arith, refl, subst}
 use Rattle.usb_bus.proofs.Interface.{went_none, went_then, went_wider}
 use Rattle.usb_enum.proofs.Frames.{asks_none, asks_then}
 use Rattle.usb_enum.specs.LearnedFacts.{Learns}
@@ -7,6 +7,11 @@ use Rattle.usb_enum.proofs.Counts.{went_on}
 use Rattle.usb_enum.proofs.Refusals.{handed_match}
 use Rattle.usb_enum.proofs.StringRefusals.{string_after, strings_read}
 use Rattle.usb_enum.proofs.StringReadings.{unnamed_strings_learned, no_strings_learned, strings_learned}
+use Rattle.usb_enum.specs.StringRequests.{AsksLanguage, asked, unnamed}
+use Rattle.usb_enum.specs.Reasons.{StopTold}
+use Rattle.usb_enum.proofs.LastRequests.{leads_then, leads_went}
+use Rattle.usb_enum.proofs.Reasons.{told_after}
+use Rattle.usb_enum.proofs.ToldFailures.{handed_on}
 use Rattle.usb_enum.proofs.strings.read_strings.Goals as goal
 
 pub returns-then-indexes-eq0-3-clause-went : goal.returns-then-indexes-eq0-3-clause-went
@@ -93,3 +98,38 @@ returns-in_err-serial_number-clause-learned g c =
     (string_after _ c.args.target _ _ c.in_err-serial_number.field-0.0 (g.B.Bus.world c.args.bus.now) (g.B.Bus.world c.read_one-2.new.bus) (g.B.Bus.world c.read_one-3.new.bus)
     (strings_read _ _ c.args.target _ (g.B.Bus.world c.args.bus.now) (g.B.Bus.world c.read_one.new.bus) (g.B.Bus.world c.read_one-2.new.bus) first c.read_one-2.ensures.went c.in_ok-product.ensures.learned)
     (went_then _ _ (went_then _ _ c.language.ensures.went c.read_one.ensures.went) c.read_one-2.ensures.went) c.read_one-3.ensures.went c.in_err-serial_number.ensures.learned)
+
+pub returns-then-indexes-eq0-3-clause-asked : goal.returns-then-indexes-eq0-3-clause-asked
+returns-then-indexes-eq0-3-clause-asked g c =
+    unnamed (record { manufacturer = c.if-indexes-eq0.true; product = c.if-indexes-eq0-2.true; serial_number = c.if-indexes-eq0-3.true }) c.no_strings.ensures refl
+
+pub returns-in_default-clause-asked : goal.returns-in_default-clause-asked
+returns-in_default-clause-asked g c =
+    asked (g.B.Bus.world c.language.new.bus) None (subst (AsksLanguage c.args.target (g.B.Bus.world c.args.bus.now) (g.B.Bus.world c.language.new.bus)) c.in_default.is c.in_ok-language.ensures.asked)
+    (c.no_strings-in_default.ensures, refl)
+
+pub returns-clause-asked : goal.returns-clause-asked
+returns-clause-asked g c =
+    asked (g.B.Bus.world c.language.new.bus) (Some c.in-Some.language) (subst (AsksLanguage c.args.target (g.B.Bus.world c.args.bus.now) (g.B.Bus.world c.language.new.bus)) c.in-Some.is c.in_ok-language.ensures.asked)
+    (record {
+      first = g.B.Bus.world c.read_one.new.bus;
+      manufacturer = c.in_ok-manufacturer.ensures.asked;
+      second = g.B.Bus.world c.read_one-2.new.bus;
+      product = c.in_ok-product.ensures.asked;
+      serial_number = c.in_ok-serial_number.ensures.asked;
+    })
+
+pub returns-in_err-manufacturer-clause-told : goal.returns-in_err-manufacturer-clause-told
+returns-in_err-manufacturer-clause-told g c =
+    handed_on c.from_residual-in_err-manufacturer.result (λ stop. StopTold c.args.target stop (g.B.Bus.world c.args.bus.now) (g.B.Bus.world c.read_one.new.bus)) c.in_err-manufacturer.field-0.0 c.from_residual-in_err-manufacturer.ensures.1
+    (told_after c.in_err-manufacturer.field-0.0 c.args.target (g.B.Bus.world c.args.bus.now) (g.B.Bus.world c.language.new.bus) (g.B.Bus.world c.read_one.new.bus) (leads_went c.language.ensures.went) c.in_err-manufacturer.ensures.told)
+
+pub returns-in_err-product-clause-told : goal.returns-in_err-product-clause-told
+returns-in_err-product-clause-told g c =
+    handed_on c.from_residual-in_err-product.result (λ stop. StopTold c.args.target stop (g.B.Bus.world c.args.bus.now) (g.B.Bus.world c.read_one-2.new.bus)) c.in_err-product.field-0.0 c.from_residual-in_err-product.ensures.1
+    (told_after c.in_err-product.field-0.0 c.args.target (g.B.Bus.world c.args.bus.now) (g.B.Bus.world c.read_one.new.bus) (g.B.Bus.world c.read_one-2.new.bus) (leads_then (leads_went c.language.ensures.went) (leads_went c.read_one.ensures.went)) c.in_err-product.ensures.told)
+
+pub returns-in_err-serial_number-clause-told : goal.returns-in_err-serial_number-clause-told
+returns-in_err-serial_number-clause-told g c =
+    handed_on c.from_residual-in_err-serial_number.result (λ stop. StopTold c.args.target stop (g.B.Bus.world c.args.bus.now) (g.B.Bus.world c.read_one-3.new.bus)) c.in_err-serial_number.field-0.0 c.from_residual-in_err-serial_number.ensures.1
+    (told_after c.in_err-serial_number.field-0.0 c.args.target (g.B.Bus.world c.args.bus.now) (g.B.Bus.world c.read_one-2.new.bus) (g.B.Bus.world c.read_one-3.new.bus) (leads_then (leads_went c.language.ensures.went) (leads_then (leads_went c.read_one.ensures.went) (leads_went c.read_one-2.ensures.went))) c.in_err-serial_number.ensures.told)

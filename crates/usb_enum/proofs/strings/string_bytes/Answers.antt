@@ -2,8 +2,11 @@ use Rattle.std.proofs.Common.{◌∙◌, sym}
 use Rattle.usb_hub.specs.GivenAnswers.{string_given}
 use Rattle.usb_enum.proofs.Frames.{text_asks}
 use Rattle.usb_enum.proofs.Counts.{read_went}
+use Rattle.usb_enum.proofs.StringRequests.{string_given as asked_given, string_refused}
 use Rattle.usb_enum.proofs.StringReadings.{string_learned, no_string_learned}
 use Rattle.usb_enum.proofs.StringRefusals.{string_unrefused}
+use Rattle.usb_request.specs.Requests.{get_string_descriptor}
+use Rattle.usb_enum.proofs.Reasons.{string_told}
 use Rattle.usb_enum.proofs.strings.string_bytes.Goals as goal
 
 pub returns-in-Ok-clause-went : goal.returns-in-Ok-clause-went
@@ -37,3 +40,15 @@ pub returns-in-Some-clause-learned : goal.returns-in-Some-clause-learned
 returns-in-Some-clause-learned g c =
     string_unrefused c.args.target c.args.index c.get_string.result c.in-Err.fault c.in-Some.stop (g.B.Bus.world c.args.bus.now) (g.B.Bus.world c.get_string.new.bus)
     c.in-Err.is (sym c.stop_of.ensures ∙ c.in-Some.is) c.requires.max c.get_string.ensures.what c.get_string.ensures.why
+
+pub returns-in-Ok-clause-asked : goal.returns-in-Ok-clause-asked
+returns-in-Ok-clause-asked g c = asked_given c.args.target c.args.index c.args.language c.get_string.result c.in-Ok.bytes _ _ c.in-Ok.is c.get_string.ensures.asked.stages
+
+pub returns-in-None-clause-asked : goal.returns-in-None-clause-asked
+returns-in-None-clause-asked g c =
+    string_refused c.args.target c.args.index c.args.language c.get_string.result c.in-Err.fault _ _ c.in-Err.is (sym c.stop_of.ensures ∙ c.in-None.is) c.get_string.ensures.asked.stages
+
+pub returns-in-Some-clause-told : goal.returns-in-Some-clause-told
+returns-in-Some-clause-told g c =
+    string_told c.args.target (get_string_descriptor c.args.index c.args.language) c.get_string.result c.in-Err.fault c.in-Some.stop (g.B.Bus.world c.args.bus.now) (g.B.Bus.world c.get_string.new.bus) c.in-Err.is (sym c.stop_of.ensures ∙ c.in-Some.is)
+    c.get_string.ensures.asked.stages c.get_string.ensures.asked.ends
