@@ -1,10 +1,11 @@
--- Transfers through pipes leave each device with its description and registers, and ask nothing of ports.
+-- Transfers through pipes leave each device with its description and registers, ask nothing of ports, and add nothing to what is left to do.
 use Rattle.std.proofs.Common.{◌≡◌, ◌≢◌, ◌⊎◌, inl, inr, ℕ, ◌==◌, true, false, List, Option, None, Some, Result, Ok, Err, refl, ap, sym, subst, ◌∙◌}
 use Rattle.std.specs.Global.{Vec}
 use Rattle.arrayvec.specs.ArrayVec.{ArrayVec}
 use Rattle.usb_packet.specs.declared.Toggle.{Toggle}
 use Rattle.usb_packet.specs.declared.Toggle.TheVariants.{One}
 use Rattle.usb_port.specs.PortState.{PortState}
+use Rattle.usb_request.specs.Codes.{PORT_OUT, SET_FEATURE}
 use Rattle.usb_request.specs.Layout.{bytes_of}
 use Rattle.usb_request.specs.Requests.{clear_endpoint_halt}
 use Rattle.usb_request.specs.declared.setup.Setup.{Setup}
@@ -13,12 +14,12 @@ use Rattle.usb_device.specs.declared.bulk.ServedEndpoint.TheVariants.{BulkOut, B
 use Rattle.usb_device.specs.declared.bulk.EndpointState.{EndpointState}
 use Rattle.usb_device.specs.Bulk.{rested}
 use Rattle.usb_device.specs.Progress.{OnlyControl}
-use Rattle.usb_device.specs.Request.{Outcome, stalled, answers, takes_address, takes_configuration, halts, unhalts, tells_port, calls_port, on_endpoint, outcome}
+use Rattle.usb_device.specs.Request.{Is, Outcome, stalled, answers, takes_address, takes_configuration, halts, unhalts, tells_port, calls_port, on_endpoint, outcome}
 use Rattle.usb_device.specs.Rows.{State, with_endpoint_state, begun, accepted}
 use Rattle.usb_device.specs.Spec.{Spec}
 use Rattle.usb_device.specs.declared.request.Registers.{Registers}
 use Rattle.usb_device.specs.Transfer.{first_stage, ending}
-use Rattle.usb_device.specs.Tree.{reach_at, state_at, Spot, reach_on, state_on}
+use Rattle.usb_device.specs.Tree.{Spot, reach_on, state_on}
 use Rattle.usb_world.specs.declared.types.Attempt.{Attempt}
 use Rattle.usb_world.specs.declared.types.BusFault.{BusFault}
 use Rattle.usb_world.specs.Addresses.{is_setup}
@@ -30,6 +31,8 @@ use Rattle.usb_world.specs.RestingPorts.{AsksNothingOf}
 use Rattle.usb_world.specs.Steps.{Step, attempt, root_call, event, report, after, ready, with_attempt, Course, here, step}
 use Rattle.usb_world.specs.World.{World}
 use Rattle.usb_world.proofs.Interface.{Cut, cut_or_same, data_asks_nothing, decided, due_shared, each_in, each_joined, each_none, each_out, each_wider, faulted, limited, made_is, made_whole, neither, same_equal, unequal, unmade}
+use Rattle.usb_backlog.specs.Marks.{Few, KeepsAll, PortMark}
+use Rattle.usb_backlog.proofs.Interface.{KeepsStep, all_none, data_allows, keeps-attempt, keeps-chain}
 use Rattle.usb_transaction.specs.Attempts.{IsOnly, GivenUp}
 use Rattle.usb_transaction.specs.HeardOutcomes.{heard_as, set_up_as}
 use Rattle.usb_transaction.specs.Transactions.{in_attempt, setup_attempt}
@@ -47,7 +50,7 @@ use Rattle.usb_pipe.specs.Stages.{Writes}
 use Rattle.usb_pipe.proofs.Interface.{given_registers, harmless, poll_attempts, receive_attempts, send_attempts}
 use Rattle.usb_address.proofs.Interface.{Ran, attempt_settled, in_kept, out_kept}
 use Rattle.usb_hub.specs.Requests.{AllRest, Ordered}
-use Rattle.usb_hub.proofs.Interface.{each_leaves, order_elsewhere, write_rests, write_so}
+use Rattle.usb_hub.proofs.Interface.{each_leaves, order_elsewhere, write_backlog, write_rests, write_so}
 use Rattle.usb_enum.proofs.Interface.{ended}
 use Rattle.usb_table.specs.Transfers.{SameSettings, KeepsSettings}
 use Rattle.usb_table.proofs.KeptPipes.{broken_or_not, ready_or_not, empty_or_not, none_or_some}
@@ -146,6 +149,12 @@ any_rests (root_call c n) w x far settled = absurd far
 any_rests event w x far settled = absurd far
 any_rests (report line) w x far settled = absurd far
 
+any_keeps : (m v r : PortMark) (few : Few v r) (s : Step) (w : World) → IsFarStep s → IsSettled w.roots → KeepsStep m v r few s w
+any_keeps m v r few (attempt a) w far settled = λ ports. keeps-attempt m v r few a w ports (data_allows m r a w (far_kind a far) settled)
+any_keeps m v r few (root_call c n) w far settled = absurd far
+any_keeps m v r few event w far settled = absurd far
+any_keeps m v r few (report line) w far settled = absurd far
+
 module _ (K : Step → World → Type 0) (far : (s : Step) (w : World) → K s w → IsFarStep s) where
   course_settled : {w v : World} → Course K w v → IsSettled w.roots → IsSettled v.roots
   course_settled (here w) settled = settled
@@ -161,6 +170,13 @@ module _ (K : Step → World → Type 0) (far : (s : Step) (w : World) → K s w
   course_rests : (x : List ℕ) {w v : World} → Course K w v → IsSettled w.roots → Course (AsksNothingOf x) w v
   course_rests x (here w) settled = here w
   course_rests x (step s {w} {v} k c) settled = step s (any_rests s w x (far s w k) settled) (course_rests x c (step_settled s w (far s w k) settled))
+
+  course_backlog : {w v : World} → Course K w v → IsSettled w.roots → KeepsAll w v
+  course_backlog c settled = record { all = λ ports m v r few. keeps-chain m v r few ports (steps_keep m v r few c settled) }
+    where
+      steps_keep : (m v r : PortMark) (few : Few v r) {w x : World} → Course K w x → IsSettled w.roots → Course (KeepsStep m v r few) w x
+      steps_keep m v r few (here w) settled = here w
+      steps_keep m v r few (step s {w} k c) settled = step s (any_keeps m v r few s w (far s w k) settled) (steps_keep m v r few c (step_settled s w (far s w k) settled))
 
   cut_stays : (old : World) (fault : BusFault) (new : World) → GivenUp K old fault new → IsSettled old.roots → new.shared ≡ false → EachWas RanAs old new
   cut_stays old fault new g settled single =
@@ -194,6 +210,15 @@ module _ (K : Step → World → Type 0) (far : (s : Step) (w : World) → K s w
     attempts_rest (Err (pipe.Bus fault)) x sound p = let told = (x.cut fault refl).refused.ends.told in absurd (cc (told, sound))
     attempts_rest (Err pipe.Memory) x sound p = course_rests p (x.whole tt) settled
 
+    attempts_backlog : (result : Result A PipeFault) → TransferAttempts K old result new → new.fault ≡ None → KeepsAll old new
+    attempts_backlog (Ok y) x sound = course_backlog (x.whole tt) settled
+    attempts_backlog (Err pipe.Stalled) x sound = course_backlog (x.whole tt) settled
+    attempts_backlog (Err pipe.Busy) x sound = course_backlog (x.whole tt) settled
+    attempts_backlog (Err pipe.NoAnswer) x sound = course_backlog (x.whole tt) settled
+    attempts_backlog (Err pipe.Broken) x sound = course_backlog (x.whole tt) settled
+    attempts_backlog (Err (pipe.Bus fault)) x sound = let told = (x.cut fault refl).refused.ends.told in absurd (cc (told, sound))
+    attempts_backlog (Err pipe.Memory) x sound = course_backlog (x.whole tt) settled
+
 -- The calls of pipes
 
 far_number : (ep : ℕ) → ep ≢ 0 → (ep == 0) ≡ false
@@ -222,6 +247,9 @@ ran_stays old new ran = record { same = λ single. each_wider RanAs SameSettings
 same_rests : (old new : World) → new ≡ old → AllRest old new
 same_rests old new e x = subst (λ v. Course (AsksNothingOf x) old v) (sym e) (here old)
 
+same_backlog : (old new : World) → new ≡ old → KeepsAll old new
+same_backlog old new e = subst (KeepsAll old) (sym e) (all_none old)
+
 pub polls_run : (pipe : Interrupt) → pipe.ep ≢ 0 → (old : World) (result : Result (Option (ArrayVec ℕ)) PipeFault) (left : Interrupt) (new : World) → IsSettled old.roots → Polls pipe old result left new → new.shared ≡ false
     → EachWas RanAs old new
 polls_run pipe far old result left new settled x =
@@ -233,6 +261,10 @@ polls_stay pipe far old result left new settled x = ran_stays old new (polls_run
 pub polls_rest : (pipe : Interrupt) → pipe.ep ≢ 0 → (old : World) (result : Result (Option (ArrayVec ℕ)) PipeFault) (left : Interrupt) (new : World) → IsSettled old.roots → Polls pipe old result left new → new.fault ≡ None → AllRest old new
 polls_rest pipe far old result left new settled x sound =
     attempts_rest (IsOnly (in_attempt pipe.target pipe.ep)) (only_far pipe.target pipe.ep far) old new settled result (poll_attempts pipe result left old new x) sound
+
+pub polls_backlog : (pipe : Interrupt) → pipe.ep ≢ 0 → (old : World) (result : Result (Option (ArrayVec ℕ)) PipeFault) (left : Interrupt) (new : World) → IsSettled old.roots → Polls pipe old result left new → new.fault ≡ None → KeepsAll old new
+polls_backlog pipe far old result left new settled x sound =
+    attempts_backlog (IsOnly (in_attempt pipe.target pipe.ep)) (only_far pipe.target pipe.ep far) old new settled result (poll_attempts pipe result left old new x) sound
 
 -- a call that makes no attempt changes nothing; for another the ports are settled
 moved_or_same : (bytes : List ℕ) (pipe : Bulk) (old : World) (result : Result (Unit {0}) PipeFault) (left : Bulk) (new : World) → Sends bytes pipe old result left new → IsSettled old.roots ⊎ (new ≡ old)
@@ -270,6 +302,14 @@ sends_rest bytes pipe far old result left new x sound = elim (moved_or_same byte
   | inr same ↦ same_rests old new same
 ]
 
+pub sends_backlog : (bytes : List ℕ) (pipe : Bulk) → pipe.ep ≢ 0 → (old : World) (result : Result (Unit {0}) PipeFault) (left : Bulk) (new : World) → Sends bytes pipe old result left new → new.fault ≡ None → KeepsAll old new
+sends_backlog bytes pipe far old result left new x sound = elim (moved_or_same bytes pipe old result left new x) [
+  | inl settled ↦
+      attempts_backlog (SendsAt (packet_target pipe.target pipe.max) pipe.ep pipe.toggle bytes old) (sends_far (packet_target pipe.target pipe.max) pipe.ep pipe.toggle bytes old far) old new settled result
+      (send_attempts bytes pipe result left old new x) sound
+  | inr same ↦ same_backlog old new same
+]
+
 pub receives_stay : (wanted : ℕ) (pipe : Bulk) → pipe.ep ≢ 0 → (old : World) (result : Result (Vec ℕ) PipeFault) (left : Bulk) (new : World) → Receives wanted pipe old result left new → KeepsSettings old new
 receives_stay wanted pipe far old result left new x = elim (came_or_same wanted pipe old result left new x) [
   | inl settled ↦
@@ -283,6 +323,13 @@ receives_rest wanted pipe far old result left new x sound = elim (came_or_same w
   | inl settled ↦
       attempts_rest (IsOnly (in_attempt (packet_target pipe.target pipe.max) pipe.ep)) (only_far (packet_target pipe.target pipe.max) pipe.ep far) old new settled result (receive_attempts wanted pipe result left old new x) sound
   | inr same ↦ same_rests old new same
+]
+
+pub receives_backlog : (wanted : ℕ) (pipe : Bulk) → pipe.ep ≢ 0 → (old : World) (result : Result (Vec ℕ) PipeFault) (left : Bulk) (new : World) → Receives wanted pipe old result left new → new.fault ≡ None → KeepsAll old new
+receives_backlog wanted pipe far old result left new x sound = elim (came_or_same wanted pipe old result left new x) [
+  | inl settled ↦
+      attempts_backlog (IsOnly (in_attempt (packet_target pipe.target pipe.max) pipe.ep)) (only_far (packet_target pipe.target pipe.max) pipe.ep far) old new settled result (receive_attempts wanted pipe result left old new x) sound
+  | inr same ↦ same_backlog old new same
 ]
 
 -- CLEAR_FEATURE(ENDPOINT_HALT)
@@ -346,6 +393,10 @@ module _ (endpoint : ℕ) where
   unfolding clear_endpoint_halt
   clear_asks_no_port = refl
 
+  clear_sets_none : Is (clear_endpoint_halt endpoint) PORT_OUT SET_FEATURE ≡ false
+  unfolding clear_endpoint_halt
+  clear_sets_none = refl
+
   pub clear_length : (clear_endpoint_halt endpoint).length ≡ 0
   unfolding clear_endpoint_halt
   clear_length = refl
@@ -357,6 +408,7 @@ cleared_ordered pipe old result left new x = record {
   stages = x.stages;
   room = x.room;
   rests = λ plain sound. write_rests pipe.target (clear_endpoint_halt (halt_address pipe.ep pipe.is_in)) result old new x.settled x.stages plain sound;
+  backlog = λ plain sound. write_backlog pipe.target (clear_endpoint_halt (halt_address pipe.ep pipe.is_in)) result old new x.settled x.stages plain sound;
   elsewhere = order_elsewhere pipe.target (clear_endpoint_halt (halt_address pipe.ep pipe.is_in)) result old new x.stages;
 }
 
@@ -380,6 +432,13 @@ clears_rest pipe old result left new x sound = elim (ready_or_not pipe.condition
   | inl ready ↦ same_rests old new (x.ready ready).world_kept
   | inr not ↦
       (cleared_ordered pipe old result left new (x.sent not)).rests (clear_asks_no_port (halt_address pipe.ep pipe.is_in)) (ended 2 result old new (x.sent not).ends sound)
+]
+
+pub clears_backlog : (pipe : Bulk) (old : World) (result : Result (Unit {0}) PipeFault) (left : Bulk) (new : World) → Clears pipe old result left new → new.fault ≡ None → KeepsAll old new
+clears_backlog pipe old result left new x sound = elim (ready_or_not pipe.condition) [
+  | inl ready ↦ same_backlog old new (x.ready ready).world_kept
+  | inr not ↦
+      (cleared_ordered pipe old result left new (x.sent not)).backlog (clear_sets_none (halt_address pipe.ep pipe.is_in)) (ended 2 result old new (x.sent not).ends sound)
 ]
 
 -- no address was held twice before

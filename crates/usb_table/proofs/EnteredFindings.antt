@@ -55,26 +55,31 @@ module _ {X : Type 0} (path : List ℕ) (value : X) where
 
 -- The pipes of the table
 
+-- what was just found has new pipes
+pub pipes_at-entered : (path : List ℕ) (finding : Finding) (table : Table) → pipes_at path (entered path finding table) ≡ new_pipes finding (is_below_hub path)
+pipes_at-entered path finding table = ap (λ o. unwrap_or o Absent) (lookup-inserted path (new_pipes finding (is_below_hub path)) table.pipes)
+
+-- whatever stands at another path has those that it had
+pub pipes_at-entered_elsewhere : (path : List ℕ) (finding : Finding) (table : Table) (x : List ℕ) → is_at (path_cmp x) path ≡ false → pipes_at x (entered path finding table) ≡ pipes_at x table
+pipes_at-entered_elsewhere path finding table x apart = ap (λ o. unwrap_or o Absent) (lookup-inserted_elsewhere path (new_pipes finding (is_below_hub path)) x table.pipes apart)
+
 module _ (path : List ℕ) (finding : Finding) (table : Table) (w : World) where
   -- to a device whose finding is its own, where it is reachable
   pub level_entered : (tier supply : ℕ) → ((device : Accepted) (s : State) → finding ≡ Device device → reach w.roots path ≡ true → state_there w.roots path ≡ Some s → IsSpec s.spec × IsOwn tier supply device s)
       → LevelAt path (entered path finding table) w
   level_entered tier supply own = record { level = by_finding finding refl }
     where
-      same : pipes_at path (entered path finding table) ≡ new_pipes finding (is_below_hub path)
-      same = ap (λ o. unwrap_or o Absent) (lookup-inserted path (new_pipes finding (is_below_hub path)) table.pipes)
-
       by_finding : (f : Finding) → finding ≡ f → (device : Accepted) (s : State) → accepted_device_at path (entered path finding table).entries ≡ Some device → reach w.roots path ≡ true → state_there w.roots path ≡ Some s
           → AreLevel (pipes_at path (entered path finding table)) s
       by_finding (Device d) is device s e on there =
           let so = own d s is on there in
-          subst (λ (q : Pipes). AreLevel q s) (sym (same ∙ ap (λ f. new_pipes f (is_below_hub path)) is)) (new_level tier supply d (is_below_hub path) s so.0 so.1)
+          subst (λ (q : Pipes). AreLevel q s) (sym (pipes_at-entered path finding table ∙ ap (λ f. new_pipes f (is_below_hub path)) is)) (new_level tier supply d (is_below_hub path) s so.0 so.1)
       by_finding (Refused cause) is device s e on there = absurd (cc (sym (ap accepted_device_of (lookup-inserted path finding table.entries ∙ ap Some is)) ∙ e))
 
   -- to others
   pub level_beside : (x : List ℕ) → is_at (path_cmp x) path ≡ false → LevelAt x table w → LevelAt x (entered path finding table) w
   level_beside x apart l = record {
     level = λ device s e on there.
-        subst (λ (q : Pipes). AreLevel q s) (ap (λ o. unwrap_or o Absent) (sym (lookup-inserted_elsewhere path (new_pipes finding (is_below_hub path)) x table.pipes apart)))
+        subst (λ (q : Pipes). AreLevel q s) (sym (pipes_at-entered_elsewhere path finding table x apart))
         (l.level device s (sym (ap accepted_device_of (lookup-inserted_elsewhere path finding x table.entries apart)) ∙ e) on there);
   }

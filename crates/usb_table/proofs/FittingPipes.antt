@@ -50,7 +50,8 @@ still_source_at most got t s v k place e (SourceAt.ahead a b c) =
     (subst (λ (x : Spec). v.place < length x.source) (sym k.0) (subst (λ n. n < length s.spec.source) (sym place) b))
     (ap (λ (x : EndpointState). x.toggle) e ∙ c)
 
-still_source : (pipe : Bulk) (got : ℕ) (s v : State) → SameSettings root s v → v.place ≡ s.place → v.bulk_in ≡ s.bulk_in → FitsSource pipe got s → FitsSource pipe got v
+-- the endpoint of a bulk IN pipe is as far as it was
+pub still_source : (pipe : Bulk) (got : ℕ) (s v : State) → SameSettings root s v → v.place ≡ s.place → v.bulk_in ≡ s.bulk_in → FitsSource pipe got s → FitsSource pipe got v
 still_source pipe got s v k place e f = record {
   endpoint = record {
     endpoint = same_end true s v k ∙ f.endpoint.endpoint;
@@ -109,14 +110,14 @@ moves_then address ends first second third j s u v x y = record {
 known_itself : {A : Type 0} (ends : Type 0) (answer : Result A PipeFault) (left : Bulk) (s : State) (Fits : Bulk → State → Type 0) → (ends → pipe_known answer left ≡ left) → ends → Fits (pipe_known answer left) s → Fits left s
 known_itself ends answer left s Fits is e f = subst (λ (b : Bulk). Fits b s) (is e) f
 
-pub poll_moves : (pipe left : Interrupt) (old : World) (result : Result (Option (ArrayVec ℕ)) PipeFault) (j : Spot) (s v : State)
-    → PollLeaves pipe old result left j s v → RanAs j s v → Moves pipe.target.addr (IsOk result) (Hub pipe) (Hub left) j s v
-poll_moves pipe left old (Ok got) j s v x ran = record {
+pub poll_moves : (pipe left : Interrupt) (old new : World) (result : Result (Option (ArrayVec ℕ)) PipeFault) (j : Spot) (s v : State)
+    → PollLeaves pipe old result left new j s v → RanAs j s v → Moves pipe.target.addr (IsOk result) (Hub pipe) (Hub left) j s v
+poll_moves pipe left old new (Ok got) j s v x ran = record {
   others = x.others;
   same = ap (λ (g : Registers). g.address) ran.1;
   itself = λ e at f. record { tells = same_tells s v (ran.0, ran.1) ∙ f.tells; level = x.level at f.tells f.level got refl; runs = ran.2 ∙ f.runs };
 }
-poll_moves pipe left old (Err why) j s v x ran = record { others = x.others; same = ap (λ (g : Registers). g.address) ran.1; itself = λ e at f. absurd (cc e) }
+poll_moves pipe left old new (Err why) j s v x ran = record { others = x.others; same = ap (λ (g : Registers). g.address) ran.1; itself = λ e at f. absurd (cc e) }
 
 pub send_moves : (ends : Type 0) (bytes : List ℕ) (pipe left : Bulk) (into : Option Bulk) (answer : Result (Unit {0}) PipeFault) (j : Spot) (s v : State) → (ends → pipe_known answer left ≡ left)
     → SendLeaves bytes pipe answer left j s v → SameSettings j s v

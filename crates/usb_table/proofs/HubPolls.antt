@@ -1,7 +1,7 @@
 -- A poll of a hub leaves its status pipe level, tells of its ports, and is answered where the hub is reached.
-use Rattle.std.proofs.Common.{◌≡◌, ◌≢◌, ◌∙◌, refl, sym, ap, subst, Bool, true, false, ℕ, suc, ◌≤◌, ◌&&◌, eq-eqb}
+use Rattle.std.proofs.Common.{◌≡◌, ◌≢◌, ◌∙◌, refl, sym, ap, subst, Bool, true, false, ℕ, ◌≤◌, ◌&&◌, eq-eqb}
 use Rattle.std.proofs.lemmas.Option.{same_Some}
-use Rattle.std.specs.Prelude.{List, ◌∷◌, ◌||◌, not, Option, Some, None, IfSome, is_some, option_map, Result, Ok, Err, IsOk, if◌then◌else◌}
+use Rattle.std.specs.Prelude.{List, ◌||◌, not, Option, Some, None, IfSome, is_some, option_map, Result, Ok, Err, IsOk, if◌then◌else◌}
 use Rattle.arrayvec.specs.ArrayVec.{ArrayVec}
 use Rattle.usb_device.specs.Rows.{State}
 use Rattle.usb_device.specs.Spec.{Spec}
@@ -16,7 +16,7 @@ use Rattle.usb_world.specs.AttemptPackets.{IsSettled, deep_at}
 use Rattle.usb_world.specs.RestingPorts.{AsksNothingOf}
 use Rattle.usb_world.specs.Steps.{Course, here, attempt, ready}
 use Rattle.usb_world.specs.World.{World}
-use Rattle.usb_world.proofs.Interface.{course_then, data_asks_nothing, equal_same}
+use Rattle.usb_world.proofs.Interface.{course_then, data_asks_nothing, each_none, equal_same}
 use Rattle.usb_transaction.specs.declared.target.Target.{Target}
 use Rattle.usb_transaction.specs.Answerer.{Answerer}
 use Rattle.usb_transaction.specs.Leaves.{is_at}
@@ -39,7 +39,7 @@ use Rattle.usb_table.specs.declared.pipes.Pipes.{Pipes}
 use Rattle.usb_table.specs.declared.pipes.Pipes.TheVariants.{Hub, Function, Absent}
 use Rattle.usb_table.specs.Findings.{accepted_device_of, accepted_device_at}
 use Rattle.usb_table.specs.KnownPorts.{is_below_hub}
-use Rattle.usb_table.specs.Levels.{FitsStatus, AreLevel, LevelAt, IsHeld, KeepsLevel, BitsOf, HubTold, Heard, KeepsPolled}
+use Rattle.usb_table.specs.Levels.{FitsStatus, AreLevel, LevelAt, IsHeld, KeepsLevel, BitsOf, HubTold, Heard, KeepsPolled, SparesBulk}
 use Rattle.usb_table.specs.Listing.{finding_at, entry_address}
 use Rattle.usb_table.specs.Pipes.{IsStatusPipe, ArePipesTo}
 use Rattle.usb_table.specs.Table.{Table, pipes_at, GoesThrough}
@@ -48,6 +48,7 @@ use Rattle.usb_table.proofs.Endpoints.{status_end}
 use Rattle.usb_table.proofs.FittingPipes.{Moves, poll_moves}
 use Rattle.usb_table.proofs.Levels.{address_found, are_pipes_of, held_address, one_path, moved_levels, single, still_levels}
 use Rattle.usb_table.proofs.MovedPipes.{EachMoves}
+use Rattle.usb_table.proofs.SparedBulk.{spares-changes, spares-same}
 use Rattle.usb_table.proofs.DevicesKept.{RanAs, polls_run}
 
 -- INs ask nothing of any port
@@ -73,7 +74,7 @@ module _ (path : List ℕ) (device : Accepted) (pipe rest : Interrupt) (old new 
   addressed : pipe.target.addr ≡ device.address
   addressed = ap (λ (t : Target). t.addr) are.target
 
-  leaves : after.shared ≡ false → EachWas (PollLeaves pipe before result rest) before after
+  leaves : after.shared ≡ false → EachWas (PollLeaves pipe before result rest after) before after
   leaves = poll_tells pipe result rest before after endpoint.0 endpoint.1 x.settled x.polls
 
   ran : after.shared ≡ false → EachWas RanAs before after
@@ -82,7 +83,7 @@ module _ (path : List ℕ) (device : Accepted) (pipe rest : Interrupt) (old new 
   moves : EachMoves device.address (IsOk result) (Hub pipe) (Hub rest) before after
   moves unshared =
       subst (λ a. EachWas (Moves a (IsOk result) (Hub pipe) (Hub rest)) before after) addressed
-      (each_joint (PollLeaves pipe before result rest) RanAs (Moves pipe.target.addr (IsOk result) (Hub pipe) (Hub rest)) (poll_moves pipe rest before result) before after (leaves unshared) (ran unshared))
+      (each_joint (PollLeaves pipe before result rest after) RanAs (Moves pipe.target.addr (IsOk result) (Hub pipe) (Hub rest)) (poll_moves pipe rest before after result) before after (leaves unshared) (ran unshared))
 
   hub_levels : KeepsLevel path (IsOk result) old before new after
   hub_levels = moved_levels path device (IsOk result) (Hub pipe) (Hub rest) old new before after stands goes was left keeps moves
@@ -98,7 +99,7 @@ module _ (path : List ℕ) (device : Accepted) (pipe rest : Interrupt) (old new 
   )
 
   -- the bits that were told
-  bits_of : (j : Spot) (bits : ℕ) → path ≡ path_to j → ToldOf pipe before j bits → BitsOf path before bits
+  bits_of : (j : Spot) (bits : ℕ) → path ≡ path_to j → ToldOf pipe before after j bits → BitsOf path before after bits
   bits_of j bits is told = record {
     mid = told.mid;
     rests = λ y. trail_rests y refl told.trail x.settled;
@@ -107,11 +108,12 @@ module _ (path : List ℕ) (device : Accepted) (pipe rest : Interrupt) (old new 
     ports = told.below;
     stood = ap (place (ready told.mid).roots) is ∙ told.stood;
     told = told.told;
+    since = λ y. trail_rests y refl told.since (trail_settled told.trail x.settled);
   }
 
-  tells_of : (j : Spot) → path ≡ path_to j → (r : Result (Option (ArrayVec ℕ)) PipeFault) → PollTells (ToldOf pipe before j) r → PollTells (BitsOf path before) r
+  tells_of : (j : Spot) → path ≡ path_to j → (r : Result (Option (ArrayVec ℕ)) PipeFault) → PollTells (ToldOf pipe before after j) r → PollTells (BitsOf path before after) r
   tells_of j is (Ok None) t = bits_of j 0 is t
-  tells_of j is (Ok (Some packet)) t = record { bits = t.bits; so = bits_of j t.bits is t.so; is = t.is }
+  tells_of j is (Ok (Some packet)) t = record { bits = t.bits; some = t.some; so = bits_of j t.bits is t.so; is = t.is }
   tells_of j is (Err fault) t = tt
 
   -- whoever answered has the address of the path, so it is the hub
@@ -127,14 +129,33 @@ module _ (path : List ℕ) (device : Accepted) (pipe rest : Interrupt) (old new 
       is : path ≡ path_to who.spot
       is = one_path old before path (path_to who.spot) device.address held (address_found path old.entries device stands) has
 
-      was_so : Was (PollLeaves pipe before result rest) before who.spot who.now
+      was_so : Was (PollLeaves pipe before result rest after) before who.spot who.now
       was_so = leaves (unshared held) who.spot who.now who.on who.stands
 
       fitted : FitsStatus pipe was_so.before × (is_at was_so.before pipe.target ≡ true)
       fitted = fits held level was_so.before (ap (reach before.roots) is ∙ was_so.on) (ap (state_there before.roots) is ∙ was_so.stands)
 
-      told : PollTells (ToldOf pipe before who.spot) result
+      told : PollTells (ToldOf pipe before after who.spot) result
       told = was_so.so.tells fitted.1 fitted.0.tells fitted.0.level
+
+  -- whoever else was asked has another address, so its bulk endpoints stay as they were, and so do those of the hub
+  spared_by : IsHeld old before → LevelAt path old before → (j : Spot) (v : State) (x : Was (PollLeaves pipe before result rest after) before j v) → (b : Bool) → is_at x.before pipe.target ≡ b → SparesBulk j x.before v
+  spared_by held level j v x false e = spares-same j x.before v (x.so.others e)
+  spared_by held level j v x true e = spares-changes j x.before v (x.so.frame fitted.0.tells)
+    where
+      has : entry_address (path_to j) old.entries ≡ Some device.address
+      has = sym (held.own (path_to j) x.on) ∙ ap (option_map address_of) x.stands ∙ ap Some (equal_same (address_of x.before) pipe.target.addr e ∙ addressed)
+
+      is : path ≡ path_to j
+      is = one_path old before path (path_to j) device.address held (address_found path old.entries device stands) has
+
+      fitted : FitsStatus pipe x.before × (is_at x.before pipe.target ≡ true)
+      fitted = fits held level x.before (ap (reach before.roots) is ∙ x.on) (ap (state_there before.roots) is ∙ x.stands)
+
+  hub_spares : IsHeld old before → LevelAt path old before → EachWas SparesBulk before after
+  hub_spares held level j v on there =
+      let x : Was (PollLeaves pipe before result rest after) before j v = leaves (unshared held) j v on there in
+      record { before = x.before; on = x.on; stands = x.stands; so = spared_by held level j v x (is_at x.before pipe.target) refl }
 
   -- a hub that is reached in the end is polled
   module _ (held : IsHeld old before) (level : LevelAt path old before) (three : NoThreeDamaged before) (heard : Heard path device after) where
@@ -191,6 +212,7 @@ module _ (path : List ℕ) (device : Accepted) (pipe rest : Interrupt) (old new 
     levels = hub_levels;
     told = λ held level d e hub ok. let g = ok_got result ok in hub_told held level g.0 g.1;
     why = λ held level three d e hub heard. hub_served held level three (subst (λ y. Heard path y after) (sym (same_one d e)) heard);
+    spares = hub_spares;
   }
 
 -- Whatever stands there
@@ -202,6 +224,7 @@ none_polled path old new before after result goes keeps none same still = record
   levels = still_levels path (IsOk result) old new before after goes same still keeps;
   told = λ held level d e hub ok. absurd (none d e hub);
   why = λ held level three d e hub heard. absurd (none d e hub);
+  spares = λ held level. subst (EachWas SparesBulk before) (sym still) (each_none SparesBulk (λ j s. spares-same j s s refl) before);
 }
 
 module _ (path : List ℕ) (old new : Table) (before after : World) (result : Result (Option (ArrayVec ℕ)) PipeFault) (goes : GoesThrough path old new) (keeps : OnlyTransfers before after) where

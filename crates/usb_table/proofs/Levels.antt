@@ -5,7 +5,7 @@ use Rattle.std.specs.Prelude.{List, [], ◌∷◌, Option, Some, None, option_ma
 use Rattle.std.specs.BTreeMap.{is_at}
 use Rattle.usb_port.specs.Order.{path_cmp}
 use Rattle.usb_device.specs.Rows.{State}
-use Rattle.usb_device.specs.Tree.{reach, reach_at, state_at, Spot, path_to, reach_on, state_on}
+use Rattle.usb_device.specs.Tree.{reach, Spot, path_to, reach_on, state_on}
 use Rattle.usb_device.specs.View.{state_there}
 use Rattle.usb_world.specs.Devices.{Was, EachWas}
 use Rattle.usb_world.specs.Paths.{address_of, is_way}

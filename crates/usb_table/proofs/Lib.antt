@@ -27,3 +27,4 @@ pub mod PathTransfers
 pub mod Deliveries
 pub mod Collections
 pub mod Restarts
+pub mod SparedBulk

@@ -6,6 +6,7 @@ use Rattle.arrayvec.specs.ArrayVec.{ArrayVec}
 use Rattle.usb_world.specs.Steps.{here}
 use Rattle.usb_world.specs.World.{World}
 use Rattle.usb_world.proofs.Interface.{course_joined}
+use Rattle.usb_backlog.proofs.Interface.{all_none, all_then}
 use Rattle.usb_address.proofs.Interface.{clears_keep, keeps_none, keeps_then, polls_keep, receives_keep, sends_keep}
 use Rattle.usb_pipe.specs.Bulk.{Bulk}
 use Rattle.usb_pipe.specs.declared.fault.PipeFault.{PipeFault}
@@ -19,11 +20,11 @@ use Rattle.usb_table.specs.declared.pipes.Pipes.TheVariants.{Hub, Function, Abse
 use Rattle.usb_table.specs.Findings.{out_endpoint, in_endpoint}
 use Rattle.usb_table.specs.Pipes.{IsPipe, ArePipesTo, ArePipesOf}
 use Rattle.usb_table.specs.Transfers.{SentBy, ReceivedBy, ClearedBy, ClearedAfter, ClearedIf, PipesPolled, PipesSent, PipesReceived, PipesCleared, OnlyTransfers}
-use Rattle.usb_table.proofs.DevicesKept.{polls_stay, polls_rest, sends_stay, sends_rest, receives_stay, receives_rest, clears_stay, clears_rest, clears_single, settings_none, settings_then}
+use Rattle.usb_table.proofs.DevicesKept.{polls_stay, polls_rest, polls_backlog, sends_stay, sends_rest, sends_backlog, receives_stay, receives_rest, receives_backlog, clears_stay, clears_rest, clears_backlog, clears_single, settings_none, settings_then}
 use Rattle.usb_table.proofs.KeptPipes.{ready_or_not}
 
 pub spares_none : (w : World) → OnlyTransfers w w
-spares_none w = record { addresses = keeps_none w; devices = settings_none w; rests = λ sound x. here w }
+spares_none w = record { addresses = keeps_none w; devices = settings_none w; rests = λ sound x. here w; backlog = λ sound. all_none w }
 
 same_spares : (old new : World) → new ≡ old → OnlyTransfers old new
 same_spares old new e = subst (OnlyTransfers old) (sym e) (spares_none old)
@@ -34,6 +35,7 @@ spares_then old mid new x y sound single = record {
   addresses = keeps_then old mid new x.addresses y.addresses;
   devices = settings_then old mid new single x.devices y.devices;
   rests = λ still p. course_joined (x.rests sound p) (y.rests still p);
+  backlog = λ still. all_then (x.backlog sound) (y.backlog still);
 }
 
 other_end : (ep : ℕ) → 1 ≤ ep → ep ≢ 0
@@ -48,6 +50,7 @@ polled_to device below_hub (Hub pipe) left old result new are x =
       addresses = polls_keep pipe far old result x.0 new x.2.polls;
       devices = polls_stay pipe far old result x.0 new x.2.settled x.2.polls;
       rests = polls_rest pipe far old result x.0 new x.2.settled x.2.polls;
+      backlog = polls_backlog pipe far old result x.0 new x.2.settled x.2.polls;
     }
 polled_to device below_hub (Function pipes) left old result new are x = same_spares old new x.2
 polled_to device below_hub Absent left old result new are x = same_spares old new x.2
@@ -68,6 +71,7 @@ sent_by device (Some endpoint) (Some pipe) bytes old result (Some left) new is x
       addresses = sends_keep bytes pipe old x.answer left new x.sends;
       devices = sends_stay bytes pipe far old x.answer left new x.sends;
       rests = sends_rest bytes pipe far old x.answer left new x.sends;
+      backlog = sends_backlog bytes pipe far old x.answer left new x.sends;
     }
 
 sent_to : (device : Accepted) (below_hub : Bool) (pipes left : Pipes) (bytes : List ℕ) (old : World) (result : Result (Unit {0}) EndpointFault) (new : World) → ArePipesTo device below_hub pipes → PipesSent pipes bytes old result left new → OnlyTransfers old new
@@ -91,6 +95,7 @@ received_by device (Some endpoint) (Some pipe) packets old result (Some left) ne
       addresses = receives_keep packets pipe far old x.answer left new x.receives;
       devices = receives_stay packets pipe far old x.answer left new x.receives;
       rests = receives_rest packets pipe far old x.answer left new x.receives;
+      backlog = receives_backlog packets pipe far old x.answer left new x.receives;
     }
 
 received_to : (device : Accepted) (below_hub : Bool) (pipes left : Pipes) (packets : ℕ) (old : World) (result : Result (Vec ℕ) EndpointFault) (new : World) → ArePipesTo device below_hub pipes → PipesReceived pipes packets old result left new → OnlyTransfers old new
@@ -111,6 +116,7 @@ cleared_by (Some pipe) (Some left) old answer new x = record {
   addresses = clears_keep pipe old answer left new x.clears;
   devices = clears_stay pipe old answer left new x.clears;
   rests = clears_rest pipe old answer left new x.clears;
+  backlog = clears_backlog pipe old answer left new x.clears;
 }
 
 -- one that is done made no attempt, or the bus is at work

@@ -9,6 +9,7 @@ use Rattle.usb_device.specs.Progress.{PollAt, NeverTold}
 use Rattle.usb_device.specs.Rows.{State}
 use Rattle.usb_device.specs.Tree.{Ports, full, row_of, place, reach, Spot, path_to, reach_on, state_on}
 use Rattle.usb_device.specs.View.{state_there}
+use Rattle.usb_world.specs.Devices.{EachWas}
 use Rattle.usb_world.specs.Steps.{ready}
 use Rattle.usb_world.specs.World.{World}
 use Rattle.usb_transaction.specs.Failures.{NoThreeDamaged, Listens}
@@ -78,8 +79,8 @@ KeepsMoved path old before new after = KeepsLevel path (after.fault ≡ None) ol
 
 -- A poll of the hub at a path
 
--- the ports of the device at the path told these bits when an attempt was made, before which nothing was asked of any port
-pub record BitsOf (path : List ℕ) (old : World) (bits : ℕ) : Type 0 where
+-- the ports of the device at the path told these bits when an attempt was made, before and since which nothing was asked of any port
+pub record BitsOf (path : List ℕ) (old new : World) (bits : ℕ) : Type 0 where
   pub mid : World
   pub rests : AllRest old mid
   pub port : PortState
@@ -87,11 +88,12 @@ pub record BitsOf (path : List ℕ) (old : World) (bits : ℕ) : Type 0 where
   pub ports : Ports
   pub stood : place (ready mid).roots path ≡ Some (full port state ports)
   pub told : bits ≡ change_bits (row_of ports)
+  pub since : AllRest mid new
 
 -- the hub is reached in the end, and its ports told what came
 pub record HubTold (path : List ℕ) (old : World) (result : Result (Option (ArrayVec ℕ)) PipeFault) (new : World) : Type 0 where
   pub reached : reach new.roots path ≡ true
-  pub tells : PollTells (BitsOf path old) result
+  pub tells : PollTells (BitsOf path old new) result
 
 -- a device at the path is reached, and hears what is sent to it
 pub record Heard (path : List ℕ) (device : Accepted) (w : World) : Type 0 where
@@ -102,9 +104,15 @@ pub record Heard (path : List ℕ) (device : Accepted) (w : World) : Type 0 wher
   pub stands : state_on w.roots spot ≡ Some state
   pub listens : Listens (target_of device (is_below_hub path)) spot state
 
+-- nothing of a device changed but where its control transfer and its status endpoint stand: its description, its registers, and its bulk endpoints with
+-- what they took and gave are as they were
+abbrev pub SparesBulk : Spot → State → State → Type 0
+SparesBulk x s v = v ≡ record s { memory = v.memory; naks = v.naks; stage = v.stage; changes = v.changes; held = v.held }
+
 -- A poll that is done leaves the hub's pipe level, and tells of its ports. Where no three attempts running are damaged, a hub that is reached in the
--- end is polled.
+-- end is polled. Bulk endpoints are as they were.
 pub record KeepsPolled (path : List ℕ) (old : Table) (before : World) (result : Result (Option (ArrayVec ℕ)) PipeFault) (new : Table) (after : World) : Type 0 where
   pub levels : KeepsLevel path (IsOk result) old before new after
   pub told : IsHeld old before → LevelAt path old before → (device : Accepted) → accepted_device_at path old.entries ≡ Some device → is_some device.hub ≡ true → IsOk result → HubTold path before result after
   pub why : IsHeld old before → LevelAt path old before → NoThreeDamaged before → (device : Accepted) → accepted_device_at path old.entries ≡ Some device → is_some device.hub ≡ true → Heard path device after → NoHubFailed result
+  pub spares : IsHeld old before → LevelAt path old before → EachWas SparesBulk before after

@@ -15,6 +15,7 @@ use Rattle.usb_pipe.specs.Interrupt.{Interrupt, Polls}
 use Rattle.usb_pipe.specs.declared.fault.PipeFault.{PipeFault}
 use Rattle.usb_pipe.specs.declared.fault.PipeFault.TheVariants as pipe
 use Rattle.usb_address.specs.Ownership.{KeepsAddresses}
+use Rattle.usb_backlog.specs.Marks.{KeepsAll}
 use Rattle.usb_hub.specs.Requests.{AllRest}
 use Rattle.usb_table.specs.declared.fault.EndpointFault.{EndpointFault}
 use Rattle.usb_table.specs.declared.fault.EndpointFault.TheVariants.{NoDevice, NoEndpoint, Pipe}
@@ -147,8 +148,9 @@ pub record KeepsSettings (old new : World) : Type 0 where
   pub same : new.shared ≡ false → EachWas SameSettings old new
 
 -- What each leaves of the devices and ports: addresses, descriptions and registers are kept, and as long as the bus is at work, nothing is
--- asked of any port
+-- asked of any port, and no more is left to do than before, but by events
 pub record OnlyTransfers (old new : World) : Type 0 where
   pub addresses : KeepsAddresses old new
   pub devices : KeepsSettings old new
   pub rests : new.fault ≡ None → AllRest old new
+  pub backlog : new.fault ≡ None → KeepsAll old new
